@@ -1,0 +1,46 @@
+//! Instructions as values: each field keeps its range, and each row its rules.
+#![tactic(auto)]
+
+ghost use Rattle.std.specs.Prelude.{◌≡◌, ◌*◌, length};
+ghost use Rattle.hm_isa.specs.Code.{halfwords};
+
+mod fields;
+mod narrow;
+
+pub use fields::{Below, Byte, Low};
+pub use narrow::{S3, S4, S18};
+
+/// An instruction of the scalar rows.
+#[derive(Clone, Copy, Debug, PartialEq, Eq)]
+pub enum Scalar {
+    S3(S3),
+    S4(S4),
+    S18(S18),
+}
+
+/// An instruction of the branch rows.
+#[derive(Clone, Copy, Debug, PartialEq, Eq)]
+pub enum Branch {}
+
+/// An instruction of the vector rows.
+#[derive(Clone, Copy, Debug, PartialEq, Eq)]
+pub enum Vector {}
+
+/// An instruction.
+#[derive(Clone, Copy, Debug, PartialEq, Eq)]
+pub enum Instr {
+    Scalar(Scalar),
+    Branch(Branch),
+    Vector(Vector),
+}
+
+/// How many bytes the code of an instruction has.
+pub fn width(i: &Instr) -> u32
+    ensures { result ≡ 2 * length (halfwords i.now) }
+{
+    match i {
+        Instr::Scalar(_) => 2,
+        Instr::Branch(b) => match *b {},
+        Instr::Vector(v) => match *v {},
+    }
+}

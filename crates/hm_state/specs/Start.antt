@@ -1,0 +1,57 @@
+-- The state after a reset.
+use Rattle.std.specs.Prelude.{ℕ, ◌-◌, ◌%◌, false, nat_eq, if◌then◌else◌, List, []}
+use Rattle.hm_base.specs.Image.{Segment, flash_byte, first_byte, word_at}
+use Rattle.hm_base.specs.declared.Place.{Place}
+use Rattle.hm_base.specs.declared.Place.TheVariants.{R, QWord, P0, Mask01, Mask23, Carry, Ltp, Sticky}
+use Rattle.hm_mem.specs.declared.Actor.TheVariants.{Thread}
+use Rattle.hm_mem.specs.Memory.{Around, first_devices}
+use Rattle.hm_state.specs.State.{State, Cell, At, Byte, Value, word, Rest}
+
+-- the words at 0 and at 4 of an image: the stack pointer, and the address of the first instruction with bit 0 set
+abbrev pub reset_sp : List Segment → ℕ
+reset_sp image = word_at (flash_byte image) 0
+
+abbrev pub reset_pc : List Segment → ℕ
+reset_pc image = word_at (flash_byte image) 4
+
+-- the places: sp from the image, lr all ones, LTPSIZE 4, and 0 elsewhere
+abbrev pub first_value : List Segment → Place → ℕ
+first_value image (R n) = if nat_eq n 13 then reset_sp image - reset_sp image % 4 else (if nat_eq n 14 then 0xffffffff else 0)
+first_value image Ltp = 4
+first_value image p = 0
+
+abbrev pub first_cell : List Segment → Cell → Value
+first_cell image (At p) = word (first_value image p)
+first_cell image (Byte a) = word (first_byte image a)
+
+abbrev pub first_rest : Around → Rest
+first_rest around = record {
+  n = false;
+  z = false;
+  c = false;
+  v = false;
+  q = false;
+  it = 0;
+  fpca = false;
+  primask = false;
+  ipsr = 0;
+  fpscr_low = 0;
+  fpscr_middle = 0;
+  vpr_top = 0;
+  devices = first_devices;
+  output = [];
+  around = around;
+}
+
+-- after a reset to an image, the thread running under this region and this floor
+unfoldable pub start_under : ℕ → ℕ → ℕ → List Segment → State
+start_under lo hi floor image = record {
+  cell = first_cell image;
+  sticky = false;
+  pc = reset_pc image - reset_pc image % 2;
+  rest = first_rest (record { actor = Thread; lo = lo; hi = hi; floor = floor });
+}
+
+-- the same where no handler may store anywhere below its frame but from the first byte of SRAM on
+abbrev pub start : List Segment → State
+start image = start_under 0x20000000 0x20000000 0x20000000 image

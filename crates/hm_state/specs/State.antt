@@ -1,0 +1,150 @@
+-- The architectural state: the registers by place, the bytes of memory, and what stands in neither.
+use Rattle.std.specs.Prelude.{ℕ, ◌≡◌, ◌+◌, ◌*◌, ◌%◌, ◌^◌, Bool, true, false, cond, ltb, eqb, List, [], ◌∷◌, ◌++◌, map}
+use Rattle.std.specs.List.{range_with_len}
+use Rattle.hm_base.specs.Bits.{field}
+use Rattle.hm_base.specs.Place.{same_place, fit}
+use Rattle.hm_base.specs.declared.Place.{Place}
+use Rattle.hm_base.specs.declared.Place.TheVariants.{R, QWord, P0, Mask01, Mask23, Carry, Ltp, Sticky}
+use Rattle.hm_base.specs.Image.{sram_start, sram_size}
+use Rattle.hm_regs.specs.declared.Regs.{Regs}
+use Rattle.hm_regs.specs.Place.{value_at}
+use Rattle.hm_regs.specs.Writes.{Write}
+use Rattle.hm_mem.specs.declared.Dev.{Dev}
+use Rattle.hm_mem.specs.Memory.{Around, Memory, byte_at, tainted_at}
+use Rattle.hm_state.specs.Store.{Store, Cells, put}
+
+-- a place of the registers, or a byte of memory
+pub data Cell : Type 0 where
+  At : Place → Cell
+  Byte : ℕ → Cell
+
+-- a number, and for a byte whether an entry or a handler wrote it last
+pub record Value : Type 0 where
+  pub n : ℕ
+  pub taint : Bool
+
+abbrev pub word : ℕ → Value
+word n = record { n = n; taint = false }
+
+abbrev pub same_cell : Cell → Cell → Bool
+same_cell (At p) (At q) = same_place p q
+same_cell (Byte a) (Byte b) = eqb a b
+same_cell c d = false
+
+abbrev pub is_dead : Cell → Value → Bool
+is_dead (At p) v = false
+is_dead (Byte a) v = v.taint
+
+abbrev pub cells : Cells Cell Value
+cells = record { same = same_cell; dead = is_dead }
+
+-- what stands in no place and in no byte: the flags of APSR, IT, FPCA, PRIMASK, the exception number, the bits of
+-- FPSCR and VPR that have no place, the devices, the output, and who accesses the memory
+pub record Rest : Type 0 where
+  pub n : Bool
+  pub z : Bool
+  pub c : Bool
+  pub v : Bool
+  pub q : Bool
+  pub it : ℕ
+  pub fpca : Bool
+  pub primask : Bool
+  pub ipsr : ℕ
+  pub fpscr_low : ℕ
+  pub fpscr_middle : ℕ
+  pub vpr_top : ℕ
+  pub devices : Dev
+  pub output : List ℕ
+  pub around : Around
+
+abbrev pub State : Type 0
+State = Store Cell Value Rest
+
+-- what stands in a place
+abbrev pub at : Place → State → ℕ
+at p s = (s.cell (At p)).n
+
+-- a place takes the bits of a number that fit it
+abbrev pub put_at : Place → ℕ → State → State
+put_at p x s = put cells (At p) (word (fit p x)) s
+
+-- QC is no cell: it is the sticky flag. Numbers out of range are no places.
+abbrev pub is_cell : Place → Bool
+is_cell (P0 b) = ltb b 4
+is_cell Sticky = false
+is_cell p = true
+
+abbrev pub cell_of : Regs → Memory → Cell → Value
+cell_of r m (At p) = word (cond (is_cell p) (value_at p r) 0)
+cell_of r m (Byte a) = record { n = byte_at m a; taint = tainted_at m a }
+
+abbrev pub rest_of : Regs → Memory → List ℕ → Rest
+rest_of r m output = record {
+  n = r.n;
+  z = r.z;
+  c = r.c;
+  v = r.v;
+  q = r.q;
+  it = r.it;
+  fpca = r.fpca;
+  primask = r.primask;
+  ipsr = r.ipsr;
+  fpscr_low = field 0 16 r.fpscr;
+  fpscr_middle = field 19 8 r.fpscr;
+  vpr_top = field 24 8 r.vpr;
+  devices = m.devices;
+  output = output;
+  around = m.around;
+}
+
+-- the state that registers, a memory and an output make
+unfoldable pub state_of : Regs → Memory → List ℕ → State
+state_of r m output = record { cell = cell_of r m; sticky = eqb (value_at Sticky r) 1; pc = r.pc; rest = rest_of r m output }
+
+-- a write to a place, as one to its cell
+abbrev pub into : Write → Cell × Value
+into w = (At w.place, word (fit w.place w.value))
+
+-- the list of n values of a function, from 0 on
+unfoldable pub listed : {A : Type 0} → ℕ → (ℕ → A) → List A
+listed n f = map f (range_with_len 0 n)
+
+abbrev pub bit : Bool → ℕ
+bit b = cond b 1 0
+
+-- the registers of a state, FPSCR and VPR put together
+unfoldable pub regs_of : State → Regs
+regs_of s = record {
+  r = listed 13 (λ k. at (R k) s);
+  sp = at (R 13) s;
+  lr = at (R 14) s;
+  pc = s.pc;
+  n = s.rest.n;
+  z = s.rest.z;
+  c = s.rest.c;
+  v = s.rest.v;
+  q = s.rest.q;
+  it = s.rest.it;
+  fpscr = at Carry s * 2 ^ 28 + bit s.sticky * 2 ^ 27 + s.rest.fpscr_middle * 2 ^ 19 + at Ltp s * 2 ^ 16 + s.rest.fpscr_low;
+  vpr = s.rest.vpr_top * 2 ^ 24 + at Mask23 s * 2 ^ 20 + at Mask01 s * 2 ^ 16 + at (P0 3) s * 2 ^ 12 + at (P0 2) s * 2 ^ 8 + at (P0 1) s * 2 ^ 4 + at (P0 0) s;
+  qw = listed 32 (λ k. at (QWord k) s);
+  fpca = s.rest.fpca;
+  primask = s.rest.primask;
+  ipsr = s.rest.ipsr;
+}
+
+-- the bytes of SRAM
+abbrev pub sram_bytes : State → List ℕ
+sram_bytes s = listed sram_size (λ k. (s.cell (Byte (sram_start + k))).n)
+
+-- the taint of SRAM, a bit a byte: bit j of byte k is that of byte 8k + j
+abbrev pub taint_bit : State → ℕ → ℕ
+taint_bit s k = bit (s.cell (Byte (sram_start + k))).taint
+
+abbrev pub taint_byte : State → ℕ → ℕ
+taint_byte s k =
+    taint_bit s (8 * k) + 2 * taint_bit s (8 * k + 1) + 4 * taint_bit s (8 * k + 2) + 8 * taint_bit s (8 * k + 3)
+    + 16 * taint_bit s (8 * k + 4) + 32 * taint_bit s (8 * k + 5) + 64 * taint_bit s (8 * k + 6) + 128 * taint_bit s (8 * k + 7)
+
+abbrev pub taint_bytes : State → List ℕ
+taint_bytes s = listed 0x8000 (taint_byte s)
