@@ -1,3 +1,4 @@
 pub mod Bits
 pub mod Place
 pub mod Image
+pub mod Pieces

@@ -2,7 +2,9 @@
 
 ghost use Rattle.std.specs.Prelude.{◌≡◌, ◌<◌, ◌≤◌, MatchOption};
 
-/// A number below LIMIT.
+/// A number from 0 up to but not including `LIMIT`: a field of an instruction, which keeps its range.
+///
+/// `Below::of` makes one of a number that may be out of range, and `Below::new` of one that is in range.
 #[derive(Clone, Copy, PartialEq, Eq, Debug)]
 pub struct Below<const LIMIT: u32> {
     pub value: u32,
@@ -10,7 +12,7 @@ pub struct Below<const LIMIT: u32> {
 }
 
 impl<const LIMIT: u32> Below<LIMIT> {
-    /// The number x, or None exactly where it is out of range.
+    /// The number x, or None exactly where x is `LIMIT` or more.
     pub fn of(x: u32) -> Option<Self>
         ensures { MatchOption result (LIMIT ≤ x) (λ b. b.value ≡ x) }
     {
@@ -29,7 +31,7 @@ impl<const LIMIT: u32> Below<LIMIT> {
         Below { value: x }
     }
 
-    /// The number.
+    /// The number, which is below `LIMIT`.
     pub fn get(&self) -> u32
         ensures value { result ≡ self.now.value }
         ensures in_range { result < LIMIT }
@@ -38,7 +40,7 @@ impl<const LIMIT: u32> Below<LIMIT> {
     }
 }
 
-/// The number of one of the eight lower registers.
+/// The number of one of the eight lower registers, r0 to r7.
 pub type Low = Below<8>;
 
 /// A number of eight bits.

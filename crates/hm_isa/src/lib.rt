@@ -10,11 +10,14 @@ mod narrow;
 pub use fields::{Below, Byte, Low};
 pub use narrow::{S3, S4, S18};
 
-/// An instruction of the scalar rows.
+/// An instruction of the scalar rows, which stand in order and neither branch nor touch a vector.
 #[derive(Clone, Copy, Debug, PartialEq, Eq)]
 pub enum Scalar {
+    /// `adds rd,rn,#i`
     S3(S3),
+    /// `movs rd,#i`
     S4(S4),
+    /// `bkpt #i`
     S18(S18),
 }
 
@@ -22,11 +25,11 @@ pub enum Scalar {
 #[derive(Clone, Copy, Debug, PartialEq, Eq)]
 pub enum Branch {}
 
-/// An instruction of the vector rows.
+/// An instruction of the vector rows: DDI0553, "M-profile Vector Extension".
 #[derive(Clone, Copy, Debug, PartialEq, Eq)]
 pub enum Vector {}
 
-/// An instruction.
+/// An instruction. Each value is one of a row, with its fields in range.
 #[derive(Clone, Copy, Debug, PartialEq, Eq)]
 pub enum Instr {
     Scalar(Scalar),
@@ -34,7 +37,7 @@ pub enum Instr {
     Vector(Vector),
 }
 
-/// How many bytes the code of an instruction has.
+/// How many bytes the code of an instruction has: 2 or 4.
 pub fn width(i: &Instr) -> u32
     ensures { result ≡ 2 * length (halfwords i.now) }
 {

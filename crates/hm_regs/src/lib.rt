@@ -1,30 +1,48 @@
-//! The registers.
+//! The registers of the processor, read and written by place.
 #![tactic(auto)]
 
-ghost use Rattle.std.specs.Prelude.{ℕ, ◌≡◌, ◌+◌, ◌-◌, ◌^◌, ◌<◌, ◌≤◌, slice_index};
-ghost use Rattle.hm_base.specs.Place.{IsPlace, range_of};
-ghost use Rattle.hm_regs.specs.Place.{Counted, InRange, value_at, with_value};
+ghost use Rattle.std.specs.Prelude.{ℕ, ◌≡◌, ◌≢◌, ◌+◌, ◌-◌, ◌^◌, ◌<◌, ◌≤◌, slice_index};
+ghost use Rattle.hm_base.specs.declared.Place.{Place};
+ghost use Rattle.hm_base.specs.Place.{IsPlace, fit, range_of};
+ghost use Rattle.hm_regs.specs.Place.{Counted, InRange, SameElsewhere, value_at, with_value};
+ghost use Rattle.hm_regs.specs.Start.{start_regs};
 
 use hm_base::{Place, bits, put_bits};
 
-/// The registers.
+/// The registers of the processor (DDI0553, "Registers", and the register descriptions that are named below).
 #[derive(Clone, Copy, Debug, PartialEq, Eq)]
 pub struct Regs {
+    /// R0 to R12.
     pub r: [u32; 13],
+    /// The main stack pointer. Its bits 1:0 are always 0.
     pub sp: u32,
+    /// The link register, R14.
     pub lr: u32,
+    /// The address of the instruction that is next. Bit 0 is always 0.
     pub pc: u32,
+    /// APSR.N, negative.
     pub n: bool,
+    /// APSR.Z, zero.
     pub z: bool,
+    /// APSR.C, carry.
     pub c: bool,
+    /// APSR.V, overflow.
     pub v: bool,
+    /// APSR.Q, saturation.
     pub q: bool,
+    /// EPSR.IT, the state of an IT block; 0 outside of one.
     pub it: u8,
+    /// FPSCR: N, Z, C and V in bits 31:28, QC in bit 27, LTPSIZE in bits 18:16.
     pub fpscr: u32,
+    /// VPR: P0 in bits 15:0, MASK01 in bits 19:16, MASK23 in bits 23:20.
     pub vpr: u32,
+    /// The vector registers: word k of Qn is `qw[4 * n + k]`, which is also S(4n+k).
     pub qw: [u32; 32],
+    /// CONTROL.FPCA: there is a context of the vector registers.
     pub fpca: bool,
+    /// PRIMASK: no exception of a configurable priority may enter.
     pub primask: bool,
+    /// IPSR, the number of the exception that is handled; 0 in thread mode.
     pub ipsr: u16,
 }
 
@@ -34,8 +52,34 @@ fn words_fit(words: &[u32])
 {}
 
 impl Regs {
-    /// Every number is in the range of its type.
-    pub fn known(&self)
+    /// The registers after a reset, with this stack pointer and this address of the first instruction:
+    /// LR is ffffffff, FPSCR is 00040000 (LTPSIZE is 4), and all else is 0. Bits 1:0 of `sp` and bit 0 of
+    /// `pc` are to be 0 (DDI0553, "Reset").
+    pub fn start(sp: u32, pc: u32) -> Regs
+        ensures { result ≡ start_regs sp pc }
+    {
+        Regs {
+            r: [0; 13],
+            sp,
+            lr: 0xffff_ffff,
+            pc,
+            n: false,
+            z: false,
+            c: false,
+            v: false,
+            q: false,
+            it: 0,
+            fpscr: 0x0004_0000,
+            vpr: 0,
+            qw: [0; 32],
+            fpca: false,
+            primask: false,
+            ipsr: 0,
+        }
+    }
+
+    /// A law: every number is in the range of its type.
+    pub fn in_range(&self)
         ensures range { InRange self.now }
         ensures counted { Counted self.now }
     {
@@ -47,7 +91,8 @@ impl Regs {
         words_fit(&self.qw);
     }
 
-    /// What stands in a place.
+    /// What stands in a place: a word of a register, four bits of P0, of a mask or of the flags of FPSCR,
+    /// the three bits of LTPSIZE, or the bit QC.
     pub fn get(&self, p: Place) -> u32
         requires { IsPlace p }
         ensures value { result ≡ value_at p self.now }
@@ -67,10 +112,22 @@ impl Regs {
         }
     }
 
-    /// Puts the bits of `x` that fit into a place.
+    /// Puts the bits of `x` that fit into a place: the low ones, and for SP all but the bits 1:0. All else stays.
     pub fn set(&mut self, p: Place, x: u32)
         requires { IsPlace p }
-        ensures { self.new ≡ with_value p x self.old }
+        ensures value { self.new ≡ with_value p x self.old }
+        ensures held { value_at p self.new ≡ fit p x }
+        ensures others { (q : Place) → q ≢ p → IsPlace q → value_at q self.new ≡ value_at q self.old }
+        ensures elsewhere { SameElsewhere self.new self.old }
+    {
+        self.put(p, x);
+    }
+
+    /// The same, said by the fields.
+    fn put(&mut self, p: Place, x: u32)
+        requires { IsPlace p }
+        ensures value { self.new ≡ with_value p x self.old }
+        ensures counted { Counted self.old }
     {
         match p {
             Place::R(13) => self.sp = x - x % 4,

@@ -3,8 +3,7 @@ use Rattle.std.specs.Prelude.{ℕ, ◌-◌, ◌%◌, false, nat_eq, if◌then◌
 use Rattle.hm_base.specs.Image.{Segment, flash_byte, first_byte, word_at}
 use Rattle.hm_base.specs.declared.Place.{Place}
 use Rattle.hm_base.specs.declared.Place.TheVariants.{R, QWord, P0, Mask01, Mask23, Carry, Ltp, Sticky}
-use Rattle.hm_mem.specs.declared.Actor.TheVariants.{Thread}
-use Rattle.hm_mem.specs.Memory.{Around, first_devices}
+use Rattle.hm_mem.specs.Memory.{Around, first_devices, thread_under}
 use Rattle.hm_state.specs.State.{State, Cell, At, Byte, Value, word, Rest}
 
 -- the words at 0 and at 4 of an image: the stack pointer, and the address of the first instruction with bit 0 set
@@ -49,7 +48,7 @@ start_under lo hi floor image = record {
   cell = first_cell image;
   sticky = false;
   pc = reset_pc image - reset_pc image % 2;
-  rest = first_rest (record { actor = Thread; lo = lo; hi = hi; floor = floor });
+  rest = first_rest (thread_under lo hi floor);
 }
 
 -- the same where no handler may store anywhere below its frame but from the first byte of SRAM on

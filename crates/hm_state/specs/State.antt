@@ -2,7 +2,7 @@
 use Rattle.std.specs.Prelude.{ℕ, ◌≡◌, ◌+◌, ◌*◌, ◌%◌, ◌^◌, Bool, true, false, cond, ltb, eqb, List, [], ◌∷◌, ◌++◌, map}
 use Rattle.std.specs.List.{range_with_len}
 use Rattle.hm_base.specs.Bits.{field}
-use Rattle.hm_base.specs.Place.{same_place, fit}
+use Rattle.hm_base.specs.Place.{IsPlace, same_place, fit}
 use Rattle.hm_base.specs.declared.Place.{Place}
 use Rattle.hm_base.specs.declared.Place.TheVariants.{R, QWord, P0, Mask01, Mask23, Carry, Ltp, Sticky}
 use Rattle.hm_base.specs.Image.{sram_start, sram_size}
@@ -105,6 +105,11 @@ state_of r m output = record { cell = cell_of r m; sticky = eqb (value_at Sticky
 abbrev pub into : Write → Cell × Value
 into w = (At w.place, word (fit w.place w.value))
 
+-- each write is to a place that is a cell
+abbrev pub AreCells : List Write → Type 0
+AreCells [] = Unit {0}
+AreCells (w ∷ ws) = IsPlace w.place × (is_cell w.place ≡ true) × AreCells ws
+
 -- the list of n values of a function, from 0 on
 unfoldable pub listed : {A : Type 0} → ℕ → (ℕ → A) → List A
 listed n f = map f (range_with_len 0 n)
@@ -137,14 +142,12 @@ regs_of s = record {
 abbrev pub sram_bytes : State → List ℕ
 sram_bytes s = listed sram_size (λ k. (s.cell (Byte (sram_start + k))).n)
 
+-- byte k of a row of bits, eight a byte, the first one lowest
+abbrev pub byte_of_bits : (ℕ → Bool) → ℕ → ℕ
+byte_of_bits f k =
+    bit (f (8 * k)) + 2 * bit (f (8 * k + 1)) + 4 * bit (f (8 * k + 2)) + 8 * bit (f (8 * k + 3))
+    + 16 * bit (f (8 * k + 4)) + 32 * bit (f (8 * k + 5)) + 64 * bit (f (8 * k + 6)) + 128 * bit (f (8 * k + 7))
+
 -- the taint of SRAM, a bit a byte: bit j of byte k is that of byte 8k + j
-abbrev pub taint_bit : State → ℕ → ℕ
-taint_bit s k = bit (s.cell (Byte (sram_start + k))).taint
-
-abbrev pub taint_byte : State → ℕ → ℕ
-taint_byte s k =
-    taint_bit s (8 * k) + 2 * taint_bit s (8 * k + 1) + 4 * taint_bit s (8 * k + 2) + 8 * taint_bit s (8 * k + 3)
-    + 16 * taint_bit s (8 * k + 4) + 32 * taint_bit s (8 * k + 5) + 64 * taint_bit s (8 * k + 6) + 128 * taint_bit s (8 * k + 7)
-
 abbrev pub taint_bytes : State → List ℕ
-taint_bytes s = listed 0x8000 (taint_byte s)
+taint_bytes s = listed 0x8000 (byte_of_bits (λ k. (s.cell (Byte (sram_start + k))).taint))

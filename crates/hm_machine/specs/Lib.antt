@@ -1,0 +1,4 @@
+pub mod Cpus
+pub mod Shown
+pub mod Machines
+pub mod Turns

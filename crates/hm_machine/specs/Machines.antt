@@ -1,0 +1,50 @@
+-- How a machine's fields show what callers see of it.
+use Rattle.std.specs.Prelude.{◌≡◌, ℕ, ◌+◌, ◌-◌, ◌*◌, ◌<◌, ◌≤◌, List, [], ◌∷◌, length, drop, Option, None}
+use Rattle.hm_machine.specs.declared.cursor.Cursor.{Cursor}
+use Rattle.hm_machine.specs.declared.machine.Machine.TheInside.{Inside}
+use Rattle.hm_machine.specs.Shown.{Shown}
+use Rattle.hm_mem.specs.Memory.{memory_of, first_devices}
+use Rattle.hm_sched.specs.Schedule.{TickLine, repeat, ticks_of, most_ticks}
+
+-- the ticks that are left of lines, where so many of the first line are done
+abbrev pub left_in : List TickLine → ℕ → List TickLine
+left_in [] used = []
+left_in (line ∷ lines) used = repeat (line.count - used) line (ticks_of lines)
+
+abbrev pub left_at : List TickLine → Cursor → List TickLine
+left_at lines c = left_in (drop c.line lines) c.used
+
+-- a cursor stands in a line that has a tick left
+abbrev pub HasTick : List TickLine → ℕ → Type 0
+HasTick [] used = ⊥
+HasTick (line ∷ lines) used = used < line.count
+
+abbrev pub StandsIn : List TickLine → Cursor → Type 0
+StandsIn lines c = HasTick (drop c.line lines) c.used
+
+abbrev pub machine_view : Inside → Shown
+machine_view m = record {
+  regs = m.cpu.regs;
+  memory = memory_of m.cpu.mem;
+  output = m.cpu.output.items;
+  a = m.cpu.window.a;
+  b = m.cpu.window.b;
+  retired = m.cpu.retired;
+  older_steps = m.cpu.older_steps;
+  outcome = m.outcome;
+  acts = [];
+  ticks = m.ticks;
+  schedule = m.schedule;
+  left = left_at m.schedule.lines m.cursor;
+}
+
+pub record IsMachine (m : Inside) : Type 0 where
+  -- no instruction reaches the devices yet, and none has beats
+  pub devices : m.cpu.mem.dev ≡ first_devices
+  pub older : m.cpu.window.a ≡ 0
+  pub younger : m.cpu.window.b ≡ 0
+  pub running : m.outcome ≡ None → StandsIn m.schedule.lines m.cursor
+  pub begun : m.outcome ≡ None → m.ticks + length (left_at m.schedule.lines m.cursor) ≤ most_ticks
+  pub few : m.ticks ≤ most_ticks
+  pub retired : m.cpu.retired ≤ 9 * m.ticks
+  pub steps : m.cpu.older_steps ≤ 9 * m.ticks

@@ -1,0 +1,13 @@
+//! The machine: ticks of a schedule, outcomes, and what a run shows.
+#![tactic(auto)]
+
+mod cpu;
+mod cursor;
+mod load;
+mod machine;
+mod memory_text;
+mod scalar;
+
+pub use hm_run::{Broken, Offence, Outcome, Reason, Rule, Slot, Turn, Who, Window};
+pub use load::LoadErr;
+pub use machine::Machine;

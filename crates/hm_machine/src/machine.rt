@@ -1,0 +1,241 @@
+//! The machine.
+
+ghost use Rattle.std.specs.Prelude.{◌≡◌, ℕ, suc, ◌+◌, ◌-◌, ◌<◌, ◌≤◌, ◌↔◌, ◌%◌, List, [], length, drop, None, Some, IsSome, IfOk, IfErr, IsTrue};
+ghost use Rattle.hm_base.specs.Image.{Segment};
+ghost use Rattle.hm_codes.specs.Listing.{Listing, IsListing};
+ghost use Rattle.hm_machine.specs.Machines.{StandsIn};
+ghost use Rattle.hm_machine.specs.Shown.{Shows, timed_of};
+ghost use Rattle.hm_machine.specs.Turns.{turned, LoadRefuses};
+ghost use Rattle.hm_mem.specs.Memory.{flash_at, told_at, tainted_at};
+ghost use Rattle.hm_run.specs.Report.{report_text, memory_text};
+ghost use Rattle.hm_run.specs.Timed.{next};
+ghost use Rattle.hm_sched.specs.Schedule.{Sched, ticks_of, most_ticks};
+ghost use Rattle.hm_state.specs.Start.{reset_pc};
+ghost use Rattle.hm_state.specs.State.{regs_of};
+
+use crate::cpu::{Cpu, conclude, letters};
+use crate::cursor::{Cursor, after_tick};
+use crate::load::{LoadErr, flash_word};
+use crate::memory_text::memory_text;
+use hm_base::{Image, OutOfMemory};
+use hm_mem::Mem;
+use hm_regs::Regs;
+use hm_run::{Outcome, Turn, Window};
+use hm_sched::Schedule;
+use std::alloc::Global;
+use std::marker::Model;
+
+/// The most bytes that a program may write.
+const OUTPUT: usize = 0x1_0000;
+
+/// A machine in a run: an image in its memory, a schedule, and how far the run is.
+#[derive(Drop)]
+pub struct Machine {
+    cpu: Cpu,
+    schedule: Schedule,
+    cursor: Cursor,
+    ticks: u32,
+    outcome: Option<Outcome>,
+}
+
+impl Model for Machine {
+    ghost use Rattle.hm_machine.specs.Shown.{Shown};
+
+    ghost Value = { Shown };
+
+    ghost use Rattle.hm_machine.specs.Machines.{machine_view, IsMachine};
+
+    ghost view = { machine_view };
+
+    ghost invariant = { IsMachine };
+}
+
+// A run of no ticks is over at once.
+fn first_outcome(schedule: &Schedule) -> Option<Outcome>
+    ensures none { 0 < length schedule.now.lines → result ≡ None }
+    ensures out { length schedule.now.lines ≡ 0 → result ≡ Some Outcome.OutOfTicks }
+{
+    if schedule.lines() == 0 {
+        Some(Outcome::OutOfTicks)
+    } else {
+        None
+    }
+}
+
+impl Machine {
+    /// The machine after a reset to this image, at the start of this schedule. It takes all the memory that the run needs.
+    /// LoadErr::Reset exactly where bit 0 of the word at 4 is 0 (DDI0553, "Reset": the address of the first instruction).
+    pub fn load(alloc: Global, image: &Image, s: Schedule) -> Result<Machine, LoadErr>
+        ensures shows { IfOk result (λ m. Shows image.now s 0 m) }
+        ensures odd { IfOk result (λ m. reset_pc image.now % 2 ≡ 1) }
+        ensures refused { IfErr result (λ e. LoadRefuses image.now e) }
+    {
+        let (lo, hi) = s.region();
+        let mem = Mem::new(alloc, image, lo, hi, s.floor())?;
+        let output = Vec::with_capacity(alloc, OUTPUT)?;
+        let sp = flash_word(&mem, 0);
+        let pc = flash_word(&mem, 4);
+        if pc % 2 == 0 {
+            return Err(LoadErr::Reset { value: pc });
+        }
+        let outcome = first_outcome(&s);
+        Ok(Machine {
+            cpu: Cpu {
+                regs: Regs::start(sp - sp % 4, pc - pc % 2),
+                mem,
+                output,
+                window: Window { a: 0, b: 0 },
+                retired: 0,
+                older_steps: 0,
+            },
+            schedule: s,
+            cursor: Cursor { line: 0, used: 0 },
+            ticks: 0,
+            outcome,
+        })
+    }
+
+    /// How the run ended; None exactly while it runs.
+    pub fn outcome(&self) -> Option<Outcome>
+        ensures { result ≡ (timed_of self.now).outcome }
+    {
+        self.outcome
+    }
+
+    /// The registers.
+    pub fn regs(&self) -> &Regs
+        ensures { result.now ≡ regs_of (timed_of self.now).config.state }
+    {
+        &self.cpu.regs
+    }
+
+    /// The position: the beats done of the older and of the younger instruction in flight.
+    pub fn position(&self) -> Window
+        ensures older { result.a ≡ (timed_of self.now).config.a }
+        ensures younger { result.b ≡ (timed_of self.now).config.b }
+    {
+        self.cpu.window
+    }
+
+    /// The ticks that were begun.
+    pub fn ticks(&self) -> u32
+        ensures { result ≡ (timed_of self.now).ticks }
+    {
+        self.ticks
+    }
+
+    /// The instructions of the thread that were retired.
+    pub fn retired(&self) -> u64
+        ensures { result ≡ (timed_of self.now).config.n }
+    {
+        self.cpu.retired
+    }
+
+    /// The steps of an older instruction of the thread, those inside W too.
+    pub fn older_steps(&self) -> u64
+        ensures { result ≡ (timed_of self.now).config.steps }
+    {
+        self.cpu.older_steps
+    }
+
+    /// What the program wrote.
+    pub fn output(&self) -> &[u8]
+        ensures { result.now ≡ (timed_of self.now).config.state.rest.output }
+    {
+        &self.cpu.output
+    }
+
+    /// The byte at an address, whatever its taint; None exactly outside flash and SRAM.
+    pub fn byte(&self, addr: u32) -> Option<u8>
+        ensures { result ≡ told_at self.now.memory addr }
+    {
+        self.cpu.mem.byte(addr)
+    }
+
+    /// Whether the byte at an address is one of SRAM that an entry or a handler wrote last.
+    pub fn tainted(&self, addr: u32) -> bool
+        ensures { result ≡ tainted_at self.now.memory addr }
+    {
+        self.cpu.mem.tainted(addr)
+    }
+
+    // Does one tick of a run that goes on.
+    fn advance(&mut self)
+        requires { self.old.outcome ≡ None }
+        ensures next {
+            (listing : Listing) → IsListing (flash_at self.old.memory) listing → timed_of self.new ≡ next listing self.old.left (timed_of self.old)
+        }
+        ensures left { self.new.left ≡ drop 1 self.old.left }
+        ensures memory { self.new.memory ≡ self.old.memory }
+        ensures plan { self.new.schedule ≡ self.old.schedule }
+    {
+        self.ticks += 1;
+        let line = self.schedule.line(self.cursor.line);
+        let reached = letters(line.letters.as_slice(), &mut self.cpu);
+        self.cursor = after_tick(&self.schedule, self.cursor);
+        match reached {
+            Ok(()) => {
+                if self.cursor.line == self.schedule.lines() {
+                    self.outcome = Some(Outcome::OutOfTicks);
+                }
+            }
+            Err(end) => self.outcome = Some(conclude(self.ticks, end, &mut self.cpu)),
+        }
+    }
+
+    /// Does one tick. An ended machine answers the same again and changes nothing. It takes no memory.
+    pub fn tick(&mut self) -> Turn
+        ensures shows { (image : List Segment) (s : Sched) (t : ℕ) → Shows image s t self.old → Shows image s (suc t) self.new }
+        ensures ended { IsSome self.old.outcome → self.new ≡ self.old }
+        ensures turn { result ≡ turned self.new.outcome }
+        ensures left { self.old.outcome ≡ None → self.new.left ≡ drop 1 self.old.left }
+    {
+        if let Some(outcome) = self.outcome {
+            return Turn::Ended(outcome);
+        }
+        self.advance();
+        match self.outcome {
+            Some(outcome) => Turn::Ended(outcome),
+            None => Turn::Running,
+        }
+    }
+
+    fn is_running(&self) -> bool
+        ensures value { IsTrue result ↔ (self.now.outcome ≡ None) }
+        ensures left { self.now.outcome ≡ None → 0 < length self.now.left }
+    {
+        let _opened = self.ticks;
+        self.outcome.is_none()
+    }
+
+    /// Does ticks until the run ends, one for each tick of the schedule at most. It takes no memory.
+    pub fn run(&mut self) -> Outcome
+        ensures shows {
+            (image : List Segment) (s : Sched) (t : ℕ) → t ≤ length (ticks_of s.lines) → Shows image s t self.old → Shows image s (length (ticks_of s.lines)) self.new
+        }
+        ensures outcome { self.new.outcome ≡ Some result }
+        ensures ended { IsSome self.old.outcome → self.new ≡ self.old }
+    {
+        while self.is_running() {
+            let _turn = self.tick();
+        }
+        match self.outcome {
+            Some(outcome) => outcome,
+            None => unreachable!(),
+        }
+    }
+
+    /// The report: how the run ended, the registers, the position and the output.
+    pub fn report(&self, alloc: Global) -> Result<Vec<u8>, OutOfMemory>
+        ensures { IfOk result (λ out. out.items ≡ report_text (timed_of self.now)) }
+    {
+        hm_report::report(alloc, self.outcome, 0, &self.cpu.regs, self.cpu.window, &self.cpu.output)
+    }
+
+    /// The memory file: the bytes of SRAM, and then their taint, bit j of byte k that of byte 8k + j.
+    pub fn memory_file(&self, alloc: Global) -> Result<Vec<u8>, OutOfMemory>
+        ensures { IfOk result (λ out. out.items ≡ memory_text (timed_of self.now)) }
+    {
+        memory_text(alloc, &self.cpu.mem)
+    }
+}

@@ -1,0 +1,11 @@
+pub mod Results
+pub mod Views
+pub mod Swaps
+pub mod Beats
+pub mod Past
+pub mod Positions
+pub mod Older
+pub mod Younger
+pub mod Steps
+pub mod Headline
+pub mod Shown

@@ -1,0 +1,5 @@
+use Rattle.std.proofs.Common.{refl}
+use Rattle.hm_report.proofs.outcome_text.tainted_text.Goals as goal
+
+pub returns : goal.returns
+returns c = rw (c.in_ok-address_text.ensures, c.in_ok-decimal.ensures, c.in_ok-text.ensures) refl

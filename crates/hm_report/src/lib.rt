@@ -1,0 +1,61 @@
+//! The text of a report: how a run ended, and then the registers, the position and the output.
+#![tactic(auto)]
+
+mod outcome_text;
+mod registers_text;
+
+pub use outcome_text::outcome_line;
+
+ghost use Rattle.std.specs.Prelude.{◌≡◌, ◌+◌, length, codes, IfOk};
+ghost use Rattle.hm_run.specs.Report.{mode_line, output_lines, report_of};
+
+use hm_base::OutOfMemory;
+use hm_regs::Regs;
+use hm_run::{Outcome, Window};
+use hm_text_base::{decimal, hex_bytes, text};
+use registers_text::register_lines;
+use std::alloc::Global;
+
+// The line of the mode: the thread, or a handler and how many exceptions are active.
+fn mode_line(alloc: Global, out: &mut Vec<u8>, depth: usize, ipsr: u16) -> Result<(), OutOfMemory>
+    ensures { IfOk result (λ _. out.new.items ≡ mode_line depth ipsr out.old.items) }
+{
+    if depth == 0 {
+        return text(out, b"mode thread\n");
+    }
+    text(out, b"mode handler ")?;
+    decimal(alloc, out, ipsr as u64)?;
+    text(out, b" depth ")?;
+    decimal(alloc, out, depth as u64)?;
+    text(out, b"\n")
+}
+
+// The lines of the output: how many bytes, and the bytes.
+fn output_lines(alloc: Global, out: &mut Vec<u8>, bytes: &[u8]) -> Result<(), OutOfMemory>
+    ensures { IfOk result (λ _. out.new.items ≡ output_lines bytes.now out.old.items) }
+{
+    text(out, b"output ")?;
+    decimal(alloc, out, bytes.len() as u64)?;
+    text(out, b"\n")?;
+    hex_bytes(alloc, out, bytes)?;
+    text(out, b"\n")
+}
+
+/// The report of a run that ended so (or runs still), with so many active exceptions, these registers, this position
+/// and this output.
+pub fn report(
+    alloc: Global,
+    outcome: Option<Outcome>,
+    depth: usize,
+    regs: &Regs,
+    position: Window,
+    output: &[u8],
+) -> Result<Vec<u8>, OutOfMemory>
+    ensures { IfOk result (λ out. out.items ≡ report_of outcome depth regs.now position.a position.b output.now) }
+{
+    let mut out = outcome_line(alloc, outcome)?;
+    mode_line(alloc, &mut out, depth, regs.ipsr)?;
+    register_lines(alloc, &mut out, regs, position)?;
+    output_lines(alloc, &mut out, output)?;
+    Ok(out)
+}

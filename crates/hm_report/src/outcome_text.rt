@@ -1,0 +1,284 @@
+//! The first line of a report: how the run ended.
+
+ghost use Rattle.std.specs.Prelude.{◌≡◌, ◌++◌, IfOk};
+ghost use Rattle.hm_text_base.specs.Texts.{hex8};
+ghost use Rattle.hm_run.specs.Report.{kind_text, who_text, address_text, reason_text, register_text, word_text, place_text, slot_text, rule_text, broken_text, offence_text, ended_text, outcome_text, outcome_line};
+
+use hm_base::{Fault, FaultKind, OutOfMemory, Place};
+use hm_run::{Broken, Offence, Outcome, Reason, Rule, Slot, Who};
+use hm_text_base::{decimal, hex8, text};
+use std::alloc::Global;
+
+fn kind_text(kind: FaultKind) -> &'static [u8]
+    ensures { result.now ≡ kind_text kind }
+{
+    match kind {
+        FaultKind::Undefined => b"undefined",
+        FaultKind::InvState => b"invstate",
+        FaultKind::Fetch => b"fetch",
+        FaultKind::Bus => b"bus",
+        FaultKind::FlashWrite => b"flashwrite",
+        FaultKind::Unaligned => b"unaligned",
+        FaultKind::DeviceVector => b"devicevector",
+        FaultKind::TimedRead => b"timedread",
+        FaultKind::Semihost => b"semihost",
+        FaultKind::Vector => b"vector",
+    }
+}
+
+fn who_text(who: Who) -> &'static [u8]
+    ensures { result.now ≡ who_text who }
+{
+    match who {
+        Who::Thread => b"thread",
+        Who::Handler => b"handler",
+        Who::Entry => b"entry",
+    }
+}
+
+fn reason_text(alloc: Global, out: &mut Vec<u8>, reason: Reason) -> Result<(), OutOfMemory>
+    ensures { IfOk result (λ _. out.new.items ≡ reason_text reason out.old.items) }
+{
+    match reason {
+        Reason::Break(k) => {
+            text(out, b"break ")?;
+            decimal(alloc, out, k as u64)
+        }
+        Reason::Exit(value) => {
+            text(out, b"exit ")?;
+            hex8(out, value)
+        }
+    }
+}
+
+fn address_text(out: &mut Vec<u8>, pc: u32, addr: u32) -> Result<(), OutOfMemory>
+    ensures { IfOk result (λ _. out.new.items ≡ address_text pc addr out.old.items) }
+{
+    text(out, b" pc ")?;
+    hex8(out, pc)?;
+    text(out, b" addr ")?;
+    hex8(out, addr)
+}
+
+fn register_text(alloc: Global, out: &mut Vec<u8>, n: u8) -> Result<(), OutOfMemory>
+    ensures { IfOk result (λ _. out.new.items ≡ register_text n out.old.items) }
+{
+    if n == 13 {
+        return text(out, b"sp");
+    }
+    if n == 14 {
+        return text(out, b"lr");
+    }
+    text(out, b"r")?;
+    decimal(alloc, out, n as u64)
+}
+
+// Word k of all vector registers, as a word of one of them.
+fn word_text(alloc: Global, out: &mut Vec<u8>, k: u8) -> Result<(), OutOfMemory>
+    ensures { IfOk result (λ _. out.new.items ≡ word_text k out.old.items) }
+{
+    text(out, b"q")?;
+    decimal(alloc, out, (k / 4) as u64)?;
+    text(out, b".")?;
+    decimal(alloc, out, (k % 4) as u64)
+}
+
+fn slice_text(alloc: Global, out: &mut Vec<u8>, b: u8) -> Result<(), OutOfMemory>
+    ensures { IfOk result (λ _. out.new.items ≡ place_text (Place.P0 b) out.old.items) }
+{
+    text(out, b"p0.")?;
+    decimal(alloc, out, b as u64)
+}
+
+fn place_text(alloc: Global, out: &mut Vec<u8>, place: Place) -> Result<(), OutOfMemory>
+    ensures { IfOk result (λ _. out.new.items ≡ place_text place out.old.items) }
+{
+    match place {
+        Place::R(n) => register_text(alloc, out, n),
+        Place::QWord(k) => word_text(alloc, out, k),
+        Place::P0(b) => slice_text(alloc, out, b),
+        Place::Mask01 => text(out, b"mask01"),
+        Place::Mask23 => text(out, b"mask23"),
+        Place::Carry => text(out, b"carry"),
+        Place::Ltp => text(out, b"ltpsize"),
+        Place::Sticky => text(out, b"qc"),
+    }
+}
+
+fn slot_text(alloc: Global, out: &mut Vec<u8>, slot: Slot) -> Result<(), OutOfMemory>
+    ensures { IfOk result (λ _. out.new.items ≡ slot_text slot out.old.items) }
+{
+    match slot {
+        Slot::Reg(place) => place_text(alloc, out, place),
+        Slot::Primask => text(out, b"primask"),
+    }
+}
+
+fn ending_text(alloc: Global, out: &mut Vec<u8>, a: u8, b: u8) -> Result<(), OutOfMemory>
+    ensures { IfOk result (λ _. out.new.items ≡ rule_text (Rule.Ending a b) out.old.items) }
+{
+    text(out, b"ending ")?;
+    decimal(alloc, out, a as u64)?;
+    text(out, b" ")?;
+    decimal(alloc, out, b as u64)
+}
+
+// A word and an address.
+fn at_text(out: &mut Vec<u8>, name: &[u8], addr: u32) -> Result<(), OutOfMemory>
+    ensures { IfOk result (λ _. out.new.items ≡ out.old.items ++ name.now ++ hex8 addr) }
+{
+    text(out, name)?;
+    hex8(out, addr)
+}
+
+fn meeting_text(alloc: Global, out: &mut Vec<u8>, place: Place) -> Result<(), OutOfMemory>
+    ensures { IfOk result (λ _. out.new.items ≡ rule_text (Rule.Register place) out.old.items) }
+{
+    text(out, b"register ")?;
+    place_text(alloc, out, place)
+}
+
+fn rule_text(alloc: Global, out: &mut Vec<u8>, rule: Rule) -> Result<(), OutOfMemory>
+    ensures { IfOk result (λ _. out.new.items ≡ rule_text rule out.old.items) }
+{
+    match rule {
+        Rule::NotVector => text(out, b"notvector"),
+        Rule::Order => text(out, b"order"),
+        Rule::Register { place } => meeting_text(alloc, out, place),
+        Rule::Memory { addr } => at_text(out, b"memory ", addr),
+        Rule::YoungerFault => text(out, b"youngerfault"),
+        Rule::Ending { a, b } => ending_text(alloc, out, a, b),
+    }
+}
+
+fn differing_text(alloc: Global, out: &mut Vec<u8>, name: Slot, entry: u32, now: u32) -> Result<(), OutOfMemory>
+    ensures { IfOk result (λ _. out.new.items ≡ broken_text (Broken.Register name entry now) out.old.items) }
+{
+    text(out, b"register ")?;
+    slot_text(alloc, out, name)?;
+    text(out, b" entry ")?;
+    hex8(out, entry)?;
+    text(out, b" now ")?;
+    hex8(out, now)
+}
+
+fn broken_text(alloc: Global, out: &mut Vec<u8>, broken: Broken) -> Result<(), OutOfMemory>
+    ensures { IfOk result (λ _. out.new.items ≡ broken_text broken out.old.items) }
+{
+    match broken {
+        Broken::ExcReturn { value } => at_text(out, b"return ", value),
+        Broken::Register { name, entry, now } => differing_text(alloc, out, name, entry, now),
+        Broken::Frame { addr } => at_text(out, b"frame ", addr),
+    }
+}
+
+fn offence_text(alloc: Global, out: &mut Vec<u8>, what: Offence) -> Result<(), OutOfMemory>
+    ensures { IfOk result (λ _. out.new.items ≡ offence_text what out.old.items) }
+{
+    match what {
+        Offence::Left(broken) => broken_text(alloc, out, broken),
+        Offence::Store { addr } => at_text(out, b"store ", addr),
+        Offence::Call { pc } => at_text(out, b"call ", pc),
+    }
+}
+
+fn halted_text(alloc: Global, out: &mut Vec<u8>, reason: Reason, n: u64) -> Result<(), OutOfMemory>
+    ensures { IfOk result (λ _. out.new.items ≡ ended_text (Outcome.Halted reason n) out.old.items) }
+{
+    text(out, b"halted ")?;
+    reason_text(alloc, out, reason)?;
+    text(out, b" after ")?;
+    decimal(alloc, out, n)
+}
+
+fn fault_text(alloc: Global, out: &mut Vec<u8>, who: Who, fault: Fault, pc: u32, n: u64) -> Result<(), OutOfMemory>
+    ensures { IfOk result (λ _. out.new.items ≡ ended_text (Outcome.Fault who fault pc n) out.old.items) }
+{
+    text(out, b"fault ")?;
+    text(out, who_text(who))?;
+    text(out, b" ")?;
+    text(out, kind_text(fault.kind))?;
+    address_text(out, pc, fault.addr)?;
+    text(out, b" after ")?;
+    decimal(alloc, out, n)
+}
+
+fn broken_rule_text(alloc: Global, out: &mut Vec<u8>, tick: u32, step: u32, rule: Rule) -> Result<(), OutOfMemory>
+    ensures { IfOk result (λ _. out.new.items ≡ ended_text (Outcome.RuleBroken tick step rule) out.old.items) }
+{
+    text(out, b"rule tick ")?;
+    decimal(alloc, out, tick as u64)?;
+    text(out, b" step ")?;
+    decimal(alloc, out, step as u64)?;
+    text(out, b" ")?;
+    rule_text(alloc, out, rule)
+}
+
+fn handler_text(alloc: Global, out: &mut Vec<u8>, tick: u32, what: Offence) -> Result<(), OutOfMemory>
+    ensures { IfOk result (λ _. out.new.items ≡ ended_text (Outcome.HandlerBroken tick what) out.old.items) }
+{
+    text(out, b"handler tick ")?;
+    decimal(alloc, out, tick as u64)?;
+    text(out, b" ")?;
+    offence_text(alloc, out, what)
+}
+
+fn tainted_text(alloc: Global, out: &mut Vec<u8>, tick: u32, pc: u32, addr: u32) -> Result<(), OutOfMemory>
+    ensures { IfOk result (λ _. out.new.items ≡ ended_text (Outcome.TaintedRead tick pc addr) out.old.items) }
+{
+    text(out, b"tainted tick ")?;
+    decimal(alloc, out, tick as u64)?;
+    address_text(out, pc, addr)?;
+    Ok(())
+}
+
+fn stack_text(alloc: Global, out: &mut Vec<u8>, tick: u32, sp: u32) -> Result<(), OutOfMemory>
+    ensures { IfOk result (λ _. out.new.items ≡ ended_text (Outcome.StackSpent tick sp) out.old.items) }
+{
+    text(out, b"stack tick ")?;
+    decimal(alloc, out, tick as u64)?;
+    text(out, b" sp ")?;
+    hex8(out, sp)
+}
+
+fn full_text(alloc: Global, out: &mut Vec<u8>, tick: u32) -> Result<(), OutOfMemory>
+    ensures { IfOk result (λ _. out.new.items ≡ ended_text (Outcome.OutputFull tick) out.old.items) }
+{
+    text(out, b"output tick ")?;
+    decimal(alloc, out, tick as u64)
+}
+
+fn ended_text(alloc: Global, out: &mut Vec<u8>, outcome: Outcome) -> Result<(), OutOfMemory>
+    ensures { IfOk result (λ _. out.new.items ≡ ended_text outcome out.old.items) }
+{
+    match outcome {
+        Outcome::Halted { reason, n } => halted_text(alloc, out, reason, n),
+        Outcome::Fault { who, fault, pc, n } => fault_text(alloc, out, who, fault, pc, n),
+        Outcome::RuleBroken { tick, step, rule } => broken_rule_text(alloc, out, tick, step, rule),
+        Outcome::HandlerBroken { tick, what } => handler_text(alloc, out, tick, what),
+        Outcome::TaintedRead { tick, pc, addr } => tainted_text(alloc, out, tick, pc, addr),
+        Outcome::StackSpent { tick, sp } => stack_text(alloc, out, tick, sp),
+        Outcome::OutputFull { tick } => full_text(alloc, out, tick),
+        Outcome::OutOfTicks => text(out, b"ticks"),
+    }
+}
+
+fn outcome_text(alloc: Global, out: &mut Vec<u8>, outcome: Option<Outcome>) -> Result<(), OutOfMemory>
+    ensures { IfOk result (λ _. out.new.items ≡ outcome_text outcome out.old.items) }
+{
+    match outcome {
+        Some(outcome) => ended_text(alloc, out, outcome),
+        None => text(out, b"running"),
+    }
+}
+
+/// The first line of a report.
+pub fn outcome_line(alloc: Global, outcome: Option<Outcome>) -> Result<Vec<u8>, OutOfMemory>
+    ensures { IfOk result (λ out. out.items ≡ outcome_line outcome) }
+{
+    let mut out = Vec::new(alloc);
+    text(&mut out, b"outcome ")?;
+    outcome_text(alloc, &mut out, outcome)?;
+    text(&mut out, b"\n")?;
+    Ok(out)
+}

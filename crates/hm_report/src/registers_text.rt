@@ -1,0 +1,132 @@
+//! The lines of the registers.
+
+ghost use Rattle.std.specs.Prelude.{◌≡◌, ◌++◌, ◌+◌, ◌*◌, ◌<◌, ◌≤◌, length, codes, IfOk};
+ghost use Rattle.hm_run.specs.Report.{low_lines, word_line, pointer_lines, position_line, flags_line, bit_line, special_lines, vector_words, vector_line, vector_lines, register_lines};
+
+use hm_base::OutOfMemory;
+use hm_regs::Regs;
+use hm_run::Window;
+use hm_text_base::{bit, decimal, hex2, hex8, text};
+use std::alloc::Global;
+
+fn low_lines(alloc: Global, out: &mut Vec<u8>, r: &[u32], count: usize) -> Result<(), OutOfMemory>
+    requires { count ≤ length r.now }
+    ensures { IfOk result (λ _. out.new.items ≡ low_lines count r.now out.old.items) }
+{
+    for k in 0..count {
+        text(out, b"r")?;
+        decimal(alloc, out, k as u64)?;
+        text(out, b" ")?;
+        hex8(out, r[k])?;
+        text(out, b"\n")?;
+    }
+    Ok(())
+}
+
+fn word_line(out: &mut Vec<u8>, name: &[u8], x: u32) -> Result<(), OutOfMemory>
+    ensures { IfOk result (λ _. out.new.items ≡ word_line name.now x out.old.items) }
+{
+    text(out, name)?;
+    text(out, b" ")?;
+    hex8(out, x)?;
+    text(out, b"\n")
+}
+
+fn bit_line(out: &mut Vec<u8>, name: &[u8], b: bool) -> Result<(), OutOfMemory>
+    ensures { IfOk result (λ _. out.new.items ≡ bit_line name.now b out.old.items) }
+{
+    text(out, name)?;
+    text(out, b" ")?;
+    bit(out, b)?;
+    text(out, b"\n")
+}
+
+fn pointer_lines(out: &mut Vec<u8>, regs: &Regs) -> Result<(), OutOfMemory>
+    ensures { IfOk result (λ _. out.new.items ≡ pointer_lines regs.now out.old.items) }
+{
+    word_line(out, b"sp", regs.sp)?;
+    word_line(out, b"lr", regs.lr)?;
+    word_line(out, b"pc", regs.pc)
+}
+
+fn position_line(alloc: Global, out: &mut Vec<u8>, position: Window) -> Result<(), OutOfMemory>
+    ensures { IfOk result (λ _. out.new.items ≡ position_line position.a position.b out.old.items) }
+{
+    text(out, b"position ")?;
+    decimal(alloc, out, position.a as u64)?;
+    text(out, b" ")?;
+    decimal(alloc, out, position.b as u64)?;
+    text(out, b"\n")
+}
+
+fn flags_line(out: &mut Vec<u8>, regs: &Regs) -> Result<(), OutOfMemory>
+    ensures { IfOk result (λ _. out.new.items ≡ flags_line regs.now out.old.items) }
+{
+    text(out, b"flags ")?;
+    bit(out, regs.n)?;
+    bit(out, regs.z)?;
+    bit(out, regs.c)?;
+    bit(out, regs.v)?;
+    bit(out, regs.q)?;
+    text(out, b"\n")
+}
+
+fn special_lines(out: &mut Vec<u8>, regs: &Regs) -> Result<(), OutOfMemory>
+    ensures { IfOk result (λ _. out.new.items ≡ special_lines regs.now out.old.items) }
+{
+    text(out, b"it ")?;
+    hex2(out, regs.it)?;
+    text(out, b"\n")?;
+    word_line(out, b"fpscr", regs.fpscr)?;
+    word_line(out, b"vpr", regs.vpr)?;
+    bit_line(out, b"fpca", regs.fpca)?;
+    bit_line(out, b"primask", regs.primask)
+}
+
+// The words of vector register k.
+fn vector_words(out: &mut Vec<u8>, k: usize, words: &[u32]) -> Result<(), OutOfMemory>
+    requires { 4 * k + 3 < length words.now }
+    ensures { IfOk result (λ _. out.new.items ≡ vector_words k words.now out.old.items) }
+{
+    hex8(out, words[4 * k])?;
+    text(out, b" ")?;
+    hex8(out, words[4 * k + 1])?;
+    text(out, b" ")?;
+    hex8(out, words[4 * k + 2])?;
+    text(out, b" ")?;
+    hex8(out, words[4 * k + 3])
+}
+
+fn vector_line(alloc: Global, out: &mut Vec<u8>, k: usize, words: &[u32]) -> Result<(), OutOfMemory>
+    requires { 4 * k + 3 < length words.now }
+    ensures { IfOk result (λ _. out.new.items ≡ vector_line k words.now out.old.items) }
+{
+    text(out, b"q")?;
+    decimal(alloc, out, k as u64)?;
+    text(out, b" ")?;
+    vector_words(out, k, words)?;
+    text(out, b"\n")
+}
+
+fn vector_lines(alloc: Global, out: &mut Vec<u8>, words: &[u32], count: usize) -> Result<(), OutOfMemory>
+    requires { 4 * count ≤ length words.now }
+    ensures { IfOk result (λ _. out.new.items ≡ vector_lines count words.now out.old.items) }
+{
+    for k in 0..count {
+        vector_line(alloc, out, k, words)?;
+    }
+    Ok(())
+}
+
+/// The lines of the registers, at a position.
+#[tactic(auto, unfolding(hm_run::specs::Report::register_lines))]
+pub fn register_lines(alloc: Global, out: &mut Vec<u8>, regs: &Regs, position: Window) -> Result<(), OutOfMemory>
+    ensures { IfOk result (λ _. out.new.items ≡ register_lines regs.now position.a position.b out.old.items) }
+{
+    low_lines(alloc, out, &regs.r, 13)?;
+    pointer_lines(out, regs)?;
+    position_line(alloc, out, position)?;
+    flags_line(out, regs)?;
+    special_lines(out, regs)?;
+    vector_lines(alloc, out, &regs.qw, 8)
+}

@@ -1,0 +1,6 @@
+pub mod Rows
+pub mod Program
+pub mod Timed
+pub mod Report
+pub mod InOrder
+pub mod Headline

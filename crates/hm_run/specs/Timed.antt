@@ -1,0 +1,144 @@
+-- The beat machine: the fold of steps and ends of ticks over a schedule.
+use Rattle.std.specs.Prelude.{◌≡◌, ℕ, zero, suc, ◌+◌, ◌-◌, ◌*◌, ◌/◌, ◌%◌, ◌^◌, ◌==◌, Bool, ◌&&◌, ◌||◌, nat_lt, bit_or, if◌then◌else◌, List, [], ◌∷◌, length, drop, Option, Some, None, Result, Ok, Err}
+use Rattle.hm_base.specs.Image.{Segment}
+use Rattle.hm_base.specs.declared.Fault.{Fault}
+use Rattle.hm_base.specs.declared.Stop.{Stop}
+use Rattle.hm_base.specs.declared.Stop.TheVariants as stop
+use Rattle.hm_codes.specs.Listing.{Listing}
+use Rattle.hm_mem.specs.declared.Dev.{Dev}
+use Rattle.hm_order.specs.Machine.{Config, End, Stopped, Broken, at_start}
+use Rattle.hm_regs.specs.declared.Regs.{Regs}
+use Rattle.hm_run.specs.declared.Cause.{Cause}
+use Rattle.hm_run.specs.declared.Cause.TheVariants as cause
+use Rattle.hm_run.specs.declared.Outcome.{Outcome}
+use Rattle.hm_run.specs.declared.Outcome.TheVariants as outcome
+use Rattle.hm_run.specs.declared.Offence.TheVariants as offence
+use Rattle.hm_run.specs.declared.Rule.TheVariants as rule
+use Rattle.hm_run.specs.declared.Who.{Who}
+use Rattle.hm_run.specs.declared.Who.TheVariants.{Thread, Handler}
+use Rattle.hm_run.specs.Program.{Stopping, Breach, Ticked, letter_steps}
+use Rattle.hm_sched.specs.Schedule.{TickLine, Sched, ticks_of}
+use Rattle.hm_state.specs.Start.{start_under}
+use Rattle.hm_state.specs.State.{State}
+
+-- what an entry puts away: the position, the registers, the base, the form and the bytes of its frame, the exception's
+-- number, and the value that a return has to give
+pub record Activation : Type 0 where
+  pub a : ℕ
+  pub b : ℕ
+  pub regs : Regs
+  pub frame : ℕ
+  pub long : Bool
+  pub bytes : List ℕ
+  pub number : ℕ
+  pub value : ℕ
+
+-- the outcome, or None while it runs; the position, the numbers of retired instructions and of older steps, and the
+-- state; the activations, the newest first; the ticks that were begun
+pub record Timed : Type 0 where
+  pub outcome : Option Outcome
+  pub config : Config State
+  pub acts : List Activation
+  pub ticks : ℕ
+
+abbrev pub begin : List Segment → Sched → Timed
+begin image s = record { outcome = None; config = at_start (start_under s.lo s.hi s.floor image); acts = []; ticks = 0 }
+
+-- who runs: the thread, where there is no activation
+abbrev pub who_runs : List Activation → Who
+who_runs [] = Thread
+who_runs (x ∷ acts) = Handler
+
+-- the address of the instruction that stops: the younger of two stands 4 bytes on
+abbrev pub pc_of : Config State → Stopping → ℕ
+pc_of c e = if e.younger then (c.state.pc + 4) % 2 ^ 32 else c.state.pc
+
+-- the outcome of an instruction that stops in tick t
+abbrev pub outcome_of_stop : ℕ → List Activation → Config State → ℕ → Stop → Outcome
+outcome_of_stop t acts c pc (stop.Fault f) = outcome.Fault (who_runs acts) f pc c.n
+outcome_of_stop t acts c pc (stop.Tainted addr) = outcome.TaintedRead t pc addr
+outcome_of_stop t acts c pc (stop.Denied addr) = outcome.HandlerBroken t (offence.Store addr)
+
+abbrev pub outcome_of_cause : ℕ → List Activation → Config State → ℕ → Cause → Outcome
+outcome_of_cause t acts c pc (cause.Halt reason) = outcome.Halted reason (c.n + 1)
+outcome_of_cause t acts c pc cause.Full = outcome.OutputFull t
+outcome_of_cause t acts c pc (cause.Stop e) = outcome_of_stop t acts c pc e
+
+abbrev pub outcome_of : ℕ → List Activation → Config State → Stopping → Outcome
+outcome_of t acts c e = outcome_of_cause t acts c (pc_of c e) e.cause
+
+-- an instruction that halts is retired, and a step of the older that stops counts as one
+abbrev pub retired_by : Cause → ℕ → ℕ
+retired_by (cause.Halt reason) n = n + 1
+retired_by cause.Full n = n
+retired_by (cause.Stop e) n = n
+
+abbrev pub at_stop : Config State → Stopping → Config State
+at_stop c e = record c { n = retired_by e.cause c.n; steps = if e.younger then c.steps else c.steps + 1 }
+
+-- SysTick, where it is enabled: at 0 it takes the reload value, else it goes down by 1; where it comes to 0 it sets
+-- COUNTFLAG and, where TICKINT is set, becomes pending
+abbrev pub is_counting : Dev → Bool
+is_counting d = d.csr % 2 == 1
+
+abbrev pub expired : Dev → Dev
+expired d = if d.cvr == 0 then record d { csr = bit_or d.csr (2 ^ 16); tick_pending = d.tick_pending || (d.csr / 2 % 2 == 1) } else d
+
+abbrev pub counted : Dev → Dev
+counted d = if is_counting d then (if d.cvr == 0 then record d { cvr = d.rvr } else expired (record d { cvr = d.cvr - 1 })) else d
+
+-- the interrupts of a tick become pending
+abbrev pub arrived : ℕ → Dev → Dev
+arrived irq d = record d { pending = bit_or d.pending irq }
+
+abbrev pub with_devices : (Dev → Dev) → State → State
+with_devices f s = record s { rest = record s.rest { devices = f s.rest.devices } }
+
+-- the positions at which a tick may end
+abbrev pub may_end : ℕ → ℕ → Bool
+may_end a b = (b == 0 && nat_lt a 4) || (a == 3 && b == 1)
+
+-- At the end of a tick that did not end the run the position is judged, SysTick counts, and the tick's interrupts
+-- become pending. (Where a schedule has entries an exception enters then; no schedule has them yet.)
+abbrev pub tick_end : TickLine → Timed → Timed
+tick_end line x =
+  if may_end x.config.a x.config.b
+  then record x { config = record x.config { state = with_devices (λ d. arrived line.irq (counted d)) x.config.state } }
+  else record x { outcome = Some (outcome.RuleBroken x.ticks (length line.letters) (rule.Ending x.config.a x.config.b)) }
+
+-- a tick, by what its letters came to
+abbrev pub ended : TickLine → Timed → Ticked → Timed
+ended line x (Ok c) = tick_end line (record { outcome = None; config = c; acts = x.acts; ticks = x.ticks + 1 })
+ended line x (Err (Stopped c e)) = record { outcome = Some (outcome_of (x.ticks + 1) x.acts c e); config = at_stop c e; acts = x.acts; ticks = x.ticks + 1 }
+ended line x (Err (Broken c r)) = record { outcome = Some (outcome.RuleBroken (x.ticks + 1) r.step r.rule); config = c; acts = x.acts; ticks = x.ticks + 1 }
+
+-- one tick; an ended run stays as it is
+abbrev pub tick_of : Listing → TickLine → Timed → Option Outcome → Timed
+tick_of listing line x (Some o) = x
+tick_of listing line x None = ended line x (letter_steps listing 0 line.letters x.config)
+
+abbrev pub tick : Listing → TickLine → Timed → Timed
+tick listing line x = tick_of listing line x x.outcome
+
+-- where no tick is left, a run that has no other outcome ends
+abbrev pub or_out : Option Outcome → Option Outcome
+or_out None = Some outcome.OutOfTicks
+or_out (Some o) = Some o
+
+abbrev pub closed : List TickLine → Timed → Timed
+closed [] x = record x { outcome = or_out x.outcome }
+closed (line ∷ left) x = x
+
+-- the first of the ticks that are left
+abbrev pub next : Listing → List TickLine → Timed → Timed
+next listing [] x = x
+next listing (line ∷ left) x = closed left (tick listing line x)
+
+-- the machine after t ticks of a schedule
+abbrev pub timed : Listing → List Segment → Sched → ℕ → Timed
+timed listing image s zero = closed (ticks_of s.lines) (begin image s)
+timed listing image s (suc t) = next listing (drop t (ticks_of s.lines)) (timed listing image s t)
+
+-- after all its ticks
+abbrev pub timed_out : Listing → List Segment → Sched → Timed
+timed_out listing image s = timed listing image s (length (ticks_of s.lines))

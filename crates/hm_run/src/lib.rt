@@ -1,0 +1,94 @@
+//! What a run is, and how it ends: the types that the definitions of the beat machine speak of.
+#![tactic(auto)]
+
+use hm_base::{Fault, Place, Stop};
+
+/// Why a program halts: a BKPT with this number, or the call EXIT of semihosting with this value.
+#[derive(Clone, Copy, Debug, PartialEq, Eq)]
+pub enum Reason {
+    Break(u8),
+    Exit(u32),
+}
+
+/// Why an instruction is not done to its end: it halts, its output has no room, or it stops.
+#[derive(Clone, Copy, Debug, PartialEq, Eq)]
+pub enum Cause {
+    Halt(Reason),
+    Full,
+    Stop(Stop),
+}
+
+/// The position: how many beats of the older and of the younger of two overlapped instructions are done.
+#[derive(Clone, Copy, Debug, PartialEq, Eq)]
+pub struct Window {
+    pub a: u8,
+    pub b: u8,
+}
+
+/// A rule of overlap that a schedule breaks.
+#[derive(Clone, Copy, Debug, PartialEq, Eq)]
+pub enum Rule {
+    /// One of the two addresses holds no vector instruction.
+    NotVector,
+    /// The younger may not do its next beat yet.
+    Order,
+    /// The younger beat meets an older one at a place.
+    Register { place: Place },
+    /// The younger beat meets an older one at a byte.
+    Memory { addr: u32 },
+    /// The younger beat has a fault.
+    YoungerFault,
+    /// No tick may end at this position.
+    Ending { a: u8, b: u8 },
+}
+
+/// What a handler has to leave as it was.
+#[derive(Clone, Copy, Debug, PartialEq, Eq)]
+pub enum Slot {
+    Reg(Place),
+    Primask,
+}
+
+/// How a return differs from its entry.
+#[derive(Clone, Copy, Debug, PartialEq, Eq)]
+pub enum Broken {
+    ExcReturn { value: u32 },
+    Register { name: Slot, entry: u32, now: u32 },
+    Frame { addr: u32 },
+}
+
+/// What a handler did that it may not do.
+#[derive(Clone, Copy, Debug, PartialEq, Eq)]
+pub enum Offence {
+    Left(Broken),
+    Store { addr: u32 },
+    Call { pc: u32 },
+}
+
+/// Whose fault it is.
+#[derive(Clone, Copy, Debug, PartialEq, Eq)]
+pub enum Who {
+    Thread,
+    Handler,
+    Entry,
+}
+
+/// How a run ends. n is how many instructions of the thread were retired; ticks and steps are numbered from 1.
+#[derive(Clone, Copy, Debug, PartialEq, Eq)]
+pub enum Outcome {
+    Halted { reason: Reason, n: u64 },
+    Fault { who: Who, fault: Fault, pc: u32, n: u64 },
+    RuleBroken { tick: u32, step: u32, rule: Rule },
+    HandlerBroken { tick: u32, what: Offence },
+    TaintedRead { tick: u32, pc: u32, addr: u32 },
+    StackSpent { tick: u32, sp: u32 },
+    OutputFull { tick: u32 },
+    OutOfTicks,
+}
+
+/// What a tick came to.
+#[derive(Clone, Copy, Debug, PartialEq, Eq)]
+pub enum Turn {
+    Running,
+    Ended(Outcome),
+}

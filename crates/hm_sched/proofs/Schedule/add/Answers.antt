@@ -1,0 +1,38 @@
+use Rattle.std.proofs.Common.{◌≡◌, ◌≤◌, ◌++◌, ◌∷◌, [], length, arith, refl, ap, ◌∙◌, map}
+use Rattle.std.proofs.lemmas.List.{map-append}
+use Rattle.hm_sched.specs.declared.Line.{Line}
+use Rattle.hm_sched.specs.Held.{schedule_view}
+use Rattle.hm_sched.specs.Schedule.{TickLine, line_of, most_ticks, IsLine, IsYetLine}
+use Rattle.hm_sched.proofs.Ticks.{lines_le-most_ticks, total-push, IsSched-with_line, IsYet-with_line}
+use Rattle.hm_sched.proofs.Schedule.add.Goals as goal
+
+pub overflow_cast-result : goal.overflow_cast-result
+overflow_cast-result c =
+    let few = lines_le-most_ticks (schedule_view c.self.inside) c.self.inside.lines.items c.self.invariant.sound refl in
+    omega arith
+
+pub overflow_add-result-then-count-self : goal.overflow_add-result-then-count-self
+overflow_add-result-then-count-self c =
+    let few = lines_le-most_ticks (schedule_view c.self.inside) c.self.inside.lines.items c.self.invariant.sound refl in
+    omega arith
+
+pub invariant_of-self-2 : goal.invariant_of-self-2
+invariant_of-self-2 c =
+    let line : Line = record { count = c.args.count; letters = c.held.result; irq = c.args.irq } in
+    let lines : map line_of c.push.new.self.items ≡ map line_of c.self.inside.lines.items ++ line_of line ∷ [] =
+        ap (map line_of) c.in_ok-push.ensures.items ∙ map-append line_of c.self.inside.lines.items (line ∷ []) in
+    let one : IsLine (line_of line) = record {
+      some = c.requires.some;
+      few = rw c.held.ensures c.requires.few;
+      each_letter = rw c.held.ensures c.requires.each_letter;
+    } in
+    let one_yet : IsYetLine (line_of line) = record {
+      no_arrivals = c.requires.no_arrivals_yet;
+      no_younger = rw c.held.ensures c.requires.no_younger_yet;
+    } in
+    let sum = c.self.invariant.sum in
+    record {
+      sound = rw lines (IsSched-with_line (schedule_view c.self.inside) (line_of line) c.self.invariant.sound one (omega arith));
+      yet = rw lines (IsYet-with_line (schedule_view c.self.inside) (line_of line) c.self.invariant.yet one_yet);
+      sum = rw (lines, total-push (map line_of c.self.inside.lines.items) (line_of line)) (omega arith);
+    }

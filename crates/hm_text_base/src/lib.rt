@@ -1,0 +1,75 @@
+//! Texts of numbers.
+#![tactic(auto)]
+
+ghost use Rattle.std.specs.Prelude.{◌≡◌, ℕ, ◌++◌, ◌<◌, List, [], ◌∷◌, codes, IfOk};
+ghost use Rattle.std.specs.Fmt.{decimal};
+ghost use Rattle.hex.specs.Hex.{encode_lower};
+ghost use Rattle.hm_text_base.specs.Texts.{hex_digit, hex2, hex8, bit};
+
+use hm_base::OutOfMemory;
+use std::alloc::Global;
+
+fn hex_digit(d: u32) -> u8
+    requires { d < 16 }
+    ensures { result ≡ hex_digit d }
+{
+    if d < 10 { 48 + d as u8 } else { 87 + d as u8 }
+}
+
+/// Adds a text.
+pub fn text(out: &mut Vec<u8>, more: &[u8]) -> Result<(), OutOfMemory>
+    ensures { IfOk result (λ _. out.new.items ≡ out.old.items ++ more.now) }
+{
+    out.extend_from_slice(more)?;
+    Ok(())
+}
+
+/// Adds a byte in two hexadecimal digits.
+pub fn hex2(out: &mut Vec<u8>, x: u8) -> Result<(), OutOfMemory>
+    ensures { IfOk result (λ _. out.new.items ≡ out.old.items ++ hex2 x) }
+{
+    let x = x as u32;
+    text(out, &[hex_digit(x / 16 % 16), hex_digit(x % 16)])
+}
+
+/// Adds a word in eight hexadecimal digits.
+pub fn hex8(out: &mut Vec<u8>, x: u32) -> Result<(), OutOfMemory>
+    ensures { IfOk result (λ _. out.new.items ≡ out.old.items ++ hex8 x) }
+{
+    text(
+        out,
+        &[
+            hex_digit(x / 0x1000_0000 % 16),
+            hex_digit(x / 0x100_0000 % 16),
+            hex_digit(x / 0x10_0000 % 16),
+            hex_digit(x / 0x1_0000 % 16),
+            hex_digit(x / 0x1000 % 16),
+            hex_digit(x / 0x100 % 16),
+            hex_digit(x / 0x10 % 16),
+            hex_digit(x % 16),
+        ],
+    )
+}
+
+/// Adds a truth value as a digit.
+pub fn bit(out: &mut Vec<u8>, b: bool) -> Result<(), OutOfMemory>
+    ensures { IfOk result (λ _. out.new.items ≡ out.old.items ++ bit b) }
+{
+    text(out, &[if b { 49 } else { 48 }])
+}
+
+/// Adds a number in decimal digits.
+pub fn decimal(alloc: Global, out: &mut Vec<u8>, n: u64) -> Result<(), OutOfMemory>
+    ensures { IfOk result (λ _. out.new.items ≡ out.old.items ++ decimal n) }
+{
+    let digits = n.to_string(alloc)?;
+    text(out, digits.as_bytes())
+}
+
+/// Adds bytes, each in two hexadecimal digits.
+pub fn hex_bytes(alloc: Global, out: &mut Vec<u8>, bytes: &[u8]) -> Result<(), OutOfMemory>
+    ensures { IfOk result (λ _. out.new.items ≡ out.old.items ++ encode_lower bytes.now) }
+{
+    let digits = hex::encode(alloc, bytes)?;
+    text(out, digits.as_bytes())
+}
