@@ -6,7 +6,7 @@ mod image;
 mod places;
 
 ghost use Rattle.std.specs.Prelude.{ℕ, ◌≡◌, ◌+◌, ◌-◌, ◌^◌, ◌<◌, ◌≤◌};
-ghost use Rattle.hm_base.specs.Bits.{field, put_field, signed};
+ghost use Rattle.hm_base.specs.Bits.{field, signed};
 ghost use Rattle.hm_base.specs.Place.{rank, same_place};
 
 use arrayvec::ArrayVec;
@@ -22,18 +22,6 @@ pub fn bits(w: u32, hi: u32, lo: u32) -> u32
     ensures below { result < 2 ^ (hi + 1 - lo) }
 {
     (w >> lo) & (u32::MAX >> (31 - (hi - lo)))
-}
-
-/// `w` with the low bits of `x` as its bits `hi` to `lo`.
-pub fn put_bits(w: u32, hi: u32, lo: u32, x: u32) -> u32
-    requires order { lo ≤ hi }
-    requires top { hi ≤ 31 }
-    ensures { result ≡ put_field lo (hi + 1 - lo) x w }
-{
-    let high = (w as u64 >> (hi + 1)) << (hi + 1);
-    let middle = (bits(x, hi - lo, 0) as u64) << lo;
-    let low = w as u64 % (1 << lo);
-    (high + middle + low) as u32
 }
 
 /// The low `n` bits of `w`, 1 to 32 of them, as a signed number in two's complement.

@@ -1,5 +1,5 @@
 -- Every flash has a listing.
-use Rattle.std.proofs.Common.{◌≡◌, ◌<◌, ◌≤◌, ◌+◌, ◌%◌, ◌⊎◌, ℕ, arith, ap, refl, sym, ◌∙◌, inl, inr, [], ◌∷◌, slice_index, Result, Ok, Err}
+use Rattle.std.proofs.Common.{◌≡◌, ◌<◌, ◌≤◌, ◌+◌, ◌%◌, ◌⊎◌, ℕ, arith, refl, sym, ◌∙◌, inl, inr, Result, Ok, Err}
 use Rattle.std.proofs.lemmas.Bool.{cases_eq, cases_lt}
 use Rattle.hm_base.specs.declared.Fault.{Fault}
 use Rattle.hm_base.specs.Image.{flash_size}
@@ -7,14 +7,14 @@ use Rattle.hm_isa.specs.declared.Scalar.{Scalar}
 use Rattle.hm_isa.specs.declared.Scalar.TheVariants as scalar
 use Rattle.hm_isa.specs.declared.Instr.{Instr}
 use Rattle.hm_isa.specs.declared.Instr.TheVariants as instr
-use Rattle.hm_isa.specs.Code.{code_s3, code_s4, code_s18, scalar_code, halfwords}
-use Rattle.hm_codes.specs.Listing.{half_at, HalvesStand, Stands, IsFetched, missing, Listing, IsListing}
+use Rattle.hm_isa.specs.Code.{code_s3, code_s4, code_s18, scalar_code}
+use Rattle.hm_codes.specs.Listing.{half_at, Stands, IsFetched, missing, Listing, IsListing}
 use Rattle.hm_codes.proofs.Narrow.{Found, find_s3, find_s4, find_s18}
 
 -- a row's value with the code, else what the later rows say
 or_later : {R : Type 0} (code : R → ℕ) (make : R → Scalar) (h : ℕ) → ((r : R) → scalar_code (make r) ≡ code r) → Found code h
     → (((r : R) → code r ≡ h → ⊥) → Found scalar_code h) → Found scalar_code h
-or_later code make h same (inl (r , e)) later = inl (make r, same r ∙ e)
+or_later code make h same (inl (r, e)) later = inl (make r, same r ∙ e)
 or_later code make h same (inr none) later = later none
 
 find_scalar : (h : ℕ) → Found scalar_code h
@@ -38,7 +38,7 @@ at_address : (flash : ℕ → ℕ) (a : ℕ) → (a % 2 ≡ 0) ⊎ (a % 2 ≡ 0 
 at_address flash a (inr odd) room found = (Err (record { kind = missing flash a; addr = a }), (none flash a (λ s even w e. odd even), refl))
 at_address flash a (inl even) (inl past) found = (Err (record { kind = missing flash a; addr = a }), (none flash a (λ s v w e. omega arith), refl))
 at_address flash a (inl even) (inr within) (inr others) = (Err (record { kind = missing flash a; addr = a }), (none flash a (λ s v w e. others s e), refl))
-at_address flash a (inl even) (inr within) (inl (s , e)) = (Ok (instr.Scalar s), record { even = even; code = (within, sym e, tt) })
+at_address flash a (inl even) (inr within) (inl (s, e)) = (Ok (instr.Scalar s), record { even = even; code = (within, sym e, tt) })
 
 -- each address has an answer
 pub fetched : (flash : ℕ → ℕ) (a : ℕ) → (x : Result Instr Fault) × IsFetched flash a x

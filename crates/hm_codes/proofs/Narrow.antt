@@ -1,5 +1,5 @@
 -- The rows of 16-bit codes, one after another: which codes are a row's, that a code tells the row's value, and how the value is found.
-use Rattle.std.proofs.Common.{◌≡◌, ◌<◌, ◌+◌, ◌*◌, ◌/◌, ◌%◌, ◌⊎◌, ℕ, nat_lt, arith, ap, inl, inr}
+use Rattle.std.proofs.Common.{◌≡◌, ◌/◌, ◌%◌, ◌⊎◌, ℕ, nat_lt, arith, inl, inr}
 use Rattle.std.specs.Prelude.{if◌then◌else◌}
 use Rattle.std.proofs.lemmas.Bool.{cases_eq}
 use Rattle.std.proofs.lemmas.Bool.Decides.{nat_tests}
@@ -37,11 +37,14 @@ pub find_s3 : (h : ℕ) → Found code_s3 h
 find_s3 h = go (cases_eq _ _)
   where
     go : (h / 512 ≡ 14) ⊎ (h / 512 ≡ 14 → ⊥) → Found code_s3 h
-    go (inl e) = inl (record {
-      d = record { value = h % 8; in_range = omega arith };
-      n = record { value = h / 8 % 8; in_range = omega arith };
-      i = record { value = h / 64 % 8; in_range = omega arith };
-    }, omega arith)
+    go (inl e) = inl (
+      record {
+        d = record { value = h % 8; in_range = omega arith };
+        n = record { value = h / 8 % 8; in_range = omega arith };
+        i = record { value = h / 64 % 8; in_range = omega arith };
+      },
+      omega arith,
+    )
     go (inr differs) = inr (λ r e. differs (let d = r.d.in_range in let n = r.n.in_range in let i = r.i.in_range in omega arith))
 
 -- S4
@@ -58,10 +61,13 @@ pub find_s4 : (h : ℕ) → Found code_s4 h
 find_s4 h = go (cases_eq _ _)
   where
     go : (h / 2048 ≡ 4) ⊎ (h / 2048 ≡ 4 → ⊥) → Found code_s4 h
-    go (inl e) = inl (record {
-      d = record { value = h / 256 % 8; in_range = omega arith };
-      i = record { value = h % 256; in_range = omega arith };
-    }, omega arith)
+    go (inl e) = inl (
+      record {
+        d = record { value = h / 256 % 8; in_range = omega arith };
+        i = record { value = h % 256; in_range = omega arith };
+      },
+      omega arith,
+    )
     go (inr differs) = inr (λ r e. differs (let d = r.d.in_range in let i = r.i.in_range in omega arith))
 
 -- S18

@@ -14,5 +14,4 @@ pub fn one_listing()
     ensures there { (flash : ℕ → ℕ) → (listing : Listing) × IsListing flash listing }
     ensures one { (flash : ℕ → ℕ) (a : ℕ) (x y : Result Instr Fault) → IsFetched flash a x → IsFetched flash a y → x ≡ y }
     ensures code_tells { (i j : Instr) → halfwords i ≡ halfwords j → i ≡ j }
-{
-}
+{}

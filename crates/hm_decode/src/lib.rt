@@ -75,3 +75,28 @@ pub fn fetch(m: &Mem, pc: u32) -> Result<Instr, Fault>
         addr: pc,
     })
 }
+
+#[cfg(test)]
+mod tests {
+    use super::*;
+    use hm_isa::{Below, S3, S4, S18, Scalar};
+
+    #[test]
+    fn codes_of_the_manual(rt: HostRuntime) {
+        let adds = Scalar::S3(S3 {
+            d: Below::new(1),
+            n: Below::new(2),
+            i: Below::new(3),
+        });
+        let movs = Scalar::S4(S4 {
+            d: Below::new(7),
+            i: Below::new(1),
+        });
+        let bkpt = Scalar::S18(S18 { i: Below::new(170) });
+        assert_eq!(rt; find_instr(0x1cd1), Some(Instr::Scalar(adds)));
+        assert_eq!(rt; find_instr(0x2701), Some(Instr::Scalar(movs)));
+        assert_eq!(rt; find_instr(0xbeaa), Some(Instr::Scalar(bkpt)));
+        assert_eq!(rt; find_instr(0xbeab), None, "a request for a service");
+        assert_eq!(rt; find_instr(0xffff), None);
+    }
+}

@@ -10,7 +10,7 @@ mod narrow;
 pub use fields::{Below, Byte, Low};
 pub use narrow::{S3, S4, S18};
 
-/// An instruction of the scalar rows, which stand in order and neither branch nor touch a vector.
+/// An instruction of the scalar rows: neither a branch nor a vector instruction.
 #[derive(Clone, Copy, Debug, PartialEq, Eq)]
 pub enum Scalar {
     /// `adds rd,rn,#i`

@@ -1,8 +1,9 @@
 -- How a machine's fields show what callers see of it.
-use Rattle.std.specs.Prelude.{◌≡◌, ℕ, ◌+◌, ◌-◌, ◌*◌, ◌<◌, ◌≤◌, List, [], ◌∷◌, length, drop, Option, None}
+use Rattle.std.specs.Prelude.{◌≡◌, ℕ, ◌+◌, ◌-◌, ◌*◌, ◌<◌, ◌≤◌, List, [], ◌∷◌, length, drop, Option, Some, None}
 use Rattle.hm_machine.specs.declared.cursor.Cursor.{Cursor}
 use Rattle.hm_machine.specs.declared.machine.Machine.TheInside.{Inside}
 use Rattle.hm_machine.specs.Shown.{Shown}
+use Rattle.hm_run.specs.declared.Outcome.{Outcome}
 use Rattle.hm_mem.specs.Memory.{memory_of, first_devices}
 use Rattle.hm_sched.specs.Schedule.{TickLine, repeat, ticks_of, most_ticks}
 
@@ -13,6 +14,11 @@ left_in (line ∷ lines) used = repeat (line.count - used) line (ticks_of lines)
 
 abbrev pub left_at : List TickLine → Cursor → List TickLine
 left_at lines c = left_in (drop c.line lines) c.used
+
+-- no tick is left once a run has ended
+abbrev pub left_while : Option Outcome → List TickLine → List TickLine
+left_while None left = left
+left_while (Some o) left = []
 
 -- a cursor stands in a line that has a tick left
 abbrev pub HasTick : List TickLine → ℕ → Type 0
@@ -35,7 +41,7 @@ machine_view m = record {
   acts = [];
   ticks = m.ticks;
   schedule = m.schedule;
-  left = left_at m.schedule.lines m.cursor;
+  left = left_while m.outcome (left_at m.schedule.lines m.cursor);
 }
 
 pub record IsMachine (m : Inside) : Type 0 where

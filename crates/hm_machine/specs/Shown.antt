@@ -22,7 +22,7 @@ pub record Shown : Type 0 where
   pub acts : List Activation
   pub ticks : ℕ
   pub schedule : Sched
-  -- the ticks that are left, while it runs
+  -- the ticks that are left; none once it has ended
   pub left : List TickLine
 
 -- the value of the beat machine

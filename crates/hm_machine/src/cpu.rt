@@ -1,6 +1,6 @@
 //! The steps of the machine inside a tick.
 
-ghost use Rattle.std.specs.Prelude.{◌≡◌, ℕ, ◌+◌, ◌^◌, ◌<◌, ◌≤◌, ◌==◌, List, [], length, OnErr, Result, Err};
+ghost use Rattle.std.specs.Prelude.{◌≡◌, ℕ, ◌+◌, ◌^◌, ◌<◌, ◌≤◌, ◌==◌, if◌then◌else◌, List, [], length, OnErr, Result, Err};
 ghost use Rattle.hm_codes.specs.Listing.{Listing, IsListing};
 ghost use Rattle.hm_mem.specs.Memory.{Memory, memory_of, flash_at};
 ghost use Rattle.hm_machine.specs.Cpus.{config_of, executed, reached, reached_by_letter, reached_by_tick, end_outcome, end_config};
@@ -175,6 +175,15 @@ fn stopped_pc(regs: &Regs, younger: bool) -> u32
     }
 }
 
+// The steps of the older with one that stops, unless it is the younger's.
+fn steps_with(steps: u64, younger: bool) -> u64
+    requires { steps < 2 ^ 63 }
+    ensures value { result ≡ (if younger then steps else steps + 1) }
+    ensures few { result ≤ steps + 1 }
+{
+    if younger { steps } else { steps + 1 }
+}
+
 // How a run ends by an instruction that stops. One that halts is retired, and the step of an older one counts.
 fn stopped(tick: u32, cause: Cause, younger: bool, x: &mut Cpu) -> Outcome
     requires { (x.old.retired < 2 ^ 63) × (x.old.older_steps < 2 ^ 63) }
@@ -185,9 +194,7 @@ fn stopped(tick: u32, cause: Cause, younger: bool, x: &mut Cpu) -> Outcome
     ensures count { (x.new.retired ≤ x.old.retired + 1) × (x.new.older_steps ≤ x.old.older_steps + 1) }
 {
     let pc = stopped_pc(&x.regs, younger);
-    if !younger {
-        x.older_steps += 1;
-    }
+    x.older_steps = steps_with(x.older_steps, younger);
     match cause {
         Cause::Halt(reason) => {
             x.retired += 1;

@@ -1,6 +1,6 @@
 //! Making a machine of an image.
 
-ghost use Rattle.std.specs.Prelude.{◌≡◌, ◌+◌, ◌≤◌};
+ghost use Rattle.std.specs.Prelude.{◌≡◌, ◌+◌, ◌≤◌, ◌%◌};
 ghost use Rattle.hm_base.specs.Image.{word_at};
 ghost use Rattle.hm_mem.specs.Memory.{memory_of, flash_at};
 

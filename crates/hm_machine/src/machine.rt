@@ -14,7 +14,7 @@ ghost use Rattle.hm_state.specs.Start.{reset_pc};
 ghost use Rattle.hm_state.specs.State.{regs_of};
 
 use crate::cpu::{Cpu, conclude, letters};
-use crate::cursor::{Cursor, after_tick};
+use crate::cursor::{Cursor, after_tick, line_at};
 use crate::load::{LoadErr, flash_word};
 use crate::memory_text::memory_text;
 use hm_base::{Image, OutOfMemory};
@@ -52,10 +52,11 @@ impl Model for Machine {
 
 // A run of no ticks is over at once.
 fn first_outcome(schedule: &Schedule) -> Option<Outcome>
-    ensures none { 0 < length schedule.now.lines → result ≡ None }
-    ensures out { length schedule.now.lines ≡ 0 → result ≡ Some Outcome.OutOfTicks }
+    ensures none { 0 < length (ticks_of schedule.now.lines) → result ≡ None }
+    ensures out { length (ticks_of schedule.now.lines) ≡ 0 → result ≡ Some Outcome.OutOfTicks }
+    ensures most { length (ticks_of schedule.now.lines) ≤ most_ticks }
 {
-    if schedule.lines() == 0 {
+    if schedule.ticks() == 0 {
         Some(Outcome::OutOfTicks)
     } else {
         None
@@ -106,6 +107,8 @@ impl Machine {
     pub fn regs(&self) -> &Regs
         ensures { result.now ≡ regs_of (timed_of self.now).config.state }
     {
+        // the packed words are put together again, since each number fits its type
+        self.cpu.regs.in_range();
         &self.cpu.regs
     }
 
@@ -165,20 +168,19 @@ impl Machine {
         ensures next {
             (listing : Listing) → IsListing (flash_at self.old.memory) listing → timed_of self.new ≡ next listing self.old.left (timed_of self.old)
         }
-        ensures left { self.new.left ≡ drop 1 self.old.left }
+        ensures left { self.new.outcome ≡ None → self.new.left ≡ drop 1 self.old.left }
+        ensures fewer { length self.new.left < length self.old.left }
         ensures memory { self.new.memory ≡ self.old.memory }
         ensures plan { self.new.schedule ≡ self.old.schedule }
     {
         self.ticks += 1;
-        let line = self.schedule.line(self.cursor.line);
+        let line = line_at(&self.schedule, self.cursor);
         let reached = letters(line.letters.as_slice(), &mut self.cpu);
-        self.cursor = after_tick(&self.schedule, self.cursor);
         match reached {
-            Ok(()) => {
-                if self.cursor.line == self.schedule.lines() {
-                    self.outcome = Some(Outcome::OutOfTicks);
-                }
-            }
+            Ok(()) => match after_tick(&self.schedule, self.cursor) {
+                Some(cursor) => self.cursor = cursor,
+                None => self.outcome = Some(Outcome::OutOfTicks),
+            },
             Err(end) => self.outcome = Some(conclude(self.ticks, end, &mut self.cpu)),
         }
     }
@@ -188,7 +190,7 @@ impl Machine {
         ensures shows { (image : List Segment) (s : Sched) (t : ℕ) → Shows image s t self.old → Shows image s (suc t) self.new }
         ensures ended { IsSome self.old.outcome → self.new ≡ self.old }
         ensures turn { result ≡ turned self.new.outcome }
-        ensures left { self.old.outcome ≡ None → self.new.left ≡ drop 1 self.old.left }
+        ensures fewer { self.old.outcome ≡ None → length self.new.left < length self.old.left }
     {
         if let Some(outcome) = self.outcome {
             return Turn::Ended(outcome);
@@ -201,10 +203,8 @@ impl Machine {
     }
 
     fn is_running(&self) -> bool
-        ensures value { IsTrue result ↔ (self.now.outcome ≡ None) }
-        ensures left { self.now.outcome ≡ None → 0 < length self.now.left }
+        ensures { IsTrue result ↔ (self.now.outcome ≡ None) }
     {
-        let _opened = self.ticks;
         self.outcome.is_none()
     }
 
@@ -229,7 +229,14 @@ impl Machine {
     pub fn report(&self, alloc: Global) -> Result<Vec<u8>, OutOfMemory>
         ensures { IfOk result (λ out. out.items ≡ report_text (timed_of self.now)) }
     {
-        hm_report::report(alloc, self.outcome, 0, &self.cpu.regs, self.cpu.window, &self.cpu.output)
+        hm_report::report(
+            alloc,
+            self.outcome,
+            0,
+            self.regs(),
+            self.cpu.window,
+            &self.cpu.output,
+        )
     }
 
     /// The memory file: the bytes of SRAM, and then their taint, bit j of byte k that of byte 8k + j.

@@ -1,6 +1,6 @@
 //! The memory file of a run.
 
-ghost use Rattle.std.specs.Prelude.{◌≡◌, ◌++◌, ◌+◌, ◌*◌, ◌≤◌, IfOk};
+ghost use Rattle.std.specs.Prelude.{◌≡◌, ◌++◌, ◌+◌, ◌*◌, ◌<◌, ◌≤◌, IfOk};
 ghost use Rattle.hm_base.specs.Image.{sram_start, sram_size};
 ghost use Rattle.hm_mem.specs.Memory.{memory_of, byte_at, tainted_at};
 ghost use Rattle.hm_state.specs.State.{bit, byte_of_bits, listed};
@@ -13,21 +13,28 @@ use std::alloc::Global;
 const SRAM: u32 = 0x2000_0000;
 const SRAM_SIZE: u32 = 0x4_0000;
 
+// A byte of SRAM.
+fn sram_byte(mem: &Mem, k: u32) -> u8
+    requires { k < sram_size }
+    ensures { result ≡ byte_at (memory_of mem.now) (sram_start + k) }
+{
+    mem.byte(SRAM + k).unwrap_or(0)
+}
+
 // The first bytes of SRAM, added to a text.
 fn bytes_onto(out: &mut Vec<u8>, mem: &Mem, count: u32) -> Result<(), OutOfMemory>
     requires { count ≤ sram_size }
     ensures { IfOk result (λ _. out.new.items ≡ out.old.items ++ listed count (λ k. byte_at (memory_of mem.now) (sram_start + k))) }
 {
     for k in 0..count {
-        let byte = mem.byte(SRAM + k).unwrap_or(0);
-        out.push(byte)?;
+        out.push(sram_byte(mem, k))?;
     }
     Ok(())
 }
 
 // Whether a byte of SRAM is tainted, as a bit.
 fn taint_bit(mem: &Mem, k: u32) -> u8
-    requires { k + 1 ≤ sram_size }
+    requires { k < sram_size }
     ensures { result ≡ bit (tainted_at (memory_of mem.now) (sram_start + k)) }
 {
     mem.tainted(SRAM + k) as u8

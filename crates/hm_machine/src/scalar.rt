@@ -1,10 +1,11 @@
 //! The instructions that are no vector rows.
 
-ghost use Rattle.std.specs.Prelude.{◌≡◌, ℕ, ◌<◌, ◌+◌, ◌%◌, ◌^◌, List, OnErr};
+ghost use Rattle.std.specs.Prelude.{◌≡◌, ℕ, ◌<◌, ◌+◌, ◌%◌, ◌^◌, ◌&&◌, not, List, OnErr};
+ghost use Rattle.std.proofs.Math.Bool.{beq};
 ghost use Rattle.hm_mem.specs.Memory.{Memory};
 ghost use Rattle.hm_machine.specs.Cpus.{executed};
 ghost use Rattle.hm_run.specs.Program.{in_machine};
-ghost use Rattle.hm_run.specs.Rows.{scalar_whole, adds, movs, with_nz, with_sum_flags, go_on};
+ghost use Rattle.hm_run.specs.Rows.{scalar_whole, adds, movs, negative, with_nz, with_sum_flags, go_on};
 ghost use Rattle.hm_state.specs.State.{state_of};
 
 use hm_base::Place;
@@ -22,15 +23,23 @@ fn set_nz(regs: &mut Regs, x: u32)
     regs.z = x == 0;
 }
 
+// Whether a sum leaves the signed numbers of 32 bits.
+fn overflows(x: u32, y: u32, sum: u32) -> bool
+    ensures { result ≡ (beq (negative x) (negative y) && not (beq (negative x) (negative sum))) }
+{
+    (x >= SIGN) == (y >= SIGN) && (x >= SIGN) != (sum >= SIGN)
+}
+
 // N, Z, C and V of a sum.
 fn set_sum_flags(regs: &mut Regs, x: u32, y: u32)
     ensures { (m : Memory) (output : List ℕ) → state_of regs.new m output ≡ with_sum_flags x y (state_of regs.old m output) }
 {
     let sum = x.wrapping_add(y);
+    let overflow = overflows(x, y, sum);
     regs.n = sum >= SIGN;
     regs.z = sum == 0;
-    regs.c = x as u64 + y as u64 > u32::MAX as u64;
-    regs.v = (x >= SIGN) == (y >= SIGN) && (x >= SIGN) != (sum >= SIGN);
+    regs.c = x as u64 + y as u64 >= 0x1_0000_0000;
+    regs.v = overflow;
 }
 
 // Goes on to the instruction behind one of 16 bits.
@@ -67,9 +76,14 @@ pub fn step(i: &Scalar, regs: &mut Regs) -> Result<(), Cause>
     ensures stopped { OnErr result (regs.new ≡ regs.old) }
 {
     match i {
-        Scalar::S3(i) => adds(i, regs),
-        Scalar::S4(i) => movs(i, regs),
-        Scalar::S18(i) => return Err(Cause::Halt(Reason::Break(i.i.get() as u8))),
+        Scalar::S3(i) => {
+            adds(i, regs);
+            Ok(())
+        }
+        Scalar::S4(i) => {
+            movs(i, regs);
+            Ok(())
+        }
+        Scalar::S18(i) => Err(Cause::Halt(Reason::Break(i.i.get() as u8))),
     }
-    Ok(())
 }

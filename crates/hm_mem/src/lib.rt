@@ -11,6 +11,7 @@ const FLASH_SIZE: u32 = 0x0010_0000;
 
 /// The first byte of SRAM, and how many it has.
 const SRAM_START: u32 = 0x2000_0000;
+
 const SRAM_SIZE: u32 = 0x0004_0000;
 
 /// Who accesses the memory: the thread, a handler whose frame begins there, or an exception entry.

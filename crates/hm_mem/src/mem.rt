@@ -1,7 +1,7 @@
 //! The memory as bytes.
 
-ghost use Rattle.std.specs.Prelude.{◌≡◌, ℕ, ◌≤◌, false, length, IfOk};
-ghost use Rattle.hm_base.specs.Image.{first_byte, flash_byte, in_sram};
+ghost use Rattle.std.specs.Prelude.{◌≡◌, ℕ, ◌+◌, ◌*◌, ◌≤◌, false, length, IfOk, IfSome};
+ghost use Rattle.hm_base.specs.Image.{first_byte, flash_byte, flash_size, in_sram, sram_size};
 
 use crate::load::{Memories, filled, reset_devices, untainted};
 use crate::{Actor, Dev};
@@ -38,7 +38,13 @@ impl Mem {
     /// The memory after a reset with this image, for the thread. A byte that no segment gives is ff in flash and
     /// 00 in SRAM, no byte is tainted, and the devices are as after a reset. A handler may store to the bytes
     /// from `lo` to `hi - 1`, and from `floor` up to its frame. OutOfMemory where memory for the bytes was refused.
-    pub fn new(alloc: Global, image: &Image, lo: u32, hi: u32, floor: u32) -> Result<Mem, OutOfMemory>
+    pub fn new(
+        alloc: Global,
+        image: &Image,
+        lo: u32,
+        hi: u32,
+        floor: u32,
+    ) -> Result<Mem, OutOfMemory>
         requires region { (0x20000000 ≤ lo) × (lo ≤ hi) × (hi ≤ 0x20040000) }
         requires floor { (0x20000000 ≤ floor) × (floor ≤ 0x20040000) }
         ensures flash { IfOk result (λ m. flash_at (memory_of m) ≡ flash_byte image.now) }
@@ -60,6 +66,13 @@ impl Mem {
             floor,
         })
     }
+
+    /// A law: flash, SRAM and the taint have their sizes.
+    pub fn sized(&self)
+        ensures flash { length (memory_of self.now).flash ≡ flash_size }
+        ensures sram { length (memory_of self.now).sram ≡ sram_size }
+        ensures taint { length (memory_of self.now).taint ≡ sram_size }
+    {}
 
     /// The byte at an address, whatever its taint; None exactly outside flash and SRAM.
     pub fn byte(&self, addr: u32) -> Option<u8>
@@ -84,7 +97,8 @@ impl Mem {
     /// The halfword of flash at an address, low byte first; None exactly where the address is odd or the second
     /// byte is not in flash (DDI0553, "Instruction alignment and byte ordering").
     pub fn half(&self, addr: u32) -> Option<u16>
-        ensures { result ≡ half_told (memory_of self.now) addr }
+        ensures value { result ≡ half_told (memory_of self.now) addr }
+        ensures flash { let m = memory_of self.now in IfSome result (λ h. h ≡ flash_at m addr + 256 * flash_at m (addr + 1)) }
     {
         if addr % 2 == 0 && addr <= crate::FLASH_SIZE - 2 {
             let low = self.flash[addr as usize] as u16;

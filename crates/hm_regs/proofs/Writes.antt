@@ -1,17 +1,14 @@
 -- A place after a list of writes.
-use Rattle.std.proofs.Common.{◌≡◌, ◌≢◌, ◌⊎◌, ℕ, zero, suc, ◌+◌, ◌-◌, ◌*◌, ◌/◌, ◌%◌, ◌^◌, ◌<◌, ◌≤◌, Bool, true, false, eqb, ltb, cond, List, [], ◌∷◌, length, get_or, set, arith, refl, ap, sym, ◌∙◌, subst, inl, inr}
-use Rattle.std.proofs.lemmas.Bool.Decides.{nat_tests}
-use Rattle.std.proofs.lemmas.Bool.{cases_eq, cases_lt}
+use Rattle.std.proofs.Common.{◌≡◌, ℕ, zero, suc, ◌-◌, ◌*◌, ◌%◌, ◌^◌, ◌<◌, Bool, true, false, eqb, ltb, cond, List, [], ◌∷◌, length, get_or, set, arith, refl, ◌∙◌}
 use Rattle.std.proofs.lemmas.List.{length-set}
 use Rattle.hm_base.specs.Bits.{field, put_field}
-use Rattle.hm_base.specs.Place.{IsPlace, fit, same_place}
-use Rattle.hm_regs.specs.Place.{value_at, with_value, Counted, InRange, SameElsewhere}
-use Rattle.hm_regs.specs.Writes.{Write, apply, places_of, Each, Among, Agree, AreWrites}
+use Rattle.hm_base.specs.Place.{IsPlace}
+use Rattle.hm_regs.specs.Place.{with_value, Counted, InRange, SameElsewhere}
+use Rattle.hm_regs.specs.Writes.{Write, apply, AreWrites}
 use Rattle.hm_base.specs.declared.Place.{Place}
 use Rattle.hm_base.specs.declared.Place.TheVariants.{R, QWord, P0, Mask01, Mask23, Carry, Ltp, Sticky}
 use Rattle.hm_regs.specs.declared.Regs.{Regs}
-use Rattle.hm_base.proofs.Fields.{field-put_field, field-put_field_below, field-put_field_above, put_field_below}
-use Rattle.hm_regs.proofs.Places.{value_at-same, value_at-other}
+use Rattle.hm_base.proofs.Fields.{field-put_field_below, field-put_field_above, put_field_below}
 
 set_fits : (xs : List ℕ) (i x : ℕ) → x < 2 ^ 32 → ((k : ℕ) → get_or xs k 0 < 2 ^ 32) → (k : ℕ) → get_or (set xs i x) k 0 < 2 ^ 32
 set_fits [] i x h f k = f k

@@ -119,6 +119,7 @@ impl Regs {
         ensures held { value_at p self.new ≡ fit p x }
         ensures others { (q : Place) → q ≢ p → IsPlace q → value_at q self.new ≡ value_at q self.old }
         ensures elsewhere { SameElsewhere self.new self.old }
+        ensures counted { Counted self.old }
     {
         self.put(p, x);
     }
@@ -143,3 +144,6 @@ impl Regs {
         }
     }
 }
+
+#[cfg(test)]
+mod tests;

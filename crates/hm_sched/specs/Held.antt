@@ -1,5 +1,5 @@
 -- A schedule as the program holds it.
-use Rattle.std.specs.Prelude.{◌≡◌, ℕ, map}
+use Rattle.std.specs.Prelude.{◌≡◌, map}
 use Rattle.hm_sched.specs.declared.Schedule.TheInside.{Inside}
 use Rattle.hm_sched.specs.Schedule.{Sched, line_of, total, IsSched, IsYet}
 

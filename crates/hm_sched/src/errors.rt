@@ -7,20 +7,29 @@ use std::alloc::AllocFailed;
 use std::fmt;
 use thiserror::Error;
 
-/// What is bad in a line of a schedule's text.
+/// What is bad in a line of a schedule's text. The first four lines are its head; each other one has a count, steps and interrupts.
 #[derive(Clone, Copy, Debug, PartialEq, Eq)]
 pub enum LineKind {
+    /// The first line, which names the format.
     Header,
+    /// The second line, which says whether exceptions are entered.
     Entries,
+    /// The third line, the bytes in which handlers may store.
     Region,
+    /// The fourth line, the lowest address to which handlers may store below their frame.
     Floor,
+    /// How many ticks are alike.
     Count,
+    /// The letters of a tick.
     Steps,
+    /// The interrupts that arrive in a tick.
     Irq,
+    /// The end of a line.
     Newline,
 }
 
 impl LineKind {
+    /// The kind's name in a refusal.
     fn word(self) -> &'static str {
         match self {
             LineKind::Header => "header",

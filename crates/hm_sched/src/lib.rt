@@ -7,9 +7,8 @@ ghost use Rattle.hm_sched.specs.Schedule.{TickLine, Sched, line_of, younger_lett
 
 mod errors;
 
-pub use errors::{LineKind, SchedErr};
-
 use arrayvec::ArrayVec;
+pub use errors::{LineKind, SchedErr};
 use std::alloc::Global;
 use std::marker::Model;
 
@@ -93,13 +92,9 @@ impl Schedule {
         requires no_younger_yet { All (λ c. c ≢ younger_letter) letters.now }
         requires no_arrivals_yet { irq ≡ 0 }
 
-        ensures ok {
-            let line : TickLine = record { count = count; letters = letters.now; irq = irq } in
-            OnOk result (self.new ≡ record self.old { lines = self.old.lines ++ line ∷ [] })
-        }
-        ensures too_many {
-            (result ≡ Err (SchedErr.TooManyTicks (5 + length self.old.lines))) ↔ (most_ticks < total self.old.lines + count)
-        }
+        ensures ok { let line : TickLine = record { count = count; letters = letters.now; irq = irq } in
+            OnOk result (self.new ≡ record self.old { lines = self.old.lines ++ line ∷ [] }) }
+        ensures too_many { (result ≡ Err (SchedErr.TooManyTicks (5 + length self.old.lines))) ↔ (most_ticks < total self.old.lines + count) }
         ensures else_memory { total self.old.lines + count ≤ most_ticks → IsOkUnless result SchedErr.OutOfMemory }
         ensures err { OnErr result (self.new ≡ self.old) }
     {
@@ -193,4 +188,71 @@ pub fn plain(alloc: Global, n: u32) -> Result<Schedule, SchedErr>
         schedule.add(n, b"W", 0)?;
     }
     Ok(schedule)
+}
+
+#[cfg(test)]
+mod tests {
+    use super::*;
+    use std::test::Fail;
+
+    #[test]
+    fn plain_schedules(rt: HostRuntime) -> Result<(), Fail> {
+        let none = plain(rt.alloc(), 0)?;
+        assert_eq!(rt; none.lines(), 0);
+        assert_eq!(rt; none.ticks(), 0);
+        assert!(rt; !none.entries());
+        assert_eq!(rt; none.region(), (0x2000_0000, 0x2000_0000));
+        assert_eq!(rt; none.floor(), 0x2000_0000);
+
+        let three = plain(rt.alloc(), 3)?;
+        assert_eq!(rt; three.lines(), 1);
+        assert_eq!(rt; three.line(0).count, 3);
+        assert_eq!(rt; three.line(0).letters.as_slice(), b"W".as_slice());
+        assert_eq!(rt; three.ticks(), 3);
+
+        let refusal = Some(SchedErr::TooManyTicks { line: 5 });
+        assert_eq!(rt; plain(rt.alloc(), 16_777_217).err(), refusal);
+        Ok(())
+    }
+
+    #[test]
+    fn lines_are_added(rt: HostRuntime) -> Result<(), Fail> {
+        let mut schedule = Schedule::begin(
+            rt.alloc(),
+            false,
+            0x2000_0000,
+            0x2000_0100,
+            0x2003_0000,
+        );
+        schedule.add(2, b"W", 0)?;
+        schedule.add(16_777_213, b"OO", 0)?;
+        let refusal = Err(SchedErr::TooManyTicks { line: 7 });
+        assert_eq!(rt; schedule.add(2, b"", 0), refusal);
+        assert_eq!(rt; schedule.lines(), 2);
+        assert_eq!(rt; schedule.ticks(), 16_777_215);
+        assert_eq!(rt; schedule.line(1).letters.as_slice(), b"OO".as_slice());
+        schedule.add(1, b"", 0)?;
+        assert_eq!(rt; schedule.lines(), 3);
+        assert_eq!(rt; schedule.line(2).letters.len(), 0);
+        assert_eq!(rt; schedule.ticks(), 16_777_216);
+        Ok(())
+    }
+
+    #[test]
+    fn refusals_are_told(rt: HostRuntime) -> Result<(), Fail> {
+        let many = SchedErr::TooManyTicks { line: 5 };
+        assert_eq!(rt;
+            format!(in rt.alloc(); "{many}")?.as_str(),
+            "schedule too many ticks 5"
+        );
+        let bad = SchedErr::Line {
+            line: 5,
+            kind: LineKind::Steps,
+        };
+        assert_eq!(rt;
+            format!(in rt.alloc(); "{bad}")?.as_str(),
+            "schedule line 5 steps"
+        );
+        Ok(())
+    }
 }

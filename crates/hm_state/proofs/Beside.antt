@@ -5,12 +5,12 @@ use Rattle.hm_regs.specs.declared.Regs.{Regs}
 use Rattle.hm_regs.specs.Place.{value_at}
 use Rattle.hm_regs.proofs.Places.{value_at-beside}
 use Rattle.hm_mem.specs.Memory.{Memory}
-use Rattle.hm_state.specs.State.{State, Cell, At, Byte, word, at, is_cell, cell_of, rest_of, state_of}
+use Rattle.hm_state.specs.State.{Cell, At, Byte, word, at, is_cell, cell_of, rest_of, state_of}
 
 -- all of them at once
 pub beside : (r : Regs) (m : Memory) (output : List ℕ) (n z c v q : Bool) (it pc : ℕ) (fpca primask : Bool) (ipsr : ℕ)
     → state_of (record r { n = n; z = z; c = c; v = v; q = q; it = it; pc = pc; fpca = fpca; primask = primask; ipsr = ipsr }) m output
-      ≡ record (state_of r m output) { pc = pc; rest = record (state_of r m output).rest { n = n; z = z; c = c; v = v; q = q; it = it; fpca = fpca; primask = primask; ipsr = ipsr } }
+    ≡ record (state_of r m output) { pc = pc; rest = record (state_of r m output).rest { n = n; z = z; c = c; v = v; q = q; it = it; fpca = fpca; primask = primask; ipsr = ipsr } }
 unfolding state_of
 beside r m output n z c v q it pc fpca primask ipsr = λ j. record {
   cell = λ d. stays d j;

@@ -1,19 +1,18 @@
 -- A place that is set is a cell that is put.
-use Rattle.std.proofs.Common.{◌≡◌, ◌≢◌, ℕ, ◌<◌, ◌+◌, ◌*◌, ◌-◌, ◌%◌, ◌^◌, ◌≤◌, Bool, true, false, cond, eqb, ltb, List, [], ◌∷◌, map, refl, sym, ◌∙◌, ap, subst, arith, eqb-true, eq-eqb, lt-ltb, ltb-true}
-use Rattle.hm_base.specs.Bits.{field}
+use Rattle.std.proofs.Common.{◌≡◌, ◌≢◌, ℕ, Bool, true, false, cond, eqb, List, [], ◌∷◌, map, refl, sym, ◌∙◌, ap, subst, eqb-true, eq-eqb, lt-ltb, ltb-true}
 use Rattle.hm_base.specs.Place.{IsPlace, same_place, fit}
 use Rattle.hm_base.specs.declared.Place.{Place}
 use Rattle.hm_base.specs.declared.Place.TheVariants.{R, QWord, P0, Mask01, Mask23, Carry, Ltp, Sticky}
 use Rattle.hm_base.proofs.Fields.{field-put_field}
 use Rattle.hm_base.proofs.Order.{same_place-refl, same_place-is}
 use Rattle.hm_regs.specs.declared.Regs.{Regs}
-use Rattle.hm_regs.specs.Place.{value_at, with_value, Counted, SameElsewhere}
+use Rattle.hm_regs.specs.Place.{value_at, with_value, Counted}
 use Rattle.hm_regs.specs.Writes.{Write, apply}
 use Rattle.hm_regs.proofs.Places.{value_at-same, value_at-other, IsSlice}
 use Rattle.hm_regs.proofs.Writes.{counted, SameElsewhere-with_value}
 use Rattle.hm_mem.specs.Memory.{Memory}
 use Rattle.hm_state.specs.Store.{CellLaws, put, put_all, flagged}
-use Rattle.hm_state.specs.State.{State, Cell, At, Byte, Value, word, same_cell, cells, is_cell, cell_of, rest_of, state_of, into, AreCells}
+use Rattle.hm_state.specs.State.{State, Cell, At, Byte, word, same_cell, cells, is_cell, cell_of, rest_of, state_of, into, AreCells}
 
 decide : {P : Type 0} (b : Bool) → (b ≡ true → P) → (b ≡ false → P) → P
 decide true f g = f refl
@@ -72,17 +71,30 @@ put_cell : (p : Place) (x : ℕ) (r : Regs) (m : Memory) → IsPlace p → is_ce
 put_cell p x r m i u n (Byte a) = refl
 put_cell p x r m i u n (At q) = decide (same_place p q)
     (λ is. subst (λ o. word (cond (is_cell o) (value_at o (with_value p x r)) 0) ≡ word (fit p x)) (same_place-is p q is)
-        (ap (λ v. word (cond v (value_at p (with_value p x r)) 0)) u ∙ ap word (value_at-same p x r i n))
-      ∙ sym (ap (λ v. cond v (word (fit p x)) (cell_of r m (At q))) is))
+    (ap (λ v. word (cond v (value_at p (with_value p x r)) 0)) u ∙ ap word (value_at-same p x r i n))
+    ∙ sym (ap (λ v. cond v (word (fit p x)) (cell_of r m (At q))) is))
     (λ isnt. decide (is_cell q)
-        (λ v. ap (λ z. word (cond (is_cell q) z 0)) (value_at-other q p x r (λ e. differs p q isnt (sym e)) (slice_of q v) i))
-        (λ v. ap (λ z. word (cond z (value_at q (with_value p x r)) 0)) v ∙ sym (ap (λ z. word (cond z (value_at q r) 0)) v))
-      ∙ sym (ap (λ v. cond v (word (fit p x)) (cell_of r m (At q))) isnt))
+    (λ v. ap (λ z. word (cond (is_cell q) z 0)) (value_at-other q p x r (λ e. differs p q isnt (sym e)) (slice_of q v) i))
+    (λ v. ap (λ z. word (cond z (value_at q (with_value p x r)) 0)) v ∙ sym (ap (λ z. word (cond z (value_at q r) 0)) v))
+    ∙ sym (ap (λ v. cond v (word (fit p x)) (cell_of r m (At q))) isnt))
 
 put_rest : (p : Place) (x : ℕ) (r : Regs) (m : Memory) (output : List ℕ) → IsPlace p → rest_of (with_value p x r) m output ≡ rest_of r m output
 put_rest p x r m output i = let h = SameElsewhere-with_value p x r i in λ j. record {
-  n = h.n j; z = h.z j; c = h.c j; v = h.v j; q = h.q j; it = h.it j; fpca = h.fpca j; primask = h.primask j; ipsr = h.ipsr j;
-  fpscr_low = h.fpscr_low j; fpscr_middle = h.fpscr_middle j; vpr_top = h.vpr_top j; devices = m.devices; output = output; around = m.around;
+  n = h.n j;
+  z = h.z j;
+  c = h.c j;
+  v = h.v j;
+  q = h.q j;
+  it = h.it j;
+  fpca = h.fpca j;
+  primask = h.primask j;
+  ipsr = h.ipsr j;
+  fpscr_low = h.fpscr_low j;
+  fpscr_middle = h.fpscr_middle j;
+  vpr_top = h.vpr_top j;
+  devices = m.devices;
+  output = output;
+  around = m.around;
 }
 
 sticky_differs : (p : Place) → is_cell p ≡ true → Sticky ≢ p

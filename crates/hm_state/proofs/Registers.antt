@@ -1,15 +1,14 @@
 -- The registers, put together again from a state.
-use Rattle.std.proofs.Common.{◌≡◌, ℕ, ◌+◌, ◌-◌, ◌*◌, ◌/◌, ◌%◌, ◌^◌, ◌<◌, ◌≤◌, Bool, true, false, cond, eqb, ltb, List, length, get_or, arith, refl, sym, ◌∙◌, ap, subst}
+use Rattle.std.proofs.Common.{◌≡◌, ℕ, ◌+◌, ◌*◌, ◌/◌, ◌%◌, ◌^◌, ◌<◌, eqb, List, get_or, arith, refl, sym, ap, subst}
 use Rattle.std.proofs.lemmas.Bool.Decides.{nat_tests}
 use Rattle.std.proofs.lemmas.Nat.{mod-pow-add}
 use Rattle.hm_base.specs.Bits.{field}
 use Rattle.hm_base.proofs.Fields.{field_below}
-use Rattle.hm_base.specs.declared.Place.{Place}
-use Rattle.hm_base.specs.declared.Place.TheVariants.{R, QWord, P0, Mask01, Mask23, Carry, Ltp, Sticky}
+use Rattle.hm_base.specs.declared.Place.TheVariants.{R, QWord}
 use Rattle.hm_regs.specs.declared.Regs.{Regs}
 use Rattle.hm_regs.specs.Place.{value_at, Counted}
 use Rattle.hm_mem.specs.Memory.{Memory}
-use Rattle.hm_state.specs.State.{State, Cell, At, Byte, word, at, bit, is_cell, cell_of, rest_of, state_of, listed, regs_of}
+use Rattle.hm_state.specs.State.{bit, state_of, regs_of}
 use Rattle.hm_state.proofs.Lists.{listed_is}
 
 -- a row of bits after those below it

@@ -2,7 +2,7 @@
 use Rattle.std.specs.Prelude.{ℕ, ◌-◌, ◌%◌, false, nat_eq, if◌then◌else◌, List, []}
 use Rattle.hm_base.specs.Image.{Segment, flash_byte, first_byte, word_at}
 use Rattle.hm_base.specs.declared.Place.{Place}
-use Rattle.hm_base.specs.declared.Place.TheVariants.{R, QWord, P0, Mask01, Mask23, Carry, Ltp, Sticky}
+use Rattle.hm_base.specs.declared.Place.TheVariants.{R, Ltp}
 use Rattle.hm_mem.specs.Memory.{Around, first_devices, thread_under}
 use Rattle.hm_state.specs.State.{State, Cell, At, Byte, Value, word, Rest}
 

@@ -1,5 +1,5 @@
 -- The architectural state: the registers by place, the bytes of memory, and what stands in neither.
-use Rattle.std.specs.Prelude.{ℕ, ◌≡◌, ◌+◌, ◌*◌, ◌%◌, ◌^◌, Bool, true, false, cond, ltb, eqb, List, [], ◌∷◌, ◌++◌, map}
+use Rattle.std.specs.Prelude.{ℕ, ◌≡◌, ◌+◌, ◌*◌, ◌^◌, Bool, true, false, cond, ltb, eqb, List, [], ◌∷◌, map}
 use Rattle.std.specs.List.{range_with_len}
 use Rattle.hm_base.specs.Bits.{field}
 use Rattle.hm_base.specs.Place.{IsPlace, same_place, fit}

@@ -1,5 +1,4 @@
 use Rattle.std.proofs.Common.{◌≡◌}
-use Rattle.hm_isa.specs.declared.Scalar.{Scalar}
 use Rattle.hm_isa.specs.declared.Scalar.TheVariants as scalar
 use Rattle.hm_isa.specs.Code.{scalar_code}
 use Rattle.hm_decode.proofs.narrow.find_scalar.Goals as goal

@@ -1,8 +1,8 @@
-use Rattle.std.proofs.Common.{◌≡◌, ◌≤◌, ◌++◌, ◌∷◌, [], length, arith, refl, ap, ◌∙◌, map}
+use Rattle.std.proofs.Common.{◌≡◌, ◌++◌, ◌∷◌, [], arith, refl, ap, ◌∙◌, map}
 use Rattle.std.proofs.lemmas.List.{map-append}
 use Rattle.hm_sched.specs.declared.Line.{Line}
 use Rattle.hm_sched.specs.Held.{schedule_view}
-use Rattle.hm_sched.specs.Schedule.{TickLine, line_of, most_ticks, IsLine, IsYetLine}
+use Rattle.hm_sched.specs.Schedule.{line_of, IsLine, IsYetLine}
 use Rattle.hm_sched.proofs.Ticks.{lines_le-most_ticks, total-push, IsSched-with_line, IsYet-with_line}
 use Rattle.hm_sched.proofs.Schedule.add.Goals as goal
 
@@ -20,7 +20,7 @@ pub invariant_of-self-2 : goal.invariant_of-self-2
 invariant_of-self-2 c =
     let line : Line = record { count = c.args.count; letters = c.held.result; irq = c.args.irq } in
     let lines : map line_of c.push.new.self.items ≡ map line_of c.self.inside.lines.items ++ line_of line ∷ [] =
-        ap (map line_of) c.in_ok-push.ensures.items ∙ map-append line_of c.self.inside.lines.items (line ∷ []) in
+    ap (map line_of) c.in_ok-push.ensures.items ∙ map-append line_of c.self.inside.lines.items (line ∷ []) in
     let one : IsLine (line_of line) = record {
       some = c.requires.some;
       few = rw c.held.ensures c.requires.few;

@@ -1,4 +1,3 @@
-use Rattle.std.proofs.Common.{◌∙◌, sym}
 use Rattle.hm_sched.proofs.Ticks.{length-ticks_of}
 use Rattle.hm_sched.proofs.Schedule.ticks.Goals as goal
 

@@ -1,0 +1,74 @@
+-- What a host tells of itself, and what its calls do to that.
+use Rattle.std.specs.Prelude.{◌≡◌, ◌⊎◌, ◌≢◌, ℕ, ◌+◌, ◌^◌, ◌<◌, ◌≤◌, List, ◌++◌, length, take, Option, Some, Result, Ok, Err}
+use Rattle.std.specs.Ordering.{nat_cmp}
+use Rattle.std.specs.Cmp.Lexicographic.{slice_cmp}
+use Rattle.std.specs.FinMap.{FinMap, get, insert}
+use Rattle.hm_host.specs.declared.host.HostErr.{HostErr}
+use Rattle.hm_host.specs.declared.host.HostErr.TheVariants.{Failed, TooLarge, OutOfMemory}
+
+-- from the names of files to their bytes
+abbrev pub FileMap : Type 0
+FileMap = FinMap (slice_cmp nat_cmp) (List ℕ)
+
+-- the longest file that is read
+abbrev pub longest : ℕ
+longest = 16777216
+
+-- what a host tells: its files and its printed bytes, each where it tells them, and its count of faults
+pub record HostState : Type 0 where
+  pub files : Option FileMap
+  pub printed : Option (List ℕ)
+  pub faults : ℕ
+
+-- what was told is told still, as the same
+abbrev pub Stays : {A : Type 0} → Option A → Option A → Type 0
+Stays {A} old new = (x : A) → old ≡ Some x → new ≡ Some x
+
+-- what was told is told still, as f of what it was
+abbrev pub Becomes : {A : Type 0} → (A → A) → Option A → Option A → Type 0
+Becomes {A} f old new = (x : A) → old ≡ Some x → new ≡ Some (f x)
+
+-- what was told is told still, as something that R relates to what it was
+abbrev pub Turns : {A : Type 0} → (A → A → Type 0) → Option A → Option A → Type 0
+Turns {A} R old new = (x : A) → old ≡ Some x → (y : A) × (new ≡ Some y) × R x y
+
+-- all files but the named one are as before
+abbrev pub KeepsOthers : List ℕ → FileMap → FileMap → Type 0
+KeepsOthers name old new = (other : List ℕ) → other ≢ name → get new other ≡ get old other
+
+-- a prefix of the piece was added
+abbrev pub AddsPrefix : List ℕ → List ℕ → List ℕ → Type 0
+AddsPrefix piece old new = (n : ℕ) × (new ≡ old ++ take n piece)
+
+-- the count rose, or it stands at the last value of its counter
+abbrev pub Rose : ℕ → ℕ → Type 0
+Rose old new = (old < new) ⊎ ((new ≡ old) × (2 ^ 64 ≤ new + 1))
+
+-- only a failed call changes the count
+abbrev pub Counts : {T : Type 0} → ℕ → ℕ → Result T HostErr → Type 0
+Counts old new (Ok _) = new ≡ old
+Counts old new (Err Failed) = Rose old new
+Counts old new (Err TooLarge) = new ≡ old
+Counts old new (Err OutOfMemory) = new ≡ old
+
+-- the answer to a read. An answer is not too long, and where the files are told it is the whole file; too large is
+-- answered of a file that is too long, and of no other; a read that wants memory is of a file that is not too long
+abbrev pub Reads : {T : Type 0} → Option FileMap → List ℕ → (T → List ℕ) → Result T HostErr → Type 0
+Reads files name items (Ok bytes) = (length (items bytes) ≤ longest) × ((F : FileMap) → files ≡ Some F → get F name ≡ Some (items bytes))
+Reads files name items (Err Failed) = Unit {0}
+Reads files name items (Err TooLarge) = (F : FileMap) → files ≡ Some F → (bytes : List ℕ) × (get F name ≡ Some bytes) × (longest < length bytes)
+Reads files name items (Err OutOfMemory) = (F : FileMap) → files ≡ Some F → (bytes : List ℕ) → get F name ≡ Some bytes → length bytes ≤ longest
+
+-- what a write does to the files
+abbrev pub Writes : {T : Type 0} → List ℕ → List ℕ → Option FileMap → Option FileMap → Result T HostErr → Type 0
+Writes name bytes old new (Ok _) = Becomes (λ F. insert F name bytes) old new
+Writes name bytes old new (Err Failed) = Turns (KeepsOthers name) old new
+Writes name bytes old new (Err TooLarge) = ⊥
+Writes name bytes old new (Err OutOfMemory) = Stays old new
+
+-- what a print does to the printed bytes
+abbrev pub Prints : {T : Type 0} → List ℕ → Option (List ℕ) → Option (List ℕ) → Result T HostErr → Type 0
+Prints piece old new (Ok _) = Becomes (λ P. P ++ piece) old new
+Prints piece old new (Err Failed) = Turns (AddsPrefix piece) old new
+Prints piece old new (Err TooLarge) = ⊥
+Prints piece old new (Err OutOfMemory) = Stays old new

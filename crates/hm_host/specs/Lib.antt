@@ -1,0 +1,4 @@
+pub mod Host
+pub mod Files
+pub mod MemHost
+pub mod OsHost
