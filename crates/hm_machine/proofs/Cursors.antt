@@ -15,17 +15,17 @@ some_one : (x l : TickLine) → Some x ≡ Some l → x ≡ l
 some_one x l e = cc
 
 first : (x : TickLine) (xs : List TickLine) (used : ℕ) → used < x.count
-  → left_in (x ∷ xs) used ≡ x ∷ repeat (x.count - (used + 1)) x (ticks_of xs)
+    → left_in (x ∷ xs) used ≡ x ∷ repeat (x.count - (used + 1)) x (ticks_of xs)
 first x xs used h =
-  let e : x.count - used ≡ suc (x.count - (used + 1)) = omega arith in
-  ap (λ (n : ℕ). repeat n x (ticks_of xs)) e
+    let e : x.count - used ≡ suc (x.count - (used + 1)) = omega arith in
+    ap (λ (n : ℕ). repeat n x (ticks_of xs)) e
 
 pub line_first : (lines : List TickLine) (k used : ℕ) (l : TickLine) → HasTick (drop k lines) used → slice_get lines k ≡ Some l
-  → left_in (drop k lines) used ≡ l ∷ repeat (l.count - (used + 1)) l (ticks_of (drop (suc k) lines))
+    → left_in (drop k lines) used ≡ l ∷ repeat (l.count - (used + 1)) l (ticks_of (drop (suc k) lines))
 line_first [] zero used l h e = absurd h
 line_first [] (suc k) used l h e = absurd h
 line_first (x ∷ xs) zero used l h e =
-  first x xs used h ∙ ap (λ (y : TickLine). y ∷ repeat (y.count - (used + 1)) y (ticks_of xs)) (some_one x l e)
+    first x xs used h ∙ ap (λ (y : TickLine). y ∷ repeat (y.count - (used + 1)) y (ticks_of xs)) (some_one x l e)
 line_first (x ∷ xs) (suc k) used l h e = line_first xs k used l h e
 
 pub line_used : (lines : List TickLine) (k used : ℕ) (l : TickLine) → HasTick (drop k lines) used → slice_get lines k ≡ Some l → used < l.count
@@ -52,7 +52,7 @@ begins (x ∷ xs) zero h all = let some = (All-head IsLine x xs all).some in ome
 begins (x ∷ xs) (suc k) h all = begins xs k (omega arith) (All-tail IsLine x xs all)
 
 pub used_up : (lines : List TickLine) (k used : ℕ) (l : TickLine) → l.count ≤ used + 1
-  → repeat (l.count - (used + 1)) l (ticks_of (drop (suc k) lines)) ≡ ticks_of (drop (suc k) lines)
+    → repeat (l.count - (used + 1)) l (ticks_of (drop (suc k) lines)) ≡ ticks_of (drop (suc k) lines)
 used_up lines k used l h = let e : l.count - (used + 1) ≡ 0 = omega arith in ap (λ (n : ℕ). repeat n l (ticks_of (drop (suc k) lines))) e
 
 pub none_left : (lines : List TickLine) (k : ℕ) → length lines ≤ k → drop k lines ≡ []
@@ -63,7 +63,7 @@ none_left (x ∷ xs) (suc k) h = none_left xs k (omega arith)
 
 -- with a tick left in its line a cursor stays there
 pub still_here : (lines : List TickLine) (k used : ℕ) (l : TickLine) → slice_get lines k ≡ Some l → used + 1 < l.count
-  → left_in (drop k lines) (used + 1) ≡ repeat (l.count - (used + 1)) l (ticks_of (drop (suc k) lines))
+    → left_in (drop k lines) (used + 1) ≡ repeat (l.count - (used + 1)) l (ticks_of (drop (suc k) lines))
 still_here [] zero used l e h = absurd cc
 still_here [] (suc k) used l e h = absurd cc
 still_here (x ∷ xs) zero used l e h = ap (λ (y : TickLine). repeat (y.count - (used + 1)) y (ticks_of xs)) (some_one x l e)

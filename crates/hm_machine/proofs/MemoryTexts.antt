@@ -12,5 +12,5 @@ listed_first out f = sym (ap (λ (l : List ℕ). out ++ l) (none f) ∙ append-n
 
 pub listed_more : (out old new : List ℕ) (k b : ℕ) (f : ℕ → ℕ) → old ≡ out ++ listed k f → b ≡ f k → new ≡ old ++ b ∷ [] → new ≡ out ++ listed (k + 1) f
 listed_more out old new k b f is value grown =
-  grown ∙ (λ i. is i ++ value i ∷ []) ∙ append_assoc out (listed k f) (f k ∷ [])
-  ∙ sym (ap (λ (l : List ℕ). out ++ l) (ap (λ (j : ℕ). listed j f) (add-one k) ∙ listed-suc 0 k f))
+    grown ∙ (λ i. is i ++ value i ∷ []) ∙ append_assoc out (listed k f) (f k ∷ [])
+    ∙ sym (ap (λ (l : List ℕ). out ++ l) (ap (λ (j : ℕ). listed j f) (add-one k) ∙ listed-suc 0 k f))

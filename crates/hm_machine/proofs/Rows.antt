@@ -19,38 +19,38 @@ use Rattle.hm_state.specs.State.{State, put_at, state_of}
 
 -- the flags of a sum, with the overflow worked out apart
 pub sum_flags_are : (x y : ℕ) (s : State) (v : Bool) → v ≡ (beq (negative x) (negative y) && not (beq (negative x) (negative ((x + y) % 2 ^ 32))))
-  → record s { rest = record s.rest { n = negative ((x + y) % 2 ^ 32); z = nat_eq ((x + y) % 2 ^ 32) 0; c = nat_le (2 ^ 32) (x + y); v = v } } ≡ with_sum_flags x y s
+    → record s { rest = record s.rest { n = negative ((x + y) % 2 ^ 32); z = nat_eq ((x + y) % 2 ^ 32) 0; c = nat_le (2 ^ 32) (x + y); v = v } } ≡ with_sum_flags x y s
 sum_flags_are x y s v e =
-  ap (λ (b : Bool). record s { rest = record s.rest { n = negative ((x + y) % 2 ^ 32); z = nat_eq ((x + y) % 2 ^ 32) 0; c = nat_le (2 ^ 32) (x + y); v = b } }) e
+    ap (λ (b : Bool). record s { rest = record s.rest { n = negative ((x + y) % 2 ^ 32); z = nat_eq ((x + y) % 2 ^ 32) 0; c = nat_le (2 ^ 32) (x + y); v = b } }) e
 
 -- a low register that is set
 set_is : (d x : ℕ) (r p : Regs) (m : Memory) (output : List ℕ) → d ≤ 14 → Counted r → p ≡ with_value (R d) x r
-  → state_of p m output ≡ put_at (R d) x (state_of r m output)
+    → state_of p m output ≡ put_at (R d) x (state_of r m output)
 set_is d x r p m output low counted e = ap (λ (z : Regs). state_of z m output) e ∙ put_is (R d) x r m output low refl counted
 
 pub adds_is : (i : S3) (r p q u : Regs) (n d x y : ℕ) (m : Memory) (output : List ℕ)
-  → n ≡ i.n.value → d ≡ i.d.value → y ≡ i.i.value → x ≡ value_at (R n) r
-  → d ≤ 14 → Counted r → p ≡ with_value (R d) ((x + y) % 2 ^ 32) r
-  → state_of q m output ≡ with_sum_flags x y (state_of p m output) → state_of u m output ≡ go_on 2 (state_of q m output)
-  → state_of u m output ≡ adds i (state_of r m output)
+    → n ≡ i.n.value → d ≡ i.d.value → y ≡ i.i.value → x ≡ value_at (R n) r
+    → d ≤ 14 → Counted r → p ≡ with_value (R d) ((x + y) % 2 ^ 32) r
+    → state_of q m output ≡ with_sum_flags x y (state_of p m output) → state_of u m output ≡ go_on 2 (state_of q m output)
+    → state_of u m output ≡ adds i (state_of r m output)
 adds_is i r p q u n d x y m output en ed ey ex low counted ep eq eu =
-  let s : State = state_of r m output in
-  let first = ex ∙ ap (λ (k : ℕ). value_at (R k) r) en ∙ sym (at_is r m output (R i.n.value) refl) in
-  eu ∙ ap (go_on 2) (eq ∙ ap (with_sum_flags x y) (set_is d ((x + y) % 2 ^ 32) r p m output low counted ep))
-  ∙ (λ j. go_on 2 (with_sum_flags (first j) (ey j) (put_at (R (ed j)) ((first j + ey j) % 2 ^ 32) s)))
+    let s : State = state_of r m output in
+    let first = ex ∙ ap (λ (k : ℕ). value_at (R k) r) en ∙ sym (at_is r m output (R i.n.value) refl) in
+    eu ∙ ap (go_on 2) (eq ∙ ap (with_sum_flags x y) (set_is d ((x + y) % 2 ^ 32) r p m output low counted ep))
+    ∙ (λ j. go_on 2 (with_sum_flags (first j) (ey j) (put_at (R (ed j)) ((first j + ey j) % 2 ^ 32) s)))
 
 pub movs_is : (i : S4) (r p q u : Regs) (d x : ℕ) (m : Memory) (output : List ℕ)
-  → d ≡ i.d.value → x ≡ i.i.value → d ≤ 14 → Counted r → p ≡ with_value (R d) x r
-  → state_of q m output ≡ with_nz x (state_of p m output) → state_of u m output ≡ go_on 2 (state_of q m output)
-  → state_of u m output ≡ movs i (state_of r m output)
+    → d ≡ i.d.value → x ≡ i.i.value → d ≤ 14 → Counted r → p ≡ with_value (R d) x r
+    → state_of q m output ≡ with_nz x (state_of p m output) → state_of u m output ≡ go_on 2 (state_of q m output)
+    → state_of u m output ≡ movs i (state_of r m output)
 movs_is i r p q u d x m output ed ex low counted ep eq eu =
-  let s : State = state_of r m output in
-  eu ∙ ap (go_on 2) (eq ∙ ap (with_nz x) (set_is d x r p m output low counted ep))
-  ∙ (λ j. go_on 2 (with_nz (ex j) (put_at (R (ed j)) (ex j) s)))
+    let s : State = state_of r m output in
+    eu ∙ ap (go_on 2) (eq ∙ ap (with_nz x) (set_is d x r p m output low counted ep))
+    ∙ (λ j. go_on 2 (with_nz (ex j) (put_at (R (ed j)) (ex j) s)))
 
 -- what was fetched at the program counter is what the listing tells
 pub fetched_here : (listing : Listing) (flash : ℕ → ℕ) (r : Regs) (m : Memory) (output : List ℕ) (x : Result Instr Fault)
-  → IsListing flash listing → IsFetched flash r.pc x → alone listing (state_of r m output) ≡ whole_here x (state_of r m output)
+    → IsListing flash listing → IsFetched flash r.pc x → alone listing (state_of r m output) ≡ whole_here x (state_of r m output)
 unfolding state_of
 fetched_here listing flash r m output x is here =
-  ap (λ (y : Result Instr Fault). whole_here y (state_of r m output)) (fetched_one flash r.pc (listing r.pc) x (is.at r.pc) here)
+    ap (λ (y : Result Instr Fault). whole_here y (state_of r m output)) (fetched_one flash r.pc (listing r.pc) x (is.at r.pc) here)

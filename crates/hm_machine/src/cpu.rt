@@ -46,9 +46,7 @@ pub enum TickEnd {
 
 /// Does the whole of an instruction that is no vector row, or stops and changes nothing.
 fn whole(i: &Instr, regs: &mut Regs) -> Result<(), Cause>
-    ensures value {
-        (m : Memory) (output : List ℕ) → executed result (state_of regs.new m output) ≡ in_machine (whole i.now (state_of regs.old m output))
-    }
+    ensures value { (m : Memory) (output : List ℕ) → executed result (state_of regs.new m output) ≡ in_machine (whole i.now (state_of regs.old m output)) }
     ensures stopped { OnErr result (regs.new ≡ regs.old) }
 {
     match i {
@@ -60,10 +58,8 @@ fn whole(i: &Instr, regs: &mut Regs) -> Result<(), Cause>
 
 /// Does what stands at the program counter, or stops and changes nothing.
 fn execute(mem: &Mem, regs: &mut Regs) -> Result<(), Cause>
-    ensures value {
-        (output : List ℕ) (listing : Listing) → IsListing (flash_at (memory_of mem.now)) listing
-        → executed result (state_of regs.new (memory_of mem.now) output) ≡ in_machine (alone listing (state_of regs.old (memory_of mem.now) output))
-    }
+    ensures value { (output : List ℕ) (listing : Listing) → IsListing (flash_at (memory_of mem.now)) listing
+        → executed result (state_of regs.new (memory_of mem.now) output) ≡ in_machine (alone listing (state_of regs.old (memory_of mem.now) output)) }
     ensures stopped { OnErr result (regs.new ≡ regs.old) }
 {
     match fetch(mem, regs.pc) {
@@ -76,9 +72,7 @@ fn execute(mem: &Mem, regs: &mut Regs) -> Result<(), Cause>
 fn older(x: &mut Cpu) -> Result<(), Cause>
     requires count { (x.old.retired < 2 ^ 63) × (x.old.older_steps < 2 ^ 63) }
     requires between { (x.old.window.a ≡ 0) × (x.old.window.b ≡ 0) }
-    ensures value {
-        (listing : Listing) → IsListing (flash_at (memory_of x.old.mem)) listing → reached result x.new ≡ older (core listing) (config_of x.old)
-    }
+    ensures value { (listing : Listing) → IsListing (flash_at (memory_of x.old.mem)) listing → reached result x.new ≡ older (core listing) (config_of x.old) }
     ensures memory { memory_of x.new.mem ≡ memory_of x.old.mem }
     ensures between { (x.new.window.a ≡ 0) × (x.new.window.b ≡ 0) }
     ensures count { (x.new.retired ≤ x.old.retired + 1) × (x.new.older_steps ≤ x.old.older_steps + 1) }
@@ -94,9 +88,7 @@ fn older(x: &mut Cpu) -> Result<(), Cause>
 fn letter(l: u8, x: &mut Cpu) -> Result<(), StepEnd>
     requires count { (x.old.retired < 2 ^ 63) × (x.old.older_steps < 2 ^ 63) }
     requires between { (x.old.window.a ≡ 0) × (x.old.window.b ≡ 0) }
-    ensures value {
-        (listing : Listing) → IsListing (flash_at (memory_of x.old.mem)) listing → reached_by_letter result x.new ≡ letter_step listing l (config_of x.old)
-    }
+    ensures value { (listing : Listing) → IsListing (flash_at (memory_of x.old.mem)) listing → reached_by_letter result x.new ≡ letter_step listing l (config_of x.old) }
     ensures memory { memory_of x.new.mem ≡ memory_of x.old.mem }
     ensures between { (x.new.window.a ≡ 0) × (x.new.window.b ≡ 0) }
     ensures count { (x.new.retired ≤ x.old.retired + 1) × (x.new.older_steps ≤ x.old.older_steps + 1) }
@@ -128,9 +120,7 @@ pub fn letters(letters: &[u8], x: &mut Cpu) -> Result<(), TickEnd>
     requires few { length letters.now ≤ 8 }
     requires count { (x.old.retired < 2 ^ 62) × (x.old.older_steps < 2 ^ 62) }
     requires between { (x.old.window.a ≡ 0) × (x.old.window.b ≡ 0) }
-    ensures value {
-        (listing : Listing) → IsListing (flash_at (memory_of x.old.mem)) listing → reached_by_tick result x.new ≡ letter_steps listing 0 letters.now (config_of x.old)
-    }
+    ensures value { (listing : Listing) → IsListing (flash_at (memory_of x.old.mem)) listing → reached_by_tick result x.new ≡ letter_steps listing 0 letters.now (config_of x.old) }
     ensures memory { memory_of x.new.mem ≡ memory_of x.old.mem }
     ensures between { (x.new.window.a ≡ 0) × (x.new.window.b ≡ 0) }
     ensures count { (x.new.retired ≤ x.old.retired + 8) × (x.new.older_steps ≤ x.old.older_steps + 8) }

@@ -165,9 +165,7 @@ impl Machine {
     // Does one tick of a run that goes on.
     fn advance(&mut self)
         requires { self.old.outcome ≡ None }
-        ensures next {
-            (listing : Listing) → IsListing (flash_at self.old.memory) listing → timed_of self.new ≡ next listing self.old.left (timed_of self.old)
-        }
+        ensures next { (listing : Listing) → IsListing (flash_at self.old.memory) listing → timed_of self.new ≡ next listing self.old.left (timed_of self.old) }
         ensures left { self.new.outcome ≡ None → self.new.left ≡ drop 1 self.old.left }
         ensures fewer { length self.new.left < length self.old.left }
         ensures memory { self.new.memory ≡ self.old.memory }
@@ -210,9 +208,7 @@ impl Machine {
 
     /// Does ticks until the run ends, one for each tick of the schedule at most. It takes no memory.
     pub fn run(&mut self) -> Outcome
-        ensures shows {
-            (image : List Segment) (s : Sched) (t : ℕ) → t ≤ length (ticks_of s.lines) → Shows image s t self.old → Shows image s (length (ticks_of s.lines)) self.new
-        }
+        ensures shows { (image : List Segment) (s : Sched) (t : ℕ) → t ≤ length (ticks_of s.lines) → Shows image s t self.old → Shows image s (length (ticks_of s.lines)) self.new }
         ensures outcome { self.new.outcome ≡ Some result }
         ensures ended { IsSome self.old.outcome → self.new ≡ self.old }
     {

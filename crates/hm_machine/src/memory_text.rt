@@ -11,6 +11,7 @@ use std::alloc::Global;
 
 /// The first byte of SRAM, and how many it has.
 const SRAM: u32 = 0x2000_0000;
+
 const SRAM_SIZE: u32 = 0x4_0000;
 
 // A byte of SRAM.
@@ -45,8 +46,14 @@ fn taint_byte(mem: &Mem, k: u32) -> u8
     requires { 8 * k + 8 ≤ sram_size }
     ensures { result ≡ byte_of_bits (λ j. tainted_at (memory_of mem.now) (sram_start + j)) k }
 {
-    let low = taint_bit(mem, 8 * k) + 2 * taint_bit(mem, 8 * k + 1) + 4 * taint_bit(mem, 8 * k + 2) + 8 * taint_bit(mem, 8 * k + 3);
-    let high = taint_bit(mem, 8 * k + 4) + 2 * taint_bit(mem, 8 * k + 5) + 4 * taint_bit(mem, 8 * k + 6) + 8 * taint_bit(mem, 8 * k + 7);
+    let low = taint_bit(mem, 8 * k)
+        + 2 * taint_bit(mem, 8 * k + 1)
+        + 4 * taint_bit(mem, 8 * k + 2)
+        + 8 * taint_bit(mem, 8 * k + 3);
+    let high = taint_bit(mem, 8 * k + 4)
+        + 2 * taint_bit(mem, 8 * k + 5)
+        + 4 * taint_bit(mem, 8 * k + 6)
+        + 8 * taint_bit(mem, 8 * k + 7);
     low + 16 * high
 }
 
@@ -63,10 +70,8 @@ fn taint_onto(out: &mut Vec<u8>, mem: &Mem, count: u32) -> Result<(), OutOfMemor
 
 /// The bytes of SRAM, and then their taint, bit j of byte k that of byte 8k + j.
 pub fn memory_text(alloc: Global, mem: &Mem) -> Result<Vec<u8>, OutOfMemory>
-    ensures {
-        IfOk result (λ out. out.items ≡ listed sram_size (λ k. byte_at (memory_of mem.now) (sram_start + k))
-            ++ listed 0x8000 (byte_of_bits (λ j. tainted_at (memory_of mem.now) (sram_start + j))))
-    }
+    ensures { IfOk result (λ out. out.items ≡ listed sram_size (λ k. byte_at (memory_of mem.now) (sram_start + k))
+        ++ listed 0x8000 (byte_of_bits (λ j. tainted_at (memory_of mem.now) (sram_start + j)))) }
 {
     let mut out = Vec::new(alloc);
     bytes_onto(&mut out, mem, SRAM_SIZE)?;

@@ -70,9 +70,7 @@ fn movs(i: &S4, regs: &mut Regs)
 
 /// Does a scalar instruction, or stops and changes nothing.
 pub fn step(i: &Scalar, regs: &mut Regs) -> Result<(), Cause>
-    ensures value {
-        (m : Memory) (output : List ℕ) → executed result (state_of regs.new m output) ≡ in_machine (scalar_whole i.now (state_of regs.old m output))
-    }
+    ensures value { (m : Memory) (output : List ℕ) → executed result (state_of regs.new m output) ≡ in_machine (scalar_whole i.now (state_of regs.old m output)) }
     ensures stopped { OnErr result (regs.new ≡ regs.old) }
 {
     match i {

@@ -1,7 +1,7 @@
-//! Texts of numbers.
+//! Texts of numbers, added to what stands before them. All hexadecimal text is in lower case.
 #![tactic(auto)]
 
-ghost use Rattle.std.specs.Prelude.{◌≡◌, ℕ, ◌++◌, ◌<◌, List, [], ◌∷◌, codes, IfOk};
+ghost use Rattle.std.specs.Prelude.{◌≡◌, ℕ, ◌++◌, ◌<◌, List, IfOk};
 ghost use Rattle.std.specs.Fmt.{decimal};
 ghost use Rattle.hex.specs.Hex.{encode_lower};
 ghost use Rattle.hm_text_base.specs.Texts.{hex_digit, hex2, hex8, bit};
@@ -9,11 +9,16 @@ ghost use Rattle.hm_text_base.specs.Texts.{hex_digit, hex2, hex8, bit};
 use hm_base::OutOfMemory;
 use std::alloc::Global;
 
+/// A digit, of a number below 16.
 fn hex_digit(d: u32) -> u8
     requires { d < 16 }
     ensures { result ≡ hex_digit d }
 {
-    if d < 10 { 48 + d as u8 } else { 87 + d as u8 }
+    if d < 10 {
+        b'0' + d as u8
+    } else {
+        b'a' + (d - 10) as u8
+    }
 }
 
 /// Adds a text.
@@ -51,14 +56,22 @@ pub fn hex8(out: &mut Vec<u8>, x: u32) -> Result<(), OutOfMemory>
     )
 }
 
-/// Adds a truth value as a digit.
+/// Adds bytes in two hexadecimal digits each.
+pub fn hex_bytes(alloc: Global, out: &mut Vec<u8>, bytes: &[u8]) -> Result<(), OutOfMemory>
+    ensures { IfOk result (λ _. out.new.items ≡ out.old.items ++ encode_lower bytes.now) }
+{
+    let digits = hex::encode(alloc, bytes)?;
+    text(out, digits.as_bytes())
+}
+
+/// Adds a truth value as the digit 0 or 1.
 pub fn bit(out: &mut Vec<u8>, b: bool) -> Result<(), OutOfMemory>
     ensures { IfOk result (λ _. out.new.items ≡ out.old.items ++ bit b) }
 {
-    text(out, &[if b { 49 } else { 48 }])
+    text(out, &[if b { b'1' } else { b'0' }])
 }
 
-/// Adds a number in decimal digits.
+/// Adds a number in decimal digits, with no leading zero.
 pub fn decimal(alloc: Global, out: &mut Vec<u8>, n: u64) -> Result<(), OutOfMemory>
     ensures { IfOk result (λ _. out.new.items ≡ out.old.items ++ decimal n) }
 {
@@ -66,10 +79,29 @@ pub fn decimal(alloc: Global, out: &mut Vec<u8>, n: u64) -> Result<(), OutOfMemo
     text(out, digits.as_bytes())
 }
 
-/// Adds bytes, each in two hexadecimal digits.
-pub fn hex_bytes(alloc: Global, out: &mut Vec<u8>, bytes: &[u8]) -> Result<(), OutOfMemory>
-    ensures { IfOk result (λ _. out.new.items ≡ out.old.items ++ encode_lower bytes.now) }
-{
-    let digits = hex::encode(alloc, bytes)?;
-    text(out, digits.as_bytes())
+#[cfg(test)]
+mod tests {
+    use super::*;
+    use std::test::Fail;
+
+    #[test]
+    fn writes_numbers(rt: HostRuntime) -> Result<(), Fail> {
+        let alloc = rt.alloc();
+        let mut out = Vec::new(alloc);
+        text(&mut out, b"x ")?;
+        hex2(&mut out, 0xa5)?;
+        text(&mut out, b" ")?;
+        hex8(&mut out, 0x09ab_cdef)?;
+        text(&mut out, b" ")?;
+        hex_bytes(alloc, &mut out, &[0xf0, 7])?;
+        bit(&mut out, true)?;
+        bit(&mut out, false)?;
+        text(&mut out, b" ")?;
+        decimal(alloc, &mut out, 18_446_744_073_709_551_615)?;
+        assert_eq!(rt;
+            out.as_slice(),
+            b"x a5 09abcdef f00710 18446744073709551615".as_slice()
+        );
+        Ok(())
+    }
 }

@@ -8,7 +8,7 @@ use Rattle.hm_machine.proofs.cpu.letters.Given as goal
 abbrev pub invariant-loop-l : goal.invariant-loop-l
 invariant-loop-l l = record {
   value : (listing : Listing) → IsListing (flash_at (memory_of l.initial.x.mem)) listing
-    → letter_steps listing l.step (drop l.l-index l.letters) (config_of l.x) ≡ letter_steps listing 0 l.letters (config_of l.initial.x);
+      → letter_steps listing l.step (drop l.l-index l.letters) (config_of l.x) ≡ letter_steps listing 0 l.letters (config_of l.initial.x);
   step : l.step ≡ l.l-index;
   memory : memory_of l.x.mem ≡ memory_of l.initial.x.mem;
   older : l.x.window.a ≡ 0;

@@ -6,23 +6,23 @@ use Rattle.hm_machine.proofs.cursor.after_tick.Goals as goal
 
 pub returns-then-cursor-count-clause-left : goal.returns-then-cursor-count-clause-left
 returns-then-cursor-count-clause-left c =
-  still_here c.args.schedule.now.lines c.args.cursor.line c.args.cursor.used (line_of c.line_at.result.now) c.line_at.ensures.here c.if-cursor-count.true
-  ∙ sym c.line_at.ensures.others
+    still_here c.args.schedule.now.lines c.args.cursor.line c.args.cursor.used (line_of c.line_at.result.now) c.line_at.ensures.here c.if-cursor-count.true
+    ∙ sym c.line_at.ensures.others
 
 pub returns-then-cursor-lines-clause-left : goal.returns-then-cursor-lines-clause-left
 returns-then-cursor-lines-clause-left c =
-  ap (λ (k : ℕ). left_in (drop k c.args.schedule.now.lines) 0) (add-one c.args.cursor.line)
-  ∙ left_new (drop (suc c.args.cursor.line) c.args.schedule.now.lines)
-  ∙ sym (c.line_at.ensures.others ∙ used_up c.args.schedule.now.lines c.args.cursor.line c.args.cursor.used (line_of c.line_at.result.now) c.if-cursor-count.false)
+    ap (λ (k : ℕ). left_in (drop k c.args.schedule.now.lines) 0) (add-one c.args.cursor.line)
+    ∙ left_new (drop (suc c.args.cursor.line) c.args.schedule.now.lines)
+    ∙ sym (c.line_at.ensures.others ∙ used_up c.args.schedule.now.lines c.args.cursor.line c.args.cursor.used (line_of c.line_at.result.now) c.if-cursor-count.false)
 
 pub returns-then-cursor-lines-clause-stands : goal.returns-then-cursor-lines-clause-stands
 returns-then-cursor-lines-clause-stands c =
-  let inside : c.args.cursor.line + 1 < length c.args.schedule.now.lines = omega (arith, c.if-cursor-lines.true, c.lines-lines.ensures.count) in
-  begins c.args.schedule.now.lines (c.args.cursor.line + 1) inside c.lines-lines.ensures.sound.each_line
+    let inside : c.args.cursor.line + 1 < length c.args.schedule.now.lines = omega (arith, c.if-cursor-lines.true, c.lines-lines.ensures.count) in
+    begins c.args.schedule.now.lines (c.args.cursor.line + 1) inside c.lines-lines.ensures.sound.each_line
 
 pub returns-clause-none : goal.returns-clause-none
 returns-clause-none c =
-  let past : length c.args.schedule.now.lines ≤ suc c.args.cursor.line = omega (arith, c.if-cursor-lines.false, c.lines-lines.ensures.count) in
-  c.line_at.ensures.others
-  ∙ used_up c.args.schedule.now.lines c.args.cursor.line c.args.cursor.used (line_of c.line_at.result.now) c.if-cursor-count.false
-  ∙ ap ticks_of (none_left c.args.schedule.now.lines (suc c.args.cursor.line) past)
+    let past : length c.args.schedule.now.lines ≤ suc c.args.cursor.line = omega (arith, c.if-cursor-lines.false, c.lines-lines.ensures.count) in
+    c.line_at.ensures.others
+    ∙ used_up c.args.schedule.now.lines c.args.cursor.line c.args.cursor.used (line_of c.line_at.result.now) c.if-cursor-count.false
+    ∙ ap ticks_of (none_left c.args.schedule.now.lines (suc c.args.cursor.line) past)

@@ -5,8 +5,8 @@ use Rattle.hm_machine.proofs.cursor.line_at.Goals as goal
 
 pub returns-clause-first : goal.returns-clause-first
 returns-clause-first c =
-  let e = line_first c.args.schedule.now.lines c.args.cursor.line c.args.cursor.used (line_of c.line.result.now) c.requires c.line.ensures in
-  e ∙ ap (λ (rest : List TickLine). line_of c.line.result.now ∷ rest) (sym (ap (drop 1) e))
+    let e = line_first c.args.schedule.now.lines c.args.cursor.line c.args.cursor.used (line_of c.line.result.now) c.requires c.line.ensures in
+    e ∙ ap (λ (rest : List TickLine). line_of c.line.result.now ∷ rest) (sym (ap (drop 1) e))
 
 pub returns-clause-others : goal.returns-clause-others
 returns-clause-others c = ap (drop 1) (line_first c.args.schedule.now.lines c.args.cursor.line c.args.cursor.used (line_of c.line.result.now) c.requires c.line.ensures)

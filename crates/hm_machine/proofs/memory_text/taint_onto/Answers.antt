@@ -10,5 +10,5 @@ loop-k-init c = listed_first c.args.out.now.items (byte_of_bits (λ (j : ℕ). t
 
 pub loop-k-preserved : goal.loop-k-preserved
 loop-k-preserved c =
-  listed_more c.args.out.now.items c.loop-k.out.items c.push.new.self.items c.loop-k.k c.taint_byte.result (byte_of_bits (λ (j : ℕ). tainted_at (memory_of c.args.mem.now) (sram_start + j)))
+    listed_more c.args.out.now.items c.loop-k.out.items c.push.new.self.items c.loop-k.k c.taint_byte.result (byte_of_bits (λ (j : ℕ). tainted_at (memory_of c.args.mem.now) (sram_start + j)))
     c.loop-k.invariant c.taint_byte.ensures c.in_ok-push.ensures.items

@@ -1,25 +1,27 @@
-use Rattle.std.proofs.Common.{rules, ◌≡◌, ℕ, suc, ◌+◌, ◌-◌, ◌<◌, ◌≤◌, ◌↔◌, ◌%◌, List, [], length, drop, None, Some, IsSome, IfOk, IfErr, IsTrue, ◌*◌, ◌/◌, Bool, true, false, nat_eq, nat_lt, ◌∷◌, ◌++◌, slice_index_or, slice_set, bit_and, bit_or, Fits, w8, w32, w64, Bor, MutBor}
-use Rattle.hm_base.specs.Image.{Segment}
-use Rattle.hm_codes.specs.Listing.{Listing, IsListing}
-use Rattle.hm_machine.specs.Machines.{StandsIn}
-use Rattle.hm_machine.specs.Shown.{Shows, timed_of}
-use Rattle.hm_machine.specs.Turns.{turned, LoadRefuses}
-use Rattle.hm_mem.specs.Memory.{flash_at, told_at, tainted_at}
-use Rattle.hm_run.specs.Report.{report_text, memory_text}
-use Rattle.hm_run.specs.Timed.{next}
-use Rattle.hm_sched.specs.Schedule.{Sched, ticks_of, most_ticks}
-use Rattle.hm_state.specs.Start.{reset_pc}
-use Rattle.hm_state.specs.State.{regs_of}
+use Rattle.std.proofs.Common.{arith, refl}
+use Rattle.hm_machine.proofs.Cursors.{left_new}
+use Rattle.hm_machine.proofs.Loads.{first_stands, first_length, running_ticks, shows_start, odd_pc}
+use Rattle.hm_mem.specs.Memory.{memory_of}
 use Rattle.hm_machine.proofs.machine.Machine.load.Goals as goal
 
--- src/machine.rt:83:9
 pub invariant_of-result : goal.invariant_of-result
-invariant_of-result c = ?
+invariant_of-result c = record {
+  devices = c.in_ok-mem.ensures.devices;
+  older = refl;
+  younger = refl;
+  running = λ none. first_stands c.args.s.lines c.region-lo.ensures.sound.each_line
+      (running_ticks _ c.first_outcome-outcome.result none c.first_outcome-outcome.ensures.out);
+  begun = λ none. first_length c.args.s.lines c.first_outcome-outcome.ensures.most;
+  few = omega arith;
+  retired = omega arith;
+  steps = omega arith;
+}
 
--- src/machine.rt:69:5
 pub returns-clause-shows : goal.returns-clause-shows
-returns-clause-shows c = ?
+returns-clause-shows c =
+    shows_start c.args.image.now c.args.s (memory_of c.in_ok-mem.mem) c.flash_word-sp.result c.flash_word-pc.result c.start.result c.in_ok-output.output.items c.first_outcome-outcome.result
+    c.in_ok-mem.ensures.flash c.in_ok-mem.ensures.bytes c.in_ok-mem.ensures.clean c.in_ok-mem.ensures.devices (rw (← c.region-lo.ensures.start, ← c.region-lo.ensures.end, ← c.floor.ensures) c.in_ok-mem.ensures.around)
+    c.flash_word-sp.ensures c.flash_word-pc.ensures c.start.ensures c.in_ok-output.ensures.items c.first_outcome-outcome.ensures.none c.first_outcome-outcome.ensures.out
 
--- src/machine.rt:69:5
 pub returns-clause-odd : goal.returns-clause-odd
-returns-clause-odd c = ?
+returns-clause-odd c = odd_pc c.args.image.now (memory_of c.in_ok-mem.mem) c.flash_word-pc.result c.in_ok-mem.ensures.flash c.flash_word-pc.ensures c.if-pc-eq0.false

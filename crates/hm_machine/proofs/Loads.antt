@@ -1,0 +1,90 @@
+-- A machine at the start.
+use Rattle.std.proofs.Common.{◌≡◌, ℕ, zero, suc, ◌+◌, ◌-◌, ◌%◌, ◌<◌, ◌≤◌, arith, ap, refl, sym, ◌∙◌, subst, List, [], ◌∷◌, drop, length, Option, Some, None, All, Bool, false}
+use Rattle.hm_base.specs.Image.{Segment, first_byte, flash_byte, word_at}
+use Rattle.hm_codes.specs.Listing.{Listing, IsListing}
+use Rattle.hm_machine.proofs.Cursors.{begins, left_new}
+use Rattle.hm_machine.specs.Machines.{left_in, left_while, HasTick}
+use Rattle.hm_machine.specs.Shown.{Shown, Shows}
+use Rattle.hm_mem.specs.Memory.{Memory, byte_at, flash_at, tainted_at, first_devices, thread_under}
+use Rattle.hm_order.specs.Machine.{Config, at_start}
+use Rattle.hm_regs.specs.declared.Regs.{Regs}
+use Rattle.hm_regs.specs.Start.{start_regs}
+use Rattle.hm_run.specs.declared.Outcome.{Outcome}
+use Rattle.hm_run.specs.declared.Outcome.TheVariants as outcome
+use Rattle.hm_run.specs.Timed.{Timed, begin, closed, timed}
+use Rattle.hm_sched.specs.Schedule.{TickLine, Sched, IsLine, most_ticks, ticks_of}
+use Rattle.hm_state.proofs.Started.{started}
+use Rattle.hm_state.specs.Start.{reset_pc, reset_sp, start_under}
+use Rattle.hm_state.specs.State.{State, state_of}
+
+-- the first tick of lines that have one
+pub first_stands : (lines : List TickLine) → All IsLine lines → 0 < length (ticks_of lines) → HasTick (drop 0 lines) 0
+first_stands [] all some = absurd (omega arith)
+first_stands (x ∷ xs) all some = begins (x ∷ xs) 0 (omega arith) all
+
+state_at_start : (image : List Segment) (s : Sched) (m : Memory) (sp pc : ℕ) (regs : Regs) (output : List ℕ)
+    → flash_at m ≡ flash_byte image → ((a : ℕ) → byte_at m a ≡ first_byte image a) → ((a : ℕ) → tainted_at m a ≡ false)
+    → m.devices ≡ first_devices → m.around ≡ thread_under s.lo s.hi s.floor
+    → sp ≡ word_at (flash_at m) 0 → pc ≡ word_at (flash_at m) 4 → regs ≡ start_regs (sp - sp % 4) (pc - pc % 2) → output ≡ []
+    → state_of regs m output ≡ start_under s.lo s.hi s.floor image
+state_at_start image s m sp pc regs output flash bytes clean devices around esp epc eregs eout =
+    let p : sp ≡ reset_sp image = esp ∙ ap (λ (f : ℕ → ℕ). word_at f 0) flash in
+    let q : pc ≡ reset_pc image = epc ∙ ap (λ (f : ℕ → ℕ). word_at f 4) flash in
+    (λ i. state_of (eregs i) m (eout i)) ∙ (λ i. state_of (start_regs (p i - p i % 4) (q i - q i % 2)) m [])
+    ∙ started image m s.lo s.hi s.floor bytes clean devices around
+
+-- before the first tick
+begun : (left : List TickLine) (x : Timed) (o : Option Outcome) → x.outcome ≡ None
+    → (0 < length left → o ≡ None) → (length left ≡ 0 → o ≡ Some outcome.OutOfTicks)
+    → record x { outcome = o } ≡ closed left x
+begun [] x o none some out = (λ i. record x { outcome = out refl i }) ∙ ap (λ (q : Option Outcome). closed [] (record x { outcome = q })) (sym none)
+begun (l ∷ left) x o none some out = let e = some (omega arith) in ap (λ (q : Option Outcome). record x { outcome = q }) (e ∙ sym none)
+
+first_left : (lines : List TickLine) (o : Option Outcome) → o ≡ None → left_while o (left_in (drop 0 lines) 0) ≡ drop 0 (ticks_of lines)
+first_left lines o none = ap (λ (q : Option Outcome). left_while q (left_in lines 0)) none ∙ left_new lines
+
+pub shows_start : (image : List Segment) (s : Sched) (m : Memory) (sp pc : ℕ) (regs : Regs) (output : List ℕ) (o : Option Outcome)
+    → flash_at m ≡ flash_byte image → ((a : ℕ) → byte_at m a ≡ first_byte image a) → ((a : ℕ) → tainted_at m a ≡ false)
+    → m.devices ≡ first_devices → m.around ≡ thread_under s.lo s.hi s.floor
+    → sp ≡ word_at (flash_at m) 0 → pc ≡ word_at (flash_at m) 4 → regs ≡ start_regs (sp - sp % 4) (pc - pc % 2) → output ≡ []
+    → (0 < length (ticks_of s.lines) → o ≡ None) → (length (ticks_of s.lines) ≡ 0 → o ≡ Some outcome.OutOfTicks)
+    → Shows image s 0 (record {
+      regs = regs;
+      memory = m;
+      output = output;
+      a = 0;
+      b = 0;
+      retired = 0;
+      older_steps = 0;
+      outcome = o;
+      acts = [];
+      ticks = 0;
+      schedule = s;
+      left = left_while o (left_in (drop 0 s.lines) 0);
+    })
+shows_start image s m sp pc regs output o flash bytes clean devices around esp epc eregs eout some out = record {
+  bytes = flash;
+  plan = refl;
+  left = first_left s.lines o;
+  now = λ listing is.
+      ap (λ (state : State). record { outcome = o; config = at_start state; acts = []; ticks = 0 })
+      (state_at_start image s m sp pc regs output flash bytes clean devices around esp epc eregs eout)
+      ∙ begun (ticks_of s.lines) (begin image s) o refl some out;
+}
+
+-- the address of the first instruction is odd
+pub odd_pc : (image : List Segment) (m : Memory) (pc : ℕ) → flash_at m ≡ flash_byte image → pc ≡ word_at (flash_at m) 4 → (pc % 2 ≡ 0 → ⊥) → reset_pc image % 2 ≡ 1
+odd_pc image m pc flash e odd =
+    let q : pc ≡ reset_pc image = e ∙ ap (λ (f : ℕ → ℕ). word_at f 4) flash in
+    subst (λ (n : ℕ). n % 2 ≡ 1) q (omega arith)
+
+pub reset_is : (image : List Segment) (m : Memory) (pc : ℕ) → flash_at m ≡ flash_byte image → pc ≡ word_at (flash_at m) 4 → pc ≡ reset_pc image
+reset_is image m pc flash e = e ∙ ap (λ (f : ℕ → ℕ). word_at f 4) flash
+
+-- a run that goes on has a tick
+pub running_ticks : (n : ℕ) (o : Option Outcome) → o ≡ None → (n ≡ 0 → o ≡ Some outcome.OutOfTicks) → 0 < n
+running_ticks zero o none out = absurd (let e = out refl in cc)
+running_ticks (suc n) o none out = omega arith
+
+pub first_length : (lines : List TickLine) → length (ticks_of lines) ≤ most_ticks → 0 + length (left_in (drop 0 lines) 0) ≤ most_ticks
+first_length lines h = let e = ap length (left_new lines) in omega arith

@@ -1,0 +1,23 @@
+use Rattle.std.proofs.Common.{◌≡◌, ◌<◌, None, ap, sym, ◌∙◌, subst, arith, length}
+use Rattle.std.specs.Prelude.{IsSome}
+use Rattle.hm_machine.specs.Shown.{Shown}
+use Rattle.hm_machine.proofs.Ticks.{left_below, shows_end}
+use Rattle.hm_machine.proofs.machine.Machine.run.Goals as goal
+
+pub loop-self-preserved : goal.loop-self-preserved
+loop-self-preserved c =
+    let none : c.loop-self.self.outcome ≡ None = c.is_running.ensures.0 c.loop-self-test.true in
+    record {
+      shows = λ image s t h shows.
+          let r = c.loop-self.invariant.shows image s t h shows in
+          let fewer = c.tick-turn.ensures.fewer none in
+          (_, left_below image s r.0 _ r.2 none (omega (arith, fewer)), c.tick-turn.ensures.shows image s r.0 r.2);
+      ended = λ some.
+          let same = c.loop-self.invariant.ended some in
+          c.tick-turn.ensures.ended (subst (λ (m : Shown). IsSome m.outcome) (sym same) some) ∙ same;
+    }
+
+pub returns-clause-shows : goal.returns-clause-shows
+returns-clause-shows c image s t h shows =
+    let r = c.loop-self.invariant.shows image s t h shows in
+    shows_end image s r.0 _ _ c.in-Some.outcome (ap (λ (v : Shown). v.outcome) (sym c.self.view_is) ∙ c.in-Some.is) r.1 r.2

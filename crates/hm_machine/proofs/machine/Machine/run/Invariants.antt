@@ -1,0 +1,17 @@
+use Rattle.std.proofs.Common.{◌≡◌, ℕ, ◌≤◌, length}
+use Rattle.std.specs.Prelude.{IsSome}
+use Rattle.hm_base.specs.Image.{Segment}
+use Rattle.hm_sched.specs.Schedule.{Sched, ticks_of}
+use Rattle.hm_machine.specs.Shown.{Shows}
+use Rattle.std.proofs.Common.{List}
+use Rattle.hm_machine.proofs.machine.Machine.run.Given as goal
+
+abbrev pub invariant-loop-self : goal.invariant-loop-self
+invariant-loop-self l = record {
+  shows : (image : List Segment) (s : Sched) (t : ℕ) → t ≤ length (ticks_of s.lines) → Shows image s t l.initial.self
+      → (u : ℕ) × (u ≤ length (ticks_of s.lines)) × Shows image s u l.self;
+  ended : IsSome l.initial.self.outcome → l.self ≡ l.initial.self;
+}
+
+abbrev pub decreases-loop-self : goal.decreases-loop-self
+decreases-loop-self l = length l.self.left
