@@ -1,8 +1,8 @@
 -- Segments put in their place by address.
-use Rattle.std.proofs.Common.{◌≡◌, ◌⊎◌, ℕ, zero, suc, ◌+◌, ◌-◌, ◌<◌, ◌≤◌, Bool, true, false, ltb, cond, List, [], ◌∷◌, length, All, inl, inr, refl, ap, sym, ◌∙◌, subst, arith}
+use Rattle.std.proofs.Common.{◌≡◌, ◌⊎◌, ℕ, zero, suc, ◌+◌, ◌-◌, ◌<◌, ◌≤◌, Bool, true, false, ltb, cond, List, [], ◌∷◌, length, All, inl, inr, refl, arith}
 use Rattle.std.proofs.lemmas.Bool.{ltb-true, ltb-false}
 use Rattle.std.proofs.lemmas.List.Elements.{All-nil, All-cons, All-head, All-tail, All-weaker}
-use Rattle.hm_base.specs.Image.{Segment, segment, segment_at, with_segment, flat, IsPlaced, IsApart, IsImage, Before, InFlash, InSram}
+use Rattle.hm_base.specs.Image.{Segment, segment, segment_at, with_segment, flat, IsPlaced, IsApart, IsImage, Before}
 
 -- the first segment of an image that has none else
 pub with_segment-flat : (bytes : List ℕ) → with_segment (segment 0 bytes) [] ≡ flat bytes

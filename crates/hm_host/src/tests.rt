@@ -62,7 +62,10 @@ fn asks_the_system(rt: HostRuntime) -> Result<(), Fail> {
     host.write(alloc, "/dev/null", b"lost")?;
     assert!(rt; host.read(alloc, "/dev/null")?.is_empty());
     assert_eq!(rt; host.read(alloc, "no/such/file"), Err(HostErr::Failed));
-    assert_eq!(rt; host.write(alloc, "no/such/file", b"lost"), Err(HostErr::Failed));
+    assert_eq!(rt;
+        host.write(alloc, "no/such/file", b"lost"),
+        Err(HostErr::Failed)
+    );
     host.print(alloc, b"")?;
     Ok(())
 }

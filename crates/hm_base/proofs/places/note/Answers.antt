@@ -1,4 +1,4 @@
-use Rattle.std.proofs.Common.{◌≡◌, ◌<◌, ◌≤◌, ◌⊎◌, true, length, lit<, arith, subst, sym, ◌∙◌}
+use Rattle.std.proofs.Common.{◌≡◌, ◌<◌, ◌≤◌, ◌⊎◌, true, length, lit<}
 use Rattle.std.specs.List.{insert}
 use Rattle.hm_base.specs.Place.{noted, has_place}
 use Rattle.hm_base.proofs.Order.{IsInOrder-noted, room_for}

@@ -1,4 +1,3 @@
-use Rattle.std.proofs.Common.{subst, sym, ◌∙◌}
 use Rattle.hm_base.proofs.Order.{IsPlace-at}
 use Rattle.hm_base.proofs.places.Places.at.Goals as goal
 

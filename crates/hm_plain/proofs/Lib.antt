@@ -1,0 +1,5 @@
+pub mod Orders
+pub mod Ends
+pub mod Plain
+pub mod Laws
+pub mod Ticks

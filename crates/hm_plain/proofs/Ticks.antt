@@ -1,0 +1,202 @@
+-- After each tick the machine agrees with the instructions in order.
+use Rattle.std.proofs.Common.{◌≡◌, ℕ, zero, suc, ◌==◌, ◌+◌, ◌-◌, ◌%◌, arith, ap, refl, sym, ◌∙◌, subst, inl, ⊎_elim, Bool, true, false, cond, List, [], ◌∷◌, drop, length, Option, Some, None, Ok, Err}
+use Rattle.hm_base.specs.Image.{Segment}
+use Rattle.hm_base.specs.declared.Stop.TheVariants as stop
+use Rattle.hm_base.specs.declared.Fault.{Fault}
+use Rattle.hm_codes.specs.Listing.{Listing}
+use Rattle.hm_mem.specs.declared.Dev.{Dev}
+use Rattle.hm_order.specs.Beats.{Live, then}
+use Rattle.hm_order.specs.Machine.{Config, Stopped, Broken, Restores, StopsInOrder, Clean, older, younger}
+use Rattle.hm_order.specs.Position.{Holds, Agrees, Explains}
+use Rattle.hm_order.proofs.Headline.{stops_at}
+use Rattle.hm_order.proofs.Steps.{cond_agrees, interrupt_holds, older_agrees, then_agrees, younger_agrees}
+use Rattle.hm_run.specs.declared.Cause.{Cause}
+use Rattle.hm_run.specs.declared.Cause.TheVariants as cause
+use Rattle.hm_run.specs.declared.Outcome.{Outcome}
+use Rattle.hm_run.specs.declared.Outcome.TheVariants as outcome
+use Rattle.hm_run.specs.declared.Rule.TheVariants as rule
+use Rattle.hm_run.specs.declared.Who.{Who}
+use Rattle.hm_run.specs.declared.Who.TheVariants.{Thread, Handler, Entry}
+use Rattle.hm_run.specs.Program.{Watched, In, Beside, Stepped, Stopping, Ticked, core, view, held, dead, open_devices, cause_of, is_tainted, again, letter_step, at_step, letter_steps}
+use Rattle.hm_run.specs.Rows as row
+use Rattle.hm_run.specs.Rows.{WholeStop}
+use Rattle.hm_run.specs.Timed.{Timed, begin, who_runs, outcome_of, pc_of, at_stop, expired, counted, arrived, with_devices, may_end, ended, tick_of, closed, or_out, next, timed}
+use Rattle.hm_sched.specs.Schedule.{TickLine, Sched, older_letter, younger_letter, ticks_of}
+use Rattle.hm_state.specs.Start.{start, start_under}
+use Rattle.hm_state.specs.State.{State}
+use Rattle.hm_plain.specs.Overlap.{Keeps, KeepsOrder}
+use Rattle.hm_plain.proofs.Laws.{laws, clean_of}
+use Rattle.hm_run.proofs.Steps.{no_row}
+
+-- THE DEVICES
+-- what ticks and interrupts change of the devices is nothing that the thread reads
+open_cond : (b : Bool) (x y d : Dev) → open_devices x ≡ open_devices d → open_devices y ≡ open_devices d → open_devices (cond b x y) ≡ open_devices d
+open_cond true x y d h k = h
+open_cond false x y d h k = k
+
+open_expired : (d : Dev) → open_devices (expired d) ≡ open_devices d
+open_expired d = open_cond (d.cvr == 0) _ d d refl refl
+
+open_counted : (d : Dev) → open_devices (counted d) ≡ open_devices d
+open_counted d = open_cond (d.csr % 2 == 1) _ d d (open_cond (d.cvr == 0) _ _ d refl (open_expired (record d { cvr = d.cvr - 1 }))) refl
+
+open_arrived : (irq : ℕ) (d : Dev) → open_devices (arrived irq (counted d)) ≡ open_devices d
+open_arrived irq d = open_counted d
+
+module _ (listing : Listing) (first : State) where
+  devices_restore : (irq : ℕ) (s : State) → Restores (core listing) s (with_devices (λ d. arrived irq (counted d)) s)
+  devices_restore irq s = (record { cells = cells; sticky = refl }, refl)
+    where
+      cells : (c : Watched) → dead c (held (with_devices (λ d. arrived irq (counted d)) s) c) ≡ false → held (with_devices (λ d. arrived irq (counted d)) s) c ≡ held s c
+      cells (In c) d = refl
+      cells Beside d = ap (λ (v : Dev). held (record s { rest = record s.rest { devices = v } }) Beside) (open_arrived irq s.rest.devices)
+
+  -- LETTERS
+  again_agrees : (k n : ℕ) (c : Config State) → Holds (core listing) first c → Agrees (core listing) first (again listing k n c)
+  again_agrees zero n c h = h
+  again_agrees (suc k) n c h =
+    cond_agrees (core listing) first (c.n == n) _ _
+      (then_agrees (core listing) first (older (core listing) c) (again listing k n) (older_agrees (core listing) (laws listing) first c h) (again_agrees k n)) h
+
+  letter_agrees : (l : ℕ) (c : Config State) → Holds (core listing) first c → Agrees (core listing) first (letter_step listing l c)
+  letter_agrees l c h =
+    let older_one = older_agrees (core listing) (laws listing) first c h in
+    cond_agrees (core listing) first (l == older_letter) _ _ older_one
+      (cond_agrees (core listing) first (l == younger_letter) _ _ (younger_agrees (core listing) (laws listing) first c h)
+        (then_agrees (core listing) first (older (core listing) c) (again listing 3 c.n) older_one (again_agrees 3 c.n)))
+
+  -- what the letters of a tick may come to
+  abbrev AgreesTick : Ticked → Type 0
+  AgreesTick (Ok c) = Holds (core listing) first c
+  AgreesTick (Err (Stopped c e)) = Holds (core listing) first c × Explains (core listing) first c.n e.cause
+  AgreesTick (Err (Broken c r)) = Unit {0}
+
+  at_step_agrees : (k : ℕ) (younger : Bool) (r : Stepped) → Agrees (core listing) first r → AgreesTick (at_step k younger r)
+  at_step_agrees k younger (Ok c) h = h
+  at_step_agrees k younger (Err (Stopped c e)) h = h
+  at_step_agrees k younger (Err (Broken c r)) h = tt
+
+  then_tick : (r : Ticked) (f : Config State → Ticked) → AgreesTick r → ((c : Config State) → Holds (core listing) first c → AgreesTick (f c)) → AgreesTick (then r f)
+  then_tick (Ok c) f h k = k c h
+  then_tick (Err (Stopped c e)) f h k = h
+  then_tick (Err (Broken c r)) f h k = h
+
+  letters_agree : (ls : List ℕ) (k : ℕ) (c : Config State) → Holds (core listing) first c → AgreesTick (letter_steps listing k ls c)
+  letters_agree [] k c h = h
+  letters_agree (l ∷ ls) k c h =
+    then_tick (at_step (k + 1) (l == younger_letter) (letter_step listing l c)) (letter_steps listing (k + 1) ls)
+      (at_step_agrees (k + 1) (l == younger_letter) (letter_step listing l c) (letter_agrees l c h)) (letters_agree ls (k + 1))
+
+  -- STOPS
+  -- no row has beats yet, so the machine is between two instructions
+  at_zero : (c : Config State) → Holds (core listing) first c → c.a ≡ 0
+  at_zero c h = ⊎_elim (λ p. p.a) (λ p. let no : None ≡ Some p.row = sym (no_row (listing h.order.pc)) ∙ p.here in absurd cc) h.place
+
+  -- the stop of the next instruction in order, where the cause is none of taint
+  abbrev NextStops : ℕ → Cause → Type 0
+  NextStops n (cause.Halt reason) = StopsInOrder (core listing) first n (row.Halt reason)
+  NextStops n cause.Full = StopsInOrder (core listing) first n row.Full
+  NextStops n (cause.Stop (stop.Fault f)) = StopsInOrder (core listing) first n (row.Faults f)
+  NextStops n (cause.Stop (stop.Tainted addr)) = Unit {0}
+  NextStops n (cause.Stop (stop.Denied addr)) = Unit {0}
+
+  next_stops_of : (n : ℕ) (w : WholeStop) → StopsInOrder (core listing) first n w → NextStops n (cause_of w)
+  next_stops_of n (row.Halt reason) h = h
+  next_stops_of n row.Full h = h
+  next_stops_of n (row.Faults f) h = h
+
+  tainted_stops : (n : ℕ) (e : Cause) → is_tainted e ≡ true → NextStops n e
+  tainted_stops n (cause.Halt reason) t = absurd cc
+  tainted_stops n cause.Full t = absurd cc
+  tainted_stops n (cause.Stop (stop.Fault f)) t = absurd cc
+  tainted_stops n (cause.Stop (stop.Tainted addr)) t = tt
+  tainted_stops n (cause.Stop (stop.Denied addr)) t = tt
+
+  next_stops : (n : ℕ) (e : Cause) → Explains (core listing) first n e → NextStops n e
+  next_stops n e h = ⊎_elim (tainted_stops n e) (λ q. subst (NextStops n) q.1 (next_stops_of n q.0 q.2)) h
+
+  fault_keeps : (who : Who) (f : Fault) (pc n : ℕ) (d : Config State) → StopsInOrder (core listing) first n (row.Faults f) → Keeps listing first (Some (outcome.Fault who f pc n)) d
+  fault_keeps Thread f pc n d h = h
+  fault_keeps Handler f pc n d h = tt
+  fault_keeps Entry f pc n d h = tt
+
+  stop_keeps : (t : ℕ) (x : Timed) (c : Config State) (e : Cause) (younger : Bool) → Holds (core listing) first c → NextStops c.n e
+      → let stopping : Stopping = record { cause = e; younger = younger } in
+        Keeps listing first (Some (outcome_of t x.acts c stopping)) (at_stop c stopping)
+  stop_keeps t x c (cause.Halt reason) younger h k =
+    record { before = c.n; number = refl; stops = k; state = stops_at (core listing) first c h (at_zero c h) }
+  stop_keeps t x c cause.Full younger h k = tt
+  stop_keeps t x c (cause.Stop (stop.Fault f)) younger h k =
+    let e : Stopping = record { cause = cause.Stop (stop.Fault f); younger = younger } in
+    fault_keeps (who_runs x.acts) f (pc_of c e) c.n (at_stop c e) k
+  stop_keeps t x c (cause.Stop (stop.Tainted addr)) younger h k = tt
+  stop_keeps t x c (cause.Stop (stop.Denied addr)) younger h k = tt
+
+  -- TICKS
+  judged : (b : Bool) (line : TickLine) (x : Timed) → Holds (core listing) first x.config → x.outcome ≡ None
+      → let y : Timed = cond b
+              (record x { config = record x.config { state = with_devices (λ d. arrived line.irq (counted d)) x.config.state } })
+              (record x { outcome = Some (outcome.RuleBroken x.ticks (length line.letters) (rule.Ending x.config.a x.config.b)) }) in
+        Keeps listing first y.outcome y.config
+  judged true line x h none =
+    subst (λ (o : Option Outcome). Keeps listing first o (record x.config { state = with_devices (λ d. arrived line.irq (counted d)) x.config.state })) (sym none)
+      (interrupt_holds (core listing) (laws listing) first x.config _ (devices_restore line.irq x.config.state) h)
+  judged false line x h none = tt
+
+  ended_keeps : (line : TickLine) (x : Timed) (r : Ticked) → AgreesTick r → Keeps listing first (ended line x r).outcome (ended line x r).config
+  ended_keeps line x (Ok c) h =
+    let y : Timed = record { outcome = None; config = c; acts = x.acts; ticks = x.ticks + 1 } in
+    judged (may_end c.a c.b) line y h refl
+  ended_keeps line x (Err (Stopped c e)) h = stop_keeps (x.ticks + 1) x c e.cause e.younger h.0 (next_stops c.n e.cause h.1)
+  ended_keeps line x (Err (Broken c r)) h = tt
+
+  tick_keeps : (line : TickLine) (x : Timed) (o : Option Outcome) → x.outcome ≡ o → Keeps listing first x.outcome x.config
+      → Keeps listing first (tick_of listing line x o).outcome (tick_of listing line x o).config
+  tick_keeps line x (Some o) e h = h
+  tick_keeps line x None e h =
+    ended_keeps line x (letter_steps listing 0 line.letters x.config)
+      (letters_agree line.letters 0 x.config (subst (λ (o : Option Outcome). Keeps listing first o x.config) e h))
+
+  out_keeps : (o : Option Outcome) (c : Config State) → Keeps listing first o c → Keeps listing first (or_out o) c
+  out_keeps (Some o) c h = h
+  out_keeps None c h = h
+
+  closed_keeps : (left : List TickLine) (x : Timed) → Keeps listing first x.outcome x.config → Keeps listing first (closed left x).outcome (closed left x).config
+  closed_keeps [] x h = out_keeps x.outcome x.config h
+  closed_keeps (line ∷ left) x h = h
+
+  next_keeps : (left : List TickLine) (x : Timed) → Keeps listing first x.outcome x.config → Keeps listing first (next listing left x).outcome (next listing left x).config
+  next_keeps [] x h = h
+  next_keeps (line ∷ left) x h = closed_keeps left (tick_of listing line x x.outcome) (tick_keeps line x x.outcome refl h)
+
+-- THE START
+-- under whatever region and floor the machine starts, the instructions in order start alike
+first_clean : (listing : Listing) (image : List Segment) → Clean (core listing) (start image)
+unfolding start_under
+first_clean listing image = clean_of listing (start image) (λ a. refl)
+
+first_alike : (image : List Segment) (lo hi floor : ℕ) → Live view (start_under lo hi floor image) (start image)
+unfolding start_under
+first_alike image lo hi floor = record { cells = cells; sticky = refl }
+  where
+    cells : (c : Watched) → dead c (held (start_under lo hi floor image) c) ≡ false → held (start_under lo hi floor image) c ≡ held (start image) c
+    cells (In c) d = refl
+    cells Beside d = refl
+
+first_pc : (image : List Segment) (lo hi floor : ℕ) → (start_under lo hi floor image).pc ≡ (start image).pc
+unfolding start_under
+first_pc image lo hi floor = refl
+
+begun : (listing : Listing) (image : List Segment) (s : Sched) → Holds (core listing) (start image) (begin image s).config
+begun listing image s = record {
+  order = start image;
+  runs = refl;
+  clean = first_clean listing image;
+  pc = first_pc image s.lo s.hi s.floor;
+  count = omega arith;
+  place = inl (record { a = refl; b = refl; live = first_alike image s.lo s.hi s.floor });
+}
+
+pub keeps_order : (listing : Listing) (image : List Segment) (s : Sched) (t : ℕ) → KeepsOrder listing image (timed listing image s t)
+keeps_order listing image s zero = closed_keeps listing (start image) (ticks_of s.lines) (begin image s) (begun listing image s)
+keeps_order listing image s (suc t) = next_keeps listing (start image) (drop t (ticks_of s.lines)) (timed listing image s t) (keeps_order listing image s t)
