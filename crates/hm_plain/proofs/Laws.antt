@@ -58,30 +58,38 @@ abbrev Both : State → State → Type 0
 Both s t = Agree s t × (s.pc ≡ t.pc)
 
 put_both : (p : Place) (x : ℕ) (s t : State) → Both s t → Both (put_at p x s) (put_at p x t)
-put_both p x s t (h, e) = (record {
-  places = λ q. ap (cond (same_place p q) (word (fit p x))) (h.places q);
-  bytes = h.bytes;
-  sticky = h.sticky;
-  rest = h.rest;
-}, e)
+put_both p x s t (h, e) = (
+  record {
+    places = λ q. ap (cond (same_place p q) (word (fit p x))) (h.places q);
+    bytes = h.bytes;
+    sticky = h.sticky;
+    rest = h.rest;
+  },
+  e,
+)
 
 nz_both : (x : ℕ) (s t : State) → Both s t → Both (with_nz x s) (with_nz x t)
-nz_both x s t (h, e) = (record {
-  places = h.places;
-  bytes = h.bytes;
-  sticky = h.sticky;
-  rest = ap (λ (r : Rest). open_rest (record r { n = (with_nz x s).rest.n; z = (with_nz x s).rest.z })) h.rest;
-}, e)
-
-flags_both : (x y : ℕ) (s t : State) → Both s t → Both (with_sum_flags x y s) (with_sum_flags x y t)
-flags_both x y s t (h, e) =
-  let f = (with_sum_flags x y s).rest in
-  (record {
+nz_both x s t (h, e) = (
+  record {
     places = h.places;
     bytes = h.bytes;
     sticky = h.sticky;
-    rest = ap (λ (r : Rest). open_rest (record r { n = f.n; z = f.z; c = f.c; v = f.v })) h.rest;
-  }, e)
+    rest = ap (λ (r : Rest). open_rest (record r { n = (with_nz x s).rest.n; z = (with_nz x s).rest.z })) h.rest;
+  },
+  e,
+)
+
+flags_both : (x y : ℕ) (s t : State) → Both s t → Both (with_sum_flags x y s) (with_sum_flags x y t)
+flags_both x y s t (h, e) =
+    let f = (with_sum_flags x y s).rest in (
+      record {
+        places = h.places;
+        bytes = h.bytes;
+        sticky = h.sticky;
+        rest = ap (λ (r : Rest). open_rest (record r { n = f.n; z = f.z; c = f.c; v = f.v })) h.rest;
+      },
+      e,
+    )
 
 go_both : (bytes : ℕ) (s t : State) → Both s t → Both (go_on bytes s) (go_on bytes t)
 go_both bytes s t (h, e) = (record { places = h.places; bytes = h.bytes; sticky = h.sticky; rest = h.rest }, ap (λ (pc : ℕ). (pc + bytes) % 2 ^ 32) e)
@@ -91,8 +99,8 @@ movs_both i s t h = go_both 2 _ _ (nz_both i.i.value _ _ (put_both (R i.d.value)
 
 adds_both : (i : S3) (s t : State) → Both s t → Both (adds i s) (adds i t)
 adds_both i s t (h, e) =
-  let x : at (R i.n.value) s ≡ at (R i.n.value) t = ap (λ (v : Value). v.n) (h.places (R i.n.value)) in
-  subst (λ (y : ℕ). Both (adds i s) (go_on 2 (with_sum_flags y i.i.value (put_at (R i.d.value) ((y + i.i.value) % 2 ^ 32) t)))) x
+    let x : at (R i.n.value) s ≡ at (R i.n.value) t = ap (λ (v : Value). v.n) (h.places (R i.n.value)) in
+    subst (λ (y : ℕ). Both (adds i s) (go_on 2 (with_sum_flags y i.i.value (put_at (R i.d.value) ((y + i.i.value) % 2 ^ 32) t)))) x
     (go_both 2 _ _ (flags_both (at (R i.n.value) s) i.i.value _ _ (put_both (R i.d.value) ((at (R i.n.value) s + i.i.value) % 2 ^ 32) s t (h, e))))
 
 -- WHAT ONE INSTRUCTION DOES IN THEM
@@ -112,7 +120,7 @@ alike (Err f) s t h = refl
 
 other_live : (listing : Listing) (s t : State) → Live view s t → s.pc ≡ t.pc → StopsBy is_tainted (in_machine (alone listing s)) ⊎ AlikeBoth (in_machine (alone listing s)) (alone listing t)
 other_live listing s t h e =
-  inr (subst (λ (pc : ℕ). AlikeBoth (in_machine (alone listing s)) (whole_here (listing pc) t)) e (alike (listing s.pc) s t (agree s t h, e)))
+    inr (subst (λ (pc : ℕ). AlikeBoth (in_machine (alone listing s)) (whole_here (listing pc) t)) e (alike (listing s.pc) s t (agree s t h, e)))
 
 -- NO CELL BECOMES DEAD
 abbrev CleanBytes : State → Type 0

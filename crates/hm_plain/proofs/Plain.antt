@@ -79,7 +79,7 @@ closed_going line (suc k) t s u = ap (λ (j : ℕ). record { outcome = None; con
 -- one plain tick, by what the instruction comes to
 abbrev after_tick : Listing → ℕ → ℕ → ℕ → State → Result State WholeStop → Timed
 after_tick listing n left t s r =
-  closed (repeat left (plain_line n) []) (ended (plain_line n) (going None t s)
+    closed (repeat left (plain_line n) []) (ended (plain_line n) (going None t s)
     (then (at_step 1 false (done (core listing) (going None t s).config (in_machine r) (past (going None t s).config))) (letter_steps listing 1 [])))
 
 plain_step : (listing : Listing) (n left t : ℕ) (s : State) (r : Result State WholeStop) → s.rest.devices ≡ first_devices → LeavesDevices s r
@@ -103,16 +103,16 @@ tells_going listing n left t s off =
     let rest = repeat left (plain_line n) [] in
     let c = (going None t s).config in
     let step : next_tick listing (plain_line n ∷ rest) (going None t s) ≡ after_tick listing n left t s (alone listing s)
-        = ticked listing (plain_line n) rest (going None t s) _ refl (plain_letters listing n c) in
+    = ticked listing (plain_line n) rest (going None t s) _ refl (plain_letters listing n c) in
     subst (λ (z : Timed). Tells left (suc t) z (one_more listing t (Running s))) (sym step)
-      (subst (λ (r : Result State WholeStop). Tells left (suc t) (after_tick listing n left t s (alone listing s)) (after t s r)) (sym (next_is listing s))
-        (plain_step listing n left t s (alone listing s) off (leaves_devices (listing s.pc) s)))
+    (subst (λ (r : Result State WholeStop). Tells left (suc t) (after_tick listing n left t s (alone listing s)) (after t s r)) (sym (next_is listing s))
+    (plain_step listing n left t s (alone listing s) off (leaves_devices (listing s.pc) s)))
 
 tells_step : (listing : Listing) (n left t : ℕ) (x : Timed) (y : InOrder) → Tells (suc left) t x y
     → Tells left (suc t) (next_tick listing (plain_line n ∷ repeat left (plain_line n) []) x) (one_more listing t y)
 tells_step listing n left t x (Running s) h =
     subst (λ (z : Timed). Tells left (suc t) (next_tick listing (plain_line n ∷ repeat left (plain_line n) []) z) (one_more listing t (Running s))) (sym h.is)
-      (tells_going listing n left t s h.off)
+    (tells_going listing n left t s h.off)
 tells_step listing n left t x (Halted reason k s) h =
     subst (λ (z : Timed). Ended z (outcome.Halted reason k) s) (sym (next_ended listing (plain_line n ∷ repeat left (plain_line n) []) x _ h.outcome)) h
 tells_step listing n left t x (Full k s) h =
@@ -161,7 +161,7 @@ tells listing image n zero left e =
 tells listing image n (suc t) left e =
     let more : t + suc left ≡ n = omega arith in
     subst (λ (l : List TickLine). Tells left (suc t) (next_tick listing l (timed listing image (plain n) t)) (one_more listing t (in_order listing image t))) (sym (left_at t left n more))
-      (tells_step listing n left t (timed listing image (plain n) t) (in_order listing image t) (tells listing image n t (suc left) more))
+    (tells_step listing n left t (timed listing image (plain n) t) (in_order listing image t) (tells listing image n t (suc left) more))
 
 tells_all : (listing : Listing) (image : List Segment) (n : ℕ) → Tells 0 n (timed_out listing image (plain n)) (in_order listing image n)
 tells_all listing image n =

@@ -55,15 +55,15 @@ module _ (listing : Listing) (first : State) where
   again_agrees : (k n : ℕ) (c : Config State) → Holds (core listing) first c → Agrees (core listing) first (again listing k n c)
   again_agrees zero n c h = h
   again_agrees (suc k) n c h =
-    cond_agrees (core listing) first (c.n == n) _ _
+      cond_agrees (core listing) first (c.n == n) _ _
       (then_agrees (core listing) first (older (core listing) c) (again listing k n) (older_agrees (core listing) (laws listing) first c h) (again_agrees k n)) h
 
   letter_agrees : (l : ℕ) (c : Config State) → Holds (core listing) first c → Agrees (core listing) first (letter_step listing l c)
   letter_agrees l c h =
-    let older_one = older_agrees (core listing) (laws listing) first c h in
-    cond_agrees (core listing) first (l == older_letter) _ _ older_one
+      let older_one = older_agrees (core listing) (laws listing) first c h in
+      cond_agrees (core listing) first (l == older_letter) _ _ older_one
       (cond_agrees (core listing) first (l == younger_letter) _ _ (younger_agrees (core listing) (laws listing) first c h)
-        (then_agrees (core listing) first (older (core listing) c) (again listing 3 c.n) older_one (again_agrees 3 c.n)))
+      (then_agrees (core listing) first (older (core listing) c) (again listing 3 c.n) older_one (again_agrees 3 c.n)))
 
   -- what the letters of a tick may come to
   abbrev AgreesTick : Ticked → Type 0
@@ -84,7 +84,7 @@ module _ (listing : Listing) (first : State) where
   letters_agree : (ls : List ℕ) (k : ℕ) (c : Config State) → Holds (core listing) first c → AgreesTick (letter_steps listing k ls c)
   letters_agree [] k c h = h
   letters_agree (l ∷ ls) k c h =
-    then_tick (at_step (k + 1) (l == younger_letter) (letter_step listing l c)) (letter_steps listing (k + 1) ls)
+      then_tick (at_step (k + 1) (l == younger_letter) (letter_step listing l c)) (letter_steps listing (k + 1) ls)
       (at_step_agrees (k + 1) (l == younger_letter) (letter_step listing l c) (letter_agrees l c h)) (letters_agree ls (k + 1))
 
   -- STOPS
@@ -122,31 +122,31 @@ module _ (listing : Listing) (first : State) where
 
   stop_keeps : (t : ℕ) (x : Timed) (c : Config State) (e : Cause) (younger : Bool) → Holds (core listing) first c → NextStops c.n e
       → let stopping : Stopping = record { cause = e; younger = younger } in
-        Keeps listing first (Some (outcome_of t x.acts c stopping)) (at_stop c stopping)
+      Keeps listing first (Some (outcome_of t x.acts c stopping)) (at_stop c stopping)
   stop_keeps t x c (cause.Halt reason) younger h k =
-    record { before = c.n; number = refl; stops = k; state = stops_at (core listing) first c h (at_zero c h) }
+      record { before = c.n; number = refl; stops = k; state = stops_at (core listing) first c h (at_zero c h) }
   stop_keeps t x c cause.Full younger h k = tt
   stop_keeps t x c (cause.Stop (stop.Fault f)) younger h k =
-    let e : Stopping = record { cause = cause.Stop (stop.Fault f); younger = younger } in
-    fault_keeps (who_runs x.acts) f (pc_of c e) c.n (at_stop c e) k
+      let e : Stopping = record { cause = cause.Stop (stop.Fault f); younger = younger } in
+      fault_keeps (who_runs x.acts) f (pc_of c e) c.n (at_stop c e) k
   stop_keeps t x c (cause.Stop (stop.Tainted addr)) younger h k = tt
   stop_keeps t x c (cause.Stop (stop.Denied addr)) younger h k = tt
 
   -- TICKS
   judged : (b : Bool) (line : TickLine) (x : Timed) → Holds (core listing) first x.config → x.outcome ≡ None
       → let y : Timed = cond b
-              (record x { config = record x.config { state = with_devices (λ d. arrived line.irq (counted d)) x.config.state } })
-              (record x { outcome = Some (outcome.RuleBroken x.ticks (length line.letters) (rule.Ending x.config.a x.config.b)) }) in
-        Keeps listing first y.outcome y.config
+      (record x { config = record x.config { state = with_devices (λ d. arrived line.irq (counted d)) x.config.state } })
+      (record x { outcome = Some (outcome.RuleBroken x.ticks (length line.letters) (rule.Ending x.config.a x.config.b)) }) in
+      Keeps listing first y.outcome y.config
   judged true line x h none =
-    subst (λ (o : Option Outcome). Keeps listing first o (record x.config { state = with_devices (λ d. arrived line.irq (counted d)) x.config.state })) (sym none)
+      subst (λ (o : Option Outcome). Keeps listing first o (record x.config { state = with_devices (λ d. arrived line.irq (counted d)) x.config.state })) (sym none)
       (interrupt_holds (core listing) (laws listing) first x.config _ (devices_restore line.irq x.config.state) h)
   judged false line x h none = tt
 
   ended_keeps : (line : TickLine) (x : Timed) (r : Ticked) → AgreesTick r → Keeps listing first (ended line x r).outcome (ended line x r).config
   ended_keeps line x (Ok c) h =
-    let y : Timed = record { outcome = None; config = c; acts = x.acts; ticks = x.ticks + 1 } in
-    judged (may_end c.a c.b) line y h refl
+      let y : Timed = record { outcome = None; config = c; acts = x.acts; ticks = x.ticks + 1 } in
+      judged (may_end c.a c.b) line y h refl
   ended_keeps line x (Err (Stopped c e)) h = stop_keeps (x.ticks + 1) x c e.cause e.younger h.0 (next_stops c.n e.cause h.1)
   ended_keeps line x (Err (Broken c r)) h = tt
 
@@ -154,7 +154,7 @@ module _ (listing : Listing) (first : State) where
       → Keeps listing first (tick_of listing line x o).outcome (tick_of listing line x o).config
   tick_keeps line x (Some o) e h = h
   tick_keeps line x None e h =
-    ended_keeps line x (letter_steps listing 0 line.letters x.config)
+      ended_keeps line x (letter_steps listing 0 line.letters x.config)
       (letters_agree line.letters 0 x.config (subst (λ (o : Option Outcome). Keeps listing first o x.config) e h))
 
   out_keeps : (o : Option Outcome) (c : Config State) → Keeps listing first o c → Keeps listing first (or_out o) c

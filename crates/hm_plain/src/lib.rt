@@ -25,34 +25,26 @@ pub fn plain_in_order()
 /// Where a plain run halts, what is printed after it and its memory file are those of the instructions in order, which
 /// halt there.
 pub fn headline()
-    ensures plain {
-        (listing : Listing) (image : List Segment) (n : ℕ) (report file : List ℕ)
+    ensures plain { (listing : Listing) (image : List Segment) (n : ℕ) (report file : List ℕ)
         → report ≡ report_text (timed_out listing image (plain n)) → file ≡ memory_text (timed_out listing image (plain n))
-        → Headline listing image (timed_out listing image (plain n)) report file
-    }
+        → Headline listing image (timed_out listing image (plain n)) report file }
 {}
 
 /// A run ends with its last tick at the latest, and an ended run stays as it is, however many ticks it is given.
 pub fn runs_end()
     ensures ends { (listing : Listing) (image : List Segment) (s : Sched) → HasEnded (timed_out listing image s).outcome }
-    ensures stays {
-        (listing : Listing) (image : List Segment) (s : Sched) (o : Outcome) (t u : ℕ) → t ≤ u → (timed listing image s t).outcome ≡ Some o
-        → timed listing image s u ≡ timed listing image s t
-    }
-    ensures past {
-        (listing : Listing) (image : List Segment) (s : Sched) (t : ℕ) → length (ticks_of s.lines) ≤ t
-        → timed listing image s t ≡ timed_out listing image s
-    }
+    ensures stays { (listing : Listing) (image : List Segment) (s : Sched) (o : Outcome) (t u : ℕ) → t ≤ u → (timed listing image s t).outcome ≡ Some o
+        → timed listing image s u ≡ timed listing image s t }
+    ensures past { (listing : Listing) (image : List Segment) (s : Sched) (t : ℕ) → length (ticks_of s.lines) ≤ t
+        → timed listing image s t ≡ timed_out listing image s }
 {}
 
 /// Instructions in order that have stopped did so at the instruction whose number they tell, and more of them come to
 /// the same.
 pub fn orders_end()
     ensures stays { (listing : Listing) (image : List Segment) (n : ℕ) → StaysStopped listing image (in_order listing image n) }
-    ensures later {
-        (listing : Listing) (image : List Segment) (n m : ℕ) → n ≤ m → HasStopped (in_order listing image n)
-        → in_order listing image m ≡ in_order listing image n
-    }
+    ensures later { (listing : Listing) (image : List Segment) (n m : ℕ) → n ≤ m → HasStopped (in_order listing image n)
+        → in_order listing image m ≡ in_order listing image n }
 {}
 
 /// The machine of a program is one of those that may overlap beats: its rows and its other instructions keep the laws.

@@ -4,8 +4,6 @@
 mod outcome_text;
 mod registers_text;
 
-pub use outcome_text::outcome_line;
-
 ghost use Rattle.std.specs.Prelude.{◌≡◌, ◌+◌, length, codes, IfOk};
 ghost use Rattle.hm_run.specs.Report.{mode_line, output_lines, report_of};
 
@@ -13,6 +11,7 @@ use hm_base::OutOfMemory;
 use hm_regs::Regs;
 use hm_run::{Outcome, Window};
 use hm_text_base::{decimal, hex_bytes, text};
+pub use outcome_text::outcome_line;
 use registers_text::register_lines;
 use std::alloc::Global;
 

@@ -151,7 +151,13 @@ fn rule_text(alloc: Global, out: &mut Vec<u8>, rule: Rule) -> Result<(), OutOfMe
     }
 }
 
-fn differing_text(alloc: Global, out: &mut Vec<u8>, name: Slot, entry: u32, now: u32) -> Result<(), OutOfMemory>
+fn differing_text(
+    alloc: Global,
+    out: &mut Vec<u8>,
+    name: Slot,
+    entry: u32,
+    now: u32,
+) -> Result<(), OutOfMemory>
     ensures { IfOk result (λ _. out.new.items ≡ broken_text (Broken.Register name entry now) out.old.items) }
 {
     text(out, b"register ")?;
@@ -191,7 +197,14 @@ fn halted_text(alloc: Global, out: &mut Vec<u8>, reason: Reason, n: u64) -> Resu
     decimal(alloc, out, n)
 }
 
-fn fault_text(alloc: Global, out: &mut Vec<u8>, who: Who, fault: Fault, pc: u32, n: u64) -> Result<(), OutOfMemory>
+fn fault_text(
+    alloc: Global,
+    out: &mut Vec<u8>,
+    who: Who,
+    fault: Fault,
+    pc: u32,
+    n: u64,
+) -> Result<(), OutOfMemory>
     ensures { IfOk result (λ _. out.new.items ≡ ended_text (Outcome.Fault who fault pc n) out.old.items) }
 {
     text(out, b"fault ")?;
@@ -203,7 +216,13 @@ fn fault_text(alloc: Global, out: &mut Vec<u8>, who: Who, fault: Fault, pc: u32,
     decimal(alloc, out, n)
 }
 
-fn broken_rule_text(alloc: Global, out: &mut Vec<u8>, tick: u32, step: u32, rule: Rule) -> Result<(), OutOfMemory>
+fn broken_rule_text(
+    alloc: Global,
+    out: &mut Vec<u8>,
+    tick: u32,
+    step: u32,
+    rule: Rule,
+) -> Result<(), OutOfMemory>
     ensures { IfOk result (λ _. out.new.items ≡ ended_text (Outcome.RuleBroken tick step rule) out.old.items) }
 {
     text(out, b"rule tick ")?;
@@ -214,7 +233,12 @@ fn broken_rule_text(alloc: Global, out: &mut Vec<u8>, tick: u32, step: u32, rule
     rule_text(alloc, out, rule)
 }
 
-fn handler_text(alloc: Global, out: &mut Vec<u8>, tick: u32, what: Offence) -> Result<(), OutOfMemory>
+fn handler_text(
+    alloc: Global,
+    out: &mut Vec<u8>,
+    tick: u32,
+    what: Offence,
+) -> Result<(), OutOfMemory>
     ensures { IfOk result (λ _. out.new.items ≡ ended_text (Outcome.HandlerBroken tick what) out.old.items) }
 {
     text(out, b"handler tick ")?;
@@ -223,7 +247,13 @@ fn handler_text(alloc: Global, out: &mut Vec<u8>, tick: u32, what: Offence) -> R
     offence_text(alloc, out, what)
 }
 
-fn tainted_text(alloc: Global, out: &mut Vec<u8>, tick: u32, pc: u32, addr: u32) -> Result<(), OutOfMemory>
+fn tainted_text(
+    alloc: Global,
+    out: &mut Vec<u8>,
+    tick: u32,
+    pc: u32,
+    addr: u32,
+) -> Result<(), OutOfMemory>
     ensures { IfOk result (λ _. out.new.items ≡ ended_text (Outcome.TaintedRead tick pc addr) out.old.items) }
 {
     text(out, b"tainted tick ")?;
@@ -263,7 +293,11 @@ fn ended_text(alloc: Global, out: &mut Vec<u8>, outcome: Outcome) -> Result<(), 
     }
 }
 
-fn outcome_text(alloc: Global, out: &mut Vec<u8>, outcome: Option<Outcome>) -> Result<(), OutOfMemory>
+fn outcome_text(
+    alloc: Global,
+    out: &mut Vec<u8>,
+    outcome: Option<Outcome>,
+) -> Result<(), OutOfMemory>
     ensures { IfOk result (λ _. out.new.items ≡ outcome_text outcome out.old.items) }
 {
     match outcome {

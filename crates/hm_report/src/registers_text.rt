@@ -108,7 +108,12 @@ fn vector_line(alloc: Global, out: &mut Vec<u8>, k: usize, words: &[u32]) -> Res
     text(out, b"\n")
 }
 
-fn vector_lines(alloc: Global, out: &mut Vec<u8>, words: &[u32], count: usize) -> Result<(), OutOfMemory>
+fn vector_lines(
+    alloc: Global,
+    out: &mut Vec<u8>,
+    words: &[u32],
+    count: usize,
+) -> Result<(), OutOfMemory>
     requires { 4 * count ≤ length words.now }
     ensures { IfOk result (λ _. out.new.items ≡ vector_lines count words.now out.old.items) }
 {
@@ -120,7 +125,12 @@ fn vector_lines(alloc: Global, out: &mut Vec<u8>, words: &[u32], count: usize) -
 
 /// The lines of the registers, at a position.
 #[tactic(auto, unfolding(hm_run::specs::Report::register_lines))]
-pub fn register_lines(alloc: Global, out: &mut Vec<u8>, regs: &Regs, position: Window) -> Result<(), OutOfMemory>
+pub fn register_lines(
+    alloc: Global,
+    out: &mut Vec<u8>,
+    regs: &Regs,
+    position: Window,
+) -> Result<(), OutOfMemory>
     ensures { IfOk result (λ _. out.new.items ≡ register_lines regs.now position.a position.b out.old.items) }
 {
     low_lines(alloc, out, &regs.r, 13)?;

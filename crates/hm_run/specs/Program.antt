@@ -133,8 +133,8 @@ again listing (suc k) n c = cond (c.n == n) (then (older (core listing) c) (agai
 
 abbrev pub letter_step : Listing → ℕ → Config State → Stepped
 letter_step listing l c =
-  cond (l == older_letter) (older (core listing) c)
-  (cond (l == younger_letter) (younger (core listing) c) (then (older (core listing) c) (again listing 3 c.n)))
+    cond (l == older_letter) (older (core listing) c)
+    (cond (l == younger_letter) (younger (core listing) c) (then (older (core listing) c) (again listing 3 c.n)))
 
 -- an instruction that stops, and whether it is the younger of two
 pub record Stopping : Type 0 where

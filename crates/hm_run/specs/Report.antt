@@ -94,7 +94,7 @@ offence_text (offence.Call pc) out = out ++ codes "call " ++ hex8 pc
 abbrev pub ended_text : Outcome → List ℕ → List ℕ
 ended_text (outcome.Halted reason n) out = reason_text reason (out ++ codes "halted ") ++ codes " after " ++ decimal n
 ended_text (outcome.Fault who f pc n) out =
-  address_text pc f.addr (out ++ codes "fault " ++ who_text who ++ codes " " ++ kind_text f.kind) ++ codes " after " ++ decimal n
+    address_text pc f.addr (out ++ codes "fault " ++ who_text who ++ codes " " ++ kind_text f.kind) ++ codes " after " ++ decimal n
 ended_text (outcome.RuleBroken t step r) out = rule_text r (out ++ codes "rule tick " ++ decimal t ++ codes " step " ++ decimal step ++ codes " ")
 ended_text (outcome.HandlerBroken t what) out = offence_text what (out ++ codes "handler tick " ++ decimal t ++ codes " ")
 ended_text (outcome.TaintedRead t pc addr) out = address_text pc addr (out ++ codes "tainted tick " ++ decimal t)
@@ -136,14 +136,14 @@ bit_line name b out = out ++ name ++ codes " " ++ bit b ++ codes "\n"
 
 abbrev pub special_lines : Regs → List ℕ → List ℕ
 special_lines g out =
-  bit_line (codes "primask") g.primask (bit_line (codes "fpca") g.fpca
-  (word_line (codes "vpr") g.vpr (word_line (codes "fpscr") g.fpscr (out ++ codes "it " ++ hex2 g.it ++ codes "\n"))))
+    bit_line (codes "primask") g.primask (bit_line (codes "fpca") g.fpca
+    (word_line (codes "vpr") g.vpr (word_line (codes "fpscr") g.fpscr (out ++ codes "it " ++ hex2 g.it ++ codes "\n"))))
 
 -- vector register k
 abbrev pub vector_words : ℕ → List ℕ → List ℕ → List ℕ
 vector_words k qw out =
-  out ++ hex8 (slice_index qw (4 * k)) ++ codes " " ++ hex8 (slice_index qw (4 * k + 1)) ++ codes " "
-  ++ hex8 (slice_index qw (4 * k + 2)) ++ codes " " ++ hex8 (slice_index qw (4 * k + 3))
+    out ++ hex8 (slice_index qw (4 * k)) ++ codes " " ++ hex8 (slice_index qw (4 * k + 1)) ++ codes " "
+    ++ hex8 (slice_index qw (4 * k + 2)) ++ codes " " ++ hex8 (slice_index qw (4 * k + 3))
 
 abbrev pub vector_line : ℕ → List ℕ → List ℕ → List ℕ
 vector_line k qw out = vector_words k qw (out ++ codes "q" ++ decimal k ++ codes " ") ++ codes "\n"
@@ -165,8 +165,8 @@ report_of o depth g a b output = output_lines output (register_lines g a b (mode
 
 abbrev pub report_text : Timed → List ℕ
 report_text x =
-  let s = x.config.state in
-  report_of x.outcome (length x.acts) (regs_of s) x.config.a x.config.b s.rest.output
+    let s = x.config.state in
+    report_of x.outcome (length x.acts) (regs_of s) x.config.a x.config.b s.rest.output
 
 -- SRAM and then its taint
 abbrev pub memory_text : Timed → List ℕ

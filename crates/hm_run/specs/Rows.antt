@@ -28,13 +28,15 @@ with_nz x s = record s { rest = record s.rest { n = negative x; z = nat_eq x 0 }
 -- N, Z, C and V of a sum
 abbrev pub with_sum_flags : ℕ → ℕ → State → State
 with_sum_flags x y s =
-  let sum = (x + y) % 2 ^ 32 in
-  record s { rest = record s.rest {
-    n = negative sum;
-    z = nat_eq sum 0;
-    c = nat_le (2 ^ 32) (x + y);
-    v = beq (negative x) (negative y) && not (beq (negative x) (negative sum));
-  } }
+    let sum = (x + y) % 2 ^ 32 in
+    record s {
+      rest = record s.rest {
+        n = negative sum;
+        z = nat_eq sum 0;
+        c = nat_le (2 ^ 32) (x + y);
+        v = beq (negative x) (negative y) && not (beq (negative x) (negative sum));
+      };
+    }
 
 -- the program counter has gone on by so many bytes
 abbrev pub go_on : ℕ → State → State

@@ -102,9 +102,9 @@ may_end a b = (b == 0 && nat_lt a 4) || (a == 3 && b == 1)
 -- become pending. (Where a schedule has entries an exception enters then; no schedule has them yet.)
 abbrev pub tick_end : TickLine → Timed → Timed
 tick_end line x =
-  if may_end x.config.a x.config.b
-  then record x { config = record x.config { state = with_devices (λ d. arrived line.irq (counted d)) x.config.state } }
-  else record x { outcome = Some (outcome.RuleBroken x.ticks (length line.letters) (rule.Ending x.config.a x.config.b)) }
+    if may_end x.config.a x.config.b
+    then record x { config = record x.config { state = with_devices (λ d. arrived line.irq (counted d)) x.config.state } }
+    else record x { outcome = Some (outcome.RuleBroken x.ticks (length line.letters) (rule.Ending x.config.a x.config.b)) }
 
 -- a tick, by what its letters came to
 abbrev pub ended : TickLine → Timed → Ticked → Timed

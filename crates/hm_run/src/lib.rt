@@ -76,13 +76,37 @@ pub enum Who {
 /// How a run ends. n is how many instructions of the thread were retired; ticks and steps are numbered from 1.
 #[derive(Clone, Copy, Debug, PartialEq, Eq)]
 pub enum Outcome {
-    Halted { reason: Reason, n: u64 },
-    Fault { who: Who, fault: Fault, pc: u32, n: u64 },
-    RuleBroken { tick: u32, step: u32, rule: Rule },
-    HandlerBroken { tick: u32, what: Offence },
-    TaintedRead { tick: u32, pc: u32, addr: u32 },
-    StackSpent { tick: u32, sp: u32 },
-    OutputFull { tick: u32 },
+    Halted {
+        reason: Reason,
+        n: u64,
+    },
+    Fault {
+        who: Who,
+        fault: Fault,
+        pc: u32,
+        n: u64,
+    },
+    RuleBroken {
+        tick: u32,
+        step: u32,
+        rule: Rule,
+    },
+    HandlerBroken {
+        tick: u32,
+        what: Offence,
+    },
+    TaintedRead {
+        tick: u32,
+        pc: u32,
+        addr: u32,
+    },
+    StackSpent {
+        tick: u32,
+        sp: u32,
+    },
+    OutputFull {
+        tick: u32,
+    },
     OutOfTicks,
 }
 
