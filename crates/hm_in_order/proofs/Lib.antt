@@ -1,0 +1,4 @@
+pub mod Wholes
+pub mod Reports
+pub mod Starts
+pub mod Orders
