@@ -1,0 +1,8 @@
+pub mod Numbers
+pub mod Decimals
+pub mod Readings
+pub mod Carrying
+pub mod Listed
+pub mod Ending
+pub mod Headlines
+pub mod Runs

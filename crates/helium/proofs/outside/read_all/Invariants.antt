@@ -1,0 +1,17 @@
+use Rattle.std.proofs.Common.{◌≡◌, Some, map, drop, vec_len}
+use Rattle.hm_host.specs.Host.{FileMap, Stays}
+use Rattle.helium.specs.Effect.{reading_of, after_contents}
+use Rattle.helium.proofs.outside.read_all.Given as goal
+
+-- the contents so far, and then what the other names give, is what all give; and the host is as it was
+abbrev pub invariant-loop-name : goal.invariant-loop-name
+invariant-loop-name g l =
+    let state = g.H.Host.state in
+    record {
+      each : vec_len l.contents ≡ l.name-index;
+      told : (F : FileMap) → (state l.initial.host).files ≡ Some F
+          → reading_of F (map (λ name. name.now) l.names) ≡ after_contents (map (λ bytes. bytes.items) l.contents.items) (reading_of F (map (λ name. name.now) (drop l.name-index l.names)));
+      files : Stays (state l.initial.host).files (state l.host).files;
+      printed : Stays (state l.initial.host).printed (state l.host).printed;
+      faults : (state l.host).faults ≡ (state l.initial.host).faults;
+    }

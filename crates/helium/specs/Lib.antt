@@ -1,0 +1,7 @@
+pub mod Image
+pub mod Words
+pub mod Work
+pub mod Run
+pub mod Commands
+pub mod Effect
+pub mod Headline

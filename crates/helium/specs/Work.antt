@@ -1,0 +1,55 @@
+-- What a command comes to, once its files are read.
+use Rattle.std.specs.Prelude.{◌≡◌, ℕ, Bool, List, ◌++◌, Option, Result, Ok, Err, option_map, codes}
+use Rattle.std.specs.Fmt.{decimal}
+use Rattle.hm_base.specs.declared.errors.ImageErr.{ImageErr}
+use Rattle.hm_base.specs.declared.errors.ImageErr.TheVariants as image
+use Rattle.hm_text_base.specs.Texts.{hex8}
+use Rattle.helium.specs.declared.work.Output.{Output}
+use Rattle.helium.specs.declared.work.Finish.{Finish}
+use Rattle.helium.specs.declared.work.Refusal.{Refusal}
+use Rattle.helium.specs.declared.work.Refusal.TheVariants.{FileTooLarge, Image, Reset}
+use Rattle.helium.specs.declared.work.Stop.{Stop}
+use Rattle.helium.specs.declared.work.Stop.TheVariants.{Refused, NoMemory}
+
+-- what is wrong with an image, after a text
+abbrev pub image_text : ImageErr → List ℕ → List ℕ
+image_text image.Short out = out ++ codes "short"
+image_text image.Long out = out ++ codes "long"
+image_text (image.Truncated k) out = out ++ codes "truncated " ++ decimal k
+image_text image.Class out = out ++ codes "class"
+image_text image.Order out = out ++ codes "order"
+image_text image.Header out = out ++ codes "header"
+image_text image.Kind out = out ++ codes "kind"
+image_text image.Machine out = out ++ codes "machine"
+image_text image.TooMany out = out ++ codes "too many"
+image_text (image.Segment k) out = out ++ codes "segment " ++ decimal k
+image_text image.OutOfMemory out = out
+
+-- what a refusal's line says, after a text
+abbrev pub refusal_text : Refusal → List ℕ → List ℕ
+refusal_text FileTooLarge out = out ++ codes "file too large"
+refusal_text (Image e) out = image_text e (out ++ codes "image ")
+refusal_text (Reset value) out = out ++ codes "image reset " ++ hex8 value
+
+-- what a command comes to: whether what was asked came about, the file to write and the text to print; or a refusal
+pub data Outcome : Type 0 where
+  finishes : (done : Bool) (file : Option (List ℕ × List ℕ)) (text : Option (List ℕ)) → Outcome
+  refuses : (why : Refusal) → Outcome
+
+abbrev pub output_pair : Output → List ℕ × List ℕ
+output_pair o = (o.name.now, o.bytes.items)
+
+-- the outcome that a finish stands for
+abbrev pub finish_of : Finish → Outcome
+finish_of f = finishes f.done (option_map output_pair f.file) (option_map (λ text. text.items) f.text)
+
+-- the answer is this outcome, or want of memory
+abbrev pub Gives : Outcome → Result Finish Stop → Type 0
+Gives outcome (Ok finish) = finish_of finish ≡ outcome
+Gives outcome (Err (Refused why)) = refuses why ≡ outcome
+Gives outcome (Err NoMemory) = Unit {0}
+
+-- all that is wrong with an image is refused, and want of memory is no refusal
+abbrev pub image_stop : ImageErr → Stop
+image_stop image.OutOfMemory = NoMemory
+image_stop e = Refused (Image e)

@@ -1,0 +1,68 @@
+//! The host's calls of a run: the reads in order, then the write, then the print.
+
+ghost use Rattle.std.specs.Prelude.{◌≡◌, map, option_map, length, vec_len, IfOk};
+ghost use Rattle.hm_host.specs.Host.{Stays, Counts};
+ghost use Rattle.helium.specs.Work.{output_pair};
+ghost use Rattle.helium.specs.Effect.{ReadsAll, WritesFile, PrintsText};
+
+use crate::work::Output;
+use hm_host::{Host, HostErr};
+use std::alloc::Global;
+
+/// The contents of these files, in order.
+pub fn read_all<H: Host>(
+    alloc: Global,
+    names: &[&str],
+    host: &mut H,
+) -> Result<Vec<Vec<u8>>, HostErr>
+    ensures answer { ReadsAll (H.state host.old).files (map (λ name. name.now) names.now) (λ contents. map (λ bytes. bytes.items) contents.items) result }
+    ensures each { IfOk result (λ contents. vec_len contents ≡ length names.now) }
+    ensures files { Stays (H.state host.old).files (H.state host.new).files }
+    ensures printed { Stays (H.state host.old).printed (H.state host.new).printed }
+    ensures count { Counts (H.state host.old).faults (H.state host.new).faults result }
+{
+    let mut contents = Vec::new(alloc);
+    for name in names {
+        match host.read(alloc, name) {
+            Ok(bytes) => {
+                if contents.push(bytes).is_err() {
+                    return Err(HostErr::OutOfMemory);
+                }
+            }
+            Err(e) => return Err(e),
+        }
+    }
+    Ok(contents)
+}
+
+/// Writes the file, where there is one.
+pub fn write_file<H: Host>(
+    alloc: Global,
+    file: &Option<Output<'_>>,
+    host: &mut H,
+) -> Result<(), HostErr>
+    ensures files { WritesFile (option_map output_pair file.now) (H.state host.old) (H.state host.new) result }
+    ensures printed { Stays (H.state host.old).printed (H.state host.new).printed }
+    ensures count { Counts (H.state host.old).faults (H.state host.new).faults result }
+{
+    match file {
+        Some(file) => host.write(alloc, file.name, &file.bytes),
+        None => Ok(()),
+    }
+}
+
+/// Prints the text, where there is one.
+pub fn print_text<H: Host>(
+    alloc: Global,
+    text: &Option<Vec<u8>>,
+    host: &mut H,
+) -> Result<(), HostErr>
+    ensures printed { PrintsText (option_map (λ text. text.items) text.now) (H.state host.old) (H.state host.new) result }
+    ensures files { Stays (H.state host.old).files (H.state host.new).files }
+    ensures count { Counts (H.state host.old).faults (H.state host.new).faults result }
+{
+    match text {
+        Some(text) => host.print(alloc, text),
+        None => Ok(()),
+    }
+}

@@ -1,0 +1,221 @@
+use super::*;
+use hm_host::{FailList, Files, MemHost};
+use std::alloc::{AllocError, Global};
+use std::test::Fail;
+
+/// movs r0,#5; adds r0,r0,#3; bkpt #1. Code begins at 8.
+const FIRST: &[u8] = b"\x00\x00\x01\x20\x09\x00\x00\x00\x05\x20\xc0\x1c\x01\xbe";
+
+/// Its report under `plain:3`.
+const FIRST_REPORT: &[u8] = b"outcome halted break 1 after 3
+mode thread
+r0 00000008
+r1 00000000
+r2 00000000
+r3 00000000
+r4 00000000
+r5 00000000
+r6 00000000
+r7 00000000
+r8 00000000
+r9 00000000
+r10 00000000
+r11 00000000
+r12 00000000
+sp 20010000
+lr ffffffff
+pc 0000000c
+position 0 0
+flags 00000
+it 00
+fpscr 00040000
+vpr 00000000
+fpca 0
+primask 0
+q0 00000000 00000000 00000000 00000000
+q1 00000000 00000000 00000000 00000000
+q2 00000000 00000000 00000000 00000000
+q3 00000000 00000000 00000000 00000000
+q4 00000000 00000000 00000000 00000000
+q5 00000000 00000000 00000000 00000000
+q6 00000000 00000000 00000000 00000000
+q7 00000000 00000000 00000000 00000000
+output 0
+
+";
+
+/// The bytes of SRAM and of its taint bits.
+const MEMORY_FILE: usize = 294_912;
+
+fn words(alloc: Global, texts: &[&str]) -> Result<Vec<String>, AllocError> {
+    let mut words = Vec::new(alloc);
+    for text in texts {
+        words.push(String::from_str(alloc, text)?)?;
+    }
+    Ok(words)
+}
+
+/// A host with the file `a`, whose calls of these numbers fail.
+fn host(alloc: Global, image: &[u8], failing: &[u64]) -> Result<MemHost, Fail> {
+    let mut files = Files::new(alloc);
+    files.add("a", image.to_vec(alloc)?)?;
+    let mut list = FailList::new(alloc);
+    for call in failing {
+        list.add(*call)?;
+    }
+    Ok(MemHost::new(alloc, files, list))
+}
+
+/// The status of a run of the file `a` under a schedule, with `b` for its memory.
+fn run(alloc: Global, schedule: &str, outside: &mut MemHost) -> Result<Status, Fail> {
+    Ok(helium(alloc, &words(alloc, &["run", "a", schedule, "b"])?, outside))
+}
+
+fn has_line(text: &[u8], line: &[u8]) -> bool {
+    text.split(|byte| *byte == b'\n').any(|piece| piece == line)
+}
+
+#[test]
+fn first_run(rt: HostRuntime) -> Result<(), Fail> {
+    let alloc = rt.alloc();
+    let mut outside = host(alloc, FIRST, &[])?;
+    assert_eq!(rt; run(alloc, "plain:3", &mut outside)?, Status::Done);
+    assert_eq!(rt; outside.printed(), FIRST_REPORT);
+    let memory = outside.file("b").ok_or("no file b")?;
+    assert_eq!(rt; memory.len(), MEMORY_FILE);
+    assert!(rt; memory.iter().all(|byte| *byte == 0));
+    assert_eq!(rt; outside.file("a"), Some(FIRST));
+    Ok(())
+}
+
+#[test]
+fn runs_end(rt: HostRuntime) -> Result<(), Fail> {
+    let alloc = rt.alloc();
+    let rows: [(&[u8], &str, Status, &[&[u8]]); 5] = [
+        (
+            FIRST,
+            "plain:2",
+            Status::Ended,
+            &[b"outcome ticks", b"r0 00000008", b"pc 0000000c"],
+        ),
+        (
+            FIRST,
+            "plain:0",
+            Status::Ended,
+            &[
+                b"outcome ticks",
+                b"r0 00000000",
+                b"pc 00000008",
+                b"sp 20010000",
+                b"lr ffffffff",
+            ],
+        ),
+        // movs r0,#0; bkpt #0
+        (
+            b"\x00\x00\x01\x20\x09\x00\x00\x00\x00\x20\x00\xbe",
+            "plain:2",
+            Status::Done,
+            &[
+                b"outcome halted break 0 after 2",
+                b"flags 01000",
+                b"pc 0000000a",
+            ],
+        ),
+        // A code of no instruction.
+        (
+            b"\x00\x00\x01\x20\x09\x00\x00\x00\x00\xde",
+            "plain:1",
+            Status::Ended,
+            &[b"outcome fault thread undefined pc 00000008 addr 00000008 after 0"],
+        ),
+        // Code that begins at the last halfword of flash, which is ffff.
+        (
+            b"\x00\x00\x01\x20\xff\xff\x0f\x00",
+            "plain:1",
+            Status::Ended,
+            &[b"outcome fault thread fetch pc 000ffffe addr 000ffffe after 0"],
+        ),
+    ];
+    for (image, schedule, status, lines) in rows {
+        let mut outside = host(alloc, image, &[])?;
+        assert_eq!(rt; run(alloc, schedule, &mut outside)?, status);
+        for line in lines {
+            assert!(rt; has_line(outside.printed(), line), "{schedule}");
+        }
+        assert!(rt; outside.file("b").is_some());
+    }
+    Ok(())
+}
+
+#[test]
+fn refuses(rt: HostRuntime) -> Result<(), Fail> {
+    let alloc = rt.alloc();
+    let long = vec![in alloc; 0; 1_048_577]?;
+    let rows: [(&[u8], &[u8]); 4] = [
+        (
+            b"\x00\x00\x01\x20\x09\x00\x00",
+            b"helium: refused image short\n",
+        ),
+        (&long, b"helium: refused image long\n"),
+        (b"\x7fELF", b"helium: refused image class\n"),
+        (
+            b"\x00\x00\x01\x20\x08\x00\x00\x00\x00\xbe",
+            b"helium: refused image reset 00000008\n",
+        ),
+    ];
+    for (image, line) in rows {
+        let mut outside = host(alloc, image, &[])?;
+        assert_eq!(rt; run(alloc, "plain:1", &mut outside)?, Status::Refused);
+        assert_eq!(rt; outside.printed(), line);
+        assert!(rt; outside.file("b").is_none());
+    }
+    Ok(())
+}
+
+#[test]
+fn says_how_it_is_used(rt: HostRuntime) -> Result<(), Fail> {
+    let alloc = rt.alloc();
+    let rows: [&[&str]; 8] = [
+        &[],
+        &["run", "a"],
+        &["run", "a", "plain:1", "b", "c"],
+        &["walk", "a", "plain:1", "b"],
+        &["run", "a", "plain:01", "b"],
+        &["run", "a", "plain:", "b"],
+        &["run", "a", "plain:x", "b"],
+        &["run", "a", "plain:16777217", "b"],
+    ];
+    for row in rows {
+        let mut outside = host(alloc, FIRST, &[0])?;
+        assert_eq!(rt;
+            helium(alloc, &words(alloc, row)?, &mut outside),
+            Status::HostFault
+        );
+        let mut outside = host(alloc, FIRST, &[])?;
+        assert_eq!(rt;
+            helium(alloc, &words(alloc, row)?, &mut outside),
+            Status::Usage
+        );
+        assert_eq!(rt; outside.printed(), b"helium: usage\n".as_slice());
+    }
+    Ok(())
+}
+
+#[test]
+fn fails_with_its_host(rt: HostRuntime) -> Result<(), Fail> {
+    let alloc = rt.alloc();
+    for call in 0..4u64 {
+        let mut outside = host(alloc, FIRST, &[call])?;
+        let status = run(alloc, "plain:1", &mut outside)?;
+        // A run makes three calls, so the fourth does not come to fail.
+        let expected = if call < 3 {
+            Status::HostFault
+        } else {
+            Status::Ended
+        };
+        assert_eq!(rt; status, expected);
+        assert_eq!(rt; outside.printed().is_empty(), call < 3);
+        assert_eq!(rt; outside.file("b").is_some(), call >= 2);
+    }
+    Ok(())
+}
