@@ -44,7 +44,7 @@ pub fn sign(w: u32, n: u32) -> i32
 /// The number in a place has a range, which is a condition of each call that takes one.
 #[derive(Clone, Copy, Debug, Default, PartialEq, Eq)]
 pub enum Place {
-    /// R0 to R12, SP as 13 and LR as 14.
+    /// r0 to r12, SP as 13 and LR as 14.
     R(u8),
     /// One of the 32 words of Q0 to Q7: word k of Qn is `4 * n + k`.
     QWord(u8),
@@ -81,7 +81,7 @@ impl Place {
         }
     }
 
-    /// Its number in the order of places: R0 to R12, SP, LR, the words of Q0 to Q7, the slices of P0, MASK01,
+    /// Its number in the order of places: r0 to r12, SP, LR, the words of Q0 to Q7, the slices of P0, MASK01,
     /// MASK23, the flags, LTPSIZE, QC.
     pub fn rank(self) -> u16
         ensures { result ≡ rank self }

@@ -13,11 +13,11 @@ use hm_base::{Place, bits};
 /// The registers of the processor (DDI0553, "Registers", and the register descriptions that are named below).
 #[derive(Clone, Copy, Debug, PartialEq, Eq)]
 pub struct Regs {
-    /// R0 to R12.
+    /// r0 to r12.
     pub r: [u32; 13],
     /// The main stack pointer. Its bits 1:0 are always 0.
     pub sp: u32,
-    /// The link register, R14.
+    /// The link register, r14.
     pub lr: u32,
     /// The address of the instruction that is next. Bit 0 is always 0.
     pub pc: u32,
