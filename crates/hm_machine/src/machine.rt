@@ -1,15 +1,17 @@
 //! The machine.
 
 ghost use Rattle.std.specs.Prelude.{◌≡◌, ℕ, suc, ◌+◌, ◌-◌, ◌<◌, ◌≤◌, ◌↔◌, ◌%◌, List, [], length, drop, None, Some, IsSome, IfOk, IfErr, IsTrue};
-ghost use Rattle.hm_base.specs.Image.{Segment};
+ghost use Rattle.hm_base.specs.Image.{Segment, flash_byte};
 ghost use Rattle.hm_codes.specs.Listing.{Listing, IsListing};
 ghost use Rattle.hm_machine.specs.Machines.{StandsIn};
 ghost use Rattle.hm_machine.specs.Shown.{Shows, timed_of};
 ghost use Rattle.hm_machine.specs.Turns.{turned, LoadRefuses};
 ghost use Rattle.hm_mem.specs.Memory.{flash_at, told_at, tainted_at};
+ghost use Rattle.hm_run.specs.Headline.{Headline, PlainReport};
+ghost use Rattle.hm_run.specs.InOrder.{in_order};
 ghost use Rattle.hm_run.specs.Report.{report_text, memory_text};
 ghost use Rattle.hm_run.specs.Timed.{next};
-ghost use Rattle.hm_sched.specs.Schedule.{Sched, ticks_of, most_ticks};
+ghost use Rattle.hm_sched.specs.Schedule.{Sched, plain, ticks_of, most_ticks};
 ghost use Rattle.hm_state.specs.Start.{reset_pc};
 ghost use Rattle.hm_state.specs.State.{regs_of};
 
@@ -168,6 +170,7 @@ impl Machine {
         ensures next { (listing : Listing) → IsListing (flash_at self.old.memory) listing → timed_of self.new ≡ next listing self.old.left (timed_of self.old) }
         ensures left { self.new.outcome ≡ None → self.new.left ≡ drop 1 self.old.left }
         ensures fewer { length self.new.left < length self.old.left }
+        ensures once { self.new.ticks ≡ self.old.ticks + 1 }
         ensures memory { self.new.memory ≡ self.old.memory }
         ensures plan { self.new.schedule ≡ self.old.schedule }
     {
@@ -189,6 +192,7 @@ impl Machine {
         ensures ended { IsSome self.old.outcome → self.new ≡ self.old }
         ensures turn { result ≡ turned self.new.outcome }
         ensures fewer { self.old.outcome ≡ None → length self.new.left < length self.old.left }
+        ensures once { self.old.outcome ≡ None → self.new.ticks ≡ self.old.ticks + 1 }
     {
         if let Some(outcome) = self.outcome {
             return Turn::Ended(outcome);
@@ -211,6 +215,13 @@ impl Machine {
         ensures shows { (image : List Segment) (s : Sched) (t : ℕ) → t ≤ length (ticks_of s.lines) → Shows image s t self.old → Shows image s (length (ticks_of s.lines)) self.new }
         ensures outcome { self.new.outcome ≡ Some result }
         ensures ended { IsSome self.old.outcome → self.new ≡ self.old }
+        ensures turns { self.new.ticks ≤ self.old.ticks + length self.old.left }
+        // From the start of a plain schedule the report is that of the instructions in order; of a fault the first line.
+        ensures plain { (image : List Segment) (n : ℕ) (listing : Listing) → IsListing (flash_byte image) listing → Shows image (plain n) 0 self.old
+            → PlainReport (timed_of self.new) (in_order listing image n) }
+        // Where it halts after n instructions, they halt there in order, with this report and these bytes of memory.
+        ensures headline { (image : List Segment) (n : ℕ) (listing : Listing) → IsListing (flash_byte image) listing → Shows image (plain n) 0 self.old
+            → Headline listing image (timed_of self.new) (report_text (timed_of self.new)) (memory_text (timed_of self.new)) }
     {
         while self.is_running() {
             let _turn = self.tick();

@@ -1,6 +1,8 @@
 use Rattle.std.proofs.Common.{◌≡◌, ◌<◌, None, ap, sym, ◌∙◌, subst, arith, length}
 use Rattle.std.specs.Prelude.{IsSome}
 use Rattle.hm_machine.specs.Shown.{Shown}
+use Rattle.hm_machine.proofs.Plain.{plain_report, plain_headline}
+use Rattle.hm_sched.specs.Schedule.{plain}
 use Rattle.hm_machine.proofs.Ticks.{left_below, shows_end}
 use Rattle.hm_machine.proofs.machine.Machine.run.Goals as goal
 
@@ -12,6 +14,11 @@ loop-self-preserved c =
           let r = c.loop-self.invariant.shows image s t h shows in
           let fewer = c.tick-turn.ensures.fewer none in
           (_, left_below image s r.0 _ r.2 none (omega (arith, fewer)), c.tick-turn.ensures.shows image s r.0 r.2);
+      turns =
+          let before = c.loop-self.invariant.turns in
+          let fewer = c.tick-turn.ensures.fewer none in
+          let once = c.tick-turn.ensures.once none in
+          omega (arith, before, fewer, once);
       ended = λ some.
           let same = c.loop-self.invariant.ended some in
           c.tick-turn.ensures.ended (subst (λ (m : Shown). IsSome m.outcome) (sym same) some) ∙ same;
@@ -21,3 +28,9 @@ pub returns-clause-shows : goal.returns-clause-shows
 returns-clause-shows c image s t h shows =
     let r = c.loop-self.invariant.shows image s t h shows in
     shows_end image s r.0 _ _ c.in-Some.outcome (ap (λ (v : Shown). v.outcome) (sym c.self.view_is) ∙ c.in-Some.is) r.1 r.2
+
+pub returns-clause-plain : goal.returns-clause-plain
+returns-clause-plain c image n listing is shows = plain_report image n _ (returns-clause-shows c image (plain n) 0 (omega arith) shows) listing is
+
+pub returns-clause-headline : goal.returns-clause-headline
+returns-clause-headline c image n listing is shows = plain_headline image n _ (returns-clause-shows c image (plain n) 0 (omega arith) shows) listing is

@@ -1,4 +1,4 @@
-use Rattle.std.proofs.Common.{◌≡◌, ℕ, ◌≤◌, length}
+use Rattle.std.proofs.Common.{◌≡◌, ℕ, ◌+◌, ◌≤◌, length}
 use Rattle.std.specs.Prelude.{IsSome}
 use Rattle.hm_base.specs.Image.{Segment}
 use Rattle.hm_sched.specs.Schedule.{Sched, ticks_of}
@@ -10,6 +10,7 @@ abbrev pub invariant-loop-self : goal.invariant-loop-self
 invariant-loop-self l = record {
   shows : (image : List Segment) (s : Sched) (t : ℕ) → t ≤ length (ticks_of s.lines) → Shows image s t l.initial.self
       → (u : ℕ) × (u ≤ length (ticks_of s.lines)) × Shows image s u l.self;
+  turns : l.self.ticks + length l.self.left ≤ l.initial.self.ticks + length l.initial.self.left;
   ended : IsSome l.initial.self.outcome → l.self ≡ l.initial.self;
 }
 
