@@ -3,11 +3,12 @@
 
 ghost use Rattle.std.specs.Prelude.{ℕ, ◌≡◌, ◌≢◌, ◌+◌, ◌-◌, ◌^◌, ◌<◌, ◌≤◌, slice_index};
 ghost use Rattle.hm_base.specs.declared.Place.{Place};
+ghost use Rattle.hm_base.specs.Bits.{put_field};
 ghost use Rattle.hm_base.specs.Place.{IsPlace, fit, range_of};
 ghost use Rattle.hm_regs.specs.Place.{Counted, InRange, SameElsewhere, value_at, with_value};
 ghost use Rattle.hm_regs.specs.Start.{start_regs};
 
-use hm_base::{Place, bits, put_bits};
+use hm_base::{Place, bits};
 
 /// The registers of the processor (DDI0553, "Registers", and the register descriptions that are named below).
 #[derive(Clone, Copy, Debug, PartialEq, Eq)]
@@ -44,6 +45,18 @@ pub struct Regs {
     pub primask: bool,
     /// IPSR, the number of the exception that is handled; 0 in thread mode.
     pub ipsr: u16,
+}
+
+/// `w` with the low bits of `x` as its bits `hi` to `lo`.
+fn put_bits(w: u32, hi: u32, lo: u32, x: u32) -> u32
+    requires order { lo ≤ hi }
+    requires top { hi ≤ 31 }
+    ensures { result ≡ put_field lo (hi + 1 - lo) x w }
+{
+    let high = (w as u64 >> (hi + 1)) << (hi + 1);
+    let middle = (bits(x, hi - lo, 0) as u64) << lo;
+    let low = w as u64 % (1 << lo);
+    (high + middle + low) as u32
 }
 
 /// Each number of a list of words is a word.
