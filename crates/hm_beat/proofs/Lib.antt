@@ -7,3 +7,5 @@ pub mod Footprint
 pub mod Exchange
 pub mod Meeting
 pub mod Ordered
+pub mod Lowest
+pub mod Clashes

@@ -74,7 +74,7 @@ both_store true true w' e h = cc
 both_store false true true e h = cc
 both_store false true false e h = cc
 
-not_true : (b : Bool) → (b ≡ true → ⊥) → b ≡ false
+pub not_true : (b : Bool) → (b ≡ true → ⊥) → b ≡ false
 not_true true h = absurd (h refl)
 not_true false h = refl
 

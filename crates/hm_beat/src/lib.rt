@@ -1,6 +1,7 @@
 //! Instructions that are done by beats: what a beat touches, what it does, and the laws that every such instruction keeps.
 #![tactic(auto)]
 
+mod clash;
 mod laws;
 mod pair;
 mod notes;
@@ -17,6 +18,7 @@ use hm_base::{Places, Spans, Stop};
 use hm_mem::Mem;
 use hm_regs::Regs;
 
+pub use clash::{Clash, meet};
 pub use laws::{frame_law, overlap, rows_law};
 pub use pair::two;
 pub use notes::{note_advance, note_predicate, read_word};
