@@ -1,0 +1,11 @@
+pub mod Trees
+pub mod Calm
+pub mod Effects
+pub mod Predicated
+pub mod Whole
+pub mod Footprint
+pub mod Exchange
+pub mod Meeting
+pub mod Ordered
+pub mod Lowest
+pub mod Clashes

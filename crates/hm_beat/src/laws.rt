@@ -1,0 +1,40 @@
+//! Laws of beats. The functions do nothing, and their clauses are what is proved.
+
+ghost use Rattle.std.specs.Prelude.{◌≡◌, ℕ, Bool, false, List, Ok, Result};
+ghost use Rattle.hm_base.specs.declared.Stop.{Stop};
+ghost use Rattle.hm_mem.specs.declared.Actor.TheVariants.{Thread};
+ghost use Rattle.hm_mem.specs.Memory.{Around, Memory};
+ghost use Rattle.hm_regs.specs.declared.Regs.{Regs};
+ghost use Rattle.hm_lane.specs.Predicate.{predicate_of};
+ghost use Rattle.hm_order.specs.Beats.{ActionLaws, BeatLaws, StopsBy, beats, then};
+ghost use Rattle.hm_state.specs.State.{Rest, State, cells, state_of};
+ghost use Rattle.hm_beat.specs.Laws.{Clean, KeepsLr, MayRun, is_tainted};
+ghost use Rattle.hm_beat.specs.Ordered.{ordered};
+ghost use Rattle.hm_beat.specs.Rows.{Tree, predicate_at, retired};
+ghost use Rattle.hm_beat.specs.Trees.{action, view};
+
+use crate::BeatWise;
+
+/// Every beat changes no cell but those that it lists, and depends on none but those that it lists. All else that is no
+/// cell stays: but for the sticky flag, which it can set and never clear.
+pub fn frame_law()
+    ensures frame { (t : Tree) → ActionLaws (view Rest cells) (action cells t) }
+    ensures rest { (t : Tree) (s u : State) → (action cells t).run s ≡ Ok u → u.rest ≡ s.rest }
+{}
+
+/// The predicate of the definitions is that of the registers.
+pub fn rows_law()
+    ensures predicate { (r : Regs) (m : Memory) (output : List ℕ) → predicate_at (state_of r m output) ≡ predicate_of r }
+{}
+
+/// Instructions of one type, done by the thread, keep what the theorem on overlapped beats asks for.
+pub fn overlap<T: BeatWise>()
+    ensures beats { (writes_lr : T → Bool) → ((i : T) (x : Around) → writes_lr i ≡ false → KeepsLr (T.tree i x))
+        → (x : Around) → x.actor ≡ Thread → BeatLaws (ordered T (λ i. T.tree i x) writes_lr) }
+    // Four beats, and the next instruction behind them, are the whole instruction.
+    ensures whole { (writes_lr : T → Bool) (x : Around) → x.actor ≡ Thread → (i : T) (s : State) → MayRun (T.tree i x) s → Clean s
+        → then (beats (ordered T (λ j. T.tree j x) writes_lr) i 0 4 s) (λ u. Ok (retired u)) ≡ T.whole i x s }
+    // Where no byte is tainted, it does not stop for one.
+    ensures calm { (x : Around) → x.actor ≡ Thread → (i : T) (s : State) → MayRun (T.tree i x) s → Clean s
+        → StopsBy is_tainted (T.whole i x s) → ⊥ }
+{}

@@ -1,0 +1,67 @@
+-- A vector register as bytes and as lanes.
+use Rattle.std.specs.Prelude.{ℕ, ◌+◌, ◌*◌, ◌/◌, ◌%◌, ◌^◌, Bool, false, cond, List, [], ◌∷◌, ◌++◌, get_or}
+use Rattle.std.specs.List.{flat_map}
+use Rattle.hm_lane.specs.declared.lanes.Size.{Size}
+use Rattle.hm_lane.specs.declared.lanes.Size.TheVariants.{Byte, Half, Word}
+
+-- the four bytes of a word, lowest first
+abbrev pub bytes_of : ℕ → List ℕ
+bytes_of x = x % 256 ∷ x / 256 % 256 ∷ x / 65536 % 256 ∷ x / 16777216 % 256 ∷ []
+
+-- the words of a list of bytes
+abbrev pub words : List ℕ → List ℕ
+words (a ∷ b ∷ c ∷ d ∷ v) = (a + 256 * b + 65536 * c + 16777216 * d) ∷ words v
+words _ = []
+
+-- the first word of a list of bytes
+abbrev pub word_of : List ℕ → ℕ
+word_of v = get_or (words v) 0 0
+
+abbrev pub halves : List ℕ → List ℕ
+halves (a ∷ b ∷ v) = (a + 256 * b) ∷ halves v
+halves _ = []
+
+-- the lanes of a list of bytes, the first one lowest
+abbrev pub lanes : Size → List ℕ → List ℕ
+lanes Byte v = v
+lanes Half v = halves v
+lanes Word v = words v
+
+-- the bytes of a list of lanes
+abbrev pub unlanes : Size → List ℕ → List ℕ
+unlanes Byte l = flat_map (λ (x : ℕ). x % 256 ∷ []) l
+unlanes Half l = flat_map (λ (x : ℕ). x % 256 ∷ x / 256 % 256 ∷ []) l
+unlanes Word l = flat_map bytes_of l
+
+-- f of the lanes of two lists of bytes, modulo the size of a lane
+abbrev pub paired : (ℕ → ℕ → ℕ) → List ℕ → List ℕ → List ℕ
+paired f (x ∷ xs) (y ∷ ys) = f x y ∷ paired f xs ys
+paired f _ _ = []
+
+abbrev pub lanewise : Size → (ℕ → ℕ → ℕ) → List ℕ → List ℕ → List ℕ
+lanewise z f v w = unlanes z (paired f (lanes z v) (lanes z w))
+
+-- the new bytes where the predicate is true, the old ones elsewhere
+abbrev pub merged : List Bool → List ℕ → List ℕ → List ℕ
+merged (p ∷ ps) (x ∷ xs) (y ∷ ys) = cond p y x ∷ merged ps xs ys
+merged _ _ _ = []
+
+-- how many numbers a lane holds
+abbrev pub modulus : Size → ℕ
+modulus Byte = 2 ^ 8
+modulus Half = 2 ^ 16
+modulus Word = 2 ^ 32
+
+-- a truth value for each lane, at its lowest byte
+abbrev pub spread : Size → List Bool → List Bool
+spread Byte l = l
+spread Half l = flat_map (λ (v : Bool). v ∷ false ∷ []) l
+spread Word l = flat_map (λ (v : Bool). v ∷ false ∷ false ∷ false ∷ []) l
+
+abbrev pub paired_tests : (ℕ → ℕ → Bool) → List ℕ → List ℕ → List Bool
+paired_tests g (x ∷ xs) (y ∷ ys) = g x y ∷ paired_tests g xs ys
+paired_tests g _ _ = []
+
+-- where g holds of the lanes of two lists of bytes
+abbrev pub lane_tests : Size → (ℕ → ℕ → Bool) → List ℕ → List ℕ → List Bool
+lane_tests z g v w = spread z (paired_tests g (lanes z v) (lanes z w))
