@@ -28,6 +28,7 @@ add_bits x = grind arith
 same_add : (x y : AddName) → add_base x ≡ add_base y → x ≡ y
 same_add x y e = grind arith
 
+-- a first half from e800 on begins a code of two
 pub long_v1 : (r : V1) → 0xe8000000 ≤ code_v1 r
 long_v1 r = grind (arith, add_bits r.name)
 
