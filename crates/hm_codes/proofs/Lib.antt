@@ -1,3 +1,4 @@
 pub mod Narrow
+pub mod Vectors
 pub mod Unique
 pub mod Exists

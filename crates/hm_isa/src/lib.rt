@@ -6,9 +6,11 @@ ghost use Rattle.hm_isa.specs.Code.{halfwords};
 
 mod fields;
 mod narrow;
+mod vectors;
 
-pub use fields::{Below, Byte, Low};
+pub use fields::{Below, Bit, Byte, Low, QRegister, Size};
 pub use narrow::{S3, S4, S18};
+pub use vectors::{AddName, V1, V15};
 
 /// An instruction of the scalar rows: neither a branch nor a vector instruction.
 #[derive(Clone, Copy, Debug, PartialEq, Eq)]
@@ -27,7 +29,12 @@ pub enum Branch {}
 
 /// An instruction of the vector rows: DDI0553, "M-profile Vector Extension".
 #[derive(Clone, Copy, Debug, PartialEq, Eq)]
-pub enum Vector {}
+pub enum Vector {
+    /// `vadd`, `vsub`, `vmul` of elements
+    V1(V1),
+    /// `vmov`, `vmvn`, `vorr`, `vbic` with an immediate
+    V15(V15),
+}
 
 /// An instruction. Each value is one of a row, with its fields in range.
 #[derive(Clone, Copy, Debug, PartialEq, Eq)]
@@ -44,6 +51,6 @@ pub fn width(i: &Instr) -> u32
     match i {
         Instr::Scalar(_) => 2,
         Instr::Branch(b) => match *b {},
-        Instr::Vector(v) => match *v {},
+        Instr::Vector(_) => 4,
     }
 }
