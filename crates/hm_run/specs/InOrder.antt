@@ -3,12 +3,11 @@ use Rattle.std.specs.Prelude.{◌≡◌, ℕ, zero, suc, ◌+◌, List, [], Opti
 use Rattle.hm_base.specs.Image.{Segment}
 use Rattle.hm_base.specs.declared.FaultKind.{FaultKind}
 use Rattle.hm_codes.specs.Listing.{Listing}
-use Rattle.hm_order.specs.Machine as order
 use Rattle.hm_run.specs.declared.Outcome.{Outcome}
 use Rattle.hm_run.specs.declared.Outcome.TheVariants as outcome
 use Rattle.hm_run.specs.declared.Reason.{Reason}
 use Rattle.hm_run.specs.declared.Who.TheVariants.{Thread}
-use Rattle.hm_run.specs.Program.{core}
+use Rattle.hm_run.specs.Program.{alone}
 use Rattle.hm_run.specs.Report.{outcome_line, report_of}
 use Rattle.hm_run.specs.Rows as row
 use Rattle.hm_run.specs.Rows.{WholeStop}
@@ -31,7 +30,7 @@ after n s (Err row.Full) = Full (n + 1) s
 after n s (Err (row.Faults f)) = Faulted f.kind s.pc f.addr n
 
 abbrev pub one_more : Listing → ℕ → InOrder → InOrder
-one_more listing n (Running s) = after n s (order.next (core listing) s)
+one_more listing n (Running s) = after n s (alone listing s)
 one_more listing n (Halted reason k s) = Halted reason k s
 one_more listing n (Full k s) = Full k s
 one_more listing n (Faulted kind pc addr k) = Faulted kind pc addr k

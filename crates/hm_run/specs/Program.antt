@@ -1,6 +1,6 @@
 -- The machine of a program: what a step of the older instruction and one of the younger do. The listing says what
 -- stands at each address.
-use Rattle.std.specs.Prelude.{ℕ, zero, suc, ◌+◌, ◌==◌, Bool, true, false, cond, List, [], ◌∷◌, Option, Some, None, Result, Ok, Err}
+use Rattle.std.specs.Prelude.{ℕ, zero, suc, ◌+◌, ◌==◌, ◌&&◌, is_none, Bool, true, false, cond, List, [], ◌∷◌, Option, Some, None, Result, Ok, Err}
 use Rattle.hm_base.specs.declared.Fault.{Fault}
 use Rattle.hm_base.specs.declared.Stop.{Stop}
 use Rattle.hm_base.specs.declared.Stop.TheVariants as stop
@@ -9,7 +9,10 @@ use Rattle.hm_isa.specs.declared.Instr.{Instr}
 use Rattle.hm_isa.specs.declared.Instr.TheVariants as instr
 use Rattle.hm_isa.specs.declared.Vector.{Vector}
 use Rattle.hm_mem.specs.declared.Dev.{Dev}
+use Rattle.hm_mem.specs.Memory.{Around}
 use Rattle.hm_mem.specs.declared.Actor.TheVariants.{Thread}
+use Rattle.hm_beat.specs.Ordered.{of_four}
+use Rattle.hm_beat.specs.Trees.{action}
 use Rattle.hm_order.specs.Beats.{View, Action, Beats, then}
 use Rattle.hm_order.specs.Machine.{Core, Config, End, Stopped, Broken, older, younger}
 use Rattle.hm_run.specs.declared.Cause.{Cause}
@@ -17,14 +20,26 @@ use Rattle.hm_run.specs.declared.Cause.TheVariants as cause
 use Rattle.hm_run.specs.declared.Rule.{Rule}
 use Rattle.hm_run.specs.declared.Rule.TheVariants as rule
 use Rattle.hm_run.specs.Rows.{WholeStop, Halt, Full, Faults, scalar_whole}
+use Rattle.hm_rows.specs.Rows.{vector_tree, vector_whole, with_context, refuse}
 use Rattle.hm_sched.specs.Schedule.{older_letter, younger_letter}
-use Rattle.hm_state.specs.State.{State, Cell, Value, Rest, is_dead}
+use Rattle.hm_state.specs.State.{State, Cell, Value, Rest, cells, is_dead}
 
--- ONE WHOLE INSTRUCTION, in thread mode, alone
+-- ONE WHOLE INSTRUCTION, in thread mode, alone. A vector row first makes the context where there is none, and may then
+-- be refused.
+abbrev pub unless_refused : Option Fault → State → Result State WholeStop
+unless_refused (Some f) s = Err (Faults f)
+unless_refused None s = Ok s
+
+abbrev pub ready_state : Vector → State → Result State WholeStop
+ready_state v s = unless_refused (refuse v (with_context s)) (with_context s)
+
+abbrev pub vector_row : Vector → State → Result State WholeStop
+vector_row v s = then (ready_state v s) (λ t. Ok (vector_whole v t))
+
 abbrev pub whole : Instr → State → Result State WholeStop
 whole (instr.Scalar i) s = scalar_whole i s
 whole (instr.Branch i) s = elim i [ ]
-whole (instr.Vector i) s = elim i [ ]
+whole (instr.Vector v) s = vector_row v s
 
 -- what stands at the program counter, done; or the fault where nothing stands there
 abbrev pub whole_here : Result Instr Fault → State → Result State WholeStop
@@ -82,12 +97,25 @@ is_tainted (cause.Halt reason) = false
 is_tainted cause.Full = false
 is_tainted (cause.Stop e) = is_tainted_stop e
 
--- There are no vector rows yet, and so no beats.
-abbrev pub no_beat : Action State Watched Cause
-no_beat = record { run = λ s. Ok s; uses = λ s c. false; sets = λ s c. false; marks = λ s. false }
+-- THE BEATS OF VECTOR ROWS, as the machine sees them: they touch cells alone
+abbrev pub on_cell : (Cell → Bool) → Watched → Bool
+on_cell p (In c) = p c
+on_cell p Beside = false
 
-abbrev pub rows : Beats State Vector Watched Held Cause
-rows = record { view = view; act = λ i k. no_beat; ready = λ i s. true; tainted = is_tainted }
+abbrev pub caused : Result State Stop → Result State Cause
+caused (Ok s) = Ok s
+caused (Err e) = Err (cause.Stop e)
+
+abbrev pub lifted : Action State Cell Stop → Action State Watched Cause
+lifted x = record { run = λ s. caused (x.run s); uses = λ s w. on_cell (x.uses s) w; sets = λ s w. on_cell (x.sets s) w; marks = x.marks }
+
+-- a row may run where there is a context and it is not refused
+abbrev pub is_ready : Vector → State → Bool
+is_ready v s = s.rest.fpca && is_none (refuse v s)
+
+-- the rows, where it is known who accesses the memory
+abbrev pub rows : Around → Beats State Vector Watched Held Cause
+rows around = record { view = view; act = λ v k. lifted (action cells (of_four (vector_tree v around) k)); ready = is_ready; tainted = is_tainted }
 
 abbrev pub vector_in : Instr → Option Vector
 vector_in (instr.Scalar i) = None
@@ -99,21 +127,37 @@ abbrev pub vector_of : Result Instr Fault → Option Vector
 vector_of (Ok i) = vector_in i
 vector_of (Err f) = None
 
--- the first rule that a younger step breaks: it and the older have to be vector rows
+-- The first rule that a younger step breaks. It and the older have to be vector rows. No schedule has a younger step
+-- yet, so the rules for two vector rows are not there: such a step is out of order.
 abbrev pub step_rule : Option Vector → Option Vector → Config State → Option Rule
+step_rule (Some v) (Some w) c = Some rule.Order
+step_rule (Some v) None c = Some rule.NotVector
 step_rule None o c = Some rule.NotVector
-step_rule (Some i) o c = elim i [ ]
 
 -- a younger beat does not fault
 abbrev pub fault_rule : Cause → Option Rule
 fault_rule e = cond (is_tainted e) None (Some rule.YoungerFault)
 
-abbrev pub core : Listing → Core State Vector Watched Held Cause WholeStop Rule
-core listing = record {
-  rows = rows;
+-- what a vector row makes before all else, and whether it is refused then
+abbrev pub begins : Vector → State → Result State Cause
+begins v s = in_machine (ready_state v s)
+
+-- the context that the instruction at the program counter makes before anything of it may stop
+abbrev pub made_by : Option Vector → State → State
+made_by (Some v) s = with_context s
+made_by None s = s
+
+-- the machine of a program, as the abstract machine that overlaps beats
+abbrev pub Program : Type 0
+Program = Core State Vector Watched Held Cause WholeStop Rule
+
+abbrev pub core : Listing → Around → Program
+core listing around = record {
+  rows = rows around;
   code = λ a. vector_of (listing a);
-  start = λ i s. Ok s;
-  whole = λ i s. elim i [ ];
+  start = begins;
+  made = λ s. made_by (vector_of (listing s.pc)) s;
+  whole = vector_row;
   other = λ s. in_machine (alone listing s);
   alone = alone listing;
   stop_of = cause_of;
@@ -126,6 +170,13 @@ core listing = record {
 -- WHAT A LETTER DOES. W does the older instruction to its end, in at most four steps.
 abbrev pub Stepped : Type 0
 Stepped = Result (Config State) (End State Cause Rule)
+
+abbrev pub again : Program → ℕ → ℕ → Config State → Stepped
+again M zero n c = Ok c
+again M (suc k) n c = cond (c.n == n) (then (older M c) (again M k n)) (Ok c)
+
+abbrev pub letter_step : Program → ℕ → Config State → Stepped
+letter_step M l c = cond (l == older_letter) (older M c) (cond (l == younger_letter) (younger M c) (then (older M c) (again M 3 c.n)))
 
 abbrev pub again : Listing → ℕ → ℕ → Config State → Stepped
 again listing zero n c = Ok c
@@ -155,6 +206,6 @@ at_step k younger (Err (Stopped c e)) = Err (Stopped c (record { cause = e; youn
 at_step k younger (Err (Broken c r)) = Err (Broken c (record { step = k; rule = r }))
 
 -- the letters of a tick, of which k were done
-abbrev pub letter_steps : Listing → ℕ → List ℕ → Config State → Ticked
-letter_steps listing k [] c = Ok c
-letter_steps listing k (l ∷ ls) c = then (at_step (k + 1) (l == younger_letter) (letter_step listing l c)) (letter_steps listing (k + 1) ls)
+abbrev pub letter_steps : Program → ℕ → List ℕ → Config State → Ticked
+letter_steps M k [] c = Ok c
+letter_steps M k (l ∷ ls) c = then (at_step (k + 1) (l == younger_letter) (letter_step M l c)) (letter_steps M (k + 1) ls)

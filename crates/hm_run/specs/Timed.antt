@@ -5,6 +5,7 @@ use Rattle.hm_base.specs.declared.Fault.{Fault}
 use Rattle.hm_base.specs.declared.Stop.{Stop}
 use Rattle.hm_base.specs.declared.Stop.TheVariants as stop
 use Rattle.hm_codes.specs.Listing.{Listing}
+use Rattle.hm_mem.specs.Memory.{thread_under}
 use Rattle.hm_mem.specs.declared.Dev.{Dev}
 use Rattle.hm_order.specs.Machine.{Config, End, Stopped, Broken, at_start}
 use Rattle.hm_regs.specs.declared.Regs.{Regs}
@@ -16,7 +17,7 @@ use Rattle.hm_run.specs.declared.Offence.TheVariants as offence
 use Rattle.hm_run.specs.declared.Rule.TheVariants as rule
 use Rattle.hm_run.specs.declared.Who.{Who}
 use Rattle.hm_run.specs.declared.Who.TheVariants.{Thread, Handler}
-use Rattle.hm_run.specs.Program.{Stopping, Breach, Ticked, letter_steps}
+use Rattle.hm_run.specs.Program.{Program, Stopping, Breach, Ticked, core, letter_steps}
 use Rattle.hm_sched.specs.Schedule.{TickLine, Sched, ticks_of}
 use Rattle.hm_state.specs.Start.{start_under}
 use Rattle.hm_state.specs.State.{State}
@@ -113,12 +114,12 @@ ended line x (Err (Stopped c e)) = record { outcome = Some (outcome_of (x.ticks 
 ended line x (Err (Broken c r)) = record { outcome = Some (outcome.RuleBroken (x.ticks + 1) r.step r.rule); config = c; acts = x.acts; ticks = x.ticks + 1 }
 
 -- one tick; an ended run stays as it is
-abbrev pub tick_of : Listing → TickLine → Timed → Option Outcome → Timed
-tick_of listing line x (Some o) = x
-tick_of listing line x None = ended line x (letter_steps listing 0 line.letters x.config)
+abbrev pub tick_of : Program → TickLine → Timed → Option Outcome → Timed
+tick_of M line x (Some o) = x
+tick_of M line x None = ended line x (letter_steps M 0 line.letters x.config)
 
-abbrev pub tick : Listing → TickLine → Timed → Timed
-tick listing line x = tick_of listing line x x.outcome
+abbrev pub tick : Program → TickLine → Timed → Timed
+tick M line x = tick_of M line x x.outcome
 
 -- where no tick is left, a run that has no other outcome ends
 abbrev pub or_out : Option Outcome → Option Outcome
@@ -130,14 +131,18 @@ closed [] x = record x { outcome = or_out x.outcome }
 closed (line ∷ left) x = x
 
 -- the first of the ticks that are left
-abbrev pub next : Listing → List TickLine → Timed → Timed
-next listing [] x = x
-next listing (line ∷ left) x = closed left (tick listing line x)
+abbrev pub next : Program → List TickLine → Timed → Timed
+next M [] x = x
+next M (line ∷ left) x = closed left (tick M line x)
+
+-- the thread of a program under a schedule
+abbrev pub thread_program : Listing → Sched → Program
+thread_program listing s = core listing (thread_under s.lo s.hi s.floor)
 
 -- the machine after t ticks of a schedule
 abbrev pub timed : Listing → List Segment → Sched → ℕ → Timed
 timed listing image s zero = closed (ticks_of s.lines) (begin image s)
-timed listing image s (suc t) = next listing (drop t (ticks_of s.lines)) (timed listing image s t)
+timed listing image s (suc t) = next (thread_program listing s) (drop t (ticks_of s.lines)) (timed listing image s t)
 
 -- after all its ticks
 abbrev pub timed_out : Listing → List Segment → Sched → Timed
