@@ -113,6 +113,7 @@ core listing = record {
   rows = rows;
   code = λ a. vector_of (listing a);
   start = λ i s. Ok s;
+  made = λ s. s;
   whole = λ i s. elim i [ ];
   other = λ s. in_machine (alone listing s);
   alone = alone listing;
