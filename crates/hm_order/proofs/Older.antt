@@ -11,7 +11,7 @@ module _ {S I C V E W B : Type 0} (M : Core S I C V E W B) where
   done_agrees : (first : S) (c : Config S) (r : Result S E) (f : S → Config S) → Holds M first c
       → ((t : S) → r ≡ Ok t → Holds M first (f t)) → ((e : E) → r ≡ Err e → Explains M first c.n e) → Agrees M first (done M c r f)
   done_agrees first c (Ok t) f h ok err = ok t refl
-  done_agrees first c (Err e) f h ok err = (h, err e refl)
+  done_agrees first c (Err e) f h ok err = record { before = c; holds = h; left = refl; explains = err e refl }
 
   stops : (first y : S) (n : ℕ) (i : I) (e : E) → seq M n first ≡ Ok y → M.code (M.rows.view.pc y) ≡ Some i
       → (M.rows.tainted e ≡ true) ⊎ ((w : W) × (M.stop_of w ≡ e) × (M.whole i y ≡ Err w)) → Explains M first n e

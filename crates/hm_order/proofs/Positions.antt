@@ -1,12 +1,31 @@
 -- The machine at its positions.
-use Rattle.std.proofs.Common.{◌≡◌, ℕ, suc, ◌+◌, ◌-◌, ◌*◌, ◌<◌, ◌≤◌, Result, Ok, Err, Option, Some, None, true, cond, ◌==◌, ◌⊎◌, inl, inr, refl, sym, ◌∙◌, ap, subst, arith, eq-zero-or-pos, eqb-true}
+use Rattle.std.proofs.Common.{◌≡◌, ℕ, suc, ◌+◌, ◌-◌, ◌*◌, ◌<◌, ◌≤◌, Result, Ok, Err, Option, Some, None, Bool, true, false, cond, ◌==◌, ◌⊎◌, inl, inr, refl, sym, ◌∙◌, ap, subst, arith, eq-zero-or-pos, eqb-true}
 use Rattle.std.proofs.lemmas.Bool.{eqb-false}
+use Rattle.std.proofs.lemmas.Bool.Decides.{nat_tests}
 use Rattle.hm_order.specs.Beats.{Same, Live, Alike, AlikeAs, StopsBy, beats}
-use Rattle.hm_order.specs.Machine.{Clean, Core, CoreLaws, seq, next, next_of, settle}
+use Rattle.hm_order.specs.Machine.{Clean, Core, CoreLaws, Config, begun, seq, next, next_of, settle}
 use Rattle.hm_order.specs.Position.{ahead, Reaches, Second, Between, Inside, Holds}
 use Rattle.hm_order.proofs.Results.{ok_same, then_ok_at, decide}
 use Rattle.hm_order.proofs.Views.{same_live, live_trans}
 use Rattle.hm_order.proofs.Beats.{beats_split, beats_ready, beats_live}
+
+-- what is the same either way
+cond_same : {A : Type 0} (b : Bool) (x y : A) → x ≡ y → cond b x y ≡ y
+cond_same true x y e = e
+cond_same false x y e = refl
+
+-- the test for beat 0 fails past it
+past_zero : (a : ℕ) → 0 < a → (a == 0) ≡ false
+past_zero a more = grind (arith, nat_tests)
+
+module _ {S I C V E W B : Type 0} (M : Core S I C V E W B) where
+  -- where the instruction makes no context, a stop leaves the position before it
+  pub begun_same : (c : Config S) → M.made c.state ≡ c.state → begun M c ≡ c
+  begun_same c e = ap (λ (s : S). record c { state = s }) (cond_same (c.a == 0) (M.made c.state) c.state e)
+
+  -- so it does past beat 0, where none is made
+  pub begun_later : (c : Config S) → 0 < c.a → begun M c ≡ c
+  begun_later c more = ap (λ (b : Bool). record c { state = cond b (M.made c.state) c.state }) (past_zero c.a more)
 
 module _ {S I C V E W B : Type 0} (M : Core S I C V E W B) (laws : CoreLaws M) where
   -- what agrees with q, which ends as w does, reaches w
@@ -29,9 +48,9 @@ module _ {S I C V E W B : Type 0} (M : Core S I C V E W B) (laws : CoreLaws M) w
     ready : M.rows.ready row t ≡ true
     ahead : beats M.rows row 0 b z ≡ Ok v
 
-  begun : (o : Option I) (b : ℕ) (y z t v : S) → 0 < b → o ≡ M.code (M.rows.view.pc z) → Second M o b t → ahead M o b z ≡ Ok v → Begun y z t v b
-  begun (Some j) b y z t v more e second run = record { row = j; here = sym e; ready = second more; ahead = run }
-  begun None b y z t v more e second run = absurd (omega arith)
+  has_begun : (o : Option I) (b : ℕ) (y z t v : S) → 0 < b → o ≡ M.code (M.rows.view.pc z) → Second M o b t → ahead M o b z ≡ Ok v → Begun y z t v b
+  has_begun (Some j) b y z t v more e second run = record { row = j; here = sym e; ready = second more; ahead = run }
+  has_begun None b y z t v more e second run = absurd (omega arith)
 
   at_first : (o : Option I) (z v : S) → ahead M o 0 z ≡ Ok v → z ≡ v
   at_first (Some j) z v e = ok_same e
@@ -117,7 +136,7 @@ module _ {S I C V E W B : Type 0} (M : Core S I C V E W B) (laws : CoreLaws M) w
             (subst (λ x. Live M.rows.view t x) (sym (at_first (M.code (M.rows.view.pc y + 4)) z v (subst (λ k. ahead M (M.code (M.rows.view.pc y + 4)) k z ≡ Ok v) none run))) live);
       })
       place (inr more) = inr (goes_on y z t u v b (suc n) k more few clean_z same live
-          (begun (M.code (M.rows.view.pc y + 4)) b y z t v more (ap M.code (sym onward)) second run))
+          (has_begun (M.code (M.rows.view.pc y + 4)) b y z t v more (ap M.code (sym onward)) second run))
 
   -- A beat of the older row is done, the a-th.
   pub advanced : (first y t : S) (i : I) (a b n k : ℕ) → k ≤ 4 * n + a → seq M n first ≡ Ok y → Clean M y → M.code (M.rows.view.pc y) ≡ Some i

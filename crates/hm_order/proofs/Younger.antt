@@ -7,6 +7,7 @@ use Rattle.hm_order.proofs.Results.{alike_ok, then_ok_at, not_stopped}
 use Rattle.hm_order.proofs.Views.{same_live, live_trans}
 use Rattle.hm_order.proofs.Beats.{beats_split, beats_ready, beat_live}
 use Rattle.hm_order.proofs.Past.{AllApart, Past, past}
+use Rattle.hm_order.proofs.Positions.{begun_later}
 
 some_same : {A : Type 0} {x y : A} → Some x ≡ Some y → x ≡ y
 some_same e = cc
@@ -80,7 +81,7 @@ module _ {S I C V E W B : Type 0} (M : Core S I C V E W B) (laws : CoreLaws M) w
       where
         faulted : (q : Option B) → M.fault_rule e ≡ q → Agrees M first (Err (fault_end M q c e))
         faulted (Some b) none = tt
-        faulted None none = (h, inl (laws.faults e none))
+        faulted None none = record { before = c; holds = h; left = sym (begun_later M c (let late = l.late in omega arith)); explains = inl (laws.faults e none) }
 
     -- under the rule that the step breaks, if there is one
     pub under : (q : Option B) (o : Option I) → M.rule (M.code (M.rows.view.pc c.state)) (M.code (M.rows.view.pc c.state + 4)) c ≡ q

@@ -26,6 +26,9 @@ pub record Core (S I C V E W B : Type 0) : Type 0 where
   pub code : ℕ → Option I
   -- begins a row: makes the context, and refuses a row that is not valid here
   pub start : I → S → Result S E
+  -- the state with the context that the instruction at the program counter makes before anything of it may stop; the
+  -- same state where it makes none
+  pub made : S → S
   -- a row at once, with the program counter behind it
   pub whole : I → S → Result S W
   -- the instruction at the program counter, where it is no vector row: in the machine, and by itself
@@ -70,9 +73,13 @@ module _ {S I C V E W B : Type 0} (M : Core S I C V E W B) where
   begin i zero s = M.start i s
   begin i (suc a) s = Ok s
 
+  -- what stays of a step of the older that stops: the position before it, with the context that is made before beat 0
+  abbrev pub begun : Config S → Config S
+  begun c = record c { state = cond (c.a == 0) (M.made c.state) c.state }
+
   abbrev pub done : Config S → Result S E → (S → Config S) → Result (Config S) (End S E B)
   done c (Ok t) f = Ok (f t)
-  done c (Err e) f = Err (Stopped c e)
+  done c (Err e) f = Err (Stopped (begun c) e)
 
   abbrev pub older_of : Option I → Config S → Result (Config S) (End S E B)
   older_of (Some i) c = done c (then (begin i c.a c.state) ((M.rows.act i c.a).run)) (settle (suc c.a) c.b c.n (suc c.steps))
@@ -143,6 +150,7 @@ module _ {S I C V E W B : Type 0} (M : Core S I C V E W B) where
     pub clean : (s t : S) → Clean s → next s ≡ Ok t → Clean t
     pub start_ready : (i : I) (s t : S) → M.start i s ≡ Ok t → M.rows.ready i t ≡ true
     pub start_pc : (i : I) (s t : S) → M.start i s ≡ Ok t → M.rows.view.pc t ≡ M.rows.view.pc s
+    pub made_pc : (s : S) → M.rows.view.pc (M.made s) ≡ M.rows.view.pc s
     pub started : (i : I) (s : S) → M.rows.ready i s ≡ true → M.start i s ≡ Ok s
     pub start_live : (i : I) (s t : S) → Live M.rows.view s t → Alike (Live M.rows.view) (M.start i s) (M.start i t)
     pub jump_pc : (p : ℕ) (s : S) → M.rows.view.pc (M.jump p s) ≡ p

@@ -1,7 +1,7 @@
 -- What holds at every position of the machine.
 use Rattle.std.specs.Prelude.{◌≡◌, ℕ, ◌+◌, ◌-◌, ◌*◌, ◌<◌, ◌≤◌, true, ◌⊎◌, Option, Some, None, Result, Ok, Err}
 use Rattle.hm_order.specs.Beats.{Live, beats}
-use Rattle.hm_order.specs.Machine.{Clean, Core, Config, End, Stopped, Broken, StopsInOrder, seq}
+use Rattle.hm_order.specs.Machine.{Clean, Core, Config, End, Stopped, Broken, StopsInOrder, seq, begun}
 
 module _ {S I C V E W B : Type 0} (M : Core S I C V E W B) where
   -- the first b beats of the younger
@@ -50,9 +50,25 @@ module _ {S I C V E W B : Type 0} (M : Core S I C V E W B) where
   abbrev pub Explains : S → ℕ → E → Type 0
   Explains first n e = (M.rows.tainted e ≡ true) ⊎ ((w : W) × (M.stop_of w ≡ e) × StopsInOrder M first n w)
 
-  -- What a step may come to. Where it goes on, what holds at every position holds. Where it stops, it does at a
-  -- tainted cell or for the reason for which the next instruction stops in order.
+  -- A step that stops so, and leaves d: what holds at every position held before it, and d is the position before it with
+  -- the context that was made, which past beat 0 is none.
+  pub record StopsAt (first : S) (d : Config S) (e : E) : Type 0 where
+    pub before : Config S
+    pub holds : Holds first before
+    pub left : d ≡ begun M before
+    pub explains : Explains first before.n e
+
+  -- the same position in another state, with the same program counter
+  pub record SamePosition (c d : Config S) : Type 0 where
+    pub a : c.a ≡ d.a
+    pub b : c.b ≡ d.b
+    pub n : c.n ≡ d.n
+    pub steps : c.steps ≡ d.steps
+    pub pc : M.rows.view.pc c.state ≡ M.rows.view.pc d.state
+
+  -- What a step may come to. Where it goes on, what holds at every position holds. Where it stops, it held before, and
+  -- it does at a tainted cell or for the reason for which the next instruction stops in order.
   abbrev pub Agrees : S → Result (Config S) (End S E B) → Type 0
   Agrees first (Ok c) = Holds first c
-  Agrees first (Err (Stopped c e)) = Holds first c × Explains first c.n e
+  Agrees first (Err (Stopped d e)) = StopsAt first d e
   Agrees first (Err (Broken c b)) = Unit {0}

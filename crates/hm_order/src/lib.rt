@@ -18,7 +18,7 @@ ghost use Rattle.hm_order.specs.Machine.{
   younger,
   interrupted,
 };
-ghost use Rattle.hm_order.specs.Position.{Holds, Agrees};
+ghost use Rattle.hm_order.specs.Position.{Holds, StopsAt, SamePosition, Agrees};
 ghost use Rattle.hm_order.specs.Handlers.{Activation, Handlers, HandlerLaws, Move, Hides, shown, move, AgreesNested};
 
 /// Two beats that meet on no cell: where they do not stop in this order, they do not stop in the
@@ -68,7 +68,8 @@ pub fn handler_move<S, I, C, V, E, W, B, R, D>()
 {}
 
 /// What follows where the machine stops. A stop that is not at a tainted cell is that of the next
-/// instruction in order. Between two instructions the state is that of the instructions in order.
+/// instruction in order. Between two instructions the state before it is that of the instructions in order, and what
+/// stays is that state with the context that was made.
 pub fn stops<S, I, C, V, E, W, B>()
     ensures order { (M : Core S I C V E W B) (first : S) (c : Config S) (e : E)
         → Agrees M first (Err (Stopped c e)) → M.rows.tainted e ≡ false
@@ -79,6 +80,15 @@ pub fn stops<S, I, C, V, E, W, B>()
         → (x : W) × (M.stop_of x ≡ M.stop_of w) × StopsInOrder M first c.n x }
     ensures state { (M : Core S I C V E W B) (first : S) (c : Config S)
         → Holds M first c → c.a ≡ 0 → InOrder M first c.n c.state }
+    ensures position { (M : Core S I C V E W B) → CoreLaws M → (first : S) (d : Config S) (e : E)
+        (h : StopsAt M first d e) → SamePosition M d h.before }
+    ensures before { (M : Core S I C V E W B) (first : S) (d : Config S) (e : E)
+        (h : StopsAt M first d e) → d.a ≡ 0 → InOrder M first d.n h.before.state }
+    ensures made { (M : Core S I C V E W B) (first : S) (d : Config S) (e : E)
+        (h : StopsAt M first d e) → d.a ≡ 0 → d.state ≡ M.made h.before.state }
+    // where the instruction makes no context
+    ensures unmade { (M : Core S I C V E W B) (first : S) (d : Config S) (e : E)
+        (h : StopsAt M first d e) → d.a ≡ 0 → M.made h.before.state ≡ h.before.state → InOrder M first d.n d.state }
 {}
 
 /// Where instruction `n + 1` in order stops, a machine that goes on has had fewer than four steps of

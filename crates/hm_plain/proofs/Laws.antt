@@ -177,6 +177,7 @@ laws listing = record {
   clean = λ s t h e. clean_after listing s t h (sym (next_is listing s) ∙ e);
   start_ready = λ i. elim i [ ];
   start_pc = λ i. elim i [ ];
+  made_pc = λ s. refl;
   started = λ i. elim i [ ];
   start_live = λ i. elim i [ ];
   jump_pc = λ p s. refl;

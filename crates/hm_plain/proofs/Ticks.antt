@@ -7,8 +7,9 @@ use Rattle.hm_codes.specs.Listing.{Listing}
 use Rattle.hm_mem.specs.declared.Dev.{Dev}
 use Rattle.hm_order.specs.Beats.{Live, then}
 use Rattle.hm_order.specs.Machine.{Config, Stopped, Broken, Restores, StopsInOrder, Clean, older, younger}
-use Rattle.hm_order.specs.Position.{Holds, Agrees, Explains}
-use Rattle.hm_order.proofs.Headline.{stops_at}
+use Rattle.hm_order.specs.Position.{Holds, Agrees, Explains, StopsAt}
+use Rattle.hm_order.proofs.Headline.{explained, stops_at}
+use Rattle.hm_order.proofs.Positions.{begun_same}
 use Rattle.hm_order.proofs.Steps.{cond_agrees, interrupt_holds, older_agrees, then_agrees, younger_agrees}
 use Rattle.hm_run.specs.declared.Cause.{Cause}
 use Rattle.hm_run.specs.declared.Cause.TheVariants as cause
@@ -68,7 +69,7 @@ module _ (listing : Listing) (first : State) where
   -- what the letters of a tick may come to
   abbrev AgreesTick : Ticked → Type 0
   AgreesTick (Ok c) = Holds (core listing) first c
-  AgreesTick (Err (Stopped c e)) = Holds (core listing) first c × Explains (core listing) first c.n e.cause
+  AgreesTick (Err (Stopped c e)) = StopsAt (core listing) first c e.cause
   AgreesTick (Err (Broken c r)) = Unit {0}
 
   at_step_agrees : (k : ℕ) (younger : Bool) (r : Stepped) → Agrees (core listing) first r → AgreesTick (at_step k younger r)
@@ -91,6 +92,10 @@ module _ (listing : Listing) (first : State) where
   -- no row has beats yet, so the machine is between two instructions
   at_zero : (c : Config State) → Holds (core listing) first c → c.a ≡ 0
   at_zero c h = ⊎_elim (λ p. p.a) (λ p. let no : None ≡ Some p.row = sym (no_row (listing h.order.pc)) ∙ p.here in absurd cc) h.place
+
+  -- no instruction makes a context yet, so a stop leaves the position before it
+  holds_still : (c : Config State) (e : Cause) → StopsAt (core listing) first c e → Holds (core listing) first c
+  holds_still c e h = subst (Holds (core listing) first) (sym (h.left ∙ begun_same (core listing) h.before refl)) h.holds
 
   -- the stop of the next instruction in order, where the cause is none of taint
   abbrev NextStops : ℕ → Cause → Type 0
@@ -147,7 +152,7 @@ module _ (listing : Listing) (first : State) where
   ended_keeps line x (Ok c) h =
       let y : Timed = record { outcome = None; config = c; acts = x.acts; ticks = x.ticks + 1 } in
       judged (may_end c.a c.b) line y h refl
-  ended_keeps line x (Err (Stopped c e)) h = stop_keeps (x.ticks + 1) x c e.cause e.younger h.0 (next_stops c.n e.cause h.1)
+  ended_keeps line x (Err (Stopped c e)) h = stop_keeps (x.ticks + 1) x c e.cause e.younger (holds_still c e.cause h) (next_stops c.n e.cause (explained (core listing) first c e.cause h))
   ended_keeps line x (Err (Broken c r)) h = tt
 
   tick_keeps : (line : TickLine) (x : Timed) (o : Option Outcome) → x.outcome ≡ o → Keeps listing first x.outcome x.config

@@ -10,6 +10,7 @@ use Rattle.hm_mem.specs.Memory.{first_devices}
 use Rattle.hm_mem.specs.declared.Dev.{Dev}
 use Rattle.hm_order.specs.Beats.{then}
 use Rattle.hm_order.specs.Machine.{Config, Stopped, Broken, done, older, older_of, younger, younger_of}
+use Rattle.hm_order.proofs.Positions.{begun_same}
 use Rattle.hm_run.specs.declared.Cause.{Cause}
 use Rattle.hm_run.specs.declared.Outcome.{Outcome}
 use Rattle.hm_run.specs.declared.Outcome.TheVariants as outcome
@@ -42,7 +43,10 @@ older_ok listing c s e =
     ∙ (λ i. Ok (record { a = 0; b = 0; n = sym (add-one c.n) i; steps = sym (add-one c.steps) i; state = s }))
 
 pub older_stops : (listing : Listing) (c : Config State) (e : Cause) → in_machine (alone listing c.state) ≡ Err e → older (core listing) c ≡ Err (Stopped c e)
-older_stops listing c e h = older_is listing c ∙ ap (λ (r : Result State Cause). done (core listing) c r (past c)) h
+older_stops listing c e h =
+    older_is listing c
+    ∙ ap (λ (r : Result State Cause). done (core listing) c r (past c)) h
+    ∙ ap (λ (d : Config State). Err (Stopped d e)) (begun_same (core listing) c refl)
 
 pub younger_is : (listing : Listing) (c : Config State) → younger (core listing) c ≡ Err (Broken c rule.NotVector)
 younger_is listing c =
