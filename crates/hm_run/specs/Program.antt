@@ -178,15 +178,6 @@ again M (suc k) n c = cond (c.n == n) (then (older M c) (again M k n)) (Ok c)
 abbrev pub letter_step : Program → ℕ → Config State → Stepped
 letter_step M l c = cond (l == older_letter) (older M c) (cond (l == younger_letter) (younger M c) (then (older M c) (again M 3 c.n)))
 
-abbrev pub again : Listing → ℕ → ℕ → Config State → Stepped
-again listing zero n c = Ok c
-again listing (suc k) n c = cond (c.n == n) (then (older (core listing) c) (again listing k n)) (Ok c)
-
-abbrev pub letter_step : Listing → ℕ → Config State → Stepped
-letter_step listing l c =
-    cond (l == older_letter) (older (core listing) c)
-    (cond (l == younger_letter) (younger (core listing) c) (then (older (core listing) c) (again listing 3 c.n)))
-
 -- an instruction that stops, and whether it is the younger of two
 pub record Stopping : Type 0 where
   pub cause : Cause
