@@ -1,0 +1,4 @@
+pub mod Lanes
+pub mod Constants
+pub mod Rows
+pub mod Context

@@ -1,0 +1,2 @@
+//! What the vector rows mean, as definitions and their laws.
+#![tactic(auto)]
