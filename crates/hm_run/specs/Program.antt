@@ -20,7 +20,8 @@ use Rattle.hm_run.specs.declared.Cause.TheVariants as cause
 use Rattle.hm_run.specs.declared.Rule.{Rule}
 use Rattle.hm_run.specs.declared.Rule.TheVariants as rule
 use Rattle.hm_run.specs.Rows.{WholeStop, Halt, Full, Faults, scalar_whole}
-use Rattle.hm_rows.specs.Rows.{vector_tree, vector_whole, with_context, refuse}
+use Rattle.hm_rows.specs.Context.{with_context}
+use Rattle.hm_rows.specs.Rows.{vector_tree, vector_whole, refuse}
 use Rattle.hm_sched.specs.Schedule.{older_letter, younger_letter}
 use Rattle.hm_state.specs.State.{State, Cell, Value, Rest, cells, is_dead}
 
