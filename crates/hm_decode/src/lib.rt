@@ -93,10 +93,10 @@ mod tests {
             i: Below::new(1),
         });
         let bkpt = Scalar::S18(S18 { i: Below::new(170) });
-        assert_eq!(rt; find_instr(0x1cd1), Some(Instr::Scalar(adds)));
-        assert_eq!(rt; find_instr(0x2701), Some(Instr::Scalar(movs)));
-        assert_eq!(rt; find_instr(0xbeaa), Some(Instr::Scalar(bkpt)));
-        assert_eq!(rt; find_instr(0xbeab), None, "a request for a service");
-        assert_eq!(rt; find_instr(0xffff), None);
+        assert_eq!(rt; find_scalar(0x1cd1), Some(adds));
+        assert_eq!(rt; find_scalar(0x2701), Some(movs));
+        assert_eq!(rt; find_scalar(0xbeaa), Some(bkpt));
+        assert_eq!(rt; find_scalar(0xbeab), None, "a request for a service");
+        assert!(rt; find_instr(0xffff).is_none());
     }
 }
