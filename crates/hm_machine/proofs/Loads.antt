@@ -64,6 +64,7 @@ pub shows_start : (image : List Segment) (s : Sched) (m : Memory) (sp pc : ℕ) 
     })
 shows_start image s m sp pc regs output o flash bytes clean devices around esp epc eregs eout some out = record {
   bytes = flash;
+  around = around;
   plan = refl;
   left = first_left s.lines o;
   now = λ listing is.

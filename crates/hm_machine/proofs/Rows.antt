@@ -49,8 +49,5 @@ movs_is i r p q u d x m output ed ex low counted ep eq eu =
     ∙ (λ j. go_on 2 (with_nz (ex j) (put_at (R (ed j)) (ex j) s)))
 
 -- what was fetched at the program counter is what the listing tells
-pub fetched_here : (listing : Listing) (flash : ℕ → ℕ) (r : Regs) (m : Memory) (output : List ℕ) (x : Result Instr Fault)
-    → IsListing flash listing → IsFetched flash r.pc x → alone listing (state_of r m output) ≡ whole_here x (state_of r m output)
-unfolding state_of
-fetched_here listing flash r m output x is here =
-    ap (λ (y : Result Instr Fault). whole_here y (state_of r m output)) (fetched_one flash r.pc (listing r.pc) x (is.at r.pc) here)
+pub listed_here : (listing : Listing) (flash : ℕ → ℕ) (pc : ℕ) (x : Result Instr Fault) → IsListing flash listing → IsFetched flash pc x → listing pc ≡ x
+listed_here listing flash pc x is here = fetched_one flash pc (listing pc) x (is.at pc) here

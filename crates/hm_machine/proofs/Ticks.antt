@@ -1,21 +1,21 @@
 -- One tick of the machine.
-use Rattle.std.proofs.Common.{◌≡◌, ℕ, suc, zero, ◌+◌, ◌-◌, ◌≤◌, ◌<◌, arith, ap, refl, sym, ◌∙◌, subst, List, [], ◌∷◌, drop, drop-drop, length, length-drop, Result, Ok, Err, Option, Some, None, add-one, add-zero, add-suc}
+use Rattle.std.proofs.Common.{◌≡◌, ℕ, suc, zero, ◌+◌, ◌-◌, ◌≤◌, ◌<◌, arith, ap, refl, sym, ◌∙◌, subst, Bool, true, nat_lt, List, [], ◌∷◌, drop, drop-drop, length, length-drop, Result, Ok, Err, Option, Some, None, add-one, add-zero, add-suc}
+use Rattle.std.proofs.lemmas.Bool.Decides.{nat_tests}
 use Rattle.hm_base.specs.Image.{Segment, flash_byte}
 use Rattle.hm_codes.specs.Listing.{Listing, IsListing}
-use Rattle.hm_machine.specs.Cpus.{config_of, reached_by_tick, end_outcome, end_config}
+use Rattle.hm_machine.specs.Cpus.{config_of, reached_by_tick, stopping}
 use Rattle.hm_machine.specs.Machines.{left_in, left_while, HasTick}
 use Rattle.hm_machine.specs.Shown.{Shown, Shows, timed_of}
 use Rattle.hm_machine.specs.declared.cpu.Cpu.{Cpu}
-use Rattle.hm_machine.specs.declared.cpu.TickEnd.{TickEnd}
-use Rattle.hm_machine.specs.declared.cpu.TickEnd.TheVariants as tick
-use Rattle.hm_mem.specs.Memory.{Memory, flash_at, first_devices}
+use Rattle.hm_mem.specs.Memory.{Around, Memory, flash_at, first_devices}
 use Rattle.hm_order.specs.Machine.{Config}
 use Rattle.hm_regs.specs.declared.Regs.{Regs}
 use Rattle.hm_run.proofs.Steps as step
+use Rattle.hm_run.specs.declared.Cause.{Cause}
 use Rattle.hm_run.specs.declared.Outcome.{Outcome}
 use Rattle.hm_run.specs.declared.Outcome.TheVariants as outcome
-use Rattle.hm_run.specs.Program.{letter_steps}
-use Rattle.hm_run.specs.Timed.{Timed, at_stop, next, outcome_of, timed}
+use Rattle.hm_run.specs.Program.{Program, core, letter_steps}
+use Rattle.hm_run.specs.Timed.{Timed, at_stop, may_end, next, outcome_of, thread_program, timed}
 use Rattle.hm_sched.specs.Schedule.{TickLine, Sched, repeat, ticks_of}
 use Rattle.hm_state.specs.State.{State, state_of}
 
@@ -34,44 +34,41 @@ some_left (x ∷ xs) used h =
 abbrev going : Option Outcome → Config State → Timed → Timed
 going o c x = record { outcome = o; config = c; acts = []; ticks = x.ticks + 1 }
 
-module _ (listing : Listing) (o : Option Outcome) (left rest : List TickLine) (line : TickLine) (x : Timed) (c : Config State) where
+-- where no younger instruction overlaps, a tick may end
+pub may_end_alone : (a b : ℕ) → a < 4 → b ≡ 0 → may_end a b ≡ true
+may_end_alone a b few none =
+    let test : nat_lt a 4 ≡ true = grind (arith, nat_tests) in
+    rw (none, test) refl
+
+module _ (M : Program) (o : Option Outcome) (left rest : List TickLine) (line : TickLine) (x : Timed) (c : Config State) where
   -- with ticks left the run goes on
-  pub goes_on : o ≡ None → x.outcome ≡ None → x.acts ≡ [] → left ≡ line ∷ rest → letter_steps listing 0 line.letters x.config ≡ Ok c
-      → line.irq ≡ 0 → c.a ≡ 0 → c.b ≡ 0 → c.state.rest.devices ≡ first_devices → 0 < length rest
-      → going o c x ≡ next listing (left_while o left) x
-  goes_on runs none acts first e irq a b off some =
+  pub goes_on : o ≡ None → x.outcome ≡ None → x.acts ≡ [] → left ≡ line ∷ rest → letter_steps M 0 line.letters x.config ≡ Ok c
+      → line.irq ≡ 0 → may_end c.a c.b ≡ true → c.state.rest.devices ≡ first_devices → 0 < length rest
+      → going o c x ≡ next M (left_while o left) x
+  goes_on runs none acts first e irq judged off some =
       (λ i. record { outcome = runs i; config = c; acts = sym acts i; ticks = x.ticks + 1 })
-      ∙ step.goes_on listing line rest x c none e irq a b off some
-      ∙ (λ i. next listing (left_while (sym runs i) (sym first i)) x)
+      ∙ step.goes_on M line rest x c none e irq judged off some
+      ∙ (λ i. next M (left_while (sym runs i) (sym first i)) x)
 
   -- with none left it ends
-  pub out_of_ticks : o ≡ None → x.outcome ≡ None → x.acts ≡ [] → left ≡ line ∷ rest → letter_steps listing 0 line.letters x.config ≡ Ok c
-      → line.irq ≡ 0 → c.a ≡ 0 → c.b ≡ 0 → c.state.rest.devices ≡ first_devices → rest ≡ []
-      → going (Some outcome.OutOfTicks) c x ≡ next listing (left_while o left) x
-  out_of_ticks runs none acts first e irq a b off nothing =
+  pub out_of_ticks : o ≡ None → x.outcome ≡ None → x.acts ≡ [] → left ≡ line ∷ rest → letter_steps M 0 line.letters x.config ≡ Ok c
+      → line.irq ≡ 0 → may_end c.a c.b ≡ true → c.state.rest.devices ≡ first_devices → rest ≡ []
+      → going (Some outcome.OutOfTicks) c x ≡ next M (left_while o left) x
+  out_of_ticks runs none acts first e irq judged off nothing =
       (λ i. record { outcome = Some outcome.OutOfTicks; config = c; acts = sym acts i; ticks = x.ticks + 1 })
-      ∙ step.out_of_ticks listing line rest x c none e irq a b off nothing
-      ∙ (λ i. next listing (left_while (sym runs i) (sym first i)) x)
+      ∙ step.out_of_ticks M line rest x c none e irq judged off nothing
+      ∙ (λ i. next M (left_while (sym runs i) (sym first i)) x)
 
--- a tick that does not go on
-ends_so : (listing : Listing) (rest : List TickLine) (line : TickLine) (x : Timed) (cpu : Cpu) (end : TickEnd) → x.outcome ≡ None → x.acts ≡ []
-    → letter_steps listing 0 line.letters x.config ≡ reached_by_tick (Err end) cpu
-    → going (Some (end_outcome (x.ticks + 1) (config_of cpu) end)) (end_config (config_of cpu) end) x ≡ next listing (line ∷ rest) x
-ends_so listing rest line x cpu (tick.Stopped e y) none acts h =
-    (λ i. record { outcome = Some (outcome_of (x.ticks + 1) (sym acts i) (config_of cpu) (record { cause = e; younger = y })); config = at_stop (config_of cpu) (record { cause = e; younger = y }); acts = sym acts i; ticks = x.ticks + 1 })
-    ∙ step.stops listing line rest x (config_of cpu) (record { cause = e; younger = y }) none h
-ends_so listing rest line x cpu (tick.Broken k r) none acts h =
-    (λ i. record { outcome = Some (outcome.RuleBroken (x.ticks + 1) k r); config = config_of cpu; acts = sym acts i; ticks = x.ticks + 1 })
-    ∙ step.breaks listing line rest x (config_of cpu) (record { step = k; rule = r }) none h
-
-pub ends : (listing : Listing) (o : Option Outcome) (left rest : List TickLine) (line : TickLine) (x : Timed) (cpu : Cpu) (end : TickEnd) (result : Outcome) (d : Config State)
-    → o ≡ None → x.outcome ≡ None → x.acts ≡ [] → left ≡ line ∷ rest → letter_steps listing 0 line.letters x.config ≡ reached_by_tick (Err end) cpu
-    → result ≡ end_outcome (x.ticks + 1) (config_of cpu) end → d ≡ end_config (config_of cpu) end
-    → going (Some result) d x ≡ next listing (left_while o left) x
-ends listing o left rest line x cpu end result d runs none acts first h er ed =
+-- a tick in which an instruction stops
+pub ends : (M : Program) (o : Option Outcome) (left rest : List TickLine) (line : TickLine) (x : Timed) (cpu : Cpu) (e : Cause) (result : Outcome) (d : Config State)
+    → o ≡ None → x.outcome ≡ None → x.acts ≡ [] → left ≡ line ∷ rest → letter_steps M 0 line.letters x.config ≡ reached_by_tick (Err e) cpu
+    → result ≡ outcome_of (x.ticks + 1) [] (config_of cpu) (stopping e) → d ≡ at_stop (config_of cpu) (stopping e)
+    → going (Some result) d x ≡ next M (left_while o left) x
+ends M o left rest line x cpu e result d runs none acts first h er ed =
     (λ i. record { outcome = Some (er i); config = ed i; acts = []; ticks = x.ticks + 1 })
-    ∙ ends_so listing rest line x cpu end none acts h
-    ∙ (λ i. next listing (left_while (sym runs i) (sym first i)) x)
+    ∙ (λ i. record { outcome = Some (outcome_of (x.ticks + 1) (sym acts i) (config_of cpu) (stopping e)); config = at_stop (config_of cpu) (stopping e); acts = sym acts i; ticks = x.ticks + 1 })
+    ∙ step.stops M line rest x (config_of cpu) (stopping e) none h
+    ∙ (λ i. next M (left_while (sym runs i) (sym first i)) x)
 
 -- SHOWING
 drop_next : (t : ℕ) (xs : List TickLine) → drop 1 (drop t xs) ≡ drop (suc t) xs
@@ -80,24 +77,27 @@ drop_next t xs = drop-drop 1 t xs ∙ ap (λ (k : ℕ). drop k xs) (add-one t)
 -- a machine after one more tick
 pub shows_on : (image : List Segment) (s : Sched) (t : ℕ) (old new : Shown) → Shows image s t old → old.outcome ≡ None
     → new.memory ≡ old.memory → new.schedule ≡ old.schedule → (new.outcome ≡ None → new.left ≡ drop 1 old.left)
-    → ((listing : Listing) → IsListing (flash_at old.memory) listing → timed_of new ≡ next listing old.left (timed_of old))
+    → ((listing : Listing) → IsListing (flash_at old.memory) listing → timed_of new ≡ next (core listing old.memory.around) old.left (timed_of old))
     → Shows image s (suc t) new
 shows_on image s t old new h none memory schedule left now = record {
   bytes = ap flash_at memory ∙ h.bytes;
+  around = ap (λ (m : Memory). m.around) memory ∙ h.around;
   plan = schedule ∙ h.plan;
   left = λ on. left on ∙ ap (drop 1) (h.left none) ∙ drop_next t (ticks_of s.lines);
   now = λ listing is. now listing (subst (λ (f : ℕ → ℕ). IsListing f listing) (sym h.bytes) is)
-      ∙ ap (λ (l : List TickLine). next listing l (timed_of old)) (h.left none)
-      ∙ ap (next listing (drop t (ticks_of s.lines))) (h.now listing is);
+      ∙ ap (λ (x : Around). next (core listing x) old.left (timed_of old)) h.around
+      ∙ ap (λ (l : List TickLine). next (thread_program listing s) l (timed_of old)) (h.left none)
+      ∙ ap (next (thread_program listing s) (drop t (ticks_of s.lines))) (h.now listing is);
 }
 
 shows_ended : (image : List Segment) (s : Sched) (t : ℕ) (m : Shown) (o : Outcome) → Shows image s t m → m.outcome ≡ Some o → Shows image s (suc t) m
 shows_ended image s t m o h e = record {
   bytes = h.bytes;
+  around = h.around;
   plan = h.plan;
   left = λ n. absurd cc;
   now = λ listing is. h.now listing is
-      ∙ sym (step.next_ended listing (drop t (ticks_of s.lines)) (timed listing image s t) o (ap (λ (x : Timed). x.outcome) (sym (h.now listing is)) ∙ e));
+      ∙ sym (step.next_ended (thread_program listing s) (drop t (ticks_of s.lines)) (timed listing image s t) o (ap (λ (x : Timed). x.outcome) (sym (h.now listing is)) ∙ e));
 }
 
 shows_later : (image : List Segment) (s : Sched) (t k : ℕ) (m : Shown) (o : Outcome) → m.outcome ≡ Some o → Shows image s t m → Shows image s (t + k) m

@@ -1,18 +1,12 @@
 -- What the parts of the machine that instructions change stand for.
-use Rattle.std.specs.Prelude.{ℕ, [], Result, Ok, Err}
+use Rattle.std.specs.Prelude.{◌≡◌, ℕ, ◌+◌, ◌<◌, ◌≤◌, ◌×◌, false, IsTrue, Result, Ok, Err}
 use Rattle.hm_mem.specs.Memory.{memory_of}
+use Rattle.hm_order.specs.Beats.{then}
 use Rattle.hm_order.specs.Machine as order
-use Rattle.hm_order.specs.Machine.{Config}
+use Rattle.hm_order.specs.Machine.{Config, older}
 use Rattle.hm_machine.specs.declared.cpu.Cpu.{Cpu}
-use Rattle.hm_machine.specs.declared.cpu.StepEnd.{StepEnd}
-use Rattle.hm_machine.specs.declared.cpu.StepEnd.TheVariants as step
-use Rattle.hm_machine.specs.declared.cpu.TickEnd.{TickEnd}
-use Rattle.hm_machine.specs.declared.cpu.TickEnd.TheVariants as tick
 use Rattle.hm_run.specs.declared.Cause.{Cause}
-use Rattle.hm_run.specs.declared.Outcome.{Outcome}
-use Rattle.hm_run.specs.declared.Outcome.TheVariants as outcome
-use Rattle.hm_run.specs.Program.{Stepped, Ticked}
-use Rattle.hm_run.specs.Timed.{outcome_of, at_stop}
+use Rattle.hm_run.specs.Program.{Program, Stepped, Stopping, Ticked, again}
 use Rattle.hm_state.specs.State.{State, state_of}
 
 abbrev pub state_in : Cpu → State
@@ -31,23 +25,28 @@ abbrev pub reached : Result Unit Cause → Cpu → Stepped
 reached (Ok u) x = Ok (config_of x)
 reached (Err e) x = Err (order.Stopped (config_of x) e)
 
--- the same of a letter
-abbrev pub reached_by_letter : Result Unit StepEnd → Cpu → Stepped
-reached_by_letter (Ok u) x = Ok (config_of x)
-reached_by_letter (Err (step.Stopped e)) x = Err (order.Stopped (config_of x) e)
-reached_by_letter (Err (step.Broken r)) x = Err (order.Broken (config_of x) r)
+-- it is the older instruction that stops
+abbrev pub stopping : Cause → Stopping
+stopping e = record { cause = e; younger = false }
 
 -- the same of the letters of a tick
-abbrev pub reached_by_tick : Result Unit TickEnd → Cpu → Ticked
+abbrev pub reached_by_tick : Result Unit Cause → Cpu → Ticked
 reached_by_tick (Ok u) x = Ok (config_of x)
-reached_by_tick (Err (tick.Stopped e y)) x = Err (order.Stopped (config_of x) (record { cause = e; younger = y }))
-reached_by_tick (Err (tick.Broken k r)) x = Err (order.Broken (config_of x) (record { step = k; rule = r }))
+reached_by_tick (Err e) x = Err (order.Stopped (config_of x) (stopping e))
 
--- how a run ends by a tick that does not go on, and where it leaves the machine
-abbrev pub end_outcome : ℕ → Config State → TickEnd → Outcome
-end_outcome t c (tick.Stopped e y) = outcome_of t [] c (record { cause = e; younger = y })
-end_outcome t c (tick.Broken k r) = outcome.RuleBroken t k r
+-- the older instruction to its end
+abbrev pub to_end : Program → Config State → Stepped
+to_end M c = then (older M c) (again M 3 c.n)
 
-abbrev pub end_config : Config State → TickEnd → Config State
-end_config c (tick.Stopped e y) = at_stop c (record { cause = e; younger = y })
-end_config c (tick.Broken k r) = c
+-- Where a machine may stand while no younger instruction overlaps: the older has less than four beats, and only a
+-- vector row, which made a context, has some.
+abbrev pub IsPosition : Cpu → Type 0
+IsPosition x = (x.window.a < 4) × (x.window.b ≡ 0) × (0 < x.window.a → IsTrue x.regs.fpca)
+
+-- what stays while instructions are done
+abbrev pub Keeps : Cpu → Cpu → Type 0
+Keeps old new = (memory_of new.mem ≡ memory_of old.mem) × IsPosition new
+
+-- a step retires one instruction at most, and counts once
+abbrev pub CountsOne : Cpu → Cpu → Type 0
+CountsOne old new = (new.retired ≤ old.retired + 1) × (new.older_steps ≤ old.older_steps + 1)

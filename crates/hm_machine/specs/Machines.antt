@@ -2,6 +2,7 @@
 use Rattle.std.specs.Prelude.{◌≡◌, ℕ, ◌+◌, ◌-◌, ◌*◌, ◌<◌, ◌≤◌, List, [], ◌∷◌, length, drop, Option, Some, None}
 use Rattle.hm_machine.specs.declared.cursor.Cursor.{Cursor}
 use Rattle.hm_machine.specs.declared.machine.Machine.TheInside.{Inside}
+use Rattle.hm_machine.specs.Cpus.{IsPosition}
 use Rattle.hm_machine.specs.Shown.{Shown}
 use Rattle.hm_run.specs.declared.Outcome.{Outcome}
 use Rattle.hm_mem.specs.Memory.{memory_of, first_devices}
@@ -45,12 +46,11 @@ machine_view m = record {
 }
 
 pub record IsMachine (m : Inside) : Type 0 where
-  -- no instruction reaches the devices yet, and none has beats
+  -- no instruction reaches the devices yet
   pub devices : m.cpu.mem.dev ≡ first_devices
-  pub older : m.cpu.window.a ≡ 0
-  pub younger : m.cpu.window.b ≡ 0
+  pub position : IsPosition m.cpu
   pub running : m.outcome ≡ None → StandsIn m.schedule.lines m.cursor
   pub begun : m.outcome ≡ None → m.ticks + length (left_at m.schedule.lines m.cursor) ≤ most_ticks
   pub few : m.ticks ≤ most_ticks
-  pub retired : m.cpu.retired ≤ 9 * m.ticks
-  pub steps : m.cpu.older_steps ≤ 9 * m.ticks
+  pub retired : m.cpu.retired ≤ 33 * m.ticks
+  pub steps : m.cpu.older_steps ≤ 33 * m.ticks

@@ -2,7 +2,7 @@
 use Rattle.std.specs.Prelude.{◌≡◌, ℕ, List, drop, Option, None}
 use Rattle.hm_base.specs.Image.{Segment, flash_byte}
 use Rattle.hm_codes.specs.Listing.{Listing, IsListing}
-use Rattle.hm_mem.specs.Memory.{Memory, flash_at}
+use Rattle.hm_mem.specs.Memory.{Memory, flash_at, thread_under}
 use Rattle.hm_regs.specs.declared.Regs.{Regs}
 use Rattle.hm_run.specs.declared.Outcome.{Outcome}
 use Rattle.hm_run.specs.Timed.{Activation, Timed, timed}
@@ -37,6 +37,7 @@ timed_of m = record {
 -- A machine shows an image under a schedule after t ticks.
 pub record Shows (image : List Segment) (s : Sched) (t : ℕ) (m : Shown) : Type 0 where
   pub bytes : flash_at m.memory ≡ flash_byte image
+  pub around : m.memory.around ≡ thread_under s.lo s.hi s.floor
   pub plan : m.schedule ≡ s
   pub left : m.outcome ≡ None → m.left ≡ drop t (ticks_of s.lines)
   pub now : (listing : Listing) → IsListing (flash_byte image) listing → timed_of m ≡ timed listing image s t

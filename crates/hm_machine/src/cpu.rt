@@ -1,23 +1,28 @@
 //! The steps of the machine inside a tick.
 
-ghost use Rattle.std.specs.Prelude.{◌≡◌, ℕ, ◌+◌, ◌^◌, ◌<◌, ◌≤◌, ◌==◌, if◌then◌else◌, List, [], length, OnErr, Result, Err};
+ghost use Rattle.std.specs.Prelude.{◌≡◌, ◌≢◌, ℕ, ◌+◌, ◌^◌, ◌<◌, ◌≤◌, All, List, [], length, IsTrue, OnErr, Some};
 ghost use Rattle.hm_codes.specs.Listing.{Listing, IsListing};
-ghost use Rattle.hm_mem.specs.Memory.{Memory, memory_of, flash_at};
-ghost use Rattle.hm_machine.specs.Cpus.{config_of, executed, reached, reached_by_letter, reached_by_tick, end_outcome, end_config};
-ghost use Rattle.hm_order.specs.Machine.{Config, older};
-ghost use Rattle.hm_run.specs.declared.Cause.{Cause};
-ghost use Rattle.hm_run.specs.Program.{alone, whole, in_machine, core, at_step, letter_step, letter_steps};
-ghost use Rattle.hm_run.specs.Timed.{outcome_of_stop, pc_of};
+ghost use Rattle.hm_isa.specs.declared.Instr.TheVariants as instr;
+ghost use Rattle.hm_mem.specs.Memory.{Around, Memory, memory_of, flash_at};
+ghost use Rattle.hm_machine.specs.Cpus.{config_of, state_in, executed, reached, reached_by_tick, stopping, to_end, IsPosition, Keeps, CountsOne};
+ghost use Rattle.hm_order.specs.Machine.{Config, older, settle};
+ghost use Rattle.hm_rows.specs.Context.{with_context};
+ghost use Rattle.hm_rows.specs.Rows.{refuse, writes_lr};
+ghost use Rattle.hm_run.specs.Program.{begins, core, rows, vector_of, again, letter_step, letter_steps};
+ghost use Rattle.hm_run.specs.Timed.{outcome_of, outcome_of_stop, at_stop};
 ghost use Rattle.hm_sched.specs.Schedule.{younger_letter};
 ghost use Rattle.hm_state.specs.State.{State, state_of};
 
 use crate::scalar;
-use hm_base::Stop;
+use hm_base::{Fault, FaultKind, Place, Stop};
+use hm_beat::BeatWise;
 use hm_decode::fetch;
-use hm_isa::Instr;
+use hm_isa::{Instr, Scalar, Vector};
+use hm_lane::context;
 use hm_mem::Mem;
 use hm_regs::Regs;
-use hm_run::{Cause, Offence, Outcome, Rule, Who, Window};
+use hm_run::{Cause, Offence, Outcome, Who, Window};
+use hm_varith::Arith;
 
 /// What instructions change, and how many were done.
 #[derive(Drop)]
@@ -30,107 +35,196 @@ pub struct Cpu {
     pub older_steps: u64,
 }
 
-/// Why a letter does not go on: an instruction that stops, or a rule of overlap that is broken.
-#[derive(Clone, Copy, Debug, PartialEq, Eq)]
-pub enum StepEnd {
-    Stopped(Cause),
-    Broken(Rule),
-}
-
-/// The same in a tick: whether it is the younger instruction that stops, and the step that breaks a rule.
-#[derive(Clone, Copy, Debug, PartialEq, Eq)]
-pub enum TickEnd {
-    Stopped { cause: Cause, younger: bool },
-    Broken { step: u32, rule: Rule },
-}
-
-/// Does the whole of an instruction that is no vector row, or stops and changes nothing.
-fn whole(i: &Instr, regs: &mut Regs) -> Result<(), Cause>
-    ensures value { (m : Memory) (output : List ℕ) → executed result (state_of regs.new m output) ≡ in_machine (whole i.now (state_of regs.old m output)) }
-    ensures stopped { OnErr result (regs.new ≡ regs.old) }
+/// Whether one of the beats of a row writes lr.
+fn writes_lr(v: &Vector) -> bool
+    ensures { result ≡ writes_lr v.now }
 {
-    match i {
-        Instr::Scalar(i) => scalar::step(i, regs),
-        Instr::Branch(i) => match *i {},
-        Instr::Vector(i) => match *i {},
+    match v {
+        Vector::V1(_) | Vector::V15(_) => false,
     }
 }
 
-/// Does what stands at the program counter, or stops and changes nothing.
-fn execute(mem: &Mem, regs: &mut Regs) -> Result<(), Cause>
-    ensures value { (output : List ℕ) (listing : Listing) → IsListing (flash_at (memory_of mem.now)) listing
-        → executed result (state_of regs.new (memory_of mem.now) output) ≡ in_machine (alone listing (state_of regs.old (memory_of mem.now) output)) }
-    ensures stopped { OnErr result (regs.new ≡ regs.old) }
+/// The fault of a vector instruction that may not run here.
+fn refuse(v: &Vector, regs: &Regs) -> Option<Fault>
+    ensures { (m : Memory) (output : List ℕ) → result ≡ refuse v.now (state_of regs.now m output) }
 {
-    match fetch(mem, regs.pc) {
-        Ok(i) => whole(&i, regs),
-        Err(fault) => Err(Cause::Stop(Stop::Fault(fault))),
+    if regs.it != 0 || writes_lr(v) && regs.get(Place::Ltp) < 4 && regs.fpca {
+        Some(Fault {
+            kind: FaultKind::InvState,
+            addr: regs.pc,
+        })
+    } else {
+        None
     }
 }
 
-/// A step of the older instruction.
-fn older(x: &mut Cpu) -> Result<(), Cause>
+/// What comes before the first beat: the context is made where there is none, and then the instruction may be refused.
+fn begin(v: &Vector, regs: &mut Regs) -> Result<(), Cause>
+    ensures value { (m : Memory) (output : List ℕ) → executed result (state_of regs.new m output) ≡ begins v.now (state_of regs.old m output) }
+    ensures made { (m : Memory) (output : List ℕ) → state_of regs.new m output ≡ with_context (state_of regs.old m output) }
+    ensures context { IsTrue regs.new.fpca }
+    ensures pc { regs.new.pc ≡ regs.old.pc }
+{
+    context(regs);
+    match refuse(v, regs) {
+        Some(fault) => Err(Cause::Stop(Stop::Fault(fault))),
+        None => Ok(()),
+    }
+}
+
+/// Beat b of a vector instruction, or a stop that changes nothing.
+fn beat(v: &Vector, b: u8, regs: &mut Regs, mem: &mut Mem) -> Result<(), Cause>
+    requires beat { b < 4 }
+    requires context { IsTrue regs.old.fpca }
+    ensures value { (output : List ℕ) → executed result (state_of regs.new (memory_of mem.new) output)
+        ≡ ((rows (memory_of mem.old).around).act v.now b).run (state_of regs.old (memory_of mem.old) output) }
+    ensures stopped { OnErr result (regs.new ≡ regs.old) }
+    ensures kept { memory_of mem.new ≡ memory_of mem.old }
+    ensures context { IsTrue regs.new.fpca }
+{
+    match Arith::of(v) {
+        Some(row) => match row.beat(b, regs, mem) {
+            Ok(()) => Ok(()),
+            Err(stop) => Err(Cause::Stop(stop)),
+        },
+        None => unreachable!(),
+    }
+}
+
+/// After a beat of the older instruction: once it has four it is retired, and the next one stands at `next`.
+fn settle(x: &mut Cpu, next: u32)
     requires count { (x.old.retired < 2 ^ 63) × (x.old.older_steps < 2 ^ 63) }
-    requires between { (x.old.window.a ≡ 0) × (x.old.window.b ≡ 0) }
-    ensures value { (listing : Listing) → IsListing (flash_at (memory_of x.old.mem)) listing → reached result x.new ≡ older (core listing) (config_of x.old) }
-    ensures memory { memory_of x.new.mem ≡ memory_of x.old.mem }
-    ensures between { (x.new.window.a ≡ 0) × (x.new.window.b ≡ 0) }
-    ensures count { (x.new.retired ≤ x.old.retired + 1) × (x.new.older_steps ≤ x.old.older_steps + 1) }
+    requires position { IsPosition x.old }
+    requires context { IsTrue x.old.regs.fpca }
+    requires next { x.old.regs.pc + 4 ≡ next }
+    ensures value { (listing : Listing) (around : Around)
+        → config_of x.new ≡ settle (core listing around) (x.old.window.a + 1) x.old.window.b x.old.retired (x.old.older_steps + 1) (state_in x.old) }
+    ensures kept { Keeps x.old x.new }
+    ensures count { CountsOne x.old x.new }
 {
-    execute(&x.mem, &mut x.regs)?;
+    x.older_steps += 1;
+    if x.window.a < 3 {
+        x.window.a += 1;
+    } else {
+        x.window = Window {
+            a: x.window.b,
+            b: 0,
+        };
+        x.retired += 1;
+        x.regs.pc = next;
+    }
+}
+
+/// The next beat of the vector instruction at the program counter, after what comes before its first.
+fn vector_step(v: &Vector, x: &mut Cpu) -> Result<(), Cause>
+    requires count { (x.old.retired < 2 ^ 63) × (x.old.older_steps < 2 ^ 63) }
+    requires position { IsPosition x.old }
+    requires pc { x.old.regs.pc + 4 ≤ 0x100000 }
+    ensures value { (listing : Listing) → vector_of (listing x.old.regs.pc) ≡ Some v.now
+        → reached result x.new ≡ older (core listing (memory_of x.old.mem).around) (config_of x.old) }
+    ensures kept { Keeps x.old x.new }
+    ensures count { CountsOne x.old x.new }
+{
+    let next = x.regs.pc + 4;
+    if x.window.a == 0 {
+        begin(v, &mut x.regs)?;
+    }
+    beat(v, x.window.a, &mut x.regs, &mut x.mem)?;
+    settle(x, next);
+    Ok(())
+}
+
+/// The whole of the scalar instruction at the program counter, or a stop that changes nothing.
+fn scalar_step(i: &Scalar, x: &mut Cpu) -> Result<(), Cause>
+    requires count { (x.old.retired < 2 ^ 63) × (x.old.older_steps < 2 ^ 63) }
+    requires position { IsPosition x.old }
+    ensures value { (listing : Listing) → listing x.old.regs.pc ≡ Ok (instr.Scalar i.now)
+        → reached result x.new ≡ older (core listing (memory_of x.old.mem).around) (config_of x.old) }
+    ensures kept { Keeps x.old x.new }
+    ensures count { CountsOne x.old x.new }
+{
+    scalar::step(i, &mut x.regs)?;
+    x.window = Window { a: 0, b: 0 };
     x.retired += 1;
     x.older_steps += 1;
     Ok(())
 }
 
-/// What a letter of a schedule does. No two instructions overlap yet, so a letter Y always breaks a rule, and one step
-/// of the older is the whole of it.
-fn letter(l: u8, x: &mut Cpu) -> Result<(), StepEnd>
+/// A step of the older instruction: the next beat of a vector instruction, or the whole of a scalar one.
+fn older(x: &mut Cpu) -> Result<(), Cause>
     requires count { (x.old.retired < 2 ^ 63) × (x.old.older_steps < 2 ^ 63) }
-    requires between { (x.old.window.a ≡ 0) × (x.old.window.b ≡ 0) }
-    ensures value { (listing : Listing) → IsListing (flash_at (memory_of x.old.mem)) listing → reached_by_letter result x.new ≡ letter_step listing l (config_of x.old) }
-    ensures memory { memory_of x.new.mem ≡ memory_of x.old.mem }
-    ensures between { (x.new.window.a ≡ 0) × (x.new.window.b ≡ 0) }
-    ensures count { (x.new.retired ≤ x.old.retired + 1) × (x.new.older_steps ≤ x.old.older_steps + 1) }
+    requires position { IsPosition x.old }
+    ensures value { (listing : Listing) → IsListing (flash_at (memory_of x.old.mem)) listing
+        → reached result x.new ≡ older (core listing (memory_of x.old.mem).around) (config_of x.old) }
+    ensures kept { Keeps x.old x.new }
+    ensures count { CountsOne x.old x.new }
 {
-    if l == b'Y' {
-        return Err(StepEnd::Broken(Rule::NotVector));
-    }
-    match older(x) {
-        Ok(()) => Ok(()),
-        Err(cause) => Err(StepEnd::Stopped(cause)),
+    match fetch(&x.mem, x.regs.pc) {
+        Ok(Instr::Scalar(i)) => scalar_step(&i, x),
+        Ok(Instr::Branch(i)) => match i {},
+        Ok(Instr::Vector(v)) => vector_step(&v, x),
+        Err(fault) => Err(Cause::Stop(Stop::Fault(fault))),
     }
 }
 
-/// How a tick ends by what its letter number `step` came to.
-fn tick_end(step: u32, l: u8, end: StepEnd) -> TickEnd
-    ensures { (x : Cpu) → reached_by_tick (Err result) x ≡ at_step step (l == younger_letter) (reached_by_letter (Err end) x) }
+/// The steps that are left, at most three, of an older instruction of which one is done; n instructions were retired before it.
+fn rest(n: u64, x: &mut Cpu) -> Result<(), Cause>
+    requires count { (x.old.retired < 2 ^ 62) × (x.old.older_steps < 2 ^ 62) }
+    requires position { IsPosition x.old }
+    ensures value { (listing : Listing) → IsListing (flash_at (memory_of x.old.mem)) listing
+        → reached result x.new ≡ again (core listing (memory_of x.old.mem).around) 3 n (config_of x.old) }
+    ensures kept { Keeps x.old x.new }
+    ensures count { (x.new.retired ≤ x.old.retired + 3) × (x.new.older_steps ≤ x.old.older_steps + 3) }
 {
-    match end {
-        StepEnd::Stopped(cause) => TickEnd::Stopped {
-            cause,
-            younger: l == b'Y',
-        },
-        StepEnd::Broken(rule) => TickEnd::Broken { step, rule },
+    for _k in 0..3 {
+        if x.retired != n {
+            return Ok(());
+        }
+        older(x)?;
     }
+    Ok(())
+}
+
+/// The older instruction to its end, in at most four steps.
+fn whole(x: &mut Cpu) -> Result<(), Cause>
+    requires count { (x.old.retired < 2 ^ 62) × (x.old.older_steps < 2 ^ 62) }
+    requires position { IsPosition x.old }
+    ensures value { (listing : Listing) → IsListing (flash_at (memory_of x.old.mem)) listing
+        → reached result x.new ≡ to_end (core listing (memory_of x.old.mem).around) (config_of x.old) }
+    ensures kept { Keeps x.old x.new }
+    ensures count { (x.new.retired ≤ x.old.retired + 4) × (x.new.older_steps ≤ x.old.older_steps + 4) }
+{
+    let n = x.retired;
+    older(x)?;
+    rest(n, x)
+}
+
+/// What a letter of a schedule does. No schedule has a letter Y yet.
+fn letter(l: u8, x: &mut Cpu) -> Result<(), Cause>
+    requires older { l ≢ younger_letter }
+    requires count { (x.old.retired < 2 ^ 62) × (x.old.older_steps < 2 ^ 62) }
+    requires position { IsPosition x.old }
+    ensures value { (listing : Listing) → IsListing (flash_at (memory_of x.old.mem)) listing
+        → reached result x.new ≡ letter_step (core listing (memory_of x.old.mem).around) l (config_of x.old) }
+    ensures kept { Keeps x.old x.new }
+    ensures count { (x.new.retired ≤ x.old.retired + 4) × (x.new.older_steps ≤ x.old.older_steps + 4) }
+{
+    if l == b'O' { older(x) } else { whole(x) }
 }
 
 /// The letters of a tick, up to the first that does not go on.
-pub fn letters(letters: &[u8], x: &mut Cpu) -> Result<(), TickEnd>
+pub fn letters(letters: &[u8], x: &mut Cpu) -> Result<(), Cause>
     requires few { length letters.now ≤ 8 }
-    requires count { (x.old.retired < 2 ^ 62) × (x.old.older_steps < 2 ^ 62) }
-    requires between { (x.old.window.a ≡ 0) × (x.old.window.b ≡ 0) }
-    ensures value { (listing : Listing) → IsListing (flash_at (memory_of x.old.mem)) listing → reached_by_tick result x.new ≡ letter_steps listing 0 letters.now (config_of x.old) }
-    ensures memory { memory_of x.new.mem ≡ memory_of x.old.mem }
-    ensures between { (x.new.window.a ≡ 0) × (x.new.window.b ≡ 0) }
-    ensures count { (x.new.retired ≤ x.old.retired + 8) × (x.new.older_steps ≤ x.old.older_steps + 8) }
+    requires older { All (λ l. l ≢ younger_letter) letters.now }
+    requires count { (x.old.retired < 2 ^ 61) × (x.old.older_steps < 2 ^ 61) }
+    requires position { IsPosition x.old }
+    ensures value { (listing : Listing) → IsListing (flash_at (memory_of x.old.mem)) listing
+        → reached_by_tick result x.new ≡ letter_steps (core listing (memory_of x.old.mem).around) 0 letters.now (config_of x.old) }
+    ensures kept { Keeps x.old x.new }
+    ensures count { (x.new.retired ≤ x.old.retired + 32) × (x.new.older_steps ≤ x.old.older_steps + 32) }
 {
-    let mut step = 0;
     for l in letters {
-        step += 1;
-        if let Err(end) = letter(*l, x) {
-            return Err(tick_end(step, *l, end));
-        }
+        letter(*l, x)?;
     }
     Ok(())
 }
@@ -154,37 +248,16 @@ fn stop_outcome(tick: u32, stop: Stop, pc: u32, n: u64) -> Outcome
     }
 }
 
-// The address of the instruction that stops.
-fn stopped_pc(regs: &Regs, younger: bool) -> u32
-    ensures { (m : Memory) (output : List ℕ) (c : Config State) (e : Cause) → c.state ≡ state_of regs.now m output → result ≡ pc_of c (record { cause = e; younger = younger }) }
-{
-    if younger {
-        regs.pc.wrapping_add(4)
-    } else {
-        regs.pc
-    }
-}
-
-// The steps of the older with one that stops, unless it is the younger's.
-fn steps_with(steps: u64, younger: bool) -> u64
-    requires { steps < 2 ^ 63 }
-    ensures value { result ≡ (if younger then steps else steps + 1) }
-    ensures few { result ≤ steps + 1 }
-{
-    if younger { steps } else { steps + 1 }
-}
-
-// How a run ends by an instruction that stops. One that halts is retired, and the step of an older one counts.
-fn stopped(tick: u32, cause: Cause, younger: bool, x: &mut Cpu) -> Outcome
+/// How a run ends by an instruction that stops. One that halts is retired, and its last step counts.
+pub fn conclude(tick: u32, cause: Cause, x: &mut Cpu) -> Outcome
     requires { (x.old.retired < 2 ^ 63) × (x.old.older_steps < 2 ^ 63) }
-    ensures outcome { result ≡ end_outcome tick (config_of x.old) (TickEnd.Stopped cause younger) }
-    ensures config { config_of x.new ≡ end_config (config_of x.old) (TickEnd.Stopped cause younger) }
+    ensures outcome { result ≡ outcome_of tick [] (config_of x.old) (stopping cause) }
+    ensures config { config_of x.new ≡ at_stop (config_of x.old) (stopping cause) }
     ensures memory { memory_of x.new.mem ≡ memory_of x.old.mem }
-    ensures between { (x.new.window.a ≡ x.old.window.a) × (x.new.window.b ≡ x.old.window.b) }
+    ensures position { (x.new.window ≡ x.old.window) × (x.new.regs ≡ x.old.regs) }
     ensures count { (x.new.retired ≤ x.old.retired + 1) × (x.new.older_steps ≤ x.old.older_steps + 1) }
 {
-    let pc = stopped_pc(&x.regs, younger);
-    x.older_steps = steps_with(x.older_steps, younger);
+    x.older_steps += 1;
     match cause {
         Cause::Halt(reason) => {
             x.retired += 1;
@@ -194,21 +267,6 @@ fn stopped(tick: u32, cause: Cause, younger: bool, x: &mut Cpu) -> Outcome
             }
         }
         Cause::Full => Outcome::OutputFull { tick },
-        Cause::Stop(stop) => stop_outcome(tick, stop, pc, x.retired),
-    }
-}
-
-/// How a run ends by a tick that does not go on.
-pub fn conclude(tick: u32, end: TickEnd, x: &mut Cpu) -> Outcome
-    requires { (x.old.retired < 2 ^ 63) × (x.old.older_steps < 2 ^ 63) }
-    ensures outcome { result ≡ end_outcome tick (config_of x.old) end }
-    ensures config { config_of x.new ≡ end_config (config_of x.old) end }
-    ensures memory { memory_of x.new.mem ≡ memory_of x.old.mem }
-    ensures between { (x.new.window.a ≡ x.old.window.a) × (x.new.window.b ≡ x.old.window.b) }
-    ensures count { (x.new.retired ≤ x.old.retired + 1) × (x.new.older_steps ≤ x.old.older_steps + 1) }
-{
-    match end {
-        TickEnd::Stopped { cause, younger } => stopped(tick, cause, younger, x),
-        TickEnd::Broken { step, rule } => Outcome::RuleBroken { tick, step, rule },
+        Cause::Stop(stop) => stop_outcome(tick, stop, x.regs.pc, x.retired),
     }
 }

@@ -9,6 +9,7 @@ ghost use Rattle.hm_machine.specs.Turns.{turned, LoadRefuses};
 ghost use Rattle.hm_mem.specs.Memory.{flash_at, told_at, tainted_at};
 ghost use Rattle.hm_run.specs.Headline.{Headline, PlainReport};
 ghost use Rattle.hm_run.specs.InOrder.{in_order};
+ghost use Rattle.hm_run.specs.Program.{core};
 ghost use Rattle.hm_run.specs.Report.{report_text, memory_text};
 ghost use Rattle.hm_run.specs.Timed.{next};
 ghost use Rattle.hm_sched.specs.Schedule.{Sched, plain, ticks_of, most_ticks};
@@ -167,7 +168,7 @@ impl Machine {
     // Does one tick of a run that goes on.
     fn advance(&mut self)
         requires { self.old.outcome ≡ None }
-        ensures next { (listing : Listing) → IsListing (flash_at self.old.memory) listing → timed_of self.new ≡ next listing self.old.left (timed_of self.old) }
+        ensures next { (listing : Listing) → IsListing (flash_at self.old.memory) listing → timed_of self.new ≡ next (core listing self.old.memory.around) self.old.left (timed_of self.old) }
         ensures left { self.new.outcome ≡ None → self.new.left ≡ drop 1 self.old.left }
         ensures fewer { length self.new.left < length self.old.left }
         ensures once { self.new.ticks ≡ self.old.ticks + 1 }
@@ -182,7 +183,7 @@ impl Machine {
                 Some(cursor) => self.cursor = cursor,
                 None => self.outcome = Some(Outcome::OutOfTicks),
             },
-            Err(end) => self.outcome = Some(conclude(self.ticks, end, &mut self.cpu)),
+            Err(cause) => self.outcome = Some(conclude(self.ticks, cause, &mut self.cpu)),
         }
     }
 
