@@ -4,3 +4,4 @@ pub mod Wholes
 pub mod Orders
 pub mod Ends
 pub mod Plain
+pub mod Laws

@@ -170,7 +170,7 @@ module _ (x : Around) (thread : x.actor ≡ Thread) where
       subst Clean f.over (λ a. four (Byte a))
 
   -- the row with its context
-  pub row_leaves : (v : Vector) (s t : State) → Clean s → vector_row v s ≡ Ok t → Clean t × (t.rest.devices ≡ s.rest.devices) × (t.pc ≡ s.pc + 4)
+  pub row_leaves : (v : Vector) (s t : State) → Clean s → vector_row v s ≡ Ok t → Clean t × (t.rest.devices ≡ s.rest.devices)
   row_leaves v s t clean e =
       let begun = then_ok (ready_state v s) (λ u. Ok (vector_whole v u)) t e in
       let context : with_context s ≡ begun.0 = (not_refused (refuse v (with_context s)) (with_context s) begun.0 begun.1).1 in
@@ -178,5 +178,12 @@ module _ (x : Around) (thread : x.actor ≡ Thread) where
       let ends : vector_whole v begun.0 ≡ t = ok_same begun.2 in (
         subst Clean ends (whole_clean v begun.0 there),
         ap (λ (u : State). u.rest.devices) (sym ends) ∙ ap (λ (r : Rest). r.devices) (whole_rest v begun.0 there) ∙ ap (λ (u : State). u.rest.devices) (sym context) ∙ context_devices s,
-        ap (λ (u : State). u.pc) (sym ends) ∙ (vector_laws v).next x begun.0 (vector_whole v begun.0) refl ∙ ap (λ (u : State). u.pc + 4) (sym context) ∙ ap (λ (p : ℕ). p + 4) (context_pc s),
       )
+
+-- the next instruction stands behind it
+pub row_pc : (v : Vector) (s t : State) → vector_row v s ≡ Ok t → t.pc ≡ s.pc + 4
+row_pc v s t e =
+    let begun = then_ok (ready_state v s) (λ u. Ok (vector_whole v u)) t e in
+    let context : with_context s ≡ begun.0 = (not_refused (refuse v (with_context s)) (with_context s) begun.0 begun.1).1 in
+    ap (λ (u : State). u.pc) (sym (ok_same begun.2)) ∙ (vector_laws v).next s.rest.around begun.0 (vector_whole v begun.0) refl
+    ∙ ap (λ (u : State). u.pc + 4) (sym context) ∙ ap (λ (p : ℕ). p + 4) (context_pc s)

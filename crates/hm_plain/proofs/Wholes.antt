@@ -58,7 +58,7 @@ stops_in (Err f) s = refl
 
 module _ (around : Around) (thread : around.actor ≡ Thread) where
   row_kept : (v : Vector) (s : State) → Clean s → (r : Result State WholeStop) → vector_row v s ≡ r → Leaves s r
-  row_kept v s clean (Ok t) e = let h = row_leaves around thread v s t clean e in (h.0, h.1)
+  row_kept v s clean (Ok t) e = row_leaves around thread v s t clean e
   row_kept v s clean (Err w) e = tt
 
   pub leaves : (r : Result Instr Fault) (s : State) → Clean s → Leaves s (whole_here r s)
