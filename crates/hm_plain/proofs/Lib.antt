@@ -5,3 +5,4 @@ pub mod Orders
 pub mod Ends
 pub mod Plain
 pub mod Laws
+pub mod Ticks
