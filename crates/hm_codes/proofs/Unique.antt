@@ -1,8 +1,9 @@
 -- No two instructions have one code, and so at most one stands at an address.
-use Rattle.std.proofs.Common.{◌≡◌, ◌≤◌, ◌+◌, ◌/◌, ◌%◌, ℕ, arith, ap, refl, sym, ◌∙◌, List, [], ◌∷◌, length, slice_index, Result, Ok, Err}
+use Rattle.std.proofs.Common.{◌≡◌, ◌≤◌, ◌+◌, ◌/◌, ◌%◌, ℕ, true, false, arith, ap, refl, sym, ◌∙◌, List, [], ◌∷◌, length, slice_index, Result, Ok, Err}
 use Rattle.std.specs.Prelude.{if◌then◌else◌}
 use Rattle.std.proofs.lemmas.Bool.Decides.{nat_tests}
 use Rattle.hm_base.specs.declared.Fault.{Fault}
+use Rattle.hm_base.specs.Image.{flash_size}
 use Rattle.hm_isa.specs.declared.Scalar.{Scalar}
 use Rattle.hm_isa.specs.declared.Scalar.TheVariants as scalar
 use Rattle.hm_isa.specs.declared.Vector.{Vector}
@@ -81,6 +82,24 @@ length-halfwords : (flash : ℕ → ℕ) (a : ℕ) (i : Instr) → Stands flash 
 length-halfwords flash a (instr.Scalar s) h = sym (narrow_scalar s) ∙ ap code_length (sym h.code.1)
 length-halfwords flash a (instr.Branch b) h = elim b [ ]
 length-halfwords flash a (instr.Vector v) h = sym (long_first _ (long_vector v)) ∙ ap code_length (sym h.code.1)
+
+-- a first half that begins no code of two is the whole code
+pub one_half : (flash : ℕ → ℕ) (a : ℕ) (i : Instr) → Stands flash a i → is_long (half_at flash a) ≡ false → halfwords i ≡ half_at flash a ∷ []
+one_half flash a (instr.Scalar s) h short = ap (λ k. k ∷ []) (sym h.code.1)
+one_half flash a (instr.Branch b) h short = elim b [ ]
+one_half flash a (instr.Vector v) h short =
+    absurd (let n : 2 ≡ 1 = length-halfwords flash a (instr.Vector v) h ∙ ap (λ b. if b then 2 else 1) short in omega arith)
+
+-- one that begins a code of two is followed by the other half
+pub two_halves : (flash : ℕ → ℕ) (a : ℕ) (i : Instr) → Stands flash a i → is_long (half_at flash a) ≡ true → (a + 2 + 2 ≤ flash_size)
+    × (halfwords i ≡ half_at flash a ∷ half_at flash (a + 2) ∷ [])
+two_halves flash a (instr.Scalar s) h long =
+    absurd (let n : 1 ≡ 2 = length-halfwords flash a (instr.Scalar s) h ∙ ap (λ b. if b then 2 else 1) long in omega arith)
+two_halves flash a (instr.Branch b) h long = elim b [ ]
+two_halves flash a (instr.Vector v) h long =
+    let high : vector_code v / 65536 ≡ half_at flash a = sym h.code.1 in
+    let low : vector_code v % 65536 ≡ half_at flash (a + 2) = sym h.code.2.1 in
+    (h.code.2.0, cc)
 
 -- as many halfwords that stand at one address are the same
 same_halves : (flash : ℕ → ℕ) (hs ks : List ℕ) (a : ℕ) → length hs ≡ length ks → HalvesStand flash hs a → HalvesStand flash ks a → hs ≡ ks

@@ -24,7 +24,7 @@ pub enum Scalar {
 }
 
 /// An instruction of the branch rows.
-#[derive(Clone, Copy, Debug, PartialEq, Eq)]
+#[derive(Clone, Copy)]
 pub enum Branch {}
 
 /// An instruction of the vector rows: DDI0553, "M-profile Vector Extension".
@@ -37,7 +37,7 @@ pub enum Vector {
 }
 
 /// An instruction. Each value is one of a row, with its fields in range.
-#[derive(Clone, Copy, Debug, PartialEq, Eq)]
+#[derive(Clone, Copy)]
 pub enum Instr {
     Scalar(Scalar),
     Branch(Branch),
