@@ -1,5 +1,5 @@
 -- The machine of a program keeps the laws of the machine that overlaps beats.
-use Rattle.std.proofs.Common.{◌≡◌, ℕ, ◌+◌, ◌%◌, ◌^◌, ◌&&◌, ◌||◌, ◌<◌, ap, refl, sym, ◌∙◌, subst, Bool, true, false, not, eqb, nat_lt, cond, Option, Some, None, Result, Ok, Err, inl, inr, ⊎_elim, ◌⊎◌}
+use Rattle.std.proofs.Common.{◌≡◌, ℕ, ◌+◌, ◌%◌, ◌^◌, ◌&&◌, ◌||◌, ap, refl, sym, ◌∙◌, subst, Bool, true, false, not, eqb, nat_lt, cond, Option, Some, None, Result, Ok, Err, inl, inr, ⊎_elim, ◌⊎◌}
 use Rattle.std.specs.Option.{is_none}
 use Rattle.hm_base.specs.Place.{same_place, fit}
 use Rattle.hm_base.specs.declared.Fault.{Fault}
@@ -32,10 +32,10 @@ use Rattle.hm_rows.specs.Rows.{refuse, vector_tree, vector_whole, writes_lr}
 use Rattle.hm_run.specs.declared.Cause.{Cause}
 use Rattle.hm_run.specs.declared.Cause.TheVariants as cause
 use Rattle.hm_run.specs.declared.Rule.TheVariants as rule
-use Rattle.hm_run.specs.Program.{Watched, In, Beside, Held, Holds, Others, open_rest, held, dead, view, rows, core, alone, begins, caused, cause_of, in_machine, is_ready, is_tainted, lifted, made_by, on_cell, ready_state, step_rule, unless_refused, vector_of, vector_row, whole_here}
+use Rattle.hm_run.specs.Program.{Watched, In, Beside, Held, Holds, Others, open_rest, held, dead, view, rows, core, alone, begins, caused, cause_of, in_machine, is_ready, is_tainted, lifted, made_by, on_cell, ready_state, step_rule, unless_refused, vector_of, whole_here}
 use Rattle.hm_run.specs.Rows as row
 use Rattle.hm_run.specs.Rows.{WholeStop, negative, with_nz, with_sum_flags, go_on, movs, adds}
-use Rattle.hm_plain.proofs.Given.{keeps_lr, vector_laws}
+use Rattle.hm_rows.proofs.Rows.{keeps_lr, row_laws}
 use Rattle.hm_plain.proofs.Vectors.{Four, beat_rest, context_clean, context_is, context_pc, context_still, context_there, four_is, fresh, keeps_lr_now, not_refused, ready_same, refuse_same, row_pc}
 use Rattle.hm_plain.proofs.Wholes.{Leaves, leaves}
 
@@ -267,7 +267,7 @@ module _ (b : Tree) where
 module _ (x : Around) (thread : x.actor ≡ Thread) where
   -- the rows over the cells alone keep the laws
   over_cells : BeatLaws (ordered Vector (λ v. vector_tree v x) writes_lr)
-  over_cells = ordered_laws Vector vector_tree (λ v y s. Ok (vector_whole v s)) vector_laws writes_lr keeps_lr x thread
+  over_cells = ordered_laws Vector vector_tree (λ v y s. Ok (vector_whole v s)) row_laws writes_lr keeps_lr x thread
 
   may_loop : (v : Vector) (s : State) → (not (writes_lr v) || eqb (at Ltp s) 4) ≡ true
   may_loop v s = ap (λ (b : Bool). not b || eqb (at Ltp s) 4) (keeps_lr_now v)
@@ -276,7 +276,7 @@ module _ (x : Around) (thread : x.actor ≡ Thread) where
   size_kept v k s = one_of (nat_lt k 4)
     where
       one_of : (b : Bool) → (action cells (cond b (vector_tree v x k) nothing)).sets s (At Ltp) ≡ false
-      one_of true = (vector_laws v).size x k s
+      one_of true = (row_laws v).size x k s
       one_of false = refl
 
   valid : (v j : Vector) (k : ℕ) (s t : State) → caused ((action cells (of_four (vector_tree v x) k)).run s) ≡ Ok t → is_ready j t ≡ is_ready j s
@@ -366,7 +366,7 @@ start_live v s t h pc =
     let a = context_agree s t (agree s t h) in
     let same : refuse v (with_context s) ≡ refuse v (with_context t)
     = refuse_same v (with_context s) (with_context t) (ap (λ (r : Rest). r.it) a.rest) (ap (λ (y : Value). y.n) (a.places Ltp)) (ap (λ (r : Rest). r.fpca) a.rest)
-      (context_pc s ∙ pc ∙ sym (context_pc t)) in
+    (context_pc s ∙ pc ∙ sym (context_pc t)) in
     subst (λ (o : Option Fault). Alike (Live view) (begins v s) (in_machine (unless_refused o (with_context t)))) same
     (begin_alike (refuse v (with_context s)) (with_context s) (with_context t) (live (with_context s) (with_context t) a))
 

@@ -1,4 +1,3 @@
-pub mod Given
 pub mod Vectors
 pub mod Wholes
 pub mod Orders

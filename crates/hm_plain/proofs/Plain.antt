@@ -24,7 +24,7 @@ use Rattle.hm_state.specs.State.{State, listed, regs_of, sram_bytes, taint_bytes
 use Rattle.hm_state.proofs.Lists.{length-listed, get_or-listed}
 use Rattle.hm_plain.specs.Orders.{StaysStopped}
 use Rattle.hm_plain.proofs.Orders.{stays_stopped}
-use Rattle.hm_plain.proofs.Wholes.{Leaves, StopsIn, Whole, between, leaves, stops_in, whole_step}
+use Rattle.hm_plain.proofs.Wholes.{Leaves, StopsIn, between, comes_to, leaves, stops_in, whole_step}
 use Rattle.hm_run.proofs.Steps.{tick_end_still, ticked, next_ended}
 
 -- WHAT A PLAIN RUN TELLS OF THE INSTRUCTIONS IN ORDER
@@ -87,7 +87,7 @@ module _ (listing : Listing) (n : ℕ) where
   abbrev after_tick : ℕ → ℕ → ℕ → State → ℕ → Result State WholeStop → Timed
   after_tick left t k s j r =
       closed (repeat left (plain_line n) []) (ended (plain_line n) (going None t k s)
-      (then (at_step 1 false (Whole listing plain_around t k s j r)) (letter_steps plain_program 1 [])))
+      (then (at_step 1 false (comes_to listing plain_around t k s j r)) (letter_steps plain_program 1 [])))
 
   plain_step : (left t k : ℕ) (s : State) (j : ℕ) (r : Result State WholeStop) → s.rest.devices ≡ first_devices → Leaves s r → StopsIn s (plain_program.made s) r
       → Tells left (suc t) (after_tick left t k s j r) (after t s r)
@@ -113,7 +113,7 @@ module _ (listing : Listing) (n : ℕ) where
       let rest = repeat left (plain_line n) [] in
       let whole = whole_step listing plain_around refl t k s clean in
       let letters : letter_steps plain_program 0 (plain_line n).letters (between t k s)
-          ≡ then (at_step 1 false (Whole listing plain_around t k s whole.0 (alone listing s))) (letter_steps plain_program 1 [])
+      ≡ then (at_step 1 false (comes_to listing plain_around t k s whole.0 (alone listing s))) (letter_steps plain_program 1 [])
       = ap (λ (r : Stepped). then (at_step 1 false r) (letter_steps plain_program 1 [])) whole.1 in
       let step : next_tick plain_program (plain_line n ∷ rest) (going None t k s) ≡ after_tick left t k s whole.0 (alone listing s)
       = ticked plain_program (plain_line n) rest (going None t k s) _ refl letters in

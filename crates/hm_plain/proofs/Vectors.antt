@@ -1,5 +1,5 @@
 -- A vector row, alone: the context that it makes, its refusal, and its four beats.
-use Rattle.std.proofs.Common.{◌≡◌, ℕ, ◌+◌, Bool, true, false, not, ◌&&◌, ◌||◌, cond, nat_eq, nat_lt, List, map, Option, Some, None, Result, Ok, Err, inr, refl, sym, ◌∙◌, ap, subst}
+use Rattle.std.proofs.Common.{◌≡◌, ℕ, ◌+◌, Bool, true, false, not, ◌&&◌, ◌||◌, cond, nat_eq, nat_lt, map, Option, Some, None, Result, Ok, inr, refl, sym, ◌∙◌, ap, subst}
 use Rattle.std.specs.Option.{is_none}
 use Rattle.hm_base.specs.declared.Fault.{Fault}
 use Rattle.hm_base.specs.declared.FaultKind.TheVariants.{InvState}
@@ -9,22 +9,20 @@ use Rattle.hm_isa.specs.declared.Vector.{Vector}
 use Rattle.hm_isa.specs.declared.Vector.TheVariants.{V1, V15}
 use Rattle.hm_mem.specs.Memory.{Around}
 use Rattle.hm_mem.specs.declared.Actor.TheVariants.{Thread}
-use Rattle.hm_mem.specs.declared.Dev.{Dev}
 use Rattle.hm_order.specs.Beats.{then}
 use Rattle.hm_order.proofs.Results.{ok_same, ok_err, then_ok}
-use Rattle.hm_state.specs.State.{State, At, Byte, Cell, Value, Rest, at, cells}
+use Rattle.hm_state.specs.State.{State, At, Byte, Rest, at, cells}
 use Rattle.hm_state.proofs.Cells.{cell_laws}
 use Rattle.hm_beat.specs.Trees.{Alive, action, checked, reach}
 use Rattle.hm_beat.specs.Rows.{Tree, retired}
 use Rattle.hm_beat.specs.Effects.{four_beats}
-use Rattle.hm_beat.specs.Laws.{Clean, MayRun}
+use Rattle.hm_beat.specs.Laws.{Clean}
 use Rattle.hm_beat.proofs.Calm.{beat_alive}
 use Rattle.hm_beat.proofs.Trees.{finished, keeps_laws, written_rest}
 use Rattle.hm_rows.specs.Context.{context_cell, with_context}
 use Rattle.hm_rows.specs.Rows.{refuse, vector_tree, vector_whole, writes_lr}
 use Rattle.hm_run.specs.Program.{is_ready, ready_state, unless_refused, vector_row}
-use Rattle.hm_run.specs.Rows.{WholeStop}
-use Rattle.hm_plain.proofs.Given.{keeps_lr, vector_laws}
+use Rattle.hm_rows.proofs.Rows.{keeps_lr, row_laws}
 
 -- THE CONTEXT
 -- the state with a new context
@@ -148,10 +146,10 @@ alive s h (Byte a) = h a
 module _ (x : Around) (thread : x.actor ≡ Thread) where
   -- the whole of a row is its four beats
   pub four_is : (v : Vector) (s : State) → Clean s → Four (vector_tree v x) s (vector_whole v s)
-  four_is v s clean = four_of (vector_tree v x) s (vector_whole v s) ((vector_laws v).four x s thread (inr (keeps_lr v x (keeps_lr_now v))) clean)
+  four_is v s clean = four_of (vector_tree v x) s (vector_whole v s) ((row_laws v).four x s thread (inr (keeps_lr v x (keeps_lr_now v))) clean)
 
   beat_leaves : (v : Vector) (k : ℕ) (s t : State) → Alive cells s → (action cells (vector_tree v x k)).run s ≡ Ok t → Alive cells t
-  beat_leaves v k s t h e = beat_alive cells cell_laws (vector_tree v x k) s t ((vector_laws v).careful x k s thread).lives h e
+  beat_leaves v k s t h e = beat_alive cells cell_laws (vector_tree v x k) s t ((row_laws v).careful x k s thread).lives h e
 
   -- it leaves what stands in no cell, and no cell tainted
   pub whole_rest : (v : Vector) (s : State) → Clean s → (vector_whole v s).rest ≡ s.rest
@@ -185,5 +183,5 @@ pub row_pc : (v : Vector) (s t : State) → vector_row v s ≡ Ok t → t.pc ≡
 row_pc v s t e =
     let begun = then_ok (ready_state v s) (λ u. Ok (vector_whole v u)) t e in
     let context : with_context s ≡ begun.0 = (not_refused (refuse v (with_context s)) (with_context s) begun.0 begun.1).1 in
-    ap (λ (u : State). u.pc) (sym (ok_same begun.2)) ∙ (vector_laws v).next s.rest.around begun.0 (vector_whole v begun.0) refl
+    ap (λ (u : State). u.pc) (sym (ok_same begun.2)) ∙ (row_laws v).next s.rest.around begun.0 (vector_whole v begun.0) refl
     ∙ ap (λ (u : State). u.pc + 4) (sym context) ∙ ap (λ (p : ℕ). p + 4) (context_pc s)

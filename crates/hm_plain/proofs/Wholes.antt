@@ -1,5 +1,5 @@
 -- The letter W, between two instructions, does what the whole of the next one does alone.
-use Rattle.std.proofs.Common.{◌≡◌, ℕ, suc, ◌+◌, ◌==◌, arith, ap, refl, sym, ◌∙◌, subst, Bool, true, false, cond, Option, Some, None, Result, Ok, Err, add-one}
+use Rattle.std.proofs.Common.{◌≡◌, ℕ, suc, ◌==◌, arith, ap, refl, sym, ◌∙◌, subst, Bool, true, cond, Option, Some, None, Result, Ok, Err, add-one}
 use Rattle.std.proofs.lemmas.Bool.Decides.{nat_tests}
 use Rattle.hm_base.specs.declared.Fault.{Fault}
 use Rattle.hm_base.specs.declared.Stop.{Stop}
@@ -11,8 +11,7 @@ use Rattle.hm_isa.specs.declared.Vector.{Vector}
 use Rattle.hm_mem.specs.Memory.{Around}
 use Rattle.hm_mem.specs.declared.Actor.TheVariants.{Thread}
 use Rattle.hm_order.specs.Beats.{then}
-use Rattle.hm_order.specs.Machine.{Config, End, Stopped, begun, done, older, settle}
-use Rattle.hm_order.proofs.Positions.{begun_same}
+use Rattle.hm_order.specs.Machine.{Config, Stopped, begun, done, older, settle}
 use Rattle.hm_state.specs.State.{State, cells}
 use Rattle.hm_beat.specs.Trees.{action}
 use Rattle.hm_beat.specs.Laws.{Clean}
@@ -94,7 +93,7 @@ module _ (listing : Listing) (around : Around) where
   -- the whole of a row, from a state that is ready for it
   row_on : (v : Vector) (n k : ℕ) (s t w : State) → vector_of (listing s.pc) ≡ Some v → t.pc ≡ s.pc → Four (vector_tree v around) t w
       → then (done machine (between n k s) (caused ((action cells (vector_tree v around 0)).run t)) (settle machine 1 0 n (suc k))) (again machine 3 n)
-        ≡ Ok (between (suc n) (suc (suc (suc (suc k)))) w)
+      ≡ Ok (between (suc n) (suc (suc (suc (suc k)))) w)
   row_on v n k s t w here same f =
       let pc_one : f.one.pc ≡ s.pc = beat_pc (vector_tree v around 0) t f.one f.first ∙ same in
       let pc_two : f.two.pc ≡ s.pc = beat_pc (vector_tree v around 1) f.one f.two f.second ∙ pc_one in
@@ -109,24 +108,24 @@ module _ (listing : Listing) (around : Around) where
       ∙ ap (λ (u : State). Ok (between (suc n) (suc (suc (suc (suc k)))) u)) f.over
 
   -- WHAT W COMES TO, by what the instruction comes to alone: j steps were done then
-  abbrev pub Whole : ℕ → ℕ → State → ℕ → Result State WholeStop → Stepped
-  Whole n k s j (Ok t) = Ok (between (suc n) j t)
-  Whole n k s j (Err w) = Err (Stopped (begun machine (between n k s)) (cause_of w))
+  abbrev pub comes_to : ℕ → ℕ → State → ℕ → Result State WholeStop → Stepped
+  comes_to n k s j (Ok t) = Ok (between (suc n) j t)
+  comes_to n k s j (Err w) = Err (Stopped (begun machine (between n k s)) (cause_of w))
 
   -- an instruction that is no vector row
   other_ends : (n k : ℕ) (s : State) (r : Result State WholeStop)
-      → then (done machine (between n k s) (in_machine r) (past (between n k s))) (again machine 3 n) ≡ Whole n k s (suc k) r
+      → then (done machine (between n k s) (in_machine r) (past (between n k s))) (again machine 3 n) ≡ comes_to n k s (suc k) r
   other_ends n k s (Ok t) = again_done machine 2 n (past (between n k s) t) (sym (add-one n))
   other_ends n k s (Err w) = refl
 
-  other_step : (n k : ℕ) (s : State) → vector_of (listing s.pc) ≡ None → letter_step machine whole_letter (between n k s) ≡ Whole n k s (suc k) (alone listing s)
+  other_step : (n k : ℕ) (s : State) → vector_of (listing s.pc) ≡ None → letter_step machine whole_letter (between n k s) ≡ comes_to n k s (suc k) (alone listing s)
   other_step n k s none =
       ap (λ (r : Stepped). then r (again machine 3 n)) (older_other listing around (between n k s) none) ∙ other_ends n k s (alone listing s)
 
   module _ (thread : around.actor ≡ Thread) where
     row_ends : (v : Vector) (n k : ℕ) (s : State) → Clean s → vector_of (listing s.pc) ≡ Some v → (q : Result State WholeStop) → ready_state v s ≡ q
         → then (done machine (between n k s) (then (in_machine q) ((rows around).act v 0).run) (settle machine 1 0 n (suc k))) (again machine 3 n)
-          ≡ Whole n k s (suc (suc (suc (suc k)))) (then q (λ t. Ok (vector_whole v t)))
+        ≡ comes_to n k s (suc (suc (suc (suc k)))) (then q (λ t. Ok (vector_whole v t)))
     row_ends v n k s clean here (Err w) e = refl
     row_ends v n k s clean here (Ok t) e =
         let context : with_context s ≡ t = (not_refused (refuse v (with_context s)) (with_context s) t e).1 in
@@ -134,20 +133,20 @@ module _ (listing : Listing) (around : Around) where
         (four_is around thread v t (subst Clean context (context_clean s clean)))
 
     row_step : (v : Vector) (n k : ℕ) (s : State) → Clean s → listing s.pc ≡ Ok (instr.Vector v)
-        → letter_step machine whole_letter (between n k s) ≡ Whole n k s (suc (suc (suc (suc k)))) (alone listing s)
+        → letter_step machine whole_letter (between n k s) ≡ comes_to n k s (suc (suc (suc (suc k)))) (alone listing s)
     row_step v n k s clean e =
         let here : vector_of (listing s.pc) ≡ Some v = ap vector_of e in
         ap (λ (r : Stepped). then r (again machine 3 n)) (older_vector listing around (between n k s) v here)
         ∙ row_ends v n k s clean here (ready_state v s) refl
-        ∙ ap (λ (r : Result Instr Fault). Whole n k s (suc (suc (suc (suc k)))) (whole_here r s)) (sym e)
+        ∙ ap (λ (r : Result Instr Fault). comes_to n k s (suc (suc (suc (suc k)))) (whole_here r s)) (sym e)
 
     step_of : (n k : ℕ) (s : State) → Clean s → (r : Result Instr Fault) → listing s.pc ≡ r
-        → (j : ℕ) × (letter_step machine whole_letter (between n k s) ≡ Whole n k s j (alone listing s))
+        → (j : ℕ) × (letter_step machine whole_letter (between n k s) ≡ comes_to n k s j (alone listing s))
     step_of n k s clean (Ok (instr.Scalar i)) e = (suc k, other_step n k s (ap vector_of e))
     step_of n k s clean (Ok (instr.Branch i)) e = elim i [ ]
     step_of n k s clean (Ok (instr.Vector v)) e = (suc (suc (suc (suc k))), row_step v n k s clean e)
     step_of n k s clean (Err f) e = (suc k, other_step n k s (ap vector_of e))
 
     -- the whole of the next instruction, in one step or in four
-    pub whole_step : (n k : ℕ) (s : State) → Clean s → (j : ℕ) × (letter_step machine whole_letter (between n k s) ≡ Whole n k s j (alone listing s))
+    pub whole_step : (n k : ℕ) (s : State) → Clean s → (j : ℕ) × (letter_step machine whole_letter (between n k s) ≡ comes_to n k s j (alone listing s))
     whole_step n k s clean = step_of n k s clean (listing s.pc) refl
