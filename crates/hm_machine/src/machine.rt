@@ -217,6 +217,12 @@ impl Machine {
         ensures outcome { self.new.outcome ≡ Some result }
         ensures ended { IsSome self.old.outcome → self.new ≡ self.old }
         ensures turns { self.new.ticks ≤ self.old.ticks + length self.old.left }
+        // From the start of a plain schedule the report is that of the instructions in order; of a fault the first line.
+        ensures plain { (image : List Segment) (n : ℕ) (listing : Listing) → IsListing (flash_byte image) listing → Shows image (plain n) 0 self.old
+            → PlainReport (timed_of self.new) (in_order listing image n) }
+        // Where it halts after n instructions, they halt there in order, with this report and these bytes of memory.
+        ensures headline { (image : List Segment) (n : ℕ) (listing : Listing) → IsListing (flash_byte image) listing → Shows image (plain n) 0 self.old
+            → Headline listing image (timed_of self.new) (report_text (timed_of self.new)) (memory_text (timed_of self.new)) }
     {
         while self.is_running() {
             let _turn = self.tick();

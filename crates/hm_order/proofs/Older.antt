@@ -39,7 +39,7 @@ module _ {S I C V E W B : Type 0} (M : Core S I C V E W B) (laws : CoreLaws M) w
       one_more = let count = h.count in omega arith
 
       alike : Alike (Live M.rows.view) (M.start i c.state) (M.start i y)
-      alike = laws.start_live i c.state y live
+      alike = laws.start_live i c.state y live pc
 
       four : (s : S) → M.start i c.state ≡ Ok s → Reaches M (beats M.rows i 0 4 s) (M.whole i y) o 0
       four s e =
@@ -98,7 +98,7 @@ module _ {S I C V E W B : Type 0} (M : Core S I C V E W B) (laws : CoreLaws M) w
       Ends u v = Live M.rows.view u v × (M.rows.view.pc u ≡ M.rows.view.pc v)
 
       tells : StopsBy M.rows.tainted (M.other c.state) ⊎ AlikeAs M.stop_of Ends (M.other c.state) (M.alone y)
-      tells = laws.other_live c.state y live pc clean
+      tells = laws.other_live c.state y live pc here clean
 
       follows : next M y ≡ M.alone y
       follows = ap (λ o. next_of M o y) here

@@ -152,11 +152,12 @@ module _ {S I C V E W B : Type 0} (M : Core S I C V E W B) where
     pub start_pc : (i : I) (s t : S) → M.start i s ≡ Ok t → M.rows.view.pc t ≡ M.rows.view.pc s
     pub made_pc : (s : S) → M.rows.view.pc (M.made s) ≡ M.rows.view.pc s
     pub started : (i : I) (s : S) → M.rows.ready i s ≡ true → M.start i s ≡ Ok s
-    pub start_live : (i : I) (s t : S) → Live M.rows.view s t → Alike (Live M.rows.view) (M.start i s) (M.start i t)
+    -- at one program counter a row begins alike, whatever the dead cells hold
+    pub start_live : (i : I) (s t : S) → Live M.rows.view s t → M.rows.view.pc s ≡ M.rows.view.pc t → Alike (Live M.rows.view) (M.start i s) (M.start i t)
     pub jump_pc : (p : ℕ) (s : S) → M.rows.view.pc (M.jump p s) ≡ p
     pub jump_same : (p : ℕ) (s : S) → Same M.rows.view (M.jump p s) s
     -- from a state with dead cells an instruction that is no vector row stops as tainted, or does what it does alone
-    pub other_live : (s t : S) → Live M.rows.view s t → M.rows.view.pc s ≡ M.rows.view.pc t → Clean t
+    pub other_live : (s t : S) → Live M.rows.view s t → M.rows.view.pc s ≡ M.rows.view.pc t → M.code (M.rows.view.pc t) ≡ None → Clean t
         → StopsBy M.rows.tainted (M.other s) ⊎ AlikeAs M.stop_of (λ u v. Live M.rows.view u v × (M.rows.view.pc u ≡ M.rows.view.pc v)) (M.other s) (M.alone t)
     -- a whole instruction reads no dead cell
     pub untainted : (w : W) → M.rows.tainted (M.stop_of w) ≡ false

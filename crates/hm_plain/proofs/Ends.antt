@@ -5,7 +5,7 @@ use Rattle.hm_base.specs.Image.{Segment}
 use Rattle.hm_codes.specs.Listing.{Listing}
 use Rattle.hm_run.specs.declared.Outcome.{Outcome}
 use Rattle.hm_run.specs.declared.Outcome.TheVariants as outcome
-use Rattle.hm_run.specs.Timed.{Timed, begin, closed, or_out, next, tick, timed, timed_out}
+use Rattle.hm_run.specs.Timed.{Timed, begin, closed, or_out, next, thread_program, tick, timed, timed_out}
 use Rattle.hm_sched.specs.Schedule.{TickLine, Sched, ticks_of}
 use Rattle.hm_plain.specs.Ends.{HasEnded}
 use Rattle.hm_run.proofs.Steps.{next_ended}
@@ -17,7 +17,7 @@ module _ (listing : Listing) (image : List Segment) (s : Sched) where
   ended_more o t (suc k) e =
       let same = ended_more o t k e in
       let still : (timed listing image s (t + k)).outcome ≡ Some o = ap (λ (x : Timed). x.outcome) same ∙ e in
-      ap (timed listing image s) (add-suc t k) ∙ next_ended listing (drop (t + k) (ticks_of s.lines)) (timed listing image s (t + k)) o still ∙ same
+      ap (timed listing image s) (add-suc t k) ∙ next_ended (thread_program listing s) (drop (t + k) (ticks_of s.lines)) (timed listing image s (t + k)) o still ∙ same
 
   pub ended_stays : (o : Outcome) (t u : ℕ) → t ≤ u → (timed listing image s t).outcome ≡ Some o → timed listing image s u ≡ timed listing image s t
   ended_stays o t u le e =
@@ -32,9 +32,9 @@ module _ (listing : Listing) (image : List Segment) (s : Sched) where
   out_at left x e = subst (λ (l : List TickLine). HasEnded (closed l x).outcome) (sym e) (out x.outcome)
 
   -- with the last of the ticks it has ended
-  last : (t : ℕ) (left : List TickLine) (x : Timed) → length left ≡ 1 → HasEnded (next listing left x).outcome
+  last : (t : ℕ) (left : List TickLine) (x : Timed) → length left ≡ 1 → HasEnded (next (thread_program listing s) left x).outcome
   last t [] x e = absurd (omega arith)
-  last t (line ∷ []) x e = out (tick listing line x).outcome
+  last t (line ∷ []) x e = out (tick (thread_program listing s) line x).outcome
   last t (line ∷ more ∷ left) x e = absurd (omega arith)
 
   ended_at : (t : ℕ) → t ≡ length (ticks_of s.lines) → HasEnded (timed listing image s t).outcome

@@ -1,9 +1,12 @@
 -- The machine of a program keeps the laws of the machine that overlaps beats.
-use Rattle.std.proofs.Common.{◌≡◌, ℕ, ◌+◌, ◌%◌, ◌^◌, ap, refl, sym, ◌∙◌, subst, Bool, true, false, cond, Option, Some, None, Result, Ok, Err, inr, ◌⊎◌}
+use Rattle.std.proofs.Common.{◌≡◌, ℕ, ◌+◌, ◌%◌, ◌^◌, ◌&&◌, ◌||◌, ap, refl, sym, ◌∙◌, subst, Bool, true, false, not, eqb, nat_lt, cond, Option, Some, None, Result, Ok, Err, inl, inr, ⊎_elim, ◌⊎◌}
+use Rattle.std.specs.Option.{is_none}
 use Rattle.hm_base.specs.Place.{same_place, fit}
 use Rattle.hm_base.specs.declared.Fault.{Fault}
 use Rattle.hm_base.specs.declared.Place.{Place}
-use Rattle.hm_base.specs.declared.Place.TheVariants.{R}
+use Rattle.hm_base.specs.declared.Place.TheVariants.{R, QWord, P0, Mask01, Mask23, Carry, Ltp, Sticky}
+use Rattle.hm_base.specs.declared.Stop.{Stop}
+use Rattle.hm_base.specs.declared.Stop.TheVariants as stop
 use Rattle.hm_codes.specs.Listing.{Listing}
 use Rattle.hm_isa.specs.declared.Instr.{Instr}
 use Rattle.hm_isa.specs.declared.Instr.TheVariants as instr
@@ -11,15 +14,30 @@ use Rattle.hm_isa.specs.declared.Scalar.TheVariants as scalar
 use Rattle.hm_isa.specs.declared.Vector.{Vector}
 use Rattle.hm_isa.specs.declared.narrow.S3.{S3}
 use Rattle.hm_isa.specs.declared.narrow.S4.{S4}
-use Rattle.hm_order.specs.Beats.{BeatLaws, Live, AlikeAs, StopsBy}
-use Rattle.hm_order.specs.Machine.{CoreLaws, Clean, Config, Lawful}
+use Rattle.hm_mem.specs.Memory.{Around}
+use Rattle.hm_mem.specs.declared.Actor.TheVariants.{Thread}
+use Rattle.hm_order.specs.Beats.{ActionLaws, AgreeOn, Alike, BeatLaws, Live, AlikeAs, Same, SameBeat, SameTouch, StopsBy, beats, then}
+use Rattle.hm_order.specs.Machine.{CoreLaws, Clean, Config, Lawful, next, next_of}
+use Rattle.hm_order.proofs.Results.{ok_err, ok_same}
+use Rattle.hm_state.specs.State.{State, At, Byte, Cell, Value, Rest, word, at, cells, put_at}
+use Rattle.hm_state.proofs.Cells.{cell_laws}
+use Rattle.hm_beat.specs.Laws as cell
+use Rattle.hm_beat.specs.Ordered.{nothing, of_four, ordered}
+use Rattle.hm_beat.specs.Rows.{Tree, retired}
+use Rattle.hm_beat.specs.Trees.{action, view as cell_view}
+use Rattle.hm_beat.proofs.Ordered.{ordered_laws}
+use Rattle.hm_beat.proofs.Trees.{keeps_laws}
+use Rattle.hm_rows.specs.Context.{context_cell, with_context}
+use Rattle.hm_rows.specs.Rows.{refuse, vector_tree, vector_whole, writes_lr}
 use Rattle.hm_run.specs.declared.Cause.{Cause}
+use Rattle.hm_run.specs.declared.Cause.TheVariants as cause
 use Rattle.hm_run.specs.declared.Rule.TheVariants as rule
-use Rattle.hm_run.specs.Program.{Watched, In, Beside, Held, Holds, Others, open_rest, held, dead, view, rows, core, alone, whole_here, in_machine, cause_of, is_tainted, step_rule}
+use Rattle.hm_run.specs.Program.{Watched, In, Beside, Held, Holds, Others, open_rest, held, dead, view, rows, core, alone, begins, caused, cause_of, in_machine, is_ready, is_tainted, lifted, made_by, on_cell, ready_state, step_rule, unless_refused, vector_of, whole_here}
 use Rattle.hm_run.specs.Rows as row
 use Rattle.hm_run.specs.Rows.{WholeStop, negative, with_nz, with_sum_flags, go_on, movs, adds}
-use Rattle.hm_state.specs.State.{State, At, Byte, Value, Rest, word, at, put_at}
-use Rattle.hm_plain.proofs.Orders.{next_is}
+use Rattle.hm_rows.proofs.Rows.{keeps_lr, row_laws}
+use Rattle.hm_plain.proofs.Vectors.{Four, beat_rest, context_clean, context_is, context_pc, context_still, context_there, four_is, fresh, keeps_lr_now, not_refused, ready_same, refuse_same, row_pc}
+use Rattle.hm_plain.proofs.Wholes.{Leaves, leaves}
 
 -- VIEWS
 abbrev value_in : Value → Held → Value
@@ -103,48 +121,80 @@ adds_both i s t (h, e) =
     subst (λ (y : ℕ). Both (adds i s) (go_on 2 (with_sum_flags y i.i.value (put_at (R i.d.value) ((y + i.i.value) % 2 ^ 32) t)))) x
     (go_both 2 _ _ (flags_both (at (R i.n.value) s) i.i.value _ _ (put_both (R i.d.value) ((at (R i.n.value) s + i.i.value) % 2 ^ 32) s t (h, e))))
 
--- WHAT ONE INSTRUCTION DOES IN THEM
+-- THE CONTEXT OF STATES THAT AGREE
+fresh_agree : (s t : State) → Agree s t → Agree (fresh s) (fresh t)
+fresh_agree s t h = record {
+  places = places;
+  bytes = h.bytes;
+  sticky = refl;
+  rest = ap (λ (r : Rest). open_rest (record r { fpca = true; fpscr_low = 0; fpscr_middle = 0; vpr_top = 0 })) h.rest;
+}
+  where
+    places : (p : Place) → context_cell s (At p) ≡ context_cell t (At p)
+    places (R n) = h.places (R n)
+    places (QWord k) = h.places (QWord k)
+    places (P0 b) = refl
+    places Mask01 = refl
+    places Mask23 = refl
+    places Carry = refl
+    places Ltp = refl
+    places Sticky = h.places Sticky
+
+context_agree : (s t : State) → Agree s t → Agree (with_context s) (with_context t)
+context_agree s t h = by_context s.rest.fpca refl (sym (ap (λ (r : Rest). r.fpca) h.rest))
+  where
+    by_context : (b : Bool) → s.rest.fpca ≡ b → t.rest.fpca ≡ b → Agree (with_context s) (with_context t)
+    by_context true e f =
+        subst (λ (u : State). Agree u (with_context t)) (sym (context_still s e)) (subst (λ (u : State). Agree s u) (sym (context_still t f)) h)
+    by_context false e f =
+        let new_s : with_context s ≡ fresh s = context_is s ∙ ap (λ (b : Bool). cond b s (fresh s)) e in
+        let new_t : with_context t ≡ fresh t = context_is t ∙ ap (λ (b : Bool). cond b t (fresh t)) f in
+        subst (λ (u : State). Agree u (with_context t)) (sym new_s) (subst (λ (u : State). Agree (fresh s) u) (sym new_t) (fresh_agree s t h))
+
+-- WHAT AN INSTRUCTION THAT IS NO VECTOR ROW DOES IN THEM
 abbrev AlikeBoth : Result State Cause → Result State WholeStop → Type 0
 AlikeBoth r q = AlikeAs cause_of (λ u v. Live view u v × (u.pc ≡ v.pc)) r q
 
 seen : (s t : State) → Both s t → Live view s t × (s.pc ≡ t.pc)
 seen s t (h, e) = (live s t h, e)
 
-alike : (r : Result Instr Fault) (s t : State) → Both s t → AlikeBoth (in_machine (whole_here r s)) (whole_here r t)
-alike (Ok (instr.Scalar (scalar.S3 i))) s t h = seen (adds i s) (adds i t) (adds_both i s t h)
-alike (Ok (instr.Scalar (scalar.S4 i))) s t h = seen (movs i s) (movs i t) (movs_both i s t h)
-alike (Ok (instr.Scalar (scalar.S18 i))) s t h = refl
-alike (Ok (instr.Branch i)) s t h = elim i [ ]
-alike (Ok (instr.Vector i)) s t h = elim i [ ]
-alike (Err f) s t h = refl
+alike : (r : Result Instr Fault) (s t : State) → vector_of r ≡ None → Both s t → AlikeBoth (in_machine (whole_here r s)) (whole_here r t)
+alike (Ok (instr.Scalar (scalar.S3 i))) s t none h = seen (adds i s) (adds i t) (adds_both i s t h)
+alike (Ok (instr.Scalar (scalar.S4 i))) s t none h = seen (movs i s) (movs i t) (movs_both i s t h)
+alike (Ok (instr.Scalar (scalar.S18 i))) s t none h = refl
+alike (Ok (instr.Branch i)) s t none h = elim i [ ]
+alike (Ok (instr.Vector v)) s t none h = absurd cc
+alike (Err f) s t none h = refl
 
-other_live : (listing : Listing) (s t : State) → Live view s t → s.pc ≡ t.pc → StopsBy is_tainted (in_machine (alone listing s)) ⊎ AlikeBoth (in_machine (alone listing s)) (alone listing t)
-other_live listing s t h e =
-    inr (subst (λ (pc : ℕ). AlikeBoth (in_machine (alone listing s)) (whole_here (listing pc) t)) e (alike (listing s.pc) s t (agree s t h, e)))
+other_live : (listing : Listing) (s t : State) → Live view s t → s.pc ≡ t.pc → vector_of (listing t.pc) ≡ None
+    → StopsBy is_tainted (in_machine (alone listing s)) ⊎ AlikeBoth (in_machine (alone listing s)) (alone listing t)
+other_live listing s t h e none =
+    inr (subst (λ (pc : ℕ). AlikeBoth (in_machine (alone listing s)) (whole_here (listing pc) t)) e
+    (alike (listing s.pc) s t (ap (λ (pc : ℕ). vector_of (listing pc)) e ∙ none) (agree s t h, e)))
 
--- NO CELL BECOMES DEAD
-abbrev CleanBytes : State → Type 0
-CleanBytes s = (a : ℕ) → (s.cell (Byte a)).taint ≡ false
+-- THE NEXT INSTRUCTION
+module _ (listing : Listing) (around : Around) where
+  next_at : (s : State) (r : Result Instr Fault) → listing s.pc ≡ r → next_of (core listing around) (vector_of r) s ≡ alone listing s
+  next_at s (Ok (instr.Scalar i)) e = refl
+  next_at s (Ok (instr.Branch i)) e = elim i [ ]
+  next_at s (Ok (instr.Vector v)) e = sym (ap (λ (r : Result Instr Fault). whole_here r s) e)
+  next_at s (Err f) e = refl
 
-abbrev LeavesClean : Result State WholeStop → Type 0
-LeavesClean (Ok t) = CleanBytes t
-LeavesClean (Err w) = Unit {0}
+  -- it is the one at the program counter
+  pub next_is : (s : State) → next (core listing around) s ≡ alone listing s
+  next_is s = next_at s (listing s.pc) refl
 
-leaves_clean : (r : Result Instr Fault) (s : State) → CleanBytes s → LeavesClean (whole_here r s)
-leaves_clean (Ok (instr.Scalar (scalar.S3 i))) s h = h
-leaves_clean (Ok (instr.Scalar (scalar.S4 i))) s h = h
-leaves_clean (Ok (instr.Scalar (scalar.S18 i))) s h = tt
-leaves_clean (Ok (instr.Branch i)) s h = elim i [ ]
-leaves_clean (Ok (instr.Vector i)) s h = elim i [ ]
-leaves_clean (Err f) s h = tt
+  -- clean states have no tainted byte
+  pub clean_of : (s : State) → cell.Clean s → Clean (core listing around) s
+  clean_of s h (In (At p)) = refl
+  clean_of s h (In (Byte a)) = h a
+  clean_of s h Beside = refl
 
-pub clean_of : (listing : Listing) (s : State) → CleanBytes s → Clean (core listing) s
-clean_of listing s h (In (At p)) = refl
-clean_of listing s h (In (Byte a)) = h a
-clean_of listing s h Beside = refl
+  pub clean_bytes : (s : State) → Clean (core listing around) s → cell.Clean s
+  clean_bytes s h a = h (In (Byte a))
 
-clean_after : (listing : Listing) (s t : State) → Clean (core listing) s → alone listing s ≡ Ok t → Clean (core listing) t
-clean_after listing s t h e = clean_of listing t (subst LeavesClean e (leaves_clean (listing s.pc) s (λ a. h (In (Byte a)))))
+  clean_after : around.actor ≡ Thread → (s t : State) → Clean (core listing around) s → alone listing s ≡ Ok t → Clean (core listing around) t
+  clean_after thread s t h e = clean_of t (subst (Leaves s) e (leaves around thread (listing s.pc) s (clean_bytes s h))).0
 
 -- STOPS AND RULES
 untainted : (w : WholeStop) → is_tainted (cause_of w) ≡ false
@@ -152,38 +202,189 @@ untainted (row.Halt reason) = refl
 untainted row.Full = refl
 untainted (row.Faults f) = refl
 
-lawful : (listing : Listing) (o p : Option Vector) (c : Config State) → step_rule o p c ≡ None → Lawful (core listing) o p c
-lawful listing None p c e = let no : Some rule.NotVector ≡ None = e in absurd cc
-lawful listing (Some i) p c e = elim i [ ]
+-- no younger step may go yet
+lawful : (listing : Listing) (around : Around) (o p : Option Vector) (c : Config State) → step_rule o p c ≡ None → Lawful (core listing around) o p c
+lawful listing around None p c e = let no : Some rule.NotVector ≡ None = e in absurd cc
+lawful listing around (Some i) None c e = let no : Some rule.NotVector ≡ None = e in absurd cc
+lawful listing around (Some i) (Some j) c e = let no : Some rule.Order ≡ None = e in absurd cc
 
 broken : (b : Bool) → cond b None (Some rule.YoungerFault) ≡ None → b ≡ true
 broken true e = refl
 broken false e = let no : Some rule.YoungerFault ≡ None = e in absurd cc
 
-beat_laws : BeatLaws rows
-beat_laws = record {
-  action = λ i. elim i [ ];
-  valid = λ i. elim i [ ];
-  later = λ i. elim i [ ];
-  live = λ i. elim i [ ];
-  ready_live = λ j. elim j [ ];
-}
+-- BEATS, from what they do to the cells to what the machine sees
+caused_ok : (r : Result State Stop) (t : State) → caused r ≡ Ok t → r ≡ Ok t
+caused_ok (Ok s) t e = ap Ok (ok_same e)
+caused_ok (Err f) t e = absurd (ok_err (sym e))
 
-pub laws : (listing : Listing) → CoreLaws (core listing)
-laws listing = record {
-  rows = beat_laws;
-  whole = λ i. elim i [ ];
-  whole_pc = λ i. elim i [ ];
-  clean = λ s t h e. clean_after listing s t h (sym (next_is listing s) ∙ e);
-  start_ready = λ i. elim i [ ];
-  start_pc = λ i. elim i [ ];
-  made_pc = λ s. refl;
-  started = λ i. elim i [ ];
-  start_live = λ i. elim i [ ];
+stops_caused : (r : Result State Stop) → StopsBy cell.is_tainted r → StopsBy is_tainted (caused r)
+stops_caused (Ok s) h = h
+stops_caused (Err (stop.Fault f)) h = h
+stops_caused (Err (stop.Tainted a)) h = h
+stops_caused (Err (stop.Denied a)) h = h
+
+alike_caused : (p : Cell → Bool) (r q : Result State Stop) → Alike (AgreeOn (cell_view Rest cells) p) r q → Alike (AgreeOn view (on_cell p)) (caused r) (caused q)
+alike_caused p (Ok s) (Ok t) h = agree_on
+  where
+    agree_on : (w : Watched) → on_cell p w ≡ true → held s w ≡ held t w
+    agree_on (In c) e = ap Holds (h c e)
+    agree_on Beside e = absurd cc
+alike_caused p (Err e) (Err f) h = ap cause.Stop h
+alike_caused p (Ok s) (Err f) h = h
+alike_caused p (Err e) (Ok t) h = h
+
+module _ (b : Tree) where
+  touch_lifted : (s t : State) → SameTouch (action cells b) s t → SameTouch (lifted (action cells b)) s t
+  touch_lifted s t h = record { uses = uses; sets = sets }
+    where
+      uses : (w : Watched) → on_cell ((action cells b).uses s) w ≡ on_cell ((action cells b).uses t) w
+      uses (In c) = h.uses c
+      uses Beside = refl
+
+      sets : (w : Watched) → on_cell ((action cells b).sets s) w ≡ on_cell ((action cells b).sets t) w
+      sets (In c) = h.sets c
+      sets Beside = refl
+
+  beat_lifted : (s t : State) → SameBeat (cell_view Rest cells) (action cells b) s t → SameBeat view (lifted (action cells b)) s t
+  beat_lifted s t h = record {
+    touch = touch_lifted s t h.touch;
+    marks = λ u e. h.marks u (caused_ok ((action cells b).run s) u e);
+    result = alike_caused ((action cells b).sets s) ((action cells b).run s) ((action cells b).run t) h.result;
+  }
+
+  laws_lifted : ActionLaws view (lifted (action cells b))
+  laws_lifted = record {
+    frame = frame;
+    flag = λ s t e. (keeps_laws cells cell_laws b).flag s t (caused_ok ((action cells b).run s) t e);
+    stays = λ s t e. (keeps_laws cells cell_laws b).stays s t (caused_ok ((action cells b).run s) t e);
+    depends = λ s t h. beat_lifted s t ((keeps_laws cells cell_laws b).depends s t (λ c e. ap (value_in (s.cell c)) (h (In c) e)));
+  }
+    where
+      frame : (s t : State) → caused ((action cells b).run s) ≡ Ok t → (w : Watched) → on_cell ((action cells b).sets s) w ≡ false → held t w ≡ held s w
+      frame s t e (In c) unset = ap Holds ((keeps_laws cells cell_laws b).frame s t (caused_ok ((action cells b).run s) t e) c unset)
+      frame s t e Beside unset = ap (λ (r : Rest). Others (open_rest r)) (beat_rest b s t (caused_ok ((action cells b).run s) t e))
+
+module _ (x : Around) (thread : x.actor ≡ Thread) where
+  -- the rows over the cells alone keep the laws
+  over_cells : BeatLaws (ordered Vector (λ v. vector_tree v x) writes_lr)
+  over_cells = ordered_laws Vector vector_tree (λ v y s. Ok (vector_whole v s)) row_laws writes_lr keeps_lr x thread
+
+  may_loop : (v : Vector) (s : State) → (not (writes_lr v) || eqb (at Ltp s) 4) ≡ true
+  may_loop v s = ap (λ (b : Bool). not b || eqb (at Ltp s) 4) (keeps_lr_now v)
+
+  size_kept : (v : Vector) (k : ℕ) (s : State) → (action cells (of_four (vector_tree v x) k)).sets s (At Ltp) ≡ false
+  size_kept v k s = one_of (nat_lt k 4)
+    where
+      one_of : (b : Bool) → (action cells (cond b (vector_tree v x k) nothing)).sets s (At Ltp) ≡ false
+      one_of true = (row_laws v).size x k s
+      one_of false = refl
+
+  valid : (v j : Vector) (k : ℕ) (s t : State) → caused ((action cells (of_four (vector_tree v x) k)).run s) ≡ Ok t → is_ready j t ≡ is_ready j s
+  valid v j k s t e =
+      let b = of_four (vector_tree v x) k in
+      let run : (action cells b).run s ≡ Ok t = caused_ok ((action cells b).run s) t e in
+      let rest : t.rest ≡ s.rest = beat_rest b s t run in
+      ready_same j t s (ap (λ (r : Rest). r.it) rest) (ap (λ (y : Value). y.n) ((keeps_laws cells cell_laws b).frame s t run (At Ltp) (size_kept v k s))) (ap (λ (r : Rest). r.fpca) rest)
+
+  ready_live : (j : Vector) (s t : State) → Live view s t → is_ready j s ≡ is_ready j t
+  ready_live j s t h =
+      let a = agree s t h in
+      ready_same j s t (ap (λ (r : Rest). r.it) a.rest) (ap (λ (y : Value). y.n) (a.places Ltp)) (ap (λ (r : Rest). r.fpca) a.rest)
+
+  beat_laws : BeatLaws (rows x)
+  beat_laws = record {
+    action = λ v k. laws_lifted (of_four (vector_tree v x) k);
+    valid = valid;
+    later = λ v k m s t ready e low. touch_lifted (of_four (vector_tree v x) m) s t
+        (over_cells.later v k m s t (may_loop v s) (caused_ok ((action cells (of_four (vector_tree v x) k)).run s) t e) low);
+    live = λ v k s t ready h. ⊎_elim
+        (λ stopped. inl (stops_caused ((action cells (of_four (vector_tree v x) k)).run s) stopped))
+        (λ same. inr (beat_lifted (of_four (vector_tree v x) k) s t same))
+        (over_cells.live v k s t (may_loop v s) (λ c uses alive. ap (value_in (s.cell c)) (h (In c) uses alive)));
+    ready_live = ready_live;
+  }
+
+  -- WHOLE ROWS
+  four_beats_end : (v : Vector) (s w : State) (f : Four (vector_tree v x) s w) → beats (rows x) v 0 4 s ≡ Ok f.four
+  four_beats_end v s w f =
+      ap (λ (r : Result State Stop). then (caused r) (beats (rows x) v 1 3)) f.first
+      ∙ ap (λ (r : Result State Stop). then (caused r) (beats (rows x) v 2 2)) f.second
+      ∙ ap (λ (r : Result State Stop). then (caused r) (beats (rows x) v 3 1)) f.third
+      ∙ ap (λ (r : Result State Stop). then (caused r) (beats (rows x) v 4 0)) f.fourth
+
+  same_over : (s : State) → Same view s (retired s)
+  same_over s = record { cells = λ w. elim w as (λ w. held s w ≡ held (retired s) w) [ In c ↦ refl | Beside ↦ refl ]; sticky = refl }
+
+  whole_from : (v : Vector) (s : State) → cell.Clean s → (q : Result State WholeStop) → ready_state v s ≡ q
+      → AlikeAs cause_of (Same view) (then (in_machine q) (beats (rows x) v 0 4)) (then q (λ t. Ok (vector_whole v t)))
+  whole_from v s clean (Err w) e = refl
+  whole_from v s clean (Ok t) e =
+      let context : with_context s ≡ t = (not_refused (refuse v (with_context s)) (with_context s) t e).1 in
+      let f = four_is x thread v t (subst cell.Clean context (context_clean s clean)) in
+      subst (λ (r : Result State Cause). AlikeAs cause_of (Same view) r (Ok (vector_whole v t))) (sym (four_beats_end v t (vector_whole v t) f))
+      (subst (λ (u : State). Same view f.four u) f.over (same_over f.four))
+
+-- HOW A ROW BEGINS
+machine_ok : (r : Result State WholeStop) (t : State) → in_machine r ≡ Ok t → r ≡ Ok t
+machine_ok (Ok s) t e = ap Ok (ok_same e)
+machine_ok (Err w) t e = absurd (ok_err (sym e))
+
+begun_in : (v : Vector) (s t : State) → begins v s ≡ Ok t → (refuse v (with_context s) ≡ None) × (with_context s ≡ t)
+begun_in v s t e = not_refused (refuse v (with_context s)) (with_context s) t (machine_ok (ready_state v s) t e)
+
+start_ready : (v : Vector) (s t : State) → begins v s ≡ Ok t → is_ready v t ≡ true
+start_ready v s t e =
+    let h = begun_in v s t e in
+    subst (λ (u : State). is_ready v u ≡ true) h.1 (λ j. context_there s j && is_none (h.0 j))
+
+start_pc : (v : Vector) (s t : State) → begins v s ≡ Ok t → t.pc ≡ s.pc
+start_pc v s t e = ap (λ (u : State). u.pc) (sym (begun_in v s t e).1) ∙ context_pc s
+
+made_pc : (o : Option Vector) (s : State) → (made_by o s).pc ≡ s.pc
+made_pc (Some v) s = context_pc s
+made_pc None s = refl
+
+both_true : (a b : Bool) → (a && b) ≡ true → (a ≡ true) × (b ≡ true)
+both_true true b e = (refl, e)
+both_true false b e = absurd cc
+
+none_of : (o : Option Fault) → is_none o ≡ true → o ≡ None
+none_of None e = refl
+none_of (Some f) e = absurd cc
+
+started : (v : Vector) (s : State) → is_ready v s ≡ true → begins v s ≡ Ok s
+started v s ready =
+    let h = both_true s.rest.fpca (is_none (refuse v s)) ready in
+    ap (λ (t : State). in_machine (unless_refused (refuse v t) t)) (context_still s h.0) ∙ ap (λ (o : Option Fault). in_machine (unless_refused o s)) (none_of (refuse v s) h.1)
+
+begin_alike : (o : Option Fault) (s t : State) → Live view s t → Alike (Live view) (in_machine (unless_refused o s)) (in_machine (unless_refused o t))
+begin_alike (Some f) s t h = refl
+begin_alike None s t h = h
+
+start_live : (v : Vector) (s t : State) → Live view s t → s.pc ≡ t.pc → Alike (Live view) (begins v s) (begins v t)
+start_live v s t h pc =
+    let a = context_agree s t (agree s t h) in
+    let same : refuse v (with_context s) ≡ refuse v (with_context t)
+    = refuse_same v (with_context s) (with_context t) (ap (λ (r : Rest). r.it) a.rest) (ap (λ (y : Value). y.n) (a.places Ltp)) (ap (λ (r : Rest). r.fpca) a.rest)
+    (context_pc s ∙ pc ∙ sym (context_pc t)) in
+    subst (λ (o : Option Fault). Alike (Live view) (begins v s) (in_machine (unless_refused o (with_context t)))) same
+    (begin_alike (refuse v (with_context s)) (with_context s) (with_context t) (live (with_context s) (with_context t) a))
+
+pub laws : (listing : Listing) (around : Around) → around.actor ≡ Thread → CoreLaws (core listing around)
+laws listing around thread = record {
+  rows = beat_laws around thread;
+  whole = λ v s clean. whole_from around thread v s (clean_bytes listing around s clean) (ready_state v s) refl;
+  whole_pc = λ v s t e. row_pc v s t e;
+  clean = λ s t h e. clean_after listing around thread s t h (sym (next_is listing around s) ∙ e);
+  start_ready = start_ready;
+  start_pc = start_pc;
+  made_pc = λ s. made_pc (vector_of (listing s.pc)) s;
+  started = started;
+  start_live = start_live;
   jump_pc = λ p s. refl;
   jump_same = λ p s. record { cells = λ c. elim c as (λ c. held (record s { pc = p }) c ≡ held s c) [ In d ↦ refl | Beside ↦ refl ]; sticky = refl };
-  other_live = λ s t h e clean. other_live listing s t h e;
+  other_live = λ s t h e none clean. other_live listing s t h e none;
   untainted = untainted;
-  lawful = lawful listing;
+  lawful = lawful listing around;
   faults = λ e. broken (is_tainted e);
 }

@@ -1,3 +1,5 @@
+pub mod Vectors
+pub mod Wholes
 pub mod Orders
 pub mod Ends
 pub mod Plain

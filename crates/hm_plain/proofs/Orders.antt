@@ -1,44 +1,20 @@
 -- Instructions in order: what is there once one of them stops.
-use Rattle.std.proofs.Common.{◌≡◌, ℕ, zero, suc, ◌+◌, ◌-◌, ◌≤◌, arith, ap, refl, sym, ◌∙◌, subst, List, Option, Result, Ok, Err, add-one, add-zero, add-suc}
+use Rattle.std.proofs.Common.{◌≡◌, ℕ, zero, suc, ◌+◌, ◌-◌, ◌≤◌, arith, ap, refl, sym, ◌∙◌, subst, List, Result, Ok, Err, add-one, add-zero, add-suc}
 use Rattle.hm_base.specs.Image.{Segment}
-use Rattle.hm_base.specs.declared.Fault.{Fault}
 use Rattle.hm_codes.specs.Listing.{Listing}
-use Rattle.hm_isa.specs.declared.Instr.{Instr}
-use Rattle.hm_isa.specs.declared.Instr.TheVariants as instr
-use Rattle.hm_isa.specs.declared.Scalar.TheVariants as scalar
-use Rattle.hm_isa.specs.declared.Vector.{Vector}
-use Rattle.hm_order.specs.Machine.{next, next_of}
 use Rattle.hm_run.specs.InOrder.{InOrder, Running, Halted, Full, Faulted, after, one_more, in_order}
-use Rattle.hm_run.specs.Program.{core, alone, whole_here}
+use Rattle.hm_run.specs.Program.{alone}
 use Rattle.hm_run.specs.Rows as row
 use Rattle.hm_run.specs.Rows.{WholeStop}
 use Rattle.hm_state.specs.State.{State}
 use Rattle.hm_plain.specs.Orders.{HasStopped, StaysStopped}
-use Rattle.hm_run.proofs.Steps.{no_row}
-
--- the next whole instruction is the one at the program counter
-pub next_is : (listing : Listing) (s : State) → next (core listing) s ≡ alone listing s
-next_is listing s = ap (λ (o : Option Vector). next_of (core listing) o s) (no_row (listing s.pc))
-
--- no instruction touches the devices yet
-abbrev pub LeavesDevices : State → Result State WholeStop → Type 0
-LeavesDevices s (Ok t) = t.rest.devices ≡ s.rest.devices
-LeavesDevices s (Err w) = Unit {0}
-
-pub leaves_devices : (r : Result Instr Fault) (s : State) → LeavesDevices s (whole_here r s)
-leaves_devices (Ok (instr.Scalar (scalar.S3 i))) s = refl
-leaves_devices (Ok (instr.Scalar (scalar.S4 i))) s = refl
-leaves_devices (Ok (instr.Scalar (scalar.S18 i))) s = tt
-leaves_devices (Ok (instr.Branch i)) s = elim i [ ]
-leaves_devices (Ok (instr.Vector i)) s = elim i [ ]
-leaves_devices (Err f) s = tt
 
 module _ (listing : Listing) (image : List Segment) where
   -- instruction n + 1 after n
   one_after : (n : ℕ) (y z : InOrder) → in_order listing image n ≡ y → one_more listing n y ≡ z → in_order listing image (n + 1) ≡ z
   one_after n y z e h = ap (in_order listing image) (add-one n) ∙ ap (one_more listing n) e ∙ h
 
-  stopped_after : (n : ℕ) (s : State) (r : Result State WholeStop) → in_order listing image n ≡ Running s → next (core listing) s ≡ r
+  stopped_after : (n : ℕ) (s : State) (r : Result State WholeStop) → in_order listing image n ≡ Running s → alone listing s ≡ r
       → StaysStopped listing image (after n s r)
   stopped_after n s (Ok t) e h = tt
   stopped_after n s (Err (row.Halt reason)) e h = one_after n (Running s) (Halted reason (n + 1) s) e (ap (after n s) h)
@@ -46,7 +22,7 @@ module _ (listing : Listing) (image : List Segment) where
   stopped_after n s (Err (row.Faults f)) e h = one_after n (Running s) (Faulted f.kind s.pc f.addr n) e (ap (after n s) h)
 
   stopped_more : (n : ℕ) (y : InOrder) → in_order listing image n ≡ y → StaysStopped listing image y → StaysStopped listing image (one_more listing n y)
-  stopped_more n (Running s) e h = stopped_after n s (next (core listing) s) e refl
+  stopped_more n (Running s) e h = stopped_after n s (alone listing s) e refl
   stopped_more n (Halted reason k s) e h = h
   stopped_more n (Full k s) e h = h
   stopped_more n (Faulted kind pc addr k) e h = h

@@ -4,27 +4,28 @@ use Rattle.std.proofs.lemmas.List.{get_or_append_left}
 use Rattle.hm_base.specs.Image.{Segment}
 use Rattle.hm_base.specs.declared.FaultKind.{FaultKind}
 use Rattle.hm_codes.specs.Listing.{Listing}
-use Rattle.hm_mem.specs.Memory.{first_devices}
+use Rattle.hm_mem.specs.Memory.{Around, first_devices, thread_under}
 use Rattle.hm_order.specs.Beats.{then}
-use Rattle.hm_order.specs.Machine.{Config, done}
+use Rattle.hm_beat.specs.Laws.{Clean}
 use Rattle.hm_run.specs.declared.Outcome.{Outcome}
 use Rattle.hm_run.specs.declared.Outcome.TheVariants as outcome
 use Rattle.hm_run.specs.declared.Reason.{Reason}
 use Rattle.hm_run.specs.declared.Who.TheVariants.{Thread}
 use Rattle.hm_run.specs.Headline.{HasBytesOf, HaltsInOrder, Headline, PlainReport}
 use Rattle.hm_run.specs.InOrder.{InOrder, Running, Halted, Full, Faulted, after, one_more, in_order, in_order_report}
-use Rattle.hm_run.specs.Program.{Stepped, core, alone, in_machine, at_step, letter_steps}
+use Rattle.hm_run.specs.Program.{Program, Stepped, alone, at_step, letter_steps}
 use Rattle.hm_run.specs.Report.{outcome_line, report_of, report_text, memory_text}
 use Rattle.hm_run.specs.Rows as row
 use Rattle.hm_run.specs.Rows.{WholeStop}
-use Rattle.hm_run.specs.Timed.{Timed, begin, closed, or_out, ended, next as next_tick, timed, timed_out}
+use Rattle.hm_run.specs.Timed.{Timed, begin, closed, or_out, ended, next as next_tick, thread_program, timed, timed_out}
 use Rattle.hm_sched.specs.Schedule.{TickLine, plain_line, plain, plain_lines, repeat, ticks_of}
 use Rattle.hm_state.specs.Start.{start, start_under}
 use Rattle.hm_state.specs.State.{State, listed, regs_of, sram_bytes, taint_bytes}
 use Rattle.hm_state.proofs.Lists.{length-listed, get_or-listed}
 use Rattle.hm_plain.specs.Orders.{StaysStopped}
-use Rattle.hm_plain.proofs.Orders.{LeavesDevices, leaves_devices, next_is, stays_stopped}
-use Rattle.hm_run.proofs.Steps.{past, older_is, whole_is, tick_end_still, ticked, next_ended}
+use Rattle.hm_plain.proofs.Orders.{stays_stopped}
+use Rattle.hm_plain.proofs.Wholes.{Leaves, StopsIn, between, comes_to, leaves, stops_in, whole_step}
+use Rattle.hm_run.proofs.Steps.{tick_end_still, ticked, next_ended}
 
 -- WHAT A PLAIN RUN TELLS OF THE INSTRUCTIONS IN ORDER
 -- the outcome of a run that goes on, where so many ticks are left
@@ -32,13 +33,16 @@ abbrev left_out : ℕ → Option Outcome
 left_out zero = Some outcome.OutOfTicks
 left_out (suc k) = None
 
-abbrev going : Option Outcome → ℕ → State → Timed
-going o t s = record { outcome = o; config = record { a = 0; b = 0; n = t; steps = t; state = s }; acts = []; ticks = t }
+-- t ticks, and k steps of the older instruction
+abbrev going : Option Outcome → ℕ → ℕ → State → Timed
+going o t k s = record { outcome = o; config = between t k s; acts = []; ticks = t }
 
 -- a run that goes on, after t ticks
 record Goes (left t : ℕ) (x : Timed) (s : State) : Type 0 where
-  is : x ≡ going (left_out left) t s
+  steps : ℕ
+  is : x ≡ going (left_out left) t steps s
   off : s.rest.devices ≡ first_devices
+  clean : Clean s
 
 -- an ended run in the thread, between two instructions
 record Ended (x : Timed) (o : Outcome) (s : State) : Type 0 where
@@ -58,11 +62,6 @@ Tells left t x (Full k s) = Ended x (outcome.OutputFull k) s
 Tells left t x (Faulted kind pc addr k) = x.outcome ≡ Some (fault_of kind pc addr k)
 
 -- ONE TICK
--- the letter W does the instruction
-plain_letters : (listing : Listing) (n : ℕ) (c : Config State)
-    → letter_steps listing 0 (plain_line n).letters c ≡ then (at_step 1 false (done (core listing) c (in_machine (alone listing c.state)) (past c))) (letter_steps listing 1 [])
-plain_letters listing n c = ap (λ (r : Stepped). then (at_step 1 false r) (letter_steps listing 1 [])) (whole_is listing c ∙ older_is listing c)
-
 closed_outcome : (rest : List TickLine) (y : Timed) (o : Outcome) → y.outcome ≡ Some o → (closed rest y).outcome ≡ Some o
 closed_outcome [] y o e = ap or_out e
 closed_outcome (l ∷ rest) y o e = e
@@ -71,54 +70,67 @@ closed_end : (rest : List TickLine) (y : Timed) (o : Outcome) (s : State) → En
 closed_end [] y o s h = record { outcome = ap or_out h.outcome; state = h.state; a = h.a; b = h.b; acts = h.acts }
 closed_end (l ∷ rest) y o s h = h
 
-closed_going : (line : TickLine) (left t : ℕ) (s u : State)
-    → closed (repeat left line []) (record { outcome = None; config = past (going None t s).config u; acts = []; ticks = t + 1 }) ≡ going (left_out left) (suc t) u
-closed_going line zero t s u = ap (λ (j : ℕ). record { outcome = Some outcome.OutOfTicks; config = past (going None t s).config u; acts = []; ticks = j }) (add-one t)
-closed_going line (suc k) t s u = ap (λ (j : ℕ). record { outcome = None; config = past (going None t s).config u; acts = []; ticks = j }) (add-one t)
+closed_going : (line : TickLine) (left t k : ℕ) (u : State)
+    → closed (repeat left line []) (record { outcome = None; config = between (suc t) k u; acts = []; ticks = t + 1 }) ≡ going (left_out left) (suc t) k u
+closed_going line zero t k u = ap (λ (j : ℕ). record { outcome = Some outcome.OutOfTicks; config = between (suc t) k u; acts = []; ticks = j }) (add-one t)
+closed_going line (suc left) t k u = ap (λ (j : ℕ). record { outcome = None; config = between (suc t) k u; acts = []; ticks = j }) (add-one t)
 
--- one plain tick, by what the instruction comes to
-abbrev after_tick : Listing → ℕ → ℕ → ℕ → State → Result State WholeStop → Timed
-after_tick listing n left t s r =
-    closed (repeat left (plain_line n) []) (ended (plain_line n) (going None t s)
-    (then (at_step 1 false (done (core listing) (going None t s).config (in_machine r) (past (going None t s).config))) (letter_steps listing 1 [])))
+module _ (listing : Listing) (n : ℕ) where
+  -- the thread of a plain schedule
+  abbrev plain_program : Program
+  plain_program = thread_program listing (plain n)
 
-plain_step : (listing : Listing) (n left t : ℕ) (s : State) (r : Result State WholeStop) → s.rest.devices ≡ first_devices → LeavesDevices s r
-    → Tells left (suc t) (after_tick listing n left t s r) (after t s r)
-plain_step listing n left t s (Ok u) off leaves =
-    let y : Timed = record { outcome = None; config = past (going None t s).config u; acts = []; ticks = t + 1 } in
-    record {
-      is = ap (closed (repeat left (plain_line n) [])) (tick_end_still (plain_line n) y refl refl refl (leaves ∙ off)) ∙ closed_going (plain_line n) left t s u;
-      off = leaves ∙ off;
-    }
-plain_step listing n left t s (Err (row.Halt reason)) off leaves =
-    closed_end (repeat left (plain_line n) []) _ _ _ (record { outcome = refl; state = refl; a = refl; b = refl; acts = refl })
-plain_step listing n left t s (Err row.Full) off leaves =
-    closed_end (repeat left (plain_line n) []) _ _ _ (record { outcome = refl; state = refl; a = refl; b = refl; acts = refl })
-plain_step listing n left t s (Err (row.Faults f)) off leaves = closed_outcome (repeat left (plain_line n) []) _ _ refl
+  abbrev plain_around : Around
+  plain_around = thread_under (plain n).lo (plain n).hi (plain n).floor
 
--- FROM TICK TO TICK
-tells_going : (listing : Listing) (n left t : ℕ) (s : State) → s.rest.devices ≡ first_devices
-    → Tells left (suc t) (next_tick listing (plain_line n ∷ repeat left (plain_line n) []) (going None t s)) (one_more listing t (Running s))
-tells_going listing n left t s off =
-    let rest = repeat left (plain_line n) [] in
-    let c = (going None t s).config in
-    let step : next_tick listing (plain_line n ∷ rest) (going None t s) ≡ after_tick listing n left t s (alone listing s)
-    = ticked listing (plain_line n) rest (going None t s) _ refl (plain_letters listing n c) in
-    subst (λ (z : Timed). Tells left (suc t) z (one_more listing t (Running s))) (sym step)
-    (subst (λ (r : Result State WholeStop). Tells left (suc t) (after_tick listing n left t s (alone listing s)) (after t s r)) (sym (next_is listing s))
-    (plain_step listing n left t s (alone listing s) off (leaves_devices (listing s.pc) s)))
+  -- one plain tick, by what the instruction comes to in j steps
+  abbrev after_tick : ℕ → ℕ → ℕ → State → ℕ → Result State WholeStop → Timed
+  after_tick left t k s j r =
+      closed (repeat left (plain_line n) []) (ended (plain_line n) (going None t k s)
+      (then (at_step 1 false (comes_to listing plain_around t k s j r)) (letter_steps plain_program 1 [])))
 
-tells_step : (listing : Listing) (n left t : ℕ) (x : Timed) (y : InOrder) → Tells (suc left) t x y
-    → Tells left (suc t) (next_tick listing (plain_line n ∷ repeat left (plain_line n) []) x) (one_more listing t y)
-tells_step listing n left t x (Running s) h =
-    subst (λ (z : Timed). Tells left (suc t) (next_tick listing (plain_line n ∷ repeat left (plain_line n) []) z) (one_more listing t (Running s))) (sym h.is)
-    (tells_going listing n left t s h.off)
-tells_step listing n left t x (Halted reason k s) h =
-    subst (λ (z : Timed). Ended z (outcome.Halted reason k) s) (sym (next_ended listing (plain_line n ∷ repeat left (plain_line n) []) x _ h.outcome)) h
-tells_step listing n left t x (Full k s) h =
-    subst (λ (z : Timed). Ended z (outcome.OutputFull k) s) (sym (next_ended listing (plain_line n ∷ repeat left (plain_line n) []) x _ h.outcome)) h
-tells_step listing n left t x (Faulted kind pc addr k) h =
-    subst (λ (z : Timed). z.outcome ≡ Some (fault_of kind pc addr k)) (sym (next_ended listing (plain_line n ∷ repeat left (plain_line n) []) x _ h)) h
+  plain_step : (left t k : ℕ) (s : State) (j : ℕ) (r : Result State WholeStop) → s.rest.devices ≡ first_devices → Leaves s r → StopsIn s (plain_program.made s) r
+      → Tells left (suc t) (after_tick left t k s j r) (after t s r)
+  plain_step left t k s j (Ok u) off leaves stops =
+      let y : Timed = record { outcome = None; config = between (suc t) j u; acts = []; ticks = t + 1 } in
+      record {
+        steps = j;
+        is = ap (closed (repeat left (plain_line n) [])) (tick_end_still (plain_line n) y refl refl (leaves.1 ∙ off)) ∙ closed_going (plain_line n) left t j u;
+        off = leaves.1 ∙ off;
+        clean = leaves.0;
+      }
+  plain_step left t k s j (Err (row.Halt reason)) off leaves stops =
+      closed_end (repeat left (plain_line n) []) _ _ _ (record { outcome = refl; state = stops; a = refl; b = refl; acts = refl })
+  plain_step left t k s j (Err row.Full) off leaves stops =
+      closed_end (repeat left (plain_line n) []) _ _ _ (record { outcome = refl; state = stops; a = refl; b = refl; acts = refl })
+  plain_step left t k s j (Err (row.Faults f)) off leaves stops =
+      closed_outcome (repeat left (plain_line n) []) _ _ (ap (λ (p : ℕ). Some (fault_of f.kind p f.addr t)) stops)
+
+  -- FROM TICK TO TICK
+  tells_going : (left t k : ℕ) (s : State) → s.rest.devices ≡ first_devices → Clean s
+      → Tells left (suc t) (next_tick plain_program (plain_line n ∷ repeat left (plain_line n) []) (going None t k s)) (one_more listing t (Running s))
+  tells_going left t k s off clean =
+      let rest = repeat left (plain_line n) [] in
+      let whole = whole_step listing plain_around refl t k s clean in
+      let letters : letter_steps plain_program 0 (plain_line n).letters (between t k s)
+      ≡ then (at_step 1 false (comes_to listing plain_around t k s whole.0 (alone listing s))) (letter_steps plain_program 1 [])
+      = ap (λ (r : Stepped). then (at_step 1 false r) (letter_steps plain_program 1 [])) whole.1 in
+      let step : next_tick plain_program (plain_line n ∷ rest) (going None t k s) ≡ after_tick left t k s whole.0 (alone listing s)
+      = ticked plain_program (plain_line n) rest (going None t k s) _ refl letters in
+      subst (λ (z : Timed). Tells left (suc t) z (one_more listing t (Running s))) (sym step)
+      (plain_step left t k s whole.0 (alone listing s) off (leaves plain_around refl (listing s.pc) s clean) (stops_in (listing s.pc) s))
+
+  tells_step : (left t : ℕ) (x : Timed) (y : InOrder) → Tells (suc left) t x y
+      → Tells left (suc t) (next_tick plain_program (plain_line n ∷ repeat left (plain_line n) []) x) (one_more listing t y)
+  tells_step left t x (Running s) h =
+      subst (λ (z : Timed). Tells left (suc t) (next_tick plain_program (plain_line n ∷ repeat left (plain_line n) []) z) (one_more listing t (Running s))) (sym h.is)
+      (tells_going left t h.steps s h.off h.clean)
+  tells_step left t x (Halted reason k s) h =
+      subst (λ (z : Timed). Ended z (outcome.Halted reason k) s) (sym (next_ended plain_program (plain_line n ∷ repeat left (plain_line n) []) x _ h.outcome)) h
+  tells_step left t x (Full k s) h =
+      subst (λ (z : Timed). Ended z (outcome.OutputFull k) s) (sym (next_ended plain_program (plain_line n ∷ repeat left (plain_line n) []) x _ h.outcome)) h
+  tells_step left t x (Faulted kind pc addr k) h =
+      subst (λ (z : Timed). z.outcome ≡ Some (fault_of kind pc addr k)) (sym (next_ended plain_program (plain_line n ∷ repeat left (plain_line n) []) x _ h)) h
 
 -- THE TICKS OF A PLAIN SCHEDULE
 ticks_plain : (n : ℕ) → ticks_of (plain_lines n) ≡ repeat n (plain_line n) []
@@ -143,7 +155,7 @@ repeat_length (suc n) line = ap suc (repeat_length n line)
 pub plain_length : (n : ℕ) → length (ticks_of (plain n).lines) ≡ n
 plain_length n = ap length (ticks_plain n) ∙ repeat_length n (plain_line n)
 
-tells_start : (image : List Segment) (n : ℕ) → closed (ticks_of (plain_lines n)) (begin image (plain n)) ≡ going (left_out n) 0 (start image)
+tells_start : (image : List Segment) (n : ℕ) → closed (ticks_of (plain_lines n)) (begin image (plain n)) ≡ going (left_out n) 0 0 (start image)
 tells_start image zero = refl
 tells_start image (suc n) = refl
 
@@ -151,16 +163,22 @@ off_first : (image : List Segment) → (start image).rest.devices ≡ first_devi
 unfolding start_under
 off_first image = refl
 
+pub clean_first : (image : List Segment) → Clean (start image)
+unfolding start_under
+clean_first image = λ a. refl
+
 tells : (listing : Listing) (image : List Segment) (n t left : ℕ) → t + left ≡ n → Tells left t (timed listing image (plain n) t) (in_order listing image t)
 tells listing image n zero left e =
     let same : n ≡ left = omega arith in
     record {
-      is = subst (λ (k : ℕ). closed (ticks_of (plain_lines n)) (begin image (plain n)) ≡ going (left_out k) 0 (start image)) same (tells_start image n);
+      steps = 0;
+      is = subst (λ (k : ℕ). closed (ticks_of (plain_lines n)) (begin image (plain n)) ≡ going (left_out k) 0 0 (start image)) same (tells_start image n);
       off = off_first image;
+      clean = clean_first image;
     }
 tells listing image n (suc t) left e =
     let more : t + suc left ≡ n = omega arith in
-    subst (λ (l : List TickLine). Tells left (suc t) (next_tick listing l (timed listing image (plain n) t)) (one_more listing t (in_order listing image t))) (sym (left_at t left n more))
+    subst (λ (l : List TickLine). Tells left (suc t) (next_tick (thread_program listing (plain n)) l (timed listing image (plain n) t)) (one_more listing t (in_order listing image t))) (sym (left_at t left n more))
     (tells_step listing n left t (timed listing image (plain n) t) (in_order listing image t) (tells listing image n t (suc left) more))
 
 tells_all : (listing : Listing) (image : List Segment) (n : ℕ) → Tells 0 n (timed_out listing image (plain n)) (in_order listing image n)

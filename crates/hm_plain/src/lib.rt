@@ -5,6 +5,8 @@
 ghost use Rattle.std.specs.Prelude.{◌≡◌, ℕ, ◌≤◌, List, Some, length};
 ghost use Rattle.hm_base.specs.Image.{Segment};
 ghost use Rattle.hm_codes.specs.Listing.{Listing};
+ghost use Rattle.hm_mem.specs.Memory.{Around};
+ghost use Rattle.hm_mem.specs.declared.Actor.TheVariants.{Thread};
 ghost use Rattle.hm_order.specs.Machine.{CoreLaws};
 ghost use Rattle.hm_run.specs.declared.Outcome.{Outcome};
 ghost use Rattle.hm_run.specs.Headline.{Headline, PlainReport};
@@ -47,13 +49,14 @@ pub fn orders_end()
         → in_order listing image m ≡ in_order listing image n }
 {}
 
-/// The machine of a program is one of those that may overlap beats: its rows and its other instructions keep the laws.
+/// The machine of a program, where the thread accesses the memory, is one of those that may overlap beats: its rows and
+/// its other instructions keep the laws.
 pub fn core_laws()
-    ensures kept { (listing : Listing) → CoreLaws (core listing) }
+    ensures kept { (listing : Listing) (around : Around) → around.actor ≡ Thread → CoreLaws (core listing around) }
 {}
 
 /// After each tick of any schedule whole instructions in order agree with the machine, while the run goes on. Where it
 /// halts, or the thread has a fault, so do they.
 pub fn after_each_tick()
-    ensures order { (listing : Listing) (image : List Segment) (s : Sched) (t : ℕ) → KeepsOrder listing image (timed listing image s t) }
+    ensures order { (listing : Listing) (image : List Segment) (s : Sched) (t : ℕ) → KeepsOrder listing image s (timed listing image s t) }
 {}

@@ -1,6 +1,7 @@
 use Rattle.std.proofs.Common.{◌≡◌, ◌<◌, None, ap, sym, ◌∙◌, subst, arith, length}
 use Rattle.std.specs.Prelude.{IsSome}
 use Rattle.hm_machine.specs.Shown.{Shown}
+use Rattle.hm_machine.proofs.Plain.{plain_report, plain_headline}
 use Rattle.hm_sched.specs.Schedule.{plain}
 use Rattle.hm_machine.proofs.Ticks.{left_below, shows_end}
 use Rattle.hm_machine.proofs.machine.Machine.run.Goals as goal
@@ -28,3 +29,8 @@ returns-clause-shows c image s t h shows =
     let r = c.loop-self.invariant.shows image s t h shows in
     shows_end image s r.0 _ _ c.in-Some.outcome (ap (λ (v : Shown). v.outcome) (sym c.self.view_is) ∙ c.in-Some.is) r.1 r.2
 
+pub returns-clause-plain : goal.returns-clause-plain
+returns-clause-plain c image n listing is shows = plain_report image n _ (returns-clause-shows c image (plain n) 0 (omega arith) shows) listing is
+
+pub returns-clause-headline : goal.returns-clause-headline
+returns-clause-headline c image n listing is shows = plain_headline image n _ (returns-clause-shows c image (plain n) 0 (omega arith) shows) listing is
