@@ -42,16 +42,16 @@ again_on M k n c e =
     let test : (c.n == n) ≡ true = grind (arith, nat_tests, e) in
     rw test refl
 
--- what a step answers, and then the rest
-pub then_ok : (x : Stepped) (c : Config State) (f : Config State → Stepped) → Ok c ≡ x → then x f ≡ f c
-then_ok x c f e = ap (λ (y : Stepped). then y f) (sym e)
+-- a step of it that stops, and one that is done
+pub again_stops : (M : Program) (k n : ℕ) (c d : Config State) (e : Cause) → k < 3 → c.n ≡ n → Err (order.Stopped d e) ≡ older M c → Err (order.Stopped d e) ≡ again M (3 - k) n c
+again_stops M k n c d e few same step =
+    let left : 3 - k ≡ suc (3 - (k + 1)) = omega arith in
+    sym (ap (λ (j : ℕ). again M j n c) left ∙ again_on M (3 - (k + 1)) n c same ∙ ap (λ (y : Stepped). then y (again M (3 - (k + 1)) n)) (sym step))
 
-pub then_err : (x : Stepped) (c : Config State) (w : Cause) (f : Config State → Stepped) → Err (order.Stopped c w) ≡ x → then x f ≡ Err (order.Stopped c w)
-then_err x c w f e = ap (λ (y : Stepped). then y f) (sym e)
-
--- what a function answers that stops by what another answers
-pub same_err : (r : Result Unit Cause) (e : Cause) (x : Cpu) → r ≡ Err e → reached r x ≡ Err (order.Stopped (config_of x) e)
-same_err r e x is = ap (λ (q : Result Unit Cause). reached q x) is
+pub again_goes_on : (M : Program) (k n : ℕ) (c d : Config State) → k < 3 → c.n ≡ n → Ok d ≡ older M c → again M (3 - (k + 1)) n d ≡ again M (3 - k) n c
+again_goes_on M k n c d few same step =
+    let left : 3 - k ≡ suc (3 - (k + 1)) = omega arith in
+    sym (ap (λ (j : ℕ). again M j n c) left ∙ again_on M (3 - (k + 1)) n c same ∙ ap (λ (y : Stepped). then y (again M (3 - (k + 1)) n)) (sym step))
 
 -- BEATS
 -- the context that is made
@@ -86,7 +86,7 @@ unfolding state_of
 beat_stays v b old new m output e = beat_pc (of_four (vector_tree v m.around) b) (state_of old m output) (state_of new m output) (uncaused ((action cells (of_four (vector_tree v m.around) b)).run (state_of old m output)) (state_of new m output) e)
   where
     uncaused : (x : Result State Stop) (t : State) → caused x ≡ Ok t → x ≡ Ok t
-    uncaused (Ok s) t e = ap Ok (ok-inj e)
+    uncaused (Ok s) t e = let same : s ≡ t = cc in ap Ok same
     uncaused (Err w) t e = absurd cc
 
 -- a row that has its four beats
@@ -109,7 +109,7 @@ module _ (listing : Listing) (x : Cpu) where
       → t ≡ with_context (state_in x) → Err e ≡ begin M v x.window.a (state_in x)
       → Err (order.Stopped (record { a = x.window.a; b = x.window.b; n = x.retired; steps = x.older_steps; state = t }) e) ≡ older M (config_of x)
   unfolding state_of
-  row_refused v t e row first made no =
+  row_refused v t e row first made stop =
       let c : Config State = config_of x in
       let test : (x.window.a == 0) ≡ true = grind (arith, nat_tests, first) in
       let left : begun M c ≡ record c { state = t } =
@@ -117,7 +117,7 @@ module _ (listing : Listing) (x : Cpu) where
           ∙ ap (λ (q : Bool). record c { state = cond q (with_context c.state) c.state }) test
           ∙ ap (λ (s : State). record c { state = s }) (sym made) in
       sym (older_vector listing (memory_of x.mem).around c v row
-          ∙ ap (λ (r : Result State Cause). done M c (then r ((rows (memory_of x.mem).around).act v c.a).run) (settle M (suc c.a) c.b c.n (suc c.steps))) (sym no)
+          ∙ ap (λ (r : Result State Cause). done M c (then r ((rows (memory_of x.mem).around).act v c.a).run) (settle M (suc c.a) c.b c.n (suc c.steps))) (sym stop)
           ∙ ap (λ (d : Config State). Err (order.Stopped d e)) left)
 
   -- a beat that is done

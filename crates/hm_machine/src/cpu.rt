@@ -211,7 +211,7 @@ fn rest(n: u64, x: &mut Cpu) -> Result<(), Cause>
     ensures kept { Keeps x.old x.new }
     ensures count { (x.new.retired ≤ x.old.retired + 3) × (x.new.older_steps ≤ x.old.older_steps + 3) }
 {
-    for _k in 0..3 {
+    for _k in 0_u8..3 {
         if x.retired != n {
             return Ok(());
         }
@@ -222,7 +222,7 @@ fn rest(n: u64, x: &mut Cpu) -> Result<(), Cause>
 
 /// The older instruction to its end, in at most four steps.
 fn whole(x: &mut Cpu) -> Result<(), Cause>
-    requires count { (x.old.retired < 2 ^ 62) × (x.old.older_steps < 2 ^ 62) }
+    requires count { (x.old.retired < 2 ^ 61) × (x.old.older_steps < 2 ^ 61) }
     requires position { IsPosition x.old }
     ensures value { (listing : Listing) → IsListing (flash_at (memory_of x.old.mem)) listing
         → reached result x.new ≡ to_end (core listing (memory_of x.old.mem).around) (config_of x.old) }
@@ -237,7 +237,7 @@ fn whole(x: &mut Cpu) -> Result<(), Cause>
 /// What a letter of a schedule does. No schedule has a letter Y yet.
 fn letter(l: u8, x: &mut Cpu) -> Result<(), Cause>
     requires older { l ≢ younger_letter }
-    requires count { (x.old.retired < 2 ^ 62) × (x.old.older_steps < 2 ^ 62) }
+    requires count { (x.old.retired < 2 ^ 61) × (x.old.older_steps < 2 ^ 61) }
     requires position { IsPosition x.old }
     ensures value { (listing : Listing) → IsListing (flash_at (memory_of x.old.mem)) listing
         → reached result x.new ≡ letter_step (core listing (memory_of x.old.mem).around) l (config_of x.old) }
@@ -251,7 +251,7 @@ fn letter(l: u8, x: &mut Cpu) -> Result<(), Cause>
 pub fn letters(letters: &[u8], x: &mut Cpu) -> Result<(), Cause>
     requires few { length letters.now ≤ 8 }
     requires older { All (λ l. l ≢ younger_letter) letters.now }
-    requires count { (x.old.retired < 2 ^ 61) × (x.old.older_steps < 2 ^ 61) }
+    requires count { (x.old.retired < 2 ^ 60) × (x.old.older_steps < 2 ^ 60) }
     requires position { IsPosition x.old }
     ensures value { (listing : Listing) → IsListing (flash_at (memory_of x.old.mem)) listing
         → reached_by_tick result x.new ≡ letter_steps (core listing (memory_of x.old.mem).around) 0 letters.now (config_of x.old) }
