@@ -12,9 +12,12 @@ ghost use Rattle.hm_state.specs.Start.{reset_pc};
 ghost use Rattle.hm_in_order.specs.Answers.{answer_of, state_in, Refuses};
 
 mod answer;
+mod elements;
 mod errors;
+mod immediates;
 mod reset;
 mod rows;
+mod vectors;
 
 pub use answer::{Answer, Ended};
 pub use errors::OrderErr;

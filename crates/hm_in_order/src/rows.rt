@@ -1,14 +1,18 @@
 //! What each instruction does to the registers.
 
-ghost use Rattle.std.specs.Prelude.{◌≡◌, ◌&&◌, ℕ, not, List};
+ghost use Rattle.std.specs.Prelude.{◌≡◌, ◌&&◌, ℕ, ◌+◌, ◌≤◌, not, List};
 ghost use Rattle.std.proofs.Math.Bool.{beq};
+ghost use Rattle.hm_base.specs.Image.{flash_size};
 ghost use Rattle.hm_codes.specs.Listing.{Listing, IsListing};
 ghost use Rattle.hm_in_order.specs.Answers.{left};
+ghost use Rattle.hm_isa.specs.declared.Instr.TheVariants as instr;
+ghost use Rattle.hm_isa.specs.declared.Vector.{Vector};
 ghost use Rattle.hm_mem.specs.Memory.{Memory, memory_of, flash_at};
 ghost use Rattle.hm_run.specs.Program.{alone, whole};
 ghost use Rattle.hm_run.specs.Rows.{adds, movs, negative, scalar_whole};
 ghost use Rattle.hm_state.specs.State.{state_of};
 
+use crate::vectors::vector_row;
 use hm_base::{Fault, Place};
 use hm_decode::fetch;
 use hm_isa::{Instr, S3, S4, Scalar};
@@ -83,12 +87,13 @@ fn scalar(i: &Scalar, regs: &Regs) -> Result<Regs, Stop>
 
 /// The registers after an instruction.
 fn whole(i: &Instr, regs: &Regs) -> Result<Regs, Stop>
+    requires { (v : Vector) → i.now ≡ instr.Vector v → regs.now.pc + 4 ≤ flash_size }
     ensures { (m : Memory) (output : List ℕ) → left result m output ≡ whole i.now (state_of regs.now m output) }
 {
     match i {
         Instr::Scalar(i) => scalar(i, regs),
         Instr::Branch(i) => match *i {},
-        Instr::Vector(i) => match *i {},
+        Instr::Vector(i) => vector_row(i, regs),
     }
 }
 

@@ -59,3 +59,20 @@ fn refuses_an_even_start(rt: HostRuntime) -> Result<(), Fail> {
     }
     Ok(())
 }
+
+// vmov.i32 q0,#5 and q1,#3, vadd.i32 q0,q0,q1, and bkpt #1
+const VECTORS: [u8; 14] = [
+    0x80, 0xef, 0x55, 0x00, 0x80, 0xef, 0x53, 0x20, 0x20, 0xef, 0x42, 0x08, 0x01, 0xbe,
+];
+
+#[test]
+fn does_vector_rows(rt: HostRuntime) -> Result<(), Fail> {
+    let x = run(rt.alloc(), &VECTORS, 9)?;
+    assert_eq!(rt; x.ended, Ended::Halted(Reason::Break(1)));
+    assert_eq!(rt; x.n, 4);
+    assert_eq!(rt; x.regs.pc, 20);
+    assert!(rt; x.regs.fpca);
+    assert_eq!(rt; x.regs.qw[..4], [8; 4]);
+    assert_eq!(rt; x.regs.qw[4..8], [3; 4]);
+    Ok(())
+}
