@@ -70,7 +70,13 @@ pub fn touch_elements(row: &V1, b: u8, r: &Regs) -> Touch
     ensures loads { result.loads.items ≡ [] }
     ensures stores { result.stores.items ≡ [] }
 {
-    touch_pairwise(row.d.get() as u8, row.n.get() as u8, row.m.get() as u8, b, r)
+    touch_pairwise(
+        row.d.get() as u8,
+        row.n.get() as u8,
+        row.m.get() as u8,
+        b,
+        r,
+    )
 }
 
 /// Does beat `b`.
@@ -81,5 +87,13 @@ pub fn beat_elements(row: &V1, b: u8, r: &mut Regs)
     ensures context { r.new.fpca ≡ r.old.fpca }
 {
     let size = size(row.z.get());
-    beat_pairwise(&Lanes(row.name), size, row.d.get() as u8, row.n.get() as u8, row.m.get() as u8, b, r);
+    beat_pairwise(
+        &Lanes(row.name),
+        size,
+        row.d.get() as u8,
+        row.n.get() as u8,
+        row.m.get() as u8,
+        b,
+        r,
+    );
 }

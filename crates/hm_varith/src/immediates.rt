@@ -101,7 +101,11 @@ impl WordOp for Operation {
         let cm = self.0.cm.get();
         let op = self.0.op.get();
         if cm < 12 && cm % 2 == 1 {
-            if op == 0 { old | constant } else { old & !constant }
+            if op == 0 {
+                old | constant
+            } else {
+                old & !constant
+            }
         } else if op == 1 && cm < 14 {
             !constant
         } else {

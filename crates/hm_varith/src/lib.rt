@@ -69,3 +69,6 @@ impl BeatWise for Arith {
         Ok(())
     }
 }
+
+#[cfg(test)]
+mod tests;
