@@ -65,3 +65,6 @@ pub trait BeatWise {
 
     ghost laws: { (x : Self) → RowLaws (tree x) (whole x) };
 }
+
+#[cfg(test)]
+mod tests;
