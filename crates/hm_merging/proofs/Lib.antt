@@ -1,3 +1,4 @@
 pub mod Merging
 pub mod Pairwise
 pub mod Merged
+pub mod WithScalar

@@ -71,7 +71,7 @@ joined a b c d e f g h p q r s = cc
 pub word_apart : (d n b k : ℕ) → k < b → b < 4 → IsApart d k (word_place n b)
 word_apart d n b k low high = record { word = ne_eqb (4 * d + k) (4 * n + b) (λ e. omega arith); slice = refl; mask01 = refl; mask23 = refl }
 
-pair_words : (z : Size) (f : ℕ → ℕ → ℕ) (n m : ℕ) (s : State) →
+pub pair_words : (z : Size) (f : ℕ → ℕ → ℕ) (n m : ℕ) (s : State) →
     let x = λ (b : ℕ). at (word_place n b) s in
     let y = λ (b : ℕ). at (word_place m b) s in
     let w = λ (b : ℕ). bytes_of (word_of (lanewise z f (bytes_of (x b)) (bytes_of (y b)))) in
@@ -92,6 +92,26 @@ pairwise_is z f d n m h = record {
   flags = λ s. refl;
 }
 
+-- QC is set where one of the four words sets it
+pub pair_flags : (z : Size) (g : ℕ → ℕ → Bool) (n m : ℕ) (s : State) →
+    let t = λ (b : ℕ). pair_tests z g (at (word_place n b) s) (at (word_place m b) s) in
+    any_both (active_at 0 s ++ active_at 1 s ++ active_at 2 s ++ active_at 3 s) (pairwise_saturated z g n m s)
+    ≡ (any_both (active_at 0 s) (t 0) || any_both (active_at 1 s) (t 1) || any_both (active_at 2 s) (t 2) || any_both (active_at 3 s) (t 3))
+pair_flags z g n m s =
+    let x = λ (b : ℕ). at (word_place n b) s in
+    let y = λ (b : ℕ). at (word_place m b) s in
+    let t = λ (b : ℕ). pair_tests z g (x b) (y b) in
+    let c = λ (b : ℕ). tests_count z g (x b) (y b) in
+    ap (λ ts. any_both (active_at 0 s ++ active_at 1 s ++ active_at 2 s ++ active_at 3 s) ts) (four_tests z g (x 0) (x 1) (x 2) (x 3) (y 0) (y 1) (y 2) (y 3))
+    ∙ any_four (active_at 0 s) (active_at 1 s) (active_at 2 s) (active_at 3 s) (t 0) (t 1) (t 2) (t 3) refl refl refl (c 0) (c 1) (c 2)
+        (sym (count_two (t 0) (t 1) (c 0) (c 1))) (sym (count_three (t 0) (t 1) (t 2) (c 0) (c 1) (c 2)))
+  where
+    count_two : (a b : List Bool) → length a ≡ 4 → length b ≡ 4 → length (a ++ b) ≡ 8
+    count_two a b p q = length-append a b ∙ (omega arith)
+
+    count_three : (a b c : List Bool) → length a ≡ 4 → length b ≡ 4 → length c ≡ 4 → length (a ++ b ++ c) ≡ 12
+    count_three a b c p q r = length-append (a ++ b) c ∙ (let e = length-append a b in omega arith)
+
 -- one that may set QC
 pub saturating_is : (z : Size) (f : ℕ → ℕ → ℕ) (g : ℕ → ℕ → Bool) (d n m : ℕ) → d < 8
     → IsMerging (saturating_pairwise z f g d n m) (pairwise_result z f n m) (Some (pairwise_saturated z g n m))
@@ -99,18 +119,5 @@ saturating_is z f g d n m h = record {
   below = h;
   apart = λ b k low high. (word_apart d n b k low high, (word_apart d m b k low high, tt));
   words = pair_words z f n m;
-  flags = λ s.
-    let x = λ (b : ℕ). at (word_place n b) s in
-    let y = λ (b : ℕ). at (word_place m b) s in
-    let t = λ (b : ℕ). pair_tests z g (x b) (y b) in
-    let c = λ (b : ℕ). tests_count z g (x b) (y b) in
-    ap (λ ts. any_both (active_at 0 s ++ active_at 1 s ++ active_at 2 s ++ active_at 3 s) ts) (four_tests z g (x 0) (x 1) (x 2) (x 3) (y 0) (y 1) (y 2) (y 3))
-    ∙ any_four (active_at 0 s) (active_at 1 s) (active_at 2 s) (active_at 3 s) (t 0) (t 1) (t 2) (t 3) refl refl refl (c 0) (c 1) (c 2)
-        (sym (count_two (t 0) (t 1) (c 0) (c 1))) (sym (count_three (t 0) (t 1) (t 2) (c 0) (c 1) (c 2)));
+  flags = pair_flags z g n m;
 }
-  where
-    count_two : (a b : List Bool) → length a ≡ 4 → length b ≡ 4 → length (a ++ b) ≡ 8
-    count_two a b p q = length-append a b ∙ (omega arith)
-
-    count_three : (a b c : List Bool) → length a ≡ 4 → length b ≡ 4 → length c ≡ 4 → length (a ++ b ++ c) ≡ 12
-    count_three a b c p q r = length-append (a ++ b) c ∙ (let e = length-append a b in omega arith)
