@@ -81,12 +81,12 @@ pub lowest_met : (a b : Touches) (x y z : Option ℕ) → x ≡ lowest (has_byte
     → IsLowest (byte_meets a b) (lower (lower x y) z)
 lowest_met a b x y z e f g =
     let of : (p : ℕ → Bool) (o : Option ℕ) (xs : List ℕ) → o ≡ lowest p xs → IsLowest (λ v. has_byte xs v && p v) o
-        = λ p o xs h. subst (λ (q : Option ℕ). IsLowest (λ v. has_byte xs v && p v) q) (sym h) (IsLowest-lowest p xs) in
+    = λ p o xs h. subst (λ (q : Option ℕ). IsLowest (λ v. has_byte xs v && p v) q) (sym h) (IsLowest-lowest p xs) in
     let first : ℕ → Bool = λ v. has_byte a.stores v && has_byte b.loads v in
     let second : ℕ → Bool = λ v. has_byte a.loads v && has_byte b.stores v in
     let third : ℕ → Bool = λ v. has_byte a.stores v && has_byte b.stores v in
     IsLowest-lower (λ v. first v || second v) third (lower x y) z
-        (IsLowest-lower first second x y (of (has_byte b.loads) x a.stores e) (of (has_byte b.stores) y a.loads f)) (of (has_byte b.stores) z a.stores g)
+    (IsLowest-lower first second x y (of (has_byte b.loads) x a.stores e) (of (has_byte b.stores) y a.loads f)) (of (has_byte b.stores) z a.stores g)
 
 pub both_lists : (xs ys us vs : List Span) (o : Option ℕ) → xs ≡ us → ys ≡ vs → o ≡ lowest (has_byte (spanned ys)) (spanned xs) → o ≡ lowest (has_byte (spanned vs)) (spanned us)
 both_lists xs ys us vs o e f h = h ∙ λ i. lowest (has_byte (spanned (f i))) (spanned (e i))

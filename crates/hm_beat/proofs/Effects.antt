@@ -30,9 +30,9 @@ module _ {C V E X : Type 0} (K : Cells C V) (laws : CellLaws K) where
   pub effect_same : (b : Beat C V E) (s u : Store C V X) → ((c : C) → (action K b).uses s c ≡ true → s.cell c ≡ u.cell c) → effect K b s ≡ effect K b u
   effect_same b s u h =
       let by_reads : (c : C) → holds K (reach b s).reads c ≡ true → s.cell c ≡ u.cell c
-          = λ c e. h c (other_of (holds K (tests b s) c) (holds K (reach b s).reads c || holds K (asked (reach b s).checks) c) (one_of (holds K (reach b s).reads c) (holds K (asked (reach b s).checks) c) e)) in
+      = λ c e. h c (other_of (holds K (tests b s) c) (holds K (reach b s).reads c || holds K (asked (reach b s).checks) c) (one_of (holds K (reach b s).reads c) (holds K (asked (reach b s).checks) c) e)) in
       let by_checks : (c : C) → holds K (asked (reach b s).checks) c ≡ true → s.cell c ≡ u.cell c
-          = λ c e. h c (other_of (holds K (tests b s) c) (holds K (reach b s).reads c || holds K (asked (reach b s).checks) c) (other_of (holds K (reach b s).reads c) (holds K (asked (reach b s).checks) c) e)) in
+      = λ c e. h c (other_of (holds K (tests b s) c) (holds K (reach b s).reads c || holds K (asked (reach b s).checks) c) (other_of (holds K (reach b s).reads c) (holds K (asked (reach b s).checks) c) e)) in
       let r = reach_same K laws b s u (λ c e. h c (one_of (holds K (tests b s) c) (holds K (reach b s).reads c || holds K (asked (reach b s).checks) c) e)) in
       ap (λ o. effect_of o (reach b s) (map s.cell (reach b s).reads)) (checked_same K laws (reach b s).checks s u by_checks)
       ∙ ap (λ vs. effect_of (checked K (reach b s).checks u) (reach b s) vs) (map_same K laws (reach b s).reads s u by_reads)
@@ -60,12 +60,12 @@ module _ {C V E X R : Type 0} (K : Cells C V) (laws : CellLaws K) where
       link K (t 0) s s _ _ refl λ e0 h0.
       let u1 = done K e0 s in
       let same1 : (b : ℕ) → 0 < b → b < 4 → (c : C) → (action K (t b)).uses s c ≡ true → s.cell c ≡ u1.cell c
-          = λ b low high c uses. sym (effect_stays K (t 0) s s e0 h0 c (apart b 0 low high c uses)) in
+      = λ b low high c uses. sym (effect_stays K (t 0) s s e0 h0 c (apart b 0 low high c uses)) in
       link K (t 1) s u1 _ _ (effect_same K laws (t 1) s u1 (same1 1 (omega arith) (omega arith))) λ e1 h1.
       let u2 = done K e1 u1 in
       let same2 : (b : ℕ) → 1 < b → b < 4 → (c : C) → (action K (t b)).uses s c ≡ true → s.cell c ≡ u2.cell c
-          = λ b low high c uses. same1 b (omega arith) high c uses ∙ sym (effect_stays K (t 1) s u1 e1 h1 c (apart b 1 low high c uses)) in
+      = λ b low high c uses. same1 b (omega arith) high c uses ∙ sym (effect_stays K (t 1) s u1 e1 h1 c (apart b 1 low high c uses)) in
       link K (t 2) s u2 _ _ (effect_same K laws (t 2) s u2 (same2 2 (omega arith) (omega arith))) λ e2 h2.
       let u3 = done K e2 u2 in
       link K (t 3) s u3 _ _ (effect_same K laws (t 3) s u3 (λ c uses. same2 3 (omega arith) (omega arith) c uses
-          ∙ sym (effect_stays K (t 2) s u2 e2 h2 c (apart 3 2 (omega arith) (omega arith) c uses)))) λ e3 h3. refl
+      ∙ sym (effect_stays K (t 2) s u2 e2 h2 c (apart 3 2 (omega arith) (omega arith) c uses)))) λ e3 h3. refl

@@ -46,5 +46,5 @@ pub code_swapped : {A : Type 0} (a : Tree) (b : Around → Tree) (r r' r'' : Reg
     → then (run (b m.around) r m output) (action cells a).run ≡ Ok (state_of r'' m'' output)
 code_swapped a b r r' r'' m m' m'' output x y apart ok_x ok_y same first last =
     trees_swapped a (b m.around) (state_of r m output) (state_of r' m' output) (state_of r'' m'' output) apart
-      (beats_ok (run a r m output) x r r' m m' output ok_x first)
-      (subst (λ z. run (b z) r' m' output ≡ Ok (state_of r'' m'' output)) same (beats_ok (run (b m'.around) r' m' output) y r' r'' m' m'' output ok_y last))
+    (beats_ok (run a r m output) x r r' m m' output ok_x first)
+    (subst (λ z. run (b z) r' m' output ≡ Ok (state_of r'' m'' output)) same (beats_ok (run (b m'.around) r' m' output) y r' r'' m' m'' output ok_y last))

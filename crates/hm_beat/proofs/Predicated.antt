@@ -122,10 +122,10 @@ tests_predicated b body s =
     let mask = at (mask_place b) s in
     let size = at Ltp s in
     ap (λ xs. At (mask_place b) ∷ At Ltp ∷ xs)
-      (tests_where (ltb size 4) (R 14) _ s
-      ∙ ap (λ xs. cond (ltb size 4) (At (R 14) ∷ []) [] ++ xs) (tests_where (not (eqb mask 0)) (P0 b) _ s ∙ ap (λ xs. cond (not (eqb mask 0)) (At (P0 b) ∷ []) [] ++ xs) (tests_also (map always (advance_of b mask (cond (not (eqb mask 0)) (at (P0 b) s) 0))) (body (active_bytes b mask size (cond (ltb size 4) (at (R 14) s) 0) (cond (not (eqb mask 0)) (at (P0 b) s) 0))) s
-      ∙ ap (λ ps. tests (body ps) s) (active_tested b mask size (at (R 14) s) (at (P0 b) s))))
-      ∙ two_tests (ltb size 4) (not (eqb mask 0)) (R 14) (P0 b) (tests (body (active_at b s)) s))
+    (tests_where (ltb size 4) (R 14) _ s
+    ∙ ap (λ xs. cond (ltb size 4) (At (R 14) ∷ []) [] ++ xs) (tests_where (not (eqb mask 0)) (P0 b) _ s ∙ ap (λ xs. cond (not (eqb mask 0)) (At (P0 b) ∷ []) [] ++ xs) (tests_also (map always (advance_of b mask (cond (not (eqb mask 0)) (at (P0 b) s) 0))) (body (active_bytes b mask size (cond (ltb size 4) (at (R 14) s) 0) (cond (not (eqb mask 0)) (at (P0 b) s) 0))) s
+    ∙ ap (λ ps. tests (body ps) s) (active_tested b mask size (at (R 14) s) (at (P0 b) s))))
+    ∙ two_tests (ltb size 4) (not (eqb mask 0)) (R 14) (P0 b) (tests (body (active_at b s)) s))
 
 -- WHAT IT USES AND SETS
 -- what a row reads, tests and asks for in its body

@@ -95,7 +95,7 @@ pub reorder : (k0 k1 k2 k3 : ℕ) (v0 v1 v2 v3 : Value) (a0 a1 a2 a3 : List (Cel
     → ((j : ℕ) → Each (λ (w : Cell × Value). same_cell w.0 (At (QWord j)) ≡ false) a0) → ((j : ℕ) → Each (λ (w : Cell × Value). same_cell w.0 (At (QWord j)) ≡ false) a1)
     → ((j : ℕ) → Each (λ (w : Cell × Value). same_cell w.0 (At (QWord j)) ≡ false) a2)
     → put_all cells ((At (QWord k3), v3) ∷ a3) (put_all cells ((At (QWord k2), v2) ∷ a2) (put_all cells ((At (QWord k1), v1) ∷ a1) (put_all cells ((At (QWord k0), v0) ∷ a0) s)))
-      ≡ put_all cells a3 (put_all cells a2 (put_all cells a1 (put_all cells a0 (put cells (At (QWord k3)) v3 (put cells (At (QWord k2)) v2 (put cells (At (QWord k1)) v1 (put cells (At (QWord k0)) v0 s)))))))
+    ≡ put_all cells a3 (put_all cells a2 (put_all cells a1 (put_all cells a0 (put cells (At (QWord k3)) v3 (put cells (At (QWord k2)) v2 (put cells (At (QWord k1)) v1 (put cells (At (QWord k0)) v0 s)))))))
 reorder k0 k1 k2 k3 v0 v1 v2 v3 a0 a1 a2 a3 s n0 n1 n2 =
     let A0 : State → State = put_all cells a0 in
     let A1 : State → State = put_all cells a1 in
@@ -108,14 +108,14 @@ reorder k0 k1 k2 k3 v0 v1 v2 v3 a0 a1 a2 a3 s n0 n1 n2 =
     ap (λ x. A3 (p3 (A2 (p2 (A1 x))))) (sym (past a0 (At (QWord k1)) v1 (p0 s) (n0 k1)))
     ∙ ap (λ x. A3 (p3 (A2 x))) (sym (past a1 (At (QWord k2)) v2 (A0 (p1 (p0 s))) (n1 k2)) ∙ ap A1 (sym (past a0 (At (QWord k2)) v2 (p1 (p0 s)) (n0 k2))))
     ∙ ap A3 (sym (past a2 (At (QWord k3)) v3 (A1 (A0 (p2 (p1 (p0 s))))) (n2 k3)) ∙ ap A2 (sym (past a1 (At (QWord k3)) v3 (A0 (p2 (p1 (p0 s)))) (n1 k3))
-      ∙ ap A1 (sym (past a0 (At (QWord k3)) v3 (p2 (p1 (p0 s))) (n0 k3)))))
+    ∙ ap A1 (sym (past a0 (At (QWord k3)) v3 (p2 (p1 (p0 s))) (n0 k3)))))
 
 -- the two halves of the advance
 pub advanced : (s x : State) → put_all cells (map into (advance_at 3 s)) (put_all cells (map into (advance_at 2 s)) (put_all cells (map into (advance_at 1 s)) (put_all cells (map into (advance_at 0 s)) x)))
     ≡ put_all cells (advance_half 0 s ++ advance_half 2 s) x
 advanced s x =
     ap (λ y. put_all cells (map into (advance_at 3 s)) (put_all cells (map into (advance_at 2 s)) y))
-      (halves (ltb 8 (at Mask01 s)) (not (eqb (at Mask01 s) 0)) (write (P0 0) (15 - at (P0 0) s)) (write (P0 1) (15 - at (P0 1) s)) (write Mask01 (2 * at Mask01 s)) x)
+    (halves (ltb 8 (at Mask01 s)) (not (eqb (at Mask01 s) 0)) (write (P0 0) (15 - at (P0 0) s)) (write (P0 1) (15 - at (P0 1) s)) (write Mask01 (2 * at Mask01 s)) x)
     ∙ halves (ltb 8 (at Mask23 s)) (not (eqb (at Mask23 s) 0)) (write (P0 2) (15 - at (P0 2) s)) (write (P0 3) (15 - at (P0 3) s)) (write Mask23 (2 * at Mask23 s)) (put_all cells (advance_half 0 s) x)
     ∙ sym (put_all-append (advance_half 0 s) (advance_half 2 s) x)
 

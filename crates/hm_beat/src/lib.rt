@@ -3,8 +3,8 @@
 
 mod clash;
 mod laws;
-mod pair;
 mod notes;
+mod pair;
 
 ghost use Rattle.std.specs.Prelude.{◌≡◌, ℕ, ◌<◌, IsTrue, List, Result};
 ghost use Rattle.hm_base.specs.declared.Stop.{Stop};
@@ -14,14 +14,13 @@ ghost use Rattle.hm_beat.specs.Laws.{Beats, Checks, RowLaws, run};
 ghost use Rattle.hm_beat.specs.Rows.{Tree};
 ghost use Rattle.hm_beat.specs.Touches.{loads_in, reads_in, spanned, stores_in, writes_in};
 
+pub use clash::{Clash, meet};
 use hm_base::{Places, Spans, Stop};
 use hm_mem::Mem;
 use hm_regs::Regs;
-
-pub use clash::{Clash, meet};
 pub use laws::{frame_law, overlap, rows_law};
-pub use pair::two;
 pub use notes::{note_advance, note_predicate, read_word};
+pub use pair::two;
 
 /// The places that a beat reads and writes, and the bytes of memory that it loads and stores.
 #[derive(Drop)]

@@ -35,7 +35,7 @@ predicate_words r =
 pub predicate_merges : (r : Regs) (a b c d x y z w : ℕ)
     → merged (predicate_of r) (bytes_of a ++ bytes_of b ++ bytes_of c ++ bytes_of d) (bytes_of x ++ bytes_of y ++ bytes_of z ++ bytes_of w)
     ≡ merged (active_word r 0) (bytes_of a) (bytes_of x) ++ merged (active_word r 1) (bytes_of b) (bytes_of y)
-        ++ merged (active_word r 2) (bytes_of c) (bytes_of z) ++ merged (active_word r 3) (bytes_of d) (bytes_of w)
+    ++ merged (active_word r 2) (bytes_of c) (bytes_of z) ++ merged (active_word r 3) (bytes_of d) (bytes_of w)
 predicate_merges r a b c d x y z w =
     ap (λ ps. merged ps (bytes_of a ++ bytes_of b ++ bytes_of c ++ bytes_of d) (bytes_of x ++ bytes_of y ++ bytes_of z ++ bytes_of w)) (predicate_words r)
 
@@ -83,5 +83,5 @@ pub finish_others : (d b new : ℕ) (r : Regs) (q : Place) → d < 8 → b < 4 �
 finish_others d b new r q low high i h =
     let word : IsPlace (QWord (4 * d + b)) = omega arith in
     others_stay (finish_writes d b new r) r q
-        (word, advance_placed (ltb 8 (mask_of b r)) (eqb (b % 2) 1 && not (eqb (mask_of b r) 0)) (P0 b) (mask_place b) (15 - value_at (P0 b) r) (2 * mask_of b r) high (mask_placed b))
-        i (ap (λ ps. has_place (QWord (4 * d + b) ∷ ps) q) (places_of-advance_writes b r) ∙ h)
+    (word, advance_placed (ltb 8 (mask_of b r)) (eqb (b % 2) 1 && not (eqb (mask_of b r) 0)) (P0 b) (mask_place b) (15 - value_at (P0 b) r) (2 * mask_of b r) high (mask_placed b))
+    i (ap (λ ps. has_place (QWord (4 * d + b) ∷ ps) q) (places_of-advance_writes b r) ∙ h)

@@ -51,7 +51,7 @@ writes_are i b r m output h =
     ap (λ (l : Leaf Cell Value Stop). listed (flag_places l.mark ++ places_in (writes_of (merging_tree i b) s))) (reach_predicated b (merge_body i b) s)
     ∙ ap (λ cs. listed (flag_places (mark_on i.saturates b (active_at b s)) ++ places_in cs)) (merging_targets i b s)
     ∙ ap (λ ps. listed (flag_places (mark_on i.saturates b (active_at b s)) ++ (word_place i.register b ∷ ps)))
-      (places_at (map (λ (w : Write). w.place) (advance_at b s)) ∙ advance_places_is b r m output h)
+    (places_at (map (λ (w : Write). w.place) (advance_at b s)) ∙ advance_places_is b r m output h)
 
 pub loads_none : (i : Merging) (b : ℕ) (r : Regs) (m : Memory) (output : List ℕ) → loads_in (merging_tree i b) r m output ≡ []
 loads_none i b r m output = ap bytes_in (merging_reads i b (state_of r m output)) ∙ bytes_at-append (tested_places b (state_of r m output)) _ ∙ bytes_at (i.sources b)
@@ -118,13 +118,13 @@ pub finish_saturated : (i : Merging) (f : ℕ → List ℕ → List Bool) (d b p
 finish_saturated i f d b p r r' r'' m output new saturated sets same some low high n e k bits is g h =
     let s = state_of r m output in
     let mark : saturates_on (Some f) b (active_at b s) (sources_at i b s) ≡ sets
-        = (λ j. any_both (active_is b r m output high j) (f b (sources_at i b s))) ∙ (λ j. any_both (sym bits j) (sym k j)) ∙ sym is in
+    = (λ j. any_both (active_is b r m output high j) (f b (sources_at i b s))) ∙ (λ j. any_both (sym bits j) (sym k j)) ∙ sym is in
     merging_run i b r m output
     ∙ ap (λ o. Ok (flagged (saturates_on o b (active_at b s) (sources_at i b s)) (put_all cells (merging_writes i b s) s))) some
     ∙ ap Ok (
-      ap (λ v. flagged v (put_all cells (merging_writes i b s) s)) mark
-      ∙ ap (flagged sets) (finish_state i d b r r' m output new same low high n e g)
-      ∙ set_flag sets r' r'' m output h)
+    ap (λ v. flagged v (put_all cells (merging_writes i b s) s)) mark
+    ∙ ap (flagged sets) (finish_state i d b r r' m output new same low high n e g)
+    ∙ set_flag sets r' r'' m output h)
 
 -- a row that merges a word never stops
 pub merging_checks : {A : Type 0} (i : Merging) (b : ℕ) (r : Regs) (m : Memory) (output : List ℕ) (x : Result A Stop) → IsOk x → Checks (run (merging_tree i b) r m output) x

@@ -44,7 +44,7 @@ module _ (i : Merging) (result : State → List ℕ) (saturated : Option (State 
   uses_left b k s c low high h = decide (holds cells (map At (tested_places b s)) c)
       (λ p. record { word = no_word i.register k b s c p; still = held_of (IsStill k) (map At (tested_places b s)) c (predicate_still b k s low high) p })
       (λ p. held_of (Left i.register k) (body_uses (merge_body i b (active_at b s)) s) c (left_word i.register b k low high, rest (map At (i.sources b)) (left_sources i.register k (i.sources b) (is.apart b k low high)))
-          (second (holds cells (map At (tested_places b s)) c) _ p (sym (uses_is b (merge_body i b) s c) ∙ h)))
+      (second (holds cells (map At (tested_places b s)) c) _ p (sym (uses_is b (merge_body i b) s c) ∙ h)))
     where
       rest : (xs : List Cell) → Each (Left i.register k) xs → Each (Left i.register k) (xs ++ [])
       rest [] h = tt
@@ -71,7 +71,7 @@ pub merging_effect : (i : Merging) (b : ℕ) (s : State) → ◌≡◌ {A = Resu
 merging_effect i b s =
     ap (λ (l : Leaf Cell Value Stop). effect_of (checked cells l.checks s) l (map s.cell l.reads)) (reach_predicated b (merge_body i b) s)
     ∙ ap (λ ws. Ok (marks_by (mark_on i.saturates b (active_at b s)) (map s.cell (At (word_place i.register b) ∷ map At (i.sources b))), (At (word_place i.register b), word (merged_at i b s)) ∷ ws))
-      (written_always (advance_at b s) (map s.cell (At (word_place i.register b) ∷ map At (i.sources b))))
+    (written_always (advance_at b s) (map s.cell (At (word_place i.register b) ∷ map At (i.sources b))))
     ∙ ap (λ v. Ok (v, merging_writes i b s)) (marks_is i.saturates b (active_at b s) (s.cell (At (word_place i.register b))) (map s.cell (map At (i.sources b))))
 
 -- the flag is set beside the writes
@@ -100,7 +100,7 @@ four_flags false false false false x = refl
 -- four effects: the writes in order, and the flag where one sets it
 four_done : (a b c d : Bool) (ws xs ys zs : List (Cell × Value)) (s : State)
     → done cells (d, zs) (done cells (c, ys) (done cells (b, xs) (done cells (a, ws) s)))
-      ≡ flagged (a || b || c || d) (put_all cells zs (put_all cells ys (put_all cells xs (put_all cells ws s))))
+    ≡ flagged (a || b || c || d) (put_all cells zs (put_all cells ys (put_all cells xs (put_all cells ws s))))
 four_done a b c d ws xs ys zs s =
     let f : State → State = put_all cells ws in
     let w : State = put_all cells ws s in
@@ -115,8 +115,8 @@ four_done a b c d ws xs ys zs s =
 -- merged words, by the words of the result
 merged_words : (i : Merging) (s : State) (v : List ℕ) → v ≡ bytes_of (new_at i 0 s) ++ bytes_of (new_at i 1 s) ++ bytes_of (new_at i 2 s) ++ bytes_of (new_at i 3 s)
     → put_all cells (write_register i.register (merged (predicate_at s) (register_at i.register s) v) ++ advance_half 0 s ++ advance_half 2 s) s
-      ≡ put_all cells (advance_half 0 s ++ advance_half 2 s) (put cells (At (word_place i.register 3)) (word (merged_at i 3 s)) (put cells (At (word_place i.register 2)) (word (merged_at i 2 s))
-          (put cells (At (word_place i.register 1)) (word (merged_at i 1 s)) (put cells (At (word_place i.register 0)) (word (merged_at i 0 s)) s))))
+    ≡ put_all cells (advance_half 0 s ++ advance_half 2 s) (put cells (At (word_place i.register 3)) (word (merged_at i 3 s)) (put cells (At (word_place i.register 2)) (word (merged_at i 2 s))
+    (put cells (At (word_place i.register 1)) (word (merged_at i 1 s)) (put cells (At (word_place i.register 0)) (word (merged_at i 0 s)) s))))
 merged_words i s v e = ap (λ (u : List ℕ). put_all cells (write_register i.register (merged (predicate_at s) (register_at i.register s) u) ++ advance_half 0 s ++ advance_half 2 s) s) e
 
 pub four_merge : (i : Merging) (result : State → List ℕ) (saturated : Option (State → List Bool)) → IsMerging i result saturated → (s : State)
@@ -126,13 +126,13 @@ four_merge i result saturated is s =
     unchained cells cell_laws (merging_tree i) (λ u. Ok (retired u)) s (merging_unchained i result saturated is s)
     ∙ started (merging_tree i) (λ u. Ok (retired u)) s _ _ _ _ (merging_effect i 0 s) (merging_effect i 1 s) (merging_effect i 2 s) (merging_effect i 3 s)
     ∙ ap (λ u. Ok (retired u))
-      (four_done (saturates_at i 0 s) (saturates_at i 1 s) (saturates_at i 2 s) (saturates_at i 3 s) (merging_writes i 0 s) (merging_writes i 1 s) (merging_writes i 2 s) (merging_writes i 3 s) s
-      ∙ ap (λ v. flagged v all) (sym (is.flags s))
-      ∙ ap (flagged (saturates_whole saturated s))
-        (reorder (4 * i.register + 0) (4 * i.register + 1) (4 * i.register + 2) (4 * i.register + 3) (word (merged_at i 0 s)) (word (merged_at i 1 s)) (word (merged_at i 2 s)) (word (merged_at i 3 s))
-          (map into (advance_at 0 s)) (map into (advance_at 1 s)) (map into (advance_at 2 s)) (map into (advance_at 3 s)) s (λ j. no_words 0 j s) (λ j. no_words 1 j s) (λ j. no_words 2 j s)
-        ∙ advanced s _
-        ∙ sym (merged_words i s (result s) (is.words s))))
+    (four_done (saturates_at i 0 s) (saturates_at i 1 s) (saturates_at i 2 s) (saturates_at i 3 s) (merging_writes i 0 s) (merging_writes i 1 s) (merging_writes i 2 s) (merging_writes i 3 s) s
+    ∙ ap (λ v. flagged v all) (sym (is.flags s))
+    ∙ ap (flagged (saturates_whole saturated s))
+    (reorder (4 * i.register + 0) (4 * i.register + 1) (4 * i.register + 2) (4 * i.register + 3) (word (merged_at i 0 s)) (word (merged_at i 1 s)) (word (merged_at i 2 s)) (word (merged_at i 3 s))
+    (map into (advance_at 0 s)) (map into (advance_at 1 s)) (map into (advance_at 2 s)) (map into (advance_at 3 s)) s (λ j. no_words 0 j s) (λ j. no_words 1 j s) (λ j. no_words 2 j s)
+    ∙ advanced s _
+    ∙ sym (merged_words i s (result s) (is.words s))))
 
 -- THE LAWS
 merging_later : (i : Merging) (result : State → List ℕ) (saturated : Option (State → List Bool)) → IsMerging i result saturated → (b k : ℕ) (s : State) → k < b → b < 4

@@ -81,7 +81,7 @@ pair_words z f n m s =
     let y = λ (b : ℕ). at (word_place m b) s in
     four_words z f (x 0) (x 1) (x 2) (x 3) (y 0) (y 1) (y 2) (y 3)
     ∙ joined (lanewise z f (bytes_of (x 0)) (bytes_of (y 0))) (lanewise z f (bytes_of (x 1)) (bytes_of (y 1))) (lanewise z f (bytes_of (x 2)) (bytes_of (y 2))) (lanewise z f (bytes_of (x 3)) (bytes_of (y 3))) _ _ _ _
-        (one_word z f (x 0) (y 0)) (one_word z f (x 1) (y 1)) (one_word z f (x 2) (y 2)) (one_word z f (x 3) (y 3))
+    (one_word z f (x 0) (y 0)) (one_word z f (x 1) (y 1)) (one_word z f (x 2) (y 2)) (one_word z f (x 3) (y 3))
 
 -- a row of pairs
 pub pairwise_is : (z : Size) (f : ℕ → ℕ → ℕ) (d n m : ℕ) → d < 8 → IsMerging (pairwise z f d n m) (pairwise_result z f n m) None
@@ -104,7 +104,7 @@ pair_flags z g n m s =
     let c = λ (b : ℕ). tests_count z g (x b) (y b) in
     ap (λ ts. any_both (active_at 0 s ++ active_at 1 s ++ active_at 2 s ++ active_at 3 s) ts) (four_tests z g (x 0) (x 1) (x 2) (x 3) (y 0) (y 1) (y 2) (y 3))
     ∙ any_four (active_at 0 s) (active_at 1 s) (active_at 2 s) (active_at 3 s) (t 0) (t 1) (t 2) (t 3) refl refl refl (c 0) (c 1) (c 2)
-        (sym (count_two (t 0) (t 1) (c 0) (c 1))) (sym (count_three (t 0) (t 1) (t 2) (c 0) (c 1) (c 2)))
+    (sym (count_two (t 0) (t 1) (c 0) (c 1))) (sym (count_three (t 0) (t 1) (t 2) (c 0) (c 1) (c 2)))
   where
     count_two : (a b : List Bool) → length a ≡ 4 → length b ≡ 4 → length (a ++ b) ≡ 8
     count_two a b p q = length-append a b ∙ (omega arith)

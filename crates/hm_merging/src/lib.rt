@@ -6,10 +6,9 @@ mod pairs;
 mod scalar_pairs;
 
 pub use merges::{finish_row, finish_saturating, touch_merging, touch_saturating};
-pub use pairs::{beat_pairwise, beat_saturating_pairwise, touch_pairwise, touch_saturating_pairwise};
+pub use pairs::{
+    beat_pairwise, beat_saturating_pairwise, touch_pairwise, touch_saturating_pairwise,
+};
 pub use scalar_pairs::{
-    beat_saturating_with_scalar,
-    beat_with_scalar,
-    touch_saturating_with_scalar,
-    touch_with_scalar,
+    beat_saturating_with_scalar, beat_with_scalar, touch_saturating_with_scalar, touch_with_scalar,
 };

@@ -64,7 +64,16 @@ pub fn beat_pairwise<O: LaneOp>(op: &O, size: Size, d: u8, n: u8, m: u8, b: u8, 
 }
 
 /// The same of a row that may set QC: `over` tells which pairs of lanes saturate.
-pub fn beat_saturating_pairwise<O: LaneOp, T: LaneTest>(op: &O, over: &T, size: Size, d: u8, n: u8, m: u8, b: u8, r: &mut Regs)
+pub fn beat_saturating_pairwise<O: LaneOp, T: LaneTest>(
+    op: &O,
+    over: &T,
+    size: Size,
+    d: u8,
+    n: u8,
+    m: u8,
+    b: u8,
+    r: &mut Regs,
+)
     requires result_register { d < 8 }
     requires first_register { n < 8 }
     requires second_register { m < 8 }
@@ -75,5 +84,11 @@ pub fn beat_saturating_pairwise<O: LaneOp, T: LaneTest>(op: &O, over: &T, size: 
 {
     let x = read_word(r, n, b);
     let y = read_word(r, m, b);
-    finish_saturating(r, d, b, zip_lanes(op, size, x, y), zip_tests(over, size, x, y));
+    finish_saturating(
+        r,
+        d,
+        b,
+        zip_lanes(op, size, x, y),
+        zip_tests(over, size, x, y),
+    );
 }

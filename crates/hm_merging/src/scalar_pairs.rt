@@ -72,7 +72,16 @@ pub fn touch_saturating_with_scalar(d: u8, n: u8, p: u8, m: u8, b: u8, r: &Regs)
 
 /// Does beat `b` of a row on register `m`, at most 14, and pairs of lanes of vector registers `n` and `p` into `d`, all below 8;
 /// `b` is below 4. `op` is the function of lanes for what register `m` holds.
-pub fn beat_with_scalar<O: LaneOp>(op: &O, size: Size, d: u8, n: u8, p: u8, m: u8, b: u8, r: &mut Regs)
+pub fn beat_with_scalar<O: LaneOp>(
+    op: &O,
+    size: Size,
+    d: u8,
+    n: u8,
+    p: u8,
+    m: u8,
+    b: u8,
+    r: &mut Regs,
+)
     requires result_register { d < 8 }
     requires first_register { n < 8 }
     requires second_register { p < 8 }
@@ -88,7 +97,17 @@ pub fn beat_with_scalar<O: LaneOp>(op: &O, size: Size, d: u8, n: u8, p: u8, m: u
 }
 
 /// The same of a row that may set QC: `over` tells which pairs of lanes saturate for what register `m` holds.
-pub fn beat_saturating_with_scalar<O: LaneOp, T: LaneTest>(op: &O, over: &T, size: Size, d: u8, n: u8, p: u8, m: u8, b: u8, r: &mut Regs)
+pub fn beat_saturating_with_scalar<O: LaneOp, T: LaneTest>(
+    op: &O,
+    over: &T,
+    size: Size,
+    d: u8,
+    n: u8,
+    p: u8,
+    m: u8,
+    b: u8,
+    r: &mut Regs,
+)
     requires result_register { d < 8 }
     requires first_register { n < 8 }
     requires second_register { p < 8 }
@@ -101,5 +120,11 @@ pub fn beat_saturating_with_scalar<O: LaneOp, T: LaneTest>(op: &O, over: &T, siz
 {
     let x = read_word(r, n, b);
     let y = read_word(r, p, b);
-    finish_saturating(r, d, b, zip_lanes(op, size, x, y), zip_tests(over, size, x, y));
+    finish_saturating(
+        r,
+        d,
+        b,
+        zip_lanes(op, size, x, y),
+        zip_tests(over, size, x, y),
+    );
 }

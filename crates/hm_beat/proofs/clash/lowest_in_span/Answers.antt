@@ -13,4 +13,4 @@ loop-k-preserved c =
       | else-covers w ↦ w.found-is ∙ ap (λ b. cond b (Some a) None) (sym (sym c.covers.ensures ∙ w.if-covers.false))
     ] in
     lowest_later (has_byte (spanned c.args.others.now)) c.args.span.now.addr c.loop-k.k c.args.span.now.len c.loop-k.best c.lower-best.result (omega arith) c.loop-k.invariant
-      (c.lower-best.ensures ∙ ap (lower c.loop-k.best) found)
+    (c.lower-best.ensures ∙ ap (lower c.loop-k.best) found)

@@ -9,5 +9,5 @@ returns-clause-done g c = λ mem output.
     let f = g.O.LaneOp.value c.args.op.now z in
     let t = g.T.LaneTest.test c.args.over.now z in
     c.finish_saturating.ensures.done (saturating_pairwise z f t c.args.d c.args.n c.args.m) _ mem output refl refl
-      (c.zip_lanes.ensures ∙ λ i. word_of (lanewise z f (bytes_of (c.read_word-x.ensures mem output i)) (bytes_of (c.read_word-y.ensures mem output i))))
-      (c.zip_tests.ensures ∙ λ i. lane_tests z t (bytes_of (c.read_word-x.ensures mem output i)) (bytes_of (c.read_word-y.ensures mem output i)))
+    (c.zip_lanes.ensures ∙ λ i. word_of (lanewise z f (bytes_of (c.read_word-x.ensures mem output i)) (bytes_of (c.read_word-y.ensures mem output i))))
+    (c.zip_tests.ensures ∙ λ i. lane_tests z t (bytes_of (c.read_word-x.ensures mem output i)) (bytes_of (c.read_word-y.ensures mem output i)))

@@ -12,5 +12,5 @@ returns-clause-done g c = λ f h mem output is tests.
     let same = is ∙ ap f held in
     let alike = tests ∙ ap h held in
     c.finish_saturating.ensures.done (saturating_with_scalar z f h c.args.d c.args.n c.args.p c.args.m) _ mem output refl refl
-      (c.zip_lanes.ensures ∙ λ i. word_of (lanewise z (same i) (bytes_of (c.read_word-x.ensures mem output i)) (bytes_of (c.read_word-y.ensures mem output i))))
-      (c.zip_tests.ensures ∙ λ i. lane_tests z (alike i) (bytes_of (c.read_word-x.ensures mem output i)) (bytes_of (c.read_word-y.ensures mem output i)))
+    (c.zip_lanes.ensures ∙ λ i. word_of (lanewise z (same i) (bytes_of (c.read_word-x.ensures mem output i)) (bytes_of (c.read_word-y.ensures mem output i))))
+    (c.zip_tests.ensures ∙ λ i. lane_tests z (alike i) (bytes_of (c.read_word-x.ensures mem output i)) (bytes_of (c.read_word-y.ensures mem output i)))

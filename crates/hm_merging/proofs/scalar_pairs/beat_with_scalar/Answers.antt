@@ -10,4 +10,4 @@ returns-clause-done g c = λ f mem output is.
     let z = c.args.size in
     let same = is ∙ ap f (sym (at_is (R c.args.m) c.args.r.now mem output c.requires.scalar refl)) in
     c.finish_row.ensures.done (with_scalar z f c.args.d c.args.n c.args.p c.args.m) mem output refl refl
-      (c.zip_lanes.ensures ∙ λ i. word_of (lanewise z (same i) (bytes_of (c.read_word-x.ensures mem output i)) (bytes_of (c.read_word-y.ensures mem output i))))
+    (c.zip_lanes.ensures ∙ λ i. word_of (lanewise z (same i) (bytes_of (c.read_word-x.ensures mem output i)) (bytes_of (c.read_word-y.ensures mem output i))))
