@@ -1,18 +1,17 @@
 -- What a beat under the predicate tests, reads and writes.
-use Rattle.std.proofs.Common.{◌≡◌, ℕ, zero, suc, ◌+◌, ◌*◌, ◌-◌, ◌%◌, ◌^◌, ◌<◌, Bool, true, false, not, cond, ◌||◌, ◌&&◌, ltb, eqb, leb, List, [], ◌∷◌, ◌++◌, map, refl, sym, ◌∙◌, ap, subst, arith, eqb-true, ne_eqb, lt-ltb, le-ltb}
-use Rattle.hm_base.specs.Place.{same_place, fit}
+use Rattle.std.proofs.Common.{◌≡◌, ℕ, zero, suc, ◌+◌, ◌*◌, ◌-◌, ◌%◌, ◌^◌, ◌<◌, Bool, true, false, not, cond, ◌||◌, ◌&&◌, ltb, eqb, leb, List, [], ◌∷◌, ◌++◌, map, refl, sym, ◌∙◌, ap, subst, arith, eqb-true, le-ltb}
 use Rattle.std.specs.Int.{bit_at}
 use Rattle.hm_base.specs.declared.Stop.{Stop}
 use Rattle.hm_base.specs.declared.Place.{Place}
-use Rattle.hm_base.specs.declared.Place.TheVariants.{R, QWord, P0, Mask01, Mask23, Carry, Ltp, Sticky}
+use Rattle.hm_base.specs.declared.Place.TheVariants.{R, P0, Ltp}
 use Rattle.hm_regs.specs.Writes.{Write, write}
 use Rattle.hm_lane.specs.Predicate.{mask_place, allowed, remains, active_bytes, advance_of}
-use Rattle.hm_order.proofs.Results.{decide, true_not_false}
-use Rattle.hm_state.specs.State.{At, Byte, Cell, State, Value, at, cells, into, same_cell, word}
-use Rattle.hm_beat.specs.Trees.{Leaf, Beat, Test, Do, reach, tests, asked, also, holds, targets, written, action}
+use Rattle.hm_order.proofs.Results.{decide}
+use Rattle.hm_state.specs.State.{At, Cell, State, Value, at, cells, into, same_cell}
+use Rattle.hm_beat.specs.Trees.{Leaf, Test, Do, reach, tests, asked, also, holds, targets, written, action}
 use Rattle.hm_beat.proofs.Trees.{second}
 use Rattle.hm_state.proofs.Cells.{cell_laws}
-use Rattle.hm_beat.specs.Rows.{Tree, test, test_where, always, predicated, active_at}
+use Rattle.hm_beat.specs.Rows.{Tree, test_where, always, predicated, active_at}
 
 -- P holds of each element of a list
 abbrev pub Each : {A : Type 0} → (A → Type 0) → List A → Type 0

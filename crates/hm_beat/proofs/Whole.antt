@@ -1,18 +1,18 @@
 -- Rows under the predicate: writes that change places, four beats in order, and what every such row keeps.
-use Rattle.std.proofs.Common.{◌≡◌, ℕ, ◌+◌, ◌*◌, ◌-◌, ◌%◌, ◌<◌, Bool, true, false, not, cond, ◌||◌, ◌&&◌, ltb, eqb, List, [], ◌∷◌, ◌++◌, map, Result, Ok, Err, refl, sym, ◌∙◌, ap, subst, ◌⊎◌, inl, inr}
-use Rattle.hm_base.specs.Place.{same_place, fit}
+use Rattle.std.proofs.Common.{◌≡◌, ℕ, ◌*◌, ◌-◌, ◌%◌, Bool, true, false, not, cond, ◌||◌, ◌&&◌, ltb, eqb, List, [], ◌∷◌, ◌++◌, map, Result, Ok, refl, sym, ◌∙◌, ap, ◌⊎◌, inl}
+use Rattle.hm_base.specs.Place.{same_place}
 use Rattle.hm_base.specs.declared.Stop.{Stop}
 use Rattle.hm_base.specs.declared.Place.{Place}
 use Rattle.hm_base.specs.declared.Place.TheVariants.{R, QWord, P0, Mask01, Mask23, Ltp, Sticky}
 use Rattle.hm_regs.specs.Writes.{Write, write}
-use Rattle.hm_lane.specs.Predicate.{mask_place, advance_of}
+use Rattle.hm_lane.specs.Predicate.{mask_place}
 use Rattle.hm_order.specs.Beats.{then}
-use Rattle.hm_order.proofs.Results.{decide, true_not_false}
+use Rattle.hm_order.proofs.Results.{true_not_false}
 use Rattle.hm_state.specs.Store.{put, put_all}
-use Rattle.hm_state.specs.State.{At, Byte, Cell, State, Value, at, cells, into, is_dead, same_cell, word}
+use Rattle.hm_state.specs.State.{At, Byte, Cell, State, Value, at, cells, into, is_dead, same_cell}
 use Rattle.hm_state.proofs.Cells.{cell_laws}
 use Rattle.hm_beat.specs.Trees.{reach, tests, asked, holds, StopsAs, FailsElse, WritesLive, Careful, action}
-use Rattle.hm_beat.specs.Rows.{Tree, always, predicated, word_place, advance_half}
+use Rattle.hm_beat.specs.Rows.{Tree, always, word_place, advance_half}
 use Rattle.hm_beat.specs.Effects.{Effect, effect, done, from_start}
 use Rattle.hm_beat.specs.Laws.{AsksWhatItReads, is_tainted}
 use Rattle.hm_beat.proofs.Trees.{one_of, other_of}

@@ -1,6 +1,5 @@
 -- The predicate word by word, and what the end of a beat leaves.
 use Rattle.std.proofs.Common.{◌≡◌, ◌≢◌, ℕ, ◌+◌, ◌*◌, ◌-◌, ◌%◌, ◌<◌, Bool, true, false, ◌&&◌, ◌||◌, not, eqb, ltb, cond, List, [], ◌∷◌, ◌++◌, arith, refl, ap, sym, ◌∙◌, subst}
-use Rattle.std.specs.Int.{bit_at}
 use Rattle.hm_base.specs.Bits.{field}
 use Rattle.hm_base.specs.Place.{IsPlace, same_place, has_place}
 use Rattle.hm_base.specs.declared.Place.{Place}
@@ -10,7 +9,7 @@ use Rattle.hm_regs.specs.declared.Regs.{Regs}
 use Rattle.hm_regs.specs.Place.{value_at, with_value}
 use Rattle.hm_regs.specs.Writes.{Write, write, apply, places_of, Each}
 use Rattle.hm_regs.proofs.Places.{value_at-others}
-use Rattle.hm_lane.specs.Lanes.{bytes_of, word_of, merged}
+use Rattle.hm_lane.specs.Lanes.{bytes_of, merged}
 use Rattle.hm_lane.specs.Predicate.{allowed, in_tail, mask_of, mask_place, active_word, advance_writes, advance_places, predicate_of, finish_writes}
 use Rattle.hm_lane.proofs.Bits.{bit_at-field}
 

@@ -1,19 +1,19 @@
 -- What the code of a row that merges a word touches and does.
-use Rattle.std.proofs.Common.{◌≡◌, ℕ, ◌+◌, ◌*◌, ◌<◌, ◌≤◌, Bool, true, false, ◌||◌, cond, List, [], ◌∷◌, ◌++◌, map, Option, Some, None, Result, Ok, Err, IsOk, refl, sym, ◌∙◌, ap, subst, arith}
+use Rattle.std.proofs.Common.{◌≡◌, ℕ, ◌+◌, ◌*◌, ◌<◌, Bool, true, false, cond, List, [], ◌∷◌, ◌++◌, map, Some, None, Result, Ok, IsOk, refl, sym, ◌∙◌, ap, arith}
 use Rattle.hm_base.specs.Place.{IsPlace, noted, noted_all, listed}
 use Rattle.hm_base.specs.declared.Stop.{Stop}
 use Rattle.hm_base.specs.declared.Place.{Place}
 use Rattle.hm_base.specs.declared.Place.TheVariants.{R, QWord, P0, Mask01, Mask23, Carry, Ltp, Sticky}
 use Rattle.hm_base.proofs.Order.{listed-append}
 use Rattle.hm_regs.specs.declared.Regs.{Regs}
-use Rattle.hm_regs.specs.Place.{value_at, with_value, Counted}
+use Rattle.hm_regs.specs.Place.{with_value, Counted}
 use Rattle.hm_regs.specs.Writes.{Write, write, apply}
 use Rattle.hm_lane.specs.Lanes.{bytes_of, word_of, merged}
 use Rattle.hm_lane.specs.Predicate.{active_word, advance_places, bits_of_word, finish_writes, predicate_places}
 use Rattle.hm_mem.specs.Memory.{Memory}
 use Rattle.hm_order.specs.Beats.{then}
 use Rattle.hm_state.specs.Store.{flagged, put_all}
-use Rattle.hm_state.specs.State.{At, Byte, Cell, State, Value, at, cells, into, state_of, word}
+use Rattle.hm_state.specs.State.{At, Cell, State, Value, at, cells, into, state_of, word}
 use Rattle.hm_state.proofs.Cells.{applied, flag_is}
 use Rattle.hm_beat.specs.Trees.{Leaf, reach, targets, reads_of, writes_of}
 use Rattle.hm_beat.specs.Effects.{done}
@@ -24,7 +24,7 @@ use Rattle.hm_beat.proofs.Effects.{run_is}
 use Rattle.hm_beat.proofs.Predicated.{advance_at, reach_predicated, tests_predicated, tested_places}
 use Rattle.hm_beat.proofs.Footprint.{at_is, active_is, advance_is, advance_are_cells, advance_places_is, all_listed, bytes_at, bytes_at-append, checks_done, no_tests, places_at, places_at-append, targets_always, tested_is}
 use Rattle.hm_merging.specs.Merging.{Merging, any_both, mark_on, merge_body, merging_tree, new_at, saturates_at, saturates_on, sources_at}
-use Rattle.hm_merging.proofs.Merging.{merged_at, merging_writes, merging_effect}
+use Rattle.hm_merging.proofs.Merging.{merging_writes, merging_effect}
 
 -- WHAT IT TOUCHES
 merging_reads : (i : Merging) (b : ℕ) (s : State) → reads_of (merging_tree i b) s ≡ map At (tested_places b s) ++ (At (word_place i.register b) ∷ map At (i.sources b))

@@ -1,25 +1,25 @@
 -- A row that merges a word on each beat: what it uses and sets, and four beats are the whole.
-use Rattle.std.proofs.Common.{◌≡◌, ℕ, zero, suc, ◌+◌, ◌*◌, ◌-◌, ◌%◌, ◌<◌, Bool, true, false, not, cond, ◌||◌, ◌&&◌, ltb, eqb, List, [], ◌∷◌, ◌++◌, map, Option, Some, None, Result, Ok, Err, refl, sym, ◌∙◌, ap, subst, arith, ne_eqb}
+use Rattle.std.proofs.Common.{◌≡◌, ℕ, ◌+◌, ◌*◌, ◌%◌, ◌<◌, Bool, true, false, ◌||◌, ltb, eqb, List, [], ◌∷◌, ◌++◌, map, Option, Some, None, Result, Ok, refl, sym, ◌∙◌, ap, subst, arith, ne_eqb}
 use Rattle.hm_base.specs.Place.{same_place}
 use Rattle.hm_base.specs.declared.Stop.{Stop}
 use Rattle.hm_base.specs.declared.Place.{Place}
-use Rattle.hm_base.specs.declared.Place.TheVariants.{QWord, P0, Mask01, Mask23, Ltp, Sticky}
+use Rattle.hm_base.specs.declared.Place.TheVariants.{Mask01, Mask23, Ltp, Sticky}
 use Rattle.hm_regs.specs.Writes as regs
 use Rattle.hm_lane.specs.Lanes.{bytes_of, word_of, merged}
 use Rattle.hm_lane.specs.Predicate.{mask_place}
-use Rattle.hm_order.proofs.Results.{ok_same, decide, true_not_false}
+use Rattle.hm_order.proofs.Results.{ok_same, decide}
 use Rattle.hm_state.specs.Store.{flagged, put, put_all}
 use Rattle.hm_state.specs.State.{At, Byte, Cell, State, Value, at, cells, into, same_cell, word}
 use Rattle.hm_state.proofs.Cells.{cell_laws}
 use Rattle.hm_beat.specs.Trees.{Leaf, FailsElse, StopsAs, WritesLive, Careful, reach, tests, asked, holds, targets, checked, marks_by, action}
-use Rattle.hm_beat.specs.Rows.{Tree, always, predicated, active_at, word_place, predicate_at, register_at, write_register, advance_half, retired, merge_whole}
+use Rattle.hm_beat.specs.Rows.{always, active_at, word_place, predicate_at, register_at, write_register, advance_half, retired}
 use Rattle.hm_beat.specs.Effects.{Effect, effect_of, effect, done, four_beats}
 use Rattle.hm_beat.specs.Laws.{RowLaws, is_tainted}
 use Rattle.hm_beat.proofs.Trees.{one_of, second}
 use Rattle.hm_beat.proofs.Effects.{Unchained, unchained}
 use Rattle.hm_beat.proofs.Predicated.{Each, advance_at, reach_predicated, tested_places, body_uses, uses_is, sets_is, IsStill, advance_still, held_of, predicate_still, written_always}
 use Rattle.hm_beat.proofs.Whole.{and_false, either, no_word, no_words, started, reorder, advanced, no_byte, careful_places, size_still, flag_still, advance_lives, asks_nothing}
-use Rattle.hm_merging.specs.Merging.{Merging, IsApart, IsMerging, numbers, merged_value, mark_of, mark_on, merge_body, merging_tree, sources_at, new_at, saturates_on, saturates_at, saturates_whole, merging_whole}
+use Rattle.hm_merging.specs.Merging.{Merging, IsApart, IsMerging, numbers, mark_on, merge_body, merging_tree, new_at, saturates_on, saturates_at, saturates_whole, merging_whole}
 
 -- what beat k of a row with this register leaves
 pub record Left (register k : ℕ) (c : Cell) : Type 0 where

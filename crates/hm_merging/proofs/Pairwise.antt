@@ -1,11 +1,11 @@
 -- What the kinds of rows owe.
-use Rattle.std.proofs.Common.{◌≡◌, ℕ, suc, ◌+◌, ◌*◌, ◌/◌, ◌%◌, ◌^◌, ◌<◌, Bool, true, false, ◌&&◌, ◌||◌, List, [], ◌∷◌, ◌++◌, length, length-append, Some, None, arith, refl, ap, sym, ◌∙◌, ne_eqb}
+use Rattle.std.proofs.Common.{◌≡◌, ℕ, ◌+◌, ◌*◌, ◌/◌, ◌%◌, ◌<◌, Bool, true, false, ◌&&◌, ◌||◌, List, [], ◌∷◌, ◌++◌, length, length-append, Some, None, arith, refl, ap, sym, ◌∙◌, ne_eqb}
 use Rattle.hm_lane.specs.declared.lanes.Size.{Size}
 use Rattle.hm_lane.specs.declared.lanes.Size.TheVariants.{Byte, Half, Word}
-use Rattle.hm_lane.specs.Lanes.{bytes_of, words, word_of, lanes, unlanes, lanewise, lane_tests}
+use Rattle.hm_lane.specs.Lanes.{bytes_of, word_of, lanewise, lane_tests}
 use Rattle.hm_state.specs.State.{State, at}
 use Rattle.hm_beat.specs.Rows.{active_at, word_place}
-use Rattle.hm_merging.specs.Merging.{Merging, IsApart, IsMerging, any_both}
+use Rattle.hm_merging.specs.Merging.{IsApart, IsMerging, any_both}
 use Rattle.hm_merging.specs.Pairwise.{pairwise, saturating_pairwise, pairwise_result, pairwise_saturated, pair_tests}
 
 -- a word of four bytes has these bytes

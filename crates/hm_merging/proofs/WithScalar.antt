@@ -1,8 +1,8 @@
 -- What rows of a register and pairs of lanes owe.
-use Rattle.std.proofs.Common.{◌≡◌, ℕ, ◌<◌, Bool, Some, None, refl}
+use Rattle.std.proofs.Common.{ℕ, ◌<◌, Bool, Some, None, refl}
 use Rattle.hm_base.specs.declared.Place.TheVariants.{R}
 use Rattle.hm_lane.specs.declared.lanes.Size.{Size}
-use Rattle.hm_state.specs.State.{State, at}
+use Rattle.hm_state.specs.State.{at}
 use Rattle.hm_merging.specs.Merging.{IsApart, IsMerging}
 use Rattle.hm_merging.specs.Scalar.{with_scalar, saturating_with_scalar, scalar_result, scalar_saturated}
 use Rattle.hm_merging.proofs.Pairwise.{word_apart, pair_words, pair_flags}

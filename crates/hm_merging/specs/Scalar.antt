@@ -1,5 +1,5 @@
 -- Kinds of rows that merge: a function of a register and of pairs of lanes.
-use Rattle.std.specs.Prelude.{ℕ, Bool, List, [], ◌∷◌, Option, Some, None}
+use Rattle.std.specs.Prelude.{ℕ, Bool, List, [], ◌∷◌, Some, None}
 use Rattle.hm_base.specs.declared.Place.TheVariants.{R}
 use Rattle.hm_lane.specs.declared.lanes.Size.{Size}
 use Rattle.hm_lane.specs.Lanes.{lanewise, lane_tests}

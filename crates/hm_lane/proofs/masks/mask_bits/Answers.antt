@@ -1,6 +1,5 @@
-use Rattle.std.proofs.Common.{ℕ, ◌≡◌, ◌+◌, ◌*◌, ◌%◌, ◌<◌, cond, eqb, ap, ◌∙◌, arith}
+use Rattle.std.proofs.Common.{ℕ, ◌+◌, ◌*◌, eqb, ap, ◌∙◌}
 use Rattle.std.specs.Int.{bit_at}
-use Rattle.hm_base.specs.Bits.{field}
 use Rattle.hm_lane.proofs.Bits.{mask_bits_is, chosen, half_whole}
 use Rattle.hm_lane.proofs.masks.mask_bits.Goals as goal
 

@@ -1,4 +1,4 @@
-use Rattle.std.proofs.Common.{◌≡◌, ◌∙◌, cond, refl, ap, sym}
+use Rattle.std.proofs.Common.{◌∙◌, cond, ap, sym}
 use Rattle.hm_base.specs.declared.Place.TheVariants.{Sticky}
 use Rattle.hm_regs.specs.Place.{with_value}
 use Rattle.hm_merging.proofs.Merged.{finish_saturated, finish_fpca}
