@@ -68,7 +68,8 @@ pub fn finish_row(r: &mut Regs, d: u8, b: u8, new: u32)
     requires register { d < 8 }
     requires beat { b < 4 }
     ensures done { (i : Merging) (m : Memory) (output : List ℕ) → i.register ≡ d → i.saturates ≡ None
-        → new ≡ new_at i b (state_of r.old m output) → run (merging_tree i b) r.old m output ≡ Ok (state_of r.new m output) }
+        → new ≡ new_at i b (state_of r.old m output)
+        → run (merging_tree i b) r.old m output ≡ Ok (state_of r.new m output) }
     ensures context { r.new.fpca ≡ r.old.fpca }
 {
     r.in_range();

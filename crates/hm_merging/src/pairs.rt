@@ -21,8 +21,10 @@ pub fn touch_pairwise(d: u8, n: u8, m: u8, b: u8, r: &Regs) -> Touch
     requires first_register { n < 8 }
     requires second_register { m < 8 }
     requires beat { b < 4 }
-    ensures reads { (z : Size) (f : ℕ → ℕ → ℕ) (mem : Memory) (output : List ℕ) → result.reads ≡ reads_in (merging_tree (pairwise z f d n m) b) r.now mem output }
-    ensures writes { (z : Size) (f : ℕ → ℕ → ℕ) (mem : Memory) (output : List ℕ) → result.writes ≡ writes_in (merging_tree (pairwise z f d n m) b) r.now mem output }
+    ensures reads { (z : Size) (f : ℕ → ℕ → ℕ) (mem : Memory) (output : List ℕ)
+        → result.reads ≡ reads_in (merging_tree (pairwise z f d n m) b) r.now mem output }
+    ensures writes { (z : Size) (f : ℕ → ℕ → ℕ) (mem : Memory) (output : List ℕ)
+        → result.writes ≡ writes_in (merging_tree (pairwise z f d n m) b) r.now mem output }
     ensures loads { result.loads.items ≡ [] }
     ensures stores { result.stores.items ≡ [] }
 {
@@ -38,8 +40,10 @@ pub fn touch_saturating_pairwise(d: u8, n: u8, m: u8, b: u8, r: &Regs) -> Touch
     requires first_register { n < 8 }
     requires second_register { m < 8 }
     requires beat { b < 4 }
-    ensures reads { (z : Size) (f : ℕ → ℕ → ℕ) (g : ℕ → ℕ → Bool) (mem : Memory) (output : List ℕ) → result.reads ≡ reads_in (merging_tree (saturating_pairwise z f g d n m) b) r.now mem output }
-    ensures writes { (z : Size) (f : ℕ → ℕ → ℕ) (g : ℕ → ℕ → Bool) (mem : Memory) (output : List ℕ) → result.writes ≡ writes_in (merging_tree (saturating_pairwise z f g d n m) b) r.now mem output }
+    ensures reads { (z : Size) (f : ℕ → ℕ → ℕ) (g : ℕ → ℕ → Bool) (mem : Memory) (output : List ℕ)
+        → result.reads ≡ reads_in (merging_tree (saturating_pairwise z f g d n m) b) r.now mem output }
+    ensures writes { (z : Size) (f : ℕ → ℕ → ℕ) (g : ℕ → ℕ → Bool) (mem : Memory) (output : List ℕ)
+        → result.writes ≡ writes_in (merging_tree (saturating_pairwise z f g d n m) b) r.now mem output }
     ensures loads { result.loads.items ≡ [] }
     ensures stores { result.stores.items ≡ [] }
 {
@@ -55,7 +59,9 @@ pub fn beat_pairwise<O: LaneOp>(op: &O, size: Size, d: u8, n: u8, m: u8, b: u8, 
     requires first_register { n < 8 }
     requires second_register { m < 8 }
     requires beat { b < 4 }
-    ensures done { (mem : Memory) (output : List ℕ) → run (merging_tree (pairwise size (O.value op.now size) d n m) b) r.old mem output ≡ Ok (state_of r.new mem output) }
+    ensures done { (mem : Memory) (output : List ℕ)
+        → run (merging_tree (pairwise size (O.value op.now size) d n m) b) r.old mem output
+        ≡ Ok (state_of r.new mem output) }
     ensures context { r.new.fpca ≡ r.old.fpca }
 {
     let x = read_word(r, n, b);
