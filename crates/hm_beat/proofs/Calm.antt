@@ -1,9 +1,9 @@
 -- From a state with no dead cell nothing stops for a dead one.
-use Rattle.std.proofs.Common.{◌≡◌, ℕ, ◌<◌, Bool, true, false, cond, ◌||◌, List, [], ◌∷◌, map, Option, Some, None, Result, Ok, Err, refl, sym, ◌∙◌, ap, subst, arith}
+use Rattle.std.proofs.Common.{◌≡◌, ℕ, Bool, true, false, cond, List, [], ◌∷◌, map, Option, Some, None, Result, Ok, Err, refl, sym, ◌∙◌, ap, subst}
 use Rattle.hm_order.specs.Beats.{StopsBy, then}
 use Rattle.hm_order.proofs.Results.{ok_same, ok_err, decide, true_not_false}
-use Rattle.hm_state.specs.Store.{CellLaws, Cells, Store, flagged, put, put_all}
-use Rattle.hm_beat.specs.Trees.{Check, Fails, Asks, Leaf, Beat, Alive, Careful, FailsElse, WritesLive, checked, finish, marks_by, reach, written, action}
+use Rattle.hm_state.specs.Store.{CellLaws, Cells, Store, put, put_all}
+use Rattle.hm_beat.specs.Trees.{Check, Fails, Asks, Leaf, Beat, Alive, Careful, FailsElse, WritesLive, checked, finish, reach, written, action}
 use Rattle.hm_beat.specs.Effects.{four_beats}
 
 -- a check that stops so

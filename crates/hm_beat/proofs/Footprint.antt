@@ -1,20 +1,19 @@
 -- What the code of a row under the predicate touches and does.
-use Rattle.std.proofs.Common.{◌≡◌, ℕ, ◌+◌, ◌*◌, ◌-◌, ◌%◌, ◌<◌, ◌≤◌, Bool, true, false, not, cond, ◌&&◌, ltb, eqb, List, [], ◌∷◌, ◌++◌, map, Result, Ok, Err, IsOk, refl, sym, ◌∙◌, ap, subst, arith}
+use Rattle.std.proofs.Common.{◌≡◌, ℕ, ◌%◌, ◌<◌, Bool, true, false, not, cond, ◌&&◌, ltb, eqb, List, [], ◌∷◌, ◌++◌, map, Result, Ok, Err, IsOk, refl, sym, ◌∙◌, ap, subst, arith}
 use Rattle.hm_base.specs.Place.{IsPlace, same_place, noted, noted_all, listed}
 use Rattle.hm_base.specs.declared.Stop.{Stop}
 use Rattle.hm_base.specs.declared.Place.{Place}
-use Rattle.hm_base.specs.declared.Place.TheVariants.{R, QWord, P0, Mask01, Mask23, Ltp, Sticky}
-use Rattle.hm_base.proofs.Order.{listed-append}
+use Rattle.hm_base.specs.declared.Place.TheVariants.{R, P0, Mask01, Mask23, Ltp, Sticky}
 use Rattle.hm_regs.specs.declared.Regs.{Regs}
 use Rattle.hm_regs.specs.Place.{value_at}
 use Rattle.hm_regs.specs.Writes.{Write, write}
 use Rattle.hm_lane.specs.Predicate.{mask_place, mask_of, active_bytes, active_word, advance_of, advance_writes, advance_places, predicate_of, predicate_places}
 use Rattle.hm_lane.proofs.Ends.{predicate_words, places_of-advance_writes}
 use Rattle.hm_mem.specs.Memory.{Memory}
-use Rattle.hm_state.specs.State.{AreCells, At, Byte, Cell, State, Value, at, cells, state_of}
+use Rattle.hm_state.specs.State.{AreCells, At, Cell, State, Value, at, state_of}
 use Rattle.hm_state.proofs.Cells.{held, proper_cell}
 use Rattle.hm_beat.specs.Trees.{targets}
-use Rattle.hm_beat.specs.Rows.{Tree, always, active_at, predicate_at, word_place}
+use Rattle.hm_beat.specs.Rows.{Tree, always, active_at, predicate_at}
 use Rattle.hm_beat.specs.Touches.{places_in, bytes_in}
 use Rattle.hm_beat.specs.Laws.{run, Checks, Beats}
 use Rattle.hm_beat.proofs.Predicated.{advance_at, tested_places}

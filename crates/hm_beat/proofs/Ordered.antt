@@ -1,13 +1,13 @@
 -- Rows that keep the laws of a row keep those that the theorem on overlapped beats asks for.
 use Rattle.std.proofs.Common.{◌≡◌, ℕ, ◌<◌, Bool, true, false, not, ◌||◌, cond, eqb, nat_lt, ltb-true, lt-ltb, eqb-true, Ok, Err, Result, ◌⊎◌, inl, inr, refl, sym, ◌∙◌, ap, subst, arith}
 use Rattle.hm_base.specs.declared.Stop.{Stop}
-use Rattle.hm_base.specs.declared.Place.TheVariants.{R, Ltp}
+use Rattle.hm_base.specs.declared.Place.TheVariants.{Ltp}
 use Rattle.hm_mem.specs.declared.Actor.TheVariants.{Thread}
 use Rattle.hm_mem.specs.Memory.{Around}
-use Rattle.hm_order.specs.Beats.{BeatLaws, SameTouch, Live, StopsBy, beats, then}
-use Rattle.hm_order.proofs.Results.{decide, true_not_false}
-use Rattle.hm_state.specs.State.{At, Byte, Cell, Rest, State, Value, at, cells}
-use Rattle.hm_beat.specs.Trees.{Alive, Careful, action, view}
+use Rattle.hm_order.specs.Beats.{BeatLaws, SameTouch, StopsBy, beats, then}
+use Rattle.hm_order.proofs.Results.{decide}
+use Rattle.hm_state.specs.State.{At, Byte, State, Value, at, cells}
+use Rattle.hm_beat.specs.Trees.{Alive, Careful, action}
 use Rattle.hm_beat.specs.Rows.{Tree, retired}
 use Rattle.hm_beat.specs.Effects.{four_beats}
 use Rattle.hm_beat.proofs.Calm.{four_calm}

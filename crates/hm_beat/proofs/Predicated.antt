@@ -1,18 +1,17 @@
 -- What a beat under the predicate tests, reads and writes.
-use Rattle.std.proofs.Common.{◌≡◌, ℕ, zero, suc, ◌+◌, ◌*◌, ◌-◌, ◌%◌, ◌^◌, ◌<◌, Bool, true, false, not, cond, ◌||◌, ◌&&◌, ltb, eqb, leb, List, [], ◌∷◌, ◌++◌, map, refl, sym, ◌∙◌, ap, subst, arith, eqb-true, ne_eqb, lt-ltb, le-ltb}
-use Rattle.hm_base.specs.Place.{same_place, fit}
+use Rattle.std.proofs.Common.{◌≡◌, ℕ, zero, suc, ◌+◌, ◌*◌, ◌-◌, ◌%◌, ◌^◌, ◌<◌, Bool, true, false, not, cond, ◌||◌, ◌&&◌, ltb, eqb, leb, List, [], ◌∷◌, ◌++◌, map, refl, sym, ◌∙◌, ap, subst, arith, eqb-true, le-ltb}
 use Rattle.std.specs.Int.{bit_at}
 use Rattle.hm_base.specs.declared.Stop.{Stop}
 use Rattle.hm_base.specs.declared.Place.{Place}
-use Rattle.hm_base.specs.declared.Place.TheVariants.{R, QWord, P0, Mask01, Mask23, Carry, Ltp, Sticky}
+use Rattle.hm_base.specs.declared.Place.TheVariants.{R, P0, Ltp}
 use Rattle.hm_regs.specs.Writes.{Write, write}
 use Rattle.hm_lane.specs.Predicate.{mask_place, allowed, remains, active_bytes, advance_of}
-use Rattle.hm_order.proofs.Results.{decide, true_not_false}
-use Rattle.hm_state.specs.State.{At, Byte, Cell, State, Value, at, cells, into, same_cell, word}
-use Rattle.hm_beat.specs.Trees.{Leaf, Beat, Test, Do, reach, tests, asked, also, holds, targets, written, action}
+use Rattle.hm_order.proofs.Results.{decide}
+use Rattle.hm_state.specs.State.{At, Cell, State, Value, at, cells, into, same_cell}
+use Rattle.hm_beat.specs.Trees.{Leaf, Test, Do, reach, tests, asked, also, holds, targets, written, action}
 use Rattle.hm_beat.proofs.Trees.{second}
 use Rattle.hm_state.proofs.Cells.{cell_laws}
-use Rattle.hm_beat.specs.Rows.{Tree, test, test_where, always, predicated, active_at}
+use Rattle.hm_beat.specs.Rows.{Tree, test_where, always, predicated, active_at}
 
 -- P holds of each element of a list
 abbrev pub Each : {A : Type 0} → (A → Type 0) → List A → Type 0
@@ -122,10 +121,10 @@ tests_predicated b body s =
     let mask = at (mask_place b) s in
     let size = at Ltp s in
     ap (λ xs. At (mask_place b) ∷ At Ltp ∷ xs)
-      (tests_where (ltb size 4) (R 14) _ s
-      ∙ ap (λ xs. cond (ltb size 4) (At (R 14) ∷ []) [] ++ xs) (tests_where (not (eqb mask 0)) (P0 b) _ s ∙ ap (λ xs. cond (not (eqb mask 0)) (At (P0 b) ∷ []) [] ++ xs) (tests_also (map always (advance_of b mask (cond (not (eqb mask 0)) (at (P0 b) s) 0))) (body (active_bytes b mask size (cond (ltb size 4) (at (R 14) s) 0) (cond (not (eqb mask 0)) (at (P0 b) s) 0))) s
-      ∙ ap (λ ps. tests (body ps) s) (active_tested b mask size (at (R 14) s) (at (P0 b) s))))
-      ∙ two_tests (ltb size 4) (not (eqb mask 0)) (R 14) (P0 b) (tests (body (active_at b s)) s))
+    (tests_where (ltb size 4) (R 14) _ s
+    ∙ ap (λ xs. cond (ltb size 4) (At (R 14) ∷ []) [] ++ xs) (tests_where (not (eqb mask 0)) (P0 b) _ s ∙ ap (λ xs. cond (not (eqb mask 0)) (At (P0 b) ∷ []) [] ++ xs) (tests_also (map always (advance_of b mask (cond (not (eqb mask 0)) (at (P0 b) s) 0))) (body (active_bytes b mask size (cond (ltb size 4) (at (R 14) s) 0) (cond (not (eqb mask 0)) (at (P0 b) s) 0))) s
+    ∙ ap (λ ps. tests (body ps) s) (active_tested b mask size (at (R 14) s) (at (P0 b) s))))
+    ∙ two_tests (ltb size 4) (not (eqb mask 0)) (R 14) (P0 b) (tests (body (active_at b s)) s))
 
 -- WHAT IT USES AND SETS
 -- what a row reads, tests and asks for in its body

@@ -1,18 +1,18 @@
 -- Rows under the predicate: writes that change places, four beats in order, and what every such row keeps.
-use Rattle.std.proofs.Common.{◌≡◌, ℕ, ◌+◌, ◌*◌, ◌-◌, ◌%◌, ◌<◌, Bool, true, false, not, cond, ◌||◌, ◌&&◌, ltb, eqb, List, [], ◌∷◌, ◌++◌, map, Result, Ok, Err, refl, sym, ◌∙◌, ap, subst, ◌⊎◌, inl, inr}
-use Rattle.hm_base.specs.Place.{same_place, fit}
+use Rattle.std.proofs.Common.{◌≡◌, ℕ, ◌*◌, ◌-◌, ◌%◌, Bool, true, false, not, cond, ◌||◌, ◌&&◌, ltb, eqb, List, [], ◌∷◌, ◌++◌, map, Result, Ok, refl, sym, ◌∙◌, ap, ◌⊎◌, inl}
+use Rattle.hm_base.specs.Place.{same_place}
 use Rattle.hm_base.specs.declared.Stop.{Stop}
 use Rattle.hm_base.specs.declared.Place.{Place}
 use Rattle.hm_base.specs.declared.Place.TheVariants.{R, QWord, P0, Mask01, Mask23, Ltp, Sticky}
 use Rattle.hm_regs.specs.Writes.{Write, write}
-use Rattle.hm_lane.specs.Predicate.{mask_place, advance_of}
+use Rattle.hm_lane.specs.Predicate.{mask_place}
 use Rattle.hm_order.specs.Beats.{then}
-use Rattle.hm_order.proofs.Results.{decide, true_not_false}
+use Rattle.hm_order.proofs.Results.{true_not_false}
 use Rattle.hm_state.specs.Store.{put, put_all}
-use Rattle.hm_state.specs.State.{At, Byte, Cell, State, Value, at, cells, into, is_dead, same_cell, word}
+use Rattle.hm_state.specs.State.{At, Byte, Cell, State, Value, at, cells, into, is_dead, same_cell}
 use Rattle.hm_state.proofs.Cells.{cell_laws}
 use Rattle.hm_beat.specs.Trees.{reach, tests, asked, holds, StopsAs, FailsElse, WritesLive, Careful, action}
-use Rattle.hm_beat.specs.Rows.{Tree, always, predicated, word_place, advance_half}
+use Rattle.hm_beat.specs.Rows.{Tree, always, word_place, advance_half}
 use Rattle.hm_beat.specs.Effects.{Effect, effect, done, from_start}
 use Rattle.hm_beat.specs.Laws.{AsksWhatItReads, is_tainted}
 use Rattle.hm_beat.proofs.Trees.{one_of, other_of}
@@ -95,7 +95,7 @@ pub reorder : (k0 k1 k2 k3 : ℕ) (v0 v1 v2 v3 : Value) (a0 a1 a2 a3 : List (Cel
     → ((j : ℕ) → Each (λ (w : Cell × Value). same_cell w.0 (At (QWord j)) ≡ false) a0) → ((j : ℕ) → Each (λ (w : Cell × Value). same_cell w.0 (At (QWord j)) ≡ false) a1)
     → ((j : ℕ) → Each (λ (w : Cell × Value). same_cell w.0 (At (QWord j)) ≡ false) a2)
     → put_all cells ((At (QWord k3), v3) ∷ a3) (put_all cells ((At (QWord k2), v2) ∷ a2) (put_all cells ((At (QWord k1), v1) ∷ a1) (put_all cells ((At (QWord k0), v0) ∷ a0) s)))
-      ≡ put_all cells a3 (put_all cells a2 (put_all cells a1 (put_all cells a0 (put cells (At (QWord k3)) v3 (put cells (At (QWord k2)) v2 (put cells (At (QWord k1)) v1 (put cells (At (QWord k0)) v0 s)))))))
+    ≡ put_all cells a3 (put_all cells a2 (put_all cells a1 (put_all cells a0 (put cells (At (QWord k3)) v3 (put cells (At (QWord k2)) v2 (put cells (At (QWord k1)) v1 (put cells (At (QWord k0)) v0 s)))))))
 reorder k0 k1 k2 k3 v0 v1 v2 v3 a0 a1 a2 a3 s n0 n1 n2 =
     let A0 : State → State = put_all cells a0 in
     let A1 : State → State = put_all cells a1 in
@@ -108,14 +108,14 @@ reorder k0 k1 k2 k3 v0 v1 v2 v3 a0 a1 a2 a3 s n0 n1 n2 =
     ap (λ x. A3 (p3 (A2 (p2 (A1 x))))) (sym (past a0 (At (QWord k1)) v1 (p0 s) (n0 k1)))
     ∙ ap (λ x. A3 (p3 (A2 x))) (sym (past a1 (At (QWord k2)) v2 (A0 (p1 (p0 s))) (n1 k2)) ∙ ap A1 (sym (past a0 (At (QWord k2)) v2 (p1 (p0 s)) (n0 k2))))
     ∙ ap A3 (sym (past a2 (At (QWord k3)) v3 (A1 (A0 (p2 (p1 (p0 s))))) (n2 k3)) ∙ ap A2 (sym (past a1 (At (QWord k3)) v3 (A0 (p2 (p1 (p0 s)))) (n1 k3))
-      ∙ ap A1 (sym (past a0 (At (QWord k3)) v3 (p2 (p1 (p0 s))) (n0 k3)))))
+    ∙ ap A1 (sym (past a0 (At (QWord k3)) v3 (p2 (p1 (p0 s))) (n0 k3)))))
 
 -- the two halves of the advance
 pub advanced : (s x : State) → put_all cells (map into (advance_at 3 s)) (put_all cells (map into (advance_at 2 s)) (put_all cells (map into (advance_at 1 s)) (put_all cells (map into (advance_at 0 s)) x)))
     ≡ put_all cells (advance_half 0 s ++ advance_half 2 s) x
 advanced s x =
     ap (λ y. put_all cells (map into (advance_at 3 s)) (put_all cells (map into (advance_at 2 s)) y))
-      (halves (ltb 8 (at Mask01 s)) (not (eqb (at Mask01 s) 0)) (write (P0 0) (15 - at (P0 0) s)) (write (P0 1) (15 - at (P0 1) s)) (write Mask01 (2 * at Mask01 s)) x)
+    (halves (ltb 8 (at Mask01 s)) (not (eqb (at Mask01 s) 0)) (write (P0 0) (15 - at (P0 0) s)) (write (P0 1) (15 - at (P0 1) s)) (write Mask01 (2 * at Mask01 s)) x)
     ∙ halves (ltb 8 (at Mask23 s)) (not (eqb (at Mask23 s) 0)) (write (P0 2) (15 - at (P0 2) s)) (write (P0 3) (15 - at (P0 3) s)) (write Mask23 (2 * at Mask23 s)) (put_all cells (advance_half 0 s) x)
     ∙ sym (put_all-append (advance_half 0 s) (advance_half 2 s) x)
 

@@ -1,5 +1,5 @@
 -- Rows as the theorem on overlapped beats sees them.
-use Rattle.std.specs.Prelude.{ℕ, ◌≡◌, Bool, true, false, not, ◌||◌, cond, eqb, nat_lt, List, [], None}
+use Rattle.std.specs.Prelude.{ℕ, Bool, not, ◌||◌, cond, eqb, nat_lt, [], None}
 use Rattle.hm_base.specs.declared.Place.TheVariants.{Ltp}
 use Rattle.hm_base.specs.declared.Stop.{Stop}
 use Rattle.hm_order.specs.Beats.{Beats}

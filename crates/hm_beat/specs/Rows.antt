@@ -2,7 +2,7 @@
 use Rattle.std.specs.Prelude.{ℕ, ◌+◌, ◌-◌, ◌*◌, Bool, true, false, not, cond, ltb, eqb, List, [], ◌∷◌, ◌++◌, map}
 use Rattle.hm_base.specs.Place.{fit}
 use Rattle.hm_base.specs.declared.Place.{Place}
-use Rattle.hm_base.specs.declared.Place.TheVariants.{R, QWord, P0, Mask01, Mask23, Ltp}
+use Rattle.hm_base.specs.declared.Place.TheVariants.{R, QWord, P0, Ltp}
 use Rattle.hm_base.specs.declared.Stop.{Stop}
 use Rattle.hm_regs.specs.Writes.{Write, write}
 use Rattle.hm_lane.specs.Lanes.{bytes_of, words, merged}

@@ -3,8 +3,8 @@
 
 mod clash;
 mod laws;
-mod pair;
 mod notes;
+mod pair;
 
 ghost use Rattle.std.specs.Prelude.{◌≡◌, ℕ, ◌<◌, IsTrue, List, Result};
 ghost use Rattle.hm_base.specs.declared.Stop.{Stop};
@@ -14,14 +14,13 @@ ghost use Rattle.hm_beat.specs.Laws.{Beats, Checks, RowLaws, run};
 ghost use Rattle.hm_beat.specs.Rows.{Tree};
 ghost use Rattle.hm_beat.specs.Touches.{loads_in, reads_in, spanned, stores_in, writes_in};
 
+pub use clash::{Clash, meet};
 use hm_base::{Places, Spans, Stop};
 use hm_mem::Mem;
 use hm_regs::Regs;
-
-pub use clash::{Clash, meet};
 pub use laws::{frame_law, overlap, rows_law};
-pub use pair::two;
 pub use notes::{note_advance, note_predicate, read_word};
+pub use pair::two;
 
 /// The places that a beat reads and writes, and the bytes of memory that it loads and stores.
 #[derive(Drop)]
@@ -44,24 +43,34 @@ pub trait BeatWise {
     fn touch(&self, b: u8, r: &Regs) -> Touch
         requires beat { b < 4 }
         requires context { IsTrue r.now.fpca }
-        ensures reads { (m : Memory) (output : List ℕ) → result.reads ≡ reads_in (tree self.now m.around b) r.now m output }
-        ensures writes { (m : Memory) (output : List ℕ) → result.writes ≡ writes_in (tree self.now m.around b) r.now m output }
-        ensures loads { (m : Memory) (output : List ℕ) → spanned result.loads.items ≡ loads_in (tree self.now m.around b) r.now m output }
-        ensures stores { (m : Memory) (output : List ℕ) → spanned result.stores.items ≡ stores_in (tree self.now m.around b) r.now m output };
+        ensures reads { (m : Memory) (output : List ℕ)
+            → result.reads ≡ reads_in (tree self.now m.around b) r.now m output }
+        ensures writes { (m : Memory) (output : List ℕ)
+            → result.writes ≡ writes_in (tree self.now m.around b) r.now m output }
+        ensures loads { (m : Memory) (output : List ℕ)
+            → spanned result.loads.items ≡ loads_in (tree self.now m.around b) r.now m output }
+        ensures stores { (m : Memory) (output : List ℕ)
+            → spanned result.stores.items ≡ stores_in (tree self.now m.around b) r.now m output };
 
     /// The stop that beat `b` would have, and nothing else. `b` is below 4, and there is a context.
     fn check(&self, b: u8, r: &Regs, m: &Mem) -> Result<(), Stop>
         requires beat { b < 4 }
         requires context { IsTrue r.now.fpca }
-        ensures { (output : List ℕ) → Checks (run (tree self.now (memory_of m.now).around b) r.now (memory_of m.now) output) result };
+        ensures { (output : List ℕ)
+            → Checks (run (tree self.now (memory_of m.now).around b) r.now (memory_of m.now) output) result };
 
     /// Does beat `b`, or stops and changes nothing. `b` is below 4, and there is a context.
     fn beat(&self, b: u8, r: &mut Regs, m: &mut Mem) -> Result<(), Stop>
         requires beat { b < 4 }
         requires context { IsTrue r.old.fpca }
-        ensures done { (output : List ℕ) → Beats (run (tree self.now (memory_of m.old).around b) r.old (memory_of m.old) output) result r.old (memory_of m.old) r.new (memory_of m.new) output }
+        ensures done { (output : List ℕ)
+            → Beats (run (tree self.now (memory_of m.old).around b) r.old (memory_of m.old) output)
+            result r.old (memory_of m.old) r.new (memory_of m.new) output }
         ensures around { (memory_of m.new).around ≡ (memory_of m.old).around }
         ensures context { r.new.fpca ≡ r.old.fpca };
 
     ghost laws: { (x : Self) → RowLaws (tree x) (whole x) };
 }
+
+#[cfg(test)]
+mod tests;

@@ -1,6 +1,5 @@
 -- The predicate word by word, and what the end of a beat leaves.
 use Rattle.std.proofs.Common.{◌≡◌, ◌≢◌, ℕ, ◌+◌, ◌*◌, ◌-◌, ◌%◌, ◌<◌, Bool, true, false, ◌&&◌, ◌||◌, not, eqb, ltb, cond, List, [], ◌∷◌, ◌++◌, arith, refl, ap, sym, ◌∙◌, subst}
-use Rattle.std.specs.Int.{bit_at}
 use Rattle.hm_base.specs.Bits.{field}
 use Rattle.hm_base.specs.Place.{IsPlace, same_place, has_place}
 use Rattle.hm_base.specs.declared.Place.{Place}
@@ -10,7 +9,7 @@ use Rattle.hm_regs.specs.declared.Regs.{Regs}
 use Rattle.hm_regs.specs.Place.{value_at, with_value}
 use Rattle.hm_regs.specs.Writes.{Write, write, apply, places_of, Each}
 use Rattle.hm_regs.proofs.Places.{value_at-others}
-use Rattle.hm_lane.specs.Lanes.{bytes_of, word_of, merged}
+use Rattle.hm_lane.specs.Lanes.{bytes_of, merged}
 use Rattle.hm_lane.specs.Predicate.{allowed, in_tail, mask_of, mask_place, active_word, advance_writes, advance_places, predicate_of, finish_writes}
 use Rattle.hm_lane.proofs.Bits.{bit_at-field}
 
@@ -35,7 +34,7 @@ predicate_words r =
 pub predicate_merges : (r : Regs) (a b c d x y z w : ℕ)
     → merged (predicate_of r) (bytes_of a ++ bytes_of b ++ bytes_of c ++ bytes_of d) (bytes_of x ++ bytes_of y ++ bytes_of z ++ bytes_of w)
     ≡ merged (active_word r 0) (bytes_of a) (bytes_of x) ++ merged (active_word r 1) (bytes_of b) (bytes_of y)
-        ++ merged (active_word r 2) (bytes_of c) (bytes_of z) ++ merged (active_word r 3) (bytes_of d) (bytes_of w)
+    ++ merged (active_word r 2) (bytes_of c) (bytes_of z) ++ merged (active_word r 3) (bytes_of d) (bytes_of w)
 predicate_merges r a b c d x y z w =
     ap (λ ps. merged ps (bytes_of a ++ bytes_of b ++ bytes_of c ++ bytes_of d) (bytes_of x ++ bytes_of y ++ bytes_of z ++ bytes_of w)) (predicate_words r)
 
@@ -83,5 +82,5 @@ pub finish_others : (d b new : ℕ) (r : Regs) (q : Place) → d < 8 → b < 4 �
 finish_others d b new r q low high i h =
     let word : IsPlace (QWord (4 * d + b)) = omega arith in
     others_stay (finish_writes d b new r) r q
-        (word, advance_placed (ltb 8 (mask_of b r)) (eqb (b % 2) 1 && not (eqb (mask_of b r) 0)) (P0 b) (mask_place b) (15 - value_at (P0 b) r) (2 * mask_of b r) high (mask_placed b))
-        i (ap (λ ps. has_place (QWord (4 * d + b) ∷ ps) q) (places_of-advance_writes b r) ∙ h)
+    (word, advance_placed (ltb 8 (mask_of b r)) (eqb (b % 2) 1 && not (eqb (mask_of b r) 0)) (P0 b) (mask_place b) (15 - value_at (P0 b) r) (2 * mask_of b r) high (mask_placed b))
+    i (ap (λ ps. has_place (QWord (4 * d + b) ∷ ps) q) (places_of-advance_writes b r) ∙ h)

@@ -15,7 +15,12 @@ pub enum Size {
 pub fn bytes(x: u32) -> [u8; 4]
     ensures { result ≡ bytes_of x }
 {
-    [(x % 256) as u8, ((x >> 8) % 256) as u8, ((x >> 16) % 256) as u8, (x >> 24) as u8]
+    [
+        (x % 256) as u8,
+        ((x >> 8) % 256) as u8,
+        ((x >> 16) % 256) as u8,
+        (x >> 24) as u8,
+    ]
 }
 
 /// The word of four bytes, lowest first.

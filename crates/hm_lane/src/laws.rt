@@ -25,9 +25,9 @@ pub fn predicate_law()
     ensures words { (r : Regs) → predicate_of r ≡ active_word r 0 ++ active_word r 1 ++ active_word r 2 ++ active_word r 3 }
     ensures merges { (r : Regs) (a b c d x y z w : ℕ)
         → merged (predicate_of r) (bytes_of a ++ bytes_of b ++ bytes_of c ++ bytes_of d)
-            (bytes_of x ++ bytes_of y ++ bytes_of z ++ bytes_of w)
+        (bytes_of x ++ bytes_of y ++ bytes_of z ++ bytes_of w)
         ≡ merged (active_word r 0) (bytes_of a) (bytes_of x) ++ merged (active_word r 1) (bytes_of b) (bytes_of y)
-            ++ merged (active_word r 2) (bytes_of c) (bytes_of z) ++ merged (active_word r 3) (bytes_of d) (bytes_of w) }
+        ++ merged (active_word r 2) (bytes_of c) (bytes_of z) ++ merged (active_word r 3) (bytes_of d) (bytes_of w) }
 {}
 
 /// What `finish` writes beside its word are the slice of P0 and the mask that the advance writes, and it depends on no

@@ -34,7 +34,11 @@ fn tail(r: &Regs) -> u32
 {
     let left = r.get(Place::R(14));
     let size = r.get(Place::Ltp);
-    if size < 4 && left <= 1 << (4 - size) { left << size } else { 16 }
+    if size < 4 && left <= 1 << (4 - size) {
+        left << size
+    } else {
+        16
+    }
 }
 
 /// The eight bits of a half, which are ones without a mask.

@@ -1,4 +1,4 @@
-use Rattle.std.proofs.Common.{ℕ, ◌<◌, ◌≡◌, ◌++◌, ◌∙◌, sym, arith}
+use Rattle.std.proofs.Common.{◌++◌, ◌∙◌, sym, arith}
 use Rattle.hm_lane.proofs.Bits.{predicate_word}
 use Rattle.hm_lane.proofs.Ends.{predicate_words}
 use Rattle.hm_lane.proofs.masks.predicate.Goals as goal
