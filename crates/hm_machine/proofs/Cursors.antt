@@ -1,8 +1,8 @@
 -- The ticks that are left after a cursor.
-use Rattle.std.proofs.Common.{◌≡◌, ℕ, zero, suc, ◌+◌, ◌-◌, ◌<◌, ◌≤◌, arith, ap, refl, sym, ◌∙◌, subst, List, [], ◌∷◌, drop, length, slice_get, Option, Some, All, add-one}
+use Rattle.std.proofs.Common.{◌≡◌, ℕ, zero, suc, ◌+◌, ◌-◌, ◌<◌, ◌≤◌, arith, ap, refl, ◌∙◌, subst, List, [], ◌∷◌, drop, length, slice_get, Some, All}
 use Rattle.std.proofs.lemmas.List.Elements.{All-head, All-tail}
 use Rattle.hm_machine.specs.Machines.{left_in, HasTick}
-use Rattle.hm_sched.specs.Schedule.{TickLine, IsLine, IsYetLine, repeat, ticks_of}
+use Rattle.hm_sched.specs.Schedule.{TickLine, IsLine, repeat, ticks_of}
 
 -- a line in which a cursor stands
 pub below : (lines : List TickLine) (k used : ℕ) → HasTick (drop k lines) used → k < length lines

@@ -1,17 +1,16 @@
 -- A machine at the start.
-use Rattle.std.proofs.Common.{◌≡◌, ℕ, zero, suc, ◌+◌, ◌-◌, ◌%◌, ◌<◌, ◌≤◌, arith, ap, refl, sym, ◌∙◌, subst, List, [], ◌∷◌, drop, length, Option, Some, None, All, Bool, false}
+use Rattle.std.proofs.Common.{◌≡◌, ℕ, zero, suc, ◌+◌, ◌-◌, ◌%◌, ◌<◌, ◌≤◌, arith, ap, refl, sym, ◌∙◌, subst, List, [], ◌∷◌, drop, length, Option, Some, None, All, false}
 use Rattle.hm_base.specs.Image.{Segment, first_byte, flash_byte, word_at}
-use Rattle.hm_codes.specs.Listing.{Listing, IsListing}
 use Rattle.hm_machine.proofs.Cursors.{begins, left_new}
 use Rattle.hm_machine.specs.Machines.{left_in, left_while, HasTick}
-use Rattle.hm_machine.specs.Shown.{Shown, Shows}
+use Rattle.hm_machine.specs.Shown.{Shows}
 use Rattle.hm_mem.specs.Memory.{Memory, byte_at, flash_at, tainted_at, first_devices, thread_under}
-use Rattle.hm_order.specs.Machine.{Config, at_start}
+use Rattle.hm_order.specs.Machine.{at_start}
 use Rattle.hm_regs.specs.declared.Regs.{Regs}
 use Rattle.hm_regs.specs.Start.{start_regs}
 use Rattle.hm_run.specs.declared.Outcome.{Outcome}
 use Rattle.hm_run.specs.declared.Outcome.TheVariants as outcome
-use Rattle.hm_run.specs.Timed.{Timed, begin, closed, timed}
+use Rattle.hm_run.specs.Timed.{Timed, begin, closed}
 use Rattle.hm_sched.specs.Schedule.{TickLine, Sched, IsLine, most_ticks, ticks_of}
 use Rattle.hm_state.proofs.Started.{started}
 use Rattle.hm_state.specs.Start.{reset_pc, reset_sp, start_under}

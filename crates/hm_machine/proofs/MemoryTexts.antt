@@ -1,5 +1,5 @@
 -- Texts that grow by the values of a function.
-use Rattle.std.proofs.Common.{◌≡◌, ℕ, suc, ◌+◌, List, [], ◌∷◌, ◌++◌, ap, sym, ◌∙◌, refl, add-one, append_assoc, append-nil}
+use Rattle.std.proofs.Common.{◌≡◌, ℕ, ◌+◌, List, [], ◌∷◌, ◌++◌, ap, sym, ◌∙◌, refl, add-one, append_assoc, append-nil}
 use Rattle.hm_state.proofs.Lists.{listed-suc}
 use Rattle.hm_state.specs.State.{listed}
 

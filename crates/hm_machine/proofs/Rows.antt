@@ -1,5 +1,5 @@
 -- What the code of a row leaves is the row's meaning.
-use Rattle.std.proofs.Common.{◌≡◌, ℕ, ◌+◌, ◌%◌, ◌^◌, ◌≤◌, List, ap, sym, ◌∙◌, refl, Result, Ok, Err, Bool, not, ◌&&◌, nat_eq, nat_le}
+use Rattle.std.proofs.Common.{◌≡◌, ℕ, ◌+◌, ◌%◌, ◌^◌, ◌≤◌, List, ap, sym, ◌∙◌, refl, Result, Bool, not, ◌&&◌, nat_eq, nat_le}
 use Rattle.std.proofs.Math.Bool.{beq}
 use Rattle.hm_base.specs.declared.Fault.{Fault}
 use Rattle.hm_base.specs.declared.Place.TheVariants.{R}
@@ -11,7 +11,6 @@ use Rattle.hm_isa.specs.declared.narrow.S4.{S4}
 use Rattle.hm_mem.specs.Memory.{Memory}
 use Rattle.hm_regs.specs.Place.{Counted, value_at, with_value}
 use Rattle.hm_regs.specs.declared.Regs.{Regs}
-use Rattle.hm_run.specs.Program.{alone, whole_here}
 use Rattle.hm_run.specs.Rows.{adds, movs, negative, with_nz, with_sum_flags, go_on}
 use Rattle.hm_state.proofs.Beside.{at_is}
 use Rattle.hm_state.proofs.Cells.{put_is}

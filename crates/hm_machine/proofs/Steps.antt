@@ -11,7 +11,7 @@ use Rattle.hm_codes.specs.Listing.{Listing}
 use Rattle.hm_isa.specs.declared.Instr.{Instr}
 use Rattle.hm_isa.specs.declared.Vector.{Vector}
 use Rattle.hm_lane.specs.Predicate as lane
-use Rattle.hm_machine.specs.Cpus.{config_of, state_in, reached}
+use Rattle.hm_machine.specs.Cpus.{config_of, state_in}
 use Rattle.hm_machine.specs.declared.cpu.Cpu.{Cpu}
 use Rattle.hm_mem.specs.Memory.{Around, Memory, memory_of}
 use Rattle.hm_order.specs.Beats.{then}
@@ -113,12 +113,12 @@ module _ (listing : Listing) (x : Cpu) where
       let c : Config State = config_of x in
       let test : (x.window.a == 0) ≡ true = grind (arith, nat_tests, first) in
       let left : begun M c ≡ record c { state = t } =
-          ap (λ (o : Option Vector). record c { state = cond (x.window.a == 0) (made_by o c.state) c.state }) row
-          ∙ ap (λ (q : Bool). record c { state = cond q (with_context c.state) c.state }) test
-          ∙ ap (λ (s : State). record c { state = s }) (sym made) in
+      ap (λ (o : Option Vector). record c { state = cond (x.window.a == 0) (made_by o c.state) c.state }) row
+      ∙ ap (λ (q : Bool). record c { state = cond q (with_context c.state) c.state }) test
+      ∙ ap (λ (s : State). record c { state = s }) (sym made) in
       sym (older_vector listing (memory_of x.mem).around c v row
-          ∙ ap (λ (r : Result State Cause). done M c (then r ((rows (memory_of x.mem).around).act v c.a).run) (settle M (suc c.a) c.b c.n (suc c.steps))) (sym stop)
-          ∙ ap (λ (d : Config State). Err (order.Stopped d e)) left)
+      ∙ ap (λ (r : Result State Cause). done M c (then r ((rows (memory_of x.mem).around).act v c.a).run) (settle M (suc c.a) c.b c.n (suc c.steps))) (sym stop)
+      ∙ ap (λ (d : Config State). Err (order.Stopped d e)) left)
 
   -- a beat that is done
   pub row_done : (v : Vector) (s t : State) (d : Config State) → vector_of (listing x.regs.pc) ≡ Some v
@@ -130,8 +130,8 @@ module _ (listing : Listing) (x : Cpu) where
       ap Ok there
       ∙ (λ j. Ok (settle M (add-one x.window.a j) x.window.b x.retired (add-one x.older_steps j) t))
       ∙ sym (older_vector listing (memory_of x.mem).around c v row
-          ∙ ap (λ (r : Result State Cause). done M c (then r ((rows (memory_of x.mem).around).act v c.a).run) (settle M (suc c.a) c.b c.n (suc c.steps))) (sym ready)
-          ∙ ap (λ (r : Result State Cause). done M c r (settle M (suc c.a) c.b c.n (suc c.steps))) e)
+      ∙ ap (λ (r : Result State Cause). done M c (then r ((rows (memory_of x.mem).around).act v c.a).run) (settle M (suc c.a) c.b c.n (suc c.steps))) (sym ready)
+      ∙ ap (λ (r : Result State Cause). done M c r (settle M (suc c.a) c.b c.n (suc c.steps))) e)
 
   -- WHAT IS NO ROW
   unmade : vector_of (listing x.regs.pc) ≡ None → begun M (config_of x) ≡ config_of x
@@ -152,9 +152,9 @@ module _ (listing : Listing) (x : Cpu) where
   other_stops y e here none stop =
       let row : vector_of (listing x.regs.pc) ≡ None = ap vector_of here ∙ none in
       sym (older_other listing (memory_of x.mem).around (config_of x) row
-          ∙ ap (λ (z : Result Instr Fault). done M (config_of x) (in_machine (whole_here z (state_in x))) (past (config_of x))) here
-          ∙ ap (λ (r : Result State Cause). done M (config_of x) r (past (config_of x))) (sym stop)
-          ∙ ap (λ (d : Config State). Err (order.Stopped d e)) (unmade row))
+      ∙ ap (λ (z : Result Instr Fault). done M (config_of x) (in_machine (whole_here z (state_in x))) (past (config_of x))) here
+      ∙ ap (λ (r : Result State Cause). done M (config_of x) r (past (config_of x))) (sym stop)
+      ∙ ap (λ (d : Config State). Err (order.Stopped d e)) (unmade row))
 
   -- one that is done
   pub other_done : (y : Result Instr Fault) (t : State) → listing x.regs.pc ≡ y → vector_of y ≡ None → Ok t ≡ in_machine (whole_here y (state_in x))
@@ -163,5 +163,5 @@ module _ (listing : Listing) (x : Cpu) where
   other_done y t here none going =
       (λ j. Ok (record { a = 0; b = 0; n = add-one x.retired j; steps = add-one x.older_steps j; state = t }))
       ∙ sym (older_other listing (memory_of x.mem).around (config_of x) (ap vector_of here ∙ none)
-          ∙ ap (λ (z : Result Instr Fault). done M (config_of x) (in_machine (whole_here z (state_in x))) (past (config_of x))) here
-          ∙ ap (λ (r : Result State Cause). done M (config_of x) r (past (config_of x))) (sym going))
+      ∙ ap (λ (z : Result Instr Fault). done M (config_of x) (in_machine (whole_here z (state_in x))) (past (config_of x))) here
+      ∙ ap (λ (r : Result State Cause). done M (config_of x) r (past (config_of x))) (sym going))

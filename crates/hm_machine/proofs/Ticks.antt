@@ -1,7 +1,7 @@
 -- One tick of the machine.
-use Rattle.std.proofs.Common.{◌≡◌, ℕ, suc, zero, ◌+◌, ◌-◌, ◌≤◌, ◌<◌, arith, ap, refl, sym, ◌∙◌, subst, Bool, true, nat_lt, List, [], ◌∷◌, drop, drop-drop, length, length-drop, Result, Ok, Err, Option, Some, None, add-one, add-zero, add-suc}
+use Rattle.std.proofs.Common.{◌≡◌, ℕ, suc, zero, ◌+◌, ◌-◌, ◌≤◌, ◌<◌, arith, ap, refl, sym, ◌∙◌, subst, true, nat_lt, List, [], ◌∷◌, drop, drop-drop, length, length-drop, Ok, Err, Option, Some, None, add-one, add-zero, add-suc}
 use Rattle.std.proofs.lemmas.Bool.Decides.{nat_tests}
-use Rattle.hm_base.specs.Image.{Segment, flash_byte}
+use Rattle.hm_base.specs.Image.{Segment}
 use Rattle.hm_codes.specs.Listing.{Listing, IsListing}
 use Rattle.hm_machine.specs.Cpus.{config_of, reached_by_tick, stopping}
 use Rattle.hm_machine.specs.Machines.{left_in, left_while, HasTick}

@@ -1,5 +1,5 @@
 -- What the parts of the machine that instructions change stand for.
-use Rattle.std.specs.Prelude.{◌≡◌, ℕ, ◌+◌, ◌<◌, ◌≤◌, false, IsTrue, Result, Ok, Err}
+use Rattle.std.specs.Prelude.{◌≡◌, ◌+◌, ◌<◌, ◌≤◌, false, IsTrue, Result, Ok, Err}
 use Rattle.hm_mem.specs.Memory.{memory_of}
 use Rattle.hm_order.specs.Beats.{then}
 use Rattle.hm_order.specs.Machine as order

@@ -1,5 +1,5 @@
 -- What calls answer.
-use Rattle.std.specs.Prelude.{◌≡◌, ℕ, ◌%◌, List, Option, Some, None}
+use Rattle.std.specs.Prelude.{◌≡◌, ◌%◌, List, Option, Some, None}
 use Rattle.hm_base.specs.Image.{Segment}
 use Rattle.hm_machine.specs.declared.load.LoadErr.{LoadErr}
 use Rattle.hm_machine.specs.declared.load.LoadErr.TheVariants as err

@@ -72,10 +72,8 @@ fn refuse(v: &Vector, regs: &Regs) -> Option<Fault>
 /// where there is none, and then the instruction may be refused.
 fn begin(v: &Vector, done: u8, regs: &mut Regs) -> Result<(), Cause>
     requires context { 0 < done → IsTrue regs.old.fpca }
-    ensures value {
-        (listing : Listing) (m : Memory) (output : List ℕ)
-        → executed result (state_of regs.new m output) ≡ begin (core listing m.around) v.now done (state_of regs.old m output)
-    }
+    ensures value { (listing : Listing) (m : Memory) (output : List ℕ)
+        → executed result (state_of regs.new m output) ≡ begin (core listing m.around) v.now done (state_of regs.old m output) }
     ensures refused { OnErr result ((m : Memory) (output : List ℕ) → (done ≡ 0) × (state_of regs.new m output ≡ with_context (state_of regs.old m output))) }
     ensures context { IsTrue regs.new.fpca }
     ensures pc { regs.new.pc ≡ regs.old.pc }
@@ -93,10 +91,8 @@ fn begin(v: &Vector, done: u8, regs: &mut Regs) -> Result<(), Cause>
 /// Beat `b` of a vector instruction. None of these stops, and none touches memory.
 fn beat(v: &Vector, b: u8, regs: &mut Regs)
     requires { b < 4 }
-    ensures value {
-        (m : Memory) (output : List ℕ)
-        → ((rows m.around).act v.now b).run (state_of regs.old m output) ≡ Ok (state_of regs.new m output)
-    }
+    ensures value { (m : Memory) (output : List ℕ)
+        → ((rows m.around).act v.now b).run (state_of regs.old m output) ≡ Ok (state_of regs.new m output) }
     ensures context { regs.new.fpca ≡ regs.old.fpca }
 {
     match Arith::of(v) {
@@ -111,10 +107,8 @@ fn settle(x: &mut Cpu)
     requires position { IsPosition x.old }
     requires context { IsTrue x.old.regs.fpca }
     requires pc { x.old.regs.pc + 4 < 2 ^ 32 }
-    ensures value {
-        (listing : Listing) (around : Around)
-        → config_of x.new ≡ settle (core listing around) (x.old.window.a + 1) x.old.window.b x.old.retired (x.old.older_steps + 1) (state_in x.old)
-    }
+    ensures value { (listing : Listing) (around : Around)
+        → config_of x.new ≡ settle (core listing around) (x.old.window.a + 1) x.old.window.b x.old.retired (x.old.older_steps + 1) (state_in x.old) }
     ensures kept { Keeps x.old x.new }
     ensures count { CountsOne x.old x.new }
 {
@@ -136,10 +130,8 @@ fn vector_step(v: &Vector, x: &mut Cpu) -> Result<(), Cause>
     requires count { (x.old.retired < 2 ^ 63) × (x.old.older_steps < 2 ^ 63) }
     requires position { IsPosition x.old }
     requires pc { x.old.regs.pc + 4 < 2 ^ 32 }
-    ensures value {
-        (listing : Listing) → vector_of (listing x.old.regs.pc) ≡ Some v.now
-        → reached result x.new ≡ older (core listing (memory_of x.old.mem).around) (config_of x.old)
-    }
+    ensures value { (listing : Listing) → vector_of (listing x.old.regs.pc) ≡ Some v.now
+        → reached result x.new ≡ older (core listing (memory_of x.old.mem).around) (config_of x.old) }
     ensures kept { Keeps x.old x.new }
     ensures count { CountsOne x.old x.new }
 {
@@ -171,10 +163,8 @@ fn step(i: &Instr, x: &mut Cpu) -> Result<(), Cause>
     requires count { (x.old.retired < 2 ^ 63) × (x.old.older_steps < 2 ^ 63) }
     requires position { IsPosition x.old }
     requires pc { x.old.regs.pc + 4 < 2 ^ 32 }
-    ensures value {
-        (listing : Listing) → listing x.old.regs.pc ≡ Ok i.now
-        → reached result x.new ≡ older (core listing (memory_of x.old.mem).around) (config_of x.old)
-    }
+    ensures value { (listing : Listing) → listing x.old.regs.pc ≡ Ok i.now
+        → reached result x.new ≡ older (core listing (memory_of x.old.mem).around) (config_of x.old) }
     ensures kept { Keeps x.old x.new }
     ensures count { CountsOne x.old x.new }
 {
@@ -189,10 +179,8 @@ fn step(i: &Instr, x: &mut Cpu) -> Result<(), Cause>
 fn older(x: &mut Cpu) -> Result<(), Cause>
     requires count { (x.old.retired < 2 ^ 63) × (x.old.older_steps < 2 ^ 63) }
     requires position { IsPosition x.old }
-    ensures value {
-        (listing : Listing) → IsListing (flash_at (memory_of x.old.mem)) listing
-        → reached result x.new ≡ older (core listing (memory_of x.old.mem).around) (config_of x.old)
-    }
+    ensures value { (listing : Listing) → IsListing (flash_at (memory_of x.old.mem)) listing
+        → reached result x.new ≡ older (core listing (memory_of x.old.mem).around) (config_of x.old) }
     ensures kept { Keeps x.old x.new }
     ensures count { CountsOne x.old x.new }
 {

@@ -1,5 +1,4 @@
-use Rattle.std.proofs.Common.{◌≡◌, arith, refl, sym, ◌∙◌}
-use Rattle.hm_mem.specs.Memory.{Memory}
+use Rattle.std.proofs.Common.{◌≡◌, arith, sym, ◌∙◌}
 use Rattle.hm_machine.proofs.Steps.{context_made, begins_first}
 use Rattle.hm_machine.proofs.cpu.begin.Goals as goal
 

@@ -1,7 +1,7 @@
-use Rattle.std.proofs.Common.{◌≡◌, ◌∙◌, ℕ, suc, ◌+◌, ◌-◌, ◌<◌, ◌≤◌, List, drop, length, ap, sym, subst, arith, add-one, [], ◌∷◌}
-use Rattle.hm_machine.specs.Machines.{left_in, HasTick}
+use Rattle.std.proofs.Common.{◌∙◌, ℕ, suc, ◌+◌, ◌<◌, ◌≤◌, drop, length, ap, sym, arith, add-one}
+use Rattle.hm_machine.specs.Machines.{left_in}
 use Rattle.hm_machine.proofs.Cursors.{begins, left_new, still_here, used_up, none_left}
-use Rattle.hm_sched.specs.Schedule.{TickLine, line_of, ticks_of}
+use Rattle.hm_sched.specs.Schedule.{line_of, ticks_of}
 use Rattle.hm_machine.proofs.cursor.after_tick.Goals as goal
 
 pub returns-then-cursor-count-clause-left : goal.returns-then-cursor-count-clause-left

@@ -1,4 +1,4 @@
-use Rattle.std.proofs.Common.{◌≡◌, ap, sym, ◌∙◌, List, ◌∷◌, drop}
+use Rattle.std.proofs.Common.{ap, sym, ◌∙◌, List, ◌∷◌, drop}
 use Rattle.hm_machine.proofs.Cursors.{line_first, line_used, all_at}
 use Rattle.hm_sched.specs.Schedule.{TickLine, IsLine, IsYetLine, line_of}
 use Rattle.hm_machine.proofs.cursor.line_at.Goals as goal

@@ -1,4 +1,4 @@
-use Rattle.std.proofs.Common.{◌≡◌, ◌<◌, ℕ, ap, refl, sym, ◌∙◌, subst, None, List, drop, length}
+use Rattle.std.proofs.Common.{◌≡◌, ◌<◌, ap, refl, sym, ◌∙◌, subst, None, List, drop, length}
 use Rattle.hm_machine.proofs.Ticks.{devices_are, some_left, goes_on, out_of_ticks, ends, may_end_alone}
 use Rattle.hm_machine.specs.Cpus.{config_of}
 use Rattle.hm_machine.specs.Machines.{left_at, machine_view}

@@ -1,5 +1,4 @@
 use Rattle.std.proofs.Common.{arith, refl}
-use Rattle.hm_machine.proofs.Cursors.{left_new}
 use Rattle.hm_machine.proofs.Loads.{first_stands, first_length, running_ticks, shows_start, odd_pc}
 use Rattle.hm_mem.specs.Memory.{memory_of}
 use Rattle.hm_machine.proofs.machine.Machine.load.Goals as goal

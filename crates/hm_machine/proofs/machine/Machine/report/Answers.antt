@@ -1,4 +1,3 @@
-use Rattle.std.proofs.Common.{refl}
 use Rattle.hm_state.specs.State.{state_of}
 use Rattle.hm_machine.proofs.machine.Machine.report.Goals as goal
 
