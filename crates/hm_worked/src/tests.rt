@@ -1,7 +1,7 @@
 use hm_base::Image;
 use hm_in_order::in_order;
 use hm_machine::Machine;
-use hm_sched::plain;
+use hm_sched::{Schedule, plain};
 use std::alloc::Global;
 use std::test::Fail;
 
@@ -32,8 +32,13 @@ fn first_line(text: &[u8]) -> &[u8] {
 // The stack pointer 20010000 and the first instruction at 8.
 const START: [u8; 8] = [0, 0, 1, 0x20, 9, 0, 0, 0];
 
-// Two additions that carry and overflow, flags of zero, halts, and codes that are none; so many instructions each.
-static CODES: [(&[u8], u32); 6] = [
+/// vmov.i32 q0,#5; vmov.i32 q1,#3; vadd.i32 q0,q0,q1; bkpt #0.
+const VECTORS: &[u8] = &[0x80, 0xef, 0x55, 0, 0x80, 0xef, 0x53, 0x20, 0x20, 0xef, 0x42, 8, 0, 0xbe];
+
+// Two additions that carry and overflow, flags of zero, halts, codes that are none, and vector rows; so many instructions
+// each.
+static CODES: [(&[u8], u32); 7] = [
+    (VECTORS, 4),
     (&[5, 0x20, 0xc0, 0x1c, 1, 0xbe], 3),
     (&[5, 0x20, 0xc0, 0x1c, 1, 0xbe], 2),
     (&[0, 0x20, 0, 0xbe], 2),
@@ -59,5 +64,50 @@ fn in_order_beside_the_machine(rt: HostRuntime) -> Result<(), Fail> {
             }
         }
     }
+    Ok(())
+}
+
+/// The report of the machine after lines of so many ticks of these letters.
+fn report_after(alloc: Global, code: &[u8], lines: &[(u32, &str)]) -> Result<Vec<u8>, Fail> {
+    let mut bytes = START.to_vec(alloc)?;
+    bytes.extend_from_slice(code)?;
+    let mut schedule = Schedule::begin(alloc, false, 0x2000_0000, 0x2004_0000, 0x2000_0000);
+    for (count, letters) in lines {
+        schedule.add(*count, letters.as_bytes(), 0)?;
+    }
+    let mut machine = Machine::load(alloc, &flat(alloc, &bytes)?, schedule)?;
+    let _outcome = machine.run();
+    Ok(machine.report(alloc)?)
+}
+
+/// Whether a report has all of these lines.
+fn has_lines(report: &[u8], lines: &[&str]) -> bool {
+    lines.iter().all(|line| report.split(|byte| *byte == b'\n').any(|piece| piece == line.as_bytes()))
+}
+
+#[test]
+fn add_stopped_after_two_beats(rt: HostRuntime) -> Result<(), Fail> {
+    let report = report_after(rt.alloc(), VECTORS, &[(2, "W"), (1, "OO")])?;
+    let lines = [
+        "outcome ticks",
+        "q0 00000008 00000008 00000005 00000005",
+        "q1 00000003 00000003 00000003 00000003",
+        "position 2 0",
+        "pc 00000010",
+        "fpca 1",
+    ];
+    assert!(rt; has_lines(&report, &lines));
+    Ok(())
+}
+
+#[test]
+fn add_to_its_end(rt: HostRuntime) -> Result<(), Fail> {
+    let report = report_after(rt.alloc(), VECTORS, &[(2, "W"), (4, "O"), (1, "W")])?;
+    let lines = [
+        "outcome halted break 0 after 4",
+        "q0 00000008 00000008 00000008 00000008",
+        "position 0 0",
+    ];
+    assert!(rt; has_lines(&report, &lines));
     Ok(())
 }
