@@ -1,4 +1,4 @@
--- One step, and one tick, of a run. No vector row runs yet: each step of the older instruction does the whole of it.
+-- One step, and one tick, of a run.
 use Rattle.std.proofs.Common.{◌≡◌, ℕ, suc, ◌+◌, ◌==◌, ◌<◌, arith, ap, refl, sym, ◌∙◌, Bool, true, false, cond, List, [], ◌∷◌, length, Option, Some, None, Result, Ok, Err, add-one}
 use Rattle.std.proofs.lemmas.Bool.Decides.{nat_tests}
 use Rattle.hm_codes.specs.Listing.{Listing}
