@@ -45,10 +45,10 @@ module _ (v : Vector) (x : Around) where
   four_done s t u w z first second third fourth =
       let all : four_beats cells (vector_tree v x) last s ≡ Ok (vector_whole v s) = merging_whole (merging_of v) (result_of v) (row_is_merging v) s in
       let done : four_beats cells (vector_tree v x) last s ≡ Ok (retired z) =
-          then_ok_at (step 0 s) (λ a. then (step 1 a) (λ b. then (step 2 b) (λ c. then (step 3 c) last))) t first
-          ∙ then_ok_at (step 1 t) (λ b. then (step 2 b) (λ c. then (step 3 c) last)) u second
-          ∙ then_ok_at (step 2 u) (λ c. then (step 3 c) last) w third
-          ∙ then_ok_at (step 3 w) last z fourth in
+      then_ok_at (step 0 s) (λ a. then (step 1 a) (λ b. then (step 2 b) (λ c. then (step 3 c) last))) t first
+      ∙ then_ok_at (step 1 t) (λ b. then (step 2 b) (λ c. then (step 3 c) last)) u second
+      ∙ then_ok_at (step 2 u) (λ c. then (step 3 c) last) w third
+      ∙ then_ok_at (step 3 w) last z fourth in
       ok_same (sym done ∙ all)
 
 -- THE ROW
@@ -95,6 +95,6 @@ row_done v r g t m output e made four =
     let ready : state_of g m output ≡ with_context s = ap (λ (k : Regs). state_of k m output) made ∙ context_is r m output in
     let ends : retired u ≡ vector_whole v (with_context s) = four ∙ ap (vector_whole v) ready in
     let behind : r.pc + 4 ≡ u.pc + 4 =
-        sym (ap (λ (k : State). k.pc) ends ∙ whole_pc v (with_context s) ∙ ap (λ (n : ℕ). n + 4) (context_pc s ∙ pc_of r m output)) in
+    sym (ap (λ (k : State). k.pc) ends ∙ whole_pc v (with_context s) ∙ ap (λ (n : ℕ). n + 4) (context_pc s ∙ pc_of r m output)) in
     let left : state_of (record t { pc = r.pc + 4 }) m output ≡ retired u = pc_is t m output (r.pc + 4) ∙ ap (λ (n : ℕ). record u { pc = n }) behind in
     ap Ok (left ∙ ends) ∙ sym (row_is v s true (ap (λ (n : ℕ). nat_eq n 0) (it_is r m output) ∙ e))

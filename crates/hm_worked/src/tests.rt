@@ -33,7 +33,9 @@ fn first_line(text: &[u8]) -> &[u8] {
 const START: [u8; 8] = [0, 0, 1, 0x20, 9, 0, 0, 0];
 
 /// vmov.i32 q0,#5; vmov.i32 q1,#3; vadd.i32 q0,q0,q1; bkpt #0.
-const VECTORS: &[u8] = &[0x80, 0xef, 0x55, 0, 0x80, 0xef, 0x53, 0x20, 0x20, 0xef, 0x42, 8, 0, 0xbe];
+const VECTORS: &[u8] = &[
+    0x80, 0xef, 0x55, 0, 0x80, 0xef, 0x53, 0x20, 0x20, 0xef, 0x42, 8, 0, 0xbe,
+];
 
 // Two additions that carry and overflow, flags of zero, halts, codes that are none, and vector rows; so many instructions
 // each.
@@ -67,27 +69,34 @@ fn in_order_beside_the_machine(rt: HostRuntime) -> Result<(), Fail> {
     Ok(())
 }
 
-/// The report of the machine after lines of so many ticks of these letters.
-fn report_after(alloc: Global, code: &[u8], lines: &[(u32, &str)]) -> Result<Vec<u8>, Fail> {
+/// The report of the machine at the end of a schedule.
+fn report_under(alloc: Global, code: &[u8], schedule: Schedule) -> Result<Vec<u8>, Fail> {
     let mut bytes = START.to_vec(alloc)?;
     bytes.extend_from_slice(code)?;
-    let mut schedule = Schedule::begin(alloc, false, 0x2000_0000, 0x2004_0000, 0x2000_0000);
-    for (count, letters) in lines {
-        schedule.add(*count, letters.as_bytes(), 0)?;
-    }
     let mut machine = Machine::load(alloc, &flat(alloc, &bytes)?, schedule)?;
     let _outcome = machine.run();
     Ok(machine.report(alloc)?)
 }
 
+/// A schedule without lines, whose handlers may store in all of SRAM.
+fn first_schedule(alloc: Global) -> Schedule {
+    Schedule::begin(alloc, false, 0x2000_0000, 0x2004_0000, 0x2000_0000)
+}
+
 /// Whether a report has all of these lines.
 fn has_lines(report: &[u8], lines: &[&str]) -> bool {
-    lines.iter().all(|line| report.split(|byte| *byte == b'\n').any(|piece| piece == line.as_bytes()))
+    lines.iter().all(|line| report
+        .split(|byte| *byte == b'\n')
+        .any(|piece| piece == line.as_bytes()))
 }
 
 #[test]
 fn add_stopped_after_two_beats(rt: HostRuntime) -> Result<(), Fail> {
-    let report = report_after(rt.alloc(), VECTORS, &[(2, "W"), (1, "OO")])?;
+    let alloc = rt.alloc();
+    let mut schedule = first_schedule(alloc);
+    schedule.add(2, b"W", 0)?;
+    schedule.add(1, b"OO", 0)?;
+    let report = report_under(alloc, VECTORS, schedule)?;
     let lines = [
         "outcome ticks",
         "q0 00000008 00000008 00000005 00000005",
@@ -102,7 +111,12 @@ fn add_stopped_after_two_beats(rt: HostRuntime) -> Result<(), Fail> {
 
 #[test]
 fn add_to_its_end(rt: HostRuntime) -> Result<(), Fail> {
-    let report = report_after(rt.alloc(), VECTORS, &[(2, "W"), (4, "O"), (1, "W")])?;
+    let alloc = rt.alloc();
+    let mut schedule = first_schedule(alloc);
+    schedule.add(2, b"W", 0)?;
+    schedule.add(4, b"O", 0)?;
+    schedule.add(1, b"W", 0)?;
+    let report = report_under(alloc, VECTORS, schedule)?;
     let lines = [
         "outcome halted break 0 after 4",
         "q0 00000008 00000008 00000008 00000008",
