@@ -1,17 +1,17 @@
 //! `vadd`, `vsub` and `vmul` of elements.
 
-ghost use Rattle.std.specs.Prelude.{◌≡◌, ℕ, ◌<◌, ◌≤◌, List, Ok};
+ghost use Rattle.std.specs.Prelude.{◌≡◌, ℕ, ◌<◌, ◌≤◌, List};
 ghost use Rattle.hm_isa.specs.declared.Vector.TheVariants as vector;
-ghost use Rattle.hm_lane.specs.Lanes.{modulus};
 ghost use Rattle.hm_mem.specs.Memory.{Memory};
 ghost use Rattle.hm_state.specs.State.{state_of};
-ghost use Rattle.hm_beat.specs.Laws.{run};
+ghost use Rattle.hm_lane.specs.Lanes.{modulus};
+ghost use Rattle.hm_merging.specs.Merging.{new_at};
 ghost use Rattle.hm_rows.specs.Lanes.{size_of};
-ghost use Rattle.hm_rows.specs.Rows.{vector_tree};
+ghost use Rattle.hm_rows.specs.Rows.{merging_of};
 
+use hm_beat::read_word;
 use hm_isa::{AddName, V1};
-use hm_lane::{LaneOp, Size};
-use hm_merging::beat_pairwise;
+use hm_lane::{LaneOp, Size, zip_lanes};
 use hm_regs::Regs;
 
 /// How many numbers a lane holds.
@@ -58,20 +58,13 @@ fn size(z: u32) -> Size
     }
 }
 
-/// Does beat `b`.
-pub fn beat_elements(row: &V1, b: u8, r: &mut Regs)
+/// Word `b` of the result.
+pub fn element_word(row: &V1, b: u8, r: &Regs) -> u32
     requires { b < 4 }
-    ensures { (m : Memory) (output : List ℕ)
-        → run (vector_tree (vector.V1 row.now) m.around b) r.old m output ≡ Ok (state_of r.new m output) }
+    ensures { (m : Memory) (output : List ℕ) → result ≡ new_at (merging_of (vector.V1 row.now)) b (state_of r.now m output) }
 {
     let size = size(row.z.get());
-    beat_pairwise(
-        &Lanes(row.name),
-        size,
-        row.d.get() as u8,
-        row.n.get() as u8,
-        row.m.get() as u8,
-        b,
-        r,
-    );
+    let x = read_word(r, row.n.get() as u8, b);
+    let y = read_word(r, row.m.get() as u8, b);
+    zip_lanes(&Lanes(row.name), size, x, y)
 }

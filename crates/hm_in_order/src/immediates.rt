@@ -1,15 +1,15 @@
 //! `vmov`, `vmvn`, `vorr` and `vbic` with an immediate.
 
-ghost use Rattle.std.specs.Prelude.{◌≡◌, ℕ, ◌*◌, ◌^◌, ◌<◌, List, Ok};
+ghost use Rattle.std.specs.Prelude.{◌≡◌, ℕ, ◌*◌, ◌^◌, ◌<◌, List};
 ghost use Rattle.hm_isa.specs.declared.Vector.TheVariants as vector;
 ghost use Rattle.hm_mem.specs.Memory.{Memory};
 ghost use Rattle.hm_state.specs.State.{state_of};
-ghost use Rattle.hm_beat.specs.Laws.{run};
-ghost use Rattle.hm_rows.specs.Constants.{constant_word, four_times, imm_word, immediate, ones_where, spread_bits, twice};
-ghost use Rattle.hm_rows.specs.Rows.{vector_tree};
+ghost use Rattle.hm_merging.specs.Merging.{new_at};
+ghost use Rattle.hm_rows.specs.Constants.{constant_op, constant_word, four_times, imm_word, immediate, ones_where, spread_bits, twice};
+ghost use Rattle.hm_rows.specs.Rows.{merging_of};
 
+use hm_beat::read_word;
 use hm_isa::V15;
-use hm_merging::{WordOp, beat_with_constant};
 use hm_regs::Regs;
 
 /// The eight bits of the immediate.
@@ -86,37 +86,30 @@ fn constant(row: &V15, b: u8) -> u32
     }
 }
 
-/// The operation on a word and one of the constant.
-#[derive(Clone, Copy)]
-struct Operation(V15);
-
-impl WordOp for Operation {
-    ghost use Rattle.hm_rows.specs.Constants.{constant_op};
-
-    ghost value = { λ x. constant_op x.0 };
-
-    fn word(&self, old: u32, constant: u32) -> u32 {
-        let cm = self.0.cm.get();
-        let op = self.0.op.get();
-        if cm < 12 && cm % 2 == 1 {
-            if op == 0 {
-                old | constant
-            } else {
-                old & !constant
-            }
-        } else if op == 1 && cm < 14 {
-            !constant
+/// The new word of an old one and one of the constant.
+fn operation(row: &V15, old: u32, constant: u32) -> u32
+    ensures { result ≡ constant_op row.now old constant }
+{
+    let cm = row.cm.get();
+    let op = row.op.get();
+    if cm < 12 && cm % 2 == 1 {
+        if op == 0 {
+            old | constant
         } else {
-            constant
+            old & !constant
         }
+    } else if op == 1 && cm < 14 {
+        !constant
+    } else {
+        constant
     }
 }
 
-/// Does beat `b`.
-pub fn beat_immediate(row: &V15, b: u8, r: &mut Regs)
+/// Word `b` of the result.
+pub fn immediate_word(row: &V15, b: u8, r: &Regs) -> u32
     requires { b < 4 }
-    ensures { (m : Memory) (output : List ℕ)
-        → run (vector_tree (vector.V15 row.now) m.around b) r.old m output ≡ Ok (state_of r.new m output) }
+    ensures { (m : Memory) (output : List ℕ) → result ≡ new_at (merging_of (vector.V15 row.now)) b (state_of r.now m output) }
 {
-    beat_with_constant(&Operation(*row), row.d.get() as u8, constant(row, b), b, r);
+    let old = read_word(r, row.d.get() as u8, b);
+    operation(row, old, constant(row, b))
 }

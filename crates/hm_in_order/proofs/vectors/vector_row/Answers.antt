@@ -11,4 +11,4 @@ returns-then-regs-ne0 c m output =
 pub returns : goal.returns
 returns c m output =
     let outside : nat_eq c.args.regs.now.it 0 ≡ true = grind (arith, nat_tests, c.if-regs-ne0.false) in
-    row_done c.args.v.now c.args.regs.now c.context.new.r c.four_beats-after.result m output outside c.context.ensures (c.four_beats-after.ensures m output)
+    row_done c.args.v.now c.args.regs.now c.context.new.r c.merge_whole-after.result m output outside c.context.ensures (c.merge_whole-after.ensures m output)
