@@ -3,7 +3,7 @@ use Rattle.std.proofs.Common.{◌≡◌, ℕ, ◌+◌, ◌*◌, ◌/◌, ◌%◌
 use Rattle.hm_lane.specs.declared.lanes.Size.{Size}
 use Rattle.hm_lane.specs.declared.lanes.Size.TheVariants.{Byte, Half, Word}
 use Rattle.hm_lane.specs.Lanes.{bytes_of, word_of, lanewise}
-use Rattle.hm_state.specs.State.{State, at}
+use Rattle.hm_state.specs.State.{at}
 use Rattle.hm_beat.specs.Rows.{word_place}
 use Rattle.hm_merging.specs.Merging.{IsApart, IsMerging}
 use Rattle.hm_merging.specs.Forms.{pairwise, pairwise_result, with_constant, constant_result}
@@ -43,11 +43,11 @@ pairwise_is z f d n m h = record {
   below = h;
   apart = λ b k low high. (word_apart d n b k low high, (word_apart d m b k low high, tt));
   words = λ s.
-    let x = λ (b : ℕ). at (word_place n b) s in
-    let y = λ (b : ℕ). at (word_place m b) s in
-    four_words z f (x 0) (x 1) (x 2) (x 3) (y 0) (y 1) (y 2) (y 3)
-    ∙ joined (lanewise z f (bytes_of (x 0)) (bytes_of (y 0))) (lanewise z f (bytes_of (x 1)) (bytes_of (y 1))) (lanewise z f (bytes_of (x 2)) (bytes_of (y 2))) (lanewise z f (bytes_of (x 3)) (bytes_of (y 3))) _ _ _ _
-        (one_word z f (x 0) (y 0)) (one_word z f (x 1) (y 1)) (one_word z f (x 2) (y 2)) (one_word z f (x 3) (y 3));
+      let x = λ (b : ℕ). at (word_place n b) s in
+      let y = λ (b : ℕ). at (word_place m b) s in
+      four_words z f (x 0) (x 1) (x 2) (x 3) (y 0) (y 1) (y 2) (y 3)
+      ∙ joined (lanewise z f (bytes_of (x 0)) (bytes_of (y 0))) (lanewise z f (bytes_of (x 1)) (bytes_of (y 1))) (lanewise z f (bytes_of (x 2)) (bytes_of (y 2))) (lanewise z f (bytes_of (x 3)) (bytes_of (y 3))) _ _ _ _
+      (one_word z f (x 0) (y 0)) (one_word z f (x 1) (y 1)) (one_word z f (x 2) (y 2)) (one_word z f (x 3) (y 3));
 }
 
 pub with_constant_is : (f : ℕ → ℕ → ℕ) (d : ℕ) (constant : ℕ → ℕ) → d < 8 → IsMerging (with_constant f d constant) (constant_result f d constant)

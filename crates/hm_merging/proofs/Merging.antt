@@ -1,5 +1,5 @@
 -- A row that merges a word on each beat: what it uses and sets, and four beats are the whole.
-use Rattle.std.proofs.Common.{◌≡◌, ℕ, ◌+◌, ◌*◌, ◌%◌, ◌<◌, Bool, true, false, not, ◌||◌, ◌&&◌, ltb, eqb, List, [], ◌∷◌, ◌++◌, map, Result, Ok, refl, sym, ◌∙◌, ap, subst, arith, ne_eqb}
+use Rattle.std.proofs.Common.{◌≡◌, ℕ, ◌+◌, ◌*◌, ◌%◌, ◌<◌, true, false, ◌||◌, ltb, eqb, List, [], ◌∷◌, ◌++◌, map, Result, Ok, refl, sym, ◌∙◌, ap, subst, arith, ne_eqb}
 use Rattle.hm_base.specs.declared.Stop.{Stop}
 use Rattle.hm_base.specs.declared.Place.{Place}
 use Rattle.hm_base.specs.declared.Place.TheVariants.{R, Mask01, Mask23, Ltp, Sticky}
@@ -43,7 +43,7 @@ module _ (i : Merging) (result : State → List ℕ) (is : IsMerging i result) w
   uses_left b k s c low high h = decide (holds cells (map At (tested_places b s)) c)
       (λ p. record { word = no_word i.register k b s c p; still = held_of (IsStill k) (map At (tested_places b s)) c (predicate_still b k s low high) p })
       (λ p. held_of (Left i.register k) (body_uses (merge_body i b (active_at b s)) s) c (left_word i.register b k low high, rest (map At (i.sources b)) (left_sources i.register k (i.sources b) (is.apart b k low high)))
-          (second (holds cells (map At (tested_places b s)) c) _ p (sym (uses_is b (merge_body i b) s c) ∙ h)))
+      (second (holds cells (map At (tested_places b s)) c) _ p (sym (uses_is b (merge_body i b) s c) ∙ h)))
     where
       rest : (xs : List Cell) → Each (Left i.register k) xs → Each (Left i.register k) (xs ++ [])
       rest [] h = tt
@@ -70,8 +70,8 @@ merging_effect i b s =
 -- merged words, by the words of the result
 merged_words : (i : Merging) (s : State) (v : List ℕ) → v ≡ bytes_of (new_at i 0 s) ++ bytes_of (new_at i 1 s) ++ bytes_of (new_at i 2 s) ++ bytes_of (new_at i 3 s)
     → put_all cells (write_register i.register (merged (predicate_at s) (register_at i.register s) v) ++ advance_half 0 s ++ advance_half 2 s) s
-      ≡ put_all cells (advance_half 0 s ++ advance_half 2 s) (put cells (At (word_place i.register 3)) (word (merged_at i 3 s)) (put cells (At (word_place i.register 2)) (word (merged_at i 2 s))
-          (put cells (At (word_place i.register 1)) (word (merged_at i 1 s)) (put cells (At (word_place i.register 0)) (word (merged_at i 0 s)) s))))
+    ≡ put_all cells (advance_half 0 s ++ advance_half 2 s) (put cells (At (word_place i.register 3)) (word (merged_at i 3 s)) (put cells (At (word_place i.register 2)) (word (merged_at i 2 s))
+    (put cells (At (word_place i.register 1)) (word (merged_at i 1 s)) (put cells (At (word_place i.register 0)) (word (merged_at i 0 s)) s))))
 merged_words i s v e = ap (λ (u : List ℕ). put_all cells (write_register i.register (merged (predicate_at s) (register_at i.register s) u) ++ advance_half 0 s ++ advance_half 2 s) s) e
 
 pub merging_whole : (i : Merging) (result : State → List ℕ) → IsMerging i result → (s : State)
@@ -80,10 +80,10 @@ merging_whole i result is s =
     unchained cells cell_laws (merging_tree i) (λ u. Ok (retired u)) s (merging_unchained i result is s)
     ∙ started (merging_tree i) (λ u. Ok (retired u)) s _ _ _ _ (merging_effect i 0 s) (merging_effect i 1 s) (merging_effect i 2 s) (merging_effect i 3 s)
     ∙ ap (λ u. Ok (retired u))
-      (reorder (4 * i.register + 0) (4 * i.register + 1) (4 * i.register + 2) (4 * i.register + 3) (word (merged_at i 0 s)) (word (merged_at i 1 s)) (word (merged_at i 2 s)) (word (merged_at i 3 s))
-        (map into (advance_at 0 s)) (map into (advance_at 1 s)) (map into (advance_at 2 s)) (map into (advance_at 3 s)) s (λ j. no_words 0 j s) (λ j. no_words 1 j s) (λ j. no_words 2 j s)
-      ∙ advanced s _
-      ∙ sym (merged_words i s (result s) (is.words s)))
+    (reorder (4 * i.register + 0) (4 * i.register + 1) (4 * i.register + 2) (4 * i.register + 3) (word (merged_at i 0 s)) (word (merged_at i 1 s)) (word (merged_at i 2 s)) (word (merged_at i 3 s))
+    (map into (advance_at 0 s)) (map into (advance_at 1 s)) (map into (advance_at 2 s)) (map into (advance_at 3 s)) s (λ j. no_words 0 j s) (λ j. no_words 1 j s) (λ j. no_words 2 j s)
+    ∙ advanced s _
+    ∙ sym (merged_words i s (result s) (is.words s)))
 
 -- THE LAWS
 merging_later : (i : Merging) (result : State → List ℕ) → IsMerging i result → (b k : ℕ) (s : State) → k < b → b < 4

@@ -6,10 +6,10 @@ use Rattle.hm_base.specs.declared.Place.{Place}
 use Rattle.hm_base.specs.declared.Place.TheVariants.{QWord}
 use Rattle.hm_base.proofs.Order.{listed-append}
 use Rattle.hm_regs.specs.declared.Regs.{Regs}
-use Rattle.hm_regs.specs.Place.{Counted, value_at}
+use Rattle.hm_regs.specs.Place.{Counted}
 use Rattle.hm_regs.specs.Writes.{Write, write, apply}
 use Rattle.hm_lane.specs.Lanes.{bytes_of, word_of, merged}
-use Rattle.hm_lane.specs.Predicate.{active_word, advance_writes, advance_places, finish_writes, predicate_places}
+use Rattle.hm_lane.specs.Predicate.{advance_places, finish_writes, predicate_places}
 use Rattle.hm_mem.specs.Memory.{Memory}
 use Rattle.hm_order.specs.Beats.{then}
 use Rattle.hm_state.specs.Store.{put_all}
@@ -41,10 +41,10 @@ reads_are : (i : Merging) (b : ℕ) (r : Regs) (m : Memory) (output : List ℕ) 
 reads_are i b r m output =
     let s = state_of r m output in
     ap listed (
-      ap places_in (merging_reads i b s)
-      ∙ places_at-append (tested_places b s) (At (word_place i.register b) ∷ map At (i.sources b))
-      ∙ ap (λ ps. tested_places b s ++ (word_place i.register b ∷ ps)) (places_at (i.sources b))
-      ∙ ap (λ ps. ps ++ (word_place i.register b ∷ i.sources b)) (tested_is b r m output))
+    ap places_in (merging_reads i b s)
+    ∙ places_at-append (tested_places b s) (At (word_place i.register b) ∷ map At (i.sources b))
+    ∙ ap (λ ps. tested_places b s ++ (word_place i.register b ∷ ps)) (places_at (i.sources b))
+    ∙ ap (λ ps. ps ++ (word_place i.register b ∷ i.sources b)) (tested_is b r m output))
 
 writes_are : (i : Merging) (b : ℕ) (r : Regs) (m : Memory) (output : List ℕ) → b < 4 → writes_in (merging_tree i b) r m output ≡ listed (word_place i.register b ∷ advance_places b r)
 writes_are i b r m output h =
@@ -96,9 +96,9 @@ finish_is i b r r' m output new low high n e f =
     let proper : IsPlace d = omega arith in
     run_merging i b r m output
     ∙ ap Ok (
-      ap (λ (ws : List Write). put_all cells (map into ws) s) (λ j. write d (word_of (merged (active_is b r m output high j) (bytes_of (at_is d r m output proper refl j)) (bytes_of (sym e j)))) ∷ advance_is b r m output high j)
-      ∙ sym (applied (finish_writes i.register b new r) r m output (proper, refl, advance_are_cells b r high) n)
-      ∙ ap (λ x. state_of x m output) (sym f))
+    ap (λ (ws : List Write). put_all cells (map into ws) s) (λ j. write d (word_of (merged (active_is b r m output high j) (bytes_of (at_is d r m output proper refl j)) (bytes_of (sym e j)))) ∷ advance_is b r m output high j)
+    ∙ sym (applied (finish_writes i.register b new r) r m output (proper, refl, advance_are_cells b r high) n)
+    ∙ ap (λ x. state_of x m output) (sym f))
 
 pub finish_at : (i : Merging) (d b : ℕ) (r r' : Regs) (m : Memory) (output : List ℕ) (new : ℕ) → i.register ≡ d → d < 8 → b < 4 → Counted r → new ≡ new_at i b (state_of r m output)
     → r' ≡ apply (finish_writes d b new r) r → run (merging_tree i b) r m output ≡ Ok (state_of r' m output)

@@ -1,5 +1,5 @@
 -- What each vector row owes to the laws.
-use Rattle.std.proofs.Common.{◌≡◌, Bool, false, true, Ok}
+use Rattle.std.proofs.Common.{◌≡◌, false, Ok}
 use Rattle.hm_isa.specs.declared.Vector.{Vector}
 use Rattle.hm_isa.specs.declared.Vector.TheVariants.{V1, V15}
 use Rattle.hm_mem.specs.Memory.{Around}

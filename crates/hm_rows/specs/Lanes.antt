@@ -1,5 +1,5 @@
 -- The elements of V1: `vadd`, `vsub`, `vmul`.
-use Rattle.std.specs.Prelude.{ℕ, zero, suc, ◌+◌, ◌-◌, ◌*◌, if◌then◌else◌, nat_eq}
+use Rattle.std.specs.Prelude.{ℕ, ◌+◌, ◌-◌, ◌*◌, if◌then◌else◌, nat_eq}
 use Rattle.hm_isa.specs.declared.vectors.AddName.{AddName}
 use Rattle.hm_isa.specs.declared.vectors.AddName.TheVariants.{Add, Sub, Mul}
 use Rattle.hm_lane.specs.declared.lanes.Size.{Size}
