@@ -144,11 +144,19 @@ mod tests {
         })
     }
 
-    // whether this vector instruction was found
-    fn is_vector(found: Result<Instr, Fault>, v: Vector) -> bool {
-        match found {
-            Ok(Instr::Vector(w)) => w == v,
+    // whether this is a vector instruction, and which
+    fn is_vector(i: &Instr, v: &Vector) -> bool {
+        match i {
+            Instr::Vector(found) => found == v,
             _ => false,
+        }
+    }
+
+    // whether this vector instruction was found
+    fn is_found(found: &Result<Instr, Fault>, v: &Vector) -> bool {
+        match found {
+            Ok(i) => is_vector(i, v),
+            Err(_) => false,
         }
     }
 
@@ -163,8 +171,8 @@ mod tests {
         image.add(0, code.to_vec(rt.alloc())?)?;
         image.add(FLASH_SIZE - 2, [0x80, 0xef].to_vec(rt.alloc())?)?;
         let m = Mem::new(rt.alloc(), &image, 0x2000_0000, 0x2000_0000, 0x2000_0000)?;
-        assert!(rt; is_vector(fetch(&m, 0), vmov(0, 5)));
-        assert!(rt; is_vector(fetch(&m, 4), vmov(1, 3)));
+        assert!(rt; is_found(&fetch(&m, 0), &vmov(0, 5)));
+        assert!(rt; is_found(&fetch(&m, 4), &vmov(1, 3)));
         let vadd = Vector::V1(V1 {
             name: AddName::Add,
             z: Below::new(2),
@@ -172,7 +180,7 @@ mod tests {
             n: Below::new(0),
             m: Below::new(1),
         });
-        assert!(rt; is_vector(fetch(&m, 8), vadd));
+        assert!(rt; is_found(&fetch(&m, 8), &vadd));
         let faults = [
             (12, FaultKind::Undefined),
             (FLASH_SIZE - 2, FaultKind::Fetch),
