@@ -1,7 +1,9 @@
-use hm_base::Image;
+use hm_base::{Image, Place};
 use hm_in_order::in_order;
+use hm_isa::{Below, Instr, S18, Scalar, width};
 use hm_machine::Machine;
-use hm_sched::{Schedule, plain};
+use hm_run::{Outcome, Turn, Window};
+use hm_sched::{SchedErr, Schedule, plain};
 use std::alloc::Global;
 use std::test::Fail;
 
@@ -124,4 +126,65 @@ fn add_to_its_end(rt: HostRuntime) -> Result<(), Fail> {
     ];
     assert!(rt; has_lines(&report, &lines));
     Ok(())
+}
+
+#[test]
+fn machine_tells_where_it_stands(rt: HostRuntime) -> Result<(), Fail> {
+    let alloc = rt.alloc();
+    let mut bytes = START.to_vec(alloc)?;
+    bytes.extend_from_slice(VECTORS)?;
+    let mut schedule = first_schedule(alloc);
+    schedule.add(2, b"W", 0)?;
+    schedule.add(1, b"OO", 0)?;
+    let mut machine = Machine::load(alloc, &flat(alloc, &bytes)?, schedule)?;
+    assert_eq!(rt; machine.tick(), Turn::Running);
+    assert_eq!(rt; machine.outcome(), None);
+    assert_eq!(rt; machine.retired(), 1);
+    assert_eq!(rt; machine.older_steps(), 4);
+    assert_eq!(rt; machine.run(), Outcome::OutOfTicks);
+    assert_eq!(rt; machine.tick(), Turn::Ended(Outcome::OutOfTicks));
+    assert_eq!(rt; machine.outcome(), Some(Outcome::OutOfTicks));
+    assert_eq!(rt; machine.position(), Window { a: 2, b: 0 });
+    assert_eq!(rt; machine.ticks(), 3);
+    assert_eq!(rt; machine.retired(), 2);
+    assert_eq!(rt; machine.older_steps(), 10);
+    assert_eq!(rt; machine.regs().get(Place::QWord(1)), 8);
+    assert_eq!(rt; machine.regs().get(Place::QWord(2)), 5);
+    assert_eq!(rt; machine.byte(8), Some(0x80));
+    assert_eq!(rt; machine.byte(0x0010_0000), None);
+    assert!(rt; !machine.tainted(0x2000_0000));
+    assert_eq!(rt; machine.output().len(), 0);
+    assert_eq!(rt; machine.memory_file(alloc)?.len(), 294_912);
+    Ok(())
+}
+
+#[test]
+fn schedules_tell_their_lines(rt: HostRuntime) -> Result<(), Fail> {
+    let alloc = rt.alloc();
+    let mut schedule = Schedule::begin(alloc, false, 0x2000_1000, 0x2000_2000, 0x2000_f000);
+    schedule.add(16_777_215, b"W", 0)?;
+    schedule.add(1, b"OO", 0)?;
+    assert_eq!(rt;
+        schedule.add(1, b"", 0),
+        Err(SchedErr::TooManyTicks { line: 7 })
+    );
+    assert!(rt; !schedule.entries());
+    assert_eq!(rt; schedule.region().0, 0x2000_1000);
+    assert_eq!(rt; schedule.region().1, 0x2000_2000);
+    assert_eq!(rt; schedule.floor(), 0x2000_f000);
+    assert_eq!(rt; schedule.ticks(), 16_777_216);
+    assert_eq!(rt; schedule.lines(), 2);
+    assert_eq!(rt; schedule.line(1).count, 1);
+    assert_eq!(rt; schedule.line(1).letters.as_slice(), b"OO".as_slice());
+    assert_eq!(rt; schedule.line(0).irq, 0);
+    Ok(())
+}
+
+#[test]
+fn instructions_keep_their_fields(rt: HostRuntime) {
+    assert_eq!(rt; Below::<8>::of(7), Some(Below::new(7)));
+    assert_eq!(rt; Below::<8>::of(8), None);
+    assert_eq!(rt; Below::<8>::new(5).get(), 5);
+    let bkpt = Scalar::S18(S18 { i: Below::new(1) });
+    assert_eq!(rt; width(&Instr::Scalar(bkpt)), 2);
 }
