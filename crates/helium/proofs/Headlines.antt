@@ -7,7 +7,7 @@ use Rattle.hm_base.specs.Image.{Segment, flat, flash_byte}
 use Rattle.hm_codes.specs.Listing.{Listing, IsListing}
 use Rattle.hm_codes.proofs.Unique.{fetched_one}
 use Rattle.hm_host.specs.Host.{FileMap, HostState, longest}
-use Rattle.hm_plain.proofs.Plain.{headline_plain}
+use Rattle.hm_plain.proofs.Halts.{headline_all}
 use Rattle.hm_run.specs.Report.{report_text, memory_text}
 use Rattle.hm_run.specs.Timed.{Timed}
 use Rattle.hm_state.specs.Start.{reset_pc}
@@ -16,6 +16,7 @@ use Rattle.helium.specs.declared.status.Status.TheVariants.{Done, Ended, Usage, 
 use Rattle.helium.specs.declared.work.Refusal.TheVariants.{Image, Reset}
 use Rattle.helium.specs.Commands.{AreListings, reported, unless_refused}
 use Rattle.helium.specs.Effect.{whole, then_read, reading_of, reads_for, effect, effect_after, effect_for, Carries, Does}
+use Rattle.hm_sched.specs.Schedule.{plain}
 use Rattle.helium.specs.Headline.{IsReported, RunsToHeadline}
 use Rattle.helium.specs.Image.{image_refusal}
 use Rattle.helium.specs.Run.{plain_run, is_halted, reset_refusal, run_refusal, or_refusal}
@@ -76,7 +77,7 @@ reported_by listing F P bytes memory n new s is h = record {
   files = h.files;
   headline = λ other are.
       let same = listing_one (flash_byte (flat bytes)) listing other is are in
-      headline_plain other (flat bytes) n _ _ (ap (λ l. report_text (plain_run l bytes n)) same) (ap (λ l. memory_text (plain_run l bytes n)) same);
+      headline_all other (flat bytes) (plain n) _ _ (ap (λ l. report_text (plain_run l bytes n)) same) (ap (λ l. memory_text (plain_run l bytes n)) same);
   ends = λ other are.
       let same = listing_one (flash_byte (flat bytes)) listing other is are in
       h.ends ∙ ap (λ l. if is_halted (plain_run l bytes n).outcome then Done else Ended) same;

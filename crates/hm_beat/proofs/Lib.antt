@@ -9,3 +9,4 @@ pub mod Meeting
 pub mod Ordered
 pub mod Lowest
 pub mod Clashes
+pub mod Remaining

@@ -6,7 +6,7 @@ use Rattle.hm_base.specs.declared.Place.TheVariants.{Sticky}
 use Rattle.hm_base.specs.declared.Span.{Span}
 use Rattle.hm_regs.specs.declared.Regs.{Regs}
 use Rattle.hm_mem.specs.Memory.{Memory}
-use Rattle.hm_state.specs.State.{At, Byte, Cell, Value, state_of}
+use Rattle.hm_state.specs.State.{At, Byte, Cell, State, Value, state_of}
 use Rattle.hm_beat.specs.Trees.{reach, reads_of, writes_of}
 use Rattle.hm_beat.specs.Rows.{Tree}
 
@@ -25,25 +25,31 @@ abbrev pub flag_places : Option (List Value → Bool) → List Place
 flag_places None = []
 flag_places (Some f) = Sticky ∷ []
 
-abbrev pub reads_at : Tree → Regs → Memory → List ℕ → List Cell
-reads_at t r m output = reads_of t (state_of r m output)
+-- in a state: the places in order, each once, and the bytes
+abbrev pub place_reads : Tree → State → List Place
+place_reads t s = listed (places_in (reads_of t s))
 
-abbrev pub writes_at : Tree → Regs → Memory → List ℕ → List Cell
-writes_at t r m output = writes_of t (state_of r m output)
+abbrev pub place_writes : Tree → State → List Place
+place_writes t s = listed (flag_places (reach t s).mark ++ places_in (writes_of t s))
 
--- the places in order, each once
+abbrev pub byte_loads : Tree → State → List ℕ
+byte_loads t s = bytes_in (reads_of t s)
+
+abbrev pub byte_stores : Tree → State → List ℕ
+byte_stores t s = bytes_in (writes_of t s)
+
+-- the same in the state that registers, a memory and an output make
 abbrev pub reads_in : Tree → Regs → Memory → List ℕ → List Place
-reads_in t r m output = listed (places_in (reads_at t r m output))
+reads_in t r m output = place_reads t (state_of r m output)
 
 abbrev pub writes_in : Tree → Regs → Memory → List ℕ → List Place
-writes_in t r m output = listed (flag_places (reach t (state_of r m output)).mark ++ places_in (writes_at t r m output))
+writes_in t r m output = place_writes t (state_of r m output)
 
--- the bytes
 abbrev pub loads_in : Tree → Regs → Memory → List ℕ → List ℕ
-loads_in t r m output = bytes_in (reads_at t r m output)
+loads_in t r m output = byte_loads t (state_of r m output)
 
 abbrev pub stores_in : Tree → Regs → Memory → List ℕ → List ℕ
-stores_in t r m output = bytes_in (writes_at t r m output)
+stores_in t r m output = byte_stores t (state_of r m output)
 
 -- so many bytes from an address on, after the first k of them
 abbrev pub span_rest : ℕ → ℕ → ℕ → List ℕ

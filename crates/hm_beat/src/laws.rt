@@ -1,14 +1,16 @@
 //! Laws of beats. The functions do nothing, and their clauses are what is proved.
 
-ghost use Rattle.std.specs.Prelude.{◌≡◌, ℕ, Bool, false, List, Ok, Result};
+ghost use Rattle.std.specs.Prelude.{◌≡◌, ℕ, ◌<◌, ◌≤◌, ◌↔◌, Bool, false, true, List, None, Ok, Result};
+ghost use Rattle.hm_base.specs.declared.Place.{Place};
 ghost use Rattle.hm_base.specs.declared.Stop.{Stop};
 ghost use Rattle.hm_mem.specs.declared.Actor.TheVariants.{Thread};
 ghost use Rattle.hm_mem.specs.Memory.{Around, Memory};
 ghost use Rattle.hm_regs.specs.declared.Regs.{Regs};
 ghost use Rattle.hm_lane.specs.Predicate.{predicate_of};
-ghost use Rattle.hm_order.specs.Beats.{ActionLaws, BeatLaws, StopsBy, beats, then};
+ghost use Rattle.hm_order.specs.Beats.{ActionLaws, Apart, BeatLaws, StopsBy, beats, then};
 ghost use Rattle.hm_state.specs.State.{Rest, State, cells, state_of};
-ghost use Rattle.hm_beat.specs.Laws.{Clean, KeepsLr, MayRun, is_tainted};
+ghost use Rattle.hm_beat.specs.Laws.{Clean, KeepsLr, MayRun, RowLaws, is_tainted};
+ghost use Rattle.hm_beat.specs.Meeting.{MeetAt, MeetsByte, MeetsPlace, Touches, byte_meets, clash_with, meeting, place_meets, touches_from};
 ghost use Rattle.hm_beat.specs.Ordered.{ordered};
 ghost use Rattle.hm_beat.specs.Rows.{Tree, predicate_at, retired};
 ghost use Rattle.hm_beat.specs.Trees.{action, view};
@@ -37,4 +39,18 @@ pub fn overlap<T: BeatWise>()
     // Where no byte is tainted, it does not stop for one.
     ensures calm { (x : Around) → x.actor ≡ Thread → (i : T) (s : State) → MayRun (T.tree i x) s → Clean s
         → StopsBy is_tainted (T.whole i x s) → ⊥ }
+{}
+
+/// Where a beat meets those that an older row has left. What two beats meet on is the first place in the order of places, and else
+/// the lowest byte; and where a beat clashes with none of the beats that are left, it can change places with each.
+pub fn clash_law()
+    ensures place { (a b : Touches) → MeetAt a b (meeting a b) }
+    // Several beats together meet on what one of them meets on.
+    ensures places { (t : ℕ → Tree) (k n : ℕ) (b : Touches) (s : State) (p : Place)
+        → (place_meets (touches_from t k n s) b p ≡ true) ↔ MeetsPlace t k n b s p }
+    ensures bytes { (t : ℕ → Tree) (k n : ℕ) (b : Touches) (s : State) (x : ℕ)
+        → (byte_meets (touches_from t k n s) b x ≡ true) ↔ MeetsByte t k n b s x }
+    ensures apart { (t u : Around → ℕ → Tree) (f g : Around → State → Result State Stop) → RowLaws t f → RowLaws u g
+        → (x : Around) (a b : ℕ) (s : State) → clash_with (t x) a (u x b) s ≡ None
+        → (k : ℕ) → a ≤ k → k < 4 → Apart (action cells (t x k)) (action cells (u x b)) s }
 {}

@@ -14,13 +14,13 @@ ghost use Rattle.hm_beat.specs.Laws.{Beats, Checks, RowLaws, run};
 ghost use Rattle.hm_beat.specs.Rows.{Tree};
 ghost use Rattle.hm_beat.specs.Touches.{loads_in, reads_in, spanned, stores_in, writes_in};
 
-pub use clash::{Clash, meet};
+pub use clash::{Clash, meet, sooner, together_law};
 use hm_base::{Places, Spans, Stop};
 use hm_mem::Mem;
 use hm_regs::Regs;
-pub use laws::{frame_law, overlap, rows_law};
+pub use laws::{clash_law, frame_law, overlap, rows_law};
 pub use notes::{note_advance, note_predicate, read_word};
-pub use pair::two;
+pub use pair::{meet_left, two};
 
 /// The places that a beat reads and writes, and the bytes of memory that it loads and stores.
 #[derive(Drop)]

@@ -1,21 +1,17 @@
 -- One tick of the machine.
-use Rattle.std.proofs.Common.{◌≡◌, ℕ, suc, zero, ◌+◌, ◌-◌, ◌≤◌, ◌<◌, arith, ap, refl, sym, ◌∙◌, subst, true, nat_lt, List, [], ◌∷◌, drop, drop-drop, length, length-drop, Ok, Err, Option, Some, None, add-one, add-zero, add-suc}
-use Rattle.std.proofs.lemmas.Bool.Decides.{nat_tests}
+use Rattle.std.proofs.Common.{◌≡◌, ℕ, suc, zero, ◌+◌, ◌-◌, ◌≤◌, ◌<◌, arith, ap, refl, sym, ◌∙◌, subst, true, List, [], ◌∷◌, drop, drop-drop, length, length-drop, Ok, Err, Option, Some, None, add-one, add-zero, add-suc}
 use Rattle.hm_base.specs.Image.{Segment}
 use Rattle.hm_codes.specs.Listing.{Listing, IsListing}
-use Rattle.hm_machine.specs.Cpus.{config_of, reached_by_tick, stopping}
 use Rattle.hm_machine.specs.Machines.{left_in, left_while, HasTick}
 use Rattle.hm_machine.specs.Shown.{Shown, Shows, timed_of}
-use Rattle.hm_machine.specs.declared.cpu.Cpu.{Cpu}
 use Rattle.hm_mem.specs.Memory.{Around, Memory, flash_at, first_devices}
-use Rattle.hm_order.specs.Machine.{Config}
+use Rattle.hm_order.specs.Machine.{Config, End}
 use Rattle.hm_regs.specs.declared.Regs.{Regs}
 use Rattle.hm_run.proofs.Steps as step
-use Rattle.hm_run.specs.declared.Cause.{Cause}
 use Rattle.hm_run.specs.declared.Outcome.{Outcome}
 use Rattle.hm_run.specs.declared.Outcome.TheVariants as outcome
-use Rattle.hm_run.specs.Program.{Program, core, letter_steps}
-use Rattle.hm_run.specs.Timed.{Timed, at_stop, may_end, next, outcome_of, thread_program, timed}
+use Rattle.hm_run.specs.Program.{Breach, Program, Stopping, core, letter_steps}
+use Rattle.hm_run.specs.Timed.{Timed, ended, may_end, next, thread_program, timed}
 use Rattle.hm_sched.specs.Schedule.{TickLine, Sched, repeat, ticks_of}
 use Rattle.hm_state.specs.State.{State, state_of}
 
@@ -33,12 +29,6 @@ some_left (x ∷ xs) used h =
 
 abbrev going : Option Outcome → Config State → Timed → Timed
 going o c x = record { outcome = o; config = c; acts = []; ticks = x.ticks + 1 }
-
--- where no younger instruction overlaps, a tick may end
-pub may_end_alone : (a b : ℕ) → a < 4 → b ≡ 0 → may_end a b ≡ true
-may_end_alone a b few none =
-    let test : nat_lt a 4 ≡ true = grind (arith, nat_tests) in
-    rw (none, test) refl
 
 module _ (M : Program) (o : Option Outcome) (left rest : List TickLine) (line : TickLine) (x : Timed) (c : Config State) where
   -- with ticks left the run goes on
@@ -59,15 +49,13 @@ module _ (M : Program) (o : Option Outcome) (left rest : List TickLine) (line : 
       ∙ step.out_of_ticks M line rest x c none e irq judged off nothing
       ∙ (λ i. next M (left_while (sym runs i) (sym first i)) x)
 
--- a tick in which an instruction stops
-pub ends : (M : Program) (o : Option Outcome) (left rest : List TickLine) (line : TickLine) (x : Timed) (cpu : Cpu) (e : Cause) (result : Outcome) (d : Config State)
-    → o ≡ None → x.outcome ≡ None → x.acts ≡ [] → left ≡ line ∷ rest → letter_steps M 0 line.letters x.config ≡ reached_by_tick (Err e) cpu
-    → result ≡ outcome_of (x.ticks + 1) [] (config_of cpu) (stopping e) → d ≡ at_stop (config_of cpu) (stopping e)
-    → going (Some result) d x ≡ next M (left_while o left) x
-ends M o left rest line x cpu e result d runs none acts first h er ed =
-    (λ i. record { outcome = Some (er i); config = ed i; acts = []; ticks = x.ticks + 1 })
-    ∙ (λ i. record { outcome = Some (outcome_of (x.ticks + 1) (sym acts i) (config_of cpu) (stopping e)); config = at_stop (config_of cpu) (stopping e); acts = sym acts i; ticks = x.ticks + 1 })
-    ∙ step.stops M line rest x (config_of cpu) (stopping e) none h
+-- a tick whose letters do not all go on
+pub ends : (M : Program) (o : Option Outcome) (left rest : List TickLine) (line : TickLine) (x : Timed) (e : End State Stopping Breach) (result : Outcome) (d : Config State)
+    → o ≡ None → x.outcome ≡ None → left ≡ line ∷ rest → letter_steps M 0 line.letters x.config ≡ Err e
+    → ended line x (Err e) ≡ going (Some result) d x → going (Some result) d x ≡ next M (left_while o left) x
+ends M o left rest line x e result d runs none first h is =
+    sym is ∙ sym (step.closed_ended rest (ended line x (Err e)) result (ap (λ (y : Timed). y.outcome) is))
+    ∙ sym (step.ticked M line rest x (Err e) none h)
     ∙ (λ i. next M (left_while (sym runs i) (sym first i)) x)
 
 -- SHOWING

@@ -3,10 +3,13 @@ use Rattle.std.specs.Prelude.{◌≡◌, ◌+◌, ◌<◌, ◌≤◌, false, IsT
 use Rattle.hm_mem.specs.Memory.{memory_of}
 use Rattle.hm_order.specs.Beats.{then}
 use Rattle.hm_order.specs.Machine as order
-use Rattle.hm_order.specs.Machine.{Config, older}
+use Rattle.hm_order.specs.Machine.{Config, End, older}
 use Rattle.hm_machine.specs.declared.cpu.Cpu.{Cpu}
+use Rattle.hm_machine.specs.declared.cpu.Trouble.{Trouble}
+use Rattle.hm_machine.specs.declared.cpu.Trouble.TheVariants as trouble
 use Rattle.hm_run.specs.declared.Cause.{Cause}
-use Rattle.hm_run.specs.Program.{Program, Stepped, Stopping, Ticked, again}
+use Rattle.hm_run.specs.declared.Rule.{Rule}
+use Rattle.hm_run.specs.Program.{Breach, Program, Stepped, Stopping, Ticked, again}
 use Rattle.hm_state.specs.State.{State, state_of}
 
 abbrev pub state_in : Cpu → State
@@ -29,19 +32,29 @@ reached (Err e) x = Err (order.Stopped (config_of x) e)
 abbrev pub stopping : Cause → Stopping
 stopping e = record { cause = e; younger = false }
 
+-- what a step of the younger answered
+abbrev pub reached_younger : Result Unit Rule → Cpu → Stepped
+reached_younger (Ok u) x = Ok (config_of x)
+reached_younger (Err r) x = Err (order.Broken (config_of x) r)
+
+-- why the letters of a tick do not all go on, where the machine stands so
+abbrev pub troubled : Trouble → Config State → End State Stopping Breach
+troubled (trouble.Stopped e) c = order.Stopped c (stopping e)
+troubled (trouble.Broken step r) c = order.Broken c (record { step = step; rule = r })
+
 -- the same of the letters of a tick
-abbrev pub reached_by_tick : Result Unit Cause → Cpu → Ticked
+abbrev pub reached_by_tick : Result Unit Trouble → Cpu → Ticked
 reached_by_tick (Ok u) x = Ok (config_of x)
-reached_by_tick (Err e) x = Err (order.Stopped (config_of x) (stopping e))
+reached_by_tick (Err e) x = Err (troubled e (config_of x))
 
 -- the older instruction to its end
 abbrev pub to_end : Program → Config State → Stepped
 to_end M c = then (older M c) (again M 3 c.n)
 
--- Where a machine may stand while no younger instruction overlaps: the older has less than four beats, and only a
--- vector row, which made a context, has some.
+-- Where a machine may stand: the older instruction has less than four beats and the younger two at most, and only a vector row,
+-- which made a context, has some.
 abbrev pub IsPosition : Cpu → Type 0
-IsPosition x = (x.window.a < 4) × (x.window.b ≡ 0) × (0 < x.window.a → IsTrue x.regs.fpca)
+IsPosition x = (x.window.a < 4) × (x.window.b ≤ 2) × (0 < x.window.a → IsTrue x.regs.fpca)
 
 -- what stays while instructions are done
 abbrev pub Keeps : Cpu → Cpu → Type 0

@@ -1,28 +1,30 @@
 //! The steps of the machine inside a tick.
 
-ghost use Rattle.std.specs.Prelude.{◌≡◌, ◌≢◌, ℕ, ◌+◌, ◌^◌, ◌<◌, ◌≤◌, not, nat_eq, nat_lt, ◌&&◌, ◌||◌, All, List, [], length, IsTrue, OnErr, Ok, Some};
+ghost use Rattle.std.specs.Prelude.{◌≡◌, ℕ, ◌+◌, ◌^◌, ◌<◌, ◌≤◌, not, nat_eq, nat_lt, ◌&&◌, ◌||◌, List, [], length, IsSome, IsTrue, OnErr, Ok, Err, Some, None};
 ghost use Rattle.hm_base.specs.declared.Place.TheVariants.{Ltp};
+ghost use Rattle.hm_beat.specs.Meeting.{clash_with};
 ghost use Rattle.hm_codes.specs.Listing.{Listing, IsListing};
 ghost use Rattle.hm_isa.specs.declared.Instr.TheVariants as instr;
 ghost use Rattle.hm_mem.specs.Memory.{Around, Memory, memory_of, flash_at};
-ghost use Rattle.hm_machine.specs.Cpus.{config_of, state_in, executed, reached, reached_by_tick, stopping, to_end, IsPosition, Keeps, CountsOne};
-ghost use Rattle.hm_order.specs.Machine.{Config, begin, older, settle};
+ghost use Rattle.hm_machine.specs.Cpus.{config_of, state_in, executed, reached, reached_by_tick, reached_younger, stopping, to_end, troubled, IsPosition, Keeps, CountsOne};
+ghost use Rattle.hm_order.specs.Machine.{Config, begin, older, settle, younger};
 ghost use Rattle.hm_regs.specs.Place.{value_at};
 ghost use Rattle.hm_rows.specs.Context.{with_context};
-ghost use Rattle.hm_rows.specs.Rows.{refuse, writes_lr};
-ghost use Rattle.hm_run.specs.Program.{core, rows, vector_of, again, letter_step, letter_steps};
-ghost use Rattle.hm_run.specs.Timed.{outcome_of, outcome_of_stop, at_stop};
-ghost use Rattle.hm_sched.specs.Schedule.{younger_letter};
+ghost use Rattle.hm_rows.specs.Rows.{refuse, vector_tree, writes_lr};
+ghost use Rattle.hm_run.specs.Program.{core, rows, vector_in, vector_of, again, at_step, letter_step, letter_steps, rule_of_clash, step_rule};
+ghost use Rattle.hm_run.specs.Timed.{Timed, ended, outcome_of, outcome_of_stop, at_stop, may_end};
+ghost use Rattle.hm_sched.specs.Schedule.{TickLine, younger_letter};
 ghost use Rattle.hm_state.specs.State.{State, state_of};
 
 use crate::scalar;
 use hm_base::{Fault, FaultKind, Place, Stop};
+use hm_beat::{Clash, meet_left};
 use hm_decode::fetch;
 use hm_isa::{Instr, Scalar, Vector};
 use hm_lane::context;
 use hm_mem::Mem;
 use hm_regs::Regs;
-use hm_run::{Cause, Offence, Outcome, Who, Window};
+use hm_run::{Cause, Offence, Outcome, Rule, Who, Window};
 use hm_varith::Arith;
 
 /// What instructions change, and how many were done.
@@ -34,6 +36,13 @@ pub struct Cpu {
     pub window: Window,
     pub retired: u64,
     pub older_steps: u64,
+}
+
+/// Why the letters of a tick do not all go on: an older instruction stops, or a step breaks a rule of overlap.
+#[derive(Clone, Copy)]
+pub enum Trouble {
+    Stopped(Cause),
+    Broken { step: u32, rule: Rule },
 }
 
 /// Whether one of the beats of a row writes lr.
@@ -222,23 +231,118 @@ fn whole(x: &mut Cpu) -> Result<(), Cause>
     rest(n, x)
 }
 
-/// What a letter of a schedule does. No schedule has a letter Y yet.
-fn letter(l: u8, x: &mut Cpu) -> Result<(), Cause>
-    requires older { l ≢ younger_letter }
+/// The vector instruction that this is, where it is one.
+fn as_vector(i: &Instr) -> Option<Vector>
+    ensures { result ≡ vector_in i.now }
+{
+    match i {
+        Instr::Scalar(_) => None,
+        Instr::Branch(i) => match *i {},
+        Instr::Vector(v) => Some(*v),
+    }
+}
+
+/// The vector instruction that stands at an address, where one does.
+fn vector_at(mem: &Mem, addr: u32) -> Option<Vector>
+    ensures row { (listing : Listing) → IsListing (flash_at (memory_of mem.now)) listing → result ≡ vector_of (listing addr) }
+    ensures room { IsSome result → addr + 4 < 2 ^ 32 }
+{
+    match fetch(mem, addr) {
+        Ok(i) => as_vector(&i),
+        Err(_) => None,
+    }
+}
+
+/// The rule that a clash breaks.
+fn rule_of(clash: Clash) -> Rule
+    ensures { result ≡ rule_of_clash clash }
+{
+    match clash {
+        Clash::Register(place) => Rule::Register { place },
+        Clash::Memory { addr } => Rule::Memory { addr },
+    }
+}
+
+/// Where beat `b` of `w`, the younger, meets the beats that `v` has left, from beat `a` on.
+fn clash(v: &Vector, a: u8, w: &Vector, b: u8, regs: &Regs) -> Option<Clash>
+    requires first { a < 4 }
+    requires second { b < 4 }
+    requires context { IsTrue regs.now.fpca }
+    ensures { (m : Memory) (output : List ℕ)
+        → result ≡ clash_with (vector_tree v.now m.around) a (vector_tree w.now m.around b) (state_of regs.now m output) }
+{
+    match (Arith::of(v), Arith::of(w)) {
+        (Some(older), Some(younger)) => meet_left(&older, a, &younger, b, regs),
+        _ => unreachable!(),
+    }
+}
+
+/// The first rule that the next beat of `w`, the younger, breaks against `v`.
+fn step_rule(v: &Vector, w: &Vector, at: Window, regs: &Regs) -> Option<Rule>
+    requires position { at.a < 4 }
+    requires context { 0 < at.a → IsTrue regs.now.fpca }
+    ensures value { (m : Memory) (output : List ℕ) (n steps : ℕ)
+        → result ≡ step_rule m.around (Some v.now) (Some w.now) (record { a = at.a; b = at.b; n = n; steps = steps; state = state_of regs.now m output }) }
+    ensures in_time { result ≡ None → (2 ≤ at.a) × (at.b < 2) }
+{
+    if at.a < 2 || at.b >= 2 {
+        return Some(Rule::Order);
+    }
+    if let Some(clash) = clash(v, at.a, w, at.b, regs) {
+        return Some(rule_of(clash));
+    }
+    match refuse(w, regs) {
+        Some(_) => Some(Rule::YoungerFault),
+        None => None,
+    }
+}
+
+/// The next beat of the younger instruction, unless it breaks a rule.
+fn younger(x: &mut Cpu) -> Result<(), Rule>
+    requires position { IsPosition x.old }
+    ensures value { (listing : Listing) → IsListing (flash_at (memory_of x.old.mem)) listing
+        → reached_younger result x.new ≡ younger (core listing (memory_of x.old.mem).around) (config_of x.old) }
+    ensures kept { Keeps x.old x.new }
+    ensures count { (x.new.retired ≡ x.old.retired) × (x.new.older_steps ≡ x.old.older_steps) }
+{
+    let Some(v) = vector_at(&x.mem, x.regs.pc) else {
+        return Err(Rule::NotVector);
+    };
+    let Some(w) = vector_at(&x.mem, x.regs.pc + 4) else {
+        return Err(Rule::NotVector);
+    };
+    match step_rule(&v, &w, x.window, &x.regs) {
+        Some(rule) => Err(rule),
+        None => {
+            beat(&w, x.window.b, &mut x.regs);
+            x.window.b += 1;
+            Ok(())
+        }
+    }
+}
+
+/// What a letter of a schedule does, the `step`-th of its tick.
+fn letter(step: u32, l: u8, x: &mut Cpu) -> Result<(), Trouble>
     requires count { (x.old.retired < 2 ^ 61) × (x.old.older_steps < 2 ^ 61) }
     requires position { IsPosition x.old }
     ensures value { (listing : Listing) → IsListing (flash_at (memory_of x.old.mem)) listing
-        → reached result x.new ≡ letter_step (core listing (memory_of x.old.mem).around) l (config_of x.old) }
+        → reached_by_tick result x.new ≡ at_step step (nat_eq l younger_letter) (letter_step (core listing (memory_of x.old.mem).around) l (config_of x.old)) }
     ensures kept { Keeps x.old x.new }
     ensures count { (x.new.retired ≤ x.old.retired + 4) × (x.new.older_steps ≤ x.old.older_steps + 4) }
 {
-    if l == b'O' { older(x) } else { whole(x) }
+    if l == b'Y' {
+        return younger(x).map_err(|rule| Trouble::Broken { step, rule });
+    }
+    if l == b'O' {
+        older(x).map_err(Trouble::Stopped)
+    } else {
+        whole(x).map_err(Trouble::Stopped)
+    }
 }
 
 /// The letters of a tick, up to the first that does not go on.
-pub fn letters(letters: &[u8], x: &mut Cpu) -> Result<(), Cause>
+pub fn letters(letters: &[u8], x: &mut Cpu) -> Result<(), Trouble>
     requires few { length letters.now ≤ 8 }
-    requires older { All (λ l. l ≢ younger_letter) letters.now }
     requires count { (x.old.retired < 2 ^ 60) × (x.old.older_steps < 2 ^ 60) }
     requires position { IsPosition x.old }
     ensures value { (listing : Listing) → IsListing (flash_at (memory_of x.old.mem)) listing
@@ -246,8 +350,10 @@ pub fn letters(letters: &[u8], x: &mut Cpu) -> Result<(), Cause>
     ensures kept { Keeps x.old x.new }
     ensures count { (x.new.retired ≤ x.old.retired + 32) × (x.new.older_steps ≤ x.old.older_steps + 32) }
 {
+    let mut step = 0;
     for l in letters {
-        letter(*l, x)?;
+        step += 1;
+        letter(step, *l, x)?;
     }
     Ok(())
 }
@@ -272,7 +378,7 @@ fn stop_outcome(tick: u32, stop: Stop, pc: u32, n: u64) -> Outcome
 }
 
 /// How a run ends by an instruction that stops. One that halts is retired, and its last step counts.
-pub fn conclude(tick: u32, cause: Cause, x: &mut Cpu) -> Outcome
+fn stopped(tick: u32, cause: Cause, x: &mut Cpu) -> Outcome
     requires { (x.old.retired < 2 ^ 63) × (x.old.older_steps < 2 ^ 63) }
     ensures outcome { result ≡ outcome_of tick [] (config_of x.old) (stopping cause) }
     ensures config { config_of x.new ≡ at_stop (config_of x.old) (stopping cause) }
@@ -292,4 +398,26 @@ pub fn conclude(tick: u32, cause: Cause, x: &mut Cpu) -> Outcome
         Cause::Full => Outcome::OutputFull { tick },
         Cause::Stop(stop) => stop_outcome(tick, stop, x.regs.pc, x.retired),
     }
+}
+
+/// How a run ends by a tick whose letters do not all go on.
+pub fn conclude(tick: u32, trouble: Trouble, x: &mut Cpu) -> Outcome
+    requires { (x.old.retired < 2 ^ 63) × (x.old.older_steps < 2 ^ 63) }
+    ensures ended { (line : TickLine) (y : Timed) → y.acts ≡ [] → y.ticks + 1 ≡ tick
+        → ended line y (Err (troubled trouble (config_of x.old))) ≡ record { outcome = Some result; config = config_of x.new; acts = []; ticks = tick } }
+    ensures memory { memory_of x.new.mem ≡ memory_of x.old.mem }
+    ensures position { (x.new.window ≡ x.old.window) × (x.new.regs ≡ x.old.regs) }
+    ensures count { (x.new.retired ≤ x.old.retired + 1) × (x.new.older_steps ≤ x.old.older_steps + 1) }
+{
+    match trouble {
+        Trouble::Stopped(cause) => stopped(tick, cause, x),
+        Trouble::Broken { step, rule } => Outcome::RuleBroken { tick, step, rule },
+    }
+}
+
+/// Whether a tick may end here: only where there is an ECI value for the position (DDI0553, "ECI").
+pub fn may_end(at: Window) -> bool
+    ensures { result ≡ may_end at.a at.b }
+{
+    (at.b == 0 && at.a < 4) || (at.a == 3 && at.b == 1)
 }

@@ -1,8 +1,8 @@
 //! The place of a run in its schedule.
 
-ghost use Rattle.std.specs.Prelude.{◌≡◌, ◌≢◌, ◌+◌, ◌-◌, ◌<◌, ◌≤◌, All, [], ◌∷◌, drop, suc, length, slice_get, Some, IfSome, IfNone};
+ghost use Rattle.std.specs.Prelude.{◌≡◌, ◌+◌, ◌-◌, ◌<◌, ◌≤◌, [], ◌∷◌, drop, suc, length, slice_get, Some, IfSome, IfNone};
 ghost use Rattle.hm_machine.specs.Machines.{left_at, StandsIn};
-ghost use Rattle.hm_sched.specs.Schedule.{line_of, repeat, ticks_of, younger_letter};
+ghost use Rattle.hm_sched.specs.Schedule.{line_of, repeat, ticks_of};
 
 use hm_sched::{Line, Schedule};
 
@@ -22,7 +22,6 @@ pub fn line_at<'a>(schedule: &'a Schedule, cursor: Cursor) -> &'a Line
     ensures some { cursor.used < result.now.count }
     ensures few { length result.now.letters.items ≤ 8 }
     ensures quiet { result.now.irq ≡ 0 }
-    ensures older { All (λ l. l ≢ younger_letter) result.now.letters.items }
 {
     let _known = schedule.lines();
     schedule.line(cursor.line)

@@ -1,13 +1,13 @@
 //! The machine.
 
-ghost use Rattle.std.specs.Prelude.{◌≡◌, ℕ, suc, ◌+◌, ◌-◌, ◌<◌, ◌≤◌, ◌↔◌, ◌%◌, List, [], length, drop, None, Some, IsSome, IfOk, IfErr, IsTrue};
+ghost use Rattle.std.specs.Prelude.{◌≡◌, ℕ, suc, ◌+◌, ◌-◌, ◌<◌, ◌≤◌, ◌↔◌, ◌%◌, false, List, [], length, drop, None, Some, IsSome, IfOk, IfErr, IsTrue};
 ghost use Rattle.hm_base.specs.Image.{Segment, flash_byte};
 ghost use Rattle.hm_codes.specs.Listing.{Listing, IsListing};
 ghost use Rattle.hm_machine.specs.Machines.{StandsIn};
 ghost use Rattle.hm_machine.specs.Shown.{Shows, timed_of};
 ghost use Rattle.hm_machine.specs.Turns.{turned, LoadRefuses};
 ghost use Rattle.hm_mem.specs.Memory.{flash_at, told_at, tainted_at};
-ghost use Rattle.hm_run.specs.Headline.{Headline, PlainReport};
+ghost use Rattle.hm_run.specs.Headline.{Headline, PlainReport, Riders};
 ghost use Rattle.hm_run.specs.InOrder.{in_order};
 ghost use Rattle.hm_run.specs.Program.{core};
 ghost use Rattle.hm_run.specs.Report.{report_text, memory_text};
@@ -16,14 +16,14 @@ ghost use Rattle.hm_sched.specs.Schedule.{Sched, plain, ticks_of, most_ticks};
 ghost use Rattle.hm_state.specs.Start.{reset_pc};
 ghost use Rattle.hm_state.specs.State.{regs_of};
 
-use crate::cpu::{Cpu, conclude, letters};
+use crate::cpu::{Cpu, conclude, letters, may_end};
 use crate::cursor::{Cursor, after_tick, line_at};
 use crate::load::{LoadErr, flash_word};
 use crate::memory_text::memory_text;
 use hm_base::{Image, OutOfMemory};
 use hm_mem::Mem;
 use hm_regs::Regs;
-use hm_run::{Outcome, Turn, Window};
+use hm_run::{Outcome, Rule, Turn, Window};
 use hm_sched::Schedule;
 use std::alloc::Global;
 use std::marker::Model;
@@ -64,6 +64,13 @@ fn first_outcome(schedule: &Schedule) -> Option<Outcome>
     } else {
         None
     }
+}
+
+/// The rule that no tick ends at this position.
+fn ending(at: Window) -> Rule
+    ensures { result ≡ Rule.Ending at.a at.b }
+{
+    Rule::Ending { a: at.a, b: at.b }
 }
 
 impl Machine {
@@ -177,13 +184,24 @@ impl Machine {
     {
         self.ticks += 1;
         let line = line_at(&self.schedule, self.cursor);
+        let steps = line.letters.len() as u32;
         let reached = letters(line.letters.as_slice(), &mut self.cpu);
         match reached {
-            Ok(()) => match after_tick(&self.schedule, self.cursor) {
-                Some(cursor) => self.cursor = cursor,
-                None => self.outcome = Some(Outcome::OutOfTicks),
-            },
-            Err(cause) => self.outcome = Some(conclude(self.ticks, cause, &mut self.cpu)),
+            Ok(()) => {
+                if !may_end(self.cpu.window) {
+                    self.outcome = Some(Outcome::RuleBroken {
+                        tick: self.ticks,
+                        step: steps,
+                        rule: ending(self.cpu.window),
+                    });
+                    return;
+                }
+                match after_tick(&self.schedule, self.cursor) {
+                    Some(cursor) => self.cursor = cursor,
+                    None => self.outcome = Some(Outcome::OutOfTicks),
+                }
+            }
+            Err(trouble) => self.outcome = Some(conclude(self.ticks, trouble, &mut self.cpu)),
         }
     }
 
@@ -220,9 +238,14 @@ impl Machine {
         // From the start of a plain schedule the report is that of the instructions in order; of a fault the first line.
         ensures plain { (image : List Segment) (n : ℕ) (listing : Listing) → IsListing (flash_byte image) listing → Shows image (plain n) 0 self.old
             → PlainReport (timed_of self.new) (in_order listing image n) }
-        // Where it halts after n instructions, they halt there in order, with this report and these bytes of memory.
-        ensures headline { (image : List Segment) (n : ℕ) (listing : Listing) → IsListing (flash_byte image) listing → Shows image (plain n) 0 self.old
+        // From the start of any schedule without entries, where it halts after n instructions, they halt there in order, with this
+        // report and these bytes of memory.
+        ensures headline { (image : List Segment) (s : Sched) (listing : Listing) → IsListing (flash_byte image) listing → s.entries ≡ false
+            → Shows image s 0 self.old
             → Headline listing image (timed_of self.new) (report_text (timed_of self.new)) (memory_text (timed_of self.new)) }
+        // Where the thread has a fault, the output is full or the ticks are out, these are the next instruction's in order.
+        ensures riders { (image : List Segment) (s : Sched) (listing : Listing) → IsListing (flash_byte image) listing → s.entries ≡ false
+            → Shows image s 0 self.old → Riders listing image (timed_of self.new) }
     {
         while self.is_running() {
             let _turn = self.tick();

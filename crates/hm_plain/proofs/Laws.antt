@@ -1,5 +1,6 @@
 -- The machine of a program keeps the laws of the machine that overlaps beats.
-use Rattle.std.proofs.Common.{◌≡◌, ℕ, ◌+◌, ◌%◌, ◌^◌, ◌&&◌, ◌||◌, ap, refl, sym, ◌∙◌, subst, Bool, true, false, not, eqb, nat_lt, cond, Option, Some, None, Result, Ok, Err, inl, inr, ⊎_elim, ◌⊎◌}
+use Rattle.std.proofs.Common.{◌≡◌, ℕ, ◌+◌, ◌%◌, ◌^◌, ◌<◌, ◌≤◌, arith, ◌&&◌, ◌||◌, ap, refl, sym, ◌∙◌, subst, Bool, true, false, not, eqb, nat_lt, cond, Option, Some, None, Result, Ok, Err, inl, inr, ⊎_elim, ◌⊎◌}
+use Rattle.std.proofs.lemmas.Bool.Decides.{nat_tests}
 use Rattle.std.specs.Option.{is_none}
 use Rattle.hm_base.specs.Place.{same_place, fit}
 use Rattle.hm_base.specs.declared.Fault.{Fault}
@@ -16,7 +17,7 @@ use Rattle.hm_isa.specs.declared.narrow.S3.{S3}
 use Rattle.hm_isa.specs.declared.narrow.S4.{S4}
 use Rattle.hm_mem.specs.Memory.{Around}
 use Rattle.hm_mem.specs.declared.Actor.TheVariants.{Thread}
-use Rattle.hm_order.specs.Beats.{ActionLaws, AgreeOn, Alike, BeatLaws, Live, AlikeAs, Same, SameBeat, SameTouch, StopsBy, beats, then}
+use Rattle.hm_order.specs.Beats.{ActionLaws, AgreeOn, Alike, Apart, BeatLaws, Live, AlikeAs, Same, SameBeat, SameTouch, StopsBy, beats, then}
 use Rattle.hm_order.specs.Machine.{CoreLaws, Clean, Config, Lawful, next, next_of}
 use Rattle.hm_order.proofs.Results.{ok_err, ok_same}
 use Rattle.hm_state.specs.State.{State, At, Byte, Cell, Value, Rest, word, at, cells, put_at}
@@ -31,8 +32,12 @@ use Rattle.hm_rows.specs.Context.{context_cell, with_context}
 use Rattle.hm_rows.specs.Rows.{refuse, vector_tree, vector_whole, writes_lr}
 use Rattle.hm_run.specs.declared.Cause.{Cause}
 use Rattle.hm_run.specs.declared.Cause.TheVariants as cause
+use Rattle.hm_run.specs.declared.Rule.{Rule}
 use Rattle.hm_run.specs.declared.Rule.TheVariants as rule
-use Rattle.hm_run.specs.Program.{Watched, In, Beside, Held, Holds, Others, open_rest, held, dead, view, rows, core, alone, begins, caused, cause_of, in_machine, is_ready, is_tainted, lifted, made_by, on_cell, ready_state, step_rule, unless_refused, vector_of, whole_here}
+use Rattle.hm_beat.specs.declared.clash.Clash.{Clash}
+use Rattle.hm_beat.specs.Meeting.{clash_with}
+use Rattle.hm_beat.proofs.Remaining.{left_apart}
+use Rattle.hm_run.specs.Program.{Watched, In, Beside, Held, Holds, Others, open_rest, held, dead, view, rows, core, alone, begins, caused, cause_of, in_machine, is_ready, is_tainted, lifted, made_by, on_cell, ready_state, clash_or, is_too_early, overlap_rule, refusal_rule, rule_of_clash, step_rule, unless_refused, vector_of, whole_here}
 use Rattle.hm_run.specs.Rows as row
 use Rattle.hm_run.specs.Rows.{WholeStop, negative, with_nz, with_sum_flags, go_on, movs, adds}
 use Rattle.hm_rows.proofs.Rows.{keeps_lr, row_laws}
@@ -49,13 +54,13 @@ rest_in r (Holds v) = r
 rest_in r (Others t) = t
 
 -- what the machine and the order agree on, cell by cell
-record Agree (s t : State) : Type 0 where
-  places : (p : Place) → s.cell (At p) ≡ t.cell (At p)
-  bytes : (a : ℕ) → (s.cell (Byte a)).taint ≡ false → s.cell (Byte a) ≡ t.cell (Byte a)
-  sticky : s.sticky ≡ t.sticky
-  rest : open_rest s.rest ≡ open_rest t.rest
+pub record Agree (s t : State) : Type 0 where
+  pub places : (p : Place) → s.cell (At p) ≡ t.cell (At p)
+  pub bytes : (a : ℕ) → (s.cell (Byte a)).taint ≡ false → s.cell (Byte a) ≡ t.cell (Byte a)
+  pub sticky : s.sticky ≡ t.sticky
+  pub rest : open_rest s.rest ≡ open_rest t.rest
 
-agree : (s t : State) → Live view s t → Agree s t
+pub agree : (s t : State) → Live view s t → Agree s t
 agree s t h = record {
   places = λ p. ap (value_in (s.cell (At p))) (h.cells (In (At p)) refl);
   bytes = λ a clean. ap (value_in (s.cell (Byte a))) (h.cells (In (Byte a)) clean);
@@ -194,19 +199,13 @@ module _ (listing : Listing) (around : Around) where
   clean_bytes s h a = h (In (Byte a))
 
   clean_after : around.actor ≡ Thread → (s t : State) → Clean (core listing around) s → alone listing s ≡ Ok t → Clean (core listing around) t
-  clean_after thread s t h e = clean_of t (subst (Leaves s) e (leaves around thread (listing s.pc) s (clean_bytes s h))).0
+  clean_after thread s t h e = clean_of t (subst Leaves e (leaves around thread (listing s.pc) s (clean_bytes s h)))
 
 -- STOPS AND RULES
 untainted : (w : WholeStop) → is_tainted (cause_of w) ≡ false
 untainted (row.Halt reason) = refl
 untainted row.Full = refl
 untainted (row.Faults f) = refl
-
--- no younger step may go yet
-lawful : (listing : Listing) (around : Around) (o p : Option Vector) (c : Config State) → step_rule o p c ≡ None → Lawful (core listing around) o p c
-lawful listing around None p c e = let no : Some rule.NotVector ≡ None = e in absurd cc
-lawful listing around (Some i) None c e = let no : Some rule.NotVector ≡ None = e in absurd cc
-lawful listing around (Some i) (Some j) c e = let no : Some rule.Order ≡ None = e in absurd cc
 
 broken : (b : Bool) → cond b None (Some rule.YoungerFault) ≡ None → b ≡ true
 broken true e = refl
@@ -304,6 +303,67 @@ module _ (x : Around) (thread : x.actor ≡ Thread) where
     ready_live = ready_live;
   }
 
+  -- WHAT THE RULES LET THROUGH
+  of_four_is : (t : ℕ → Tree) (k : ℕ) → k < 4 → of_four t k ≡ t k
+  of_four_is t k low = let test : nat_lt k 4 ≡ true = grind (arith, nat_tests) in ap (λ (b : Bool). cond b (t k) nothing) test
+
+  apart_lifted : (t u : Tree) (s : State) → Apart (action cells t) (action cells u) s → Apart (lifted (action cells t)) (lifted (action cells u)) s
+  apart_lifted t u s h = record { uses = uses; used = used; sets = sets }
+    where
+      uses : (w : Watched) → on_cell ((action cells u).sets s) w ≡ true → on_cell ((action cells t).uses s) w ≡ false
+      uses (In c) e = h.uses c e
+      uses Beside e = refl
+
+      used : (w : Watched) → on_cell ((action cells t).sets s) w ≡ true → on_cell ((action cells u).uses s) w ≡ false
+      used (In c) e = h.used c e
+      used Beside e = refl
+
+      sets : (w : Watched) → on_cell ((action cells u).sets s) w ≡ true → on_cell ((action cells t).sets s) w ≡ false
+      sets (In c) e = h.sets c e
+      sets Beside e = refl
+
+  clash_apart : (v w : Vector) (c : Config State) → clash_with (vector_tree v x) c.a (vector_tree w x c.b) c.state ≡ None → c.b < 2
+      → (k : ℕ) → c.a ≤ k → k < 4 → Apart ((rows x).act v k) ((rows x).act w c.b) c.state
+  clash_apart v w c none few k low high =
+      let below : c.b < 4 = omega arith in
+      subst (λ (t : Tree). Apart (lifted (action cells t)) ((rows x).act w c.b) c.state) (sym (of_four_is (vector_tree v x) k high))
+      (subst (λ (u : Tree). Apart (lifted (action cells (vector_tree v x k))) (lifted (action cells u)) c.state) (sym (of_four_is (vector_tree w x) c.b below))
+      (apart_lifted (vector_tree v x k) (vector_tree w x c.b) c.state
+      (left_apart (vector_tree v) (vector_tree w) _ _ (row_laws v) (row_laws w) x c.a c.b c.state none k low high)))
+
+  no_clash_or : (o : Option Clash) (r : Option Rule) → clash_or o r ≡ None → (o ≡ None) × (r ≡ None)
+  no_clash_or (Some y) r e = let no : Some (rule_of_clash y) ≡ None = e in absurd cc
+  no_clash_or None r e = (refl, e)
+
+  no_refusal : (b : Bool) → cond b None (Some rule.YoungerFault) ≡ None → b ≡ true
+  no_refusal true e = refl
+  no_refusal false e = let no : Some rule.YoungerFault ≡ None = e in absurd cc
+
+  in_time : (b : Bool) (r : Option Rule) → cond b (Some rule.Order) r ≡ None → (b ≡ false) × (r ≡ None)
+  in_time true r e = let no : Some rule.Order ≡ None = e in absurd cc
+  in_time false r e = (refl, e)
+
+  lawful : (listing : Listing) (o p : Option Vector) (c : Config State) → step_rule x o p c ≡ None → Lawful (core listing x) o p c
+  lawful listing None p c e = let no : Some rule.NotVector ≡ None = e in absurd cc
+  lawful listing (Some v) None c e = let no : Some rule.NotVector ≡ None = e in absurd cc
+  lawful listing (Some v) (Some w) c e =
+      let time = in_time (is_too_early c) (overlap_rule x v w c) e in
+      let free = no_clash_or (clash_with (vector_tree v x) c.a (vector_tree w x c.b) c.state) (refusal_rule w c.state) time.1 in
+      let late = late_of c time.0 in
+      record {
+        older = v;
+        younger = w;
+        here = refl;
+        there = refl;
+        late = late.0;
+        few = late.1;
+        ready = no_refusal (is_ready w c.state) free.1;
+        apart = clash_apart v w c free.0 late.1;
+      }
+    where
+      late_of : (c : Config State) → is_too_early c ≡ false → (2 ≤ c.a) × (c.b < 2)
+      late_of c e = (grind (arith, nat_tests), grind (arith, nat_tests))
+
   -- WHOLE ROWS
   four_beats_end : (v : Vector) (s w : State) (f : Four (vector_tree v x) s w) → beats (rows x) v 0 4 s ≡ Ok f.four
   four_beats_end v s w f =
@@ -385,6 +445,6 @@ laws listing around thread = record {
   jump_same = λ p s. record { cells = λ c. elim c as (λ c. held (record s { pc = p }) c ≡ held s c) [ In d ↦ refl | Beside ↦ refl ]; sticky = refl };
   other_live = λ s t h e none clean. other_live listing s t h e none;
   untainted = untainted;
-  lawful = lawful listing around;
+  lawful = lawful around thread listing;
   faults = λ e. broken (is_tainted e);
 }

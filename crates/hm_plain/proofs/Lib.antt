@@ -2,6 +2,9 @@ pub mod Vectors
 pub mod Wholes
 pub mod Orders
 pub mod Ends
-pub mod Plain
 pub mod Laws
+pub mod Sequence
+pub mod Readings
 pub mod Ticks
+pub mod Halts
+pub mod Plain

@@ -1,5 +1,5 @@
 -- After each tick the machine agrees with the instructions in order.
-use Rattle.std.proofs.Common.{◌≡◌, ℕ, zero, suc, ◌==◌, ◌+◌, ◌-◌, ◌%◌, arith, ap, refl, sym, ◌∙◌, subst, inl, ⊎_elim, Bool, true, false, cond, List, [], ◌∷◌, drop, length, Option, Some, None, Ok, Err}
+use Rattle.std.proofs.Common.{◌≡◌, ℕ, zero, suc, ◌==◌, ◌+◌, ◌-◌, ◌%◌, arith, ap, refl, sym, ◌∙◌, subst, inl, ⊎_elim, eqb-true, Bool, true, false, cond, List, [], ◌∷◌, drop, length, Option, Some, None, Result, Ok, Err}
 use Rattle.hm_base.specs.Image.{Segment}
 use Rattle.hm_base.specs.declared.Stop.TheVariants as stop
 use Rattle.hm_base.specs.declared.Fault.{Fault}
@@ -9,31 +9,32 @@ use Rattle.hm_mem.specs.Memory.{Around, thread_under}
 use Rattle.hm_mem.specs.declared.Actor.TheVariants as actor
 use Rattle.hm_mem.specs.declared.Dev.{Dev}
 use Rattle.hm_order.specs.Beats.{Live, then}
-use Rattle.hm_order.specs.Machine.{Config, Stopped, Broken, Restores, StopsInOrder, next as next_in_order, next_of, older, seq, younger}
+use Rattle.hm_order.specs.Machine.{Config, Stopped, Broken, Restores, StopsInOrder, did, fault_end, next as next_in_order, next_of, older, seq, younger, younger_of}
 use Rattle.hm_order.specs.Position.{Holds, Agrees, Explains, StopsAt}
-use Rattle.hm_order.proofs.Headline.{explained, stop_n, unmade}
-use Rattle.hm_order.proofs.Results.{ok_same}
+use Rattle.hm_order.proofs.Headline.{explained, stop_n, stop_position, unmade}
+use Rattle.hm_order.proofs.Results.{err_same, ok_err, ok_same, true_not_false}
 use Rattle.hm_order.proofs.Steps.{cond_agrees, interrupt_holds, older_agrees, then_agrees, younger_agrees}
+use Rattle.hm_beat.specs.Laws.{Clean}
 use Rattle.hm_rows.specs.Context.{with_context}
 use Rattle.hm_rows.specs.Rows.{refuse, vector_whole}
 use Rattle.hm_run.specs.declared.Cause.{Cause}
 use Rattle.hm_run.specs.declared.Cause.TheVariants as cause
 use Rattle.hm_run.specs.declared.Outcome.{Outcome}
 use Rattle.hm_run.specs.declared.Outcome.TheVariants as outcome
-use Rattle.hm_run.specs.declared.Reason.{Reason}
+use Rattle.hm_run.specs.declared.Rule.{Rule}
 use Rattle.hm_run.specs.declared.Rule.TheVariants as rule
 use Rattle.hm_run.specs.declared.Who.{Who}
 use Rattle.hm_run.specs.declared.Who.TheVariants.{Thread, Handler, Entry}
 use Rattle.hm_run.specs.Program.{Program, Watched, In, Beside, Stepped, Stopping, Ticked, core, view, held, dead, open_devices, cause_of, is_tainted, again, letter_step, at_step, letter_steps, made_by, unless_refused, vector_of}
 use Rattle.hm_run.specs.Rows as row
 use Rattle.hm_run.specs.Rows.{WholeStop}
-use Rattle.hm_run.specs.Timed.{Timed, begin, who_runs, outcome_of, pc_of, at_stop, expired, counted, arrived, with_devices, may_end, ended, tick_of, closed, or_out, next, thread_program, timed}
+use Rattle.hm_run.specs.Timed.{Timed, begin, who_runs, outcome_of, at_stop, expired, counted, arrived, with_devices, may_end, ended, tick_of, closed, or_out, next, thread_program, timed}
 use Rattle.hm_sched.specs.Schedule.{TickLine, Sched, older_letter, younger_letter, ticks_of}
 use Rattle.hm_state.specs.Start.{start, start_under}
 use Rattle.hm_state.specs.State.{State}
-use Rattle.hm_plain.specs.Overlap.{Keeps, KeepsOrder}
+use Rattle.hm_plain.specs.Overlap.{Keeps, KeepsOrder, StopsBetween}
+use Rattle.hm_plain.specs.Sequence.{FaultsAt}
 use Rattle.hm_plain.proofs.Laws.{laws, clean_of}
-use Rattle.hm_plain.proofs.Plain.{clean_first}
 
 -- THE DEVICES
 -- what ticks and interrupts change of the devices is nothing that the thread reads
@@ -75,16 +76,38 @@ module _ (listing : Listing) (around : Around) (thread : around.actor ≡ actor.
       (cond_agrees machine first (l == younger_letter) _ _ (younger_agrees machine (laws listing around thread) first c h)
       (then_agrees machine first (older machine c) (again machine 3 c.n) older_one (again_agrees 3 c.n)))
 
+  -- a younger beat that stops and breaks no rule is tainted
+  abbrev OnlyTaint : Stepped → Type 0
+  OnlyTaint (Ok c) = Unit {0}
+  OnlyTaint (Err (Stopped c e)) = is_tainted e ≡ true
+  OnlyTaint (Err (Broken c r)) = Unit {0}
+
+  fault_only : (c : Config State) (e : Cause) (b : Bool) → is_tainted e ≡ b → OnlyTaint (Err (fault_end machine (cond b None (Some rule.YoungerFault)) c e))
+  fault_only c e true h = h
+  fault_only c e false h = tt
+
+  did_only : (c : Config State) (r : Result State Cause) → OnlyTaint (did machine c r)
+  did_only c (Ok t) = tt
+  did_only c (Err e) = fault_only c e (is_tainted e) refl
+
+  younger_only : (c : Config State) (b : Option Rule) (o : Option Vector) → OnlyTaint (younger_of machine b o c)
+  younger_only c (Some b) o = tt
+  younger_only c None (Some j) = did_only c ((machine.rows.act j c.b).run c.state)
+  younger_only c None None = tt
+
+  letter_only : (l : ℕ) (c : Config State) → (l == younger_letter) ≡ true → OnlyTaint (letter_step machine l c)
+  letter_only l c is = subst (λ (k : ℕ). OnlyTaint (letter_step machine k c)) (sym (eqb-true l younger_letter is)) (younger_only c _ _)
+
   -- what the letters of a tick may come to
   abbrev AgreesTick : Ticked → Type 0
   AgreesTick (Ok c) = Holds machine first c
-  AgreesTick (Err (Stopped c e)) = StopsAt machine first c e.cause
+  AgreesTick (Err (Stopped c e)) = StopsAt machine first c e.cause × (e.younger ≡ true → is_tainted e.cause ≡ true)
   AgreesTick (Err (Broken c r)) = Unit {0}
 
-  at_step_agrees : (k : ℕ) (younger : Bool) (r : Stepped) → Agrees machine first r → AgreesTick (at_step k younger r)
-  at_step_agrees k younger (Ok c) h = h
-  at_step_agrees k younger (Err (Stopped c e)) h = h
-  at_step_agrees k younger (Err (Broken c r)) h = tt
+  at_step_agrees : (k : ℕ) (younger : Bool) (r : Stepped) → Agrees machine first r → (younger ≡ true → OnlyTaint r) → AgreesTick (at_step k younger r)
+  at_step_agrees k younger (Ok c) h only = h
+  at_step_agrees k younger (Err (Stopped c e)) h only = (h, only)
+  at_step_agrees k younger (Err (Broken c r)) h only = tt
 
   then_tick : (r : Ticked) (f : Config State → Ticked) → AgreesTick r → ((c : Config State) → Holds machine first c → AgreesTick (f c)) → AgreesTick (then r f)
   then_tick (Ok c) f h k = k c h
@@ -95,30 +118,50 @@ module _ (listing : Listing) (around : Around) (thread : around.actor ≡ actor.
   letters_agree [] k c h = h
   letters_agree (l ∷ ls) k c h =
       then_tick (at_step (k + 1) (l == younger_letter) (letter_step machine l c)) (letter_steps machine (k + 1) ls)
-      (at_step_agrees (k + 1) (l == younger_letter) (letter_step machine l c) (letter_agrees l c h)) (letters_agree ls (k + 1))
+      (at_step_agrees (k + 1) (l == younger_letter) (letter_step machine l c) (letter_agrees l c h) (letter_only l c)) (letters_agree ls (k + 1))
 
   -- STOPS
-  -- no vector row halts
-  row_goes_on : (v : Vector) (o : Option Fault) (s : State) (reason : Reason) → then (unless_refused o s) (λ u. Ok (vector_whole v u)) ≡ Err (row.Halt reason) → ⊥
-  row_goes_on v (Some f) s reason e = cc
-  row_goes_on v None s reason e = cc
+  -- a vector row stops for a fault alone
+  abbrev is_fault : WholeStop → Bool
+  is_fault (row.Halt reason) = false
+  is_fault row.Full = false
+  is_fault (row.Faults f) = true
 
-  no_row_halts : (s : State) (reason : Reason) → next_in_order machine s ≡ Err (row.Halt reason) → (o : Option Vector) → vector_of (listing s.pc) ≡ o → o ≡ None
-  no_row_halts s reason e None here = refl
-  no_row_halts s reason e (Some v) here =
-      absurd (row_goes_on v (refuse v (with_context s)) (with_context s) reason (sym (ap (λ (o : Option Vector). next_of machine o s) here) ∙ e))
+  row_faults : (v : Vector) (o : Option Fault) (s : State) (w : WholeStop) → then (unless_refused o s) (λ u. Ok (vector_whole v u)) ≡ Err w → is_fault w ≡ true
+  row_faults v (Some f) s w e = ap is_fault (sym (err_same e))
+  row_faults v None s w e = absurd (ok_err e)
+
+  no_row_stops : (s : State) (w : WholeStop) → is_fault w ≡ false → next_in_order machine s ≡ Err w → (o : Option Vector) → vector_of (listing s.pc) ≡ o → o ≡ None
+  no_row_stops s w other e None here = refl
+  no_row_stops s w other e (Some v) here =
+      true_not_false (is_fault w)
+      (row_faults v (refuse v (with_context s)) (with_context s) w (sym (ap (λ (o : Option Vector). next_of machine o s) here) ∙ e)) other
+
+  -- the order's state is one
+  one_order : (n : ℕ) (s t : State) → seq machine n first ≡ Ok s → seq machine n first ≡ Ok t → s ≡ t
+  one_order n s t e f = ok_same (sym e ∙ f)
 
   -- so the machine halts between two instructions, at one that makes no context
-  halts_between : (d : Config State) (reason : Reason) (h : StopsAt machine first d (cause.Halt reason)) → StopsInOrder machine first d.n (row.Halt reason)
-      → (d.a ≡ 0) × (machine.made h.before.state ≡ h.before.state)
-  halts_between d reason h k =
+  stops_between : (d : Config State) (w : WholeStop) (h : StopsAt machine first d (cause_of w)) → is_fault w ≡ false → StopsInOrder machine first d.n w
+      → StopsBetween machine first d.n w d
+  stops_between d w h other k =
       let y = h.holds.order in
-      let same : k.state ≡ y = ok_same (sym k.runs ∙ ap (λ (n : ℕ). seq machine n first) (stop_n machine first d (cause.Halt reason) h) ∙ h.holds.runs) in
+      let same : k.state ≡ y = one_order d.n k.state y k.runs (ap (λ (n : ℕ). seq machine n first) (stop_n machine first d (cause_of w) h) ∙ h.holds.runs) in
       let none : vector_of (listing y.pc) ≡ None
-      = no_row_halts y reason (ap (λ (s : State). next_in_order machine s) (sym same) ∙ k.stop) (vector_of (listing y.pc)) refl in (
-        ap (λ (c : Config State). c.a) h.left ∙ ⊎_elim (λ p. p.a) (λ p. let no : None ≡ Some p.row = sym none ∙ p.here in absurd cc) h.holds.place,
-        ap (λ (o : Option Vector). made_by o h.before.state) (ap (λ (p : ℕ). vector_of (listing p)) h.holds.pc ∙ none),
-      )
+      = no_row_stops y w other (ap (λ (s : State). next_in_order machine s) (sym same) ∙ k.stop) (vector_of (listing y.pc)) refl in
+      let place : (h.before.a ≡ 0) × (h.before.b ≡ 0) = ⊎_elim (λ p. (p.a, p.b)) (λ p. let no : None ≡ Some p.row = sym none ∙ p.here in absurd cc) h.holds.place in
+      let at : d.a ≡ 0 = ap (λ (c : Config State). c.a) h.left ∙ place.0 in
+      let still : machine.made h.before.state ≡ h.before.state
+      = ap (λ (o : Option Vector). made_by o h.before.state) (ap (λ (p : ℕ). vector_of (listing p)) h.holds.pc ∙ none) in
+      let io = unmade machine first d (cause_of w) h at still in
+      record {
+        order = io.state;
+        stops = record { runs = io.runs; stop = ap (λ (s : State). next_in_order machine s) (one_order d.n io.state k.state io.runs k.runs) ∙ k.stop };
+        a = at;
+        b = ap (λ (c : Config State). c.b) h.left ∙ place.1;
+        live = io.live;
+        pc = io.pc;
+      }
 
   -- the stop of the next instruction in order, where the cause is none of taint
   abbrev NextStops : ℕ → Cause → Type 0
@@ -143,23 +186,42 @@ module _ (listing : Listing) (around : Around) (thread : around.actor ≡ actor.
   next_stops : (n : ℕ) (e : Cause) → Explains machine first n e → NextStops n e
   next_stops n e h = ⊎_elim (tainted_stops n e) (λ q. subst (NextStops n) q.1 (next_stops_of n q.0 q.2)) h
 
-  fault_keeps : (who : Who) (f : Fault) (pc n : ℕ) (d : Config State) → StopsInOrder machine first n (row.Faults f) → Keeps machine first (Some (outcome.Fault who f pc n)) d
+  -- a fault is that of an older instruction, at the program counter of the instructions in order
+  faults_at : (c : Config State) (f : Fault) → StopsAt machine first c (cause.Stop (stop.Fault f)) → StopsInOrder machine first c.n (row.Faults f)
+      → FaultsAt machine first c.n f c.state.pc
+  faults_at c f h k =
+      let e : Cause = cause.Stop (stop.Fault f) in
+      let same : k.state ≡ h.holds.order = one_order c.n k.state h.holds.order k.runs (ap (λ (n : ℕ). seq machine n first) (stop_n machine first c e h) ∙ h.holds.runs) in
+      record {
+        state = k.state;
+        stops = record { runs = k.runs; stop = k.stop };
+        at = ap (λ (s : State). s.pc) same ∙ sym h.holds.pc ∙ sym (stop_position machine (laws listing around thread) first c e h).pc;
+      }
+
+  fault_keeps : (who : Who) (f : Fault) (pc n : ℕ) (d : Config State) → FaultsAt machine first n f pc → Keeps machine first (Some (outcome.Fault who f pc n)) d
   fault_keeps Thread f pc n d h = h
   fault_keeps Handler f pc n d h = tt
   fault_keeps Entry f pc n d h = tt
 
-  stop_keeps : (t : ℕ) (x : Timed) (c : Config State) (e : Cause) (younger : Bool) → StopsAt machine first c e → NextStops c.n e
+  stop_keeps : (t : ℕ) (x : Timed) (c : Config State) (e : Cause) (younger : Bool) → StopsAt machine first c e → (younger ≡ true → is_tainted e ≡ true) → NextStops c.n e
       → let stopping : Stopping = record { cause = e; younger = younger } in
       Keeps machine first (Some (outcome_of t x.acts c stopping)) (at_stop c stopping)
-  stop_keeps t x c (cause.Halt reason) younger h k =
-      let still = halts_between c reason h k in
-      record { before = c.n; number = refl; stops = k; state = unmade machine first c (cause.Halt reason) h still.0 still.1 }
-  stop_keeps t x c cause.Full younger h k = tt
-  stop_keeps t x c (cause.Stop (stop.Fault f)) younger h k =
-      let e : Stopping = record { cause = cause.Stop (stop.Fault f); younger = younger } in
-      fault_keeps (who_runs x.acts) f (pc_of c e) c.n (at_stop c e) k
-  stop_keeps t x c (cause.Stop (stop.Tainted addr)) younger h k = tt
-  stop_keeps t x c (cause.Stop (stop.Denied addr)) younger h k = tt
+  stop_keeps t x c (cause.Halt reason) younger h only k =
+      let between = stops_between c (row.Halt reason) h refl k in
+      record {
+        before = c.n;
+        number = refl;
+        between = record { order = between.order; stops = between.stops; a = between.a; b = between.b; live = between.live; pc = between.pc };
+      }
+  stop_keeps t x c cause.Full younger h only k =
+      let between = stops_between c row.Full h refl k in
+      record { order = between.order; stops = between.stops; a = between.a; b = between.b; live = between.live; pc = between.pc }
+  stop_keeps t x c (cause.Stop (stop.Fault f)) true h only k = let no : false ≡ true = only refl in absurd cc
+  stop_keeps t x c (cause.Stop (stop.Fault f)) false h only k =
+      let e : Stopping = record { cause = cause.Stop (stop.Fault f); younger = false } in
+      fault_keeps (who_runs x.acts) f c.state.pc c.n (at_stop c e) (faults_at c f h k)
+  stop_keeps t x c (cause.Stop (stop.Tainted addr)) younger h only k = tt
+  stop_keeps t x c (cause.Stop (stop.Denied addr)) younger h only k = tt
 
   -- TICKS
   judged : (b : Bool) (line : TickLine) (x : Timed) → Holds machine first x.config → x.outcome ≡ None
@@ -176,7 +238,7 @@ module _ (listing : Listing) (around : Around) (thread : around.actor ≡ actor.
   ended_keeps line x (Ok c) h =
       let y : Timed = record { outcome = None; config = c; acts = x.acts; ticks = x.ticks + 1 } in
       judged (may_end c.a c.b) line y h refl
-  ended_keeps line x (Err (Stopped c e)) h = stop_keeps (x.ticks + 1) x c e.cause e.younger h (next_stops c.n e.cause (explained machine first c e.cause h))
+  ended_keeps line x (Err (Stopped c e)) h = stop_keeps (x.ticks + 1) x c e.cause e.younger h.0 h.1 (next_stops c.n e.cause (explained machine first c e.cause h.0))
   ended_keeps line x (Err (Broken c r)) h = tt
 
   tick_keeps : (line : TickLine) (x : Timed) (o : Option Outcome) → x.outcome ≡ o → Keeps machine first x.outcome x.config
@@ -211,6 +273,10 @@ first_alike image lo hi floor = record { cells = cells; sticky = refl }
 first_pc : (image : List Segment) (lo hi floor : ℕ) → (start_under lo hi floor image).pc ≡ (start image).pc
 unfolding start_under
 first_pc image lo hi floor = refl
+
+clean_first : (image : List Segment) → Clean (start image)
+unfolding start_under
+clean_first image = λ a. refl
 
 begun : (listing : Listing) (image : List Segment) (s : Sched) → Holds (thread_program listing s) (start image) (begin image s).config
 begun listing image s = record {

@@ -11,7 +11,7 @@ use Rattle.hm_mem.specs.Memory.{Around}
 use Rattle.hm_mem.specs.declared.Actor.TheVariants.{Thread}
 use Rattle.hm_order.specs.Beats.{then}
 use Rattle.hm_order.proofs.Results.{ok_same, ok_err, then_ok}
-use Rattle.hm_state.specs.State.{State, At, Byte, Rest, at, cells}
+use Rattle.hm_state.specs.State.{State, At, Byte, at, cells}
 use Rattle.hm_state.proofs.Cells.{cell_laws}
 use Rattle.hm_beat.specs.Trees.{Alive, action, checked, reach}
 use Rattle.hm_beat.specs.Rows.{Tree, retired}
@@ -48,9 +48,6 @@ kept_with P s h k = subst P (sym (context_is s)) (one_or P s.rest.fpca s (fresh 
 
 pub context_pc : (s : State) → (with_context s).pc ≡ s.pc
 context_pc s = kept_with (λ t. t.pc ≡ s.pc) s refl refl
-
-pub context_devices : (s : State) → (with_context s).rest.devices ≡ s.rest.devices
-context_devices s = kept_with (λ t. t.rest.devices ≡ s.rest.devices) s refl refl
 
 pub context_clean : (s : State) → Clean s → Clean (with_context s)
 context_clean s h = kept_with Clean s h h
@@ -151,13 +148,7 @@ module _ (x : Around) (thread : x.actor ≡ Thread) where
   beat_leaves : (v : Vector) (k : ℕ) (s t : State) → Alive cells s → (action cells (vector_tree v x k)).run s ≡ Ok t → Alive cells t
   beat_leaves v k s t h e = beat_alive cells cell_laws (vector_tree v x k) s t ((row_laws v).careful x k s thread).lives h e
 
-  -- it leaves what stands in no cell, and no cell tainted
-  pub whole_rest : (v : Vector) (s : State) → Clean s → (vector_whole v s).rest ≡ s.rest
-  whole_rest v s clean =
-      let f = four_is v s clean in
-      ap (λ (t : State). t.rest) (sym f.over) ∙ beat_rest (vector_tree v x 3) f.three f.four f.fourth ∙ beat_rest (vector_tree v x 2) f.two f.three f.third
-      ∙ beat_rest (vector_tree v x 1) f.one f.two f.second ∙ beat_rest (vector_tree v x 0) s f.one f.first
-
+  -- it leaves no cell tainted
   pub whole_clean : (v : Vector) (s : State) → Clean s → Clean (vector_whole v s)
   whole_clean v s clean =
       let f = four_is v s clean in
@@ -168,15 +159,11 @@ module _ (x : Around) (thread : x.actor ≡ Thread) where
       subst Clean f.over (λ a. four (Byte a))
 
   -- the row with its context
-  pub row_leaves : (v : Vector) (s t : State) → Clean s → vector_row v s ≡ Ok t → Clean t × (t.rest.devices ≡ s.rest.devices)
+  pub row_leaves : (v : Vector) (s t : State) → Clean s → vector_row v s ≡ Ok t → Clean t
   row_leaves v s t clean e =
       let begun = then_ok (ready_state v s) (λ u. Ok (vector_whole v u)) t e in
       let context : with_context s ≡ begun.0 = (not_refused (refuse v (with_context s)) (with_context s) begun.0 begun.1).1 in
-      let there : Clean begun.0 = subst Clean context (context_clean s clean) in
-      let ends : vector_whole v begun.0 ≡ t = ok_same begun.2 in (
-        subst Clean ends (whole_clean v begun.0 there),
-        ap (λ (u : State). u.rest.devices) (sym ends) ∙ ap (λ (r : Rest). r.devices) (whole_rest v begun.0 there) ∙ ap (λ (u : State). u.rest.devices) (sym context) ∙ context_devices s,
-      )
+      subst Clean (ok_same begun.2) (whole_clean v begun.0 (subst Clean context (context_clean s clean)))
 
 -- the next instruction stands behind it
 pub row_pc : (v : Vector) (s t : State) → vector_row v s ≡ Ok t → t.pc ≡ s.pc + 4

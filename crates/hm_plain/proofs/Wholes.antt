@@ -1,5 +1,5 @@
 -- The letter W, between two instructions, does what the whole of the next one does alone.
-use Rattle.std.proofs.Common.{◌≡◌, ℕ, suc, ◌==◌, arith, ap, refl, sym, ◌∙◌, subst, Bool, true, cond, Option, Some, None, Result, Ok, Err, add-one}
+use Rattle.std.proofs.Common.{◌≡◌, ℕ, suc, ◌==◌, arith, ap, refl, sym, ◌∙◌, subst, Bool, true, cond, Some, None, Result, Ok, Err, add-one}
 use Rattle.std.proofs.lemmas.Bool.Decides.{nat_tests}
 use Rattle.hm_base.specs.declared.Fault.{Fault}
 use Rattle.hm_base.specs.declared.Stop.{Stop}
@@ -18,8 +18,7 @@ use Rattle.hm_beat.specs.Laws.{Clean}
 use Rattle.hm_beat.specs.Ordered.{of_four}
 use Rattle.hm_rows.specs.Context.{with_context}
 use Rattle.hm_rows.specs.Rows.{refuse, vector_tree, vector_whole}
-use Rattle.hm_run.specs.Program.{Program, Stepped, core, rows, alone, again, caused, cause_of, in_machine, letter_step, made_by, ready_state, unless_refused, vector_of, vector_row, whole_here}
-use Rattle.hm_run.specs.Rows as row
+use Rattle.hm_run.specs.Program.{Program, Stepped, core, rows, alone, again, caused, cause_of, in_machine, letter_step, ready_state, vector_of, vector_row, whole_here}
 use Rattle.hm_run.specs.Rows.{WholeStop}
 use Rattle.hm_run.proofs.Steps.{again_done, older_other, older_vector, past}
 use Rattle.hm_sched.specs.Schedule.{whole_letter}
@@ -29,40 +28,19 @@ use Rattle.hm_plain.proofs.Vectors.{Four, beat_pc, context_clean, context_pc, fo
 abbrev pub between : ℕ → ℕ → State → Config State
 between n k s = record { a = 0; b = 0; n = n; steps = k; state = s }
 
--- WHAT AN INSTRUCTION LEAVES
--- no taint, and the devices as they were
-abbrev pub Leaves : State → Result State WholeStop → Type 0
-Leaves s (Ok t) = Clean t × (t.rest.devices ≡ s.rest.devices)
-Leaves s (Err w) = Unit {0}
-
--- where it stops, the context that it made changes nothing but where it has a fault, and there the program counter stays
-abbrev pub StopsIn : State → State → Result State WholeStop → Type 0
-StopsIn s made (Ok t) = Unit {0}
-StopsIn s made (Err (row.Halt reason)) = made ≡ s
-StopsIn s made (Err row.Full) = made ≡ s
-StopsIn s made (Err (row.Faults f)) = made.pc ≡ s.pc
-
-row_stops : (v : Vector) (s : State) (q : Result State WholeStop) (o : Option Fault) → unless_refused o (with_context s) ≡ q
-    → StopsIn s (with_context s) (then q (λ t. Ok (vector_whole v t)))
-row_stops v s q (Some f) e = subst (λ (r : Result State WholeStop). StopsIn s (with_context s) (then r (λ t. Ok (vector_whole v t)))) e (context_pc s)
-row_stops v s q None e = subst (λ (r : Result State WholeStop). StopsIn s (with_context s) (then r (λ t. Ok (vector_whole v t)))) e tt
-
-pub stops_in : (r : Result Instr Fault) (s : State) → StopsIn s (made_by (vector_of r) s) (whole_here r s)
-stops_in (Ok (instr.Scalar (scalar.S3 i))) s = tt
-stops_in (Ok (instr.Scalar (scalar.S4 i))) s = tt
-stops_in (Ok (instr.Scalar (scalar.S18 i))) s = refl
-stops_in (Ok (instr.Branch i)) s = elim i [ ]
-stops_in (Ok (instr.Vector v)) s = row_stops v s (ready_state v s) (refuse v (with_context s)) refl
-stops_in (Err f) s = refl
+-- WHAT AN INSTRUCTION LEAVES: no taint
+abbrev pub Leaves : Result State WholeStop → Type 0
+Leaves (Ok t) = Clean t
+Leaves (Err w) = Unit {0}
 
 module _ (around : Around) (thread : around.actor ≡ Thread) where
-  row_kept : (v : Vector) (s : State) → Clean s → (r : Result State WholeStop) → vector_row v s ≡ r → Leaves s r
+  row_kept : (v : Vector) (s : State) → Clean s → (r : Result State WholeStop) → vector_row v s ≡ r → Leaves r
   row_kept v s clean (Ok t) e = row_leaves around thread v s t clean e
   row_kept v s clean (Err w) e = tt
 
-  pub leaves : (r : Result Instr Fault) (s : State) → Clean s → Leaves s (whole_here r s)
-  leaves (Ok (instr.Scalar (scalar.S3 i))) s h = (h, refl)
-  leaves (Ok (instr.Scalar (scalar.S4 i))) s h = (h, refl)
+  pub leaves : (r : Result Instr Fault) (s : State) → Clean s → Leaves (whole_here r s)
+  leaves (Ok (instr.Scalar (scalar.S3 i))) s h = h
+  leaves (Ok (instr.Scalar (scalar.S4 i))) s h = h
   leaves (Ok (instr.Scalar (scalar.S18 i))) s h = tt
   leaves (Ok (instr.Branch i)) s h = elim i [ ]
   leaves (Ok (instr.Vector v)) s h = row_kept v s h (vector_row v s) refl

@@ -1,5 +1,5 @@
 -- One step, and one tick, of a run.
-use Rattle.std.proofs.Common.{◌≡◌, ℕ, suc, ◌+◌, ◌==◌, ◌<◌, arith, ap, refl, sym, ◌∙◌, Bool, true, false, cond, List, [], ◌∷◌, length, Option, Some, None, Result, Ok, Err, add-one}
+use Rattle.std.proofs.Common.{◌≡◌, ℕ, suc, ◌+◌, ◌==◌, ◌<◌, arith, ap, refl, sym, ◌∙◌, Bool, true, false, cond, List, [], ◌∷◌, length, Option, Some, None, Ok, Err}
 use Rattle.std.proofs.lemmas.Bool.Decides.{nat_tests}
 use Rattle.hm_codes.specs.Listing.{Listing}
 use Rattle.hm_isa.specs.declared.Vector.{Vector}
@@ -7,7 +7,6 @@ use Rattle.hm_mem.specs.Memory.{Around, first_devices}
 use Rattle.hm_mem.specs.declared.Dev.{Dev}
 use Rattle.hm_order.specs.Beats.{then}
 use Rattle.hm_order.specs.Machine.{Config, Stopped, Broken, begin, done, older, older_of, settle}
-use Rattle.hm_order.proofs.Positions.{begun_same}
 use Rattle.hm_run.specs.declared.Outcome.{Outcome}
 use Rattle.hm_run.specs.declared.Outcome.TheVariants as outcome
 use Rattle.hm_run.specs.declared.Rule.TheVariants as rule

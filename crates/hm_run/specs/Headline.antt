@@ -1,6 +1,7 @@
 -- What a run owes to the instructions in order.
-use Rattle.std.specs.Prelude.{◌≡◌, ℕ, ◌+◌, ◌/◌, ◌%◌, ◌^◌, ◌<◌, List, slice_index, Option, Some}
+use Rattle.std.specs.Prelude.{◌≡◌, ℕ, ◌+◌, ◌*◌, ◌/◌, ◌%◌, ◌^◌, ◌<◌, List, slice_index, Some}
 use Rattle.hm_base.specs.Image.{Segment, sram_start, sram_size}
+use Rattle.hm_base.specs.declared.Fault.{Fault}
 use Rattle.hm_codes.specs.Listing.{Listing}
 use Rattle.hm_run.specs.declared.Outcome.TheVariants as outcome
 use Rattle.hm_run.specs.declared.Reason.{Reason}
@@ -31,6 +32,15 @@ pub record Headline (listing : Listing) (image : List Segment) (x : Timed) (repo
   pub report_is : report ≡ report_text x
   pub file_is : file ≡ memory_text x
   pub in_order : (reason : Reason) (n : ℕ) → x.outcome ≡ Some (outcome.Halted reason n) → HaltsInOrder listing image report file reason n
+
+-- The riders: what a run owes to the instructions in order where it does not halt.
+pub record Riders (listing : Listing) (image : List Segment) (x : Timed) : Type 0 where
+  -- A fault of the thread after n instructions is that of the next one in order.
+  pub fault : (f : Fault) (pc n : ℕ) → x.outcome ≡ Some (outcome.Fault Thread f pc n) → in_order listing image (n + 1) ≡ Faulted f.kind pc f.addr n
+  -- Where the output is full after n instructions, it has no room for that of the next one in order.
+  pub full : (t : ℕ) → x.outcome ≡ Some (outcome.OutputFull t) → (s : State) × (in_order listing image (x.config.n + 1) ≡ Full (x.config.n + 1) s)
+  -- Where the instructions in order halt at the n-th and the run is out of ticks, it had fewer than four steps of the older for each.
+  pub few : (reason : Reason) (n : ℕ) (s : State) → in_order listing image n ≡ Halted reason n s → x.outcome ≡ Some outcome.OutOfTicks → x.config.steps < 4 * n
 
 -- PLAIN RUNS. A run of n plain ticks reports what the first n instructions in order come to; of a fault the first line.
 abbrev pub PlainReport : Timed → InOrder → Type 0

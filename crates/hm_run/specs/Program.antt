@@ -1,6 +1,6 @@
 -- The machine of a program: what a step of the older instruction and one of the younger do. The listing says what
 -- stands at each address.
-use Rattle.std.specs.Prelude.{ℕ, zero, suc, ◌+◌, ◌==◌, ◌&&◌, is_none, Bool, true, false, cond, List, [], ◌∷◌, Option, Some, None, Result, Ok, Err}
+use Rattle.std.specs.Prelude.{ℕ, zero, suc, ◌+◌, ◌==◌, ◌&&◌, ◌||◌, not, nat_lt, is_none, Bool, true, false, cond, List, [], ◌∷◌, Option, Some, None, Result, Ok, Err}
 use Rattle.hm_base.specs.declared.Fault.{Fault}
 use Rattle.hm_base.specs.declared.Stop.{Stop}
 use Rattle.hm_base.specs.declared.Stop.TheVariants as stop
@@ -11,6 +11,9 @@ use Rattle.hm_isa.specs.declared.Vector.{Vector}
 use Rattle.hm_mem.specs.declared.Dev.{Dev}
 use Rattle.hm_mem.specs.Memory.{Around}
 use Rattle.hm_mem.specs.declared.Actor.TheVariants.{Thread}
+use Rattle.hm_beat.specs.declared.clash.Clash.{Clash}
+use Rattle.hm_beat.specs.declared.clash.Clash.TheVariants as clash
+use Rattle.hm_beat.specs.Meeting.{clash_with}
 use Rattle.hm_beat.specs.Ordered.{of_four}
 use Rattle.hm_beat.specs.Trees.{action}
 use Rattle.hm_order.specs.Beats.{View, Action, Beats, then}
@@ -128,12 +131,35 @@ abbrev pub vector_of : Result Instr Fault → Option Vector
 vector_of (Ok i) = vector_in i
 vector_of (Err f) = None
 
--- The first rule that a younger step breaks. It and the older have to be vector rows. No schedule has a younger step
--- yet, so the rules for two vector rows are not there: such a step is out of order.
-abbrev pub step_rule : Option Vector → Option Vector → Config State → Option Rule
-step_rule (Some v) (Some w) c = Some rule.Order
-step_rule (Some v) None c = Some rule.NotVector
-step_rule None o c = Some rule.NotVector
+-- THE RULES OF OVERLAP
+-- The first two beats of the younger may go once two of the older are done, its others only when it is the older. (There are
+-- never more than two done of it.)
+abbrev pub is_too_early : Config State → Bool
+is_too_early c = nat_lt c.a 2 || not (nat_lt c.b 2)
+
+abbrev pub rule_of_clash : Clash → Rule
+rule_of_clash (clash.Register p) = rule.Register p
+rule_of_clash (clash.Memory addr) = rule.Memory addr
+
+-- the younger may not be refused (and there is a context, since the older has made it)
+abbrev pub refusal_rule : Vector → State → Option Rule
+refusal_rule w s = cond (is_ready w s) None (Some rule.YoungerFault)
+
+abbrev pub clash_or : Option Clash → Option Rule → Option Rule
+clash_or (Some x) r = Some (rule_of_clash x)
+clash_or None r = r
+
+-- The next beat of w, the younger, against the beats that v has left.
+abbrev pub overlap_rule : Around → Vector → Vector → Config State → Option Rule
+overlap_rule x v w c = clash_or (clash_with (vector_tree v x) c.a (vector_tree w x c.b) c.state) (refusal_rule w c.state)
+
+-- The first rule that a younger step breaks: both are vector rows; the beats are in order; the younger's next beat meets none of
+-- the beats that the older has left, on no place and on no byte; and the younger is not refused. That its beat has no fault is
+-- the last rule, and `fault_rule` has it.
+abbrev pub step_rule : Around → Option Vector → Option Vector → Config State → Option Rule
+step_rule x (Some v) (Some w) c = cond (is_too_early c) (Some rule.Order) (overlap_rule x v w c)
+step_rule x (Some v) None c = Some rule.NotVector
+step_rule x None o c = Some rule.NotVector
 
 -- a younger beat does not fault
 abbrev pub fault_rule : Cause → Option Rule
@@ -163,7 +189,7 @@ core listing around = record {
   alone = alone listing;
   stop_of = cause_of;
   jump = λ p s. record s { pc = p };
-  rule = step_rule;
+  rule = step_rule around;
   fault_rule = fault_rule;
   marked = dead;
 }

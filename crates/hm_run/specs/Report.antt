@@ -1,12 +1,11 @@
 -- The report of a run, and its memory file. A line is a function from the text before it to the text after it.
-use Rattle.std.specs.Prelude.{ℕ, zero, suc, ◌+◌, ◌*◌, ◌-◌, ◌/◌, ◌%◌, Bool, nat_eq, if◌then◌else◌, List, [], ◌∷◌, ◌++◌, codes, length, slice_index, Option, Some, None}
+use Rattle.std.specs.Prelude.{ℕ, zero, suc, ◌+◌, ◌*◌, ◌/◌, ◌%◌, Bool, nat_eq, if◌then◌else◌, List, [], ◌++◌, codes, length, slice_index, Option, Some, None}
 use Rattle.std.specs.Fmt.{decimal}
 use Rattle.hex.specs.Hex.{encode_lower}
 use Rattle.hm_base.specs.declared.FaultKind.{FaultKind}
 use Rattle.hm_base.specs.declared.FaultKind.TheVariants as kind
 use Rattle.hm_base.specs.declared.Place.{Place}
 use Rattle.hm_base.specs.declared.Place.TheVariants as place
-use Rattle.hm_order.specs.Machine.{Config}
 use Rattle.hm_regs.specs.declared.Regs.{Regs}
 use Rattle.hm_run.specs.declared.Broken.{Broken}
 use Rattle.hm_run.specs.declared.Broken.TheVariants as broken
@@ -22,8 +21,8 @@ use Rattle.hm_run.specs.declared.Slot.{Slot}
 use Rattle.hm_run.specs.declared.Slot.TheVariants as slot
 use Rattle.hm_run.specs.declared.Who.{Who}
 use Rattle.hm_run.specs.declared.Who.TheVariants as who
-use Rattle.hm_run.specs.Timed.{Activation, Timed}
-use Rattle.hm_state.specs.State.{State, regs_of, sram_bytes, taint_bytes}
+use Rattle.hm_run.specs.Timed.{Timed}
+use Rattle.hm_state.specs.State.{regs_of, sram_bytes, taint_bytes}
 use Rattle.hm_text_base.specs.Texts.{hex2, hex8, bit}
 
 -- THE FIRST LINE

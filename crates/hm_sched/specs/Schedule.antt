@@ -1,5 +1,5 @@
 -- Schedules: what each tick of a run does.
-use Rattle.std.specs.Prelude.{◌≡◌, ◌≢◌, ℕ, zero, suc, ◌≤◌, ◌⊎◌, Bool, false, List, [], ◌∷◌, length}
+use Rattle.std.specs.Prelude.{◌≡◌, ℕ, zero, suc, ◌≤◌, ◌⊎◌, Bool, false, List, [], ◌∷◌, length}
 use Rattle.std.specs.List.{All, sum_by}
 use Rattle.hm_sched.specs.declared.Line.{Line}
 
@@ -83,10 +83,9 @@ pub record IsSched (s : Sched) : Type 0 where
   pub each_line : All IsLine s.lines
   pub not_too_many : total s.lines ≤ most_ticks
 
--- for now nothing is interrupted and no younger instruction runs
+-- for now nothing is interrupted
 pub record IsYetLine (line : TickLine) : Type 0 where
   pub no_arrivals : line.irq ≡ 0
-  pub no_younger : All (λ c. c ≢ younger_letter) line.letters
 
 pub record IsYet (s : Sched) : Type 0 where
   pub no_entries : s.entries ≡ false

@@ -1,9 +1,9 @@
 //! Schedules: what each tick of a run does.
 #![tactic(auto)]
 
-ghost use Rattle.std.specs.Prelude.{◌≡◌, ◌≢◌, ◌+◌, ◌≤◌, ◌<◌, ◌↔◌, Bool, false, [], ◌∷◌, ◌++◌, length, Some, Err, slice_get, IfOk, OnOk, OnErr, IsOkUnless};
+ghost use Rattle.std.specs.Prelude.{◌≡◌, ◌+◌, ◌≤◌, ◌<◌, ◌↔◌, Bool, false, [], ◌∷◌, ◌++◌, length, Some, Err, slice_get, IfOk, OnOk, OnErr, IsOkUnless};
 ghost use Rattle.std.specs.List.{All};
-ghost use Rattle.hm_sched.specs.Schedule.{TickLine, Sched, line_of, younger_letter, most_ticks, total, ticks_of, plain, IsLetter, IsSched, IsYet};
+ghost use Rattle.hm_sched.specs.Schedule.{TickLine, Sched, line_of, most_ticks, total, ticks_of, plain, IsLetter, IsSched, IsYet};
 
 mod errors;
 
@@ -89,7 +89,6 @@ impl Schedule {
         requires eight_digits { count ≤ 99999999 }
         requires few { length letters.now ≤ 8 }
         requires each_letter { All IsLetter letters.now }
-        requires no_younger_yet { All (λ c. c ≢ younger_letter) letters.now }
         requires no_arrivals_yet { irq ≡ 0 }
 
         ensures ok { let line : TickLine = record { count = count; letters = letters.now; irq = irq } in

@@ -129,6 +129,46 @@ fn add_to_its_end(rt: HostRuntime) -> Result<(), Fail> {
 }
 
 #[test]
+fn overlapped_beats_are_in_order(rt: HostRuntime) -> Result<(), Fail> {
+    let alloc = rt.alloc();
+    let mut schedule = first_schedule(alloc);
+    // each row but the last is overlapped by the first two beats of the next
+    schedule.add(1, b"OOYO", 0)?;
+    schedule.add(1, b"YO", 0)?;
+    schedule.add(1, b"YOYO", 0)?;
+    schedule.add(1, b"OO", 0)?;
+    schedule.add(1, b"W", 0)?;
+    let report = report_under(alloc, VECTORS, schedule)?;
+    let mut bytes = START.to_vec(alloc)?;
+    bytes.extend_from_slice(VECTORS)?;
+    let plain = in_order(alloc, &flat(alloc, &bytes)?, 4)?.report(alloc)?;
+    assert!(rt; has_lines(&report, &["outcome halted break 0 after 4"]));
+    assert!(rt; report.as_slice() == plain.as_slice());
+    Ok(())
+}
+
+#[test]
+fn broken_rules_are_told(rt: HostRuntime) -> Result<(), Fail> {
+    let alloc = rt.alloc();
+    let runs: [(&[u8], u32, &str); 4] = [
+        (b"OYO", 0, "outcome rule tick 1 step 2 order"),
+        (b"OOYYY", 0, "outcome rule tick 1 step 5 order"),
+        (b"OOOYY", 0, "outcome rule tick 1 step 5 ending 3 2"),
+        (b"OOOY", 2, "outcome rule tick 3 step 4 notvector"),
+    ];
+    for (letters, before, line) in runs {
+        let mut schedule = first_schedule(alloc);
+        if before > 0 {
+            schedule.add(before, b"W", 0)?;
+        }
+        schedule.add(1, letters, 0)?;
+        let report = report_under(alloc, VECTORS, schedule)?;
+        assert!(rt; has_lines(&report, &[line]));
+    }
+    Ok(())
+}
+
+#[test]
 fn machine_tells_where_it_stands(rt: HostRuntime) -> Result<(), Fail> {
     let alloc = rt.alloc();
     let mut bytes = START.to_vec(alloc)?;

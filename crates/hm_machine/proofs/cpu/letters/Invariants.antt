@@ -11,6 +11,7 @@ invariant-loop-l l = record {
       → letter_steps (core listing (memory_of l.initial.x.mem).around) l.l-index (drop l.l-index l.letters) (config_of l.x)
       ≡ letter_steps (core listing (memory_of l.initial.x.mem).around) 0 l.letters (config_of l.initial.x);
   kept : Keeps l.initial.x l.x;
+  counted : l.step ≡ l.l-index;
   retired : l.x.retired ≤ l.initial.x.retired + 4 * l.l-index;
   steps : l.x.older_steps ≤ l.initial.x.older_steps + 4 * l.l-index;
 }

@@ -19,6 +19,3 @@ returns-clause-few c = (all_at IsLine c.args.schedule.now.lines c.args.cursor.li
 
 pub returns-clause-quiet : goal.returns-clause-quiet
 returns-clause-quiet c = (all_at IsYetLine c.args.schedule.now.lines c.args.cursor.line (line_of c.line.result.now) c.lines-known.ensures.yet.each_line c.line.ensures).no_arrivals
-
-pub returns-clause-older : goal.returns-clause-older
-returns-clause-older c = (all_at IsYetLine c.args.schedule.now.lines c.args.cursor.line (line_of c.line.result.now) c.lines-known.ensures.yet.each_line c.line.ensures).no_younger

@@ -28,7 +28,6 @@ invariant_of-self-2 c =
     } in
     let one_yet : IsYetLine (line_of line) = record {
       no_arrivals = c.requires.no_arrivals_yet;
-      no_younger = rw c.held.ensures c.requires.no_younger_yet;
     } in
     let sum = c.self.invariant.sum in
     record {

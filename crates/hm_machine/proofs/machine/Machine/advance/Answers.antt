@@ -1,6 +1,6 @@
 use Rattle.std.proofs.Common.{◌≡◌, ◌<◌, ap, refl, sym, ◌∙◌, subst, None, List, drop, length}
-use Rattle.hm_machine.proofs.Ticks.{devices_are, some_left, goes_on, out_of_ticks, ends, may_end_alone}
-use Rattle.hm_machine.specs.Cpus.{config_of}
+use Rattle.hm_machine.proofs.Ticks.{devices_are, some_left, goes_on, out_of_ticks, ends}
+use Rattle.hm_machine.specs.Cpus.{config_of, troubled}
 use Rattle.hm_machine.specs.Machines.{left_at, machine_view}
 use Rattle.hm_machine.specs.Shown.{Shown, timed_of}
 use Rattle.hm_mem.specs.Memory.{Memory, memory_of}
@@ -17,7 +17,7 @@ returns-in-Some-clause-next c =
     let x = c.letters-reached.new.x in
     goes_on (core listing (memory_of inside.cpu.mem).around) inside.outcome left (drop 1 left) (line_of c.line_at-line.result.now) (timed_of (machine_view inside)) (config_of x)
     running running refl c.line_at-line.ensures.first (sym (rw c.as_slice.ensures.value at (c.in-Ok.ensures.value listing is))) c.line_at-line.ensures.quiet
-    (may_end_alone x.window.a x.window.b c.in-Ok.ensures.kept.1.0 c.in-Ok.ensures.kept.1.1)
+    (sym c.may_end.ensures ∙ c.if-not-may_end.false)
     (devices_are x.regs (memory_of x.mem) x.output.items ∙ ap (λ (m : Memory). m.devices) c.in-Ok.ensures.kept.0 ∙ c.self.invariant.devices)
     (subst (λ (l : List TickLine). 0 < length l) c.in-Some.ensures.left (some_left (drop c.in-Some.cursor.line inside.schedule.lines) c.in-Some.cursor.used c.in-Some.ensures.stands)))
 
@@ -30,7 +30,7 @@ returns-in-None-clause-next c =
     let x = c.letters-reached.new.x in
     out_of_ticks (core listing (memory_of inside.cpu.mem).around) inside.outcome left (drop 1 left) (line_of c.line_at-line.result.now) (timed_of (machine_view inside)) (config_of x)
     running running refl c.line_at-line.ensures.first (sym (rw c.as_slice.ensures.value at (c.in-Ok.ensures.value listing is))) c.line_at-line.ensures.quiet
-    (may_end_alone x.window.a x.window.b c.in-Ok.ensures.kept.1.0 c.in-Ok.ensures.kept.1.1)
+    (sym c.may_end.ensures ∙ c.if-not-may_end.false)
     (devices_are x.regs (memory_of x.mem) x.output.items ∙ ap (λ (m : Memory). m.devices) c.in-Ok.ensures.kept.0 ∙ c.self.invariant.devices)
     c.in-None.ensures.none)
 
@@ -40,7 +40,8 @@ returns-in-Err-clause-next c =
     let inside = c.self.inside in
     let running : inside.outcome ≡ None = ap (λ (v : Shown). v.outcome) c.self.view_is ∙ c.requires in
     let left = left_at inside.schedule.lines inside.cursor in
-    ends (core listing (memory_of inside.cpu.mem).around) inside.outcome left (drop 1 left) (line_of c.line_at-line.result.now) (timed_of (machine_view inside)) c.letters-reached.new.x c.in-Err.cause
+    let x = timed_of (machine_view inside) in
+    ends (core listing (memory_of inside.cpu.mem).around) inside.outcome left (drop 1 left) (line_of c.line_at-line.result.now) x (troubled c.in-Err.trouble (config_of c.letters-reached.new.x))
     c.conclude.result (config_of c.conclude.new.x)
-    running running refl c.line_at-line.ensures.first (sym (rw c.as_slice.ensures.value at (c.in-Err.ensures.value listing is)))
-    c.conclude.ensures.outcome c.conclude.ensures.config)
+    running running c.line_at-line.ensures.first (sym (rw c.as_slice.ensures.value at (c.in-Err.ensures.value listing is)))
+    (c.conclude.ensures.ended (line_of c.line_at-line.result.now) x refl refl))

@@ -1,4 +1,4 @@
-use Rattle.std.proofs.Common.{arith, refl}
+use Rattle.std.proofs.Common.{arith}
 use Rattle.hm_machine.proofs.Loads.{first_stands, first_length, running_ticks, shows_start, odd_pc}
 use Rattle.hm_mem.specs.Memory.{memory_of}
 use Rattle.hm_machine.proofs.machine.Machine.load.Goals as goal
@@ -6,7 +6,7 @@ use Rattle.hm_machine.proofs.machine.Machine.load.Goals as goal
 pub invariant_of-result : goal.invariant_of-result
 invariant_of-result c = record {
   devices = c.in_ok-mem.ensures.devices;
-  position = (omega arith, refl, λ some. absurd (omega arith));
+  position = (omega arith, omega arith, λ some. absurd (omega arith));
   running = λ none. first_stands c.args.s.lines c.region-lo.ensures.sound.each_line
       (running_ticks _ c.first_outcome-outcome.result none c.first_outcome-outcome.ensures.out);
   begun = λ none. first_length c.args.s.lines c.first_outcome-outcome.ensures.most;

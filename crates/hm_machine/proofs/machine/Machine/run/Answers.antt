@@ -1,7 +1,7 @@
 use Rattle.std.proofs.Common.{◌≡◌, None, ap, sym, ◌∙◌, subst, arith}
 use Rattle.std.specs.Prelude.{IsSome}
 use Rattle.hm_machine.specs.Shown.{Shown}
-use Rattle.hm_machine.proofs.Plain.{plain_report, plain_headline}
+use Rattle.hm_machine.proofs.Plain.{plain_report, shown_headline, shown_riders}
 use Rattle.hm_sched.specs.Schedule.{plain}
 use Rattle.hm_machine.proofs.Ticks.{left_below, shows_end}
 use Rattle.hm_machine.proofs.machine.Machine.run.Goals as goal
@@ -33,4 +33,7 @@ pub returns-clause-plain : goal.returns-clause-plain
 returns-clause-plain c image n listing is shows = plain_report image n _ (returns-clause-shows c image (plain n) 0 (omega arith) shows) listing is
 
 pub returns-clause-headline : goal.returns-clause-headline
-returns-clause-headline c image n listing is shows = plain_headline image n _ (returns-clause-shows c image (plain n) 0 (omega arith) shows) listing is
+returns-clause-headline c image s listing is none shows = shown_headline image s _ (returns-clause-shows c image s 0 (omega arith) shows) listing is
+
+pub returns-clause-riders : goal.returns-clause-riders
+returns-clause-riders c image s listing is none shows = shown_riders image s _ (returns-clause-shows c image s 0 (omega arith) shows) listing is

@@ -3,7 +3,7 @@ use Rattle.hm_machine.specs.Cpus.{config_of, stopping}
 use Rattle.hm_run.specs.declared.Cause.{Cause}
 use Rattle.hm_run.specs.Timed.{outcome_of}
 use Rattle.hm_state.specs.State.{state_of}
-use Rattle.hm_machine.proofs.cpu.conclude.Goals as goal
+use Rattle.hm_machine.proofs.cpu.stopped.Goals as goal
 
 pub returns-in-Stop-clause-outcome : goal.returns-in-Stop-clause-outcome
 unfolding state_of

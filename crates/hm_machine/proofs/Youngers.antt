@@ -1,0 +1,68 @@
+-- The steps of the younger of two rows.
+use Rattle.std.proofs.Common.{◌≡◌, ℕ, ◌+◌, ◌<◌, ◌≤◌, arith, ap, sym, ◌∙◌, add-one, Bool, true, false, not, ◌&&◌, ◌||◌, nat_lt, cond, IsTrue, List, Option, Some, None, Result, Ok, Err}
+use Rattle.std.proofs.lemmas.Bool.Decides.{nat_tests}
+use Rattle.std.specs.Option.{is_none}
+use Rattle.hm_base.specs.declared.Fault.{Fault}
+use Rattle.hm_beat.specs.declared.clash.Clash.{Clash}
+use Rattle.hm_beat.specs.Meeting.{clash_with}
+use Rattle.hm_codes.specs.Listing.{Listing}
+use Rattle.hm_isa.specs.declared.Vector.{Vector}
+use Rattle.hm_machine.specs.Cpus.{config_of, state_in}
+use Rattle.hm_machine.specs.declared.cpu.Cpu.{Cpu}
+use Rattle.hm_mem.specs.Memory.{Memory, memory_of}
+use Rattle.hm_order.specs.Machine as order
+use Rattle.hm_order.specs.Machine.{Config, did, younger, younger_of}
+use Rattle.hm_regs.specs.declared.Regs.{Regs}
+use Rattle.hm_rows.specs.Rows.{refuse, vector_tree}
+use Rattle.hm_run.specs.declared.Cause.{Cause}
+use Rattle.hm_run.specs.declared.Rule.{Rule}
+use Rattle.hm_run.specs.declared.Rule.TheVariants as rule
+use Rattle.hm_run.specs.Program.{Program, clash_or, core, refusal_rule, rows, step_rule, vector_of}
+use Rattle.hm_state.specs.State.{State, state_of}
+
+-- a beat that breaks no rule
+pub rule_none : (v w : Vector) (a b n steps : ℕ) (r : Regs) (m : Memory) (output : List ℕ) (o : Option Clash) (f : Option Fault) → 2 ≤ a → b < 2 → IsTrue r.fpca
+    → o ≡ clash_with (vector_tree v m.around) a (vector_tree w m.around b) (state_of r m output) → o ≡ None → f ≡ refuse w (state_of r m output) → f ≡ None
+    → None ≡ step_rule m.around (Some v) (Some w) (record { a = a; b = b; n = n; steps = steps; state = state_of r m output })
+unfolding state_of
+rule_none v w a b n steps r m output o f late few there e none is free =
+    let s : State = state_of r m output in
+    let early : (nat_lt a 2 || not (nat_lt b 2)) ≡ false = grind (arith, nat_tests, late, few) in
+    let context : r.fpca ≡ true = cc in
+    sym (ap (λ (q : Bool). cond q (Some rule.Order) (clash_or (clash_with (vector_tree v m.around) a (vector_tree w m.around b) s) (refusal_rule w s))) early
+    ∙ ap (λ (q : Option Clash). clash_or q (refusal_rule w s)) (sym e ∙ none)
+    ∙ (λ j. cond (context j && is_none ((sym is ∙ free) j)) None (Some rule.YoungerFault)))
+
+module _ (listing : Listing) (x : Cpu) where
+  abbrev M : Program
+  M = core listing (memory_of x.mem).around
+
+  -- no row stands at the one address, or at the other
+  pub younger_alone : None ≡ vector_of (listing x.regs.pc) → Err (order.Broken (config_of x) rule.NotVector) ≡ younger M (config_of x)
+  unfolding state_of
+  younger_alone none = ap (λ (o : Option Vector). younger_of M (step_rule (memory_of x.mem).around o (vector_of (listing (x.regs.pc + 4))) (config_of x)) (vector_of (listing (x.regs.pc + 4))) (config_of x)) none
+
+  pub younger_absent : (v : Vector) → Some v ≡ vector_of (listing x.regs.pc) → None ≡ vector_of (listing (x.regs.pc + 4))
+      → Err (order.Broken (config_of x) rule.NotVector) ≡ younger M (config_of x)
+  unfolding state_of
+  younger_absent v here none = λ j. younger_of M (step_rule (memory_of x.mem).around (here j) (none j) (config_of x)) (none j) (config_of x)
+
+  -- what it does under its rule
+  younger_by : (v w : Vector) (r : Option Rule) → Some v ≡ vector_of (listing x.regs.pc) → Some w ≡ vector_of (listing (x.regs.pc + 4))
+      → r ≡ step_rule (memory_of x.mem).around (Some v) (Some w) (config_of x) → younger_of M r (Some w) (config_of x) ≡ younger M (config_of x)
+  unfolding state_of
+  younger_by v w r here there e =
+      ap (λ (q : Option Rule). younger_of M q (Some w) (config_of x)) e
+      ∙ (λ j. younger_of M (step_rule (memory_of x.mem).around (here j) (there j) (config_of x)) (there j) (config_of x))
+
+  pub younger_breaks : (v w : Vector) (r : Rule) → Some v ≡ vector_of (listing x.regs.pc) → Some w ≡ vector_of (listing (x.regs.pc + 4))
+      → Some r ≡ step_rule (memory_of x.mem).around (Some v) (Some w) (config_of x) → Err (order.Broken (config_of x) r) ≡ younger M (config_of x)
+  younger_breaks v w r here there e = younger_by v w (Some r) here there e
+
+  pub younger_done : (v w : Vector) (t : State) → Some v ≡ vector_of (listing x.regs.pc) → Some w ≡ vector_of (listing (x.regs.pc + 4))
+      → None ≡ step_rule (memory_of x.mem).around (Some v) (Some w) (config_of x) → ((rows (memory_of x.mem).around).act w x.window.b).run (state_in x) ≡ Ok t
+      → Ok (record { a = x.window.a; b = x.window.b + 1; n = x.retired; steps = x.older_steps; state = t }) ≡ younger M (config_of x)
+  younger_done v w t here there e run =
+      (λ j. Ok (record { a = x.window.a; b = add-one x.window.b j; n = x.retired; steps = x.older_steps; state = t }))
+      ∙ ap (λ (r : Result State Cause). did M (config_of x) r) (sym run)
+      ∙ younger_by v w None here there e
