@@ -1,8 +1,8 @@
 pub mod Trees
-pub mod Calm
 pub mod Effects
 pub mod Predicated
 pub mod Whole
+pub mod Chained
 pub mod Footprint
 pub mod Exchange
 pub mod Meeting

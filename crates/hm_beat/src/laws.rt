@@ -7,9 +7,9 @@ ghost use Rattle.hm_mem.specs.declared.Actor.TheVariants.{Thread};
 ghost use Rattle.hm_mem.specs.Memory.{Around, Memory};
 ghost use Rattle.hm_regs.specs.declared.Regs.{Regs};
 ghost use Rattle.hm_lane.specs.Predicate.{predicate_of};
-ghost use Rattle.hm_order.specs.Beats.{ActionLaws, Apart, BeatLaws, StopsBy, beats, then};
+ghost use Rattle.hm_order.specs.Beats.{ActionLaws, Apart, BeatLaws, beats, then};
 ghost use Rattle.hm_state.specs.State.{Rest, State, cells, state_of};
-ghost use Rattle.hm_beat.specs.Laws.{Clean, KeepsLr, MayRun, RowLaws, is_tainted};
+ghost use Rattle.hm_beat.specs.Laws.{Clean, KeepsLr, MayRun, RowLaws, stopped};
 ghost use Rattle.hm_beat.specs.Meeting.{MeetAt, MeetsByte, MeetsPlace, Touches, byte_meets, clash_with, meeting, place_meets, touches_from};
 ghost use Rattle.hm_beat.specs.Ordered.{ordered};
 ghost use Rattle.hm_beat.specs.Rows.{Tree, predicate_at, retired};
@@ -33,12 +33,9 @@ pub fn rows_law()
 pub fn overlap<T: BeatWise>()
     ensures beats { (writes_lr : T → Bool) → ((i : T) (x : Around) → writes_lr i ≡ false → KeepsLr (T.tree i x))
         → (x : Around) → x.actor ≡ Thread → BeatLaws (ordered T (λ i. T.tree i x) writes_lr) }
-    // Four beats, and the next instruction behind them, are the whole instruction.
+    // Four beats, and the next instruction behind them, are the whole instruction, which stops for no taint.
     ensures whole { (writes_lr : T → Bool) (x : Around) → x.actor ≡ Thread → (i : T) (s : State) → MayRun (T.tree i x) s → Clean s
-        → then (beats (ordered T (λ j. T.tree j x) writes_lr) i 0 4 s) (λ u. Ok (retired u)) ≡ T.whole i x s }
-    // Where no byte is tainted, it does not stop for one.
-    ensures calm { (x : Around) → x.actor ≡ Thread → (i : T) (s : State) → MayRun (T.tree i x) s → Clean s
-        → StopsBy is_tainted (T.whole i x s) → ⊥ }
+        → then (beats (ordered T (λ j. T.tree j x) writes_lr) i 0 4 s) (λ u. Ok (retired u)) ≡ stopped (T.whole i s) }
 {}
 
 /// Where a beat meets those that an older row has left. What two beats meet on is the first place in the order of places, and else
@@ -50,7 +47,7 @@ pub fn clash_law()
         → (place_meets (touches_from t k n s) b p ≡ true) ↔ MeetsPlace t k n b s p }
     ensures bytes { (t : ℕ → Tree) (k n : ℕ) (b : Touches) (s : State) (x : ℕ)
         → (byte_meets (touches_from t k n s) b x ≡ true) ↔ MeetsByte t k n b s x }
-    ensures apart { (t u : Around → ℕ → Tree) (f g : Around → State → Result State Stop) → RowLaws t f → RowLaws u g
+    ensures apart { (t u : Around → ℕ → Tree) (f g : State → Result State Fault) → RowLaws t f → RowLaws u g
         → (x : Around) (a b : ℕ) (s : State) → clash_with (t x) a (u x b) s ≡ None
         → (k : ℕ) → a ≤ k → k < 4 → Apart (action cells (t x k)) (action cells (u x b)) s }
 {}

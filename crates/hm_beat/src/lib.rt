@@ -7,7 +7,7 @@ mod notes;
 mod pair;
 
 ghost use Rattle.std.specs.Prelude.{◌≡◌, ℕ, ◌<◌, IsTrue, List, Result};
-ghost use Rattle.hm_base.specs.declared.Stop.{Stop};
+ghost use Rattle.hm_base.specs.declared.Fault.{Fault};
 ghost use Rattle.hm_mem.specs.Memory.{Around, Memory, memory_of};
 ghost use Rattle.hm_state.specs.State.{State};
 ghost use Rattle.hm_beat.specs.Laws.{Beats, Checks, RowLaws, run};
@@ -37,7 +37,7 @@ pub trait BeatWise {
     ghost tree: { Self → Around → ℕ → Tree };
 
     /// The whole instruction.
-    ghost whole: { Self → Around → State → Result State Stop };
+    ghost whole: { Self → State → Result State Fault };
 
     /// What beat `b` touches, as the registers are now. `b` is below 4, and there is a context.
     fn touch(&self, b: u8, r: &Regs) -> Touch

@@ -1,53 +1,570 @@
--- The codes of the instructions.
+-- What each instruction is coded as.
 use Rattle.std.specs.Prelude.{ℕ, ◌+◌, ◌*◌, ◌/◌, ◌%◌, ◌^◌, List, [], ◌∷◌}
+use Rattle.hm_isa.specs.declared.narrow.ShiftName.{ShiftName}
+use Rattle.hm_isa.specs.declared.narrow.ShiftName.TheVariants as shift
+use Rattle.hm_isa.specs.declared.narrow.S1.{S1}
+use Rattle.hm_isa.specs.declared.narrow.SumName.{SumName}
+use Rattle.hm_isa.specs.declared.narrow.SumName.TheVariants as sum_
+use Rattle.hm_isa.specs.declared.narrow.S2.{S2}
 use Rattle.hm_isa.specs.declared.narrow.S3.{S3}
+use Rattle.hm_isa.specs.declared.narrow.ByteName.{ByteName}
+use Rattle.hm_isa.specs.declared.narrow.ByteName.TheVariants as byte
 use Rattle.hm_isa.specs.declared.narrow.S4.{S4}
+use Rattle.hm_isa.specs.declared.narrow.LogicName.{LogicName}
+use Rattle.hm_isa.specs.declared.narrow.LogicName.TheVariants as logic
+use Rattle.hm_isa.specs.declared.narrow.S5.{S5}
+use Rattle.hm_isa.specs.declared.narrow.S6.{S6}
+use Rattle.hm_isa.specs.declared.narrow.AccessName.{AccessName}
+use Rattle.hm_isa.specs.declared.narrow.AccessName.TheVariants as access
+use Rattle.hm_isa.specs.declared.narrow.S15.{S15}
+use Rattle.hm_isa.specs.declared.narrow.PlainName.{PlainName}
+use Rattle.hm_isa.specs.declared.narrow.PlainName.TheVariants as plain
+use Rattle.hm_isa.specs.declared.narrow.S16.{S16}
 use Rattle.hm_isa.specs.declared.narrow.S18.{S18}
-use Rattle.hm_isa.specs.declared.Scalar.{Scalar}
-use Rattle.hm_isa.specs.declared.Scalar.TheVariants as scalar
+use Rattle.hm_isa.specs.declared.narrow.ListName.{ListName}
+use Rattle.hm_isa.specs.declared.narrow.ListName.TheVariants as list
+use Rattle.hm_isa.specs.declared.narrow.S20.{S20}
+use Rattle.hm_isa.specs.declared.narrow.S21.{S21}
+use Rattle.hm_isa.specs.declared.narrow.JumpName.{JumpName}
+use Rattle.hm_isa.specs.declared.narrow.JumpName.TheVariants as jump
+use Rattle.hm_isa.specs.declared.narrow.S23.{S23}
+use Rattle.hm_isa.specs.declared.narrow.ZeroName.{ZeroName}
+use Rattle.hm_isa.specs.declared.narrow.ZeroName.TheVariants as zero_
+use Rattle.hm_isa.specs.declared.narrow.S24.{S24}
+use Rattle.hm_isa.specs.declared.narrow.Conditional.{Conditional}
+use Rattle.hm_isa.specs.declared.narrow.Always.{Always}
+use Rattle.hm_isa.specs.declared.narrow.S25.{S25}
+use Rattle.hm_isa.specs.declared.narrow.S25.TheVariants as s25
+use Rattle.hm_isa.specs.declared.wide.Offset.{Offset}
+use Rattle.hm_isa.specs.declared.wide.Indexed.{Indexed}
+use Rattle.hm_isa.specs.declared.wide.Shifted.{Shifted}
+use Rattle.hm_isa.specs.declared.wide.Literal.{Literal}
+use Rattle.hm_isa.specs.declared.wide.T12.{T12}
+use Rattle.hm_isa.specs.declared.wide.T12.TheVariants as t12
+use Rattle.hm_isa.specs.declared.wide.PairName.{PairName}
+use Rattle.hm_isa.specs.declared.wide.PairName.TheVariants as pair
+use Rattle.hm_isa.specs.declared.wide.T13.{T13}
+use Rattle.hm_isa.specs.declared.wide.StackName.{StackName}
+use Rattle.hm_isa.specs.declared.wide.StackName.TheVariants as stack
+use Rattle.hm_isa.specs.declared.wide.T15.{T15}
 use Rattle.hm_isa.specs.declared.vectors.AddName.{AddName}
 use Rattle.hm_isa.specs.declared.vectors.AddName.TheVariants as add
 use Rattle.hm_isa.specs.declared.vectors.V1.{V1}
+use Rattle.hm_isa.specs.declared.vectors.BitwiseName.{BitwiseName}
+use Rattle.hm_isa.specs.declared.vectors.BitwiseName.TheVariants as bitwise
+use Rattle.hm_isa.specs.declared.vectors.V2.{V2}
+use Rattle.hm_isa.specs.declared.vectors.SignedName.{SignedName}
+use Rattle.hm_isa.specs.declared.vectors.SignedName.TheVariants as signed
+use Rattle.hm_isa.specs.declared.vectors.V3.{V3}
+use Rattle.hm_isa.specs.declared.vectors.DoublingName.{DoublingName}
+use Rattle.hm_isa.specs.declared.vectors.DoublingName.TheVariants as doubling
+use Rattle.hm_isa.specs.declared.vectors.V5.{V5}
+use Rattle.hm_isa.specs.declared.vectors.V6.{V6}
+use Rattle.hm_isa.specs.declared.vectors.HighName.{HighName}
+use Rattle.hm_isa.specs.declared.vectors.HighName.TheVariants as high
+use Rattle.hm_isa.specs.declared.vectors.V7.{V7}
+use Rattle.hm_isa.specs.declared.vectors.CarryName.{CarryName}
+use Rattle.hm_isa.specs.declared.vectors.CarryName.TheVariants as carry
+use Rattle.hm_isa.specs.declared.vectors.V8.{V8}
+use Rattle.hm_isa.specs.declared.vectors.TurnName.{TurnName}
+use Rattle.hm_isa.specs.declared.vectors.TurnName.TheVariants as turn
+use Rattle.hm_isa.specs.declared.vectors.V9.{V9}
+use Rattle.hm_isa.specs.declared.vectors.ScalarName.{ScalarName}
+use Rattle.hm_isa.specs.declared.vectors.ScalarName.TheVariants as by_scalar
+use Rattle.hm_isa.specs.declared.vectors.V10.{V10}
+use Rattle.hm_isa.specs.declared.vectors.LongBytes.{LongBytes}
+use Rattle.hm_isa.specs.declared.vectors.LongHalves.{LongHalves}
+use Rattle.hm_isa.specs.declared.vectors.LongFull.{LongFull}
+use Rattle.hm_isa.specs.declared.vectors.V12.{V12}
+use Rattle.hm_isa.specs.declared.vectors.V12.TheVariants as v12
+use Rattle.hm_isa.specs.declared.vectors.OneName.{OneName}
+use Rattle.hm_isa.specs.declared.vectors.OneName.TheVariants as one
+use Rattle.hm_isa.specs.declared.vectors.OneElement.{OneElement}
+use Rattle.hm_isa.specs.declared.vectors.Invert.{Invert}
+use Rattle.hm_isa.specs.declared.vectors.V13.{V13}
+use Rattle.hm_isa.specs.declared.vectors.V13.TheVariants as v13
+use Rattle.hm_isa.specs.declared.vectors.ReverseName.{ReverseName}
+use Rattle.hm_isa.specs.declared.vectors.ReverseName.TheVariants as reverse_
+use Rattle.hm_isa.specs.declared.vectors.V14.{V14}
 use Rattle.hm_isa.specs.declared.vectors.V15.{V15}
+use Rattle.hm_isa.specs.declared.vectors.NarrowName.{NarrowName}
+use Rattle.hm_isa.specs.declared.vectors.NarrowName.TheVariants as narrow_
+use Rattle.hm_isa.specs.declared.vectors.V16.{V16}
+use Rattle.hm_isa.specs.declared.vectors.V17.{V17}
+use Rattle.hm_isa.specs.declared.vectors.Element.{Element}
+use Rattle.hm_isa.specs.declared.vectors.Element.TheVariants as element
+use Rattle.hm_isa.specs.declared.vectors.V18.{V18}
+use Rattle.hm_isa.specs.declared.vectors.OffsetsName.{OffsetsName}
+use Rattle.hm_isa.specs.declared.vectors.OffsetsName.TheVariants as offsets
+use Rattle.hm_isa.specs.declared.vectors.Offsets.{Offsets}
+use Rattle.hm_isa.specs.declared.vectors.WrappedOffsets.{WrappedOffsets}
+use Rattle.hm_isa.specs.declared.vectors.V19.{V19}
+use Rattle.hm_isa.specs.declared.vectors.V19.TheVariants as v19
+use Rattle.hm_isa.specs.declared.vectors.CompareVectors.{CompareVectors}
+use Rattle.hm_isa.specs.declared.vectors.CompareScalar.{CompareScalar}
+use Rattle.hm_isa.specs.declared.vectors.V20.{V20}
+use Rattle.hm_isa.specs.declared.vectors.V20.TheVariants as v20
+use Rattle.hm_isa.specs.declared.vectors.Block.{Block}
+use Rattle.hm_isa.specs.declared.vectors.Select.{Select}
+use Rattle.hm_isa.specs.declared.vectors.Tail.{Tail}
+use Rattle.hm_isa.specs.declared.vectors.V21.{V21}
+use Rattle.hm_isa.specs.declared.vectors.V21.TheVariants as v21
+use Rattle.hm_isa.specs.declared.vectors.Sum.{Sum}
+use Rattle.hm_isa.specs.declared.vectors.Dot.{Dot}
+use Rattle.hm_isa.specs.declared.vectors.LongSum.{LongSum}
+use Rattle.hm_isa.specs.declared.vectors.LongDot.{LongDot}
+use Rattle.hm_isa.specs.declared.vectors.V22.{V22}
+use Rattle.hm_isa.specs.declared.vectors.V22.TheVariants as v22
+use Rattle.hm_isa.specs.declared.vectors.ExtremeName.{ExtremeName}
+use Rattle.hm_isa.specs.declared.vectors.ExtremeName.TheVariants as extreme
+use Rattle.hm_isa.specs.declared.vectors.V23.{V23}
+use Rattle.hm_isa.specs.declared.Scalar.{Scalar}
+use Rattle.hm_isa.specs.declared.Scalar.TheVariants as scalar
+use Rattle.hm_isa.specs.declared.Branch.{Branch}
+use Rattle.hm_isa.specs.declared.Branch.TheVariants as branch
 use Rattle.hm_isa.specs.declared.Vector.{Vector}
 use Rattle.hm_isa.specs.declared.Vector.TheVariants as vector
 use Rattle.hm_isa.specs.declared.Instr.{Instr}
 use Rattle.hm_isa.specs.declared.Instr.TheVariants as instr
 
+-- x, where it stands at bit p
+infixl 70 ◌↑◌
+abbrev pub ◌↑◌ : ℕ → ℕ → ℕ
+x ↑ p = x * 2 ^ p
+
+-- CODES OF ONE HALFWORD
+
+abbrev pub shift_base : ShiftName → ℕ
+shift_base shift.Lsl = 0x0000
+shift_base shift.Lsr = 0x0800
+shift_base shift.Asr = 0x1000
+
+abbrev pub code_s1 : S1 → ℕ
+code_s1 r = shift_base r.name + r.i.value ↑ 6 + r.m.value ↑ 3 + r.d.value
+
+abbrev pub sum_base : SumName → ℕ
+sum_base sum_.Add = 0x1800
+sum_base sum_.Sub = 0x1a00
+
+abbrev pub code_s2 : S2 → ℕ
+code_s2 r = sum_base r.name + r.m.value ↑ 6 + r.n.value ↑ 3 + r.d.value
+
 abbrev pub code_s3 : S3 → ℕ
-code_s3 r = 0x1c00 + r.i.value * 2 ^ 6 + r.n.value * 2 ^ 3 + r.d.value
+code_s3 r = sum_base r.name + 0x0400 + r.i.value ↑ 6 + r.n.value ↑ 3 + r.d.value
+
+abbrev pub byte_base : ByteName → ℕ
+byte_base byte.Mov = 0x2000
+byte_base byte.Cmp = 0x2800
+byte_base byte.Add = 0x3000
+byte_base byte.Sub = 0x3800
 
 abbrev pub code_s4 : S4 → ℕ
-code_s4 r = 0x2000 + r.d.value * 2 ^ 8 + r.i.value
+code_s4 r = byte_base r.name + r.d.value ↑ 8 + r.i.value
+
+abbrev pub logic_base : LogicName → ℕ
+logic_base logic.Ands = 0x4000
+logic_base logic.Eors = 0x4040
+logic_base logic.Lsls = 0x4080
+logic_base logic.Lsrs = 0x40c0
+logic_base logic.Asrs = 0x4100
+logic_base logic.Adcs = 0x4140
+logic_base logic.Sbcs = 0x4180
+logic_base logic.Rors = 0x41c0
+logic_base logic.Tst = 0x4200
+logic_base logic.Rsbs = 0x4240
+logic_base logic.Cmp = 0x4280
+logic_base logic.Cmn = 0x42c0
+logic_base logic.Orrs = 0x4300
+logic_base logic.Muls = 0x4340
+logic_base logic.Bics = 0x4380
+logic_base logic.Mvns = 0x43c0
+
+abbrev pub code_s5 : S5 → ℕ
+code_s5 r = logic_base r.name + r.m.value ↑ 3 + r.d.value
+
+abbrev pub code_s6 : S6 → ℕ
+code_s6 r = 0x4400 + (r.d.value / 8) ↑ 7 + r.m.value ↑ 3 + r.d.value % 8
+
+abbrev pub access_base : AccessName → ℕ
+access_base access.Str = 0x5000
+access_base access.Strh = 0x5200
+access_base access.Strb = 0x5400
+access_base access.Ldrsb = 0x5600
+access_base access.Ldr = 0x5800
+access_base access.Ldrh = 0x5a00
+access_base access.Ldrb = 0x5c00
+access_base access.Ldrsh = 0x5e00
+
+abbrev pub code_s15 : S15 → ℕ
+code_s15 r = access_base r.name + r.m.value ↑ 6 + r.n.value ↑ 3 + r.t.value
+
+abbrev pub plain_base : PlainName → ℕ
+plain_base plain.Str = 0x6000
+plain_base plain.Ldr = 0x6800
+plain_base plain.Strb = 0x7000
+plain_base plain.Ldrb = 0x7800
+plain_base plain.Strh = 0x8000
+plain_base plain.Ldrh = 0x8800
+
+abbrev pub code_s16 : S16 → ℕ
+code_s16 r = plain_base r.name + r.i.value ↑ 6 + r.n.value ↑ 3 + r.t.value
 
 abbrev pub code_s18 : S18 → ℕ
 code_s18 r = 0xbe00 + r.i.value
 
-abbrev pub scalar_code : Scalar → ℕ
-scalar_code (scalar.S3 r) = code_s3 r
-scalar_code (scalar.S4 r) = code_s4 r
-scalar_code (scalar.S18 r) = code_s18 r
+abbrev pub list_base : ListName → ℕ
+list_base list.Push = 0xb400
+list_base list.Pop = 0xbc00
+list_base list.Stm = 0xc000
+list_base list.Ldm = 0xc800
 
--- the bits of a code that tell the operation
+-- x is 0 where n is not, and n is 0 where x is not
+abbrev pub code_s20 : S20 → ℕ
+code_s20 r = list_base r.name + r.x.value ↑ 8 + r.n.value ↑ 8 + r.list.value
+
+abbrev pub code_s21 : S21 → ℕ
+code_s21 r = 0xbf00 + r.c.value ↑ 4 + r.mask.value
+
+abbrev pub jump_base : JumpName → ℕ
+jump_base jump.Bx = 0x4700
+jump_base jump.Blx = 0x4780
+
+abbrev pub code_s23 : S23 → ℕ
+code_s23 r = jump_base r.name + r.m.value ↑ 3
+
+abbrev pub zero_base : ZeroName → ℕ
+zero_base zero_.Cbz = 0xb100
+zero_base zero_.Cbnz = 0xb900
+
+abbrev pub code_s24 : S24 → ℕ
+code_s24 r = zero_base r.name + (r.i.value / 32) ↑ 9 + (r.i.value % 32) ↑ 3 + r.n.value
+
+abbrev pub code_conditional : Conditional → ℕ
+code_conditional r = 0xd000 + r.c.value ↑ 8 + r.i.value
+
+abbrev pub code_always : Always → ℕ
+code_always r = 0xe000 + r.i.value
+
+abbrev pub code_s25 : S25 → ℕ
+code_s25 (s25.Conditional r) = code_conditional r
+code_s25 (s25.Always r) = code_always r
+
+-- CODES OF TWO HALFWORDS, the first in bits 31 to 16
+
+abbrev pub wide_access_base : AccessName → ℕ
+wide_access_base access.Strb = 0xf8000000
+wide_access_base access.Strh = 0xf8200000
+wide_access_base access.Str = 0xf8400000
+wide_access_base access.Ldrb = 0xf8100000
+wide_access_base access.Ldrh = 0xf8300000
+wide_access_base access.Ldr = 0xf8500000
+wide_access_base access.Ldrsb = 0xf9100000
+wide_access_base access.Ldrsh = 0xf9300000
+
+abbrev pub code_offset : Offset → ℕ
+code_offset r = wide_access_base r.name + 0x00800000 + r.n.value ↑ 16 + r.t.value ↑ 12 + r.i.value
+
+abbrev pub code_indexed : Indexed → ℕ
+code_indexed r = wide_access_base r.name + 0x0800 + r.n.value ↑ 16 + r.t.value ↑ 12 + r.p.value ↑ 10 + r.u.value ↑ 9 + r.w.value ↑ 8 + r.i.value
+
+abbrev pub code_shifted : Shifted → ℕ
+code_shifted r = wide_access_base r.name + r.n.value ↑ 16 + r.t.value ↑ 12 + r.i.value ↑ 4 + r.m.value
+
+abbrev pub code_literal : Literal → ℕ
+code_literal r = wide_access_base r.name + 0x000f0000 + r.u.value ↑ 23 + r.t.value ↑ 12 + r.i.value
+
+abbrev pub code_t12 : T12 → ℕ
+code_t12 (t12.Offset r) = code_offset r
+code_t12 (t12.Indexed r) = code_indexed r
+code_t12 (t12.Shifted r) = code_shifted r
+code_t12 (t12.Literal r) = code_literal r
+
+abbrev pub pair_base : PairName → ℕ
+pair_base pair.Strd = 0xe8400000
+pair_base pair.Ldrd = 0xe8500000
+
+abbrev pub code_t13 : T13 → ℕ
+code_t13 r = pair_base r.name + r.p.value ↑ 24 + r.add.value ↑ 23 + r.w.value ↑ 21 + r.n.value ↑ 16 + r.t.value ↑ 12 + r.u.value ↑ 8 + r.i.value
+
+abbrev pub stack_base : StackName → ℕ
+stack_base stack.Vpush = 0xed2d0b00
+stack_base stack.Vpop = 0xecbd0b00
+
+abbrev pub code_t15 : T15 → ℕ
+code_t15 r = stack_base r.name + r.v.value ↑ 12 + r.k.value ↑ 1
+
+-- CODES OF THE VECTOR ROWS
+
 abbrev pub add_base : AddName → ℕ
 add_base add.Add = 0xef000840
 add_base add.Sub = 0xff000840
 add_base add.Mul = 0xef000950
 
 abbrev pub code_v1 : V1 → ℕ
-code_v1 r = add_base r.name + r.z.value * 2 ^ 20 + r.n.value * 2 ^ 17 + r.d.value * 2 ^ 13 + r.m.value * 2
+code_v1 r = add_base r.name + r.z.value ↑ 20 + r.n.value ↑ 17 + r.d.value ↑ 13 + r.m.value ↑ 1
+
+abbrev pub bitwise_base : BitwiseName → ℕ
+bitwise_base bitwise.And = 0xef000150
+bitwise_base bitwise.Bic = 0xef100150
+bitwise_base bitwise.Orr = 0xef200150
+bitwise_base bitwise.Orn = 0xef300150
+bitwise_base bitwise.Eor = 0xff000150
+
+abbrev pub code_v2 : V2 → ℕ
+code_v2 r = bitwise_base r.name + r.n.value ↑ 17 + r.d.value ↑ 13 + r.m.value ↑ 1
+
+abbrev pub signed_base : SignedName → ℕ
+signed_base signed.Max = 0xef000640
+signed_base signed.Min = 0xef000650
+signed_base signed.Abd = 0xef000740
+signed_base signed.Hadd = 0xef000040
+signed_base signed.Rhadd = 0xef000140
+signed_base signed.Hsub = 0xef000240
+signed_base signed.Qadd = 0xef000050
+signed_base signed.Qsub = 0xef000250
+
+abbrev pub code_v3 : V3 → ℕ
+code_v3 r = signed_base r.name + r.u.value ↑ 28 + r.z.value ↑ 20 + r.n.value ↑ 17 + r.d.value ↑ 13 + r.m.value ↑ 1
+
+abbrev pub doubling_base : DoublingName → ℕ
+doubling_base doubling.Qdmulh = 0xef000b40
+doubling_base doubling.Qrdmulh = 0xff000b40
+
+abbrev pub code_v5 : V5 → ℕ
+code_v5 r = doubling_base r.name + r.z.value ↑ 20 + r.n.value ↑ 17 + r.d.value ↑ 13 + r.m.value ↑ 1
+
+abbrev pub code_v6 : V6 → ℕ
+code_v6 r = 0xee010e00 + r.u.value ↑ 28 + r.z.value ↑ 20 + r.t.value ↑ 12 + r.n.value ↑ 17 + r.d.value ↑ 13 + r.m.value ↑ 1
+
+abbrev pub high_base : HighName → ℕ
+high_base high.Mulh = 0xee010e01
+high_base high.Rmulh = 0xee011e01
+
+abbrev pub code_v7 : V7 → ℕ
+code_v7 r = high_base r.name + r.u.value ↑ 28 + r.z.value ↑ 20 + r.n.value ↑ 17 + r.d.value ↑ 13 + r.m.value ↑ 1
+
+abbrev pub carry_base : CarryName → ℕ
+carry_base carry.Adc = 0xee300f00
+carry_base carry.Adci = 0xee301f00
+carry_base carry.Sbc = 0xfe300f00
+carry_base carry.Sbci = 0xfe301f00
+
+abbrev pub code_v8 : V8 → ℕ
+code_v8 r = carry_base r.name + r.n.value ↑ 17 + r.d.value ↑ 13 + r.m.value ↑ 1
+
+abbrev pub turn_base : TurnName → ℕ
+turn_base turn.Cadd = 0xfe000f00
+turn_base turn.Hcadd = 0xee000f00
+
+abbrev pub code_v9 : V9 → ℕ
+code_v9 r = turn_base r.name + r.z.value ↑ 20 + r.t.value ↑ 12 + r.n.value ↑ 17 + r.d.value ↑ 13 + r.m.value ↑ 1
+
+abbrev pub scalar_base : ScalarName → ℕ
+scalar_base by_scalar.Add = 0xee010f40
+scalar_base by_scalar.Sub = 0xee011f40
+scalar_base by_scalar.Mul = 0xee011e60
+scalar_base by_scalar.Hadd = 0xee000f40
+scalar_base by_scalar.Hsub = 0xee001f40
+scalar_base by_scalar.Qadd = 0xee000f60
+scalar_base by_scalar.Qsub = 0xee001f60
+scalar_base by_scalar.Qdmulh = 0xee010e60
+scalar_base by_scalar.Qrdmulh = 0xfe010e60
+scalar_base by_scalar.Mla = 0xee010e40
+scalar_base by_scalar.Mlas = 0xee011e40
+
+abbrev pub code_v10 : V10 → ℕ
+code_v10 r = scalar_base r.name + r.u.value ↑ 28 + r.z.value ↑ 20 + r.n.value ↑ 17 + r.d.value ↑ 13 + r.m.value
+
+-- the shift stands behind 101 in bits 21 to 16, or behind 11
+abbrev pub code_long_bytes : LongBytes → ℕ
+code_long_bytes r = 0xeea80f40 + r.u.value ↑ 28 + r.k.value ↑ 16 + r.t.value ↑ 12 + r.d.value ↑ 13 + r.m.value ↑ 1
+
+abbrev pub code_long_halves : LongHalves → ℕ
+code_long_halves r = 0xeeb00f40 + r.u.value ↑ 28 + r.k.value ↑ 16 + r.t.value ↑ 12 + r.d.value ↑ 13 + r.m.value ↑ 1
+
+abbrev pub code_long_full : LongFull → ℕ
+code_long_full r = 0xee310e01 + r.u.value ↑ 28 + r.z.value ↑ 18 + r.t.value ↑ 12 + r.d.value ↑ 13 + r.m.value ↑ 1
+
+abbrev pub code_v12 : V12 → ℕ
+code_v12 (v12.Bytes r) = code_long_bytes r
+code_v12 (v12.Halves r) = code_long_halves r
+code_v12 (v12.Full r) = code_long_full r
+
+abbrev pub one_base : OneName → ℕ
+one_base one.Abs = 0xffb10340
+one_base one.Neg = 0xffb103c0
+one_base one.Qabs = 0xffb00740
+one_base one.Qneg = 0xffb007c0
+
+abbrev pub code_one_element : OneElement → ℕ
+code_one_element r = one_base r.name + r.z.value ↑ 18 + r.d.value ↑ 13 + r.m.value ↑ 1
+
+abbrev pub code_invert : Invert → ℕ
+code_invert r = 0xffb005c0 + r.d.value ↑ 13 + r.m.value ↑ 1
+
+abbrev pub code_v13 : V13 → ℕ
+code_v13 (v13.Elements r) = code_one_element r
+code_v13 (v13.Not r) = code_invert r
+
+abbrev pub reverse_base : ReverseName → ℕ
+reverse_base reverse_.Rev64 = 0xffb00040
+reverse_base reverse_.Rev32 = 0xffb000c0
+reverse_base reverse_.Rev16 = 0xffb00140
+
+abbrev pub code_v14 : V14 → ℕ
+code_v14 r = reverse_base r.name + r.z.value ↑ 18 + r.d.value ↑ 13 + r.m.value ↑ 1
 
 abbrev pub code_v15 : V15 → ℕ
-code_v15 r =
-    0xef800050 + r.i.value * 2 ^ 28 + r.i3.value * 2 ^ 16 + r.d.value * 2 ^ 13 + r.cm.value * 2 ^ 8 + r.op.value * 2 ^ 5 + r.i4.value
+code_v15 r = 0xef800050 + r.i.value ↑ 28 + r.i3.value ↑ 16 + r.d.value ↑ 13 + r.cm.value ↑ 8 + r.op.value ↑ 5 + r.i4.value
 
--- the code of a vector instruction, with its first halfword in bits 31 to 16
+abbrev pub narrow_base : NarrowName → ℕ
+narrow_base narrow_.Plain = 0xfe310e81
+narrow_base narrow_.ToUnsigned = 0xee310e81
+narrow_base narrow_.Signed = 0xee330e01
+narrow_base narrow_.Unsigned = 0xfe330e01
+
+abbrev pub code_v16 : V16 → ℕ
+code_v16 r = narrow_base r.name + r.z.value ↑ 18 + r.t.value ↑ 12 + r.d.value ↑ 13 + r.m.value ↑ 1
+
+abbrev pub code_v17 : V17 → ℕ
+code_v17 r = 0xeea00fc0 + r.k.value ↑ 16 + r.d.value ↑ 13 + r.m.value
+
+abbrev pub dup_base : Element → ℕ
+dup_base element.Bytes = 0xeee00b10
+dup_base element.Halves = 0xeea00b30
+dup_base element.Words = 0xeea00b10
+
+abbrev pub code_v18 : V18 → ℕ
+code_v18 r = dup_base r.size + r.d.value ↑ 17 + r.t.value ↑ 12
+
+abbrev pub offsets_base : OffsetsName → ℕ
+offsets_base offsets.Up = 0xee010f60
+offsets_base offsets.Down = 0xee011f60
+
+-- bit 1 of the step stands in bit 7, and bit 0 in bit 0
+abbrev pub step_code : ℕ → ℕ
+step_code k = (k / 2) ↑ 7 + k % 2
+
+abbrev pub code_offsets : Offsets → ℕ
+code_offsets r = offsets_base r.name + 0xe + r.z.value ↑ 20 + r.n.value ↑ 17 + r.d.value ↑ 13 + step_code r.k.value
+
+abbrev pub code_wrapped_offsets : WrappedOffsets → ℕ
+code_wrapped_offsets r = offsets_base r.name + r.z.value ↑ 20 + r.n.value ↑ 17 + r.d.value ↑ 13 + step_code r.k.value + r.r.value ↑ 1
+
+abbrev pub code_v19 : V19 → ℕ
+code_v19 (v19.Free r) = code_offsets r
+code_v19 (v19.Wrapped r) = code_wrapped_offsets r
+
+-- k stands in bit 22, which is its bit 3, and bits 15 to 13
+abbrev pub mask_code : ℕ → ℕ
+mask_code k = (k / 8) ↑ 22 + (k % 8) ↑ 13
+
+abbrev pub code_compare_vectors : CompareVectors → ℕ
+code_compare_vectors r = 0xfe010f00 + mask_code r.k.value + r.z.value ↑ 20 + r.n.value ↑ 17 + (r.c.value / 4) ↑ 12 + (r.c.value % 2) ↑ 7 + r.m.value ↑ 1 + r.c.value / 2 % 2
+
+abbrev pub code_compare_scalar : CompareScalar → ℕ
+code_compare_scalar r = 0xfe010f40 + mask_code r.k.value + r.z.value ↑ 20 + r.n.value ↑ 17 + (r.c.value / 4) ↑ 12 + (r.c.value % 2) ↑ 7 + (r.c.value / 2 % 2) ↑ 5 + r.m.value
+
+abbrev pub code_v20 : V20 → ℕ
+code_v20 (v20.Vectors r) = code_compare_vectors r
+code_v20 (v20.Scalar r) = code_compare_scalar r
+
+abbrev pub code_block : Block → ℕ
+code_block r = 0xfe310f4d + mask_code r.k.value
+
+abbrev pub code_select : Select → ℕ
+code_select r = 0xfe310f01 + r.n.value ↑ 17 + r.d.value ↑ 13 + r.m.value ↑ 1
+
+abbrev pub code_tail : Tail → ℕ
+code_tail r = 0xf000e801 + r.z.value ↑ 20 + r.n.value ↑ 16
+
+abbrev pub code_v21 : V21 → ℕ
+code_v21 (v21.Block r) = code_block r
+code_v21 (v21.Select r) = code_select r
+code_v21 (v21.Tail r) = code_tail r
+
+abbrev pub code_sum : Sum → ℕ
+code_sum r = 0xeef10f00 + r.u.value ↑ 28 + r.z.value ↑ 18 + r.l.value ↑ 13 + r.a.value ↑ 5 + r.m.value ↑ 1
+
+abbrev pub dot_base : Element → ℕ
+dot_base element.Bytes = 0xeef00f00
+dot_base element.Halves = 0xeef00e00
+dot_base element.Words = 0xeef10e00
+
+abbrev pub code_dot : Dot → ℕ
+code_dot r = dot_base r.size + r.u.value ↑ 28 + r.n.value ↑ 17 + r.l.value ↑ 13 + r.a.value ↑ 5 + r.m.value ↑ 1
+
+abbrev pub code_long_sum : LongSum → ℕ
+code_long_sum r = 0xee890f00 + r.u.value ↑ 28 + r.h.value ↑ 20 + r.l.value ↑ 13 + r.a.value ↑ 5 + r.m.value ↑ 1
+
+abbrev pub code_long_dot : LongDot → ℕ
+code_long_dot r = 0xee800e00 + r.u.value ↑ 28 + r.h.value ↑ 20 + r.n.value ↑ 17 + r.s.value ↑ 16 + r.l.value ↑ 13 + r.a.value ↑ 5 + r.m.value ↑ 1
+
+abbrev pub code_v22 : V22 → ℕ
+code_v22 (v22.Sum r) = code_sum r
+code_v22 (v22.Dot r) = code_dot r
+code_v22 (v22.LongSum r) = code_long_sum r
+code_v22 (v22.LongDot r) = code_long_dot r
+
+abbrev pub extreme_base : ExtremeName → ℕ
+extreme_base extreme.Max = 0xeee20f00
+extreme_base extreme.Min = 0xeee20f80
+
+abbrev pub code_v23 : V23 → ℕ
+code_v23 r = extreme_base r.name + r.u.value ↑ 28 + r.z.value ↑ 18 + r.t.value ↑ 12 + r.m.value ↑ 1
+
+-- THE HALFWORDS of a code, one or two
+abbrev pub one_half : ℕ → List ℕ
+one_half c = c ∷ []
+
+abbrev pub two_halves : ℕ → List ℕ
+two_halves c = c / 65536 ∷ c % 65536 ∷ []
+
+abbrev pub scalar_halves : Scalar → List ℕ
+scalar_halves (scalar.S1 r) = one_half (code_s1 r)
+scalar_halves (scalar.S2 r) = one_half (code_s2 r)
+scalar_halves (scalar.S3 r) = one_half (code_s3 r)
+scalar_halves (scalar.S4 r) = one_half (code_s4 r)
+scalar_halves (scalar.S5 r) = one_half (code_s5 r)
+scalar_halves (scalar.S6 r) = one_half (code_s6 r)
+scalar_halves (scalar.S15 r) = one_half (code_s15 r)
+scalar_halves (scalar.S16 r) = one_half (code_s16 r)
+scalar_halves (scalar.S18 r) = one_half (code_s18 r)
+scalar_halves (scalar.S20 r) = one_half (code_s20 r)
+scalar_halves (scalar.S21 r) = one_half (code_s21 r)
+scalar_halves (scalar.T12 r) = two_halves (code_t12 r)
+scalar_halves (scalar.T13 r) = two_halves (code_t13 r)
+scalar_halves (scalar.T15 r) = two_halves (code_t15 r)
+
+abbrev pub branch_halves : Branch → List ℕ
+branch_halves (branch.S23 r) = one_half (code_s23 r)
+branch_halves (branch.S24 r) = one_half (code_s24 r)
+branch_halves (branch.S25 r) = one_half (code_s25 r)
+
 abbrev pub vector_code : Vector → ℕ
 vector_code (vector.V1 r) = code_v1 r
+vector_code (vector.V2 r) = code_v2 r
+vector_code (vector.V3 r) = code_v3 r
+vector_code (vector.V5 r) = code_v5 r
+vector_code (vector.V6 r) = code_v6 r
+vector_code (vector.V7 r) = code_v7 r
+vector_code (vector.V8 r) = code_v8 r
+vector_code (vector.V9 r) = code_v9 r
+vector_code (vector.V10 r) = code_v10 r
+vector_code (vector.V12 r) = code_v12 r
+vector_code (vector.V13 r) = code_v13 r
+vector_code (vector.V14 r) = code_v14 r
 vector_code (vector.V15 r) = code_v15 r
+vector_code (vector.V16 r) = code_v16 r
+vector_code (vector.V17 r) = code_v17 r
+vector_code (vector.V18 r) = code_v18 r
+vector_code (vector.V19 r) = code_v19 r
+vector_code (vector.V20 r) = code_v20 r
+vector_code (vector.V21 r) = code_v21 r
+vector_code (vector.V22 r) = code_v22 r
+vector_code (vector.V23 r) = code_v23 r
 
--- the halfwords of an instruction's code, one or two
 abbrev pub halfwords : Instr → List ℕ
-halfwords (instr.Scalar s) = scalar_code s ∷ []
-halfwords (instr.Branch b) = elim b [ ]
-halfwords (instr.Vector v) = vector_code v / 65536 ∷ vector_code v % 65536 ∷ []
+halfwords (instr.Scalar i) = scalar_halves i
+halfwords (instr.Branch i) = branch_halves i
+halfwords (instr.Vector i) = two_halves (vector_code i)

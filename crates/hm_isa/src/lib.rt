@@ -2,46 +2,145 @@
 #![tactic(auto)]
 
 ghost use Rattle.std.specs.Prelude.{◌≡◌, ◌*◌, length};
-ghost use Rattle.hm_isa.specs.Code.{halfwords};
+ghost use Rattle.hm_isa.specs.Code.{halfwords, scalar_halves};
 
 mod fields;
 mod narrow;
 mod vectors;
+mod wide;
 
-pub use fields::{Below, Bit, Byte, Low, QRegister, Size};
-pub use narrow::{S3, S4, S18};
-pub use vectors::{AddName, V1, V15};
+pub use fields::{Below, Bit, Byte, Low, QRegister, Register, Size};
+pub use narrow::{
+    AccessName, Always, ByteName, Conditional, JumpName, ListName, LogicName, PlainName, S1, S2,
+    S3, S4, S5, S6, S15, S16, S18, S20, S21, S23, S24, S25, ShiftName, SumName, ZeroName,
+};
+pub use vectors::{
+    AddName, BitwiseName, Block, CarryName, CompareScalar, CompareVectors, Dot, DoublingName,
+    Element, ExtremeName, HighName, Invert, LongBytes, LongDot, LongFull, LongHalves, LongSum,
+    NarrowName, Offsets, OffsetsName, OneElement, OneName, ReverseName, ScalarName, Select,
+    SignedName, Sum, Tail, TurnName, V1, V2, V3, V5, V6, V7, V8, V9, V10, V12, V13, V14, V15, V16,
+    V17, V18, V19, V20, V21, V22, V23, WrappedOffsets,
+};
+pub use wide::{Indexed, Literal, Offset, PairName, Shifted, StackName, T12, T13, T15};
 
 /// An instruction of the scalar rows: neither a branch nor a vector instruction.
 #[derive(Clone, Copy, Debug, PartialEq, Eq)]
 pub enum Scalar {
-    /// `adds rd,rn,#i`
+    /// `lsls`, `lsrs`, `asrs rd,rm,#i`
+    S1(S1),
+    /// `adds`, `subs rd,rn,rm`
+    S2(S2),
+    /// `adds`, `subs rd,rn,#i`
     S3(S3),
-    /// `movs rd,#i`
+    /// `movs`, `cmp`, `adds`, `subs rd,#i`
     S4(S4),
+    /// `ands` to `mvns rd,rm`
+    S5(S5),
+    /// `add rd,rm` of any registers
+    S6(S6),
+    /// `str` to `ldrsh rt,[rn,rm]`
+    S15(S15),
+    /// `str` to `ldrh rt,[rn,#i]`
+    S16(S16),
     /// `bkpt #i`
     S18(S18),
+    /// `push`, `pop`, `stm`, `ldm`
+    S20(S20),
+    /// `it`
+    S21(S21),
+    /// `str.w` to `ldrsh.w`
+    T12(T12),
+    /// `strd`, `ldrd`
+    T13(T13),
+    /// `vpush`, `vpop`
+    T15(T15),
 }
 
 /// An instruction of the branch rows.
-#[derive(Clone, Copy)]
-pub enum Branch {}
+#[derive(Clone, Copy, Debug, PartialEq, Eq)]
+pub enum Branch {
+    /// `bx`, `blx rm`
+    S23(S23),
+    /// `cbz`, `cbnz rn,label`
+    S24(S24),
+    /// `beq label` and so on, `b label`
+    S25(S25),
+}
 
 /// An instruction of the vector rows: DDI0553, "M-profile Vector Extension".
 #[derive(Clone, Copy, Debug, PartialEq, Eq)]
 pub enum Vector {
     /// `vadd`, `vsub`, `vmul` of elements
     V1(V1),
+    /// `vand` to `veor`
+    V2(V2),
+    /// `vmax` to `vqsub`
+    V3(V3),
+    /// `vqdmulh`, `vqrdmulh`
+    V5(V5),
+    /// `vmull`
+    V6(V6),
+    /// `vmulh`, `vrmulh`
+    V7(V7),
+    /// `vadc` to `vsbci`
+    V8(V8),
+    /// `vcadd`, `vhcadd`
+    V9(V9),
+    /// elements and a core register
+    V10(V10),
+    /// `vshll`
+    V12(V12),
+    /// `vabs` to `vqneg`, `vmvn`
+    V13(V13),
+    /// `vrev`
+    V14(V14),
     /// `vmov`, `vmvn`, `vorr`, `vbic` with an immediate
     V15(V15),
+    /// `vmovn`, `vqmovn`
+    V16(V16),
+    /// `vshlc`
+    V17(V17),
+    /// `vdup`
+    V18(V18),
+    /// `vidup` to `vdwdup`
+    V19(V19),
+    /// `vcmp`, `vpt`
+    V20(V20),
+    /// `vpst`, `vpnot`, `vpsel`, `vctp`
+    V21(V21),
+    /// `vaddv`, `vmladav`, `vaddlv`, `vmlaldav`
+    V22(V22),
+    /// `vmaxv`, `vminv`
+    V23(V23),
 }
 
 /// An instruction. Each value is one of a row, with its fields in range.
-#[derive(Clone, Copy)]
+#[derive(Clone, Copy, Debug, PartialEq, Eq)]
 pub enum Instr {
     Scalar(Scalar),
     Branch(Branch),
     Vector(Vector),
+}
+
+/// What has become of an instruction that did not stop.
+#[derive(Clone, Copy, Debug, PartialEq, Eq)]
+pub enum Flow {
+    /// It is done, and the program counter has moved.
+    Next,
+    /// It was `bkpt #k`, which changes nothing.
+    Break { k: u8 },
+    /// In a handler it branched to this value, which ends the handler. The branch is not done.
+    Return { value: u32 },
+}
+
+/// How many bytes the code of a scalar instruction has: 2 or 4.
+fn scalar_width(i: &Scalar) -> u32
+    ensures { result ≡ 2 * length (scalar_halves i.now) }
+{
+    match i {
+        Scalar::T12(_) | Scalar::T13(_) | Scalar::T15(_) => 4,
+        _ => 2,
+    }
 }
 
 /// How many bytes the code of an instruction has: 2 or 4.
@@ -49,8 +148,8 @@ pub fn width(i: &Instr) -> u32
     ensures { result ≡ 2 * length (halfwords i.now) }
 {
     match i {
-        Instr::Scalar(_) => 2,
-        Instr::Branch(b) => match *b {},
+        Instr::Scalar(i) => scalar_width(i),
+        Instr::Branch(_) => 2,
         Instr::Vector(_) => 4,
     }
 }

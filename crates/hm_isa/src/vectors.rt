@@ -1,6 +1,20 @@
-//! The rows of the vector codes.
+//! The rows of the vector codes: DDI0553, "M-profile Vector Extension".
 
-use crate::fields::{Below, Bit, QRegister, Size};
+ghost use Rattle.std.specs.Prelude.{◌≡◌, ◌≢◌, IsTrue};
+ghost use Rattle.hm_isa.specs.Keeps.{is_reversed, is_signed_by, is_turned, is_widened};
+
+use crate::fields::{Below, Bit, QRegister, Register, Size};
+
+/// The size of elements, where it tells codes apart as a name does.
+#[derive(Clone, Copy, PartialEq, Eq, Debug)]
+pub enum Element {
+    /// 8 bits
+    Bytes,
+    /// 16 bits
+    Halves,
+    /// 32 bits
+    Words,
+}
 
 /// The operation of the row V1.
 #[derive(Clone, Copy, PartialEq, Eq, Debug)]
@@ -19,12 +33,359 @@ pub struct V1 {
     pub name: AddName,
     /// The size of the elements.
     pub z: Size,
-    /// The register that gets the result.
-    pub d: QRegister,
     /// The register of the first operands.
     pub n: QRegister,
+    /// The register that gets the result.
+    pub d: QRegister,
     /// The register of the second operands.
     pub m: QRegister,
+}
+
+/// The operation of the row V2.
+#[derive(Clone, Copy, PartialEq, Eq, Debug)]
+pub enum BitwiseName {
+    /// `vand`
+    And,
+    /// `vbic`
+    Bic,
+    /// `vorr`
+    Orr,
+    /// `vorn`
+    Orn,
+    /// `veor`
+    Eor,
+}
+
+/// `vand`, `vbic`, `vorr`, `vorn`, `veor qd,qn,qm`: DDI0553, "VAND", "VBIC (register)", "VORR", "VORN" and "VEOR".
+#[derive(Clone, Copy, PartialEq, Eq, Debug)]
+pub struct V2 {
+    pub name: BitwiseName,
+    /// The register of the first operands.
+    pub n: QRegister,
+    /// The register that gets the result.
+    pub d: QRegister,
+    /// The register of the second operands.
+    pub m: QRegister,
+}
+
+/// The operation of the row V3.
+#[derive(Clone, Copy, PartialEq, Eq, Debug)]
+pub enum SignedName {
+    /// `vmax`
+    Max,
+    /// `vmin`
+    Min,
+    /// `vabd`
+    Abd,
+    /// `vhadd`
+    Hadd,
+    /// `vrhadd`
+    Rhadd,
+    /// `vhsub`
+    Hsub,
+    /// `vqadd`
+    Qadd,
+    /// `vqsub`
+    Qsub,
+}
+
+/// `vmax`, `vmin`, `vabd`, `vhadd`, `vrhadd`, `vhsub`, `vqadd`, `vqsub` of elements, as `vmax.s8 qd,qn,qm`: DDI0553, these
+/// instructions' vector forms.
+#[derive(Clone, Copy, PartialEq, Eq, Debug)]
+pub struct V3 {
+    pub name: SignedName,
+    /// 1 for unsigned elements.
+    pub u: Bit,
+    /// The size of the elements.
+    pub z: Size,
+    /// The register of the first operands.
+    pub n: QRegister,
+    /// The register that gets the result.
+    pub d: QRegister,
+    /// The register of the second operands.
+    pub m: QRegister,
+}
+
+/// The operation of the row V5.
+#[derive(Clone, Copy, PartialEq, Eq, Debug)]
+pub enum DoublingName {
+    /// `vqdmulh`
+    Qdmulh,
+    /// `vqrdmulh`
+    Qrdmulh,
+}
+
+/// `vqdmulh`, `vqrdmulh`, as `vqdmulh.s8 qd,qn,qm`: DDI0553, "VQDMULH, VQRDMULH (vector)".
+#[derive(Clone, Copy, PartialEq, Eq, Debug)]
+pub struct V5 {
+    pub name: DoublingName,
+    /// The size of the elements.
+    pub z: Size,
+    /// The register of the first operands.
+    pub n: QRegister,
+    /// The register that gets the result.
+    pub d: QRegister,
+    /// The register of the second operands.
+    pub m: QRegister,
+}
+
+/// `vmullb`, `vmullt`, as `vmullb.s8 qd,qn,qm`: DDI0553, "VMULL (integer)".
+#[derive(Clone, Copy, PartialEq, Eq, Debug)]
+pub struct V6 {
+    /// 1 for unsigned elements.
+    pub u: Bit,
+    /// The size of the elements.
+    pub z: Size,
+    /// 1 for the elements with odd numbers.
+    pub t: Bit,
+    /// The register of the first operands.
+    pub n: QRegister,
+    /// The register that gets the result.
+    pub d: QRegister,
+    /// The register of the second operands.
+    pub m: QRegister,
+    pub ghost rule: { IsTrue (is_widened z.value d.value n.value m.value) },
+}
+
+/// The operation of the row V7.
+#[derive(Clone, Copy, PartialEq, Eq, Debug)]
+pub enum HighName {
+    /// `vmulh`
+    Mulh,
+    /// `vrmulh`
+    Rmulh,
+}
+
+/// `vmulh`, `vrmulh`, as `vmulh.s8 qd,qn,qm`: DDI0553, "VMULH, VRMULH".
+#[derive(Clone, Copy, PartialEq, Eq, Debug)]
+pub struct V7 {
+    pub name: HighName,
+    /// 1 for unsigned elements.
+    pub u: Bit,
+    /// The size of the elements.
+    pub z: Size,
+    /// The register of the first operands.
+    pub n: QRegister,
+    /// The register that gets the result.
+    pub d: QRegister,
+    /// The register of the second operands.
+    pub m: QRegister,
+}
+
+/// The operation of the row V8.
+#[derive(Clone, Copy, PartialEq, Eq, Debug)]
+pub enum CarryName {
+    /// `vadc`
+    Adc,
+    /// `vadci`, which begins with a carry of 0
+    Adci,
+    /// `vsbc`
+    Sbc,
+    /// `vsbci`, which begins with a carry of 1
+    Sbci,
+}
+
+/// `vadc`, `vadci`, `vsbc`, `vsbci`, as `vadc.i32 qd,qn,qm`: DDI0553, "VADC" and "VSBC".
+#[derive(Clone, Copy, PartialEq, Eq, Debug)]
+pub struct V8 {
+    pub name: CarryName,
+    /// The register of the first operands.
+    pub n: QRegister,
+    /// The register that gets the result.
+    pub d: QRegister,
+    /// The register of the second operands.
+    pub m: QRegister,
+}
+
+/// The operation of the row V9.
+#[derive(Clone, Copy, PartialEq, Eq, Debug)]
+pub enum TurnName {
+    /// `vcadd`
+    Cadd,
+    /// `vhcadd`
+    Hcadd,
+}
+
+/// `vcadd`, `vhcadd`, as `vcadd.i8 qd,qn,qm,#90`: DDI0553, "VCADD" and "VHCADD".
+#[derive(Clone, Copy, PartialEq, Eq, Debug)]
+pub struct V9 {
+    pub name: TurnName,
+    /// The size of the elements.
+    pub z: Size,
+    /// 1 for a rotation by 270 degrees, 0 for one by 90.
+    pub t: Bit,
+    /// The register of the first operands.
+    pub n: QRegister,
+    /// The register that gets the result.
+    pub d: QRegister,
+    /// The register of the second operands.
+    pub m: QRegister,
+    pub ghost rule: { IsTrue (is_turned z.value d.value m.value) },
+}
+
+/// The operation of the row V10.
+#[derive(Clone, Copy, PartialEq, Eq, Debug)]
+pub enum ScalarName {
+    /// `vadd`
+    Add,
+    /// `vsub`
+    Sub,
+    /// `vmul`
+    Mul,
+    /// `vhadd`
+    Hadd,
+    /// `vhsub`
+    Hsub,
+    /// `vqadd`
+    Qadd,
+    /// `vqsub`
+    Qsub,
+    /// `vqdmulh`
+    Qdmulh,
+    /// `vqrdmulh`
+    Qrdmulh,
+    /// `vmla`
+    Mla,
+    /// `vmlas`
+    Mlas,
+}
+
+/// Operations of elements and a core register, as `vadd.i8 qd,qn,rm`: DDI0553, these instructions' forms with a vector and a
+/// scalar. `u` is 0 where the name says nothing of signs.
+#[derive(Clone, Copy, PartialEq, Eq, Debug)]
+pub struct V10 {
+    pub name: ScalarName,
+    /// 1 for unsigned elements.
+    pub u: Bit,
+    /// The size of the elements.
+    pub z: Size,
+    /// The register of the first operands.
+    pub n: QRegister,
+    /// The register that gets the result.
+    pub d: QRegister,
+    /// The register of the second operand.
+    pub m: Register,
+    pub ghost signs: { IsTrue (is_signed_by name u.value) },
+    pub ghost not_sp: { m.value ≢ 13 },
+    pub ghost not_pc: { m.value ≢ 15 },
+}
+
+/// `vshllb`, `vshllt` of 8 bits by less than 8, as `vshllb.s8 qd,qm,#k`; by 0 they are `vmovlb`, `vmovlt`.
+#[derive(Clone, Copy, PartialEq, Eq, Debug)]
+pub struct LongBytes {
+    /// 1 for unsigned elements.
+    pub u: Bit,
+    /// The shift.
+    pub k: Below<8>,
+    /// 1 for the elements with odd numbers.
+    pub t: Bit,
+    /// The register that gets the result.
+    pub d: QRegister,
+    /// The register of the operand.
+    pub m: QRegister,
+}
+
+/// `vshllb`, `vshllt` of 16 bits by less than 16, as `vshllb.s16 qd,qm,#k`; by 0 they are `vmovlb`, `vmovlt`.
+#[derive(Clone, Copy, PartialEq, Eq, Debug)]
+pub struct LongHalves {
+    /// 1 for unsigned elements.
+    pub u: Bit,
+    /// The shift.
+    pub k: Below<16>,
+    /// 1 for the elements with odd numbers.
+    pub t: Bit,
+    /// The register that gets the result.
+    pub d: QRegister,
+    /// The register of the operand.
+    pub m: QRegister,
+}
+
+/// `vshllb`, `vshllt` by the size of the elements, as `vshllb.s8 qd,qm,#8`.
+#[derive(Clone, Copy, PartialEq, Eq, Debug)]
+pub struct LongFull {
+    /// 1 for unsigned elements.
+    pub u: Bit,
+    /// 0 for elements of 8 bits, 1 for 16.
+    pub z: Bit,
+    /// 1 for the elements with odd numbers.
+    pub t: Bit,
+    /// The register that gets the result.
+    pub d: QRegister,
+    /// The register of the operand.
+    pub m: QRegister,
+}
+
+/// `vshllb`, `vshllt`, `vmovlb`, `vmovlt`: DDI0553, "VSHLL" and "VMOVL".
+#[derive(Clone, Copy, PartialEq, Eq, Debug)]
+pub enum V12 {
+    Bytes(LongBytes),
+    Halves(LongHalves),
+    Full(LongFull),
+}
+
+/// The operation of the row V13 on elements.
+#[derive(Clone, Copy, PartialEq, Eq, Debug)]
+pub enum OneName {
+    /// `vabs`
+    Abs,
+    /// `vneg`
+    Neg,
+    /// `vqabs`
+    Qabs,
+    /// `vqneg`
+    Qneg,
+}
+
+/// `vabs`, `vneg`, `vqabs`, `vqneg`, as `vabs.s8 qd,qm`.
+#[derive(Clone, Copy, PartialEq, Eq, Debug)]
+pub struct OneElement {
+    pub name: OneName,
+    /// The size of the elements.
+    pub z: Size,
+    /// The register that gets the result.
+    pub d: QRegister,
+    /// The register of the operand.
+    pub m: QRegister,
+}
+
+/// `vmvn qd,qm`.
+#[derive(Clone, Copy, PartialEq, Eq, Debug)]
+pub struct Invert {
+    /// The register that gets the result.
+    pub d: QRegister,
+    /// The register of the operand.
+    pub m: QRegister,
+}
+
+/// Operations on one vector: DDI0553, "VABS", "VNEG", "VQABS", "VQNEG" and "VMVN (register)".
+#[derive(Clone, Copy, PartialEq, Eq, Debug)]
+pub enum V13 {
+    Elements(OneElement),
+    Not(Invert),
+}
+
+/// The operation of the row V14.
+#[derive(Clone, Copy, PartialEq, Eq, Debug)]
+pub enum ReverseName {
+    /// `vrev64`
+    Rev64,
+    /// `vrev32`
+    Rev32,
+    /// `vrev16`
+    Rev16,
+}
+
+/// `vrev64`, `vrev32`, `vrev16`, as `vrev64.8 qd,qm`: DDI0553, these instructions.
+#[derive(Clone, Copy, PartialEq, Eq, Debug)]
+pub struct V14 {
+    pub name: ReverseName,
+    /// The size of the elements.
+    pub z: Size,
+    /// The register that gets the result.
+    pub d: QRegister,
+    /// The register of the operand.
+    pub m: QRegister,
+    pub ghost rule: { IsTrue (is_reversed name z.value d.value m.value) },
 }
 
 /// `vmov`, `vmvn`, `vorr`, `vbic` with an immediate, as `vmov.i32 qd,#x`: DDI0553, "VMOV (immediate)", "VMVN (immediate)",
@@ -33,18 +394,291 @@ pub struct V1 {
 /// The immediate has eight bits, i, i3 and i4 from the highest on.
 #[derive(Clone, Copy, PartialEq, Eq, Debug)]
 pub struct V15 {
+    /// Bit 7 of the immediate.
+    pub i: Bit,
+    /// Bits 6 to 4 of the immediate.
+    pub i3: Below<8>,
+    /// The register that gets the result.
+    pub d: QRegister,
     /// The size of the elements, where the immediate stands in them and, with `op`, the operation.
     ///
     /// 15 would be an immediate in floating point, which is no value of this row.
     pub cm: Below<15>,
     /// Which one of the two operations that share a `cm`.
     pub op: Bit,
-    /// Bit 7 of the immediate.
-    pub i: Bit,
-    /// Bits 6 to 4 of the immediate.
-    pub i3: Below<8>,
     /// Bits 3 to 0 of the immediate.
     pub i4: Below<16>,
+}
+
+/// The operation of the row V16.
+#[derive(Clone, Copy, PartialEq, Eq, Debug)]
+pub enum NarrowName {
+    /// `vmovn`
+    Plain,
+    /// `vqmovun`
+    ToUnsigned,
+    /// `vqmovn` of signed elements
+    Signed,
+    /// `vqmovn` of unsigned elements
+    Unsigned,
+}
+
+/// `vmovnb`, `vmovnt`, `vqmovunb`, `vqmovnb` and so on, as `vmovnb.i16 qd,qm`: DDI0553, "VMOVN", "VQMOVN" and "VQMOVUN".
+#[derive(Clone, Copy, PartialEq, Eq, Debug)]
+pub struct V16 {
+    pub name: NarrowName,
+    /// 0 for elements of 16 bits to 8, 1 for 32 to 16.
+    pub z: Bit,
+    /// 1 for the upper part of each wide element.
+    pub t: Bit,
     /// The register that gets the result.
     pub d: QRegister,
+    /// The register of the operand.
+    pub m: QRegister,
+}
+
+/// `vshlc qd,rm,#k`, 32 coded 0: DDI0553, "VSHLC".
+#[derive(Clone, Copy, PartialEq, Eq, Debug)]
+pub struct V17 {
+    /// The shift, where 0 stands for 32.
+    pub k: Below<32>,
+    /// The register that is shifted.
+    pub d: QRegister,
+    /// The register of the bits that come in and go out.
+    pub m: Register,
+    pub ghost not_sp: { m.value ≢ 13 },
+    pub ghost not_pc: { m.value ≢ 15 },
+}
+
+/// `vdup.32 qd,rt`: DDI0553, "VDUP".
+#[derive(Clone, Copy, PartialEq, Eq, Debug)]
+pub struct V18 {
+    /// The size of the elements.
+    pub size: Element,
+    /// The register that gets the result.
+    pub d: QRegister,
+    /// The register of the operand.
+    pub t: Register,
+    pub ghost not_sp: { t.value ≢ 13 },
+    pub ghost not_pc: { t.value ≢ 15 },
+}
+
+/// Which way the offsets of the row V19 go.
+#[derive(Clone, Copy, PartialEq, Eq, Debug)]
+pub enum OffsetsName {
+    /// `vidup`, `viwdup`
+    Up,
+    /// `vddup`, `vdwdup`
+    Down,
+}
+
+/// `vidup`, `vddup`, as `vidup.u8 qd,rn,#2^k`.
+#[derive(Clone, Copy, PartialEq, Eq, Debug)]
+pub struct Offsets {
+    pub name: OffsetsName,
+    /// The size of the elements.
+    pub z: Size,
+    /// The first offset is in r(2n).
+    pub n: Below<8>,
+    /// The register that gets the result.
+    pub d: QRegister,
+    /// The step is 2 to this power.
+    pub k: Below<4>,
+}
+
+/// `viwdup`, `vdwdup`, as `viwdup.u8 qd,rn,rm,#2^k`.
+#[derive(Clone, Copy, PartialEq, Eq, Debug)]
+pub struct WrappedOffsets {
+    pub name: OffsetsName,
+    /// The size of the elements.
+    pub z: Size,
+    /// The first offset is in r(2n).
+    pub n: Below<8>,
+    /// The register that gets the result.
+    pub d: QRegister,
+    /// The step is 2 to this power.
+    pub k: Below<4>,
+    /// The offsets go round at r(2r + 1).
+    pub r: Below<6>,
+}
+
+/// Offsets from a register: DDI0553, "VIDUP, VIWDUP" and "VDDUP, VDWDUP".
+#[derive(Clone, Copy, PartialEq, Eq, Debug)]
+pub enum V19 {
+    Free(Offsets),
+    Wrapped(WrappedOffsets),
+}
+
+/// `vcmp` and `vpt` of two vectors, as `vcmp.i8 eq,qn,qm`.
+#[derive(Clone, Copy, PartialEq, Eq, Debug)]
+pub struct CompareVectors {
+    /// The mask of `vpt`; 0 for `vcmp`.
+    pub k: Below<16>,
+    /// The size of the elements.
+    pub z: Size,
+    /// The register of the first operands.
+    pub n: QRegister,
+    /// The condition: eq, ne, cs, hi, ge, lt, gt, le.
+    pub c: Below<8>,
+    /// The register of the second operands.
+    pub m: QRegister,
+}
+
+/// `vcmp` and `vpt` of a vector and a core register, as `vcmp.i8 eq,qn,rm`, or zero, which is 15 as `m`.
+#[derive(Clone, Copy, PartialEq, Eq, Debug)]
+pub struct CompareScalar {
+    /// The mask of `vpt`; 0 for `vcmp`.
+    pub k: Below<16>,
+    /// The size of the elements.
+    pub z: Size,
+    /// The register of the first operands.
+    pub n: QRegister,
+    /// The condition: eq, ne, cs, hi, ge, lt, gt, le.
+    pub c: Below<8>,
+    /// The register of the second operand, or 15.
+    pub m: Register,
+    pub ghost not_sp: { m.value ≢ 13 },
+}
+
+/// Comparisons: DDI0553, "VCMP" and "VPT".
+#[derive(Clone, Copy, PartialEq, Eq, Debug)]
+pub enum V20 {
+    Vectors(CompareVectors),
+    Scalar(CompareScalar),
+}
+
+/// `vpst` with the mask `k` of a block, or `vpnot` where it is 0.
+#[derive(Clone, Copy, PartialEq, Eq, Debug)]
+pub struct Block {
+    pub k: Below<16>,
+}
+
+/// `vpsel qd,qn,qm`.
+#[derive(Clone, Copy, PartialEq, Eq, Debug)]
+pub struct Select {
+    /// The register of the first operands.
+    pub n: QRegister,
+    /// The register that gets the result.
+    pub d: QRegister,
+    /// The register of the second operands.
+    pub m: QRegister,
+}
+
+/// `vctp.8 rn`, `vctp.16`, `vctp.32`, `vctp.64`.
+#[derive(Clone, Copy, PartialEq, Eq, Debug)]
+pub struct Tail {
+    /// The size of the elements: 0 to 3 are 8, 16, 32 and 64 bits.
+    pub z: Below<4>,
+    /// The register with the number of elements.
+    pub n: Register,
+    pub ghost not_sp: { n.value ≢ 13 },
+    pub ghost not_pc: { n.value ≢ 15 },
+}
+
+/// What sets or uses the predicate: DDI0553, "VPST", "VPNOT", "VPSEL" and "VCTP".
+#[derive(Clone, Copy, PartialEq, Eq, Debug)]
+pub enum V21 {
+    Block(Block),
+    Select(Select),
+    Tail(Tail),
+}
+
+/// `vaddv`, as `vaddva.s8 rl,qm`: the elements of a vector, added up.
+#[derive(Clone, Copy, PartialEq, Eq, Debug)]
+pub struct Sum {
+    /// 1 for unsigned elements.
+    pub u: Bit,
+    /// The size of the elements.
+    pub z: Size,
+    /// The sum is in r(2l).
+    pub l: Below<8>,
+    /// Whether the sum goes on from the old value.
+    pub a: Bit,
+    /// The register of the operands.
+    pub m: QRegister,
+}
+
+/// `vmladav`, as `vmladava.s8 rl,qn,qm`: products of elements, added up.
+#[derive(Clone, Copy, PartialEq, Eq, Debug)]
+pub struct Dot {
+    /// The size of the elements.
+    pub size: Element,
+    /// 1 for unsigned elements.
+    pub u: Bit,
+    /// The register of the first operands.
+    pub n: QRegister,
+    /// The sum is in r(2l).
+    pub l: Below<8>,
+    /// Whether the sum goes on from the old value.
+    pub a: Bit,
+    /// The register of the second operands.
+    pub m: QRegister,
+}
+
+/// `vaddlv`, as `vaddlva.s32 rl,rh,qm`: words, added up in 64 bits.
+#[derive(Clone, Copy, PartialEq, Eq, Debug)]
+pub struct LongSum {
+    /// 1 for unsigned elements.
+    pub u: Bit,
+    /// The high word of the sum is in r(2h + 1).
+    pub h: Below<6>,
+    /// The low word of the sum is in r(2l).
+    pub l: Below<8>,
+    /// Whether the sum goes on from the old value.
+    pub a: Bit,
+    /// The register of the operands.
+    pub m: QRegister,
+}
+
+/// `vmlaldav`, as `vmlaldava.s16 rl,rh,qn,qm`: products, added up in 64 bits.
+#[derive(Clone, Copy, PartialEq, Eq, Debug)]
+pub struct LongDot {
+    /// 1 for unsigned elements.
+    pub u: Bit,
+    /// The high word of the sum is in r(2h + 1).
+    pub h: Below<6>,
+    /// The register of the first operands.
+    pub n: QRegister,
+    /// 0 for elements of 16 bits, 1 for 32.
+    pub s: Bit,
+    /// The low word of the sum is in r(2l).
+    pub l: Below<8>,
+    /// Whether the sum goes on from the old value.
+    pub a: Bit,
+    /// The register of the second operands.
+    pub m: QRegister,
+}
+
+/// Sums: DDI0553, "VADDV", "VMLADAV", "VADDLV" and "VMLALDAV".
+#[derive(Clone, Copy, PartialEq, Eq, Debug)]
+pub enum V22 {
+    Sum(Sum),
+    Dot(Dot),
+    LongSum(LongSum),
+    LongDot(LongDot),
+}
+
+/// The operation of the row V23.
+#[derive(Clone, Copy, PartialEq, Eq, Debug)]
+pub enum ExtremeName {
+    /// `vmaxv`
+    Max,
+    /// `vminv`
+    Min,
+}
+
+/// `vmaxv`, `vminv`, as `vmaxv.s8 rt,qm`: DDI0553, "VMAXV" and "VMINV".
+#[derive(Clone, Copy, PartialEq, Eq, Debug)]
+pub struct V23 {
+    pub name: ExtremeName,
+    /// 1 for unsigned elements.
+    pub u: Bit,
+    /// The size of the elements.
+    pub z: Size,
+    /// The register of the result, from whose old value it begins.
+    pub t: Register,
+    /// The register of the operands.
+    pub m: QRegister,
+    pub ghost not_sp: { t.value ≢ 13 },
+    pub ghost not_pc: { t.value ≢ 15 },
 }

@@ -1,0 +1,105 @@
+-- The rules that tie the letters of a row together.
+use Rattle.std.specs.Prelude.{ℕ, ◌+◌, ◌/◌, ◌%◌, ◌^◌, Bool, ◌&&◌, ◌||◌, not, nat_eq, nat_lt, true, false, if◌then◌else◌}
+use Rattle.hm_isa.specs.declared.narrow.ListName.{ListName}
+use Rattle.hm_isa.specs.declared.narrow.ListName.TheVariants.{Push, Pop, Stm, Ldm}
+use Rattle.hm_isa.specs.declared.narrow.AccessName.{AccessName}
+use Rattle.hm_isa.specs.declared.narrow.AccessName.TheVariants as access
+use Rattle.hm_isa.specs.declared.wide.PairName.{PairName}
+use Rattle.hm_isa.specs.declared.wide.PairName.TheVariants.{Strd, Ldrd}
+use Rattle.hm_isa.specs.declared.vectors.ScalarName.{ScalarName}
+use Rattle.hm_isa.specs.declared.vectors.ScalarName.TheVariants as by_scalar
+use Rattle.hm_isa.specs.declared.vectors.ReverseName.{ReverseName}
+use Rattle.hm_isa.specs.declared.vectors.ReverseName.TheVariants as reverse_
+
+-- not both are pc
+abbrev pub keeps_high : ℕ → ℕ → Bool
+keeps_high d m = not (nat_eq d 15 && nat_eq m 15)
+
+-- whether register k stands in a list
+abbrev pub listed_in : ℕ → ℕ → Bool
+listed_in list k = nat_eq (list / 2 ^ k % 2) 1
+
+-- lists are not empty; stm with rn listed only where rn is the lowest
+abbrev pub keeps_list : ListName → ℕ → ℕ → ℕ → Bool
+keeps_list Push x n list = nat_lt 0 (list + x) && nat_eq n 0
+keeps_list Pop x n list = nat_lt 0 (list + x) && nat_eq n 0
+keeps_list Stm x n list = nat_lt 0 list && nat_eq x 0 && (not (listed_in list n) || nat_eq (list % 2 ^ n) 0)
+keeps_list Ldm x n list = nat_lt 0 list && nat_eq x 0
+
+-- a mask has a bit, and always has no other half
+abbrev pub keeps_it : ℕ → ℕ → Bool
+keeps_it c mask = nat_lt 0 mask && (not (nat_eq c 14) || nat_eq mask 8 || nat_eq mask 4 || nat_eq mask 2 || nat_eq mask 1)
+
+-- neither sp nor pc
+abbrev pub is_general : ℕ → Bool
+is_general n = not (nat_eq n 13) && not (nat_eq n 15)
+
+abbrev pub is_load : AccessName → Bool
+is_load access.Str = false
+is_load access.Strh = false
+is_load access.Strb = false
+is_load name = true
+
+-- sp is loaded and stored by words alone, and pc loaded alone
+abbrev pub is_data : AccessName → ℕ → Bool
+is_data access.Ldr t = true
+is_data access.Str t = not (nat_eq t 15)
+is_data name t = is_general t
+
+-- pc is the base of a literal alone, which is loaded
+abbrev pub is_offset : AccessName → ℕ → ℕ → Bool
+is_offset name n t = not (nat_eq n 15) && is_data name t
+
+-- an index is written back to a register that is not the one stored or loaded, or it is taken off
+abbrev pub is_indexed : AccessName → ℕ → ℕ → ℕ → ℕ → ℕ → Bool
+is_indexed name n t p u w = is_offset name n t && (if nat_eq w 1 then not (nat_eq n t) else nat_eq p 1 && nat_eq u 0)
+
+abbrev pub is_shifted : AccessName → ℕ → ℕ → ℕ → Bool
+is_shifted name n t m = is_offset name n t && is_general m
+
+abbrev pub is_literal : AccessName → ℕ → Bool
+is_literal name t = is_load name && is_data name t
+
+-- an offset or writeback; t and u are neither sp nor pc, and with writeback not the base; ldrd has two registers; pc as the
+-- base of ldrd alone, with no writeback
+abbrev pub is_pair : PairName → ℕ → ℕ → ℕ → ℕ → ℕ → Bool
+is_pair Strd p w n t u =
+    nat_lt 0 (p + w) && is_general t && is_general u && not (nat_eq n 15) && (nat_eq w 0 || (not (nat_eq n t) && not (nat_eq n u)))
+is_pair Ldrd p w n t u =
+    nat_lt 0 (p + w) && is_general t && is_general u && not (nat_eq t u) && (not (nat_eq n 15) || (nat_eq p 1 && nat_eq w 0))
+    && (nat_eq w 0 || (not (nat_eq n t) && not (nat_eq n u)))
+
+-- one register or more, and none past d15
+abbrev pub is_stacked : ℕ → ℕ → Bool
+is_stacked v k = nat_lt 0 k && nat_lt (v + k) 17
+
+-- results of two words' width do not overwrite a word that is still to be read
+abbrev pub is_widened : ℕ → ℕ → ℕ → ℕ → Bool
+is_widened z d n m = not (nat_eq z 2) || (not (nat_eq d n) && not (nat_eq d m))
+
+-- nor do words with their neighbours
+abbrev pub is_turned : ℕ → ℕ → ℕ → Bool
+is_turned z d m = not (nat_eq z 2) || not (nat_eq d m)
+
+-- elements are smaller than the groups in which they are reversed, and groups of two words do not overwrite one still to be read
+abbrev pub is_reversed : ReverseName → ℕ → ℕ → ℕ → Bool
+is_reversed reverse_.Rev64 z d m = not (nat_eq d m)
+is_reversed reverse_.Rev32 z d m = nat_lt z 2
+is_reversed reverse_.Rev16 z d m = nat_eq z 0
+
+-- whether the name of an operation says whether elements are signed
+abbrev pub has_sign : ScalarName → Bool
+has_sign by_scalar.Add = false
+has_sign by_scalar.Sub = false
+has_sign by_scalar.Mul = false
+has_sign by_scalar.Hadd = true
+has_sign by_scalar.Hsub = true
+has_sign by_scalar.Qadd = true
+has_sign by_scalar.Qsub = true
+has_sign by_scalar.Qdmulh = false
+has_sign by_scalar.Qrdmulh = false
+has_sign by_scalar.Mla = true
+has_sign by_scalar.Mlas = true
+
+abbrev pub is_signed_by : ScalarName → ℕ → Bool
+is_signed_by name u = has_sign name || nat_eq u 0

@@ -1,0 +1,106 @@
+//! The rows of 32-bit codes that are no vector rows.
+
+ghost use Rattle.std.specs.Prelude.{ℕ, IsTrue};
+ghost use Rattle.hm_isa.specs.Keeps.{is_indexed, is_literal, is_offset, is_pair, is_shifted, is_stacked};
+
+use crate::fields::{Below, Bit, Byte, Register};
+use crate::narrow::AccessName;
+
+/// `strb.w rt,[rn,#i]` and so on.
+#[derive(Clone, Copy, PartialEq, Eq, Debug)]
+pub struct Offset {
+    pub name: AccessName,
+    pub n: Register,
+    pub t: Register,
+    pub i: Below<4096>,
+    pub ghost rules: { IsTrue (is_offset name n.value t.value) },
+}
+
+/// `strb.w rt,[rn,#-i]`, `[rn,#i]!`, `[rn],#i` and so on, as p, u and w say.
+#[derive(Clone, Copy, PartialEq, Eq, Debug)]
+pub struct Indexed {
+    pub name: AccessName,
+    pub n: Register,
+    pub t: Register,
+    /// Whether the offset goes to the address of the access.
+    pub p: Bit,
+    /// Whether the offset is added.
+    pub u: Bit,
+    /// Whether the base gets the address with the offset.
+    pub w: Bit,
+    pub i: Byte,
+    pub ghost rules: { IsTrue (is_indexed name n.value t.value p.value u.value w.value) },
+}
+
+/// `strb.w rt,[rn,rm,lsl #i]` and so on.
+#[derive(Clone, Copy, PartialEq, Eq, Debug)]
+pub struct Shifted {
+    pub name: AccessName,
+    pub n: Register,
+    pub t: Register,
+    pub i: Below<4>,
+    pub m: Register,
+    pub ghost rules: { IsTrue (is_shifted name n.value t.value m.value) },
+}
+
+/// `ldrb.w rt,[pc,#i]` and so on, from pc rounded down to a word.
+#[derive(Clone, Copy, PartialEq, Eq, Debug)]
+pub struct Literal {
+    pub name: AccessName,
+    /// Whether the offset is added.
+    pub u: Bit,
+    pub t: Register,
+    pub i: Below<4096>,
+    pub ghost rules: { IsTrue (is_literal name t.value) },
+}
+
+/// A load or store of a byte, a halfword or a word: DDI0553, "LDR (immediate)", "LDR (literal)", "LDR (register)" and their
+/// kin, encodings T2 to T4.
+#[derive(Clone, Copy, PartialEq, Eq, Debug)]
+pub enum T12 {
+    Offset(Offset),
+    Indexed(Indexed),
+    Shifted(Shifted),
+    Literal(Literal),
+}
+
+/// The operation of the row T13.
+#[derive(Clone, Copy, PartialEq, Eq, Debug)]
+pub enum PairName {
+    Strd,
+    Ldrd,
+}
+
+/// `strd`, `ldrd rt,ru,[rn,#4i]` and its other forms of address: DDI0553, "STRD (immediate)", "LDRD (immediate)" and "LDRD (literal)",
+/// encodings T1.
+#[derive(Clone, Copy, PartialEq, Eq, Debug)]
+pub struct T13 {
+    pub name: PairName,
+    /// Whether the offset goes to the address of the access.
+    pub p: Bit,
+    /// Whether the offset is added.
+    pub add: Bit,
+    /// Whether the base gets the address with the offset.
+    pub w: Bit,
+    pub n: Register,
+    pub t: Register,
+    pub u: Register,
+    pub i: Byte,
+    pub ghost rules: { IsTrue (is_pair name p.value w.value n.value t.value u.value) },
+}
+
+/// The operation of the row T15.
+#[derive(Clone, Copy, PartialEq, Eq, Debug)]
+pub enum StackName {
+    Vpush,
+    Vpop,
+}
+
+/// `vpush`, `vpop {dv-dw}` of `k` registers from `v` on: DDI0553, "VPUSH" and "VPOP", encodings T1.
+#[derive(Clone, Copy, PartialEq, Eq, Debug)]
+pub struct T15 {
+    pub name: StackName,
+    pub v: Below<16>,
+    pub k: Below<17>,
+    pub ghost rules: { IsTrue (is_stacked v.value k.value) },
+}

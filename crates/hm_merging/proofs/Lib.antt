@@ -1,3 +1,0 @@
-pub mod Merging
-pub mod Forms
-pub mod Touched
