@@ -1,4 +1,7 @@
-pub mod Narrow
+pub mod Scalars
+pub mod Branches
+pub mod Wides
 pub mod Vectors
+pub mod Tables
 pub mod Unique
 pub mod Exists

@@ -1,105 +1,109 @@
 -- No two instructions have one code, and so at most one stands at an address.
-use Rattle.std.proofs.Common.{◌≡◌, ◌≤◌, ◌+◌, ◌/◌, ◌%◌, ℕ, true, false, arith, ap, refl, sym, ◌∙◌, List, [], ◌∷◌, length, slice_index, Result, Ok, Err}
+use Rattle.std.proofs.Common.{◌≡◌, ◌≤◌, ◌<◌, ◌+◌, ◌/◌, ℕ, true, false, arith, ap, refl, sym, ◌∙◌, List, [], ◌∷◌, length, Result, Ok, Err}
 use Rattle.std.specs.Prelude.{if◌then◌else◌}
 use Rattle.std.proofs.lemmas.Bool.Decides.{nat_tests}
 use Rattle.hm_base.specs.declared.Fault.{Fault}
 use Rattle.hm_base.specs.Image.{flash_size}
 use Rattle.hm_isa.specs.declared.Scalar.{Scalar}
 use Rattle.hm_isa.specs.declared.Scalar.TheVariants as scalar
-use Rattle.hm_isa.specs.declared.Vector.{Vector}
-use Rattle.hm_isa.specs.declared.Vector.TheVariants as vector
+use Rattle.hm_isa.specs.declared.Branch.{Branch}
+use Rattle.hm_isa.specs.declared.Branch.TheVariants as branch
 use Rattle.hm_isa.specs.declared.Instr.{Instr}
 use Rattle.hm_isa.specs.declared.Instr.TheVariants as instr
-use Rattle.hm_isa.specs.Code.{scalar_code, vector_code, halfwords}
+use Rattle.hm_isa.specs.contracts.Instr as instr_
+use Rattle.hm_isa.specs.Code.{halfwords, scalar_halves, branch_halves, vector_code, code_t12, code_t13, code_t15}
+use Rattle.hm_layout.proofs.Coded.{Coded}
+use Rattle.hm_layout.proofs.Rows.{plain, named, varied, coded}
+use Rattle.hm_layout.proofs.Tables.{of_table}
+use Rattle.hm_layout.proofs.Lengths.{short_code, long_code}
 use Rattle.hm_codes.specs.Listing.{half_at, HalvesStand, Stands, is_long, IsFetched}
-use Rattle.hm_codes.proofs.Narrow.{row_at, place_s3, place_s4, place_s18, unique_s3, unique_s4, unique_s18}
-use Rattle.hm_codes.proofs.Vectors.{long_v1, long_v15, unique_v1, unique_v15, apart_v1_v15}
+use Rattle.hm_codes.proofs.Scalars.{row_s1, row_s2, row_s3, row_s4, row_s5, row_s6, row_s15, row_s16, row_s18, row_s20, row_s21}
+use Rattle.hm_codes.proofs.Wides.{coded_t12, row_t13, row_t15}
+use Rattle.hm_codes.proofs.Branches.{row_s23, row_s24, coded_s25}
+use Rattle.hm_codes.proofs.Vectors.{coded_vector}
+use Rattle.hm_codes.proofs.Tables.{joined, rejoined, coded_scalar, coded_branch}
 
--- the number of an instruction's row
-abbrev scalar_row : Scalar → ℕ
-scalar_row (scalar.S3 r) = 3
-scalar_row (scalar.S4 r) = 4
-scalar_row (scalar.S18 r) = 18
+abbrev pub coded_instr : Coded Instr
+coded_instr =
+    of_table instr_.enum (λ i. joined (halfwords i)) (coded_scalar, (coded_branch, (coded_vector, tt)))
+    (elim [ instr.Scalar s ↦ refl | instr.Branch b ↦ refl | instr.Vector v ↦ rejoined _ ])
 
-place_scalar : (s : Scalar) → row_at (scalar_code s) ≡ scalar_row s
-place_scalar (scalar.S3 r) = place_s3 r
-place_scalar (scalar.S4 r) = place_s4 r
-place_scalar (scalar.S18 r) = place_s18 r
-
-one_row : (s t : Scalar) → scalar_code s ≡ scalar_code t → scalar_row s ≡ scalar_row t
-one_row s t e = sym (place_scalar s) ∙ ap row_at e ∙ place_scalar t
-
-unique_scalar : (s t : Scalar) → scalar_code s ≡ scalar_code t → s ≡ t
-unique_scalar (scalar.S3 a) (scalar.S3 b) e = ap scalar.S3 (unique_s3 a b e)
-unique_scalar (scalar.S3 a) t e = absurd (let p : 3 ≡ scalar_row t = one_row (scalar.S3 a) t e in omega arith)
-unique_scalar (scalar.S4 a) (scalar.S4 b) e = ap scalar.S4 (unique_s4 a b e)
-unique_scalar (scalar.S4 a) t e = absurd (let p : 4 ≡ scalar_row t = one_row (scalar.S4 a) t e in omega arith)
-unique_scalar (scalar.S18 a) (scalar.S18 b) e = ap scalar.S18 (unique_s18 a b e)
-unique_scalar (scalar.S18 a) t e = absurd (let p : 18 ≡ scalar_row t = one_row (scalar.S18 a) t e in omega arith)
-
-unique_vector : (u v : Vector) → vector_code u ≡ vector_code v → u ≡ v
-unique_vector (vector.V1 a) (vector.V1 b) e = ap vector.V1 (unique_v1 a b e)
-unique_vector (vector.V1 a) (vector.V15 b) e = absurd (apart_v1_v15 a b e)
-unique_vector (vector.V15 a) (vector.V1 b) e = absurd (apart_v1_v15 b a (sym e))
-unique_vector (vector.V15 a) (vector.V15 b) e = ap vector.V15 (unique_v15 a b e)
-
--- two halves tell a number
-same_code : (c d : ℕ) → c / 65536 ≡ d / 65536 → c % 65536 ≡ d % 65536 → c ≡ d
-same_code c d high low = omega arith
+unique_instr : (i j : Instr) → joined (halfwords i) ≡ joined (halfwords j) → i ≡ j
+unique_instr = coded_instr.one refl
 
 -- a code tells its instruction
 pub unique_code : (i j : Instr) → halfwords i ≡ halfwords j → i ≡ j
-unique_code (instr.Scalar s) (instr.Scalar t) e = ap instr.Scalar (unique_scalar s t (ap (λ hs. slice_index hs 0) e))
-unique_code (instr.Scalar s) (instr.Branch b) e = elim b [ ]
-unique_code (instr.Scalar s) (instr.Vector v) e = absurd (let n : 1 ≡ 2 = ap length e in omega arith)
-unique_code (instr.Branch b) j e = elim b [ ]
-unique_code (instr.Vector u) (instr.Scalar s) e = absurd (let n : 2 ≡ 1 = ap length e in omega arith)
-unique_code (instr.Vector u) (instr.Branch b) e = elim b [ ]
-unique_code (instr.Vector u) (instr.Vector v) e =
-    let high : vector_code u / 65536 ≡ vector_code v / 65536 = ap (λ hs. slice_index hs 0) e in
-    let low : vector_code u % 65536 ≡ vector_code v % 65536 = ap (λ hs. slice_index hs 1) e in
-    ap instr.Vector (unique_vector u v (same_code _ _ high low))
+unique_code i j e = unique_instr i j (ap joined e)
 
 -- how many halfwords a code has that begins so
 abbrev code_length : ℕ → ℕ
 code_length h = if is_long h then 2 else 1
 
-narrow_scalar : (s : Scalar) → code_length (scalar_code s) ≡ 1
-narrow_scalar (scalar.S3 r) = grind (arith, nat_tests)
-narrow_scalar (scalar.S4 r) = grind (arith, nat_tests)
-narrow_scalar (scalar.S18 r) = grind (arith, nat_tests)
+short_length : (h : ℕ) → h < 0xe800 → 1 ≡ code_length h
+short_length h l = grind (arith, nat_tests)
 
--- the first half of a vector code begins with 11101, 11110 or 11111, so it is no 16-bit code
-long_vector : (v : Vector) → 0xe8000000 ≤ vector_code v
-long_vector (vector.V1 r) = long_v1 r
-long_vector (vector.V15 r) = long_v15 r
+long_length : (h : ℕ) → 0xe800 ≤ h → 2 ≡ code_length h
+long_length h l = grind (arith, nat_tests)
 
-long_first : (c : ℕ) → 0xe8000000 ≤ c → code_length (c / 65536) ≡ 2
-long_first c h = grind (arith, nat_tests)
+abbrev first_of : List ℕ → ℕ
+first_of [] = 0
+first_of (h ∷ hs) = h
 
 -- the first halfword tells how many there are
+length_scalar : (s : Scalar) → length (scalar_halves s) ≡ code_length (first_of (scalar_halves s))
+length_scalar (scalar.S1 r) = short_length _ (short_code (coded (named row_s1)) refl refl r)
+length_scalar (scalar.S2 r) = short_length _ (short_code (coded (named row_s2)) refl refl r)
+length_scalar (scalar.S3 r) = short_length _ (short_code (coded (named row_s3)) refl refl r)
+length_scalar (scalar.S4 r) = short_length _ (short_code (coded (named row_s4)) refl refl r)
+length_scalar (scalar.S5 r) = short_length _ (short_code (coded (named row_s5)) refl refl r)
+length_scalar (scalar.S6 r) = short_length _ (short_code (coded (plain row_s6)) refl refl r)
+length_scalar (scalar.S15 r) = short_length _ (short_code (coded (named row_s15)) refl refl r)
+length_scalar (scalar.S16 r) = short_length _ (short_code (coded (named row_s16)) refl refl r)
+length_scalar (scalar.S18 r) = short_length _ (short_code (coded (plain row_s18)) refl refl r)
+length_scalar (scalar.S20 r) = short_length _ (short_code (coded (varied row_s20)) refl refl r)
+length_scalar (scalar.S21 r) = short_length _ (short_code (coded (plain row_s21)) refl refl r)
+length_scalar (scalar.T12 r) = long_length _ (long_code coded_t12 refl refl r)
+length_scalar (scalar.T13 r) = long_length _ (long_code (coded (named row_t13)) refl refl r)
+length_scalar (scalar.T15 r) = long_length _ (long_code (coded (named row_t15)) refl refl r)
+
+length_branch : (b : Branch) → length (branch_halves b) ≡ code_length (first_of (branch_halves b))
+length_branch (branch.S23 r) = short_length _ (short_code (coded (named row_s23)) refl refl r)
+length_branch (branch.S24 r) = short_length _ (short_code (coded (named row_s24)) refl refl r)
+length_branch (branch.S25 r) = short_length _ (short_code coded_s25 refl refl r)
+
+length_instr : (i : Instr) → length (halfwords i) ≡ code_length (first_of (halfwords i))
+length_instr (instr.Scalar s) = length_scalar s
+length_instr (instr.Branch b) = length_branch b
+length_instr (instr.Vector v) = long_length _ (long_code coded_vector refl refl v)
+
+-- the first of halves that stand at an address, and how many there are
+first_stands : (flash : ℕ → ℕ) (hs : List ℕ) (a : ℕ) → HalvesStand flash hs a → length hs ≡ code_length (first_of hs) → length hs ≡ code_length (half_at flash a)
+first_stands flash [] a h e = absurd (let z : 0 ≡ 1 = e in omega arith)
+first_stands flash (k ∷ hs) a h e = e ∙ ap code_length (sym h.1)
+
 length-halfwords : (flash : ℕ → ℕ) (a : ℕ) (i : Instr) → Stands flash a i → length (halfwords i) ≡ code_length (half_at flash a)
-length-halfwords flash a (instr.Scalar s) h = sym (narrow_scalar s) ∙ ap code_length (sym h.code.1)
-length-halfwords flash a (instr.Branch b) h = elim b [ ]
-length-halfwords flash a (instr.Vector v) h = sym (long_first _ (long_vector v)) ∙ ap code_length (sym h.code.1)
+length-halfwords flash a i h = first_stands flash (halfwords i) a h.code (length_instr i)
+
+only_half : (flash : ℕ → ℕ) (hs : List ℕ) (a : ℕ) → HalvesStand flash hs a → length hs ≡ 1 → hs ≡ half_at flash a ∷ []
+only_half flash [] a h e = absurd (omega arith)
+only_half flash (k ∷ []) a h e = ap (λ x. x ∷ []) (sym h.1)
+only_half flash (k ∷ l ∷ hs) a h e = absurd (omega arith)
+
+both_halves : (flash : ℕ → ℕ) (hs : List ℕ) (a : ℕ) → HalvesStand flash hs a → length hs ≡ 2 → (a + 2 + 2 ≤ flash_size)
+    × (hs ≡ half_at flash a ∷ half_at flash (a + 2) ∷ [])
+both_halves flash [] a h e = absurd (omega arith)
+both_halves flash (k ∷ []) a h e = absurd (omega arith)
+both_halves flash (k ∷ l ∷ []) a h e = (h.2.0, (let p = sym h.1 in let q = sym h.2.1 in λ i. p i ∷ q i ∷ []))
+both_halves flash (k ∷ l ∷ m ∷ hs) a h e = absurd (omega arith)
 
 -- a first half that begins no code of two is the whole code
 pub one_half : (flash : ℕ → ℕ) (a : ℕ) (i : Instr) → Stands flash a i → is_long (half_at flash a) ≡ false → halfwords i ≡ half_at flash a ∷ []
-one_half flash a (instr.Scalar s) h short = ap (λ k. k ∷ []) (sym h.code.1)
-one_half flash a (instr.Branch b) h short = elim b [ ]
-one_half flash a (instr.Vector v) h short =
-    absurd (let n : 2 ≡ 1 = length-halfwords flash a (instr.Vector v) h ∙ ap (λ b. if b then 2 else 1) short in omega arith)
+one_half flash a i h short = only_half flash (halfwords i) a h.code (length-halfwords flash a i h ∙ ap (λ b. if b then 2 else 1) short)
 
 -- one that begins a code of two is followed by the other half
 pub two_halves : (flash : ℕ → ℕ) (a : ℕ) (i : Instr) → Stands flash a i → is_long (half_at flash a) ≡ true → (a + 2 + 2 ≤ flash_size)
     × (halfwords i ≡ half_at flash a ∷ half_at flash (a + 2) ∷ [])
-two_halves flash a (instr.Scalar s) h long =
-    absurd (let n : 1 ≡ 2 = length-halfwords flash a (instr.Scalar s) h ∙ ap (λ b. if b then 2 else 1) long in omega arith)
-two_halves flash a (instr.Branch b) h long = elim b [ ]
-two_halves flash a (instr.Vector v) h long =
-    let high : vector_code v / 65536 ≡ half_at flash a = sym h.code.1 in
-    let low : vector_code v % 65536 ≡ half_at flash (a + 2) = sym h.code.2.1 in
-    (h.code.2.0, cc)
+two_halves flash a i h long = both_halves flash (halfwords i) a h.code (length-halfwords flash a i h ∙ ap (λ b. if b then 2 else 1) long)
 
 -- as many halfwords that stand at one address are the same
 same_halves : (flash : ℕ → ℕ) (hs ks : List ℕ) (a : ℕ) → length hs ≡ length ks → HalvesStand flash hs a → HalvesStand flash ks a → hs ≡ ks

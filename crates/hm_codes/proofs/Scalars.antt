@@ -1,0 +1,124 @@
+-- The rows of 16-bit codes.
+use Rattle.std.proofs.Common.{◌≡◌, ◌<◌, ◌+◌, ◌*◌, ◌/◌, ◌%◌, ◌^◌, ℕ, List, [], ◌∷◌, arith, IsTrue}
+use Rattle.std.proofs.lemmas.Bool.Decides.{nat_tests}
+use Rattle.hm_isa.specs.declared.narrow.ListName.{ListName}
+use Rattle.hm_isa.specs.declared.narrow.ListName.TheVariants as list
+use Rattle.hm_isa.specs.contracts.narrow.ShiftName as shift_
+use Rattle.hm_isa.specs.contracts.narrow.SumName as sum_
+use Rattle.hm_isa.specs.contracts.narrow.ByteName as byte_
+use Rattle.hm_isa.specs.contracts.narrow.LogicName as logic_
+use Rattle.hm_isa.specs.contracts.narrow.AccessName as access_
+use Rattle.hm_isa.specs.contracts.narrow.PlainName as plain_
+use Rattle.hm_isa.specs.contracts.narrow.ListName as list_
+use Rattle.hm_isa.specs.contracts.narrow.S1 as s1_
+use Rattle.hm_isa.specs.contracts.narrow.S2 as s2_
+use Rattle.hm_isa.specs.contracts.narrow.S3 as s3_
+use Rattle.hm_isa.specs.contracts.narrow.S4 as s4_
+use Rattle.hm_isa.specs.contracts.narrow.S5 as s5_
+use Rattle.hm_isa.specs.contracts.narrow.S6 as s6_
+use Rattle.hm_isa.specs.contracts.narrow.S15 as s15_
+use Rattle.hm_isa.specs.contracts.narrow.S16 as s16_
+use Rattle.hm_isa.specs.contracts.narrow.S18 as s18_
+use Rattle.hm_isa.specs.contracts.narrow.S20 as s20_
+use Rattle.hm_isa.specs.contracts.narrow.S21 as s21_
+use Rattle.hm_isa.specs.Keeps.{keeps_list}
+use Rattle.hm_isa.specs.Code.{◌↑◌, shift_base, code_s1, sum_base, code_s2, code_s3, byte_base, code_s4, logic_base, code_s5, code_s6, access_base, code_s15, plain_base, code_s16, code_s18, list_base, code_s20, code_s21}
+use Rattle.hm_layout.proofs.Places.{Place, place, Fits, placed}
+use Rattle.hm_layout.proofs.Search.{no_rule, one_rule, decided_both, decided_differ}
+use Rattle.hm_layout.proofs.Rows.{at, spread, the_name, Named, Plain, Varied}
+
+abbrev pub row_s1 : Named s1_.the_type shift_.enum code_s1 shift_base
+row_s1 = record {
+  layout = (the_name tt, (at 6 5 32, (at 3 3 8, (at 0 3 8, tt))));
+  is_code = λ r. omega arith;
+  rules = λ v. no_rule;
+}
+
+abbrev pub row_s2 : Named s2_.the_type sum_.enum code_s2 sum_base
+row_s2 = record {
+  layout = (the_name tt, (at 6 3 8, (at 3 3 8, (at 0 3 8, tt))));
+  is_code = λ r. omega arith;
+  rules = λ v. no_rule;
+}
+
+abbrev pub row_s3 : Named s3_.the_type sum_.enum code_s3 (λ x. sum_base x + 0x0400)
+row_s3 = record {
+  layout = (the_name tt, (at 6 3 8, (at 3 3 8, (at 0 3 8, tt))));
+  is_code = λ r. omega arith;
+  rules = λ v. no_rule;
+}
+
+abbrev pub row_s4 : Named s4_.the_type byte_.enum code_s4 byte_base
+row_s4 = record {
+  layout = (the_name tt, (at 8 3 8, (at 0 8 256, tt)));
+  is_code = λ r. omega arith;
+  rules = λ v. no_rule;
+}
+
+abbrev pub row_s5 : Named s5_.the_type logic_.enum code_s5 logic_base
+row_s5 = record {
+  layout = (the_name tt, (at 3 3 8, (at 0 3 8, tt)));
+  is_code = λ r. omega arith;
+  rules = λ v. no_rule;
+}
+
+abbrev pub row_s6 : Plain s6_.the_type code_s6
+row_s6 = record {
+  base = 0x4400;
+  layout = (spread (place 0 3 ∷ place 7 1 ∷ []) 16, (at 3 4 16, tt));
+  is_code = λ r. omega arith;
+  rules = λ v. one_rule;
+}
+
+abbrev pub row_s15 : Named s15_.the_type access_.enum code_s15 access_base
+row_s15 = record {
+  layout = (the_name tt, (at 6 3 8, (at 3 3 8, (at 0 3 8, tt))));
+  is_code = λ r. omega arith;
+  rules = λ v. no_rule;
+}
+
+abbrev pub row_s16 : Named s16_.the_type plain_.enum code_s16 plain_base
+row_s16 = record {
+  layout = (the_name tt, (at 6 5 32, (at 3 3 8, (at 0 3 8, tt))));
+  is_code = λ r. omega arith;
+  rules = λ v. no_rule;
+}
+
+abbrev pub row_s18 : Plain s18_.the_type code_s18
+row_s18 = record {
+  base = 0xbe00;
+  layout = (at 0 8 256, tt);
+  is_code = λ r. omega arith;
+  rules = λ v. decided_both (decided_differ _ _) no_rule;
+}
+
+-- x and n stand at one place, each in the codes of its names
+abbrev pub places_s20 : ListName → List Place
+places_s20 list.Push = place 8 1 ∷ place 9 0 ∷ place 0 8 ∷ []
+places_s20 list.Pop = place 8 1 ∷ place 9 0 ∷ place 0 8 ∷ []
+places_s20 list.Stm = place 8 0 ∷ place 8 3 ∷ place 0 8 ∷ []
+places_s20 list.Ldm = place 8 0 ∷ place 8 3 ∷ place 0 8 ∷ []
+
+pub fits_s20 : (name : ListName) (x n r : ℕ) → x < 2 → n < 8 → r < 256 → IsTrue (keeps_list name x n r)
+    → Fits (places_s20 name) (x ∷ n ∷ r ∷ []) × (list_base name + x ↑ 8 + n ↑ 8 + r ≡ list_base name + placed (places_s20 name) (x ∷ n ∷ r ∷ []))
+fits_s20 list.Push x n r h i j k = let z : n ≡ 0 = grind (arith, nat_tests) in ((omega arith, (omega arith, (omega arith, tt))), omega arith)
+fits_s20 list.Pop x n r h i j k = let z : n ≡ 0 = grind (arith, nat_tests) in ((omega arith, (omega arith, (omega arith, tt))), omega arith)
+fits_s20 list.Stm x n r h i j k = let z : x ≡ 0 = grind (arith, nat_tests) in ((omega arith, (omega arith, (omega arith, tt))), omega arith)
+fits_s20 list.Ldm x n r h i j k = let z : x ≡ 0 = grind (arith, nat_tests) in ((omega arith, (omega arith, (omega arith, tt))), omega arith)
+
+abbrev pub row_s20 : Varied s20_.the_type list_.enum code_s20 list_base
+row_s20 = record {
+  layout = (the_name tt, (at 8 1 2, (at 8 3 8, (at 0 8 256, tt))));
+  places = places_s20;
+  fits = λ r. (fits_s20 r.name r.x.value r.n.value r.list.value r.x.in_range r.n.in_range r.list.in_range r.row).0;
+  is_code = λ r. (fits_s20 r.name r.x.value r.n.value r.list.value r.x.in_range r.n.in_range r.list.in_range r.row).1;
+  rules = λ v. one_rule;
+}
+
+abbrev pub row_s21 : Plain s21_.the_type code_s21
+row_s21 = record {
+  base = 0xbf00;
+  layout = (at 4 4 15, (at 0 4 16, tt));
+  is_code = λ r. omega arith;
+  rules = λ v. one_rule;
+}

@@ -1,0 +1,59 @@
+-- The tables of rows, each code as one number.
+use Rattle.std.proofs.Common.{◌≡◌, ◌+◌, ◌*◌, ◌/◌, ◌%◌, ℕ, List, [], ◌∷◌, arith, refl}
+use Rattle.hm_isa.specs.declared.Scalar.{Scalar}
+use Rattle.hm_isa.specs.declared.Scalar.TheVariants as scalar
+use Rattle.hm_isa.specs.contracts.Scalar as scalar_
+use Rattle.hm_isa.specs.declared.Branch.{Branch}
+use Rattle.hm_isa.specs.declared.Branch.TheVariants as branch
+use Rattle.hm_isa.specs.contracts.Branch as branch_
+use Rattle.hm_isa.specs.Code.{scalar_halves, branch_halves}
+use Rattle.hm_layout.proofs.Coded.{Coded}
+use Rattle.hm_layout.proofs.Rows.{plain, named, varied, coded}
+use Rattle.hm_layout.proofs.Tables.{of_table}
+use Rattle.hm_codes.proofs.Scalars.{row_s1, row_s2, row_s3, row_s4, row_s5, row_s6, row_s15, row_s16, row_s18, row_s20, row_s21}
+use Rattle.hm_codes.proofs.Wides.{coded_t12, row_t13, row_t15}
+use Rattle.hm_codes.proofs.Branches.{row_s23, row_s24, coded_s25}
+
+-- the number of which these are the halves
+abbrev pub joined : List ℕ → ℕ
+joined [] = 0
+joined (h ∷ []) = h
+joined (h ∷ l ∷ hs) = h * 65536 + l
+
+pub rejoined : (c : ℕ) → c / 65536 * 65536 + c % 65536 ≡ c
+rejoined c = omega arith
+
+abbrev pub coded_scalar : Coded Scalar
+coded_scalar =
+    of_table scalar_.enum (λ s. joined (scalar_halves s)) (
+      coded (named row_s1), (coded (named row_s2), (coded (named row_s3), (coded (named row_s4), (coded (named row_s5), (coded (plain row_s6),
+      (coded (named row_s15), (coded (named row_s16), (coded (plain row_s18), (coded (varied row_s20), (coded (plain row_s21),
+      (coded_t12, (coded (named row_t13), (coded (named row_t15), tt)))))))))))))
+    )
+    (elim [
+      | scalar.S1 r ↦ refl
+      | scalar.S2 r ↦ refl
+      | scalar.S3 r ↦ refl
+      | scalar.S4 r ↦ refl
+      | scalar.S5 r ↦ refl
+      | scalar.S6 r ↦ refl
+      | scalar.S15 r ↦ refl
+      | scalar.S16 r ↦ refl
+      | scalar.S18 r ↦ refl
+      | scalar.S20 r ↦ refl
+      | scalar.S21 r ↦ refl
+      | scalar.T12 r ↦ rejoined _
+      | scalar.T13 r ↦ rejoined _
+      | scalar.T15 r ↦ rejoined _
+    ])
+
+abbrev pub coded_branch : Coded Branch
+coded_branch =
+    of_table branch_.enum (λ b. joined (branch_halves b)) (coded (named row_s23), (coded (named row_s24), (coded_s25, tt)))
+    (elim [ branch.S23 r ↦ refl | branch.S24 r ↦ refl | branch.S25 r ↦ refl ])
+
+pub unique_scalar : (s t : Scalar) → joined (scalar_halves s) ≡ joined (scalar_halves t) → s ≡ t
+unique_scalar = coded_scalar.one refl
+
+pub unique_branch : (s t : Branch) → joined (branch_halves s) ≡ joined (branch_halves t) → s ≡ t
+unique_branch = coded_branch.one refl

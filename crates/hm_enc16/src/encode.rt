@@ -1,0 +1,216 @@
+//! The rows of 16-bit codes, written.
+
+ghost use Rattle.std.specs.Prelude.{◌≡◌, length, [], ◌∷◌};
+ghost use Rattle.hm_isa.specs.Code.{shift_base, sum_base, byte_base, logic_base, access_base, plain_base, list_base, jump_base, zero_base, code_s1, code_s2, code_s3, code_s4, code_s5, code_s6, code_s15, code_s16, code_s18, code_s20, code_s21, code_s23, code_s24, code_s25, scalar_halves, branch_halves};
+
+use hm_isa::{
+    AccessName, Branch, ByteName, JumpName, ListName, LogicName, PlainName, S1, S2, S3, S4, S5, S6,
+    S15, S16, S18, S20, S21, S23, S24, S25, Scalar, ShiftName, SumName, ZeroName,
+};
+
+/// The code of a name of the row S1 without its fields.
+fn of_shift(x: ShiftName) -> u32
+    ensures { result ≡ shift_base x }
+{
+    match x {
+        ShiftName::Lsl => 0x0000,
+        ShiftName::Lsr => 0x0800,
+        ShiftName::Asr => 0x1000,
+    }
+}
+
+fn encode_s1(r: &S1) -> u16
+    ensures { result ≡ code_s1 r.now }
+{
+    (of_shift(r.name) + (r.i.get() << 6) + (r.m.get() << 3) + r.d.get()) as u16
+}
+
+/// The code of a name of the row S2 without its fields.
+fn of_sum(x: SumName) -> u32
+    ensures { result ≡ sum_base x }
+{
+    match x {
+        SumName::Add => 0x1800,
+        SumName::Sub => 0x1a00,
+    }
+}
+
+fn encode_s2(r: &S2) -> u16
+    ensures { result ≡ code_s2 r.now }
+{
+    (of_sum(r.name) + (r.m.get() << 6) + (r.n.get() << 3) + r.d.get()) as u16
+}
+
+fn encode_s3(r: &S3) -> u16
+    ensures { result ≡ code_s3 r.now }
+{
+    (of_sum(r.name) + 0x0400 + (r.i.get() << 6) + (r.n.get() << 3) + r.d.get()) as u16
+}
+
+/// The code of a name of the row S4 without its fields.
+fn of_byte(x: ByteName) -> u32
+    ensures { result ≡ byte_base x }
+{
+    match x {
+        ByteName::Mov => 0x2000,
+        ByteName::Cmp => 0x2800,
+        ByteName::Add => 0x3000,
+        ByteName::Sub => 0x3800,
+    }
+}
+
+fn encode_s4(r: &S4) -> u16
+    ensures { result ≡ code_s4 r.now }
+{
+    (of_byte(r.name) + (r.d.get() << 8) + r.i.get()) as u16
+}
+
+/// The code of a name of the row S5 without its fields.
+fn of_logic(x: LogicName) -> u32
+    ensures { result ≡ logic_base x }
+{
+    0x4000 + ((x as u32) << 6)
+}
+
+fn encode_s5(r: &S5) -> u16
+    ensures { result ≡ code_s5 r.now }
+{
+    (of_logic(r.name) + (r.m.get() << 3) + r.d.get()) as u16
+}
+
+fn encode_s6(r: &S6) -> u16
+    ensures { result ≡ code_s6 r.now }
+{
+    let d = r.d.get();
+    (0x4400 + ((d / 8) << 7) + (r.m.get() << 3) + d % 8) as u16
+}
+
+/// The code of a name of the row S15 without its fields.
+fn of_access(x: AccessName) -> u32
+    ensures { result ≡ access_base x }
+{
+    0x5000 + ((x as u32) << 9)
+}
+
+fn encode_s15(r: &S15) -> u16
+    ensures { result ≡ code_s15 r.now }
+{
+    (of_access(r.name) + (r.m.get() << 6) + (r.n.get() << 3) + r.t.get()) as u16
+}
+
+/// The code of a name of the row S16 without its fields.
+fn of_plain(x: PlainName) -> u32
+    ensures { result ≡ plain_base x }
+{
+    0x6000 + ((x as u32) << 11)
+}
+
+fn encode_s16(r: &S16) -> u16
+    ensures { result ≡ code_s16 r.now }
+{
+    (of_plain(r.name) + (r.i.get() << 6) + (r.n.get() << 3) + r.t.get()) as u16
+}
+
+fn encode_s18(r: &S18) -> u16
+    ensures { result ≡ code_s18 r.now }
+{
+    0xbe00 + r.i.get() as u16
+}
+
+/// The code of a name of the row S20 without its fields.
+fn of_list(x: ListName) -> u32
+    ensures { result ≡ list_base x }
+{
+    match x {
+        ListName::Push => 0xb400,
+        ListName::Pop => 0xbc00,
+        ListName::Stm => 0xc000,
+        ListName::Ldm => 0xc800,
+    }
+}
+
+fn encode_s20(r: &S20) -> u16
+    ensures { result ≡ code_s20 r.now }
+{
+    (of_list(r.name) + (r.x.get() << 8) + (r.n.get() << 8) + r.list.get()) as u16
+}
+
+fn encode_s21(r: &S21) -> u16
+    ensures { result ≡ code_s21 r.now }
+{
+    (0xbf00 + (r.c.get() << 4) + r.mask.get()) as u16
+}
+
+/// The code of a name of the row S23 without its fields.
+fn of_jump(x: JumpName) -> u32
+    ensures { result ≡ jump_base x }
+{
+    match x {
+        JumpName::Bx => 0x4700,
+        JumpName::Blx => 0x4780,
+    }
+}
+
+fn encode_s23(r: &S23) -> u16
+    ensures { result ≡ code_s23 r.now }
+{
+    (of_jump(r.name) + (r.m.get() << 3)) as u16
+}
+
+/// The code of a name of the row S24 without its fields.
+fn of_zero(x: ZeroName) -> u32
+    ensures { result ≡ zero_base x }
+{
+    match x {
+        ZeroName::Cbz => 0xb100,
+        ZeroName::Cbnz => 0xb900,
+    }
+}
+
+fn encode_s24(r: &S24) -> u16
+    ensures { result ≡ code_s24 r.now }
+{
+    let i = r.i.get();
+    (of_zero(r.name) + ((i / 32) << 9) + ((i % 32) << 3) + r.n.get()) as u16
+}
+
+fn encode_s25(r: &S25) -> u16
+    ensures { result ≡ code_s25 r.now }
+{
+    match r {
+        S25::Conditional(r) => (0xd000 + (r.c.get() << 8) + r.i.get()) as u16,
+        S25::Always(r) => (0xe000 + r.i.get()) as u16,
+    }
+}
+
+/// The code of an instruction of the rows S1 to S21.
+pub fn scalar_code(s: &Scalar) -> u16
+    requires { length (scalar_halves s.now) ≡ 1 }
+    ensures { scalar_halves s.now ≡ result ∷ [] }
+{
+    match s {
+        Scalar::S1(r) => encode_s1(r),
+        Scalar::S2(r) => encode_s2(r),
+        Scalar::S3(r) => encode_s3(r),
+        Scalar::S4(r) => encode_s4(r),
+        Scalar::S5(r) => encode_s5(r),
+        Scalar::S6(r) => encode_s6(r),
+        Scalar::S15(r) => encode_s15(r),
+        Scalar::S16(r) => encode_s16(r),
+        Scalar::S18(r) => encode_s18(r),
+        Scalar::S20(r) => encode_s20(r),
+        Scalar::S21(r) => encode_s21(r),
+        Scalar::T12(_) | Scalar::T13(_) | Scalar::T15(_) => unreachable!(),
+    }
+}
+
+/// The code of a branch.
+pub fn branch_code(b: &Branch) -> u16
+    ensures { branch_halves b.now ≡ result ∷ [] }
+{
+    match b {
+        Branch::S23(r) => encode_s23(r),
+        Branch::S24(r) => encode_s24(r),
+        Branch::S25(r) => encode_s25(r),
+    }
+}

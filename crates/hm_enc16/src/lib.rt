@@ -1,0 +1,37 @@
+//! The codes of one halfword, read and written.
+#![tactic(auto)]
+
+ghost use Rattle.std.specs.Prelude.{◌≡◌, IfSome, IfNone, length, [], ◌∷◌};
+ghost use Rattle.hm_isa.specs.declared.Instr.{Instr};
+ghost use Rattle.hm_isa.specs.Code.{halfwords};
+
+mod decode;
+mod encode;
+
+use decode::{find_branch, find_scalar};
+use encode::{branch_code, scalar_code};
+use hm_isa::Instr;
+
+/// The instruction whose code is the halfword h, or None exactly where no instruction has it for its whole code: DDI0553,
+/// "T32 instruction set encoding", the 16-bit codes.
+pub fn decode16(h: u16) -> Option<Instr>
+    ensures found { IfSome result (λ i. halfwords i ≡ h ∷ []) }
+    ensures none { IfNone result ((i : Instr) → halfwords i ≡ h ∷ [] → ⊥) }
+{
+    if let Some(s) = find_scalar(h) {
+        return Some(Instr::Scalar(s));
+    }
+    find_branch(h).map(Instr::Branch)
+}
+
+/// The code of an instruction whose code is one halfword.
+pub fn encode16(i: &Instr) -> u16
+    requires { length (halfwords i.now) ≡ 1 }
+    ensures { halfwords i.now ≡ result ∷ [] }
+{
+    match i {
+        Instr::Scalar(s) => scalar_code(s),
+        Instr::Branch(b) => branch_code(b),
+        Instr::Vector(_) => unreachable!(),
+    }
+}
