@@ -2,4 +2,6 @@
 #![tactic(auto)]
 
 mod fields;
+mod ones;
 mod pairs;
+mod registers;
