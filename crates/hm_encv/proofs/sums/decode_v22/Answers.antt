@@ -1,7 +1,7 @@
 use Rattle.std.proofs.Common.{◌≡◌}
 use Rattle.hm_isa.specs.declared.vectors.V22.TheVariants as v22
 use Rattle.hm_isa.specs.Code.{code_v22}
-use Rattle.hm_encv.proofs.registers.decode_v22.Goals as goal
+use Rattle.hm_encv.proofs.sums.decode_v22.Goals as goal
 
 pub returns-clause-none : goal.returns-clause-none
 returns-clause-none c v =
