@@ -2,7 +2,7 @@
 
 ghost use Rattle.std.specs.Prelude.{◌≡◌, ℕ, ◌<◌, ◌≤◌, ◌↔◌, Bool, false, true, List, None, Ok, Result};
 ghost use Rattle.hm_base.specs.declared.Place.{Place};
-ghost use Rattle.hm_base.specs.declared.Stop.{Stop};
+ghost use Rattle.hm_base.specs.declared.Fault.{Fault};
 ghost use Rattle.hm_mem.specs.declared.Actor.TheVariants.{Thread};
 ghost use Rattle.hm_mem.specs.Memory.{Around, Memory};
 ghost use Rattle.hm_regs.specs.declared.Regs.{Regs};
