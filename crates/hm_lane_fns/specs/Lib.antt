@@ -1,0 +1,2 @@
+pub mod LaneFns
+pub mod Words

@@ -1,0 +1,13 @@
+//! Functions of lanes, and words of vector registers as rows take and give them.
+#![tactic(auto)]
+
+mod functions;
+mod words;
+
+pub use functions::{
+    LaneFn, clamped, cut, halved, is_outside, lane, lane_saturates, number, saturates,
+};
+pub use words::{
+    Operand, active, any_both, both, element_size, lanes_saturate, lanes_word, merge, nibble,
+    note_operand, operand_word, size, slice, splat, truths, word_at,
+};

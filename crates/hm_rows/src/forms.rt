@@ -1,0 +1,369 @@
+//! The form of each vector row.
+
+ghost use Rattle.std.specs.Prelude.{◌≡◌};
+ghost use Rattle.hm_lane_fns.specs.declared.functions.LaneFn.TheVariants as fn;
+ghost use Rattle.hm_forms.specs.declared.form.Form.TheVariants as form;
+ghost use Rattle.hm_isa.specs.declared.Vector.TheVariants as vector;
+ghost use Rattle.hm_rows.specs.Rows.{add_fn, bitwise_fn, compare_form, doubling_fn, form_of, high_fn, long_form, offsets_form, one_fn, one_form, predicate_form, scalar_fn, signed_fn, sum_form};
+
+use hm_forms::{Comparison, Form, Lanes, LongSums, Longer, Steps, Sums};
+use hm_isa::{
+    AddName, BitwiseName, DoublingName, HighName, OneName, QRegister, ScalarName, SignedName, V12,
+    V13, V19, V20, V21, V22, Vector,
+};
+use hm_lane::Size;
+use hm_lane_fns::{LaneFn, Operand, element_size, size};
+
+/// A row on lanes.
+fn lanes(f: LaneFn, unsigned: bool, z: Size, d: QRegister, n: QRegister, by: Operand) -> Form
+    ensures { result ≡ form.Lanes (record { f = f; unsigned = unsigned; z = z; d = d; n = n; by = by }) }
+{
+    Form::Lanes(Lanes {
+        f,
+        unsigned,
+        z,
+        d,
+        n,
+        by,
+    })
+}
+
+/// The function of a row V1.
+fn add_fn(name: AddName) -> LaneFn
+    ensures { result ≡ add_fn name }
+{
+    match name {
+        AddName::Add => LaneFn::Add,
+        AddName::Sub => LaneFn::Sub,
+        AddName::Mul => LaneFn::Mul,
+    }
+}
+
+/// The function of a row V2.
+fn bitwise_fn(name: BitwiseName) -> LaneFn
+    ensures { result ≡ bitwise_fn name }
+{
+    match name {
+        BitwiseName::And => LaneFn::And,
+        BitwiseName::Bic => LaneFn::Bic,
+        BitwiseName::Orr => LaneFn::Orr,
+        BitwiseName::Orn => LaneFn::Orn,
+        BitwiseName::Eor => LaneFn::Eor,
+    }
+}
+
+/// The function of a row V3.
+fn signed_fn(name: SignedName) -> LaneFn
+    ensures { result ≡ signed_fn name }
+{
+    match name {
+        SignedName::Max => LaneFn::Max,
+        SignedName::Min => LaneFn::Min,
+        SignedName::Abd => LaneFn::Abd,
+        SignedName::Hadd => LaneFn::Hadd,
+        SignedName::Rhadd => LaneFn::Rhadd,
+        SignedName::Hsub => LaneFn::Hsub,
+        SignedName::Qadd => LaneFn::Qadd,
+        SignedName::Qsub => LaneFn::Qsub,
+    }
+}
+
+/// The function of a row V5.
+fn doubling_fn(name: DoublingName) -> LaneFn
+    ensures { result ≡ doubling_fn name }
+{
+    match name {
+        DoublingName::Qdmulh => LaneFn::Qdmulh,
+        DoublingName::Qrdmulh => LaneFn::Qrdmulh,
+    }
+}
+
+/// The function of a row V7.
+fn high_fn(name: HighName, unsigned: bool) -> LaneFn
+    ensures { result ≡ high_fn name unsigned }
+{
+    match (name, unsigned) {
+        (HighName::Mulh, false) => LaneFn::High,
+        (HighName::Mulh, true) => LaneFn::HighUnsigned,
+        (HighName::Rmulh, false) => LaneFn::RoundHigh,
+        (HighName::Rmulh, true) => LaneFn::RoundHighUnsigned,
+    }
+}
+
+/// The function of a row V10.
+fn scalar_fn(name: ScalarName) -> LaneFn
+    ensures { result ≡ scalar_fn name }
+{
+    match name {
+        ScalarName::Add => LaneFn::Add,
+        ScalarName::Sub => LaneFn::Sub,
+        ScalarName::Mul => LaneFn::Mul,
+        ScalarName::Hadd => LaneFn::Hadd,
+        ScalarName::Hsub => LaneFn::Hsub,
+        ScalarName::Qadd => LaneFn::Qadd,
+        ScalarName::Qsub => LaneFn::Qsub,
+        ScalarName::Qdmulh => LaneFn::Qdmulh,
+        ScalarName::Qrdmulh => LaneFn::Qrdmulh,
+        ScalarName::Mla => LaneFn::Mla,
+        ScalarName::Mlas => LaneFn::Mlas,
+    }
+}
+
+/// The function of a row V13 on elements.
+fn one_fn(name: OneName) -> LaneFn
+    ensures { result ≡ one_fn name }
+{
+    match name {
+        OneName::Abs => LaneFn::Abs,
+        OneName::Neg => LaneFn::Neg,
+        OneName::Qabs => LaneFn::Qabs,
+        OneName::Qneg => LaneFn::Qneg,
+    }
+}
+
+/// The form of a row V12.
+fn long_form(row: &V12) -> Form
+    ensures { result ≡ long_form row.now }
+{
+    match row {
+        V12::Bytes(row) => Form::Longer(Longer {
+            halves: false,
+            unsigned: row.u.get() == 1,
+            odd: row.t.get() == 1,
+            factor: 1 << row.k.get(),
+            d: row.d,
+            m: row.m,
+        }),
+        V12::Halves(row) => Form::Longer(Longer {
+            halves: true,
+            unsigned: row.u.get() == 1,
+            odd: row.t.get() == 1,
+            factor: 1 << row.k.get(),
+            d: row.d,
+            m: row.m,
+        }),
+        V12::Full(row) => Form::Longer(Longer {
+            halves: row.z.get() == 1,
+            unsigned: row.u.get() == 1,
+            odd: row.t.get() == 1,
+            factor: if row.z.get() == 1 { 1 << 16 } else { 1 << 8 },
+            d: row.d,
+            m: row.m,
+        }),
+    }
+}
+
+/// The form of a row V13.
+fn one_form(row: &V13) -> Form
+    ensures { result ≡ one_form row.now }
+{
+    match row {
+        V13::Elements(row) => lanes(
+            one_fn(row.name),
+            false,
+            size(&row.z),
+            row.d,
+            row.m,
+            Operand::Vector(row.m),
+        ),
+        V13::Not(row) => lanes(
+            LaneFn::Not,
+            false,
+            Size::Word,
+            row.d,
+            row.m,
+            Operand::Vector(row.m),
+        ),
+    }
+}
+
+/// The form of a row V19.
+fn offsets_form(row: &V19) -> Form
+    ensures { result ≡ offsets_form row.now }
+{
+    match row {
+        V19::Free(row) => Form::Offsets(Steps {
+            name: row.name,
+            z: size(&row.z),
+            n: row.n,
+            d: row.d,
+            k: row.k,
+            round: None,
+        }),
+        V19::Wrapped(row) => Form::Offsets(Steps {
+            name: row.name,
+            z: size(&row.z),
+            n: row.n,
+            d: row.d,
+            k: row.k,
+            round: Some(row.r),
+        }),
+    }
+}
+
+/// The form of a row V20.
+fn compare_form(row: &V20) -> Form
+    ensures { result ≡ compare_form row.now }
+{
+    match row {
+        V20::Vectors(row) => Form::Compare(Comparison {
+            c: row.c,
+            z: size(&row.z),
+            n: row.n,
+            by: Operand::Vector(row.m),
+            k: row.k,
+        }),
+        V20::Scalar(row) => Form::Compare(Comparison {
+            c: row.c,
+            z: size(&row.z),
+            n: row.n,
+            by: Operand::Scalar(row.m),
+            k: row.k,
+        }),
+    }
+}
+
+/// The form of a row V21: a block with the mask 0 is `vpnot`.
+fn predicate_form(row: &V21) -> Form
+    ensures { result ≡ predicate_form row.now }
+{
+    match row {
+        V21::Block(row) => {
+            if row.k.get() == 0 {
+                Form::Invert
+            } else {
+                Form::Block(*row)
+            }
+        }
+        V21::Select(row) => Form::Select(*row),
+        V21::Tail(row) => Form::Count(*row),
+    }
+}
+
+/// The form of a row V22.
+fn sum_form(row: &V22) -> Form
+    ensures { result ≡ sum_form row.now }
+{
+    match row {
+        V22::Sum(row) => Form::Sum(Sums {
+            products: false,
+            unsigned: row.u.get() == 1,
+            z: size(&row.z),
+            goes_on: row.a.get() == 1,
+            l: row.l,
+            n: row.m,
+            m: row.m,
+        }),
+        V22::Dot(row) => Form::Sum(Sums {
+            products: true,
+            unsigned: row.u.get() == 1,
+            z: element_size(row.size),
+            goes_on: row.a.get() == 1,
+            l: row.l,
+            n: row.n,
+            m: row.m,
+        }),
+        V22::LongSum(row) => Form::Long(LongSums {
+            products: false,
+            unsigned: row.u.get() == 1,
+            z: Size::Word,
+            goes_on: row.a.get() == 1,
+            l: row.l,
+            h: row.h,
+            n: row.m,
+            m: row.m,
+        }),
+        V22::LongDot(row) => Form::Long(LongSums {
+            products: true,
+            unsigned: row.u.get() == 1,
+            z: if row.s.get() == 1 {
+                Size::Word
+            } else {
+                Size::Half
+            },
+            goes_on: row.a.get() == 1,
+            l: row.l,
+            h: row.h,
+            n: row.n,
+            m: row.m,
+        }),
+    }
+}
+
+/// The form of a row on the lanes of two operands; one without lanes has a form of its own.
+pub fn form(v: &Vector) -> Form
+    ensures { result ≡ form_of v.now }
+{
+    match v {
+        Vector::V1(row) => lanes(
+            add_fn(row.name),
+            false,
+            size(&row.z),
+            row.d,
+            row.n,
+            Operand::Vector(row.m),
+        ),
+        Vector::V2(row) => lanes(
+            bitwise_fn(row.name),
+            false,
+            Size::Word,
+            row.d,
+            row.n,
+            Operand::Vector(row.m),
+        ),
+        Vector::V3(row) => lanes(
+            signed_fn(row.name),
+            row.u.get() == 1,
+            size(&row.z),
+            row.d,
+            row.n,
+            Operand::Vector(row.m),
+        ),
+        Vector::V5(row) => lanes(
+            doubling_fn(row.name),
+            false,
+            size(&row.z),
+            row.d,
+            row.n,
+            Operand::Vector(row.m),
+        ),
+        Vector::V6(row) => Form::Wide(*row),
+        Vector::V7(row) => lanes(
+            high_fn(row.name, row.u.get() == 1),
+            false,
+            size(&row.z),
+            row.d,
+            row.n,
+            Operand::Vector(row.m),
+        ),
+        Vector::V8(row) => Form::Carry(*row),
+        Vector::V9(row) => Form::Turned(*row),
+        Vector::V10(row) => lanes(
+            scalar_fn(row.name),
+            row.u.get() == 1,
+            size(&row.z),
+            row.d,
+            row.n,
+            Operand::Scalar(row.m),
+        ),
+        Vector::V12(row) => long_form(row),
+        Vector::V13(row) => one_form(row),
+        Vector::V14(row) => Form::Reversed(*row),
+        Vector::V15(row) => Form::Constant(*row),
+        Vector::V16(row) => Form::Narrow(*row),
+        Vector::V17(row) => Form::Shift(*row),
+        Vector::V18(row) => lanes(
+            LaneFn::Dup,
+            true,
+            element_size(row.size),
+            row.d,
+            row.d,
+            Operand::Scalar(row.t),
+        ),
+        Vector::V19(row) => offsets_form(row),
+        Vector::V20(row) => compare_form(row),
+        Vector::V21(row) => predicate_form(row),
+        Vector::V22(row) => sum_form(row),
+        Vector::V23(row) => Form::Extreme(*row),
+    }
+}
