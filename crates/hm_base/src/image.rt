@@ -5,15 +5,9 @@ ghost use Rattle.std.specs.List.{insert};
 ghost use Rattle.hm_base.specs.Image.{segment, segment_at, with_segment, IsPlaced, IsApart, IsImage, Before};
 ghost use Rattle.hm_base.specs.Pieces.{segment_of, segments_of};
 
-use crate::ImageErr;
+use crate::{FLASH_SIZE, ImageErr, SRAM_SIZE, SRAM_START};
 use std::alloc::Global;
 use std::marker::Model;
-
-const FLASH_END: usize = 0x10_0000;
-
-const SRAM_START: usize = 0x2000_0000;
-
-const SRAM_END: usize = 0x2004_0000;
 
 /// A segment that an image keeps.
 #[derive(Drop)]
@@ -50,7 +44,9 @@ fn is_placed(addr: u32, bytes: &[u8]) -> bool
 {
     let start = addr as usize;
     let end = start + bytes.len();
-    !bytes.is_empty() && (end <= FLASH_END || (SRAM_START <= start && end <= SRAM_END))
+    let sram = SRAM_START as usize;
+    !bytes.is_empty()
+        && (end <= FLASH_SIZE as usize || (sram <= start && end <= sram + SRAM_SIZE as usize))
 }
 
 /// Whether a piece ends before the bytes begin, or begins after them.
