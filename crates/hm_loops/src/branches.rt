@@ -1,0 +1,67 @@
+//! `bx`, `blx`, `cbz`, `cbnz` and `b`.
+
+ghost use Rattle.std.specs.Prelude.{◌≡◌, ℕ, OnErr};
+ghost use Rattle.hm_thumb.specs.BranchRows.{always, branch_if, conditional, is_taken, s23, s24, s25};
+ghost use Rattle.hm_thumb.specs.Does.{Ends};
+ghost use Rattle.hm_thumb.specs.Steps.{ended};
+
+use hm_base::{Fault, Place};
+use hm_isa::{JumpName, S23, S24, S25, ZeroName};
+use hm_regs::Regs;
+use hm_thumb::{Way, blx_write, bx_write, condition_holds, sign_extended};
+
+/// `bx`, `blx rm`
+pub fn jump(i: &S23, regs: &mut Regs) -> Result<Way, Fault>
+    ensures value { ended result regs.new ≡ s23 i.now regs.old }
+    ensures stopped { OnErr result (regs.new ≡ regs.old) }
+{
+    let x = regs.get(Place::R(i.m.get() as u8));
+    match i.name {
+        JumpName::Bx => bx_write(x, regs),
+        JumpName::Blx => {
+            let way = blx_write(x, regs)?;
+            let next = regs.pc.wrapping_add(2);
+            regs.set(Place::R(14), next - next % 2 + 1);
+            Ok(way)
+        }
+    }
+}
+
+/// Where taken, a branch to so many bytes from the address of the instruction plus 4.
+fn branch_if(taken: bool, bytes: u32, regs: &Regs) -> Way
+    ensures way { Ends result regs.now ≡ branch_if taken bytes regs.now }
+{
+    if taken {
+        Way::To {
+            addr: regs.pc.wrapping_add(4).wrapping_add(bytes),
+        }
+    } else {
+        Way::On
+    }
+}
+
+/// `cbz`, `cbnz rn,label`
+pub fn zero(i: &S24, regs: &Regs) -> Way
+    ensures way { Ends result regs.now ≡ s24 i.now regs.now }
+{
+    let x = regs.get(Place::R(i.n.get() as u8));
+    let taken = match i.name {
+        ZeroName::Cbz => x == 0,
+        ZeroName::Cbnz => x != 0,
+    };
+    branch_if(taken, 2 * i.i.get(), regs)
+}
+
+/// `beq label` and so on, and `b label`
+pub fn branch(i: &S25, regs: &Regs) -> Way
+    ensures way { Ends result regs.now ≡ s25 i.now regs.now }
+{
+    match i {
+        S25::Conditional(i) => branch_if(
+            condition_holds(i.c.get(), regs),
+            sign_extended(9, 2 * i.i.get()),
+            regs,
+        ),
+        S25::Always(i) => branch_if(true, sign_extended(12, 2 * i.i.get()), regs),
+    }
+}

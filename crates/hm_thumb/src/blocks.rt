@@ -1,0 +1,61 @@
+//! What comes before each instruction: the condition of its IT block, and the context that it makes.
+
+ghost use Rattle.std.specs.Prelude.{◌≡◌, ◌||◌};
+ghost use Rattle.hm_thumb.specs.Rows.{is_breakpoint, is_stacked_vector, made, needs_context, runs};
+
+use crate::ways::is_passed;
+use hm_isa::{Instr, Scalar};
+use hm_lane::context;
+use hm_regs::Regs;
+
+/// Whether it is `bkpt`.
+fn is_breakpoint(i: &Scalar) -> bool
+    ensures value { result ≡ is_breakpoint i.now }
+{
+    match i {
+        Scalar::S18(_) => true,
+        _ => false,
+    }
+}
+
+/// Whether it is `vpush` or `vpop`.
+fn is_stacked_vector(i: &Scalar) -> bool
+    ensures value { result ≡ is_stacked_vector i.now }
+{
+    match i {
+        Scalar::T15(_) => true,
+        _ => false,
+    }
+}
+
+/// Whether an instruction runs: `bkpt` does whatever the condition is.
+fn runs(i: &Instr, regs: &Regs) -> bool
+    ensures value { result ≡ runs i.now regs.now }
+{
+    match i {
+        Instr::Scalar(i) => is_breakpoint(i) || is_passed(regs),
+        _ => is_passed(regs),
+    }
+}
+
+/// Whether an instruction needs the context of the vector registers.
+fn needs_context(i: &Instr) -> bool
+    ensures value { result ≡ needs_context i.now }
+{
+    match i {
+        Instr::Scalar(i) => is_stacked_vector(i),
+        _ => false,
+    }
+}
+
+/// Begins an instruction: whether it runs, and the context is made that it needs before anything of it may stop.
+pub fn begin(i: &Instr, regs: &mut Regs) -> bool
+    ensures runs { result ≡ runs i.now regs.old }
+    ensures made { regs.new ≡ made i.now regs.old }
+{
+    let runs = runs(i, regs);
+    if runs && needs_context(i) {
+        context(regs);
+    }
+    runs
+}
