@@ -1,0 +1,139 @@
+//! Rows that load or store one number, by their forms of address.
+
+ghost use Rattle.std.specs.Prelude.{◌≡◌, ℕ, ◌≤◌, ◌<◌, ◌*◌, ◌%◌, ◌^◌, cond, OnErr};
+ghost use Rattle.hm_mem.specs.Memory.{memory_of};
+ghost use Rattle.hm_thumb.specs.MemoryRows.{indexed, literal, moved, offset, plain_name, s15, s16, scale, shifted, t12};
+ghost use Rattle.hm_thumb.specs.Steps.{IsDone};
+
+use crate::bases::base_of;
+use crate::single::{Back, access_at, access_row};
+use hm_base::{Place, Stop};
+use hm_isa::{AccessName, Indexed, Literal, Offset, PlainName, S15, S16, Shifted, T12};
+use hm_mem::Mem;
+use hm_regs::Regs;
+use hm_thumb::Way;
+
+/// `str`, `ldr` and their kin with `rt,[rn,rm]`
+pub fn s15(i: &S15, regs: &mut Regs, mem: &mut Mem) -> Result<Way, Stop>
+    ensures done { IsDone (s15 i.now regs.old) regs.old regs.new (memory_of mem.old) (memory_of mem.new) result }
+{
+    let base = regs.get(Place::R(i.n.get() as u8));
+    let index = regs.get(Place::R(i.m.get() as u8));
+    access_at(i.name, i.t.get(), base.wrapping_add(index), regs, mem)
+}
+
+/// The operation of the register form.
+fn plain_name(name: PlainName) -> AccessName
+    ensures value { result ≡ plain_name name }
+{
+    match name {
+        PlainName::Str => AccessName::Str,
+        PlainName::Ldr => AccessName::Ldr,
+        PlainName::Strb => AccessName::Strb,
+        PlainName::Ldrb => AccessName::Ldrb,
+        PlainName::Strh => AccessName::Strh,
+        PlainName::Ldrh => AccessName::Ldrh,
+    }
+}
+
+/// How many bytes the row accesses.
+fn scale(name: PlainName) -> u32
+    ensures value { result ≡ scale name }
+    ensures small { result ≤ 4 }
+{
+    match name {
+        PlainName::Str | PlainName::Ldr => 4,
+        PlainName::Strb | PlainName::Ldrb => 1,
+        PlainName::Strh | PlainName::Ldrh => 2,
+    }
+}
+
+/// `str`, `ldr rt,[rn,#4i]` and their kin
+pub fn s16(i: &S16, regs: &mut Regs, mem: &mut Mem) -> Result<Way, Stop>
+    ensures done { IsDone (s16 i.now regs.old) regs.old regs.new (memory_of mem.old) (memory_of mem.new) result }
+{
+    let base = regs.get(Place::R(i.n.get() as u8));
+    let addr = base.wrapping_add(scale(i.name) * i.i.get());
+    access_at(plain_name(i.name), i.t.get(), addr, regs, mem)
+}
+
+/// An address up or down by so many bytes.
+fn moved(add: bool, n: u32, addr: u32) -> u32
+    ensures value { result ≡ moved add n addr }
+{
+    if add {
+        addr.wrapping_add(n)
+    } else {
+        addr.wrapping_sub(n)
+    }
+}
+
+/// One of two addresses.
+fn chosen(first: bool, x: u32, y: u32) -> u32
+    ensures value { result ≡ cond first x y }
+{
+    if first { x } else { y }
+}
+
+/// `strb.w rt,[rn,#i]` and so on
+fn offset(i: &Offset, regs: &mut Regs, mem: &mut Mem) -> Result<Way, Stop>
+    ensures done { IsDone (offset i.now regs.old) regs.old regs.new (memory_of mem.old) (memory_of mem.new) result }
+{
+    let base = regs.get(Place::R(i.n.value as u8));
+    let addr = base.wrapping_add(i.i.value);
+    access_at(i.name, i.t.value, addr, regs, mem)
+}
+
+/// `strb.w rt,[rn,#-i]`, `[rn,#i]!`, `[rn],#i` and so on
+fn indexed(i: &Indexed, regs: &mut Regs, mem: &mut Mem) -> Result<Way, Stop>
+    ensures done { IsDone (indexed i.now regs.old) regs.old regs.new (memory_of mem.old) (memory_of mem.new) result }
+{
+    let base = regs.get(Place::R(i.n.value as u8));
+    let to = moved(i.u.value == 1, i.i.value, base);
+    let addr = chosen(i.p.value == 1, to, base);
+    let back = Back {
+        w: i.w.value == 1,
+        n: i.n.value,
+        to,
+    };
+    access_row(i.name, i.t.value, addr, back, regs, mem)
+}
+
+/// A word shifted left.
+fn shifted_left(x: u32, n: u32) -> u32
+    requires few { n < 4 }
+    ensures value { result ≡ x * 2 ^ n % 2 ^ 32 }
+{
+    let wide = (x as u64) << n;
+    (wide % 0x1_0000_0000) as u32
+}
+
+/// `strb.w rt,[rn,rm,lsl #i]` and so on
+fn shifted(i: &Shifted, regs: &mut Regs, mem: &mut Mem) -> Result<Way, Stop>
+    ensures done { IsDone (shifted i.now regs.old) regs.old regs.new (memory_of mem.old) (memory_of mem.new) result }
+{
+    let base = regs.get(Place::R(i.n.value as u8));
+    let index = shifted_left(regs.get(Place::R(i.m.value as u8)), i.i.value);
+    let addr = base.wrapping_add(index);
+    access_at(i.name, i.t.value, addr, regs, mem)
+}
+
+/// `ldrb.w rt,[pc,#i]` and so on
+fn literal(i: &Literal, regs: &mut Regs, mem: &mut Mem) -> Result<Way, Stop>
+    ensures done { IsDone (literal i.now regs.old) regs.old regs.new (memory_of mem.old) (memory_of mem.new) result }
+{
+    let addr = moved(i.u.value == 1, i.i.value, base_of(15, regs));
+    access_at(i.name, i.t.value, addr, regs, mem)
+}
+
+/// `str.w`, `ldr.w` and their kin
+pub fn t12(i: &T12, regs: &mut Regs, mem: &mut Mem) -> Result<Way, Stop>
+    ensures done { IsDone (t12 i.now regs.old) regs.old regs.new (memory_of mem.old) (memory_of mem.new) result }
+{
+    match i {
+        T12::Offset(i) => offset(i, regs, mem),
+        T12::Indexed(i) => indexed(i, regs, mem),
+        T12::Shifted(i) => shifted(i, regs, mem),
+        T12::Literal(i) => literal(i, regs, mem),
+    }
+}
