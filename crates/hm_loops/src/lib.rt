@@ -4,10 +4,10 @@
 mod branches;
 
 ghost use Rattle.std.specs.Prelude.{◌≡◌, ℕ, IsTrue, OnErr};
-ghost use Rattle.hm_loops.specs.Here.{is_branch_row};
 ghost use Rattle.hm_mem.specs.Memory.{memory_of};
 ghost use Rattle.hm_mem.specs.Seen.{IsSameElsewhere, seen};
 ghost use Rattle.hm_thumb.specs.Does.{in_machine};
+ghost use Rattle.hm_thumb.specs.Families.{is_branch_row};
 ghost use Rattle.hm_thumb.specs.Rows.{branch_does, made};
 ghost use Rattle.hm_thumb.specs.Steps.{ended, step, stepped};
 

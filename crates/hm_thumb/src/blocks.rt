@@ -1,6 +1,7 @@
 //! What comes before each instruction: the condition of its IT block, and the context that it makes.
 
 ghost use Rattle.std.specs.Prelude.{◌≡◌, ◌||◌};
+ghost use Rattle.hm_thumb.specs.Families.{loads_or_stores};
 ghost use Rattle.hm_thumb.specs.Rows.{is_breakpoint, is_stacked_vector, made, needs_context, runs};
 
 use crate::ways::is_passed;
@@ -58,4 +59,19 @@ pub fn begin(i: &Instr, regs: &mut Regs) -> bool
         context(regs);
     }
     runs
+}
+
+/// Whether an instruction is of the rows that load or store.
+pub fn loads_or_stores(i: &Scalar) -> bool
+    ensures value { result ≡ loads_or_stores i.now }
+{
+    match i {
+        Scalar::S15(_) => true,
+        Scalar::S16(_) => true,
+        Scalar::S20(_) => true,
+        Scalar::T12(_) => true,
+        Scalar::T13(_) => true,
+        Scalar::T15(_) => true,
+        _ => false,
+    }
 }
