@@ -10,3 +10,4 @@ pub mod Ordered
 pub mod Lowest
 pub mod Clashes
 pub mod Remaining
+pub mod Clean

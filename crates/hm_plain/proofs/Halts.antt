@@ -16,7 +16,7 @@ use Rattle.hm_run.specs.Headline.{HasBytesOf, HaltsInOrder, Headline, Riders, ta
 use Rattle.hm_run.specs.InOrder.{Halted, Full, Faulted, in_order, report_between}
 use Rattle.hm_run.specs.Program.{Program, Ticked, letter_steps}
 use Rattle.hm_run.specs.Report.{report_of, report_text, memory_text}
-use Rattle.hm_run.specs.Rows as row
+use Rattle.hm_run.specs.Stops as why
 use Rattle.hm_run.specs.Timed.{Timed, begin, closed, ended, next, thread_program, tick_of, timed, timed_out}
 use Rattle.hm_sched.specs.Schedule.{TickLine, Sched, ticks_of}
 use Rattle.hm_state.specs.Start.{start}
@@ -158,7 +158,7 @@ module _ (listing : Listing) (image : List Segment) (s : Sched) where
       → report_text x ≡ report_between o t
   report_is x o t e none a b h = λ i. report_of (e i) (length (none i)) (h.registers i) (a i) (b i) (h.output i)
 
-  pub reports_stop : (x : Timed) (o : Outcome) (n : ℕ) (w : row.WholeStop) → x.outcome ≡ Some o → x.acts ≡ [] → (h : StopsBetween machine (start image) n w x.config)
+  pub reports_stop : (x : Timed) (o : Outcome) (n : ℕ) (w : why.WholeStop) → x.outcome ≡ Some o → x.acts ≡ [] → (h : StopsBetween machine (start image) n w x.config)
       → report_text x ≡ report_between o h.order
   reports_stop x o n w e none h = report_is x o h.order e none h.a h.b (shown_alike x.config.state h.order h.live h.pc)
 
@@ -171,7 +171,7 @@ module _ (listing : Listing) (image : List Segment) (s : Sched) where
   halted_as reason n c h = subst (λ (k : ℕ). in_order listing image k ≡ Halted reason k h.between.order) (sym h.number)
       ((sequence.halted listing image around h.before reason h.between.order).0 h.between.stops)
 
-  pub full_as : (c : Config State) (h : StopsBetween machine (start image) c.n row.Full c) → in_order listing image (c.n + 1) ≡ Full (c.n + 1) h.order
+  pub full_as : (c : Config State) (h : StopsBetween machine (start image) c.n why.Full c) → in_order listing image (c.n + 1) ≡ Full (c.n + 1) h.order
   full_as c h = (sequence.full listing image around c.n h.order).0 h.stops
 
   pub fault_as : (f : Fault) (pc n : ℕ) → FaultsAt machine (start image) n f pc → in_order listing image (n + 1) ≡ Faulted f.kind pc f.addr n
@@ -185,7 +185,7 @@ module _ (listing : Listing) (image : List Segment) (s : Sched) where
       record {
         state = h.between.order;
         halts = halted_as reason n x.config h;
-        report_is = r ∙ reports_stop x (outcome.Halted reason n) h.before (row.Halt reason) e none h.between;
+        report_is = r ∙ reports_stop x (outcome.Halted reason n) h.before (why.Halt reason) e none h.between;
         bytes = bytes_alike x.config.state h.between.order file (shown_alike x.config.state h.between.order h.between.live h.between.pc) f;
       }
 
@@ -201,15 +201,15 @@ module _ (listing : Listing) (image : List Segment) (s : Sched) where
   few x keeps reason zero u h e = absurd cc
   few x keeps reason (suc n) u h e =
       let one : n + 1 ≡ suc n = omega arith in
-      let stops : StopsFrom machine (start image) n u (row.Halt reason)
+      let stops : StopsFrom machine (start image) n u (why.Halt reason)
       = (sequence.halted listing image around n reason u).1 (subst (λ (k : ℕ). in_order listing image k ≡ Halted reason k u) (sym one) h) in
-      few_steps machine (start image) x.config n (row.Halt reason) (kept x (Some outcome.OutOfTicks) keeps e)
+      few_steps machine (start image) x.config n (why.Halt reason) (kept x (Some outcome.OutOfTicks) keeps e)
       (record { state = u; runs = stops.runs; stop = stops.stop })
 
   riders_of : (x : Timed) → KeepsOrder listing image s x → Riders listing image x
   riders_of x keeps = record {
     fault = λ f pc n e. fault_as f pc n (kept x (Some (outcome.Fault Thread f pc n)) keeps e);
-    full = λ t e. let h : StopsBetween machine (start image) x.config.n row.Full x.config = kept x (Some (outcome.OutputFull t)) keeps e in (h.order, full_as x.config h);
+    full = λ t e. let h : StopsBetween machine (start image) x.config.n why.Full x.config = kept x (Some (outcome.OutputFull t)) keeps e in (h.order, full_as x.config h);
     few = few x keeps;
   }
 

@@ -1,28 +1,27 @@
 -- The machine of a program keeps the laws of the machine that overlaps beats.
-use Rattle.std.proofs.Common.{◌≡◌, ℕ, ◌+◌, ◌%◌, ◌^◌, ◌<◌, ◌≤◌, arith, ◌&&◌, ◌||◌, ap, refl, sym, ◌∙◌, subst, Bool, true, false, not, eqb, nat_lt, cond, Option, Some, None, Result, Ok, Err, inl, inr, ⊎_elim, ◌⊎◌}
+use Rattle.std.proofs.Common.{◌≡◌, ℕ, zero, suc, ◌+◌, ◌<◌, ◌≤◌, arith, ◌&&◌, ◌||◌, ap, refl, sym, ◌∙◌, subst, Bool, true, false, not, ltb, nat_eq, nat_lt, cond, Option, Some, None, Result, Ok, Err, inl, inr, ⊎_elim, ◌⊎◌}
 use Rattle.std.proofs.lemmas.Bool.Decides.{nat_tests}
 use Rattle.std.specs.Option.{is_none}
-use Rattle.hm_base.specs.Place.{same_place, fit}
 use Rattle.hm_base.specs.declared.Fault.{Fault}
 use Rattle.hm_base.specs.declared.Place.{Place}
 use Rattle.hm_base.specs.declared.Place.TheVariants.{R, QWord, P0, Mask01, Mask23, Carry, Ltp, Sticky}
 use Rattle.hm_base.specs.declared.Stop.{Stop}
 use Rattle.hm_base.specs.declared.Stop.TheVariants as stop
 use Rattle.hm_codes.specs.Listing.{Listing}
+use Rattle.hm_isa.specs.declared.Flow.{Flow}
+use Rattle.hm_isa.specs.declared.Flow.TheVariants as flow
 use Rattle.hm_isa.specs.declared.Instr.{Instr}
 use Rattle.hm_isa.specs.declared.Instr.TheVariants as instr
-use Rattle.hm_isa.specs.declared.Scalar.TheVariants as scalar
 use Rattle.hm_isa.specs.declared.Vector.{Vector}
-use Rattle.hm_isa.specs.declared.narrow.S3.{S3}
-use Rattle.hm_isa.specs.declared.narrow.S4.{S4}
-use Rattle.hm_mem.specs.Memory.{Around}
+use Rattle.hm_mem.specs.Memory.{Around, thread_under}
 use Rattle.hm_mem.specs.declared.Actor.TheVariants.{Thread}
 use Rattle.hm_order.specs.Beats.{ActionLaws, AgreeOn, Alike, Apart, BeatLaws, Live, AlikeAs, Same, SameBeat, SameTouch, StopsBy, beats, then}
 use Rattle.hm_order.specs.Machine.{CoreLaws, Clean, Config, Lawful, next, next_of}
-use Rattle.hm_order.proofs.Results.{ok_err, ok_same}
-use Rattle.hm_state.specs.State.{State, At, Byte, Cell, Value, Rest, word, at, cells, put_at}
+use Rattle.hm_order.proofs.Results.{decide, err_same, ok_err, ok_same}
+use Rattle.hm_state.specs.State.{State, At, Byte, Cell, Value, Rest, at, cells, regs_of}
 use Rattle.hm_state.proofs.Cells.{cell_laws}
 use Rattle.hm_beat.specs.Laws as cell
+use Rattle.hm_beat.specs.Laws.{stopped}
 use Rattle.hm_beat.specs.Ordered.{nothing, of_four, ordered}
 use Rattle.hm_beat.specs.Rows.{Tree, retired}
 use Rattle.hm_beat.specs.Trees.{action, view as cell_view}
@@ -37,12 +36,16 @@ use Rattle.hm_run.specs.declared.Rule.TheVariants as rule
 use Rattle.hm_beat.specs.declared.clash.Clash.{Clash}
 use Rattle.hm_beat.specs.Meeting.{clash_with}
 use Rattle.hm_beat.proofs.Remaining.{left_apart}
-use Rattle.hm_run.specs.Program.{Watched, In, Beside, Held, Holds, Others, open_rest, held, dead, view, rows, core, alone, begins, caused, cause_of, in_machine, is_ready, is_tainted, lifted, made_by, on_cell, ready_state, clash_or, is_too_early, overlap_rule, refusal_rule, rule_of_clash, step_rule, unless_refused, vector_of, whole_here}
-use Rattle.hm_run.specs.Rows as row
-use Rattle.hm_run.specs.Rows.{WholeStop, negative, with_nz, with_sum_flags, go_on, movs, adds}
+use Rattle.hm_run.specs.Program.{rows, core, alone, begins, caused, caused_by, cause_of, in_machine, is_ready, is_tainted, lifted, makes_here, on_cell, or_fault, other_here, ready_state, clash_or, is_too_early, overlap_rule, refusal_rule, rule_of_clash, step_rule, unless_refused, vector_of, whole_here}
+use Rattle.hm_whole.specs.Watched.{Agrees, GoesAlike, Watched, In, Beside, Held, Holds, Others, open_rest, held, dead, view}
+use Rattle.hm_run.specs.Stops as why
+use Rattle.hm_run.specs.Stops.{WholeStop, after_flow, whole_of}
 use Rattle.hm_rows.proofs.Rows.{keeps_lr, row_laws}
-use Rattle.hm_plain.proofs.Vectors.{Four, beat_rest, context_clean, context_is, context_pc, context_still, context_there, four_is, fresh, keeps_lr_now, not_refused, ready_same, refuse_same, row_pc}
-use Rattle.hm_plain.proofs.Wholes.{Leaves, leaves}
+use Rattle.hm_rows.proofs.Context.{context_fresh, context_pc, context_ready, context_there, fresh}
+use Rattle.hm_whole.specs.Whole.{Went, scalar_alone, scalar_in_machine}
+use Rattle.hm_whole.proofs.Agreement.{whole-live}
+use Rattle.hm_plain.proofs.Vectors.{beat_rest, context_clean, four_are, not_refused, ready_counts, ready_same, refuse_same, retire, row_beats, row_pc}
+use Rattle.hm_plain.proofs.Wholes.{Leaves, leaves, under_thread, watched_clean}
 
 -- VIEWS
 abbrev value_in : Value → Held → Value
@@ -76,56 +79,6 @@ live s t h = record { cells = cells; sticky = h.sticky }
     cells (In (Byte a)) d = ap Holds (h.bytes a d)
     cells Beside d = ap Others h.rest
 
--- two states that agree, at one instruction
-abbrev Both : State → State → Type 0
-Both s t = Agree s t × (s.pc ≡ t.pc)
-
-put_both : (p : Place) (x : ℕ) (s t : State) → Both s t → Both (put_at p x s) (put_at p x t)
-put_both p x s t (h, e) = (
-  record {
-    places = λ q. ap (cond (same_place p q) (word (fit p x))) (h.places q);
-    bytes = h.bytes;
-    sticky = h.sticky;
-    rest = h.rest;
-  },
-  e,
-)
-
-nz_both : (x : ℕ) (s t : State) → Both s t → Both (with_nz x s) (with_nz x t)
-nz_both x s t (h, e) = (
-  record {
-    places = h.places;
-    bytes = h.bytes;
-    sticky = h.sticky;
-    rest = ap (λ (r : Rest). open_rest (record r { n = (with_nz x s).rest.n; z = (with_nz x s).rest.z })) h.rest;
-  },
-  e,
-)
-
-flags_both : (x y : ℕ) (s t : State) → Both s t → Both (with_sum_flags x y s) (with_sum_flags x y t)
-flags_both x y s t (h, e) =
-    let f = (with_sum_flags x y s).rest in (
-      record {
-        places = h.places;
-        bytes = h.bytes;
-        sticky = h.sticky;
-        rest = ap (λ (r : Rest). open_rest (record r { n = f.n; z = f.z; c = f.c; v = f.v })) h.rest;
-      },
-      e,
-    )
-
-go_both : (bytes : ℕ) (s t : State) → Both s t → Both (go_on bytes s) (go_on bytes t)
-go_both bytes s t (h, e) = (record { places = h.places; bytes = h.bytes; sticky = h.sticky; rest = h.rest }, ap (λ (pc : ℕ). (pc + bytes) % 2 ^ 32) e)
-
-movs_both : (i : S4) (s t : State) → Both s t → Both (movs i s) (movs i t)
-movs_both i s t h = go_both 2 _ _ (nz_both i.i.value _ _ (put_both (R i.d.value) i.i.value s t h))
-
-adds_both : (i : S3) (s t : State) → Both s t → Both (adds i s) (adds i t)
-adds_both i s t (h, e) =
-    let x : at (R i.n.value) s ≡ at (R i.n.value) t = ap (λ (v : Value). v.n) (h.places (R i.n.value)) in
-    subst (λ (y : ℕ). Both (adds i s) (go_on 2 (with_sum_flags y i.i.value (put_at (R i.d.value) ((y + i.i.value) % 2 ^ 32) t)))) x
-    (go_both 2 _ _ (flags_both (at (R i.n.value) s) i.i.value _ _ (put_both (R i.d.value) ((at (R i.n.value) s + i.i.value) % 2 ^ 32) s t (h, e))))
-
 -- THE CONTEXT OF STATES THAT AGREE
 fresh_agree : (s t : State) → Agree s t → Agree (fresh s) (fresh t)
 fresh_agree s t h = record {
@@ -150,38 +103,58 @@ context_agree s t h = by_context s.rest.fpca refl (sym (ap (λ (r : Rest). r.fpc
   where
     by_context : (b : Bool) → s.rest.fpca ≡ b → t.rest.fpca ≡ b → Agree (with_context s) (with_context t)
     by_context true e f =
-        subst (λ (u : State). Agree u (with_context t)) (sym (context_still s e)) (subst (λ (u : State). Agree s u) (sym (context_still t f)) h)
+        subst (λ (u : State). Agree u (with_context t)) (sym (context_there s e)) (subst (λ (u : State). Agree s u) (sym (context_there t f)) h)
     by_context false e f =
-        let new_s : with_context s ≡ fresh s = context_is s ∙ ap (λ (b : Bool). cond b s (fresh s)) e in
-        let new_t : with_context t ≡ fresh t = context_is t ∙ ap (λ (b : Bool). cond b t (fresh t)) f in
+        let new_s : with_context s ≡ fresh s = context_fresh s ∙ ap (λ (b : Bool). cond b s (fresh s)) e in
+        let new_t : with_context t ≡ fresh t = context_fresh t ∙ ap (λ (b : Bool). cond b t (fresh t)) f in
         subst (λ (u : State). Agree u (with_context t)) (sym new_s) (subst (λ (u : State). Agree (fresh s) u) (sym new_t) (fresh_agree s t h))
 
 -- WHAT AN INSTRUCTION THAT IS NO VECTOR ROW DOES IN THEM
 abbrev AlikeBoth : Result State Cause → Result State WholeStop → Type 0
 AlikeBoth r q = AlikeAs cause_of (λ u v. Live view u v × (u.pc ≡ v.pc)) r q
 
-seen : (s t : State) → Both s t → Live view s t × (s.pc ≡ t.pc)
-seen s t (h, e) = (live s t h, e)
+abbrev TaintedOrAlike : Result State Cause → Result State WholeStop → Type 0
+TaintedOrAlike r q = StopsBy is_tainted r ⊎ AlikeBoth r q
 
-alike : (r : Result Instr Fault) (s t : State) → vector_of r ≡ None → Both s t → AlikeBoth (in_machine (whole_here r s)) (whole_here r t)
-alike (Ok (instr.Scalar (scalar.S3 i))) s t none h = seen (adds i s) (adds i t) (adds_both i s t h)
-alike (Ok (instr.Scalar (scalar.S4 i))) s t none h = seen (movs i s) (movs i t) (movs_both i s t h)
-alike (Ok (instr.Scalar (scalar.S18 i))) s t none h = refl
-alike (Ok (instr.Branch i)) s t none h = elim i [ ]
-alike (Ok (instr.Vector v)) s t none h = absurd cc
-alike (Err f) s t none h = refl
+flow_alike : (f : Flow) (s t : State) → Live view s t → s.pc ≡ t.pc → AlikeBoth (in_machine (after_flow f s)) (after_flow f t)
+flow_alike flow.Next s t h e = (h, e)
+flow_alike (flow.Break k) s t h e = refl
+flow_alike (flow.Return x) s t h e = refl
 
-other_live : (listing : Listing) (s t : State) → Live view s t → s.pc ≡ t.pc → vector_of (listing t.pc) ≡ None
-    → StopsBy is_tainted (in_machine (alone listing s)) ⊎ AlikeBoth (in_machine (alone listing s)) (alone listing t)
-other_live listing s t h e none =
-    inr (subst (λ (pc : ℕ). AlikeBoth (in_machine (alone listing s)) (whole_here (listing pc) t)) e
-    (alike (listing s.pc) s t (ap (λ (pc : ℕ). vector_of (listing pc)) e ∙ none) (agree s t h, e)))
+went_alike : (r : Result Went Stop) (q : Result Went Fault) → GoesAlike r q → TaintedOrAlike (caused_by r) (whole_of q)
+went_alike (Ok x) (Ok y) (inl h) = absurd h
+went_alike (Ok x) (Ok y) (inr h) =
+    inr (subst (λ (f : Flow). AlikeBoth (in_machine (after_flow x.flow x.state)) (after_flow f y.state)) h.flow (flow_alike x.flow x.state y.state h.live h.pc))
+went_alike (Ok x) (Err f) (inl h) = absurd h
+went_alike (Ok x) (Err f) (inr h) = absurd h
+went_alike (Err e) (Ok y) (inl h) = inl h
+went_alike (Err e) (Ok y) (inr h) = absurd h
+went_alike (Err e) (Err f) (inl h) = inl h
+went_alike (Err e) (Err f) (inr h) = inr (ap cause.Stop h)
+
+module _ (x : Around) (thread : x.actor ≡ Thread) where
+  by_thread : (i : Instr) (s t : State) → Live view s t → s.pc ≡ t.pc → TaintedOrAlike (caused_by (scalar_in_machine x i s)) (whole_of (scalar_alone i t))
+  by_thread i s t h e =
+      subst (λ (y : Around). TaintedOrAlike (caused_by (scalar_in_machine y i s)) (whole_of (scalar_alone i t))) (sym (under_thread x thread))
+      (went_alike (scalar_in_machine (thread_under x.lo x.hi x.floor) i s) (scalar_alone i t) (whole-live x.lo x.hi x.floor i s t h e))
+
+  other_alike : (r : Result Instr Fault) (s t : State) → vector_of r ≡ None → Live view s t → s.pc ≡ t.pc → TaintedOrAlike (other_here x r s) (whole_here r t)
+  other_alike (Ok (instr.Scalar i)) s t none h e = by_thread (instr.Scalar i) s t h e
+  other_alike (Ok (instr.Branch i)) s t none h e = by_thread (instr.Branch i) s t h e
+  other_alike (Ok (instr.Vector v)) s t none h e = absurd cc
+  other_alike (Err f) s t none h e = inr refl
+
+  other_live : (listing : Listing) (s t : State) → Live view s t → s.pc ≡ t.pc → vector_of (listing t.pc) ≡ None
+      → TaintedOrAlike (other_here x (listing s.pc) s) (alone listing t)
+  other_live listing s t h e none =
+      subst (λ (pc : ℕ). TaintedOrAlike (other_here x (listing s.pc) s) (whole_here (listing pc) t)) e
+      (other_alike (listing s.pc) s t (ap (λ (pc : ℕ). vector_of (listing pc)) e ∙ none) h e)
 
 -- THE NEXT INSTRUCTION
 module _ (listing : Listing) (around : Around) where
   next_at : (s : State) (r : Result Instr Fault) → listing s.pc ≡ r → next_of (core listing around) (vector_of r) s ≡ alone listing s
   next_at s (Ok (instr.Scalar i)) e = refl
-  next_at s (Ok (instr.Branch i)) e = elim i [ ]
+  next_at s (Ok (instr.Branch i)) e = refl
   next_at s (Ok (instr.Vector v)) e = sym (ap (λ (r : Result Instr Fault). whole_here r s) e)
   next_at s (Err f) e = refl
 
@@ -191,11 +164,9 @@ module _ (listing : Listing) (around : Around) where
 
   -- clean states have no tainted byte
   pub clean_of : (s : State) → cell.Clean s → Clean (core listing around) s
-  clean_of s h (In (At p)) = refl
-  clean_of s h (In (Byte a)) = h a
-  clean_of s h Beside = refl
+  clean_of s h = watched_clean s h
 
-  pub clean_bytes : (s : State) → Clean (core listing around) s → cell.Clean s
+  clean_bytes : (s : State) → Clean (core listing around) s → cell.Clean s
   clean_bytes s h a = h (In (Byte a))
 
   clean_after : around.actor ≡ Thread → (s t : State) → Clean (core listing around) s → alone listing s ≡ Ok t → Clean (core listing around) t
@@ -203,9 +174,9 @@ module _ (listing : Listing) (around : Around) where
 
 -- STOPS AND RULES
 untainted : (w : WholeStop) → is_tainted (cause_of w) ≡ false
-untainted (row.Halt reason) = refl
-untainted row.Full = refl
-untainted (row.Faults f) = refl
+untainted (why.Halt reason) = refl
+untainted why.Full = refl
+untainted (why.Faults f) = refl
 
 broken : (b : Bool) → cond b None (Some rule.YoungerFault) ≡ None → b ≡ true
 broken true e = refl
@@ -266,10 +237,14 @@ module _ (b : Tree) where
 module _ (x : Around) (thread : x.actor ≡ Thread) where
   -- the rows over the cells alone keep the laws
   over_cells : BeatLaws (ordered Vector (λ v. vector_tree v x) writes_lr)
-  over_cells = ordered_laws Vector vector_tree (λ v y s. Ok (vector_whole v s)) row_laws writes_lr keeps_lr x thread
+  over_cells = ordered_laws Vector vector_tree vector_whole row_laws writes_lr keeps_lr x thread
 
-  may_loop : (v : Vector) (s : State) → (not (writes_lr v) || eqb (at Ltp s) 4) ≡ true
-  may_loop v s = ap (λ (b : Bool). not b || eqb (at Ltp s) 4) (keeps_lr_now v)
+  may_loop : (v : Vector) (s : State) → is_ready v s ≡ true → (not (writes_lr v) || not (ltb (at Ltp s) 4)) ≡ true
+  may_loop v s ready = decide (writes_lr v)
+      (λ w. decide (ltb (at Ltp s) 4)
+      (λ l. absurd (ready_counts v s ready w l))
+      (λ l. λ j. not (w j) || not (l j)))
+      (λ w. λ j. not (w j) || not (ltb (at Ltp s) 4))
 
   size_kept : (v : Vector) (k : ℕ) (s : State) → (action cells (of_four (vector_tree v x) k)).sets s (At Ltp) ≡ false
   size_kept v k s = one_of (nat_lt k 4)
@@ -295,11 +270,11 @@ module _ (x : Around) (thread : x.actor ≡ Thread) where
     action = λ v k. laws_lifted (of_four (vector_tree v x) k);
     valid = valid;
     later = λ v k m s t ready e low. touch_lifted (of_four (vector_tree v x) m) s t
-        (over_cells.later v k m s t (may_loop v s) (caused_ok ((action cells (of_four (vector_tree v x) k)).run s) t e) low);
+        (over_cells.later v k m s t (may_loop v s ready) (caused_ok ((action cells (of_four (vector_tree v x) k)).run s) t e) low);
     live = λ v k s t ready h. ⊎_elim
         (λ stopped. inl (stops_caused ((action cells (of_four (vector_tree v x) k)).run s) stopped))
         (λ same. inr (beat_lifted (of_four (vector_tree v x) k) s t same))
-        (over_cells.live v k s t (may_loop v s) (λ c uses alive. ap (value_in (s.cell c)) (h (In c) uses alive)));
+        (over_cells.live v k s t (may_loop v s ready) (λ c uses alive. ap (value_in (s.cell c)) (h (In c) uses alive)));
     ready_live = ready_live;
   }
 
@@ -365,24 +340,32 @@ module _ (x : Around) (thread : x.actor ≡ Thread) where
       late_of c e = (grind (arith, nat_tests), grind (arith, nat_tests))
 
   -- WHOLE ROWS
-  four_beats_end : (v : Vector) (s w : State) (f : Four (vector_tree v x) s w) → beats (rows x) v 0 4 s ≡ Ok f.four
-  four_beats_end v s w f =
-      ap (λ (r : Result State Stop). then (caused r) (beats (rows x) v 1 3)) f.first
-      ∙ ap (λ (r : Result State Stop). then (caused r) (beats (rows x) v 2 2)) f.second
-      ∙ ap (λ (r : Result State Stop). then (caused r) (beats (rows x) v 3 1)) f.third
-      ∙ ap (λ (r : Result State Stop). then (caused r) (beats (rows x) v 4 0)) f.fourth
+  caused_then : (q : Result State Stop) (f : State → Result State Cause) (g : State → Result State Stop) → ((t : State) → f t ≡ caused (g t)) → then (caused q) f ≡ caused (then q g)
+  caused_then (Ok t) f g h = h t
+  caused_then (Err e) f g h = refl
+
+  beats_caused : (v : Vector) (n k : ℕ) (s : State) → beats (rows x) v k n s ≡ caused (row_beats x v k n s)
+  beats_caused v zero k s = refl
+  beats_caused v (suc n) k s = caused_then ((action cells (of_four (vector_tree v x) k)).run s) (beats (rows x) v (suc k) n) (row_beats x v (suc k) n) (beats_caused v n (suc k))
 
   same_over : (s : State) → Same view s (retired s)
   same_over s = record { cells = λ w. elim w as (λ w. held s w ≡ held (retired s) w) [ In c ↦ refl | Beside ↦ refl ]; sticky = refl }
 
+  four_same : (r : Result State Stop) (q : Result State Fault) → then r retire ≡ stopped q → AlikeAs cause_of (Same view) (caused r) (or_fault q)
+  four_same (Ok s) (Ok t) e = subst (λ (u : State). Same view s u) (ok_same e) (same_over s)
+  four_same (Ok s) (Err f) e = absurd (ok_err e)
+  four_same (Err w) (Ok t) e = absurd (ok_err (sym e))
+  four_same (Err w) (Err f) e = ap cause.Stop (err_same e)
+
   whole_from : (v : Vector) (s : State) → cell.Clean s → (q : Result State WholeStop) → ready_state v s ≡ q
-      → AlikeAs cause_of (Same view) (then (in_machine q) (beats (rows x) v 0 4)) (then q (λ t. Ok (vector_whole v t)))
+      → AlikeAs cause_of (Same view) (then (in_machine q) (beats (rows x) v 0 4)) (then q (λ t. or_fault (vector_whole v t)))
   whole_from v s clean (Err w) e = refl
   whole_from v s clean (Ok t) e =
-      let context : with_context s ≡ t = (not_refused (refuse v (with_context s)) (with_context s) t e).1 in
-      let f = four_is x thread v t (subst cell.Clean context (context_clean s clean)) in
-      subst (λ (r : Result State Cause). AlikeAs cause_of (Same view) r (Ok (vector_whole v t))) (sym (four_beats_end v t (vector_whole v t) f))
-      (subst (λ (u : State). Same view f.four u) f.over (same_over f.four))
+      let free = not_refused (refuse v (with_context s)) (with_context s) t e in
+      let there : t.rest.fpca ≡ true = ap (λ (u : State). u.rest.fpca) (sym free.1) ∙ context_ready s in
+      subst (λ (r : Result State Cause). AlikeAs cause_of (Same view) r (or_fault (vector_whole v t))) (sym (beats_caused v 4 0 t))
+      (four_same (row_beats x v 0 4 t) (vector_whole v t)
+      (four_are x thread v t there (ap (refuse v) (sym free.1) ∙ free.0) (subst cell.Clean free.1 (context_clean s clean))))
 
 -- HOW A ROW BEGINS
 machine_ok : (r : Result State WholeStop) (t : State) → in_machine r ≡ Ok t → r ≡ Ok t
@@ -395,14 +378,14 @@ begun_in v s t e = not_refused (refuse v (with_context s)) (with_context s) t (m
 start_ready : (v : Vector) (s t : State) → begins v s ≡ Ok t → is_ready v t ≡ true
 start_ready v s t e =
     let h = begun_in v s t e in
-    subst (λ (u : State). is_ready v u ≡ true) h.1 (λ j. context_there s j && is_none (h.0 j))
+    subst (λ (u : State). is_ready v u ≡ true) h.1 (λ j. context_ready s j && is_none (h.0 j))
 
 start_pc : (v : Vector) (s t : State) → begins v s ≡ Ok t → t.pc ≡ s.pc
 start_pc v s t e = ap (λ (u : State). u.pc) (sym (begun_in v s t e).1) ∙ context_pc s
 
-made_pc : (o : Option Vector) (s : State) → (made_by o s).pc ≡ s.pc
-made_pc (Some v) s = context_pc s
-made_pc None s = refl
+made_pc : (b : Bool) (s : State) → (cond b (with_context s) s).pc ≡ s.pc
+made_pc true s = context_pc s
+made_pc false s = refl
 
 both_true : (a b : Bool) → (a && b) ≡ true → (a ≡ true) × (b ≡ true)
 both_true true b e = (refl, e)
@@ -415,7 +398,7 @@ none_of (Some f) e = absurd cc
 started : (v : Vector) (s : State) → is_ready v s ≡ true → begins v s ≡ Ok s
 started v s ready =
     let h = both_true s.rest.fpca (is_none (refuse v s)) ready in
-    ap (λ (t : State). in_machine (unless_refused (refuse v t) t)) (context_still s h.0) ∙ ap (λ (o : Option Fault). in_machine (unless_refused o s)) (none_of (refuse v s) h.1)
+    ap (λ (t : State). in_machine (unless_refused (refuse v t) t)) (context_there s h.0) ∙ ap (λ (o : Option Fault). in_machine (unless_refused o s)) (none_of (refuse v s) h.1)
 
 begin_alike : (o : Option Fault) (s t : State) → Live view s t → Alike (Live view) (in_machine (unless_refused o s)) (in_machine (unless_refused o t))
 begin_alike (Some f) s t h = refl
@@ -438,12 +421,12 @@ laws listing around thread = record {
   clean = λ s t h e. clean_after listing around thread s t h (sym (next_is listing around s) ∙ e);
   start_ready = start_ready;
   start_pc = start_pc;
-  made_pc = λ s. made_pc (vector_of (listing s.pc)) s;
+  made_pc = λ s. made_pc (makes_here (listing s.pc) (regs_of s)) s;
   started = started;
   start_live = start_live;
   jump_pc = λ p s. refl;
   jump_same = λ p s. record { cells = λ c. elim c as (λ c. held (record s { pc = p }) c ≡ held s c) [ In d ↦ refl | Beside ↦ refl ]; sticky = refl };
-  other_live = λ s t h e none clean. other_live listing s t h e none;
+  other_live = λ s t h e none clean. other_live around thread listing s t h e none;
   untainted = untainted;
   lawful = lawful around thread listing;
   faults = λ e. broken (is_tainted e);

@@ -4,8 +4,8 @@ use Rattle.hm_base.specs.Image.{Segment}
 use Rattle.hm_codes.specs.Listing.{Listing}
 use Rattle.hm_run.specs.InOrder.{InOrder, Running, Halted, Full, Faulted, after, one_more, in_order}
 use Rattle.hm_run.specs.Program.{alone}
-use Rattle.hm_run.specs.Rows as row
-use Rattle.hm_run.specs.Rows.{WholeStop}
+use Rattle.hm_run.specs.Stops as why
+use Rattle.hm_run.specs.Stops.{WholeStop}
 use Rattle.hm_state.specs.State.{State}
 use Rattle.hm_plain.specs.Orders.{HasStopped, StaysStopped}
 
@@ -17,9 +17,9 @@ module _ (listing : Listing) (image : List Segment) where
   stopped_after : (n : ℕ) (s : State) (r : Result State WholeStop) → in_order listing image n ≡ Running s → alone listing s ≡ r
       → StaysStopped listing image (after n s r)
   stopped_after n s (Ok t) e h = tt
-  stopped_after n s (Err (row.Halt reason)) e h = one_after n (Running s) (Halted reason (n + 1) s) e (ap (after n s) h)
-  stopped_after n s (Err row.Full) e h = one_after n (Running s) (Full (n + 1) s) e (ap (after n s) h)
-  stopped_after n s (Err (row.Faults f)) e h = one_after n (Running s) (Faulted f.kind s.pc f.addr n) e (ap (after n s) h)
+  stopped_after n s (Err (why.Halt reason)) e h = one_after n (Running s) (Halted reason (n + 1) s) e (ap (after n s) h)
+  stopped_after n s (Err why.Full) e h = one_after n (Running s) (Full (n + 1) s) e (ap (after n s) h)
+  stopped_after n s (Err (why.Faults f)) e h = one_after n (Running s) (Faulted f.kind s.pc f.addr n) e (ap (after n s) h)
 
   stopped_more : (n : ℕ) (y : InOrder) → in_order listing image n ≡ y → StaysStopped listing image y → StaysStopped listing image (one_more listing n y)
   stopped_more n (Running s) e h = stopped_after n s (alone listing s) e refl

@@ -12,12 +12,12 @@ use Rattle.hm_run.specs.declared.Outcome.TheVariants as outcome
 use Rattle.hm_run.specs.declared.Who.TheVariants.{Thread, Handler, Entry}
 use Rattle.hm_run.specs.Headline.{PlainReport}
 use Rattle.hm_run.specs.InOrder.{InOrder, Halted, Full, Faulted, in_order}
-use Rattle.hm_run.specs.Program.{Program, Stepped, alone, at_step, letter_steps}
+use Rattle.hm_run.specs.Program.{Program, Stepped, alone, at_step, letter_step, letter_steps}
 use Rattle.hm_run.specs.Report.{outcome_line}
-use Rattle.hm_run.specs.Rows as row
-use Rattle.hm_run.specs.Rows.{WholeStop}
+use Rattle.hm_run.specs.Stops as why
+use Rattle.hm_run.specs.Stops.{WholeStop}
 use Rattle.hm_run.specs.Timed.{Activation, Timed, begin, closed, ended, next as next_tick, or_out, thread_program, timed, timed_out, who_runs}
-use Rattle.hm_sched.specs.Schedule.{TickLine, plain_line, plain, plain_lines, repeat, ticks_of}
+use Rattle.hm_sched.specs.Schedule.{TickLine, whole_letter, plain_line, plain, plain_lines, repeat, ticks_of}
 use Rattle.hm_state.specs.Start.{start, start_under}
 use Rattle.hm_state.specs.State.{State}
 use Rattle.hm_plain.specs.Ends.{GoesOn, PlainlyEnds}
@@ -27,7 +27,7 @@ use Rattle.hm_plain.specs.Sequence.{FaultsAt}
 use Rattle.hm_plain.proofs.Halts.{fault_as, full_as, halted_as, kept, no_acts, reports_going, reports_stop, shown_between}
 use Rattle.hm_plain.proofs.Orders.{stopped_later}
 use Rattle.hm_plain.proofs.Ticks.{keeps_order}
-use Rattle.hm_plain.proofs.Wholes.{Leaves, between, comes_to, leaves, whole_step}
+use Rattle.hm_plain.proofs.Wholes.{Comes, Leaves, between, leaves, whole_step}
 use Rattle.hm_run.proofs.Steps.{ticked, next_ended}
 
 -- the outcome of a run that goes on, where so many ticks are left
@@ -82,35 +82,42 @@ module _ (listing : Listing) (n : ℕ) where
   abbrev around : Around
   around = thread_under (plain n).lo (plain n).hi (plain n).floor
 
-  -- the end of a plain tick, by what the instruction comes to in j steps
-  abbrev after_tick : Timed → ℕ → ℕ → State → ℕ → Result State WholeStop → Timed
-  after_tick x t k s j r = ended (plain_line n) x (then (at_step 1 false (comes_to listing around t k s j r)) (letter_steps machine 1 []))
+  -- the end of a plain tick, by what the letter comes to
+  abbrev after_tick : Timed → Stepped → Timed
+  after_tick x r = ended (plain_line n) x (then (at_step 1 false r) (letter_steps machine 1 []))
 
-  tick_comes : (left t : ℕ) (x : Timed) (k : ℕ) (s : State) (j : ℕ) → x.acts ≡ [] → x.ticks ≡ t → (r : Result State WholeStop) → Leaves r
-      → Plainly left (suc t) (closed (repeat left (plain_line n) []) (after_tick x t k s j r))
-  tick_comes left t x k s j none ticks (Ok u) leaves =
+  abbrev rest : ℕ → List TickLine
+  rest left = repeat left (plain_line n) []
+
+  tick_comes : (left t : ℕ) (x : Timed) → x.acts ≡ [] → x.ticks ≡ t → (q : Result State WholeStop) → Leaves q → (r : Stepped) → Comes t q r
+      → Plainly left (suc t) (closed (rest left) (after_tick x r))
+  tick_comes left t x none ticks (Ok u) leaves r h =
       let one : x.ticks + 1 ≡ suc t = omega arith in
-      inl (closed_goes (plain_line n) left (suc t) (after_tick x t k s j (Ok u)) refl j _ refl one leaves)
-  tick_comes left t x k s j none ticks (Err (row.Halt reason)) leaves =
-      inr (closed_ends (repeat left (plain_line n) []) (suc t) (after_tick x t k s j (Err (row.Halt reason)))
-      (record { end = outcome.Halted reason (t + 1); outcome = refl; plainly = omega arith }))
-  tick_comes left t x k s j none ticks (Err row.Full) leaves =
-      inr (closed_ends (repeat left (plain_line n) []) (suc t) (after_tick x t k s j (Err row.Full))
-      (record { end = outcome.OutputFull (x.ticks + 1); outcome = refl; plainly = (omega arith, omega arith) }))
-  tick_comes left t x k s j none ticks (Err (row.Faults f)) leaves =
-      inr (closed_ends (repeat left (plain_line n) []) (suc t) (after_tick x t k s j (Err (row.Faults f)))
-      (record { end = _; outcome = ap (λ (acts : List Activation). Some (outcome.Fault (who_runs acts) f (machine.made s).pc t)) none; plainly = omega arith }))
+      subst (λ (r : Stepped). Plainly left (suc t) (closed (rest left) (after_tick x r))) (sym h.1)
+      (inl (closed_goes (plain_line n) left (suc t) (after_tick x (Ok (between (suc t) h.0 u))) refl h.0 _ refl one leaves))
+  tick_comes left t x none ticks (Err (why.Halt reason)) leaves r h =
+      let same = h.1 in
+      subst (λ (r : Stepped). Plainly left (suc t) (closed (rest left) (after_tick x r))) (sym h.2)
+      (inr (closed_ends (rest left) (suc t) _ (record { end = outcome.Halted reason (h.0.n + 1); outcome = refl; plainly = omega arith })))
+  tick_comes left t x none ticks (Err why.Full) leaves r h =
+      let same = h.1 in
+      subst (λ (r : Stepped). Plainly left (suc t) (closed (rest left) (after_tick x r))) (sym h.2)
+      (inr (closed_ends (rest left) (suc t) _ (record { end = outcome.OutputFull (x.ticks + 1); outcome = refl; plainly = (omega arith, omega arith) })))
+  tick_comes left t x none ticks (Err (why.Faults f)) leaves r h =
+      let same = h.1 in
+      subst (λ (r : Stepped). Plainly left (suc t) (closed (rest left) (after_tick x r))) (sym h.2)
+      (inr (closed_ends (rest left) (suc t) _
+      (record { end = _; outcome = ap (λ (acts : List Activation). Some (outcome.Fault (who_runs acts) f h.0.state.pc h.0.n)) none; plainly = omega arith })))
 
   tick_goes : (left t : ℕ) (x : Timed) → x.acts ≡ [] → x.outcome ≡ None → Goes (suc left) t x
-      → Plainly left (suc t) (next_tick machine (plain_line n ∷ repeat left (plain_line n) []) x)
+      → Plainly left (suc t) (next_tick machine (plain_line n ∷ rest left) x)
   tick_goes left t x none on h =
-      let rest = repeat left (plain_line n) [] in
-      let whole = whole_step listing around refl t h.steps h.state h.clean in
       let letters : letter_steps machine 0 (plain_line n).letters x.config
-      ≡ then (at_step 1 false (comes_to listing around t h.steps h.state whole.0 (alone listing h.state))) (letter_steps machine 1 [])
-      = ap (letter_steps machine 0 (plain_line n).letters) h.config ∙ ap (λ (r : Stepped). then (at_step 1 false r) (letter_steps machine 1 [])) whole.1 in
-      subst (Plainly left (suc t)) (sym (ticked machine (plain_line n) rest x _ on letters))
-      (tick_comes left t x h.steps h.state whole.0 none h.ticks (alone listing h.state) (leaves around refl (listing h.state.pc) h.state h.clean))
+      ≡ then (at_step 1 false (letter_step machine whole_letter (between t h.steps h.state))) (letter_steps machine 1 [])
+      = ap (letter_steps machine 0 (plain_line n).letters) h.config in
+      subst (Plainly left (suc t)) (sym (ticked machine (plain_line n) (rest left) x _ on letters))
+      (tick_comes left t x none h.ticks (alone listing h.state) (leaves around refl (listing h.state.pc) h.state h.clean)
+      (letter_step machine whole_letter (between t h.steps h.state)) (whole_step listing around refl t h.steps h.state h.clean))
 
   tick_plainly : (left t : ℕ) (x : Timed) → x.acts ≡ [] → Plainly (suc left) t x
       → Plainly left (suc t) (next_tick machine (plain_line n ∷ repeat left (plain_line n) []) x)
@@ -197,7 +204,7 @@ module _ (listing : Listing) (image : List Segment) (n : ℕ) where
   ends_reports x keeps none (outcome.Halted reason k) e p =
       let h : HaltsAfter (thread_program listing (plain n)) (start image) reason k x.config = kept listing image (plain n) x (Some (outcome.Halted reason k)) keeps e in
       within x k (Halted reason k h.between.order) p (halted_as listing image (plain n) reason k x.config h) tt
-      (reports_stop listing image (plain n) x (outcome.Halted reason k) h.before (row.Halt reason) e none h.between)
+      (reports_stop listing image (plain n) x (outcome.Halted reason k) h.before (why.Halt reason) e none h.between)
   ends_reports x keeps none (outcome.Fault Thread f pc k) e p =
       let h : FaultsAt (thread_program listing (plain n)) (start image) k f pc = kept listing image (plain n) x (Some (outcome.Fault Thread f pc k)) keeps e in
       within x (k + 1) (Faulted f.kind pc f.addr k) (omega arith) (fault_as listing image (plain n) f pc k h) tt (ap outcome_line e)
@@ -208,10 +215,10 @@ module _ (listing : Listing) (image : List Segment) (n : ℕ) where
   ends_reports x keeps none (outcome.TaintedRead i pc addr) e p = absurd p
   ends_reports x keeps none (outcome.StackSpent i sp) e p = absurd p
   ends_reports x keeps none (outcome.OutputFull k) e p =
-      let h : StopsBetween (thread_program listing (plain n)) (start image) x.config.n row.Full x.config = kept listing image (plain n) x (Some (outcome.OutputFull k)) keeps e in
+      let h : StopsBetween (thread_program listing (plain n)) (start image) x.config.n why.Full x.config = kept listing image (plain n) x (Some (outcome.OutputFull k)) keeps e in
       let same : k ≡ x.config.n + 1 = p.1 in
       within x (x.config.n + 1) (Full (x.config.n + 1) h.order) (subst (λ (i : ℕ). i ≤ n) same p.0) (full_as listing image (plain n) x.config h) tt
-      (reports_stop listing image (plain n) x (outcome.OutputFull (x.config.n + 1)) x.config.n row.Full (e ∙ ap (λ (i : ℕ). Some (outcome.OutputFull i)) same) none h)
+      (reports_stop listing image (plain n) x (outcome.OutputFull (x.config.n + 1)) x.config.n why.Full (e ∙ ap (λ (i : ℕ). Some (outcome.OutputFull i)) same) none h)
 
   plain_reports : (x : Timed) → KeepsOrder listing image (plain n) x → x.acts ≡ [] → Plainly 0 n x → PlainReport x (in_order listing image n)
   plain_reports x keeps none (inl h) = goes_reports x keeps none h

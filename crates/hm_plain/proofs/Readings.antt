@@ -3,7 +3,7 @@ use Rattle.std.proofs.Common.{◌≡◌, ◌+◌, ◌*◌, ◌^◌, ap}
 use Rattle.hm_base.specs.declared.Place.{Place}
 use Rattle.hm_base.specs.declared.Place.TheVariants.{R, QWord, P0, Mask01, Mask23, Carry, Ltp}
 use Rattle.hm_order.specs.Beats.{Live}
-use Rattle.hm_run.specs.Program.{view}
+use Rattle.hm_whole.specs.Watched.{view}
 use Rattle.hm_state.specs.State.{State, Rest, Value, bit, listed, regs_of}
 use Rattle.hm_plain.specs.Readings.{ShownAlike}
 use Rattle.hm_plain.proofs.Laws.{Agree, agree}

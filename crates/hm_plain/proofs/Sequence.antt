@@ -10,8 +10,8 @@ use Rattle.hm_order.proofs.Results.{ok_same, ok_err}
 use Rattle.hm_run.specs.declared.Reason.{Reason}
 use Rattle.hm_run.specs.InOrder.{InOrder, Running, Halted, Full, Faulted, after, one_more, in_order}
 use Rattle.hm_run.specs.Program.{Program, alone, core}
-use Rattle.hm_run.specs.Rows as row
-use Rattle.hm_run.specs.Rows.{WholeStop}
+use Rattle.hm_run.specs.Stops as why
+use Rattle.hm_run.specs.Stops.{WholeStop}
 use Rattle.hm_state.specs.Start.{start}
 use Rattle.hm_state.specs.State.{State}
 use Rattle.hm_plain.specs.Sequence.{StopsFrom, FaultsAt}
@@ -26,9 +26,9 @@ Bounded n (Faulted kind pc addr k) = k < n
 
 bounded_after : (n : ℕ) (s : State) (r : Result State WholeStop) → Bounded (suc n) (after n s r)
 bounded_after n s (Ok t) = tt
-bounded_after n s (Err (row.Halt reason)) = omega arith
-bounded_after n s (Err row.Full) = omega arith
-bounded_after n s (Err (row.Faults f)) = omega arith
+bounded_after n s (Err (why.Halt reason)) = omega arith
+bounded_after n s (Err why.Full) = omega arith
+bounded_after n s (Err (why.Faults f)) = omega arith
 
 module _ (listing : Listing) where
   bounded_more : (n : ℕ) (y : InOrder) → Bounded n y → Bounded (suc n) (one_more listing n y)
@@ -58,9 +58,9 @@ module _ (listing : Listing) (image : List Segment) (around : Around) where
 
   joined_after : (n : ℕ) (s : State) (r : Result State WholeStop) → Joined r (after n s r)
   joined_after n s (Ok t) = refl
-  joined_after n s (Err (row.Halt reason)) = tt
-  joined_after n s (Err row.Full) = tt
-  joined_after n s (Err (row.Faults f)) = tt
+  joined_after n s (Err (why.Halt reason)) = tt
+  joined_after n s (Err why.Full) = tt
+  joined_after n s (Err (why.Faults f)) = tt
 
   joined_more : (n : ℕ) (r : Result State WholeStop) (y : InOrder) → Joined r y → Joined (then r (next machine)) (one_more listing n y)
   joined_more n (Ok s) (Running t) h =
@@ -133,59 +133,59 @@ module _ (listing : Listing) (image : List Segment) (around : Around) where
   from n y e k = from_at n (in_order listing image n) y refl (bounded listing image n) (ap (in_order listing image) (sym (add-one n)) ∙ e) k
 
   abbrev Halts : ℕ → State → Reason → State → Result State WholeStop → Type 0
-  Halts n u reason s r = after n u r ≡ Halted reason (n + 1) s → (u ≡ s) × (r ≡ Err (row.Halt reason))
+  Halts n u reason s r = after n u r ≡ Halted reason (n + 1) s → (u ≡ s) × (r ≡ Err (why.Halt reason))
 
   halts_from : (n : ℕ) (u : State) (reason : Reason) (s : State) (r : Result State WholeStop) → Halts n u reason s r
   halts_from n u reason s (Ok t) e = absurd cc
-  halts_from n u reason s (Err (row.Halt why)) e = let same : why ≡ reason = cc in (cc, ap (λ (q : Reason). Err (row.Halt q)) same)
-  halts_from n u reason s (Err row.Full) e = absurd cc
-  halts_from n u reason s (Err (row.Faults f)) e = absurd cc
+  halts_from n u reason s (Err (why.Halt other)) e = let same : other ≡ reason = cc in (cc, ap (λ (q : Reason). Err (why.Halt q)) same)
+  halts_from n u reason s (Err why.Full) e = absurd cc
+  halts_from n u reason s (Err (why.Faults f)) e = absurd cc
 
-  full_from : (n : ℕ) (u s : State) (r : Result State WholeStop) → after n u r ≡ Full (n + 1) s → (u ≡ s) × (r ≡ Err row.Full)
+  full_from : (n : ℕ) (u s : State) (r : Result State WholeStop) → after n u r ≡ Full (n + 1) s → (u ≡ s) × (r ≡ Err why.Full)
   full_from n u s (Ok t) e = absurd cc
-  full_from n u s (Err (row.Halt why)) e = absurd cc
-  full_from n u s (Err row.Full) e = (cc, refl)
-  full_from n u s (Err (row.Faults f)) e = absurd cc
+  full_from n u s (Err (why.Halt other)) e = absurd cc
+  full_from n u s (Err why.Full) e = (cc, refl)
+  full_from n u s (Err (why.Faults f)) e = absurd cc
 
   fault_from : (n : ℕ) (u : State) (f : Fault) (pc : ℕ) (r : Result State WholeStop) → after n u r ≡ Faulted f.kind pc f.addr n
-      → (u.pc ≡ pc) × (r ≡ Err (row.Faults f))
+      → (u.pc ≡ pc) × (r ≡ Err (why.Faults f))
   fault_from n u f pc (Ok t) e = absurd cc
-  fault_from n u f pc (Err (row.Halt why)) e = absurd cc
-  fault_from n u f pc (Err row.Full) e = absurd cc
-  fault_from n u f pc (Err (row.Faults g)) e =
+  fault_from n u f pc (Err (why.Halt other)) e = absurd cc
+  fault_from n u f pc (Err why.Full) e = absurd cc
+  fault_from n u f pc (Err (why.Faults g)) e =
       let kind : g.kind ≡ f.kind = cc in
       let addr : g.addr ≡ f.addr = cc in
-      (cc, λ i. Err (row.Faults (record { kind = kind i; addr = addr i })))
+      (cc, λ i. Err (why.Faults (record { kind = kind i; addr = addr i })))
 
   stops_from : (n : ℕ) (u s : State) (w : WholeStop) → in_order listing image n ≡ Running u → u ≡ s → alone listing u ≡ Err w → StopsFrom machine (start image) n s w
   stops_from n u s w runs same stop = subst (λ (x : State). StopsFrom machine (start image) n x w) same
       (record { runs = runs_from n u runs; stop = next_is listing around u ∙ stop })
 
   pub halted : (n : ℕ) (reason : Reason) (s : State)
-      → StopsFrom machine (start image) n s (row.Halt reason) ↔ (in_order listing image (n + 1) ≡ Halted reason (n + 1) s)
+      → StopsFrom machine (start image) n s (why.Halt reason) ↔ (in_order listing image (n + 1) ≡ Halted reason (n + 1) s)
   halted n reason s = (
-    stop_to n s (row.Halt reason),
+    stop_to n s (why.Halt reason),
     λ e.
         let h = from n (Halted reason (n + 1) s) e refl in
         let k = halts_from n h.state reason s (alone listing h.state) h.is in
-        stops_from n h.state s (row.Halt reason) h.runs k.0 k.1,
+        stops_from n h.state s (why.Halt reason) h.runs k.0 k.1,
   )
 
-  pub full : (n : ℕ) (s : State) → StopsFrom machine (start image) n s row.Full ↔ (in_order listing image (n + 1) ≡ Full (n + 1) s)
+  pub full : (n : ℕ) (s : State) → StopsFrom machine (start image) n s why.Full ↔ (in_order listing image (n + 1) ≡ Full (n + 1) s)
   full n s = (
-    stop_to n s row.Full,
+    stop_to n s why.Full,
     λ e.
         let h = from n (Full (n + 1) s) e refl in
         let k = full_from n h.state s (alone listing h.state) h.is in
-        stops_from n h.state s row.Full h.runs k.0 k.1,
+        stops_from n h.state s why.Full h.runs k.0 k.1,
   )
 
   pub faulted : (n : ℕ) (f : Fault) (pc : ℕ)
       → FaultsAt machine (start image) n f pc ↔ (in_order listing image (n + 1) ≡ Faulted f.kind pc f.addr n)
   faulted n f pc = (
-    λ h. stop_to n h.state (row.Faults f) h.stops ∙ ap (λ (p : ℕ). Faulted f.kind p f.addr n) h.at,
+    λ h. stop_to n h.state (why.Faults f) h.stops ∙ ap (λ (p : ℕ). Faulted f.kind p f.addr n) h.at,
     λ e.
         let h = from n (Faulted f.kind pc f.addr n) e refl in
         let k = fault_from n h.state f pc (alone listing h.state) h.is in
-        record { state = h.state; stops = stops_from n h.state h.state (row.Faults f) h.runs refl k.1; at = k.0 },
+        record { state = h.state; stops = stops_from n h.state h.state (why.Faults f) h.runs refl k.1; at = k.0 },
   )

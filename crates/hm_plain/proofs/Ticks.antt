@@ -4,6 +4,10 @@ use Rattle.hm_base.specs.Image.{Segment}
 use Rattle.hm_base.specs.declared.Stop.TheVariants as stop
 use Rattle.hm_base.specs.declared.Fault.{Fault}
 use Rattle.hm_codes.specs.Listing.{Listing}
+use Rattle.hm_isa.specs.declared.Flow.{Flow}
+use Rattle.hm_isa.specs.declared.Flow.TheVariants as flow
+use Rattle.hm_isa.specs.declared.Instr.{Instr}
+use Rattle.hm_isa.specs.declared.Instr.TheVariants as instr
 use Rattle.hm_isa.specs.declared.Vector.{Vector}
 use Rattle.hm_mem.specs.Memory.{Around, thread_under}
 use Rattle.hm_mem.specs.declared.Actor.TheVariants as actor
@@ -25,16 +29,23 @@ use Rattle.hm_run.specs.declared.Rule.{Rule}
 use Rattle.hm_run.specs.declared.Rule.TheVariants as rule
 use Rattle.hm_run.specs.declared.Who.{Who}
 use Rattle.hm_run.specs.declared.Who.TheVariants.{Thread, Handler, Entry}
-use Rattle.hm_run.specs.Program.{Program, Watched, In, Beside, Stepped, Stopping, Ticked, core, view, held, dead, open_devices, cause_of, is_tainted, again, letter_step, at_step, letter_steps, made_by, unless_refused, vector_of}
-use Rattle.hm_run.specs.Rows as row
-use Rattle.hm_run.specs.Rows.{WholeStop}
-use Rattle.hm_run.specs.Timed.{Timed, begin, who_runs, outcome_of, at_stop, expired, counted, arrived, with_devices, may_end, ended, tick_of, closed, or_out, next, thread_program, timed}
+use Rattle.hm_run.specs.Program.{Program, Stepped, Stopping, Ticked, alone, core, cause_of, is_tainted, letter_step, makes_here, at_step, letter_steps, or_fault, to_end, unless_refused, vector_of, whole_here}
+use Rattle.hm_whole.specs.Watched.{Watched, In, Beside, view, held, dead}
+use Rattle.hm_mem.specs.Devices.{open_devices}
+use Rattle.hm_run.specs.Stops as why
+use Rattle.hm_run.specs.Stops.{WholeStop, after_flow, whole_of}
+use Rattle.hm_run.specs.Timed.{Timed, begin, who_runs, outcome_of, at_stop, counted_with, with_devices, may_end, ended, tick_of, closed, or_out, next, thread_program, timed}
+use Rattle.hm_sys.specs.Ticks.{arrived, counted, expired}
 use Rattle.hm_sched.specs.Schedule.{TickLine, Sched, older_letter, younger_letter, ticks_of}
 use Rattle.hm_state.specs.Start.{start, start_under}
-use Rattle.hm_state.specs.State.{State}
+use Rattle.hm_state.specs.State.{State, regs_of}
+use Rattle.hm_thumb.specs.Rows.{makes_context}
+use Rattle.hm_whole.specs.Whole.{Went, scalar_alone}
+use Rattle.hm_whole.proofs.Agreement.{same_regs}
+use Rattle.hm_whole.proofs.Breaks.{whole_breaks}
 use Rattle.hm_plain.specs.Overlap.{Keeps, KeepsOrder, StopsBetween}
 use Rattle.hm_plain.specs.Sequence.{FaultsAt}
-use Rattle.hm_plain.proofs.Laws.{laws, clean_of}
+use Rattle.hm_plain.proofs.Laws.{laws, clean_of, next_is}
 
 -- THE DEVICES
 -- what ticks and interrupts change of the devices is nothing that the thread reads
@@ -55,26 +66,26 @@ module _ (listing : Listing) (around : Around) (thread : around.actor ≡ actor.
   abbrev machine : Program
   machine = core listing around
 
-  devices_restore : (irq : ℕ) (s : State) → Restores machine s (with_devices (λ d. arrived irq (counted d)) s)
+  devices_restore : (irq : ℕ) (s : State) → Restores machine s (with_devices (counted_with irq) s)
   devices_restore irq s = (record { cells = cells; sticky = refl }, refl)
     where
-      cells : (c : Watched) → dead c (held (with_devices (λ d. arrived irq (counted d)) s) c) ≡ false → held (with_devices (λ d. arrived irq (counted d)) s) c ≡ held s c
+      cells : (c : Watched) → dead c (held (with_devices (counted_with irq) s) c) ≡ false → held (with_devices (counted_with irq) s) c ≡ held s c
       cells (In c) d = refl
       cells Beside d = ap (λ (v : Dev). held (record s { rest = record s.rest { devices = v } }) Beside) (open_arrived irq s.rest.devices)
 
   -- LETTERS
-  again_agrees : (k n : ℕ) (c : Config State) → Holds machine first c → Agrees machine first (again machine k n c)
-  again_agrees zero n c h = h
-  again_agrees (suc k) n c h =
-      cond_agrees machine first (c.n == n) _ _
-      (then_agrees machine first (older machine c) (again machine k n) (older_agrees machine (laws listing around thread) first c h) (again_agrees k n)) h
+  to_end_agrees : (k : ℕ) (c : Config State) → Holds machine first c → Agrees machine first (to_end machine k c)
+  to_end_agrees zero c h = h
+  to_end_agrees (suc k) c h =
+      then_agrees machine first (older machine c) (λ d. cond (d.a == suc c.a) (to_end machine k d) (Ok d)) (older_agrees machine (laws listing around thread) first c h)
+      (λ d holds. cond_agrees machine first (d.a == suc c.a) (to_end machine k d) (Ok d) (to_end_agrees k d holds) holds)
 
   letter_agrees : (l : ℕ) (c : Config State) → Holds machine first c → Agrees machine first (letter_step machine l c)
   letter_agrees l c h =
       let older_one = older_agrees machine (laws listing around thread) first c h in
       cond_agrees machine first (l == older_letter) _ _ older_one
       (cond_agrees machine first (l == younger_letter) _ _ (younger_agrees machine (laws listing around thread) first c h)
-      (then_agrees machine first (older machine c) (again machine 3 c.n) older_one (again_agrees 3 c.n)))
+      (to_end_agrees 4 c h))
 
   -- a younger beat that stops and breaks no rule is tainted
   abbrev OnlyTaint : Stepped → Type 0
@@ -123,19 +134,39 @@ module _ (listing : Listing) (around : Around) (thread : around.actor ≡ actor.
   -- STOPS
   -- a vector row stops for a fault alone
   abbrev is_fault : WholeStop → Bool
-  is_fault (row.Halt reason) = false
-  is_fault row.Full = false
-  is_fault (row.Faults f) = true
+  is_fault (why.Halt reason) = false
+  is_fault why.Full = false
+  is_fault (why.Faults f) = true
 
-  row_faults : (v : Vector) (o : Option Fault) (s : State) (w : WholeStop) → then (unless_refused o s) (λ u. Ok (vector_whole v u)) ≡ Err w → is_fault w ≡ true
+  or_fault_faults : (q : Result State Fault) (w : WholeStop) → or_fault q ≡ Err w → is_fault w ≡ true
+  or_fault_faults (Ok t) w e = absurd (ok_err e)
+  or_fault_faults (Err f) w e = ap is_fault (sym (err_same e))
+
+  row_faults : (v : Vector) (o : Option Fault) (s : State) (w : WholeStop) → then (unless_refused o s) (λ u. or_fault (vector_whole v u)) ≡ Err w → is_fault w ≡ true
   row_faults v (Some f) s w e = ap is_fault (sym (err_same e))
-  row_faults v None s w e = absurd (ok_err e)
+  row_faults v None s w e = or_fault_faults (vector_whole v s) w e
 
   no_row_stops : (s : State) (w : WholeStop) → is_fault w ≡ false → next_in_order machine s ≡ Err w → (o : Option Vector) → vector_of (listing s.pc) ≡ o → o ≡ None
   no_row_stops s w other e None here = refl
   no_row_stops s w other e (Some v) here =
       true_not_false (is_fault w)
       (row_faults v (refuse v (with_context s)) (with_context s) w (sym (ap (λ (o : Option Vector). next_of machine o s) here) ∙ e)) other
+
+  -- an instruction that stops for something else makes no context
+  no_break : (f : Flow) (s : State) (w : WholeStop) → is_fault w ≡ false → after_flow f s ≡ Err w → (k : ℕ) × (f ≡ flow.Break k)
+  no_break flow.Next s w other e = absurd (ok_err e)
+  no_break (flow.Break k) s w other e = (k, refl)
+  no_break (flow.Return x) s w other e = absurd (true_not_false (is_fault w) (ap is_fault (sym (err_same e))) other)
+
+  went_breaks : (i : Instr) (s : State) (w : WholeStop) → is_fault w ≡ false → (q : Result Went Fault) → scalar_alone i s ≡ q → whole_of q ≡ Err w → makes_context i (regs_of s) ≡ false
+  went_breaks i s w other (Ok x) here e = let broken = no_break x.flow x.state w other e in whole_breaks i s x broken.0 here broken.1
+  went_breaks i s w other (Err f) here e = absurd (true_not_false (is_fault w) (ap is_fault (sym (err_same e))) other)
+
+  makes_none : (r : Result Instr Fault) (s : State) (w : WholeStop) → is_fault w ≡ false → vector_of r ≡ None → whole_here r s ≡ Err w → makes_here r (regs_of s) ≡ false
+  makes_none (Ok (instr.Scalar i)) s w other none e = went_breaks (instr.Scalar i) s w other (scalar_alone (instr.Scalar i) s) refl e
+  makes_none (Ok (instr.Branch i)) s w other none e = went_breaks (instr.Branch i) s w other (scalar_alone (instr.Branch i) s) refl e
+  makes_none (Ok (instr.Vector v)) s w other none e = absurd cc
+  makes_none (Err f) s w other none e = refl
 
   -- the order's state is one
   one_order : (n : ℕ) (s t : State) → seq machine n first ≡ Ok s → seq machine n first ≡ Ok t → s ≡ t
@@ -151,8 +182,12 @@ module _ (listing : Listing) (around : Around) (thread : around.actor ≡ actor.
       = no_row_stops y w other (ap (λ (s : State). next_in_order machine s) (sym same) ∙ k.stop) (vector_of (listing y.pc)) refl in
       let place : (h.before.a ≡ 0) × (h.before.b ≡ 0) = ⊎_elim (λ p. (p.a, p.b)) (λ p. let no : None ≡ Some p.row = sym none ∙ p.here in absurd cc) h.holds.place in
       let at : d.a ≡ 0 = ap (λ (c : Config State). c.a) h.left ∙ place.0 in
-      let still : machine.made h.before.state ≡ h.before.state
-      = ap (λ (o : Option Vector). made_by o h.before.state) (ap (λ (p : ℕ). vector_of (listing p)) h.holds.pc ∙ none) in
+      let before : State = h.before.state in
+      let live : Live view before y = ⊎_elim (λ p. p.live) (λ p. let no : None ≡ Some p.row = sym none ∙ p.here in absurd cc) h.holds.place in
+      let alone_stops : alone listing y ≡ Err w = sym (next_is listing around y) ∙ ap (λ (s : State). next_in_order machine s) (sym same) ∙ k.stop in
+      let makes : makes_here (listing before.pc) (regs_of before) ≡ false
+      = (λ j. makes_here (listing (h.holds.pc j)) (same_regs before y live h.holds.pc j)) ∙ makes_none (listing y.pc) y w other none alone_stops in
+      let still : machine.made before ≡ before = ap (λ (b : Bool). cond b (with_context before) before) makes in
       let io = unmade machine first d (cause_of w) h at still in
       record {
         order = io.state;
@@ -165,16 +200,16 @@ module _ (listing : Listing) (around : Around) (thread : around.actor ≡ actor.
 
   -- the stop of the next instruction in order, where the cause is none of taint
   abbrev NextStops : ℕ → Cause → Type 0
-  NextStops n (cause.Halt reason) = StopsInOrder machine first n (row.Halt reason)
-  NextStops n cause.Full = StopsInOrder machine first n row.Full
-  NextStops n (cause.Stop (stop.Fault f)) = StopsInOrder machine first n (row.Faults f)
+  NextStops n (cause.Halt reason) = StopsInOrder machine first n (why.Halt reason)
+  NextStops n cause.Full = StopsInOrder machine first n why.Full
+  NextStops n (cause.Stop (stop.Fault f)) = StopsInOrder machine first n (why.Faults f)
   NextStops n (cause.Stop (stop.Tainted addr)) = Unit {0}
   NextStops n (cause.Stop (stop.Denied addr)) = Unit {0}
 
   next_stops_of : (n : ℕ) (w : WholeStop) → StopsInOrder machine first n w → NextStops n (cause_of w)
-  next_stops_of n (row.Halt reason) h = h
-  next_stops_of n row.Full h = h
-  next_stops_of n (row.Faults f) h = h
+  next_stops_of n (why.Halt reason) h = h
+  next_stops_of n why.Full h = h
+  next_stops_of n (why.Faults f) h = h
 
   tainted_stops : (n : ℕ) (e : Cause) → is_tainted e ≡ true → NextStops n e
   tainted_stops n (cause.Halt reason) t = absurd cc
@@ -187,7 +222,7 @@ module _ (listing : Listing) (around : Around) (thread : around.actor ≡ actor.
   next_stops n e h = ⊎_elim (tainted_stops n e) (λ q. subst (NextStops n) q.1 (next_stops_of n q.0 q.2)) h
 
   -- a fault is that of an older instruction, at the program counter of the instructions in order
-  faults_at : (c : Config State) (f : Fault) → StopsAt machine first c (cause.Stop (stop.Fault f)) → StopsInOrder machine first c.n (row.Faults f)
+  faults_at : (c : Config State) (f : Fault) → StopsAt machine first c (cause.Stop (stop.Fault f)) → StopsInOrder machine first c.n (why.Faults f)
       → FaultsAt machine first c.n f c.state.pc
   faults_at c f h k =
       let e : Cause = cause.Stop (stop.Fault f) in
@@ -207,14 +242,14 @@ module _ (listing : Listing) (around : Around) (thread : around.actor ≡ actor.
       → let stopping : Stopping = record { cause = e; younger = younger } in
       Keeps machine first (Some (outcome_of t x.acts c stopping)) (at_stop c stopping)
   stop_keeps t x c (cause.Halt reason) younger h only k =
-      let between = stops_between c (row.Halt reason) h refl k in
+      let between = stops_between c (why.Halt reason) h refl k in
       record {
         before = c.n;
         number = refl;
         between = record { order = between.order; stops = between.stops; a = between.a; b = between.b; live = between.live; pc = between.pc };
       }
   stop_keeps t x c cause.Full younger h only k =
-      let between = stops_between c row.Full h refl k in
+      let between = stops_between c why.Full h refl k in
       record { order = between.order; stops = between.stops; a = between.a; b = between.b; live = between.live; pc = between.pc }
   stop_keeps t x c (cause.Stop (stop.Fault f)) true h only k = let no : false ≡ true = only refl in absurd cc
   stop_keeps t x c (cause.Stop (stop.Fault f)) false h only k =
@@ -226,11 +261,11 @@ module _ (listing : Listing) (around : Around) (thread : around.actor ≡ actor.
   -- TICKS
   judged : (b : Bool) (line : TickLine) (x : Timed) → Holds machine first x.config → x.outcome ≡ None
       → let y : Timed = cond b
-      (record x { config = record x.config { state = with_devices (λ d. arrived line.irq (counted d)) x.config.state } })
+      (record x { config = record x.config { state = with_devices (counted_with line.irq) x.config.state } })
       (record x { outcome = Some (outcome.RuleBroken x.ticks (length line.letters) (rule.Ending x.config.a x.config.b)) }) in
       Keeps machine first y.outcome y.config
   judged true line x h none =
-      subst (λ (o : Option Outcome). Keeps machine first o (record x.config { state = with_devices (λ d. arrived line.irq (counted d)) x.config.state })) (sym none)
+      subst (λ (o : Option Outcome). Keeps machine first o (record x.config { state = with_devices (counted_with line.irq) x.config.state })) (sym none)
       (interrupt_holds machine (laws listing around thread) first x.config _ (devices_restore line.irq x.config.state) h)
   judged false line x h none = tt
 

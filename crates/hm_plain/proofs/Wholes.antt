@@ -1,28 +1,35 @@
 -- The letter W, between two instructions, does what the whole of the next one does alone.
-use Rattle.std.proofs.Common.{◌≡◌, ℕ, suc, ◌==◌, arith, ap, refl, sym, ◌∙◌, subst, Bool, true, cond, Some, None, Result, Ok, Err, add-one}
-use Rattle.std.proofs.lemmas.Bool.Decides.{nat_tests}
+use Rattle.std.proofs.Common.{◌≡◌, ℕ, suc, ◌==◌, ap, refl, sym, ◌∙◌, subst, true, cond, None, Some, Result, Ok, Err}
 use Rattle.hm_base.specs.declared.Fault.{Fault}
 use Rattle.hm_base.specs.declared.Stop.{Stop}
 use Rattle.hm_codes.specs.Listing.{Listing}
+use Rattle.hm_isa.specs.declared.Flow.{Flow}
+use Rattle.hm_isa.specs.declared.Flow.TheVariants as flow
 use Rattle.hm_isa.specs.declared.Instr.{Instr}
 use Rattle.hm_isa.specs.declared.Instr.TheVariants as instr
-use Rattle.hm_isa.specs.declared.Scalar.TheVariants as scalar
 use Rattle.hm_isa.specs.declared.Vector.{Vector}
-use Rattle.hm_mem.specs.Memory.{Around}
+use Rattle.hm_mem.specs.Memory.{Around, thread_under}
 use Rattle.hm_mem.specs.declared.Actor.TheVariants.{Thread}
 use Rattle.hm_order.specs.Beats.{then}
 use Rattle.hm_order.specs.Machine.{Config, Stopped, begun, done, older, settle}
-use Rattle.hm_state.specs.State.{State, cells}
+use Rattle.hm_state.specs.State.{State, At, Byte, cells}
 use Rattle.hm_beat.specs.Trees.{action}
-use Rattle.hm_beat.specs.Laws.{Clean}
+use Rattle.hm_beat.specs.Laws.{Clean, stopped}
 use Rattle.hm_beat.specs.Ordered.{of_four}
 use Rattle.hm_rows.specs.Context.{with_context}
 use Rattle.hm_rows.specs.Rows.{refuse, vector_tree, vector_whole}
-use Rattle.hm_run.specs.Program.{Program, Stepped, core, rows, alone, again, caused, cause_of, in_machine, letter_step, ready_state, vector_of, vector_row, whole_here}
-use Rattle.hm_run.specs.Rows.{WholeStop}
-use Rattle.hm_run.proofs.Steps.{again_done, older_other, older_vector, past}
+use Rattle.hm_rows.proofs.Context.{context_pc, context_ready}
+use Rattle.hm_run.specs.declared.Cause.{Cause}
+use Rattle.hm_run.specs.declared.Cause.TheVariants as cause
+use Rattle.hm_run.specs.Program.{Program, Stepped, core, rows, alone, caused, caused_by, cause_of, in_machine, letter_step, or_fault, other_here, ready_state, to_end, vector_of, vector_row, whole_here}
+use Rattle.hm_run.specs.Stops.{WholeStop, Faults, after_flow, whole_of}
+use Rattle.hm_run.proofs.Steps.{older_other, older_vector, past}
 use Rattle.hm_sched.specs.Schedule.{whole_letter}
-use Rattle.hm_plain.proofs.Vectors.{Four, beat_pc, context_clean, context_pc, four_is, not_refused, row_leaves}
+use Rattle.hm_whole.specs.Watched as watched
+use Rattle.hm_whole.specs.Watched.{GoesClean, In, Beside, stops_too}
+use Rattle.hm_whole.specs.Whole.{Went, scalar_alone, scalar_in_machine}
+use Rattle.hm_whole.proofs.Agreement.{whole-clean, whole-same}
+use Rattle.hm_plain.proofs.Vectors.{beat_pc, context_clean, four_are, not_refused, retire, row_beats, row_leaves}
 
 -- between two instructions: n are done, in k steps
 abbrev pub between : ℕ → ℕ → State → Config State
@@ -33,21 +40,69 @@ abbrev pub Leaves : Result State WholeStop → Type 0
 Leaves (Ok t) = Clean t
 Leaves (Err w) = Unit {0}
 
+pub watched_clean : (s : State) → Clean s → watched.Clean s
+watched_clean s h (In (At p)) = refl
+watched_clean s h (In (Byte a)) = h a
+watched_clean s h Beside = refl
+
+flow_leaves : (f : Flow) (s : State) → Clean s → Leaves (after_flow f s)
+flow_leaves flow.Next s h = h
+flow_leaves (flow.Break k) s h = tt
+flow_leaves (flow.Return x) s h = tt
+
+went_leaves : (q : Result Went Fault) → GoesClean q → Leaves (whole_of q)
+went_leaves (Ok x) h = flow_leaves x.flow x.state (λ a. h (In (Byte a)))
+went_leaves (Err f) h = tt
+
+other_leaves : (i : Instr) (s : State) → Clean s → Leaves (whole_of (scalar_alone i s))
+other_leaves i s h = went_leaves (scalar_alone i s) (whole-clean i s (watched_clean s h))
+
 module _ (around : Around) (thread : around.actor ≡ Thread) where
   row_kept : (v : Vector) (s : State) → Clean s → (r : Result State WholeStop) → vector_row v s ≡ r → Leaves r
   row_kept v s clean (Ok t) e = row_leaves around thread v s t clean e
   row_kept v s clean (Err w) e = tt
 
   pub leaves : (r : Result Instr Fault) (s : State) → Clean s → Leaves (whole_here r s)
-  leaves (Ok (instr.Scalar (scalar.S3 i))) s h = h
-  leaves (Ok (instr.Scalar (scalar.S4 i))) s h = h
-  leaves (Ok (instr.Scalar (scalar.S18 i))) s h = tt
-  leaves (Ok (instr.Branch i)) s h = elim i [ ]
+  leaves (Ok (instr.Scalar i)) s h = other_leaves (instr.Scalar i) s h
+  leaves (Ok (instr.Branch i)) s h = other_leaves (instr.Branch i) s h
   leaves (Ok (instr.Vector v)) s h = row_kept v s h (vector_row v s) refl
   leaves (Err f) s h = tt
 
--- STEPS
-module _ (listing : Listing) (around : Around) where
+-- WITHOUT TAINT an instruction that is no vector row comes in the machine to what it comes to alone
+caused_too : (q : Result Went Fault) → caused_by (stops_too q) ≡ in_machine (whole_of q)
+caused_too (Ok x) = refl
+caused_too (Err f) = refl
+
+pub under_thread : (x : Around) → x.actor ≡ Thread → x ≡ thread_under x.lo x.hi x.floor
+under_thread x e = λ j. record { actor = e j; lo = x.lo; hi = x.hi; floor = x.floor }
+
+module _ (x : Around) (thread : x.actor ≡ Thread) where
+  same_is : (i : Instr) (s : State) → Clean s → caused_by (scalar_in_machine x i s) ≡ in_machine (whole_of (scalar_alone i s))
+  same_is i s clean =
+      ap (λ (y : Around). caused_by (scalar_in_machine y i s)) (under_thread x thread)
+      ∙ ap caused_by (whole-same x.lo x.hi x.floor i s (watched_clean s clean)) ∙ caused_too (scalar_alone i s)
+
+  other_is : (r : Result Instr Fault) (s : State) → vector_of r ≡ None → Clean s → other_here x r s ≡ in_machine (whole_here r s)
+  other_is (Ok (instr.Scalar i)) s none clean = same_is (instr.Scalar i) s clean
+  other_is (Ok (instr.Branch i)) s none clean = same_is (instr.Branch i) s clean
+  other_is (Ok (instr.Vector v)) s none clean = absurd cc
+  other_is (Err f) s none clean = refl
+
+-- STEPS. W comes to what the instruction comes to alone: it is done, in some number of steps, or it stops so and is not retired.
+abbrev pub Comes : ℕ → Result State WholeStop → Stepped → Type 0
+Comes n (Ok t) r = (j : ℕ) × (r ≡ Ok (between (suc n) j t))
+Comes n (Err w) r = (d : Config State) × (d.n ≡ n) × (r ≡ Err (Stopped d (cause_of w)))
+
+-- the same of beats
+abbrev BeatsCome : ℕ → Result State Stop → Stepped → Type 0
+BeatsCome n (Ok t) r = (j : ℕ) × (r ≡ Ok (between (suc n) j t))
+BeatsCome n (Err e) r = (d : Config State) × (d.n ≡ n) × (r ≡ Err (Stopped d (cause.Stop e)))
+
+whole_comes : (n : ℕ) (q : Result State Fault) (r : Stepped) → BeatsCome n (stopped q) r → Comes n (or_fault q) r
+whole_comes n (Ok t) r h = h
+whole_comes n (Err f) r h = h
+
+module _ (listing : Listing) (around : Around) (thread : around.actor ≡ Thread) where
   abbrev machine : Program
   machine = core listing around
 
@@ -55,76 +110,82 @@ module _ (listing : Listing) (around : Around) where
   abbrev inside : ℕ → ℕ → ℕ → State → Config State
   inside a n k s = record { a = a; b = 0; n = n; steps = k; state = s }
 
-  -- W goes on while the older instruction is not done
-  again_on : (j n : ℕ) (c d : Config State) → c.n ≡ n → older machine c ≡ Ok d → again machine (suc j) n c ≡ again machine j n d
-  again_on j n c d e step =
-      let test : (c.n == n) ≡ true = grind (arith, nat_tests) in
-      ap (λ (b : Bool). cond b (then (older machine c) (again machine j n)) (Ok c)) test ∙ ap (λ (r : Stepped). then r (again machine j n)) step
+  -- what is left of W, once there were a beats before the last step
+  abbrev further : ℕ → ℕ → Config State → Stepped
+  further j a d = cond (d.a == suc a) (to_end machine j d) (Ok d)
+
+  -- a beat, where it is known what comes behind it
+  beat_comes : (v : Vector) (a j n k : ℕ) (c : Config State) (q : Result State Stop) → c.n ≡ n
+      → ((t : State) → q ≡ Ok t → BeatsCome n (then (row_beats around v (suc a) j t) retire) (further j a (settle machine (suc a) 0 n (suc k) t)))
+      → BeatsCome n (then (then q (row_beats around v (suc a) j)) retire) (then (done machine c (caused q) (settle machine (suc a) 0 n (suc k))) (further j a))
+  beat_comes v a j n k c (Ok t) same next = next t refl
+  beat_comes v a j n k c (Err e) same next = (begun machine c, same, refl)
+
+  abbrev Here : Vector → State → Type 0
+  Here v s = vector_of (listing s.pc) ≡ Some v
+
+  here_still : (v : Vector) (s t : State) → Here v s → t.pc ≡ s.pc → Here v t
+  here_still v s t here same = ap (λ (p : ℕ). vector_of (listing p)) same ∙ here
 
   -- a beat past the first
-  beat_on : (v : Vector) (a n k : ℕ) (s t : State) → vector_of (listing s.pc) ≡ Some v → (action cells (of_four (vector_tree v around) (suc a))).run s ≡ Ok t
-      → older machine (inside (suc a) n k s) ≡ Ok (settle machine (suc (suc a)) 0 n (suc k) t)
-  beat_on v a n k s t here e =
-      older_vector listing around (inside (suc a) n k s) v here
-      ∙ ap (λ (r : Result State Stop). done machine (inside (suc a) n k s) (caused r) (settle machine (suc (suc a)) 0 n (suc k))) e
+  later_beat : (v : Vector) (a j n k : ℕ) (s : State) → Here v s
+      → ((t : State) → Here v t → BeatsCome n (then (row_beats around v (suc (suc a)) j t) retire) (further j (suc a) (settle machine (suc (suc a)) 0 n (suc k) t)))
+      → BeatsCome n (then (row_beats around v (suc a) (suc j) s) retire) (to_end machine (suc j) (inside (suc a) n k s))
+  later_beat v a j n k s here next =
+      let b = of_four (vector_tree v around) (suc a) in
+      subst (λ (r : Stepped). BeatsCome n (then (row_beats around v (suc a) (suc j) s) retire) (then r (further j (suc a)))) (sym (older_vector listing around (inside (suc a) n k s) v here))
+      (beat_comes v (suc a) j n k (inside (suc a) n k s) ((action cells b).run s) refl (λ t e. next t (here_still v s t here (beat_pc b s t e))))
 
-  -- the whole of a row, from a state that is ready for it
-  row_on : (v : Vector) (n k : ℕ) (s t w : State) → vector_of (listing s.pc) ≡ Some v → t.pc ≡ s.pc → Four (vector_tree v around) t w
-      → then (done machine (between n k s) (caused ((action cells (vector_tree v around 0)).run t)) (settle machine 1 0 n (suc k))) (again machine 3 n)
-      ≡ Ok (between (suc n) (suc (suc (suc (suc k)))) w)
-  row_on v n k s t w here same f =
-      let pc_one : f.one.pc ≡ s.pc = beat_pc (vector_tree v around 0) t f.one f.first ∙ same in
-      let pc_two : f.two.pc ≡ s.pc = beat_pc (vector_tree v around 1) f.one f.two f.second ∙ pc_one in
-      let pc_three : f.three.pc ≡ s.pc = beat_pc (vector_tree v around 2) f.two f.three f.third ∙ pc_two in
-      let at_one : vector_of (listing f.one.pc) ≡ Some v = ap (λ (p : ℕ). vector_of (listing p)) pc_one ∙ here in
-      let at_two : vector_of (listing f.two.pc) ≡ Some v = ap (λ (p : ℕ). vector_of (listing p)) pc_two ∙ here in
-      let at_three : vector_of (listing f.three.pc) ≡ Some v = ap (λ (p : ℕ). vector_of (listing p)) pc_three ∙ here in
-      ap (λ (r : Result State Stop). then (done machine (between n k s) (caused r) (settle machine 1 0 n (suc k))) (again machine 3 n)) f.first
-      ∙ again_on 2 n (inside 1 n (suc k) f.one) (inside 2 n (suc (suc k)) f.two) refl (beat_on v 0 n (suc k) f.one f.two at_one f.second)
-      ∙ again_on 1 n (inside 2 n (suc (suc k)) f.two) (inside 3 n (suc (suc (suc k))) f.three) refl (beat_on v 1 n (suc (suc k)) f.two f.three at_two f.third)
-      ∙ again_on 0 n (inside 3 n (suc (suc (suc k))) f.three) _ refl (beat_on v 2 n (suc (suc (suc k))) f.three f.four at_three f.fourth)
-      ∙ ap (λ (u : State). Ok (between (suc n) (suc (suc (suc (suc k)))) u)) f.over
+  from_third : (v : Vector) (n k : ℕ) (s : State) → Here v s → BeatsCome n (then (row_beats around v 3 1 s) retire) (to_end machine 1 (inside 3 n k s))
+  from_third v n k s here = later_beat v 2 0 n k s here (λ t there. (suc k, refl))
 
-  -- WHAT W COMES TO, by what the instruction comes to alone: j steps were done then
-  abbrev pub comes_to : ℕ → ℕ → State → ℕ → Result State WholeStop → Stepped
-  comes_to n k s j (Ok t) = Ok (between (suc n) j t)
-  comes_to n k s j (Err w) = Err (Stopped (begun machine (between n k s)) (cause_of w))
+  from_second : (v : Vector) (n k : ℕ) (s : State) → Here v s → BeatsCome n (then (row_beats around v 2 2 s) retire) (to_end machine 2 (inside 2 n k s))
+  from_second v n k s here = later_beat v 1 1 n k s here (λ t there. from_third v n (suc k) t there)
+
+  from_first : (v : Vector) (n k : ℕ) (s : State) → Here v s → BeatsCome n (then (row_beats around v 1 3 s) retire) (to_end machine 3 (inside 1 n k s))
+  from_first v n k s here = later_beat v 0 2 n k s here (λ t there. from_second v n (suc k) t there)
+
+  -- a row from its start
+  row_comes : (v : Vector) (n k : ℕ) (s : State) → Clean s → Here v s → (q : Result State WholeStop) → ready_state v s ≡ q
+      → Comes n (then q (λ t. or_fault (vector_whole v t)))
+      (then (done machine (between n k s) (then (in_machine q) ((rows around).act v 0).run) (settle machine 1 0 n (suc k))) (further 3 0))
+  row_comes v n k s clean here (Err w) e = (begun machine (between n k s), refl, refl)
+  row_comes v n k s clean here (Ok t) e =
+      let free = not_refused (refuse v (with_context s)) (with_context s) t e in
+      let is : with_context s ≡ t = free.1 in
+      let there : t.rest.fpca ≡ true = ap (λ (u : State). u.rest.fpca) (sym is) ∙ context_ready s in
+      let here_too : Here v t = here_still v s t here (ap (λ (u : State). u.pc) (sym is) ∙ context_pc s) in
+      let ready : refuse v t ≡ None = ap (refuse v) (sym is) ∙ free.0 in
+      let b = of_four (vector_tree v around) 0 in
+      whole_comes n (vector_whole v t) _ (subst (λ (r : Result State Stop). BeatsCome n r (then (done machine (between n k s) (caused ((action cells b).run t)) (settle machine 1 0 n (suc k))) (further 3 0)))
+      (four_are around thread v t there ready (subst Clean is (context_clean s clean)))
+      (beat_comes v 0 3 n k (between n k s) ((action cells b).run t) refl (λ u e. from_first v n (suc k) u (here_still v t u here_too (beat_pc b t u e)))))
+
+  row_step : (v : Vector) (n k : ℕ) (s : State) → Clean s → listing s.pc ≡ Ok (instr.Vector v) → Comes n (alone listing s) (letter_step machine whole_letter (between n k s))
+  row_step v n k s clean e =
+      let here : Here v s = ap vector_of e in
+      subst (λ (r : Result Instr Fault). Comes n (whole_here r s) (letter_step machine whole_letter (between n k s))) (sym e)
+      (subst (λ (r : Stepped). Comes n (vector_row v s) (then r (further 3 0))) (sym (older_vector listing around (between n k s) v here))
+      (row_comes v n k s clean here (ready_state v s) refl))
 
   -- an instruction that is no vector row
-  other_ends : (n k : ℕ) (s : State) (r : Result State WholeStop)
-      → then (done machine (between n k s) (in_machine r) (past (between n k s))) (again machine 3 n) ≡ comes_to n k s (suc k) r
-  other_ends n k s (Ok t) = again_done machine 2 n (past (between n k s) t) (sym (add-one n))
-  other_ends n k s (Err w) = refl
+  other_comes : (n k : ℕ) (s : State) (q : Result State WholeStop) → Comes n q (then (done machine (between n k s) (in_machine q) (past (between n k s))) (further 3 0))
+  other_comes n k s (Ok t) = (suc k, refl)
+  other_comes n k s (Err w) = (begun machine (between n k s), refl, refl)
 
-  other_step : (n k : ℕ) (s : State) → vector_of (listing s.pc) ≡ None → letter_step machine whole_letter (between n k s) ≡ comes_to n k s (suc k) (alone listing s)
-  other_step n k s none =
-      ap (λ (r : Stepped). then r (again machine 3 n)) (older_other listing around (between n k s) none) ∙ other_ends n k s (alone listing s)
+  other_step : (n k : ℕ) (s : State) → Clean s → vector_of (listing s.pc) ≡ None → Comes n (alone listing s) (letter_step machine whole_letter (between n k s))
+  other_step n k s clean none =
+      subst (λ (r : Stepped). Comes n (alone listing s) (then r (further 3 0)))
+      (sym (older_other listing around (between n k s) none
+      ∙ ap (λ (r : Result State Cause). done machine (between n k s) r (past (between n k s))) (other_is around thread (listing s.pc) s none clean)))
+      (other_comes n k s (alone listing s))
 
-  module _ (thread : around.actor ≡ Thread) where
-    row_ends : (v : Vector) (n k : ℕ) (s : State) → Clean s → vector_of (listing s.pc) ≡ Some v → (q : Result State WholeStop) → ready_state v s ≡ q
-        → then (done machine (between n k s) (then (in_machine q) ((rows around).act v 0).run) (settle machine 1 0 n (suc k))) (again machine 3 n)
-        ≡ comes_to n k s (suc (suc (suc (suc k)))) (then q (λ t. Ok (vector_whole v t)))
-    row_ends v n k s clean here (Err w) e = refl
-    row_ends v n k s clean here (Ok t) e =
-        let context : with_context s ≡ t = (not_refused (refuse v (with_context s)) (with_context s) t e).1 in
-        row_on v n k s t (vector_whole v t) here (ap (λ (u : State). u.pc) (sym context) ∙ context_pc s)
-        (four_is around thread v t (subst Clean context (context_clean s clean)))
+  step_of : (n k : ℕ) (s : State) → Clean s → (r : Result Instr Fault) → listing s.pc ≡ r → Comes n (alone listing s) (letter_step machine whole_letter (between n k s))
+  step_of n k s clean (Ok (instr.Scalar i)) e = other_step n k s clean (ap vector_of e)
+  step_of n k s clean (Ok (instr.Branch i)) e = other_step n k s clean (ap vector_of e)
+  step_of n k s clean (Ok (instr.Vector v)) e = row_step v n k s clean e
+  step_of n k s clean (Err f) e = other_step n k s clean (ap vector_of e)
 
-    row_step : (v : Vector) (n k : ℕ) (s : State) → Clean s → listing s.pc ≡ Ok (instr.Vector v)
-        → letter_step machine whole_letter (between n k s) ≡ comes_to n k s (suc (suc (suc (suc k)))) (alone listing s)
-    row_step v n k s clean e =
-        let here : vector_of (listing s.pc) ≡ Some v = ap vector_of e in
-        ap (λ (r : Stepped). then r (again machine 3 n)) (older_vector listing around (between n k s) v here)
-        ∙ row_ends v n k s clean here (ready_state v s) refl
-        ∙ ap (λ (r : Result Instr Fault). comes_to n k s (suc (suc (suc (suc k)))) (whole_here r s)) (sym e)
-
-    step_of : (n k : ℕ) (s : State) → Clean s → (r : Result Instr Fault) → listing s.pc ≡ r
-        → (j : ℕ) × (letter_step machine whole_letter (between n k s) ≡ comes_to n k s j (alone listing s))
-    step_of n k s clean (Ok (instr.Scalar i)) e = (suc k, other_step n k s (ap vector_of e))
-    step_of n k s clean (Ok (instr.Branch i)) e = elim i [ ]
-    step_of n k s clean (Ok (instr.Vector v)) e = (suc (suc (suc (suc k))), row_step v n k s clean e)
-    step_of n k s clean (Err f) e = (suc k, other_step n k s (ap vector_of e))
-
-    -- the whole of the next instruction, in one step or in four
-    pub whole_step : (n k : ℕ) (s : State) → Clean s → (j : ℕ) × (letter_step machine whole_letter (between n k s) ≡ comes_to n k s j (alone listing s))
-    whole_step n k s clean = step_of n k s clean (listing s.pc) refl
+  -- the whole of the next instruction, in one step or in four
+  pub whole_step : (n k : ℕ) (s : State) → Clean s → Comes n (alone listing s) (letter_step machine whole_letter (between n k s))
+  whole_step n k s clean = step_of n k s clean (listing s.pc) refl

@@ -9,9 +9,10 @@ use Rattle.hm_run.specs.declared.Outcome.{Outcome}
 use Rattle.hm_run.specs.declared.Outcome.TheVariants as outcome
 use Rattle.hm_run.specs.declared.Reason.{Reason}
 use Rattle.hm_run.specs.declared.Who.TheVariants.{Thread, Handler, Entry}
-use Rattle.hm_run.specs.Program.{Program, view}
-use Rattle.hm_run.specs.Rows as row
-use Rattle.hm_run.specs.Rows.{WholeStop}
+use Rattle.hm_run.specs.Program.{Program}
+use Rattle.hm_whole.specs.Watched.{view}
+use Rattle.hm_run.specs.Stops as why
+use Rattle.hm_run.specs.Stops.{WholeStop}
 use Rattle.hm_run.specs.Timed.{Timed, thread_program}
 use Rattle.hm_sched.specs.Schedule.{Sched}
 use Rattle.hm_state.specs.Start.{start}
@@ -32,7 +33,7 @@ pub record StopsBetween (M : Program) (first : State) (n : ℕ) (w : WholeStop) 
 pub record HaltsAfter (M : Program) (first : State) (reason : Reason) (n : ℕ) (c : Config State) : Type 0 where
   pub before : ℕ
   pub number : n ≡ before + 1
-  pub between : StopsBetween M first before (row.Halt reason) c
+  pub between : StopsBetween M first before (why.Halt reason) c
 
 -- While a run goes on, and where it is out of ticks, whole instructions in order agree with its position. Where it
 -- halts after n, instruction n in order halts for the same reason in the same state; where the thread has a fault after
@@ -48,7 +49,7 @@ Keeps M first (Some (outcome.RuleBroken t step r)) c = Unit {0}
 Keeps M first (Some (outcome.HandlerBroken t what)) c = Unit {0}
 Keeps M first (Some (outcome.TaintedRead t pc addr)) c = Unit {0}
 Keeps M first (Some (outcome.StackSpent t sp)) c = Unit {0}
-Keeps M first (Some (outcome.OutputFull t)) c = StopsBetween M first c.n row.Full c
+Keeps M first (Some (outcome.OutputFull t)) c = StopsBetween M first c.n why.Full c
 
 abbrev pub KeepsOrder : Listing → List Segment → Sched → Timed → Type 0
 KeepsOrder listing image s x = Keeps (thread_program listing s) (start image) x.outcome x.config

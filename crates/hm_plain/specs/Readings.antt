@@ -3,7 +3,7 @@ use Rattle.std.specs.Prelude.{◌≡◌, ℕ, false, List}
 use Rattle.hm_base.specs.Image.{Segment}
 use Rattle.hm_codes.specs.Listing.{Listing}
 use Rattle.hm_run.specs.InOrder.{Running, in_order}
-use Rattle.hm_run.specs.Program.{open_devices}
+use Rattle.hm_mem.specs.Devices.{open_devices}
 use Rattle.hm_state.specs.State.{State, Byte, regs_of}
 
 -- The same registers, the same output, the same device words that a thread may read; and each byte that is not tainted in the

@@ -2,8 +2,8 @@
 use Rattle.std.specs.Prelude.{◌≡◌, ℕ, Ok, Err}
 use Rattle.hm_order.specs.Machine.{next, seq}
 use Rattle.hm_run.specs.Program.{Program}
-use Rattle.hm_run.specs.Rows as row
-use Rattle.hm_run.specs.Rows.{WholeStop}
+use Rattle.hm_run.specs.Stops as why
+use Rattle.hm_run.specs.Stops.{WholeStop}
 use Rattle.hm_base.specs.declared.Fault.{Fault}
 use Rattle.hm_state.specs.State.{State}
 
@@ -15,5 +15,5 @@ pub record StopsFrom (M : Program) (first : State) (n : ℕ) (s : State) (w : Wh
 -- the next one, at this program counter, has a fault
 pub record FaultsAt (M : Program) (first : State) (n : ℕ) (f : Fault) (pc : ℕ) : Type 0 where
   pub state : State
-  pub stops : StopsFrom M first n state (row.Faults f)
+  pub stops : StopsFrom M first n state (why.Faults f)
   pub at : state.pc ≡ pc

@@ -14,8 +14,9 @@ ghost use Rattle.hm_run.specs.declared.Outcome.{Outcome};
 ghost use Rattle.hm_run.specs.Headline.{Headline, PlainReport, Riders};
 ghost use Rattle.hm_run.specs.declared.Reason.{Reason};
 ghost use Rattle.hm_run.specs.InOrder.{Running, Halted, Full, Faulted, in_order};
-ghost use Rattle.hm_run.specs.Program.{core, view};
-ghost use Rattle.hm_run.specs.Rows as row;
+ghost use Rattle.hm_run.specs.Program.{core};
+ghost use Rattle.hm_whole.specs.Watched.{view};
+ghost use Rattle.hm_run.specs.Stops as why;
 ghost use Rattle.hm_run.specs.Report.{memory_text, report_text};
 ghost use Rattle.hm_run.specs.Timed.{timed, timed_out};
 ghost use Rattle.hm_sched.specs.Schedule.{Sched, plain, ticks_of};
@@ -75,9 +76,9 @@ pub fn one_order()
     ensures running { (listing : Listing) (image : List Segment) (around : Around) (n : ℕ) (s : State)
         → (seq (core listing around) n (start image) ≡ Ok s) ↔ (in_order listing image n ≡ Running s) }
     ensures halted { (listing : Listing) (image : List Segment) (around : Around) (n : ℕ) (reason : Reason) (s : State)
-        → StopsFrom (core listing around) (start image) n s (row.Halt reason) ↔ (in_order listing image (n + 1) ≡ Halted reason (n + 1) s) }
+        → StopsFrom (core listing around) (start image) n s (why.Halt reason) ↔ (in_order listing image (n + 1) ≡ Halted reason (n + 1) s) }
     ensures full { (listing : Listing) (image : List Segment) (around : Around) (n : ℕ) (s : State)
-        → StopsFrom (core listing around) (start image) n s row.Full ↔ (in_order listing image (n + 1) ≡ Full (n + 1) s) }
+        → StopsFrom (core listing around) (start image) n s why.Full ↔ (in_order listing image (n + 1) ≡ Full (n + 1) s) }
     ensures faulted { (listing : Listing) (image : List Segment) (around : Around) (n : ℕ) (f : Fault) (pc : ℕ)
         → FaultsAt (core listing around) (start image) n f pc ↔ (in_order listing image (n + 1) ≡ Faulted f.kind pc f.addr n) }
 {}

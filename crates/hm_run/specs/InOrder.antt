@@ -9,8 +9,8 @@ use Rattle.hm_run.specs.declared.Reason.{Reason}
 use Rattle.hm_run.specs.declared.Who.TheVariants.{Thread}
 use Rattle.hm_run.specs.Program.{alone}
 use Rattle.hm_run.specs.Report.{outcome_line, report_of}
-use Rattle.hm_run.specs.Rows as row
-use Rattle.hm_run.specs.Rows.{WholeStop}
+use Rattle.hm_run.specs.Stops as why
+use Rattle.hm_run.specs.Stops.{WholeStop}
 use Rattle.hm_state.specs.Start.{start}
 use Rattle.hm_state.specs.State.{State, regs_of}
 
@@ -25,9 +25,9 @@ pub data InOrder : Type 0 where
 -- what the instruction after n comes to in the state s
 abbrev pub after : ℕ → State → Result State WholeStop → InOrder
 after n s (Ok t) = Running t
-after n s (Err (row.Halt reason)) = Halted reason (n + 1) s
-after n s (Err row.Full) = Full (n + 1) s
-after n s (Err (row.Faults f)) = Faulted f.kind s.pc f.addr n
+after n s (Err (why.Halt reason)) = Halted reason (n + 1) s
+after n s (Err why.Full) = Full (n + 1) s
+after n s (Err (why.Faults f)) = Faulted f.kind s.pc f.addr n
 
 abbrev pub one_more : Listing → ℕ → InOrder → InOrder
 one_more listing n (Running s) = after n s (alone listing s)

@@ -1,4 +1,4 @@
-pub mod Rows
+pub mod Stops
 pub mod Program
 pub mod Timed
 pub mod Report

@@ -8,25 +8,28 @@ use Rattle.hm_codes.specs.Listing.{Listing}
 use Rattle.hm_isa.specs.declared.Instr.{Instr}
 use Rattle.hm_isa.specs.declared.Instr.TheVariants as instr
 use Rattle.hm_isa.specs.declared.Vector.{Vector}
-use Rattle.hm_mem.specs.declared.Dev.{Dev}
 use Rattle.hm_mem.specs.Memory.{Around}
-use Rattle.hm_mem.specs.declared.Actor.TheVariants.{Thread}
 use Rattle.hm_beat.specs.declared.clash.Clash.{Clash}
 use Rattle.hm_beat.specs.declared.clash.Clash.TheVariants as clash
 use Rattle.hm_beat.specs.Meeting.{clash_with}
 use Rattle.hm_beat.specs.Ordered.{of_four}
 use Rattle.hm_beat.specs.Trees.{action}
-use Rattle.hm_order.specs.Beats.{View, Action, Beats, then}
+use Rattle.hm_order.specs.Beats.{Action, Beats, then}
 use Rattle.hm_order.specs.Machine.{Core, Config, End, Stopped, Broken, older, younger}
 use Rattle.hm_run.specs.declared.Cause.{Cause}
 use Rattle.hm_run.specs.declared.Cause.TheVariants as cause
 use Rattle.hm_run.specs.declared.Rule.{Rule}
 use Rattle.hm_run.specs.declared.Rule.TheVariants as rule
-use Rattle.hm_run.specs.Rows.{WholeStop, Halt, Full, Faults, scalar_whole}
+use Rattle.hm_run.specs.Stops.{WholeStop, Halt, Full, Faults, after_flow, whole_of}
 use Rattle.hm_rows.specs.Context.{with_context}
 use Rattle.hm_rows.specs.Rows.{vector_tree, vector_whole, refuse}
 use Rattle.hm_sched.specs.Schedule.{older_letter, younger_letter}
-use Rattle.hm_state.specs.State.{State, Cell, Value, Rest, cells, is_dead}
+use Rattle.hm_regs.specs.declared.Regs.{Regs}
+use Rattle.hm_state.specs.State.{State, Cell, cells, regs_of}
+use Rattle.hm_thumb.specs.Laws.{is_tainted as is_tainted_stop}
+use Rattle.hm_thumb.specs.Rows.{makes_context}
+use Rattle.hm_whole.specs.Watched.{Watched, In, Beside, Held, dead, view}
+use Rattle.hm_whole.specs.Whole.{Went, scalar_alone, scalar_in_machine}
 
 -- ONE WHOLE INSTRUCTION, in thread mode, alone. A vector row first makes the context where there is none, and may then
 -- be refused.
@@ -37,12 +40,16 @@ unless_refused None s = Ok s
 abbrev pub ready_state : Vector → State → Result State WholeStop
 ready_state v s = unless_refused (refuse v (with_context s)) (with_context s)
 
+abbrev pub or_fault : Result State Fault → Result State WholeStop
+or_fault (Ok s) = Ok s
+or_fault (Err f) = Err (Faults f)
+
 abbrev pub vector_row : Vector → State → Result State WholeStop
-vector_row v s = then (ready_state v s) (λ t. Ok (vector_whole v t))
+vector_row v s = then (ready_state v s) (λ t. or_fault (vector_whole v t))
 
 abbrev pub whole : Instr → State → Result State WholeStop
-whole (instr.Scalar i) s = scalar_whole i s
-whole (instr.Branch i) s = elim i [ ]
+whole (instr.Scalar i) s = whole_of (scalar_alone (instr.Scalar i) s)
+whole (instr.Branch i) s = whole_of (scalar_alone (instr.Branch i) s)
 whole (instr.Vector v) s = vector_row v s
 
 -- what stands at the program counter, done; or the fault where nothing stands there
@@ -63,39 +70,18 @@ abbrev pub in_machine : Result State WholeStop → Result State Cause
 in_machine (Ok s) = Ok s
 in_machine (Err w) = Err (cause_of w)
 
--- WHAT THE MACHINE AND THE INSTRUCTIONS IN ORDER HAVE TO AGREE ON: each cell, and what stands in none, but for
--- what only a handler reads of the devices and for who accesses the memory
-pub data Watched : Type 0 where
-  In : Cell → Watched
-  Beside : Watched
+-- an instruction that is no vector row, in the machine
+abbrev pub caused_by : Result Went Stop → Result State Cause
+caused_by (Ok x) = in_machine (after_flow x.flow x.state)
+caused_by (Err e) = Err (cause.Stop e)
 
-pub data Held : Type 0 where
-  Holds : Value → Held
-  Others : Rest → Held
-
-abbrev pub open_devices : Dev → Dev
-open_devices d = record d { csr = 0; rvr = 0; cvr = 0; pending = 0; tick_pending = false }
-
-abbrev pub open_rest : Rest → Rest
-open_rest r = record r { devices = open_devices r.devices; around = record { actor = Thread; lo = 0; hi = 0; floor = 0 } }
-
-abbrev pub held : State → Watched → Held
-held s (In c) = Holds (s.cell c)
-held s Beside = Others (open_rest s.rest)
-
-abbrev pub dead : Watched → Held → Bool
-dead (In c) (Holds v) = is_dead c v
-dead w h = false
-
-abbrev pub view : View State Watched Held
-view = record { get = held; sticky = λ s. s.sticky; pc = λ s. s.pc; dead = dead }
+abbrev pub other_here : Around → Result Instr Fault → State → Result State Cause
+other_here around (Ok (instr.Scalar i)) s = caused_by (scalar_in_machine around (instr.Scalar i) s)
+other_here around (Ok (instr.Branch i)) s = caused_by (scalar_in_machine around (instr.Branch i) s)
+other_here around (Ok (instr.Vector v)) s = in_machine (vector_row v s)
+other_here around (Err f) s = Err (cause.Stop (stop.Fault f))
 
 -- whether a stop is for the read of a byte that an entry or a handler wrote, or for a store that a handler may not do
-abbrev pub is_tainted_stop : Stop → Bool
-is_tainted_stop (stop.Fault f) = false
-is_tainted_stop (stop.Tainted addr) = true
-is_tainted_stop (stop.Denied addr) = true
-
 abbrev pub is_tainted : Cause → Bool
 is_tainted (cause.Halt reason) = false
 is_tainted cause.Full = false
@@ -169,10 +155,15 @@ fault_rule e = cond (is_tainted e) None (Some rule.YoungerFault)
 abbrev pub begins : Vector → State → Result State Cause
 begins v s = in_machine (ready_state v s)
 
--- the context that the instruction at the program counter makes before anything of it may stop
-abbrev pub made_by : Option Vector → State → State
-made_by (Some v) s = with_context s
-made_by None s = s
+-- whether an instruction makes a context, before anything of it may stop
+abbrev pub makes_here : Result Instr Fault → Regs → Bool
+makes_here (Ok (instr.Scalar i)) r = makes_context (instr.Scalar i) r
+makes_here (Ok (instr.Branch i)) r = makes_context (instr.Branch i) r
+makes_here (Ok (instr.Vector v)) r = true
+makes_here (Err f) r = false
+
+abbrev pub made_here : Result Instr Fault → State → State
+made_here x s = cond (makes_here x (regs_of s)) (with_context s) s
 
 -- the machine of a program, as the abstract machine that overlaps beats
 abbrev pub Program : Type 0
@@ -183,9 +174,9 @@ core listing around = record {
   rows = rows around;
   code = λ a. vector_of (listing a);
   start = begins;
-  made = λ s. made_by (vector_of (listing s.pc)) s;
+  made = λ s. made_here (listing s.pc) s;
   whole = vector_row;
-  other = λ s. in_machine (alone listing s);
+  other = λ s. other_here around (listing s.pc) s;
   alone = alone listing;
   stop_of = cause_of;
   jump = λ p s. record s { pc = p };
@@ -198,12 +189,13 @@ core listing around = record {
 abbrev pub Stepped : Type 0
 Stepped = Result (Config State) (End State Cause Rule)
 
-abbrev pub again : Program → ℕ → ℕ → Config State → Stepped
-again M zero n c = Ok c
-again M (suc k) n c = cond (c.n == n) (then (older M c) (again M k n)) (Ok c)
+-- At most so many steps of the older, up to the one that retires it: each step before that leaves one more of its beats done.
+abbrev pub to_end : Program → ℕ → Config State → Stepped
+to_end M zero c = Ok c
+to_end M (suc k) c = then (older M c) (λ d. cond (d.a == suc c.a) (to_end M k d) (Ok d))
 
 abbrev pub letter_step : Program → ℕ → Config State → Stepped
-letter_step M l c = cond (l == older_letter) (older M c) (cond (l == younger_letter) (younger M c) (then (older M c) (again M 3 c.n)))
+letter_step M l c = cond (l == older_letter) (older M c) (cond (l == younger_letter) (younger M c) (to_end M 4 c))
 
 -- an instruction that stops, and whether it is the younger of two
 pub record Stopping : Type 0 where

@@ -19,6 +19,7 @@ use Rattle.hm_run.specs.declared.Who.TheVariants.{Thread, Handler}
 use Rattle.hm_run.specs.Program.{Program, Stopping, Ticked, core, letter_steps}
 use Rattle.hm_sched.specs.Schedule.{TickLine, Sched, ticks_of}
 use Rattle.hm_state.specs.Start.{start_under}
+use Rattle.hm_sys.specs.Ticks.{arrived, counted}
 use Rattle.hm_state.specs.State.{State}
 
 -- what an entry puts away: the position, the registers, the base, the form and the bytes of its frame, the exception's
@@ -76,21 +77,6 @@ retired_by (cause.Stop e) n = n
 abbrev pub at_stop : Config State → Stopping → Config State
 at_stop c e = record c { n = retired_by e.cause c.n; steps = if e.younger then c.steps else c.steps + 1 }
 
--- SysTick, where it is enabled: at 0 it takes the reload value, else it goes down by 1; where it comes to 0 it sets
--- COUNTFLAG and, where TICKINT is set, becomes pending
-abbrev pub is_counting : Dev → Bool
-is_counting d = d.csr % 2 == 1
-
-abbrev pub expired : Dev → Dev
-expired d = if d.cvr == 0 then record d { csr = bit_or d.csr (2 ^ 16); tick_pending = d.tick_pending || (d.csr / 2 % 2 == 1) } else d
-
-abbrev pub counted : Dev → Dev
-counted d = if is_counting d then (if d.cvr == 0 then record d { cvr = d.rvr } else expired (record d { cvr = d.cvr - 1 })) else d
-
--- the interrupts of a tick become pending
-abbrev pub arrived : ℕ → Dev → Dev
-arrived irq d = record d { pending = bit_or d.pending irq }
-
 abbrev pub with_devices : (Dev → Dev) → State → State
 with_devices f s = record s { rest = record s.rest { devices = f s.rest.devices } }
 
@@ -98,12 +84,16 @@ with_devices f s = record s { rest = record s.rest { devices = f s.rest.devices 
 abbrev pub may_end : ℕ → ℕ → Bool
 may_end a b = (b == 0 && nat_lt a 4) || (a == 3 && b == 1)
 
+-- what SysTick and the interrupts of a tick leave
+abbrev pub counted_with : ℕ → Dev → Dev
+counted_with irq d = arrived irq (counted d)
+
 -- At the end of a tick that did not end the run the position is judged, SysTick counts, and the tick's interrupts
 -- become pending. (Where a schedule has entries an exception enters then; no schedule has them yet.)
 abbrev pub tick_end : TickLine → Timed → Timed
 tick_end line x =
     if may_end x.config.a x.config.b
-    then record x { config = record x.config { state = with_devices (λ d. arrived line.irq (counted d)) x.config.state } }
+    then record x { config = record x.config { state = with_devices (counted_with line.irq) x.config.state } }
     else record x { outcome = Some (outcome.RuleBroken x.ticks (length line.letters) (rule.Ending x.config.a x.config.b)) }
 
 -- a tick, by what its letters came to
