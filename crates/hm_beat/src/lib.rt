@@ -9,6 +9,7 @@ mod pair;
 ghost use Rattle.std.specs.Prelude.{◌≡◌, ℕ, ◌<◌, IsTrue, List, Result};
 ghost use Rattle.hm_base.specs.declared.Fault.{Fault};
 ghost use Rattle.hm_mem.specs.Memory.{Around, Memory, memory_of};
+ghost use Rattle.hm_mem.specs.Seen.{IsSameElsewhere};
 ghost use Rattle.hm_state.specs.State.{State};
 ghost use Rattle.hm_beat.specs.Laws.{Beats, Checks, RowLaws, run};
 ghost use Rattle.hm_beat.specs.Rows.{Tree};
@@ -66,7 +67,7 @@ pub trait BeatWise {
         ensures done { (output : List ℕ)
             → Beats (run (tree self.now (memory_of m.old).around b) r.old (memory_of m.old) output)
             result r.old (memory_of m.old) r.new (memory_of m.new) output }
-        ensures around { (memory_of m.new).around ≡ (memory_of m.old).around }
+        ensures kept { IsSameElsewhere (memory_of m.old) (memory_of m.new) }
         ensures context { r.new.fpca ≡ r.old.fpca };
 
     ghost laws: { (x : Self) → RowLaws (tree x) (whole x) };

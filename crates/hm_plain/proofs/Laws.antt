@@ -8,8 +8,6 @@ use Rattle.hm_base.specs.declared.Place.TheVariants.{R, QWord, P0, Mask01, Mask2
 use Rattle.hm_base.specs.declared.Stop.{Stop}
 use Rattle.hm_base.specs.declared.Stop.TheVariants as stop
 use Rattle.hm_codes.specs.Listing.{Listing}
-use Rattle.hm_isa.specs.declared.Flow.{Flow}
-use Rattle.hm_isa.specs.declared.Flow.TheVariants as flow
 use Rattle.hm_isa.specs.declared.Instr.{Instr}
 use Rattle.hm_isa.specs.declared.Instr.TheVariants as instr
 use Rattle.hm_isa.specs.declared.Vector.{Vector}
@@ -36,10 +34,11 @@ use Rattle.hm_run.specs.declared.Rule.TheVariants as rule
 use Rattle.hm_beat.specs.declared.clash.Clash.{Clash}
 use Rattle.hm_beat.specs.Meeting.{clash_with}
 use Rattle.hm_beat.proofs.Remaining.{left_apart}
-use Rattle.hm_run.specs.Program.{rows, core, alone, begins, caused, caused_by, cause_of, in_machine, is_ready, is_tainted, lifted, makes_here, on_cell, or_fault, other_here, ready_state, clash_or, is_too_early, overlap_rule, refusal_rule, rule_of_clash, step_rule, unless_refused, vector_of, whole_here}
+use Rattle.hm_run.specs.Program.{rows, core, alone, begins, caused, cause_of, done_alone, done_in_machine, in_machine, is_ready, is_tainted, lifted, makes_here, on_cell, or_fault, other_by, other_here, other_row, ready_state, clash_or, is_too_early, overlap_rule, refusal_rule, rule_of_clash, step_rule, unless_refused, vector_of, whole_here}
 use Rattle.hm_whole.specs.Watched.{Agrees, GoesAlike, Watched, In, Beside, Held, Holds, Others, open_rest, held, dead, view}
 use Rattle.hm_run.specs.Stops as why
-use Rattle.hm_run.specs.Stops.{WholeStop, after_flow, whole_of}
+use Rattle.hm_run.specs.declared.Reason.{Reason}
+use Rattle.hm_run.specs.Stops.{WholeStop, halt_of, unless_halted}
 use Rattle.hm_rows.proofs.Rows.{keeps_lr, row_laws}
 use Rattle.hm_rows.proofs.Context.{context_fresh, context_pc, context_ready, context_there, fresh}
 use Rattle.hm_whole.specs.Whole.{Went, scalar_alone, scalar_in_machine}
@@ -116,27 +115,26 @@ AlikeBoth r q = AlikeAs cause_of (λ u v. Live view u v × (u.pc ≡ v.pc)) r q
 abbrev TaintedOrAlike : Result State Cause → Result State WholeStop → Type 0
 TaintedOrAlike r q = StopsBy is_tainted r ⊎ AlikeBoth r q
 
-flow_alike : (f : Flow) (s t : State) → Live view s t → s.pc ≡ t.pc → AlikeBoth (in_machine (after_flow f s)) (after_flow f t)
-flow_alike flow.Next s t h e = (h, e)
-flow_alike (flow.Break k) s t h e = refl
-flow_alike (flow.Return x) s t h e = refl
+done_alike : (r : Result Went Stop) (q : Result Went Fault) → GoesAlike r q → TaintedOrAlike (done_in_machine r) (done_alone q)
+done_alike (Ok x) (Ok y) (inl h) = absurd h
+done_alike (Ok x) (Ok y) (inr h) = inr (h.live, h.pc)
+done_alike (Ok x) (Err f) (inl h) = absurd h
+done_alike (Ok x) (Err f) (inr h) = absurd h
+done_alike (Err e) (Ok y) (inl h) = inl h
+done_alike (Err e) (Ok y) (inr h) = absurd h
+done_alike (Err e) (Err f) (inl h) = inl h
+done_alike (Err e) (Err f) (inr h) = inr (ap cause.Stop h)
 
-went_alike : (r : Result Went Stop) (q : Result Went Fault) → GoesAlike r q → TaintedOrAlike (caused_by r) (whole_of q)
-went_alike (Ok x) (Ok y) (inl h) = absurd h
-went_alike (Ok x) (Ok y) (inr h) =
-    inr (subst (λ (f : Flow). AlikeBoth (in_machine (after_flow x.flow x.state)) (after_flow f y.state)) h.flow (flow_alike x.flow x.state y.state h.live h.pc))
-went_alike (Ok x) (Err f) (inl h) = absurd h
-went_alike (Ok x) (Err f) (inr h) = absurd h
-went_alike (Err e) (Ok y) (inl h) = inl h
-went_alike (Err e) (Ok y) (inr h) = absurd h
-went_alike (Err e) (Err f) (inl h) = inl h
-went_alike (Err e) (Err f) (inr h) = inr (ap cause.Stop h)
+halted_alike : (o : Option Reason) (r : Result State Cause) (q : Result State WholeStop) → TaintedOrAlike r q
+    → TaintedOrAlike (unless_halted cause.Halt o r) (unless_halted why.Halt o q)
+halted_alike (Some reason) r q h = inr refl
+halted_alike None r q h = h
 
 module _ (x : Around) (thread : x.actor ≡ Thread) where
-  by_thread : (i : Instr) (s t : State) → Live view s t → s.pc ≡ t.pc → TaintedOrAlike (caused_by (scalar_in_machine x i s)) (whole_of (scalar_alone i t))
+  by_thread : (i : Instr) (s t : State) → Live view s t → s.pc ≡ t.pc → TaintedOrAlike (other_by x i s) (other_row i t)
   by_thread i s t h e =
-      subst (λ (y : Around). TaintedOrAlike (caused_by (scalar_in_machine y i s)) (whole_of (scalar_alone i t))) (sym (under_thread x thread))
-      (went_alike (scalar_in_machine (thread_under x.lo x.hi x.floor) i s) (scalar_alone i t) (whole-live x.lo x.hi x.floor i s t h e))
+      subst (λ (y : Around). TaintedOrAlike (other_by y i s) (other_row i t)) (sym (under_thread x thread))
+      (halted_alike (halt_of i) _ _ (done_alike (scalar_in_machine (thread_under x.lo x.hi x.floor) i s) (scalar_alone i t) (whole-live x.lo x.hi x.floor i s t h e)))
 
   other_alike : (r : Result Instr Fault) (s t : State) → vector_of r ≡ None → Live view s t → s.pc ≡ t.pc → TaintedOrAlike (other_here x r s) (whole_here r t)
   other_alike (Ok (instr.Scalar i)) s t none h e = by_thread (instr.Scalar i) s t h e

@@ -4,10 +4,10 @@ use Rattle.hm_base.specs.Image.{Segment}
 use Rattle.hm_base.specs.declared.Stop.TheVariants as stop
 use Rattle.hm_base.specs.declared.Fault.{Fault}
 use Rattle.hm_codes.specs.Listing.{Listing}
-use Rattle.hm_isa.specs.declared.Flow.{Flow}
-use Rattle.hm_isa.specs.declared.Flow.TheVariants as flow
 use Rattle.hm_isa.specs.declared.Instr.{Instr}
 use Rattle.hm_isa.specs.declared.Instr.TheVariants as instr
+use Rattle.hm_isa.specs.declared.Scalar.{Scalar}
+use Rattle.hm_isa.specs.declared.Scalar.TheVariants as scalar
 use Rattle.hm_isa.specs.declared.Vector.{Vector}
 use Rattle.hm_mem.specs.Memory.{Around, thread_under}
 use Rattle.hm_mem.specs.declared.Actor.TheVariants as actor
@@ -29,20 +29,21 @@ use Rattle.hm_run.specs.declared.Rule.{Rule}
 use Rattle.hm_run.specs.declared.Rule.TheVariants as rule
 use Rattle.hm_run.specs.declared.Who.{Who}
 use Rattle.hm_run.specs.declared.Who.TheVariants.{Thread, Handler, Entry}
-use Rattle.hm_run.specs.Program.{Program, Stepped, Stopping, Ticked, alone, core, cause_of, is_tainted, letter_step, makes_here, at_step, letter_steps, or_fault, to_end, unless_refused, vector_of, whole_here}
+use Rattle.hm_run.specs.Program.{Program, Stepped, Stopping, Ticked, alone, core, cause_of, done_alone, is_tainted, letter_step, makes_here, at_step, letter_steps, or_fault, to_end, unless_refused, vector_of, whole_here}
 use Rattle.hm_whole.specs.Watched.{Watched, In, Beside, view, held, dead}
 use Rattle.hm_mem.specs.Devices.{open_devices}
 use Rattle.hm_run.specs.Stops as why
-use Rattle.hm_run.specs.Stops.{WholeStop, after_flow, whole_of}
+use Rattle.hm_run.specs.declared.Reason.{Reason}
+use Rattle.hm_run.specs.Stops.{WholeStop, scalar_halt, unless_halted}
 use Rattle.hm_run.specs.Timed.{Timed, begin, who_runs, outcome_of, at_stop, counted_with, with_devices, may_end, ended, tick_of, closed, or_out, next, thread_program, timed}
 use Rattle.hm_sys.specs.Ticks.{arrived, counted, expired}
 use Rattle.hm_sched.specs.Schedule.{TickLine, Sched, older_letter, younger_letter, ticks_of}
 use Rattle.hm_state.specs.Start.{start, start_under}
+use Rattle.hm_regs.specs.declared.Regs.{Regs}
 use Rattle.hm_state.specs.State.{State, regs_of}
 use Rattle.hm_thumb.specs.Rows.{makes_context}
 use Rattle.hm_whole.specs.Whole.{Went, scalar_alone}
 use Rattle.hm_whole.proofs.Agreement.{same_regs}
-use Rattle.hm_whole.proofs.Breaks.{whole_breaks}
 use Rattle.hm_plain.specs.Overlap.{Keeps, KeepsOrder, StopsBetween}
 use Rattle.hm_plain.specs.Sequence.{FaultsAt}
 use Rattle.hm_plain.proofs.Laws.{laws, clean_of, next_is}
@@ -152,19 +153,22 @@ module _ (listing : Listing) (around : Around) (thread : around.actor ≡ actor.
       true_not_false (is_fault w)
       (row_faults v (refuse v (with_context s)) (with_context s) w (sym (ap (λ (o : Option Vector). next_of machine o s) here) ∙ e)) other
 
-  -- an instruction that stops for something else makes no context
-  no_break : (f : Flow) (s : State) (w : WholeStop) → is_fault w ≡ false → after_flow f s ≡ Err w → (k : ℕ) × (f ≡ flow.Break k)
-  no_break flow.Next s w other e = absurd (ok_err e)
-  no_break (flow.Break k) s w other e = (k, refl)
-  no_break (flow.Return x) s w other e = absurd (true_not_false (is_fault w) (ap is_fault (sym (err_same e))) other)
+  -- an instruction that stops for something else halts the program, and makes no context
+  done_faults : (q : Result Went Fault) (w : WholeStop) → done_alone q ≡ Err w → is_fault w ≡ true
+  done_faults (Ok x) w e = absurd (ok_err e)
+  done_faults (Err f) w e = ap is_fault (sym (err_same e))
 
-  went_breaks : (i : Instr) (s : State) (w : WholeStop) → is_fault w ≡ false → (q : Result Went Fault) → scalar_alone i s ≡ q → whole_of q ≡ Err w → makes_context i (regs_of s) ≡ false
-  went_breaks i s w other (Ok x) here e = let broken = no_break x.flow x.state w other e in whole_breaks i s x broken.0 here broken.1
-  went_breaks i s w other (Err f) here e = absurd (true_not_false (is_fault w) (ap is_fault (sym (err_same e))) other)
+  halts_first : (o : Option Reason) (q : Result Went Fault) (w : WholeStop) → is_fault w ≡ false → unless_halted why.Halt o (done_alone q) ≡ Err w → o ≡ None → ⊥
+  halts_first (Some reason) q w other e none = cc
+  halts_first None q w other e none = true_not_false (is_fault w) (done_faults q w e) other
 
-  makes_none : (r : Result Instr Fault) (s : State) (w : WholeStop) → is_fault w ≡ false → vector_of r ≡ None → whole_here r s ≡ Err w → makes_here r (regs_of s) ≡ false
-  makes_none (Ok (instr.Scalar i)) s w other none e = went_breaks (instr.Scalar i) s w other (scalar_alone (instr.Scalar i) s) refl e
-  makes_none (Ok (instr.Branch i)) s w other none e = went_breaks (instr.Branch i) s w other (scalar_alone (instr.Branch i) s) refl e
+  halting_makes : (i : Scalar) (r : Regs) → (scalar_halt i ≡ None → ⊥) → makes_context (instr.Scalar i) r ≡ false
+  halting_makes (scalar.S18 i) r h = refl
+  halting_makes i r h = absurd (h refl)
+
+  makes_none : (x : Result Instr Fault) (s : State) (w : WholeStop) → is_fault w ≡ false → vector_of x ≡ None → whole_here x s ≡ Err w → makes_here x (regs_of s) ≡ false
+  makes_none (Ok (instr.Scalar i)) s w other none e = halting_makes i (regs_of s) (halts_first (scalar_halt i) (scalar_alone (instr.Scalar i) s) w other e)
+  makes_none (Ok (instr.Branch i)) s w other none e = absurd (true_not_false (is_fault w) (done_faults (scalar_alone (instr.Branch i) s) w e) other)
   makes_none (Ok (instr.Vector v)) s w other none e = absurd cc
   makes_none (Err f) s w other none e = refl
 

@@ -1,10 +1,8 @@
 -- The letter W, between two instructions, does what the whole of the next one does alone.
-use Rattle.std.proofs.Common.{◌≡◌, ℕ, suc, ◌==◌, ap, refl, sym, ◌∙◌, subst, true, cond, None, Some, Result, Ok, Err}
+use Rattle.std.proofs.Common.{◌≡◌, ℕ, suc, ◌==◌, ap, refl, sym, ◌∙◌, subst, true, cond, Option, None, Some, Result, Ok, Err}
 use Rattle.hm_base.specs.declared.Fault.{Fault}
 use Rattle.hm_base.specs.declared.Stop.{Stop}
 use Rattle.hm_codes.specs.Listing.{Listing}
-use Rattle.hm_isa.specs.declared.Flow.{Flow}
-use Rattle.hm_isa.specs.declared.Flow.TheVariants as flow
 use Rattle.hm_isa.specs.declared.Instr.{Instr}
 use Rattle.hm_isa.specs.declared.Instr.TheVariants as instr
 use Rattle.hm_isa.specs.declared.Vector.{Vector}
@@ -21,13 +19,15 @@ use Rattle.hm_rows.specs.Rows.{refuse, vector_tree, vector_whole}
 use Rattle.hm_rows.proofs.Context.{context_pc, context_ready}
 use Rattle.hm_run.specs.declared.Cause.{Cause}
 use Rattle.hm_run.specs.declared.Cause.TheVariants as cause
-use Rattle.hm_run.specs.Program.{Program, Stepped, core, rows, alone, caused, caused_by, cause_of, in_machine, letter_step, or_fault, other_here, ready_state, to_end, vector_of, vector_row, whole_here}
-use Rattle.hm_run.specs.Stops.{WholeStop, Faults, after_flow, whole_of}
+use Rattle.hm_run.specs.Program.{Program, Stepped, core, rows, alone, caused, cause_of, done_alone, done_in_machine, in_machine, letter_step, or_fault, other_by, other_here, other_row, ready_state, to_end, vector_of, vector_row, whole_here}
+use Rattle.hm_run.specs.declared.Reason.{Reason}
+use Rattle.hm_run.specs.Stops as why
+use Rattle.hm_run.specs.Stops.{WholeStop, halt_of, unless_halted}
 use Rattle.hm_run.proofs.Steps.{older_other, older_vector, past}
 use Rattle.hm_sched.specs.Schedule.{whole_letter}
 use Rattle.hm_whole.specs.Watched as watched
 use Rattle.hm_whole.specs.Watched.{GoesClean, In, Beside, stops_too}
-use Rattle.hm_whole.specs.Whole.{Went, scalar_alone, scalar_in_machine}
+use Rattle.hm_whole.specs.Whole.{Went, scalar_alone}
 use Rattle.hm_whole.proofs.Agreement.{whole-clean, whole-same}
 use Rattle.hm_plain.proofs.Vectors.{beat_pc, context_clean, four_are, not_refused, retire, row_beats, row_leaves}
 
@@ -45,17 +45,16 @@ watched_clean s h (In (At p)) = refl
 watched_clean s h (In (Byte a)) = h a
 watched_clean s h Beside = refl
 
-flow_leaves : (f : Flow) (s : State) → Clean s → Leaves (after_flow f s)
-flow_leaves flow.Next s h = h
-flow_leaves (flow.Break k) s h = tt
-flow_leaves (flow.Return x) s h = tt
+halt_leaves : (o : Option Reason) (r : Result State WholeStop) → Leaves r → Leaves (unless_halted why.Halt o r)
+halt_leaves (Some reason) r h = tt
+halt_leaves None r h = h
 
-went_leaves : (q : Result Went Fault) → GoesClean q → Leaves (whole_of q)
-went_leaves (Ok x) h = flow_leaves x.flow x.state (λ a. h (In (Byte a)))
-went_leaves (Err f) h = tt
+done_leaves : (q : Result Went Fault) → GoesClean q → Leaves (done_alone q)
+done_leaves (Ok x) h = λ a. h (In (Byte a))
+done_leaves (Err f) h = tt
 
-other_leaves : (i : Instr) (s : State) → Clean s → Leaves (whole_of (scalar_alone i s))
-other_leaves i s h = went_leaves (scalar_alone i s) (whole-clean i s (watched_clean s h))
+other_leaves : (i : Instr) (s : State) → Clean s → Leaves (other_row i s)
+other_leaves i s h = halt_leaves (halt_of i) (done_alone (scalar_alone i s)) (done_leaves (scalar_alone i s) (whole-clean i s (watched_clean s h)))
 
 module _ (around : Around) (thread : around.actor ≡ Thread) where
   row_kept : (v : Vector) (s : State) → Clean s → (r : Result State WholeStop) → vector_row v s ≡ r → Leaves r
@@ -69,18 +68,21 @@ module _ (around : Around) (thread : around.actor ≡ Thread) where
   leaves (Err f) s h = tt
 
 -- WITHOUT TAINT an instruction that is no vector row comes in the machine to what it comes to alone
-caused_too : (q : Result Went Fault) → caused_by (stops_too q) ≡ in_machine (whole_of q)
-caused_too (Ok x) = refl
-caused_too (Err f) = refl
+halted_too : (o : Option Reason) (q : Result Went Fault)
+    → unless_halted cause.Halt o (done_in_machine (stops_too q)) ≡ in_machine (unless_halted why.Halt o (done_alone q))
+halted_too (Some reason) q = refl
+halted_too None (Ok x) = refl
+halted_too None (Err f) = refl
 
 pub under_thread : (x : Around) → x.actor ≡ Thread → x ≡ thread_under x.lo x.hi x.floor
 under_thread x e = λ j. record { actor = e j; lo = x.lo; hi = x.hi; floor = x.floor }
 
 module _ (x : Around) (thread : x.actor ≡ Thread) where
-  same_is : (i : Instr) (s : State) → Clean s → caused_by (scalar_in_machine x i s) ≡ in_machine (whole_of (scalar_alone i s))
+  same_is : (i : Instr) (s : State) → Clean s → other_by x i s ≡ in_machine (other_row i s)
   same_is i s clean =
-      ap (λ (y : Around). caused_by (scalar_in_machine y i s)) (under_thread x thread)
-      ∙ ap caused_by (whole-same x.lo x.hi x.floor i s (watched_clean s clean)) ∙ caused_too (scalar_alone i s)
+      ap (λ (y : Around). other_by y i s) (under_thread x thread)
+      ∙ ap (λ (r : Result Went Stop). unless_halted cause.Halt (halt_of i) (done_in_machine r)) (whole-same x.lo x.hi x.floor i s (watched_clean s clean))
+      ∙ halted_too (halt_of i) (scalar_alone i s)
 
   other_is : (r : Result Instr Fault) (s : State) → vector_of r ≡ None → Clean s → other_here x r s ≡ in_machine (whole_here r s)
   other_is (Ok (instr.Scalar i)) s none clean = same_is (instr.Scalar i) s clean

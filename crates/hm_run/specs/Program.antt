@@ -20,7 +20,7 @@ use Rattle.hm_run.specs.declared.Cause.{Cause}
 use Rattle.hm_run.specs.declared.Cause.TheVariants as cause
 use Rattle.hm_run.specs.declared.Rule.{Rule}
 use Rattle.hm_run.specs.declared.Rule.TheVariants as rule
-use Rattle.hm_run.specs.Stops.{WholeStop, Halt, Full, Faults, after_flow, whole_of}
+use Rattle.hm_run.specs.Stops.{WholeStop, Halt, Full, Faults, halt_of, unless_halted}
 use Rattle.hm_rows.specs.Context.{with_context}
 use Rattle.hm_rows.specs.Rows.{vector_tree, vector_whole, refuse}
 use Rattle.hm_sched.specs.Schedule.{older_letter, younger_letter}
@@ -47,9 +47,17 @@ or_fault (Err f) = Err (Faults f)
 abbrev pub vector_row : Vector → State → Result State WholeStop
 vector_row v s = then (ready_state v s) (λ t. or_fault (vector_whole v t))
 
+-- Any other instruction halts, or is done. (One that would end a handler is as any other: it stands in no thread.)
+abbrev pub done_alone : Result Went Fault → Result State WholeStop
+done_alone (Ok x) = Ok x.state
+done_alone (Err f) = Err (Faults f)
+
+abbrev pub other_row : Instr → State → Result State WholeStop
+other_row i s = unless_halted Halt (halt_of i) (done_alone (scalar_alone i s))
+
 abbrev pub whole : Instr → State → Result State WholeStop
-whole (instr.Scalar i) s = whole_of (scalar_alone (instr.Scalar i) s)
-whole (instr.Branch i) s = whole_of (scalar_alone (instr.Branch i) s)
+whole (instr.Scalar i) s = other_row (instr.Scalar i) s
+whole (instr.Branch i) s = other_row (instr.Branch i) s
 whole (instr.Vector v) s = vector_row v s
 
 -- what stands at the program counter, done; or the fault where nothing stands there
@@ -71,13 +79,16 @@ in_machine (Ok s) = Ok s
 in_machine (Err w) = Err (cause_of w)
 
 -- an instruction that is no vector row, in the machine
-abbrev pub caused_by : Result Went Stop → Result State Cause
-caused_by (Ok x) = in_machine (after_flow x.flow x.state)
-caused_by (Err e) = Err (cause.Stop e)
+abbrev pub done_in_machine : Result Went Stop → Result State Cause
+done_in_machine (Ok x) = Ok x.state
+done_in_machine (Err e) = Err (cause.Stop e)
+
+abbrev pub other_by : Around → Instr → State → Result State Cause
+other_by around i s = unless_halted cause.Halt (halt_of i) (done_in_machine (scalar_in_machine around i s))
 
 abbrev pub other_here : Around → Result Instr Fault → State → Result State Cause
-other_here around (Ok (instr.Scalar i)) s = caused_by (scalar_in_machine around (instr.Scalar i) s)
-other_here around (Ok (instr.Branch i)) s = caused_by (scalar_in_machine around (instr.Branch i) s)
+other_here around (Ok (instr.Scalar i)) s = other_by around (instr.Scalar i) s
+other_here around (Ok (instr.Branch i)) s = other_by around (instr.Branch i) s
 other_here around (Ok (instr.Vector v)) s = in_machine (vector_row v s)
 other_here around (Err f) s = Err (cause.Stop (stop.Fault f))
 
