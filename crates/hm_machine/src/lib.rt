@@ -6,7 +6,8 @@ mod cursor;
 mod load;
 mod machine;
 mod memory_text;
-mod scalar;
+mod ticks;
+mod younger;
 
 pub use hm_run::{Broken, Offence, Outcome, Reason, Rule, Slot, Turn, Who, Window};
 pub use load::LoadErr;

@@ -6,8 +6,6 @@ use Rattle.hm_base.specs.declared.Fault.{Fault}
 use Rattle.hm_codes.specs.Listing.{Listing}
 use Rattle.hm_isa.specs.declared.Instr.{Instr}
 use Rattle.hm_isa.specs.declared.Instr.TheVariants as instr
-use Rattle.hm_isa.specs.declared.Scalar.{Scalar}
-use Rattle.hm_isa.specs.declared.Scalar.TheVariants as scalar
 use Rattle.hm_isa.specs.declared.Vector.{Vector}
 use Rattle.hm_mem.specs.Memory.{Around, thread_under}
 use Rattle.hm_mem.specs.declared.Actor.TheVariants as actor
@@ -35,13 +33,12 @@ use Rattle.hm_mem.specs.Devices.{open_devices}
 use Rattle.hm_run.specs.Stops as why
 use Rattle.hm_run.specs.declared.Reason.{Reason}
 use Rattle.hm_run.specs.Stops.{WholeStop, scalar_halt, unless_halted}
+use Rattle.hm_run.proofs.Steps.{halting_makes}
 use Rattle.hm_run.specs.Timed.{Timed, begin, who_runs, outcome_of, at_stop, counted_with, with_devices, may_end, ended, tick_of, closed, or_out, next, thread_program, timed}
 use Rattle.hm_sys.specs.Ticks.{arrived, counted, expired}
 use Rattle.hm_sched.specs.Schedule.{TickLine, Sched, older_letter, younger_letter, ticks_of}
 use Rattle.hm_state.specs.Start.{start, start_under}
-use Rattle.hm_regs.specs.declared.Regs.{Regs}
 use Rattle.hm_state.specs.State.{State, regs_of}
-use Rattle.hm_thumb.specs.Rows.{makes_context}
 use Rattle.hm_whole.specs.Whole.{Went, scalar_alone}
 use Rattle.hm_whole.proofs.Agreement.{same_regs}
 use Rattle.hm_plain.specs.Overlap.{Keeps, KeepsOrder, StopsBetween}
@@ -162,12 +159,8 @@ module _ (listing : Listing) (around : Around) (thread : around.actor ≡ actor.
   halts_first (Some reason) q w other e none = cc
   halts_first None q w other e none = true_not_false (is_fault w) (done_faults q w e) other
 
-  halting_makes : (i : Scalar) (r : Regs) → (scalar_halt i ≡ None → ⊥) → makes_context (instr.Scalar i) r ≡ false
-  halting_makes (scalar.S18 i) r h = refl
-  halting_makes i r h = absurd (h refl)
-
   makes_none : (x : Result Instr Fault) (s : State) (w : WholeStop) → is_fault w ≡ false → vector_of x ≡ None → whole_here x s ≡ Err w → makes_here x (regs_of s) ≡ false
-  makes_none (Ok (instr.Scalar i)) s w other none e = halting_makes i (regs_of s) (halts_first (scalar_halt i) (scalar_alone (instr.Scalar i) s) w other e)
+  makes_none (Ok (instr.Scalar i)) s w other none e = halting_makes (instr.Scalar i) (regs_of s) (halts_first (scalar_halt i) (scalar_alone (instr.Scalar i) s) w other e)
   makes_none (Ok (instr.Branch i)) s w other none e = absurd (true_not_false (is_fault w) (done_faults (scalar_alone (instr.Branch i) s) w e) other)
   makes_none (Ok (instr.Vector v)) s w other none e = absurd cc
   makes_none (Err f) s w other none e = refl

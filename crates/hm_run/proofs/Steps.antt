@@ -1,7 +1,12 @@
 -- One step, and one tick, of a run.
-use Rattle.std.proofs.Common.{◌≡◌, ℕ, suc, ◌+◌, ◌==◌, ◌<◌, arith, ap, refl, sym, ◌∙◌, Bool, true, false, cond, List, [], ◌∷◌, length, Option, Some, None, Ok, Err}
+use Rattle.std.proofs.Common.{◌≡◌, ℕ, suc, ◌+◌, ◌==◌, ◌<◌, arith, ap, refl, sym, ◌∙◌, Bool, true, false, not, IsTrue, cond, List, [], ◌∷◌, length, Option, Some, None, Result, Ok, Err}
 use Rattle.std.proofs.lemmas.Bool.Decides.{nat_tests}
 use Rattle.hm_codes.specs.Listing.{Listing}
+use Rattle.hm_base.specs.declared.Fault.{Fault}
+use Rattle.hm_isa.specs.declared.Instr.{Instr}
+use Rattle.hm_isa.specs.declared.Instr.TheVariants as instr
+use Rattle.hm_isa.specs.declared.Scalar.{Scalar}
+use Rattle.hm_isa.specs.declared.Scalar.TheVariants as scalar
 use Rattle.hm_isa.specs.declared.Vector.{Vector}
 use Rattle.hm_mem.specs.Memory.{Around}
 use Rattle.hm_order.specs.Beats.{then}
@@ -9,10 +14,14 @@ use Rattle.hm_order.specs.Machine.{Config, Stopped, Broken, begin, done, older, 
 use Rattle.hm_run.specs.declared.Outcome.{Outcome}
 use Rattle.hm_run.specs.declared.Outcome.TheVariants as outcome
 use Rattle.hm_run.specs.declared.Rule.TheVariants as rule
-use Rattle.hm_run.specs.Program.{Program, Stopping, Breach, Ticked, core, rows, other_here, vector_of, letter_steps}
+use Rattle.hm_run.specs.Program.{Program, Stopping, Breach, Ticked, core, makes_here, other_by, other_here, rows, vector_of, letter_steps}
+use Rattle.hm_run.specs.Stops.{halt_of, scalar_halt}
 use Rattle.hm_run.specs.Timed.{Timed, outcome_of, at_stop, counted_with, with_devices, may_end, ended, tick_of, closed, or_out, next}
 use Rattle.hm_sched.specs.Schedule.{TickLine}
+use Rattle.hm_regs.specs.declared.Regs.{Regs}
 use Rattle.hm_state.specs.State.{State}
+use Rattle.hm_thumb.specs.Families.{is_vector_row}
+use Rattle.hm_thumb.specs.Rows.{makes_context}
 
 -- STEPS
 -- the position after the whole of an instruction that leaves this state
@@ -28,6 +37,38 @@ older_other listing around c other = ap (λ (o : Option Vector). older_of (core 
 pub older_vector : (listing : Listing) (around : Around) (c : Config State) (v : Vector) → vector_of (listing c.state.pc) ≡ Some v
     → older (core listing around) c ≡ done (core listing around) c (then (begin (core listing around) v c.a c.state) ((rows around).act v c.a).run) (settle (core listing around) (suc c.a) c.b c.n (suc c.steps))
 older_vector listing around c v row = ap (λ (o : Option Vector). older_of (core listing around) o c) row
+
+-- INSTRUCTIONS THAT ARE NO VECTOR ROWS
+pub other_is : (around : Around) (i : Instr) (s : State) → IsTrue (not (is_vector_row i)) → other_here around (Ok i) s ≡ other_by around i s
+other_is around (instr.Scalar i) s other = refl
+other_is around (instr.Branch i) s other = refl
+other_is around (instr.Vector v) s other = absurd cc
+
+pub no_row : (i : Instr) → IsTrue (not (is_vector_row i)) → vector_of (Ok i) ≡ None
+no_row (instr.Scalar i) other = refl
+no_row (instr.Branch i) other = refl
+no_row (instr.Vector v) other = absurd cc
+
+pub makes_other : (i : Instr) (r : Regs) → IsTrue (not (is_vector_row i)) → makes_here (Ok i) r ≡ makes_context i r
+makes_other (instr.Scalar i) r other = refl
+makes_other (instr.Branch i) r other = refl
+makes_other (instr.Vector v) r other = absurd cc
+
+pub makes_row : (x : Result Instr Fault) (v : Vector) (r : Regs) → vector_of x ≡ Some v → makes_here x r ≡ true
+makes_row (Ok (instr.Scalar i)) v r e = absurd cc
+makes_row (Ok (instr.Branch i)) v r e = absurd cc
+makes_row (Ok (instr.Vector w)) v r e = refl
+makes_row (Err f) v r e = absurd cc
+
+-- one that halts the program makes no context
+scalar_halts : (i : Scalar) (r : Regs) → (scalar_halt i ≡ None → ⊥) → makes_context (instr.Scalar i) r ≡ false
+scalar_halts (scalar.S18 i) r h = refl
+scalar_halts i r h = absurd (h refl)
+
+pub halting_makes : (i : Instr) (r : Regs) → (halt_of i ≡ None → ⊥) → makes_context i r ≡ false
+halting_makes (instr.Scalar i) r h = scalar_halts i r h
+halting_makes (instr.Branch i) r h = absurd (h refl)
+halting_makes (instr.Vector v) r h = absurd (h refl)
 
 -- TICKS
 -- a tick of a run that goes on, up to what is left

@@ -1,0 +1,142 @@
+//! The steps of the younger of two vector instructions.
+
+ghost use Rattle.std.specs.Prelude.{◌≡◌, ℕ, ◌+◌, ◌^◌, ◌<◌, ◌≤◌, List, IsSome, IsTrue, Some, None};
+ghost use Rattle.hm_beat.specs.Meeting.{clash_with};
+ghost use Rattle.hm_codes.specs.Listing.{Listing, IsListing};
+ghost use Rattle.hm_machine.specs.Cpus.{config_of, hindered, reached_younger, state_in, IsPosition, Keeps};
+ghost use Rattle.hm_mem.specs.Memory.{Memory, memory_of, flash_at};
+ghost use Rattle.hm_order.specs.Machine.{Config, did, fault_end, younger};
+ghost use Rattle.hm_rows.specs.Rows.{vector_tree};
+ghost use Rattle.hm_run.specs.Program.{core, fault_rule, rows, vector_in, vector_of, rule_of_clash, step_rule};
+ghost use Rattle.hm_state.specs.State.{State, state_of};
+
+use crate::cpu::{Cpu, beat};
+use hm_base::Stop;
+use hm_beat::{Clash, meet_left};
+use hm_decode::fetch;
+use hm_exec::{any, refuse};
+use hm_isa::{Instr, Vector};
+use hm_mem::Mem;
+use hm_regs::Regs;
+use hm_run::{Cause, Rule, Window};
+
+/// Why a younger step does not go on: its beat stops for taint, or the step breaks a rule of overlap.
+#[derive(Clone, Copy)]
+pub enum Hindrance {
+    Stopped(Cause),
+    Broken(Rule),
+}
+
+/// The vector instruction that this is, where it is one.
+fn as_vector(i: &Instr) -> Option<Vector>
+    ensures value { result ≡ vector_in i.now }
+{
+    match i {
+        Instr::Scalar(_) | Instr::Branch(_) => None,
+        Instr::Vector(v) => Some(*v),
+    }
+}
+
+/// The vector instruction that stands at an address, where one does.
+fn vector_at(mem: &Mem, addr: u32) -> Option<Vector>
+    ensures row { (listing : Listing) → IsListing (flash_at (memory_of mem.now)) listing → result ≡ vector_of (listing addr) }
+    ensures room { IsSome result → addr + 4 < 2 ^ 32 }
+{
+    match fetch(mem, addr) {
+        Ok(i) => as_vector(&i),
+        Err(_) => None,
+    }
+}
+
+/// The rule that a clash breaks.
+fn rule_of(clash: Clash) -> Rule
+    ensures value { result ≡ rule_of_clash clash }
+{
+    match clash {
+        Clash::Register(place) => Rule::Register { place },
+        Clash::Memory { addr } => Rule::Memory { addr },
+    }
+}
+
+/// Where beat `b` of `w`, the younger, meets the beats that `v` has left, from beat `a` on.
+fn clash(v: &Vector, a: u8, w: &Vector, b: u8, regs: &Regs) -> Option<Clash>
+    requires first { a < 4 }
+    requires second { b < 4 }
+    requires context { IsTrue regs.now.fpca }
+    ensures value { (m : Memory) (output : List ℕ)
+        → result ≡ clash_with (vector_tree v.now m.around) a (vector_tree w.now m.around b) (state_of regs.now m output) }
+{
+    let older = any(v);
+    let younger = any(w);
+    meet_left(&older, a, &younger, b, regs)
+}
+
+/// The first rule that the next beat of `w`, the younger, breaks against `v`, but for a fault of that beat.
+fn step_rule(v: &Vector, w: &Vector, at: Window, regs: &Regs) -> Option<Rule>
+    requires position { at.a < 4 }
+    requires context { 0 < at.a → IsTrue regs.now.fpca }
+    ensures value { (m : Memory) (output : List ℕ) (n steps : ℕ)
+        → result ≡ step_rule m.around (Some v.now) (Some w.now) (record { a = at.a; b = at.b; n = n; steps = steps; state = state_of regs.now m output }) }
+    ensures in_time { result ≡ None → (2 ≤ at.a) × (at.b < 2) }
+{
+    if at.a < 2 || at.b >= 2 {
+        return Some(Rule::Order);
+    }
+    if let Some(clash) = clash(v, at.a, w, at.b, regs) {
+        return Some(rule_of(clash));
+    }
+    match refuse(w, regs) {
+        Some(_) => Some(Rule::YoungerFault),
+        None => None,
+    }
+}
+
+/// What a younger beat that stops comes to: a fault breaks a rule.
+fn hindrance(cause: Cause) -> Hindrance
+    ensures value { (listing : Listing) (m : Memory) (c : Config State) → hindered result c ≡ fault_end (core listing m.around) (fault_rule cause) c cause }
+{
+    match cause {
+        Cause::Halt(_) | Cause::Full => Hindrance::Broken(Rule::YoungerFault),
+        Cause::Stop(Stop::Fault(_)) => Hindrance::Broken(Rule::YoungerFault),
+        Cause::Stop(_) => Hindrance::Stopped(cause),
+    }
+}
+
+/// The next beat of `w`, the younger.
+fn younger_beat(w: &Vector, x: &mut Cpu) -> Result<(), Hindrance>
+    requires few { x.old.window.b < 2 }
+    requires position { IsPosition x.old }
+    requires context { IsTrue x.old.regs.fpca }
+    ensures value { (listing : Listing) → let around = (memory_of x.old.mem).around in
+        reached_younger result x.new ≡ did (core listing around) (config_of x.old) (((rows around).act w.now x.old.window.b).run (state_in x.old)) }
+    ensures kept { Keeps x.old x.new }
+    ensures count { (x.new.retired ≡ x.old.retired) × (x.new.older_steps ≡ x.old.older_steps) }
+{
+    match beat(w, x.window.b, &mut x.regs, &mut x.mem) {
+        Ok(()) => {
+            x.window.b += 1;
+            Ok(())
+        }
+        Err(cause) => Err(hindrance(cause)),
+    }
+}
+
+/// The next beat of the younger instruction, unless it breaks a rule.
+pub fn younger(x: &mut Cpu) -> Result<(), Hindrance>
+    requires position { IsPosition x.old }
+    ensures value { (listing : Listing) → IsListing (flash_at (memory_of x.old.mem)) listing
+        → reached_younger result x.new ≡ younger (core listing (memory_of x.old.mem).around) (config_of x.old) }
+    ensures kept { Keeps x.old x.new }
+    ensures count { (x.new.retired ≡ x.old.retired) × (x.new.older_steps ≡ x.old.older_steps) }
+{
+    let Some(v) = vector_at(&x.mem, x.regs.pc) else {
+        return Err(Hindrance::Broken(Rule::NotVector));
+    };
+    let Some(w) = vector_at(&x.mem, x.regs.pc + 4) else {
+        return Err(Hindrance::Broken(Rule::NotVector));
+    };
+    match step_rule(&v, &w, x.window, &x.regs) {
+        Some(rule) => Err(Hindrance::Broken(rule)),
+        None => younger_beat(&w, x),
+    }
+}
