@@ -31,3 +31,6 @@ pub fn encode32(i: &Instr) -> u32
         Instr::Branch(_) | Instr::Vector(_) => unreachable!(),
     }
 }
+
+#[cfg(test)]
+mod tests;

@@ -22,7 +22,7 @@ none_long None flash a first second e f long none =
 pub returns-then-not-begins_two-clause-none : goal.returns-then-not-begins_two-clause-none
 returns-then-not-begins_two-clause-none c =
     let short : is_long c.in_ok-first.first ≡ false = sym c.begins_two.ensures ∙ c.if-not-begins_two.true in
-    none_short _ _ _ _ c.in_ok-first.ensures.flash short c.find_narrow.ensures.none
+    none_short _ _ _ _ c.in_ok-first.ensures.flash short c.decode16.ensures.none
 
 pub returns-clause-none : goal.returns-clause-none
 returns-clause-none c =
