@@ -14,7 +14,7 @@ use Rattle.hm_layout.proofs.Places.{place}
 use Rattle.hm_layout.proofs.Search.{no_rule, decided_both, decided_differ}
 use Rattle.hm_layout.proofs.Coded.{Coded}
 use Rattle.hm_layout.proofs.Rows.{at, spread, the_name, Named, Plain, plain, coded}
-use Rattle.hm_layout.proofs.Tables.{of_table}
+use Rattle.hm_layout.proofs.Tables.{of_table, ◌▹◌}
 
 abbrev pub row_s23 : Named s23_.the_type jump_.enum code_s23 jump_base
 row_s23 = record {
@@ -48,5 +48,5 @@ row_always = record {
 
 abbrev pub coded_s25 : Coded S25
 coded_s25 =
-    of_table s25_.enum code_s25 (coded (plain row_conditional), (coded (plain row_always), tt))
+    of_table s25_.enum code_s25 (coded (plain row_conditional) ▹ coded (plain row_always) ▹ tt)
     (elim [ s25.Conditional r ↦ refl | s25.Always r ↦ refl ])

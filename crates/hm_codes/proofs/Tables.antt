@@ -9,7 +9,7 @@ use Rattle.hm_isa.specs.contracts.Branch as branch_
 use Rattle.hm_isa.specs.Code.{scalar_halves, branch_halves}
 use Rattle.hm_layout.proofs.Coded.{Coded}
 use Rattle.hm_layout.proofs.Rows.{plain, named, varied, coded}
-use Rattle.hm_layout.proofs.Tables.{of_table}
+use Rattle.hm_layout.proofs.Tables.{of_table, ◌▹◌}
 use Rattle.hm_codes.proofs.Scalars.{row_s1, row_s2, row_s3, row_s4, row_s5, row_s6, row_s15, row_s16, row_s18, row_s20, row_s21}
 use Rattle.hm_codes.proofs.Wides.{coded_t12, row_t13, row_t15}
 use Rattle.hm_codes.proofs.Branches.{row_s23, row_s24, coded_s25}
@@ -26,10 +26,21 @@ rejoined c = omega arith
 abbrev pub coded_scalar : Coded Scalar
 coded_scalar =
     of_table scalar_.enum (λ s. joined (scalar_halves s)) (
-      coded (named row_s1), (coded (named row_s2), (coded (named row_s3), (coded (named row_s4), (coded (named row_s5), (coded (plain row_s6),
-      (coded (named row_s15), (coded (named row_s16), (coded (plain row_s18), (coded (varied row_s20), (coded (plain row_s21),
-      (coded_t12, (coded (named row_t13), (coded (named row_t15), tt)))))))))))))
-    )
+    coded (named row_s1) ▹
+    coded (named row_s2) ▹
+    coded (named row_s3) ▹
+    coded (named row_s4) ▹
+    coded (named row_s5) ▹
+    coded (plain row_s6) ▹
+    coded (named row_s15) ▹
+    coded (named row_s16) ▹
+    coded (plain row_s18) ▹
+    coded (varied row_s20) ▹
+    coded (plain row_s21) ▹
+    coded_t12 ▹
+    coded (named row_t13) ▹
+    coded (named row_t15) ▹
+    tt)
     (elim [
       | scalar.S1 r ↦ refl
       | scalar.S2 r ↦ refl
@@ -49,7 +60,7 @@ coded_scalar =
 
 abbrev pub coded_branch : Coded Branch
 coded_branch =
-    of_table branch_.enum (λ b. joined (branch_halves b)) (coded (named row_s23), (coded (named row_s24), (coded_s25, tt)))
+    of_table branch_.enum (λ b. joined (branch_halves b)) (coded (named row_s23) ▹ coded (named row_s24) ▹ coded_s25 ▹ tt)
     (elim [ branch.S23 r ↦ refl | branch.S24 r ↦ refl | branch.S25 r ↦ refl ])
 
 pub unique_scalar : (s t : Scalar) → joined (scalar_halves s) ≡ joined (scalar_halves t) → s ≡ t

@@ -14,7 +14,7 @@ use Rattle.hm_isa.specs.contracts.Instr as instr_
 use Rattle.hm_isa.specs.Code.{halfwords, scalar_halves, branch_halves, vector_code, code_t12, code_t13, code_t15}
 use Rattle.hm_layout.proofs.Coded.{Coded}
 use Rattle.hm_layout.proofs.Rows.{plain, named, varied, coded}
-use Rattle.hm_layout.proofs.Tables.{of_table}
+use Rattle.hm_layout.proofs.Tables.{of_table, ◌▹◌}
 use Rattle.hm_layout.proofs.Lengths.{short_code, long_code}
 use Rattle.hm_codes.specs.Listing.{half_at, HalvesStand, Stands, is_long, IsFetched}
 use Rattle.hm_codes.proofs.Scalars.{row_s1, row_s2, row_s3, row_s4, row_s5, row_s6, row_s15, row_s16, row_s18, row_s20, row_s21}
@@ -25,7 +25,7 @@ use Rattle.hm_codes.proofs.Tables.{joined, rejoined, coded_scalar, coded_branch}
 
 abbrev pub coded_instr : Coded Instr
 coded_instr =
-    of_table instr_.enum (λ i. joined (halfwords i)) (coded_scalar, (coded_branch, (coded_vector, tt)))
+    of_table instr_.enum (λ i. joined (halfwords i)) (coded_scalar ▹ coded_branch ▹ coded_vector ▹ tt)
     (elim [ instr.Scalar s ↦ refl | instr.Branch b ↦ refl | instr.Vector v ↦ rejoined _ ])
 
 unique_instr : (i j : Instr) → joined (halfwords i) ≡ joined (halfwords j) → i ≡ j

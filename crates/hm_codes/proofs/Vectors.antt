@@ -79,7 +79,7 @@ use Rattle.hm_layout.proofs.Places.{head_or, rest_of, Place, place}
 use Rattle.hm_layout.proofs.Search.{no_rule, one_rule, decided_both, decided_test, decided_differ, Tried}
 use Rattle.hm_layout.proofs.Coded.{Coded, digit}
 use Rattle.hm_layout.proofs.Rows.{Row, sparing, at, spread, the_name, Named, named, coded, Plain, plain, Varied, varied}
-use Rattle.hm_layout.proofs.Tables.{of_table}
+use Rattle.hm_layout.proofs.Tables.{of_table, ◌▹◌}
 
 abbrev pub row_v1 : Named v1_.the_type add_.enum code_v1 add_base
 row_v1 = record {
@@ -364,11 +364,6 @@ row_v23 = record {
   is_code = λ r. omega arith;
   rules = λ v. decided_both (decided_differ _ _) (decided_both (decided_differ _ _) no_rule);
 }
-
--- a row's codes, and those of the rows after it
-infixr 20 ◌▹◌
-abbrev pub ◌▹◌ : {A B : Type 1} → A → B → A × B
-a ▹ b = (a, b)
 
 -- all rows
 abbrev pub coded_vector : Coded Vector

@@ -21,7 +21,7 @@ use Rattle.hm_layout.proofs.Places.{head_or}
 use Rattle.hm_layout.proofs.Search.{one_rule}
 use Rattle.hm_layout.proofs.Coded.{Coded, Digit, digit}
 use Rattle.hm_layout.proofs.Rows.{at, the_name, Named, named, coded, sparing}
-use Rattle.hm_layout.proofs.Tables.{of_table}
+use Rattle.hm_layout.proofs.Tables.{of_table, ◌▹◌}
 
 abbrev pub row_offset : Named offset_.the_type access_.enum code_offset (λ x. wide_access_base x + 0x00800000)
 row_offset = record {
@@ -61,15 +61,11 @@ no_base = (digit 16 4 15 ∷ []) ∷ []
 abbrev pub coded_t12 : Coded T12
 coded_t12 =
     of_table t12_.enum code_t12 (
-      coded (sparing (named row_offset) (λ x. no_base) (λ r d. (λ e. no_pc r.name r.n.value r.t.value r.rules (sym (ap head_or d) ∙ e.0), tt))),
-      (
-        coded (sparing (named row_indexed) (λ x. no_base) (λ r d. (λ e. no_pc r.name r.n.value r.t.value (both_left _ _ r.rules) (sym (ap head_or d) ∙ e.0), tt))),
-        (
-          coded (sparing (named row_shifted) (λ x. no_base) (λ r d. (λ e. no_pc r.name r.n.value r.t.value (both_left _ _ r.rules) (sym (ap head_or d) ∙ e.0), tt))),
-          (coded (named row_literal), tt),
-        ),
-      ),
-    )
+    coded (sparing (named row_offset) (λ x. no_base) (λ r d. (λ e. no_pc r.name r.n.value r.t.value r.rules (sym (ap head_or d) ∙ e.0), tt))) ▹
+    coded (sparing (named row_indexed) (λ x. no_base) (λ r d. (λ e. no_pc r.name r.n.value r.t.value (both_left _ _ r.rules) (sym (ap head_or d) ∙ e.0), tt))) ▹
+    coded (sparing (named row_shifted) (λ x. no_base) (λ r d. (λ e. no_pc r.name r.n.value r.t.value (both_left _ _ r.rules) (sym (ap head_or d) ∙ e.0), tt))) ▹
+    coded (named row_literal) ▹
+    tt)
     (elim [ t12.Offset r ↦ refl | t12.Indexed r ↦ refl | t12.Shifted r ↦ refl | t12.Literal r ↦ refl ])
 
 abbrev pub row_t13 : Named t13_.the_type pair_.enum code_t13 pair_base

@@ -6,3 +6,4 @@ pub mod Coded
 pub mod Rows
 pub mod Tables
 pub mod Lengths
+pub mod Exact

@@ -61,6 +61,11 @@ through C to one code is tried = record {
   tried = tried;
 }
 
+-- a row's codes, and those of the rows after it
+infixr 20 ◌▹◌
+abbrev pub ◌▹◌ : {A B : Type 1} → A → B → A × B
+a ▹ b = (a, b)
+
 abbrev pub CodedValues : List data_field.Field → Type 1
 CodedValues [] = Coded (Unit {0})
 CodedValues (f ∷ []) = Coded f.Value
