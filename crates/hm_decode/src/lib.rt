@@ -4,7 +4,7 @@
 ghost use Rattle.std.specs.Prelude.{◌≡◌, ◌+◌, ◌≤◌, ◌<◌, IsTrue, IfSome, IfNone, [], ◌∷◌};
 ghost use Rattle.hm_base.specs.Image.{flash_size};
 ghost use Rattle.hm_isa.specs.declared.Instr.{Instr};
-ghost use Rattle.hm_isa.specs.Code.{halfwords};
+ghost use Rattle.hm_isa.specs.Code.{halfwords, two_halves};
 ghost use Rattle.hm_mem.specs.Memory.{memory_of, flash_at};
 ghost use Rattle.hm_codes.specs.Listing.{half_at, is_long, missing, Stands, IsFetched};
 
@@ -18,16 +18,27 @@ use hm_mem::Mem;
 /// How many bytes flash has, from address 0 on.
 const FLASH_SIZE: u32 = 0x10_0000;
 
+/// The instruction whose code is two halfwords, the first in bits 31 to 16 of w.
+fn find_word(w: u32) -> Option<Instr>
+    ensures found { IfSome result (λ i. halfwords i ≡ two_halves w) }
+    ensures none { IfNone result ((i : Instr) → halfwords i ≡ two_halves w → ⊥) }
+{
+    if let Some(i) = decode32(w) {
+        return Some(i);
+    }
+    if let Some(v) = decodev(w) {
+        return Some(Instr::Vector(v));
+    }
+    None
+}
+
 /// The instruction whose code is two halfwords, high and low.
 fn find_wide(high: u16, low: u16) -> Option<Instr>
     ensures found { IfSome result (λ i. halfwords i ≡ high ∷ low ∷ []) }
     ensures none { IfNone result ((i : Instr) → halfwords i ≡ high ∷ low ∷ [] → ⊥) }
 {
     let w = ((high as u32) << 16) + low as u32;
-    if let Some(i) = decode32(w) {
-        return Some(i);
-    }
-    decodev(w).map(Instr::Vector)
+    find_word(w)
 }
 
 /// Whether a halfword begins a code of two.
