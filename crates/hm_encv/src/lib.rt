@@ -11,6 +11,8 @@ mod pairs;
 mod predicate;
 mod registers;
 mod sums;
+#[cfg(test)]
+mod tests;
 
 use hm_isa::Vector;
 use ones::{decode_one, encode_v12, encode_v13, encode_v14, encode_v15, encode_v16};

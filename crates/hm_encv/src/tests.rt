@@ -1,0 +1,148 @@
+use super::*;
+use hm_isa::{
+    AddName, Below, BitwiseName, Block, CarryName, CompareScalar, CompareVectors, Dot,
+    DoublingName, Element, ExtremeName, HighName, Invert, LongBytes, LongDot, LongFull, LongHalves,
+    LongSum, NarrowName, Offsets, OffsetsName, OneElement, OneName, ReverseName, ScalarName,
+    Select, SignedName, Sum, Tail, TurnName, V1, V2, V3, V5, V6, V7, V8, V9, V10, V12, V13, V14,
+    V15, V16, V17, V18, V19, V20, V21, V22, V23, WrappedOffsets,
+};
+
+// a code and its row: the name, if there is one, and the numbers
+macro_rules! row {
+    ($code:expr, $row:ident, $name:ident: $what:expr, $($field:ident $number:expr),*) => {
+        ($code, Vector::$row($row { $name: $what, $($field: Below::new($number)),* }))
+    };
+    ($code:expr, $row:ident, $($field:ident $number:expr),*) => {
+        ($code, Vector::$row($row { $($field: Below::new($number)),* }))
+    };
+    ($code:expr, $row:ident $shape:ident $kind:ident, $name:ident: $what:expr, $($field:ident $number:expr),*) => {
+        ($code, Vector::$row($row::$shape($kind { $name: $what, $($field: Below::new($number)),* })))
+    };
+    ($code:expr, $row:ident $shape:ident $kind:ident, $($field:ident $number:expr),*) => {
+        ($code, Vector::$row($row::$shape($kind { $($field: Below::new($number)),* })))
+    };
+}
+
+// the first code that is not read as its instruction, or that its instruction is not written as
+fn first_wrong(table: &[(u32, Vector)]) -> Option<u32> {
+    for (code, v) in table {
+        if decodev(*code) != Some(*v) || encodev(v) != *code {
+            return Some(*code);
+        }
+    }
+    None
+}
+
+#[test]
+fn two_vectors(rt: HostRuntime) {
+    let table = [
+        // vadd.i32 q2,q1,q3; vmul.i16 q7,q7,q7
+        row!(0xef22_4846, V1, name: AddName::Add, z 2, n 1, d 2, m 3),
+        row!(0xef1e_e95e, V1, name: AddName::Mul, z 1, n 7, d 7, m 7),
+        // veor q0,q1,q2; vmov q1,q2
+        row!(0xff02_0154, V2, name: BitwiseName::Eor, n 1, d 0, m 2),
+        row!(0xef24_2154, V2, name: BitwiseName::Orr, n 2, d 1, m 2),
+        // vmax.u8 q0,q1,q2; vqsub.s16 q3,q4,q5
+        row!(0xff02_0644, V3, name: SignedName::Max, u 1, z 0, n 1, d 0, m 2),
+        row!(0xef18_625a, V3, name: SignedName::Qsub, u 0, z 1, n 4, d 3, m 5),
+        // vqrdmulh.s32 q1,q2,q3; vmullt.u32 q0,q1,q2; vrmulh.s16 q0,q1,q2
+        row!(0xff24_2b46, V5, name: DoublingName::Qrdmulh, z 2, n 2, d 1, m 3),
+        row!(0xfe23_1e04, V6, u 1, z 2, t 1, n 1, d 0, m 2),
+        row!(0xee13_1e05, V7, name: HighName::Rmulh, u 0, z 1, n 1, d 0, m 2),
+        // vsbci.i32 q0,q1,q2; vhcadd.s8 q0,q1,q2,#270
+        row!(0xfe32_1f04, V8, name: CarryName::Sbci, n 1, d 0, m 2),
+        row!(0xee02_1f04, V9, name: TurnName::Hcadd, z 0, t 1, n 1, d 0, m 2),
+    ];
+    assert_eq!(rt; first_wrong(&table), None);
+}
+
+#[test]
+fn one_vector(rt: HostRuntime) {
+    let table = [
+        // vmovlb.s8 q0,q1; vshllt.u16 q2,q3,#15; vshllt.u16 q1,q2,#16
+        row!(0xeea8_0f42, V12 Bytes LongBytes, u 0, k 0, t 0, d 0, m 1),
+        row!(0xfebf_5f46, V12 Halves LongHalves, u 1, k 15, t 1, d 2, m 3),
+        row!(0xfe35_3e05, V12 Full LongFull, u 1, z 1, t 1, d 1, m 2),
+        // vqneg.s32 q1,q2; vmvn q3,q4
+        row!(0xffb8_27c4, V13 Elements OneElement, name: OneName::Qneg, z 2, d 1, m 2),
+        row!(0xffb0_65c8, V13 Not Invert, d 3, m 4),
+        // vrev64.32 q0,q1
+        row!(0xffb8_0042, V14, name: ReverseName::Rev64, z 2, d 0, m 1),
+        // vmov.i32 q1,#0xa5; vmov.i64 q0,#0xff, each byte of it
+        row!(0xff82_2055, V15, i 1, i3 2, d 1, cm 0, op 0, i4 5),
+        row!(0xff87_0e7f, V15, i 1, i3 7, d 0, cm 14, op 1, i4 15),
+        // vmovnb.i16 q0,q1; vqmovnt.u32 q0,q1
+        row!(0xfe31_0e83, V16, name: NarrowName::Plain, z 0, t 0, d 0, m 1),
+        row!(0xfe37_1e03, V16, name: NarrowName::Unsigned, z 1, t 1, d 0, m 1),
+    ];
+    assert_eq!(rt; first_wrong(&table), None);
+}
+
+#[test]
+fn core_registers(rt: HostRuntime) {
+    let table = [
+        // vadd.i32 q0,q1,r2; vqadd.u16 q3,q2,r12; vmlas.u32 q1,q2,r3
+        row!(0xee23_0f42, V10, name: ScalarName::Add, u 0, z 2, n 1, d 0, m 2),
+        row!(0xfe14_6f6c, V10, name: ScalarName::Qadd, u 1, z 1, n 2, d 3, m 12),
+        row!(0xfe25_3e43, V10, name: ScalarName::Mlas, u 1, z 2, n 2, d 1, m 3),
+        // vshlc q3,r4,#32; vshlc q0,lr,#1
+        row!(0xeea0_6fc4, V17, k 0, d 3, m 4),
+        row!(0xeea1_0fce, V17, k 1, d 0, m 14),
+        // vdup.32 q1,r2; vdup.8 q7,lr
+        row!(0xeea2_2b10, V18, size: Element::Words, d 1, t 2),
+        row!(0xeeee_eb10, V18, size: Element::Bytes, d 7, t 14),
+        // vidup.u8 q0,r2,#4; viwdup.u32 q1,r4,r7,#2; vdwdup.u16 q2,r0,r11,#8
+        row!(0xee03_0fee, V19 Free Offsets, name: OffsetsName::Up, z 0, n 1, d 0, k 2),
+        row!(0xee25_2f67, V19 Wrapped WrappedOffsets, name: OffsetsName::Up, z 2, n 2, d 1, k 1, r 3),
+        row!(0xee11_5feb, V19 Wrapped WrappedOffsets, name: OffsetsName::Down, z 1, n 0, d 2, k 3, r 5),
+    ];
+    assert_eq!(rt; first_wrong(&table), None);
+}
+
+#[test]
+fn sums_and_predicate(rt: HostRuntime) {
+    let table = [
+        // vaddva.u8 r2,q1; vmladava.s16 r4,q0,q0; vmladav.u32 r0,q7,q7
+        row!(0xfef1_2f22, V22 Sum Sum, u 1, z 0, l 1, a 1, m 1),
+        row!(0xeef0_4e20, V22 Dot Dot, size: Element::Halves, u 0, n 0, l 2, a 1, m 0),
+        row!(0xfeff_0e0e, V22 Dot Dot, size: Element::Words, u 1, n 7, l 0, a 0, m 7),
+        // vaddlv.u32 r0,r1,q3; vmlaldav.s32 r2,r5,q1,q2; vminv.s16 r3,q2
+        row!(0xfe89_0f06, V22 LongSum LongSum, u 1, h 0, l 0, a 0, m 3),
+        row!(0xeea3_2e04, V22 LongDot LongDot, u 0, h 2, n 1, s 1, l 1, a 0, m 2),
+        row!(0xeee6_3f84, V23, name: ExtremeName::Min, u 0, z 1, t 3, m 2),
+        // vcmp.s16 gt,q1,q2; vcmp.u8 hi,q0,r3; vpte.i32 ne,q3,zr
+        row!(0xfe13_1f05, V20 Vectors CompareVectors, k 0, z 1, n 1, c 6, m 2),
+        row!(0xfe01_0fe3, V20 Scalar CompareScalar, k 0, z 0, n 0, c 3, m 3),
+        row!(0xfe67_8fcf, V20 Scalar CompareScalar, k 12, z 2, n 3, c 1, m 15),
+        // vpste; vpnot; vpsel q1,q2,q3; vctp.64 r12
+        row!(0xfe71_8f4d, V21 Block Block, k 12),
+        row!(0xfe31_0f4d, V21 Block Block, k 0),
+        row!(0xfe35_2f07, V21 Select Select, n 2, d 1, m 3),
+        row!(0xf03c_e801, V21 Tail Tail, z 3, n 12),
+    ];
+    assert_eq!(rt; first_wrong(&table), None);
+}
+
+// codes whose fields break a row's rule
+#[test]
+fn no_row(rt: HostRuntime) {
+    let codes: [u32; 14] = [
+        0xef30_0840, // a size of 3
+        0xfe23_2e04, // vmullb.u32 q1,q1,q2
+        0xee22_4f04, // vhcadd.s32 q2,q1,q2,#90
+        0xee01_0f4d, // vadd.i8 q0,q0,sp
+        0xfe01_1e60, // vmul with a sign
+        0xeea0_0f40, // vshll of no size
+        0xffb8_00c0, // vrev32.32
+        0xffb0_0040, // vrev64.8 q0,q0
+        0xef80_0f50, // a constant in floating point
+        0xeea0_0fcf, // vshlc q0,pc
+        0xee01_0f6c, // viwdup with sp
+        0xeee9_0f00, // vaddlv into sp
+        0xfe01_0f4d, // vcmp with sp
+        0xf00d_e801, // vctp.8 sp
+    ];
+    for code in codes {
+        assert_eq!(rt; decodev(code), None, "at {code}");
+    }
+}
