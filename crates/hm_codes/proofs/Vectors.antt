@@ -189,7 +189,7 @@ row_long_full = record {
 
 abbrev pub coded_v12 : Coded V12
 coded_v12 =
-    of_table v12_.enum code_v12 (coded (plain row_long_bytes), (coded (plain row_long_halves), (coded (plain row_long_full), tt)))
+    of_table v12_.enum code_v12 (coded (plain row_long_bytes) ▹ coded (plain row_long_halves) ▹ coded (plain row_long_full) ▹ tt)
     (elim [ v12.Bytes r ↦ refl | v12.Halves r ↦ refl | v12.Full r ↦ refl ])
 
 abbrev pub row_one_element : Named one_element_.the_type one_.enum code_one_element one_base
@@ -209,7 +209,7 @@ row_invert = record {
 
 abbrev pub coded_v13 : Coded V13
 coded_v13 =
-    of_table v13_.enum code_v13 (coded (named row_one_element), (coded (plain row_invert), tt))
+    of_table v13_.enum code_v13 (coded (named row_one_element) ▹ coded (plain row_invert) ▹ tt)
     (elim [ v13.Elements r ↦ refl | v13.Not r ↦ refl ])
 
 abbrev pub row_v14 : Named v14_.the_type reverse_.enum code_v14 reverse_base
@@ -269,7 +269,7 @@ row_wrapped_offsets = record {
 
 abbrev pub coded_v19 : Coded V19
 coded_v19 =
-    of_table v19_.enum code_v19 (coded (named row_offsets), (coded (named row_wrapped_offsets), tt))
+    of_table v19_.enum code_v19 (coded (named row_offsets) ▹ coded (named row_wrapped_offsets) ▹ tt)
     (elim [ v19.Free r ↦ refl | v19.Wrapped r ↦ refl ])
 
 abbrev pub row_compare_vectors : Plain compare_vectors_.the_type code_compare_vectors
@@ -290,7 +290,7 @@ row_compare_scalar = record {
 
 abbrev pub coded_v20 : Coded V20
 coded_v20 =
-    of_table v20_.enum code_v20 (coded (plain row_compare_vectors), (coded (plain row_compare_scalar), tt))
+    of_table v20_.enum code_v20 (coded (plain row_compare_vectors) ▹ coded (plain row_compare_scalar) ▹ tt)
     (elim [ v20.Vectors r ↦ refl | v20.Scalar r ↦ refl ])
 
 abbrev pub row_block : Plain block_.the_type code_block
@@ -319,7 +319,7 @@ row_tail = record {
 
 abbrev pub coded_v21 : Coded V21
 coded_v21 =
-    of_table v21_.enum code_v21 (coded (plain row_block), (coded (plain row_select), (coded (plain row_tail), tt)))
+    of_table v21_.enum code_v21 (coded (plain row_block) ▹ coded (plain row_select) ▹ coded (plain row_tail) ▹ tt)
     (elim [ v21.Block r ↦ refl | v21.Select r ↦ refl | v21.Tail r ↦ refl ])
 
 abbrev pub row_sum : Plain sum_.the_type code_sum
@@ -355,7 +355,7 @@ row_long_dot = record {
 
 abbrev pub coded_v22 : Coded V22
 coded_v22 =
-    of_table v22_.enum code_v22 (coded (plain row_sum), (coded (named row_dot), (coded (plain row_long_sum), (coded (plain row_long_dot), tt))))
+    of_table v22_.enum code_v22 (coded (plain row_sum) ▹ coded (named row_dot) ▹ coded (plain row_long_sum) ▹ coded (plain row_long_dot) ▹ tt)
     (elim [ v22.Sum r ↦ refl | v22.Dot r ↦ refl | v22.LongSum r ↦ refl | v22.LongDot r ↦ refl ])
 
 abbrev pub row_v23 : Named v23_.the_type extreme_.enum code_v23 extreme_base

@@ -1,7 +1,7 @@
 //! The codes of the vector rows, read and written: DDI0553, "M-profile Vector Extension".
 #![tactic(auto)]
 
-ghost use Rattle.std.specs.Prelude.{◌≡◌, IfSome, IfNone};
+ghost use Rattle.std.specs.Prelude.{◌≡◌, ◌↔◌, Some, IfSome, IfNone};
 ghost use Rattle.hm_isa.specs.declared.Vector.{Vector};
 ghost use Rattle.hm_isa.specs.Code.{vector_code};
 
@@ -24,8 +24,8 @@ use predicate::{decode_predicate, encode_v20, encode_v21};
 use registers::{decode_register, encode_v10, encode_v17, encode_v18, encode_v19};
 use sums::{decode_total, encode_v22, encode_v23};
 
-/// The vector instruction whose code is w, with the first halfword in bits 31 to 16, or None exactly where no such instruction has it.
-pub fn decodev(w: u32) -> Option<Vector>
+/// The instruction of the table of vector instructions whose code is w.
+fn find(w: u32) -> Option<Vector>
     ensures found { IfSome result (λ v. vector_code v ≡ w) }
     ensures none { IfNone result ((v : Vector) → vector_code v ≡ w → ⊥) }
 {
@@ -47,7 +47,17 @@ pub fn decodev(w: u32) -> Option<Vector>
     None
 }
 
-/// The code of a vector instruction, with the first halfword in bits 31 to 16.
+/// The vector instruction whose code is w, with the first halfword in bits 31 to 16, or None exactly where no vector
+/// instruction has it: DDI0553, "T32 instruction set encoding", the 32-bit codes.
+pub fn decodev(w: u32) -> Option<Vector>
+    ensures found { IfSome result (λ v. vector_code v ≡ w) }
+    ensures none { IfNone result ((v : Vector) → vector_code v ≡ w → ⊥) }
+    ensures exact { (v : Vector) → (result ≡ Some v) ↔ (vector_code v ≡ w) }
+{
+    find(w)
+}
+
+/// The code of a vector instruction, with the first halfword in bits 31 to 16. `decodev` gives the instruction of this code again.
 pub fn encodev(v: &Vector) -> u32
     ensures value { result ≡ vector_code v.now }
 {

@@ -1,35 +1,9 @@
-use Rattle.std.proofs.Common.{◌≡◌}
-use Rattle.hm_isa.specs.declared.Vector.TheVariants as vector
+use Rattle.std.proofs.Common.{◌≡◌, sym, ◌∙◌}
 use Rattle.hm_isa.specs.Code.{vector_code}
+use Rattle.hm_layout.proofs.Exact.{exact}
+use Rattle.hm_codes.proofs.Vectors.{unique_vector}
 use Rattle.hm_encv.proofs.decodev.Goals as goal
 
-pub returns-clause-none : goal.returns-clause-none
-returns-clause-none c v =
-    let pairs = c.in_default.ensures in
-    let ones = c.in_default-decode_one.ensures in
-    let registers = c.in_default-decode_register.ensures in
-    let sums = c.in_default-decode_total.ensures in
-    let predicate = c.in_default-decode_predicate.ensures in
-    elim v as (λ v. vector_code v ≡ c.args.w → ⊥) [
-      | vector.V1 r ↦ pairs.no_v1 r
-      | vector.V2 r ↦ pairs.no_v2 r
-      | vector.V3 r ↦ pairs.no_v3 r
-      | vector.V5 r ↦ pairs.no_v5 r
-      | vector.V6 r ↦ pairs.no_v6 r
-      | vector.V7 r ↦ pairs.no_v7 r
-      | vector.V8 r ↦ pairs.no_v8 r
-      | vector.V9 r ↦ pairs.no_v9 r
-      | vector.V10 r ↦ registers.no_v10 r
-      | vector.V12 r ↦ ones.no_v12 r
-      | vector.V13 r ↦ ones.no_v13 r
-      | vector.V14 r ↦ ones.no_v14 r
-      | vector.V15 r ↦ ones.no_v15 r
-      | vector.V16 r ↦ ones.no_v16 r
-      | vector.V17 r ↦ registers.no_v17 r
-      | vector.V18 r ↦ registers.no_v18 r
-      | vector.V19 r ↦ registers.no_v19 r
-      | vector.V20 r ↦ predicate.no_v20 r
-      | vector.V21 r ↦ predicate.no_v21 r
-      | vector.V22 r ↦ sums.no_v22 r
-      | vector.V23 r ↦ sums.no_v23 r
-    ]
+pub returns-clause-exact : goal.returns-clause-exact
+returns-clause-exact c =
+    exact (λ v. vector_code v ≡ c.args.w) (λ u v e f. unique_vector u v (e ∙ sym f)) _ c.find.ensures.found c.find.ensures.none
