@@ -1,3 +1,6 @@
+ghost use Rattle.std.specs.Prelude.{◌≡◌, length};
+ghost use Rattle.hm_isa.specs.Code.{halfwords};
+
 use super::*;
 use hm_isa::{
     AccessName, Always, Below, Branch, ByteName, Conditional, JumpName, ListName, LogicName,

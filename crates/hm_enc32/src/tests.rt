@@ -1,3 +1,5 @@
+ghost use Rattle.hm_enc32.specs.Table.{IsWide};
+
 use super::*;
 use hm_isa::{
     AccessName, Below, Indexed, Literal, Offset, PairName, Scalar, Shifted, StackName, T12, T13,
