@@ -1,5 +1,5 @@
 -- The rows of branches.
-use Rattle.std.proofs.Common.{◌≡◌, ◌+◌, ◌*◌, ◌/◌, ◌%◌, ◌^◌, ℕ, [], ◌∷◌, arith, refl}
+use Rattle.std.proofs.Common.{[], ◌∷◌, arith, refl}
 use Rattle.hm_isa.specs.declared.narrow.S25.{S25}
 use Rattle.hm_isa.specs.declared.narrow.S25.TheVariants as s25
 use Rattle.hm_isa.specs.contracts.narrow.JumpName as jump_

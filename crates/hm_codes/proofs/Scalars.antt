@@ -1,5 +1,5 @@
 -- The rows of 16-bit codes.
-use Rattle.std.proofs.Common.{◌≡◌, ◌<◌, ◌+◌, ◌*◌, ◌/◌, ◌%◌, ◌^◌, ℕ, List, [], ◌∷◌, arith, IsTrue}
+use Rattle.std.proofs.Common.{◌≡◌, ◌<◌, ◌+◌, ℕ, List, [], ◌∷◌, arith, IsTrue}
 use Rattle.std.proofs.lemmas.Bool.Decides.{nat_tests}
 use Rattle.hm_isa.specs.declared.narrow.ListName.{ListName}
 use Rattle.hm_isa.specs.declared.narrow.ListName.TheVariants as list

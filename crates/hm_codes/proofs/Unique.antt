@@ -1,5 +1,5 @@
 -- No two instructions have one code, and so at most one stands at an address.
-use Rattle.std.proofs.Common.{◌≡◌, ◌≤◌, ◌<◌, ◌+◌, ◌/◌, ℕ, true, false, arith, ap, refl, sym, ◌∙◌, List, [], ◌∷◌, length, Result, Ok, Err}
+use Rattle.std.proofs.Common.{◌≡◌, ◌≤◌, ◌<◌, ◌+◌, ℕ, true, false, arith, ap, refl, sym, ◌∙◌, List, [], ◌∷◌, length, Result, Ok, Err}
 use Rattle.std.specs.Prelude.{if◌then◌else◌}
 use Rattle.std.proofs.lemmas.Bool.Decides.{nat_tests}
 use Rattle.hm_base.specs.declared.Fault.{Fault}
@@ -11,7 +11,7 @@ use Rattle.hm_isa.specs.declared.Branch.TheVariants as branch
 use Rattle.hm_isa.specs.declared.Instr.{Instr}
 use Rattle.hm_isa.specs.declared.Instr.TheVariants as instr
 use Rattle.hm_isa.specs.contracts.Instr as instr_
-use Rattle.hm_isa.specs.Code.{halfwords, scalar_halves, branch_halves, vector_code, code_t12, code_t13, code_t15}
+use Rattle.hm_isa.specs.Code.{halfwords, scalar_halves, branch_halves}
 use Rattle.hm_layout.proofs.Coded.{Coded}
 use Rattle.hm_layout.proofs.Rows.{plain, named, varied, coded}
 use Rattle.hm_layout.proofs.Tables.{of_table, ◌▹◌}

@@ -1,5 +1,5 @@
 -- The rows of 32-bit codes that are no vector rows.
-use Rattle.std.proofs.Common.{sym, ◌∙◌, ◌≡◌, ◌+◌, ◌*◌, ◌/◌, ◌%◌, ◌^◌, ℕ, List, [], ◌∷◌, arith, refl, ap, IsTrue}
+use Rattle.std.proofs.Common.{sym, ◌∙◌, ◌≡◌, ◌+◌, ℕ, List, [], ◌∷◌, arith, refl, ap, IsTrue}
 use Rattle.std.proofs.lemmas.Bool.Decides.{nat_tests}
 use Rattle.hm_isa.specs.declared.narrow.AccessName.{AccessName}
 use Rattle.hm_isa.specs.declared.wide.T12.{T12}

@@ -1,5 +1,5 @@
 -- An answer that is found, or that there is none, is exact where at most one value has the property.
-use Rattle.std.proofs.Common.{◌≡◌, sym, ap, subst, Option, Some, None, IfSome, IfNone, ◌↔◌}
+use Rattle.std.proofs.Common.{◌≡◌, ap, subst, Option, Some, None, IfSome, IfNone, ◌↔◌}
 
 some_one : {A : Type 0} (a b : A) → Some a ≡ Some b → a ≡ b
 some_one a b e = cc
