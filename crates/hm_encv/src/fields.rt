@@ -1,11 +1,11 @@
-//! The fields of a code.
+//! The fields of a code, each by the place of its lowest bit.
 
-ghost use Rattle.std.specs.Prelude.{◌≡◌, ◌≢◌, ◌<◌, ◌≤◌, ◌+◌, ◌*◌, ◌/◌, ◌%◌, ◌^◌, ◌⊎◌, MatchOption, IfSome, IfNone};
+ghost use Rattle.std.specs.Prelude.{◌≡◌, ◌≢◌, ◌<◌, ◌+◌, ◌*◌, ◌/◌, ◌%◌, ◌^◌, ◌⊎◌, MatchOption, IfSome, IfNone};
 ghost use Rattle.hm_isa.specs.Code.{mask_code, step_code};
 
 use hm_isa::{Below, Bit, QRegister, Register, Size};
 
-/// So many bits of w, from this place up.
+/// The number in the bits of w from this place up, as many as `width`.
 pub fn bits(w: u32, position: u32, width: u32) -> u32
     requires position { position < 32 }
     requires width { width < 32 }
@@ -22,7 +22,7 @@ pub fn bit(w: u32, position: u32) -> Bit
     Below::new(bits(w, position, 1))
 }
 
-/// The vector register whose number has its lowest bit at this place of w.
+/// The vector register whose number stands at this place of w.
 pub fn q_register(w: u32, position: u32) -> QRegister
     requires { position < 32 }
     ensures value { result.value ≡ w / 2 ^ position % 8 }
@@ -30,7 +30,7 @@ pub fn q_register(w: u32, position: u32) -> QRegister
     Below::new(bits(w, position, 3))
 }
 
-/// The size of elements whose number has its lowest bit at this place of w, or None where that number is 3.
+/// The size of elements whose number stands at this place of w, or None where that is 3.
 pub fn size(w: u32, position: u32) -> Option<Size>
     requires { position < 32 }
     ensures value { MatchOption result (w / 2 ^ position % 4 ≡ 3) (λ z. z.value ≡ w / 2 ^ position % 4) }
@@ -42,7 +42,7 @@ pub fn size(w: u32, position: u32) -> Option<Size>
     Some(Below::new(z))
 }
 
-/// The core register whose number has its lowest bit at this place of w, or None where it is SP or PC.
+/// The core register whose number stands at this place of w, or None where it is SP or PC.
 pub fn general(w: u32, position: u32) -> Option<Register>
     requires { position < 32 }
     ensures value { IfSome result (λ r. r.value ≡ w / 2 ^ position % 16) }

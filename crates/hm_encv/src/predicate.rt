@@ -1,6 +1,6 @@
 //! Rows that set or use the predicate.
 
-ghost use Rattle.std.specs.Prelude.{◌≡◌, ◌≢◌, IfSome, IfNone};
+ghost use Rattle.std.specs.Prelude.{◌≡◌, IfSome, IfNone};
 ghost use Rattle.hm_isa.specs.declared.vectors.CompareVectors.{CompareVectors};
 ghost use Rattle.hm_isa.specs.declared.vectors.CompareScalar.{CompareScalar};
 ghost use Rattle.hm_isa.specs.declared.vectors.Block.{Block};
