@@ -8,15 +8,12 @@ ghost use Rattle.hm_isa.specs.Code.{halfwords, two_halves};
 ghost use Rattle.hm_mem.specs.Memory.{memory_of, flash_at};
 ghost use Rattle.hm_codes.specs.Listing.{half_at, is_long, missing, Stands, IsFetched};
 
-use hm_base::{Fault, FaultKind};
+use hm_base::{FLASH_SIZE, Fault, FaultKind};
 use hm_enc16::decode16;
 use hm_enc32::decode32;
 use hm_encv::decodev;
 use hm_isa::Instr;
 use hm_mem::Mem;
-
-/// How many bytes flash has, from address 0 on.
-const FLASH_SIZE: u32 = 0x10_0000;
 
 /// The instruction whose code is two halfwords, the first in bits 31 to 16 of w.
 fn find_word(w: u32) -> Option<Instr>
