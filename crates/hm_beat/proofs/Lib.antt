@@ -11,3 +11,4 @@ pub mod Lowest
 pub mod Clashes
 pub mod Remaining
 pub mod Clean
+pub mod Lists

@@ -7,10 +7,11 @@ ghost use Rattle.hm_mem.specs.declared.Actor.TheVariants.{Thread};
 ghost use Rattle.hm_mem.specs.Memory.{Around, Memory};
 ghost use Rattle.hm_regs.specs.declared.Regs.{Regs};
 ghost use Rattle.hm_lane.specs.Predicate.{predicate_of};
-ghost use Rattle.hm_order.specs.Beats.{ActionLaws, Apart, BeatLaws, beats, then};
+ghost use Rattle.hm_order.specs.Beats.{ActionLaws, Alike, Apart, BeatLaws, beats, then};
 ghost use Rattle.hm_state.specs.State.{Rest, State, cells, state_of};
-ghost use Rattle.hm_beat.specs.Laws.{Clean, KeepsLr, MayRun, RowLaws, stopped};
-ghost use Rattle.hm_beat.specs.Meeting.{MeetAt, MeetsByte, MeetsPlace, Touches, byte_meets, clash_with, meeting, place_meets, touches_from};
+ghost use Rattle.hm_beat.specs.Laws.{AsksWhatItReads, Clean, KeepsLr, MayRun, RowLaws, stopped};
+ghost use Rattle.hm_beat.specs.Lists.{Kept, Listed, SameDone, SameRead};
+ghost use Rattle.hm_beat.specs.Meeting.{MeetAt, MeetsByte, MeetsPlace, Touches, byte_meets, clash_with, meeting, place_meets, touches, touches_from};
 ghost use Rattle.hm_beat.specs.Ordered.{ordered};
 ghost use Rattle.hm_beat.specs.Rows.{Tree, predicate_at, retired};
 ghost use Rattle.hm_beat.specs.Trees.{action, view};
@@ -22,6 +23,17 @@ use crate::BeatWise;
 pub fn frame_law()
     ensures frame { (t : Tree) → ActionLaws (view Rest cells) (action cells t) }
     ensures rest { (t : Tree) (s u : State) → (action cells t).run s ≡ Ok u → u.rest ≡ s.rest }
+{}
+
+/// The same in the words of the four lists of what a beat touches: a place or a byte stands in its list exactly where it is used or set,
+/// what stands in neither list of writes stays, and a beat depends on what is read and loaded alone. Every row asks for what it reads alone.
+pub fn lists_law()
+    ensures listed { (t : Tree) (s : State) → AsksWhatItReads t s → Listed t s }
+    ensures kept { (t : Tree) (s u : State) → (action cells t).run s ≡ Ok u → Kept (touches t s) s u }
+    // From states that agree on what is read the lists are the same, and so is what is done or why it stops.
+    ensures same_lists { (t : Tree) (s u : State) → AsksWhatItReads t s → SameRead (touches t s) s u → touches t s ≡ touches t u }
+    ensures same_done { (t : Tree) (s u : State) → AsksWhatItReads t s → SameRead (touches t s) s u
+        → Alike (SameDone (touches t s) s u) ((action cells t).run s) ((action cells t).run u) }
 {}
 
 /// The predicate of the definitions is that of the registers.

@@ -19,7 +19,7 @@ pub use clash::{Clash, meet, sooner, together_law};
 use hm_base::{Places, Spans, Stop};
 use hm_mem::Mem;
 use hm_regs::Regs;
-pub use laws::{clash_law, frame_law, overlap, rows_law};
+pub use laws::{clash_law, frame_law, lists_law, overlap, rows_law};
 pub use notes::{note_advance, note_predicate, read_word};
 pub use pair::{meet_left, two};
 

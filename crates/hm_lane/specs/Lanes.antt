@@ -33,13 +33,10 @@ unlanes Byte l = flat_map (λ (x : ℕ). x % 256 ∷ []) l
 unlanes Half l = flat_map (λ (x : ℕ). x % 256 ∷ x / 256 % 256 ∷ []) l
 unlanes Word l = flat_map bytes_of l
 
--- f of the lanes of two lists of bytes, modulo the size of a lane
+-- f of the elements of two lists
 abbrev pub paired : (ℕ → ℕ → ℕ) → List ℕ → List ℕ → List ℕ
 paired f (x ∷ xs) (y ∷ ys) = f x y ∷ paired f xs ys
 paired f _ _ = []
-
-abbrev pub lanewise : Size → (ℕ → ℕ → ℕ) → List ℕ → List ℕ → List ℕ
-lanewise z f v w = unlanes z (paired f (lanes z v) (lanes z w))
 
 -- the new bytes where the predicate is true, the old ones elsewhere
 abbrev pub merged : List Bool → List ℕ → List ℕ → List ℕ
@@ -61,7 +58,3 @@ spread Word l = flat_map (λ (v : Bool). v ∷ false ∷ false ∷ false ∷ [])
 abbrev pub paired_tests : (ℕ → ℕ → Bool) → List ℕ → List ℕ → List Bool
 paired_tests g (x ∷ xs) (y ∷ ys) = g x y ∷ paired_tests g xs ys
 paired_tests g _ _ = []
-
--- where g holds of the lanes of two lists of bytes
-abbrev pub lane_tests : Size → (ℕ → ℕ → Bool) → List ℕ → List ℕ → List Bool
-lane_tests z g v w = spread z (paired_tests g (lanes z v) (lanes z w))

@@ -5,11 +5,9 @@ mod lanes;
 mod laws;
 mod masks;
 
-pub use lanes::{LaneOp, LaneTest, Size, bytes, word, zip_lanes, zip_tests};
+pub use lanes::{Size, bytes, word};
 pub use laws::{finish_law, lanes_law, predicate_law};
-pub use masks::{
-    advance, context, finish, finish_register, finish_whole, first_active, merge, predicate,
-};
+pub use masks::{advance, context, finish, merge, predicate};
 
 #[cfg(test)]
 mod tests;

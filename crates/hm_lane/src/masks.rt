@@ -1,12 +1,11 @@
 //! The predicate of the registers, and what each beat does to the masks.
 
-ghost use Rattle.std.specs.Prelude.{ℕ, ◌≡◌, ◌≤◌, ◌<◌, ◌+◌, ◌*◌, ◌==◌, if◌then◌else◌, eqb, ltb, ◌∷◌};
+ghost use Rattle.std.specs.Prelude.{ℕ, ◌≡◌, ◌≤◌, ◌<◌, ◌+◌, ◌*◌, ◌==◌, if◌then◌else◌, eqb, ltb};
 ghost use Rattle.std.specs.Int.{bit_at};
 ghost use Rattle.hm_base.specs.Place.{IsPlace, range_of};
-ghost use Rattle.hm_base.specs.declared.Place.TheVariants.{QWord, R};
-ghost use Rattle.hm_regs.specs.Writes.{apply, write};
+ghost use Rattle.hm_regs.specs.Writes.{apply};
 ghost use Rattle.hm_lane.specs.Lanes.{bytes_of, word_of, merged};
-ghost use Rattle.hm_lane.specs.Predicate.{active_word, advance_writes, bits_of_word, finish_writes, first, in_tail, mask_bit, mask_place, predicate_of, truths_of, with_context};
+ghost use Rattle.hm_lane.specs.Predicate.{active_word, advance_writes, bits_of_word, finish_writes, in_tail, mask_bit, mask_place, predicate_of, truths_of, with_context};
 
 use crate::lanes::{bytes, word};
 use hm_base::{Place, bits};
@@ -106,35 +105,6 @@ pub fn finish(r: &mut Regs, d: u8, b: u8, new: u32)
     let p = predicate(r);
     let old = r.get(place);
     r.set(place, merge(old, new, p, b));
-    advance(r, b);
-}
-
-/// Puts a word into word `b` of vector register `d`, active or not, and advances the masks. `d` is below 8 and `b`
-/// below 4.
-pub fn finish_whole(r: &mut Regs, d: u8, b: u8, new: u32)
-    requires register { d < 8 }
-    requires beat { b < 4 }
-    ensures { r.new ≡ apply (write (QWord (4 * d + b)) new ∷ advance_writes b r.old) r.old }
-{
-    r.set(Place::QWord(4 * d + b), new);
-    advance(r, b);
-}
-
-/// Whether the lowest byte of word `b` is active. `b` is below 4.
-pub fn first_active(r: &Regs, b: u8) -> bool
-    requires { b < 4 }
-    ensures { result ≡ first (active_word r.now b) }
-{
-    (predicate(r) >> (4 * b)) % 2 == 1
-}
-
-/// Puts a number into a register, and advances the masks after beat `b`. `d` is at most 14 and `b` below 4.
-pub fn finish_register(r: &mut Regs, d: u8, b: u8, new: u32)
-    requires register { d ≤ 14 }
-    requires beat { b < 4 }
-    ensures { r.new ≡ apply (write (R d) new ∷ advance_writes b r.old) r.old }
-{
-    r.set(Place::R(d), new);
     advance(r, b);
 }
 
