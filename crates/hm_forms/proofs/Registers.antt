@@ -1,0 +1,110 @@
+-- What forms do to whole registers is what they do word by word.
+use Rattle.std.proofs.Common.{◌≡◌, ℕ, zero, suc, ◌+◌, ◌*◌, ◌/◌, ◌%◌, ◌<◌, Bool, true, false, not, ◌||◌, cond, eqb, nat_eq, List, [], ◌∷◌, ◌++◌, map, None, refl, sym, ◌∙◌, ap, arith}
+use Rattle.hm_base.specs.declared.Place.{Place}
+use Rattle.hm_isa.specs.declared.vectors.V6.{V6}
+use Rattle.hm_isa.specs.declared.vectors.V9.{V9}
+use Rattle.hm_lane.specs.declared.lanes.Size.{Size}
+use Rattle.hm_lane.specs.declared.lanes.Size.TheVariants.{Byte, Half, Word}
+use Rattle.hm_lane.specs.Lanes.{bytes_of, lanes, paired, unlanes, word_of}
+use Rattle.hm_state.specs.Store.{flagged, put_all}
+use Rattle.hm_state.specs.State.{State, at, cells}
+use Rattle.hm_beat.specs.Rows.{retired, word_place}
+use Rattle.hm_kinds.specs.Row.{Row, outs_at, row_whole, slice_at, values_at}
+use Rattle.hm_lane_fns.specs.Words.{size_of}
+use Rattle.hm_forms.specs.declared.longer.Longer.{Longer}
+use Rattle.hm_forms.specs.Forms.{every_second, exchanged, in_turn, lengthened, longer_new, longer_row, other_word, product, turned_at, turned_lane, turned_new, turned_row, wide_at, wide_new, wide_row, wide_word, words_row}
+use Rattle.hm_forms.specs.Registers.{longer_result, merged_whole, turned_result, wide_result}
+use Rattle.hm_forms.proofs.Wholes.{advances, bytes_of-word}
+
+-- the bytes of four words
+abbrev four : (ℕ → ℕ) → List ℕ
+four x = bytes_of (x 0) ++ bytes_of (x 1) ++ bytes_of (x 2) ++ bytes_of (x 3)
+
+module _ (w : Bool) (d : ℕ) (sources : ℕ → List Place) (f : ℕ → ℕ → List ℕ → ℕ) (s : State) where
+  abbrev row : Row
+  row = words_row w d sources f None
+
+  -- a row that merges words merges the bytes of the four
+  words_whole : row_whole row s ≡ merged_whole d (four (λ b. f b (slice_at row b s) (values_at row b s))) s
+  words_whole = λ j. retired (advances row s (put_all cells (outs_at row 0 s (row.outs 0) ++ outs_at row 1 s (row.outs 1) ++ outs_at row 2 s (row.outs 2) ++ outs_at row 3 s (row.outs 3)) s) refl refl j)
+
+-- NEIGHBOURS
+abbrev turn : (Bool → ℕ → ℕ → ℕ) → Size → Bool → List ℕ → List ℕ → List ℕ
+turn f z even v w = unlanes z (in_turn f even (lanes z v) (exchanged (lanes z w)))
+
+-- the bytes of one word are those of the word that they make
+turn_back : (f : Bool → ℕ → ℕ → ℕ) (z : Size) (even : Bool) (x y : ℕ) → turn f z even (bytes_of x) (bytes_of y) ≡ bytes_of (word_of (turn f z even (bytes_of x) (bytes_of y)))
+turn_back f Byte even x y = bytes_of-word _ _ _ _ (omega arith) (omega arith) (omega arith) (omega arith)
+turn_back f Half even x y = bytes_of-word _ _ _ _ (omega arith) (omega arith) (omega arith) (omega arith)
+turn_back f Word even x y = bytes_of-word _ _ _ _ (omega arith) (omega arith) (omega arith) (omega arith)
+
+turned_words : (z : ℕ) → z < 3 → (f : Bool → ℕ → ℕ → ℕ) (x y : ℕ → ℕ) → turn f (size_of z) true (four x) (four y)
+    ≡ four (λ b. word_of (turn f (size_of z) (not (nat_eq z 2) || eqb (b % 2) 0) (bytes_of (x b)) (bytes_of (y (cond (nat_eq z 2) (other_word b) b)))))
+turned_words zero h f x y = λ j. turn_back f Byte true (x 0) (y 0) j ++ turn_back f Byte true (x 1) (y 1) j ++ turn_back f Byte true (x 2) (y 2) j ++ turn_back f Byte true (x 3) (y 3) j
+turned_words (suc zero) h f x y = λ j. turn_back f Half true (x 0) (y 0) j ++ turn_back f Half true (x 1) (y 1) j ++ turn_back f Half true (x 2) (y 2) j ++ turn_back f Half true (x 3) (y 3) j
+turned_words (suc (suc zero)) h f x y = λ j. turn_back f Word true (x 0) (y 1) j ++ turn_back f Word false (x 1) (y 0) j ++ turn_back f Word true (x 2) (y 3) j ++ turn_back f Word false (x 3) (y 2) j
+turned_words (suc (suc (suc z))) h f x y = absurd (omega arith)
+
+pub turned_is : (r : V9) (s : State) → row_whole (turned_row r) s ≡ merged_whole r.d.value (turned_result r s) s
+turned_is r s = words_whole false r.d.value (λ b. word_place r.n.value b ∷ word_place r.m.value (turned_at r b) ∷ []) (λ b slice. turned_new r b) s
+    ∙ ap (λ u. merged_whole r.d.value u s)
+    (sym (turned_words r.z.value r.z.in_range (turned_lane r (size_of r.z.value)) (λ b. at (word_place r.n.value b) s) (λ b. at (word_place r.m.value b) s)))
+
+-- LANES MADE LONGER
+abbrev every : (ℕ → ℕ) → Bool → Size → Size → List ℕ → List ℕ
+every f odd z wide v = unlanes wide (map f (every_second odd (lanes z v)))
+
+every_byte : (f : ℕ → ℕ) (odd : Bool) (x : ℕ) → every f odd Byte Half (bytes_of x) ≡ bytes_of (word_of (every f odd Byte Half (bytes_of x)))
+every_byte f odd x = bytes_of-word _ _ _ _ (omega arith) (omega arith) (omega arith) (omega arith)
+
+every_half : (f : ℕ → ℕ) (odd : Bool) (x : ℕ) → every f odd Half Word (bytes_of x) ≡ bytes_of (word_of (every f odd Half Word (bytes_of x)))
+every_half f odd x = bytes_of-word _ _ _ _ (omega arith) (omega arith) (omega arith) (omega arith)
+
+longer_words : (halves : Bool) (f : Size → ℕ → ℕ) (odd : Bool) (x : ℕ → ℕ) → cond halves (every (f Half) odd Half Word (four x)) (every (f Byte) odd Byte Half (four x))
+    ≡ four (λ b. cond halves (word_of (every (f Half) odd Half Word (bytes_of (x b)))) (word_of (every (f Byte) odd Byte Half (bytes_of (x b)))))
+longer_words true f odd x = λ j. every_half (f Half) odd (x 0) j ++ every_half (f Half) odd (x 1) j ++ every_half (f Half) odd (x 2) j ++ every_half (f Half) odd (x 3) j
+longer_words false f odd x = λ j. every_byte (f Byte) odd (x 0) j ++ every_byte (f Byte) odd (x 1) j ++ every_byte (f Byte) odd (x 2) j ++ every_byte (f Byte) odd (x 3) j
+
+pub longer_is : (r : Longer) (s : State) → row_whole (longer_row r) s ≡ merged_whole r.d.value (longer_result r s) s
+longer_is r s = words_whole false r.d.value (λ b. word_place r.m.value b ∷ []) (λ b slice. longer_new r) s
+    ∙ ap (λ u. merged_whole r.d.value u s) (sym (longer_words r.halves (lengthened r) r.odd (λ b. at (word_place r.m.value b) s)))
+
+-- PRODUCTS
+abbrev pairs : (ℕ → ℕ → ℕ) → Bool → Size → Size → List ℕ → List ℕ → List ℕ
+pairs f odd z wide v w = unlanes wide (paired f (every_second odd (lanes z v)) (every_second odd (lanes z w)))
+
+pairs_byte : (f : ℕ → ℕ → ℕ) (odd : Bool) (x y : ℕ) → pairs f odd Byte Half (bytes_of x) (bytes_of y) ≡ bytes_of (word_of (pairs f odd Byte Half (bytes_of x) (bytes_of y)))
+pairs_byte f odd x y = bytes_of-word _ _ _ _ (omega arith) (omega arith) (omega arith) (omega arith)
+
+pairs_half : (f : ℕ → ℕ → ℕ) (odd : Bool) (x y : ℕ) → pairs f odd Half Word (bytes_of x) (bytes_of y) ≡ bytes_of (word_of (pairs f odd Half Word (bytes_of x) (bytes_of y)))
+pairs_half f odd x y = bytes_of-word _ _ _ _ (omega arith) (omega arith) (omega arith) (omega arith)
+
+module _ (r : V6) (s : State) where
+  -- the new word of beat b, if this were the size
+  abbrev wide_of : ℕ → ℕ → ℕ
+  wide_of z b =
+      let k = cond (nat_eq z 2) (2 * (b / 2) + r.t.value) b in
+      wide_word r (size_of z) b (at (word_place r.n.value k) s) (at (word_place r.m.value k) s)
+
+  by_size : row_whole (wide_row r) s ≡ merged_whole r.d.value (four (wide_of r.z.value)) s
+  by_size = words_whole false r.d.value (λ b. word_place r.n.value (wide_at r b) ∷ word_place r.m.value (wide_at r b) ∷ []) (λ b slice. wide_new r b) s
+
+  abbrev first : ℕ → ℕ
+  first b = at (word_place r.n.value b) s
+
+  abbrev second : ℕ → ℕ
+  second b = at (word_place r.m.value b) s
+
+  pub wide_bytes : r.z.value ≡ 0 → row_whole (wide_row r) s ≡ merged_whole r.d.value (wide_result r Byte Half s) s
+  wide_bytes e =
+      let odd = nat_eq r.t.value 1 in
+      by_size ∙ (λ j. merged_whole r.d.value (four (wide_of (e j))) s)
+      ∙ ap (λ u. merged_whole r.d.value u s) (sym (λ j. pairs_byte (product r) odd (first 0) (second 0) j ++ pairs_byte (product r) odd (first 1) (second 1) j
+      ++ pairs_byte (product r) odd (first 2) (second 2) j ++ pairs_byte (product r) odd (first 3) (second 3) j))
+
+  pub wide_halves : r.z.value ≡ 1 → row_whole (wide_row r) s ≡ merged_whole r.d.value (wide_result r Half Word s) s
+  wide_halves e =
+      let odd = nat_eq r.t.value 1 in
+      by_size ∙ (λ j. merged_whole r.d.value (four (wide_of (e j))) s)
+      ∙ ap (λ u. merged_whole r.d.value u s) (sym (λ j. pairs_half (product r) odd (first 0) (second 0) j ++ pairs_half (product r) odd (first 1) (second 1) j
+      ++ pairs_half (product r) odd (first 2) (second 2) j ++ pairs_half (product r) odd (first 3) (second 3) j))

@@ -1,0 +1,18 @@
+use Rattle.hm_forms.proofs.Registers.{longer_is, turned_is, wide_bytes, wide_halves}
+use Rattle.hm_forms.proofs.Wholes.{lanes_is}
+use Rattle.hm_forms.proofs.laws.registers_law.Goals as goal
+
+pub returns-clause-lanes : goal.returns-clause-lanes
+returns-clause-lanes c = lanes_is
+
+pub returns-clause-turned : goal.returns-clause-turned
+returns-clause-turned c = turned_is
+
+pub returns-clause-longer : goal.returns-clause-longer
+returns-clause-longer c = longer_is
+
+pub returns-clause-wide_bytes : goal.returns-clause-wide_bytes
+returns-clause-wide_bytes c = wide_bytes
+
+pub returns-clause-wide_halves : goal.returns-clause-wide_halves
+returns-clause-wide_halves c = wide_halves

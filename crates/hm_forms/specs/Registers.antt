@@ -1,0 +1,40 @@
+-- What forms do to whole registers, as lists of elements in rising order.
+use Rattle.std.specs.Prelude.{ℕ, Bool, true, cond, List, ◌++◌, map, nat_eq}
+use Rattle.hm_isa.specs.declared.vectors.V6.{V6}
+use Rattle.hm_isa.specs.declared.vectors.V9.{V9}
+use Rattle.hm_lane.specs.declared.lanes.Size.{Size}
+use Rattle.hm_lane.specs.declared.lanes.Size.TheVariants.{Byte, Half, Word}
+use Rattle.hm_lane.specs.Lanes.{lanes, merged, paired, unlanes}
+use Rattle.hm_state.specs.Store.{put_all}
+use Rattle.hm_state.specs.State.{State, cells}
+use Rattle.hm_beat.specs.Rows.{advance_half, predicate_at, register_at, retired, write_register}
+use Rattle.hm_lane_fns.specs.Words.{size_of}
+use Rattle.hm_forms.specs.declared.longer.Longer.{Longer}
+use Rattle.hm_forms.specs.Forms.{every_second, exchanged, in_turn, lengthened, product, turned_lane}
+
+-- 16 bytes are merged into a register under the predicate, and the masks advance
+abbrev pub merged_whole : ℕ → List ℕ → State → State
+merged_whole d result s = retired (put_all cells (write_register d (merged (predicate_at s) (register_at d s) result) ++ advance_half 0 s ++ advance_half 2 s) s)
+
+-- the elements of a register
+abbrev pub elements : Size → ℕ → State → List ℕ
+elements z q s = lanes z (register_at q s)
+
+-- to each element its neighbour is added, or it is taken away
+abbrev pub turned_result : V9 → State → List ℕ
+turned_result r s =
+    let z = size_of r.z.value in
+    unlanes z (in_turn (turned_lane r z) true (elements z r.n.value s) (exchanged (elements z r.m.value s)))
+
+-- every second element of one size becomes one of the other
+abbrev pub lengthened_result : Longer → Size → Size → State → List ℕ
+lengthened_result r z wide s = unlanes wide (map (lengthened r z) (every_second r.odd (elements z r.m.value s)))
+
+abbrev pub longer_result : Longer → State → List ℕ
+longer_result r s = cond r.halves (lengthened_result r Half Word s) (lengthened_result r Byte Half s)
+
+-- the products of every second elements
+abbrev pub wide_result : V6 → Size → Size → State → List ℕ
+wide_result r z wide s =
+    let odd = nat_eq r.t.value 1 in
+    unlanes wide (paired (product r) (every_second odd (elements z r.n.value s)) (every_second odd (elements z r.m.value s)))
