@@ -1,71 +1,67 @@
--- The steps of a row that has beats.
-use Rattle.std.proofs.Common.{◌≡◌, ℕ, zero, suc, ◌+◌, ◌-◌, ◌==◌, ◌<◌, nat_eq, nat_lt, arith, ap, refl, sym, ◌∙◌, add-one, Bool, true, false, not, ◌&&◌, ◌||◌, cond, List, Option, Some, None, Result, Ok, Err}
+-- The steps of the older instruction.
+use Rattle.std.proofs.Common.{◌≡◌, ℕ, zero, suc, ◌+◌, ◌-◌, ◌==◌, ◌<◌, arith, ap, refl, sym, ◌∙◌, add-one, Bool, true, false, not, IsTrue, cond, List, Option, Some, None, Result, Ok, Err}
 use Rattle.std.proofs.lemmas.Bool.Decides.{nat_tests}
 use Rattle.hm_base.specs.declared.Fault.{Fault}
-use Rattle.hm_base.specs.declared.FaultKind.TheVariants.{InvState}
-use Rattle.hm_base.specs.declared.Place.TheVariants.{Ltp}
 use Rattle.hm_base.specs.declared.Stop.{Stop}
+use Rattle.hm_base.specs.declared.Stop.TheVariants as stop
+use Rattle.hm_beat.specs.Laws.{Beats}
 use Rattle.hm_beat.specs.Ordered.{of_four}
 use Rattle.hm_beat.specs.Trees.{action}
 use Rattle.hm_codes.specs.Listing.{Listing}
 use Rattle.hm_isa.specs.declared.Instr.{Instr}
 use Rattle.hm_isa.specs.declared.Vector.{Vector}
 use Rattle.hm_lane.specs.Predicate as lane
-use Rattle.hm_machine.specs.Cpus.{config_of, state_in}
+use Rattle.hm_machine.specs.Cpus.{config_of, executed, state_in}
 use Rattle.hm_machine.specs.declared.cpu.Cpu.{Cpu}
 use Rattle.hm_mem.specs.Memory.{Around, Memory, memory_of}
 use Rattle.hm_order.specs.Beats.{then}
 use Rattle.hm_order.specs.Machine as order
 use Rattle.hm_order.specs.Machine.{Config, begin, begun, done, older, settle}
 use Rattle.hm_plain.proofs.Vectors.{beat_pc}
-use Rattle.hm_regs.specs.Place.{value_at}
+use Rattle.hm_regs.specs.Place.{Counted, InRange}
 use Rattle.hm_regs.specs.declared.Regs.{Regs}
-use Rattle.hm_rows.proofs.Context.{context_is}
+use Rattle.hm_rows.proofs.Context.{context_is, context_there}
 use Rattle.hm_rows.specs.Context.{with_context}
-use Rattle.hm_rows.specs.Rows.{refuse, vector_tree, writes_lr}
-use Rattle.hm_run.proofs.Steps.{older_vector, older_other, past}
+use Rattle.hm_rows.specs.Rows.{refuse, vector_tree}
+use Rattle.hm_run.proofs.Steps.{halting_makes, makes_other, makes_row, no_row, older_vector, older_other, other_is, past}
 use Rattle.hm_run.specs.declared.Cause.{Cause}
-use Rattle.hm_run.specs.Program.{Program, Stepped, caused, core, rows, vector_of, again, in_machine, made_by, unless_refused, whole_here}
-use Rattle.hm_state.proofs.Beside.{at_is, pc_is}
-use Rattle.hm_state.specs.State.{State, cells, state_of}
+use Rattle.hm_run.specs.declared.Cause.TheVariants as cause
+use Rattle.hm_run.specs.declared.Reason.{Reason}
+use Rattle.hm_run.specs.Program.{Program, Stepped, caused, core, done_in_machine, in_machine, made_here, makes_here, other_by, other_here, rows, to_end, unless_refused, vector_of}
+use Rattle.hm_run.specs.Stops.{halt_of, unless_halted}
+use Rattle.hm_state.proofs.Beside.{pc_is}
+use Rattle.hm_state.proofs.Registers.{registers_are}
+use Rattle.hm_state.specs.State.{State, cells, regs_of, state_of}
+use Rattle.hm_thumb.specs.Families.{is_vector_row}
+use Rattle.hm_thumb.specs.Rows.{made, makes_context}
+use Rattle.hm_whole.specs.Whole.{scalar_in_machine}
 
--- once one more instruction is retired, what is left of W does nothing
-pub again_over : (M : Program) (k n : ℕ) (c : Config State) → (c.n ≡ n → ⊥) → again M k n c ≡ Ok c
-again_over M zero n c past = refl
-again_over M (suc k) n c past =
-    let test : (c.n == n) ≡ false = grind (arith, nat_tests, past) in
-    rw test refl
+-- THE LETTER W
+abbrev further : Program → ℕ → Config State → Config State → Stepped
+further M j c d = cond (d.a == suc c.a) (to_end M j d) (Ok d)
 
--- and while none is, it does one more step
-pub again_on : (M : Program) (k n : ℕ) (c : Config State) → c.n ≡ n → again M (suc k) n c ≡ then (older M c) (again M k n)
-again_on M k n c e =
-    let test : (c.n == n) ≡ true = grind (arith, nat_tests, e) in
-    rw test refl
+-- a step of it that stops, one that retires the instruction, and one that does not
+pub to_end_stops : (M : Program) (k : ℕ) (c d : Config State) (e : Cause) → k < 4 → Err (order.Stopped d e) ≡ older M c → Err (order.Stopped d e) ≡ to_end M (4 - k) c
+to_end_stops M k c d e few step =
+    let left : 4 - k ≡ suc (4 - (k + 1)) = omega arith in
+    sym (ap (λ (j : ℕ). to_end M j c) left ∙ ap (λ (y : Stepped). then y (further M (4 - (k + 1)) c)) (sym step))
 
--- a step of it that stops, and one that is done
-pub again_stops : (M : Program) (k n : ℕ) (c d : Config State) (e : Cause) → k < 3 → c.n ≡ n → Err (order.Stopped d e) ≡ older M c → Err (order.Stopped d e) ≡ again M (3 - k) n c
-again_stops M k n c d e few same step =
-    let left : 3 - k ≡ suc (3 - (k + 1)) = omega arith in
-    sym (ap (λ (j : ℕ). again M j n c) left ∙ again_on M (3 - (k + 1)) n c same ∙ ap (λ (y : Stepped). then y (again M (3 - (k + 1)) n)) (sym step))
+pub to_end_over : (M : Program) (k : ℕ) (c d : Config State) → k < 4 → (d.a ≡ c.a + 1 → ⊥) → Ok d ≡ older M c → Ok d ≡ to_end M (4 - k) c
+to_end_over M k c d few over step =
+    let left : 4 - k ≡ suc (4 - (k + 1)) = omega arith in
+    let test : (d.a == suc c.a) ≡ false = grind (arith, nat_tests, over) in
+    sym (ap (λ (j : ℕ). to_end M j c) left ∙ ap (λ (y : Stepped). then y (further M (4 - (k + 1)) c)) (sym step) ∙ ap (λ (q : Bool). cond q (to_end M (4 - (k + 1)) d) (Ok d)) test)
 
-pub again_goes_on : (M : Program) (k n : ℕ) (c d : Config State) → k < 3 → c.n ≡ n → Ok d ≡ older M c → again M (3 - (k + 1)) n d ≡ again M (3 - k) n c
-again_goes_on M k n c d few same step =
-    let left : 3 - k ≡ suc (3 - (k + 1)) = omega arith in
-    sym (ap (λ (j : ℕ). again M j n c) left ∙ again_on M (3 - (k + 1)) n c same ∙ ap (λ (y : Stepped). then y (again M (3 - (k + 1)) n)) (sym step))
+pub to_end_on : (M : Program) (k : ℕ) (c d : Config State) → k < 4 → d.a ≡ c.a + 1 → Ok d ≡ older M c → to_end M (4 - (k + 1)) d ≡ to_end M (4 - k) c
+to_end_on M k c d few on step =
+    let left : 4 - k ≡ suc (4 - (k + 1)) = omega arith in
+    let test : (d.a == suc c.a) ≡ true = grind (arith, nat_tests, on) in
+    sym (ap (λ (j : ℕ). to_end M j c) left ∙ ap (λ (y : Stepped). then y (further M (4 - (k + 1)) c)) (sym step) ∙ ap (λ (q : Bool). cond q (to_end M (4 - (k + 1)) d) (Ok d)) test)
 
 -- BEATS
 -- the context that is made
 pub context_made : (old new : Regs) (m : Memory) (output : List ℕ) → new ≡ lane.with_context old → state_of new m output ≡ with_context (state_of old m output)
 context_made old new m output e = ap (λ (r : Regs). state_of r m output) e ∙ context_is old m output
-
--- whether a row may not run
-pub refused_is : (v : Vector) (r : Regs) (m : Memory) (output : List ℕ) (q : Bool)
-    → q ≡ (not (nat_eq r.it 0) || (writes_lr v && nat_lt (value_at Ltp r) 4 && r.fpca))
-    → cond q (Some (record { kind = InvState; addr = r.pc })) None ≡ refuse v (state_of r m output)
-unfolding state_of
-refused_is v r m output q e =
-    ap (λ (y : Bool). cond y (Some (record { kind = InvState; addr = r.pc })) None) e
-    ∙ ap (λ (n : ℕ). cond (not (nat_eq r.it 0) || (writes_lr v && nat_lt n 4 && r.fpca)) (Some (record { kind = InvState; addr = r.pc })) None) (sym (at_is r m output Ltp refl))
 
 -- what comes before a beat
 pub begins_first : (listing : Listing) (around : Around) (v : Vector) (done : ℕ) (s t : State) (o : Option Fault)
@@ -79,11 +75,18 @@ pub begins_later : (listing : Listing) (around : Around) (v : Vector) (done : �
 begins_later listing around v zero s h = absurd (omega arith)
 begins_later listing around v (suc done) s h = refl
 
--- the beat, which leaves the program counter
-pub beat_stays : (v : Vector) (b : ℕ) (old new : Regs) (m : Memory) (output : List ℕ)
-    → ((rows m.around).act v b).run (state_of old m output) ≡ Ok (state_of new m output) → new.pc ≡ old.pc
+-- what a beat answered
+pub beat_is : (q : Result State Stop) (x : Result Unit Stop) (y : Result Unit Cause) (r t : Regs) (m n : Memory) (output : List ℕ)
+    → Beats q x r m t n output → ((u : Unit) → x ≡ Ok u → y ≡ Ok u) → ((e : Stop) → x ≡ Err e → y ≡ Err (cause.Stop e)) → executed y (state_of t n output) ≡ caused q
+beat_is (Ok s) (Ok u) y r t m n output h done stops = ap (λ (z : Result Unit Cause). executed z (state_of t n output)) (done u refl) ∙ ap Ok h.1
+beat_is (Ok s) (Err e) y r t m n output h done stops = absurd h.0
+beat_is (Err e) x y r t m n output h done stops = ap (λ (z : Result Unit Cause). executed z (state_of t n output)) (stops e h.0)
+
+-- the beat leaves the program counter
+pub beat_stays : (v : Vector) (b : ℕ) (old new : Regs) (m n : Memory) (output : List ℕ)
+    → Ok (state_of new n output) ≡ ((rows m.around).act v b).run (state_of old m output) → new.pc ≡ old.pc
 unfolding state_of
-beat_stays v b old new m output e = beat_pc (of_four (vector_tree v m.around) b) (state_of old m output) (state_of new m output) (uncaused ((action cells (of_four (vector_tree v m.around) b)).run (state_of old m output)) (state_of new m output) e)
+beat_stays v b old new m n output e = beat_pc (of_four (vector_tree v m.around) b) (state_of old m output) (state_of new n output) (uncaused ((action cells (of_four (vector_tree v m.around) b)).run (state_of old m output)) (state_of new n output) (sym e))
   where
     uncaused : (x : Result State Stop) (t : State) → caused x ≡ Ok t → x ≡ Ok t
     uncaused (Ok s) t e = let same : s ≡ t = cc in ap Ok same
@@ -104,6 +107,26 @@ module _ (listing : Listing) (x : Cpu) where
   abbrev M : Program
   M = core listing (memory_of x.mem).around
 
+  -- the context that a row makes before its first beat
+  row_begun : (v : Vector) (t : State) → vector_of (listing x.regs.pc) ≡ Some v → (x.window.a ≡ 0 → t ≡ with_context (state_in x)) → (0 < x.window.a → t ≡ state_in x)
+      → begun M (config_of x) ≡ record (config_of x) { state = t }
+  unfolding state_of
+  row_begun v t row first later = either x.window.a refl
+    where
+      c : Config State
+      c = config_of x
+
+      either : (a : ℕ) → x.window.a ≡ a → begun M (config_of x) ≡ record (config_of x) { state = t }
+      either zero e =
+          let test : (x.window.a == 0) ≡ true = grind (arith, nat_tests, e) in
+          ap (λ (q : Bool). record c { state = cond q (M.made c.state) c.state }) test
+          ∙ ap (λ (q : Bool). record c { state = cond q (with_context c.state) c.state }) (makes_row (listing x.regs.pc) v (regs_of c.state) row)
+          ∙ ap (λ (s : State). record c { state = s }) (sym (first e))
+      either (suc a) e =
+          let test : (x.window.a == 0) ≡ false = grind (arith, nat_tests, e) in
+          let some : 0 < x.window.a = omega (arith, e) in
+          ap (λ (q : Bool). record c { state = cond q (M.made c.state) c.state }) test ∙ ap (λ (s : State). record c { state = s }) (sym (later some))
+
   -- a row that is refused
   pub row_refused : (v : Vector) (t : State) (e : Cause) → vector_of (listing x.regs.pc) ≡ Some v → x.window.a ≡ 0
       → t ≡ with_context (state_in x) → Err e ≡ begin M v x.window.a (state_in x)
@@ -111,18 +134,26 @@ module _ (listing : Listing) (x : Cpu) where
   unfolding state_of
   row_refused v t e row first made stop =
       let c : Config State = config_of x in
-      let test : (x.window.a == 0) ≡ true = grind (arith, nat_tests, first) in
-      let left : begun M c ≡ record c { state = t } =
-      ap (λ (o : Option Vector). record c { state = cond (x.window.a == 0) (made_by o c.state) c.state }) row
-      ∙ ap (λ (q : Bool). record c { state = cond q (with_context c.state) c.state }) test
-      ∙ ap (λ (s : State). record c { state = s }) (sym made) in
       sym (older_vector listing (memory_of x.mem).around c v row
       ∙ ap (λ (r : Result State Cause). done M c (then r ((rows (memory_of x.mem).around).act v c.a).run) (settle M (suc c.a) c.b c.n (suc c.steps))) (sym stop)
-      ∙ ap (λ (d : Config State). Err (order.Stopped d e)) left)
+      ∙ ap (λ (d : Config State). Err (order.Stopped d e)) (row_begun v t row (λ zero. made) (λ some. absurd (omega (arith, some, first)))))
+
+  -- a beat that stops
+  pub row_stops : (v : Vector) (s : State) (e : Cause) → vector_of (listing x.regs.pc) ≡ Some v
+      → (x.window.a ≡ 0 → s ≡ with_context (state_in x)) → (0 < x.window.a → s ≡ state_in x)
+      → Ok s ≡ begin M v x.window.a (state_in x) → Err e ≡ ((rows (memory_of x.mem).around).act v x.window.a).run s
+      → Err (order.Stopped (record { a = x.window.a; b = x.window.b; n = x.retired; steps = x.older_steps; state = s }) e) ≡ older M (config_of x)
+  unfolding state_of
+  row_stops v s e row first later ready stop =
+      let c : Config State = config_of x in
+      sym (older_vector listing (memory_of x.mem).around c v row
+      ∙ ap (λ (r : Result State Cause). done M c (then r ((rows (memory_of x.mem).around).act v c.a).run) (settle M (suc c.a) c.b c.n (suc c.steps))) (sym ready)
+      ∙ ap (λ (r : Result State Cause). done M c r (settle M (suc c.a) c.b c.n (suc c.steps))) (sym stop)
+      ∙ ap (λ (d : Config State). Err (order.Stopped d e)) (row_begun v s row first later))
 
   -- a beat that is done
   pub row_done : (v : Vector) (s t : State) (d : Config State) → vector_of (listing x.regs.pc) ≡ Some v
-      → Ok s ≡ begin M v x.window.a (state_in x) → ((rows (memory_of x.mem).around).act v x.window.a).run s ≡ Ok t
+      → Ok s ≡ begin M v x.window.a (state_in x) → Ok t ≡ ((rows (memory_of x.mem).around).act v x.window.a).run s
       → d ≡ settle M (x.window.a + 1) x.window.b x.retired (x.older_steps + 1) t → Ok d ≡ older M (config_of x)
   unfolding state_of
   row_done v s t d row ready e there =
@@ -131,37 +162,96 @@ module _ (listing : Listing) (x : Cpu) where
       ∙ (λ j. Ok (settle M (add-one x.window.a j) x.window.b x.retired (add-one x.older_steps j) t))
       ∙ sym (older_vector listing (memory_of x.mem).around c v row
       ∙ ap (λ (r : Result State Cause). done M c (then r ((rows (memory_of x.mem).around).act v c.a).run) (settle M (suc c.a) c.b c.n (suc c.steps))) (sym ready)
-      ∙ ap (λ (r : Result State Cause). done M c r (settle M (suc c.a) c.b c.n (suc c.steps))) e)
+      ∙ ap (λ (r : Result State Cause). done M c r (settle M (suc c.a) c.b c.n (suc c.steps))) (sym e))
 
-  -- WHAT IS NO ROW
-  unmade : vector_of (listing x.regs.pc) ≡ None → begun M (config_of x) ≡ config_of x
-  unfolding state_of
-  unmade none =
-      let c : Config State = config_of x in
-      ap (λ (o : Option Vector). record c { state = cond (x.window.a == 0) (made_by o c.state) c.state }) none
-      ∙ ap (λ (s : State). record c { state = s }) (either (x.window.a == 0) c.state)
-    where
-      either : (q : Bool) (s : State) → cond q s s ≡ s
-      either true s = refl
-      either false s = refl
+  -- no context is made
+  unmade : (q : Bool) (s : State) → makes_here (listing x.regs.pc) (regs_of s) ≡ false
+      → record (config_of x) { state = cond q (made_here (listing x.regs.pc) s) s } ≡ record (config_of x) { state = s }
+  unmade true s none = ap (λ (b : Bool). record (config_of x) { state = cond b (with_context s) s }) none
+  unmade false s none = refl
 
-  -- one that stops
-  pub other_stops : (y : Result Instr Fault) (e : Cause) → listing x.regs.pc ≡ y → vector_of y ≡ None → Err e ≡ in_machine (whole_here y (state_in x))
-      → Err (order.Stopped (config_of x) e) ≡ older M (config_of x)
+  -- WHERE NOTHING STANDS at the program counter
+  pub none_stands : (f : Fault) → listing x.regs.pc ≡ Err f → Err (order.Stopped (config_of x) (cause.Stop (stop.Fault f))) ≡ older M (config_of x)
   unfolding state_of
-  other_stops y e here none stop =
-      let row : vector_of (listing x.regs.pc) ≡ None = ap vector_of here ∙ none in
-      sym (older_other listing (memory_of x.mem).around (config_of x) row
-      ∙ ap (λ (z : Result Instr Fault). done M (config_of x) (in_machine (whole_here z (state_in x))) (past (config_of x))) here
-      ∙ ap (λ (r : Result State Cause). done M (config_of x) r (past (config_of x))) (sym stop)
-      ∙ ap (λ (d : Config State). Err (order.Stopped d e)) (unmade row))
+  none_stands f here =
+      sym (older_other listing (memory_of x.mem).around (config_of x) (ap vector_of here)
+      ∙ ap (λ (z : Result Instr Fault). done M (config_of x) (other_here (memory_of x.mem).around z (state_in x)) (past (config_of x))) here
+      ∙ ap (λ (d : Config State). Err (order.Stopped d (cause.Stop (stop.Fault f)))) (unmade (x.window.a == 0) (state_in x)
+      (ap (λ (z : Result Instr Fault). makes_here z (regs_of (state_in x))) here)))
 
-  -- one that is done
-  pub other_done : (y : Result Instr Fault) (t : State) → listing x.regs.pc ≡ y → vector_of y ≡ None → Ok t ≡ in_machine (whole_here y (state_in x))
-      → Ok (record { a = 0; b = 0; n = x.retired + 1; steps = x.older_steps + 1; state = t }) ≡ older M (config_of x)
-  unfolding state_of
-  other_done y t here none going =
-      (λ j. Ok (record { a = 0; b = 0; n = add-one x.retired j; steps = add-one x.older_steps j; state = t }))
-      ∙ sym (older_other listing (memory_of x.mem).around (config_of x) (ap vector_of here ∙ none)
-      ∙ ap (λ (z : Result Instr Fault). done M (config_of x) (in_machine (whole_here z (state_in x))) (past (config_of x))) here
-      ∙ ap (λ (r : Result State Cause). done M (config_of x) r (past (config_of x))) (sym going))
+  -- OTHER INSTRUCTIONS
+  module _ (i : Instr) (here : listing x.regs.pc ≡ Ok i) (other : IsTrue (not (is_vector_row i))) where
+    row_none : vector_of (listing x.regs.pc) ≡ None
+    row_none = ap vector_of here ∙ no_row i other
+
+    -- what a step of it comes to
+    other_comes : (r : Result State Cause) → other_by (memory_of x.mem).around i (state_in x) ≡ r → older M (config_of x) ≡ done M (config_of x) r (past (config_of x))
+    unfolding state_of
+    other_comes r e =
+        older_other listing (memory_of x.mem).around (config_of x) row_none
+        ∙ ap (λ (z : Result Instr Fault). done M (config_of x) (other_here (memory_of x.mem).around z (state_in x)) (past (config_of x))) here
+        ∙ ap (λ (r : Result State Cause). done M (config_of x) r (past (config_of x))) (other_is (memory_of x.mem).around i (state_in x) other ∙ e)
+
+    makes_is : (r : Regs) → makes_here (listing x.regs.pc) r ≡ makes_context i r
+    makes_is r = ap (λ (z : Result Instr Fault). makes_here z r) here ∙ makes_other i r other
+
+    -- one that halts
+    pub other_halts : (reason : Reason) → Some reason ≡ halt_of i → Err (order.Stopped (config_of x) (cause.Halt reason)) ≡ older M (config_of x)
+    unfolding state_of
+    other_halts reason halt =
+        let none : makes_context i (regs_of (state_in x)) ≡ false = halting_makes i (regs_of (state_in x)) (λ e. let no : Some reason ≡ None = halt ∙ e in cc) in
+        sym (other_comes (Err (cause.Halt reason)) (ap (λ (o : Option Reason). unless_halted cause.Halt o (done_in_machine (scalar_in_machine (memory_of x.mem).around i (state_in x)))) (sym halt))
+        ∙ ap (λ (d : Config State). Err (order.Stopped d (cause.Halt reason))) (unmade (x.window.a == 0) (state_in x) (makes_is (regs_of (state_in x)) ∙ none)))
+
+    by_none : None ≡ halt_of i → other_by (memory_of x.mem).around i (state_in x) ≡ done_in_machine (scalar_in_machine (memory_of x.mem).around i (state_in x))
+    by_none halt = ap (λ (o : Option Reason). unless_halted cause.Halt o (done_in_machine (scalar_in_machine (memory_of x.mem).around i (state_in x)))) (sym halt)
+
+    -- one that is done
+    pub other_done : (t : State) → None ≡ halt_of i → Ok t ≡ done_in_machine (scalar_in_machine (memory_of x.mem).around i (state_in x))
+        → Ok (record { a = 0; b = 0; n = x.retired + 1; steps = x.older_steps + 1; state = t }) ≡ older M (config_of x)
+    unfolding state_of
+    other_done t halt going =
+        (λ j. Ok (record { a = 0; b = 0; n = add-one x.retired j; steps = add-one x.older_steps j; state = t }))
+        ∙ sym (other_comes (Ok t) (by_none halt ∙ sym going))
+
+    fpca_here : (state_in x).rest.fpca ≡ x.regs.fpca
+    unfolding state_of
+    fpca_here = refl
+
+    -- the context that it makes, by whether the position is before its first beat
+    ready : IsTrue x.regs.fpca → with_context (state_in x) ≡ state_in x
+    ready there = context_there (state_in x) (fpca_here ∙ (let is : x.regs.fpca ≡ true = cc in is))
+
+    either_still : (b : Bool) → with_context (state_in x) ≡ state_in x → state_in x ≡ cond b (with_context (state_in x)) (state_in x)
+    either_still true e = sym e
+    either_still false e = refl
+
+    by_position : (a : ℕ) → x.window.a ≡ a → (0 < x.window.a → IsTrue x.regs.fpca) → (s : State) → s ≡ cond (makes_context i x.regs) (with_context (state_in x)) (state_in x)
+        → cond (a == 0) s (state_in x) ≡ cond (makes_context i x.regs) (with_context (state_in x)) (state_in x)
+    by_position zero e context s h = h
+    by_position (suc a) e context s h = let some : 0 < x.window.a = omega (arith, e) in either_still (makes_context i x.regs) (ready (context some))
+
+    chosen : (b : Bool) → cond b (with_context (state_in x)) (state_in x) ≡ state_of (cond b (lane.with_context x.regs) x.regs) (memory_of x.mem) x.output.items
+    chosen true = sym (context_is x.regs (memory_of x.mem) x.output.items)
+    chosen false = refl
+
+    made_is : InRange x.regs → Counted x.regs → made_here (listing x.regs.pc) (state_in x) ≡ cond (makes_context i x.regs) (with_context (state_in x)) (state_in x)
+    made_is range counted =
+        ap (λ (b : Bool). cond b (with_context (state_in x)) (state_in x))
+        (makes_is (regs_of (state_in x)) ∙ ap (makes_context i) (registers_are x.regs (memory_of x.mem) x.output.items counted range.fpscr_fits range.vpr_fits))
+
+    begun_is : InRange x.regs → Counted x.regs → (0 < x.window.a → IsTrue x.regs.fpca)
+        → begun M (config_of x) ≡ record (config_of x) { state = state_of (made i x.regs) (memory_of x.mem) x.output.items }
+    unfolding state_of
+    begun_is range counted context =
+        ap (λ (s : State). record (config_of x) { state = s })
+        (by_position x.window.a refl context (made_here (listing x.regs.pc) (state_in x)) (made_is range counted) ∙ chosen (makes_context i x.regs))
+
+    -- one that stops
+    pub other_stops : (e : Cause) (t : Regs) (n : Memory) → InRange x.regs → Counted x.regs → (0 < x.window.a → IsTrue x.regs.fpca) → None ≡ halt_of i
+        → Err e ≡ done_in_machine (scalar_in_machine (memory_of x.mem).around i (state_in x)) → t ≡ made i x.regs → n ≡ memory_of x.mem
+        → Err (order.Stopped (record { a = x.window.a; b = x.window.b; n = x.retired; steps = x.older_steps; state = state_of t n x.output.items }) e) ≡ older M (config_of x)
+    other_stops e t n range counted context halt stop registers memory =
+        (λ j. Err (order.Stopped (record (config_of x) { state = state_of (registers j) (memory j) x.output.items }) e))
+        ∙ ap (λ (c : Config State). Err (order.Stopped c e)) (sym (begun_is range counted context))
+        ∙ sym (other_comes (Err e) (by_none halt ∙ sym stop))

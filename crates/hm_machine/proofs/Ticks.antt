@@ -1,24 +1,27 @@
 -- One tick of the machine.
-use Rattle.std.proofs.Common.{◌≡◌, ℕ, suc, zero, ◌+◌, ◌-◌, ◌≤◌, ◌<◌, arith, ap, refl, sym, ◌∙◌, subst, true, List, [], ◌∷◌, drop, drop-drop, length, length-drop, Ok, Err, Option, Some, None, add-one, add-zero, add-suc}
+use Rattle.std.proofs.Common.{◌≡◌, ℕ, suc, zero, ◌+◌, ◌-◌, ◌≤◌, ◌<◌, arith, ap, refl, sym, ◌∙◌, subst, true, false, List, [], ◌∷◌, drop, drop-drop, length, length-drop, Ok, Err, Option, Some, None, add-one, add-zero, add-suc}
 use Rattle.hm_base.specs.Image.{Segment}
 use Rattle.hm_codes.specs.Listing.{Listing, IsListing}
 use Rattle.hm_machine.specs.Machines.{left_in, left_while, HasTick}
 use Rattle.hm_machine.specs.Shown.{Shown, Shows, timed_of}
-use Rattle.hm_mem.specs.Memory.{Around, Memory, flash_at, first_devices}
+use Rattle.hm_mem.specs.Memory.{Around, Memory, flash_at}
+use Rattle.hm_mem.specs.Seen.{with_dev}
+use Rattle.hm_mem.specs.declared.Dev.{Dev}
 use Rattle.hm_order.specs.Machine.{Config, End}
 use Rattle.hm_regs.specs.declared.Regs.{Regs}
 use Rattle.hm_run.proofs.Steps as step
 use Rattle.hm_run.specs.declared.Outcome.{Outcome}
 use Rattle.hm_run.specs.declared.Outcome.TheVariants as outcome
+use Rattle.hm_run.specs.declared.Rule.TheVariants as rule
 use Rattle.hm_run.specs.Program.{Breach, Program, Stopping, core, letter_steps}
-use Rattle.hm_run.specs.Timed.{Timed, ended, may_end, next, thread_program, timed}
+use Rattle.hm_run.specs.Timed.{Timed, closed, counted_with, ended, may_end, next, with_devices, thread_program, timed}
 use Rattle.hm_sched.specs.Schedule.{TickLine, Sched, repeat, ticks_of}
 use Rattle.hm_state.specs.State.{State, state_of}
 
--- the devices of a state are those of its memory
-pub devices_are : (r : Regs) (m : Memory) (output : List ℕ) → (state_of r m output).rest.devices ≡ m.devices
+-- the end of a tick changes the devices alone
+pub counted_is : (f : Dev → Dev) (r : Regs) (m : Memory) (output : List ℕ) → state_of r (with_dev (f m.devices) m) output ≡ with_devices f (state_of r m output)
 unfolding state_of
-devices_are r m output = refl
+counted_is f r m output = refl
 
 -- a cursor that stands in a line has a tick left
 pub some_left : (lines : List TickLine) (used : ℕ) → HasTick lines used → 0 < length (left_in lines used)
@@ -31,22 +34,34 @@ abbrev going : Option Outcome → Config State → Timed → Timed
 going o c x = record { outcome = o; config = c; acts = []; ticks = x.ticks + 1 }
 
 module _ (M : Program) (o : Option Outcome) (left rest : List TickLine) (line : TickLine) (x : Timed) (c : Config State) where
-  -- with ticks left the run goes on
-  pub goes_on : o ≡ None → x.outcome ≡ None → x.acts ≡ [] → left ≡ line ∷ rest → letter_steps M 0 line.letters x.config ≡ Ok c
-      → line.irq ≡ 0 → may_end c.a c.b ≡ true → c.state.rest.devices ≡ first_devices → 0 < length rest
-      → going o c x ≡ next M (left_while o left) x
-  goes_on runs none acts first e irq judged off some =
-      (λ i. record { outcome = runs i; config = c; acts = sym acts i; ticks = x.ticks + 1 })
-      ∙ step.goes_on M line rest x c none e irq judged off some
+  -- what comes of a tick that ends where it may
+  ends_well : o ≡ None → x.outcome ≡ None → x.acts ≡ [] → left ≡ line ∷ rest → letter_steps M 0 line.letters x.config ≡ Ok c → may_end c.a c.b ≡ true
+      → closed rest (going None (record c { state = with_devices (counted_with line.irq) c.state }) x) ≡ next M (left_while o left) x
+  ends_well runs none acts first e judged =
+      (λ i. closed rest (record { outcome = None; config = record c { state = with_devices (counted_with line.irq) c.state }; acts = sym acts i; ticks = x.ticks + 1 }))
+      ∙ sym (step.ends_well M line rest x c none e judged)
       ∙ (λ i. next M (left_while (sym runs i) (sym first i)) x)
 
+  -- with ticks left the run goes on
+  pub goes_on : (d : Config State) → d ≡ record c { state = with_devices (counted_with line.irq) c.state } → o ≡ None → x.outcome ≡ None → x.acts ≡ [] → left ≡ line ∷ rest
+      → letter_steps M 0 line.letters x.config ≡ Ok c → may_end c.a c.b ≡ true → 0 < length rest → going o d x ≡ next M (left_while o left) x
+  goes_on d is runs none acts first e judged some =
+      (λ i. going (runs i) (is i) x) ∙ sym (step.closed_on rest _ some) ∙ ends_well runs none acts first e judged
+
   -- with none left it ends
-  pub out_of_ticks : o ≡ None → x.outcome ≡ None → x.acts ≡ [] → left ≡ line ∷ rest → letter_steps M 0 line.letters x.config ≡ Ok c
-      → line.irq ≡ 0 → may_end c.a c.b ≡ true → c.state.rest.devices ≡ first_devices → rest ≡ []
-      → going (Some outcome.OutOfTicks) c x ≡ next M (left_while o left) x
-  out_of_ticks runs none acts first e irq judged off nothing =
-      (λ i. record { outcome = Some outcome.OutOfTicks; config = c; acts = sym acts i; ticks = x.ticks + 1 })
-      ∙ step.out_of_ticks M line rest x c none e irq judged off nothing
+  pub out_of_ticks : (d : Config State) → d ≡ record c { state = with_devices (counted_with line.irq) c.state } → o ≡ None → x.outcome ≡ None → x.acts ≡ [] → left ≡ line ∷ rest
+      → letter_steps M 0 line.letters x.config ≡ Ok c → may_end c.a c.b ≡ true → rest ≡ [] → going (Some outcome.OutOfTicks) d x ≡ next M (left_while o left) x
+  out_of_ticks d is runs none acts first e judged nothing =
+      (λ i. going (Some outcome.OutOfTicks) (is i) x)
+      ∙ (λ i. closed (sym nothing i) (going None (record c { state = with_devices (counted_with line.irq) c.state }) x))
+      ∙ ends_well runs none acts first e judged
+
+  -- at a position where it may not end
+  pub ends_badly : o ≡ None → x.outcome ≡ None → x.acts ≡ [] → left ≡ line ∷ rest → letter_steps M 0 line.letters x.config ≡ Ok c → may_end c.a c.b ≡ false
+      → going (Some (outcome.RuleBroken (x.ticks + 1) (length line.letters) (rule.Ending c.a c.b))) c x ≡ next M (left_while o left) x
+  ends_badly runs none acts first e judged =
+      (λ i. record { outcome = Some (outcome.RuleBroken (x.ticks + 1) (length line.letters) (rule.Ending c.a c.b)); config = c; acts = sym acts i; ticks = x.ticks + 1 })
+      ∙ step.ends_badly M line rest x c none e judged
       ∙ (λ i. next M (left_while (sym runs i) (sym first i)) x)
 
 -- a tick whose letters do not all go on
@@ -64,12 +79,11 @@ drop_next t xs = drop-drop 1 t xs ∙ ap (λ (k : ℕ). drop k xs) (add-one t)
 
 -- a machine after one more tick
 pub shows_on : (image : List Segment) (s : Sched) (t : ℕ) (old new : Shown) → Shows image s t old → old.outcome ≡ None
-    → new.memory ≡ old.memory → new.schedule ≡ old.schedule → (new.outcome ≡ None → new.left ≡ drop 1 old.left)
-    → ((listing : Listing) → IsListing (flash_at old.memory) listing → timed_of new ≡ next (core listing old.memory.around) old.left (timed_of old))
-    → Shows image s (suc t) new
-shows_on image s t old new h none memory schedule left now = record {
-  bytes = ap flash_at memory ∙ h.bytes;
-  around = ap (λ (m : Memory). m.around) memory ∙ h.around;
+    → flash_at new.memory ≡ flash_at old.memory → new.memory.around ≡ old.memory.around → new.schedule ≡ old.schedule → (new.outcome ≡ None → new.left ≡ drop 1 old.left)
+    → ((listing : Listing) → IsListing (flash_at old.memory) listing → timed_of new ≡ next (core listing old.memory.around) old.left (timed_of old)) → Shows image s (suc t) new
+shows_on image s t old new h none flash around schedule left now = record {
+  bytes = flash ∙ h.bytes;
+  around = around ∙ h.around;
   plan = schedule ∙ h.plan;
   left = λ on. left on ∙ ap (drop 1) (h.left none) ∙ drop_next t (ticks_of s.lines);
   now = λ listing is. now listing (subst (λ (f : ℕ → ℕ). IsListing f listing) (sym h.bytes) is)

@@ -7,17 +7,18 @@ use Rattle.hm_beat.specs.declared.clash.Clash.{Clash}
 use Rattle.hm_beat.specs.Meeting.{clash_with}
 use Rattle.hm_codes.specs.Listing.{Listing}
 use Rattle.hm_isa.specs.declared.Vector.{Vector}
-use Rattle.hm_machine.specs.Cpus.{config_of, state_in}
+use Rattle.hm_machine.specs.Cpus.{config_of, hindered, state_in}
+use Rattle.hm_machine.specs.declared.younger.Hindrance.{Hindrance}
 use Rattle.hm_machine.specs.declared.cpu.Cpu.{Cpu}
-use Rattle.hm_mem.specs.Memory.{Memory, memory_of}
+use Rattle.hm_mem.specs.Memory.{Around, Memory, memory_of}
 use Rattle.hm_order.specs.Machine as order
-use Rattle.hm_order.specs.Machine.{Config, did, younger, younger_of}
+use Rattle.hm_order.specs.Machine.{Config, did, fault_end, younger, younger_of}
 use Rattle.hm_regs.specs.declared.Regs.{Regs}
 use Rattle.hm_rows.specs.Rows.{refuse, vector_tree}
 use Rattle.hm_run.specs.declared.Cause.{Cause}
 use Rattle.hm_run.specs.declared.Rule.{Rule}
 use Rattle.hm_run.specs.declared.Rule.TheVariants as rule
-use Rattle.hm_run.specs.Program.{Program, clash_or, core, refusal_rule, rows, step_rule, vector_of}
+use Rattle.hm_run.specs.Program.{Program, Stepped, clash_or, core, fault_rule, is_tainted, refusal_rule, rows, step_rule, vector_of}
 use Rattle.hm_state.specs.State.{State, state_of}
 
 -- a beat that breaks no rule
@@ -59,10 +60,13 @@ module _ (listing : Listing) (x : Cpu) where
       → Some r ≡ step_rule (memory_of x.mem).around (Some v) (Some w) (config_of x) → Err (order.Broken (config_of x) r) ≡ younger M (config_of x)
   younger_breaks v w r here there e = younger_by v w (Some r) here there e
 
-  pub younger_done : (v w : Vector) (t : State) → Some v ≡ vector_of (listing x.regs.pc) → Some w ≡ vector_of (listing (x.regs.pc + 4))
-      → None ≡ step_rule (memory_of x.mem).around (Some v) (Some w) (config_of x) → ((rows (memory_of x.mem).around).act w x.window.b).run (state_in x) ≡ Ok t
-      → Ok (record { a = x.window.a; b = x.window.b + 1; n = x.retired; steps = x.older_steps; state = t }) ≡ younger M (config_of x)
-  younger_done v w t here there e run =
-      (λ j. Ok (record { a = x.window.a; b = add-one x.window.b j; n = x.retired; steps = x.older_steps; state = t }))
-      ∙ ap (λ (r : Result State Cause). did M (config_of x) r) (sym run)
-      ∙ younger_by v w None here there e
+  -- what its beat comes to
+  pub younger_beats : (v w : Vector) (r : Stepped) → Some v ≡ vector_of (listing x.regs.pc) → Some w ≡ vector_of (listing (x.regs.pc + 4))
+      → None ≡ step_rule (memory_of x.mem).around (Some v) (Some w) (config_of x)
+      → r ≡ did M (config_of x) (((rows (memory_of x.mem).around).act w x.window.b).run (state_in x)) → r ≡ younger M (config_of x)
+  younger_beats v w r here there e run = run ∙ younger_by v w None here there e
+
+-- a beat that stops
+pub hindered_is : (e : Cause) (q : Bool) (h : Hindrance) (c : Config State) (listing : Listing) (around : Around) → is_tainted e ≡ q
+    → hindered h c ≡ fault_end (core listing around) (cond q None (Some rule.YoungerFault)) c e → hindered h c ≡ fault_end (core listing around) (fault_rule e) c e
+hindered_is e q h c listing around is here = here ∙ (λ j. fault_end (core listing around) (cond (sym is j) None (Some rule.YoungerFault)) c e)
