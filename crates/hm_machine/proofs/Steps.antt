@@ -1,5 +1,6 @@
 -- The steps of the older instruction.
-use Rattle.std.proofs.Common.{◌≡◌, ℕ, zero, suc, ◌+◌, ◌-◌, ◌==◌, ◌<◌, arith, ap, refl, sym, ◌∙◌, add-one, Bool, true, false, not, IsTrue, cond, List, Option, Some, None, Result, Ok, Err}
+use Rattle.std.specs.Prelude.{IsOk}
+use Rattle.std.proofs.Common.{subst, ◌≡◌, ℕ, zero, suc, ◌+◌, ◌-◌, ◌==◌, ◌<◌, arith, ap, refl, sym, ◌∙◌, add-one, Bool, true, false, not, IsTrue, cond, List, Option, Some, None, Result, Ok, Err}
 use Rattle.std.proofs.lemmas.Bool.Decides.{nat_tests}
 use Rattle.hm_base.specs.declared.Fault.{Fault}
 use Rattle.hm_base.specs.declared.Stop.{Stop}
@@ -78,9 +79,15 @@ begins_later listing around v (suc done) s h = refl
 -- what a beat answered
 pub beat_is : (q : Result State Stop) (x : Result Unit Stop) (y : Result Unit Cause) (r t : Regs) (m n : Memory) (output : List ℕ)
     → Beats q x r m t n output → ((u : Unit) → x ≡ Ok u → y ≡ Ok u) → ((e : Stop) → x ≡ Err e → y ≡ Err (cause.Stop e)) → executed y (state_of t n output) ≡ caused q
-beat_is (Ok s) (Ok u) y r t m n output h done stops = ap (λ (z : Result Unit Cause). executed z (state_of t n output)) (done u refl) ∙ ap Ok h.1
-beat_is (Ok s) (Err e) y r t m n output h done stops = absurd h.0
-beat_is (Err e) x y r t m n output h done stops = ap (λ (z : Result Unit Cause). executed z (state_of t n output)) (stops e h.0)
+beat_is (Ok s) (Ok u) y r t m n output h goes stops = ap (λ (z : Result Unit Cause). executed z (state_of t n output)) (goes u refl) ∙ ap Ok h.1
+beat_is (Ok s) (Err e) y r t m n output h goes stops = absurd (let no = h.0 in cc)
+beat_is (Err e) x y r t m n output h goes stops = ap (λ (z : Result Unit Cause). executed z (state_of t n output)) (stops e h.0)
+
+-- one that stops changes nothing
+pub beat_still : (q : Result State Stop) (x : Result Unit Stop) (e : Stop) (r t : Regs) (m n : Memory) (output : List ℕ)
+    → x ≡ Err e → Beats q x r m t n output → (t ≡ r) × (n ≡ m)
+beat_still (Ok s) x e r t m n output stop h = absurd (let no : IsOk {T = Unit {0}} {E = Stop} (Err e) = subst (λ (q : Result Unit Stop). IsOk q) stop h.0 in cc)
+beat_still (Err f) x e r t m n output stop h = (h.1, h.2)
 
 -- the beat leaves the program counter
 pub beat_stays : (v : Vector) (b : ℕ) (old new : Regs) (m n : Memory) (output : List ℕ)
@@ -229,7 +236,10 @@ module _ (listing : Listing) (x : Cpu) where
     by_position : (a : ℕ) → x.window.a ≡ a → (0 < x.window.a → IsTrue x.regs.fpca) → (s : State) → s ≡ cond (makes_context i x.regs) (with_context (state_in x)) (state_in x)
         → cond (a == 0) s (state_in x) ≡ cond (makes_context i x.regs) (with_context (state_in x)) (state_in x)
     by_position zero e context s h = h
-    by_position (suc a) e context s h = let some : 0 < x.window.a = omega (arith, e) in either_still (makes_context i x.regs) (ready (context some))
+    by_position (suc a) e context s h =
+        let some : 0 < x.window.a = omega (arith, e) in
+        let test : (suc a == 0) ≡ false = grind (arith, nat_tests) in
+        ap (λ (q : Bool). cond q s (state_in x)) test ∙ either_still (makes_context i x.regs) (ready (context some))
 
     chosen : (b : Bool) → cond b (with_context (state_in x)) (state_in x) ≡ state_of (cond b (lane.with_context x.regs) x.regs) (memory_of x.mem) x.output.items
     chosen true = sym (context_is x.regs (memory_of x.mem) x.output.items)

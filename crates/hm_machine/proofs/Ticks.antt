@@ -1,7 +1,10 @@
 -- One tick of the machine.
 use Rattle.std.proofs.Common.{◌≡◌, ℕ, suc, zero, ◌+◌, ◌-◌, ◌≤◌, ◌<◌, arith, ap, refl, sym, ◌∙◌, subst, true, false, List, [], ◌∷◌, drop, drop-drop, length, length-drop, Ok, Err, Option, Some, None, add-one, add-zero, add-suc}
-use Rattle.hm_base.specs.Image.{Segment}
+use Rattle.hm_base.specs.Image.{Segment, flash_byte}
+use Rattle.hm_codes.proofs.Exists.{exists}
 use Rattle.hm_codes.specs.Listing.{Listing, IsListing}
+use Rattle.hm_plain.proofs.Ends.{all_ended, timed_past}
+use Rattle.std.specs.Prelude.{IsSome}
 use Rattle.hm_machine.specs.Machines.{left_in, left_while, HasTick}
 use Rattle.hm_machine.specs.Shown.{Shown, Shows, timed_of}
 use Rattle.hm_mem.specs.Memory.{Around, Memory, flash_at}
@@ -120,3 +123,22 @@ pub left_below : (image : List Segment) (s : Sched) (t : ℕ) (m : Shown) → Sh
 left_below image s t m h none some =
     let left : length m.left ≡ length (ticks_of s.lines) - t = ap length (h.left none) ∙ length-drop t (ticks_of s.lines) in
     omega arith
+
+-- past the end of its schedule a machine has ended, and shows the end
+pub shows_past : (image : List Segment) (s : Sched) (t : ℕ) (m : Shown) → length (ticks_of s.lines) ≤ t → Shows image s t m
+    → IsSome m.outcome × Shows image s (length (ticks_of s.lines)) m
+shows_past image s t m le h =
+    let there = exists (flash_byte image) in
+    let end = all_ended there.0 image s in
+    let over : m.outcome ≡ Some end.0
+    = ap (λ (x : Timed). x.outcome) (h.now there.0 there.1 ∙ timed_past there.0 image s t le) ∙ end.1 in
+    (
+      subst IsSome (sym over) refl,
+      record {
+        bytes = h.bytes;
+        around = h.around;
+        plan = h.plan;
+        left = λ none. let no : None ≡ Some end.0 = sym none ∙ over in absurd cc;
+        now = λ listing is. h.now listing is ∙ timed_past listing image s t le;
+      },
+    )

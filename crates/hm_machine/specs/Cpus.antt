@@ -5,8 +5,8 @@ use Rattle.hm_mem.specs.Seen.{IsSameElsewhere}
 use Rattle.hm_order.specs.Machine as order
 use Rattle.hm_order.specs.Machine.{Config, End}
 use Rattle.hm_machine.specs.declared.cpu.Cpu.{Cpu}
-use Rattle.hm_machine.specs.declared.ticks.Trouble.{Trouble}
-use Rattle.hm_machine.specs.declared.ticks.Trouble.TheVariants as trouble
+use Rattle.hm_machine.specs.declared.tick.Trouble.{Trouble}
+use Rattle.hm_machine.specs.declared.tick.Trouble.TheVariants as trouble
 use Rattle.hm_machine.specs.declared.younger.Hindrance.{Hindrance}
 use Rattle.hm_machine.specs.declared.younger.Hindrance.TheVariants as hindrance
 use Rattle.hm_run.specs.declared.Cause.{Cause}

@@ -1,11 +1,12 @@
 -- How a machine's fields show what callers see of it.
 use Rattle.std.specs.Prelude.{◌≡◌, ℕ, ◌+◌, ◌-◌, ◌*◌, ◌<◌, ◌≤◌, List, [], ◌∷◌, length, drop, Option, Some, None}
+use Rattle.std.specs.Vec.{vec_capacity}
 use Rattle.hm_machine.specs.declared.cursor.Cursor.{Cursor}
 use Rattle.hm_machine.specs.declared.machine.Machine.TheInside.{Inside}
 use Rattle.hm_machine.specs.Cpus.{IsPosition}
 use Rattle.hm_machine.specs.Shown.{Shown}
 use Rattle.hm_run.specs.declared.Outcome.{Outcome}
-use Rattle.hm_mem.specs.Memory.{memory_of, first_devices}
+use Rattle.hm_mem.specs.Memory.{memory_of}
 use Rattle.hm_sched.specs.Schedule.{TickLine, repeat, ticks_of, most_ticks}
 
 -- the ticks that are left of lines, where so many of the first line are done
@@ -45,9 +46,13 @@ machine_view m = record {
   left = left_while m.outcome (left_at m.schedule.lines m.cursor);
 }
 
+-- the most bytes that a program may write
+abbrev pub most_output : ℕ
+most_output = 0x10000
+
 pub record IsMachine (m : Inside) : Type 0 where
-  -- no instruction reaches the devices yet
-  pub devices : m.cpu.mem.dev ≡ first_devices
+  -- what a program writes wants no memory
+  pub capacity : vec_capacity m.cpu.output ≡ most_output
   pub position : IsPosition m.cpu
   pub running : m.outcome ≡ None → StandsIn m.schedule.lines m.cursor
   pub begun : m.outcome ≡ None → m.ticks + length (left_at m.schedule.lines m.cursor) ≤ most_ticks

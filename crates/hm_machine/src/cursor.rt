@@ -21,7 +21,6 @@ pub fn line_at<'a>(schedule: &'a Schedule, cursor: Cursor) -> &'a Line
     ensures here { slice_get schedule.now.lines cursor.line ≡ Some (line_of result.now) }
     ensures some { cursor.used < result.now.count }
     ensures few { length result.now.letters.items ≤ 8 }
-    ensures quiet { result.now.irq ≡ 0 }
 {
     let _known = schedule.lines();
     schedule.line(cursor.line)

@@ -6,7 +6,7 @@ mod cursor;
 mod load;
 mod machine;
 mod memory_text;
-mod ticks;
+mod tick;
 mod younger;
 
 pub use hm_run::{Broken, Offence, Outcome, Reason, Rule, Slot, Turn, Who, Window};

@@ -16,10 +16,11 @@ ghost use Rattle.hm_sched.specs.Schedule.{Sched, plain, ticks_of, most_ticks};
 ghost use Rattle.hm_state.specs.Start.{reset_pc};
 ghost use Rattle.hm_state.specs.State.{regs_of};
 
-use crate::cpu::{Cpu, conclude, letters, may_end};
+use crate::cpu::Cpu;
 use crate::cursor::{Cursor, after_tick, line_at};
 use crate::load::{LoadErr, flash_word};
 use crate::memory_text::memory_text;
+use crate::tick::{conclude, end_of_tick, letters, may_end};
 use hm_base::{Image, OutOfMemory};
 use hm_mem::Mem;
 use hm_regs::Regs;
@@ -179,12 +180,14 @@ impl Machine {
         ensures left { self.new.outcome ≡ None → self.new.left ≡ drop 1 self.old.left }
         ensures fewer { length self.new.left < length self.old.left }
         ensures once { self.new.ticks ≡ self.old.ticks + 1 }
-        ensures memory { self.new.memory ≡ self.old.memory }
+        ensures flash { flash_at self.new.memory ≡ flash_at self.old.memory }
+        ensures around { self.new.memory.around ≡ self.old.memory.around }
         ensures plan { self.new.schedule ≡ self.old.schedule }
     {
         self.ticks += 1;
         let line = line_at(&self.schedule, self.cursor);
         let steps = line.letters.len() as u32;
+        let irq = line.irq;
         let reached = letters(line.letters.as_slice(), &mut self.cpu);
         match reached {
             Ok(()) => {
@@ -196,6 +199,7 @@ impl Machine {
                     });
                     return;
                 }
+                end_of_tick(irq, &mut self.cpu.mem);
                 match after_tick(&self.schedule, self.cursor) {
                     Some(cursor) => self.cursor = cursor,
                     None => self.outcome = Some(Outcome::OutOfTicks),
@@ -231,21 +235,21 @@ impl Machine {
 
     /// Does ticks until the run ends, one for each tick of the schedule at most. It takes no memory.
     pub fn run(&mut self) -> Outcome
-        ensures shows { (image : List Segment) (s : Sched) (t : ℕ) → t ≤ length (ticks_of s.lines) → Shows image s t self.old → Shows image s (length (ticks_of s.lines)) self.new }
+        ensures shows { (image : List Segment) (s : Sched) (t : ℕ) → Shows image s t self.old → Shows image s (length (ticks_of s.lines)) self.new }
         ensures outcome { self.new.outcome ≡ Some result }
         ensures ended { IsSome self.old.outcome → self.new ≡ self.old }
         ensures turns { self.new.ticks ≤ self.old.ticks + length self.old.left }
-        // From the start of a plain schedule the report is that of the instructions in order; of a fault the first line.
-        ensures plain { (image : List Segment) (n : ℕ) (listing : Listing) → IsListing (flash_byte image) listing → Shows image (plain n) 0 self.old
+        // Under a plain schedule the report is that of the instructions in order; of a fault the first line.
+        ensures plain { (image : List Segment) (n t : ℕ) (listing : Listing) → IsListing (flash_byte image) listing → Shows image (plain n) t self.old
             → PlainReport (timed_of self.new) (in_order listing image n) }
-        // From the start of any schedule without entries, where it halts after n instructions, they halt there in order, with this
-        // report and these bytes of memory.
-        ensures headline { (image : List Segment) (s : Sched) (listing : Listing) → IsListing (flash_byte image) listing → s.entries ≡ false
-            → Shows image s 0 self.old
+        // Under any schedule without entries, where it halts after n instructions, they halt there in order, with this report and
+        // these bytes of memory.
+        ensures headline { (image : List Segment) (s : Sched) (t : ℕ) (listing : Listing) → IsListing (flash_byte image) listing → s.entries ≡ false
+            → Shows image s t self.old
             → Headline listing image (timed_of self.new) (report_text (timed_of self.new)) (memory_text (timed_of self.new)) }
         // Where the thread has a fault, the output is full or the ticks are out, these are the next instruction's in order.
-        ensures riders { (image : List Segment) (s : Sched) (listing : Listing) → IsListing (flash_byte image) listing → s.entries ≡ false
-            → Shows image s 0 self.old → Riders listing image (timed_of self.new) }
+        ensures riders { (image : List Segment) (s : Sched) (t : ℕ) (listing : Listing) → IsListing (flash_byte image) listing → s.entries ≡ false
+            → Shows image s t self.old → Riders listing image (timed_of self.new) }
     {
         while self.is_running() {
             let _turn = self.tick();

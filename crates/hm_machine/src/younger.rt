@@ -92,7 +92,7 @@ fn step_rule(v: &Vector, w: &Vector, at: Window, regs: &Regs) -> Option<Rule>
 }
 
 /// What a younger beat that stops comes to: a fault breaks a rule.
-fn hindrance(cause: Cause) -> Hindrance
+fn hindered(cause: Cause) -> Hindrance
     ensures value { (listing : Listing) (m : Memory) (c : Config State) → hindered result c ≡ fault_end (core listing m.around) (fault_rule cause) c cause }
 {
     match cause {
@@ -117,7 +117,7 @@ fn younger_beat(w: &Vector, x: &mut Cpu) -> Result<(), Hindrance>
             x.window.b += 1;
             Ok(())
         }
-        Err(cause) => Err(hindrance(cause)),
+        Err(cause) => Err(hindered(cause)),
     }
 }
 

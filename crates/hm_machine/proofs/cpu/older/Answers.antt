@@ -1,6 +1,6 @@
-use Rattle.std.proofs.Common.{refl, Ok, Err}
+use Rattle.std.proofs.Common.{Ok, Err}
 use Rattle.hm_machine.proofs.Rows.{listed_here}
-use Rattle.hm_machine.proofs.Steps.{other_stops}
+use Rattle.hm_machine.proofs.Steps.{none_stands}
 use Rattle.hm_mem.specs.Memory.{memory_of, flash_at}
 use Rattle.hm_machine.proofs.cpu.older.Goals as goal
 
@@ -12,4 +12,4 @@ returns-in-Ok-clause-value c listing is =
 pub returns-in-Err-clause-value : goal.returns-in-Err-clause-value
 returns-in-Err-clause-value c listing is =
     let x = c.args.x.now in
-    other_stops listing x (Err c.in-Err.fault) _ (listed_here listing (flash_at (memory_of x.mem)) x.regs.pc (Err c.in-Err.fault) is c.in-Err.ensures) refl refl
+    none_stands listing x c.in-Err.fault (listed_here listing (flash_at (memory_of x.mem)) x.regs.pc (Err c.in-Err.fault) is c.in-Err.ensures)

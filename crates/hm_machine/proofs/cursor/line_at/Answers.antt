@@ -1,6 +1,6 @@
 use Rattle.std.proofs.Common.{ap, sym, ◌∙◌, List, ◌∷◌, drop}
 use Rattle.hm_machine.proofs.Cursors.{line_first, line_used, all_at}
-use Rattle.hm_sched.specs.Schedule.{TickLine, IsLine, IsYetLine, line_of}
+use Rattle.hm_sched.specs.Schedule.{TickLine, IsLine, line_of}
 use Rattle.hm_machine.proofs.cursor.line_at.Goals as goal
 
 pub returns-clause-first : goal.returns-clause-first
@@ -16,6 +16,3 @@ returns-clause-some c = line_used c.args.schedule.now.lines c.args.cursor.line c
 
 pub returns-clause-few : goal.returns-clause-few
 returns-clause-few c = (all_at IsLine c.args.schedule.now.lines c.args.cursor.line (line_of c.line.result.now) c.lines-known.ensures.sound.each_line c.line.ensures).few
-
-pub returns-clause-quiet : goal.returns-clause-quiet
-returns-clause-quiet c = (all_at IsYetLine c.args.schedule.now.lines c.args.cursor.line (line_of c.line.result.now) c.lines-known.ensures.yet.each_line c.line.ensures).no_arrivals

@@ -1,7 +1,7 @@
 use Rattle.std.proofs.Common.{sym, ◌∙◌}
 use Rattle.hm_mem.specs.Memory.{memory_of}
-use Rattle.hm_machine.proofs.Youngers.{younger_absent, younger_alone, younger_breaks, younger_done}
-use Rattle.hm_machine.proofs.cpu.younger.Goals as goal
+use Rattle.hm_machine.proofs.Youngers.{younger_absent, younger_alone, younger_beats, younger_breaks}
+use Rattle.hm_machine.proofs.younger.younger.Goals as goal
 
 pub returns-in_default-clause-value : goal.returns-in_default-clause-value
 returns-in_default-clause-value c listing is = younger_alone listing c.args.x.now (sym c.in_default.is ∙ c.vector_at.ensures.row listing is)
@@ -19,6 +19,6 @@ returns-in-Some-step_rule-clause-value c listing is =
 pub returns-in-None-clause-value : goal.returns-in-None-clause-value
 returns-in-None-clause-value c listing is =
     let x = c.args.x.now in
-    younger_done listing x c.in-Some.v c.in-Some-vector_at.w _ (sym c.in-Some.is ∙ c.vector_at.ensures.row listing is)
+    younger_beats listing x c.in-Some.v c.in-Some-vector_at.w _ (sym c.in-Some.is ∙ c.vector_at.ensures.row listing is)
     (sym c.in-Some-vector_at.is ∙ c.vector_at-2.ensures.row listing is) (sym c.in-None.is ∙ c.step_rule.ensures.value (memory_of x.mem) x.output.items x.retired x.older_steps)
-    (c.beat.ensures.value (memory_of x.mem) x.output.items)
+    (c.younger_beat.ensures.value listing)

@@ -5,7 +5,7 @@ use Rattle.hm_machine.proofs.machine.Machine.load.Goals as goal
 
 pub invariant_of-result : goal.invariant_of-result
 invariant_of-result c = record {
-  devices = c.in_ok-mem.ensures.devices;
+  capacity = c.in_ok-output.ensures.exact;
   position = (omega arith, omega arith, λ some. absurd (omega arith));
   running = λ none. first_stands c.args.s.lines c.region-lo.ensures.sound.each_line
       (running_ticks _ c.first_outcome-outcome.result none c.first_outcome-outcome.ensures.out);

@@ -1,9 +1,11 @@
-use Rattle.std.proofs.Common.{◌≡◌, None, ap, sym, ◌∙◌, subst, arith}
+use Rattle.std.proofs.Common.{◌≡◌, ◌≤◌, None, ap, sym, ◌∙◌, subst, arith, length, nat_le}
+use Rattle.std.proofs.lemmas.Bool.Decides.{nat_tests}
+use Rattle.hm_order.proofs.Results.{decide}
 use Rattle.std.specs.Prelude.{IsSome}
-use Rattle.hm_machine.specs.Shown.{Shown}
+use Rattle.hm_machine.specs.Shown.{Shown, Shows}
 use Rattle.hm_machine.proofs.Plain.{plain_report, shown_headline, shown_riders}
-use Rattle.hm_sched.specs.Schedule.{plain}
-use Rattle.hm_machine.proofs.Ticks.{left_below, shows_end}
+use Rattle.hm_sched.specs.Schedule.{plain, ticks_of}
+use Rattle.hm_machine.proofs.Ticks.{left_below, shows_end, shows_past}
 use Rattle.hm_machine.proofs.machine.Machine.run.Goals as goal
 
 pub loop-self-preserved : goal.loop-self-preserved
@@ -25,15 +27,21 @@ loop-self-preserved c =
     }
 
 pub returns-clause-shows : goal.returns-clause-shows
-returns-clause-shows c image s t h shows =
+returns-clause-shows c image s t shows = decide (nat_le t (length (ticks_of s.lines)))
+    (λ within.
+    let h : t ≤ length (ticks_of s.lines) = grind (arith, nat_tests, within) in
     let r = c.loop-self.invariant.shows image s t h shows in
-    shows_end image s r.0 _ _ c.in-Some.outcome (ap (λ (v : Shown). v.outcome) (sym c.self.view_is) ∙ c.in-Some.is) r.1 r.2
+    shows_end image s r.0 _ _ c.in-Some.outcome (ap (λ (v : Shown). v.outcome) (sym c.self.view_is) ∙ c.in-Some.is) r.1 r.2)
+    (λ past.
+    let h : length (ticks_of s.lines) ≤ t = grind (arith, nat_tests, past) in
+    let over = shows_past image s t _ h shows in
+    subst (Shows image s (length (ticks_of s.lines))) (sym (c.loop-self.invariant.ended over.0)) over.1)
 
 pub returns-clause-plain : goal.returns-clause-plain
-returns-clause-plain c image n listing is shows = plain_report image n _ (returns-clause-shows c image (plain n) 0 (omega arith) shows) listing is
+returns-clause-plain c image n t listing is shows = plain_report image n _ (returns-clause-shows c image (plain n) t shows) listing is
 
 pub returns-clause-headline : goal.returns-clause-headline
-returns-clause-headline c image s listing is none shows = shown_headline image s _ (returns-clause-shows c image s 0 (omega arith) shows) listing is
+returns-clause-headline c image s t listing is none shows = shown_headline image s _ (returns-clause-shows c image s t shows) listing is
 
 pub returns-clause-riders : goal.returns-clause-riders
-returns-clause-riders c image s listing is none shows = shown_riders image s _ (returns-clause-shows c image s 0 (omega arith) shows) listing is
+returns-clause-riders c image s t listing is none shows = shown_riders image s _ (returns-clause-shows c image s t shows) listing is

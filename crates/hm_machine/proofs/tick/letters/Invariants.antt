@@ -3,7 +3,7 @@ use Rattle.hm_codes.specs.Listing.{Listing, IsListing}
 use Rattle.hm_machine.specs.Cpus.{config_of, Keeps}
 use Rattle.hm_mem.specs.Memory.{memory_of, flash_at}
 use Rattle.hm_run.specs.Program.{core, letter_steps}
-use Rattle.hm_machine.proofs.cpu.letters.Given as goal
+use Rattle.hm_machine.proofs.tick.letters.Given as goal
 
 abbrev pub invariant-loop-l : goal.invariant-loop-l
 invariant-loop-l l = record {

@@ -28,7 +28,7 @@ pub enum Trouble {
 }
 
 /// What a younger step that does not go on is to its tick.
-fn trouble(step: u32, hindrance: Hindrance) -> Trouble
+fn hindered(step: u32, hindrance: Hindrance) -> Trouble
     ensures value { (c : Config State) → Err (troubled result c) ≡ at_step step true (Err (hindered hindrance c)) }
 {
     match hindrance {
@@ -62,7 +62,7 @@ fn letter(step: u32, l: u8, x: &mut Cpu) -> Result<(), Trouble>
     if l == b'Y' {
         return match younger(x) {
             Ok(()) => Ok(()),
-            Err(hindrance) => Err(trouble(step, hindrance)),
+            Err(hindrance) => Err(hindered(step, hindrance)),
         };
     }
     let done = if l == b'O' { older(x) } else { whole(x) };
