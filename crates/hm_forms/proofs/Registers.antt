@@ -1,23 +1,27 @@
 -- What forms do to whole registers is what they do word by word.
-use Rattle.std.proofs.Common.{◌≡◌, ℕ, zero, suc, ◌+◌, ◌*◌, ◌/◌, ◌%◌, ◌<◌, Bool, true, false, not, ◌||◌, cond, eqb, nat_eq, List, [], ◌∷◌, ◌++◌, map, None, refl, sym, ◌∙◌, ap, arith}
+use Rattle.std.proofs.Common.{◌≡◌, ℕ, zero, suc, ◌+◌, ◌*◌, ◌/◌, ◌%◌, ◌<◌, Bool, true, false, not, ◌||◌, cond, eqb, nat_eq, List, [], ◌∷◌, ◌++◌, map, Option, Some, None, refl, sym, ◌∙◌, ap, arith}
 use Rattle.hm_base.specs.declared.Place.{Place}
+use Rattle.hm_base.specs.declared.Place.TheVariants.{R}
+use Rattle.hm_isa.specs.declared.fields.Below.{Below}
 use Rattle.hm_isa.specs.declared.vectors.V6.{V6}
 use Rattle.hm_isa.specs.declared.vectors.V9.{V9}
 use Rattle.hm_lane.specs.declared.lanes.Size.{Size}
 use Rattle.hm_lane.specs.declared.lanes.Size.TheVariants.{Byte, Half, Word}
-use Rattle.hm_lane.specs.Lanes.{bytes_of, lanes, paired, unlanes, word_of}
-use Rattle.hm_state.specs.Store.{flagged, put_all}
-use Rattle.hm_state.specs.State.{State, at, cells}
-use Rattle.hm_beat.specs.Rows.{retired, word_place}
-use Rattle.hm_kinds.specs.Row.{Row, outs_at, row_whole, slice_at, values_at}
+use Rattle.hm_lane.specs.Lanes.{bytes_of, lanes, merged, paired, unlanes, word_of}
+use Rattle.hm_regs.specs.Writes.{write}
+use Rattle.hm_state.specs.Store.{put_all}
+use Rattle.hm_state.specs.State.{At, State, at, cells, into}
+use Rattle.hm_beat.specs.Rows.{advance_half, predicate_at, register_at, retired, word_place, write_register}
+use Rattle.hm_kinds.specs.Row.{Row, numbers, outs_at, row_whole, slice_at, values_at}
 use Rattle.hm_lane_fns.specs.Words.{size_of}
 use Rattle.hm_forms.specs.declared.longer.Longer.{Longer}
-use Rattle.hm_forms.specs.Forms.{every_second, exchanged, in_turn, lengthened, longer_new, longer_row, other_word, product, turned_at, turned_lane, turned_new, turned_row, wide_at, wide_new, wide_row, wide_word, words_row}
-use Rattle.hm_forms.specs.Registers.{longer_result, merged_whole, turned_result, wide_result}
+use Rattle.hm_forms.specs.declared.offsets.Steps.{Steps}
+use Rattle.hm_forms.specs.Forms.{every_second, exchanged, in_turn, lengthened, longer_new, longer_row, offset_after, offsets_from, offsets_row, other_word, per_word, round_of, round_places, product, turned_at, turned_lane, turned_new, turned_row, wide_at, wide_new, wide_row, wide_word, words_row}
+use Rattle.hm_forms.specs.Registers.{longer_result, offsets_whole, round_at, merged_whole, turned_result, wide_result}
 use Rattle.hm_forms.proofs.Wholes.{advances, bytes_of-word}
 
 -- the bytes of four words
-abbrev four : (ℕ → ℕ) → List ℕ
+abbrev pub four : (ℕ → ℕ) → List ℕ
 four x = bytes_of (x 0) ++ bytes_of (x 1) ++ bytes_of (x 2) ++ bytes_of (x 3)
 
 module _ (w : Bool) (d : ℕ) (sources : ℕ → List Place) (f : ℕ → ℕ → List ℕ → ℕ) (s : State) where
@@ -108,3 +112,53 @@ module _ (r : V6) (s : State) where
       by_size ∙ (λ j. merged_whole r.d.value (four (wide_of (e j))) s)
       ∙ ap (λ u. merged_whole r.d.value u s) (sym (λ j. pairs_half (product r) odd (first 0) (second 0) j ++ pairs_half (product r) odd (first 1) (second 1) j
       ++ pairs_half (product r) odd (first 2) (second 2) j ++ pairs_half (product r) odd (first 3) (second 3) j))
+
+-- OFFSETS
+-- the offsets of one word, and of four
+abbrev run_from : Steps → Size → Option ℕ → ℕ → List ℕ
+run_from r z m o = unlanes z (offsets_from r m (per_word z) o)
+
+run_back : (r : Steps) (z : Size) (m : Option ℕ) (o : ℕ) → run_from r z m o ≡ bytes_of (word_of (run_from r z m o))
+run_back r Byte m o = bytes_of-word _ _ _ _ (omega arith) (omega arith) (omega arith) (omega arith)
+run_back r Half m o = bytes_of-word _ _ _ _ (omega arith) (omega arith) (omega arith) (omega arith)
+run_back r Word m o = bytes_of-word _ _ _ _ (omega arith) (omega arith) (omega arith) (omega arith)
+
+offsets_words : (r : Steps) (z : Size) (m : Option ℕ) (o : ℕ) → unlanes z (offsets_from r m (4 * per_word z) o) ≡ four (λ b. word_of (run_from r z m (offset_after r m (per_word z * b) o)))
+offsets_words r Byte m o = λ j. run_back r Byte m o j ++ run_back r Byte m (offset_after r m 4 o) j ++ run_back r Byte m (offset_after r m 8 o) j ++ run_back r Byte m (offset_after r m 12 o) j
+offsets_words r Half m o = λ j. run_back r Half m o j ++ run_back r Half m (offset_after r m 2 o) j ++ run_back r Half m (offset_after r m 4 o) j ++ run_back r Half m (offset_after r m 6 o) j
+offsets_words r Word m o = λ j. run_back r Word m o j ++ run_back r Word m (offset_after r m 1 o) j ++ run_back r Word m (offset_after r m 2 o) j ++ run_back r Word m (offset_after r m 3 o) j
+
+round_is : (o : Option (Below 6)) (s : State) → round_of (numbers (map s.cell (map At (round_places o)))) ≡ round_at o s
+round_is None s = refl
+round_is (Some q) s = refl
+
+module _ (r : Steps) (s : State) where
+  abbrev steps : Row
+  steps = offsets_row r
+
+  abbrev base : ℕ
+  base = at (R (2 * r.n.value)) s
+
+  -- the four words and the register, where offsets go round at m, and the bytes that the words are made of
+  abbrev offsets_put : Option ℕ → List ℕ → State
+  offsets_put m result = put_all cells (write_register r.d.value (merged (predicate_at s) (register_at r.d.value s) result) ++ (into (write (R (2 * r.n.value)) (offset_after r m (4 * per_word r.z) base)) ∷ [])) s
+
+  abbrev advanced_after : State → State
+  advanced_after x = retired (put_all cells (advance_half 0 s ++ advance_half 2 s) x)
+
+  by_words : row_whole steps s ≡ advanced_after (put_all cells (outs_at steps 0 s (steps.outs 0) ++ outs_at steps 1 s (steps.outs 1) ++ outs_at steps 2 s (steps.outs 2) ++ outs_at steps 3 s (steps.outs 3)) s)
+  by_words = λ j. retired (advances steps s (put_all cells (outs_at steps 0 s (steps.outs 0) ++ outs_at steps 1 s (steps.outs 1) ++ outs_at steps 2 s (steps.outs 2) ++ outs_at steps 3 s (steps.outs 3)) s) refl refl j)
+
+  abbrev limit : Option ℕ
+  limit = round_of (numbers (map s.cell (map At (round_places r.round))))
+
+  as_put : put_all cells (outs_at steps 0 s (steps.outs 0) ++ outs_at steps 1 s (steps.outs 1) ++ outs_at steps 2 s (steps.outs 2) ++ outs_at steps 3 s (steps.outs 3)) s
+      ≡ offsets_put limit (four (λ b. word_of (run_from r r.z limit (offset_after r limit (per_word r.z * b) base))))
+  as_put = refl
+
+  pub offsets_is : row_whole steps s ≡ offsets_whole r s
+  offsets_is = by_words ∙ ap advanced_after as_put
+      ∙ (λ j. advanced_after (offsets_put (round_is r.round s j) (four (λ b. word_of (run_from r r.z (round_is r.round s j) (offset_after r (round_is r.round s j) (per_word r.z * b) base))))))
+      ∙ ap (λ u. retired (put_all cells (write_register r.d.value (merged (predicate_at s) (register_at r.d.value s) u)
+      ++ (into (write (R (2 * r.n.value)) (offset_after r (round_at r.round s) (4 * per_word r.z) base)) ∷ advance_half 0 s ++ advance_half 2 s)) s))
+      (sym (offsets_words r r.z (round_at r.round s) base))

@@ -1,16 +1,21 @@
 -- What forms do to whole registers, as lists of elements in rising order.
-use Rattle.std.specs.Prelude.{ℕ, Bool, true, cond, List, ◌++◌, map, nat_eq}
+use Rattle.std.specs.Prelude.{ℕ, ◌+◌, ◌*◌, ◌^◌, true, cond, List, ◌∷◌, ◌++◌, map, nat_eq, Option, Some, None}
+use Rattle.hm_base.specs.declared.Place.TheVariants.{R}
 use Rattle.hm_isa.specs.declared.vectors.V6.{V6}
 use Rattle.hm_isa.specs.declared.vectors.V9.{V9}
 use Rattle.hm_lane.specs.declared.lanes.Size.{Size}
 use Rattle.hm_lane.specs.declared.lanes.Size.TheVariants.{Byte, Half, Word}
 use Rattle.hm_lane.specs.Lanes.{lanes, merged, paired, unlanes}
+use Rattle.hm_regs.specs.Writes.{write}
 use Rattle.hm_state.specs.Store.{put_all}
-use Rattle.hm_state.specs.State.{State, cells}
+use Rattle.hm_state.specs.State.{State, at, cells, into}
 use Rattle.hm_beat.specs.Rows.{advance_half, predicate_at, register_at, retired, write_register}
-use Rattle.hm_lane_fns.specs.Words.{size_of}
+use Rattle.hm_lane_fns.specs.Words.{firsts, size_of}
 use Rattle.hm_forms.specs.declared.longer.Longer.{Longer}
-use Rattle.hm_forms.specs.Forms.{every_second, exchanged, in_turn, lengthened, product, turned_lane}
+use Rattle.hm_forms.specs.declared.offsets.Steps.{Steps}
+use Rattle.hm_forms.specs.declared.sums.Sums.{Sums}
+use Rattle.hm_isa.specs.declared.fields.Below.{Below}
+use Rattle.hm_forms.specs.Forms.{added, every_second, exchanged, in_turn, lengthened, offset_after, offsets_from, per_word, product, term_of, turned_lane}
 
 -- 16 bytes are merged into a register under the predicate, and the masks advance
 abbrev pub merged_whole : ℕ → List ℕ → State → State
@@ -38,3 +43,25 @@ abbrev pub wide_result : V6 → Size → Size → State → List ℕ
 wide_result r z wide s =
     let odd = nat_eq r.t.value 1 in
     unlanes wide (paired (product r) (every_second odd (elements z r.n.value s)) (every_second odd (elements z r.m.value s)))
+
+-- the elements of a register, or the products of those of two, are added to a register one after another
+abbrev pub sum_whole : Sums → State → State
+sum_whole r s =
+    let place = R (2 * r.l.value) in
+    let start = cond r.goes_on (at place s) 0 in
+    let sum = added (2 ^ 32) (term_of r) (firsts r.z (predicate_at s)) (elements r.z r.n.value s) (elements r.z r.m.value s) start in
+    retired (put_all cells (into (write place sum) ∷ advance_half 0 s ++ advance_half 2 s) s)
+
+-- where offsets go round
+abbrev pub round_at : Option (Below 6) → State → Option ℕ
+round_at None s = None
+round_at (Some q) s = Some (at (R (2 * q.value + 1)) s)
+
+-- offsets from a register on, which gets the next one
+abbrev pub offsets_whole : Steps → State → State
+offsets_whole r s =
+    let place = R (2 * r.n.value) in
+    let count = 4 * per_word r.z in
+    let result = unlanes r.z (offsets_from r (round_at r.round s) count (at place s)) in
+    let next = offset_after r (round_at r.round s) count (at place s) in
+    retired (put_all cells (write_register r.d.value (merged (predicate_at s) (register_at r.d.value s) result) ++ (into (write place next) ∷ advance_half 0 s ++ advance_half 2 s)) s)

@@ -1,4 +1,5 @@
-use Rattle.hm_forms.proofs.Registers.{longer_is, turned_is, wide_bytes, wide_halves}
+use Rattle.hm_forms.proofs.Registers.{longer_is, offsets_is, turned_is, wide_bytes, wide_halves}
+use Rattle.hm_forms.proofs.Totals.{sum_is}
 use Rattle.hm_forms.proofs.Wholes.{lanes_is}
 use Rattle.hm_forms.proofs.laws.registers_law.Goals as goal
 
@@ -16,3 +17,9 @@ returns-clause-wide_bytes c = wide_bytes
 
 pub returns-clause-wide_halves : goal.returns-clause-wide_halves
 returns-clause-wide_halves c = wide_halves
+
+pub returns-clause-sum : goal.returns-clause-sum
+returns-clause-sum c = sum_is
+
+pub returns-clause-offsets : goal.returns-clause-offsets
+returns-clause-offsets c = offsets_is

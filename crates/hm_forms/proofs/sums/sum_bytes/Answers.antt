@@ -1,4 +1,4 @@
-use Rattle.std.proofs.Common.{◌≡◌, ℕ, ◌^◌, get_or, length, ◌∷◌, [], ◌∙◌, rules}
+use Rattle.std.proofs.Common.{◌≡◌, ◌^◌, get_or, length, ◌∷◌, [], ◌∙◌, rules}
 use Rattle.hm_forms.specs.Forms.{added, term_of}
 use Rattle.hm_forms.proofs.Added.{four_added}
 use Rattle.hm_forms.proofs.sums.sum_bytes.Goals as goal
