@@ -59,7 +59,7 @@ module _ (m : ℕ) (f : ℕ → ℕ → ℕ) where
 remains_any : (size x y k : ℕ) → ltb size 4 ≡ false → remains size x k ≡ remains size y k
 remains_any size x y k e = (λ j. cond (e j && leb x (2 ^ (4 - size))) (ltb k (x * 2 ^ size)) true) ∙ (λ j. cond (sym e j && leb y (2 ^ (4 - size))) (ltb k (y * 2 ^ size)) true)
 
-active_any : (b mask size x y slice : ℕ) → (ltb size 4 ≡ false) ⊎ (x ≡ y) → active_bytes b mask size x slice ≡ active_bytes b mask size y slice
+pub active_any : (b mask size x y slice : ℕ) → (ltb size 4 ≡ false) ⊎ (x ≡ y) → active_bytes b mask size x slice ≡ active_bytes b mask size y slice
 active_any b mask size x y slice (inl e) = λ j.
     (allowed mask slice 0 && remains_any size x y (4 * b + 0) e j) ∷ (allowed mask slice 1 && remains_any size x y (4 * b + 1) e j)
     ∷ (allowed mask slice 2 && remains_any size x y (4 * b + 2) e j) ∷ (allowed mask slice 3 && remains_any size x y (4 * b + 3) e j) ∷ []
@@ -73,11 +73,11 @@ put_twice c v w s = λ j. record { cell = λ d. go (same_cell c d) (s.cell d) j;
     go true u = refl
     go false u = refl
 
-later_start : (g : Bool) (v : ℕ) → cond (not g && false) 0 v ≡ v
+pub later_start : (g : Bool) (v : ℕ) → cond (not g && false) 0 v ≡ v
 later_start true v = refl
 later_start false v = refl
 
-first_start : (g : Bool) (v : ℕ) → cond (not g && true) 0 v ≡ cond g v 0
+pub first_start : (g : Bool) (v : ℕ) → cond (not g && true) 0 v ≡ cond g v 0
 first_start true v = refl
 first_start false v = refl
 

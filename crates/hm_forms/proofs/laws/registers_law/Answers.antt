@@ -1,4 +1,5 @@
 use Rattle.hm_forms.proofs.Registers.{longer_is, offsets_is, turned_is, wide_bytes, wide_halves}
+use Rattle.hm_forms.proofs.LongTotals.{long_is}
 use Rattle.hm_forms.proofs.Totals.{sum_is}
 use Rattle.hm_forms.proofs.Wholes.{lanes_is}
 use Rattle.hm_forms.proofs.laws.registers_law.Goals as goal
@@ -23,3 +24,6 @@ returns-clause-sum c = sum_is
 
 pub returns-clause-offsets : goal.returns-clause-offsets
 returns-clause-offsets c = offsets_is
+
+pub returns-clause-long : goal.returns-clause-long
+returns-clause-long c = long_is
