@@ -1,10 +1,14 @@
 -- What forms do to whole registers is what they do word by word.
-use Rattle.std.proofs.Common.{◌≡◌, ℕ, zero, suc, ◌+◌, ◌*◌, ◌/◌, ◌%◌, ◌<◌, Bool, true, false, not, ◌||◌, cond, eqb, nat_eq, List, [], ◌∷◌, ◌++◌, map, Option, Some, None, refl, sym, ◌∙◌, ap, arith}
+use Rattle.std.proofs.Common.{◌≡◌, ℕ, zero, suc, ◌+◌, ◌*◌, ◌/◌, ◌%◌, ◌<◌, Bool, true, false, not, ◌||◌, cond, eqb, nat_eq, List, [], ◌∷◌, ◌++◌, map, reverse, Option, Some, None, refl, sym, ◌∙◌, ap, arith, ltb-true, eqb-true}
 use Rattle.hm_base.specs.declared.Place.{Place}
 use Rattle.hm_base.specs.declared.Place.TheVariants.{R}
 use Rattle.hm_isa.specs.declared.fields.Below.{Below}
 use Rattle.hm_isa.specs.declared.vectors.V6.{V6}
 use Rattle.hm_isa.specs.declared.vectors.V9.{V9}
+use Rattle.hm_isa.specs.declared.vectors.V14.{V14}
+use Rattle.hm_isa.specs.declared.vectors.ReverseName.{ReverseName}
+use Rattle.hm_isa.specs.declared.vectors.ReverseName.TheVariants as rev
+use Rattle.hm_isa.specs.Keeps.{is_reversed}
 use Rattle.hm_lane.specs.declared.lanes.Size.{Size}
 use Rattle.hm_lane.specs.declared.lanes.Size.TheVariants.{Byte, Half, Word}
 use Rattle.hm_lane.specs.Lanes.{bytes_of, lanes, merged, paired, unlanes, word_of}
@@ -16,20 +20,16 @@ use Rattle.hm_kinds.specs.Row.{Row, numbers, outs_at, row_whole, slice_at, value
 use Rattle.hm_lane_fns.specs.Words.{size_of}
 use Rattle.hm_forms.specs.declared.longer.Longer.{Longer}
 use Rattle.hm_forms.specs.declared.offsets.Steps.{Steps}
-use Rattle.hm_forms.specs.Forms.{every_second, exchanged, in_turn, lengthened, longer_new, longer_row, offset_after, offsets_from, offsets_row, other_word, per_word, round_of, round_places, product, turned_at, turned_lane, turned_new, turned_row, wide_at, wide_new, wide_row, wide_word, words_row}
-use Rattle.hm_forms.specs.Registers.{longer_result, offsets_whole, round_at, merged_whole, turned_result, wide_result}
+use Rattle.hm_forms.specs.Forms.{every_second, exchanged, in_turn, lengthened, longer_new, longer_row, offset_after, offsets_from, offsets_row, other_word, per_word, reversed_at, reversed_new, reversed_row, reversed_word, round_of, round_places, product, turned_at, turned_lane, turned_new, turned_row, wide_at, wide_new, wide_row, wide_word, words_row}
+use Rattle.hm_forms.specs.Registers.{four, in_groups, reversed_result, words_result, longer_result, offsets_whole, round_at, merged_whole, turned_result, wide_result}
 use Rattle.hm_forms.proofs.Wholes.{advances, bytes_of-word}
-
--- the bytes of four words
-abbrev pub four : (ℕ → ℕ) → List ℕ
-four x = bytes_of (x 0) ++ bytes_of (x 1) ++ bytes_of (x 2) ++ bytes_of (x 3)
 
 module _ (w : Bool) (d : ℕ) (sources : ℕ → List Place) (f : ℕ → ℕ → List ℕ → ℕ) (s : State) where
   abbrev row : Row
   row = words_row w d sources f None
 
   -- a row that merges words merges the bytes of the four
-  words_whole : row_whole row s ≡ merged_whole d (four (λ b. f b (slice_at row b s) (values_at row b s))) s
+  pub words_whole : row_whole row s ≡ merged_whole d (words_result w d sources f s) s
   words_whole = λ j. retired (advances row s (put_all cells (outs_at row 0 s (row.outs 0) ++ outs_at row 1 s (row.outs 1) ++ outs_at row 2 s (row.outs 2) ++ outs_at row 3 s (row.outs 3)) s) refl refl j)
 
 -- NEIGHBOURS
@@ -53,6 +53,37 @@ pub turned_is : (r : V9) (s : State) → row_whole (turned_row r) s ≡ merged_w
 turned_is r s = words_whole false r.d.value (λ b. word_place r.n.value b ∷ word_place r.m.value (turned_at r b) ∷ []) (λ b slice. turned_new r b) s
     ∙ ap (λ u. merged_whole r.d.value u s)
     (sym (turned_words r.z.value r.z.in_range (turned_lane r (size_of r.z.value)) (λ b. at (word_place r.n.value b) s) (λ b. at (word_place r.m.value b) s)))
+
+-- ELEMENTS IN REVERSE
+abbrev reverse_word : ReverseName → Size → ℕ → List ℕ
+reverse_word name z x = unlanes z (reverse (lanes z (bytes_of x)))
+
+reverse_back : (name : ReverseName) (z : Size) (x : ℕ) → reverse_word name z x ≡ bytes_of (word_of (reverse_word name z x))
+reverse_back name Byte x = bytes_of-word _ _ _ _ (omega arith) (omega arith) (omega arith) (omega arith)
+reverse_back name Half x = bytes_of-word _ _ _ _ (omega arith) (omega arith) (omega arith) (omega arith)
+reverse_back name Word x = bytes_of-word _ _ _ _ (omega arith) (omega arith) (omega arith) (omega arith)
+
+mod_mod : (a : ℕ) → a % 256 % 256 ≡ a % 256
+mod_mod a = omega arith
+
+swapped_back : (x : ℕ) → unlanes Byte (exchanged (bytes_of x)) ≡ bytes_of (word_of (exchanged (bytes_of x)))
+swapped_back x = (λ j. mod_mod (x / 256) j ∷ mod_mod x j ∷ mod_mod (x / 16777216) j ∷ mod_mod (x / 65536) j ∷ []) ∙ bytes_of-word _ _ _ _ (omega arith) (omega arith) (omega arith) (omega arith)
+
+reversed_words : (name : ReverseName) (z d m : ℕ) → z < 3 → is_reversed name z d m ≡ true → (x : ℕ → ℕ)
+    → unlanes (size_of z) (in_groups name (size_of z) (lanes (size_of z) (four x))) ≡ four (λ b. reversed_word name (size_of z) (x (reversed_at name b)))
+reversed_words rev.Rev64 zero d m h rule x = λ j. reverse_back rev.Rev64 Byte (x 1) j ++ reverse_back rev.Rev64 Byte (x 0) j ++ reverse_back rev.Rev64 Byte (x 3) j ++ reverse_back rev.Rev64 Byte (x 2) j
+reversed_words rev.Rev64 (suc zero) d m h rule x = λ j. reverse_back rev.Rev64 Half (x 1) j ++ reverse_back rev.Rev64 Half (x 0) j ++ reverse_back rev.Rev64 Half (x 3) j ++ reverse_back rev.Rev64 Half (x 2) j
+reversed_words rev.Rev64 (suc (suc zero)) d m h rule x = λ j. reverse_back rev.Rev64 Word (x 1) j ++ reverse_back rev.Rev64 Word (x 0) j ++ reverse_back rev.Rev64 Word (x 3) j ++ reverse_back rev.Rev64 Word (x 2) j
+reversed_words rev.Rev32 zero d m h rule x = λ j. reverse_back rev.Rev32 Byte (x 0) j ++ reverse_back rev.Rev32 Byte (x 1) j ++ reverse_back rev.Rev32 Byte (x 2) j ++ reverse_back rev.Rev32 Byte (x 3) j
+reversed_words rev.Rev32 (suc zero) d m h rule x = λ j. reverse_back rev.Rev32 Half (x 0) j ++ reverse_back rev.Rev32 Half (x 1) j ++ reverse_back rev.Rev32 Half (x 2) j ++ reverse_back rev.Rev32 Half (x 3) j
+reversed_words rev.Rev32 (suc (suc z)) d m h rule x = let low = ltb-true (suc (suc z)) 2 rule in absurd (omega arith)
+reversed_words rev.Rev16 zero d m h rule x = λ j. swapped_back (x 0) j ++ swapped_back (x 1) j ++ swapped_back (x 2) j ++ swapped_back (x 3) j
+reversed_words rev.Rev16 (suc z) d m h rule x = let none = eqb-true (suc z) 0 rule in absurd (omega arith)
+reversed_words rev.Rev64 (suc (suc (suc z))) d m h rule x = absurd (omega arith)
+
+pub reversed_is : (r : V14) (s : State) → row_whole (reversed_row r) s ≡ merged_whole r.d.value (reversed_result r s) s
+reversed_is r s = words_whole false r.d.value (λ b. word_place r.m.value (reversed_at r.name b) ∷ []) (λ b slice. reversed_new r) s
+    ∙ ap (λ u. merged_whole r.d.value u s) (sym (reversed_words r.name r.z.value r.d.value r.m.value r.z.in_range r.rule (λ b. at (word_place r.m.value b) s)))
 
 -- LANES MADE LONGER
 abbrev every : (ℕ → ℕ) → Bool → Size → Size → List ℕ → List ℕ

@@ -13,9 +13,8 @@ use Rattle.hm_kinds.specs.Row.{Row, ends_at, linked, row_whole}
 use Rattle.hm_lane_fns.specs.Words.{firsts}
 use Rattle.hm_forms.specs.declared.sums.Sums.{Sums}
 use Rattle.hm_forms.specs.Forms.{added, sum_next, sum_row, term_of}
-use Rattle.hm_forms.specs.Registers.{sum_whole}
+use Rattle.hm_forms.specs.Registers.{four, sum_whole}
 use Rattle.hm_forms.proofs.Wholes.{advances}
-use Rattle.hm_forms.proofs.Registers.{four}
 
 -- THE TERMS OF FOUR WORDS
 module _ (m : ℕ) (f : ℕ → ℕ → ℕ) where

@@ -1,26 +1,39 @@
 -- What forms do to whole registers, as lists of elements in rising order.
-use Rattle.std.specs.Prelude.{ℕ, ◌+◌, ◌*◌, ◌/◌, ◌%◌, ◌^◌, true, cond, List, ◌∷◌, ◌++◌, map, nat_eq, Option, Some, None}
+use Rattle.std.specs.Prelude.{ℕ, ◌+◌, ◌*◌, ◌/◌, ◌%◌, ◌^◌, Bool, true, cond, List, ◌∷◌, ◌++◌, map, nat_eq, Option, Some, None}
+use Rattle.hm_base.specs.declared.Place.{Place}
 use Rattle.hm_base.specs.declared.Place.TheVariants.{R}
 use Rattle.hm_isa.specs.declared.vectors.V6.{V6}
 use Rattle.hm_isa.specs.declared.vectors.V9.{V9}
+use Rattle.hm_isa.specs.declared.vectors.V14.{V14}
+use Rattle.hm_isa.specs.declared.vectors.ReverseName.{ReverseName}
+use Rattle.hm_isa.specs.declared.vectors.ReverseName.TheVariants as rev
 use Rattle.hm_lane.specs.declared.lanes.Size.{Size}
 use Rattle.hm_lane.specs.declared.lanes.Size.TheVariants.{Byte, Half, Word}
-use Rattle.hm_lane.specs.Lanes.{lanes, merged, paired, unlanes}
+use Rattle.hm_lane.specs.Lanes.{bytes_of, lanes, merged, paired, unlanes}
 use Rattle.hm_regs.specs.Writes.{write}
 use Rattle.hm_state.specs.Store.{put_all}
 use Rattle.hm_state.specs.State.{State, at, cells, into}
 use Rattle.hm_beat.specs.Rows.{advance_half, predicate_at, register_at, retired, write_register}
+use Rattle.hm_kinds.specs.Row.{slice_at, values_at}
 use Rattle.hm_lane_fns.specs.Words.{firsts, size_of}
 use Rattle.hm_forms.specs.declared.long_sums.LongSums.{LongSums}
 use Rattle.hm_forms.specs.declared.longer.Longer.{Longer}
 use Rattle.hm_forms.specs.declared.offsets.Steps.{Steps}
 use Rattle.hm_forms.specs.declared.sums.Sums.{Sums}
 use Rattle.hm_isa.specs.declared.fields.Below.{Below}
-use Rattle.hm_forms.specs.Forms.{added, every_second, exchanged, in_turn, lengthened, long_term, offset_after, offsets_from, per_word, product, term_of, turned_lane}
+use Rattle.hm_forms.specs.Forms.{added, every_second, exchanged, in_turn, lengthened, long_term, offset_after, offsets_from, per_word, product, term_of, turned_lane, words_row}
 
 -- 16 bytes are merged into a register under the predicate, and the masks advance
 abbrev pub merged_whole : ℕ → List ℕ → State → State
 merged_whole d result s = retired (put_all cells (write_register d (merged (predicate_at s) (register_at d s) result) ++ advance_half 0 s ++ advance_half 2 s) s)
+
+-- the bytes of four words
+abbrev pub four : (ℕ → ℕ) → List ℕ
+four x = bytes_of (x 0) ++ bytes_of (x 1) ++ bytes_of (x 2) ++ bytes_of (x 3)
+
+-- the four words of a row that merges a word on each beat
+abbrev pub words_result : Bool → ℕ → (ℕ → List Place) → (ℕ → ℕ → List ℕ → ℕ) → State → List ℕ
+words_result w d sources f s = let row = words_row w d sources f None in four (λ b. f b (slice_at row b s) (values_at row b s))
 
 -- the elements of a register
 abbrev pub elements : Size → ℕ → State → List ℕ
@@ -44,6 +57,25 @@ abbrev pub wide_result : V6 → Size → Size → State → List ℕ
 wide_result r z wide s =
     let odd = nat_eq r.t.value 1 in
     unlanes wide (paired (product r) (every_second odd (elements z r.n.value s)) (every_second odd (elements z r.m.value s)))
+
+-- each two elements exchanged, each four, each eight in reverse
+abbrev pub fours : List ℕ → List ℕ
+fours (a ∷ b ∷ c ∷ d ∷ l) = d ∷ c ∷ b ∷ a ∷ fours l
+fours l = l
+
+abbrev pub eights : List ℕ → List ℕ
+eights (a ∷ b ∷ c ∷ d ∷ e ∷ f ∷ g ∷ h ∷ l) = h ∷ g ∷ f ∷ e ∷ d ∷ c ∷ b ∷ a ∷ eights l
+eights l = l
+
+-- elements in reverse within groups of 64, 32 or 16 bits
+abbrev pub in_groups : ReverseName → Size → List ℕ → List ℕ
+in_groups rev.Rev64 Byte = eights
+in_groups rev.Rev64 Half = fours
+in_groups rev.Rev32 Byte = fours
+in_groups name z = exchanged
+
+abbrev pub reversed_result : V14 → State → List ℕ
+reversed_result r s = let z = size_of r.z.value in unlanes z (in_groups r.name z (elements z r.m.value s))
 
 -- the elements of a register, or the products of those of two, are added to a register one after another
 abbrev pub sum_whole : Sums → State → State

@@ -1,4 +1,4 @@
-use Rattle.hm_forms.proofs.Registers.{longer_is, offsets_is, turned_is, wide_bytes, wide_halves}
+use Rattle.hm_forms.proofs.Registers.{longer_is, offsets_is, reversed_is, words_whole, turned_is, wide_bytes, wide_halves}
 use Rattle.hm_forms.proofs.LongTotals.{long_is}
 use Rattle.hm_forms.proofs.Totals.{sum_is}
 use Rattle.hm_forms.proofs.Wholes.{lanes_is}
@@ -27,3 +27,9 @@ returns-clause-offsets c = offsets_is
 
 pub returns-clause-long : goal.returns-clause-long
 returns-clause-long c = long_is
+
+pub returns-clause-words : goal.returns-clause-words
+returns-clause-words c = words_whole
+
+pub returns-clause-reversed : goal.returns-clause-reversed
+returns-clause-reversed c = reversed_is
