@@ -1,15 +1,15 @@
 //! The form of each vector row.
 
 ghost use Rattle.std.specs.Prelude.{◌≡◌};
-ghost use Rattle.hm_lane_fns.specs.declared.functions.LaneFn.TheVariants as fn;
 ghost use Rattle.hm_forms.specs.declared.form.Form.TheVariants as form;
 ghost use Rattle.hm_isa.specs.declared.Vector.TheVariants as vector;
+ghost use Rattle.hm_isa.specs.declared.vectors.V22.TheVariants as v22;
 ghost use Rattle.hm_rows.specs.Rows.{add_fn, bitwise_fn, compare_form, doubling_fn, form_of, high_fn, long_form, offsets_form, one_fn, one_form, predicate_form, scalar_fn, signed_fn, sum_form};
 
 use hm_forms::{Comparison, Form, Lanes, LongSums, Longer, Steps, Sums};
 use hm_isa::{
-    AddName, BitwiseName, DoublingName, HighName, OneName, QRegister, ScalarName, SignedName, V12,
-    V13, V19, V20, V21, V22, Vector,
+    AddName, BitwiseName, DoublingName, HighName, LongDot, LongSum, OneName, QRegister, ScalarName,
+    SignedName, V1, V2, V3, V5, V7, V10, V12, V13, V18, V19, V20, V21, V22, Vector,
 };
 use hm_lane::Size;
 use hm_lane_fns::{LaneFn, Operand, element_size, size};
@@ -240,6 +240,43 @@ fn predicate_form(row: &V21) -> Form
     }
 }
 
+/// The form of `vaddlv`.
+fn long_sum_form(row: &LongSum) -> Form
+    ensures { result ≡ sum_form (v22.LongSum row.now) }
+{
+    Form::Long(LongSums {
+        products: false,
+        unsigned: row.u.get() == 1,
+        z: Size::Word,
+        goes_on: row.a.get() == 1,
+        l: row.l,
+        h: row.h,
+        n: row.m,
+        m: row.m,
+    })
+}
+
+/// The form of `vmlaldav`.
+fn long_dot_form(row: &LongDot) -> Form
+    ensures { result ≡ sum_form (v22.LongDot row.now) }
+{
+    let z = if row.s.get() == 1 {
+        Size::Word
+    } else {
+        Size::Half
+    };
+    Form::Long(LongSums {
+        products: true,
+        unsigned: row.u.get() == 1,
+        z,
+        goes_on: row.a.get() == 1,
+        l: row.l,
+        h: row.h,
+        n: row.n,
+        m: row.m,
+    })
+}
+
 /// The form of a row V22.
 fn sum_form(row: &V22) -> Form
     ensures { result ≡ sum_form row.now }
@@ -263,103 +300,130 @@ fn sum_form(row: &V22) -> Form
             n: row.n,
             m: row.m,
         }),
-        V22::LongSum(row) => Form::Long(LongSums {
-            products: false,
-            unsigned: row.u.get() == 1,
-            z: Size::Word,
-            goes_on: row.a.get() == 1,
-            l: row.l,
-            h: row.h,
-            n: row.m,
-            m: row.m,
-        }),
-        V22::LongDot(row) => Form::Long(LongSums {
-            products: true,
-            unsigned: row.u.get() == 1,
-            z: if row.s.get() == 1 {
-                Size::Word
-            } else {
-                Size::Half
-            },
-            goes_on: row.a.get() == 1,
-            l: row.l,
-            h: row.h,
-            n: row.n,
-            m: row.m,
-        }),
+        V22::LongSum(row) => long_sum_form(row),
+        V22::LongDot(row) => long_dot_form(row),
     }
 }
 
-/// The form of a row on the lanes of two operands; one without lanes has a form of its own.
+/// The form of a row V1.
+fn add_form(row: &V1) -> Form
+    ensures { result ≡ form_of (vector.V1 row.now) }
+{
+    lanes(
+        add_fn(row.name),
+        false,
+        size(&row.z),
+        row.d,
+        row.n,
+        Operand::Vector(row.m),
+    )
+}
+
+/// The form of a row V2.
+fn bitwise_form(row: &V2) -> Form
+    ensures { result ≡ form_of (vector.V2 row.now) }
+{
+    lanes(
+        bitwise_fn(row.name),
+        false,
+        Size::Word,
+        row.d,
+        row.n,
+        Operand::Vector(row.m),
+    )
+}
+
+/// The form of a row V3.
+fn signed_form(row: &V3) -> Form
+    ensures { result ≡ form_of (vector.V3 row.now) }
+{
+    lanes(
+        signed_fn(row.name),
+        row.u.get() == 1,
+        size(&row.z),
+        row.d,
+        row.n,
+        Operand::Vector(row.m),
+    )
+}
+
+/// The form of a row V5.
+fn doubling_form(row: &V5) -> Form
+    ensures { result ≡ form_of (vector.V5 row.now) }
+{
+    lanes(
+        doubling_fn(row.name),
+        false,
+        size(&row.z),
+        row.d,
+        row.n,
+        Operand::Vector(row.m),
+    )
+}
+
+/// The form of a row V7.
+fn high_form(row: &V7) -> Form
+    ensures { result ≡ form_of (vector.V7 row.now) }
+{
+    lanes(
+        high_fn(row.name, row.u.get() == 1),
+        false,
+        size(&row.z),
+        row.d,
+        row.n,
+        Operand::Vector(row.m),
+    )
+}
+
+/// The form of a row V10.
+fn scalar_form(row: &V10) -> Form
+    ensures { result ≡ form_of (vector.V10 row.now) }
+{
+    lanes(
+        scalar_fn(row.name),
+        row.u.get() == 1,
+        size(&row.z),
+        row.d,
+        row.n,
+        Operand::Scalar(row.m),
+    )
+}
+
+/// The form of a row V18.
+fn copies_form(row: &V18) -> Form
+    ensures { result ≡ form_of (vector.V18 row.now) }
+{
+    lanes(
+        LaneFn::Dup,
+        true,
+        element_size(row.size),
+        row.d,
+        row.d,
+        Operand::Scalar(row.t),
+    )
+}
+
+/// What form a vector row has.
 pub fn form(v: &Vector) -> Form
     ensures { result ≡ form_of v.now }
 {
     match v {
-        Vector::V1(row) => lanes(
-            add_fn(row.name),
-            false,
-            size(&row.z),
-            row.d,
-            row.n,
-            Operand::Vector(row.m),
-        ),
-        Vector::V2(row) => lanes(
-            bitwise_fn(row.name),
-            false,
-            Size::Word,
-            row.d,
-            row.n,
-            Operand::Vector(row.m),
-        ),
-        Vector::V3(row) => lanes(
-            signed_fn(row.name),
-            row.u.get() == 1,
-            size(&row.z),
-            row.d,
-            row.n,
-            Operand::Vector(row.m),
-        ),
-        Vector::V5(row) => lanes(
-            doubling_fn(row.name),
-            false,
-            size(&row.z),
-            row.d,
-            row.n,
-            Operand::Vector(row.m),
-        ),
+        Vector::V1(row) => add_form(row),
+        Vector::V2(row) => bitwise_form(row),
+        Vector::V3(row) => signed_form(row),
+        Vector::V5(row) => doubling_form(row),
         Vector::V6(row) => Form::Wide(*row),
-        Vector::V7(row) => lanes(
-            high_fn(row.name, row.u.get() == 1),
-            false,
-            size(&row.z),
-            row.d,
-            row.n,
-            Operand::Vector(row.m),
-        ),
+        Vector::V7(row) => high_form(row),
         Vector::V8(row) => Form::Carry(*row),
         Vector::V9(row) => Form::Turned(*row),
-        Vector::V10(row) => lanes(
-            scalar_fn(row.name),
-            row.u.get() == 1,
-            size(&row.z),
-            row.d,
-            row.n,
-            Operand::Scalar(row.m),
-        ),
+        Vector::V10(row) => scalar_form(row),
         Vector::V12(row) => long_form(row),
         Vector::V13(row) => one_form(row),
         Vector::V14(row) => Form::Reversed(*row),
         Vector::V15(row) => Form::Constant(*row),
         Vector::V16(row) => Form::Narrow(*row),
         Vector::V17(row) => Form::Shift(*row),
-        Vector::V18(row) => lanes(
-            LaneFn::Dup,
-            true,
-            element_size(row.size),
-            row.d,
-            row.d,
-            Operand::Scalar(row.t),
-        ),
+        Vector::V18(row) => copies_form(row),
         Vector::V19(row) => offsets_form(row),
         Vector::V20(row) => compare_form(row),
         Vector::V21(row) => predicate_form(row),
