@@ -65,7 +65,7 @@ active_any b mask size x y slice (inl e) = λ j.
 active_any b mask size x y slice (inr e) = ap (λ v. active_bytes b mask size v slice) e
 
 -- a register is put twice
-put_twice : (c : Cell) (v w : Value) (s : State) → put cells c w (put cells c v s) ≡ put cells c w s
+pub put_twice : (c : Cell) (v w : Value) (s : State) → put cells c w (put cells c v s) ≡ put cells c w s
 put_twice c v w s = λ j. record { cell = λ d. go (same_cell c d) (s.cell d) j; sticky = s.sticky; pc = s.pc; rest = s.rest }
   where
     go : (x : Bool) (u : Value) → cond x w (cond x v u) ≡ cond x w u

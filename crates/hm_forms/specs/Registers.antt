@@ -5,23 +5,25 @@ use Rattle.hm_base.specs.declared.Place.TheVariants.{R}
 use Rattle.hm_isa.specs.declared.vectors.V6.{V6}
 use Rattle.hm_isa.specs.declared.vectors.V9.{V9}
 use Rattle.hm_isa.specs.declared.vectors.V14.{V14}
+use Rattle.hm_isa.specs.declared.vectors.V23.{V23}
 use Rattle.hm_isa.specs.declared.vectors.ReverseName.{ReverseName}
 use Rattle.hm_isa.specs.declared.vectors.ReverseName.TheVariants as rev
 use Rattle.hm_lane.specs.declared.lanes.Size.{Size}
 use Rattle.hm_lane.specs.declared.lanes.Size.TheVariants.{Byte, Half, Word}
-use Rattle.hm_lane.specs.Lanes.{bytes_of, lanes, merged, paired, unlanes}
+use Rattle.hm_lane.specs.Lanes.{bytes_of, lanes, merged, modulus, paired, unlanes}
 use Rattle.hm_regs.specs.Writes.{write}
 use Rattle.hm_state.specs.Store.{put_all}
 use Rattle.hm_state.specs.State.{State, at, cells, into}
 use Rattle.hm_beat.specs.Rows.{advance_half, predicate_at, register_at, retired, write_register}
 use Rattle.hm_kinds.specs.Row.{slice_at, values_at}
+use Rattle.hm_lane_fns.specs.LaneFns.{cut, number}
 use Rattle.hm_lane_fns.specs.Words.{firsts, size_of}
 use Rattle.hm_forms.specs.declared.long_sums.LongSums.{LongSums}
 use Rattle.hm_forms.specs.declared.longer.Longer.{Longer}
 use Rattle.hm_forms.specs.declared.offsets.Steps.{Steps}
 use Rattle.hm_forms.specs.declared.sums.Sums.{Sums}
 use Rattle.hm_isa.specs.declared.fields.Below.{Below}
-use Rattle.hm_forms.specs.Forms.{added, every_second, exchanged, in_turn, lengthened, long_term, offset_after, offsets_from, per_word, product, term_of, turned_lane, words_row}
+use Rattle.hm_forms.specs.Forms.{added, best, every_second, exchanged, in_turn, lengthened, long_term, offset_after, offsets_from, per_word, product, term_of, turned_lane, words_row}
 
 -- 16 bytes are merged into a register under the predicate, and the masks advance
 abbrev pub merged_whole : ℕ → List ℕ → State → State
@@ -107,3 +109,12 @@ offsets_whole r s =
     let result = unlanes r.z (offsets_from r (round_at r.round s) count (at place s)) in
     let next = offset_after r (round_at r.round s) count (at place s) in
     retired (put_all cells (write_register r.d.value (merged (predicate_at s) (register_at r.d.value s) result) ++ (into (write place next) ∷ advance_half 0 s ++ advance_half 2 s)) s)
+
+-- the best of a register's old value and of the elements of a vector register
+abbrev pub extreme_whole : V23 → State → State
+extreme_whole r s =
+    let z = size_of r.z.value in
+    let u = nat_eq r.u.value 1 in
+    let place = R r.t.value in
+    let extreme = best r.name (firsts z (predicate_at s)) (map (number u z) (elements z r.m.value s)) (number u z (at place s % modulus z)) in
+    retired (put_all cells (into (write place (cut Word extreme)) ∷ advance_half 0 s ++ advance_half 2 s) s)

@@ -1,3 +1,4 @@
+use Rattle.hm_forms.proofs.Bests.{extreme_is}
 use Rattle.hm_forms.proofs.Registers.{longer_is, offsets_is, reversed_is, words_whole, turned_is, wide_bytes, wide_halves}
 use Rattle.hm_forms.proofs.LongTotals.{long_is}
 use Rattle.hm_forms.proofs.Totals.{sum_is}
@@ -33,3 +34,6 @@ returns-clause-words c = words_whole
 
 pub returns-clause-reversed : goal.returns-clause-reversed
 returns-clause-reversed c = reversed_is
+
+pub returns-clause-extreme : goal.returns-clause-extreme
+returns-clause-extreme c = extreme_is
