@@ -1,5 +1,5 @@
 -- Codes whose fields break the rule of a row.
-use Rattle.std.proofs.Common.{◌≡◌, ◌+◌, ◌-◌, ◌*◌, ◌^◌, ℕ, true, false, List, [], ◌∷◌, refl, arith, sym, ◌∙◌, ap}
+use Rattle.std.proofs.Common.{◌≡◌, ◌-◌, ◌*◌, ◌^◌, ℕ, true, false, List, [], ◌∷◌, refl, arith, sym, ◌∙◌, ap}
 use Rattle.hm_isa.specs.declared.narrow.AccessName.{AccessName}
 use Rattle.hm_isa.specs.declared.wide.PairName.{PairName}
 use Rattle.hm_isa.specs.declared.wide.Indexed.{Indexed}

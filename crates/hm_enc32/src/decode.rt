@@ -1,6 +1,6 @@
 //! The rows of 32-bit codes, read.
 
-ghost use Rattle.std.specs.Prelude.{◌≡◌, ◌<◌, ◌/◌, ◌%◌, ◌^◌, IfSome, IfNone};
+ghost use Rattle.std.specs.Prelude.{◌≡◌, ◌<◌, IfSome, IfNone};
 ghost use Rattle.hm_isa.specs.declared.narrow.AccessName.{AccessName};
 ghost use Rattle.hm_isa.specs.declared.wide.PairName.{PairName};
 ghost use Rattle.hm_isa.specs.declared.wide.Offset.{Offset};
@@ -14,19 +14,11 @@ ghost use Rattle.hm_isa.specs.declared.Scalar.{Scalar};
 ghost use Rattle.hm_isa.specs.Keeps.{is_general, is_load, is_data, is_indexed, is_pair};
 ghost use Rattle.hm_isa.specs.Code.{wide_access_base, pair_base, code_offset, code_indexed, code_shifted, code_literal, code_t12, code_t13, code_t15, scalar_halves, two_halves};
 
+use hm_base::bits;
 use hm_isa::{
     AccessName, Below, Indexed, Literal, Offset, PairName, Scalar, Shifted, StackName, T12, T13,
     T15,
 };
-
-/// So many bits of w, from this one up.
-fn field(w: u32, position: u32, width: u32) -> u32
-    requires position { position < 32 }
-    requires width { width < 32 }
-    ensures { result ≡ w / 2 ^ position % 2 ^ width }
-{
-    (w >> position) % (1 << width)
-}
 
 /// Whether a register is neither sp nor pc.
 fn general(n: u32) -> bool
@@ -107,16 +99,17 @@ fn may_be_indexed(x: AccessName, n: u32, t: u32, p: u32, u: u32, w: u32) -> bool
 }
 
 /// `[rn,#-i]`, `[rn,#i]!`, `[rn],#i`
+#[tactic(auto, unfolding(hm_base::specs::Bits::field))]
 fn decode_indexed(w: u32) -> Option<Indexed>
     ensures found { IfSome result (λ r. code_indexed r ≡ w) }
     ensures none { IfNone result ((r : Indexed) → code_indexed r ≡ w → ⊥) }
 {
-    let n = field(w, 16, 4);
-    let t = field(w, 12, 4);
-    let before = field(w, 10, 1);
-    let up = field(w, 9, 1);
-    let back = field(w, 8, 1);
-    let i = field(w, 0, 8);
+    let n = bits(w, 19, 16);
+    let t = bits(w, 15, 12);
+    let before = bits(w, 10, 10);
+    let up = bits(w, 9, 9);
+    let back = bits(w, 8, 8);
+    let i = bits(w, 7, 0);
     if (w >> 11) & 1 == 0 {
         return None;
     }
@@ -244,17 +237,18 @@ fn pair_name(rest: u32) -> Option<PairName>
 }
 
 /// `strd`, `ldrd rt,ru,[rn,#4i]`
+#[tactic(auto, unfolding(hm_base::specs::Bits::field))]
 fn decode_t13(w: u32) -> Option<T13>
     ensures found { IfSome result (λ r. code_t13 r ≡ w) }
     ensures none { IfNone result ((r : T13) → code_t13 r ≡ w → ⊥) }
 {
-    let before = field(w, 24, 1);
-    let add = field(w, 23, 1);
-    let back = field(w, 21, 1);
-    let n = field(w, 16, 4);
-    let t = field(w, 12, 4);
-    let u = field(w, 8, 4);
-    let i = field(w, 0, 8);
+    let before = bits(w, 24, 24);
+    let add = bits(w, 23, 23);
+    let back = bits(w, 21, 21);
+    let n = bits(w, 19, 16);
+    let t = bits(w, 15, 12);
+    let u = bits(w, 11, 8);
+    let i = bits(w, 7, 0);
     let rest = w
         - (before << 24)
         - (add << 23)
