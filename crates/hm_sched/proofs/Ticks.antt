@@ -5,7 +5,7 @@ use Rattle.std.proofs.lemmas.List.Elements.{All-head, All-tail, All-push}
 use Rattle.std.proofs.lemmas.List.Sums.{sum_by-cons, sum_by-append}
 use Rattle.std.proofs.lemmas.List.{length-map}
 use Rattle.hm_sched.specs.declared.Line.{Line}
-use Rattle.hm_sched.specs.Schedule.{TickLine, Sched, line_of, most_ticks, total, repeat, ticks_of, IsLine, IsSched, IsYetLine, IsYet}
+use Rattle.hm_sched.specs.Schedule.{TickLine, Sched, line_of, most_ticks, total, repeat, ticks_of, IsLine, IsSched}
 
 length-repeat : (n : ℕ) (line : TickLine) (rest : List TickLine) → length (repeat n line rest) ≡ n + length rest
 length-repeat zero line rest = omega arith
@@ -50,10 +50,4 @@ IsSched-with_line s line sound one room = record {
   floor_end = sound.floor_end;
   each_line = All-push IsLine s.lines line sound.each_line one;
   not_too_many = rw (total-push s.lines line) room;
-}
-
-pub IsYet-with_line : (s : Sched) (line : TickLine) → IsYet s → IsYetLine line → IsYet (with_line s line)
-IsYet-with_line s line yet one = record {
-  no_entries = yet.no_entries;
-  each_line = All-push IsYetLine s.lines line yet.each_line one;
 }

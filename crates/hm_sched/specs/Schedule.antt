@@ -1,6 +1,7 @@
 -- Schedules: what each tick of a run does.
-use Rattle.std.specs.Prelude.{◌≡◌, ℕ, zero, suc, ◌≤◌, ◌⊎◌, Bool, false, List, [], ◌∷◌, length}
+use Rattle.std.specs.Prelude.{◌≡◌, ℕ, zero, suc, ◌+◌, ◌≤◌, ◌⊎◌, Bool, false, List, [], ◌∷◌, length}
 use Rattle.std.specs.List.{All, sum_by}
+use Rattle.hm_base.specs.Image.{sram_start, sram_size}
 use Rattle.hm_sched.specs.declared.Line.{Line}
 
 -- so many ticks that do the same: their letters, and a bit for each interrupt that arrives
@@ -61,7 +62,7 @@ plain_lines (suc n) = plain_line (suc n) ∷ []
 
 -- the schedule of n ticks of one whole instruction each, with no entries and no bytes for handlers
 abbrev pub plain : ℕ → Sched
-plain n = record { entries = false; lo = 0x20000000; hi = 0x20000000; floor = 0x20000000; lines = plain_lines n }
+plain n = record { entries = false; lo = sram_start; hi = sram_start; floor = sram_start; lines = plain_lines n }
 
 -- a byte is one of the three letters
 abbrev pub IsLetter : ℕ → Type 0
@@ -75,18 +76,10 @@ pub record IsLine (line : TickLine) : Type 0 where
 
 -- the region and the floor lie in SRAM or at its end, each line is one, and there are not too many ticks
 pub record IsSched (s : Sched) : Type 0 where
-  pub region_start : 0x20000000 ≤ s.lo
+  pub region_start : sram_start ≤ s.lo
   pub region_order : s.lo ≤ s.hi
-  pub region_end : s.hi ≤ 0x20040000
-  pub floor_start : 0x20000000 ≤ s.floor
-  pub floor_end : s.floor ≤ 0x20040000
+  pub region_end : s.hi ≤ sram_start + sram_size
+  pub floor_start : sram_start ≤ s.floor
+  pub floor_end : s.floor ≤ sram_start + sram_size
   pub each_line : All IsLine s.lines
   pub not_too_many : total s.lines ≤ most_ticks
-
--- for now nothing is interrupted
-pub record IsYetLine (line : TickLine) : Type 0 where
-  pub no_arrivals : line.irq ≡ 0
-
-pub record IsYet (s : Sched) : Type 0 where
-  pub no_entries : s.entries ≡ false
-  pub each_line : All IsYetLine s.lines

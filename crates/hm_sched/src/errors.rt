@@ -4,7 +4,6 @@ ghost use Rattle.std.specs.Prelude.{◌≡◌};
 ghost use Rattle.hm_sched.specs.declared.errors.SchedErr.TheVariants.{OutOfMemory};
 
 use std::alloc::AllocFailed;
-use std::fmt;
 use thiserror::Error;
 
 /// What is bad in a line of a schedule's text. The first four lines are its head; each other one has a count, steps and interrupts.
@@ -28,36 +27,14 @@ pub enum LineKind {
     Newline,
 }
 
-impl LineKind {
-    /// The kind's name in a refusal.
-    fn word(self) -> &'static str {
-        match self {
-            LineKind::Header => "header",
-            LineKind::Entries => "entries",
-            LineKind::Region => "region",
-            LineKind::Floor => "floor",
-            LineKind::Count => "count",
-            LineKind::Steps => "steps",
-            LineKind::Irq => "irq",
-            LineKind::Newline => "newline",
-        }
-    }
-}
-
-impl fmt::Display for LineKind {
-    fn fmt<W: fmt::Write>(&self, f: &mut fmt::Formatter<W>) -> fmt::Result {
-        f.write_str(self.word())
-    }
-}
-
 /// Why a schedule is refused. Lines are numbered from 1, and the first four are the head.
 #[derive(Clone, Copy, Debug, PartialEq, Eq, Error)]
 pub enum SchedErr {
     /// A line is bad in itself.
-    #[error("schedule line {line} {kind}")]
+    #[error("a line of the schedule is bad")]
     Line { line: u32, kind: LineKind },
     /// At this line the sum of the counts passes 16,777,216.
-    #[error("schedule too many ticks {line}")]
+    #[error("the schedule has too many ticks")]
     TooManyTicks { line: u32 },
     /// Memory was wanted and refused.
     #[error("out of memory")]

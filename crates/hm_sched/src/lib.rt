@@ -3,12 +3,14 @@
 
 ghost use Rattle.std.specs.Prelude.{◌≡◌, ◌+◌, ◌≤◌, ◌<◌, ◌↔◌, Bool, false, [], ◌∷◌, ◌++◌, length, Some, Err, slice_get, IfOk, OnOk, OnErr, IsOkUnless};
 ghost use Rattle.std.specs.List.{All};
-ghost use Rattle.hm_sched.specs.Schedule.{TickLine, Sched, line_of, most_ticks, total, ticks_of, plain, IsLetter, IsSched, IsYet};
+ghost use Rattle.hm_sched.specs.Schedule.{TickLine, Sched, line_of, most_ticks, total, ticks_of, plain, IsLetter, IsSched};
+ghost use Rattle.hm_base.specs.Image.{sram_start, sram_size};
 
 mod errors;
 
 use arrayvec::ArrayVec;
 pub use errors::{LineKind, SchedErr};
+use hm_base::SRAM_START;
 use std::alloc::Global;
 use std::marker::Model;
 
@@ -17,9 +19,6 @@ const MOST_TICKS: u32 = 16_777_216;
 
 /// How many lines of a schedule's text stand before its first line of ticks.
 const HEAD_LINES: u32 = 4;
-
-/// The first address of SRAM.
-const SRAM_START: u32 = 0x2000_0000;
 
 /// One line of a schedule: as many ticks as its count says, all alike.
 #[derive(Debug, Drop)]
@@ -62,13 +61,13 @@ impl Schedule {
     /// `entries` says whether exceptions are entered. The bytes of SRAM from `lo` up to `hi` are the region in which a handler may store, and
     /// `floor` is the lowest address of those that it may store to below its frame.
     pub fn begin(alloc: Global, entries: bool, lo: u32, hi: u32, floor: u32) -> Schedule
-        requires no_entries_yet { entries ≡ false }
-        requires region_start { 0x20000000 ≤ lo }
+        requires entries_not_built_yet { entries ≡ false }
+        requires region_start { sram_start ≤ lo }
         requires region_order { lo ≤ hi }
-        requires region_end { hi ≤ 0x20040000 }
-        requires floor_start { 0x20000000 ≤ floor }
-        requires floor_end { floor ≤ 0x20040000 }
-        ensures { result ≡ record { entries = entries; lo = lo; hi = hi; floor = floor; lines = [] } }
+        requires region_end { hi ≤ sram_start + sram_size }
+        requires floor_start { sram_start ≤ floor }
+        requires floor_end { floor ≤ sram_start + sram_size }
+        ensures made { result ≡ record { entries = entries; lo = lo; hi = hi; floor = floor; lines = [] } }
     {
         Schedule {
             entries,
@@ -89,8 +88,6 @@ impl Schedule {
         requires eight_digits { count ≤ 99999999 }
         requires few { length letters.now ≤ 8 }
         requires each_letter { All IsLetter letters.now }
-        requires no_arrivals_yet { irq ≡ 0 }
-
         ensures ok { let line : TickLine = record { count = count; letters = letters.now; irq = irq } in
             OnOk result (self.new ≡ record self.old { lines = self.old.lines ++ line ∷ [] }) }
         ensures too_many { (result ≡ Err (SchedErr.TooManyTicks (5 + length self.old.lines))) ↔ (most_ticks < total self.old.lines + count) }
@@ -113,7 +110,7 @@ impl Schedule {
 
     /// Whether exceptions are entered.
     pub fn entries(&self) -> bool
-        ensures { result ≡ self.now.entries }
+        ensures value { result ≡ self.now.entries }
     {
         self.entries
     }
@@ -129,7 +126,7 @@ impl Schedule {
 
     /// The lowest address to which handlers may store below their frame.
     pub fn floor(&self) -> u32
-        ensures { result ≡ self.now.floor }
+        ensures value { result ≡ self.now.floor }
     {
         self.floor
     }
@@ -138,15 +135,14 @@ impl Schedule {
     pub fn lines(&self) -> usize
         ensures count { result ≡ length self.now.lines }
         ensures sound { IsSched self.now }
-        ensures yet { IsYet self.now }
     {
         self.lines.len()
     }
 
     /// Line k, from 0 on.
     pub fn line(&self, k: usize) -> &Line
-        requires { k < length self.now.lines }
-        ensures { slice_get self.now.lines k ≡ Some (line_of result.now) }
+        requires there { k < length self.now.lines }
+        ensures value { slice_get self.now.lines k ≡ Some (line_of result.now) }
     {
         &self.lines[k]
     }
@@ -163,8 +159,8 @@ impl Schedule {
 
 /// The letters of a line, as a line holds them.
 fn held(letters: &[u8]) -> ArrayVec<u8, 8>
-    requires { length letters.now ≤ 8 }
-    ensures { result.items ≡ letters.now }
+    requires few { length letters.now ≤ 8 }
+    ensures same { result.items ≡ letters.now }
 {
     ArrayVec::try_from(letters).unwrap()
 }
@@ -238,11 +234,27 @@ mod tests {
     }
 
     #[test]
+    fn interrupts_arrive(rt: HostRuntime) -> Result<(), Fail> {
+        let mut schedule = Schedule::begin(
+            rt.alloc(),
+            false,
+            0x2000_0000,
+            0x2000_0000,
+            0x2000_0000,
+        );
+        schedule.add(1, b"O", 0x8000_0001)?;
+        schedule.add(1, b"O", 0)?;
+        assert_eq!(rt; schedule.line(0).irq, 0x8000_0001);
+        assert_eq!(rt; schedule.line(1).irq, 0);
+        Ok(())
+    }
+
+    #[test]
     fn refusals_are_told(rt: HostRuntime) -> Result<(), Fail> {
         let many = SchedErr::TooManyTicks { line: 5 };
         assert_eq!(rt;
             format!(in rt.alloc(); "{many}")?.as_str(),
-            "schedule too many ticks 5"
+            "the schedule has too many ticks"
         );
         let bad = SchedErr::Line {
             line: 5,
@@ -250,7 +262,7 @@ mod tests {
         };
         assert_eq!(rt;
             format!(in rt.alloc(); "{bad}")?.as_str(),
-            "schedule line 5 steps"
+            "a line of the schedule is bad"
         );
         Ok(())
     }

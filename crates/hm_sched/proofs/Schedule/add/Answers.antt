@@ -2,8 +2,8 @@ use Rattle.std.proofs.Common.{◌≡◌, ◌++◌, ◌∷◌, [], arith, refl, a
 use Rattle.std.proofs.lemmas.List.{map-append}
 use Rattle.hm_sched.specs.declared.Line.{Line}
 use Rattle.hm_sched.specs.Held.{schedule_view}
-use Rattle.hm_sched.specs.Schedule.{line_of, IsLine, IsYetLine}
-use Rattle.hm_sched.proofs.Ticks.{lines_le-most_ticks, total-push, IsSched-with_line, IsYet-with_line}
+use Rattle.hm_sched.specs.Schedule.{line_of, IsLine}
+use Rattle.hm_sched.proofs.Ticks.{lines_le-most_ticks, total-push, IsSched-with_line}
 use Rattle.hm_sched.proofs.Schedule.add.Goals as goal
 
 pub overflow_cast-result : goal.overflow_cast-result
@@ -23,15 +23,11 @@ invariant_of-self-2 c =
     ap (map line_of) c.in_ok-push.ensures.items ∙ map-append line_of c.self.inside.lines.items (line ∷ []) in
     let one : IsLine (line_of line) = record {
       some = c.requires.some;
-      few = rw c.held.ensures c.requires.few;
-      each_letter = rw c.held.ensures c.requires.each_letter;
-    } in
-    let one_yet : IsYetLine (line_of line) = record {
-      no_arrivals = c.requires.no_arrivals_yet;
+      few = rw c.held.ensures.same c.requires.few;
+      each_letter = rw c.held.ensures.same c.requires.each_letter;
     } in
     let sum = c.self.invariant.sum in
     record {
       sound = rw lines (IsSched-with_line (schedule_view c.self.inside) (line_of line) c.self.invariant.sound one (omega arith));
-      yet = rw lines (IsYet-with_line (schedule_view c.self.inside) (line_of line) c.self.invariant.yet one_yet);
       sum = rw (lines, total-push (map line_of c.self.inside.lines.items) (line_of line)) (omega arith);
     }
