@@ -51,13 +51,13 @@ Counts old new (Err Failed) = Rose old new
 Counts old new (Err TooLarge) = new ≡ old
 Counts old new (Err OutOfMemory) = new ≡ old
 
--- the answer to a read. An answer is not too long, and where the files are told it is the whole file; too large is
--- answered of a file that is too long, and of no other; a read that wants memory is of a file that is not too long
+-- the answer to a read. What is read is not too long, and where the files are told it is the whole file; too large is
+-- answered only of a file that is too long. Memory may be wanted at any file: at one that is too long, whichever comes first
 abbrev pub Reads : {T : Type 0} → Option FileMap → List ℕ → (T → List ℕ) → Result T HostErr → Type 0
 Reads files name items (Ok bytes) = (length (items bytes) ≤ longest) × ((F : FileMap) → files ≡ Some F → get F name ≡ Some (items bytes))
 Reads files name items (Err Failed) = Unit {0}
 Reads files name items (Err TooLarge) = (F : FileMap) → files ≡ Some F → (bytes : List ℕ) × (get F name ≡ Some bytes) × (longest < length bytes)
-Reads files name items (Err OutOfMemory) = (F : FileMap) → files ≡ Some F → (bytes : List ℕ) → get F name ≡ Some bytes → length bytes ≤ longest
+Reads files name items (Err OutOfMemory) = Unit {0}
 
 -- what a write does to the files
 abbrev pub Writes : {T : Type 0} → List ℕ → List ℕ → Option FileMap → Option FileMap → Result T HostErr → Type 0

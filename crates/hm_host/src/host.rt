@@ -30,9 +30,10 @@ pub trait Host {
     /// What it tells: its files, its printed bytes and its count of faults.
     ghost state: { Self → HostState };
 
-    /// The whole bytes of a file. `TooLarge` where it has more than 16,777,216.
+    /// The whole bytes of a file. `TooLarge` only where it has more than 16,777,216.
     ///
-    /// The files and what was printed stay, whatever it answers.
+    /// Of such a file it answers `Failed`, `TooLarge` or `OutOfMemory`, whichever comes first. The files and what was
+    /// printed stay, whatever it answers.
     fn read(&mut self, alloc: Global, name: &str) -> Result<Vec<u8>, HostErr>
         ensures answer { Reads (state self.old).files name.now (λ bytes. bytes.items) result }
         ensures files { Stays (state self.old).files (state self.new).files }
