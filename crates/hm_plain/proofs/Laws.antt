@@ -34,7 +34,7 @@ use Rattle.hm_run.specs.declared.Rule.TheVariants as rule
 use Rattle.hm_beat.specs.declared.clash.Clash.{Clash}
 use Rattle.hm_beat.specs.Meeting.{clash_with}
 use Rattle.hm_beat.proofs.Remaining.{left_apart}
-use Rattle.hm_run.specs.Program.{rows, core, alone, begins, caused, cause_of, done_alone, done_in_machine, in_machine, is_ready, is_tainted, lifted, makes_here, on_cell, or_fault, other_by, other_here, other_row, ready_state, clash_or, is_too_early, overlap_rule, refusal_rule, rule_of_clash, step_rule, unless_refused, vector_of, whole_here}
+use Rattle.hm_run.specs.Program.{rows, core, alone, begins, caused, cause_of, done_alone, done_in_machine, in_machine, is_ready, is_tainted_cause, lifted, makes_here, on_cell, or_fault, other_by, other_here, other_row, ready_state, clash_or, is_too_early, overlap_rule, refusal_rule, rule_of_clash, step_rule, unless_refused, vector_of, whole_here}
 use Rattle.hm_whole.specs.Watched.{Agrees, GoesAlike, Watched, In, Beside, Held, Holds, Others, open_rest, held, dead, view}
 use Rattle.hm_run.specs.Stops as why
 use Rattle.hm_run.specs.declared.Reason.{Reason}
@@ -113,7 +113,7 @@ abbrev AlikeBoth : Result State Cause → Result State WholeStop → Type 0
 AlikeBoth r q = AlikeAs cause_of (λ u v. Live view u v × (u.pc ≡ v.pc)) r q
 
 abbrev TaintedOrAlike : Result State Cause → Result State WholeStop → Type 0
-TaintedOrAlike r q = StopsBy is_tainted r ⊎ AlikeBoth r q
+TaintedOrAlike r q = StopsBy is_tainted_cause r ⊎ AlikeBoth r q
 
 done_alike : (r : Result Went Stop) (q : Result Went Fault) → GoesAlike r q → TaintedOrAlike (done_in_machine r) (done_alone q)
 done_alike (Ok x) (Ok y) (inl h) = absurd h
@@ -171,7 +171,7 @@ module _ (listing : Listing) (around : Around) where
   clean_after thread s t h e = clean_of t (subst Leaves e (leaves around thread (listing s.pc) s (clean_bytes s h)))
 
 -- STOPS AND RULES
-untainted : (w : WholeStop) → is_tainted (cause_of w) ≡ false
+untainted : (w : WholeStop) → is_tainted_cause (cause_of w) ≡ false
 untainted (why.Halt reason) = refl
 untainted why.Full = refl
 untainted (why.Faults f) = refl
@@ -185,7 +185,7 @@ caused_ok : (r : Result State Stop) (t : State) → caused r ≡ Ok t → r ≡ 
 caused_ok (Ok s) t e = ap Ok (ok_same e)
 caused_ok (Err f) t e = absurd (ok_err (sym e))
 
-stops_caused : (r : Result State Stop) → StopsBy cell.is_tainted r → StopsBy is_tainted (caused r)
+stops_caused : (r : Result State Stop) → StopsBy cell.is_tainted r → StopsBy is_tainted_cause (caused r)
 stops_caused (Ok s) h = h
 stops_caused (Err (stop.Fault f)) h = h
 stops_caused (Err (stop.Tainted a)) h = h
@@ -427,5 +427,5 @@ laws listing around thread = record {
   other_live = λ s t h e none clean. other_live around thread listing s t h e none;
   untainted = untainted;
   lawful = lawful around thread listing;
-  faults = λ e. broken (is_tainted e);
+  faults = λ e. broken (is_tainted_cause e);
 }

@@ -27,7 +27,7 @@ use Rattle.hm_run.specs.declared.Rule.{Rule}
 use Rattle.hm_run.specs.declared.Rule.TheVariants as rule
 use Rattle.hm_run.specs.declared.Who.{Who}
 use Rattle.hm_run.specs.declared.Who.TheVariants.{Thread, Handler, Entry}
-use Rattle.hm_run.specs.Program.{Program, Stepped, Stopping, Ticked, alone, core, cause_of, done_alone, is_tainted, letter_step, makes_here, at_step, letter_steps, or_fault, to_end, unless_refused, vector_of, whole_here}
+use Rattle.hm_run.specs.Program.{Program, Stepped, Stopping, Ticked, alone, core, cause_of, done_alone, is_tainted_cause, letter_step, makes_here, at_step, letter_steps, or_fault, to_end, unless_refused, vector_of, whole_here}
 use Rattle.hm_whole.specs.Watched.{Watched, In, Beside, view, held, dead}
 use Rattle.hm_mem.specs.Devices.{open_devices}
 use Rattle.hm_run.specs.Stops as why
@@ -88,16 +88,16 @@ module _ (listing : Listing) (around : Around) (thread : around.actor ≡ actor.
   -- a younger beat that stops and breaks no rule is tainted
   abbrev OnlyTaint : Stepped → Type 0
   OnlyTaint (Ok c) = Unit {0}
-  OnlyTaint (Err (Stopped c e)) = is_tainted e ≡ true
+  OnlyTaint (Err (Stopped c e)) = is_tainted_cause e ≡ true
   OnlyTaint (Err (Broken c r)) = Unit {0}
 
-  fault_only : (c : Config State) (e : Cause) (b : Bool) → is_tainted e ≡ b → OnlyTaint (Err (fault_end machine (cond b None (Some rule.YoungerFault)) c e))
+  fault_only : (c : Config State) (e : Cause) (b : Bool) → is_tainted_cause e ≡ b → OnlyTaint (Err (fault_end machine (cond b None (Some rule.YoungerFault)) c e))
   fault_only c e true h = h
   fault_only c e false h = tt
 
   did_only : (c : Config State) (r : Result State Cause) → OnlyTaint (did machine c r)
   did_only c (Ok t) = tt
-  did_only c (Err e) = fault_only c e (is_tainted e) refl
+  did_only c (Err e) = fault_only c e (is_tainted_cause e) refl
 
   younger_only : (c : Config State) (b : Option Rule) (o : Option Vector) → OnlyTaint (younger_of machine b o c)
   younger_only c (Some b) o = tt
@@ -110,7 +110,7 @@ module _ (listing : Listing) (around : Around) (thread : around.actor ≡ actor.
   -- what the letters of a tick may come to
   abbrev AgreesTick : Ticked → Type 0
   AgreesTick (Ok c) = Holds machine first c
-  AgreesTick (Err (Stopped c e)) = StopsAt machine first c e.cause × (e.younger ≡ true → is_tainted e.cause ≡ true)
+  AgreesTick (Err (Stopped c e)) = StopsAt machine first c e.cause × (e.younger ≡ true → is_tainted_cause e.cause ≡ true)
   AgreesTick (Err (Broken c r)) = Unit {0}
 
   at_step_agrees : (k : ℕ) (younger : Bool) (r : Stepped) → Agrees machine first r → (younger ≡ true → OnlyTaint r) → AgreesTick (at_step k younger r)
@@ -208,7 +208,7 @@ module _ (listing : Listing) (around : Around) (thread : around.actor ≡ actor.
   next_stops_of n why.Full h = h
   next_stops_of n (why.Faults f) h = h
 
-  tainted_stops : (n : ℕ) (e : Cause) → is_tainted e ≡ true → NextStops n e
+  tainted_stops : (n : ℕ) (e : Cause) → is_tainted_cause e ≡ true → NextStops n e
   tainted_stops n (cause.Halt reason) t = absurd cc
   tainted_stops n cause.Full t = absurd cc
   tainted_stops n (cause.Stop (stop.Fault f)) t = absurd cc
@@ -235,7 +235,7 @@ module _ (listing : Listing) (around : Around) (thread : around.actor ≡ actor.
   fault_keeps Handler f pc n d h = tt
   fault_keeps Entry f pc n d h = tt
 
-  stop_keeps : (t : ℕ) (x : Timed) (c : Config State) (e : Cause) (younger : Bool) → StopsAt machine first c e → (younger ≡ true → is_tainted e ≡ true) → NextStops c.n e
+  stop_keeps : (t : ℕ) (x : Timed) (c : Config State) (e : Cause) (younger : Bool) → StopsAt machine first c e → (younger ≡ true → is_tainted_cause e ≡ true) → NextStops c.n e
       → let stopping : Stopping = record { cause = e; younger = younger } in
       Keeps machine first (Some (outcome_of t x.acts c stopping)) (at_stop c stopping)
   stop_keeps t x c (cause.Halt reason) younger h only k =

@@ -26,7 +26,7 @@ use Rattle.hm_rows.specs.Rows.{vector_tree, vector_whole, refuse}
 use Rattle.hm_sched.specs.Schedule.{older_letter, younger_letter}
 use Rattle.hm_regs.specs.declared.Regs.{Regs}
 use Rattle.hm_state.specs.State.{State, Cell, cells, regs_of}
-use Rattle.hm_thumb.specs.Laws.{is_tainted as is_tainted_stop}
+use Rattle.hm_base.specs.Stops.{is_tainted}
 use Rattle.hm_thumb.specs.Rows.{makes_context}
 use Rattle.hm_whole.specs.Watched.{Watched, In, Beside, Held, dead, view}
 use Rattle.hm_whole.specs.Whole.{Went, scalar_alone, scalar_in_machine}
@@ -93,10 +93,10 @@ other_here around (Ok (instr.Vector v)) s = in_machine (vector_row v s)
 other_here around (Err f) s = Err (cause.Stop (stop.Fault f))
 
 -- whether a stop is for the read of a byte that an entry or a handler wrote, or for a store that a handler may not do
-abbrev pub is_tainted : Cause → Bool
-is_tainted (cause.Halt reason) = false
-is_tainted cause.Full = false
-is_tainted (cause.Stop e) = is_tainted_stop e
+abbrev pub is_tainted_cause : Cause → Bool
+is_tainted_cause (cause.Halt reason) = false
+is_tainted_cause cause.Full = false
+is_tainted_cause (cause.Stop e) = is_tainted e
 
 -- THE BEATS OF VECTOR ROWS, as the machine sees them: they touch cells alone
 abbrev pub on_cell : (Cell → Bool) → Watched → Bool
@@ -116,7 +116,7 @@ is_ready v s = s.rest.fpca && is_none (refuse v s)
 
 -- the rows, where it is known who accesses the memory
 abbrev pub rows : Around → Beats State Vector Watched Held Cause
-rows around = record { view = view; act = λ v k. lifted (action cells (of_four (vector_tree v around) k)); ready = is_ready; tainted = is_tainted }
+rows around = record { view = view; act = λ v k. lifted (action cells (of_four (vector_tree v around) k)); ready = is_ready; tainted = is_tainted_cause }
 
 abbrev pub vector_in : Instr → Option Vector
 vector_in (instr.Scalar i) = None
@@ -160,7 +160,7 @@ step_rule x None o c = Some rule.NotVector
 
 -- a younger beat does not fault
 abbrev pub fault_rule : Cause → Option Rule
-fault_rule e = cond (is_tainted e) None (Some rule.YoungerFault)
+fault_rule e = cond (is_tainted_cause e) None (Some rule.YoungerFault)
 
 -- what a vector row makes before all else, and whether it is refused then
 abbrev pub begins : Vector → State → Result State Cause

@@ -1,6 +1,6 @@
 -- The state after a reset.
 use Rattle.std.specs.Prelude.{ℕ, ◌-◌, ◌%◌, false, nat_eq, if◌then◌else◌, List, []}
-use Rattle.hm_base.specs.Image.{Segment, flash_byte, first_byte, word_at}
+use Rattle.hm_base.specs.Image.{Segment, flash_byte, first_byte, sram_start, word_at}
 use Rattle.hm_base.specs.declared.Place.{Place}
 use Rattle.hm_base.specs.declared.Place.TheVariants.{R, Ltp}
 use Rattle.hm_mem.specs.Memory.{Around, first_devices, thread_under}
@@ -53,4 +53,4 @@ start_under lo hi floor image = record {
 
 -- the same where no handler may store anywhere below its frame but from the first byte of SRAM on
 abbrev pub start : List Segment → State
-start image = start_under 0x20000000 0x20000000 0x20000000 image
+start image = start_under sram_start sram_start sram_start image

@@ -78,8 +78,9 @@ abbrev pub cell_of : Regs → Memory → Cell → Value
 cell_of r m (At p) = word (cond (is_cell p) (value_at p r) 0)
 cell_of r m (Byte a) = record { n = byte_at m a; taint = tainted_at m a }
 
-abbrev pub rest_of : Regs → Memory → List ℕ → Rest
-rest_of r m output = record {
+-- what stands beside the places, by the registers, the devices and who accesses the memory
+abbrev pub rest_with : Regs → Dev → Around → List ℕ → Rest
+rest_with r d around output = record {
   n = r.n;
   z = r.z;
   c = r.c;
@@ -92,10 +93,13 @@ rest_of r m output = record {
   fpscr_low = field 0 16 r.fpscr;
   fpscr_middle = field 19 8 r.fpscr;
   vpr_top = field 24 8 r.vpr;
-  devices = m.devices;
+  devices = d;
   output = output;
-  around = m.around;
+  around = around;
 }
+
+abbrev pub rest_of : Regs → Memory → List ℕ → Rest
+rest_of r m output = rest_with r m.devices m.around output
 
 -- the state that registers, a memory and an output make
 unfoldable pub state_of : Regs → Memory → List ℕ → State
