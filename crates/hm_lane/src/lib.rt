@@ -7,7 +7,7 @@ mod masks;
 
 pub use lanes::{Size, bytes, word};
 pub use laws::{finish_law, lanes_law, predicate_law};
-pub use masks::{advance, context, finish, merge, predicate};
+pub use masks::{advance, context, finish, mask_at, merge, predicate};
 
 #[cfg(test)]
 mod tests;

@@ -68,7 +68,7 @@ pub fn predicate(r: &Regs) -> u16
 }
 
 /// The place of the mask for word `b`.
-fn mask_at(b: u8) -> Place
+pub fn mask_at(b: u8) -> Place
     ensures place { result ≡ mask_place b }
     ensures proper { IsPlace result }
     ensures range { range_of result ≡ 16 }

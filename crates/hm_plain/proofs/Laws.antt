@@ -18,6 +18,7 @@ use Rattle.hm_order.specs.Machine.{CoreLaws, Clean, Config, Lawful, next, next_o
 use Rattle.hm_order.proofs.Results.{decide, err_same, ok_err, ok_same}
 use Rattle.hm_state.specs.State.{State, At, Byte, Cell, Value, Rest, at, cells, regs_of}
 use Rattle.hm_state.proofs.Cells.{cell_laws}
+use Rattle.hm_base.specs.Stops.{is_tainted}
 use Rattle.hm_beat.specs.Laws as cell
 use Rattle.hm_beat.specs.Laws.{stopped}
 use Rattle.hm_beat.specs.Ordered.{nothing, of_four, ordered}
@@ -185,7 +186,7 @@ caused_ok : (r : Result State Stop) (t : State) → caused r ≡ Ok t → r ≡ 
 caused_ok (Ok s) t e = ap Ok (ok_same e)
 caused_ok (Err f) t e = absurd (ok_err (sym e))
 
-stops_caused : (r : Result State Stop) → StopsBy cell.is_tainted r → StopsBy is_tainted_cause (caused r)
+stops_caused : (r : Result State Stop) → StopsBy is_tainted r → StopsBy is_tainted_cause (caused r)
 stops_caused (Ok s) h = h
 stops_caused (Err (stop.Fault f)) h = h
 stops_caused (Err (stop.Tainted a)) h = h
