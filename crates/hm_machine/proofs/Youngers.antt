@@ -18,7 +18,7 @@ use Rattle.hm_rows.specs.Rows.{refuse, vector_tree}
 use Rattle.hm_run.specs.declared.Cause.{Cause}
 use Rattle.hm_run.specs.declared.Rule.{Rule}
 use Rattle.hm_run.specs.declared.Rule.TheVariants as rule
-use Rattle.hm_run.specs.Program.{Program, Stepped, clash_or, core, fault_rule, is_tainted, refusal_rule, rows, step_rule, vector_of}
+use Rattle.hm_run.specs.Program.{Program, Stepped, clash_or, core, fault_rule, is_tainted_cause, refusal_rule, rows, step_rule, vector_of}
 use Rattle.hm_state.specs.State.{State, state_of}
 
 -- a beat that breaks no rule
@@ -67,6 +67,6 @@ module _ (listing : Listing) (x : Cpu) where
   younger_beats v w r here there e run = run ∙ younger_by v w None here there e
 
 -- a beat that stops
-pub hindered_is : (e : Cause) (q : Bool) (h : Hindrance) (c : Config State) (listing : Listing) (around : Around) → is_tainted e ≡ q
+pub hindered_is : (e : Cause) (q : Bool) (h : Hindrance) (c : Config State) (listing : Listing) (around : Around) → is_tainted_cause e ≡ q
     → hindered h c ≡ fault_end (core listing around) (cond q None (Some rule.YoungerFault)) c e → hindered h c ≡ fault_end (core listing around) (fault_rule e) c e
 hindered_is e q h c listing around is here = here ∙ (λ j. fault_end (core listing around) (cond (sym is j) None (Some rule.YoungerFault)) c e)

@@ -18,7 +18,7 @@ invariant_of-result c = record {
 pub returns-clause-shows : goal.returns-clause-shows
 returns-clause-shows c =
     shows_start c.args.image.now c.args.s (memory_of c.in_ok-mem.mem) c.flash_word-sp.result c.flash_word-pc.result c.start.result c.in_ok-output.output.items c.first_outcome-outcome.result
-    c.in_ok-mem.ensures.flash c.in_ok-mem.ensures.bytes c.in_ok-mem.ensures.clean c.in_ok-mem.ensures.devices (rw (← c.region-lo.ensures.start, ← c.region-lo.ensures.end, ← c.floor.ensures) c.in_ok-mem.ensures.around)
+    c.in_ok-mem.ensures.flash c.in_ok-mem.ensures.bytes c.in_ok-mem.ensures.clean c.in_ok-mem.ensures.devices (rw (← c.region-lo.ensures.start, ← c.region-lo.ensures.end, ← c.floor.ensures.value) c.in_ok-mem.ensures.around)
     c.flash_word-sp.ensures c.flash_word-pc.ensures c.start.ensures c.in_ok-output.ensures.items c.first_outcome-outcome.ensures.none c.first_outcome-outcome.ensures.out
 
 pub returns-clause-odd : goal.returns-clause-odd
