@@ -1,14 +1,21 @@
 -- The rows of 16-bit codes.
-use Rattle.std.proofs.Common.{◌≡◌, ◌<◌, ◌+◌, ℕ, List, [], ◌∷◌, arith, IsTrue}
+use Rattle.std.proofs.Common.{◌≡◌, ◌<◌, ◌+◌, ◌/◌, ◌%◌, ◌^◌, ℕ, List, [], ◌∷◌, arith, ap, IsTrue}
 use Rattle.std.proofs.lemmas.Bool.Decides.{nat_tests}
 use Rattle.hm_isa.specs.declared.narrow.ListName.{ListName}
 use Rattle.hm_isa.specs.declared.narrow.ListName.TheVariants as list
+use Rattle.hm_isa.specs.declared.narrow.S21.{S21}
 use Rattle.hm_isa.specs.contracts.narrow.ShiftName as shift_
 use Rattle.hm_isa.specs.contracts.narrow.SumName as sum_
 use Rattle.hm_isa.specs.contracts.narrow.ByteName as byte_
 use Rattle.hm_isa.specs.contracts.narrow.LogicName as logic_
+use Rattle.hm_isa.specs.contracts.narrow.BaseName as base_
+use Rattle.hm_isa.specs.contracts.narrow.ExtendName as extend_
+use Rattle.hm_isa.specs.contracts.narrow.SwapName as swap_
+use Rattle.hm_isa.specs.contracts.narrow.MaskingName as masking_
 use Rattle.hm_isa.specs.contracts.narrow.AccessName as access_
 use Rattle.hm_isa.specs.contracts.narrow.PlainName as plain_
+use Rattle.hm_isa.specs.contracts.narrow.WordName as word_
+use Rattle.hm_isa.specs.contracts.narrow.HintName as hint_
 use Rattle.hm_isa.specs.contracts.narrow.ListName as list_
 use Rattle.hm_isa.specs.contracts.narrow.S1 as s1_
 use Rattle.hm_isa.specs.contracts.narrow.S2 as s2_
@@ -16,16 +23,27 @@ use Rattle.hm_isa.specs.contracts.narrow.S3 as s3_
 use Rattle.hm_isa.specs.contracts.narrow.S4 as s4_
 use Rattle.hm_isa.specs.contracts.narrow.S5 as s5_
 use Rattle.hm_isa.specs.contracts.narrow.S6 as s6_
+use Rattle.hm_isa.specs.contracts.narrow.S7 as s7_
+use Rattle.hm_isa.specs.contracts.narrow.S8 as s8_
+use Rattle.hm_isa.specs.contracts.narrow.S9 as s9_
+use Rattle.hm_isa.specs.contracts.narrow.S10 as s10_
+use Rattle.hm_isa.specs.contracts.narrow.S11 as s11_
+use Rattle.hm_isa.specs.contracts.narrow.S12 as s12_
+use Rattle.hm_isa.specs.contracts.narrow.S13 as s13_
+use Rattle.hm_isa.specs.contracts.narrow.S14 as s14_
 use Rattle.hm_isa.specs.contracts.narrow.S15 as s15_
 use Rattle.hm_isa.specs.contracts.narrow.S16 as s16_
+use Rattle.hm_isa.specs.contracts.narrow.S17 as s17_
 use Rattle.hm_isa.specs.contracts.narrow.S18 as s18_
+use Rattle.hm_isa.specs.contracts.narrow.S19 as s19_
 use Rattle.hm_isa.specs.contracts.narrow.S20 as s20_
 use Rattle.hm_isa.specs.contracts.narrow.S21 as s21_
-use Rattle.hm_isa.specs.Keeps.{keeps_list}
-use Rattle.hm_isa.specs.Code.{◌↑◌, shift_base, code_s1, sum_base, code_s2, code_s3, byte_base, code_s4, logic_base, code_s5, code_s6, access_base, code_s15, plain_base, code_s16, code_s18, list_base, code_s20, code_s21}
-use Rattle.hm_layout.proofs.Places.{Place, place, Fits, placed}
+use Rattle.hm_isa.specs.Keeps.{keeps_it, keeps_list}
+use Rattle.hm_isa.specs.Code.{◌↑◌, shift_base, code_s1, sum_base, code_s2, code_s3, byte_base, code_s4, logic_base, code_s5, code_s6, code_s7, code_s8, base_base, code_s9, stack_sum_base, code_s10, extend_base, code_s11, swap_base, code_s12, masking_base, code_s13, code_s14, access_base, code_s15, plain_base, code_s16, word_base, code_s17, code_s18, hint_base, code_s19, list_base, code_s20, code_s21}
+use Rattle.hm_layout.proofs.Coded.{digit}
+use Rattle.hm_layout.proofs.Places.{Place, place, Fits, placed, head_or, rest_of}
 use Rattle.hm_layout.proofs.Search.{no_rule, one_rule, decided_both, decided_differ}
-use Rattle.hm_layout.proofs.Rows.{at, spread, the_name, Named, Plain, Varied}
+use Rattle.hm_layout.proofs.Rows.{Row, at, spread, the_name, Named, Plain, plain, sparing, Varied}
 
 abbrev pub row_s1 : Named s1_.the_type shift_.enum code_s1 shift_base
 row_s1 = record {
@@ -70,6 +88,65 @@ row_s6 = record {
   rules = λ v. one_rule;
 }
 
+abbrev pub row_s7 : Plain s7_.the_type code_s7
+row_s7 = record {
+  base = 0x4500;
+  layout = (spread (place 0 3 ∷ place 7 1 ∷ []) 16, (at 3 4 16, tt));
+  is_code = λ r. omega arith;
+  rules = λ v. one_rule;
+}
+
+abbrev pub row_s8 : Plain s8_.the_type code_s8
+row_s8 = record {
+  base = 0x4600;
+  layout = (spread (place 0 3 ∷ place 7 1 ∷ []) 16, (at 3 4 16, tt));
+  is_code = λ r. omega arith;
+  rules = λ v. no_rule;
+}
+
+abbrev pub row_s9 : Named s9_.the_type base_.enum code_s9 base_base
+row_s9 = record {
+  layout = (the_name tt, (at 8 3 8, (at 0 8 256, tt)));
+  is_code = λ r. omega arith;
+  rules = λ v. no_rule;
+}
+
+abbrev pub row_s10 : Named s10_.the_type sum_.enum code_s10 stack_sum_base
+row_s10 = record {
+  layout = (the_name tt, (at 0 7 128, tt));
+  is_code = λ r. omega arith;
+  rules = λ v. no_rule;
+}
+
+abbrev pub row_s11 : Named s11_.the_type extend_.enum code_s11 extend_base
+row_s11 = record {
+  layout = (the_name tt, (at 3 3 8, (at 0 3 8, tt)));
+  is_code = λ r. omega arith;
+  rules = λ v. no_rule;
+}
+
+abbrev pub row_s12 : Named s12_.the_type swap_.enum code_s12 swap_base
+row_s12 = record {
+  layout = (the_name tt, (at 3 3 8, (at 0 3 8, tt)));
+  is_code = λ r. omega arith;
+  rules = λ v. no_rule;
+}
+
+abbrev pub row_s13 : Named s13_.the_type masking_.enum code_s13 masking_base
+row_s13 = record {
+  layout = (the_name tt, tt);
+  is_code = λ r. omega arith;
+  rules = λ v. no_rule;
+}
+
+abbrev pub row_s14 : Plain s14_.the_type code_s14
+row_s14 = record {
+  base = 0x4800;
+  layout = (at 8 3 8, (at 0 8 256, tt));
+  is_code = λ r. omega arith;
+  rules = λ v. no_rule;
+}
+
 abbrev pub row_s15 : Named s15_.the_type access_.enum code_s15 access_base
 row_s15 = record {
   layout = (the_name tt, (at 6 3 8, (at 3 3 8, (at 0 3 8, tt))));
@@ -84,12 +161,26 @@ row_s16 = record {
   rules = λ v. no_rule;
 }
 
+abbrev pub row_s17 : Named s17_.the_type word_.enum code_s17 word_base
+row_s17 = record {
+  layout = (the_name tt, (at 8 3 8, (at 0 8 256, tt)));
+  is_code = λ r. omega arith;
+  rules = λ v. no_rule;
+}
+
 abbrev pub row_s18 : Plain s18_.the_type code_s18
 row_s18 = record {
   base = 0xbe00;
   layout = (at 0 8 256, tt);
   is_code = λ r. omega arith;
   rules = λ v. decided_both (decided_differ _ _) no_rule;
+}
+
+abbrev pub row_s19 : Named s19_.the_type hint_.enum code_s19 hint_base
+row_s19 = record {
+  layout = (the_name tt, tt);
+  is_code = λ r. omega arith;
+  rules = λ v. no_rule;
 }
 
 -- x and n stand at one place, each in the codes of its names
@@ -122,3 +213,12 @@ row_s21 = record {
   is_code = λ r. omega arith;
   rules = λ v. one_rule;
 }
+
+some_mask : (c mask n : ℕ) → IsTrue (keeps_it c mask) → n / 2 ^ 0 % 2 ^ 4 ≡ mask → n / 2 ^ 0 % 2 ^ 4 ≡ 0 → ⊥
+some_mask c mask n k d e = grind (arith, nat_tests)
+
+-- with no mask other rows stand
+abbrev pub spared_s21 : Row S21
+spared_s21 =
+    sparing (plain row_s21) (λ x. (digit 0 4 0 ∷ []) ∷ [])
+    (λ r d. (λ e. some_mask r.c.value r.mask.value (code_s21 r) r.row (ap (λ (xs : List ℕ). head_or (rest_of xs)) d) e.0, tt))

@@ -10,7 +10,7 @@ use Rattle.hm_isa.specs.Code.{scalar_halves, branch_halves}
 use Rattle.hm_layout.proofs.Coded.{Coded}
 use Rattle.hm_layout.proofs.Rows.{plain, named, varied, coded}
 use Rattle.hm_layout.proofs.Tables.{of_table, ◌▹◌}
-use Rattle.hm_codes.proofs.Scalars.{row_s1, row_s2, row_s3, row_s4, row_s5, row_s6, row_s15, row_s16, row_s18, row_s20, row_s21}
+use Rattle.hm_codes.proofs.Scalars.{row_s1, row_s2, row_s3, row_s4, row_s5, row_s6, row_s7, row_s8, row_s9, row_s10, row_s11, row_s12, row_s13, row_s14, row_s15, row_s16, row_s17, row_s18, row_s19, row_s20, spared_s21}
 use Rattle.hm_codes.proofs.Wides.{coded_t12, row_t13, row_t15}
 use Rattle.hm_codes.proofs.Branches.{row_s23, row_s24, coded_s25}
 
@@ -32,11 +32,21 @@ coded_scalar =
     coded (named row_s4) ▹
     coded (named row_s5) ▹
     coded (plain row_s6) ▹
+    coded (plain row_s7) ▹
+    coded (plain row_s8) ▹
+    coded (named row_s9) ▹
+    coded (named row_s10) ▹
+    coded (named row_s11) ▹
+    coded (named row_s12) ▹
+    coded (named row_s13) ▹
+    coded (plain row_s14) ▹
     coded (named row_s15) ▹
     coded (named row_s16) ▹
+    coded (named row_s17) ▹
     coded (plain row_s18) ▹
+    coded (named row_s19) ▹
     coded (varied row_s20) ▹
-    coded (plain row_s21) ▹
+    coded spared_s21 ▹
     coded_t12 ▹
     coded (named row_t13) ▹
     coded (named row_t15) ▹
@@ -48,9 +58,19 @@ coded_scalar =
       | scalar.S4 r ↦ refl
       | scalar.S5 r ↦ refl
       | scalar.S6 r ↦ refl
+      | scalar.S7 r ↦ refl
+      | scalar.S8 r ↦ refl
+      | scalar.S9 r ↦ refl
+      | scalar.S10 r ↦ refl
+      | scalar.S11 r ↦ refl
+      | scalar.S12 r ↦ refl
+      | scalar.S13 r ↦ refl
+      | scalar.S14 r ↦ refl
       | scalar.S15 r ↦ refl
       | scalar.S16 r ↦ refl
+      | scalar.S17 r ↦ refl
       | scalar.S18 r ↦ refl
+      | scalar.S19 r ↦ refl
       | scalar.S20 r ↦ refl
       | scalar.S21 r ↦ refl
       | scalar.T12 r ↦ rejoined _

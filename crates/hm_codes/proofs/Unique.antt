@@ -17,7 +17,7 @@ use Rattle.hm_layout.proofs.Rows.{plain, named, varied, coded}
 use Rattle.hm_layout.proofs.Tables.{of_table, ◌▹◌}
 use Rattle.hm_layout.proofs.Lengths.{short_code, long_code}
 use Rattle.hm_codes.specs.Listing.{half_at, HalvesStand, Stands, is_long, IsFetched}
-use Rattle.hm_codes.proofs.Scalars.{row_s1, row_s2, row_s3, row_s4, row_s5, row_s6, row_s15, row_s16, row_s18, row_s20, row_s21}
+use Rattle.hm_codes.proofs.Scalars.{row_s1, row_s2, row_s3, row_s4, row_s5, row_s6, row_s7, row_s8, row_s9, row_s10, row_s11, row_s12, row_s13, row_s14, row_s15, row_s16, row_s17, row_s18, row_s19, row_s20, spared_s21}
 use Rattle.hm_codes.proofs.Wides.{coded_t12, row_t13, row_t15}
 use Rattle.hm_codes.proofs.Branches.{row_s23, row_s24, coded_s25}
 use Rattle.hm_codes.proofs.Vectors.{coded_vector}
@@ -57,11 +57,21 @@ length_scalar (scalar.S3 r) = short_length _ (short_code (coded (named row_s3)) 
 length_scalar (scalar.S4 r) = short_length _ (short_code (coded (named row_s4)) refl refl r)
 length_scalar (scalar.S5 r) = short_length _ (short_code (coded (named row_s5)) refl refl r)
 length_scalar (scalar.S6 r) = short_length _ (short_code (coded (plain row_s6)) refl refl r)
+length_scalar (scalar.S7 r) = short_length _ (short_code (coded (plain row_s7)) refl refl r)
+length_scalar (scalar.S8 r) = short_length _ (short_code (coded (plain row_s8)) refl refl r)
+length_scalar (scalar.S9 r) = short_length _ (short_code (coded (named row_s9)) refl refl r)
+length_scalar (scalar.S10 r) = short_length _ (short_code (coded (named row_s10)) refl refl r)
+length_scalar (scalar.S11 r) = short_length _ (short_code (coded (named row_s11)) refl refl r)
+length_scalar (scalar.S12 r) = short_length _ (short_code (coded (named row_s12)) refl refl r)
+length_scalar (scalar.S13 r) = short_length _ (short_code (coded (named row_s13)) refl refl r)
+length_scalar (scalar.S14 r) = short_length _ (short_code (coded (plain row_s14)) refl refl r)
 length_scalar (scalar.S15 r) = short_length _ (short_code (coded (named row_s15)) refl refl r)
 length_scalar (scalar.S16 r) = short_length _ (short_code (coded (named row_s16)) refl refl r)
+length_scalar (scalar.S17 r) = short_length _ (short_code (coded (named row_s17)) refl refl r)
 length_scalar (scalar.S18 r) = short_length _ (short_code (coded (plain row_s18)) refl refl r)
+length_scalar (scalar.S19 r) = short_length _ (short_code (coded (named row_s19)) refl refl r)
 length_scalar (scalar.S20 r) = short_length _ (short_code (coded (varied row_s20)) refl refl r)
-length_scalar (scalar.S21 r) = short_length _ (short_code (coded (plain row_s21)) refl refl r)
+length_scalar (scalar.S21 r) = short_length _ (short_code (coded spared_s21) refl refl r)
 length_scalar (scalar.T12 r) = long_length _ (long_code coded_t12 refl refl r)
 length_scalar (scalar.T13 r) = long_length _ (long_code (coded (named row_t13)) refl refl r)
 length_scalar (scalar.T15 r) = long_length _ (long_code (coded (named row_t15)) refl refl r)

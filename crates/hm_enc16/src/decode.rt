@@ -10,9 +10,19 @@ ghost use Rattle.hm_isa.specs.declared.narrow.S3.{S3};
 ghost use Rattle.hm_isa.specs.declared.narrow.S4.{S4};
 ghost use Rattle.hm_isa.specs.declared.narrow.S5.{S5};
 ghost use Rattle.hm_isa.specs.declared.narrow.S6.{S6};
+ghost use Rattle.hm_isa.specs.declared.narrow.S7.{S7};
+ghost use Rattle.hm_isa.specs.declared.narrow.S8.{S8};
+ghost use Rattle.hm_isa.specs.declared.narrow.S9.{S9};
+ghost use Rattle.hm_isa.specs.declared.narrow.S10.{S10};
+ghost use Rattle.hm_isa.specs.declared.narrow.S11.{S11};
+ghost use Rattle.hm_isa.specs.declared.narrow.S12.{S12};
+ghost use Rattle.hm_isa.specs.declared.narrow.S13.{S13};
+ghost use Rattle.hm_isa.specs.declared.narrow.S14.{S14};
 ghost use Rattle.hm_isa.specs.declared.narrow.S15.{S15};
 ghost use Rattle.hm_isa.specs.declared.narrow.S16.{S16};
+ghost use Rattle.hm_isa.specs.declared.narrow.S17.{S17};
 ghost use Rattle.hm_isa.specs.declared.narrow.S18.{S18};
+ghost use Rattle.hm_isa.specs.declared.narrow.S19.{S19};
 ghost use Rattle.hm_isa.specs.declared.narrow.S20.{S20};
 ghost use Rattle.hm_isa.specs.declared.narrow.S21.{S21};
 ghost use Rattle.hm_isa.specs.declared.narrow.S23.{S23};
@@ -21,12 +31,13 @@ ghost use Rattle.hm_isa.specs.declared.narrow.S25.{S25};
 ghost use Rattle.hm_isa.specs.declared.Scalar.{Scalar};
 ghost use Rattle.hm_isa.specs.declared.Branch.{Branch};
 ghost use Rattle.hm_isa.specs.Keeps.{listed_in, keeps_list, keeps_it};
-ghost use Rattle.hm_isa.specs.Code.{code_s1, code_s2, code_s3, code_s4, logic_base, code_s5, code_s6, access_base, code_s15, code_s16, code_s18, code_s20, code_s21, code_s23, code_s24, code_s25, scalar_halves, branch_halves};
+ghost use Rattle.hm_isa.specs.Code.{code_s1, code_s2, code_s3, code_s4, logic_base, code_s5, code_s6, code_s7, code_s8, code_s9, code_s10, code_s11, code_s12, code_s13, code_s14, access_base, code_s15, code_s16, code_s17, code_s18, code_s19, code_s20, code_s21, code_s23, code_s24, code_s25, scalar_halves, branch_halves};
 
 use hm_isa::{
-    AccessName, Always, Below, Branch, ByteName, Conditional, JumpName, ListName, LogicName,
-    PlainName, S1, S2, S3, S4, S5, S6, S15, S16, S18, S20, S21, S23, S24, S25, Scalar, ShiftName,
-    SumName, ZeroName,
+    AccessName, Always, BaseName, Below, Branch, ByteName, Conditional, ExtendName, HintName,
+    JumpName, ListName, LogicName, MaskingName, PlainName, S1, S2, S3, S4, S5, S6, S7, S8, S9, S10,
+    S11, S12, S13, S14, S15, S16, S17, S18, S19, S20, S21, S23, S24, S25, Scalar, ShiftName,
+    SumName, SwapName, WordName, ZeroName,
 };
 
 /// `lsls`, `lsrs`, `asrs rd,rm,#i`
@@ -166,6 +177,139 @@ fn decode_s6(h: u16) -> Option<S6>
     })
 }
 
+/// `cmp rd,rm` of registers one of which is r8 or higher, and none pc
+fn decode_s7(h: u16) -> Option<S7>
+    ensures found { IfSome result (λ r. code_s7 r ≡ h) }
+    ensures none { IfNone result ((r : S7) → code_s7 r ≡ h → ⊥) }
+{
+    let w = h as u32;
+    let d = ((w >> 7) & 1) * 8 + (w & 7);
+    let m = (w >> 3) & 15;
+    if w >> 8 != 0b0100_0101 || (d < 8 && m < 8) || d == 15 || m == 15 {
+        return None;
+    }
+    Some(S7 {
+        d: Below::new(d),
+        m: Below::new(m),
+    })
+}
+
+/// `mov rd,rm` of any registers
+fn decode_s8(h: u16) -> Option<S8>
+    ensures found { IfSome result (λ r. code_s8 r ≡ h) }
+    ensures none { IfNone result ((r : S8) → code_s8 r ≡ h → ⊥) }
+{
+    let w = h as u32;
+    if w >> 8 != 0b0100_0110 {
+        return None;
+    }
+    Some(S8 {
+        d: Below::new(((w >> 7) & 1) * 8 + (w & 7)),
+        m: Below::new((w >> 3) & 15),
+    })
+}
+
+/// `add rd,pc,#4i`, `add rd,sp,#4i`
+fn decode_s9(h: u16) -> Option<S9>
+    ensures found { IfSome result (λ r. code_s9 r ≡ h) }
+    ensures none { IfNone result ((r : S9) → code_s9 r ≡ h → ⊥) }
+{
+    let w = h as u32;
+    let name = match w >> 11 {
+        0b1_0100 => BaseName::Pc,
+        0b1_0101 => BaseName::Sp,
+        _ => return None,
+    };
+    Some(S9 {
+        name,
+        d: Below::new((w >> 8) & 7),
+        i: Below::new(w & 255),
+    })
+}
+
+/// `add sp,#4i`, `sub sp,#4i`
+fn decode_s10(h: u16) -> Option<S10>
+    ensures found { IfSome result (λ r. code_s10 r ≡ h) }
+    ensures none { IfNone result ((r : S10) → code_s10 r ≡ h → ⊥) }
+{
+    let name = match h >> 7 {
+        0b1_0110_0000 => SumName::Add,
+        0b1_0110_0001 => SumName::Sub,
+        _ => return None,
+    };
+    Some(S10 {
+        name,
+        i: Below::new(h as u32 & 127),
+    })
+}
+
+/// `sxth`, `sxtb`, `uxth`, `uxtb rd,rm`
+fn decode_s11(h: u16) -> Option<S11>
+    ensures found { IfSome result (λ r. code_s11 r ≡ h) }
+    ensures none { IfNone result ((r : S11) → code_s11 r ≡ h → ⊥) }
+{
+    let w = h as u32;
+    let name = match w >> 6 {
+        0b10_1100_1000 => ExtendName::Sxth,
+        0b10_1100_1001 => ExtendName::Sxtb,
+        0b10_1100_1010 => ExtendName::Uxth,
+        0b10_1100_1011 => ExtendName::Uxtb,
+        _ => return None,
+    };
+    Some(S11 {
+        name,
+        m: Below::new((w >> 3) & 7),
+        d: Below::new(w & 7),
+    })
+}
+
+/// `rev`, `rev16`, `revsh rd,rm`
+fn decode_s12(h: u16) -> Option<S12>
+    ensures found { IfSome result (λ r. code_s12 r ≡ h) }
+    ensures none { IfNone result ((r : S12) → code_s12 r ≡ h → ⊥) }
+{
+    let w = h as u32;
+    let name = match w >> 6 {
+        0b10_1110_1000 => SwapName::Rev,
+        0b10_1110_1001 => SwapName::Rev16,
+        0b10_1110_1011 => SwapName::Revsh,
+        _ => return None,
+    };
+    Some(S12 {
+        name,
+        m: Below::new((w >> 3) & 7),
+        d: Below::new(w & 7),
+    })
+}
+
+/// `cpsie i`, `cpsid i`
+fn decode_s13(h: u16) -> Option<S13>
+    ensures found { IfSome result (λ r. code_s13 r ≡ h) }
+    ensures none { IfNone result ((r : S13) → code_s13 r ≡ h → ⊥) }
+{
+    let name = match h {
+        0b1011_0110_0110_0010 => MaskingName::Cpsie,
+        0b1011_0110_0111_0010 => MaskingName::Cpsid,
+        _ => return None,
+    };
+    Some(S13 { name })
+}
+
+/// `ldr rt,label`
+fn decode_s14(h: u16) -> Option<S14>
+    ensures found { IfSome result (λ r. code_s14 r ≡ h) }
+    ensures none { IfNone result ((r : S14) → code_s14 r ≡ h → ⊥) }
+{
+    let w = h as u32;
+    if w >> 11 != 0b0_1001 {
+        return None;
+    }
+    Some(S14 {
+        t: Below::new((w >> 8) & 7),
+        i: Below::new(w & 255),
+    })
+}
+
 /// The operation of the row S15 with these bits 15 to 9.
 fn access_name(high: u32) -> Option<AccessName>
     ensures found { IfSome result (λ x. access_base x ≡ high * 2 ^ 9) }
@@ -224,6 +368,24 @@ fn decode_s16(h: u16) -> Option<S16>
     })
 }
 
+/// `str`, `ldr rt,[sp,#4i]`
+fn decode_s17(h: u16) -> Option<S17>
+    ensures found { IfSome result (λ r. code_s17 r ≡ h) }
+    ensures none { IfNone result ((r : S17) → code_s17 r ≡ h → ⊥) }
+{
+    let w = h as u32;
+    let name = match w >> 11 {
+        0b1_0010 => WordName::Str,
+        0b1_0011 => WordName::Ldr,
+        _ => return None,
+    };
+    Some(S17 {
+        name,
+        t: Below::new((w >> 8) & 7),
+        i: Below::new(w & 255),
+    })
+}
+
 /// `bkpt #i`
 fn decode_s18(h: u16) -> Option<S18>
     ensures found { IfSome result (λ r. code_s18 r ≡ h) }
@@ -234,6 +396,22 @@ fn decode_s18(h: u16) -> Option<S18>
         return None;
     }
     Some(S18 { i: Below::new(i) })
+}
+
+/// `nop`, `yield`, `wfe`, `wfi`, `sev`
+fn decode_s19(h: u16) -> Option<S19>
+    ensures found { IfSome result (λ r. code_s19 r ≡ h) }
+    ensures none { IfNone result ((r : S19) → code_s19 r ≡ h → ⊥) }
+{
+    let name = match h {
+        0b1011_1111_0000_0000 => HintName::Nop,
+        0b1011_1111_0001_0000 => HintName::Yield,
+        0b1011_1111_0010_0000 => HintName::Wfe,
+        0b1011_1111_0011_0000 => HintName::Wfi,
+        0b1011_1111_0100_0000 => HintName::Sev,
+        _ => return None,
+    };
+    Some(S19 { name })
 }
 
 /// Whether register n is not in a list, or is its lowest.
@@ -394,14 +572,44 @@ pub fn find_scalar(h: u16) -> Option<Scalar>
     if let Some(r) = decode_s6(h) {
         return Some(Scalar::S6(r));
     }
+    if let Some(r) = decode_s7(h) {
+        return Some(Scalar::S7(r));
+    }
+    if let Some(r) = decode_s8(h) {
+        return Some(Scalar::S8(r));
+    }
+    if let Some(r) = decode_s9(h) {
+        return Some(Scalar::S9(r));
+    }
+    if let Some(r) = decode_s10(h) {
+        return Some(Scalar::S10(r));
+    }
+    if let Some(r) = decode_s11(h) {
+        return Some(Scalar::S11(r));
+    }
+    if let Some(r) = decode_s12(h) {
+        return Some(Scalar::S12(r));
+    }
+    if let Some(r) = decode_s13(h) {
+        return Some(Scalar::S13(r));
+    }
+    if let Some(r) = decode_s14(h) {
+        return Some(Scalar::S14(r));
+    }
     if let Some(r) = decode_s15(h) {
         return Some(Scalar::S15(r));
     }
     if let Some(r) = decode_s16(h) {
         return Some(Scalar::S16(r));
     }
+    if let Some(r) = decode_s17(h) {
+        return Some(Scalar::S17(r));
+    }
     if let Some(r) = decode_s18(h) {
         return Some(Scalar::S18(r));
+    }
+    if let Some(r) = decode_s19(h) {
+        return Some(Scalar::S19(r));
     }
     if let Some(r) = decode_s20(h) {
         return Some(Scalar::S20(r));

@@ -1,11 +1,13 @@
 //! The rows of 16-bit codes, written.
 
 ghost use Rattle.std.specs.Prelude.{◌≡◌, length, [], ◌∷◌};
-ghost use Rattle.hm_isa.specs.Code.{shift_base, sum_base, byte_base, logic_base, access_base, plain_base, list_base, jump_base, zero_base, code_s1, code_s2, code_s3, code_s4, code_s5, code_s6, code_s15, code_s16, code_s18, code_s20, code_s21, code_s23, code_s24, code_s25, scalar_halves, branch_halves};
+ghost use Rattle.hm_isa.specs.Code.{shift_base, sum_base, byte_base, logic_base, base_base, stack_sum_base, extend_base, swap_base, access_base, plain_base, word_base, list_base, jump_base, zero_base, code_s1, code_s2, code_s3, code_s4, code_s5, code_s6, code_s7, code_s8, code_s9, code_s10, code_s11, code_s12, code_s13, code_s14, code_s15, code_s16, code_s17, code_s18, code_s19, code_s20, code_s21, code_s23, code_s24, code_s25, scalar_halves, branch_halves};
 
 use hm_isa::{
-    AccessName, Branch, ByteName, JumpName, ListName, LogicName, PlainName, S1, S2, S3, S4, S5, S6,
-    S15, S16, S18, S20, S21, S23, S24, S25, Scalar, ShiftName, SumName, ZeroName,
+    AccessName, BaseName, Branch, ByteName, ExtendName, HintName,
+    JumpName, ListName, LogicName, MaskingName, PlainName, S1, S2, S3, S4, S5, S6, S7, S8, S9, S10,
+    S11, S12, S13, S14, S15, S16, S17, S18, S19, S20, S21, S23, S24, S25, Scalar, ShiftName,
+    SumName, SwapName, WordName, ZeroName,
 };
 
 /// The code of a name of the row S1 without its fields.
@@ -85,6 +87,97 @@ fn encode_s6(r: &S6) -> u16
     (0x4400 + ((d / 8) << 7) + (r.m.get() << 3) + d % 8) as u16
 }
 
+fn encode_s7(r: &S7) -> u16
+    ensures { result ≡ code_s7 r.now }
+{
+    let d = r.d.get();
+    (0x4500 + ((d / 8) << 7) + (r.m.get() << 3) + d % 8) as u16
+}
+
+fn encode_s8(r: &S8) -> u16
+    ensures { result ≡ code_s8 r.now }
+{
+    let d = r.d.get();
+    (0x4600 + ((d / 8) << 7) + (r.m.get() << 3) + d % 8) as u16
+}
+
+/// The code of a name of the row S9 without its fields.
+fn of_base(x: BaseName) -> u32
+    ensures { result ≡ base_base x }
+{
+    match x {
+        BaseName::Pc => 0xa000,
+        BaseName::Sp => 0xa800,
+    }
+}
+
+fn encode_s9(r: &S9) -> u16
+    ensures { result ≡ code_s9 r.now }
+{
+    (of_base(r.name) + (r.d.get() << 8) + r.i.get()) as u16
+}
+
+/// The code of a name of the row S10 without its fields.
+fn of_stack_sum(x: SumName) -> u32
+    ensures { result ≡ stack_sum_base x }
+{
+    match x {
+        SumName::Add => 0xb000,
+        SumName::Sub => 0xb080,
+    }
+}
+
+fn encode_s10(r: &S10) -> u16
+    ensures { result ≡ code_s10 r.now }
+{
+    (of_stack_sum(r.name) + r.i.get()) as u16
+}
+
+/// The code of a name of the row S11 without its fields.
+fn of_extend(x: ExtendName) -> u32
+    ensures { result ≡ extend_base x }
+{
+    0xb200 + ((x as u32) << 6)
+}
+
+fn encode_s11(r: &S11) -> u16
+    ensures { result ≡ code_s11 r.now }
+{
+    (of_extend(r.name) + (r.m.get() << 3) + r.d.get()) as u16
+}
+
+/// The code of a name of the row S12 without its fields.
+fn of_swap(x: SwapName) -> u32
+    ensures { result ≡ swap_base x }
+{
+    match x {
+        SwapName::Rev => 0xba00,
+        SwapName::Rev16 => 0xba40,
+        SwapName::Revsh => 0xbac0,
+    }
+}
+
+fn encode_s12(r: &S12) -> u16
+    ensures { result ≡ code_s12 r.now }
+{
+    (of_swap(r.name) + (r.m.get() << 3) + r.d.get()) as u16
+}
+
+fn encode_s13(r: &S13) -> u16
+    ensures { result ≡ code_s13 r.now }
+{
+    match r.name {
+        MaskingName::Cpsie => 0xb662,
+        MaskingName::Cpsid => 0xb672,
+    }
+}
+
+fn encode_s14(r: &S14) -> u16
+    ensures { result ≡ code_s14 r.now }
+{
+    (0x4800 + (r.t.get() << 8) + r.i.get()) as u16
+}
+
 /// The code of a name of the row S15 without its fields.
 fn of_access(x: AccessName) -> u32
     ensures { result ≡ access_base x }
@@ -111,10 +204,32 @@ fn encode_s16(r: &S16) -> u16
     (of_plain(r.name) + (r.i.get() << 6) + (r.n.get() << 3) + r.t.get()) as u16
 }
 
+/// The code of a name of the row S17 without its fields.
+fn of_word(x: WordName) -> u32
+    ensures { result ≡ word_base x }
+{
+    match x {
+        WordName::Str => 0x9000,
+        WordName::Ldr => 0x9800,
+    }
+}
+
+fn encode_s17(r: &S17) -> u16
+    ensures { result ≡ code_s17 r.now }
+{
+    (of_word(r.name) + (r.t.get() << 8) + r.i.get()) as u16
+}
+
 fn encode_s18(r: &S18) -> u16
     ensures { result ≡ code_s18 r.now }
 {
     0xbe00 + r.i.get() as u16
+}
+
+fn encode_s19(r: &S19) -> u16
+    ensures { result ≡ code_s19 r.now }
+{
+    0xbf00 + ((r.name as u16) << 4)
 }
 
 /// The code of a name of the row S20 without its fields.
@@ -195,9 +310,19 @@ pub fn scalar_code(s: &Scalar) -> u16
         Scalar::S4(r) => encode_s4(r),
         Scalar::S5(r) => encode_s5(r),
         Scalar::S6(r) => encode_s6(r),
+        Scalar::S7(r) => encode_s7(r),
+        Scalar::S8(r) => encode_s8(r),
+        Scalar::S9(r) => encode_s9(r),
+        Scalar::S10(r) => encode_s10(r),
+        Scalar::S11(r) => encode_s11(r),
+        Scalar::S12(r) => encode_s12(r),
+        Scalar::S13(r) => encode_s13(r),
+        Scalar::S14(r) => encode_s14(r),
         Scalar::S15(r) => encode_s15(r),
         Scalar::S16(r) => encode_s16(r),
+        Scalar::S17(r) => encode_s17(r),
         Scalar::S18(r) => encode_s18(r),
+        Scalar::S19(r) => encode_s19(r),
         Scalar::S20(r) => encode_s20(r),
         Scalar::S21(r) => encode_s21(r),
         Scalar::T12(_) | Scalar::T13(_) | Scalar::T15(_) => unreachable!(),

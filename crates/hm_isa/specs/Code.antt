@@ -14,13 +14,35 @@ use Rattle.hm_isa.specs.declared.narrow.LogicName.{LogicName}
 use Rattle.hm_isa.specs.declared.narrow.LogicName.TheVariants as logic
 use Rattle.hm_isa.specs.declared.narrow.S5.{S5}
 use Rattle.hm_isa.specs.declared.narrow.S6.{S6}
+use Rattle.hm_isa.specs.declared.narrow.S7.{S7}
+use Rattle.hm_isa.specs.declared.narrow.S8.{S8}
+use Rattle.hm_isa.specs.declared.narrow.BaseName.{BaseName}
+use Rattle.hm_isa.specs.declared.narrow.BaseName.TheVariants as base
+use Rattle.hm_isa.specs.declared.narrow.S9.{S9}
+use Rattle.hm_isa.specs.declared.narrow.S10.{S10}
+use Rattle.hm_isa.specs.declared.narrow.ExtendName.{ExtendName}
+use Rattle.hm_isa.specs.declared.narrow.ExtendName.TheVariants as extend
+use Rattle.hm_isa.specs.declared.narrow.S11.{S11}
+use Rattle.hm_isa.specs.declared.narrow.SwapName.{SwapName}
+use Rattle.hm_isa.specs.declared.narrow.SwapName.TheVariants as swap_
+use Rattle.hm_isa.specs.declared.narrow.S12.{S12}
+use Rattle.hm_isa.specs.declared.narrow.MaskingName.{MaskingName}
+use Rattle.hm_isa.specs.declared.narrow.MaskingName.TheVariants as masking
+use Rattle.hm_isa.specs.declared.narrow.S13.{S13}
+use Rattle.hm_isa.specs.declared.narrow.S14.{S14}
 use Rattle.hm_isa.specs.declared.narrow.AccessName.{AccessName}
 use Rattle.hm_isa.specs.declared.narrow.AccessName.TheVariants as access
 use Rattle.hm_isa.specs.declared.narrow.S15.{S15}
 use Rattle.hm_isa.specs.declared.narrow.PlainName.{PlainName}
 use Rattle.hm_isa.specs.declared.narrow.PlainName.TheVariants as plain
 use Rattle.hm_isa.specs.declared.narrow.S16.{S16}
+use Rattle.hm_isa.specs.declared.narrow.WordName.{WordName}
+use Rattle.hm_isa.specs.declared.narrow.WordName.TheVariants as word
+use Rattle.hm_isa.specs.declared.narrow.S17.{S17}
 use Rattle.hm_isa.specs.declared.narrow.S18.{S18}
+use Rattle.hm_isa.specs.declared.narrow.HintName.{HintName}
+use Rattle.hm_isa.specs.declared.narrow.HintName.TheVariants as hint
+use Rattle.hm_isa.specs.declared.narrow.S19.{S19}
 use Rattle.hm_isa.specs.declared.narrow.ListName.{ListName}
 use Rattle.hm_isa.specs.declared.narrow.ListName.TheVariants as list
 use Rattle.hm_isa.specs.declared.narrow.S20.{S20}
@@ -185,6 +207,53 @@ code_s5 r = logic_base r.name + r.m.value ↑ 3 + r.d.value
 abbrev pub code_s6 : S6 → ℕ
 code_s6 r = 0x4400 + (r.d.value / 8) ↑ 7 + r.m.value ↑ 3 + r.d.value % 8
 
+abbrev pub code_s7 : S7 → ℕ
+code_s7 r = 0x4500 + (r.d.value / 8) ↑ 7 + r.m.value ↑ 3 + r.d.value % 8
+
+abbrev pub code_s8 : S8 → ℕ
+code_s8 r = 0x4600 + (r.d.value / 8) ↑ 7 + r.m.value ↑ 3 + r.d.value % 8
+
+abbrev pub base_base : BaseName → ℕ
+base_base base.Pc = 0xa000
+base_base base.Sp = 0xa800
+
+abbrev pub code_s9 : S9 → ℕ
+code_s9 r = base_base r.name + r.d.value ↑ 8 + r.i.value
+
+abbrev pub stack_sum_base : SumName → ℕ
+stack_sum_base sum_.Add = 0xb000
+stack_sum_base sum_.Sub = 0xb080
+
+abbrev pub code_s10 : S10 → ℕ
+code_s10 r = stack_sum_base r.name + r.i.value
+
+abbrev pub extend_base : ExtendName → ℕ
+extend_base extend.Sxth = 0xb200
+extend_base extend.Sxtb = 0xb240
+extend_base extend.Uxth = 0xb280
+extend_base extend.Uxtb = 0xb2c0
+
+abbrev pub code_s11 : S11 → ℕ
+code_s11 r = extend_base r.name + r.m.value ↑ 3 + r.d.value
+
+abbrev pub swap_base : SwapName → ℕ
+swap_base swap_.Rev = 0xba00
+swap_base swap_.Rev16 = 0xba40
+swap_base swap_.Revsh = 0xbac0
+
+abbrev pub code_s12 : S12 → ℕ
+code_s12 r = swap_base r.name + r.m.value ↑ 3 + r.d.value
+
+abbrev pub masking_base : MaskingName → ℕ
+masking_base masking.Cpsie = 0xb662
+masking_base masking.Cpsid = 0xb672
+
+abbrev pub code_s13 : S13 → ℕ
+code_s13 r = masking_base r.name
+
+abbrev pub code_s14 : S14 → ℕ
+code_s14 r = 0x4800 + r.t.value ↑ 8 + r.i.value
+
 abbrev pub access_base : AccessName → ℕ
 access_base access.Str = 0x5000
 access_base access.Strh = 0x5200
@@ -209,8 +278,25 @@ plain_base plain.Ldrh = 0x8800
 abbrev pub code_s16 : S16 → ℕ
 code_s16 r = plain_base r.name + r.i.value ↑ 6 + r.n.value ↑ 3 + r.t.value
 
+abbrev pub word_base : WordName → ℕ
+word_base word.Str = 0x9000
+word_base word.Ldr = 0x9800
+
+abbrev pub code_s17 : S17 → ℕ
+code_s17 r = word_base r.name + r.t.value ↑ 8 + r.i.value
+
 abbrev pub code_s18 : S18 → ℕ
 code_s18 r = 0xbe00 + r.i.value
+
+abbrev pub hint_base : HintName → ℕ
+hint_base hint.Nop = 0xbf00
+hint_base hint.Yield = 0xbf10
+hint_base hint.Wfe = 0xbf20
+hint_base hint.Wfi = 0xbf30
+hint_base hint.Sev = 0xbf40
+
+abbrev pub code_s19 : S19 → ℕ
+code_s19 r = hint_base r.name
 
 abbrev pub list_base : ListName → ℕ
 list_base list.Push = 0xb400
@@ -527,9 +613,19 @@ scalar_halves (scalar.S3 r) = one_half (code_s3 r)
 scalar_halves (scalar.S4 r) = one_half (code_s4 r)
 scalar_halves (scalar.S5 r) = one_half (code_s5 r)
 scalar_halves (scalar.S6 r) = one_half (code_s6 r)
+scalar_halves (scalar.S7 r) = one_half (code_s7 r)
+scalar_halves (scalar.S8 r) = one_half (code_s8 r)
+scalar_halves (scalar.S9 r) = one_half (code_s9 r)
+scalar_halves (scalar.S10 r) = one_half (code_s10 r)
+scalar_halves (scalar.S11 r) = one_half (code_s11 r)
+scalar_halves (scalar.S12 r) = one_half (code_s12 r)
+scalar_halves (scalar.S13 r) = one_half (code_s13 r)
+scalar_halves (scalar.S14 r) = one_half (code_s14 r)
 scalar_halves (scalar.S15 r) = one_half (code_s15 r)
 scalar_halves (scalar.S16 r) = one_half (code_s16 r)
+scalar_halves (scalar.S17 r) = one_half (code_s17 r)
 scalar_halves (scalar.S18 r) = one_half (code_s18 r)
+scalar_halves (scalar.S19 r) = one_half (code_s19 r)
 scalar_halves (scalar.S20 r) = one_half (code_s20 r)
 scalar_halves (scalar.S21 r) = one_half (code_s21 r)
 scalar_halves (scalar.T12 r) = two_halves (code_t12 r)

@@ -1,5 +1,5 @@
 -- The rules that tie the letters of a row together.
-use Rattle.std.specs.Prelude.{ℕ, ◌+◌, ◌/◌, ◌%◌, ◌^◌, Bool, ◌&&◌, ◌||◌, not, nat_eq, nat_lt, true, false, if◌then◌else◌}
+use Rattle.std.specs.Prelude.{ℕ, ◌+◌, ◌/◌, ◌%◌, ◌^◌, Bool, ◌&&◌, ◌||◌, not, nat_eq, nat_le, nat_lt, true, false, if◌then◌else◌}
 use Rattle.hm_isa.specs.declared.narrow.ListName.{ListName}
 use Rattle.hm_isa.specs.declared.narrow.ListName.TheVariants.{Push, Pop, Stm, Ldm}
 use Rattle.hm_isa.specs.declared.narrow.AccessName.{AccessName}
@@ -14,6 +14,10 @@ use Rattle.hm_isa.specs.declared.vectors.ReverseName.TheVariants as reverse_
 -- not both are pc
 abbrev pub keeps_high : ℕ → ℕ → Bool
 keeps_high d m = not (nat_eq d 15 && nat_eq m 15)
+
+-- one is r8 or higher, and neither is pc
+abbrev pub keeps_compare : ℕ → ℕ → Bool
+keeps_compare d m = (nat_le 8 d || nat_le 8 m) && not (nat_eq d 15) && not (nat_eq m 15)
 
 -- whether register k stands in a list
 abbrev pub listed_in : ℕ → ℕ → Bool

@@ -11,8 +11,10 @@ mod wide;
 
 pub use fields::{Below, Bit, Byte, Low, QRegister, Register, Size};
 pub use narrow::{
-    AccessName, Always, ByteName, Conditional, JumpName, ListName, LogicName, PlainName, S1, S2,
-    S3, S4, S5, S6, S15, S16, S18, S20, S21, S23, S24, S25, ShiftName, SumName, ZeroName,
+    AccessName, Always, BaseName, ByteName, Conditional, ExtendName, HintName, JumpName, ListName,
+    LogicName, MaskingName, PlainName, S1, S2, S3, S4, S5, S6, S7, S8, S9, S10, S11, S12, S13, S14,
+    S15, S16, S17, S18, S19, S20, S21, S23, S24, S25, ShiftName, SumName, SwapName, WordName,
+    ZeroName,
 };
 pub use vectors::{
     AddName, BitwiseName, Block, CarryName, CompareScalar, CompareVectors, Dot, DoublingName,
@@ -38,12 +40,32 @@ pub enum Scalar {
     S5(S5),
     /// `add rd,rm` of any registers
     S6(S6),
+    /// `cmp rd,rm` of higher registers
+    S7(S7),
+    /// `mov rd,rm` of any registers
+    S8(S8),
+    /// `add rd,pc,#4i`, `add rd,sp,#4i`
+    S9(S9),
+    /// `add sp,#4i`, `sub sp,#4i`
+    S10(S10),
+    /// `sxth`, `sxtb`, `uxth`, `uxtb`
+    S11(S11),
+    /// `rev`, `rev16`, `revsh`
+    S12(S12),
+    /// `cpsie i`, `cpsid i`
+    S13(S13),
+    /// `ldr rt,label`
+    S14(S14),
     /// `str` to `ldrsh rt,[rn,rm]`
     S15(S15),
     /// `str` to `ldrh rt,[rn,#i]`
     S16(S16),
+    /// `str`, `ldr rt,[sp,#4i]`
+    S17(S17),
     /// `bkpt #i`
     S18(S18),
+    /// `nop`, `yield`, `wfe`, `wfi`, `sev`
+    S19(S19),
     /// `push`, `pop`, `stm`, `ldm`
     S20(S20),
     /// `it`

@@ -2,16 +2,23 @@
 
 ghost use Rattle.std.specs.Prelude.{◌≡◌, ℕ, ◌≤◌, ◌<◌, ◌*◌, ◌%◌, ◌^◌, cond, OnErr};
 ghost use Rattle.hm_mem.specs.Memory.{memory_of};
-ghost use Rattle.hm_thumb.specs.MemoryRows.{indexed, literal, moved, offset, plain_name, s15, s16, scale, shifted, t12};
+ghost use Rattle.hm_thumb.specs.MemoryRows.{indexed, literal, moved, offset, plain_name, s14, s15, s16, s17, scale, shifted, t12, word_name};
 ghost use Rattle.hm_thumb.specs.Steps.{IsDone};
 
-use crate::bases::base_of;
 use crate::single::{Back, access_at, access_row};
 use hm_base::{Place, Stop};
-use hm_isa::{AccessName, Indexed, Literal, Offset, PlainName, S15, S16, Shifted, T12};
+use hm_isa::{AccessName, Indexed, Literal, Offset, PlainName, S14, S15, S16, S17, Shifted, T12, WordName};
 use hm_mem::Mem;
 use hm_regs::Regs;
-use hm_thumb::Way;
+use hm_thumb::{Way, base_of};
+
+/// `ldr rt,label`
+pub fn s14(i: &S14, regs: &mut Regs, mem: &mut Mem) -> Result<Way, Stop>
+    ensures done { IsDone (s14 i.now regs.old) regs.old regs.new (memory_of mem.old) (memory_of mem.new) result }
+{
+    let addr = base_of(15, regs).wrapping_add(4 * i.i.get());
+    access_at(AccessName::Ldr, i.t.get(), addr, regs, mem)
+}
 
 /// `str`, `ldr` and their kin with `rt,[rn,rm]`
 pub fn s15(i: &S15, regs: &mut Regs, mem: &mut Mem) -> Result<Way, Stop>
@@ -55,6 +62,24 @@ pub fn s16(i: &S16, regs: &mut Regs, mem: &mut Mem) -> Result<Way, Stop>
     let base = regs.get(Place::R(i.n.get() as u8));
     let addr = base.wrapping_add(scale(i.name) * i.i.get());
     access_at(plain_name(i.name), i.t.get(), addr, regs, mem)
+}
+
+/// The operation of the register form.
+fn word_name(name: WordName) -> AccessName
+    ensures value { result ≡ word_name name }
+{
+    match name {
+        WordName::Str => AccessName::Str,
+        WordName::Ldr => AccessName::Ldr,
+    }
+}
+
+/// `str`, `ldr rt,[sp,#4i]`
+pub fn s17(i: &S17, regs: &mut Regs, mem: &mut Mem) -> Result<Way, Stop>
+    ensures done { IsDone (s17 i.now regs.old) regs.old regs.new (memory_of mem.old) (memory_of mem.new) result }
+{
+    let addr = regs.get(Place::R(13)).wrapping_add(4 * i.i.get());
+    access_at(word_name(i.name), i.t.get(), addr, regs, mem)
 }
 
 /// An address up or down by so many bytes.

@@ -6,8 +6,10 @@ use Rattle.hm_isa.specs.declared.Scalar.{Scalar}
 use Rattle.hm_isa.specs.declared.Scalar.TheVariants as scalar
 
 abbrev pub loads_or_stores : Scalar → Bool
+loads_or_stores (scalar.S14 i) = true
 loads_or_stores (scalar.S15 i) = true
 loads_or_stores (scalar.S16 i) = true
+loads_or_stores (scalar.S17 i) = true
 loads_or_stores (scalar.S20 i) = true
 loads_or_stores (scalar.T12 i) = true
 loads_or_stores (scalar.T13 i) = true

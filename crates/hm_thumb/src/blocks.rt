@@ -66,8 +66,10 @@ pub fn loads_or_stores(i: &Scalar) -> bool
     ensures value { result ≡ loads_or_stores i.now }
 {
     match i {
+        Scalar::S14(_) => true,
         Scalar::S15(_) => true,
         Scalar::S16(_) => true,
+        Scalar::S17(_) => true,
         Scalar::S20(_) => true,
         Scalar::T12(_) => true,
         Scalar::T13(_) => true,
