@@ -214,7 +214,7 @@ row_s21 = record {
   rules = λ v. one_rule;
 }
 
-some_mask : (c mask n : ℕ) → IsTrue (keeps_it c mask) → n / 2 ^ 0 % 2 ^ 4 ≡ mask → n / 2 ^ 0 % 2 ^ 4 ≡ 0 → ⊥
+pub some_mask : (c mask n : ℕ) → IsTrue (keeps_it c mask) → n / 2 ^ 0 % 2 ^ 4 ≡ mask → n / 2 ^ 0 % 2 ^ 4 ≡ 0 → ⊥
 some_mask c mask n k d e = grind (arith, nat_tests)
 
 -- with no mask other rows stand
