@@ -4,10 +4,10 @@ ghost use Rattle.std.specs.Prelude.{◌≡◌, length, [], ◌∷◌};
 ghost use Rattle.hm_isa.specs.Code.{shift_base, sum_base, byte_base, logic_base, base_base, stack_sum_base, extend_base, swap_base, access_base, plain_base, word_base, list_base, jump_base, zero_base, code_s1, code_s2, code_s3, code_s4, code_s5, code_s6, code_s7, code_s8, code_s9, code_s10, code_s11, code_s12, code_s13, code_s14, code_s15, code_s16, code_s17, code_s18, code_s19, code_s20, code_s21, code_s23, code_s24, code_s25, scalar_halves, branch_halves};
 
 use hm_isa::{
-    AccessName, BaseName, Branch, ByteName, ExtendName, HintName,
-    JumpName, ListName, LogicName, MaskingName, PlainName, S1, S2, S3, S4, S5, S6, S7, S8, S9, S10,
-    S11, S12, S13, S14, S15, S16, S17, S18, S19, S20, S21, S23, S24, S25, Scalar, ShiftName,
-    SumName, SwapName, WordName, ZeroName,
+    AccessName, BaseName, Branch, ByteName, ExtendName, HintName, JumpName, ListName, LogicName,
+    MaskingName, PlainName, S1, S2, S3, S4, S5, S6, S7, S8, S9, S10, S11, S12, S13, S14, S15, S16,
+    S17, S18, S19, S20, S21, S23, S24, S25, Scalar, ShiftName, SumName, SwapName, WordName,
+    ZeroName,
 };
 
 /// The code of a name of the row S1 without its fields.

@@ -3,9 +3,10 @@ ghost use Rattle.hm_isa.specs.Code.{halfwords};
 
 use super::*;
 use hm_isa::{
-    AccessName, Always, Below, Branch, ByteName, Conditional, JumpName, ListName, LogicName,
-    PlainName, S1, S2, S3, S4, S5, S6, S15, S16, S18, S20, S21, S23, S24, S25, Scalar, ShiftName,
-    SumName, ZeroName,
+    AccessName, Always, BaseName, Below, Branch, ByteName, Conditional, ExtendName, HintName,
+    JumpName, ListName, LogicName, MaskingName, PlainName, S1, S2, S3, S4, S5, S6, S7, S8, S9, S10,
+    S11, S12, S13, S14, S15, S16, S17, S18, S19, S20, S21, S23, S24, S25, Scalar, ShiftName,
+    SumName, SwapName, WordName, ZeroName,
 };
 
 // the code is read as the instruction, which is written as the code
@@ -68,6 +69,63 @@ fn registers(rt: HostRuntime) {
     assert!(rt; is_code(0x44c8, &Instr::Scalar(high)));
     assert!(rt; is_code(0x4485, &Instr::Scalar(stack)));
     assert!(rt; is_code(0xbeaa, &Instr::Scalar(bkpt)));
+}
+
+// cmp r8,r1, mov sp,lr, add r2,pc,#16, sub sp,#508, uxth r3,r4, revsh r5,r6, cpsid i, ldr r7,.+1024, str r1,[sp,#1020] and sev
+#[test]
+fn stack_and_moves(rt: HostRuntime) {
+    let cmp = Scalar::S7(S7 {
+        d: Below::new(8),
+        m: Below::new(1),
+    });
+    let mov = Scalar::S8(S8 {
+        d: Below::new(13),
+        m: Below::new(14),
+    });
+    let add = Scalar::S9(S9 {
+        name: BaseName::Pc,
+        d: Below::new(2),
+        i: Below::new(4),
+    });
+    let sub = Scalar::S10(S10 {
+        name: SumName::Sub,
+        i: Below::new(127),
+    });
+    let uxth = Scalar::S11(S11 {
+        name: ExtendName::Uxth,
+        m: Below::new(4),
+        d: Below::new(3),
+    });
+    let revsh = Scalar::S12(S12 {
+        name: SwapName::Revsh,
+        m: Below::new(6),
+        d: Below::new(5),
+    });
+    let cpsid = Scalar::S13(S13 {
+        name: MaskingName::Cpsid,
+    });
+    let ldr = Scalar::S14(S14 {
+        t: Below::new(7),
+        i: Below::new(255),
+    });
+    let str = Scalar::S17(S17 {
+        name: WordName::Str,
+        t: Below::new(1),
+        i: Below::new(255),
+    });
+    let sev = Scalar::S19(S19 {
+        name: HintName::Sev,
+    });
+    assert!(rt; is_code(0x4588, &Instr::Scalar(cmp)));
+    assert!(rt; is_code(0x46f5, &Instr::Scalar(mov)));
+    assert!(rt; is_code(0xa204, &Instr::Scalar(add)));
+    assert!(rt; is_code(0xb0ff, &Instr::Scalar(sub)));
+    assert!(rt; is_code(0xb2a3, &Instr::Scalar(uxth)));
+    assert!(rt; is_code(0xbaf5, &Instr::Scalar(revsh)));
+    assert!(rt; is_code(0xb672, &Instr::Scalar(cpsid)));
+    assert!(rt; is_code(0x4fff, &Instr::Scalar(ldr)));
+    assert!(rt; is_code(0x91ff, &Instr::Scalar(str)));
+    assert!(rt; is_code(0xbf40, &Instr::Scalar(sev)));
 }
 
 // ldr r1,[r2,r3], ldrb r0,[r1,#31], push {r0,lr}, ldm r1!,{r0,r2} and itte ne
@@ -133,13 +191,13 @@ fn branches(rt: HostRuntime) {
     assert!(rt; is_code(0xe7fe, &Instr::Branch(b)));
 }
 
-// add pc,pc, bx pc, push and stm of nothing, stm r1!,{r0,r1}, a request for a service, it with no mask, under condition 15 and with
-// another half under 14, udf, svc, and a first half of two
+// add pc,pc, cmp r0,r1 and cmp r8,pc of the high registers, hlt, cps of FAULTMASK, bx pc, push and stm of nothing, stm r1!,{r0,r1}, a
+// request for a service, a sixth hint, it under condition 15 and with another half under 14, udf, svc, and a first half of two
 #[test]
 fn codes_of_no_row(rt: HostRuntime) {
     let codes = [
-        0x44ff, 0x4778, 0xb400, 0xc000, 0xc103, 0xbeab, 0xbf00, 0xbff8, 0xbfec, 0xde00, 0xdf00,
-        0xe800,
+        0x44ff, 0x4508, 0x45f8, 0xba80, 0xb661, 0x4778, 0xb400, 0xc000, 0xc103, 0xbeab, 0xbf50,
+        0xbff8, 0xbfec, 0xde00, 0xdf00, 0xe800,
     ];
     for h in codes {
         assert_eq!(rt; decode16(h), None);

@@ -9,21 +9,114 @@ mod narrow;
 mod vectors;
 mod wide;
 
-pub use fields::{Below, Bit, Byte, Low, QRegister, Register, Size};
-pub use narrow::{
-    AccessName, Always, BaseName, ByteName, Conditional, ExtendName, HintName, JumpName, ListName,
-    LogicName, MaskingName, PlainName, S1, S2, S3, S4, S5, S6, S7, S8, S9, S10, S11, S12, S13, S14,
-    S15, S16, S17, S18, S19, S20, S21, S23, S24, S25, ShiftName, SumName, SwapName, WordName,
-    ZeroName,
-};
-pub use vectors::{
-    AddName, BitwiseName, Block, CarryName, CompareScalar, CompareVectors, Dot, DoublingName,
-    Element, ExtremeName, HighName, Invert, LongBytes, LongDot, LongFull, LongHalves, LongSum,
-    NarrowName, Offsets, OffsetsName, OneElement, OneName, ReverseName, ScalarName, Select,
-    SignedName, Sum, Tail, TurnName, V1, V2, V3, V5, V6, V7, V8, V9, V10, V12, V13, V14, V15, V16,
-    V17, V18, V19, V20, V21, V22, V23, WrappedOffsets,
-};
-pub use wide::{Indexed, Literal, Offset, PairName, Shifted, StackName, T12, T13, T15};
+pub use fields::Below;
+pub use fields::Bit;
+pub use fields::Byte;
+pub use fields::Low;
+pub use fields::QRegister;
+pub use fields::Register;
+pub use fields::Size;
+pub use narrow::AccessName;
+pub use narrow::Always;
+pub use narrow::BaseName;
+pub use narrow::ByteName;
+pub use narrow::Conditional;
+pub use narrow::ExtendName;
+pub use narrow::HintName;
+pub use narrow::JumpName;
+pub use narrow::ListName;
+pub use narrow::LogicName;
+pub use narrow::MaskingName;
+pub use narrow::PlainName;
+pub use narrow::S1;
+pub use narrow::S2;
+pub use narrow::S3;
+pub use narrow::S4;
+pub use narrow::S5;
+pub use narrow::S6;
+pub use narrow::S7;
+pub use narrow::S8;
+pub use narrow::S9;
+pub use narrow::S10;
+pub use narrow::S11;
+pub use narrow::S12;
+pub use narrow::S13;
+pub use narrow::S14;
+pub use narrow::S15;
+pub use narrow::S16;
+pub use narrow::S17;
+pub use narrow::S18;
+pub use narrow::S19;
+pub use narrow::S20;
+pub use narrow::S21;
+pub use narrow::S23;
+pub use narrow::S24;
+pub use narrow::S25;
+pub use narrow::ShiftName;
+pub use narrow::SumName;
+pub use narrow::SwapName;
+pub use narrow::WordName;
+pub use narrow::ZeroName;
+pub use vectors::AddName;
+pub use vectors::BitwiseName;
+pub use vectors::Block;
+pub use vectors::CarryName;
+pub use vectors::CompareScalar;
+pub use vectors::CompareVectors;
+pub use vectors::Dot;
+pub use vectors::DoublingName;
+pub use vectors::Element;
+pub use vectors::ExtremeName;
+pub use vectors::HighName;
+pub use vectors::Invert;
+pub use vectors::LongBytes;
+pub use vectors::LongDot;
+pub use vectors::LongFull;
+pub use vectors::LongHalves;
+pub use vectors::LongSum;
+pub use vectors::NarrowName;
+pub use vectors::Offsets;
+pub use vectors::OffsetsName;
+pub use vectors::OneElement;
+pub use vectors::OneName;
+pub use vectors::ReverseName;
+pub use vectors::ScalarName;
+pub use vectors::Select;
+pub use vectors::SignedName;
+pub use vectors::Sum;
+pub use vectors::Tail;
+pub use vectors::TurnName;
+pub use vectors::V1;
+pub use vectors::V2;
+pub use vectors::V3;
+pub use vectors::V5;
+pub use vectors::V6;
+pub use vectors::V7;
+pub use vectors::V8;
+pub use vectors::V9;
+pub use vectors::V10;
+pub use vectors::V12;
+pub use vectors::V13;
+pub use vectors::V14;
+pub use vectors::V15;
+pub use vectors::V16;
+pub use vectors::V17;
+pub use vectors::V18;
+pub use vectors::V19;
+pub use vectors::V20;
+pub use vectors::V21;
+pub use vectors::V22;
+pub use vectors::V23;
+pub use vectors::WrappedOffsets;
+pub use wide::Indexed;
+pub use wide::Literal;
+pub use wide::Offset;
+pub use wide::PairName;
+pub use wide::Shifted;
+pub use wide::StackName;
+pub use wide::T12;
+pub use wide::T13;
+pub use wide::T15;
 
 /// An instruction of the scalar rows: neither a branch nor a vector instruction.
 #[derive(Clone, Copy, Debug, PartialEq, Eq)]

@@ -7,7 +7,9 @@ ghost use Rattle.hm_thumb.specs.Steps.{IsDone};
 
 use crate::single::{Back, access_at, access_row};
 use hm_base::{Place, Stop};
-use hm_isa::{AccessName, Indexed, Literal, Offset, PlainName, S14, S15, S16, S17, Shifted, T12, WordName};
+use hm_isa::{
+    AccessName, Indexed, Literal, Offset, PlainName, S14, S15, S16, S17, Shifted, T12, WordName,
+};
 use hm_mem::Mem;
 use hm_regs::Regs;
 use hm_thumb::{Way, base_of};
