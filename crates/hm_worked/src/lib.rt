@@ -1,4 +1,4 @@
-//! Tests that cross crates: the plain program that does whole instructions in order, beside the machine.
+//! Tests that cross crates: runs of the machine, from the bytes of an image to the report.
 #![tactic(auto)]
 
 #[cfg(test)]

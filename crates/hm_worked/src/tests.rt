@@ -1,5 +1,4 @@
 use hm_base::{Image, Place};
-use hm_in_order::in_order;
 use hm_isa::{Below, Instr, S18, Scalar, width};
 use hm_machine::Machine;
 use hm_run::{Outcome, Turn, Window};
@@ -21,16 +20,6 @@ fn machine_report(alloc: Global, image: &Image, n: u32) -> Result<Vec<u8>, Fail>
     Ok(machine.report(alloc)?)
 }
 
-/// The bytes up to the first line's end.
-fn first_line(text: &[u8]) -> &[u8] {
-    for (k, byte) in text.iter().enumerate() {
-        if *byte == b'\n' {
-            return &text[..k];
-        }
-    }
-    text
-}
-
 // The stack pointer 20010000 and the first instruction at 8.
 const START: [u8; 8] = [0, 0, 1, 0x20, 9, 0, 0, 0];
 
@@ -39,34 +28,81 @@ const VECTORS: &[u8] = &[
     0x80, 0xef, 0x55, 0, 0x80, 0xef, 0x53, 0x20, 0x20, 0xef, 0x42, 8, 0, 0xbe,
 ];
 
-// Two additions that carry and overflow, flags of zero, halts, codes that are none, and vector rows; so many instructions
-// each.
-static CODES: [(&[u8], u32); 7] = [
-    (VECTORS, 4),
-    (&[5, 0x20, 0xc0, 0x1c, 1, 0xbe], 3),
-    (&[5, 0x20, 0xc0, 0x1c, 1, 0xbe], 2),
-    (&[0, 0x20, 0, 0xbe], 2),
-    (&[0, 0xde], 1),
-    (&[5, 0x20, 0xab, 0xbe], 4),
-    (&[255, 0x21, 0xca, 0x1d, 0x53, 0x1d, 7, 0xbe], 9),
+/// A program's code, so many plain ticks, and lines of the report.
+type Run = (&'static [u8], u32, &'static [&'static str]);
+
+// Vector rows alone; a condition that holds and one that does not; loads, stores and faults of memory; saturation; a predicate.
+static RUNS: [Run; 9] = [
+    (
+        VECTORS,
+        4,
+        &[
+            "outcome halted break 0 after 4",
+            "q0 00000008 00000008 00000008 00000008",
+            "fpca 1",
+        ],
+    ),
+    (
+        &[0, 0x20, 8, 0xbf, 7, 0x21, 0, 0xbe],
+        4,
+        &[
+            "outcome halted break 0 after 4",
+            "r1 00000007",
+            "flags 01000",
+            "it 00",
+        ],
+    ),
+    (
+        &[0, 0x20, 0x18, 0xbf, 7, 0x21, 0, 0xbe],
+        4,
+        &["outcome halted break 0 after 4", "r1 00000000", "it 00"],
+    ),
+    (
+        &[1, 0x20, 0xc0, 7, 1, 0x68],
+        3,
+        &["outcome fault thread bus pc 0000000c addr 80000000 after 2"],
+    ),
+    (
+        &[8, 0x20, 1, 0x60],
+        2,
+        &["outcome fault thread flashwrite pc 0000000a addr 00000008 after 1"],
+    ),
+    (
+        &[
+            2, 0x48, 0xe0, 0x21, 0xc1, 0x70, 2, 0x68, 0, 0xbe, 0, 0xbf, 0x20, 0xed, 0, 0xe0,
+        ],
+        5,
+        &["outcome halted break 0 after 5", "r2 e0000000"],
+    ),
+    (
+        &[0x87, 0xef, 0x5f, 0xe, 0, 0xef, 0x50, 0, 0, 0xbe],
+        3,
+        &[
+            "outcome halted break 0 after 3",
+            "q0 7f7f7f7f 7f7f7f7f 7f7f7f7f 7f7f7f7f",
+            "fpscr 08040000",
+        ],
+    ),
+    (
+        &[3, 0x20, 0x20, 0xf0, 1, 0xe8, 0, 0xbe],
+        3,
+        &["outcome halted break 0 after 3", "vpr 00000fff", "fpca 1"],
+    ),
+    (
+        &[0, 0xde],
+        1,
+        &["outcome fault thread undefined pc 00000008 addr 00000008 after 0"],
+    ),
 ];
 
 #[test]
-fn in_order_beside_the_machine(rt: HostRuntime) -> Result<(), Fail> {
+fn plain_runs(rt: HostRuntime) -> Result<(), Fail> {
     let alloc = rt.alloc();
-    for (code, most) in CODES {
+    for (code, ticks, lines) in RUNS {
         let mut bytes = START.to_vec(alloc)?;
         bytes.extend_from_slice(code)?;
-        let image = flat(alloc, &bytes)?;
-        for n in 0..most + 2 {
-            let ours = machine_report(alloc, &image, n)?;
-            let plain = in_order(alloc, &image, n)?.report(alloc)?;
-            if first_line(&plain).len() + 1 < plain.len() {
-                assert!(rt; ours.as_slice() == plain.as_slice(), "after {n}");
-            } else {
-                assert!(rt; first_line(&ours) == first_line(&plain), "after {n}");
-            }
-        }
+        let report = machine_report(alloc, &flat(alloc, &bytes)?, ticks)?;
+        assert!(rt; has_lines(&report, lines));
     }
     Ok(())
 }
@@ -141,8 +177,7 @@ fn overlapped_beats_are_in_order(rt: HostRuntime) -> Result<(), Fail> {
     let report = report_under(alloc, VECTORS, schedule)?;
     let mut bytes = START.to_vec(alloc)?;
     bytes.extend_from_slice(VECTORS)?;
-    let plain = in_order(alloc, &flat(alloc, &bytes)?, 4)?.report(alloc)?;
-    assert!(rt; has_lines(&report, &["outcome halted break 0 after 4"]));
+    let plain = machine_report(alloc, &flat(alloc, &bytes)?, 4)?;
     assert!(rt; report.as_slice() == plain.as_slice());
     Ok(())
 }
