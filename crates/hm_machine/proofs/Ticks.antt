@@ -131,8 +131,7 @@ shows_past image s t m le h =
     let there = exists (flash_byte image) in
     let end = all_ended there.0 image s in
     let over : m.outcome ≡ Some end.0
-    = ap (λ (x : Timed). x.outcome) (h.now there.0 there.1 ∙ timed_past there.0 image s t le) ∙ end.1 in
-    (
+    = ap (λ (x : Timed). x.outcome) (h.now there.0 there.1 ∙ timed_past there.0 image s t le) ∙ end.1 in (
       subst IsSome (sym over) refl,
       record {
         bytes = h.bytes;
