@@ -1,8 +1,7 @@
 -- From a state with no dead cell a beat leaves none.
-use Rattle.std.proofs.Common.{◌≡◌, ℕ, zero, suc, Bool, true, false, cond, List, [], ◌∷◌, map, Option, Some, None, Result, Ok, Err, refl, sym, ◌∙◌, ap, subst}
+use Rattle.std.proofs.Common.{◌≡◌, ℕ, zero, suc, Bool, true, false, cond, List, [], ◌∷◌, map, Option, Some, None, Result, Ok, refl, sym, ◌∙◌, ap, subst}
 use Rattle.std.specs.Prelude.{nat_lt}
 use Rattle.hm_base.specs.declared.Fault.{Fault}
-use Rattle.hm_base.specs.declared.Stop.{Stop}
 use Rattle.hm_mem.specs.Memory.{Around}
 use Rattle.hm_mem.specs.declared.Actor.TheVariants.{Thread}
 use Rattle.hm_order.specs.Beats.{beats}
@@ -10,7 +9,7 @@ use Rattle.hm_order.proofs.Results.{ok_same, ok_err, decide, then_ok}
 use Rattle.hm_state.specs.State.{At, Byte, State, cells}
 use Rattle.hm_state.specs.Store.{CellLaws, Cells, Store, put, put_all}
 use Rattle.hm_state.proofs.Cells.{cell_laws}
-use Rattle.hm_beat.specs.Laws.{Clean, KeepsLr, RowLaws}
+use Rattle.hm_beat.specs.Laws.{Clean, RowLaws}
 use Rattle.hm_beat.specs.Ordered.{nothing, of_four, ordered}
 use Rattle.hm_beat.specs.Rows.{Tree}
 use Rattle.hm_beat.specs.Trees.{Leaf, Beat, Alive, WritesLive, checked, finish, reach, written, action}

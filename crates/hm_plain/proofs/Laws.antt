@@ -1,5 +1,5 @@
 -- The machine of a program keeps the laws of the machine that overlaps beats.
-use Rattle.std.proofs.Common.{◌≡◌, ℕ, zero, suc, ◌+◌, ◌<◌, ◌≤◌, arith, ◌&&◌, ◌||◌, ap, refl, sym, ◌∙◌, subst, Bool, true, false, not, ltb, nat_eq, nat_lt, cond, Option, Some, None, Result, Ok, Err, inl, inr, ⊎_elim, ◌⊎◌}
+use Rattle.std.proofs.Common.{◌≡◌, ℕ, zero, suc, ◌<◌, ◌≤◌, arith, ◌&&◌, ◌||◌, ap, refl, sym, ◌∙◌, subst, Bool, true, false, not, ltb, nat_lt, cond, Option, Some, None, Result, Ok, Err, inl, inr, ⊎_elim, ◌⊎◌}
 use Rattle.std.proofs.lemmas.Bool.Decides.{nat_tests}
 use Rattle.std.specs.Option.{is_none}
 use Rattle.hm_base.specs.declared.Fault.{Fault}
@@ -36,7 +36,7 @@ use Rattle.hm_beat.specs.declared.clash.Clash.{Clash}
 use Rattle.hm_beat.specs.Meeting.{clash_with}
 use Rattle.hm_beat.proofs.Remaining.{left_apart}
 use Rattle.hm_run.specs.Program.{rows, core, alone, begins, caused, cause_of, done_alone, done_in_machine, in_machine, is_ready, is_tainted_cause, lifted, makes_here, on_cell, or_fault, other_by, other_here, other_row, ready_state, clash_or, is_too_early, overlap_rule, refusal_rule, rule_of_clash, step_rule, unless_refused, vector_of, whole_here}
-use Rattle.hm_whole.specs.Watched.{Agrees, GoesAlike, Watched, In, Beside, Held, Holds, Others, open_rest, held, dead, view}
+use Rattle.hm_whole.specs.Watched.{GoesAlike, Watched, In, Beside, Held, Holds, Others, open_rest, held, dead, view}
 use Rattle.hm_run.specs.Stops as why
 use Rattle.hm_run.specs.declared.Reason.{Reason}
 use Rattle.hm_run.specs.Stops.{WholeStop, halt_of, unless_halted}

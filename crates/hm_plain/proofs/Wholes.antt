@@ -9,7 +9,7 @@ use Rattle.hm_isa.specs.declared.Vector.{Vector}
 use Rattle.hm_mem.specs.Memory.{Around, thread_under}
 use Rattle.hm_mem.specs.declared.Actor.TheVariants.{Thread}
 use Rattle.hm_order.specs.Beats.{then}
-use Rattle.hm_order.specs.Machine.{Config, Stopped, begun, done, older, settle}
+use Rattle.hm_order.specs.Machine.{Config, Stopped, begun, done, settle}
 use Rattle.hm_state.specs.State.{State, At, Byte, cells}
 use Rattle.hm_beat.specs.Trees.{action}
 use Rattle.hm_beat.specs.Laws.{Clean, stopped}

@@ -1,6 +1,5 @@
 -- One step, and one tick, of a run.
-use Rattle.std.proofs.Common.{◌≡◌, ℕ, suc, ◌+◌, ◌==◌, ◌<◌, arith, ap, refl, sym, ◌∙◌, Bool, true, false, not, IsTrue, cond, List, [], ◌∷◌, length, Option, Some, None, Result, Ok, Err}
-use Rattle.std.proofs.lemmas.Bool.Decides.{nat_tests}
+use Rattle.std.proofs.Common.{◌≡◌, suc, ◌+◌, ◌<◌, arith, ap, refl, sym, ◌∙◌, Bool, true, false, not, IsTrue, cond, List, [], ◌∷◌, length, Option, Some, None, Result, Ok, Err}
 use Rattle.hm_codes.specs.Listing.{Listing}
 use Rattle.hm_base.specs.declared.Fault.{Fault}
 use Rattle.hm_isa.specs.declared.Instr.{Instr}

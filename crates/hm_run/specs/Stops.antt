@@ -1,5 +1,5 @@
 -- Why a whole instruction does not go on to the next.
-use Rattle.std.specs.Prelude.{ℕ, Option, Some, None, Result, Ok, Err}
+use Rattle.std.specs.Prelude.{Option, Some, None, Result, Err}
 use Rattle.hm_base.specs.declared.Fault.{Fault}
 use Rattle.hm_isa.specs.declared.Instr.{Instr}
 use Rattle.hm_isa.specs.declared.Instr.TheVariants as instr
