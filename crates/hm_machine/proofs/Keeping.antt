@@ -1,5 +1,5 @@
 -- What stays while instructions are done.
-use Rattle.std.proofs.Common.{◌≡◌, ℕ, ap, sym, ◌∙◌, subst, List, slice_index_or}
+use Rattle.std.proofs.Common.{◌≡◌, ℕ, sym, ◌∙◌, subst, slice_index_or}
 use Rattle.hm_codes.specs.Listing.{Listing, IsListing}
 use Rattle.hm_machine.specs.Cpus.{Keeps}
 use Rattle.hm_machine.specs.declared.cpu.Cpu.{Cpu}

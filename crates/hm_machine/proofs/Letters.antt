@@ -1,5 +1,5 @@
 -- The letters of a tick, one after another.
-use Rattle.std.proofs.Common.{◌≡◌, ℕ, suc, ◌+◌, ◌<◌, ap, sym, ◌∙◌, add-one, List, ◌∷◌, drop, length, slice_index, nat_eq, Ok, Err}
+use Rattle.std.proofs.Common.{◌≡◌, ℕ, ◌+◌, ◌<◌, ap, sym, ◌∙◌, List, drop, length, slice_index, nat_eq, Ok, Err}
 use Rattle.std.proofs.lemmas.List.{drop_more}
 use Rattle.hm_order.specs.Beats.{then}
 use Rattle.hm_order.specs.Machine.{Config, End}

@@ -1,4 +1,4 @@
-use Rattle.std.proofs.Common.{◌≡◌, ℕ, ◌+◌, arith, ap, sym, ◌∙◌, nat_eq, slice_index, Result, Ok, Err}
+use Rattle.std.proofs.Common.{◌≡◌, ℕ, ◌+◌, arith, ap, ◌∙◌, nat_eq, slice_index, Result, Ok, Err}
 use Rattle.std.proofs.lemmas.Result.{err_from_is_err_and}
 use Rattle.hm_machine.proofs.Keeping.{kept_step, keeps_then}
 use Rattle.hm_machine.proofs.Letters.{letters_on, letters_stop}

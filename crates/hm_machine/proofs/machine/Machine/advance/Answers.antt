@@ -4,7 +4,6 @@ use Rattle.hm_machine.specs.Cpus.{config_of, troubled}
 use Rattle.hm_machine.specs.Machines.{left_at, machine_view}
 use Rattle.hm_machine.specs.Shown.{Shown, timed_of}
 use Rattle.hm_mem.specs.Memory.{Memory, memory_of}
-use Rattle.hm_order.specs.Machine.{Config}
 use Rattle.hm_run.specs.declared.Outcome.TheVariants as outcome
 use Rattle.hm_run.specs.Program.{core}
 use Rattle.hm_run.specs.Timed.{counted_with}
