@@ -28,7 +28,7 @@ use Rattle.hm_run.proofs.Steps.{halting_makes, makes_other, makes_row, no_row, o
 use Rattle.hm_run.specs.declared.Cause.{Cause}
 use Rattle.hm_run.specs.declared.Cause.TheVariants as cause
 use Rattle.hm_run.specs.declared.Reason.{Reason}
-use Rattle.hm_run.specs.Program.{Program, Stepped, caused, core, done_in_machine, in_machine, made_here, makes_here, other_by, other_here, rows, to_end, unless_refused, vector_of}
+use Rattle.hm_run.specs.Program.{Program, Stepped, caused, core, done_in_machine, in_machine, made_here, makes_here, other_by, other_here, older_steps, rows, steps_left, to_end, unless_refused, vector_of}
 use Rattle.hm_run.specs.Stops.{halt_of, unless_halted}
 use Rattle.hm_state.proofs.Beside.{pc_is}
 use Rattle.hm_state.proofs.Registers.{registers_are}
@@ -37,27 +37,23 @@ use Rattle.hm_thumb.specs.Families.{is_vector_row}
 use Rattle.hm_thumb.specs.Rows.{made, makes_context}
 use Rattle.hm_whole.specs.Whole.{scalar_in_machine}
 
--- THE LETTER W
-abbrev further : Program → ℕ → Config State → Config State → Stepped
-further M j c d = cond (d.a == suc c.a) (to_end M j d) (Ok d)
+-- SEVERAL STEPS
+-- one that stops, and one that is done
+pub steps_stop : (M : Program) (k n : ℕ) (c d : Config State) (e : Cause) → k < n → Err (order.Stopped d e) ≡ older M c → Err (order.Stopped d e) ≡ older_steps M (n - k) c
+steps_stop M k n c d e few step =
+    let left : n - k ≡ suc (n - (k + 1)) = omega arith in
+    sym (ap (λ (j : ℕ). older_steps M j c) left ∙ ap (λ (y : Stepped). then y (older_steps M (n - (k + 1)))) (sym step))
 
--- a step of it that stops, one that retires the instruction, and one that does not
-pub to_end_stops : (M : Program) (k : ℕ) (c d : Config State) (e : Cause) → k < 4 → Err (order.Stopped d e) ≡ older M c → Err (order.Stopped d e) ≡ to_end M (4 - k) c
-to_end_stops M k c d e few step =
-    let left : 4 - k ≡ suc (4 - (k + 1)) = omega arith in
-    sym (ap (λ (j : ℕ). to_end M j c) left ∙ ap (λ (y : Stepped). then y (further M (4 - (k + 1)) c)) (sym step))
+pub steps_on : (M : Program) (k n : ℕ) (c d : Config State) → k < n → Ok d ≡ older M c → older_steps M (n - (k + 1)) d ≡ older_steps M (n - k) c
+steps_on M k n c d few step =
+    let left : n - k ≡ suc (n - (k + 1)) = omega arith in
+    sym (ap (λ (j : ℕ). older_steps M j c) left ∙ ap (λ (y : Stepped). then y (older_steps M (n - (k + 1)))) (sym step))
 
-pub to_end_over : (M : Program) (k : ℕ) (c d : Config State) → k < 4 → (d.a ≡ c.a + 1 → ⊥) → Ok d ≡ older M c → Ok d ≡ to_end M (4 - k) c
-to_end_over M k c d few over step =
-    let left : 4 - k ≡ suc (4 - (k + 1)) = omega arith in
-    let test : (d.a == suc c.a) ≡ false = grind (arith, nat_tests, over) in
-    sym (ap (λ (j : ℕ). to_end M j c) left ∙ ap (λ (y : Stepped). then y (further M (4 - (k + 1)) c)) (sym step) ∙ ap (λ (q : Bool). cond q (to_end M (4 - (k + 1)) d) (Ok d)) test)
-
-pub to_end_on : (M : Program) (k : ℕ) (c d : Config State) → k < 4 → d.a ≡ c.a + 1 → Ok d ≡ older M c → to_end M (4 - (k + 1)) d ≡ to_end M (4 - k) c
-to_end_on M k c d few on step =
-    let left : 4 - k ≡ suc (4 - (k + 1)) = omega arith in
-    let test : (d.a == suc c.a) ≡ true = grind (arith, nat_tests, on) in
-    sym (ap (λ (j : ℕ). to_end M j c) left ∙ ap (λ (y : Stepped). then y (further M (4 - (k + 1)) c)) (sym step) ∙ ap (λ (q : Bool). cond q (to_end M (4 - (k + 1)) d) (Ok d)) test)
+-- all that are left
+pub to_end_is : (listing : Listing) (x : Cpu) (n : ℕ) → n ≡ steps_left (vector_of (listing x.regs.pc)) x.window.a
+    → older_steps (core listing (memory_of x.mem).around) n (config_of x) ≡ to_end (core listing (memory_of x.mem).around) (config_of x)
+unfolding state_of
+to_end_is listing x n e = ap (λ (k : ℕ). older_steps (core listing (memory_of x.mem).around) k (config_of x)) e
 
 -- BEATS
 -- the context that is made

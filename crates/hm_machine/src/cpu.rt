@@ -1,6 +1,6 @@
 //! The steps of the older instruction.
 
-ghost use Rattle.std.specs.Prelude.{◌≡◌, ℕ, ◌+◌, ◌^◌, ◌<◌, ◌≤◌, not, List, IsTrue, OnErr, Ok};
+ghost use Rattle.std.specs.Prelude.{◌≡◌, ℕ, ◌+◌, ◌^◌, ◌<◌, ◌≤◌, not, List, IsSome, IsTrue, OnErr, Ok};
 ghost use Rattle.hm_codes.specs.Listing.{Listing, IsListing};
 ghost use Rattle.hm_machine.specs.Cpus.{config_of, state_in, executed, reached, IsPosition, Keeps, CountsOne};
 ghost use Rattle.hm_mem.specs.Memory.{Around, Memory, memory_of, flash_at};
@@ -8,7 +8,7 @@ ghost use Rattle.hm_mem.specs.Seen.{IsSameElsewhere};
 ghost use Rattle.hm_order.specs.Machine.{begin, older, settle};
 ghost use Rattle.hm_regs.specs.Place.{Counted, InRange};
 ghost use Rattle.hm_rows.specs.Context.{with_context};
-ghost use Rattle.hm_run.specs.Program.{core, done_in_machine, rows, to_end, vector_of};
+ghost use Rattle.hm_run.specs.Program.{core, done_in_machine, rows, steps_left, to_end, vector_in, vector_of};
 ghost use Rattle.hm_run.specs.Stops.{halt_of, scalar_halt};
 ghost use Rattle.hm_state.specs.State.{state_of};
 ghost use Rattle.hm_thumb.specs.Families.{is_vector_row};
@@ -205,21 +205,52 @@ pub fn older(x: &mut Cpu) -> Result<(), Cause>
     }
 }
 
-/// The older instruction to its end, in at most four steps: each before the one that retires it leaves one more beat done.
+/// The vector instruction that this is, where it is one.
+fn as_vector(i: &Instr) -> Option<Vector>
+    ensures value { result ≡ vector_in i.now }
+{
+    match i {
+        Instr::Scalar(_) | Instr::Branch(_) => None,
+        Instr::Vector(v) => Some(*v),
+    }
+}
+
+/// The vector instruction that stands at an address, where one does.
+pub fn vector_at(mem: &Mem, addr: u32) -> Option<Vector>
+    ensures row { (listing : Listing) → IsListing (flash_at (memory_of mem.now)) listing → result ≡ vector_of (listing addr) }
+    ensures room { IsSome result → addr + 4 < 2 ^ 32 }
+{
+    match fetch(mem, addr) {
+        Ok(i) => as_vector(&i),
+        Err(_) => None,
+    }
+}
+
+/// How many steps the older instruction has left: its beats that are left, or one where it has no beats.
+fn steps_left(x: &Cpu) -> u8
+    requires position { IsPosition x.now }
+    ensures value { (listing : Listing) → IsListing (flash_at (memory_of x.now.mem)) listing
+        → result ≡ steps_left (vector_of (listing x.now.regs.pc)) x.now.window.a }
+    ensures few { result ≤ 4 }
+{
+    match vector_at(&x.mem, x.regs.pc) {
+        Some(_) => 4 - x.window.a,
+        None => 1,
+    }
+}
+
+/// The older instruction to its end, in at most four steps.
 pub fn whole(x: &mut Cpu) -> Result<(), Cause>
     requires count { (x.old.retired < 2 ^ 61) × (x.old.older_steps < 2 ^ 61) }
     requires position { IsPosition x.old }
     ensures value { (listing : Listing) → IsListing (flash_at (memory_of x.old.mem)) listing
-        → reached result x.new ≡ to_end (core listing (memory_of x.old.mem).around) 4 (config_of x.old) }
+        → reached result x.new ≡ to_end (core listing (memory_of x.old.mem).around) (config_of x.old) }
     ensures kept { Keeps x.old x.new }
     ensures count { (x.new.retired ≤ x.old.retired + 4) × (x.new.older_steps ≤ x.old.older_steps + 4) }
 {
-    for _k in 0_u8..4 {
-        let done = x.window.a;
+    let left = steps_left(x);
+    for _k in 0..left {
         older(x)?;
-        if x.window.a != done + 1 {
-            return Ok(());
-        }
     }
     Ok(())
 }

@@ -1,22 +1,20 @@
 //! The steps of the younger of two vector instructions.
 
-ghost use Rattle.std.specs.Prelude.{◌≡◌, ℕ, ◌+◌, ◌^◌, ◌<◌, ◌≤◌, List, IsSome, IsTrue, Some, None};
+ghost use Rattle.std.specs.Prelude.{◌≡◌, ℕ, ◌+◌, ◌^◌, ◌<◌, ◌≤◌, List, IsTrue, Some, None};
 ghost use Rattle.hm_beat.specs.Meeting.{clash_with};
 ghost use Rattle.hm_codes.specs.Listing.{Listing, IsListing};
 ghost use Rattle.hm_machine.specs.Cpus.{config_of, hindered, reached_younger, state_in, IsPosition, Keeps};
 ghost use Rattle.hm_mem.specs.Memory.{Memory, memory_of, flash_at};
 ghost use Rattle.hm_order.specs.Machine.{Config, did, fault_end, younger};
 ghost use Rattle.hm_rows.specs.Rows.{vector_tree};
-ghost use Rattle.hm_run.specs.Program.{core, fault_rule, rows, vector_in, vector_of, rule_of_clash, step_rule};
+ghost use Rattle.hm_run.specs.Program.{core, fault_rule, rows, rule_of_clash, step_rule};
 ghost use Rattle.hm_state.specs.State.{State, state_of};
 
-use crate::cpu::{Cpu, beat};
+use crate::cpu::{Cpu, beat, vector_at};
 use hm_base::Stop;
 use hm_beat::{Clash, meet_left};
-use hm_decode::fetch;
 use hm_exec::{any, refuse};
-use hm_isa::{Instr, Vector};
-use hm_mem::Mem;
+use hm_isa::Vector;
 use hm_regs::Regs;
 use hm_run::{Cause, Rule, Window};
 
@@ -25,27 +23,6 @@ use hm_run::{Cause, Rule, Window};
 pub enum Hindrance {
     Stopped(Cause),
     Broken(Rule),
-}
-
-/// The vector instruction that this is, where it is one.
-fn as_vector(i: &Instr) -> Option<Vector>
-    ensures value { result ≡ vector_in i.now }
-{
-    match i {
-        Instr::Scalar(_) | Instr::Branch(_) => None,
-        Instr::Vector(v) => Some(*v),
-    }
-}
-
-/// The vector instruction that stands at an address, where one does.
-fn vector_at(mem: &Mem, addr: u32) -> Option<Vector>
-    ensures row { (listing : Listing) → IsListing (flash_at (memory_of mem.now)) listing → result ≡ vector_of (listing addr) }
-    ensures room { IsSome result → addr + 4 < 2 ^ 32 }
-{
-    match fetch(mem, addr) {
-        Ok(i) => as_vector(&i),
-        Err(_) => None,
-    }
 }
 
 /// The rule that a clash breaks.

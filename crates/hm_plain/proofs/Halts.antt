@@ -23,7 +23,7 @@ use Rattle.hm_state.specs.Start.{start}
 use Rattle.hm_state.specs.State.{State, Byte, bit, byte_of_bits, listed, sram_bytes, taint_bytes}
 use Rattle.hm_state.proofs.Lists.{length-listed, get_or-listed}
 use Rattle.hm_plain.specs.Ends.{GoesOn}
-use Rattle.hm_plain.specs.Overlap.{HaltsAfter, Keeps, KeepsOrder, StopsBetween}
+use Rattle.hm_plain.specs.Overlap.{HaltsAfter, AgreesAfter, KeepsOrder, StopsBetween}
 use Rattle.hm_plain.specs.Readings.{ShownAlike, ShownInOrder}
 use Rattle.hm_plain.specs.Sequence.{FaultsAt, StopsFrom}
 use Rattle.hm_plain.proofs.Readings.{shown_alike}
@@ -128,8 +128,8 @@ module _ (listing : Listing) (image : List Segment) (s : Sched) where
   machine = thread_program listing s
 
   -- what is kept, by the outcome
-  pub kept : (x : Timed) (o : Option Outcome) → KeepsOrder listing image s x → x.outcome ≡ o → Keeps machine (start image) o x.config
-  kept x o h e = subst (λ (q : Option Outcome). Keeps machine (start image) q x.config) e h
+  pub kept : (x : Timed) (o : Option Outcome) → KeepsOrder listing image s x → x.outcome ≡ o → AgreesAfter machine (start image) o x.config
+  kept x o h e = subst (λ (q : Option Outcome). AgreesAfter machine (start image) q x.config) e h
 
   -- between two instructions what is shown is in order
   pub shown_between : (c : Config State) → Holds machine (start image) c → c.a ≡ 0 → ShownInOrder listing image c.n c.state

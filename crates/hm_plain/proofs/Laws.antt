@@ -36,7 +36,7 @@ use Rattle.hm_beat.specs.declared.clash.Clash.{Clash}
 use Rattle.hm_beat.specs.Meeting.{clash_with}
 use Rattle.hm_beat.proofs.Remaining.{left_apart}
 use Rattle.hm_run.specs.Program.{rows, core, alone, begins, caused, cause_of, done_alone, done_in_machine, in_machine, is_ready, is_tainted_cause, lifted, makes_here, on_cell, or_fault, other_by, other_here, other_row, ready_state, clash_or, is_too_early, overlap_rule, refusal_rule, rule_of_clash, step_rule, unless_refused, vector_of, whole_here}
-use Rattle.hm_whole.specs.Watched.{GoesAlike, Watched, In, Beside, Held, Holds, Others, open_rest, held, dead, view}
+use Rattle.hm_whole.specs.Watched.{GoesAlike, Watched, In, Beside, Held, InCell, Besides, open_rest, held, dead, view}
 use Rattle.hm_run.specs.Stops as why
 use Rattle.hm_run.specs.declared.Reason.{Reason}
 use Rattle.hm_run.specs.Stops.{WholeStop, halt_of, unless_halted}
@@ -49,12 +49,12 @@ use Rattle.hm_plain.proofs.Wholes.{Leaves, leaves, under_thread, watched_clean}
 
 -- VIEWS
 abbrev value_in : Value → Held → Value
-value_in v (Holds w) = w
-value_in v (Others r) = v
+value_in v (InCell w) = w
+value_in v (Besides r) = v
 
 abbrev rest_in : Rest → Held → Rest
-rest_in r (Holds v) = r
-rest_in r (Others t) = t
+rest_in r (InCell v) = r
+rest_in r (Besides t) = t
 
 -- what the machine and the order agree on, cell by cell
 pub record Agree (s t : State) : Type 0 where
@@ -75,9 +75,9 @@ live : (s t : State) → Agree s t → Live view s t
 live s t h = record { cells = cells; sticky = h.sticky }
   where
     cells : (w : Watched) → dead w (held s w) ≡ false → held s w ≡ held t w
-    cells (In (At p)) d = ap Holds (h.places p)
-    cells (In (Byte a)) d = ap Holds (h.bytes a d)
-    cells Beside d = ap Others h.rest
+    cells (In (At p)) d = ap InCell (h.places p)
+    cells (In (Byte a)) d = ap InCell (h.bytes a d)
+    cells Beside d = ap Besides h.rest
 
 -- THE CONTEXT OF STATES THAT AGREE
 fresh_agree : (s t : State) → Agree s t → Agree (fresh s) (fresh t)
@@ -196,7 +196,7 @@ alike_caused : (p : Cell → Bool) (r q : Result State Stop) → Alike (AgreeOn 
 alike_caused p (Ok s) (Ok t) h = agree_on
   where
     agree_on : (w : Watched) → on_cell p w ≡ true → held s w ≡ held t w
-    agree_on (In c) e = ap Holds (h c e)
+    agree_on (In c) e = ap InCell (h c e)
     agree_on Beside e = absurd cc
 alike_caused p (Err e) (Err f) h = ap cause.Stop h
 alike_caused p (Ok s) (Err f) h = h
@@ -230,8 +230,8 @@ module _ (b : Tree) where
   }
     where
       frame : (s t : State) → caused ((action cells b).run s) ≡ Ok t → (w : Watched) → on_cell ((action cells b).sets s) w ≡ false → held t w ≡ held s w
-      frame s t e (In c) unset = ap Holds ((keeps_laws cells cell_laws b).frame s t (caused_ok ((action cells b).run s) t e) c unset)
-      frame s t e Beside unset = ap (λ (r : Rest). Others (open_rest r)) (beat_rest b s t (caused_ok ((action cells b).run s) t e))
+      frame s t e (In c) unset = ap InCell ((keeps_laws cells cell_laws b).frame s t (caused_ok ((action cells b).run s) t e) c unset)
+      frame s t e Beside unset = ap (λ (r : Rest). Besides (open_rest r)) (beat_rest b s t (caused_ok ((action cells b).run s) t e))
 
 module _ (x : Around) (thread : x.actor ≡ Thread) where
   -- the rows over the cells alone keep the laws

@@ -27,7 +27,7 @@ use Rattle.hm_run.specs.declared.Rule.{Rule}
 use Rattle.hm_run.specs.declared.Rule.TheVariants as rule
 use Rattle.hm_run.specs.declared.Who.{Who}
 use Rattle.hm_run.specs.declared.Who.TheVariants.{Thread, Handler, Entry}
-use Rattle.hm_run.specs.Program.{Program, Stepped, Stopping, Ticked, alone, core, cause_of, done_alone, is_tainted_cause, letter_step, makes_here, at_step, letter_steps, or_fault, to_end, unless_refused, vector_of, whole_here}
+use Rattle.hm_run.specs.Program.{Program, Stepped, Stopping, Ticked, alone, core, cause_of, done_alone, is_tainted_cause, letter_step, makes_here, at_step, letter_steps, or_fault, older_steps, steps_left, unless_refused, vector_of, whole_here}
 use Rattle.hm_whole.specs.Watched.{Watched, In, Beside, view, held, dead}
 use Rattle.hm_mem.specs.Devices.{open_devices}
 use Rattle.hm_run.specs.Stops as why
@@ -41,7 +41,7 @@ use Rattle.hm_state.specs.Start.{start, start_under}
 use Rattle.hm_state.specs.State.{State, regs_of}
 use Rattle.hm_whole.specs.Whole.{Went, scalar_alone}
 use Rattle.hm_whole.proofs.Agreement.{same_regs}
-use Rattle.hm_plain.specs.Overlap.{Keeps, KeepsOrder, StopsBetween}
+use Rattle.hm_plain.specs.Overlap.{AgreesAfter, KeepsOrder, StopsBetween}
 use Rattle.hm_plain.specs.Sequence.{FaultsAt}
 use Rattle.hm_plain.proofs.Laws.{laws, clean_of, next_is}
 
@@ -72,18 +72,16 @@ module _ (listing : Listing) (around : Around) (thread : around.actor ≡ actor.
       cells Beside d = ap (λ (v : Dev). held (record s { rest = record s.rest { devices = v } }) Beside) (open_arrived irq s.rest.devices)
 
   -- LETTERS
-  to_end_agrees : (k : ℕ) (c : Config State) → Holds machine first c → Agrees machine first (to_end machine k c)
-  to_end_agrees zero c h = h
-  to_end_agrees (suc k) c h =
-      then_agrees machine first (older machine c) (λ d. cond (d.a == suc c.a) (to_end machine k d) (Ok d)) (older_agrees machine (laws listing around thread) first c h)
-      (λ d holds. cond_agrees machine first (d.a == suc c.a) (to_end machine k d) (Ok d) (to_end_agrees k d holds) holds)
+  steps_agree : (k : ℕ) (c : Config State) → Holds machine first c → Agrees machine first (older_steps machine k c)
+  steps_agree zero c h = h
+  steps_agree (suc k) c h = then_agrees machine first (older machine c) (older_steps machine k) (older_agrees machine (laws listing around thread) first c h) (steps_agree k)
 
   letter_agrees : (l : ℕ) (c : Config State) → Holds machine first c → Agrees machine first (letter_step machine l c)
   letter_agrees l c h =
       let older_one = older_agrees machine (laws listing around thread) first c h in
       cond_agrees machine first (l == older_letter) _ _ older_one
       (cond_agrees machine first (l == younger_letter) _ _ (younger_agrees machine (laws listing around thread) first c h)
-      (to_end_agrees 4 c h))
+      (steps_agree (steps_left (vector_of (listing c.state.pc)) c.a) c h))
 
   -- a younger beat that stops and breaks no rule is tainted
   abbrev OnlyTaint : Stepped → Type 0
@@ -230,14 +228,14 @@ module _ (listing : Listing) (around : Around) (thread : around.actor ≡ actor.
         at = ap (λ (s : State). s.pc) same ∙ sym h.holds.pc ∙ sym (stop_position machine (laws listing around thread) first c e h).pc;
       }
 
-  fault_keeps : (who : Who) (f : Fault) (pc n : ℕ) (d : Config State) → FaultsAt machine first n f pc → Keeps machine first (Some (outcome.Fault who f pc n)) d
+  fault_keeps : (who : Who) (f : Fault) (pc n : ℕ) (d : Config State) → FaultsAt machine first n f pc → AgreesAfter machine first (Some (outcome.Fault who f pc n)) d
   fault_keeps Thread f pc n d h = h
   fault_keeps Handler f pc n d h = tt
   fault_keeps Entry f pc n d h = tt
 
   stop_keeps : (t : ℕ) (x : Timed) (c : Config State) (e : Cause) (younger : Bool) → StopsAt machine first c e → (younger ≡ true → is_tainted_cause e ≡ true) → NextStops c.n e
       → let stopping : Stopping = record { cause = e; younger = younger } in
-      Keeps machine first (Some (outcome_of t x.acts c stopping)) (at_stop c stopping)
+      AgreesAfter machine first (Some (outcome_of t x.acts c stopping)) (at_stop c stopping)
   stop_keeps t x c (cause.Halt reason) younger h only k =
       let between = stops_between c (why.Halt reason) h refl k in
       record {
@@ -260,35 +258,35 @@ module _ (listing : Listing) (around : Around) (thread : around.actor ≡ actor.
       → let y : Timed = cond b
       (record x { config = record x.config { state = with_devices (counted_with line.irq) x.config.state } })
       (record x { outcome = Some (outcome.RuleBroken x.ticks (length line.letters) (rule.Ending x.config.a x.config.b)) }) in
-      Keeps machine first y.outcome y.config
+      AgreesAfter machine first y.outcome y.config
   judged true line x h none =
-      subst (λ (o : Option Outcome). Keeps machine first o (record x.config { state = with_devices (counted_with line.irq) x.config.state })) (sym none)
+      subst (λ (o : Option Outcome). AgreesAfter machine first o (record x.config { state = with_devices (counted_with line.irq) x.config.state })) (sym none)
       (interrupt_holds machine (laws listing around thread) first x.config _ (devices_restore line.irq x.config.state) h)
   judged false line x h none = tt
 
-  ended_keeps : (line : TickLine) (x : Timed) (r : Ticked) → AgreesTick r → Keeps machine first (ended line x r).outcome (ended line x r).config
+  ended_keeps : (line : TickLine) (x : Timed) (r : Ticked) → AgreesTick r → AgreesAfter machine first (ended line x r).outcome (ended line x r).config
   ended_keeps line x (Ok c) h =
       let y : Timed = record { outcome = None; config = c; acts = x.acts; ticks = x.ticks + 1 } in
       judged (may_end c.a c.b) line y h refl
   ended_keeps line x (Err (Stopped c e)) h = stop_keeps (x.ticks + 1) x c e.cause e.younger h.0 h.1 (next_stops c.n e.cause (explained machine first c e.cause h.0))
   ended_keeps line x (Err (Broken c r)) h = tt
 
-  tick_keeps : (line : TickLine) (x : Timed) (o : Option Outcome) → x.outcome ≡ o → Keeps machine first x.outcome x.config
-      → Keeps machine first (tick_of machine line x o).outcome (tick_of machine line x o).config
+  tick_keeps : (line : TickLine) (x : Timed) (o : Option Outcome) → x.outcome ≡ o → AgreesAfter machine first x.outcome x.config
+      → AgreesAfter machine first (tick_of machine line x o).outcome (tick_of machine line x o).config
   tick_keeps line x (Some o) e h = h
   tick_keeps line x None e h =
       ended_keeps line x (letter_steps machine 0 line.letters x.config)
-      (letters_agree line.letters 0 x.config (subst (λ (o : Option Outcome). Keeps machine first o x.config) e h))
+      (letters_agree line.letters 0 x.config (subst (λ (o : Option Outcome). AgreesAfter machine first o x.config) e h))
 
-  out_keeps : (o : Option Outcome) (c : Config State) → Keeps machine first o c → Keeps machine first (or_out o) c
+  out_keeps : (o : Option Outcome) (c : Config State) → AgreesAfter machine first o c → AgreesAfter machine first (or_out o) c
   out_keeps (Some o) c h = h
   out_keeps None c h = h
 
-  closed_keeps : (left : List TickLine) (x : Timed) → Keeps machine first x.outcome x.config → Keeps machine first (closed left x).outcome (closed left x).config
+  closed_keeps : (left : List TickLine) (x : Timed) → AgreesAfter machine first x.outcome x.config → AgreesAfter machine first (closed left x).outcome (closed left x).config
   closed_keeps [] x h = out_keeps x.outcome x.config h
   closed_keeps (line ∷ left) x h = h
 
-  next_keeps : (left : List TickLine) (x : Timed) → Keeps machine first x.outcome x.config → Keeps machine first (next machine left x).outcome (next machine left x).config
+  next_keeps : (left : List TickLine) (x : Timed) → AgreesAfter machine first x.outcome x.config → AgreesAfter machine first (next machine left x).outcome (next machine left x).config
   next_keeps [] x h = h
   next_keeps (line ∷ left) x h = closed_keeps left (tick_of machine line x x.outcome) (tick_keeps line x x.outcome refl h)
 

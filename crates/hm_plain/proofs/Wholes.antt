@@ -19,7 +19,7 @@ use Rattle.hm_rows.specs.Rows.{refuse, vector_tree, vector_whole}
 use Rattle.hm_rows.proofs.Context.{context_pc, context_ready}
 use Rattle.hm_run.specs.declared.Cause.{Cause}
 use Rattle.hm_run.specs.declared.Cause.TheVariants as cause
-use Rattle.hm_run.specs.Program.{Program, Stepped, core, rows, alone, caused, cause_of, done_alone, done_in_machine, in_machine, letter_step, or_fault, other_by, other_here, other_row, ready_state, to_end, vector_of, vector_row, whole_here}
+use Rattle.hm_run.specs.Program.{Program, Stepped, core, rows, alone, caused, cause_of, done_alone, done_in_machine, in_machine, letter_step, older_steps, or_fault, other_by, other_here, other_row, ready_state, steps_left, vector_of, vector_row, whole_here}
 use Rattle.hm_run.specs.declared.Reason.{Reason}
 use Rattle.hm_run.specs.Stops as why
 use Rattle.hm_run.specs.Stops.{WholeStop, halt_of, unless_halted}
@@ -112,14 +112,10 @@ module _ (listing : Listing) (around : Around) (thread : around.actor ≡ Thread
   abbrev inside : ℕ → ℕ → ℕ → State → Config State
   inside a n k s = record { a = a; b = 0; n = n; steps = k; state = s }
 
-  -- what is left of W, once there were a beats before the last step
-  abbrev further : ℕ → ℕ → Config State → Stepped
-  further j a d = cond (d.a == suc a) (to_end machine j d) (Ok d)
-
   -- a beat, where it is known what comes behind it
   beat_comes : (v : Vector) (a j n k : ℕ) (c : Config State) (q : Result State Stop) → c.n ≡ n
-      → ((t : State) → q ≡ Ok t → BeatsCome n (then (row_beats around v (suc a) j t) retire) (further j a (settle machine (suc a) 0 n (suc k) t)))
-      → BeatsCome n (then (then q (row_beats around v (suc a) j)) retire) (then (done machine c (caused q) (settle machine (suc a) 0 n (suc k))) (further j a))
+      → ((t : State) → q ≡ Ok t → BeatsCome n (then (row_beats around v (suc a) j t) retire) (older_steps machine j (settle machine (suc a) 0 n (suc k) t)))
+      → BeatsCome n (then (then q (row_beats around v (suc a) j)) retire) (then (done machine c (caused q) (settle machine (suc a) 0 n (suc k))) (older_steps machine j))
   beat_comes v a j n k c (Ok t) same next = next t refl
   beat_comes v a j n k c (Err e) same next = (begun machine c, same, refl)
 
@@ -131,26 +127,26 @@ module _ (listing : Listing) (around : Around) (thread : around.actor ≡ Thread
 
   -- a beat past the first
   later_beat : (v : Vector) (a j n k : ℕ) (s : State) → Here v s
-      → ((t : State) → Here v t → BeatsCome n (then (row_beats around v (suc (suc a)) j t) retire) (further j (suc a) (settle machine (suc (suc a)) 0 n (suc k) t)))
-      → BeatsCome n (then (row_beats around v (suc a) (suc j) s) retire) (to_end machine (suc j) (inside (suc a) n k s))
+      → ((t : State) → Here v t → BeatsCome n (then (row_beats around v (suc (suc a)) j t) retire) (older_steps machine j (settle machine (suc (suc a)) 0 n (suc k) t)))
+      → BeatsCome n (then (row_beats around v (suc a) (suc j) s) retire) (older_steps machine (suc j) (inside (suc a) n k s))
   later_beat v a j n k s here next =
       let b = of_four (vector_tree v around) (suc a) in
-      subst (λ (r : Stepped). BeatsCome n (then (row_beats around v (suc a) (suc j) s) retire) (then r (further j (suc a)))) (sym (older_vector listing around (inside (suc a) n k s) v here))
+      subst (λ (r : Stepped). BeatsCome n (then (row_beats around v (suc a) (suc j) s) retire) (then r (older_steps machine j))) (sym (older_vector listing around (inside (suc a) n k s) v here))
       (beat_comes v (suc a) j n k (inside (suc a) n k s) ((action cells b).run s) refl (λ t e. next t (here_still v s t here (beat_pc b s t e))))
 
-  from_third : (v : Vector) (n k : ℕ) (s : State) → Here v s → BeatsCome n (then (row_beats around v 3 1 s) retire) (to_end machine 1 (inside 3 n k s))
+  from_third : (v : Vector) (n k : ℕ) (s : State) → Here v s → BeatsCome n (then (row_beats around v 3 1 s) retire) (older_steps machine 1 (inside 3 n k s))
   from_third v n k s here = later_beat v 2 0 n k s here (λ t there. (suc k, refl))
 
-  from_second : (v : Vector) (n k : ℕ) (s : State) → Here v s → BeatsCome n (then (row_beats around v 2 2 s) retire) (to_end machine 2 (inside 2 n k s))
+  from_second : (v : Vector) (n k : ℕ) (s : State) → Here v s → BeatsCome n (then (row_beats around v 2 2 s) retire) (older_steps machine 2 (inside 2 n k s))
   from_second v n k s here = later_beat v 1 1 n k s here (λ t there. from_third v n (suc k) t there)
 
-  from_first : (v : Vector) (n k : ℕ) (s : State) → Here v s → BeatsCome n (then (row_beats around v 1 3 s) retire) (to_end machine 3 (inside 1 n k s))
+  from_first : (v : Vector) (n k : ℕ) (s : State) → Here v s → BeatsCome n (then (row_beats around v 1 3 s) retire) (older_steps machine 3 (inside 1 n k s))
   from_first v n k s here = later_beat v 0 2 n k s here (λ t there. from_second v n (suc k) t there)
 
   -- a row from its start
   row_comes : (v : Vector) (n k : ℕ) (s : State) → Clean s → Here v s → (q : Result State WholeStop) → ready_state v s ≡ q
       → Comes n (then q (λ t. or_fault (vector_whole v t)))
-      (then (done machine (between n k s) (then (in_machine q) ((rows around).act v 0).run) (settle machine 1 0 n (suc k))) (further 3 0))
+      (then (done machine (between n k s) (then (in_machine q) ((rows around).act v 0).run) (settle machine 1 0 n (suc k))) (older_steps machine 3))
   row_comes v n k s clean here (Err w) e = (begun machine (between n k s), refl, refl)
   row_comes v n k s clean here (Ok t) e =
       let free = not_refused (refuse v (with_context s)) (with_context s) t e in
@@ -159,7 +155,7 @@ module _ (listing : Listing) (around : Around) (thread : around.actor ≡ Thread
       let here_too : Here v t = here_still v s t here (ap (λ (u : State). u.pc) (sym is) ∙ context_pc s) in
       let ready : refuse v t ≡ None = ap (refuse v) (sym is) ∙ free.0 in
       let b = of_four (vector_tree v around) 0 in
-      whole_comes n (vector_whole v t) _ (subst (λ (r : Result State Stop). BeatsCome n r (then (done machine (between n k s) (caused ((action cells b).run t)) (settle machine 1 0 n (suc k))) (further 3 0)))
+      whole_comes n (vector_whole v t) _ (subst (λ (r : Result State Stop). BeatsCome n r (then (done machine (between n k s) (caused ((action cells b).run t)) (settle machine 1 0 n (suc k))) (older_steps machine 3)))
       (four_are around thread v t there ready (subst Clean is (context_clean s clean)))
       (beat_comes v 0 3 n k (between n k s) ((action cells b).run t) refl (λ u e. from_first v n (suc k) u (here_still v t u here_too (beat_pc b t u e)))))
 
@@ -167,20 +163,22 @@ module _ (listing : Listing) (around : Around) (thread : around.actor ≡ Thread
   row_step v n k s clean e =
       let here : Here v s = ap vector_of e in
       subst (λ (r : Result Instr Fault). Comes n (whole_here r s) (letter_step machine whole_letter (between n k s))) (sym e)
-      (subst (λ (r : Stepped). Comes n (vector_row v s) (then r (further 3 0))) (sym (older_vector listing around (between n k s) v here))
-      (row_comes v n k s clean here (ready_state v s) refl))
+      (subst (λ (o : Option Vector). Comes n (vector_row v s) (older_steps machine (steps_left o 0) (between n k s))) (sym here)
+      (subst (λ (r : Stepped). Comes n (vector_row v s) (then r (older_steps machine 3))) (sym (older_vector listing around (between n k s) v here))
+      (row_comes v n k s clean here (ready_state v s) refl)))
 
   -- an instruction that is no vector row
-  other_comes : (n k : ℕ) (s : State) (q : Result State WholeStop) → Comes n q (then (done machine (between n k s) (in_machine q) (past (between n k s))) (further 3 0))
+  other_comes : (n k : ℕ) (s : State) (q : Result State WholeStop) → Comes n q (then (done machine (between n k s) (in_machine q) (past (between n k s))) (older_steps machine 0))
   other_comes n k s (Ok t) = (suc k, refl)
   other_comes n k s (Err w) = (begun machine (between n k s), refl, refl)
 
   other_step : (n k : ℕ) (s : State) → Clean s → vector_of (listing s.pc) ≡ None → Comes n (alone listing s) (letter_step machine whole_letter (between n k s))
   other_step n k s clean none =
-      subst (λ (r : Stepped). Comes n (alone listing s) (then r (further 3 0)))
+      subst (λ (o : Option Vector). Comes n (alone listing s) (older_steps machine (steps_left o 0) (between n k s))) (sym none)
+      (subst (λ (r : Stepped). Comes n (alone listing s) (then r (older_steps machine 0)))
       (sym (older_other listing around (between n k s) none
       ∙ ap (λ (r : Result State Cause). done machine (between n k s) r (past (between n k s))) (other_is around thread (listing s.pc) s none clean)))
-      (other_comes n k s (alone listing s))
+      (other_comes n k s (alone listing s)))
 
   step_of : (n k : ℕ) (s : State) → Clean s → (r : Result Instr Fault) → listing s.pc ≡ r → Comes n (alone listing s) (letter_step machine whole_letter (between n k s))
   step_of n k s clean (Ok (instr.Scalar i)) e = other_step n k s clean (ap vector_of e)

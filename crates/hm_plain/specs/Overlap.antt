@@ -38,18 +38,18 @@ pub record HaltsAfter (M : Program) (first : State) (reason : Reason) (n : ℕ) 
 -- While a run goes on, and where it is out of ticks, whole instructions in order agree with its position. Where it
 -- halts after n, instruction n in order halts for the same reason in the same state; where the thread has a fault after
 -- n, the next instruction has it, at the same pc; where the output is full, it has no room for that of the next one.
-abbrev pub Keeps : Program → State → Option Outcome → Config State → Type 0
-Keeps M first None c = Holds M first c
-Keeps M first (Some outcome.OutOfTicks) c = Holds M first c
-Keeps M first (Some (outcome.Halted reason n)) c = HaltsAfter M first reason n c
-Keeps M first (Some (outcome.Fault Thread f pc n)) c = FaultsAt M first n f pc
-Keeps M first (Some (outcome.Fault Handler f pc n)) c = Unit {0}
-Keeps M first (Some (outcome.Fault Entry f pc n)) c = Unit {0}
-Keeps M first (Some (outcome.RuleBroken t step r)) c = Unit {0}
-Keeps M first (Some (outcome.HandlerBroken t what)) c = Unit {0}
-Keeps M first (Some (outcome.TaintedRead t pc addr)) c = Unit {0}
-Keeps M first (Some (outcome.StackSpent t sp)) c = Unit {0}
-Keeps M first (Some (outcome.OutputFull t)) c = StopsBetween M first c.n why.Full c
+abbrev pub AgreesAfter : Program → State → Option Outcome → Config State → Type 0
+AgreesAfter M first None c = Holds M first c
+AgreesAfter M first (Some outcome.OutOfTicks) c = Holds M first c
+AgreesAfter M first (Some (outcome.Halted reason n)) c = HaltsAfter M first reason n c
+AgreesAfter M first (Some (outcome.Fault Thread f pc n)) c = FaultsAt M first n f pc
+AgreesAfter M first (Some (outcome.Fault Handler f pc n)) c = Unit {0}
+AgreesAfter M first (Some (outcome.Fault Entry f pc n)) c = Unit {0}
+AgreesAfter M first (Some (outcome.RuleBroken t step r)) c = Unit {0}
+AgreesAfter M first (Some (outcome.HandlerBroken t what)) c = Unit {0}
+AgreesAfter M first (Some (outcome.TaintedRead t pc addr)) c = Unit {0}
+AgreesAfter M first (Some (outcome.StackSpent t sp)) c = Unit {0}
+AgreesAfter M first (Some (outcome.OutputFull t)) c = StopsBetween M first c.n why.Full c
 
 abbrev pub KeepsOrder : Listing → List Segment → Sched → Timed → Type 0
-KeepsOrder listing image s x = Keeps (thread_program listing s) (start image) x.outcome x.config
+KeepsOrder listing image s x = AgreesAfter (thread_program listing s) (start image) x.outcome x.config

@@ -1,6 +1,6 @@
 -- The machine of a program: what a step of the older instruction and one of the younger do. The listing says what
 -- stands at each address.
-use Rattle.std.specs.Prelude.{ℕ, zero, suc, ◌+◌, ◌==◌, ◌&&◌, ◌||◌, not, nat_lt, is_none, Bool, true, false, cond, List, [], ◌∷◌, Option, Some, None, Result, Ok, Err}
+use Rattle.std.specs.Prelude.{ℕ, zero, suc, ◌+◌, ◌-◌, ◌==◌, ◌&&◌, ◌||◌, not, nat_lt, is_none, Bool, true, false, cond, List, [], ◌∷◌, Option, Some, None, Result, Ok, Err}
 use Rattle.hm_base.specs.declared.Fault.{Fault}
 use Rattle.hm_base.specs.declared.Stop.{Stop}
 use Rattle.hm_base.specs.declared.Stop.TheVariants as stop
@@ -196,17 +196,26 @@ core listing around = record {
   marked = dead;
 }
 
--- WHAT A LETTER DOES. W does the older instruction to its end, in at most four steps.
+-- WHAT A LETTER DOES. O is a step of the older instruction, Y one of the younger, and W does the older to its end.
 abbrev pub Stepped : Type 0
 Stepped = Result (Config State) (End State Cause Rule)
 
--- At most so many steps of the older, up to the one that retires it: each step before that leaves one more of its beats done.
-abbrev pub to_end : Program → ℕ → Config State → Stepped
-to_end M zero c = Ok c
-to_end M (suc k) c = then (older M c) (λ d. cond (d.a == suc c.a) (to_end M k d) (Ok d))
+-- how many steps the older instruction has left: its beats that are left, or one where it has no beats
+abbrev pub steps_left : Option Vector → ℕ → ℕ
+steps_left (Some v) a = 4 - a
+steps_left None a = 1
+
+-- so many steps of the older
+abbrev pub older_steps : Program → ℕ → Config State → Stepped
+older_steps M zero c = Ok c
+older_steps M (suc k) c = then (older M c) (older_steps M k)
+
+-- the older instruction to its end
+abbrev pub to_end : Program → Config State → Stepped
+to_end M c = older_steps M (steps_left (M.code c.state.pc) c.a) c
 
 abbrev pub letter_step : Program → ℕ → Config State → Stepped
-letter_step M l c = cond (l == older_letter) (older M c) (cond (l == younger_letter) (younger M c) (to_end M 4 c))
+letter_step M l c = cond (l == older_letter) (older M c) (cond (l == younger_letter) (younger M c) (to_end M c))
 
 -- an instruction that stops, and whether it is the younger of two
 pub record Stopping : Type 0 where
