@@ -247,7 +247,8 @@ impl Machine {
         ensures headline { (image : List Segment) (s : Sched) (t : ℕ) (listing : Listing) → IsListing (flash_byte image) listing → s.entries ≡ false
             → Shows image s t self.old
             → Headline listing image (timed_of self.new) (report_text (timed_of self.new)) (memory_text (timed_of self.new)) }
-        // Where the thread has a fault, the output is full or the ticks are out, these are the next instruction's in order.
+        // Where the thread has a fault or the output is full, that is the next instruction's in order; where the ticks are out before the
+        // n-th instruction in order halts, there were fewer than 4n steps of the older.
         ensures riders { (image : List Segment) (s : Sched) (t : ℕ) (listing : Listing) → IsListing (flash_byte image) listing → s.entries ≡ false
             → Shows image s t self.old → Riders listing image (timed_of self.new) }
     {

@@ -5,21 +5,16 @@ ghost use Rattle.hm_base.specs.Image.{sram_start, sram_size};
 ghost use Rattle.hm_mem.specs.Memory.{memory_of, byte_at, tainted_at};
 ghost use Rattle.hm_state.specs.State.{bit, byte_of_bits, listed};
 
-use hm_base::OutOfMemory;
+use hm_base::{OutOfMemory, SRAM_SIZE, SRAM_START};
 use hm_mem::Mem;
 use std::alloc::Global;
-
-/// The first byte of SRAM, and how many it has.
-const SRAM: u32 = 0x2000_0000;
-
-const SRAM_SIZE: u32 = 0x4_0000;
 
 // A byte of SRAM.
 fn sram_byte(mem: &Mem, k: u32) -> u8
     requires { k < sram_size }
     ensures { result ≡ byte_at (memory_of mem.now) (sram_start + k) }
 {
-    mem.byte(SRAM + k).unwrap_or(0)
+    mem.byte(SRAM_START + k).unwrap_or(0)
 }
 
 // The first bytes of SRAM, added to a text.
@@ -38,7 +33,7 @@ fn taint_bit(mem: &Mem, k: u32) -> u8
     requires { k < sram_size }
     ensures { result ≡ bit (tainted_at (memory_of mem.now) (sram_start + k)) }
 {
-    mem.tainted(SRAM + k) as u8
+    mem.tainted(SRAM_START + k) as u8
 }
 
 // The taint of eight bytes of SRAM.
