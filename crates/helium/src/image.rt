@@ -4,14 +4,14 @@ ghost use Rattle.std.specs.Prelude.{◌≡◌, ◌≤◌, None, Some, length, Er
 ghost use Rattle.hm_base.specs.Image.{flat};
 ghost use Rattle.helium.specs.Image.{image_refusal};
 
-use hm_base::{Image, ImageErr};
+use hm_base::{FLASH_SIZE, Image, ImageErr};
 use std::alloc::Global;
 
 /// The bytes of the shortest flat image: those of a vector table's first two words.
 const SHORTEST: usize = 8;
 
 /// The bytes of the longest flat image: those of flash.
-const LONGEST: usize = 0x10_0000;
+const LONGEST: usize = FLASH_SIZE as usize;
 
 /// The image of bytes that lie in flash from 0 on.
 fn flat_image(alloc: Global, bytes: &[u8]) -> Result<Image, ImageErr>
