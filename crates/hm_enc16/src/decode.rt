@@ -391,11 +391,12 @@ fn decode_s18(h: u16) -> Option<S18>
     ensures found { IfSome result (λ r. code_s18 r ≡ h) }
     ensures none { IfNone result ((r : S18) → code_s18 r ≡ h → ⊥) }
 {
-    let i = h as u32 & 255;
-    if h >> 8 != 0b1011_1110 || i == 171 {
+    if h >> 8 != 0b1011_1110 {
         return None;
     }
-    Some(S18 { i: Below::new(i) })
+    Some(S18 {
+        i: Below::new(h as u32 & 255),
+    })
 }
 
 /// `nop`, `yield`, `wfe`, `wfi`, `sev`

@@ -64,11 +64,11 @@ fn registers(rt: HostRuntime) {
         d: Below::new(13),
         m: Below::new(0),
     });
-    let bkpt = Scalar::S18(S18 { i: Below::new(170) });
+    let bkpt = Scalar::S18(S18 { i: Below::new(171) });
     assert!(rt; is_code(0x43c8, &Instr::Scalar(mvns)));
     assert!(rt; is_code(0x44c8, &Instr::Scalar(high)));
     assert!(rt; is_code(0x4485, &Instr::Scalar(stack)));
-    assert!(rt; is_code(0xbeaa, &Instr::Scalar(bkpt)));
+    assert!(rt; is_code(0xbeab, &Instr::Scalar(bkpt)));
 }
 
 // cmp r8,r1, mov sp,lr, add r2,pc,#16, sub sp,#508, uxth r3,r4, revsh r5,r6, cpsid i, ldr r7,.+1024, str r1,[sp,#1020] and sev
@@ -191,12 +191,12 @@ fn branches(rt: HostRuntime) {
     assert!(rt; is_code(0xe7fe, &Instr::Branch(b)));
 }
 
-// add pc,pc, cmp r0,r1 and cmp r8,pc of the high registers, hlt, cps of FAULTMASK, bx pc, push and stm of nothing, stm r1!,{r0,r1}, a
-// request for a service, a sixth hint, it under condition 15 and with another half under 14, udf, svc, and a first half of two
+// add pc,pc, cmp r0,r1 and cmp r8,pc of the high registers, hlt, cps of FAULTMASK, bx pc, push and stm of nothing, stm r1!,{r0,r1},
+// a sixth hint, it under condition 15 and with another half under 14, udf, svc, and a first half of two
 #[test]
 fn codes_of_no_row(rt: HostRuntime) {
     let codes = [
-        0x44ff, 0x4508, 0x45f8, 0xba80, 0xb661, 0x4778, 0xb400, 0xc000, 0xc103, 0xbeab, 0xbf50,
+        0x44ff, 0x4508, 0x45f8, 0xba80, 0xb661, 0x4778, 0xb400, 0xc000, 0xc103, 0xbf50,
         0xbff8, 0xbfec, 0xde00, 0xdf00, 0xe800,
     ];
     for h in codes {
