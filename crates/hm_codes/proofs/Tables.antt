@@ -11,8 +11,9 @@ use Rattle.hm_layout.proofs.Coded.{Coded}
 use Rattle.hm_layout.proofs.Rows.{plain, named, varied, coded}
 use Rattle.hm_layout.proofs.Tables.{of_table, ◌▹◌}
 use Rattle.hm_codes.proofs.Scalars.{row_s1, row_s2, row_s3, row_s4, row_s5, row_s6, row_s7, row_s8, row_s9, row_s10, row_s11, row_s12, row_s13, row_s14, row_s15, row_s16, row_s17, row_s18, row_s19, row_s20, spared_s21}
-use Rattle.hm_codes.proofs.Wides.{coded_t12, row_t13, row_t15}
+use Rattle.hm_codes.proofs.Wides.{coded_t12, spared_t13, row_t14, row_t15}
 use Rattle.hm_codes.proofs.Branches.{row_s23, row_s24, coded_s25}
+use Rattle.hm_codes.proofs.JumpRows.{coded_t16, row_t17, coded_t23}
 
 -- the number of which these are the halves
 abbrev pub joined : List ℕ → ℕ
@@ -48,7 +49,8 @@ coded_scalar =
     coded (varied row_s20) ▹
     coded spared_s21 ▹
     coded_t12 ▹
-    coded (named row_t13) ▹
+    coded spared_t13 ▹
+    coded (named row_t14) ▹
     coded (named row_t15) ▹
     tt)
     (elim [
@@ -75,13 +77,28 @@ coded_scalar =
       | scalar.S21 r ↦ refl
       | scalar.T12 r ↦ rejoined _
       | scalar.T13 r ↦ rejoined _
+      | scalar.T14 r ↦ rejoined _
       | scalar.T15 r ↦ rejoined _
     ])
 
 abbrev pub coded_branch : Coded Branch
 coded_branch =
-    of_table branch_.enum (λ b. joined (branch_halves b)) (coded (named row_s23) ▹ coded (named row_s24) ▹ coded_s25 ▹ tt)
-    (elim [ branch.S23 r ↦ refl | branch.S24 r ↦ refl | branch.S25 r ↦ refl ])
+    of_table branch_.enum (λ b. joined (branch_halves b)) (
+    coded (named row_s23) ▹
+    coded (named row_s24) ▹
+    coded_s25 ▹
+    coded_t16 ▹
+    coded (named row_t17) ▹
+    coded_t23 ▹
+    tt)
+    (elim [
+      | branch.S23 r ↦ refl
+      | branch.S24 r ↦ refl
+      | branch.S25 r ↦ refl
+      | branch.T16 r ↦ rejoined _
+      | branch.T17 r ↦ rejoined _
+      | branch.T23 r ↦ rejoined _
+    ])
 
 pub unique_scalar : (s t : Scalar) → joined (scalar_halves s) ≡ joined (scalar_halves t) → s ≡ t
 unique_scalar = coded_scalar.one refl

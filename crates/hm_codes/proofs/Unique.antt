@@ -18,8 +18,9 @@ use Rattle.hm_layout.proofs.Tables.{of_table, ◌▹◌}
 use Rattle.hm_layout.proofs.Lengths.{short_code, long_code}
 use Rattle.hm_codes.specs.Listing.{half_at, HalvesStand, Stands, is_long, IsFetched}
 use Rattle.hm_codes.proofs.Scalars.{row_s1, row_s2, row_s3, row_s4, row_s5, row_s6, row_s7, row_s8, row_s9, row_s10, row_s11, row_s12, row_s13, row_s14, row_s15, row_s16, row_s17, row_s18, row_s19, row_s20, spared_s21}
-use Rattle.hm_codes.proofs.Wides.{coded_t12, row_t13, row_t15}
+use Rattle.hm_codes.proofs.Wides.{coded_t12, spared_t13, row_t14, row_t15}
 use Rattle.hm_codes.proofs.Branches.{row_s23, row_s24, coded_s25}
+use Rattle.hm_codes.proofs.JumpRows.{coded_t16, row_t17, coded_t23}
 use Rattle.hm_codes.proofs.Vectors.{coded_vector}
 use Rattle.hm_codes.proofs.Tables.{joined, rejoined, coded_scalar, coded_branch}
 
@@ -73,13 +74,17 @@ length_scalar (scalar.S19 r) = short_length _ (short_code (coded (named row_s19)
 length_scalar (scalar.S20 r) = short_length _ (short_code (coded (varied row_s20)) refl refl r)
 length_scalar (scalar.S21 r) = short_length _ (short_code (coded spared_s21) refl refl r)
 length_scalar (scalar.T12 r) = long_length _ (long_code coded_t12 refl refl r)
-length_scalar (scalar.T13 r) = long_length _ (long_code (coded (named row_t13)) refl refl r)
+length_scalar (scalar.T13 r) = long_length _ (long_code (coded spared_t13) refl refl r)
+length_scalar (scalar.T14 r) = long_length _ (long_code (coded (named row_t14)) refl refl r)
 length_scalar (scalar.T15 r) = long_length _ (long_code (coded (named row_t15)) refl refl r)
 
 length_branch : (b : Branch) → length (branch_halves b) ≡ code_length (first_of (branch_halves b))
 length_branch (branch.S23 r) = short_length _ (short_code (coded (named row_s23)) refl refl r)
 length_branch (branch.S24 r) = short_length _ (short_code (coded (named row_s24)) refl refl r)
 length_branch (branch.S25 r) = short_length _ (short_code coded_s25 refl refl r)
+length_branch (branch.T16 r) = long_length _ (long_code coded_t16 refl refl r)
+length_branch (branch.T17 r) = long_length _ (long_code (coded (named row_t17)) refl refl r)
+length_branch (branch.T23 r) = long_length _ (long_code coded_t23 refl refl r)
 
 length_instr : (i : Instr) → length (halfwords i) ≡ code_length (first_of (halfwords i))
 length_instr (instr.Scalar s) = length_scalar s

@@ -4,8 +4,11 @@ use Rattle.std.proofs.lemmas.Bool.Decides.{nat_tests}
 use Rattle.hm_isa.specs.declared.narrow.AccessName.{AccessName}
 use Rattle.hm_isa.specs.declared.wide.T12.{T12}
 use Rattle.hm_isa.specs.declared.wide.T12.TheVariants as t12
+use Rattle.hm_isa.specs.declared.wide.PairName.{PairName}
+use Rattle.hm_isa.specs.declared.wide.T13.{T13}
 use Rattle.hm_isa.specs.contracts.narrow.AccessName as access_
 use Rattle.hm_isa.specs.contracts.wide.PairName as pair_
+use Rattle.hm_isa.specs.contracts.wide.WideListName as wide_list_
 use Rattle.hm_isa.specs.contracts.wide.StackName as stack_
 use Rattle.hm_isa.specs.contracts.wide.T12 as t12_
 use Rattle.hm_isa.specs.contracts.wide.Offset as offset_
@@ -13,14 +16,15 @@ use Rattle.hm_isa.specs.contracts.wide.Indexed as indexed_
 use Rattle.hm_isa.specs.contracts.wide.Shifted as shifted_
 use Rattle.hm_isa.specs.contracts.wide.Literal as literal_
 use Rattle.hm_isa.specs.contracts.wide.T13 as t13_
+use Rattle.hm_isa.specs.contracts.wide.T14 as t14_
 use Rattle.hm_isa.specs.contracts.wide.T15 as t15_
-use Rattle.hm_isa.specs.Keeps.{is_offset}
-use Rattle.hm_isa.specs.Code.{wide_access_base, code_offset, code_indexed, code_shifted, code_literal, code_t12, pair_base, code_t13, stack_base, code_t15}
+use Rattle.hm_isa.specs.Keeps.{is_offset, is_pair}
+use Rattle.hm_isa.specs.Code.{wide_access_base, code_offset, code_indexed, code_shifted, code_literal, code_t12, pair_base, code_t13, wide_list_base, code_t14, stack_base, code_t15}
 use Rattle.hm_layout.proofs.Bits.{both_left}
-use Rattle.hm_layout.proofs.Places.{head_or}
+use Rattle.hm_layout.proofs.Places.{head_or, rest_of}
 use Rattle.hm_layout.proofs.Search.{one_rule}
 use Rattle.hm_layout.proofs.Coded.{Coded, Digit, digit}
-use Rattle.hm_layout.proofs.Rows.{at, the_name, Named, named, coded, sparing}
+use Rattle.hm_layout.proofs.Rows.{Row, at, the_name, Named, named, coded, sparing}
 use Rattle.hm_layout.proofs.Tables.{of_table, ◌▹◌}
 
 abbrev pub row_offset : Named offset_.the_type access_.enum code_offset (λ x. wide_access_base x + 0x00800000)
@@ -71,6 +75,27 @@ coded_t12 =
 abbrev pub row_t13 : Named t13_.the_type pair_.enum code_t13 pair_base
 row_t13 = record {
   layout = (the_name tt, (at 24 1 2, (at 23 1 2, (at 21 1 2, (at 16 4 16, (at 12 4 16, (at 8 4 16, (at 0 8 256, tt))))))));
+  is_code = λ r. omega arith;
+  rules = λ v. one_rule;
+}
+
+pub some_use : (x : PairName) (p w n t u : ℕ) → IsTrue (is_pair x p w n t u) → p ≡ 0 → w ≡ 0 → ⊥
+some_use x p w n t u k e f = grind (arith, nat_tests)
+
+-- with neither an offset nor writeback other rows stand
+abbrev pub spared_t13 : Row T13
+spared_t13 =
+    sparing (named row_t13) (λ x. (digit 24 1 0 ∷ digit 21 1 0 ∷ []) ∷ [])
+    (λ r d. (
+      λ e.
+          some_use r.name r.p.value r.w.value r.n.value r.t.value r.u.value r.rules (sym (ap head_or d) ∙ e.0)
+          (sym (ap (λ (xs : List ℕ). head_or (rest_of (rest_of xs))) d) ∙ e.1.0),
+      tt,
+    ))
+
+abbrev pub row_t14 : Named t14_.the_type wide_list_.enum code_t14 wide_list_base
+row_t14 = record {
+  layout = (the_name tt, (at 21 1 2, (at 16 4 16, (at 0 16 65536, tt))));
   is_code = λ r. omega arith;
   rules = λ v. one_rule;
 }

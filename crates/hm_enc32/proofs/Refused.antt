@@ -4,11 +4,13 @@ use Rattle.hm_isa.specs.declared.narrow.AccessName.{AccessName}
 use Rattle.hm_isa.specs.declared.wide.PairName.{PairName}
 use Rattle.hm_isa.specs.declared.wide.Indexed.{Indexed}
 use Rattle.hm_isa.specs.declared.wide.T13.{T13}
-use Rattle.hm_isa.specs.Keeps.{is_indexed, is_pair}
-use Rattle.hm_isa.specs.Code.{wide_access_base, code_indexed, pair_base, code_t13}
+use Rattle.hm_isa.specs.declared.wide.WideListName.{WideListName}
+use Rattle.hm_isa.specs.declared.wide.T14.{T14}
+use Rattle.hm_isa.specs.Keeps.{is_indexed, is_pair, is_wide_list}
+use Rattle.hm_isa.specs.Code.{wide_access_base, code_indexed, pair_base, code_t13, wide_list_base, code_t14}
 use Rattle.hm_layout.proofs.Places.{place, digits}
 use Rattle.hm_layout.proofs.Rows.{named, row_digits}
-use Rattle.hm_codes.proofs.Wides.{row_indexed, row_t13}
+use Rattle.hm_codes.proofs.Wides.{row_indexed, row_t13, row_t14}
 
 -- the fields of a code of the row T12 with an index
 abbrev pub digits_indexed : ℕ → List ℕ
@@ -71,4 +73,27 @@ refused_t13 w p add back n t u i x split rest base without refused r e =
     let same : pair_base r.name ≡ pair_base x = omega arith in
     let name : r.name ≡ x = same_pair _ _ same in
     let rules : is_pair r.name r.p.value r.w.value r.n.value r.t.value r.u.value ≡ true = r.rules in
+    cc
+
+-- the fields of a code of the row T14
+abbrev pub digits_t14 : ℕ → List ℕ
+digits_t14 w = digits (place 21 1 ∷ place 16 4 ∷ place 0 16 ∷ []) w
+
+read_t14 : (w : ℕ) (r : T14) → code_t14 r ≡ w → digits_t14 w ≡ r.w.value ∷ r.n.value ∷ r.list.value ∷ []
+read_t14 w r e = ap digits_t14 (sym e) ∙ row_digits (named row_t14) refl r
+
+same_list : (x y : WideListName) → wide_list_base x ≡ wide_list_base y → x ≡ y
+same_list x y e = grind arith
+
+pub refused_t14 : (w back n list : ℕ) (x : WideListName) → digits_t14 w ≡ back ∷ n ∷ list ∷ []
+    → (rest : ℕ) → wide_list_base x ≡ rest → rest ≡ w - back * 2 ^ 21 - n * 2 ^ 16 - list → is_wide_list x back n list ≡ false
+    → (r : T14) → code_t14 r ≡ w → ⊥
+refused_t14 w back n list x split rest base without refused r e =
+    let read = read_t14 w r e in
+    let fw : back ≡ r.w.value = cc in
+    let fn : n ≡ r.n.value = cc in
+    let fl : list ≡ r.list.value = cc in
+    let same : wide_list_base r.name ≡ wide_list_base x = omega arith in
+    let name : r.name ≡ x = same_list _ _ same in
+    let rules : is_wide_list r.name r.w.value r.n.value r.list.value ≡ true = r.rules in
     cc

@@ -14,6 +14,7 @@ ghost use Rattle.hm_isa.specs.declared.Scalar.{Scalar};
 ghost use Rattle.hm_isa.specs.Keeps.{is_general, is_load, is_data, is_indexed, is_pair};
 ghost use Rattle.hm_isa.specs.Code.{wide_access_base, pair_base, code_offset, code_indexed, code_shifted, code_literal, code_t12, code_t13, code_t15, scalar_halves, two_halves};
 
+use crate::lists::decode_t14;
 use hm_base::bits;
 use hm_isa::{
     AccessName, Below, Indexed, Literal, Offset, PairName, Scalar, Shifted, StackName, T12, T13,
@@ -307,6 +308,9 @@ pub fn find_scalar(w: u32) -> Option<Scalar>
     }
     if let Some(r) = decode_t13(w) {
         return Some(Scalar::T13(r));
+    }
+    if let Some(r) = decode_t14(w) {
+        return Some(Scalar::T14(r));
     }
     if let Some(r) = decode_t15(w) {
         return Some(Scalar::T15(r));

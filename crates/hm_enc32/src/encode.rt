@@ -3,6 +3,7 @@
 ghost use Rattle.std.specs.Prelude.{◌≡◌, length};
 ghost use Rattle.hm_isa.specs.Code.{wide_access_base, pair_base, stack_base, code_offset, code_indexed, code_shifted, code_literal, code_t12, code_t13, code_t15, scalar_halves, two_halves};
 
+use crate::lists::encode_t14;
 use hm_isa::{
     AccessName, Indexed, Literal, Offset, PairName, Scalar, Shifted, StackName, T12, T13, T15,
 };
@@ -112,6 +113,7 @@ pub fn scalar_code(s: &Scalar) -> u32
     match s {
         Scalar::T12(r) => encode_t12(r),
         Scalar::T13(r) => encode_t13(r),
+        Scalar::T14(r) => encode_t14(r),
         Scalar::T15(r) => encode_t15(r),
         _ => unreachable!(),
     }

@@ -7,17 +7,23 @@ ghost use Rattle.hm_enc32.specs.Table.{IsWide, HasWord};
 
 mod decode;
 mod encode;
+mod jumps;
+mod lists;
 
 use decode::find_scalar;
 use encode::scalar_code;
 use hm_isa::Instr;
+use jumps::{branch_code, find_branch};
 
-/// The instruction of the table of scalar instructions whose code is w.
+/// The instruction whose code is w.
 fn find(w: u32) -> Option<Instr>
     ensures found { IfSome result (λ i. HasWord i w) }
     ensures none { IfNone result ((i : Instr) → HasWord i w → ⊥) }
 {
-    find_scalar(w).map(Instr::Scalar)
+    if let Some(s) = find_scalar(w) {
+        return Some(Instr::Scalar(s));
+    }
+    find_branch(w).map(Instr::Branch)
 }
 
 /// The instruction whose code is w, with the first halfword in bits 31 to 16, or None exactly where none but a vector
@@ -38,9 +44,12 @@ pub fn encode32(i: &Instr) -> u32
 {
     match i {
         Instr::Scalar(s) => scalar_code(s),
-        Instr::Branch(_) | Instr::Vector(_) => unreachable!(),
+        Instr::Branch(b) => branch_code(b),
+        Instr::Vector(_) => unreachable!(),
     }
 }
 
+#[cfg(test)]
+mod jump_tests;
 #[cfg(test)]
 mod tests;

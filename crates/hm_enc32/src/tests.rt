@@ -7,7 +7,7 @@ use hm_isa::{
 };
 
 // the code is read as the instruction, which is written as the code
-fn is_code(w: u32, i: &Instr) -> bool
+pub fn is_code(w: u32, i: &Instr) -> bool
     requires { IsWide i.now }
 {
     decode32(w) == Some(*i) && encode32(i) == w

@@ -66,6 +66,9 @@ use Rattle.hm_isa.specs.declared.wide.T12.TheVariants as t12
 use Rattle.hm_isa.specs.declared.wide.PairName.{PairName}
 use Rattle.hm_isa.specs.declared.wide.PairName.TheVariants as pair
 use Rattle.hm_isa.specs.declared.wide.T13.{T13}
+use Rattle.hm_isa.specs.declared.wide.WideListName.{WideListName}
+use Rattle.hm_isa.specs.declared.wide.WideListName.TheVariants as wide_list
+use Rattle.hm_isa.specs.declared.wide.T14.{T14}
 use Rattle.hm_isa.specs.declared.wide.StackName.{StackName}
 use Rattle.hm_isa.specs.declared.wide.StackName.TheVariants as stack
 use Rattle.hm_isa.specs.declared.wide.T15.{T15}
@@ -148,11 +151,8 @@ use Rattle.hm_isa.specs.declared.Vector.{Vector}
 use Rattle.hm_isa.specs.declared.Vector.TheVariants as vector
 use Rattle.hm_isa.specs.declared.Instr.{Instr}
 use Rattle.hm_isa.specs.declared.Instr.TheVariants as instr
-
--- x, where it stands at bit p
-infixl 70 ◌↑◌
-abbrev pub ◌↑◌ : ℕ → ℕ → ℕ
-x ↑ p = x * 2 ^ p
+use Rattle.hm_isa.specs.Standing.{◌↑◌}
+use Rattle.hm_isa.specs.JumpCodes.{code_t16, code_t17, code_t23}
 
 -- CODES OF ONE HALFWORD
 
@@ -371,6 +371,15 @@ pair_base pair.Ldrd = 0xe8500000
 
 abbrev pub code_t13 : T13 → ℕ
 code_t13 r = pair_base r.name + r.p.value ↑ 24 + r.add.value ↑ 23 + r.w.value ↑ 21 + r.n.value ↑ 16 + r.t.value ↑ 12 + r.u.value ↑ 8 + r.i.value
+
+abbrev pub wide_list_base : WideListName → ℕ
+wide_list_base wide_list.Stmia = 0xe8800000
+wide_list_base wide_list.Ldmia = 0xe8900000
+wide_list_base wide_list.Stmdb = 0xe9000000
+wide_list_base wide_list.Ldmdb = 0xe9100000
+
+abbrev pub code_t14 : T14 → ℕ
+code_t14 r = wide_list_base r.name + r.w.value ↑ 21 + r.n.value ↑ 16 + r.list.value
 
 abbrev pub stack_base : StackName → ℕ
 stack_base stack.Vpush = 0xed2d0b00
@@ -630,12 +639,16 @@ scalar_halves (scalar.S20 r) = one_half (code_s20 r)
 scalar_halves (scalar.S21 r) = one_half (code_s21 r)
 scalar_halves (scalar.T12 r) = two_halves (code_t12 r)
 scalar_halves (scalar.T13 r) = two_halves (code_t13 r)
+scalar_halves (scalar.T14 r) = two_halves (code_t14 r)
 scalar_halves (scalar.T15 r) = two_halves (code_t15 r)
 
 abbrev pub branch_halves : Branch → List ℕ
 branch_halves (branch.S23 r) = one_half (code_s23 r)
 branch_halves (branch.S24 r) = one_half (code_s24 r)
 branch_halves (branch.S25 r) = one_half (code_s25 r)
+branch_halves (branch.T16 r) = two_halves (code_t16 r)
+branch_halves (branch.T17 r) = two_halves (code_t17 r)
+branch_halves (branch.T23 r) = two_halves (code_t23 r)
 
 abbrev pub vector_code : Vector → ℕ
 vector_code (vector.V1 r) = code_v1 r

@@ -1,11 +1,13 @@
 -- The rules that tie the letters of a row together.
-use Rattle.std.specs.Prelude.{ℕ, ◌+◌, ◌/◌, ◌%◌, ◌^◌, Bool, ◌&&◌, ◌||◌, not, nat_eq, nat_le, nat_lt, true, false, if◌then◌else◌}
+use Rattle.std.specs.Prelude.{ℕ, ◌+◌, ◌/◌, ◌%◌, ◌^◌, Bool, ◌&&◌, ◌||◌, not, nat_eq, nat_le, nat_lt, true, false, count_ones, if◌then◌else◌}
 use Rattle.hm_isa.specs.declared.narrow.ListName.{ListName}
 use Rattle.hm_isa.specs.declared.narrow.ListName.TheVariants.{Push, Pop, Stm, Ldm}
 use Rattle.hm_isa.specs.declared.narrow.AccessName.{AccessName}
 use Rattle.hm_isa.specs.declared.narrow.AccessName.TheVariants as access
 use Rattle.hm_isa.specs.declared.wide.PairName.{PairName}
 use Rattle.hm_isa.specs.declared.wide.PairName.TheVariants.{Strd, Ldrd}
+use Rattle.hm_isa.specs.declared.wide.WideListName.{WideListName}
+use Rattle.hm_isa.specs.declared.wide.WideListName.TheVariants.{Stmia, Ldmia, Stmdb, Ldmdb}
 use Rattle.hm_isa.specs.declared.vectors.ScalarName.{ScalarName}
 use Rattle.hm_isa.specs.declared.vectors.ScalarName.TheVariants as by_scalar
 use Rattle.hm_isa.specs.declared.vectors.ReverseName.{ReverseName}
@@ -72,6 +74,18 @@ is_pair Strd p w n t u =
 is_pair Ldrd p w n t u =
     nat_lt 0 (p + w) && is_general t && is_general u && not (nat_eq t u) && (not (nat_eq n 15) || (nat_eq p 1 && nat_eq w 0))
     && (nat_eq w 0 || (not (nat_eq n t) && not (nat_eq n u)))
+
+-- whether the operation may store or load pc, and lr besides
+abbrev pub may_list : WideListName → ℕ → Bool
+may_list Stmia list = not (listed_in list 15)
+may_list Stmdb list = not (listed_in list 15)
+may_list Ldmia list = not (listed_in list 14 && listed_in list 15)
+may_list Ldmdb list = not (listed_in list 14 && listed_in list 15)
+
+-- two registers or more, never sp; pc is loaded alone, and not beside lr; the base is not pc, nor listed where it is written back
+abbrev pub is_wide_list : WideListName → ℕ → ℕ → ℕ → Bool
+is_wide_list name w n list =
+    nat_le 2 (count_ones list) && not (listed_in list 13) && may_list name list && not (nat_eq n 15) && (nat_eq w 0 || not (listed_in list n))
 
 -- one register or more, and none past d15
 abbrev pub is_stacked : ℕ → ℕ → Bool

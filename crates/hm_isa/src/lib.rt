@@ -2,9 +2,10 @@
 #![tactic(auto)]
 
 ghost use Rattle.std.specs.Prelude.{◌≡◌, ◌*◌, length};
-ghost use Rattle.hm_isa.specs.Code.{halfwords, scalar_halves};
+ghost use Rattle.hm_isa.specs.Code.{branch_halves, halfwords, scalar_halves};
 
 mod fields;
+mod jumps;
 mod narrow;
 mod vectors;
 mod wide;
@@ -16,6 +17,19 @@ pub use fields::Low;
 pub use fields::QRegister;
 pub use fields::Register;
 pub use fields::Size;
+pub use jumps::Dls;
+pub use jumps::Dlstp;
+pub use jumps::LoopEnd;
+pub use jumps::LoopEndName;
+pub use jumps::T16;
+pub use jumps::T17;
+pub use jumps::T23;
+pub use jumps::TableName;
+pub use jumps::WideAlways;
+pub use jumps::WideBranchName;
+pub use jumps::WideConditional;
+pub use jumps::Wls;
+pub use jumps::Wlstp;
 pub use narrow::AccessName;
 pub use narrow::Always;
 pub use narrow::BaseName;
@@ -116,7 +130,9 @@ pub use wide::Shifted;
 pub use wide::StackName;
 pub use wide::T12;
 pub use wide::T13;
+pub use wide::T14;
 pub use wide::T15;
+pub use wide::WideListName;
 
 /// An instruction of the scalar rows: neither a branch nor a vector instruction.
 #[derive(Clone, Copy, Debug, PartialEq, Eq)]
@@ -167,6 +183,8 @@ pub enum Scalar {
     T12(T12),
     /// `strd`, `ldrd`
     T13(T13),
+    /// `stmia.w`, `ldmia.w`, `stmdb`, `ldmdb`
+    T14(T14),
     /// `vpush`, `vpop`
     T15(T15),
 }
@@ -180,6 +198,12 @@ pub enum Branch {
     S24(S24),
     /// `beq label` and so on, `b label`
     S25(S25),
+    /// `b.w`, `bl`, `beq.w` and so on
+    T16(T16),
+    /// `tbb`, `tbh`
+    T17(T17),
+    /// `dls` to `lctp`
+    T23(T23),
 }
 
 /// An instruction of the vector rows: DDI0553, "M-profile Vector Extension".
@@ -253,8 +277,18 @@ fn scalar_width(i: &Scalar) -> u32
     ensures { result ≡ 2 * length (scalar_halves i.now) }
 {
     match i {
-        Scalar::T12(_) | Scalar::T13(_) | Scalar::T15(_) => 4,
+        Scalar::T12(_) | Scalar::T13(_) | Scalar::T14(_) | Scalar::T15(_) => 4,
         _ => 2,
+    }
+}
+
+/// How many bytes the code of a branch has: 2 or 4.
+fn branch_width(i: &Branch) -> u32
+    ensures { result ≡ 2 * length (branch_halves i.now) }
+{
+    match i {
+        Branch::S23(_) | Branch::S24(_) | Branch::S25(_) => 2,
+        Branch::T16(_) | Branch::T17(_) | Branch::T23(_) => 4,
     }
 }
 
@@ -264,7 +298,7 @@ pub fn width(i: &Instr) -> u32
 {
     match i {
         Instr::Scalar(i) => scalar_width(i),
-        Instr::Branch(_) => 2,
+        Instr::Branch(i) => branch_width(i),
         Instr::Vector(_) => 4,
     }
 }

@@ -1,7 +1,7 @@
 //! The rows of 32-bit codes that are no vector rows.
 
 ghost use Rattle.std.specs.Prelude.{ℕ, IsTrue};
-ghost use Rattle.hm_isa.specs.Keeps.{is_indexed, is_literal, is_offset, is_pair, is_shifted, is_stacked};
+ghost use Rattle.hm_isa.specs.Keeps.{is_indexed, is_literal, is_offset, is_pair, is_shifted, is_stacked, is_wide_list};
 
 use crate::fields::{Below, Bit, Byte, Register};
 use crate::narrow::AccessName;
@@ -87,6 +87,27 @@ pub struct T13 {
     pub u: Register,
     pub i: Byte,
     pub ghost rules: { IsTrue (is_pair name p.value w.value n.value t.value u.value) },
+}
+
+/// The operation of the row T14: a store or a load of several registers, from the base up or up to it.
+#[derive(Clone, Copy, PartialEq, Eq, Debug)]
+pub enum WideListName {
+    Stmia,
+    Ldmia,
+    Stmdb,
+    Ldmdb,
+}
+
+/// `stmia.w`, `ldmia.w`, `stmdb`, `ldmdb rn,{..}`: DDI0553, "STM, STMIA, STMEA", "LDM, LDMIA, LDMFD", "STMDB, STMFD" and "LDMDB,
+/// LDMEA", encodings T2 and T1. Bit k of `list` is register k.
+#[derive(Clone, Copy, PartialEq, Eq, Debug)]
+pub struct T14 {
+    pub name: WideListName,
+    /// Whether the base gets the address at the other end of the list.
+    pub w: Bit,
+    pub n: Register,
+    pub list: Below<65536>,
+    pub ghost rules: { IsTrue (is_wide_list name w.value n.value list.value) },
 }
 
 /// The operation of the row T15.

@@ -1,14 +1,24 @@
-//! `bx`, `blx`, `cbz`, `cbnz` and `b`.
+//! `bx`, `blx`, `cbz`, `cbnz`, `b` and `bl`.
 
-ghost use Rattle.std.specs.Prelude.{◌≡◌, ℕ, OnErr};
-ghost use Rattle.hm_thumb.specs.BranchRows.{always, branch_if, conditional, is_taken, s23, s24, s25};
+ghost use Rattle.std.specs.Prelude.{◌≡◌, ℕ, ◌+◌, ◌%◌, ◌^◌, ◌≤◌, ◌<◌, OnErr};
+ghost use Rattle.hm_thumb.specs.BranchRows.{always, branch_if, conditional, is_taken, link, s23, s24, s25};
 ghost use Rattle.hm_thumb.specs.Does.{Ends};
+ghost use Rattle.hm_thumb.specs.LoopRows.{alike, always_distance, conditional_distance, linked, t16, wide_always, wide_conditional};
+ghost use Rattle.hm_thumb.specs.RegisterRows.{put};
 ghost use Rattle.hm_thumb.specs.Steps.{ended};
 
 use hm_base::{Fault, Place};
-use hm_isa::{JumpName, S23, S24, S25, ZeroName};
+use hm_isa::{JumpName, S23, S24, S25, T16, WideAlways, WideBranchName, WideConditional, ZeroName};
 use hm_regs::Regs;
 use hm_thumb::{Way, blx_write, bx_write, condition_holds, sign_extended};
+
+/// Leaves the address of the next instruction in lr, with bit 0 set.
+fn set_link(bytes: u32, regs: &mut Regs)
+    ensures regs { regs.new ≡ put 14 (link ((regs.old.pc + bytes) % 2 ^ 32)) regs.old }
+{
+    let next = regs.pc.wrapping_add(bytes);
+    regs.set(Place::R(14), next - next % 2 + 1);
+}
 
 /// `bx`, `blx rm`
 pub fn jump(i: &S23, regs: &mut Regs) -> Result<Way, Fault>
@@ -20,15 +30,14 @@ pub fn jump(i: &S23, regs: &mut Regs) -> Result<Way, Fault>
         JumpName::Bx => bx_write(x, regs),
         JumpName::Blx => {
             let way = blx_write(x, regs)?;
-            let next = regs.pc.wrapping_add(2);
-            regs.set(Place::R(14), next - next % 2 + 1);
+            set_link(2, regs);
             Ok(way)
         }
     }
 }
 
 /// Where taken, a branch to so many bytes from the address of the instruction plus 4.
-fn branch_if(taken: bool, bytes: u32, regs: &Regs) -> Way
+pub fn branch_if(taken: bool, bytes: u32, regs: &Regs) -> Way
     ensures way { Ends result regs.now ≡ branch_if taken bytes regs.now }
 {
     if taken {
@@ -63,5 +72,67 @@ pub fn branch(i: &S25, regs: &Regs) -> Way
             regs,
         ),
         S25::Always(i) => branch_if(true, sign_extended(12, 2 * i.i.get()), regs),
+    }
+}
+
+/// 1 where two bits are the same, and else 0.
+fn alike(j: u32, s: u32) -> u32
+    ensures value { result ≡ alike j s }
+    ensures bit { result ≤ 1 }
+{
+    if j == s { 1 } else { 0 }
+}
+
+/// `s:j2:j1:i6:i11:0`, in bytes
+fn conditional_distance(i: &WideConditional) -> u32
+    ensures value { result ≡ conditional_distance i.now }
+{
+    sign_extended(
+        21,
+        (i.s.get() << 20)
+            + (i.j2.get() << 19)
+            + (i.j1.get() << 18)
+            + (i.i6.get() << 12)
+            + i.i11.get() * 2,
+    )
+}
+
+/// `s:I1:I2:i10:i11:0`, in bytes
+fn always_distance(i: &WideAlways) -> u32
+    ensures value { result ≡ always_distance i.now }
+{
+    let s = i.s.get();
+    sign_extended(
+        25,
+        (s << 24)
+            + (alike(i.j1.get(), s) << 23)
+            + (alike(i.j2.get(), s) << 22)
+            + (i.i10.get() << 12)
+            + i.i11.get() * 2,
+    )
+}
+
+/// `b.w`, `bl label`
+fn wide_always(i: &WideAlways, regs: &mut Regs) -> Way
+    ensures way { Ends result regs.new ≡ wide_always i.now regs.old }
+{
+    match i.name {
+        WideBranchName::B => {}
+        WideBranchName::Bl => set_link(4, regs),
+    }
+    branch_if(true, always_distance(i), regs)
+}
+
+/// `beq.w label` and so on, `b.w` and `bl label`
+pub fn wide_branch(i: &T16, regs: &mut Regs) -> Way
+    ensures way { Ends result regs.new ≡ t16 i.now regs.old }
+{
+    match i {
+        T16::Conditional(i) => branch_if(
+            condition_holds(i.c.get(), regs),
+            conditional_distance(i),
+            regs,
+        ),
+        T16::Always(i) => wide_always(i, regs),
     }
 }

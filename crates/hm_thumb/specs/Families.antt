@@ -13,6 +13,7 @@ loads_or_stores (scalar.S17 i) = true
 loads_or_stores (scalar.S20 i) = true
 loads_or_stores (scalar.T12 i) = true
 loads_or_stores (scalar.T13 i) = true
+loads_or_stores (scalar.T14 i) = true
 loads_or_stores (scalar.T15 i) = true
 loads_or_stores i = false
 

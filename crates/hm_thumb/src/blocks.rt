@@ -2,10 +2,11 @@
 
 ghost use Rattle.std.specs.Prelude.{◌≡◌, ◌||◌};
 ghost use Rattle.hm_thumb.specs.Families.{loads_or_stores};
-ghost use Rattle.hm_thumb.specs.Rows.{is_breakpoint, is_stacked_vector, made, needs_context, runs};
+ghost use Rattle.hm_thumb.specs.LoopRows.{loops_over_elements};
+ghost use Rattle.hm_thumb.specs.Rows.{is_breakpoint, is_stacked_vector, is_vector_loop, made, needs_context, runs};
 
 use crate::ways::is_passed;
-use hm_isa::{Instr, Scalar};
+use hm_isa::{Branch, Instr, LoopEndName, Scalar, T23};
 use hm_lane::context;
 use hm_regs::Regs;
 
@@ -29,6 +30,27 @@ fn is_stacked_vector(i: &Scalar) -> bool
     }
 }
 
+/// Whether it begins or ends a loop over elements: `dlstp`, `wlstp` or `letp`.
+fn loops_over_elements(i: &T23) -> bool
+    ensures value { result ≡ loops_over_elements i.now }
+{
+    match i {
+        T23::Dlstp(_) | T23::Wlstp(_) => true,
+        T23::End(i) => matches!(i.name, LoopEndName::Letp),
+        _ => false,
+    }
+}
+
+/// Whether it is a branch of a loop over elements.
+fn is_vector_loop(i: &Branch) -> bool
+    ensures value { result ≡ is_vector_loop i.now }
+{
+    match i {
+        Branch::T23(i) => loops_over_elements(i),
+        _ => false,
+    }
+}
+
 /// Whether an instruction runs: `bkpt` does whatever the condition is.
 fn runs(i: &Instr, regs: &Regs) -> bool
     ensures value { result ≡ runs i.now regs.now }
@@ -45,7 +67,8 @@ fn needs_context(i: &Instr) -> bool
 {
     match i {
         Instr::Scalar(i) => is_stacked_vector(i),
-        _ => false,
+        Instr::Branch(i) => is_vector_loop(i),
+        Instr::Vector(_) => false,
     }
 }
 
@@ -73,6 +96,7 @@ pub fn loads_or_stores(i: &Scalar) -> bool
         Scalar::S20(_) => true,
         Scalar::T12(_) => true,
         Scalar::T13(_) => true,
+        Scalar::T14(_) => true,
         Scalar::T15(_) => true,
         _ => false,
     }

@@ -1,0 +1,7 @@
+-- Fields at their places.
+use Rattle.std.specs.Prelude.{ℕ, ◌*◌, ◌^◌}
+
+-- x, where it stands at bit p
+infixl 70 ◌↑◌
+abbrev pub ◌↑◌ : ℕ → ℕ → ℕ
+x ↑ p = x * 2 ^ p
