@@ -2,6 +2,8 @@ pub mod Scalars
 pub mod Branches
 pub mod Wides
 pub mod JumpRows
+pub mod ArithRows
+pub mod SystemRows
 pub mod Vectors
 pub mod Tables
 pub mod Unique

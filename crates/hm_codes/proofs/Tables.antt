@@ -8,10 +8,12 @@ use Rattle.hm_isa.specs.declared.Branch.TheVariants as branch
 use Rattle.hm_isa.specs.contracts.Branch as branch_
 use Rattle.hm_isa.specs.Code.{scalar_halves, branch_halves}
 use Rattle.hm_layout.proofs.Coded.{Coded}
-use Rattle.hm_layout.proofs.Rows.{plain, named, varied, coded}
+use Rattle.hm_layout.proofs.Rows.{plain, named, split, varied, coded}
 use Rattle.hm_layout.proofs.Tables.{of_table, ◌▹◌}
 use Rattle.hm_codes.proofs.Scalars.{row_s1, row_s2, row_s3, row_s4, row_s5, row_s6, row_s7, row_s8, row_s9, row_s10, row_s11, row_s12, row_s13, row_s14, row_s15, row_s16, row_s17, row_s18, row_s19, row_s20, spared_s21}
-use Rattle.hm_codes.proofs.Wides.{coded_t12, spared_t13, row_t14, row_t15}
+use Rattle.hm_codes.proofs.Wides.{coded_t12, spared_t13, row_t14, row_t15, row_t13}
+use Rattle.hm_codes.proofs.ArithRows.{row_t8, row_t9, row_t10, coded_t11, row_t20}
+use Rattle.hm_codes.proofs.SystemRows.{coded_t18, coded_t19, row_t21, row_t22}
 use Rattle.hm_codes.proofs.Branches.{row_s23, row_s24, coded_s25}
 use Rattle.hm_codes.proofs.JumpRows.{coded_t16, row_t17, coded_t23}
 
@@ -48,10 +50,19 @@ coded_scalar =
     coded (named row_s19) ▹
     coded (varied row_s20) ▹
     coded spared_s21 ▹
+    coded (named row_t8) ▹
+    coded (named row_t9) ▹
+    coded (split row_t10) ▹
+    coded_t11 ▹
     coded_t12 ▹
     coded spared_t13 ▹
     coded (named row_t14) ▹
     coded (named row_t15) ▹
+    coded_t18 ▹
+    coded_t19 ▹
+    coded (named row_t20) ▹
+    coded (named row_t21) ▹
+    coded (named row_t22) ▹
     tt)
     (elim [
       | scalar.S1 r ↦ refl
@@ -75,10 +86,19 @@ coded_scalar =
       | scalar.S19 r ↦ refl
       | scalar.S20 r ↦ refl
       | scalar.S21 r ↦ refl
+      | scalar.T8 r ↦ rejoined _
+      | scalar.T9 r ↦ rejoined _
+      | scalar.T10 r ↦ rejoined _
+      | scalar.T11 r ↦ rejoined _
       | scalar.T12 r ↦ rejoined _
       | scalar.T13 r ↦ rejoined _
       | scalar.T14 r ↦ rejoined _
       | scalar.T15 r ↦ rejoined _
+      | scalar.T18 r ↦ rejoined _
+      | scalar.T19 r ↦ rejoined _
+      | scalar.T20 r ↦ rejoined _
+      | scalar.T21 r ↦ rejoined _
+      | scalar.T22 r ↦ rejoined _
     ])
 
 abbrev pub coded_branch : Coded Branch

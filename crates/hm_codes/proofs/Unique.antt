@@ -13,12 +13,14 @@ use Rattle.hm_isa.specs.declared.Instr.TheVariants as instr
 use Rattle.hm_isa.specs.contracts.Instr as instr_
 use Rattle.hm_isa.specs.Code.{halfwords, scalar_halves, branch_halves}
 use Rattle.hm_layout.proofs.Coded.{Coded}
-use Rattle.hm_layout.proofs.Rows.{plain, named, varied, coded}
+use Rattle.hm_layout.proofs.Rows.{plain, named, split, varied, coded}
 use Rattle.hm_layout.proofs.Tables.{of_table, ◌▹◌}
 use Rattle.hm_layout.proofs.Lengths.{short_code, long_code}
 use Rattle.hm_codes.specs.Listing.{half_at, HalvesStand, Stands, is_long, IsFetched}
 use Rattle.hm_codes.proofs.Scalars.{row_s1, row_s2, row_s3, row_s4, row_s5, row_s6, row_s7, row_s8, row_s9, row_s10, row_s11, row_s12, row_s13, row_s14, row_s15, row_s16, row_s17, row_s18, row_s19, row_s20, spared_s21}
-use Rattle.hm_codes.proofs.Wides.{coded_t12, spared_t13, row_t14, row_t15}
+use Rattle.hm_codes.proofs.Wides.{coded_t12, spared_t13, row_t14, row_t15, row_t13}
+use Rattle.hm_codes.proofs.ArithRows.{row_t8, row_t9, row_t10, coded_t11, row_t20}
+use Rattle.hm_codes.proofs.SystemRows.{coded_t18, coded_t19, row_t21, row_t22}
 use Rattle.hm_codes.proofs.Branches.{row_s23, row_s24, coded_s25}
 use Rattle.hm_codes.proofs.JumpRows.{coded_t16, row_t17, coded_t23}
 use Rattle.hm_codes.proofs.Vectors.{coded_vector}
@@ -73,10 +75,19 @@ length_scalar (scalar.S18 r) = short_length _ (short_code (coded (plain row_s18)
 length_scalar (scalar.S19 r) = short_length _ (short_code (coded (named row_s19)) refl refl r)
 length_scalar (scalar.S20 r) = short_length _ (short_code (coded (varied row_s20)) refl refl r)
 length_scalar (scalar.S21 r) = short_length _ (short_code (coded spared_s21) refl refl r)
+length_scalar (scalar.T8 r) = long_length _ (long_code (coded (named row_t8)) refl refl r)
+length_scalar (scalar.T9 r) = long_length _ (long_code (coded (named row_t9)) refl refl r)
+length_scalar (scalar.T10 r) = long_length _ (long_code (coded (split row_t10)) refl refl r)
+length_scalar (scalar.T11 r) = long_length _ (long_code coded_t11 refl refl r)
 length_scalar (scalar.T12 r) = long_length _ (long_code coded_t12 refl refl r)
 length_scalar (scalar.T13 r) = long_length _ (long_code (coded spared_t13) refl refl r)
 length_scalar (scalar.T14 r) = long_length _ (long_code (coded (named row_t14)) refl refl r)
 length_scalar (scalar.T15 r) = long_length _ (long_code (coded (named row_t15)) refl refl r)
+length_scalar (scalar.T18 r) = long_length _ (long_code coded_t18 refl refl r)
+length_scalar (scalar.T19 r) = long_length _ (long_code coded_t19 refl refl r)
+length_scalar (scalar.T20 r) = long_length _ (long_code (coded (named row_t20)) refl refl r)
+length_scalar (scalar.T21 r) = long_length _ (long_code (coded (named row_t21)) refl refl r)
+length_scalar (scalar.T22 r) = long_length _ (long_code (coded (named row_t22)) refl refl r)
 
 length_branch : (b : Branch) → length (branch_halves b) ≡ code_length (first_of (branch_halves b))
 length_branch (branch.S23 r) = short_length _ (short_code (coded (named row_s23)) refl refl r)

@@ -325,7 +325,7 @@ pub fn scalar_code(s: &Scalar) -> u16
         Scalar::S19(r) => encode_s19(r),
         Scalar::S20(r) => encode_s20(r),
         Scalar::S21(r) => encode_s21(r),
-        Scalar::T12(_) | Scalar::T13(_) | Scalar::T15(_) => unreachable!(),
+        _ => unreachable!(),
     }
 }
 

@@ -1,16 +1,19 @@
 -- Codes whose fields break the rule of a row.
 use Rattle.std.proofs.Common.{◌≡◌, ◌-◌, ◌*◌, ◌^◌, ℕ, true, false, List, [], ◌∷◌, refl, arith, sym, ◌∙◌, ap}
 use Rattle.hm_isa.specs.declared.narrow.AccessName.{AccessName}
+use Rattle.hm_isa.specs.declared.arith.Accumulate.{Accumulate}
 use Rattle.hm_isa.specs.declared.wide.PairName.{PairName}
 use Rattle.hm_isa.specs.declared.wide.Indexed.{Indexed}
 use Rattle.hm_isa.specs.declared.wide.T13.{T13}
 use Rattle.hm_isa.specs.declared.wide.WideListName.{WideListName}
 use Rattle.hm_isa.specs.declared.wide.T14.{T14}
-use Rattle.hm_isa.specs.Keeps.{is_indexed, is_pair, is_wide_list}
+use Rattle.hm_isa.specs.Keeps.{is_indexed, is_pair, is_wide_list, is_accumulated}
 use Rattle.hm_isa.specs.Code.{wide_access_base, code_indexed, pair_base, code_t13, wide_list_base, code_t14}
 use Rattle.hm_layout.proofs.Places.{place, digits}
 use Rattle.hm_layout.proofs.Rows.{named, row_digits}
 use Rattle.hm_codes.proofs.Wides.{row_indexed, row_t13, row_t14}
+use Rattle.hm_isa.specs.ArithCodes.{code_accumulate}
+use Rattle.hm_codes.proofs.ArithRows.{row_accumulate}
 
 -- the fields of a code of the row T12 with an index
 abbrev pub digits_indexed : ℕ → List ℕ
@@ -96,4 +99,16 @@ refused_t14 w back n list x split rest base without refused r e =
     let same : wide_list_base r.name ≡ wide_list_base x = omega arith in
     let name : r.name ≡ x = same_list _ _ same in
     let rules : is_wide_list r.name r.w.value r.n.value r.list.value ≡ true = r.rules in
+    cc
+
+-- the fields of a code of `mla` and `mls`
+abbrev pub digits_accumulate : ℕ → List ℕ
+digits_accumulate w = digits (place 16 4 ∷ place 12 4 ∷ place 8 4 ∷ place 0 4 ∷ []) w
+
+pub refused_accumulate : (w n a d m : ℕ) → digits_accumulate w ≡ n ∷ a ∷ d ∷ m ∷ [] → is_accumulated n a d m ≡ false
+    → (r : Accumulate) → code_accumulate r ≡ w → ⊥
+refused_accumulate w n a d m fields refused r e =
+    let read : digits_accumulate w ≡ r.n.value ∷ r.a.value ∷ r.d.value ∷ r.m.value ∷ [] =
+    ap digits_accumulate (sym e) ∙ row_digits (named row_accumulate) refl r in
+    let rules : is_accumulated r.n.value r.a.value r.d.value r.m.value ≡ true = r.rules in
     cc

@@ -15,6 +15,8 @@ ghost use Rattle.hm_isa.specs.Keeps.{is_general, is_load, is_data, is_indexed, i
 ghost use Rattle.hm_isa.specs.Code.{wide_access_base, pair_base, code_offset, code_indexed, code_shifted, code_literal, code_t12, code_t13, code_t15, scalar_halves, two_halves};
 
 use crate::lists::decode_t14;
+use crate::arith::find_arith;
+use crate::system::find_system;
 use hm_base::bits;
 use hm_isa::{
     AccessName, Below, Indexed, Literal, Offset, PairName, Scalar, Shifted, StackName, T12, T13,
@@ -22,7 +24,7 @@ use hm_isa::{
 };
 
 /// Whether a register is neither sp nor pc.
-fn general(n: u32) -> bool
+pub fn general(n: u32) -> bool
     ensures { result ≡ is_general n }
 {
     n != 13 && n != 15
@@ -298,11 +300,14 @@ fn decode_t15(w: u32) -> Option<T15>
     })
 }
 
-/// The instruction of the rows T12 to T15 whose code is w.
+/// The instruction of the rows T8 to T22 whose code is w.
 pub fn find_scalar(w: u32) -> Option<Scalar>
     ensures found { IfSome result (λ s. scalar_halves s ≡ two_halves w) }
     ensures none { IfNone result ((s : Scalar) → scalar_halves s ≡ two_halves w → ⊥) }
 {
+    if let Some(s) = find_arith(w) {
+        return Some(s);
+    }
     if let Some(r) = decode_t12(w) {
         return Some(Scalar::T12(r));
     }
@@ -315,5 +320,5 @@ pub fn find_scalar(w: u32) -> Option<Scalar>
     if let Some(r) = decode_t15(w) {
         return Some(Scalar::T15(r));
     }
-    None
+    find_system(w)
 }

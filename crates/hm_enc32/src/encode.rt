@@ -4,6 +4,8 @@ ghost use Rattle.std.specs.Prelude.{◌≡◌, length};
 ghost use Rattle.hm_isa.specs.Code.{wide_access_base, pair_base, stack_base, code_offset, code_indexed, code_shifted, code_literal, code_t12, code_t13, code_t15, scalar_halves, two_halves};
 
 use crate::lists::encode_t14;
+use crate::arith::{encode_t8, encode_t9, encode_t10, encode_t11, encode_t20};
+use crate::system::{encode_t18, encode_t19, encode_t21, encode_t22};
 use hm_isa::{
     AccessName, Indexed, Literal, Offset, PairName, Scalar, Shifted, StackName, T12, T13, T15,
 };
@@ -105,16 +107,25 @@ fn encode_t15(r: &T15) -> u32
     of_stack(r.name) + (r.v.get() << 12) + (r.k.get() << 1)
 }
 
-/// The code of an instruction of the rows T12 to T15.
+/// The code of an instruction of the rows T8 to T22.
 pub fn scalar_code(s: &Scalar) -> u32
     requires { length (scalar_halves s.now) ≡ 2 }
     ensures { scalar_halves s.now ≡ two_halves result }
 {
     match s {
+        Scalar::T8(r) => encode_t8(r),
+        Scalar::T9(r) => encode_t9(r),
+        Scalar::T10(r) => encode_t10(r),
+        Scalar::T11(r) => encode_t11(r),
         Scalar::T12(r) => encode_t12(r),
         Scalar::T13(r) => encode_t13(r),
         Scalar::T14(r) => encode_t14(r),
         Scalar::T15(r) => encode_t15(r),
+        Scalar::T18(r) => encode_t18(r),
+        Scalar::T19(r) => encode_t19(r),
+        Scalar::T20(r) => encode_t20(r),
+        Scalar::T21(r) => encode_t21(r),
+        Scalar::T22(r) => encode_t22(r),
         _ => unreachable!(),
     }
 }

@@ -5,10 +5,12 @@ ghost use Rattle.std.specs.Prelude.{◌≡◌, ◌↔◌, IfSome, IfNone};
 ghost use Rattle.hm_isa.specs.declared.Instr.{Instr};
 ghost use Rattle.hm_enc32.specs.Table.{IsWide, HasWord};
 
+mod arith;
 mod decode;
 mod encode;
 mod jumps;
 mod lists;
+mod system;
 
 use decode::find_scalar;
 use encode::scalar_code;
@@ -50,6 +52,10 @@ pub fn encode32(i: &Instr) -> u32
 }
 
 #[cfg(test)]
+mod arith_tests;
+#[cfg(test)]
 mod jump_tests;
+#[cfg(test)]
+mod system_tests;
 #[cfg(test)]
 mod tests;

@@ -1,5 +1,5 @@
 -- What each instruction is coded as.
-use Rattle.std.specs.Prelude.{ℕ, ◌+◌, ◌*◌, ◌/◌, ◌%◌, ◌^◌, List, [], ◌∷◌}
+use Rattle.std.specs.Prelude.{ℕ, ◌+◌, ◌/◌, ◌%◌, List, [], ◌∷◌}
 use Rattle.hm_isa.specs.declared.narrow.ShiftName.{ShiftName}
 use Rattle.hm_isa.specs.declared.narrow.ShiftName.TheVariants as shift
 use Rattle.hm_isa.specs.declared.narrow.S1.{S1}
@@ -153,6 +153,8 @@ use Rattle.hm_isa.specs.declared.Instr.{Instr}
 use Rattle.hm_isa.specs.declared.Instr.TheVariants as instr
 use Rattle.hm_isa.specs.Standing.{◌↑◌}
 use Rattle.hm_isa.specs.JumpCodes.{code_t16, code_t17, code_t23}
+use Rattle.hm_isa.specs.ArithCodes.{code_t8, code_t9, code_t10, code_t11, code_t20}
+use Rattle.hm_isa.specs.SystemCodes.{code_t18, code_t19, code_t21, code_t22}
 
 -- CODES OF ONE HALFWORD
 
@@ -637,10 +639,19 @@ scalar_halves (scalar.S18 r) = one_half (code_s18 r)
 scalar_halves (scalar.S19 r) = one_half (code_s19 r)
 scalar_halves (scalar.S20 r) = one_half (code_s20 r)
 scalar_halves (scalar.S21 r) = one_half (code_s21 r)
+scalar_halves (scalar.T8 r) = two_halves (code_t8 r)
+scalar_halves (scalar.T9 r) = two_halves (code_t9 r)
+scalar_halves (scalar.T10 r) = two_halves (code_t10 r)
+scalar_halves (scalar.T11 r) = two_halves (code_t11 r)
 scalar_halves (scalar.T12 r) = two_halves (code_t12 r)
 scalar_halves (scalar.T13 r) = two_halves (code_t13 r)
 scalar_halves (scalar.T14 r) = two_halves (code_t14 r)
 scalar_halves (scalar.T15 r) = two_halves (code_t15 r)
+scalar_halves (scalar.T18 r) = two_halves (code_t18 r)
+scalar_halves (scalar.T19 r) = two_halves (code_t19 r)
+scalar_halves (scalar.T20 r) = two_halves (code_t20 r)
+scalar_halves (scalar.T21 r) = two_halves (code_t21 r)
+scalar_halves (scalar.T22 r) = two_halves (code_t22 r)
 
 abbrev pub branch_halves : Branch → List ℕ
 branch_halves (branch.S23 r) = one_half (code_s23 r)

@@ -8,6 +8,8 @@ use Rattle.hm_isa.specs.declared.wide.PairName.{PairName}
 use Rattle.hm_isa.specs.declared.wide.PairName.TheVariants.{Strd, Ldrd}
 use Rattle.hm_isa.specs.declared.wide.WideListName.{WideListName}
 use Rattle.hm_isa.specs.declared.wide.WideListName.TheVariants.{Stmia, Ldmia, Stmdb, Ldmdb}
+use Rattle.hm_isa.specs.declared.system.SystemMoveName.{SystemMoveName}
+use Rattle.hm_isa.specs.declared.system.SystemMoveName.TheVariants as move
 use Rattle.hm_isa.specs.declared.vectors.ScalarName.{ScalarName}
 use Rattle.hm_isa.specs.declared.vectors.ScalarName.TheVariants as by_scalar
 use Rattle.hm_isa.specs.declared.vectors.ReverseName.{ReverseName}
@@ -39,6 +41,28 @@ keeps_it c mask = nat_lt 0 mask && (not (nat_eq c 14) || nat_eq mask 8 || nat_eq
 -- neither sp nor pc
 abbrev pub is_general : ℕ → Bool
 is_general n = not (nat_eq n 13) && not (nat_eq n 15)
+
+abbrev pub are_general : ℕ → ℕ → Bool
+are_general d m = is_general d && is_general m
+
+abbrev pub is_operation : ℕ → ℕ → ℕ → Bool
+is_operation n d m = is_general n && is_general d && is_general m
+
+abbrev pub is_accumulated : ℕ → ℕ → ℕ → ℕ → Bool
+is_accumulated n a d m = is_general n && is_general a && is_general d && is_general m
+
+-- the two halves of a product do not go to one register
+abbrev pub is_long_product : ℕ → ℕ → ℕ → ℕ → Bool
+is_long_product n l h m = is_general n && is_general l && is_general h && is_general m && not (nat_eq l h)
+
+-- as an operand, 15 is no register but 0
+abbrev pub is_chosen : ℕ → ℕ → ℕ → Bool
+is_chosen n d m = not (nat_eq n 13) && is_general d && not (nat_eq m 13)
+
+-- fpscr alone is read to 15, which is no register but the flags
+abbrev pub is_system_move : SystemMoveName → ℕ → Bool
+is_system_move move.ReadFpscr t = not (nat_eq t 13)
+is_system_move name t = is_general t
 
 abbrev pub is_load : AccessName → Bool
 is_load access.Str = false

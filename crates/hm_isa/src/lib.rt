@@ -4,12 +4,28 @@
 ghost use Rattle.std.specs.Prelude.{◌≡◌, ◌*◌, length};
 ghost use Rattle.hm_isa.specs.Code.{branch_halves, halfwords, scalar_halves};
 
+mod arith;
 mod fields;
 mod jumps;
 mod narrow;
+mod system;
 mod vectors;
 mod wide;
 
+pub use arith::Accumulate;
+pub use arith::AccumulateName;
+pub use arith::BitsName;
+pub use arith::LongProduct;
+pub use arith::LongProductName;
+pub use arith::Operation;
+pub use arith::OperationName;
+pub use arith::SelectName;
+pub use arith::T8;
+pub use arith::T9;
+pub use arith::T10;
+pub use arith::T11;
+pub use arith::T20;
+pub use arith::WideShiftName;
 pub use fields::Below;
 pub use fields::Bit;
 pub use fields::Byte;
@@ -71,6 +87,18 @@ pub use narrow::SumName;
 pub use narrow::SwapName;
 pub use narrow::WordName;
 pub use narrow::ZeroName;
+pub use system::Barrier;
+pub use system::BarrierName;
+pub use system::LaneMoveName;
+pub use system::Mrs;
+pub use system::Msr;
+pub use system::ReadName;
+pub use system::SystemMoveName;
+pub use system::T18;
+pub use system::T19;
+pub use system::T21;
+pub use system::T22;
+pub use system::WrittenName;
 pub use vectors::AddName;
 pub use vectors::BitwiseName;
 pub use vectors::Block;
@@ -179,6 +207,14 @@ pub enum Scalar {
     S20(S20),
     /// `it`
     S21(S21),
+    /// `lsl.w`, `lsr.w`, `asr.w`, `ror.w rd,rn,rm`
+    T8(T8),
+    /// `sxth.w`, `uxth.w`, `sxtb.w`, `uxtb.w`
+    T9(T9),
+    /// `rev.w`, `rev16.w`, `rbit`, `revsh.w`, `clz`
+    T10(T10),
+    /// `mul`, `mla`, `mls`, `smull` to `umlal`, `sdiv`, `udiv`
+    T11(T11),
     /// `str.w` to `ldrsh.w`
     T12(T12),
     /// `strd`, `ldrd`
@@ -187,6 +223,16 @@ pub enum Scalar {
     T14(T14),
     /// `vpush`, `vpop`
     T15(T15),
+    /// `mrs`, `msr`
+    T18(T18),
+    /// `nop.w`, `dsb`, `dmb`, `isb`
+    T19(T19),
+    /// `csel`, `csinc`, `csinv`, `csneg`
+    T20(T20),
+    /// `vmrs`, `vmsr`
+    T21(T21),
+    /// `vmov.32` of a lane
+    T22(T22),
 }
 
 /// An instruction of the branch rows.
@@ -277,7 +323,9 @@ fn scalar_width(i: &Scalar) -> u32
     ensures { result ≡ 2 * length (scalar_halves i.now) }
 {
     match i {
+        Scalar::T8(_) | Scalar::T9(_) | Scalar::T10(_) | Scalar::T11(_) => 4,
         Scalar::T12(_) | Scalar::T13(_) | Scalar::T14(_) | Scalar::T15(_) => 4,
+        Scalar::T18(_) | Scalar::T19(_) | Scalar::T20(_) | Scalar::T21(_) | Scalar::T22(_) => 4,
         _ => 2,
     }
 }

@@ -9,7 +9,7 @@ use hm_regs::Regs;
 use hm_thumb::sign_extended;
 
 /// The low halfword or byte of a word, with its sign or with zeros.
-fn extended_by(name: ExtendName, x: u32) -> u32
+pub fn extended_by(name: ExtendName, x: u32) -> u32
     ensures value { result ≡ extended_by name x }
 {
     match name {
@@ -48,7 +48,7 @@ fn half_of(high: u32, low: u32) -> u32
 }
 
 /// The bytes of a word, of each halfword, or of the low halfword with its sign, in reverse order.
-fn swapped(name: SwapName, x: u32) -> u32
+pub fn swapped(name: SwapName, x: u32) -> u32
     ensures value { result ≡ swapped name x }
 {
     let low = half_of(byte_at(0, x), byte_at(1, x));

@@ -3,7 +3,7 @@
 ghost use Rattle.std.specs.Prelude.{◌≡◌, ◌||◌};
 ghost use Rattle.hm_thumb.specs.Families.{loads_or_stores};
 ghost use Rattle.hm_thumb.specs.LoopRows.{loops_over_elements};
-ghost use Rattle.hm_thumb.specs.Rows.{is_breakpoint, is_stacked_vector, is_vector_loop, made, needs_context, runs};
+ghost use Rattle.hm_thumb.specs.Rows.{is_breakpoint, is_vector_loop, made, needs_context, runs, reaches_vectors};
 
 use crate::ways::is_passed;
 use hm_isa::{Branch, Instr, LoopEndName, Scalar, T23};
@@ -20,12 +20,14 @@ fn is_breakpoint(i: &Scalar) -> bool
     }
 }
 
-/// Whether it is `vpush` or `vpop`.
-fn is_stacked_vector(i: &Scalar) -> bool
-    ensures value { result ≡ is_stacked_vector i.now }
+/// Whether it reaches the vector registers, FPSCR or VPR.
+fn reaches_vectors(i: &Scalar) -> bool
+    ensures value { result ≡ reaches_vectors i.now }
 {
     match i {
         Scalar::T15(_) => true,
+        Scalar::T21(_) => true,
+        Scalar::T22(_) => true,
         _ => false,
     }
 }
@@ -66,7 +68,7 @@ fn needs_context(i: &Instr) -> bool
     ensures value { result ≡ needs_context i.now }
 {
     match i {
-        Instr::Scalar(i) => is_stacked_vector(i),
+        Instr::Scalar(i) => reaches_vectors(i),
         Instr::Branch(i) => is_vector_loop(i),
         Instr::Vector(_) => false,
     }

@@ -1,0 +1,118 @@
+//! Special registers, barriers, and what scalar instructions do to vector registers: rows of 32-bit codes.
+
+ghost use Rattle.std.specs.Prelude.{ℕ, IsTrue, ◌≢◌};
+ghost use Rattle.hm_isa.specs.Keeps.{is_system_move};
+
+use crate::fields::{Below, QRegister, Register};
+
+/// A special register that is read.
+#[derive(Clone, Copy, PartialEq, Eq, Debug)]
+pub enum ReadName {
+    Apsr,
+    Ipsr,
+    Msp,
+    Primask,
+    Control,
+}
+
+/// `mrs rd,NAME`.
+#[derive(Clone, Copy, PartialEq, Eq, Debug)]
+pub struct Mrs {
+    pub name: ReadName,
+    pub d: Register,
+    pub ghost not_sp: { d.value ≢ 13 },
+    pub ghost not_pc: { d.value ≢ 15 },
+}
+
+/// A special register that is written.
+#[derive(Clone, Copy, PartialEq, Eq, Debug)]
+pub enum WrittenName {
+    Apsr,
+    Msp,
+    Primask,
+}
+
+/// `msr NAME,rn`.
+#[derive(Clone, Copy, PartialEq, Eq, Debug)]
+pub struct Msr {
+    pub name: WrittenName,
+    pub n: Register,
+    pub ghost not_sp: { n.value ≢ 13 },
+    pub ghost not_pc: { n.value ≢ 15 },
+}
+
+/// A special register, read or written: DDI0553, "MRS" and "MSR (register)", encodings T1.
+#[derive(Clone, Copy, PartialEq, Eq, Debug)]
+pub enum T18 {
+    Read(Mrs),
+    Write(Msr),
+}
+
+/// A barrier, in the order of the codes.
+#[derive(Clone, Copy, PartialEq, Eq, Debug)]
+pub enum BarrierName {
+    Dsb,
+    Dmb,
+    Isb,
+}
+
+/// `dsb`, `dmb`, `isb #o`.
+#[derive(Clone, Copy, PartialEq, Eq, Debug)]
+pub struct Barrier {
+    pub name: BarrierName,
+    pub o: Below<16>,
+}
+
+/// An instruction that does nothing: DDI0553, "NOP", encoding T2, and "DSB", "DMB" and "ISB", encodings T1.
+#[derive(Clone, Copy, PartialEq, Eq, Debug)]
+pub enum T19 {
+    /// `nop.w`
+    Nop,
+    Barrier(Barrier),
+}
+
+/// The operation of the row T21.
+#[derive(Clone, Copy, PartialEq, Eq, Debug)]
+pub enum SystemMoveName {
+    /// `vmrs rt,fpscr`, and with 15 as `t` `vmrs apsr_nzcv,fpscr`
+    ReadFpscr,
+    /// `vmrs rt,vpr`
+    ReadVpr,
+    /// `vmrs rt,p0`
+    ReadP0,
+    /// `vmsr fpscr,rt`
+    WriteFpscr,
+    /// `vmsr vpr,rt`
+    WriteVpr,
+    /// `vmsr p0,rt`
+    WriteP0,
+}
+
+/// A move between a core register and FPSCR, VPR or its P0: DDI0553, "VMRS" and "VMSR", encodings T1.
+#[derive(Clone, Copy, PartialEq, Eq, Debug)]
+pub struct T21 {
+    pub name: SystemMoveName,
+    pub t: Register,
+    pub ghost rules: { IsTrue (is_system_move name t.value) },
+}
+
+/// The operation of the row T22.
+#[derive(Clone, Copy, PartialEq, Eq, Debug)]
+pub enum LaneMoveName {
+    /// `vmov.32 qd[x],rt`
+    ToLane,
+    /// `vmov.32 rt,qd[x]`
+    FromLane,
+}
+
+/// A move between a core register and word `x` of a vector register: DDI0553, "VMOV (general-purpose register to vector lane)" and
+/// "VMOV (vector lane to general-purpose register)", encodings T1.
+#[derive(Clone, Copy, PartialEq, Eq, Debug)]
+pub struct T22 {
+    pub name: LaneMoveName,
+    pub x: Below<4>,
+    pub q: QRegister,
+    pub t: Register,
+    pub ghost not_sp: { t.value ≢ 13 },
+    pub ghost not_pc: { t.value ≢ 15 },
+}

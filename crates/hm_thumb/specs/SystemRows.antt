@@ -1,0 +1,72 @@
+-- What moves of special registers and scalar instructions on vector registers do.
+use Rattle.std.specs.Prelude.{ℕ, ◌+◌, ◌*◌, ◌/◌, ◌%◌, ◌^◌, Bool, cond, nat_eq}
+use Rattle.hm_base.specs.declared.Place.TheVariants.{QWord}
+use Rattle.hm_isa.specs.declared.system.ReadName.{ReadName}
+use Rattle.hm_isa.specs.declared.system.ReadName.TheVariants as read
+use Rattle.hm_isa.specs.declared.system.WrittenName.{WrittenName}
+use Rattle.hm_isa.specs.declared.system.WrittenName.TheVariants as written
+use Rattle.hm_isa.specs.declared.system.T18.{T18}
+use Rattle.hm_isa.specs.declared.system.T18.TheVariants as t18_
+use Rattle.hm_isa.specs.declared.system.SystemMoveName.{SystemMoveName}
+use Rattle.hm_isa.specs.declared.system.SystemMoveName.TheVariants as move
+use Rattle.hm_isa.specs.declared.system.T21.{T21}
+use Rattle.hm_isa.specs.declared.system.LaneMoveName.{LaneMoveName}
+use Rattle.hm_isa.specs.declared.system.LaneMoveName.TheVariants as lane
+use Rattle.hm_isa.specs.declared.system.T22.{T22}
+use Rattle.hm_regs.specs.Place.{value_at, with_value}
+use Rattle.hm_regs.specs.declared.Regs.{Regs}
+use Rattle.hm_thumb.specs.Arithmetic.{bit_is_set}
+use Rattle.hm_thumb.specs.RegisterRows.{put, reg}
+
+-- a flag as bit k
+abbrev pub flag_at : ℕ → Bool → ℕ
+flag_at k b = cond b (2 ^ k) 0
+
+-- APSR: N, Z, C, V and Q in bits 31 to 27
+abbrev pub apsr : Regs → ℕ
+apsr r = flag_at 31 r.n + flag_at 30 r.z + flag_at 29 r.c + flag_at 28 r.v + flag_at 27 r.q
+
+-- CONTROL has FPCA in bit 2
+abbrev pub special : ReadName → Regs → ℕ
+special read.Apsr r = apsr r
+special read.Ipsr r = r.ipsr
+special read.Msp r = reg 13 r
+special read.Primask r = flag_at 0 r.primask
+special read.Control r = flag_at 2 r.fpca
+
+-- the four flags of a word
+abbrev pub with_flags : ℕ → Regs → Regs
+with_flags x r = record r { n = bit_is_set x 31; z = bit_is_set x 30; c = bit_is_set x 29; v = bit_is_set x 28 }
+
+abbrev pub with_special : WrittenName → ℕ → Regs → Regs
+with_special written.Apsr x r = record (with_flags x r) { q = bit_is_set x 27 }
+with_special written.Msp x r = put 13 x r
+with_special written.Primask x r = record r { primask = bit_is_set x 0 }
+
+abbrev pub t18 : T18 → Regs → Regs
+t18 (t18_.Read i) r = put i.d.value (special i.name r) r
+t18 (t18_.Write i) r = with_special i.name (reg i.n.value r) r
+
+-- w with the low k bits of x
+abbrev pub with_low : ℕ → ℕ → ℕ → ℕ
+with_low k x w = w / 2 ^ k * 2 ^ k + x % 2 ^ k
+
+-- of FPSCR bits 31 to 27 are written, of VPR bits 23 to 0. FPSCR is read to 15 as flags
+abbrev pub system_move : SystemMoveName → ℕ → Regs → Regs
+system_move move.ReadFpscr t r = cond (nat_eq t 15) (with_flags r.fpscr r) (put t r.fpscr r)
+system_move move.ReadVpr t r = put t r.vpr r
+system_move move.ReadP0 t r = put t (r.vpr % 2 ^ 16) r
+system_move move.WriteFpscr t r = record r { fpscr = with_low 27 r.fpscr (reg t r) }
+system_move move.WriteVpr t r = record r { vpr = with_low 24 (reg t r) r.vpr }
+system_move move.WriteP0 t r = record r { vpr = with_low 16 (reg t r) r.vpr }
+
+abbrev pub t21 : T21 → Regs → Regs
+t21 i r = system_move i.name i.t.value r
+
+-- word k of the vector registers
+abbrev pub lane_move : LaneMoveName → ℕ → ℕ → Regs → Regs
+lane_move lane.ToLane k t r = with_value (QWord k) (reg t r) r
+lane_move lane.FromLane k t r = put t (value_at (QWord k) r) r
+
+abbrev pub t22 : T22 → Regs → Regs
+t22 i r = lane_move i.name (4 * i.q.value + i.x.value) i.t.value r
