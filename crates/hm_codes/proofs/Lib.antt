@@ -1,5 +1,6 @@
 pub mod Scalars
 pub mod Branches
+pub mod DataRows
 pub mod Wides
 pub mod JumpRows
 pub mod ArithRows

@@ -14,6 +14,7 @@ use Rattle.hm_codes.proofs.Scalars.{row_s1, row_s2, row_s3, row_s4, row_s5, row_
 use Rattle.hm_codes.proofs.Wides.{coded_t12, spared_t13, row_t14, row_t15, row_t13}
 use Rattle.hm_codes.proofs.ArithRows.{row_t8, row_t9, row_t10, coded_t11, row_t20}
 use Rattle.hm_codes.proofs.SystemRows.{coded_t18, coded_t19, row_t21, row_t22}
+use Rattle.hm_codes.proofs.DataRows.{row_t1, row_t2, row_t3, row_t4, row_t5, row_t6, row_t7}
 use Rattle.hm_codes.proofs.Branches.{row_s23, row_s24, coded_s25}
 use Rattle.hm_codes.proofs.JumpRows.{coded_t16, row_t17, coded_t23}
 
@@ -50,6 +51,13 @@ coded_scalar =
     coded (named row_s19) ▹
     coded (varied row_s20) ▹
     coded spared_s21 ▹
+    coded (named row_t1) ▹
+    coded (named row_t2) ▹
+    coded (named row_t3) ▹
+    coded (named row_t4) ▹
+    coded (named row_t5) ▹
+    coded (named row_t6) ▹
+    coded (plain row_t7) ▹
     coded (named row_t8) ▹
     coded (named row_t9) ▹
     coded (split row_t10) ▹
@@ -86,6 +94,13 @@ coded_scalar =
       | scalar.S19 r ↦ refl
       | scalar.S20 r ↦ refl
       | scalar.S21 r ↦ refl
+      | scalar.T1 r ↦ rejoined _
+      | scalar.T2 r ↦ rejoined _
+      | scalar.T3 r ↦ rejoined _
+      | scalar.T4 r ↦ rejoined _
+      | scalar.T5 r ↦ rejoined _
+      | scalar.T6 r ↦ rejoined _
+      | scalar.T7 r ↦ rejoined _
       | scalar.T8 r ↦ rejoined _
       | scalar.T9 r ↦ rejoined _
       | scalar.T10 r ↦ rejoined _

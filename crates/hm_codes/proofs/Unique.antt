@@ -21,6 +21,7 @@ use Rattle.hm_codes.proofs.Scalars.{row_s1, row_s2, row_s3, row_s4, row_s5, row_
 use Rattle.hm_codes.proofs.Wides.{coded_t12, spared_t13, row_t14, row_t15, row_t13}
 use Rattle.hm_codes.proofs.ArithRows.{row_t8, row_t9, row_t10, coded_t11, row_t20}
 use Rattle.hm_codes.proofs.SystemRows.{coded_t18, coded_t19, row_t21, row_t22}
+use Rattle.hm_codes.proofs.DataRows.{row_t1, row_t2, row_t3, row_t4, row_t5, row_t6, row_t7}
 use Rattle.hm_codes.proofs.Branches.{row_s23, row_s24, coded_s25}
 use Rattle.hm_codes.proofs.JumpRows.{coded_t16, row_t17, coded_t23}
 use Rattle.hm_codes.proofs.Vectors.{coded_vector}
@@ -75,6 +76,13 @@ length_scalar (scalar.S18 r) = short_length _ (short_code (coded (plain row_s18)
 length_scalar (scalar.S19 r) = short_length _ (short_code (coded (named row_s19)) refl refl r)
 length_scalar (scalar.S20 r) = short_length _ (short_code (coded (varied row_s20)) refl refl r)
 length_scalar (scalar.S21 r) = short_length _ (short_code (coded spared_s21) refl refl r)
+length_scalar (scalar.T1 r) = long_length _ (long_code (coded (named row_t1)) refl refl r)
+length_scalar (scalar.T2 r) = long_length _ (long_code (coded (named row_t2)) refl refl r)
+length_scalar (scalar.T3 r) = long_length _ (long_code (coded (named row_t3)) refl refl r)
+length_scalar (scalar.T4 r) = long_length _ (long_code (coded (named row_t4)) refl refl r)
+length_scalar (scalar.T5 r) = long_length _ (long_code (coded (named row_t5)) refl refl r)
+length_scalar (scalar.T6 r) = long_length _ (long_code (coded (named row_t6)) refl refl r)
+length_scalar (scalar.T7 r) = long_length _ (long_code (coded (plain row_t7)) refl refl r)
 length_scalar (scalar.T8 r) = long_length _ (long_code (coded (named row_t8)) refl refl r)
 length_scalar (scalar.T9 r) = long_length _ (long_code (coded (named row_t9)) refl refl r)
 length_scalar (scalar.T10 r) = long_length _ (long_code (coded (split row_t10)) refl refl r)

@@ -1,2 +1,3 @@
 pub mod Refused
+pub mod RefusedData
 pub mod Halves

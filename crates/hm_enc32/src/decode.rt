@@ -17,6 +17,7 @@ ghost use Rattle.hm_isa.specs.Code.{wide_access_base, pair_base, code_offset, co
 use crate::lists::decode_t14;
 use crate::arith::find_arith;
 use crate::system::find_system;
+use crate::decode_data::find_data;
 use hm_base::bits;
 use hm_isa::{
     AccessName, Below, Indexed, Literal, Offset, PairName, Scalar, Shifted, StackName, T12, T13,
@@ -300,11 +301,14 @@ fn decode_t15(w: u32) -> Option<T15>
     })
 }
 
-/// The instruction of the rows T8 to T22 whose code is w.
+/// The scalar instruction of two halfwords whose code is w.
 pub fn find_scalar(w: u32) -> Option<Scalar>
     ensures found { IfSome result (λ s. scalar_halves s ≡ two_halves w) }
     ensures none { IfNone result ((s : Scalar) → scalar_halves s ≡ two_halves w → ⊥) }
 {
+    if let Some(s) = find_data(w) {
+        return Some(s);
+    }
     if let Some(s) = find_arith(w) {
         return Some(s);
     }

@@ -6,6 +6,9 @@ ghost use Rattle.hm_isa.specs.Code.{wide_access_base, pair_base, stack_base, cod
 use crate::lists::encode_t14;
 use crate::arith::{encode_t8, encode_t9, encode_t10, encode_t11, encode_t20};
 use crate::system::{encode_t18, encode_t19, encode_t21, encode_t22};
+use crate::encode_data::{
+    encode_t1, encode_t2, encode_t3, encode_t4, encode_t5, encode_t6, encode_t7,
+};
 use hm_isa::{
     AccessName, Indexed, Literal, Offset, PairName, Scalar, Shifted, StackName, T12, T13, T15,
 };
@@ -107,12 +110,19 @@ fn encode_t15(r: &T15) -> u32
     of_stack(r.name) + (r.v.get() << 12) + (r.k.get() << 1)
 }
 
-/// The code of an instruction of the rows T8 to T22.
+/// The code of a scalar instruction of two halfwords.
 pub fn scalar_code(s: &Scalar) -> u32
     requires { length (scalar_halves s.now) ≡ 2 }
     ensures { scalar_halves s.now ≡ two_halves result }
 {
     match s {
+        Scalar::T1(r) => encode_t1(r),
+        Scalar::T2(r) => encode_t2(r),
+        Scalar::T3(r) => encode_t3(r),
+        Scalar::T4(r) => encode_t4(r),
+        Scalar::T5(r) => encode_t5(r),
+        Scalar::T6(r) => encode_t6(r),
+        Scalar::T7(r) => encode_t7(r),
         Scalar::T8(r) => encode_t8(r),
         Scalar::T9(r) => encode_t9(r),
         Scalar::T10(r) => encode_t10(r),

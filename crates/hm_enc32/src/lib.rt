@@ -7,10 +7,13 @@ ghost use Rattle.hm_enc32.specs.Table.{IsWide, HasWord};
 
 mod arith;
 mod decode;
+mod decode_data;
+mod decode_fields;
 mod encode;
 mod jumps;
 mod lists;
 mod system;
+mod encode_data;
 
 use decode::find_scalar;
 use encode::scalar_code;
@@ -55,6 +58,8 @@ pub fn encode32(i: &Instr) -> u32
 mod arith_tests;
 #[cfg(test)]
 mod jump_tests;
+#[cfg(test)]
+mod data_tests;
 #[cfg(test)]
 mod system_tests;
 #[cfg(test)]

@@ -143,6 +143,7 @@ use Rattle.hm_isa.specs.declared.vectors.V22.TheVariants as v22
 use Rattle.hm_isa.specs.declared.vectors.ExtremeName.{ExtremeName}
 use Rattle.hm_isa.specs.declared.vectors.ExtremeName.TheVariants as extreme
 use Rattle.hm_isa.specs.declared.vectors.V23.{V23}
+use Rattle.hm_isa.specs.DataCodes.{code_t1, code_t2, code_t3, code_t4, code_t5, code_t6, code_t7}
 use Rattle.hm_isa.specs.declared.Scalar.{Scalar}
 use Rattle.hm_isa.specs.declared.Scalar.TheVariants as scalar
 use Rattle.hm_isa.specs.declared.Branch.{Branch}
@@ -639,6 +640,13 @@ scalar_halves (scalar.S18 r) = one_half (code_s18 r)
 scalar_halves (scalar.S19 r) = one_half (code_s19 r)
 scalar_halves (scalar.S20 r) = one_half (code_s20 r)
 scalar_halves (scalar.S21 r) = one_half (code_s21 r)
+scalar_halves (scalar.T1 r) = two_halves (code_t1 r)
+scalar_halves (scalar.T2 r) = two_halves (code_t2 r)
+scalar_halves (scalar.T3 r) = two_halves (code_t3 r)
+scalar_halves (scalar.T4 r) = two_halves (code_t4 r)
+scalar_halves (scalar.T5 r) = two_halves (code_t5 r)
+scalar_halves (scalar.T6 r) = two_halves (code_t6 r)
+scalar_halves (scalar.T7 r) = two_halves (code_t7 r)
 scalar_halves (scalar.T8 r) = two_halves (code_t8 r)
 scalar_halves (scalar.T9 r) = two_halves (code_t9 r)
 scalar_halves (scalar.T10 r) = two_halves (code_t10 r)

@@ -5,6 +5,7 @@ ghost use Rattle.std.specs.Prelude.{◌≡◌, ◌*◌, length};
 ghost use Rattle.hm_isa.specs.Code.{branch_halves, halfwords, scalar_halves};
 
 mod arith;
+mod data;
 mod fields;
 mod jumps;
 mod narrow;
@@ -26,6 +27,17 @@ pub use arith::T10;
 pub use arith::T11;
 pub use arith::T20;
 pub use arith::WideShiftName;
+pub use data::ExtractName;
+pub use data::DataName;
+pub use data::HalfName;
+pub use data::SaturateName;
+pub use data::T1;
+pub use data::T2;
+pub use data::T3;
+pub use data::T4;
+pub use data::T5;
+pub use data::T6;
+pub use data::T7;
 pub use fields::Below;
 pub use fields::Bit;
 pub use fields::Byte;
@@ -207,6 +219,20 @@ pub enum Scalar {
     S20(S20),
     /// `it`
     S21(S21),
+    /// `and.w rd,rn,#c` and so on
+    T1(T1),
+    /// `and.w rd,rn,rm,lsl #k` and so on
+    T2(T2),
+    /// `addw`, `subw`
+    T3(T3),
+    /// `movw`, `movt`
+    T4(T4),
+    /// `ssat`, `usat`
+    T5(T5),
+    /// `sbfx`, `ubfx`
+    T6(T6),
+    /// `bfi`, `bfc`
+    T7(T7),
     /// `lsl.w`, `lsr.w`, `asr.w`, `ror.w rd,rn,rm`
     T8(T8),
     /// `sxth.w`, `uxth.w`, `sxtb.w`, `uxtb.w`
@@ -323,8 +349,9 @@ fn scalar_width(i: &Scalar) -> u32
     ensures { result ≡ 2 * length (scalar_halves i.now) }
 {
     match i {
-        Scalar::T8(_) | Scalar::T9(_) | Scalar::T10(_) | Scalar::T11(_) => 4,
-        Scalar::T12(_) | Scalar::T13(_) | Scalar::T14(_) | Scalar::T15(_) => 4,
+        Scalar::T1(_) | Scalar::T2(_) | Scalar::T3(_) | Scalar::T4(_) | Scalar::T5(_) => 4,
+        Scalar::T6(_) | Scalar::T7(_) | Scalar::T8(_) | Scalar::T9(_) | Scalar::T10(_) => 4,
+        Scalar::T11(_) | Scalar::T12(_) | Scalar::T13(_) | Scalar::T14(_) | Scalar::T15(_) => 4,
         Scalar::T18(_) | Scalar::T19(_) | Scalar::T20(_) | Scalar::T21(_) | Scalar::T22(_) => 4,
         _ => 2,
     }

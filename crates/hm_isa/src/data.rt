@@ -1,0 +1,151 @@
+//! The rows of 32-bit codes that combine a register with a constant or with another register.
+
+ghost use Rattle.std.specs.Prelude.{ℕ, IsTrue};
+ghost use Rattle.hm_isa.specs.DataKeeps.{is_bit_field, is_cleared_field, is_constant_row, is_saturated, is_shifted_row, is_wide_sum};
+ghost use Rattle.hm_isa.specs.Keeps.{is_general};
+
+use crate::fields::{Below, Bit, Byte, Register};
+use crate::narrow::SumName;
+
+/// The operation of the rows T1 and T2.
+#[derive(Clone, Copy, PartialEq, Eq, Debug)]
+pub enum DataName {
+    /// `and`, and `tst`
+    And,
+    /// `bic`
+    Bic,
+    /// `orr`, and `mov`
+    Orr,
+    /// `orn`, and `mvn`
+    Orn,
+    /// `eor`, and `teq`
+    Eor,
+    /// `add`, and `cmn`
+    Add,
+    /// `adc`
+    Adc,
+    /// `sbc`
+    Sbc,
+    /// `sub`, and `cmp`
+    Sub,
+    /// `rsb`
+    Rsb,
+}
+
+/// `and.w rd,rn,#c` and so on, where `i`, `i3` and `i8` stand for the constant: DDI0553, "Data processing (modified immediate)".
+///
+/// With `s` and `d` 15 it is `tst.w`, `teq.w`, `cmn.w` or `cmp.w rn,#c`, and with `n` 15 it is `mov` or `mvn`.
+#[derive(Clone, Copy, PartialEq, Eq, Debug)]
+pub struct T1 {
+    pub name: DataName,
+    /// Whether the flags tell the result.
+    pub s: Bit,
+    pub n: Register,
+    pub d: Register,
+    pub i: Bit,
+    pub i3: Below<8>,
+    pub i8: Byte,
+    pub ghost rules: { IsTrue (is_constant_row name s.value n.value d.value i.value i3.value i8.value) },
+}
+
+/// `and.w rd,rn,rm,lsl #k` and so on, where `i3` and `i2` make k: DDI0553, "Data processing (shifted register)".
+///
+/// With `s` and `d` 15 it is `tst.w`, `teq.w`, `cmn.w` or `cmp.w rn,rm`, and with `n` 15 it is `mvn`, or `mov.w` and the shifts.
+#[derive(Clone, Copy, PartialEq, Eq, Debug)]
+pub struct T2 {
+    pub name: DataName,
+    /// Whether the flags tell the result.
+    pub s: Bit,
+    pub n: Register,
+    pub d: Register,
+    pub i3: Below<8>,
+    pub i2: Below<4>,
+    /// How to shift: 0 to 3 are `lsl`, `lsr`, `asr` and `ror`.
+    pub ty: Below<4>,
+    pub m: Register,
+    pub ghost rules: { IsTrue (is_shifted_row name s.value n.value d.value i3.value i2.value ty.value m.value) },
+}
+
+/// `addw`, `subw rd,rn,#i12`, where `i`, `i3` and `i8` make the number: DDI0553, "ADD (immediate)", encoding T4, "SUB (immediate)",
+/// encoding T4, and "ADR", encodings T2 and T3.
+#[derive(Clone, Copy, PartialEq, Eq, Debug)]
+pub struct T3 {
+    pub name: SumName,
+    pub n: Register,
+    pub d: Register,
+    pub i: Bit,
+    pub i3: Below<8>,
+    pub i8: Byte,
+    pub ghost rules: { IsTrue (is_wide_sum n.value d.value) },
+}
+
+/// The operation of the row T4.
+#[derive(Clone, Copy, PartialEq, Eq, Debug)]
+pub enum HalfName {
+    Movw,
+    Movt,
+}
+
+/// `movw`, `movt rd,#i16`, where `i4`, `i`, `i3` and `i8` make the number: DDI0553, "MOV (immediate)", encoding T3, and "MOVT".
+#[derive(Clone, Copy, PartialEq, Eq, Debug)]
+pub struct T4 {
+    pub name: HalfName,
+    pub d: Register,
+    pub i4: Below<16>,
+    pub i: Bit,
+    pub i3: Below<8>,
+    pub i8: Byte,
+    pub ghost rules: { IsTrue (is_general d.value) },
+}
+
+/// The operation of the row T5.
+#[derive(Clone, Copy, PartialEq, Eq, Debug)]
+pub enum SaturateName {
+    Ssat,
+    Usat,
+}
+
+/// `ssat rd,#s+1,rn,lsl #k`, `usat rd,#s,rn,lsl #k` and so on, where `i3` and `i2` make k: DDI0553, "SSAT" and "USAT".
+#[derive(Clone, Copy, PartialEq, Eq, Debug)]
+pub struct T5 {
+    pub name: SaturateName,
+    /// How to shift: 0 is `lsl`, 1 is `asr`.
+    pub sh: Bit,
+    pub n: Register,
+    pub d: Register,
+    pub i3: Below<8>,
+    pub i2: Below<4>,
+    pub s: Below<32>,
+    pub ghost rules: { IsTrue (is_saturated sh.value n.value d.value i3.value i2.value) },
+}
+
+/// The operation of the row T6.
+#[derive(Clone, Copy, PartialEq, Eq, Debug)]
+pub enum ExtractName {
+    Sbfx,
+    Ubfx,
+}
+
+/// `sbfx`, `ubfx rd,rn,#lsb,#w+1`, where `i3` and `i2` make lsb: DDI0553, "SBFX" and "UBFX".
+#[derive(Clone, Copy, PartialEq, Eq, Debug)]
+pub struct T6 {
+    pub name: ExtractName,
+    pub n: Register,
+    pub d: Register,
+    pub i3: Below<8>,
+    pub i2: Below<4>,
+    pub w: Below<32>,
+    pub ghost rules: { IsTrue (is_bit_field n.value d.value i3.value i2.value w.value) },
+}
+
+/// `bfi rd,rn,#lsb,#width`, and with `n` 15 `bfc rd,#lsb,#width`, where `i3` and `i2` make lsb and `e` is the highest bit of the
+/// field: DDI0553, "BFI" and "BFC".
+#[derive(Clone, Copy, PartialEq, Eq, Debug)]
+pub struct T7 {
+    pub n: Register,
+    pub d: Register,
+    pub i3: Below<8>,
+    pub i2: Below<4>,
+    pub e: Below<32>,
+    pub ghost rules: { IsTrue (is_cleared_field n.value d.value i3.value i2.value e.value) },
+}

@@ -1,0 +1,130 @@
+//! The rows T3 to T7: longer constants, saturation, and fields of bits.
+
+ghost use Rattle.std.specs.Prelude.{◌≡◌, ◌≤◌, ◌<◌, ◌+◌, ◌-◌, ◌^◌};
+ghost use Rattle.hm_base.specs.Bits.{put_field};
+ghost use Rattle.hm_thumb.specs.DataRows.{bits_with, half_put, put_saturated, saturated, t3, t4, t5, t6, t7};
+
+use crate::data::first;
+use crate::seconds::{imm_shift_c, imm5, imm12};
+use crate::sums::sum_of;
+use hm_base::{Place, bits};
+use hm_isa::{ExtractName, HalfName, SaturateName, T3, T4, T5, T6, T7};
+use hm_regs::Regs;
+use hm_thumb::{base_of, sign_extended};
+
+/// `addw`, `subw rd,rn,#i12`
+pub fn add(i: &T3, regs: &mut Regs)
+    ensures regs { regs.new ≡ t3 i.now regs.old }
+{
+    let x = base_of(i.n.get(), regs);
+    let y = imm12(i.i.get(), i.i3.get(), i.i8.get());
+    regs.set(Place::R(i.d.get() as u8), sum_of(i.name, x, y).result);
+}
+
+/// A halfword as a word, or in the high half of another.
+fn half_put(name: HalfName, x: u32, old: u32) -> u32
+    requires { x < 2 ^ 16 }
+    ensures value { result ≡ half_put name x old }
+{
+    match name {
+        HalfName::Movw => x,
+        HalfName::Movt => (x << 16) + old % 0x1_0000,
+    }
+}
+
+/// `movw`, `movt rd,#i16`
+pub fn move_half(i: &T4, regs: &mut Regs)
+    ensures regs { regs.new ≡ t4 i.now regs.old }
+{
+    let d = Place::R(i.d.get() as u8);
+    let x = (i.i4.get() << 12) + imm12(i.i.get(), i.i3.get(), i.i8.get());
+    regs.set(d, half_put(i.name, x, regs.get(d)));
+}
+
+/// The nearest number from -2 ^ s to 2 ^ s - 1, or from 0 to 2 ^ s - 1, to a word with its sign.
+fn saturated(name: SaturateName, s: u32, x: u32) -> u32
+    requires { s < 32 }
+    ensures value { result ≡ saturated name s x }
+{
+    let limit = 1u32 << s;
+    if x < 0x8000_0000 {
+        return if x < limit { x } else { limit - 1 };
+    }
+    let least = match name {
+        SaturateName::Ssat => 0xffff_ffff - (limit - 1),
+        SaturateName::Usat => return 0,
+    };
+    if x < least { least } else { x }
+}
+
+/// `ssat rd,#s+1,rn`, `usat rd,#s,rn`
+pub fn saturate(i: &T5, regs: &mut Regs)
+    ensures regs { regs.new ≡ t5 i.now regs.old }
+{
+    let n = regs.get(Place::R(i.n.get() as u8));
+    let x = imm_shift_c(2 * i.sh.get(), imm5(i.i3.get(), i.i2.get()), n, regs.c).result;
+    let y = saturated(i.name, i.s.get(), x);
+    put_saturated(i.d.get(), y, x, regs);
+}
+
+/// Puts the nearest number to `x` into register `d`; where it is another one, Q tells it.
+fn put_saturated(d: u32, y: u32, x: u32, regs: &mut Regs)
+    requires { d ≤ 14 }
+    ensures regs { regs.new ≡ put_saturated d y x regs.old }
+{
+    regs.set(Place::R(d as u8), y);
+    regs.q = regs.q || y != x;
+}
+
+/// So many bits with their sign or with zeros.
+fn bits_with(name: ExtractName, width: u32, x: u32) -> u32
+    requires some { 1 ≤ width }
+    requires few { width ≤ 32 }
+    requires below { x < 2 ^ width }
+    ensures value { result ≡ bits_with name width x }
+{
+    match name {
+        ExtractName::Sbfx => {
+            if width == 32 {
+                x
+            } else {
+                sign_extended(width, x)
+            }
+        }
+        ExtractName::Ubfx => x,
+    }
+}
+
+/// `sbfx`, `ubfx rd,rn,#lsb,#w+1`
+pub fn extract(i: &T6, regs: &mut Regs)
+    ensures regs { regs.new ≡ t6 i.now regs.old }
+{
+    let lsb = imm5(i.i3.get(), i.i2.get());
+    let w = i.w.get();
+    let x = bits(regs.get(Place::R(i.n.get() as u8)), lsb + w, lsb);
+    regs.set(Place::R(i.d.get() as u8), bits_with(i.name, w + 1, x));
+}
+
+/// A word whose `width` bits from bit `lsb` on are the lowest ones of another.
+#[tactic(auto, unfolding(hm_base::specs::Bits::put_field))]
+fn inserted(lsb: u32, width: u32, x: u32, word: u32) -> u32
+    requires some { 1 ≤ width }
+    requires top { lsb + width ≤ 32 }
+    ensures value { result ≡ put_field lsb width x word }
+{
+    let high = (word as u64 >> (lsb + width)) << (lsb + width);
+    let middle = (x as u64 % (1 << width)) << lsb;
+    let low = word as u64 % (1 << lsb);
+    (high + middle + low) as u32
+}
+
+/// `bfi rd,rn,#lsb,#width`, `bfc rd,#lsb,#width`
+pub fn insert(i: &T7, regs: &mut Regs)
+    ensures regs { regs.new ≡ t7 i.now regs.old }
+{
+    let lsb = imm5(i.i3.get(), i.i2.get());
+    let d = Place::R(i.d.get() as u8);
+    let x = first(i.n.get(), regs);
+    let word = regs.get(d);
+    regs.set(d, inserted(lsb, i.e.get() + 1 - lsb, x, word));
+}

@@ -1,0 +1,95 @@
+//! The rows T1 and T2: `and` to `rsb` with a constant or a shifted register.
+
+ghost use Rattle.std.specs.Prelude.{◌≡◌, ◌<◌};
+ghost use Rattle.hm_thumb.specs.DataRows.{data_row, first, put_bits, put_data_sum, put_if, t1, t2};
+
+use crate::seconds::{expand_imm_c, imm_shift_c, imm5, imm12};
+use hm_base::Place;
+use hm_isa::{DataName, T1, T2};
+use hm_regs::Regs;
+use hm_thumb::{Shifted, Sum, add_with_carry, set_nzc, set_nzcv};
+
+/// A register as the first operand, or 0 where there is none.
+pub fn first(n: u32, regs: &Regs) -> u32
+    requires { n < 16 }
+    ensures value { result ≡ first n regs.now }
+{
+    if n == 15 {
+        0
+    } else {
+        regs.get(Place::R(n as u8))
+    }
+}
+
+/// Puts a result into register `d`, if there is one.
+fn put_if(d: u32, x: u32, regs: &mut Regs)
+    requires { d < 16 }
+    ensures regs { regs.new ≡ put_if d x regs.old }
+{
+    if d != 15 {
+        regs.set(Place::R(d as u8), x);
+    }
+}
+
+/// Puts bits into register `d`; with `s` N, Z and C tell them.
+fn put_bits(s: u32, d: u32, x: u32, carry: bool, regs: &mut Regs)
+    requires { d < 16 }
+    ensures regs { regs.new ≡ put_bits s d x carry regs.old }
+{
+    put_if(d, x, regs);
+    if s == 1 {
+        set_nzc(regs, Shifted { result: x, carry });
+    }
+}
+
+/// Puts a sum into register `d`; with `s` the flags tell it.
+fn put_data_sum(s: u32, d: u32, x: Sum, regs: &mut Regs)
+    requires { d < 16 }
+    ensures regs { regs.new ≡ put_data_sum s d x regs.old }
+{
+    put_if(d, x.result, regs);
+    if s == 1 {
+        set_nzcv(regs, x);
+    }
+}
+
+/// Does an operation on two operands. The second has the carry for C where the result is no sum.
+fn operate(name: DataName, s: u32, d: u32, x: u32, second: Shifted, regs: &mut Regs)
+    requires { d < 16 }
+    ensures regs { regs.new ≡ data_row name s d x second regs.old }
+{
+    let c = regs.c;
+    let y = second.result;
+    let out = second.carry;
+    match name {
+        DataName::And => put_bits(s, d, x & y, out, regs),
+        DataName::Bic => put_bits(s, d, x & !y, out, regs),
+        DataName::Orr => put_bits(s, d, x | y, out, regs),
+        DataName::Orn => put_bits(s, d, x | !y, out, regs),
+        DataName::Eor => put_bits(s, d, x ^ y, out, regs),
+        DataName::Add => put_data_sum(s, d, add_with_carry(x, y, false), regs),
+        DataName::Adc => put_data_sum(s, d, add_with_carry(x, y, c), regs),
+        DataName::Sbc => put_data_sum(s, d, add_with_carry(x, !y, c), regs),
+        DataName::Sub => put_data_sum(s, d, add_with_carry(x, !y, true), regs),
+        DataName::Rsb => put_data_sum(s, d, add_with_carry(!x, y, true), regs),
+    }
+}
+
+/// `and.w rd,rn,#c` and so on
+pub fn with_constant(i: &T1, regs: &mut Regs)
+    ensures regs { regs.new ≡ t1 i.now regs.old }
+{
+    let x = first(i.n.get(), regs);
+    let y = expand_imm_c(imm12(i.i.get(), i.i3.get(), i.i8.get()), regs.c);
+    operate(i.name, i.s.get(), i.d.get(), x, y, regs);
+}
+
+/// `and.w rd,rn,rm,lsl #k` and so on
+pub fn with_register(i: &T2, regs: &mut Regs)
+    ensures regs { regs.new ≡ t2 i.now regs.old }
+{
+    let x = first(i.n.get(), regs);
+    let m = regs.get(Place::R(i.m.get() as u8));
+    let y = imm_shift_c(i.ty.get(), imm5(i.i3.get(), i.i2.get()), m, regs.c);
+    operate(i.name, i.s.get(), i.d.get(), x, y, regs);
+}

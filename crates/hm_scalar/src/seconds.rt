@@ -1,0 +1,85 @@
+//! The second operands of the rows T1, T2 and T5: constants, and registers that are shifted.
+
+ghost use Rattle.std.specs.Prelude.{◌≡◌, ◌*◌, ◌<◌};
+ghost use Rattle.hm_thumb.specs.DataRows.{expand_imm_c, imm5, imm12, imm_shift_c, repeats, rrx_c};
+
+use crate::moves::amount;
+use hm_isa::ShiftName;
+use hm_thumb::{ShiftType, Shifted, shift_c};
+
+/// The bits `i`, `i3` and `i8` one behind another.
+pub fn imm12(i: u32, i3: u32, byte: u32) -> u32
+    requires i { i < 2 }
+    requires i3 { i3 < 8 }
+    requires byte { byte < 256 }
+    ensures value { result ≡ imm12 i i3 byte }
+    ensures below { result < 4096 }
+{
+    (i << 11) + (i3 << 8) + byte
+}
+
+/// The bits `i3` and `i2` one behind another.
+pub fn imm5(i3: u32, i2: u32) -> u32
+    requires i3 { i3 < 8 }
+    requires i2 { i2 < 4 }
+    ensures value { result ≡ imm5 i3 i2 }
+    ensures below { result < 32 }
+{
+    (i3 << 2) + i2
+}
+
+/// A byte at one, two or all places of a word.
+fn repeated(byte: u32, k: u32) -> u32
+    requires { byte < 256 }
+    ensures value { result ≡ byte * repeats k }
+{
+    match k {
+        0 => byte,
+        1 => byte * 0x0001_0001,
+        2 => byte * 0x0100_0100,
+        _ => byte * 0x0101_0101,
+    }
+}
+
+/// The word that twelve bits stand for, and the carry: bit 31 of a byte that is rotated, or the one given.
+pub fn expand_imm_c(x: u32, carry: bool) -> Shifted
+    requires { x < 4096 }
+    ensures value { result ≡ expand_imm_c x carry }
+{
+    if x < 0x400 {
+        return Shifted {
+            result: repeated(x % 0x100, x / 0x100),
+            carry,
+        };
+    }
+    shift_c(ShiftType::Ror, 0x80 + x % 0x80, x / 0x80, carry)
+}
+
+/// A word shifted right by one bit, with the carry in front, and the bit that was shifted out.
+fn rrx_c(x: u32, carry: bool) -> Shifted
+    ensures value { result ≡ rrx_c x carry }
+{
+    let front = if carry { 0x8000_0000 } else { 0 };
+    Shifted {
+        result: x / 2 + front,
+        carry: x % 2 == 1,
+    }
+}
+
+/// A word shifted as the number of a type and an amount say, and the carry.
+pub fn imm_shift_c(ty: u32, k: u32, x: u32, carry: bool) -> Shifted
+    ensures value { result ≡ imm_shift_c ty k x carry }
+{
+    match ty {
+        0 => shift_c(ShiftType::Lsl, x, amount(ShiftName::Lsl, k), carry),
+        1 => shift_c(ShiftType::Lsr, x, amount(ShiftName::Lsr, k), carry),
+        2 => shift_c(ShiftType::Asr, x, amount(ShiftName::Asr, k), carry),
+        _ => {
+            if k == 0 {
+                rrx_c(x, carry)
+            } else {
+                shift_c(ShiftType::Ror, x, k, carry)
+            }
+        }
+    }
+}

@@ -1,0 +1,130 @@
+-- What the rows T1 to T7 do.
+use Rattle.std.specs.Prelude.{ℕ, ◌+◌, ◌-◌, ◌*◌, ◌/◌, ◌%◌, ◌^◌, Bool, true, false, cond, not, ◌||◌, nat_eq, nat_le, nat_lt, bit_and, bit_or, bit_xor, if◌then◌else◌}
+use Rattle.hm_base.specs.Bits.{field, put_field}
+use Rattle.hm_isa.specs.declared.narrow.ShiftName.TheVariants as shift
+use Rattle.hm_isa.specs.declared.data.DataName.{DataName}
+use Rattle.hm_isa.specs.declared.data.DataName.TheVariants as data_
+use Rattle.hm_isa.specs.declared.data.HalfName.{HalfName}
+use Rattle.hm_isa.specs.declared.data.HalfName.TheVariants as half
+use Rattle.hm_isa.specs.declared.data.SaturateName.{SaturateName}
+use Rattle.hm_isa.specs.declared.data.SaturateName.TheVariants as saturate
+use Rattle.hm_isa.specs.declared.data.ExtractName.{ExtractName}
+use Rattle.hm_isa.specs.declared.data.ExtractName.TheVariants as bits
+use Rattle.hm_isa.specs.declared.data.T1.{T1}
+use Rattle.hm_isa.specs.declared.data.T2.{T2}
+use Rattle.hm_isa.specs.declared.data.T3.{T3}
+use Rattle.hm_isa.specs.declared.data.T4.{T4}
+use Rattle.hm_isa.specs.declared.data.T5.{T5}
+use Rattle.hm_isa.specs.declared.data.T6.{T6}
+use Rattle.hm_isa.specs.declared.data.T7.{T7}
+use Rattle.hm_regs.specs.declared.Regs.{Regs}
+use Rattle.hm_thumb.specs.Arithmetic.{negative, inverted, bit_is_set, add_with_carry, ror_c, shift_c, sign_extended}
+use Rattle.hm_thumb.specs.RegisterRows.{reg, base_of, put, with_nzc, with_nzcv, amount, sum_of}
+use Rattle.hm_thumb.specs.declared.arithmetic.Sum.{Sum}
+use Rattle.hm_thumb.specs.declared.arithmetic.Shifted.{Shifted}
+use Rattle.hm_thumb.specs.declared.arithmetic.ShiftType.TheVariants as type
+
+-- THE SECOND OPERAND
+-- the places of a word where a byte stands that is not rotated: the lowest, the first and third, the second and fourth, all four
+abbrev pub repeats : ℕ → ℕ
+repeats k = if nat_eq k 0 then 0x00000001 else (if nat_eq k 1 then 0x00010001 else (if nat_eq k 2 then 0x01000100 else 0x01010101))
+
+-- ThumbExpandImm_C(x, carry), x of imm12 bits
+abbrev pub expand_imm_c : ℕ → Bool → Shifted
+expand_imm_c x carry = if nat_lt x 0x400 then record { result = x % 0x100 * repeats (x / 0x100); carry = carry } else ror_c (0x80 + x % 0x80) (x / 0x80)
+
+-- RRX_C(x, carry)
+abbrev pub rrx_c : ℕ → Bool → Shifted
+rrx_c x carry = record { result = x / 2 + cond carry (2 ^ 31) 0; carry = bit_is_set x 0 }
+
+-- Shift_C(x, type, n, carry) with the type and the number of DecodeImmShift(ty, k)
+abbrev pub imm_shift_c : ℕ → ℕ → ℕ → Bool → Shifted
+imm_shift_c ty k x carry =
+    if nat_eq ty 0 then shift_c type.Lsl x (amount shift.Lsl k) carry
+    else (if nat_eq ty 1 then shift_c type.Lsr x (amount shift.Lsr k) carry
+    else (if nat_eq ty 2 then shift_c type.Asr x (amount shift.Asr k) carry
+    else (if nat_eq k 0 then rrx_c x carry
+    else shift_c type.Ror x k carry)))
+
+-- THE ROWS
+-- the register n, or 0 where there is none
+abbrev pub first : ℕ → Regs → ℕ
+first n r = cond (nat_eq n 15) 0 (reg n r)
+
+-- register d gets a result, if there is one
+abbrev pub put_if : ℕ → ℕ → Regs → Regs
+put_if d x r = cond (nat_eq d 15) r (put d x r)
+
+-- with s the flags tell it, in an IT block too
+abbrev pub put_bits : ℕ → ℕ → ℕ → Bool → Regs → Regs
+put_bits s d x carry r = let t = put_if d x r in cond (nat_eq s 1) (with_nzc (record { result = x; carry = carry }) t) t
+
+abbrev pub put_data_sum : ℕ → ℕ → Sum → Regs → Regs
+put_data_sum s d x r = let t = put_if d x.result r in cond (nat_eq s 1) (with_nzcv x t) t
+
+-- with s, d, the first operand and the second, whose carry is what the flags of bits get
+abbrev pub data_row : DataName → ℕ → ℕ → ℕ → Shifted → Regs → Regs
+data_row data_.And s d x y r = put_bits s d (bit_and x y.result) y.carry r
+data_row data_.Bic s d x y r = put_bits s d (bit_and x (inverted y.result)) y.carry r
+data_row data_.Orr s d x y r = put_bits s d (bit_or x y.result) y.carry r
+data_row data_.Orn s d x y r = put_bits s d (bit_or x (inverted y.result)) y.carry r
+data_row data_.Eor s d x y r = put_bits s d (bit_xor x y.result) y.carry r
+data_row data_.Add s d x y r = put_data_sum s d (add_with_carry x y.result false) r
+data_row data_.Adc s d x y r = put_data_sum s d (add_with_carry x y.result r.c) r
+data_row data_.Sbc s d x y r = put_data_sum s d (add_with_carry x (inverted y.result) r.c) r
+data_row data_.Sub s d x y r = put_data_sum s d (add_with_carry x (inverted y.result) true) r
+data_row data_.Rsb s d x y r = put_data_sum s d (add_with_carry (inverted x) y.result true) r
+
+-- the bits i, i3 and i8 one behind another
+abbrev pub imm12 : ℕ → ℕ → ℕ → ℕ
+imm12 i i3 i8 = i * 2 ^ 11 + i3 * 2 ^ 8 + i8
+
+abbrev pub t1 : T1 → Regs → Regs
+t1 i r = data_row i.name i.s.value i.d.value (first i.n.value r) (expand_imm_c (imm12 i.i.value i.i3.value i.i8.value) r.c) r
+
+-- the bits i3 and i2 one behind another
+abbrev pub imm5 : ℕ → ℕ → ℕ
+imm5 i3 i2 = i3 * 2 ^ 2 + i2
+
+abbrev pub t2 : T2 → Regs → Regs
+t2 i r =
+    data_row i.name i.s.value i.d.value (first i.n.value r) (imm_shift_c i.ty.value (imm5 i.i3.value i.i2.value) (reg i.m.value r) r.c) r
+
+abbrev pub t3 : T3 → Regs → Regs
+t3 i r = put i.d.value (sum_of i.name (base_of i.n.value r) (imm12 i.i.value i.i3.value i.i8.value)).result r
+
+-- the low halfword with zeros above it, or the high halfword
+abbrev pub half_put : HalfName → ℕ → ℕ → ℕ
+half_put half.Movw x old = x
+half_put half.Movt x old = x * 2 ^ 16 + old % 2 ^ 16
+
+abbrev pub t4 : T4 → Regs → Regs
+t4 i r = put i.d.value (half_put i.name (i.i4.value * 2 ^ 12 + imm12 i.i.value i.i3.value i.i8.value) (reg i.d.value r)) r
+
+-- SignedSatQ(SInt(x), s + 1) and UnsignedSatQ(SInt(x), s), as words: the nearest number from -2 ^ s to 2 ^ s - 1, or from 0
+abbrev pub saturated : SaturateName → ℕ → ℕ → ℕ
+saturated saturate.Ssat s x = if negative x then (if nat_lt x (2 ^ 32 - 2 ^ s) then 2 ^ 32 - 2 ^ s else x) else (if nat_lt x (2 ^ s) then x else 2 ^ s - 1)
+saturated saturate.Usat s x = if negative x then 0 else (if nat_lt x (2 ^ s) then x else 2 ^ s - 1)
+
+-- where another number than x is the nearest, Q is set
+abbrev pub put_saturated : ℕ → ℕ → ℕ → Regs → Regs
+put_saturated d y x r = let t = put d y r in record t { q = t.q || not (nat_eq y x) }
+
+abbrev pub t5 : T5 → Regs → Regs
+t5 i r =
+    let x = (imm_shift_c (2 * i.sh.value) (imm5 i.i3.value i.i2.value) (reg i.n.value r) r.c).result in
+    put_saturated i.d.value (saturated i.name i.s.value x) x r
+
+-- so many bits, with their sign or with zeros
+abbrev pub bits_with : ExtractName → ℕ → ℕ → ℕ
+bits_with bits.Sbfx width x = sign_extended width x
+bits_with bits.Ubfx width x = x
+
+abbrev pub t6 : T6 → Regs → Regs
+t6 i r = put i.d.value (bits_with i.name (i.w.value + 1) (field (imm5 i.i3.value i.i2.value) (i.w.value + 1) (reg i.n.value r))) r
+
+-- the bits from lsb to e get the lowest ones of the first operand
+abbrev pub t7 : T7 → Regs → Regs
+t7 i r =
+    let lsb = imm5 i.i3.value i.i2.value in
+    put i.d.value (put_field lsb (i.e.value + 1 - lsb) (first i.n.value r) (reg i.d.value r)) r
