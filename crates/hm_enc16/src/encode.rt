@@ -329,13 +329,15 @@ pub fn scalar_code(s: &Scalar) -> u16
     }
 }
 
-/// The code of a branch.
+/// The code of a branch of the rows S23 to S25.
 pub fn branch_code(b: &Branch) -> u16
+    requires { length (branch_halves b.now) ≡ 1 }
     ensures { branch_halves b.now ≡ result ∷ [] }
 {
     match b {
         Branch::S23(r) => encode_s23(r),
         Branch::S24(r) => encode_s24(r),
         Branch::S25(r) => encode_s25(r),
+        _ => unreachable!(),
     }
 }

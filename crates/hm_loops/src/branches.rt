@@ -1,9 +1,8 @@
 //! `bx`, `blx`, `cbz`, `cbnz`, `b` and `bl`.
 
 ghost use Rattle.std.specs.Prelude.{◌≡◌, ℕ, ◌+◌, ◌%◌, ◌^◌, ◌≤◌, ◌<◌, OnErr};
-ghost use Rattle.hm_thumb.specs.BranchRows.{always, branch_if, conditional, is_taken, link, s23, s24, s25};
+ghost use Rattle.hm_thumb.specs.BranchRows.{alike, always, always_distance, branch_if, conditional, conditional_distance, is_taken, link, linked, s23, s24, s25, t16, wide_always, wide_conditional};
 ghost use Rattle.hm_thumb.specs.Does.{Ends};
-ghost use Rattle.hm_thumb.specs.LoopRows.{alike, always_distance, conditional_distance, linked, t16, wide_always, wide_conditional};
 ghost use Rattle.hm_thumb.specs.RegisterRows.{put};
 ghost use Rattle.hm_thumb.specs.Steps.{ended};
 

@@ -51,3 +51,6 @@ pub fn step(i: &Instr, regs: &mut Regs, mem: &mut Mem) -> Result<Flow, Stop>
         _ => unreachable!(),
     }
 }
+
+#[cfg(test)]
+mod tests;

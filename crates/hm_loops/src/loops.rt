@@ -2,7 +2,7 @@
 
 ghost use Rattle.std.specs.Prelude.{◌≡◌, ℕ, ◌<◌, ◌≤◌, OnErr};
 ghost use Rattle.hm_thumb.specs.Does.{Ends, goes};
-ghost use Rattle.hm_thumb.specs.LoopRows.{again, back, dls, dlstp, elements, enter, has_tail, loop_end_row, put_size, t23, wls, wlstp};
+ghost use Rattle.hm_thumb.specs.LoopRows.{again, back, dls, dlstp, elements, enter, loop_end_row, put_size, t23, wls, wlstp};
 ghost use Rattle.hm_thumb.specs.RegisterRows.{put, reg};
 ghost use Rattle.hm_thumb.specs.Steps.{ended};
 
@@ -67,7 +67,7 @@ fn wlstp(i: &Wlstp, regs: &mut Regs) -> Way
     Way::On
 }
 
-/// `le lr,label`, which knows no tail: a context is to have LTPSIZE 4.
+/// `le lr,label`, which is no end for a loop over elements: a context is to have LTPSIZE 4.
 fn le_lr(v: u32, regs: &mut Regs) -> Result<Way, Fault>
     requires { v < 2048 }
     ensures value { ended result regs.new ≡ loop_end_row LoopEndName.LeLr v regs.old }
@@ -87,7 +87,7 @@ fn le_lr(v: u32, regs: &mut Regs) -> Result<Way, Fault>
     Ok(back(v, regs))
 }
 
-/// How many elements an iteration does.
+/// How much an iteration takes off: the elements of a vector, or one where LTPSIZE says no size.
 fn elements(regs: &Regs) -> u32
     ensures value { result ≡ elements regs.now }
 {

@@ -2,9 +2,8 @@
 
 ghost use Rattle.std.specs.Prelude.{◌≡◌, ℕ, ◌+◌, ◌*◌, ◌%◌, ◌^◌, true};
 ghost use Rattle.hm_mem.specs.Memory.{memory_of};
-ghost use Rattle.hm_thumb.specs.BranchRows.{branch_if};
+ghost use Rattle.hm_thumb.specs.BranchRows.{branch_if, t17, table_width};
 ghost use Rattle.hm_thumb.specs.Does.{Ends};
-ghost use Rattle.hm_thumb.specs.LoopRows.{t17, table_width};
 ghost use Rattle.hm_thumb.specs.RegisterRows.{operand, reg};
 ghost use Rattle.hm_thumb.specs.Steps.{IsDone};
 

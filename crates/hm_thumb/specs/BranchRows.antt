@@ -10,10 +10,20 @@ use Rattle.hm_isa.specs.declared.narrow.S25.{S25}
 use Rattle.hm_isa.specs.declared.narrow.S25.TheVariants as s25_
 use Rattle.hm_isa.specs.declared.narrow.Conditional.{Conditional}
 use Rattle.hm_isa.specs.declared.narrow.Always.{Always}
+use Rattle.hm_isa.specs.declared.jumps.WideConditional.{WideConditional}
+use Rattle.hm_isa.specs.declared.jumps.WideBranchName.{WideBranchName}
+use Rattle.hm_isa.specs.declared.jumps.WideBranchName.TheVariants as wide_branch
+use Rattle.hm_isa.specs.declared.jumps.WideAlways.{WideAlways}
+use Rattle.hm_isa.specs.declared.jumps.T16.{T16}
+use Rattle.hm_isa.specs.declared.jumps.T16.TheVariants as t16_
+use Rattle.hm_isa.specs.declared.jumps.TableName.{TableName}
+use Rattle.hm_isa.specs.declared.jumps.TableName.TheVariants as table
+use Rattle.hm_isa.specs.declared.jumps.T17.{T17}
+use Rattle.hm_mem.specs.declared.Access.TheVariants.{Scalar}
 use Rattle.hm_regs.specs.declared.Regs.{Regs}
 use Rattle.hm_thumb.specs.Arithmetic.{sign_extended}
 use Rattle.hm_thumb.specs.Blocks.{condition_holds}
-use Rattle.hm_thumb.specs.Does.{Does, Ends, goes}
+use Rattle.hm_thumb.specs.Does.{Does, Ends, goes, loads}
 use Rattle.hm_thumb.specs.RegisterRows.{reg, operand, put, bx_write, blx_write}
 use Rattle.hm_thumb.specs.declared.Way.TheVariants as way
 
@@ -48,3 +58,46 @@ always i r = branch_if true (sign_extended 12 (2 * i.i.value)) r
 abbrev pub s25 : S25 → Regs → Does
 s25 (s25_.Conditional i) r = conditional i r
 s25 (s25_.Always i) r = always i r
+
+-- WIDE BRANCHES
+-- s:j2:j1:i6:i11:0, so many bytes
+abbrev pub conditional_distance : WideConditional → ℕ
+conditional_distance i =
+    sign_extended 21 (i.s.value * 2 ^ 20 + i.j2.value * 2 ^ 19 + i.j1.value * 2 ^ 18 + i.i6.value * 2 ^ 12 + i.i11.value * 2)
+
+abbrev pub wide_conditional : WideConditional → Regs → Does
+wide_conditional i r = branch_if (condition_holds i.c.value r) (conditional_distance i) r
+
+-- NOT(j EOR s), of bits
+abbrev pub alike : ℕ → ℕ → ℕ
+alike j s = cond (nat_eq j s) 1 0
+
+-- s:I1:I2:i10:i11:0, so many bytes
+abbrev pub always_distance : WideAlways → ℕ
+always_distance i =
+    sign_extended 25
+    (i.s.value * 2 ^ 24 + alike i.j1.value i.s.value * 2 ^ 23 + alike i.j2.value i.s.value * 2 ^ 22 + i.i10.value * 2 ^ 12 + i.i11.value * 2)
+
+-- a call leaves the address of the next instruction in lr
+abbrev pub linked : WideBranchName → Regs → Regs
+linked wide_branch.B r = r
+linked wide_branch.Bl r = put 14 (link ((r.pc + 4) % 2 ^ 32)) r
+
+abbrev pub wide_always : WideAlways → Regs → Does
+wide_always i r = branch_if true (always_distance i) (linked i.name r)
+
+abbrev pub t16 : T16 → Regs → Does
+t16 (t16_.Conditional i) r = wide_conditional i r
+t16 (t16_.Always i) r = wide_always i r
+
+-- TABLES
+-- how many bytes a number of the table has
+abbrev pub table_width : TableName → ℕ
+table_width table.Tbb = 1
+table_width table.Tbh = 2
+
+-- forward by twice the number that stands in the table
+abbrev pub t17 : T17 → Regs → Does
+t17 i r =
+    let len = table_width i.name in
+    loads Scalar len ((operand i.n.value r + len * reg i.m.value r) % 2 ^ 32) (λ x. branch_if true (2 * x) r)

@@ -1,7 +1,7 @@
 use Rattle.std.proofs.Common.{◌≡◌, [], ◌∷◌}
 use Rattle.hm_isa.specs.declared.Branch.TheVariants as branch
 use Rattle.hm_isa.specs.Code.{branch_halves, code_s23, code_s24, code_s25}
-use Rattle.hm_enc16.proofs.Halves.{no_half}
+use Rattle.hm_enc16.proofs.Halves.{no_half, not_one}
 use Rattle.hm_enc16.proofs.decode.find_branch.Goals as goal
 
 pub returns-clause-none : goal.returns-clause-none
@@ -10,4 +10,7 @@ returns-clause-none c b =
       | branch.S23 r ↦ no_half code_s23 _ c.in_default.ensures.none r
       | branch.S24 r ↦ no_half code_s24 _ c.in_default-decode_s24.ensures.none r
       | branch.S25 r ↦ no_half code_s25 _ c.in_default-decode_s25.ensures.none r
+      | branch.T16 r ↦ not_one _ _ _
+      | branch.T17 r ↦ not_one _ _ _
+      | branch.T23 r ↦ not_one _ _ _
     ]
