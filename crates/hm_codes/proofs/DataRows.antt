@@ -1,5 +1,5 @@
 -- The rows T1 to T7.
-use Rattle.std.proofs.Common.{◌≡◌, ◌+◌, ◌*◌, ◌^◌, ℕ, arith}
+use Rattle.std.proofs.Common.{◌+◌, ◌*◌, ◌^◌, arith}
 use Rattle.hm_isa.specs.contracts.narrow.SumName as sum_
 use Rattle.hm_isa.specs.contracts.data.DataName as data_
 use Rattle.hm_isa.specs.contracts.data.HalfName as half_

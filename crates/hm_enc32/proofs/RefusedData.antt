@@ -3,7 +3,7 @@ use Rattle.std.proofs.Common.{◌≡◌, ◌+◌, ◌-◌, ◌*◌, ◌^◌, ℕ
 use denote.Struct.Declared as struct
 use denote.Enum.Declared as enum
 use Rattle.hm_isa.specs.Keeps.{is_general}
-use Rattle.hm_isa.specs.DataKeeps.{is_constant_row, is_shifted_row, is_wide_sum, is_saturated, is_bit_field, is_cleared_field}
+use Rattle.hm_isa.specs.DataKeeps.{is_constant_row, is_shifted_row, is_wide_sum, is_saturated, is_bit_field, is_inserted}
 use Rattle.hm_isa.specs.DataCodes.{operation, code_t1, code_t2, code_t3, code_t4, code_t5, code_t6, code_t7}
 use Rattle.hm_isa.specs.declared.data.DataName.{DataName}
 use Rattle.hm_isa.specs.declared.data.T1.{T1}
@@ -95,9 +95,9 @@ refused_t6 w n d i3 i2 width split refused r e =
     let rules : is_bit_field r.n.value r.d.value r.i3.value r.i2.value r.w.value ≡ true = r.rules in
     cc
 
-pub refused_t7 : (w n d i3 i2 end : ℕ) → digits (places_plain row_t7) w ≡ n ∷ d ∷ i3 ∷ i2 ∷ end ∷ [] → is_cleared_field n d i3 i2 end ≡ false
+pub refused_t7 : (w n d i3 i2 end : ℕ) → digits (places_plain row_t7) w ≡ n ∷ d ∷ i3 ∷ i2 ∷ end ∷ [] → is_inserted n d i3 i2 end ≡ false
     → (r : T7) → code_t7 r ≡ w → ⊥
 refused_t7 w n d i3 i2 end split refused r e =
     let stands : digits (places_plain row_t7) w ≡ r.n.value ∷ r.d.value ∷ r.i3.value ∷ r.i2.value ∷ r.e.value ∷ [] = read (plain row_t7) refl w r e in
-    let rules : is_cleared_field r.n.value r.d.value r.i3.value r.i2.value r.e.value ≡ true = r.rules in
+    let rules : is_inserted r.n.value r.d.value r.i3.value r.i2.value r.e.value ≡ true = r.rules in
     cc

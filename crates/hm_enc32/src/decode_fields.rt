@@ -4,7 +4,7 @@ ghost use Rattle.std.specs.Prelude.{◌≡◌, ◌≤◌, ◌<◌, IfSome, IfNon
 ghost use Rattle.hm_isa.specs.declared.data.T5.{T5};
 ghost use Rattle.hm_isa.specs.declared.data.T6.{T6};
 ghost use Rattle.hm_isa.specs.declared.data.T7.{T7};
-ghost use Rattle.hm_isa.specs.DataKeeps.{is_bit_field, is_cleared_field, is_saturated};
+ghost use Rattle.hm_isa.specs.DataKeeps.{is_bit_field, is_inserted, is_saturated};
 ghost use Rattle.hm_isa.specs.DataCodes.{code_t5, code_t6, code_t7};
 
 use crate::decode::general;
@@ -100,7 +100,7 @@ pub fn decode_t6(w: u32) -> Option<T6>
 fn may_be_t7(n: u32, d: u32, i3: u32, i2: u32, end: u32) -> bool
     requires i3 { i3 < 8 }
     requires i2 { i2 < 4 }
-    ensures { result ≡ is_cleared_field n d i3 i2 end }
+    ensures { result ≡ is_inserted n d i3 i2 end }
 {
     if n == 13 || !general(d) {
         return false;

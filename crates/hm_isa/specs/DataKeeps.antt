@@ -66,5 +66,5 @@ abbrev pub is_bit_field : ℕ → ℕ → ℕ → ℕ → ℕ → Bool
 is_bit_field n d i3 i2 w = is_general n && is_general d && nat_le (i3 * 4 + i2 + w) 31
 
 -- the field has its lowest bit no higher than its highest
-abbrev pub is_cleared_field : ℕ → ℕ → ℕ → ℕ → ℕ → Bool
-is_cleared_field n d i3 i2 e = not (nat_eq n 13) && is_general d && nat_le (i3 * 4 + i2) e
+abbrev pub is_inserted : ℕ → ℕ → ℕ → ℕ → ℕ → Bool
+is_inserted n d i3 i2 e = not (nat_eq n 13) && is_general d && nat_le (i3 * 4 + i2) e

@@ -1,7 +1,7 @@
 //! The rows of 32-bit codes that combine a register with a constant or with another register.
 
 ghost use Rattle.std.specs.Prelude.{ℕ, IsTrue};
-ghost use Rattle.hm_isa.specs.DataKeeps.{is_bit_field, is_cleared_field, is_constant_row, is_saturated, is_shifted_row, is_wide_sum};
+ghost use Rattle.hm_isa.specs.DataKeeps.{is_bit_field, is_inserted, is_constant_row, is_saturated, is_shifted_row, is_wide_sum};
 ghost use Rattle.hm_isa.specs.Keeps.{is_general};
 
 use crate::fields::{Below, Bit, Byte, Register};
@@ -32,7 +32,7 @@ pub enum DataName {
     Rsb,
 }
 
-/// `and.w rd,rn,#c` and so on, where `i`, `i3` and `i8` stand for the constant: DDI0553, "Data processing (modified immediate)".
+/// `and.w rd,rn,#c` and so on, where `i`, `i3` and `i8` stand for the constant: DDI0553, "Data-processing (modified immediate)".
 ///
 /// With `s` and `d` 15 it is `tst.w`, `teq.w`, `cmn.w` or `cmp.w rn,#c`, and with `n` 15 it is `mov` or `mvn`.
 #[derive(Clone, Copy, PartialEq, Eq, Debug)]
@@ -48,7 +48,7 @@ pub struct T1 {
     pub ghost rules: { IsTrue (is_constant_row name s.value n.value d.value i.value i3.value i8.value) },
 }
 
-/// `and.w rd,rn,rm,lsl #k` and so on, where `i3` and `i2` make k: DDI0553, "Data processing (shifted register)".
+/// `and.w rd,rn,rm,lsl #k` and so on, where `i3` and `i2` make k: DDI0553, "Data-processing (shifted register)".
 ///
 /// With `s` and `d` 15 it is `tst.w`, `teq.w`, `cmn.w` or `cmp.w rn,rm`, and with `n` 15 it is `mvn`, or `mov.w` and the shifts.
 #[derive(Clone, Copy, PartialEq, Eq, Debug)]
@@ -147,5 +147,5 @@ pub struct T7 {
     pub i3: Below<8>,
     pub i2: Below<4>,
     pub e: Below<32>,
-    pub ghost rules: { IsTrue (is_cleared_field n.value d.value i3.value i2.value e.value) },
+    pub ghost rules: { IsTrue (is_inserted n.value d.value i3.value i2.value e.value) },
 }

@@ -5,7 +5,7 @@ ghost use Rattle.hm_base.specs.Bits.{put_field};
 ghost use Rattle.hm_thumb.specs.DataRows.{bits_with, half_put, put_saturated, saturated, t3, t4, t5, t6, t7};
 
 use crate::data::first;
-use crate::seconds::{imm_shift_c, imm5, imm12};
+use crate::operands::{imm_shift_c, imm5, imm12};
 use crate::sums::sum_of;
 use hm_base::{Place, bits};
 use hm_isa::{ExtractName, HalfName, SaturateName, T3, T4, T5, T6, T7};
@@ -41,20 +41,28 @@ pub fn move_half(i: &T4, regs: &mut Regs)
     regs.set(d, half_put(i.name, x, regs.get(d)));
 }
 
-/// The nearest number from -2 ^ s to 2 ^ s - 1, or from 0 to 2 ^ s - 1, to a word with its sign.
+/// The nearest number to a word with its sign: from -2 ^ s, or from 0, to 2 ^ s - 1.
 fn saturated(name: SaturateName, s: u32, x: u32) -> u32
     requires { s < 32 }
     ensures value { result ≡ saturated name s x }
 {
-    let limit = 1u32 << s;
+    let top = (1u32 << s) - 1;
     if x < 0x8000_0000 {
-        return if x < limit { x } else { limit - 1 };
+        return x.min(top);
     }
-    let least = match name {
-        SaturateName::Ssat => 0xffff_ffff - (limit - 1),
-        SaturateName::Usat => return 0,
-    };
-    if x < least { least } else { x }
+    match name {
+        SaturateName::Ssat => x.max(!top),
+        SaturateName::Usat => 0,
+    }
+}
+
+/// Puts the nearest number to `x` into register `d`; where it is another one, Q tells it.
+fn put_saturated(d: u32, y: u32, x: u32, regs: &mut Regs)
+    requires { d ≤ 14 }
+    ensures regs { regs.new ≡ put_saturated d y x regs.old }
+{
+    regs.set(Place::R(d as u8), y);
+    regs.q = regs.q || y != x;
 }
 
 /// `ssat rd,#s+1,rn`, `usat rd,#s,rn`
@@ -67,15 +75,6 @@ pub fn saturate(i: &T5, regs: &mut Regs)
     put_saturated(i.d.get(), y, x, regs);
 }
 
-/// Puts the nearest number to `x` into register `d`; where it is another one, Q tells it.
-fn put_saturated(d: u32, y: u32, x: u32, regs: &mut Regs)
-    requires { d ≤ 14 }
-    ensures regs { regs.new ≡ put_saturated d y x regs.old }
-{
-    regs.set(Place::R(d as u8), y);
-    regs.q = regs.q || y != x;
-}
-
 /// So many bits with their sign or with zeros.
 fn bits_with(name: ExtractName, width: u32, x: u32) -> u32
     requires some { 1 ≤ width }
@@ -84,14 +83,8 @@ fn bits_with(name: ExtractName, width: u32, x: u32) -> u32
     ensures value { result ≡ bits_with name width x }
 {
     match name {
-        ExtractName::Sbfx => {
-            if width == 32 {
-                x
-            } else {
-                sign_extended(width, x)
-            }
-        }
-        ExtractName::Ubfx => x,
+        ExtractName::Sbfx if width < 32 => sign_extended(width, x),
+        _ => x,
     }
 }
 

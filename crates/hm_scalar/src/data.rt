@@ -3,7 +3,7 @@
 ghost use Rattle.std.specs.Prelude.{◌≡◌, ◌<◌};
 ghost use Rattle.hm_thumb.specs.DataRows.{data_row, first, put_bits, put_data_sum, put_if, t1, t2};
 
-use crate::seconds::{expand_imm_c, imm_shift_c, imm5, imm12};
+use crate::operands::{expand_imm_c, imm_shift_c, imm5, imm12};
 use hm_base::Place;
 use hm_isa::{DataName, T1, T2};
 use hm_regs::Regs;

@@ -1,5 +1,5 @@
 -- What the rows T1 to T7 do.
-use Rattle.std.specs.Prelude.{ℕ, ◌+◌, ◌-◌, ◌*◌, ◌/◌, ◌%◌, ◌^◌, Bool, true, false, cond, not, ◌||◌, nat_eq, nat_le, nat_lt, bit_and, bit_or, bit_xor, if◌then◌else◌}
+use Rattle.std.specs.Prelude.{ℕ, ◌+◌, ◌-◌, ◌*◌, ◌/◌, ◌%◌, ◌^◌, Bool, true, false, cond, not, ◌||◌, nat_eq, nat_lt, min, max, bit_and, bit_or, bit_xor, if◌then◌else◌}
 use Rattle.hm_base.specs.Bits.{field, put_field}
 use Rattle.hm_isa.specs.declared.narrow.ShiftName.TheVariants as shift
 use Rattle.hm_isa.specs.declared.data.DataName.{DataName}
@@ -29,7 +29,7 @@ use Rattle.hm_thumb.specs.declared.arithmetic.ShiftType.TheVariants as type
 abbrev pub repeats : ℕ → ℕ
 repeats k = if nat_eq k 0 then 0x00000001 else (if nat_eq k 1 then 0x00010001 else (if nat_eq k 2 then 0x01000100 else 0x01010101))
 
--- ThumbExpandImm_C(x, carry), x of imm12 bits
+-- ThumbExpandImm_C(x, carry), x of twelve bits
 abbrev pub expand_imm_c : ℕ → Bool → Shifted
 expand_imm_c x carry = if nat_lt x 0x400 then record { result = x % 0x100 * repeats (x / 0x100); carry = carry } else ror_c (0x80 + x % 0x80) (x / 0x80)
 
@@ -101,10 +101,10 @@ half_put half.Movt x old = x * 2 ^ 16 + old % 2 ^ 16
 abbrev pub t4 : T4 → Regs → Regs
 t4 i r = put i.d.value (half_put i.name (i.i4.value * 2 ^ 12 + imm12 i.i.value i.i3.value i.i8.value) (reg i.d.value r)) r
 
--- SignedSatQ(SInt(x), s + 1) and UnsignedSatQ(SInt(x), s), as words: the nearest number from -2 ^ s to 2 ^ s - 1, or from 0
+-- SignedSatQ(SInt(x), s + 1) and UnsignedSatQ(SInt(x), s), as words: the nearest number from -2 ^ s, or from 0, to 2 ^ s - 1
 abbrev pub saturated : SaturateName → ℕ → ℕ → ℕ
-saturated saturate.Ssat s x = if negative x then (if nat_lt x (2 ^ 32 - 2 ^ s) then 2 ^ 32 - 2 ^ s else x) else (if nat_lt x (2 ^ s) then x else 2 ^ s - 1)
-saturated saturate.Usat s x = if negative x then 0 else (if nat_lt x (2 ^ s) then x else 2 ^ s - 1)
+saturated saturate.Ssat s x = if negative x then max x (2 ^ 32 - 2 ^ s) else min x (2 ^ s - 1)
+saturated saturate.Usat s x = if negative x then 0 else min x (2 ^ s - 1)
 
 -- where another number than x is the nearest, Q is set
 abbrev pub put_saturated : ℕ → ℕ → ℕ → Regs → Regs
