@@ -11,7 +11,7 @@ ghost use Rattle.hm_base.specs.declared.Fault.{Fault};
 ghost use Rattle.hm_mem.specs.Memory.{Around, Memory, memory_of};
 ghost use Rattle.hm_mem.specs.Seen.{IsSameElsewhere};
 ghost use Rattle.hm_state.specs.State.{State};
-ghost use Rattle.hm_beat.specs.Laws.{Beats, Checks, RowLaws, run};
+ghost use Rattle.hm_beat.specs.Laws.{AnswersBeat, Checks, RowLaws, run};
 ghost use Rattle.hm_beat.specs.Rows.{Tree};
 ghost use Rattle.hm_beat.specs.Touches.{loads_in, reads_in, spanned, stores_in, writes_in};
 
@@ -65,7 +65,7 @@ pub trait BeatWise {
         requires beat { b < 4 }
         requires context { IsTrue r.old.fpca }
         ensures done { (output : List ℕ)
-            → Beats (run (tree self.now (memory_of m.old).around b) r.old (memory_of m.old) output)
+            → AnswersBeat (run (tree self.now (memory_of m.old).around b) r.old (memory_of m.old) output)
             result r.old (memory_of m.old) r.new (memory_of m.new) output }
         ensures kept { IsSameElsewhere (memory_of m.old) (memory_of m.new) }
         ensures context { r.new.fpca ≡ r.old.fpca };

@@ -21,7 +21,7 @@ use Rattle.hm_isa.specs.contracts.arith.Operation as operation_
 use Rattle.hm_isa.specs.contracts.arith.Accumulate as accumulate_
 use Rattle.hm_isa.specs.contracts.arith.LongProduct as long_product_
 use Rattle.hm_isa.specs.contracts.arith.T20 as t20_
-use Rattle.hm_isa.specs.Keeps.{is_accumulated}
+use Rattle.hm_isa.specs.Rules.{is_accumulated}
 use Rattle.hm_isa.specs.ArithCodes.{wide_shift_base, code_t8, wide_extend_base, code_t9, bits_base, code_t10, operation_base, code_operation, accumulate_base, code_accumulate, long_product_base, code_long_product, code_t11, select_base, code_t20}
 use Rattle.hm_layout.proofs.Same.{same_below, same_struct}
 use Rattle.hm_layout.proofs.Places.{Place, place, head_or, rest_of}

@@ -7,7 +7,7 @@ use Rattle.hm_isa.specs.declared.wide.Indexed.{Indexed}
 use Rattle.hm_isa.specs.declared.wide.T13.{T13}
 use Rattle.hm_isa.specs.declared.wide.WideListName.{WideListName}
 use Rattle.hm_isa.specs.declared.wide.T14.{T14}
-use Rattle.hm_isa.specs.Keeps.{is_indexed, is_pair, is_wide_list, is_accumulated}
+use Rattle.hm_isa.specs.Rules.{is_indexed, is_pair, is_wide_list, is_accumulated}
 use Rattle.hm_isa.specs.Code.{wide_access_base, code_indexed, pair_base, code_t13, wide_list_base, code_t14}
 use Rattle.hm_layout.proofs.Places.{place, digits}
 use Rattle.hm_layout.proofs.Rows.{named, row_digits}

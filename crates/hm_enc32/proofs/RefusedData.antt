@@ -2,8 +2,8 @@
 use Rattle.std.proofs.Common.{◌≡◌, ◌+◌, ◌-◌, ◌*◌, ◌^◌, ℕ, true, false, List, [], ◌∷◌, refl, arith, sym, ◌∙◌, ap}
 use denote.Struct.Declared as struct
 use denote.Enum.Declared as enum
-use Rattle.hm_isa.specs.Keeps.{is_general}
-use Rattle.hm_isa.specs.DataKeeps.{is_constant_row, is_shifted_row, is_wide_sum, is_saturated, is_bit_field, is_inserted}
+use Rattle.hm_isa.specs.Rules.{is_general}
+use Rattle.hm_isa.specs.DataRules.{is_constant_row, is_shifted_row, is_wide_sum, is_saturated, is_bit_field, is_inserted}
 use Rattle.hm_isa.specs.DataCodes.{operation, code_t1, code_t2, code_t3, code_t4, code_t5, code_t6, code_t7}
 use Rattle.hm_isa.specs.declared.data.DataName.{DataName}
 use Rattle.hm_isa.specs.declared.data.T1.{T1}

@@ -1,5 +1,5 @@
 ghost use Rattle.std.specs.Prelude.{ℕ, ◌≡◌, ◌<◌, IsTrue};
-ghost use Rattle.hm_isa.specs.Keeps.{are_general, is_accumulated, is_chosen, is_long_product, is_operation};
+ghost use Rattle.hm_isa.specs.Rules.{are_general, is_accumulated, is_chosen, is_long_product, is_operation};
 ghost use Rattle.hm_enc32.specs.Table.{IsWide};
 
 use crate::decode32;

@@ -4,7 +4,7 @@ ghost use Rattle.std.specs.Prelude.{◌≡◌, ◌≤◌, ◌<◌, IfSome, IfNon
 ghost use Rattle.hm_isa.specs.declared.data.T5.{T5};
 ghost use Rattle.hm_isa.specs.declared.data.T6.{T6};
 ghost use Rattle.hm_isa.specs.declared.data.T7.{T7};
-ghost use Rattle.hm_isa.specs.DataKeeps.{is_bit_field, is_inserted, is_saturated};
+ghost use Rattle.hm_isa.specs.DataRules.{is_bit_field, is_inserted, is_saturated};
 ghost use Rattle.hm_isa.specs.DataCodes.{code_t5, code_t6, code_t7};
 
 use crate::decode::general;

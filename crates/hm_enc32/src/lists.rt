@@ -3,7 +3,7 @@
 ghost use Rattle.std.specs.Prelude.{◌≡◌, ◌<◌, IfSome, IfNone};
 ghost use Rattle.hm_isa.specs.declared.wide.WideListName.{WideListName};
 ghost use Rattle.hm_isa.specs.declared.wide.T14.{T14};
-ghost use Rattle.hm_isa.specs.Keeps.{is_wide_list, listed_in, may_list};
+ghost use Rattle.hm_isa.specs.Rules.{is_wide_list, listed_in, may_list};
 ghost use Rattle.hm_isa.specs.Code.{code_t14, wide_list_base};
 
 use hm_base::bits;

@@ -1,5 +1,5 @@
 ghost use Rattle.std.specs.Prelude.{ℕ, ◌≡◌, ◌≢◌, ◌<◌, IsTrue};
-ghost use Rattle.hm_isa.specs.Keeps.{is_system_move};
+ghost use Rattle.hm_isa.specs.Rules.{is_system_move};
 ghost use Rattle.hm_enc32.specs.Table.{IsWide};
 
 use crate::decode32;

@@ -3,7 +3,7 @@
 ghost use Rattle.std.specs.Prelude.{◌≡◌, ◌≢◌, ◌<◌, ◌+◌, ◌*◌, ◌/◌, ◌%◌, ◌^◌, ◌⊎◌, MatchOption, IfSome, IfNone};
 ghost use Rattle.hm_isa.specs.Code.{mask_code, step_code};
 
-use hm_isa::{Below, Bit, QRegister, Register, Size};
+use hm_isa::{Below, Bit, QRegister, Register, ElementSize};
 
 /// The number in the bits of w from this place up, as many as `width`.
 pub fn bits(w: u32, position: u32, width: u32) -> u32
@@ -31,7 +31,7 @@ pub fn q_register(w: u32, position: u32) -> QRegister
 }
 
 /// The size of elements whose number stands at this place of w, or None where that is 3.
-pub fn size(w: u32, position: u32) -> Option<Size>
+pub fn size(w: u32, position: u32) -> Option<ElementSize>
     requires { position < 32 }
     ensures value { MatchOption result (w / 2 ^ position % 4 ≡ 3) (λ z. z.value ≡ w / 2 ^ position % 4) }
 {

@@ -16,12 +16,12 @@ ghost use Rattle.hm_isa.specs.declared.vectors.V15.{V15};
 ghost use Rattle.hm_isa.specs.declared.vectors.V16.{V16};
 ghost use Rattle.hm_isa.specs.Code.{code_long_bytes, code_long_halves, code_long_full, code_one_element, code_invert};
 ghost use Rattle.hm_isa.specs.Code.{one_base, reverse_base, narrow_base, code_v12, code_v13, code_v14, code_v15, code_v16, vector_code};
-ghost use Rattle.hm_isa.specs.Keeps.{is_reversed};
+ghost use Rattle.hm_isa.specs.Rules.{is_reversed};
 
 use crate::fields::{bit, bits, q_register, size};
 use hm_isa::{
     Below, Invert, LongBytes, LongFull, LongHalves, NarrowName, OneElement, OneName, QRegister,
-    ReverseName, Size, V12, V13, V14, V15, V16, Vector,
+    ReverseName, ElementSize, V12, V13, V14, V15, V16, Vector,
 };
 
 /// `vshllb`, `vshllt` of 8 bits by less than 8
@@ -261,7 +261,7 @@ fn base_of_reverse(x: ReverseName) -> u32
 }
 
 /// Whether elements are smaller than their groups, and results overwrite no word that is still to be read.
-fn may_reverse(name: ReverseName, z: Size, d: QRegister, m: QRegister) -> bool
+fn may_reverse(name: ReverseName, z: ElementSize, d: QRegister, m: QRegister) -> bool
     ensures value { result ≡ is_reversed name z.value d.value m.value }
 {
     match name {

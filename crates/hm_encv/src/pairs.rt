@@ -18,11 +18,11 @@ ghost use Rattle.hm_isa.specs.declared.vectors.V8.{V8};
 ghost use Rattle.hm_isa.specs.declared.vectors.V9.{V9};
 ghost use Rattle.hm_isa.specs.Code.{add_base, bitwise_base, signed_base, doubling_base, high_base, carry_base, turn_base};
 ghost use Rattle.hm_isa.specs.Code.{code_v1, code_v2, code_v3, code_v5, code_v6, code_v7, code_v8, code_v9, vector_code};
-ghost use Rattle.hm_isa.specs.Keeps.{is_turned, is_widened};
+ghost use Rattle.hm_isa.specs.Rules.{is_turned, is_widened};
 
 use crate::fields::{bit, q_register, size};
 use hm_isa::{
-    AddName, BitwiseName, CarryName, DoublingName, HighName, QRegister, SignedName, Size, TurnName,
+    AddName, BitwiseName, CarryName, DoublingName, HighName, QRegister, SignedName, ElementSize, TurnName,
     V1, V2, V3, V5, V6, V7, V8, V9, Vector,
 };
 
@@ -239,7 +239,7 @@ pub fn encode_v5(r: &V5) -> u32
 }
 
 /// Whether results of two words' width overwrite no word that is still to be read.
-fn may_widen(z: Size, d: QRegister, n: QRegister, m: QRegister) -> bool
+fn may_widen(z: ElementSize, d: QRegister, n: QRegister, m: QRegister) -> bool
     ensures value { result ≡ is_widened z.value d.value n.value m.value }
 {
     z.get() != 2 || (d.get() != n.get() && d.get() != m.get())
@@ -407,7 +407,7 @@ fn base_of_turn(x: TurnName) -> u32
 }
 
 /// Whether results overwrite no neighbour that is still to be read.
-fn may_turn(z: Size, d: QRegister, m: QRegister) -> bool
+fn may_turn(z: ElementSize, d: QRegister, m: QRegister) -> bool
     ensures value { result ≡ is_turned z.value d.value m.value }
 {
     z.get() != 2 || d.get() != m.get()

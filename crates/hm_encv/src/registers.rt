@@ -10,7 +10,7 @@ ghost use Rattle.hm_isa.specs.declared.vectors.V18.{V18};
 ghost use Rattle.hm_isa.specs.declared.vectors.V19.{V19};
 ghost use Rattle.hm_isa.specs.Code.{scalar_base, dup_base, offsets_base};
 ghost use Rattle.hm_isa.specs.Code.{code_v10, code_v17, code_v18, code_v19, vector_code};
-ghost use Rattle.hm_isa.specs.Keeps.{has_sign, is_signed_by};
+ghost use Rattle.hm_isa.specs.Rules.{has_sign, is_signed_by};
 
 use crate::fields::{bit, bits, general, place_step, q_register, size, step};
 use hm_isa::{

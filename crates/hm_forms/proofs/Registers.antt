@@ -8,7 +8,7 @@ use Rattle.hm_isa.specs.declared.vectors.V9.{V9}
 use Rattle.hm_isa.specs.declared.vectors.V14.{V14}
 use Rattle.hm_isa.specs.declared.vectors.ReverseName.{ReverseName}
 use Rattle.hm_isa.specs.declared.vectors.ReverseName.TheVariants as rev
-use Rattle.hm_isa.specs.Keeps.{is_reversed}
+use Rattle.hm_isa.specs.Rules.{is_reversed}
 use Rattle.hm_lane.specs.declared.lanes.Size.{Size}
 use Rattle.hm_lane.specs.declared.lanes.Size.TheVariants.{Byte, Half, Word}
 use Rattle.hm_lane.specs.Lanes.{bytes_of, lanes, merged, paired, unlanes, word_of}

@@ -1,7 +1,7 @@
 //! Shifts, products, quotients and choices: rows of 32-bit codes on core registers.
 
 ghost use Rattle.std.specs.Prelude.{ℕ, IsTrue};
-ghost use Rattle.hm_isa.specs.Keeps.{are_general, is_accumulated, is_chosen, is_long_product, is_operation};
+ghost use Rattle.hm_isa.specs.Rules.{are_general, is_accumulated, is_chosen, is_long_product, is_operation};
 
 use crate::fields::{Below, Bit, Register};
 use crate::narrow::ExtendName;

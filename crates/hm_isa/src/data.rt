@@ -1,8 +1,8 @@
 //! The rows of 32-bit codes that combine a register with a constant or with another register.
 
 ghost use Rattle.std.specs.Prelude.{ℕ, IsTrue};
-ghost use Rattle.hm_isa.specs.DataKeeps.{is_bit_field, is_inserted, is_constant_row, is_saturated, is_shifted_row, is_wide_sum};
-ghost use Rattle.hm_isa.specs.Keeps.{is_general};
+ghost use Rattle.hm_isa.specs.DataRules.{is_bit_field, is_inserted, is_constant_row, is_saturated, is_shifted_row, is_wide_sum};
+ghost use Rattle.hm_isa.specs.Rules.{is_general};
 
 use crate::fields::{Below, Bit, Byte, Register};
 use crate::narrow::SumName;

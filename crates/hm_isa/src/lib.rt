@@ -44,7 +44,7 @@ pub use fields::Byte;
 pub use fields::Low;
 pub use fields::QRegister;
 pub use fields::Register;
-pub use fields::Size;
+pub use fields::ElementSize;
 pub use jumps::Dls;
 pub use jumps::Dlstp;
 pub use jumps::LoopEnd;

@@ -1,7 +1,7 @@
 //! Special registers, barriers, and what scalar instructions do to vector registers: rows of 32-bit codes.
 
 ghost use Rattle.std.specs.Prelude.{ℕ, IsTrue, ◌≢◌};
-ghost use Rattle.hm_isa.specs.Keeps.{is_system_move};
+ghost use Rattle.hm_isa.specs.Rules.{is_system_move};
 
 use crate::fields::{Below, QRegister, Register};
 

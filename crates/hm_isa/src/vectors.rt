@@ -1,9 +1,9 @@
 //! The rows of the vector codes: DDI0553, "M-profile Vector Extension".
 
 ghost use Rattle.std.specs.Prelude.{◌≡◌, ◌≢◌, IsTrue};
-ghost use Rattle.hm_isa.specs.Keeps.{is_reversed, is_signed_by, is_turned, is_widened};
+ghost use Rattle.hm_isa.specs.Rules.{is_reversed, is_signed_by, is_turned, is_widened};
 
-use crate::fields::{Below, Bit, QRegister, Register, Size};
+use crate::fields::{Below, Bit, QRegister, Register, ElementSize};
 
 /// The size of elements, where it tells codes apart as a name does.
 #[derive(Clone, Copy, PartialEq, Eq, Debug)]
@@ -32,7 +32,7 @@ pub enum AddName {
 pub struct V1 {
     pub name: AddName,
     /// The size of the elements.
-    pub z: Size,
+    pub z: ElementSize,
     /// The register of the first operands.
     pub n: QRegister,
     /// The register that gets the result.
@@ -97,7 +97,7 @@ pub struct V3 {
     /// 1 for unsigned elements.
     pub u: Bit,
     /// The size of the elements.
-    pub z: Size,
+    pub z: ElementSize,
     /// The register of the first operands.
     pub n: QRegister,
     /// The register that gets the result.
@@ -120,7 +120,7 @@ pub enum DoublingName {
 pub struct V5 {
     pub name: DoublingName,
     /// The size of the elements.
-    pub z: Size,
+    pub z: ElementSize,
     /// The register of the first operands.
     pub n: QRegister,
     /// The register that gets the result.
@@ -135,7 +135,7 @@ pub struct V6 {
     /// 1 for unsigned elements.
     pub u: Bit,
     /// The size of the elements.
-    pub z: Size,
+    pub z: ElementSize,
     /// 1 for the elements with odd numbers.
     pub t: Bit,
     /// The register of the first operands.
@@ -163,7 +163,7 @@ pub struct V7 {
     /// 1 for unsigned elements.
     pub u: Bit,
     /// The size of the elements.
-    pub z: Size,
+    pub z: ElementSize,
     /// The register of the first operands.
     pub n: QRegister,
     /// The register that gets the result.
@@ -211,7 +211,7 @@ pub enum TurnName {
 pub struct V9 {
     pub name: TurnName,
     /// The size of the elements.
-    pub z: Size,
+    pub z: ElementSize,
     /// 1 for a rotation by 270 degrees, 0 for one by 90.
     pub t: Bit,
     /// The register of the first operands.
@@ -258,7 +258,7 @@ pub struct V10 {
     /// 1 for unsigned elements.
     pub u: Bit,
     /// The size of the elements.
-    pub z: Size,
+    pub z: ElementSize,
     /// The register of the first operands.
     pub n: QRegister,
     /// The register that gets the result.
@@ -341,7 +341,7 @@ pub enum OneName {
 pub struct OneElement {
     pub name: OneName,
     /// The size of the elements.
-    pub z: Size,
+    pub z: ElementSize,
     /// The register that gets the result.
     pub d: QRegister,
     /// The register of the operand.
@@ -380,7 +380,7 @@ pub enum ReverseName {
 pub struct V14 {
     pub name: ReverseName,
     /// The size of the elements.
-    pub z: Size,
+    pub z: ElementSize,
     /// The register that gets the result.
     pub d: QRegister,
     /// The register of the operand.
@@ -477,7 +477,7 @@ pub enum OffsetsName {
 pub struct Offsets {
     pub name: OffsetsName,
     /// The size of the elements.
-    pub z: Size,
+    pub z: ElementSize,
     /// The first offset is in r(2n).
     pub n: Below<8>,
     /// The register that gets the result.
@@ -491,7 +491,7 @@ pub struct Offsets {
 pub struct WrappedOffsets {
     pub name: OffsetsName,
     /// The size of the elements.
-    pub z: Size,
+    pub z: ElementSize,
     /// The first offset is in r(2n).
     pub n: Below<8>,
     /// The register that gets the result.
@@ -515,7 +515,7 @@ pub struct CompareVectors {
     /// The mask of `vpt`; 0 for `vcmp`.
     pub k: Below<16>,
     /// The size of the elements.
-    pub z: Size,
+    pub z: ElementSize,
     /// The register of the first operands.
     pub n: QRegister,
     /// The condition: eq, ne, cs, hi, ge, lt, gt, le.
@@ -530,7 +530,7 @@ pub struct CompareScalar {
     /// The mask of `vpt`; 0 for `vcmp`.
     pub k: Below<16>,
     /// The size of the elements.
-    pub z: Size,
+    pub z: ElementSize,
     /// The register of the first operands.
     pub n: QRegister,
     /// The condition: eq, ne, cs, hi, ge, lt, gt, le.
@@ -589,7 +589,7 @@ pub struct Sum {
     /// 1 for unsigned elements.
     pub u: Bit,
     /// The size of the elements.
-    pub z: Size,
+    pub z: ElementSize,
     /// The sum is in r(2l).
     pub l: Below<8>,
     /// Whether the sum goes on from the old value.
@@ -674,7 +674,7 @@ pub struct V23 {
     /// 1 for unsigned elements.
     pub u: Bit,
     /// The size of the elements.
-    pub z: Size,
+    pub z: ElementSize,
     /// The register of the result, from whose old value it begins.
     pub t: Register,
     /// The register of the operands.

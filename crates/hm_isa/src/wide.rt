@@ -1,7 +1,7 @@
 //! The rows of 32-bit codes that are no vector rows.
 
 ghost use Rattle.std.specs.Prelude.{ℕ, IsTrue};
-ghost use Rattle.hm_isa.specs.Keeps.{is_indexed, is_literal, is_offset, is_pair, is_shifted, is_stacked, is_wide_list};
+ghost use Rattle.hm_isa.specs.Rules.{is_indexed, is_literal, is_offset, is_pair, is_shifted, is_stacked, is_wide_list};
 
 use crate::fields::{Below, Bit, Byte, Register};
 use crate::narrow::AccessName;

@@ -4,7 +4,7 @@ use Rattle.hm_order.specs.Machine.{Core, Config, End, Broken, Restores, older, y
 use Rattle.hm_order.specs.Position.{Holds, Agrees}
 
 -- what an entry puts away: the position and the registers
-pub record Activation (R : Type 0) : Type 0 where
+pub record Stacked (R : Type 0) : Type 0 where
   pub a : ℕ
   pub b : ℕ
   pub regs : R
@@ -24,17 +24,17 @@ pub record Handlers (S R D E B : Type 0) : Type 0 where
   -- a step of a handler
   pub handle : Turn → Config S → Result (Config S) (End S E B)
   -- The first rule that a return breaks here. None where it finds all as the entry left it.
-  pub return_rule : S → Activation R → Option B
+  pub return_rule : S → Stacked R → Option B
 
 -- the machine, with the activations of its handlers, the newest first
 pub record Nested (S R : Type 0) : Type 0 where
   pub config : Config S
-  pub acts : List (Activation R)
+  pub acts : List (Stacked R)
 
 -- why a run with handlers ends, and under which activations
 pub record NestedEnd (S R E B : Type 0) : Type 0 where
   pub why : End S E B
-  pub acts : List (Activation R)
+  pub acts : List (Stacked R)
 
 -- a step of what runs, an entry, a return
 pub data Move : Type 0 where
@@ -49,42 +49,42 @@ turn M Younger c = younger M c
 
 module _ {S I C V E W B R D : Type 0} (M : Core S I C V E W B) (H : Handlers S R D E B) where
   -- back to what the activation put away, with the memory as it is now
-  abbrev pub restored : Activation R → Config S → Config S
+  abbrev pub restored : Stacked R → Config S → Config S
   restored x c = record { a = x.a; b = x.b; n = c.n; steps = c.steps; state = H.join x.regs (H.mem c.state) }
 
   -- the position and the registers of the thread, with the memory as it is now
-  abbrev pub shown : Config S → List (Activation R) → Config S
+  abbrev pub shown : Config S → List (Stacked R) → Config S
   shown c [] = c
   shown c (x ∷ []) = restored x c
   shown c (x ∷ y ∷ acts) = shown c (y ∷ acts)
 
-  abbrev pub with_acts : List (Activation R) → Result (Config S) (End S E B) → Result (Nested S R) (NestedEnd S R E B)
+  abbrev pub with_acts : List (Stacked R) → Result (Config S) (End S E B) → Result (Nested S R) (NestedEnd S R E B)
   with_acts acts (Ok c) = Ok (record { config = c; acts = acts })
   with_acts acts (Err e) = Err (record { why = e; acts = acts })
 
   -- a step of what runs: the thread, where there is no activation
-  abbrev pub stepped : Turn → Config S → List (Activation R) → Result (Nested S R) (NestedEnd S R E B)
+  abbrev pub stepped : Turn → Config S → List (Stacked R) → Result (Nested S R) (NestedEnd S R E B)
   stepped t c [] = with_acts [] (turn M t c)
   stepped t c (x ∷ acts) = with_acts (x ∷ acts) (H.handle t c)
 
   -- an exception enters: it puts away the position and the registers
-  abbrev pub entered : ℕ → Config S → List (Activation R) → Nested S R
+  abbrev pub entered : ℕ → Config S → List (Stacked R) → Nested S R
   entered e c acts = record {
     config = record { a = 0; b = 0; n = c.n; steps = c.steps; state = H.enter e c.state };
     acts = record { a = c.a; b = c.b; regs = H.regs c.state } ∷ acts;
   }
 
   -- a return under the rule that it breaks, if there is one
-  abbrev pub returned_by : Option B → Config S → Activation R → List (Activation R) → Result (Nested S R) (NestedEnd S R E B)
+  abbrev pub returned_by : Option B → Config S → Stacked R → List (Stacked R) → Result (Nested S R) (NestedEnd S R E B)
   returned_by None c x acts = Ok (record { config = restored x c; acts = acts })
   returned_by (Some b) c x acts = Err (record { why = Broken c b; acts = x ∷ acts })
 
   -- a handler returns; where none runs, nothing is done
-  abbrev pub returned : Config S → List (Activation R) → Result (Nested S R) (NestedEnd S R E B)
+  abbrev pub returned : Config S → List (Stacked R) → Result (Nested S R) (NestedEnd S R E B)
   returned c [] = Ok (record { config = c; acts = [] })
   returned c (x ∷ acts) = returned_by (H.return_rule c.state x) c x acts
 
-  abbrev pub move : Move → Config S → List (Activation R) → Result (Nested S R) (NestedEnd S R E B)
+  abbrev pub move : Move → Config S → List (Stacked R) → Result (Nested S R) (NestedEnd S R E B)
   move (Step t) c acts = stepped t c acts
   move (Enter e) c acts = Ok (entered e c acts)
   move Return c acts = returned c acts
@@ -101,7 +101,7 @@ module _ {S I C V E W B R D : Type 0} (M : Core S I C V E W B) (H : Handlers S R
     pub handles : (t : Turn) (c d : Config S) → H.handle t c ≡ Ok d → Hides c.state d.state × (d.n ≡ c.n) × (d.steps ≡ c.steps)
 
   -- an end of the thread is one that agrees with the order; of an end in a handler nothing is claimed
-  abbrev pub EndsNested : S → List (Activation R) → End S E B → Type 0
+  abbrev pub EndsNested : S → List (Stacked R) → End S E B → Type 0
   EndsNested first [] e = Agrees M first (Err e)
   EndsNested first (x ∷ acts) e = Unit {0}
 

@@ -19,7 +19,7 @@ ghost use Rattle.hm_order.specs.Machine.{
   interrupted,
 };
 ghost use Rattle.hm_order.specs.Position.{Holds, StopsAt, SamePosition, Agrees};
-ghost use Rattle.hm_order.specs.Handlers.{Activation, Handlers, HandlerLaws, Move, Hides, shown, move, AgreesNested};
+ghost use Rattle.hm_order.specs.Handlers.{Stacked, Handlers, HandlerLaws, Move, Hides, shown, move, AgreesNested};
 
 /// Two beats that meet on no cell: where they do not stop in this order, they do not stop in the
 /// other, and leave the same state.
@@ -58,11 +58,11 @@ pub fn interrupt<S, I, C, V, E, W, B>()
 /// holds is said of the thread, with its position and registers and the memory as it is now.
 pub fn handler_move<S, I, C, V, E, W, B, R, D>()
     ensures agrees { (M : Core S I C V E W B) (H : Handlers S R D E B) → CoreLaws M → HandlerLaws M H
-        → (first : S) (m : Move) (c : Config S) (acts : List (Activation R))
+        → (first : S) (m : Move) (c : Config S) (acts : List (Stacked R))
         → Holds M first (shown M H c acts) → AgreesNested M H first (move M H m c acts) }
     // A change from outside, as by a timer: it leaves the registers of what runs.
     ensures outside { (M : Core S I C V E W B) (H : Handlers S R D E B) → CoreLaws M → HandlerLaws M H
-        → (first : S) (c : Config S) (acts : List (Activation R)) (t : S)
+        → (first : S) (c : Config S) (acts : List (Stacked R)) (t : S)
         → Hides M H c.state t → H.regs t ≡ H.regs c.state
         → Holds M first (shown M H c acts) → Holds M first (shown M H (interrupted M c t) acts) }
 {}

@@ -2,7 +2,7 @@
 use Rattle.std.specs.Prelude.{ℕ, ◌+◌, ◌*◌, Bool, ◌&&◌, ◌||◌, not, nat_eq, nat_le, nat_lt, true, false}
 use Rattle.hm_isa.specs.declared.data.DataName.{DataName}
 use Rattle.hm_isa.specs.declared.data.DataName.TheVariants as data_
-use Rattle.hm_isa.specs.Keeps.{is_general}
+use Rattle.hm_isa.specs.Rules.{is_general}
 
 -- sp is added to and taken from alone
 abbrev pub may_take_sp : DataName → Bool
