@@ -18,5 +18,5 @@ pub keeps_then : {x y z : Cpu} → Keeps x y → Keeps y z → Keeps x z
 keeps_then h k = record {
   memory = record { flash = k.memory.flash ∙ h.memory.flash; around = k.memory.around ∙ h.memory.around };
   position = k.position;
-  output = k.output ∙ h.output;
+  room = k.room ∙ h.room;
 }

@@ -24,12 +24,11 @@ use Rattle.hm_regs.specs.declared.Regs.{Regs}
 use Rattle.hm_rows.proofs.Context.{context_is, context_there}
 use Rattle.hm_rows.specs.Context.{with_context}
 use Rattle.hm_rows.specs.Rows.{refuse, vector_tree}
-use Rattle.hm_run.proofs.Steps.{halting_makes, makes_other, makes_row, no_row, older_vector, older_other, other_is, past}
+use Rattle.hm_run.proofs.Steps.{break_makes, makes_other, makes_row, no_row, older_vector, older_other, other_is, past}
 use Rattle.hm_run.specs.declared.Cause.{Cause}
 use Rattle.hm_run.specs.declared.Cause.TheVariants as cause
-use Rattle.hm_run.specs.declared.Reason.{Reason}
-use Rattle.hm_run.specs.Program.{Program, Stepped, caused, core, done_in_machine, in_machine, made_here, makes_here, other_by, other_here, older_steps, rows, steps_left, to_end, unless_refused, vector_of}
-use Rattle.hm_run.specs.Stops.{halt_of, unless_halted}
+use Rattle.hm_run.specs.Program.{Program, Stepped, broken_by, caused, core, done_in_machine, in_machine, made_here, makes_here, other_by, other_here, older_steps, rows, steps_left, to_end, unless_refused, vector_of}
+use Rattle.hm_run.specs.Stops.{at_break, break_of}
 use Rattle.hm_state.proofs.Beside.{pc_is}
 use Rattle.hm_state.proofs.Registers.{registers_are}
 use Rattle.hm_state.specs.State.{State, cells, regs_of, state_of}
@@ -198,24 +197,28 @@ module _ (listing : Listing) (x : Cpu) where
     makes_is : (r : Regs) → makes_here (listing x.regs.pc) r ≡ makes_context i r
     makes_is r = ap (λ (z : Result Instr Fault). makes_here z r) here ∙ makes_other i r other
 
-    -- one that halts
-    pub other_halts : (reason : Reason) → Some reason ≡ halt_of i → Err (order.Stopped (config_of x) (cause.Halt reason)) ≡ older M (config_of x)
-    unfolding state_of
-    other_halts reason halt =
-        let none : makes_context i (regs_of (state_in x)) ≡ false = halting_makes i (regs_of (state_in x)) (λ e. let no : Some reason ≡ None = halt ∙ e in cc) in
-        sym (other_comes (Err (cause.Halt reason)) (ap (λ (o : Option Reason). unless_halted cause.Halt o (done_in_machine (scalar_in_machine (memory_of x.mem).around i (state_in x)))) (sym halt))
-        ∙ ap (λ (d : Config State). Err (order.Stopped d (cause.Halt reason))) (unmade (x.window.a == 0) (state_in x) (makes_is (regs_of (state_in x)) ∙ none)))
+    -- a breakpoint, and any other
+    pub by_break : (k : ℕ) → Some k ≡ break_of i → other_by (memory_of x.mem).around i (state_in x) ≡ broken_by (memory_of x.mem).around k (state_in x)
+    by_break k is = ap (λ (o : Option ℕ). at_break (λ k. broken_by (memory_of x.mem).around k (state_in x)) o (done_in_machine (scalar_in_machine (memory_of x.mem).around i (state_in x)))) (sym is)
 
-    by_none : None ≡ halt_of i → other_by (memory_of x.mem).around i (state_in x) ≡ done_in_machine (scalar_in_machine (memory_of x.mem).around i (state_in x))
-    by_none halt = ap (λ (o : Option Reason). unless_halted cause.Halt o (done_in_machine (scalar_in_machine (memory_of x.mem).around i (state_in x)))) (sym halt)
+    pub by_none : None ≡ break_of i → other_by (memory_of x.mem).around i (state_in x) ≡ done_in_machine (scalar_in_machine (memory_of x.mem).around i (state_in x))
+    by_none is = ap (λ (o : Option ℕ). at_break (λ k. broken_by (memory_of x.mem).around k (state_in x)) o (done_in_machine (scalar_in_machine (memory_of x.mem).around i (state_in x)))) (sym is)
 
     -- one that is done
-    pub other_done : (t : State) → None ≡ halt_of i → Ok t ≡ done_in_machine (scalar_in_machine (memory_of x.mem).around i (state_in x))
+    pub other_done : (t : State) → other_by (memory_of x.mem).around i (state_in x) ≡ Ok t
         → Ok (record { a = 0; b = 0; n = x.retired + 1; steps = x.older_steps + 1; state = t }) ≡ older M (config_of x)
     unfolding state_of
-    other_done t halt going =
-        (λ j. Ok (record { a = 0; b = 0; n = add-one x.retired j; steps = add-one x.older_steps j; state = t }))
-        ∙ sym (other_comes (Ok t) (by_none halt ∙ sym going))
+    other_done t going =
+        (λ j. Ok (record { a = 0; b = 0; n = add-one x.retired j; steps = add-one x.older_steps j; state = t })) ∙ sym (other_comes (Ok t) going)
+
+    -- a breakpoint that stops: it makes no context
+    pub break_stops : (k : ℕ) (e : Cause) → Some k ≡ break_of i → Err e ≡ broken_by (memory_of x.mem).around k (state_in x)
+        → Err (order.Stopped (config_of x) e) ≡ older M (config_of x)
+    unfolding state_of
+    break_stops k e is stop =
+        let none : makes_context i (regs_of (state_in x)) ≡ false = break_makes i (regs_of (state_in x)) (λ n. let no : Some k ≡ None = is ∙ n in cc) in
+        sym (other_comes (Err e) (by_break k is ∙ sym stop)
+        ∙ ap (λ (d : Config State). Err (order.Stopped d e)) (unmade (x.window.a == 0) (state_in x) (makes_is (regs_of (state_in x)) ∙ none)))
 
     fpca_here : (state_in x).rest.fpca ≡ x.regs.fpca
     unfolding state_of
@@ -254,10 +257,10 @@ module _ (listing : Listing) (x : Cpu) where
         (by_position x.window.a refl context (made_here (listing x.regs.pc) (state_in x)) (made_is range counted) ∙ chosen (makes_context i x.regs))
 
     -- one that stops
-    pub other_stops : (e : Cause) (t : Regs) (n : Memory) → InRange x.regs → Counted x.regs → (0 < x.window.a → IsTrue x.regs.fpca) → None ≡ halt_of i
+    pub other_stops : (e : Cause) (t : Regs) (n : Memory) → InRange x.regs → Counted x.regs → (0 < x.window.a → IsTrue x.regs.fpca) → None ≡ break_of i
         → Err e ≡ done_in_machine (scalar_in_machine (memory_of x.mem).around i (state_in x)) → t ≡ made i x.regs → n ≡ memory_of x.mem
         → Err (order.Stopped (record { a = x.window.a; b = x.window.b; n = x.retired; steps = x.older_steps; state = state_of t n x.output.items }) e) ≡ older M (config_of x)
-    other_stops e t n range counted context halt stop registers memory =
+    other_stops e t n range counted context none stop registers memory =
         (λ j. Err (order.Stopped (record (config_of x) { state = state_of (registers j) (memory j) x.output.items }) e))
         ∙ ap (λ (c : Config State). Err (order.Stopped c e)) (sym (begun_is range counted context))
-        ∙ sym (other_comes (Err e) (by_none halt ∙ sym stop))
+        ∙ sym (other_comes (Err e) (by_none none ∙ sym stop))

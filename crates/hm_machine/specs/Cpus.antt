@@ -1,5 +1,6 @@
 -- What the parts of the machine that instructions change stand for.
 use Rattle.std.specs.Prelude.{◌≡◌, ◌+◌, ◌<◌, ◌≤◌, IsTrue, Result, Ok, Err}
+use Rattle.std.specs.Vec.{vec_capacity}
 use Rattle.hm_mem.specs.Memory.{memory_of}
 use Rattle.hm_mem.specs.Seen.{IsSameElsewhere}
 use Rattle.hm_order.specs.Machine as order
@@ -55,11 +56,20 @@ reached_by_tick (Err e) x = Err (troubled e (config_of x))
 abbrev pub IsPosition : Cpu → Type 0
 IsPosition x = (x.window.a < 4) × (x.window.b ≤ 2) × (0 < x.window.a → IsTrue x.regs.fpca)
 
--- What stays while instructions are done: flash and who accesses the memory, and the output.
+-- What stays while instructions are done: flash and who accesses the memory, and how much room the output has.
 pub record Keeps (old new : Cpu) : Type 0 where
   pub memory : IsSameElsewhere (memory_of old.mem) (memory_of new.mem)
   pub position : IsPosition new
-  pub output : new.output ≡ old.output
+  pub room : vec_capacity new.output ≡ vec_capacity old.output
+
+-- What a breakpoint leaves: the memory, whether there is a context, what is counted, and how much room the output has.
+pub record IsServed (old new : Cpu) : Type 0 where
+  pub memory : new.mem ≡ old.mem
+  pub context : new.regs.fpca ≡ old.regs.fpca
+  pub window : new.window ≡ old.window
+  pub retired : new.retired ≡ old.retired
+  pub steps : new.older_steps ≡ old.older_steps
+  pub room : vec_capacity new.output ≡ vec_capacity old.output
 
 -- a step retires one instruction at most, and counts once
 abbrev pub CountsOne : Cpu → Cpu → Type 0

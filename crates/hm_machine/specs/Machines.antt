@@ -5,6 +5,7 @@ use Rattle.hm_machine.specs.declared.cursor.Cursor.{Cursor}
 use Rattle.hm_machine.specs.declared.machine.Machine.TheInside.{Inside}
 use Rattle.hm_machine.specs.Cpus.{IsPosition}
 use Rattle.hm_machine.specs.Shown.{Shown}
+use Rattle.hm_run.specs.Program.{most_output}
 use Rattle.hm_run.specs.declared.Outcome.{Outcome}
 use Rattle.hm_mem.specs.Memory.{memory_of}
 use Rattle.hm_sched.specs.Schedule.{TickLine, repeat, ticks_of, most_ticks}
@@ -45,10 +46,6 @@ machine_view m = record {
   schedule = m.schedule;
   left = left_while m.outcome (left_at m.schedule.lines m.cursor);
 }
-
--- the most bytes that a program may write
-abbrev pub most_output : ℕ
-most_output = 0x10000
 
 pub record IsMachine (m : Inside) : Type 0 where
   -- what a program writes wants no memory

@@ -1,6 +1,7 @@
 //! The steps of the older instruction.
 
 ghost use Rattle.std.specs.Prelude.{◌≡◌, ℕ, ◌+◌, ◌^◌, ◌<◌, ◌≤◌, not, List, IsSome, IsTrue, OnErr, Ok};
+ghost use Rattle.std.specs.Vec.{vec_capacity};
 ghost use Rattle.hm_codes.specs.Listing.{Listing, IsListing};
 ghost use Rattle.hm_machine.specs.Cpus.{config_of, state_in, executed, reached, IsPosition, Keeps, CountsOne};
 ghost use Rattle.hm_mem.specs.Memory.{Around, Memory, memory_of, flash_at};
@@ -8,13 +9,14 @@ ghost use Rattle.hm_mem.specs.Seen.{IsSameElsewhere};
 ghost use Rattle.hm_order.specs.Machine.{begin, older, settle};
 ghost use Rattle.hm_regs.specs.Place.{Counted, InRange};
 ghost use Rattle.hm_rows.specs.Context.{with_context};
-ghost use Rattle.hm_run.specs.Program.{core, done_in_machine, rows, steps_left, to_end, vector_in, vector_of};
-ghost use Rattle.hm_run.specs.Stops.{halt_of, scalar_halt};
+ghost use Rattle.hm_run.specs.Program.{core, done_in_machine, most_output, rows, steps_left, to_end, vector_in, vector_of};
+ghost use Rattle.hm_run.specs.Stops.{break_of, scalar_break};
 ghost use Rattle.hm_state.specs.State.{state_of};
 ghost use Rattle.hm_thumb.specs.Families.{is_vector_row};
 ghost use Rattle.hm_thumb.specs.Rows.{made};
 ghost use Rattle.hm_whole.specs.Whole.{scalar_in_machine};
 
+use crate::service::breakpoint;
 use hm_base::Stop;
 use hm_beat::BeatWise;
 use hm_decode::fetch;
@@ -23,7 +25,7 @@ use hm_isa::{Instr, Scalar, Vector};
 use hm_lane::context;
 use hm_mem::Mem;
 use hm_regs::Regs;
-use hm_run::{Cause, Reason, Window};
+use hm_run::{Cause, Window};
 
 /// What instructions change, and how many were done.
 #[derive(Drop)]
@@ -115,27 +117,27 @@ fn vector_step(v: &Vector, x: &mut Cpu) -> Result<(), Cause>
     Ok(())
 }
 
-/// Why a scalar instruction halts the program, where it does.
-fn scalar_halt(i: &Scalar) -> Option<Reason>
-    ensures value { result ≡ scalar_halt i.now }
+/// The number of a breakpoint, among scalar instructions.
+fn scalar_break(i: &Scalar) -> Option<u8>
+    ensures value { result ≡ scalar_break i.now }
 {
     match i {
-        Scalar::S18(i) => Some(Reason::Break(i.i.get() as u8)),
+        Scalar::S18(i) => Some(i.i.get() as u8),
         _ => None,
     }
 }
 
-/// Why an instruction halts the program, where it does: a breakpoint does, before all else.
-fn halt_of(i: &Instr) -> Option<Reason>
-    ensures value { result ≡ halt_of i.now }
+/// The number of a breakpoint.
+fn break_of(i: &Instr) -> Option<u8>
+    ensures value { result ≡ break_of i.now }
 {
     match i {
-        Instr::Scalar(i) => scalar_halt(i),
+        Instr::Scalar(i) => scalar_break(i),
         Instr::Branch(_) | Instr::Vector(_) => None,
     }
 }
 
-/// An instruction that is no vector row and does not halt, done; or a stop, which changes nothing but that a context may have
+/// An instruction that is no vector row and no breakpoint, done; or a stop, which changes nothing but that a context may have
 /// been made. In a thread each that is done goes on to the next.
 fn execute(i: &Instr, regs: &mut Regs, mem: &mut Mem) -> Result<(), Cause>
     requires row { IsTrue (not (is_vector_row i.now)) }
@@ -153,23 +155,34 @@ fn execute(i: &Instr, regs: &mut Regs, mem: &mut Mem) -> Result<(), Cause>
     }
 }
 
+/// After the whole of an instruction that is no vector row, which is retired.
+fn retire(x: &mut Cpu)
+    requires count { (x.old.retired < 2 ^ 63) × (x.old.older_steps < 2 ^ 63) }
+    ensures new { x.new ≡ record x.old { window = record { a = 0; b = 0 }; retired = x.old.retired + 1; older_steps = x.old.older_steps + 1 } }
+{
+    x.window = Window { a: 0, b: 0 };
+    x.retired += 1;
+    x.older_steps += 1;
+}
+
 /// The whole of an instruction that is no vector row, which stands at the program counter; or it halts, or stops.
 fn other_step(i: &Instr, x: &mut Cpu) -> Result<(), Cause>
     requires row { IsTrue (not (is_vector_row i.now)) }
     requires count { (x.old.retired < 2 ^ 63) × (x.old.older_steps < 2 ^ 63) }
     requires position { IsPosition x.old }
+    requires room { vec_capacity x.old.output ≡ most_output }
     ensures value { (listing : Listing) → listing x.old.regs.pc ≡ Ok i.now
         → reached result x.new ≡ older (core listing (memory_of x.old.mem).around) (config_of x.old) }
     ensures kept { Keeps x.old x.new }
     ensures count { CountsOne x.old x.new }
 {
-    if let Some(reason) = halt_of(i) {
-        return Err(Cause::Halt(reason));
+    if let Some(k) = break_of(i) {
+        breakpoint(k, x)?;
+        retire(x);
+        return Ok(());
     }
     execute(i, &mut x.regs, &mut x.mem)?;
-    x.window = Window { a: 0, b: 0 };
-    x.retired += 1;
-    x.older_steps += 1;
+    retire(x);
     Ok(())
 }
 
@@ -178,6 +191,7 @@ fn other_step(i: &Instr, x: &mut Cpu) -> Result<(), Cause>
 fn step(i: &Instr, x: &mut Cpu) -> Result<(), Cause>
     requires count { (x.old.retired < 2 ^ 63) × (x.old.older_steps < 2 ^ 63) }
     requires position { IsPosition x.old }
+    requires room { vec_capacity x.old.output ≡ most_output }
     requires pc { x.old.regs.pc + 4 < 2 ^ 32 }
     ensures value { (listing : Listing) → listing x.old.regs.pc ≡ Ok i.now
         → reached result x.new ≡ older (core listing (memory_of x.old.mem).around) (config_of x.old) }
@@ -194,6 +208,7 @@ fn step(i: &Instr, x: &mut Cpu) -> Result<(), Cause>
 pub fn older(x: &mut Cpu) -> Result<(), Cause>
     requires count { (x.old.retired < 2 ^ 63) × (x.old.older_steps < 2 ^ 63) }
     requires position { IsPosition x.old }
+    requires room { vec_capacity x.old.output ≡ most_output }
     ensures value { (listing : Listing) → IsListing (flash_at (memory_of x.old.mem)) listing
         → reached result x.new ≡ older (core listing (memory_of x.old.mem).around) (config_of x.old) }
     ensures kept { Keeps x.old x.new }
@@ -243,6 +258,7 @@ fn steps_left(x: &Cpu) -> u8
 pub fn whole(x: &mut Cpu) -> Result<(), Cause>
     requires count { (x.old.retired < 2 ^ 61) × (x.old.older_steps < 2 ^ 61) }
     requires position { IsPosition x.old }
+    requires room { vec_capacity x.old.output ≡ most_output }
     ensures value { (listing : Listing) → IsListing (flash_at (memory_of x.old.mem)) listing
         → reached result x.new ≡ to_end (core listing (memory_of x.old.mem).around) (config_of x.old) }
     ensures kept { Keeps x.old x.new }

@@ -6,6 +6,7 @@ mod cursor;
 mod load;
 mod machine;
 mod memory_text;
+mod service;
 mod tick;
 mod younger;
 

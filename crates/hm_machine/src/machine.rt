@@ -20,6 +20,7 @@ use crate::cpu::Cpu;
 use crate::cursor::{Cursor, after_tick, line_at};
 use crate::load::{LoadErr, flash_word};
 use crate::memory_text::memory_text;
+use crate::service::OUTPUT;
 use crate::tick::{conclude, end_of_tick, letters, may_end};
 use hm_base::{Image, OutOfMemory};
 use hm_mem::Mem;
@@ -28,9 +29,6 @@ use hm_run::{Outcome, Rule, Turn, Window};
 use hm_sched::Schedule;
 use std::alloc::Global;
 use std::marker::Model;
-
-/// The most bytes that a program may write.
-const OUTPUT: usize = 0x1_0000;
 
 /// A machine in a run: an image in its memory, a schedule, and how far the run is.
 #[derive(Drop)]

@@ -1,12 +1,13 @@
 //! What a tick does: its letters, how a run ends in it, and what comes at its end.
 
 ghost use Rattle.std.specs.Prelude.{◌≡◌, ◌+◌, ◌%◌, ◌^◌, ◌<◌, ◌≤◌, nat_eq, true, false, if◌then◌else◌, [], length, Some, Err};
+ghost use Rattle.std.specs.Vec.{vec_capacity};
 ghost use Rattle.hm_codes.specs.Listing.{Listing, IsListing};
 ghost use Rattle.hm_machine.specs.Cpus.{config_of, hindered, reached_by_tick, troubled, IsPosition, Keeps, Stays};
 ghost use Rattle.hm_mem.specs.Memory.{memory_of, flash_at};
 ghost use Rattle.hm_mem.specs.Seen.{with_dev};
 ghost use Rattle.hm_order.specs.Machine.{Config};
-ghost use Rattle.hm_run.specs.Program.{Stopping, core, at_step, letter_step, letter_steps};
+ghost use Rattle.hm_run.specs.Program.{Stopping, core, at_step, letter_step, letter_steps, most_output};
 ghost use Rattle.hm_run.specs.Timed.{Timed, ended, outcome_of, outcome_of_stop, at_stop, counted_with, may_end};
 ghost use Rattle.hm_sched.specs.Schedule.{TickLine, younger_letter};
 ghost use Rattle.hm_state.specs.State.{State};
@@ -54,6 +55,7 @@ fn stop_of(cause: Cause) -> Trouble
 fn letter(step: u32, l: u8, x: &mut Cpu) -> Result<(), Trouble>
     requires count { (x.old.retired < 2 ^ 61) × (x.old.older_steps < 2 ^ 61) }
     requires position { IsPosition x.old }
+    requires room { vec_capacity x.old.output ≡ most_output }
     ensures value { (listing : Listing) → IsListing (flash_at (memory_of x.old.mem)) listing
         → reached_by_tick result x.new ≡ at_step step (nat_eq l younger_letter) (letter_step (core listing (memory_of x.old.mem).around) l (config_of x.old)) }
     ensures kept { Keeps x.old x.new }
@@ -77,6 +79,7 @@ pub fn letters(letters: &[u8], x: &mut Cpu) -> Result<(), Trouble>
     requires few { length letters.now ≤ 8 }
     requires count { (x.old.retired < 2 ^ 60) × (x.old.older_steps < 2 ^ 60) }
     requires position { IsPosition x.old }
+    requires room { vec_capacity x.old.output ≡ most_output }
     ensures value { (listing : Listing) → IsListing (flash_at (memory_of x.old.mem)) listing
         → reached_by_tick result x.new ≡ letter_steps (core listing (memory_of x.old.mem).around) 0 letters.now (config_of x.old) }
     ensures kept { Keeps x.old x.new }

@@ -39,13 +39,14 @@ use Rattle.hm_run.specs.Program.{rows, core, alone, begins, caused, cause_of, do
 use Rattle.hm_whole.specs.Watched.{GoesAlike, Watched, In, Beside, Held, InCell, Besides, open_rest, held, dead, view}
 use Rattle.hm_run.specs.Stops as why
 use Rattle.hm_run.specs.declared.Reason.{Reason}
-use Rattle.hm_run.specs.Stops.{WholeStop, halt_of, unless_halted}
+use Rattle.hm_run.specs.Stops.{WholeStop, break_of}
 use Rattle.hm_rows.proofs.Rows.{keeps_lr, row_laws}
 use Rattle.hm_rows.proofs.Context.{context_fresh, context_pc, context_ready, context_there, fresh}
 use Rattle.hm_whole.specs.Whole.{Went, scalar_alone, scalar_in_machine}
 use Rattle.hm_whole.proofs.Agreement.{whole-live}
+use Rattle.hm_plain.proofs.Breakpoints.{AlikeBoth, Leaves, TaintedOrAlike, asked_alike, break_alike}
 use Rattle.hm_plain.proofs.Vectors.{beat_rest, context_clean, four_are, not_refused, ready_counts, ready_same, refuse_same, retire, row_beats, row_pc}
-use Rattle.hm_plain.proofs.Wholes.{Leaves, leaves, under_thread, watched_clean}
+use Rattle.hm_plain.proofs.Wholes.{leaves, under_thread, watched_clean}
 
 -- VIEWS
 abbrev value_in : Value → Held → Value
@@ -110,12 +111,6 @@ context_agree s t h = by_context s.rest.fpca refl (sym (ap (λ (r : Rest). r.fpc
         subst (λ (u : State). Agree u (with_context t)) (sym new_s) (subst (λ (u : State). Agree (fresh s) u) (sym new_t) (fresh_agree s t h))
 
 -- WHAT AN INSTRUCTION THAT IS NO VECTOR ROW DOES IN THEM
-abbrev AlikeBoth : Result State Cause → Result State WholeStop → Type 0
-AlikeBoth r q = AlikeAs cause_of (λ u v. Live view u v × (u.pc ≡ v.pc)) r q
-
-abbrev TaintedOrAlike : Result State Cause → Result State WholeStop → Type 0
-TaintedOrAlike r q = StopsBy is_tainted_cause r ⊎ AlikeBoth r q
-
 done_alike : (r : Result Went Stop) (q : Result Went Fault) → GoesAlike r q → TaintedOrAlike (done_in_machine r) (done_alone q)
 done_alike (Ok x) (Ok y) (inl h) = absurd h
 done_alike (Ok x) (Ok y) (inr h) = inr (h.live, h.pc)
@@ -126,16 +121,12 @@ done_alike (Err e) (Ok y) (inr h) = absurd h
 done_alike (Err e) (Err f) (inl h) = inl h
 done_alike (Err e) (Err f) (inr h) = inr (ap cause.Stop h)
 
-halted_alike : (o : Option Reason) (r : Result State Cause) (q : Result State WholeStop) → TaintedOrAlike r q
-    → TaintedOrAlike (unless_halted cause.Halt o r) (unless_halted why.Halt o q)
-halted_alike (Some reason) r q h = inr refl
-halted_alike None r q h = h
-
 module _ (x : Around) (thread : x.actor ≡ Thread) where
   by_thread : (i : Instr) (s t : State) → Live view s t → s.pc ≡ t.pc → TaintedOrAlike (other_by x i s) (other_row i t)
   by_thread i s t h e =
       subst (λ (y : Around). TaintedOrAlike (other_by y i s) (other_row i t)) (sym (under_thread x thread))
-      (halted_alike (halt_of i) _ _ (done_alike (scalar_in_machine (thread_under x.lo x.hi x.floor) i s) (scalar_alone i t) (whole-live x.lo x.hi x.floor i s t h e)))
+      (break_alike _ _ (break_of i) _ _ (asked_alike s t h e x.lo x.hi x.floor)
+      (done_alike (scalar_in_machine (thread_under x.lo x.hi x.floor) i s) (scalar_alone i t) (whole-live x.lo x.hi x.floor i s t h e)))
 
   other_alike : (r : Result Instr Fault) (s t : State) → vector_of r ≡ None → Live view s t → s.pc ≡ t.pc → TaintedOrAlike (other_here x r s) (whole_here r t)
   other_alike (Ok (instr.Scalar i)) s t none h e = by_thread (instr.Scalar i) s t h e

@@ -1,3 +1,4 @@
+pub mod Breakpoints
 pub mod Vectors
 pub mod Wholes
 pub mod Orders

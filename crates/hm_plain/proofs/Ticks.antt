@@ -27,13 +27,13 @@ use Rattle.hm_run.specs.declared.Rule.{Rule}
 use Rattle.hm_run.specs.declared.Rule.TheVariants as rule
 use Rattle.hm_run.specs.declared.Who.{Who}
 use Rattle.hm_run.specs.declared.Who.TheVariants.{Thread, Handler, Entry}
-use Rattle.hm_run.specs.Program.{Program, Stepped, Stopping, Ticked, alone, core, cause_of, done_alone, is_tainted_cause, letter_step, makes_here, at_step, letter_steps, or_fault, older_steps, steps_left, unless_refused, vector_of, whole_here}
+use Rattle.hm_run.specs.Program.{Program, Stepped, Stopping, Ticked, alone, broken, core, cause_of, done_alone, is_tainted_cause, letter_step, makes_here, at_step, letter_steps, or_fault, older_steps, steps_left, unless_refused, vector_of, whole_here}
 use Rattle.hm_whole.specs.Watched.{Watched, In, Beside, view, held, dead}
 use Rattle.hm_mem.specs.Devices.{open_devices}
 use Rattle.hm_run.specs.Stops as why
 use Rattle.hm_run.specs.declared.Reason.{Reason}
-use Rattle.hm_run.specs.Stops.{WholeStop, scalar_halt, unless_halted}
-use Rattle.hm_run.proofs.Steps.{halting_makes}
+use Rattle.hm_run.specs.Stops.{WholeStop, at_break, scalar_break}
+use Rattle.hm_run.proofs.Steps.{break_makes}
 use Rattle.hm_run.specs.Timed.{Timed, begin, who_runs, outcome_of, at_stop, counted_with, with_devices, may_end, ended, tick_of, closed, or_out, next, thread_program, timed}
 use Rattle.hm_sys.specs.Ticks.{arrived, counted, expired}
 use Rattle.hm_sched.specs.Schedule.{TickLine, Sched, older_letter, younger_letter, ticks_of}
@@ -148,17 +148,17 @@ module _ (listing : Listing) (around : Around) (thread : around.actor ≡ actor.
       true_not_false (is_fault w)
       (row_faults v (refuse v (with_context s)) (with_context s) w (sym (ap (λ (o : Option Vector). next_of machine o s) here) ∙ e)) other
 
-  -- an instruction that stops for something else halts the program, and makes no context
+  -- an instruction that stops for something else is a breakpoint, and makes no context
   done_faults : (q : Result Went Fault) (w : WholeStop) → done_alone q ≡ Err w → is_fault w ≡ true
   done_faults (Ok x) w e = absurd (ok_err e)
   done_faults (Err f) w e = ap is_fault (sym (err_same e))
 
-  halts_first : (o : Option Reason) (q : Result Went Fault) (w : WholeStop) → is_fault w ≡ false → unless_halted why.Halt o (done_alone q) ≡ Err w → o ≡ None → ⊥
-  halts_first (Some reason) q w other e none = cc
-  halts_first None q w other e none = true_not_false (is_fault w) (done_faults q w e) other
+  breaks_first : (f : ℕ → Result State WholeStop) (o : Option ℕ) (q : Result Went Fault) (w : WholeStop) → is_fault w ≡ false → at_break f o (done_alone q) ≡ Err w → o ≡ None → ⊥
+  breaks_first f (Some k) q w other e none = cc
+  breaks_first f None q w other e none = true_not_false (is_fault w) (done_faults q w e) other
 
   makes_none : (x : Result Instr Fault) (s : State) (w : WholeStop) → is_fault w ≡ false → vector_of x ≡ None → whole_here x s ≡ Err w → makes_here x (regs_of s) ≡ false
-  makes_none (Ok (instr.Scalar i)) s w other none e = halting_makes (instr.Scalar i) (regs_of s) (halts_first (scalar_halt i) (scalar_alone (instr.Scalar i) s) w other e)
+  makes_none (Ok (instr.Scalar i)) s w other none e = break_makes (instr.Scalar i) (regs_of s) (breaks_first (λ k. broken k s) (scalar_break i) (scalar_alone (instr.Scalar i) s) w other e)
   makes_none (Ok (instr.Branch i)) s w other none e = absurd (true_not_false (is_fault w) (done_faults (scalar_alone (instr.Branch i) s) w e) other)
   makes_none (Ok (instr.Vector v)) s w other none e = absurd cc
   makes_none (Err f) s w other none e = refl

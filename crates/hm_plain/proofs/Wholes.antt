@@ -22,13 +22,14 @@ use Rattle.hm_run.specs.declared.Cause.TheVariants as cause
 use Rattle.hm_run.specs.Program.{Program, Stepped, core, rows, alone, caused, cause_of, done_alone, done_in_machine, in_machine, letter_step, older_steps, or_fault, other_by, other_here, other_row, ready_state, steps_left, vector_of, vector_row, whole_here}
 use Rattle.hm_run.specs.declared.Reason.{Reason}
 use Rattle.hm_run.specs.Stops as why
-use Rattle.hm_run.specs.Stops.{WholeStop, halt_of, unless_halted}
+use Rattle.hm_run.specs.Stops.{WholeStop, break_of}
 use Rattle.hm_run.proofs.Steps.{older_other, older_vector, past}
 use Rattle.hm_sched.specs.Schedule.{whole_letter}
 use Rattle.hm_whole.specs.Watched as watched
 use Rattle.hm_whole.specs.Watched.{GoesClean, In, Beside, stops_too}
 use Rattle.hm_whole.specs.Whole.{Went, scalar_alone}
 use Rattle.hm_whole.proofs.Agreement.{whole-clean, whole-same}
+use Rattle.hm_plain.proofs.Breakpoints.{Leaves, break_leaves, break_same, broken_leaves, broken_same}
 use Rattle.hm_plain.proofs.Vectors.{beat_pc, context_clean, four_are, not_refused, retire, row_beats, row_leaves}
 
 -- between two instructions: n are done, in k steps
@@ -36,25 +37,17 @@ abbrev pub between : ℕ → ℕ → State → Config State
 between n k s = record { a = 0; b = 0; n = n; steps = k; state = s }
 
 -- WHAT AN INSTRUCTION LEAVES: no taint
-abbrev pub Leaves : Result State WholeStop → Type 0
-Leaves (Ok t) = Clean t
-Leaves (Err w) = Unit {0}
-
 pub watched_clean : (s : State) → Clean s → watched.Clean s
 watched_clean s h (In (At p)) = refl
 watched_clean s h (In (Byte a)) = h a
 watched_clean s h Beside = refl
-
-halt_leaves : (o : Option Reason) (r : Result State WholeStop) → Leaves r → Leaves (unless_halted why.Halt o r)
-halt_leaves (Some reason) r h = tt
-halt_leaves None r h = h
 
 done_leaves : (q : Result Went Fault) → GoesClean q → Leaves (done_alone q)
 done_leaves (Ok x) h = λ a. h (In (Byte a))
 done_leaves (Err f) h = tt
 
 other_leaves : (i : Instr) (s : State) → Clean s → Leaves (other_row i s)
-other_leaves i s h = halt_leaves (halt_of i) (done_alone (scalar_alone i s)) (done_leaves (scalar_alone i s) (whole-clean i s (watched_clean s h)))
+other_leaves i s h = break_leaves _ (break_of i) (done_alone (scalar_alone i s)) (broken_leaves s h) (done_leaves (scalar_alone i s) (whole-clean i s (watched_clean s h)))
 
 module _ (around : Around) (thread : around.actor ≡ Thread) where
   row_kept : (v : Vector) (s : State) → Clean s → (r : Result State WholeStop) → vector_row v s ≡ r → Leaves r
@@ -68,11 +61,9 @@ module _ (around : Around) (thread : around.actor ≡ Thread) where
   leaves (Err f) s h = tt
 
 -- WITHOUT TAINT an instruction that is no vector row comes in the machine to what it comes to alone
-halted_too : (o : Option Reason) (q : Result Went Fault)
-    → unless_halted cause.Halt o (done_in_machine (stops_too q)) ≡ in_machine (unless_halted why.Halt o (done_alone q))
-halted_too (Some reason) q = refl
-halted_too None (Ok x) = refl
-halted_too None (Err f) = refl
+done_same : (q : Result Went Fault) → done_in_machine (stops_too q) ≡ in_machine (done_alone q)
+done_same (Ok x) = refl
+done_same (Err f) = refl
 
 pub under_thread : (x : Around) → x.actor ≡ Thread → x ≡ thread_under x.lo x.hi x.floor
 under_thread x e = λ j. record { actor = e j; lo = x.lo; hi = x.hi; floor = x.floor }
@@ -81,8 +72,8 @@ module _ (x : Around) (thread : x.actor ≡ Thread) where
   same_is : (i : Instr) (s : State) → Clean s → other_by x i s ≡ in_machine (other_row i s)
   same_is i s clean =
       ap (λ (y : Around). other_by y i s) (under_thread x thread)
-      ∙ ap (λ (r : Result Went Stop). unless_halted cause.Halt (halt_of i) (done_in_machine r)) (whole-same x.lo x.hi x.floor i s (watched_clean s clean))
-      ∙ halted_too (halt_of i) (scalar_alone i s)
+      ∙ break_same _ _ (break_of i) _ _ (λ k. broken_same x.lo x.hi x.floor k s clean)
+      (ap done_in_machine (whole-same x.lo x.hi x.floor i s (watched_clean s clean)) ∙ done_same (scalar_alone i s))
 
   other_is : (r : Result Instr Fault) (s : State) → vector_of r ≡ None → Clean s → other_here x r s ≡ in_machine (whole_here r s)
   other_is (Ok (instr.Scalar i)) s none clean = same_is (instr.Scalar i) s clean

@@ -95,12 +95,12 @@ pub fn core_laws()
     ensures kept { (listing : Listing) (around : Around) → around.actor ≡ Thread → CoreLaws (core listing around) }
 {}
 
-/// After each tick of any schedule that has no entries whole instructions in order agree with the machine, while the run goes on. Where it
+/// After each tick of any schedule whole instructions in order agree with the machine, while the run goes on. Where it
 /// halts, or the thread has a fault, so do they.
 pub fn after_each_tick()
-    ensures order { (listing : Listing) (image : List Segment) (s : Sched) (t : ℕ) → s.entries ≡ false → KeepsOrder listing image s (timed listing image s t) }
+    ensures order { (listing : Listing) (image : List Segment) (s : Sched) (t : ℕ) → KeepsOrder listing image s (timed listing image s t) }
     // Between two instructions the registers, the output, the device words that a thread may read and the bytes without taint are
     // those of the instructions in order.
-    ensures between { (listing : Listing) (image : List Segment) (s : Sched) (t : ℕ) → s.entries ≡ false → let x = timed listing image s t in
+    ensures between { (listing : Listing) (image : List Segment) (s : Sched) (t : ℕ) → let x = timed listing image s t in
         GoesOn x.outcome → x.config.a ≡ 0 → ShownInOrder listing image x.config.n x.config.state }
 {}

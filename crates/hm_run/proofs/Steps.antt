@@ -14,7 +14,7 @@ use Rattle.hm_run.specs.declared.Outcome.{Outcome}
 use Rattle.hm_run.specs.declared.Outcome.TheVariants as outcome
 use Rattle.hm_run.specs.declared.Rule.TheVariants as rule
 use Rattle.hm_run.specs.Program.{Program, Stopping, Breach, Ticked, core, makes_here, other_by, other_here, rows, vector_of, letter_steps}
-use Rattle.hm_run.specs.Stops.{halt_of, scalar_halt}
+use Rattle.hm_run.specs.Stops.{break_of, scalar_break}
 use Rattle.hm_run.specs.Timed.{Timed, outcome_of, at_stop, counted_with, with_devices, may_end, ended, tick_of, closed, or_out, next}
 use Rattle.hm_sched.specs.Schedule.{TickLine}
 use Rattle.hm_regs.specs.declared.Regs.{Regs}
@@ -59,15 +59,15 @@ makes_row (Ok (instr.Branch i)) v r e = absurd cc
 makes_row (Ok (instr.Vector w)) v r e = refl
 makes_row (Err f) v r e = absurd cc
 
--- one that halts the program makes no context
-scalar_halts : (i : Scalar) (r : Regs) → (scalar_halt i ≡ None → ⊥) → makes_context (instr.Scalar i) r ≡ false
-scalar_halts (scalar.S18 i) r h = refl
-scalar_halts i r h = absurd (h refl)
+-- a breakpoint makes no context
+scalar_makes : (i : Scalar) (r : Regs) → (scalar_break i ≡ None → ⊥) → makes_context (instr.Scalar i) r ≡ false
+scalar_makes (scalar.S18 i) r h = refl
+scalar_makes i r h = absurd (h refl)
 
-pub halting_makes : (i : Instr) (r : Regs) → (halt_of i ≡ None → ⊥) → makes_context i r ≡ false
-halting_makes (instr.Scalar i) r h = scalar_halts i r h
-halting_makes (instr.Branch i) r h = absurd (h refl)
-halting_makes (instr.Vector v) r h = absurd (h refl)
+pub break_makes : (i : Instr) (r : Regs) → (break_of i ≡ None → ⊥) → makes_context i r ≡ false
+break_makes (instr.Scalar i) r h = scalar_makes i r h
+break_makes (instr.Branch i) r h = absurd (h refl)
+break_makes (instr.Vector v) r h = absurd (h refl)
 
 -- TICKS
 -- a tick of a run that goes on, up to what is left

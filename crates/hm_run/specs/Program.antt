@@ -1,6 +1,6 @@
 -- The machine of a program: what a step of the older instruction and one of the younger do. The listing says what
 -- stands at each address.
-use Rattle.std.specs.Prelude.{ℕ, zero, suc, ◌+◌, ◌-◌, ◌==◌, ◌&&◌, ◌||◌, not, nat_lt, is_none, Bool, true, false, cond, List, [], ◌∷◌, Option, Some, None, Result, Ok, Err}
+use Rattle.std.specs.Prelude.{ℕ, zero, suc, ◌+◌, ◌-◌, ◌==◌, ◌&&◌, ◌||◌, not, nat_lt, is_none, Bool, true, false, cond, List, [], ◌∷◌, ◌++◌, length, nat_eq, Option, Some, None, Result, Ok, Err}
 use Rattle.hm_base.specs.declared.Fault.{Fault}
 use Rattle.hm_base.specs.declared.Stop.{Stop}
 use Rattle.hm_base.specs.declared.Stop.TheVariants as stop
@@ -18,18 +18,23 @@ use Rattle.hm_order.specs.Beats.{Action, Beats, then}
 use Rattle.hm_order.specs.Machine.{Core, Config, End, Stopped, Broken, older, younger}
 use Rattle.hm_run.specs.declared.Cause.{Cause}
 use Rattle.hm_run.specs.declared.Cause.TheVariants as cause
+use Rattle.hm_run.specs.declared.Reason.TheVariants.{Break, Exit}
 use Rattle.hm_run.specs.declared.Rule.{Rule}
 use Rattle.hm_run.specs.declared.Rule.TheVariants as rule
-use Rattle.hm_run.specs.Stops.{WholeStop, Halt, Full, Faults, halt_of, unless_halted}
+use Rattle.hm_run.specs.Stops.{WholeStop, Halt, Full, Faults, at_break, break_of}
 use Rattle.hm_rows.specs.Context.{with_context}
 use Rattle.hm_rows.specs.Rows.{vector_tree, vector_whole, refuse}
 use Rattle.hm_sched.specs.Schedule.{older_letter, younger_letter}
 use Rattle.hm_regs.specs.declared.Regs.{Regs}
 use Rattle.hm_state.specs.State.{State, Cell, cells, regs_of}
 use Rattle.hm_base.specs.Stops.{is_tainted}
+use Rattle.hm_thumb.specs.Calls.{Asked, Writes, Exits, asked}
+use Rattle.hm_thumb.specs.Does as runner
 use Rattle.hm_thumb.specs.Rows.{makes_context}
+use Rattle.hm_thumb.specs.Steps.{settled}
+use Rattle.hm_thumb.specs.declared.Way.TheVariants as way
 use Rattle.hm_whole.specs.Watched.{Watched, In, Beside, Held, dead, view}
-use Rattle.hm_whole.specs.Whole.{Went, scalar_alone, scalar_in_machine}
+use Rattle.hm_whole.specs.Whole.{Went, scalar_alone, scalar_in_machine, seen_in, state_with}
 
 -- ONE WHOLE INSTRUCTION, in thread mode, alone. A vector row first makes the context where there is none, and may then
 -- be refused.
@@ -40,20 +45,42 @@ unless_refused None s = Ok s
 abbrev pub ready_state : Vector → State → Result State WholeStop
 ready_state v s = unless_refused (refuse v (with_context s)) (with_context s)
 
-abbrev pub or_fault : Result State Fault → Result State WholeStop
-or_fault (Ok s) = Ok s
+abbrev pub or_fault : {A : Type 0} → Result A Fault → Result A WholeStop
+or_fault (Ok x) = Ok x
 or_fault (Err f) = Err (Faults f)
 
 abbrev pub vector_row : Vector → State → Result State WholeStop
 vector_row v s = then (ready_state v s) (λ t. or_fault (vector_whole v t))
 
--- Any other instruction halts, or is done. (One that would end a handler is as any other: it stands in no thread.)
+-- A breakpoint halts the program with its number, but that 171 asks something of the host.
+abbrev pub asks : ℕ → Bool
+asks k = nat_eq k 171
+
+-- a program writes no more bytes than this
+abbrev pub most_output : ℕ
+most_output = 0x10000
+
+-- bytes behind the output, and the next instruction behind the breakpoint
+abbrev pub printed : List ℕ → State → State
+printed xs s = state_with (settled 2 way.On (regs_of s)) (seen_in s) s.rest.around (s.rest.output ++ xs)
+
+abbrev pub answered : State → Asked → Result State WholeStop
+answered s (Writes xs) = cond (nat_lt most_output (length s.rest.output + length xs)) (Err Full) (Ok (printed xs s))
+answered s (Exits reason) = Err (Halt (Exit reason))
+
+abbrev pub served : State → Result State WholeStop
+served s = then (or_fault (asked runner.alone (regs_of s) (seen_in s))) (answered s)
+
+abbrev pub broken : ℕ → State → Result State WholeStop
+broken k s = cond (asks k) (served s) (Err (Halt (Break k)))
+
+-- Any other instruction is done. (One that would end a handler is as any other: it stands in no thread.)
 abbrev pub done_alone : Result Went Fault → Result State WholeStop
 done_alone (Ok x) = Ok x.state
 done_alone (Err f) = Err (Faults f)
 
 abbrev pub other_row : Instr → State → Result State WholeStop
-other_row i s = unless_halted Halt (halt_of i) (done_alone (scalar_alone i s))
+other_row i s = at_break (λ k. broken k s) (break_of i) (done_alone (scalar_alone i s))
 
 abbrev pub whole : Instr → State → Result State WholeStop
 whole (instr.Scalar i) s = other_row (instr.Scalar i) s
@@ -78,13 +105,23 @@ abbrev pub in_machine : Result State WholeStop → Result State Cause
 in_machine (Ok s) = Ok s
 in_machine (Err w) = Err (cause_of w)
 
--- an instruction that is no vector row, in the machine
+-- a breakpoint, and any other instruction that is no vector row, in the machine
+abbrev pub caused : {A : Type 0} → Result A Stop → Result A Cause
+caused (Ok x) = Ok x
+caused (Err e) = Err (cause.Stop e)
+
+abbrev pub served_by : Around → State → Result State Cause
+served_by around s = then (caused (asked (runner.in_machine around) (regs_of s) (seen_in s))) (λ x. in_machine (answered s x))
+
+abbrev pub broken_by : Around → ℕ → State → Result State Cause
+broken_by around k s = cond (asks k) (served_by around s) (Err (cause.Halt (Break k)))
+
 abbrev pub done_in_machine : Result Went Stop → Result State Cause
 done_in_machine (Ok x) = Ok x.state
 done_in_machine (Err e) = Err (cause.Stop e)
 
 abbrev pub other_by : Around → Instr → State → Result State Cause
-other_by around i s = unless_halted cause.Halt (halt_of i) (done_in_machine (scalar_in_machine around i s))
+other_by around i s = at_break (λ k. broken_by around k s) (break_of i) (done_in_machine (scalar_in_machine around i s))
 
 abbrev pub other_here : Around → Result Instr Fault → State → Result State Cause
 other_here around (Ok (instr.Scalar i)) s = other_by around (instr.Scalar i) s
@@ -102,10 +139,6 @@ is_tainted_cause (cause.Stop e) = is_tainted e
 abbrev pub on_cell : (Cell → Bool) → Watched → Bool
 on_cell p (In c) = p c
 on_cell p Beside = false
-
-abbrev pub caused : Result State Stop → Result State Cause
-caused (Ok s) = Ok s
-caused (Err e) = Err (cause.Stop e)
 
 abbrev pub lifted : Action State Cell Stop → Action State Watched Cause
 lifted x = record { run = λ s. caused (x.run s); uses = λ s w. on_cell (x.uses s) w; sets = λ s w. on_cell (x.sets s) w; marks = x.marks }

@@ -1,12 +1,11 @@
 -- Why a whole instruction does not go on to the next.
-use Rattle.std.specs.Prelude.{Option, Some, None, Result, Err}
+use Rattle.std.specs.Prelude.{ℕ, Option, Some, None}
 use Rattle.hm_base.specs.declared.Fault.{Fault}
 use Rattle.hm_isa.specs.declared.Instr.{Instr}
 use Rattle.hm_isa.specs.declared.Instr.TheVariants as instr
 use Rattle.hm_isa.specs.declared.Scalar.{Scalar}
 use Rattle.hm_isa.specs.declared.Scalar.TheVariants as scalar
 use Rattle.hm_run.specs.declared.Reason.{Reason}
-use Rattle.hm_run.specs.declared.Reason.TheVariants.{Break}
 
 -- it halts, its output has no room, or it has a fault
 pub data WholeStop : Type 0 where
@@ -14,15 +13,16 @@ pub data WholeStop : Type 0 where
   Full : WholeStop
   Faults : Fault → WholeStop
 
--- why an instruction halts the program, where it does: a breakpoint does, before all else
-abbrev pub scalar_halt : Scalar → Option Reason
-scalar_halt (scalar.S18 i) = Some (Break i.i.value)
-scalar_halt i = None
+-- the number of a breakpoint
+abbrev pub scalar_break : Scalar → Option ℕ
+scalar_break (scalar.S18 i) = Some i.i.value
+scalar_break i = None
 
-abbrev pub halt_of : Instr → Option Reason
-halt_of (instr.Scalar i) = scalar_halt i
-halt_of i = None
+abbrev pub break_of : Instr → Option ℕ
+break_of (instr.Scalar i) = scalar_break i
+break_of i = None
 
-abbrev pub unless_halted : {A E : Type 0} → (Reason → E) → Option Reason → Result A E → Result A E
-unless_halted f (Some reason) r = Err (f reason)
-unless_halted f None r = r
+-- what a breakpoint does, by its number, or else what any other instruction does
+abbrev pub at_break : {A : Type 0} → (ℕ → A) → Option ℕ → A → A
+at_break f (Some k) r = f k
+at_break f None r = r

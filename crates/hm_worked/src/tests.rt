@@ -95,15 +95,82 @@ static RUNS: [Run; 9] = [
     ),
 ];
 
-#[test]
-fn plain_runs(rt: HostRuntime) -> Result<(), Fail> {
-    let alloc = rt.alloc();
-    for (code, ticks, lines) in RUNS {
+// What a program asks of its host: a text in flash and then the end, a byte inside an IT block, an operation that there is not, and a
+// text without an end.
+static ASKS: [Run; 4] = [
+    (
+        &[
+            0x14, 0x21, 4, 0x20, 0xab, 0xbe, 0x18, 0x20, 0xab, 0xbe, 0, 0, b'o', b'k', b'!', 0,
+        ],
+        6,
+        &[
+            "outcome halted exit 00000014 after 5",
+            "pc 00000010",
+            "output 3",
+            "6f6b21",
+        ],
+    ),
+    (
+        &[3, 0x20, 0x18, 0xbf, 0xab, 0xbe, 0, 0xbe],
+        4,
+        &[
+            "outcome halted break 0 after 4",
+            "pc 0000000e",
+            "it 00",
+            "output 1",
+            "00",
+        ],
+    ),
+    (
+        &[5, 0x20, 0xab, 0xbe],
+        2,
+        &[
+            "outcome fault thread semihost pc 0000000a addr 0000000a after 1",
+            "output 0",
+        ],
+    ),
+    (
+        &[0x20, 0x21, 4, 0x20, 0xab, 0xbe],
+        3,
+        &[
+            "outcome fault thread bus pc 0000000c addr 00100000 after 2",
+            "output 0",
+        ],
+    ),
+];
+
+/// The first of these runs whose report lacks one of its lines.
+fn first_that_differs(alloc: Global, runs: &[Run]) -> Result<Option<usize>, Fail> {
+    for (k, (code, ticks, lines)) in runs.iter().enumerate() {
         let mut bytes = START.to_vec(alloc)?;
         bytes.extend_from_slice(code)?;
-        let report = machine_report(alloc, &flat(alloc, &bytes)?, ticks)?;
-        assert!(rt; has_lines(&report, lines));
+        let report = machine_report(alloc, &flat(alloc, &bytes)?, *ticks)?;
+        if !has_lines(&report, lines) {
+            return Ok(Some(k));
+        }
     }
+    Ok(None)
+}
+
+#[test]
+fn services_of_the_host(rt: HostRuntime) -> Result<(), Fail> {
+    assert_eq!(rt; first_that_differs(rt.alloc(), &ASKS)?, None);
+    Ok(())
+}
+
+// movs r0,#3; bkpt #171; b back to it: a byte of output every two instructions
+#[test]
+fn output_full(rt: HostRuntime) -> Result<(), Fail> {
+    let code = [3, 0x20, 0xab, 0xbe, 0xfd, 0xe7];
+    let alloc = rt.alloc();
+    let report = report_under(alloc, &code, plain(alloc, 131_076)?)?;
+    assert!(rt; has_lines(&report, &["outcome output tick 131074", "output 65536"]));
+    Ok(())
+}
+
+#[test]
+fn plain_runs(rt: HostRuntime) -> Result<(), Fail> {
+    assert_eq!(rt; first_that_differs(rt.alloc(), &RUNS)?, None);
     Ok(())
 }
 
