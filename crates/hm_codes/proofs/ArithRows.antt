@@ -1,9 +1,8 @@
 -- The rows of shifts, products, quotients and choices of 32-bit codes.
-use Rattle.std.proofs.Common.{◌≡◌, ◌+◌, ◌/◌, ◌%◌, ◌^◌, ℕ, List, [], ◌∷◌, arith, refl, ap, sym, ◌∙◌, IsTrue}
+use Rattle.std.proofs.Common.{◌≡◌, ℕ, List, [], ◌∷◌, arith, refl, ap, sym, ◌∙◌, IsTrue}
 use Rattle.std.proofs.lemmas.Bool.Decides.{nat_tests}
 use Rattle.hm_isa.specs.declared.arith.BitsName.{BitsName}
 use Rattle.hm_isa.specs.declared.arith.Accumulate.{Accumulate}
-use Rattle.hm_isa.specs.declared.arith.T10.{T10}
 use Rattle.hm_isa.specs.declared.arith.T11.{T11}
 use Rattle.hm_isa.specs.declared.arith.T11.TheVariants as t11
 use Rattle.hm_isa.specs.contracts.narrow.ExtendName as extend_
@@ -24,9 +23,9 @@ use Rattle.hm_isa.specs.contracts.arith.T20 as t20_
 use Rattle.hm_isa.specs.Rules.{is_accumulated}
 use Rattle.hm_isa.specs.ArithCodes.{wide_shift_base, code_t8, wide_extend_base, code_t9, bits_base, code_t10, operation_base, code_operation, accumulate_base, code_accumulate, long_product_base, code_long_product, code_t11, select_base, code_t20}
 use Rattle.hm_layout.proofs.Same.{same_below, same_struct}
-use Rattle.hm_layout.proofs.Places.{Place, place, head_or, rest_of}
+use Rattle.hm_layout.proofs.Places.{place, head_or, rest_of}
 use Rattle.hm_layout.proofs.Search.{one_rule, try_below, try_names, try_pair, try_unit}
-use Rattle.hm_layout.proofs.Coded.{Coded, Digit, digit}
+use Rattle.hm_layout.proofs.Coded.{Coded, digit}
 use Rattle.hm_layout.proofs.Rows.{Row, at, by_name, the_name, Named, named, Split, coded, sparing}
 use Rattle.hm_layout.proofs.Tables.{of_table, ◌▹◌}
 

@@ -1,5 +1,5 @@
 -- The rows of special registers, barriers, and of scalar instructions on vector registers.
-use Rattle.std.proofs.Common.{◌≡◌, ◌+◌, ℕ, List, [], ◌∷◌, arith, refl, inl, true}
+use Rattle.std.proofs.Common.{ℕ, [], ◌∷◌, arith, refl, inl, true}
 use Rattle.hm_isa.specs.declared.system.T18.{T18}
 use Rattle.hm_isa.specs.declared.system.T18.TheVariants as t18
 use Rattle.hm_isa.specs.declared.system.T19.{T19}

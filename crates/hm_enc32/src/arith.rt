@@ -27,7 +27,7 @@ use hm_isa::{
     Operation, OperationName, Scalar, SelectName, T8, T9, T10, T11, T20, WideShiftName,
 };
 
-/// The name whose code without its fields is this.
+/// The operation of the row T8 whose code without its fields is this.
 fn wide_shift_name(rest: u32) -> Option<WideShiftName>
     ensures found { IfSome result (λ x. wide_shift_base x ≡ rest) }
     ensures none { IfNone result ((x : WideShiftName) → wide_shift_base x ≡ rest → ⊥) }
@@ -66,7 +66,7 @@ fn decode_t8(w: u32) -> Option<T8>
     })
 }
 
-/// The name whose code without its fields is this.
+/// The operation of the row T9 whose code without its fields is this.
 fn wide_extend_name(rest: u32) -> Option<ExtendName>
     ensures found { IfSome result (λ x. wide_extend_base x ≡ rest) }
     ensures none { IfNone result ((x : ExtendName) → wide_extend_base x ≡ rest → ⊥) }
@@ -103,7 +103,7 @@ fn decode_t9(w: u32) -> Option<T9>
     })
 }
 
-/// The name whose code without its fields is this.
+/// The operation of the row T10 whose code without its fields is this.
 fn bits_name(rest: u32) -> Option<BitsName>
     ensures found { IfSome result (λ x. bits_base x ≡ rest) }
     ensures none { IfNone result ((x : BitsName) → bits_base x ≡ rest → ⊥) }
@@ -139,7 +139,7 @@ fn decode_t10(w: u32) -> Option<T10>
     })
 }
 
-/// The name whose code without its fields is this.
+/// The operation of the row T11 whose code without its fields is this.
 fn operation_name(rest: u32) -> Option<OperationName>
     ensures found { IfSome result (λ x. operation_base x ≡ rest) }
     ensures none { IfNone result ((x : OperationName) → operation_base x ≡ rest → ⊥) }
@@ -175,7 +175,7 @@ fn decode_operation(w: u32) -> Option<Operation>
     })
 }
 
-/// The name whose code without its fields is this.
+/// The operation of the row T11 whose code without its fields is this.
 fn accumulate_name(rest: u32) -> Option<AccumulateName>
     ensures found { IfSome result (λ x. accumulate_base x ≡ rest) }
     ensures none { IfNone result ((x : AccumulateName) → accumulate_base x ≡ rest → ⊥) }
@@ -220,7 +220,7 @@ fn decode_accumulate(w: u32) -> Option<Accumulate>
     })
 }
 
-/// The name whose code without its fields is this.
+/// The operation of the row T11 whose code without its fields is this.
 fn long_product_name(rest: u32) -> Option<LongProductName>
     ensures found { IfSome result (λ x. long_product_base x ≡ rest) }
     ensures none { IfNone result ((x : LongProductName) → long_product_base x ≡ rest → ⊥) }
@@ -276,7 +276,7 @@ fn decode_t11(w: u32) -> Option<T11>
     None
 }
 
-/// The name whose code without its fields is this.
+/// The operation of the row T20 whose code without its fields is this.
 fn select_name(rest: u32) -> Option<SelectName>
     ensures found { IfSome result (λ x. select_base x ≡ rest) }
     ensures none { IfNone result ((x : SelectName) → select_base x ≡ rest → ⊥) }
@@ -342,7 +342,7 @@ pub fn find_arith(w: u32) -> Option<Scalar>
     None
 }
 
-/// The code of a name without its fields.
+/// The code of an operation of the row T8 without its fields.
 fn of_wide_shift(x: WideShiftName) -> u32
     ensures { result ≡ wide_shift_base x }
 {
@@ -360,7 +360,7 @@ pub fn encode_t8(r: &T8) -> u32
     of_wide_shift(r.name) + (r.s.get() << 20) + (r.n.get() << 16) + (r.d.get() << 8) + r.m.get()
 }
 
-/// The code of a name without its fields.
+/// The code of an operation of the row T9 without its fields.
 fn of_wide_extend(x: ExtendName) -> u32
     ensures { result ≡ wide_extend_base x }
 {
@@ -378,7 +378,7 @@ pub fn encode_t9(r: &T9) -> u32
     of_wide_extend(r.name) + (r.d.get() << 8) + (r.r.get() << 4) + r.m.get()
 }
 
-/// The code of a name without its fields.
+/// The code of an operation of the row T10 without its fields.
 fn of_bits(x: BitsName) -> u32
     ensures { result ≡ bits_base x }
 {
@@ -397,7 +397,7 @@ pub fn encode_t10(r: &T10) -> u32
     of_bits(r.name) + (r.m.get() << 16) + (r.d.get() << 8) + r.m.get()
 }
 
-/// The code of a name without its fields.
+/// The code of an operation of the row T11 without its fields.
 fn of_operation(x: OperationName) -> u32
     ensures { result ≡ operation_base x }
 {
@@ -414,7 +414,7 @@ fn encode_operation(r: &Operation) -> u32
     of_operation(r.name) + (r.n.get() << 16) + (r.d.get() << 8) + r.m.get()
 }
 
-/// The code of a name without its fields.
+/// The code of an operation of the row T11 without its fields.
 fn of_accumulate(x: AccumulateName) -> u32
     ensures { result ≡ accumulate_base x }
 {
@@ -430,7 +430,7 @@ fn encode_accumulate(r: &Accumulate) -> u32
     of_accumulate(r.name) + (r.n.get() << 16) + (r.a.get() << 12) + (r.d.get() << 8) + r.m.get()
 }
 
-/// The code of a name without its fields.
+/// The code of an operation of the row T11 without its fields.
 fn of_long_product(x: LongProductName) -> u32
     ensures { result ≡ long_product_base x }
 {
@@ -458,7 +458,7 @@ pub fn encode_t11(r: &T11) -> u32
     }
 }
 
-/// The code of a name without its fields.
+/// The code of an operation of the row T20 without its fields.
 fn of_select(x: SelectName) -> u32
     ensures { result ≡ select_base x }
 {

@@ -324,5 +324,8 @@ pub fn find_scalar(w: u32) -> Option<Scalar>
     if let Some(r) = decode_t15(w) {
         return Some(Scalar::T15(r));
     }
-    find_system(w)
+    if let Some(s) = find_system(w) {
+        return Some(s);
+    }
+    None
 }

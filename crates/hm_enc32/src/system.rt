@@ -23,7 +23,7 @@ use hm_isa::{
     T19, T21, T22, WrittenName,
 };
 
-/// The name whose code without its fields is this.
+/// The register of `mrs` whose code without the other field is this.
 fn read_name(rest: u32) -> Option<ReadName>
     ensures found { IfSome result (λ x. read_base x ≡ rest) }
     ensures none { IfNone result ((x : ReadName) → read_base x ≡ rest → ⊥) }
@@ -57,7 +57,7 @@ fn decode_mrs(w: u32) -> Option<Mrs>
     })
 }
 
-/// The name whose code without its fields is this.
+/// The register of `msr` whose code without the other field is this.
 fn written_name(rest: u32) -> Option<WrittenName>
     ensures found { IfSome result (λ x. written_base x ≡ rest) }
     ensures none { IfNone result ((x : WrittenName) → written_base x ≡ rest → ⊥) }
@@ -103,7 +103,7 @@ fn decode_t18(w: u32) -> Option<T18>
     None
 }
 
-/// The name whose code without its fields is this.
+/// The operation of the row T19 whose code without its fields is this.
 fn barrier_name(rest: u32) -> Option<BarrierName>
     ensures found { IfSome result (λ x. barrier_base x ≡ rest) }
     ensures none { IfNone result ((x : BarrierName) → barrier_base x ≡ rest → ⊥) }
@@ -156,7 +156,7 @@ fn may_be_system_move(x: SystemMoveName, t: u32) -> bool
     }
 }
 
-/// The name whose code without its fields is this.
+/// The operation of the row T21 whose code without its fields is this.
 fn system_move_name(rest: u32) -> Option<SystemMoveName>
     ensures found { IfSome result (λ x. system_move_base x ≡ rest) }
     ensures none { IfNone result ((x : SystemMoveName) → system_move_base x ≡ rest → ⊥) }
@@ -190,7 +190,7 @@ fn decode_t21(w: u32) -> Option<T21>
     })
 }
 
-/// The name whose code without its fields is this.
+/// The operation of the row T22 whose code without its fields is this.
 fn lane_move_name(rest: u32) -> Option<LaneMoveName>
     ensures found { IfSome result (λ x. lane_move_base x ≡ rest) }
     ensures none { IfNone result ((x : LaneMoveName) → lane_move_base x ≡ rest → ⊥) }
@@ -249,7 +249,7 @@ pub fn find_system(w: u32) -> Option<Scalar>
     None
 }
 
-/// The code of a name without its fields.
+/// The code of a register of `mrs` without the other field.
 fn of_read(x: ReadName) -> u32
     ensures { result ≡ read_base x }
 {
@@ -268,7 +268,7 @@ fn encode_mrs(r: &Mrs) -> u32
     of_read(r.name) + (r.d.get() << 8)
 }
 
-/// The code of a name without its fields.
+/// The code of a register of `msr` without the other field.
 fn of_written(x: WrittenName) -> u32
     ensures { result ≡ written_base x }
 {
@@ -294,7 +294,7 @@ pub fn encode_t18(r: &T18) -> u32
     }
 }
 
-/// The code of a name without its fields.
+/// The code of an operation of the row T19 without its fields.
 fn of_barrier(x: BarrierName) -> u32
     ensures { result ≡ barrier_base x }
 {
@@ -320,7 +320,7 @@ pub fn encode_t19(r: &T19) -> u32
     }
 }
 
-/// The code of a name without its fields.
+/// The code of an operation of the row T21 without its fields.
 fn of_system_move(x: SystemMoveName) -> u32
     ensures { result ≡ system_move_base x }
 {
@@ -340,7 +340,7 @@ pub fn encode_t21(r: &T21) -> u32
     of_system_move(r.name) + (r.t.get() << 12)
 }
 
-/// The code of a name without its fields.
+/// The code of an operation of the row T22 without its fields.
 fn of_lane_move(x: LaneMoveName) -> u32
     ensures { result ≡ lane_move_base x }
 {

@@ -1,7 +1,7 @@
 //! What a program asks of its host by a breakpoint: Arm's semihosting, the operations WRITEC, WRITE0 and EXIT.
 
 ghost use Rattle.std.specs.Prelude.{◌≡◌, ◌+◌, ◌≤◌, ◌++◌, [], ◌∷◌, false, length, None, Ok, IfOk, IsTrue, OnErr};
-ghost use Rattle.std.specs.Vec.{vec_capacity};
+ghost use Rattle.std.specs.Vec.{vec_capacity, vec_len};
 ghost use Rattle.hm_machine.specs.Cpus.{executed, state_in, IsServed};
 ghost use Rattle.hm_machine.specs.Services.{asked_by, asked_for, told, AreFree, IsThere};
 ghost use Rattle.hm_mem.specs.Devices.{has_width, read_devices, word_at};
@@ -79,7 +79,7 @@ fn byte_request(addr: u32, mem: &Mem) -> Result<Request, Stop>
 }
 
 /// What the program asks: WRITEC, WRITE0 or EXIT, by the operation in r0, about r1. What is written is read first, as any bytes.
-fn request(regs: &Regs, mem: &Mem) -> Result<Request, Stop>
+fn requested(regs: &Regs, mem: &Mem) -> Result<Request, Stop>
     ensures value { let m = memory_of mem.now in asked_for result (seen m) ≡ asked (in_machine m.around) regs.now (seen m) }
     ensures free { IfOk result (λ q. IsThere (memory_of mem.now) q) }
 {
@@ -127,7 +127,7 @@ fn byte_at(addr: u32, mem: &Mem) -> u8
 /// Puts so many bytes from an address on, which can be loaded, behind the output. There is room for them.
 fn print(addr: u32, len: u32, mem: &Mem, output: &mut Vec<u8>)
     requires free { AreFree (memory_of mem.now) len addr }
-    requires room { length output.old.items + len ≤ vec_capacity output.old }
+    requires room { vec_len output.old + len ≤ vec_capacity output.old }
     ensures items { output.new.items ≡ output.old.items ++ words 1 len addr (seen (memory_of mem.now)) }
     ensures capacity { vec_capacity output.new ≡ vec_capacity output.old }
 {
@@ -171,7 +171,7 @@ pub fn breakpoint(k: u8, x: &mut Cpu) -> Result<(), Cause>
         return Err(Cause::Halt(Reason::Break(k)));
     }
     x.regs.in_range();
-    match request(&x.regs, &x.mem) {
+    match requested(&x.regs, &x.mem) {
         Err(stop) => Err(Cause::Stop(stop)),
         Ok(q) => answer(q, x),
     }

@@ -1,5 +1,5 @@
 -- Breakpoints: in the machine and alone.
-use Rattle.std.proofs.Common.{◌≡◌, ℕ, ◌+◌, ◌++◌, ap, refl, subst, sym, Bool, true, false, cond, length, nat_lt, Option, Some, None, Result, Ok, Err, inl, inr, ◌⊎◌, ◌∙◌}
+use Rattle.std.proofs.Common.{◌≡◌, ℕ, ◌+◌, ◌++◌, ap, refl, subst, sym, Bool, true, false, cond, length, nat_lt, List, Option, Some, None, Result, Ok, Err, inl, inr, ◌⊎◌, ◌∙◌}
 use Rattle.hm_base.specs.declared.Fault.{Fault}
 use Rattle.hm_base.specs.declared.Stop.{Stop}
 use Rattle.hm_base.specs.Stops.{is_tainted}

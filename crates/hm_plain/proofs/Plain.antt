@@ -27,7 +27,8 @@ use Rattle.hm_plain.specs.Sequence.{FaultsAt}
 use Rattle.hm_plain.proofs.Halts.{fault_as, full_as, halted_as, kept, no_acts, reports_going, reports_stop, shown_between}
 use Rattle.hm_plain.proofs.Orders.{stopped_later}
 use Rattle.hm_plain.proofs.Ticks.{keeps_order}
-use Rattle.hm_plain.proofs.Wholes.{Comes, Leaves, between, leaves, whole_step}
+use Rattle.hm_plain.proofs.Breakpoints.{Leaves}
+use Rattle.hm_plain.proofs.Wholes.{Comes, between, leaves, whole_step}
 use Rattle.hm_run.proofs.Steps.{ticked, next_ended}
 
 -- the outcome of a run that goes on, where so many ticks are left

@@ -8,10 +8,7 @@ use hm_isa::{
     Accumulate, AccumulateName, LongProduct, LongProductName, Operation, OperationName, T11,
 };
 use hm_regs::Regs;
-use hm_thumb::extended;
-
-/// The sign bit of a word.
-const SIGN: u32 = 0x8000_0000;
+use hm_thumb::{SIGN, extended};
 
 /// The magnitude of a word with its sign.
 fn magnitude(x: u32) -> u32

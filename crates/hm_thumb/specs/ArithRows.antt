@@ -1,5 +1,5 @@
 -- What shifts, products, quotients and choices of 32-bit codes do.
-use Rattle.std.specs.Prelude.{ℕ, ◌+◌, ◌-◌, ◌*◌, ◌/◌, ◌%◌, ◌^◌, Bool, true, false, cond, not, nat_eq, if◌then◌else◌}
+use Rattle.std.specs.Prelude.{ℕ, ◌+◌, ◌-◌, ◌*◌, ◌/◌, ◌%◌, ◌^◌, cond, nat_eq, if◌then◌else◌}
 use Rattle.std.proofs.Math.Bool.{beq}
 use Rattle.std.specs.Int.{w32, reverse_bits, leading_zeros}
 use Rattle.hm_isa.specs.declared.narrow.SwapName.TheVariants as swap_
