@@ -11,7 +11,7 @@ length-repeat : (n : ℕ) (line : TickLine) (rest : List TickLine) → length (r
 length-repeat zero line rest = omega arith
 length-repeat (suc n) line rest = omega (arith, length-repeat n line rest)
 
-total-cons : (line : TickLine) (lines : List TickLine) → total (line ∷ lines) ≡ line.count + total lines
+pub total-cons : (line : TickLine) (lines : List TickLine) → total (line ∷ lines) ≡ line.count + total lines
 total-cons line lines = sum_by-cons (λ (line : TickLine). line.count) line lines
 
 -- there are as many ticks as the counts say

@@ -1,5 +1,5 @@
 -- Schedules: what each tick of a run does.
-use Rattle.std.specs.Prelude.{◌≡◌, ℕ, zero, suc, ◌+◌, ◌≤◌, ◌⊎◌, Bool, false, List, [], ◌∷◌, length}
+use Rattle.std.specs.Prelude.{◌≡◌, ℕ, zero, suc, ◌+◌, ◌^◌, ◌<◌, ◌≤◌, ◌⊎◌, Bool, false, List, [], ◌∷◌, length}
 use Rattle.std.specs.List.{All, sum_by}
 use Rattle.hm_base.specs.Image.{sram_start, sram_size}
 use Rattle.hm_sched.specs.declared.Line.{Line}
@@ -68,11 +68,12 @@ plain n = record { entries = false; lo = sram_start; hi = sram_start; floor = sr
 abbrev pub IsLetter : ℕ → Type 0
 IsLetter c = (c ≡ older_letter) ⊎ (c ≡ younger_letter) ⊎ (c ≡ whole_letter)
 
--- a line has a tick at least, and at most eight letters
+-- a line has a tick at least, at most eight letters, and interrupts 0 to 31
 pub record IsLine (line : TickLine) : Type 0 where
   pub some : 1 ≤ line.count
   pub few : length line.letters ≤ 8
   pub each_letter : All IsLetter line.letters
+  pub interrupts : line.irq < 2 ^ 32
 
 -- the region and the floor lie in SRAM or at its end, each line is one, and there are not too many ticks
 pub record IsSched (s : Sched) : Type 0 where

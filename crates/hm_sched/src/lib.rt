@@ -1,4 +1,4 @@
-//! Schedules: what each tick of a run does.
+//! Schedules: what each tick of a run does, and the files that they stand in.
 #![tactic(auto)]
 
 ghost use Rattle.std.specs.Prelude.{◌≡◌, ◌+◌, ◌≤◌, ◌<◌, ◌↔◌, Bool, false, [], ◌∷◌, ◌++◌, length, Some, Err, slice_get, IfOk, OnOk, OnErr, IsOkUnless};
@@ -7,10 +7,15 @@ ghost use Rattle.hm_sched.specs.Schedule.{TickLine, Sched, line_of, most_ticks, 
 ghost use Rattle.hm_base.specs.Image.{sram_start, sram_size};
 
 mod errors;
+mod printing;
+mod reading;
+mod tick_text;
 
 use arrayvec::ArrayVec;
 pub use errors::{LineKind, SchedErr};
 use hm_base::SRAM_START;
+pub use printing::print;
+pub use reading::parse;
 use std::alloc::Global;
 use std::marker::Model;
 
@@ -186,84 +191,4 @@ pub fn plain(alloc: Global, n: u32) -> Result<Schedule, SchedErr>
 }
 
 #[cfg(test)]
-mod tests {
-    use super::*;
-    use std::test::Fail;
-
-    #[test]
-    fn plain_schedules(rt: HostRuntime) -> Result<(), Fail> {
-        let none = plain(rt.alloc(), 0)?;
-        assert_eq!(rt; none.lines(), 0);
-        assert_eq!(rt; none.ticks(), 0);
-        assert!(rt; !none.entries());
-        assert_eq!(rt; none.region(), (0x2000_0000, 0x2000_0000));
-        assert_eq!(rt; none.floor(), 0x2000_0000);
-
-        let three = plain(rt.alloc(), 3)?;
-        assert_eq!(rt; three.lines(), 1);
-        assert_eq!(rt; three.line(0).count, 3);
-        assert_eq!(rt; three.line(0).letters.as_slice(), b"W".as_slice());
-        assert_eq!(rt; three.ticks(), 3);
-
-        let refusal = Some(SchedErr::TooManyTicks { line: 5 });
-        assert_eq!(rt; plain(rt.alloc(), 16_777_217).err(), refusal);
-        Ok(())
-    }
-
-    #[test]
-    fn lines_are_added(rt: HostRuntime) -> Result<(), Fail> {
-        let mut schedule = Schedule::begin(
-            rt.alloc(),
-            false,
-            0x2000_0000,
-            0x2000_0100,
-            0x2003_0000,
-        );
-        schedule.add(2, b"W", 0)?;
-        schedule.add(16_777_213, b"OO", 0)?;
-        let refusal = Err(SchedErr::TooManyTicks { line: 7 });
-        assert_eq!(rt; schedule.add(2, b"", 0), refusal);
-        assert_eq!(rt; schedule.lines(), 2);
-        assert_eq!(rt; schedule.ticks(), 16_777_215);
-        assert_eq!(rt; schedule.line(1).letters.as_slice(), b"OO".as_slice());
-        schedule.add(1, b"", 0)?;
-        assert_eq!(rt; schedule.lines(), 3);
-        assert_eq!(rt; schedule.line(2).letters.len(), 0);
-        assert_eq!(rt; schedule.ticks(), 16_777_216);
-        Ok(())
-    }
-
-    #[test]
-    fn interrupts_arrive(rt: HostRuntime) -> Result<(), Fail> {
-        let mut schedule = Schedule::begin(
-            rt.alloc(),
-            false,
-            0x2000_0000,
-            0x2000_0000,
-            0x2000_0000,
-        );
-        schedule.add(1, b"O", 0x8000_0001)?;
-        schedule.add(1, b"O", 0)?;
-        assert_eq!(rt; schedule.line(0).irq, 0x8000_0001);
-        assert_eq!(rt; schedule.line(1).irq, 0);
-        Ok(())
-    }
-
-    #[test]
-    fn refusals_are_told(rt: HostRuntime) -> Result<(), Fail> {
-        let many = SchedErr::TooManyTicks { line: 5 };
-        assert_eq!(rt;
-            format!(in rt.alloc(); "{many}")?.as_str(),
-            "the schedule has too many ticks"
-        );
-        let bad = SchedErr::Line {
-            line: 5,
-            kind: LineKind::Steps,
-        };
-        assert_eq!(rt;
-            format!(in rt.alloc(); "{bad}")?.as_str(),
-            "a line of the schedule is bad"
-        );
-        Ok(())
-    }
-}
+mod tests;

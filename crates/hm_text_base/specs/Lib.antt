@@ -1,1 +1,4 @@
 pub mod Texts
+pub mod Reading
+pub mod Spans
+pub mod Numbers

@@ -1,4 +1,4 @@
-//! Texts of numbers, added to what stands before them. All hexadecimal text is in lower case.
+//! What all formats of text share: cutting at a mark, and numbers as they are read and written. All hexadecimal text is in lower case.
 #![tactic(auto)]
 
 ghost use Rattle.std.specs.Prelude.{◌≡◌, ℕ, ◌++◌, ◌<◌, List, IfOk};
@@ -6,7 +6,12 @@ ghost use Rattle.std.specs.Fmt.{decimal};
 ghost use Rattle.hex.specs.Hex.{encode_lower};
 ghost use Rattle.hm_text_base.specs.Texts.{hex_digit, hex2, hex8, bit};
 
+mod numbers;
+mod spans;
+
 use hm_base::OutOfMemory;
+pub use numbers::{read_hex8, read_number};
+pub use spans::span;
 use std::alloc::Global;
 
 /// A digit, of a number below 16.
@@ -102,6 +107,47 @@ mod tests {
             out.as_slice(),
             b"x a5 09abcdef f00710 18446744073709551615".as_slice()
         );
+        Ok(())
+    }
+
+    #[test]
+    fn reads_numbers(rt: HostRuntime) -> Result<(), Fail> {
+        let rows: [(&[u8], Option<u32>); 9] = [
+            (b"0", Some(0)),
+            (b"99999999", Some(99_999_999)),
+            (b"16777216", Some(16_777_216)),
+            (b"", None),
+            (b"00", None),
+            (b"01", None),
+            (b"100000000", None),
+            (b"1a", None),
+            (b"-1", None),
+        ];
+        for (digits, number) in rows {
+            assert_eq!(rt; read_number(digits), number);
+        }
+        let rows: [(&[u8], Option<u32>); 6] = [
+            (b"20001004", Some(0x2000_1004)),
+            (b"09abcdef", Some(0x09ab_cdef)),
+            (b"ffffffff", Some(0xffff_ffff)),
+            (b"2000100", None),
+            (b"020001004", None),
+            (b"2000F000", None),
+        ];
+        for (digits, number) in rows {
+            assert_eq!(rt; read_hex8(digits), number);
+        }
+        Ok(())
+    }
+
+    #[test]
+    fn cuts_at_a_mark(rt: HostRuntime) -> Result<(), Fail> {
+        let (front, rest) = span(b' ', b"O irq 3");
+        assert_eq!(rt; front, b"O".as_slice());
+        assert_eq!(rt; rest, b" irq 3".as_slice());
+        let (front, rest) = span(b'*', b"O irq 3");
+        assert_eq!(rt; front, b"O irq 3".as_slice());
+        assert!(rt; rest.is_empty());
         Ok(())
     }
 }

@@ -25,6 +25,7 @@ invariant_of-self-2 c =
       some = c.requires.some;
       few = rw c.held.ensures.same c.requires.few;
       each_letter = rw c.held.ensures.same c.requires.each_letter;
+      interrupts = omega arith;
     } in
     let sum = c.self.invariant.sum in
     record {

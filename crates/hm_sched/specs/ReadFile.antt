@@ -1,0 +1,83 @@
+-- Reading the file of a schedule: the schedule, or the first refusal.
+use Rattle.std.specs.Prelude.{◌≡◌, ℕ, Bool, false, ◌+◌, List, [], ◌∷◌, length, drop, codes, Option, Some, None, ok_or, option_and_then, Result, Ok, Err, ◌==◌, nat_eq, nat_lt, ◌||◌, if◌then◌else◌, bytes_eq}
+use Rattle.std.specs.List.{starts_with}
+use Rattle.hm_base.specs.Image.{sram_start, sram_size}
+use Rattle.hm_text_base.specs.Reading.{◌>>=◌}
+use Rattle.hm_text_base.specs.Spans.{span, Lines, lines_of}
+use Rattle.hm_text_base.specs.Numbers.{hex8_in}
+use Rattle.hm_sched.specs.declared.errors.LineKind.{LineKind}
+use Rattle.hm_sched.specs.declared.errors.LineKind.TheVariants.{Header, Entries, Region, Floor, Newline}
+use Rattle.hm_sched.specs.declared.errors.SchedErr.{SchedErr}
+use Rattle.hm_sched.specs.declared.errors.SchedErr.TheVariants as refusals
+use Rattle.hm_sched.specs.Schedule.{TickLine, Sched, most_ticks}
+use Rattle.hm_sched.specs.Written.{header_text}
+use Rattle.hm_sched.specs.ReadLine.{ticks_in}
+
+-- the next line, where the k-th should be of this kind
+abbrev pub line_at : ℕ → LineKind → Lines → Result (List ℕ × Lines) SchedErr
+line_at k kind (l ∷ ls, rest) = Ok (l, (ls, rest))
+line_at k kind ([], []) = Err (refusals.Line k kind)
+line_at k kind ([], b ∷ rest) = Err (refusals.Line k Newline)
+
+-- exceptions are not built yet, so there is no `entries yes`
+unfoldable pub entries_in : List ℕ → Option Bool
+entries_in text = if bytes_eq text (codes "entries no") then Some false else None
+
+abbrev pub bounded_region : ℕ → ℕ → Option (ℕ × ℕ)
+bounded_region lo hi = if nat_lt lo sram_start || (nat_lt hi lo || nat_lt (sram_start + sram_size) hi) then None else Some (lo, hi)
+
+abbrev pub addresses_in : List ℕ → List ℕ → Option (ℕ × ℕ)
+addresses_in low high = option_and_then (λ lo. option_and_then (λ hi. bounded_region lo hi) (hex8_in high)) (hex8_in low)
+
+unfoldable pub region_in : List ℕ → Option (ℕ × ℕ)
+region_in text = if starts_with nat_eq text (codes "region ") then (if length (span 32 (drop 7 text)).1 == 0 then None else addresses_in (span 32 (drop 7 text)).0 (drop 1 (span 32 (drop 7 text)).1)) else None
+
+abbrev pub bounded_floor : ℕ → Option ℕ
+bounded_floor a = if nat_lt a sram_start || nat_lt (sram_start + sram_size) a then None else Some a
+
+unfoldable pub floor_in : List ℕ → Option ℕ
+floor_in text = if starts_with nat_eq text (codes "floor ") then option_and_then bounded_floor (hex8_in (drop 6 text)) else None
+
+-- a refusal of the k-th line
+abbrev pub on_line : {A : Type 0} → ℕ → Result A LineKind → Result A SchedErr
+on_line k (Ok x) = Ok x
+on_line k (Err kind) = Err (refusals.Line k kind)
+
+-- the lines of ticks from the k-th line on, after lines with so many ticks
+unfoldable pub lines_in : ℕ → ℕ → List (List ℕ) → List ℕ → Result (List TickLine) SchedErr
+lines_in k before [] [] = Ok []
+lines_in k before [] (b ∷ rest) = Err (refusals.Line k Newline)
+lines_in k before (l ∷ ls) rest = do
+  t ← on_line k (ticks_in l)
+  sum ← if nat_lt most_ticks (before + t.count) then Err (refusals.TooManyTicks k) else Ok (before + t.count)
+  ts ← lines_in (k + 1) sum ls rest
+  Ok (t ∷ ts)
+
+-- the schedule with the lines that were read
+abbrev pub with_lines : Sched → Result (List TickLine) SchedErr → Result Sched SchedErr
+with_lines s read = read >>= λ lines. Ok (record s { lines = lines })
+
+-- all of a file, or the first refusal
+unfoldable pub file_in : List ℕ → Result Sched SchedErr
+file_in bytes = do
+  first ← line_at 1 Header (lines_of bytes)
+  header ← if bytes_eq first.0 header_text then Ok first.1 else Err (refusals.Line 1 Header)
+  second ← line_at 2 Entries header
+  entries ← ok_or (entries_in second.0) (refusals.Line 2 Entries)
+  third ← line_at 3 Region second.1
+  region ← ok_or (region_in third.0) (refusals.Line 3 Region)
+  fourth ← line_at 4 Floor third.1
+  floor ← ok_or (floor_in fourth.0) (refusals.Line 4 Floor)
+  lines ← lines_in 5 0 fourth.1.0 fourth.1.1
+  Ok (record { entries = entries; lo = region.0; hi = region.1; floor = floor; lines = lines })
+
+-- a refusal is that of reading, and want of memory says nothing
+abbrev pub Fails : {Y : Type 0} → SchedErr → Result Y SchedErr → Type 0
+Fails refusals.OutOfMemory read = Unit {0}
+Fails (refusals.Line k kind) read = read ≡ Err (refusals.Line k kind)
+Fails (refusals.TooManyTicks k) read = read ≡ Err (refusals.TooManyTicks k)
+
+-- what a function returned, seen by view, is what reading gives, unless memory was wanted
+abbrev pub Gives : {X Y : Type 0} → (X → Y) → Result X SchedErr → Result Y SchedErr → Type 0
+Gives view (Ok x) read = read ≡ Ok (view x)
+Gives view (Err e) read = Fails e read

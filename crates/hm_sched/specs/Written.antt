@@ -1,0 +1,80 @@
+-- The text of a schedule.
+use Rattle.std.specs.Prelude.{◌≡◌, ℕ, Bool, true, false, ◌+◌, ◌^◌, ◌<◌, ◌≤◌, List, [], ◌∷◌, ◌++◌, length, map, codes, decimal, Option, Some, None, unwrap_or, IfSome}
+use Rattle.std.specs.List.{All, AllByRecursion, join_with_byte, flat_map}
+use Rattle.hm_text_base.specs.Texts.{hex8}
+use Rattle.hm_text_base.specs.Spans.{line}
+use Rattle.hm_sched.specs.Schedule.{TickLine, Sched, IsLetter, IsSched}
+
+-- ---- a line of ticks
+
+-- what a line of ticks writes: a count, which may be left out where it is 1, the letters, and the numbers of interrupts
+pub record Written : Type 0 where
+  pub count : Option ℕ
+  pub letters : List ℕ
+  pub numbers : List ℕ
+
+abbrev pub count_text : Option ℕ → List ℕ
+count_text None = []
+count_text (Some n) = decimal n ++ codes "*"
+
+abbrev pub steps_text : List ℕ → List ℕ
+steps_text [] = codes "-"
+steps_text (c ∷ cs) = c ∷ cs
+
+abbrev pub irq_text : List ℕ → List ℕ
+irq_text [] = []
+irq_text (n ∷ ns) = codes " irq " ++ join_with_byte 32 (map decimal (n ∷ ns))
+
+abbrev pub ticks_text : Written → List ℕ
+ticks_text w = count_text w.count ++ (steps_text w.letters ++ irq_text w.numbers)
+
+-- rising numbers from least on, below 32
+abbrev pub IsRising : ℕ → List ℕ → Type 0
+IsRising least [] = Unit {0}
+IsRising least (n ∷ ns) = (least ≤ n) × (n < 32) × IsRising (n + 1) ns
+
+-- a count has one to eight digits and is not 0, there are at most eight letters, and the interrupts rise
+pub record IsWritten (w : Written) : Type 0 where
+  pub count : IfSome w.count (λ n. (1 ≤ n) × (n < 10 ^ 8))
+  pub few : length w.letters ≤ 8
+  pub each_letter : All IsLetter w.letters
+  pub numbers : IsRising 0 w.numbers
+
+-- a bit for each of the numbers
+abbrev pub bits_of : List ℕ → ℕ
+bits_of [] = 0
+bits_of (n ∷ ns) = 2 ^ n + bits_of ns
+
+abbrev pub meaning : Written → TickLine
+meaning w = record { count = unwrap_or w.count 1; letters = w.letters; irq = bits_of w.numbers }
+
+-- ---- a file
+
+abbrev pub header_text : List ℕ
+header_text = codes "helium-schedule 1"
+
+abbrev pub entries_text : Bool → List ℕ
+entries_text true = codes "entries yes"
+entries_text false = codes "entries no"
+
+abbrev pub region_text : ℕ → ℕ → List ℕ
+region_text lo hi = codes "region " ++ (hex8 lo ++ 32 ∷ hex8 hi)
+
+abbrev pub floor_text : ℕ → List ℕ
+floor_text a = codes "floor " ++ hex8 a
+
+abbrev pub head_lines : Sched → List (List ℕ)
+head_lines s = header_text ∷ entries_text s.entries ∷ region_text s.lo s.hi ∷ floor_text s.floor ∷ []
+
+-- the bytes are a file of the schedule s, whose lines of ticks are written so
+pub record Writes (bytes : List ℕ) (written : List Written) (s : Sched) : Type 0 where
+  pub bytes_are : bytes ≡ flat_map line (head_lines s ++ map ticks_text written)
+  pub each_fits : AllByRecursion IsWritten written
+  pub lines_are : s.lines ≡ map meaning written
+  pub sound : IsSched s
+  -- no exceptions are built yet
+  pub no_entries : s.entries ≡ false
+
+-- the bytes are a file of the schedule s
+abbrev pub IsFile : List ℕ → Sched → Type 0
+IsFile bytes s = (written : List Written) × Writes bytes written s

@@ -1,0 +1,29 @@
+-- Cutting a text at a mark, and into lines.
+use Rattle.std.specs.Prelude.{◌≢◌, ℕ, List, [], ◌∷◌, ◌++◌, ◌==◌, if◌then◌else◌}
+use Rattle.std.specs.List.{AllByRecursion}
+
+-- what stands before the first mark, and the rest from that mark on
+unfoldable pub span : ℕ → List ℕ → List ℕ × List ℕ
+span mark [] = ([], [])
+span mark (b ∷ bs) = if b == mark then ([], b ∷ bs) else (b ∷ (span mark bs).0, (span mark bs).1)
+
+-- the mark does not stand in the text
+abbrev pub Lacks : ℕ → List ℕ → Type 0
+Lacks mark text = AllByRecursion (λ b. b ≢ mark) text
+
+-- a line and its end
+abbrev pub line : List ℕ → List ℕ
+line text = text ++ 10 ∷ []
+
+-- the lines that are ended, and what stands after the last end
+abbrev pub Lines : Type 0
+Lines = List (List ℕ) × List ℕ
+
+-- a byte in front of the first line
+abbrev pub onto_line : ℕ → Lines → Lines
+onto_line b ([], rest) = ([], b ∷ rest)
+onto_line b (l ∷ ls, rest) = ((b ∷ l) ∷ ls, rest)
+
+unfoldable pub lines_of : List ℕ → Lines
+lines_of [] = ([], [])
+lines_of (b ∷ bs) = if b == 10 then ([] ∷ (lines_of bs).0, (lines_of bs).1) else onto_line b (lines_of bs)
