@@ -1,5 +1,5 @@
 -- What a host tells of itself, and what its calls do to that.
-use Rattle.std.specs.Prelude.{◌≡◌, ◌⊎◌, ◌≢◌, ℕ, ◌+◌, ◌^◌, ◌<◌, ◌≤◌, List, ◌++◌, length, take, Option, Some, Result, Ok, Err}
+use Rattle.std.specs.Prelude.{◌≡◌, ◌⊎◌, ◌≢◌, ℕ, ◌+◌, ◌^◌, ◌<◌, ◌≤◌, Bool, true, false, List, [], ◌∷◌, ◌++◌, length, take, Option, Some, None, Result, Ok, Err}
 use Rattle.std.specs.Ordering.{nat_cmp}
 use Rattle.std.specs.Cmp.Lexicographic.{slice_cmp}
 use Rattle.std.specs.FinMap.{FinMap, get, insert}
@@ -14,10 +14,28 @@ FileMap = FinMap (slice_cmp nat_cmp) (List ℕ)
 abbrev pub longest : ℕ
 longest = 16777216
 
--- what a host tells: its files and its printed bytes, each where it tells them, and its count of faults
+-- a call of a host, with the name and the bytes that it was given
+pub data Call : Type 0 where
+  read : (name : List ℕ) → Call
+  write : (name : List ℕ) (bytes : List ℕ) → Call
+  print : (bytes : List ℕ) → Call
+
+-- a call that was made, and whether it answered Failed
+pub record Made : Type 0 where
+  pub call : Call
+  pub failed : Bool
+
+abbrev pub answered : Call → Made
+answered call = record { call = call; failed = false }
+
+abbrev pub failed : Call → Made
+failed call = record { call = call; failed = true }
+
+-- what a host tells: its files, its printed bytes and the calls made on it, each where it tells them, and its count of faults
 pub record HostState : Type 0 where
   pub files : Option FileMap
   pub printed : Option (List ℕ)
+  pub calls : Option (List Made)
   pub faults : ℕ
 
 -- what was told is told still, as the same
@@ -50,6 +68,13 @@ Counts old new (Ok _) = new ≡ old
 Counts old new (Err Failed) = Rose old new
 Counts old new (Err TooLarge) = new ≡ old
 Counts old new (Err OutOfMemory) = new ≡ old
+
+-- what a call does to the calls that are told. None are told any more only where memory was wanted
+abbrev pub Makes : {T : Type 0} → Call → Option (List Made) → Option (List Made) → Result T HostErr → Type 0
+Makes call old new (Ok _) = Becomes (λ made. made ++ answered call ∷ []) old new
+Makes call old new (Err Failed) = Becomes (λ made. made ++ failed call ∷ []) old new
+Makes call old new (Err TooLarge) = Becomes (λ made. made ++ answered call ∷ []) old new
+Makes call old new (Err OutOfMemory) = (new ≡ None) ⊎ Becomes (λ made. made ++ answered call ∷ []) old new
 
 -- the answer to a read. What is read is not too long, and where the files are told it is the whole file; too large is
 -- answered only of a file that is too long. Memory may be wanted at any file: at one that is too long, whichever comes first

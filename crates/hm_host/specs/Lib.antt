@@ -2,3 +2,4 @@ pub mod Host
 pub mod Files
 pub mod MemHost
 pub mod OsHost
+pub mod Calls

@@ -1,7 +1,7 @@
 -- What a host in memory tells, and which of its calls are to fail.
-use Rattle.std.specs.Prelude.{◌≡◌, ℕ, ◌+◌, ◌-◌, ◌^◌, ◌<◌, List, length, Some, Contains, nat_lt, if◌then◌else◌}
+use Rattle.std.specs.Prelude.{◌≡◌, ◌⊎◌, ℕ, ◌+◌, ◌-◌, ◌^◌, ◌<◌, List, length, Option, Some, None, Contains, nat_lt, if◌then◌else◌}
 use Rattle.std.specs.FinMap.{get}
-use Rattle.hm_host.specs.Host.{HostState, FileMap, longest}
+use Rattle.hm_host.specs.Host.{HostState, FileMap, Made, longest}
 use Rattle.hm_host.specs.declared.mem_host.MemHost.{MemHost}
 
 -- its files, from names to bytes
@@ -16,9 +16,13 @@ mem_printed h = h.printed.items
 abbrev pub mem_faults : MemHost → ℕ
 mem_faults h = h.faults
 
+-- the calls that were made on it, while it tells them
+abbrev pub mem_calls : MemHost → Option (List Made)
+mem_calls h = h.calls
+
 -- it tells its files and its printed bytes
 abbrev pub mem_state : MemHost → HostState
-mem_state h = record { files = Some (mem_files h); printed = Some (mem_printed h); faults = mem_faults h }
+mem_state h = record { files = Some (mem_files h); printed = Some (mem_printed h); calls = mem_calls h; faults = mem_faults h }
 
 -- the numbers of the calls that are to fail, and the number of the call that comes next
 pub record Planned : Type 0 where
@@ -26,7 +30,7 @@ pub record Planned : Type 0 where
   pub next : ℕ
 
 abbrev pub planned : MemHost → Planned
-planned h = record { failing = h.failing; next = h.calls }
+planned h = record { failing = h.failing; next = h.next }
 
 -- the call that comes next is one of those that are to fail
 abbrev pub IsNextToFail : MemHost → Type 0
@@ -43,3 +47,7 @@ after_call p = record { failing = p.failing; next = counted p.next }
 -- a file is longer than what is read
 abbrev pub IsTooLong : FileMap → List ℕ → Type 0
 IsTooLong files name = (bytes : List ℕ) × (get files name ≡ Some bytes) × (longest < length bytes)
+
+-- a read of this name fails: it is one of the calls that are to fail, or there is no file of the name
+abbrev pub FailsAtRead : MemHost → List ℕ → Type 0
+FailsAtRead h name = IsNextToFail h ⊎ (get (mem_files h) name ≡ None)

@@ -3,6 +3,6 @@ use Rattle.std.specs.Prelude.{None}
 use Rattle.hm_host.specs.Host.{HostState}
 use Rattle.hm_host.specs.declared.os_host.OsHost.{OsHost}
 
--- nothing of its files and of what was printed, but its count of faults
+-- nothing of its files, of what was printed and of its calls, but its count of faults
 abbrev pub os_state : OsHost → HostState
-os_state h = record { files = None; printed = None; faults = h.faults }
+os_state h = record { files = None; printed = None; calls = None; faults = h.faults }

@@ -1,6 +1,7 @@
 //! The outside, as a program sees it: files to read and write, and a place to print.
 #![tactic(auto)]
 
+mod calls;
 mod files;
 mod host;
 mod mem_host;

@@ -1,24 +1,26 @@
 //! A host in memory, which tells everything. The calls with the listed numbers fail.
 
 ghost use Rattle.std.specs.Prelude.{◌≡◌, ◌⊎◌, ◌↔◌, ◌<◌, ◌≤◌, [], length, Some, None, IfOk, IfErr, IsErrOf, IsTrue, option_map};
-ghost use Rattle.std.specs.Bool.{OnTrue, OnFalse};
 ghost use Rattle.std.specs.FinMap as map_of;
-ghost use Rattle.hm_host.specs.Host.{Stays, Counts, Reads, Writes, Prints, Rose, longest};
-ghost use Rattle.hm_host.specs.MemHost.{mem_state, mem_files, mem_printed, mem_faults, planned, IsNextToFail, IsTooLong, counted, after_call};
+ghost use Rattle.hm_host.specs.Host.{Stays, Counts, Makes, Reads, Writes, Prints, longest, read, write, print};
+ghost use Rattle.hm_host.specs.MemHost.{mem_state, mem_files, mem_printed, mem_calls, mem_faults, planned, IsNextToFail, FailsAtRead, IsTooLong, counted, after_call};
 
+use crate::calls::Calls;
 use crate::host::LONGEST;
 use crate::{FailList, Files, Host, HostErr};
 use std::alloc::Global;
 
-/// Files and printed bytes in memory.
+/// Files and printed bytes in memory, and the calls that were made.
 ///
-/// A call fails where its number, from 0, is listed, and a read where there is no file of the name.
+/// A call fails where its number, from 0, is listed, and a read where there is no file of the name. It tells its calls until memory for
+/// one of them is wanted: that one answers `OutOfMemory`, whether it was to fail or not.
 #[derive(Drop)]
 pub struct MemHost {
     files: Files,
     failing: FailList,
     printed: Vec<u8>,
-    calls: u64,
+    next: u64,
+    calls: Calls,
     faults: u64,
 }
 
@@ -46,14 +48,15 @@ fn whole(alloc: Global, bytes: &[u8]) -> Result<Vec<u8>, HostErr>
 impl MemHost {
     /// A host with these files, nothing printed, and no call made yet.
     pub fn new(alloc: Global, files: Files, failing: FailList) -> MemHost
-        ensures state { mem_state result ≡ record { files = Some files; printed = Some []; faults = 0 } }
+        ensures state { mem_state result ≡ record { files = Some files; printed = Some []; calls = Some []; faults = 0 } }
         ensures plan { planned result ≡ record { failing = failing; next = 0 } }
     {
         MemHost {
             files,
             failing,
             printed: Vec::new(alloc),
-            calls: 0,
+            next: 0,
+            calls: Calls::new(alloc),
             faults: 0,
         }
     }
@@ -72,6 +75,13 @@ impl MemHost {
         &self.printed
     }
 
+    /// How many calls were made, `None` exactly where it tells them no more.
+    pub fn calls(&self) -> Option<usize>
+        ensures value { result ≡ option_map length (mem_calls self.now) }
+    {
+        self.calls.count()
+    }
+
     /// Counts a fault.
     fn fault(&mut self)
         ensures state { mem_state self.new ≡ record (mem_state self.old) { faults = counted (mem_faults self.old) } }
@@ -80,20 +90,14 @@ impl MemHost {
         self.faults = next(self.faults);
     }
 
-    /// Counts a call, and says whether it fails by its number, which is a fault.
+    /// Counts a call, and says whether it fails by its number.
     fn begin(&mut self) -> bool
-        ensures files { mem_files self.new ≡ mem_files self.old }
-        ensures printed { mem_printed self.new ≡ mem_printed self.old }
-        ensures risen { OnTrue result (Rose (mem_faults self.old) (mem_faults self.new)) }
-        ensures kept { OnFalse result (mem_faults self.new ≡ mem_faults self.old) }
+        ensures state { mem_state self.new ≡ mem_state self.old }
         ensures plan { planned self.new ≡ after_call (planned self.old) }
         ensures fails { IsTrue result ↔ IsNextToFail self.old }
     {
-        let fails = self.failing.has(self.calls);
-        self.calls = next(self.calls);
-        if fails {
-            self.fault();
-        }
+        let fails = self.failing.has(self.next);
+        self.next = next(self.next);
         fails
     }
 }
@@ -105,29 +109,40 @@ impl Host for MemHost {
         ensures answer { Reads (mem_state self.old).files name.now (λ bytes. bytes.items) result }
         ensures files { Stays (mem_state self.old).files (mem_state self.new).files }
         ensures printed { Stays (mem_state self.old).printed (mem_state self.new).printed }
+        ensures calls { Makes (read name.now) (mem_state self.old).calls (mem_state self.new).calls result }
         ensures count { Counts (mem_state self.old).faults (mem_state self.new).faults result }
         ensures plan { planned self.new ≡ after_call (planned self.old) }
-        ensures failed { IsErrOf result HostErr.Failed ↔ (IsNextToFail self.old ⊎ (map_of.get (mem_files self.old) name.now ≡ None)) }
-        ensures large { IsErrOf result HostErr.TooLarge ↔ (¬ IsNextToFail self.old × IsTooLong (mem_files self.old) name.now) }
+        ensures failed { ¬ IsErrOf result HostErr.OutOfMemory → (IsErrOf result HostErr.Failed ↔ FailsAtRead self.old name.now) }
+        ensures large { ¬ IsErrOf result HostErr.OutOfMemory → (IsErrOf result HostErr.TooLarge ↔ (¬ IsNextToFail self.old × IsTooLong (mem_files self.old) name.now)) }
     {
-        if self.begin() {
-            return Err(HostErr::Failed);
+        let listed = self.begin();
+        let failed = listed || self.files.file(name).is_none();
+        if self.calls.add_read(name, failed).is_err() {
+            return Err(HostErr::OutOfMemory);
         }
-        let Some(bytes) = self.files.file(name) else {
-            self.fault();
-            return Err(HostErr::Failed);
-        };
-        whole(alloc, bytes)
+        match self.files.file(name) {
+            Some(bytes) if !listed => whole(alloc, bytes),
+            _ => {
+                self.fault();
+                Err(HostErr::Failed)
+            }
+        }
     }
 
     fn write(&mut self, alloc: Global, name: &str, bytes: &[u8]) -> Result<(), HostErr>
         ensures files { Writes name.now bytes.now (mem_state self.old).files (mem_state self.new).files result }
         ensures printed { Stays (mem_state self.old).printed (mem_state self.new).printed }
+        ensures calls { Makes (write name.now bytes.now) (mem_state self.old).calls (mem_state self.new).calls result }
         ensures count { Counts (mem_state self.old).faults (mem_state self.new).faults result }
         ensures plan { planned self.new ≡ after_call (planned self.old) }
-        ensures failed { IsErrOf result HostErr.Failed ↔ IsNextToFail self.old }
+        ensures failed { ¬ IsErrOf result HostErr.OutOfMemory → (IsErrOf result HostErr.Failed ↔ IsNextToFail self.old) }
     {
-        if self.begin() {
+        let failed = self.begin();
+        if self.calls.add_write(name, bytes, failed).is_err() {
+            return Err(HostErr::OutOfMemory);
+        }
+        if failed {
+            self.fault();
             return Err(HostErr::Failed);
         }
         let Ok(bytes) = bytes.to_vec(alloc) else {
@@ -142,11 +157,17 @@ impl Host for MemHost {
     fn print(&mut self, _alloc: Global, bytes: &[u8]) -> Result<(), HostErr>
         ensures printed { Prints bytes.now (mem_state self.old).printed (mem_state self.new).printed result }
         ensures files { Stays (mem_state self.old).files (mem_state self.new).files }
+        ensures calls { Makes (print bytes.now) (mem_state self.old).calls (mem_state self.new).calls result }
         ensures count { Counts (mem_state self.old).faults (mem_state self.new).faults result }
         ensures plan { planned self.new ≡ after_call (planned self.old) }
-        ensures failed { IsErrOf result HostErr.Failed ↔ IsNextToFail self.old }
+        ensures failed { ¬ IsErrOf result HostErr.OutOfMemory → (IsErrOf result HostErr.Failed ↔ IsNextToFail self.old) }
     {
-        if self.begin() {
+        let failed = self.begin();
+        if self.calls.add_print(bytes, failed).is_err() {
+            return Err(HostErr::OutOfMemory);
+        }
+        if failed {
+            self.fault();
             return Err(HostErr::Failed);
         }
         match self.printed.extend_from_slice(bytes) {

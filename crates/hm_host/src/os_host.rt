@@ -55,7 +55,7 @@ fn is_written<W: Write>(to: &mut W, bytes: &[u8]) -> bool {
 impl OsHost {
     /// A host that has not failed yet.
     pub fn new(rt: HostRuntime) -> OsHost
-        ensures state { os_state result ≡ record { files = None; printed = None; faults = 0 } }
+        ensures state { os_state result ≡ record { files = None; printed = None; calls = None; faults = 0 } }
     {
         OsHost { rt, faults: 0 }
     }

@@ -69,3 +69,16 @@ fn asks_the_system(rt: HostRuntime) -> Result<(), Fail> {
     host.print(alloc, b"")?;
     Ok(())
 }
+
+#[test]
+fn tells_its_calls(rt: HostRuntime) -> Result<(), Fail> {
+    let alloc = rt.alloc();
+    let mut host = small_host(alloc)?;
+    assert_eq!(rt; host.calls(), Some(0));
+    host.read(alloc, "a")?;
+    assert!(rt; host.read(alloc, "b").is_err());
+    assert!(rt; host.write(alloc, "b", &[3]).is_err());
+    host.print(alloc, b"")?;
+    assert_eq!(rt; host.calls(), Some(4));
+    Ok(())
+}

@@ -1,5 +1,10 @@
-use Rattle.std.proofs.Common.{ap, refl, Some, ◌∙◌}
+use Rattle.std.proofs.Common.{ap, refl, ◌∙◌}
+use Rattle.hm_host.specs.Host.{HostState}
 use Rattle.hm_host.proofs.mem_host.MemHostHost.write.Goals as goal
 
-pub returns-then-begin-clause-files : goal.returns-then-begin-clause-files
-returns-then-begin-clause-files c = λ files is. (files, ap Some c.begin.ensures.files ∙ is, λ other ne. refl)
+pub returns-then-failed-clause-files : goal.returns-then-failed-clause-files
+returns-then-failed-clause-files c = λ files is. (
+  files,
+  ap (λ (s : HostState). s.files) c.fault.ensures.state ∙ ap (λ (s : HostState). s.files) c.begin-failed.ensures.state ∙ is,
+  λ other ne. refl,
+)
