@@ -1,41 +1,28 @@
+ghost use Rattle.std.specs.Prelude.{◌<◌};
+
 use super::tests::is_code;
 use super::*;
+use crate::lists::decode_t14;
 use hm_isa::{
-    Below, Branch, Dls, Dlstp, LoopEnd, LoopEndName, Scalar, T14, T16, T17, T23, TableName,
-    WideAlways, WideBranchName, WideConditional, WideListName, Wls, Wlstp,
+    Below, Branch, Dls, Dlstp, LoopEnd, LoopEndName, Scalar, T16, T17, T23, TableName, WideAlways,
+    WideBranchName, WideConditional, WideListName, Wls, Wlstp,
 };
+
+fn is_list(w: u32, name: WideListName, back: u32, n: u32, list: u32) -> bool {
+    let Some(r) = decode_t14(w) else {
+        return false;
+    };
+    let letters = (r.name, r.w.get(), r.n.get(), r.list.get());
+    letters == (name, back, n, list) && is_code(w, &Instr::Scalar(Scalar::T14(r)))
+}
 
 // stmia.w r0!,{r1,r2}, ldmia.w sp!,{r4,pc}, stmdb r3,{r0,lr} and ldmdb r12!,{r0,lr}
 #[test]
 fn lists(rt: HostRuntime) {
-    let up = T14 {
-        name: WideListName::Stmia,
-        w: Below::new(1),
-        n: Below::new(0),
-        list: Below::new(0x0006),
-    };
-    let pop = T14 {
-        name: WideListName::Ldmia,
-        w: Below::new(1),
-        n: Below::new(13),
-        list: Below::new(0x8010),
-    };
-    let down = T14 {
-        name: WideListName::Stmdb,
-        w: Below::new(0),
-        n: Below::new(3),
-        list: Below::new(0x4001),
-    };
-    let loaded = T14 {
-        name: WideListName::Ldmdb,
-        w: Below::new(1),
-        n: Below::new(12),
-        list: Below::new(0x4001),
-    };
-    assert!(rt; is_code(0xe8a0_0006, &Instr::Scalar(Scalar::T14(up))));
-    assert!(rt; is_code(0xe8bd_8010, &Instr::Scalar(Scalar::T14(pop))));
-    assert!(rt; is_code(0xe903_4001, &Instr::Scalar(Scalar::T14(down))));
-    assert!(rt; is_code(0xe93c_4001, &Instr::Scalar(Scalar::T14(loaded))));
+    assert!(rt; is_list(0xe8a0_0006, WideListName::Stmia, 1, 0, 0x0006));
+    assert!(rt; is_list(0xe8bd_8010, WideListName::Ldmia, 1, 13, 0x8010));
+    assert!(rt; is_list(0xe903_4001, WideListName::Stmdb, 0, 3, 0x4001));
+    assert!(rt; is_list(0xe93c_4001, WideListName::Ldmdb, 1, 12, 0x4001));
 }
 
 // The branch with a condition whose fields are these.

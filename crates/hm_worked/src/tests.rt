@@ -168,6 +168,138 @@ fn output_full(rt: HostRuntime) -> Result<(), Fail> {
     Ok(())
 }
 
+// Loops of scalars; a division; a loop of no turns; a tail of a predicated loop; the masks of a block at its end and inside; a carry past an
+// inactive word; and codes that are no row: a wide product over its own operand, and a register past Q7.
+static LOOPS_AND_BLOCKS: [Run; 10] = [
+    (
+        &[
+            0x03, 0x20, 0x40, 0xf0, 0x01, 0xe0, 0x49, 0x1c, 0x0f, 0xf0, 0x03, 0xc8, 0x00, 0xbe,
+        ],
+        9,
+        &[
+            "outcome halted break 0 after 9",
+            "r1 00000003",
+            "lr 00000001",
+            "pc 00000014",
+            "fpca 0",
+        ],
+    ),
+    (
+        &[
+            0x05, 0x20, 0x90, 0xfb, 0xf1, 0xf0, 0x00, 0xbe,
+        ],
+        3,
+        &[
+            "outcome halted break 0 after 3",
+            "r0 00000000",
+        ],
+    ),
+    (
+        &[
+            0x00, 0xf0, 0x03, 0xc0, 0x01, 0xbe, 0x02, 0xbe, 0x03, 0xbe,
+        ],
+        2,
+        &[
+            "outcome halted break 3 after 2",
+            "lr ffffffff",
+        ],
+    ),
+    (
+        &[
+            0x09, 0x20, 0x01, 0x21, 0xa2, 0xee, 0x30, 0x1b, 0x10, 0xf0, 0x01, 0xe0, 0x10, 0xef, 0x42, 0x08, 0x1f, 0xf0, 0x05, 0xc0, 0x00, 0xbe,
+        ],
+        9,
+        &[
+            "outcome halted break 0 after 9",
+            "q0 00010002 00010001 00010001 00010001",
+            "lr 00000001",
+            "fpscr 00040000",
+        ],
+    ),
+    (
+        &[
+            0x01, 0x20, 0xf0, 0x21, 0xa2, 0xee, 0x10, 0x0b, 0xed, 0xee, 0x10, 0x1a, 0x71, 0xfe, 0x4d, 0x8f, 0x20, 0xef, 0x42, 0x08, 0x24, 0xef, 0x42, 0x48, 0x00, 0xbe,
+        ],
+        8,
+        &[
+            "q0 00000000 00000001 00000000 00000000",
+            "q2 00000001 00000000 00000001 00000001",
+            "vpr 0000ff0f",
+        ],
+    ),
+    (
+        &[
+            0x01, 0x20, 0xf0, 0x21, 0xa2, 0xee, 0x10, 0x0b, 0xed, 0xee, 0x10, 0x1a, 0x71, 0xfe, 0x4d, 0x8f, 0x20, 0xef, 0x42, 0x08, 0x24, 0xef, 0x42, 0x48, 0x00, 0xbe,
+        ],
+        5,
+        &[
+            "vpr 00cc00f0",
+        ],
+    ),
+    (
+        &[
+            0x01, 0x20, 0xf0, 0x21, 0xa2, 0xee, 0x10, 0x0b, 0xed, 0xee, 0x10, 0x1a, 0x71, 0xfe, 0x4d, 0x8f, 0x20, 0xef, 0x42, 0x08, 0x24, 0xef, 0x42, 0x48, 0x00, 0xbe,
+        ],
+        6,
+        &[
+            "vpr 0088ff0f",
+        ],
+    ),
+    (
+        &[
+            0xc0, 0x43, 0x01, 0x21, 0xa0, 0xee, 0x10, 0x0b, 0xa2, 0xee, 0x10, 0x1b, 0x4f, 0xf6, 0x0f, 0x72, 0xed, 0xee, 0x10, 0x2a, 0x71, 0xfe, 0x4d, 0x0f, 0x30, 0xee, 0x02, 0x5f, 0x00, 0xbe,
+        ],
+        9,
+        &[
+            "q2 00000000 00000000 00000001 00000001",
+            "fpscr 20040000",
+        ],
+    ),
+    (
+        &[
+            0x21, 0xee, 0x02, 0x0e,
+        ],
+        1,
+        &[
+            "outcome fault thread undefined pc 00000008 addr 00000008 after 0",
+        ],
+    ),
+    (
+        &[
+            0x60, 0xef, 0x42, 0x08,
+        ],
+        1,
+        &[
+            "outcome fault thread undefined pc 00000008 addr 00000008 after 0",
+        ],
+    ),
+];
+
+#[test]
+fn loops_and_blocks(rt: HostRuntime) -> Result<(), Fail> {
+    assert_eq!(rt; first_that_differs(rt.alloc(), &LOOPS_AND_BLOCKS)?, None);
+    Ok(())
+}
+
+/// A block of two instructions under VPT, with P0 00f0: the second is done where the first is not.
+const BLOCK: &[u8] = &[
+    0x01, 0x20, 0xf0, 0x21, 0xa2, 0xee, 0x10, 0x0b, 0xed, 0xee, 0x10, 0x1a, 0x71, 0xfe, 0x4d, 0x8f, 0x20, 0xef, 0x42, 0x08, 0x24, 0xef, 0x42, 0x48, 0x00, 0xbe,
+];
+
+// VPR after one, two and three beats of the first instruction of the block
+#[test]
+fn vpt_block_masks(rt: HostRuntime) -> Result<(), Fail> {
+    let alloc = rt.alloc();
+    for (letters, vpr) in [("O", "vpr 00cc00ff"), ("OO", "vpr 00c8000f"), ("OOO", "vpr 00c80f0f")] {
+        let mut schedule = first_schedule(alloc);
+        schedule.add(5, b"W", 0)?;
+        schedule.add(1, letters.as_bytes(), 0)?;
+        let report = report_under(alloc, BLOCK, schedule)?;
+        assert!(rt; has_lines(&report, &[vpr]));
+    }
+    Ok(())
+}
+
 #[test]
 fn plain_runs(rt: HostRuntime) -> Result<(), Fail> {
     assert_eq!(rt; first_that_differs(rt.alloc(), &RUNS)?, None);
