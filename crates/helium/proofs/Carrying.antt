@@ -1,13 +1,19 @@
 -- How an effect is carried out, by the host's calls.
-use Rattle.std.proofs.Common.{◌≡◌, ℕ, List, Option, Some, None, refl, ap, sym, subst, ◌∙◌, inl, inr}
-use Rattle.hm_host.specs.Host.{FileMap, HostState, Stays, Rose}
+use Rattle.std.proofs.Common.{◌≡◌, ℕ, List, ◌++◌, Option, Some, None, Err, refl, ap, sym, subst, ◌∙◌, inl, inr}
+use Rattle.hm_host.specs.Host.{FileMap, HostState, Call, Made, Stays, Becomes, Rose}
+use Rattle.hm_host.specs.declared.host.HostErr.{HostErr}
+use Rattle.hm_host.specs.declared.host.HostErr.TheVariants.{Failed, TooLarge, OutOfMemory}
 use Rattle.helium.specs.declared.status.Status.{Status}
 use Rattle.helium.specs.declared.status.Status.TheVariants.{Done, Ended, Usage, Refused, HostFault, NoMemory}
 use Rattle.hm_base.specs.Image.{Segment}
 use Rattle.hm_codes.specs.Listing.{Listing}
 use Rattle.helium.specs.Words.{Form, reads_of}
 use Rattle.helium.specs.Commands.{outcome_of}
-use Rattle.helium.specs.Effect.{Effect, Reading, whole, missing, reading_of, reads_for, effect_after, effect_for, ButForFile, IsDone, Carries, Does}
+use Rattle.helium.specs.declared.work.Refusal.TheVariants.{FileTooLarge}
+use Rattle.helium.specs.Work.{refuses}
+use Rattle.helium.specs.Calls.{read_calls, write_calls, print_calls, with_calls, to_end, to_fault, to_memory, way_of, answer_way, MakesCalls}
+use Rattle.helium.specs.Effect.{Effect, Reading, whole, too_large, missing, reading_of, reads_for, effect_after, effect_for, calls_for, ButForFile, IsDone, Carries, Does, failure_of, IsComplete, WritesFile, PrintsText}
+use Rattle.helium.proofs.Calling.{made_after, fault_before, memory_before}
 
 -- the effect is carried out after calls that left the files and the printed bytes
 IsDone-after : (e : Effect) (old mid new : HostState) (s : Status) → Stays old.files mid.files → Stays old.printed mid.printed → mid.faults ≡ old.faults → IsDone e mid new s → IsDone e old new s
@@ -46,28 +52,67 @@ ButForFile-same None F = refl
 ButForFile-same (Some file) F = λ other ne. refl
 
 -- memory ran out before the effect
-pub Does-no_memory : (listings : List Segment → Listing) (form : Form) (old new : HostState) → Stays old.files new.files → Stays old.printed new.printed → new.faults ≡ old.faults → Does listings (Some form) old new NoMemory
-Does-no_memory listings form old new files printed same = record {
+pub Does-no_memory : (listings : List Segment → Listing) (form : Form) (old new : HostState) → Stays old.files new.files → Stays old.printed new.printed → new.faults ≡ old.faults
+    → ((F : FileMap) → old.files ≡ Some F → MakesCalls (read_calls F (reads_of form)) old.calls new.calls to_memory) → Does listings (Some form) old new NoMemory
+Does-no_memory listings form old new files printed same calls = record {
   reading = told_reading old.files (reads_for (Some form));
   told = told_reading-told old.files (reads_for (Some form));
   carries = record { faults = same; files = inl files; printed = printed };
+  makes = λ F is. memory_before (read_calls F (reads_of form)) _ old.calls new.calls (calls F is);
 }
 
 -- a read failed
-pub Does-fault : (listings : List Segment → Listing) (form : Form) (old new : HostState) → Stays old.files new.files → Stays old.printed new.printed → Rose old.faults new.faults → Does listings (Some form) old new HostFault
-Does-fault listings form old new files printed rose =
+pub Does-fault : (listings : List Segment → Listing) (form : Form) (old new : HostState) → Stays old.files new.files → Stays old.printed new.printed → Rose old.faults new.faults
+    → ((F : FileMap) → old.files ≡ Some F → MakesCalls (read_calls F (reads_of form)) old.calls new.calls to_fault) → Does listings (Some form) old new HostFault
+Does-fault listings form old new files printed rose calls =
     let reading = told_reading old.files (reads_for (Some form)) in
     record {
       reading = reading;
       told = told_reading-told old.files (reads_for (Some form));
       carries = (rose, inl (record { files = λ F is. (F, files F is, ButForFile-same (effect_after listings (Some form) reading).file F); printed = printed }));
+      makes = λ F is. fault_before (read_calls F (reads_of form)) _ old.calls new.calls (calls F is);
     }
 
--- the reads gave these contents, and then the effect was carried out
-pub Does-ok : (listings : List Segment → Listing) (form : Form) (old mid new : HostState) (s : Status) (contents : List (List ℕ)) → ((F : FileMap) → old.files ≡ Some F → reading_of F (reads_of form) ≡ whole contents)
-    → Stays old.files mid.files → Stays old.printed mid.printed → mid.faults ≡ old.faults → Carries (effect_for (outcome_of listings form contents)) mid new s → Does listings (Some form) old new s
-Does-ok listings form old mid new s contents told files printed same h = record {
-  reading = whole contents;
+-- the reads gave this, and then the effect was carried out
+Does-after : (listings : List Segment → Listing) (form : Form) (old mid new : HostState) (s : Status) (reading : Reading) → ((F : FileMap) → old.files ≡ Some F → reading_of F (reads_of form) ≡ reading)
+    → Stays old.files mid.files → Stays old.printed mid.printed → mid.faults ≡ old.faults → ((F : FileMap) → old.files ≡ Some F → Becomes (with_calls (read_calls F (reads_of form))) old.calls mid.calls)
+    → Carries (effect_after listings (Some form) reading) mid new s → MakesCalls (calls_for (effect_after listings (Some form) reading)) mid.calls new.calls (way_of s) → Does listings (Some form) old new s
+Does-after listings form old mid new s reading told files printed same calls h rest = record {
+  reading = reading;
   told = λ F is. sym (told F is);
-  carries = Carries-after (effect_for (outcome_of listings form contents)) old mid new s files printed same h;
+  carries = Carries-after (effect_after listings (Some form) reading) old mid new s files printed same h;
+  makes = λ F is. made_after (read_calls F (reads_of form)) (calls_for (effect_after listings (Some form) reading)) old.calls mid.calls new.calls (way_of s) (calls F is) rest;
 }
+
+pub Does-ok : (listings : List Segment → Listing) (form : Form) (old mid new : HostState) (s : Status) (contents : List (List ℕ)) → ((F : FileMap) → old.files ≡ Some F → reading_of F (reads_of form) ≡ whole contents)
+    → Stays old.files mid.files → Stays old.printed mid.printed → mid.faults ≡ old.faults → ((F : FileMap) → old.files ≡ Some F → Becomes (with_calls (read_calls F (reads_of form))) old.calls mid.calls)
+    → Carries (effect_for (outcome_of listings form contents)) mid new s → MakesCalls (calls_for (effect_for (outcome_of listings form contents))) mid.calls new.calls (way_of s) → Does listings (Some form) old new s
+Does-ok listings form old mid new s contents told files printed same calls h rest = Does-after listings form old mid new s (whole contents) told files printed same calls h rest
+
+pub Does-too_large : (listings : List Segment → Listing) (form : Form) (old mid new : HostState) (s : Status) → ((F : FileMap) → old.files ≡ Some F → reading_of F (reads_of form) ≡ too_large)
+    → Stays old.files mid.files → Stays old.printed mid.printed → mid.faults ≡ old.faults → ((F : FileMap) → old.files ≡ Some F → Becomes (with_calls (read_calls F (reads_of form))) old.calls mid.calls)
+    → Carries (effect_for (refuses FileTooLarge)) mid new s → MakesCalls (calls_for (effect_for (refuses FileTooLarge))) mid.calls new.calls (way_of s) → Does listings (Some form) old new s
+Does-too_large listings form old mid new s told files printed same calls h rest = Does-after listings form old mid new s too_large told files printed same calls h rest
+
+-- ---- the calls of an effect
+
+-- What an answer without a value says does not depend on the type of the value.
+pub cut_write : (e : HostErr) (file : Option (List ℕ × List ℕ)) (rest : List Call) (old new : HostState) → WritesFile {T = ℕ} file old new (Err e)
+    → MakesCalls (write_calls file) old.calls new.calls (answer_way {T = ℕ} (Err e)) → MakesCalls (write_calls file ++ rest) old.calls new.calls (way_of (failure_of e))
+cut_write Failed file rest old new h calls = fault_before (write_calls file) rest old.calls new.calls calls
+cut_write TooLarge file rest old new h calls = absurd h
+cut_write OutOfMemory file rest old new h calls = memory_before (write_calls file) rest old.calls new.calls calls
+
+pub cut_print : (e : HostErr) (first : List Call) (text : Option (List ℕ)) (old mid new : HostState) → Becomes (with_calls first) old.calls mid.calls → PrintsText {T = ℕ} text mid new (Err e)
+    → MakesCalls (print_calls text) mid.calls new.calls (answer_way {T = ℕ} (Err e)) → MakesCalls (first ++ print_calls text) old.calls new.calls (way_of (failure_of e))
+cut_print Failed first text old mid new before h calls = made_after first (print_calls text) old.calls mid.calls new.calls to_fault before calls
+cut_print TooLarge first text old mid new before h calls = absurd h
+cut_print OutOfMemory first text old mid new before h calls = made_after first (print_calls text) old.calls mid.calls new.calls to_memory before calls
+
+pub all_made : (status : Status) (first rest : List Call) (old mid new : Option (List Made)) → IsComplete status → Becomes (with_calls first) old mid → Becomes (with_calls rest) mid new → MakesCalls (first ++ rest) old new (way_of status)
+all_made Done first rest old mid new complete before after = made_after first rest old mid new to_end before after
+all_made Ended first rest old mid new complete before after = made_after first rest old mid new to_end before after
+all_made Usage first rest old mid new complete before after = made_after first rest old mid new to_end before after
+all_made Refused first rest old mid new complete before after = made_after first rest old mid new to_end before after
+all_made HostFault first rest old mid new complete before after = absurd complete
+all_made NoMemory first rest old mid new complete before after = absurd complete

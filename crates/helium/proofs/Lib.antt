@@ -1,5 +1,6 @@
 pub mod Numbers
 pub mod Decimals
+pub mod Calling
 pub mod Readings
 pub mod Carrying
 pub mod Listed

@@ -3,7 +3,7 @@ use Rattle.std.specs.Prelude.{◌≡◌, ◌⊎◌, ℕ, List, [], ◌∷◌, �
 use Rattle.std.specs.FinMap.{get, insert}
 use Rattle.hm_base.specs.Image.{Segment}
 use Rattle.hm_codes.specs.Listing.{Listing}
-use Rattle.hm_host.specs.Host.{FileMap, HostState, Stays, Becomes, Turns, KeepsOthers, AddsPrefix, Rose, longest}
+use Rattle.hm_host.specs.Host.{FileMap, HostState, Call, Stays, Becomes, Turns, KeepsOthers, AddsPrefix, Rose, longest}
 use Rattle.hm_host.specs.declared.host.HostErr.{HostErr}
 use Rattle.hm_host.specs.declared.host.HostErr.TheVariants.{Failed, TooLarge, OutOfMemory}
 use Rattle.helium.specs.declared.status.Status.{Status}
@@ -13,6 +13,7 @@ use Rattle.helium.specs.declared.work.Refusal.TheVariants.{FileTooLarge}
 use Rattle.helium.specs.Work.{Outcome, finishes, refuses, refusal_text}
 use Rattle.helium.specs.Words.{Form, form_of, reads_of}
 use Rattle.helium.specs.Commands.{outcome_of}
+use Rattle.helium.specs.Calls.{read_calls, write_calls, print_calls, way_of, MakesCalls}
 
 -- the number of a status
 abbrev pub code_of : Status → ℕ
@@ -84,6 +85,14 @@ effect_after listings (Some form) missing = no_effect
 abbrev pub effect : (List Segment → Listing) → List (List ℕ) → FileMap → Effect
 effect listings words F = effect_after listings (form_of words) (reading_of F (reads_for (form_of words)))
 
+-- the calls that do an effect: the write of its file, and the print of its text
+abbrev pub calls_for : Effect → List Call
+calls_for effect = write_calls effect.file ++ print_calls effect.text
+
+-- the calls on the host that the program makes where none fails
+abbrev pub host_calls : (List Segment → Listing) → List (List ℕ) → FileMap → List Call
+host_calls listings words F = read_calls F (reads_for (form_of words)) ++ calls_for (effect listings words F)
+
 -- the files after a write
 abbrev pub with_file : Option (List ℕ × List ℕ) → FileMap → FileMap
 with_file None F = F
@@ -145,6 +154,7 @@ pub record Does (listings : List Segment → Listing) (form : Option Form) (old 
   pub reading : Reading
   pub told : (F : FileMap) → old.files ≡ Some F → reading ≡ reading_of F (reads_for form)
   pub carries : Carries (effect_after listings form reading) old new status
+  pub makes : (F : FileMap) → old.files ≡ Some F → MakesCalls (read_calls F (reads_for form) ++ calls_for (effect_after listings form reading)) old.calls new.calls (way_of status)
 
 -- the status of a host's error
 abbrev pub failure_of : HostErr → Status

@@ -1,21 +1,28 @@
 -- What the top call owes to the instructions in order.
-use Rattle.std.specs.Prelude.{◌≡◌, ◌⊎◌, ℕ, ◌+◌, ◌%◌, ◌^◌, ◌<◌, List, ◌++◌, Some, None, if◌then◌else◌}
+use Rattle.std.specs.Prelude.{◌≡◌, ◌⊎◌, ℕ, ◌+◌, ◌%◌, ◌^◌, ◌<◌, ◌≤◌, List, ◌++◌, length, Some, None, if◌then◌else◌}
 use Rattle.std.specs.FinMap.{get, insert}
 use Rattle.hm_base.specs.Image.{flat, flash_byte}
 use Rattle.hm_codes.specs.Listing.{Listing, IsListing}
-use Rattle.hm_host.specs.Host.{FileMap, HostState}
-use Rattle.hm_run.specs.Headline.{Headline}
+use Rattle.hm_host.specs.Host.{FileMap, HostState, longest}
+use Rattle.hm_run.specs.Headline.{Headline, Riders}
+use Rattle.hm_run.specs.Timed.{timed_out}
+use Rattle.hm_sched.specs.Schedule.{Sched, plain}
+use Rattle.hm_sched.specs.Written.{IsFile}
 use Rattle.hm_state.specs.Start.{reset_pc}
 use Rattle.helium.specs.declared.status.Status.{Status}
 use Rattle.helium.specs.declared.status.Status.TheVariants.{Done, Ended, NoMemory}
 use Rattle.helium.specs.Image.{image_refusal}
-use Rattle.helium.specs.Run.{plain_run, is_halted}
-use Rattle.helium.specs.Words.{IsRun}
+use Rattle.helium.specs.Run.{is_halted, short_report}
+use Rattle.helium.specs.Words.{Source, ticks, file, IsRun, IsSeq}
 
--- The words are those of a run. The host tells the files F and the printed bytes P, and none of its calls failed. The
--- file that is named holds these bytes, which are a flat image with an odd reset address.
-pub record IsSoundRun (words : List (List ℕ)) (old new : HostState) (F : FileMap) (P name bytes memory : List ℕ) (n : ℕ) : Type 0 where
-  pub asked : IsRun words name n memory
+-- a source gives a schedule: its plain ticks, or what its file, which is there, writes
+abbrev pub IsGiven : FileMap → Source → Sched → Type 0
+IsGiven F (ticks n) s = s ≡ plain n
+IsGiven F (file name) s = (text : List ℕ) × (get F name ≡ Some text) × (length text ≤ longest) × IsFile text s
+
+-- The host tells the files F and the printed bytes P, and none of its calls failed. The file that is named holds these bytes, which
+-- are a flat image with an odd reset address.
+pub record IsSound (old new : HostState) (F : FileMap) (P name bytes : List ℕ) : Type 0 where
   pub files : old.files ≡ Some F
   pub printed : old.printed ≡ Some P
   pub image : get F name ≡ Some bytes
@@ -24,17 +31,25 @@ pub record IsSoundRun (words : List (List ℕ)) (old new : HostState) (F : FileM
   pub no_fault : new.faults ≡ old.faults
   pub not_last : new.faults + 1 < 2 ^ 64
 
--- A report was printed and a file was written, and the headline holds of both. The status says whether the run halted.
-pub record IsReported (F : FileMap) (P bytes memory : List ℕ) (n : ℕ) (new : HostState) (status : Status) : Type 0 where
+-- The words are those of a run of a sound image under this schedule.
+pub record IsSoundRun (words : List (List ℕ)) (old new : HostState) (F : FileMap) (P name bytes memory : List ℕ) (s : Sched) : Type 0 where
+  pub source : Source
+  pub asked : IsRun words name source memory
+  pub given : IsGiven F source s
+  pub sound : IsSound old new F P name bytes
+
+-- A report was printed and a file was written, and the headline and its riders hold of them. The status says whether the run halted.
+pub record IsReported (F : FileMap) (P bytes memory : List ℕ) (s : Sched) (new : HostState) (status : Status) : Type 0 where
   pub report : List ℕ
   pub file : List ℕ
   pub printed : new.printed ≡ Some (P ++ report)
   pub files : new.files ≡ Some (insert F memory file)
-  pub headline : (listing : Listing) → IsListing (flash_byte (flat bytes)) listing → Headline listing (flat bytes) (plain_run listing bytes n) report file
-  pub ends : (listing : Listing) → IsListing (flash_byte (flat bytes)) listing → status ≡ (if is_halted (plain_run listing bytes n).outcome then Done else Ended)
+  pub headline : (listing : Listing) → IsListing (flash_byte (flat bytes)) listing → Headline listing (flat bytes) (timed_out listing (flat bytes) s) report file
+  pub riders : (listing : Listing) → IsListing (flash_byte (flat bytes)) listing → Riders listing (flat bytes) (timed_out listing (flat bytes) s)
+  pub ends : (listing : Listing) → IsListing (flash_byte (flat bytes)) listing → status ≡ (if is_halted (timed_out listing (flat bytes) s).outcome then Done else Ended)
 
 -- each such run is reported, unless memory was wanted
 abbrev pub RunsToHeadline : List (List ℕ) → HostState → HostState → Status → Type 0
 RunsToHeadline words old new status =
-    (F : FileMap) (P name bytes memory : List ℕ) (n : ℕ) → IsSoundRun words old new F P name bytes memory n
-    → (status ≡ NoMemory) ⊎ IsReported F P bytes memory n new status
+    (F : FileMap) (P name bytes memory : List ℕ) (s : Sched) → IsSoundRun words old new F P name bytes memory s
+    → (status ≡ NoMemory) ⊎ IsReported F P bytes memory s new status

@@ -1,25 +1,25 @@
 -- What a run of an image comes to.
 use Rattle.std.specs.Prelude.{◌≡◌, ℕ, ◌%◌, Bool, true, false, List, Option, Some, None, option_map, nat_eq, if◌then◌else◌, Result, Ok, Err}
-use Rattle.hm_base.specs.Image.{Segment, flat}
-use Rattle.hm_codes.specs.Listing.{Listing}
+use Rattle.hm_base.specs.Image.{Segment, flat, flash_byte}
+use Rattle.hm_codes.specs.Listing.{Listing, IsListing}
+use Rattle.hm_machine.specs.Shown.{Shown, timed_of}
 use Rattle.hm_machine.specs.declared.load.LoadErr.{LoadErr}
 use Rattle.hm_machine.specs.declared.load.LoadErr.TheVariants as load
 use Rattle.hm_run.specs.declared.Outcome.{Outcome}
 use Rattle.hm_run.specs.declared.Outcome.TheVariants as outcome
-use Rattle.hm_run.specs.Report.{report_text, memory_text}
+use Rattle.hm_run.specs.Report.{outcome_line, report_text}
 use Rattle.hm_run.specs.Timed.{Timed, timed_out}
-use Rattle.hm_sched.specs.Schedule.{plain}
+use Rattle.hm_sched.specs.Schedule.{Sched, plain}
+use Rattle.hm_sched.specs.ReadFile.{file_in}
+use Rattle.hm_sched.specs.declared.errors.SchedErr.{SchedErr}
+use Rattle.hm_sched.specs.declared.errors.SchedErr.TheVariants as sched
 use Rattle.hm_state.specs.Start.{reset_pc}
-use Rattle.helium.specs.declared.machine.Answer.{Answer}
 use Rattle.helium.specs.declared.work.Refusal.{Refusal}
-use Rattle.helium.specs.declared.work.Refusal.TheVariants.{Image, Reset}
+use Rattle.helium.specs.declared.work.Refusal.TheVariants.{Image, Schedule, Reset}
 use Rattle.helium.specs.declared.work.Stop.{Stop}
 use Rattle.helium.specs.declared.work.Stop.TheVariants.{Refused, NoMemory}
 use Rattle.helium.specs.Image.{image_refusal}
-
--- a run of a flat image for n ticks of one whole instruction each
-abbrev pub plain_run : Listing → List ℕ → ℕ → Timed
-plain_run listing bytes n = timed_out listing (flat bytes) (plain n)
+use Rattle.helium.specs.Words.{Source, ticks, file}
 
 -- whether a run halted
 abbrev pub is_halted : Option Outcome → Bool
@@ -35,23 +35,44 @@ abbrev pub or_refusal : Option Refusal → Option Refusal → Option Refusal
 or_refusal (Some why) other = Some why
 or_refusal None other = other
 
--- why a file is not run: it is no image, or no machine is made of it
-abbrev pub run_refusal : List ℕ → Option Refusal
-run_refusal bytes = or_refusal (option_map Image (image_refusal bytes)) (reset_refusal (flat bytes))
+-- what is read of the source of a schedule: plain ticks, or what its file holds
+abbrev pub schedule_in : Source → List ℕ → Result Sched SchedErr
+schedule_in (ticks n) text = Ok (plain n)
+schedule_in (file name) text = file_in text
 
--- the answer for an image that is not refused
-pub record IsAnswer (listing : Listing) (bytes : List ℕ) (n : ℕ) (answer : Answer) : Type 0 where
-  pub accepted : run_refusal bytes ≡ None
-  pub halted : answer.halted ≡ is_halted (plain_run listing bytes n).outcome
-  pub report_is : answer.report.items ≡ report_text (plain_run listing bytes n)
-  pub memory_is : answer.memory.items ≡ memory_text (plain_run listing bytes n)
+abbrev pub schedule_refusal : Result Sched SchedErr → Option Refusal
+schedule_refusal (Ok s) = None
+schedule_refusal (Err e) = Some (Schedule e)
 
-abbrev pub Runs : Listing → List ℕ → ℕ → Result Answer Stop → Type 0
-Runs listing bytes n (Ok answer) = IsAnswer listing bytes n answer
-Runs listing bytes n (Err (Refused why)) = run_refusal bytes ≡ Some why
-Runs listing bytes n (Err NoMemory) = Unit {0}
+-- why a file is not run: it is no image, its schedule is none, or no machine is made of it
+abbrev pub run_refusal : List ℕ → Result Sched SchedErr → Option Refusal
+run_refusal bytes read = or_refusal (option_map Image (image_refusal bytes)) (or_refusal (schedule_refusal read) (reset_refusal (flat bytes)))
+
+-- a machine that shows a run to its end
+pub record IsOver (image : List Segment) (s : Sched) (m : Shown) : Type 0 where
+  pub shows : (listing : Listing) → IsListing (flash_byte image) listing → timed_of m ≡ timed_out listing image s
+
+-- a run to its end, where the image is not refused by a reset
+abbrev pub RunsToEnd : List Segment → Sched → Result Shown Stop → Type 0
+RunsToEnd image s (Ok m) = IsOver image s m × (reset_refusal image ≡ None)
+RunsToEnd image s (Err (Refused why)) = reset_refusal image ≡ Some why
+RunsToEnd image s (Err NoMemory) = Unit {0}
+
+-- whether a run ended with a fault
+abbrev pub is_fault : Option Outcome → Bool
+is_fault (Some (outcome.Fault who f pc n)) = true
+is_fault o = false
+
+-- what is shown of a run in order: its report, of a fault the first line alone
+abbrev pub short_report : Timed → List ℕ
+short_report x = if is_fault x.outcome then outcome_line x.outcome else report_text x
 
 -- what a machine refuses is refused, and want of memory is no refusal
 abbrev pub load_stop : LoadErr → Stop
 load_stop (load.Reset value) = Refused (Reset value)
 load_stop load.OutOfMemory = NoMemory
+
+-- what is bad in a schedule is refused, and want of memory is no refusal
+abbrev pub schedule_stop : SchedErr → Stop
+schedule_stop sched.OutOfMemory = NoMemory
+schedule_stop e = Refused (Schedule e)

@@ -3,11 +3,15 @@ use Rattle.std.specs.Prelude.{◌≡◌, ℕ, Bool, List, ◌++◌, Option, Resu
 use Rattle.std.specs.Fmt.{decimal}
 use Rattle.hm_base.specs.declared.errors.ImageErr.{ImageErr}
 use Rattle.hm_base.specs.declared.errors.ImageErr.TheVariants as image
+use Rattle.hm_sched.specs.declared.errors.LineKind.{LineKind}
+use Rattle.hm_sched.specs.declared.errors.LineKind.TheVariants as kind
+use Rattle.hm_sched.specs.declared.errors.SchedErr.{SchedErr}
+use Rattle.hm_sched.specs.declared.errors.SchedErr.TheVariants as sched
 use Rattle.hm_text_base.specs.Texts.{hex8}
 use Rattle.helium.specs.declared.work.Output.{Output}
 use Rattle.helium.specs.declared.work.Finish.{Finish}
 use Rattle.helium.specs.declared.work.Refusal.{Refusal}
-use Rattle.helium.specs.declared.work.Refusal.TheVariants.{FileTooLarge, Image, Reset}
+use Rattle.helium.specs.declared.work.Refusal.TheVariants.{FileTooLarge, Image, Schedule, Reset}
 use Rattle.helium.specs.declared.work.Stop.{Stop}
 use Rattle.helium.specs.declared.work.Stop.TheVariants.{Refused, NoMemory}
 
@@ -25,10 +29,28 @@ image_text image.TooMany out = out ++ codes "too many"
 image_text (image.Segment k) out = out ++ codes "segment " ++ decimal k
 image_text image.OutOfMemory out = out
 
+-- the word for what is bad in a line of a schedule
+abbrev pub kind_text : LineKind → List ℕ
+kind_text kind.Header = codes "header"
+kind_text kind.Entries = codes "entries"
+kind_text kind.Region = codes "region"
+kind_text kind.Floor = codes "floor"
+kind_text kind.Count = codes "count"
+kind_text kind.Steps = codes "steps"
+kind_text kind.Irq = codes "irq"
+kind_text kind.Newline = codes "newline"
+
+-- what is wrong with a schedule, after a text
+abbrev pub schedule_text : SchedErr → List ℕ → List ℕ
+schedule_text (sched.Line k kind) out = out ++ codes "line " ++ decimal k ++ codes " " ++ kind_text kind
+schedule_text (sched.TooManyTicks k) out = out ++ codes "too many ticks " ++ decimal k
+schedule_text sched.OutOfMemory out = out
+
 -- what a refusal's line says, after a text
 abbrev pub refusal_text : Refusal → List ℕ → List ℕ
 refusal_text FileTooLarge out = out ++ codes "file too large"
 refusal_text (Image e) out = image_text e (out ++ codes "image ")
+refusal_text (Schedule e) out = schedule_text e (out ++ codes "schedule ")
 refusal_text (Reset value) out = out ++ codes "image reset " ++ hex8 value
 
 -- what a command comes to: whether what was asked came about, the file to write and the text to print; or a refusal

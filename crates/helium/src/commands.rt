@@ -1,31 +1,88 @@
 //! What each command comes to, from the bytes of the files that it reads. No command calls the host.
 
-ghost use Rattle.std.specs.Prelude.{◌≡◌, ◌≤◌, List, length, map};
+ghost use Rattle.std.specs.Prelude.{◌≡◌, ◌≤◌, ℕ, List, [], Result, Ok, length, map, get_or};
 ghost use Rattle.hm_base.specs.Image.{Segment};
 ghost use Rattle.hm_codes.specs.Listing.{Listing};
-ghost use Rattle.hm_sched.specs.Schedule.{most_ticks};
-ghost use Rattle.helium.specs.Words.{meant, reads_of};
+ghost use Rattle.hm_sched.specs.Schedule.{Sched, plain};
+ghost use Rattle.hm_sched.specs.ReadFile.{Gives as GivesSchedule};
+ghost use Rattle.hm_sched.specs.declared.errors.SchedErr.{SchedErr};
+ghost use Rattle.helium.specs.Words.{run, source_meant, meant, reads_of};
 ghost use Rattle.helium.specs.Work.{Gives};
-ghost use Rattle.helium.specs.Commands.{AreListings, run_outcome, outcome_of};
+ghost use Rattle.helium.specs.Run.{schedule_in};
+ghost use Rattle.helium.specs.Commands.{AreListings, run_outcome, seq_outcome, outcome_of};
 
-use crate::machine::run_image;
-use crate::words::Command;
+use crate::image::read_image;
+use crate::machine::{is_halted, run_to_end, short_report};
+use crate::ticks::Ticks;
+use crate::words::{Command, Source};
 use crate::work::{Finish, Output, Stop};
+use hm_sched::{SchedErr, Schedule, parse, plain};
 use std::alloc::Global;
 
-/// Runs an image. Its memory is to be written, and its report to be printed.
-fn run<'a>(alloc: Global, image: &[u8], ticks: u32, memory: &'a str) -> Result<Finish<'a>, Stop>
-    requires { ticks ≤ most_ticks }
-    ensures { (listings : List Segment → Listing) → AreListings listings → Gives (run_outcome listings image.now ticks memory.now) result }
+/// The schedule of so many ticks of one whole instruction each. It is refused for want of memory alone.
+fn plain_schedule(alloc: Global, ticks: Ticks) -> Result<Schedule, SchedErr>
+    ensures { GivesSchedule (λ s. s) result (Ok (plain ticks.count)) }
 {
-    let answer = run_image(alloc, image, ticks)?;
+    plain(alloc, ticks.count)
+}
+
+/// Runs an image under a schedule, as it was read. Its memory is to be written, and its report to be printed.
+fn run_under<'a>(
+    alloc: Global,
+    image: &[u8],
+    schedule: Result<Schedule, SchedErr>,
+    memory: &'a str,
+) -> Result<Finish<'a>, Stop>
+    ensures { (listings : List Segment → Listing) → AreListings listings → (read : Result Sched SchedErr) → GivesSchedule (λ s. s) schedule read
+        → Gives (run_outcome listings image.now read memory.now) result }
+{
+    let image = read_image(alloc, image)?;
+    let schedule = schedule?;
+    let machine = run_to_end(alloc, &image, schedule)?;
     Ok(Finish {
-        done: answer.halted,
+        done: is_halted(machine.outcome()),
         file: Some(Output {
             name: memory,
-            bytes: answer.memory,
+            bytes: machine.memory_file(alloc)?,
         }),
-        text: Some(answer.report),
+        text: Some(machine.report(alloc)?),
+    })
+}
+
+/// Runs an image under the schedule of its source, from the contents of the two files.
+fn run<'a>(
+    alloc: Global,
+    schedule: &Source<'_>,
+    contents: &[Vec<u8>],
+    memory: &'a str,
+) -> Result<Finish<'a>, Stop>
+    requires { length contents.now ≡ length (reads_of (run [] (source_meant schedule.now) [])) }
+    ensures { (listings : List Segment → Listing) → AreListings listings
+        → Gives (outcome_of listings (run [] (source_meant schedule.now) memory.now) (map (λ bytes. bytes.items) contents.now)) result }
+{
+    match schedule {
+        Source::Plain(ticks) => {
+            let schedule = plain_schedule(alloc, *ticks);
+            run_under(alloc, &contents[0], schedule, memory)
+        }
+        Source::File(_) => {
+            let schedule = parse(alloc, &contents[1]);
+            run_under(alloc, &contents[0], schedule, memory)
+        }
+    }
+}
+
+/// Runs so many whole instructions of an image in order. The report is to be printed, of a fault the first line alone.
+fn seq<'a>(alloc: Global, image: &[u8], ticks: Ticks) -> Result<Finish<'a>, Stop>
+    ensures { (listings : List Segment → Listing) → AreListings listings → Gives (seq_outcome listings image.now ticks.count) result }
+{
+    let image = read_image(alloc, image)?;
+    let schedule = plain_schedule(alloc, ticks)?;
+    let machine = run_to_end(alloc, &image, schedule)?;
+    Ok(Finish {
+        done: is_halted(machine.outcome()),
+        file: None,
+        text: Some(short_report(alloc, &machine)?),
     })
 }
 
@@ -40,6 +97,11 @@ pub fn perform<'a>(
         → Gives (outcome_of listings (meant command.now) (map (λ bytes. bytes.items) contents.now)) result }
 {
     match command {
-        Command::Run { ticks, memory, .. } => run(alloc, &contents[0], ticks.count, memory),
+        Command::Run {
+            schedule,
+            memory,
+            ..
+        } => run(alloc, schedule, contents, memory),
+        Command::Seq { ticks, .. } => seq(alloc, &contents[0], *ticks),
     }
 }

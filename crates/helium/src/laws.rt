@@ -4,7 +4,7 @@ ghost use Rattle.std.specs.Prelude.{◌≡◌, ◌↔◌, ℕ, List, Some};
 ghost use Rattle.hm_base.specs.Image.{Segment};
 ghost use Rattle.hm_codes.specs.Listing.{Listing};
 ghost use Rattle.helium.specs.Commands.{AreListings};
-ghost use Rattle.helium.specs.Words.{run, form_of, IsRun};
+ghost use Rattle.helium.specs.Words.{Source, run, seq, form_of, IsRun, IsSeq};
 
 /// The flash of each image has a listing.
 ///
@@ -13,9 +13,10 @@ pub fn listings_exist()
     ensures { (listings : List Segment → Listing) × AreListings listings }
 {}
 
-/// Words are read as a run exactly where they are one.
+/// Words are read as a run, or as instructions in order, exactly where they are such.
 ///
-/// It does nothing; its clause is a theorem about words.
-pub fn words_of_runs()
-    ensures { (words : List (List ℕ)) (image memory : List ℕ) (n : ℕ) → (form_of words ≡ Some (run image n memory)) ↔ IsRun words image n memory }
+/// It does nothing; its clauses are theorems about words.
+pub fn words_of_commands()
+    ensures runs { (words : List (List ℕ)) (image memory : List ℕ) (schedule : Source) → (form_of words ≡ Some (run image schedule memory)) ↔ IsRun words image schedule memory }
+    ensures seqs { (words : List (List ℕ)) (image : List ℕ) (n : ℕ) → (form_of words ≡ Some (seq image n)) ↔ IsSeq words image n }
 {}

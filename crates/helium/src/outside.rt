@@ -1,8 +1,9 @@
 //! The host's calls of a run: the reads in order, then the write, then the print.
 
-ghost use Rattle.std.specs.Prelude.{◌≡◌, map, option_map, length, vec_len, IfOk};
-ghost use Rattle.hm_host.specs.Host.{Stays, Counts};
+ghost use Rattle.std.specs.Prelude.{◌≡◌, Some, map, option_map, length, vec_len, IfOk};
+ghost use Rattle.hm_host.specs.Host.{FileMap, Stays, Counts};
 ghost use Rattle.helium.specs.Work.{output_pair};
+ghost use Rattle.helium.specs.Calls.{MakesCalls, answer_way, read_calls, write_calls, print_calls};
 ghost use Rattle.helium.specs.Effect.{ReadsAll, WritesFile, PrintsText};
 
 use crate::work::Output;
@@ -19,6 +20,7 @@ pub fn read_all<H: Host>(
     ensures each { IfOk result (λ contents. vec_len contents ≡ length names.now) }
     ensures files { Stays (H.state host.old).files (H.state host.new).files }
     ensures printed { Stays (H.state host.old).printed (H.state host.new).printed }
+    ensures calls { (F : FileMap) → (H.state host.old).files ≡ Some F → MakesCalls (read_calls F (map (λ name. name.now) names.now)) (H.state host.old).calls (H.state host.new).calls (answer_way result) }
     ensures count { Counts (H.state host.old).faults (H.state host.new).faults result }
 {
     let mut contents = Vec::new(alloc);
@@ -43,6 +45,7 @@ pub fn write_file<H: Host>(
 ) -> Result<(), HostErr>
     ensures files { WritesFile (option_map output_pair file.now) (H.state host.old) (H.state host.new) result }
     ensures printed { Stays (H.state host.old).printed (H.state host.new).printed }
+    ensures calls { MakesCalls (write_calls (option_map output_pair file.now)) (H.state host.old).calls (H.state host.new).calls (answer_way result) }
     ensures count { Counts (H.state host.old).faults (H.state host.new).faults result }
 {
     match file {
@@ -59,6 +62,7 @@ pub fn print_text<H: Host>(
 ) -> Result<(), HostErr>
     ensures printed { PrintsText (option_map (λ text. text.items) text.now) (H.state host.old) (H.state host.new) result }
     ensures files { Stays (H.state host.old).files (H.state host.new).files }
+    ensures calls { MakesCalls (print_calls (option_map (λ text. text.items) text.now)) (H.state host.old).calls (H.state host.new).calls (answer_way result) }
     ensures count { Counts (H.state host.old).faults (H.state host.new).faults result }
 {
     match text {

@@ -55,10 +55,11 @@ fn words(alloc: Global, texts: &[&str]) -> Result<Vec<String>, AllocError> {
     Ok(words)
 }
 
-/// A host with the file `a`, whose calls of these numbers fail.
-fn host(alloc: Global, image: &[u8], failing: &[u64]) -> Result<MemHost, Fail> {
+/// A host with the file `a`, and with the file `s` for a schedule, whose calls of these numbers fail.
+fn host(alloc: Global, image: &[u8], schedule: &[u8], failing: &[u64]) -> Result<MemHost, Fail> {
     let mut files = Files::new(alloc);
     files.add("a", image.to_vec(alloc)?)?;
+    files.add("s", schedule.to_vec(alloc)?)?;
     let mut list = FailList::new(alloc);
     for call in failing {
         list.add(*call)?;
@@ -66,9 +67,14 @@ fn host(alloc: Global, image: &[u8], failing: &[u64]) -> Result<MemHost, Fail> {
     Ok(MemHost::new(alloc, files, list))
 }
 
+/// The status of a command line.
+fn obey(alloc: Global, texts: &[&str], outside: &mut MemHost) -> Result<Status, Fail> {
+    Ok(helium(alloc, &words(alloc, texts)?, outside))
+}
+
 /// The status of a run of the file `a` under a schedule, with `b` for its memory.
 fn run(alloc: Global, schedule: &str, outside: &mut MemHost) -> Result<Status, Fail> {
-    Ok(helium(alloc, &words(alloc, &["run", "a", schedule, "b"])?, outside))
+    obey(alloc, &["run", "a", schedule, "b"], outside)
 }
 
 fn has_line(text: &[u8], line: &[u8]) -> bool {
@@ -78,7 +84,7 @@ fn has_line(text: &[u8], line: &[u8]) -> bool {
 #[test]
 fn first_run(rt: HostRuntime) -> Result<(), Fail> {
     let alloc = rt.alloc();
-    let mut outside = host(alloc, FIRST, &[])?;
+    let mut outside = host(alloc, FIRST, b"", &[])?;
     assert_eq!(rt; run(alloc, "plain:3", &mut outside)?, Status::Done);
     assert_eq!(rt; outside.printed(), FIRST_REPORT);
     let memory = outside.file("b").ok_or("no file b")?;
@@ -137,7 +143,7 @@ fn runs_end(rt: HostRuntime) -> Result<(), Fail> {
         ),
     ];
     for (image, schedule, status, lines) in rows {
-        let mut outside = host(alloc, image, &[])?;
+        let mut outside = host(alloc, image, b"", &[])?;
         assert_eq!(rt; run(alloc, schedule, &mut outside)?, status);
         for line in lines {
             assert!(rt; has_line(outside.printed(), line), "{schedule}");
@@ -164,7 +170,7 @@ fn refuses(rt: HostRuntime) -> Result<(), Fail> {
         ),
     ];
     for (image, line) in rows {
-        let mut outside = host(alloc, image, &[])?;
+        let mut outside = host(alloc, image, b"", &[])?;
         assert_eq!(rt; run(alloc, "plain:1", &mut outside)?, Status::Refused);
         assert_eq!(rt; outside.printed(), line);
         assert!(rt; outside.file("b").is_none());
@@ -175,7 +181,7 @@ fn refuses(rt: HostRuntime) -> Result<(), Fail> {
 #[test]
 fn says_how_it_is_used(rt: HostRuntime) -> Result<(), Fail> {
     let alloc = rt.alloc();
-    let rows: [&[&str]; 8] = [
+    let rows: [&[&str]; 13] = [
         &[],
         &["run", "a"],
         &["run", "a", "plain:1", "b", "c"],
@@ -184,14 +190,19 @@ fn says_how_it_is_used(rt: HostRuntime) -> Result<(), Fail> {
         &["run", "a", "plain:", "b"],
         &["run", "a", "plain:x", "b"],
         &["run", "a", "plain:16777217", "b"],
+        &["seq", "a"],
+        &["seq", "a", "1", "b"],
+        &["seq", "a", "01"],
+        &["seq", "a", "plain:1"],
+        &["seq", "a", "16777217"],
     ];
     for row in rows {
-        let mut outside = host(alloc, FIRST, &[0])?;
+        let mut outside = host(alloc, FIRST, b"", &[0])?;
         assert_eq!(rt;
             helium(alloc, &words(alloc, row)?, &mut outside),
             Status::HostFault
         );
-        let mut outside = host(alloc, FIRST, &[])?;
+        let mut outside = host(alloc, FIRST, b"", &[])?;
         assert_eq!(rt;
             helium(alloc, &words(alloc, row)?, &mut outside),
             Status::Usage
@@ -201,21 +212,176 @@ fn says_how_it_is_used(rt: HostRuntime) -> Result<(), Fail> {
     Ok(())
 }
 
+/// The head of a schedule with an empty region.
+const HEAD: &[u8] = b"helium-schedule 1\nentries no\nregion 20000000 20000000\nfloor 20000000\n";
+
+#[test]
+fn runs_under_files(rt: HostRuntime) -> Result<(), Fail> {
+    let alloc = rt.alloc();
+    let rows: [(&[u8], &[u8], Status, &[&[u8]]); 3] = [
+        (
+            FIRST,
+            b"2*W\nO\n",
+            Status::Done,
+            &[b"outcome halted break 1 after 3"],
+        ),
+        // movs r0,#5; movs r1,#3; vdup.32 q0,r0; vdup.32 q1,r1; vadd.i32 q0,q0,q1, stopped after two beats
+        (
+            b"\x00\x00\x01\x20\x09\x00\x00\x00\x05\x20\x03\x21\xa0\xee\x10\x0b\xa2\xee\x10\x1b\x20\xef\x42\x08\x00\xbe",
+            b"4*W\nOO\n",
+            Status::Ended,
+            &[
+                b"outcome ticks",
+                b"pc 00000014",
+                b"position 2 0",
+                b"fpca 1",
+                b"q0 00000008 00000008 00000005 00000005",
+            ],
+        ),
+        // vaddva.u32 r0,q0; vadd.i32 q1,q2,r0: the younger needs what the older has still to write
+        (
+            b"\x00\x00\x01\x20\x09\x00\x00\x00\xf9\xfe\x20\x0f\x25\xee\x40\x2f\x00\xbe",
+            b"OOOY\n",
+            Status::Ended,
+            &[b"outcome rule tick 1 step 4 register r0"],
+        ),
+    ];
+    for (image, ticks, status, lines) in rows {
+        let mut text = HEAD.to_vec(alloc)?;
+        text.extend_from_slice(ticks)?;
+        let mut outside = host(alloc, image, &text, &[])?;
+        assert_eq!(rt; run(alloc, "s", &mut outside)?, status);
+        for line in lines {
+            assert!(rt; has_line(outside.printed(), line));
+        }
+        assert_eq!(rt; outside.file("b").ok_or("no file b")?.len(), MEMORY_FILE);
+        assert_eq!(rt; outside.calls(), Some(4));
+    }
+    Ok(())
+}
+
+#[test]
+fn refuses_schedules(rt: HostRuntime) -> Result<(), Fail> {
+    let alloc = rt.alloc();
+    let rows: [(&[u8], &[u8], &[u8], &[u8]); 8] = [
+        (
+            FIRST,
+            HEAD,
+            b"16777217*W\n",
+            b"helium: refused schedule too many ticks 5\n",
+        ),
+        (
+            FIRST,
+            HEAD,
+            b"OX\n",
+            b"helium: refused schedule line 5 steps\n",
+        ),
+        (
+            FIRST,
+            HEAD,
+            b"0*W\n",
+            b"helium: refused schedule line 5 count\n",
+        ),
+        (
+            FIRST,
+            HEAD,
+            b"W irq 3 3\n",
+            b"helium: refused schedule line 5 irq\n",
+        ),
+        (FIRST, b"", b"", b"helium: refused schedule line 1 header\n"),
+        (
+            FIRST,
+            b"helium-schedule 1\n",
+            b"entries yes\n",
+            b"helium: refused schedule line 2 entries\n",
+        ),
+        // The image is refused before the schedule, and the schedule before a reset.
+        (b"\x00", b"", b"", b"helium: refused image short\n"),
+        (
+            b"\x00\x00\x01\x20\x08\x00\x00\x00",
+            b"helium-schedule 1",
+            b"",
+            b"helium: refused schedule line 1 newline\n",
+        ),
+    ];
+    for (image, head, ticks, line) in rows {
+        let mut text = head.to_vec(alloc)?;
+        text.extend_from_slice(ticks)?;
+        let mut outside = host(alloc, image, &text, &[])?;
+        assert_eq!(rt; run(alloc, "s", &mut outside)?, Status::Refused);
+        assert_eq!(rt; outside.printed(), line);
+        assert!(rt; outside.file("b").is_none());
+    }
+    Ok(())
+}
+
+#[test]
+fn runs_in_order(rt: HostRuntime) -> Result<(), Fail> {
+    let alloc = rt.alloc();
+    let mut outside = host(alloc, FIRST, b"", &[])?;
+    assert_eq!(rt;
+        obey(alloc, &["seq", "a", "3"], &mut outside)?,
+        Status::Done
+    );
+    assert_eq!(rt; outside.printed(), FIRST_REPORT);
+    assert_eq!(rt; outside.calls(), Some(2));
+
+    let mut outside = host(alloc, FIRST, b"", &[])?;
+    assert_eq!(rt;
+        obey(alloc, &["seq", "a", "2"], &mut outside)?,
+        Status::Ended
+    );
+    assert!(rt; has_line(outside.printed(), b"outcome ticks"));
+    assert!(rt; has_line(outside.printed(), b"pc 0000000c"));
+
+    // Of a fault the first line alone.
+    let fault = b"\x00\x00\x01\x20\x09\x00\x00\x00\x00\xde";
+    let mut outside = host(alloc, fault, b"", &[])?;
+    assert_eq!(rt;
+        obey(alloc, &["seq", "a", "1"], &mut outside)?,
+        Status::Ended
+    );
+    assert_eq!(rt;
+        outside.printed(),
+        b"outcome fault thread undefined pc 00000008 addr 00000008 after 0\n".as_slice()
+    );
+
+    let mut outside = host(alloc, b"\x00", b"", &[])?;
+    assert_eq!(rt;
+        obey(alloc, &["seq", "a", "1"], &mut outside)?,
+        Status::Refused
+    );
+    assert_eq!(rt;
+        outside.printed(),
+        b"helium: refused image short\n".as_slice()
+    );
+    Ok(())
+}
+
 #[test]
 fn fails_with_its_host(rt: HostRuntime) -> Result<(), Fail> {
     let alloc = rt.alloc();
-    for call in 0..4u64 {
-        let mut outside = host(alloc, FIRST, &[call])?;
-        let status = run(alloc, "plain:1", &mut outside)?;
-        // A run makes three calls, so the fourth does not come to fail.
-        let expected = if call < 3 {
-            Status::HostFault
-        } else {
-            Status::Ended
-        };
-        assert_eq!(rt; status, expected);
-        assert_eq!(rt; outside.printed().is_empty(), call < 3);
-        assert_eq!(rt; outside.file("b").is_some(), call >= 2);
+    let rows: [(&[&str], u64); 3] = [
+        (&["run", "a", "s", "b"], 4),
+        (&["run", "a", "plain:1", "b"], 3),
+        (&["seq", "a", "1"], 2),
+    ];
+    for (texts, calls) in rows {
+        for call in 0..calls + 1 {
+            let mut outside = host(alloc, FIRST, HEAD, &[call])?;
+            let status = obey(alloc, texts, &mut outside)?;
+            // A call past the last does not come to fail.
+            let fails = call < calls;
+            let expected = if fails {
+                Status::HostFault
+            } else {
+                Status::Ended
+            };
+            assert_eq!(rt; status, expected);
+            assert_eq!(rt; outside.printed().is_empty(), fails);
+            let made = if fails { call + 1 } else { calls };
+            assert_eq!(rt; outside.calls(), Some(made as usize));
+        }
     }
     Ok(())
 }

@@ -1,6 +1,6 @@
 //! The top call: words, reads, the command, the written file, the print.
 
-ghost use Rattle.std.specs.Prelude.{◌≡◌, ◌<◌, ◌+◌, ◌^◌, List, ℕ, Some, None, map, option_map, string_bytes, IfOk};
+ghost use Rattle.std.specs.Prelude.{◌≡◌, ◌<◌, ◌+◌, ◌++◌, ◌^◌, List, ℕ, Some, None, map, option_map, string_bytes, IfOk};
 ghost use Rattle.hm_base.specs.Image.{Segment};
 ghost use Rattle.hm_codes.specs.Listing.{Listing};
 ghost use Rattle.helium.specs.Commands.{AreListings};
@@ -8,7 +8,8 @@ ghost use Rattle.helium.specs.Headline.{RunsToHeadline};
 ghost use Rattle.hm_host.specs.Host.{FileMap, Rose, Stays};
 ghost use Rattle.helium.specs.Words.{form_of, meant};
 ghost use Rattle.helium.specs.Work.{Outcome, Gives, output_pair, refuses};
-ghost use Rattle.helium.specs.Effect.{Carries, Completes, Does, IsComplete, effect, effect_for, usage_effect, usage_line, refused_line, failure_of};
+ghost use Rattle.helium.specs.Effect.{Carries, Completes, Does, IsComplete, calls_for, effect, effect_for, host_calls, usage_effect, usage_line, refused_line, failure_of};
+ghost use Rattle.helium.specs.Calls.{MakesCalls, print_calls, way_of, write_calls};
 
 use crate::commands::perform;
 use crate::outside::{print_text, read_all, write_file};
@@ -40,6 +41,7 @@ fn carry_out<H: Host>(
 ) -> Status
     requires { IsComplete status }
     ensures effect { Carries (record { status = status; file = option_map output_pair file.now; text = option_map (λ text. text.items) text.now }) (H.state host.old) (H.state host.new) result }
+    ensures calls { MakesCalls (write_calls (option_map output_pair file.now) ++ print_calls (option_map (λ text. text.items) text.now)) (H.state host.old).calls (H.state host.new).calls (way_of result) }
 {
     match write_file(alloc, file, host) {
         Err(e) => failure(e),
@@ -69,6 +71,7 @@ fn make_refused_line(alloc: Global, why: Refusal) -> Result<Vec<u8>, OutOfMemory
 /// Says how the program is used.
 fn say_usage<H: Host>(alloc: Global, host: &mut H) -> Status
     ensures effect { Carries usage_effect (H.state host.old) (H.state host.new) result }
+    ensures calls { MakesCalls (calls_for usage_effect) (H.state host.old).calls (H.state host.new).calls (way_of result) }
 {
     match make_usage_line(alloc) {
         Ok(line) => carry_out(alloc, Status::Usage, &None, &Some(line), host),
@@ -79,6 +82,7 @@ fn say_usage<H: Host>(alloc: Global, host: &mut H) -> Status
 /// Says why a command is refused.
 fn refuse<H: Host>(alloc: Global, why: Refusal, host: &mut H) -> Status
     ensures effect { Carries (effect_for (refuses why)) (H.state host.old) (H.state host.new) result }
+    ensures calls { MakesCalls (calls_for (effect_for (refuses why))) (H.state host.old).calls (H.state host.new).calls (way_of result) }
 {
     match make_refused_line(alloc, why) {
         Ok(line) => carry_out(alloc, Status::Refused, &None, &Some(line), host),
@@ -89,6 +93,7 @@ fn refuse<H: Host>(alloc: Global, why: Refusal, host: &mut H) -> Status
 /// Does what a command comes to.
 fn conclude<H: Host>(alloc: Global, outcome: Result<Finish<'_>, Stop>, host: &mut H) -> Status
     ensures effect { (o : Outcome) → Gives o outcome.entry → Carries (effect_for o) (H.state host.old) (H.state host.new) result }
+    ensures calls { (o : Outcome) → Gives o outcome.entry → MakesCalls (calls_for (effect_for o)) (H.state host.old).calls (H.state host.new).calls (way_of result) }
 {
     match outcome {
         Ok(finish) => {
@@ -133,7 +138,10 @@ pub fn helium<H: Host>(alloc: Global, words: &[String], host: &mut H) -> Status
     ensures complete { (listings : List Segment → Listing) → AreListings listings → (F : FileMap) → (H.state host.old).files ≡ Some F
         → (H.state host.new).faults ≡ (H.state host.old).faults → (H.state host.new).faults + 1 < 2 ^ 64
         → Completes (effect listings (map string_bytes words.now) F) (H.state host.old) (H.state host.new) result }
-    // Of a run that is reported the headline holds.
+    // Where the host tells its calls, those that the program made are the ones that the words ask for: all of them, or up to the first that failed.
+    ensures calls { (listings : List Segment → Listing) → AreListings listings → (F : FileMap) → (H.state host.old).files ≡ Some F
+        → MakesCalls (host_calls listings (map string_bytes words.now) F) (H.state host.old).calls (H.state host.new).calls (way_of result) }
+    // Of a run that is reported the headline and its riders hold.
     ensures headline { RunsToHeadline (map string_bytes words.now) (H.state host.old) (H.state host.new) result }
     // Words that are no form are answered by the usage line, whatever the host tells.
     ensures usage { form_of (map string_bytes words.now) ≡ None → Carries usage_effect (H.state host.old) (H.state host.new) result }

@@ -1,7 +1,7 @@
 //! The words of a command, by position.
 
-ghost use Rattle.std.specs.Prelude.{◌≡◌, ◌≤◌, ◌+◌, ◌*◌, option_map, map, length, string_bytes, IfOk, IfSome};
-ghost use Rattle.helium.specs.Words.{digits_from, number_of, plain_of, run_form, form_of, meant, reads_of, most};
+ghost use Rattle.std.specs.Prelude.{◌≡◌, ◌≤◌, ◌+◌, ◌*◌, ℕ, List, [], ◌∷◌, option_map, map, length, string_bytes, IfOk, IfSome};
+ghost use Rattle.helium.specs.Words.{digits_from, number_of, source_of, source_meant, run, run_form, seq_form, form_of, meant, reads_of, most};
 
 use crate::ticks::Ticks;
 use std::alloc::{AllocError, Global};
@@ -9,14 +9,28 @@ use std::alloc::{AllocError, Global};
 /// The largest number that a word may give.
 const MOST: u32 = 16_777_216;
 
+/// Where the schedule of a run comes from.
+#[derive(Clone, Copy)]
+pub enum Source<'a> {
+    /// So many ticks of one whole instruction each.
+    Plain(Ticks),
+    /// A file.
+    File(&'a str),
+}
+
 /// What the words ask for.
 #[derive(Clone, Copy)]
 pub enum Command<'a> {
-    /// To run an image for so many ticks, to write its memory to a file, and to print the report.
+    /// To run an image under a schedule, to write its memory to a file, and to print the report.
     Run {
         image: &'a str,
-        ticks: Ticks,
+        schedule: Source<'a>,
         memory: &'a str,
+    },
+    /// To run so many whole instructions of an image in order, and to print the report, of a fault the first line alone.
+    Seq {
+        image: &'a str,
+        ticks: Ticks,
     },
 }
 
@@ -50,13 +64,24 @@ fn number(word: &[u8]) -> Option<u32>
     }
 }
 
-/// The number of ticks in `plain:N`.
-fn plain(word: &str) -> Option<Ticks>
-    ensures { option_map (λ ticks. ticks.count) result ≡ plain_of word.now }
+fn read_ticks(word: &[u8]) -> Option<Ticks>
+    ensures { option_map (λ ticks. ticks.count) result ≡ number_of word.now }
 {
-    let rest = word.as_bytes().strip_prefix(b"plain:")?;
-    let count = number(rest)?;
+    let count = number(word)?;
     Some(Ticks { count })
+}
+
+/// The schedule of a run: `plain:N`, or the name of a file.
+fn read_source(word: &str) -> Option<Source<'_>>
+    ensures { option_map source_meant result ≡ source_of word.now }
+{
+    match word.as_bytes().strip_prefix(b"plain:") {
+        Some(digits) => {
+            let ticks = read_ticks(digits)?;
+            Some(Source::Plain(ticks))
+        }
+        None => Some(Source::File(word)),
+    }
 }
 
 fn run_command<'a>(words: &'a [String]) -> Option<Command<'a>>
@@ -64,12 +89,24 @@ fn run_command<'a>(words: &'a [String]) -> Option<Command<'a>>
 {
     match words {
         [image, schedule, memory] => {
-            let ticks = plain(schedule)?;
+            let schedule = read_source(schedule)?;
             Some(Command::Run {
                 image,
-                ticks,
+                schedule,
                 memory,
             })
+        }
+        _ => None,
+    }
+}
+
+fn seq_command<'a>(words: &'a [String]) -> Option<Command<'a>>
+    ensures { option_map meant result ≡ seq_form (map string_bytes words.now) }
+{
+    match words {
+        [image, count] => {
+            let ticks = read_ticks(count.as_bytes())?;
+            Some(Command::Seq { image, ticks })
         }
         _ => None,
     }
@@ -82,8 +119,36 @@ pub fn parse<'a>(words: &'a [String]) -> Option<Command<'a>>
     let (name, others) = words.split_first()?;
     match name.as_bytes() {
         b"run" => run_command(others),
+        b"seq" => seq_command(others),
         _ => None,
     }
+}
+
+/// The files that a run reads, in order: its image, and the file of its schedule.
+fn run_reads<'a>(
+    alloc: Global,
+    image: &'a str,
+    schedule: &Source<'a>,
+) -> Result<Vec<&'a str>, AllocError>
+    ensures { (memory : List ℕ) → IfOk result (λ names. map (λ name. name.now) names.items ≡ reads_of (run image.now (source_meant schedule.now) memory)) }
+{
+    let mut names = Vec::new(alloc);
+    names.push(image)?;
+    match schedule {
+        Source::Plain(_) => Ok(names),
+        Source::File(name) => {
+            names.push(*name)?;
+            Ok(names)
+        }
+    }
+}
+
+fn seq_reads<'a>(alloc: Global, image: &'a str) -> Result<Vec<&'a str>, AllocError>
+    ensures { IfOk result (λ names. map (λ name. name.now) names.items ≡ image.now ∷ []) }
+{
+    let mut names = Vec::new(alloc);
+    names.push(image)?;
+    Ok(names)
 }
 
 impl<'a> Command<'a> {
@@ -91,10 +156,13 @@ impl<'a> Command<'a> {
     pub fn reads(&self, alloc: Global) -> Result<Vec<&'a str>, AllocError>
         ensures { IfOk result (λ names. map (λ name. name.now) names.items ≡ reads_of (meant self.now)) }
     {
-        let mut names = Vec::new(alloc);
         match self {
-            Command::Run { image, .. } => names.push(*image)?,
+            Command::Run {
+                image,
+                schedule,
+                ..
+            } => run_reads(alloc, image, schedule),
+            Command::Seq { image, .. } => seq_reads(alloc, image),
         }
-        Ok(names)
     }
 }

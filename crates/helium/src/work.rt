@@ -1,9 +1,10 @@
 //! What a command comes to, once its files are read: what is to be written and printed, or a refusal.
 
 ghost use Rattle.std.specs.Prelude.{◌≡◌, IfOk};
-ghost use Rattle.helium.specs.Work.{image_text, refusal_text};
+ghost use Rattle.helium.specs.Work.{image_text, kind_text, schedule_text, refusal_text};
 
 use hm_base::{ImageErr, OutOfMemory};
+use hm_sched::{LineKind, SchedErr};
 use hm_text_base::{decimal, hex8, text};
 use std::alloc::Global;
 
@@ -29,6 +30,8 @@ pub enum Refusal {
     FileTooLarge,
     /// The bytes of a file are no image.
     Image(ImageErr),
+    /// The bytes of a file are no schedule.
+    Schedule(SchedErr),
     /// The word at 4 of an image, whose bit 0 is not set.
     Reset { value: u32 },
 }
@@ -58,6 +61,41 @@ fn add_image_text(alloc: Global, out: &mut Vec<u8>, e: ImageErr) -> Result<(), O
     }
 }
 
+/// The word for what is bad in a line of a schedule.
+fn kind_text(kind: LineKind) -> &'static [u8]
+    ensures { result.now ≡ kind_text kind }
+{
+    match kind {
+        LineKind::Header => b"header",
+        LineKind::Entries => b"entries",
+        LineKind::Region => b"region",
+        LineKind::Floor => b"floor",
+        LineKind::Count => b"count",
+        LineKind::Steps => b"steps",
+        LineKind::Irq => b"irq",
+        LineKind::Newline => b"newline",
+    }
+}
+
+/// Adds what is wrong with a schedule. Want of memory is no such thing, and adds nothing.
+fn add_schedule_text(alloc: Global, out: &mut Vec<u8>, e: SchedErr) -> Result<(), OutOfMemory>
+    ensures { IfOk result (λ _. out.new.items ≡ schedule_text e out.old.items) }
+{
+    match e {
+        SchedErr::Line { line, kind } => {
+            text(out, b"line ")?;
+            decimal(alloc, out, line as u64)?;
+            text(out, b" ")?;
+            text(out, kind_text(kind))
+        }
+        SchedErr::TooManyTicks { line } => {
+            text(out, b"too many ticks ")?;
+            decimal(alloc, out, line as u64)
+        }
+        SchedErr::OutOfMemory => Ok(()),
+    }
+}
+
 impl Refusal {
     /// Adds what the line of a refusal says.
     pub fn add_text(self, alloc: Global, out: &mut Vec<u8>) -> Result<(), OutOfMemory>
@@ -68,6 +106,10 @@ impl Refusal {
             Refusal::Image(e) => {
                 text(out, b"image ")?;
                 add_image_text(alloc, out, e)
+            }
+            Refusal::Schedule(e) => {
+                text(out, b"schedule ")?;
+                add_schedule_text(alloc, out, e)
             }
             Refusal::Reset { value } => {
                 text(out, b"image reset ")?;
@@ -103,6 +145,19 @@ impl From<ImageErr> for Stop {
         match e {
             ImageErr::OutOfMemory => Stop::NoMemory,
             e => Stop::Refused(Refusal::Image(e)),
+        }
+    }
+}
+
+impl From<SchedErr> for Stop {
+    ghost use Rattle.helium.specs.Run.{schedule_stop};
+
+    ghost from_gives = { λ e stop. stop ≡ schedule_stop e };
+
+    fn from(e: SchedErr) -> Stop {
+        match e {
+            SchedErr::OutOfMemory => Stop::NoMemory,
+            e => Stop::Refused(Refusal::Schedule(e)),
         }
     }
 }

@@ -1,5 +1,8 @@
-use Rattle.helium.proofs.Decimals.{form_of-run, form_of-is}
-use Rattle.helium.proofs.laws.words_of_runs.Goals as goal
+use Rattle.helium.proofs.Decimals.{form_of-run, form_of-is_run, form_of-seq, form_of-is_seq}
+use Rattle.helium.proofs.laws.words_of_commands.Goals as goal
 
-pub returns : goal.returns
-returns c = λ words image memory n. (form_of-is words image n memory, form_of-run words image n memory)
+pub returns-clause-runs : goal.returns-clause-runs
+returns-clause-runs c = λ words image memory schedule. (form_of-is_run words image schedule memory, form_of-run words image schedule memory)
+
+pub returns-clause-seqs : goal.returns-clause-seqs
+returns-clause-seqs c = λ words image n. (form_of-is_seq words image n, form_of-seq words image n)

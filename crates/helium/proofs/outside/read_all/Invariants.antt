@@ -1,5 +1,7 @@
-use Rattle.std.proofs.Common.{◌≡◌, Some, map, drop, vec_len}
-use Rattle.hm_host.specs.Host.{FileMap, Stays}
+use Rattle.std.proofs.Common.{◌≡◌, Some, map, take, drop, vec_len}
+use Rattle.hm_host.specs.Host.{FileMap, Becomes, Stays}
+use Rattle.helium.specs.Calls.{with_calls}
+use Rattle.helium.proofs.Readings.{SplitsAt, reads}
 use Rattle.helium.specs.Effect.{reading_of, after_contents}
 use Rattle.helium.proofs.outside.read_all.Given as goal
 
@@ -13,5 +15,7 @@ invariant-loop-name g l =
           → reading_of F (map (λ name. name.now) l.names) ≡ after_contents (map (λ bytes. bytes.items) l.contents.items) (reading_of F (map (λ name. name.now) (drop l.name-index l.names)));
       files : Stays (state l.initial.host).files (state l.host).files;
       printed : Stays (state l.initial.host).printed (state l.host).printed;
+      splits : (F : FileMap) → (state l.initial.host).files ≡ Some F → SplitsAt F l.names l.name-index;
+      calls : Becomes (with_calls (reads (take l.name-index l.names))) (state l.initial.host).calls (state l.host).calls;
       faults : (state l.host).faults ≡ (state l.initial.host).faults;
     }

@@ -1,0 +1,24 @@
+use Rattle.std.proofs.Common.{◌≡◌, ◌<◌, ℕ, length, Vec, Global, [], map, get_or, Ok, sym, ap, ◌∙◌, arith}
+use Rattle.std.proofs.lemmas.List.{get_or-map}
+use Rattle.hm_sched.specs.Schedule.{plain}
+use Rattle.hm_sched.specs.ReadFile.{file_in}
+use Rattle.helium.proofs.commands.run.Goals as goal
+
+pub returns-in-Plain : goal.returns-in-Plain
+returns-in-Plain c = λ listings are.
+    let one : length c.args.contents.now ≡ 1 = rw c.in-Plain.is at c.requires in
+    let some : 0 < length c.args.contents.now = omega arith in
+    let first : get_or (map (λ (v : Vec ℕ Global). v.items) c.args.contents.now) 0 [] ≡ c.deref.result.now
+    = get_or-map (λ (v : Vec ℕ Global). v.items) c.args.contents.now 0 _ [] some ∙ ap (λ (v : Vec ℕ Global). v.items) (sym c.index-contents-0.is) ∙ sym c.deref.ensures.value in
+    rw (c.in-Plain.is, first) (c.run_under.ensures listings are (Ok (plain c.in-Plain.ticks.count)) c.plain_schedule-schedule.ensures)
+
+pub returns-in-File : goal.returns-in-File
+returns-in-File c = λ listings are.
+    let two : length c.args.contents.now ≡ 2 = rw c.in-File.is at c.requires in
+    let some : 0 < length c.args.contents.now = omega arith in
+    let more : 1 < length c.args.contents.now = omega arith in
+    let first : get_or (map (λ (v : Vec ℕ Global). v.items) c.args.contents.now) 0 [] ≡ c.deref-in-File-2.result.now
+    = get_or-map (λ (v : Vec ℕ Global). v.items) c.args.contents.now 0 _ [] some ∙ ap (λ (v : Vec ℕ Global). v.items) (sym c.index-contents-0-in-File.is) ∙ sym c.deref-in-File-2.ensures.value in
+    let second : get_or (map (λ (v : Vec ℕ Global). v.items) c.args.contents.now) 1 [] ≡ c.deref-in-File.result.now
+    = get_or-map (λ (v : Vec ℕ Global). v.items) c.args.contents.now 1 _ [] more ∙ ap (λ (v : Vec ℕ Global). v.items) (sym c.index-contents-1.is) ∙ sym c.deref-in-File.ensures.value in
+    rw (c.in-File.is, first, second) (c.run_under-in-File.ensures listings are (file_in c.deref-in-File.result.now) c.parse-schedule.ensures.exact)
