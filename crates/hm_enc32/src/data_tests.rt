@@ -1,7 +1,7 @@
 use super::*;
 use hm_isa::{
-    Below, ExtractName, DataName, HalfName, SaturateName, Scalar, SumName, T1, T2, T3, T4, T5, T6, T7,
-    width,
+    Below, DataName, ExtractName, HalfName, SaturateName, Scalar, SumName, T1, T2, T3, T4, T5, T6,
+    T7, width,
 };
 
 // a code and its row: the name, if there is one, and the numbers

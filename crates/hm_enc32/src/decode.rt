@@ -14,10 +14,10 @@ ghost use Rattle.hm_isa.specs.declared.Scalar.{Scalar};
 ghost use Rattle.hm_isa.specs.Rules.{is_general, is_load, is_data, is_indexed, is_pair};
 ghost use Rattle.hm_isa.specs.Code.{wide_access_base, pair_base, code_offset, code_indexed, code_shifted, code_literal, code_t12, code_t13, code_t15, scalar_halves, two_halves};
 
-use crate::lists::decode_t14;
 use crate::arith::find_arith;
-use crate::system::find_system;
 use crate::decode_data::find_data;
+use crate::lists::decode_t14;
+use crate::system::find_system;
 use hm_base::bits;
 use hm_isa::{
     AccessName, Below, Indexed, Literal, Offset, PairName, Scalar, Shifted, StackName, T12, T13,

@@ -3,12 +3,12 @@
 ghost use Rattle.std.specs.Prelude.{◌≡◌, length};
 ghost use Rattle.hm_isa.specs.Code.{wide_access_base, pair_base, stack_base, code_offset, code_indexed, code_shifted, code_literal, code_t12, code_t13, code_t15, scalar_halves, two_halves};
 
-use crate::lists::encode_t14;
 use crate::arith::{encode_t8, encode_t9, encode_t10, encode_t11, encode_t20};
-use crate::system::{encode_t18, encode_t19, encode_t21, encode_t22};
 use crate::encode_data::{
     encode_t1, encode_t2, encode_t3, encode_t4, encode_t5, encode_t6, encode_t7,
 };
+use crate::lists::encode_t14;
+use crate::system::{encode_t18, encode_t19, encode_t21, encode_t22};
 use hm_isa::{
     AccessName, Indexed, Literal, Offset, PairName, Scalar, Shifted, StackName, T12, T13, T15,
 };

@@ -10,10 +10,10 @@ mod decode;
 mod decode_data;
 mod decode_fields;
 mod encode;
+mod encode_data;
 mod jumps;
 mod lists;
 mod system;
-mod encode_data;
 
 use decode::find_scalar;
 use encode::scalar_code;
@@ -57,9 +57,9 @@ pub fn encode32(i: &Instr) -> u32
 #[cfg(test)]
 mod arith_tests;
 #[cfg(test)]
-mod jump_tests;
-#[cfg(test)]
 mod data_tests;
+#[cfg(test)]
+mod jump_tests;
 #[cfg(test)]
 mod system_tests;
 #[cfg(test)]

@@ -3,7 +3,7 @@
 ghost use Rattle.std.specs.Prelude.{◌≡◌, ◌≢◌, ◌<◌, ◌+◌, ◌*◌, ◌/◌, ◌%◌, ◌^◌, ◌⊎◌, MatchOption, IfSome, IfNone};
 ghost use Rattle.hm_isa.specs.Code.{mask_code, step_code};
 
-use hm_isa::{Below, Bit, QRegister, Register, ElementSize};
+use hm_isa::{Below, Bit, ElementSize, QRegister, Register};
 
 /// The number in the bits of w from this place up, as many as `width`.
 pub fn bits(w: u32, position: u32, width: u32) -> u32

@@ -20,8 +20,8 @@ ghost use Rattle.hm_isa.specs.Rules.{is_reversed};
 
 use crate::fields::{bit, bits, q_register, size};
 use hm_isa::{
-    Below, Invert, LongBytes, LongFull, LongHalves, NarrowName, OneElement, OneName, QRegister,
-    ReverseName, ElementSize, V12, V13, V14, V15, V16, Vector,
+    Below, ElementSize, Invert, LongBytes, LongFull, LongHalves, NarrowName, OneElement, OneName,
+    QRegister, ReverseName, V12, V13, V14, V15, V16, Vector,
 };
 
 /// `vshllb`, `vshllt` of 8 bits by less than 8

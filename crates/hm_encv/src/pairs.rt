@@ -22,8 +22,8 @@ ghost use Rattle.hm_isa.specs.Rules.{is_turned, is_widened};
 
 use crate::fields::{bit, q_register, size};
 use hm_isa::{
-    AddName, BitwiseName, CarryName, DoublingName, HighName, QRegister, SignedName, ElementSize, TurnName,
-    V1, V2, V3, V5, V6, V7, V8, V9, Vector,
+    AddName, BitwiseName, CarryName, DoublingName, ElementSize, HighName, QRegister, SignedName,
+    TurnName, V1, V2, V3, V5, V6, V7, V8, V9, Vector,
 };
 
 /// The operation of the row V1 whose code without its fields is this.

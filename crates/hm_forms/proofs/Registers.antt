@@ -25,12 +25,12 @@ use Rattle.hm_forms.specs.Registers.{four, in_groups, reversed_result, words_res
 use Rattle.hm_forms.proofs.Wholes.{advances, bytes_of-word}
 
 module _ (w : Bool) (d : ℕ) (sources : ℕ → List Place) (f : ℕ → ℕ → List ℕ → ℕ) (s : State) where
-  abbrev row : Row
-  row = words_row w d sources f None
+  abbrev form_row : Row
+  form_row = words_row w d sources f None
 
   -- a row that merges words merges the bytes of the four
-  pub words_whole : row_whole row s ≡ merged_whole d (words_result w d sources f s) s
-  words_whole = λ j. retired (advances row s (put_all cells (outs_at row 0 s (row.outs 0) ++ outs_at row 1 s (row.outs 1) ++ outs_at row 2 s (row.outs 2) ++ outs_at row 3 s (row.outs 3)) s) refl refl j)
+  pub words_whole : row_whole form_row s ≡ merged_whole d (words_result w d sources f s) s
+  words_whole = λ j. retired (advances form_row s (put_all cells (outs_at form_row 0 s (form_row.outs 0) ++ outs_at form_row 1 s (form_row.outs 1) ++ outs_at form_row 2 s (form_row.outs 2) ++ outs_at form_row 3 s (form_row.outs 3)) s) refl refl j)
 
 -- NEIGHBOURS
 abbrev turn : (Bool → ℕ → ℕ → ℕ) → Size → Bool → List ℕ → List ℕ → List ℕ

@@ -81,8 +81,8 @@ first_start true v = refl
 first_start false v = refl
 
 module _ (r : Sums) (s : State) (runs : (ltb (at Ltp s) 4 ≡ false) ⊎ (eqb (2 * r.l.value) 14 ≡ false)) where
-  abbrev row : Row
-  row = sum_row r
+  abbrev form_row : Row
+  form_row = sum_row r
 
   abbrev x : ℕ → ℕ
   x b = at (word_place r.n.value b) s
@@ -124,10 +124,10 @@ module _ (r : Sums) (s : State) (runs : (ltb (at Ltp s) 4 ≡ false) ⊎ (eqb (2
   sum_after b active v = sum_next r b active (v ∷ x b ∷ y b ∷ [])
 
   -- one more word
-  next : (b v : ℕ) → linked row b (with_sum v) ≡ put cells (At (R (2 * r.l.value))) (word (fit (R (2 * r.l.value)) (sum_after b (active_at b (with_sum v)) (at (R (2 * r.l.value)) (with_sum v))))) (with_sum v)
+  next : (b v : ℕ) → linked form_row b (with_sum v) ≡ put cells (At (R (2 * r.l.value))) (word (fit (R (2 * r.l.value)) (sum_after b (active_at b (with_sum v)) (at (R (2 * r.l.value)) (with_sum v))))) (with_sum v)
   next b v = refl
 
-  step : (b v w : ℕ) → active_at b (with_sum v) ≡ active_at b s → sum_after b (active_at b s) v ≡ w → linked row b (with_sum v) ≡ with_sum w
+  step : (b v w : ℕ) → active_at b (with_sum v) ≡ active_at b s → sum_after b (active_at b s) v ≡ w → linked form_row b (with_sum v) ≡ with_sum w
   step b v w e f = next b v
       ∙ (λ j. put cells (At (R (2 * r.l.value))) (word (fit (R (2 * r.l.value)) (sum_after b (e j) (held v j)))) (with_sum v))
       ∙ (λ j. put cells (At (R (2 * r.l.value))) (word (fit_is (f j) j)) (with_sum v))
@@ -148,24 +148,24 @@ module _ (r : Sums) (s : State) (runs : (ltb (at Ltp s) 4 ≡ false) ⊎ (eqb (2
   abbrev s3 : ℕ
   s3 = terms 3 s2
 
-  after_0 : linked row 0 s ≡ with_sum s0
+  after_0 : linked form_row 0 s ≡ with_sum s0
   after_0 = λ j. put cells (At (R (2 * r.l.value))) (word (fit_is (terms 0 (first_start r.goes_on (at (R (2 * r.l.value)) s) j)) j)) s
 
-  after_1 : linked row 1 (linked row 0 s) ≡ with_sum s1
-  after_1 = ap (linked row 1) after_0 ∙ step 1 s0 s1 (active_1 s0) (ap (terms 1) (later_start r.goes_on s0))
+  after_1 : linked form_row 1 (linked form_row 0 s) ≡ with_sum s1
+  after_1 = ap (linked form_row 1) after_0 ∙ step 1 s0 s1 (active_1 s0) (ap (terms 1) (later_start r.goes_on s0))
 
-  after_2 : linked row 2 (linked row 1 (linked row 0 s)) ≡ with_sum s2
-  after_2 = ap (linked row 2) after_1 ∙ step 2 s1 s2 (active_2 s1) (ap (terms 2) (later_start r.goes_on s1))
+  after_2 : linked form_row 2 (linked form_row 1 (linked form_row 0 s)) ≡ with_sum s2
+  after_2 = ap (linked form_row 2) after_1 ∙ step 2 s1 s2 (active_2 s1) (ap (terms 2) (later_start r.goes_on s1))
 
-  after_3 : linked row 3 (linked row 2 (linked row 1 (linked row 0 s))) ≡ with_sum s3
-  after_3 = ap (linked row 3) after_2 ∙ step 3 s2 s3 (active_3 s2) (ap (terms 3) (later_start r.goes_on s2))
+  after_3 : linked form_row 3 (linked form_row 2 (linked form_row 1 (linked form_row 0 s))) ≡ with_sum s3
+  after_3 = ap (linked form_row 3) after_2 ∙ step 3 s2 s3 (active_3 s2) (ap (terms 3) (later_start r.goes_on s2))
 
   abbrev over : State → State → State → State → State
-  over a b c d = retired (put_all cells (ends_at row 0 s ++ ends_at row 1 a ++ ends_at row 2 b ++ ends_at row 3 c) d)
+  over a b c d = retired (put_all cells (ends_at form_row 0 s ++ ends_at form_row 1 a ++ ends_at form_row 2 b ++ ends_at form_row 3 c) d)
 
-  pub sum_is : row_whole row s ≡ sum_whole r s
+  pub sum_is : row_whole form_row s ≡ sum_whole r s
   sum_is = (λ j. over (after_0 j) (after_1 j) (after_2 j) (after_3 j))
-      ∙ ap retired (advances row s (with_sum s3) refl refl)
+      ∙ ap retired (advances form_row s (with_sum s3) refl refl)
       ∙ (λ j. retired (put_all cells (advance_half 0 s ++ advance_half 2 s) (put cells (At (R (2 * r.l.value))) (word (sym (fit_is s3) j)) s)))
       ∙ (λ j. retired (put_all cells (advance_half 0 s ++ advance_half 2 s)
       (put cells (At (R (2 * r.l.value))) (word (fit (R (2 * r.l.value)) (sym (whole_added (2 ^ 32) (term_of r) r.z s x y start) j))) s)))

@@ -3,7 +3,7 @@
 ghost use Rattle.std.specs.Prelude.{◌≡◌, ◌≢◌, IsTrue};
 ghost use Rattle.hm_isa.specs.Rules.{is_reversed, is_signed_by, is_turned, is_widened};
 
-use crate::fields::{Below, Bit, QRegister, Register, ElementSize};
+use crate::fields::{Below, Bit, ElementSize, QRegister, Register};
 
 /// The size of elements, where it tells codes apart as a name does.
 #[derive(Clone, Copy, PartialEq, Eq, Debug)]

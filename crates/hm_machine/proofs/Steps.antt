@@ -5,7 +5,7 @@ use Rattle.std.proofs.lemmas.Bool.Decides.{nat_tests}
 use Rattle.hm_base.specs.declared.Fault.{Fault}
 use Rattle.hm_base.specs.declared.Stop.{Stop}
 use Rattle.hm_base.specs.declared.Stop.TheVariants as stop
-use Rattle.hm_beat.specs.Laws.{Beats}
+use Rattle.hm_beat.specs.Laws.{AnswersBeat}
 use Rattle.hm_beat.specs.Ordered.{of_four}
 use Rattle.hm_beat.specs.Trees.{action}
 use Rattle.hm_codes.specs.Listing.{Listing}
@@ -73,14 +73,14 @@ begins_later listing around v (suc done) s h = refl
 
 -- what a beat answered
 pub beat_is : (q : Result State Stop) (x : Result Unit Stop) (y : Result Unit Cause) (r t : Regs) (m n : Memory) (output : List ℕ)
-    → Beats q x r m t n output → ((u : Unit) → x ≡ Ok u → y ≡ Ok u) → ((e : Stop) → x ≡ Err e → y ≡ Err (cause.Stop e)) → executed y (state_of t n output) ≡ caused q
+    → AnswersBeat q x r m t n output → ((u : Unit) → x ≡ Ok u → y ≡ Ok u) → ((e : Stop) → x ≡ Err e → y ≡ Err (cause.Stop e)) → executed y (state_of t n output) ≡ caused q
 beat_is (Ok s) (Ok u) y r t m n output h goes stops = ap (λ (z : Result Unit Cause). executed z (state_of t n output)) (goes u refl) ∙ ap Ok h.1
 beat_is (Ok s) (Err e) y r t m n output h goes stops = absurd (let no = h.0 in cc)
 beat_is (Err e) x y r t m n output h goes stops = ap (λ (z : Result Unit Cause). executed z (state_of t n output)) (stops e h.0)
 
 -- one that stops changes nothing
 pub beat_still : (q : Result State Stop) (x : Result Unit Stop) (e : Stop) (r t : Regs) (m n : Memory) (output : List ℕ)
-    → x ≡ Err e → Beats q x r m t n output → (t ≡ r) × (n ≡ m)
+    → x ≡ Err e → AnswersBeat q x r m t n output → (t ≡ r) × (n ≡ m)
 beat_still (Ok s) x e r t m n output stop h = absurd (let no : IsOk {T = Unit {0}} {E = Stop} (Err e) = subst (λ (q : Result Unit Stop). IsOk q) stop h.0 in cc)
 beat_still (Err f) x e r t m n output stop h = (h.1, h.2)
 

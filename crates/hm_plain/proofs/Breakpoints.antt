@@ -68,9 +68,10 @@ module _ (s t : State) (live : Live view s t) (at : s.pc ≡ t.pc) where
       let q = settled 2 way.On (regs_of t) in
       let regs : r ≡ q = ap (settled 2 way.On) (same_regs s t live at) in
       let out : s.rest.output ++ xs ≡ t.rest.output ++ xs = ap (λ o. o ++ xs) same in
-      printed_alike _ _ _ _ (ap (λ o. nat_lt most_output (length o + length xs)) same)
-      (states_agree r q regs (seen_in s) (seen_in t) (seen_live s t live) s.rest.around t.rest.around _ _ out,
-      pc_agrees r q regs (seen_in s) (seen_in t) (seen_live s t live) s.rest.around t.rest.around _ _ out)
+      printed_alike _ _ _ _ (ap (λ o. nat_lt most_output (length o + length xs)) same) (
+        states_agree r q regs (seen_in s) (seen_in t) (seen_live s t live) s.rest.around t.rest.around _ _ out,
+        pc_agrees r q regs (seen_in s) (seen_in t) (seen_live s t live) s.rest.around t.rest.around _ _ out,
+      )
   answered_alike (Exits reason) = refl
 
   pub asked_alike : (lo hi floor k : ℕ) → TaintedOrAlike (broken_by (thread_under lo hi floor) k s) (broken k t)

@@ -1,7 +1,7 @@
 use super::*;
 use hm_base::Place;
 use hm_isa::{
-    Below, ExtractName, DataName, HalfName, SaturateName, SumName, T1, T2, T3, T4, T5, T6, T7,
+    Below, DataName, ExtractName, HalfName, SaturateName, SumName, T1, T2, T3, T4, T5, T6, T7,
 };
 use hm_thumb::loads_or_stores;
 
