@@ -81,6 +81,15 @@ fn has_line(text: &[u8], line: &[u8]) -> bool {
     text.split(|byte| *byte == b'\n').any(|piece| piece == line)
 }
 
+fn has_lines(text: &[u8], lines: &[&[u8]]) -> bool {
+    for line in lines {
+        if !has_line(text, line) {
+            return false;
+        }
+    }
+    true
+}
+
 #[test]
 fn first_run(rt: HostRuntime) -> Result<(), Fail> {
     let alloc = rt.alloc();
@@ -251,9 +260,7 @@ fn runs_under_files(rt: HostRuntime) -> Result<(), Fail> {
         text.extend_from_slice(ticks)?;
         let mut outside = host(alloc, image, &text, &[])?;
         assert_eq!(rt; run(alloc, "s", &mut outside)?, status);
-        for line in lines {
-            assert!(rt; has_line(outside.printed(), line));
-        }
+        assert!(rt; has_lines(outside.printed(), lines));
         assert_eq!(rt; outside.file("b").ok_or("no file b")?.len(), MEMORY_FILE);
         assert_eq!(rt; outside.calls(), Some(4));
     }
