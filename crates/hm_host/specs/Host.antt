@@ -50,6 +50,10 @@ Becomes {A} f old new = (x : A) → old ≡ Some x → new ≡ Some (f x)
 abbrev pub Turns : {A : Type 0} → (A → A → Type 0) → Option A → Option A → Type 0
 Turns {A} R old new = (x : A) → old ≡ Some x → (y : A) × (new ≡ Some y) × R x y
 
+-- what is told no more is never told again
+abbrev pub EndsForGood : {A : Type 0} → Option A → Option A → Type 0
+EndsForGood old new = old ≡ None → new ≡ None
+
 -- all files but the named one are as before
 abbrev pub KeepsOthers : List ℕ → FileMap → FileMap → Type 0
 KeepsOthers name old new = (other : List ℕ) → other ≢ name → get new other ≡ get old other

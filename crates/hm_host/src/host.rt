@@ -23,10 +23,10 @@ pub enum HostErr {
 /// Files, a place to print, and a count of faults that never falls.
 ///
 /// A host may tell its files and its printed bytes, and one that does goes on telling them. It may tell the calls made on it too, and
-/// goes on until a call answers `OutOfMemory`. `Failed` comes only where the count rose in that call; all else leaves the count.
+/// goes on until a call answers `OutOfMemory`; one that tells them no more never tells them again. `Failed` comes only where the count rose in that call; all else leaves the count.
 /// `OutOfMemory` leaves the files and what was printed.
 pub trait Host {
-    ghost use Rattle.hm_host.specs.Host.{HostState, Stays, Counts, Makes, Reads, Writes, Prints, read, write, print};
+    ghost use Rattle.hm_host.specs.Host.{HostState, Stays, EndsForGood, Counts, Makes, Reads, Writes, Prints, read, write, print};
 
     /// What it tells: its files, its printed bytes, the calls made on it and its count of faults.
     ghost state: { Self → HostState };
@@ -40,6 +40,7 @@ pub trait Host {
         ensures files { Stays (state self.old).files (state self.new).files }
         ensures printed { Stays (state self.old).printed (state self.new).printed }
         ensures calls { Makes (read name.now) (state self.old).calls (state self.new).calls result }
+        ensures for_good { EndsForGood (state self.old).calls (state self.new).calls }
         ensures count { Counts (state self.old).faults (state self.new).faults result };
 
     /// Gives a file these bytes, whatever it had. The other files and what was printed stay.
@@ -49,6 +50,7 @@ pub trait Host {
         ensures files { Writes name.now bytes.now (state self.old).files (state self.new).files result }
         ensures printed { Stays (state self.old).printed (state self.new).printed }
         ensures calls { Makes (write name.now bytes.now) (state self.old).calls (state self.new).calls result }
+        ensures for_good { EndsForGood (state self.old).calls (state self.new).calls }
         ensures count { Counts (state self.old).faults (state self.new).faults result };
 
     /// Adds a piece to what was printed, or where it fails a prefix of the piece. The files stay.
@@ -56,5 +58,6 @@ pub trait Host {
         ensures printed { Prints bytes.now (state self.old).printed (state self.new).printed result }
         ensures files { Stays (state self.old).files (state self.new).files }
         ensures calls { Makes (print bytes.now) (state self.old).calls (state self.new).calls result }
+        ensures for_good { EndsForGood (state self.old).calls (state self.new).calls }
         ensures count { Counts (state self.old).faults (state self.new).faults result };
 }

@@ -1,8 +1,8 @@
-//! A host in memory, which tells everything. The calls with the listed numbers fail.
+//! A host in memory. It tells its files, what was printed, and its calls until memory for one of them is wanted.
 
 ghost use Rattle.std.specs.Prelude.{◌≡◌, ◌⊎◌, ◌↔◌, ◌<◌, ◌≤◌, [], length, Some, None, IfOk, IfErr, IsErrOf, IsTrue, option_map};
 ghost use Rattle.std.specs.FinMap as map_of;
-ghost use Rattle.hm_host.specs.Host.{Stays, Counts, Makes, Reads, Writes, Prints, longest, read, write, print};
+ghost use Rattle.hm_host.specs.Host.{Stays, EndsForGood, Counts, Makes, Reads, Writes, Prints, longest, read, write, print};
 ghost use Rattle.hm_host.specs.MemHost.{mem_state, mem_files, mem_printed, mem_calls, mem_faults, planned, IsNextToFail, FailsAtRead, IsTooLong, counted, after_call};
 
 use crate::calls::Calls;
@@ -110,6 +110,7 @@ impl Host for MemHost {
         ensures files { Stays (mem_state self.old).files (mem_state self.new).files }
         ensures printed { Stays (mem_state self.old).printed (mem_state self.new).printed }
         ensures calls { Makes (read name.now) (mem_state self.old).calls (mem_state self.new).calls result }
+        ensures for_good { EndsForGood (mem_state self.old).calls (mem_state self.new).calls }
         ensures count { Counts (mem_state self.old).faults (mem_state self.new).faults result }
         ensures plan { planned self.new ≡ after_call (planned self.old) }
         ensures failed { ¬ IsErrOf result HostErr.OutOfMemory → (IsErrOf result HostErr.Failed ↔ FailsAtRead self.old name.now) }
@@ -133,6 +134,7 @@ impl Host for MemHost {
         ensures files { Writes name.now bytes.now (mem_state self.old).files (mem_state self.new).files result }
         ensures printed { Stays (mem_state self.old).printed (mem_state self.new).printed }
         ensures calls { Makes (write name.now bytes.now) (mem_state self.old).calls (mem_state self.new).calls result }
+        ensures for_good { EndsForGood (mem_state self.old).calls (mem_state self.new).calls }
         ensures count { Counts (mem_state self.old).faults (mem_state self.new).faults result }
         ensures plan { planned self.new ≡ after_call (planned self.old) }
         ensures failed { ¬ IsErrOf result HostErr.OutOfMemory → (IsErrOf result HostErr.Failed ↔ IsNextToFail self.old) }
@@ -158,6 +160,7 @@ impl Host for MemHost {
         ensures printed { Prints bytes.now (mem_state self.old).printed (mem_state self.new).printed result }
         ensures files { Stays (mem_state self.old).files (mem_state self.new).files }
         ensures calls { Makes (print bytes.now) (mem_state self.old).calls (mem_state self.new).calls result }
+        ensures for_good { EndsForGood (mem_state self.old).calls (mem_state self.new).calls }
         ensures count { Counts (mem_state self.old).faults (mem_state self.new).faults result }
         ensures plan { planned self.new ≡ after_call (planned self.old) }
         ensures failed { ¬ IsErrOf result HostErr.OutOfMemory → (IsErrOf result HostErr.Failed ↔ IsNextToFail self.old) }
