@@ -1,12 +1,13 @@
 //! Schedules: what each tick of a run does, and the files that they stand in.
 #![tactic(auto)]
 
-ghost use Rattle.std.specs.Prelude.{◌≡◌, ◌+◌, ◌≤◌, ◌<◌, ◌↔◌, Bool, false, [], ◌∷◌, ◌++◌, length, Some, Err, slice_get, IfOk, OnOk, OnErr, IsOkUnless};
+ghost use Rattle.std.specs.Prelude.{◌≡◌, ◌+◌, ◌≤◌, ◌<◌, ◌↔◌, false, [], ◌∷◌, ◌++◌, length, Some, Err, slice_get, IfOk, OnOk, OnErr, IsOkUnless};
 ghost use Rattle.std.specs.List.{All};
 ghost use Rattle.hm_sched.specs.Schedule.{TickLine, Sched, line_of, most_ticks, total, ticks_of, plain, IsLetter, IsSched};
 ghost use Rattle.hm_base.specs.Image.{sram_start, sram_size};
 
 mod errors;
+mod laws;
 mod printing;
 mod reading;
 mod tick_text;
@@ -14,6 +15,7 @@ mod tick_text;
 use arrayvec::ArrayVec;
 pub use errors::{LineKind, SchedErr};
 use hm_base::SRAM_START;
+pub use laws::file_law;
 pub use printing::print;
 pub use reading::parse;
 use std::alloc::Global;

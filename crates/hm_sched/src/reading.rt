@@ -1,7 +1,6 @@
 //! Reading the file of a schedule.
 
-ghost use Rattle.std.specs.Prelude.{◌≡◌, ◌+◌, ◌≤◌, [], length, Ok, IfOk, IfSome};
-ghost use Rattle.hm_base.specs.Image.{sram_start, sram_size};
+ghost use Rattle.std.specs.Prelude.{◌≡◌, ◌+◌, ◌≤◌, [], length, Ok, IfOk};
 ghost use Rattle.hm_text_base.specs.Reading.{Reads};
 ghost use Rattle.hm_text_base.specs.Spans.{lines_of};
 ghost use Rattle.hm_sched.specs.Schedule.{Sched};
