@@ -1,5 +1,5 @@
 -- One tick of the machine.
-use Rattle.std.proofs.Common.{◌≡◌, ℕ, suc, zero, ◌+◌, ◌-◌, ◌≤◌, ◌<◌, arith, ap, refl, sym, ◌∙◌, subst, true, false, List, [], ◌∷◌, drop, drop-drop, length, length-drop, Ok, Err, Option, Some, None, add-one, add-zero, add-suc}
+use Rattle.std.proofs.Common.{◌≡◌, ℕ, suc, zero, ◌+◌, ◌-◌, ◌≤◌, ◌<◌, arith, ap, refl, sym, ◌∙◌, subst, Bool, cond, true, false, List, [], ◌∷◌, drop, drop-drop, length, length-drop, Ok, Err, Option, Some, None, add-one, add-zero, add-suc}
 use Rattle.hm_base.specs.Image.{Segment, flash_byte}
 use Rattle.hm_codes.proofs.Exists.{exists}
 use Rattle.hm_codes.specs.Listing.{Listing, IsListing}
@@ -15,11 +15,14 @@ use Rattle.hm_regs.specs.declared.Regs.{Regs}
 use Rattle.hm_run.proofs.Steps as step
 use Rattle.hm_run.specs.declared.Outcome.{Outcome}
 use Rattle.hm_run.specs.declared.Outcome.TheVariants as outcome
-use Rattle.hm_run.specs.declared.Rule.TheVariants as rule
+use Rattle.hm_window.specs.declared.rule.Rule.{Rule}
+use Rattle.hm_window.specs.declared.rule.Rule.TheVariants as rule
 use Rattle.hm_run.specs.Program.{Breach, Program, Stopping, core, letter_steps}
-use Rattle.hm_run.specs.Timed.{Timed, closed, counted_with, ended, may_end, next, with_devices, thread_program, timed}
+use Rattle.hm_run.specs.Timed.{Timed, closed, counted_with, ended, next, with_devices, thread_program, timed}
 use Rattle.hm_sched.specs.Schedule.{TickLine, Sched, repeat, ticks_of}
 use Rattle.hm_state.specs.State.{State, state_of}
+use Rattle.hm_window.specs.Overlap.{judged}
+use Rattle.hm_window.specs.Positions.{may_end}
 
 -- the end of a tick changes the devices alone
 pub counted_is : (f : Dev → Dev) (r : Regs) (m : Memory) (output : List ℕ) → state_of r (with_dev (f m.devices) m) output ≡ with_devices f (state_of r m output)
@@ -32,6 +35,15 @@ some_left [] used h = absurd h
 some_left (x ∷ xs) used h =
     let e : x.count - used ≡ suc (x.count - (used + 1)) = omega arith in
     subst (λ (n : ℕ). 0 < length (repeat n x (ticks_of xs))) (sym e) (omega arith)
+
+-- what is answered at the end of a tick
+pub may_end_well : (b : Bool) (r : Rule) (u : Unit {0}) → judged (cond b None (Some r)) ≡ Ok u → b ≡ true
+may_end_well true r u e = refl
+may_end_well false r u e = let no : Err r ≡ Ok u = e in absurd cc
+
+pub may_end_badly : (b : Bool) (r q : Rule) → judged (cond b None (Some r)) ≡ Err q → (b ≡ false) × (q ≡ r)
+may_end_badly true r q e = let no : Ok tt ≡ Err q = e in absurd cc
+may_end_badly false r q e = (refl, let same : Err r ≡ Err q = e in cc)
 
 abbrev going : Option Outcome → Config State → Timed → Timed
 going o c x = record { outcome = o; config = c; acts = []; ticks = x.ticks + 1 }

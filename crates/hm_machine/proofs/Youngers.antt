@@ -3,8 +3,6 @@ use Rattle.std.proofs.Common.{◌≡◌, ℕ, ◌+◌, ◌<◌, ◌≤◌, arith
 use Rattle.std.proofs.lemmas.Bool.Decides.{nat_tests}
 use Rattle.std.specs.Option.{is_none}
 use Rattle.hm_base.specs.declared.Fault.{Fault}
-use Rattle.hm_beat.specs.declared.clash.Clash.{Clash}
-use Rattle.hm_beat.specs.Meeting.{clash_with}
 use Rattle.hm_codes.specs.Listing.{Listing}
 use Rattle.hm_isa.specs.declared.Vector.{Vector}
 use Rattle.hm_machine.specs.Cpus.{config_of, hindered, state_in}
@@ -16,23 +14,38 @@ use Rattle.hm_order.specs.Machine.{Config, did, fault_end, younger, younger_of}
 use Rattle.hm_regs.specs.declared.Regs.{Regs}
 use Rattle.hm_rows.specs.Rows.{refuse, vector_tree}
 use Rattle.hm_run.specs.declared.Cause.{Cause}
-use Rattle.hm_run.specs.declared.Rule.{Rule}
-use Rattle.hm_run.specs.declared.Rule.TheVariants as rule
-use Rattle.hm_run.specs.Program.{Program, Stepped, clash_or, core, fault_rule, is_tainted_cause, refusal_rule, rows, step_rule, vector_of}
+use Rattle.hm_window.specs.declared.rule.Rule.{Rule}
+use Rattle.hm_window.specs.declared.rule.Rule.TheVariants as rule
+use Rattle.hm_run.specs.Program.{Program, Stepped, core, fault_rule, is_tainted_cause, refusal_rule, rows, step_rule, vector_of}
 use Rattle.hm_state.specs.State.{State, state_of}
+use Rattle.hm_window.specs.Overlap.{first_rule, rule_or}
 
--- a beat that breaks no rule
-pub rule_none : (v w : Vector) (a b n steps : ℕ) (r : Regs) (m : Memory) (output : List ℕ) (o : Option Clash) (f : Option Fault) → 2 ≤ a → b < 2 → IsTrue r.fpca
-    → o ≡ clash_with (vector_tree v m.around) a (vector_tree w m.around b) (state_of r m output) → o ≡ None → f ≡ refuse w (state_of r m output) → f ≡ None
-    → None ≡ step_rule m.around (Some v) (Some w) (record { a = a; b = b; n = n; steps = steps; state = state_of r m output })
-unfolding state_of
-rule_none v w a b n steps r m output o f late few there e none is free =
-    let s : State = state_of r m output in
-    let early : (nat_lt a 2 || not (nat_lt b 2)) ≡ false = grind (arith, nat_tests, late, few) in
-    let context : r.fpca ≡ true = cc in
-    sym (ap (λ (q : Bool). cond q (Some rule.Order) (clash_or (clash_with (vector_tree v m.around) a (vector_tree w m.around b) s) (refusal_rule w s))) early
-    ∙ ap (λ (q : Option Clash). clash_or q (refusal_rule w s)) (sym e ∙ none)
-    ∙ (λ j. cond (context j && is_none ((sym is ∙ free) j)) None (Some rule.YoungerFault)))
+-- the rules of a beat, and then that the younger is not refused
+module _ (v w : Vector) (a b n steps : ℕ) (r : Regs) (m : Memory) (output : List ℕ) (o : Option Rule)
+    (there : o ≡ first_rule (Some (vector_tree v m.around)) (Some (vector_tree w m.around)) a b (state_of r m output)) where
+  abbrev s : State
+  s = state_of r m output
+
+  abbrev at_step : Config State
+  at_step = record { a = a; b = b; n = n; steps = steps; state = s }
+
+  pub rule_first : (q : Rule) → o ≡ Some q → Some q ≡ step_rule m.around (Some v) (Some w) at_step
+  rule_first q e = λ j. rule_or ((sym e ∙ there) j) (refusal_rule (Some w) s)
+
+  pub rule_then : o ≡ None → refusal_rule (Some w) s ≡ step_rule m.around (Some v) (Some w) at_step
+  rule_then e = λ j. rule_or ((sym e ∙ there) j) (refusal_rule (Some w) s)
+
+  pub rule_none : (f : Option Fault) → IsTrue r.fpca → o ≡ None → f ≡ refuse w s → f ≡ None → None ≡ step_rule m.around (Some v) (Some w) at_step
+  unfolding state_of
+  rule_none f context e is free =
+      let made : r.fpca ≡ true = cc in
+      sym (λ j. cond (made j && is_none ((sym is ∙ free) j)) None (Some rule.YoungerFault)) ∙ rule_then e
+
+  pub rule_refused : (f : Option Fault) (g : Fault) → IsTrue r.fpca → o ≡ None → f ≡ refuse w s → f ≡ Some g → Some rule.YoungerFault ≡ step_rule m.around (Some v) (Some w) at_step
+  unfolding state_of
+  rule_refused f g context e is refused =
+      let made : r.fpca ≡ true = cc in
+      sym (λ j. cond (made j && is_none ((sym is ∙ refused) j)) None (Some rule.YoungerFault)) ∙ rule_then e
 
 module _ (listing : Listing) (x : Cpu) where
   abbrev M : Program

@@ -11,7 +11,7 @@ use Rattle.hm_machine.specs.declared.tick.Trouble.TheVariants as trouble
 use Rattle.hm_machine.specs.declared.younger.Hindrance.{Hindrance}
 use Rattle.hm_machine.specs.declared.younger.Hindrance.TheVariants as hindrance
 use Rattle.hm_run.specs.declared.Cause.{Cause}
-use Rattle.hm_run.specs.declared.Rule.{Rule}
+use Rattle.hm_window.specs.declared.rule.Rule.{Rule}
 use Rattle.hm_run.specs.Program.{Breach, Stepped, Stopping, Ticked}
 use Rattle.hm_state.specs.State.{State, state_of}
 

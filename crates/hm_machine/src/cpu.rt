@@ -25,7 +25,8 @@ use hm_isa::{Instr, Scalar, Vector};
 use hm_lane::context;
 use hm_mem::Mem;
 use hm_regs::Regs;
-use hm_run::{Cause, Window};
+use hm_run::Cause;
+use hm_window::Window;
 
 /// What instructions change, and how many were done.
 #[derive(Drop)]

@@ -10,6 +10,7 @@ mod service;
 mod tick;
 mod younger;
 
-pub use hm_run::{Broken, Offence, Outcome, Reason, Rule, Slot, Turn, Who, Window};
+pub use hm_run::{Broken, Offence, Outcome, Reason, Slot, Turn, Who};
+pub use hm_window::{Rule, Window};
 pub use load::LoadErr;
 pub use machine::Machine;

@@ -21,12 +21,13 @@ use crate::cursor::{Cursor, after_tick, line_at};
 use crate::load::{LoadErr, flash_word};
 use crate::memory_text::memory_text;
 use crate::service::OUTPUT;
-use crate::tick::{conclude, end_of_tick, letters, may_end};
+use crate::tick::{conclude, end_of_tick, letters};
 use hm_base::{Image, OutOfMemory};
 use hm_mem::Mem;
 use hm_regs::Regs;
-use hm_run::{Outcome, Rule, Turn, Window};
+use hm_run::{Outcome, Turn};
 use hm_sched::Schedule;
+use hm_window::{Window, ending};
 use std::alloc::Global;
 use std::marker::Model;
 
@@ -63,13 +64,6 @@ fn first_outcome(schedule: &Schedule) -> Option<Outcome>
     } else {
         None
     }
-}
-
-/// The rule that no tick ends at this position.
-fn ending(at: Window) -> Rule
-    ensures { result ≡ Rule.Ending at.a at.b }
-{
-    Rule::Ending { a: at.a, b: at.b }
 }
 
 impl Machine {
@@ -189,11 +183,11 @@ impl Machine {
         let reached = letters(line.letters.as_slice(), &mut self.cpu);
         match reached {
             Ok(()) => {
-                if !may_end(self.cpu.window) {
+                if let Err(rule) = ending(self.cpu.window) {
                     self.outcome = Some(Outcome::RuleBroken {
                         tick: self.ticks,
                         step: steps,
-                        rule: ending(self.cpu.window),
+                        rule,
                     });
                     return;
                 }

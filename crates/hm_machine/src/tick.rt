@@ -8,7 +8,7 @@ ghost use Rattle.hm_mem.specs.Memory.{memory_of, flash_at};
 ghost use Rattle.hm_mem.specs.Seen.{with_dev};
 ghost use Rattle.hm_order.specs.Machine.{Config};
 ghost use Rattle.hm_run.specs.Program.{Stopping, core, at_step, letter_step, letter_steps, most_output};
-ghost use Rattle.hm_run.specs.Timed.{Timed, ended, outcome_of, outcome_of_stop, at_stop, counted_with, may_end};
+ghost use Rattle.hm_run.specs.Timed.{Timed, ended, outcome_of, outcome_of_stop, at_stop, counted_with};
 ghost use Rattle.hm_sched.specs.Schedule.{TickLine, younger_letter};
 ghost use Rattle.hm_state.specs.State.{State};
 
@@ -16,8 +16,9 @@ use crate::cpu::{Cpu, older, whole};
 use crate::younger::{Hindrance, younger};
 use hm_base::Stop;
 use hm_mem::{Dev, Mem};
-use hm_run::{Cause, Offence, Outcome, Rule, Who, Window};
+use hm_run::{Cause, Offence, Outcome, Who};
 use hm_sys::{arrive, count};
+use hm_window::Rule;
 
 /// Why the letters of a tick do not all go on.
 #[derive(Clone, Copy)]
@@ -164,13 +165,6 @@ pub fn conclude(tick: u32, trouble: Trouble, x: &mut Cpu) -> Outcome
         Trouble::Stopped { cause, younger } => stopped(tick, cause, younger, x),
         Trouble::Broken { step, rule } => Outcome::RuleBroken { tick, step, rule },
     }
-}
-
-/// Whether a tick may end here: only where there is an ECI value for the position (DDI0553, "ECI").
-pub fn may_end(at: Window) -> bool
-    ensures value { result ≡ may_end at.a at.b }
-{
-    (at.b == 0 && at.a < 4) || (at.a == 3 && at.b == 1)
 }
 
 /// What comes at the end of a tick: SysTick counts, and then the interrupts of `irq` become pending.

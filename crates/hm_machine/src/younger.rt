@@ -1,22 +1,22 @@
 //! The steps of the younger of two vector instructions.
 
 ghost use Rattle.std.specs.Prelude.{◌≡◌, ℕ, ◌+◌, ◌^◌, ◌<◌, ◌≤◌, List, IsTrue, Some, None};
-ghost use Rattle.hm_beat.specs.Meeting.{clash_with};
 ghost use Rattle.hm_codes.specs.Listing.{Listing, IsListing};
 ghost use Rattle.hm_machine.specs.Cpus.{config_of, hindered, reached_younger, state_in, IsPosition, Keeps};
 ghost use Rattle.hm_mem.specs.Memory.{Memory, memory_of, flash_at};
 ghost use Rattle.hm_order.specs.Machine.{Config, did, fault_end, younger};
 ghost use Rattle.hm_rows.specs.Rows.{vector_tree};
-ghost use Rattle.hm_run.specs.Program.{core, fault_rule, rows, rule_of_clash, step_rule};
+ghost use Rattle.hm_run.specs.Program.{core, fault_rule, rows, step_rule};
+ghost use Rattle.hm_window.specs.Overlap.{first_rule};
 ghost use Rattle.hm_state.specs.State.{State, state_of};
 
 use crate::cpu::{Cpu, beat, vector_at};
 use hm_base::Stop;
-use hm_beat::{Clash, meet_left};
 use hm_exec::{any, refuse};
 use hm_isa::Vector;
 use hm_regs::Regs;
-use hm_run::{Cause, Rule, Window};
+use hm_run::Cause;
+use hm_window::{Rule, Window, first_rule};
 
 /// Why a younger step does not go on: its beat stops for taint, or the step breaks a rule of overlap.
 #[derive(Clone, Copy)]
@@ -25,27 +25,17 @@ pub enum Hindrance {
     Broken(Rule),
 }
 
-/// The rule that a clash breaks.
-fn rule_of(clash: Clash) -> Rule
-    ensures value { result ≡ rule_of_clash clash }
-{
-    match clash {
-        Clash::Register(place) => Rule::Register { place },
-        Clash::Memory { addr } => Rule::Memory { addr },
-    }
-}
-
-/// Where beat `b` of `w`, the younger, meets the beats that `v` has left, from beat `a` on.
-fn clash(v: &Vector, a: u8, w: &Vector, b: u8, regs: &Regs) -> Option<Clash>
-    requires first { a < 4 }
-    requires second { b < 4 }
-    requires context { IsTrue regs.now.fpca }
+/// The first rule that the next beat of `w`, the younger, breaks against `v`, whatever comes of that beat.
+fn overlap_rule(v: &Vector, w: &Vector, at: Window, regs: &Regs) -> Option<Rule>
+    requires position { at.a < 4 }
+    requires context { 2 ≤ at.a → IsTrue regs.now.fpca }
     ensures value { (m : Memory) (output : List ℕ)
-        → result ≡ clash_with (vector_tree v.now m.around) a (vector_tree w.now m.around b) (state_of regs.now m output) }
+        → result ≡ first_rule (Some (vector_tree v.now m.around)) (Some (vector_tree w.now m.around)) at.a at.b (state_of regs.now m output) }
+    ensures in_time { result ≡ None → (2 ≤ at.a) × (at.b < 2) }
 {
     let older = any(v);
     let younger = any(w);
-    meet_left(&older, a, &younger, b, regs)
+    first_rule(at, Some(&older), Some(&younger), regs)
 }
 
 /// The first rule that the next beat of `w`, the younger, breaks against `v`, but for a fault of that beat.
@@ -56,11 +46,8 @@ fn step_rule(v: &Vector, w: &Vector, at: Window, regs: &Regs) -> Option<Rule>
         → result ≡ step_rule m.around (Some v.now) (Some w.now) (record { a = at.a; b = at.b; n = n; steps = steps; state = state_of regs.now m output }) }
     ensures in_time { result ≡ None → (2 ≤ at.a) × (at.b < 2) }
 {
-    if at.a < 2 || at.b >= 2 {
-        return Some(Rule::Order);
-    }
-    if let Some(clash) = clash(v, at.a, w, at.b, regs) {
-        return Some(rule_of(clash));
+    if let Some(rule) = overlap_rule(v, w, at, regs) {
+        return Some(rule);
     }
     match refuse(w, regs) {
         Some(_) => Some(Rule::YoungerFault),

@@ -2,6 +2,7 @@
 use Rattle.std.proofs.Common.{◌≡◌, ℕ, zero, suc, ◌<◌, ◌≤◌, arith, ◌&&◌, ◌||◌, ap, refl, sym, ◌∙◌, subst, Bool, true, false, not, ltb, nat_lt, cond, Option, Some, None, Result, Ok, Err, inl, inr, ⊎_elim, ◌⊎◌}
 use Rattle.std.proofs.lemmas.Bool.Decides.{nat_tests}
 use Rattle.std.specs.Option.{is_none}
+use Rattle.std.specs.Prelude.{option_map}
 use Rattle.hm_base.specs.declared.Fault.{Fault}
 use Rattle.hm_base.specs.declared.Place.{Place}
 use Rattle.hm_base.specs.declared.Place.TheVariants.{R, QWord, P0, Mask01, Mask23, Carry, Ltp, Sticky}
@@ -30,12 +31,13 @@ use Rattle.hm_rows.specs.Context.{context_cell, with_context}
 use Rattle.hm_rows.specs.Rows.{refuse, vector_tree, vector_whole, writes_lr}
 use Rattle.hm_run.specs.declared.Cause.{Cause}
 use Rattle.hm_run.specs.declared.Cause.TheVariants as cause
-use Rattle.hm_run.specs.declared.Rule.{Rule}
-use Rattle.hm_run.specs.declared.Rule.TheVariants as rule
+use Rattle.hm_window.specs.declared.rule.Rule.{Rule}
+use Rattle.hm_window.specs.declared.rule.Rule.TheVariants as rule
 use Rattle.hm_beat.specs.declared.clash.Clash.{Clash}
 use Rattle.hm_beat.specs.Meeting.{clash_with}
 use Rattle.hm_beat.proofs.Remaining.{left_apart}
-use Rattle.hm_run.specs.Program.{rows, core, alone, begins, caused, cause_of, done_alone, done_in_machine, in_machine, is_ready, is_tainted_cause, lifted, makes_here, on_cell, or_fault, other_by, other_here, other_row, ready_state, clash_or, is_too_early, overlap_rule, refusal_rule, rule_of_clash, step_rule, unless_refused, vector_of, whole_here}
+use Rattle.hm_window.specs.Overlap.{first_rule, is_too_early, rule_of_clash, rule_or}
+use Rattle.hm_run.specs.Program.{rows, core, alone, begins, caused, cause_of, done_alone, done_in_machine, in_machine, is_ready, is_tainted_cause, lifted, makes_here, on_cell, or_fault, other_by, other_here, other_row, ready_state, refusal_rule, step_rule, unless_refused, vector_of, whole_here}
 use Rattle.hm_whole.specs.Watched.{GoesAlike, Watched, In, Beside, Held, InCell, Besides, open_rest, held, dead, view}
 use Rattle.hm_run.specs.Stops as why
 use Rattle.hm_run.specs.declared.Reason.{Reason}
@@ -296,9 +298,13 @@ module _ (x : Around) (thread : x.actor ≡ Thread) where
       (apart_lifted (vector_tree v x k) (vector_tree w x c.b) c.state
       (left_apart (vector_tree v) (vector_tree w) _ _ (row_laws v) (row_laws w) x c.a c.b c.state none k low high)))
 
-  no_clash_or : (o : Option Clash) (r : Option Rule) → clash_or o r ≡ None → (o ≡ None) × (r ≡ None)
-  no_clash_or (Some y) r e = let no : Some (rule_of_clash y) ≡ None = e in absurd cc
-  no_clash_or None r e = (refl, e)
+  no_rule : (o r : Option Rule) → rule_or o r ≡ None → (o ≡ None) × (r ≡ None)
+  no_rule (Some y) r e = let no : Some y ≡ None = e in absurd cc
+  no_rule None r e = (refl, e)
+
+  no_clash : (o : Option Clash) → option_map rule_of_clash o ≡ None → o ≡ None
+  no_clash (Some y) e = let no : Some (rule_of_clash y) ≡ None = e in absurd cc
+  no_clash None e = refl
 
   no_refusal : (b : Bool) → cond b None (Some rule.YoungerFault) ≡ None → b ≡ true
   no_refusal true e = refl
@@ -312,8 +318,9 @@ module _ (x : Around) (thread : x.actor ≡ Thread) where
   lawful listing None p c e = let no : Some rule.NotVector ≡ None = e in absurd cc
   lawful listing (Some v) None c e = let no : Some rule.NotVector ≡ None = e in absurd cc
   lawful listing (Some v) (Some w) c e =
-      let time = in_time (is_too_early c) (overlap_rule x v w c) e in
-      let free = no_clash_or (clash_with (vector_tree v x) c.a (vector_tree w x c.b) c.state) (refusal_rule w c.state) time.1 in
+      let clash = clash_with (vector_tree v x) c.a (vector_tree w x c.b) c.state in
+      let free = no_rule (first_rule (Some (vector_tree v x)) (Some (vector_tree w x)) c.a c.b c.state) (refusal_rule (Some w) c.state) e in
+      let time = in_time (is_too_early c.a c.b) (option_map rule_of_clash clash) free.0 in
       let late = late_of c time.0 in
       record {
         older = v;
@@ -323,10 +330,10 @@ module _ (x : Around) (thread : x.actor ≡ Thread) where
         late = late.0;
         few = late.1;
         ready = no_refusal (is_ready w c.state) free.1;
-        apart = clash_apart v w c free.0 late.1;
+        apart = clash_apart v w c (no_clash clash time.1) late.1;
       }
     where
-      late_of : (c : Config State) → is_too_early c ≡ false → (2 ≤ c.a) × (c.b < 2)
+      late_of : (c : Config State) → is_too_early c.a c.b ≡ false → (2 ≤ c.a) × (c.b < 2)
       late_of c e = (grind (arith, nat_tests), grind (arith, nat_tests))
 
   -- WHOLE ROWS

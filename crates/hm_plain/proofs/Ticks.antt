@@ -23,8 +23,8 @@ use Rattle.hm_run.specs.declared.Cause.{Cause}
 use Rattle.hm_run.specs.declared.Cause.TheVariants as cause
 use Rattle.hm_run.specs.declared.Outcome.{Outcome}
 use Rattle.hm_run.specs.declared.Outcome.TheVariants as outcome
-use Rattle.hm_run.specs.declared.Rule.{Rule}
-use Rattle.hm_run.specs.declared.Rule.TheVariants as rule
+use Rattle.hm_window.specs.declared.rule.Rule.{Rule}
+use Rattle.hm_window.specs.declared.rule.Rule.TheVariants as rule
 use Rattle.hm_run.specs.declared.Who.{Who}
 use Rattle.hm_run.specs.declared.Who.TheVariants.{Thread, Handler, Entry}
 use Rattle.hm_run.specs.Program.{Program, Stepped, Stopping, Ticked, alone, broken, core, cause_of, done_alone, is_tainted_cause, letter_step, makes_here, at_step, letter_steps, or_fault, older_steps, steps_left, unless_refused, vector_of, whole_here}
@@ -34,7 +34,7 @@ use Rattle.hm_run.specs.Stops as why
 use Rattle.hm_run.specs.declared.Reason.{Reason}
 use Rattle.hm_run.specs.Stops.{WholeStop, at_break, scalar_break}
 use Rattle.hm_run.proofs.Steps.{break_makes}
-use Rattle.hm_run.specs.Timed.{Timed, begin, who_runs, outcome_of, at_stop, counted_with, with_devices, may_end, ended, tick_of, closed, or_out, next, thread_program, timed}
+use Rattle.hm_run.specs.Timed.{Timed, begin, who_runs, outcome_of, at_stop, counted_with, with_devices, ended, tick_of, closed, or_out, next, thread_program, timed}
 use Rattle.hm_sys.specs.Ticks.{arrived, counted, expired}
 use Rattle.hm_sched.specs.Schedule.{TickLine, Sched, older_letter, younger_letter, ticks_of}
 use Rattle.hm_state.specs.Start.{start, start_under}
@@ -44,6 +44,7 @@ use Rattle.hm_whole.proofs.Agreement.{same_regs}
 use Rattle.hm_plain.specs.Overlap.{AgreesAfter, KeepsOrder, StopsBetween}
 use Rattle.hm_plain.specs.Sequence.{FaultsAt}
 use Rattle.hm_plain.proofs.Laws.{laws, clean_of, next_is}
+use Rattle.hm_window.specs.Positions.{may_end}
 
 -- THE DEVICES
 -- what ticks and interrupts change of the devices is nothing that the thread reads

@@ -9,8 +9,9 @@ ghost use Rattle.hm_run.specs.Report.{mode_line, output_lines, report_of};
 
 use hm_base::OutOfMemory;
 use hm_regs::Regs;
-use hm_run::{Outcome, Window};
+use hm_run::Outcome;
 use hm_text_base::{decimal, hex_bytes, text};
+use hm_window::Window;
 pub use outcome_text::outcome_line;
 use registers_text::register_lines;
 use std::alloc::Global;

@@ -5,8 +5,8 @@ ghost use Rattle.hm_run.specs.Report.{low_lines, word_line, pointer_lines, posit
 
 use hm_base::OutOfMemory;
 use hm_regs::Regs;
-use hm_run::Window;
 use hm_text_base::{bit, decimal, hex2, hex8, text};
+use hm_window::Window;
 use std::alloc::Global;
 
 fn low_lines(alloc: Global, out: &mut Vec<u8>, r: &[u32], count: usize) -> Result<(), OutOfMemory>

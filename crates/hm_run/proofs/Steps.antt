@@ -12,15 +12,16 @@ use Rattle.hm_order.specs.Beats.{then}
 use Rattle.hm_order.specs.Machine.{Config, Stopped, Broken, begin, done, older, older_of, settle}
 use Rattle.hm_run.specs.declared.Outcome.{Outcome}
 use Rattle.hm_run.specs.declared.Outcome.TheVariants as outcome
-use Rattle.hm_run.specs.declared.Rule.TheVariants as rule
+use Rattle.hm_window.specs.declared.rule.Rule.TheVariants as rule
 use Rattle.hm_run.specs.Program.{Program, Stopping, Breach, Ticked, core, makes_here, other_by, other_here, rows, vector_of, letter_steps}
 use Rattle.hm_run.specs.Stops.{break_of, scalar_break}
-use Rattle.hm_run.specs.Timed.{Timed, outcome_of, at_stop, counted_with, with_devices, may_end, ended, tick_of, closed, or_out, next}
+use Rattle.hm_run.specs.Timed.{Timed, outcome_of, at_stop, counted_with, with_devices, ended, tick_of, closed, or_out, next}
 use Rattle.hm_sched.specs.Schedule.{TickLine}
 use Rattle.hm_regs.specs.declared.Regs.{Regs}
 use Rattle.hm_state.specs.State.{State}
 use Rattle.hm_thumb.specs.Families.{is_vector_row}
 use Rattle.hm_thumb.specs.Rows.{makes_context}
+use Rattle.hm_window.specs.Positions.{may_end}
 
 -- STEPS
 -- the position after the whole of an instruction that leaves this state

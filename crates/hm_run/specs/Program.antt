@@ -1,6 +1,6 @@
 -- The machine of a program: what a step of the older instruction and one of the younger do. The listing says what
 -- stands at each address.
-use Rattle.std.specs.Prelude.{ℕ, zero, suc, ◌+◌, ◌-◌, ◌==◌, ◌&&◌, ◌||◌, not, nat_lt, is_none, Bool, true, false, cond, List, [], ◌∷◌, ◌++◌, length, nat_eq, Option, Some, None, Result, Ok, Err}
+use Rattle.std.specs.Prelude.{ℕ, zero, suc, ◌+◌, ◌-◌, ◌==◌, ◌&&◌, nat_lt, is_none, Bool, true, false, cond, List, [], ◌∷◌, ◌++◌, length, nat_eq, Option, Some, None, option_map, Result, Ok, Err}
 use Rattle.hm_base.specs.declared.Fault.{Fault}
 use Rattle.hm_base.specs.declared.Stop.{Stop}
 use Rattle.hm_base.specs.declared.Stop.TheVariants as stop
@@ -9,9 +9,6 @@ use Rattle.hm_isa.specs.declared.Instr.{Instr}
 use Rattle.hm_isa.specs.declared.Instr.TheVariants as instr
 use Rattle.hm_isa.specs.declared.Vector.{Vector}
 use Rattle.hm_mem.specs.Memory.{Around}
-use Rattle.hm_beat.specs.declared.clash.Clash.{Clash}
-use Rattle.hm_beat.specs.declared.clash.Clash.TheVariants as clash
-use Rattle.hm_beat.specs.Meeting.{clash_with}
 use Rattle.hm_beat.specs.Ordered.{of_four}
 use Rattle.hm_beat.specs.Trees.{action}
 use Rattle.hm_order.specs.Beats.{Action, Beats, then}
@@ -19,8 +16,8 @@ use Rattle.hm_order.specs.Machine.{Core, Config, End, Stopped, Broken, older, yo
 use Rattle.hm_run.specs.declared.Cause.{Cause}
 use Rattle.hm_run.specs.declared.Cause.TheVariants as cause
 use Rattle.hm_run.specs.declared.Reason.TheVariants.{Break, Exit}
-use Rattle.hm_run.specs.declared.Rule.{Rule}
-use Rattle.hm_run.specs.declared.Rule.TheVariants as rule
+use Rattle.hm_window.specs.declared.rule.Rule.{Rule}
+use Rattle.hm_window.specs.declared.rule.Rule.TheVariants as rule
 use Rattle.hm_run.specs.Stops.{WholeStop, Halt, Full, Faults, at_break, break_of}
 use Rattle.hm_rows.specs.Context.{with_context}
 use Rattle.hm_rows.specs.Rows.{vector_tree, vector_whole, refuse}
@@ -28,6 +25,7 @@ use Rattle.hm_sched.specs.Schedule.{older_letter, younger_letter}
 use Rattle.hm_regs.specs.declared.Regs.{Regs}
 use Rattle.hm_state.specs.State.{State, Cell, cells, regs_of}
 use Rattle.hm_base.specs.Stops.{is_tainted}
+use Rattle.hm_window.specs.Overlap.{first_rule, rule_or}
 use Rattle.hm_thumb.specs.Calls.{Asked, Writes, Exits, asked}
 use Rattle.hm_thumb.specs.Does as runner
 use Rattle.hm_thumb.specs.Rows.{makes_context}
@@ -162,34 +160,15 @@ vector_of (Ok i) = vector_in i
 vector_of (Err f) = None
 
 -- THE RULES OF OVERLAP
--- The first two beats of the younger may go once two of the older are done, its others only when it is the older. (There are
--- never more than two done of it.)
-abbrev pub is_too_early : Config State → Bool
-is_too_early c = nat_lt c.a 2 || not (nat_lt c.b 2)
-
-abbrev pub rule_of_clash : Clash → Rule
-rule_of_clash (clash.Register p) = rule.Register p
-rule_of_clash (clash.Memory addr) = rule.Memory addr
-
 -- the younger may not be refused (and there is a context, since the older has made it)
-abbrev pub refusal_rule : Vector → State → Option Rule
-refusal_rule w s = cond (is_ready w s) None (Some rule.YoungerFault)
+abbrev pub refusal_rule : Option Vector → State → Option Rule
+refusal_rule (Some w) s = cond (is_ready w s) None (Some rule.YoungerFault)
+refusal_rule None s = None
 
-abbrev pub clash_or : Option Clash → Option Rule → Option Rule
-clash_or (Some x) r = Some (rule_of_clash x)
-clash_or None r = r
-
--- The next beat of w, the younger, against the beats that v has left.
-abbrev pub overlap_rule : Around → Vector → Vector → Config State → Option Rule
-overlap_rule x v w c = clash_or (clash_with (vector_tree v x) c.a (vector_tree w x c.b) c.state) (refusal_rule w c.state)
-
--- The first rule that a younger step breaks: both are vector rows; the beats are in order; the younger's next beat meets none of
--- the beats that the older has left, on no place and on no byte; and the younger is not refused. That its beat has no fault is
--- the last rule, and `fault_rule` has it.
+-- The first rule that a younger step breaks: those of its next beat, and then that the younger is not refused. That its beat has
+-- no fault is the last rule, and `fault_rule` has it.
 abbrev pub step_rule : Around → Option Vector → Option Vector → Config State → Option Rule
-step_rule x (Some v) (Some w) c = cond (is_too_early c) (Some rule.Order) (overlap_rule x v w c)
-step_rule x (Some v) None c = Some rule.NotVector
-step_rule x None o c = Some rule.NotVector
+step_rule x v w c = rule_or (first_rule (option_map (λ i. vector_tree i x) v) (option_map (λ i. vector_tree i x) w) c.a c.b c.state) (refusal_rule w c.state)
 
 -- a younger beat does not fault
 abbrev pub fault_rule : Cause → Option Rule

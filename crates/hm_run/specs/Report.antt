@@ -15,8 +15,8 @@ use Rattle.hm_run.specs.declared.Outcome.{Outcome}
 use Rattle.hm_run.specs.declared.Outcome.TheVariants as outcome
 use Rattle.hm_run.specs.declared.Reason.{Reason}
 use Rattle.hm_run.specs.declared.Reason.TheVariants as reason
-use Rattle.hm_run.specs.declared.Rule.{Rule}
-use Rattle.hm_run.specs.declared.Rule.TheVariants as rule
+use Rattle.hm_window.specs.declared.rule.Rule.{Rule}
+use Rattle.hm_window.specs.declared.rule.Rule.TheVariants as rule
 use Rattle.hm_run.specs.declared.Slot.{Slot}
 use Rattle.hm_run.specs.declared.Slot.TheVariants as slot
 use Rattle.hm_run.specs.declared.Who.{Who}

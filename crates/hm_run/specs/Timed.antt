@@ -1,5 +1,5 @@
 -- The beat machine: the fold of steps and ends of ticks over a schedule.
-use Rattle.std.specs.Prelude.{ℕ, zero, suc, ◌+◌, ◌%◌, ◌^◌, ◌==◌, Bool, ◌&&◌, ◌||◌, nat_lt, if◌then◌else◌, List, [], ◌∷◌, length, drop, Option, Some, None, Ok, Err}
+use Rattle.std.specs.Prelude.{ℕ, zero, suc, ◌+◌, ◌%◌, ◌^◌, Bool, if◌then◌else◌, List, [], ◌∷◌, length, drop, Option, Some, None, Ok, Err}
 use Rattle.hm_base.specs.Image.{Segment}
 use Rattle.hm_base.specs.declared.Stop.{Stop}
 use Rattle.hm_base.specs.declared.Stop.TheVariants as stop
@@ -13,7 +13,7 @@ use Rattle.hm_run.specs.declared.Cause.TheVariants as cause
 use Rattle.hm_run.specs.declared.Outcome.{Outcome}
 use Rattle.hm_run.specs.declared.Outcome.TheVariants as outcome
 use Rattle.hm_run.specs.declared.Offence.TheVariants as offence
-use Rattle.hm_run.specs.declared.Rule.TheVariants as rule
+use Rattle.hm_window.specs.declared.rule.Rule.TheVariants as rule
 use Rattle.hm_run.specs.declared.Who.{Who}
 use Rattle.hm_run.specs.declared.Who.TheVariants.{Thread, Handler}
 use Rattle.hm_run.specs.Program.{Program, Stopping, Ticked, core, letter_steps}
@@ -21,6 +21,7 @@ use Rattle.hm_sched.specs.Schedule.{TickLine, Sched, ticks_of}
 use Rattle.hm_state.specs.Start.{start_under}
 use Rattle.hm_sys.specs.Ticks.{arrived, counted}
 use Rattle.hm_state.specs.State.{State}
+use Rattle.hm_window.specs.Positions.{may_end}
 
 -- what an entry puts away: the position, the registers, the base, the form and the bytes of its frame, the exception's
 -- number, and the value that a return has to give
@@ -79,10 +80,6 @@ at_stop c e = record c { n = retired_by e.cause c.n; steps = if e.younger then c
 
 abbrev pub with_devices : (Dev → Dev) → State → State
 with_devices f s = record s { rest = record s.rest { devices = f s.rest.devices } }
-
--- the positions at which a tick may end
-abbrev pub may_end : ℕ → ℕ → Bool
-may_end a b = (b == 0 && nat_lt a 4) || (a == 3 && b == 1)
 
 -- what SysTick and the interrupts of a tick leave
 abbrev pub counted_with : ℕ → Dev → Dev

@@ -2,6 +2,7 @@
 #![tactic(auto)]
 
 use hm_base::{Fault, Place, Stop};
+use hm_window::Rule;
 
 /// Why a program halts: a BKPT with this number, or the call EXIT of semihosting with this value.
 #[derive(Clone, Copy, Debug, PartialEq, Eq)]
@@ -16,30 +17,6 @@ pub enum Cause {
     Halt(Reason),
     Full,
     Stop(Stop),
-}
-
-/// The position: how many beats of the older and of the younger of two overlapped instructions are done.
-#[derive(Clone, Copy, Debug, PartialEq, Eq)]
-pub struct Window {
-    pub a: u8,
-    pub b: u8,
-}
-
-/// A rule of overlap that a schedule breaks.
-#[derive(Clone, Copy, Debug, PartialEq, Eq)]
-pub enum Rule {
-    /// One of the two addresses holds no vector instruction.
-    NotVector,
-    /// The younger may not do its next beat yet.
-    Order,
-    /// The younger beat meets an older one at a place.
-    Register { place: Place },
-    /// The younger beat meets an older one at a byte.
-    Memory { addr: u32 },
-    /// The younger beat has a fault.
-    YoungerFault,
-    /// No tick may end at this position.
-    Ending { a: u8, b: u8 },
 }
 
 /// What a handler has to leave as it was.

@@ -1,7 +1,9 @@
-//! Tests that cross crates: runs of the machine, from the bytes of an image to the report, and the memory map.
+//! Tests that cross crates: runs of the machine, from the bytes of an image to the report, the memory map, and the rules of overlap.
 #![tactic(auto)]
 
 #[cfg(test)]
 mod memory;
+#[cfg(test)]
+mod overlap;
 #[cfg(test)]
 mod tests;

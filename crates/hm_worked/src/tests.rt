@@ -1,8 +1,9 @@
 use hm_base::{Image, Place};
 use hm_isa::{Below, Instr, S18, Scalar, width};
 use hm_machine::Machine;
-use hm_run::{Outcome, Turn, Window};
+use hm_run::{Outcome, Turn};
 use hm_sched::{SchedErr, Schedule, plain};
+use hm_window::Window;
 use std::alloc::Global;
 use std::test::Fail;
 
@@ -13,13 +14,6 @@ fn flat(alloc: Global, bytes: &[u8]) -> Result<Image, Fail> {
     Ok(image)
 }
 
-/// The report of the machine after n plain ticks.
-fn machine_report(alloc: Global, image: &Image, n: u32) -> Result<Vec<u8>, Fail> {
-    let mut machine = Machine::load(alloc, image, plain(alloc, n)?)?;
-    let _outcome = machine.run();
-    Ok(machine.report(alloc)?)
-}
-
 // The stack pointer 20010000 and the first instruction at 8.
 const START: [u8; 8] = [0, 0, 1, 0x20, 9, 0, 0, 0];
 
@@ -28,12 +22,12 @@ const VECTORS: &[u8] = &[
     0x80, 0xef, 0x55, 0, 0x80, 0xef, 0x53, 0x20, 0x20, 0xef, 0x42, 8, 0, 0xbe,
 ];
 
-/// A program's code, so many plain ticks, and lines of the report.
-type Run = (&'static [u8], u32, &'static [&'static str]);
+/// The name of a run, its code, so many plain ticks, and lines of the report.
+type Run = (&'static str, &'static [u8], u32, &'static [&'static str]);
 
-// Vector rows alone; a condition that holds and one that does not; loads, stores and faults of memory; saturation; a predicate.
 static RUNS: [Run; 9] = [
     (
+        "vectors_alone",
         VECTORS,
         4,
         &[
@@ -43,6 +37,7 @@ static RUNS: [Run; 9] = [
         ],
     ),
     (
+        "condition_that_holds",
         &[0, 0x20, 8, 0xbf, 7, 0x21, 0, 0xbe],
         4,
         &[
@@ -53,21 +48,25 @@ static RUNS: [Run; 9] = [
         ],
     ),
     (
+        "condition_that_does_not_hold",
         &[0, 0x20, 0x18, 0xbf, 7, 0x21, 0, 0xbe],
         4,
         &["outcome halted break 0 after 4", "r1 00000000", "it 00"],
     ),
     (
+        "load_past_memory",
         &[1, 0x20, 0xc0, 7, 1, 0x68],
         3,
         &["outcome fault thread bus pc 0000000c addr 80000000 after 2"],
     ),
     (
+        "store_to_flash",
         &[8, 0x20, 1, 0x60],
         2,
         &["outcome fault thread flashwrite pc 0000000a addr 00000008 after 1"],
     ),
     (
+        "bytes_and_words",
         &[
             2, 0x48, 0xe0, 0x21, 0xc1, 0x70, 2, 0x68, 0, 0xbe, 0, 0xbf, 0x20, 0xed, 0, 0xe0,
         ],
@@ -75,6 +74,7 @@ static RUNS: [Run; 9] = [
         &["outcome halted break 0 after 5", "r2 e0000000"],
     ),
     (
+        "saturation",
         &[0x87, 0xef, 0x5f, 0xe, 0, 0xef, 0x50, 0, 0, 0xbe],
         3,
         &[
@@ -84,21 +84,22 @@ static RUNS: [Run; 9] = [
         ],
     ),
     (
+        "predicate_of_a_count",
         &[3, 0x20, 0x20, 0xf0, 1, 0xe8, 0, 0xbe],
         3,
         &["outcome halted break 0 after 3", "vpr 00000fff", "fpca 1"],
     ),
     (
+        "code_of_no_row",
         &[0, 0xde],
         1,
         &["outcome fault thread undefined pc 00000008 addr 00000008 after 0"],
     ),
 ];
 
-// What a program asks of its host: a text in flash and then the end, a byte inside an IT block, an operation that there is not, and a
-// text without an end.
-static ASKS: [Run; 4] = [
+static ASKS: [Run; 6] = [
     (
+        "text_and_exit",
         &[
             0x14, 0x21, 4, 0x20, 0xab, 0xbe, 0x18, 0x20, 0xab, 0xbe, 0, 0, b'o', b'k', b'!', 0,
         ],
@@ -111,6 +112,7 @@ static ASKS: [Run; 4] = [
         ],
     ),
     (
+        "byte_in_a_block",
         &[3, 0x20, 0x18, 0xbf, 0xab, 0xbe, 0, 0xbe],
         4,
         &[
@@ -122,6 +124,7 @@ static ASKS: [Run; 4] = [
         ],
     ),
     (
+        "operation_that_there_is_not",
         &[5, 0x20, 0xab, 0xbe],
         2,
         &[
@@ -130,6 +133,7 @@ static ASKS: [Run; 4] = [
         ],
     ),
     (
+        "text_past_flash",
         &[0x20, 0x21, 4, 0x20, 0xab, 0xbe],
         3,
         &[
@@ -137,16 +141,35 @@ static ASKS: [Run; 4] = [
             "output 0",
         ],
     ),
+    // movw r1,#0xffff; movt r1,#0x2003; movs r0,#4; strb r0,[r1]; bkpt #171
+    (
+        "text_past_sram",
+        &[
+            0x4f, 0xf6, 0xff, 0x71, 0xc2, 0xf2, 3, 1, 4, 0x20, 8, 0x70, 0xab, 0xbe,
+        ],
+        5,
+        &[
+            "outcome fault thread bus pc 00000014 addr 20040000 after 4",
+            "output 0",
+        ],
+    ),
+    // a text of three bytes again and again: there is room for one byte at last, and nothing of it is written
+    (
+        "text_past_the_output",
+        &[
+            0x10, 0x21, 4, 0x20, 0xab, 0xbe, 0xfd, 0xe7, b'o', b'k', b'!', 0,
+        ],
+        43_694,
+        &["outcome output tick 43693", "output 65535"],
+    ),
 ];
 
 /// The first of these runs whose report lacks one of its lines.
-fn first_that_differs(alloc: Global, runs: &[Run]) -> Result<Option<usize>, Fail> {
-    for (k, (code, ticks, lines)) in runs.iter().enumerate() {
-        let mut bytes = START.to_vec(alloc)?;
-        bytes.extend_from_slice(code)?;
-        let report = machine_report(alloc, &flat(alloc, &bytes)?, *ticks)?;
+fn first_that_differs(alloc: Global, runs: &[Run]) -> Result<Option<&'static str>, Fail> {
+    for (name, code, ticks, lines) in runs {
+        let report = report_under(alloc, code, plain(alloc, *ticks)?)?;
         if !has_lines(&report, lines) {
-            return Ok(Some(k));
+            return Ok(Some(*name));
         }
     }
     Ok(None)
@@ -168,10 +191,15 @@ fn output_full(rt: HostRuntime) -> Result<(), Fail> {
     Ok(())
 }
 
-// Loops of scalars; a division; a loop of no turns; a tail of a predicated loop; the masks of a block at its end and inside; a carry past an
-// inactive word; and codes that are no row: a wide product over its own operand, and a register past Q7.
-static LOOPS_AND_BLOCKS: [Run; 10] = [
+/// A block of two instructions under VPT, with P0 00f0: the second is done where the first is not.
+const BLOCK: &[u8] = &[
+    0x01, 0x20, 0xf0, 0x21, 0xa2, 0xee, 0x10, 0x0b, 0xed, 0xee, 0x10, 0x1a, 0x71, 0xfe, 0x4d, 0x8f,
+    0x20, 0xef, 0x42, 0x08, 0x24, 0xef, 0x42, 0x48, 0x00, 0xbe,
+];
+
+static LOOPS_AND_BLOCKS: [Run; 13] = [
     (
+        "loop_of_scalars",
         &[
             0x03, 0x20, 0x40, 0xf0, 0x01, 0xe0, 0x49, 0x1c, 0x0f, 0xf0, 0x03, 0xc8, 0x00, 0xbe,
         ],
@@ -185,16 +213,19 @@ static LOOPS_AND_BLOCKS: [Run; 10] = [
         ],
     ),
     (
+        "quotient",
         &[0x05, 0x20, 0x90, 0xfb, 0xf1, 0xf0, 0x00, 0xbe],
         3,
         &["outcome halted break 0 after 3", "r0 00000000"],
     ),
     (
+        "wlstp_skips_empty_loop",
         &[0x00, 0xf0, 0x03, 0xc0, 0x01, 0xbe, 0x02, 0xbe, 0x03, 0xbe],
         2,
         &["outcome halted break 3 after 2", "lr ffffffff"],
     ),
     (
+        "tail_of_a_predicated_loop",
         &[
             0x09, 0x20, 0x01, 0x21, 0xa2, 0xee, 0x30, 0x1b, 0x10, 0xf0, 0x01, 0xe0, 0x10, 0xef,
             0x42, 0x08, 0x1f, 0xf0, 0x05, 0xc0, 0x00, 0xbe,
@@ -208,10 +239,8 @@ static LOOPS_AND_BLOCKS: [Run; 10] = [
         ],
     ),
     (
-        &[
-            0x01, 0x20, 0xf0, 0x21, 0xa2, 0xee, 0x10, 0x0b, 0xed, 0xee, 0x10, 0x1a, 0x71, 0xfe,
-            0x4d, 0x8f, 0x20, 0xef, 0x42, 0x08, 0x24, 0xef, 0x42, 0x48, 0x00, 0xbe,
-        ],
+        "vpt_block_masks",
+        BLOCK,
         8,
         &[
             "q0 00000000 00000001 00000000 00000000",
@@ -219,23 +248,10 @@ static LOOPS_AND_BLOCKS: [Run; 10] = [
             "vpr 0000ff0f",
         ],
     ),
+    ("vpt_block_masks_before", BLOCK, 5, &["vpr 00cc00f0"]),
+    ("vpt_block_masks_between", BLOCK, 6, &["vpr 0088ff0f"]),
     (
-        &[
-            0x01, 0x20, 0xf0, 0x21, 0xa2, 0xee, 0x10, 0x0b, 0xed, 0xee, 0x10, 0x1a, 0x71, 0xfe,
-            0x4d, 0x8f, 0x20, 0xef, 0x42, 0x08, 0x24, 0xef, 0x42, 0x48, 0x00, 0xbe,
-        ],
-        5,
-        &["vpr 00cc00f0"],
-    ),
-    (
-        &[
-            0x01, 0x20, 0xf0, 0x21, 0xa2, 0xee, 0x10, 0x0b, 0xed, 0xee, 0x10, 0x1a, 0x71, 0xfe,
-            0x4d, 0x8f, 0x20, 0xef, 0x42, 0x08, 0x24, 0xef, 0x42, 0x48, 0x00, 0xbe,
-        ],
-        6,
-        &["vpr 0088ff0f"],
-    ),
-    (
+        "carry_chain_with_inactive_word",
         &[
             0xc0, 0x43, 0x01, 0x21, 0xa0, 0xee, 0x10, 0x0b, 0xa2, 0xee, 0x10, 0x1b, 0x4f, 0xf6,
             0x0f, 0x72, 0xed, 0xee, 0x10, 0x2a, 0x71, 0xfe, 0x4d, 0x0f, 0x30, 0xee, 0x02, 0x5f,
@@ -245,14 +261,38 @@ static LOOPS_AND_BLOCKS: [Run; 10] = [
         &["q2 00000000 00000000 00000001 00000001", "fpscr 20040000"],
     ),
     (
+        "product_over_its_operand",
         &[0x21, 0xee, 0x02, 0x0e],
         1,
         &["outcome fault thread undefined pc 00000008 addr 00000008 after 0"],
     ),
     (
+        "codes_outside_the_profile",
         &[0x60, 0xef, 0x42, 0x08],
         1,
         &["outcome fault thread undefined pc 00000008 addr 00000008 after 0"],
+    ),
+    // movs r0,#15; bx r0, and blx r0; bkpt #1; bkpt #2
+    (
+        "branch_to_an_odd_address",
+        &[15, 0x20, 0, 0x47, 1, 0xbe, 2, 0xbe],
+        3,
+        &["outcome halted break 2 after 3", "lr ffffffff"],
+    ),
+    (
+        "branch_with_a_link",
+        &[15, 0x20, 0x80, 0x47, 1, 0xbe, 2, 0xbe],
+        3,
+        &["outcome halted break 2 after 3", "lr 0000000d"],
+    ),
+    (
+        "branch_to_an_even_address",
+        &[14, 0x20, 0x80, 0x47, 1, 0xbe, 2, 0xbe],
+        3,
+        &[
+            "outcome fault thread invstate pc 0000000a addr 0000000e after 1",
+            "lr ffffffff",
+        ],
     ),
 ];
 
@@ -262,15 +302,9 @@ fn loops_and_blocks(rt: HostRuntime) -> Result<(), Fail> {
     Ok(())
 }
 
-/// A block of two instructions under VPT, with P0 00f0: the second is done where the first is not.
-const BLOCK: &[u8] = &[
-    0x01, 0x20, 0xf0, 0x21, 0xa2, 0xee, 0x10, 0x0b, 0xed, 0xee, 0x10, 0x1a, 0x71, 0xfe, 0x4d, 0x8f,
-    0x20, 0xef, 0x42, 0x08, 0x24, 0xef, 0x42, 0x48, 0x00, 0xbe,
-];
-
 // VPR after one, two and three beats of the first instruction of the block
 #[test]
-fn vpt_block_masks(rt: HostRuntime) -> Result<(), Fail> {
+fn vpt_block_masks_by_beats(rt: HostRuntime) -> Result<(), Fail> {
     let alloc = rt.alloc();
     for (letters, vpr) in [
         ("O", "vpr 00cc00ff"),
@@ -360,10 +394,8 @@ fn overlapped_beats_are_in_order(rt: HostRuntime) -> Result<(), Fail> {
     schedule.add(1, b"OO", 0)?;
     schedule.add(1, b"W", 0)?;
     let report = report_under(alloc, VECTORS, schedule)?;
-    let mut bytes = START.to_vec(alloc)?;
-    bytes.extend_from_slice(VECTORS)?;
-    let plain = machine_report(alloc, &flat(alloc, &bytes)?, 4)?;
-    assert!(rt; report.as_slice() == plain.as_slice());
+    let in_order = report_under(alloc, VECTORS, plain(alloc, 4)?)?;
+    assert!(rt; report.as_slice() == in_order.as_slice());
     Ok(())
 }
 
