@@ -206,15 +206,16 @@ fn prints_what_it_reads(rt: HostRuntime) -> Result<(), Fail> {
     Ok(())
 }
 
+// 16 MiB of the shortest lines, which are read in less than a second
 #[test]
 fn reads_many_lines(rt: HostRuntime) -> Result<(), Fail> {
     let alloc = rt.alloc();
     let mut bytes = HEAD.to_vec(alloc)?;
-    for _ in 0..200_000_u32 {
+    for _ in 0..8_388_608_u32 {
         bytes.extend_from_slice(b"W\n")?;
     }
     let schedule = parse(alloc, &bytes)?;
-    assert_eq!(rt; schedule.lines(), 200_000);
-    assert_eq!(rt; schedule.ticks(), 200_000);
+    assert_eq!(rt; schedule.lines(), 8_388_608);
+    assert_eq!(rt; schedule.ticks(), 8_388_608);
     Ok(())
 }
