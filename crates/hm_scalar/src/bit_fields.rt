@@ -4,13 +4,12 @@ ghost use Rattle.std.specs.Prelude.{◌≡◌, ◌≤◌, ◌<◌, ◌+◌, ◌-
 ghost use Rattle.hm_base.specs.Bits.{put_field};
 ghost use Rattle.hm_thumb.specs.DataRows.{bits_with, half_put, put_saturated, saturated, t3, t4, t5, t6, t7};
 
-use crate::data::first;
-use crate::operands::{imm_shift_c, imm5, imm12};
+use crate::operands::{imm_shift_c, imm5, imm12, reg_or_zero};
 use crate::sums::sum_of;
 use hm_base::{Place, bits};
 use hm_isa::{ExtractName, HalfName, SaturateName, T3, T4, T5, T6, T7};
 use hm_regs::Regs;
-use hm_thumb::{base_of, sign_extended};
+use hm_thumb::{SIGN, base_of, sign_extended};
 
 /// `addw`, `subw rd,rn,#i12`
 pub fn add(i: &T3, regs: &mut Regs)
@@ -47,7 +46,7 @@ fn saturated(name: SaturateName, s: u32, x: u32) -> u32
     ensures value { result ≡ saturated name s x }
 {
     let top = (1u32 << s) - 1;
-    if x < 0x8000_0000 {
+    if x < SIGN {
         return x.min(top);
     }
     match name {
@@ -117,7 +116,7 @@ pub fn insert(i: &T7, regs: &mut Regs)
 {
     let lsb = imm5(i.i3.get(), i.i2.get());
     let d = Place::R(i.d.get() as u8);
-    let x = first(i.n.get(), regs);
+    let x = reg_or_zero(i.n.get(), regs);
     let word = regs.get(d);
     regs.set(d, inserted(lsb, i.e.get() + 1 - lsb, x, word));
 }

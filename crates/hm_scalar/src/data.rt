@@ -1,25 +1,13 @@
 //! The rows T1 and T2: `and` to `rsb` with a constant or a shifted register.
 
 ghost use Rattle.std.specs.Prelude.{◌≡◌, ◌<◌};
-ghost use Rattle.hm_thumb.specs.DataRows.{data_row, first, put_bits, put_data_sum, put_if, t1, t2};
+ghost use Rattle.hm_thumb.specs.DataRows.{data_row, put_bits, put_data_sum, put_if, t1, t2};
 
-use crate::operands::{expand_imm_c, imm_shift_c, imm5, imm12};
+use crate::operands::{expand_imm_c, imm_shift_c, imm5, imm12, reg_or_zero};
 use hm_base::Place;
 use hm_isa::{DataName, T1, T2};
 use hm_regs::Regs;
 use hm_thumb::{Shifted, Sum, add_with_carry, set_nzc, set_nzcv};
-
-/// A register as the first operand, or 0 where there is none.
-pub fn first(n: u32, regs: &Regs) -> u32
-    requires { n < 16 }
-    ensures value { result ≡ first n regs.now }
-{
-    if n == 15 {
-        0
-    } else {
-        regs.get(Place::R(n as u8))
-    }
-}
 
 /// Puts a result into register `d`, if there is one.
 fn put_if(d: u32, x: u32, regs: &mut Regs)
@@ -79,7 +67,7 @@ fn operate(name: DataName, s: u32, d: u32, x: u32, second: Shifted, regs: &mut R
 pub fn with_constant(i: &T1, regs: &mut Regs)
     ensures regs { regs.new ≡ t1 i.now regs.old }
 {
-    let x = first(i.n.get(), regs);
+    let x = reg_or_zero(i.n.get(), regs);
     let y = expand_imm_c(imm12(i.i.get(), i.i3.get(), i.i8.get()), regs.c);
     operate(i.name, i.s.get(), i.d.get(), x, y, regs);
 }
@@ -88,7 +76,7 @@ pub fn with_constant(i: &T1, regs: &mut Regs)
 pub fn with_register(i: &T2, regs: &mut Regs)
     ensures regs { regs.new ≡ t2 i.now regs.old }
 {
-    let x = first(i.n.get(), regs);
+    let x = reg_or_zero(i.n.get(), regs);
     let m = regs.get(Place::R(i.m.get() as u8));
     let y = imm_shift_c(i.ty.get(), imm5(i.i3.get(), i.i2.get()), m, regs.c);
     operate(i.name, i.s.get(), i.d.get(), x, y, regs);

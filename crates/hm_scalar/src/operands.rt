@@ -1,11 +1,26 @@
-//! The second operands of the rows T1, T2 and T5: constants, and registers that are shifted.
+//! Operands of 32-bit codes: registers, constants, and registers that are shifted.
 
 ghost use Rattle.std.specs.Prelude.{◌≡◌, ◌*◌, ◌<◌};
 ghost use Rattle.hm_thumb.specs.DataRows.{expand_imm_c, imm5, imm12, imm_shift_c, repeats, rrx_c};
+ghost use Rattle.hm_thumb.specs.RegisterRows.{reg_or_zero};
 
 use crate::moves::amount;
+use hm_base::Place;
 use hm_isa::ShiftName;
-use hm_thumb::{ShiftType, Shifted, shift_c};
+use hm_regs::Regs;
+use hm_thumb::{SIGN, ShiftType, Shifted, shift_c};
+
+/// A register, where 15 stands for 0.
+pub fn reg_or_zero(n: u32, regs: &Regs) -> u32
+    requires { n < 16 }
+    ensures value { result ≡ reg_or_zero n regs.now }
+{
+    if n == 15 {
+        0
+    } else {
+        regs.get(Place::R(n as u8))
+    }
+}
 
 /// The bits `i`, `i3` and `i8` one behind another.
 pub fn imm12(i: u32, i3: u32, byte: u32) -> u32
@@ -59,7 +74,7 @@ pub fn expand_imm_c(x: u32, carry: bool) -> Shifted
 fn rrx_c(x: u32, carry: bool) -> Shifted
     ensures value { result ≡ rrx_c x carry }
 {
-    let front = if carry { 0x8000_0000 } else { 0 };
+    let front = if carry { SIGN } else { 0 };
     Shifted {
         result: x / 2 + front,
         carry: x % 2 == 1,

@@ -1,9 +1,10 @@
 //! Shifts by a register, extension, reversal and choice in 32-bit codes.
 
 ghost use Rattle.std.specs.Prelude.{◌≡◌, ℕ, ◌<◌, ◌≤◌};
-ghost use Rattle.hm_thumb.specs.ArithRows.{bits_of, otherwise, put_told, reg_or_zero, t8, t9, t10, t20, wide_shift_of};
+ghost use Rattle.hm_thumb.specs.ArithRows.{bits_of, otherwise, put_told, t8, t9, t10, t20, wide_shift_of};
 
 use crate::bytes::{extended_by, swapped};
+use crate::operands::reg_or_zero;
 use hm_base::Place;
 use hm_isa::{BitsName, SelectName, SwapName, T8, T9, T10, T20, WideShiftName};
 use hm_regs::Regs;
@@ -70,18 +71,6 @@ pub fn reorder(i: &T10, regs: &mut Regs)
 {
     let x = regs.get(Place::R(i.m.get() as u8));
     regs.set(Place::R(i.d.get() as u8), bits_of(i.name, x));
-}
-
-/// A register, where 15 stands for 0.
-fn reg_or_zero(n: u32, regs: &Regs) -> u32
-    requires { n < 16 }
-    ensures value { result ≡ reg_or_zero n regs.now }
-{
-    if n == 15 {
-        0
-    } else {
-        regs.get(Place::R(n as u8))
-    }
 }
 
 /// What the row makes of its second operand.

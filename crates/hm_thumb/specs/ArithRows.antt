@@ -27,7 +27,7 @@ use Rattle.hm_isa.specs.declared.arith.T20.{T20}
 use Rattle.hm_regs.specs.declared.Regs.{Regs}
 use Rattle.hm_thumb.specs.Arithmetic.{extended, inverted, negative, rotated, shift_c}
 use Rattle.hm_thumb.specs.Blocks.{condition_holds}
-use Rattle.hm_thumb.specs.RegisterRows.{extended_by, put, reg, swapped, with_nzc}
+use Rattle.hm_thumb.specs.RegisterRows.{extended_by, put, reg, reg_or_zero, swapped, with_nzc}
 use Rattle.hm_thumb.specs.declared.arithmetic.Shifted.{Shifted}
 use Rattle.hm_thumb.specs.declared.arithmetic.ShiftType.{ShiftType}
 use Rattle.hm_thumb.specs.declared.arithmetic.ShiftType.TheVariants as type
@@ -111,10 +111,6 @@ abbrev pub t11 : T11 → Regs → Regs
 t11 (t11_.Operation i) r = operation_row i r
 t11 (t11_.Accumulate i) r = accumulate_row i r
 t11 (t11_.Long i) r = long_row i r
-
--- register n, where 15 stands for 0
-abbrev pub reg_or_zero : ℕ → Regs → ℕ
-reg_or_zero n r = cond (nat_eq n 15) 0 (reg n r)
 
 abbrev pub otherwise : SelectName → ℕ → ℕ
 otherwise select.Csel y = y

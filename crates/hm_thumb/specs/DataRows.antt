@@ -19,7 +19,7 @@ use Rattle.hm_isa.specs.declared.data.T6.{T6}
 use Rattle.hm_isa.specs.declared.data.T7.{T7}
 use Rattle.hm_regs.specs.declared.Regs.{Regs}
 use Rattle.hm_thumb.specs.Arithmetic.{negative, inverted, bit_is_set, add_with_carry, ror_c, shift_c, sign_extended}
-use Rattle.hm_thumb.specs.RegisterRows.{reg, base_of, put, with_nzc, with_nzcv, amount, sum_of}
+use Rattle.hm_thumb.specs.RegisterRows.{reg, reg_or_zero, base_of, put, with_nzc, with_nzcv, amount, sum_of}
 use Rattle.hm_thumb.specs.declared.arithmetic.Sum.{Sum}
 use Rattle.hm_thumb.specs.declared.arithmetic.Shifted.{Shifted}
 use Rattle.hm_thumb.specs.declared.arithmetic.ShiftType.TheVariants as type
@@ -47,10 +47,6 @@ imm_shift_c ty k x carry =
     else shift_c type.Ror x k carry)))
 
 -- THE ROWS
--- the register n, or 0 where there is none
-abbrev pub first : ℕ → Regs → ℕ
-first n r = cond (nat_eq n 15) 0 (reg n r)
-
 -- register d gets a result, if there is one
 abbrev pub put_if : ℕ → ℕ → Regs → Regs
 put_if d x r = cond (nat_eq d 15) r (put d x r)
@@ -80,7 +76,7 @@ abbrev pub imm12 : ℕ → ℕ → ℕ → ℕ
 imm12 i i3 i8 = i * 2 ^ 11 + i3 * 2 ^ 8 + i8
 
 abbrev pub t1 : T1 → Regs → Regs
-t1 i r = data_row i.name i.s.value i.d.value (first i.n.value r) (expand_imm_c (imm12 i.i.value i.i3.value i.i8.value) r.c) r
+t1 i r = data_row i.name i.s.value i.d.value (reg_or_zero i.n.value r) (expand_imm_c (imm12 i.i.value i.i3.value i.i8.value) r.c) r
 
 -- the bits i3 and i2 one behind another
 abbrev pub imm5 : ℕ → ℕ → ℕ
@@ -88,7 +84,7 @@ imm5 i3 i2 = i3 * 2 ^ 2 + i2
 
 abbrev pub t2 : T2 → Regs → Regs
 t2 i r =
-    data_row i.name i.s.value i.d.value (first i.n.value r) (imm_shift_c i.ty.value (imm5 i.i3.value i.i2.value) (reg i.m.value r) r.c) r
+    data_row i.name i.s.value i.d.value (reg_or_zero i.n.value r) (imm_shift_c i.ty.value (imm5 i.i3.value i.i2.value) (reg i.m.value r) r.c) r
 
 abbrev pub t3 : T3 → Regs → Regs
 t3 i r = put i.d.value (sum_of i.name (base_of i.n.value r) (imm12 i.i.value i.i3.value i.i8.value)).result r
@@ -127,4 +123,4 @@ t6 i r = put i.d.value (bits_with i.name (i.w.value + 1) (field (imm5 i.i3.value
 abbrev pub t7 : T7 → Regs → Regs
 t7 i r =
     let lsb = imm5 i.i3.value i.i2.value in
-    put i.d.value (put_field lsb (i.e.value + 1 - lsb) (first i.n.value r) (reg i.d.value r)) r
+    put i.d.value (put_field lsb (i.e.value + 1 - lsb) (reg_or_zero i.n.value r) (reg i.d.value r)) r
