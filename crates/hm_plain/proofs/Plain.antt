@@ -21,7 +21,7 @@ use Rattle.hm_sched.specs.Schedule.{TickLine, whole_letter, plain_line, plain, p
 use Rattle.hm_state.specs.Start.{start, start_under}
 use Rattle.hm_state.specs.State.{State}
 use Rattle.hm_plain.specs.Ends.{GoesOn, PlainlyEnds}
-use Rattle.hm_plain.specs.Orders.{HasStopped}
+use Rattle.hm_plain.specs.Orders.{HasStopped, plain_end}
 use Rattle.hm_plain.specs.Overlap.{HaltsAfter, KeepsOrder, StopsBetween}
 use Rattle.hm_plain.specs.Sequence.{FaultsAt}
 use Rattle.hm_plain.proofs.Halts.{fault_as, full_as, halted_as, kept, no_acts, reports_going, reports_stop, shown_between}
@@ -186,29 +186,34 @@ retires listing image n t few on =
     on_retired (n - t) t (timed listing image (plain n) t) (plainly listing image n t (n - t) all) on
 
 -- REPORTS
+-- a plain run comes to what the instructions in order come to
+record Tells (x : Timed) (y : InOrder) : Type 0 where
+  report : PlainReport x y
+  ends : x.outcome ≡ Some (plain_end y)
+
 module _ (listing : Listing) (image : List Segment) (n : ℕ) where
-  goes_reports : (x : Timed) → KeepsOrder listing image (plain n) x → x.acts ≡ [] → Goes 0 n x → PlainReport x (in_order listing image n)
+  goes_reports : (x : Timed) → KeepsOrder listing image (plain n) x → x.acts ≡ [] → Goes 0 n x → Tells x (in_order listing image n)
   goes_reports x keeps none h =
       let holds : Holds (thread_program listing (plain n)) (start image) x.config = kept listing image (plain n) x (Some outcome.OutOfTicks) keeps h.outcome in
       let between : x.config.a ≡ 0 = ap (λ (c : Config State). c.a) h.config in
       let done : x.config.n ≡ n = ap (λ (c : Config State). c.n) h.config in
       let shown = shown_between listing image (plain n) x.config holds between in
-      subst (PlainReport x) (sym shown.runs ∙ ap (in_order listing image) done) (reports_going listing image (plain n) x h.outcome none holds between)
+      subst (Tells x) (sym shown.runs ∙ ap (in_order listing image) done) (record { report = reports_going listing image (plain n) x h.outcome none holds between; ends = h.outcome })
 
   -- what stopped the instructions in order within n
-  within : (x : Timed) (k : ℕ) (y : InOrder) → k ≤ n → in_order listing image k ≡ y → HasStopped y → PlainReport x y → PlainReport x (in_order listing image n)
-  within x k y few e stopped h = subst (PlainReport x) (sym (stopped_later listing image k n few (subst HasStopped (sym e) stopped) ∙ e)) h
+  within : (x : Timed) (k : ℕ) (y : InOrder) → k ≤ n → in_order listing image k ≡ y → HasStopped y → Tells x y → Tells x (in_order listing image n)
+  within x k y few e stopped h = subst (Tells x) (sym (stopped_later listing image k n few (subst HasStopped (sym e) stopped) ∙ e)) h
 
   ends_reports : (x : Timed) → KeepsOrder listing image (plain n) x → x.acts ≡ [] → (o : Outcome) → x.outcome ≡ Some o → PlainlyEnds n x.config o
-      → PlainReport x (in_order listing image n)
+      → Tells x (in_order listing image n)
   ends_reports x keeps none outcome.OutOfTicks e p = absurd p
   ends_reports x keeps none (outcome.Halted reason k) e p =
       let h : HaltsAfter (thread_program listing (plain n)) (start image) reason k x.config = kept listing image (plain n) x (Some (outcome.Halted reason k)) keeps e in
       within x k (Halted reason k h.between.order) p (halted_as listing image (plain n) reason k x.config h) tt
-      (reports_stop listing image (plain n) x (outcome.Halted reason k) h.before (why.Halt reason) e none h.between)
+      (record { report = reports_stop listing image (plain n) x (outcome.Halted reason k) h.before (why.Halt reason) e none h.between; ends = e })
   ends_reports x keeps none (outcome.Fault Thread f pc k) e p =
       let h : FaultsAt (thread_program listing (plain n)) (start image) k f pc = kept listing image (plain n) x (Some (outcome.Fault Thread f pc k)) keeps e in
-      within x (k + 1) (Faulted f.kind pc f.addr k) (omega arith) (fault_as listing image (plain n) f pc k h) tt (ap outcome_line e)
+      within x (k + 1) (Faulted f.kind pc f.addr k) (omega arith) (fault_as listing image (plain n) f pc k h) tt (record { report = ap outcome_line e; ends = e })
   ends_reports x keeps none (outcome.Fault Handler f pc k) e p = absurd p
   ends_reports x keeps none (outcome.Fault Entry f pc k) e p = absurd p
   ends_reports x keeps none (outcome.RuleBroken i j r) e p = absurd p
@@ -218,15 +223,23 @@ module _ (listing : Listing) (image : List Segment) (n : ℕ) where
   ends_reports x keeps none (outcome.OutputFull k) e p =
       let h : StopsBetween (thread_program listing (plain n)) (start image) x.config.n why.Full x.config = kept listing image (plain n) x (Some (outcome.OutputFull k)) keeps e in
       let same : k ≡ x.config.n + 1 = p.1 in
+      let ends = e ∙ ap (λ (i : ℕ). Some (outcome.OutputFull i)) same in
       within x (x.config.n + 1) (Full (x.config.n + 1) h.order) (subst (λ (i : ℕ). i ≤ n) same p.0) (full_as listing image (plain n) x.config h) tt
-      (reports_stop listing image (plain n) x (outcome.OutputFull (x.config.n + 1)) x.config.n why.Full (e ∙ ap (λ (i : ℕ). Some (outcome.OutputFull i)) same) none h)
+      (record { report = reports_stop listing image (plain n) x (outcome.OutputFull (x.config.n + 1)) x.config.n why.Full ends none h; ends = ends })
 
-  plain_reports : (x : Timed) → KeepsOrder listing image (plain n) x → x.acts ≡ [] → Plainly 0 n x → PlainReport x (in_order listing image n)
+  plain_reports : (x : Timed) → KeepsOrder listing image (plain n) x → x.acts ≡ [] → Plainly 0 n x → Tells x (in_order listing image n)
   plain_reports x keeps none (inl h) = goes_reports x keeps none h
   plain_reports x keeps none (inr h) = ends_reports x keeps none h.end h.outcome h.plainly
 
-  -- a plain run reports what the instructions in order come to
-  pub reports : PlainReport (timed_out listing image (plain n)) (in_order listing image n)
-  reports =
+  tells : Tells (timed_out listing image (plain n)) (in_order listing image n)
+  tells =
       let t = length (ticks_of (plain n).lines) in
       plain_reports (timed_out listing image (plain n)) (keeps_order listing image (plain n) t) (no_acts listing image (plain n) t) (plainly_out listing image n)
+
+  -- a plain run reports what the instructions in order come to
+  pub reports : PlainReport (timed_out listing image (plain n)) (in_order listing image n)
+  reports = tells.report
+
+  -- and it ends as they do
+  pub plain_ends : (timed_out listing image (plain n)).outcome ≡ Some (plain_end (in_order listing image n))
+  plain_ends = tells.ends

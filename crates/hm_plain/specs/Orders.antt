@@ -2,6 +2,9 @@
 use Rattle.std.specs.Prelude.{◌≡◌, ◌+◌, List}
 use Rattle.hm_base.specs.Image.{Segment}
 use Rattle.hm_codes.specs.Listing.{Listing}
+use Rattle.hm_run.specs.declared.Outcome.{Outcome}
+use Rattle.hm_run.specs.declared.Outcome.TheVariants as outcome
+use Rattle.hm_run.specs.declared.Who.TheVariants.{Thread}
 use Rattle.hm_run.specs.InOrder.{InOrder, Running, Halted, Full, Faulted, in_order}
 
 -- What stopped the instructions in order did so at its own number: instruction k halts, or has no room for its output, as
@@ -18,3 +21,10 @@ HasStopped (Running s) = ⊥
 HasStopped (Halted reason k s) = Unit {0}
 HasStopped (Full k s) = Unit {0}
 HasStopped (Faulted kind pc addr k) = Unit {0}
+
+-- how a plain run of as many ticks ends
+abbrev pub plain_end : InOrder → Outcome
+plain_end (Running s) = outcome.OutOfTicks
+plain_end (Halted reason k s) = outcome.Halted reason k
+plain_end (Full k s) = outcome.OutputFull k
+plain_end (Faulted kind pc addr k) = outcome.Fault Thread (record { kind = kind; addr = addr }) pc k

@@ -25,12 +25,13 @@ ghost use Rattle.hm_state.specs.State.{State};
 ghost use Rattle.hm_plain.specs.Readings.{ShownAlike, ShownInOrder};
 ghost use Rattle.hm_plain.specs.Sequence.{StopsFrom, FaultsAt};
 ghost use Rattle.hm_plain.specs.Ends.{GoesOn, HasEnded};
-ghost use Rattle.hm_plain.specs.Orders.{HasStopped, StaysStopped};
+ghost use Rattle.hm_plain.specs.Orders.{HasStopped, StaysStopped, plain_end};
 ghost use Rattle.hm_plain.specs.Overlap.{KeepsOrder};
 
-/// A run of n plain ticks reports what the first n instructions in order come to; of a fault the first line.
+/// A run of n plain ticks ends as the first n instructions in order come to, and reports that; of a fault the first line.
 pub fn plain_in_order()
     ensures report { (listing : Listing) (image : List Segment) (n : ℕ) → PlainReport (timed_out listing image (plain n)) (in_order listing image n) }
+    ensures ends { (listing : Listing) (image : List Segment) (n : ℕ) → (timed_out listing image (plain n)).outcome ≡ Some (plain_end (in_order listing image n)) }
     // While it goes on each tick retires one instruction.
     ensures retired { (listing : Listing) (image : List Segment) (n t : ℕ) → t ≤ n → GoesOn (timed listing image (plain n) t).outcome
         → ((timed listing image (plain n) t).config.n ≡ t) × ((timed listing image (plain n) t).config.a ≡ 0) }
