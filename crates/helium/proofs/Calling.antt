@@ -4,7 +4,7 @@ use Rattle.std.proofs.lemmas.List.{append-nil, map-append}
 use Rattle.hm_host.specs.Host.{Call, Made, answered, failed, Becomes, Turns, Makes}
 use Rattle.hm_host.specs.declared.host.HostErr.{HostErr}
 use Rattle.hm_host.specs.declared.host.HostErr.TheVariants.{Failed, TooLarge, OutOfMemory}
-use Rattle.helium.specs.Calls.{with_calls, MadeSome, MadeToFault, Way, to_end, to_fault, to_memory, answer_way, MakesCalls}
+use Rattle.helium.specs.Calls.{with_calls, MadeSome, MadeToFault, Way, to_end, to_fault, to_memory, answer_way, MakesCalls, MakesAll}
 
 with_calls-append : (a b : List Call) (made : List Made) → with_calls (a ++ b) made ≡ with_calls b (with_calls a made)
 with_calls-append a b made = ap (λ (m : List Made). made ++ m) (map-append answered a b) ∙ sym (append_assoc made (map answered a) (map answered b))
@@ -22,6 +22,20 @@ one_made call old new (Err OutOfMemory) h = elim h [
   | inl untold ↦ inl untold
   | inr told ↦ inr (λ made is. (made ++ answered call ∷ [], told made is, record { done = call ∷ []; left = []; parts_are = refl; made_are = refl }))
 ]
+
+-- one call, in which memory ran out
+pub one_spent : {T : Type 0} (call : Call) (old new : Option (List Made)) (result : Result T HostErr) → Makes call old new result → result ≡ Err OutOfMemory → MakesAll (call ∷ []) old new
+one_spent call old new (Ok x) h is = absurd cc
+one_spent call old new (Err Failed) h is = absurd cc
+one_spent call old new (Err TooLarge) h is = absurd cc
+one_spent call old new (Err OutOfMemory) h is = λ made all told still. elim h [
+  | inl untold ↦ (let no : None ≡ Some all = sym untold ∙ still in absurd cc)
+  | inr becomes ↦ (let same : Some all ≡ Some (made ++ answered call ∷ []) = sym still ∙ becomes made told in let one : all ≡ made ++ answered call ∷ [] = cc in one)
+]
+
+-- all the first calls were made, and all the rest
+pub all_after : (first rest : List Call) (old mid new : Option (List Made)) → Becomes (with_calls first) old mid → MakesAll rest mid new → MakesAll (first ++ rest) old new
+all_after first rest old mid new before h = λ made all told still. h (with_calls first made) all (before made told) still ∙ sym (with_calls-append first rest made)
 
 some_after : (first rest : List Call) (old mid new : List Made) → mid ≡ with_calls first old → MadeSome rest mid new → MadeSome (first ++ rest) old new
 some_after first rest old mid new is h = record {

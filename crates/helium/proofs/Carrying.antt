@@ -11,9 +11,9 @@ use Rattle.helium.specs.Words.{Form, reads_of}
 use Rattle.helium.specs.Commands.{outcome_of}
 use Rattle.helium.specs.declared.work.Refusal.TheVariants.{FileTooLarge}
 use Rattle.helium.specs.Work.{refuses}
-use Rattle.helium.specs.Calls.{read_calls, write_calls, print_calls, with_calls, to_end, to_fault, to_memory, way_of, answer_way, MakesCalls}
-use Rattle.helium.specs.Effect.{Effect, Reading, whole, too_large, missing, reading_of, reads_for, effect_after, effect_for, calls_for, ButForFile, IsDone, Carries, Does, failure_of, IsComplete, WritesFile, PrintsText}
-use Rattle.helium.proofs.Calling.{made_after, fault_before, memory_before}
+use Rattle.helium.specs.Calls.{read_calls, write_calls, print_calls, with_calls, to_end, to_fault, to_memory, way_of, answer_way, MakesCalls, MakesAll}
+use Rattle.helium.specs.Effect.{Effect, Reading, whole, too_large, missing, reading_of, reads_for, effect_after, effect_for, calls_for, ButForFile, IsDone, Carries, Does, StaysOrMakesAll, failure_of, refused_line, IsComplete, WritesFile, PrintsText}
+use Rattle.helium.proofs.Calling.{made_after, fault_before, memory_before, all_after}
 
 -- the effect is carried out after calls that left the files and the printed bytes
 IsDone-after : (e : Effect) (old mid new : HostState) (s : Status) → Stays old.files mid.files → Stays old.printed mid.printed → mid.faults ≡ old.faults → IsDone e mid new s → IsDone e old new s
@@ -51,6 +51,31 @@ ButForFile-same : (file : Option (List ℕ × List ℕ)) (F : FileMap) → ButFo
 ButForFile-same None F = refl
 ButForFile-same (Some file) F = λ other ne. refl
 
+-- ---- where memory ran out
+
+-- of an effect without a file
+pub stays_spent : (done : Status) (text : Option (List ℕ)) (old new : HostState) (s : Status) → Carries (record { status = done; file = None; text = text }) old new s → s ≡ NoMemory → Stays old.files new.files
+stays_spent done text old new s h is = elim (subst (Carries (record { status = done; file = None; text = text }) old new) is h).files [ inl stays ↦ stays | inr same ↦ same ]
+
+pub spent_after : (first rest : List Call) (old mid new : HostState) → Stays old.files mid.files → Becomes (with_calls first) old.calls mid.calls → StaysOrMakesAll rest mid new → StaysOrMakesAll (first ++ rest) old new
+spent_after first rest old mid new files calls h = elim h [
+  | inl stays ↦ inl (λ F is. stays F (files F is))
+  | inr all ↦ inr (all_after first rest old.calls mid.calls new.calls calls all)
+]
+
+pub spent_write : (e : HostErr) (file : Option (List ℕ × List ℕ)) (calls : List Call) (old new : HostState) → WritesFile {T = ℕ} file old new (Err e) → failure_of e ≡ NoMemory → StaysOrMakesAll calls old new
+spent_write Failed file calls old new h is = (let no : HostFault ≡ NoMemory = is in absurd cc)
+spent_write TooLarge file calls old new h is = absurd h
+spent_write OutOfMemory file calls old new h is = inl h
+
+pub spent_print : (e : HostErr) (first : List Call) (text : Option (List ℕ)) (old mid new : HostState) → Becomes (with_calls first) old.calls mid.calls → PrintsText {T = ℕ} text mid new (Err e)
+    → (e ≡ OutOfMemory → MakesAll (print_calls text) mid.calls new.calls) → failure_of e ≡ NoMemory → StaysOrMakesAll (first ++ print_calls text) old new
+spent_print Failed first text old mid new before h all is = (let no : HostFault ≡ NoMemory = is in absurd cc)
+spent_print TooLarge first text old mid new before h all is = absurd h
+spent_print OutOfMemory first text old mid new before h all is = inr (all_after first (print_calls text) old.calls mid.calls new.calls before (all refl))
+
+-- ---- forms
+
 -- memory ran out before the effect
 pub Does-no_memory : (listings : List Segment → Listing) (form : Form) (old new : HostState) → Stays old.files new.files → Stays old.printed new.printed → new.faults ≡ old.faults
     → ((F : FileMap) → old.files ≡ Some F → MakesCalls (read_calls F (reads_of form)) old.calls new.calls to_memory) → Does listings (Some form) old new NoMemory
@@ -59,6 +84,7 @@ Does-no_memory listings form old new files printed same calls = record {
   told = told_reading-told old.files (reads_for (Some form));
   carries = record { faults = same; files = inl files; printed = printed };
   makes = λ F is. memory_before (read_calls F (reads_of form)) _ old.calls new.calls (calls F is);
+  spent = λ F is wanted. inl files;
 }
 
 -- a read failed
@@ -71,28 +97,33 @@ Does-fault listings form old new files printed rose calls =
       told = told_reading-told old.files (reads_for (Some form));
       carries = (rose, inl (record { files = λ F is. (F, files F is, ButForFile-same (effect_after listings (Some form) reading).file F); printed = printed }));
       makes = λ F is. fault_before (read_calls F (reads_of form)) _ old.calls new.calls (calls F is);
+      spent = λ F is wanted. absurd cc;
     }
 
 -- the reads gave this, and then the effect was carried out
 Does-after : (listings : List Segment → Listing) (form : Form) (old mid new : HostState) (s : Status) (reading : Reading) → ((F : FileMap) → old.files ≡ Some F → reading_of F (reads_of form) ≡ reading)
     → Stays old.files mid.files → Stays old.printed mid.printed → mid.faults ≡ old.faults → ((F : FileMap) → old.files ≡ Some F → Becomes (with_calls (read_calls F (reads_of form))) old.calls mid.calls)
-    → Carries (effect_after listings (Some form) reading) mid new s → MakesCalls (calls_for (effect_after listings (Some form) reading)) mid.calls new.calls (way_of s) → Does listings (Some form) old new s
-Does-after listings form old mid new s reading told files printed same calls h rest = record {
+    → Carries (effect_after listings (Some form) reading) mid new s → MakesCalls (calls_for (effect_after listings (Some form) reading)) mid.calls new.calls (way_of s)
+    → (s ≡ NoMemory → StaysOrMakesAll (calls_for (effect_after listings (Some form) reading)) mid new) → Does listings (Some form) old new s
+Does-after listings form old mid new s reading told files printed same calls h rest all = record {
   reading = reading;
   told = λ F is. sym (told F is);
   carries = Carries-after (effect_after listings (Some form) reading) old mid new s files printed same h;
   makes = λ F is. made_after (read_calls F (reads_of form)) (calls_for (effect_after listings (Some form) reading)) old.calls mid.calls new.calls (way_of s) (calls F is) rest;
+  spent = λ F is wanted. spent_after (read_calls F (reads_of form)) (calls_for (effect_after listings (Some form) reading)) old mid new files (calls F is) (all wanted);
 }
 
 pub Does-ok : (listings : List Segment → Listing) (form : Form) (old mid new : HostState) (s : Status) (contents : List (List ℕ)) → ((F : FileMap) → old.files ≡ Some F → reading_of F (reads_of form) ≡ whole contents)
     → Stays old.files mid.files → Stays old.printed mid.printed → mid.faults ≡ old.faults → ((F : FileMap) → old.files ≡ Some F → Becomes (with_calls (read_calls F (reads_of form))) old.calls mid.calls)
-    → Carries (effect_for (outcome_of listings form contents)) mid new s → MakesCalls (calls_for (effect_for (outcome_of listings form contents))) mid.calls new.calls (way_of s) → Does listings (Some form) old new s
-Does-ok listings form old mid new s contents told files printed same calls h rest = Does-after listings form old mid new s (whole contents) told files printed same calls h rest
+    → Carries (effect_for (outcome_of listings form contents)) mid new s → MakesCalls (calls_for (effect_for (outcome_of listings form contents))) mid.calls new.calls (way_of s)
+    → (s ≡ NoMemory → StaysOrMakesAll (calls_for (effect_for (outcome_of listings form contents))) mid new) → Does listings (Some form) old new s
+Does-ok listings form old mid new s contents told files printed same calls h rest all = Does-after listings form old mid new s (whole contents) told files printed same calls h rest all
 
 pub Does-too_large : (listings : List Segment → Listing) (form : Form) (old mid new : HostState) (s : Status) → ((F : FileMap) → old.files ≡ Some F → reading_of F (reads_of form) ≡ too_large)
     → Stays old.files mid.files → Stays old.printed mid.printed → mid.faults ≡ old.faults → ((F : FileMap) → old.files ≡ Some F → Becomes (with_calls (read_calls F (reads_of form))) old.calls mid.calls)
     → Carries (effect_for (refuses FileTooLarge)) mid new s → MakesCalls (calls_for (effect_for (refuses FileTooLarge))) mid.calls new.calls (way_of s) → Does listings (Some form) old new s
-Does-too_large listings form old mid new s told files printed same calls h rest = Does-after listings form old mid new s too_large told files printed same calls h rest
+Does-too_large listings form old mid new s told files printed same calls h rest =
+    Does-after listings form old mid new s too_large told files printed same calls h rest (λ wanted. inl (stays_spent Refused (Some (refused_line FileTooLarge)) mid new s h wanted))
 
 -- ---- the calls of an effect
 

@@ -1,5 +1,5 @@
 -- The headline of a run, by what the top call carries out.
-use Rattle.std.proofs.Common.{◌≡◌, ◌⊎◌, ◌<◌, ◌≤◌, ◌+◌, ◌%◌, ◌^◌, ℕ, List, [], ◌∷◌, ◌++◌, length, get_or, Option, Some, None, Result, Ok, refl, sym, ap, subst, ◌∙◌, inl, inr, arith, nat_eq}
+use Rattle.std.proofs.Common.{◌≡◌, ◌⊎◌, ◌<◌, ◌≤◌, ◌+◌, ◌%◌, ◌^◌, ℕ, Bool, List, [], ◌∷◌, ◌++◌, length, get_or, Option, Some, None, Result, Ok, refl, sym, ap, subst, ◌∙◌, inl, inr, arith, nat_eq}
 use Rattle.std.specs.Prelude.{option_map, if◌then◌else◌}
 use Rattle.std.proofs.lemmas.Bool.Decides.{nat_tests}
 use Rattle.std.specs.FinMap.{get, insert}
@@ -7,23 +7,28 @@ use Rattle.hm_base.specs.Image.{Segment, flat, flash_byte}
 use Rattle.hm_codes.specs.Listing.{Listing, IsListing}
 use Rattle.hm_codes.proofs.Unique.{fetched_one}
 use Rattle.hm_host.specs.Host.{FileMap, HostState, longest}
+use Rattle.hm_plain.specs.Orders.{plain_end}
 use Rattle.hm_plain.proofs.Halts.{headline_all, riders_all}
-use Rattle.hm_run.specs.Report.{report_text, memory_text}
+use Rattle.hm_plain.proofs.Plain.{reports, plain_ends}
+use Rattle.hm_run.specs.declared.Outcome.{Outcome}
+use Rattle.hm_run.specs.Headline.{PlainReport}
+use Rattle.hm_run.specs.InOrder.{InOrder, Running, Halted, Full, Faulted, in_order, in_order_report}
+use Rattle.hm_run.specs.Report.{outcome_line, report_text, memory_text}
 use Rattle.hm_run.specs.Timed.{Timed, timed_out}
 use Rattle.hm_state.specs.Start.{reset_pc}
 use Rattle.helium.specs.declared.status.Status.{Status}
 use Rattle.helium.specs.declared.status.Status.TheVariants.{Done, Ended, Usage, Refused, HostFault, NoMemory}
 use Rattle.helium.specs.declared.work.Refusal.TheVariants.{Reset}
-use Rattle.helium.specs.Commands.{AreListings, reported, run_outcome, unless_refused}
-use Rattle.helium.specs.Effect.{whole, then_read, reading_of, reads_for, effect, effect_after, effect_for, Carries, Does}
-use Rattle.hm_sched.specs.Schedule.{Sched, ticks_of}
+use Rattle.helium.specs.Commands.{AreListings, reported, told, run_outcome, unless_refused}
+use Rattle.helium.specs.Effect.{Effect, whole, then_read, reading_of, reads_for, effect, effect_after, effect_for, with_file, with_text, Carries, Does}
+use Rattle.hm_sched.specs.Schedule.{Sched, plain, ticks_of}
 use Rattle.hm_sched.specs.declared.errors.SchedErr.{SchedErr}
 use Rattle.hm_sched.proofs.FileLaws.{file_again}
-use Rattle.helium.specs.Headline.{IsGiven, IsReported, RunsToHeadline}
+use Rattle.helium.specs.Headline.{IsGiven, IsReported, RunsToHeadline, IsShownInOrder, RunsInOrder, has_halted}
 use Rattle.helium.specs.Image.{image_refusal}
-use Rattle.helium.specs.Run.{is_halted, reset_refusal, schedule_in}
-use Rattle.helium.specs.Words.{Form, Source, ticks, file, run, form_of, reads_of}
-use Rattle.helium.proofs.Decimals.{form_of-run}
+use Rattle.helium.specs.Run.{is_fault, is_halted, short_report, reset_refusal, schedule_in}
+use Rattle.helium.specs.Words.{Form, Source, ticks, file, run, seq, form_of, reads_of}
+use Rattle.helium.proofs.Decimals.{form_of-run, form_of-seq}
 use Rattle.helium.proofs.Listed.{some_listings}
 use Rattle.helium.proofs.Runs.{reset_refusal-odd, run_refusal-none}
 
@@ -37,6 +42,9 @@ accepted_short bytes h = grind (arith, nat_tests)
 then_read-whole : (bytes : List ℕ) (more : List (List ℕ)) → length bytes ≤ longest → then_read (Some bytes) (whole more) ≡ whole (bytes ∷ more)
 then_read-whole bytes more fits = grind (arith, nat_tests)
 
+read_one : (F : FileMap) (name bytes : List ℕ) → get F name ≡ Some bytes → length bytes ≤ longest → reading_of F (name ∷ []) ≡ whole (bytes ∷ [])
+read_one F name bytes image fits = ap (λ (o : Option (List ℕ)). then_read o (whole [])) image ∙ then_read-whole bytes [] fits
+
 -- what is read for a run whose schedule is given: its image and perhaps its schedule
 record ReadFor (F : FileMap) (name bytes memory : List ℕ) (source : Source) (s : Sched) : Type 0 where
   more : List (List ℕ)
@@ -46,7 +54,7 @@ record ReadFor (F : FileMap) (name bytes memory : List ℕ) (source : Source) (s
 read_for : (F : FileMap) (name bytes memory : List ℕ) (source : Source) (s : Sched) → get F name ≡ Some bytes → length bytes ≤ longest → IsGiven F source s → ReadFor F name bytes memory source s
 read_for F name bytes memory (ticks n) s image fits given = record {
   more = [];
-  reading = ap (λ (o : Option (List ℕ)). then_read o (whole [])) image ∙ then_read-whole bytes [] fits;
+  reading = read_one F name bytes image fits;
   schedule = ap (λ (s : Sched). Ok s) (sym given);
 }
 read_for F name bytes memory (file other) s image fits given = record {
@@ -68,23 +76,23 @@ effect-run listings words F name bytes memory source s asked read accepted odd =
     ∙ ap (λ (r : Result Sched SchedErr). effect_for (run_outcome listings bytes r memory)) read.schedule
     ∙ ap (λ o. effect_for (unless_refused o (reported (timed_out (listings (flat bytes)) (flat bytes) s) memory))) (run_refusal-none bytes s accepted (reset_refusal-odd (flat bytes) odd))
 
--- what a run to the value x leaves
-record Left (x : Timed) (F : FileMap) (P memory : List ℕ) (new : HostState) (s : Status) : Type 0 where
-  printed : new.printed ≡ Some (P ++ report_text x)
-  files : new.files ≡ Some (insert F memory (memory_text x))
-  ends : s ≡ (if is_halted x.outcome then Done else Ended)
+-- what an effect that was done leaves
+record Left (e : Effect) (F : FileMap) (P : List ℕ) (new : HostState) (s : Status) : Type 0 where
+  printed : new.printed ≡ Some (with_text e.text P)
+  files : new.files ≡ Some (with_file e.file F)
+  ends : s ≡ e.status
 
-left : (x : Timed) (F : FileMap) (P memory : List ℕ) (old new : HostState) (s : Status) → Carries (effect_for (reported x memory)) old new s
-    → old.files ≡ Some F → old.printed ≡ Some P → new.faults ≡ old.faults → new.faults + 1 < 2 ^ 64 → (s ≡ NoMemory) ⊎ Left x F P memory new s
-left x F P memory old new Done h files printed same last = inr (record { printed = h.printed P printed; files = h.files F files; ends = sym h.status_is })
-left x F P memory old new Ended h files printed same last = inr (record { printed = h.printed P printed; files = h.files F files; ends = sym h.status_is })
-left x F P memory old new Usage h files printed same last = inr (record { printed = h.printed P printed; files = h.files F files; ends = sym h.status_is })
-left x F P memory old new Refused h files printed same last = inr (record { printed = h.printed P printed; files = h.files F files; ends = sym h.status_is })
-left x F P memory old new HostFault h files printed same last = absurd (let rose : _ = h.0 in omega arith)
-left x F P memory old new NoMemory h files printed same last = inl refl
+left : (e : Effect) (F : FileMap) (P : List ℕ) (old new : HostState) (s : Status) → Carries e old new s
+    → old.files ≡ Some F → old.printed ≡ Some P → new.faults ≡ old.faults → new.faults + 1 < 2 ^ 64 → (s ≡ NoMemory) ⊎ Left e F P new s
+left e F P old new Done h files printed same last = inr (record { printed = h.printed P printed; files = h.files F files; ends = sym h.status_is })
+left e F P old new Ended h files printed same last = inr (record { printed = h.printed P printed; files = h.files F files; ends = sym h.status_is })
+left e F P old new Usage h files printed same last = inr (record { printed = h.printed P printed; files = h.files F files; ends = sym h.status_is })
+left e F P old new Refused h files printed same last = inr (record { printed = h.printed P printed; files = h.files F files; ends = sym h.status_is })
+left e F P old new HostFault h files printed same last = absurd (let rose : _ = h.0 in omega arith)
+left e F P old new NoMemory h files printed same last = inl refl
 
 reported_by : (listing : Listing) (F : FileMap) (P bytes memory : List ℕ) (s : Sched) (new : HostState) (status : Status) → IsListing (flash_byte (flat bytes)) listing
-    → Left (timed_out listing (flat bytes) s) F P memory new status → IsReported F P bytes memory s new status
+    → Left (effect_for (reported (timed_out listing (flat bytes) s) memory)) F P new status → IsReported F P bytes memory s new status
 reported_by listing F P bytes memory s new status is h = record {
   report = report_text (timed_out listing (flat bytes) s);
   file = memory_text (timed_out listing (flat bytes) s);
@@ -114,7 +122,7 @@ headline_of words form old new status same does = λ F P name bytes memory s h.
     let read = read_for F name bytes memory h.source s sound.image (accepted_short bytes sound.accepted) h.given in
     let is = effect-run listings words F name bytes memory h.source s (form_of-run words name h.source memory h.asked) read sound.accepted sound.odd in
     let done = carries_effect listings form words old new status F (does listings some_listings.1) same sound.files in
-    elim (left x F P memory old new status (subst (λ e. Carries e old new status) is done) sound.files sound.printed sound.no_fault sound.not_last) [
+    elim (left (effect_for (reported x memory)) F P old new status (subst (λ e. Carries e old new status) is done) sound.files sound.printed sound.no_fault sound.not_last) [
       | inl wanted ↦ inl wanted
       | inr left ↦ inr (reported_by (listings (flat bytes)) F P bytes memory s new status (some_listings.1.at (flat bytes)) left)
     ]
@@ -123,4 +131,59 @@ headline_of words form old new status same does = λ F P name bytes memory s h.
 pub headline_of_none : (words : List (List ℕ)) (old new : HostState) (status : Status) → None ≡ form_of words → RunsToHeadline words old new status
 headline_of_none words old new status none = λ F P name bytes memory s h.
     let asked : None ≡ Some (run name h.source memory) = none ∙ form_of-run words name h.source memory h.asked in
+    cc
+
+-- ---- instructions in order
+
+-- what a plain run shows, of a fault the first line, is what the instructions in order come to
+shown_in_order : (x : Timed) (y : InOrder) → PlainReport x y → x.outcome ≡ Some (plain_end y) → short_report x ≡ in_order_report y
+shown_in_order x (Running s) report ends = ap (λ (o : Option Outcome). if is_fault o then outcome_line o else report_text x) ends ∙ report
+shown_in_order x (Halted reason k s) report ends = ap (λ (o : Option Outcome). if is_fault o then outcome_line o else report_text x) ends ∙ report
+shown_in_order x (Full k s) report ends = ap (λ (o : Option Outcome). if is_fault o then outcome_line o else report_text x) ends ∙ report
+shown_in_order x (Faulted kind pc addr k) report ends = ap (λ (o : Option Outcome). if is_fault o then outcome_line o else report_text x) ends
+
+halted_in_order : (x : Timed) (y : InOrder) → x.outcome ≡ Some (plain_end y) → is_halted x.outcome ≡ has_halted y
+halted_in_order x (Running s) ends = ap is_halted ends
+halted_in_order x (Halted reason k s) ends = ap is_halted ends
+halted_in_order x (Full k s) ends = ap is_halted ends
+halted_in_order x (Faulted kind pc addr k) ends = ap is_halted ends
+
+effect-seq : (listings : List Segment → Listing) (words : List (List ℕ)) (F : FileMap) (name bytes : List ℕ) (n : ℕ)
+    → form_of words ≡ Some (seq name n) → get F name ≡ Some bytes → image_refusal bytes ≡ None → reset_pc (flat bytes) % 2 ≡ 1
+    → effect listings words F ≡ effect_for (told (timed_out (listings (flat bytes)) (flat bytes) (plain n)))
+effect-seq listings words F name bytes n asked image accepted odd =
+    ap (λ o. effect_after listings o (reading_of F (reads_for o))) asked
+    ∙ ap (effect_after listings (Some (seq name n))) (read_one F name bytes image (accepted_short bytes accepted))
+    ∙ ap (λ o. effect_for (unless_refused o (told (timed_out (listings (flat bytes)) (flat bytes) (plain n))))) (run_refusal-none bytes (plain n) accepted (reset_refusal-odd (flat bytes) odd))
+
+shown_by : (listing : Listing) (F : FileMap) (P bytes : List ℕ) (n : ℕ) (new : HostState) (status : Status) → IsListing (flash_byte (flat bytes)) listing
+    → Left (effect_for (told (timed_out listing (flat bytes) (plain n)))) F P new status → IsShownInOrder F P bytes n new status
+shown_by listing F P bytes n new status is h = record {
+  printed = λ other are.
+      let same = listing_one (flash_byte (flat bytes)) listing other is are in
+      h.printed ∙ ap (λ l. Some (P ++ short_report (timed_out l (flat bytes) (plain n)))) same
+      ∙ ap (λ (text : List ℕ). Some (P ++ text)) (shown_in_order (timed_out other (flat bytes) (plain n)) (in_order other (flat bytes) n) (reports other (flat bytes) n) (plain_ends other (flat bytes) n));
+  files = h.files;
+  ends = λ other are.
+      let same = listing_one (flash_byte (flat bytes)) listing other is are in
+      h.ends ∙ ap (λ l. if is_halted (timed_out l (flat bytes) (plain n)).outcome then Done else Ended) same
+      ∙ ap (λ (halted : Bool). if halted then Done else Ended) (halted_in_order (timed_out other (flat bytes) (plain n)) (in_order other (flat bytes) n) (plain_ends other (flat bytes) n));
+}
+
+pub order_of : (words : List (List ℕ)) (form : Option Form) (old new : HostState) (status : Status) → form ≡ form_of words
+    → ((listings : List Segment → Listing) → AreListings listings → Does listings form old new status) → RunsInOrder words old new status
+order_of words form old new status same does = λ F P name bytes n h.
+    let listings = some_listings.0 in
+    let x = timed_out (listings (flat bytes)) (flat bytes) (plain n) in
+    let sound = h.sound in
+    let is = effect-seq listings words F name bytes n (form_of-seq words name n h.asked) sound.image sound.accepted sound.odd in
+    let done = carries_effect listings form words old new status F (does listings some_listings.1) same sound.files in
+    elim (left (effect_for (told x)) F P old new status (subst (λ e. Carries e old new status) is done) sound.files sound.printed sound.no_fault sound.not_last) [
+      | inl wanted ↦ inl wanted
+      | inr left ↦ inr (shown_by (listings (flat bytes)) F P bytes n new status (some_listings.1.at (flat bytes)) left)
+    ]
+
+pub order_of_none : (words : List (List ℕ)) (old new : HostState) (status : Status) → None ≡ form_of words → RunsInOrder words old new status
+order_of_none words old new status none = λ F P name bytes n h.
+    let asked : None ≡ Some (seq name n) = none ∙ form_of-seq words name n h.asked in
     cc

@@ -1,4 +1,3 @@
-pub mod Numbers
 pub mod Decimals
 pub mod Calling
 pub mod Readings

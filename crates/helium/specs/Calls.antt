@@ -71,3 +71,7 @@ abbrev pub MakesCalls : List Call → Option (List Made) → Option (List Made) 
 MakesCalls calls old new to_end = Becomes (with_calls calls) old new
 MakesCalls calls old new to_fault = Turns (MadeToFault calls) old new
 MakesCalls calls old new to_memory = (new ≡ None) ⊎ Turns (MadeSome calls) old new
+
+-- all these calls were made, where they are told still
+abbrev pub MakesAll : List Call → Option (List Made) → Option (List Made) → Type 0
+MakesAll calls old new = (before after : List Made) → old ≡ Some before → new ≡ Some after → after ≡ with_calls calls before

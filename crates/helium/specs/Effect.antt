@@ -13,7 +13,7 @@ use Rattle.helium.specs.declared.work.Refusal.TheVariants.{FileTooLarge}
 use Rattle.helium.specs.Work.{Outcome, finishes, refuses, refusal_text}
 use Rattle.helium.specs.Words.{Form, form_of, reads_of}
 use Rattle.helium.specs.Commands.{outcome_of}
-use Rattle.helium.specs.Calls.{read_calls, write_calls, print_calls, way_of, MakesCalls}
+use Rattle.helium.specs.Calls.{read_calls, write_calls, print_calls, way_of, MakesCalls, MakesAll}
 
 -- the number of a status
 abbrev pub code_of : Status → ℕ
@@ -149,12 +149,17 @@ Carries effect old new NoMemory = IsOutOfMemory effect old new
 abbrev pub Completes : Effect → HostState → HostState → Status → Type 0
 Completes effect old new status = (status ≡ NoMemory) ⊎ IsDone effect old new status
 
+-- no file was touched, or all these calls were made
+abbrev pub StaysOrMakesAll : List Call → HostState → HostState → Type 0
+StaysOrMakesAll calls old new = Stays old.files new.files ⊎ MakesAll calls old.calls new.calls
+
 -- a form's effect is carried out, by what the reads gave: where the files are told, what they hold
 pub record Does (listings : List Segment → Listing) (form : Option Form) (old new : HostState) (status : Status) : Type 0 where
   pub reading : Reading
   pub told : (F : FileMap) → old.files ≡ Some F → reading ≡ reading_of F (reads_for form)
   pub carries : Carries (effect_after listings form reading) old new status
   pub makes : (F : FileMap) → old.files ≡ Some F → MakesCalls (read_calls F (reads_for form) ++ calls_for (effect_after listings form reading)) old.calls new.calls (way_of status)
+  pub spent : (F : FileMap) → old.files ≡ Some F → status ≡ NoMemory → StaysOrMakesAll (read_calls F (reads_for form) ++ calls_for (effect_after listings form reading)) old new
 
 -- the status of a host's error
 abbrev pub failure_of : HostErr → Status

@@ -1,10 +1,11 @@
 -- What the top call owes to the instructions in order.
-use Rattle.std.specs.Prelude.{◌≡◌, ◌⊎◌, ℕ, ◌+◌, ◌%◌, ◌^◌, ◌<◌, ◌≤◌, List, ◌++◌, length, Some, None, if◌then◌else◌}
+use Rattle.std.specs.Prelude.{◌≡◌, ◌⊎◌, ℕ, ◌+◌, ◌%◌, ◌^◌, ◌<◌, ◌≤◌, Bool, true, false, List, ◌++◌, length, Some, None, if◌then◌else◌}
 use Rattle.std.specs.FinMap.{get, insert}
 use Rattle.hm_base.specs.Image.{flat, flash_byte}
 use Rattle.hm_codes.specs.Listing.{Listing, IsListing}
 use Rattle.hm_host.specs.Host.{FileMap, HostState, longest}
 use Rattle.hm_run.specs.Headline.{Headline, Riders}
+use Rattle.hm_run.specs.InOrder.{InOrder, Running, Halted, Full, Faulted, in_order, in_order_report}
 use Rattle.hm_run.specs.Timed.{timed_out}
 use Rattle.hm_sched.specs.Schedule.{Sched, plain}
 use Rattle.hm_sched.specs.Written.{IsFile}
@@ -12,7 +13,7 @@ use Rattle.hm_state.specs.Start.{reset_pc}
 use Rattle.helium.specs.declared.status.Status.{Status}
 use Rattle.helium.specs.declared.status.Status.TheVariants.{Done, Ended, NoMemory}
 use Rattle.helium.specs.Image.{image_refusal}
-use Rattle.helium.specs.Run.{is_halted, short_report}
+use Rattle.helium.specs.Run.{is_halted}
 use Rattle.helium.specs.Words.{Source, ticks, file, IsRun, IsSeq}
 
 -- a source gives a schedule: its plain ticks, or what its file, which is there, writes
@@ -53,3 +54,27 @@ abbrev pub RunsToHeadline : List (List ℕ) → HostState → HostState → Stat
 RunsToHeadline words old new status =
     (F : FileMap) (P name bytes memory : List ℕ) (s : Sched) → IsSoundRun words old new F P name bytes memory s
     → (status ≡ NoMemory) ⊎ IsReported F P bytes memory s new status
+
+-- The words ask for n instructions in order of a sound image.
+pub record IsSoundSeq (words : List (List ℕ)) (old new : HostState) (F : FileMap) (P name bytes : List ℕ) (n : ℕ) : Type 0 where
+  pub asked : IsSeq words name n
+  pub sound : IsSound old new F P name bytes
+
+-- whether instructions in order halted
+abbrev pub has_halted : InOrder → Bool
+has_halted (Running s) = false
+has_halted (Halted reason k s) = true
+has_halted (Full k s) = false
+has_halted (Faulted kind pc addr k) = false
+
+-- What n instructions in order come to was printed, of a fault the first line, and no file was touched. The status says whether they halted.
+pub record IsShownInOrder (F : FileMap) (P bytes : List ℕ) (n : ℕ) (new : HostState) (status : Status) : Type 0 where
+  pub printed : (listing : Listing) → IsListing (flash_byte (flat bytes)) listing → new.printed ≡ Some (P ++ in_order_report (in_order listing (flat bytes) n))
+  pub files : new.files ≡ Some F
+  pub ends : (listing : Listing) → IsListing (flash_byte (flat bytes)) listing → status ≡ (if has_halted (in_order listing (flat bytes) n) then Done else Ended)
+
+-- each n such instructions are shown, unless memory was wanted
+abbrev pub RunsInOrder : List (List ℕ) → HostState → HostState → Status → Type 0
+RunsInOrder words old new status =
+    (F : FileMap) (P name bytes : List ℕ) (n : ℕ) → IsSoundSeq words old new F P name bytes n
+    → (status ≡ NoMemory) ⊎ IsShownInOrder F P bytes n new status

@@ -1,6 +1,7 @@
 -- The words of a command, by position.
-use Rattle.std.specs.Prelude.{◌≡◌, ◌≢◌, ℕ, ◌≤◌, ◌+◌, ◌-◌, ◌*◌, List, [], ◌∷◌, Option, Some, None, nat_le, nat_lt, if◌then◌else◌, option_map, codes, bytes_eq, take, drop, ◌++◌}
+use Rattle.std.specs.Prelude.{◌≡◌, ◌≢◌, ℕ, ◌≤◌, List, [], ◌∷◌, Option, Some, None, nat_lt, if◌then◌else◌, option_map, option_and_then, codes, bytes_eq, take, drop, ◌++◌}
 use Rattle.std.specs.Fmt.{decimal}
+use Rattle.hm_text_base.specs.Numbers.{number_in}
 use Rattle.helium.specs.declared.words.Command.{Command}
 use Rattle.helium.specs.declared.words.Command.TheVariants.{Run, Seq}
 use Rattle.helium.specs.declared.words.Source.{Source as HeldSource}
@@ -10,16 +11,13 @@ use Rattle.helium.specs.declared.words.Source.TheVariants.{Plain, File}
 abbrev pub most : ℕ
 most = 16777216
 
--- the number that these digits give after those that gave n: none where one is no digit, or the number passes the largest
-abbrev pub digits_from : ℕ → List ℕ → Option ℕ
-digits_from n [] = Some n
-digits_from n (c ∷ cs) = if nat_lt c 48 then None else (if nat_lt 57 c then None else (if nat_lt most (10 * n + (c - 48)) then None else digits_from (10 * n + (c - 48)) cs))
+-- a number that is not too large
+abbrev pub not_past : ℕ → Option ℕ
+not_past n = if nat_lt most n then None else Some n
 
--- a decimal number without leading zeros
+-- the number that a word gives: one to eight decimal digits without a leading zero
 abbrev pub number_of : List ℕ → Option ℕ
-number_of [] = None
-number_of (c ∷ []) = digits_from 0 (c ∷ [])
-number_of (c ∷ d ∷ cs) = if nat_le c 48 then None else digits_from 0 (c ∷ d ∷ cs)
+number_of word = option_and_then not_past (number_in word)
 
 -- where the schedule of a run comes from: so many ticks of one whole instruction each, or a file
 pub data Source : Type 0 where

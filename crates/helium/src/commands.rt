@@ -1,6 +1,6 @@
 //! What each command comes to, from the bytes of the files that it reads. No command calls the host.
 
-ghost use Rattle.std.specs.Prelude.{◌≡◌, ◌≤◌, ℕ, List, [], Result, Ok, length, map, get_or};
+ghost use Rattle.std.specs.Prelude.{◌≡◌, List, [], Result, Ok, length, map};
 ghost use Rattle.hm_base.specs.Image.{Segment};
 ghost use Rattle.hm_codes.specs.Listing.{Listing};
 ghost use Rattle.hm_sched.specs.Schedule.{Sched, plain};
@@ -8,7 +8,6 @@ ghost use Rattle.hm_sched.specs.ReadFile.{Gives as GivesSchedule};
 ghost use Rattle.hm_sched.specs.declared.errors.SchedErr.{SchedErr};
 ghost use Rattle.helium.specs.Words.{run, source_meant, meant, reads_of};
 ghost use Rattle.helium.specs.Work.{Gives};
-ghost use Rattle.helium.specs.Run.{schedule_in};
 ghost use Rattle.helium.specs.Commands.{AreListings, run_outcome, seq_outcome, outcome_of};
 
 use crate::image::read_image;

@@ -1,9 +1,9 @@
 //! The host's calls of a run: the reads in order, then the write, then the print.
 
-ghost use Rattle.std.specs.Prelude.{◌≡◌, Some, map, option_map, length, vec_len, IfOk};
+ghost use Rattle.std.specs.Prelude.{◌≡◌, Some, Err, map, option_map, length, vec_len, IfOk};
 ghost use Rattle.hm_host.specs.Host.{FileMap, Stays, Counts};
 ghost use Rattle.helium.specs.Work.{output_pair};
-ghost use Rattle.helium.specs.Calls.{MakesCalls, answer_way, read_calls, write_calls, print_calls};
+ghost use Rattle.helium.specs.Calls.{MakesAll, MakesCalls, answer_way, read_calls, write_calls, print_calls};
 ghost use Rattle.helium.specs.Effect.{ReadsAll, WritesFile, PrintsText};
 
 use crate::work::Output;
@@ -63,6 +63,7 @@ pub fn print_text<H: Host>(
     ensures printed { PrintsText (option_map (λ text. text.items) text.now) (H.state host.old) (H.state host.new) result }
     ensures files { Stays (H.state host.old).files (H.state host.new).files }
     ensures calls { MakesCalls (print_calls (option_map (λ text. text.items) text.now)) (H.state host.old).calls (H.state host.new).calls (answer_way result) }
+    ensures spent { result ≡ Err HostErr.OutOfMemory → MakesAll (print_calls (option_map (λ text. text.items) text.now)) (H.state host.old).calls (H.state host.new).calls }
     ensures count { Counts (H.state host.old).faults (H.state host.new).faults result }
 {
     match text {

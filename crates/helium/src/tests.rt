@@ -166,12 +166,14 @@ fn runs_end(rt: HostRuntime) -> Result<(), Fail> {
 fn refuses(rt: HostRuntime) -> Result<(), Fail> {
     let alloc = rt.alloc();
     let long = vec![in alloc; 0; 1_048_577]?;
-    let rows: [(&[u8], &[u8]); 4] = [
+    let too_large = vec![in alloc; 0; 16_777_217]?;
+    let rows: [(&[u8], &[u8]); 5] = [
         (
             b"\x00\x00\x01\x20\x09\x00\x00",
             b"helium: refused image short\n",
         ),
         (&long, b"helium: refused image long\n"),
+        (&too_large, b"helium: refused file too large\n"),
         (b"\x7fELF", b"helium: refused image class\n"),
         (
             b"\x00\x00\x01\x20\x08\x00\x00\x00\x00\xbe",
@@ -224,10 +226,15 @@ fn says_how_it_is_used(rt: HostRuntime) -> Result<(), Fail> {
 /// The head of a schedule with an empty region.
 const HEAD: &[u8] = b"helium-schedule 1\nentries no\nregion 20000000 20000000\nfloor 20000000\n";
 
+/// movs r0,#5; movs r1,#3; vdup.32 q0,r0; vdup.32 q1,r1; vadd.i32 q0,q0,q1; vadd.i32 q2,q1,q1; bkpt #0.
+/// Neither sum reads or writes what the other writes.
+const TWO_SUMS: &[u8] =
+    b"\x00\x00\x01\x20\x09\x00\x00\x00\x05\x20\x03\x21\xa0\xee\x10\x0b\xa2\xee\x10\x1b\x20\xef\x42\x08\x22\xef\x42\x48\x00\xbe";
+
 #[test]
 fn runs_under_files(rt: HostRuntime) -> Result<(), Fail> {
     let alloc = rt.alloc();
-    let rows: [(&[u8], &[u8], Status, &[&[u8]]); 3] = [
+    let rows: [(&[u8], &[u8], Status, &[&[u8]]); 4] = [
         (
             FIRST,
             b"2*W\nO\n",
@@ -247,6 +254,20 @@ fn runs_under_files(rt: HostRuntime) -> Result<(), Fail> {
                 b"q0 00000008 00000008 00000005 00000005",
             ],
         ),
+        // The two sums overlap, and interrupts arrive.
+        (
+            TWO_SUMS,
+            b"4*W\nOO\nOY irq 3 5\nOO\nOO\nO\n",
+            Status::Done,
+            &[
+                b"outcome halted break 0 after 7",
+                b"pc 0000001c",
+                b"position 0 0",
+                b"q0 00000008 00000008 00000008 00000008",
+                b"q1 00000003 00000003 00000003 00000003",
+                b"q2 00000006 00000006 00000006 00000006",
+            ],
+        ),
         // vaddva.u32 r0,q0; vadd.i32 q1,q2,r0: the younger needs what the older has still to write
         (
             b"\x00\x00\x01\x20\x09\x00\x00\x00\xf9\xfe\x20\x0f\x25\xee\x40\x2f\x00\xbe",
@@ -264,6 +285,22 @@ fn runs_under_files(rt: HostRuntime) -> Result<(), Fail> {
         assert_eq!(rt; outside.file("b").ok_or("no file b")?.len(), MEMORY_FILE);
         assert_eq!(rt; outside.calls(), Some(4));
     }
+    Ok(())
+}
+
+#[test]
+fn overlaps_as_in_order(rt: HostRuntime) -> Result<(), Fail> {
+    let alloc = rt.alloc();
+    let mut text = HEAD.to_vec(alloc)?;
+    text.extend_from_slice(b"4*W\nOO\nOY\nOO\nOO\nO\n")?;
+    let mut overlapped = host(alloc, TWO_SUMS, &text, &[])?;
+    assert_eq!(rt; run(alloc, "s", &mut overlapped)?, Status::Done);
+    let mut in_order = host(alloc, TWO_SUMS, b"", &[])?;
+    assert_eq!(rt;
+        obey(alloc, &["seq", "a", "7"], &mut in_order)?,
+        Status::Done
+    );
+    assert_eq!(rt; overlapped.printed(), in_order.printed());
     Ok(())
 }
 
@@ -341,39 +378,50 @@ fn runs_in_order(rt: HostRuntime) -> Result<(), Fail> {
     assert!(rt; has_line(outside.printed(), b"outcome ticks"));
     assert!(rt; has_line(outside.printed(), b"pc 0000000c"));
 
-    // Of a fault the first line alone.
-    let fault = b"\x00\x00\x01\x20\x09\x00\x00\x00\x00\xde";
-    let mut outside = host(alloc, fault, b"", &[])?;
-    assert_eq!(rt;
-        obey(alloc, &["seq", "a", "1"], &mut outside)?,
-        Status::Ended
-    );
-    assert_eq!(rt;
-        outside.printed(),
-        b"outcome fault thread undefined pc 00000008 addr 00000008 after 0\n".as_slice()
-    );
-
-    let mut outside = host(alloc, b"\x00", b"", &[])?;
-    assert_eq!(rt;
-        obey(alloc, &["seq", "a", "1"], &mut outside)?,
-        Status::Refused
-    );
-    assert_eq!(rt;
-        outside.printed(),
-        b"helium: refused image short\n".as_slice()
-    );
+    let long = vec![in alloc; 0; 1_048_577]?;
+    let rows: [(&[u8], Status, &[u8]); 6] = [
+        // Of a fault the first line alone.
+        (
+            b"\x00\x00\x01\x20\x09\x00\x00\x00\x00\xde",
+            Status::Ended,
+            b"outcome fault thread undefined pc 00000008 addr 00000008 after 0\n",
+        ),
+        (
+            b"\x00\x00\x01\x20\xff\xff\x0f\x00",
+            Status::Ended,
+            b"outcome fault thread fetch pc 000ffffe addr 000ffffe after 0\n",
+        ),
+        (b"\x00", Status::Refused, b"helium: refused image short\n"),
+        (&long, Status::Refused, b"helium: refused image long\n"),
+        (
+            b"\x7fELF",
+            Status::Refused,
+            b"helium: refused image class\n",
+        ),
+        (
+            b"\x00\x00\x01\x20\x08\x00\x00\x00\x00\xbe",
+            Status::Refused,
+            b"helium: refused image reset 00000008\n",
+        ),
+    ];
+    for (image, status, text) in rows {
+        let mut outside = host(alloc, image, b"", &[])?;
+        assert_eq!(rt; obey(alloc, &["seq", "a", "1"], &mut outside)?, status);
+        assert_eq!(rt; outside.printed(), text);
+        assert_eq!(rt; outside.calls(), Some(2));
+    }
     Ok(())
 }
 
 #[test]
 fn fails_with_its_host(rt: HostRuntime) -> Result<(), Fail> {
     let alloc = rt.alloc();
-    let rows: [(&[&str], u64); 3] = [
-        (&["run", "a", "s", "b"], 4),
-        (&["run", "a", "plain:1", "b"], 3),
-        (&["seq", "a", "1"], 2),
+    let rows: [(&[&str], u64, bool); 3] = [
+        (&["run", "a", "s", "b"], 4, true),
+        (&["run", "a", "plain:1", "b"], 3, true),
+        (&["seq", "a", "1"], 2, false),
     ];
-    for (texts, calls) in rows {
+    for (texts, calls, writes) in rows {
         for call in 0..calls + 1 {
             let mut outside = host(alloc, FIRST, HEAD, &[call])?;
             let status = obey(alloc, texts, &mut outside)?;
@@ -388,6 +436,10 @@ fn fails_with_its_host(rt: HostRuntime) -> Result<(), Fail> {
             assert_eq!(rt; outside.printed().is_empty(), fails);
             let made = if fails { call + 1 } else { calls };
             assert_eq!(rt; outside.calls(), Some(made as usize));
+            // The file stands whole from the call before the last on.
+            let size = outside.file("b").map(|bytes| bytes.len());
+            let whole = writes && call + 1 >= calls;
+            assert_eq!(rt; size, if whole { Some(MEMORY_FILE) } else { None });
         }
     }
     Ok(())

@@ -1,14 +1,14 @@
 //! The top call: words, reads, the command, the written file, the print.
 
-ghost use Rattle.std.specs.Prelude.{◌≡◌, ◌<◌, ◌+◌, ◌++◌, ◌^◌, List, ℕ, Some, None, map, option_map, string_bytes, IfOk};
+ghost use Rattle.std.specs.Prelude.{◌≡◌, ◌<◌, ◌+◌, ◌++◌, ◌^◌, List, Some, None, map, option_map, string_bytes, IfOk};
 ghost use Rattle.hm_base.specs.Image.{Segment};
 ghost use Rattle.hm_codes.specs.Listing.{Listing};
 ghost use Rattle.helium.specs.Commands.{AreListings};
-ghost use Rattle.helium.specs.Headline.{RunsToHeadline};
+ghost use Rattle.helium.specs.Headline.{RunsInOrder, RunsToHeadline};
 ghost use Rattle.hm_host.specs.Host.{FileMap, Rose, Stays};
 ghost use Rattle.helium.specs.Words.{form_of, meant};
 ghost use Rattle.helium.specs.Work.{Outcome, Gives, output_pair, refuses};
-ghost use Rattle.helium.specs.Effect.{Carries, Completes, Does, IsComplete, calls_for, effect, effect_for, host_calls, usage_effect, usage_line, refused_line, failure_of};
+ghost use Rattle.helium.specs.Effect.{Carries, Completes, Does, IsComplete, StaysOrMakesAll, calls_for, effect, effect_for, host_calls, usage_effect, usage_line, refused_line, failure_of};
 ghost use Rattle.helium.specs.Calls.{MakesCalls, print_calls, way_of, write_calls};
 
 use crate::commands::perform;
@@ -42,6 +42,7 @@ fn carry_out<H: Host>(
     requires { IsComplete status }
     ensures effect { Carries (record { status = status; file = option_map output_pair file.now; text = option_map (λ text. text.items) text.now }) (H.state host.old) (H.state host.new) result }
     ensures calls { MakesCalls (write_calls (option_map output_pair file.now) ++ print_calls (option_map (λ text. text.items) text.now)) (H.state host.old).calls (H.state host.new).calls (way_of result) }
+    ensures spent { result ≡ Status.NoMemory → StaysOrMakesAll (write_calls (option_map output_pair file.now) ++ print_calls (option_map (λ text. text.items) text.now)) (H.state host.old) (H.state host.new) }
 {
     match write_file(alloc, file, host) {
         Err(e) => failure(e),
@@ -94,6 +95,7 @@ fn refuse<H: Host>(alloc: Global, why: Refusal, host: &mut H) -> Status
 fn conclude<H: Host>(alloc: Global, outcome: Result<Finish<'_>, Stop>, host: &mut H) -> Status
     ensures effect { (o : Outcome) → Gives o outcome.entry → Carries (effect_for o) (H.state host.old) (H.state host.new) result }
     ensures calls { (o : Outcome) → Gives o outcome.entry → MakesCalls (calls_for (effect_for o)) (H.state host.old).calls (H.state host.new).calls (way_of result) }
+    ensures spent { (o : Outcome) → Gives o outcome.entry → result ≡ Status.NoMemory → StaysOrMakesAll (calls_for (effect_for o)) (H.state host.old) (H.state host.new) }
 {
     match outcome {
         Ok(finish) => {
@@ -141,8 +143,13 @@ pub fn helium<H: Host>(alloc: Global, words: &[String], host: &mut H) -> Status
     // Where the host tells its calls, those that the program made are the ones that the words ask for: all of them, or up to the first that failed.
     ensures calls { (listings : List Segment → Listing) → AreListings listings → (F : FileMap) → (H.state host.old).files ≡ Some F
         → MakesCalls (host_calls listings (map string_bytes words.now) F) (H.state host.old).calls (H.state host.new).calls (way_of result) }
+    // Where memory was wanted, no file was touched or all calls were made: no file is written before all texts are there.
+    ensures spent { (listings : List Segment → Listing) → AreListings listings → (F : FileMap) → (H.state host.old).files ≡ Some F → result ≡ Status.NoMemory
+        → StaysOrMakesAll (host_calls listings (map string_bytes words.now) F) (H.state host.old) (H.state host.new) }
     // Of a run that is reported the headline and its riders hold.
     ensures headline { RunsToHeadline (map string_bytes words.now) (H.state host.old) (H.state host.new) result }
+    // What `seq` shows is what so many instructions in order come to.
+    ensures order { RunsInOrder (map string_bytes words.now) (H.state host.old) (H.state host.new) result }
     // Words that are no form are answered by the usage line, whatever the host tells.
     ensures usage { form_of (map string_bytes words.now) ≡ None → Carries usage_effect (H.state host.old) (H.state host.new) result }
     ensures usage_only { result ≡ Status.Usage → form_of (map string_bytes words.now) ≡ None }

@@ -1,9 +1,10 @@
 //! The words of a command, by position.
 
-ghost use Rattle.std.specs.Prelude.{◌≡◌, ◌≤◌, ◌+◌, ◌*◌, ℕ, List, [], ◌∷◌, option_map, map, length, string_bytes, IfOk, IfSome};
-ghost use Rattle.helium.specs.Words.{digits_from, number_of, source_of, source_meant, run, run_form, seq_form, form_of, meant, reads_of, most};
+ghost use Rattle.std.specs.Prelude.{◌≡◌, ℕ, List, [], ◌∷◌, option_map, map, string_bytes, IfOk};
+ghost use Rattle.helium.specs.Words.{number_of, source_of, source_meant, run, run_form, seq_form, form_of, meant, reads_of};
 
 use crate::ticks::Ticks;
+use hm_text_base::read_number;
 use std::alloc::{AllocError, Global};
 
 /// The largest number that a word may give.
@@ -34,40 +35,14 @@ pub enum Command<'a> {
     },
 }
 
-/// The number that decimal digits give.
-fn digits(word: &[u8]) -> Option<u32>
-    ensures value { result ≡ digits_from 0 word.now }
-    ensures few { IfSome result (λ n. n ≤ most) }
-{
-    let mut n: u32 = 0;
-    for c in word {
-        if *c < b'0' || *c > b'9' {
-            return None;
-        }
-        n = 10 * n + u32::from(*c - b'0');
-        if n > MOST {
-            return None;
-        }
-    }
-    Some(n)
-}
-
-/// A decimal number without leading zeros.
-fn number(word: &[u8]) -> Option<u32>
-    ensures value { result ≡ number_of word.now }
-    ensures few { IfSome result (λ n. n ≤ most) }
-{
-    match word {
-        [] => None,
-        [_] => digits(word),
-        [first, ..] => { if *first <= b'0' { None } else { digits(word) } }
-    }
-}
-
+/// A number of ticks: one to eight decimal digits without a leading zero.
 fn read_ticks(word: &[u8]) -> Option<Ticks>
     ensures { option_map (λ ticks. ticks.count) result ≡ number_of word.now }
 {
-    let count = number(word)?;
+    let count = read_number(word)?;
+    if count > MOST {
+        return None;
+    }
     Some(Ticks { count })
 }
 

@@ -1,7 +1,9 @@
-use Rattle.std.proofs.Common.{◌≡◌, subst}
-use Rattle.helium.specs.Work.{refuses}
+use Rattle.std.proofs.Common.{◌≡◌, Some, inl, subst}
+use Rattle.helium.specs.declared.status.Status.TheVariants.{Refused}
+use Rattle.helium.specs.Work.{finish_of, refuses}
 use Rattle.helium.specs.Calls.{MakesCalls, way_of}
-use Rattle.helium.specs.Effect.{Carries, calls_for, effect_for}
+use Rattle.helium.specs.Effect.{Carries, StaysOrMakesAll, calls_for, effect_for, refused_line}
+use Rattle.helium.proofs.Carrying.{stays_spent}
 use Rattle.helium.proofs.top.conclude.Goals as goal
 
 pub returns-in-Refused : goal.returns-in-Refused
@@ -12,4 +14,10 @@ returns-in-Refused g c = record {
   calls = λ o gives.
       let h : refuses c.in-Refused.why ≡ o = rw (c.in-Err.is, c.in-Refused.is) at gives in
       subst (λ o'. MakesCalls (calls_for (effect_for o')) (g.H.Host.state c.args.host.now).calls (g.H.Host.state c.refuse.new.host).calls (way_of c.refuse.result)) h c.refuse.ensures.calls;
+  spent = λ o gives is. inl (stays_spent Refused (Some (refused_line c.in-Refused.why)) (g.H.Host.state c.args.host.now) (g.H.Host.state c.refuse.new.host) c.refuse.result c.refuse.ensures.effect is);
 }
+
+pub returns-after-finish-clause-spent : goal.returns-after-finish-clause-spent
+returns-after-finish-clause-spent g c = λ o gives wanted.
+    let h : finish_of c.in-Ok.finish ≡ o = rw c.in-Ok.is at gives in
+    subst (λ o'. StaysOrMakesAll (calls_for (effect_for o')) (g.H.Host.state c.args.host.now) (g.H.Host.state c.carry_out.new.host)) h (c.carry_out.ensures.spent wanted)

@@ -1,5 +1,10 @@
-use Rattle.helium.proofs.Ending.{Does-usage, Does-host_fault, Does-risen, Does-quiet}
-use Rattle.helium.proofs.Headlines.{headline_of, headline_of_none}
+use Rattle.std.proofs.Common.{Some, inl, map}
+use Rattle.std.specs.String.{string_bytes}
+use Rattle.helium.specs.declared.status.Status.TheVariants.{Usage}
+use Rattle.helium.specs.Effect.{usage_line}
+use Rattle.helium.proofs.Carrying.{stays_spent}
+use Rattle.helium.proofs.Ending.{Does-usage, Does-host_fault, Does-makes, Does-risen, Does-quiet, Does-spent}
+use Rattle.helium.proofs.Headlines.{headline_of, headline_of_none, order_of, order_of_none}
 use Rattle.helium.proofs.Listed.{some_listings}
 use Rattle.helium.proofs.top.helium.Goals as goal
 
@@ -8,6 +13,21 @@ returns-in-Some-clause-headline g c = headline_of _ _ _ _ _ c.in-Some.ensures c.
 
 pub returns-in-None-clause-headline : goal.returns-in-None-clause-headline
 returns-in-None-clause-headline g c = headline_of_none _ _ _ _ c.in-None.ensures
+
+pub returns-in-Some-clause-order : goal.returns-in-Some-clause-order
+returns-in-Some-clause-order g c = order_of _ _ _ _ _ c.in-Some.ensures c.obey.ensures.effect
+
+pub returns-in-None-clause-order : goal.returns-in-None-clause-order
+returns-in-None-clause-order g c = order_of_none _ _ _ _ c.in-None.ensures
+
+pub returns-in-Some-clause-calls : goal.returns-in-Some-clause-calls
+returns-in-Some-clause-calls g c = λ listings are F told. Does-makes listings _ (map string_bytes c.args.words.now) _ _ _ F (c.obey.ensures.effect listings are) c.in-Some.ensures told
+
+pub returns-in-Some-clause-spent : goal.returns-in-Some-clause-spent
+returns-in-Some-clause-spent g c = λ listings are F told. Does-spent listings _ (map string_bytes c.args.words.now) _ _ _ F (c.obey.ensures.effect listings are) c.in-Some.ensures told
+
+pub returns-in-None-clause-spent : goal.returns-in-None-clause-spent
+returns-in-None-clause-spent g c = λ listings are F told wanted. inl (stays_spent Usage (Some usage_line) _ _ _ c.say_usage.ensures.effect wanted)
 
 pub returns-in-Some-clause-usage_only : goal.returns-in-Some-clause-usage_only
 returns-in-Some-clause-usage_only g c = λ is. absurd (Does-usage _ _ _ _ _ (c.obey.ensures.effect some_listings.0 some_listings.1) is)
