@@ -1,5 +1,5 @@
 -- The rows of vector codes.
-use Rattle.std.proofs.Common.{◌+◌, ◌/◌, ◌%◌, ap, ◌≡◌, ◌<◌, ◌^◌, ℕ, List, [], ◌∷◌, arith, refl, IsTrue}
+use Rattle.std.proofs.Common.{◌+◌, ◌/◌, ◌%◌, ap, ◌≡◌, ◌<◌, ◌≤◌, ◌^◌, ℕ, List, [], ◌∷◌, arith, refl, IsTrue}
 use Rattle.std.specs.Prelude.{if◌then◌else◌}
 use Rattle.std.proofs.lemmas.Bool.Decides.{nat_tests}
 use Rattle.hm_isa.specs.declared.Vector.{Vector}
@@ -7,6 +7,8 @@ use Rattle.hm_isa.specs.declared.Vector.TheVariants as vector
 use Rattle.hm_isa.specs.declared.vectors.ScalarName.{ScalarName}
 use Rattle.hm_isa.specs.declared.vectors.OffsetsName.{OffsetsName}
 use Rattle.hm_isa.specs.declared.vectors.V10.{V10}
+use Rattle.hm_isa.specs.declared.vectors.ConstantShiftName.{ConstantShiftName}
+use Rattle.hm_isa.specs.declared.vectors.V11.{V11}
 use Rattle.hm_isa.specs.declared.vectors.V12.{V12}
 use Rattle.hm_isa.specs.declared.vectors.V12.TheVariants as v12
 use Rattle.hm_isa.specs.declared.vectors.V13.{V13}
@@ -23,11 +25,13 @@ use Rattle.hm_isa.specs.contracts.Vector as vector_
 use Rattle.hm_isa.specs.contracts.vectors.AddName as add_
 use Rattle.hm_isa.specs.contracts.vectors.BitwiseName as bitwise_
 use Rattle.hm_isa.specs.contracts.vectors.SignedName as signed_
+use Rattle.hm_isa.specs.contracts.vectors.VectorShiftName as by_vector_
 use Rattle.hm_isa.specs.contracts.vectors.DoublingName as doubling_
 use Rattle.hm_isa.specs.contracts.vectors.HighName as high_
 use Rattle.hm_isa.specs.contracts.vectors.CarryName as carry_
 use Rattle.hm_isa.specs.contracts.vectors.TurnName as turn_
 use Rattle.hm_isa.specs.contracts.vectors.ScalarName as by_scalar_
+use Rattle.hm_isa.specs.contracts.vectors.ConstantShiftName as by_constant_
 use Rattle.hm_isa.specs.contracts.vectors.OneName as one_
 use Rattle.hm_isa.specs.contracts.vectors.ReverseName as reverse_
 use Rattle.hm_isa.specs.contracts.vectors.NarrowName as narrow_
@@ -37,12 +41,14 @@ use Rattle.hm_isa.specs.contracts.vectors.ExtremeName as extreme_
 use Rattle.hm_isa.specs.contracts.vectors.V1 as v1_
 use Rattle.hm_isa.specs.contracts.vectors.V2 as v2_
 use Rattle.hm_isa.specs.contracts.vectors.V3 as v3_
+use Rattle.hm_isa.specs.contracts.vectors.V4 as v4_
 use Rattle.hm_isa.specs.contracts.vectors.V5 as v5_
 use Rattle.hm_isa.specs.contracts.vectors.V6 as v6_
 use Rattle.hm_isa.specs.contracts.vectors.V7 as v7_
 use Rattle.hm_isa.specs.contracts.vectors.V8 as v8_
 use Rattle.hm_isa.specs.contracts.vectors.V9 as v9_
 use Rattle.hm_isa.specs.contracts.vectors.V10 as v10_
+use Rattle.hm_isa.specs.contracts.vectors.V11 as v11_
 use Rattle.hm_isa.specs.contracts.vectors.LongBytes as long_bytes_
 use Rattle.hm_isa.specs.contracts.vectors.LongHalves as long_halves_
 use Rattle.hm_isa.specs.contracts.vectors.LongFull as long_full_
@@ -71,9 +77,9 @@ use Rattle.hm_isa.specs.contracts.vectors.LongSum as long_sum_
 use Rattle.hm_isa.specs.contracts.vectors.LongDot as long_dot_
 use Rattle.hm_isa.specs.contracts.vectors.V22 as v22_
 use Rattle.hm_isa.specs.contracts.vectors.V23 as v23_
-use Rattle.hm_isa.specs.Rules.{has_sign, is_signed_by}
-use Rattle.hm_isa.specs.Code.{add_base, bitwise_base, signed_base, doubling_base, high_base, carry_base, turn_base, scalar_base, one_base, reverse_base, narrow_base, dup_base, offsets_base, dot_base, extreme_base}
-use Rattle.hm_isa.specs.Code.{code_v1, code_v2, code_v3, code_v5, code_v6, code_v7, code_v8, code_v9, code_v10, code_long_bytes, code_long_halves, code_long_full, code_v12, code_one_element, code_invert, code_v13, code_v14, code_v15, code_v16, code_v17, code_v18}
+use Rattle.hm_isa.specs.Rules.{has_sign, has_size, is_shifted_by, is_signed_by, shift_has_sign}
+use Rattle.hm_isa.specs.Code.{add_base, bitwise_base, signed_base, vector_shift_base, constant_shift_base, doubling_base, high_base, carry_base, turn_base, scalar_base, one_base, reverse_base, narrow_base, dup_base, offsets_base, dot_base, extreme_base}
+use Rattle.hm_isa.specs.Code.{code_v1, code_v2, code_v3, code_v4, code_v5, code_v6, code_v7, code_v8, code_v9, code_v10, code_v11, code_long_bytes, code_long_halves, code_long_full, code_v12, code_one_element, code_invert, code_v13, code_v14, code_v15, code_v16, code_v17, code_v18}
 use Rattle.hm_isa.specs.Code.{code_offsets, code_wrapped_offsets, code_v19, code_compare_vectors, code_compare_scalar, code_v20, code_block, code_select, code_tail, code_v21, code_sum, code_dot, code_long_sum, code_long_dot, code_v22, code_v23, vector_code}
 use Rattle.hm_layout.proofs.Places.{head_or, rest_of, Place, place}
 use Rattle.hm_layout.proofs.Search.{no_rule, one_rule, decided_both, decided_test, decided_differ, Tried}
@@ -97,6 +103,13 @@ row_v2 = record {
 
 abbrev pub row_v3 : Named v3_.the_type signed_.enum code_v3 signed_base
 row_v3 = record {
+  layout = (the_name tt, (at 28 1 2, (at 20 2 3, (at 17 3 8, (at 13 3 8, (at 1 3 8, tt))))));
+  is_code = λ r. omega arith;
+  rules = λ v. no_rule;
+}
+
+abbrev pub row_v4 : Named v4_.the_type by_vector_.enum code_v4 vector_shift_base
+row_v4 = record {
   layout = (the_name tt, (at 28 1 2, (at 20 2 3, (at 17 3 8, (at 13 3 8, (at 1 3 8, tt))))));
   is_code = λ r. omega arith;
   rules = λ v. no_rule;
@@ -162,6 +175,32 @@ abbrev pub spared_v10 : Row V10
 spared_v10 =
     sparing (varied row_v10) (λ x. (digit 20 2 3 ∷ []) ∷ [])
     (λ r d. (λ e. no_third_size r.z.value (code_v10 r) r.z.in_range (ap (λ (xs : List ℕ). head_or (rest_of xs)) d) e.0, tt))
+
+abbrev pub places_v11 : ConstantShiftName → List Place
+places_v11 x = place 28 (if shift_has_sign x then 1 else 0) ∷ place 16 6 ∷ place 13 3 ∷ place 1 3 ∷ []
+
+pub shift_sign_fits : (x : ConstantShiftName) (u : ℕ) → IsTrue (is_shifted_by x u) → u < 2 → u < 2 ^ (if shift_has_sign x then 1 else 0)
+shift_sign_fits x u s h = grind (arith, nat_tests)
+
+abbrev pub row_v11 : Varied v11_.the_type by_constant_.enum code_v11 constant_shift_base
+row_v11 = record {
+  layout = (the_name tt, (at 28 1 2, (at 16 6 64, (at 13 3 8, (at 1 3 8, tt)))));
+  places = places_v11;
+  fits = λ r. (shift_sign_fits r.name r.u.value r.signs r.u.in_range, (omega arith, (omega arith, (omega arith, tt))));
+  is_code = λ r. omega arith;
+  rules = λ v. decided_both (decided_test _) (decided_both (decided_test _) no_rule);
+}
+
+-- where the three highest bits of x would be 0 there are immediates
+pub no_low_size : (x n : ℕ) → IsTrue (has_size x) → n / 2 ^ 16 % 2 ^ 6 ≡ x → n / 2 ^ 19 % 2 ^ 3 ≡ 0 → ⊥
+no_low_size x n s d e =
+    let low : 8 ≤ x = grind (arith, nat_tests) in
+    omega arith
+
+abbrev pub spared_v11 : Row V11
+spared_v11 =
+    sparing (varied row_v11) (λ x. (digit 19 3 0 ∷ []) ∷ [])
+    (λ r d. (λ e. no_low_size r.x.value (code_v11 r) r.size (ap (λ (xs : List ℕ). head_or (rest_of xs)) d) e.0, tt))
 
 abbrev pub row_long_bytes : Plain long_bytes_.the_type code_long_bytes
 row_long_bytes = record {
@@ -372,12 +411,14 @@ coded_vector =
     coded (named row_v1) ▹
     coded (named row_v2) ▹
     coded (named row_v3) ▹
+    coded (named row_v4) ▹
     coded (named row_v5) ▹
     coded (plain row_v6) ▹
     coded (named row_v7) ▹
     coded (named row_v8) ▹
     coded (named row_v9) ▹
     coded spared_v10 ▹
+    coded spared_v11 ▹
     coded_v12 ▹
     coded_v13 ▹
     coded (named row_v14) ▹
@@ -395,12 +436,14 @@ coded_vector =
       | vector.V1 r ↦ refl
       | vector.V2 r ↦ refl
       | vector.V3 r ↦ refl
+      | vector.V4 r ↦ refl
       | vector.V5 r ↦ refl
       | vector.V6 r ↦ refl
       | vector.V7 r ↦ refl
       | vector.V8 r ↦ refl
       | vector.V9 r ↦ refl
       | vector.V10 r ↦ refl
+      | vector.V11 r ↦ refl
       | vector.V12 r ↦ refl
       | vector.V13 r ↦ refl
       | vector.V14 r ↦ refl

@@ -10,6 +10,7 @@ mod ones;
 mod pairs;
 mod predicate;
 mod registers;
+mod shifts;
 mod sums;
 #[cfg(test)]
 mod tests;
@@ -17,11 +18,12 @@ mod tests;
 use hm_isa::Vector;
 use ones::{decode_one, encode_v12, encode_v13, encode_v14, encode_v15, encode_v16};
 use pairs::{
-    decode_pair, encode_v1, encode_v2, encode_v3, encode_v5, encode_v6, encode_v7, encode_v8,
-    encode_v9,
+    decode_pair, encode_v1, encode_v2, encode_v3, encode_v4, encode_v5, encode_v6, encode_v7,
+    encode_v8, encode_v9,
 };
 use predicate::{decode_predicate, encode_v20, encode_v21};
 use registers::{decode_register, encode_v10, encode_v17, encode_v18, encode_v19};
+use shifts::{decode_v11, encode_v11};
 use sums::{decode_total, encode_v22, encode_v23};
 
 /// The instruction of the table of vector instructions whose code is w.
@@ -44,6 +46,9 @@ fn find(w: u32) -> Option<Vector>
     if let Some(v) = decode_predicate(w) {
         return Some(v);
     }
+    if let Some(r) = decode_v11(w) {
+        return Some(Vector::V11(r));
+    }
     None
 }
 
@@ -65,12 +70,14 @@ pub fn encodev(v: &Vector) -> u32
         Vector::V1(r) => encode_v1(r),
         Vector::V2(r) => encode_v2(r),
         Vector::V3(r) => encode_v3(r),
+        Vector::V4(r) => encode_v4(r),
         Vector::V5(r) => encode_v5(r),
         Vector::V6(r) => encode_v6(r),
         Vector::V7(r) => encode_v7(r),
         Vector::V8(r) => encode_v8(r),
         Vector::V9(r) => encode_v9(r),
         Vector::V10(r) => encode_v10(r),
+        Vector::V11(r) => encode_v11(r),
         Vector::V12(r) => encode_v12(r),
         Vector::V13(r) => encode_v13(r),
         Vector::V14(r) => encode_v14(r),

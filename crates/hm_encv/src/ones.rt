@@ -160,6 +160,8 @@ fn one_name(base: u32) -> Option<OneName>
     ensures none { IfNone result ((x : OneName) → one_base x ≡ base → ⊥) }
 {
     match base {
+        0xffb0_0440 => Some(OneName::Cls),
+        0xffb0_04c0 => Some(OneName::Clz),
         0xffb1_0340 => Some(OneName::Abs),
         0xffb1_03c0 => Some(OneName::Neg),
         0xffb0_0740 => Some(OneName::Qabs),
@@ -173,6 +175,8 @@ fn base_of_one(x: OneName) -> u32
     ensures value { result ≡ one_base x }
 {
     match x {
+        OneName::Cls => 0xffb0_0440,
+        OneName::Clz => 0xffb0_04c0,
         OneName::Abs => 0xffb1_0340,
         OneName::Neg => 0xffb1_03c0,
         OneName::Qabs => 0xffb0_0740,
@@ -180,7 +184,7 @@ fn base_of_one(x: OneName) -> u32
     }
 }
 
-/// `vabs`, `vneg`, `vqabs`, `vqneg`
+/// `vcls`, `vclz`, `vabs`, `vneg`, `vqabs`, `vqneg`
 fn decode_one_element(w: u32) -> Option<OneElement>
     ensures found { IfSome result (λ r. code_one_element r ≡ w) }
     ensures none { IfNone result ((r : OneElement) → code_one_element r ≡ w → ⊥) }
@@ -192,7 +196,7 @@ fn decode_one_element(w: u32) -> Option<OneElement>
     Some(OneElement { name, z, d, m })
 }
 
-/// `vabs`, `vneg`, `vqabs`, `vqneg`
+/// `vcls`, `vclz`, `vabs`, `vneg`, `vqabs`, `vqneg`
 fn encode_one_element(r: &OneElement) -> u32
     ensures value { result ≡ code_one_element r.now }
 {

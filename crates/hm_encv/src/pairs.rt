@@ -4,6 +4,7 @@ ghost use Rattle.std.specs.Prelude.{◌≡◌, IfSome, IfNone};
 ghost use Rattle.hm_isa.specs.declared.vectors.AddName.{AddName};
 ghost use Rattle.hm_isa.specs.declared.vectors.BitwiseName.{BitwiseName};
 ghost use Rattle.hm_isa.specs.declared.vectors.SignedName.{SignedName};
+ghost use Rattle.hm_isa.specs.declared.vectors.VectorShiftName.{VectorShiftName};
 ghost use Rattle.hm_isa.specs.declared.vectors.DoublingName.{DoublingName};
 ghost use Rattle.hm_isa.specs.declared.vectors.HighName.{HighName};
 ghost use Rattle.hm_isa.specs.declared.vectors.CarryName.{CarryName};
@@ -11,19 +12,20 @@ ghost use Rattle.hm_isa.specs.declared.vectors.TurnName.{TurnName};
 ghost use Rattle.hm_isa.specs.declared.vectors.V1.{V1};
 ghost use Rattle.hm_isa.specs.declared.vectors.V2.{V2};
 ghost use Rattle.hm_isa.specs.declared.vectors.V3.{V3};
+ghost use Rattle.hm_isa.specs.declared.vectors.V4.{V4};
 ghost use Rattle.hm_isa.specs.declared.vectors.V5.{V5};
 ghost use Rattle.hm_isa.specs.declared.vectors.V6.{V6};
 ghost use Rattle.hm_isa.specs.declared.vectors.V7.{V7};
 ghost use Rattle.hm_isa.specs.declared.vectors.V8.{V8};
 ghost use Rattle.hm_isa.specs.declared.vectors.V9.{V9};
-ghost use Rattle.hm_isa.specs.Code.{add_base, bitwise_base, signed_base, doubling_base, high_base, carry_base, turn_base};
-ghost use Rattle.hm_isa.specs.Code.{code_v1, code_v2, code_v3, code_v5, code_v6, code_v7, code_v8, code_v9, vector_code};
+ghost use Rattle.hm_isa.specs.Code.{add_base, bitwise_base, signed_base, vector_shift_base, doubling_base, high_base, carry_base, turn_base};
+ghost use Rattle.hm_isa.specs.Code.{code_v1, code_v2, code_v3, code_v4, code_v5, code_v6, code_v7, code_v8, code_v9, vector_code};
 ghost use Rattle.hm_isa.specs.Rules.{is_turned, is_widened};
 
 use crate::fields::{bit, q_register, size};
 use hm_isa::{
     AddName, BitwiseName, CarryName, DoublingName, ElementSize, HighName, QRegister, SignedName,
-    TurnName, V1, V2, V3, V5, V6, V7, V8, V9, Vector,
+    TurnName, V1, V2, V3, V4, V5, V6, V7, V8, V9, Vector, VectorShiftName,
 };
 
 /// The operation of the row V1 whose code without its fields is this.
@@ -183,6 +185,67 @@ pub fn encode_v3(r: &V3) -> u32
     ensures value { result ≡ code_v3 r.now }
 {
     base_of_signed(r.name)
+        + (r.u.get() << 28)
+        + (r.z.get() << 20)
+        + (r.n.get() << 17)
+        + (r.d.get() << 13)
+        + (r.m.get() << 1)
+}
+
+/// The operation of the row V4 whose code without its fields is this.
+fn vector_shift_name(base: u32) -> Option<VectorShiftName>
+    ensures found { IfSome result (λ x. vector_shift_base x ≡ base) }
+    ensures none { IfNone result ((x : VectorShiftName) → vector_shift_base x ≡ base → ⊥) }
+{
+    match base {
+        0xef00_0440 => Some(VectorShiftName::Shl),
+        0xef00_0450 => Some(VectorShiftName::Qshl),
+        0xef00_0540 => Some(VectorShiftName::Rshl),
+        0xef00_0550 => Some(VectorShiftName::Qrshl),
+        _ => None,
+    }
+}
+
+/// The code of the operation of the row V4 without its fields.
+fn base_of_vector_shift(x: VectorShiftName) -> u32
+    ensures value { result ≡ vector_shift_base x }
+{
+    match x {
+        VectorShiftName::Shl => 0xef00_0440,
+        VectorShiftName::Qshl => 0xef00_0450,
+        VectorShiftName::Rshl => 0xef00_0540,
+        VectorShiftName::Qrshl => 0xef00_0550,
+    }
+}
+
+/// `vshl`, `vqshl`, `vrshl`, `vqrshl` by elements
+fn decode_v4(w: u32) -> Option<V4>
+    ensures found { IfSome result (λ r. code_v4 r ≡ w) }
+    ensures none { IfNone result ((r : V4) → code_v4 r ≡ w → ⊥) }
+{
+    let u = bit(w, 28);
+    let z = size(w, 20)?;
+    let n = q_register(w, 17);
+    let d = q_register(w, 13);
+    let m = q_register(w, 1);
+    let name = vector_shift_name(
+        w - (u.get() << 28) - (z.get() << 20) - (n.get() << 17) - (d.get() << 13) - (m.get() << 1),
+    )?;
+    Some(V4 {
+        name,
+        u,
+        z,
+        n,
+        d,
+        m,
+    })
+}
+
+/// `vshl`, `vqshl`, `vrshl`, `vqrshl` by elements
+pub fn encode_v4(r: &V4) -> u32
+    ensures value { result ≡ code_v4 r.now }
+{
+    base_of_vector_shift(r.name)
         + (r.u.get() << 28)
         + (r.z.get() << 20)
         + (r.n.get() << 17)
@@ -457,6 +520,7 @@ pub fn decode_pair(w: u32) -> Option<Vector>
     ensures no_v1 { IfNone result ((r : V1) → code_v1 r ≡ w → ⊥) }
     ensures no_v2 { IfNone result ((r : V2) → code_v2 r ≡ w → ⊥) }
     ensures no_v3 { IfNone result ((r : V3) → code_v3 r ≡ w → ⊥) }
+    ensures no_v4 { IfNone result ((r : V4) → code_v4 r ≡ w → ⊥) }
     ensures no_v5 { IfNone result ((r : V5) → code_v5 r ≡ w → ⊥) }
     ensures no_v6 { IfNone result ((r : V6) → code_v6 r ≡ w → ⊥) }
     ensures no_v7 { IfNone result ((r : V7) → code_v7 r ≡ w → ⊥) }
@@ -471,6 +535,9 @@ pub fn decode_pair(w: u32) -> Option<Vector>
     }
     if let Some(r) = decode_v3(w) {
         return Some(Vector::V3(r));
+    }
+    if let Some(r) = decode_v4(w) {
+        return Some(Vector::V4(r));
     }
     if let Some(r) = decode_v5(w) {
         return Some(Vector::V5(r));

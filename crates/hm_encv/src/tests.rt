@@ -1,10 +1,11 @@
 use super::*;
 use hm_isa::{
-    AddName, Below, BitwiseName, Block, CarryName, CompareScalar, CompareVectors, Dot,
-    DoublingName, Element, ExtremeName, HighName, Invert, LongBytes, LongDot, LongFull, LongHalves,
-    LongSum, NarrowName, Offsets, OffsetsName, OneElement, OneName, ReverseName, ScalarName,
-    Select, SignedName, Sum, Tail, TurnName, V1, V2, V3, V5, V6, V7, V8, V9, V10, V12, V13, V14,
-    V15, V16, V17, V18, V19, V20, V21, V22, V23, WrappedOffsets,
+    AddName, Below, BitwiseName, Block, CarryName, CompareScalar, CompareVectors,
+    ConstantShiftName, Dot, DoublingName, Element, ExtremeName, HighName, Invert, LongBytes,
+    LongDot, LongFull, LongHalves, LongSum, NarrowName, Offsets, OffsetsName, OneElement, OneName,
+    ReverseName, ScalarName, Select, SignedName, Sum, Tail, TurnName, V1, V2, V3, V4, V5, V6, V7,
+    V8, V9, V10, V11, V12, V13, V14, V15, V16, V17, V18, V19, V20, V21, V22, V23, VectorShiftName,
+    WrappedOffsets,
 };
 
 // a code and its row: the name, if there is one, and the numbers
@@ -63,7 +64,9 @@ fn one_vector(rt: HostRuntime) {
         row!(0xeea8_0f42, V12 Bytes LongBytes, u 0, k 0, t 0, d 0, m 1),
         row!(0xfebf_5f46, V12 Halves LongHalves, u 1, k 15, t 1, d 2, m 3),
         row!(0xfe35_3e05, V12 Full LongFull, u 1, z 1, t 1, d 1, m 2),
-        // vqneg.s32 q1,q2; vmvn q3,q4
+        // vcls.s16 q2,q3; vclz.i32 q1,q7; vqneg.s32 q1,q2; vmvn q3,q4
+        row!(0xffb4_4446, V13 Elements OneElement, name: OneName::Cls, z 1, d 2, m 3),
+        row!(0xffb8_24ce, V13 Elements OneElement, name: OneName::Clz, z 2, d 1, m 7),
         row!(0xffb8_27c4, V13 Elements OneElement, name: OneName::Qneg, z 2, d 1, m 2),
         row!(0xffb0_65c8, V13 Not Invert, d 3, m 4),
         // vrev64.32 q0,q1
@@ -74,6 +77,31 @@ fn one_vector(rt: HostRuntime) {
         // vmovnb.i16 q0,q1; vqmovnt.u32 q0,q1
         row!(0xfe31_0e83, V16, name: NarrowName::Plain, z 0, t 0, d 0, m 1),
         row!(0xfe37_1e03, V16, name: NarrowName::Unsigned, z 1, t 1, d 0, m 1),
+    ];
+    assert_eq!(rt; first_wrong(&table), None);
+}
+
+#[test]
+fn shifts(rt: HostRuntime) {
+    let table = [
+        // vshl.s8 q0,q1,q2; vqshl.u16 q3,q4,q5; vrshl.s32 q1,q7,q6; vqrshl.u8 q2,q0,q3
+        row!(0xef04_0442, V4, name: VectorShiftName::Shl, u 0, z 0, n 2, d 0, m 1),
+        row!(0xff1a_6458, V4, name: VectorShiftName::Qshl, u 1, z 1, n 5, d 3, m 4),
+        row!(0xef2c_254e, V4, name: VectorShiftName::Rshl, u 0, z 2, n 6, d 1, m 7),
+        row!(0xff06_4550, V4, name: VectorShiftName::Qrshl, u 1, z 0, n 3, d 2, m 0),
+        // vshr.s8 q0,q1,#8; vshr.u32 q2,q3,#1; vrshr.u16 q1,q2,#16
+        row!(0xef88_0052, V11, name: ConstantShiftName::Shr, u 0, x 8, d 0, m 1),
+        row!(0xffbf_4056, V11, name: ConstantShiftName::Shr, u 1, x 63, d 2, m 3),
+        row!(0xff90_2254, V11, name: ConstantShiftName::Rshr, u 1, x 16, d 1, m 2),
+        // vqshl.u32 q0,q1,#31; vqshlu.s16 q0,q1,#0; vshl.i8 q3,q4,#7
+        row!(0xffbf_0752, V11, name: ConstantShiftName::Qshl, u 1, x 63, d 0, m 1),
+        row!(0xff90_0652, V11, name: ConstantShiftName::Qshlu, u 0, x 16, d 0, m 1),
+        row!(0xef8f_6558, V11, name: ConstantShiftName::Shl, u 0, x 15, d 3, m 4),
+        // vsri.32 q7,q6,#32; vsli.16 q5,q4,#3
+        row!(0xffa0_e45c, V11, name: ConstantShiftName::Sri, u 0, x 32, d 7, m 6),
+        row!(0xff93_a558, V11, name: ConstantShiftName::Sli, u 0, x 19, d 5, m 4),
+        // of no size it is an immediate
+        row!(0xff87_0250, V15, i 1, i3 7, d 0, cm 2, op 0, i4 0),
     ];
     assert_eq!(rt; first_wrong(&table), None);
 }
@@ -126,7 +154,7 @@ fn sums_and_predicate(rt: HostRuntime) {
 // codes whose fields break a row's rule
 #[test]
 fn no_row(rt: HostRuntime) {
-    let codes: [u32; 14] = [
+    let codes: [u32; 17] = [
         0xef30_0840, // a size of 3
         0xfe23_2e04, // vmullb.u32 q1,q1,q2
         0xee22_4f04, // vhcadd.s32 q2,q1,q2,#90
@@ -135,6 +163,9 @@ fn no_row(rt: HostRuntime) {
         0xeea0_0f40, // vshll of no size
         0xffb8_00c0, // vrev32.32
         0xffb0_0040, // vrev64.8 q0,q0
+        0xef30_0440, // vshl with a size of 3
+        0xef90_0650, // vqshlu without its bit 28
+        0xef90_0450, // vsri without its bit 28
         0xef80_0f50, // a constant in floating point
         0xeea0_0fcf, // vshlc q0,pc
         0xee01_0f6c, // viwdup with sp

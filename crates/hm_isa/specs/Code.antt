@@ -81,6 +81,9 @@ use Rattle.hm_isa.specs.declared.vectors.V2.{V2}
 use Rattle.hm_isa.specs.declared.vectors.SignedName.{SignedName}
 use Rattle.hm_isa.specs.declared.vectors.SignedName.TheVariants as signed
 use Rattle.hm_isa.specs.declared.vectors.V3.{V3}
+use Rattle.hm_isa.specs.declared.vectors.VectorShiftName.{VectorShiftName}
+use Rattle.hm_isa.specs.declared.vectors.VectorShiftName.TheVariants as by_vector
+use Rattle.hm_isa.specs.declared.vectors.V4.{V4}
 use Rattle.hm_isa.specs.declared.vectors.DoublingName.{DoublingName}
 use Rattle.hm_isa.specs.declared.vectors.DoublingName.TheVariants as doubling
 use Rattle.hm_isa.specs.declared.vectors.V5.{V5}
@@ -97,6 +100,9 @@ use Rattle.hm_isa.specs.declared.vectors.V9.{V9}
 use Rattle.hm_isa.specs.declared.vectors.ScalarName.{ScalarName}
 use Rattle.hm_isa.specs.declared.vectors.ScalarName.TheVariants as by_scalar
 use Rattle.hm_isa.specs.declared.vectors.V10.{V10}
+use Rattle.hm_isa.specs.declared.vectors.ConstantShiftName.{ConstantShiftName}
+use Rattle.hm_isa.specs.declared.vectors.ConstantShiftName.TheVariants as by_constant
+use Rattle.hm_isa.specs.declared.vectors.V11.{V11}
 use Rattle.hm_isa.specs.declared.vectors.LongBytes.{LongBytes}
 use Rattle.hm_isa.specs.declared.vectors.LongHalves.{LongHalves}
 use Rattle.hm_isa.specs.declared.vectors.LongFull.{LongFull}
@@ -424,6 +430,15 @@ signed_base signed.Qsub = 0xef000250
 abbrev pub code_v3 : V3 → ℕ
 code_v3 r = signed_base r.name + r.u.value ↑ 28 + r.z.value ↑ 20 + r.n.value ↑ 17 + r.d.value ↑ 13 + r.m.value ↑ 1
 
+abbrev pub vector_shift_base : VectorShiftName → ℕ
+vector_shift_base by_vector.Shl = 0xef000440
+vector_shift_base by_vector.Qshl = 0xef000450
+vector_shift_base by_vector.Rshl = 0xef000540
+vector_shift_base by_vector.Qrshl = 0xef000550
+
+abbrev pub code_v4 : V4 → ℕ
+code_v4 r = vector_shift_base r.name + r.u.value ↑ 28 + r.z.value ↑ 20 + r.n.value ↑ 17 + r.d.value ↑ 13 + r.m.value ↑ 1
+
 abbrev pub doubling_base : DoublingName → ℕ
 doubling_base doubling.Qdmulh = 0xef000b40
 doubling_base doubling.Qrdmulh = 0xff000b40
@@ -473,6 +488,18 @@ scalar_base by_scalar.Mlas = 0xee011e40
 abbrev pub code_v10 : V10 → ℕ
 code_v10 r = scalar_base r.name + r.u.value ↑ 28 + r.z.value ↑ 20 + r.n.value ↑ 17 + r.d.value ↑ 13 + r.m.value
 
+abbrev pub constant_shift_base : ConstantShiftName → ℕ
+constant_shift_base by_constant.Shr = 0xef800050
+constant_shift_base by_constant.Rshr = 0xef800250
+constant_shift_base by_constant.Qshl = 0xef800750
+constant_shift_base by_constant.Qshlu = 0xff800650
+constant_shift_base by_constant.Shl = 0xef800550
+constant_shift_base by_constant.Sri = 0xff800450
+constant_shift_base by_constant.Sli = 0xff800550
+
+abbrev pub code_v11 : V11 → ℕ
+code_v11 r = constant_shift_base r.name + r.u.value ↑ 28 + r.x.value ↑ 16 + r.d.value ↑ 13 + r.m.value ↑ 1
+
 -- the shift stands behind 101 in bits 21 to 16, or behind 11
 abbrev pub code_long_bytes : LongBytes → ℕ
 code_long_bytes r = 0xeea80f40 + r.u.value ↑ 28 + r.k.value ↑ 16 + r.t.value ↑ 12 + r.d.value ↑ 13 + r.m.value ↑ 1
@@ -489,6 +516,8 @@ code_v12 (v12.Halves r) = code_long_halves r
 code_v12 (v12.Full r) = code_long_full r
 
 abbrev pub one_base : OneName → ℕ
+one_base one.Cls = 0xffb00440
+one_base one.Clz = 0xffb004c0
 one_base one.Abs = 0xffb10340
 one_base one.Neg = 0xffb103c0
 one_base one.Qabs = 0xffb00740
@@ -673,12 +702,14 @@ abbrev pub vector_code : Vector → ℕ
 vector_code (vector.V1 r) = code_v1 r
 vector_code (vector.V2 r) = code_v2 r
 vector_code (vector.V3 r) = code_v3 r
+vector_code (vector.V4 r) = code_v4 r
 vector_code (vector.V5 r) = code_v5 r
 vector_code (vector.V6 r) = code_v6 r
 vector_code (vector.V7 r) = code_v7 r
 vector_code (vector.V8 r) = code_v8 r
 vector_code (vector.V9 r) = code_v9 r
 vector_code (vector.V10 r) = code_v10 r
+vector_code (vector.V11 r) = code_v11 r
 vector_code (vector.V12 r) = code_v12 r
 vector_code (vector.V13 r) = code_v13 r
 vector_code (vector.V14 r) = code_v14 r

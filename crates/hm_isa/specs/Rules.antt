@@ -12,6 +12,8 @@ use Rattle.hm_isa.specs.declared.system.SystemMoveName.{SystemMoveName}
 use Rattle.hm_isa.specs.declared.system.SystemMoveName.TheVariants as move
 use Rattle.hm_isa.specs.declared.vectors.ScalarName.{ScalarName}
 use Rattle.hm_isa.specs.declared.vectors.ScalarName.TheVariants as by_scalar
+use Rattle.hm_isa.specs.declared.vectors.ConstantShiftName.{ConstantShiftName}
+use Rattle.hm_isa.specs.declared.vectors.ConstantShiftName.TheVariants as by_constant
 use Rattle.hm_isa.specs.declared.vectors.ReverseName.{ReverseName}
 use Rattle.hm_isa.specs.declared.vectors.ReverseName.TheVariants as reverse_
 
@@ -145,3 +147,17 @@ has_sign by_scalar.Mlas = true
 
 abbrev pub is_signed_by : ScalarName → ℕ → Bool
 is_signed_by name u = has_sign name || nat_eq u 0
+
+-- and of a shift by a constant
+abbrev pub shift_has_sign : ConstantShiftName → Bool
+shift_has_sign by_constant.Shr = true
+shift_has_sign by_constant.Rshr = true
+shift_has_sign by_constant.Qshl = true
+shift_has_sign name = false
+
+abbrev pub is_shifted_by : ConstantShiftName → ℕ → Bool
+is_shifted_by name u = shift_has_sign name || nat_eq u 0
+
+-- the highest bit that is 1 stands for a size of elements
+abbrev pub has_size : ℕ → Bool
+has_size x = nat_le 8 x

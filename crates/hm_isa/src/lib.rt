@@ -117,6 +117,7 @@ pub use vectors::Block;
 pub use vectors::CarryName;
 pub use vectors::CompareScalar;
 pub use vectors::CompareVectors;
+pub use vectors::ConstantShiftName;
 pub use vectors::Dot;
 pub use vectors::DoublingName;
 pub use vectors::Element;
@@ -143,12 +144,14 @@ pub use vectors::TurnName;
 pub use vectors::V1;
 pub use vectors::V2;
 pub use vectors::V3;
+pub use vectors::V4;
 pub use vectors::V5;
 pub use vectors::V6;
 pub use vectors::V7;
 pub use vectors::V8;
 pub use vectors::V9;
 pub use vectors::V10;
+pub use vectors::V11;
 pub use vectors::V12;
 pub use vectors::V13;
 pub use vectors::V14;
@@ -161,6 +164,7 @@ pub use vectors::V20;
 pub use vectors::V21;
 pub use vectors::V22;
 pub use vectors::V23;
+pub use vectors::VectorShiftName;
 pub use vectors::WrappedOffsets;
 pub use wide::Indexed;
 pub use wide::Literal;
@@ -287,6 +291,8 @@ pub enum Vector {
     V2(V2),
     /// `vmax` to `vqsub`
     V3(V3),
+    /// `vshl` to `vqrshl` by elements
+    V4(V4),
     /// `vqdmulh`, `vqrdmulh`
     V5(V5),
     /// `vmull`
@@ -299,9 +305,11 @@ pub enum Vector {
     V9(V9),
     /// elements and a core register
     V10(V10),
+    /// `vshr` to `vsli` by a constant
+    V11(V11),
     /// `vshll`
     V12(V12),
-    /// `vabs` to `vqneg`, `vmvn`
+    /// `vcls` to `vqneg`, `vmvn`
     V13(V13),
     /// `vrev`
     V14(V14),

@@ -1,7 +1,7 @@
 //! The rows of the vector codes: DDI0553, "M-profile Vector Extension".
 
 ghost use Rattle.std.specs.Prelude.{◌≡◌, ◌≢◌, IsTrue};
-ghost use Rattle.hm_isa.specs.Rules.{is_reversed, is_signed_by, is_turned, is_widened};
+ghost use Rattle.hm_isa.specs.Rules.{has_size, is_reversed, is_shifted_by, is_signed_by, is_turned, is_widened};
 
 use crate::fields::{Below, Bit, ElementSize, QRegister, Register};
 
@@ -103,6 +103,36 @@ pub struct V3 {
     /// The register that gets the result.
     pub d: QRegister,
     /// The register of the second operands.
+    pub m: QRegister,
+}
+
+/// The operation of the row V4.
+#[derive(Clone, Copy, PartialEq, Eq, Debug)]
+pub enum VectorShiftName {
+    /// `vshl`
+    Shl,
+    /// `vqshl`
+    Qshl,
+    /// `vrshl`
+    Rshl,
+    /// `vqrshl`
+    Qrshl,
+}
+
+/// Shifts of elements by elements, as `vshl.s8 qd,qm,qn`: DDI0553, "VSHL", "VQSHL", "VRSHL" and "VQRSHL" (vector). A count is
+/// the signed low byte of an element, and shifts to the right where it is negative.
+#[derive(Clone, Copy, PartialEq, Eq, Debug)]
+pub struct V4 {
+    pub name: VectorShiftName,
+    /// 1 for unsigned elements.
+    pub u: Bit,
+    /// The size of the elements.
+    pub z: ElementSize,
+    /// The register of the counts.
+    pub n: QRegister,
+    /// The register that gets the result.
+    pub d: QRegister,
+    /// The register that is shifted.
     pub m: QRegister,
 }
 
@@ -270,6 +300,45 @@ pub struct V10 {
     pub ghost not_pc: { m.value ≢ 15 },
 }
 
+/// The operation of the row V11.
+#[derive(Clone, Copy, PartialEq, Eq, Debug)]
+pub enum ConstantShiftName {
+    /// `vshr`
+    Shr,
+    /// `vrshr`
+    Rshr,
+    /// `vqshl`
+    Qshl,
+    /// `vqshlu`
+    Qshlu,
+    /// `vshl`
+    Shl,
+    /// `vsri`
+    Sri,
+    /// `vsli`
+    Sli,
+}
+
+/// Shifts of elements by a constant, as `vshr.s8 qd,qm,#k`: DDI0553, "VSHR", "VRSHR", "VQSHL, VQSHLU", "VSHL" (immediate), "VSRI"
+/// and "VSLI". `u` is 0 where the name says nothing of signs.
+#[derive(Clone, Copy, PartialEq, Eq, Debug)]
+pub struct V11 {
+    pub name: ConstantShiftName,
+    /// 1 for unsigned elements.
+    pub u: Bit,
+    /// The size of the elements and the shift.
+    ///
+    /// The highest bit that is 1 tells the size: 8 to 15 is one of 8 bits, 16 to 31 of 16, 32 to 63 of 32. A shift by k to the
+    /// left is the size and k, and one to the right twice the size less k.
+    pub x: Below<64>,
+    /// The register that gets the result.
+    pub d: QRegister,
+    /// The register that is shifted.
+    pub m: QRegister,
+    pub ghost signs: { IsTrue (is_shifted_by name u.value) },
+    pub ghost size: { IsTrue (has_size x.value) },
+}
+
 /// `vshllb`, `vshllt` of 8 bits by less than 8, as `vshllb.s8 qd,qm,#k`; by 0 they are `vmovlb`, `vmovlt`.
 #[derive(Clone, Copy, PartialEq, Eq, Debug)]
 pub struct LongBytes {
@@ -326,6 +395,10 @@ pub enum V12 {
 /// The operation of the row V13 on elements.
 #[derive(Clone, Copy, PartialEq, Eq, Debug)]
 pub enum OneName {
+    /// `vcls`
+    Cls,
+    /// `vclz`
+    Clz,
     /// `vabs`
     Abs,
     /// `vneg`
@@ -336,7 +409,7 @@ pub enum OneName {
     Qneg,
 }
 
-/// `vabs`, `vneg`, `vqabs`, `vqneg`, as `vabs.s8 qd,qm`.
+/// `vcls`, `vclz`, `vabs`, `vneg`, `vqabs`, `vqneg`, as `vabs.s8 qd,qm`.
 #[derive(Clone, Copy, PartialEq, Eq, Debug)]
 pub struct OneElement {
     pub name: OneName,
@@ -357,7 +430,7 @@ pub struct Invert {
     pub m: QRegister,
 }
 
-/// Operations on one vector: DDI0553, "VABS", "VNEG", "VQABS", "VQNEG" and "VMVN (register)".
+/// Operations on one vector: DDI0553, "VCLS", "VCLZ", "VABS", "VNEG", "VQABS", "VQNEG" and "VMVN (register)".
 #[derive(Clone, Copy, PartialEq, Eq, Debug)]
 pub enum V13 {
     Elements(OneElement),

@@ -5,7 +5,7 @@ mod functions;
 mod words;
 
 pub use functions::{
-    LaneFn, clamped, cut, halved, is_outside, lane, lane_saturates, number, saturates,
+    LaneFn, clamped, cut, halved, is_outside, lane, lane_saturates, number, saturates, width,
 };
 pub use words::{
     Operand, active, any_both, both, element_size, lanes_saturate, lanes_word, merge, nibble,

@@ -1,18 +1,19 @@
 //! The form of each vector row.
 
-ghost use Rattle.std.specs.Prelude.{◌≡◌};
+ghost use Rattle.std.specs.Prelude.{◌≡◌, ◌<◌};
 ghost use Rattle.hm_forms.specs.declared.form.Form.TheVariants as form;
 ghost use Rattle.hm_isa.specs.declared.Vector.TheVariants as vector;
 ghost use Rattle.hm_isa.specs.declared.vectors.V22.TheVariants as v22;
-ghost use Rattle.hm_rows.specs.Rows.{add_fn, bitwise_fn, compare_form, doubling_fn, form_of, high_fn, long_form, offsets_form, one_fn, one_form, predicate_form, scalar_fn, signed_fn, sum_form};
+ghost use Rattle.hm_rows.specs.Rows.{add_fn, bitwise_fn, compare_form, constant_shift_fn, doubling_fn, form_of, high_fn, long_form, offsets_form, one_fn, one_form, predicate_form, scalar_fn, shift_operand, shift_size, shift_unsigned, signed_fn, sum_form, vector_shift_fn};
 
 use hm_forms::{Comparison, Form, Lanes, LongSums, Longer, Steps, Sums};
 use hm_isa::{
-    AddName, BitwiseName, DoublingName, HighName, LongDot, LongSum, OneName, QRegister, ScalarName,
-    SignedName, V1, V2, V3, V5, V7, V10, V12, V13, V18, V19, V20, V21, V22, Vector,
+    AddName, BitwiseName, ConstantShiftName, DoublingName, HighName, LongDot, LongSum, OneName,
+    QRegister, ScalarName, SignedName, V1, V2, V3, V4, V5, V7, V10, V11, V12, V13, V18, V19, V20,
+    V21, V22, Vector, VectorShiftName,
 };
 use hm_lane::Size;
-use hm_lane_fns::{LaneFn, Operand, element_size, size};
+use hm_lane_fns::{LaneFn, Operand, element_size, size, width};
 
 /// A row on lanes.
 fn lanes(f: LaneFn, unsigned: bool, z: Size, d: QRegister, n: QRegister, by: Operand) -> Form
@@ -68,6 +69,68 @@ fn signed_fn(name: SignedName) -> LaneFn
     }
 }
 
+/// The function of a row V4.
+fn vector_shift_fn(name: VectorShiftName) -> LaneFn
+    ensures { result ≡ vector_shift_fn name }
+{
+    match name {
+        VectorShiftName::Shl => LaneFn::Shl,
+        VectorShiftName::Qshl => LaneFn::Qshl,
+        VectorShiftName::Rshl => LaneFn::Rshl,
+        VectorShiftName::Qrshl => LaneFn::Qrshl,
+    }
+}
+
+/// The function of a row V11.
+fn constant_shift_fn(name: ConstantShiftName) -> LaneFn
+    ensures { result ≡ constant_shift_fn name }
+{
+    match name {
+        ConstantShiftName::Shr | ConstantShiftName::Shl => LaneFn::Shl,
+        ConstantShiftName::Rshr => LaneFn::Rshl,
+        ConstantShiftName::Qshl => LaneFn::Qshl,
+        ConstantShiftName::Qshlu => LaneFn::Qshlu,
+        ConstantShiftName::Sri => LaneFn::Sri,
+        ConstantShiftName::Sli => LaneFn::Sli,
+    }
+}
+
+/// The size that a constant shift says: the highest bit that is 1.
+fn shift_size(x: u32) -> Size
+    ensures { result ≡ shift_size x }
+{
+    if x < 16 {
+        Size::Byte
+    } else if x < 32 {
+        Size::Half
+    } else {
+        Size::Word
+    }
+}
+
+/// What each lane is shifted by: a shift to the right by k is one by -k as a byte, but that of `vsri`.
+fn shift_operand(name: ConstantShiftName, x: u32) -> u32
+    requires { x < 64 }
+    ensures { result ≡ shift_operand name x }
+{
+    let size = width(shift_size(x));
+    match name {
+        ConstantShiftName::Shr | ConstantShiftName::Rshr => { 256 - (2 * size).saturating_sub(x) }
+        ConstantShiftName::Sri => (2 * size).saturating_sub(x),
+        _ => x.saturating_sub(size),
+    }
+}
+
+/// Whether the range of the results of a row V11 has no sign.
+fn shift_unsigned(name: ConstantShiftName, u: u32) -> bool
+    ensures { result ≡ shift_unsigned name u }
+{
+    match name {
+        ConstantShiftName::Qshlu => true,
+        _ => u == 1,
+    }
+}
+
 /// The function of a row V5.
 fn doubling_fn(name: DoublingName) -> LaneFn
     ensures { result ≡ doubling_fn name }
@@ -114,6 +177,8 @@ fn one_fn(name: OneName) -> LaneFn
     ensures { result ≡ one_fn name }
 {
     match name {
+        OneName::Cls => LaneFn::Cls,
+        OneName::Clz => LaneFn::Clz,
         OneName::Abs => LaneFn::Abs,
         OneName::Neg => LaneFn::Neg,
         OneName::Qabs => LaneFn::Qabs,
@@ -347,6 +412,34 @@ fn signed_form(row: &V3) -> Form
     )
 }
 
+/// The form of a row V4.
+fn vector_shift_form(row: &V4) -> Form
+    ensures { result ≡ form_of (vector.V4 row.now) }
+{
+    lanes(
+        vector_shift_fn(row.name),
+        row.u.get() == 1,
+        size(&row.z),
+        row.d,
+        row.m,
+        Operand::Vector(row.n),
+    )
+}
+
+/// The form of a row V11.
+fn constant_shift_form(row: &V11) -> Form
+    ensures { result ≡ form_of (vector.V11 row.now) }
+{
+    lanes(
+        constant_shift_fn(row.name),
+        shift_unsigned(row.name, row.u.get()),
+        shift_size(row.x.get()),
+        row.d,
+        row.m,
+        Operand::Constant(shift_operand(row.name, row.x.get())),
+    )
+}
+
 /// The form of a row V5.
 fn doubling_form(row: &V5) -> Form
     ensures { result ≡ form_of (vector.V5 row.now) }
@@ -411,12 +504,14 @@ pub fn form(v: &Vector) -> Form
         Vector::V1(row) => add_form(row),
         Vector::V2(row) => bitwise_form(row),
         Vector::V3(row) => signed_form(row),
+        Vector::V4(row) => vector_shift_form(row),
         Vector::V5(row) => doubling_form(row),
         Vector::V6(row) => Form::Wide(*row),
         Vector::V7(row) => high_form(row),
         Vector::V8(row) => Form::Carry(*row),
         Vector::V9(row) => Form::Turned(*row),
         Vector::V10(row) => scalar_form(row),
+        Vector::V11(row) => constant_shift_form(row),
         Vector::V12(row) => long_form(row),
         Vector::V13(row) => one_form(row),
         Vector::V14(row) => Form::Reversed(*row),

@@ -14,12 +14,14 @@ returns-clause-none c v =
       | vector.V1 r ↦ pairs.no_v1 r
       | vector.V2 r ↦ pairs.no_v2 r
       | vector.V3 r ↦ pairs.no_v3 r
+      | vector.V4 r ↦ pairs.no_v4 r
       | vector.V5 r ↦ pairs.no_v5 r
       | vector.V6 r ↦ pairs.no_v6 r
       | vector.V7 r ↦ pairs.no_v7 r
       | vector.V8 r ↦ pairs.no_v8 r
       | vector.V9 r ↦ pairs.no_v9 r
       | vector.V10 r ↦ registers.no_v10 r
+      | vector.V11 r ↦ c.in_default-decode_v11.ensures.none r
       | vector.V12 r ↦ ones.no_v12 r
       | vector.V13 r ↦ ones.no_v13 r
       | vector.V14 r ↦ ones.no_v14 r
