@@ -1,0 +1,11 @@
+//! Laws of rows that load or store. The functions do nothing, and their clauses are what is proved.
+
+ghost use Rattle.hm_mem.specs.Memory.{Around};
+ghost use Rattle.hm_beat.specs.Laws.{KeepsLr, RowLaws};
+ghost use Rattle.hm_moves.specs.Moves.{IsMoves, Moves, SparesLr, moves_tree, moves_whole};
+
+/// Four beats of a row that loads or stores are its whole.
+pub fn moves_law()
+    ensures rows { (i : Moves) → IsMoves i → RowLaws (moves_tree i) (moves_whole i) }
+    ensures keeps_lr { (i : Moves) (x : Around) → IsMoves i → SparesLr i → KeepsLr (moves_tree i x) }
+{}
