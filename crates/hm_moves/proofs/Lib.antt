@@ -1,3 +1,4 @@
 pub mod Trees
 pub mod Faulting
 pub mod Moves
+pub mod Owed

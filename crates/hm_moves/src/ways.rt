@@ -1,0 +1,95 @@
+//! What a row that loads or stores moves, and where it finds its elements.
+
+ghost use Rattle.std.specs.Prelude.{◌≤◌, ◌<◌, ◌+◌, cond};
+
+use hm_lane::Size;
+
+/// Elements that stand one behind another in memory, for a vector register.
+#[derive(Clone, Copy, Debug, PartialEq, Eq)]
+pub struct Straight {
+    /// The vector register.
+    pub d: u8,
+    /// The base register.
+    pub n: u8,
+    /// What is added to the base, modulo 2^32.
+    pub offset: u32,
+    /// The elements begin at the base with the offset added, and else at the base.
+    pub before: bool,
+    /// The base register gets the base with the offset added.
+    pub back: bool,
+    pub ghost vector: { d < 8 },
+    pub ghost core: { n ≤ 14 },
+}
+
+/// Elements at offsets from a base, which stand in a vector register.
+#[derive(Clone, Copy, Debug, PartialEq, Eq)]
+pub struct Offsets {
+    /// The vector register that is filled or stored.
+    pub d: u8,
+    /// The base register.
+    pub n: u8,
+    /// The vector register with the offsets.
+    pub m: u8,
+    /// An offset is multiplied by 2 to this power.
+    pub scale: u8,
+    pub ghost vector: { d < 8 },
+    pub ghost core: { n ≤ 14 },
+    pub ghost offsets: { m < 8 },
+    pub ghost power: { scale ≤ 2 },
+}
+
+/// Words at addresses that stand in a vector register.
+#[derive(Clone, Copy, Debug, PartialEq, Eq)]
+pub struct Addresses {
+    /// The vector register that is filled or stored.
+    pub d: u8,
+    /// The vector register with the addresses.
+    pub m: u8,
+    /// What is added to each address, modulo 2^32.
+    pub offset: u32,
+    /// Each word of the register gets its address with the offset added, active or not.
+    pub back: bool,
+    pub ghost vector: { d < 8 },
+    pub ghost addresses: { m < 8 },
+}
+
+/// Elements that go in turn to two or four vector registers.
+#[derive(Clone, Copy, Debug, PartialEq, Eq)]
+pub struct Interleaved {
+    /// The first of the vector registers.
+    pub d: u8,
+    /// The base register.
+    pub n: u8,
+    /// There are four registers, and else two.
+    pub four: bool,
+    /// Which four words of memory are moved, of as many fours as there are registers.
+    pub part: u8,
+    /// The base register is moved past all that the parts move.
+    pub back: bool,
+    pub ghost vectors: { d + cond four 4 2 ≤ 8 },
+    pub ghost core: { n ≤ 14 },
+    pub ghost parts: { part < cond four 4 2 },
+}
+
+/// Where the elements of a row are found.
+#[derive(Clone, Copy, Debug, PartialEq, Eq)]
+pub enum Way {
+    Straight(Straight),
+    Offsets(Offsets),
+    Addresses(Addresses),
+    Interleaved(Interleaved),
+}
+
+/// A row that loads or stores. It is under the predicate, unless it is interleaved (DDI0553, "VLDR", "VSTR", "VLD2", "VLD4", "VST2", "VST4").
+#[derive(Clone, Copy, Debug, PartialEq, Eq)]
+pub struct Move {
+    /// It stores, and else it loads.
+    pub store: bool,
+    /// The size of an element in memory.
+    pub memory: Size,
+    /// The size of an element in its register, which is not below that in memory.
+    pub register: Size,
+    /// What is loaded is extended with its sign.
+    pub signed: bool,
+    pub way: Way,
+}
