@@ -2,3 +2,9 @@ pub mod Trees
 pub mod Faulting
 pub mod Moves
 pub mod Owed
+pub mod Accesses
+pub mod Loops
+pub mod Stored
+pub mod Widths
+pub mod Checked
+pub mod Touched

@@ -71,7 +71,7 @@ word_off Mask23 q h k = true_not_false false h refl
 word_off Ltp q h k = true_not_false false h refl
 word_off Sticky q h k = true_not_false false h refl
 
-off_bytes : (t : Bool) (e : Element) (xs : List ℕ) (k : ℕ) (bs : List ℕ) (p : Place) → Off (At p) (bytes_from t e xs k bs)
+pub off_bytes : (t : Bool) (e : Element) (xs : List ℕ) (k : ℕ) (bs : List ℕ) (p : Place) → Off (At p) (bytes_from t e xs k bs)
 off_bytes t e xs k [] p = tt
 off_bytes t e xs k (a ∷ bs) p = (refl, off_bytes t e xs (k + 1) bs p)
 

@@ -28,6 +28,7 @@ use Rattle.hm_beat.proofs.Whole.{no_byte}
 use Rattle.hm_beat.proofs.Footprint.{no_tests}
 use Rattle.hm_kinds.specs.Row.{numbers}
 use Rattle.hm_moves.specs.declared.elements.Element.{Element}
+use Rattle.hm_moves.specs.Coded.{or_stop}
 use Rattle.hm_moves.specs.Moves.{Moves, all_bytes_from, asks, back_at, begun, bytes_from, bytes_of, checks_of, element_checks, elements_at, active_ones, every_byte, fails, fault_after, fill, filled, first_fault, is_closed, loaded_at, moved_by, moves_leaf, moves_tree, or_else, reads_of, sources_at, store_all, store_bytes, stored_at, sure_stop, test_all, values_at, width, words_from}
 
 -- TESTS
@@ -200,10 +201,6 @@ sure_thread x store len a thread = (λ j. stop_after (fault_kind (is_thread (thr
     go : (k : Option FaultKind) → stop_after k false store a ≡ fault_stop (fault_after k a)
     go None = refl
     go (Some k) = refl
-
-abbrev pub or_stop : Option Stop → Option Stop → Option Stop
-or_stop None o = o
-or_stop (Some e) o = Some e
 
 pub checked_fails : (o : Option Stop) (cs : List (Check Cell Stop)) (s : State) → checked cells (fails o ++ cs) s ≡ or_stop o (checked cells cs s)
 checked_fails None cs s = refl

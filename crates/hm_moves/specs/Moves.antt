@@ -1,5 +1,5 @@
 -- Rows that load or store elements of vector registers: one form for all of them.
-use Rattle.std.specs.Prelude.{ℕ, zero, suc, ◌≡◌, ◌+◌, ◌-◌, ◌*◌, ◌^◌, ◌<◌, Bool, true, false, not, ◌&&◌, ◌||◌, cond, eqb, leb, ltb, List, [], ◌∷◌, ◌++◌, map, drop, get_or, Option, Some, None, Result, Ok, Err}
+use Rattle.std.specs.Prelude.{ℕ, zero, suc, ◌≡◌, ◌+◌, ◌-◌, ◌*◌, ◌%◌, ◌^◌, ◌<◌, Bool, true, false, not, ◌&&◌, ◌||◌, cond, eqb, leb, ltb, List, [], ◌∷◌, ◌++◌, map, drop, get_or, Option, Some, None, Result, Ok, Err}
 use Rattle.hm_base.specs.Bits.{put_field}
 use Rattle.hm_base.specs.Place.{fit, same_place}
 use Rattle.hm_base.specs.declared.Fault.{Fault}
@@ -97,7 +97,7 @@ number (suc n) (x ∷ xs) = x + 256 * number n xs
 
 -- a number that was loaded, as its register has it
 abbrev pub extended : Moves → ℕ → ℕ
-extended i x = let n = 8 * width i.memory in cond (i.signed && leb (2 ^ (n - 1)) x) (x + (2 ^ 32 - 2 ^ n)) x
+extended i x = let n = 8 * width i.memory in cond (i.signed && leb (2 ^ (n - 1)) x) ((x + (2 ^ 32 - 2 ^ n)) % 2 ^ 32) x
 
 -- an element laid into word j, where it is of that word
 abbrev pub laid : Moves → ℕ → Element → ℕ → ℕ → ℕ

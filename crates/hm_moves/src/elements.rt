@@ -1,5 +1,24 @@
 //! Elements that a beat moves between memory and words of vector registers.
 
+ghost use Rattle.std.specs.Prelude.{◌≡◌, ℕ, ◌+◌, ◌-◌, ◌*◌, ◌^◌, ◌<◌, ◌≤◌, true, false, get_or, length, None, List};
+ghost use Rattle.hm_base.specs.Bits.{put_field};
+ghost use Rattle.hm_beat.specs.Touches.{spanned};
+ghost use Rattle.hm_mem.specs.Devices.{IsLen};
+ghost use Rattle.hm_mem.specs.Memory.{memory_of};
+ghost use Rattle.hm_mem.specs.Seen.{IsSameElsewhere, marks, seen, stop_in};
+ghost use Rattle.hm_regs.specs.declared.Regs.{Regs};
+ghost use Rattle.hm_state.specs.State.{cells, state_of};
+ghost use Rattle.hm_state.specs.Store.{put_all};
+ghost use Rattle.hm_moves.specs.Coded.{Fit, filled_in, first_stop};
+ghost use Rattle.hm_moves.specs.Moves.{all_bytes_from, bytes_of, extended, laid, width};
+ghost use Rattle.hm_moves.specs.Ways.{moves_of, per_word};
+
+use crate::Move;
+use arrayvec::ArrayVec;
+use hm_base::{Span, Spans, Stop, bits};
+use hm_lane::Size;
+use hm_mem::{Access, Mem};
+
 /// An element that a beat moves.
 #[derive(Clone, Copy, Debug, Default, PartialEq, Eq)]
 pub struct Element {
@@ -9,4 +28,155 @@ pub struct Element {
     pub word: u8,
     /// Its lowest byte in that word.
     pub lane: u8,
+}
+
+/// The elements of a beat, at most four.
+pub type Elements = ArrayVec<Element, 4>;
+
+/// How many bytes an element has.
+pub fn width(z: Size) -> u32
+    ensures value { result ≡ width z }
+    ensures len { IsLen result }
+{
+    match z {
+        Size::Byte => 1,
+        Size::Half => 2,
+        Size::Word => 4,
+    }
+}
+
+/// How many elements a word has.
+pub fn per_word(z: Size) -> u32
+    ensures value { result ≡ per_word z }
+    ensures at_most { result ≤ 4 }
+{
+    match z {
+        Size::Byte => 4,
+        Size::Half => 2,
+        Size::Word => 1,
+    }
+}
+
+/// The bytes of elements.
+pub fn spans(es: &[Element], z: Size) -> Spans
+    requires few { length es.now ≤ 4 }
+    ensures { spanned result.items ≡ bytes_of z es.now }
+{
+    let mut spans = Spans::new();
+    for e in es {
+        spans.push(Span {
+            addr: e.addr,
+            len: width(z),
+        });
+    }
+    spans
+}
+
+/// The stop of the first element that has one.
+pub fn check_all(es: &[Element], z: Size, store: bool, m: &Mem) -> Result<(), Stop>
+    ensures value { let m = memory_of m.now in stop_in result ≡ first_stop m.around store (width z) es.now (seen m) }
+{
+    for e in es {
+        if let Err(stop) = m.check(e.addr, width(z), Access::Vector, store) {
+            return Err(stop);
+        }
+    }
+    Ok(())
+}
+
+/// `w` with the low bits of `x` as its bits `hi` to `lo`.
+fn put_bits(w: u32, hi: u32, lo: u32, x: u32) -> u32
+    requires order { lo ≤ hi }
+    requires top { hi ≤ 31 }
+    ensures { result ≡ put_field lo (hi + 1 - lo) x w }
+{
+    let high = (w as u64 >> (hi + 1)) << (hi + 1);
+    let middle = (bits(x, hi - lo, 0) as u64) << lo;
+    let low = w as u64 % (1 << lo);
+    (high + middle + low) as u32
+}
+
+/// The highest bit of an element.
+fn top_bit(z: Size) -> u32
+    ensures { result ≡ 2 ^ (8 * width z - 1) }
+{
+    match z {
+        Size::Byte => 0x80,
+        Size::Half => 0x8000,
+        Size::Word => 0x8000_0000,
+    }
+}
+
+/// All bits of a word that an element does not have.
+fn bits_above(z: Size) -> u32
+    ensures { result ≡ 2 ^ 32 - 2 ^ (8 * width z) }
+{
+    match z {
+        Size::Byte => 0xffff_ff00,
+        Size::Half => 0xffff_0000,
+        Size::Word => 0,
+    }
+}
+
+/// A number that was loaded, extended as the row says.
+fn extended(row: &Move, x: u32) -> u32
+    ensures { result ≡ extended (moves_of row.now) x }
+{
+    if row.signed && top_bit(row.memory) <= x {
+        x.wrapping_add(bits_above(row.memory))
+    } else {
+        x
+    }
+}
+
+/// Word `j` with an element laid into it, where it is of that word.
+fn laid(row: &Move, j: usize, e: &Element, x: u32, w: u32) -> u32
+    requires { e.now.lane + width row.now.register ≤ 4 }
+    ensures { result ≡ laid (moves_of row.now) j e.now x w }
+{
+    if e.word as usize == j {
+        let lo = 8 * e.lane as u32;
+        put_bits(w, lo + (8 * width(row.register) - 1), lo, extended(row, x))
+    } else {
+        w
+    }
+}
+
+/// Word `j` with the elements that are loaded, none of which stops.
+pub fn filled(row: &Move, j: usize, es: &[Element], old: u32, m: &Mem) -> u32
+    requires fit { Fit row.now.register es.now }
+    requires free { let m = memory_of m.now in first_stop m.around false (width row.now.memory) es.now (seen m) ≡ None }
+    ensures value { result ≡ filled_in (moves_of row.now) j es.now old (seen (memory_of m.now)) }
+{
+    let mut word = old;
+    // From the last to the first.
+    for k in (0..es.len()).rev() {
+        let x = m.peek(es[k].addr, width(row.memory), Access::Vector);
+        word = laid(row, j, &es[k], x, word);
+    }
+    word
+}
+
+/// The number of this index; 0 where there is none.
+fn number_at(xs: &[u32], k: u8) -> u32
+    ensures { result ≡ get_or xs.now k 0 }
+{
+    match xs.get(k as usize) {
+        Some(x) => *x,
+        None => 0,
+    }
+}
+
+/// Stores elements of words, none of which stops.
+pub fn store_all(row: &Move, es: &[Element], words: &[u32], m: &mut Mem)
+    requires fit { Fit row.now.register es.now }
+    requires free { let m = memory_of m.old in first_stop m.around true (width row.now.memory) es.now (seen m) ≡ None }
+    ensures state { (r : Regs) (output : List ℕ) → let x = memory_of m.old in
+        state_of r (memory_of m.new) output ≡ put_all cells (all_bytes_from (marks x.around.actor) row.now.memory es.now words.now) (state_of r x output) }
+    ensures kept { IsSameElsewhere (memory_of m.old) (memory_of m.new) }
+{
+    for e in es {
+        let x = number_at(words, e.word) >> (8 * e.lane as u32);
+        m.put(e.addr, width(row.memory), Access::Vector, x);
+    }
 }

@@ -1,10 +1,16 @@
 //! Vector rows that load and store, by beats.
 #![tactic(auto)]
 
+mod beats;
 mod elements;
+mod found;
 mod laws;
+mod touches;
 mod ways;
+mod words;
 
-pub use elements::Element;
+pub use beats::check_move;
+pub use elements::{Element, Elements};
 pub use laws::moves_law;
+pub use touches::touch_move;
 pub use ways::{Addresses, Interleaved, Move, Offsets, Straight, Way};

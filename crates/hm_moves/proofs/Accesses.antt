@@ -1,0 +1,106 @@
+-- Accesses to the memory, and the bytes of the state.
+use Rattle.std.proofs.Common.{◌≡◌, ℕ, zero, suc, ◌+◌, ◌-◌, ◌*◌, ◌/◌, ◌%◌, ◌^◌, ◌<◌, ◌≤◌, Bool, true, false, not, cond, ◌||◌, ◌&&◌, ltb, eqb, nat_eq, nat_le, nat_lt, List, [], ◌∷◌, ◌++◌, map, get_or, Option, Some, None, refl, sym, ◌∙◌, ap, subst, arith, eqb-true, ne_eqb}
+use Rattle.std.specs.Prelude.{if◌then◌else◌}
+use Rattle.std.proofs.lemmas.Bool.Decides.{nat_tests}
+use Rattle.std.proofs.lemmas.Nat.{shr-shr}
+use Rattle.hm_base.specs.declared.FaultKind.{FaultKind}
+use Rattle.hm_base.specs.declared.FaultKind.TheVariants as kind
+use Rattle.hm_base.specs.declared.Stop.{Stop}
+use Rattle.hm_base.specs.declared.Stop.TheVariants as stop
+use Rattle.hm_lane.specs.declared.lanes.Size.{Size}
+use Rattle.hm_lane.specs.declared.lanes.Size.TheVariants as size
+use Rattle.hm_mem.specs.declared.Access.TheVariants.{Vector}
+use Rattle.hm_mem.specs.declared.Actor.{Actor}
+use Rattle.hm_mem.specs.declared.Actor.TheVariants.{Thread, Handler, Entry}
+use Rattle.hm_mem.specs.Devices.{byte_of, has_width, in_devices, word_at}
+use Rattle.hm_mem.specs.Memory.{Around, Memory}
+use Rattle.hm_mem.specs.Seen.{Seen, after_store, covers, fault_kind, is_kept, is_thread, is_unaligned, lies_in_flash, lies_in_memory, lies_in_sram, marks, read, seen, stop_after, stop_of}
+use Rattle.hm_order.proofs.Results.{decide, true_not_false}
+use Rattle.hm_moves.specs.Moves.{width}
+
+-- WHERE A VECTOR ACCESS LIES THAT HAS NO FAULT
+-- a word that is no word of the devices
+off_word : (a c : ℕ) → in_devices a ≡ false → 0xe000e000 ≤ c → c + 3 ≤ 0xe000efff → nat_eq (a - a % 4) c ≡ false
+off_word a c out low high = ne_eqb (a - a % 4) c (λ e. true_not_false (in_devices a) (inside e) out)
+  where
+    inside : a - a % 4 ≡ c → in_devices a ≡ true
+    inside e = grind (arith, nat_tests)
+
+no_word : (a : ℕ) → in_devices a ≡ false → word_at a ≡ None
+no_word a out = rw (
+  off_prio,
+  off_word a 0xe000e010 out (omega arith) (omega arith),
+  off_word a 0xe000e014 out (omega arith) (omega arith),
+  off_word a 0xe000e018 out (omega arith) (omega arith),
+  off_word a 0xe000e100 out (omega arith) (omega arith),
+  off_word a 0xe000e180 out (omega arith) (omega arith),
+  off_word a 0xe000e200 out (omega arith) (omega arith),
+  off_word a 0xe000e280 out (omega arith) (omega arith),
+  off_word a 0xe000ed08 out (omega arith) (omega arith),
+  off_word a 0xe000ed20 out (omega arith) (omega arith),
+  off_word a 0xe000ed14 out (omega arith) (omega arith),
+  off_word a 0xe000ed88 out (omega arith) (omega arith),
+  off_word a 0xe000ef34 out (omega arith) (omega arith),
+) refl
+  where
+    off_prio : (nat_le 0xe000e400 (a - a % 4) && nat_lt (a - a % 4) 0xe000e420) ≡ false
+    off_prio = decide (nat_le 0xe000e400 (a - a % 4) && nat_lt (a - a % 4) 0xe000e420) (λ e. true_not_false (in_devices a) (inside e) out) (λ e. e)
+      where
+        inside : (nat_le 0xe000e400 (a - a % 4) && nat_lt (a - a % 4) 0xe000e420) ≡ true → in_devices a ≡ true
+        inside e = grind (arith, nat_tests)
+
+some_none : {A P : Type 0} {x : A} → Some x ≡ None → P
+some_none e = cc
+
+-- tests one after another, none of which held
+not_taken : (b : Bool) (k : FaultKind) (o : Option FaultKind) → (if b then Some k else o) ≡ None → (b ≡ false) × (o ≡ None)
+not_taken true k o e = some_none e
+not_taken false k o e = (refl, e)
+
+pub in_memory : (thread store : Bool) (len a : ℕ) → fault_kind thread Vector store len a ≡ None → (lies_in_memory len a ≡ true) × ((store && lies_in_flash len a) ≡ false)
+in_memory thread store len a h =
+    let one = not_taken (is_unaligned Vector len a) kind.Unaligned _ h in
+    let two = not_taken (true && in_devices a) kind.DeviceVector _ one.1 in
+    let three = not_taken (not (lies_in_memory len a || has_width (word_at a) len)) kind.Bus _ two.1 in
+    let four = not_taken (store && lies_in_flash len a) kind.FlashWrite _ three.1 in
+    (lies (lies_in_memory len a) (has_width (word_at a) len) three.0 (ap (λ w. has_width w len) (no_word a two.0)), four.0)
+  where
+    lies : (p q : Bool) → not (p || q) ≡ false → q ≡ false → p ≡ true
+    lies true q e f = refl
+    lies false true e f = cc
+    lies false false e f = cc
+
+pub in_sram : (thread : Bool) (len a : ℕ) → fault_kind thread Vector true len a ≡ None → lies_in_sram len a ≡ true
+in_sram thread len a h = let both = in_memory thread true len a h in right (lies_in_flash len a) (lies_in_sram len a) both.0 both.1
+  where
+    right : (p q : Bool) → (p || q) ≡ true → (true && p) ≡ false → q ≡ true
+    right true q e f = cc
+    right false q e f = e
+
+-- what is no stop is no fault
+pub no_fault : (o : Option FaultKind) (kept store : Bool) (a : ℕ) → stop_after o kept store a ≡ None → o ≡ None
+no_fault None kept store a h = refl
+no_fault (Some k) kept store a h = some_none h
+
+pub fault_free : (x : Around) (store : Bool) (len a : ℕ) (s : Seen) → stop_of x Vector store len a s ≡ None → fault_kind (is_thread x.actor) Vector store len a ≡ None
+fault_free x store len a s h = no_fault (fault_kind (is_thread x.actor) Vector store len a) (is_kept x.actor x store len a s) store a h
+
+-- addresses within the memory do not go past the last
+pub within : (z : Size) (a k : ℕ) → lies_in_memory (width z) a ≡ true → k < width z → (a + k) % 2 ^ 32 ≡ a + k
+within z a k h l = grind (arith, nat_tests)
+
+-- STORES
+-- what stops a store does not depend on what the memory holds
+kept_store : (x : Around) (who : Actor) (len a : ℕ) (s t : Seen) → is_kept who x true len a s ≡ is_kept who x true len a t
+kept_store x Thread len a s t = refl
+kept_store x (Handler f) len a s t = refl
+kept_store x Entry len a s t = refl
+
+pub stop_of-elsewhere : (x y : Around) (len a : ℕ) (s t : Seen) → x ≡ y → stop_of y Vector true len a t ≡ None → stop_of x Vector true len a s ≡ None
+stop_of-elsewhere x y len a s t e h =
+    ap (λ (z : Around). stop_of z Vector true len a s) e
+    ∙ ap (λ b. stop_after (fault_kind (is_thread y.actor) Vector true len a) b true a) (kept_store y y.actor len a s t) ∙ h
+
+-- a byte of a shifted word
+pub shifted_byte : (w lane k : ℕ) → byte_of (w / 2 ^ (8 * lane)) k ≡ byte_of w (lane + k)
+shifted_byte w lane k = ap (λ x. x % 256) (shr-shr w (8 * lane) (8 * k) ∙ ap (λ n. w / 2 ^ n) (omega arith))

@@ -1,0 +1,77 @@
+-- Elements one after another, for the loops of the code.
+use Rattle.std.proofs.Common.{◌≡◌, ℕ, zero, suc, ◌+◌, ◌<◌, Bool, true, false, List, [], ◌∷◌, ◌++◌, drop, length, get_or, Option, Some, None, refl, sym, ◌∙◌, ap, arith, append_assoc}
+use Rattle.std.proofs.Math.Seq.{drop-cons}
+use Rattle.hm_base.specs.declared.Span.{Span}
+use Rattle.hm_base.specs.declared.Stop.{Stop}
+use Rattle.hm_lane.specs.declared.lanes.Size.{Size}
+use Rattle.hm_mem.specs.declared.Access.TheVariants.{Vector}
+use Rattle.hm_mem.specs.Memory.{Around, Memory}
+use Rattle.hm_mem.specs.Seen.{IsSameElsewhere, Seen, read, stop_of}
+use Rattle.hm_beat.specs.Touches.{span_bytes, spanned}
+use Rattle.hm_moves.specs.declared.elements.Element.{Element}
+use Rattle.hm_moves.specs.Coded.{filled_in, first_stop, or_stop}
+use Rattle.hm_moves.specs.Moves.{Moves, bytes_of, laid, width}
+
+abbrev pub none : Element
+none = record { addr = 0; word = 0; lane = 0 }
+
+pub drop_at : {A : Type 0} (d : A) (xs : List A) (k : ℕ) → k < length xs → drop k xs ≡ get_or xs k d ∷ drop (k + 1) xs
+drop_at d xs k h =
+    let one : suc k ≡ k + 1 = omega arith in
+    drop-cons xs k d h ∙ ap (λ (j : ℕ). get_or xs k d ∷ drop j xs) one
+
+module _ (x : Around) (store : Bool) (len : ℕ) (es : List Element) (k : ℕ) (s : Seen) (low : k < length es) where
+  stop_step : first_stop x store len (drop k es) s ≡ or_stop (stop_of x Vector store len (get_or es k none).addr s) (first_stop x store len (drop (k + 1) es) s)
+  stop_step = ap (λ xs. first_stop x store len xs s) (drop_at none es k low)
+
+  -- an element that does not stop, and one that does
+  pub stop_next : stop_of x Vector store len (get_or es k none).addr s ≡ None → first_stop x store len (drop k es) s ≡ first_stop x store len (drop (k + 1) es) s
+  stop_next e = stop_step ∙ ap (λ o. or_stop o (first_stop x store len (drop (k + 1) es) s)) e
+
+  pub stop_here : (e : Stop) → stop_of x Vector store len (get_or es k none).addr s ≡ Some e → first_stop x store len (drop k es) s ≡ Some e
+  stop_here e h = stop_step ∙ ap (λ o. or_stop o (first_stop x store len (drop (k + 1) es) s)) h
+
+  none_left : (o p : Option Stop) → or_stop o p ≡ None → (o ≡ None) × (p ≡ None)
+  none_left (Some e) p h = absurd (cc)
+  none_left None p h = (refl, h)
+
+  -- where none stops, this one does not, nor any behind it
+  pub stop_none : first_stop x store len (drop k es) s ≡ None → (stop_of x Vector store len (get_or es k none).addr s ≡ None) × (first_stop x store len (drop (k + 1) es) s ≡ None)
+  stop_none h = none_left _ _ (sym stop_step ∙ h)
+
+-- none stops of those from one on
+pub drop_none : (x : Around) (store : Bool) (len : ℕ) (es : List Element) (k : ℕ) (s : Seen) → first_stop x store len es s ≡ None → first_stop x store len (drop k es) s ≡ None
+drop_none x store len es zero s h = h
+drop_none x store len [] (suc k) s h = refl
+drop_none x store len (e ∷ es) (suc k) s h = drop_none x store len es k s (second _ _ h)
+  where
+    second : (o p : Option Stop) → or_stop o p ≡ None → p ≡ None
+    second None p h = h
+    second (Some e) p h = absurd (cc)
+
+-- SPANS
+spanned-more : (xs : List Span) (x : Span) → spanned (xs ++ x ∷ []) ≡ spanned xs ++ span_bytes x.addr x.len
+spanned-more [] x = none_more (span_bytes x.addr x.len)
+  where
+    none_more : (bs : List ℕ) → bs ++ [] ≡ bs
+    none_more [] = refl
+    none_more (b ∷ bs) = ap (λ cs. b ∷ cs) (none_more bs)
+spanned-more (y ∷ xs) x = ap (λ bs. span_bytes y.addr y.len ++ bs) (spanned-more xs x) ∙ sym (append_assoc (span_bytes y.addr y.len) (spanned xs) (span_bytes x.addr x.len))
+
+pub spans_more : (z : Size) (es : List Element) (k : ℕ) (xs ys : List Span) (w : ℕ) → k < length es → ys ≡ xs ++ (record { addr = (get_or es k none).addr; len = w }) ∷ [] → w ≡ width z
+    → spanned xs ++ bytes_of z (drop k es) ≡ bytes_of z es → spanned ys ++ bytes_of z (drop (k + 1) es) ≡ bytes_of z es
+spans_more z es k xs ys w low e f h =
+    let bs = span_bytes (get_or es k none).addr (width z) in
+    ap (λ zs. spanned zs ++ bytes_of z (drop (k + 1) es)) (e ∙ ap (λ n. xs ++ (record { addr = (get_or es k none).addr; len = n }) ∷ []) f)
+    ∙ ap (λ cs. cs ++ bytes_of z (drop (k + 1) es)) (spanned-more xs (record { addr = (get_or es k none).addr; len = width z }))
+    ∙ append_assoc (spanned xs) bs (bytes_of z (drop (k + 1) es))
+    ∙ ap (λ cs. spanned xs ++ cs) (sym (ap (bytes_of z) (drop_at none es k low))) ∙ h
+
+-- WORDS
+pub fill_next : (i : Moves) (j : ℕ) (es : List Element) (k old x w v : ℕ) (s : Seen) → k < length es → w ≡ filled_in i j (drop (k + 1) es) old s
+    → x ≡ read (width i.memory) (get_or es k none).addr s → v ≡ laid i j (get_or es k none) x w → v ≡ filled_in i j (drop k es) old s
+fill_next i j es k old x w v s low hw hx hv =
+    hv ∙ (λ t. laid i j (get_or es k none) (hx t) (hw t)) ∙ sym (ap (λ xs. filled_in i j xs old s) (drop_at none es k low))
+
+pub same_trans : (m n o : Memory) → IsSameElsewhere m n → IsSameElsewhere n o → IsSameElsewhere m o
+same_trans m n o h k = record { flash = k.flash ∙ h.flash; around = k.around ∙ h.around }

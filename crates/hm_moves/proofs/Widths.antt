@@ -1,0 +1,56 @@
+-- Elements by their numbers, for the code that finds them.
+use Rattle.std.proofs.Common.{◌≡◌, ℕ, zero, suc, ◌+◌, ◌-◌, ◌*◌, ◌<◌, ◌≤◌, Bool, true, false, cond, List, [], ◌∷◌, ◌++◌, get_or, map, refl, sym, ◌∙◌, ap, arith, append_assoc}
+use Rattle.hm_base.specs.Bits.{field}
+use Rattle.hm_base.specs.declared.Place.{Place}
+use Rattle.hm_lane.specs.declared.lanes.Size.{Size}
+use Rattle.hm_lane.specs.declared.lanes.Size.TheVariants as size
+use Rattle.hm_moves.specs.declared.elements.Element.{Element}
+use Rattle.hm_moves.specs.declared.ways.Way.{Way}
+use Rattle.hm_moves.specs.declared.ways.Way.TheVariants.{Straight, Offsets, Addresses, Interleaved}
+use Rattle.hm_moves.specs.Moves.{active_ones, width}
+use Rattle.hm_moves.specs.Ways.{each_from, way_back, way_element}
+
+pub width_some : (z : Size) → 0 < width z
+width_some size.Byte = omega arith
+width_some size.Half = omega arith
+width_some size.Word = omega arith
+
+pub field_at : (z : Size) (j w lane len : ℕ) → lane ≡ width z * j → len ≡ width z → field (8 * lane) (8 * lane + (8 * len - 1) + 1 - 8 * lane) w ≡ field (8 * (width z * j)) (8 * width z) w
+field_at z j w lane len e f =
+    let some = width_some z in
+    let n : 8 * lane + (8 * len - 1) + 1 - 8 * lane ≡ 8 * width z = omega arith in
+    (λ t. field (8 * e t) (n t) w)
+
+-- the elements of a beat by two numbers are those by what stands in the sources
+pub by_sources : (y z : Size) (w : Way) (b first second : ℕ) (ns : List ℕ) (j : ℕ) → first ≡ get_or ns 0 0 → second ≡ get_or ns 1 0 → way_element y z w b (first ∷ second ∷ []) j ≡ way_element y z w b ns j
+by_sources y z (Straight w) b first second ns j e f = ap (λ n. way_element y z (Straight w) b (n ∷ []) j) e
+by_sources y z (Offsets w) b first second ns j e f = λ t. way_element y z (Offsets w) b (e t ∷ f t ∷ []) j
+by_sources y z (Addresses w) b first second ns j e f = ap (λ n. way_element y z (Addresses w) b (n ∷ []) j) e
+by_sources y z (Interleaved w) b first second ns j e f = ap (λ n. way_element y z (Interleaved w) b (n ∷ []) j) e
+
+pub each_same : (f g : ℕ → Element) (j n : ℕ) → ((k : ℕ) → f k ≡ g k) → each_from f j n ≡ each_from g j n
+each_same f g j zero h = refl
+each_same f g j (suc n) h = λ t. h j t ∷ each_same f g (j + 1) n h t
+
+-- one element more
+module _ (active : List Bool) (f : ℕ → Element) (j n m : ℕ) (more : n - j ≡ suc m) (es : List Element) where
+  step : (es ++ active_ones active (each_from f j (n - j))) ≡ es ++ (cond (get_or active (f j).lane false) (f j ∷ []) [] ++ active_ones active (each_from f (j + 1) m))
+  step = ap (λ k. es ++ active_ones active (each_from f j k)) more
+
+  pub more_active : (fs : List Element) (e : Element) → fs ≡ es ++ cond (get_or active e.lane false) (e ∷ []) [] → e ≡ f j → fs ++ active_ones active (each_from f (j + 1) m) ≡ es ++ active_ones active (each_from f j (n - j))
+  more_active fs e h g =
+      let rest = active_ones active (each_from f (j + 1) m) in
+      ap (λ xs. xs ++ rest) (h ∙ (λ t. es ++ cond (get_or active (g t).lane false) (g t ∷ []) []))
+      ∙ append_assoc es (cond (get_or active (f j).lane false) (f j ∷ []) []) rest ∙ sym step
+
+-- one of n more
+pub each_more : {A : Type 0} (f : ℕ → A) (n i m : ℕ) (xs ys zs : List A) → n - i ≡ suc m → ys ≡ xs ++ f i ∷ [] → xs ++ each_from f i (n - i) ≡ zs → ys ++ each_from f (i + 1) m ≡ zs
+each_more f n i m xs ys zs more e h =
+    ap (λ us. us ++ each_from f (i + 1) m) e ∙ append_assoc xs (f i ∷ []) (each_from f (i + 1) m) ∙ sym (ap (λ k. xs ++ each_from f i k) more) ∙ h
+
+-- what is written back, by the first of what stands in the sources
+pub back_by : (w : Way) (b first : ℕ) (ns : List ℕ) → first ≡ get_or ns 0 0 → way_back w b (first ∷ []) ≡ way_back w b ns
+back_by (Straight w) b first ns e = ap (λ n. way_back (Straight w) b (n ∷ [])) e
+back_by (Offsets w) b first ns e = refl
+back_by (Addresses w) b first ns e = ap (λ n. way_back (Addresses w) b (n ∷ [])) e
+back_by (Interleaved w) b first ns e = ap (λ n. way_back (Interleaved w) b (n ∷ [])) e

@@ -1,0 +1,8 @@
+use Rattle.std.proofs.Common.{◌≡◌, ◌+◌, ◌-◌, ◌*◌, arith, ◌∙◌, ap}
+use Rattle.hm_base.specs.Bits.{field}
+use Rattle.hm_moves.specs.Moves.{width}
+use Rattle.hm_moves.proofs.Widths.{field_at}
+use Rattle.hm_moves.proofs.found.lane_number.Goals as goal
+
+pub returns : goal.returns
+returns c = c.bits.ensures.value ∙ field_at c.args.z c.args.j c.args.word c.lane.result c.width.result c.lane.ensures.value c.width.ensures.value

@@ -1,0 +1,27 @@
+use Rattle.std.proofs.Common.{◌≡◌, ℕ, suc, ◌+◌, ◌-◌, ◌*◌, ◌/◌, ◌%◌, ◌++◌, ◌∷◌, [], cond, ltb, subst, sym, ap, arith, length-append, ◌∙◌}
+use Rattle.std.specs.Prelude.{All}
+use Rattle.std.proofs.lemmas.List.Elements.{All-push}
+use Rattle.hm_base.specs.Place.{IsPlace}
+use Rattle.hm_base.specs.declared.Place.{Place}
+use Rattle.hm_beat.specs.Rows.{word_place}
+use Rattle.hm_moves.specs.Moves.{width}
+use Rattle.hm_moves.specs.Ways.{per_word, registers, stream}
+use Rattle.hm_moves.proofs.Widths.{each_more}
+use Rattle.hm_moves.proofs.words.interleaved_words.Goals as goal
+
+pub loop-i-preserved : goal.loop-i-preserved
+loop-i-preserved c =
+    let w = c.args.w.now in
+    let z = c.args.z in
+    let g : ℕ → Place = λ k. word_place (w.d + k % registers w) (width z * (k / registers w) / 4) in
+    let f : ℕ → Place = λ i. g (stream w z c.args.b + i) in
+    let n = cond (ltb (per_word z) (registers w)) (per_word z) (registers w) in
+    let i = c.loop-i.i in
+    let count : c.least-i-end.result ≡ n = c.least-i-end.ensures ∙ (λ t. cond (ltb (c.per_word.ensures.value t) (c.registers.ensures.value t)) (c.per_word.ensures.value t) (c.registers.ensures.value t)) in
+    let next : n - i ≡ suc (n - (i + 1)) = omega arith in
+    record {
+      value = each_more f n i (n - (i + 1)) c.loop-i.words.items _ _ next
+          (c.push.ensures.items ∙ ap (λ p. c.loop-i.words.items ++ p ∷ []) (c.interleaved_word.ensures.value ∙ ap (λ k. g (k + i)) c.stream-first.ensures.value)) c.loop-i.invariant.value;
+      size = rw c.push.ensures.items (simp length-append (omega arith));
+      placed = subst (All IsPlace) (sym c.push.ensures.items) (All-push IsPlace c.loop-i.words.items _ c.loop-i.invariant.placed c.interleaved_word.ensures.placed);
+    }

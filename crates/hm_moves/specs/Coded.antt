@@ -1,0 +1,58 @@
+-- What the code of a row that loads or stores says of itself.
+use Rattle.std.specs.Prelude.{ℕ, ◌≡◌, ◌+◌, ◌≤◌, Bool, true, false, cond, ltb, List, [], ◌∷◌, ◌++◌, map, Option, Some, None, All}
+use Rattle.hm_base.specs.declared.Place.{Place}
+use Rattle.hm_base.specs.declared.Stop.{Stop}
+use Rattle.hm_base.specs.declared.Place.TheVariants.{P0}
+use Rattle.hm_regs.specs.declared.Regs.{Regs}
+use Rattle.hm_regs.specs.Writes.{Write, write}
+use Rattle.hm_lane.specs.declared.lanes.Size.{Size}
+use Rattle.hm_mem.specs.declared.Access.TheVariants.{Vector}
+use Rattle.hm_mem.specs.Memory.{Around}
+use Rattle.hm_mem.specs.Seen.{Seen, read, stop_of}
+use Rattle.hm_state.specs.State.{State, at}
+use Rattle.hm_lane.specs.Predicate.{mask_of, mask_place}
+use Rattle.hm_beat.specs.Touches.{looked_places}
+use Rattle.hm_beat.specs.Rows.{active_at}
+use Rattle.hm_kinds.specs.declared.rows.Written.{Written}
+use Rattle.hm_moves.specs.declared.elements.Element.{Element}
+use Rattle.hm_moves.specs.Moves.{Moves, every_byte, laid, width}
+
+abbrev pub or_stop : Option Stop → Option Stop → Option Stop
+or_stop None o = o
+or_stop (Some e) o = Some e
+
+-- the stop of the first element that has one
+abbrev pub first_stop : Around → Bool → ℕ → List Element → Seen → Option Stop
+first_stop x store len [] s = None
+first_stop x store len (e ∷ es) s = or_stop (stop_of x Vector store len e.addr s) (first_stop x store len es s)
+
+-- each element lies in its word
+abbrev pub Fit : Size → List Element → Type 0
+Fit z es = All (λ (e : Element). e.lane + width z ≤ 4) es
+
+-- word j with the elements that are loaded
+abbrev pub filled_in : Moves → ℕ → List Element → ℕ → Seen → ℕ
+filled_in i j [] old s = old
+filled_in i j (e ∷ es) old s = laid i j e (read (width i.memory) e.addr s) (filled_in i j es old s)
+
+-- words from number j on, as they are filled
+abbrev pub word_puts : Moves → ℕ → List Element → List Place → (Place → ℕ) → Seen → List Write
+word_puts i j es [] old s = []
+word_puts i j es (p ∷ ps) old s = write p (filled_in i j es (old p) s) ∷ word_puts i (j + 1) es ps old s
+
+abbrev pub puts : List Written → List Write
+puts [] = []
+puts (w ∷ ws) = write w.place w.value ∷ puts ws
+
+-- the active bytes of beat b
+abbrev pub active_of : Moves → ℕ → State → List Bool
+active_of i b s = cond i.predicated (active_at b s) every_byte
+
+-- how a word begins to be filled
+abbrev pub old_word : Moves → State → Place → ℕ
+old_word i s p = cond i.predicated 0 (at p s)
+
+-- the places that say which elements are active and how the masks advance, as the registers stand
+abbrev pub begun_in : Bool → ℕ → Regs → List Place
+begun_in true b r = looked_places false b r
+begun_in false b r = mask_place b ∷ cond (ltb 8 (mask_of b r)) (P0 b ∷ []) []

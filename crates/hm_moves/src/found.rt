@@ -1,0 +1,278 @@
+//! Where a beat finds its elements.
+
+ghost use Rattle.std.specs.Prelude.{◌≡◌, ℕ, ◌+◌, ◌-◌, ◌*◌, ◌/◌, ◌%◌, ◌^◌, ◌<◌, ◌≤◌, List, [], ◌∷◌, ◌++◌, cond, get_or, length, map, All, IfSome};
+ghost use Rattle.hm_base.specs.Bits.{field};
+ghost use Rattle.hm_base.specs.Place.{IsPlace};
+ghost use Rattle.hm_mem.specs.Memory.{Memory};
+ghost use Rattle.hm_state.specs.State.{at, state_of};
+ghost use Rattle.hm_beat.specs.Rows.{active_at, word_place};
+ghost use Rattle.hm_kinds.specs.Coded.{those};
+ghost use Rattle.hm_kinds.specs.Row.{is_body};
+ghost use Rattle.hm_moves.specs.Coded.{Fit, active_of};
+ghost use Rattle.hm_moves.specs.Moves.{active_ones, elements_at, every_byte, width};
+ghost use Rattle.hm_moves.specs.Ways.{each_from, moves_of, per_word, registers, start, stream, way_element, way_predicated, way_sources};
+ghost use Rattle.hm_moves.specs.declared.ways.Way.TheVariants as way;
+
+use crate::elements::{Element, Elements, per_word, width};
+use crate::{Addresses, Interleaved, Move, Offsets, Straight, Way};
+use hm_base::{Place, bits};
+use hm_beat::read_word;
+use hm_kinds::read;
+use hm_lane::{Size, predicate};
+use hm_regs::Regs;
+
+/// So many elements in bytes.
+fn times_width(z: Size, k: u32) -> u32
+    requires { k ≤ 64 }
+    ensures value { result ≡ width z * k }
+    ensures at_most { result ≤ 256 }
+{
+    match z {
+        Size::Byte => k,
+        Size::Half => 2 * k,
+        Size::Word => 4 * k,
+    }
+}
+
+/// So many words in elements.
+fn times_count(z: Size, k: u32) -> u32
+    requires { k < 16 }
+    ensures value { result ≡ per_word z * k }
+    ensures at_most { result ≤ 60 }
+    ensures within { (n : ℕ) → k < n → result + per_word z ≤ per_word z * n }
+{
+    match z {
+        Size::Byte => 4 * k,
+        Size::Half => 2 * k,
+        Size::Word => k,
+    }
+}
+
+/// The lowest byte of element `j` of a word.
+fn lane(z: Size, j: u32) -> u8
+    requires { j < per_word z }
+    ensures value { result ≡ width z * j }
+    ensures fit { result + width z ≤ 4 }
+{
+    match z {
+        Size::Byte => j as u8,
+        Size::Half => 2 * j as u8,
+        Size::Word => 0,
+    }
+}
+
+/// The lowest byte, in its word, of element `k` of a register.
+fn lane_in_word(z: Size, k: u32) -> u8
+    requires { k ≤ 64 }
+    ensures value { result ≡ width z * k % 4 }
+    ensures fit { result + width z ≤ 4 }
+{
+    match z {
+        Size::Byte => (k % 4) as u8,
+        Size::Half => (2 * k % 4) as u8,
+        Size::Word => 0,
+    }
+}
+
+/// Element `j` of a word.
+fn lane_number(z: Size, j: u32, word: u32) -> u32
+    requires { j < per_word z }
+    ensures { result ≡ field (8 * (width z * j)) (8 * width z) word }
+{
+    let lo = 8 * lane(z, j) as u32;
+    bits(word, lo + (8 * width(z) - 1), lo)
+}
+
+/// Where elements that stand one behind another begin.
+fn start(w: &Straight, base: u32) -> u32
+    ensures { result ≡ start w.now base }
+{
+    if w.before {
+        base.wrapping_add(w.offset)
+    } else {
+        base
+    }
+}
+
+/// Element `j` of beat `b` of those that stand one behind another. `b` is below 4.
+fn straight_element(w: &Straight, y: Size, z: Size, b: u8, base: u32, j: u32) -> Element
+    requires beat { b < 4 }
+    requires index { j < per_word z }
+    ensures value { (n : ℕ) → result ≡ way_element y z (way.Straight w.now) b (base ∷ n ∷ []) j }
+    ensures fit { result.lane + width z ≤ 4 }
+{
+    let index = times_count(z, b as u32) + j;
+    Element {
+        addr: start(w, base).wrapping_add(times_width(y, index)),
+        word: 0,
+        lane: lane(z, j),
+    }
+}
+
+/// The address at the offset that element `j` of a word is.
+fn offset_address(w: &Offsets, z: Size, base: u32, word: u32, j: u32) -> u32
+    requires { j < per_word z }
+    ensures { result ≡ (base + field (8 * (width z * j)) (8 * width z) word * 2 ^ w.now.scale) % 2 ^ 32 }
+{
+    base.wrapping_add(lane_number(z, j, word) << w.scale)
+}
+
+/// How many registers take elements in turn.
+pub fn registers(w: &Interleaved) -> u32
+    ensures value { result ≡ registers w.now }
+    ensures some { 2 ≤ result }
+    ensures at_most { result ≤ 4 }
+{
+    if w.four { 4 } else { 2 }
+}
+
+/// The number in the stream of the first element of beat `b`, which is below 4.
+pub fn stream(w: &Interleaved, z: Size, b: u8) -> u32
+    requires { b < 4 }
+    ensures value { result ≡ stream w.now z b }
+    ensures at_most { result ≤ 60 }
+    ensures within { result + per_word z ≤ 4 * per_word z * registers w.now }
+{
+    times_count(z, 4 * w.part as u32 + b as u32)
+}
+
+/// Element `j` of beat `b` of interleaved ones. `b` is below 4.
+fn interleaved_element(w: &Interleaved, y: Size, z: Size, b: u8, base: u32, j: u32) -> Element
+    requires beat { b < 4 }
+    requires index { j < per_word z }
+    ensures value { (n : ℕ) → result ≡ way_element y z (way.Interleaved w.now) b (base ∷ n ∷ []) j }
+    ensures fit { result.lane + width z ≤ 4 }
+{
+    let count = registers(w);
+    let index = stream(w, z, b) + j;
+    Element {
+        addr: base.wrapping_add(times_width(y, index)),
+        word: (j % count) as u8,
+        lane: lane_in_word(z, index / count),
+    }
+}
+
+/// Element `j` of beat `b`, by the two numbers that stand in the sources. `b` is below 4.
+fn element(row: &Move, b: u8, first: u32, second: u32, j: u32) -> Element
+    requires beat { b < 4 }
+    requires index { j < per_word row.now.register }
+    ensures value { result ≡ way_element row.now.memory row.now.register row.now.way b (first ∷ second ∷ []) j }
+    ensures fit { result.lane + width row.now.register ≤ 4 }
+{
+    let y = row.memory;
+    let z = row.register;
+    match &row.way {
+        Way::Straight(w) => straight_element(w, y, z, b, first, j),
+        Way::Offsets(w) => Element {
+            addr: offset_address(w, z, first, second, j),
+            word: 0,
+            lane: lane(z, j),
+        },
+        Way::Addresses(w) => Element {
+            addr: first.wrapping_add(w.offset),
+            word: 0,
+            lane: lane(z, j),
+        },
+        Way::Interleaved(w) => interleaved_element(w, y, z, b, first, j),
+    }
+}
+
+/// What the first source of beat `b` holds. `b` is below 4.
+pub fn first_source(way: &Way, b: u8, r: &Regs) -> u32
+    requires { b < 4 }
+    ensures { (m : Memory) (output : List ℕ) → result ≡ get_or (map (λ p. at p (state_of r.now m output)) (way_sources way.now b)) 0 0 }
+{
+    match way {
+        Way::Straight(w) => read(r, Place::R(w.n)),
+        Way::Offsets(w) => read(r, Place::R(w.n)),
+        Way::Addresses(w) => read_word(r, w.m, b),
+        Way::Interleaved(w) => read(r, Place::R(w.n)),
+    }
+}
+
+/// What the second one holds, where there are two. `b` is below 4.
+fn second_source(way: &Way, b: u8, r: &Regs) -> u32
+    requires { b < 4 }
+    ensures { (m : Memory) (output : List ℕ) → result ≡ get_or (map (λ p. at p (state_of r.now m output)) (way_sources way.now b)) 1 0 }
+{
+    match way {
+        Way::Offsets(w) => read_word(r, w.m, b),
+        _ => 0,
+    }
+}
+
+/// Whether a row is under the predicate.
+pub fn is_predicated(way: &Way) -> bool
+    ensures { result ≡ way_predicated way.now }
+{
+    match way {
+        Way::Interleaved(_) => false,
+        _ => true,
+    }
+}
+
+/// The bytes of word `b` that the predicate makes active. `b` is below 4.
+fn predicated_bytes(r: &Regs, b: u8) -> [bool; 4]
+    requires { b < 4 }
+    ensures { (m : Memory) (output : List ℕ) → result ≡ active_at b (state_of r.now m output) }
+{
+    let p = predicate(r);
+    let first = 4 * b;
+    [
+        (p >> first) % 2 == 1,
+        (p >> (first + 1)) % 2 == 1,
+        (p >> (first + 2)) % 2 == 1,
+        (p >> (first + 3)) % 2 == 1,
+    ]
+}
+
+/// The active bytes of beat `b`. `b` is below 4.
+fn active(row: &Move, b: u8, r: &Regs) -> [bool; 4]
+    requires { b < 4 }
+    ensures { (m : Memory) (output : List ℕ) → result ≡ active_of (moves_of row.now) b (state_of r.now m output) }
+{
+    if is_predicated(&row.way) {
+        predicated_bytes(r, b)
+    } else {
+        [true; 4]
+    }
+}
+
+/// Puts an element behind others, where it is active.
+fn push_active(es: &mut Elements, e: Element, active: bool)
+    requires room { length es.old.items < 4 }
+    ensures value { es.new.items ≡ es.old.items ++ cond active (e ∷ []) [] }
+    ensures few { length es.new.items ≤ length es.old.items + 1 }
+    ensures fit { (w : ℕ) → All (λ x. x.lane + w ≤ 4) es.old.items → e.lane + w ≤ 4 → All (λ x. x.lane + w ≤ 4) es.new.items }
+{
+    if active {
+        es.push(e);
+    }
+}
+
+/// The active ones of the elements of beat `b`, by the two numbers that stand in the sources. `b` is below 4.
+fn active_elements(row: &Move, b: u8, first: u32, second: u32, active: [bool; 4]) -> Elements
+    requires { b < 4 }
+    ensures value { result.items ≡ active_ones active (each_from (way_element row.now.memory row.now.register row.now.way b (first ∷ second ∷ [])) 0 (per_word row.now.register)) }
+    ensures few { length result.items ≤ 4 }
+    ensures fit { Fit row.now.register result.items }
+{
+    let mut es = Elements::new();
+    for j in 0..per_word(row.register) {
+        let e = element(row, b, first, second, j);
+        push_active(&mut es, e, active[e.lane as usize]);
+    }
+    es
+}
+
+/// The elements that beat `b` moves. `b` is below 4.
+pub fn elements(row: &Move, b: u8, r: &Regs) -> Elements
+    requires { b < 4 }
+    ensures value { (m : Memory) (output : List ℕ) → result.items ≡ elements_at (moves_of row.now) b (state_of r.now m output) }
+    ensures few { length result.items ≤ 4 }
+    ensures fit { Fit row.now.register result.items }
+{
+    let first = first_source(&row.way, b, r);
+    let second = second_source(&row.way, b, r);
+    active_elements(row, b, first, second, active(row, b, r))
+}

@@ -1,0 +1,162 @@
+//! The words that a beat fills or stores from, and what it writes back.
+
+ghost use Rattle.std.specs.Prelude.{◌≡◌, ℕ, ◌+◌, ◌-◌, ◌*◌, ◌/◌, ◌%◌, ◌^◌, ◌<◌, ◌≤◌, ◌&&◌, eqb, cond, List, [], ◌∷◌, ltb, length, true, All, IfSome};
+ghost use Rattle.hm_base.specs.Place.{IsPlace};
+ghost use Rattle.hm_base.specs.declared.Place.TheVariants.{R};
+ghost use Rattle.hm_regs.specs.Writes.{write};
+ghost use Rattle.hm_beat.specs.Rows.{word_place};
+ghost use Rattle.hm_kinds.specs.Coded.{puts};
+ghost use Rattle.hm_kinds.specs.Row.{is_body};
+ghost use Rattle.hm_moves.specs.Moves.{width};
+ghost use Rattle.hm_moves.specs.Ways.{each_from, per_word, registers, stream, way_back, way_words};
+
+use crate::elements::per_word;
+use crate::found::{registers, stream};
+use crate::{Interleaved, Way};
+use arrayvec::ArrayVec;
+use hm_base::Place;
+use hm_kinds::Written;
+use hm_lane::Size;
+
+/// At most four words.
+pub type Words = ArrayVec<Place, 4>;
+
+/// Which element of its register element `k` of the stream is.
+fn quotient(w: &Interleaved, k: u32) -> u32
+    ensures value { result ≡ k / registers w.now }
+    ensures below { (n : ℕ) → k < n * registers w.now → result < n }
+{
+    if w.four { k / 4 } else { k / 2 }
+}
+
+/// The register that element `k` of the stream goes to.
+fn register_of(w: &Interleaved, k: u32) -> u8
+    ensures value { result ≡ w.now.d + k % registers w.now }
+    ensures below { result < 8 }
+{
+    if w.four {
+        w.d + (k % 4) as u8
+    } else {
+        w.d + (k % 2) as u8
+    }
+}
+
+/// The word of a register that its element `k` is of.
+fn word_of(z: Size, k: u32) -> u8
+    requires { k < 4 * per_word z }
+    ensures value { result ≡ width z * k / 4 }
+    ensures below { result < 4 }
+{
+    match z {
+        Size::Byte => (k / 4) as u8,
+        Size::Half => (2 * k / 4) as u8,
+        Size::Word => k as u8,
+    }
+}
+
+/// The word that element `k` of the stream is of, one of those that all parts move.
+fn interleaved_word(w: &Interleaved, z: Size, k: u32) -> Place
+    requires { k < 4 * per_word z * registers w.now }
+    ensures value { result ≡ word_place (w.now.d + k % registers w.now) (width z * (k / registers w.now) / 4) }
+    ensures placed { IsPlace result }
+{
+    Place::QWord(4 * register_of(w, k) + word_of(z, quotient(w, k)))
+}
+
+/// The lower of two numbers.
+fn least(x: u32, y: u32) -> u32
+    ensures { result ≡ cond (ltb x y) x y }
+{
+    if x < y { x } else { y }
+}
+
+/// The words of interleaved elements. `b` is below 4.
+fn interleaved_words(w: &Interleaved, z: Size, b: u8) -> Words
+    requires { b < 4 }
+    ensures value { result.items ≡ each_from (λ i. let k = stream w.now z b + i in word_place (w.now.d + k % registers w.now) (width z * (k / registers w.now) / 4)) 0
+        (cond (ltb (per_word z) (registers w.now)) (per_word z) (registers w.now)) }
+    ensures placed { All IsPlace result.items }
+{
+    let mut words = Words::new();
+    let first = stream(w, z, b);
+    for i in 0..least(per_word(z), registers(w)) {
+        words.push(interleaved_word(w, z, first + i));
+    }
+    words
+}
+
+/// One word of a register.
+fn one_word(q: u8, b: u8) -> Words
+    requires register { q < 8 }
+    requires beat { b < 4 }
+    ensures value { result.items ≡ word_place q b ∷ [] }
+    ensures placed { All IsPlace result.items }
+{
+    let mut words = Words::new();
+    words.push(Place::QWord(4 * q + b));
+    words
+}
+
+/// The words that beat `b` fills or stores from. `b` is below 4.
+pub fn words(way: &Way, z: Size, b: u8) -> Words
+    requires { b < 4 }
+    ensures value { result.items ≡ way_words z way.now b }
+    ensures placed { All IsPlace result.items }
+{
+    match way {
+        Way::Straight(w) => one_word(w.d, b),
+        Way::Offsets(w) => one_word(w.d, b),
+        Way::Addresses(w) => one_word(w.d, b),
+        Way::Interleaved(w) => interleaved_words(w, z, b),
+    }
+}
+
+/// The base register and its new value on the last beat, where it is written.
+fn base_back(back: bool, n: u8, b: u8, value: u32) -> Option<Written>
+    requires { n ≤ 14 }
+    ensures value { puts result ≡ cond (back && eqb b 3) (write (R n) value ∷ []) [] }
+    ensures placed { IfSome result (λ w. IsPlace w.place) }
+    ensures body { IfSome result (λ w. is_body w.place ≡ true) }
+{
+    if back && b == 3 {
+        Some(Written {
+            place: Place::R(n),
+            value,
+        })
+    } else {
+        None
+    }
+}
+
+/// A word with addresses and its new value, where it is written.
+fn word_back(back: bool, q: u8, b: u8, value: u32) -> Option<Written>
+    requires register { q < 8 }
+    requires beat { b < 4 }
+    ensures value { puts result ≡ cond back (write (word_place q b) value ∷ []) [] }
+    ensures placed { IfSome result (λ w. IsPlace w.place) }
+    ensures body { IfSome result (λ w. is_body w.place ≡ true) }
+{
+    if back {
+        Some(Written {
+            place: Place::QWord(4 * q + b),
+            value,
+        })
+    } else {
+        None
+    }
+}
+
+/// What beat `b` writes back, by the number in its first source. `b` is below 4.
+pub fn written_back(way: &Way, b: u8, first: u32) -> Option<Written>
+    requires { b < 4 }
+    ensures value { puts result ≡ way_back way.now b (first ∷ []) }
+    ensures placed { IfSome result (λ w. IsPlace w.place) }
+    ensures body { IfSome result (λ w. is_body w.place ≡ true) }
+{
+    match way {
+        Way::Straight(w) => base_back(w.back, w.n, b, first.wrapping_add(w.offset)),
+        Way::Offsets(_) => None,
+        Way::Addresses(w) => word_back(w.back, w.m, b, first.wrapping_add(w.offset)),
+        Way::Interleaved(w) => base_back(w.back, w.n, b, first.wrapping_add(16 * registers(w))),
+    }
+}
