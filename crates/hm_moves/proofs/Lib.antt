@@ -8,3 +8,4 @@ pub mod Stored
 pub mod Widths
 pub mod Checked
 pub mod Touched
+pub mod Done

@@ -4,12 +4,13 @@ use Rattle.hm_base.specs.declared.Place.{Place}
 use Rattle.hm_base.specs.declared.Stop.{Stop}
 use Rattle.hm_base.specs.declared.Place.TheVariants.{P0}
 use Rattle.hm_regs.specs.declared.Regs.{Regs}
+use Rattle.hm_regs.specs.Place.{value_at}
 use Rattle.hm_regs.specs.Writes.{Write, write}
 use Rattle.hm_lane.specs.declared.lanes.Size.{Size}
 use Rattle.hm_mem.specs.declared.Access.TheVariants.{Vector}
 use Rattle.hm_mem.specs.Memory.{Around}
 use Rattle.hm_mem.specs.Seen.{Seen, read, stop_of}
-use Rattle.hm_state.specs.State.{State, at}
+use Rattle.hm_state.specs.State.{State}
 use Rattle.hm_lane.specs.Predicate.{mask_of, mask_place}
 use Rattle.hm_beat.specs.Touches.{looked_places}
 use Rattle.hm_beat.specs.Rows.{active_at}
@@ -40,19 +41,19 @@ abbrev pub word_puts : Moves → ℕ → List Element → List Place → (Place 
 word_puts i j es [] old s = []
 word_puts i j es (p ∷ ps) old s = write p (filled_in i j es (old p) s) ∷ word_puts i (j + 1) es ps old s
 
-abbrev pub puts : List Written → List Write
-puts [] = []
-puts (w ∷ ws) = write w.place w.value ∷ puts ws
-
 -- the active bytes of beat b
 abbrev pub active_of : Moves → ℕ → State → List Bool
 active_of i b s = cond i.predicated (active_at b s) every_byte
 
--- how a word begins to be filled
-abbrev pub old_word : Moves → State → Place → ℕ
-old_word i s p = cond i.predicated 0 (at p s)
+-- how a word begins to be filled, as the registers stand
+abbrev pub old_word : Moves → Regs → Place → ℕ
+old_word i r p = cond i.predicated 0 (value_at p r)
 
 -- the places that say which elements are active and how the masks advance, as the registers stand
 abbrev pub begun_in : Bool → ℕ → Regs → List Place
 begun_in true b r = looked_places false b r
 begun_in false b r = mask_place b ∷ cond (ltb 8 (mask_of b r)) (P0 b ∷ []) []
+
+abbrev pub puts_of : List Written → List Write
+puts_of [] = []
+puts_of (w ∷ ws) = write w.place w.value ∷ puts_of ws

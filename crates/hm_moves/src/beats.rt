@@ -1,14 +1,29 @@
 //! What a beat of a row that loads or stores does.
 
-ghost use Rattle.std.specs.Prelude.{◌≡◌, ℕ, ◌<◌, List};
+ghost use Rattle.std.specs.Prelude.{◌≡◌, ℕ, ◌+◌, ◌-◌, ◌*◌, ◌%◌, ◌<◌, ◌≤◌, ◌&&◌, not, eqb, ltb, cond, true, false, List, [], ◌∷◌, ◌++◌, length, map, None, All, IfSome, IsOk};
+ghost use Rattle.hm_base.specs.Place.{IsPlace};
+ghost use Rattle.hm_base.specs.declared.Place.TheVariants.{P0};
+ghost use Rattle.hm_lane.specs.Predicate.{advance_writes, mask_place};
 ghost use Rattle.hm_mem.specs.Memory.{memory_of};
-ghost use Rattle.hm_beat.specs.Laws.{Checks, run};
-ghost use Rattle.hm_moves.specs.Ways.{move_tree};
+ghost use Rattle.hm_mem.specs.Seen.{IsSameElsewhere, seen};
+ghost use Rattle.hm_mem.specs.Seen as mem;
+ghost use Rattle.hm_regs.specs.Place.{value_at};
+ghost use Rattle.hm_regs.specs.Writes.{apply, write};
+ghost use Rattle.hm_beat.specs.Laws.{Beats, Checks, run};
+ghost use Rattle.hm_kinds.specs.Coded.{puts};
+ghost use Rattle.hm_kinds.specs.Row.{is_body};
+ghost use Rattle.hm_moves.specs.Coded.{Fit, first_stop, old_word, puts_of, word_puts};
+ghost use Rattle.hm_moves.specs.Moves.{width};
+ghost use Rattle.hm_moves.specs.Ways.{move_tree, moves_of};
 
 use crate::Move;
-use crate::elements::check_all;
-use crate::found::elements;
-use hm_base::Stop;
+use crate::elements::{Element, check_all, filled, store_all};
+use crate::found::{elements, first_source, is_predicated};
+use crate::words::{words, written_back};
+use arrayvec::ArrayVec;
+use hm_base::{Place, Stop};
+use hm_kinds::Written;
+use hm_lane::mask_at;
 use hm_mem::Mem;
 use hm_regs::Regs;
 
@@ -19,4 +34,113 @@ pub fn check_move(row: &Move, b: u8, r: &Regs, m: &Mem) -> Result<(), Stop>
 {
     let es = elements(row, b, r);
     check_all(es.as_slice(), row.memory, row.store, m)
+}
+
+/// What stands in places, at most four.
+fn values(list: &[Place], r: &Regs) -> ArrayVec<u32, 4>
+    requires few { length list.now ≤ 4 }
+    requires placed { All IsPlace list.now }
+    ensures { result.items ≡ map (λ p. value_at p r.now) list.now }
+{
+    let mut xs = ArrayVec::new();
+    for p in list {
+        xs.push(r.get(*p));
+    }
+    xs
+}
+
+/// How a word begins to be filled: as zero, or as it stands.
+fn old_word(row: &Move, p: Place, r: &Regs) -> u32
+    requires { IsPlace p }
+    ensures { result ≡ old_word (moves_of row.now) r.now p }
+{
+    if is_predicated(&row.way) { 0 } else { r.get(p) }
+}
+
+/// Words filled with the elements that are loaded, none of which stops.
+fn filled_words(
+    row: &Move,
+    list: &[Place],
+    es: &[Element],
+    r: &Regs,
+    m: &Mem,
+) -> ArrayVec<Written, 4>
+    requires few { length list.now ≤ 4 }
+    requires placed { All IsPlace list.now }
+    requires fit { Fit row.now.register es.now }
+    requires free { let m = memory_of m.now in first_stop m.around false (width row.now.memory) es.now (seen m) ≡ None }
+    ensures value { puts_of result.items ≡ word_puts (moves_of row.now) 0 es.now list.now (old_word (moves_of row.now) r.now) (seen (memory_of m.now)) }
+    ensures written { All (λ w. IsPlace w.place) result.items }
+{
+    let mut ws = ArrayVec::new();
+    for j in 0..list.len() {
+        let place = list[j];
+        let value = filled(row, j, es, old_word(row, place, r), m);
+        ws.push(Written { place, value });
+    }
+    ws
+}
+
+/// Writes places.
+fn put_each(r: &mut Regs, ws: &[Written])
+    requires { All (λ w. IsPlace w.place) ws.now }
+    ensures value { r.new ≡ apply (puts_of ws.now) r.old }
+    ensures context { r.new.fpca ≡ r.old.fpca }
+{
+    for w in ws {
+        r.set(w.place, w.value);
+    }
+}
+
+/// Writes a place, where there is one.
+fn put_some(r: &mut Regs, w: Option<Written>)
+    requires { IfSome w (λ x. IsPlace x.place) }
+    ensures value { r.new ≡ apply (puts w) r.old }
+    ensures context { r.new.fpca ≡ r.old.fpca }
+{
+    match w {
+        Some(w) => r.set(w.place, w.value),
+        None => {}
+    }
+}
+
+/// Inverts the slice of beat `b`, where the mask says so.
+fn put_slice(r: &mut Regs, b: u8, mask: u32, slice: u32)
+    requires beat { b < 4 }
+    requires small { slice < 16 }
+    ensures value { r.new ≡ apply (cond (ltb 8 mask) (write (P0 b) (15 - slice) ∷ []) []) r.old }
+    ensures context { r.new.fpca ≡ r.old.fpca }
+{
+    if mask > 8 {
+        r.set(Place::P0(b), 15 - slice);
+    }
+}
+
+/// Shifts the mask after the second beat of its half.
+fn put_mask(r: &mut Regs, b: u8, mask: u32)
+    requires beat { b < 4 }
+    requires small { mask < 16 }
+    ensures value { r.new ≡ apply (cond (eqb (b % 2) 1 && not (eqb mask 0)) (write (mask_place b) (2 * mask) ∷ []) []) r.old }
+    ensures context { r.new.fpca ≡ r.old.fpca }
+{
+    let place = mask_at(b);
+    if b % 2 == 1 && mask != 0 {
+        r.set(place, 2 * mask);
+    }
+}
+
+/// Writes words and what is written back, and advances the masks as they stood before. `b` is below 4.
+fn finish(r: &mut Regs, filled: &[Written], back: Option<Written>, b: u8)
+    requires beat { b < 4 }
+    requires filled { All (λ w. IsPlace w.place) filled.now }
+    requires back { IfSome back (λ w. IsPlace w.place) }
+    ensures value { r.new ≡ apply (puts_of filled.now ++ (puts back ++ advance_writes b r.old)) r.old }
+    ensures context { r.new.fpca ≡ r.old.fpca }
+{
+    let mask = r.get(mask_at(b));
+    let slice = r.get(Place::P0(b));
+    put_each(r, filled);
+    put_some(r, back);
+    put_slice(r, b, mask, slice);
+    put_mask(r, b, mask);
 }
