@@ -110,6 +110,13 @@ run_checked i b m r output es h =
     ap (λ (l : Leaf Cell Value Stop). finish cells (checked cells l.checks s) l s) (reach_moves i m.around b s)
     ∙ ap (λ o. finish cells o (leaf_at i m.around b s) s) (all_checked m r output i.store i.memory (elements_at i b s) ∙ ap (λ xs. first_stop m.around i.store (width i.memory) xs (seen m)) (sym h))
 
+-- a beat that stops
+pub run_stopped : (i : Moves) (b : ℕ) (m : Memory) (r : Regs) (output : List ℕ) (es : List Element) (e : Stop) → es ≡ elements_at i b (state_of r m output)
+    → Some e ≡ first_stop m.around i.store (width i.memory) es (seen m) → run (moves_tree i m.around b) r m output ≡ Err e
+run_stopped i b m r output es e same h =
+    let s = state_of r m output in
+    run_checked i b m r output es same ∙ ap (λ o. finish cells o (leaf_at i m.around b s) s) (sym h)
+
 checks_as : {A : Type 0} (o : Option Stop) (l : Leaf Cell Value Stop) (s : State) (x : Result A Stop) → stop_in x ≡ o → Checks (finish cells o l s) x
 checks_as None l s (Ok v) h = refl
 checks_as None l s (Err e) h = cc

@@ -9,3 +9,4 @@ pub mod Widths
 pub mod Checked
 pub mod Touched
 pub mod Done
+pub mod Filled

@@ -1,6 +1,7 @@
 -- Elements one after another, for the loops of the code.
 use Rattle.std.proofs.Common.{◌≡◌, ℕ, zero, suc, ◌+◌, ◌<◌, Bool, true, false, List, [], ◌∷◌, ◌++◌, drop, length, get_or, Option, Some, None, refl, sym, ◌∙◌, ap, arith, append_assoc}
 use Rattle.std.proofs.Math.Seq.{drop-cons}
+use Rattle.std.proofs.lemmas.List.{append-nil}
 use Rattle.hm_base.specs.declared.Span.{Span}
 use Rattle.hm_base.specs.declared.Stop.{Stop}
 use Rattle.hm_lane.specs.declared.lanes.Size.{Size}
@@ -20,6 +21,11 @@ drop_at d xs k h =
     let one : suc k ≡ k + 1 = omega arith in
     drop-cons xs k d h ∙ ap (λ (j : ℕ). get_or xs k d ∷ drop j xs) one
 
+-- neither stops
+pub both_none : (o p : Option Stop) → or_stop o p ≡ None → (o ≡ None) × (p ≡ None)
+both_none (Some e) p h = absurd (cc)
+both_none None p h = (refl, h)
+
 module _ (x : Around) (store : Bool) (len : ℕ) (es : List Element) (k : ℕ) (s : Seen) (low : k < length es) where
   stop_step : first_stop x store len (drop k es) s ≡ or_stop (stop_of x Vector store len (get_or es k none).addr s) (first_stop x store len (drop (k + 1) es) s)
   stop_step = ap (λ xs. first_stop x store len xs s) (drop_at none es k low)
@@ -31,31 +37,19 @@ module _ (x : Around) (store : Bool) (len : ℕ) (es : List Element) (k : ℕ) (
   pub stop_here : (e : Stop) → stop_of x Vector store len (get_or es k none).addr s ≡ Some e → first_stop x store len (drop k es) s ≡ Some e
   stop_here e h = stop_step ∙ ap (λ o. or_stop o (first_stop x store len (drop (k + 1) es) s)) h
 
-  none_left : (o p : Option Stop) → or_stop o p ≡ None → (o ≡ None) × (p ≡ None)
-  none_left (Some e) p h = absurd (cc)
-  none_left None p h = (refl, h)
-
   -- where none stops, this one does not, nor any behind it
   pub stop_none : first_stop x store len (drop k es) s ≡ None → (stop_of x Vector store len (get_or es k none).addr s ≡ None) × (first_stop x store len (drop (k + 1) es) s ≡ None)
-  stop_none h = none_left _ _ (sym stop_step ∙ h)
+  stop_none h = both_none _ _ (sym stop_step ∙ h)
 
 -- none stops of those from one on
 pub drop_none : (x : Around) (store : Bool) (len : ℕ) (es : List Element) (k : ℕ) (s : Seen) → first_stop x store len es s ≡ None → first_stop x store len (drop k es) s ≡ None
 drop_none x store len es zero s h = h
 drop_none x store len [] (suc k) s h = refl
-drop_none x store len (e ∷ es) (suc k) s h = drop_none x store len es k s (second _ _ h)
-  where
-    second : (o p : Option Stop) → or_stop o p ≡ None → p ≡ None
-    second None p h = h
-    second (Some e) p h = absurd (cc)
+drop_none x store len (e ∷ es) (suc k) s h = drop_none x store len es k s (both_none _ _ h).1
 
 -- SPANS
 spanned-more : (xs : List Span) (x : Span) → spanned (xs ++ x ∷ []) ≡ spanned xs ++ span_bytes x.addr x.len
-spanned-more [] x = none_more (span_bytes x.addr x.len)
-  where
-    none_more : (bs : List ℕ) → bs ++ [] ≡ bs
-    none_more [] = refl
-    none_more (b ∷ bs) = ap (λ cs. b ∷ cs) (none_more bs)
+spanned-more [] x = append-nil (span_bytes x.addr x.len)
 spanned-more (y ∷ xs) x = ap (λ bs. span_bytes y.addr y.len ++ bs) (spanned-more xs x) ∙ sym (append_assoc (span_bytes y.addr y.len) (spanned xs) (span_bytes x.addr x.len))
 
 pub spans_more : (z : Size) (es : List Element) (k : ℕ) (xs ys : List Span) (w : ℕ) → k < length es → ys ≡ xs ++ (record { addr = (get_or es k none).addr; len = w }) ∷ [] → w ≡ width z

@@ -1,5 +1,6 @@
 -- What the code of a row that loads or stores touches is what its tree touches.
 use Rattle.std.proofs.Common.{◌≡◌, ℕ, ◌+◌, ◌<◌, Bool, true, false, not, cond, ◌||◌, ltb, eqb, List, [], ◌∷◌, ◌++◌, map, drop, length, get_or, refl, sym, ◌∙◌, ap, arith, append_assoc}
+use Rattle.std.proofs.lemmas.List.{append-nil, map-append}
 use Rattle.hm_base.specs.Place.{listed, noted, noted_all}
 use Rattle.hm_base.specs.declared.Place.{Place}
 use Rattle.hm_base.specs.declared.Place.TheVariants.{P0}
@@ -39,17 +40,13 @@ bytes_bytes : (bs : List ℕ) (cs : List Cell) → bytes_in (map Byte bs ++ cs) 
 bytes_bytes [] cs = refl
 bytes_bytes (b ∷ bs) cs = ap (λ xs. b ∷ xs) (bytes_bytes bs cs)
 
-no_more : {A : Type 0} (xs : List A) → xs ++ [] ≡ xs
-no_more [] = refl
-no_more (x ∷ xs) = ap (λ ys. x ∷ ys) (no_more xs)
-
 places_where : (y : Bool) (bs : List ℕ) (ps : List Place) → places_in (cond y [] (map Byte bs) ++ map At ps) ≡ ps
 places_where true bs ps = places_at ps
 places_where false bs ps = places_bytes bs (map At ps) ∙ places_at ps
 
 bytes_where : (y : Bool) (bs : List ℕ) (ps : List Place) → bytes_in (cond y [] (map Byte bs) ++ map At ps) ≡ cond (not y) bs []
 bytes_where true bs ps = bytes_at ps
-bytes_where false bs ps = bytes_bytes bs (map At ps) ∙ ap (λ xs. bs ++ xs) (bytes_at ps) ∙ no_more bs
+bytes_where false bs ps = bytes_bytes bs (map At ps) ∙ ap (λ xs. bs ++ xs) (bytes_at ps) ∙ append-nil bs
 
 -- READS
 pub reads_are : (i : Moves) (b : ℕ) (r : Regs) (m : Memory) (output : List ℕ)
@@ -82,27 +79,15 @@ targets_bytes : (t : Bool) (e : Element) (k : ℕ) (bs : List ℕ) → targets (
 targets_bytes t e k [] = refl
 targets_bytes t e k (b ∷ bs) = ap (λ cs. Byte b ∷ cs) (targets_bytes t e (k + 1) bs)
 
-map_bytes : (bs cs : List ℕ) → map Byte bs ++ map Byte cs ≡ map Byte (bs ++ cs)
-map_bytes [] cs = refl
-map_bytes (b ∷ bs) cs = ap (λ xs. Byte b ∷ xs) (map_bytes bs cs)
-
 targets_stores : (t : Bool) (z : Size) (es : List Element) → targets (store_all t z es) ≡ map Byte (bytes_of z es)
 targets_stores t z [] = refl
 targets_stores t z (e ∷ es) = targets-append (store_bytes t e 0 (span_bytes e.addr (width z))) (store_all t z es)
-    ∙ (λ j. targets_bytes t e 0 (span_bytes e.addr (width z)) j ++ targets_stores t z es j) ∙ map_bytes (span_bytes e.addr (width z)) (bytes_of z es)
+    ∙ (λ j. targets_bytes t e 0 (span_bytes e.addr (width z)) j ++ targets_stores t z es j) ∙ sym (map-append Byte (span_bytes e.addr (width z)) (bytes_of z es))
 
 targets_moved : (i : Moves) (t : Bool) (b : ℕ) (es : List Element) (y : Bool)
     → targets (cond y (store_all t i.memory es) (fill i 0 es (i.words b))) ≡ cond y (map Byte (bytes_of i.memory es)) [] ++ map At (cond (not y) (i.words b) [])
-targets_moved i t b es true = targets_stores t i.memory es ∙ sym (no_more (map Byte (bytes_of i.memory es)))
+targets_moved i t b es true = targets_stores t i.memory es ∙ sym (append-nil (map Byte (bytes_of i.memory es)))
 targets_moved i t b es false = targets_fill i 0 es (i.words b)
-
-map_places : (ps qs : List Place) → map At ps ++ map At qs ≡ map At (ps ++ qs)
-map_places [] qs = refl
-map_places (p ∷ ps) qs = ap (λ xs. At p ∷ xs) (map_places ps qs)
-
-places_append : (ws vs : List Write) → places_of (ws ++ vs) ≡ places_of ws ++ places_of vs
-places_append [] vs = refl
-places_append (w ∷ ws) vs = ap (λ ps. w.place ∷ ps) (places_append ws vs)
 
 leaf_targets : (i : Moves) (b : ℕ) (r : Regs) (m : Memory) (output : List ℕ) → let s = state_of r m output in b < 4
     → targets (leaf_at i m.around b s).writes
@@ -113,16 +98,16 @@ leaf_targets i b r m output low =
     let ws = i.back b (sources_at i b s) in
     let bytes = cond i.store (map Byte (bytes_of i.memory es)) [] in
     targets-append (moved_by i m.around b es) (map always (ws ++ advance_at b s))
-    ∙ (λ j. targets_moved i (marks m.around.actor) b es i.store j ++ (targets_always (ws ++ advance_at b s) ∙ ap (map At) (places_append ws (advance_at b s) ∙ ap (λ ps. places_of ws ++ ps) (advance_places_is b r m output low))) j)
+    ∙ (λ j. targets_moved i (marks m.around.actor) b es i.store j ++ (targets_always (ws ++ advance_at b s) ∙ ap (map At) (map-append (λ (w : Write). w.place) ws (advance_at b s) ∙ ap (λ ps. places_of ws ++ ps) (advance_places_is b r m output low))) j)
     ∙ append_assoc bytes (map At (cond (not i.store) (i.words b) [])) (map At (places_of ws ++ advance_places b r))
-    ∙ ap (λ cs. bytes ++ cs) (map_places (cond (not i.store) (i.words b) []) (places_of ws ++ advance_places b r))
+    ∙ ap (λ cs. bytes ++ cs) (sym (map-append At (cond (not i.store) (i.words b) []) (places_of ws ++ advance_places b r)))
 
 places_after : (y : Bool) (bs : List ℕ) (ps : List Place) → places_in (cond y (map Byte bs) [] ++ map At ps) ≡ ps
 places_after true bs ps = places_bytes bs (map At ps) ∙ places_at ps
 places_after false bs ps = places_at ps
 
 bytes_after : (y : Bool) (bs : List ℕ) (ps : List Place) → bytes_in (cond y (map Byte bs) [] ++ map At ps) ≡ cond y bs []
-bytes_after true bs ps = bytes_bytes bs (map At ps) ∙ ap (λ xs. bs ++ xs) (bytes_at ps) ∙ no_more bs
+bytes_after true bs ps = bytes_bytes bs (map At ps) ∙ ap (λ xs. bs ++ xs) (bytes_at ps) ∙ append-nil bs
 bytes_after false bs ps = bytes_at ps
 
 pub writes_are : (i : Moves) (b : ℕ) (r : Regs) (m : Memory) (output : List ℕ) → b < 4

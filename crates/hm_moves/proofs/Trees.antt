@@ -1,6 +1,6 @@
 -- What a beat of a row that loads or stores tests, and the leaf that it comes to; what its leaf asks for and writes.
 use Rattle.std.proofs.Common.{◌≡◌, ℕ, ◌+◌, ◌-◌, ◌*◌, ◌%◌, Bool, true, false, not, cond, ◌||◌, ◌&&◌, ltb, eqb, List, [], ◌∷◌, ◌++◌, map, get_or, Option, Some, None, refl, sym, ◌∙◌, ap}
-use Rattle.std.proofs.lemmas.List.{append_assoc, map-append}
+use Rattle.std.proofs.lemmas.List.{append-nil, append_assoc, map-append}
 use Rattle.hm_base.specs.declared.Fault.{Fault}
 use Rattle.hm_base.specs.declared.FaultKind.{FaultKind}
 use Rattle.hm_base.specs.declared.Place.{Place}
@@ -103,10 +103,6 @@ written_all t z [] vs = refl
 written_all t z (e ∷ es) vs = written-append (store_bytes t e 0 (span_bytes e.addr (width z))) (store_all t z es) vs
     ∙ (λ j. written_bytes t e 0 (span_bytes e.addr (width z)) vs j ++ written_all t z es vs j)
 
-no_more : {A : Type 0} (xs : List A) → xs ++ [] ≡ xs
-no_more [] = refl
-no_more (x ∷ xs) = ap (λ ys. x ∷ ys) (no_more xs)
-
 written_moved : (i : Moves) (x : Around) (b : ℕ) (es : List Element) (vs : List Value)
     → written (moved_by i x b es) vs ≡ cond i.store [] (words_from i 0 es (numbers vs) (i.words b)) ++ cond i.store (all_bytes_from (marks x.actor) i.memory es (numbers vs)) []
 written_moved i x b es vs = go i.store
@@ -114,7 +110,7 @@ written_moved i x b es vs = go i.store
     go : (y : Bool) → written (cond y (store_all (marks x.actor) i.memory es) (fill i 0 es (i.words b))) vs
         ≡ cond y [] (words_from i 0 es (numbers vs) (i.words b)) ++ cond y (all_bytes_from (marks x.actor) i.memory es (numbers vs)) []
     go true = written_all (marks x.actor) i.memory es vs
-    go false = written_fill i 0 es (i.words b) vs ∙ sym (no_more (words_from i 0 es (numbers vs) (i.words b)))
+    go false = written_fill i 0 es (i.words b) vs ∙ sym (append-nil (words_from i 0 es (numbers vs) (i.words b)))
 
 abbrev pub ends_at : ℕ → State → List (Cell × Value)
 ends_at b s = map into (advance_at b s)

@@ -1,19 +1,20 @@
 //! What a beat of a row that loads or stores does.
 
-ghost use Rattle.std.specs.Prelude.{◌≡◌, ℕ, ◌+◌, ◌-◌, ◌*◌, ◌%◌, ◌<◌, ◌≤◌, ◌&&◌, not, eqb, ltb, cond, true, false, List, [], ◌∷◌, ◌++◌, length, map, None, All, IfSome, IsOk};
+ghost use Rattle.std.specs.Prelude.{◌≡◌, ℕ, ◌+◌, ◌-◌, ◌*◌, ◌%◌, ◌<◌, ◌≤◌, ◌&&◌, not, eqb, ltb, cond, true, false, List, [], ◌∷◌, ◌++◌, length, map, None, Ok, All, IfSome, IsOk};
 ghost use Rattle.hm_base.specs.Place.{IsPlace};
 ghost use Rattle.hm_base.specs.declared.Place.TheVariants.{P0};
 ghost use Rattle.hm_lane.specs.Predicate.{advance_writes, mask_place};
 ghost use Rattle.hm_mem.specs.Memory.{memory_of};
-ghost use Rattle.hm_mem.specs.Seen.{IsSameElsewhere, seen};
-ghost use Rattle.hm_mem.specs.Seen as mem;
+ghost use Rattle.hm_mem.specs.Seen.{IsSameElsewhere, marks, seen};
 ghost use Rattle.hm_regs.specs.Place.{value_at};
 ghost use Rattle.hm_regs.specs.Writes.{apply, write};
-ghost use Rattle.hm_beat.specs.Laws.{Beats, Checks, run};
+ghost use Rattle.hm_state.specs.State.{AreCells, cells, into, state_of};
+ghost use Rattle.hm_state.specs.Store.{put_all};
+ghost use Rattle.hm_beat.specs.Laws.{AnswersBeat, Checks, run};
 ghost use Rattle.hm_kinds.specs.Coded.{puts};
 ghost use Rattle.hm_kinds.specs.Row.{is_body};
 ghost use Rattle.hm_moves.specs.Coded.{Fit, first_stop, old_word, puts_of, word_puts};
-ghost use Rattle.hm_moves.specs.Moves.{width};
+ghost use Rattle.hm_moves.specs.Moves.{elements_at, loaded_at, stored_at, width};
 ghost use Rattle.hm_moves.specs.Ways.{move_tree, moves_of};
 
 use crate::Move;
@@ -81,6 +82,41 @@ fn filled_words(
     ws
 }
 
+/// Words of beat `b` filled with the elements that it moves, none of which stops; none where the row stores. `b` is below 4.
+fn loaded(row: &Move, b: u8, es: &[Element], r: &Regs, m: &Mem) -> ArrayVec<Written, 4>
+    requires beat { b < 4 }
+    requires fit { Fit row.now.register es.now }
+    requires free { let m = memory_of m.now in first_stop m.around row.now.store (width row.now.memory) es.now (seen m) ≡ None }
+    ensures value { (output : List ℕ) → let s = state_of r.now (memory_of m.now) output in
+        es.now ≡ elements_at (moves_of row.now) b s → map into (puts_of result.items) ≡ loaded_at (moves_of row.now) b s }
+    ensures written { All (λ w. IsPlace w.place) result.items }
+    ensures cells { AreCells (puts_of result.items) }
+{
+    if row.store {
+        ArrayVec::new()
+    } else {
+        let list = words(&row.way, row.register, b);
+        filled_words(row, list.as_slice(), es, r, m)
+    }
+}
+
+/// Stores the elements that beat `b` moves, none of which stops; nothing where the row loads. `b` is below 4.
+fn store(row: &Move, b: u8, es: &[Element], r: &Regs, m: &mut Mem)
+    requires beat { b < 4 }
+    requires fit { Fit row.now.register es.now }
+    requires free { let m = memory_of m.old in first_stop m.around row.now.store (width row.now.memory) es.now (seen m) ≡ None }
+    ensures state { (output : List ℕ) → let x = memory_of m.old in let s = state_of r.now x output in
+        es.now ≡ elements_at (moves_of row.now) b s
+        → state_of r.now (memory_of m.new) output ≡ put_all cells (stored_at (moves_of row.now) (marks x.around.actor) b s) s }
+    ensures kept { IsSameElsewhere (memory_of m.old) (memory_of m.new) }
+{
+    if row.store {
+        let list = words(&row.way, row.register, b);
+        let xs = values(list.as_slice(), r);
+        store_all(row, es, xs.as_slice(), m)
+    }
+}
+
 /// Writes places.
 fn put_each(r: &mut Regs, ws: &[Written])
     requires { All (λ w. IsPlace w.place) ws.now }
@@ -143,4 +179,36 @@ fn finish(r: &mut Regs, filled: &[Written], back: Option<Written>, b: u8)
     put_some(r, back);
     put_slice(r, b, mask, slice);
     put_mask(r, b, mask);
+}
+
+/// Does beat `b`, by the elements that it moves, none of which stops. `b` is below 4.
+fn move_all(row: &Move, b: u8, es: &[Element], r: &mut Regs, m: &mut Mem)
+    requires beat { b < 4 }
+    requires fit { Fit row.now.register es.now }
+    requires free { let m = memory_of m.old in first_stop m.around row.now.store (width row.now.memory) es.now (seen m) ≡ None }
+    ensures done { (output : List ℕ) → let x = memory_of m.old in
+        es.now ≡ elements_at (moves_of row.now) b (state_of r.old x output)
+        → run (move_tree row.now x.around b) r.old x output ≡ Ok (state_of r.new (memory_of m.new) output) }
+    ensures kept { IsSameElsewhere (memory_of m.old) (memory_of m.new) }
+    ensures context { r.new.fpca ≡ r.old.fpca }
+{
+    r.in_range();
+    let filled = loaded(row, b, es, r, m);
+    let back = written_back(&row.way, b, first_source(&row.way, b, r));
+    store(row, b, es, r, m);
+    finish(r, filled.as_slice(), back, b);
+}
+
+/// Does beat `b`, or stops and changes nothing. `b` is below 4.
+pub fn beat_move(row: &Move, b: u8, r: &mut Regs, m: &mut Mem) -> Result<(), Stop>
+    requires { b < 4 }
+    ensures done { (output : List ℕ) → let x = memory_of m.old in
+        AnswersBeat (run (move_tree row.now x.around b) r.old x output) result r.old x r.new (memory_of m.new) output }
+    ensures kept { IsSameElsewhere (memory_of m.old) (memory_of m.new) }
+    ensures context { r.new.fpca ≡ r.old.fpca }
+{
+    let es = elements(row, b, r);
+    check_all(es.as_slice(), row.memory, row.store, m)?;
+    move_all(row, b, es.as_slice(), r, m);
+    Ok(())
 }

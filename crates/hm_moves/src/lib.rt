@@ -9,7 +9,7 @@ mod touches;
 mod ways;
 mod words;
 
-pub use beats::check_move;
+pub use beats::{beat_move, check_move};
 pub use elements::{Element, Elements};
 pub use laws::moves_law;
 pub use touches::touch_move;

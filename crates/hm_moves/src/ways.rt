@@ -1,6 +1,6 @@
 //! What a row that loads or stores moves, and where it finds its elements.
 
-ghost use Rattle.std.specs.Prelude.{◌≤◌, ◌<◌, ◌+◌, cond};
+ghost use Rattle.std.specs.Prelude.{◌≡◌, ◌≤◌, ◌<◌, ◌+◌, cond};
 
 use hm_lane::Size;
 
@@ -92,4 +92,20 @@ pub struct Move {
     /// What is loaded is extended with its sign.
     pub signed: bool,
     pub way: Way,
+}
+
+impl Move {
+    ghost use Rattle.hm_moves.specs.Ways.{way_writes_lr};
+
+    /// Whether one of its beats writes lr.
+    pub fn writes_lr(&self) -> bool
+        ensures { result ≡ way_writes_lr self.now.way }
+    {
+        match &self.way {
+            Way::Straight(w) => w.back && w.n == 14,
+            Way::Offsets(_) => false,
+            Way::Addresses(_) => false,
+            Way::Interleaved(w) => w.back && w.n == 14,
+        }
+    }
 }

@@ -76,6 +76,7 @@ fn interleaved_words(w: &Interleaved, z: Size, b: u8) -> Words
     ensures value { result.items ≡ each_from (λ i. let k = stream w.now z b + i in word_place (w.now.d + k % registers w.now) (width z * (k / registers w.now) / 4)) 0
         (cond (ltb (per_word z) (registers w.now)) (per_word z) (registers w.now)) }
     ensures placed { All IsPlace result.items }
+    ensures few { length result.items ≤ 4 }
 {
     let mut words = Words::new();
     let first = stream(w, z, b);
@@ -91,6 +92,7 @@ fn one_word(q: u8, b: u8) -> Words
     requires beat { b < 4 }
     ensures value { result.items ≡ word_place q b ∷ [] }
     ensures placed { All IsPlace result.items }
+    ensures few { length result.items ≤ 4 }
 {
     let mut words = Words::new();
     words.push(Place::QWord(4 * q + b));
@@ -102,6 +104,7 @@ pub fn words(way: &Way, z: Size, b: u8) -> Words
     requires { b < 4 }
     ensures value { result.items ≡ way_words z way.now b }
     ensures placed { All IsPlace result.items }
+    ensures few { length result.items ≤ 4 }
 {
     match way {
         Way::Straight(w) => one_word(w.d, b),
