@@ -5,10 +5,8 @@ use Rattle.hm_base.specs.declared.Place.{Place}
 use Rattle.hm_lane.specs.declared.lanes.Size.{Size}
 use Rattle.hm_lane.specs.declared.lanes.Size.TheVariants as size
 use Rattle.hm_moves.specs.declared.elements.Element.{Element}
-use Rattle.hm_moves.specs.declared.ways.Way.{Way}
-use Rattle.hm_moves.specs.declared.ways.Way.TheVariants.{Straight, Offsets, Addresses, Interleaved}
 use Rattle.hm_moves.specs.Moves.{active_ones, width}
-use Rattle.hm_moves.specs.Ways.{each_from, way_back, way_element}
+use Rattle.hm_moves.specs.Ways.{Found, at_addresses, at_offsets, each_from, interleaved, straight, way_back, way_element}
 
 pub width_some : (z : Size) → 0 < width z
 width_some size.Byte = omega arith
@@ -22,11 +20,11 @@ field_at z j w lane len e f =
     (λ t. field (8 * e t) (n t) w)
 
 -- the elements of a beat by two numbers are those by what stands in the sources
-pub by_sources : (y z : Size) (w : Way) (b first second : ℕ) (ns : List ℕ) (j : ℕ) → first ≡ get_or ns 0 0 → second ≡ get_or ns 1 0 → way_element y z w b (first ∷ second ∷ []) j ≡ way_element y z w b ns j
-by_sources y z (Straight w) b first second ns j e f = ap (λ n. way_element y z (Straight w) b (n ∷ []) j) e
-by_sources y z (Offsets w) b first second ns j e f = λ t. way_element y z (Offsets w) b (e t ∷ f t ∷ []) j
-by_sources y z (Addresses w) b first second ns j e f = ap (λ n. way_element y z (Addresses w) b (n ∷ []) j) e
-by_sources y z (Interleaved w) b first second ns j e f = ap (λ n. way_element y z (Interleaved w) b (n ∷ []) j) e
+pub by_sources : (y z : Size) (w : Found) (b first second : ℕ) (ns : List ℕ) (j : ℕ) → first ≡ get_or ns 0 0 → second ≡ get_or ns 1 0 → way_element y z w b (first ∷ second ∷ []) j ≡ way_element y z w b ns j
+by_sources y z (straight d n offset before back) b first second ns j e f = ap (λ x. way_element y z (straight d n offset before back) b (x ∷ []) j) e
+by_sources y z (at_offsets d n m scale) b first second ns j e f = λ t. way_element y z (at_offsets d n m scale) b (e t ∷ f t ∷ []) j
+by_sources y z (at_addresses d m offset back) b first second ns j e f = ap (λ x. way_element y z (at_addresses d m offset back) b (x ∷ []) j) e
+by_sources y z (interleaved d n four part back) b first second ns j e f = ap (λ x. way_element y z (interleaved d n four part back) b (x ∷ []) j) e
 
 pub each_same : (f g : ℕ → Element) (j n : ℕ) → ((k : ℕ) → f k ≡ g k) → each_from f j n ≡ each_from g j n
 each_same f g j zero h = refl
@@ -49,8 +47,8 @@ each_more f n i m xs ys zs more e h =
     ap (λ us. us ++ each_from f (i + 1) m) e ∙ append_assoc xs (f i ∷ []) (each_from f (i + 1) m) ∙ sym (ap (λ k. xs ++ each_from f i k) more) ∙ h
 
 -- what is written back, by the first of what stands in the sources
-pub back_by : (w : Way) (b first : ℕ) (ns : List ℕ) → first ≡ get_or ns 0 0 → way_back w b (first ∷ []) ≡ way_back w b ns
-back_by (Straight w) b first ns e = ap (λ n. way_back (Straight w) b (n ∷ [])) e
-back_by (Offsets w) b first ns e = refl
-back_by (Addresses w) b first ns e = ap (λ n. way_back (Addresses w) b (n ∷ [])) e
-back_by (Interleaved w) b first ns e = ap (λ n. way_back (Interleaved w) b (n ∷ [])) e
+pub back_by : (w : Found) (b first : ℕ) (ns : List ℕ) → first ≡ get_or ns 0 0 → way_back w b (first ∷ []) ≡ way_back w b ns
+back_by (straight d n offset before back) b first ns e = ap (λ x. way_back (straight d n offset before back) b (x ∷ [])) e
+back_by (at_offsets d n m scale) b first ns e = refl
+back_by (at_addresses d m offset back) b first ns e = ap (λ x. way_back (at_addresses d m offset back) b (x ∷ [])) e
+back_by (interleaved d n four part back) b first ns e = ap (λ x. way_back (interleaved d n four part back) b (x ∷ [])) e

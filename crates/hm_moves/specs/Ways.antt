@@ -1,22 +1,18 @@
 -- The rows that load or store: where each finds its elements.
-use Rattle.std.specs.Prelude.{ℕ, zero, suc, ◌+◌, ◌*◌, ◌/◌, ◌%◌, ◌^◌, Bool, true, false, ◌&&◌, cond, eqb, ltb, List, [], ◌∷◌, get_or, Result}
+use Rattle.std.specs.Prelude.{ℕ, zero, suc, ◌+◌, ◌*◌, ◌/◌, ◌%◌, ◌^◌, Bool, true, false, ◌&&◌, cond, eqb, ltb, List, [], ◌∷◌, get_or}
 use Rattle.hm_base.specs.Bits.{field}
-use Rattle.hm_base.specs.declared.Fault.{Fault}
 use Rattle.hm_base.specs.declared.Place.{Place}
 use Rattle.hm_base.specs.declared.Place.TheVariants.{R}
 use Rattle.hm_regs.specs.Writes.{Write, write}
 use Rattle.hm_lane.specs.declared.lanes.Size.{Size}
 use Rattle.hm_lane.specs.declared.lanes.Size.TheVariants as size
 use Rattle.hm_mem.specs.Memory.{Around}
-use Rattle.hm_state.specs.State.{State}
 use Rattle.hm_beat.specs.Rows.{Tree, word_place}
 use Rattle.hm_moves.specs.declared.elements.Element.{Element}
-use Rattle.hm_moves.specs.declared.ways.Straight.{Straight as StraightWay}
-use Rattle.hm_moves.specs.declared.ways.Interleaved.{Interleaved as InterleavedWay}
 use Rattle.hm_moves.specs.declared.ways.Way.{Way}
 use Rattle.hm_moves.specs.declared.ways.Way.TheVariants.{Straight, Offsets, Addresses, Interleaved}
 use Rattle.hm_moves.specs.declared.ways.Move.{Move}
-use Rattle.hm_moves.specs.Moves.{Moves, moves_tree, moves_whole, width}
+use Rattle.hm_moves.specs.Moves.{Moves, moves_tree, width}
 
 -- how many elements of a size a word has
 abbrev pub per_word : Size → ℕ
@@ -29,82 +25,111 @@ abbrev pub each_from : {A : Type 0} → (ℕ → A) → ℕ → ℕ → List A
 each_from f j zero = []
 each_from f j (suc n) = f j ∷ each_from f (j + 1) n
 
+-- WHERE A ROW FINDS ITS ELEMENTS
+pub data Found : Type 0 where
+  -- one behind another, for vector register d: from the base in register n, or from there with the offset; the base may get it too
+  straight : (d n offset : ℕ) (before back : Bool) → Found
+  -- for d, at the base in n and the offsets in vector register m, times 2 to the power scale
+  at_offsets : (d n m scale : ℕ) → Found
+  -- for d, at the addresses in vector register m with the offset added, which m may get
+  at_addresses : (d m offset : ℕ) (back : Bool) → Found
+  -- in turn for two registers from d on, or for four, from the base in n: one part of as many as there are registers
+  interleaved : (d n : ℕ) (four : Bool) (part : ℕ) (back : Bool) → Found
+
+-- what a row moves: it stores or loads elements, whose size in memory and in their register it says, with their sign or without
+pub record Transfer : Type 0 where
+  pub store : Bool
+  pub memory : Size
+  pub register : Size
+  pub signed : Bool
+  pub found : Found
+
 abbrev pub element : ℕ → ℕ → ℕ → Element
 element a word lane = record { addr = a % 2 ^ 32; word = word; lane = lane }
 
 -- where elements that stand one behind another begin
-abbrev pub start : StraightWay → ℕ → ℕ
-start w base = cond w.before ((base + w.offset) % 2 ^ 32) base
+abbrev pub start : Bool → ℕ → ℕ → ℕ
+start before offset base = cond before ((base + offset) % 2 ^ 32) base
 
 -- how many registers take elements in turn
-abbrev pub registers : InterleavedWay → ℕ
-registers w = cond w.four 4 2
+abbrev pub registers : Bool → ℕ
+registers four = cond four 4 2
 
 -- the number of the first element of beat b in the stream: beat b of a part moves word 4 * part + b of memory
-abbrev pub stream : InterleavedWay → Size → ℕ → ℕ
-stream w z b = per_word z * (4 * w.part + b)
+abbrev pub stream : ℕ → Size → ℕ → ℕ
+stream part z b = per_word z * (4 * part + b)
 
 -- what the addresses of beat b are made of
-abbrev pub way_sources : Way → ℕ → List Place
-way_sources (Straight w) b = R w.n ∷ []
-way_sources (Offsets w) b = R w.n ∷ word_place w.m b ∷ []
-way_sources (Addresses w) b = word_place w.m b ∷ []
-way_sources (Interleaved w) b = R w.n ∷ []
+abbrev pub way_sources : Found → ℕ → List Place
+way_sources (straight d n offset before back) b = R n ∷ []
+way_sources (at_offsets d n m scale) b = R n ∷ word_place m b ∷ []
+way_sources (at_addresses d m offset back) b = word_place m b ∷ []
+way_sources (interleaved d n four part back) b = R n ∷ []
 
 -- Element j of beat b, of size y in memory and z in its register, by what stands in the sources. Of interleaved ones element k of the stream is
 -- element k div R of register k mod R, where there are R registers.
-abbrev pub way_element : Size → Size → Way → ℕ → List ℕ → ℕ → Element
-way_element y z (Straight w) b ns j = element (start w (get_or ns 0 0) + width y * (per_word z * b + j)) 0 (width z * j)
-way_element y z (Offsets w) b ns j = element (get_or ns 0 0 + field (8 * (width z * j)) (8 * width z) (get_or ns 1 0) * 2 ^ w.scale) 0 (width z * j)
-way_element y z (Addresses w) b ns j = element (get_or ns 0 0 + w.offset) 0 (width z * j)
-way_element y z (Interleaved w) b ns j =
-    let k = stream w z b + j in
-    element (get_or ns 0 0 + width y * k) (j % registers w) (width z * (k / registers w) % 4)
+abbrev pub way_element : Size → Size → Found → ℕ → List ℕ → ℕ → Element
+way_element y z (straight d n offset before back) b ns j = element (start before offset (get_or ns 0 0) + width y * (per_word z * b + j)) 0 (width z * j)
+way_element y z (at_offsets d n m scale) b ns j = element (get_or ns 0 0 + field (8 * (width z * j)) (8 * width z) (get_or ns 1 0) * 2 ^ scale) 0 (width z * j)
+way_element y z (at_addresses d m offset back) b ns j = element (get_or ns 0 0 + offset) 0 (width z * j)
+way_element y z (interleaved d n four part back) b ns j =
+    let k = stream part z b + j in
+    element (get_or ns 0 0 + width y * k) (j % registers four) (width z * (k / registers four) % 4)
 
 -- the words that beat b fills or stores from; interleaved elements are of one word of each register that they are of
-abbrev pub way_words : Size → Way → ℕ → List Place
-way_words z (Straight w) b = word_place w.d b ∷ []
-way_words z (Offsets w) b = word_place w.d b ∷ []
-way_words z (Addresses w) b = word_place w.d b ∷ []
-way_words z (Interleaved w) b =
-    each_from (λ i. let k = stream w z b + i in word_place (w.d + k % registers w) (width z * (k / registers w) / 4)) 0 (cond (ltb (per_word z) (registers w)) (per_word z) (registers w))
+abbrev pub way_words : Size → Found → ℕ → List Place
+way_words z (straight d n offset before back) b = word_place d b ∷ []
+way_words z (at_offsets d n m scale) b = word_place d b ∷ []
+way_words z (at_addresses d m offset back) b = word_place d b ∷ []
+way_words z (interleaved d n four part back) b =
+    each_from (λ i. let k = stream part z b + i in word_place (d + k % registers four) (width z * (k / registers four) / 4)) 0 (cond (ltb (per_word z) (registers four)) (per_word z) (registers four))
 
 -- what is written back: the base on the last beat, or each address on its beat
-abbrev pub way_back : Way → ℕ → List ℕ → List Write
-way_back (Straight w) b ns = cond (w.back && eqb b 3) (write (R w.n) ((get_or ns 0 0 + w.offset) % 2 ^ 32) ∷ []) []
-way_back (Offsets w) b ns = []
-way_back (Addresses w) b ns = cond w.back (write (word_place w.m b) ((get_or ns 0 0 + w.offset) % 2 ^ 32) ∷ []) []
-way_back (Interleaved w) b ns = cond (w.back && eqb b 3) (write (R w.n) ((get_or ns 0 0 + 16 * registers w) % 2 ^ 32) ∷ []) []
+abbrev pub way_back : Found → ℕ → List ℕ → List Write
+way_back (straight d n offset before back) b ns = cond (back && eqb b 3) (write (R n) ((get_or ns 0 0 + offset) % 2 ^ 32) ∷ []) []
+way_back (at_offsets d n m scale) b ns = []
+way_back (at_addresses d m offset back) b ns = cond back (write (word_place m b) ((get_or ns 0 0 + offset) % 2 ^ 32) ∷ []) []
+way_back (interleaved d n four part back) b ns = cond (back && eqb b 3) (write (R n) ((get_or ns 0 0 + 16 * registers four) % 2 ^ 32) ∷ []) []
 
 -- interleaved rows move every element
-abbrev pub way_predicated : Way → Bool
-way_predicated (Interleaved w) = false
+abbrev pub way_predicated : Found → Bool
+way_predicated (interleaved d n four part back) = false
 way_predicated w = true
 
 -- whether one of its beats writes lr
-abbrev pub way_writes_lr : Way → Bool
-way_writes_lr (Straight w) = w.back && eqb w.n 14
-way_writes_lr (Offsets w) = false
-way_writes_lr (Addresses w) = false
-way_writes_lr (Interleaved w) = w.back && eqb w.n 14
+abbrev pub way_writes_lr : Found → Bool
+way_writes_lr (straight d n offset before back) = back && eqb n 14
+way_writes_lr (at_offsets d n m scale) = false
+way_writes_lr (at_addresses d m offset back) = false
+way_writes_lr (interleaved d n four part back) = back && eqb n 14
 
 -- the row
-abbrev pub moves_of : Move → Moves
-moves_of m = record {
-  store = m.store;
-  predicated = way_predicated m.way;
-  memory = m.memory;
-  register = m.register;
-  signed = m.signed;
-  sources = way_sources m.way;
-  elements = λ b ns. each_from (way_element m.memory m.register m.way b ns) 0 (per_word m.register);
-  words = way_words m.register m.way;
-  back = way_back m.way;
+abbrev pub moves_by : Transfer → Moves
+moves_by t = record {
+  store = t.store;
+  predicated = way_predicated t.found;
+  memory = t.memory;
+  register = t.register;
+  signed = t.signed;
+  sources = way_sources t.found;
+  elements = λ b ns. each_from (way_element t.memory t.register t.found b ns) 0 (per_word t.register);
+  words = way_words t.register t.found;
+  back = way_back t.found;
 }
 
--- beat b of a row, and the whole instruction or its fault
+-- THE SAME OF WHAT THE CODE HOLDS
+abbrev pub way_of : Way → Found
+way_of (Straight w) = straight w.d w.n w.offset w.before w.back
+way_of (Offsets w) = at_offsets w.d w.n w.m w.scale
+way_of (Addresses w) = at_addresses w.d w.m w.offset w.back
+way_of (Interleaved w) = interleaved w.d w.n w.four w.part w.back
+
+abbrev pub transfer_of : Move → Transfer
+transfer_of m = record { store = m.store; memory = m.memory; register = m.register; signed = m.signed; found = way_of m.way }
+
+abbrev pub moves_of : Move → Moves
+moves_of m = moves_by (transfer_of m)
+
+-- beat b of a row
 abbrev pub move_tree : Move → Around → ℕ → Tree
 move_tree m = moves_tree (moves_of m)
-
-abbrev pub move_whole : Move → State → Result State Fault
-move_whole m = moves_whole (moves_of m)

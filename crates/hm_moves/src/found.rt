@@ -10,15 +10,15 @@ ghost use Rattle.hm_kinds.specs.Coded.{those};
 ghost use Rattle.hm_kinds.specs.Row.{is_body};
 ghost use Rattle.hm_moves.specs.Coded.{Fit, active_of};
 ghost use Rattle.hm_moves.specs.Moves.{active_ones, elements_at, every_byte, width};
-ghost use Rattle.hm_moves.specs.Ways.{each_from, moves_of, per_word, registers, start, stream, way_element, way_predicated, way_sources};
+ghost use Rattle.hm_moves.specs.Ways.{each_from, moves_of, per_word, registers, start, stream, way_element, way_of, way_predicated, way_sources};
 ghost use Rattle.hm_moves.specs.declared.ways.Way.TheVariants as way;
 
 use crate::elements::{Element, Elements, per_word, width};
 use crate::{Addresses, Interleaved, Move, Offsets, Straight, Way};
 use hm_base::{Place, bits};
 use hm_beat::read_word;
-use hm_kinds::read;
-use hm_lane::{Size, predicate};
+use hm_kinds::{active, read};
+use hm_lane::Size;
 use hm_regs::Regs;
 
 /// So many elements in bytes.
@@ -85,7 +85,7 @@ fn lane_number(z: Size, j: u32, word: u32) -> u32
 
 /// Where elements that stand one behind another begin.
 fn start(w: &Straight, base: u32) -> u32
-    ensures { result ≡ start w.now base }
+    ensures { result ≡ start w.now.before w.now.offset base }
 {
     if w.before {
         base.wrapping_add(w.offset)
@@ -98,7 +98,7 @@ fn start(w: &Straight, base: u32) -> u32
 fn straight_element(w: &Straight, y: Size, z: Size, b: u8, base: u32, j: u32) -> Element
     requires beat { b < 4 }
     requires index { j < per_word z }
-    ensures value { (n : ℕ) → result ≡ way_element y z (way.Straight w.now) b (base ∷ n ∷ []) j }
+    ensures value { (n : ℕ) → result ≡ way_element y z (way_of (way.Straight w.now)) b (base ∷ n ∷ []) j }
     ensures fit { result.lane + width z ≤ 4 }
 {
     let index = times_count(z, b as u32) + j;
@@ -119,7 +119,7 @@ fn offset_address(w: &Offsets, z: Size, base: u32, word: u32, j: u32) -> u32
 
 /// How many registers take elements in turn.
 pub fn registers(w: &Interleaved) -> u32
-    ensures value { result ≡ registers w.now }
+    ensures value { result ≡ registers w.now.four }
     ensures some { 2 ≤ result }
     ensures at_most { result ≤ 4 }
 {
@@ -129,9 +129,9 @@ pub fn registers(w: &Interleaved) -> u32
 /// The number in the stream of the first element of beat `b`, which is below 4.
 pub fn stream(w: &Interleaved, z: Size, b: u8) -> u32
     requires { b < 4 }
-    ensures value { result ≡ stream w.now z b }
+    ensures value { result ≡ stream w.now.part z b }
     ensures at_most { result ≤ 60 }
-    ensures within { result + per_word z ≤ 4 * per_word z * registers w.now }
+    ensures within { result + per_word z ≤ 4 * per_word z * registers w.now.four }
 {
     times_count(z, 4 * w.part as u32 + b as u32)
 }
@@ -140,7 +140,7 @@ pub fn stream(w: &Interleaved, z: Size, b: u8) -> u32
 fn interleaved_element(w: &Interleaved, y: Size, z: Size, b: u8, base: u32, j: u32) -> Element
     requires beat { b < 4 }
     requires index { j < per_word z }
-    ensures value { (n : ℕ) → result ≡ way_element y z (way.Interleaved w.now) b (base ∷ n ∷ []) j }
+    ensures value { (n : ℕ) → result ≡ way_element y z (way_of (way.Interleaved w.now)) b (base ∷ n ∷ []) j }
     ensures fit { result.lane + width z ≤ 4 }
 {
     let count = registers(w);
@@ -156,7 +156,7 @@ fn interleaved_element(w: &Interleaved, y: Size, z: Size, b: u8, base: u32, j: u
 fn element(row: &Move, b: u8, first: u32, second: u32, j: u32) -> Element
     requires beat { b < 4 }
     requires index { j < per_word row.now.register }
-    ensures value { result ≡ way_element row.now.memory row.now.register row.now.way b (first ∷ second ∷ []) j }
+    ensures value { result ≡ way_element row.now.memory row.now.register (way_of row.now.way) b (first ∷ second ∷ []) j }
     ensures fit { result.lane + width row.now.register ≤ 4 }
 {
     let y = row.memory;
@@ -180,7 +180,7 @@ fn element(row: &Move, b: u8, first: u32, second: u32, j: u32) -> Element
 /// What the first source of beat `b` holds. `b` is below 4.
 pub fn first_source(way: &Way, b: u8, r: &Regs) -> u32
     requires { b < 4 }
-    ensures { (m : Memory) (output : List ℕ) → result ≡ get_or (map (λ p. at p (state_of r.now m output)) (way_sources way.now b)) 0 0 }
+    ensures { (m : Memory) (output : List ℕ) → result ≡ get_or (map (λ p. at p (state_of r.now m output)) (way_sources (way_of way.now) b)) 0 0 }
 {
     match way {
         Way::Straight(w) => read(r, Place::R(w.n)),
@@ -193,7 +193,7 @@ pub fn first_source(way: &Way, b: u8, r: &Regs) -> u32
 /// What the second one holds, where there are two. `b` is below 4.
 fn second_source(way: &Way, b: u8, r: &Regs) -> u32
     requires { b < 4 }
-    ensures { (m : Memory) (output : List ℕ) → result ≡ get_or (map (λ p. at p (state_of r.now m output)) (way_sources way.now b)) 1 0 }
+    ensures { (m : Memory) (output : List ℕ) → result ≡ get_or (map (λ p. at p (state_of r.now m output)) (way_sources (way_of way.now) b)) 1 0 }
 {
     match way {
         Way::Offsets(w) => read_word(r, w.m, b),
@@ -203,7 +203,7 @@ fn second_source(way: &Way, b: u8, r: &Regs) -> u32
 
 /// Whether a row is under the predicate.
 pub fn is_predicated(way: &Way) -> bool
-    ensures { result ≡ way_predicated way.now }
+    ensures { result ≡ way_predicated (way_of way.now) }
 {
     match way {
         Way::Interleaved(_) => false,
@@ -211,28 +211,13 @@ pub fn is_predicated(way: &Way) -> bool
     }
 }
 
-/// The bytes of word `b` that the predicate makes active. `b` is below 4.
-fn predicated_bytes(r: &Regs, b: u8) -> [bool; 4]
-    requires { b < 4 }
-    ensures { (m : Memory) (output : List ℕ) → result ≡ active_at b (state_of r.now m output) }
-{
-    let p = predicate(r);
-    let first = 4 * b;
-    [
-        (p >> first) % 2 == 1,
-        (p >> (first + 1)) % 2 == 1,
-        (p >> (first + 2)) % 2 == 1,
-        (p >> (first + 3)) % 2 == 1,
-    ]
-}
-
 /// The active bytes of beat `b`. `b` is below 4.
-fn active(row: &Move, b: u8, r: &Regs) -> [bool; 4]
+fn active_bytes(row: &Move, b: u8, r: &Regs) -> [bool; 4]
     requires { b < 4 }
     ensures { (m : Memory) (output : List ℕ) → result ≡ active_of (moves_of row.now) b (state_of r.now m output) }
 {
     if is_predicated(&row.way) {
-        predicated_bytes(r, b)
+        active(r, b)
     } else {
         [true; 4]
     }
@@ -253,7 +238,7 @@ fn push_active(es: &mut Elements, e: Element, active: bool)
 /// The active ones of the elements of beat `b`, by the two numbers that stand in the sources. `b` is below 4.
 fn active_elements(row: &Move, b: u8, first: u32, second: u32, active: [bool; 4]) -> Elements
     requires { b < 4 }
-    ensures value { result.items ≡ active_ones active (each_from (way_element row.now.memory row.now.register row.now.way b (first ∷ second ∷ [])) 0 (per_word row.now.register)) }
+    ensures value { result.items ≡ active_ones active (each_from (way_element row.now.memory row.now.register (way_of row.now.way) b (first ∷ second ∷ [])) 0 (per_word row.now.register)) }
     ensures few { length result.items ≤ 4 }
     ensures fit { Fit row.now.register result.items }
 {
@@ -274,5 +259,5 @@ pub fn elements(row: &Move, b: u8, r: &Regs) -> Elements
 {
     let first = first_source(&row.way, b, r);
     let second = second_source(&row.way, b, r);
-    active_elements(row, b, first, second, active(row, b, r))
+    active_elements(row, b, first, second, active_bytes(row, b, r))
 }

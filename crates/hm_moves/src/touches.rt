@@ -9,7 +9,7 @@ ghost use Rattle.hm_state.specs.State.{state_of};
 ghost use Rattle.hm_beat.specs.Touches.{loads_in, reads_in, spanned, stores_in, writes_in};
 ghost use Rattle.hm_moves.specs.Coded.{begun_in};
 ghost use Rattle.hm_moves.specs.Moves.{bytes_of, elements_at, sources_at};
-ghost use Rattle.hm_moves.specs.Ways.{move_tree, moves_of, way_back, way_predicated, way_sources, way_words};
+ghost use Rattle.hm_moves.specs.Ways.{move_tree, moves_of, way_back, way_of, way_predicated, way_sources, way_words};
 
 use crate::elements::spans;
 use crate::found::{elements, first_source, is_predicated};
@@ -36,7 +36,7 @@ fn note_all(places: &mut Places, list: &[Place])
 fn note_words(places: &mut Places, row: &Move, b: u8, touched: bool)
     requires beat { b < 4 }
     requires room { length places.old ≤ 16 }
-    ensures value { places.new ≡ noted_all (cond touched (way_words row.now.register row.now.way b) []) places.old }
+    ensures value { places.new ≡ noted_all (cond touched (way_words row.now.register (way_of row.now.way) b) []) places.old }
     ensures grown { length places.new ≤ length places.old + 4 }
 {
     if touched {
@@ -49,7 +49,7 @@ fn note_words(places: &mut Places, row: &Move, b: u8, touched: bool)
 fn note_sources(places: &mut Places, way: &Way, b: u8)
     requires beat { b < 4 }
     requires room { length places.old ≤ 16 }
-    ensures value { places.new ≡ noted_all (way_sources way.now b) places.old }
+    ensures value { places.new ≡ noted_all (way_sources (way_of way.now) b) places.old }
     ensures grown { length places.new ≤ length places.old + 2 }
 {
     match way {
@@ -94,7 +94,7 @@ fn note_begun(places: &mut Places, predicated: bool, b: u8, r: &Regs)
 fn note_back(places: &mut Places, way: &Way, b: u8, first: u32)
     requires beat { b < 4 }
     requires room { length places.old ≤ 16 }
-    ensures value { places.new ≡ noted_all (places_of (way_back way.now b (first ∷ []))) places.old }
+    ensures value { places.new ≡ noted_all (places_of (way_back (way_of way.now) b (first ∷ []))) places.old }
     ensures grown { length places.new ≤ length places.old + 1 }
 {
     if let Some(w) = written_back(way, b, first) {
@@ -104,7 +104,7 @@ fn note_back(places: &mut Places, way: &Way, b: u8, first: u32)
 
 /// Whether the words of a beat are read: by stores, and by loads that leave some of a word.
 fn reads_words(row: &Move) -> bool
-    ensures { result ≡ (row.now.store || not (way_predicated row.now.way)) }
+    ensures { result ≡ (row.now.store || not (way_predicated (way_of row.now.way))) }
 {
     row.store || !is_predicated(&row.way)
 }

@@ -95,11 +95,11 @@ pub struct Move {
 }
 
 impl Move {
-    ghost use Rattle.hm_moves.specs.Ways.{way_writes_lr};
+    ghost use Rattle.hm_moves.specs.Ways.{way_of, way_writes_lr};
 
     /// Whether one of its beats writes lr.
     pub fn writes_lr(&self) -> bool
-        ensures { result ≡ way_writes_lr self.now.way }
+        ensures { result ≡ way_writes_lr (way_of self.now.way) }
     {
         match &self.way {
             Way::Straight(w) => w.back && w.n == 14,

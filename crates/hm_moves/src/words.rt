@@ -8,7 +8,7 @@ ghost use Rattle.hm_beat.specs.Rows.{word_place};
 ghost use Rattle.hm_kinds.specs.Coded.{puts};
 ghost use Rattle.hm_kinds.specs.Row.{is_body};
 ghost use Rattle.hm_moves.specs.Moves.{width};
-ghost use Rattle.hm_moves.specs.Ways.{each_from, per_word, registers, stream, way_back, way_words};
+ghost use Rattle.hm_moves.specs.Ways.{each_from, per_word, registers, stream, way_back, way_of, way_words};
 
 use crate::elements::per_word;
 use crate::found::{registers, stream};
@@ -23,15 +23,15 @@ pub type Words = ArrayVec<Place, 4>;
 
 /// Which element of its register element `k` of the stream is.
 fn quotient(w: &Interleaved, k: u32) -> u32
-    ensures value { result ≡ k / registers w.now }
-    ensures below { (n : ℕ) → k < n * registers w.now → result < n }
+    ensures value { result ≡ k / registers w.now.four }
+    ensures below { (n : ℕ) → k < n * registers w.now.four → result < n }
 {
     if w.four { k / 4 } else { k / 2 }
 }
 
 /// The register that element `k` of the stream goes to.
 fn register_of(w: &Interleaved, k: u32) -> u8
-    ensures value { result ≡ w.now.d + k % registers w.now }
+    ensures value { result ≡ w.now.d + k % registers w.now.four }
     ensures below { result < 8 }
 {
     if w.four {
@@ -56,8 +56,8 @@ fn word_of(z: Size, k: u32) -> u8
 
 /// The word that element `k` of the stream is of, one of those that all parts move.
 fn interleaved_word(w: &Interleaved, z: Size, k: u32) -> Place
-    requires { k < 4 * per_word z * registers w.now }
-    ensures value { result ≡ word_place (w.now.d + k % registers w.now) (width z * (k / registers w.now) / 4) }
+    requires { k < 4 * per_word z * registers w.now.four }
+    ensures value { result ≡ word_place (w.now.d + k % registers w.now.four) (width z * (k / registers w.now.four) / 4) }
     ensures placed { IsPlace result }
 {
     Place::QWord(4 * register_of(w, k) + word_of(z, quotient(w, k)))
@@ -73,8 +73,8 @@ fn least(x: u32, y: u32) -> u32
 /// The words of interleaved elements. `b` is below 4.
 fn interleaved_words(w: &Interleaved, z: Size, b: u8) -> Words
     requires { b < 4 }
-    ensures value { result.items ≡ each_from (λ i. let k = stream w.now z b + i in word_place (w.now.d + k % registers w.now) (width z * (k / registers w.now) / 4)) 0
-        (cond (ltb (per_word z) (registers w.now)) (per_word z) (registers w.now)) }
+    ensures value { result.items ≡ each_from (λ i. let k = stream w.now.part z b + i in word_place (w.now.d + k % registers w.now.four) (width z * (k / registers w.now.four) / 4)) 0
+        (cond (ltb (per_word z) (registers w.now.four)) (per_word z) (registers w.now.four)) }
     ensures placed { All IsPlace result.items }
     ensures few { length result.items ≤ 4 }
 {
@@ -102,7 +102,7 @@ fn one_word(q: u8, b: u8) -> Words
 /// The words that beat `b` fills or stores from. `b` is below 4.
 pub fn words(way: &Way, z: Size, b: u8) -> Words
     requires { b < 4 }
-    ensures value { result.items ≡ way_words z way.now b }
+    ensures value { result.items ≡ way_words z (way_of way.now) b }
     ensures placed { All IsPlace result.items }
     ensures few { length result.items ≤ 4 }
 {
@@ -152,7 +152,7 @@ fn word_back(back: bool, q: u8, b: u8, value: u32) -> Option<Written>
 /// What beat `b` writes back, by the number in its first source. `b` is below 4.
 pub fn written_back(way: &Way, b: u8, first: u32) -> Option<Written>
     requires { b < 4 }
-    ensures value { puts result ≡ way_back way.now b (first ∷ []) }
+    ensures value { puts result ≡ way_back (way_of way.now) b (first ∷ []) }
     ensures placed { IfSome result (λ w. IsPlace w.place) }
     ensures body { IfSome result (λ w. is_body w.place ≡ true) }
 {

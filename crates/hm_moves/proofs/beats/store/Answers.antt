@@ -6,7 +6,7 @@ use Rattle.hm_mem.specs.Seen.{marks}
 use Rattle.hm_regs.specs.Place.{value_at}
 use Rattle.hm_state.specs.State.{cells, state_of}
 use Rattle.hm_state.specs.Store.{put_all}
-use Rattle.hm_moves.specs.Ways.{moves_of}
+use Rattle.hm_moves.specs.Ways.{moves_of, transfer_of}
 use Rattle.hm_moves.proofs.Filled.{Words, bytes_stored}
 use Rattle.hm_moves.proofs.Owed.{move_is}
 use Rattle.hm_moves.proofs.beats.store.Goals as goal
@@ -21,5 +21,5 @@ returns-then-row-clause-state c = λ output same.
     let placed = subst (All IsPlace) (sym c.as_slice.ensures.value) c.words-list.ensures.placed in
     c.store_all.ensures.state r output
     ∙ ap (λ ws. put_all cells ws (state_of r m output))
-    (bytes_stored m r output i b (marks m.around.actor) c.args.es.now c.as_slice.result.now c.as_slice-then-row.result.now c.if-row.true same words placed (subst Words (sym words) ((move_is c.args.row.now).words b))
+    (bytes_stored m r output i b (marks m.around.actor) c.args.es.now c.as_slice.result.now c.as_slice-then-row.result.now c.if-row.true same words placed (subst Words (sym words) ((move_is (transfer_of c.args.row.now)).words b))
     (c.as_slice-then-row.ensures.value ∙ c.values-xs.ensures))

@@ -1,13 +1,13 @@
 use Rattle.std.proofs.Common.{◌≡◌, suc, ◌+◌, ◌-◌, ◌∷◌, [], arith, ◌∙◌}
 use Rattle.hm_moves.specs.Moves.{width}
-use Rattle.hm_moves.specs.Ways.{per_word, way_element}
+use Rattle.hm_moves.specs.Ways.{per_word, way_element, way_of}
 use Rattle.hm_moves.proofs.Widths.{more_active}
 use Rattle.hm_moves.proofs.found.active_elements.Goals as goal
 
 pub loop-j-preserved : goal.loop-j-preserved
 loop-j-preserved c =
     let row = c.args.row.now in
-    let f = way_element row.memory row.register row.way c.args.b (c.args.first ∷ c.args.second ∷ []) in
+    let f = way_element row.memory row.register (way_of row.way) c.args.b (c.args.first ∷ c.args.second ∷ []) in
     let n = per_word row.register in
     let j = c.loop-j.j in
     let next : n - j ≡ suc (n - (j + 1)) = omega arith in

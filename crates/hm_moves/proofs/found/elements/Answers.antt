@@ -1,7 +1,7 @@
 use Rattle.std.proofs.Common.{◌≡◌, ◌∷◌, [], ap, ◌∙◌}
 use Rattle.hm_state.specs.State.{state_of}
 use Rattle.hm_moves.specs.Moves.{active_ones, sources_at}
-use Rattle.hm_moves.specs.Ways.{each_from, moves_of, per_word, way_element}
+use Rattle.hm_moves.specs.Ways.{each_from, moves_of, per_word, way_element, way_of}
 use Rattle.hm_moves.specs.Coded.{active_of}
 use Rattle.hm_moves.proofs.Widths.{by_sources, each_same}
 use Rattle.hm_moves.proofs.found.elements.Goals as goal
@@ -12,5 +12,5 @@ returns-clause-value c = λ m output.
     let s = state_of c.args.r.now m output in
     let ns = sources_at (moves_of row) c.args.b s in
     c.active_elements.ensures.value
-    ∙ (λ t. active_ones (c.active.ensures m output t) (each_same (way_element row.memory row.register row.way c.args.b (c.first_source-first.result ∷ c.second_source-second.result ∷ [])) (way_element row.memory row.register row.way c.args.b ns) 0 (per_word row.register)
-    (λ j. by_sources row.memory row.register row.way c.args.b _ _ ns j (c.first_source-first.ensures m output) (c.second_source-second.ensures m output)) t))
+    ∙ (λ t. active_ones (c.active_bytes.ensures m output t) (each_same (way_element row.memory row.register (way_of row.way) c.args.b (c.first_source-first.result ∷ c.second_source-second.result ∷ [])) (way_element row.memory row.register (way_of row.way) c.args.b ns) 0 (per_word row.register)
+    (λ j. by_sources row.memory row.register (way_of row.way) c.args.b _ _ ns j (c.first_source-first.ensures m output) (c.second_source-second.ensures m output)) t))

@@ -1,4 +1,4 @@
-use Rattle.hm_moves.specs.Ways.{moves_of}
+use Rattle.hm_moves.specs.Ways.{moves_by}
 use Rattle.hm_moves.proofs.Moves.{moves_keep_lr, moves_laws}
 use Rattle.hm_moves.proofs.Owed.{move_is, move_spares}
 use Rattle.hm_moves.proofs.laws.moves_law.Goals as goal
@@ -10,7 +10,7 @@ pub returns-clause-keeps_lr : goal.returns-clause-keeps_lr
 returns-clause-keeps_lr c = λ i x is spares. moves_keep_lr i is x spares
 
 pub returns-clause-ways : goal.returns-clause-ways
-returns-clause-ways c = λ m. moves_laws (moves_of m) (move_is m)
+returns-clause-ways c = λ t. moves_laws (moves_by t) (move_is t)
 
 pub returns-clause-ways_keep_lr : goal.returns-clause-ways_keep_lr
-returns-clause-ways_keep_lr c = λ m x e. moves_keep_lr (moves_of m) (move_is m) x (move_spares m e)
+returns-clause-ways_keep_lr c = λ t x e. moves_keep_lr (moves_by t) (move_is t) x (move_spares t e)

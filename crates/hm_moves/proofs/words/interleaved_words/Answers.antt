@@ -13,9 +13,9 @@ pub loop-i-preserved : goal.loop-i-preserved
 loop-i-preserved c =
     let w = c.args.w.now in
     let z = c.args.z in
-    let g : ℕ → Place = λ k. word_place (w.d + k % registers w) (width z * (k / registers w) / 4) in
-    let f : ℕ → Place = λ i. g (stream w z c.args.b + i) in
-    let n = cond (ltb (per_word z) (registers w)) (per_word z) (registers w) in
+    let g : ℕ → Place = λ k. word_place (w.d + k % registers w.four) (width z * (k / registers w.four) / 4) in
+    let f : ℕ → Place = λ i. g (stream w.part z c.args.b + i) in
+    let n = cond (ltb (per_word z) (registers w.four)) (per_word z) (registers w.four) in
     let i = c.loop-i.i in
     let count : c.least-i-end.result ≡ n = c.least-i-end.ensures ∙ (λ t. cond (ltb (c.per_word.ensures.value t) (c.registers.ensures.value t)) (c.per_word.ensures.value t) (c.registers.ensures.value t)) in
     let next : n - i ≡ suc (n - (i + 1)) = omega arith in
