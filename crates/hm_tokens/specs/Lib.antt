@@ -1,0 +1,6 @@
+pub mod Marks
+pub mod Tokens
+pub mod Lines
+pub mod Names
+pub mod Steps
+pub mod Texts

@@ -1,0 +1,20 @@
+-- The marks of assembly text.
+use Rattle.std.specs.Prelude.{ℕ, Bool, codes, ◌==◌}
+use Rattle.std.specs.List.{list_any}
+use Rattle.hm_tokens.specs.declared.marks.Mark.{Mark}
+use Rattle.hm_tokens.specs.declared.marks.Mark.TheVariants as marks
+
+abbrev pub mark_byte : Mark → ℕ
+mark_byte marks.Colon = 58
+mark_byte marks.Comma = 44
+mark_byte marks.Hash = 35
+mark_byte marks.OpenBracket = 91
+mark_byte marks.CloseBracket = 93
+mark_byte marks.OpenBrace = 123
+mark_byte marks.CloseBrace = 125
+mark_byte marks.Bang = 33
+mark_byte marks.Minus = 45
+mark_byte marks.Plus = 43
+
+abbrev pub is_mark : ℕ → Bool
+is_mark c = list_any (λ m. c == m) (codes ":,#[]{}!-+")

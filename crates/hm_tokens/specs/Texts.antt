@@ -1,0 +1,35 @@
+-- The text of an instruction, as what it is printed from.
+use Rattle.std.specs.Prelude.{ℕ, Bool, false, List, ◌∷◌, ◌++◌, length, drop, map, Option, Some, None, nat_eq, bytes_eq, if◌then◌else◌}
+use Rattle.std.specs.List.{starts_with}
+use Rattle.hm_tokens.specs.declared.text.Part.{Part}
+use Rattle.hm_tokens.specs.declared.text.Part.TheVariants as parts
+use Rattle.hm_tokens.specs.declared.text.InstrText.{InstrText}
+use Rattle.hm_tokens.specs.Marks.{mark_byte}
+use Rattle.hm_tokens.specs.Tokens.{Tok, word, number, mark}
+
+abbrev pub part_token : Part → Tok
+part_token (parts.Word w) = word w.now
+part_token (parts.Number n) = number n
+part_token (parts.Mark m) = mark (mark_byte m)
+
+abbrev pub mnemonic_of : InstrText → List ℕ
+mnemonic_of t = t.stem.now ++ (t.letters.now ++ t.suffix.now)
+
+-- its tokens
+abbrev pub text_tokens : InstrText → List Tok
+text_tokens t = word (mnemonic_of t) ∷ map part_token t.operands.items
+
+-- a word in pieces
+abbrev pub behind : List ℕ → List ℕ → Option (List ℕ)
+behind piece name = if starts_with nat_eq name piece then Some (drop (length piece) name) else None
+
+abbrev pub is_last : List ℕ → Option (List ℕ) → Bool
+is_last piece (Some rest) = bytes_eq rest piece
+is_last piece None = false
+
+abbrev pub is_rest : List ℕ → List ℕ → Option (List ℕ) → Bool
+is_rest b c (Some rest) = is_last c (behind b rest)
+is_rest b c None = false
+
+abbrev pub is_pieces : List ℕ → List ℕ → List ℕ → List ℕ → Bool
+is_pieces a b c name = is_rest b c (behind a name)

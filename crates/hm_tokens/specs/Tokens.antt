@@ -1,0 +1,73 @@
+-- Tokens of assembly text, and the longest at the front of a text.
+use Rattle.std.specs.Prelude.{ℕ, Bool, ◌+◌, ◌-◌, ◌*◌, min, List, [], ◌∷◌, length, slice_index, drop, decimal, Option, Some, None, ◌==◌, nat_le, nat_lt, ◌&&◌, ◌||◌, if◌then◌else◌}
+use Rattle.hm_tokens.specs.Marks.{is_mark, mark_byte}
+use Rattle.hm_tokens.specs.declared.token.Token.{Token}
+use Rattle.hm_tokens.specs.declared.token.Token.TheVariants as tokens
+use Rattle.hm_tokens.specs.declared.token.Class.{Class}
+use Rattle.hm_tokens.specs.declared.token.Class.TheVariants as classes
+
+-- a word, a number, or a mark
+pub data Tok : Type 0 where
+  word : List ℕ → Tok
+  number : ℕ → Tok
+  mark : ℕ → Tok
+
+abbrev pub tok : Token → Tok
+tok (tokens.Word w) = word w.now
+tok (tokens.Number n) = number n
+tok (tokens.Mark m) = mark (mark_byte m)
+
+-- BYTES
+abbrev pub is_digit : ℕ → Bool
+is_digit c = nat_le 48 c && nat_le c 57
+
+abbrev pub is_in : Class → ℕ → Bool
+is_in classes.Word c = (nat_le 97 c && nat_le c 122) || (is_digit c || ((c == 95) || (c == 46)))
+is_in classes.Decimal c = is_digit c
+is_in classes.Hex c = is_digit c || (nat_le 97 c && nat_le c 102)
+is_in classes.Space c = c == 32
+
+-- the longest front of bytes of a class, and the rest
+unfoldable pub run : Class → List ℕ → List ℕ × List ℕ
+run class [] = ([], [])
+run class (b ∷ bs) = if is_in class b then (b ∷ (run class bs).0, (run class bs).1) else ([], b ∷ bs)
+
+-- the text without the spaces at its front
+abbrev pub skip : List ℕ → List ℕ
+skip text = (run classes.Space text).1
+
+-- NUMBERS
+abbrev pub digit : ℕ → ℕ
+digit c = if nat_le 97 c then c - 97 + 10 else c - 48
+
+-- the number that digits write after n; all from 2 ^ 32 on are one, since they fit nowhere
+unfoldable pub value : ℕ → ℕ → List ℕ → ℕ
+value base n [] = n
+value base n (c ∷ cs) = value base (min (n * base + digit c) 0x1_0000_0000) cs
+
+-- a hexadecimal number begins here
+abbrev pub is_hex : List ℕ → Bool
+is_hex text = nat_lt 2 (length text) && ((slice_index text 0 == 48) && ((slice_index text 1 == 120) && is_in classes.Hex (slice_index text 2)))
+
+-- TOKENS
+abbrev pub number_token : ℕ → List ℕ × List ℕ → Option (Tok × List ℕ)
+number_token base s = Some (number (value base 0 s.0), s.1)
+
+abbrev pub word_token : List ℕ × List ℕ → Option (Tok × List ℕ)
+word_token s = Some (word s.0, s.1)
+
+-- the longest token at the front, and the rest; None where a byte of no token stands there, or none
+unfoldable pub token_at : List ℕ → Option (Tok × List ℕ)
+token_at text =
+    if length text == 0 then None
+    else if is_hex text then number_token 16 (run classes.Hex (drop 2 text))
+    else if is_digit (slice_index text 0) then number_token 10 (run classes.Decimal text)
+    else if is_in classes.Word (slice_index text 0) then word_token (run classes.Word text)
+    else if is_mark (slice_index text 0) then Some (mark (slice_index text 0), drop 1 text)
+    else None
+
+-- a token as it is printed: a number in decimal
+abbrev pub spell : Tok → List ℕ
+spell (word w) = w
+spell (number n) = decimal n
+spell (mark c) = c ∷ []

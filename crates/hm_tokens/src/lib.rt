@@ -1,0 +1,19 @@
+//! Assembly text as tokens: how the text of an instruction is cut into them, and how it is printed from them.
+#![tactic(auto)]
+
+mod line;
+mod marks;
+mod names;
+mod text;
+mod token;
+
+pub use line::{Tokens, read_line};
+pub use marks::Mark;
+pub use names::{
+    condition_name, read_condition, read_register, read_vector, register_name, vector_name,
+};
+pub use text::{InstrText, Part};
+pub use token::Token;
+
+#[cfg(test)]
+mod tests;
