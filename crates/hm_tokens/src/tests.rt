@@ -1,1 +1,140 @@
 use super::*;
+use arrayvec::ArrayVec;
+
+/// Whether a text has these tokens.
+fn reads(text: &[u8], tokens: &[Token<'_>]) -> bool {
+    match read_line(text) {
+        Some(line) => line.as_slice() == tokens,
+        None => false,
+    }
+}
+
+#[test]
+fn cuts_texts_into_tokens(rt: HostRuntime) {
+    let load = [
+        Token::Word(b"vldrw.u32"),
+        Token::Word(b"q0"),
+        Token::Mark(Mark::Comma),
+        Token::Mark(Mark::OpenBracket),
+        Token::Word(b"r0"),
+        Token::Mark(Mark::Comma),
+        Token::Mark(Mark::Hash),
+        Token::Mark(Mark::Minus),
+        Token::Number(16),
+        Token::Mark(Mark::CloseBracket),
+        Token::Mark(Mark::Bang),
+    ];
+    assert!(rt; reads(b"vldrw.u32 q0,[r0,#-16]!", &load));
+    assert!(rt; reads(b"  vldrw.u32   q0 , [ r0,# -0x10 ] !  ", &load));
+    assert!(rt; reads(b"nop", &[Token::Word(b"nop")]));
+    assert!(rt; reads(b"nop  ", &[Token::Word(b"nop")]));
+    assert!(rt; reads(b"b 0x0000012c", &[Token::Word(b"b"), Token::Number(300)]));
+    assert!(rt; reads(b"b 007", &[Token::Word(b"b"), Token::Number(7)]));
+    assert!(rt;
+        reads(
+            b".word 0xg",
+            &[Token::Word(b".word"), Token::Number(0), Token::Word(b"xg")]
+        )
+    );
+    assert!(rt;
+        reads(
+            b".word 12ab",
+            &[Token::Word(b".word"), Token::Number(12), Token::Word(b"ab")]
+        )
+    );
+    assert!(rt;
+        reads(
+            b"b 4294967295",
+            &[Token::Word(b"b"), Token::Number(0xffff_ffff)]
+        )
+    );
+    assert!(rt;
+        reads(
+            b"b 99999999999999999999999",
+            &[Token::Word(b"b"), Token::Number(0x1_0000_0000)]
+        )
+    );
+    assert!(rt;
+        reads(
+            b"push {r0-r3,lr}+:",
+            &[
+                Token::Word(b"push"),
+                Token::Mark(Mark::OpenBrace),
+                Token::Word(b"r0"),
+                Token::Mark(Mark::Minus),
+                Token::Word(b"r3"),
+                Token::Mark(Mark::Comma),
+                Token::Word(b"lr"),
+                Token::Mark(Mark::CloseBrace),
+                Token::Mark(Mark::Plus),
+                Token::Mark(Mark::Colon),
+            ]
+        )
+    );
+}
+
+#[test]
+fn refuses_what_is_no_line(rt: HostRuntime) {
+    let texts: [&[u8]; 7] = [
+        b"",
+        b"   ",
+        b"push{r0}",
+        b"NOP",
+        b"nop ;",
+        b"nop\t",
+        b"add r0,r1 @ a comment",
+    ];
+    for text in texts {
+        assert!(rt; read_line(text).is_none());
+    }
+}
+
+#[test]
+fn names_registers_and_conditions(rt: HostRuntime) {
+    assert_eq!(rt; register_name(12), "r12");
+    assert_eq!(rt; register_name(13), "sp");
+    assert_eq!(rt; vector_name(7), "q7");
+    assert_eq!(rt; condition_name(3), "cc");
+    assert_eq!(rt; read_register(b"pc"), Some(15));
+    assert_eq!(rt; read_register(b"r13"), None);
+    assert_eq!(rt; read_vector(b"q8"), None);
+    assert_eq!(rt; read_vector(b"q3"), Some(3));
+    assert_eq!(rt; read_condition(b"le"), Some(13));
+    assert_eq!(rt; read_condition(b"al"), None);
+}
+
+/// `vpte.s16 gt,q1,#4294967295`, which is no row's.
+fn example() -> InstrText {
+    let mut operands = ArrayVec::new();
+    operands.push(Part::Word("gt"));
+    operands.push(Part::Mark(Mark::Comma));
+    operands.push(Part::Word("q1"));
+    operands.push(Part::Mark(Mark::Comma));
+    operands.push(Part::Mark(Mark::Hash));
+    operands.push(Part::Number(0xffff_ffff));
+    InstrText {
+        stem: "vpt",
+        letters: "e",
+        suffix: ".s16",
+        operands,
+    }
+}
+
+#[test]
+fn compares_texts(rt: HostRuntime) {
+    let text = example();
+    let same = read_line(b"vpte.s16 gt, q1, #0xffffffff");
+    assert!(rt; same.is_some_and(|tokens| text.has(tokens.as_slice())));
+    let others: [&[u8]; 6] = [
+        b"vpt.s16 gt, q1, #0xffffffff",
+        b"vptee.s16 gt, q1, #0xffffffff",
+        b"vpte.s1 gt, q1, #0xffffffff",
+        b"vpte.s16 gt, q1, #0x100000000",
+        b"vpte.s16 gt, q1, #0xffffffff,",
+        b"vpte.s16 gt, q1, #",
+    ];
+    for other in others {
+        let line = read_line(other);
+        assert!(rt; line.is_some_and(|tokens| !text.has(tokens.as_slice())));
+    }
+}
