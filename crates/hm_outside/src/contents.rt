@@ -1,0 +1,74 @@
+//! What stands in flash and SRAM before a test and after it.
+
+use crate::case::{CODE_START, Case, Segment};
+use anyhow::{Context, Result};
+use hm_base::{FLASH_SIZE, Image, SRAM_SIZE, SRAM_START};
+use hm_mem::Mem;
+use std::alloc::Global;
+
+/// Flash with `nop` everywhere.
+pub fn blank_flash(alloc: Global) -> Result<Vec<u8>> {
+    let mut flash = Vec::with_capacity(alloc, FLASH_SIZE as usize)?;
+    for _ in 0..FLASH_SIZE / 2 {
+        flash.extend_from_slice(&[0x00, 0xbf])?;
+    }
+    Ok(flash)
+}
+
+/// A copy of bytes.
+fn copied(alloc: Global, bytes: &[u8]) -> Result<Vec<u8>> {
+    let mut copy = Vec::with_capacity(alloc, bytes.len())?;
+    copy.extend_from_slice(bytes)?;
+    Ok(copy)
+}
+
+/// Lays bytes over others, from an index on; None where there is no room for them.
+fn lay(target: &mut [u8], at: usize, bytes: &[u8]) -> Option<()> {
+    let end = at.checked_add(bytes.len())?;
+    target.get_mut(at..end)?.copy_from_slice(bytes);
+    Some(())
+}
+
+/// Lays the segments that lie in SRAM over it.
+fn lay_in_sram(sram: &mut [u8], segments: &[Segment]) -> Result<()> {
+    for segment in segments {
+        if let Some(at) = segment.addr.checked_sub(SRAM_START) {
+            lay(sram, at as usize, &segment.bytes).context("bytes past SRAM")?;
+        }
+    }
+    Ok(())
+}
+
+/// Flash before a test, given flash with `nop` everywhere.
+fn flash_before(alloc: Global, blank: &[u8], case: &Case) -> Result<Vec<u8>> {
+    let mut flash = copied(alloc, blank)?;
+    lay(&mut flash, CODE_START as usize, &case.code).context("code past flash")?;
+    for segment in &case.loaded {
+        if segment.addr < FLASH_SIZE {
+            lay(&mut flash, segment.addr as usize, &segment.bytes).context("bytes past flash")?;
+        }
+    }
+    Ok(flash)
+}
+
+/// SRAM before a test.
+fn sram_before(alloc: Global, case: &Case) -> Result<Vec<u8>> {
+    let mut sram = vec![in alloc; 0; SRAM_SIZE as usize]?;
+    lay_in_sram(&mut sram, &case.loaded)?;
+    Ok(sram)
+}
+
+/// SRAM after a test.
+pub fn sram_after(alloc: Global, case: &Case) -> Result<Vec<u8>> {
+    let mut sram = sram_before(alloc, case)?;
+    lay_in_sram(&mut sram, &case.written)?;
+    Ok(sram)
+}
+
+/// The memory before a test, given flash with `nop` everywhere.
+pub fn memory_before(alloc: Global, blank: &[u8], case: &Case) -> Result<Mem> {
+    let mut image = Image::new(alloc);
+    image.add(0, flash_before(alloc, blank, case)?)?;
+    image.add(SRAM_START, sram_before(alloc, case)?)?;
+    Ok(Mem::new(alloc, &image, SRAM_START, SRAM_START, SRAM_START)?)
+}

@@ -1,0 +1,81 @@
+//! Compares what instructions do here with what another implementation says that they do.
+#![tactic(auto)]
+
+mod case;
+mod contents;
+mod outcome;
+mod perform;
+mod register;
+
+use anyhow::{Context, Result};
+use case::{Case, read_cases};
+use contents::blank_flash;
+use outcome::{Outcome, try_case};
+use perform::Trouble;
+use register::Register;
+use std::alloc::Global;
+use std::io::{BufWriter, Write};
+use std::{env, fs, io};
+
+/// What each test comes to, in their order.
+fn outcomes(alloc: Global, cases: &[Case]) -> Result<Vec<Outcome>> {
+    let flash = blank_flash(alloc)?;
+    let registers = Register::all(alloc)?;
+    let mut all = Vec::new(alloc);
+    for case in cases {
+        all.push(try_case(alloc, case, &flash, &registers)?)?;
+    }
+    Ok(all)
+}
+
+/// Writes a line for each difference, behind the place and the row of its test.
+fn write_one<W: Write>(out: &mut W, name: &str, case: &Case, outcome: &Outcome) -> io::Result<()> {
+    let line = case.line;
+    let row = &case.row;
+    match outcome {
+        Outcome::Ended(differences) => {
+            for difference in differences {
+                writeln!(out, "{name}:{line}: {row}: {difference}")?;
+            }
+            Ok(())
+        }
+        Outcome::Broken(Trouble::NotBuilt) => Ok(()),
+        Outcome::Broken(trouble) => writeln!(out, "{name}:{line}: {row}: {trouble:?}"),
+    }
+}
+
+/// Writes what differs, and how many tests there are, differ, and want a row that is not built.
+fn write_all<W: Write>(
+    out: &mut W,
+    name: &str,
+    cases: &[Case],
+    outcomes: &[Outcome],
+) -> io::Result<()> {
+    for (case, outcome) in cases.iter().zip(outcomes) {
+        write_one(out, name, case, outcome)?;
+    }
+    let count = outcomes.len();
+    let differ = outcomes.iter().filter(|outcome| outcome.differs()).count();
+    let not_built = outcomes
+        .iter()
+        .filter(|outcome| outcome.is_not_built())
+        .count();
+    writeln!(
+        out,
+        "{name}: {count} vectors, {differ} differ, {not_built} not built"
+    )
+}
+
+/// Compares the tests of the files that are named.
+fn main(rt: HostRuntime) -> Result<()> {
+    let alloc = rt.alloc();
+    let mut out = BufWriter::new(alloc, io::writer(&rt))?;
+    for name in env::args(&rt)?.skip(1) {
+        let text = fs::read_to_string(&rt, &name)?;
+        let cases = read_cases(alloc, &text)?;
+        let outcomes = outcomes(alloc, &cases)?;
+        write_all(&mut out, &name, &cases, &outcomes)?;
+    }
+    out.flush()?;
+    Ok(())
+}
