@@ -1,0 +1,4 @@
+pub mod Placing
+pub mod LoadSteps
+pub mod ReadLaws
+pub mod WriteLaws

@@ -1,0 +1,3 @@
+pub mod Elf
+pub mod ReadImage
+pub mod WriteImage
