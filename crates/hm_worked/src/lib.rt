@@ -7,3 +7,5 @@ mod memory;
 mod overlap;
 #[cfg(test)]
 mod tests;
+#[cfg(test)]
+mod touches;

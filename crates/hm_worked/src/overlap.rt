@@ -7,7 +7,7 @@ use hm_window::{Rule, Window, lawful};
 use std::test::Fail;
 
 /// The vector instruction of a code; none where it is none.
-fn row(code: u32) -> Option<Any> {
+pub fn row(code: u32) -> Option<Any> {
     let Some(v) = decodev(code) else {
         return None;
     };

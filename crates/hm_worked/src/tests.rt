@@ -25,7 +25,7 @@ const VECTORS: &[u8] = &[
 /// The name of a run, its code, so many plain ticks, and lines of the report.
 type Run = (&'static str, &'static [u8], u32, &'static [&'static str]);
 
-static RUNS: [Run; 9] = [
+static RUNS: [Run; 10] = [
     (
         "vectors_alone",
         VECTORS,
@@ -82,6 +82,13 @@ static RUNS: [Run; 9] = [
             "q0 7f7f7f7f 7f7f7f7f 7f7f7f7f 7f7f7f7f",
             "fpscr 08040000",
         ],
+    ),
+    // vmov.i32 q0,#5; vaddva.u32 r0,q0
+    (
+        "sum_of_elements",
+        &[0x80, 0xef, 0x55, 0, 0xf9, 0xfe, 0x20, 0xf, 0, 0xbe],
+        3,
+        &["outcome halted break 0 after 3", "r0 00000014"],
     ),
     (
         "predicate_of_a_count",
