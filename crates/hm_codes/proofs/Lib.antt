@@ -5,6 +5,7 @@ pub mod Wides
 pub mod JumpRows
 pub mod ArithRows
 pub mod SystemRows
+pub mod MemoryRows
 pub mod Vectors
 pub mod Tables
 pub mod Unique

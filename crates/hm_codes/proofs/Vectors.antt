@@ -86,6 +86,7 @@ use Rattle.hm_layout.proofs.Search.{no_rule, one_rule, decided_both, decided_tes
 use Rattle.hm_layout.proofs.Coded.{Coded, digit}
 use Rattle.hm_layout.proofs.Rows.{Row, sparing, at, spread, the_name, Named, named, coded, Plain, plain, Varied, varied}
 use Rattle.hm_layout.proofs.Tables.{of_table, ◌▹◌}
+use Rattle.hm_codes.proofs.MemoryRows.{row_v24, spared_v25, row_v26, row_v27, row_v28}
 
 abbrev pub row_v1 : Named v1_.the_type add_.enum code_v1 add_base
 row_v1 = record {
@@ -431,6 +432,11 @@ coded_vector =
     coded_v21 ▹
     coded_v22 ▹
     coded (named row_v23) ▹
+    coded (plain row_v24) ▹
+    coded spared_v25 ▹
+    coded (plain row_v26) ▹
+    coded (plain row_v27) ▹
+    coded (plain row_v28) ▹
     tt)
     (elim [
       | vector.V1 r ↦ refl
@@ -456,6 +462,11 @@ coded_vector =
       | vector.V21 r ↦ refl
       | vector.V22 r ↦ refl
       | vector.V23 r ↦ refl
+      | vector.V24 r ↦ refl
+      | vector.V25 r ↦ refl
+      | vector.V26 r ↦ refl
+      | vector.V27 r ↦ refl
+      | vector.V28 r ↦ refl
     ])
 
 pub unique_vector : (u v : Vector) → vector_code u ≡ vector_code v → u ≡ v

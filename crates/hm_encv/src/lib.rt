@@ -6,6 +6,7 @@ ghost use Rattle.hm_isa.specs.declared.Vector.{Vector};
 ghost use Rattle.hm_isa.specs.Code.{vector_code};
 
 mod fields;
+mod memory;
 mod ones;
 mod pairs;
 mod predicate;
@@ -16,6 +17,7 @@ mod sums;
 mod tests;
 
 use hm_isa::Vector;
+use memory::{decode_memory, encode_v24, encode_v25, encode_v26, encode_v27, encode_v28};
 use ones::{decode_one, encode_v12, encode_v13, encode_v14, encode_v15, encode_v16};
 use pairs::{
     decode_pair, encode_v1, encode_v2, encode_v3, encode_v4, encode_v5, encode_v6, encode_v7,
@@ -48,6 +50,9 @@ fn find(w: u32) -> Option<Vector>
     }
     if let Some(r) = decode_v11(w) {
         return Some(Vector::V11(r));
+    }
+    if let Some(v) = decode_memory(w) {
+        return Some(v);
     }
     None
 }
@@ -90,5 +95,10 @@ pub fn encodev(v: &Vector) -> u32
         Vector::V21(r) => encode_v21(r),
         Vector::V22(r) => encode_v22(r),
         Vector::V23(r) => encode_v23(r),
+        Vector::V24(r) => encode_v24(r),
+        Vector::V25(r) => encode_v25(r),
+        Vector::V26(r) => encode_v26(r),
+        Vector::V27(r) => encode_v27(r),
+        Vector::V28(r) => encode_v28(r),
     }
 }

@@ -4,8 +4,8 @@ use hm_isa::{
     ConstantShiftName, Dot, DoublingName, Element, ExtremeName, HighName, Invert, LongBytes,
     LongDot, LongFull, LongHalves, LongSum, NarrowName, Offsets, OffsetsName, OneElement, OneName,
     ReverseName, ScalarName, Select, SignedName, Sum, Tail, TurnName, V1, V2, V3, V4, V5, V6, V7,
-    V8, V9, V10, V11, V12, V13, V14, V15, V16, V17, V18, V19, V20, V21, V22, V23, VectorShiftName,
-    WrappedOffsets,
+    V8, V9, V10, V11, V12, V13, V14, V15, V16, V17, V18, V19, V20, V21, V22, V23, V24, V25, V26,
+    V27, V28, VectorShiftName, WrappedOffsets,
 };
 
 // a code and its row: the name, if there is one, and the numbers
@@ -151,6 +151,56 @@ fn sums_and_predicate(rt: HostRuntime) {
     assert_eq!(rt; first_wrong(&table), None);
 }
 
+#[test]
+fn loads_and_stores(rt: HostRuntime) {
+    let table = [
+        // vldrw.u32 q1,[r0,#8]; vldrb.u8 q1,[r11,#115]; vstrw.32 q1,[r3,#-0]
+        row!(0xed90_3f02, V24, p 1, a 1, w 0, l 1, n 0, d 1, z 2, i 2),
+        row!(0xed9b_3e73, V24, p 1, a 1, w 0, l 1, n 11, d 1, z 0, i 115),
+        row!(0xed03_3f00, V24, p 1, a 0, w 0, l 0, n 3, d 1, z 2, i 0),
+        // vldrb.u8 q6,[r12,#-127]!; vstrh.16 q3,[r1],#-254; vldrw.u32 q0,[sp],#16
+        row!(0xed3c_de7f, V24, p 1, a 0, w 1, l 1, n 12, d 6, z 0, i 127),
+        row!(0xec21_7eff, V24, p 0, a 0, w 1, l 0, n 1, d 3, z 1, i 127),
+        row!(0xecbd_1f04, V24, p 0, a 1, w 1, l 1, n 13, d 0, z 2, i 4),
+        // vldrh.s32 q4,[r5,#-0]; vldrh.u32 q7,[r6,#254]; vldrb.u16 q0,[r2,#56]!
+        row!(0xed1d_8f00, V25, u 0, p 1, a 0, w 0, l 1, h 1, n 5, d 4, z 2, i 0),
+        row!(0xfd9e_ef7f, V25, u 1, p 1, a 1, w 0, l 1, h 1, n 6, d 7, z 2, i 127),
+        row!(0xfdb2_0eb8, V25, u 1, p 1, a 1, w 1, l 1, h 0, n 2, d 0, z 1, i 56),
+        // vldrb.s16 q2,[r2],#127; vstrb.32 q1,[r0],#-1; vstrh.32 q1,[r6,#254]!
+        row!(0xecb2_4eff, V25, u 0, p 0, a 1, w 1, l 1, h 0, n 2, d 2, z 1, i 127),
+        row!(0xec20_2f01, V25, u 0, p 0, a 0, w 1, l 0, h 0, n 0, d 1, z 2, i 1),
+        row!(0xedae_2f7f, V25, u 0, p 1, a 1, w 1, l 0, h 1, n 6, d 1, z 2, i 127),
+    ];
+    assert_eq!(rt; first_wrong(&table), None);
+}
+
+#[test]
+fn loads_and_stores_by_vectors(rt: HostRuntime) {
+    let table = [
+        // vldrh.u16 q0,[r0,q1,uxtw #1]; vldrb.s16 q1,[r3,q2]; vldrh.u32 q7,[sp,q2]
+        row!(0xfc90_0e93, V26, u 1, l 1, n 0, d 0, z 1, y 1, m 1, o 1),
+        row!(0xec93_2e84, V26, u 0, l 1, n 3, d 1, z 1, y 0, m 2, o 0),
+        row!(0xfc9d_ef14, V26, u 1, l 1, n 13, d 7, z 2, y 1, m 2, o 0),
+        // vstrw.32 q5,[r8,q4,uxtw #2]; vstrh.32 q0,[r2,q0,uxtw #1]
+        row!(0xec88_af49, V26, u 0, l 0, n 8, d 5, z 2, y 2, m 4, o 1),
+        row!(0xec82_0f11, V26, u 0, l 0, n 2, d 0, z 2, y 1, m 0, o 1),
+        // vldrw.u32 q5,[q7,#508]; vldrw.u32 q5,[q3,#-4]!; vstrw.32 q2,[q6,#-480]; vstrw.32 q0,[q0]
+        row!(0xfd9e_be7f, V27, a 1, w 0, l 1, m 7, d 5, i 127),
+        row!(0xfd36_be01, V27, a 0, w 1, l 1, m 3, d 5, i 1),
+        row!(0xfd0c_5e78, V27, a 0, w 0, l 0, m 6, d 2, i 120),
+        row!(0xfd80_1e00, V27, a 1, w 0, l 0, m 0, d 0, i 0),
+        // vld20.8 {q0,q1},[r0]; vld21.8 {q0,q1},[r0]; vst20.32 {q6,q7},[r3]!
+        row!(0xfc90_1e00, V28, w 0, l 1, n 0, d 0, z 0, p 0, f 0),
+        row!(0xfc90_1e20, V28, w 0, l 1, n 0, d 0, z 0, p 1, f 0),
+        row!(0xfca3_df00, V28, w 1, l 0, n 3, d 6, z 2, p 0, f 0),
+        // vld41.16 {q3,q4,q5,q6},[r9]; vst43.32 {q2,q3,q4,q5},[r2]!; vld40.8 {q4,q5,q6,q7},[sp]!
+        row!(0xfc99_7ea1, V28, w 0, l 1, n 9, d 3, z 1, p 1, f 1),
+        row!(0xfca2_5f61, V28, w 1, l 0, n 2, d 2, z 2, p 3, f 1),
+        row!(0xfcbd_9e01, V28, w 1, l 1, n 13, d 4, z 0, p 0, f 1),
+    ];
+    assert_eq!(rt; first_wrong(&table), None);
+}
+
 // codes whose fields break a row's rule
 #[test]
 fn no_row(rt: HostRuntime) {
@@ -172,6 +222,34 @@ fn no_row(rt: HostRuntime) {
         0xeee9_0f00, // vaddlv into sp
         0xfe01_0f4d, // vcmp with sp
         0xf00d_e801, // vctp.8 sp
+    ];
+    for code in codes {
+        assert_eq!(rt; decodev(code), None, "at {code}");
+    }
+}
+
+#[test]
+fn no_load_or_store(rt: HostRuntime) {
+    let codes: [u32; 19] = [
+        0xec90_1e00, // vldrb.u8 q0,[r0] without an offset or writeback
+        0xed9f_1e00, // vldrb.u8 q0,[pc]
+        0xed90_1f80, // vldr with a size of 3
+        0xed90_0e00, // vldrb.s8 that widens
+        0xed98_0e80, // vldrh.s16 that widens
+        0xfd80_0e80, // vstrb.16 with a sign
+        0xfc90_0fd5, // vldrd.u64 q0,[r0,q2,uxtw #3]
+        0xfc9f_0e02, // vldrb.u8 q0,[pc,q1]
+        0xfc90_0e12, // a halfword for each byte
+        0xfc90_0e03, // vldrb.u8 with a scale
+        0xfc90_0e00, // vldrb.u8 q0,[r0,q0]
+        0xec90_0e02, // vldrb.s8 q0,[r0,q1]
+        0xfc80_0e02, // vstrb.8 with a sign
+        0xfd90_1e00, // vldrw.u32 q0,[q0]
+        0xfd90_3f00, // vldrd.u64 q1,[q0]
+        0xfc9f_1e00, // vld20.8 {q0,q1},[pc]
+        0xfc90_fe00, // vld20.8 past q7
+        0xfc90_be01, // vld40.8 past q7
+        0xfc90_1e40, // vld22
     ];
     for code in codes {
         assert_eq!(rt; decodev(code), None, "at {code}");

@@ -162,6 +162,7 @@ use Rattle.hm_isa.specs.Standing.{◌↑◌}
 use Rattle.hm_isa.specs.JumpCodes.{code_t16, code_t17, code_t23}
 use Rattle.hm_isa.specs.ArithCodes.{code_t8, code_t9, code_t10, code_t11, code_t20}
 use Rattle.hm_isa.specs.SystemCodes.{code_t18, code_t19, code_t21, code_t22}
+use Rattle.hm_isa.specs.MemoryCodes.{code_v24, code_v25, code_v26, code_v27, code_v28}
 
 -- CODES OF ONE HALFWORD
 
@@ -722,6 +723,11 @@ vector_code (vector.V20 r) = code_v20 r
 vector_code (vector.V21 r) = code_v21 r
 vector_code (vector.V22 r) = code_v22 r
 vector_code (vector.V23 r) = code_v23 r
+vector_code (vector.V24 r) = code_v24 r
+vector_code (vector.V25 r) = code_v25 r
+vector_code (vector.V26 r) = code_v26 r
+vector_code (vector.V27 r) = code_v27 r
+vector_code (vector.V28 r) = code_v28 r
 
 abbrev pub halfwords : Instr → List ℕ
 halfwords (instr.Scalar i) = scalar_halves i

@@ -72,13 +72,13 @@ is_load access.Strh = false
 is_load access.Strb = false
 is_load name = true
 
--- sp is loaded and stored by words alone, and pc loaded alone
+-- sp is loaded and stored only as a word; pc is never stored, and loaded only as a word
 abbrev pub is_data : AccessName → ℕ → Bool
 is_data access.Ldr t = true
 is_data access.Str t = not (nat_eq t 15)
 is_data name t = is_general t
 
--- pc is the base of a literal alone, which is loaded
+-- pc is the base only of literals, which are only loaded
 abbrev pub is_offset : AccessName → ℕ → ℕ → Bool
 is_offset name n t = not (nat_eq n 15) && is_data name t
 
@@ -101,14 +101,14 @@ is_pair Ldrd p w n t u =
     nat_lt 0 (p + w) && is_general t && is_general u && not (nat_eq t u) && (not (nat_eq n 15) || (nat_eq p 1 && nat_eq w 0))
     && (nat_eq w 0 || (not (nat_eq n t) && not (nat_eq n u)))
 
--- whether the operation may store or load pc, and lr besides
+-- pc is never stored, and lr and pc are not loaded together
 abbrev pub may_list : WideListName → ℕ → Bool
 may_list Stmia list = not (listed_in list 15)
 may_list Stmdb list = not (listed_in list 15)
 may_list Ldmia list = not (listed_in list 14 && listed_in list 15)
 may_list Ldmdb list = not (listed_in list 14 && listed_in list 15)
 
--- two registers or more, never sp; pc is loaded alone, and not beside lr; the base is not pc, nor listed where it is written back
+-- two registers or more, never sp; pc is only loaded, and not together with lr; the base is not pc, nor listed where it is written back
 abbrev pub is_wide_list : WideListName → ℕ → ℕ → ℕ → Bool
 is_wide_list name w n list =
     nat_le 2 (count_ones list) && not (listed_in list 13) && may_list name list && not (nat_eq n 15) && (nat_eq w 0 || not (listed_in list n))

@@ -8,6 +8,7 @@ mod arith;
 mod data;
 mod fields;
 mod jumps;
+mod memory;
 mod narrow;
 mod system;
 mod vectors;
@@ -58,6 +59,11 @@ pub use jumps::WideBranchName;
 pub use jumps::WideConditional;
 pub use jumps::Wls;
 pub use jumps::Wlstp;
+pub use memory::V24;
+pub use memory::V25;
+pub use memory::V26;
+pub use memory::V27;
+pub use memory::V28;
 pub use narrow::AccessName;
 pub use narrow::Always;
 pub use narrow::BaseName;
@@ -331,6 +337,16 @@ pub enum Vector {
     V22(V22),
     /// `vmaxv`, `vminv`
     V23(V23),
+    /// `vldrb.u8` to `vstrw.32` of elements one after another
+    V24(V24),
+    /// `vldrb.u16` to `vstrh.32` of narrower elements in memory
+    V25(V25),
+    /// `vldrb.u8` to `vstrw.32` at offsets in a vector
+    V26(V26),
+    /// `vldrw.u32`, `vstrw.32` at addresses in a vector
+    V27(V27),
+    /// `vld2`, `vld4`, `vst2`, `vst4`
+    V28(V28),
 }
 
 /// An instruction. Each value is one of a row, with its fields in range.

@@ -10,6 +10,7 @@ returns-clause-none c v =
     let registers = c.in_default-decode_register.ensures in
     let sums = c.in_default-decode_total.ensures in
     let predicate = c.in_default-decode_predicate.ensures in
+    let memory = c.in_default-decode_memory.ensures in
     elim v as (λ v. vector_code v ≡ c.args.w → ⊥) [
       | vector.V1 r ↦ pairs.no_v1 r
       | vector.V2 r ↦ pairs.no_v2 r
@@ -34,4 +35,9 @@ returns-clause-none c v =
       | vector.V21 r ↦ predicate.no_v21 r
       | vector.V22 r ↦ sums.no_v22 r
       | vector.V23 r ↦ sums.no_v23 r
+      | vector.V24 r ↦ memory.no_v24 r
+      | vector.V25 r ↦ memory.no_v25 r
+      | vector.V26 r ↦ memory.no_v26 r
+      | vector.V27 r ↦ memory.no_v27 r
+      | vector.V28 r ↦ memory.no_v28 r
     ]
