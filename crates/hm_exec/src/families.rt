@@ -6,6 +6,9 @@ use hm_mem::Mem;
 use hm_regs::Regs;
 use hm_varith::Arith;
 use hm_vcmp::Compare;
+use hm_vgather::Gather;
+use hm_vil::Inter;
+use hm_vmem::Straight;
 use hm_vperm::Perm;
 use hm_vred::Reduce;
 use hm_vwide::Wide;
@@ -23,6 +26,12 @@ pub enum Any {
     Perm(Perm),
     /// Comparisons and the predicate
     Compare(Compare),
+    /// Loads and stores of elements one behind another
+    Straight(Straight),
+    /// Loads and stores at offsets or addresses in a vector
+    Gather(Gather),
+    /// Loads and stores of registers whose elements take turns
+    Inter(Inter),
 }
 
 impl BeatWise for Any {
@@ -43,6 +52,9 @@ impl BeatWise for Any {
             Any::Reduce(row) => row.touch(b, r),
             Any::Perm(row) => row.touch(b, r),
             Any::Compare(row) => row.touch(b, r),
+            Any::Straight(row) => row.touch(b, r),
+            Any::Gather(row) => row.touch(b, r),
+            Any::Inter(row) => row.touch(b, r),
         }
     }
 
@@ -53,6 +65,9 @@ impl BeatWise for Any {
             Any::Reduce(row) => row.check(b, r, m),
             Any::Perm(row) => row.check(b, r, m),
             Any::Compare(row) => row.check(b, r, m),
+            Any::Straight(row) => row.check(b, r, m),
+            Any::Gather(row) => row.check(b, r, m),
+            Any::Inter(row) => row.check(b, r, m),
         }
     }
 
@@ -63,6 +78,9 @@ impl BeatWise for Any {
             Any::Reduce(row) => row.beat(b, r, m),
             Any::Perm(row) => row.beat(b, r, m),
             Any::Compare(row) => row.beat(b, r, m),
+            Any::Straight(row) => row.beat(b, r, m),
+            Any::Gather(row) => row.beat(b, r, m),
+            Any::Inter(row) => row.beat(b, r, m),
         }
     }
 }

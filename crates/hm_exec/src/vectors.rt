@@ -12,9 +12,12 @@ use crate::families::Any;
 use hm_base::{Fault, FaultKind, Place};
 use hm_isa::Vector;
 use hm_regs::Regs;
-use hm_rows::form;
+use hm_rows::kind;
 use hm_varith::Arith;
 use hm_vcmp::Compare;
+use hm_vgather::Gather;
+use hm_vil::Inter;
+use hm_vmem::Straight;
 use hm_vperm::Perm;
 use hm_vred::Reduce;
 use hm_vwide::Wide;
@@ -35,8 +38,17 @@ pub fn any(v: &Vector) -> Any
     if let Some(row) = Perm::of(v) {
         return Any::Perm(row);
     }
-    match Compare::of(v) {
-        Some(row) => Any::Compare(row),
+    if let Some(row) = Compare::of(v) {
+        return Any::Compare(row);
+    }
+    if let Some(row) = Straight::of(v) {
+        return Any::Straight(row);
+    }
+    if let Some(row) = Gather::of(v) {
+        return Any::Gather(row);
+    }
+    match Inter::of(v) {
+        Some(row) => Any::Inter(row),
         None => unreachable!(),
     }
 }
@@ -45,8 +57,8 @@ pub fn any(v: &Vector) -> Any
 fn writes_lr(v: &Vector) -> bool
     ensures value { result ≡ writes_lr v.now }
 {
-    let form = form(v);
-    form.writes_lr()
+    let kind = kind(v);
+    kind.writes_lr()
 }
 
 /// Whether a vector instruction may not run here: inside an IT block, or where it writes lr and lr counts elements that

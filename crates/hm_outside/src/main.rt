@@ -11,7 +11,6 @@ use anyhow::{Context, Result};
 use case::{Case, read_cases};
 use contents::blank_flash;
 use outcome::{Outcome, try_case};
-use perform::Trouble;
 use register::Register;
 use std::alloc::Global;
 use std::io::{BufWriter, Write};
@@ -39,12 +38,11 @@ fn write_one<W: Write>(out: &mut W, name: &str, case: &Case, outcome: &Outcome) 
             }
             Ok(())
         }
-        Outcome::Broken(Trouble::NotBuilt) => Ok(()),
         Outcome::Broken(trouble) => writeln!(out, "{name}:{line}: {row}: {trouble:?}"),
     }
 }
 
-/// Writes what differs, and how many tests there are, differ, and want a row that is not built.
+/// Writes what differs, and how many tests there are and differ.
 fn write_all<W: Write>(
     out: &mut W,
     name: &str,
@@ -56,14 +54,7 @@ fn write_all<W: Write>(
     }
     let count = outcomes.len();
     let differ = outcomes.iter().filter(|outcome| outcome.differs()).count();
-    let not_built = outcomes
-        .iter()
-        .filter(|outcome| outcome.is_not_built())
-        .count();
-    writeln!(
-        out,
-        "{name}: {count} vectors, {differ} differ, {not_built} not built"
-    )
+    writeln!(out, "{name}: {count} vectors, {differ} differ")
 }
 
 /// Compares the tests of the files that are named.

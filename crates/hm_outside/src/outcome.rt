@@ -91,16 +91,11 @@ pub fn try_case(
 }
 
 impl Outcome {
-    /// Whether a row is wanted that is not built.
-    pub fn is_not_built(&self) -> bool {
-        matches!(self, Outcome::Broken(Trouble::NotBuilt))
-    }
-
     /// Whether it ended otherwise than told.
     pub fn differs(&self) -> bool {
         match self {
             Outcome::Ended(differences) => !differences.is_empty(),
-            Outcome::Broken(trouble) => *trouble != Trouble::NotBuilt,
+            Outcome::Broken(_) => true,
         }
     }
 }

@@ -4,7 +4,7 @@ ghost use Rattle.std.specs.Prelude.{◌≡◌, ◌<◌, IsTrue, not};
 ghost use Rattle.hm_thumb.specs.Families.{is_vector_row};
 
 use crate::case::{CODE_START, Case};
-use hm_base::{FaultKind, Stop};
+use hm_base::Stop;
 use hm_beat::BeatWise;
 use hm_decode::fetch;
 use hm_exec::{any, refuse, step};
@@ -19,8 +19,6 @@ const MOST: u32 = 1000;
 /// Why a test does not come to its end.
 #[derive(Clone, Copy, Debug, PartialEq, Eq)]
 pub enum Trouble {
-    /// No instruction is coded so, among those that there are.
-    NotBuilt,
     Stopped(Stop),
     /// It was a breakpoint or a return from a handler.
     Left(Flow),
@@ -66,7 +64,6 @@ fn any_step(i: &Instr, first: Below<4>, regs: &mut Regs, mem: &mut Mem) -> Resul
 fn next_step(first: Below<4>, regs: &mut Regs, mem: &mut Mem) -> Result<(), Trouble> {
     match fetch(mem, regs.pc) {
         Ok(i) => any_step(&i, first, regs, mem),
-        Err(fault) if fault.kind == FaultKind::Undefined => Err(Trouble::NotBuilt),
         Err(fault) => Err(Trouble::Stopped(Stop::Fault(fault))),
     }
 }

@@ -334,7 +334,7 @@ fn plain_runs(rt: HostRuntime) -> Result<(), Fail> {
 }
 
 /// The report of the machine at the end of a schedule.
-fn report_under(alloc: Global, code: &[u8], schedule: Schedule) -> Result<Vec<u8>, Fail> {
+pub fn report_under(alloc: Global, code: &[u8], schedule: Schedule) -> Result<Vec<u8>, Fail> {
     let mut bytes = START.to_vec(alloc)?;
     bytes.extend_from_slice(code)?;
     let mut machine = Machine::load(alloc, &flat(alloc, &bytes)?, schedule)?;
@@ -343,12 +343,12 @@ fn report_under(alloc: Global, code: &[u8], schedule: Schedule) -> Result<Vec<u8
 }
 
 /// A schedule without lines, whose handlers may store in all of SRAM.
-fn first_schedule(alloc: Global) -> Schedule {
+pub fn first_schedule(alloc: Global) -> Schedule {
     Schedule::begin(alloc, false, 0x2000_0000, 0x2004_0000, 0x2000_0000)
 }
 
 /// Whether a report has all of these lines.
-fn has_lines(report: &[u8], lines: &[&str]) -> bool {
+pub fn has_lines(report: &[u8], lines: &[&str]) -> bool {
     lines.iter().all(|line| report
         .split(|byte| *byte == b'\n')
         .any(|piece| piece == line.as_bytes()))
