@@ -8,6 +8,6 @@ pub use functions::{
     LaneFn, clamped, cut, halved, is_outside, lane, lane_saturates, number, saturates, width,
 };
 pub use words::{
-    Operand, active, any_both, both, element_size, lanes_saturate, lanes_word, merge, nibble,
-    note_operand, operand_word, size, slice, splat, truths, word_at,
+    Operand, any_both, both, element_size, lanes_saturate, lanes_word, merge, nibble, note_operand,
+    operand_word, size, slice, splat, truths, word_at,
 };
