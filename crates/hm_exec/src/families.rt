@@ -28,9 +28,9 @@ pub enum Any {
     Compare(Compare),
     /// Loads and stores of elements one behind another
     Straight(Straight),
-    /// Loads and stores at offsets or addresses in a vector
+    /// Loads and stores at addresses that stand in vector registers
     Gather(Gather),
-    /// Loads and stores of registers whose elements take turns
+    /// Loads and stores of elements that registers take in turn
     Inter(Inter),
 }
 

@@ -1,16 +1,16 @@
-//! The form of each vector row.
+//! The forms of the rows that touch registers alone.
 
 ghost use Rattle.std.specs.Prelude.{◌≡◌, ◌<◌};
 ghost use Rattle.hm_forms.specs.declared.form.Form.TheVariants as form;
 ghost use Rattle.hm_isa.specs.declared.Vector.TheVariants as vector;
 ghost use Rattle.hm_isa.specs.declared.vectors.V22.TheVariants as v22;
-ghost use Rattle.hm_rows.specs.Rows.{add_fn, bitwise_fn, compare_form, constant_shift_fn, doubling_fn, form_of, high_fn, long_form, offsets_form, one_fn, one_form, predicate_form, scalar_fn, shift_operand, shift_size, shift_unsigned, signed_fn, sum_form, vector_shift_fn};
+ghost use Rattle.hm_rows.specs.Rows.{Registers, add_fn, bitwise_fn, compare_form, constant_shift_fn, doubling_fn, high_fn, kind_of, long_form, offsets_form, one_fn, one_form, predicate_form, scalar_fn, shift_operand, shift_size, shift_unsigned, signed_fn, sum_form, vector_shift_fn};
 
 use hm_forms::{Comparison, Form, Lanes, LongSums, Longer, Steps, Sums};
 use hm_isa::{
     AddName, BitwiseName, ConstantShiftName, DoublingName, HighName, LongDot, LongSum, OneName,
     QRegister, ScalarName, SignedName, V1, V2, V3, V4, V5, V7, V10, V11, V12, V13, V18, V19, V20,
-    V21, V22, Vector, VectorShiftName,
+    V21, V22, VectorShiftName,
 };
 use hm_lane::Size;
 use hm_lane_fns::{LaneFn, Operand, element_size, size, width};
@@ -187,7 +187,7 @@ fn one_fn(name: OneName) -> LaneFn
 }
 
 /// The form of a row V12.
-fn long_form(row: &V12) -> Form
+pub fn long_form(row: &V12) -> Form
     ensures { result ≡ long_form row.now }
 {
     match row {
@@ -219,7 +219,7 @@ fn long_form(row: &V12) -> Form
 }
 
 /// The form of a row V13.
-fn one_form(row: &V13) -> Form
+pub fn one_form(row: &V13) -> Form
     ensures { result ≡ one_form row.now }
 {
     match row {
@@ -243,7 +243,7 @@ fn one_form(row: &V13) -> Form
 }
 
 /// The form of a row V19.
-fn offsets_form(row: &V19) -> Form
+pub fn offsets_form(row: &V19) -> Form
     ensures { result ≡ offsets_form row.now }
 {
     match row {
@@ -267,7 +267,7 @@ fn offsets_form(row: &V19) -> Form
 }
 
 /// The form of a row V20.
-fn compare_form(row: &V20) -> Form
+pub fn compare_form(row: &V20) -> Form
     ensures { result ≡ compare_form row.now }
 {
     match row {
@@ -289,7 +289,7 @@ fn compare_form(row: &V20) -> Form
 }
 
 /// The form of a row V21: a block with the mask 0 is `vpnot`.
-fn predicate_form(row: &V21) -> Form
+pub fn predicate_form(row: &V21) -> Form
     ensures { result ≡ predicate_form row.now }
 {
     match row {
@@ -343,7 +343,7 @@ fn long_dot_form(row: &LongDot) -> Form
 }
 
 /// The form of a row V22.
-fn sum_form(row: &V22) -> Form
+pub fn sum_form(row: &V22) -> Form
     ensures { result ≡ sum_form row.now }
 {
     match row {
@@ -371,8 +371,8 @@ fn sum_form(row: &V22) -> Form
 }
 
 /// The form of a row V1.
-fn add_form(row: &V1) -> Form
-    ensures { result ≡ form_of (vector.V1 row.now) }
+pub fn add_form(row: &V1) -> Form
+    ensures { Registers result ≡ kind_of (vector.V1 row.now) }
 {
     lanes(
         add_fn(row.name),
@@ -385,8 +385,8 @@ fn add_form(row: &V1) -> Form
 }
 
 /// The form of a row V2.
-fn bitwise_form(row: &V2) -> Form
-    ensures { result ≡ form_of (vector.V2 row.now) }
+pub fn bitwise_form(row: &V2) -> Form
+    ensures { Registers result ≡ kind_of (vector.V2 row.now) }
 {
     lanes(
         bitwise_fn(row.name),
@@ -399,8 +399,8 @@ fn bitwise_form(row: &V2) -> Form
 }
 
 /// The form of a row V3.
-fn signed_form(row: &V3) -> Form
-    ensures { result ≡ form_of (vector.V3 row.now) }
+pub fn signed_form(row: &V3) -> Form
+    ensures { Registers result ≡ kind_of (vector.V3 row.now) }
 {
     lanes(
         signed_fn(row.name),
@@ -413,8 +413,8 @@ fn signed_form(row: &V3) -> Form
 }
 
 /// The form of a row V4.
-fn vector_shift_form(row: &V4) -> Form
-    ensures { result ≡ form_of (vector.V4 row.now) }
+pub fn vector_shift_form(row: &V4) -> Form
+    ensures { Registers result ≡ kind_of (vector.V4 row.now) }
 {
     lanes(
         vector_shift_fn(row.name),
@@ -427,8 +427,8 @@ fn vector_shift_form(row: &V4) -> Form
 }
 
 /// The form of a row V11.
-fn constant_shift_form(row: &V11) -> Form
-    ensures { result ≡ form_of (vector.V11 row.now) }
+pub fn constant_shift_form(row: &V11) -> Form
+    ensures { Registers result ≡ kind_of (vector.V11 row.now) }
 {
     lanes(
         constant_shift_fn(row.name),
@@ -441,8 +441,8 @@ fn constant_shift_form(row: &V11) -> Form
 }
 
 /// The form of a row V5.
-fn doubling_form(row: &V5) -> Form
-    ensures { result ≡ form_of (vector.V5 row.now) }
+pub fn doubling_form(row: &V5) -> Form
+    ensures { Registers result ≡ kind_of (vector.V5 row.now) }
 {
     lanes(
         doubling_fn(row.name),
@@ -455,8 +455,8 @@ fn doubling_form(row: &V5) -> Form
 }
 
 /// The form of a row V7.
-fn high_form(row: &V7) -> Form
-    ensures { result ≡ form_of (vector.V7 row.now) }
+pub fn high_form(row: &V7) -> Form
+    ensures { Registers result ≡ kind_of (vector.V7 row.now) }
 {
     lanes(
         high_fn(row.name, row.u.get() == 1),
@@ -469,8 +469,8 @@ fn high_form(row: &V7) -> Form
 }
 
 /// The form of a row V10.
-fn scalar_form(row: &V10) -> Form
-    ensures { result ≡ form_of (vector.V10 row.now) }
+pub fn scalar_form(row: &V10) -> Form
+    ensures { Registers result ≡ kind_of (vector.V10 row.now) }
 {
     lanes(
         scalar_fn(row.name),
@@ -483,8 +483,8 @@ fn scalar_form(row: &V10) -> Form
 }
 
 /// The form of a row V18.
-fn copies_form(row: &V18) -> Form
-    ensures { result ≡ form_of (vector.V18 row.now) }
+pub fn copies_form(row: &V18) -> Form
+    ensures { Registers result ≡ kind_of (vector.V18 row.now) }
 {
     lanes(
         LaneFn::Dup,
@@ -494,35 +494,4 @@ fn copies_form(row: &V18) -> Form
         row.d,
         Operand::Scalar(row.t),
     )
-}
-
-/// What form a vector row has.
-pub fn form(v: &Vector) -> Form
-    ensures { result ≡ form_of v.now }
-{
-    match v {
-        Vector::V1(row) => add_form(row),
-        Vector::V2(row) => bitwise_form(row),
-        Vector::V3(row) => signed_form(row),
-        Vector::V4(row) => vector_shift_form(row),
-        Vector::V5(row) => doubling_form(row),
-        Vector::V6(row) => Form::Wide(*row),
-        Vector::V7(row) => high_form(row),
-        Vector::V8(row) => Form::Carry(*row),
-        Vector::V9(row) => Form::Turned(*row),
-        Vector::V10(row) => scalar_form(row),
-        Vector::V11(row) => constant_shift_form(row),
-        Vector::V12(row) => long_form(row),
-        Vector::V13(row) => one_form(row),
-        Vector::V14(row) => Form::Reversed(*row),
-        Vector::V15(row) => Form::Constant(*row),
-        Vector::V16(row) => Form::Narrow(*row),
-        Vector::V17(row) => Form::Shift(*row),
-        Vector::V18(row) => copies_form(row),
-        Vector::V19(row) => offsets_form(row),
-        Vector::V20(row) => compare_form(row),
-        Vector::V21(row) => predicate_form(row),
-        Vector::V22(row) => sum_form(row),
-        Vector::V23(row) => Form::Extreme(*row),
-    }
 }

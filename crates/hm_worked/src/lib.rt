@@ -2,8 +2,6 @@
 #![tactic(auto)]
 
 #[cfg(test)]
-mod loads;
-#[cfg(test)]
 mod memory;
 #[cfg(test)]
 mod overlap;

@@ -2,7 +2,7 @@ use hm_base::{Image, Place};
 use hm_isa::{Below, Instr, S18, Scalar, width};
 use hm_machine::Machine;
 use hm_run::{Outcome, Turn};
-use hm_sched::{SchedErr, Schedule, plain};
+use hm_sched::{SchedErr, Schedule, parse, plain};
 use hm_window::Window;
 use std::alloc::Global;
 use std::test::Fail;
@@ -309,6 +309,148 @@ fn loops_and_blocks(rt: HostRuntime) -> Result<(), Fail> {
     Ok(())
 }
 
+/// vldrw.u32 q0,[r0]; vadd.i32 q1,q0,q2; bkpt #0.
+const LOAD_AND_ADD: &[u8] = &[0x90, 0xed, 0, 0x1f, 0x20, 0xef, 0x44, 0x28, 0, 0xbe];
+
+/// movs r1,#1; nop; vldrw.u32 q0,[r0]; vldrw.u32 q1,[r1].
+const LOAD_AND_FAULT: &[u8] = &[1, 0x21, 0, 0xbf, 0x90, 0xed, 0, 0x1f, 0x91, 0xed, 0, 0x3f];
+
+/// movs r0,#32; lsls r0,r0,#24; vstrw.32 q0,[r0]; vldrw.u32 q1,[r0,#8]; bkpt #0.
+const STORE_AND_LOAD: &[u8] = &[
+    0x20, 0x20, 0, 6, 0x80, 0xed, 0, 0x1f, 0x90, 0xed, 2, 0x3f, 0, 0xbe,
+];
+
+/// The same with P0 f0ff and a block of one instruction at the store.
+const STORE_IN_PARTS_AND_LOAD: &[u8] = &[
+    0x20, 0x20, 0, 6, 0x4f, 0xf2, 0xff, 1, 0xed, 0xee, 0x10, 0x1a, 0x71, 0xfe, 0x4d, 0x0f, 0x80,
+    0xed, 0, 0x1f, 0x90, 0xed, 2, 0x3f, 0, 0xbe,
+];
+
+static LOADS_AND_STORES: [Run; 3] = [
+    (
+        "interleaved_load_in_parts",
+        &[0x90, 0xfc, 0, 0x1e, 0x90, 0xfc, 0x20, 0x1e, 0, 0xbe],
+        3,
+        &[
+            "outcome halted break 0 after 3",
+            "q0 00090100 20900090 ffffff00 ffffffff",
+            "q1 00002000 1efc1efc ffffffbe ffffffff",
+        ],
+    ),
+    (
+        "add_after_load",
+        LOAD_AND_ADD,
+        3,
+        &[
+            "outcome halted break 0 after 3",
+            "q0 20010000 00000009 1f00ed90 2844ef20",
+            "q1 20010000 00000009 1f00ed90 2844ef20",
+        ],
+    ),
+    (
+        "fault_of_the_second_load",
+        LOAD_AND_FAULT,
+        4,
+        &["outcome fault thread unaligned pc 00000010 addr 00000001 after 3"],
+    ),
+];
+
+#[test]
+fn loads_and_stores(rt: HostRuntime) -> Result<(), Fail> {
+    assert_eq!(rt; first_that_differs(rt.alloc(), &LOADS_AND_STORES)?, None);
+    Ok(())
+}
+
+/// The first lines of a schedule.
+const HEAD: &[u8] = b"helium-schedule 1\nentries no\nregion 20000000 20000000\nfloor 20000000\n";
+
+/// The name of a run, its code, the ticks of its schedule, and lines of the report.
+type Overlap = (
+    &'static str,
+    &'static [u8],
+    &'static [u8],
+    &'static [&'static str],
+);
+
+static OVERLAPS: [Overlap; 9] = [
+    // vaddva.u32 r0,q0; vadd.i32 q1,q2,r0
+    (
+        "younger_meets_accumulator",
+        &[0xf9, 0xfe, 0x20, 0xf, 0x25, 0xee, 0x40, 0x2f, 0, 0xbe],
+        b"OOOY\n",
+        &["outcome rule tick 1 step 4 register r0"],
+    ),
+    (
+        "tick_ends_badly",
+        LOAD_AND_ADD,
+        b"OOOYY\n",
+        &["outcome rule tick 1 step 5 ending 3 2"],
+    ),
+    (
+        "overlapped_add_after_load",
+        LOAD_AND_ADD,
+        b"OO\nOY\n",
+        &[
+            "q0 20010000 00000009 1f00ed90 00000000",
+            "q1 20010000 00000000 00000000 00000000",
+            "position 3 1",
+            "pc 00000008",
+        ],
+    ),
+    (
+        "overlapped_add_after_load_to_its_end",
+        LOAD_AND_ADD,
+        b"OO\nOY\n2*OO\nW\n",
+        &[
+            "outcome halted break 0 after 3",
+            "q0 20010000 00000009 1f00ed90 2844ef20",
+            "q1 20010000 00000009 1f00ed90 2844ef20",
+        ],
+    ),
+    (
+        "younger_load_meets_store",
+        STORE_AND_LOAD,
+        b"2*W\nOOY\n",
+        &["outcome rule tick 3 step 3 memory 20000008"],
+    ),
+    (
+        "younger_load_after_three_beats",
+        STORE_AND_LOAD,
+        b"2*W\nOO\nOY\n",
+        &["position 3 1"],
+    ),
+    (
+        "inactive_elements_do_not_meet",
+        STORE_IN_PARTS_AND_LOAD,
+        b"5*W\nOOYO\n",
+        &["position 3 1"],
+    ),
+    (
+        "inactive_elements_do_not_meet_to_its_end",
+        STORE_IN_PARTS_AND_LOAD,
+        b"5*W\nOOYO\nOOOO\nW\n",
+        &["outcome halted break 0 after 8"],
+    ),
+    (
+        "younger_fault",
+        LOAD_AND_FAULT,
+        b"2*W\nOOY\n",
+        &["outcome rule tick 3 step 3 youngerfault"],
+    ),
+];
+
+#[test]
+fn overlapped_loads_and_stores(rt: HostRuntime) -> Result<(), Fail> {
+    let alloc = rt.alloc();
+    for (name, code, ticks, lines) in &OVERLAPS {
+        let mut text = HEAD.to_vec(alloc)?;
+        text.extend_from_slice(ticks)?;
+        let report = report_under(alloc, code, parse(alloc, &text)?)?;
+        assert!(rt; has_lines(&report, lines), "{name}");
+    }
+    Ok(())
+}
+
 // VPR after one, two and three beats of the first instruction of the block
 #[test]
 fn vpt_block_masks_by_beats(rt: HostRuntime) -> Result<(), Fail> {
@@ -334,7 +476,7 @@ fn plain_runs(rt: HostRuntime) -> Result<(), Fail> {
 }
 
 /// The report of the machine at the end of a schedule.
-pub fn report_under(alloc: Global, code: &[u8], schedule: Schedule) -> Result<Vec<u8>, Fail> {
+fn report_under(alloc: Global, code: &[u8], schedule: Schedule) -> Result<Vec<u8>, Fail> {
     let mut bytes = START.to_vec(alloc)?;
     bytes.extend_from_slice(code)?;
     let mut machine = Machine::load(alloc, &flat(alloc, &bytes)?, schedule)?;
@@ -343,12 +485,12 @@ pub fn report_under(alloc: Global, code: &[u8], schedule: Schedule) -> Result<Ve
 }
 
 /// A schedule without lines, whose handlers may store in all of SRAM.
-pub fn first_schedule(alloc: Global) -> Schedule {
+fn first_schedule(alloc: Global) -> Schedule {
     Schedule::begin(alloc, false, 0x2000_0000, 0x2004_0000, 0x2000_0000)
 }
 
 /// Whether a report has all of these lines.
-pub fn has_lines(report: &[u8], lines: &[&str]) -> bool {
+fn has_lines(report: &[u8], lines: &[&str]) -> bool {
     lines.iter().all(|line| report
         .split(|byte| *byte == b'\n')
         .any(|piece| piece == line.as_bytes()))

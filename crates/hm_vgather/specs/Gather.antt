@@ -1,0 +1,9 @@
+-- The rows of this family.
+use Rattle.std.specs.Prelude.{Bool, true, false}
+use Rattle.hm_isa.specs.declared.Vector.{Vector}
+use Rattle.hm_isa.specs.declared.Vector.TheVariants.{V26, V27}
+
+abbrev pub is_gather : Vector → Bool
+is_gather (V26 i) = true
+is_gather (V27 i) = true
+is_gather v = false

@@ -1,0 +1,8 @@
+-- The rows of this family.
+use Rattle.std.specs.Prelude.{Bool, true, false}
+use Rattle.hm_isa.specs.declared.Vector.{Vector}
+use Rattle.hm_isa.specs.declared.Vector.TheVariants.{V28}
+
+abbrev pub is_inter : Vector → Bool
+is_inter (V28 i) = true
+is_inter v = false

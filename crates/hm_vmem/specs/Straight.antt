@@ -1,0 +1,9 @@
+-- The rows of this family.
+use Rattle.std.specs.Prelude.{Bool, true, false}
+use Rattle.hm_isa.specs.declared.Vector.{Vector}
+use Rattle.hm_isa.specs.declared.Vector.TheVariants.{V24, V25}
+
+abbrev pub is_straight : Vector → Bool
+is_straight (V24 i) = true
+is_straight (V25 i) = true
+is_straight v = false
