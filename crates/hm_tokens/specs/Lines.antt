@@ -12,7 +12,7 @@ AreTokensOf text (t ∷ ts) = (rest : List ℕ) × (token_at (skip text) ≡ Som
 abbrev pub is_gap : List ℕ → Bool
 is_gap rest = (length rest == 0) || (slice_index rest 0 == 32)
 
--- the tokens of an instruction's text, of which the first, its mnemonic, stands apart
+-- the tokens of a line, of which the first stands apart, as a mnemonic does
 abbrev pub IsLineOf : List ℕ → List Tok → Type 0
 IsLineOf text [] = ⊥
 IsLineOf text (t ∷ ts) = (rest : List ℕ) × (token_at (skip text) ≡ Some (t, rest)) × (is_gap rest ≡ true) × AreTokensOf rest ts

@@ -49,7 +49,7 @@ fn line_tokens(text: &[u8]) -> Option<Tokens<'_>>
     more_tokens(first, skip(after))
 }
 
-/// The tokens of the text of an instruction: None where its bytes are no tokens, where no space stands behind the first and
+/// The tokens of a line: None where its bytes are no tokens, where no space stands behind the first and
 /// something else does, and where there are more than 40.
 pub fn read_line(text: &[u8]) -> Option<Tokens<'_>>
     ensures found { IfSome result (λ v. IsLineOf text.now (map tok v.items)) }

@@ -74,6 +74,13 @@ fn cuts_texts_into_tokens(rt: HostRuntime) {
 }
 
 #[test]
+fn reads_forty_tokens(rt: HostRuntime) {
+    let forty = b"m ,,,,,,,,,,,,,,,,,,,,,,,,,,,,,,,,,,,,,,,";
+    assert!(rt; read_line(forty).is_some_and(|line| line.len() == 40));
+    assert!(rt; read_line(b"m ,,,,,,,,,,,,,,,,,,,,,,,,,,,,,,,,,,,,,,,,").is_none());
+}
+
+#[test]
 fn refuses_what_is_no_line(rt: HostRuntime) {
     let texts: [&[u8]; 7] = [
         b"",

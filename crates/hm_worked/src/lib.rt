@@ -1,4 +1,4 @@
-//! Tests that cross crates: runs of the machine, from the bytes of an image to the report, the memory map, and the rules of overlap.
+//! Tests that cross crates: runs of the machine, from the bytes of an image to the report, the memory map, touched places, and the rules of overlap.
 #![tactic(auto)]
 
 #[cfg(test)]
