@@ -6,6 +6,8 @@ mod memory;
 #[cfg(test)]
 mod overlap;
 #[cfg(test)]
+mod rows;
+#[cfg(test)]
 mod tests;
 #[cfg(test)]
 mod touches;

@@ -23,7 +23,7 @@ type Case = (u32, u32, u32, u8, &'static [Place], &'static [Place]);
 
 use Place::{Carry, Ltp, Mask01, Mask23, P0, QWord, R, Sticky};
 
-static CASES: [Case; 32] = [
+static CASES: [Case; 39] = [
     // vadd.i32 q0,q0,q1: the mask is read, written on beats 1 and 3 where it is not 0, and the slice where it is more than 8
     (
         0xef20_0842,
@@ -271,6 +271,57 @@ static CASES: [Case; 32] = [
         3,
         &[QWord(3), Mask23, Ltp],
         &[QWord(3)],
+    ),
+    // the same in blocks: comparisons, counts, vpnot and vpsel write or read the slice always
+    (
+        0xfe13_1f05,
+        CHANGES,
+        WHOLE,
+        1,
+        &[QWord(5), QWord(9), P0(1), Mask01, Ltp],
+        &[P0(1), Mask01],
+    ),
+    (0xfe31_0f4d, LAST, WHOLE, 2, &[P0(2), Mask23, Ltp], &[P0(2)]),
+    (
+        0xfe33_0f05,
+        CHANGES,
+        WHOLE,
+        1,
+        &[QWord(1), QWord(5), QWord(9), P0(1), Mask01, Ltp],
+        &[QWord(1), P0(1), Mask01],
+    ),
+    (
+        0xf021_e801,
+        LAST,
+        WHOLE,
+        3,
+        &[R(1), P0(3), Mask23, Ltp],
+        &[P0(3), Mask23],
+    ),
+    // vaddlv.u32 r0,r1,q3, viwdup.u32 q1,r4,r7,#2 and vshllb.s8 q0,q1,#1
+    (
+        0xfe89_0f06,
+        NO_BLOCK,
+        WHOLE,
+        0,
+        &[R(0), R(1), QWord(12), Mask01, Ltp],
+        &[R(0), R(1)],
+    ),
+    (
+        0xee25_2f67,
+        NO_BLOCK,
+        WHOLE,
+        3,
+        &[R(4), R(7), QWord(7), Mask23, Ltp],
+        &[R(4), QWord(7)],
+    ),
+    (
+        0xeea9_0f42,
+        NO_BLOCK,
+        WHOLE,
+        1,
+        &[QWord(1), QWord(5), Mask01, Ltp],
+        &[QWord(1)],
     ),
 ];
 
