@@ -3,9 +3,13 @@ use Rattle.std.proofs.Common.{◌≡◌, ◌⊎◌, ◌<◌, ◌≤◌, ◌+◌,
 use Rattle.std.specs.Prelude.{option_map, if◌then◌else◌}
 use Rattle.std.proofs.lemmas.Bool.Decides.{nat_tests}
 use Rattle.std.specs.FinMap.{get, insert}
-use Rattle.hm_base.specs.Image.{Segment, flat, flash_byte}
+use Rattle.hm_base.specs.Image.{Segment, flash_byte}
+use Rattle.hm_base.specs.declared.errors.ImageErr.{ImageErr}
 use Rattle.hm_codes.specs.Listing.{Listing, IsListing}
 use Rattle.hm_codes.proofs.Unique.{fetched_one}
+use Rattle.hm_elf.specs.Elf.{IsImageFile}
+use Rattle.hm_elf.specs.ReadImage.{image_in}
+use Rattle.hm_elf.proofs.ReadLaws.{image_again}
 use Rattle.hm_host.specs.Host.{FileMap, HostState, longest}
 use Rattle.hm_plain.specs.Orders.{plain_end}
 use Rattle.hm_plain.proofs.Halts.{headline_all, riders_all}
@@ -19,25 +23,21 @@ use Rattle.hm_state.specs.Start.{reset_pc}
 use Rattle.helium.specs.declared.status.Status.{Status}
 use Rattle.helium.specs.declared.status.Status.TheVariants.{Done, Ended, Usage, Refused, HostFault, NoMemory}
 use Rattle.helium.specs.declared.work.Refusal.TheVariants.{Reset}
-use Rattle.helium.specs.Commands.{AreListings, reported, told, run_outcome, unless_refused}
+use Rattle.helium.specs.Commands.{AreListings, reported, told, run_outcome, seq_outcome, unless_refused}
 use Rattle.helium.specs.Effect.{Effect, whole, then_read, reading_of, reads_for, effect, effect_after, effect_for, with_file, with_text, Carries, Does}
 use Rattle.hm_sched.specs.Schedule.{Sched, plain, ticks_of}
 use Rattle.hm_sched.specs.declared.errors.SchedErr.{SchedErr}
 use Rattle.hm_sched.proofs.FileLaws.{file_again}
 use Rattle.helium.specs.Headline.{IsGiven, IsReported, RunsToHeadline, IsShownInOrder, RunsInOrder, has_halted}
-use Rattle.helium.specs.Image.{image_refusal}
 use Rattle.helium.specs.Run.{is_fault, is_halted, short_report, reset_refusal, schedule_in}
 use Rattle.helium.specs.Words.{Form, Source, ticks, file, run, seq, form_of, reads_of}
 use Rattle.helium.proofs.Decimals.{form_of-run, form_of-seq}
 use Rattle.helium.proofs.Listed.{some_listings}
-use Rattle.helium.proofs.Runs.{reset_refusal-odd, run_refusal-none}
+use Rattle.helium.proofs.Runs.{reset_refusal-odd}
 
 -- a flash has one listing
 listing_one : (flash : ℕ → ℕ) (x y : Listing) → IsListing flash x → IsListing flash y → x ≡ y
 listing_one flash x y h k = λ i. λ a. fetched_one flash a (x a) (y a) (h.at a) (k.at a) i
-
-accepted_short : (bytes : List ℕ) → image_refusal bytes ≡ None → length bytes ≤ longest
-accepted_short bytes h = grind (arith, nat_tests)
 
 then_read-whole : (bytes : List ℕ) (more : List (List ℕ)) → length bytes ≤ longest → then_read (Some bytes) (whole more) ≡ whole (bytes ∷ more)
 then_read-whole bytes more fits = grind (arith, nat_tests)
@@ -67,14 +67,15 @@ read_for F name bytes memory (file other) s image fits given = record {
 }
 
 -- what a sound run is to do
-effect-run : (listings : List Segment → Listing) (words : List (List ℕ)) (F : FileMap) (name bytes memory : List ℕ) (source : Source) (s : Sched)
-    → form_of words ≡ Some (run name source memory) → ReadFor F name bytes memory source s → image_refusal bytes ≡ None → reset_pc (flat bytes) % 2 ≡ 1
-    → effect listings words F ≡ effect_for (reported (timed_out (listings (flat bytes)) (flat bytes) s) memory)
-effect-run listings words F name bytes memory source s asked read accepted odd =
+effect-run : (listings : List Segment → Listing) (words : List (List ℕ)) (F : FileMap) (name bytes memory : List ℕ) (source : Source) (image : List Segment) (s : Sched)
+    → form_of words ≡ Some (run name source memory) → ReadFor F name bytes memory source s → IsImageFile bytes image → reset_pc image % 2 ≡ 1
+    → effect listings words F ≡ effect_for (reported (timed_out (listings image) image s) memory)
+effect-run listings words F name bytes memory source image s asked read holds odd =
     ap (λ o. effect_after listings o (reading_of F (reads_for o))) asked
     ∙ ap (effect_after listings (Some (run name source memory))) read.reading
-    ∙ ap (λ (r : Result Sched SchedErr). effect_for (run_outcome listings bytes r memory)) read.schedule
-    ∙ ap (λ o. effect_for (unless_refused o (reported (timed_out (listings (flat bytes)) (flat bytes) s) memory))) (run_refusal-none bytes s accepted (reset_refusal-odd (flat bytes) odd))
+    ∙ ap (λ (r : Result Sched SchedErr). effect_for (run_outcome listings (image_in bytes) r memory)) read.schedule
+    ∙ ap (λ (i : Result (List Segment) ImageErr). effect_for (run_outcome listings i (Ok s) memory)) (image_again bytes image holds)
+    ∙ ap (λ o. effect_for (unless_refused o (reported (timed_out (listings image) image s) memory))) (reset_refusal-odd image odd)
 
 -- what an effect that was done leaves
 record Left (e : Effect) (F : FileMap) (P : List ℕ) (new : HostState) (s : Status) : Type 0 where
@@ -91,20 +92,20 @@ left e F P old new Refused h files printed same last = inr (record { printed = h
 left e F P old new HostFault h files printed same last = absurd (let rose : _ = h.0 in omega arith)
 left e F P old new NoMemory h files printed same last = inl refl
 
-reported_by : (listing : Listing) (F : FileMap) (P bytes memory : List ℕ) (s : Sched) (new : HostState) (status : Status) → IsListing (flash_byte (flat bytes)) listing
-    → Left (effect_for (reported (timed_out listing (flat bytes) s) memory)) F P new status → IsReported F P bytes memory s new status
-reported_by listing F P bytes memory s new status is h = record {
-  report = report_text (timed_out listing (flat bytes) s);
-  file = memory_text (timed_out listing (flat bytes) s);
+reported_by : (listing : Listing) (F : FileMap) (P memory : List ℕ) (image : List Segment) (s : Sched) (new : HostState) (status : Status) → IsListing (flash_byte image) listing
+    → Left (effect_for (reported (timed_out listing image s) memory)) F P new status → IsReported F P memory image s new status
+reported_by listing F P memory image s new status is h = record {
+  report = report_text (timed_out listing image s);
+  file = memory_text (timed_out listing image s);
   printed = h.printed;
   files = h.files;
   headline = λ other are.
-      let same = listing_one (flash_byte (flat bytes)) listing other is are in
-      headline_all other (flat bytes) s _ _ (ap (λ l. report_text (timed_out l (flat bytes) s)) same) (ap (λ l. memory_text (timed_out l (flat bytes) s)) same);
-  riders = λ other are. riders_all other (flat bytes) s (length (ticks_of s.lines));
+      let same = listing_one (flash_byte image) listing other is are in
+      headline_all other image s _ _ (ap (λ l. report_text (timed_out l image s)) same) (ap (λ l. memory_text (timed_out l image s)) same);
+  riders = λ other are. riders_all other image s (length (ticks_of s.lines));
   ends = λ other are.
-      let same = listing_one (flash_byte (flat bytes)) listing other is are in
-      h.ends ∙ ap (λ l. if is_halted (timed_out l (flat bytes) s).outcome then Done else Ended) same;
+      let same = listing_one (flash_byte image) listing other is are in
+      h.ends ∙ ap (λ l. if is_halted (timed_out l image s).outcome then Done else Ended) same;
 }
 
 -- where the host tells its files, what is done is the effect of the words
@@ -115,21 +116,21 @@ carries_effect listings form words old new s F h is told =
 
 pub headline_of : (words : List (List ℕ)) (form : Option Form) (old new : HostState) (status : Status) → form ≡ form_of words
     → ((listings : List Segment → Listing) → AreListings listings → Does listings form old new status) → RunsToHeadline words old new status
-headline_of words form old new status same does = λ F P name bytes memory s h.
+headline_of words form old new status same does = λ F P name memory image s h.
     let listings = some_listings.0 in
-    let x = timed_out (listings (flat bytes)) (flat bytes) s in
+    let x = timed_out (listings image) image s in
     let sound = h.sound in
-    let read = read_for F name bytes memory h.source s sound.image (accepted_short bytes sound.accepted) h.given in
-    let is = effect-run listings words F name bytes memory h.source s (form_of-run words name h.source memory h.asked) read sound.accepted sound.odd in
+    let read = read_for F name sound.bytes memory h.source s sound.there sound.short h.given in
+    let is = effect-run listings words F name sound.bytes memory h.source image s (form_of-run words name h.source memory h.asked) read sound.holds sound.odd in
     let done = carries_effect listings form words old new status F (does listings some_listings.1) same sound.files in
     elim (left (effect_for (reported x memory)) F P old new status (subst (λ e. Carries e old new status) is done) sound.files sound.printed sound.no_fault sound.not_last) [
       | inl wanted ↦ inl wanted
-      | inr left ↦ inr (reported_by (listings (flat bytes)) F P bytes memory s new status (some_listings.1.at (flat bytes)) left)
+      | inr left ↦ inr (reported_by (listings image) F P memory image s new status (some_listings.1.at image) left)
     ]
 
 -- of words that are no form it says nothing
 pub headline_of_none : (words : List (List ℕ)) (old new : HostState) (status : Status) → None ≡ form_of words → RunsToHeadline words old new status
-headline_of_none words old new status none = λ F P name bytes memory s h.
+headline_of_none words old new status none = λ F P name memory image s h.
     let asked : None ≡ Some (run name h.source memory) = none ∙ form_of-run words name h.source memory h.asked in
     cc
 
@@ -148,42 +149,43 @@ halted_in_order x (Halted reason k s) ends = ap is_halted ends
 halted_in_order x (Full k s) ends = ap is_halted ends
 halted_in_order x (Faulted kind pc addr k) ends = ap is_halted ends
 
-effect-seq : (listings : List Segment → Listing) (words : List (List ℕ)) (F : FileMap) (name bytes : List ℕ) (n : ℕ)
-    → form_of words ≡ Some (seq name n) → get F name ≡ Some bytes → image_refusal bytes ≡ None → reset_pc (flat bytes) % 2 ≡ 1
-    → effect listings words F ≡ effect_for (told (timed_out (listings (flat bytes)) (flat bytes) (plain n)))
-effect-seq listings words F name bytes n asked image accepted odd =
+effect-seq : (listings : List Segment → Listing) (words : List (List ℕ)) (F : FileMap) (name bytes : List ℕ) (image : List Segment) (n : ℕ)
+    → form_of words ≡ Some (seq name n) → get F name ≡ Some bytes → length bytes ≤ longest → IsImageFile bytes image → reset_pc image % 2 ≡ 1
+    → effect listings words F ≡ effect_for (told (timed_out (listings image) image (plain n)))
+effect-seq listings words F name bytes image n asked there short holds odd =
     ap (λ o. effect_after listings o (reading_of F (reads_for o))) asked
-    ∙ ap (effect_after listings (Some (seq name n))) (read_one F name bytes image (accepted_short bytes accepted))
-    ∙ ap (λ o. effect_for (unless_refused o (told (timed_out (listings (flat bytes)) (flat bytes) (plain n))))) (run_refusal-none bytes (plain n) accepted (reset_refusal-odd (flat bytes) odd))
+    ∙ ap (effect_after listings (Some (seq name n))) (read_one F name bytes there short)
+    ∙ ap (λ (i : Result (List Segment) ImageErr). effect_for (seq_outcome listings i n)) (image_again bytes image holds)
+    ∙ ap (λ o. effect_for (unless_refused o (told (timed_out (listings image) image (plain n))))) (reset_refusal-odd image odd)
 
-shown_by : (listing : Listing) (F : FileMap) (P bytes : List ℕ) (n : ℕ) (new : HostState) (status : Status) → IsListing (flash_byte (flat bytes)) listing
-    → Left (effect_for (told (timed_out listing (flat bytes) (plain n)))) F P new status → IsShownInOrder F P bytes n new status
-shown_by listing F P bytes n new status is h = record {
+shown_by : (listing : Listing) (F : FileMap) (P : List ℕ) (image : List Segment) (n : ℕ) (new : HostState) (status : Status) → IsListing (flash_byte image) listing
+    → Left (effect_for (told (timed_out listing image (plain n)))) F P new status → IsShownInOrder F P image n new status
+shown_by listing F P image n new status is h = record {
   printed = λ other are.
-      let same = listing_one (flash_byte (flat bytes)) listing other is are in
-      h.printed ∙ ap (λ l. Some (P ++ short_report (timed_out l (flat bytes) (plain n)))) same
-      ∙ ap (λ (text : List ℕ). Some (P ++ text)) (shown_in_order (timed_out other (flat bytes) (plain n)) (in_order other (flat bytes) n) (reports other (flat bytes) n) (plain_ends other (flat bytes) n));
+      let same = listing_one (flash_byte image) listing other is are in
+      h.printed ∙ ap (λ l. Some (P ++ short_report (timed_out l image (plain n)))) same
+      ∙ ap (λ (text : List ℕ). Some (P ++ text)) (shown_in_order (timed_out other image (plain n)) (in_order other image n) (reports other image n) (plain_ends other image n));
   files = h.files;
   ends = λ other are.
-      let same = listing_one (flash_byte (flat bytes)) listing other is are in
-      h.ends ∙ ap (λ l. if is_halted (timed_out l (flat bytes) (plain n)).outcome then Done else Ended) same
-      ∙ ap (λ (halted : Bool). if halted then Done else Ended) (halted_in_order (timed_out other (flat bytes) (plain n)) (in_order other (flat bytes) n) (plain_ends other (flat bytes) n));
+      let same = listing_one (flash_byte image) listing other is are in
+      h.ends ∙ ap (λ l. if is_halted (timed_out l image (plain n)).outcome then Done else Ended) same
+      ∙ ap (λ (halted : Bool). if halted then Done else Ended) (halted_in_order (timed_out other image (plain n)) (in_order other image n) (plain_ends other image n));
 }
 
 pub order_of : (words : List (List ℕ)) (form : Option Form) (old new : HostState) (status : Status) → form ≡ form_of words
     → ((listings : List Segment → Listing) → AreListings listings → Does listings form old new status) → RunsInOrder words old new status
-order_of words form old new status same does = λ F P name bytes n h.
+order_of words form old new status same does = λ F P name image n h.
     let listings = some_listings.0 in
-    let x = timed_out (listings (flat bytes)) (flat bytes) (plain n) in
+    let x = timed_out (listings image) image (plain n) in
     let sound = h.sound in
-    let is = effect-seq listings words F name bytes n (form_of-seq words name n h.asked) sound.image sound.accepted sound.odd in
+    let is = effect-seq listings words F name sound.bytes image n (form_of-seq words name n h.asked) sound.there sound.short sound.holds sound.odd in
     let done = carries_effect listings form words old new status F (does listings some_listings.1) same sound.files in
     elim (left (effect_for (told x)) F P old new status (subst (λ e. Carries e old new status) is done) sound.files sound.printed sound.no_fault sound.not_last) [
       | inl wanted ↦ inl wanted
-      | inr left ↦ inr (shown_by (listings (flat bytes)) F P bytes n new status (some_listings.1.at (flat bytes)) left)
+      | inr left ↦ inr (shown_by (listings image) F P image n new status (some_listings.1.at image) left)
     ]
 
 pub order_of_none : (words : List (List ℕ)) (old new : HostState) (status : Status) → None ≡ form_of words → RunsInOrder words old new status
-order_of_none words old new status none = λ F P name bytes n h.
+order_of_none words old new status none = λ F P name image n h.
     let asked : None ≡ Some (seq name n) = none ∙ form_of-seq words name n h.asked in
     cc

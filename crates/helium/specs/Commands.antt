@@ -1,14 +1,16 @@
 -- What each command comes to, from the bytes of the files that it reads.
 use Rattle.std.specs.Prelude.{ℕ, List, [], Option, Some, None, Result, Ok, Err, get_or}
-use Rattle.hm_base.specs.Image.{Segment, flat, flash_byte}
+use Rattle.hm_base.specs.Image.{Segment, flash_byte}
+use Rattle.hm_base.specs.declared.errors.ImageErr.{ImageErr}
 use Rattle.hm_codes.specs.Listing.{Listing, IsListing}
+use Rattle.hm_elf.specs.ReadImage.{image_in}
 use Rattle.hm_run.specs.Report.{report_text, memory_text}
 use Rattle.hm_run.specs.Timed.{Timed, timed_out}
 use Rattle.hm_sched.specs.Schedule.{Sched, plain}
 use Rattle.hm_sched.specs.declared.errors.SchedErr.{SchedErr}
 use Rattle.helium.specs.declared.work.Refusal.{Refusal}
-use Rattle.helium.specs.declared.work.Refusal.TheVariants.{Schedule}
-use Rattle.helium.specs.Run.{is_halted, run_refusal, schedule_in, short_report}
+use Rattle.helium.specs.declared.work.Refusal.TheVariants.{Image, Schedule}
+use Rattle.helium.specs.Run.{is_halted, reset_refusal, schedule_in, short_report}
 use Rattle.helium.specs.Work.{Outcome, finishes, refuses}
 use Rattle.helium.specs.Words.{Form, run, seq}
 
@@ -25,19 +27,21 @@ abbrev pub unless_refused : Option Refusal → Outcome → Outcome
 unless_refused (Some why) outcome = refuses why
 unless_refused None outcome = outcome
 
--- a run under a schedule, as it was read, with a file for its memory
-abbrev pub run_outcome : (List Segment → Listing) → List ℕ → Result Sched SchedErr → List ℕ → Outcome
-run_outcome listings bytes (Ok s) memory = unless_refused (run_refusal bytes (Ok s)) (reported (timed_out (listings (flat bytes)) (flat bytes) s) memory)
-run_outcome listings bytes (Err e) memory = unless_refused (run_refusal bytes (Err e)) (refuses (Schedule e))
+-- a run of an image under a schedule, as both were read, with a file for its memory
+abbrev pub run_outcome : (List Segment → Listing) → Result (List Segment) ImageErr → Result Sched SchedErr → List ℕ → Outcome
+run_outcome listings (Err e) schedule memory = refuses (Image e)
+run_outcome listings (Ok image) (Err e) memory = refuses (Schedule e)
+run_outcome listings (Ok image) (Ok s) memory = unless_refused (reset_refusal image) (reported (timed_out (listings image) image s) memory)
 
 -- a plain run of n ticks, whose report is printed, of a fault the first line alone
 abbrev pub told : Timed → Outcome
 told x = finishes (is_halted x.outcome) None (Some (short_report x))
 
-abbrev pub seq_outcome : (List Segment → Listing) → List ℕ → ℕ → Outcome
-seq_outcome listings bytes n = unless_refused (run_refusal bytes (Ok (plain n))) (told (timed_out (listings (flat bytes)) (flat bytes) (plain n)))
+abbrev pub seq_outcome : (List Segment → Listing) → Result (List Segment) ImageErr → ℕ → Outcome
+seq_outcome listings (Err e) n = refuses (Image e)
+seq_outcome listings (Ok image) n = unless_refused (reset_refusal image) (told (timed_out (listings image) image (plain n)))
 
 -- by the contents of the files that are read, in order
 abbrev pub outcome_of : (List Segment → Listing) → Form → List (List ℕ) → Outcome
-outcome_of listings (run image schedule memory) contents = run_outcome listings (get_or contents 0 []) (schedule_in schedule (get_or contents 1 [])) memory
-outcome_of listings (seq image n) contents = seq_outcome listings (get_or contents 0 []) n
+outcome_of listings (run image schedule memory) contents = run_outcome listings (image_in (get_or contents 0 [])) (schedule_in schedule (get_or contents 1 [])) memory
+outcome_of listings (seq image n) contents = seq_outcome listings (image_in (get_or contents 0 [])) n

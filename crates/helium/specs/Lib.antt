@@ -1,4 +1,3 @@
-pub mod Image
 pub mod Words
 pub mod Work
 pub mod Run

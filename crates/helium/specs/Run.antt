@@ -1,6 +1,6 @@
 -- What a run of an image comes to.
-use Rattle.std.specs.Prelude.{◌≡◌, ℕ, ◌%◌, Bool, true, false, List, Option, Some, None, option_map, nat_eq, if◌then◌else◌, Result, Ok, Err}
-use Rattle.hm_base.specs.Image.{Segment, flat, flash_byte}
+use Rattle.std.specs.Prelude.{◌≡◌, ℕ, ◌%◌, Bool, true, false, List, Option, Some, None, nat_eq, if◌then◌else◌, Result, Ok, Err}
+use Rattle.hm_base.specs.Image.{Segment, flash_byte}
 use Rattle.hm_codes.specs.Listing.{Listing, IsListing}
 use Rattle.hm_machine.specs.Shown.{Shown, timed_of}
 use Rattle.hm_machine.specs.declared.load.LoadErr.{LoadErr}
@@ -15,10 +15,9 @@ use Rattle.hm_sched.specs.declared.errors.SchedErr.{SchedErr}
 use Rattle.hm_sched.specs.declared.errors.SchedErr.TheVariants as sched
 use Rattle.hm_state.specs.Start.{reset_pc}
 use Rattle.helium.specs.declared.work.Refusal.{Refusal}
-use Rattle.helium.specs.declared.work.Refusal.TheVariants.{Image, Schedule, Reset}
+use Rattle.helium.specs.declared.work.Refusal.TheVariants.{Schedule, Reset}
 use Rattle.helium.specs.declared.work.Stop.{Stop}
 use Rattle.helium.specs.declared.work.Stop.TheVariants.{Refused, NoMemory}
-use Rattle.helium.specs.Image.{image_refusal}
 use Rattle.helium.specs.Words.{Source, ticks, file}
 
 -- whether a run halted
@@ -30,23 +29,10 @@ is_halted o = false
 abbrev pub reset_refusal : List Segment → Option Refusal
 reset_refusal image = if nat_eq (reset_pc image % 2) 0 then Some (Reset (reset_pc image)) else None
 
--- the first of two refusals
-abbrev pub or_refusal : Option Refusal → Option Refusal → Option Refusal
-or_refusal (Some why) other = Some why
-or_refusal None other = other
-
 -- what is read of the source of a schedule: plain ticks, or what its file holds
 abbrev pub schedule_in : Source → List ℕ → Result Sched SchedErr
 schedule_in (ticks n) text = Ok (plain n)
 schedule_in (file name) text = file_in text
-
-abbrev pub schedule_refusal : Result Sched SchedErr → Option Refusal
-schedule_refusal (Ok s) = None
-schedule_refusal (Err e) = Some (Schedule e)
-
--- why a file is not run: it is no image, its schedule is none, or no machine is made of it
-abbrev pub run_refusal : List ℕ → Result Sched SchedErr → Option Refusal
-run_refusal bytes read = or_refusal (option_map Image (image_refusal bytes)) (or_refusal (schedule_refusal read) (reset_refusal (flat bytes)))
 
 -- a machine that shows a run to its end
 pub record IsOver (image : List Segment) (s : Sched) (m : Shown) : Type 0 where

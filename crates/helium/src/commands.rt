@@ -1,8 +1,10 @@
 //! What each command comes to, from the bytes of the files that it reads. No command calls the host.
 
-ghost use Rattle.std.specs.Prelude.{◌≡◌, List, [], Result, Ok, length, map};
+ghost use Rattle.std.specs.Prelude.{◌≡◌, ◌≤◌, List, [], Result, Ok, length, map, All};
 ghost use Rattle.hm_base.specs.Image.{Segment};
 ghost use Rattle.hm_codes.specs.Listing.{Listing};
+ghost use Rattle.hm_elf.specs.ReadImage.{image_in};
+ghost use Rattle.hm_host.specs.Host.{longest};
 ghost use Rattle.hm_sched.specs.Schedule.{Sched, plain};
 ghost use Rattle.hm_sched.specs.ReadFile.{Gives as GivesSchedule};
 ghost use Rattle.hm_sched.specs.declared.errors.SchedErr.{SchedErr};
@@ -10,11 +12,11 @@ ghost use Rattle.helium.specs.Words.{run, source_meant, meant, reads_of};
 ghost use Rattle.helium.specs.Work.{Gives};
 ghost use Rattle.helium.specs.Commands.{AreListings, run_outcome, seq_outcome, outcome_of};
 
-use crate::image::read_image;
 use crate::machine::{is_halted, run_to_end, short_report};
 use crate::ticks::Ticks;
 use crate::words::{Command, Source};
 use crate::work::{Finish, Output, Stop};
+use hm_elf::read_image;
 use hm_sched::{SchedErr, Schedule, parse, plain};
 use std::alloc::Global;
 
@@ -32,8 +34,9 @@ fn run_under<'a>(
     schedule: Result<Schedule, SchedErr>,
     memory: &'a str,
 ) -> Result<Finish<'a>, Stop>
+    requires short { length image.now ≤ longest }
     ensures { (listings : List Segment → Listing) → AreListings listings → (read : Result Sched SchedErr) → GivesSchedule (λ s. s) schedule read
-        → Gives (run_outcome listings image.now read memory.now) result }
+        → Gives (run_outcome listings (image_in image.now) read memory.now) result }
 {
     let image = read_image(alloc, image)?;
     let schedule = schedule?;
@@ -55,7 +58,8 @@ fn run<'a>(
     contents: &[Vec<u8>],
     memory: &'a str,
 ) -> Result<Finish<'a>, Stop>
-    requires { length contents.now ≡ length (reads_of (run [] (source_meant schedule.now) [])) }
+    requires each { length contents.now ≡ length (reads_of (run [] (source_meant schedule.now) [])) }
+    requires short { All (λ bytes. length bytes.items ≤ longest) contents.now }
     ensures { (listings : List Segment → Listing) → AreListings listings
         → Gives (outcome_of listings (run [] (source_meant schedule.now) memory.now) (map (λ bytes. bytes.items) contents.now)) result }
 {
@@ -73,7 +77,8 @@ fn run<'a>(
 
 /// Runs so many whole instructions of an image in order. The report is to be printed, of a fault the first line alone.
 fn seq<'a>(alloc: Global, image: &[u8], ticks: Ticks) -> Result<Finish<'a>, Stop>
-    ensures { (listings : List Segment → Listing) → AreListings listings → Gives (seq_outcome listings image.now ticks.count) result }
+    requires short { length image.now ≤ longest }
+    ensures { (listings : List Segment → Listing) → AreListings listings → Gives (seq_outcome listings (image_in image.now) ticks.count) result }
 {
     let image = read_image(alloc, image)?;
     let schedule = plain_schedule(alloc, ticks)?;
@@ -91,7 +96,8 @@ pub fn perform<'a>(
     command: &Command<'a>,
     contents: &[Vec<u8>],
 ) -> Result<Finish<'a>, Stop>
-    requires { length contents.now ≡ length (reads_of (meant command.now)) }
+    requires each { length contents.now ≡ length (reads_of (meant command.now)) }
+    requires short { All (λ bytes. length bytes.items ≤ longest) contents.now }
     ensures { (listings : List Segment → Listing) → AreListings listings
         → Gives (outcome_of listings (meant command.now) (map (λ bytes. bytes.items) contents.now)) result }
 {

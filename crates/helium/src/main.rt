@@ -2,7 +2,6 @@
 #![tactic(auto)]
 
 mod commands;
-mod image;
 mod laws;
 mod machine;
 mod outside;

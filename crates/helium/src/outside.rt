@@ -1,7 +1,7 @@
 //! The host's calls of a run: the reads in order, then the write, then the print.
 
-ghost use Rattle.std.specs.Prelude.{◌≡◌, Some, Err, map, option_map, length, vec_len, IfOk};
-ghost use Rattle.hm_host.specs.Host.{FileMap, Stays, Counts};
+ghost use Rattle.std.specs.Prelude.{◌≡◌, ◌≤◌, Some, Err, map, option_map, length, vec_len, IfOk, All};
+ghost use Rattle.hm_host.specs.Host.{FileMap, Stays, Counts, longest};
 ghost use Rattle.helium.specs.Work.{output_pair};
 ghost use Rattle.helium.specs.Calls.{MakesAll, MakesCalls, answer_way, read_calls, write_calls, print_calls};
 ghost use Rattle.helium.specs.Effect.{ReadsAll, WritesFile, PrintsText};
@@ -18,6 +18,7 @@ pub fn read_all<H: Host>(
 ) -> Result<Vec<Vec<u8>>, HostErr>
     ensures answer { ReadsAll (H.state host.old).files (map (λ name. name.now) names.now) (λ contents. map (λ bytes. bytes.items) contents.items) result }
     ensures each { IfOk result (λ contents. vec_len contents ≡ length names.now) }
+    ensures short { IfOk result (λ contents. All (λ bytes. length bytes.items ≤ longest) contents.items) }
     ensures files { Stays (H.state host.old).files (H.state host.new).files }
     ensures printed { Stays (H.state host.old).printed (H.state host.new).printed }
     ensures calls { (F : FileMap) → (H.state host.old).files ≡ Some F → MakesCalls (read_calls F (map (λ name. name.now) names.now)) (H.state host.old).calls (H.state host.new).calls (answer_way result) }

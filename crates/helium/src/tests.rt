@@ -1,4 +1,6 @@
 use super::*;
+use hm_base::Image;
+use hm_elf::write_image;
 use hm_host::{FailList, Files, MemHost};
 use std::alloc::{AllocError, Global};
 use std::test::Fail;
@@ -174,7 +176,7 @@ fn refuses(rt: HostRuntime) -> Result<(), Fail> {
         ),
         (&long, b"helium: refused image long\n"),
         (&too_large, b"helium: refused file too large\n"),
-        (b"\x7fELF", b"helium: refused image class\n"),
+        (b"\x7fELF", b"helium: refused image truncated 4\n"),
         (
             b"\x00\x00\x01\x20\x08\x00\x00\x00\x00\xbe",
             b"helium: refused image reset 00000008\n",
@@ -185,6 +187,60 @@ fn refuses(rt: HostRuntime) -> Result<(), Fail> {
         assert_eq!(rt; run(alloc, "plain:1", &mut outside)?, Status::Refused);
         assert_eq!(rt; outside.printed(), line);
         assert!(rt; outside.file("b").is_none());
+    }
+    Ok(())
+}
+
+/// The ELF file of the first image, and of five bytes at 20000010: 135 bytes, with program headers at 52 and 84.
+fn first_elf(alloc: Global) -> Result<Vec<u8>, Fail> {
+    let mut image = Image::new(alloc);
+    image.add(0x2000_0010, b"\xa1\xa2\xa3\xa4\xa5".to_vec(alloc)?)?;
+    image.add(0, FIRST.to_vec(alloc)?)?;
+    Ok(write_image(alloc, &image)?)
+}
+
+#[test]
+fn runs_elf_files(rt: HostRuntime) -> Result<(), Fail> {
+    let alloc = rt.alloc();
+    let file = first_elf(alloc)?;
+    let mut outside = host(alloc, &file, b"", &[])?;
+    assert_eq!(rt; run(alloc, "plain:3", &mut outside)?, Status::Done);
+    assert_eq!(rt; outside.printed(), FIRST_REPORT);
+    let memory = outside.file("b").ok_or("no file b")?;
+    assert_eq!(rt;
+        memory.get(15..22),
+        Some(b"\0\xa1\xa2\xa3\xa4\xa5\0".as_slice())
+    );
+    let mut outside = host(alloc, file.get(..51).ok_or("too short")?, b"", &[])?;
+    assert_eq!(rt; run(alloc, "plain:3", &mut outside)?, Status::Refused);
+    assert_eq!(rt;
+        outside.printed(),
+        b"helium: refused image truncated 51\n".as_slice()
+    );
+    Ok(())
+}
+
+#[test]
+fn refuses_elf_files(rt: HostRuntime) -> Result<(), Fail> {
+    let alloc = rt.alloc();
+    let rows: [(usize, u8, &[u8]); 10] = [
+        (4, 2, b"helium: refused image class\n"),
+        (5, 2, b"helium: refused image order\n"),
+        (16, 3, b"helium: refused image kind\n"),
+        (18, 62, b"helium: refused image machine\n"),
+        (42, 40, b"helium: refused image header\n"),
+        (44, 65, b"helium: refused image too many\n"),
+        (31, 0xff, b"helium: refused image truncated 135\n"),
+        (59, 0xff, b"helium: refused image truncated 135\n"),
+        (72, 0, b"helium: refused image segment 0\n"),
+        (99, 0x21, b"helium: refused image segment 1\n"),
+    ];
+    for (at, byte, line) in rows {
+        let mut file = first_elf(alloc)?;
+        *file.get_mut(at).ok_or("no such place")? = byte;
+        let mut outside = host(alloc, &file, b"", &[])?;
+        assert_eq!(rt; run(alloc, "plain:1", &mut outside)?, Status::Refused);
+        assert_eq!(rt; outside.printed(), line);
     }
     Ok(())
 }
@@ -396,7 +452,7 @@ fn runs_in_order(rt: HostRuntime) -> Result<(), Fail> {
         (
             b"\x7fELF",
             Status::Refused,
-            b"helium: refused image class\n",
+            b"helium: refused image truncated 4\n",
         ),
         (
             b"\x00\x00\x01\x20\x08\x00\x00\x00\x00\xbe",

@@ -6,7 +6,7 @@ use Rattle.helium.proofs.commands.run.Goals as goal
 
 pub returns-in-Plain : goal.returns-in-Plain
 returns-in-Plain c = λ listings are.
-    let one : length c.args.contents.now ≡ 1 = rw c.in-Plain.is at c.requires in
+    let one : length c.args.contents.now ≡ 1 = rw c.in-Plain.is at c.requires.each in
     let some : 0 < length c.args.contents.now = omega arith in
     let first : get_or (map (λ (v : Vec ℕ Global). v.items) c.args.contents.now) 0 [] ≡ c.deref.result.now
     = get_or-map (λ (v : Vec ℕ Global). v.items) c.args.contents.now 0 _ [] some ∙ ap (λ (v : Vec ℕ Global). v.items) (sym c.index-contents-0.is) ∙ sym c.deref.ensures.value in
@@ -14,7 +14,7 @@ returns-in-Plain c = λ listings are.
 
 pub returns-in-File : goal.returns-in-File
 returns-in-File c = λ listings are.
-    let two : length c.args.contents.now ≡ 2 = rw c.in-File.is at c.requires in
+    let two : length c.args.contents.now ≡ 2 = rw c.in-File.is at c.requires.each in
     let some : 0 < length c.args.contents.now = omega arith in
     let more : 1 < length c.args.contents.now = omega arith in
     let first : get_or (map (λ (v : Vec ℕ Global). v.items) c.args.contents.now) 0 [] ≡ c.deref-in-File-2.result.now

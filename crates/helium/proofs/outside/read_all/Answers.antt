@@ -1,5 +1,7 @@
-use Rattle.std.proofs.Common.{◌≡◌, ◌+◌, ◌∷◌, ◌++◌, [], ℕ, List, Vec, Global, map, drop, ap, sym, ◌∙◌, arith, rules}
+use Rattle.std.proofs.Common.{◌≡◌, ◌≤◌, ◌+◌, ◌∷◌, ◌++◌, [], ℕ, List, Vec, Global, All, length, map, drop, ap, sym, subst, ◌∙◌, arith, rules}
 use Rattle.std.proofs.lemmas.List.{map_push}
+use Rattle.std.proofs.lemmas.List.Elements.{All-push}
+use Rattle.hm_host.specs.Host.{longest}
 use Rattle.helium.specs.Effect.{after_contents, reading_of}
 use Rattle.helium.proofs.Readings.{ReadsAll-err, next_told, next_calls, next_splits, reads_done, calls_cut, calls_lost}
 use Rattle.helium.proofs.outside.read_all.Goals as goal
@@ -33,6 +35,7 @@ loop-name-preserved g c =
     = ap (map (λ (v : Vec ℕ Global). v.items)) pushed ∙ map_push (λ (v : Vec ℕ Global). v.items) c.loop-name.contents.items c.in-Ok.bytes in
     record {
       each = search rules;
+      short = subst (λ (l : List (Vec ℕ Global)). All (λ (v : Vec ℕ Global). length v.items ≤ longest) l) (sym pushed) (All-push (λ (v : Vec ℕ Global). length v.items ≤ longest) c.loop-name.contents.items c.in-Ok.bytes i.short h.answer.0);
       told = λ F is.
           i.told F is ∙ next_told F _ names c.loop-name.name-index c.in-Ok.bytes.items lt (h.answer.1 F (i.files F is)) h.answer.0
           ∙ ap (λ (b : List (List ℕ)). after_contents b (reading_of F (map (λ name. name.now) (drop (c.loop-name.name-index + 1) names)))) (sym items);

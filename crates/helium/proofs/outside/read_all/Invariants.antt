@@ -1,5 +1,5 @@
-use Rattle.std.proofs.Common.{◌≡◌, Some, map, take, drop, vec_len}
-use Rattle.hm_host.specs.Host.{FileMap, Becomes, Stays}
+use Rattle.std.proofs.Common.{◌≡◌, ◌≤◌, Some, length, map, take, drop, vec_len, All}
+use Rattle.hm_host.specs.Host.{FileMap, Becomes, Stays, longest}
 use Rattle.helium.specs.Calls.{with_calls}
 use Rattle.helium.proofs.Readings.{SplitsAt, reads}
 use Rattle.helium.specs.Effect.{reading_of, after_contents}
@@ -11,6 +11,7 @@ invariant-loop-name g l =
     let state = g.H.Host.state in
     record {
       each : vec_len l.contents ≡ l.name-index;
+      short : All (λ bytes. length bytes.items ≤ longest) l.contents.items;
       told : (F : FileMap) → (state l.initial.host).files ≡ Some F
           → reading_of F (map (λ name. name.now) l.names) ≡ after_contents (map (λ bytes. bytes.items) l.contents.items) (reading_of F (map (λ name. name.now) (drop l.name-index l.names)));
       files : Stays (state l.initial.host).files (state l.host).files;

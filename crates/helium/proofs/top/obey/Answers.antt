@@ -39,8 +39,11 @@ returns-in-Err-TooLarge g c = record {
       c.refuse.ensures.effect c.refuse.ensures.calls;
 }
 
-pub perform-requires : goal.perform-requires
-perform-requires g c =
+pub perform-requires-clause-short : goal.perform-requires-clause-short
+perform-requires-clause-short g c = rw c.deref-in-Ok-read_all.ensures.value c.in-Ok-read_all.ensures.short
+
+pub perform-requires-clause-each : goal.perform-requires-clause-each
+perform-requires-clause-each g c =
     c.deref-in-Ok-read_all.ensures.len ∙ c.in-Ok-read_all.ensures.each
     ∙ sym (length-map c.deref.result.now (λ n. n.now)) ∙ ap (λ l. length (map (λ n. n.now) l)) c.deref.ensures.value ∙ ap length c.in-Ok.ensures
 
