@@ -1,6 +1,6 @@
 use crate::overlap::row;
 use hm_base::{Place, Places};
-use hm_beat::BeatWise;
+use hm_beat::{BeatWise, Touch};
 use hm_regs::Regs;
 
 /// VPR where no block runs.
@@ -325,6 +325,86 @@ static CASES: [Case; 39] = [
     ),
 ];
 
+// of rows that load or store
+static MOVES: [Case; 9] = [
+    // vldrw.u32 q0,[r0]: the word that is filled is not read
+    (
+        0xed90_1f00,
+        LAST,
+        WHOLE,
+        1,
+        &[R(0), P0(1), Mask01, Ltp],
+        &[QWord(1), Mask01],
+    ),
+    (
+        0xed90_1f00,
+        CHANGES,
+        WHOLE,
+        0,
+        &[R(0), P0(0), Mask01, Ltp],
+        &[QWord(0), P0(0)],
+    ),
+    (
+        0xed90_1f00,
+        NO_BLOCK,
+        TAIL,
+        0,
+        &[R(0), R(14), Mask01, Ltp],
+        &[QWord(0)],
+    ),
+    // vstrw.32 q0,[r0,#16]! writes r0 on the last beat
+    (
+        0xeda0_1f04,
+        NO_BLOCK,
+        WHOLE,
+        0,
+        &[R(0), QWord(0), Mask01, Ltp],
+        &[],
+    ),
+    (
+        0xeda0_1f04,
+        LAST,
+        WHOLE,
+        3,
+        &[R(0), QWord(3), P0(3), Mask23, Ltp],
+        &[R(0), Mask23],
+    ),
+    // vldrb.u8 q0,[r2,q1], and vldrw.u32 q5,[q3,#-4]!, which writes each address on its beat
+    (
+        0xfc92_0e02,
+        NO_BLOCK,
+        WHOLE,
+        1,
+        &[R(2), QWord(5), Mask01, Ltp],
+        &[QWord(1)],
+    ),
+    (
+        0xfd36_be01,
+        NO_BLOCK,
+        WHOLE,
+        2,
+        &[QWord(14), Mask23, Ltp],
+        &[QWord(14), QWord(22)],
+    ),
+    // vld20.32 {q0,q1},[r0] is not under the predicate, and advances the masks
+    (
+        0xfc90_1f00,
+        CHANGES,
+        TAIL,
+        2,
+        &[R(0), QWord(1), P0(2), Mask23],
+        &[QWord(1), P0(2)],
+    ),
+    (
+        0xfc90_1f00,
+        CHANGES,
+        TAIL,
+        3,
+        &[R(0), QWord(5), P0(3), Mask23],
+        &[QWord(5), P0(3), Mask23],
+    ),
+];
+
 /// Whether a list has these places in this order.
 fn has(list: &Places, places: &[Place]) -> bool {
     if list.len() != places.len() {
@@ -338,28 +418,37 @@ fn has(list: &Places, places: &[Place]) -> bool {
     true
 }
 
-/// Whether a row touches what a case says, and no memory.
-fn is_as_told(case: &Case) -> bool {
-    let Some(row) = row(case.0) else {
-        return false;
-    };
+/// What the row of a case touches.
+fn touched(case: &Case) -> Option<Touch> {
     if case.3 >= 4 {
-        return false;
+        return None;
     }
+    let row = row(case.0)?;
     let mut regs = Regs::start(0, 8);
     regs.fpca = true;
     regs.vpr = case.1;
     regs.fpscr = case.2;
-    let touch = row.touch(case.3, &regs);
-    has(&touch.reads, case.4)
-        && has(&touch.writes, case.5)
-        && touch.loads.is_empty()
-        && touch.stores.is_empty()
+    Some(row.touch(case.3, &regs))
+}
+
+/// Whether a row touches the places that a case says.
+fn is_as_told(case: &Case) -> bool {
+    match touched(case) {
+        Some(touch) => has(&touch.reads, case.4) && has(&touch.writes, case.5),
+        None => false,
+    }
 }
 
 #[test]
 fn places_that_beats_touch(rt: HostRuntime) {
     for case in &CASES {
+        assert!(rt; is_as_told(case), "code {} beat {}", case.0, case.3);
+    }
+}
+
+#[test]
+fn places_that_loads_and_stores_touch(rt: HostRuntime) {
+    for case in &MOVES {
         assert!(rt; is_as_told(case), "code {} beat {}", case.0, case.3);
     }
 }
