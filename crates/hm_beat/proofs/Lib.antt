@@ -11,4 +11,5 @@ pub mod Lowest
 pub mod Clashes
 pub mod Remaining
 pub mod Clean
+pub mod Tainting
 pub mod Lists

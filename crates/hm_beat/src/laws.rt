@@ -5,11 +5,12 @@ ghost use Rattle.hm_base.specs.declared.Place.{Place};
 ghost use Rattle.hm_base.specs.declared.Fault.{Fault};
 ghost use Rattle.hm_mem.specs.declared.Actor.TheVariants.{Thread};
 ghost use Rattle.hm_mem.specs.Memory.{Around, Memory};
+ghost use Rattle.hm_mem.specs.Seen.{marks};
 ghost use Rattle.hm_regs.specs.declared.Regs.{Regs};
 ghost use Rattle.hm_lane.specs.Predicate.{predicate_of};
 ghost use Rattle.hm_order.specs.Beats.{ActionLaws, Alike, Apart, BeatLaws, beats, then};
 ghost use Rattle.hm_state.specs.State.{Rest, State, cells, state_of};
-ghost use Rattle.hm_beat.specs.Laws.{AsksWhatItReads, Clean, KeepsLr, MayRun, RowLaws, stopped};
+ghost use Rattle.hm_beat.specs.Laws.{AsksWhatItReads, Clean, HidesBytes, KeepsLr, MayRun, RowLaws, stopped};
 ghost use Rattle.hm_beat.specs.Lists.{Kept, Listed, SameDone, SameRead};
 ghost use Rattle.hm_beat.specs.Meeting.{MeetAt, MeetsByte, MeetsPlace, Touches, byte_meets, clash_with, meeting, place_meets, touches, touches_from};
 ghost use Rattle.hm_beat.specs.Ordered.{ordered};
@@ -41,13 +42,15 @@ pub fn rows_law()
     ensures predicate { (r : Regs) (m : Memory) (output : List ℕ) → predicate_at (state_of r m output) ≡ predicate_of r }
 {}
 
-/// Instructions of one type, done by the thread, keep what the theorem on overlapped beats asks for.
+/// Instructions of one type keep what the theorem on overlapped beats asks for, where the thread does them and where a handler does.
 pub fn overlap<T: BeatWise>()
     ensures beats { (writes_lr : T → Bool) → ((i : T) (x : Around) → writes_lr i ≡ false → KeepsLr (T.tree i x))
         → (x : Around) → x.actor ≡ Thread → BeatLaws (ordered T (λ i. T.tree i x) writes_lr) }
     // Four beats, and the next instruction behind them, are the whole instruction, which stops for no taint.
     ensures whole { (writes_lr : T → Bool) (x : Around) → x.actor ≡ Thread → (i : T) (s : State) → MayRun (T.tree i x) s → Clean s
         → then (beats (ordered T (λ j. T.tree j x) writes_lr) i 0 4 s) (λ u. Ok (retired u)) ≡ stopped (T.whole i s) }
+    // What a beat of a handler changes of the bytes is tainted.
+    ensures hidden { (i : T) (x : Around) (k : ℕ) (s t : State) → marks x.actor ≡ true → (action cells (T.tree i x k)).run s ≡ Ok t → HidesBytes s t }
 {}
 
 /// Where a beat meets those that an older row has left. What two beats meet on is the first place in the order of places, and else

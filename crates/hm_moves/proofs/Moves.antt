@@ -20,7 +20,7 @@ use Rattle.hm_beat.specs.Trees.{Careful, FailsElse, Leaf, StopsAs, WritesLive, a
 use Rattle.hm_beat.specs.Rows.{Each, Tree, active_at, advance_half, retired}
 use Rattle.hm_beat.specs.Touches.{span_bytes}
 use Rattle.hm_beat.specs.Effects.{Effect, effect, effect_of, four_beats}
-use Rattle.hm_beat.specs.Laws.{Clean, KeepsLr, MayRun, RowLaws, stopped}
+use Rattle.hm_beat.specs.Laws.{Clean, KeepsLr, MayRun, RowLaws, WritesTaint, stopped}
 use Rattle.hm_beat.proofs.Predicated.{IsStill, advance_at, by_beats, held_of, holds-append}
 use Rattle.hm_beat.proofs.Whole.{advanced, and_false, either, flag_still, no_byte, put_all-append, size_still}
 use Rattle.hm_beat.proofs.Chained.{Apart, Off, off-append, put_other}
@@ -28,7 +28,7 @@ use Rattle.hm_kinds.specs.Row.{is_body}
 use Rattle.hm_kinds.proofs.Row.{body_off, body_still, gathered, holds_written, pc-put_all}
 use Rattle.hm_moves.specs.declared.elements.Element.{Element}
 use Rattle.hm_moves.specs.Moves.{IsMoves, Moves, SparesLr, Unwritten, all_bytes_from, all_elements, active_ones, back_at, bytes_from, elements_at, every_byte, first_fault, handed, is_word, loaded_at, moved, moves_tree, moves_whole, or_else, fault_after, bytes_of, reads_of, sources_at, stored_at, unless, values_at, width, words_from}
-use Rattle.hm_moves.proofs.Trees.{begun_places, checked_clean, checks_fail, checks_stop, ends_at, fault_stop, leaf_asks, leaf_at, leaf_lives, leaf_read_asked, others_of, reach_moves, tests_moves, written_leaf}
+use Rattle.hm_moves.proofs.Trees.{begun_places, checked_clean, checks_fail, checks_stop, ends_at, fault_stop, leaf_asks, leaf_at, leaf_lives, leaf_read_asked, leaf_taints, others_of, reach_moves, tests_moves, written_leaf}
 use Rattle.hm_moves.proofs.Faulting.{effect_after, four_faulting, stop_first}
 
 -- WHAT A BEAT DOES IN THE THREAD
@@ -512,6 +512,7 @@ module _ (i : Moves) (is : IsMoves i) where
     asks = λ x b s c h. moves_asks x b s c h;
     size = λ x b s. unset_place x b s Ltp refl (bodies_off _ Ltp refl (is.back b (sources_at i b s))) (size_still b);
     flag = λ x b s. unset_place x b s Sticky refl (bodies_off _ Sticky refl (is.back b (sources_at i b s))) (flag_still b);
+    taints = λ x b s. subst (λ (l : Leaf Cell Value Stop). WritesTaint (marks x.actor) l.writes) (sym (reach_moves i x b s)) (leaf_taints i x b s);
     careful = λ x b s thread. moves_careful x b s thread;
     four = λ x s thread runs clean. four_moves x s thread clean;
     next = moves_next;

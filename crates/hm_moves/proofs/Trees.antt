@@ -21,10 +21,10 @@ use Rattle.hm_state.specs.State.{At, Byte, Cell, State, Value, at, cells, into}
 use Rattle.hm_beat.specs.Trees.{Asks, Check, Do, Fails, Leaf, FailsElse, StopsAs, WritesLive, asked, checked, holds, reach, tests, written}
 use Rattle.hm_beat.specs.Rows.{Tree, active_at, always, test_where}
 use Rattle.hm_beat.specs.Touches.{span_bytes}
-use Rattle.hm_beat.specs.Laws.{Clean}
+use Rattle.hm_beat.specs.Laws.{Clean, WritesTaint}
 use Rattle.hm_beat.proofs.Trees.{one_of}
 use Rattle.hm_beat.proofs.Predicated.{advance_at, holds-append, kept_tested, reach_looked, tested_places, tests_looked, written-append, written_always}
-use Rattle.hm_beat.proofs.Whole.{no_byte}
+use Rattle.hm_beat.proofs.Whole.{advance_taints, no_byte}
 use Rattle.hm_beat.proofs.Footprint.{no_tests}
 use Rattle.hm_kinds.specs.Row.{numbers}
 use Rattle.hm_moves.specs.declared.elements.Element.{Element}
@@ -292,6 +292,32 @@ bytes_live t e k (a ∷ bs) h = (λ vs. h, bytes_live t e (k + 1) bs h)
 stores_live : (t : Bool) (z : Size) (es : List Element) → t ≡ false → WritesLive cells (store_all t z es)
 stores_live t z [] h = tt
 stores_live t z (e ∷ es) h = lives-append (store_bytes t e 0 (span_bytes e.addr (width z))) (store_all t z es) (bytes_live t e 0 (span_bytes e.addr (width z)) h) (stores_live t z es h)
+
+-- AND WHAT IS WRITTEN TO BYTES IS TAINTED, OR NONE OF IT IS
+taint-append : (tainted : Bool) (ws us : List (Cell × (List Value → Value))) → WritesTaint tainted ws → WritesTaint tainted us → WritesTaint tainted (ws ++ us)
+taint-append tainted [] us h k = k
+taint-append tainted (w ∷ ws) us h k = (h.0, taint-append tainted ws us h.1 k)
+
+fill_taints : (tainted : Bool) (i : Moves) (j : ℕ) (es : List Element) (ps : List Place) → WritesTaint tainted (fill i j es ps)
+fill_taints tainted i j es [] = tt
+fill_taints tainted i j es (p ∷ ps) = (tt, fill_taints tainted i (j + 1) es ps)
+
+bytes_taint : (tainted : Bool) (e : Element) (k : ℕ) (bs : List ℕ) → WritesTaint tainted (store_bytes tainted e k bs)
+bytes_taint tainted e k [] = tt
+bytes_taint tainted e k (a ∷ bs) = (λ vs. refl, bytes_taint tainted e (k + 1) bs)
+
+stores_taint : (tainted : Bool) (z : Size) (es : List Element) → WritesTaint tainted (store_all tainted z es)
+stores_taint tainted z [] = tt
+stores_taint tainted z (e ∷ es) =
+    taint-append tainted (store_bytes tainted e 0 (span_bytes e.addr (width z))) (store_all tainted z es) (bytes_taint tainted e 0 (span_bytes e.addr (width z))) (stores_taint tainted z es)
+
+pub leaf_taints : (i : Moves) (x : Around) (b : ℕ) (s : State) → WritesTaint (marks x.actor) (leaf_at i x b s).writes
+leaf_taints i x b s =
+    taint-append (marks x.actor) (moved_by i x b (elements_at i b s)) _ (go i.store) (advance_taints (marks x.actor) (i.back b (sources_at i b s) ++ advance_at b s))
+  where
+    go : (y : Bool) → WritesTaint (marks x.actor) (cond y (store_all (marks x.actor) i.memory (elements_at i b s)) (fill i 0 (elements_at i b s) (i.words b)))
+    go true = stores_taint (marks x.actor) i.memory (elements_at i b s)
+    go false = fill_taints (marks x.actor) i 0 (elements_at i b s) (i.words b)
 
 always_lives : (ws : List Write) → WritesLive cells (map always ws)
 always_lives [] = tt
