@@ -1,9 +1,9 @@
 -- A text that is printed has the tokens that it was printed from.
-use Rattle.std.proofs.Common.{◌≡◌, ℕ, ◌+◌, ◌-◌, ◌*◌, ◌^◌, ◌<◌, ◌≤◌, min, Bool, true, false, eqb, ltb, List, [], ◌∷◌, ◌++◌, length, Some, refl, sym, ap, ◌∙◌, arith, rules}
+use Rattle.std.proofs.Common.{◌≡◌, ℕ, ◌+◌, ◌-◌, ◌*◌, ◌^◌, ◌<◌, ◌≤◌, min, Bool, true, false, eqb, ltb, List, [], ◌∷◌, ◌++◌, length, Some, refl, sym, ap, inl, inr, ◌∙◌, arith, rules}
 use Rattle.std.specs.Prelude.{decimal, ◌&&◌, ◌||◌}
 use Rattle.std.specs.List.{list_all}
 use Rattle.std.specs.Str.{all_ascii_digits}
-use Rattle.std.proofs.lemmas.Bool.{ne_eqb, and_parts, and_right}
+use Rattle.std.proofs.lemmas.Bool.{cases_Bool, ne_eqb, and_parts, and_right}
 use Rattle.std.proofs.lemmas.Bool.Decides.{nat_tests}
 use Rattle.std.proofs.lemmas.List.{append-nil}
 use Rattle.std.proofs.lemmas.Str.Parse.{IsNumeralModel, numerals_by_fold, tells_all_ascii_digits}
@@ -13,18 +13,18 @@ use Rattle.hm_tokens.specs.declared.token.Class.{Class}
 use Rattle.hm_tokens.specs.declared.token.Class.TheVariants as classes
 use Rattle.hm_tokens.specs.Tokens.{Tok, word, number, mark, is_in, is_digit, run, digit, value, skip, is_hex, spell, token_at}
 use Rattle.hm_tokens.specs.Marks.{is_mark}
-use Rattle.hm_tokens.specs.Lines.{AreTokensOf, IsLineOf, printed, spelled}
+use Rattle.hm_tokens.specs.Lines.{AreTokensOf, IsLineOf, gap, is_hash, is_word, printed, spelled, spelled_behind}
 
 -- the first byte, where there is one, is in no word
 abbrev pub Parts : List ℕ → Type 0
 Parts [] = Unit {0}
 Parts (b ∷ rest) = is_in classes.Word b ≡ false
 
-abbrev Stops : Class → List ℕ → Type 0
+abbrev pub Stops : Class → List ℕ → Type 0
 Stops class [] = Unit {0}
 Stops class (b ∷ rest) = is_in class b ≡ false
 
-run_front : (class : Class) (w rest : List ℕ) → list_all (is_in class) w ≡ true → Stops class rest → run class (w ++ rest) ≡ (w, rest)
+pub run_front : (class : Class) (w rest : List ℕ) → list_all (is_in class) w ≡ true → Stops class rest → run class (w ++ rest) ≡ (w, rest)
 unfolding run
 run_front class [] [] all stops = refl
 run_front class [] (b ∷ rest) all stops = rw stops refl
@@ -156,18 +156,25 @@ abbrev pub AreTokens : List Tok → Type 0
 AreTokens [] = Unit {0}
 AreTokens (t ∷ ts) = IsToken t × AreTokens ts
 
-follows : (t : Tok) (ts : List Tok) → apart t ts ≡ true → AreTokens ts → MayFollow t (spelled ts)
+mark_follows : (c : ℕ) (rest : List ℕ) → is_in classes.Word c ≡ false → Parts (gap true (mark c) ++ c ∷ rest)
+mark_follows c rest e =
+    elim (cases_Bool (eqb c 35)) [
+      | inl h ↦ rw h refl
+      | inr h ↦ rw h e
+    ]
+
+pub follows : (t : Tok) (ts : List Tok) → apart t ts ≡ true → AreTokens ts → MayFollow t (spelled_behind (is_word t) ts)
 follows (mark c) ts e are = tt
 follows (word w) [] e are = tt
 follows (number n) [] e are = tt
-follows (word w) (mark c ∷ ts) e are = are.0.2
+follows (word w) (mark c ∷ ts) e are = mark_follows c (spelled_behind false ts) are.0.2
 follows (number n) (mark c ∷ ts) e are = are.0.2
 follows (word w) (word v ∷ ts) e are = absurd cc
 follows (word w) (number v ∷ ts) e are = absurd cc
 follows (number w) (word v ∷ ts) e are = absurd cc
 follows (number w) (number v ∷ ts) e are = absurd cc
 
-space_follows : (t : Tok) (rest : List ℕ) → MayFollow t (32 ∷ rest)
+pub space_follows : (t : Tok) (rest : List ℕ) → MayFollow t (32 ∷ rest)
 space_follows (word w) rest = refl
 space_follows (number n) rest = refl
 space_follows (mark c) rest = tt
@@ -194,27 +201,27 @@ space_not text c w rest e other =
     let one : run classes.Space (c ∷ (w ++ rest)) ≡ ([], c ∷ (w ++ rest)) = rw other refl in
     rw e (ap (λ (p : List ℕ × List ℕ). p.1) one)
 
-some_not : (text : List ℕ) (c : ℕ) (w rest : List ℕ) → text ≡ c ∷ w → eqb (length (text ++ rest)) 0 ≡ false
-some_not text c w rest e = rw e (ne_eqb (length (c ∷ (w ++ rest))) 0 (λ is. omega arith))
-
 -- no token begins with a space
-no_space : (t : Tok) (rest : List ℕ) → IsToken t → skip (spell t ++ rest) ≡ spell t ++ rest
+pub no_space : (t : Tok) (rest : List ℕ) → IsToken t → skip (spell t ++ rest) ≡ spell t ++ rest
 no_space t rest is = let b = begins t is in space_not (spell t) b.0 b.1 rest b.2 b.3
 
-skip_spelled : (ts : List Tok) → AreTokens ts → skip (spelled ts) ≡ spelled ts
+pub skip_gap : (b : Bool) (t : Tok) (rest : List ℕ) → skip (gap b t ++ rest) ≡ skip rest
 unfolding run
-skip_spelled [] are = refl
-skip_spelled (t ∷ ts) are = no_space t (spelled ts) are.0
+skip_gap b t rest =
+    elim (cases_Bool (b && is_hash t)) [
+      | inl h ↦ rw h refl
+      | inr h ↦ rw h refl
+    ]
 
-some_spelled : (t : Tok) (rest : List ℕ) → IsToken t → eqb (length (spell t ++ rest)) 0 ≡ false
-some_spelled t rest is = let b = begins t is in some_not (spell t) b.0 b.1 rest b.2
-
-tokens_again : (ts : List Tok) → AreTokens ts → (t : Tok) → apart t ts ≡ true → AreTokensOf (spelled ts) ts
+tokens_again : (ts : List Tok) → AreTokens ts → (t : Tok) → apart t ts ≡ true → (b : Bool) → AreTokensOf (spelled_behind b ts) ts
 unfolding run
-tokens_again [] are t e = refl
-tokens_again (u ∷ ts) are t e =
+tokens_again [] are t e b = refl
+tokens_again (u ∷ ts) are t e b =
     let p = and_parts (is_mark_token t || is_mark_token u) (apart u ts) e in
-    (spelled ts, rw (skip_spelled (u ∷ ts) are) (token_front u (spelled ts) are.0 (follows u ts p.1 are.1)), tokens_again ts are.1 u p.1)
+    let rest = spelled_behind (is_word u) ts in
+    let front : token_at (skip (gap b u ++ (spell u ++ rest))) ≡ Some (u, rest) =
+    ap token_at (skip_gap b u (spell u ++ rest) ∙ no_space u rest are.0) ∙ token_front u rest are.0 (follows u ts p.1 are.1) in
+    (rest, front, tokens_again ts are.1 u p.1 (is_word u))
 
 space_skipped : (ts : List Tok) (us : List Tok) → AreTokensOf (spelled ts) us → AreTokensOf (32 ∷ spelled ts) us
 unfolding run
@@ -226,7 +233,7 @@ abbrev pub are_apart : List Tok → Bool
 are_apart [] = true
 are_apart (t ∷ ts) = apart t ts
 
-from_mark : (ts : List Tok) → are_apart ts ≡ true → apart (mark 44) ts ≡ true
+pub from_mark : (ts : List Tok) → are_apart ts ≡ true → apart (mark 44) ts ≡ true
 from_mark [] e = refl
 from_mark (t ∷ ts) e = e
 
@@ -241,7 +248,7 @@ bare t is =
     let s : skip (spell t) ≡ spell t = ap skip (sym n) ∙ no_space t [] is ∙ n in
     rw s (ap token_at (sym n) ∙ token_front t [] is (ends_after t))
 
-or_true : (x : Bool) → (x || true) ≡ true
+pub or_true : (x : Bool) → (x || true) ≡ true
 or_true true = refl
 or_true false = refl
 
@@ -251,4 +258,4 @@ printed_again [] are t is e = ([], bare t is, refl, refl)
 printed_again (u ∷ ts) are t is e =
     let gap : token_at (skip (spell t ++ 32 ∷ spelled (u ∷ ts))) ≡ Some (t, 32 ∷ spelled (u ∷ ts)) =
     rw (no_space t (32 ∷ spelled (u ∷ ts)) is) (token_front t (32 ∷ spelled (u ∷ ts)) is (space_follows t (spelled (u ∷ ts)))) in
-    (32 ∷ spelled (u ∷ ts), gap, or_true (eqb (length (32 ∷ spelled (u ∷ ts))) 0), space_skipped (u ∷ ts) (u ∷ ts) (tokens_again (u ∷ ts) are (mark 44) (from_mark (u ∷ ts) e)))
+    (32 ∷ spelled (u ∷ ts), gap, or_true (eqb (length (32 ∷ spelled (u ∷ ts))) 0), space_skipped (u ∷ ts) (u ∷ ts) (tokens_again (u ∷ ts) are (mark 44) (from_mark (u ∷ ts) e) false))

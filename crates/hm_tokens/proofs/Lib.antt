@@ -4,3 +4,6 @@ pub mod Found
 pub mod Again
 pub mod Pushed
 pub mod Pieces
+pub mod Addresses
+pub mod Ranges
+pub mod Spaces

@@ -4,3 +4,4 @@ pub mod Lines
 pub mod Names
 pub mod Steps
 pub mod Texts
+pub mod Ranges

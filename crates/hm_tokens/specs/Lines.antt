@@ -1,6 +1,7 @@
 -- The tokens of an instruction's text.
-use Rattle.std.specs.Prelude.{◌≡◌, ℕ, Bool, true, List, [], ◌∷◌, ◌++◌, length, slice_index, Some, ◌==◌, ◌||◌}
-use Rattle.hm_tokens.specs.Tokens.{Tok, skip, spell, token_at}
+use Rattle.std.specs.Prelude.{◌≡◌, ℕ, Bool, true, false, List, [], ◌∷◌, ◌++◌, length, slice_index, Some, ◌==◌, ◌&&◌, ◌||◌, if◌then◌else◌}
+use Rattle.hm_text_base.specs.Texts.{hex8}
+use Rattle.hm_tokens.specs.Tokens.{Tok, word, number, mark, skip, spell, token_at}
 
 -- READING
 -- the tokens of a text, each the longest there; spaces may stand between them
@@ -18,13 +19,40 @@ IsLineOf text [] = ⊥
 IsLineOf text (t ∷ ts) = (rest : List ℕ) × (token_at (skip text) ≡ Some (t, rest)) × (is_gap rest ≡ true) × AreTokensOf rest ts
 
 -- PRINTING
--- tokens with nothing between them
+abbrev pub is_word : Tok → Bool
+is_word (word w) = true
+is_word (number n) = false
+is_word (mark c) = false
+
+abbrev pub is_hash : Tok → Bool
+is_hash (word w) = false
+is_hash (number n) = false
+is_hash (mark c) = c == 35
+
+-- what stands before a token: between a word and `#`, as in `lsl #2`, a space, and else nothing
+abbrev pub gap : Bool → Tok → List ℕ
+gap after_word t = if after_word && is_hash t then 32 ∷ [] else []
+
+abbrev pub spelled_behind : Bool → List Tok → List ℕ
+spelled_behind after_word [] = []
+spelled_behind after_word (t ∷ ts) = gap after_word t ++ (spell t ++ spelled_behind (is_word t) ts)
+
+-- tokens one behind another
 abbrev pub spelled : List Tok → List ℕ
-spelled [] = []
-spelled (t ∷ ts) = spell t ++ spelled ts
+spelled ts = spelled_behind false ts
 
 -- the mnemonic, and behind a space the operands
 abbrev pub printed : List Tok → List ℕ
 printed [] = []
 printed (t ∷ []) = spell t
 printed (t ∷ u ∷ ts) = spell t ++ 32 ∷ spelled (u ∷ ts)
+
+-- an address: `0x` and eight digits
+abbrev pub address : ℕ → List ℕ
+address a = 48 ∷ 120 ∷ hex8 a
+
+-- the text with an address for its last operand, behind a space where it has no other
+abbrev pub printed_at : List Tok → ℕ → List ℕ
+printed_at [] a = []
+printed_at (t ∷ []) a = spell t ++ 32 ∷ address a
+printed_at (t ∷ u ∷ ts) a = printed (t ∷ u ∷ ts) ++ address a

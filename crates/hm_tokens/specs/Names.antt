@@ -1,5 +1,5 @@
 -- The names of registers and conditions, in the order of their numbers.
-use Rattle.std.specs.Prelude.{ℕ, ◌+◌, List, [], ◌∷◌, get_or, codes, Option, Some, None, bytes_eq, if◌then◌else◌}
+use Rattle.std.specs.Prelude.{ℕ, ◌+◌, Bool, true, false, List, [], ◌∷◌, get_or, codes, Option, Some, None, bytes_eq, ◌==◌, nat_le, ◌&&◌, ◌||◌, not, if◌then◌else◌}
 
 abbrev pub register_names : List (List ℕ)
 register_names =
@@ -37,3 +37,39 @@ vector_in name = number_of 0 name vector_names
 
 abbrev pub condition_in : List ℕ → Option ℕ
 condition_in name = number_of 0 name condition_names
+
+-- LABELS
+abbrev pub is_letter : ℕ → Bool
+is_letter c = (nat_le 97 c && nat_le c 122) || (c == 95)
+
+-- letters, digits and `_`
+abbrev pub are_name_bytes : List ℕ → Bool
+are_name_bytes [] = true
+are_name_bytes (c ∷ cs) = (is_letter c || (nat_le 48 c && nat_le c 57)) && are_name_bytes cs
+
+-- begins with a letter or `_`
+abbrev pub is_name : List ℕ → Bool
+is_name [] = false
+is_name (c ∷ cs) = is_letter c && are_name_bytes cs
+
+abbrev pub is_number_given : Option ℕ → Bool
+is_number_given (Some n) = true
+is_number_given None = false
+
+-- the halves of vector registers, as lists of `vpush` and `vpop` have them
+abbrev pub is_half : List ℕ → Bool
+is_half name =
+    bytes_eq name (codes "d0") || bytes_eq name (codes "d1") || bytes_eq name (codes "d2") || bytes_eq name (codes "d3")
+    || bytes_eq name (codes "d4") || bytes_eq name (codes "d5") || bytes_eq name (codes "d6") || bytes_eq name (codes "d7")
+    || bytes_eq name (codes "d8") || bytes_eq name (codes "d9") || bytes_eq name (codes "d10") || bytes_eq name (codes "d11")
+    || bytes_eq name (codes "d12") || bytes_eq name (codes "d13") || bytes_eq name (codes "d14") || bytes_eq name (codes "d15")
+
+-- names of registers and conditions, which no label has
+abbrev pub is_reserved : List ℕ → Bool
+is_reserved name =
+    is_number_given (register_in name) || is_number_given (vector_in name) || is_number_given (condition_in name) || is_half name
+    || bytes_eq name (codes "al") || bytes_eq name (codes "zr") || bytes_eq name (codes "apsr")
+
+-- a name that a label may have
+abbrev pub is_label_name : List ℕ → Bool
+is_label_name name = is_name name && not (is_reserved name)

@@ -2,18 +2,21 @@
 #![tactic(auto)]
 
 mod line;
+mod lists;
 mod marks;
 mod names;
 mod text;
 mod token;
 
 pub use line::{Tokens, read_line};
+pub use lists::single_registers;
 pub use marks::Mark;
 pub use names::{
-    condition_name, read_condition, read_register, read_vector, register_name, vector_name,
+    condition_name, is_label_name, read_condition, read_register, read_vector, register_name,
+    vector_name,
 };
 pub use text::{InstrText, Part};
-pub use token::Token;
+pub use token::{Token, skip, token_at};
 
 #[cfg(test)]
 mod tests;

@@ -1,7 +1,7 @@
 //! The names of registers and conditions.
 
 ghost use Rattle.std.specs.Prelude.{◌≡◌, ◌<◌, ◌≤◌, length, IfSome};
-ghost use Rattle.hm_tokens.specs.Names.{condition_in, condition_name, register_in, register_name, vector_in, vector_name};
+ghost use Rattle.hm_tokens.specs.Names.{are_name_bytes, condition_in, condition_name, is_half, is_label_name, is_letter, is_name, is_reserved, register_in, register_name, vector_in, vector_name};
 
 /// The name of a core register: `r0` to `r12`, `sp`, `lr`, `pc`.
 pub fn register_name(n: u32) -> &'static str
@@ -137,4 +137,83 @@ pub fn read_condition(name: &[u8]) -> Option<u32>
         b"le" => Some(13),
         _ => None,
     }
+}
+
+/// Whether a byte is a letter or `_`.
+fn is_letter(c: u8) -> bool
+    ensures { result ≡ is_letter c }
+{
+    matches!(c, b'a'..=b'z' | b'_')
+}
+
+/// Whether bytes are letters, digits and `_`.
+fn are_name_bytes(bytes: &[u8]) -> bool
+    ensures { result ≡ are_name_bytes bytes.now }
+{
+    match bytes {
+        [] => true,
+        [c, rest @ ..] => (is_letter(*c) || matches!(*c, b'0'..=b'9')) && are_name_bytes(rest),
+    }
+}
+
+/// Whether a word is a name: it begins with a letter or `_` and goes on with these and digits.
+fn is_name(word: &[u8]) -> bool
+    ensures { result ≡ is_name word.now }
+{
+    match word {
+        [] => false,
+        [c, rest @ ..] => is_letter(*c) && are_name_bytes(rest),
+    }
+}
+
+/// Whether a name is that of a half of a vector register, as lists of `vpush` and `vpop` have them.
+fn is_half(name: &[u8]) -> bool
+    ensures { result ≡ is_half name.now }
+{
+    matches!(
+        name,
+        b"d0"
+            | b"d1"
+            | b"d2"
+            | b"d3"
+            | b"d4"
+            | b"d5"
+            | b"d6"
+            | b"d7"
+            | b"d8"
+            | b"d9"
+            | b"d10"
+            | b"d11"
+            | b"d12"
+            | b"d13"
+            | b"d14"
+            | b"d15"
+    )
+}
+
+/// Whether a name is that of a register or a condition.
+fn is_reserved(name: &[u8]) -> bool
+    ensures { result ≡ is_reserved name.now }
+{
+    if read_register(name).is_some() {
+        return true;
+    }
+    if read_vector(name).is_some() {
+        return true;
+    }
+    if read_condition(name).is_some() {
+        return true;
+    }
+    if is_half(name) {
+        return true;
+    }
+    matches!(name, b"al" | b"zr" | b"apsr")
+}
+
+/// Whether a label may have this name: a letter or `_`, then letters, digits and `_`, and not the name of a register (r0 to
+/// r12, sp, lr, pc, q0 to q7, d0 to d15), `zr`, `apsr` or a condition, `al` among them.
+pub fn is_label_name(name: &[u8]) -> bool
+    ensures value { result ≡ is_label_name name.now }
+{
+    is_name(name) && !is_reserved(name)
 }

@@ -145,3 +145,66 @@ fn compares_texts(rt: HostRuntime) {
         assert!(rt; line.is_some_and(|tokens| !text.has(tokens.as_slice())));
     }
 }
+
+/// Whether a text has the tokens of another once single registers stand in place of its ranges.
+fn is_single(text: &[u8], single: &[u8]) -> bool {
+    let Some(tokens) = read_line(text) else {
+        return false;
+    };
+    let Some(registers) = single_registers(tokens.as_slice()) else {
+        return false;
+    };
+    reads(single, registers.as_slice())
+}
+
+#[test]
+fn puts_single_registers_in_place_of_ranges(rt: HostRuntime) {
+    assert!(rt; is_single(b"push {r0-r3,lr}", b"push {r0,r1,r2,r3,lr}"));
+    assert!(rt; is_single(b"ldm r8!,{r0-r2,r4-r7}", b"ldm r8!,{r0,r1,r2,r4,r5,r6,r7}"));
+    assert!(rt;
+        is_single(
+            b"pop {r0-pc}",
+            b"pop {r0,r1,r2,r3,r4,r5,r6,r7,r8,r9,r10,r11,r12,sp,lr,pc}"
+        )
+    );
+    // no range, or not in braces
+    assert!(rt; is_single(b"push {r3-r3}", b"push {r3-r3}"));
+    assert!(rt; is_single(b"push {r3-r0}", b"push {r3-r0}"));
+    assert!(rt; is_single(b"sub r0-r2", b"sub r0-r2"));
+    assert!(rt; is_single(b"vldrw.u32 q0,[r0,#-16]!", b"vldrw.u32 q0,[r0,#-16]!"));
+}
+
+#[test]
+fn names_labels(rt: HostRuntime) {
+    let names: [&[u8]; 8] = [
+        b"loop",
+        b"_start2",
+        b"r13",
+        b"q8",
+        b"d16",
+        b"s0",
+        b"msp",
+        b"apsr_nzcv",
+    ];
+    for name in names {
+        assert!(rt; is_label_name(name));
+    }
+    let others: [&[u8]; 16] = [
+        b"", b"2nd", b".word", b"r0", b"r12", b"sp", b"lr", b"pc", b"q0", b"q7", b"d0", b"d15",
+        b"zr", b"apsr", b"eq", b"al",
+    ];
+    for name in others {
+        assert!(rt; !is_label_name(name));
+    }
+}
+
+#[test]
+fn prints_addresses(rt: HostRuntime) {
+    let text = InstrText {
+        stem: "b",
+        letters: "ne",
+        suffix: "",
+        operands: ArrayVec::new(),
+    };
+    assert_eq!(rt; text.print_at(300).as_str(), "bne 0x0000012c");
+}

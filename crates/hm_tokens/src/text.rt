@@ -1,8 +1,9 @@
 //! The text of an instruction, as what it is printed from.
 
-ghost use Rattle.std.specs.Prelude.{◌≡◌, ◌≤◌, ◌+◌, ◌++◌, ◌↔◌, IsTrue, length, map, decimal, option_map};
+ghost use Rattle.std.specs.Prelude.{◌≡◌, ◌<◌, ◌≤◌, ◌+◌, ◌++◌, ◌∷◌, [], ◌↔◌, IsTrue, length, map, decimal, option_map};
 ghost use Rattle.arrayvec.specs.ArrayString.{array_string_len};
-ghost use Rattle.hm_tokens.specs.Lines.{printed, spelled};
+ghost use Rattle.hm_text_base.specs.Texts.{hex_digit};
+ghost use Rattle.hm_tokens.specs.Lines.{address, gap, is_hash, is_word, printed, printed_at, spelled};
 ghost use Rattle.hm_tokens.specs.Texts.{behind, is_pieces, mnemonic_of, part_token, text_tokens};
 ghost use Rattle.hm_tokens.specs.Tokens.{spell, tok, word};
 
@@ -95,14 +96,116 @@ fn push_part(out: &mut ArrayString<96>, part: Part)
     }
 }
 
-/// Adds parts with nothing between them.
+/// Whether a part is a word.
+fn is_word(part: Part) -> bool
+    ensures { result ≡ is_word (part_token part) }
+{
+    match part {
+        Part::Word(_) => true,
+        Part::Number(_) | Part::Mark(_) => false,
+    }
+}
+
+/// Whether a part is `#`.
+fn is_hash(part: Part) -> bool
+    ensures { result ≡ is_hash (part_token part) }
+{
+    match part {
+        Part::Mark(Mark::Hash) => true,
+        Part::Mark(_) | Part::Word(_) | Part::Number(_) => false,
+    }
+}
+
+/// What stands before a part: between a word and `#` a space.
+fn gap(after_word: bool, part: Part) -> &'static str
+    ensures { result.now ≡ gap after_word (part_token part) }
+{
+    if after_word && is_hash(part) { " " } else { "" }
+}
+
+/// Adds what stands before a part.
+fn push_gap(out: &mut ArrayString<96>, after_word: bool, part: Part)
+    requires room { array_string_len out.old + length (gap after_word (part_token part)) ≤ 96 }
+    ensures { out.new.bytes ≡ out.old.bytes ++ gap after_word (part_token part) }
+{
+    out.push_str(gap(after_word, part));
+}
+
+/// Adds parts one behind another.
 fn push_parts(out: &mut ArrayString<96>, parts: &[Part])
     requires room { array_string_len out.old + length (spelled (map part_token parts.now)) ≤ 96 }
     ensures { out.new.bytes ≡ out.old.bytes ++ spelled (map part_token parts.now) }
 {
+    let mut after_word = false;
     for part in parts {
+        push_gap(out, after_word, *part);
         push_part(out, *part);
+        after_word = is_word(*part);
     }
+}
+
+/// Adds a space.
+fn push_space(out: &mut ArrayString<96>)
+    requires room { array_string_len out.old + 1 ≤ 96 }
+    ensures bytes { out.new.bytes ≡ out.old.bytes ++ 32 ∷ [] }
+    ensures len { array_string_len out.new ≡ array_string_len out.old + 1 }
+{
+    let space = " ";
+    out.push_str(space);
+}
+
+/// A hexadecimal digit, of a number below 16.
+fn hex_digit(d: u32) -> &'static str
+    requires { d < 16 }
+    ensures { result.now ≡ hex_digit d ∷ [] }
+{
+    match d {
+        0 => "0",
+        1 => "1",
+        2 => "2",
+        3 => "3",
+        4 => "4",
+        5 => "5",
+        6 => "6",
+        7 => "7",
+        8 => "8",
+        9 => "9",
+        10 => "a",
+        11 => "b",
+        12 => "c",
+        13 => "d",
+        14 => "e",
+        _ => "f",
+    }
+}
+
+/// Adds four hexadecimal digits.
+fn push_digits(out: &mut ArrayString<96>, a: u32, b: u32, c: u32, d: u32)
+    requires room { array_string_len out.old + 4 ≤ 96 }
+    requires below { (a < 16) × (b < 16) × (c < 16) × (d < 16) }
+    ensures bytes { out.new.bytes ≡ out.old.bytes ++ hex_digit a ∷ hex_digit b ∷ hex_digit c ∷ hex_digit d ∷ [] }
+    ensures len { array_string_len out.new ≡ array_string_len out.old + 4 }
+{
+    out.push_str(hex_digit(a));
+    out.push_str(hex_digit(b));
+    out.push_str(hex_digit(c));
+    out.push_str(hex_digit(d));
+}
+
+/// Adds an address: `0x` and eight digits.
+fn push_address(out: &mut ArrayString<96>, a: u32)
+    requires room { array_string_len out.old + 10 ≤ 96 }
+    ensures { out.new.bytes ≡ out.old.bytes ++ address a }
+{
+    out.push_str("0x");
+    push_digits(
+        out,
+        a / 0x1000_0000 % 16,
+        a / 0x100_0000 % 16,
+        a / 0x10_0000 % 16,
+        a / 0x1_0000 % 16,
+    );
+    push_digits(out, a / 0x1000 % 16, a / 0x100 % 16, a / 0x10 % 16, a % 16);
 }
 
 impl InstrText {
@@ -155,6 +258,21 @@ impl InstrText {
         }
         out.push_str(" ");
         push_parts(&mut out, self.operands.as_slice());
+        out
+    }
+    /// What it is printed as with an address for its last operand, in hexadecimal: behind a space where it has no other.
+    #[tactic(auto, using(crate::proofs::Spaces::alone_at, crate::proofs::Spaces::many_at, crate::proofs::Spaces::alone_room, crate::proofs::Spaces::many_room))]
+    pub fn print_at(&self, address: u32) -> ArrayString<96>
+        requires { length (printed_at (text_tokens self.now) address) ≤ 96 }
+        ensures { result.bytes ≡ printed_at (text_tokens self.now) address }
+    {
+        let mut out = self.print();
+        if self.operands.is_empty() {
+            push_space(&mut out);
+            push_address(&mut out, address);
+            return out;
+        }
+        push_address(&mut out, address);
         out
     }
 }

@@ -1,0 +1,65 @@
+-- Tokens without `-` have no ranges.
+use Rattle.std.proofs.Common.{◌≡◌, ℕ, zero, suc, ◌+◌, ◌-◌, ◌<◌, Bool, true, false, List, [], ◌∷◌, ◌++◌, length, refl, sym, subst, ap, ◌∙◌, append_assoc, arith}
+use Rattle.std.specs.Prelude.{IfSome, Option, Some, None, ◌&&◌, not}
+use Rattle.std.specs.List.{list_all}
+use Rattle.std.proofs.lemmas.Bool.{and_parts}
+use Rattle.hm_tokens.specs.Names.{register_name}
+use Rattle.hm_tokens.specs.Tokens.{Tok, word, mark}
+use Rattle.hm_tokens.specs.Ranges.{is_inside, is_rising, is_the_mark, last_register, normal, register_of, rising, singles}
+
+abbrev pub has_no_ranges : List Tok → Bool
+has_no_ranges ts = list_all (λ t. not (is_the_mark 45 t)) ts
+
+not_true : (b : Bool) → not b ≡ true → b ≡ false
+not_true true e = absurd cc
+not_true false e = refl
+
+no_last : (ts : List Tok) → has_no_ranges ts ≡ true → last_register ts ≡ None
+no_last [] e = refl
+no_last (t ∷ []) e = refl
+no_last (t ∷ u ∷ ts) e =
+    let p = and_parts (not (is_the_mark 45 t)) (has_no_ranges (u ∷ ts)) e in
+    rw (not_true (is_the_mark 45 t) p.0) refl
+
+no_rising : (first : Option ℕ) → is_rising first None ≡ false
+no_rising (Some k) = refl
+no_rising None = refl
+
+and_false : (b : Bool) → (b && false) ≡ false
+and_false true = refl
+and_false false = refl
+
+pub singles_same : (ts : List Tok) (inside : Bool) → has_no_ranges ts ≡ true → singles 0 inside ts ≡ ts
+unfolding singles
+singles_same [] inside e = refl
+singles_same (t ∷ ts) inside e =
+    let p = and_parts (not (is_the_mark 45 t)) (has_no_ranges ts) e in
+    rw (no_last ts p.1, no_rising (register_of t), and_false inside, singles_same ts (is_inside inside t) p.1) refl
+
+pub normal_same : (ts : List Tok) → has_no_ranges ts ≡ true → normal ts ≡ ts
+normal_same ts e = singles_same ts false e
+
+-- one register more in front of a range
+more_rising : (k n : ℕ) → 0 < n → rising k n ≡ word (register_name k) ∷ mark 44 ∷ rising (k + 1) (n - 1)
+unfolding rising
+more_rising k zero lt = absurd (omega arith)
+more_rising k (suc n) lt = let e : suc n - 1 ≡ n = omega arith in rw e refl
+
+pub rising_more : (old a b c : List Tok) (k n : ℕ) → 0 < n → a ≡ old ++ word (register_name k) ∷ [] → b ≡ a ++ mark 44 ∷ [] → c ≡ b ++ rising (k + 1) (n - 1) → c ≡ old ++ rising k n
+rising_more old a b c k n lt ea eb ec =
+    let tail = rising (k + 1) (n - 1) in
+    let one : b ++ tail ≡ a ++ (mark 44 ∷ tail) = ap (λ (x : List Tok). x ++ tail) eb ∙ append_assoc a (mark 44 ∷ []) tail in
+    let two : a ++ (mark 44 ∷ tail) ≡ old ++ (word (register_name k) ∷ mark 44 ∷ tail) = ap (λ (x : List Tok). x ++ (mark 44 ∷ tail)) ea ∙ append_assoc old (word (register_name k) ∷ []) (mark 44 ∷ tail) in
+    ec ∙ one ∙ two ∙ ap (λ (x : List Tok). old ++ x) (sym (more_rising k n lt))
+
+pub rising_length : (k n : ℕ) → 0 < n → length (rising k n) ≡ 2 + length (rising (k + 1) (n - 1))
+rising_length k n lt = let e = ap length (more_rising k n lt) in omega (arith, e)
+
+pub rising_pushed : {A : Type 0} (r : Option A) (old a b c : List Tok) (w : List ℕ) (k n : ℕ) → 0 < n → w ≡ register_name k → a ≡ old ++ word w ∷ [] → b ≡ a ++ mark 44 ∷ []
+    → IfSome r (λ x. c ≡ b ++ rising (k + 1) (n - 1)) → IfSome r (λ x. c ≡ old ++ rising k n)
+rising_pushed (Some x) old a b c w k n lt name ea eb ec = rising_more old a b c k n lt (subst (λ (v : List ℕ). a ≡ old ++ word v ∷ []) name ea) eb ec
+rising_pushed None old a b c w k n lt name ea eb ec = tt
+
+pub rising_longer : {A : Type 0} (r : Option A) (old a b c k n : ℕ) → 0 < n → a ≡ old + 1 → b ≡ a + 1 → IfSome r (λ x. c ≡ b + length (rising (k + 1) (n - 1))) → IfSome r (λ x. c ≡ old + length (rising k n))
+rising_longer (Some x) old a b c k n lt ea eb ec = let e = rising_length k n lt in omega (arith, e, ea, eb, ec)
+rising_longer None old a b c k n lt ea eb ec = tt
