@@ -171,7 +171,7 @@ fn one_name(base: u32) -> Option<OneName>
 }
 
 /// The code of the operation of the row V13 on elements without its fields.
-fn base_of_one(x: OneName) -> u32
+pub fn base_of_one(x: OneName) -> u32
     ensures value { result ≡ one_base x }
 {
     match x {
@@ -254,7 +254,7 @@ fn reverse_name(base: u32) -> Option<ReverseName>
 }
 
 /// The code of the operation of the row V14 without its fields.
-fn base_of_reverse(x: ReverseName) -> u32
+pub fn base_of_reverse(x: ReverseName) -> u32
     ensures value { result ≡ reverse_base x }
 {
     match x {
@@ -356,7 +356,7 @@ fn narrow_name(base: u32) -> Option<NarrowName>
 }
 
 /// The code of the operation of the row V16 without its fields.
-fn base_of_narrow(x: NarrowName) -> u32
+pub fn base_of_narrow(x: NarrowName) -> u32
     ensures value { result ≡ narrow_base x }
 {
     match x {

@@ -42,7 +42,7 @@ fn add_name(base: u32) -> Option<AddName>
 }
 
 /// The code of the operation of the row V1 without its fields.
-fn base_of_add(x: AddName) -> u32
+pub fn base_of_add(x: AddName) -> u32
     ensures value { result ≡ add_base x }
 {
     match x {
@@ -92,7 +92,7 @@ fn bitwise_name(base: u32) -> Option<BitwiseName>
 }
 
 /// The code of the operation of the row V2 without its fields.
-fn base_of_bitwise(x: BitwiseName) -> u32
+pub fn base_of_bitwise(x: BitwiseName) -> u32
     ensures value { result ≡ bitwise_base x }
 {
     match x {
@@ -142,7 +142,7 @@ fn signed_name(base: u32) -> Option<SignedName>
 }
 
 /// The code of the operation of the row V3 without its fields.
-fn base_of_signed(x: SignedName) -> u32
+pub fn base_of_signed(x: SignedName) -> u32
     ensures value { result ≡ signed_base x }
 {
     match x {
@@ -207,7 +207,7 @@ fn vector_shift_name(base: u32) -> Option<VectorShiftName>
 }
 
 /// The code of the operation of the row V4 without its fields.
-fn base_of_vector_shift(x: VectorShiftName) -> u32
+pub fn base_of_vector_shift(x: VectorShiftName) -> u32
     ensures value { result ≡ vector_shift_base x }
 {
     match x {
@@ -266,7 +266,7 @@ fn doubling_name(base: u32) -> Option<DoublingName>
 }
 
 /// The code of the operation of the row V5 without its fields.
-fn base_of_doubling(x: DoublingName) -> u32
+pub fn base_of_doubling(x: DoublingName) -> u32
     ensures value { result ≡ doubling_base x }
 {
     match x {
@@ -358,7 +358,7 @@ fn high_name(base: u32) -> Option<HighName>
 }
 
 /// The code of the operation of the row V7 without its fields.
-fn base_of_high(x: HighName) -> u32
+pub fn base_of_high(x: HighName) -> u32
     ensures value { result ≡ high_base x }
 {
     match x {
@@ -417,7 +417,7 @@ fn carry_name(base: u32) -> Option<CarryName>
 }
 
 /// The code of the operation of the row V8 without its fields.
-fn base_of_carry(x: CarryName) -> u32
+pub fn base_of_carry(x: CarryName) -> u32
     ensures value { result ≡ carry_base x }
 {
     match x {
@@ -460,7 +460,7 @@ fn turn_name(base: u32) -> Option<TurnName>
 }
 
 /// The code of the operation of the row V9 without its fields.
-fn base_of_turn(x: TurnName) -> u32
+pub fn base_of_turn(x: TurnName) -> u32
     ensures value { result ≡ turn_base x }
 {
     match x {

@@ -40,7 +40,7 @@ fn scalar_name(base: u32) -> Option<ScalarName>
 }
 
 /// The code of the operation of the row V10 without its fields.
-fn base_of_scalar(x: ScalarName) -> u32
+pub fn base_of_scalar(x: ScalarName) -> u32
     ensures value { result ≡ scalar_base x }
 {
     match x {
@@ -166,7 +166,7 @@ fn dup_size(base: u32) -> Option<Element>
 }
 
 /// The code of the elements of the row V18 without its fields.
-fn base_of_dup(x: Element) -> u32
+pub fn base_of_dup(x: Element) -> u32
     ensures value { result ≡ dup_base x }
 {
     match x {
@@ -207,7 +207,7 @@ fn offsets_name(base: u32) -> Option<OffsetsName>
 }
 
 /// The code of the direction of the row V19 without its fields.
-fn base_of_offsets(x: OffsetsName) -> u32
+pub fn base_of_offsets(x: OffsetsName) -> u32
     ensures value { result ≡ offsets_base x }
 {
     match x {

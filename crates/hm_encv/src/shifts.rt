@@ -27,7 +27,7 @@ fn shift_name(base: u32) -> Option<ConstantShiftName>
 }
 
 /// The code of the operation of the row V11 without its fields.
-fn base_of_shift(x: ConstantShiftName) -> u32
+pub fn base_of_shift(x: ConstantShiftName) -> u32
     ensures value { result ≡ constant_shift_base x }
 {
     match x {

@@ -62,7 +62,7 @@ fn dot_size(base: u32) -> Option<Element>
 }
 
 /// The code of the elements of `vmladav` without its fields.
-fn base_of_dot(x: Element) -> u32
+pub fn base_of_dot(x: Element) -> u32
     ensures value { result ≡ dot_base x }
 {
     match x {
@@ -234,7 +234,7 @@ fn extreme_name(base: u32) -> Option<ExtremeName>
 }
 
 /// The code of the operation of the row V23 without its fields.
-fn base_of_extreme(x: ExtremeName) -> u32
+pub fn base_of_extreme(x: ExtremeName) -> u32
     ensures value { result ≡ extreme_base x }
 {
     match x {
