@@ -1,0 +1,5 @@
+pub mod Operands
+pub mod Lines
+pub mod Fronts
+pub mod LabelLaws
+pub mod Labelled

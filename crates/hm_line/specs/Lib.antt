@@ -1,0 +1,6 @@
+pub mod Kinds
+pub mod Forms
+pub mod Steps
+pub mod Texts
+pub mod Sources
+pub mod Labels

@@ -1,0 +1,59 @@
+-- A line of a source: what is its label, and what its instruction or directive.
+use Rattle.std.specs.Prelude.{◌≡◌, ℕ, Bool, true, false, List, Option, Some, None, option_map, option_and_then, not, ◌==◌, if◌then◌else◌}
+use Rattle.hm_text_base.specs.Spans.{span}
+use Rattle.hm_tokens.specs.Tokens.{Tok, word, number, mark, skip, token_at}
+use Rattle.hm_line.specs.declared.form.Form.TheVariants as forms
+use Rattle.hm_tokens.specs.Names.{is_label_name}
+use Rattle.hm_line.specs.Texts.{IsOfForm, IsRefused, column}
+
+-- a line up to its comment, which begins with the first `@`
+abbrev pub before_comment : List ℕ → List ℕ
+before_comment line = (span 64 line).0
+
+-- a word at the front, and what stands behind it
+abbrev pub word_with : Tok → List ℕ → Option (List ℕ × List ℕ)
+word_with (word w) rest = Some (w, rest)
+word_with (number n) rest = None
+word_with (mark c) rest = None
+
+abbrev pub word_at : List ℕ → Option (List ℕ × List ℕ)
+word_at text = option_and_then (λ x. word_with x.0 x.1) (token_at (skip text))
+
+-- what stands behind a `:` at the front
+abbrev pub colon_with : Tok → List ℕ → Option (List ℕ)
+colon_with (word w) rest = None
+colon_with (number n) rest = None
+colon_with (mark c) rest = if c == 58 then Some rest else None
+
+abbrev pub behind_colon : List ℕ → Option (List ℕ)
+behind_colon text = option_and_then (λ x. colon_with x.0 x.1) (token_at (skip text))
+
+-- the first word and what stands behind its `:`, where `:` follows it
+abbrev pub label_of : List ℕ → Option (List ℕ × List ℕ)
+label_of text = option_and_then (λ x. option_map (λ rest. (x.0, rest)) (behind_colon x.1)) (word_at text)
+
+-- that word is no name for a label
+abbrev pub is_bad : Option (List ℕ × List ℕ) → Bool
+is_bad None = false
+is_bad (Some x) = not (is_label_name x.0)
+
+abbrev pub has_bad_label : List ℕ → Bool
+has_bad_label text = is_bad (label_of text)
+
+-- what stands behind the label, or the whole text where it has none
+abbrev pub behind_label : List ℕ → Option (List ℕ × List ℕ) → List ℕ
+behind_label text None = text
+behind_label text (Some x) = x.1
+
+-- the instruction or directive, from its first word on
+abbrev pub instruction_of : List ℕ → List ℕ
+instruction_of text = skip (behind_label text (label_of text))
+
+abbrev pub IsLine : List ℕ → Type 0
+IsLine line = (has_bad_label (before_comment line) ≡ false) × IsOfForm forms.Line (before_comment line)
+
+-- a word before `:` that is no name for a label is refused at that word, before all else
+abbrev pub IsLineRefused : List ℕ → ℕ → Type 0
+IsLineRefused line c =
+    (has_bad_label (before_comment line) ≡ true → c ≡ column (before_comment line) (skip (before_comment line)))
+    × (has_bad_label (before_comment line) ≡ false → IsRefused forms.Line (before_comment line) c)

@@ -1,0 +1,114 @@
+-- The form read token by token, as the code does it.
+use Rattle.std.specs.Prelude.{Bool, true, false, Option, Some, None, option_map, if◌then◌else◌}
+use Rattle.hm_tokens.specs.declared.marks.Mark.TheVariants.{Colon, Comma, Hash, OpenBracket, CloseBracket, OpenBrace, CloseBrace, Bang, Minus, Plus}
+use Rattle.hm_line.specs.declared.form.Form.{Form}
+use Rattle.hm_line.specs.declared.form.Form.TheVariants as forms
+use Rattle.hm_line.specs.declared.form.Depth.{Depth}
+use Rattle.hm_line.specs.declared.form.Depth.TheVariants.{Outside, Inside}
+use Rattle.hm_line.specs.declared.form.Operands.{Operands}
+use Rattle.hm_line.specs.declared.form.Operands.TheVariants as ops
+use Rattle.hm_line.specs.declared.form.State.{State}
+use Rattle.hm_line.specs.declared.form.State.TheVariants as states
+use Rattle.hm_line.specs.Kinds.{Kind, word, number, mark}
+
+-- OPERANDS
+abbrev pub first_operand : Depth → Kind → Option Operands
+first_operand d word = Some (ops.Word d)
+first_operand d number = Some (ops.Done d)
+first_operand d (mark Hash) = Some (ops.Hash d)
+first_operand d (mark Minus) = Some (ops.Number d)
+first_operand Outside (mark OpenBracket) = Some (ops.Operand Inside)
+first_operand Outside (mark OpenBrace) = Some ops.List
+first_operand d k = None
+
+abbrev pub behind_operand : Depth → Kind → Option Operands
+behind_operand d (mark Comma) = Some (ops.Operand d)
+behind_operand Inside (mark CloseBracket) = Some ops.Address
+behind_operand d k = None
+
+abbrev pub behind_word : Depth → Kind → Option Operands
+behind_word d (mark Bang) = Some (ops.Done d)
+behind_word d (mark Hash) = Some (ops.Number d)
+behind_word d (mark Plus) = Some (ops.Number d)
+behind_word d (mark OpenBracket) = Some (ops.LaneNumber d)
+behind_word d k = behind_operand d k
+
+abbrev pub behind_hash : Depth → Kind → Option Operands
+behind_hash d number = Some (ops.Done d)
+behind_hash d (mark Minus) = Some (ops.Number d)
+behind_hash d k = None
+
+abbrev pub behind_lane : Depth → Kind → Option Operands
+behind_lane d (mark CloseBracket) = Some (ops.Done d)
+behind_lane d k = None
+
+abbrev pub behind_address : Kind → Option Operands
+behind_address (mark Bang) = Some (ops.Done Outside)
+behind_address k = behind_operand Outside k
+
+abbrev pub behind_item : Kind → Option Operands
+behind_item (mark Comma) = Some ops.List
+behind_item (mark CloseBrace) = Some (ops.Done Outside)
+behind_item k = None
+
+abbrev pub behind_item_word : Kind → Option Operands
+behind_item_word (mark Minus) = Some ops.ListTo
+behind_item_word k = behind_item k
+
+abbrev pub is_word : Kind → Bool
+is_word word = true
+is_word number = false
+is_word (mark m) = false
+
+abbrev pub is_number : Kind → Bool
+is_number word = false
+is_number number = true
+is_number (mark m) = false
+
+abbrev pub operand_step : Operands → Kind → Option Operands
+operand_step (ops.Operand d) k = first_operand d k
+operand_step (ops.Word d) k = behind_word d k
+operand_step (ops.Hash d) k = behind_hash d k
+operand_step (ops.Number d) k = if is_number k then Some (ops.Done d) else None
+operand_step (ops.LaneNumber d) k = if is_number k then Some (ops.LaneEnd d) else None
+operand_step (ops.LaneEnd d) k = behind_lane d k
+operand_step (ops.Done d) k = behind_operand d k
+operand_step ops.Address k = behind_address k
+operand_step ops.List k = if is_word k then Some ops.ListWord else None
+operand_step ops.ListWord k = behind_item_word k
+operand_step ops.ListTo k = if is_word k then Some ops.ListDone else None
+operand_step ops.ListDone k = behind_item k
+
+abbrev pub is_operand_end : Operands → Bool
+is_operand_end (ops.Word Outside) = true
+is_operand_end (ops.Done Outside) = true
+is_operand_end ops.Address = true
+is_operand_end s = false
+
+-- LINES, by tokens and whether a space stands before them
+abbrev pub behind_mnemonic : Bool → Kind → Option State
+behind_mnemonic true k = option_map states.Operands (first_operand Outside k)
+behind_mnemonic false k = None
+
+abbrev pub behind_first : Form → Bool → Kind → Option State
+behind_first forms.Line apart (mark Colon) = Some states.Label
+behind_first form apart k = behind_mnemonic apart k
+
+abbrev pub line_step : Form → State → Bool → Kind → Option State
+line_step form states.Start apart k = if is_word k then Some states.First else None
+line_step form states.First apart k = behind_first form apart k
+line_step form states.Label apart k = if is_word k then Some states.Mnemonic else None
+line_step form states.Mnemonic apart k = behind_mnemonic apart k
+line_step form (states.Operands last) apart k = option_map states.Operands (operand_step last k)
+
+-- a line without tokens is fine, and a text without is not
+abbrev pub may_be_empty : Form → Bool
+may_be_empty forms.Instruction = false
+may_be_empty forms.Line = true
+
+abbrev pub is_line_end : Form → State → Bool
+is_line_end form states.Start = may_be_empty form
+is_line_end form states.First = true
+is_line_end form states.Label = true
+is_line_end form states.Mnemonic = true
+is_line_end form (states.Operands last) = is_operand_end last
