@@ -1,0 +1,276 @@
+-- Rows of one operand and shifts: their texts ask for their codes.
+use Rattle.std.proofs.Common.{◌≡◌, ℕ, zero, suc, ◌+◌, ◌-◌, ◌*◌, ◌^◌, ◌<◌, true, false, cond, eqb, ltb, List, Some, refl, ap, sym, subst, inl, inr, arith}
+use Rattle.std.specs.Prelude.{codes, nat_le}
+use Rattle.std.proofs.lemmas.Bool.{cases_Bool, eqb-true, ne_eqb}
+use Rattle.std.proofs.lemmas.Bool.Decides.{nat_tests}
+use Rattle.hm_isa.specs.declared.Vector.TheVariants as vector
+use Rattle.hm_isa.specs.declared.vectors.V12.TheVariants as v12
+use Rattle.hm_isa.specs.declared.vectors.V13.TheVariants as v13
+use Rattle.hm_isa.specs.declared.vectors.ConstantShiftName.{ConstantShiftName}
+use Rattle.hm_isa.specs.declared.vectors.ConstantShiftName.TheVariants as by_constant
+use Rattle.hm_isa.specs.declared.vectors.OneName.{OneName}
+use Rattle.hm_isa.specs.declared.vectors.OneName.TheVariants as one
+use Rattle.hm_isa.specs.declared.vectors.ReverseName.{ReverseName}
+use Rattle.hm_isa.specs.declared.vectors.ReverseName.TheVariants as reverse_
+use Rattle.hm_isa.specs.declared.vectors.NarrowName.{NarrowName}
+use Rattle.hm_isa.specs.declared.vectors.NarrowName.TheVariants as narrow_
+use Rattle.hm_isa.specs.declared.vectors.V11.{V11}
+use Rattle.hm_isa.specs.declared.vectors.V12.{V12}
+use Rattle.hm_isa.specs.declared.vectors.V13.{V13}
+use Rattle.hm_isa.specs.declared.vectors.V14.{V14}
+use Rattle.hm_isa.specs.declared.vectors.V16.{V16}
+use Rattle.hm_isa.specs.Code.{constant_shift_base, narrow_base, one_base, reverse_base}
+use Rattle.hm_isa.specs.Rules.{has_size, is_shifted_by}
+use Rattle.hm_isa.specs.Standing.{◌↑◌}
+use Rattle.hm_tokens.specs.Tokens.{Tok}
+use Rattle.hm_textv.specs.Codes.{bits_in, code_of}
+use Rattle.hm_textv.specs.Rows.{long_part, shift_in, size_in}
+use Rattle.hm_textv.specs.Stems.{constant_shift_stem, constant_shift_suffix, either, integer, narrow_stem, narrow_suffix, one_stem, one_suffix, plain, reverse_stem, signed}
+use Rattle.hm_textv.proofs.Words.{below_holds, below_is, is_stem}
+use Rattle.hm_textv.proofs.Endings.{Suffix, no_suffix, suffix_by_sign, suffix_integer, suffix_plain, suffix_signed, suffix_unsigned}
+use Rattle.hm_textv.proofs.Forms.{Answers, Row, a_vector, answers_of, given, reads_two, reads_two_constant, row_of}
+
+-- V11
+stem_constant_shift : (name : ConstantShiftName) → is_stem (constant_shift_stem name) ≡ true
+stem_constant_shift by_constant.Shr = refl
+stem_constant_shift by_constant.Rshr = refl
+stem_constant_shift by_constant.Qshl = refl
+stem_constant_shift by_constant.Qshlu = refl
+stem_constant_shift by_constant.Shl = refl
+stem_constant_shift by_constant.Sri = refl
+stem_constant_shift by_constant.Sli = refl
+
+suffix_shift : (name : ConstantShiftName) (u z : ℕ) → u < 2 → z < 3 → is_shifted_by name u ≡ true → Suffix (constant_shift_suffix name u z) false u z
+suffix_shift by_constant.Shr u z hu hz e = suffix_by_sign u z hu hz
+suffix_shift by_constant.Rshr u z hu hz e = suffix_by_sign u z hu hz
+suffix_shift by_constant.Qshl u z hu hz e = suffix_by_sign u z hu hz
+suffix_shift by_constant.Qshlu u z hu hz e = subst (λ (x : ℕ). Suffix (signed z) false x z) (sym (eqb-true u 0 e)) (suffix_signed z hz)
+suffix_shift by_constant.Shl u z hu hz e = subst (λ (x : ℕ). Suffix (integer z) false x z) (sym (eqb-true u 0 e)) (suffix_integer z hz)
+suffix_shift by_constant.Sri u z hu hz e = subst (λ (x : ℕ). Suffix (plain z) false x z) (sym (eqb-true u 0 e)) (suffix_plain z (omega arith))
+suffix_shift by_constant.Sli u z hu hz e = subst (λ (x : ℕ). Suffix (plain z) false x z) (sym (eqb-true u 0 e)) (suffix_plain z (omega arith))
+
+less : (m n : ℕ) → ltb m n ≡ true → m < n
+less m n e = grind (arith, nat_tests)
+
+size_small : (x : ℕ) → x < 64 → size_in x < 3
+size_small x lt = less _ _ (below_holds (λ k. ltb (size_in k) 3) 64 x refl lt)
+
+shift_small : (name : ConstantShiftName) (x : ℕ) → x < 64 → shift_in name x < 1000
+shift_small by_constant.Shr x lt = less _ _ (below_holds (λ k. ltb (shift_in by_constant.Shr k) 1000) 64 x refl lt)
+shift_small by_constant.Rshr x lt = less _ _ (below_holds (λ k. ltb (shift_in by_constant.Rshr k) 1000) 64 x refl lt)
+shift_small by_constant.Qshl x lt = less _ _ (below_holds (λ k. ltb (shift_in by_constant.Qshl k) 1000) 64 x refl lt)
+shift_small by_constant.Qshlu x lt = less _ _ (below_holds (λ k. ltb (shift_in by_constant.Qshlu k) 1000) 64 x refl lt)
+shift_small by_constant.Shl x lt = less _ _ (below_holds (λ k. ltb (shift_in by_constant.Shl k) 1000) 64 x refl lt)
+shift_small by_constant.Sri x lt = less _ _ (below_holds (λ k. ltb (shift_in by_constant.Sri k) 1000) 64 x refl lt)
+shift_small by_constant.Sli x lt = less _ _ (below_holds (λ k. ltb (shift_in by_constant.Sli k) 1000) 64 x refl lt)
+
+-- the size and the shift tell the field
+abbrev IsField : ConstantShiftName → ℕ → ℕ → ℕ → Type 0
+IsField by_constant.Shr z k x = 2 * bits_in z - k ≡ x
+IsField by_constant.Rshr z k x = 2 * bits_in z - k ≡ x
+IsField by_constant.Sri z k x = 2 * bits_in z - k ≡ x
+IsField name z k x = bits_in z + k ≡ x
+
+not_less : (x : ℕ) → nat_le 8 x ≡ true → ltb x 8 ≡ false
+not_less x e = grind (arith, nat_tests)
+
+is_field : (name : ConstantShiftName) (x : ℕ) → x < 64 → has_size x ≡ true → IsField name (size_in x) (shift_in name x) x
+is_field by_constant.Shr x lt e = below_is (λ k. 2 * bits_in (size_in k) - shift_in by_constant.Shr k) (λ k. k) 64 x refl lt
+is_field by_constant.Rshr x lt e = below_is (λ k. 2 * bits_in (size_in k) - shift_in by_constant.Rshr k) (λ k. k) 64 x refl lt
+is_field by_constant.Qshl x lt e = rw (not_less x e) at (below_is (λ k. cond (ltb k 8) k (bits_in (size_in k) + shift_in by_constant.Qshl k)) (λ k. k) 64 x refl lt)
+is_field by_constant.Qshlu x lt e = rw (not_less x e) at (below_is (λ k. cond (ltb k 8) k (bits_in (size_in k) + shift_in by_constant.Qshlu k)) (λ k. k) 64 x refl lt)
+is_field by_constant.Shl x lt e = rw (not_less x e) at (below_is (λ k. cond (ltb k 8) k (bits_in (size_in k) + shift_in by_constant.Shl k)) (λ k. k) 64 x refl lt)
+is_field by_constant.Sri x lt e = below_is (λ k. 2 * bits_in (size_in k) - shift_in by_constant.Sri k) (λ k. k) 64 x refl lt
+is_field by_constant.Sli x lt e = rw (not_less x e) at (below_is (λ k. cond (ltb k 8) k (bits_in (size_in k) + shift_in by_constant.Sli k)) (λ k. k) 64 x refl lt)
+
+asks_shift : (name : ConstantShiftName) (u z d m k x : ℕ) → IsField name z k x
+    → code_of (constant_shift_stem name) (given false u z false d m k 0) ≡ Some (constant_shift_base name + u ↑ 28 + x ↑ 16 + d ↑ 13 + m ↑ 1)
+unfolding code_of
+asks_shift by_constant.Shr u z d m k x e = rw e (ap (λ (w : ℕ). Some w) (omega arith))
+asks_shift by_constant.Rshr u z d m k x e = rw e (ap (λ (w : ℕ). Some w) (omega arith))
+asks_shift by_constant.Qshl u z d m k x e = rw e (ap (λ (w : ℕ). Some w) (omega arith))
+asks_shift by_constant.Qshlu u z d m k x e = rw e (ap (λ (w : ℕ). Some w) (omega arith))
+asks_shift by_constant.Shl u z d m k x e = rw e (ap (λ (w : ℕ). Some w) (omega arith))
+asks_shift by_constant.Sri u z d m k x e = rw e (ap (λ (w : ℕ). Some w) (omega arith))
+asks_shift by_constant.Sli u z d m k x e = rw e (ap (λ (w : ℕ). Some w) (omega arith))
+
+pub row_v11 : (i : V11) → Row (vector.V11 i)
+row_v11 i =
+    let x = i.x.value in
+    let lt = i.x.in_range in
+    row_of (vector.V11 i) _ _
+    (reads_two_constant _ _ _ _ _ _ _ _ _ _ _ _ (stem_constant_shift i.name) (suffix_shift i.name i.u.value (size_in x) i.u.in_range (size_small x lt) i.signs) (a_vector i.d.value i.d.in_range) (a_vector i.m.value i.m.in_range) (shift_small i.name x lt))
+    (asks_shift i.name i.u.value (size_in x) _ _ _ x (is_field i.name x lt i.size))
+
+-- V12
+stem_long : (t : ℕ) → t < 2 → is_stem (either t (codes "vshllb") (codes "vshllt")) ≡ true
+stem_long zero lt = refl
+stem_long (suc zero) lt = refl
+stem_long (suc (suc t)) lt = absurd (omega arith)
+
+stem_moved : (t : ℕ) → t < 2 → is_stem (either t (codes "vmovlb") (codes "vmovlt")) ≡ true
+stem_moved zero lt = refl
+stem_moved (suc zero) lt = refl
+stem_moved (suc (suc t)) lt = absurd (omega arith)
+
+-- the code of a shift by less than the size of the elements
+abbrev part_code : ℕ → ℕ → ℕ → ℕ → ℕ → ℕ → ℕ
+part_code t u z d m k = 0xeea80f40 + t ↑ 12 + z ↑ 19 + k ↑ 16 + u ↑ 28 + 0 + d ↑ 13 + m ↑ 1
+
+asks_long : (t u z d m k : ℕ) → t < 2 → eqb k (bits_in z) ≡ false
+    → code_of (either t (codes "vshllb") (codes "vshllt")) (given false u z false d m k 0) ≡ Some (part_code t u z d m k)
+unfolding code_of
+asks_long zero u z d m k lt e = rw e (ap (λ (w : ℕ). Some w) (omega arith))
+asks_long (suc zero) u z d m k lt e = rw e (ap (λ (w : ℕ). Some w) (omega arith))
+asks_long (suc (suc t)) u z d m k lt e = absurd (omega arith)
+
+asks_moved : (t u z d m : ℕ) → t < 2 → eqb 0 (bits_in z) ≡ false
+    → code_of (either t (codes "vmovlb") (codes "vmovlt")) (given false u z false d m 0 0) ≡ Some (part_code t u z d m 0)
+unfolding code_of
+asks_moved zero u z d m lt e = rw e (ap (λ (w : ℕ). Some w) (omega arith))
+asks_moved (suc zero) u z d m lt e = rw e (ap (λ (w : ℕ). Some w) (omega arith))
+asks_moved (suc (suc t)) u z d m lt e = absurd (omega arith)
+
+asks_full : (t u z d m k : ℕ) → t < 2 → eqb k (bits_in z) ≡ true
+    → code_of (either t (codes "vshllb") (codes "vshllt")) (given false u z false d m k 0) ≡ Some (0xee310e01 + u ↑ 28 + z ↑ 18 + t ↑ 12 + d ↑ 13 + m ↑ 1)
+unfolding code_of
+asks_full zero u z d m k lt e = rw e (ap (λ (w : ℕ). Some w) (omega arith))
+asks_full (suc zero) u z d m k lt e = rw e (ap (λ (w : ℕ). Some w) (omega arith))
+asks_full (suc (suc t)) u z d m k lt e = absurd (omega arith)
+
+long_zero : (t : ℕ) (f : List ℕ) (u z d m k : ℕ) → t < 2 → Suffix f false u z → d < 8 → m < 8 → eqb 0 (bits_in z) ≡ false → eqb k 0 ≡ true
+    → Answers (long_part t f d m k) (part_code t u z d m k)
+long_zero t f u z d m k ht g hd hm some e =
+    rw (eqb-true k 0 e) (answers_of _ _ _ _ (reads_two _ _ _ _ _ _ _ _ _ _ _ (stem_moved t ht) g (a_vector d hd) (a_vector m hm)) (asks_moved t u z d m ht some))
+
+long_more : (t : ℕ) (f : List ℕ) (u z d m k : ℕ) → t < 2 → Suffix f false u z → d < 8 → m < 8 → k < 1000 → eqb k (bits_in z) ≡ false → eqb k 0 ≡ false
+    → Answers (long_part t f d m k) (part_code t u z d m k)
+long_more t f u z d m k ht g hd hm small less e =
+    rw e (answers_of _ _ _ _ (reads_two_constant _ _ _ _ _ _ _ _ _ _ _ _ (stem_long t ht) g (a_vector d hd) (a_vector m hm) small) (asks_long t u z d m k ht less))
+
+long_answers : (t : ℕ) (f : List ℕ) (u z d m k : ℕ) → t < 2 → Suffix f false u z → d < 8 → m < 8 → k < 1000 → eqb 0 (bits_in z) ≡ false → eqb k (bits_in z) ≡ false
+    → Answers (long_part t f d m k) (part_code t u z d m k)
+long_answers t f u z d m k ht g hd hm small some less =
+    elim (cases_Bool (eqb k 0)) [
+      | inl e ↦ long_zero t f u z d m k ht g hd hm some e
+      | inr e ↦ long_more t f u z d m k ht g hd hm small less e
+    ]
+
+recoded : (ts : List Tok) (a b : ℕ) → a ≡ b → Answers ts a → Answers ts b
+recoded ts a b e answers = subst (λ (c : ℕ). Answers ts c) e answers
+
+full_small : (z : ℕ) → z < 2 → 8 * 2 ^ z < 1000
+full_small zero lt = omega arith
+full_small (suc zero) lt = omega arith
+full_small (suc (suc z)) lt = absurd (omega arith)
+
+full_bits : (z : ℕ) → z < 2 → eqb (8 * 2 ^ z) (bits_in z) ≡ true
+full_bits zero lt = refl
+full_bits (suc zero) lt = refl
+full_bits (suc (suc z)) lt = absurd (omega arith)
+
+pub row_v12 : (i : V12) → Row (vector.V12 i)
+row_v12 (v12.Bytes i) =
+    recoded _ _ _ (omega arith)
+    (long_answers i.t.value _ i.u.value 0 i.d.value i.m.value i.k.value i.t.in_range (suffix_by_sign i.u.value 0 i.u.in_range (omega arith)) i.d.in_range i.m.in_range
+    (let lt = i.k.in_range in omega arith) refl (ne_eqb _ _ (let lt = i.k.in_range in λ e. omega arith)))
+row_v12 (v12.Halves i) =
+    recoded _ _ _ (omega arith)
+    (long_answers i.t.value _ i.u.value 1 i.d.value i.m.value i.k.value i.t.in_range (suffix_by_sign i.u.value 1 i.u.in_range (omega arith)) i.d.in_range i.m.in_range
+    (let lt = i.k.in_range in omega arith) refl (ne_eqb _ _ (let lt = i.k.in_range in λ e. omega arith)))
+row_v12 (v12.Full i) =
+    row_of (vector.V12 (v12.Full i)) _ _
+    (reads_two_constant _ _ _ _ _ _ _ _ _ _ _ _ (stem_long i.t.value i.t.in_range) (suffix_by_sign i.u.value i.z.value i.u.in_range (let lt = i.z.in_range in omega arith)) (a_vector i.d.value i.d.in_range) (a_vector i.m.value i.m.in_range) (full_small i.z.value i.z.in_range))
+    (asks_full i.t.value _ _ _ _ _ i.t.in_range (full_bits i.z.value i.z.in_range))
+
+-- V13
+stem_one : (name : OneName) → is_stem (one_stem name) ≡ true
+stem_one one.Cls = refl
+stem_one one.Clz = refl
+stem_one one.Abs = refl
+stem_one one.Neg = refl
+stem_one one.Qabs = refl
+stem_one one.Qneg = refl
+
+suffix_one : (name : OneName) (z : ℕ) → z < 3 → Suffix (one_suffix name z) false 0 z
+suffix_one one.Cls z lt = suffix_signed z lt
+suffix_one one.Clz z lt = suffix_integer z lt
+suffix_one one.Abs z lt = suffix_signed z lt
+suffix_one one.Neg z lt = suffix_signed z lt
+suffix_one one.Qabs z lt = suffix_signed z lt
+suffix_one one.Qneg z lt = suffix_signed z lt
+
+asks_one : (name : OneName) (z d m : ℕ) → code_of (one_stem name) (given false 0 z false d m 0 0) ≡ Some (one_base name + z ↑ 18 + d ↑ 13 + m ↑ 1)
+unfolding code_of
+asks_one one.Cls z d m = refl
+asks_one one.Clz z d m = refl
+asks_one one.Abs z d m = refl
+asks_one one.Neg z d m = refl
+asks_one one.Qabs z d m = refl
+asks_one one.Qneg z d m = refl
+
+asks_not : (d m : ℕ) → code_of (codes "vmvn") (given true 0 0 false d m 0 0) ≡ Some (0xffb005c0 + d ↑ 13 + m ↑ 1)
+unfolding code_of
+asks_not d m = refl
+
+pub row_v13 : (i : V13) → Row (vector.V13 i)
+row_v13 (v13.Elements i) =
+    row_of (vector.V13 (v13.Elements i)) _ _ (reads_two _ _ _ _ _ _ _ _ _ _ _ (stem_one i.name) (suffix_one i.name i.z.value i.z.in_range) (a_vector i.d.value i.d.in_range) (a_vector i.m.value i.m.in_range)) (asks_one i.name _ _ _)
+row_v13 (v13.Not i) = row_of (vector.V13 (v13.Not i)) _ _ (reads_two (codes "vmvn") _ _ _ _ _ _ _ _ _ _ refl no_suffix (a_vector i.d.value i.d.in_range) (a_vector i.m.value i.m.in_range)) (asks_not _ _)
+
+-- V14
+stem_reverse : (name : ReverseName) → is_stem (reverse_stem name) ≡ true
+stem_reverse reverse_.Rev64 = refl
+stem_reverse reverse_.Rev32 = refl
+stem_reverse reverse_.Rev16 = refl
+
+asks_reverse : (name : ReverseName) (z d m : ℕ) → code_of (reverse_stem name) (given false 0 z false d m 0 0) ≡ Some (reverse_base name + z ↑ 18 + d ↑ 13 + m ↑ 1)
+unfolding code_of
+asks_reverse reverse_.Rev64 z d m = refl
+asks_reverse reverse_.Rev32 z d m = refl
+asks_reverse reverse_.Rev16 z d m = refl
+
+pub row_v14 : (i : V14) → Row (vector.V14 i)
+row_v14 i =
+    row_of (vector.V14 i) _ _
+    (reads_two _ _ _ _ _ _ _ _ _ _ _ (stem_reverse i.name) (suffix_plain i.z.value (let lt = i.z.in_range in omega arith)) (a_vector i.d.value i.d.in_range) (a_vector i.m.value i.m.in_range)) (asks_reverse i.name _ _ _)
+
+-- V16
+stem_narrow : (name : NarrowName) (t : ℕ) → t < 2 → is_stem (narrow_stem name t) ≡ true
+stem_narrow narrow_.Plain zero lt = refl
+stem_narrow narrow_.Plain (suc zero) lt = refl
+stem_narrow narrow_.ToUnsigned zero lt = refl
+stem_narrow narrow_.ToUnsigned (suc zero) lt = refl
+stem_narrow narrow_.Signed zero lt = refl
+stem_narrow narrow_.Signed (suc zero) lt = refl
+stem_narrow narrow_.Unsigned zero lt = refl
+stem_narrow narrow_.Unsigned (suc zero) lt = refl
+stem_narrow name (suc (suc t)) lt = absurd (omega arith)
+
+abbrev narrow_sign : NarrowName → ℕ
+narrow_sign narrow_.Unsigned = 1
+narrow_sign name = 0
+
+suffix_narrow : (name : NarrowName) (z : ℕ) → z < 2 → Suffix (narrow_suffix name z) false (narrow_sign name) (z + 1)
+suffix_narrow narrow_.Plain z lt = suffix_integer (z + 1) (omega arith)
+suffix_narrow narrow_.ToUnsigned z lt = suffix_signed (z + 1) (omega arith)
+suffix_narrow narrow_.Signed z lt = suffix_signed (z + 1) (omega arith)
+suffix_narrow narrow_.Unsigned z lt = suffix_unsigned (z + 1) (omega arith)
+
+asks_narrow : (name : NarrowName) (t z d m : ℕ) → t < 2
+    → code_of (narrow_stem name t) (given false (narrow_sign name) (z + 1) false d m 0 0) ≡ Some (narrow_base name + z ↑ 18 + t ↑ 12 + d ↑ 13 + m ↑ 1)
+unfolding code_of
+asks_narrow narrow_.Plain zero z d m lt = ap (λ (w : ℕ). Some w) (omega arith)
+asks_narrow narrow_.Plain (suc zero) z d m lt = ap (λ (w : ℕ). Some w) (omega arith)
+asks_narrow narrow_.ToUnsigned zero z d m lt = ap (λ (w : ℕ). Some w) (omega arith)
+asks_narrow narrow_.ToUnsigned (suc zero) z d m lt = ap (λ (w : ℕ). Some w) (omega arith)
+asks_narrow narrow_.Signed zero z d m lt = ap (λ (w : ℕ). Some w) (omega arith)
+asks_narrow narrow_.Signed (suc zero) z d m lt = ap (λ (w : ℕ). Some w) (omega arith)
+asks_narrow narrow_.Unsigned zero z d m lt = ap (λ (w : ℕ). Some w) (omega arith)
+asks_narrow narrow_.Unsigned (suc zero) z d m lt = ap (λ (w : ℕ). Some w) (omega arith)
+asks_narrow name (suc (suc t)) z d m lt = absurd (omega arith)
+
+pub row_v16 : (i : V16) → Row (vector.V16 i)
+row_v16 i =
+    row_of (vector.V16 i) _ _ (reads_two _ _ _ _ _ _ _ _ _ _ _ (stem_narrow i.name i.t.value i.t.in_range) (suffix_narrow i.name i.z.value i.z.in_range) (a_vector i.d.value i.d.in_range) (a_vector i.m.value i.m.in_range))
+    (asks_narrow i.name i.t.value i.z.value _ _ i.t.in_range)

@@ -1,0 +1,75 @@
+-- Reading a text: a row that has its tokens is the row of the code that they ask for.
+use Rattle.std.proofs.Common.{◌≡◌, ℕ, ◌<◌, ◌≤◌, Bool, true, false, List, length, Option, Some, None, refl, sym, subst, ap, ◌∙◌, inl, inr, arith}
+use Rattle.std.specs.Prelude.{◌↔◌, IfSome, IsTrue}
+use Rattle.std.proofs.lemmas.Bool.{false≢true}
+use Rattle.hm_isa.specs.declared.Vector.{Vector}
+use Rattle.hm_isa.specs.Code.{vector_code}
+use Rattle.hm_text_base.proofs.Steps.{some_is}
+use Rattle.hm_tokens.specs.Lines.{IsLineOf}
+use Rattle.hm_tokens.specs.Tokens.{Tok}
+use Rattle.hm_textv.specs.Codes.{code_in}
+use Rattle.hm_textv.specs.Rows.{HasTokens, IsTextOf, other_tokens, tokens_of}
+use Rattle.hm_textv.proofs.Fits.{code_below}
+use Rattle.hm_textv.proofs.Laws.{answers_law}
+
+the_code : (ts : List Tok) (w : ℕ) → code_in ts ≡ Some w → (v : Vector) → HasTokens v ts → vector_code v ≡ w
+the_code ts w e v has = some_is (vector_code v) w (sym (answers_law v ts has).asks ∙ e)
+
+pub no_code : (ts : List Tok) → code_in ts ≡ None → (v : Vector) → HasTokens v ts → ⊥
+no_code ts e v has = let a = (answers_law v ts has).asks in let f = sym a ∙ e in cc
+
+pub too_large : (ts : List Tok) (w : ℕ) → code_in ts ≡ Some w → 0xffff_ffff < w → (v : Vector) → HasTokens v ts → ⊥
+too_large ts w e lt v has = let is = the_code ts w e v has in let below = code_below v in omega arith
+
+pub no_row : (ts : List Tok) (w : ℕ) → code_in ts ≡ Some w → ((v : Vector) → vector_code v ≡ w → ⊥) → (v : Vector) → HasTokens v ts → ⊥
+no_row ts w e none v has = none v (the_code ts w e v has)
+
+abbrev one : Vector → Option Vector
+one v = Some v
+
+pub the_row : (ts : List Tok) (w : ℕ) (u : Vector) → code_in ts ≡ Some w → ((v : Vector) → (one u ≡ one v) ↔ (vector_code v ≡ w)) → (v : Vector) → HasTokens v ts → one u ≡ one v
+the_row ts w u e exact v has = (exact v).1 (the_code ts w e v has)
+
+pub other_row : (ts : List Tok) (w : ℕ) (u : Vector) → code_in ts ≡ Some w → ((v : Vector) → (one u ≡ one v) ↔ (vector_code v ≡ w)) → (HasTokens u ts → ⊥) → (v : Vector) → HasTokens v ts → ⊥
+other_row ts w u e exact not v has =
+    not (subst (λ (x : Vector). HasTokens x ts) (sym (some_is u v (the_row ts w u e exact v has))) has)
+
+-- AND A WHOLE TEXT
+abbrev no_tokens : Option (List Tok)
+no_tokens = None
+
+abbrev these : List Tok → Option (List Tok)
+these ts = Some ts
+
+pub text_found : (text : List ℕ) (ts : List Tok) (r : Option Vector) → IsLineOf text ts → IfSome r (λ v. HasTokens v ts) → IfSome r (IsTextOf text)
+text_found text ts (Some v) line has = (ts, line, has)
+text_found text ts None line has = tt
+
+pub text_only : (text : List ℕ) (ts : List Tok) (r : Option Vector) → ((us : List Tok) → IsLineOf text us → length us ≤ 40 → these ts ≡ these us)
+    → ((v : Vector) → HasTokens v ts → r ≡ Some v) → (v : Vector) → IsTextOf text v → r ≡ Some v
+text_only text ts r line row v is =
+    let e = some_is ts is.0 (line is.0 is.1 (answers_law v is.0 is.2).prints.few) in
+    row v (subst (λ (us : List Tok). HasTokens v us) (sym e) is.2)
+
+pub text_none : (text : List ℕ) → ((us : List Tok) → IsLineOf text us → length us ≤ 40 → no_tokens ≡ these us) → (v : Vector) → IsTextOf text v → ⊥
+text_none text line v is = let e = line is.0 is.1 (answers_law v is.0 is.2).prints.few in cc
+
+-- WHETHER TOKENS ARE A ROW'S
+pub first_has : (v : Vector) (ts xs : List Tok) → xs ≡ tokens_of v → ts ≡ xs → IsTrue true ↔ HasTokens v ts
+first_has v ts xs e f = (λ t. inl (sym (f ∙ e)), λ h. refl)
+
+not_first : (v : Vector) (ts xs : List Tok) (b : Bool) → xs ≡ tokens_of v → (IsTrue b ↔ (ts ≡ xs)) → b ≡ false → tokens_of v ≡ ts → ⊥
+not_first v ts xs b e is f h = let t : b ≡ true = is.1 (sym h ∙ sym e) in false≢true (sym f ∙ t)
+
+pub other_has : (v : Vector) (ts xs ys : List Tok) (b r : Bool) → xs ≡ tokens_of v → (IsTrue b ↔ (ts ≡ xs)) → b ≡ false → these ys ≡ other_tokens v → (IsTrue r ↔ (ts ≡ ys))
+    → IsTrue r ↔ HasTokens v ts
+other_has v ts xs ys b r e is f o has = (
+  λ t. inr (sym o ∙ ap these (sym (has.0 t))),
+  λ h. elim h [ inl a ↦ absurd (not_first v ts xs b e is f a) | inr a ↦ has.1 (sym (some_is ys ts (o ∙ a))) ],
+)
+
+pub none_has : (v : Vector) (ts xs : List Tok) (b : Bool) → xs ≡ tokens_of v → (IsTrue b ↔ (ts ≡ xs)) → b ≡ false → no_tokens ≡ other_tokens v → IsTrue false ↔ HasTokens v ts
+none_has v ts xs b e is f o = (
+  λ t. absurd (false≢true t),
+  λ h. elim h [ inl a ↦ absurd (not_first v ts xs b e is f a) | inr a ↦ let n : no_tokens ≡ these ts = o ∙ a in absurd cc ],
+)

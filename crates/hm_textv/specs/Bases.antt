@@ -1,0 +1,283 @@
+-- Stems of mnemonics: the codes that their rows begin from, and what else they tell.
+use Rattle.std.specs.Prelude.{ℕ, ◌+◌, List, codes, bytes_eq, Option, Some, None, if◌then◌else◌}
+use Rattle.hm_isa.specs.declared.vectors.AddName.TheVariants as add
+use Rattle.hm_isa.specs.declared.vectors.BitwiseName.TheVariants as bitwise
+use Rattle.hm_isa.specs.declared.vectors.SignedName.TheVariants as signed
+use Rattle.hm_isa.specs.declared.vectors.VectorShiftName.TheVariants as by_vector
+use Rattle.hm_isa.specs.declared.vectors.DoublingName.TheVariants as doubling
+use Rattle.hm_isa.specs.declared.vectors.HighName.TheVariants as high
+use Rattle.hm_isa.specs.declared.vectors.CarryName.TheVariants as carry
+use Rattle.hm_isa.specs.declared.vectors.TurnName.TheVariants as turn
+use Rattle.hm_isa.specs.declared.vectors.ScalarName.TheVariants as by_scalar
+use Rattle.hm_isa.specs.declared.vectors.ConstantShiftName.TheVariants as by_constant
+use Rattle.hm_isa.specs.declared.vectors.OneName.TheVariants as one
+use Rattle.hm_isa.specs.declared.vectors.ReverseName.TheVariants as reverse_
+use Rattle.hm_isa.specs.declared.vectors.NarrowName.TheVariants as narrow_
+use Rattle.hm_isa.specs.declared.vectors.OffsetsName.TheVariants as offsets
+use Rattle.hm_isa.specs.declared.vectors.ExtremeName.TheVariants as extreme
+use Rattle.hm_isa.specs.Code.{add_base, bitwise_base, carry_base, constant_shift_base, doubling_base, extreme_base, high_base, narrow_base, offsets_base, one_base, reverse_base, scalar_base, signed_base, turn_base, vector_shift_base}
+
+-- of `qd,qn,qm`, rows V1 to V3
+abbrev pub three_base : List ℕ → Option ℕ
+three_base s =
+    if bytes_eq s (codes "vadd") then Some (add_base add.Add)
+    else if bytes_eq s (codes "vsub") then Some (add_base add.Sub)
+    else if bytes_eq s (codes "vmul") then Some (add_base add.Mul)
+    else if bytes_eq s (codes "vand") then Some (bitwise_base bitwise.And)
+    else if bytes_eq s (codes "vbic") then Some (bitwise_base bitwise.Bic)
+    else if bytes_eq s (codes "vorr") then Some (bitwise_base bitwise.Orr)
+    else if bytes_eq s (codes "vorn") then Some (bitwise_base bitwise.Orn)
+    else if bytes_eq s (codes "veor") then Some (bitwise_base bitwise.Eor)
+    else if bytes_eq s (codes "vmax") then Some (signed_base signed.Max)
+    else if bytes_eq s (codes "vmin") then Some (signed_base signed.Min)
+    else if bytes_eq s (codes "vabd") then Some (signed_base signed.Abd)
+    else if bytes_eq s (codes "vhadd") then Some (signed_base signed.Hadd)
+    else if bytes_eq s (codes "vrhadd") then Some (signed_base signed.Rhadd)
+    else if bytes_eq s (codes "vhsub") then Some (signed_base signed.Hsub)
+    else if bytes_eq s (codes "vqadd") then Some (signed_base signed.Qadd)
+    else if bytes_eq s (codes "vqsub") then Some (signed_base signed.Qsub)
+    else None
+
+-- of `qd,qn,qm`, rows V5 to V7, and `vpsel`
+abbrev pub product_base : List ℕ → Option ℕ
+product_base s =
+    if bytes_eq s (codes "vqdmulh") then Some (doubling_base doubling.Qdmulh)
+    else if bytes_eq s (codes "vqrdmulh") then Some (doubling_base doubling.Qrdmulh)
+    else if bytes_eq s (codes "vmulh") then Some (high_base high.Mulh)
+    else if bytes_eq s (codes "vrmulh") then Some (high_base high.Rmulh)
+    else if bytes_eq s (codes "vmullb") then Some 0xee010e00
+    else if bytes_eq s (codes "vmullt") then Some 0xee011e00
+    else if bytes_eq s (codes "vpsel") then Some 0xfe310f01
+    else None
+
+-- of a row V8
+abbrev pub carry_base_in : List ℕ → Option ℕ
+carry_base_in s =
+    if bytes_eq s (codes "vadc") then Some (carry_base carry.Adc)
+    else if bytes_eq s (codes "vadci") then Some (carry_base carry.Adci)
+    else if bytes_eq s (codes "vsbc") then Some (carry_base carry.Sbc)
+    else if bytes_eq s (codes "vsbci") then Some (carry_base carry.Sbci)
+    else None
+
+-- of a row V9
+abbrev pub turn_base_in : List ℕ → Option ℕ
+turn_base_in s =
+    if bytes_eq s (codes "vcadd") then Some (turn_base turn.Cadd)
+    else if bytes_eq s (codes "vhcadd") then Some (turn_base turn.Hcadd)
+    else None
+
+-- of a row V4
+abbrev pub vector_shift_base_in : List ℕ → Option ℕ
+vector_shift_base_in s =
+    if bytes_eq s (codes "vshl") then Some (vector_shift_base by_vector.Shl)
+    else if bytes_eq s (codes "vqshl") then Some (vector_shift_base by_vector.Qshl)
+    else if bytes_eq s (codes "vrshl") then Some (vector_shift_base by_vector.Rshl)
+    else if bytes_eq s (codes "vqrshl") then Some (vector_shift_base by_vector.Qrshl)
+    else None
+
+-- of a row V10
+abbrev pub scalar_base_in : List ℕ → Option ℕ
+scalar_base_in s =
+    if bytes_eq s (codes "vadd") then Some (scalar_base by_scalar.Add)
+    else if bytes_eq s (codes "vsub") then Some (scalar_base by_scalar.Sub)
+    else if bytes_eq s (codes "vmul") then Some (scalar_base by_scalar.Mul)
+    else if bytes_eq s (codes "vhadd") then Some (scalar_base by_scalar.Hadd)
+    else if bytes_eq s (codes "vhsub") then Some (scalar_base by_scalar.Hsub)
+    else if bytes_eq s (codes "vqadd") then Some (scalar_base by_scalar.Qadd)
+    else if bytes_eq s (codes "vqsub") then Some (scalar_base by_scalar.Qsub)
+    else if bytes_eq s (codes "vqdmulh") then Some (scalar_base by_scalar.Qdmulh)
+    else if bytes_eq s (codes "vqrdmulh") then Some (scalar_base by_scalar.Qrdmulh)
+    else if bytes_eq s (codes "vmla") then Some (scalar_base by_scalar.Mla)
+    else if bytes_eq s (codes "vmlas") then Some (scalar_base by_scalar.Mlas)
+    else None
+
+-- of a row V11 to the right
+abbrev pub right_base : List ℕ → Option ℕ
+right_base s =
+    if bytes_eq s (codes "vshr") then Some (constant_shift_base by_constant.Shr)
+    else if bytes_eq s (codes "vrshr") then Some (constant_shift_base by_constant.Rshr)
+    else if bytes_eq s (codes "vsri") then Some (constant_shift_base by_constant.Sri)
+    else None
+
+-- of a row V11 to the left
+abbrev pub left_base : List ℕ → Option ℕ
+left_base s =
+    if bytes_eq s (codes "vqshl") then Some (constant_shift_base by_constant.Qshl)
+    else if bytes_eq s (codes "vqshlu") then Some (constant_shift_base by_constant.Qshlu)
+    else if bytes_eq s (codes "vshl") then Some (constant_shift_base by_constant.Shl)
+    else if bytes_eq s (codes "vsli") then Some (constant_shift_base by_constant.Sli)
+    else None
+
+-- of `qd,qm`, rows V13 and V14
+abbrev pub single_base : List ℕ → Option ℕ
+single_base s =
+    if bytes_eq s (codes "vcls") then Some (one_base one.Cls)
+    else if bytes_eq s (codes "vclz") then Some (one_base one.Clz)
+    else if bytes_eq s (codes "vabs") then Some (one_base one.Abs)
+    else if bytes_eq s (codes "vneg") then Some (one_base one.Neg)
+    else if bytes_eq s (codes "vqabs") then Some (one_base one.Qabs)
+    else if bytes_eq s (codes "vqneg") then Some (one_base one.Qneg)
+    else if bytes_eq s (codes "vrev64") then Some (reverse_base reverse_.Rev64)
+    else if bytes_eq s (codes "vrev32") then Some (reverse_base reverse_.Rev32)
+    else if bytes_eq s (codes "vrev16") then Some (reverse_base reverse_.Rev16)
+    else None
+
+-- of a row V16, which tells its part
+abbrev pub narrow_base_in : List ℕ → Option ℕ
+narrow_base_in s =
+    if bytes_eq s (codes "vmovnb") then Some (narrow_base narrow_.Plain)
+    else if bytes_eq s (codes "vmovnt") then Some (narrow_base narrow_.Plain + 0x1000)
+    else if bytes_eq s (codes "vqmovunb") then Some (narrow_base narrow_.ToUnsigned)
+    else if bytes_eq s (codes "vqmovunt") then Some (narrow_base narrow_.ToUnsigned + 0x1000)
+    else if bytes_eq s (codes "vqmovnb") then Some (narrow_base narrow_.Signed)
+    else if bytes_eq s (codes "vqmovnt") then Some (narrow_base narrow_.Signed + 0x1000)
+    else None
+
+-- of a row V19 from one register
+abbrev pub offsets_base_in : List ℕ → Option ℕ
+offsets_base_in s =
+    if bytes_eq s (codes "vidup") then Some (offsets_base offsets.Up)
+    else if bytes_eq s (codes "vddup") then Some (offsets_base offsets.Down)
+    else None
+
+-- of a row V19 that goes round
+abbrev pub wrapped_base_in : List ℕ → Option ℕ
+wrapped_base_in s =
+    if bytes_eq s (codes "viwdup") then Some (offsets_base offsets.Up)
+    else if bytes_eq s (codes "vdwdup") then Some (offsets_base offsets.Down)
+    else None
+
+-- of a row V23
+abbrev pub extreme_base_in : List ℕ → Option ℕ
+extreme_base_in s =
+    if bytes_eq s (codes "vmaxv") then Some (extreme_base extreme.Max)
+    else if bytes_eq s (codes "vminv") then Some (extreme_base extreme.Min)
+    else None
+
+-- of a row V12: its part
+abbrev pub long_in : List ℕ → Option ℕ
+long_in s =
+    if bytes_eq s (codes "vshllb") then Some 0
+    else if bytes_eq s (codes "vshllt") then Some 1
+    else if bytes_eq s (codes "vmovlb") then Some 0
+    else if bytes_eq s (codes "vmovlt") then Some 1
+    else None
+
+-- of a row V15: 1 for the second of two operations, and 2 where it is merged
+abbrev pub constant_in : List ℕ → Option ℕ
+constant_in s =
+    if bytes_eq s (codes "vmov") then Some 0
+    else if bytes_eq s (codes "vmvn") then Some 1
+    else if bytes_eq s (codes "vorr") then Some 2
+    else if bytes_eq s (codes "vbic") then Some 3
+    else None
+
+-- of a comparison: the mask of its block
+abbrev pub compare_in : List ℕ → Option ℕ
+compare_in s =
+    if bytes_eq s (codes "vcmp") then Some 0
+    else if bytes_eq s (codes "vpt") then Some 8
+    else if bytes_eq s (codes "vptt") then Some 4
+    else if bytes_eq s (codes "vpte") then Some 12
+    else if bytes_eq s (codes "vpttt") then Some 2
+    else if bytes_eq s (codes "vptte") then Some 6
+    else if bytes_eq s (codes "vptee") then Some 10
+    else if bytes_eq s (codes "vptet") then Some 14
+    else if bytes_eq s (codes "vptttt") then Some 1
+    else if bytes_eq s (codes "vpttte") then Some 3
+    else if bytes_eq s (codes "vpttee") then Some 5
+    else if bytes_eq s (codes "vpttet") then Some 7
+    else if bytes_eq s (codes "vpteee") then Some 9
+    else if bytes_eq s (codes "vpteet") then Some 11
+    else if bytes_eq s (codes "vptett") then Some 13
+    else if bytes_eq s (codes "vptete") then Some 15
+    else None
+
+-- of a block: its mask
+abbrev pub block_in : List ℕ → Option ℕ
+block_in s =
+    if bytes_eq s (codes "vpnot") then Some 0
+    else if bytes_eq s (codes "vpst") then Some 8
+    else if bytes_eq s (codes "vpstt") then Some 4
+    else if bytes_eq s (codes "vpste") then Some 12
+    else if bytes_eq s (codes "vpsttt") then Some 2
+    else if bytes_eq s (codes "vpstte") then Some 6
+    else if bytes_eq s (codes "vpstee") then Some 10
+    else if bytes_eq s (codes "vpstet") then Some 14
+    else if bytes_eq s (codes "vpstttt") then Some 1
+    else if bytes_eq s (codes "vpsttte") then Some 3
+    else if bytes_eq s (codes "vpsttee") then Some 5
+    else if bytes_eq s (codes "vpsttet") then Some 7
+    else if bytes_eq s (codes "vpsteee") then Some 9
+    else if bytes_eq s (codes "vpsteet") then Some 11
+    else if bytes_eq s (codes "vpstett") then Some 13
+    else if bytes_eq s (codes "vpstete") then Some 15
+    else None
+
+-- of a sum: whether it goes on
+abbrev pub sum_in : List ℕ → Option ℕ
+sum_in s =
+    if bytes_eq s (codes "vaddv") then Some 0
+    else if bytes_eq s (codes "vaddva") then Some 1
+    else None
+
+-- of a sum of products: whether it goes on
+abbrev pub dot_in : List ℕ → Option ℕ
+dot_in s =
+    if bytes_eq s (codes "vmladav") then Some 0
+    else if bytes_eq s (codes "vmladava") then Some 1
+    else if bytes_eq s (codes "vmlav") then Some 0
+    else if bytes_eq s (codes "vmlava") then Some 1
+    else None
+
+-- of a long sum: whether it goes on
+abbrev pub long_sum_in : List ℕ → Option ℕ
+long_sum_in s =
+    if bytes_eq s (codes "vaddlv") then Some 0
+    else if bytes_eq s (codes "vaddlva") then Some 1
+    else None
+
+-- of a long sum of products: whether it goes on
+abbrev pub long_dot_in : List ℕ → Option ℕ
+long_dot_in s =
+    if bytes_eq s (codes "vmlaldav") then Some 0
+    else if bytes_eq s (codes "vmlaldava") then Some 1
+    else None
+
+-- of a store: the size of its elements in memory
+abbrev pub store_in : List ℕ → Option ℕ
+store_in s =
+    if bytes_eq s (codes "vstrb") then Some 0
+    else if bytes_eq s (codes "vstrh") then Some 1
+    else if bytes_eq s (codes "vstrw") then Some 2
+    else None
+
+-- of a load: the size of its elements in memory
+abbrev pub load_in : List ℕ → Option ℕ
+load_in s =
+    if bytes_eq s (codes "vldrb") then Some 0
+    else if bytes_eq s (codes "vldrh") then Some 1
+    else if bytes_eq s (codes "vldrw") then Some 2
+    else None
+
+-- of a row V28 of two registers
+abbrev pub pair_base : List ℕ → Option ℕ
+pair_base s =
+    if bytes_eq s (codes "vst20") then Some 0xfc801e00
+    else if bytes_eq s (codes "vst21") then Some 0xfc801e20
+    else if bytes_eq s (codes "vld20") then Some 0xfc901e00
+    else if bytes_eq s (codes "vld21") then Some 0xfc901e20
+    else None
+
+-- of a row V28 of four registers
+abbrev pub quad_base : List ℕ → Option ℕ
+quad_base s =
+    if bytes_eq s (codes "vst40") then Some 0xfc801e01
+    else if bytes_eq s (codes "vst41") then Some 0xfc801e21
+    else if bytes_eq s (codes "vst42") then Some 0xfc801e41
+    else if bytes_eq s (codes "vst43") then Some 0xfc801e61
+    else if bytes_eq s (codes "vld40") then Some 0xfc901e01
+    else if bytes_eq s (codes "vld41") then Some 0xfc901e21
+    else if bytes_eq s (codes "vld42") then Some 0xfc901e41
+    else if bytes_eq s (codes "vld43") then Some 0xfc901e61
+    else None

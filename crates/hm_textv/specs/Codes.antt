@@ -1,0 +1,226 @@
+-- The code that a text carelessly asks for: what decides is whether the row that has this code has the text.
+use Rattle.std.specs.Prelude.{ℕ, ◌+◌, ◌-◌, ◌*◌, ◌/◌, ◌%◌, ◌^◌, List, [], ◌∷◌, Option, Some, None, option_map, codes, bytes_eq, ◌==◌, if◌then◌else◌}
+use Rattle.hm_isa.specs.declared.vectors.Element.{Element}
+use Rattle.hm_isa.specs.declared.vectors.Element.TheVariants as element
+use Rattle.hm_isa.specs.Code.{dot_base, dup_base, mask_code}
+use Rattle.hm_isa.specs.Standing.{◌↑◌}
+use Rattle.hm_text_base.specs.Spans.{span}
+use Rattle.hm_tokens.specs.Tokens.{Tok, word, number, mark}
+use Rattle.hm_textv.specs.declared.operands.Operands.{Operands}
+use Rattle.hm_textv.specs.Bases.{block_in, carry_base_in, compare_in, constant_in, dot_in, extreme_base_in, left_base, long_dot_in, load_in, long_in, long_sum_in, narrow_base_in, offsets_base_in, pair_base, product_base, quad_base, right_base, scalar_base_in, single_base, store_in, sum_in, three_base, turn_base_in, vector_shift_base_in, wrapped_base_in}
+use Rattle.hm_textv.specs.Operands.{read_operands}
+
+-- FIELDS AT THEIR PLACES
+abbrev pub of_vectors : ℕ → ℕ → ℕ → ℕ → ℕ → ℕ → ℕ
+of_vectors base u z n d m = base + u ↑ 28 + z ↑ 20 + n ↑ 17 + d ↑ 13 + m ↑ 1
+
+abbrev pub of_core : ℕ → ℕ → ℕ → ℕ → ℕ → ℕ → ℕ
+of_core base u z n d m = base + u ↑ 28 + z ↑ 20 + n ↑ 17 + d ↑ 13 + m
+
+abbrev pub of_one : ℕ → ℕ → ℕ → ℕ → ℕ → ℕ
+of_one base u z d m = base + u ↑ 28 + z ↑ 18 + d ↑ 13 + m ↑ 1
+
+abbrev pub of_access : ℕ → ℕ → ℕ → ℕ → ℕ → ℕ → ℕ
+of_access base l n d z i = base + l ↑ 20 + n ↑ 16 + d ↑ 13 + z ↑ 7 + i
+
+-- how many bits elements have
+abbrev pub bits_in : ℕ → ℕ
+bits_in z = if z == 0 then 8 else if z == 1 then 16 else 32
+
+abbrev pub element_in : ℕ → Element
+element_in z = if z == 0 then element.Bytes else if z == 1 then element.Halves else element.Words
+
+-- ROWS, by their stems
+abbrev pub first : Option ℕ → Option ℕ → Option ℕ
+first (Some w) o = Some w
+first None o = o
+
+-- V1 to V3, V5 to V7, `vpsel`
+abbrev pub code_three : List ℕ → Operands → Option ℕ
+code_three s o =
+    if o.is_vector then option_map (λ b. of_vectors b o.sign o.size o.second o.first o.third) (first (three_base s) (product_base s)) else None
+
+-- V4
+abbrev pub code_vector_shift : List ℕ → Operands → Option ℕ
+code_vector_shift s o =
+    if o.is_vector then option_map (λ b. of_vectors b o.sign o.size o.third o.first o.second) (vector_shift_base_in s) else None
+
+-- V8
+abbrev pub code_carry : List ℕ → Operands → Option ℕ
+code_carry s o = option_map (λ b. of_vectors b 0 0 o.second o.first o.third) (carry_base_in s)
+
+-- V9
+abbrev pub code_turn : List ℕ → Operands → Option ℕ
+code_turn s o =
+    option_map (λ b. of_vectors (b + (if o.fourth == 270 then 1 else 0) ↑ 12) 0 o.size o.second o.first o.third) (turn_base_in s)
+
+-- V10
+abbrev pub code_scalar : List ℕ → Operands → Option ℕ
+code_scalar s o =
+    if o.is_vector then None else option_map (λ b. of_core b o.sign o.size o.second o.first o.third) (scalar_base_in s)
+
+-- V11
+abbrev pub code_right : List ℕ → Operands → Option ℕ
+code_right s o = option_map (λ b. of_one (b + (2 * bits_in o.size - o.third) ↑ 16) o.sign 0 o.first o.second) (right_base s)
+
+abbrev pub code_left : List ℕ → Operands → Option ℕ
+code_left s o = option_map (λ b. of_one (b + (bits_in o.size + o.third) ↑ 16) o.sign 0 o.first o.second) (left_base s)
+
+-- V12
+abbrev pub long_code : ℕ → Operands → ℕ
+long_code t o =
+    if o.third == bits_in o.size then of_one (0xee310e01 + t ↑ 12) o.sign o.size o.first o.second
+    else of_one (0xeea80f40 + t ↑ 12 + o.size ↑ 19 + o.third ↑ 16) o.sign 0 o.first o.second
+
+abbrev pub code_long : List ℕ → Operands → Option ℕ
+code_long s o = option_map (λ t. long_code t o) (long_in s)
+
+-- V13, V14
+abbrev pub code_single : List ℕ → Operands → Option ℕ
+code_single s o = option_map (λ b. of_one b 0 o.size o.first o.second) (single_base s)
+
+-- V15, and without a suffix `vmvn qd,qm` and `vmov qd,qm`
+abbrev pub constant_mode : ℕ → Operands → ℕ
+constant_mode k o =
+    if o.size == 0 then 14
+    else if o.size == 3 then 14
+    else if o.third == 1 then 11 + o.fourth / 8
+    else o.size % 2 * 8 + o.fourth / 8 * 2 + k / 2
+
+abbrev pub constant_operation : ℕ → Operands → ℕ
+constant_operation k o = if o.size == 3 then 1 else k % 2
+
+abbrev pub constant_code : ℕ → Operands → ℕ
+constant_code k o =
+    of_one
+    (0xef800050 + (constant_mode k o) ↑ 8 + (constant_operation k o) ↑ 5 + (o.second / 16 % 8) ↑ 16 + o.second % 16)
+    (o.second / 128) 0 o.first 0
+
+abbrev pub bare_code : ℕ → Operands → ℕ
+bare_code k o = if k == 0 then of_vectors 0xef200150 0 0 o.second o.first o.second else of_one 0xffb005c0 0 0 o.first o.second
+
+abbrev pub code_constant : List ℕ → Operands → Option ℕ
+code_constant s o = option_map (λ k. if o.is_bare then bare_code k o else constant_code k o) (constant_in s)
+
+-- V16
+abbrev pub code_narrow : List ℕ → Operands → Option ℕ
+code_narrow s o = option_map (λ b. of_one b o.sign (o.size - 1) o.first o.second) (narrow_base_in s)
+
+-- the power of a step, where it stands
+abbrev pub step_in : ℕ → ℕ
+step_in n = if n == 2 then 1 else if n == 4 then 0x80 else if n == 8 then 0x81 else 0
+
+-- V19
+abbrev pub code_offsets : List ℕ → Operands → Option ℕ
+code_offsets s o = option_map (λ b. of_core (b + 0xe + step_in o.third) 0 o.size (o.second / 2) o.first 0) (offsets_base_in s)
+
+abbrev pub code_wrapped : List ℕ → Operands → Option ℕ
+code_wrapped s o = option_map (λ b. of_vectors (b + step_in o.fourth) 0 o.size (o.second / 2) o.first (o.third / 2)) (wrapped_base_in s)
+
+-- V20
+abbrev pub compare_code : ℕ → Operands → ℕ
+compare_code k o =
+    if o.is_vector then of_vectors (0xfe010f00 + mask_code k + (o.first / 4) ↑ 12 + (o.first % 2) ↑ 7 + o.first / 2 % 2) 0 o.size o.second 0 o.third
+    else of_core (0xfe010f40 + mask_code k + (o.first / 4) ↑ 12 + (o.first % 2) ↑ 7 + (o.first / 2 % 2) ↑ 5) 0 o.size o.second 0 o.third
+
+abbrev pub code_compare : List ℕ → Operands → Option ℕ
+code_compare s o = option_map (λ k. compare_code k o) (compare_in s)
+
+-- V21
+abbrev pub code_block : List ℕ → Option ℕ
+code_block s = option_map (λ k. 0xfe310f4d + mask_code k) (block_in s)
+
+-- V22
+abbrev pub code_sum : List ℕ → Operands → Option ℕ
+code_sum s o = option_map (λ a. of_one (0xeef10f00 + a ↑ 5) o.sign o.size (o.first / 2) o.second) (sum_in s)
+
+abbrev pub code_dot : List ℕ → Operands → Option ℕ
+code_dot s o = option_map (λ a. of_vectors (dot_base (element_in o.size) + a ↑ 5) o.sign 0 o.second (o.first / 2) o.third) (dot_in s)
+
+abbrev pub code_long_sum : List ℕ → Operands → Option ℕ
+code_long_sum s o = option_map (λ a. of_vectors (0xee890f00 + a ↑ 5) o.sign (o.second / 2) 0 (o.first / 2) o.third) (long_sum_in s)
+
+abbrev pub code_long_dot : List ℕ → Operands → Option ℕ
+code_long_dot s o =
+    option_map (λ a. of_vectors (0xee800e00 + a ↑ 5 + (o.size - 1) ↑ 16) o.sign (o.second / 2) o.third (o.first / 2) o.fourth) (long_dot_in s)
+
+-- V23
+abbrev pub code_extreme : List ℕ → Operands → Option ℕ
+code_extreme s o = option_map (λ b. of_one (b + o.first ↑ 12) o.sign o.size 0 o.second) (extreme_base_in s)
+
+-- V17, V18, `vctp`: stems of their own
+abbrev pub code_alone : List ℕ → Operands → Option ℕ
+code_alone s o =
+    if bytes_eq s (codes "vshlc") then Some (of_core (0xeea00fc0 + (o.third % 32) ↑ 16) 0 0 0 o.first o.second)
+    else if bytes_eq s (codes "vdup") then Some (of_vectors (dup_base (element_in o.size) + o.second ↑ 12) 0 0 o.first 0 0)
+    else if bytes_eq s (codes "vctp") then Some (of_core (0xf000e801 + o.first ↑ 16) 0 o.size 0 0 0)
+    else None
+
+-- V24 to V27, of elements that have the size y in memory, which a store has where l is 0
+abbrev pub index_code : Operands → ℕ
+index_code o = o.before ↑ 24 + o.added ↑ 23 + o.back ↑ 21
+
+abbrev pub addresses_code : ℕ → Operands → ℕ
+addresses_code l o = of_access (0xfd001e00 + o.added ↑ 23 + o.back ↑ 21) l (2 * o.second) o.first 0 (o.third / 4)
+
+abbrev pub offsets_code : ℕ → ℕ → Operands → ℕ
+offsets_code l y o =
+    of_access (0xec800e00 + o.sign ↑ 28 + (y / 2) ↑ 6 + (y % 2) ↑ 4 + o.third ↑ 1) l o.second o.first o.size o.fourth
+
+abbrev pub offset_code : ℕ → ℕ → Operands → ℕ
+offset_code l y o =
+    if o.size == y then of_access (0xec001e00 + index_code o) l o.second o.first y (o.third / 2 ^ y)
+    else of_access (0xec000e00 + o.sign ↑ 28 + index_code o + y ↑ 19) l o.second o.first o.size (o.third / 2 ^ y)
+
+abbrev pub access_code : ℕ → ℕ → Operands → ℕ
+access_code l y o =
+    if o.is_at_vector then addresses_code l o
+    else if o.is_vector then offsets_code l y o
+    else offset_code l y o
+
+abbrev pub code_store : List ℕ → Operands → Option ℕ
+code_store s o = option_map (λ y. access_code 0 y o) (store_in s)
+
+abbrev pub code_load : List ℕ → Operands → Option ℕ
+code_load s o = option_map (λ y. access_code 1 y o) (load_in s)
+
+-- V28
+abbrev pub code_pair : List ℕ → Operands → Option ℕ
+code_pair s o = option_map (λ b. of_access (b + o.back ↑ 21) 0 o.third o.first o.size 0) (pair_base s)
+
+abbrev pub code_quad : List ℕ → Operands → Option ℕ
+code_quad s o = option_map (λ b. of_access (b + o.back ↑ 21) 0 o.fifth o.first o.size 0) (quad_base s)
+
+-- ALL ROWS
+abbrev pub code_of_pair : List ℕ → Operands → Option ℕ
+code_of_pair s o =
+    first (code_three s o) (first (code_vector_shift s o) (first (code_carry s o) (first (code_turn s o) (code_scalar s o))))
+
+abbrev pub code_of_one : List ℕ → Operands → Option ℕ
+code_of_one s o =
+    first (code_right s o) (first (code_left s o) (first (code_long s o) (first (code_single s o) (first (code_constant s o) (code_narrow s o)))))
+
+abbrev pub code_of_sum : List ℕ → Operands → Option ℕ
+code_of_sum s o =
+    first (code_sum s o) (first (code_dot s o) (first (code_long_sum s o) (first (code_long_dot s o) (code_extreme s o))))
+
+abbrev pub code_of_other : List ℕ → Operands → Option ℕ
+code_of_other s o =
+    first (code_offsets s o) (first (code_wrapped s o) (first (code_compare s o) (first (code_block s) (code_alone s o))))
+
+abbrev pub code_of_memory : List ℕ → Operands → Option ℕ
+code_of_memory s o = first (code_store s o) (first (code_load s o) (first (code_pair s o) (code_quad s o)))
+
+unfoldable pub code_of : List ℕ → Operands → Option ℕ
+code_of s o =
+    first (code_of_pair s o) (first (code_of_one s o) (first (code_of_sum s o) (first (code_of_other s o) (code_of_memory s o))))
+
+abbrev pub code_cut : List ℕ × List ℕ → List Tok → Option ℕ
+code_cut parts ts = code_of parts.0 (read_operands parts.1 ts)
+
+-- the mnemonic is cut at its point
+abbrev pub code_in : List Tok → Option ℕ
+code_in [] = None
+code_in (word name ∷ ts) = code_cut (span 46 name) ts
+code_in (number n ∷ ts) = None
+code_in (mark c ∷ ts) = None

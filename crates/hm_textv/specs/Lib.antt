@@ -1,0 +1,5 @@
+pub mod Stems
+pub mod Rows
+pub mod Operands
+pub mod Bases
+pub mod Codes

@@ -1,0 +1,255 @@
+-- The text of each vector row, as tokens.
+use Rattle.std.specs.Prelude.{◌≡◌, ◌⊎◌, ℕ, ◌+◌, ◌-◌, ◌*◌, ◌^◌, Bool, cond, List, [], ◌∷◌, ◌++◌, get_or, codes, nat_eq, nat_lt, Option, Some, None, if◌then◌else◌}
+use Rattle.hm_isa.specs.declared.Vector.{Vector}
+use Rattle.hm_isa.specs.declared.Vector.TheVariants.{V1, V2, V3, V4, V5, V6, V7, V8, V9, V10, V11, V12, V13, V14, V15, V16, V17, V18, V19, V20, V21, V22, V23, V24, V25, V26, V27, V28}
+use Rattle.hm_isa.specs.declared.vectors.V11.{V11 as ShiftRow}
+use Rattle.hm_isa.specs.declared.vectors.V12.{V12 as LongRow}
+use Rattle.hm_isa.specs.declared.vectors.V12.TheVariants as v12
+use Rattle.hm_isa.specs.declared.vectors.V13.{V13 as OneRow}
+use Rattle.hm_isa.specs.declared.vectors.V13.TheVariants as v13
+use Rattle.hm_isa.specs.declared.vectors.V15.{V15 as ConstantRow}
+use Rattle.hm_isa.specs.declared.vectors.V19.{V19 as OffsetsRow}
+use Rattle.hm_isa.specs.declared.vectors.V19.TheVariants as v19
+use Rattle.hm_isa.specs.declared.vectors.V20.{V20 as CompareRow}
+use Rattle.hm_isa.specs.declared.vectors.V20.TheVariants as v20
+use Rattle.hm_isa.specs.declared.vectors.V21.{V21 as PredicateRow}
+use Rattle.hm_isa.specs.declared.vectors.V21.TheVariants as v21
+use Rattle.hm_isa.specs.declared.vectors.V22.{V22 as SumRow}
+use Rattle.hm_isa.specs.declared.vectors.V22.TheVariants as v22
+use Rattle.hm_isa.specs.declared.vectors.BitwiseName.{BitwiseName}
+use Rattle.hm_isa.specs.declared.vectors.BitwiseName.TheVariants as bitwise
+use Rattle.hm_isa.specs.declared.vectors.ConstantShiftName.{ConstantShiftName}
+use Rattle.hm_isa.specs.declared.vectors.ConstantShiftName.TheVariants as by_constant
+use Rattle.hm_tokens.specs.Lines.{IsLineOf}
+use Rattle.hm_tokens.specs.Names.{register_name, vector_name}
+use Rattle.hm_tokens.specs.Tokens.{Tok, word, number, mark}
+use Rattle.hm_textv.specs.Stems.{access_stem, access_suffix, add_stem, bitwise_stem, block_letters, by_sign, carry_stem, compare_condition, compare_suffix, constant_shift_stem, constant_shift_suffix, doubling_stem, either, extreme_stem, high_stem, integer, narrow_stem, narrow_suffix, offsets_stem, one_stem, one_suffix, pair_stem, plain, quad_stem, reverse_stem, scalar_stem, scalar_suffix, signed, signed_stem, size_number, turn_stem, turn_suffix, unsigned, vector_shift_stem, wrapped_stem}
+
+-- OPERANDS
+abbrev pub q : ℕ → Tok
+q d = word (vector_name d)
+
+abbrev pub r : ℕ → Tok
+r n = word (register_name n)
+
+abbrev pub comma : Tok
+comma = mark 44
+
+-- `#n`
+abbrev pub constant : ℕ → List Tok
+constant n = mark 35 ∷ number n ∷ []
+
+-- SHAPES
+abbrev pub two : List ℕ → Tok → Tok → List Tok
+two name a b = word name ∷ a ∷ comma ∷ b ∷ []
+
+abbrev pub three : List ℕ → Tok → Tok → Tok → List Tok
+three name a b c = word name ∷ a ∷ comma ∷ b ∷ comma ∷ c ∷ []
+
+abbrev pub four : List ℕ → Tok → Tok → Tok → Tok → List Tok
+four name a b c d = word name ∷ a ∷ comma ∷ b ∷ comma ∷ c ∷ comma ∷ d ∷ []
+
+-- and a constant behind them
+abbrev pub and_constant : List Tok → ℕ → List Tok
+and_constant front n = front ++ comma ∷ constant n
+
+-- ROWS
+-- the size of elements that the highest bit of x tells, and how many bits they have
+abbrev pub size_in : ℕ → ℕ
+size_in x = cond (nat_lt x 16) 0 (cond (nat_lt x 32) 1 2)
+
+abbrev pub shift_in : ConstantShiftName → ℕ → ℕ
+shift_in by_constant.Shr x = 2 * 2 ^ (3 + size_in x) - x
+shift_in by_constant.Rshr x = 2 * 2 ^ (3 + size_in x) - x
+shift_in by_constant.Sri x = 2 * 2 ^ (3 + size_in x) - x
+shift_in name x = x - 2 ^ (3 + size_in x)
+
+abbrev pub shift_tokens : ShiftRow → List Tok
+shift_tokens i = and_constant (two (constant_shift_stem i.name ++ constant_shift_suffix i.name i.u.value (size_in i.x.value)) (q i.d.value) (q i.m.value)) (shift_in i.name i.x.value)
+
+-- a shift by 0 is written as a move
+abbrev pub long_part : ℕ → List ℕ → ℕ → ℕ → ℕ → List Tok
+long_part t suffix d m k =
+    cond (nat_eq k 0)
+    (two (either t (codes "vmovlb") (codes "vmovlt") ++ suffix) (q d) (q m))
+    (and_constant (two (either t (codes "vshllb") (codes "vshllt") ++ suffix) (q d) (q m)) k)
+
+abbrev pub long_tokens : LongRow → List Tok
+long_tokens (v12.Bytes i) = long_part i.t.value (by_sign i.u.value 0) i.d.value i.m.value i.k.value
+long_tokens (v12.Halves i) = long_part i.t.value (by_sign i.u.value 1) i.d.value i.m.value i.k.value
+long_tokens (v12.Full i) = and_constant (two (either i.t.value (codes "vshllb") (codes "vshllt") ++ by_sign i.u.value i.z.value) (q i.d.value) (q i.m.value)) (8 * 2 ^ i.z.value)
+
+abbrev pub one_tokens : OneRow → List Tok
+one_tokens (v13.Elements i) = two (one_stem i.name ++ one_suffix i.name i.z.value) (q i.d.value) (q i.m.value)
+one_tokens (v13.Not i) = two (codes "vmvn") (q i.d.value) (q i.m.value)
+
+abbrev pub moved : ℕ → List ℕ
+moved op = either op (codes "vmov") (codes "vmvn")
+
+abbrev pub merged : ℕ → List ℕ
+merged op = either op (codes "vorr") (codes "vbic")
+
+-- `#x,lsl #n`: the immediate and how far it is shifted
+abbrev pub shifted : List ℕ → List ℕ → ℕ → ℕ → ℕ → List Tok
+shifted name kind n d x = word name ∷ q d ∷ comma ∷ (constant x ++ comma ∷ word kind ∷ constant n)
+
+abbrev pub unshifted : List ℕ → ℕ → ℕ → List Tok
+unshifted name d x = word name ∷ q d ∷ comma ∷ constant x
+
+-- by cm: the element, where the immediate stands in it, and by op one of two operations
+abbrev pub constant_forms : ℕ → ℕ → ℕ → List (List Tok)
+constant_forms op d x =
+    shifted (moved op ++ codes ".i32") (codes "lsl") 0 d x
+    ∷ shifted (merged op ++ codes ".i32") (codes "lsl") 0 d x
+    ∷ shifted (moved op ++ codes ".i32") (codes "lsl") 8 d x
+    ∷ shifted (merged op ++ codes ".i32") (codes "lsl") 8 d x
+    ∷ shifted (moved op ++ codes ".i32") (codes "lsl") 16 d x
+    ∷ shifted (merged op ++ codes ".i32") (codes "lsl") 16 d x
+    ∷ shifted (moved op ++ codes ".i32") (codes "lsl") 24 d x
+    ∷ shifted (merged op ++ codes ".i32") (codes "lsl") 24 d x
+    ∷ shifted (moved op ++ codes ".i16") (codes "lsl") 0 d x
+    ∷ shifted (merged op ++ codes ".i16") (codes "lsl") 0 d x
+    ∷ shifted (moved op ++ codes ".i16") (codes "lsl") 8 d x
+    ∷ shifted (merged op ++ codes ".i16") (codes "lsl") 8 d x
+    ∷ shifted (moved op ++ codes ".i32") (codes "msl") 8 d x
+    ∷ shifted (moved op ++ codes ".i32") (codes "msl") 16 d x
+    ∷ unshifted (codes "vmov" ++ either op (codes ".i8") (codes ".i64")) d x
+    ∷ []
+
+abbrev pub constant_tokens : ConstantRow → List Tok
+constant_tokens i = get_or (constant_forms i.op.value i.d.value (128 * i.i.value + 16 * i.i3.value + i.i4.value)) i.cm.value []
+
+abbrev pub offsets_tokens : OffsetsRow → List Tok
+offsets_tokens (v19.Free i) = and_constant (two (offsets_stem i.name ++ unsigned i.z.value) (q i.d.value) (r (2 * i.n.value))) (2 ^ i.k.value)
+offsets_tokens (v19.Wrapped i) =
+    and_constant (three (wrapped_stem i.name ++ unsigned i.z.value) (q i.d.value) (r (2 * i.n.value)) (r (2 * i.r.value + 1))) (2 ^ i.k.value)
+
+-- `vcmp`, or `vpt` and the letters of its block
+abbrev pub compare_name : ℕ → ℕ → ℕ → List ℕ
+compare_name k c z = cond (nat_eq k 0) (codes "vcmp") (codes "vpt") ++ (block_letters k ++ compare_suffix c z)
+
+-- as a second operand 15 is `zr`
+abbrev pub or_zero : ℕ → Tok
+or_zero n = word (cond (nat_eq n 15) (codes "zr") (register_name n))
+
+abbrev pub compare_tokens : CompareRow → List Tok
+compare_tokens (v20.Vectors i) = three (compare_name i.k.value i.c.value i.z.value) (word (compare_condition i.c.value)) (q i.n.value) (q i.m.value)
+compare_tokens (v20.Scalar i) = three (compare_name i.k.value i.c.value i.z.value) (word (compare_condition i.c.value)) (q i.n.value) (or_zero i.m.value)
+
+abbrev pub predicate_tokens : PredicateRow → List Tok
+predicate_tokens (v21.Block i) = word (cond (nat_eq i.k.value 0) (codes "vpnot") (codes "vpst") ++ block_letters i.k.value) ∷ []
+predicate_tokens (v21.Select i) = three (codes "vpsel") (q i.d.value) (q i.n.value) (q i.m.value)
+predicate_tokens (v21.Tail i) = word (codes "vctp" ++ plain i.z.value) ∷ r i.n.value ∷ []
+
+-- the sum goes on from the old value where a is 1
+abbrev pub sum_tokens : SumRow → List Tok
+sum_tokens (v22.Sum i) = two (either i.a.value (codes "vaddv") (codes "vaddva") ++ by_sign i.u.value i.z.value) (r (2 * i.l.value)) (q i.m.value)
+sum_tokens (v22.Dot i) =
+    three (either i.a.value (codes "vmladav") (codes "vmladava") ++ by_sign i.u.value (size_number i.size)) (r (2 * i.l.value)) (q i.n.value) (q i.m.value)
+sum_tokens (v22.LongSum i) =
+    three (either i.a.value (codes "vaddlv") (codes "vaddlva") ++ by_sign i.u.value 2) (r (2 * i.l.value)) (r (2 * i.h.value + 1)) (q i.m.value)
+sum_tokens (v22.LongDot i) =
+    four (either i.a.value (codes "vmlaldav") (codes "vmlaldava") ++ by_sign i.u.value (i.s.value + 1)) (r (2 * i.l.value)) (r (2 * i.h.value + 1)) (q i.n.value) (q i.m.value)
+
+-- LOADS AND STORES
+-- a minus sign, where the offset is taken away
+abbrev pub minus : ℕ → List Tok
+minus a = cond (nat_eq a 0) (mark 45 ∷ []) []
+
+-- `!`, where the address is written back
+abbrev pub back : ℕ → List Tok
+back w = cond (nat_eq w 0) [] (mark 33 ∷ [])
+
+-- `,#n`
+abbrev pub offset : ℕ → ℕ → List Tok
+offset a n = comma ∷ mark 35 ∷ (minus a ++ number n ∷ [])
+
+-- `[base,#n]`, `[base,#n]!`, and where the offset goes to the base alone `[base],#n`
+abbrev pub inside : ℕ → ℕ → Tok → ℕ → List Tok
+inside a w base n = mark 91 ∷ base ∷ (offset a n ++ mark 93 ∷ back w)
+
+abbrev pub outside : ℕ → Tok → ℕ → List Tok
+outside a base n = mark 91 ∷ base ∷ mark 93 ∷ offset a n
+
+abbrev pub indexed : ℕ → ℕ → ℕ → Tok → ℕ → List Tok
+indexed p a w base n = cond (nat_eq p 0) (outside a base n) (inside a w base n)
+
+-- `[base,qm]`, and where the offsets are in elements `[base,qm,uxtw #y]`
+abbrev pub scale : ℕ → ℕ → List Tok
+scale o y = cond (nat_eq o 0) [] (comma ∷ word (codes "uxtw") ∷ constant y)
+
+abbrev pub at_offsets : Tok → ℕ → ℕ → ℕ → List Tok
+at_offsets base m o y = mark 91 ∷ base ∷ comma ∷ q m ∷ (scale o y ++ mark 93 ∷ [])
+
+-- a register and an address
+abbrev pub access : List ℕ → ℕ → List Tok → List Tok
+access name d address = word name ∷ q d ∷ comma ∷ address
+
+-- `{qd,qe}`, and `{qd,qe,qf,qg}` where f is 1
+abbrev pub registers : ℕ → ℕ → List Tok
+registers f d =
+    cond (nat_eq f 0)
+    (mark 123 ∷ q d ∷ comma ∷ q (d + 1) ∷ mark 125 ∷ [])
+    (mark 123 ∷ q d ∷ comma ∷ q (d + 1) ∷ comma ∷ q (d + 2) ∷ comma ∷ q (d + 3) ∷ mark 125 ∷ [])
+
+abbrev pub turns : List ℕ → ℕ → ℕ → Tok → ℕ → List Tok
+turns name f d base w = word name ∷ (registers f d ++ comma ∷ mark 91 ∷ base ∷ mark 93 ∷ back w)
+
+-- the tokens of each row as it is printed
+abbrev pub tokens_of : Vector → List Tok
+tokens_of (V1 i) = three (add_stem i.name ++ integer i.z.value) (q i.d.value) (q i.n.value) (q i.m.value)
+tokens_of (V2 i) = three (bitwise_stem i.name) (q i.d.value) (q i.n.value) (q i.m.value)
+tokens_of (V3 i) = three (signed_stem i.name ++ by_sign i.u.value i.z.value) (q i.d.value) (q i.n.value) (q i.m.value)
+tokens_of (V4 i) = three (vector_shift_stem i.name ++ by_sign i.u.value i.z.value) (q i.d.value) (q i.m.value) (q i.n.value)
+tokens_of (V5 i) = three (doubling_stem i.name ++ signed i.z.value) (q i.d.value) (q i.n.value) (q i.m.value)
+tokens_of (V6 i) = three (either i.t.value (codes "vmullb") (codes "vmullt") ++ by_sign i.u.value i.z.value) (q i.d.value) (q i.n.value) (q i.m.value)
+tokens_of (V7 i) = three (high_stem i.name ++ by_sign i.u.value i.z.value) (q i.d.value) (q i.n.value) (q i.m.value)
+tokens_of (V8 i) = three (carry_stem i.name ++ codes ".i32") (q i.d.value) (q i.n.value) (q i.m.value)
+tokens_of (V9 i) = and_constant (three (turn_stem i.name ++ turn_suffix i.name i.z.value) (q i.d.value) (q i.n.value) (q i.m.value)) (cond (nat_eq i.t.value 0) 90 270)
+tokens_of (V10 i) = three (scalar_stem i.name ++ scalar_suffix i.name i.u.value i.z.value) (q i.d.value) (q i.n.value) (r i.m.value)
+tokens_of (V11 i) = shift_tokens i
+tokens_of (V12 i) = long_tokens i
+tokens_of (V13 i) = one_tokens i
+tokens_of (V14 i) = two (reverse_stem i.name ++ plain i.z.value) (q i.d.value) (q i.m.value)
+tokens_of (V15 i) = constant_tokens i
+tokens_of (V16 i) = two (narrow_stem i.name i.t.value ++ narrow_suffix i.name i.z.value) (q i.d.value) (q i.m.value)
+tokens_of (V17 i) = and_constant (two (codes "vshlc") (q i.d.value) (r i.m.value)) (cond (nat_eq i.k.value 0) 32 i.k.value)
+tokens_of (V18 i) = two (codes "vdup" ++ plain (size_number i.size)) (q i.d.value) (r i.t.value)
+tokens_of (V19 i) = offsets_tokens i
+tokens_of (V20 i) = compare_tokens i
+tokens_of (V21 i) = predicate_tokens i
+tokens_of (V22 i) = sum_tokens i
+tokens_of (V23 i) = two (extreme_stem i.name ++ by_sign i.u.value i.z.value) (r i.t.value) (q i.m.value)
+tokens_of (V24 i) =
+    access (access_stem i.l.value i.z.value ++ access_suffix i.l.value 1 i.z.value) i.d.value
+    (indexed i.p.value i.a.value i.w.value (r i.n.value) (i.i.value * 2 ^ i.z.value))
+tokens_of (V25 i) =
+    access (access_stem i.l.value i.h.value ++ access_suffix i.l.value i.u.value i.z.value) i.d.value
+    (indexed i.p.value i.a.value i.w.value (r i.n.value) (i.i.value * 2 ^ i.h.value))
+tokens_of (V26 i) =
+    access (access_stem i.l.value i.y.value ++ access_suffix i.l.value i.u.value i.z.value) i.d.value
+    (at_offsets (r i.n.value) i.m.value i.o.value i.y.value)
+tokens_of (V27 i) =
+    access (access_stem i.l.value 2 ++ access_suffix i.l.value 1 2) i.d.value (inside i.a.value i.w.value (q i.m.value) (4 * i.i.value))
+tokens_of (V28 i) =
+    turns (either i.f.value (pair_stem i.l.value i.p.value) (quad_stem i.l.value i.p.value) ++ plain i.z.value) i.f.value i.d.value (r i.n.value) i.w.value
+
+-- a register is moved by `vorr` with itself
+abbrev pub other_bitwise : BitwiseName → Bool → ℕ → ℕ → Option (List Tok)
+other_bitwise bitwise.Orr same d m = if same then Some (two (codes "vmov") (q d) (q m)) else None
+other_bitwise name same d m = None
+
+-- the other text that is read as a row: `vmov qd,qm` as vorr, and `vmlav`, `vmlava` as vmladav, vmladava
+abbrev pub other_tokens : Vector → Option (List Tok)
+other_tokens (V2 i) = other_bitwise i.name (nat_eq i.n.value i.m.value) i.d.value i.m.value
+other_tokens (V22 (v22.Dot i)) =
+    Some (three (either i.a.value (codes "vmlav") (codes "vmlava") ++ by_sign i.u.value (size_number i.size)) (r (2 * i.l.value)) (q i.n.value) (q i.m.value))
+other_tokens v = None
+
+-- the tokens are one of the row's texts
+abbrev pub HasTokens : Vector → List Tok → Type 0
+HasTokens v ts = (tokens_of v ≡ ts) ⊎ (other_tokens v ≡ Some ts)
+
+-- the text is one of the row's
+abbrev pub IsTextOf : List ℕ → Vector → Type 0
+IsTextOf text v = (ts : List Tok) × IsLineOf text ts × HasTokens v ts

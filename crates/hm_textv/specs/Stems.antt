@@ -1,0 +1,236 @@
+-- The mnemonics of the vector rows: stems, and what stands behind the point.
+use Rattle.std.specs.Prelude.{ℕ, ◌+◌, cond, List, [], ◌∷◌, ◌++◌, get_or, codes, nat_eq}
+use Rattle.hm_isa.specs.declared.vectors.AddName.{AddName}
+use Rattle.hm_isa.specs.declared.vectors.AddName.TheVariants as add
+use Rattle.hm_isa.specs.declared.vectors.BitwiseName.{BitwiseName}
+use Rattle.hm_isa.specs.declared.vectors.BitwiseName.TheVariants as bitwise
+use Rattle.hm_isa.specs.declared.vectors.SignedName.{SignedName}
+use Rattle.hm_isa.specs.declared.vectors.SignedName.TheVariants as signed_
+use Rattle.hm_isa.specs.declared.vectors.VectorShiftName.{VectorShiftName}
+use Rattle.hm_isa.specs.declared.vectors.VectorShiftName.TheVariants as by_vector
+use Rattle.hm_isa.specs.declared.vectors.DoublingName.{DoublingName}
+use Rattle.hm_isa.specs.declared.vectors.DoublingName.TheVariants as doubling
+use Rattle.hm_isa.specs.declared.vectors.HighName.{HighName}
+use Rattle.hm_isa.specs.declared.vectors.HighName.TheVariants as high
+use Rattle.hm_isa.specs.declared.vectors.CarryName.{CarryName}
+use Rattle.hm_isa.specs.declared.vectors.CarryName.TheVariants as carry
+use Rattle.hm_isa.specs.declared.vectors.TurnName.{TurnName}
+use Rattle.hm_isa.specs.declared.vectors.TurnName.TheVariants as turn
+use Rattle.hm_isa.specs.declared.vectors.ScalarName.{ScalarName}
+use Rattle.hm_isa.specs.declared.vectors.ScalarName.TheVariants as by_scalar
+use Rattle.hm_isa.specs.declared.vectors.ConstantShiftName.{ConstantShiftName}
+use Rattle.hm_isa.specs.declared.vectors.ConstantShiftName.TheVariants as by_constant
+use Rattle.hm_isa.specs.declared.vectors.OneName.{OneName}
+use Rattle.hm_isa.specs.declared.vectors.OneName.TheVariants as one
+use Rattle.hm_isa.specs.declared.vectors.ReverseName.{ReverseName}
+use Rattle.hm_isa.specs.declared.vectors.ReverseName.TheVariants as reverse_
+use Rattle.hm_isa.specs.declared.vectors.NarrowName.{NarrowName}
+use Rattle.hm_isa.specs.declared.vectors.NarrowName.TheVariants as narrow_
+use Rattle.hm_isa.specs.declared.vectors.OffsetsName.{OffsetsName}
+use Rattle.hm_isa.specs.declared.vectors.OffsetsName.TheVariants as offsets
+use Rattle.hm_isa.specs.declared.vectors.ExtremeName.{ExtremeName}
+use Rattle.hm_isa.specs.declared.vectors.ExtremeName.TheVariants as extreme
+use Rattle.hm_isa.specs.declared.vectors.Element.{Element}
+use Rattle.hm_isa.specs.declared.vectors.Element.TheVariants as element
+
+-- BEHIND THE POINT
+-- 8, 16, 32 or 64 bits
+abbrev pub bits : ℕ → List ℕ
+bits z = get_or (codes "8" ∷ codes "16" ∷ codes "32" ∷ codes "64" ∷ []) z []
+
+abbrev pub plain : ℕ → List ℕ
+plain z = codes "." ++ bits z
+
+abbrev pub integer : ℕ → List ℕ
+integer z = codes ".i" ++ bits z
+
+abbrev pub signed : ℕ → List ℕ
+signed z = codes ".s" ++ bits z
+
+abbrev pub unsigned : ℕ → List ℕ
+unsigned z = codes ".u" ++ bits z
+
+-- signed where u is 0
+abbrev pub by_sign : ℕ → ℕ → List ℕ
+by_sign u z = cond (nat_eq u 0) (signed z) (unsigned z)
+
+-- the number of an element size
+abbrev pub size_number : Element → ℕ
+size_number element.Bytes = 0
+size_number element.Halves = 1
+size_number element.Words = 2
+
+-- STEMS
+abbrev pub add_stem : AddName → List ℕ
+add_stem add.Add = codes "vadd"
+add_stem add.Sub = codes "vsub"
+add_stem add.Mul = codes "vmul"
+
+abbrev pub bitwise_stem : BitwiseName → List ℕ
+bitwise_stem bitwise.And = codes "vand"
+bitwise_stem bitwise.Bic = codes "vbic"
+bitwise_stem bitwise.Orr = codes "vorr"
+bitwise_stem bitwise.Orn = codes "vorn"
+bitwise_stem bitwise.Eor = codes "veor"
+
+abbrev pub signed_stem : SignedName → List ℕ
+signed_stem signed_.Max = codes "vmax"
+signed_stem signed_.Min = codes "vmin"
+signed_stem signed_.Abd = codes "vabd"
+signed_stem signed_.Hadd = codes "vhadd"
+signed_stem signed_.Rhadd = codes "vrhadd"
+signed_stem signed_.Hsub = codes "vhsub"
+signed_stem signed_.Qadd = codes "vqadd"
+signed_stem signed_.Qsub = codes "vqsub"
+
+abbrev pub vector_shift_stem : VectorShiftName → List ℕ
+vector_shift_stem by_vector.Shl = codes "vshl"
+vector_shift_stem by_vector.Qshl = codes "vqshl"
+vector_shift_stem by_vector.Rshl = codes "vrshl"
+vector_shift_stem by_vector.Qrshl = codes "vqrshl"
+
+abbrev pub doubling_stem : DoublingName → List ℕ
+doubling_stem doubling.Qdmulh = codes "vqdmulh"
+doubling_stem doubling.Qrdmulh = codes "vqrdmulh"
+
+abbrev pub high_stem : HighName → List ℕ
+high_stem high.Mulh = codes "vmulh"
+high_stem high.Rmulh = codes "vrmulh"
+
+abbrev pub carry_stem : CarryName → List ℕ
+carry_stem carry.Adc = codes "vadc"
+carry_stem carry.Adci = codes "vadci"
+carry_stem carry.Sbc = codes "vsbc"
+carry_stem carry.Sbci = codes "vsbci"
+
+abbrev pub turn_stem : TurnName → List ℕ
+turn_stem turn.Cadd = codes "vcadd"
+turn_stem turn.Hcadd = codes "vhcadd"
+
+abbrev pub scalar_stem : ScalarName → List ℕ
+scalar_stem by_scalar.Add = codes "vadd"
+scalar_stem by_scalar.Sub = codes "vsub"
+scalar_stem by_scalar.Mul = codes "vmul"
+scalar_stem by_scalar.Hadd = codes "vhadd"
+scalar_stem by_scalar.Hsub = codes "vhsub"
+scalar_stem by_scalar.Qadd = codes "vqadd"
+scalar_stem by_scalar.Qsub = codes "vqsub"
+scalar_stem by_scalar.Qdmulh = codes "vqdmulh"
+scalar_stem by_scalar.Qrdmulh = codes "vqrdmulh"
+scalar_stem by_scalar.Mla = codes "vmla"
+scalar_stem by_scalar.Mlas = codes "vmlas"
+
+abbrev pub constant_shift_stem : ConstantShiftName → List ℕ
+constant_shift_stem by_constant.Shr = codes "vshr"
+constant_shift_stem by_constant.Rshr = codes "vrshr"
+constant_shift_stem by_constant.Qshl = codes "vqshl"
+constant_shift_stem by_constant.Qshlu = codes "vqshlu"
+constant_shift_stem by_constant.Shl = codes "vshl"
+constant_shift_stem by_constant.Sri = codes "vsri"
+constant_shift_stem by_constant.Sli = codes "vsli"
+
+abbrev pub one_stem : OneName → List ℕ
+one_stem one.Cls = codes "vcls"
+one_stem one.Clz = codes "vclz"
+one_stem one.Abs = codes "vabs"
+one_stem one.Neg = codes "vneg"
+one_stem one.Qabs = codes "vqabs"
+one_stem one.Qneg = codes "vqneg"
+
+abbrev pub reverse_stem : ReverseName → List ℕ
+reverse_stem reverse_.Rev64 = codes "vrev64"
+reverse_stem reverse_.Rev32 = codes "vrev32"
+reverse_stem reverse_.Rev16 = codes "vrev16"
+
+-- with b for the lower part of each wide element, or t for the upper
+abbrev pub narrow_stem : NarrowName → ℕ → List ℕ
+narrow_stem narrow_.Plain t = cond (nat_eq t 0) (codes "vmovnb") (codes "vmovnt")
+narrow_stem narrow_.ToUnsigned t = cond (nat_eq t 0) (codes "vqmovunb") (codes "vqmovunt")
+narrow_stem narrow_.Signed t = cond (nat_eq t 0) (codes "vqmovnb") (codes "vqmovnt")
+narrow_stem narrow_.Unsigned t = cond (nat_eq t 0) (codes "vqmovnb") (codes "vqmovnt")
+
+abbrev pub extreme_stem : ExtremeName → List ℕ
+extreme_stem extreme.Max = codes "vmaxv"
+extreme_stem extreme.Min = codes "vminv"
+
+abbrev pub offsets_stem : OffsetsName → List ℕ
+offsets_stem offsets.Up = codes "vidup"
+offsets_stem offsets.Down = codes "vddup"
+
+abbrev pub wrapped_stem : OffsetsName → List ℕ
+wrapped_stem offsets.Up = codes "viwdup"
+wrapped_stem offsets.Down = codes "vdwdup"
+
+-- one of two stems, by a bit
+abbrev pub either : ℕ → List ℕ → List ℕ → List ℕ
+either bit zero_ one_ = cond (nat_eq bit 0) zero_ one_
+
+-- of a store where l is 0, or a load of elements that have the size y in memory
+abbrev pub access_stem : ℕ → ℕ → List ℕ
+access_stem l y =
+    either l
+    (get_or (codes "vstrb" ∷ codes "vstrh" ∷ codes "vstrw" ∷ []) y [])
+    (get_or (codes "vldrb" ∷ codes "vldrh" ∷ codes "vldrw" ∷ []) y [])
+
+-- of part p of two registers, or of four, that are stored where l is 0, or loaded
+abbrev pub pair_stem : ℕ → ℕ → List ℕ
+pair_stem l p =
+    either l
+    (get_or (codes "vst20" ∷ codes "vst21" ∷ []) p [])
+    (get_or (codes "vld20" ∷ codes "vld21" ∷ []) p [])
+
+abbrev pub quad_stem : ℕ → ℕ → List ℕ
+quad_stem l p =
+    either l
+    (get_or (codes "vst40" ∷ codes "vst41" ∷ codes "vst42" ∷ codes "vst43" ∷ []) p [])
+    (get_or (codes "vld40" ∷ codes "vld41" ∷ codes "vld42" ∷ codes "vld43" ∷ []) p [])
+
+-- WHAT STANDS BEHIND THE POINT, BY NAME
+abbrev pub turn_suffix : TurnName → ℕ → List ℕ
+turn_suffix turn.Cadd z = integer z
+turn_suffix turn.Hcadd z = signed z
+
+abbrev pub scalar_suffix : ScalarName → ℕ → ℕ → List ℕ
+scalar_suffix by_scalar.Add u z = integer z
+scalar_suffix by_scalar.Sub u z = integer z
+scalar_suffix by_scalar.Mul u z = integer z
+scalar_suffix by_scalar.Qdmulh u z = signed z
+scalar_suffix by_scalar.Qrdmulh u z = signed z
+scalar_suffix name u z = by_sign u z
+
+abbrev pub constant_shift_suffix : ConstantShiftName → ℕ → ℕ → List ℕ
+constant_shift_suffix by_constant.Qshlu u z = signed z
+constant_shift_suffix by_constant.Shl u z = integer z
+constant_shift_suffix by_constant.Sri u z = plain z
+constant_shift_suffix by_constant.Sli u z = plain z
+constant_shift_suffix name u z = by_sign u z
+
+abbrev pub one_suffix : OneName → ℕ → List ℕ
+one_suffix one.Clz z = integer z
+one_suffix name z = signed z
+
+-- the size of the wide elements, by the bit that is 0 where they have 16 bits
+abbrev pub narrow_suffix : NarrowName → ℕ → List ℕ
+narrow_suffix narrow_.Plain z = integer (z + 1)
+narrow_suffix narrow_.ToUnsigned z = signed (z + 1)
+narrow_suffix narrow_.Signed z = signed (z + 1)
+narrow_suffix narrow_.Unsigned z = unsigned (z + 1)
+
+-- a store has no sign
+abbrev pub access_suffix : ℕ → ℕ → ℕ → List ℕ
+access_suffix l u z = either l (plain z) (by_sign u z)
+
+-- by the condition: eq and ne are of integers, cs and hi of unsigned numbers, and ge, lt, gt and le of signed ones
+abbrev pub compare_suffix : ℕ → ℕ → List ℕ
+compare_suffix c z = get_or (integer z ∷ integer z ∷ unsigned z ∷ unsigned z ∷ signed z ∷ signed z ∷ signed z ∷ signed z ∷ []) c []
+
+-- the condition of a comparison
+abbrev pub compare_condition : ℕ → List ℕ
+compare_condition c = get_or (codes "eq" ∷ codes "ne" ∷ codes "cs" ∷ codes "hi" ∷ codes "ge" ∷ codes "lt" ∷ codes "gt" ∷ codes "le" ∷ []) c []
+
+-- the letters of a block, by its mask: t where an instruction has the sense of the first, e where it has the other
+abbrev pub block_letters : ℕ → List ℕ
+block_letters mask = get_or
+    (codes "" ∷ codes "ttt" ∷ codes "tt" ∷ codes "tte" ∷ codes "t" ∷ codes "tee" ∷ codes "te" ∷ codes "tet"
+    ∷ codes "" ∷ codes "eee" ∷ codes "ee" ∷ codes "eet" ∷ codes "e" ∷ codes "ett" ∷ codes "et" ∷ codes "ete" ∷ [])
+    mask []

@@ -1,0 +1,557 @@
+//! The code that a text carelessly asks for: what decides is whether the row that has this code has the text.
+
+ghost use Rattle.std.specs.Prelude.{◌≡◌, ◌<◌, ◌^◌, map};
+ghost use Rattle.hm_isa.specs.Code.{mask_code};
+ghost use Rattle.hm_textv.specs.Codes.{bare_code, bits_in, code_alone, code_cut, code_block, code_carry, code_compare, code_constant, code_dot, code_extreme, code_in, code_left, code_long, code_long_dot, code_long_sum, code_narrow, code_of, code_of_one, code_of_other, code_of_pair, code_of_sum, code_offsets, code_right, code_scalar, code_single, code_sum, code_three, code_turn, code_vector_shift, code_wrapped, compare_code, constant_code, constant_mode, constant_operation, element_in, first, long_code, of_core, of_one, of_vectors, step_in};
+ghost use Rattle.hm_textv.specs.Bases.{product_base, three_base};
+ghost use Rattle.hm_text_base.specs.Spans.{span};
+ghost use Rattle.hm_tokens.specs.Tokens.{tok};
+
+use crate::access::code_of_memory;
+use crate::bases::{
+    block_in, carry_base_in, compare_in, constant_in, dot_in, extreme_base_in, left_base,
+    long_dot_in, long_in, long_sum_in, narrow_base_in, offsets_base_in, product_base, right_base,
+    scalar_base_in, single_base, sum_in, three_base, turn_base_in, vector_shift_base_in,
+    wrapped_base_in,
+};
+use crate::operands::{Operands, read_operands};
+use hm_encv::{base_of_dot, base_of_dup};
+use hm_isa::Element;
+use hm_text_base::span;
+use hm_tokens::Token;
+
+/// Fields of a row of three vectors.
+fn of_vectors(base: u64, u: u32, z: u32, n: u32, d: u32, m: u32) -> u64
+    requires { base < 2 ^ 62 }
+    ensures { result ≡ of_vectors base u z n d m }
+{
+    base + (u64::from(u) << 28)
+        + (u64::from(z) << 20)
+        + (u64::from(n) << 17)
+        + (u64::from(d) << 13)
+        + (u64::from(m) << 1)
+}
+
+/// Fields of a row of two vectors and a core register.
+fn of_core(base: u64, u: u32, z: u32, n: u32, d: u32, m: u32) -> u64
+    requires { base < 2 ^ 62 }
+    ensures { result ≡ of_core base u z n d m }
+{
+    base + (u64::from(u) << 28)
+        + (u64::from(z) << 20)
+        + (u64::from(n) << 17)
+        + (u64::from(d) << 13)
+        + u64::from(m)
+}
+
+/// Fields of a row of two vectors.
+fn of_one(base: u64, u: u32, z: u32, d: u32, m: u32) -> u64
+    requires { base < 2 ^ 62 }
+    ensures { result ≡ of_one base u z d m }
+{
+    base + (u64::from(u) << 28) + (u64::from(z) << 18) + (u64::from(d) << 13) + (u64::from(m) << 1)
+}
+
+/// How many bits elements of a size have.
+fn bits_in(size: u32) -> u32
+    ensures value { result ≡ bits_in size }
+    ensures small { result < 64 }
+{
+    match size {
+        0 => 8,
+        1 => 16,
+        _ => 32,
+    }
+}
+
+/// The size of elements by its number.
+fn element_in(size: u32) -> Element
+    ensures { result ≡ element_in size }
+{
+    match size {
+        0 => Element::Bytes,
+        1 => Element::Halves,
+        _ => Element::Words,
+    }
+}
+
+/// The mask of a block, where it stands in a code.
+fn place_mask(k: u32) -> u64
+    ensures value { result ≡ mask_code k }
+    ensures small { result < 2 ^ 60 }
+{
+    (u64::from(k / 8) << 22) + (u64::from(k % 8) << 13)
+}
+
+/// The first base of two.
+fn first_base(stem: &[u8]) -> Option<u32>
+    ensures { result ≡ first (three_base stem.now) (product_base stem.now) }
+{
+    if let Some(base) = three_base(stem) {
+        return Some(base);
+    }
+    product_base(stem)
+}
+
+/// Rows V1 to V3 and V5 to V7, and `vpsel`.
+fn code_three(stem: &[u8], o: &Operands) -> Option<u64>
+    ensures { result ≡ code_three stem.now o.now }
+{
+    if !o.is_vector {
+        return None;
+    }
+    let base = first_base(stem)?;
+    Some(of_vectors(u64::from(base), o.sign, o.size, o.second, o.first, o.third))
+}
+
+/// Rows V4.
+fn code_vector_shift(stem: &[u8], o: &Operands) -> Option<u64>
+    ensures { result ≡ code_vector_shift stem.now o.now }
+{
+    if !o.is_vector {
+        return None;
+    }
+    let base = vector_shift_base_in(stem)?;
+    Some(of_vectors(u64::from(base), o.sign, o.size, o.third, o.first, o.second))
+}
+
+/// Rows V8.
+fn code_carry(stem: &[u8], o: &Operands) -> Option<u64>
+    ensures { result ≡ code_carry stem.now o.now }
+{
+    let base = carry_base_in(stem)?;
+    Some(of_vectors(u64::from(base), 0, 0, o.second, o.first, o.third))
+}
+
+/// Rows V9.
+fn code_turn(stem: &[u8], o: &Operands) -> Option<u64>
+    ensures { result ≡ code_turn stem.now o.now }
+{
+    let base = u64::from(turn_base_in(stem)?);
+    if o.fourth == 270 {
+        Some(of_vectors(base + 0x1000, 0, o.size, o.second, o.first, o.third))
+    } else {
+        Some(of_vectors(base, 0, o.size, o.second, o.first, o.third))
+    }
+}
+
+/// Rows V10.
+fn code_scalar(stem: &[u8], o: &Operands) -> Option<u64>
+    ensures { result ≡ code_scalar stem.now o.now }
+{
+    if o.is_vector {
+        return None;
+    }
+    let base = scalar_base_in(stem)?;
+    Some(of_core(u64::from(base), o.sign, o.size, o.second, o.first, o.third))
+}
+
+/// Rows V11 to the right.
+fn code_right(stem: &[u8], o: &Operands) -> Option<u64>
+    ensures { result ≡ code_right stem.now o.now }
+{
+    let base = u64::from(right_base(stem)?);
+    let x = (2 * bits_in(o.size)).saturating_sub(o.third);
+    Some(of_one(base + (u64::from(x) << 16), o.sign, 0, o.first, o.second))
+}
+
+/// Rows V11 to the left.
+fn code_left(stem: &[u8], o: &Operands) -> Option<u64>
+    ensures { result ≡ code_left stem.now o.now }
+{
+    let base = u64::from(left_base(stem)?);
+    let x = u64::from(bits_in(o.size)) + u64::from(o.third);
+    Some(of_one(base + (x << 16), o.sign, 0, o.first, o.second))
+}
+
+/// A row V12 of a part.
+fn long_code(t: u32, o: &Operands) -> u64
+    ensures { result ≡ long_code t o.now }
+{
+    let part = u64::from(t) << 12;
+    if o.third == bits_in(o.size) {
+        of_one(0xee31_0e01 + part, o.sign, o.size, o.first, o.second)
+    } else {
+        let base = 0xeea8_0f40 + part + (u64::from(o.size) << 19) + (u64::from(o.third) << 16);
+        of_one(base, o.sign, 0, o.first, o.second)
+    }
+}
+
+/// Rows V12.
+fn code_long(stem: &[u8], o: &Operands) -> Option<u64>
+    ensures { result ≡ code_long stem.now o.now }
+{
+    let t = long_in(stem)?;
+    Some(long_code(t, o))
+}
+
+/// Rows V13 and V14.
+fn code_single(stem: &[u8], o: &Operands) -> Option<u64>
+    ensures { result ≡ code_single stem.now o.now }
+{
+    let base = single_base(stem)?;
+    Some(of_one(u64::from(base), 0, o.size, o.first, o.second))
+}
+
+/// Where the immediate of a row V15 stands in an element of which size.
+fn constant_mode(k: u32, o: &Operands) -> u64
+    ensures value { result ≡ constant_mode k o.now }
+    ensures small { result < 2 ^ 40 }
+{
+    if o.size == 0 {
+        return 14;
+    }
+    if o.size == 3 {
+        return 14;
+    }
+    let shift = u64::from(o.fourth) / 8;
+    if o.third == 1 {
+        return 11 + shift;
+    }
+    u64::from(o.size) % 2 * 8 + shift * 2 + u64::from(k) / 2
+}
+
+/// Which of two operations a row V15 does.
+fn constant_operation(k: u32, o: &Operands) -> u64
+    ensures value { result ≡ constant_operation k o.now }
+    ensures small { result < 2 }
+{
+    if o.size == 3 {
+        return 1;
+    }
+    u64::from(k) % 2
+}
+
+/// A row V15.
+fn constant_code(k: u32, o: &Operands) -> u64
+    ensures { result ≡ constant_code k o.now }
+{
+    let x = u64::from(o.second);
+    let base = 0xef80_0050
+        + (constant_mode(k, o) << 8)
+        + (constant_operation(k, o) << 5)
+        + ((x / 16 % 8) << 16)
+        + x % 16;
+    of_one(base, o.second / 128, 0, o.first, 0)
+}
+
+/// `vmov` and `vmvn` of a register.
+fn bare_code(k: u32, o: &Operands) -> u64
+    ensures { result ≡ bare_code k o.now }
+{
+    if k == 0 {
+        of_vectors(0xef20_0150, 0, 0, o.second, o.first, o.second)
+    } else {
+        of_one(0xffb0_05c0, 0, 0, o.first, o.second)
+    }
+}
+
+/// Rows V15, and `vmov` and `vmvn` of a register.
+fn code_constant(stem: &[u8], o: &Operands) -> Option<u64>
+    ensures { result ≡ code_constant stem.now o.now }
+{
+    let k = constant_in(stem)?;
+    if o.is_bare {
+        Some(bare_code(k, o))
+    } else {
+        Some(constant_code(k, o))
+    }
+}
+
+/// Rows V16.
+fn code_narrow(stem: &[u8], o: &Operands) -> Option<u64>
+    ensures { result ≡ code_narrow stem.now o.now }
+{
+    let base = narrow_base_in(stem)?;
+    Some(of_one(
+        u64::from(base),
+        o.sign,
+        o.size.saturating_sub(1),
+        o.first,
+        o.second,
+    ))
+}
+
+/// The power of a step, where it stands in a code.
+fn step_in(n: u32) -> u64
+    ensures value { result ≡ step_in n }
+    ensures small { result < 256 }
+{
+    match n {
+        2 => 1,
+        4 => 0x80,
+        8 => 0x81,
+        _ => 0,
+    }
+}
+
+/// Rows V19 from one register.
+fn code_offsets(stem: &[u8], o: &Operands) -> Option<u64>
+    ensures { result ≡ code_offsets stem.now o.now }
+{
+    let base = u64::from(offsets_base_in(stem)?);
+    Some(of_core(
+        base + 0xe + step_in(o.third),
+        0,
+        o.size,
+        o.second / 2,
+        o.first,
+        0,
+    ))
+}
+
+/// Rows V19 that go round.
+fn code_wrapped(stem: &[u8], o: &Operands) -> Option<u64>
+    ensures { result ≡ code_wrapped stem.now o.now }
+{
+    let base = u64::from(wrapped_base_in(stem)?);
+    Some(of_vectors(
+        base + step_in(o.fourth),
+        0,
+        o.size,
+        o.second / 2,
+        o.first,
+        o.third / 2,
+    ))
+}
+
+/// A comparison with the mask of its block.
+fn compare_code(k: u32, o: &Operands) -> u64
+    ensures { result ≡ compare_code k o.now }
+{
+    let c = u64::from(o.first);
+    let mask = place_mask(k);
+    if o.is_vector {
+        let base = 0xfe01_0f00 + mask + ((c / 4) << 12) + ((c % 2) << 7) + c / 2 % 2;
+        of_vectors(base, 0, o.size, o.second, 0, o.third)
+    } else {
+        let base = 0xfe01_0f40 + mask + ((c / 4) << 12) + ((c % 2) << 7) + ((c / 2 % 2) << 5);
+        of_core(base, 0, o.size, o.second, 0, o.third)
+    }
+}
+
+/// Rows V20.
+fn code_compare(stem: &[u8], o: &Operands) -> Option<u64>
+    ensures { result ≡ code_compare stem.now o.now }
+{
+    let k = compare_in(stem)?;
+    Some(compare_code(k, o))
+}
+
+/// `vpst` and `vpnot`.
+fn code_block(stem: &[u8]) -> Option<u64>
+    ensures { result ≡ code_block stem.now }
+{
+    let k = block_in(stem)?;
+    Some(0xfe31_0f4d + place_mask(k))
+}
+
+/// Sums.
+fn code_sum(stem: &[u8], o: &Operands) -> Option<u64>
+    ensures { result ≡ code_sum stem.now o.now }
+{
+    let a = u64::from(sum_in(stem)?);
+    Some(of_one(
+        0xeef1_0f00 + (a << 5),
+        o.sign,
+        o.size,
+        o.first / 2,
+        o.second,
+    ))
+}
+
+/// Sums of products.
+fn code_dot(stem: &[u8], o: &Operands) -> Option<u64>
+    ensures { result ≡ code_dot stem.now o.now }
+{
+    let a = u64::from(dot_in(stem)?);
+    let base = u64::from(base_of_dot(element_in(o.size)));
+    Some(of_vectors(base + (a << 5), o.sign, 0, o.second, o.first / 2, o.third))
+}
+
+/// Sums in 64 bits.
+fn code_long_sum(stem: &[u8], o: &Operands) -> Option<u64>
+    ensures { result ≡ code_long_sum stem.now o.now }
+{
+    let a = u64::from(long_sum_in(stem)?);
+    Some(of_vectors(
+        0xee89_0f00 + (a << 5),
+        o.sign,
+        o.second / 2,
+        0,
+        o.first / 2,
+        o.third,
+    ))
+}
+
+/// Sums of products in 64 bits.
+fn code_long_dot(stem: &[u8], o: &Operands) -> Option<u64>
+    ensures { result ≡ code_long_dot stem.now o.now }
+{
+    let a = u64::from(long_dot_in(stem)?);
+    let size = u64::from(o.size.saturating_sub(1));
+    Some(of_vectors(
+        0xee80_0e00 + (a << 5) + (size << 16),
+        o.sign,
+        o.second / 2,
+        o.third,
+        o.first / 2,
+        o.fourth,
+    ))
+}
+
+/// Rows V23.
+fn code_extreme(stem: &[u8], o: &Operands) -> Option<u64>
+    ensures { result ≡ code_extreme stem.now o.now }
+{
+    let base = u64::from(extreme_base_in(stem)?);
+    Some(of_one(
+        base + (u64::from(o.first) << 12),
+        o.sign,
+        o.size,
+        0,
+        o.second,
+    ))
+}
+
+/// Rows V17 and V18, and `vctp`.
+fn code_alone(stem: &[u8], o: &Operands) -> Option<u64>
+    ensures { result ≡ code_alone stem.now o.now }
+{
+    match stem {
+        b"vshlc" => Some(of_core(
+            0xeea0_0fc0 + (u64::from(o.third % 32) << 16),
+            0,
+            0,
+            0,
+            o.first,
+            o.second,
+        )),
+        b"vdup" => {
+            let base = u64::from(base_of_dup(element_in(o.size)));
+            Some(of_vectors(base + (u64::from(o.second) << 12), 0, 0, o.first, 0, 0))
+        }
+        b"vctp" => Some(of_core(0xf000_e801 + (u64::from(o.first) << 16), 0, o.size, 0, 0, 0)),
+        _ => None,
+    }
+}
+
+/// Rows of two operands in vectors, or of a vector and a core register.
+fn code_of_pair(stem: &[u8], o: &Operands) -> Option<u64>
+    ensures { result ≡ code_of_pair stem.now o.now }
+{
+    if let Some(w) = code_three(stem, o) {
+        return Some(w);
+    }
+    if let Some(w) = code_vector_shift(stem, o) {
+        return Some(w);
+    }
+    if let Some(w) = code_carry(stem, o) {
+        return Some(w);
+    }
+    if let Some(w) = code_turn(stem, o) {
+        return Some(w);
+    }
+    code_scalar(stem, o)
+}
+
+/// Rows of one operand in a vector.
+fn code_of_one(stem: &[u8], o: &Operands) -> Option<u64>
+    ensures { result ≡ code_of_one stem.now o.now }
+{
+    if let Some(w) = code_right(stem, o) {
+        return Some(w);
+    }
+    if let Some(w) = code_left(stem, o) {
+        return Some(w);
+    }
+    if let Some(w) = code_long(stem, o) {
+        return Some(w);
+    }
+    if let Some(w) = code_single(stem, o) {
+        return Some(w);
+    }
+    if let Some(w) = code_constant(stem, o) {
+        return Some(w);
+    }
+    code_narrow(stem, o)
+}
+
+/// Sums and extremes.
+fn code_of_sum(stem: &[u8], o: &Operands) -> Option<u64>
+    ensures { result ≡ code_of_sum stem.now o.now }
+{
+    if let Some(w) = code_sum(stem, o) {
+        return Some(w);
+    }
+    if let Some(w) = code_dot(stem, o) {
+        return Some(w);
+    }
+    if let Some(w) = code_long_sum(stem, o) {
+        return Some(w);
+    }
+    if let Some(w) = code_long_dot(stem, o) {
+        return Some(w);
+    }
+    code_extreme(stem, o)
+}
+
+/// All others.
+fn code_of_other(stem: &[u8], o: &Operands) -> Option<u64>
+    ensures { result ≡ code_of_other stem.now o.now }
+{
+    if let Some(w) = code_offsets(stem, o) {
+        return Some(w);
+    }
+    if let Some(w) = code_wrapped(stem, o) {
+        return Some(w);
+    }
+    if let Some(w) = code_compare(stem, o) {
+        return Some(w);
+    }
+    if let Some(w) = code_block(stem) {
+        return Some(w);
+    }
+    code_alone(stem, o)
+}
+
+/// The code that a stem and operands ask for.
+#[tactic(auto, unfolding(crate::specs::Codes::code_of))]
+fn code_of(stem: &[u8], o: &Operands) -> Option<u64>
+    ensures { result ≡ code_of stem.now o.now }
+{
+    if let Some(w) = code_of_pair(stem, o) {
+        return Some(w);
+    }
+    if let Some(w) = code_of_one(stem, o) {
+        return Some(w);
+    }
+    if let Some(w) = code_of_sum(stem, o) {
+        return Some(w);
+    }
+    if let Some(w) = code_of_other(stem, o) {
+        return Some(w);
+    }
+    code_of_memory(stem, o)
+}
+
+/// The code that a mnemonic and the tokens behind it ask for.
+fn code_named(name: &[u8], tokens: &[Token<'_>]) -> Option<u64>
+    ensures { result ≡ code_cut (span 46 name.now) (map tok tokens.now) }
+{
+    let (stem, suffix) = span(b'.', name);
+    code_of(stem, &read_operands(suffix, tokens))
+}
+
+/// The code that tokens ask for.
+pub fn code_in(tokens: &[Token<'_>]) -> Option<u64>
+    ensures { result ≡ code_in (map tok tokens.now) }
+{
+    match tokens {
+        [] => None,
+        [first, rest @ ..] => match *first {
+            Token::Word(name) => code_named(name, rest),
+            Token::Number(_) | Token::Mark(_) => None,
+        },
+    }
+}

@@ -1,0 +1,68 @@
+//! The texts of vector rows: printed, and read.
+#![tactic(auto)]
+
+ghost use Rattle.std.specs.Prelude.{◌≡◌, IfSome, Some, map};
+ghost use Rattle.hm_isa.specs.declared.Vector.{Vector};
+ghost use Rattle.hm_textv.specs.Rows.{HasTokens, IsTextOf, tokens_of};
+ghost use Rattle.hm_tokens.specs.Lines.{printed};
+ghost use Rattle.hm_tokens.specs.Tokens.{tok};
+
+mod access;
+mod bases;
+mod codes;
+mod memory;
+mod operands;
+mod rows;
+mod shapes;
+mod stems;
+mod suffixes;
+mod texts;
+
+use arrayvec::ArrayString;
+use codes::code_in;
+use hm_encv::decodev;
+use hm_isa::Vector;
+use hm_tokens::{Token, read_line};
+use rows::row_text;
+use texts::is_text_of;
+
+/// The text of a vector row: the mnemonic, a space, and the operands with commas between them, numbers in decimal. `parse_v` gives
+/// the row of this text again.
+pub fn print_v(v: &Vector) -> ArrayString<96>
+    ensures text { result.bytes ≡ printed (tokens_of v.now) }
+    ensures read { IsTextOf result.bytes v.now }
+{
+    row_text(v).print()
+}
+
+/// The last code of 32 bits.
+const LAST: u64 = 0xffff_ffff;
+
+/// The row that has these tokens: that of the code that they ask for, if it has them.
+fn row_of(tokens: &[Token<'_>]) -> Option<Vector>
+    ensures found { IfSome result (λ v. HasTokens v (map tok tokens.now)) }
+    ensures only { (v : Vector) → HasTokens v (map tok tokens.now) → result ≡ Some v }
+{
+    let code = code_in(tokens)?;
+    if code > LAST {
+        return None;
+    }
+    let v = decodev(code as u32)?;
+    if is_text_of(&v, tokens) {
+        return Some(v);
+    }
+    None
+}
+
+/// The vector row that a text is one of: as `print_v` writes it, with spaces anywhere between tokens, and numbers in hexadecimal
+/// too; and `vmov qd,qm` for `vorr qd,qm,qm`, `vmlav` for `vmladav`, `vmlava` for `vmladava`. None where no row has the text.
+pub fn parse_v(text: &[u8]) -> Option<Vector>
+    ensures found { IfSome result (IsTextOf text.now) }
+    ensures only { (v : Vector) → IsTextOf text.now v → result ≡ Some v }
+{
+    let tokens = read_line(text)?;
+    row_of(tokens.as_slice())
+}
+
+#[cfg(test)]
+mod tests;

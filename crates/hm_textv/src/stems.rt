@@ -1,0 +1,290 @@
+//! The stems of the mnemonics of vector rows.
+
+ghost use Rattle.std.specs.Prelude.{◌≡◌, ◌<◌};
+ghost use Rattle.hm_textv.specs.Stems.{add_stem, bitwise_stem, carry_stem, constant_shift_stem, doubling_stem, extreme_stem, high_stem, offsets_stem, one_stem, reverse_stem, scalar_stem, signed_stem, turn_stem, vector_shift_stem, wrapped_stem, narrow_stem, block_letters, compare_condition, access_stem, pair_stem, quad_stem};
+
+use hm_isa::{
+    AddName, Below, Bit, BitwiseName, CarryName, ConstantShiftName, DoublingName, ExtremeName,
+    HighName, NarrowName, OffsetsName, OneName, ReverseName, ScalarName, SignedName, TurnName,
+    VectorShiftName,
+};
+
+/// The stem of a row V1.
+pub fn add_stem(name: AddName) -> &'static str
+    ensures { result.now ≡ add_stem name }
+{
+    match name {
+        AddName::Add => "vadd",
+        AddName::Sub => "vsub",
+        AddName::Mul => "vmul",
+    }
+}
+
+/// The stem of a row V2.
+pub fn bitwise_stem(name: BitwiseName) -> &'static str
+    ensures { result.now ≡ bitwise_stem name }
+{
+    match name {
+        BitwiseName::And => "vand",
+        BitwiseName::Bic => "vbic",
+        BitwiseName::Orr => "vorr",
+        BitwiseName::Orn => "vorn",
+        BitwiseName::Eor => "veor",
+    }
+}
+
+/// The stem of a row V3.
+pub fn signed_stem(name: SignedName) -> &'static str
+    ensures { result.now ≡ signed_stem name }
+{
+    match name {
+        SignedName::Max => "vmax",
+        SignedName::Min => "vmin",
+        SignedName::Abd => "vabd",
+        SignedName::Hadd => "vhadd",
+        SignedName::Rhadd => "vrhadd",
+        SignedName::Hsub => "vhsub",
+        SignedName::Qadd => "vqadd",
+        SignedName::Qsub => "vqsub",
+    }
+}
+
+/// The stem of a row V4.
+pub fn vector_shift_stem(name: VectorShiftName) -> &'static str
+    ensures { result.now ≡ vector_shift_stem name }
+{
+    match name {
+        VectorShiftName::Shl => "vshl",
+        VectorShiftName::Qshl => "vqshl",
+        VectorShiftName::Rshl => "vrshl",
+        VectorShiftName::Qrshl => "vqrshl",
+    }
+}
+
+/// The stem of a row V5.
+pub fn doubling_stem(name: DoublingName) -> &'static str
+    ensures { result.now ≡ doubling_stem name }
+{
+    match name {
+        DoublingName::Qdmulh => "vqdmulh",
+        DoublingName::Qrdmulh => "vqrdmulh",
+    }
+}
+
+/// The stem of a row V7.
+pub fn high_stem(name: HighName) -> &'static str
+    ensures { result.now ≡ high_stem name }
+{
+    match name {
+        HighName::Mulh => "vmulh",
+        HighName::Rmulh => "vrmulh",
+    }
+}
+
+/// The stem of a row V8.
+pub fn carry_stem(name: CarryName) -> &'static str
+    ensures { result.now ≡ carry_stem name }
+{
+    match name {
+        CarryName::Adc => "vadc",
+        CarryName::Adci => "vadci",
+        CarryName::Sbc => "vsbc",
+        CarryName::Sbci => "vsbci",
+    }
+}
+
+/// The stem of a row V9.
+pub fn turn_stem(name: TurnName) -> &'static str
+    ensures { result.now ≡ turn_stem name }
+{
+    match name {
+        TurnName::Cadd => "vcadd",
+        TurnName::Hcadd => "vhcadd",
+    }
+}
+
+/// The stem of a row V10.
+pub fn scalar_stem(name: ScalarName) -> &'static str
+    ensures { result.now ≡ scalar_stem name }
+{
+    match name {
+        ScalarName::Add => "vadd",
+        ScalarName::Sub => "vsub",
+        ScalarName::Mul => "vmul",
+        ScalarName::Hadd => "vhadd",
+        ScalarName::Hsub => "vhsub",
+        ScalarName::Qadd => "vqadd",
+        ScalarName::Qsub => "vqsub",
+        ScalarName::Qdmulh => "vqdmulh",
+        ScalarName::Qrdmulh => "vqrdmulh",
+        ScalarName::Mla => "vmla",
+        ScalarName::Mlas => "vmlas",
+    }
+}
+
+/// The stem of a row V11.
+pub fn constant_shift_stem(name: ConstantShiftName) -> &'static str
+    ensures { result.now ≡ constant_shift_stem name }
+{
+    match name {
+        ConstantShiftName::Shr => "vshr",
+        ConstantShiftName::Rshr => "vrshr",
+        ConstantShiftName::Qshl => "vqshl",
+        ConstantShiftName::Qshlu => "vqshlu",
+        ConstantShiftName::Shl => "vshl",
+        ConstantShiftName::Sri => "vsri",
+        ConstantShiftName::Sli => "vsli",
+    }
+}
+
+/// The stem of a row V13.
+pub fn one_stem(name: OneName) -> &'static str
+    ensures { result.now ≡ one_stem name }
+{
+    match name {
+        OneName::Cls => "vcls",
+        OneName::Clz => "vclz",
+        OneName::Abs => "vabs",
+        OneName::Neg => "vneg",
+        OneName::Qabs => "vqabs",
+        OneName::Qneg => "vqneg",
+    }
+}
+
+/// The stem of a row V14.
+pub fn reverse_stem(name: ReverseName) -> &'static str
+    ensures { result.now ≡ reverse_stem name }
+{
+    match name {
+        ReverseName::Rev64 => "vrev64",
+        ReverseName::Rev32 => "vrev32",
+        ReverseName::Rev16 => "vrev16",
+    }
+}
+
+/// The stem of a row V19, from one register.
+pub fn offsets_stem(name: OffsetsName) -> &'static str
+    ensures { result.now ≡ offsets_stem name }
+{
+    match name {
+        OffsetsName::Up => "vidup",
+        OffsetsName::Down => "vddup",
+    }
+}
+
+/// The stem of a row V19, going round.
+pub fn wrapped_stem(name: OffsetsName) -> &'static str
+    ensures { result.now ≡ wrapped_stem name }
+{
+    match name {
+        OffsetsName::Up => "viwdup",
+        OffsetsName::Down => "vdwdup",
+    }
+}
+
+/// The stem of a row V23.
+pub fn extreme_stem(name: ExtremeName) -> &'static str
+    ensures { result.now ≡ extreme_stem name }
+{
+    match name {
+        ExtremeName::Max => "vmaxv",
+        ExtremeName::Min => "vminv",
+    }
+}
+
+/// The stem of a row V16: with b for the lower part of each wide element, or t for the upper.
+pub fn narrow_stem(name: NarrowName, t: Bit) -> &'static str
+    ensures { result.now ≡ narrow_stem name t.value }
+{
+    match (name, t.get() == 0) {
+        (NarrowName::Plain, true) => "vmovnb",
+        (NarrowName::Plain, false) => "vmovnt",
+        (NarrowName::ToUnsigned, true) => "vqmovunb",
+        (NarrowName::ToUnsigned, false) => "vqmovunt",
+        (NarrowName::Signed | NarrowName::Unsigned, true) => "vqmovnb",
+        (NarrowName::Signed | NarrowName::Unsigned, false) => "vqmovnt",
+    }
+}
+
+/// The letters of a block by its mask: t where an instruction has the sense of the first, e where it has the other.
+pub fn block_letters(mask: Below<16>) -> &'static str
+    ensures { result.now ≡ block_letters mask.value }
+{
+    match mask.get() {
+        1 => "ttt",
+        2 => "tt",
+        3 => "tte",
+        4 => "t",
+        5 => "tee",
+        6 => "te",
+        7 => "tet",
+        9 => "eee",
+        10 => "ee",
+        11 => "eet",
+        12 => "e",
+        13 => "ett",
+        14 => "et",
+        15 => "ete",
+        _ => "",
+    }
+}
+
+/// The condition of a comparison, which has numbers of its own.
+pub fn compare_condition(c: Below<8>) -> &'static str
+    ensures { result.now ≡ compare_condition c.value }
+{
+    match c.get() {
+        0 => "eq",
+        1 => "ne",
+        2 => "cs",
+        3 => "hi",
+        4 => "ge",
+        5 => "lt",
+        6 => "gt",
+        _ => "le",
+    }
+}
+
+/// The stem of a store where l is 0, or of a load, of elements that have the size y in memory.
+pub fn access_stem(l: Bit, y: u32) -> &'static str
+    requires { y < 3 }
+    ensures { result.now ≡ access_stem l.value y }
+{
+    match (l.get() == 0, y) {
+        (true, 0) => "vstrb",
+        (true, 1) => "vstrh",
+        (true, _) => "vstrw",
+        (false, 0) => "vldrb",
+        (false, 1) => "vldrh",
+        (false, _) => "vldrw",
+    }
+}
+
+/// The stem of a part of two registers whose elements take turns in memory.
+pub fn pair_stem(l: Bit, p: Below<4>) -> &'static str
+    requires { p.value < 2 }
+    ensures { result.now ≡ pair_stem l.value p.value }
+{
+    match (l.get() == 0, p.get()) {
+        (true, 0) => "vst20",
+        (true, _) => "vst21",
+        (false, 0) => "vld20",
+        (false, _) => "vld21",
+    }
+}
+
+/// The stem of a part of four registers whose elements take turns in memory.
+pub fn quad_stem(l: Bit, p: Below<4>) -> &'static str
+    ensures { result.now ≡ quad_stem l.value p.value }
+{
+    match (l.get() == 0, p.get()) {
+        (true, 0) => "vst40",
+        (true, 1) => "vst41",
+        (true, 2) => "vst42",
+        (true, _) => "vst43",
+        (false, 0) => "vld40",
+        (false, 1) => "vld41",
+        (false, 2) => "vld42",
+        (false, _) => "vld43",
+    }
+}

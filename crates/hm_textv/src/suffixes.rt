@@ -1,0 +1,163 @@
+//! What stands behind the point of a mnemonic: the kind of the elements and their size, where 0, 1, 2 and 3 are 8, 16, 32 and 64 bits.
+
+ghost use Rattle.std.specs.Prelude.{◌≡◌, ◌<◌};
+ghost use Rattle.hm_textv.specs.Stems.{access_suffix, by_sign, compare_suffix, constant_shift_suffix, integer, narrow_suffix, one_suffix, plain, scalar_suffix, signed, size_number, turn_suffix, unsigned};
+
+use hm_isa::{
+    Below, Bit, ConstantShiftName, Element, ElementSize, NarrowName, OneName, ScalarName, TurnName,
+};
+
+/// Elements of any kind.
+pub fn plain(z: u32) -> &'static str
+    requires { z < 4 }
+    ensures { result.now ≡ plain z }
+{
+    match z {
+        0 => ".8",
+        1 => ".16",
+        2 => ".32",
+        _ => ".64",
+    }
+}
+
+/// Integers.
+pub fn integer(z: u32) -> &'static str
+    requires { z < 3 }
+    ensures { result.now ≡ integer z }
+{
+    match z {
+        0 => ".i8",
+        1 => ".i16",
+        _ => ".i32",
+    }
+}
+
+/// Signed numbers.
+pub fn signed(z: u32) -> &'static str
+    requires { z < 3 }
+    ensures { result.now ≡ signed z }
+{
+    match z {
+        0 => ".s8",
+        1 => ".s16",
+        _ => ".s32",
+    }
+}
+
+/// Unsigned numbers.
+pub fn unsigned(z: u32) -> &'static str
+    requires { z < 3 }
+    ensures { result.now ≡ unsigned z }
+{
+    match z {
+        0 => ".u8",
+        1 => ".u16",
+        _ => ".u32",
+    }
+}
+
+/// Signed numbers where u is 0, and else unsigned ones.
+pub fn by_sign(u: Bit, z: u32) -> &'static str
+    requires { z < 3 }
+    ensures { result.now ≡ by_sign u.value z }
+{
+    if u.get() == 0 { signed(z) } else { unsigned(z) }
+}
+
+/// The number of an element size.
+pub fn size_number(size: Element) -> u32
+    ensures value { result ≡ size_number size }
+    ensures below { result < 3 }
+{
+    match size {
+        Element::Bytes => 0,
+        Element::Halves => 1,
+        Element::Words => 2,
+    }
+}
+
+/// Of a row V9.
+pub fn turn_suffix(name: TurnName, z: ElementSize) -> &'static str
+    ensures { result.now ≡ turn_suffix name z.value }
+{
+    match name {
+        TurnName::Cadd => integer(z.get()),
+        TurnName::Hcadd => signed(z.get()),
+    }
+}
+
+/// Of a row V10.
+pub fn scalar_suffix(name: ScalarName, u: Bit, z: ElementSize) -> &'static str
+    ensures { result.now ≡ scalar_suffix name u.value z.value }
+{
+    match name {
+        ScalarName::Add | ScalarName::Sub | ScalarName::Mul => integer(z.get()),
+        ScalarName::Qdmulh | ScalarName::Qrdmulh => signed(z.get()),
+        ScalarName::Hadd
+        | ScalarName::Hsub
+        | ScalarName::Qadd
+        | ScalarName::Qsub
+        | ScalarName::Mla
+        | ScalarName::Mlas => by_sign(u, z.get()),
+    }
+}
+
+/// Of a row V11.
+pub fn constant_shift_suffix(name: ConstantShiftName, u: Bit, z: u32) -> &'static str
+    requires { z < 3 }
+    ensures { result.now ≡ constant_shift_suffix name u.value z }
+{
+    match name {
+        ConstantShiftName::Shr | ConstantShiftName::Rshr | ConstantShiftName::Qshl => by_sign(u, z),
+        ConstantShiftName::Qshlu => signed(z),
+        ConstantShiftName::Shl => integer(z),
+        ConstantShiftName::Sri | ConstantShiftName::Sli => plain(z),
+    }
+}
+
+/// Of a row V13.
+pub fn one_suffix(name: OneName, z: ElementSize) -> &'static str
+    ensures { result.now ≡ one_suffix name z.value }
+{
+    match name {
+        OneName::Clz => integer(z.get()),
+        OneName::Cls | OneName::Abs | OneName::Neg | OneName::Qabs | OneName::Qneg => signed(
+            z.get(),
+        ),
+    }
+}
+
+/// Of a row V16: the size of the wide elements.
+pub fn narrow_suffix(name: NarrowName, z: Bit) -> &'static str
+    ensures { result.now ≡ narrow_suffix name z.value }
+{
+    match name {
+        NarrowName::Plain => integer(z.get() + 1),
+        NarrowName::ToUnsigned | NarrowName::Signed => signed(z.get() + 1),
+        NarrowName::Unsigned => unsigned(z.get() + 1),
+    }
+}
+
+/// Of a comparison, by its condition: eq and ne are of integers, cs and hi of unsigned numbers, and ge, lt, gt and le of signed
+/// ones.
+pub fn compare_suffix(c: Below<8>, z: ElementSize) -> &'static str
+    ensures { result.now ≡ compare_suffix c.value z.value }
+{
+    match c.get() {
+        0 | 1 => integer(z.get()),
+        2 | 3 => unsigned(z.get()),
+        _ => signed(z.get()),
+    }
+}
+
+/// Of a load or store: a store, where l is 0, has no sign.
+pub fn access_suffix(l: Bit, u: Bit, z: u32) -> &'static str
+    requires { z < 3 }
+    ensures { result.now ≡ access_suffix l.value u.value z }
+{
+    if l.get() == 0 {
+        plain(z)
+    } else {
+        by_sign(u, z)
+    }
+}
