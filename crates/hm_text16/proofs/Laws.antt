@@ -1,0 +1,318 @@
+-- Every row of one halfword: its text asks for its code, and is printed and read back.
+use Rattle.std.proofs.Common.{◌≡◌, ℕ, ◌+◌, ◌^◌, ◌<◌, ◌≤◌, Bool, true, false, cond, List, [], ◌∷◌, ◌++◌, length, length-append, refl, sym, subst, ◌∙◌, Some, None, Option, arith}
+use Rattle.std.specs.Prelude.{◌&&◌, not}
+use Rattle.std.proofs.lemmas.Bool.{and_parts}
+use Rattle.hm_isa.specs.declared.fields.Below.{Below}
+use Rattle.hm_isa.specs.declared.Scalar.{Scalar}
+use Rattle.hm_isa.specs.declared.Scalar.TheVariants as scalar
+use Rattle.hm_isa.specs.declared.Branch.{Branch}
+use Rattle.hm_isa.specs.declared.Branch.TheVariants as branch
+use Rattle.hm_isa.specs.declared.Instr.{Instr}
+use Rattle.hm_isa.specs.declared.Instr.TheVariants as instr
+use Rattle.hm_isa.specs.declared.narrow.S25.TheVariants as s25
+use Rattle.hm_isa.specs.Code.{branch_halves, halfwords, scalar_halves}
+use Rattle.hm_tokens.specs.Lines.{IsLineOf, printed, printed_at}
+use Rattle.hm_tokens.specs.Ranges.{is_the_mark, normal}
+use Rattle.hm_tokens.specs.Tokens.{Tok, number}
+use Rattle.hm_tokens.proofs.Ranges.{has_no_ranges, normal_same}
+use Rattle.hm_text16.specs.Rows.{has_label, row_tokens, tokens_of}
+use Rattle.hm_text16.specs.Targets.{target}
+use Rattle.hm_text16.specs.Texts.{HasTokens, IsLabel, IsNarrow, IsTextOf, NamesTarget, Reaches, text_of}
+use Rattle.hm_text16.proofs.Printed.{IsPrinted, IsPrintedAt}
+use Rattle.hm_text16.proofs.Asked.{IsPrintedRow, Row}
+use Rattle.hm_text16.proofs.OnRegisters.{row_s1, row_s2, row_s3, row_s4, row_s5, row_s6, row_s7, row_s8, row_s9, row_s10, row_s11, row_s12, row_s13, row_s18, row_s19, row_s23}
+use Rattle.hm_text16.proofs.OnMemory.{row_s15, row_s16, row_s17}
+use Rattle.hm_text16.proofs.OnLists.{row_s20, row_s21}
+use Rattle.hm_text16.proofs.OnLabels.{row_s14, row_s24, row_s25}
+
+abbrev both : List ℕ
+both = 0 ∷ 0 ∷ []
+
+two_halves_not : length both ≡ 1 → ⊥
+two_halves_not e = omega (arith, e)
+
+row_scalar : (i : Scalar) → length (scalar_halves i) ≡ 1 → Row (instr.Scalar i)
+row_scalar (scalar.S1 i) e = row_s1 i
+row_scalar (scalar.S2 i) e = row_s2 i
+row_scalar (scalar.S3 i) e = row_s3 i
+row_scalar (scalar.S4 i) e = row_s4 i
+row_scalar (scalar.S5 i) e = row_s5 i
+row_scalar (scalar.S6 i) e = row_s6 i
+row_scalar (scalar.S7 i) e = row_s7 i
+row_scalar (scalar.S8 i) e = row_s8 i
+row_scalar (scalar.S9 i) e = row_s9 i
+row_scalar (scalar.S10 i) e = row_s10 i
+row_scalar (scalar.S11 i) e = row_s11 i
+row_scalar (scalar.S12 i) e = row_s12 i
+row_scalar (scalar.S13 i) e = row_s13 i
+row_scalar (scalar.S14 i) e = row_s14 i
+row_scalar (scalar.S15 i) e = row_s15 i
+row_scalar (scalar.S16 i) e = row_s16 i
+row_scalar (scalar.S17 i) e = row_s17 i
+row_scalar (scalar.S18 i) e = row_s18 i
+row_scalar (scalar.S19 i) e = row_s19 i
+row_scalar (scalar.S20 i) e = row_s20 i
+row_scalar (scalar.S21 i) e = row_s21 i
+row_scalar (scalar.T1 i) e = absurd (two_halves_not e)
+row_scalar (scalar.T2 i) e = absurd (two_halves_not e)
+row_scalar (scalar.T3 i) e = absurd (two_halves_not e)
+row_scalar (scalar.T4 i) e = absurd (two_halves_not e)
+row_scalar (scalar.T5 i) e = absurd (two_halves_not e)
+row_scalar (scalar.T6 i) e = absurd (two_halves_not e)
+row_scalar (scalar.T7 i) e = absurd (two_halves_not e)
+row_scalar (scalar.T8 i) e = absurd (two_halves_not e)
+row_scalar (scalar.T9 i) e = absurd (two_halves_not e)
+row_scalar (scalar.T10 i) e = absurd (two_halves_not e)
+row_scalar (scalar.T11 i) e = absurd (two_halves_not e)
+row_scalar (scalar.T12 i) e = absurd (two_halves_not e)
+row_scalar (scalar.T13 i) e = absurd (two_halves_not e)
+row_scalar (scalar.T14 i) e = absurd (two_halves_not e)
+row_scalar (scalar.T15 i) e = absurd (two_halves_not e)
+row_scalar (scalar.T18 i) e = absurd (two_halves_not e)
+row_scalar (scalar.T19 i) e = absurd (two_halves_not e)
+row_scalar (scalar.T20 i) e = absurd (two_halves_not e)
+row_scalar (scalar.T21 i) e = absurd (two_halves_not e)
+row_scalar (scalar.T22 i) e = absurd (two_halves_not e)
+
+row_branch : (i : Branch) → length (branch_halves i) ≡ 1 → Row (instr.Branch i)
+row_branch (branch.S23 i) e = row_s23 i
+row_branch (branch.S24 i) e = row_s24 i
+row_branch (branch.S25 i) e = row_s25 i
+row_branch (branch.T16 i) e = absurd (two_halves_not e)
+row_branch (branch.T17 i) e = absurd (two_halves_not e)
+row_branch (branch.T23 i) e = absurd (two_halves_not e)
+
+pub row_law : (i : Instr) → IsNarrow i → Row i
+row_law (instr.Scalar i) e = row_scalar i e
+row_law (instr.Branch i) e = row_branch i e
+row_law (instr.Vector i) e = absurd (two_halves_not e)
+
+-- ---- printed
+
+-- a row has a target where it has a label
+abbrev IsGiven : Bool → Option ℕ → Type 0
+IsGiven true (Some a) = a < 2 ^ 32
+IsGiven true None = ⊥
+IsGiven false (Some a) = ⊥
+IsGiven false None = Unit {0}
+
+given_scalar : (i : Scalar) (pc : ℕ) → IsGiven (has_label (instr.Scalar i)) (target (instr.Scalar i) pc)
+given_scalar (scalar.S1 i) pc = tt
+given_scalar (scalar.S2 i) pc = tt
+given_scalar (scalar.S3 i) pc = tt
+given_scalar (scalar.S4 i) pc = tt
+given_scalar (scalar.S5 i) pc = tt
+given_scalar (scalar.S6 i) pc = tt
+given_scalar (scalar.S7 i) pc = tt
+given_scalar (scalar.S8 i) pc = tt
+given_scalar (scalar.S9 i) pc = tt
+given_scalar (scalar.S10 i) pc = tt
+given_scalar (scalar.S11 i) pc = tt
+given_scalar (scalar.S12 i) pc = tt
+given_scalar (scalar.S13 i) pc = tt
+given_scalar (scalar.S14 i) pc = omega arith
+given_scalar (scalar.S15 i) pc = tt
+given_scalar (scalar.S16 i) pc = tt
+given_scalar (scalar.S17 i) pc = tt
+given_scalar (scalar.S18 i) pc = tt
+given_scalar (scalar.S19 i) pc = tt
+given_scalar (scalar.S20 i) pc = tt
+given_scalar (scalar.S21 i) pc = tt
+given_scalar (scalar.T1 i) pc = tt
+given_scalar (scalar.T2 i) pc = tt
+given_scalar (scalar.T3 i) pc = tt
+given_scalar (scalar.T4 i) pc = tt
+given_scalar (scalar.T5 i) pc = tt
+given_scalar (scalar.T6 i) pc = tt
+given_scalar (scalar.T7 i) pc = tt
+given_scalar (scalar.T8 i) pc = tt
+given_scalar (scalar.T9 i) pc = tt
+given_scalar (scalar.T10 i) pc = tt
+given_scalar (scalar.T11 i) pc = tt
+given_scalar (scalar.T12 i) pc = tt
+given_scalar (scalar.T13 i) pc = tt
+given_scalar (scalar.T14 i) pc = tt
+given_scalar (scalar.T15 i) pc = tt
+given_scalar (scalar.T18 i) pc = tt
+given_scalar (scalar.T19 i) pc = tt
+given_scalar (scalar.T20 i) pc = tt
+given_scalar (scalar.T21 i) pc = tt
+given_scalar (scalar.T22 i) pc = tt
+
+given_branch : (i : Branch) (pc : ℕ) → IsGiven (has_label (instr.Branch i)) (target (instr.Branch i) pc)
+given_branch (branch.S23 i) pc = tt
+given_branch (branch.S24 i) pc = omega arith
+given_branch (branch.S25 (s25.Conditional i)) pc = omega arith
+given_branch (branch.S25 (s25.Always i)) pc = omega arith
+given_branch (branch.T16 i) pc = tt
+given_branch (branch.T17 i) pc = tt
+given_branch (branch.T23 i) pc = tt
+
+given_target : (i : Instr) (pc : ℕ) → IsGiven (has_label i) (target i pc)
+given_target (instr.Scalar i) pc = given_scalar i pc
+given_target (instr.Branch i) pc = given_branch i pc
+given_target (instr.Vector i) pc = tt
+
+-- the tokens that are read of a text that is printed
+record Again (b : Bool) (row : List Tok) (o : Option ℕ) (text : List ℕ) (labels : List ℕ → Option ℕ) : Type 0 where
+  tokens : List Tok
+  label : Tok
+  is_label : IsLabel label
+  line : IsLineOf text tokens
+  has : cond b (row ++ label ∷ []) row ≡ normal tokens
+  names : NamesTarget labels label o
+
+abbrev shown : List Tok → Option ℕ → List ℕ
+shown row (Some a) = printed_at row a
+shown row None = printed row
+
+more_ranges : (ts : List Tok) (a : ℕ) → has_no_ranges ts ≡ true → has_no_ranges (ts ++ number a ∷ []) ≡ true
+more_ranges [] a e = refl
+more_ranges (t ∷ ts) a e =
+    let p = and_parts (not (is_the_mark 45 t)) (has_no_ranges ts) e in
+    rw (p.0, more_ranges ts a p.1) refl
+
+again_of : (b : Bool) (row : List Tok) (o : Option ℕ) (labels : List ℕ → Option ℕ) → IsPrintedRow b row → IsGiven b o → Again b row o (shown row o) labels
+again_of true row (Some a) labels p lt = record {
+  tokens = row ++ number a ∷ [];
+  label = number a;
+  is_label = lt;
+  line = p.again a lt;
+  has = sym (normal_same (row ++ number a ∷ []) (more_ranges row a p.ranges));
+  names = refl;
+}
+again_of true row None labels p given = absurd given
+again_of false row (Some a) labels p given = absurd given
+again_of false row None labels p given = record {
+  tokens = row;
+  label = number 0;
+  is_label = omega arith;
+  line = p.again;
+  has = sym (normal_same row p.ranges);
+  names = tt;
+}
+
+shown_is : (i : Instr) (o : Option ℕ) → text_of i o ≡ shown (row_tokens i) o
+shown_is i (Some a) = refl
+shown_is i None = refl
+
+pub printed_read : (i : Instr) (pc : ℕ) (text : List ℕ) (labels : List ℕ → Option ℕ) → IsNarrow i → text ≡ text_of i (target i pc) → IsTextOf text pc labels i
+printed_read i pc text labels narrow is =
+    let e = is ∙ shown_is i (target i pc) in
+    let again = again_of (has_label i) (row_tokens i) (target i pc) labels (row_law i narrow).prints (given_target i pc) in
+    record {
+      tokens = again.tokens;
+      label = again.label;
+      line = subst (λ (x : List ℕ). IsLineOf x again.tokens) (sym e) again.line;
+      has = record { narrow = narrow; label = again.is_label; tokens = again.has };
+      names = again.names;
+    }
+
+room_of : (b : Bool) (row : List Tok) (o : Option ℕ) → IsPrintedRow b row → IsGiven b o → length (shown row o) ≤ 96
+room_of true row (Some a) p lt = p.room a
+room_of true row None p given = absurd given
+room_of false row (Some a) p given = absurd given
+room_of false row None p given = let r = p.room in omega (arith, r)
+
+pub printed_room : (i : Instr) (pc : ℕ) → IsNarrow i → length (text_of i (target i pc)) ≤ 96
+printed_room i pc narrow = rw (shown_is i (target i pc)) (room_of (has_label i) (row_tokens i) (target i pc) (row_law i narrow).prints (given_target i pc))
+
+few_of : (b : Bool) (row : List Tok) (t : Tok) → IsPrintedRow b row → length (cond b (row ++ t ∷ []) row) ≤ 40
+few_of true row t p = let f = p.few in omega (arith, f, length-append row (t ∷ []))
+few_of false row t p = let f = p.few in omega (arith, f)
+
+pub few_tokens : (i : Instr) (t : Tok) (ts : List Tok) → HasTokens i t ts → length ts ≤ 40
+few_tokens i t ts has = subst (λ (x : List Tok). length x ≤ 40) has.tokens (few_of (has_label i) (row_tokens i) t (row_law i has.narrow).prints)
+
+-- ---- the row with a label as near as can be
+
+pub record Nearest (i : Instr) : Type 0 where
+  pub near : Instr
+  pub narrow : IsNarrow near
+  pub tokens : row_tokens near ≡ row_tokens i
+  pub label : has_label near ≡ has_label i
+  pub reaches : Reaches (target near 0) 4
+
+itself : (i : Instr) → IsNarrow i → Reaches (target i 0) 4 → Nearest i
+itself i narrow reaches = record { near = i; narrow = narrow; tokens = refl; label = refl; reaches = reaches }
+
+nearest_scalar : (i : Scalar) → length (scalar_halves i) ≡ 1 → Nearest (instr.Scalar i)
+nearest_scalar (scalar.S1 i) e = itself (instr.Scalar (scalar.S1 i)) e tt
+nearest_scalar (scalar.S2 i) e = itself (instr.Scalar (scalar.S2 i)) e tt
+nearest_scalar (scalar.S3 i) e = itself (instr.Scalar (scalar.S3 i)) e tt
+nearest_scalar (scalar.S4 i) e = itself (instr.Scalar (scalar.S4 i)) e tt
+nearest_scalar (scalar.S5 i) e = itself (instr.Scalar (scalar.S5 i)) e tt
+nearest_scalar (scalar.S6 i) e = itself (instr.Scalar (scalar.S6 i)) e tt
+nearest_scalar (scalar.S7 i) e = itself (instr.Scalar (scalar.S7 i)) e tt
+nearest_scalar (scalar.S8 i) e = itself (instr.Scalar (scalar.S8 i)) e tt
+nearest_scalar (scalar.S9 i) e = itself (instr.Scalar (scalar.S9 i)) e tt
+nearest_scalar (scalar.S10 i) e = itself (instr.Scalar (scalar.S10 i)) e tt
+nearest_scalar (scalar.S11 i) e = itself (instr.Scalar (scalar.S11 i)) e tt
+nearest_scalar (scalar.S12 i) e = itself (instr.Scalar (scalar.S12 i)) e tt
+nearest_scalar (scalar.S13 i) e = itself (instr.Scalar (scalar.S13 i)) e tt
+nearest_scalar (scalar.S14 i) e = record {
+  near = instr.Scalar (scalar.S14 (record { t = i.t; i = record { value = 0; in_range = omega arith } }));
+  narrow = refl;
+  tokens = refl;
+  label = refl;
+  reaches = refl;
+}
+nearest_scalar (scalar.S15 i) e = itself (instr.Scalar (scalar.S15 i)) e tt
+nearest_scalar (scalar.S16 i) e = itself (instr.Scalar (scalar.S16 i)) e tt
+nearest_scalar (scalar.S17 i) e = itself (instr.Scalar (scalar.S17 i)) e tt
+nearest_scalar (scalar.S18 i) e = itself (instr.Scalar (scalar.S18 i)) e tt
+nearest_scalar (scalar.S19 i) e = itself (instr.Scalar (scalar.S19 i)) e tt
+nearest_scalar (scalar.S20 i) e = itself (instr.Scalar (scalar.S20 i)) e tt
+nearest_scalar (scalar.S21 i) e = itself (instr.Scalar (scalar.S21 i)) e tt
+nearest_scalar (scalar.T1 i) e = absurd (two_halves_not e)
+nearest_scalar (scalar.T2 i) e = absurd (two_halves_not e)
+nearest_scalar (scalar.T3 i) e = absurd (two_halves_not e)
+nearest_scalar (scalar.T4 i) e = absurd (two_halves_not e)
+nearest_scalar (scalar.T5 i) e = absurd (two_halves_not e)
+nearest_scalar (scalar.T6 i) e = absurd (two_halves_not e)
+nearest_scalar (scalar.T7 i) e = absurd (two_halves_not e)
+nearest_scalar (scalar.T8 i) e = absurd (two_halves_not e)
+nearest_scalar (scalar.T9 i) e = absurd (two_halves_not e)
+nearest_scalar (scalar.T10 i) e = absurd (two_halves_not e)
+nearest_scalar (scalar.T11 i) e = absurd (two_halves_not e)
+nearest_scalar (scalar.T12 i) e = absurd (two_halves_not e)
+nearest_scalar (scalar.T13 i) e = absurd (two_halves_not e)
+nearest_scalar (scalar.T14 i) e = absurd (two_halves_not e)
+nearest_scalar (scalar.T15 i) e = absurd (two_halves_not e)
+nearest_scalar (scalar.T18 i) e = absurd (two_halves_not e)
+nearest_scalar (scalar.T19 i) e = absurd (two_halves_not e)
+nearest_scalar (scalar.T20 i) e = absurd (two_halves_not e)
+nearest_scalar (scalar.T21 i) e = absurd (two_halves_not e)
+nearest_scalar (scalar.T22 i) e = absurd (two_halves_not e)
+
+nearest_branch : (i : Branch) → length (branch_halves i) ≡ 1 → Nearest (instr.Branch i)
+nearest_branch (branch.S23 i) e = itself (instr.Branch (branch.S23 i)) e tt
+nearest_branch (branch.S24 i) e = record {
+  near = instr.Branch (branch.S24 (record { name = i.name; i = record { value = 0; in_range = omega arith }; n = i.n }));
+  narrow = refl;
+  tokens = refl;
+  label = refl;
+  reaches = refl;
+}
+nearest_branch (branch.S25 (s25.Conditional i)) e = record {
+  near = instr.Branch (branch.S25 (s25.Conditional (record { c = i.c; i = record { value = 0; in_range = omega arith } })));
+  narrow = refl;
+  tokens = refl;
+  label = refl;
+  reaches = refl;
+}
+nearest_branch (branch.S25 (s25.Always i)) e = record {
+  near = instr.Branch (branch.S25 (s25.Always (record { i = record { value = 0; in_range = omega arith } })));
+  narrow = refl;
+  tokens = refl;
+  label = refl;
+  reaches = refl;
+}
+nearest_branch (branch.T16 i) e = absurd (two_halves_not e)
+nearest_branch (branch.T17 i) e = absurd (two_halves_not e)
+nearest_branch (branch.T23 i) e = absurd (two_halves_not e)
+
+pub nearest : (i : Instr) → IsNarrow i → Nearest i
+nearest (instr.Scalar i) e = nearest_scalar i e
+nearest (instr.Branch i) e = nearest_branch i e
+nearest (instr.Vector i) e = absurd (two_halves_not e)

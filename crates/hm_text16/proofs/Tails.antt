@@ -1,0 +1,112 @@
+-- Whether tokens are a row's, and the last of them.
+use Rattle.std.proofs.Common.{◌≡◌, ℕ, zero, suc, ◌+◌, ◌-◌, ◌<◌, ◌≤◌, Bool, true, false, cond, List, [], ◌∷◌, ◌++◌, length, length-append, map, take, get_or, Option, Some, None, refl, sym, subst, ap, ◌∙◌, arith}
+use Rattle.std.specs.Prelude.{◌↔◌, IsTrue, option_map}
+use Rattle.std.proofs.lemmas.Bool.{false≢true}
+use Rattle.hm_isa.specs.declared.Instr.{Instr}
+use Rattle.hm_tokens.specs.declared.token.Token.{Token}
+use Rattle.hm_tokens.specs.Tokens.{Tok, number, tok}
+use Rattle.hm_text16.specs.Rows.{has_label, row_tokens, tokens_of}
+use Rattle.hm_text16.specs.Targets.{target}
+use Rattle.hm_text16.specs.Texts.{HasTokens, IsLabel, IsNarrow, IsRowAt, Reaches, label_of}
+
+cons_one : (x y : Tok) (xs ys : List Tok) → x ∷ xs ≡ y ∷ ys → (x ≡ y) × (xs ≡ ys)
+cons_one x y xs ys e = (cc, cc)
+
+pub last_one : (xs ys : List Tok) (t u : Tok) → xs ++ t ∷ [] ≡ ys ++ u ∷ [] → (xs ≡ ys) × (t ≡ u)
+last_one [] [] t u e = (refl, (cons_one t u [] [] e).0)
+last_one [] (y ∷ ys) t u e = absurd (let n = ap length e in omega (arith, n, length-append ys (u ∷ [])))
+last_one (x ∷ xs) [] t u e = absurd (let n = ap length e in omega (arith, n, length-append xs (t ∷ [])))
+last_one (x ∷ xs) (y ∷ ys) t u e =
+    let c = cons_one x y (xs ++ t ∷ []) (ys ++ u ∷ []) e in
+    let rest = last_one xs ys t u c.1 in
+    (ap2_cons c.0 rest.0, rest.1)
+  where
+    ap2_cons : x ≡ y → xs ≡ ys → x ∷ xs ≡ y ∷ ys
+    ap2_cons a b = cc
+
+pub split_is : (ts : List Token) (d : Token) → 0 < length ts → map tok ts ≡ map tok (take (length ts - 1) ts) ++ tok (get_or ts (length ts - 1) d) ∷ []
+split_is [] d lt = absurd (omega (arith, lt))
+split_is (x ∷ []) d lt = refl
+split_is (x ∷ y ∷ ys) d lt =
+    let e : length (x ∷ y ∷ ys) - 1 ≡ suc (length (y ∷ ys) - 1) = omega arith in
+    rw e (ap (λ (zs : List Tok). tok x ∷ zs) (split_is (y ∷ ys) d (omega arith)))
+
+abbrev pub Has : Instr → List Tok → Type 0
+Has i ts = (t : Tok) × HasTokens i t ts
+
+with_label : (i : Instr) (t : Tok) → has_label i ≡ true → tokens_of i t ≡ row_tokens i ++ t ∷ []
+with_label i t e = rw e refl
+
+without_label : (i : Instr) (t : Tok) → has_label i ≡ false → tokens_of i t ≡ row_tokens i
+without_label i t e = rw e refl
+
+pub labelled_yes : (i : Instr) (ts front row : List Tok) (last : Tok) (c : Bool) → IsNarrow i → has_label i ≡ true → ts ≡ front ++ last ∷ [] → row ≡ row_tokens i → IsLabel last → (IsTrue c ↔ (front ≡ row)) → IsTrue c ↔ Has i ts
+labelled_yes i ts front row last c narrow e split is_row label has = (
+  λ true_. (
+    last,
+    record {
+      narrow = narrow;
+      label = label;
+      tokens = with_label i last e ∙ ap (λ (x : List Tok). x ++ last ∷ []) (sym is_row ∙ sym (has.0 true_)) ∙ sym split;
+    },
+  ),
+  λ h. has.1 (sym (last_one (row_tokens i) front h.0 last (sym (with_label i h.0 e) ∙ h.1.tokens ∙ split)).0 ∙ sym is_row),
+)
+
+pub labelled_no : (i : Instr) (ts front : List Tok) (last : Tok) → has_label i ≡ true → ts ≡ front ++ last ∷ [] → (IsLabel last → ⊥) → IsTrue false ↔ Has i ts
+labelled_no i ts front last e split not = (
+  λ true_. absurd (false≢true true_),
+  λ h. absurd (not (subst (λ (x : Tok). IsLabel x) (last_one (row_tokens i) front h.0 last (sym (with_label i h.0 e) ∙ h.1.tokens ∙ split)).1 h.1.label)),
+)
+
+nothing_not : (row ts : List Tok) (t : Tok) → row ++ t ∷ [] ≡ ts → ts ≡ [] → ⊥
+nothing_not row ts t e f = let n = ap length (e ∙ f) in omega (arith, n, length-append row (t ∷ []))
+
+pub labelled_none : (i : Instr) (ts : List Tok) → has_label i ≡ true → ts ≡ [] → IsTrue false ↔ Has i ts
+labelled_none i ts e f = (
+  λ true_. absurd (false≢true true_),
+  λ h. absurd (nothing_not (row_tokens i) ts h.0 (sym (with_label i h.0 e) ∙ h.1.tokens) f),
+)
+
+pub plain_has : (i : Instr) (ts row : List Tok) (c : Bool) → IsNarrow i → has_label i ≡ false → row ≡ row_tokens i → (IsTrue c ↔ (ts ≡ row)) → IsTrue c ↔ Has i ts
+plain_has i ts row c narrow e is_row has = (
+  λ true_. (
+    number 0,
+    record {
+      narrow = narrow;
+      label = omega arith;
+      tokens = without_label i (number 0) e ∙ sym is_row ∙ sym (has.0 true_);
+    },
+  ),
+  λ h. has.1 (sym h.1.tokens ∙ without_label i h.0 e ∙ sym is_row),
+)
+
+pub at_yes : (i : Instr) (ts : List Tok) (pc a : ℕ) (c : Bool) → Has i ts → (IsTrue c ↔ Reaches (target i pc) a) → IsTrue c ↔ IsRowAt ts pc a i
+at_yes i ts pc a c has reaches = (
+  λ true_. record { label = has.0; has = has.1; reaches = reaches.0 true_ },
+  λ h. reaches.1 h.reaches,
+)
+
+pub at_no : (i : Instr) (ts : List Tok) (pc a : ℕ) → (Has i ts → ⊥) → IsTrue false ↔ IsRowAt ts pc a i
+at_no i ts pc a not = (
+  λ true_. absurd (false≢true true_),
+  λ h. absurd (not (h.label, h.has)),
+)
+
+-- the label of a row's tokens
+abbrev none_of : Option Tok
+none_of = None
+
+abbrev some_of : Tok → Option Tok
+some_of t = Some t
+
+pub label_none : (i : Instr) (ts : List Tok) → has_label i ≡ false → (t : Tok) → tokens_of i t ≡ ts → none_of ≡ label_of i t
+label_none i ts e t is = rw e refl
+
+pub label_last : (i : Instr) (ts front : List Tok) (last : Tok) → has_label i ≡ true → ts ≡ front ++ last ∷ [] → (t : Tok) → tokens_of i t ≡ ts → some_of last ≡ label_of i t
+label_last i ts front last e split t is =
+    let same : t ≡ last = (last_one (row_tokens i) front t last (sym (with_label i t e) ∙ is ∙ split)).1 in
+    rw e (ap some_of (sym same))
+
+pub label_not : (i : Instr) (ts : List Tok) → has_label i ≡ true → ts ≡ [] → (t : Tok) → tokens_of i t ≡ ts → none_of ≡ label_of i t
+label_not i ts e f t is = absurd (nothing_not (row_tokens i) ts t (sym (with_label i t e) ∙ is) f)

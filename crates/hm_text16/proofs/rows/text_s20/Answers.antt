@@ -1,0 +1,26 @@
+use Rattle.std.proofs.Common.{◌++◌, List, ap, sym, ◌∙◌}
+use Rattle.hm_text16.specs.Rows.{braces, list_tokens}
+use Rattle.hm_tokens.specs.Tokens.{Tok}
+use Rattle.hm_text16.proofs.rows.text_s20.Goals as goal
+
+pub returns-in-Push : goal.returns-in-Push
+returns-in-Push c =
+    let i = c.args.i.now in
+    c.push_text.ensures i.n.value ∙ (λ j. list_tokens (sym c.in-Push.is j) (c.get.ensures.value j) i.n.value (c.get-list.ensures.value j))
+
+pub returns-in-Pop : goal.returns-in-Pop
+returns-in-Pop c =
+    let i = c.args.i.now in
+    c.pop_text.ensures i.n.value ∙ (λ j. list_tokens (sym c.in-Pop.is j) (c.get-in-Pop.ensures.value j) i.n.value (c.get-list.ensures.value j))
+
+pub returns-in-Stm : goal.returns-in-Stm
+returns-in-Stm c =
+    let i = c.args.i.now in
+    c.with_list.ensures ∙ ap (λ (ts : List Tok). ts ++ braces c.get-list.result) c.store_start.ensures.tokens
+    ∙ (λ j. list_tokens (sym c.in-Stm.is j) i.x.value (c.get-in-Stm.ensures.value j) (c.get-list.ensures.value j))
+
+pub returns-in-Ldm : goal.returns-in-Ldm
+returns-in-Ldm c =
+    let i = c.args.i.now in
+    c.with_list-in-Ldm.ensures ∙ (λ j. c.load_start.ensures.tokens j ++ braces (c.get-list.ensures.value j))
+    ∙ (λ j. list_tokens (sym c.in-Ldm.is j) i.x.value i.n.value i.list.value)

@@ -1,0 +1,6 @@
+pub mod Stems
+pub mod Rows
+pub mod Targets
+pub mod Texts
+pub mod Operands
+pub mod Codes

@@ -1,0 +1,171 @@
+-- The text of each row of one halfword, as tokens.
+use Rattle.std.specs.Prelude.{ℕ, zero, suc, ◌+◌, ◌*◌, Bool, length, ltb, true, false, List, [], ◌∷◌, ◌++◌, codes, nat_eq, if◌then◌else◌}
+use Rattle.hm_isa.specs.declared.Instr.{Instr}
+use Rattle.hm_isa.specs.declared.Instr.TheVariants.{Scalar, Branch, Vector}
+use Rattle.hm_isa.specs.declared.Scalar.{Scalar as ScalarRow}
+use Rattle.hm_isa.specs.declared.Scalar.TheVariants.{S1, S2, S3, S4, S5, S6, S7, S8, S9, S10, S11, S12, S13, S14, S15, S16, S17, S18, S19, S20, S21}
+use Rattle.hm_isa.specs.declared.Branch.{Branch as BranchRow}
+use Rattle.hm_isa.specs.declared.Branch.TheVariants.{S23, S24, S25}
+use Rattle.hm_isa.specs.declared.narrow.BaseName.{BaseName}
+use Rattle.hm_isa.specs.declared.narrow.BaseName.TheVariants as base
+use Rattle.hm_isa.specs.declared.narrow.ListName.{ListName}
+use Rattle.hm_isa.specs.declared.narrow.ListName.TheVariants as list
+use Rattle.hm_isa.specs.declared.narrow.PlainName.{PlainName}
+use Rattle.hm_isa.specs.declared.narrow.PlainName.TheVariants as plain
+use Rattle.hm_isa.specs.declared.narrow.S25.{S25 as JumpRow}
+use Rattle.hm_isa.specs.declared.narrow.S25.TheVariants as s25
+use Rattle.hm_isa.specs.declared.narrow.ShiftName.{ShiftName}
+use Rattle.hm_isa.specs.declared.narrow.ShiftName.TheVariants as shift
+use Rattle.hm_isa.specs.Rules.{listed_in}
+use Rattle.hm_isa.specs.Standing.{◌↑◌}
+use Rattle.hm_tokens.specs.Names.{register_name}
+use Rattle.hm_tokens.specs.Tokens.{Tok, word, number, mark}
+use Rattle.hm_text16.specs.Stems.{access_stem, block_condition, block_stem, branch_stem, byte_stem, extend_stem, hint_stem, jump_stem, logic_stem, masking_stem, plain_stem, shift_stem, stack_sum_stem, sum_stem, swap_stem, word_stem, zero_stem}
+
+-- OPERANDS
+abbrev pub r : ℕ → Tok
+r n = word (register_name n)
+
+abbrev pub comma : Tok
+comma = mark 44
+
+-- `#n`
+abbrev pub constant : ℕ → List Tok
+constant n = mark 35 ∷ number n ∷ []
+
+-- `[` and `]`
+abbrev pub open_bracket : Tok
+open_bracket = mark 91
+
+abbrev pub close_bracket : Tok
+close_bracket = mark 93
+
+-- SHAPES
+abbrev pub one : List ℕ → Tok → List Tok
+one name a = word name ∷ a ∷ []
+
+abbrev pub two : List ℕ → Tok → Tok → List Tok
+two name a b = word name ∷ a ∷ comma ∷ b ∷ []
+
+abbrev pub three : List ℕ → Tok → Tok → Tok → List Tok
+three name a b c = word name ∷ a ∷ comma ∷ b ∷ comma ∷ c ∷ []
+
+abbrev pub and_constant : List Tok → ℕ → List Tok
+and_constant front n = front ++ comma ∷ constant n
+
+-- `rt,[rn,rm]`
+abbrev pub indexed : List ℕ → ℕ → ℕ → ℕ → List Tok
+indexed name t n m = word name ∷ r t ∷ comma ∷ open_bracket ∷ r n ∷ comma ∷ r m ∷ close_bracket ∷ []
+
+-- `rt,[rn,#k]`
+abbrev pub offset : List ℕ → ℕ → ℕ → ℕ → List Tok
+offset name t n k = word name ∷ r t ∷ comma ∷ open_bracket ∷ r n ∷ comma ∷ mark 35 ∷ number k ∷ close_bracket ∷ []
+
+-- LISTS
+-- those of the registers from k up, so many, that stand in a list
+abbrev pub registers_from : ℕ → ℕ → ℕ → List ℕ
+registers_from zero k list = []
+registers_from (suc n) k list = if listed_in list k then k ∷ registers_from n (k + 1) list else registers_from n (k + 1) list
+
+-- no row lists more than nine
+unfoldable pub are_few : ℕ → Bool
+are_few list = ltb (length (registers_from 16 0 list)) 10
+
+-- registers, each behind a mark: the first behind this one, and the others behind a comma
+abbrev pub listed : ℕ → List ℕ → List Tok
+listed m [] = []
+listed m (k ∷ ks) = mark m ∷ r k ∷ listed 44 ks
+
+-- `{..}`, the registers in rising order
+abbrev pub braces : ℕ → List Tok
+braces list = listed 123 (registers_from 16 0 list) ++ mark 125 ∷ []
+
+-- `ldm rn!,`, or `ldm rn,` where rn is listed and there is no writeback
+abbrev pub load_start : ℕ → ℕ → List Tok
+load_start n list = if listed_in list n then word (codes "ldm") ∷ r n ∷ comma ∷ [] else word (codes "ldm") ∷ r n ∷ mark 33 ∷ comma ∷ []
+
+-- lr is register 14 and pc is register 15
+abbrev pub list_tokens : ListName → ℕ → ℕ → ℕ → List Tok
+list_tokens list.Push x n regs = word (codes "push") ∷ braces (regs + x ↑ 14)
+list_tokens list.Pop x n regs = word (codes "pop") ∷ braces (regs + x ↑ 15)
+list_tokens list.Stm x n regs = word (codes "stm") ∷ r n ∷ mark 33 ∷ comma ∷ braces regs
+list_tokens list.Ldm x n regs = load_start n regs ++ braces regs
+
+-- ROWS
+-- 0 stands for 32 in shifts to the right
+abbrev pub shift_number : ShiftName → ℕ → ℕ
+shift_number shift.Lsl i = i
+shift_number shift.Lsr i = if nat_eq i 0 then 32 else i
+shift_number shift.Asr i = if nat_eq i 0 then 32 else i
+
+abbrev pub base_register : BaseName → ℕ
+base_register base.Pc = 15
+base_register base.Sp = 13
+
+-- how many bytes an access has
+abbrev pub plain_size : PlainName → ℕ
+plain_size plain.Str = 4
+plain_size plain.Ldr = 4
+plain_size plain.Strb = 1
+plain_size plain.Ldrb = 1
+plain_size plain.Strh = 2
+plain_size plain.Ldrh = 2
+
+abbrev pub jump_tokens : JumpRow → List Tok
+jump_tokens (s25.Conditional i) = word (branch_stem i.c.value) ∷ []
+jump_tokens (s25.Always i) = word (codes "b") ∷ []
+
+abbrev pub scalar_tokens : ScalarRow → List Tok
+scalar_tokens (S1 i) = and_constant (two (shift_stem i.name) (r i.d.value) (r i.m.value)) (shift_number i.name i.i.value)
+scalar_tokens (S2 i) = three (sum_stem i.name) (r i.d.value) (r i.n.value) (r i.m.value)
+scalar_tokens (S3 i) = and_constant (two (sum_stem i.name) (r i.d.value) (r i.n.value)) i.i.value
+scalar_tokens (S4 i) = and_constant (one (byte_stem i.name) (r i.d.value)) i.i.value
+scalar_tokens (S5 i) = two (logic_stem i.name) (r i.d.value) (r i.m.value)
+scalar_tokens (S6 i) = two (codes "add") (r i.d.value) (r i.m.value)
+scalar_tokens (S7 i) = two (codes "cmp") (r i.d.value) (r i.m.value)
+scalar_tokens (S8 i) = two (codes "mov") (r i.d.value) (r i.m.value)
+scalar_tokens (S9 i) = and_constant (two (codes "add") (r i.d.value) (r (base_register i.name))) (4 * i.i.value)
+scalar_tokens (S10 i) = and_constant (one (stack_sum_stem i.name) (r 13)) (4 * i.i.value)
+scalar_tokens (S11 i) = two (extend_stem i.name) (r i.d.value) (r i.m.value)
+scalar_tokens (S12 i) = two (swap_stem i.name) (r i.d.value) (r i.m.value)
+scalar_tokens (S13 i) = one (masking_stem i.name) (word (codes "i"))
+scalar_tokens (S14 i) = word (codes "ldr") ∷ r i.t.value ∷ comma ∷ []
+scalar_tokens (S15 i) = indexed (access_stem i.name) i.t.value i.n.value i.m.value
+scalar_tokens (S16 i) = offset (plain_stem i.name) i.t.value i.n.value (plain_size i.name * i.i.value)
+scalar_tokens (S17 i) = offset (word_stem i.name) i.t.value 13 (4 * i.i.value)
+scalar_tokens (S18 i) = word (codes "bkpt") ∷ constant i.i.value
+scalar_tokens (S19 i) = word (hint_stem i.name) ∷ []
+scalar_tokens (S20 i) = list_tokens i.name i.x.value i.n.value i.list.value
+scalar_tokens (S21 i) = one (block_stem i.c.value i.mask.value) (word (block_condition i.c.value))
+scalar_tokens i = []
+
+abbrev pub branch_tokens : BranchRow → List Tok
+branch_tokens (S23 i) = one (jump_stem i.name) (r i.m.value)
+branch_tokens (S24 i) = word (zero_stem i.name) ∷ r i.n.value ∷ comma ∷ []
+branch_tokens (S25 i) = jump_tokens i
+branch_tokens i = []
+
+-- the tokens of each row of one halfword; where it has a label, the ones before that; none of other rows
+abbrev pub row_tokens : Instr → List Tok
+row_tokens (Scalar i) = scalar_tokens i
+row_tokens (Branch i) = branch_tokens i
+row_tokens (Vector i) = []
+
+abbrev pub has_label_scalar : ScalarRow → Bool
+has_label_scalar (S14 i) = true
+has_label_scalar i = false
+
+abbrev pub has_label_branch : BranchRow → Bool
+has_label_branch (S24 i) = true
+has_label_branch (S25 i) = true
+has_label_branch i = false
+
+-- whether the last operand of a row is a label: S14, S24, S25
+abbrev pub has_label : Instr → Bool
+has_label (Scalar i) = has_label_scalar i
+has_label (Branch i) = has_label_branch i
+has_label (Vector i) = false
+
+-- the whole text of a row, where t is the token of its label, if it has one
+abbrev pub tokens_of : Instr → Tok → List Tok
+tokens_of i t = if has_label i then row_tokens i ++ t ∷ [] else row_tokens i

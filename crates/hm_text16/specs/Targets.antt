@@ -1,0 +1,38 @@
+-- The address that the label of a row names.
+use Rattle.std.specs.Prelude.{ℕ, ◌+◌, ◌-◌, ◌*◌, ◌/◌, ◌%◌, ◌^◌, Option, Some, None, nat_lt, if◌then◌else◌}
+use Rattle.hm_isa.specs.declared.Instr.{Instr}
+use Rattle.hm_isa.specs.declared.Instr.TheVariants.{Scalar, Branch, Vector}
+use Rattle.hm_isa.specs.declared.Scalar.{Scalar as ScalarRow}
+use Rattle.hm_isa.specs.declared.Scalar.TheVariants.{S14}
+use Rattle.hm_isa.specs.declared.Branch.{Branch as BranchRow}
+use Rattle.hm_isa.specs.declared.Branch.TheVariants.{S24, S25}
+use Rattle.hm_isa.specs.declared.narrow.S25.{S25 as JumpRow}
+use Rattle.hm_isa.specs.declared.narrow.S25.TheVariants as s25
+
+-- twice a number of which the upper half counts from below, modulo 2^32
+abbrev pub twice_signed : ℕ → ℕ → ℕ
+twice_signed half i = if nat_lt i half then 2 * i else 2 ^ 32 - 4 * half + 2 * i
+
+-- so far behind the address plus 4
+abbrev pub behind : ℕ → ℕ → ℕ
+behind pc n = (pc + 4 + n) % 2 ^ 32
+
+abbrev pub jump_target : JumpRow → ℕ → ℕ
+jump_target (s25.Conditional i) pc = behind pc (twice_signed 128 i.i.value)
+jump_target (s25.Always i) pc = behind pc (twice_signed 1024 i.i.value)
+
+-- for S14 the address plus 4 is rounded down to a word
+abbrev pub scalar_target : ScalarRow → ℕ → Option ℕ
+scalar_target (S14 i) pc = Some (((pc + 4) / 4 * 4 + 4 * i.i.value) % 2 ^ 32)
+scalar_target i pc = None
+
+abbrev pub branch_target : BranchRow → ℕ → Option ℕ
+branch_target (S24 i) pc = Some (behind pc (2 * i.i.value))
+branch_target (S25 i) pc = Some (jump_target i pc)
+branch_target i pc = None
+
+-- the address that the label of a row of one halfword names, where the instruction stands at pc; None where it has none
+abbrev pub target : Instr → ℕ → Option ℕ
+target (Scalar i) pc = scalar_target i pc
+target (Branch i) pc = branch_target i pc
+target (Vector i) pc = None

@@ -1,0 +1,404 @@
+//! Mnemonics: the codes that their rows begin from, and what else they tell.
+
+ghost use Rattle.std.specs.Prelude.{◌≡◌, ◌<◌, bytes_eq, IfSome};
+ghost use Rattle.hm_text16.specs.Codes.{access_base_in, block_in, branch_condition_in, byte_access_base_in, byte_base_in, fixed_code_in, half_base_in, high_base_in, jump_base_in, low_base_in, move_base_in, shift_base_in, stack_base_in, stack_sum_base_in, sum_base_in, word_base_in, zero_base_in};
+
+/// Whether a mnemonic is this one.
+pub fn is(stem: &[u8], name: &str) -> bool
+    ensures { result ≡ bytes_eq stem.now name.now }
+{
+    stem == name.as_bytes()
+}
+
+/// Of `rd,rm,#i`, row S1.
+pub fn shift_base_in(stem: &[u8]) -> Option<u32>
+    ensures { result ≡ shift_base_in stem.now }
+{
+    if is(stem, "lsls") {
+        return Some(0x0000);
+    }
+    if is(stem, "lsrs") {
+        return Some(0x0800);
+    }
+    if is(stem, "asrs") {
+        return Some(0x1000);
+    }
+    None
+}
+
+/// Of rows S2 and S3.
+pub fn sum_base_in(stem: &[u8]) -> Option<u32>
+    ensures { result ≡ sum_base_in stem.now }
+{
+    if is(stem, "adds") {
+        return Some(0x1800);
+    }
+    if is(stem, "subs") {
+        return Some(0x1a00);
+    }
+    None
+}
+
+/// Of a row S10.
+pub fn stack_sum_base_in(stem: &[u8]) -> Option<u32>
+    ensures { result ≡ stack_sum_base_in stem.now }
+{
+    if is(stem, "add") {
+        return Some(0xb000);
+    }
+    if is(stem, "sub") {
+        return Some(0xb080);
+    }
+    None
+}
+
+/// Of a row S4.
+pub fn byte_base_in(stem: &[u8]) -> Option<u32>
+    ensures { result ≡ byte_base_in stem.now }
+{
+    if is(stem, "movs") {
+        return Some(0x2000);
+    }
+    if is(stem, "cmp") {
+        return Some(0x2800);
+    }
+    if is(stem, "adds") {
+        return Some(0x3000);
+    }
+    if is(stem, "subs") {
+        return Some(0x3800);
+    }
+    None
+}
+
+/// Of a row S5 but `cmp`, which is told by its registers.
+pub fn low_base_in(stem: &[u8]) -> Option<u32>
+    ensures { result ≡ low_base_in stem.now }
+{
+    if is(stem, "ands") {
+        return Some(0x4000);
+    }
+    if is(stem, "eors") {
+        return Some(0x4040);
+    }
+    if is(stem, "lsls") {
+        return Some(0x4080);
+    }
+    if is(stem, "lsrs") {
+        return Some(0x40c0);
+    }
+    if is(stem, "asrs") {
+        return Some(0x4100);
+    }
+    if is(stem, "adcs") {
+        return Some(0x4140);
+    }
+    if is(stem, "sbcs") {
+        return Some(0x4180);
+    }
+    if is(stem, "rors") {
+        return Some(0x41c0);
+    }
+    if is(stem, "tst") {
+        return Some(0x4200);
+    }
+    if is(stem, "rsbs") {
+        return Some(0x4240);
+    }
+    if is(stem, "cmn") {
+        return Some(0x42c0);
+    }
+    if is(stem, "orrs") {
+        return Some(0x4300);
+    }
+    if is(stem, "muls") {
+        return Some(0x4340);
+    }
+    if is(stem, "bics") {
+        return Some(0x4380);
+    }
+    if is(stem, "mvns") {
+        return Some(0x43c0);
+    }
+    None
+}
+
+/// Of rows S11 and S12.
+pub fn move_base_in(stem: &[u8]) -> Option<u32>
+    ensures { result ≡ move_base_in stem.now }
+{
+    if is(stem, "sxth") {
+        return Some(0xb200);
+    }
+    if is(stem, "sxtb") {
+        return Some(0xb240);
+    }
+    if is(stem, "uxth") {
+        return Some(0xb280);
+    }
+    if is(stem, "uxtb") {
+        return Some(0xb2c0);
+    }
+    if is(stem, "rev") {
+        return Some(0xba00);
+    }
+    if is(stem, "rev16") {
+        return Some(0xba40);
+    }
+    if is(stem, "revsh") {
+        return Some(0xbac0);
+    }
+    None
+}
+
+/// Of rows S6 and S8.
+pub fn high_base_in(stem: &[u8]) -> Option<u32>
+    ensures { result ≡ high_base_in stem.now }
+{
+    if is(stem, "add") {
+        return Some(0x4400);
+    }
+    if is(stem, "mov") {
+        return Some(0x4600);
+    }
+    None
+}
+
+/// Of a row S15.
+pub fn access_base_in(stem: &[u8]) -> Option<u32>
+    ensures { result ≡ access_base_in stem.now }
+{
+    if is(stem, "str") {
+        return Some(0x5000);
+    }
+    if is(stem, "strh") {
+        return Some(0x5200);
+    }
+    if is(stem, "strb") {
+        return Some(0x5400);
+    }
+    if is(stem, "ldrsb") {
+        return Some(0x5600);
+    }
+    if is(stem, "ldr") {
+        return Some(0x5800);
+    }
+    if is(stem, "ldrh") {
+        return Some(0x5a00);
+    }
+    if is(stem, "ldrb") {
+        return Some(0x5c00);
+    }
+    if is(stem, "ldrsh") {
+        return Some(0x5e00);
+    }
+    None
+}
+
+/// Of a row S16 of words.
+pub fn word_base_in(stem: &[u8]) -> Option<u32>
+    ensures { result ≡ word_base_in stem.now }
+{
+    if is(stem, "str") {
+        return Some(0x6000);
+    }
+    if is(stem, "ldr") {
+        return Some(0x6800);
+    }
+    None
+}
+
+/// Of a row S16 of bytes.
+pub fn byte_access_base_in(stem: &[u8]) -> Option<u32>
+    ensures { result ≡ byte_access_base_in stem.now }
+{
+    if is(stem, "strb") {
+        return Some(0x7000);
+    }
+    if is(stem, "ldrb") {
+        return Some(0x7800);
+    }
+    None
+}
+
+/// Of a row S16 of halfwords.
+pub fn half_base_in(stem: &[u8]) -> Option<u32>
+    ensures { result ≡ half_base_in stem.now }
+{
+    if is(stem, "strh") {
+        return Some(0x8000);
+    }
+    if is(stem, "ldrh") {
+        return Some(0x8800);
+    }
+    None
+}
+
+/// Of a row S17.
+pub fn stack_base_in(stem: &[u8]) -> Option<u32>
+    ensures { result ≡ stack_base_in stem.now }
+{
+    if is(stem, "str") {
+        return Some(0x9000);
+    }
+    if is(stem, "ldr") {
+        return Some(0x9800);
+    }
+    None
+}
+
+/// Of rows S13 and S19, which have no fields.
+pub fn fixed_code_in(stem: &[u8]) -> Option<u32>
+    ensures { result ≡ fixed_code_in stem.now }
+{
+    if is(stem, "nop") {
+        return Some(0xbf00);
+    }
+    if is(stem, "yield") {
+        return Some(0xbf10);
+    }
+    if is(stem, "wfe") {
+        return Some(0xbf20);
+    }
+    if is(stem, "wfi") {
+        return Some(0xbf30);
+    }
+    if is(stem, "sev") {
+        return Some(0xbf40);
+    }
+    if is(stem, "cpsie") {
+        return Some(0xb662);
+    }
+    if is(stem, "cpsid") {
+        return Some(0xb672);
+    }
+    None
+}
+
+/// Of a row S23.
+pub fn jump_base_in(stem: &[u8]) -> Option<u32>
+    ensures { result ≡ jump_base_in stem.now }
+{
+    if is(stem, "bx") {
+        return Some(0x4700);
+    }
+    if is(stem, "blx") {
+        return Some(0x4780);
+    }
+    None
+}
+
+/// Of a row S24.
+pub fn zero_base_in(stem: &[u8]) -> Option<u32>
+    ensures { result ≡ zero_base_in stem.now }
+{
+    if is(stem, "cbz") {
+        return Some(0xb100);
+    }
+    if is(stem, "cbnz") {
+        return Some(0xb900);
+    }
+    None
+}
+
+/// The condition of a branch.
+pub fn branch_condition_in(stem: &[u8]) -> Option<u32>
+    ensures { result ≡ branch_condition_in stem.now }
+{
+    if is(stem, "beq") {
+        return Some(0);
+    }
+    if is(stem, "bne") {
+        return Some(1);
+    }
+    if is(stem, "bcs") {
+        return Some(2);
+    }
+    if is(stem, "bcc") {
+        return Some(3);
+    }
+    if is(stem, "bmi") {
+        return Some(4);
+    }
+    if is(stem, "bpl") {
+        return Some(5);
+    }
+    if is(stem, "bvs") {
+        return Some(6);
+    }
+    if is(stem, "bvc") {
+        return Some(7);
+    }
+    if is(stem, "bhi") {
+        return Some(8);
+    }
+    if is(stem, "bls") {
+        return Some(9);
+    }
+    if is(stem, "bge") {
+        return Some(10);
+    }
+    if is(stem, "blt") {
+        return Some(11);
+    }
+    if is(stem, "bgt") {
+        return Some(12);
+    }
+    if is(stem, "ble") {
+        return Some(13);
+    }
+    None
+}
+
+/// The mask of a block under a condition with the low bit 0; under another it is 16 less this.
+pub fn block_in(stem: &[u8]) -> Option<u32>
+    ensures value { result ≡ block_in stem.now }
+    ensures below { IfSome result (λ m. m < 16) }
+{
+    if is(stem, "it") {
+        return Some(8);
+    }
+    if is(stem, "itt") {
+        return Some(4);
+    }
+    if is(stem, "ite") {
+        return Some(12);
+    }
+    if is(stem, "ittt") {
+        return Some(2);
+    }
+    if is(stem, "itte") {
+        return Some(6);
+    }
+    if is(stem, "itet") {
+        return Some(10);
+    }
+    if is(stem, "itee") {
+        return Some(14);
+    }
+    if is(stem, "itttt") {
+        return Some(1);
+    }
+    if is(stem, "ittte") {
+        return Some(3);
+    }
+    if is(stem, "ittet") {
+        return Some(5);
+    }
+    if is(stem, "ittee") {
+        return Some(7);
+    }
+    if is(stem, "itett") {
+        return Some(9);
+    }
+    if is(stem, "itete") {
+        return Some(11);
+    }
+    if is(stem, "iteet") {
+        return Some(13);
+    }
+    if is(stem, "iteee") {
+        return Some(15);
+    }
+    None
+}

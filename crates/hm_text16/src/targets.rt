@@ -1,0 +1,78 @@
+//! The address that the label of a row names.
+
+ghost use Rattle.std.specs.Prelude.{◌≡◌, ◌<◌, ◌+◌, ◌*◌, ◌/◌, ◌%◌, ◌^◌};
+ghost use Rattle.hm_text16.specs.Targets.{behind, branch_target, jump_target, scalar_target, target, twice_signed};
+
+use hm_isa::{Branch, Instr, S25, Scalar};
+
+/// The address that is so far behind the address plus 4.
+fn behind(pc: u32, n: u64) -> u32
+    requires { n < 2 ^ 33 }
+    ensures { result ≡ behind pc n }
+{
+    ((u64::from(pc) + 4 + n) % 0x1_0000_0000) as u32
+}
+
+/// Twice a number of which the upper half counts from below, modulo 2^32.
+fn twice_signed(half: u64, i: u32) -> u64
+    requires { (half < 4096) × (i < 4096) }
+    ensures value { result ≡ twice_signed half i }
+    ensures small { result < 2 ^ 33 }
+{
+    let i = u64::from(i);
+    if i < half {
+        2 * i
+    } else {
+        0x1_0000_0000 - 4 * half + 2 * i
+    }
+}
+
+/// The target of a branch S25.
+fn jump_target(i: &S25, pc: u32) -> u32
+    ensures { result ≡ jump_target i.now pc }
+{
+    match i {
+        S25::Conditional(i) => behind(pc, twice_signed(128, i.i.get())),
+        S25::Always(i) => behind(pc, twice_signed(1024, i.i.get())),
+    }
+}
+
+/// The address of a literal: i words behind the address plus 4, rounded down to a word.
+fn literal(pc: u32, i: u32) -> u32
+    requires { i < 256 }
+    ensures { result ≡ ((pc + 4) / 4 * 4 + 4 * i) % 2 ^ 32 }
+{
+    (((u64::from(pc) + 4) / 4 * 4 + 4 * u64::from(i)) % 0x1_0000_0000) as u32
+}
+
+/// The target of a scalar row.
+fn scalar_target(i: &Scalar, pc: u32) -> Option<u32>
+    ensures { result ≡ scalar_target i.now pc }
+{
+    match i {
+        Scalar::S14(i) => Some(literal(pc, i.i.get())),
+        _ => None,
+    }
+}
+
+/// The target of a branch.
+fn branch_target(i: &Branch, pc: u32) -> Option<u32>
+    ensures { result ≡ branch_target i.now pc }
+{
+    match i {
+        Branch::S24(i) => Some(behind(pc, 2 * u64::from(i.i.get()))),
+        Branch::S25(i) => Some(jump_target(i, pc)),
+        Branch::S23(_) | Branch::T16(_) | Branch::T17(_) | Branch::T23(_) => None,
+    }
+}
+
+/// The address that the label of a row of one halfword names, where the instruction stands at `pc`; None where it has none.
+pub fn target(i: &Instr, pc: u32) -> Option<u32>
+    ensures value { result ≡ target i.now pc }
+{
+    match i {
+        Instr::Scalar(i) => scalar_target(i, pc),
+        Instr::Branch(i) => branch_target(i, pc),
+        Instr::Vector(_) => None,
+    }
+}
