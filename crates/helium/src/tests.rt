@@ -241,6 +241,7 @@ fn refuses_elf_files(rt: HostRuntime) -> Result<(), Fail> {
         let mut outside = host(alloc, &file, b"", &[])?;
         assert_eq!(rt; run(alloc, "plain:1", &mut outside)?, Status::Refused);
         assert_eq!(rt; outside.printed(), line);
+        assert!(rt; outside.file("b").is_none());
     }
     Ok(())
 }
@@ -425,6 +426,14 @@ fn runs_in_order(rt: HostRuntime) -> Result<(), Fail> {
     );
     assert_eq!(rt; outside.printed(), FIRST_REPORT);
     assert_eq!(rt; outside.calls(), Some(2));
+
+    // The same image as an ELF file.
+    let mut outside = host(alloc, &first_elf(alloc)?, b"", &[])?;
+    assert_eq!(rt;
+        obey(alloc, &["seq", "a", "3"], &mut outside)?,
+        Status::Done
+    );
+    assert_eq!(rt; outside.printed(), FIRST_REPORT);
 
     let mut outside = host(alloc, FIRST, b"", &[])?;
     assert_eq!(rt;

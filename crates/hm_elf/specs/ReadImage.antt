@@ -75,6 +75,10 @@ elf_in bytes = unless (first_failing (header_checks bytes)) (loads_in bytes 0 (h
 
 -- ---- files of images
 
+-- the checks before a segment is looked at
+abbrev pub first_checks : List ℕ → List Check
+first_checks bytes = if begins_as_elf bytes then header_checks bytes else flat_checks bytes
+
 unfoldable pub image_in : List ℕ → Result (List Segment) ImageErr
 image_in bytes = if begins_as_elf bytes then elf_in bytes else flat_in bytes
 

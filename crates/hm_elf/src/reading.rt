@@ -1,9 +1,9 @@
 //! Reading the file of an image.
 
-ghost use Rattle.std.specs.Prelude.{◌≡◌, ◌+◌, ◌*◌, ◌^◌, ◌<◌, ◌≤◌, List, [], length, take, drop, Ok, IfOk};
+ghost use Rattle.std.specs.Prelude.{◌≡◌, ◌+◌, ◌*◌, ◌^◌, ◌<◌, ◌≤◌, List, [], length, take, drop, Some, Ok, Err, IfOk};
 ghost use Rattle.hm_base.specs.Image.{Segment, segment};
 ghost use Rattle.hm_elf.specs.Elf.{half, word, header_at, headers_in, loads, IsImageFile};
-ghost use Rattle.hm_elf.specs.ReadImage.{first_failing, header_checks, place_in, load_in, loads_in, elf_in, flat_in, image_in, Gives};
+ghost use Rattle.hm_elf.specs.ReadImage.{first_checks, first_failing, flat_checks, header_checks, place_in, load_in, loads_in, elf_in, flat_in, image_in, Gives};
 
 use hm_base::{FLASH_SIZE, Image, ImageErr};
 use std::alloc::{AllocError, Global};
@@ -177,7 +177,8 @@ fn load_all(alloc: Global, bytes: &[u8], table: &[u8], count: u16) -> Result<Ima
 /// The image that an ELF file loads.
 fn read_elf(alloc: Global, bytes: &[u8]) -> Result<Image, ImageErr>
     requires small { length bytes.now < 2 ^ 31 }
-    ensures { Gives result (elf_in bytes.now) }
+    ensures value { Gives result (elf_in bytes.now) }
+    ensures refused { (e : ImageErr) → first_failing (header_checks bytes.now) ≡ Some e → result ≡ Err e }
 {
     match header_refusal(bytes) {
         Some(refusal) => Err(refusal),
@@ -191,7 +192,8 @@ fn read_elf(alloc: Global, bytes: &[u8]) -> Result<Image, ImageErr>
 /// The image of bytes that lie in flash from 0 on.
 #[tactic(auto, unfolding(crate::specs::ReadImage::flat_in))]
 fn read_flat(alloc: Global, bytes: &[u8]) -> Result<Image, ImageErr>
-    ensures { Gives result (flat_in bytes.now) }
+    ensures value { Gives result (flat_in bytes.now) }
+    ensures refused { (e : ImageErr) → first_failing (flat_checks bytes.now) ≡ Some e → result ≡ Err e }
 {
     if bytes.len() < SHORTEST {
         return Err(ImageErr::Short);
@@ -211,7 +213,8 @@ fn read_flat(alloc: Global, bytes: &[u8]) -> Result<Image, ImageErr>
 #[tactic(auto, unfolding(crate::specs::ReadImage::image_in))]
 fn read_file(alloc: Global, bytes: &[u8]) -> Result<Image, ImageErr>
     requires small { length bytes.now < 2 ^ 31 }
-    ensures { Gives result (image_in bytes.now) }
+    ensures value { Gives result (image_in bytes.now) }
+    ensures refused { (e : ImageErr) → first_failing (first_checks bytes.now) ≡ Some e → result ≡ Err e }
 {
     if bytes.starts_with(b"\x7fELF") {
         read_elf(alloc, bytes)
@@ -236,6 +239,8 @@ pub fn read_image(alloc: Global, bytes: &[u8]) -> Result<Image, ImageErr>
     ensures only { (image : List Segment) → IsImageFile bytes.now image → Gives result (Ok image) }
     // Which refusal it is.
     ensures exact { Gives result (image_in bytes.now) }
+    // What is refused before a segment is looked at wants no memory.
+    ensures refused { (e : ImageErr) → first_failing (first_checks bytes.now) ≡ Some e → result ≡ Err e }
 {
     read_file(alloc, bytes)
 }

@@ -6,7 +6,7 @@ use std::alloc::Global;
 use std::test::Fail;
 
 /// What clang and ld.lld made of a vector table and three instructions in flash, five bytes in SRAM at 20000010, and seven more
-/// at 20000020 that the file does not have; up to the section headers. `readelf -l` shows four program headers, at 52:
+/// at 20000020 that the file does not have; up to the end of the bytes that it loads. `readelf -l` shows four program headers, at 52:
 /// LOAD b4 16 bytes at 0, GNU_STACK, LOAD c4 5 bytes at 20000010, LOAD c9 0 bytes at 20000020.
 #[rattlefmt::skip]
 const LINKED: [u8; 201] = [
@@ -93,7 +93,7 @@ fn reads_what_a_linker_made(rt: HostRuntime) -> Result<(), Fail> {
 #[test]
 fn refuses_by_the_first_check(rt: HostRuntime) -> Result<(), Fail> {
     let alloc = rt.alloc();
-    let rows: [(u8, &[u8], ImageErr); 25] = [
+    let rows: [(u8, &[u8], ImageErr); 26] = [
         (4, b"\x02", ImageErr::Class),
         (4, b"\x00\x02", ImageErr::Class),
         (5, b"\x02", ImageErr::Order),
@@ -109,6 +109,12 @@ fn refuses_by_the_first_check(rt: HostRuntime) -> Result<(), Fail> {
         (28, b"\x4a", ImageErr::Truncated { at: 201 }),
         (28, b"\xff\xff\xff\xff", ImageErr::Truncated { at: 201 }),
         (44, b"\x05", ImageErr::Truncated { at: 201 }),
+        // A table of none begins past it.
+        (
+            28,
+            b"\xca\x00\x00\x00\x00\x00\x00\x00\x00\x00\x00\x00\x34\x00\x20\x00\x00\x00",
+            ImageErr::Truncated { at: 201 },
+        ),
         // The bytes of the first pass the end.
         (56, b"\xba", ImageErr::Truncated { at: 201 }),
         (56, b"\xff\xff\xff\xff", ImageErr::Truncated { at: 201 }),
