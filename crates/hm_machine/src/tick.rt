@@ -17,7 +17,7 @@ use crate::younger::{Hindrance, younger};
 use hm_base::Stop;
 use hm_mem::{Dev, Mem};
 use hm_run::{Cause, Offence, Outcome, Who};
-use hm_sys::{arrive, count};
+use hm_sys::{arrive_all, count};
 use hm_window::Rule;
 
 /// Why the letters of a tick do not all go on.
@@ -173,5 +173,5 @@ pub fn end_of_tick(irq: u32, mem: &mut Mem)
 {
     let dev = mem.dev_mut();
     count(dev);
-    arrive(dev, irq);
+    arrive_all(dev, irq);
 }

@@ -178,7 +178,7 @@ module _ (listing : Listing) (image : List Segment) (s : Sched) where
   fault_as f pc n h = (sequence.faulted listing image around n f pc).0 h
 
   -- THE HEADLINE
-  halts : (x : Timed) (report file : List ℕ) → KeepsOrder listing image s x → x.acts ≡ [] → report ≡ report_text x → file ≡ memory_text x
+  pub halts : (x : Timed) (report file : List ℕ) → KeepsOrder listing image s x → x.acts ≡ [] → report ≡ report_text x → file ≡ memory_text x
       → (reason : Reason) (n : ℕ) → x.outcome ≡ Some (outcome.Halted reason n) → HaltsInOrder listing image report file reason n
   halts x report file keeps none r f reason n e =
       let h : HaltsAfter machine (start image) reason n x.config = kept x (Some (outcome.Halted reason n)) keeps e in
@@ -206,7 +206,7 @@ module _ (listing : Listing) (image : List Segment) (s : Sched) where
       few_steps machine (start image) x.config n (why.Halt reason) (kept x (Some outcome.OutOfTicks) keeps e)
       (record { state = u; runs = stops.runs; stop = stops.stop })
 
-  riders_of : (x : Timed) → KeepsOrder listing image s x → Riders listing image x
+  pub riders_of : (x : Timed) → KeepsOrder listing image s x → Riders listing image x
   riders_of x keeps = record {
     fault = λ f pc n e. fault_as f pc n (kept x (Some (outcome.Fault Thread f pc n)) keeps e);
     full = λ t e. let h : StopsBetween machine (start image) x.config.n why.Full x.config = kept x (Some (outcome.OutputFull t)) keeps e in (h.order, full_as x.config h);

@@ -48,7 +48,7 @@ use Rattle.hm_window.specs.Positions.{may_end}
 
 -- THE DEVICES
 -- what ticks and interrupts change of the devices is nothing that the thread reads
-open_cond : (b : Bool) (x y d : Dev) → open_devices x ≡ open_devices d → open_devices y ≡ open_devices d → open_devices (cond b x y) ≡ open_devices d
+pub open_cond : (b : Bool) (x y d : Dev) → open_devices x ≡ open_devices d → open_devices y ≡ open_devices d → open_devices (cond b x y) ≡ open_devices d
 open_cond true x y d h k = h
 open_cond false x y d h k = k
 
@@ -58,14 +58,14 @@ open_expired d = open_cond (d.cvr == 0) _ d d refl refl
 open_counted : (d : Dev) → open_devices (counted d) ≡ open_devices d
 open_counted d = open_cond (d.csr % 2 == 1) _ d d (open_cond (d.cvr == 0) _ _ d refl (open_expired (record d { cvr = d.cvr - 1 }))) refl
 
-open_arrived : (irq : ℕ) (d : Dev) → open_devices (arrived irq (counted d)) ≡ open_devices d
+pub open_arrived : (irq : ℕ) (d : Dev) → open_devices (arrived irq (counted d)) ≡ open_devices d
 open_arrived irq d = open_counted d
 
 module _ (listing : Listing) (around : Around) (thread : around.actor ≡ actor.Thread) (first : State) where
   abbrev machine : Program
   machine = core listing around
 
-  devices_restore : (irq : ℕ) (s : State) → Restores machine s (with_devices (counted_with irq) s)
+  pub devices_restore : (irq : ℕ) (s : State) → Restores machine s (with_devices (counted_with irq) s)
   devices_restore irq s = (record { cells = cells; sticky = refl }, refl)
     where
       cells : (c : Watched) → dead c (held (with_devices (counted_with irq) s) c) ≡ false → held (with_devices (counted_with irq) s) c ≡ held s c
@@ -85,7 +85,7 @@ module _ (listing : Listing) (around : Around) (thread : around.actor ≡ actor.
       (steps_agree (steps_left (vector_of (listing c.state.pc)) c.a) c h))
 
   -- a younger beat that stops and breaks no rule is tainted
-  abbrev OnlyTaint : Stepped → Type 0
+  abbrev pub OnlyTaint : Stepped → Type 0
   OnlyTaint (Ok c) = Unit {0}
   OnlyTaint (Err (Stopped c e)) = is_tainted_cause e ≡ true
   OnlyTaint (Err (Broken c r)) = Unit {0}
@@ -98,7 +98,7 @@ module _ (listing : Listing) (around : Around) (thread : around.actor ≡ actor.
   did_only c (Ok t) = tt
   did_only c (Err e) = fault_only c e (is_tainted_cause e) refl
 
-  younger_only : (c : Config State) (b : Option Rule) (o : Option Vector) → OnlyTaint (younger_of machine b o c)
+  pub younger_only : (c : Config State) (b : Option Rule) (o : Option Vector) → OnlyTaint (younger_of machine b o c)
   younger_only c (Some b) o = tt
   younger_only c None (Some j) = did_only c ((machine.rows.act j c.b).run c.state)
   younger_only c None None = tt
@@ -195,7 +195,7 @@ module _ (listing : Listing) (around : Around) (thread : around.actor ≡ actor.
       }
 
   -- the stop of the next instruction in order, where the cause is none of taint
-  abbrev NextStops : ℕ → Cause → Type 0
+  abbrev pub NextStops : ℕ → Cause → Type 0
   NextStops n (cause.Halt reason) = StopsInOrder machine first n (why.Halt reason)
   NextStops n cause.Full = StopsInOrder machine first n why.Full
   NextStops n (cause.Stop (stop.Fault f)) = StopsInOrder machine first n (why.Faults f)
@@ -214,7 +214,7 @@ module _ (listing : Listing) (around : Around) (thread : around.actor ≡ actor.
   tainted_stops n (cause.Stop (stop.Tainted addr)) t = tt
   tainted_stops n (cause.Stop (stop.Denied addr)) t = tt
 
-  next_stops : (n : ℕ) (e : Cause) → Explains machine first n e → NextStops n e
+  pub next_stops : (n : ℕ) (e : Cause) → Explains machine first n e → NextStops n e
   next_stops n e h = ⊎_elim (tainted_stops n e) (λ q. subst (NextStops n) q.1 (next_stops_of n q.0 q.2)) h
 
   -- a fault is that of an older instruction, at the program counter of the instructions in order
@@ -234,7 +234,7 @@ module _ (listing : Listing) (around : Around) (thread : around.actor ≡ actor.
   fault_keeps Handler f pc n d h = tt
   fault_keeps Entry f pc n d h = tt
 
-  stop_keeps : (t : ℕ) (x : Timed) (c : Config State) (e : Cause) (younger : Bool) → StopsAt machine first c e → (younger ≡ true → is_tainted_cause e ≡ true) → NextStops c.n e
+  pub stop_keeps : (t : ℕ) (x : Timed) (c : Config State) (e : Cause) (younger : Bool) → StopsAt machine first c e → (younger ≡ true → is_tainted_cause e ≡ true) → NextStops c.n e
       → let stopping : Stopping = record { cause = e; younger = younger } in
       AgreesAfter machine first (Some (outcome_of t x.acts c stopping)) (at_stop c stopping)
   stop_keeps t x c (cause.Halt reason) younger h only k =
@@ -293,7 +293,7 @@ module _ (listing : Listing) (around : Around) (thread : around.actor ≡ actor.
 
 -- THE START
 -- under whatever region and floor the machine starts, the instructions in order start alike
-first_alike : (image : List Segment) (lo hi floor : ℕ) → Live view (start_under lo hi floor image) (start image)
+pub first_alike : (image : List Segment) (lo hi floor : ℕ) → Live view (start_under lo hi floor image) (start image)
 unfolding start_under
 first_alike image lo hi floor = record { cells = cells; sticky = refl }
   where
@@ -309,7 +309,7 @@ clean_first : (image : List Segment) → Clean (start image)
 unfolding start_under
 clean_first image = λ a. refl
 
-begun : (listing : Listing) (image : List Segment) (s : Sched) → Holds (thread_program listing s) (start image) (begin image s).config
+pub begun : (listing : Listing) (image : List Segment) (s : Sched) → Holds (thread_program listing s) (start image) (begin image s).config
 begun listing image s = record {
   order = start image;
   runs = refl;

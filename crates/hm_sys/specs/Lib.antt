@@ -1,1 +1,3 @@
 pub mod Ticks
+pub mod Exceptions
+pub mod Best

@@ -1,9 +1,12 @@
-//! The timer SysTick, and interrupts that arrive.
+//! The timer SysTick, interrupts that arrive, and the exception that enters.
 #![tactic(auto)]
 
-ghost use Rattle.std.specs.Prelude.{◌≡◌, ◌/◌, ◌%◌, ◌==◌, ◌||◌};
-ghost use Rattle.hm_sys.specs.Ticks.{arrived, at_zero, counted, is_counting};
+mod exceptions;
 
+ghost use Rattle.std.specs.Prelude.{◌≡◌, ◌/◌, ◌%◌, ◌==◌, ◌||◌};
+ghost use Rattle.hm_sys.specs.Ticks.{at_zero, counted, is_counting};
+
+pub use exceptions::{accept, arrive, arrive_all, candidate, priority};
 use hm_mem::Dev;
 
 /// COUNTFLAG of SYST_CSR: the timer came to 0 since it was last read.
@@ -50,9 +53,5 @@ pub fn count(d: &mut Dev)
     }
 }
 
-/// The interrupts whose bits are set in `irq` become pending.
-pub fn arrive(d: &mut Dev, irq: u32)
-    ensures { d.new ≡ arrived irq d.old }
-{
-    d.pending |= irq;
-}
+#[cfg(test)]
+mod tests;

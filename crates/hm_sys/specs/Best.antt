@@ -1,0 +1,13 @@
+-- The most urgent exception among those below a number.
+use Rattle.std.specs.Prelude.{ℕ, ◌<◌, ◌≡◌, false, true, Option, Some, None}
+use Rattle.hm_mem.specs.declared.Dev.{Dev}
+use Rattle.hm_sys.specs.Exceptions.{is_eligible, is_more_urgent}
+
+pub record IsFirst (d : Dev) (current end e : ℕ) : Type 0 where
+  pub below : e < end
+  pub eligible : is_eligible d current e ≡ true
+  pub first : (f : ℕ) → f < end → is_eligible d current f ≡ true → is_more_urgent d f e ≡ false
+
+abbrev pub IsBest : Dev → ℕ → ℕ → Option ℕ → Type 0
+IsBest d current end None = (f : ℕ) → f < end → is_eligible d current f ≡ false
+IsBest d current end (Some e) = IsFirst d current end e

@@ -1,0 +1,52 @@
+-- Exceptions that wait, and which of them is the most urgent: `is_waiting`, `priority_of`, `is_eligible`, `is_more_urgent`, `IsPicked`, `picked`; and what is
+-- pending once one has entered: `accepted`.
+use Rattle.std.specs.Prelude.{ℕ, zero, suc, ◌-◌, ◌/◌, ◌%◌, ◌^◌, ◌≡◌, Bool, false, ◌&&◌, ◌||◌, nat_le, nat_lt, ◌==◌, if◌then◌else◌, bit_and, slice_index, IsTrue, Option, Some, None}
+use Rattle.hm_mem.specs.declared.Dev.{Dev}
+
+-- exception 15 is SysTick, and 16 + n is the external interrupt n, of which there are 32
+abbrev pub tick_number : ℕ
+tick_number = 15
+
+abbrev pub is_external : ℕ → Bool
+is_external e = nat_le 16 e && nat_lt e 48
+
+-- bit n of a word
+abbrev pub is_set : ℕ → ℕ → Bool
+is_set n w = w / 2 ^ n % 2 == 1
+
+-- an exception waits: SysTick where it is pending, an interrupt where it is pending and enabled
+abbrev pub is_waiting : Dev → ℕ → Bool
+is_waiting d e = if e == tick_number then d.tick_pending else is_external e && is_set (e - 16) d.pending && is_set (e - 16) d.enabled
+
+-- the priority number of an exception; a lower one is more urgent
+abbrev pub priority_of : Dev → ℕ → ℕ
+priority_of d e = if e == tick_number then d.tick_prio else slice_index d.prio (e - 16)
+
+-- it waits, and is more urgent than what runs, whose priority number is `current`
+abbrev pub is_eligible : Dev → ℕ → ℕ → Bool
+is_eligible d current e = is_waiting d e && nat_lt (priority_of d e) current
+
+-- of two exceptions the one with the lower priority number is more urgent, and of two with one number the one with the lower exception number
+abbrev pub is_more_urgent : Dev → ℕ → ℕ → Bool
+is_more_urgent d e f = nat_lt (priority_of d e) (priority_of d f) || (priority_of d e == priority_of d f && nat_lt e f)
+
+-- THE EXCEPTION THAT ENTERS: the eligible one than which no eligible one is more urgent
+pub record IsPicked (d : Dev) (current e : ℕ) : Type 0 where
+  pub eligible : IsTrue (is_eligible d current e)
+  pub first : (f : ℕ) → IsTrue (is_eligible d current f) → is_more_urgent d f e ≡ false
+
+-- The same as a function, from the lowest number up: an eligible one, and after it only one that could interrupt it.
+abbrev pub or_later : Dev → ℕ → Option ℕ → ℕ → Option ℕ
+or_later d current None e = if is_eligible d current e then Some e else None
+or_later d current (Some f) e = if is_eligible d (priority_of d f) e then Some e else Some f
+
+unfoldable pub picked_below : Dev → ℕ → ℕ → Option ℕ
+picked_below d current zero = None
+picked_below d current (suc e) = or_later d current (picked_below d current e) e
+
+abbrev pub picked : Dev → ℕ → Option ℕ
+picked d current = picked_below d current 48
+
+-- an exception that has entered is no longer pending
+abbrev pub accepted : ℕ → Dev → Dev
+accepted e d = if e == tick_number then record d { tick_pending = false } else record d { pending = bit_and d.pending (2 ^ 32 - 1 - 2 ^ (e - 16)) }
