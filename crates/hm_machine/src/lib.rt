@@ -10,7 +10,8 @@ mod service;
 mod tick;
 mod younger;
 
-pub use hm_run::{Broken, Offence, Outcome, Reason, Slot, Turn, Who};
+pub use hm_exc::{Broken, Slot};
+pub use hm_run::{Offence, Outcome, Reason, Turn, Who};
 pub use hm_window::{Rule, Window};
 pub use load::LoadErr;
 pub use machine::Machine;

@@ -7,8 +7,8 @@ use Rattle.hm_base.specs.declared.FaultKind.TheVariants as kind
 use Rattle.hm_base.specs.declared.Place.{Place}
 use Rattle.hm_base.specs.declared.Place.TheVariants as place
 use Rattle.hm_regs.specs.declared.Regs.{Regs}
-use Rattle.hm_run.specs.declared.Broken.{Broken}
-use Rattle.hm_run.specs.declared.Broken.TheVariants as broken
+use Rattle.hm_exc.specs.declared.types.Broken.{Broken}
+use Rattle.hm_exc.specs.declared.types.Broken.TheVariants as broken
 use Rattle.hm_run.specs.declared.Offence.{Offence}
 use Rattle.hm_run.specs.declared.Offence.TheVariants as offence
 use Rattle.hm_run.specs.declared.Outcome.{Outcome}
@@ -17,8 +17,8 @@ use Rattle.hm_run.specs.declared.Reason.{Reason}
 use Rattle.hm_run.specs.declared.Reason.TheVariants as reason
 use Rattle.hm_window.specs.declared.rule.Rule.{Rule}
 use Rattle.hm_window.specs.declared.rule.Rule.TheVariants as rule
-use Rattle.hm_run.specs.declared.Slot.{Slot}
-use Rattle.hm_run.specs.declared.Slot.TheVariants as slot
+use Rattle.hm_exc.specs.declared.types.Slot.{Slot}
+use Rattle.hm_exc.specs.declared.types.Slot.TheVariants as slot
 use Rattle.hm_run.specs.declared.Who.{Who}
 use Rattle.hm_run.specs.declared.Who.TheVariants as who
 use Rattle.hm_run.specs.Timed.{Timed}

@@ -1,7 +1,8 @@
 //! What a run is, and how it ends: the types that the definitions of the beat machine speak of.
 #![tactic(auto)]
 
-use hm_base::{Fault, Place, Stop};
+use hm_base::{Fault, Stop};
+use hm_exc::Broken;
 use hm_window::Rule;
 
 /// Why a program halts: a BKPT with this number, or the call EXIT of semihosting with this value.
@@ -17,21 +18,6 @@ pub enum Cause {
     Halt(Reason),
     Full,
     Stop(Stop),
-}
-
-/// What a handler has to leave as it was.
-#[derive(Clone, Copy, Debug, PartialEq, Eq)]
-pub enum Slot {
-    Reg(Place),
-    Primask,
-}
-
-/// How a return differs from its entry.
-#[derive(Clone, Copy, Debug, PartialEq, Eq)]
-pub enum Broken {
-    ExcReturn { value: u32 },
-    Register { name: Slot, entry: u32, now: u32 },
-    Frame { addr: u32 },
 }
 
 /// What a handler did that it may not do.

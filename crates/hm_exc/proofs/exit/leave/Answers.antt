@@ -1,0 +1,10 @@
+use Rattle.hm_exc.proofs.exit.leave.Goals as goal
+
+pub stacked-psr-requires-clause-fits : goal.stacked-psr-requires-clause-fits
+stacked-psr-requires-clause-fits c = c.requires.fits c.newest-x.result _ c.newest-x.ensures.listed
+
+pub position-at-requires-clause-fits : goal.position-at-requires-clause-fits
+position-at-requires-clause-fits c = c.requires.fits c.newest-x.result _ c.newest-x.ensures.listed
+
+pub restored-requires-clause-fits : goal.restored-requires-clause-fits
+restored-requires-clause-fits c = c.requires.fits c.newest-x.result _ c.newest-x.ensures.listed

@@ -1,0 +1,4 @@
+pub mod Frame
+pub mod Entry
+pub mod Written
+pub mod Return

@@ -1,0 +1,66 @@
+-- What a return compares with its entry, in this order, and the first difference: `return_rule`.
+use Rattle.std.specs.Prelude.{ℕ, zero, suc, ◌≡◌, ◌+◌, ◌<◌, ◌≤◌, ◌==◌, if◌then◌else◌, slice_index, Option, Some, None, Result, Ok, Err}
+use Rattle.hm_base.specs.declared.Place.TheVariants.{R, QWord}
+use Rattle.hm_exc.specs.Frame.{bit, frame_size}
+use Rattle.hm_exc.specs.declared.types.Activation.{Activation}
+use Rattle.hm_exc.specs.declared.types.Broken.{Broken}
+use Rattle.hm_exc.specs.declared.types.Broken.TheVariants as broken
+use Rattle.hm_exc.specs.declared.types.Slot.{Slot}
+use Rattle.hm_exc.specs.declared.types.Slot.TheVariants.{Reg, Primask}
+use Rattle.hm_regs.specs.declared.Regs.{Regs}
+
+-- the first of two differences, and the first of those that f tells of count numbers from one on
+abbrev pub or_else : Option Broken → Option Broken → Option Broken
+or_else (Some b) next = Some b
+or_else None next = next
+
+unfoldable pub first_from : (ℕ → Option Broken) → ℕ → ℕ → Option Broken
+first_from f from zero = None
+first_from f from (suc count) = or_else (f from) (first_from f (suc from) count)
+
+-- one thing compared
+abbrev pub value_rule : ℕ → Activation → Option Broken
+value_rule value x = if value == x.value then None else Some (broken.ExcReturn value)
+
+abbrev pub differing : Slot → ℕ → ℕ → Option Broken
+differing name entry now = if entry == now then None else Some (broken.Register name entry now)
+
+abbrev pub stack_rule : Regs → Activation → Option Broken
+stack_rule r x = differing (Reg (R 13)) x.frame r.sp
+
+abbrev pub frame_rule : (ℕ → ℕ) → Activation → ℕ → Option Broken
+frame_rule byte x k = if byte (x.frame + k) == slice_index x.bytes k then None else Some (broken.Frame (x.frame + k))
+
+abbrev pub core_rule : Regs → Activation → ℕ → Option Broken
+core_rule r x k = differing (Reg (R k)) (slice_index x.regs.r k) (slice_index r.r k)
+
+abbrev pub vector_rule : Regs → Activation → ℕ → Option Broken
+vector_rule r x k = differing (Reg (QWord k)) (slice_index x.regs.qw k) (slice_index r.qw k)
+
+abbrev pub primask_rule : Regs → Activation → Option Broken
+primask_rule r x = differing Primask (bit x.regs.primask) (bit r.primask)
+
+-- THE FIRST DIFFERENCE of a return to `value`, by the registers and the bytes of memory as they are: of the value, of the stack pointer, of the bytes of
+-- the frame from the lowest, of r4 to r11, of the words of Q4 to Q7, and of PRIMASK
+unfoldable pub return_rule : Regs → (ℕ → ℕ) → ℕ → Activation → Option Broken
+return_rule r byte value x =
+    or_else (value_rule value x)
+    (or_else (stack_rule r x)
+    (or_else (first_from (frame_rule byte x) 0 (frame_size x.long))
+    (or_else (first_from (core_rule r x) 4 8)
+    (or_else (first_from (vector_rule r x) 16 16)
+    (primask_rule r x)))))
+
+-- nothing differs
+pub record Unbroken (r : Regs) (byte : ℕ → ℕ) (value : ℕ) (x : Activation) : Type 0 where
+  pub same_value : value ≡ x.value
+  pub stack : r.sp ≡ x.frame
+  pub frame : (k : ℕ) → k < frame_size x.long → byte (x.frame + k) ≡ slice_index x.bytes k
+  pub core : (k : ℕ) → 4 ≤ k → k < 12 → slice_index r.r k ≡ slice_index x.regs.r k
+  pub vectors : (k : ℕ) → 16 ≤ k → k < 32 → slice_index r.qw k ≡ slice_index x.regs.qw k
+  pub primask : r.primask ≡ x.regs.primask
+
+-- why a return is broken
+abbrev pub broken_in : {A : Type 0} → Result A Broken → Option Broken
+broken_in (Ok x) = None
+broken_in (Err b) = Some b

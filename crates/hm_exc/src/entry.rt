@@ -1,0 +1,120 @@
+//! The entry of an exception.
+
+ghost use Rattle.std.specs.Prelude.{ℕ, ◌≡◌, ◌+◌, ◌-◌, ◌*◌, ◌%◌, ◌^◌, ◌<◌, ◌≤◌, ◌&&◌, nat_le, IsTrue, OnOk, OnErr, ◌∷◌, slice_index, if◌then◌else◌};
+ghost use Rattle.arrayvec.specs.ArrayVec.{array_vec_len};
+ghost use Rattle.hm_exc.specs.Entry.{CanEnter, FitsEntry, Passes, activation, entered_memory, entered_registers, entry_refusal, newest_first, refused_by, vector_of, window_in};
+ghost use Rattle.hm_exc.specs.Frame.{frame_base, frame_size, has_room, vector_address};
+ghost use Rattle.hm_exc.specs.Written.{written};
+ghost use Rattle.hm_mem.specs.Memory.{memory_of};
+ghost use Rattle.hm_mem.specs.Seen.{IsSameElsewhere, lies_in_sram, seen, with_dev};
+ghost use Rattle.hm_mem.specs.declared.Actor.{Actor};
+ghost use Rattle.hm_sys.specs.Exceptions.{accepted};
+
+use crate::frame::{activation, frame_size};
+use crate::memory::{is_vector, lies_in_sram, word};
+use crate::types::{Activation, Acts, EnterErr};
+use hm_mem::{Access, Actor, Dev, Mem};
+use hm_regs::Regs;
+use hm_sys::accept;
+use hm_window::Window;
+
+/// Writes the bytes of a frame, as the entry.
+fn write_frame(m: &mut Mem, x: &Activation)
+    requires actor { (memory_of m.old).around.actor ≡ Actor.Entry }
+    requires in_sram { IsTrue (lies_in_sram (frame_size x.now.long) x.now.frame) }
+    ensures seen { seen (memory_of m.new) ≡ written x.now (frame_size x.now.long) (seen (memory_of m.old)) }
+    ensures kept { IsSameElsewhere (memory_of m.old) (memory_of m.new) }
+{
+    for k in 0..frame_size(x.long) {
+        m.put(x.frame + k, 1, Access::Scalar, x.bytes[k as usize] as u32);
+    }
+}
+
+/// An exception is no longer pending.
+fn take(m: &mut Mem, e: u16)
+    requires exception { (15 ≤ e) × (e ≤ 47) }
+    ensures memory { memory_of m.new ≡ with_dev (accepted e (memory_of m.old).devices) (memory_of m.old) }
+{
+    accept(m.dev_mut(), e);
+}
+
+/// What an entry does to the memory: the frame is written, the exception is no longer pending, and from then on its handler accesses the memory.
+pub fn stack(m: &mut Mem, x: &Activation)
+    requires exception { (15 ≤ x.now.number) × (x.now.number ≤ 47) }
+    requires in_sram { IsTrue (lies_in_sram (frame_size x.now.long) x.now.frame) }
+    ensures seen { seen (memory_of m.new) ≡ entered_memory x.now (seen (memory_of m.old)) }
+    ensures passes { Passes (Actor.Handler x.now.frame) (memory_of m.old) (memory_of m.new) }
+{
+    m.set_actor(Actor::Entry);
+    write_frame(m, x);
+    take(m, x.number);
+    m.set_actor(Actor::Handler { frame: x.frame });
+}
+
+/// Where the vector of an exception stands (DDI0553, "Vector tables").
+fn vector_address(d: &Dev, e: u16) -> u32
+    requires exception { e ≤ 47 }
+    ensures value { result ≡ vector_address d.now e }
+{
+    d.vtor.wrapping_add(4 * e as u32)
+}
+
+/// The registers in the handler of an activation, with this vector.
+fn entered(x: &Activation, vector: u32) -> Regs
+    ensures value { (r : Regs) (w : Window) (e : ℕ) → x.now ≡ activation r w e → result ≡ entered_registers r e vector }
+{
+    Regs {
+        sp: x.frame,
+        lr: x.value,
+        pc: vector - vector % 2,
+        it: 0,
+        fpca: false,
+        ipsr: x.number,
+        ..x.regs
+    }
+}
+
+/// Whether the frame lies in SRAM, from the floor on.
+fn has_room(m: &Mem, x: &Activation) -> bool
+    ensures value { result ≡ (nat_le (memory_of m.now).around.floor x.now.frame && lies_in_sram (frame_size x.now.long) x.now.frame) }
+{
+    m.floor() <= x.frame && lies_in_sram(frame_size(x.long), x.frame)
+}
+
+/// Exception `e`, 15 to 47, enters, where the position is `w`: its frame is stacked, the registers are those of its handler, and its activation is the newest
+/// (DDI0553, "Exception entry"). The handler accesses the memory from then on.
+///
+/// A tick may end at `w`, the exception number is below 512, the IT byte is 0 or has a bit among its lowest four, and it is 0 inside an instruction. `acts`
+/// is not full.
+///
+/// Refused are, and then nothing is changed, StackSpent with SP exactly where the frame does not lie in SRAM from the floor on, and else Vector with the
+/// address in the vector table exactly where no word of memory with bit 0 set stands there.
+pub fn enter(r: &mut Regs, m: &mut Mem, w: Window, e: u16, acts: &mut Acts) -> Result<(), EnterErr>
+    requires state { CanEnter r.old w }
+    requires exception { (15 ≤ e) × (e ≤ 47) }
+    requires depth { array_vec_len acts.old < 8 }
+    ensures refused { refused_by result ≡ entry_refusal (memory_of m.old).around.floor r.old (seen (memory_of m.old)) e }
+    ensures registers { OnOk result (r.new ≡ entered_registers r.old e (vector_of (seen (memory_of m.old)) e)) }
+    ensures memory { OnOk result (seen (memory_of m.new) ≡ entered_memory (activation r.old w e) (seen (memory_of m.old))) }
+    ensures passes { OnOk result (Passes (Actor.Handler (frame_base r.old)) (memory_of m.old) (memory_of m.new)) }
+    ensures acts { OnOk result (newest_first acts.new ≡ activation r.old w e ∷ newest_first acts.old) }
+    ensures fits { OnOk result (FitsEntry (activation r.old w e)) }
+    ensures position { window_in (activation r.old w e) ≡ w }
+    ensures same_registers { OnErr result (r.new ≡ r.old) }
+    ensures same_memory { OnErr result (memory_of m.new ≡ memory_of m.old) }
+    ensures same_acts { OnErr result (acts.new ≡ acts.old) }
+{
+    let x = activation(r, w, e);
+    if !has_room(m, &x) {
+        return Err(EnterErr::StackSpent { sp: r.sp });
+    }
+    let addr = vector_address(m.dev(), e);
+    if !is_vector(m, addr) {
+        return Err(EnterErr::Vector { addr });
+    }
+    let vector = word(m, addr);
+    stack(m, &x);
+    *r = entered(&x, vector);
+    acts.push(x);
+    Ok(())
+}
