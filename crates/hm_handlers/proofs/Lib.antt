@@ -1,0 +1,15 @@
+pub mod Hiding
+pub mod Steps
+pub mod Order
+pub mod Whole
+pub mod Alike
+pub mod Quiet
+pub mod Sized
+pub mod Growing
+pub mod Written
+pub mod Growth
+pub mod Lying
+pub mod Nesting
+pub mod Entering
+pub mod Leaving
+pub mod Soundness

@@ -1,0 +1,52 @@
+-- The exception that is picked at the end of a tick, and its entry.
+use Rattle.std.specs.Prelude.{ℕ, Bool, if◌then◌else◌, min, List, [], ◌∷◌, Option}
+use Rattle.hm_base.specs.declared.FaultKind.TheVariants as kind
+use Rattle.hm_exc.specs.Entry.{activation, entered_memory, entered_registers, vector_of}
+use Rattle.hm_exc.specs.declared.types.Activation.{Activation}
+use Rattle.hm_exc.specs.declared.types.EnterErr.{EnterErr}
+use Rattle.hm_exc.specs.declared.types.EnterErr.TheVariants as err
+use Rattle.hm_mem.specs.Memory.{thread_under}
+use Rattle.hm_mem.specs.declared.Actor.TheVariants.{Handler}
+use Rattle.hm_mem.specs.declared.Dev.{Dev}
+use Rattle.hm_order.specs.Machine.{Config}
+use Rattle.hm_run.specs.declared.Outcome.{Outcome}
+use Rattle.hm_run.specs.declared.Outcome.TheVariants as outcome
+use Rattle.hm_run.specs.declared.Who.TheVariants.{Entry}
+use Rattle.hm_sched.specs.Schedule.{Sched}
+use Rattle.hm_state.specs.State.{State, regs_of}
+use Rattle.hm_sys.specs.Exceptions.{priority_of}
+use Rattle.hm_whole.specs.Whole.{seen_in, state_with}
+use Rattle.hm_window.specs.declared.rule.Window.{Window}
+use Rattle.hm_handlers.specs.Nested.{Interrupted, Nested}
+use Rattle.hm_handlers.specs.Registers.{registers_in}
+
+-- THE PRIORITY OF WHAT RUNS: 256 of the thread, the least of the active exceptions in a handler, and 0 where PRIMASK is set
+abbrev pub least_active : Dev → List Interrupted → ℕ
+least_active d [] = 256
+least_active d (x ∷ acts) = min (priority_of d x.stacked.number) (least_active d acts)
+
+abbrev pub running_priority : Dev → Bool → List Interrupted → ℕ
+running_priority d primask acts = if primask then 0 else least_active d acts
+
+-- THE ENTRY of an exception: it puts away the position and the registers, and its handler runs
+abbrev pub position_of : Config State → Window
+position_of c = record { a = c.a; b = c.b }
+
+abbrev pub entered_state : Sched → Activation → State → State
+entered_state s x t =
+    state_with (entered_registers x.regs x.number (vector_of (seen_in t) x.number)) (entered_memory x (seen_in t))
+    (record (thread_under s.lo s.hi s.floor) { actor = Handler x.frame }) t.rest.output
+
+abbrev pub interrupted_by : ℕ → Config State → Interrupted
+interrupted_by e c = record { a = c.a; b = c.b; registers = registers_in c.state; stacked = activation (regs_of c.state) (position_of c) e }
+
+abbrev pub entered : Sched → ℕ → Nested → Nested
+entered s e x = record {
+  config = record x.config { a = 0; b = 0; state = entered_state s (interrupted_by e x.config).stacked x.config.state };
+  acts = interrupted_by e x.config ∷ x.acts;
+}
+
+-- how a run ends where the exception may not enter: its frame has no room, or there is no vector
+abbrev pub refused : ℕ → Config State → EnterErr → Outcome
+refused t c (err.StackSpent sp) = outcome.StackSpent t sp
+refused t c (err.Vector addr) = outcome.Fault Entry (record { kind = kind.Vector; addr = addr }) c.state.pc c.n

@@ -1,0 +1,34 @@
+-- The registers of a state, as an entry puts them away and a return gives them back.
+use Rattle.std.specs.Prelude.{ℕ, Bool, []}
+use Rattle.hm_base.specs.declared.Place.{Place}
+use Rattle.hm_mem.specs.Memory.{first_devices, thread_under}
+use Rattle.hm_mem.specs.declared.Actor.{Actor}
+use Rattle.hm_state.specs.State.{State, Cell, At, Byte, Value, Rest}
+
+-- what stands in the places, the sticky flag, the program counter, and what stands in no place but the devices, the output and who
+-- accesses the memory
+pub record Registers : Type 0 where
+  pub place : Place → Value
+  pub sticky : Bool
+  pub pc : ℕ
+  pub beside : Rest
+
+-- without devices, output and who accesses the memory
+abbrev pub bare : Rest → Rest
+bare r = record r { devices = first_devices; output = []; around = thread_under 0 0 0 }
+
+abbrev pub registers_in : State → Registers
+registers_in s = record { place = λ p. s.cell (At p); sticky = s.sticky; pc = s.pc; beside = bare s.rest }
+
+-- The state with these registers, in which this actor accesses the memory: the bytes, the devices and the output stay.
+abbrev pub cell_back : Registers → State → Cell → Value
+cell_back r s (At p) = r.place p
+cell_back r s (Byte a) = s.cell (Byte a)
+
+abbrev pub restored : Registers → Actor → State → State
+restored r actor s = record {
+  cell = cell_back r s;
+  sticky = r.sticky;
+  pc = r.pc;
+  rest = record r.beside { devices = s.rest.devices; output = s.rest.output; around = record s.rest.around { actor = actor } };
+}

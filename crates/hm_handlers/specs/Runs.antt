@@ -1,0 +1,115 @@
+-- The beat machine with handlers: the fold of steps, ends of ticks and entries over a schedule.
+use Rattle.std.specs.Prelude.{ℕ, zero, suc, ◌+◌, Bool, if◌then◌else◌, cond, List, [], ◌∷◌, length, drop, map, take, Option, Some, None, Result, Ok, Err}
+use Rattle.hm_base.specs.Image.{Segment}
+use Rattle.hm_codes.specs.Listing.{Listing}
+use Rattle.hm_exc.specs.Entry.{entry_refusal}
+use Rattle.hm_exc.specs.Frame.{frame_size}
+use Rattle.hm_exc.specs.declared.types.EnterErr.{EnterErr}
+use Rattle.hm_order.specs.Machine.{Config, Stopped, Broken, at_start}
+use Rattle.hm_run.specs.declared.Outcome.{Outcome}
+use Rattle.hm_run.specs.declared.Outcome.TheVariants as outcome
+use Rattle.hm_run.specs.Program.{Stopping}
+use Rattle.hm_run.specs.Timed.{Activation, Timed, at_stop, counted_with, or_out, outcome_of, with_devices}
+use Rattle.hm_sched.specs.Schedule.{TickLine, Sched, ticks_of}
+use Rattle.hm_state.specs.Start.{start_under}
+use Rattle.hm_state.specs.State.{State, regs_of}
+use Rattle.hm_whole.specs.Whole.{seen_in}
+use Rattle.hm_window.specs.Positions.{may_end}
+use Rattle.hm_window.specs.declared.rule.Rule.TheVariants as rule
+use Rattle.hm_sys.specs.Exceptions.{picked}
+use Rattle.hm_handlers.specs.Entries.{entered, refused, running_priority}
+use Rattle.hm_handlers.specs.Nested.{Ended, Interrupted, Nested, NestedEnd, Offends, TickEnd, letters}
+
+-- the outcome, or None while it runs; the machine; the ticks that were begun; the stack pointers at the entries, the latest first
+pub record Run : Type 0 where
+  pub outcome : Option Outcome
+  pub machine : Nested
+  pub ticks : ℕ
+  pub entries : List ℕ
+
+-- what a report tells of activations
+abbrev pub told : Interrupted → Activation
+told x = record {
+  a = x.a;
+  b = x.b;
+  regs = x.stacked.regs;
+  frame = x.stacked.frame;
+  long = x.stacked.long;
+  bytes = take (frame_size x.stacked.long) x.stacked.bytes;
+  number = x.stacked.number;
+  value = x.stacked.value;
+}
+
+abbrev pub shown : Run → Timed
+shown x = record { outcome = x.outcome; config = x.machine.config; acts = map told x.machine.acts; ticks = x.ticks }
+
+abbrev pub begin : List Segment → Sched → Run
+begin image s = record { outcome = None; machine = record { config = at_start (start_under s.lo s.hi s.floor image); acts = [] }; ticks = 0; entries = [] }
+
+-- THE END OF A TICK in which something did not go on
+abbrev pub run_at : Outcome → Config State → List Interrupted → ℕ → List ℕ → Run
+run_at o c acts t entries = record { outcome = Some o; machine = record { config = c; acts = acts }; ticks = t; entries = entries }
+
+-- the thread's steps alone are counted
+abbrev pub stopped_under : List Interrupted → Config State → Stopping → Config State
+stopped_under [] c e = at_stop c e
+stopped_under (x ∷ acts) c e = c
+
+abbrev pub stops : ℕ → ℕ → Bool → NestedEnd → List ℕ → Run
+stops t k younger (Ended (Stopped c e) acts) entries =
+    let stopping : Stopping = record { cause = e; younger = younger } in
+    run_at (outcome_of t (map told acts) c stopping) (stopped_under acts c stopping) acts t entries
+stops t k younger (Ended (Broken c r) acts) entries = run_at (outcome.RuleBroken t k r) c acts t entries
+stops t k younger (Offends what c acts) entries = run_at (outcome.HandlerBroken t what) c acts t entries
+
+-- THE END OF A TICK that did not end the run: the position is judged, SysTick counts, the tick's interrupts become pending, and then, where
+-- the schedule has entries, the exception that is picked enters
+abbrev pub enters_unless : Sched → ℕ → Option EnterErr → Run → Run
+enters_unless s e None x = record x { machine = entered s e x.machine; entries = (regs_of x.machine.config.state).sp ∷ x.entries }
+enters_unless s e (Some why) x = record x { outcome = Some (refused x.ticks x.machine.config why) }
+
+abbrev pub enters : Sched → Option ℕ → Run → Run
+enters s None x = x
+enters s (Some e) x = let t = x.machine.config.state in enters_unless s e (entry_refusal s.floor (regs_of t) (seen_in t) e) x
+
+abbrev pub picks : Run → Option ℕ
+picks x = let t = x.machine.config.state in picked t.rest.devices (running_priority t.rest.devices t.rest.primask x.machine.acts)
+
+abbrev pub may_enter : Sched → Run → Run
+may_enter s x = cond s.entries (enters s (picks x) x) x
+
+abbrev pub after_count : TickLine → Run → Run
+after_count line x = record x { machine = record x.machine { config = record x.machine.config { state = with_devices (counted_with line.irq) x.machine.config.state } } }
+
+abbrev pub tick_end : Sched → TickLine → Run → Run
+tick_end s line x =
+    let c = x.machine.config in
+    if may_end c.a c.b then may_enter s (after_count line x)
+    else record x { outcome = Some (outcome.RuleBroken x.ticks (length line.letters) (rule.Ending c.a c.b)) }
+
+-- a tick, by what its letters came to
+abbrev pub ended : Sched → TickLine → Run → Result Nested TickEnd → Run
+ended s line x (Ok m) = tick_end s line (record { outcome = None; machine = m; ticks = x.ticks + 1; entries = x.entries })
+ended s line x (Err e) = stops (x.ticks + 1) e.step e.younger e.end x.entries
+
+-- one tick; an ended run stays as it is
+abbrev pub tick_of : Listing → Sched → TickLine → Run → Option Outcome → Run
+tick_of listing s line x (Some o) = x
+tick_of listing s line x None = ended s line x (letters listing s 0 line.letters x.machine)
+
+abbrev pub closed : List TickLine → Run → Run
+closed [] x = record x { outcome = or_out x.outcome }
+closed (line ∷ left) x = x
+
+-- the first of the ticks that are left
+abbrev pub next : Listing → Sched → List TickLine → Run → Run
+next listing s [] x = x
+next listing s (line ∷ left) x = closed left (tick_of listing s line x x.outcome)
+
+-- THE MACHINE after t ticks of a schedule, and after all
+abbrev pub run : Listing → List Segment → Sched → ℕ → Run
+run listing image s zero = closed (ticks_of s.lines) (begin image s)
+run listing image s (suc t) = next listing s (drop t (ticks_of s.lines)) (run listing image s t)
+
+abbrev pub run_out : Listing → List Segment → Sched → Run
+run_out listing image s = run listing image s (length (ticks_of s.lines))
