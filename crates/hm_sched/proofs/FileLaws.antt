@@ -34,17 +34,25 @@ use Rattle.hm_sched.proofs.TickLaws.{IsTicks, ticks_found, ticks_again, ticks_la
 prefix_found : (text p : List ℕ) → starts_with nat_eq text p ≡ true → text ≡ p ++ drop (length p) text
 prefix_found text p e = (starts_is Decides-eqb text p (starts_with nat_eq text p) refl).0 e
 
-entries_cases : (text : List ℕ) (b no : Bool) → (no ≡ true → text ≡ codes "entries no") → cond no (Some false) None ≡ Some b → (text ≡ entries_text b) × (b ≡ false)
-entries_cases text b true is e = subst (λ (x : Bool). (text ≡ entries_text x) × (x ≡ false)) (some_is false b e) (is refl, refl)
-entries_cases text b false is e = absurd cc
+with_entries : (text : List ℕ) (b there : Bool) → (there ≡ true → text ≡ codes "entries yes") → cond there (Some true) None ≡ Some b → text ≡ entries_text b
+with_entries text b true is e = subst (λ (x : Bool). text ≡ entries_text x) (some_is true b e) (is refl)
+with_entries text b false is e = absurd cc
 
-pub entries_found : (text : List ℕ) (b : Bool) → entries_in text ≡ Some b → (text ≡ entries_text b) × (b ≡ false)
-unfolding entries_in
-entries_found text b e = entries_cases text b (bytes_eq text (codes "entries no")) (bytes_eq-Decides text (codes "entries no")).0 e
+without_entries : (text : List ℕ) (b there : Bool) (rest : Option Bool) → (there ≡ true → text ≡ codes "entries no") → (rest ≡ Some b → text ≡ entries_text b) → cond there (Some false) rest ≡ Some b
+    → text ≡ entries_text b
+without_entries text b true rest is more e = subst (λ (x : Bool). text ≡ entries_text x) (some_is false b e) (is refl)
+without_entries text b false rest is more e = more e
 
-entries_again : entries_in (codes "entries no") ≡ Some false
+pub entries_found : (text : List ℕ) (b : Bool) → entries_in text ≡ Some b → text ≡ entries_text b
 unfolding entries_in
-entries_again = refl
+entries_found text b e =
+    without_entries text b (bytes_eq text (codes "entries no")) _ (bytes_eq-Decides text (codes "entries no")).0
+    (with_entries text b (bytes_eq text (codes "entries yes")) (bytes_eq-Decides text (codes "entries yes")).0) e
+
+entries_again : (b : Bool) → entries_in (entries_text b) ≡ Some b
+unfolding entries_in
+entries_again true = refl
+entries_again false = refl
 
 region_made : (text low from : List ℕ) (lo hi : ℕ) → text ≡ codes "region " ++ (low ++ from) → BeginsWith 32 from → eqb (length from) 0 ≡ false → low ≡ hex8 lo → drop 1 from ≡ hex8 hi → text ≡ region_text lo hi
 region_made text low [] lo hi parts first some is-low is-high = absurd cc
@@ -168,14 +176,14 @@ header_ok : (text : List ℕ) (ls x : Lines) → cond (bytes_eq text header_text
 header_ok text ls x e = go (bytes_eq text header_text) (bytes_eq-Decides text header_text).0 ls x e
 
 file_made : (bytes l1 l2 l3 l4 : List ℕ) (ls : List (List ℕ)) (rest : List ℕ) (entries : Bool) (lo hi floor : ℕ) (lines : List TickLine) (s : Sched) → lines_of bytes ≡ (l1 ∷ l2 ∷ l3 ∷ l4 ∷ ls, rest)
-    → l1 ≡ header_text → (l2 ≡ entries_text entries) × (entries ≡ false) → (l3 ≡ region_text lo hi) × Within lo hi → (l4 ≡ floor_text floor) × (sram_start ≤ floor) × (floor ≤ (sram_start + sram_size)) → LinesFound ls rest 0 lines
+    → l1 ≡ header_text → l2 ≡ entries_text entries → (l3 ≡ region_text lo hi) × Within lo hi → (l4 ≡ floor_text floor) × (sram_start ≤ floor) × (floor ≤ (sram_start + sram_size)) → LinesFound ls rest 0 lines
     → record { entries = entries; lo = lo; hi = hi; floor = floor; lines = lines } ≡ s → IsFile bytes s
 file_made bytes l1 l2 l3 l4 ls rest entries lo hi floor lines s cut is1 is2 is3 is4 found made =
     let w = is3.1 in
     let all : bytes ≡ flat_map line (l1 ∷ l2 ∷ l3 ∷ l4 ∷ ls) ++ rest = sym (lines_whole bytes) ∙ ap whole cut in
-    let text : flat_map line (l1 ∷ l2 ∷ l3 ∷ l4 ∷ ls) ++ rest ≡ flat_map line (header_text ∷ entries_text entries ∷ region_text lo hi ∷ floor_text floor ∷ map ticks_text found.written) = rw (is1, is2.0, is3.0, is4.0, found.texts, found.ended) (append-nil (flat_map line (header_text ∷ entries_text entries ∷ region_text lo hi ∷ floor_text floor ∷ map ticks_text found.written))) in
+    let text : flat_map line (l1 ∷ l2 ∷ l3 ∷ l4 ∷ ls) ++ rest ≡ flat_map line (header_text ∷ entries_text entries ∷ region_text lo hi ∷ floor_text floor ∷ map ticks_text found.written) = rw (is1, is2, is3.0, is4.0, found.texts, found.ended) (append-nil (flat_map line (header_text ∷ entries_text entries ∷ region_text lo hi ∷ floor_text floor ∷ map ticks_text found.written))) in
     let sound : IsSched (record { entries = entries; lo = lo; hi = hi; floor = floor; lines = lines }) = record { region_start = w.low; region_order = w.order; region_end = w.high; floor_start = is4.1; floor_end = is4.2; each_line = found.each_line; not_too_many = omega (arith, found.within) } in
-    subst (λ (x : Sched). IsFile bytes x) made (found.written, record { bytes_are = all ∙ text; each_fits = found.fits; lines_are = found.meanings; sound = sound; no_entries = is2.1 })
+    subst (λ (x : Sched). IsFile bytes x) made (found.written, record { bytes_are = all ∙ text; each_fits = found.fits; lines_are = found.meanings; sound = sound })
 
 joined : (bytes : List ℕ) (x1 x2 x3 x4 : List ℕ × Lines) (h : Lines) → lines_of bytes ≡ (x1.0 ∷ x1.1.0, x1.1.1) → x1.1 ≡ h → h ≡ (x2.0 ∷ x2.1.0, x2.1.1) → x2.1 ≡ (x3.0 ∷ x3.1.0, x3.1.1) → x3.1 ≡ (x4.0 ∷ x4.1.0, x4.1.1)
     → lines_of bytes ≡ (x1.0 ∷ x2.0 ∷ x3.0 ∷ x4.0 ∷ x4.1.0, x4.1.1)
@@ -224,8 +232,8 @@ head_lacks s ls all = (
   ),
 )
 
-made_again : (s : Sched) (lines : List TickLine) → s.entries ≡ false → s.lines ≡ lines → record { entries = false; lo = s.lo; hi = s.hi; floor = s.floor; lines = lines } ≡ s
-made_again s lines none e = rw (← e, ← none) refl
+made_again : (s : Sched) (lines : List TickLine) → s.lines ≡ lines → record { entries = s.entries; lo = s.lo; hi = s.hi; floor = s.floor; lines = lines } ≡ s
+made_again s lines e = rw (← e) refl
 
 pub file_again : (bytes : List ℕ) (s : Sched) → IsFile bytes s → file_in bytes ≡ Ok s
 unfolding file_in
@@ -235,8 +243,8 @@ file_again bytes s f =
     let w : Within s.lo s.hi = record { low = sound.region_start; order = sound.region_order; high = sound.region_end } in
     let cut : lines_of bytes ≡ (head_lines s ++ map ticks_text f.0, []) = ap lines_of h.bytes_are ∙ lines_again (head_lines s ++ map ticks_text f.0) (head_lacks s (map ticks_text f.0) (written_lack f.0 h.each_fits)) in
     let most : 0 + total (map meaning f.0) ≤ most_ticks = subst (λ (x : List TickLine). 0 + total x ≤ most_ticks) h.lines_are (omega (arith, sound.not_too_many)) in
-    let head : entries_in (entries_text s.entries) ≡ Some false = ap (λ (b : Bool). entries_in (entries_text b)) h.no_entries ∙ entries_again in
-    rw (cut, head, region_again s.lo s.hi w, floor_again s.floor sound.floor_start sound.floor_end, written_again f.0 5 0 h.each_fits most) (ap (λ (x : Sched). Ok x) (made_again s (map meaning f.0) h.no_entries h.lines_are))
+    let head = entries_again s.entries in
+    rw (cut, head, region_again s.lo s.hi w, floor_again s.floor sound.floor_start sound.floor_end, written_again f.0 5 0 h.each_fits most) (ap (λ (x : Sched). Ok x) (made_again s (map meaning f.0) h.lines_are))
 
 pub is_found : (bytes : List ℕ) (r : Result Sched SchedErr) → Gives (λ s. s) r (file_in bytes) → IfOk r (λ s. IsFile bytes s)
 is_found bytes (Ok s) given = file_found bytes s given

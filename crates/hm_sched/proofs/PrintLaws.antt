@@ -86,10 +86,10 @@ texts_same : (ts : List TickLine) → map (λ t. ticks_text (printed t)) ts ≡ 
 texts_same [] = refl
 texts_same (t ∷ ts) = ap (λ (x : List (List ℕ)). ticks_text (printed t) ∷ x) (texts_same ts)
 
-pub IsFile-file_text : (s : Sched) → IsSched s → s.entries ≡ false → IsFile (file_text s) s
-IsFile-file_text s sound none =
+pub IsFile-file_text : (s : Sched) → IsSched s → IsFile (file_text s) s
+IsFile-file_text s sound =
     let all = all_fit s.lines sound.each_line sound.not_too_many in
-    (map printed s.lines, record { bytes_are = ap (λ (x : List (List ℕ)). flat_map line (head_lines s ++ x)) (texts_same s.lines); each_fits = all.0; lines_are = all.1; sound = sound; no_entries = none })
+    (map printed s.lines, record { bytes_are = ap (λ (x : List (List ℕ)). flat_map line (head_lines s ++ x)) (texts_same s.lines); each_fits = all.0; lines_are = all.1; sound = sound })
 
 -- ---- the loops
 

@@ -1,5 +1,5 @@
 -- Reading the file of a schedule: the schedule, or the first refusal.
-use Rattle.std.specs.Prelude.{◌≡◌, ℕ, Bool, false, ◌+◌, List, [], ◌∷◌, length, drop, codes, Option, Some, None, ok_or, option_and_then, Result, Ok, Err, ◌==◌, nat_eq, nat_lt, ◌||◌, if◌then◌else◌, bytes_eq}
+use Rattle.std.specs.Prelude.{◌≡◌, ℕ, Bool, true, false, ◌+◌, List, [], ◌∷◌, length, drop, codes, Option, Some, None, ok_or, option_and_then, Result, Ok, Err, ◌==◌, nat_eq, nat_lt, ◌||◌, if◌then◌else◌, bytes_eq}
 use Rattle.std.specs.List.{starts_with}
 use Rattle.hm_base.specs.Image.{sram_start, sram_size}
 use Rattle.hm_text_base.specs.Reading.{◌>>=◌}
@@ -19,9 +19,9 @@ line_at k kind (l ∷ ls, rest) = Ok (l, (ls, rest))
 line_at k kind ([], []) = Err (refusals.Line k kind)
 line_at k kind ([], b ∷ rest) = Err (refusals.Line k Newline)
 
--- exceptions are not built yet, so there is no `entries yes`
+-- whether exceptions enter
 unfoldable pub entries_in : List ℕ → Option Bool
-entries_in text = if bytes_eq text (codes "entries no") then Some false else None
+entries_in text = if bytes_eq text (codes "entries no") then Some false else if bytes_eq text (codes "entries yes") then Some true else None
 
 abbrev pub bounded_region : ℕ → ℕ → Option (ℕ × ℕ)
 bounded_region lo hi = if nat_lt lo sram_start || (nat_lt hi lo || nat_lt (sram_start + sram_size) hi) then None else Some (lo, hi)

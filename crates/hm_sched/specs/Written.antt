@@ -72,8 +72,6 @@ pub record Writes (bytes : List ℕ) (written : List Written) (s : Sched) : Type
   pub each_fits : AllByRecursion IsWritten written
   pub lines_are : s.lines ≡ map meaning written
   pub sound : IsSched s
-  -- no exceptions are built yet
-  pub no_entries : s.entries ≡ false
 
 -- the bytes are a file of the schedule s
 abbrev pub IsFile : List ℕ → Sched → Type 0

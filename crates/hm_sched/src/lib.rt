@@ -68,7 +68,6 @@ impl Schedule {
     /// `entries` says whether exceptions are entered. The bytes of SRAM from `lo` up to `hi` are the region in which a handler may store, and
     /// `floor` is the lowest address of those that it may store to below its frame.
     pub fn begin(alloc: Global, entries: bool, lo: u32, hi: u32, floor: u32) -> Schedule
-        requires entries_not_built_yet { entries ≡ false }
         requires region_start { sram_start ≤ lo }
         requires region_order { lo ≤ hi }
         requires region_end { hi ≤ sram_start + sram_size }

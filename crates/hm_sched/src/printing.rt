@@ -1,6 +1,6 @@
 //! Printing the file of a schedule.
 
-ghost use Rattle.std.specs.Prelude.{◌≡◌, ◌++◌, false, map, IfOk};
+ghost use Rattle.std.specs.Prelude.{◌≡◌, ◌++◌, map, IfOk};
 ghost use Rattle.std.specs.List.{flat_map};
 ghost use Rattle.hm_text_base.specs.Spans.{line};
 ghost use Rattle.hm_sched.specs.Schedule.{line_of};
@@ -60,8 +60,8 @@ fn add_lines(alloc: Global, out: &mut Vec<u8>, lines: &[Line]) -> Result<(), Out
 /// The file of a schedule. A count of 1 is left out.
 pub fn print(alloc: Global, s: &Schedule) -> Result<Vec<u8>, OutOfMemory>
     ensures text { IfOk result (λ bytes. bytes.items ≡ file_text s.now) }
-    // So it is read back, where it has no exceptions.
-    ensures file { s.now.entries ≡ false → IfOk result (λ bytes. IsFile bytes.items s.now) }
+    // So it is read back.
+    ensures file { IfOk result (λ bytes. IsFile bytes.items s.now) }
 {
     let mut out = Vec::new(alloc);
     text(&mut out, b"helium-schedule 1\nentries ")?;

@@ -35,13 +35,16 @@ fn next_line(bytes: &[u8], line: u32, kind: LineKind) -> Result<(&[u8], &[u8]), 
     Ok((text, &from[1..]))
 }
 
-/// Whether exceptions are entered. They are not built yet, so there is no `entries yes`.
+/// Whether exceptions enter.
 #[tactic(auto, unfolding(crate::specs::ReadFile::entries_in))]
 fn read_entries(text: &[u8]) -> Option<bool>
     ensures { result ≡ entries_in text.now }
 {
     if text == b"entries no".as_slice() {
         return Some(false);
+    }
+    if text == b"entries yes".as_slice() {
+        return Some(true);
     }
     None
 }

@@ -83,7 +83,7 @@ fn refuses_heads(rt: HostRuntime) -> Result<(), Fail> {
     let first = b"helium-schedule 1\n";
     let second = b"helium-schedule 1\nentries no\n";
     let third = b"helium-schedule 1\nentries no\nregion 20000000 20040000\n";
-    let rows: [(&[u8], &[u8], u32, LineKind); 25] = [
+    let rows: [(&[u8], &[u8], u32, LineKind); 26] = [
         (b"", b"", 1, LineKind::Header),
         (b"", b"helium-schedule 1", 1, LineKind::Newline),
         (b"", b"helium-schedule 2", 1, LineKind::Newline),
@@ -92,7 +92,8 @@ fn refuses_heads(rt: HostRuntime) -> Result<(), Fail> {
         (b"", b"helium-schedule 1\r\n", 1, LineKind::Header),
         (first, b"", 2, LineKind::Entries),
         (first, b"entries no", 2, LineKind::Newline),
-        (first, b"entries yes\n", 2, LineKind::Entries),
+        (first, b"entries yes \n", 2, LineKind::Entries),
+        (first, b"entries YES\n", 2, LineKind::Entries),
         (first, b"entries no \n", 2, LineKind::Entries),
         (first, b"region 20000000 20000000\n", 2, LineKind::Entries),
         (second, b"", 3, LineKind::Region),
@@ -180,7 +181,7 @@ fn refuses_lines_of_ticks(rt: HostRuntime) -> Result<(), Fail> {
 fn prints_what_it_reads(rt: HostRuntime) -> Result<(), Fail> {
     let alloc = rt.alloc();
     let edge = b"helium-schedule 1\nentries no\nregion 20040000 20040000\nfloor 20040000\n";
-    let head = b"helium-schedule 1\nentries no\nregion 20001000 20001abc\nfloor 2000f000\n";
+    let head = b"helium-schedule 1\nentries yes\nregion 20001000 20001abc\nfloor 2000f000\n";
     let rows: [(&[u8], &[u8], &[u8]); 3] = [
         (HEAD, b"", b""),
         (edge, b"16777216*W\n", b"16777216*W\n"),
@@ -196,6 +197,7 @@ fn prints_what_it_reads(rt: HostRuntime) -> Result<(), Fail> {
         assert_eq!(rt; text.as_slice(), file(alloc, head, printed)?.as_slice());
     }
     let schedule = parse(alloc, &file(alloc, head, b"4*W\nOY irq 1 4\n")?)?;
+    assert!(rt; schedule.entries());
     assert_eq!(rt; schedule.lines(), 2);
     assert_eq!(rt; schedule.region(), (0x2000_1000, 0x2000_1abc));
     assert_eq!(rt; schedule.floor(), 0x2000_f000);

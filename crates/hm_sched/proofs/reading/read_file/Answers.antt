@@ -1,12 +1,7 @@
 use Rattle.std.proofs.Common.{◌≡◌, Some, arith, rules}
-use Rattle.hm_sched.specs.ReadFile.{entries_in, region_in, floor_in}
-use Rattle.hm_sched.proofs.FileLaws.{entries_found, region_found, floor_found}
+use Rattle.hm_sched.specs.ReadFile.{region_in, floor_in}
+use Rattle.hm_sched.proofs.FileLaws.{region_found, floor_found}
 use Rattle.hm_sched.proofs.reading.read_file.Goals as goal
-
-pub begin-requires-clause-entries_not_built_yet : goal.begin-requires-clause-entries_not_built_yet
-begin-requires-clause-entries_not_built_yet c =
-    let e : entries_in c.in_ok-second.second.now ≡ Some c.in_ok-entries.entries = search rules in
-    (entries_found c.in_ok-second.second.now c.in_ok-entries.entries e).1
 
 pub begin-requires-clause-region_start : goal.begin-requires-clause-region_start
 begin-requires-clause-region_start c =
