@@ -157,7 +157,7 @@ fn position(x: &Activation, psr: u32) -> Window
 }
 
 /// The newest activation, of one or more.
-fn newest(acts: &Acts) -> Activation
+pub fn newest(acts: &Acts) -> Activation
     requires some { 0 < array_vec_len acts.now }
     ensures listed { newest_first acts.now ≡ result ∷ reverse (take (array_vec_len acts.now - 1) acts.now.items) }
     ensures value { (x : Activation) (rest : List Activation) → newest_first acts.now ≡ x ∷ rest → result ≡ x }

@@ -9,7 +9,7 @@ mod rules;
 mod types;
 
 pub use entry::enter;
-pub use exit::leave;
+pub use exit::{leave, newest};
 pub use types::{Activation, Acts, Broken, EnterErr, Slot};
 
 #[cfg(test)]
