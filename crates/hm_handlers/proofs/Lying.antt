@@ -118,7 +118,7 @@ module _ (listing : Listing) (s : Sched) where
 
     flows_lies : (f : Flow) (c : Config State) (t : State) → Lies sps c.state (x ∷ acts) → TaintLies s sps t → StepLies sps (flows f c x acts t)
     flows_lies flow.Next c t old lies = record { taint = lies; frames = old.frames }
-    flows_lies (flow.Break k) c t old lies = old.taint
+    flows_lies (flow.Break k) c t old lies = lies
     flows_lies (flow.Return value) c t old lies = returned_lies (return_rule (regs_of t) (seen_in t).byte value x.stacked) c t lies old.frames.1
 
     went_lies : (c : Config State) (r : Result Went Stop) → Lies sps c.state (x ∷ acts) → ((y : Went) → r ≡ Ok y → Grows May c.state y.state)

@@ -293,7 +293,7 @@ module _ (s : Sched) where
     closed_sound [] x h = λ none. absurd (out_ends x.outcome none)
     closed_sound (line ∷ left) x h = h
 
-    next_sound : (left : List TickLine) (x : Run) → RunSound x → RunSound (next listing s left x)
+    pub next_sound : (left : List TickLine) (x : Run) → RunSound x → RunSound (next listing s left x)
     next_sound [] x h = h
     next_sound (line ∷ left) x h = closed_sound left (tick_of listing s line x x.outcome) (tick_sound line x x.outcome refl h)
 

@@ -73,10 +73,10 @@ returned None c x acts t =
     })
 returned (Some b) c x acts t = Err (Offends (offence.Left b) (record c { state = t }) (x ∷ acts))
 
--- A HANDLER'S INSTRUCTION that is no vector row: it goes on, breaks the discipline, or returns
+-- A HANDLER'S INSTRUCTION that is no vector row: it goes on, breaks the discipline by a breakpoint, which leaves the state, or returns
 abbrev pub flows : Flow → Config State → Interrupted → List Interrupted → State → NestedStep
 flows flow.Next c x acts t = Ok (record { config = record c { a = 0; b = 0; state = t }; acts = x ∷ acts })
-flows (flow.Break k) c x acts t = Err (Offends (offence.Call c.state.pc) c (x ∷ acts))
+flows (flow.Break k) c x acts t = Err (Offends (offence.Call c.state.pc) (record c { state = t }) (x ∷ acts))
 flows (flow.Return value) c x acts t = returned (return_rule (regs_of t) (seen_in t).byte value x.stacked) c x acts t
 
 abbrev pub went : Program → Config State → Interrupted → List Interrupted → Result Went Stop → NestedStep
@@ -106,11 +106,15 @@ abbrev pub steps : Listing → Sched → ℕ → Nested → NestedStep
 steps listing s zero x = Ok x
 steps listing s (suc k) x = then (step listing s Older x) (steps listing s k)
 
+-- the older to its end
+abbrev pub to_end : Listing → Sched → Nested → NestedStep
+to_end listing s x = steps listing s (steps_left (vector_of (listing x.config.state.pc)) x.config.a) x
+
 -- LETTERS: O is a step of the older instruction, Y one of the younger, and W does the older to its end
 abbrev pub letter : Listing → Sched → ℕ → Nested → NestedStep
 letter listing s l x =
     cond (l == older_letter) (step listing s Older x)
-    (cond (l == younger_letter) (step listing s Younger x) (steps listing s (steps_left (vector_of (listing x.config.state.pc)) x.config.a) x))
+    (cond (l == younger_letter) (step listing s Younger x) (to_end listing s x))
 
 -- why a tick does not go on, in which of its steps, and whether that is the younger's
 pub record TickEnd : Type 0 where

@@ -1,9 +1,12 @@
 -- The registers of a state, as an entry puts them away and a return gives them back.
-use Rattle.std.specs.Prelude.{ℕ, Bool, []}
+use Rattle.std.specs.Prelude.{ℕ, Bool, cond, eqb, []}
 use Rattle.hm_base.specs.declared.Place.{Place}
+use Rattle.hm_base.specs.declared.Place.TheVariants.{Sticky}
 use Rattle.hm_mem.specs.Memory.{first_devices, thread_under}
 use Rattle.hm_mem.specs.declared.Actor.{Actor}
-use Rattle.hm_state.specs.State.{State, Cell, At, Byte, Value, Rest}
+use Rattle.hm_regs.specs.Place.{value_at}
+use Rattle.hm_regs.specs.declared.Regs.{Regs}
+use Rattle.hm_state.specs.State.{State, Cell, At, Byte, Value, Rest, is_cell, rest_with, word}
 
 -- what stands in the places, the sticky flag, the program counter, and what stands in no place but the devices, the output and who
 -- accesses the memory
@@ -19,6 +22,15 @@ bare r = record r { devices = first_devices; output = []; around = thread_under 
 
 abbrev pub registers_in : State → Registers
 registers_in s = record { place = λ p. s.cell (At p); sticky = s.sticky; pc = s.pc; beside = bare s.rest }
+
+-- the same of the machine's registers, which are those of every state that is made of them
+abbrev pub registers_of : Regs → Registers
+registers_of r = record {
+  place = λ p. word (cond (is_cell p) (value_at p r) 0);
+  sticky = eqb (value_at Sticky r) 1;
+  pc = r.pc;
+  beside = rest_with r first_devices (thread_under 0 0 0) [];
+}
 
 -- The state with these registers, in which this actor accesses the memory: the bytes, the devices and the output stay.
 abbrev pub cell_back : Registers → State → Cell → Value

@@ -113,3 +113,7 @@ run listing image s (suc t) = next listing s (drop t (ticks_of s.lines)) (run li
 
 abbrev pub run_out : Listing → List Segment → Sched → Run
 run_out listing image s = run listing image s (length (ticks_of s.lines))
+
+-- what is shown of it then
+abbrev pub shown_out : Listing → List Segment → Sched → Timed
+shown_out listing image s = shown (run_out listing image s)

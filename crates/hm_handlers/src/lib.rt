@@ -22,7 +22,7 @@ ghost use Rattle.hm_handlers.specs.Alike.{HaltAlike};
 ghost use Rattle.hm_handlers.specs.Entries.{entered, position_of};
 ghost use Rattle.hm_handlers.specs.Nested.{Nested, letters, step};
 ghost use Rattle.hm_handlers.specs.Order.{KeepsOrder, thread_of};
-ghost use Rattle.hm_handlers.specs.Runs.{Run, after_count, begin, picks, run, run_out, shown};
+ghost use Rattle.hm_handlers.specs.Runs.{Run, after_count, begin, next, picks, run, run_out, shown, shown_out};
 ghost use Rattle.hm_handlers.specs.Sound.{IsException, IsSound};
 ghost use Rattle.hm_handlers.specs.Taint.{TaintLies};
 
@@ -39,14 +39,14 @@ pub fn thread_in_order()
 /// instructions in order, which halt there.
 pub fn headline()
     ensures every { (listing : Listing) (image : List Segment) (s : Sched) (report file : List ℕ)
-        → report ≡ report_text (shown (run_out listing image s)) → file ≡ memory_text (shown (run_out listing image s))
-        → Headline listing image (shown (run_out listing image s)) report file }
+        → report ≡ report_text (shown_out listing image s) → file ≡ memory_text (shown_out listing image s)
+        → Headline listing image (shown_out listing image s) report file }
 {}
 
 /// Where it does not halt: a fault of the thread and a full output are those of the next instruction in order, and a run that is out of
 /// ticks, where the instructions in order halt at the n-th, had fewer than 4n steps of the older.
 pub fn riders()
-    ensures every { (listing : Listing) (image : List Segment) (s : Sched) → Riders listing image (shown (run_out listing image s)) }
+    ensures every { (listing : Listing) (image : List Segment) (s : Sched) → Riders listing image (shown_out listing image s) }
     // After each tick every tainted byte lies in the region, or from the floor up and below the stack pointer at one of the entries.
     ensures taint { (listing : Listing) (image : List Segment) (s : Sched) (t : ℕ) → let x = run listing image s t in TaintLies s x.entries x.machine.config.state }
 {}
@@ -56,7 +56,7 @@ pub fn riders()
 pub fn halts_alike()
     ensures every { (listing : Listing) (image : List Segment) (s u : Sched) (r q : Reason) (n m : ℕ)
         → (run_out listing image s).outcome ≡ Some (Halted r n) → (run_out listing image u).outcome ≡ Some (Halted q m)
-        → HaltAlike (shown (run_out listing image s)) (shown (run_out listing image u)) r q n m }
+        → HaltAlike (shown_out listing image s) (shown_out listing image u) r q n m }
 {}
 
 /// Under a schedule without entries a run is that of the machine without handlers.
@@ -78,6 +78,8 @@ pub fn sound()
     ensures few { (s : Sched) (x : Nested) → IsSound s x → length x.acts ≤ 8 }
     ensures entered { (s : Sched) (x : Run) (e : ℕ) → IsSound s x.machine → picks x ≡ Some e → may_end x.machine.config.a x.machine.config.b ≡ true
         → entry_refusal s.floor (regs_of x.machine.config.state) (seen_in x.machine.config.state) e ≡ None → IsSound s (entered s e x.machine) }
-    // While a run goes on its machine is sound.
+    // While a run goes on its machine is sound, after each tick and after the next.
+    ensures next { (listing : Listing) (s : Sched) (left : List TickLine) (x : Run) → (x.outcome ≡ None → IsSound s x.machine)
+        → (next listing s left x).outcome ≡ None → IsSound s (next listing s left x).machine }
     ensures always { (listing : Listing) (image : List Segment) (s : Sched) (t : ℕ) → let x = run listing image s t in x.outcome ≡ None → IsSound s x.machine }
 {}

@@ -93,7 +93,7 @@ bytes_alike s t file h e = λ j lt clear.
     let clean = clean_bit (s.cell (Byte (sram_start + j))).taint (sym told ∙ here) in
     ap (λ (l : List ℕ). slice_index l j) e ∙ bytes_first sram_size 0x8000 _ _ j lt ∙ h.bytes (sram_start + j) clean
 
--- ACTIVATIONS. Nothing is entered yet.
+-- ACTIVATIONS. Nothing is entered here.
 module _ (M : Program) where
   end_acts : (b : Bool) (x y : Timed) → x.acts ≡ [] → y.acts ≡ [] → (cond b x y).acts ≡ []
   end_acts true x y h k = h

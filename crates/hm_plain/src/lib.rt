@@ -96,7 +96,7 @@ pub fn core_laws()
     ensures kept { (listing : Listing) (around : Around) → around.actor ≡ Thread → CoreLaws (core listing around) }
 {}
 
-/// After each tick of any schedule whole instructions in order agree with the machine, while the run goes on. Where it
+/// After each tick of any schedule whole instructions in order agree with the machine, which knows no handler here, while the run goes on. Where it
 /// halts, or the thread has a fault, so do they.
 pub fn after_each_tick()
     ensures order { (listing : Listing) (image : List Segment) (s : Sched) (t : ℕ) → KeepsOrder listing image s (timed listing image s t) }

@@ -86,7 +86,7 @@ abbrev pub counted_with : ℕ → Dev → Dev
 counted_with irq d = arrived irq (counted d)
 
 -- At the end of a tick that did not end the run the position is judged, SysTick counts, and the tick's interrupts
--- become pending. (Where a schedule has entries an exception enters then; no schedule has them yet.)
+-- become pending. (Nothing enters here; runs with entries are those of hm_handlers.)
 abbrev pub tick_end : TickLine → Timed → Timed
 tick_end line x =
     if may_end x.config.a x.config.b

@@ -1,4 +1,4 @@
-use Rattle.hm_handlers.proofs.Soundness.{at_most_eight, can_enter, counted_sound, entered_sound, letters_sound, picked_sound, run_sound, start_sound, step_sound}
+use Rattle.hm_handlers.proofs.Soundness.{at_most_eight, can_enter, counted_sound, entered_sound, letters_sound, next_sound, picked_sound, run_sound, start_sound, step_sound}
 use Rattle.hm_handlers.proofs.sound.Goals as goal
 
 pub returns : goal.returns
@@ -11,5 +11,6 @@ returns c = record {
   picked = λ s x e h p. picked_sound s x e h p;
   few = λ s x h. at_most_eight s x h;
   entered = λ s x e h p end free. entered_sound s x e h p end free;
+  next = λ listing s left x h. next_sound s listing left x h;
   always = λ listing image s t none. run_sound s listing image t none;
 }
