@@ -1,20 +1,24 @@
 -- A machine at the start.
-use Rattle.std.proofs.Common.{◌≡◌, ℕ, zero, suc, ◌+◌, ◌-◌, ◌%◌, ◌<◌, ◌≤◌, arith, ap, refl, sym, ◌∙◌, subst, List, [], ◌∷◌, drop, length, Option, Some, None, All, false}
+use Rattle.std.proofs.Common.{◌≡◌, ℕ, zero, suc, ◌+◌, ◌-◌, ◌%◌, ◌<◌, ◌≤◌, arith, ap, refl, sym, ◌∙◌, subst, List, [], ◌∷◌, drop, length, map, Option, Some, None, All, false}
 use Rattle.hm_base.specs.Image.{Segment, first_byte, flash_byte, word_at}
 use Rattle.hm_machine.proofs.Cursors.{begins, left_new}
 use Rattle.hm_machine.specs.Machines.{left_in, left_while, HasTick}
-use Rattle.hm_machine.specs.Shown.{Shows}
+use Rattle.hm_machine.specs.Shown.{Shows, interrupted_of, run_with}
 use Rattle.hm_mem.specs.Memory.{Memory, byte_at, flash_at, tainted_at, first_devices, thread_under}
 use Rattle.hm_order.specs.Machine.{at_start}
 use Rattle.hm_regs.specs.declared.Regs.{Regs}
 use Rattle.hm_regs.specs.Start.{start_regs}
 use Rattle.hm_run.specs.declared.Outcome.{Outcome}
 use Rattle.hm_run.specs.declared.Outcome.TheVariants as outcome
-use Rattle.hm_run.specs.Timed.{Timed, begin, closed}
+use Rattle.hm_exc.specs.declared.types.Activation.{Activation}
+use Rattle.hm_handlers.proofs.Soundness.{start_sound}
+use Rattle.hm_handlers.specs.Runs.{Run, begin, closed, run}
+use Rattle.hm_handlers.specs.Sound.{IsSound}
+use Rattle.hm_machine.proofs.Runs.{Comes, closed_out}
 use Rattle.hm_sched.specs.Schedule.{TickLine, Sched, IsLine, most_ticks, ticks_of}
 use Rattle.hm_state.proofs.Started.{started}
 use Rattle.hm_state.specs.Start.{reset_pc, reset_sp, start_under}
-use Rattle.hm_state.specs.State.{State, state_of}
+use Rattle.hm_state.specs.State.{state_of}
 
 -- the first tick of lines that have one
 pub first_stands : (lines : List TickLine) → All IsLine lines → 0 < length (ticks_of lines) → HasTick (drop 0 lines) 0
@@ -33,20 +37,21 @@ state_at_start image s m sp pc regs output flash bytes clean devices around esp 
     ∙ started image m s.lo s.hi s.floor bytes clean devices around
 
 -- before the first tick
-begun : (left : List TickLine) (x : Timed) (o : Option Outcome) → x.outcome ≡ None
+begun : (left : List TickLine) (x : Run) (o : Option Outcome) → x.outcome ≡ None
     → (0 < length left → o ≡ None) → (length left ≡ 0 → o ≡ Some outcome.OutOfTicks)
-    → record x { outcome = o } ≡ closed left x
-begun [] x o none some out = (λ i. record x { outcome = out refl i }) ∙ ap (λ (q : Option Outcome). closed [] (record x { outcome = q })) (sym none)
+    → Comes o x.machine x.ticks (closed left x)
+begun [] x o none some out =
+    subst (λ (r : Run). Comes o x.machine x.ticks r) (sym (closed_out [] x none refl)) (ap (λ (q : Option Outcome). run_with q x.machine x.ticks x.entries) (out refl))
 begun (l ∷ left) x o none some out = let e = some (omega arith) in ap (λ (q : Option Outcome). record x { outcome = q }) (e ∙ sym none)
 
 first_left : (lines : List TickLine) (o : Option Outcome) → o ≡ None → left_while o (left_in (drop 0 lines) 0) ≡ drop 0 (ticks_of lines)
 first_left lines o none = ap (λ (q : Option Outcome). left_while q (left_in lines 0)) none ∙ left_new lines
 
-pub shows_start : (image : List Segment) (s : Sched) (m : Memory) (sp pc : ℕ) (regs : Regs) (output : List ℕ) (o : Option Outcome)
+pub shows_start : (image : List Segment) (s : Sched) (m : Memory) (sp pc : ℕ) (regs : Regs) (output : List ℕ) (acts : List Activation) (o : Option Outcome)
     → flash_at m ≡ flash_byte image → ((a : ℕ) → byte_at m a ≡ first_byte image a) → ((a : ℕ) → tainted_at m a ≡ false)
     → m.devices ≡ first_devices → m.around ≡ thread_under s.lo s.hi s.floor
     → sp ≡ word_at (flash_at m) 0 → pc ≡ word_at (flash_at m) 4 → regs ≡ start_regs (sp - sp % 4) (pc - pc % 2) → output ≡ []
-    → (0 < length (ticks_of s.lines) → o ≡ None) → (length (ticks_of s.lines) ≡ 0 → o ≡ Some outcome.OutOfTicks)
+    → acts ≡ [] → (0 < length (ticks_of s.lines) → o ≡ None) → (length (ticks_of s.lines) ≡ 0 → o ≡ Some outcome.OutOfTicks)
     → Shows image s 0 (record {
       regs = regs;
       memory = m;
@@ -56,21 +61,35 @@ pub shows_start : (image : List Segment) (s : Sched) (m : Memory) (sp pc : ℕ) 
       retired = 0;
       older_steps = 0;
       outcome = o;
-      acts = [];
+      acts = acts;
       ticks = 0;
       schedule = s;
       left = left_while o (left_in (drop 0 s.lines) 0);
     })
-shows_start image s m sp pc regs output o flash bytes clean devices around esp epc eregs eout some out = record {
+shows_start image s m sp pc regs output acts o flash bytes clean devices around esp epc eregs eout eacts some out = record {
   bytes = flash;
-  around = around;
   plan = refl;
   left = first_left s.lines o;
   now = λ listing is.
-      ap (λ (state : State). record { outcome = o; config = at_start state; acts = []; ticks = 0 })
-      (state_at_start image s m sp pc regs output flash bytes clean devices around esp epc eregs eout)
+      (λ j. run_with o (record {
+        config = at_start (state_at_start image s m sp pc regs output flash bytes clean devices around esp epc eregs eout j);
+        acts = map interrupted_of (eacts j);
+      }) 0 (run listing image s 0).entries)
       ∙ begun (ticks_of s.lines) (begin image s) o refl some out;
 }
+
+-- what holds at the start
+pub sound_start : (image : List Segment) (s : Sched) (m : Memory) (sp pc : ℕ) (regs : Regs) (output : List ℕ) (acts : List Activation)
+    → flash_at m ≡ flash_byte image → ((a : ℕ) → byte_at m a ≡ first_byte image a) → ((a : ℕ) → tainted_at m a ≡ false)
+    → m.devices ≡ first_devices → m.around ≡ thread_under s.lo s.hi s.floor
+    → sp ≡ word_at (flash_at m) 0 → pc ≡ word_at (flash_at m) 4 → regs ≡ start_regs (sp - sp % 4) (pc - pc % 2) → output ≡ [] → acts ≡ []
+    → IsSound s (record { config = at_start (state_of regs m output); acts = map interrupted_of acts })
+sound_start image s m sp pc regs output acts flash bytes clean devices around esp epc eregs eout eacts =
+    let first : record { config = at_start (state_of regs m output); acts = map interrupted_of acts } ≡ (begin image s).machine = λ j. record {
+      config = at_start (state_at_start image s m sp pc regs output flash bytes clean devices around esp epc eregs eout j);
+      acts = map interrupted_of (eacts j);
+    } in
+    subst (IsSound s) (sym first) (start_sound image s)
 
 -- the address of the first instruction is odd
 pub odd_pc : (image : List Segment) (m : Memory) (pc : ℕ) → flash_at m ≡ flash_byte image → pc ≡ word_at (flash_at m) 4 → (pc % 2 ≡ 0 → ⊥) → reset_pc image % 2 ≡ 1

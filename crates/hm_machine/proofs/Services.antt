@@ -1,9 +1,8 @@
 -- What a breakpoint asks, and how it is answered.
-use Rattle.std.proofs.Common.{◌≡◌, ℕ, zero, suc, ◌+◌, ◌-◌, ◌<◌, ◌≤◌, ◌^◌, ◌++◌, arith, refl, ap, sym, ◌∙◌, Bool, true, false, cond, List, [], ◌∷◌, length, append_assoc, append-nil, add-one, Option, Some, None, Result, Ok, Err}
+use Rattle.std.proofs.Common.{◌≡◌, ℕ, zero, suc, ◌+◌, ◌<◌, ◌≤◌, ◌^◌, ◌++◌, arith, refl, ap, sym, ◌∙◌, true, false, cond, List, [], ◌∷◌, length, append_assoc, append-nil, Some, None, Result, Ok, Err}
 use Rattle.std.specs.Prelude.{nat_eq, nat_lt}
 use Rattle.std.proofs.lemmas.Bool.Decides.{nat_tests}
 use Rattle.hm_base.specs.declared.Stop.{Stop}
-use Rattle.hm_machine.specs.Services.{told}
 use Rattle.hm_mem.specs.Memory.{Around, Memory}
 use Rattle.hm_mem.specs.Seen.{Seen, read, seen}
 use Rattle.hm_mem.specs.declared.Access.TheVariants.{Scalar}

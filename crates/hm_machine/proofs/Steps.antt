@@ -1,6 +1,6 @@
 -- The steps of the older instruction.
 use Rattle.std.specs.Prelude.{IsOk}
-use Rattle.std.proofs.Common.{subst, ◌≡◌, ℕ, zero, suc, ◌+◌, ◌-◌, ◌==◌, ◌<◌, arith, ap, refl, sym, ◌∙◌, add-one, Bool, true, false, not, IsTrue, cond, List, Option, Some, None, Result, Ok, Err}
+use Rattle.std.proofs.Common.{subst, ◌≡◌, ℕ, zero, suc, ◌+◌, ◌==◌, ◌<◌, arith, ap, refl, sym, ◌∙◌, add-one, Bool, true, false, not, IsTrue, cond, List, Option, Some, None, Result, Ok, Err}
 use Rattle.std.proofs.lemmas.Bool.Decides.{nat_tests}
 use Rattle.hm_base.specs.declared.Fault.{Fault}
 use Rattle.hm_base.specs.declared.Stop.{Stop}
@@ -27,7 +27,7 @@ use Rattle.hm_rows.specs.Rows.{refuse, vector_tree}
 use Rattle.hm_run.proofs.Steps.{break_makes, makes_other, makes_row, no_row, older_vector, older_other, other_is, past}
 use Rattle.hm_run.specs.declared.Cause.{Cause}
 use Rattle.hm_run.specs.declared.Cause.TheVariants as cause
-use Rattle.hm_run.specs.Program.{Program, Stepped, broken_by, caused, core, done_in_machine, in_machine, made_here, makes_here, other_by, other_here, older_steps, rows, steps_left, to_end, unless_refused, vector_of}
+use Rattle.hm_run.specs.Program.{Program, broken_by, caused, core, done_in_machine, in_machine, made_here, makes_here, other_by, other_here, rows, unless_refused, vector_of}
 use Rattle.hm_run.specs.Stops.{at_break, break_of}
 use Rattle.hm_state.proofs.Beside.{pc_is}
 use Rattle.hm_state.proofs.Registers.{registers_are}
@@ -35,24 +35,6 @@ use Rattle.hm_state.specs.State.{State, cells, regs_of, state_of}
 use Rattle.hm_thumb.specs.Families.{is_vector_row}
 use Rattle.hm_thumb.specs.Rows.{made, makes_context}
 use Rattle.hm_whole.specs.Whole.{scalar_in_machine}
-
--- SEVERAL STEPS
--- one that stops, and one that is done
-pub steps_stop : (M : Program) (k n : ℕ) (c d : Config State) (e : Cause) → k < n → Err (order.Stopped d e) ≡ older M c → Err (order.Stopped d e) ≡ older_steps M (n - k) c
-steps_stop M k n c d e few step =
-    let left : n - k ≡ suc (n - (k + 1)) = omega arith in
-    sym (ap (λ (j : ℕ). older_steps M j c) left ∙ ap (λ (y : Stepped). then y (older_steps M (n - (k + 1)))) (sym step))
-
-pub steps_on : (M : Program) (k n : ℕ) (c d : Config State) → k < n → Ok d ≡ older M c → older_steps M (n - (k + 1)) d ≡ older_steps M (n - k) c
-steps_on M k n c d few step =
-    let left : n - k ≡ suc (n - (k + 1)) = omega arith in
-    sym (ap (λ (j : ℕ). older_steps M j c) left ∙ ap (λ (y : Stepped). then y (older_steps M (n - (k + 1)))) (sym step))
-
--- all that are left
-pub to_end_is : (listing : Listing) (x : Cpu) (n : ℕ) → n ≡ steps_left (vector_of (listing x.regs.pc)) x.window.a
-    → older_steps (core listing (memory_of x.mem).around) n (config_of x) ≡ to_end (core listing (memory_of x.mem).around) (config_of x)
-unfolding state_of
-to_end_is listing x n e = ap (λ (k : ℕ). older_steps (core listing (memory_of x.mem).around) k (config_of x)) e
 
 -- BEATS
 -- the context that is made
@@ -249,7 +231,7 @@ module _ (listing : Listing) (x : Cpu) where
         ap (λ (b : Bool). cond b (with_context (state_in x)) (state_in x))
         (makes_is (regs_of (state_in x)) ∙ ap (makes_context i) (registers_are x.regs (memory_of x.mem) x.output.items counted range.fpscr_fits range.vpr_fits))
 
-    begun_is : InRange x.regs → Counted x.regs → (0 < x.window.a → IsTrue x.regs.fpca)
+    pub begun_is : InRange x.regs → Counted x.regs → (0 < x.window.a → IsTrue x.regs.fpca)
         → begun M (config_of x) ≡ record (config_of x) { state = state_of (made i x.regs) (memory_of x.mem) x.output.items }
     unfolding state_of
     begun_is range counted context =

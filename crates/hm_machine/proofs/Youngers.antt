@@ -1,12 +1,11 @@
 -- The steps of the younger of two rows.
-use Rattle.std.proofs.Common.{◌≡◌, ℕ, ◌+◌, ◌<◌, ◌≤◌, arith, ap, sym, ◌∙◌, Bool, true, false, not, ◌&&◌, ◌||◌, nat_lt, cond, IsTrue, List, Option, Some, None, Err}
-use Rattle.std.proofs.lemmas.Bool.Decides.{nat_tests}
+use Rattle.std.proofs.Common.{◌≡◌, ℕ, ◌+◌, ap, sym, ◌∙◌, Bool, true, ◌&&◌, cond, IsTrue, List, Option, Some, None, Err}
 use Rattle.std.specs.Option.{is_none}
 use Rattle.hm_base.specs.declared.Fault.{Fault}
 use Rattle.hm_codes.specs.Listing.{Listing}
 use Rattle.hm_isa.specs.declared.Vector.{Vector}
 use Rattle.hm_machine.specs.Cpus.{config_of, hindered, state_in}
-use Rattle.hm_machine.specs.declared.younger.Hindrance.{Hindrance}
+use Rattle.hm_machine.specs.declared.obstacle.Hindrance.{Hindrance}
 use Rattle.hm_machine.specs.declared.cpu.Cpu.{Cpu}
 use Rattle.hm_mem.specs.Memory.{Around, Memory, memory_of}
 use Rattle.hm_order.specs.Machine as order

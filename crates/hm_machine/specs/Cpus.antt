@@ -1,19 +1,31 @@
 -- What the parts of the machine that instructions change stand for.
-use Rattle.std.specs.Prelude.{◌≡◌, ◌+◌, ◌<◌, ◌≤◌, IsTrue, Result, Ok, Err}
+use Rattle.std.specs.Prelude.{◌≡◌, ℕ, ◌+◌, ◌<◌, ◌≤◌, IsTrue, List, map, Option, Result, Ok, Err}
 use Rattle.std.specs.Vec.{vec_capacity}
+use Rattle.arrayvec.specs.ArrayVec.{array_vec_len}
+use Rattle.hm_exc.specs.Entry.{newest_first}
+use Rattle.hm_exc.specs.Return.{return_rule}
+use Rattle.hm_exc.specs.declared.types.Activation.{Activation}
+use Rattle.hm_handlers.specs.Entries.{running_priority}
+use Rattle.hm_handlers.specs.Nested.{Ended, Nested, NestedEnd, NestedStep, Offends, TickEnd, around_under, returned}
+use Rattle.hm_handlers.specs.Sound.{AreStacked, IsSound}
 use Rattle.hm_mem.specs.Memory.{memory_of}
 use Rattle.hm_mem.specs.Seen.{IsSameElsewhere}
 use Rattle.hm_order.specs.Machine as order
 use Rattle.hm_order.specs.Machine.{Config, End}
+use Rattle.hm_machine.specs.Shown.{interrupted_of}
 use Rattle.hm_machine.specs.declared.cpu.Cpu.{Cpu}
+use Rattle.hm_machine.specs.declared.obstacle.Hindrance.{Hindrance}
+use Rattle.hm_machine.specs.declared.obstacle.Hindrance.TheVariants as hindrance
+use Rattle.hm_machine.specs.declared.obstacle.Obstacle.{Obstacle}
+use Rattle.hm_machine.specs.declared.obstacle.Obstacle.TheVariants as obstacle
 use Rattle.hm_machine.specs.declared.tick.Trouble.{Trouble}
-use Rattle.hm_machine.specs.declared.tick.Trouble.TheVariants as trouble
-use Rattle.hm_machine.specs.declared.younger.Hindrance.{Hindrance}
-use Rattle.hm_machine.specs.declared.younger.Hindrance.TheVariants as hindrance
 use Rattle.hm_run.specs.declared.Cause.{Cause}
 use Rattle.hm_window.specs.declared.rule.Rule.{Rule}
-use Rattle.hm_run.specs.Program.{Breach, Stepped, Stopping, Ticked}
-use Rattle.hm_state.specs.State.{State, state_of}
+use Rattle.hm_run.specs.Program.{Stepped}
+use Rattle.hm_sched.specs.Schedule.{Sched}
+use Rattle.hm_state.specs.State.{State, regs_of, state_of}
+use Rattle.hm_sys.specs.Exceptions.{picked}
+use Rattle.hm_whole.specs.Whole.{seen_in}
 
 abbrev pub state_in : Cpu → State
 state_in x = state_of x.regs (memory_of x.mem) x.output.items
@@ -31,7 +43,7 @@ abbrev pub reached : Result Unit Cause → Cpu → Stepped
 reached (Ok u) x = Ok (config_of x)
 reached (Err e) x = Err (order.Stopped (config_of x) e)
 
--- why a step of the younger does not go on, where the machine stands so
+-- why a step does not go on, where the machine stands so
 abbrev pub hindered : Hindrance → Config State → End State Cause Rule
 hindered (hindrance.Stopped e) c = order.Stopped c e
 hindered (hindrance.Broken r) c = order.Broken c r
@@ -41,25 +53,70 @@ abbrev pub reached_younger : Result Unit Hindrance → Cpu → Stepped
 reached_younger (Ok u) x = Ok (config_of x)
 reached_younger (Err h) x = Err (hindered h (config_of x))
 
--- why the letters of a tick do not all go on, where the machine stands so
-abbrev pub troubled : Trouble → Config State → End State Stopping Breach
-troubled (trouble.Stopped e younger) c = order.Stopped c (record { cause = e; younger = younger })
-troubled (trouble.Broken step r) c = order.Broken c (record { step = step; rule = r })
+-- THE MACHINE WITH HANDLERS
+abbrev pub nested_of : Cpu → Nested
+nested_of x = record { config = config_of x; acts = map interrupted_of (newest_first x.acts) }
 
--- the same of the letters of a tick
-abbrev pub reached_by_tick : Result Unit Trouble → Cpu → Ticked
-reached_by_tick (Ok u) x = Ok (config_of x)
-reached_by_tick (Err e) x = Err (troubled e (config_of x))
+abbrev pub obstructed : Obstacle → Nested → NestedEnd
+obstructed (obstacle.Hindered h) x = Ended (hindered h x.config) x.acts
+obstructed (obstacle.Offends what) x = Offends what x.config x.acts
+
+-- what a step answered, and where it left the machine
+abbrev pub stepped : Result Unit Obstacle → Cpu → NestedStep
+stepped (Ok u) x = Ok (nested_of x)
+stepped (Err e) x = Err (obstructed e (nested_of x))
+
+-- why the letters of a tick do not all go on
+abbrev pub troubled : Trouble → Nested → TickEnd
+troubled e x = record { step = e.step; younger = e.younger; end = obstructed e.obstacle x }
+
+-- what the letters of a tick answered
+abbrev pub ticked : Result Unit Trouble → Cpu → Result Nested TickEnd
+ticked (Ok u) x = Ok (nested_of x)
+ticked (Err e) x = Err (troubled e (nested_of x))
+
+-- a return to a value, under the newest activation and the others
+abbrev pub returns : ℕ → Activation → List Activation → Cpu → NestedStep
+returns value y rest x =
+    returned (return_rule (regs_of (state_in x)) (seen_in (state_in x)).byte value y) (config_of x) (interrupted_of y) (map interrupted_of rest) (state_in x)
+
+-- who accesses the memory under a schedule: the thread, or the newest handler
+abbrev pub IsUnder : Sched → Cpu → Type 0
+IsUnder s x = (memory_of x.mem).around ≡ around_under s (nested_of x).acts
+
+-- entries made all that is put away, and a handler runs where there is some
+abbrev pub AreEntered : Cpu → Type 0
+AreEntered x = AreStacked (nested_of x).acts
+
+abbrev pub IsHandler : Cpu → Type 0
+IsHandler x = 0 < array_vec_len x.acts
+
+-- what always holds of the machine with handlers, under a schedule, and under some
+abbrev pub IsSoundUnder : Sched → Cpu → Type 0
+IsSoundUnder s x = IsSound s (nested_of x)
+
+abbrev pub IsSoundUnderSome : Cpu → Type 0
+IsSoundUnderSome x = (s : Sched) × IsSoundUnder s x
+
+-- the exception that is picked, by the parts of the machine
+abbrev pub picks : Cpu → Option ℕ
+picks x = let d = (memory_of x.mem).devices in picked d (running_priority d x.regs.primask (nested_of x).acts)
 
 -- Where a machine may stand: the older instruction has less than four beats and the younger two at most, and only a vector row,
 -- which made a context, has some.
 abbrev pub IsPosition : Cpu → Type 0
 IsPosition x = (x.window.a < 4) × (x.window.b ≤ 2) × (0 < x.window.a → IsTrue x.regs.fpca)
 
--- What stays while instructions are done: flash and who accesses the memory, and how much room the output has.
+-- What stays while instructions are done: flash and who accesses the memory, how much room the output has, and what is put away.
 pub record Keeps (old new : Cpu) : Type 0 where
   pub memory : IsSameElsewhere (memory_of old.mem) (memory_of new.mem)
   pub position : IsPosition new
+  pub room : vec_capacity new.output ≡ vec_capacity old.output
+  pub acts : new.acts ≡ old.acts
+
+-- What stays also where a handler returns or an exception enters: flash, and how much room the output has.
+pub record KeepsFlash (old new : Cpu) : Type 0 where
+  pub flash : (memory_of new.mem).flash ≡ (memory_of old.mem).flash
   pub room : vec_capacity new.output ≡ vec_capacity old.output
 
 -- What a breakpoint leaves: the memory, whether there is a context, what is counted, and how much room the output has.
@@ -70,10 +127,15 @@ pub record IsServed (old new : Cpu) : Type 0 where
   pub retired : new.retired ≡ old.retired
   pub steps : new.older_steps ≡ old.older_steps
   pub room : vec_capacity new.output ≡ vec_capacity old.output
+  pub acts : new.acts ≡ old.acts
 
 -- a step retires one instruction at most, and counts once
 abbrev pub CountsOne : Cpu → Cpu → Type 0
 CountsOne old new = (new.retired ≤ old.retired + 1) × (new.older_steps ≤ old.older_steps + 1)
+
+-- what is counted stays
+abbrev pub CountsNone : Cpu → Cpu → Type 0
+CountsNone old new = (new.retired ≡ old.retired) × (new.older_steps ≡ old.older_steps)
 
 -- all but what is counted stays
 pub record Stays (old new : Cpu) : Type 0 where
@@ -81,3 +143,4 @@ pub record Stays (old new : Cpu) : Type 0 where
   pub registers : new.regs ≡ old.regs
   pub window : new.window ≡ old.window
   pub output : new.output ≡ old.output
+  pub acts : new.acts ≡ old.acts

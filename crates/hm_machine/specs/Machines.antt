@@ -3,7 +3,8 @@ use Rattle.std.specs.Prelude.{◌≡◌, ℕ, ◌+◌, ◌-◌, ◌*◌, ◌<◌
 use Rattle.std.specs.Vec.{vec_capacity}
 use Rattle.hm_machine.specs.declared.cursor.Cursor.{Cursor}
 use Rattle.hm_machine.specs.declared.machine.Machine.TheInside.{Inside}
-use Rattle.hm_machine.specs.Cpus.{IsPosition}
+use Rattle.hm_exc.specs.Entry.{newest_first}
+use Rattle.hm_machine.specs.Cpus.{IsPosition, IsSoundUnder}
 use Rattle.hm_machine.specs.Shown.{Shown}
 use Rattle.hm_run.specs.Program.{most_output}
 use Rattle.hm_run.specs.declared.Outcome.{Outcome}
@@ -41,7 +42,7 @@ machine_view m = record {
   retired = m.cpu.retired;
   older_steps = m.cpu.older_steps;
   outcome = m.outcome;
-  acts = [];
+  acts = newest_first m.cpu.acts;
   ticks = m.ticks;
   schedule = m.schedule;
   left = left_while m.outcome (left_at m.schedule.lines m.cursor);
@@ -50,7 +51,8 @@ machine_view m = record {
 pub record IsMachine (m : Inside) : Type 0 where
   -- what a program writes wants no memory
   pub capacity : vec_capacity m.cpu.output ≡ most_output
-  pub position : IsPosition m.cpu
+  pub position : m.outcome ≡ None → IsPosition m.cpu
+  pub sound : m.outcome ≡ None → IsSoundUnder m.schedule m.cpu
   pub running : m.outcome ≡ None → StandsIn m.schedule.lines m.cursor
   pub begun : m.outcome ≡ None → m.ticks + length (left_at m.schedule.lines m.cursor) ≤ most_ticks
   pub few : m.ticks ≤ most_ticks

@@ -1,6 +1,6 @@
-//! The steps of the older instruction.
+//! The steps of the thread's older instruction.
 
-ghost use Rattle.std.specs.Prelude.{◌≡◌, ℕ, ◌+◌, ◌^◌, ◌<◌, ◌≤◌, not, List, IsSome, IsTrue, OnErr, Ok};
+ghost use Rattle.std.specs.Prelude.{◌≡◌, ℕ, ◌+◌, ◌^◌, ◌<◌, not, List, IsSome, IsTrue, OnErr, Ok};
 ghost use Rattle.std.specs.Vec.{vec_capacity};
 ghost use Rattle.hm_codes.specs.Listing.{Listing, IsListing};
 ghost use Rattle.hm_machine.specs.Cpus.{config_of, state_in, executed, reached, IsPosition, Keeps, CountsOne};
@@ -9,19 +9,20 @@ ghost use Rattle.hm_mem.specs.Seen.{IsSameElsewhere};
 ghost use Rattle.hm_order.specs.Machine.{begin, older, settle};
 ghost use Rattle.hm_regs.specs.Place.{Counted, InRange};
 ghost use Rattle.hm_rows.specs.Context.{with_context};
-ghost use Rattle.hm_run.specs.Program.{core, done_in_machine, most_output, rows, steps_left, to_end, vector_in, vector_of};
+ghost use Rattle.hm_run.specs.Program.{core, done_in_machine, most_output, rows, vector_in, vector_of};
 ghost use Rattle.hm_run.specs.Stops.{break_of, scalar_break};
 ghost use Rattle.hm_state.specs.State.{state_of};
 ghost use Rattle.hm_thumb.specs.Families.{is_vector_row};
 ghost use Rattle.hm_thumb.specs.Rows.{made};
-ghost use Rattle.hm_whole.specs.Whole.{scalar_in_machine};
+ghost use Rattle.hm_whole.specs.Whole.{executed as executed_by, scalar_in_machine};
 
 use crate::service::breakpoint;
 use hm_base::Stop;
 use hm_beat::BeatWise;
 use hm_decode::fetch;
+use hm_exc::Acts;
 use hm_exec::{any, refuse};
-use hm_isa::{Instr, Scalar, Vector};
+use hm_isa::{Flow, Instr, Scalar, Vector};
 use hm_lane::context;
 use hm_mem::Mem;
 use hm_regs::Regs;
@@ -35,6 +36,8 @@ pub struct Cpu {
     pub mem: Mem,
     pub output: Vec<u8>,
     pub window: Window,
+    /// What handlers interrupted, the newest last.
+    pub acts: Acts,
     pub retired: u64,
     pub older_steps: u64,
 }
@@ -103,7 +106,7 @@ fn settle(x: &mut Cpu)
 }
 
 /// The next beat of the vector instruction at the program counter, after what comes before it.
-fn vector_step(v: &Vector, x: &mut Cpu) -> Result<(), Cause>
+pub fn vector_step(v: &Vector, x: &mut Cpu) -> Result<(), Cause>
     requires count { (x.old.retired < 2 ^ 63) × (x.old.older_steps < 2 ^ 63) }
     requires position { IsPosition x.old }
     requires pc { x.old.regs.pc + 4 < 2 ^ 32 }
@@ -138,9 +141,22 @@ fn break_of(i: &Instr) -> Option<u8>
     }
 }
 
-/// An instruction that is no vector row and no breakpoint, done; or a stop, which changes nothing but that a context may have
-/// been made. In a thread each that is done goes on to the next.
-fn execute(i: &Instr, regs: &mut Regs, mem: &mut Mem) -> Result<(), Cause>
+/// An instruction that is no vector row, done; or a stop, which changes nothing but that a context may have been made.
+pub fn execute(i: &Instr, regs: &mut Regs, mem: &mut Mem) -> Result<Flow, Stop>
+    requires row { IsTrue (not (is_vector_row i.now)) }
+    ensures value { (output : List ℕ) → executed_by result (state_of regs.new (memory_of mem.new) output)
+        ≡ scalar_in_machine (memory_of mem.old).around i.now (state_of regs.old (memory_of mem.old) output) }
+    ensures stopped { OnErr result ((regs.new ≡ made i.now regs.old) × (memory_of mem.new ≡ memory_of mem.old)) }
+    ensures kept { IsSameElsewhere (memory_of mem.old) (memory_of mem.new) }
+    ensures range { InRange regs.old }
+    ensures counted { Counted regs.old }
+{
+    regs.in_range();
+    hm_exec::step(i, regs, mem)
+}
+
+/// The same of the thread, in which each that is done goes on to the next.
+fn execute_in_thread(i: &Instr, regs: &mut Regs, mem: &mut Mem) -> Result<(), Cause>
     requires row { IsTrue (not (is_vector_row i.now)) }
     ensures value { (output : List ℕ) → executed result (state_of regs.new (memory_of mem.new) output)
         ≡ done_in_machine (scalar_in_machine (memory_of mem.old).around i.now (state_of regs.old (memory_of mem.old) output)) }
@@ -149,8 +165,7 @@ fn execute(i: &Instr, regs: &mut Regs, mem: &mut Mem) -> Result<(), Cause>
     ensures range { InRange regs.old }
     ensures counted { Counted regs.old }
 {
-    regs.in_range();
-    match hm_exec::step(i, regs, mem) {
+    match execute(i, regs, mem) {
         Ok(_flow) => Ok(()),
         Err(stop) => Err(Cause::Stop(stop)),
     }
@@ -182,7 +197,7 @@ fn other_step(i: &Instr, x: &mut Cpu) -> Result<(), Cause>
         retire(x);
         return Ok(());
     }
-    execute(i, &mut x.regs, &mut x.mem)?;
+    execute_in_thread(i, &mut x.regs, &mut x.mem)?;
     retire(x);
     Ok(())
 }
@@ -205,7 +220,7 @@ fn step(i: &Instr, x: &mut Cpu) -> Result<(), Cause>
     }
 }
 
-/// A step of the older instruction, or the fault where none stands at the program counter.
+/// A step of the thread's older instruction, or the fault where none stands at the program counter.
 pub fn older(x: &mut Cpu) -> Result<(), Cause>
     requires count { (x.old.retired < 2 ^ 63) × (x.old.older_steps < 2 ^ 63) }
     requires position { IsPosition x.old }
@@ -240,34 +255,4 @@ pub fn vector_at(mem: &Mem, addr: u32) -> Option<Vector>
         Ok(i) => as_vector(&i),
         Err(_) => None,
     }
-}
-
-/// How many steps the older instruction has left: its beats that are left, or one where it has no beats.
-fn steps_left(x: &Cpu) -> u8
-    requires position { IsPosition x.now }
-    ensures value { (listing : Listing) → IsListing (flash_at (memory_of x.now.mem)) listing
-        → result ≡ steps_left (vector_of (listing x.now.regs.pc)) x.now.window.a }
-    ensures few { result ≤ 4 }
-{
-    match vector_at(&x.mem, x.regs.pc) {
-        Some(_) => 4 - x.window.a,
-        None => 1,
-    }
-}
-
-/// The older instruction to its end, in at most four steps.
-pub fn whole(x: &mut Cpu) -> Result<(), Cause>
-    requires count { (x.old.retired < 2 ^ 61) × (x.old.older_steps < 2 ^ 61) }
-    requires position { IsPosition x.old }
-    requires room { vec_capacity x.old.output ≡ most_output }
-    ensures value { (listing : Listing) → IsListing (flash_at (memory_of x.old.mem)) listing
-        → reached result x.new ≡ to_end (core listing (memory_of x.old.mem).around) (config_of x.old) }
-    ensures kept { Keeps x.old x.new }
-    ensures count { (x.new.retired ≤ x.old.retired + 4) × (x.new.older_steps ≤ x.old.older_steps + 4) }
-{
-    let left = steps_left(x);
-    for _k in 0..left {
-        older(x)?;
-    }
-    Ok(())
 }

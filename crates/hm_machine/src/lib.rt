@@ -6,6 +6,8 @@ mod cursor;
 mod load;
 mod machine;
 mod memory_text;
+mod obstacle;
+mod running;
 mod service;
 mod tick;
 mod younger;

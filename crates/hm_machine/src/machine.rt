@@ -1,17 +1,16 @@
 //! The machine.
 
-ghost use Rattle.std.specs.Prelude.{◌≡◌, ℕ, suc, ◌+◌, ◌-◌, ◌<◌, ◌≤◌, ◌↔◌, ◌%◌, false, List, [], length, drop, None, Some, IsSome, IfOk, IfErr, IsTrue};
+ghost use Rattle.std.specs.Prelude.{◌≡◌, ℕ, suc, ◌+◌, ◌-◌, ◌<◌, ◌≤◌, ◌↔◌, ◌%◌, List, length, drop, None, Some, IsSome, IfOk, IfErr, IsTrue};
 ghost use Rattle.hm_base.specs.Image.{Segment, flash_byte};
 ghost use Rattle.hm_codes.specs.Listing.{Listing, IsListing};
-ghost use Rattle.hm_machine.specs.Machines.{StandsIn};
-ghost use Rattle.hm_machine.specs.Shown.{Shows, timed_of};
+ghost use Rattle.hm_machine.specs.Shown.{Shows, run_of, timed_of};
 ghost use Rattle.hm_machine.specs.Turns.{turned, LoadRefuses};
 ghost use Rattle.hm_mem.specs.Memory.{flash_at, told_at, tainted_at};
 ghost use Rattle.hm_run.specs.Headline.{Headline, PlainReport, Riders};
 ghost use Rattle.hm_run.specs.InOrder.{in_order};
-ghost use Rattle.hm_run.specs.Program.{core};
 ghost use Rattle.hm_run.specs.Report.{report_text, memory_text};
-ghost use Rattle.hm_run.specs.Timed.{next};
+ghost use Rattle.hm_handlers.specs.Runs.{next, run_out};
+ghost use Rattle.hm_handlers.specs.Taint.{TaintLies};
 ghost use Rattle.hm_sched.specs.Schedule.{Sched, plain, ticks_of, most_ticks};
 ghost use Rattle.hm_state.specs.Start.{reset_pc};
 ghost use Rattle.hm_state.specs.State.{regs_of};
@@ -21,13 +20,14 @@ use crate::cursor::{Cursor, after_tick, line_at};
 use crate::load::{LoadErr, flash_word};
 use crate::memory_text::memory_text;
 use crate::service::OUTPUT;
-use crate::tick::{conclude, end_of_tick, letters};
+use crate::tick::tick;
 use hm_base::{Image, OutOfMemory};
+use hm_exc::Acts;
 use hm_mem::Mem;
 use hm_regs::Regs;
 use hm_run::{Outcome, Turn};
 use hm_sched::Schedule;
-use hm_window::{Window, ending};
+use hm_window::Window;
 use std::alloc::Global;
 use std::marker::Model;
 
@@ -89,6 +89,7 @@ impl Machine {
                 mem,
                 output,
                 window: Window { a: 0, b: 0 },
+                acts: Acts::new(),
                 retired: 0,
                 older_steps: 0,
             },
@@ -168,36 +169,29 @@ impl Machine {
     // Does one tick of a run that goes on.
     fn advance(&mut self)
         requires { self.old.outcome ≡ None }
-        ensures next { (listing : Listing) → IsListing (flash_at self.old.memory) listing → timed_of self.new ≡ next (core listing self.old.memory.around) self.old.left (timed_of self.old) }
+        ensures next { (listing : Listing) (es : List ℕ) → IsListing (flash_at self.old.memory) listing
+            → let r = next listing self.old.schedule self.old.left (run_of self.old es) in run_of self.new r.entries ≡ r }
         ensures left { self.new.outcome ≡ None → self.new.left ≡ drop 1 self.old.left }
         ensures fewer { length self.new.left < length self.old.left }
         ensures once { self.new.ticks ≡ self.old.ticks + 1 }
         ensures flash { flash_at self.new.memory ≡ flash_at self.old.memory }
-        ensures around { self.new.memory.around ≡ self.old.memory.around }
         ensures plan { self.new.schedule ≡ self.old.schedule }
     {
         self.ticks += 1;
         let line = line_at(&self.schedule, self.cursor);
-        let steps = line.letters.len() as u32;
-        let irq = line.irq;
-        let reached = letters(line.letters.as_slice(), &mut self.cpu);
-        match reached {
-            Ok(()) => {
-                if let Err(rule) = ending(self.cpu.window) {
-                    self.outcome = Some(Outcome::RuleBroken {
-                        tick: self.ticks,
-                        step: steps,
-                        rule,
-                    });
-                    return;
-                }
-                end_of_tick(irq, &mut self.cpu.mem);
-                match after_tick(&self.schedule, self.cursor) {
-                    Some(cursor) => self.cursor = cursor,
-                    None => self.outcome = Some(Outcome::OutOfTicks),
-                }
-            }
-            Err(trouble) => self.outcome = Some(conclude(self.ticks, trouble, &mut self.cpu)),
+        let entries = self.schedule.entries();
+        match tick(
+            self.ticks,
+            line.letters.as_slice(),
+            line.irq,
+            entries,
+            &mut self.cpu,
+        ) {
+            Some(outcome) => self.outcome = Some(outcome),
+            None => match after_tick(&self.schedule, self.cursor) {
+                Some(cursor) => self.cursor = cursor,
+                None => self.outcome = Some(Outcome::OutOfTicks),
+            },
         }
     }
 
@@ -234,15 +228,17 @@ impl Machine {
         // Under a plain schedule the report is that of the instructions in order; of a fault the first line.
         ensures plain { (image : List Segment) (n t : ℕ) (listing : Listing) → IsListing (flash_byte image) listing → Shows image (plain n) t self.old
             → PlainReport (timed_of self.new) (in_order listing image n) }
-        // Under any schedule without entries, where it halts after n instructions, they halt there in order, with this report and
-        // these bytes of memory.
-        ensures headline { (image : List Segment) (s : Sched) (t : ℕ) (listing : Listing) → IsListing (flash_byte image) listing → s.entries ≡ false
-            → Shows image s t self.old
+        // Under any schedule, whatever enters and whatever handlers do, where it halts after n instructions of the thread, they halt there in order, with this
+        // report and these bytes of memory.
+        ensures headline { (image : List Segment) (s : Sched) (t : ℕ) (listing : Listing) → IsListing (flash_byte image) listing → Shows image s t self.old
             → Headline listing image (timed_of self.new) (report_text (timed_of self.new)) (memory_text (timed_of self.new)) }
         // Where the thread has a fault or the output is full, that is the next instruction's in order; where the ticks are out before the
         // n-th instruction in order halts, there were fewer than 4n steps of the older.
-        ensures riders { (image : List Segment) (s : Sched) (t : ℕ) (listing : Listing) → IsListing (flash_byte image) listing → s.entries ≡ false
+        ensures riders { (image : List Segment) (s : Sched) (t : ℕ) (listing : Listing) → IsListing (flash_byte image) listing
             → Shows image s t self.old → Riders listing image (timed_of self.new) }
+        // Every tainted byte lies in the region, or from the floor up and below the stack pointer at one of the run's entries.
+        ensures taint { (image : List Segment) (s : Sched) (t : ℕ) (listing : Listing) → IsListing (flash_byte image) listing → Shows image s t self.old
+            → TaintLies s (run_out listing image s).entries (timed_of self.new).config.state }
     {
         while self.is_running() {
             let _turn = self.tick();
@@ -253,6 +249,13 @@ impl Machine {
         }
     }
 
+    // How many exceptions are active.
+    fn depth(&self) -> usize
+        ensures value { result ≡ length (timed_of self.now).acts }
+    {
+        self.cpu.acts.len()
+    }
+
     /// The report: how the run ended, the registers, the position and the output.
     pub fn report(&self, alloc: Global) -> Result<Vec<u8>, OutOfMemory>
         ensures { IfOk result (λ out. out.items ≡ report_text (timed_of self.now)) }
@@ -260,7 +263,7 @@ impl Machine {
         hm_report::report(
             alloc,
             self.outcome,
-            0,
+            self.depth(),
             self.regs(),
             self.cpu.window,
             &self.cpu.output,

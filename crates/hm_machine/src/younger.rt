@@ -2,7 +2,7 @@
 
 ghost use Rattle.std.specs.Prelude.{◌≡◌, ℕ, ◌+◌, ◌^◌, ◌<◌, ◌≤◌, List, IsTrue, Some, None};
 ghost use Rattle.hm_codes.specs.Listing.{Listing, IsListing};
-ghost use Rattle.hm_machine.specs.Cpus.{config_of, hindered, reached_younger, state_in, IsPosition, Keeps};
+ghost use Rattle.hm_machine.specs.Cpus.{config_of, hindered, reached_younger, state_in, CountsNone, IsPosition, Keeps};
 ghost use Rattle.hm_mem.specs.Memory.{Memory, memory_of, flash_at};
 ghost use Rattle.hm_order.specs.Machine.{Config, did, fault_end, younger};
 ghost use Rattle.hm_rows.specs.Rows.{vector_tree};
@@ -11,19 +11,13 @@ ghost use Rattle.hm_window.specs.Overlap.{first_rule};
 ghost use Rattle.hm_state.specs.State.{State, state_of};
 
 use crate::cpu::{Cpu, beat, vector_at};
+use crate::obstacle::Hindrance;
 use hm_base::Stop;
 use hm_exec::{any, refuse};
 use hm_isa::Vector;
 use hm_regs::Regs;
 use hm_run::Cause;
 use hm_window::{Rule, Window, first_rule};
-
-/// Why a younger step does not go on: its beat stops for taint, or the step breaks a rule of overlap.
-#[derive(Clone, Copy)]
-pub enum Hindrance {
-    Stopped(Cause),
-    Broken(Rule),
-}
 
 /// The first rule that the next beat of `w`, the younger, breaks against `v`, whatever comes of that beat.
 fn overlap_rule(v: &Vector, w: &Vector, at: Window, regs: &Regs) -> Option<Rule>
@@ -74,7 +68,7 @@ fn younger_beat(w: &Vector, x: &mut Cpu) -> Result<(), Hindrance>
     ensures value { (listing : Listing) → let around = (memory_of x.old.mem).around in
         reached_younger result x.new ≡ did (core listing around) (config_of x.old) (((rows around).act w.now x.old.window.b).run (state_in x.old)) }
     ensures kept { Keeps x.old x.new }
-    ensures count { (x.new.retired ≡ x.old.retired) × (x.new.older_steps ≡ x.old.older_steps) }
+    ensures count { CountsNone x.old x.new }
 {
     match beat(w, x.window.b, &mut x.regs, &mut x.mem) {
         Ok(()) => {
@@ -91,7 +85,7 @@ pub fn younger(x: &mut Cpu) -> Result<(), Hindrance>
     ensures value { (listing : Listing) → IsListing (flash_at (memory_of x.old.mem)) listing
         → reached_younger result x.new ≡ younger (core listing (memory_of x.old.mem).around) (config_of x.old) }
     ensures kept { Keeps x.old x.new }
-    ensures count { (x.new.retired ≡ x.old.retired) × (x.new.older_steps ≡ x.old.older_steps) }
+    ensures count { CountsNone x.old x.new }
 {
     let Some(v) = vector_at(&x.mem, x.regs.pc) else {
         return Err(Hindrance::Broken(Rule::NotVector));

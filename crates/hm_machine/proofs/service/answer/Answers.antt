@@ -1,4 +1,4 @@
-use Rattle.std.proofs.Common.{◌≡◌, ◌+◌, ◌<◌, ◌≤◌, ◌++◌, List, ℕ, ap, arith, length, sym, Ok, ◌∙◌}
+use Rattle.std.proofs.Common.{◌≡◌, ◌+◌, ◌<◌, ◌≤◌, List, ℕ, ap, arith, length, sym, Ok, ◌∙◌}
 use Rattle.hm_machine.proofs.Services.{is_full, prints, words_length}
 use Rattle.hm_machine.specs.Services.{asked_by}
 use Rattle.hm_machine.specs.declared.service.Request.{Request}

@@ -1,8 +1,8 @@
-use Rattle.std.proofs.Common.{◌≡◌, ap, ◌∙◌, Result, Err}
+use Rattle.std.proofs.Common.{ap, ◌∙◌, Result, Err}
 use Rattle.hm_machine.specs.Cpus.{config_of, hindered}
 use Rattle.hm_mem.specs.Memory.{memory_of}
-use Rattle.hm_order.specs.Machine.{Config, End, did}
-use Rattle.hm_run.specs.Program.{Stepped, core}
+use Rattle.hm_order.specs.Machine.{End, did}
+use Rattle.hm_run.specs.Program.{core}
 use Rattle.hm_run.specs.declared.Cause.{Cause}
 use Rattle.hm_state.specs.State.{State, state_of}
 use Rattle.hm_window.specs.declared.rule.Rule.{Rule}

@@ -3,7 +3,7 @@ use Rattle.std.proofs.lemmas.Bool.Decides.{nat_tests}
 use Rattle.hm_order.proofs.Results.{decide}
 use Rattle.std.specs.Prelude.{IsSome}
 use Rattle.hm_machine.specs.Shown.{Shown, Shows}
-use Rattle.hm_machine.proofs.Plain.{plain_report, shown_headline, shown_riders}
+use Rattle.hm_machine.proofs.Plain.{plain_report, shown_headline, shown_riders, shown_taint}
 use Rattle.hm_sched.specs.Schedule.{plain, ticks_of}
 use Rattle.hm_machine.proofs.Ticks.{left_below, shows_end, shows_past}
 use Rattle.hm_machine.proofs.machine.Machine.run.Goals as goal
@@ -41,7 +41,10 @@ pub returns-clause-plain : goal.returns-clause-plain
 returns-clause-plain c image n t listing is shows = plain_report image n _ (returns-clause-shows c image (plain n) t shows) listing is
 
 pub returns-clause-headline : goal.returns-clause-headline
-returns-clause-headline c image s t listing is none shows = shown_headline image s _ (returns-clause-shows c image s t shows) listing is
+returns-clause-headline c image s t listing is shows = shown_headline image s _ (returns-clause-shows c image s t shows) listing is
 
 pub returns-clause-riders : goal.returns-clause-riders
-returns-clause-riders c image s t listing is none shows = shown_riders image s _ (returns-clause-shows c image s t shows) listing is
+returns-clause-riders c image s t listing is shows = shown_riders image s _ (returns-clause-shows c image s t shows) listing is
+
+pub returns-clause-taint : goal.returns-clause-taint
+returns-clause-taint c image s t listing is shows = shown_taint image s _ (returns-clause-shows c image s t shows) listing is

@@ -1,0 +1,10 @@
+use Rattle.std.proofs.Common.{ap, sym}
+use Rattle.hm_exc.specs.declared.types.EnterErr.{EnterErr}
+use Rattle.hm_handlers.specs.Entries.{refused}
+use Rattle.hm_machine.specs.Cpus.{config_of}
+use Rattle.hm_state.specs.State.{state_of}
+use Rattle.hm_machine.proofs.tick.refused.Goals as goal
+
+pub returns-in-Vector : goal.returns-in-Vector
+unfolding state_of
+returns-in-Vector c = record { value = sym (ap (λ (w : EnterErr). refused c.args.tick (config_of c.args.x.now) w) c.in-Vector.is) }

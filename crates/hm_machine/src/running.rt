@@ -1,0 +1,243 @@
+//! The steps of what runs: the thread, or the handler of the newest activation.
+
+ghost use Rattle.std.specs.Prelude.{◌≡◌, ◌+◌, ◌^◌, ◌<◌, ◌≤◌, not, List, ◌∷◌, map, IsTrue, OnOk, Ok};
+ghost use Rattle.std.specs.Vec.{vec_capacity};
+ghost use Rattle.hm_codes.specs.Listing.{Listing, IsListing};
+ghost use Rattle.hm_exc.specs.Entry.{newest_first};
+ghost use Rattle.hm_exc.specs.declared.types.Activation.{Activation};
+ghost use Rattle.hm_handlers.specs.Nested.{flows, letter, step, to_end};
+ghost use Rattle.hm_machine.specs.Shown.{interrupted_of};
+ghost use Rattle.hm_machine.specs.Cpus.{config_of, nested_of, returns, state_in, stepped, AreEntered, CountsOne, IsHandler, IsPosition, IsSoundUnderSome, IsSoundUnder, IsUnder, KeepsFlash};
+ghost use Rattle.hm_mem.specs.Memory.{memory_of, flash_at};
+ghost use Rattle.hm_order.specs.Handlers.{Older, Younger};
+ghost use Rattle.hm_run.specs.Program.{most_output, steps_left, vector_of};
+ghost use Rattle.hm_sched.specs.Schedule.{Sched};
+ghost use Rattle.hm_state.specs.State.{State};
+ghost use Rattle.hm_thumb.specs.Families.{is_vector_row};
+
+use crate::cpu::{Cpu, execute, older, vector_at, vector_step};
+use crate::obstacle::{Hindrance, Obstacle};
+use crate::younger::younger;
+use hm_base::Stop;
+use hm_decode::fetch;
+use hm_exc::leave;
+use hm_isa::{Flow, Instr, Vector};
+use hm_run::{Cause, Offence};
+use hm_window::Window;
+
+/// What an instruction that stops is to the machine.
+fn stop_of(cause: Cause) -> Obstacle
+    ensures value { result ≡ Obstacle.Hindered (Hindrance.Stopped cause) }
+{
+    Obstacle::Hindered(Hindrance::Stopped(cause))
+}
+
+/// The handler returns to `value`: what it interrupted goes on, or the first difference is told.
+fn return_to(value: u32, x: &mut Cpu) -> Result<(), Obstacle>
+    requires handler { IsHandler x.old }
+    requires entered { AreEntered x.old }
+    ensures value { (y : Activation) (rest : List Activation) → newest_first x.old.acts ≡ y ∷ rest → stepped result x.new ≡ returns value y rest x.old }
+    ensures moves { KeepsFlash x.old x.new }
+    ensures position { OnOk result (IsPosition x.new) }
+    ensures count { CountsOne x.old x.new }
+{
+    // the packed words are put together again, since each number fits its type
+    x.regs.in_range();
+    match leave(&mut x.regs, &mut x.mem, value, &mut x.acts) {
+        Ok(window) => {
+            x.window = window;
+            Ok(())
+        }
+        Err(broken) => Err(Obstacle::Offends(Offence::Left(broken))),
+    }
+}
+
+/// What a handler's instruction that stood at `pc` and is done comes to.
+fn follow(flow: Flow, pc: u32, x: &mut Cpu) -> Result<(), Obstacle>
+    requires handler { IsHandler x.old }
+    requires entered { AreEntered x.old }
+    ensures value { (before : State) (y : Activation) (rest : List Activation) → before.pc ≡ pc → newest_first x.old.acts ≡ y ∷ rest
+        → stepped result x.new ≡ flows flow (record (config_of x.old) { state = before }) (interrupted_of y) (map interrupted_of rest) (state_in x.old) }
+    ensures moves { KeepsFlash x.old x.new }
+    ensures position { OnOk result (IsPosition x.new) }
+    ensures count { CountsOne x.old x.new }
+{
+    match flow {
+        Flow::Next => {
+            x.window = Window { a: 0, b: 0 };
+            Ok(())
+        }
+        Flow::Break { k: _ } => Err(Obstacle::Offends(Offence::Call { pc })),
+        Flow::Return { value } => return_to(value, x),
+    }
+}
+
+/// A handler's instruction that is no vector row, which stands at the program counter.
+fn handler_other(i: &Instr, x: &mut Cpu) -> Result<(), Obstacle>
+    requires row { IsTrue (not (is_vector_row i.now)) }
+    requires position { IsPosition x.old }
+    requires handler { IsHandler x.old }
+    requires entered { AreEntered x.old }
+    ensures value { (listing : Listing) (s : Sched) → listing x.old.regs.pc ≡ Ok i.now → IsUnder s x.old → stepped result x.new ≡ step listing s Older (nested_of x.old) }
+    ensures moves { KeepsFlash x.old x.new }
+    ensures position { OnOk result (IsPosition x.new) }
+    ensures count { CountsOne x.old x.new }
+{
+    let pc = x.regs.pc;
+    match execute(i, &mut x.regs, &mut x.mem) {
+        Ok(flow) => follow(flow, pc, x),
+        Err(stop) => Err(stop_of(Cause::Stop(stop))),
+    }
+}
+
+/// The next beat of a handler's vector instruction, which stands at the program counter. The thread's steps alone are counted.
+fn handler_beat(v: &Vector, x: &mut Cpu) -> Result<(), Obstacle>
+    requires count { (x.old.retired < 2 ^ 63) × (x.old.older_steps < 2 ^ 63) }
+    requires position { IsPosition x.old }
+    requires handler { IsHandler x.old }
+    requires pc { x.old.regs.pc + 4 < 2 ^ 32 }
+    ensures value { (listing : Listing) (s : Sched) → listing x.old.regs.pc ≡ Ok (Instr.Vector v.now) → IsUnder s x.old
+        → stepped result x.new ≡ step listing s Older (nested_of x.old) }
+    ensures moves { KeepsFlash x.old x.new }
+    ensures position { OnOk result (IsPosition x.new) }
+    ensures count { CountsOne x.old x.new }
+{
+    let (retired, older_steps) = (x.retired, x.older_steps);
+    match vector_step(v, x) {
+        Ok(()) => {
+            x.retired = retired;
+            x.older_steps = older_steps;
+            Ok(())
+        }
+        Err(cause) => Err(stop_of(cause)),
+    }
+}
+
+/// A step of this instruction of a handler, which stands at the program counter.
+fn handler_step(i: &Instr, x: &mut Cpu) -> Result<(), Obstacle>
+    requires count { (x.old.retired < 2 ^ 63) × (x.old.older_steps < 2 ^ 63) }
+    requires position { IsPosition x.old }
+    requires handler { IsHandler x.old }
+    requires entered { AreEntered x.old }
+    requires pc { x.old.regs.pc + 4 < 2 ^ 32 }
+    ensures value { (listing : Listing) (s : Sched) → listing x.old.regs.pc ≡ Ok i.now → IsUnder s x.old → stepped result x.new ≡ step listing s Older (nested_of x.old) }
+    ensures moves { KeepsFlash x.old x.new }
+    ensures position { OnOk result (IsPosition x.new) }
+    ensures count { CountsOne x.old x.new }
+{
+    match i {
+        Instr::Scalar(_) | Instr::Branch(_) => handler_other(i, x),
+        Instr::Vector(v) => handler_beat(v, x),
+    }
+}
+
+/// A step of a handler's older instruction, or the fault where none stands at the program counter.
+fn handler_older(x: &mut Cpu) -> Result<(), Obstacle>
+    requires count { (x.old.retired < 2 ^ 63) × (x.old.older_steps < 2 ^ 63) }
+    requires position { IsPosition x.old }
+    requires handler { IsHandler x.old }
+    requires entered { AreEntered x.old }
+    ensures value { (listing : Listing) (s : Sched) → IsListing (flash_at (memory_of x.old.mem)) listing → IsUnder s x.old
+        → stepped result x.new ≡ step listing s Older (nested_of x.old) }
+    ensures moves { KeepsFlash x.old x.new }
+    ensures position { OnOk result (IsPosition x.new) }
+    ensures count { CountsOne x.old x.new }
+{
+    match fetch(&x.mem, x.regs.pc) {
+        Ok(i) => handler_step(&i, x),
+        Err(fault) => Err(stop_of(Cause::Stop(Stop::Fault(fault)))),
+    }
+}
+
+/// A step of the older instruction of what runs.
+fn older_step(x: &mut Cpu) -> Result<(), Obstacle>
+    requires count { (x.old.retired < 2 ^ 63) × (x.old.older_steps < 2 ^ 63) }
+    requires position { IsPosition x.old }
+    requires room { vec_capacity x.old.output ≡ most_output }
+    requires sound { IsSoundUnderSome x.old }
+    ensures value { (listing : Listing) (s : Sched) → IsListing (flash_at (memory_of x.old.mem)) listing → IsSoundUnder s x.old
+        → stepped result x.new ≡ step listing s Older (nested_of x.old) }
+    ensures sound { (s : Sched) → IsSoundUnder s x.old → OnOk result (IsSoundUnder s x.new) }
+    ensures moves { KeepsFlash x.old x.new }
+    ensures position { OnOk result (IsPosition x.new) }
+    ensures count { CountsOne x.old x.new }
+{
+    if !x.acts.is_empty() {
+        return handler_older(x);
+    }
+    match older(x) {
+        Ok(()) => Ok(()),
+        Err(cause) => Err(stop_of(cause)),
+    }
+}
+
+/// A step of the younger instruction of what runs.
+fn younger_step(x: &mut Cpu) -> Result<(), Obstacle>
+    requires position { IsPosition x.old }
+    ensures value { (listing : Listing) (s : Sched) → IsListing (flash_at (memory_of x.old.mem)) listing → IsSoundUnder s x.old
+        → stepped result x.new ≡ step listing s Younger (nested_of x.old) }
+    ensures sound { (s : Sched) → IsSoundUnder s x.old → OnOk result (IsSoundUnder s x.new) }
+    ensures moves { KeepsFlash x.old x.new }
+    ensures position { OnOk result (IsPosition x.new) }
+    ensures count { CountsOne x.old x.new }
+{
+    match younger(x) {
+        Ok(()) => Ok(()),
+        Err(hindrance) => Err(Obstacle::Hindered(hindrance)),
+    }
+}
+
+/// How many steps the older instruction has left: its beats that are left, or one where it has no beats.
+fn steps_left(x: &Cpu) -> u8
+    requires position { IsPosition x.now }
+    ensures value { (listing : Listing) → IsListing (flash_at (memory_of x.now.mem)) listing
+        → result ≡ steps_left (vector_of (listing x.now.regs.pc)) x.now.window.a }
+    ensures few { result ≤ 4 }
+{
+    match vector_at(&x.mem, x.regs.pc) {
+        Some(_) => 4 - x.window.a,
+        None => 1,
+    }
+}
+
+/// The older instruction of what runs to its end, in at most four steps.
+fn whole(x: &mut Cpu) -> Result<(), Obstacle>
+    requires count { (x.old.retired < 2 ^ 61) × (x.old.older_steps < 2 ^ 61) }
+    requires position { IsPosition x.old }
+    requires room { vec_capacity x.old.output ≡ most_output }
+    requires sound { IsSoundUnderSome x.old }
+    ensures value { (listing : Listing) (s : Sched) → IsListing (flash_at (memory_of x.old.mem)) listing → IsSoundUnder s x.old
+        → stepped result x.new ≡ to_end listing s (nested_of x.old) }
+    ensures sound { (s : Sched) → IsSoundUnder s x.old → OnOk result (IsSoundUnder s x.new) }
+    ensures moves { KeepsFlash x.old x.new }
+    ensures position { OnOk result (IsPosition x.new) }
+    ensures count { (x.new.retired ≤ x.old.retired + 4) × (x.new.older_steps ≤ x.old.older_steps + 4) }
+{
+    let left = steps_left(x);
+    for _k in 0..left {
+        older_step(x)?;
+    }
+    Ok(())
+}
+
+/// What a letter of a schedule does: O is a step of the older instruction, Y one of the younger, and W does the older to its end.
+pub fn letter(l: u8, x: &mut Cpu) -> Result<(), Obstacle>
+    requires count { (x.old.retired < 2 ^ 61) × (x.old.older_steps < 2 ^ 61) }
+    requires position { IsPosition x.old }
+    requires room { vec_capacity x.old.output ≡ most_output }
+    requires sound { IsSoundUnderSome x.old }
+    ensures value { (listing : Listing) (s : Sched) → IsListing (flash_at (memory_of x.old.mem)) listing → IsSoundUnder s x.old
+        → stepped result x.new ≡ letter listing s l (nested_of x.old) }
+    ensures sound { (s : Sched) → IsSoundUnder s x.old → OnOk result (IsSoundUnder s x.new) }
+    ensures moves { KeepsFlash x.old x.new }
+    ensures position { OnOk result (IsPosition x.new) }
+    ensures count { (x.new.retired ≤ x.old.retired + 4) × (x.new.older_steps ≤ x.old.older_steps + 4) }
+{
+    if l == b'O' {
+        return older_step(x);
+    }
+    if l == b'Y' {
+        return younger_step(x);
+    }
+    whole(x)
+}
