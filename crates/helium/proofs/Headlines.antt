@@ -10,9 +10,12 @@ use Rattle.hm_codes.proofs.Unique.{fetched_one}
 use Rattle.hm_elf.specs.Elf.{IsImageFile}
 use Rattle.hm_elf.specs.ReadImage.{image_in}
 use Rattle.hm_elf.proofs.ReadLaws.{image_again}
+use Rattle.hm_handlers.proofs.Lying.{taint_lies}
+use Rattle.hm_handlers.proofs.Quiet.{run_quiet}
+use Rattle.hm_handlers.proofs.Whole.{headline_every, riders_every}
+use Rattle.hm_handlers.specs.Runs.{shown_out}
 use Rattle.hm_host.specs.Host.{FileMap, HostState, longest}
 use Rattle.hm_plain.specs.Orders.{plain_end}
-use Rattle.hm_plain.proofs.Halts.{headline_all, riders_all}
 use Rattle.hm_plain.proofs.Plain.{reports, plain_ends}
 use Rattle.hm_run.specs.declared.Outcome.{Outcome}
 use Rattle.hm_run.specs.Headline.{PlainReport}
@@ -69,13 +72,13 @@ read_for F name bytes memory (file other) s image fits given = record {
 -- what a sound run is to do
 effect-run : (listings : List Segment → Listing) (words : List (List ℕ)) (F : FileMap) (name bytes memory : List ℕ) (source : Source) (image : List Segment) (s : Sched)
     → form_of words ≡ Some (run name source memory) → ReadFor F name bytes memory source s → IsImageFile bytes image → reset_pc image % 2 ≡ 1
-    → effect listings words F ≡ effect_for (reported (timed_out (listings image) image s) memory)
+    → effect listings words F ≡ effect_for (reported (shown_out (listings image) image s) memory)
 effect-run listings words F name bytes memory source image s asked read holds odd =
     ap (λ o. effect_after listings o (reading_of F (reads_for o))) asked
     ∙ ap (effect_after listings (Some (run name source memory))) read.reading
     ∙ ap (λ (r : Result Sched SchedErr). effect_for (run_outcome listings (image_in bytes) r memory)) read.schedule
     ∙ ap (λ (i : Result (List Segment) ImageErr). effect_for (run_outcome listings i (Ok s) memory)) (image_again bytes image holds)
-    ∙ ap (λ o. effect_for (unless_refused o (reported (timed_out (listings image) image s) memory))) (reset_refusal-odd image odd)
+    ∙ ap (λ o. effect_for (unless_refused o (reported (shown_out (listings image) image s) memory))) (reset_refusal-odd image odd)
 
 -- what an effect that was done leaves
 record Left (e : Effect) (F : FileMap) (P : List ℕ) (new : HostState) (s : Status) : Type 0 where
@@ -93,19 +96,20 @@ left e F P old new HostFault h files printed same last = absurd (let rose : _ = 
 left e F P old new NoMemory h files printed same last = inl refl
 
 reported_by : (listing : Listing) (F : FileMap) (P memory : List ℕ) (image : List Segment) (s : Sched) (new : HostState) (status : Status) → IsListing (flash_byte image) listing
-    → Left (effect_for (reported (timed_out listing image s) memory)) F P new status → IsReported F P memory image s new status
+    → Left (effect_for (reported (shown_out listing image s) memory)) F P new status → IsReported F P memory image s new status
 reported_by listing F P memory image s new status is h = record {
-  report = report_text (timed_out listing image s);
-  file = memory_text (timed_out listing image s);
+  report = report_text (shown_out listing image s);
+  file = memory_text (shown_out listing image s);
   printed = h.printed;
   files = h.files;
   headline = λ other are.
       let same = listing_one (flash_byte image) listing other is are in
-      headline_all other image s _ _ (ap (λ l. report_text (timed_out l image s)) same) (ap (λ l. memory_text (timed_out l image s)) same);
-  riders = λ other are. riders_all other image s (length (ticks_of s.lines));
+      headline_every other image s _ _ (ap (λ l. report_text (shown_out l image s)) same) (ap (λ l. memory_text (shown_out l image s)) same);
+  riders = λ other are. riders_every other image s;
+  taint = λ other are. taint_lies other image s (length (ticks_of s.lines));
   ends = λ other are.
       let same = listing_one (flash_byte image) listing other is are in
-      h.ends ∙ ap (λ l. if is_halted (timed_out l image s).outcome then Done else Ended) same;
+      h.ends ∙ ap (λ l. if is_halted (shown_out l image s).outcome then Done else Ended) same;
 }
 
 -- where the host tells its files, what is done is the effect of the words
@@ -118,7 +122,7 @@ pub headline_of : (words : List (List ℕ)) (form : Option Form) (old new : Host
     → ((listings : List Segment → Listing) → AreListings listings → Does listings form old new status) → RunsToHeadline words old new status
 headline_of words form old new status same does = λ F P name memory image s h.
     let listings = some_listings.0 in
-    let x = timed_out (listings image) image s in
+    let x = shown_out (listings image) image s in
     let sound = h.sound in
     let read = read_for F name sound.bytes memory h.source s sound.there sound.short h.given in
     let is = effect-run listings words F name sound.bytes memory h.source image s (form_of-run words name h.source memory h.asked) read sound.holds sound.odd in
@@ -136,6 +140,10 @@ headline_of_none words old new status none = λ F P name memory image s h.
 
 -- ---- instructions in order
 
+-- a plain run has no entries
+plain_shown : (listing : Listing) (image : List Segment) (n : ℕ) → timed_out listing image (plain n) ≡ shown_out listing image (plain n)
+plain_shown listing image n = sym (run_quiet listing image (plain n) (length (ticks_of (plain n).lines)) refl)
+
 -- what a plain run shows, of a fault the first line, is what the instructions in order come to
 shown_in_order : (x : Timed) (y : InOrder) → PlainReport x y → x.outcome ≡ Some (plain_end y) → short_report x ≡ in_order_report y
 shown_in_order x (Running s) report ends = ap (λ (o : Option Outcome). if is_fault o then outcome_line o else report_text x) ends ∙ report
@@ -149,34 +157,42 @@ halted_in_order x (Halted reason k s) ends = ap is_halted ends
 halted_in_order x (Full k s) ends = ap is_halted ends
 halted_in_order x (Faulted kind pc addr k) ends = ap is_halted ends
 
+plainly_shown : (listing : Listing) (image : List Segment) (n : ℕ) → short_report (shown_out listing image (plain n)) ≡ in_order_report (in_order listing image n)
+plainly_shown listing image n =
+    sym (ap short_report (plain_shown listing image n)) ∙ shown_in_order (timed_out listing image (plain n)) (in_order listing image n) (reports listing image n) (plain_ends listing image n)
+
+plainly_halted : (listing : Listing) (image : List Segment) (n : ℕ) → is_halted (shown_out listing image (plain n)).outcome ≡ has_halted (in_order listing image n)
+plainly_halted listing image n =
+    sym (ap (λ (x : Timed). is_halted x.outcome) (plain_shown listing image n)) ∙ halted_in_order (timed_out listing image (plain n)) (in_order listing image n) (plain_ends listing image n)
+
 effect-seq : (listings : List Segment → Listing) (words : List (List ℕ)) (F : FileMap) (name bytes : List ℕ) (image : List Segment) (n : ℕ)
     → form_of words ≡ Some (seq name n) → get F name ≡ Some bytes → length bytes ≤ longest → IsImageFile bytes image → reset_pc image % 2 ≡ 1
-    → effect listings words F ≡ effect_for (told (timed_out (listings image) image (plain n)))
+    → effect listings words F ≡ effect_for (told (shown_out (listings image) image (plain n)))
 effect-seq listings words F name bytes image n asked there short holds odd =
     ap (λ o. effect_after listings o (reading_of F (reads_for o))) asked
     ∙ ap (effect_after listings (Some (seq name n))) (read_one F name bytes there short)
     ∙ ap (λ (i : Result (List Segment) ImageErr). effect_for (seq_outcome listings i n)) (image_again bytes image holds)
-    ∙ ap (λ o. effect_for (unless_refused o (told (timed_out (listings image) image (plain n))))) (reset_refusal-odd image odd)
+    ∙ ap (λ o. effect_for (unless_refused o (told (shown_out (listings image) image (plain n))))) (reset_refusal-odd image odd)
 
 shown_by : (listing : Listing) (F : FileMap) (P : List ℕ) (image : List Segment) (n : ℕ) (new : HostState) (status : Status) → IsListing (flash_byte image) listing
-    → Left (effect_for (told (timed_out listing image (plain n)))) F P new status → IsShownInOrder F P image n new status
+    → Left (effect_for (told (shown_out listing image (plain n)))) F P new status → IsShownInOrder F P image n new status
 shown_by listing F P image n new status is h = record {
   printed = λ other are.
       let same = listing_one (flash_byte image) listing other is are in
-      h.printed ∙ ap (λ l. Some (P ++ short_report (timed_out l image (plain n)))) same
-      ∙ ap (λ (text : List ℕ). Some (P ++ text)) (shown_in_order (timed_out other image (plain n)) (in_order other image n) (reports other image n) (plain_ends other image n));
+      h.printed ∙ ap (λ l. Some (P ++ short_report (shown_out l image (plain n)))) same
+      ∙ ap (λ (text : List ℕ). Some (P ++ text)) (plainly_shown other image n);
   files = h.files;
   ends = λ other are.
       let same = listing_one (flash_byte image) listing other is are in
-      h.ends ∙ ap (λ l. if is_halted (timed_out l image (plain n)).outcome then Done else Ended) same
-      ∙ ap (λ (halted : Bool). if halted then Done else Ended) (halted_in_order (timed_out other image (plain n)) (in_order other image n) (plain_ends other image n));
+      h.ends ∙ ap (λ l. if is_halted (shown_out l image (plain n)).outcome then Done else Ended) same
+      ∙ ap (λ (halted : Bool). if halted then Done else Ended) (plainly_halted other image n);
 }
 
 pub order_of : (words : List (List ℕ)) (form : Option Form) (old new : HostState) (status : Status) → form ≡ form_of words
     → ((listings : List Segment → Listing) → AreListings listings → Does listings form old new status) → RunsInOrder words old new status
 order_of words form old new status same does = λ F P name image n h.
     let listings = some_listings.0 in
-    let x = timed_out (listings image) image (plain n) in
+    let x = shown_out (listings image) image (plain n) in
     let sound = h.sound in
     let is = effect-seq listings words F name sound.bytes image n (form_of-seq words name n h.asked) sound.there sound.short sound.holds sound.odd in
     let done = carries_effect listings form words old new status F (does listings some_listings.1) same sound.files in

@@ -8,9 +8,10 @@ use Rattle.hm_base.specs.declared.errors.ImageErr.{ImageErr}
 use Rattle.hm_base.specs.declared.errors.ImageErr.TheVariants as refusals
 use Rattle.hm_codes.specs.Listing.{Listing}
 use Rattle.hm_elf.specs.ReadImage.{Fails as FailsImage}
+use Rattle.hm_handlers.specs.Runs.{shown_out}
 use Rattle.hm_machine.specs.Shown.{Shown, timed_of}
 use Rattle.hm_run.specs.Report.{report_text, memory_text}
-use Rattle.hm_run.specs.Timed.{Timed, timed_out}
+use Rattle.hm_run.specs.Timed.{Timed}
 use Rattle.hm_sched.specs.Schedule.{Sched, plain}
 use Rattle.hm_sched.specs.ReadFile.{Fails}
 use Rattle.hm_sched.specs.declared.errors.SchedErr.{SchedErr}
@@ -72,11 +73,11 @@ seq_schedule_refused listings image n e stop fails is = gives_at _ stop (schedul
 
 -- a reset, where both are read
 run_with : (listings : List Segment → Listing) (image : Result (List Segment) ImageErr) (i : List Segment) (read : Result Sched SchedErr) (s : Sched) (memory : List ℕ) → image ≡ Ok i → read ≡ Ok s
-    → run_outcome listings image read memory ≡ unless_refused (reset_refusal i) (reported (timed_out (listings i) i s) memory)
+    → run_outcome listings image read memory ≡ unless_refused (reset_refusal i) (reported (shown_out (listings i) i s) memory)
 run_with listings image i read s memory at is =
     ap (λ (x : Result (List Segment) ImageErr). run_outcome listings x read memory) at ∙ ap (λ (x : Result Sched SchedErr). run_outcome listings (Ok i) x memory) is
 
-seq_with : (listings : List Segment → Listing) (image : Result (List Segment) ImageErr) (i : List Segment) (n : ℕ) → image ≡ Ok i → seq_outcome listings image n ≡ unless_refused (reset_refusal i) (told (timed_out (listings i) i (plain n)))
+seq_with : (listings : List Segment → Listing) (image : Result (List Segment) ImageErr) (i : List Segment) (n : ℕ) → image ≡ Ok i → seq_outcome listings image n ≡ unless_refused (reset_refusal i) (told (shown_out (listings i) i (plain n)))
 seq_with listings image i n at = ap (λ (x : Result (List Segment) ImageErr). seq_outcome listings x n) at
 
 reset_by : (o other : Outcome) (i : List Segment) (s : Sched) (stop : Stop) → o ≡ unless_refused (reset_refusal i) other → RunsToEnd i s (Err stop) → Gives o (Err stop)
@@ -105,7 +106,7 @@ pub run_comes : (listings : List Segment → Listing) (image : Result (List Segm
 run_comes listings image i read s memory m done file report are at is over odd halts file_is report_is =
     let texts : finishes done (Some (memory, file)) (Some report) ≡ reported (timed_of m) memory = rw (halts, file_is, report_is) refl in
     texts ∙ ap (λ (x : Timed). reported x memory) (over.shows (listings i) (are.at i))
-    ∙ sym (run_with listings image i read s memory at is ∙ ap (λ (o : Option Refusal). unless_refused o (reported (timed_out (listings i) i s) memory)) odd)
+    ∙ sym (run_with listings image i read s memory at is ∙ ap (λ (o : Option Refusal). unless_refused o (reported (shown_out (listings i) i s) memory)) odd)
 
 pub seq_comes : (listings : List Segment → Listing) (image : Result (List Segment) ImageErr) (i : List Segment) (n : ℕ) (m : Shown) (done : Bool) (report : List ℕ)
     → AreListings listings → image ≡ Ok i → IsOver i (plain n) m → reset_refusal i ≡ None
@@ -114,4 +115,4 @@ pub seq_comes : (listings : List Segment → Listing) (image : Result (List Segm
 seq_comes listings image i n m done report are at over odd halts report_is =
     let texts : finishes done None (Some report) ≡ told (timed_of m) = rw (halts, report_is) refl in
     texts ∙ ap told (over.shows (listings i) (are.at i))
-    ∙ sym (seq_with listings image i n at ∙ ap (λ (o : Option Refusal). unless_refused o (told (timed_out (listings i) i (plain n)))) odd)
+    ∙ sym (seq_with listings image i n at ∙ ap (λ (o : Option Refusal). unless_refused o (told (shown_out (listings i) i (plain n)))) odd)

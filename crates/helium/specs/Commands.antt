@@ -4,8 +4,9 @@ use Rattle.hm_base.specs.Image.{Segment, flash_byte}
 use Rattle.hm_base.specs.declared.errors.ImageErr.{ImageErr}
 use Rattle.hm_codes.specs.Listing.{Listing, IsListing}
 use Rattle.hm_elf.specs.ReadImage.{image_in}
+use Rattle.hm_handlers.specs.Runs.{shown_out}
 use Rattle.hm_run.specs.Report.{report_text, memory_text}
-use Rattle.hm_run.specs.Timed.{Timed, timed_out}
+use Rattle.hm_run.specs.Timed.{Timed}
 use Rattle.hm_sched.specs.Schedule.{Sched, plain}
 use Rattle.hm_sched.specs.declared.errors.SchedErr.{SchedErr}
 use Rattle.helium.specs.declared.work.Refusal.{Refusal}
@@ -31,7 +32,7 @@ unless_refused None outcome = outcome
 abbrev pub run_outcome : (List Segment → Listing) → Result (List Segment) ImageErr → Result Sched SchedErr → List ℕ → Outcome
 run_outcome listings (Err e) schedule memory = refuses (Image e)
 run_outcome listings (Ok image) (Err e) memory = refuses (Schedule e)
-run_outcome listings (Ok image) (Ok s) memory = unless_refused (reset_refusal image) (reported (timed_out (listings image) image s) memory)
+run_outcome listings (Ok image) (Ok s) memory = unless_refused (reset_refusal image) (reported (shown_out (listings image) image s) memory)
 
 -- a plain run of n ticks, whose report is printed, of a fault the first line alone
 abbrev pub told : Timed → Outcome
@@ -39,7 +40,7 @@ told x = finishes (is_halted x.outcome) None (Some (short_report x))
 
 abbrev pub seq_outcome : (List Segment → Listing) → Result (List Segment) ImageErr → ℕ → Outcome
 seq_outcome listings (Err e) n = refuses (Image e)
-seq_outcome listings (Ok image) n = unless_refused (reset_refusal image) (told (timed_out (listings image) image (plain n)))
+seq_outcome listings (Ok image) n = unless_refused (reset_refusal image) (told (shown_out (listings image) image (plain n)))
 
 -- by the contents of the files that are read, in order
 abbrev pub outcome_of : (List Segment → Listing) → Form → List (List ℕ) → Outcome

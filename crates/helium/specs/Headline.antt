@@ -4,10 +4,11 @@ use Rattle.std.specs.FinMap.{get, insert}
 use Rattle.hm_base.specs.Image.{Segment, flash_byte}
 use Rattle.hm_codes.specs.Listing.{Listing, IsListing}
 use Rattle.hm_elf.specs.Elf.{IsImageFile}
+use Rattle.hm_handlers.specs.Runs.{run_out, shown_out}
+use Rattle.hm_handlers.specs.Taint.{TaintLies}
 use Rattle.hm_host.specs.Host.{FileMap, HostState, longest}
 use Rattle.hm_run.specs.Headline.{Headline, Riders}
 use Rattle.hm_run.specs.InOrder.{InOrder, Running, Halted, Full, Faulted, in_order, in_order_report}
-use Rattle.hm_run.specs.Timed.{timed_out}
 use Rattle.hm_sched.specs.Schedule.{Sched, plain}
 use Rattle.hm_sched.specs.Written.{IsFile}
 use Rattle.hm_state.specs.Start.{reset_pc}
@@ -47,9 +48,11 @@ pub record IsReported (F : FileMap) (P memory : List ℕ) (image : List Segment)
   pub file : List ℕ
   pub printed : new.printed ≡ Some (P ++ report)
   pub files : new.files ≡ Some (insert F memory file)
-  pub headline : (listing : Listing) → IsListing (flash_byte image) listing → Headline listing image (timed_out listing image s) report file
-  pub riders : (listing : Listing) → IsListing (flash_byte image) listing → Riders listing image (timed_out listing image s)
-  pub ends : (listing : Listing) → IsListing (flash_byte image) listing → status ≡ (if is_halted (timed_out listing image s).outcome then Done else Ended)
+  pub headline : (listing : Listing) → IsListing (flash_byte image) listing → Headline listing image (shown_out listing image s) report file
+  pub riders : (listing : Listing) → IsListing (flash_byte image) listing → Riders listing image (shown_out listing image s)
+  -- after the run every tainted byte lies in the region, or from the floor up and below the stack pointer at one of the entries
+  pub taint : (listing : Listing) → IsListing (flash_byte image) listing → TaintLies s (run_out listing image s).entries (shown_out listing image s).config.state
+  pub ends : (listing : Listing) → IsListing (flash_byte image) listing → status ≡ (if is_halted (shown_out listing image s).outcome then Done else Ended)
 
 -- each such run is reported, unless memory was wanted
 abbrev pub RunsToHeadline : List (List ℕ) → HostState → HostState → Status → Type 0

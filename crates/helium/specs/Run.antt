@@ -2,13 +2,14 @@
 use Rattle.std.specs.Prelude.{◌≡◌, ℕ, ◌%◌, Bool, true, false, List, Option, Some, None, nat_eq, if◌then◌else◌, Result, Ok, Err}
 use Rattle.hm_base.specs.Image.{Segment, flash_byte}
 use Rattle.hm_codes.specs.Listing.{Listing, IsListing}
+use Rattle.hm_handlers.specs.Runs.{shown_out}
 use Rattle.hm_machine.specs.Shown.{Shown, timed_of}
 use Rattle.hm_machine.specs.declared.load.LoadErr.{LoadErr}
 use Rattle.hm_machine.specs.declared.load.LoadErr.TheVariants as load
 use Rattle.hm_run.specs.declared.Outcome.{Outcome}
 use Rattle.hm_run.specs.declared.Outcome.TheVariants as outcome
 use Rattle.hm_run.specs.Report.{outcome_line, report_text}
-use Rattle.hm_run.specs.Timed.{Timed, timed_out}
+use Rattle.hm_run.specs.Timed.{Timed}
 use Rattle.hm_sched.specs.Schedule.{Sched, plain}
 use Rattle.hm_sched.specs.ReadFile.{file_in}
 use Rattle.hm_sched.specs.declared.errors.SchedErr.{SchedErr}
@@ -36,7 +37,7 @@ schedule_in (file name) text = file_in text
 
 -- a machine that shows a run to its end
 pub record IsOver (image : List Segment) (s : Sched) (m : Shown) : Type 0 where
-  pub shows : (listing : Listing) → IsListing (flash_byte image) listing → timed_of m ≡ timed_out listing image s
+  pub shows : (listing : Listing) → IsListing (flash_byte image) listing → timed_of m ≡ shown_out listing image s
 
 -- a run to its end, where the image is not refused by a reset
 abbrev pub RunsToEnd : List Segment → Sched → Result Shown Stop → Type 0

@@ -345,6 +345,33 @@ fn runs_under_files(rt: HostRuntime) -> Result<(), Fail> {
     Ok(())
 }
 
+/// The stack pointer 20010000, the first instruction at 44 and the vector of interrupt 0 at 56; from 44 on ldr r1,enabled; movs r2,#1; str r2,[r1,#0]; nop; vldrw.u32 q0,[r0];
+/// vadd.i32 q1,q0,q2; bkpt #0; handler: bx lr; enabled: the word e000e100.
+const INTERRUPTED: &[u8] =
+    b"\x00\x00\x01\x20\x45\x00\x00\x00\x00\x00\x00\x00\x00\x00\x00\x00\x00\x00\x00\x00\x00\x00\x00\x00\x00\x00\x00\x00\x00\x00\x00\x00\x00\x00\x00\x00\x00\x00\x00\x00\x00\x00\x00\x00\x00\x00\x00\x00\x00\x00\x00\x00\x00\x00\x00\x00\x00\x00\x00\x00\x00\x00\x00\x00\x57\x00\x00\x00\x04\x49\x01\x22\x0a\x60\x00\xbf\x90\xed\x00\x1f\x20\xef\x44\x28\x00\xbe\x70\x47\x00\xe1\x00\xe0";
+
+#[test]
+fn interrupt_under_a_file(rt: HostRuntime) -> Result<(), Fail> {
+    let alloc = rt.alloc();
+    let text =
+        b"helium-schedule 1\nentries yes\nregion 20000000 20000000\nfloor 20000000\n4*W\nOO\nOY irq 0\nW\n2*OO\nW\n";
+    let mut outside = host(alloc, INTERRUPTED, text, &[])?;
+    assert_eq!(rt; run(alloc, "s", &mut outside)?, Status::Done);
+    let lines: [&[u8]; 3] = [
+        b"outcome halted break 0 after 7",
+        b"mode thread",
+        b"q1 20010000 00000045 00000000 00000000",
+    ];
+    assert!(rt; has_lines(outside.printed(), &lines));
+    let file = outside.file("b").ok_or("no file b")?;
+    // the frame's 104 bytes from 2000ff98 are tainted, and no others
+    let frame = file.get(0x4_1ff3..0x4_2000).ok_or("no taint")?;
+    assert!(rt; frame.iter().all(|bits| *bits == 0xff));
+    assert_eq!(rt; file.get(0x4_1ff2), Some(&0));
+    assert_eq!(rt; file.get(0x4_2000), Some(&0));
+    Ok(())
+}
+
 #[test]
 fn overlaps_as_in_order(rt: HostRuntime) -> Result<(), Fail> {
     let alloc = rt.alloc();
@@ -393,7 +420,7 @@ fn refuses_schedules(rt: HostRuntime) -> Result<(), Fail> {
         (
             FIRST,
             b"helium-schedule 1\n",
-            b"entries yes\n",
+            b"entries on\n",
             b"helium: refused schedule line 2 entries\n",
         ),
         // The image is refused before the schedule, and the schedule before a reset.
