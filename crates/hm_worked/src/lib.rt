@@ -1,6 +1,8 @@
-//! Tests that cross crates: runs of the machine, from the bytes of an image to the report, the memory map, touched places, and the rules of overlap.
+//! Tests that cross crates: runs of the machine, with interrupts too, from the bytes of an image to the report, the memory map, touched places, and the rules of overlap.
 #![tactic(auto)]
 
+#[cfg(test)]
+mod interrupts;
 #[cfg(test)]
 mod memory;
 #[cfg(test)]

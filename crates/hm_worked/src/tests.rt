@@ -490,7 +490,7 @@ fn first_schedule(alloc: Global) -> Schedule {
 }
 
 /// Whether a report has all of these lines.
-fn has_lines(report: &[u8], lines: &[&str]) -> bool {
+pub fn has_lines(report: &[u8], lines: &[&str]) -> bool {
     lines.iter().all(|line| report
         .split(|byte| *byte == b'\n')
         .any(|piece| piece == line.as_bytes()))
