@@ -180,7 +180,7 @@ one_column form text c d r s =
 
 -- ---- a token is no empty text
 
-run_le : (class : Class) (text : List ℕ) → length (run class text).1 ≤ length text
+pub run_le : (class : Class) (text : List ℕ) → length (run class text).1 ≤ length text
 unfolding run
 run_le class [] = omega arith
 run_le class (b ∷ bs) =

@@ -4,3 +4,4 @@ pub mod Steps
 pub mod Texts
 pub mod Sources
 pub mod Labels
+pub mod Columns

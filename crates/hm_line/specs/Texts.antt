@@ -41,3 +41,8 @@ refusal_column text rest = if length (skip rest) == 0 then column text rest else
 abbrev pub IsRefused : Form → List ℕ → ℕ → Type 0
 IsRefused form text c =
     (ts : List Spaced) × (rest : List ℕ) × IsFront form text ts rest × (skip rest ≡ [] → IsForm form ts → ⊥) × (c ≡ refusal_column text rest)
+
+-- THE LAST TOKEN
+-- the last token of a text begins behind the spaces here: there are tokens before it, and spaces behind it
+abbrev pub IsLast : List ℕ → List ℕ → Type 0
+IsLast text here = (ts : List Spaced) × (t : Spaced) × (rest : List ℕ) × AreTokens text ts here × (next here ≡ Some (t, rest)) × (skip rest ≡ [])

@@ -1,7 +1,8 @@
 //! Reading the form of a text.
 
-ghost use Rattle.std.specs.Prelude.{◌≡◌, ◌≤◌, ◌↔◌, ℕ, length, nat_lt, MatchResult, IsOk, Err};
-ghost use Rattle.hm_line.specs.Texts.{column, IsOfForm, IsRefused};
+ghost use Rattle.std.specs.Prelude.{◌≡◌, ◌≤◌, ◌↔◌, ℕ, List, length, nat_lt, MatchResult, IsOk, Err};
+ghost use Rattle.hm_line.specs.Texts.{column, IsLast, IsOfForm, IsRefused};
+ghost use Rattle.hm_tokens.specs.Tokens.{skip};
 
 use crate::form::{Form, State, is_end, step};
 use hm_tokens::{skip, token_at};
@@ -21,7 +22,7 @@ pub fn column(text: &[u8], rest: &[u8]) -> u32
 
 /// Whether a space stands at the front of a text, of which this stands behind its spaces.
 fn stands_apart(text: &[u8], here: &[u8]) -> bool
-    ensures { result ≡ nat_lt (length here.now) (length text.now) }
+    ensures value { result ≡ nat_lt (length here.now) (length text.now) }
 {
     here.len() < text.len()
 }
@@ -59,4 +60,21 @@ pub fn check_form(form: Form, text: &[u8]) -> Result<(), u32>
     ensures refused { (c : ℕ) → (IsRefused form text.now c ↔ (result ≡ Err c)) }
 {
     follow(form, text)
+}
+
+/// The column of the last token of a text, from 1. That is the column of a label, which is an instruction's last operand.
+pub fn last_column(text: &[u8]) -> u32
+    ensures value { (here : List ℕ) → IsLast text.now here → result ≡ column text.now (skip here) }
+{
+    let mut rest = text;
+    loop {
+        let here = skip(rest);
+        let Some((_token, after)) = token_at(here) else {
+            return column(text, here);
+        };
+        if skip(after).is_empty() {
+            return column(text, here);
+        }
+        rest = after;
+    }
 }

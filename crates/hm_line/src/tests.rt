@@ -149,6 +149,37 @@ fn refuses_texts_that_end_early_behind_their_last_token(rt: HostRuntime) {
 }
 
 #[test]
+fn tells_where_the_last_token_stands(rt: HostRuntime) {
+    let rows: [(&[u8], u32); 5] = [
+        (b" b nowhere", 4),
+        (b"ldr r0, x  ", 9),
+        (b"cbz r0,0x10", 8),
+        (b"  nop", 3),
+        (b"ldr r0,[r1]", 11),
+    ];
+    for (text, column) in rows {
+        assert_eq!(rt; last_column(text), column, "in {text:?}");
+    }
+}
+
+#[test]
+fn tells_where_operands_stand(rt: HostRuntime) {
+    let rows: [(&[u8], u32, Option<u32>); 8] = [
+        (b".word a, b+4,-1", 0, Some(7)),
+        (b".word a, b+4,-1", 1, Some(10)),
+        (b".word a, b+4,-1", 2, Some(14)),
+        (b".word a, b+4,-1", 3, None),
+        (b" ldrd r0,r1,[r2,#4],r3", 2, Some(13)),
+        (b" ldrd r0,r1,[r2,#4],r3", 3, Some(21)),
+        (b"ldm r0!,{r1,r2},5", 2, Some(17)),
+        (b"  ", 0, None),
+    ];
+    for (text, n, column) in rows {
+        assert_eq!(rt; operand_column(text, n), column, "in {text:?}");
+    }
+}
+
+#[test]
 fn takes_lines(rt: HostRuntime) {
     let lines: [&[u8]; 13] = [
         b"",

@@ -90,7 +90,7 @@ row_law (instr.Vector i) e = absurd (two_halves_not e)
 -- ---- printed
 
 -- a row has a target where it has a label
-abbrev IsGiven : Bool → Option ℕ → Type 0
+abbrev pub IsGiven : Bool → Option ℕ → Type 0
 IsGiven true (Some a) = a < 2 ^ 32
 IsGiven true None = ⊥
 IsGiven false (Some a) = ⊥
@@ -148,7 +148,7 @@ given_branch (branch.T16 i) pc = tt
 given_branch (branch.T17 i) pc = tt
 given_branch (branch.T23 i) pc = tt
 
-given_target : (i : Instr) (pc : ℕ) → IsGiven (has_label i) (target i pc)
+pub given_target : (i : Instr) (pc : ℕ) → IsGiven (has_label i) (target i pc)
 given_target (instr.Scalar i) pc = given_scalar i pc
 given_target (instr.Branch i) pc = given_branch i pc
 given_target (instr.Vector i) pc = tt
@@ -162,7 +162,7 @@ record Again (b : Bool) (row : List Tok) (o : Option ℕ) (text : List ℕ) (lab
   has : cond b (row ++ label ∷ []) row ≡ normal tokens
   names : NamesTarget labels label o
 
-abbrev shown : List Tok → Option ℕ → List ℕ
+abbrev pub shown : List Tok → Option ℕ → List ℕ
 shown row (Some a) = printed_at row a
 shown row None = printed row
 
@@ -192,7 +192,7 @@ again_of false row None labels p given = record {
   names = tt;
 }
 
-shown_is : (i : Instr) (o : Option ℕ) → text_of i o ≡ shown (row_tokens i) o
+pub shown_is : (i : Instr) (o : Option ℕ) → text_of i o ≡ shown (row_tokens i) o
 shown_is i (Some a) = refl
 shown_is i None = refl
 

@@ -1,13 +1,13 @@
 use super::*;
-use hm_tokens::read_line;
+use hm_tokens::read_tokens;
 
 /// The row that a text is one of where it stands at `pc` and its label names `address`.
 fn row_of_text(text: &[u8], pc: u32, address: u32) -> Option<Instr> {
-    let tokens = read_line(text)?;
+    let tokens = read_tokens(text)?;
     read16(tokens.as_slice(), pc, address)
 }
 
-/// Whether a row prints its text and is read from it; the code is another assembler's.
+/// Whether the row of a code prints this text, and is read from it.
 fn is_right(text: &str, code: u16, pc: u32) -> bool {
     match decode16(code) {
         Some(i) => {
@@ -146,7 +146,7 @@ fn blocks(rt: HostRuntime) {
     assert_eq!(rt; first_wrong(&table), None);
 }
 
-/// The first text that is not printed of its code's row at its address, or not read as it.
+/// The first text that is not printed of its code's row at its address, or not read as it; the codes were worked out by hand.
 fn first_wrong_target(table: &[(&'static str, u16, u32)]) -> Option<&'static str> {
     for (text, code, pc) in table {
         if !is_right(text, *code, *pc) {
@@ -186,7 +186,7 @@ fn labels(rt: HostRuntime) {
 
 /// Whether some row has this text, and the last token of one with a label.
 fn shape_of_text(text: &[u8]) -> Option<Option<Token<'_>>> {
-    let tokens = read_line(text)?;
+    let tokens = read_tokens(text)?;
     match shape16(tokens.as_slice()) {
         Some(shape) => Some(shape.label),
         None => None,

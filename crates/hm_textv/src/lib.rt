@@ -22,7 +22,7 @@ use arrayvec::ArrayString;
 use codes::code_in;
 use hm_encv::decodev;
 use hm_isa::Vector;
-use hm_tokens::{Token, read_line};
+use hm_tokens::{Token, read_tokens};
 use rows::row_text;
 use texts::is_text_of;
 
@@ -60,7 +60,7 @@ pub fn parse_v(text: &[u8]) -> Option<Vector>
     ensures found { IfSome result (IsTextOf text.now) }
     ensures only { (v : Vector) → IsTextOf text.now v → result ≡ Some v }
 {
-    let tokens = read_line(text)?;
+    let tokens = read_tokens(text)?;
     row_of(tokens.as_slice())
 }
 

@@ -1,7 +1,8 @@
 use super::*;
 use hm_encv::encodev;
 
-/// The first text that is not printed of its code's row, or not read as it; each code is another assembler's.
+/// The first text that is not printed of its code's row, or not read as it. The codes are another assembler's, but for those of
+/// `vldrb.u8 q1,[r1],#-0` and `vst20.8 {q0,q1},[sp]!`, which were worked out by hand.
 fn first_wrong(table: &[(&'static str, u32)]) -> Option<&'static str> {
     for (text, code) in table {
         if !is_right(text, *code) {

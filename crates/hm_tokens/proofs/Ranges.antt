@@ -1,11 +1,13 @@
 -- Tokens without `-` have no ranges.
-use Rattle.std.proofs.Common.{◌≡◌, ℕ, zero, suc, ◌+◌, ◌-◌, ◌<◌, Bool, true, false, List, [], ◌∷◌, ◌++◌, length, refl, sym, subst, ap, ◌∙◌, append_assoc, arith}
+use Rattle.std.proofs.Common.{◌≡◌, ℕ, zero, suc, ◌+◌, ◌-◌, ◌<◌, ◌≤◌, Bool, cond, true, false, List, [], ◌∷◌, ◌++◌, length, refl, sym, subst, ap, ◌∙◌, append_assoc, arith}
 use Rattle.std.specs.Prelude.{IfSome, Option, Some, None, ◌&&◌, not}
 use Rattle.std.specs.List.{list_all}
-use Rattle.std.proofs.lemmas.Bool.{and_parts}
+use Rattle.std.proofs.lemmas.Bool.{and_parts, false≢true}
+use Rattle.std.proofs.lemmas.Bool.Decides.{nat_tests}
+use Rattle.std.proofs.lemmas.List.{length-append}
 use Rattle.hm_tokens.specs.Names.{register_name}
 use Rattle.hm_tokens.specs.Tokens.{Tok, word, mark}
-use Rattle.hm_tokens.specs.Ranges.{is_inside, is_rising, is_the_mark, last_register, normal, register_of, rising, singles}
+use Rattle.hm_tokens.specs.Ranges.{is_inside, is_rising, is_the_mark, last_register, normal, range_tokens, register_of, rising, singles}
 
 abbrev pub has_no_ranges : List Tok → Bool
 has_no_ranges ts = list_all (λ t. not (is_the_mark 45 t)) ts
@@ -63,3 +65,37 @@ rising_pushed None old a b c w k n lt name ea eb ec = tt
 pub rising_longer : {A : Type 0} (r : Option A) (old a b c k n : ℕ) → 0 < n → a ≡ old + 1 → b ≡ a + 1 → IfSome r (λ x. c ≡ b + length (rising (k + 1) (n - 1))) → IfSome r (λ x. c ≡ old + length (rising k n))
 rising_longer (Some x) old a b c k n lt ea eb ec = let e = rising_length k n lt in omega (arith, e, ea, eb, ec)
 rising_longer None old a b c k n lt ea eb ec = tt
+
+-- single registers are no fewer tokens
+rising_some : (k n : ℕ) → 1 ≤ length (rising k n)
+unfolding rising
+rising_some k zero = omega arith
+rising_some k (suc n) = omega arith
+
+range_some : (first last : Option ℕ) → is_rising first last ≡ true → 3 ≤ length (range_tokens first last)
+range_some (Some k) (Some j) e =
+    let lt : k < j = grind (arith, nat_tests, e) in
+    let whole = rising_length k (j - k) (omega arith) in
+    let rest = rising_some (k + 1) (j - k - 1) in
+    omega (arith, whole, rest)
+range_some (Some k) None e = absurd (false≢true e)
+range_some None last e = absurd (false≢true e)
+
+no_fewer : (b : Bool) (range behind single : List Tok) (t : Tok) (n : ℕ) → (b ≡ true → 3 ≤ length range) → n ≤ length behind + 2 → n ≤ length single → suc n ≤ length (cond b (range ++ behind) (t ∷ single))
+no_fewer true range behind single t n some le others = let three = some refl in omega (arith, three, le, length-append range behind)
+no_fewer false range behind single t n some le others = omega (arith, others)
+
+pub singles_no_fewer : (ts : List Tok) (over : ℕ) (inside : Bool) → length ts ≤ length (singles over inside ts) + over
+unfolding singles
+singles_no_fewer [] over inside = omega arith
+singles_no_fewer (t ∷ ts) zero inside =
+    let single = singles_no_fewer ts 0 (is_inside inside t) in
+    let whole : suc (length ts) ≤ length (singles zero inside (t ∷ ts)) =
+    no_fewer (inside && is_rising (register_of t) (last_register ts)) (range_tokens (register_of t) (last_register ts)) (singles 2 inside ts) (singles 0 (is_inside inside t) ts) t (length ts)
+    (λ e. range_some (register_of t) (last_register ts) (and_parts inside (is_rising (register_of t) (last_register ts)) e).1)
+    (singles_no_fewer ts 2 inside) (omega (arith, single)) in
+    omega (arith, whole)
+singles_no_fewer (t ∷ ts) (suc over) inside = let le = singles_no_fewer ts over inside in omega (arith, le)
+
+pub normal_no_fewer : (ts : List Tok) → length ts ≤ length (normal ts)
+normal_no_fewer ts = let le = singles_no_fewer ts 0 false in omega (arith, le)

@@ -8,7 +8,7 @@ mod names;
 mod text;
 mod token;
 
-pub use line::{Tokens, read_line};
+pub use line::{Tokens, read_tokens};
 pub use lists::single_registers;
 pub use marks::Mark;
 pub use names::{

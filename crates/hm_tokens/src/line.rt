@@ -14,7 +14,7 @@ pub type Tokens<'a> = ArrayVec<Token<'a>, 40>;
 
 /// The tokens of a text behind a first one.
 fn more_tokens<'a>(first: Token<'a>, text: &'a [u8]) -> Option<Tokens<'a>>
-    ensures { ReadsSome (λ v. map tok v.items) result (option_map (λ ts. tok first.entry ∷ ts) (tokens_from 39 text.entry.now)) }
+    ensures read { ReadsSome (λ v. map tok v.items) result (option_map (λ ts. tok first.entry ∷ ts) (tokens_from 39 text.entry.now)) }
 {
     let mut tokens = ArrayVec::new();
     tokens.push(first);
@@ -32,7 +32,7 @@ fn more_tokens<'a>(first: Token<'a>, text: &'a [u8]) -> Option<Tokens<'a>>
 
 /// Whether a text is empty or begins with a space.
 fn is_gap(rest: &[u8]) -> bool
-    ensures { result ≡ is_gap rest.now }
+    ensures value { result ≡ is_gap rest.now }
 {
     rest.is_empty() || rest[0] == b' '
 }
@@ -40,7 +40,7 @@ fn is_gap(rest: &[u8]) -> bool
 /// The tokens of a text, where they are at most 40 and the first stands apart.
 #[tactic(auto, unfolding(crate::specs::Steps::line_in))]
 fn line_tokens(text: &[u8]) -> Option<Tokens<'_>>
-    ensures { ReadsSome (λ v. map tok v.items) result (line_in text.now) }
+    ensures read { ReadsSome (λ v. map tok v.items) result (line_in text.now) }
 {
     let (first, after) = token_at(skip(text))?;
     if !is_gap(after) {
@@ -51,7 +51,7 @@ fn line_tokens(text: &[u8]) -> Option<Tokens<'_>>
 
 /// The tokens of a line: None where its bytes are no tokens, where no space stands behind the first and
 /// something else does, and where there are more than 40.
-pub fn read_line(text: &[u8]) -> Option<Tokens<'_>>
+pub fn read_tokens(text: &[u8]) -> Option<Tokens<'_>>
     ensures found { IfSome result (λ v. IsLineOf text.now (map tok v.items)) }
     ensures only { (ts : List Tok) → IsLineOf text.now ts → length ts ≤ 40 → option_map (λ v. map tok v.items) result ≡ Some ts }
 {

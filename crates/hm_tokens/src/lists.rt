@@ -23,7 +23,7 @@ fn register_of(token: Token<'_>) -> Option<u32>
 
 /// Whether a token is `-`.
 fn is_minus(token: Token<'_>) -> bool
-    ensures { result ≡ is_the_mark 45 (tok token.entry) }
+    ensures value { result ≡ is_the_mark 45 (tok token.entry) }
 {
     match token {
         Token::Mark(mark) => mark == Mark::Minus,
@@ -67,7 +67,7 @@ fn range(token: Token<'_>, rest: &[Token<'_>]) -> Option<(u32, u32)>
 
 /// Whether what stands behind a token stands in braces.
 fn is_inside(inside: bool, token: Token<'_>) -> bool
-    ensures { result ≡ is_inside inside (tok token.entry) }
+    ensures value { result ≡ is_inside inside (tok token.entry) }
 {
     match token {
         Token::Mark(Mark::OpenBrace) => true,

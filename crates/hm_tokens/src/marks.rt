@@ -31,7 +31,7 @@ pub enum Mark {
 impl Mark {
     /// The mark that a byte is.
     pub fn of(c: u8) -> Option<Mark>
-        ensures { option_map mark_byte result ≡ (if is_mark c then Some c else None) }
+        ensures value { option_map mark_byte result ≡ (if is_mark c then Some c else None) }
     {
         match c {
             b':' => Some(Mark::Colon),
@@ -50,7 +50,7 @@ impl Mark {
 
     /// How it is written.
     pub fn text(self) -> &'static str
-        ensures { result.now ≡ mark_byte self ∷ [] }
+        ensures text { result.now ≡ mark_byte self ∷ [] }
     {
         match self {
             Mark::Colon => ":",

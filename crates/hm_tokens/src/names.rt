@@ -141,14 +141,14 @@ pub fn read_condition(name: &[u8]) -> Option<u32>
 
 /// Whether a byte is a letter or `_`.
 fn is_letter(c: u8) -> bool
-    ensures { result ≡ is_letter c }
+    ensures value { result ≡ is_letter c }
 {
     matches!(c, b'a'..=b'z' | b'_')
 }
 
 /// Whether bytes are letters, digits and `_`.
 fn are_name_bytes(bytes: &[u8]) -> bool
-    ensures { result ≡ are_name_bytes bytes.now }
+    ensures value { result ≡ are_name_bytes bytes.now }
 {
     match bytes {
         [] => true,
@@ -158,7 +158,7 @@ fn are_name_bytes(bytes: &[u8]) -> bool
 
 /// Whether a word is a name: it begins with a letter or `_` and goes on with these and digits.
 fn is_name(word: &[u8]) -> bool
-    ensures { result ≡ is_name word.now }
+    ensures value { result ≡ is_name word.now }
 {
     match word {
         [] => false,
@@ -168,7 +168,7 @@ fn is_name(word: &[u8]) -> bool
 
 /// Whether a name is that of a half of a vector register, as lists of `vpush` and `vpop` have them.
 fn is_half(name: &[u8]) -> bool
-    ensures { result ≡ is_half name.now }
+    ensures value { result ≡ is_half name.now }
 {
     matches!(
         name,
@@ -193,7 +193,7 @@ fn is_half(name: &[u8]) -> bool
 
 /// Whether a name is that of a register or a condition.
 fn is_reserved(name: &[u8]) -> bool
-    ensures { result ≡ is_reserved name.now }
+    ensures value { result ≡ is_reserved name.now }
 {
     if read_register(name).is_some() {
         return true;

@@ -3,7 +3,7 @@ use arrayvec::ArrayVec;
 
 /// Whether a text has these tokens.
 fn reads(text: &[u8], tokens: &[Token<'_>]) -> bool {
-    match read_line(text) {
+    match read_tokens(text) {
         Some(line) => line.as_slice() == tokens,
         None => false,
     }
@@ -76,8 +76,8 @@ fn cuts_texts_into_tokens(rt: HostRuntime) {
 #[test]
 fn reads_forty_tokens(rt: HostRuntime) {
     let forty = b"m ,,,,,,,,,,,,,,,,,,,,,,,,,,,,,,,,,,,,,,,";
-    assert!(rt; read_line(forty).is_some_and(|line| line.len() == 40));
-    assert!(rt; read_line(b"m ,,,,,,,,,,,,,,,,,,,,,,,,,,,,,,,,,,,,,,,,").is_none());
+    assert!(rt; read_tokens(forty).is_some_and(|line| line.len() == 40));
+    assert!(rt; read_tokens(b"m ,,,,,,,,,,,,,,,,,,,,,,,,,,,,,,,,,,,,,,,,").is_none());
 }
 
 #[test]
@@ -92,7 +92,7 @@ fn refuses_what_is_no_line(rt: HostRuntime) {
         b"add r0,r1 @ a comment",
     ];
     for text in texts {
-        assert!(rt; read_line(text).is_none());
+        assert!(rt; read_tokens(text).is_none());
     }
 }
 
@@ -130,7 +130,7 @@ fn example() -> InstrText {
 #[test]
 fn compares_texts(rt: HostRuntime) {
     let text = example();
-    let same = read_line(b"vpte.s16 gt, q1, #0xffffffff");
+    let same = read_tokens(b"vpte.s16 gt, q1, #0xffffffff");
     assert!(rt; same.is_some_and(|tokens| text.has(tokens.as_slice())));
     let others: [&[u8]; 6] = [
         b"vpt.s16 gt, q1, #0xffffffff",
@@ -141,14 +141,14 @@ fn compares_texts(rt: HostRuntime) {
         b"vpte.s16 gt, q1, #",
     ];
     for other in others {
-        let line = read_line(other);
+        let line = read_tokens(other);
         assert!(rt; line.is_some_and(|tokens| !text.has(tokens.as_slice())));
     }
 }
 
 /// Whether a text has the tokens of another once single registers stand in place of its ranges.
 fn is_single(text: &[u8], single: &[u8]) -> bool {
-    let Some(tokens) = read_line(text) else {
+    let Some(tokens) = read_tokens(text) else {
         return false;
     };
     let Some(registers) = single_registers(tokens.as_slice()) else {

@@ -39,7 +39,7 @@ pub struct InstrText {
 
 /// What stands in a word behind a piece at its front; None where another front stands there.
 fn behind<'a>(word: &'a [u8], piece: &str) -> Option<&'a [u8]>
-    ensures { option_map (λ rest. rest.now) result ≡ behind piece.now word.now }
+    ensures rest { option_map (λ rest. rest.now) result ≡ behind piece.now word.now }
 {
     let piece = piece.as_bytes();
     if word.starts_with(piece) {
@@ -52,7 +52,7 @@ fn behind<'a>(word: &'a [u8], piece: &str) -> Option<&'a [u8]>
 
 /// Whether a token is this part.
 fn is_part(token: Token<'_>, part: Part) -> bool
-    ensures { IsTrue result ↔ (tok token.entry ≡ part_token part) }
+    ensures same { IsTrue result ↔ (tok token.entry ≡ part_token part) }
 {
     match (token, part) {
         (Token::Word(x), Part::Word(y)) => x == y.as_bytes(),
@@ -64,7 +64,7 @@ fn is_part(token: Token<'_>, part: Part) -> bool
 
 /// Whether tokens are these parts.
 fn are_parts(tokens: &[Token<'_>], parts: &[Part]) -> bool
-    ensures { IsTrue result ↔ (map tok tokens.now ≡ map part_token parts.now) }
+    ensures same { IsTrue result ↔ (map tok tokens.now ≡ map part_token parts.now) }
 {
     match tokens {
         [] => parts.is_empty(),
@@ -78,7 +78,7 @@ fn are_parts(tokens: &[Token<'_>], parts: &[Part]) -> bool
 /// Adds a number in decimal.
 fn push_number(out: &mut ArrayString<96>, n: u32)
     requires room { array_string_len out.old + length (decimal n) ≤ 96 }
-    ensures { out.new.bytes ≡ out.old.bytes ++ decimal n }
+    ensures bytes { out.new.bytes ≡ out.old.bytes ++ decimal n }
 {
     let mut buffer = Buffer::new();
     out.push_str(buffer.format(n));
@@ -87,7 +87,7 @@ fn push_number(out: &mut ArrayString<96>, n: u32)
 /// Adds a part.
 fn push_part(out: &mut ArrayString<96>, part: Part)
     requires room { array_string_len out.old + length (spell (part_token part)) ≤ 96 }
-    ensures { out.new.bytes ≡ out.old.bytes ++ spell (part_token part) }
+    ensures bytes { out.new.bytes ≡ out.old.bytes ++ spell (part_token part) }
 {
     match part {
         Part::Word(word) => out.push_str(word),
@@ -98,7 +98,7 @@ fn push_part(out: &mut ArrayString<96>, part: Part)
 
 /// Whether a part is a word.
 fn is_word(part: Part) -> bool
-    ensures { result ≡ is_word (part_token part) }
+    ensures value { result ≡ is_word (part_token part) }
 {
     match part {
         Part::Word(_) => true,
@@ -108,7 +108,7 @@ fn is_word(part: Part) -> bool
 
 /// Whether a part is `#`.
 fn is_hash(part: Part) -> bool
-    ensures { result ≡ is_hash (part_token part) }
+    ensures value { result ≡ is_hash (part_token part) }
 {
     match part {
         Part::Mark(Mark::Hash) => true,
@@ -118,7 +118,7 @@ fn is_hash(part: Part) -> bool
 
 /// What stands before a part: between a word and `#` a space.
 fn gap(after_word: bool, part: Part) -> &'static str
-    ensures { result.now ≡ gap after_word (part_token part) }
+    ensures text { result.now ≡ gap after_word (part_token part) }
 {
     if after_word && is_hash(part) { " " } else { "" }
 }
@@ -126,7 +126,7 @@ fn gap(after_word: bool, part: Part) -> &'static str
 /// Adds what stands before a part.
 fn push_gap(out: &mut ArrayString<96>, after_word: bool, part: Part)
     requires room { array_string_len out.old + length (gap after_word (part_token part)) ≤ 96 }
-    ensures { out.new.bytes ≡ out.old.bytes ++ gap after_word (part_token part) }
+    ensures bytes { out.new.bytes ≡ out.old.bytes ++ gap after_word (part_token part) }
 {
     out.push_str(gap(after_word, part));
 }
@@ -134,7 +134,7 @@ fn push_gap(out: &mut ArrayString<96>, after_word: bool, part: Part)
 /// Adds parts one behind another.
 fn push_parts(out: &mut ArrayString<96>, parts: &[Part])
     requires room { array_string_len out.old + length (spelled (map part_token parts.now)) ≤ 96 }
-    ensures { out.new.bytes ≡ out.old.bytes ++ spelled (map part_token parts.now) }
+    ensures bytes { out.new.bytes ≡ out.old.bytes ++ spelled (map part_token parts.now) }
 {
     let mut after_word = false;
     for part in parts {
@@ -157,7 +157,7 @@ fn push_space(out: &mut ArrayString<96>)
 /// A hexadecimal digit, of a number below 16.
 fn hex_digit(d: u32) -> &'static str
     requires { d < 16 }
-    ensures { result.now ≡ hex_digit d ∷ [] }
+    ensures text { result.now ≡ hex_digit d ∷ [] }
 {
     match d {
         0 => "0",
@@ -195,7 +195,7 @@ fn push_digits(out: &mut ArrayString<96>, a: u32, b: u32, c: u32, d: u32)
 /// Adds an address: `0x` and eight digits.
 fn push_address(out: &mut ArrayString<96>, a: u32)
     requires room { array_string_len out.old + 10 ≤ 96 }
-    ensures { out.new.bytes ≡ out.old.bytes ++ address a }
+    ensures bytes { out.new.bytes ≡ out.old.bytes ++ address a }
 {
     out.push_str("0x");
     push_digits(
@@ -211,7 +211,7 @@ fn push_address(out: &mut ArrayString<96>, a: u32)
 impl InstrText {
     /// Whether a word is its mnemonic.
     fn is_mnemonic(&self, word: &[u8]) -> bool
-        ensures { result ≡ is_pieces self.now.stem.now self.now.letters.now self.now.suffix.now word.now }
+        ensures value { result ≡ is_pieces self.now.stem.now self.now.letters.now self.now.suffix.now word.now }
     {
         match behind(word, self.stem) {
             Some(rest) => match behind(rest, self.letters) {
@@ -224,7 +224,7 @@ impl InstrText {
 
     /// Whether a token is its mnemonic.
     fn is_first(&self, token: Token<'_>) -> bool
-        ensures { IsTrue result ↔ (tok token.entry ≡ word (mnemonic_of self.now)) }
+        ensures same { IsTrue result ↔ (tok token.entry ≡ word (mnemonic_of self.now)) }
     {
         match token {
             Token::Word(name) => self.is_mnemonic(name),
@@ -234,7 +234,7 @@ impl InstrText {
 
     /// Whether these tokens are its.
     pub fn has(&self, tokens: &[Token<'_>]) -> bool
-        ensures { IsTrue result ↔ (map tok tokens.now ≡ text_tokens self.now) }
+        ensures same { IsTrue result ↔ (map tok tokens.now ≡ text_tokens self.now) }
     {
         match tokens {
             [first, operands @ ..] => {
@@ -247,7 +247,7 @@ impl InstrText {
     /// What it is printed as: its mnemonic, and behind a space its operands.
     pub fn print(&self) -> ArrayString<96>
         requires { length (printed (text_tokens self.now)) ≤ 96 }
-        ensures { result.bytes ≡ printed (text_tokens self.now) }
+        ensures bytes { result.bytes ≡ printed (text_tokens self.now) }
     {
         let mut out = ArrayString::new();
         out.push_str(self.stem);
@@ -264,7 +264,7 @@ impl InstrText {
     #[tactic(auto, using(crate::proofs::Spaces::alone_at, crate::proofs::Spaces::many_at, crate::proofs::Spaces::alone_room, crate::proofs::Spaces::many_room))]
     pub fn print_at(&self, address: u32) -> ArrayString<96>
         requires { length (printed_at (text_tokens self.now) address) ≤ 96 }
-        ensures { result.bytes ≡ printed_at (text_tokens self.now) address }
+        ensures bytes { result.bytes ≡ printed_at (text_tokens self.now) address }
     {
         let mut out = self.print();
         if self.operands.is_empty() {

@@ -28,7 +28,7 @@ const CAP: u64 = 0x1_0000_0000;
 
 /// Whether a byte is of a class.
 fn is_in(class: Class, c: u8) -> bool
-    ensures { result ≡ is_in class c }
+    ensures value { result ≡ is_in class c }
 {
     match class {
         Class::Word => matches!(c, b'a'..=b'z' | b'0'..=b'9' | b'_' | b'.'),
@@ -68,7 +68,7 @@ fn digit(c: u8) -> u8
 /// The number that digits write, or 2^32 where it is not below.
 #[tactic(auto, using(crate::proofs::Runs::value_more, crate::proofs::Runs::value_all))]
 fn value(base: u8, digits: &[u8]) -> u64
-    ensures { result ≡ value base 0 digits.now }
+    ensures value { result ≡ value base 0 digits.now }
 {
     let mut n = 0u64;
     for c in digits {
@@ -88,7 +88,7 @@ pub fn skip(text: &[u8]) -> &[u8]
 
 /// Whether a hexadecimal number begins here.
 fn is_hex(text: &[u8]) -> bool
-    ensures { result ≡ is_hex text.now }
+    ensures value { result ≡ is_hex text.now }
 {
     text.len() > 2 && text[0] == b'0' && text[1] == b'x' && is_in(Class::Hex, text[2])
 }
@@ -96,7 +96,7 @@ fn is_hex(text: &[u8]) -> bool
 /// The longest token at the front, and the rest.
 #[tactic(auto, unfolding(crate::specs::Tokens::token_at))]
 pub fn token_at(text: &[u8]) -> Option<(Token<'_>, &[u8])>
-    ensures { ReadsSome (λ x. (tok x.0, x.1.now)) result (token_at text.now) }
+    ensures read { ReadsSome (λ x. (tok x.0, x.1.now)) result (token_at text.now) }
 {
     if text.is_empty() {
         return None;

@@ -21,7 +21,7 @@ returns-in_default c =
     let some : 0 < length c.skip-here.result.now = search rules in
     record {
       read = strange_byte c.args.form c.args.text.now c.loop-here.rest.now c.skip-here.result.now c.loop-here.state c.column-in_default.result c.skip-here.ensures.rest c.loop-here.invariant.read
-          some c.in_default.ensures c.column-in_default.ensures.value;
+          some c.in_default.ensures.read c.column-in_default.ensures.value;
     }
 
 pub returns-in_default-step : goal.returns-in_default-step
@@ -29,19 +29,19 @@ returns-in_default-step c =
     let some : 0 < length c.skip-here.result.now = search rules in
     record {
       read = wrong_token c.args.form c.args.text.now c.loop-here.rest.now c.skip-here.result.now c.in-Some.after.now c.loop-here.state (tok c.in-Some.token) c.stands_apart.result
-          c.column-in_default-step.result c.skip-here.ensures.rest c.loop-here.invariant.read some c.in-Some.ensures c.stands_apart.ensures c.in_default-step.ensures c.column-in_default-step.ensures.value;
+          c.column-in_default-step.result c.skip-here.ensures.rest c.loop-here.invariant.read some c.in-Some.ensures.read c.stands_apart.ensures.value c.in_default-step.ensures c.column-in_default-step.ensures.value;
     }
 
 pub loop-here-smaller : goal.loop-here-smaller
 loop-here-smaller c =
-    let less = token_shorter c.skip-here.result.now (tok c.in-Some.token, c.in-Some.after.now) c.in-Some.ensures in
+    let less = token_shorter c.skip-here.result.now (tok c.in-Some.token, c.in-Some.after.now) c.in-Some.ensures.read in
     omega (arith, less, c.skip-here.ensures.shorter)
 
 pub loop-here-preserved : goal.loop-here-preserved
 loop-here-preserved c =
-    let less = token_shorter c.skip-here.result.now (tok c.in-Some.token, c.in-Some.after.now) c.in-Some.ensures in
+    let less = token_shorter c.skip-here.result.now (tok c.in-Some.token, c.in-Some.after.now) c.in-Some.ensures.read in
     record {
       read = next_token c.args.form c.args.text.now c.loop-here.rest.now c.skip-here.result.now c.in-Some.after.now c.loop-here.state c.in-Some-step.next (tok c.in-Some.token) c.stands_apart.result
-          c.skip-here.ensures.rest c.loop-here.invariant.read c.in-Some.ensures c.stands_apart.ensures c.in-Some-step.ensures;
+          c.skip-here.ensures.rest c.loop-here.invariant.read c.in-Some.ensures.read c.stands_apart.ensures.value c.in-Some-step.ensures;
       within = omega (arith, less, c.skip-here.ensures.shorter, c.loop-here.invariant.within);
     }

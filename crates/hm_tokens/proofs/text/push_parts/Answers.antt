@@ -13,4 +13,4 @@ push_gap-requires c =
 pub push_part-requires : goal.push_part-requires
 push_part-requires c =
     let whole = length-append c.args.out.now.bytes (spelled (map part_token c.args.parts.now)) in
-    record { room = room_left c.loop-part.out.bytes _ _ c.loop-part.after_word c.args.parts.now c.loop-part.part-index _ c.push_gap.ensures c.loop-part-test.true c.loop-part.invariant (omega (arith, whole, c.requires.room)) }
+    record { room = room_left c.loop-part.out.bytes _ _ c.loop-part.after_word c.args.parts.now c.loop-part.part-index _ c.push_gap.ensures.bytes c.loop-part-test.true c.loop-part.invariant (omega (arith, whole, c.requires.room)) }
