@@ -1,0 +1,331 @@
+-- Every row of two halfwords that is no vector row: its text asks for its code, and is printed and read back; so does its other text.
+use Rattle.std.proofs.Common.{◌≡◌, ℕ, ◌+◌, ◌%◌, ◌^◌, ◌<◌, ◌≤◌, Bool, true, false, cond, List, [], ◌∷◌, ◌++◌, length, length-append, refl, sym, subst, inl, inr, ◌∙◌, Some, None, Option, arith}
+use Rattle.std.specs.Prelude.{◌&&◌, nat_eq, not}
+use Rattle.std.proofs.lemmas.Bool.{and_parts, eqb-true}
+use Rattle.hm_isa.specs.declared.fields.Below.{Below}
+use Rattle.hm_isa.specs.declared.Scalar.{Scalar}
+use Rattle.hm_isa.specs.declared.Scalar.TheVariants as scalar
+use Rattle.hm_isa.specs.declared.Branch.{Branch}
+use Rattle.hm_isa.specs.declared.Branch.TheVariants as branch
+use Rattle.hm_isa.specs.declared.Instr.{Instr}
+use Rattle.hm_isa.specs.declared.Instr.TheVariants as instr
+use Rattle.hm_isa.specs.declared.jumps.T16.TheVariants as t16
+use Rattle.hm_isa.specs.declared.jumps.T23.{T23}
+use Rattle.hm_isa.specs.declared.jumps.T23.TheVariants as t23
+use Rattle.hm_isa.specs.declared.system.T19.{T19}
+use Rattle.hm_isa.specs.declared.system.T19.TheVariants as t19
+use Rattle.hm_isa.specs.Code.{branch_halves, scalar_halves}
+use Rattle.hm_enc32.specs.Table.{IsWide}
+use Rattle.hm_text_base.proofs.Steps.{some_is, test_some}
+use Rattle.hm_tokens.specs.Lines.{IsLineOf, printed, printed_at}
+use Rattle.hm_tokens.specs.Ranges.{is_the_mark, normal}
+use Rattle.hm_tokens.specs.Tokens.{Tok, number, word}
+use Rattle.hm_tokens.proofs.Ranges.{has_no_ranges, normal_same}
+use Rattle.hm_text_rows.specs.Labels.{IsLabel, NamesTarget, Reaches}
+use Rattle.hm_text_rows.proofs.Printed.{IsPrinted, IsPrintedAt}
+use Rattle.hm_text32.specs.Rows.{has_label, has_label_loop, other_barrier, other_scalar, other_tokens, row_tokens, tokens_of}
+use Rattle.hm_text32.specs.Stems.{barrier_stem}
+use Rattle.hm_text32.specs.Targets.{target}
+use Rattle.hm_text32.specs.Texts.{AreTokens, HasTokens, IsTextOf, text_of}
+use Rattle.hm_text32.proofs.Asked.{Asks, IsPrintedRow, Row, of_plain, plain_row}
+use Rattle.hm_text32.proofs.Forms.{Answers}
+use Rattle.hm_text32.proofs.OnConstants.{row_t1}
+use Rattle.hm_text32.proofs.Shifted.{row_t2}
+use Rattle.hm_text32.proofs.Data.{row_t3, row_t4, row_t5, row_t6, row_t7}
+use Rattle.hm_text32.proofs.Arith.{row_t8, row_t9, row_t10, row_t11, row_t20}
+use Rattle.hm_text32.proofs.OnMemory.{row_t12, row_t13}
+use Rattle.hm_text32.proofs.OnLists.{row_t14}
+use Rattle.hm_text32.proofs.System.{other_barrier_answers, row_dls, row_dlstp, row_lctp, row_t15, row_t17, row_t18, row_t19, row_t21, row_t22}
+use Rattle.hm_text32.proofs.OnLabels.{row_end, row_t16, row_wls, row_wlstp}
+
+abbrev alone : List ℕ
+alone = 0 ∷ []
+
+one_half_not : length alone ≡ 2 → ⊥
+one_half_not e = omega (arith, e)
+
+-- a row with no label
+plain : (i : Instr) (ts : List Tok) → has_label i ≡ false → row_tokens i ≡ ts → Answers i ts → Row i
+plain i ts e is answers = plain_row i ts e is (of_plain i ts answers)
+
+row_scalar : (i : Scalar) → length (scalar_halves i) ≡ 2 → Row (instr.Scalar i)
+row_scalar (scalar.S1 i) e = absurd (one_half_not e)
+row_scalar (scalar.S2 i) e = absurd (one_half_not e)
+row_scalar (scalar.S3 i) e = absurd (one_half_not e)
+row_scalar (scalar.S4 i) e = absurd (one_half_not e)
+row_scalar (scalar.S5 i) e = absurd (one_half_not e)
+row_scalar (scalar.S6 i) e = absurd (one_half_not e)
+row_scalar (scalar.S7 i) e = absurd (one_half_not e)
+row_scalar (scalar.S8 i) e = absurd (one_half_not e)
+row_scalar (scalar.S9 i) e = absurd (one_half_not e)
+row_scalar (scalar.S10 i) e = absurd (one_half_not e)
+row_scalar (scalar.S11 i) e = absurd (one_half_not e)
+row_scalar (scalar.S12 i) e = absurd (one_half_not e)
+row_scalar (scalar.S13 i) e = absurd (one_half_not e)
+row_scalar (scalar.S14 i) e = absurd (one_half_not e)
+row_scalar (scalar.S15 i) e = absurd (one_half_not e)
+row_scalar (scalar.S16 i) e = absurd (one_half_not e)
+row_scalar (scalar.S17 i) e = absurd (one_half_not e)
+row_scalar (scalar.S18 i) e = absurd (one_half_not e)
+row_scalar (scalar.S19 i) e = absurd (one_half_not e)
+row_scalar (scalar.S20 i) e = absurd (one_half_not e)
+row_scalar (scalar.S21 i) e = absurd (one_half_not e)
+row_scalar (scalar.T1 i) e = plain (instr.Scalar (scalar.T1 i)) _ refl refl (row_t1 i)
+row_scalar (scalar.T2 i) e = plain (instr.Scalar (scalar.T2 i)) _ refl refl (row_t2 i)
+row_scalar (scalar.T3 i) e = plain (instr.Scalar (scalar.T3 i)) _ refl refl (row_t3 i)
+row_scalar (scalar.T4 i) e = plain (instr.Scalar (scalar.T4 i)) _ refl refl (row_t4 i)
+row_scalar (scalar.T5 i) e = plain (instr.Scalar (scalar.T5 i)) _ refl refl (row_t5 i)
+row_scalar (scalar.T6 i) e = plain (instr.Scalar (scalar.T6 i)) _ refl refl (row_t6 i)
+row_scalar (scalar.T7 i) e = plain (instr.Scalar (scalar.T7 i)) _ refl refl (row_t7 i)
+row_scalar (scalar.T8 i) e = plain (instr.Scalar (scalar.T8 i)) _ refl refl (row_t8 i)
+row_scalar (scalar.T9 i) e = plain (instr.Scalar (scalar.T9 i)) _ refl refl (row_t9 i)
+row_scalar (scalar.T10 i) e = plain (instr.Scalar (scalar.T10 i)) _ refl refl (row_t10 i)
+row_scalar (scalar.T11 i) e = plain (instr.Scalar (scalar.T11 i)) _ refl refl (row_t11 i)
+row_scalar (scalar.T12 i) e = plain_row (instr.Scalar (scalar.T12 i)) _ refl refl (row_t12 i)
+row_scalar (scalar.T13 i) e = plain_row (instr.Scalar (scalar.T13 i)) _ refl refl (row_t13 i)
+row_scalar (scalar.T14 i) e = plain_row (instr.Scalar (scalar.T14 i)) _ refl refl (row_t14 i)
+row_scalar (scalar.T15 i) e = plain (instr.Scalar (scalar.T15 i)) _ refl refl (row_t15 i)
+row_scalar (scalar.T18 i) e = plain (instr.Scalar (scalar.T18 i)) _ refl refl (row_t18 i)
+row_scalar (scalar.T19 i) e = plain (instr.Scalar (scalar.T19 i)) _ refl refl (row_t19 i)
+row_scalar (scalar.T20 i) e = plain (instr.Scalar (scalar.T20 i)) _ refl refl (row_t20 i)
+row_scalar (scalar.T21 i) e = plain (instr.Scalar (scalar.T21 i)) _ refl refl (row_t21 i)
+row_scalar (scalar.T22 i) e = plain (instr.Scalar (scalar.T22 i)) _ refl refl (row_t22 i)
+
+row_loop : (i : T23) → Row (instr.Branch (branch.T23 i))
+row_loop (t23.Dls i) = plain (instr.Branch (branch.T23 (t23.Dls i))) _ refl refl (row_dls i)
+row_loop (t23.Wls i) = row_wls i
+row_loop (t23.Dlstp i) = plain (instr.Branch (branch.T23 (t23.Dlstp i))) _ refl refl (row_dlstp i)
+row_loop (t23.Wlstp i) = row_wlstp i
+row_loop (t23.End i) = row_end i
+row_loop t23.Lctp = plain (instr.Branch (branch.T23 t23.Lctp)) _ refl refl row_lctp
+
+row_branch : (i : Branch) → length (branch_halves i) ≡ 2 → Row (instr.Branch i)
+row_branch (branch.S23 i) e = absurd (one_half_not e)
+row_branch (branch.S24 i) e = absurd (one_half_not e)
+row_branch (branch.S25 i) e = absurd (one_half_not e)
+row_branch (branch.T16 i) e = row_t16 i
+row_branch (branch.T17 i) e = plain (instr.Branch (branch.T17 i)) _ refl refl (row_t17 i)
+row_branch (branch.T23 i) e = row_loop i
+
+pub row_law : (i : Instr) → IsWide i → Row i
+row_law (instr.Scalar i) e = row_scalar i e
+row_law (instr.Branch i) e = row_branch i e
+row_law (instr.Vector i) e = absurd e
+
+-- ---- the other text
+
+told : (i : Instr) (us ts : List Tok) → Answers i us → us ≡ ts → Answers i ts
+told i us ts answers e = subst (λ (xs : List Tok). Answers i xs) e answers
+
+barrier_law : (i : T19) (ts : List Tok) → other_barrier i ≡ Some ts → Answers (instr.Scalar (scalar.T19 i)) ts
+barrier_law t19.Nop ts e = absurd cc
+barrier_law (t19.Barrier i) ts e =
+    let a = test_some (nat_eq i.o.value 15) (Some (word (barrier_stem i.name) ∷ [])) ts e in
+    told _ _ ts (other_barrier_answers i (eqb-true i.o.value 15 a.0)) (some_is _ ts a.1)
+
+other_scalar_law : (s : Scalar) (ts : List Tok) → other_scalar s ≡ Some ts → Answers (instr.Scalar s) ts
+other_scalar_law (scalar.T19 i) ts e = barrier_law i ts e
+other_scalar_law s ts e = absurd cc
+
+other_answers : (i : Instr) (ts : List Tok) → other_tokens i ≡ Some ts → Answers i ts
+other_answers (instr.Scalar s) ts e = other_scalar_law s ts e
+other_answers (instr.Branch b) ts e = absurd cc
+other_answers (instr.Vector v) ts e = absurd cc
+
+pub other_law : (i : Instr) (ts : List Tok) → other_tokens i ≡ Some ts → Asks i ts
+other_law i ts e = of_plain i ts (other_answers i ts e)
+
+-- ---- printed
+
+-- a row has a target where it has a label
+abbrev IsGiven : Bool → Option ℕ → Type 0
+IsGiven true (Some a) = a < 2 ^ 32
+IsGiven true None = ⊥
+IsGiven false (Some a) = ⊥
+IsGiven false None = Unit {0}
+
+word_below : (n : ℕ) → n % 2 ^ 32 < 2 ^ 32
+word_below n = omega arith
+
+given_loop : (i : T23) (pc : ℕ) → IsGiven (has_label_loop i) (target (instr.Branch (branch.T23 i)) pc)
+given_loop (t23.Dls i) pc = tt
+given_loop (t23.Wls i) pc = word_below _
+given_loop (t23.Dlstp i) pc = tt
+given_loop (t23.Wlstp i) pc = word_below _
+given_loop (t23.End i) pc = word_below _
+given_loop t23.Lctp pc = tt
+
+given_branch : (i : Branch) (pc : ℕ) → IsGiven (has_label (instr.Branch i)) (target (instr.Branch i) pc)
+given_branch (branch.S23 i) pc = tt
+given_branch (branch.S24 i) pc = tt
+given_branch (branch.S25 i) pc = tt
+given_branch (branch.T16 (t16.Conditional i)) pc = word_below _
+given_branch (branch.T16 (t16.Always i)) pc = word_below _
+given_branch (branch.T17 i) pc = tt
+given_branch (branch.T23 i) pc = given_loop i pc
+
+given_target : (i : Instr) (pc : ℕ) → IsGiven (has_label i) (target i pc)
+given_target (instr.Scalar i) pc = tt
+given_target (instr.Branch i) pc = given_branch i pc
+given_target (instr.Vector i) pc = tt
+
+-- the tokens that are read of a text that is printed
+record Again (b : Bool) (row : List Tok) (o : Option ℕ) (text : List ℕ) (labels : List ℕ → Option ℕ) : Type 0 where
+  tokens : List Tok
+  label : Tok
+  is_label : IsLabel label
+  line : IsLineOf text tokens
+  has : cond b (row ++ label ∷ []) row ≡ normal tokens
+  names : NamesTarget labels label o
+
+abbrev shown : List Tok → Option ℕ → List ℕ
+shown row (Some a) = printed_at row a
+shown row None = printed row
+
+more_ranges : (ts : List Tok) (a : ℕ) → has_no_ranges ts ≡ true → has_no_ranges (ts ++ number a ∷ []) ≡ true
+more_ranges [] a e = refl
+more_ranges (t ∷ ts) a e =
+    let p = and_parts (not (is_the_mark 45 t)) (has_no_ranges ts) e in
+    rw (p.0, more_ranges ts a p.1) refl
+
+again_of : (b : Bool) (row : List Tok) (o : Option ℕ) (labels : List ℕ → Option ℕ) → IsPrintedRow b row → IsGiven b o → Again b row o (shown row o) labels
+again_of true row (Some a) labels p lt = record {
+  tokens = row ++ number a ∷ [];
+  label = number a;
+  is_label = lt;
+  line = p.again a lt;
+  has = sym (normal_same (row ++ number a ∷ []) (more_ranges row a p.ranges));
+  names = refl;
+}
+again_of true row None labels p given = absurd given
+again_of false row (Some a) labels p given = absurd given
+again_of false row None labels p given = record {
+  tokens = row;
+  label = number 0;
+  is_label = omega arith;
+  line = p.again;
+  has = sym p.ranges;
+  names = tt;
+}
+
+shown_is : (i : Instr) (o : Option ℕ) → text_of i o ≡ shown (row_tokens i) o
+shown_is i (Some a) = refl
+shown_is i None = refl
+
+pub printed_read : (i : Instr) (pc : ℕ) (text : List ℕ) (labels : List ℕ → Option ℕ) → IsWide i → text ≡ text_of i (target i pc) → IsTextOf text pc labels i
+printed_read i pc text labels wide is =
+    let e = is ∙ shown_is i (target i pc) in
+    let again = again_of (has_label i) (row_tokens i) (target i pc) labels (row_law i wide).prints (given_target i pc) in
+    record {
+      tokens = again.tokens;
+      label = again.label;
+      line = subst (λ (x : List ℕ). IsLineOf x again.tokens) (sym e) again.line;
+      has = record { wide = wide; label = again.is_label; tokens = inl again.has };
+      names = again.names;
+    }
+
+room_of : (b : Bool) (row : List Tok) (o : Option ℕ) → IsPrintedRow b row → IsGiven b o → length (shown row o) ≤ 96
+room_of true row (Some a) p lt = p.room a
+room_of true row None p given = absurd given
+room_of false row (Some a) p given = absurd given
+room_of false row None p given = p.room
+
+pub printed_room : (i : Instr) (pc : ℕ) → IsWide i → length (text_of i (target i pc)) ≤ 96
+printed_room i pc wide = rw (shown_is i (target i pc)) (room_of (has_label i) (row_tokens i) (target i pc) (row_law i wide).prints (given_target i pc))
+
+few_of : (b : Bool) (row : List Tok) (t : Tok) → IsPrintedRow b row → length (cond b (row ++ t ∷ []) row) ≤ 40
+few_of true row t p = let f = p.few in omega (arith, f, length-append row (t ∷ []))
+few_of false row t p = p.few
+
+few_ones : (i : Instr) (t : Tok) (ts : List Tok) → IsWide i → AreTokens i t ts → length ts ≤ 40
+few_ones i t ts wide (inl is) = subst (λ (x : List Tok). length x ≤ 40) is (few_of (has_label i) (row_tokens i) t (row_law i wide).prints)
+few_ones i t ts wide (inr is) = (other_law i ts is).prints.few
+
+pub few_tokens : (i : Instr) (t : Tok) (ts : List Tok) → HasTokens i t ts → length ts ≤ 40
+few_tokens i t ts has = few_ones i t ts has.wide has.tokens
+
+-- ---- the row with a label as near as can be
+
+pub record Nearest (i : Instr) : Type 0 where
+  pub near : Instr
+  pub wide : IsWide near
+  pub tokens : row_tokens near ≡ row_tokens i
+  pub other : other_tokens near ≡ other_tokens i
+  pub label : has_label near ≡ has_label i
+  pub reaches : Reaches (target near 0) 4
+
+itself : (i : Instr) → IsWide i → Reaches (target i 0) 4 → Nearest i
+itself i wide reaches = record { near = i; wide = wide; tokens = refl; other = refl; label = refl; reaches = reaches }
+
+nearest_loop : (i : T23) → Nearest (instr.Branch (branch.T23 i))
+nearest_loop (t23.Dls i) = itself (instr.Branch (branch.T23 (t23.Dls i))) refl tt
+nearest_loop (t23.Wls i) = record {
+  near = instr.Branch (branch.T23 (t23.Wls (record { n = i.n; v = record { value = 0; in_range = omega arith }; not_sp = i.not_sp; not_pc = i.not_pc })));
+  wide = refl;
+  tokens = refl;
+  other = refl;
+  label = refl;
+  reaches = refl;
+}
+nearest_loop (t23.Dlstp i) = itself (instr.Branch (branch.T23 (t23.Dlstp i))) refl tt
+nearest_loop (t23.Wlstp i) = record {
+  near = instr.Branch (branch.T23 (t23.Wlstp (record { z = i.z; n = i.n; v = record { value = 0; in_range = omega arith }; not_sp = i.not_sp; not_pc = i.not_pc })));
+  wide = refl;
+  tokens = refl;
+  other = refl;
+  label = refl;
+  reaches = refl;
+}
+nearest_loop (t23.End i) = record {
+  near = instr.Branch (branch.T23 (t23.End (record { name = i.name; v = record { value = 0; in_range = omega arith } })));
+  wide = refl;
+  tokens = refl;
+  other = refl;
+  label = refl;
+  reaches = refl;
+}
+nearest_loop t23.Lctp = itself (instr.Branch (branch.T23 t23.Lctp)) refl tt
+
+nearest_branch : (i : Branch) → length (branch_halves i) ≡ 2 → Nearest (instr.Branch i)
+nearest_branch (branch.S23 i) e = absurd (one_half_not e)
+nearest_branch (branch.S24 i) e = absurd (one_half_not e)
+nearest_branch (branch.S25 i) e = absurd (one_half_not e)
+nearest_branch (branch.T16 (t16.Conditional i)) e = record {
+  near =
+      instr.Branch (branch.T16 (t16.Conditional (record {
+        s = record { value = 0; in_range = omega arith };
+        c = i.c;
+        i6 = record { value = 0; in_range = omega arith };
+        j1 = record { value = 0; in_range = omega arith };
+        j2 = record { value = 0; in_range = omega arith };
+        i11 = record { value = 0; in_range = omega arith };
+      })));
+  wide = refl;
+  tokens = refl;
+  other = refl;
+  label = refl;
+  reaches = refl;
+}
+nearest_branch (branch.T16 (t16.Always i)) e = record {
+  near =
+      instr.Branch (branch.T16 (t16.Always (record {
+        name = i.name;
+        s = record { value = 0; in_range = omega arith };
+        i10 = record { value = 0; in_range = omega arith };
+        j1 = record { value = 1; in_range = omega arith };
+        j2 = record { value = 1; in_range = omega arith };
+        i11 = record { value = 0; in_range = omega arith };
+      })));
+  wide = refl;
+  tokens = refl;
+  other = refl;
+  label = refl;
+  reaches = refl;
+}
+nearest_branch (branch.T17 i) e = itself (instr.Branch (branch.T17 i)) e tt
+nearest_branch (branch.T23 i) e = nearest_loop i
+
+pub nearest : (i : Instr) → IsWide i → Nearest i
+nearest (instr.Scalar i) e = itself (instr.Scalar i) e tt
+nearest (instr.Branch i) e = nearest_branch i e
+nearest (instr.Vector i) e = absurd e

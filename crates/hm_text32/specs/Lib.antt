@@ -1,0 +1,7 @@
+pub mod Stems
+pub mod Operands
+pub mod Bases
+pub mod Codes
+pub mod Rows
+pub mod Targets
+pub mod Texts

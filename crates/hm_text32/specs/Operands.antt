@@ -1,0 +1,153 @@
+-- What a text gives numbers for, read carelessly: nothing is refused, since the row that is found is asked for its text.
+use Rattle.std.specs.Prelude.{ℕ, ◌+◌, ◌-◌, ◌^◌, min, Bool, true, false, List, [], ◌∷◌, length, get_or, codes, bytes_eq, Option, Some, None, ◌==◌, if◌then◌else◌}
+use Rattle.hm_tokens.specs.Names.{condition_in, register_in, vector_in}
+use Rattle.hm_tokens.specs.Ranges.{is_the_mark}
+use Rattle.hm_tokens.specs.Tokens.{Tok, word, number, mark}
+use Rattle.hm_text32.specs.Stems.{double_in}
+use Rattle.hm_text32.specs.declared.operands.Operands.{Operands}
+use Rattle.hm_text32.specs.declared.operands.Places.{Places}
+
+abbrev pub given_or : Option ℕ → ℕ → ℕ
+given_or (Some n) d = n
+given_or None d = d
+
+abbrev pub is_given : Option ℕ → Bool
+is_given (Some n) = true
+is_given None = false
+
+-- shifts by their numbers; that through the carry is a rotation by 0
+abbrev pub shift_in : List ℕ → Option ℕ
+shift_in w =
+    if bytes_eq w (codes "lsl") then Some 0
+    else if bytes_eq w (codes "lsr") then Some 1
+    else if bytes_eq w (codes "asr") then Some 2
+    else if bytes_eq w (codes "ror") then Some 3
+    else if bytes_eq w (codes "rrx") then Some 3
+    else None
+
+-- zero and special registers
+abbrev pub other_value : List ℕ → ℕ
+other_value w =
+    if bytes_eq w (codes "zr") then 15
+    else if bytes_eq w (codes "ipsr") then 5
+    else if bytes_eq w (codes "msp") then 8
+    else if bytes_eq w (codes "primask") then 16
+    else if bytes_eq w (codes "control") then 20
+    else if bytes_eq w (codes "fpscr") then 1
+    else if bytes_eq w (codes "vpr") then 12
+    else if bytes_eq w (codes "p0") then 13
+    else if bytes_eq w (codes "apsr_nzcv") then 15
+    else 0
+
+unfoldable pub word_value : List ℕ → ℕ
+word_value w = given_or (register_in w) (given_or (vector_in w) (given_or (condition_in w) (given_or (double_in w) (given_or (shift_in w) (other_value w)))))
+
+abbrev pub value : Tok → ℕ
+value (word w) = word_value w
+value (number n) = min n 0xffff_ffff
+value (mark c) = 0
+
+unfoldable pub is_vector_name : List ℕ → Bool
+is_vector_name w = is_given (vector_in w)
+
+abbrev pub is_vector : Tok → Bool
+is_vector (word w) = is_vector_name w
+is_vector (number n) = false
+is_vector (mark c) = false
+
+abbrev pub is_number : Tok → Bool
+is_number (word w) = false
+is_number (number n) = true
+is_number (mark c) = false
+
+-- operand k, counted from 0 and without the marks; a comma where there is none
+abbrev pub operand : ℕ → List Tok → Tok
+operand k [] = mark 44
+operand k (word w ∷ ts) = if k == 0 then word w else operand (k - 1) ts
+operand k (number n ∷ ts) = if k == 0 then number n else operand (k - 1) ts
+operand k (mark c ∷ ts) = operand k ts
+
+-- the number of an element size, by its last digit
+abbrev pub size_by : ℕ → ℕ
+size_by c = if c == 54 then 1 else if c == 50 then 2 else if c == 52 then 3 else 0
+
+unfoldable pub size_of : List ℕ → ℕ
+size_of suffix = size_by (get_or suffix (length suffix - 1) 0)
+
+abbrev pub read_operands : List ℕ → List Tok → Operands
+read_operands suffix ts = record {
+  is_bare = length ts == 0;
+  size = size_of suffix;
+  is_vector = is_vector (operand 0 ts);
+  second_is_number = is_number (operand 1 ts);
+  third_is_number = is_number (operand 2 ts);
+  first = value (operand 0 ts);
+  second = value (operand 1 ts);
+  third = value (operand 2 ts);
+  fourth = value (operand 3 ts);
+  fifth = value (operand 4 ts);
+}
+
+-- ADDRESSES
+abbrev pub first_of : List Tok → Tok
+first_of [] = number 0
+first_of (t ∷ ts) = t
+
+-- the token behind the first mark c; a number where there is none
+abbrev pub behind : ℕ → List Tok → Tok
+behind c [] = number 0
+behind c (t ∷ ts) = if is_the_mark c t then first_of ts else behind c ts
+
+-- 0 where a minus sign stands behind `#`
+abbrev pub added : List Tok → ℕ
+added ts = if is_the_mark 45 (behind 35 ts) then 0 else 1
+
+-- 0 where a comma stands behind `]`
+abbrev pub before : List Tok → ℕ
+before ts = if is_the_mark 44 (behind 93 ts) then 0 else 1
+
+-- 1 where a comma or `!` stands there
+abbrev pub back_in : List Tok → ℕ
+back_in ts = if is_the_mark 44 (behind 93 ts) then 1 else if is_the_mark 33 (behind 93 ts) then 1 else 0
+
+abbrev pub read_places : List Tok → Places
+read_places ts = record {
+  third_is_number = is_number (operand 2 ts);
+  first = value (operand 0 ts);
+  second = value (operand 1 ts);
+  third = value (operand 2 ts);
+  fourth = value (operand 3 ts);
+  fifth = value (operand 4 ts);
+  added = added ts;
+  before = before ts;
+  back = back_in ts;
+}
+
+-- LISTS
+-- the bit of a register in a list
+abbrev pub bit_or_none : Option ℕ → ℕ
+bit_or_none (Some n) = 2 ^ n
+bit_or_none None = 0
+
+unfoldable pub bit_in : List ℕ → ℕ
+bit_in w = bit_or_none (register_in w)
+
+abbrev pub token_bit : Tok → ℕ
+token_bit (word w) = bit_in w
+token_bit (number n) = 0
+token_bit (mark c) = 0
+
+-- the bits of all registers that are named
+unfoldable pub bits_of : List Tok → ℕ
+bits_of [] = 0
+bits_of (t ∷ ts) = min (token_bit t + bits_of ts) 0xffff
+
+-- what stands behind the first `{`
+unfoldable pub braced : List Tok → List Tok
+braced [] = []
+braced (t ∷ ts) = if is_the_mark 123 t then ts else braced ts
+
+-- 1 where `!` stands behind the first token
+abbrev pub second_bang : List Tok → ℕ
+second_bang [] = 0
+second_bang (t ∷ ts) = if is_the_mark 33 (first_of ts) then 1 else 0

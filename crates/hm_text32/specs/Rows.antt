@@ -1,0 +1,255 @@
+-- The text of rows of two halfwords that are no vector rows, as tokens.
+use Rattle.std.specs.Prelude.{ℕ, Bool, true, false, ◌+◌, ◌-◌, ◌*◌, ◌&&◌, cond, List, [], ◌∷◌, ◌++◌, codes, nat_eq, Option, Some, None, if◌then◌else◌}
+use Rattle.hm_isa.specs.declared.Instr.{Instr}
+use Rattle.hm_isa.specs.declared.Instr.TheVariants as instr
+use Rattle.hm_isa.specs.declared.Scalar.{Scalar}
+use Rattle.hm_isa.specs.declared.Scalar.TheVariants.{T1, T2, T3, T4, T5, T6, T7, T8, T9, T10, T11, T12, T13, T14, T15, T18, T19, T20, T21, T22}
+use Rattle.hm_isa.specs.declared.Branch.{Branch}
+use Rattle.hm_isa.specs.declared.Branch.TheVariants.{T16, T17, T23}
+use Rattle.hm_isa.specs.declared.arith.T11.{T11 as ProductRow}
+use Rattle.hm_isa.specs.declared.arith.T11.TheVariants as t11
+use Rattle.hm_isa.specs.declared.data.DataName.{DataName}
+use Rattle.hm_isa.specs.declared.data.DataName.TheVariants as data_
+use Rattle.hm_isa.specs.declared.data.SaturateName.{SaturateName}
+use Rattle.hm_isa.specs.declared.data.SaturateName.TheVariants as saturate
+use Rattle.hm_isa.specs.declared.data.T5.{T5 as SaturateRow}
+use Rattle.hm_isa.specs.declared.data.T7.{T7 as InsertRow}
+use Rattle.hm_isa.specs.declared.jumps.T16.{T16 as WideBranchRow}
+use Rattle.hm_isa.specs.declared.jumps.T16.TheVariants as t16
+use Rattle.hm_isa.specs.declared.jumps.LoopEndName.{LoopEndName}
+use Rattle.hm_isa.specs.declared.jumps.LoopEndName.TheVariants as loop_end
+use Rattle.hm_isa.specs.declared.wide.T12.{T12 as AccessRow}
+use Rattle.hm_isa.specs.declared.wide.T12.TheVariants as t12
+use Rattle.hm_isa.specs.declared.jumps.TableName.TheVariants as table
+use Rattle.hm_isa.specs.declared.jumps.TableName.{TableName}
+use Rattle.hm_isa.specs.declared.jumps.T23.{T23 as LoopRow}
+use Rattle.hm_isa.specs.declared.jumps.T23.TheVariants as t23
+use Rattle.hm_isa.specs.declared.system.T18.{T18 as SpecialRow}
+use Rattle.hm_isa.specs.declared.system.T18.TheVariants as t18
+use Rattle.hm_isa.specs.declared.system.T19.{T19 as BarrierRow}
+use Rattle.hm_isa.specs.declared.system.T19.TheVariants as t19
+use Rattle.hm_isa.specs.declared.system.SystemMoveName.{SystemMoveName}
+use Rattle.hm_isa.specs.declared.system.SystemMoveName.TheVariants as move
+use Rattle.hm_isa.specs.declared.system.LaneMoveName.{LaneMoveName}
+use Rattle.hm_isa.specs.declared.system.LaneMoveName.TheVariants as lane
+use Rattle.hm_tokens.specs.Names.{condition_name, register_name}
+use Rattle.hm_tokens.specs.Tokens.{Tok, word, number, mark}
+use Rattle.hm_text_rows.specs.Shapes.{and_constant, and_operand, and_shift, back, braces, comma, constant, four, indexed, inside, one, or_zero, q, r, scaled, three, two}
+use Rattle.hm_thumb.specs.DataRows.{expand_imm_c, imm12}
+use Rattle.hm_text32.specs.Stems.{access_stem, accumulate_stem, barrier_stem, bits_stem, bits_suffix, carry_stem, data_stem, double_name, element_suffix, extend_stem, extract_stem, half_stem, long_stem, move_stem, operation_stem, pair_stem, read_name, saturate_shift, saturate_stem, select_stem, shift_stem, stack_stem, test_stem, turn_stem, wide, wide_branch_stem, wide_list_stem, wide_list_suffix, wide_shift_stem, wide_sum_stem, written_name}
+
+-- DATA
+-- the constant of a row T1
+abbrev pub constant_in : ℕ → ℕ → ℕ → ℕ
+constant_in i i3 i8 = (expand_imm_c (imm12 i i3 i8) false).result
+
+-- `and.w rd,rn,#c`; 15 for the result is a test, and for the first register there is none
+abbrev pub constant_tokens : DataName → ℕ → ℕ → ℕ → ℕ → List Tok
+constant_tokens name s n d c =
+    if nat_eq d 15 then and_constant (one (test_stem name ++ wide) (r n)) c
+    else if nat_eq n 15 then and_constant (one (move_stem name s ++ wide) (r d)) c
+    else and_constant (two (data_stem name s ++ wide) (r d) (r n)) c
+
+-- 0 stands for 32 in shifts to the right
+abbrev pub shift_number : ℕ → ℕ → ℕ
+shift_number ty k = if nat_eq k 0 then (if nat_eq ty 0 then 0 else 32) else k
+
+-- ror by 0 goes through the carry, and lsl by 0 is no shift
+abbrev pub is_by_carry : ℕ → ℕ → Bool
+is_by_carry ty k = nat_eq ty 3 && nat_eq k 0
+
+abbrev pub is_unshifted : ℕ → ℕ → Bool
+is_unshifted ty k = nat_eq ty 0 && nat_eq k 0
+
+-- and a shift of the last register, where there is one
+abbrev pub and_shifted : List Tok → ℕ → ℕ → List Tok
+and_shifted front ty k =
+    if is_by_carry ty k then and_operand front (word (codes "rrx")) else and_shift front (shift_stem ty) (shift_number ty k)
+
+-- `mov.w rd,rm`, `lsl.w rd,rm,#k` and so on, `rrx rd,rm`
+abbrev pub moved_tokens : ℕ → ℕ → ℕ → ℕ → ℕ → List Tok
+moved_tokens s d m ty k =
+    if is_by_carry ty k then two (carry_stem s) (r d) (r m)
+    else if is_unshifted ty k then two (move_stem data_.Orr s ++ wide) (r d) (r m)
+    else and_constant (two (turn_stem ty s ++ wide) (r d) (r m)) (shift_number ty k)
+
+-- with no first register
+abbrev pub single_tokens : DataName → ℕ → ℕ → ℕ → ℕ → ℕ → List Tok
+single_tokens data_.Orr s d m ty k = moved_tokens s d m ty k
+single_tokens name s d m ty k = and_shifted (two (move_stem name s ++ wide) (r d) (r m)) ty k
+
+-- 15 for the result is a test, and for the first register there is none
+abbrev pub data_tokens : DataName → ℕ → ℕ → ℕ → ℕ → ℕ → ℕ → List Tok
+data_tokens name s n d m ty k =
+    if nat_eq d 15 then and_shifted (two (test_stem name ++ wide) (r n) (r m)) ty k
+    else if nat_eq n 15 then single_tokens name s d m ty k
+    else and_shifted (three (data_stem name s ++ wide) (r d) (r n) (r m)) ty k
+
+-- the number of bits that a value is made to fit in
+abbrev pub saturated_bits : SaturateName → ℕ → ℕ
+saturated_bits saturate.Ssat s = s + 1
+saturated_bits saturate.Usat s = s
+
+-- and a shift, which is written by 0 too
+abbrev pub and_turn : List Tok → List ℕ → ℕ → List Tok
+and_turn front kind n = front ++ comma ∷ word kind ∷ constant n
+
+abbrev pub saturate_tokens : SaturateRow → List Tok
+saturate_tokens i =
+    and_turn (and_operand (and_constant (one (saturate_stem i.name) (r i.d.value)) (saturated_bits i.name i.s.value)) (r i.n.value))
+    (saturate_shift i.sh.value) (4 * i.i3.value + i.i2.value)
+
+-- `rd,rn,#lsb,#width`, and `rd,#lsb,#width` where zeros are put in
+abbrev pub insert_tokens : InsertRow → List Tok
+insert_tokens i =
+    and_constant
+    (and_constant (cond (nat_eq i.n.value 15) (one (codes "bfc") (r i.d.value)) (two (codes "bfi") (r i.d.value) (r i.n.value))) (4 * i.i3.value + i.i2.value))
+    (i.e.value + 1 - (4 * i.i3.value + i.i2.value))
+
+abbrev pub product_tokens : ProductRow → List Tok
+product_tokens (t11.Operation i) = three (operation_stem i.name) (r i.d.value) (r i.n.value) (r i.m.value)
+product_tokens (t11.Accumulate i) = four (accumulate_stem i.name) (r i.d.value) (r i.n.value) (r i.m.value) (r i.a.value)
+product_tokens (t11.Long i) = four (long_stem i.name) (r i.l.value) (r i.h.value) (r i.n.value) (r i.m.value)
+
+-- MEMORY
+-- `[rn,#i]`; with an index by P, U and W; `[rn,rm,lsl #i]`; `[pc,#i]`
+abbrev pub access_tokens : AccessRow → List Tok
+access_tokens (t12.Offset i) = word (access_stem i.name ++ wide) ∷ r i.t.value ∷ comma ∷ inside 1 0 (r i.n.value) i.i.value
+access_tokens (t12.Indexed i) = word (access_stem i.name ++ wide) ∷ r i.t.value ∷ comma ∷ indexed i.p.value i.u.value i.w.value (r i.n.value) i.i.value
+access_tokens (t12.Shifted i) = word (access_stem i.name ++ wide) ∷ r i.t.value ∷ comma ∷ scaled i.n.value i.m.value i.i.value
+access_tokens (t12.Literal i) = word (access_stem i.name ++ wide) ∷ r i.t.value ∷ comma ∷ inside i.u.value 0 (r 15) i.i.value
+
+-- `rn`, and `!` where it is written back
+abbrev pub list_start : List ℕ → ℕ → ℕ → List Tok
+list_start name w n = word name ∷ r n ∷ (back w ++ comma ∷ [])
+
+-- `{dv-dw}` of k registers
+abbrev pub doubles : ℕ → ℕ → List Tok
+doubles v k = mark 123 ∷ word (double_name v) ∷ mark 45 ∷ word (double_name (v + k - 1)) ∷ mark 125 ∷ []
+
+abbrev pub special_tokens : SpecialRow → List Tok
+special_tokens (t18.Read i) = two (codes "mrs") (r i.d.value) (word (read_name i.name))
+special_tokens (t18.Write i) = two (codes "msr") (word (written_name i.name)) (r i.n.value)
+
+abbrev pub barrier_tokens : BarrierRow → List Tok
+barrier_tokens t19.Nop = word (codes "nop" ++ wide) ∷ []
+barrier_tokens (t19.Barrier i) = word (barrier_stem i.name) ∷ constant i.o.value
+
+-- read from FPSCR 15 is the four flags
+abbrev pub flags_or : ℕ → Tok
+flags_or t = word (cond (nat_eq t 15) (codes "apsr_nzcv") (register_name t))
+
+abbrev pub system_tokens : SystemMoveName → ℕ → List Tok
+system_tokens move.ReadFpscr t = two (codes "vmrs") (flags_or t) (word (codes "fpscr"))
+system_tokens move.ReadVpr t = two (codes "vmrs") (r t) (word (codes "vpr"))
+system_tokens move.ReadP0 t = two (codes "vmrs") (r t) (word (codes "p0"))
+system_tokens move.WriteFpscr t = two (codes "vmsr") (word (codes "fpscr")) (r t)
+system_tokens move.WriteVpr t = two (codes "vmsr") (word (codes "vpr")) (r t)
+system_tokens move.WriteP0 t = two (codes "vmsr") (word (codes "p0")) (r t)
+
+-- `qd[x]`
+abbrev pub lane_of : ℕ → ℕ → List Tok
+lane_of d x = q d ∷ mark 91 ∷ number x ∷ mark 93 ∷ []
+
+abbrev pub lane_tokens : LaneMoveName → ℕ → ℕ → ℕ → List Tok
+lane_tokens lane.ToLane d x t = word (codes "vmov" ++ codes ".32") ∷ (lane_of d x ++ comma ∷ r t ∷ [])
+lane_tokens lane.FromLane d x t = word (codes "vmov" ++ codes ".32") ∷ r t ∷ comma ∷ lane_of d x
+
+-- those of rows of two halfwords
+abbrev pub scalar_tokens : Scalar → List Tok
+scalar_tokens (T1 i) = constant_tokens i.name i.s.value i.n.value i.d.value (constant_in i.i.value i.i3.value i.i8.value)
+scalar_tokens (T2 i) = data_tokens i.name i.s.value i.n.value i.d.value i.m.value i.ty.value (4 * i.i3.value + i.i2.value)
+scalar_tokens (T3 i) = and_constant (two (wide_sum_stem i.name) (r i.d.value) (r i.n.value)) (2048 * i.i.value + 256 * i.i3.value + i.i8.value)
+scalar_tokens (T4 i) = and_constant (one (half_stem i.name) (r i.d.value)) (4096 * i.i4.value + 2048 * i.i.value + 256 * i.i3.value + i.i8.value)
+scalar_tokens (T5 i) = saturate_tokens i
+scalar_tokens (T6 i) = and_constant (and_constant (two (extract_stem i.name) (r i.d.value) (r i.n.value)) (4 * i.i3.value + i.i2.value)) (i.w.value + 1)
+scalar_tokens (T7 i) = insert_tokens i
+scalar_tokens (T8 i) = three (wide_shift_stem i.name i.s.value ++ wide) (r i.d.value) (r i.n.value) (r i.m.value)
+scalar_tokens (T9 i) = and_shift (two (extend_stem i.name ++ wide) (r i.d.value) (r i.m.value)) (codes "ror") (8 * i.r.value)
+scalar_tokens (T10 i) = two (bits_stem i.name ++ bits_suffix i.name) (r i.d.value) (r i.m.value)
+scalar_tokens (T11 i) = product_tokens i
+scalar_tokens (T12 i) = access_tokens i
+scalar_tokens (T13 i) =
+    word (pair_stem i.name) ∷ r i.t.value ∷ comma ∷ r i.u.value ∷ comma ∷ indexed i.p.value i.add.value i.w.value (r i.n.value) (4 * i.i.value)
+scalar_tokens (T14 i) = list_start (wide_list_stem i.name ++ wide_list_suffix i.name) i.w.value i.n.value ++ braces i.list.value
+scalar_tokens (T15 i) = word (stack_stem i.name) ∷ doubles i.v.value i.k.value
+scalar_tokens (T18 i) = special_tokens i
+scalar_tokens (T19 i) = barrier_tokens i
+scalar_tokens (T20 i) = four (select_stem i.name) (r i.d.value) (or_zero i.n.value) (or_zero i.m.value) (word (condition_name i.c.value))
+scalar_tokens (T21 i) = system_tokens i.name i.t.value
+scalar_tokens (T22 i) = lane_tokens i.name i.q.value i.x.value i.t.value
+scalar_tokens i = []
+
+-- `tbb [rn,rm]`, `tbh [rn,rm,lsl #1]`
+abbrev pub table_tokens : TableName → ℕ → ℕ → List Tok
+table_tokens table.Tbb n m = word (codes "tbb") ∷ mark 91 ∷ r n ∷ comma ∷ r m ∷ mark 93 ∷ []
+table_tokens table.Tbh n m = word (codes "tbh") ∷ mark 91 ∷ r n ∷ comma ∷ r m ∷ comma ∷ word (codes "lsl") ∷ (constant 1 ++ mark 93 ∷ [])
+
+-- LABELS: what stands before them
+-- `beq.w label` and so on, `b.w label`, `bl label`
+abbrev pub wide_branch_tokens : WideBranchRow → List Tok
+wide_branch_tokens (t16.Conditional i) = word (codes "b" ++ (condition_name i.c.value ++ wide)) ∷ []
+wide_branch_tokens (t16.Always i) = word (wide_branch_stem i.name) ∷ []
+
+-- `le lr,label`, `letp lr,label`, `le label`
+abbrev pub loop_end_tokens : LoopEndName → List Tok
+loop_end_tokens loop_end.LeLr = word (codes "le") ∷ r 14 ∷ comma ∷ []
+loop_end_tokens loop_end.Letp = word (codes "letp") ∷ r 14 ∷ comma ∷ []
+loop_end_tokens loop_end.Le = word (codes "le") ∷ []
+
+abbrev pub loop_tokens : LoopRow → List Tok
+loop_tokens (t23.Dls i) = two (codes "dls") (r 14) (r i.n.value)
+loop_tokens (t23.Wls i) = two (codes "wls") (r 14) (r i.n.value) ++ comma ∷ []
+loop_tokens (t23.Dlstp i) = two (codes "dlstp" ++ element_suffix i.z.value) (r 14) (r i.n.value)
+loop_tokens (t23.Wlstp i) = two (codes "wlstp" ++ element_suffix i.z.value) (r 14) (r i.n.value) ++ comma ∷ []
+loop_tokens (t23.End i) = loop_end_tokens i.name
+loop_tokens t23.Lctp = word (codes "lctp") ∷ []
+
+abbrev pub branch_tokens : Branch → List Tok
+branch_tokens (T16 i) = wide_branch_tokens i
+branch_tokens (T17 i) = table_tokens i.name i.n.value i.m.value
+branch_tokens (T23 i) = loop_tokens i
+branch_tokens i = []
+
+-- the tokens of each row of two halfwords that is no vector row, as it is printed; where it has a label, the ones before that; none of other rows
+abbrev pub row_tokens : Instr → List Tok
+row_tokens (instr.Scalar i) = scalar_tokens i
+row_tokens (instr.Branch i) = branch_tokens i
+row_tokens (instr.Vector i) = []
+
+abbrev pub has_label_loop : LoopRow → Bool
+has_label_loop (t23.Dls i) = false
+has_label_loop (t23.Wls i) = true
+has_label_loop (t23.Dlstp i) = false
+has_label_loop (t23.Wlstp i) = true
+has_label_loop (t23.End i) = true
+has_label_loop t23.Lctp = false
+
+abbrev pub has_label_branch : Branch → Bool
+has_label_branch (T16 i) = true
+has_label_branch (T23 i) = has_label_loop i
+has_label_branch i = false
+
+-- whether the last operand of a row is a label: T16, and `wls`, `wlstp`, `le`, `letp` of T23
+abbrev pub has_label : Instr → Bool
+has_label (instr.Scalar i) = false
+has_label (instr.Branch i) = has_label_branch i
+has_label (instr.Vector i) = false
+
+-- the whole text of a row, where t is the token of its label, if it has one
+abbrev pub tokens_of : Instr → Tok → List Tok
+tokens_of i t = if has_label i then row_tokens i ++ t ∷ [] else row_tokens i
+
+-- the other text that is read as a row: `dsb`, `dmb` and `isb` alone as those of 15
+abbrev pub other_barrier : BarrierRow → Option (List Tok)
+other_barrier t19.Nop = None
+other_barrier (t19.Barrier i) = if nat_eq i.o.value 15 then Some (word (barrier_stem i.name) ∷ []) else None
+
+abbrev pub other_scalar : Scalar → Option (List Tok)
+other_scalar (T19 i) = other_barrier i
+other_scalar i = None
+
+abbrev pub other_tokens : Instr → Option (List Tok)
+other_tokens (instr.Scalar i) = other_scalar i
+other_tokens (instr.Branch i) = None
+other_tokens (instr.Vector i) = None

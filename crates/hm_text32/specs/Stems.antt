@@ -1,0 +1,224 @@
+-- The mnemonics of rows of two halfwords: stems, and the names that stand for operands.
+use Rattle.std.specs.Prelude.{ℕ, ◌+◌, List, [], ◌∷◌, ◌++◌, get_or, codes, Option}
+use Rattle.hm_isa.specs.declared.narrow.AccessName.{AccessName}
+use Rattle.hm_isa.specs.declared.narrow.AccessName.TheVariants as access
+use Rattle.hm_isa.specs.declared.narrow.ExtendName.{ExtendName}
+use Rattle.hm_isa.specs.declared.narrow.ExtendName.TheVariants as extend
+use Rattle.hm_isa.specs.declared.narrow.SumName.{SumName}
+use Rattle.hm_isa.specs.declared.narrow.SumName.TheVariants as sum_
+use Rattle.hm_isa.specs.declared.arith.AccumulateName.{AccumulateName}
+use Rattle.hm_isa.specs.declared.arith.AccumulateName.TheVariants as accumulate
+use Rattle.hm_isa.specs.declared.arith.BitsName.{BitsName}
+use Rattle.hm_isa.specs.declared.arith.BitsName.TheVariants as bits
+use Rattle.hm_isa.specs.declared.arith.LongProductName.{LongProductName}
+use Rattle.hm_isa.specs.declared.arith.LongProductName.TheVariants as long
+use Rattle.hm_isa.specs.declared.arith.OperationName.{OperationName}
+use Rattle.hm_isa.specs.declared.arith.OperationName.TheVariants as operation
+use Rattle.hm_isa.specs.declared.arith.SelectName.{SelectName}
+use Rattle.hm_isa.specs.declared.arith.SelectName.TheVariants as select
+use Rattle.hm_isa.specs.declared.arith.WideShiftName.{WideShiftName}
+use Rattle.hm_isa.specs.declared.arith.WideShiftName.TheVariants as wide_shift
+use Rattle.hm_isa.specs.declared.data.DataName.{DataName}
+use Rattle.hm_isa.specs.declared.data.DataName.TheVariants as data_
+use Rattle.hm_isa.specs.declared.data.ExtractName.{ExtractName}
+use Rattle.hm_isa.specs.declared.data.ExtractName.TheVariants as extract
+use Rattle.hm_isa.specs.declared.data.HalfName.{HalfName}
+use Rattle.hm_isa.specs.declared.data.HalfName.TheVariants as half
+use Rattle.hm_isa.specs.declared.data.SaturateName.{SaturateName}
+use Rattle.hm_isa.specs.declared.data.SaturateName.TheVariants as saturate
+use Rattle.hm_isa.specs.declared.jumps.WideBranchName.{WideBranchName}
+use Rattle.hm_isa.specs.declared.jumps.WideBranchName.TheVariants as wide_branch
+use Rattle.hm_isa.specs.declared.wide.PairName.{PairName}
+use Rattle.hm_isa.specs.declared.wide.PairName.TheVariants as pair
+use Rattle.hm_isa.specs.declared.wide.WideListName.{WideListName}
+use Rattle.hm_isa.specs.declared.wide.WideListName.TheVariants as wide_list
+use Rattle.hm_isa.specs.declared.wide.StackName.{StackName}
+use Rattle.hm_isa.specs.declared.wide.StackName.TheVariants as stack
+use Rattle.hm_isa.specs.declared.system.BarrierName.{BarrierName}
+use Rattle.hm_isa.specs.declared.system.BarrierName.TheVariants as barrier
+use Rattle.hm_isa.specs.declared.system.ReadName.{ReadName}
+use Rattle.hm_isa.specs.declared.system.ReadName.TheVariants as read
+use Rattle.hm_isa.specs.declared.system.WrittenName.{WrittenName}
+use Rattle.hm_isa.specs.declared.system.WrittenName.TheVariants as written
+use Rattle.hm_tokens.specs.Names.{number_of}
+use Rattle.hm_text_rows.specs.Shapes.{either}
+
+-- with the point
+abbrev pub wide : List ℕ
+wide = codes ".w"
+
+-- 8, 16, 32 or 64 bits
+abbrev pub element_suffix : ℕ → List ℕ
+element_suffix z = get_or (codes ".8" ∷ codes ".16" ∷ codes ".32" ∷ codes ".64" ∷ []) z []
+
+-- STEMS
+-- with s where the flags tell the result
+abbrev pub data_stem : DataName → ℕ → List ℕ
+data_stem data_.And s = either s (codes "and") (codes "ands")
+data_stem data_.Bic s = either s (codes "bic") (codes "bics")
+data_stem data_.Orr s = either s (codes "orr") (codes "orrs")
+data_stem data_.Orn s = either s (codes "orn") (codes "orns")
+data_stem data_.Eor s = either s (codes "eor") (codes "eors")
+data_stem data_.Add s = either s (codes "add") (codes "adds")
+data_stem data_.Adc s = either s (codes "adc") (codes "adcs")
+data_stem data_.Sbc s = either s (codes "sbc") (codes "sbcs")
+data_stem data_.Sub s = either s (codes "sub") (codes "subs")
+data_stem data_.Rsb s = either s (codes "rsb") (codes "rsbs")
+
+-- with no register for the result; the others are no tests
+abbrev pub test_stem : DataName → List ℕ
+test_stem data_.And = codes "tst"
+test_stem data_.Eor = codes "teq"
+test_stem data_.Add = codes "cmn"
+test_stem data_.Sub = codes "cmp"
+test_stem name = []
+
+-- with no first register; the others have one
+abbrev pub move_stem : DataName → ℕ → List ℕ
+move_stem data_.Orr s = either s (codes "mov") (codes "movs")
+move_stem data_.Orn s = either s (codes "mvn") (codes "mvns")
+move_stem name s = []
+
+-- shifts by their numbers
+abbrev pub shift_stem : ℕ → List ℕ
+shift_stem ty = get_or (codes "lsl" ∷ codes "lsr" ∷ codes "asr" ∷ codes "ror" ∷ []) ty []
+
+-- as mnemonics
+abbrev pub turn_stem : ℕ → ℕ → List ℕ
+turn_stem ty s = either s (shift_stem ty) (get_or (codes "lsls" ∷ codes "lsrs" ∷ codes "asrs" ∷ codes "rors" ∷ []) ty [])
+
+abbrev pub carry_stem : ℕ → List ℕ
+carry_stem s = either s (codes "rrx") (codes "rrxs")
+
+abbrev pub wide_sum_stem : SumName → List ℕ
+wide_sum_stem sum_.Add = codes "addw"
+wide_sum_stem sum_.Sub = codes "subw"
+
+abbrev pub half_stem : HalfName → List ℕ
+half_stem half.Movw = codes "movw"
+half_stem half.Movt = codes "movt"
+
+abbrev pub saturate_stem : SaturateName → List ℕ
+saturate_stem saturate.Ssat = codes "ssat"
+saturate_stem saturate.Usat = codes "usat"
+
+abbrev pub extract_stem : ExtractName → List ℕ
+extract_stem extract.Sbfx = codes "sbfx"
+extract_stem extract.Ubfx = codes "ubfx"
+
+-- with s where the flags tell the result
+abbrev pub wide_shift_stem : WideShiftName → ℕ → List ℕ
+wide_shift_stem wide_shift.Lsl s = either s (codes "lsl") (codes "lsls")
+wide_shift_stem wide_shift.Lsr s = either s (codes "lsr") (codes "lsrs")
+wide_shift_stem wide_shift.Asr s = either s (codes "asr") (codes "asrs")
+wide_shift_stem wide_shift.Ror s = either s (codes "ror") (codes "rors")
+
+abbrev pub extend_stem : ExtendName → List ℕ
+extend_stem extend.Sxth = codes "sxth"
+extend_stem extend.Sxtb = codes "sxtb"
+extend_stem extend.Uxth = codes "uxth"
+extend_stem extend.Uxtb = codes "uxtb"
+
+abbrev pub bits_stem : BitsName → List ℕ
+bits_stem bits.Rev = codes "rev"
+bits_stem bits.Rev16 = codes "rev16"
+bits_stem bits.Rbit = codes "rbit"
+bits_stem bits.Revsh = codes "revsh"
+bits_stem bits.Clz = codes "clz"
+
+-- those that a row of one halfword has too are wide
+abbrev pub bits_suffix : BitsName → List ℕ
+bits_suffix bits.Rbit = []
+bits_suffix bits.Clz = []
+bits_suffix name = wide
+
+abbrev pub operation_stem : OperationName → List ℕ
+operation_stem operation.Mul = codes "mul"
+operation_stem operation.Sdiv = codes "sdiv"
+operation_stem operation.Udiv = codes "udiv"
+
+abbrev pub accumulate_stem : AccumulateName → List ℕ
+accumulate_stem accumulate.Mla = codes "mla"
+accumulate_stem accumulate.Mls = codes "mls"
+
+abbrev pub long_stem : LongProductName → List ℕ
+long_stem long.Smull = codes "smull"
+long_stem long.Umull = codes "umull"
+long_stem long.Smlal = codes "smlal"
+long_stem long.Umlal = codes "umlal"
+
+abbrev pub select_stem : SelectName → List ℕ
+select_stem select.Csel = codes "csel"
+select_stem select.Csinc = codes "csinc"
+select_stem select.Csinv = codes "csinv"
+select_stem select.Csneg = codes "csneg"
+
+abbrev pub barrier_stem : BarrierName → List ℕ
+barrier_stem barrier.Dsb = codes "dsb"
+barrier_stem barrier.Dmb = codes "dmb"
+barrier_stem barrier.Isb = codes "isb"
+
+abbrev pub stack_stem : StackName → List ℕ
+stack_stem stack.Vpush = codes "vpush"
+stack_stem stack.Vpop = codes "vpop"
+
+abbrev pub access_stem : AccessName → List ℕ
+access_stem access.Str = codes "str"
+access_stem access.Strh = codes "strh"
+access_stem access.Strb = codes "strb"
+access_stem access.Ldrsb = codes "ldrsb"
+access_stem access.Ldr = codes "ldr"
+access_stem access.Ldrh = codes "ldrh"
+access_stem access.Ldrb = codes "ldrb"
+access_stem access.Ldrsh = codes "ldrsh"
+
+abbrev pub pair_stem : PairName → List ℕ
+pair_stem pair.Strd = codes "strd"
+pair_stem pair.Ldrd = codes "ldrd"
+
+abbrev pub wide_list_stem : WideListName → List ℕ
+wide_list_stem wide_list.Stmia = codes "stmia"
+wide_list_stem wide_list.Ldmia = codes "ldmia"
+wide_list_stem wide_list.Stmdb = codes "stmdb"
+wide_list_stem wide_list.Ldmdb = codes "ldmdb"
+
+-- those that a row of one halfword has too are wide
+abbrev pub wide_list_suffix : WideListName → List ℕ
+wide_list_suffix wide_list.Stmia = wide
+wide_list_suffix wide_list.Ldmia = wide
+wide_list_suffix wide_list.Stmdb = []
+wide_list_suffix wide_list.Ldmdb = []
+
+-- with its suffix
+abbrev pub wide_branch_stem : WideBranchName → List ℕ
+wide_branch_stem wide_branch.B = codes "b.w"
+wide_branch_stem wide_branch.Bl = codes "bl"
+
+-- how a row T5 shifts
+abbrev pub saturate_shift : ℕ → List ℕ
+saturate_shift sh = either sh (codes "lsl") (codes "asr")
+
+-- HALVES OF VECTOR REGISTERS, in the order of their numbers
+abbrev pub double_names : List (List ℕ)
+double_names =
+    codes "d0" ∷ codes "d1" ∷ codes "d2" ∷ codes "d3" ∷ codes "d4" ∷ codes "d5" ∷ codes "d6" ∷ codes "d7"
+    ∷ codes "d8" ∷ codes "d9" ∷ codes "d10" ∷ codes "d11" ∷ codes "d12" ∷ codes "d13" ∷ codes "d14" ∷ codes "d15" ∷ []
+
+abbrev pub double_name : ℕ → List ℕ
+double_name n = get_or double_names n []
+
+abbrev pub double_in : List ℕ → Option ℕ
+double_in name = number_of 0 name double_names
+
+-- SPECIAL REGISTERS
+abbrev pub read_name : ReadName → List ℕ
+read_name read.Apsr = codes "apsr"
+read_name read.Ipsr = codes "ipsr"
+read_name read.Msp = codes "msp"
+read_name read.Primask = codes "primask"
+read_name read.Control = codes "control"
+
+abbrev pub written_name : WrittenName → List ℕ
+written_name written.Apsr = codes "apsr"
+written_name written.Msp = codes "msp"
+written_name written.Primask = codes "primask"

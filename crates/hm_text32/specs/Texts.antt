@@ -1,0 +1,44 @@
+-- Which texts a row has.
+use Rattle.std.specs.Prelude.{◌≡◌, ◌⊎◌, ℕ, List, Option, Some, None, if◌then◌else◌}
+use Rattle.hm_isa.specs.declared.Instr.{Instr}
+use Rattle.hm_enc32.specs.Table.{IsWide}
+use Rattle.hm_text_rows.specs.Labels.{IsLabel, NamesTarget, Reaches}
+use Rattle.hm_tokens.specs.Lines.{IsLineOf, printed, printed_at}
+use Rattle.hm_tokens.specs.Ranges.{normal}
+use Rattle.hm_tokens.specs.Tokens.{Tok}
+use Rattle.hm_text32.specs.Rows.{has_label, other_tokens, row_tokens, tokens_of}
+use Rattle.hm_text32.specs.Targets.{target}
+
+-- tokens are those of a row as it is printed, where t stands for its label, or those of its other text
+abbrev pub AreTokens : Instr → Tok → List Tok → Type 0
+AreTokens i t ts = (tokens_of i t ≡ ts) ⊎ (other_tokens i ≡ Some ts)
+
+-- tokens with single registers are a row's, where t stands for its label; where it has none, t is any
+pub record HasTokens (i : Instr) (t : Tok) (ts : List Tok) : Type 0 where
+  pub wide : IsWide i
+  pub label : IsLabel t
+  pub tokens : AreTokens i t ts
+
+-- the label of a row, where it has one
+abbrev pub label_of : Instr → Tok → Option Tok
+label_of i t = if has_label i then Some t else None
+
+-- tokens with single registers are a row's that stands at pc, with a label that names the address a
+pub record IsRowAt (ts : List Tok) (pc : ℕ) (a : ℕ) (i : Instr) : Type 0 where
+  pub label : Tok
+  pub has : HasTokens i label ts
+  pub reaches : Reaches (target i pc) a
+
+-- the text is that of a row which stands at pc, where the labels say what names name; its lists may have ranges
+pub record IsTextOf (text : List ℕ) (pc : ℕ) (labels : List ℕ → Option ℕ) (i : Instr) : Type 0 where
+  pub tokens : List Tok
+  pub label : Tok
+  pub line : IsLineOf text tokens
+  pub has : HasTokens i label (normal tokens)
+  pub names : NamesTarget labels label (target i pc)
+
+-- PRINTED
+-- the text of a row as it is printed: of one with a label, with the address that this names
+abbrev pub text_of : Instr → Option ℕ → List ℕ
+text_of i (Some a) = printed_at (row_tokens i) a
+text_of i None = printed (row_tokens i)

@@ -1,0 +1,106 @@
+//! The texts of the rows of two halfwords that are no vector rows: printed, and read from tokens.
+#![tactic(auto)]
+
+ghost use Rattle.std.specs.Prelude.{◌≡◌, ◌≤◌, ℕ, IfSome, List, Option, Some, length, map, option_map};
+ghost use Rattle.hm_enc32.specs.Table.{IsWide};
+ghost use Rattle.hm_isa.specs.declared.Instr.{Instr};
+ghost use Rattle.hm_text32.specs.Targets.{target};
+ghost use Rattle.hm_text32.specs.Texts.{HasTokens, IsRowAt, IsTextOf, label_of, text_of};
+ghost use Rattle.hm_tokens.specs.Ranges.{normal};
+ghost use Rattle.hm_tokens.specs.Tokens.{Tok, tok};
+
+mod bases;
+mod codes;
+mod constants;
+mod jumps;
+mod memory;
+mod memory_codes;
+mod operands;
+mod rows;
+mod stems;
+mod targets;
+mod texts;
+
+use arrayvec::ArrayString;
+use codes::code_in;
+use hm_enc32::decode32;
+use hm_isa::Instr;
+pub use hm_text_rows::Shape;
+use hm_tokens::{Token, single_registers};
+use rows::row_text;
+pub use targets::target;
+use texts::{is_row_at, label_in};
+
+/// The text of a row, with the address that its label names, if it has one.
+fn print_with(i: &Instr, address: Option<u32>) -> ArrayString<96>
+    requires wide { IsWide i.now }
+    requires room { length (text_of i.now address) ≤ 96 }
+    ensures text { result.bytes ≡ text_of i.now address }
+{
+    match address {
+        Some(address) => row_text(i).print_at(address),
+        None => row_text(i).print(),
+    }
+}
+
+/// The text of a row of two halfwords, no vector row, that stands at `pc`: the mnemonic, a space, and the operands with commas
+/// between them, numbers in decimal, and for a label the address that it names as `0x` and eight digits. `read32` gives the row again.
+pub fn print32(i: &Instr, pc: u32) -> ArrayString<96>
+    requires wide { IsWide i.now }
+    ensures text { result.bytes ≡ text_of i.now (target i.now pc) }
+    ensures read { (labels : List ℕ → Option ℕ) → IsTextOf result.bytes pc labels i.now }
+{
+    print_with(i, target(i, pc))
+}
+
+/// The last code of 32 bits.
+const LAST: u64 = 0xffff_ffff;
+
+/// The row that has these tokens, of which none is a range: that of the code that they ask for, if it has them.
+fn row_of(tokens: &[Token<'_>], pc: u32, address: u32) -> Option<Instr>
+    ensures found { IfSome result (λ i. IsRowAt (map tok tokens.now) pc address i) }
+    ensures only { (i : Instr) → IsRowAt (map tok tokens.now) pc address i → result ≡ Some i }
+{
+    let code = code_in(tokens, pc, address)?;
+    if code > LAST {
+        return None;
+    }
+    let i = decode32(code as u32)?;
+    if is_row_at(&i, tokens, pc, address) {
+        return Some(i);
+    }
+    None
+}
+
+/// The row of two halfwords, no vector row, that stands at `pc` and has these tokens, with single registers or ranges in its list,
+/// where its label, if it has one, names `address`; `dsb`, `dmb` and `isb` alone are those of `#15`. None where there is no such row.
+pub fn read32(tokens: &[Token<'_>], pc: u32, address: u32) -> Option<Instr>
+    ensures found { IfSome result (λ i. IsRowAt (normal (map tok tokens.now)) pc address i) }
+    ensures only { (i : Instr) → IsRowAt (normal (map tok tokens.now)) pc address i → result ≡ Some i }
+{
+    let single = single_registers(tokens)?;
+    row_of(single.as_slice(), pc, address)
+}
+
+/// The shape of tokens of which none is a range. Each row with a label has one that names 4 from address 0.
+fn shape_of<'a>(tokens: &[Token<'a>]) -> Option<Shape<'a>>
+    ensures found { IfSome result (λ s. (i : Instr) × (t : Tok) × HasTokens i t (map tok tokens.now) × (label_of i t ≡ option_map tok s.label)) }
+    ensures only { (i : Instr) (t : Tok) → HasTokens i t (map tok tokens.now) → option_map (λ s. option_map tok s.label) result ≡ Some (label_of i t) }
+{
+    let i = row_of(tokens, 0, 4)?;
+    let label = label_in(&i, tokens);
+    Some(Shape { label })
+}
+
+/// What is the same for each row of two halfwords, no vector row, with these tokens, wherever it stands and whatever its label
+/// names. None where no row has them.
+pub fn shape32<'a>(tokens: &[Token<'a>]) -> Option<Shape<'a>>
+    ensures found { IfSome result (λ s. (i : Instr) × (t : Tok) × HasTokens i t (normal (map tok tokens.now)) × (label_of i t ≡ option_map tok s.label)) }
+    ensures only { (i : Instr) (t : Tok) → HasTokens i t (normal (map tok tokens.now)) → option_map (λ s. option_map tok s.label) result ≡ Some (label_of i t) }
+{
+    let single = single_registers(tokens)?;
+    shape_of(single.as_slice())
+}
+
+#[cfg(test)]
+mod tests;

@@ -1,0 +1,5 @@
+pub mod Words
+pub mod Printed
+pub mod Tails
+pub mod Registers
+pub mod Fits

@@ -1,0 +1,94 @@
+-- The shapes that texts of rows have.
+use Rattle.std.specs.Prelude.{ℕ, zero, suc, ◌+◌, cond, List, [], ◌∷◌, ◌++◌, codes, nat_eq, if◌then◌else◌}
+use Rattle.hm_isa.specs.Rules.{listed_in}
+use Rattle.hm_tokens.specs.Names.{register_name, vector_name}
+use Rattle.hm_tokens.specs.Tokens.{Tok, word, number, mark}
+
+-- OPERANDS
+abbrev pub q : ℕ → Tok
+q d = word (vector_name d)
+
+abbrev pub r : ℕ → Tok
+r n = word (register_name n)
+
+-- as some operands 15 is `zr`
+abbrev pub or_zero : ℕ → Tok
+or_zero n = word (cond (nat_eq n 15) (codes "zr") (register_name n))
+
+abbrev pub comma : Tok
+comma = mark 44
+
+-- `#n`
+abbrev pub constant : ℕ → List Tok
+constant n = mark 35 ∷ number n ∷ []
+
+-- one of two stems, by a bit
+abbrev pub either : ℕ → List ℕ → List ℕ → List ℕ
+either bit zero_ one_ = cond (nat_eq bit 0) zero_ one_
+
+-- SHAPES
+abbrev pub one : List ℕ → Tok → List Tok
+one name a = word name ∷ a ∷ []
+
+abbrev pub two : List ℕ → Tok → Tok → List Tok
+two name a b = word name ∷ a ∷ comma ∷ b ∷ []
+
+abbrev pub three : List ℕ → Tok → Tok → Tok → List Tok
+three name a b c = word name ∷ a ∷ comma ∷ b ∷ comma ∷ c ∷ []
+
+abbrev pub four : List ℕ → Tok → Tok → Tok → Tok → List Tok
+four name a b c d = word name ∷ a ∷ comma ∷ b ∷ comma ∷ c ∷ comma ∷ d ∷ []
+
+-- and one operand more
+abbrev pub and_operand : List Tok → Tok → List Tok
+and_operand front a = front ++ comma ∷ a ∷ []
+
+-- and a constant behind them
+abbrev pub and_constant : List Tok → ℕ → List Tok
+and_constant front n = front ++ comma ∷ constant n
+
+-- and a shift, as `lsl #n`, where it is not by 0
+abbrev pub and_shift : List Tok → List ℕ → ℕ → List Tok
+and_shift front kind n = cond (nat_eq n 0) front (front ++ comma ∷ word kind ∷ constant n)
+
+-- ADDRESSES
+-- a minus sign, where the offset is taken away
+abbrev pub minus : ℕ → List Tok
+minus a = cond (nat_eq a 0) (mark 45 ∷ []) []
+
+-- `!`, where the address is written back
+abbrev pub back : ℕ → List Tok
+back w = cond (nat_eq w 0) [] (mark 33 ∷ [])
+
+-- `,#n`
+abbrev pub offset : ℕ → ℕ → List Tok
+offset a n = comma ∷ mark 35 ∷ (minus a ++ number n ∷ [])
+
+-- `[base,#n]`, `[base,#n]!`, and where the offset goes to the base alone `[base],#n`
+abbrev pub inside : ℕ → ℕ → Tok → ℕ → List Tok
+inside a w base n = mark 91 ∷ base ∷ (offset a n ++ mark 93 ∷ back w)
+
+abbrev pub outside : ℕ → Tok → ℕ → List Tok
+outside a base n = mark 91 ∷ base ∷ mark 93 ∷ offset a n
+
+abbrev pub indexed : ℕ → ℕ → ℕ → Tok → ℕ → List Tok
+indexed p a w base n = cond (nat_eq p 0) (outside a base n) (inside a w base n)
+
+-- `[rn,rm,lsl #k]`
+abbrev pub scaled : ℕ → ℕ → ℕ → List Tok
+scaled n m k = mark 91 ∷ r n ∷ comma ∷ r m ∷ comma ∷ word (codes "lsl") ∷ mark 35 ∷ number k ∷ mark 93 ∷ []
+
+-- LISTS
+-- those of the registers from k up, so many, that stand in a list
+abbrev pub registers_from : ℕ → ℕ → ℕ → List ℕ
+registers_from zero k list = []
+registers_from (suc n) k list = if listed_in list k then k ∷ registers_from n (k + 1) list else registers_from n (k + 1) list
+
+-- registers, each behind a mark: the first behind this one, and the others behind a comma
+abbrev pub listed : ℕ → List ℕ → List Tok
+listed m [] = []
+listed m (k ∷ ks) = mark m ∷ r k ∷ listed 44 ks
+
+-- `{..}`, the registers in rising order
+abbrev pub braces : ℕ → List Tok
+braces list = listed 123 (registers_from 16 0 list) ++ mark 125 ∷ []

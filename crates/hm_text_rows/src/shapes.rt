@@ -1,0 +1,157 @@
+//! The shapes that texts of rows have.
+
+ghost use Rattle.std.specs.Prelude.{◌≡◌, ◌≤◌, ◌<◌, ◌+◌, ◌++◌, ◌∷◌, [], length};
+ghost use Rattle.hm_text_rows.specs.Shapes.{and_constant, and_operand, and_shift, comma, constant, four, one, or_zero, q, r, three, two};
+ghost use Rattle.hm_tokens.specs.Marks.{mark_byte};
+ghost use Rattle.hm_tokens.specs.Texts.{part_token, text_tokens};
+ghost use Rattle.hm_tokens.specs.Tokens.{mark, word};
+
+use arrayvec::ArrayVec;
+use hm_isa::{QRegister, Register};
+use hm_tokens::{InstrText, Mark, Part, register_name, vector_name};
+
+/// A vector register.
+pub fn q(n: QRegister) -> Part
+    ensures { part_token result ≡ q n.value }
+{
+    Part::Word(vector_name(n.get()))
+}
+
+/// A core register.
+pub fn r(n: u32) -> Part
+    requires { n < 16 }
+    ensures { part_token result ≡ r n }
+{
+    Part::Word(register_name(n))
+}
+
+/// A core register, or zero where it is 15.
+pub fn or_zero(n: Register) -> Part
+    ensures { part_token result ≡ or_zero n.value }
+{
+    if n.get() == 15 {
+        Part::Word("zr")
+    } else {
+        r(n.get())
+    }
+}
+
+/// A mnemonic with no operands.
+pub fn alone(stem: &'static str, letters: &'static str, suffix: &'static str) -> InstrText
+    ensures tokens { text_tokens result ≡ word (stem.now ++ (letters.now ++ suffix.now)) ∷ [] }
+    ensures room { length result.operands.items ≡ 0 }
+    ensures pieces { (result.stem.now ≡ stem.now) × (result.letters.now ≡ letters.now) × (result.suffix.now ≡ suffix.now) }
+{
+    InstrText {
+        stem,
+        letters,
+        suffix,
+        operands: ArrayVec::new(),
+    }
+}
+
+/// The text with a word, a number or a mark more.
+pub fn with(mut text: InstrText, part: Part) -> InstrText
+    requires { length text.operands.items ≤ 38 }
+    ensures tokens { text_tokens result ≡ text_tokens text ++ part_token part ∷ [] }
+    ensures room { length result.operands.items ≡ length text.operands.items + 1 }
+{
+    text.operands.push(part);
+    text
+}
+
+/// The text with a mark more.
+pub fn marked(text: InstrText, which: Mark) -> InstrText
+    requires { length text.operands.items ≤ 38 }
+    ensures tokens { text_tokens result ≡ text_tokens text ++ mark (mark_byte which) ∷ [] }
+    ensures room { length result.operands.items ≡ length text.operands.items + 1 }
+{
+    with(text, Part::Mark(which))
+}
+
+/// The text with a first operand.
+pub fn first(mut text: InstrText, operand: Part) -> InstrText
+    requires { length text.operands.items ≡ 0 }
+    ensures tokens { text_tokens result ≡ word (text.stem.now ++ (text.letters.now ++ text.suffix.now)) ∷ part_token operand ∷ [] }
+    ensures room { length result.operands.items ≡ 1 }
+{
+    text.operands.push(operand);
+    text
+}
+
+/// The mnemonic and one operand.
+pub fn one(stem: &'static str, suffix: &'static str, a: Part) -> InstrText
+    ensures tokens { text_tokens result ≡ one (stem.now ++ suffix.now) (part_token a) }
+    ensures room { length result.operands.items ≡ 1 }
+{
+    first(alone(stem, "", suffix), a)
+}
+
+/// The text with one operand more, behind a comma.
+pub fn and(mut text: InstrText, operand: Part) -> InstrText
+    requires { length text.operands.items ≤ 30 }
+    ensures tokens { text_tokens result ≡ and_operand (text_tokens text) (part_token operand) }
+    ensures room { length result.operands.items ≡ length text.operands.items + 2 }
+{
+    text.operands.push(Part::Mark(Mark::Comma));
+    text.operands.push(operand);
+    text
+}
+
+/// The text with a constant more, behind a comma.
+pub fn and_constant(mut text: InstrText, n: u32) -> InstrText
+    requires { length text.operands.items ≤ 30 }
+    ensures tokens { text_tokens result ≡ and_constant (text_tokens text) n }
+    ensures room { length result.operands.items ≡ length text.operands.items + 3 }
+{
+    text.operands.push(Part::Mark(Mark::Comma));
+    text.operands.push(Part::Mark(Mark::Hash));
+    text.operands.push(Part::Number(n));
+    text
+}
+
+/// The mnemonic and two operands.
+pub fn two(stem: &'static str, suffix: &'static str, a: Part, b: Part) -> InstrText
+    ensures tokens { text_tokens result ≡ two (stem.now ++ suffix.now) (part_token a) (part_token b) }
+    ensures room { length result.operands.items ≡ 3 }
+{
+    and(one(stem, suffix, a), b)
+}
+
+/// The mnemonic and three operands.
+pub fn three(stem: &'static str, suffix: &'static str, a: Part, b: Part, c: Part) -> InstrText
+    ensures tokens { text_tokens result ≡ three (stem.now ++ suffix.now) (part_token a) (part_token b) (part_token c) }
+    ensures room { length result.operands.items ≡ 5 }
+{
+    and(two(stem, suffix, a, b), c)
+}
+
+/// The mnemonic and four operands.
+pub fn four(
+    stem: &'static str,
+    suffix: &'static str,
+    a: Part,
+    b: Part,
+    c: Part,
+    d: Part,
+) -> InstrText
+    ensures tokens { text_tokens result ≡ four (stem.now ++ suffix.now) (part_token a) (part_token b) (part_token c) (part_token d) }
+    ensures room { length result.operands.items ≡ 7 }
+{
+    and(three(stem, suffix, a, b, c), d)
+}
+
+/// The text with a shift more, behind a comma, where it is not by 0.
+pub fn and_shift(mut text: InstrText, kind: &'static str, n: u32) -> InstrText
+    requires { length text.operands.items ≤ 30 }
+    ensures tokens { text_tokens result ≡ and_shift (text_tokens text) kind.now n }
+{
+    if n == 0 {
+        return text;
+    }
+    text.operands.push(Part::Mark(Mark::Comma));
+    text.operands.push(Part::Word(kind));
+    text.operands.push(Part::Mark(Mark::Hash));
+    text.operands.push(Part::Number(n));
+    text
+}
