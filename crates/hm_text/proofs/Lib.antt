@@ -1,0 +1,13 @@
+pub mod Targets
+pub mod Lines
+pub mod NarrowNames
+pub mod VectorNames
+pub mod WideNames
+pub mod Formed
+pub mod FormedNarrow
+pub mod FormedVectors
+pub mod WideRows
+pub mod Apart
+pub mod Printing
+pub mod InTables
+pub mod Told

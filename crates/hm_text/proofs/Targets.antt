@@ -1,0 +1,211 @@
+-- Each row has its label and its target by its own table alone.
+use Rattle.std.proofs.Common.{◌≡◌, ◌⊎◌, ℕ, ◌%◌, ◌^◌, ◌<◌, Bool, true, false, cond, List, [], ◌∷◌, length, Option, Some, None, refl, sym, ap, subst, inl, inr, arith}
+use Rattle.std.specs.Prelude.{◌||◌}
+use Rattle.hm_isa.specs.declared.Branch.{Branch}
+use Rattle.hm_isa.specs.declared.Branch.TheVariants as branch
+use Rattle.hm_isa.specs.declared.Instr.{Instr}
+use Rattle.hm_isa.specs.declared.Instr.TheVariants as instr
+use Rattle.hm_isa.specs.declared.Scalar.{Scalar}
+use Rattle.hm_isa.specs.declared.Scalar.TheVariants as scalar
+use Rattle.hm_isa.specs.declared.jumps.T16.TheVariants as t16
+use Rattle.hm_isa.specs.declared.jumps.T23.{T23}
+use Rattle.hm_isa.specs.declared.jumps.T23.TheVariants as t23
+use Rattle.hm_isa.specs.Code.{branch_halves, halfwords, scalar_halves}
+use Rattle.hm_enc32.specs.Table.{IsWide}
+use Rattle.hm_tokens.specs.Tokens.{Tok}
+use Rattle.hm_text16.specs.Rows as narrow_rows
+use Rattle.hm_text16.specs.Targets as narrow_targets
+use Rattle.hm_text16.specs.Texts as narrow
+use Rattle.hm_text16.proofs.Laws.{IsGiven}
+use Rattle.hm_text16.proofs.Laws as narrow_laws
+use Rattle.hm_text32.specs.Rows as wide_rows
+use Rattle.hm_text32.specs.Targets as wide_targets
+use Rattle.hm_text32.specs.Texts as wide
+use Rattle.hm_text.specs.Tables.{either, has_label, label_of, target}
+
+-- HALFWORDS
+
+pub not_two : (hs : List ℕ) → length hs ≡ 1 → length hs ≡ 2 → ⊥
+not_two hs e f = omega (arith, e, f)
+
+pub scalar_lengths : (i : Scalar) → (length (scalar_halves i) ≡ 1) ⊎ (length (scalar_halves i) ≡ 2)
+scalar_lengths (scalar.S1 i) = inl refl
+scalar_lengths (scalar.S2 i) = inl refl
+scalar_lengths (scalar.S3 i) = inl refl
+scalar_lengths (scalar.S4 i) = inl refl
+scalar_lengths (scalar.S5 i) = inl refl
+scalar_lengths (scalar.S6 i) = inl refl
+scalar_lengths (scalar.S7 i) = inl refl
+scalar_lengths (scalar.S8 i) = inl refl
+scalar_lengths (scalar.S9 i) = inl refl
+scalar_lengths (scalar.S10 i) = inl refl
+scalar_lengths (scalar.S11 i) = inl refl
+scalar_lengths (scalar.S12 i) = inl refl
+scalar_lengths (scalar.S13 i) = inl refl
+scalar_lengths (scalar.S14 i) = inl refl
+scalar_lengths (scalar.S15 i) = inl refl
+scalar_lengths (scalar.S16 i) = inl refl
+scalar_lengths (scalar.S17 i) = inl refl
+scalar_lengths (scalar.S18 i) = inl refl
+scalar_lengths (scalar.S19 i) = inl refl
+scalar_lengths (scalar.S20 i) = inl refl
+scalar_lengths (scalar.S21 i) = inl refl
+scalar_lengths i = inr refl
+
+pub branch_lengths : (i : Branch) → (length (branch_halves i) ≡ 1) ⊎ (length (branch_halves i) ≡ 2)
+branch_lengths (branch.S23 i) = inl refl
+branch_lengths (branch.S24 i) = inl refl
+branch_lengths (branch.S25 i) = inl refl
+branch_lengths i = inr refl
+
+pub lengths : (i : Instr) → (length (halfwords i) ≡ 1) ⊎ (length (halfwords i) ≡ 2)
+lengths (instr.Scalar i) = scalar_lengths i
+lengths (instr.Branch i) = branch_lengths i
+lengths (instr.Vector i) = inr refl
+
+-- A ROW OF ONE HALFWORD
+abbrev two_halves : List ℕ
+two_halves = 0 ∷ 0 ∷ []
+
+no_narrow : length two_halves ≡ 1 → ⊥
+no_narrow e = omega (arith, e)
+
+no_wide_label : (i : Branch) → length (branch_halves i) ≡ 1 → wide_rows.has_label (instr.Branch i) ≡ false
+no_wide_label (branch.T16 i) e = absurd (no_narrow e)
+no_wide_label (branch.T17 i) e = absurd (no_narrow e)
+no_wide_label (branch.T23 i) e = absurd (no_narrow e)
+no_wide_label i e = refl
+
+no_wide_target : (i : Branch) (pc : ℕ) → length (branch_halves i) ≡ 1 → wide_targets.target (instr.Branch i) pc ≡ None
+no_wide_target (branch.T16 i) pc e = absurd (no_narrow e)
+no_wide_target (branch.T17 i) pc e = absurd (no_narrow e)
+no_wide_target (branch.T23 i) pc e = absurd (no_narrow e)
+no_wide_target i pc e = refl
+
+wide_label_none : (i : Instr) → narrow.IsNarrow i → wide_rows.has_label i ≡ false
+wide_label_none (instr.Scalar i) e = refl
+wide_label_none (instr.Branch i) e = no_wide_label i e
+wide_label_none (instr.Vector i) e = refl
+
+wide_target_none : (i : Instr) (pc : ℕ) → narrow.IsNarrow i → wide_targets.target i pc ≡ None
+wide_target_none (instr.Scalar i) pc e = refl
+wide_target_none (instr.Branch i) pc e = no_wide_target i pc e
+wide_target_none (instr.Vector i) pc e = refl
+
+or_left : (a b : Bool) → b ≡ false → a ≡ (a || b)
+or_left true b e = refl
+or_left false b e = sym e
+
+first_left : (o p : Option ℕ) → p ≡ None → o ≡ either o p
+first_left (Some a) p e = refl
+first_left None p e = sym e
+
+pub narrow_has_label : (i : Instr) → narrow.IsNarrow i → narrow_rows.has_label i ≡ has_label i
+narrow_has_label i e = or_left (narrow_rows.has_label i) (wide_rows.has_label i) (wide_label_none i e)
+
+pub narrow_target : (i : Instr) (pc : ℕ) → narrow.IsNarrow i → narrow_targets.target i pc ≡ target i pc
+narrow_target i pc e = first_left (narrow_targets.target i pc) (wide_targets.target i pc) (wide_target_none i pc e)
+
+pub narrow_label : (i : Instr) (t : Tok) → narrow.IsNarrow i → narrow.label_of i t ≡ label_of i t
+narrow_label i t e = ap (λ (b : Bool). cond b (Some t) None) (narrow_has_label i e)
+
+-- A ROW OF TWO, NO VECTOR ROW
+abbrev alone : List ℕ
+alone = 0 ∷ []
+
+no_two : length alone ≡ 2 → ⊥
+no_two e = omega (arith, e)
+
+no_narrow_scalar : (i : Scalar) → length (scalar_halves i) ≡ 2 → narrow_rows.has_label (instr.Scalar i) ≡ false
+no_narrow_scalar (scalar.S14 i) e = absurd (no_two e)
+no_narrow_scalar i e = refl
+
+no_narrow_branch : (i : Branch) → length (branch_halves i) ≡ 2 → narrow_rows.has_label (instr.Branch i) ≡ false
+no_narrow_branch (branch.S24 i) e = absurd (no_two e)
+no_narrow_branch (branch.S25 i) e = absurd (no_two e)
+no_narrow_branch i e = refl
+
+no_scalar_target : (i : Scalar) (pc : ℕ) → length (scalar_halves i) ≡ 2 → narrow_targets.target (instr.Scalar i) pc ≡ None
+no_scalar_target (scalar.S14 i) pc e = absurd (no_two e)
+no_scalar_target i pc e = refl
+
+no_branch_target : (i : Branch) (pc : ℕ) → length (branch_halves i) ≡ 2 → narrow_targets.target (instr.Branch i) pc ≡ None
+no_branch_target (branch.S24 i) pc e = absurd (no_two e)
+no_branch_target (branch.S25 i) pc e = absurd (no_two e)
+no_branch_target i pc e = refl
+
+narrow_label_none : (i : Instr) → IsWide i → narrow_rows.has_label i ≡ false
+narrow_label_none (instr.Scalar i) e = no_narrow_scalar i e
+narrow_label_none (instr.Branch i) e = no_narrow_branch i e
+narrow_label_none (instr.Vector i) e = absurd e
+
+narrow_target_none : (i : Instr) (pc : ℕ) → IsWide i → narrow_targets.target i pc ≡ None
+narrow_target_none (instr.Scalar i) pc e = no_scalar_target i pc e
+narrow_target_none (instr.Branch i) pc e = no_branch_target i pc e
+narrow_target_none (instr.Vector i) pc e = absurd e
+
+or_right : (a b : Bool) → a ≡ false → b ≡ (a || b)
+or_right a b e = rw e refl
+
+first_right : (o p : Option ℕ) → o ≡ None → p ≡ either o p
+first_right o p e = rw e refl
+
+pub wide_has_label : (i : Instr) → IsWide i → wide_rows.has_label i ≡ has_label i
+wide_has_label i e = or_right (narrow_rows.has_label i) (wide_rows.has_label i) (narrow_label_none i e)
+
+pub wide_target : (i : Instr) (pc : ℕ) → IsWide i → wide_targets.target i pc ≡ target i pc
+wide_target i pc e = first_right (narrow_targets.target i pc) (wide_targets.target i pc) (narrow_target_none i pc e)
+
+pub wide_label : (i : Instr) (t : Tok) → IsWide i → wide.label_of i t ≡ label_of i t
+wide_label i t e = ap (λ (b : Bool). cond b (Some t) None) (wide_has_label i e)
+
+pub wide_length : (i : Instr) → IsWide i → length (halfwords i) ≡ 2
+wide_length (instr.Scalar i) e = e
+wide_length (instr.Branch i) e = e
+wide_length (instr.Vector i) e = absurd e
+
+-- A TARGET WHERE THERE IS A LABEL
+word_below : (n : ℕ) → n % 2 ^ 32 < 2 ^ 32
+word_below n = omega arith
+
+given_loop : (i : T23) (pc : ℕ) → IsGiven (wide_rows.has_label (instr.Branch (branch.T23 i))) (wide_targets.target (instr.Branch (branch.T23 i)) pc)
+given_loop (t23.Dls i) pc = tt
+given_loop (t23.Wls i) pc = word_below _
+given_loop (t23.Dlstp i) pc = tt
+given_loop (t23.Wlstp i) pc = word_below _
+given_loop (t23.End i) pc = word_below _
+given_loop t23.Lctp pc = tt
+
+given_branch : (i : Branch) (pc : ℕ) → IsGiven (wide_rows.has_label (instr.Branch i)) (wide_targets.target (instr.Branch i) pc)
+given_branch (branch.T16 (t16.Conditional i)) pc = word_below _
+given_branch (branch.T16 (t16.Always i)) pc = word_below _
+given_branch (branch.T23 i) pc = given_loop i pc
+given_branch i pc = tt
+
+pub given_wide : (i : Instr) (pc : ℕ) → IsGiven (wide_rows.has_label i) (wide_targets.target i pc)
+given_wide (instr.Scalar i) pc = tt
+given_wide (instr.Branch i) pc = given_branch i pc
+given_wide (instr.Vector i) pc = tt
+
+given_as : (a b : Bool) (o p : Option ℕ) → a ≡ b → o ≡ p → IsGiven a o → IsGiven b p
+given_as a b o p e f g = subst (λ (x : Bool). IsGiven x p) e (subst (λ (x : Option ℕ). IsGiven a x) f g)
+
+given_narrow : (i : Instr) (pc : ℕ) → narrow.IsNarrow i → IsGiven (has_label i) (target i pc)
+given_narrow i pc e =
+    given_as (narrow_rows.has_label i) (has_label i) (narrow_targets.target i pc) (target i pc) (narrow_has_label i e) (narrow_target i pc e) (narrow_laws.given_target i pc)
+
+given_two : (i : Instr) (pc : ℕ) → IsWide i → IsGiven (has_label i) (target i pc)
+given_two i pc e = given_as (wide_rows.has_label i) (has_label i) (wide_targets.target i pc) (target i pc) (wide_has_label i e) (wide_target i pc e) (given_wide i pc)
+
+pub given_target : (i : Instr) (pc : ℕ) → IsGiven (has_label i) (target i pc)
+given_target (instr.Scalar i) pc =
+    elim (scalar_lengths i) [
+      | inl e ↦ given_narrow (instr.Scalar i) pc e
+      | inr e ↦ given_two (instr.Scalar i) pc e
+    ]
+given_target (instr.Branch i) pc =
+    elim (branch_lengths i) [
+      | inl e ↦ given_narrow (instr.Branch i) pc e
+      | inr e ↦ given_two (instr.Branch i) pc e
+    ]
+given_target (instr.Vector i) pc = tt

@@ -1,0 +1,138 @@
+-- The mnemonic of a vector row begins with v.
+use Rattle.std.proofs.Common.{◌≡◌, ℕ, Bool, true, false, eqb, List, [], ◌∷◌, Option, Some, None, refl, inl, inr}
+use Rattle.std.specs.Prelude.{bytes_eq, codes, ◌||◌}
+use Rattle.std.proofs.lemmas.Bool.{cases_Bool}
+use Rattle.std.proofs.lemmas.Slice.Eq.{bytes_eq-Decides}
+use Rattle.hm_text_base.specs.Spans.{span}
+use Rattle.hm_tokens.specs.Tokens.{Tok, word, number, mark}
+use Rattle.hm_textv.specs.declared.operands.Operands.{Operands}
+use Rattle.hm_textv.specs.Codes.{code_in, code_of, code_of_memory, code_of_one, code_of_other, code_of_pair, code_of_sum, first}
+use Rattle.hm_textv.specs.Operands.{read_operands}
+
+abbrev pub begins_with_v : List ℕ → Bool
+begins_with_v [] = false
+begins_with_v (c ∷ w) = eqb c 118
+
+pair_none : (s : List ℕ) (o : Operands) → begins_with_v s ≡ false → code_of_pair s o ≡ None
+pair_none [] o e =
+    elim (cases_Bool o.is_vector) [
+      | inl v ↦ rw v refl
+      | inr v ↦ rw v refl
+    ]
+pair_none (c ∷ w) o e =
+    elim (cases_Bool o.is_vector) [
+      | inl v ↦ rw (e, v) refl
+      | inr v ↦ rw (e, v) refl
+    ]
+
+one_none : (s : List ℕ) (o : Operands) → begins_with_v s ≡ false → code_of_one s o ≡ None
+one_none [] o e = refl
+one_none (c ∷ w) o e = rw e refl
+
+sum_none : (s : List ℕ) (o : Operands) → begins_with_v s ≡ false → code_of_sum s o ≡ None
+sum_none [] o e = refl
+sum_none (c ∷ w) o e = rw e refl
+
+other_none : (s : List ℕ) (o : Operands) → begins_with_v s ≡ false → code_of_other s o ≡ None
+other_none [] o e = refl
+other_none (c ∷ w) o e = rw e refl
+
+memory_none : (s : List ℕ) (o : Operands) → begins_with_v s ≡ false → code_of_memory s o ≡ None
+memory_none [] o e = refl
+memory_none (c ∷ w) o e = rw e refl
+
+all_none : (a b c d f : Option ℕ) → a ≡ None → b ≡ None → c ≡ None → d ≡ None → f ≡ None → first a (first b (first c (first d f))) ≡ None
+all_none a b c d f ea eb ec ed ef = rw (ea, eb, ec, ed, ef) refl
+
+code_none : (s : List ℕ) (o : Operands) → begins_with_v s ≡ false → code_of s o ≡ None
+unfolding code_of
+code_none s o e =
+    all_none (code_of_pair s o) (code_of_one s o) (code_of_sum s o) (code_of_other s o) (code_of_memory s o) (pair_none s o e) (one_none s o e) (sum_none s o e)
+    (other_none s o e) (memory_none s o e)
+
+stem_begins : (name : List ℕ) → begins_with_v name ≡ false → begins_with_v (span 46 name).0 ≡ false
+unfolding span
+stem_begins [] e = refl
+stem_begins (c ∷ w) e =
+    elim (cases_Bool (eqb c 46)) [
+      | inl h ↦ rw h refl
+      | inr h ↦ rw h e
+    ]
+
+abbrev pub IsNamedV : List Tok → Type 0
+IsNamedV [] = ⊥
+IsNamedV (word name ∷ ts) = begins_with_v name ≡ true
+IsNamedV (number n ∷ ts) = ⊥
+IsNamedV (mark c ∷ ts) = ⊥
+
+pub some_code : (o : Option ℕ) (x : ℕ) → o ≡ None → o ≡ Some x → ⊥
+some_code o x none some = cc
+
+pub vector_named : (ts : List Tok) (x : ℕ) → code_in ts ≡ Some x → IsNamedV ts
+vector_named [] x e = absurd cc
+vector_named (word name ∷ ts) x e =
+    elim (cases_Bool (begins_with_v name)) [
+      | inl t ↦ t
+      | inr f ↦ absurd (some_code (code_in (word name ∷ ts)) x (code_none (span 46 name).0 (read_operands (span 46 name).1 ts) (stem_begins name f)) e)
+    ]
+vector_named (number n ∷ ts) x e = absurd cc
+vector_named (mark c ∷ ts) x e = absurd cc
+
+-- the mnemonics that begin with v and have no point, but are no vector row's
+abbrev pub is_other : List ℕ → Bool
+is_other w = bytes_eq w (codes "vpush") || (bytes_eq w (codes "vpop") || (bytes_eq w (codes "vmrs") || bytes_eq w (codes "vmsr")))
+
+abbrev HasNone : List ℕ → Type 0
+HasNone s = (o : Operands) → code_of s o ≡ None
+
+vpush_none : HasNone (codes "vpush")
+unfolding code_of
+vpush_none o =
+    elim (cases_Bool o.is_vector) [
+      | inl v ↦ rw v refl
+      | inr v ↦ rw v refl
+    ]
+
+vpop_none : HasNone (codes "vpop")
+unfolding code_of
+vpop_none o =
+    elim (cases_Bool o.is_vector) [
+      | inl v ↦ rw v refl
+      | inr v ↦ rw v refl
+    ]
+
+vmrs_none : HasNone (codes "vmrs")
+unfolding code_of
+vmrs_none o =
+    elim (cases_Bool o.is_vector) [
+      | inl v ↦ rw v refl
+      | inr v ↦ rw v refl
+    ]
+
+vmsr_none : HasNone (codes "vmsr")
+unfolding code_of
+vmsr_none o =
+    elim (cases_Bool o.is_vector) [
+      | inl v ↦ rw v refl
+      | inr v ↦ rw v refl
+    ]
+
+whole : (w s : List ℕ) (ts : List Tok) → w ≡ s → span 46 s ≡ (s, []) → HasNone s → code_in (word w ∷ ts) ≡ None
+whole w s ts is uncut none = rw (is, uncut) (none (read_operands [] ts))
+
+spelled_so : (w s : List ℕ) → bytes_eq w s ≡ true → w ≡ s
+spelled_so w s e = (bytes_eq-Decides w s).0 e
+
+one_of : (a b : Bool) (P : Type 0) → (a || b) ≡ true → (a ≡ true → P) → (b ≡ true → P) → P
+one_of true b P e f g = f refl
+one_of false b P e f g = g e
+
+pub other_name_none : (w : List ℕ) (ts : List Tok) → is_other w ≡ true → code_in (word w ∷ ts) ≡ None
+unfolding span
+other_name_none w ts e =
+    let P : Type 0 = code_in (word w ∷ ts) ≡ None in
+    let name : List ℕ → Bool = λ s. bytes_eq w s in
+    one_of (name (codes "vpush")) (name (codes "vpop") || (name (codes "vmrs") || name (codes "vmsr"))) P e (λ f. whole w (codes "vpush") ts (spelled_so w (codes "vpush") f) refl vpush_none)
+    (λ e1. one_of (name (codes "vpop")) (name (codes "vmrs") || name (codes "vmsr")) P e1 (λ f. whole w (codes "vpop") ts (spelled_so w (codes "vpop") f) refl vpop_none)
+    (λ e2. one_of (name (codes "vmrs")) (name (codes "vmsr")) P e2 (λ f. whole w (codes "vmrs") ts (spelled_so w (codes "vmrs") f) refl vmrs_none)
+    (λ f. whole w (codes "vmsr") ts (spelled_so w (codes "vmsr") f) refl vmsr_none)))
