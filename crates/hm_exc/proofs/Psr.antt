@@ -4,7 +4,8 @@ use Rattle.std.specs.Prelude.{◌&&◌, ◌==◌, if◌then◌else◌, Some, Non
 use Rattle.std.proofs.lemmas.Bool.Decides.{nat_tests}
 use Rattle.hm_base.specs.Bits.{field}
 use Rattle.hm_exc.specs.Entry.{CanEnter}
-use Rattle.hm_exc.specs.Frame.{between, bit, eci_of, flags, is_between, or_between, progress, psr_window, xpsr}
+use Rattle.hm_exc.specs.Frame.{between, eci_of, flags, is_between, or_between, progress, psr_window, xpsr}
+use Rattle.hm_state.specs.State.{bit}
 use Rattle.hm_regs.specs.declared.Regs.{Regs}
 use Rattle.hm_window.specs.Positions.{may_end, window_of}
 use Rattle.hm_window.specs.declared.rule.Window.{Window}

@@ -5,7 +5,8 @@ use Rattle.std.proofs.Math.ListN.{replicate}
 use Rattle.std.proofs.lemmas.List.{get_or-take, get_or_append_left, take_at}
 use Rattle.hm_base.specs.Image.{word_at}
 use Rattle.hm_exc.specs.Entry.{CanEnter, FitsEntry, activation, window_in}
-use Rattle.hm_exc.specs.Frame.{basic_words, bit, context_words, frame_base, frame_bytes, frame_size, frame_words, psr_window, xpsr}
+use Rattle.hm_exc.specs.Frame.{basic_words, context_words, frame_base, frame_bytes, frame_size, frame_words, psr_window, xpsr}
+use Rattle.hm_state.specs.State.{bit}
 use Rattle.hm_exc.specs.declared.types.Activation.{Activation}
 use Rattle.hm_exc.proofs.Psr.{bit_told, psr-below, psr-window}
 use Rattle.hm_exc.proofs.Words.{get_or-bytes_of, length-bytes_of, length-words, word-bytes_of, word-psr}

@@ -25,7 +25,7 @@ get_or-bytes_of (x ∷ xs) (suc (suc (suc (suc k)))) h =
     let m : suc (suc (suc (suc k))) % 4 ≡ k % 4 = omega arith in
     get_or-bytes_of xs k l ∙ (λ j. byte_of (get_or (x ∷ xs) (sym d j) 0) (sym m j))
 
-four_bytes : (x : ℕ) → x < 2 ^ 32 → byte_of x 0 + 0x100 * byte_of x 1 + 0x10000 * byte_of x 2 + 0x1000000 * byte_of x 3 ≡ x
+pub four_bytes : (x : ℕ) → x < 2 ^ 32 → byte_of x 0 + 0x100 * byte_of x 1 + 0x10000 * byte_of x 2 + 0x1000000 * byte_of x 3 ≡ x
 four_bytes x h = omega arith
 
 pub word-bytes_of : (xs : List ℕ) (k : ℕ) → k < length xs → get_or xs k 0 < 2 ^ 32 → word_at (slice_index (bytes_of xs)) (4 * k) ≡ get_or xs k 0

@@ -7,12 +7,9 @@ use Rattle.hm_mem.specs.Devices.{byte_of}
 use Rattle.hm_mem.specs.Seen.{lies_in_memory, lies_in_sram}
 use Rattle.hm_mem.specs.declared.Dev.{Dev}
 use Rattle.hm_regs.specs.declared.Regs.{Regs}
+use Rattle.hm_state.specs.State.{bit}
 use Rattle.hm_window.specs.Positions.{window_of}
 use Rattle.hm_window.specs.declared.rule.Window.{Window}
-
--- 1 for true, 0 for false
-abbrev pub bit : Bool → ℕ
-bit b = cond b 1 0
 
 -- the position between two instructions: no beat is done
 abbrev pub between : Window

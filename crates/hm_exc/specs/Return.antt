@@ -1,7 +1,9 @@
 -- What a return compares with its entry, in this order, and the first difference: `return_rule`.
 use Rattle.std.specs.Prelude.{ℕ, zero, suc, ◌≡◌, ◌+◌, ◌<◌, ◌≤◌, ◌==◌, if◌then◌else◌, slice_index, Option, Some, None, Result, Ok, Err}
+use Rattle.std.specs.Option.{option_or}
 use Rattle.hm_base.specs.declared.Place.TheVariants.{R, QWord}
-use Rattle.hm_exc.specs.Frame.{bit, frame_size}
+use Rattle.hm_exc.specs.Frame.{frame_size}
+use Rattle.hm_state.specs.State.{bit}
 use Rattle.hm_exc.specs.declared.types.Activation.{Activation}
 use Rattle.hm_exc.specs.declared.types.Broken.{Broken}
 use Rattle.hm_exc.specs.declared.types.Broken.TheVariants as broken
@@ -9,14 +11,10 @@ use Rattle.hm_exc.specs.declared.types.Slot.{Slot}
 use Rattle.hm_exc.specs.declared.types.Slot.TheVariants.{Reg, Primask}
 use Rattle.hm_regs.specs.declared.Regs.{Regs}
 
--- the first of two differences, and the first of those that f tells of count numbers from one on
-abbrev pub or_else : Option Broken → Option Broken → Option Broken
-or_else (Some b) next = Some b
-or_else None next = next
-
+-- the first difference that f tells of count numbers from one on
 unfoldable pub first_from : (ℕ → Option Broken) → ℕ → ℕ → Option Broken
 first_from f from zero = None
-first_from f from (suc count) = or_else (f from) (first_from f (suc from) count)
+first_from f from (suc count) = option_or (f from) (first_from f (suc from) count)
 
 -- one thing compared
 abbrev pub value_rule : ℕ → Activation → Option Broken
@@ -44,11 +42,11 @@ primask_rule r x = differing Primask (bit x.regs.primask) (bit r.primask)
 -- the frame from the lowest, of r4 to r11, of the words of Q4 to Q7, and of PRIMASK
 unfoldable pub return_rule : Regs → (ℕ → ℕ) → ℕ → Activation → Option Broken
 return_rule r byte value x =
-    or_else (value_rule value x)
-    (or_else (stack_rule r x)
-    (or_else (first_from (frame_rule byte x) 0 (frame_size x.long))
-    (or_else (first_from (core_rule r x) 4 8)
-    (or_else (first_from (vector_rule r x) 16 16)
+    option_or (value_rule value x)
+    (option_or (stack_rule r x)
+    (option_or (first_from (frame_rule byte x) 0 (frame_size x.long))
+    (option_or (first_from (core_rule r x) 4 8)
+    (option_or (first_from (vector_rule r x) 16 16)
     (primask_rule r x)))))
 
 -- nothing differs

@@ -2,7 +2,8 @@
 
 ghost use Rattle.std.specs.Prelude.{ℕ, ◌≡◌, ◌+◌, ◌-◌, ◌*◌, ◌/◌, ◌%◌, ◌^◌, ◌<◌, ◌≤◌, ◌==◌, false, IsTrue, length, slice_index, if◌then◌else◌};
 ghost use Rattle.hm_exc.specs.Entry.{CanEnter, FitsEntry, activation, return_value, window_in};
-ghost use Rattle.hm_exc.specs.Frame.{bit, flags, frame_base, frame_bytes, frame_size, frame_words, is_between, progress, psr_window, xpsr};
+ghost use Rattle.hm_exc.specs.Frame.{flags, frame_base, frame_bytes, frame_size, frame_words, is_between, progress, psr_window, xpsr};
+ghost use Rattle.hm_state.specs.State.{bit};
 ghost use Rattle.hm_mem.specs.Seen.{lies_in_sram};
 ghost use Rattle.hm_window.specs.Positions.{may_end};
 

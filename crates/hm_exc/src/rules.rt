@@ -1,7 +1,8 @@
 //! What a return compares with its entry.
 
 ghost use Rattle.std.specs.Prelude.{ℕ, ◌≡◌, ◌+◌, ◌-◌, ◌*◌, ◌<◌, ◌≤◌, IsTrue, None, slice_index};
-ghost use Rattle.hm_exc.specs.Frame.{bit, frame_size};
+ghost use Rattle.hm_exc.specs.Frame.{frame_size};
+ghost use Rattle.hm_state.specs.State.{bit};
 ghost use Rattle.hm_exc.specs.Return.{Unbroken, core_rule, differing, first_from, frame_rule, return_rule, vector_rule};
 ghost use Rattle.hm_mem.specs.Memory.{byte_at, memory_of};
 ghost use Rattle.hm_mem.specs.Seen.{lies_in_sram};

@@ -9,7 +9,7 @@ use Rattle.hm_exc.specs.Frame.{frame_base, frame_bytes, frame_size, frame_words,
 use Rattle.hm_exc.specs.declared.types.EnterErr.{EnterErr}
 use Rattle.hm_exc.proofs.Psr.{psr-below, psr-window}
 use Rattle.hm_exc.proofs.Stacked.{frame_byte-is, in_room, length-frame_bytes}
-use Rattle.hm_exc.proofs.Words.{word-psr}
+use Rattle.hm_exc.proofs.Words.{four_bytes, word-psr}
 use Rattle.hm_kept.specs.Blocks.{IsBlockByte}
 use Rattle.hm_mem.specs.Devices.{byte_of}
 use Rattle.hm_mem.specs.Seen.{Seen, lies_in_sram}
@@ -26,11 +26,8 @@ use Rattle.hm_handlers.specs.Registers.{registers_in, restored}
 use Rattle.hm_handlers.specs.Sound.{FitsInside, IsException, IsStacked, number_under}
 
 -- THE POSITION in a frame
-whole : (x : ℕ) → x < 2 ^ 32 → byte_of x 0 + 0x100 * byte_of x 1 + 0x10000 * byte_of x 2 + 0x1000000 * byte_of x 3 ≡ x
-whole x fits = omega arith
-
-four_bytes : (f : ℕ → ℕ) (x : ℕ) → x < 2 ^ 32 → f 28 ≡ byte_of x 0 → f 29 ≡ byte_of x 1 → f 30 ≡ byte_of x 2 → f 31 ≡ byte_of x 3 → word_at f 28 ≡ x
-four_bytes f x fits a b c d = (λ j. a j + 0x100 * b j + 0x10000 * c j + 0x1000000 * d j) ∙ whole x fits
+word_back : (f : ℕ → ℕ) (x : ℕ) → x < 2 ^ 32 → f 28 ≡ byte_of x 0 → f 29 ≡ byte_of x 1 → f 30 ≡ byte_of x 2 → f 31 ≡ byte_of x 3 → word_at f 28 ≡ x
+word_back f x fits a b c d = (λ j. a j + 0x100 * b j + 0x10000 * c j + 0x1000000 * d j) ∙ four_bytes x fits
 
 long_enough : (t : Bool) → 31 < frame_size t
 long_enough true = omega arith
@@ -50,7 +47,7 @@ module _ (r : Regs) (w : Window) (e : ℕ) (count : length r.qw ≡ 32) (can : C
       ∙ (λ i. byte_of (get_or (frame_words r w) (seventh i) 0) (byte i)) ∙ ap (λ (x : ℕ). byte_of x k) (word-psr r w)
 
   psr_in : word_at (slice_index (activation r w e).bytes) 28 ≡ xpsr r w
-  psr_in = four_bytes (slice_index (activation r w e).bytes) (xpsr r w) (psr-below r w can fits)
+  psr_in = word_back (slice_index (activation r w e).bytes) (xpsr r w) (psr-below r w can fits)
       (psr_byte 28 0 (omega arith) refl refl) (psr_byte 29 1 (omega arith) refl refl) (psr_byte 30 2 (omega arith) refl refl) (psr_byte 31 3 (omega arith) refl refl)
 
   pub position_back : window_in (activation r w e) ≡ w

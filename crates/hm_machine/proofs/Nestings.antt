@@ -22,10 +22,10 @@ use Rattle.hm_isa.specs.declared.Instr.TheVariants as instr
 use Rattle.hm_isa.specs.declared.Vector.{Vector}
 use Rattle.hm_machine.specs.Cpus.{CountsNone, IsSoundUnder, IsUnder, config_of, nested_of, reached, reached_younger, returns, state_in, stepped}
 use Rattle.hm_machine.specs.declared.cpu.Cpu.{Cpu}
-use Rattle.hm_machine.specs.declared.obstacle.Hindrance.{Hindrance}
-use Rattle.hm_machine.specs.declared.obstacle.Hindrance.TheVariants as hindrance
-use Rattle.hm_machine.specs.declared.obstacle.Obstacle.{Obstacle}
-use Rattle.hm_machine.specs.declared.obstacle.Obstacle.TheVariants as obstacle
+use Rattle.hm_machine.specs.declared.step_ends.StepEnd.{StepEnd}
+use Rattle.hm_machine.specs.declared.step_ends.StepEnd.TheVariants as step_end
+use Rattle.hm_machine.specs.declared.step_ends.LetterEnd.{LetterEnd}
+use Rattle.hm_machine.specs.declared.step_ends.LetterEnd.TheVariants as letter_end
 use Rattle.hm_machine.specs.Shown.{interrupted_of}
 use Rattle.hm_mem.specs.Memory.{Around, Memory, byte_at, flash_at, memory_of}
 use Rattle.hm_mem.specs.Seen.{with_actor}
@@ -128,30 +128,30 @@ unfolding state_of
 sound_under s x h = h.around
 
 -- a step leaves it so
-if_ok : (s : Sched) (y : Cpu) (r : Result Unit Obstacle) → IfOk (stepped r y) (IsSound s) → OnOk r (IsSoundUnder s y)
+if_ok : (s : Sched) (y : Cpu) (r : Result Unit LetterEnd) → IfOk (stepped r y) (IsSound s) → OnOk r (IsSoundUnder s y)
 if_ok s y (Ok u) h = h
 if_ok s y (Err e) h = tt
 
-pub step_stays : (s : Sched) (t : Turn) (x y : Cpu) (r : Result Unit Obstacle)
+pub step_stays : (s : Sched) (t : Turn) (x y : Cpu) (r : Result Unit LetterEnd)
     → ((listing : Listing) (s : Sched) → IsListing (flash_at (memory_of x.mem)) listing → IsSoundUnder s x → stepped r y ≡ step listing s t (nested_of x)) → IsSoundUnder s x → OnOk r (IsSoundUnder s y)
 step_stays s t x y r value h =
     let there = exists (flash_at (memory_of x.mem)) in
     if_ok s y r (subst (λ (q : NestedStep). IfOk q (IsSound s)) (sym (value there.0 s there.1 h)) (step_sound s there.0 t (nested_of x) h))
 
 -- WHAT A STEP ANSWERS, by what the step of the thread's parts answers
-abbrev pub lifted : Result Unit Cause → Result Unit Obstacle
+abbrev pub lifted : Result Unit Cause → Result Unit LetterEnd
 lifted (Ok u) = Ok u
-lifted (Err e) = Err (obstacle.Hindered (hindrance.Stopped e))
+lifted (Err e) = Err (letter_end.Step (step_end.Stopped e))
 
-abbrev pub raised : Result Unit Hindrance → Result Unit Obstacle
+abbrev pub raised : Result Unit StepEnd → Result Unit LetterEnd
 raised (Ok u) = Ok u
-raised (Err h) = Err (obstacle.Hindered h)
+raised (Err h) = Err (letter_end.Step h)
 
 lifted_is : (r : Result Unit Cause) (y : Cpu) → stepped (lifted r) y ≡ with_acts (nested_of y).acts (reached r y)
 lifted_is (Ok u) y = refl
 lifted_is (Err e) y = refl
 
-raised_is : (r : Result Unit Hindrance) (y : Cpu) → stepped (raised r) y ≡ with_acts (nested_of y).acts (reached_younger r y)
+raised_is : (r : Result Unit StepEnd) (y : Cpu) → stepped (raised r) y ≡ with_acts (nested_of y).acts (reached_younger r y)
 raised_is (Ok u) y = refl
 raised_is (Err h) y = refl
 
@@ -169,7 +169,7 @@ module _ (listing : Listing) (s : Sched) (x : Cpu) (under : IsUnder s x) where
       ∙ sym (ap (step_under listing s Older (config_of x)) none)
 
   -- THE YOUNGER of what runs, whose step counts nothing
-  nothing_counted : (y : Cpu) (r : Result Unit Hindrance) → CountsNone x y → uncounted (config_of x) (reached_younger r y) ≡ reached_younger r y
+  nothing_counted : (y : Cpu) (r : Result Unit StepEnd) → CountsNone x y → uncounted (config_of x) (reached_younger r y) ≡ reached_younger r y
   nothing_counted y (Ok u) count = λ j. Ok (record (config_of y) { n = sym count.0 j; steps = sym count.1 j })
   nothing_counted y (Err h) count = refl
 
@@ -177,7 +177,7 @@ module _ (listing : Listing) (s : Sched) (x : Cpu) (under : IsUnder s x) where
   by_acts [] q e same = ap (with_acts []) e
   by_acts (y ∷ acts) q e same = ap (with_acts (y ∷ acts)) (sym same ∙ ap (uncounted (config_of x)) e)
 
-  pub younger_steps : (y : Cpu) (r : Result Unit Hindrance) → y.acts ≡ x.acts → CountsNone x y
+  pub younger_steps : (y : Cpu) (r : Result Unit StepEnd) → y.acts ≡ x.acts → CountsNone x y
       → reached_younger r y ≡ younger (core listing around) (config_of x) → stepped (raised r) y ≡ step listing s Younger (nested_of x)
   younger_steps y r same count e =
       raised_is r y
@@ -216,10 +216,10 @@ module _ (listing : Listing) (s : Sched) (x : Cpu) (under : IsUnder s x) where
         ∙ handler_is
 
     -- one that stops
-    pub other_stops : (y : Cpu) (o : Obstacle) (e : Stop) (i : Instr) → listing x.regs.pc ≡ Ok i → IsTrue (not (is_vector_row i)) → o ≡ obstacle.Hindered (hindrance.Stopped (cause.Stop e))
+    pub other_stops : (y : Cpu) (o : LetterEnd) (e : Stop) (i : Instr) → listing x.regs.pc ≡ Ok i → IsTrue (not (is_vector_row i)) → o ≡ letter_end.Step (step_end.Stopped (cause.Stop e))
         → config_of y ≡ begun (core listing around) (config_of x) → y.acts ≡ x.acts → Err e ≡ scalar_in_machine around i (state_in x) → stepped (Err o) y ≡ step listing s Older (nested_of x)
     other_stops y o e i here other is config same stop =
-        ap (λ (q : Obstacle). stepped (Err q) y) is
+        ap (λ (q : LetterEnd). stepped (Err q) y) is
         ∙ (λ j. Err (Ended (order.Stopped (config j) (cause.Stop e)) ((same_acts x y same ∙ acts_are) j)))
         ∙ ap (went (core listing around) (config_of x) (interrupted_of z) below) stop
         ∙ other_steps i here other

@@ -4,8 +4,8 @@ use Rattle.std.specs.Option.{is_none}
 use Rattle.hm_base.specs.declared.Fault.{Fault}
 use Rattle.hm_codes.specs.Listing.{Listing}
 use Rattle.hm_isa.specs.declared.Vector.{Vector}
-use Rattle.hm_machine.specs.Cpus.{config_of, hindered, state_in}
-use Rattle.hm_machine.specs.declared.obstacle.Hindrance.{Hindrance}
+use Rattle.hm_machine.specs.Cpus.{config_of, step_ended, state_in}
+use Rattle.hm_machine.specs.declared.step_ends.StepEnd.{StepEnd}
 use Rattle.hm_machine.specs.declared.cpu.Cpu.{Cpu}
 use Rattle.hm_mem.specs.Memory.{Around, Memory, memory_of}
 use Rattle.hm_order.specs.Machine as order
@@ -79,6 +79,6 @@ module _ (listing : Listing) (x : Cpu) where
   younger_beats v w r here there e run = run ∙ younger_by v w None here there e
 
 -- a beat that stops
-pub hindered_is : (e : Cause) (q : Bool) (h : Hindrance) (c : Config State) (listing : Listing) (around : Around) → is_tainted_cause e ≡ q
-    → hindered h c ≡ fault_end (core listing around) (cond q None (Some rule.YoungerFault)) c e → hindered h c ≡ fault_end (core listing around) (fault_rule e) c e
-hindered_is e q h c listing around is here = here ∙ (λ j. fault_end (core listing around) (cond (sym is j) None (Some rule.YoungerFault)) c e)
+pub step_ended_is : (e : Cause) (q : Bool) (h : StepEnd) (c : Config State) (listing : Listing) (around : Around) → is_tainted_cause e ≡ q
+    → step_ended h c ≡ fault_end (core listing around) (cond q None (Some rule.YoungerFault)) c e → step_ended h c ≡ fault_end (core listing around) (fault_rule e) c e
+step_ended_is e q h c listing around is here = here ∙ (λ j. fault_end (core listing around) (cond (sym is j) None (Some rule.YoungerFault)) c e)

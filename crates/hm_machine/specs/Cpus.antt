@@ -14,11 +14,11 @@ use Rattle.hm_order.specs.Machine as order
 use Rattle.hm_order.specs.Machine.{Config, End}
 use Rattle.hm_machine.specs.Shown.{interrupted_of}
 use Rattle.hm_machine.specs.declared.cpu.Cpu.{Cpu}
-use Rattle.hm_machine.specs.declared.obstacle.Hindrance.{Hindrance}
-use Rattle.hm_machine.specs.declared.obstacle.Hindrance.TheVariants as hindrance
-use Rattle.hm_machine.specs.declared.obstacle.Obstacle.{Obstacle}
-use Rattle.hm_machine.specs.declared.obstacle.Obstacle.TheVariants as obstacle
-use Rattle.hm_machine.specs.declared.tick.Trouble.{Trouble}
+use Rattle.hm_machine.specs.declared.step_ends.StepEnd.{StepEnd}
+use Rattle.hm_machine.specs.declared.step_ends.StepEnd.TheVariants as step_end
+use Rattle.hm_machine.specs.declared.step_ends.LetterEnd.{LetterEnd}
+use Rattle.hm_machine.specs.declared.step_ends.LetterEnd.TheVariants as letter_end
+use Rattle.hm_machine.specs.declared.step_ends.EarlyEnd.{EarlyEnd}
 use Rattle.hm_run.specs.declared.Cause.{Cause}
 use Rattle.hm_window.specs.declared.rule.Rule.{Rule}
 use Rattle.hm_run.specs.Program.{Stepped}
@@ -44,36 +44,36 @@ reached (Ok u) x = Ok (config_of x)
 reached (Err e) x = Err (order.Stopped (config_of x) e)
 
 -- why a step does not go on, where the machine stands so
-abbrev pub hindered : Hindrance → Config State → End State Cause Rule
-hindered (hindrance.Stopped e) c = order.Stopped c e
-hindered (hindrance.Broken r) c = order.Broken c r
+abbrev pub step_ended : StepEnd → Config State → End State Cause Rule
+step_ended (step_end.Stopped e) c = order.Stopped c e
+step_ended (step_end.Broken r) c = order.Broken c r
 
 -- what a step of the younger answered
-abbrev pub reached_younger : Result Unit Hindrance → Cpu → Stepped
+abbrev pub reached_younger : Result Unit StepEnd → Cpu → Stepped
 reached_younger (Ok u) x = Ok (config_of x)
-reached_younger (Err h) x = Err (hindered h (config_of x))
+reached_younger (Err h) x = Err (step_ended h (config_of x))
 
 -- THE MACHINE WITH HANDLERS
 abbrev pub nested_of : Cpu → Nested
 nested_of x = record { config = config_of x; acts = map interrupted_of (newest_first x.acts) }
 
-abbrev pub obstructed : Obstacle → Nested → NestedEnd
-obstructed (obstacle.Hindered h) x = Ended (hindered h x.config) x.acts
-obstructed (obstacle.Offends what) x = Offends what x.config x.acts
+abbrev pub letter_ended : LetterEnd → Nested → NestedEnd
+letter_ended (letter_end.Step h) x = Ended (step_ended h x.config) x.acts
+letter_ended (letter_end.Offends what) x = Offends what x.config x.acts
 
 -- what a step answered, and where it left the machine
-abbrev pub stepped : Result Unit Obstacle → Cpu → NestedStep
+abbrev pub stepped : Result Unit LetterEnd → Cpu → NestedStep
 stepped (Ok u) x = Ok (nested_of x)
-stepped (Err e) x = Err (obstructed e (nested_of x))
+stepped (Err e) x = Err (letter_ended e (nested_of x))
 
 -- why the letters of a tick do not all go on
-abbrev pub troubled : Trouble → Nested → TickEnd
-troubled e x = record { step = e.step; younger = e.younger; end = obstructed e.obstacle x }
+abbrev pub early_ended : EarlyEnd → Nested → TickEnd
+early_ended e x = record { step = e.step; younger = e.younger; end = letter_ended e.end x }
 
 -- what the letters of a tick answered
-abbrev pub ticked : Result Unit Trouble → Cpu → Result Nested TickEnd
+abbrev pub ticked : Result Unit EarlyEnd → Cpu → Result Nested TickEnd
 ticked (Ok u) x = Ok (nested_of x)
-ticked (Err e) x = Err (troubled e (nested_of x))
+ticked (Err e) x = Err (early_ended e (nested_of x))
 
 -- a return to a value, under the newest activation and the others
 abbrev pub returns : ℕ → Activation → List Activation → Cpu → NestedStep

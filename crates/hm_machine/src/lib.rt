@@ -1,14 +1,16 @@
 //! The machine: ticks of a schedule, outcomes, and what a run shows.
 #![tactic(auto)]
 
+mod conclusion;
 mod cpu;
 mod cursor;
+mod entry;
 mod load;
 mod machine;
 mod memory_text;
-mod obstacle;
 mod running;
 mod service;
+mod step_ends;
 mod tick;
 mod younger;
 

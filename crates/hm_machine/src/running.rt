@@ -16,7 +16,7 @@ ghost use Rattle.hm_state.specs.State.{State};
 ghost use Rattle.hm_thumb.specs.Families.{is_vector_row};
 
 use crate::cpu::{Cpu, execute, older, vector_at, vector_step};
-use crate::obstacle::{Hindrance, Obstacle};
+use crate::step_ends::{LetterEnd, StepEnd};
 use crate::younger::younger;
 use hm_base::Stop;
 use hm_decode::fetch;
@@ -26,14 +26,14 @@ use hm_run::{Cause, Offence};
 use hm_window::Window;
 
 /// What an instruction that stops is to the machine.
-fn stop_of(cause: Cause) -> Obstacle
-    ensures value { result ≡ Obstacle.Hindered (Hindrance.Stopped cause) }
+fn stop_of(cause: Cause) -> LetterEnd
+    ensures value { result ≡ LetterEnd.Step (StepEnd.Stopped cause) }
 {
-    Obstacle::Hindered(Hindrance::Stopped(cause))
+    LetterEnd::Step(StepEnd::Stopped(cause))
 }
 
 /// The handler returns to `value`: what it interrupted goes on, or the first difference is told.
-fn return_to(value: u32, x: &mut Cpu) -> Result<(), Obstacle>
+fn return_to(value: u32, x: &mut Cpu) -> Result<(), LetterEnd>
     requires handler { IsHandler x.old }
     requires entered { AreEntered x.old }
     ensures value { (y : Activation) (rest : List Activation) → newest_first x.old.acts ≡ y ∷ rest → stepped result x.new ≡ returns value y rest x.old }
@@ -48,12 +48,12 @@ fn return_to(value: u32, x: &mut Cpu) -> Result<(), Obstacle>
             x.window = window;
             Ok(())
         }
-        Err(broken) => Err(Obstacle::Offends(Offence::Left(broken))),
+        Err(broken) => Err(LetterEnd::Offends(Offence::Left(broken))),
     }
 }
 
 /// What a handler's instruction that stood at `pc` and is done comes to.
-fn follow(flow: Flow, pc: u32, x: &mut Cpu) -> Result<(), Obstacle>
+fn follow(flow: Flow, pc: u32, x: &mut Cpu) -> Result<(), LetterEnd>
     requires handler { IsHandler x.old }
     requires entered { AreEntered x.old }
     ensures value { (before : State) (y : Activation) (rest : List Activation) → before.pc ≡ pc → newest_first x.old.acts ≡ y ∷ rest
@@ -67,13 +67,13 @@ fn follow(flow: Flow, pc: u32, x: &mut Cpu) -> Result<(), Obstacle>
             x.window = Window { a: 0, b: 0 };
             Ok(())
         }
-        Flow::Break { k: _ } => Err(Obstacle::Offends(Offence::Call { pc })),
+        Flow::Break { k: _ } => Err(LetterEnd::Offends(Offence::Call { pc })),
         Flow::Return { value } => return_to(value, x),
     }
 }
 
 /// A handler's instruction that is no vector row, which stands at the program counter.
-fn handler_other(i: &Instr, x: &mut Cpu) -> Result<(), Obstacle>
+fn handler_other(i: &Instr, x: &mut Cpu) -> Result<(), LetterEnd>
     requires row { IsTrue (not (is_vector_row i.now)) }
     requires position { IsPosition x.old }
     requires handler { IsHandler x.old }
@@ -91,7 +91,7 @@ fn handler_other(i: &Instr, x: &mut Cpu) -> Result<(), Obstacle>
 }
 
 /// The next beat of a handler's vector instruction, which stands at the program counter. The thread's steps alone are counted.
-fn handler_beat(v: &Vector, x: &mut Cpu) -> Result<(), Obstacle>
+fn handler_beat(v: &Vector, x: &mut Cpu) -> Result<(), LetterEnd>
     requires count { (x.old.retired < 2 ^ 63) × (x.old.older_steps < 2 ^ 63) }
     requires position { IsPosition x.old }
     requires handler { IsHandler x.old }
@@ -114,7 +114,7 @@ fn handler_beat(v: &Vector, x: &mut Cpu) -> Result<(), Obstacle>
 }
 
 /// A step of this instruction of a handler, which stands at the program counter.
-fn handler_step(i: &Instr, x: &mut Cpu) -> Result<(), Obstacle>
+fn handler_step(i: &Instr, x: &mut Cpu) -> Result<(), LetterEnd>
     requires count { (x.old.retired < 2 ^ 63) × (x.old.older_steps < 2 ^ 63) }
     requires position { IsPosition x.old }
     requires handler { IsHandler x.old }
@@ -132,7 +132,7 @@ fn handler_step(i: &Instr, x: &mut Cpu) -> Result<(), Obstacle>
 }
 
 /// A step of a handler's older instruction, or the fault where none stands at the program counter.
-fn handler_older(x: &mut Cpu) -> Result<(), Obstacle>
+fn handler_older(x: &mut Cpu) -> Result<(), LetterEnd>
     requires count { (x.old.retired < 2 ^ 63) × (x.old.older_steps < 2 ^ 63) }
     requires position { IsPosition x.old }
     requires handler { IsHandler x.old }
@@ -150,7 +150,7 @@ fn handler_older(x: &mut Cpu) -> Result<(), Obstacle>
 }
 
 /// A step of the older instruction of what runs.
-fn older_step(x: &mut Cpu) -> Result<(), Obstacle>
+fn older_step(x: &mut Cpu) -> Result<(), LetterEnd>
     requires count { (x.old.retired < 2 ^ 63) × (x.old.older_steps < 2 ^ 63) }
     requires position { IsPosition x.old }
     requires room { vec_capacity x.old.output ≡ most_output }
@@ -172,7 +172,7 @@ fn older_step(x: &mut Cpu) -> Result<(), Obstacle>
 }
 
 /// A step of the younger instruction of what runs.
-fn younger_step(x: &mut Cpu) -> Result<(), Obstacle>
+fn younger_step(x: &mut Cpu) -> Result<(), LetterEnd>
     requires position { IsPosition x.old }
     ensures value { (listing : Listing) (s : Sched) → IsListing (flash_at (memory_of x.old.mem)) listing → IsSoundUnder s x.old
         → stepped result x.new ≡ step listing s Younger (nested_of x.old) }
@@ -183,7 +183,7 @@ fn younger_step(x: &mut Cpu) -> Result<(), Obstacle>
 {
     match younger(x) {
         Ok(()) => Ok(()),
-        Err(hindrance) => Err(Obstacle::Hindered(hindrance)),
+        Err(end) => Err(LetterEnd::Step(end)),
     }
 }
 
@@ -201,7 +201,7 @@ fn steps_left(x: &Cpu) -> u8
 }
 
 /// The older instruction of what runs to its end, in at most four steps.
-fn whole(x: &mut Cpu) -> Result<(), Obstacle>
+fn whole(x: &mut Cpu) -> Result<(), LetterEnd>
     requires count { (x.old.retired < 2 ^ 61) × (x.old.older_steps < 2 ^ 61) }
     requires position { IsPosition x.old }
     requires room { vec_capacity x.old.output ≡ most_output }
@@ -221,7 +221,7 @@ fn whole(x: &mut Cpu) -> Result<(), Obstacle>
 }
 
 /// What a letter of a schedule does: O is a step of the older instruction, Y one of the younger, and W does the older to its end.
-pub fn letter(l: u8, x: &mut Cpu) -> Result<(), Obstacle>
+pub fn letter(l: u8, x: &mut Cpu) -> Result<(), LetterEnd>
     requires count { (x.old.retired < 2 ^ 61) × (x.old.older_steps < 2 ^ 61) }
     requires position { IsPosition x.old }
     requires room { vec_capacity x.old.output ≡ most_output }

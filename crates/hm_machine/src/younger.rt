@@ -2,7 +2,7 @@
 
 ghost use Rattle.std.specs.Prelude.{◌≡◌, ℕ, ◌+◌, ◌^◌, ◌<◌, ◌≤◌, List, IsTrue, Some, None};
 ghost use Rattle.hm_codes.specs.Listing.{Listing, IsListing};
-ghost use Rattle.hm_machine.specs.Cpus.{config_of, hindered, reached_younger, state_in, CountsNone, IsPosition, Keeps};
+ghost use Rattle.hm_machine.specs.Cpus.{config_of, step_ended, reached_younger, state_in, CountsNone, IsPosition, Keeps};
 ghost use Rattle.hm_mem.specs.Memory.{Memory, memory_of, flash_at};
 ghost use Rattle.hm_order.specs.Machine.{Config, did, fault_end, younger};
 ghost use Rattle.hm_rows.specs.Rows.{vector_tree};
@@ -11,7 +11,7 @@ ghost use Rattle.hm_window.specs.Overlap.{first_rule};
 ghost use Rattle.hm_state.specs.State.{State, state_of};
 
 use crate::cpu::{Cpu, beat, vector_at};
-use crate::obstacle::Hindrance;
+use crate::step_ends::StepEnd;
 use hm_base::Stop;
 use hm_exec::{any, refuse};
 use hm_isa::Vector;
@@ -50,18 +50,18 @@ fn step_rule(v: &Vector, w: &Vector, at: Window, regs: &Regs) -> Option<Rule>
 }
 
 /// What a younger beat that stops comes to: a fault breaks a rule.
-fn hindered(cause: Cause) -> Hindrance
-    ensures value { (listing : Listing) (m : Memory) (c : Config State) → hindered result c ≡ fault_end (core listing m.around) (fault_rule cause) c cause }
+fn end_of(cause: Cause) -> StepEnd
+    ensures value { (listing : Listing) (m : Memory) (c : Config State) → step_ended result c ≡ fault_end (core listing m.around) (fault_rule cause) c cause }
 {
     match cause {
-        Cause::Halt(_) | Cause::Full => Hindrance::Broken(Rule::YoungerFault),
-        Cause::Stop(Stop::Fault(_)) => Hindrance::Broken(Rule::YoungerFault),
-        Cause::Stop(_) => Hindrance::Stopped(cause),
+        Cause::Halt(_) | Cause::Full => StepEnd::Broken(Rule::YoungerFault),
+        Cause::Stop(Stop::Fault(_)) => StepEnd::Broken(Rule::YoungerFault),
+        Cause::Stop(_) => StepEnd::Stopped(cause),
     }
 }
 
 /// The next beat of `w`, the younger.
-fn younger_beat(w: &Vector, x: &mut Cpu) -> Result<(), Hindrance>
+fn younger_beat(w: &Vector, x: &mut Cpu) -> Result<(), StepEnd>
     requires few { x.old.window.b < 2 }
     requires position { IsPosition x.old }
     requires context { IsTrue x.old.regs.fpca }
@@ -75,12 +75,12 @@ fn younger_beat(w: &Vector, x: &mut Cpu) -> Result<(), Hindrance>
             x.window.b += 1;
             Ok(())
         }
-        Err(cause) => Err(hindered(cause)),
+        Err(cause) => Err(end_of(cause)),
     }
 }
 
 /// The next beat of the younger instruction, unless it breaks a rule.
-pub fn younger(x: &mut Cpu) -> Result<(), Hindrance>
+pub fn younger(x: &mut Cpu) -> Result<(), StepEnd>
     requires position { IsPosition x.old }
     ensures value { (listing : Listing) → IsListing (flash_at (memory_of x.old.mem)) listing
         → reached_younger result x.new ≡ younger (core listing (memory_of x.old.mem).around) (config_of x.old) }
@@ -88,13 +88,13 @@ pub fn younger(x: &mut Cpu) -> Result<(), Hindrance>
     ensures count { CountsNone x.old x.new }
 {
     let Some(v) = vector_at(&x.mem, x.regs.pc) else {
-        return Err(Hindrance::Broken(Rule::NotVector));
+        return Err(StepEnd::Broken(Rule::NotVector));
     };
     let Some(w) = vector_at(&x.mem, x.regs.pc + 4) else {
-        return Err(Hindrance::Broken(Rule::NotVector));
+        return Err(StepEnd::Broken(Rule::NotVector));
     };
     match step_rule(&v, &w, x.window, &x.regs) {
-        Some(rule) => Err(Hindrance::Broken(rule)),
+        Some(rule) => Err(StepEnd::Broken(rule)),
         None => younger_beat(&w, x),
     }
 }

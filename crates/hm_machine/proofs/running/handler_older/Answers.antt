@@ -4,7 +4,7 @@ use Rattle.hm_machine.proofs.Nestings.{fault_steps, newest_there}
 use Rattle.hm_machine.proofs.Rows.{listed_here}
 use Rattle.hm_machine.proofs.Steps.{none_stands}
 use Rattle.hm_machine.specs.Cpus.{config_of, stepped}
-use Rattle.hm_machine.specs.declared.obstacle.Obstacle.{Obstacle}
+use Rattle.hm_machine.specs.declared.step_ends.LetterEnd.{LetterEnd}
 use Rattle.hm_mem.specs.Memory.{memory_of, flash_at}
 use Rattle.hm_order.specs.Machine as order
 use Rattle.hm_run.specs.declared.Cause.TheVariants as cause
@@ -20,5 +20,5 @@ returns-in-Err-clause-value c listing s is under =
     let x = c.args.x.now in
     let found = newest_there x.acts c.requires.handler in
     let here = listed_here listing (flash_at (memory_of x.mem)) x.regs.pc (Err c.in-Err.fault) is c.in-Err.ensures in
-    ap (λ (o : Obstacle). stepped (Err o) x) c.stop_of.ensures.value
+    ap (λ (o : LetterEnd). stepped (Err o) x) c.stop_of.ensures.value
     ∙ fault_steps listing s x under found.0 found.1 found.2 c.in-Err.fault (Err (order.Stopped (config_of x) (cause.Stop (stop.Fault c.in-Err.fault)))) here (none_stands listing x c.in-Err.fault here)

@@ -2,7 +2,7 @@ use Rattle.std.proofs.Common.{ap, ◌∙◌, Ok, Err}
 use Rattle.hm_machine.proofs.Keeping.{keeps_moves}
 use Rattle.hm_machine.proofs.Nestings.{is_none, none_active, sound_under, step_stays, thread_steps}
 use Rattle.hm_machine.specs.Cpus.{stepped}
-use Rattle.hm_machine.specs.declared.obstacle.Obstacle.{Obstacle}
+use Rattle.hm_machine.specs.declared.step_ends.LetterEnd.{LetterEnd}
 use Rattle.hm_order.specs.Handlers.{Older}
 use Rattle.hm_machine.proofs.running.older_step.Goals as goal
 
@@ -15,7 +15,7 @@ pub returns-in-Err-clause-value : goal.returns-in-Err-clause-value
 returns-in-Err-clause-value c listing s is sound =
     let x = c.args.x.now in
     let y = c.older.new.x in
-    ap (λ (o : Obstacle). stepped (Err o) y) c.stop_of.ensures.value
+    ap (λ (o : LetterEnd). stepped (Err o) y) c.stop_of.ensures.value
     ∙ thread_steps listing s x (sound_under s x sound) y (Err c.in-Err.cause) (none_active x (is_none _ _ c.is_empty.ensures c.if-not-is_empty.false)) c.in-Err.ensures.kept.acts (c.in-Err.ensures.value listing is)
 
 pub returns-in-Ok-clause-sound : goal.returns-in-Ok-clause-sound

@@ -3,8 +3,8 @@ use Rattle.std.proofs.lemmas.Result.{err_from_is_err_and}
 use Rattle.hm_handlers.specs.Nested.{steps}
 use Rattle.hm_machine.proofs.Keeping.{listed_still, moves_then}
 use Rattle.hm_machine.proofs.Letters.{steps_on, steps_stop}
-use Rattle.hm_machine.specs.Cpus.{nested_of, obstructed, stepped}
-use Rattle.hm_machine.specs.declared.obstacle.Obstacle.{Obstacle}
+use Rattle.hm_machine.specs.Cpus.{nested_of, letter_ended, stepped}
+use Rattle.hm_machine.specs.declared.step_ends.LetterEnd.{LetterEnd}
 use Rattle.hm_state.specs.State.{state_of}
 use Rattle.hm_machine.proofs.running.whole.Goals as goal
 
@@ -15,13 +15,13 @@ pub returns-in_err-older_step-clause-value : goal.returns-in_err-older_step-clau
 unfolding state_of
 returns-in_err-older_step-clause-value c listing s is sound =
     let answered = err_from_is_err_and c.from_residual.result c.from_residual.ensures.1 in
-    let obstacle = c.in_err-older_step.field-0.0 in
-    let same : c.from_residual.result ≡ Err obstacle = answered.1 ∙ ap Err answered.2 in
+    let end = c.in_err-older_step.field-0.0 in
+    let same : c.from_residual.result ≡ Err end = answered.1 ∙ ap Err answered.2 in
     let x = c.loop-k.x in
     let y = c.older_step.new.x in
     let step = c.in_err-older_step.ensures.value listing s (listed_still c.loop-k.invariant.moves listing is) (c.loop-k.invariant.sound s sound) in
-    ap (λ (q : Result Unit Obstacle). stepped q y) same
-    ∙ steps_stop listing s c.loop-k._k c.steps_left-left.result (nested_of x) c.loop-k-test.true (obstructed obstacle (nested_of y)) step
+    ap (λ (q : Result Unit LetterEnd). stepped q y) same
+    ∙ steps_stop listing s c.loop-k._k c.steps_left-left.result (nested_of x) c.loop-k-test.true (letter_ended end (nested_of y)) step
     ∙ c.loop-k.invariant.value listing s is sound
     ∙ ap (λ (k : ℕ). steps listing s k (nested_of c.args.x.now)) (c.steps_left-left.ensures.value listing is)
 

@@ -14,7 +14,7 @@ pub returns-in-Err-clause-value : goal.returns-in-Err-clause-value
 returns-in-Err-clause-value c listing s is sound =
     let x = c.args.x.now in
     let did = c.in-Err.ensures in
-    younger_steps listing s x (sound_under s x sound) c.younger.new.x (Err c.in-Err.hindrance) did.kept.acts did.count (did.value listing is)
+    younger_steps listing s x (sound_under s x sound) c.younger.new.x (Err c.in-Err.end) did.kept.acts did.count (did.value listing is)
 
 pub returns-in-Ok-clause-sound : goal.returns-in-Ok-clause-sound
 returns-in-Ok-clause-sound c s sound = step_stays s Younger c.args.x.now c.younger.new.x (Ok tt) (λ listing s is h. returns-in-Ok-clause-value c listing s is h) sound

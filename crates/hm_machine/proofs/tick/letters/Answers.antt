@@ -2,8 +2,8 @@ use Rattle.std.proofs.Common.{◌≡◌, ℕ, ◌+◌, arith, ap, ◌∙◌, Res
 use Rattle.std.proofs.lemmas.Result.{err_from_is_err_and}
 use Rattle.hm_machine.proofs.Keeping.{listed_still, moves_then}
 use Rattle.hm_machine.proofs.Letters.{letters_on, letters_stop}
-use Rattle.hm_machine.specs.Cpus.{nested_of, ticked, troubled}
-use Rattle.hm_machine.specs.declared.tick.Trouble.{Trouble}
+use Rattle.hm_machine.specs.Cpus.{nested_of, ticked, early_ended}
+use Rattle.hm_machine.specs.declared.step_ends.EarlyEnd.{EarlyEnd}
 use Rattle.hm_machine.proofs.tick.letters.Goals as goal
 
 pub letter_at-requires-clause-sound : goal.letter_at-requires-clause-sound
@@ -12,12 +12,12 @@ letter_at-requires-clause-sound c = (c.requires.sound.0, c.loop-l.invariant.soun
 pub returns-in_err-letter_at-clause-value : goal.returns-in_err-letter_at-clause-value
 returns-in_err-letter_at-clause-value c listing s is sound =
     let answered = err_from_is_err_and c.from_residual.result c.from_residual.ensures.1 in
-    let trouble = c.in_err-letter_at.field-0.0 in
-    let same : c.from_residual.result ≡ Err trouble = answered.1 ∙ ap Err answered.2 in
+    let early = c.in_err-letter_at.field-0.0 in
+    let same : c.from_residual.result ≡ Err early = answered.1 ∙ ap Err answered.2 in
     let y = c.letter_at.new.x in
     let step = c.in_err-letter_at.ensures.value listing s (listed_still c.loop-l.invariant.moves listing is) (c.loop-l.invariant.sound s sound) in
-    ap (λ (q : Result Unit Trouble). ticked q y) same
-    ∙ letters_stop listing s c.loop-l.l-index c.loop-l.step c.args.steps.now (nested_of c.loop-l.x) c.loop-l-test.true c.loop-l.invariant.counted (troubled trouble (nested_of y)) step
+    ap (λ (q : Result Unit EarlyEnd). ticked q y) same
+    ∙ letters_stop listing s c.loop-l.l-index c.loop-l.step c.args.steps.now (nested_of c.loop-l.x) c.loop-l-test.true c.loop-l.invariant.counted (early_ended early (nested_of y)) step
     ∙ c.loop-l.invariant.value listing s is sound
 
 pub returns-in_err-letter_at-clause-moves : goal.returns-in_err-letter_at-clause-moves

@@ -2,7 +2,7 @@ use Rattle.std.proofs.Common.{◌≡◌, ℕ, List, length, ap, sym, ◌∙◌, 
 use Rattle.hm_handlers.specs.Nested.{Nested, TickEnd, letters}
 use Rattle.hm_handlers.specs.Runs.{ended, stops, tick_end}
 use Rattle.hm_machine.proofs.Runs.{Comes, comes}
-use Rattle.hm_machine.specs.Cpus.{nested_of, troubled}
+use Rattle.hm_machine.specs.Cpus.{nested_of, early_ended}
 use Rattle.hm_machine.specs.Shown.{run_with}
 use Rattle.hm_machine.proofs.tick.tick.Goals as goal
 
@@ -22,7 +22,7 @@ returns-in-Ok-clause-value c listing s line t es is entries steps irq number sou
 pub returns-in-Err-clause-value : goal.returns-in-Err-clause-value
 returns-in-Err-clause-value c listing s line t es is entries steps irq number sound =
     let x = c.args.x.now in
-    let e = troubled c.in-Err.trouble (nested_of c.letters.new.x) in
+    let e = early_ended c.in-Err.early (nested_of c.letters.new.x) in
     let new = nested_of c.conclude.new.x in
     let went : Err e ≡ letters listing s 0 line.letters (nested_of x) = c.in-Err.ensures.value listing s is sound ∙ ap (λ (ls : List ℕ). letters listing s 0 ls (nested_of x)) (sym steps) in
     subst (λ (r : Result Nested TickEnd). Comes (Some c.conclude.result) new c.args.tick (ended s line (run_with None (nested_of x) t es) r)) went

@@ -2,7 +2,7 @@ use Rattle.std.proofs.Common.{arith}
 use Rattle.hm_machine.proofs.Ends.{who_handler, who_thread}
 use Rattle.hm_machine.proofs.Nestings.{how_many, is_none, is_some, none_active}
 use Rattle.hm_machine.specs.Cpus.{nested_of}
-use Rattle.hm_machine.proofs.tick.who_runs.Goals as goal
+use Rattle.hm_machine.proofs.conclusion.who_runs.Goals as goal
 
 pub returns-then-is_empty : goal.returns-then-is_empty
 returns-then-is_empty c = record { value = who_thread (nested_of c.args.x.now).acts (none_active c.args.x.now (is_none _ _ c.is_empty.ensures c.if-is_empty.true)) }

@@ -4,7 +4,7 @@ use Rattle.hm_machine.specs.Cpus.{config_of, nested_of}
 use Rattle.hm_run.specs.declared.Cause.{Cause}
 use Rattle.hm_run.specs.Timed.{outcome_of, outcome_of_stop}
 use Rattle.hm_state.specs.State.{state_of}
-use Rattle.hm_machine.proofs.tick.outcome_of.Goals as goal
+use Rattle.hm_machine.proofs.conclusion.outcome_of.Goals as goal
 
 pub returns-in-Stop : goal.returns-in-Stop
 unfolding state_of

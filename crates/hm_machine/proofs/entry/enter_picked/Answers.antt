@@ -5,7 +5,7 @@ use Rattle.hm_mem.specs.Memory.{memory_of}
 use Rattle.hm_mem.specs.declared.Dev.{Dev}
 use Rattle.hm_state.specs.State.{state_of}
 use Rattle.hm_sys.specs.Exceptions.{picked}
-use Rattle.hm_machine.proofs.tick.enter_picked.Goals as goal
+use Rattle.hm_machine.proofs.entry.enter_picked.Goals as goal
 
 pub enter_exception-requires-clause-picked : goal.enter_exception-requires-clause-picked
 enter_exception-requires-clause-picked c =

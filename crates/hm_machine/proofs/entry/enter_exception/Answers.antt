@@ -12,7 +12,7 @@ use Rattle.hm_mem.specs.Seen.{seen}
 use Rattle.hm_regs.specs.declared.Regs.{Regs}
 use Rattle.hm_state.proofs.Registers.{registers_are}
 use Rattle.hm_state.specs.State.{state_of}
-use Rattle.hm_machine.proofs.tick.enter_exception.Goals as goal
+use Rattle.hm_machine.proofs.entry.enter_exception.Goals as goal
 
 pub enter-requires-clause-state : goal.enter-requires-clause-state
 enter-requires-clause-state c =

@@ -3,7 +3,7 @@ use Rattle.hm_exc.specs.declared.types.EnterErr.{EnterErr}
 use Rattle.hm_handlers.specs.Entries.{refused}
 use Rattle.hm_machine.specs.Cpus.{config_of}
 use Rattle.hm_state.specs.State.{state_of}
-use Rattle.hm_machine.proofs.tick.refused.Goals as goal
+use Rattle.hm_machine.proofs.entry.refused.Goals as goal
 
 pub returns-in-Vector : goal.returns-in-Vector
 unfolding state_of

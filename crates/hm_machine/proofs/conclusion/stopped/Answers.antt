@@ -1,5 +1,5 @@
 use Rattle.hm_machine.proofs.Ends.{stops_so}
-use Rattle.hm_machine.proofs.tick.stopped.Goals as goal
+use Rattle.hm_machine.proofs.conclusion.stopped.Goals as goal
 
 pub returns-clause-ended : goal.returns-clause-ended
 returns-clause-ended c k es =

@@ -8,7 +8,7 @@ use Rattle.hm_mem.specs.Memory.{memory_of}
 use Rattle.hm_mem.specs.declared.Dev.{Dev}
 use Rattle.hm_state.specs.State.{state_of}
 use Rattle.hm_sys.specs.Exceptions.{priority_of}
-use Rattle.hm_machine.proofs.tick.running_priority.Goals as goal
+use Rattle.hm_machine.proofs.entry.running_priority.Goals as goal
 
 pub returns : goal.returns
 unfolding state_of

@@ -1,0 +1,100 @@
+//! Exceptions that enter at the end of a tick.
+
+ghost use Rattle.std.specs.Prelude.{◌≡◌, ℕ, ◌+◌, ◌%◌, ◌^◌, ◌<◌, ◌≤◌, nat_eq, true, if◌then◌else◌, List, length, map, None, Some, OnOk};
+ghost use Rattle.std.specs.Vec.{vec_capacity};
+ghost use Rattle.hm_codes.specs.Listing.{Listing, IsListing};
+ghost use Rattle.hm_handlers.specs.Entries.{refused, running_priority};
+ghost use Rattle.hm_handlers.specs.Nested.{Ended, at_step, letter, letters};
+ghost use Rattle.hm_handlers.specs.Runs.{ended, enters, picks as picks_of, stopped_under, stops, tick_end, told};
+ghost use Rattle.hm_machine.specs.Cpus.{config_of, step_ended, nested_of, picks, ticked, early_ended, CountsNone, CountsOne, IsPosition, IsSoundUnderSome, IsSoundUnder, KeepsFlash, Stays};
+ghost use Rattle.hm_machine.specs.Shown.{run_with};
+ghost use Rattle.hm_mem.specs.Memory.{memory_of, flash_at};
+ghost use Rattle.hm_mem.specs.Seen.{with_dev};
+ghost use Rattle.hm_order.specs.Machine.{Config, Stopped};
+ghost use Rattle.hm_run.specs.Program.{most_output};
+ghost use Rattle.hm_run.specs.Timed.{Activation, counted_with, outcome_of, outcome_of_stop, retired_by, who_runs};
+ghost use Rattle.hm_sched.specs.Schedule.{Sched, TickLine, younger_letter};
+ghost use Rattle.hm_state.specs.State.{State};
+ghost use Rattle.hm_window.specs.Positions.{may_end};
+
+use crate::cpu::Cpu;
+use hm_base::{Fault, FaultKind};
+use hm_exc::{EnterErr, enter, newest};
+use hm_run::{Outcome, Who};
+use hm_sys::{candidate, priority};
+use hm_window::Window;
+
+/// The priority number of the thread, below all exceptions.
+const OF_THREAD: u16 = 256;
+
+/// The priority number of what runs: of the newest exception, which is more urgent than those that it interrupted. Where PRIMASK is set nothing is
+/// more urgent.
+fn running_priority(x: &Cpu) -> u16
+    requires sound { IsSoundUnderSome x.now }
+    ensures value { result ≡ running_priority (memory_of x.now.mem).devices x.now.regs.primask (nested_of x.now).acts }
+{
+    if x.regs.primask {
+        return 0;
+    }
+    if x.acts.is_empty() {
+        return OF_THREAD;
+    }
+    priority(x.mem.dev(), newest(&x.acts).number)
+}
+
+/// How a run ends where an exception may not enter.
+fn refused(tick: u32, why: EnterErr, x: &Cpu) -> Outcome
+    ensures value { result ≡ refused tick (config_of x.now) why }
+{
+    match why {
+        EnterErr::StackSpent { sp } => Outcome::StackSpent { tick, sp },
+        EnterErr::Vector { addr } => Outcome::Fault {
+            who: Who::Entry,
+            fault: Fault {
+                kind: FaultKind::Vector,
+                addr,
+            },
+            pc: x.regs.pc,
+            n: x.retired,
+        },
+    }
+}
+
+/// Exception `e`, which was picked, enters; or the answer is how the run ends, and nothing is changed.
+fn enter_exception(tick: u32, e: u16, x: &mut Cpu) -> Option<Outcome>
+    requires sound { IsSoundUnderSome x.old }
+    requires picked { picks x.old ≡ Some e }
+    requires position { may_end x.old.window.a x.old.window.b ≡ true }
+    ensures value { (s : Sched) (es : List ℕ) → IsSoundUnder s x.old
+        → let r = enters s (Some e) (run_with None (nested_of x.old) tick es) in run_with result (nested_of x.new) tick r.entries ≡ r }
+    ensures moves { KeepsFlash x.old x.new }
+    ensures position { result ≡ None → IsPosition x.new }
+    ensures count { CountsNone x.old x.new }
+{
+    // the packed words are put together again, since each number fits its type
+    x.regs.in_range();
+    match enter(&mut x.regs, &mut x.mem, x.window, e, &mut x.acts) {
+        Ok(()) => {
+            x.window = Window { a: 0, b: 0 };
+            None
+        }
+        Err(why) => Some(refused(tick, why, x)),
+    }
+}
+
+/// The exception that is picked enters, where there is one; or the answer is how the run ends.
+pub fn enter_picked(tick: u32, x: &mut Cpu) -> Option<Outcome>
+    requires sound { IsSoundUnderSome x.old }
+    requires position { may_end x.old.window.a x.old.window.b ≡ true }
+    ensures value { (s : Sched) (es : List ℕ) → IsSoundUnder s x.old
+        → let y = run_with None (nested_of x.old) tick es in let r = enters s (picks_of y) y in run_with result (nested_of x.new) tick r.entries ≡ r }
+    ensures moves { KeepsFlash x.old x.new }
+    ensures position { IsPosition x.old → result ≡ None → IsPosition x.new }
+    ensures count { CountsNone x.old x.new }
+{
+    let current = running_priority(x);
+    match candidate(x.mem.dev(), current) {
+        Some(e) => enter_exception(tick, e, x),
+        None => None,
+    }
+}
