@@ -18,7 +18,7 @@ use Rattle.hm_isa.specs.declared.Instr.TheVariants as instr
 use Rattle.hm_mem.specs.Memory.{thread_under}
 use Rattle.hm_mem.specs.Seen.{is_allowed, lies_in_sram}
 use Rattle.hm_order.specs.Beats.{then}
-use Rattle.hm_order.specs.Handlers.{Turn, Older, Younger, turn}
+use Rattle.hm_order.specs.Turns.{Turn, Older, Younger, turn}
 use Rattle.hm_order.specs.Machine.{Config, End, Stopped, Broken as Breaks, begun, older, younger}
 use Rattle.hm_order.proofs.Results.{decide, true_not_false}
 use Rattle.hm_regs.specs.declared.Regs.{Regs}

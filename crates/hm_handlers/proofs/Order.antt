@@ -17,7 +17,7 @@ use Rattle.hm_isa.specs.declared.Instr.TheVariants as instr
 use Rattle.hm_mem.specs.Memory.{thread_under}
 use Rattle.hm_mem.specs.declared.Actor.TheVariants.{Thread, Handler}
 use Rattle.hm_order.specs.Beats.{then}
-use Rattle.hm_order.specs.Handlers.{Turn, Older, Younger, turn}
+use Rattle.hm_order.specs.Turns.{Turn, Older, Younger, turn}
 use Rattle.hm_order.specs.Machine.{Config, End, Stopped, Broken as Breaks, older, younger}
 use Rattle.hm_order.specs.Position.{Agrees, Holds, StopsAt}
 use Rattle.hm_order.proofs.Headline.{explained}

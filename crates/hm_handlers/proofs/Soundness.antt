@@ -21,7 +21,7 @@ use Rattle.hm_mem.specs.Memory.{Around}
 use Rattle.hm_mem.specs.declared.Actor.TheVariants.{Thread}
 use Rattle.hm_mem.specs.declared.Dev.{Dev}
 use Rattle.hm_order.specs.Beats.{then}
-use Rattle.hm_order.specs.Handlers.{Turn, Older, Younger, turn}
+use Rattle.hm_order.specs.Turns.{Turn, Older, Younger, turn}
 use Rattle.hm_order.specs.Machine.{Config, End, Stopped, Broken, older, younger}
 use Rattle.hm_regs.specs.declared.Regs.{Regs}
 use Rattle.hm_run.specs.declared.Cause.{Cause}

@@ -14,7 +14,7 @@ use Rattle.hm_isa.specs.declared.Instr.{Instr}
 use Rattle.hm_isa.specs.declared.Instr.TheVariants as instr
 use Rattle.hm_mem.specs.Memory.{Around, thread_under}
 use Rattle.hm_order.specs.Beats.{then}
-use Rattle.hm_order.specs.Handlers.{Turn, Older, Younger, turn}
+use Rattle.hm_order.specs.Turns.{Turn, Older, Younger, turn}
 use Rattle.hm_order.specs.Machine.{Config, End, Stopped, begun, older, younger}
 use Rattle.hm_run.specs.declared.Cause.{Cause}
 use Rattle.hm_run.specs.declared.Cause.TheVariants as cause

@@ -6,7 +6,7 @@ ghost use Rattle.std.specs.Prelude.{◌≡◌, ℕ, ◌<◌, ◌≤◌, true, fa
 ghost use Rattle.hm_base.specs.Image.{Segment};
 ghost use Rattle.hm_codes.specs.Listing.{Listing};
 ghost use Rattle.hm_exc.specs.Entry.{CanEnter, entry_refusal};
-ghost use Rattle.hm_order.specs.Handlers.{Turn};
+ghost use Rattle.hm_order.specs.Turns.{Turn};
 ghost use Rattle.hm_plain.specs.Ends.{GoesOn};
 ghost use Rattle.hm_plain.specs.Readings.{ShownInOrder};
 ghost use Rattle.hm_run.specs.Headline.{Headline, Riders};

@@ -5,7 +5,7 @@ use Rattle.std.proofs.lemmas.List.{drop_more}
 use Rattle.hm_codes.specs.Listing.{Listing}
 use Rattle.hm_handlers.specs.Nested.{Nested, NestedEnd, NestedStep, TickEnd, at_step, letter, letters, step, steps, to_end}
 use Rattle.hm_order.specs.Beats.{then}
-use Rattle.hm_order.specs.Handlers.{Older, Younger}
+use Rattle.hm_order.specs.Turns.{Older, Younger}
 use Rattle.hm_sched.specs.Schedule.{Sched, older_letter, younger_letter}
 
 module _ (listing : Listing) (s : Sched) where

@@ -30,7 +30,7 @@ use Rattle.hm_machine.specs.Shown.{interrupted_of}
 use Rattle.hm_mem.specs.Memory.{Around, Memory, byte_at, flash_at, memory_of}
 use Rattle.hm_mem.specs.Seen.{with_actor}
 use Rattle.hm_mem.specs.declared.Actor.{Actor}
-use Rattle.hm_order.specs.Handlers.{Turn, Older, Younger}
+use Rattle.hm_order.specs.Turns.{Turn, Older, Younger}
 use Rattle.hm_order.specs.Machine as order
 use Rattle.hm_order.specs.Machine.{Config, End, begun, older, younger}
 use Rattle.hm_regs.specs.declared.Regs.{Regs}

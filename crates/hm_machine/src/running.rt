@@ -9,7 +9,7 @@ ghost use Rattle.hm_handlers.specs.Nested.{flows, letter, step, to_end};
 ghost use Rattle.hm_machine.specs.Shown.{interrupted_of};
 ghost use Rattle.hm_machine.specs.Cpus.{config_of, nested_of, returns, state_in, stepped, AreEntered, CountsOne, IsHandler, IsPosition, IsSoundUnderSome, IsSoundUnder, IsUnder, KeepsFlash};
 ghost use Rattle.hm_mem.specs.Memory.{memory_of, flash_at};
-ghost use Rattle.hm_order.specs.Handlers.{Older, Younger};
+ghost use Rattle.hm_order.specs.Turns.{Older, Younger};
 ghost use Rattle.hm_run.specs.Program.{most_output, steps_left, vector_of};
 ghost use Rattle.hm_sched.specs.Schedule.{Sched};
 ghost use Rattle.hm_state.specs.State.{State};

@@ -8,4 +8,3 @@ pub mod Older
 pub mod Younger
 pub mod Steps
 pub mod Headline
-pub mod Shown

@@ -2,7 +2,7 @@
 //! the laws. There is no code here. Each function is a law, and its clauses say what holds of every program.
 #![tactic(auto)]
 
-ghost use Rattle.std.specs.Prelude.{◌≡◌, ℕ, ◌*◌, ◌<◌, suc, List, false, Ok, Err};
+ghost use Rattle.std.specs.Prelude.{◌≡◌, ℕ, ◌*◌, ◌<◌, suc, false, Ok, Err};
 ghost use Rattle.hm_order.specs.Beats.{View, Action, ActionLaws, Apart, Same};
 ghost use Rattle.hm_order.specs.Machine.{
   Clean,
@@ -19,7 +19,6 @@ ghost use Rattle.hm_order.specs.Machine.{
   interrupted,
 };
 ghost use Rattle.hm_order.specs.Position.{Holds, StopsAt, SamePosition, Agrees};
-ghost use Rattle.hm_order.specs.Handlers.{Stacked, Handlers, HandlerLaws, Move, Hides, shown, move, AgreesNested};
 
 /// Two beats that meet on no cell: where they do not stop in this order, they do not stop in the
 /// other, and leave the same state.
@@ -52,19 +51,6 @@ pub fn younger_step<S, I, C, V, E, W, B>()
 pub fn interrupt<S, I, C, V, E, W, B>()
     ensures holds { (M : Core S I C V E W B) → CoreLaws M → (first : S) (c : Config S) (t : S)
         → Restores M c.state t → Holds M first c → Holds M first (interrupted M c t) }
-{}
-
-/// With handlers, which may be nested: a step of the thread or of a handler, an entry, a return. What
-/// holds is said of the thread, with its position and registers and the memory as it is now.
-pub fn handler_move<S, I, C, V, E, W, B, R, D>()
-    ensures agrees { (M : Core S I C V E W B) (H : Handlers S R D E B) → CoreLaws M → HandlerLaws M H
-        → (first : S) (m : Move) (c : Config S) (acts : List (Stacked R))
-        → Holds M first (shown M H c acts) → AgreesNested M H first (move M H m c acts) }
-    // A change from outside, as by a timer: it leaves the registers of what runs.
-    ensures outside { (M : Core S I C V E W B) (H : Handlers S R D E B) → CoreLaws M → HandlerLaws M H
-        → (first : S) (c : Config S) (acts : List (Stacked R)) (t : S)
-        → Hides M H c.state t → H.regs t ≡ H.regs c.state
-        → Holds M first (shown M H c acts) → Holds M first (shown M H (interrupted M c t) acts) }
 {}
 
 /// What follows where the machine stops. A stop that is not at a tainted cell is that of the next

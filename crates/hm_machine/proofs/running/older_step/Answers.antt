@@ -3,7 +3,7 @@ use Rattle.hm_machine.proofs.Keeping.{keeps_moves}
 use Rattle.hm_machine.proofs.Nestings.{is_none, none_active, sound_under, step_stays, thread_steps}
 use Rattle.hm_machine.specs.Cpus.{stepped}
 use Rattle.hm_machine.specs.declared.step_ends.LetterEnd.{LetterEnd}
-use Rattle.hm_order.specs.Handlers.{Older}
+use Rattle.hm_order.specs.Turns.{Older}
 use Rattle.hm_machine.proofs.running.older_step.Goals as goal
 
 pub returns-in-Ok-clause-value : goal.returns-in-Ok-clause-value

@@ -1,7 +1,7 @@
 use Rattle.std.proofs.Common.{Ok, Err}
 use Rattle.hm_machine.proofs.Keeping.{keeps_moves}
 use Rattle.hm_machine.proofs.Nestings.{sound_under, step_stays, younger_steps}
-use Rattle.hm_order.specs.Handlers.{Younger}
+use Rattle.hm_order.specs.Turns.{Younger}
 use Rattle.hm_machine.proofs.running.younger_step.Goals as goal
 
 pub returns-in-Ok-clause-value : goal.returns-in-Ok-clause-value

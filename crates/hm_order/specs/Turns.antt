@@ -1,0 +1,12 @@
+-- Which of the two instructions in flight takes a step.
+use Rattle.std.specs.Prelude.{Result}
+use Rattle.hm_order.specs.Machine.{Core, Config, End, older, younger}
+
+pub data Turn : Type 0 where
+  Older : Turn
+  Younger : Turn
+
+-- a step of the machine
+abbrev pub turn : {S I C V E W B : Type 0} → Core S I C V E W B → Turn → Config S → Result (Config S) (End S E B)
+turn M Older c = older M c
+turn M Younger c = younger M c
