@@ -345,7 +345,7 @@ fn runs_under_files(rt: HostRuntime) -> Result<(), Fail> {
     Ok(())
 }
 
-/// The stack pointer 20010000, the first instruction at 44 and the vector of interrupt 0 at 56; from 44 on ldr r1,enabled; movs r2,#1; str r2,[r1,#0]; nop; vldrw.u32 q0,[r0];
+/// The stack pointer 20010000, the first instruction at 44, and at 40 the vector of interrupt 0, which names 56; from 44 on ldr r1,enabled; movs r2,#1; str r2,[r1,#0]; nop; vldrw.u32 q0,[r0];
 /// vadd.i32 q1,q0,q2; bkpt #0; handler: bx lr; enabled: the word e000e100.
 const INTERRUPTED: &[u8] =
     b"\x00\x00\x01\x20\x45\x00\x00\x00\x00\x00\x00\x00\x00\x00\x00\x00\x00\x00\x00\x00\x00\x00\x00\x00\x00\x00\x00\x00\x00\x00\x00\x00\x00\x00\x00\x00\x00\x00\x00\x00\x00\x00\x00\x00\x00\x00\x00\x00\x00\x00\x00\x00\x00\x00\x00\x00\x00\x00\x00\x00\x00\x00\x00\x00\x57\x00\x00\x00\x04\x49\x01\x22\x0a\x60\x00\xbf\x90\xed\x00\x1f\x20\xef\x44\x28\x00\xbe\x70\x47\x00\xe1\x00\xe0";

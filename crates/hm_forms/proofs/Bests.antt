@@ -1,7 +1,7 @@
 -- The best of a whole register is that of its words, one after another.
-use Rattle.std.proofs.Common.{◌≡◌, ℕ, ◌+◌, ◌-◌, ◌*◌, ◌%◌, ◌^◌, ◌<◌, ◌≤◌, Bool, true, false, ◌||◌, ◌⊎◌, inl, inr, cond, eqb, ltb, nat_eq, length, List, [], ◌∷◌, ◌++◌, map, refl, sym, ◌∙◌, ap, subst, arith, ne_eqb, eq-eqb, ℤ, pos, ◌+ℤ◌, ◌-ℤ◌, int_lt, unsigned_abs}
+use Rattle.std.proofs.Common.{◌≡◌, ℕ, ◌+◌, ◌-◌, ◌%◌, ◌^◌, ◌<◌, ◌≤◌, Bool, true, false, ◌||◌, ◌⊎◌, inl, inr, cond, eqb, ltb, nat_eq, length, List, [], ◌∷◌, ◌++◌, map, refl, sym, ◌∙◌, ap, arith, ne_eqb, eq-eqb, ℤ, pos, ◌-ℤ◌, int_lt, unsigned_abs}
 use Rattle.std.proofs.lemmas.Int.{int_rem_euclid_is, ints}
-use Rattle.std.specs.Int.{int_max, int_min, int_rem_euclid}
+use Rattle.std.specs.Int.{int_rem_euclid}
 use Rattle.hm_base.specs.Place.{fit}
 use Rattle.hm_base.specs.declared.Place.TheVariants.{R, Mask01, Mask23, P0, Ltp}
 use Rattle.hm_isa.specs.declared.vectors.V23.{V23}
@@ -11,7 +11,7 @@ use Rattle.hm_lane.specs.declared.lanes.Size.{Size}
 use Rattle.hm_lane.specs.declared.lanes.Size.TheVariants.{Byte, Half, Word}
 use Rattle.hm_lane.specs.Lanes.{bytes_of, lanes, modulus}
 use Rattle.hm_state.specs.Store.{put, put_all}
-use Rattle.hm_state.specs.State.{At, Cell, State, Value, at, cells, same_cell, word}
+use Rattle.hm_state.specs.State.{At, Cell, State, at, cells, word}
 use Rattle.hm_beat.specs.Rows.{Each, active_at, advance_half, predicate_at, retired, word_place}
 use Rattle.hm_kinds.specs.Row.{Row, ends_at, linked, row_whole}
 use Rattle.hm_lane_fns.specs.LaneFns.{cut, half, number}

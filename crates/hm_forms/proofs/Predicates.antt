@@ -1,14 +1,14 @@
 -- What forms make of P0 is what they make of its slices, word by word.
-use Rattle.std.proofs.Common.{◌≡◌, ℕ, Bool, false, List, [], ◌∷◌, ◌++◌, Option, None, refl, ◌∙◌, ap}
+use Rattle.std.proofs.Common.{◌≡◌, ℕ, Bool, false, List, [], ◌∷◌, Option, None, refl, ◌∙◌, ap}
 use Rattle.hm_base.specs.declared.Place.{Place}
-use Rattle.hm_base.specs.declared.Place.TheVariants.{R, P0}
+use Rattle.hm_base.specs.declared.Place.TheVariants.{R}
 use Rattle.hm_isa.specs.declared.vectors.Tail.{Tail}
 use Rattle.hm_lane.specs.declared.lanes.Size.{Size}
 use Rattle.hm_lane.specs.declared.lanes.Size.TheVariants.{Byte, Half, Word}
 use Rattle.hm_lane.specs.Lanes.{bytes_of, lanes, paired_tests}
 use Rattle.hm_state.specs.State.{State, at}
 use Rattle.hm_beat.specs.Rows.{active_at, predicate_at, word_place}
-use Rattle.hm_kinds.specs.Row.{Row, row_whole, slice_at, values_at}
+use Rattle.hm_kinds.specs.Row.{row_whole, slice_at, values_at}
 use Rattle.hm_lane_fns.specs.Words.{both, filled, nibble, operand_places}
 use Rattle.hm_forms.specs.declared.compare.Comparison.{Comparison}
 use Rattle.hm_forms.specs.Forms.{block_mask, compare_row, compare_slice, compares, count_row, count_slice, invert_row, slice_row}

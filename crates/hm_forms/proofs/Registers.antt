@@ -1,11 +1,13 @@
 -- What forms do to whole registers is what they do word by word.
-use Rattle.std.proofs.Common.{◌≡◌, ℕ, zero, suc, ◌+◌, ◌*◌, ◌/◌, ◌%◌, ◌<◌, Bool, true, false, not, ◌||◌, cond, eqb, nat_eq, List, [], ◌∷◌, ◌++◌, map, reverse, Option, Some, None, refl, sym, ◌∙◌, ap, arith, ltb-true, eqb-true}
+use Rattle.std.proofs.Common.{◌≡◌, ℕ, zero, suc, ◌+◌, ◌*◌, ◌/◌, ◌%◌, ◌^◌, ◌<◌, Bool, true, false, not, ◌||◌, cond, eqb, nat_eq, List, [], ◌∷◌, ◌++◌, map, reverse, Option, Some, None, refl, sym, ◌∙◌, ap, arith, ltb-true, eqb-true}
 use Rattle.hm_base.specs.declared.Place.{Place}
-use Rattle.hm_base.specs.declared.Place.TheVariants.{R}
+use Rattle.hm_base.specs.declared.Place.TheVariants.{R, P0}
 use Rattle.hm_isa.specs.declared.fields.Below.{Below}
 use Rattle.hm_isa.specs.declared.vectors.V6.{V6}
 use Rattle.hm_isa.specs.declared.vectors.V9.{V9}
 use Rattle.hm_isa.specs.declared.vectors.V14.{V14}
+use Rattle.hm_isa.specs.declared.vectors.V15.{V15}
+use Rattle.hm_isa.specs.declared.vectors.Select.{Select}
 use Rattle.hm_isa.specs.declared.vectors.ReverseName.{ReverseName}
 use Rattle.hm_isa.specs.declared.vectors.ReverseName.TheVariants as rev
 use Rattle.hm_isa.specs.Rules.{is_reversed}
@@ -16,12 +18,12 @@ use Rattle.hm_regs.specs.Writes.{write}
 use Rattle.hm_state.specs.Store.{put_all}
 use Rattle.hm_state.specs.State.{At, State, at, cells, into}
 use Rattle.hm_beat.specs.Rows.{advance_half, predicate_at, register_at, retired, word_place, write_register}
-use Rattle.hm_kinds.specs.Row.{Row, numbers, outs_at, row_whole, slice_at, values_at}
-use Rattle.hm_lane_fns.specs.Words.{size_of}
+use Rattle.hm_kinds.specs.Row.{Row, numbers, outs_at, row_whole}
+use Rattle.hm_lane_fns.specs.Words.{size_of, truths}
 use Rattle.hm_forms.specs.declared.longer.Longer.{Longer}
 use Rattle.hm_forms.specs.declared.offsets.Steps.{Steps}
-use Rattle.hm_forms.specs.Forms.{every_second, exchanged, in_turn, lengthened, longer_new, longer_row, offset_after, offsets_from, offsets_row, other_word, per_word, reversed_at, reversed_new, reversed_row, reversed_word, round_of, round_places, product, turned_at, turned_lane, turned_new, turned_row, wide_at, wide_new, wide_row, wide_word, words_row}
-use Rattle.hm_forms.specs.Registers.{four, in_groups, reversed_result, words_result, longer_result, offsets_whole, round_at, merged_whole, turned_result, wide_result}
+use Rattle.hm_forms.specs.Forms.{constant_new, constant_row, every_second, exchanged, in_turn, lengthened, longer_new, longer_row, offset_after, offsets_from, offsets_row, other_word, per_word, reversed_at, reversed_new, reversed_row, reversed_word, select_new, select_row, round_of, round_places, product, turned_at, turned_lane, turned_new, turned_row, wide_at, wide_new, wide_row, wide_word, words_row}
+use Rattle.hm_forms.specs.Registers.{constant_result, four, in_groups, long_bytes, reversed_result, select_result, words_result, longer_result, offsets_whole, round_at, merged_whole, turned_result, wide_result, wide_words_result}
 use Rattle.hm_forms.proofs.Wholes.{advances, bytes_of-word}
 
 module _ (w : Bool) (d : ℕ) (sources : ℕ → List Place) (f : ℕ → ℕ → List ℕ → ℕ) (s : State) where
@@ -143,6 +145,46 @@ module _ (r : V6) (s : State) where
       by_size ∙ (λ j. merged_whole r.d.value (four (wide_of (e j))) s)
       ∙ ap (λ u. merged_whole r.d.value u s) (sym (λ j. pairs_half (product r) odd (first 0) (second 0) j ++ pairs_half (product r) odd (first 1) (second 1) j
       ++ pairs_half (product r) odd (first 2) (second 2) j ++ pairs_half (product r) odd (first 3) (second 3) j))
+
+-- products of words
+low : (v : ℕ) → bytes_of (v % 2 ^ 32) ≡ bytes_of v
+low v =
+    let a : v % 2 ^ 32 % 256 ≡ v % 256 = omega arith in
+    let b : v % 2 ^ 32 / 256 % 256 ≡ v / 256 % 256 = omega arith in
+    let c : v % 2 ^ 32 / 65536 % 256 ≡ v / 65536 % 256 = omega arith in
+    let d : v % 2 ^ 32 / 16777216 % 256 ≡ v / 16777216 % 256 = omega arith in
+    cc (a, b, c, d)
+
+long_words : (t : ℕ) → t < 2 → (p : ℕ → ℕ → ℕ) (x y : ℕ → ℕ) → (let v : ℕ → ℕ = λ b. p (x (2 * (b / 2) + t)) (y (2 * (b / 2) + t)) in
+    four (λ b. cond (eqb (b % 2) 0) (v b % 2 ^ 32) (v b / 2 ^ 32))
+    ≡ long_bytes (paired p (every_second (nat_eq t 1) (x 0 ∷ x 1 ∷ x 2 ∷ x 3 ∷ [])) (every_second (nat_eq t 1) (y 0 ∷ y 1 ∷ y 2 ∷ y 3 ∷ []))))
+long_words zero h p x y = λ j. low (p (x 0) (y 0)) j ++ bytes_of (p (x 0) (y 0) / 2 ^ 32) ++ low (p (x 2) (y 2)) j ++ bytes_of (p (x 2) (y 2) / 2 ^ 32)
+long_words (suc zero) h p x y = λ j. low (p (x 1) (y 1)) j ++ bytes_of (p (x 1) (y 1) / 2 ^ 32) ++ low (p (x 3) (y 3)) j ++ bytes_of (p (x 3) (y 3) / 2 ^ 32)
+long_words (suc (suc t)) h p x y = absurd (omega arith)
+
+pub wide_words : (r : V6) (s : State) → r.z.value ≡ 2 → row_whole (wide_row r) s ≡ merged_whole r.d.value (wide_words_result r s) s
+wide_words r s e =
+    by_size r s ∙ (λ j. merged_whole r.d.value (four (wide_of r s (e j))) s)
+    ∙ ap (λ u. merged_whole r.d.value u s) (long_words r.t.value r.t.in_range (product r) (λ b. at (word_place r.n.value b) s) (λ b. at (word_place r.m.value b) s))
+
+-- CONSTANTS
+pub constant_is : (r : V15) (s : State) → row_whole (constant_row r) s ≡ merged_whole r.d.value (constant_result r s) s
+constant_is r s = words_whole false r.d.value (λ b. []) (λ b slice. constant_new r b) s
+
+-- A CHOICE
+one_of : (p : Bool) (a b : ℕ) → a < 256 → b < 256 → cond p a b < 256
+one_of true a b h i = h
+one_of false a b h i = i
+
+chosen_back : (p q r t : Bool) (x y : ℕ) → (let l = merged (p ∷ q ∷ r ∷ t ∷ []) (bytes_of y) (bytes_of x) in bytes_of (word_of l) ≡ l)
+chosen_back p q r t x y = sym (bytes_of-word _ _ _ _ (one_of p _ _ (omega arith) (omega arith)) (one_of q _ _ (omega arith) (omega arith)) (one_of r _ _ (omega arith) (omega arith)) (one_of t _ _ (omega arith) (omega arith)))
+
+pub select_is : (r : Select) (s : State) → row_whole (select_row r) s ≡ merged_whole r.d.value (select_result r s) s
+select_is r s = words_whole true r.d.value (λ b. word_place r.n.value b ∷ word_place r.m.value b ∷ []) (λ b. select_new) s
+    ∙ ap (λ u. merged_whole r.d.value u s) (λ j. word 0 j ++ word 1 j ++ word 2 j ++ word 3 j)
+  where
+    word : (b : ℕ) → (let l = merged (truths (at (P0 b) s)) (bytes_of (at (word_place r.m.value b) s)) (bytes_of (at (word_place r.n.value b) s)) in bytes_of (word_of l) ≡ l)
+    word b = chosen_back _ _ _ _ (at (word_place r.n.value b) s) (at (word_place r.m.value b) s)
 
 -- OFFSETS
 -- the offsets of one word, and of four

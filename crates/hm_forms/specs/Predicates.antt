@@ -1,5 +1,5 @@
 -- What forms make of P0, as truth values for the 16 bytes of a register.
-use Rattle.std.specs.Prelude.{ℕ, zero, suc, ◌*◌, ◌^◌, Bool, ltb, List, [], ◌∷◌, ◌++◌, map, Option, None}
+use Rattle.std.specs.Prelude.{ℕ, zero, suc, ◌*◌, ◌^◌, Bool, ltb, List, [], ◌∷◌, ◌++◌, map, Option}
 use Rattle.hm_base.specs.declared.Place.TheVariants.{R, P0}
 use Rattle.hm_regs.specs.Writes.{write}
 use Rattle.hm_isa.specs.declared.vectors.Tail.{Tail}

@@ -1,29 +1,37 @@
 -- What forms do to whole registers, as lists of elements in rising order.
-use Rattle.std.specs.Prelude.{ℕ, ◌+◌, ◌*◌, ◌/◌, ◌%◌, ◌^◌, Bool, true, cond, List, ◌∷◌, ◌++◌, map, nat_eq, Option, Some, None}
+use Rattle.std.specs.Prelude.{ℕ, ◌+◌, ◌-◌, ◌*◌, ◌/◌, ◌%◌, ◌^◌, Bool, true, false, ◌&&◌, cond, List, [], ◌∷◌, ◌++◌, map, nat_eq, Option, Some, None}
+use Rattle.std.specs.List.{flat_map}
 use Rattle.hm_base.specs.declared.Place.{Place}
-use Rattle.hm_base.specs.declared.Place.TheVariants.{R}
+use Rattle.hm_base.specs.declared.Place.TheVariants.{R, P0, Carry}
 use Rattle.hm_isa.specs.declared.vectors.V6.{V6}
+use Rattle.hm_isa.specs.declared.vectors.V8.{V8}
+use Rattle.hm_isa.specs.declared.vectors.CarryName.{CarryName}
 use Rattle.hm_isa.specs.declared.vectors.V9.{V9}
 use Rattle.hm_isa.specs.declared.vectors.V14.{V14}
+use Rattle.hm_isa.specs.declared.vectors.V15.{V15}
+use Rattle.hm_isa.specs.declared.vectors.V16.{V16}
+use Rattle.hm_isa.specs.declared.vectors.V17.{V17}
 use Rattle.hm_isa.specs.declared.vectors.V23.{V23}
+use Rattle.hm_isa.specs.declared.vectors.Select.{Select}
 use Rattle.hm_isa.specs.declared.vectors.ReverseName.{ReverseName}
 use Rattle.hm_isa.specs.declared.vectors.ReverseName.TheVariants as rev
 use Rattle.hm_lane.specs.declared.lanes.Size.{Size}
 use Rattle.hm_lane.specs.declared.lanes.Size.TheVariants.{Byte, Half, Word}
-use Rattle.hm_lane.specs.Lanes.{bytes_of, lanes, merged, modulus, paired, unlanes}
+use Rattle.hm_lane.specs.Lanes.{bytes_of, lanes, merged, modulus, paired, spread, unlanes}
 use Rattle.hm_regs.specs.Writes.{write}
-use Rattle.hm_state.specs.Store.{put_all}
+use Rattle.hm_state.specs.Store.{flagged, put_all}
 use Rattle.hm_state.specs.State.{State, at, cells, into}
-use Rattle.hm_beat.specs.Rows.{advance_half, predicate_at, register_at, retired, write_register}
+use Rattle.hm_beat.specs.Rows.{advance_half, predicate_at, register_at, retired, word_place, write_register}
 use Rattle.hm_kinds.specs.Row.{slice_at, values_at}
 use Rattle.hm_lane_fns.specs.LaneFns.{cut, number}
-use Rattle.hm_lane_fns.specs.Words.{firsts, size_of}
+use Rattle.hm_lane_fns.specs.Words.{any_both, firsts, size_of, truths}
 use Rattle.hm_forms.specs.declared.long_sums.LongSums.{LongSums}
 use Rattle.hm_forms.specs.declared.longer.Longer.{Longer}
 use Rattle.hm_forms.specs.declared.offsets.Steps.{Steps}
 use Rattle.hm_forms.specs.declared.sums.Sums.{Sums}
 use Rattle.hm_isa.specs.declared.fields.Below.{Below}
-use Rattle.hm_forms.specs.Forms.{added, best, every_second, exchanged, in_turn, lengthened, long_term, offset_after, offsets_from, per_word, product, term_of, turned_lane, words_row}
+use Rattle.hm_forms.specs.Constants.{constant_op, imm_word}
+use Rattle.hm_forms.specs.Forms.{added, begins, best, every_second, exchanged, in_turn, lengthened, long_term, narrow_outside, narrow_saturates, narrowed, offset_after, offsets_from, per_word, product, shift_of, subtracts, term_of, turned_lane, words_row}
 
 -- 16 bytes are merged into a register under the predicate, and the masks advance
 abbrev pub merged_whole : ℕ → List ℕ → State → State
@@ -41,6 +49,103 @@ words_result w d sources f s = let row = words_row w d sources f None in four (�
 abbrev pub elements : Size → ℕ → State → List ℕ
 elements z q s = lanes z (register_at q s)
 
+-- the four words of a register, the lowest first
+abbrev pub words_at : ℕ → State → List ℕ
+words_at q s = at (word_place q 0) s ∷ at (word_place q 1) s ∷ at (word_place q 2) s ∷ at (word_place q 3) s ∷ []
+
+-- a constant of four words takes the register's place, or its bits are set or cleared there
+abbrev pub constant_result : V15 → State → List ℕ
+constant_result r s = unlanes Word (paired (constant_op r) (words_at r.d.value s) (map (imm_word r) (0 ∷ 1 ∷ 2 ∷ 3 ∷ [])))
+
+-- the bytes of one register where P0 has a bit, and those of the other elsewhere
+abbrev pub select_result : Select → State → List ℕ
+select_result r s = merged (truths (at (P0 0) s) ++ truths (at (P0 1) s) ++ truths (at (P0 2) s) ++ truths (at (P0 3) s)) (register_at r.m.value s) (register_at r.n.value s)
+
+-- new elements in the even places or in the odd ones, beside the old ones that stand in the others
+abbrev pub placed : Bool → List ℕ → List ℕ → List ℕ
+placed odd (a ∷ b ∷ l) (x ∷ xs) = cond odd a x ∷ cond odd x b ∷ placed odd l xs
+placed odd _ _ = []
+
+-- the same of tests, none beside them
+abbrev pub placed_tests : Bool → List Bool → List Bool
+placed_tests odd (t ∷ ts) = cond odd false t ∷ cond odd t false ∷ placed_tests odd ts
+placed_tests odd [] = []
+
+-- the halves of words, the lower one first
+abbrev pub halves_of : List ℕ → List ℕ
+halves_of l = flat_map (λ (x : ℕ). x % 2 ^ 16 ∷ x / 2 ^ 16 ∷ []) l
+
+-- wide elements, each narrowed to one of half the size, and those that saturate
+abbrev pub narrowed_result : V16 → Size → Size → List ℕ → State → List ℕ
+narrowed_result r wide small xs s = unlanes small (placed (nat_eq r.t.value 1) (elements small r.d.value s) (map (narrowed r.name wide small) xs))
+
+abbrev pub narrow_result : V16 → State → List ℕ
+narrow_result r s =
+    let xs = words_at r.m.value s in
+    cond (nat_eq r.z.value 1) (narrowed_result r Word Half xs s) (narrowed_result r Half Byte (halves_of xs) s)
+
+abbrev pub narrowed_tests : V16 → Size → Size → List ℕ → List Bool
+narrowed_tests r wide small xs = spread small (placed_tests (nat_eq r.t.value 1) (map (narrow_outside r.name wide small) xs))
+
+abbrev pub narrow_saturated : V16 → State → List Bool
+narrow_saturated r s =
+    let xs = words_at r.m.value s in
+    cond (nat_eq r.z.value 1) (narrowed_tests r Word Half xs) (narrowed_tests r Half Byte (halves_of xs))
+
+abbrev pub narrow_whole : V16 → State → State
+narrow_whole r s =
+    retired (flagged (narrow_saturates r.name && any_both (predicate_at s) (narrow_saturated r s))
+    (put_all cells (write_register r.d.value (merged (predicate_at s) (register_at r.d.value s) (narrow_result r s)) ++ advance_half 0 s ++ advance_half 2 s) s))
+
+-- A CARRY from word to word
+-- two words and a carry, which stands in bit 1 of the flags; the second word is inverted where it is to be taken away
+abbrev pub sum_with : CarryName → ℕ → ℕ → ℕ → ℕ
+sum_with name flags x y = x + cond (subtracts name) (0xffffffff - y) y + flags / 2 % 2
+
+-- an active word gives its carry, and another one leaves the flags
+abbrev pub flags_after : CarryName → Bool → ℕ → ℕ → ℕ → ℕ
+flags_after name active flags x y = cond active (2 * (sum_with name flags x y / 2 ^ 32)) flags
+
+-- the sums of words one after another, and the flags behind them
+abbrev pub sums_from : CarryName → List Bool → List ℕ → List ℕ → ℕ → List ℕ
+sums_from name (p ∷ ps) (x ∷ xs) (y ∷ ys) flags = sum_with name flags x y % 2 ^ 32 ∷ sums_from name ps xs ys (flags_after name p flags x y)
+sums_from name _ _ _ flags = []
+
+abbrev pub flags_from : CarryName → List Bool → List ℕ → List ℕ → ℕ → ℕ
+flags_from name (p ∷ ps) (x ∷ xs) (y ∷ ys) flags = flags_from name ps xs ys (flags_after name p flags x y)
+flags_from name _ _ _ flags = flags
+
+abbrev pub carry_whole : V8 → State → State
+carry_whole r s =
+    let start = cond (begins r.name) (cond (subtracts r.name) 2 0) (at Carry s) in
+    let active = firsts Word (predicate_at s) in
+    let result = unlanes Word (sums_from r.name active (words_at r.n.value s) (words_at r.m.value s) start) in
+    let flags = flags_from r.name active (words_at r.n.value s) (words_at r.m.value s) start in
+    retired (put_all cells (into (write Carry flags) ∷ write_register r.d.value (merged (predicate_at s) (register_at r.d.value s) result) ++ advance_half 0 s ++ advance_half 2 s) s)
+
+-- BITS from word to word
+-- what an active word lets out, and what goes by another one
+abbrev pub bits_after : ℕ → Bool → ℕ → ℕ → ℕ
+bits_after n active m c = cond active (c / 2 ^ (32 - n)) m
+
+-- words shifted up by n one after another, each taking in the bits before it, and the bits behind them
+abbrev pub shifted_from : ℕ → List Bool → List ℕ → ℕ → List ℕ
+shifted_from n (p ∷ ps) (c ∷ cs) m = (c * 2 ^ n % 2 ^ 32 + m % 2 ^ n) ∷ shifted_from n ps cs (bits_after n p m c)
+shifted_from n _ _ m = []
+
+abbrev pub bits_from : ℕ → List Bool → List ℕ → ℕ → ℕ
+bits_from n (p ∷ ps) (c ∷ cs) m = bits_from n ps cs (bits_after n p m c)
+bits_from n _ _ m = m
+
+abbrev pub shift_whole : V17 → State → State
+shift_whole r s =
+    let place = R r.m.value in
+    let active = firsts Word (predicate_at s) in
+    let result = unlanes Word (shifted_from (shift_of r) active (words_at r.d.value s) (at place s)) in
+    let bits = bits_from (shift_of r) active (words_at r.d.value s) (at place s) in
+    retired (put_all cells (into (write place bits) ∷ write_register r.d.value (merged (predicate_at s) (register_at r.d.value s) result) ++ advance_half 0 s ++ advance_half 2 s) s)
+
+-- NEIGHBOURS
 -- to each element its neighbour is added, or it is taken away
 abbrev pub turned_result : V9 → State → List ℕ
 turned_result r s =
@@ -59,6 +164,15 @@ abbrev pub wide_result : V6 → Size → Size → State → List ℕ
 wide_result r z wide s =
     let odd = nat_eq r.t.value 1 in
     unlanes wide (paired (product r) (every_second odd (elements z r.n.value s)) (every_second odd (elements z r.m.value s)))
+
+-- numbers of 64 bits as bytes, and those that are products of words
+abbrev pub long_bytes : List ℕ → List ℕ
+long_bytes l = flat_map (λ (x : ℕ). bytes_of x ++ bytes_of (x / 2 ^ 32)) l
+
+abbrev pub wide_words_result : V6 → State → List ℕ
+wide_words_result r s =
+    let odd = nat_eq r.t.value 1 in
+    long_bytes (paired (product r) (every_second odd (words_at r.n.value s)) (every_second odd (words_at r.m.value s)))
 
 -- each two elements exchanged, each four, each eight in reverse
 abbrev pub fours : List ℕ → List ℕ

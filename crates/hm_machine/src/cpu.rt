@@ -1,4 +1,4 @@
-//! The steps of the thread's older instruction.
+//! Instructions and beats of the older instruction, of the thread and of handlers.
 
 ghost use Rattle.std.specs.Prelude.{◌≡◌, ℕ, ◌+◌, ◌^◌, ◌<◌, not, List, IsSome, IsTrue, OnErr, Ok};
 ghost use Rattle.std.specs.Vec.{vec_capacity};

@@ -9,7 +9,8 @@ ghost use Rattle.hm_mem.specs.Memory.{flash_at, told_at, tainted_at};
 ghost use Rattle.hm_run.specs.Headline.{Headline, PlainReport, Riders};
 ghost use Rattle.hm_run.specs.InOrder.{in_order};
 ghost use Rattle.hm_run.specs.Report.{report_text, memory_text};
-ghost use Rattle.hm_handlers.specs.Runs.{next, run_out};
+ghost use Rattle.hm_handlers.specs.Order.{KeepsOrder};
+ghost use Rattle.hm_handlers.specs.Runs.{next, run, run_out};
 ghost use Rattle.hm_handlers.specs.Taint.{TaintLies};
 ghost use Rattle.hm_sched.specs.Schedule.{Sched, plain, ticks_of, most_ticks};
 ghost use Rattle.hm_state.specs.Start.{reset_pc};
@@ -73,6 +74,10 @@ impl Machine {
         ensures shows { IfOk result (λ m. Shows image.now s 0 m) }
         ensures odd { IfOk result (λ m. reset_pc image.now % 2 ≡ 1) }
         ensures refused { IfErr result (λ e. LoadRefuses image.now e) }
+        ensures order { IfOk result (λ m. (listing : Listing) → IsListing (flash_byte image.now) listing
+            → KeepsOrder listing image.now s (run_of m (run listing image.now s 0).entries)) }
+        ensures taint { IfOk result (λ m. (listing : Listing) → IsListing (flash_byte image.now) listing
+            → TaintLies s (run listing image.now s 0).entries (timed_of m).config.state) }
     {
         let (lo, hi) = s.region();
         let mem = Mem::new(alloc, image, lo, hi, s.floor())?;
@@ -202,6 +207,11 @@ impl Machine {
         ensures turn { result ≡ turned self.new.outcome }
         ensures fewer { self.old.outcome ≡ None → length self.new.left < length self.old.left }
         ensures once { self.old.outcome ≡ None → self.new.ticks ≡ self.old.ticks + 1 }
+        // Whole instructions in order agree with the thread, and tainted bytes lie where they may.
+        ensures order { (image : List Segment) (s : Sched) (t : ℕ) (listing : Listing) → IsListing (flash_byte image) listing → Shows image s t self.old
+            → KeepsOrder listing image s (run_of self.new (run listing image s (suc t)).entries) }
+        ensures taint { (image : List Segment) (s : Sched) (t : ℕ) (listing : Listing) → IsListing (flash_byte image) listing → Shows image s t self.old
+            → TaintLies s (run listing image s (suc t)).entries (timed_of self.new).config.state }
     {
         if let Some(outcome) = self.outcome {
             return Turn::Ended(outcome);

@@ -2,7 +2,7 @@ use crate::tests::has_lines;
 use hm_base::Image;
 use hm_machine::Machine;
 use hm_run::Outcome;
-use hm_sched::{Schedule, parse, plain};
+use hm_sched::{parse, plain, print};
 use std::alloc::Global;
 use std::test::Fail;
 
@@ -637,6 +637,9 @@ fn nested(alloc: Global, rows: u8, letters: &[u8]) -> Result<Machine, Fail> {
     Ok(machine)
 }
 
+/// The rows whose last beat meets the first beat of the next row, by the carry and by r3, and the one behind which no vector row stands.
+const MEETING: [u8; 3] = [7, 13, 20];
+
 /// Whether all is as in a run without interrupts, wherever in a row, and in the next, an interrupt comes, and another in its handler. The next may meet the row: then there is no such run.
 fn is_alike(alloc: Global, rows: u8, uninterrupted: &[u8]) -> Result<bool, Fail> {
     for letters in [b"W".as_slice(), b"O", b"OO", b"OOO", b"OOOY"] {
@@ -644,6 +647,9 @@ fn is_alike(alloc: Global, rows: u8, uninterrupted: &[u8]) -> Result<bool, Fail>
         let is_nested = has_lines(&machine.report(alloc)?, &["mode handler 17 depth 2"]);
         let meets = matches!(machine.outcome(), Some(Outcome::RuleBroken { .. }))
             && letters.len() == 4;
+        if meets != (letters.len() == 4 && MEETING.contains(&rows)) {
+            return Ok(false);
+        }
         if meets {
             continue;
         }
@@ -721,9 +727,10 @@ fn filter_with_timer(rt: HostRuntime) -> Result<(), Fail> {
     }
     let mut image = Image::new(alloc);
     image.add(0, bytes)?;
-    let mut schedule = Schedule::begin(alloc, true, 0x2000_1000, 0x2000_1004, 0x2000_f000);
-    schedule.add(300, b"W", 0)?;
-    let mut machine = Machine::load(alloc, &image, schedule)?;
+    let text = b"helium-schedule 1\nentries yes\nregion 20001000 20001004\nfloor 2000f000\n300*W\n";
+    let printed = print(alloc, &parse(alloc, text)?)?;
+    assert_eq!(rt; printed.as_slice(), text);
+    let mut machine = Machine::load(alloc, &image, parse(alloc, &printed)?)?;
     let _outcome = machine.run();
     let lines = [
         "outcome halted exit 00020026 after 37",

@@ -1,5 +1,7 @@
 use Rattle.hm_forms.proofs.Bests.{extreme_is}
-use Rattle.hm_forms.proofs.Registers.{longer_is, offsets_is, reversed_is, words_whole, turned_is, wide_bytes, wide_halves}
+use Rattle.hm_forms.proofs.Chains.{carry_is, shift_is}
+use Rattle.hm_forms.proofs.Narrows.{narrow_is}
+use Rattle.hm_forms.proofs.Registers.{constant_is, longer_is, offsets_is, reversed_is, select_is, words_whole, turned_is, wide_bytes, wide_halves, wide_words}
 use Rattle.hm_forms.proofs.LongTotals.{long_is}
 use Rattle.hm_forms.proofs.Totals.{sum_is}
 use Rattle.hm_forms.proofs.Wholes.{lanes_is}
@@ -37,3 +39,21 @@ returns-clause-reversed c = reversed_is
 
 pub returns-clause-extreme : goal.returns-clause-extreme
 returns-clause-extreme c = extreme_is
+
+pub returns-clause-wide_words : goal.returns-clause-wide_words
+returns-clause-wide_words c = wide_words
+
+pub returns-clause-constant : goal.returns-clause-constant
+returns-clause-constant c = constant_is
+
+pub returns-clause-narrow : goal.returns-clause-narrow
+returns-clause-narrow c = narrow_is
+
+pub returns-clause-carry : goal.returns-clause-carry
+returns-clause-carry c = carry_is
+
+pub returns-clause-shift : goal.returns-clause-shift
+returns-clause-shift c = shift_is
+
+pub returns-clause-select : goal.returns-clause-select
+returns-clause-select c = select_is

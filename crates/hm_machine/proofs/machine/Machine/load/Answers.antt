@@ -1,6 +1,7 @@
 use Rattle.std.proofs.Common.{arith, ap}
 use Rattle.std.specs.Prelude.{reverse}
 use Rattle.hm_machine.proofs.Loads.{first_stands, first_length, running_ticks, shows_start, sound_start, odd_pc}
+use Rattle.hm_machine.proofs.Plain.{shown_order, shown_taint}
 use Rattle.hm_mem.specs.Memory.{memory_of}
 use Rattle.hm_machine.proofs.machine.Machine.load.Goals as goal
 
@@ -27,3 +28,9 @@ returns-clause-shows c =
 
 pub returns-clause-odd : goal.returns-clause-odd
 returns-clause-odd c = odd_pc c.args.image.now (memory_of c.in_ok-mem.mem) c.flash_word-pc.result c.in_ok-mem.ensures.flash c.flash_word-pc.ensures c.if-pc-eq0.false
+
+pub returns-clause-order : goal.returns-clause-order
+returns-clause-order c listing is = shown_order c.args.image.now c.args.s 0 _ (returns-clause-shows c) listing is
+
+pub returns-clause-taint : goal.returns-clause-taint
+returns-clause-taint c listing is = shown_taint c.args.image.now c.args.s 0 _ (returns-clause-shows c) listing is

@@ -47,4 +47,4 @@ pub returns-clause-riders : goal.returns-clause-riders
 returns-clause-riders c image s t listing is shows = shown_riders image s _ (returns-clause-shows c image s t shows) listing is
 
 pub returns-clause-taint : goal.returns-clause-taint
-returns-clause-taint c image s t listing is shows = shown_taint image s _ (returns-clause-shows c image s t shows) listing is
+returns-clause-taint c image s t listing is shows = shown_taint image s (length (ticks_of s.lines)) _ (returns-clause-shows c image s t shows) listing is

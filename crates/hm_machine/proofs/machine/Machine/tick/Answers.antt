@@ -1,5 +1,6 @@
-use Rattle.std.proofs.Common.{◌≡◌, ap, ◌∙◌, sym, None}
+use Rattle.std.proofs.Common.{◌≡◌, ap, ◌∙◌, sym, suc, None}
 use Rattle.hm_machine.specs.Shown.{Shown}
+use Rattle.hm_machine.proofs.Plain.{shown_order, shown_taint}
 use Rattle.hm_machine.proofs.Ticks.{shows_on}
 use Rattle.hm_machine.proofs.machine.Machine.tick.Goals as goal
 
@@ -7,3 +8,9 @@ pub returns-clause-shows : goal.returns-clause-shows
 returns-clause-shows c image s t h =
     let running : c.args.self.now.outcome ≡ None = ap (λ (v : Shown). v.outcome) (sym c.self.view_is) ∙ c.in_default.is in
     shows_on image s t _ _ h running c.advance.ensures.flash c.advance.ensures.plan c.advance.ensures.left c.advance.ensures.next
+
+pub returns-clause-order : goal.returns-clause-order
+returns-clause-order c image s t listing is h = shown_order image s (suc t) _ (returns-clause-shows c image s t h) listing is
+
+pub returns-clause-taint : goal.returns-clause-taint
+returns-clause-taint c image s t listing is h = shown_taint image s (suc t) _ (returns-clause-shows c image s t h) listing is
