@@ -1,8 +1,8 @@
 -- A text whose tokens are short: it is printed in 96 bytes, and read back.
-use Rattle.std.proofs.Common.{◌≡◌, ℕ, ◌+◌, ◌*◌, ◌^◌, ◌<◌, ◌≤◌, Bool, true, false, List, [], ◌∷◌, ◌++◌, length, refl, inl, inr, arith}
+use Rattle.std.proofs.Common.{◌≡◌, ℕ, ◌+◌, ◌*◌, ◌^◌, ◌<◌, ◌≤◌, Bool, true, false, List, [], ◌∷◌, ◌++◌, length, refl, subst, inl, inr, arith}
 use Rattle.std.specs.Prelude.{decimal, ◌&&◌}
 use Rattle.std.proofs.lemmas.Bool.{cases_Bool}
-use Rattle.std.proofs.lemmas.List.{length-append}
+use Rattle.std.proofs.lemmas.List.{append-nil, length-append}
 use Rattle.std.proofs.lemmas.Fmt.{length-decimal-le}
 use Rattle.hm_tokens.specs.Lines.{IsLineOf, address, gap, is_hash, is_word, printed, printed_at, spelled, spelled_behind}
 use Rattle.hm_tokens.specs.Ranges.{normal}
@@ -150,3 +150,13 @@ is_printed_at s suffix ts stem behind are apart ends le none = record {
   ranges = none;
   few = omega (arith, few_in_room ts, le);
 }
+
+-- A MNEMONIC THAT IS ITS STEM ALONE
+pub without_suffix : (s : List ℕ) (ts : List Tok) → IsPrinted (word (s ++ []) ∷ ts) → IsPrinted (word s ∷ ts)
+without_suffix s ts printed_ = subst (λ (name : List ℕ). IsPrinted (word name ∷ ts)) (append-nil s) printed_
+
+pub is_printed_bare : (s : List ℕ) (ts : List Tok) → is_stem s ≡ true → AreShort ts → are_apart ts ≡ true → room ts ≤ 78 → has_no_ranges ts ≡ true → IsPrinted (word s ∷ ts)
+is_printed_bare s ts stem are apart le none = without_suffix s ts (is_printed s [] ts stem refl are apart le none)
+
+pub is_printed_bare_at : (s : List ℕ) (ts : List Tok) → is_stem s ≡ true → AreShort ts → are_apart ts ≡ true → ends_in_mark ts ≡ true → room ts ≤ 68 → has_no_ranges ts ≡ true → IsPrintedAt (word s ∷ ts)
+is_printed_bare_at s ts stem are apart ends le none = subst (λ (name : List ℕ). IsPrintedAt (word name ∷ ts)) (append-nil s) (is_printed_at s [] ts stem refl are apart ends le none)

@@ -1,5 +1,6 @@
 -- Labels of rows, and what they name.
 use Rattle.std.specs.Prelude.{◌≡◌, ◌<◌, ℕ, ◌+◌, ◌-◌, ◌%◌, ◌^◌, true, List, Option, Some, None}
+use Rattle.hm_tokens.specs.Lines.{printed, printed_at}
 use Rattle.hm_tokens.specs.Names.{is_label_name}
 use Rattle.hm_tokens.specs.Tokens.{Tok, word, number, mark}
 
@@ -31,3 +32,8 @@ behind pc n = (pc + 4 + n) % 2 ^ 32
 -- how far the address a is behind another, modulo 2^32
 unfoldable pub distance : ℕ → ℕ → ℕ
 distance from a = (a + 0x2_0000_0000 - from) % 0x1_0000_0000
+
+-- what is printed of a row: its tokens, and the address that its label names, where it has one
+abbrev pub printed_with : List Tok → Option ℕ → List ℕ
+printed_with row (Some a) = printed_at row a
+printed_with row None = printed row

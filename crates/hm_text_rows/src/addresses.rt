@@ -21,7 +21,7 @@ pub struct Index {
 }
 
 /// The text with `!` where an address is written back.
-fn back(text: InstrText, w: Bit) -> InstrText
+pub fn back(text: InstrText, w: Bit) -> InstrText
     requires { length text.operands.items ≤ 30 }
     ensures tokens { text_tokens result ≡ text_tokens text ++ back w.value }
 {
@@ -49,7 +49,7 @@ fn offset(mut text: InstrText, a: Bit, n: u32) -> InstrText
 }
 
 /// The text with a base more, behind a comma and `[`.
-fn open(mut text: InstrText, base: Part) -> InstrText
+pub fn open(mut text: InstrText, base: Part) -> InstrText
     requires { length text.operands.items ≤ 20 }
     ensures tokens { text_tokens result ≡ text_tokens text ++ comma ∷ mark 91 ∷ part_token base ∷ [] }
     ensures room { length result.operands.items ≡ length text.operands.items + 3 }
@@ -61,7 +61,7 @@ fn open(mut text: InstrText, base: Part) -> InstrText
 }
 
 /// The text with `[base,#n]` more, and `!` where the address is written back.
-fn inside(text: InstrText, base: Part, a: Bit, w: Bit, n: u32) -> InstrText
+pub fn inside(text: InstrText, base: Part, a: Bit, w: Bit, n: u32) -> InstrText
     requires { length text.operands.items ≤ 10 }
     ensures { text_tokens result ≡ text_tokens text ++ comma ∷ inside a.value w.value (part_token base) n }
 {

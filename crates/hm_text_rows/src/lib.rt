@@ -1,14 +1,19 @@
-//! What texts of rows share: their shapes, as what they are printed from, and their labels.
+//! What texts of rows share: their shapes, as what they are printed from; their operands, as numbers; and their labels.
 #![tactic(auto)]
 
 mod addresses;
 mod labels;
 mod lists;
+mod operands;
 mod shapes;
 
-pub use addresses::{Index, indexed, scaled};
+pub use addresses::{Index, back, indexed, inside, open, scaled};
 pub use labels::{Shape, behind, distance, is_label, split_last};
-pub use lists::with_list;
+pub use lists::{is_listed, with_list};
+pub use operands::{
+    added, back_in, before, braced_bits, branch_condition_in, first_of, is, is_mark, is_number, is_vector,
+    operand, size_of, token_behind,
+};
 pub use shapes::{
     alone, and, and_constant, and_shift, first, four, marked, one, or_zero, q, r, three, two, with,
 };

@@ -10,7 +10,7 @@ use crate::shapes::{marked, r, with};
 use hm_tokens::{InstrText, Mark};
 
 /// Whether register k stands in a list.
-fn is_listed(list: u32, k: u32) -> bool
+pub fn is_listed(list: u32, k: u32) -> bool
     requires { k < 16 }
     ensures { result ≡ listed_in list k }
 {
