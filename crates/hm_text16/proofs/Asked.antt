@@ -4,21 +4,17 @@ use Rattle.std.specs.Prelude.{option_map}
 use Rattle.hm_isa.specs.declared.Instr.{Instr}
 use Rattle.hm_isa.specs.Code.{halfwords}
 use Rattle.hm_tokens.specs.Tokens.{Tok}
+use Rattle.hm_text_rows.proofs.Shown.{IsPrintedRow}
 use Rattle.hm_text16.specs.declared.operands.Operands.{Operands}
 use Rattle.hm_text16.specs.Codes.{code_in, code_of}
 use Rattle.hm_text16.specs.Rows.{has_label, row_tokens, tokens_of}
 use Rattle.hm_text16.specs.Targets.{target}
-use Rattle.hm_text16.specs.Texts.{IsLabel, Reaches}
+use Rattle.hm_text_rows.specs.Labels.{IsLabel, Reaches}
 use Rattle.hm_text16.proofs.Forms.{Reads, ReadsAt}
-use Rattle.hm_text16.proofs.Printed.{IsPrinted, IsPrintedAt}
 
 -- a code as a list of halfwords
 abbrev pub halves : Option ℕ → Option (List ℕ)
 halves o = option_map (λ c. c ∷ []) o
-
-abbrev pub IsPrintedRow : Bool → List Tok → Type 0
-IsPrintedRow true ts = IsPrintedAt ts
-IsPrintedRow false ts = IsPrinted ts
 
 pub record Row (i : Instr) : Type 0 where
   pub asks : (t : Tok) (pc a : ℕ) → IsLabel t → pc < 2 ^ 32 → a < 2 ^ 32 → Reaches (target i pc) a → halves (code_in (tokens_of i t) pc a) ≡ Some (halfwords i)

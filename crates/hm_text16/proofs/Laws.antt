@@ -15,11 +15,13 @@ use Rattle.hm_tokens.specs.Lines.{IsLineOf, printed, printed_at}
 use Rattle.hm_tokens.specs.Ranges.{is_the_mark, normal}
 use Rattle.hm_tokens.specs.Tokens.{Tok, number}
 use Rattle.hm_tokens.proofs.Ranges.{has_no_ranges, normal_same}
+use Rattle.hm_text_rows.proofs.Shown.{IsGiven, IsPrintedRow, again_of, few_of, room_of}
 use Rattle.hm_text16.specs.Rows.{has_label, row_tokens, tokens_of}
 use Rattle.hm_text16.specs.Targets.{target}
-use Rattle.hm_text16.specs.Texts.{HasTokens, IsLabel, IsNarrow, IsTextOf, NamesTarget, Reaches, text_of}
-use Rattle.hm_text16.proofs.Printed.{IsPrinted, IsPrintedAt}
-use Rattle.hm_text16.proofs.Asked.{IsPrintedRow, Row}
+use Rattle.hm_text16.specs.Texts.{HasTokens, IsNarrow, IsTextOf, text_of}
+use Rattle.hm_text_rows.specs.Labels.{IsLabel, NamesTarget, Reaches}
+use Rattle.hm_text_rows.proofs.Printed.{IsPrinted, IsPrintedAt}
+use Rattle.hm_text16.proofs.Asked.{Row}
 use Rattle.hm_text16.proofs.OnRegisters.{row_s1, row_s2, row_s3, row_s4, row_s5, row_s6, row_s7, row_s8, row_s9, row_s10, row_s11, row_s12, row_s13, row_s18, row_s19, row_s23}
 use Rattle.hm_text16.proofs.OnMemory.{row_s15, row_s16, row_s17}
 use Rattle.hm_text16.proofs.OnLists.{row_s20, row_s21}
@@ -89,13 +91,6 @@ row_law (instr.Vector i) e = absurd (two_halves_not e)
 
 -- ---- printed
 
--- a row has a target where it has a label
-abbrev pub IsGiven : Bool → Option ℕ → Type 0
-IsGiven true (Some a) = a < 2 ^ 32
-IsGiven true None = ⊥
-IsGiven false (Some a) = ⊥
-IsGiven false None = Unit {0}
-
 given_scalar : (i : Scalar) (pc : ℕ) → IsGiven (has_label (instr.Scalar i)) (target (instr.Scalar i) pc)
 given_scalar (scalar.S1 i) pc = tt
 given_scalar (scalar.S2 i) pc = tt
@@ -153,73 +148,19 @@ given_target (instr.Scalar i) pc = given_scalar i pc
 given_target (instr.Branch i) pc = given_branch i pc
 given_target (instr.Vector i) pc = tt
 
--- the tokens that are read of a text that is printed
-record Again (b : Bool) (row : List Tok) (o : Option ℕ) (text : List ℕ) (labels : List ℕ → Option ℕ) : Type 0 where
-  tokens : List Tok
-  label : Tok
-  is_label : IsLabel label
-  line : IsLineOf text tokens
-  has : cond b (row ++ label ∷ []) row ≡ normal tokens
-  names : NamesTarget labels label o
-
-abbrev pub shown : List Tok → Option ℕ → List ℕ
-shown row (Some a) = printed_at row a
-shown row None = printed row
-
-more_ranges : (ts : List Tok) (a : ℕ) → has_no_ranges ts ≡ true → has_no_ranges (ts ++ number a ∷ []) ≡ true
-more_ranges [] a e = refl
-more_ranges (t ∷ ts) a e =
-    let p = and_parts (not (is_the_mark 45 t)) (has_no_ranges ts) e in
-    rw (p.0, more_ranges ts a p.1) refl
-
-again_of : (b : Bool) (row : List Tok) (o : Option ℕ) (labels : List ℕ → Option ℕ) → IsPrintedRow b row → IsGiven b o → Again b row o (shown row o) labels
-again_of true row (Some a) labels p lt = record {
-  tokens = row ++ number a ∷ [];
-  label = number a;
-  is_label = lt;
-  line = p.again a lt;
-  has = sym (normal_same (row ++ number a ∷ []) (more_ranges row a p.ranges));
-  names = refl;
-}
-again_of true row None labels p given = absurd given
-again_of false row (Some a) labels p given = absurd given
-again_of false row None labels p given = record {
-  tokens = row;
-  label = number 0;
-  is_label = omega arith;
-  line = p.again;
-  has = sym (normal_same row p.ranges);
-  names = tt;
-}
-
-pub shown_is : (i : Instr) (o : Option ℕ) → text_of i o ≡ shown (row_tokens i) o
-shown_is i (Some a) = refl
-shown_is i None = refl
-
 pub printed_read : (i : Instr) (pc : ℕ) (text : List ℕ) (labels : List ℕ → Option ℕ) → IsNarrow i → text ≡ text_of i (target i pc) → IsTextOf text pc labels i
 printed_read i pc text labels narrow is =
-    let e = is ∙ shown_is i (target i pc) in
     let again = again_of (has_label i) (row_tokens i) (target i pc) labels (row_law i narrow).prints (given_target i pc) in
     record {
       tokens = again.tokens;
       label = again.label;
-      line = subst (λ (x : List ℕ). IsLineOf x again.tokens) (sym e) again.line;
+      line = subst (λ (x : List ℕ). IsLineOf x again.tokens) (sym is) again.line;
       has = record { narrow = narrow; label = again.is_label; tokens = again.has };
       names = again.names;
     }
 
-room_of : (b : Bool) (row : List Tok) (o : Option ℕ) → IsPrintedRow b row → IsGiven b o → length (shown row o) ≤ 96
-room_of true row (Some a) p lt = p.room a
-room_of true row None p given = absurd given
-room_of false row (Some a) p given = absurd given
-room_of false row None p given = let r = p.room in omega (arith, r)
-
 pub printed_room : (i : Instr) (pc : ℕ) → IsNarrow i → length (text_of i (target i pc)) ≤ 96
-printed_room i pc narrow = rw (shown_is i (target i pc)) (room_of (has_label i) (row_tokens i) (target i pc) (row_law i narrow).prints (given_target i pc))
-
-few_of : (b : Bool) (row : List Tok) (t : Tok) → IsPrintedRow b row → length (cond b (row ++ t ∷ []) row) ≤ 40
-few_of true row t p = let f = p.few in omega (arith, f, length-append row (t ∷ []))
-few_of false row t p = let f = p.few in omega (arith, f)
+printed_room i pc narrow = room_of (has_label i) (row_tokens i) (target i pc) (row_law i narrow).prints (given_target i pc)
 
 pub few_tokens : (i : Instr) (t : Tok) (ts : List Tok) → HasTokens i t ts → length ts ≤ 40
 few_tokens i t ts has = subst (λ (x : List Tok). length x ≤ 40) has.tokens (few_of (has_label i) (row_tokens i) t (row_law i has.narrow).prints)

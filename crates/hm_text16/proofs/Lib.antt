@@ -1,5 +1,4 @@
 pub mod Words
-pub mod Printed
 pub mod Forms
 pub mod Asked
 pub mod OnRegisters

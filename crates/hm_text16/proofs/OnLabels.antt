@@ -16,10 +16,12 @@ use Rattle.hm_isa.specs.Code.{zero_base}
 use Rattle.hm_isa.specs.Standing.{◌↑◌}
 use Rattle.hm_text16.specs.declared.operands.Kind.{Kind}
 use Rattle.hm_text16.specs.declared.operands.Kind.TheVariants as kinds
-use Rattle.hm_text16.specs.Codes.{code_of, distance}
+use Rattle.hm_text16.specs.Codes.{code_of}
+use Rattle.hm_text_rows.specs.Labels.{behind, distance}
+use Rattle.hm_text_rows.proofs.Words.{at_below, below_holds, is_stem}
 use Rattle.hm_text16.specs.Stems.{branch_stem, zero_stem}
-use Rattle.hm_text16.specs.Targets.{behind, twice_signed}
-use Rattle.hm_text16.proofs.Words.{a_low, at_below, below_holds, is_short_word}
+use Rattle.hm_text16.specs.Targets.{twice_signed}
+use Rattle.hm_text16.proofs.Words.{a_low}
 use Rattle.hm_text16.proofs.Forms.{given, reads_label, reads_register_label}
 use Rattle.hm_text16.proofs.Asked.{Row, label_row}
 
@@ -44,7 +46,7 @@ row_s14 i =
     (λ t pc a hp re. asks_literal i.t.value _ i.i.value _ pc a (literal_field pc i.i.value a hp i.i.in_range re))
 
 -- S24
-stem_zero : (name : ZeroName) → is_short_word 8 (zero_stem name) ≡ true
+stem_zero : (name : ZeroName) → is_stem (zero_stem name) ≡ true
 stem_zero zero_.Cbz = refl
 stem_zero zero_.Cbnz = refl
 
@@ -75,8 +77,8 @@ asks_conditional c lt =
     ((λ v i pc a e. rw e refl), ((λ v i pc a e. rw e refl), ((λ v i pc a e. rw e refl), ((λ v i pc a e. rw e refl), ((λ v i pc a e. rw e refl), ((λ v i pc a e. rw e refl), ((λ v i pc a e. rw e refl), ((λ v i pc a e. rw e refl), ((λ v i pc a e. rw e refl), ((λ v i pc a e. rw e refl), ((λ v i pc a e. rw e refl), ((λ v i pc a e. rw e refl), ((λ v i pc a e. rw e refl), ((λ v i pc a e. rw e refl), tt))))))))))))))
     lt
 
-stem_branch : (c : ℕ) → c < 14 → is_short_word 8 (branch_stem c) ≡ true
-stem_branch c lt = below_holds (λ j. is_short_word 8 (branch_stem j)) 14 c refl lt
+stem_branch : (c : ℕ) → c < 14 → is_stem (branch_stem c) ≡ true
+stem_branch c lt = below_holds (λ j. is_stem (branch_stem j)) 14 c refl lt
 
 asks_always : (v i pc a : ℕ) → distance (pc + 4) a / 2 % 2048 ≡ i → code_of (codes "b") (given v 0 0 kinds.Missing kinds.Missing) pc a ≡ Some (0xe000 + i)
 unfolding code_of

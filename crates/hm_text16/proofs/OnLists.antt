@@ -14,15 +14,19 @@ use Rattle.hm_isa.specs.Rules.{keeps_it, keeps_list, listed_in}
 use Rattle.hm_isa.specs.Standing.{◌↑◌}
 use Rattle.hm_tokens.specs.Names.{register_name}
 use Rattle.hm_tokens.specs.Tokens.{Tok, word, mark}
+use Rattle.hm_text_rows.proofs.Lists.{printed_braces, printed_list}
+use Rattle.hm_text_rows.proofs.Printed.{IsPrinted, without_suffix}
 use Rattle.hm_text16.specs.declared.operands.Kind.TheVariants as kinds
 use Rattle.hm_text16.specs.declared.operands.Operands.{Operands}
 use Rattle.hm_text16.specs.Codes.{code_in, code_of}
-use Rattle.hm_text16.specs.Operands.{bits_of, braced, read_operands}
-use Rattle.hm_text16.specs.Rows.{braces, comma, list_tokens, r, registers_from}
+use Rattle.hm_text16.specs.Operands.{read_operands}
+use Rattle.hm_text_rows.specs.Operands.{bits_of, braced}
+use Rattle.hm_text_rows.specs.Shapes.{braces, comma, r, registers_from}
+use Rattle.hm_text_rows.proofs.Words.{at_below, below_holds, is_stem}
+use Rattle.hm_text16.specs.Rows.{list_tokens}
 use Rattle.hm_text16.specs.Stems.{block_condition, block_stem, letters_above}
-use Rattle.hm_text16.proofs.Words.{a_condition, a_low, at_below, below_holds, is_short_word, less}
-use Rattle.hm_text16.proofs.Printed.{IsPrinted, is_printed, short_bang, short_brace, short_comma, short_word}
-use Rattle.hm_text16.proofs.Registers.{Braces, apart_are, listed_apart, listed_length, listed_ranges, listed_room, listed_short, low_braces, pop_braces, push_braces, registers_below}
+use Rattle.hm_text16.proofs.Words.{a_condition, a_low, less}
+use Rattle.hm_text16.proofs.Registers.{Braces, low_braces, pop_braces, push_braces}
 use Rattle.hm_text16.proofs.Forms.{given, reads_one}
 use Rattle.hm_text16.proofs.Asked.{Row, halves, plain_row}
 
@@ -58,26 +62,11 @@ pop_field zero m hx hm = (omega arith, omega arith)
 pop_field (suc zero) m hx hm = (omega arith, omega arith)
 pop_field (suc (suc x)) m hx hm = absurd (omega arith)
 
-printed_braces : (s : List ℕ) (regs : ℕ) → is_short_word 8 s ≡ true → Braces regs → IsPrinted (word s ∷ braces regs)
-printed_braces s regs stem b =
-    let ks = registers_from 16 0 regs in
-    let few = b.few in
-    is_printed s (braces regs) stem (listed_short 123 ks short_brace (registers_below 16 0 regs (omega arith)))
-    (apart_are (braces regs) (listed_apart (mark 44) 123 ks)) (omega (arith, few, listed_room 123 ks)) (listed_ranges 123 ks refl) (omega (arith, few, listed_length 123 ks))
+printed_written : (s : List ℕ) (n regs : ℕ) → is_stem s ≡ true → n < 8 → Braces regs → IsPrinted (word s ∷ r n ∷ mark 33 ∷ comma ∷ braces regs)
+printed_written s n regs stem hn b = without_suffix s _ (printed_list s [] 1 n regs stem refl (omega arith) (omega (arith, hn)) b.few)
 
-printed_written : (s : List ℕ) (n regs : ℕ) → is_short_word 8 s ≡ true → n < 8 → Braces regs → IsPrinted (word s ∷ r n ∷ mark 33 ∷ comma ∷ braces regs)
-printed_written s n regs stem hn b =
-    let ks = registers_from 16 0 regs in
-    let few = b.few in
-    is_printed s _ stem (short_word (register_name n) (a_low n hn).is, (short_bang, (short_comma, listed_short 123 ks short_brace (registers_below 16 0 regs (omega arith)))))
-    (listed_apart (mark 44) 123 ks) (omega (arith, few, listed_room 123 ks)) (listed_ranges 123 ks refl) (omega (arith, few, listed_length 123 ks))
-
-printed_read : (s : List ℕ) (n regs : ℕ) → is_short_word 8 s ≡ true → n < 8 → Braces regs → IsPrinted (word s ∷ r n ∷ comma ∷ braces regs)
-printed_read s n regs stem hn b =
-    let ks = registers_from 16 0 regs in
-    let few = b.few in
-    is_printed s _ stem (short_word (register_name n) (a_low n hn).is, (short_comma, listed_short 123 ks short_brace (registers_below 16 0 regs (omega arith))))
-    (listed_apart (mark 44) 123 ks) (omega (arith, few, listed_room 123 ks)) (listed_ranges 123 ks refl) (omega (arith, few, listed_length 123 ks))
+printed_read : (s : List ℕ) (n regs : ℕ) → is_stem s ≡ true → n < 8 → Braces regs → IsPrinted (word s ∷ r n ∷ comma ∷ braces regs)
+printed_read s n regs stem hn b = without_suffix s _ (printed_list s [] 0 n regs stem refl (omega arith) (omega (arith, hn)) b.few)
 
 push_row : (x n m : ℕ) → x < 2 → m < 256 → n ≡ 0 → ListRow (word (codes "push") ∷ braces (m + x ↑ 14)) (0xb400 + x ↑ 8 + n ↑ 8 + m)
 push_row x n m hx hm hn =
@@ -87,7 +76,7 @@ push_row x n m hx hm hn =
       asks =
           λ pc a. asks_push (read_operands (braces (m + x ↑ 14))) pc a
           ∙ ap (λ (regs : ℕ). Some (0xb400 + (regs / 2 ^ 14 % 2) ↑ 8 + regs % 256)) b.bits ∙ ap (λ (w : ℕ). Some w) (rw (f.0, f.1, hn) (omega arith));
-      prints = printed_braces (codes "push") (m + x ↑ 14) refl b;
+      prints = without_suffix (codes "push") _ (printed_braces (codes "push") [] (m + x ↑ 14) refl refl b.few);
     }
 
 pop_row : (x n m : ℕ) → x < 2 → m < 256 → n ≡ 0 → ListRow (word (codes "pop") ∷ braces (m + x ↑ 15)) (0xbc00 + x ↑ 8 + n ↑ 8 + m)
@@ -98,7 +87,7 @@ pop_row x n m hx hm hn =
       asks =
           λ pc a. asks_pop (read_operands (braces (m + x ↑ 15))) pc a
           ∙ ap (λ (regs : ℕ). Some (0xbc00 + (regs / 2 ^ 15 % 2) ↑ 8 + regs % 256)) b.bits ∙ ap (λ (w : ℕ). Some w) (rw (f.0, f.1, hn) (omega arith));
-      prints = printed_braces (codes "pop") (m + x ↑ 15) refl b;
+      prints = without_suffix (codes "pop") _ (printed_braces (codes "pop") [] (m + x ↑ 15) refl refl b.few);
     }
 
 written_bits : (n m : ℕ) → Braces m → bits_of (braced (r n ∷ mark 33 ∷ comma ∷ braces m)) ≡ m
@@ -189,9 +178,9 @@ asks_block c (suc j) pc a some lt =
       | inr e ↦ rw e (asks_odd j (omega arith) c pc a e)
     ]
 
-stem_low : (low : ℕ) (m : ℕ) → low < 2 → m < 16 → is_short_word 8 (codes "it" ++ letters_above low m) ≡ true
-stem_low zero m hl lt = below_holds (λ j. is_short_word 8 (codes "it" ++ letters_above 0 j)) 16 m refl lt
-stem_low (suc zero) m hl lt = below_holds (λ j. is_short_word 8 (codes "it" ++ letters_above 1 j)) 16 m refl lt
+stem_low : (low : ℕ) (m : ℕ) → low < 2 → m < 16 → is_stem (codes "it" ++ letters_above low m) ≡ true
+stem_low zero m hl lt = below_holds (λ j. is_stem (codes "it" ++ letters_above 0 j)) 16 m refl lt
+stem_low (suc zero) m hl lt = below_holds (λ j. is_stem (codes "it" ++ letters_above 1 j)) 16 m refl lt
 stem_low (suc (suc low)) m hl lt = absurd (omega arith)
 
 some_mask : (c m : ℕ) → keeps_it c m ≡ true → 0 < m

@@ -19,15 +19,15 @@ use Rattle.hm_text16.specs.declared.operands.Kind.TheVariants as kinds
 use Rattle.hm_text16.specs.Codes.{code_of}
 use Rattle.hm_text16.specs.Rows.{plain_size}
 use Rattle.hm_text16.specs.Stems.{access_stem, plain_stem, word_stem}
-use Rattle.hm_text16.proofs.Words.{is_short_word}
-use Rattle.hm_text16.proofs.Forms.{given, reads_indexed, reads_offset}
+use Rattle.hm_text_rows.proofs.Words.{is_stem}
+use Rattle.hm_text16.proofs.Forms.{given, reads_by_register, reads_by_number}
 use Rattle.hm_text16.proofs.Asked.{Row, plain_row}
 
 low_below : (n : ℕ) → n < 8 → n < 16
 low_below n lt = omega arith
 
 -- S15
-stem_access : (name : AccessName) → is_short_word 8 (access_stem name) ≡ true
+stem_access : (name : AccessName) → is_stem (access_stem name) ≡ true
 stem_access access.Str = refl
 stem_access access.Strh = refl
 stem_access access.Strb = refl
@@ -49,10 +49,10 @@ asks_access access.Ldrb m n t pc a = refl
 asks_access access.Ldrsh m n t pc a = refl
 
 pub row_s15 : (i : S15) → Row (instr.Scalar (scalar.S15 i))
-row_s15 i = plain_row (instr.Scalar (scalar.S15 i)) _ _ _ refl refl (reads_indexed _ _ _ _ (stem_access i.name) (low_below i.t.value i.t.in_range) (low_below i.n.value i.n.in_range) (low_below i.m.value i.m.in_range)) (λ p b. asks_access i.name _ _ _ p b)
+row_s15 i = plain_row (instr.Scalar (scalar.S15 i)) _ _ _ refl refl (reads_by_register _ _ _ _ (stem_access i.name) (low_below i.t.value i.t.in_range) (low_below i.n.value i.n.in_range) (low_below i.m.value i.m.in_range)) (λ p b. asks_access i.name _ _ _ p b)
 
 -- S16
-stem_plain : (name : PlainName) → is_short_word 8 (plain_stem name) ≡ true
+stem_plain : (name : PlainName) → is_stem (plain_stem name) ≡ true
 stem_plain plain.Str = refl
 stem_plain plain.Ldr = refl
 stem_plain plain.Strb = refl
@@ -92,10 +92,10 @@ no_sp : (n : ℕ) → n < 8 → eqb n 13 ≡ false
 no_sp n lt = ne_eqb n 13 (λ is. omega arith)
 
 pub row_s16 : (i : S16) → Row (instr.Scalar (scalar.S16 i))
-row_s16 i = plain_row (instr.Scalar (scalar.S16 i)) _ _ _ refl refl (reads_offset _ _ _ _ (stem_plain i.name) (low_below i.t.value i.t.in_range) (low_below i.n.value i.n.in_range) (offset_fits i.name i.i.value i.i.in_range)) (λ p b. asks_plain i.name i.i.value _ _ _ p b (no_sp i.n.value i.n.in_range) (size_back i.name i.i.value))
+row_s16 i = plain_row (instr.Scalar (scalar.S16 i)) _ _ _ refl refl (reads_by_number _ _ _ _ (stem_plain i.name) (low_below i.t.value i.t.in_range) (low_below i.n.value i.n.in_range) (offset_fits i.name i.i.value i.i.in_range)) (λ p b. asks_plain i.name i.i.value _ _ _ p b (no_sp i.n.value i.n.in_range) (size_back i.name i.i.value))
 
 -- S17
-stem_word : (name : WordName) → is_short_word 8 (word_stem name) ≡ true
+stem_word : (name : WordName) → is_stem (word_stem name) ≡ true
 stem_word word_.Str = refl
 stem_word word_.Ldr = refl
 
@@ -111,4 +111,4 @@ words_fit : (i : ℕ) → i < 256 → 4 * i < 10000
 words_fit i lt = omega arith
 
 pub row_s17 : (i : S17) → Row (instr.Scalar (scalar.S17 i))
-row_s17 i = plain_row (instr.Scalar (scalar.S17 i)) _ _ _ refl refl (reads_offset _ _ _ _ (stem_word i.name) (low_below i.t.value i.t.in_range) (omega arith) (words_fit i.i.value i.i.in_range)) (λ p b. asks_word i.name i.i.value _ _ p b (quarter i.i.value))
+row_s17 i = plain_row (instr.Scalar (scalar.S17 i)) _ _ _ refl refl (reads_by_number _ _ _ _ (stem_word i.name) (low_below i.t.value i.t.in_range) (omega arith) (words_fit i.i.value i.i.in_range)) (λ p b. asks_word i.name i.i.value _ _ p b (quarter i.i.value))

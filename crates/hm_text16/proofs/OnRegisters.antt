@@ -51,12 +51,13 @@ use Rattle.hm_text16.specs.Codes.{code_of}
 use Rattle.hm_text16.specs.Operands.{word_value}
 use Rattle.hm_text16.specs.Rows.{base_register, shift_number}
 use Rattle.hm_text16.specs.Stems.{byte_stem, extend_stem, hint_stem, jump_stem, logic_stem, masking_stem, shift_stem, stack_sum_stem, sum_stem, swap_stem}
-use Rattle.hm_text16.proofs.Words.{Operand, a_low, a_register, below_holds, below_is, is_short_word, less}
+use Rattle.hm_text16.proofs.Words.{Operand, a_low, a_register, less}
+use Rattle.hm_text_rows.proofs.Words.{below_holds, below_is, is_stem}
 use Rattle.hm_text16.proofs.Forms.{given, reads_constant, reads_none, reads_one, reads_one_constant, reads_three, reads_two, reads_two_constant}
 use Rattle.hm_text16.proofs.Asked.{Row, plain_row}
 
 -- S1
-stem_shift : (name : ShiftName) → is_short_word 8 (shift_stem name) ≡ true
+stem_shift : (name : ShiftName) → is_stem (shift_stem name) ≡ true
 stem_shift shift.Lsl = refl
 stem_shift shift.Lsr = refl
 stem_shift shift.Asr = refl
@@ -81,7 +82,7 @@ pub row_s1 : (i : S1) → Row (instr.Scalar (scalar.S1 i))
 row_s1 i = plain_row (instr.Scalar (scalar.S1 i)) _ _ _ refl refl (reads_two_constant _ _ _ _ _ _ (stem_shift i.name) (a_low i.d.value i.d.in_range) (a_low i.m.value i.m.in_range) (shift_small i.name i.i.value i.i.in_range)) (λ p b. asks_shift i.name i.i.value _ _ _ p b (shift_back i.name i.i.value i.i.in_range))
 
 -- S2, S3
-stem_sum : (name : SumName) → is_short_word 8 (sum_stem name) ≡ true
+stem_sum : (name : SumName) → is_stem (sum_stem name) ≡ true
 stem_sum sum_.Add = refl
 stem_sum sum_.Sub = refl
 
@@ -108,7 +109,7 @@ pub row_s3 : (i : S3) → Row (instr.Scalar (scalar.S3 i))
 row_s3 i = plain_row (instr.Scalar (scalar.S3 i)) _ _ _ refl refl (reads_two_constant _ _ _ _ _ _ (stem_sum i.name) (a_low i.d.value i.d.in_range) (a_low i.n.value i.n.in_range) (eight_fits i.i.value i.i.in_range)) (λ p b. asks_small_sum i.name _ _ _ p b)
 
 -- S4
-stem_byte : (name : ByteName) → is_short_word 8 (byte_stem name) ≡ true
+stem_byte : (name : ByteName) → is_stem (byte_stem name) ≡ true
 stem_byte byte.Mov = refl
 stem_byte byte.Cmp = refl
 stem_byte byte.Add = refl
@@ -125,7 +126,7 @@ pub row_s4 : (i : S4) → Row (instr.Scalar (scalar.S4 i))
 row_s4 i = plain_row (instr.Scalar (scalar.S4 i)) _ _ _ refl refl (reads_one_constant _ _ _ _ (stem_byte i.name) (a_low i.d.value i.d.in_range) (byte_fits i.i.value i.i.in_range)) (λ p b. asks_byte i.name _ _ p b)
 
 -- S5
-stem_logic : (name : LogicName) → is_short_word 8 (logic_stem name) ≡ true
+stem_logic : (name : LogicName) → is_stem (logic_stem name) ≡ true
 stem_logic logic.Ands = refl
 stem_logic logic.Eors = refl
 stem_logic logic.Lsls = refl
@@ -212,7 +213,7 @@ words_fit i lt = omega arith
 pub row_s9 : (i : S9) → Row (instr.Scalar (scalar.S9 i))
 row_s9 i = plain_row (instr.Scalar (scalar.S9 i)) _ _ _ refl refl (reads_two_constant (codes "add") _ _ _ _ _ refl (a_low i.d.value i.d.in_range) (a_register (base_register i.name) (base_below i.name)) (words_fit i.i.value i.i.in_range)) (λ p b. asks_address i.name _ i.i.value _ p b (quarter i.i.value))
 
-stem_stack_sum : (name : SumName) → is_short_word 8 (stack_sum_stem name) ≡ true
+stem_stack_sum : (name : SumName) → is_stem (stack_sum_stem name) ≡ true
 stem_stack_sum sum_.Add = refl
 stem_stack_sum sum_.Sub = refl
 
@@ -228,7 +229,7 @@ pub row_s10 : (i : S10) → Row (instr.Scalar (scalar.S10 i))
 row_s10 i = plain_row (instr.Scalar (scalar.S10 i)) _ _ _ refl refl (reads_one_constant _ _ _ _ (stem_stack_sum i.name) (a_register 13 (omega arith)) (stack_words_fit i.i.value i.i.in_range)) (λ p b. asks_stack_sum i.name i.i.value _ _ p b (quarter i.i.value))
 
 -- S11, S12
-stem_extend : (name : ExtendName) → is_short_word 8 (extend_stem name) ≡ true
+stem_extend : (name : ExtendName) → is_stem (extend_stem name) ≡ true
 stem_extend extend.Sxth = refl
 stem_extend extend.Sxtb = refl
 stem_extend extend.Uxth = refl
@@ -244,7 +245,7 @@ asks_extend extend.Uxtb m d pc a = refl
 pub row_s11 : (i : S11) → Row (instr.Scalar (scalar.S11 i))
 row_s11 i = plain_row (instr.Scalar (scalar.S11 i)) _ _ _ refl refl (reads_two _ _ _ _ _ (stem_extend i.name) (a_low i.d.value i.d.in_range) (a_low i.m.value i.m.in_range)) (λ p b. asks_extend i.name _ _ p b)
 
-stem_swap : (name : SwapName) → is_short_word 8 (swap_stem name) ≡ true
+stem_swap : (name : SwapName) → is_stem (swap_stem name) ≡ true
 stem_swap swap_.Rev = refl
 stem_swap swap_.Rev16 = refl
 stem_swap swap_.Revsh = refl
@@ -259,7 +260,7 @@ pub row_s12 : (i : S12) → Row (instr.Scalar (scalar.S12 i))
 row_s12 i = plain_row (instr.Scalar (scalar.S12 i)) _ _ _ refl refl (reads_two _ _ _ _ _ (stem_swap i.name) (a_low i.d.value i.d.in_range) (a_low i.m.value i.m.in_range)) (λ p b. asks_swap i.name _ _ p b)
 
 -- S13, S18, S19, S23
-stem_masking : (name : MaskingName) → is_short_word 8 (masking_stem name) ≡ true
+stem_masking : (name : MaskingName) → is_stem (masking_stem name) ≡ true
 stem_masking masking.Cpsie = refl
 stem_masking masking.Cpsid = refl
 
@@ -282,7 +283,7 @@ asks_break i pc a = refl
 pub row_s18 : (i : S18) → Row (instr.Scalar (scalar.S18 i))
 row_s18 i = plain_row (instr.Scalar (scalar.S18 i)) _ _ _ refl refl (reads_constant (codes "bkpt") _ refl (byte_fits i.i.value i.i.in_range)) (λ p b. asks_break _ p b)
 
-stem_hint : (name : HintName) → is_short_word 8 (hint_stem name) ≡ true
+stem_hint : (name : HintName) → is_stem (hint_stem name) ≡ true
 stem_hint hint.Nop = refl
 stem_hint hint.Yield = refl
 stem_hint hint.Wfe = refl
@@ -300,7 +301,7 @@ asks_hint hint.Sev pc a = refl
 pub row_s19 : (i : S19) → Row (instr.Scalar (scalar.S19 i))
 row_s19 i = plain_row (instr.Scalar (scalar.S19 i)) _ _ _ refl refl (reads_none _ (stem_hint i.name)) (λ p b. asks_hint i.name p b)
 
-stem_jump : (name : JumpName) → is_short_word 8 (jump_stem name) ≡ true
+stem_jump : (name : JumpName) → is_stem (jump_stem name) ≡ true
 stem_jump jump.Bx = refl
 stem_jump jump.Blx = refl
 

@@ -9,7 +9,8 @@ use Rattle.hm_tokens.specs.Tokens.{Tok}
 use Rattle.hm_text16.specs.Codes.{code_in}
 use Rattle.hm_text16.specs.Rows.{has_label, row_tokens, tokens_of}
 use Rattle.hm_text16.specs.Targets.{target}
-use Rattle.hm_text16.specs.Texts.{HasTokens, IsLabel, IsNarrow, IsRowAt, Reaches, label_of}
+use Rattle.hm_text16.specs.Texts.{HasTokens, IsNarrow, IsRowAt, label_of}
+use Rattle.hm_text_rows.specs.Labels.{IsLabel, Reaches}
 use Rattle.hm_text16.proofs.Fits.{IsSmall, small_code}
 use Rattle.hm_text16.proofs.Laws.{few_tokens, nearest, row_law}
 use Rattle.hm_text16.proofs.Asked.{halves}

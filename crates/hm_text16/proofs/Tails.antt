@@ -5,31 +5,11 @@ use Rattle.std.proofs.lemmas.Bool.{false≢true}
 use Rattle.hm_isa.specs.declared.Instr.{Instr}
 use Rattle.hm_tokens.specs.declared.token.Token.{Token}
 use Rattle.hm_tokens.specs.Tokens.{Tok, number, tok}
+use Rattle.hm_text_rows.proofs.Tails.{last_one}
 use Rattle.hm_text16.specs.Rows.{has_label, row_tokens, tokens_of}
 use Rattle.hm_text16.specs.Targets.{target}
-use Rattle.hm_text16.specs.Texts.{HasTokens, IsLabel, IsNarrow, IsRowAt, Reaches, label_of}
-
-cons_one : (x y : Tok) (xs ys : List Tok) → x ∷ xs ≡ y ∷ ys → (x ≡ y) × (xs ≡ ys)
-cons_one x y xs ys e = (cc, cc)
-
-pub last_one : (xs ys : List Tok) (t u : Tok) → xs ++ t ∷ [] ≡ ys ++ u ∷ [] → (xs ≡ ys) × (t ≡ u)
-last_one [] [] t u e = (refl, (cons_one t u [] [] e).0)
-last_one [] (y ∷ ys) t u e = absurd (let n = ap length e in omega (arith, n, length-append ys (u ∷ [])))
-last_one (x ∷ xs) [] t u e = absurd (let n = ap length e in omega (arith, n, length-append xs (t ∷ [])))
-last_one (x ∷ xs) (y ∷ ys) t u e =
-    let c = cons_one x y (xs ++ t ∷ []) (ys ++ u ∷ []) e in
-    let rest = last_one xs ys t u c.1 in
-    (ap2_cons c.0 rest.0, rest.1)
-  where
-    ap2_cons : x ≡ y → xs ≡ ys → x ∷ xs ≡ y ∷ ys
-    ap2_cons a b = cc
-
-pub split_is : (ts : List Token) (d : Token) → 0 < length ts → map tok ts ≡ map tok (take (length ts - 1) ts) ++ tok (get_or ts (length ts - 1) d) ∷ []
-split_is [] d lt = absurd (omega (arith, lt))
-split_is (x ∷ []) d lt = refl
-split_is (x ∷ y ∷ ys) d lt =
-    let e : length (x ∷ y ∷ ys) - 1 ≡ suc (length (y ∷ ys) - 1) = omega arith in
-    rw e (ap (λ (zs : List Tok). tok x ∷ zs) (split_is (y ∷ ys) d (omega arith)))
+use Rattle.hm_text16.specs.Texts.{HasTokens, IsNarrow, IsRowAt, label_of}
+use Rattle.hm_text_rows.specs.Labels.{IsLabel, Reaches}
 
 abbrev pub Has : Instr → List Tok → Type 0
 Has i ts = (t : Tok) × HasTokens i t ts

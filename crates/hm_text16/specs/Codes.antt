@@ -16,14 +16,12 @@ use Rattle.hm_isa.specs.declared.narrow.JumpName.TheVariants as jump
 use Rattle.hm_isa.specs.Code.{access_base, byte_base, extend_base, hint_base, jump_base, logic_base, masking_base, plain_base, shift_base, stack_sum_base, sum_base, swap_base, word_base, zero_base}
 use Rattle.hm_isa.specs.Standing.{◌↑◌}
 use Rattle.hm_tokens.specs.Tokens.{Tok, word, number, mark}
+use Rattle.hm_text_rows.specs.Labels.{distance}
+use Rattle.hm_text_rows.specs.Operands.{branch_condition_in, first}
 use Rattle.hm_text16.specs.declared.operands.Kind.{Kind}
 use Rattle.hm_text16.specs.declared.operands.Kind.TheVariants as kinds
 use Rattle.hm_text16.specs.declared.operands.Operands.{Operands}
 use Rattle.hm_text16.specs.Operands.{read_operands}
-
-abbrev pub first : Option ℕ → Option ℕ → Option ℕ
-first (Some w) o = Some w
-first None o = o
 
 -- BASES, by the mnemonics
 abbrev pub shift_base_in : List ℕ → Option ℕ
@@ -153,25 +151,6 @@ zero_base_in s =
     else if bytes_eq s (codes "cbnz") then Some (zero_base zero_.Cbnz)
     else None
 
--- the condition of a branch
-abbrev pub branch_condition_in : List ℕ → Option ℕ
-branch_condition_in s =
-    if bytes_eq s (codes "beq") then Some 0
-    else if bytes_eq s (codes "bne") then Some 1
-    else if bytes_eq s (codes "bcs") then Some 2
-    else if bytes_eq s (codes "bcc") then Some 3
-    else if bytes_eq s (codes "bmi") then Some 4
-    else if bytes_eq s (codes "bpl") then Some 5
-    else if bytes_eq s (codes "bvs") then Some 6
-    else if bytes_eq s (codes "bvc") then Some 7
-    else if bytes_eq s (codes "bhi") then Some 8
-    else if bytes_eq s (codes "bls") then Some 9
-    else if bytes_eq s (codes "bge") then Some 10
-    else if bytes_eq s (codes "blt") then Some 11
-    else if bytes_eq s (codes "bgt") then Some 12
-    else if bytes_eq s (codes "ble") then Some 13
-    else None
-
 -- the mask of a block under a condition with the low bit 0; under another it is 16 less this
 abbrev pub block_in : List ℕ → Option ℕ
 block_in s =
@@ -286,10 +265,6 @@ code_list s o =
     else None
 
 -- LABELS
--- how far the address a is behind another, modulo 2^32
-unfoldable pub distance : ℕ → ℕ → ℕ
-distance from a = (a + 0x2_0000_0000 - from) % 0x1_0000_0000
-
 abbrev pub code_literal : List ℕ → Operands → ℕ → ℕ → Option ℕ
 code_literal s o pc a = if bytes_eq s (codes "ldr") then Some (of_byte 0x4800 o.first (distance ((pc + 4) / 4 * 4) a / 4 % 256)) else None
 

@@ -20,66 +20,19 @@ use Rattle.hm_isa.specs.Rules.{listed_in}
 use Rattle.hm_isa.specs.Standing.{◌↑◌}
 use Rattle.hm_tokens.specs.Names.{register_name}
 use Rattle.hm_tokens.specs.Tokens.{Tok, word, number, mark}
+use Rattle.hm_text_rows.specs.Shapes.{and_constant, braces, comma, constant, inside, one, r, three, two}
 use Rattle.hm_text16.specs.Stems.{access_stem, block_condition, block_stem, branch_stem, byte_stem, extend_stem, hint_stem, jump_stem, logic_stem, masking_stem, plain_stem, shift_stem, stack_sum_stem, sum_stem, swap_stem, word_stem, zero_stem}
 
--- OPERANDS
-abbrev pub r : ℕ → Tok
-r n = word (register_name n)
-
-abbrev pub comma : Tok
-comma = mark 44
-
--- `#n`
-abbrev pub constant : ℕ → List Tok
-constant n = mark 35 ∷ number n ∷ []
-
--- `[` and `]`
-abbrev pub open_bracket : Tok
-open_bracket = mark 91
-
-abbrev pub close_bracket : Tok
-close_bracket = mark 93
-
 -- SHAPES
-abbrev pub one : List ℕ → Tok → List Tok
-one name a = word name ∷ a ∷ []
-
-abbrev pub two : List ℕ → Tok → Tok → List Tok
-two name a b = word name ∷ a ∷ comma ∷ b ∷ []
-
-abbrev pub three : List ℕ → Tok → Tok → Tok → List Tok
-three name a b c = word name ∷ a ∷ comma ∷ b ∷ comma ∷ c ∷ []
-
-abbrev pub and_constant : List Tok → ℕ → List Tok
-and_constant front n = front ++ comma ∷ constant n
-
 -- `rt,[rn,rm]`
-abbrev pub indexed : List ℕ → ℕ → ℕ → ℕ → List Tok
-indexed name t n m = word name ∷ r t ∷ comma ∷ open_bracket ∷ r n ∷ comma ∷ r m ∷ close_bracket ∷ []
+abbrev pub by_register : List ℕ → ℕ → ℕ → ℕ → List Tok
+by_register name t n m = word name ∷ r t ∷ comma ∷ mark 91 ∷ r n ∷ comma ∷ r m ∷ mark 93 ∷ []
 
 -- `rt,[rn,#k]`
-abbrev pub offset : List ℕ → ℕ → ℕ → ℕ → List Tok
-offset name t n k = word name ∷ r t ∷ comma ∷ open_bracket ∷ r n ∷ comma ∷ mark 35 ∷ number k ∷ close_bracket ∷ []
+abbrev pub by_number : List ℕ → ℕ → ℕ → ℕ → List Tok
+by_number name t n k = word name ∷ r t ∷ comma ∷ inside 1 0 (r n) k
 
 -- LISTS
--- those of the registers from k up, so many, that stand in a list
-abbrev pub registers_from : ℕ → ℕ → ℕ → List ℕ
-registers_from zero k list = []
-registers_from (suc n) k list = if listed_in list k then k ∷ registers_from n (k + 1) list else registers_from n (k + 1) list
-
--- no row lists more than nine
-unfoldable pub are_few : ℕ → Bool
-are_few list = ltb (length (registers_from 16 0 list)) 10
-
--- registers, each behind a mark: the first behind this one, and the others behind a comma
-abbrev pub listed : ℕ → List ℕ → List Tok
-listed m [] = []
-listed m (k ∷ ks) = mark m ∷ r k ∷ listed 44 ks
-
--- `{..}`, the registers in rising order
-abbrev pub braces : ℕ → List Tok
-braces list = listed 123 (registers_from 16 0 list) ++ mark 125 ∷ []
-
 -- `ldm rn!,`, or `ldm rn,` where rn is listed and there is no writeback
 abbrev pub load_start : ℕ → ℕ → List Tok
 load_start n list = if listed_in list n then word (codes "ldm") ∷ r n ∷ comma ∷ [] else word (codes "ldm") ∷ r n ∷ mark 33 ∷ comma ∷ []
@@ -130,9 +83,9 @@ scalar_tokens (S11 i) = two (extend_stem i.name) (r i.d.value) (r i.m.value)
 scalar_tokens (S12 i) = two (swap_stem i.name) (r i.d.value) (r i.m.value)
 scalar_tokens (S13 i) = one (masking_stem i.name) (word (codes "i"))
 scalar_tokens (S14 i) = word (codes "ldr") ∷ r i.t.value ∷ comma ∷ []
-scalar_tokens (S15 i) = indexed (access_stem i.name) i.t.value i.n.value i.m.value
-scalar_tokens (S16 i) = offset (plain_stem i.name) i.t.value i.n.value (plain_size i.name * i.i.value)
-scalar_tokens (S17 i) = offset (word_stem i.name) i.t.value 13 (4 * i.i.value)
+scalar_tokens (S15 i) = by_register (access_stem i.name) i.t.value i.n.value i.m.value
+scalar_tokens (S16 i) = by_number (plain_stem i.name) i.t.value i.n.value (plain_size i.name * i.i.value)
+scalar_tokens (S17 i) = by_number (word_stem i.name) i.t.value 13 (4 * i.i.value)
 scalar_tokens (S18 i) = word (codes "bkpt") ∷ constant i.i.value
 scalar_tokens (S19 i) = word (hint_stem i.name) ∷ []
 scalar_tokens (S20 i) = list_tokens i.name i.x.value i.n.value i.list.value

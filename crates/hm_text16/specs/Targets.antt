@@ -8,14 +8,11 @@ use Rattle.hm_isa.specs.declared.Branch.{Branch as BranchRow}
 use Rattle.hm_isa.specs.declared.Branch.TheVariants.{S24, S25}
 use Rattle.hm_isa.specs.declared.narrow.S25.{S25 as JumpRow}
 use Rattle.hm_isa.specs.declared.narrow.S25.TheVariants as s25
+use Rattle.hm_text_rows.specs.Labels.{behind}
 
 -- twice a number of which the upper half counts from below, modulo 2^32
 abbrev pub twice_signed : ℕ → ℕ → ℕ
 twice_signed half i = if nat_lt i half then 2 * i else 2 ^ 32 - 4 * half + 2 * i
-
--- so far behind the address plus 4
-abbrev pub behind : ℕ → ℕ → ℕ
-behind pc n = (pc + 4 + n) % 2 ^ 32
 
 abbrev pub jump_target : JumpRow → ℕ → ℕ
 jump_target (s25.Conditional i) pc = behind pc (twice_signed 128 i.i.value)

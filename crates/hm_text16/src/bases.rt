@@ -1,14 +1,9 @@
 //! Mnemonics: the codes that their rows begin from, and what else they tell.
 
-ghost use Rattle.std.specs.Prelude.{◌≡◌, ◌<◌, bytes_eq, IfSome};
-ghost use Rattle.hm_text16.specs.Codes.{access_base_in, block_in, branch_condition_in, byte_access_base_in, byte_base_in, fixed_code_in, half_base_in, high_base_in, jump_base_in, low_base_in, move_base_in, shift_base_in, stack_base_in, stack_sum_base_in, sum_base_in, word_base_in, zero_base_in};
+ghost use Rattle.std.specs.Prelude.{◌≡◌, ◌<◌, IfSome};
+ghost use Rattle.hm_text16.specs.Codes.{access_base_in, block_in, byte_access_base_in, byte_base_in, fixed_code_in, half_base_in, high_base_in, jump_base_in, low_base_in, move_base_in, shift_base_in, stack_base_in, stack_sum_base_in, sum_base_in, word_base_in, zero_base_in};
 
-/// Whether a mnemonic is this one.
-pub fn is(stem: &[u8], name: &str) -> bool
-    ensures { result ≡ bytes_eq stem.now name.now }
-{
-    stem == name.as_bytes()
-}
+use hm_text_rows::is;
 
 /// Of `rd,rm,#i`, row S1.
 pub fn shift_base_in(stem: &[u8]) -> Option<u32>
@@ -297,55 +292,6 @@ pub fn zero_base_in(stem: &[u8]) -> Option<u32>
     }
     if is(stem, "cbnz") {
         return Some(0xb900);
-    }
-    None
-}
-
-/// The condition of a branch.
-pub fn branch_condition_in(stem: &[u8]) -> Option<u32>
-    ensures { result ≡ branch_condition_in stem.now }
-{
-    if is(stem, "beq") {
-        return Some(0);
-    }
-    if is(stem, "bne") {
-        return Some(1);
-    }
-    if is(stem, "bcs") {
-        return Some(2);
-    }
-    if is(stem, "bcc") {
-        return Some(3);
-    }
-    if is(stem, "bmi") {
-        return Some(4);
-    }
-    if is(stem, "bpl") {
-        return Some(5);
-    }
-    if is(stem, "bvs") {
-        return Some(6);
-    }
-    if is(stem, "bvc") {
-        return Some(7);
-    }
-    if is(stem, "bhi") {
-        return Some(8);
-    }
-    if is(stem, "bls") {
-        return Some(9);
-    }
-    if is(stem, "bge") {
-        return Some(10);
-    }
-    if is(stem, "blt") {
-        return Some(11);
-    }
-    if is(stem, "bgt") {
-        return Some(12);
-    }
-    if is(stem, "ble") {
-        return Some(13);
     }
     None
 }

@@ -1,15 +1,18 @@
 //! The code that a text carelessly asks for: what decides is whether the row that has this code has the text.
 
 ghost use Rattle.std.specs.Prelude.{◌≡◌, ◌<◌, ◌+◌, ◌^◌, map};
-ghost use Rattle.hm_text16.specs.Codes.{block_mask, code_address, code_always, code_block, code_break, code_byte, code_byte_access, code_compare, code_conditional, code_half, code_high, code_in, code_jump, code_label, code_list, code_literal, code_low, code_number, code_of, code_of_three, code_of_two, code_registers, code_shift, code_single, code_small_sum, code_stack_access, code_stack_sum, code_with_number, code_with_register, code_word, code_zero, distance, first, fixed_code_in, low_base_in, move_base_in, of_byte, of_high, of_three, sum_base_in, access_base_in, zero_code};
+ghost use Rattle.hm_text16.specs.Codes.{block_mask, code_address, code_always, code_block, code_break, code_byte, code_byte_access, code_compare, code_conditional, code_half, code_high, code_in, code_jump, code_label, code_list, code_literal, code_low, code_number, code_of, code_of_three, code_of_two, code_registers, code_shift, code_single, code_small_sum, code_stack_access, code_stack_sum, code_with_number, code_with_register, code_word, code_zero, fixed_code_in, low_base_in, move_base_in, of_byte, of_high, of_three, sum_base_in, access_base_in, zero_code};
+ghost use Rattle.hm_text_rows.specs.Labels.{distance};
+ghost use Rattle.hm_text_rows.specs.Operands.{first};
 ghost use Rattle.hm_tokens.specs.Tokens.{tok};
 
 use crate::bases::{
-    access_base_in, block_in, branch_condition_in, byte_access_base_in, byte_base_in,
-    fixed_code_in, half_base_in, high_base_in, is, jump_base_in, low_base_in, move_base_in,
+    access_base_in, block_in, byte_access_base_in, byte_base_in,
+    fixed_code_in, half_base_in, high_base_in, jump_base_in, low_base_in, move_base_in,
     shift_base_in, stack_base_in, stack_sum_base_in, sum_base_in, word_base_in, zero_base_in,
 };
 use crate::operands::{Kind, Operands, read_operands};
+use hm_text_rows::{branch_condition_in, distance, is};
 use hm_tokens::Token;
 
 /// Fields of three and five bits at their places.
@@ -301,16 +304,6 @@ fn code_list(stem: &[u8], o: &Operands) -> Option<u64>
         return Some(of_byte(0xc800, o.first, registers));
     }
     None
-}
-
-/// How far the address `a` is behind another, modulo 2^32.
-#[tactic(auto, unfolding(crate::specs::Codes::distance))]
-fn distance(from: u64, a: u32) -> u64
-    requires { from < 2 ^ 33 }
-    ensures value { result ≡ distance from a }
-    ensures small { result < 2 ^ 32 }
-{
-    (u64::from(a) + 0x2_0000_0000 - from) % 0x1_0000_0000
 }
 
 /// Rows S14.

@@ -11,7 +11,6 @@ ghost use Rattle.hm_tokens.specs.Tokens.{Tok, tok};
 
 mod bases;
 mod codes;
-mod lists;
 mod operands;
 mod rows;
 mod shapes;
@@ -23,17 +22,11 @@ use arrayvec::ArrayString;
 use codes::code_in;
 use hm_enc16::decode16;
 use hm_isa::Instr;
+pub use hm_text_rows::Shape;
 use hm_tokens::{Token, single_registers};
 use rows::row_text;
 pub use targets::target;
 use texts::{is_row_at, label_in};
-
-/// What a text that some row has says of its label.
-#[derive(Clone, Copy, Debug)]
-pub struct Shape<'a> {
-    /// The label operand, which is the last token: a number or a name. None where the row has no label.
-    pub label: Option<Token<'a>>,
-}
 
 /// The text of a row, with the address that its label names, if it has one.
 fn print_with(i: &Instr, address: Option<u32>) -> ArrayString<96>

@@ -4,14 +4,12 @@ ghost use Rattle.std.specs.Prelude.{◌≡◌, ℕ, ◌≤◌, ◌<◌, ◌+◌,
 ghost use Rattle.hm_isa.specs.Code.{branch_halves, halfwords, scalar_halves};
 ghost use Rattle.hm_isa.specs.declared.Branch.TheVariants as branch;
 ghost use Rattle.hm_isa.specs.declared.Scalar.TheVariants as scalar;
-ghost use Rattle.hm_text16.specs.Rows.{base_register, branch_tokens, comma, list_tokens, load_start, plain_size, r, row_tokens, scalar_tokens, shift_number};
+ghost use Rattle.hm_text16.specs.Rows.{base_register, branch_tokens, list_tokens, load_start, plain_size, row_tokens, scalar_tokens, shift_number};
+ghost use Rattle.hm_text_rows.specs.Shapes.{comma, r};
 ghost use Rattle.hm_tokens.specs.Texts.{text_tokens};
 ghost use Rattle.hm_tokens.specs.Tokens.{mark, word};
 
-use crate::lists::{is_listed, with_list};
-use crate::shapes::{
-    alone, and_constant, indexed, lettered, marked, offset, one, r, three, two, with, with_constant,
-};
+use crate::shapes::{by_number, by_register};
 use crate::stems::{
     access_stem, block_condition, block_letters, byte_stem, extend_stem, hint_stem, jump_stem,
     logic_stem, masking_stem, plain_stem, shift_stem, stack_sum_stem, sum_stem, swap_stem,
@@ -21,6 +19,7 @@ use hm_isa::{
     BaseName, Branch, Instr, ListName, PlainName, S1, S2, S3, S4, S5, S6, S7, S8, S9, S10, S11,
     S12, S13, S14, S15, S16, S17, S18, S19, S20, S21, S23, S24, S25, Scalar, ShiftName,
 };
+use hm_text_rows::{alone, and_constant, is_listed, marked, one, r, three, two, with, with_list};
 use hm_tokens::{InstrText, Mark, Part, condition_name};
 
 /// The number of a shift: 0 stands for 32 in shifts to the right.
@@ -36,50 +35,50 @@ fn shift_number(name: ShiftName, i: u32) -> u32
 fn text_s1(i: &S1) -> InstrText
     ensures { text_tokens result ≡ scalar_tokens (scalar.S1 i.now) }
 {
-    let text = two(shift_stem(i.name), r(i.d.get()), r(i.m.get()));
+    let text = two(shift_stem(i.name), "", r(i.d.get()), r(i.m.get()));
     and_constant(text, shift_number(i.name, i.i.get()))
 }
 
 fn text_s2(i: &S2) -> InstrText
     ensures { text_tokens result ≡ scalar_tokens (scalar.S2 i.now) }
 {
-    three(sum_stem(i.name), r(i.d.get()), r(i.n.get()), r(i.m.get()))
+    three(sum_stem(i.name), "", r(i.d.get()), r(i.n.get()), r(i.m.get()))
 }
 
 fn text_s3(i: &S3) -> InstrText
     ensures { text_tokens result ≡ scalar_tokens (scalar.S3 i.now) }
 {
-    and_constant(two(sum_stem(i.name), r(i.d.get()), r(i.n.get())), i.i.get())
+    and_constant(two(sum_stem(i.name), "", r(i.d.get()), r(i.n.get())), i.i.get())
 }
 
 fn text_s4(i: &S4) -> InstrText
     ensures { text_tokens result ≡ scalar_tokens (scalar.S4 i.now) }
 {
-    and_constant(one(byte_stem(i.name), r(i.d.get())), i.i.get())
+    and_constant(one(byte_stem(i.name), "", r(i.d.get())), i.i.get())
 }
 
 fn text_s5(i: &S5) -> InstrText
     ensures { text_tokens result ≡ scalar_tokens (scalar.S5 i.now) }
 {
-    two(logic_stem(i.name), r(i.d.get()), r(i.m.get()))
+    two(logic_stem(i.name), "", r(i.d.get()), r(i.m.get()))
 }
 
 fn text_s6(i: &S6) -> InstrText
     ensures { text_tokens result ≡ scalar_tokens (scalar.S6 i.now) }
 {
-    two("add", r(i.d.get()), r(i.m.get()))
+    two("add", "", r(i.d.get()), r(i.m.get()))
 }
 
 fn text_s7(i: &S7) -> InstrText
     ensures { text_tokens result ≡ scalar_tokens (scalar.S7 i.now) }
 {
-    two("cmp", r(i.d.get()), r(i.m.get()))
+    two("cmp", "", r(i.d.get()), r(i.m.get()))
 }
 
 fn text_s8(i: &S8) -> InstrText
     ensures { text_tokens result ≡ scalar_tokens (scalar.S8 i.now) }
 {
-    two("mov", r(i.d.get()), r(i.m.get()))
+    two("mov", "", r(i.d.get()), r(i.m.get()))
 }
 
 /// The register of a row S9.
@@ -97,7 +96,7 @@ fn text_s9(i: &S9) -> InstrText
     ensures { text_tokens result ≡ scalar_tokens (scalar.S9 i.now) }
 {
     and_constant(
-        two("add", r(i.d.get()), r(base_register(i.name))),
+        two("add", "", r(i.d.get()), r(base_register(i.name))),
         4 * i.i.get(),
     )
 }
@@ -105,37 +104,37 @@ fn text_s9(i: &S9) -> InstrText
 fn text_s10(i: &S10) -> InstrText
     ensures { text_tokens result ≡ scalar_tokens (scalar.S10 i.now) }
 {
-    and_constant(one(stack_sum_stem(i.name), r(13)), 4 * i.i.get())
+    and_constant(one(stack_sum_stem(i.name), "", r(13)), 4 * i.i.get())
 }
 
 fn text_s11(i: &S11) -> InstrText
     ensures { text_tokens result ≡ scalar_tokens (scalar.S11 i.now) }
 {
-    two(extend_stem(i.name), r(i.d.get()), r(i.m.get()))
+    two(extend_stem(i.name), "", r(i.d.get()), r(i.m.get()))
 }
 
 fn text_s12(i: &S12) -> InstrText
     ensures { text_tokens result ≡ scalar_tokens (scalar.S12 i.now) }
 {
-    two(swap_stem(i.name), r(i.d.get()), r(i.m.get()))
+    two(swap_stem(i.name), "", r(i.d.get()), r(i.m.get()))
 }
 
 fn text_s13(i: &S13) -> InstrText
     ensures { text_tokens result ≡ scalar_tokens (scalar.S13 i.now) }
 {
-    one(masking_stem(i.name), Part::Word("i"))
+    one(masking_stem(i.name), "", Part::Word("i"))
 }
 
 fn text_s14(i: &S14) -> InstrText
     ensures { text_tokens result ≡ scalar_tokens (scalar.S14 i.now) }
 {
-    marked(one("ldr", r(i.t.get())), Mark::Comma)
+    marked(one("ldr", "", r(i.t.get())), Mark::Comma)
 }
 
 fn text_s15(i: &S15) -> InstrText
     ensures { text_tokens result ≡ scalar_tokens (scalar.S15 i.now) }
 {
-    indexed(access_stem(i.name), i.t.get(), i.n.get(), i.m.get())
+    by_register(access_stem(i.name), i.t.get(), i.n.get(), i.m.get())
 }
 
 /// The offset of a row S16 in bytes.
@@ -152,25 +151,26 @@ fn plain_offset(i: &S16) -> u32
 fn text_s16(i: &S16) -> InstrText
     ensures { text_tokens result ≡ scalar_tokens (scalar.S16 i.now) }
 {
-    offset(plain_stem(i.name), i.t.get(), i.n.get(), plain_offset(i))
+    by_number(plain_stem(i.name), i.t.get(), i.n.get(), plain_offset(i))
 }
 
 fn text_s17(i: &S17) -> InstrText
     ensures { text_tokens result ≡ scalar_tokens (scalar.S17 i.now) }
 {
-    offset(word_stem(i.name), i.t.get(), 13, 4 * i.i.get())
+    by_number(word_stem(i.name), i.t.get(), 13, 4 * i.i.get())
 }
 
 fn text_s18(i: &S18) -> InstrText
     ensures { text_tokens result ≡ scalar_tokens (scalar.S18 i.now) }
 {
-    with_constant(alone("bkpt"), i.i.get())
+    let hash = marked(alone("bkpt", "", ""), Mark::Hash);
+    with(hash, Part::Number(i.i.get()))
 }
 
 fn text_s19(i: &S19) -> InstrText
     ensures { text_tokens result ≡ scalar_tokens (scalar.S19 i.now) }
 {
-    alone(hint_stem(i.name))
+    alone(hint_stem(i.name), "", "")
 }
 
 /// `ldm rn`, and `!` where it is written back.
@@ -178,7 +178,7 @@ fn load_start(i: &S20) -> InstrText
     ensures room { length result.operands.items ≤ 3 }
     ensures tokens { text_tokens result ≡ load_start i.now.n.value i.now.list.value }
 {
-    let start = one("ldm", r(i.n.get()));
+    let start = one("ldm", "", r(i.n.get()));
     if is_listed(i.list.get(), i.n.get()) {
         marked(start, Mark::Comma)
     } else {
@@ -192,7 +192,7 @@ fn store_start(n: u32) -> InstrText
     ensures room { length result.operands.items ≡ 3 }
     ensures tokens { text_tokens result ≡ word (codes "stm") ∷ r n ∷ mark 33 ∷ comma ∷ [] }
 {
-    marked(marked(one("stm", r(n)), Mark::Bang), Mark::Comma)
+    marked(marked(one("stm", "", r(n)), Mark::Bang), Mark::Comma)
 }
 
 /// `push` and its list, with lr where x is 1.
@@ -200,7 +200,7 @@ fn push_text(list: u32, x: u32) -> InstrText
     requires { (list < 256) × (x < 2) }
     ensures { (n : ℕ) → text_tokens result ≡ list_tokens ListName.Push x n list }
 {
-    with_list(alone("push"), list + x * 0x4000)
+    with_list(alone("push", "", ""), list + x * 0x4000)
 }
 
 /// `pop` and its list, with pc where x is 1.
@@ -208,10 +208,9 @@ fn pop_text(list: u32, x: u32) -> InstrText
     requires { (list < 256) × (x < 2) }
     ensures { (n : ℕ) → text_tokens result ≡ list_tokens ListName.Pop x n list }
 {
-    with_list(alone("pop"), list + x * 0x8000)
+    with_list(alone("pop", "", ""), list + x * 0x8000)
 }
 
-#[tactic(auto, using(crate::proofs::Registers::low_few))]
 fn text_s20(i: &S20) -> InstrText
     ensures { text_tokens result ≡ scalar_tokens (scalar.S20 i.now) }
 {
@@ -229,27 +228,27 @@ fn text_s21(i: &S21) -> InstrText
 {
     let c = i.c.get();
     let letters = block_letters(c, i.mask.get());
-    with(lettered("it", letters), Part::Word(block_condition(c)))
+    with(alone("it", letters, ""), Part::Word(block_condition(c)))
 }
 
 fn text_s23(i: &S23) -> InstrText
     ensures { text_tokens result ≡ branch_tokens (branch.S23 i.now) }
 {
-    one(jump_stem(i.name), r(i.m.get()))
+    one(jump_stem(i.name), "", r(i.m.get()))
 }
 
 fn text_s24(i: &S24) -> InstrText
     ensures { text_tokens result ≡ branch_tokens (branch.S24 i.now) }
 {
-    marked(one(zero_stem(i.name), r(i.n.get())), Mark::Comma)
+    marked(one(zero_stem(i.name), "", r(i.n.get())), Mark::Comma)
 }
 
 fn text_s25(i: &S25) -> InstrText
     ensures { text_tokens result ≡ branch_tokens (branch.S25 i.now) }
 {
     match i {
-        S25::Conditional(i) => lettered("b", condition_name(i.c.get())),
-        S25::Always(_) => alone("b"),
+        S25::Conditional(i) => alone("b", condition_name(i.c.get()), ""),
+        S25::Always(_) => alone("b", "", ""),
     }
 }
 

@@ -1,17 +1,10 @@
 //! The address that the label of a row names.
 
 ghost use Rattle.std.specs.Prelude.{◌≡◌, ◌<◌, ◌+◌, ◌*◌, ◌/◌, ◌%◌, ◌^◌};
-ghost use Rattle.hm_text16.specs.Targets.{behind, branch_target, jump_target, scalar_target, target, twice_signed};
+ghost use Rattle.hm_text16.specs.Targets.{branch_target, jump_target, scalar_target, target, twice_signed};
 
 use hm_isa::{Branch, Instr, S25, Scalar};
-
-/// The address that is so far behind the address plus 4.
-fn behind(pc: u32, n: u64) -> u32
-    requires { n < 2 ^ 33 }
-    ensures { result ≡ behind pc n }
-{
-    ((u64::from(pc) + 4 + n) % 0x1_0000_0000) as u32
-}
+use hm_text_rows::behind;
 
 /// Twice a number of which the upper half counts from below, modulo 2^32.
 fn twice_signed(half: u64, i: u32) -> u64

@@ -1,27 +1,18 @@
 //! Whether tokens are a row's, and the token of its label.
 
-ghost use Rattle.std.specs.Prelude.{◌≡◌, ◌↔◌, ◌++◌, ◌∷◌, [], true, IsTrue, IfNone, IfSome, length, map, option_map};
+ghost use Rattle.std.specs.Prelude.{◌≡◌, ◌↔◌, true, IsTrue, length, map, option_map};
 ghost use Rattle.hm_isa.specs.Code.{halfwords};
 ghost use Rattle.hm_text16.specs.Rows.{has_label, has_label_branch, has_label_scalar, tokens_of};
 ghost use Rattle.hm_text16.specs.Targets.{target};
-ghost use Rattle.hm_text16.specs.Texts.{HasTokens, IsLabel, IsRowAt, Reaches, label_of};
+ghost use Rattle.hm_text16.specs.Texts.{HasTokens, IsRowAt, label_of};
+ghost use Rattle.hm_text_rows.specs.Labels.{Reaches};
 ghost use Rattle.hm_tokens.specs.Tokens.{Tok, tok};
 
 use crate::rows::row_text;
 use crate::targets::target;
 use hm_isa::{Branch, Instr, Scalar};
-use hm_tokens::{Token, is_label_name};
-
-/// Whether a token may stand where a row has a label.
-fn is_label(token: Token<'_>) -> bool
-    ensures { IsTrue result ↔ IsLabel (tok token.entry) }
-{
-    match token {
-        Token::Word(name) => is_label_name(name),
-        Token::Number(n) => n <= 0xffff_ffff,
-        Token::Mark(_) => false,
-    }
-}
+use hm_text_rows::{is_label, split_last};
+use hm_tokens::Token;
 
 /// Whether a scalar row has a label.
 fn has_label_scalar(i: &Scalar) -> bool
@@ -51,17 +42,6 @@ fn has_label(i: &Instr) -> bool
         Instr::Scalar(i) => has_label_scalar(i),
         Instr::Branch(i) => has_label_branch(i),
         Instr::Vector(_) => false,
-    }
-}
-
-/// The tokens before the last, and the last.
-fn split_last<'a, 'b>(tokens: &'b [Token<'a>]) -> Option<(&'b [Token<'a>], Token<'a>)>
-    ensures some { IfSome result (λ s. map tok tokens.now ≡ map tok s.0.now ++ tok s.1 ∷ []) }
-    ensures none { IfNone result (map tok tokens.now ≡ []) }
-{
-    match tokens {
-        [front @ .., last] => Some((front, *last)),
-        [] => None,
     }
 }
 

@@ -28,7 +28,8 @@ use Rattle.hm_isa.specs.Standing.{◌↑◌}
 use Rattle.hm_tokens.specs.Tokens.{Tok, word}
 use Rattle.hm_tokens.specs.Names.{condition_name}
 use Rattle.hm_text32.specs.Codes.{code_of}
-use Rattle.hm_text32.specs.Operands.{is_vector_name, word_value}
+use Rattle.hm_text32.specs.Operands.{word_value}
+use Rattle.hm_text_rows.specs.Operands.{is_vector_name}
 use Rattle.hm_text32.specs.Rows.{product_tokens}
 use Rattle.hm_text32.specs.Stems.{accumulate_stem, bits_stem, bits_suffix, extend_stem, long_stem, operation_stem, select_stem, wide, wide_shift_stem}
 use Rattle.hm_text_rows.specs.Shapes.{and_shift, four, or_zero, r, three, two}

@@ -6,8 +6,10 @@ use Rattle.hm_tokens.specs.Tokens.{Tok, word}
 use Rattle.hm_text_rows.specs.Labels.{IsLabel, Reaches}
 use Rattle.hm_text_rows.proofs.Printed.{IsPrinted, IsPrintedAt}
 use Rattle.hm_text_rows.proofs.Words.{cut, is_stem, is_suffix}
+use Rattle.hm_text_rows.proofs.Shown.{IsPrintedRow}
 use Rattle.hm_text32.specs.declared.operands.Operands.{Operands}
-use Rattle.hm_text32.specs.Codes.{code_in, code_of, code_of_label, code_of_memory, first, label_code_in, memory_code_in, plain_code_in}
+use Rattle.hm_text32.specs.Codes.{code_in, code_of, code_of_label, code_of_memory, label_code_in, memory_code_in, plain_code_in}
+use Rattle.hm_text_rows.specs.Operands.{first}
 use Rattle.hm_text32.specs.Operands.{read_operands}
 use Rattle.hm_text32.specs.Rows.{has_label, row_tokens, tokens_of}
 use Rattle.hm_text32.specs.Targets.{target}
@@ -43,10 +45,6 @@ pub asks_label : (s f : List ℕ) (us : List Tok) (pc a w : ℕ) → is_stem s �
 asks_label s f us pc a w stem behind none memory e = rw (cut s f stem behind, none (read_operands f us), memory, e) refl
 
 -- ROWS
-abbrev pub IsPrintedRow : Bool → List Tok → Type 0
-IsPrintedRow true ts = IsPrintedAt ts
-IsPrintedRow false ts = IsPrinted ts
-
 pub record Row (i : Instr) : Type 0 where
   pub code : ℕ
   pub has : HasWord i code

@@ -25,7 +25,8 @@ use Rattle.hm_isa.specs.Standing.{◌↑◌}
 use Rattle.hm_enc32.specs.Table.{HasWord}
 use Rattle.hm_tokens.specs.Tokens.{Tok}
 use Rattle.hm_text32.specs.Codes.{code_of}
-use Rattle.hm_text32.specs.Operands.{is_vector_name, word_value}
+use Rattle.hm_text32.specs.Operands.{word_value}
+use Rattle.hm_text_rows.specs.Operands.{is_vector_name}
 use Rattle.hm_text32.specs.Rows.{and_turn, insert_tokens, saturate_tokens, saturated_bits}
 use Rattle.hm_text32.specs.Stems.{extract_stem, half_stem, saturate_stem, wide_sum_stem}
 use Rattle.hm_text_rows.specs.Shapes.{and_constant, and_operand, and_shift, one, r, two}

@@ -8,7 +8,8 @@ use Rattle.hm_enc32.specs.Table.{HasWord}
 use Rattle.hm_tokens.specs.Names.{condition_name, register_name, vector_name}
 use Rattle.hm_tokens.specs.Tokens.{Tok, word, mark, number}
 use Rattle.hm_text32.specs.declared.operands.Operands.{Operands}
-use Rattle.hm_text32.specs.Operands.{is_vector_name, size_of, word_value}
+use Rattle.hm_text32.specs.Operands.{word_value}
+use Rattle.hm_text_rows.specs.Operands.{is_vector_name, size_of}
 use Rattle.hm_text32.specs.Codes.{code_of, plain_code_in}
 use Rattle.hm_text32.specs.Stems.{element_suffix, wide}
 use Rattle.hm_text_rows.specs.Shapes.{and_constant, and_operand, and_shift, comma, constant, four, one, three, two}

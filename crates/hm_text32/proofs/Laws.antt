@@ -23,11 +23,12 @@ use Rattle.hm_tokens.specs.Tokens.{Tok, number, word}
 use Rattle.hm_tokens.proofs.Ranges.{has_no_ranges, normal_same}
 use Rattle.hm_text_rows.specs.Labels.{IsLabel, NamesTarget, Reaches}
 use Rattle.hm_text_rows.proofs.Printed.{IsPrinted, IsPrintedAt}
+use Rattle.hm_text_rows.proofs.Shown.{IsGiven, IsPrintedRow, again_of, few_of, room_of}
 use Rattle.hm_text32.specs.Rows.{has_label, has_label_loop, other_barrier, other_scalar, other_tokens, row_tokens, tokens_of}
 use Rattle.hm_text32.specs.Stems.{barrier_stem}
 use Rattle.hm_text32.specs.Targets.{target}
 use Rattle.hm_text32.specs.Texts.{AreTokens, HasTokens, IsTextOf, text_of}
-use Rattle.hm_text32.proofs.Asked.{Asks, IsPrintedRow, Row, of_plain, plain_row}
+use Rattle.hm_text32.proofs.Asked.{Asks, Row, of_plain, plain_row}
 use Rattle.hm_text32.proofs.Forms.{Answers}
 use Rattle.hm_text32.proofs.OnConstants.{row_t1}
 use Rattle.hm_text32.proofs.Shifted.{row_t2}
@@ -137,13 +138,6 @@ other_law i ts e = of_plain i ts (other_answers i ts e)
 
 -- ---- printed
 
--- a row has a target where it has a label
-abbrev IsGiven : Bool → Option ℕ → Type 0
-IsGiven true (Some a) = a < 2 ^ 32
-IsGiven true None = ⊥
-IsGiven false (Some a) = ⊥
-IsGiven false None = Unit {0}
-
 word_below : (n : ℕ) → n % 2 ^ 32 < 2 ^ 32
 word_below n = omega arith
 
@@ -164,78 +158,24 @@ given_branch (branch.T16 (t16.Always i)) pc = word_below _
 given_branch (branch.T17 i) pc = tt
 given_branch (branch.T23 i) pc = given_loop i pc
 
-given_target : (i : Instr) (pc : ℕ) → IsGiven (has_label i) (target i pc)
+pub given_target : (i : Instr) (pc : ℕ) → IsGiven (has_label i) (target i pc)
 given_target (instr.Scalar i) pc = tt
 given_target (instr.Branch i) pc = given_branch i pc
 given_target (instr.Vector i) pc = tt
 
--- the tokens that are read of a text that is printed
-record Again (b : Bool) (row : List Tok) (o : Option ℕ) (text : List ℕ) (labels : List ℕ → Option ℕ) : Type 0 where
-  tokens : List Tok
-  label : Tok
-  is_label : IsLabel label
-  line : IsLineOf text tokens
-  has : cond b (row ++ label ∷ []) row ≡ normal tokens
-  names : NamesTarget labels label o
-
-abbrev shown : List Tok → Option ℕ → List ℕ
-shown row (Some a) = printed_at row a
-shown row None = printed row
-
-more_ranges : (ts : List Tok) (a : ℕ) → has_no_ranges ts ≡ true → has_no_ranges (ts ++ number a ∷ []) ≡ true
-more_ranges [] a e = refl
-more_ranges (t ∷ ts) a e =
-    let p = and_parts (not (is_the_mark 45 t)) (has_no_ranges ts) e in
-    rw (p.0, more_ranges ts a p.1) refl
-
-again_of : (b : Bool) (row : List Tok) (o : Option ℕ) (labels : List ℕ → Option ℕ) → IsPrintedRow b row → IsGiven b o → Again b row o (shown row o) labels
-again_of true row (Some a) labels p lt = record {
-  tokens = row ++ number a ∷ [];
-  label = number a;
-  is_label = lt;
-  line = p.again a lt;
-  has = sym (normal_same (row ++ number a ∷ []) (more_ranges row a p.ranges));
-  names = refl;
-}
-again_of true row None labels p given = absurd given
-again_of false row (Some a) labels p given = absurd given
-again_of false row None labels p given = record {
-  tokens = row;
-  label = number 0;
-  is_label = omega arith;
-  line = p.again;
-  has = sym p.ranges;
-  names = tt;
-}
-
-shown_is : (i : Instr) (o : Option ℕ) → text_of i o ≡ shown (row_tokens i) o
-shown_is i (Some a) = refl
-shown_is i None = refl
-
 pub printed_read : (i : Instr) (pc : ℕ) (text : List ℕ) (labels : List ℕ → Option ℕ) → IsWide i → text ≡ text_of i (target i pc) → IsTextOf text pc labels i
 printed_read i pc text labels wide is =
-    let e = is ∙ shown_is i (target i pc) in
     let again = again_of (has_label i) (row_tokens i) (target i pc) labels (row_law i wide).prints (given_target i pc) in
     record {
       tokens = again.tokens;
       label = again.label;
-      line = subst (λ (x : List ℕ). IsLineOf x again.tokens) (sym e) again.line;
+      line = subst (λ (x : List ℕ). IsLineOf x again.tokens) (sym is) again.line;
       has = record { wide = wide; label = again.is_label; tokens = inl again.has };
       names = again.names;
     }
 
-room_of : (b : Bool) (row : List Tok) (o : Option ℕ) → IsPrintedRow b row → IsGiven b o → length (shown row o) ≤ 96
-room_of true row (Some a) p lt = p.room a
-room_of true row None p given = absurd given
-room_of false row (Some a) p given = absurd given
-room_of false row None p given = p.room
-
 pub printed_room : (i : Instr) (pc : ℕ) → IsWide i → length (text_of i (target i pc)) ≤ 96
-printed_room i pc wide = rw (shown_is i (target i pc)) (room_of (has_label i) (row_tokens i) (target i pc) (row_law i wide).prints (given_target i pc))
-
-few_of : (b : Bool) (row : List Tok) (t : Tok) → IsPrintedRow b row → length (cond b (row ++ t ∷ []) row) ≤ 40
-few_of true row t p = let f = p.few in omega (arith, f, length-append row (t ∷ []))
-few_of false row t p = p.few
+printed_room i pc wide = room_of (has_label i) (row_tokens i) (target i pc) (row_law i wide).prints (given_target i pc)
 
 few_ones : (i : Instr) (t : Tok) (ts : List Tok) → IsWide i → AreTokens i t ts → length ts ≤ 40
 few_ones i t ts wide (inl is) = subst (λ (x : List Tok). length x ≤ 40) is (few_of (has_label i) (row_tokens i) t (row_law i wide).prints)

@@ -29,7 +29,7 @@ use Rattle.hm_text_rows.specs.Shapes.{comma, r, two}
 use Rattle.hm_text_rows.proofs.Printed.{IsPrintedAt, is_printed_at, short_comma, short_word}
 use Rattle.hm_text_rows.proofs.Words.{at_below, below_holds, is_stem, is_suffix, word_r}
 use Rattle.hm_text32.specs.Codes.{ahead, always_code, behind_it, code_in, code_of, code_of_label, code_of_memory, conditional_code, same_bit}
-use Rattle.hm_text32.specs.Operands.{size_of}
+use Rattle.hm_text_rows.specs.Operands.{size_of}
 use Rattle.hm_text32.specs.Rows.{loop_end_tokens}
 use Rattle.hm_text32.specs.Stems.{element_suffix, wide, wide_branch_stem}
 use Rattle.hm_text32.proofs.Asked.{IsNoPlain, Row, asks_label, label_row}

@@ -15,7 +15,8 @@ use Rattle.hm_isa.specs.Standing.{◌↑◌}
 use Rattle.hm_enc32.specs.Table.{HasWord}
 use Rattle.hm_tokens.specs.Tokens.{Tok, word}
 use Rattle.hm_text32.specs.Codes.{code_of, shifted_code}
-use Rattle.hm_text32.specs.Operands.{is_vector_name, word_value}
+use Rattle.hm_text32.specs.Operands.{word_value}
+use Rattle.hm_text_rows.specs.Operands.{is_vector_name}
 use Rattle.hm_text32.specs.Rows.{and_shifted, data_tokens, moved_tokens, shift_number, single_tokens}
 use Rattle.hm_text32.specs.Stems.{carry_stem, data_stem, move_stem, shift_stem, test_stem, turn_stem, wide}
 use Rattle.hm_text_rows.specs.Shapes.{and_constant, r, three, two}

@@ -41,7 +41,8 @@ use Rattle.hm_tokens.specs.Ranges.{singles}
 use Rattle.hm_tokens.specs.Tokens.{Tok, mark, number, word}
 use Rattle.hm_text32.specs.declared.operands.Operands.{Operands}
 use Rattle.hm_text32.specs.Codes.{code_of}
-use Rattle.hm_text32.specs.Operands.{is_vector_name, word_value}
+use Rattle.hm_text32.specs.Operands.{word_value}
+use Rattle.hm_text_rows.specs.Operands.{is_vector_name}
 use Rattle.hm_text32.specs.Rows.{barrier_tokens, doubles, lane_tokens, special_tokens, system_tokens, table_tokens}
 use Rattle.hm_text32.specs.Stems.{barrier_stem, double_name, element_suffix, read_name, stack_stem, wide, written_name}
 use Rattle.hm_text_rows.specs.Shapes.{comma, constant, r, two}

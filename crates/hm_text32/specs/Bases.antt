@@ -196,25 +196,6 @@ list_base_in s =
     else None
 
 -- LABELS
--- the condition of a branch
-abbrev pub branch_condition_in : List ℕ → Option ℕ
-branch_condition_in s =
-    if bytes_eq s (codes "beq") then Some 0
-    else if bytes_eq s (codes "bne") then Some 1
-    else if bytes_eq s (codes "bcs") then Some 2
-    else if bytes_eq s (codes "bcc") then Some 3
-    else if bytes_eq s (codes "bmi") then Some 4
-    else if bytes_eq s (codes "bpl") then Some 5
-    else if bytes_eq s (codes "bvs") then Some 6
-    else if bytes_eq s (codes "bvc") then Some 7
-    else if bytes_eq s (codes "bhi") then Some 8
-    else if bytes_eq s (codes "bls") then Some 9
-    else if bytes_eq s (codes "bge") then Some 10
-    else if bytes_eq s (codes "blt") then Some 11
-    else if bytes_eq s (codes "bgt") then Some 12
-    else if bytes_eq s (codes "ble") then Some 13
-    else None
-
 -- of the other wide branches
 abbrev pub branch_base_in : List ℕ → Option ℕ
 branch_base_in s =

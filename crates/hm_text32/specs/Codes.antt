@@ -4,20 +4,17 @@ use Rattle.hm_isa.specs.Standing.{◌↑◌}
 use Rattle.hm_text_base.specs.Spans.{span}
 use Rattle.hm_tokens.specs.Tokens.{Tok, word, number, mark}
 use Rattle.hm_text_rows.specs.Labels.{distance}
+use Rattle.hm_text_rows.specs.Operands.{bits_of, braced, branch_condition_in, first, operand, size_of}
 use Rattle.hm_text32.specs.declared.operands.Operands.{Operands}
 use Rattle.hm_text32.specs.declared.operands.Places.{Places}
-use Rattle.hm_text32.specs.Bases.{access_base_in, accumulate_base_in, barrier_base_in, branch_base_in, branch_condition_in, data_base_in, extend_base_in, extract_base_in, flagged_base_in, half_base_in, list_base_in, long_base_in, move_base_in, pair_base_in, select_base_in, stack_base_in, table_base_in, test_base_in, three_base, turn_base_in, two_base, wide_sum_base_in}
-use Rattle.hm_text32.specs.Operands.{bits_of, braced, operand, read_operands, read_places, second_bang, size_of, value}
+use Rattle.hm_text32.specs.Bases.{access_base_in, accumulate_base_in, barrier_base_in, branch_base_in, data_base_in, extend_base_in, extract_base_in, flagged_base_in, half_base_in, list_base_in, long_base_in, move_base_in, pair_base_in, select_base_in, stack_base_in, table_base_in, test_base_in, three_base, turn_base_in, two_base, wide_sum_base_in}
+use Rattle.hm_text32.specs.Operands.{read_operands, read_places, second_bang, value}
 
 -- FIELDS AT THEIR PLACES
 abbrev pub of_three : ℕ → ℕ → ℕ → ℕ → ℕ → ℕ
 of_three base n a d m = base + n ↑ 16 + a ↑ 12 + d ↑ 8 + m
 
 -- ROWS, by their stems
-abbrev pub first : Option ℕ → Option ℕ → Option ℕ
-first (Some w) o = Some w
-first None o = o
-
 -- a code with a base, where a test holds
 abbrev pub where_ : Bool → (ℕ → ℕ) → Option ℕ → Option ℕ
 where_ b code (Some base) = if b then Some (code base) else None

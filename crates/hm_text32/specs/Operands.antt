@@ -3,17 +3,10 @@ use Rattle.std.specs.Prelude.{ℕ, ◌+◌, ◌-◌, ◌^◌, min, Bool, true, f
 use Rattle.hm_tokens.specs.Names.{condition_in, register_in, vector_in}
 use Rattle.hm_tokens.specs.Ranges.{is_the_mark}
 use Rattle.hm_tokens.specs.Tokens.{Tok, word, number, mark}
+use Rattle.hm_text_rows.specs.Operands.{added, back_in, before, first_of, given_or, is_number, is_vector, operand, size_of}
 use Rattle.hm_text32.specs.Stems.{double_in}
 use Rattle.hm_text32.specs.declared.operands.Operands.{Operands}
 use Rattle.hm_text32.specs.declared.operands.Places.{Places}
-
-abbrev pub given_or : Option ℕ → ℕ → ℕ
-given_or (Some n) d = n
-given_or None d = d
-
-abbrev pub is_given : Option ℕ → Bool
-is_given (Some n) = true
-is_given None = false
 
 -- shifts by their numbers; that through the carry is a rotation by 0
 abbrev pub shift_in : List ℕ → Option ℕ
@@ -47,33 +40,6 @@ value (word w) = word_value w
 value (number n) = min n 0xffff_ffff
 value (mark c) = 0
 
-unfoldable pub is_vector_name : List ℕ → Bool
-is_vector_name w = is_given (vector_in w)
-
-abbrev pub is_vector : Tok → Bool
-is_vector (word w) = is_vector_name w
-is_vector (number n) = false
-is_vector (mark c) = false
-
-abbrev pub is_number : Tok → Bool
-is_number (word w) = false
-is_number (number n) = true
-is_number (mark c) = false
-
--- operand k, counted from 0 and without the marks; a comma where there is none
-abbrev pub operand : ℕ → List Tok → Tok
-operand k [] = mark 44
-operand k (word w ∷ ts) = if k == 0 then word w else operand (k - 1) ts
-operand k (number n ∷ ts) = if k == 0 then number n else operand (k - 1) ts
-operand k (mark c ∷ ts) = operand k ts
-
--- the number of an element size, by its last digit
-abbrev pub size_by : ℕ → ℕ
-size_by c = if c == 54 then 1 else if c == 50 then 2 else if c == 52 then 3 else 0
-
-unfoldable pub size_of : List ℕ → ℕ
-size_of suffix = size_by (get_or suffix (length suffix - 1) 0)
-
 abbrev pub read_operands : List ℕ → List Tok → Operands
 read_operands suffix ts = record {
   is_bare = length ts == 0;
@@ -88,28 +54,6 @@ read_operands suffix ts = record {
   fifth = value (operand 4 ts);
 }
 
--- ADDRESSES
-abbrev pub first_of : List Tok → Tok
-first_of [] = number 0
-first_of (t ∷ ts) = t
-
--- the token behind the first mark c; a number where there is none
-abbrev pub behind : ℕ → List Tok → Tok
-behind c [] = number 0
-behind c (t ∷ ts) = if is_the_mark c t then first_of ts else behind c ts
-
--- 0 where a minus sign stands behind `#`
-abbrev pub added : List Tok → ℕ
-added ts = if is_the_mark 45 (behind 35 ts) then 0 else 1
-
--- 0 where a comma stands behind `]`
-abbrev pub before : List Tok → ℕ
-before ts = if is_the_mark 44 (behind 93 ts) then 0 else 1
-
--- 1 where a comma or `!` stands there
-abbrev pub back_in : List Tok → ℕ
-back_in ts = if is_the_mark 44 (behind 93 ts) then 1 else if is_the_mark 33 (behind 93 ts) then 1 else 0
-
 abbrev pub read_places : List Tok → Places
 read_places ts = record {
   third_is_number = is_number (operand 2 ts);
@@ -122,30 +66,6 @@ read_places ts = record {
   before = before ts;
   back = back_in ts;
 }
-
--- LISTS
--- the bit of a register in a list
-abbrev pub bit_or_none : Option ℕ → ℕ
-bit_or_none (Some n) = 2 ^ n
-bit_or_none None = 0
-
-unfoldable pub bit_in : List ℕ → ℕ
-bit_in w = bit_or_none (register_in w)
-
-abbrev pub token_bit : Tok → ℕ
-token_bit (word w) = bit_in w
-token_bit (number n) = 0
-token_bit (mark c) = 0
-
--- the bits of all registers that are named
-unfoldable pub bits_of : List Tok → ℕ
-bits_of [] = 0
-bits_of (t ∷ ts) = min (token_bit t + bits_of ts) 0xffff
-
--- what stands behind the first `{`
-unfoldable pub braced : List Tok → List Tok
-braced [] = []
-braced (t ∷ ts) = if is_the_mark 123 t then ts else braced ts
 
 -- 1 where `!` stands behind the first token
 abbrev pub second_bang : List Tok → ℕ

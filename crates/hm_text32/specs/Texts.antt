@@ -2,8 +2,8 @@
 use Rattle.std.specs.Prelude.{◌≡◌, ◌⊎◌, ℕ, List, Option, Some, None, if◌then◌else◌}
 use Rattle.hm_isa.specs.declared.Instr.{Instr}
 use Rattle.hm_enc32.specs.Table.{IsWide}
-use Rattle.hm_text_rows.specs.Labels.{IsLabel, NamesTarget, Reaches}
-use Rattle.hm_tokens.specs.Lines.{IsLineOf, printed, printed_at}
+use Rattle.hm_text_rows.specs.Labels.{IsLabel, NamesTarget, Reaches, printed_with}
+use Rattle.hm_tokens.specs.Lines.{IsLineOf}
 use Rattle.hm_tokens.specs.Ranges.{normal}
 use Rattle.hm_tokens.specs.Tokens.{Tok}
 use Rattle.hm_text32.specs.Rows.{has_label, other_tokens, row_tokens, tokens_of}
@@ -40,5 +40,4 @@ pub record IsTextOf (text : List ℕ) (pc : ℕ) (labels : List ℕ → Option �
 -- PRINTED
 -- the text of a row as it is printed: of one with a label, with the address that this names
 abbrev pub text_of : Instr → Option ℕ → List ℕ
-text_of i (Some a) = printed_at (row_tokens i) a
-text_of i None = printed (row_tokens i)
+text_of i o = printed_with (row_tokens i) o

@@ -1,14 +1,9 @@
 //! Stems of mnemonics: the codes that their rows begin from.
 
-ghost use Rattle.std.specs.Prelude.{◌≡◌, bytes_eq};
-ghost use Rattle.hm_text32.specs.Bases.{access_base_in, accumulate_base_in, barrier_base_in, branch_base_in, branch_condition_in, data_base_in, extend_base_in, extract_base_in, flagged_base_in, half_base_in, list_base_in, long_base_in, move_base_in, pair_base_in, select_base_in, stack_base_in, table_base_in, test_base_in, three_base, turn_base_in, two_base, wide_sum_base_in};
+ghost use Rattle.std.specs.Prelude.{◌≡◌};
+ghost use Rattle.hm_text32.specs.Bases.{access_base_in, accumulate_base_in, barrier_base_in, branch_base_in, data_base_in, extend_base_in, extract_base_in, flagged_base_in, half_base_in, list_base_in, long_base_in, move_base_in, pair_base_in, select_base_in, stack_base_in, table_base_in, test_base_in, three_base, turn_base_in, two_base, wide_sum_base_in};
 
-/// Whether a stem is this one.
-pub fn is(stem: &[u8], name: &str) -> bool
-    ensures { result ≡ bytes_eq stem.now name.now }
-{
-    stem == name.as_bytes()
-}
+use hm_text_rows::is;
 
 /// Of a row T2 of three registers.
 pub fn data_base_in(stem: &[u8]) -> Option<u32>
@@ -431,55 +426,6 @@ pub fn list_base_in(stem: &[u8]) -> Option<u32>
     }
     if is(stem, "ldmdb") {
         return Some(0xe910_0000);
-    }
-    None
-}
-
-/// The condition of a branch.
-pub fn branch_condition_in(stem: &[u8]) -> Option<u32>
-    ensures { result ≡ branch_condition_in stem.now }
-{
-    if is(stem, "beq") {
-        return Some(0);
-    }
-    if is(stem, "bne") {
-        return Some(1);
-    }
-    if is(stem, "bcs") {
-        return Some(2);
-    }
-    if is(stem, "bcc") {
-        return Some(3);
-    }
-    if is(stem, "bmi") {
-        return Some(4);
-    }
-    if is(stem, "bpl") {
-        return Some(5);
-    }
-    if is(stem, "bvs") {
-        return Some(6);
-    }
-    if is(stem, "bvc") {
-        return Some(7);
-    }
-    if is(stem, "bhi") {
-        return Some(8);
-    }
-    if is(stem, "bls") {
-        return Some(9);
-    }
-    if is(stem, "bge") {
-        return Some(10);
-    }
-    if is(stem, "blt") {
-        return Some(11);
-    }
-    if is(stem, "bgt") {
-        return Some(12);
-    }
-    if is(stem, "ble") {
-        return Some(13);
     }
     None
 }

@@ -5,10 +5,10 @@ ghost use Rattle.hm_text32.specs.Codes.{ahead, always_code, behind_it, code_alwa
 ghost use Rattle.hm_text_base.specs.Spans.{span};
 ghost use Rattle.hm_tokens.specs.Tokens.{tok};
 
-use crate::bases::{branch_base_in, branch_condition_in, is};
-use crate::operands::{operand, size_of, value};
+use crate::bases::branch_base_in;
+use crate::operands::value;
 use hm_text_base::span;
-use hm_text_rows::distance;
+use hm_text_rows::{branch_condition_in, distance, is, operand, size_of};
 use hm_tokens::Token;
 
 /// A row T16 with a condition, at half the distance f.

@@ -6,8 +6,9 @@ ghost use Rattle.hm_text_base.specs.Spans.{span};
 ghost use Rattle.hm_tokens.specs.Tokens.{tok};
 
 use crate::bases::{access_base_in, list_base_in, pair_base_in};
-use crate::operands::{Places, braced_bits, operand, read_places, second_bang, value};
+use crate::operands::{Places, read_places, second_bang, value};
 use hm_text_base::span;
+use hm_text_rows::{braced_bits, operand};
 use hm_tokens::Token;
 
 /// A row T12 with an index.

@@ -95,7 +95,13 @@ few_in_room : (ts : List Tok) → 2 * length ts ≤ room ts
 few_in_room [] = omega arith
 few_in_room (t ∷ ts) = omega (arith, some_size t, few_in_room ts)
 
--- what is proved of the text of a row
+-- a text is printed in 96 bytes, and read back
+pub record IsReadBack (ts : List Tok) : Type 0 where
+  pub again : IsLineOf (printed ts) ts
+  pub room : length (printed ts) ≤ 96
+  pub few : length ts ≤ 40
+
+-- and it has no range of registers
 pub record IsPrinted (ts : List Tok) : Type 0 where
   pub again : IsLineOf (printed ts) ts
   pub room : length (printed ts) ≤ 96
@@ -108,14 +114,18 @@ room_of name (t ∷ ts) short are le =
     let all = spelled_short (t ∷ ts) false are in
     omega (arith, all, length-append name (32 ∷ spelled (t ∷ ts)))
 
--- tokens that may have a `-`, but have no range of registers
-pub is_printed_as : (s suffix : List ℕ) (ts : List Tok) → is_stem s ≡ true → is_suffix suffix ≡ true → AreShort ts → are_apart ts ≡ true → room ts ≤ 78 → normal (word (s ++ suffix) ∷ ts) ≡ word (s ++ suffix) ∷ ts → IsPrinted (word (s ++ suffix) ∷ ts)
-is_printed_as s suffix ts stem behind are apart le same = record {
+pub is_read_back : (s suffix : List ℕ) (ts : List Tok) → is_stem s ≡ true → is_suffix suffix ≡ true → AreShort ts → are_apart ts ≡ true → room ts ≤ 78 → IsReadBack (word (s ++ suffix) ∷ ts)
+is_read_back s suffix ts stem behind are apart le = record {
   again = printed_again ts (tokens_of_short ts are) (word (s ++ suffix)) (mnemonic_token s suffix stem behind) apart;
   room = let r = room_of (s ++ suffix) ts (mnemonic_short s suffix stem behind) are le in omega (arith, r);
-  ranges = same;
   few = omega (arith, few_in_room ts, le);
 }
+
+-- tokens that may have a `-`, but have no range of registers
+pub is_printed_as : (s suffix : List ℕ) (ts : List Tok) → is_stem s ≡ true → is_suffix suffix ≡ true → AreShort ts → are_apart ts ≡ true → room ts ≤ 78 → normal (word (s ++ suffix) ∷ ts) ≡ word (s ++ suffix) ∷ ts → IsPrinted (word (s ++ suffix) ∷ ts)
+is_printed_as s suffix ts stem behind are apart le same =
+    let back = is_read_back s suffix ts stem behind are apart le in
+    record { again = back.again; room = back.room; ranges = same; few = back.few }
 
 pub is_printed : (s suffix : List ℕ) (ts : List Tok) → is_stem s ≡ true → is_suffix suffix ≡ true → AreShort ts → are_apart ts ≡ true → room ts ≤ 78 → has_no_ranges ts ≡ true → IsPrinted (word (s ++ suffix) ∷ ts)
 is_printed s suffix ts stem behind are apart le none = is_printed_as s suffix ts stem behind are apart le (normal_same (word (s ++ suffix) ∷ ts) none)

@@ -56,12 +56,12 @@ again_of false row None labels p given = record {
   names = tt;
 }
 
-pub shown_room : (b : Bool) (row : List Tok) (o : Option ℕ) → IsPrintedRow b row → IsGiven b o → length (printed_with row o) ≤ 96
-shown_room true row (Some a) p lt = p.room a
-shown_room true row None p given = absurd given
-shown_room false row (Some a) p given = absurd given
-shown_room false row None p given = p.room
+pub room_of : (b : Bool) (row : List Tok) (o : Option ℕ) → IsPrintedRow b row → IsGiven b o → length (printed_with row o) ≤ 96
+room_of true row (Some a) p lt = p.room a
+room_of true row None p given = absurd given
+room_of false row (Some a) p given = absurd given
+room_of false row None p given = p.room
 
-pub few_tokens : (b : Bool) (row : List Tok) (t : Tok) → IsPrintedRow b row → length (cond b (row ++ t ∷ []) row) ≤ 40
-few_tokens true row t p = let f = p.few in omega (arith, f, length-append row (t ∷ []))
-few_tokens false row t p = p.few
+pub few_of : (b : Bool) (row : List Tok) (t : Tok) → IsPrintedRow b row → length (cond b (row ++ t ∷ []) row) ≤ 40
+few_of true row t p = let f = p.few in omega (arith, f, length-append row (t ∷ []))
+few_of false row t p = p.few

@@ -8,6 +8,11 @@ abbrev pub given_or : Option ℕ → ℕ → ℕ
 given_or (Some n) d = n
 given_or None d = d
 
+-- the first of two that is there
+abbrev pub first : Option ℕ → Option ℕ → Option ℕ
+first (Some w) o = Some w
+first None o = o
+
 abbrev pub is_given : Option ℕ → Bool
 is_given (Some n) = true
 is_given None = false

@@ -4,12 +4,15 @@ use Rattle.std.specs.Prelude.{codes, nat_eq}
 use Rattle.hm_tokens.specs.Names.{register_name, vector_name}
 use Rattle.hm_tokens.specs.Tokens.{word}
 use Rattle.hm_textv.specs.declared.operands.Operands.{Operands}
-use Rattle.hm_textv.specs.Operands.{is_vector_name, word_value}
-use Rattle.hm_textv.specs.Rows.{access, at_offsets, indexed, r, turns}
-use Rattle.hm_textv.proofs.Words.{cut, is_stem, value_q, value_r, vector_q, vector_r, word_q, word_r}
+use Rattle.hm_textv.specs.Operands.{word_value}
+use Rattle.hm_text_rows.specs.Operands.{is_vector_name}
+use Rattle.hm_text_rows.specs.Shapes.{indexed, r}
+use Rattle.hm_text_rows.proofs.Words.{cut, is_stem, word_q, word_r}
+use Rattle.hm_text_rows.proofs.Printed.{is_read_back, short_bang, short_close, short_close_brace, short_comma, short_hash, short_minus, short_open, short_open_brace, short_word}
+use Rattle.hm_textv.specs.Rows.{access, at_offsets, turns}
+use Rattle.hm_textv.proofs.Words.{value_q, value_r, vector_q, vector_r}
 use Rattle.hm_textv.proofs.Endings.{Suffix}
-use Rattle.hm_textv.proofs.Forms.{Operand, Reads, min_small}
-use Rattle.hm_textv.proofs.Printed.{is_printed, short_bang, short_close, short_close_brace, short_comma, short_hash, short_minus, short_number, short_open, short_open_brace, short_word}
+use Rattle.hm_textv.proofs.Forms.{Operand, Reads, min_small, short_small}
 
 -- the operands, whether the third and the one behind `[` are vector registers, and how an offset is used
 abbrev pub given_access : ℕ → ℕ → Bool → Bool → ℕ → ℕ → ℕ → ℕ → ℕ → ℕ → ℕ → ℕ → Operands
@@ -35,27 +38,27 @@ pub reads_indexed : (s f base : List ℕ) (u z d m p a w n : ℕ) (t : Bool) →
 reads_indexed s f base u z d m zero a zero n t stem g hd o hn hp ha hw some = absurd (omega arith)
 reads_indexed s f base u z d m zero zero (suc zero) n t stem g hd o hn hp ha hw some = record {
   asks = rw (cut s f stem g.is, g.bare, g.sign, g.size, o.vector, value_q d hd, o.value, min_small n hn) refl;
-  prints = is_printed s f _ stem g.is (short_word (vector_name d) (word_q d hd), (short_comma, (short_open, (short_word base o.is, (short_close, (short_comma, (short_hash, (short_minus, (short_number n hn, tt))))))))) refl (omega arith);
+  prints = is_read_back s f _ stem g.is (short_word (vector_name d) (word_q d hd), (short_comma, (short_open, (short_word base o.is, (short_close, (short_comma, (short_hash, (short_minus, (short_small n hn, tt))))))))) refl (omega arith);
 }
 reads_indexed s f base u z d m zero (suc zero) (suc zero) n t stem g hd o hn hp ha hw some = record {
   asks = rw (cut s f stem g.is, g.bare, g.sign, g.size, o.vector, value_q d hd, o.value, min_small n hn) refl;
-  prints = is_printed s f _ stem g.is (short_word (vector_name d) (word_q d hd), (short_comma, (short_open, (short_word base o.is, (short_close, (short_comma, (short_hash, (short_number n hn, tt)))))))) refl (omega arith);
+  prints = is_read_back s f _ stem g.is (short_word (vector_name d) (word_q d hd), (short_comma, (short_open, (short_word base o.is, (short_close, (short_comma, (short_hash, (short_small n hn, tt)))))))) refl (omega arith);
 }
 reads_indexed s f base u z d m (suc zero) zero zero n t stem g hd o hn hp ha hw some = record {
   asks = rw (cut s f stem g.is, g.bare, g.sign, g.size, o.vector, value_q d hd, o.value, min_small n hn) refl;
-  prints = is_printed s f _ stem g.is (short_word (vector_name d) (word_q d hd), (short_comma, (short_open, (short_word base o.is, (short_comma, (short_hash, (short_minus, (short_number n hn, (short_close, tt))))))))) refl (omega arith);
+  prints = is_read_back s f _ stem g.is (short_word (vector_name d) (word_q d hd), (short_comma, (short_open, (short_word base o.is, (short_comma, (short_hash, (short_minus, (short_small n hn, (short_close, tt))))))))) refl (omega arith);
 }
 reads_indexed s f base u z d m (suc zero) (suc zero) zero n t stem g hd o hn hp ha hw some = record {
   asks = rw (cut s f stem g.is, g.bare, g.sign, g.size, o.vector, value_q d hd, o.value, min_small n hn) refl;
-  prints = is_printed s f _ stem g.is (short_word (vector_name d) (word_q d hd), (short_comma, (short_open, (short_word base o.is, (short_comma, (short_hash, (short_number n hn, (short_close, tt)))))))) refl (omega arith);
+  prints = is_read_back s f _ stem g.is (short_word (vector_name d) (word_q d hd), (short_comma, (short_open, (short_word base o.is, (short_comma, (short_hash, (short_small n hn, (short_close, tt)))))))) refl (omega arith);
 }
 reads_indexed s f base u z d m (suc zero) zero (suc zero) n t stem g hd o hn hp ha hw some = record {
   asks = rw (cut s f stem g.is, g.bare, g.sign, g.size, o.vector, value_q d hd, o.value, min_small n hn) refl;
-  prints = is_printed s f _ stem g.is (short_word (vector_name d) (word_q d hd), (short_comma, (short_open, (short_word base o.is, (short_comma, (short_hash, (short_minus, (short_number n hn, (short_close, (short_bang, tt)))))))))) refl (omega arith);
+  prints = is_read_back s f _ stem g.is (short_word (vector_name d) (word_q d hd), (short_comma, (short_open, (short_word base o.is, (short_comma, (short_hash, (short_minus, (short_small n hn, (short_close, (short_bang, tt)))))))))) refl (omega arith);
 }
 reads_indexed s f base u z d m (suc zero) (suc zero) (suc zero) n t stem g hd o hn hp ha hw some = record {
   asks = rw (cut s f stem g.is, g.bare, g.sign, g.size, o.vector, value_q d hd, o.value, min_small n hn) refl;
-  prints = is_printed s f _ stem g.is (short_word (vector_name d) (word_q d hd), (short_comma, (short_open, (short_word base o.is, (short_comma, (short_hash, (short_number n hn, (short_close, (short_bang, tt))))))))) refl (omega arith);
+  prints = is_read_back s f _ stem g.is (short_word (vector_name d) (word_q d hd), (short_comma, (short_open, (short_word base o.is, (short_comma, (short_hash, (short_small n hn, (short_close, (short_bang, tt))))))))) refl (omega arith);
 }
 reads_indexed s f base u z d m (suc (suc p)) a w n t stem g hd o hn hp ha hw some = absurd (omega arith)
 reads_indexed s f base u z d m p (suc (suc a)) w n t stem g hd o hn hp ha hw some = absurd (omega arith)
@@ -70,13 +73,13 @@ pub reads_at_offsets : (s f : List ℕ) (u z d n m o y : ℕ) → is_stem s ≡ 
     → Reads (access (s ++ f) d (at_offsets (r n) m o y)) s (given_access u z true false 1 1 0 d n m o (cond (nat_eq o 0) 0 y))
 reads_at_offsets s f u z d n m zero y stem g hd hn hm ho hy = record {
   asks = rw (cut s f stem g.is, g.bare, g.sign, g.size, vector_q m hm, vector_r n hn, value_q d hd, value_r n hn, value_q m hm) refl;
-  prints = is_printed s f _ stem g.is (short_word (vector_name d) (word_q d hd), (short_comma, (short_open, (short_word (register_name n) (word_r n hn), (short_comma, (short_word (vector_name m) (word_q m hm), (short_close, tt))))))) refl (omega arith);
+  prints = is_read_back s f _ stem g.is (short_word (vector_name d) (word_q d hd), (short_comma, (short_open, (short_word (register_name n) (word_r n hn), (short_comma, (short_word (vector_name m) (word_q m hm), (short_close, tt))))))) refl (omega arith);
 }
 reads_at_offsets s f u z d n m (suc zero) y stem g hd hn hm ho hy = record {
   asks = rw (cut s f stem g.is, g.bare, g.sign, g.size, vector_q m hm, vector_r n hn, value_q d hd, value_r n hn, value_q m hm, uxtw.value, min_small y hy) refl;
   prints =
-      is_printed s f _ stem g.is
-      (short_word (vector_name d) (word_q d hd), (short_comma, (short_open, (short_word (register_name n) (word_r n hn), (short_comma, (short_word (vector_name m) (word_q m hm), (short_comma, (short_word (codes "uxtw") uxtw.is, (short_hash, (short_number y hy, (short_close, tt)))))))))))
+      is_read_back s f _ stem g.is
+      (short_word (vector_name d) (word_q d hd), (short_comma, (short_open, (short_word (register_name n) (word_r n hn), (short_comma, (short_word (vector_name m) (word_q m hm), (short_comma, (short_word (codes "uxtw") uxtw.is, (short_hash, (short_small y hy, (short_close, tt)))))))))))
       refl (omega arith);
 }
 reads_at_offsets s f u z d n m (suc (suc o)) y stem g hd hn hm ho hy = absurd (omega arith)
@@ -87,14 +90,14 @@ pub reads_pair : (s f : List ℕ) (z d n w : ℕ) → is_stem s ≡ true → Suf
 reads_pair s f z d n zero stem g hd hn hw = record {
   asks = rw (cut s f stem g.is, g.bare, g.sign, g.size, vector_r n hn, value_q d (omega arith), value_q (d + 1) (omega arith), value_r n hn) refl;
   prints =
-      is_printed s f _ stem g.is
+      is_read_back s f _ stem g.is
       (short_open_brace, (short_word (vector_name d) (word_q d (omega arith)), (short_comma, (short_word (vector_name (d + 1)) (word_q (d + 1) (omega arith)), (short_close_brace, (short_comma, (short_open, (short_word (register_name n) (word_r n hn), (short_close, tt)))))))))
       refl (omega arith);
 }
 reads_pair s f z d n (suc zero) stem g hd hn hw = record {
   asks = rw (cut s f stem g.is, g.bare, g.sign, g.size, vector_r n hn, value_q d (omega arith), value_q (d + 1) (omega arith), value_r n hn) refl;
   prints =
-      is_printed s f _ stem g.is
+      is_read_back s f _ stem g.is
       (short_open_brace, (short_word (vector_name d) (word_q d (omega arith)), (short_comma, (short_word (vector_name (d + 1)) (word_q (d + 1) (omega arith)), (short_close_brace, (short_comma, (short_open, (short_word (register_name n) (word_r n hn), (short_close, (short_bang, tt))))))))))
       refl (omega arith);
 }
@@ -106,14 +109,14 @@ pub reads_quad : (s f : List ℕ) (z d n w : ℕ) → is_stem s ≡ true → Suf
 reads_quad s f z d n zero stem g hd hn hw = record {
   asks = rw (cut s f stem g.is, g.bare, g.sign, g.size, vector_q (d + 2) (omega arith), vector_r n hn, value_q d (omega arith), value_q (d + 1) (omega arith), value_q (d + 2) (omega arith), value_q (d + 3) (omega arith), value_r n hn) refl;
   prints =
-      is_printed s f _ stem g.is
+      is_read_back s f _ stem g.is
       (short_open_brace, (short_word (vector_name d) (word_q d (omega arith)), (short_comma, (short_word (vector_name (d + 1)) (word_q (d + 1) (omega arith)), (short_comma, (short_word (vector_name (d + 2)) (word_q (d + 2) (omega arith)), (short_comma, (short_word (vector_name (d + 3)) (word_q (d + 3) (omega arith)), (short_close_brace, (short_comma, (short_open, (short_word (register_name n) (word_r n hn), (short_close, tt)))))))))))))
       refl (omega arith);
 }
 reads_quad s f z d n (suc zero) stem g hd hn hw = record {
   asks = rw (cut s f stem g.is, g.bare, g.sign, g.size, vector_q (d + 2) (omega arith), vector_r n hn, value_q d (omega arith), value_q (d + 1) (omega arith), value_q (d + 2) (omega arith), value_q (d + 3) (omega arith), value_r n hn) refl;
   prints =
-      is_printed s f _ stem g.is
+      is_read_back s f _ stem g.is
       (short_open_brace, (short_word (vector_name d) (word_q d (omega arith)), (short_comma, (short_word (vector_name (d + 1)) (word_q (d + 1) (omega arith)), (short_comma, (short_word (vector_name (d + 2)) (word_q (d + 2) (omega arith)), (short_comma, (short_word (vector_name (d + 3)) (word_q (d + 3) (omega arith)), (short_close_brace, (short_comma, (short_open, (short_word (register_name n) (word_r n hn), (short_close, (short_bang, tt))))))))))))))
       refl (omega arith);
 }

@@ -8,21 +8,7 @@ use Rattle.hm_layout.proofs.Bits.{Known, Matches, both_left, both_right, matches
 use Rattle.hm_layout.proofs.Coded.{Kind, Member}
 use Rattle.hm_layout.proofs.Lengths.{all_kinds}
 use Rattle.hm_codes.proofs.Vectors.{coded_vector}
-
-abbrev has_32 : Kind → Bool
-has_32 k = nat_le (length k.bits) 32
-
-kind_in : (test : Kind → Bool) (k : Kind) (ks : List Kind) → all_kinds test ks ≡ true → Member k ks → test k ≡ true
-kind_in test k [] e m = absurd m
-kind_in test k (l ∷ ks) e (inl f) = ap test f ∙ both_left _ _ e
-kind_in test k (l ∷ ks) e (inr m) = kind_in test k ks (both_right _ _ e) m
-
-below_32 : (bs : List Known) (n : ℕ) → nat_le (length bs) 32 ≡ true → Matches bs n → n < 2 ^ 32
-below_32 bs n e m =
-    let h : length bs ≤ 32 = grind (arith, nat_tests) in
-    let up : 2 ^ length bs ≤ 2 ^ 32 = pow_mono h in
-    let bound : n < 2 ^ length bs = matches_bound bs n m in
-    omega arith
+use Rattle.hm_text_rows.proofs.Fits.{below_32, has_32, kind_in}
 
 pub code_below : (v : Vector) → vector_code v < 2 ^ 32
 code_below v =

@@ -5,24 +5,27 @@ use Rattle.std.specs.Prelude.{min}
 use Rattle.hm_isa.specs.declared.Vector.{Vector}
 use Rattle.hm_isa.specs.Code.{vector_code}
 use Rattle.hm_tokens.specs.Names.{register_name, vector_name}
-use Rattle.hm_tokens.specs.Tokens.{Tok, word}
+use Rattle.hm_tokens.specs.Tokens.{Tok, word, number}
 use Rattle.hm_textv.specs.declared.operands.Operands.{Operands}
-use Rattle.hm_textv.specs.Operands.{is_vector_name, word_value}
+use Rattle.hm_textv.specs.Operands.{word_value}
+use Rattle.hm_text_rows.specs.Operands.{is_vector_name}
+use Rattle.hm_text_rows.specs.Shapes.{and_constant, comma, constant, four, three, two}
+use Rattle.hm_text_rows.proofs.Words.{cut, is_name, is_stem, word_q, word_r}
+use Rattle.hm_text_rows.proofs.Printed.{IsReadBack, IsShort, is_read_back, short_comma, short_hash, short_number, short_word}
 use Rattle.hm_textv.specs.Codes.{code_in, code_of}
-use Rattle.hm_textv.specs.Rows.{and_constant, comma, constant, four, shifted, three, tokens_of, two}
-use Rattle.hm_textv.proofs.Words.{cut, is_stem, is_name, value_q, value_r, vector_q, vector_r, word_q, word_r}
+use Rattle.hm_textv.specs.Rows.{shifted, tokens_of}
+use Rattle.hm_textv.proofs.Words.{value_q, value_r, vector_q, vector_r}
 use Rattle.hm_textv.proofs.Endings.{Suffix}
-use Rattle.hm_textv.proofs.Printed.{IsPrinted, is_printed, short_comma, short_hash, short_number, short_word}
 
 -- tokens with this stem and these operands
 pub record Reads (ts : List Tok) (s : List ℕ) (o : Operands) : Type 0 where
   pub asks : code_in ts ≡ code_of s o
-  pub prints : IsPrinted ts
+  pub prints : IsReadBack ts
 
 -- a text asks for a code, and is printed and read back
 pub record Answers (ts : List Tok) (c : ℕ) : Type 0 where
   pub asks : code_in ts ≡ Some c
-  pub prints : IsPrinted ts
+  pub prints : IsReadBack ts
 
 pub answers_of : (ts : List Tok) (c : ℕ) (s : List ℕ) (o : Operands) → Reads ts s o → code_of s o ≡ Some c → Answers ts c
 answers_of ts c s o reads e = record { asks = reads.asks ∙ e; prints = reads.prints }
@@ -63,27 +66,30 @@ a_vector d lt = record { value = value_q d lt; vector = vector_q d lt; is = word
 pub a_register : (n : ℕ) → n < 16 → Operand (register_name n) n false
 a_register n lt = record { value = value_r n lt; vector = vector_r n lt; is = word_r n lt }
 
+pub short_small : (n : ℕ) → n < 1000 → IsShort (number n)
+short_small n lt = short_number n (omega (arith, lt))
+
 pub min_small : (n : ℕ) → n < 1000 → min n 0xffff_ffff ≡ n
 min_small n lt = omega arith
 
 pub reads_none : (s : List ℕ) → is_stem s ≡ true → Suffix [] true 0 0 → Reads (word (s ++ []) ∷ []) s (given true 0 0 false 0 0 0 0)
 reads_none s stem f = record {
   asks = rw (cut s [] stem f.is, f.sign, f.size) refl;
-  prints = is_printed s [] [] stem f.is tt refl (omega arith);
+  prints = is_read_back s [] [] stem f.is tt refl (omega arith);
 }
 
 pub reads_one : (s f w : List ℕ) (bare b : Bool) (u z a : ℕ) → is_stem s ≡ true → Suffix f bare u z → Operand w a b
     → Reads (word (s ++ f) ∷ word w ∷ []) s (given bare u z false a 0 0 0)
 reads_one s f w bare b u z a stem g p = record {
   asks = rw (cut s f stem g.is, g.bare, g.sign, g.size, p.value) refl;
-  prints = is_printed s f _ stem g.is (short_word w p.is, tt) refl (omega arith);
+  prints = is_read_back s f _ stem g.is (short_word w p.is, tt) refl (omega arith);
 }
 
 pub reads_two : (s f w x : List ℕ) (bare b c : Bool) (u z m n : ℕ) → is_stem s ≡ true → Suffix f bare u z → Operand w m b → Operand x n c
     → Reads (two (s ++ f) (word w) (word x)) s (given bare u z false m n 0 0)
 reads_two s f w x bare b c u z m n stem g p o = record {
   asks = rw (cut s f stem g.is, g.bare, g.sign, g.size, p.value, o.value) refl;
-  prints = is_printed s f _ stem g.is (short_word w p.is, (short_comma, (short_word x o.is, tt))) refl (omega arith);
+  prints = is_read_back s f _ stem g.is (short_word w p.is, (short_comma, (short_word x o.is, tt))) refl (omega arith);
 }
 
 pub reads_two_constant : (s f w x : List ℕ) (bare b c : Bool) (u z m n k : ℕ) → is_stem s ≡ true → Suffix f bare u z → Operand w m b → Operand x n c → k < 1000
@@ -91,7 +97,7 @@ pub reads_two_constant : (s f w x : List ℕ) (bare b c : Bool) (u z m n k : ℕ
 reads_two_constant s f w x bare b c u z m n k stem g p o lt = record {
   asks = rw (cut s f stem g.is, g.bare, g.sign, g.size, p.value, o.value, min_small k lt) refl;
   prints =
-      is_printed s f _ stem g.is (short_word w p.is, (short_comma, (short_word x o.is, (short_comma, (short_hash, (short_number k lt, tt)))))) refl (omega arith);
+      is_read_back s f _ stem g.is (short_word w p.is, (short_comma, (short_word x o.is, (short_comma, (short_hash, (short_small k lt, tt)))))) refl (omega arith);
 }
 
 pub reads_three : (s f w x y : List ℕ) (bare b c e : Bool) (u z m n l : ℕ) → is_stem s ≡ true → Suffix f bare u z → Operand w m b → Operand x n c → Operand y l e
@@ -99,7 +105,7 @@ pub reads_three : (s f w x y : List ℕ) (bare b c e : Bool) (u z m n l : ℕ) �
 reads_three s f w x y bare b c e u z m n l stem g p o t = record {
   asks = rw (cut s f stem g.is, g.bare, g.sign, g.size, t.vector, p.value, o.value, t.value) refl;
   prints =
-      is_printed s f _ stem g.is (short_word w p.is, (short_comma, (short_word x o.is, (short_comma, (short_word y t.is, tt))))) refl (omega arith);
+      is_read_back s f _ stem g.is (short_word w p.is, (short_comma, (short_word x o.is, (short_comma, (short_word y t.is, tt))))) refl (omega arith);
 }
 
 pub reads_three_constant : (s f w x y : List ℕ) (bare b c e : Bool) (u z m n l k : ℕ) → is_stem s ≡ true → Suffix f bare u z → Operand w m b → Operand x n c → Operand y l e → k < 1000
@@ -107,8 +113,8 @@ pub reads_three_constant : (s f w x y : List ℕ) (bare b c e : Bool) (u z m n l
 reads_three_constant s f w x y bare b c e u z m n l k stem g p o t lt = record {
   asks = rw (cut s f stem g.is, g.bare, g.sign, g.size, t.vector, p.value, o.value, t.value, min_small k lt) refl;
   prints =
-      is_printed s f _ stem g.is
-      (short_word w p.is, (short_comma, (short_word x o.is, (short_comma, (short_word y t.is, (short_comma, (short_hash, (short_number k lt, tt)))))))) refl (omega arith);
+      is_read_back s f _ stem g.is
+      (short_word w p.is, (short_comma, (short_word x o.is, (short_comma, (short_word y t.is, (short_comma, (short_hash, (short_small k lt, tt)))))))) refl (omega arith);
 }
 
 pub reads_four : (s f w x y v : List ℕ) (bare b c e h : Bool) (u z m n l k : ℕ) → is_stem s ≡ true → Suffix f bare u z → Operand w m b → Operand x n c → Operand y l e → Operand v k h
@@ -116,7 +122,7 @@ pub reads_four : (s f w x y v : List ℕ) (bare b c e h : Bool) (u z m n l k : �
 reads_four s f w x y v bare b c e h u z m n l k stem g p o t i = record {
   asks = rw (cut s f stem g.is, g.bare, g.sign, g.size, t.vector, p.value, o.value, t.value, i.value) refl;
   prints =
-      is_printed s f _ stem g.is
+      is_read_back s f _ stem g.is
       (short_word w p.is, (short_comma, (short_word x o.is, (short_comma, (short_word y t.is, (short_comma, (short_word v i.is, tt))))))) refl (omega arith);
 }
 
@@ -124,7 +130,7 @@ pub reads_constant : (s f w : List ℕ) (bare b : Bool) (u z m x : ℕ) → is_s
     → Reads (word (s ++ f) ∷ word w ∷ comma ∷ constant x) s (given bare u z false m x 0 0)
 reads_constant s f w bare b u z m x stem g p lt = record {
   asks = rw (cut s f stem g.is, g.bare, g.sign, g.size, p.value, min_small x lt) refl;
-  prints = is_printed s f _ stem g.is (short_word w p.is, (short_comma, (short_hash, (short_number x lt, tt)))) refl (omega arith);
+  prints = is_read_back s f _ stem g.is (short_word w p.is, (short_comma, (short_hash, (short_small x lt, tt)))) refl (omega arith);
 }
 
 pub reads_shifted : (s f kind : List ℕ) (bare b : Bool) (u z d x v n : ℕ) → is_stem s ≡ true → Suffix f bare u z → d < 8 → Operand kind v b → x < 1000 → n < 1000
@@ -132,8 +138,8 @@ pub reads_shifted : (s f kind : List ℕ) (bare b : Bool) (u z d x v n : ℕ) �
 reads_shifted s f kind bare b u z d x v n stem g hd o hx hn = record {
   asks = rw (cut s f stem g.is, g.bare, g.sign, g.size, o.vector, value_q d hd, min_small x hx, o.value, min_small n hn) refl;
   prints =
-      is_printed s f _ stem g.is
-      (short_word (vector_name d) (word_q d hd), (short_comma, (short_hash, (short_number x hx, (short_comma, (short_word kind o.is, (short_hash, (short_number n hn, tt))))))))
+      is_read_back s f _ stem g.is
+      (short_word (vector_name d) (word_q d hd), (short_comma, (short_hash, (short_small x hx, (short_comma, (short_word kind o.is, (short_hash, (short_small n hn, tt))))))))
       refl (omega arith);
 }
 

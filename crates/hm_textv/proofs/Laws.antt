@@ -13,7 +13,8 @@ use Rattle.hm_text_base.proofs.Steps.{some_is, test_some}
 use Rattle.hm_tokens.specs.Lines.{IsLineOf, printed}
 use Rattle.hm_tokens.specs.Tokens.{Tok}
 use Rattle.hm_textv.specs.Codes.{code_of}
-use Rattle.hm_textv.specs.Rows.{HasTokens, IsTextOf, other_bitwise, other_tokens, q, tokens_of, two}
+use Rattle.hm_textv.specs.Rows.{HasTokens, IsTextOf, other_bitwise, other_tokens, tokens_of}
+use Rattle.hm_text_rows.specs.Shapes.{q, two}
 use Rattle.hm_textv.proofs.Endings.{no_suffix}
 use Rattle.hm_textv.proofs.Forms.{Answers, Row, a_vector, answers_of, given, reads_two}
 use Rattle.hm_textv.proofs.Pairs.{row_v1, row_v2, row_v3, row_v4, row_v5, row_v6, row_v7, row_v8, row_v9, row_v10}

@@ -25,8 +25,9 @@ use Rattle.hm_isa.specs.Standing.{◌↑◌}
 use Rattle.hm_tokens.specs.Tokens.{Tok}
 use Rattle.hm_textv.specs.Codes.{bits_in, code_of}
 use Rattle.hm_textv.specs.Rows.{long_part, shift_in, size_in}
-use Rattle.hm_textv.specs.Stems.{constant_shift_stem, constant_shift_suffix, either, integer, narrow_stem, narrow_suffix, one_stem, one_suffix, plain, reverse_stem, signed}
-use Rattle.hm_textv.proofs.Words.{below_holds, below_is, is_stem}
+use Rattle.hm_textv.specs.Stems.{constant_shift_stem, constant_shift_suffix, integer, narrow_stem, narrow_suffix, one_stem, one_suffix, plain, reverse_stem, signed}
+use Rattle.hm_text_rows.specs.Shapes.{either}
+use Rattle.hm_text_rows.proofs.Words.{below_holds, below_is, is_stem}
 use Rattle.hm_textv.proofs.Endings.{Suffix, no_suffix, suffix_by_sign, suffix_integer, suffix_plain, suffix_signed, suffix_unsigned}
 use Rattle.hm_textv.proofs.Forms.{Answers, Row, a_vector, answers_of, given, reads_two, reads_two_constant, row_of}
 

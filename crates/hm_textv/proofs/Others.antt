@@ -23,10 +23,12 @@ use Rattle.hm_tokens.specs.Names.{register_name}
 use Rattle.hm_tokens.specs.Tokens.{Tok, word}
 use Rattle.hm_textv.specs.declared.operands.Operands.{Operands}
 use Rattle.hm_textv.specs.Codes.{code_of, step_in}
-use Rattle.hm_textv.specs.Operands.{is_vector_name, word_value}
-use Rattle.hm_textv.specs.Rows.{compare_name, three}
+use Rattle.hm_textv.specs.Operands.{word_value}
+use Rattle.hm_text_rows.specs.Operands.{is_vector_name}
+use Rattle.hm_text_rows.specs.Shapes.{three}
+use Rattle.hm_text_rows.proofs.Words.{at_below, below_holds, below_is, is_name, is_stem}
+use Rattle.hm_textv.specs.Rows.{compare_name}
 use Rattle.hm_textv.specs.Stems.{block_letters, compare_condition, compare_suffix, offsets_stem, size_number, wrapped_stem}
-use Rattle.hm_textv.proofs.Words.{at_below, below_holds, below_is, is_stem, is_name}
 use Rattle.hm_textv.proofs.Endings.{Suffix, no_suffix, suffix_integer, suffix_plain, suffix_signed, suffix_unsigned}
 use Rattle.hm_textv.proofs.Forms.{Operand, Reads, Row, a_register, a_vector, given, reads_none, reads_one, reads_three, reads_three_constant, reads_two, reads_two_constant, row_of}
 

@@ -35,8 +35,9 @@ use Rattle.hm_isa.specs.Code.{add_base, bitwise_base, carry_base, doubling_base,
 use Rattle.hm_isa.specs.Rules.{is_signed_by}
 use Rattle.hm_isa.specs.Standing.{◌↑◌}
 use Rattle.hm_textv.specs.Codes.{code_of}
-use Rattle.hm_textv.specs.Stems.{add_stem, bitwise_stem, carry_stem, doubling_stem, either, high_stem, integer, scalar_stem, scalar_suffix, signed, signed_stem, turn_stem, turn_suffix, vector_shift_stem}
-use Rattle.hm_textv.proofs.Words.{is_stem}
+use Rattle.hm_textv.specs.Stems.{add_stem, bitwise_stem, carry_stem, doubling_stem, high_stem, integer, scalar_stem, scalar_suffix, signed, signed_stem, turn_stem, turn_suffix, vector_shift_stem}
+use Rattle.hm_text_rows.specs.Shapes.{either}
+use Rattle.hm_text_rows.proofs.Words.{is_stem}
 use Rattle.hm_textv.proofs.Endings.{Suffix, no_suffix, suffix_by_sign, suffix_integer, suffix_signed}
 use Rattle.hm_textv.proofs.Forms.{Row, a_register, a_vector, bare_three, given, reads_three, reads_three_constant, row_of}
 

@@ -13,9 +13,10 @@ use Rattle.hm_isa.specs.MemoryRules.{is_access, is_interleaved}
 use Rattle.hm_isa.specs.Standing.{◌↑◌}
 use Rattle.hm_textv.specs.declared.operands.Operands.{Operands}
 use Rattle.hm_textv.specs.Codes.{access_code, code_of}
-use Rattle.hm_textv.specs.Rows.{r, turns}
-use Rattle.hm_textv.specs.Stems.{access_stem, access_suffix, either, pair_stem, plain, quad_stem}
-use Rattle.hm_textv.proofs.Words.{at_below, below_holds, is_stem}
+use Rattle.hm_textv.specs.Rows.{turns}
+use Rattle.hm_text_rows.specs.Shapes.{either, r}
+use Rattle.hm_text_rows.proofs.Words.{at_below, below_holds, is_stem}
+use Rattle.hm_textv.specs.Stems.{access_stem, access_suffix, pair_stem, plain, quad_stem}
 use Rattle.hm_textv.proofs.Endings.{Suffix, suffix_by_sign, suffix_plain}
 use Rattle.hm_textv.proofs.Forms.{Answers, Row, a_register, a_vector, answers_of, row_of}
 use Rattle.hm_textv.proofs.Addresses.{given_access, reads_at_offsets, reads_indexed, reads_pair, reads_quad}

@@ -6,6 +6,7 @@ use Rattle.hm_isa.specs.Code.{dot_base, dup_base, mask_code}
 use Rattle.hm_isa.specs.Standing.{◌↑◌}
 use Rattle.hm_text_base.specs.Spans.{span}
 use Rattle.hm_tokens.specs.Tokens.{Tok, word, number, mark}
+use Rattle.hm_text_rows.specs.Operands.{first}
 use Rattle.hm_textv.specs.declared.operands.Operands.{Operands}
 use Rattle.hm_textv.specs.Bases.{block_in, carry_base_in, compare_in, constant_in, dot_in, extreme_base_in, left_base, long_dot_in, load_in, long_in, long_sum_in, narrow_base_in, offsets_base_in, pair_base, product_base, quad_base, right_base, scalar_base_in, single_base, store_in, sum_in, three_base, turn_base_in, vector_shift_base_in, wrapped_base_in}
 use Rattle.hm_textv.specs.Operands.{read_operands}
@@ -31,10 +32,6 @@ abbrev pub element_in : ℕ → Element
 element_in z = if z == 0 then element.Bytes else if z == 1 then element.Halves else element.Words
 
 -- ROWS, by their stems
-abbrev pub first : Option ℕ → Option ℕ → Option ℕ
-first (Some w) o = Some w
-first None o = o
-
 -- V1 to V3, V5 to V7, `vpsel`
 abbrev pub code_three : List ℕ → Operands → Option ℕ
 code_three s o =

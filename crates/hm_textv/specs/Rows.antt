@@ -23,35 +23,8 @@ use Rattle.hm_isa.specs.declared.vectors.ConstantShiftName.TheVariants as by_con
 use Rattle.hm_tokens.specs.Lines.{IsLineOf}
 use Rattle.hm_tokens.specs.Names.{register_name, vector_name}
 use Rattle.hm_tokens.specs.Tokens.{Tok, word, number, mark}
-use Rattle.hm_textv.specs.Stems.{access_stem, access_suffix, add_stem, bitwise_stem, block_letters, by_sign, carry_stem, compare_condition, compare_suffix, constant_shift_stem, constant_shift_suffix, doubling_stem, either, extreme_stem, high_stem, integer, narrow_stem, narrow_suffix, offsets_stem, one_stem, one_suffix, pair_stem, plain, quad_stem, reverse_stem, scalar_stem, scalar_suffix, signed, signed_stem, size_number, turn_stem, turn_suffix, unsigned, vector_shift_stem, wrapped_stem}
-
--- OPERANDS
-abbrev pub q : ℕ → Tok
-q d = word (vector_name d)
-
-abbrev pub r : ℕ → Tok
-r n = word (register_name n)
-
-abbrev pub comma : Tok
-comma = mark 44
-
--- `#n`
-abbrev pub constant : ℕ → List Tok
-constant n = mark 35 ∷ number n ∷ []
-
--- SHAPES
-abbrev pub two : List ℕ → Tok → Tok → List Tok
-two name a b = word name ∷ a ∷ comma ∷ b ∷ []
-
-abbrev pub three : List ℕ → Tok → Tok → Tok → List Tok
-three name a b c = word name ∷ a ∷ comma ∷ b ∷ comma ∷ c ∷ []
-
-abbrev pub four : List ℕ → Tok → Tok → Tok → Tok → List Tok
-four name a b c d = word name ∷ a ∷ comma ∷ b ∷ comma ∷ c ∷ comma ∷ d ∷ []
-
--- and a constant behind them
-abbrev pub and_constant : List Tok → ℕ → List Tok
-and_constant front n = front ++ comma ∷ constant n
+use Rattle.hm_text_rows.specs.Shapes.{and_constant, back, comma, constant, either, four, indexed, inside, or_zero, q, r, three, two}
+use Rattle.hm_textv.specs.Stems.{access_stem, access_suffix, add_stem, bitwise_stem, block_letters, by_sign, carry_stem, compare_condition, compare_suffix, constant_shift_stem, constant_shift_suffix, doubling_stem, extreme_stem, high_stem, integer, narrow_stem, narrow_suffix, offsets_stem, one_stem, one_suffix, pair_stem, plain, quad_stem, reverse_stem, scalar_stem, scalar_suffix, signed, signed_stem, size_number, turn_stem, turn_suffix, unsigned, vector_shift_stem, wrapped_stem}
 
 -- ROWS
 -- the size of elements that the highest bit of x tells, and how many bits they have
@@ -128,10 +101,6 @@ offsets_tokens (v19.Wrapped i) =
 abbrev pub compare_name : ℕ → ℕ → ℕ → List ℕ
 compare_name k c z = cond (nat_eq k 0) (codes "vcmp") (codes "vpt") ++ (block_letters k ++ compare_suffix c z)
 
--- as a second operand 15 is `zr`
-abbrev pub or_zero : ℕ → Tok
-or_zero n = word (cond (nat_eq n 15) (codes "zr") (register_name n))
-
 abbrev pub compare_tokens : CompareRow → List Tok
 compare_tokens (v20.Vectors i) = three (compare_name i.k.value i.c.value i.z.value) (word (compare_condition i.c.value)) (q i.n.value) (q i.m.value)
 compare_tokens (v20.Scalar i) = three (compare_name i.k.value i.c.value i.z.value) (word (compare_condition i.c.value)) (q i.n.value) (or_zero i.m.value)
@@ -152,28 +121,6 @@ sum_tokens (v22.LongDot i) =
     four (either i.a.value (codes "vmlaldav") (codes "vmlaldava") ++ by_sign i.u.value (i.s.value + 1)) (r (2 * i.l.value)) (r (2 * i.h.value + 1)) (q i.n.value) (q i.m.value)
 
 -- LOADS AND STORES
--- a minus sign, where the offset is taken away
-abbrev pub minus : ℕ → List Tok
-minus a = cond (nat_eq a 0) (mark 45 ∷ []) []
-
--- `!`, where the address is written back
-abbrev pub back : ℕ → List Tok
-back w = cond (nat_eq w 0) [] (mark 33 ∷ [])
-
--- `,#n`
-abbrev pub offset : ℕ → ℕ → List Tok
-offset a n = comma ∷ mark 35 ∷ (minus a ++ number n ∷ [])
-
--- `[base,#n]`, `[base,#n]!`, and where the offset goes to the base alone `[base],#n`
-abbrev pub inside : ℕ → ℕ → Tok → ℕ → List Tok
-inside a w base n = mark 91 ∷ base ∷ (offset a n ++ mark 93 ∷ back w)
-
-abbrev pub outside : ℕ → Tok → ℕ → List Tok
-outside a base n = mark 91 ∷ base ∷ mark 93 ∷ offset a n
-
-abbrev pub indexed : ℕ → ℕ → ℕ → Tok → ℕ → List Tok
-indexed p a w base n = cond (nat_eq p 0) (outside a base n) (inside a w base n)
-
 -- `[base,qm]`, and where the offsets are in elements `[base,qm,uxtw #y]`
 abbrev pub scale : ℕ → ℕ → List Tok
 scale o y = cond (nat_eq o 0) [] (comma ∷ word (codes "uxtw") ∷ constant y)

@@ -32,6 +32,7 @@ use Rattle.hm_isa.specs.declared.vectors.ExtremeName.{ExtremeName}
 use Rattle.hm_isa.specs.declared.vectors.ExtremeName.TheVariants as extreme
 use Rattle.hm_isa.specs.declared.vectors.Element.{Element}
 use Rattle.hm_isa.specs.declared.vectors.Element.TheVariants as element
+use Rattle.hm_text_rows.specs.Shapes.{either}
 
 -- BEHIND THE POINT
 -- 8, 16, 32 or 64 bits
@@ -160,10 +161,6 @@ offsets_stem offsets.Down = codes "vddup"
 abbrev pub wrapped_stem : OffsetsName → List ℕ
 wrapped_stem offsets.Up = codes "viwdup"
 wrapped_stem offsets.Down = codes "vdwdup"
-
--- one of two stems, by a bit
-abbrev pub either : ℕ → List ℕ → List ℕ → List ℕ
-either bit zero_ one_ = cond (nat_eq bit 0) zero_ one_
 
 -- of a store where l is 0, or a load of elements that have the size y in memory
 abbrev pub access_stem : ℕ → ℕ → List ℕ

@@ -1,6 +1,6 @@
 //! Stems of mnemonics: the codes that their rows begin from, and what else they tell.
 
-ghost use Rattle.std.specs.Prelude.{◌≡◌, ◌<◌, bytes_eq, IfSome};
+ghost use Rattle.std.specs.Prelude.{◌≡◌, ◌<◌, IfSome};
 ghost use Rattle.hm_textv.specs.Bases.{block_in, carry_base_in, compare_in, constant_in, dot_in, extreme_base_in, left_base, long_dot_in, long_in, long_sum_in, load_in, narrow_base_in, offsets_base_in, pair_base, product_base, quad_base, right_base, scalar_base_in, single_base, store_in, sum_in, three_base, turn_base_in, vector_shift_base_in, wrapped_base_in};
 
 use hm_encv::{
@@ -13,13 +13,7 @@ use hm_isa::{
     NarrowName, OffsetsName, OneName, ReverseName, ScalarName, SignedName, TurnName,
     VectorShiftName,
 };
-
-/// Whether a stem is this one.
-fn is(stem: &[u8], name: &str) -> bool
-    ensures { result ≡ bytes_eq stem.now name.now }
-{
-    stem == name.as_bytes()
-}
+use hm_text_rows::is;
 
 /// Of `qd,qn,qm`, rows V1 to V3.
 pub fn three_base(stem: &[u8]) -> Option<u32>

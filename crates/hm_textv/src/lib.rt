@@ -13,7 +13,6 @@ mod codes;
 mod memory;
 mod operands;
 mod rows;
-mod shapes;
 mod stems;
 mod suffixes;
 mod texts;

@@ -1,11 +1,11 @@
 //! What a text gives numbers for, read carelessly: nothing is refused, since the row that is found is asked for its text.
 
 ghost use Rattle.std.specs.Prelude.{◌≡◌, map};
-ghost use Rattle.hm_textv.specs.Operands.{added, back_in, before, behind, first_of, is_mark, is_vector, is_vector_name, operand, other_value, read_operands, sign_of, size_of, value, word_value};
-ghost use Rattle.hm_tokens.specs.Marks.{mark_byte};
+ghost use Rattle.hm_textv.specs.Operands.{other_value, read_operands, sign_of, value, word_value};
 ghost use Rattle.hm_tokens.specs.Tokens.{tok};
 
-use hm_tokens::{Mark, Token, read_register, read_vector};
+use hm_text_rows::{added, back_in, before, is_vector, operand, size_of, token_behind};
+use hm_tokens::{Token, read_register, read_vector};
 
 /// What stands behind the stem of a mnemonic, as numbers.
 #[derive(Clone, Copy)]
@@ -77,134 +77,6 @@ fn value(token: Token<'_>) -> u32
     }
 }
 
-/// Whether a word is the name of a vector register.
-#[tactic(auto, unfolding(crate::specs::Operands::is_vector_name))]
-fn is_vector_name(name: &[u8]) -> bool
-    ensures { result ≡ is_vector_name name.now }
-{
-    match read_vector(name) {
-        Some(_) => true,
-        None => false,
-    }
-}
-
-/// Whether a token is the name of a vector register.
-fn is_vector(token: Token<'_>) -> bool
-    ensures { result ≡ is_vector (tok token.entry) }
-{
-    match token {
-        Token::Word(name) => is_vector_name(name),
-        Token::Number(_) | Token::Mark(_) => false,
-    }
-}
-
-/// Operand k, counted from 0 and without the marks; a comma where there is none.
-fn operand<'a>(tokens: &[Token<'a>], k: u32) -> Token<'a>
-    ensures { tok result ≡ operand k (map tok tokens.now) }
-{
-    match tokens {
-        [] => Token::Mark(Mark::Comma),
-        [token, rest @ ..] => match *token {
-            Token::Mark(_) => operand(rest, k),
-            Token::Word(_) | Token::Number(_) => {
-                if k == 0 { *token } else { operand(rest, k - 1) }
-            }
-        },
-    }
-}
-
-/// The byte of a mark.
-fn byte_of(which: Mark) -> u8
-    ensures { result ≡ mark_byte which }
-{
-    which.text().as_bytes()[0]
-}
-
-/// Whether a token is the mark of a byte.
-fn is_mark(token: Token<'_>, c: u8) -> bool
-    ensures { result ≡ is_mark c (tok token.entry) }
-{
-    match token {
-        Token::Mark(which) => byte_of(which) == c,
-        Token::Word(_) | Token::Number(_) => false,
-    }
-}
-
-/// The first of tokens; a number where there is none.
-fn first_of<'a>(tokens: &[Token<'a>]) -> Token<'a>
-    ensures { tok result ≡ first_of (map tok tokens.now) }
-{
-    match tokens {
-        [] => Token::Number(0),
-        [token, ..] => *token,
-    }
-}
-
-/// The token behind the first mark of a byte; a number where there is none.
-fn behind<'a>(tokens: &[Token<'a>], c: u8) -> Token<'a>
-    ensures { tok result ≡ behind c (map tok tokens.now) }
-{
-    match tokens {
-        [] => Token::Number(0),
-        [token, rest @ ..] => {
-            if is_mark(*token, c) {
-                first_of(rest)
-            } else {
-                behind(rest, c)
-            }
-        }
-    }
-}
-
-/// 0 where a minus sign stands behind `#`.
-fn added(tokens: &[Token<'_>]) -> u32
-    ensures { result ≡ added (map tok tokens.now) }
-{
-    if is_mark(behind(tokens, b'#'), b'-') {
-        0
-    } else {
-        1
-    }
-}
-
-/// 0 where a comma stands behind `]`.
-fn before(tokens: &[Token<'_>]) -> u32
-    ensures { result ≡ before (map tok tokens.now) }
-{
-    if is_mark(behind(tokens, b']'), b',') {
-        0
-    } else {
-        1
-    }
-}
-
-/// 1 where a comma or `!` stands behind `]`.
-fn back_in(tokens: &[Token<'_>]) -> u32
-    ensures { result ≡ back_in (map tok tokens.now) }
-{
-    let next = behind(tokens, b']');
-    if is_mark(next, b',') {
-        return 1;
-    }
-    if is_mark(next, b'!') { 1 } else { 0 }
-}
-
-/// The number of the element size that a suffix ends in.
-#[tactic(auto, unfolding(crate::specs::Operands::size_of))]
-fn size_of(suffix: &[u8]) -> u32
-    ensures { result ≡ size_of suffix.now }
-{
-    if suffix.is_empty() {
-        return 0;
-    }
-    match suffix[suffix.len() - 1] {
-        b'6' => 1,
-        b'2' => 2,
-        b'4' => 3,
-        _ => 0,
-    }
-}
-
 /// 1 where the letter behind the point is u.
 #[tactic(auto, unfolding(crate::specs::Operands::sign_of))]
 fn sign_of(suffix: &[u8]) -> u32
@@ -234,6 +106,6 @@ pub fn read_operands(suffix: &[u8], tokens: &[Token<'_>]) -> Operands
         added: added(tokens),
         before: before(tokens),
         back: back_in(tokens),
-        is_at_vector: is_vector(behind(tokens, b'[')),
+        is_at_vector: is_vector(token_behind(tokens, b'[')),
     }
 }

@@ -2,13 +2,13 @@
 
 ghost use Rattle.std.specs.Prelude.{◌≡◌, ◌≤◌, ◌<◌, ◌+◌, ◌*◌, ◌^◌, ◌++◌, codes};
 ghost use Rattle.hm_isa.specs.declared.Vector.TheVariants as vector;
-ghost use Rattle.hm_textv.specs.Rows.{compare_name, long_part, q, shift_in, shifted, size_in, three, tokens_of};
-ghost use Rattle.hm_textv.specs.Stems.{compare_condition, either};
+ghost use Rattle.hm_textv.specs.Rows.{compare_name, long_part, shift_in, shifted, size_in, tokens_of};
+ghost use Rattle.hm_text_rows.specs.Shapes.{either, q, three};
+ghost use Rattle.hm_textv.specs.Stems.{compare_condition};
 ghost use Rattle.hm_tokens.specs.Texts.{part_token, text_tokens};
 ghost use Rattle.hm_tokens.specs.Tokens.{word};
 
 use crate::memory::{text_v24, text_v25, text_v26, text_v27, text_v28};
-use crate::shapes::{alone, and, and_constant, first, one, or_zero, q, r, three, two};
 use crate::stems::{
     add_stem, bitwise_stem, block_letters, carry_stem, compare_condition, constant_shift_stem,
     doubling_stem, extreme_stem, high_stem, narrow_stem, offsets_stem, one_stem, reverse_stem,
@@ -22,6 +22,7 @@ use hm_isa::{
     Below, Bit, ConstantShiftName, ElementSize, QRegister, V1, V2, V3, V4, V5, V6, V7, V8, V9, V10,
     V11, V12, V13, V14, V15, V16, V17, V18, V19, V20, V21, V22, V23, Vector,
 };
+use hm_text_rows::{alone, and, and_constant, first, one, or_zero, q, r, three, two};
 use hm_tokens::{InstrText, Mark, Part};
 
 /// The text of a row V1.

@@ -7,9 +7,9 @@ ghost use Rattle.hm_tokens.specs.Texts.{text_tokens};
 ghost use Rattle.hm_tokens.specs.Tokens.{tok};
 
 use crate::rows::{row_text, sum_stem};
-use crate::shapes::{q, r, three, two};
 use crate::suffixes::{by_sign, size_number};
 use hm_isa::{BitwiseName, V2, V22, Vector};
+use hm_text_rows::{q, r, three, two};
 use hm_tokens::{InstrText, Token};
 
 /// `vmov qd,qm`, where a row V2 moves a register.

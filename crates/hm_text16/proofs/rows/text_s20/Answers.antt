@@ -1,7 +1,15 @@
 use Rattle.std.proofs.Common.{◌++◌, List, ap, sym, ◌∙◌}
-use Rattle.hm_text16.specs.Rows.{braces, list_tokens}
+use Rattle.hm_text16.specs.Rows.{list_tokens}
+use Rattle.hm_text_rows.specs.Shapes.{braces}
 use Rattle.hm_tokens.specs.Tokens.{Tok}
+use Rattle.hm_text16.proofs.Registers.{low_few}
 use Rattle.hm_text16.proofs.rows.text_s20.Goals as goal
+
+pub with_list-requires-clause-few : goal.with_list-requires-clause-few
+with_list-requires-clause-few c = low_few c.get-list.result c.get-list.ensures.in_range
+
+pub with_list-in-Ldm-requires-clause-few : goal.with_list-in-Ldm-requires-clause-few
+with_list-in-Ldm-requires-clause-few c = low_few c.get-list.result c.get-list.ensures.in_range
 
 pub returns-in-Push : goal.returns-in-Push
 returns-in-Push c =
