@@ -14,7 +14,7 @@ use Rattle.hm_isa.specs.Rules.{keeps_it, keeps_list, listed_in}
 use Rattle.hm_isa.specs.Standing.{◌↑◌}
 use Rattle.hm_tokens.specs.Names.{register_name}
 use Rattle.hm_tokens.specs.Tokens.{Tok, word, mark}
-use Rattle.hm_text_rows.proofs.Lists.{printed_braces, printed_list}
+use Rattle.hm_text_rows.proofs.Braces.{printed_braces, printed_list}
 use Rattle.hm_text_rows.proofs.Printed.{IsPrinted, without_suffix}
 use Rattle.hm_text16.specs.declared.operands.Kind.TheVariants as kinds
 use Rattle.hm_text16.specs.declared.operands.Operands.{Operands}

@@ -3,7 +3,7 @@ use Rattle.std.proofs.Common.{◌≡◌, ℕ, zero, suc, ◌+◌, ◌*◌, ◌<�
 use Rattle.hm_isa.specs.Standing.{◌↑◌}
 use Rattle.hm_text_rows.specs.Operands.{bits_of, braced}
 use Rattle.hm_text_rows.specs.Shapes.{braces, registers_from}
-use Rattle.hm_text_rows.proofs.Lists.{braces_bits}
+use Rattle.hm_text_rows.proofs.Braces.{braces_bits}
 use Rattle.hm_text_rows.proofs.Words.{below_holds}
 use Rattle.hm_text16.proofs.Words.{less}
 

@@ -51,9 +51,9 @@ byte_base_in s =
     else if bytes_eq s (codes "subs") then Some (byte_base byte.Sub)
     else None
 
--- of two lower registers, S5, S11 and S12; `cmp` is told by its registers
-abbrev pub low_base_in : List ℕ → Option ℕ
-low_base_in s =
+-- of S5 from `ands` to `rors`
+abbrev pub front_base_in : List ℕ → Option ℕ
+front_base_in s =
     if bytes_eq s (codes "ands") then Some (logic_base logic.Ands)
     else if bytes_eq s (codes "eors") then Some (logic_base logic.Eors)
     else if bytes_eq s (codes "lsls") then Some (logic_base logic.Lsls)
@@ -62,7 +62,12 @@ low_base_in s =
     else if bytes_eq s (codes "adcs") then Some (logic_base logic.Adcs)
     else if bytes_eq s (codes "sbcs") then Some (logic_base logic.Sbcs)
     else if bytes_eq s (codes "rors") then Some (logic_base logic.Rors)
-    else if bytes_eq s (codes "tst") then Some (logic_base logic.Tst)
+    else None
+
+-- of S5 from `tst` to `mvns`
+abbrev pub rear_base_in : List ℕ → Option ℕ
+rear_base_in s =
+    if bytes_eq s (codes "tst") then Some (logic_base logic.Tst)
     else if bytes_eq s (codes "rsbs") then Some (logic_base logic.Rsbs)
     else if bytes_eq s (codes "cmn") then Some (logic_base logic.Cmn)
     else if bytes_eq s (codes "orrs") then Some (logic_base logic.Orrs)
@@ -70,6 +75,10 @@ low_base_in s =
     else if bytes_eq s (codes "bics") then Some (logic_base logic.Bics)
     else if bytes_eq s (codes "mvns") then Some (logic_base logic.Mvns)
     else None
+
+-- of two lower registers, S5, S11 and S12; `cmp` is told by its registers
+abbrev pub low_base_in : List ℕ → Option ℕ
+low_base_in s = first (front_base_in s) (rear_base_in s)
 
 abbrev pub move_base_in : List ℕ → Option ℕ
 move_base_in s =
@@ -151,9 +160,9 @@ zero_base_in s =
     else if bytes_eq s (codes "cbnz") then Some (zero_base zero_.Cbnz)
     else None
 
--- the mask of a block under a condition with the low bit 0; under another it is 16 less this
-abbrev pub block_in : List ℕ → Option ℕ
-block_in s =
+-- of a block of at most three
+abbrev pub short_block_in : List ℕ → Option ℕ
+short_block_in s =
     if bytes_eq s (codes "it") then Some 8
     else if bytes_eq s (codes "itt") then Some 4
     else if bytes_eq s (codes "ite") then Some 12
@@ -161,7 +170,12 @@ block_in s =
     else if bytes_eq s (codes "itte") then Some 6
     else if bytes_eq s (codes "itet") then Some 10
     else if bytes_eq s (codes "itee") then Some 14
-    else if bytes_eq s (codes "itttt") then Some 1
+    else None
+
+-- of a block of four
+abbrev pub long_block_in : List ℕ → Option ℕ
+long_block_in s =
+    if bytes_eq s (codes "itttt") then Some 1
     else if bytes_eq s (codes "ittte") then Some 3
     else if bytes_eq s (codes "ittet") then Some 5
     else if bytes_eq s (codes "ittee") then Some 7
@@ -170,6 +184,10 @@ block_in s =
     else if bytes_eq s (codes "iteet") then Some 13
     else if bytes_eq s (codes "iteee") then Some 15
     else None
+
+-- the mask of a block under a condition with the low bit 0; under another it is 16 less this
+abbrev pub block_in : List ℕ → Option ℕ
+block_in s = first (short_block_in s) (long_block_in s)
 
 -- FIELDS AT THEIR PLACES
 abbrev pub of_three : ℕ → ℕ → ℕ → ℕ → ℕ

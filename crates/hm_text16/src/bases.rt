@@ -1,7 +1,8 @@
 //! Mnemonics: the codes that their rows begin from, and what else they tell.
 
 ghost use Rattle.std.specs.Prelude.{◌≡◌, ◌<◌, IfSome};
-ghost use Rattle.hm_text16.specs.Codes.{access_base_in, block_in, byte_access_base_in, byte_base_in, fixed_code_in, half_base_in, high_base_in, jump_base_in, low_base_in, move_base_in, shift_base_in, stack_base_in, stack_sum_base_in, sum_base_in, word_base_in, zero_base_in};
+ghost use Rattle.hm_text16.specs.Codes.{access_base_in, block_in, byte_access_base_in, byte_base_in, fixed_code_in, front_base_in, half_base_in, high_base_in, jump_base_in, long_block_in, low_base_in, move_base_in, rear_base_in, shift_base_in, short_block_in, stack_base_in, stack_sum_base_in, sum_base_in, word_base_in, zero_base_in};
+ghost use Rattle.hm_text_rows.specs.Operands.{first};
 
 use hm_text_rows::is;
 
@@ -66,9 +67,9 @@ pub fn byte_base_in(stem: &[u8]) -> Option<u32>
     None
 }
 
-/// Of a row S5 but `cmp`, which is told by its registers.
-pub fn low_base_in(stem: &[u8]) -> Option<u32>
-    ensures { result ≡ low_base_in stem.now }
+/// Of a row S5 from `ands` to `rors`.
+fn front_base_in(stem: &[u8]) -> Option<u32>
+    ensures { result ≡ front_base_in stem.now }
 {
     if is(stem, "ands") {
         return Some(0x4000);
@@ -94,6 +95,13 @@ pub fn low_base_in(stem: &[u8]) -> Option<u32>
     if is(stem, "rors") {
         return Some(0x41c0);
     }
+    None
+}
+
+/// Of a row S5 from `tst` to `mvns`.
+fn rear_base_in(stem: &[u8]) -> Option<u32>
+    ensures { result ≡ rear_base_in stem.now }
+{
     if is(stem, "tst") {
         return Some(0x4200);
     }
@@ -116,6 +124,16 @@ pub fn low_base_in(stem: &[u8]) -> Option<u32>
         return Some(0x43c0);
     }
     None
+}
+
+/// Of a row S5 but `cmp`, which is told by its registers.
+pub fn low_base_in(stem: &[u8]) -> Option<u32>
+    ensures { result ≡ low_base_in stem.now }
+{
+    if let Some(told) = front_base_in(stem) {
+        return Some(told);
+    }
+    rear_base_in(stem)
 }
 
 /// Of rows S11 and S12.
@@ -296,9 +314,9 @@ pub fn zero_base_in(stem: &[u8]) -> Option<u32>
     None
 }
 
-/// The mask of a block under a condition with the low bit 0; under another it is 16 less this.
-pub fn block_in(stem: &[u8]) -> Option<u32>
-    ensures value { result ≡ block_in stem.now }
+/// Of a block of at most three.
+fn short_block_in(stem: &[u8]) -> Option<u32>
+    ensures value { result ≡ short_block_in stem.now }
     ensures below { IfSome result (λ m. m < 16) }
 {
     if is(stem, "it") {
@@ -322,6 +340,14 @@ pub fn block_in(stem: &[u8]) -> Option<u32>
     if is(stem, "itee") {
         return Some(14);
     }
+    None
+}
+
+/// Of a block of four.
+fn long_block_in(stem: &[u8]) -> Option<u32>
+    ensures value { result ≡ long_block_in stem.now }
+    ensures below { IfSome result (λ m. m < 16) }
+{
     if is(stem, "itttt") {
         return Some(1);
     }
@@ -347,4 +373,15 @@ pub fn block_in(stem: &[u8]) -> Option<u32>
         return Some(15);
     }
     None
+}
+
+/// The mask of a block under a condition with the low bit 0; under another it is 16 less this.
+pub fn block_in(stem: &[u8]) -> Option<u32>
+    ensures value { result ≡ block_in stem.now }
+    ensures below { IfSome result (λ m. m < 16) }
+{
+    if let Some(told) = short_block_in(stem) {
+        return Some(told);
+    }
+    long_block_in(stem)
 }

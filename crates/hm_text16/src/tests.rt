@@ -19,7 +19,8 @@ fn is_right(text: &str, code: u16, pc: u32) -> bool {
     }
 }
 
-/// The first text that is not printed of its code's row, or not read as it; each code is another assembler's.
+/// The first text that is not printed of its code's row, or not read as it. Each code is llvm-mc's, that of `rsbs r5,r2` for
+/// `rsbs r5,r2,#0`, and that of `add r1,pc,#1020` for `adr r1,#1020`.
 fn first_wrong(table: &[(&'static str, u16)]) -> Option<&'static str> {
     for (text, code) in table {
         if !is_right(text, *code, 0x100) {

@@ -21,7 +21,7 @@ use Rattle.hm_text_rows.specs.Shapes.{back, braces, comma, listed, r, registers_
 use Rattle.hm_text_rows.proofs.Printed.{IsPrinted, is_printed_in, short_bang, short_comma, short_open_brace}
 use Rattle.hm_text_rows.proofs.Registers.{AllBelow16, front_count, listed_apart, listed_length, listed_ranges, listed_spelled, listed_tokens, name_length, registers_below}
 use Rattle.hm_text_rows.proofs.Words.{below_is, is_stem, is_suffix, mnemonic_short, word_r, word_token}
-use Rattle.hm_text_rows.proofs.Lists.{base_and_list, behind_base, braced_of, braces_bits, printed_list}
+use Rattle.hm_text_rows.proofs.Braces.{base_and_list, behind_base, braced_of, braces_bits, printed_list}
 use Rattle.hm_text32.specs.Codes.{code_of, code_of_memory}
 use Rattle.hm_text32.specs.Operands.{second_bang, value, word_value}
 use Rattle.hm_text_rows.specs.Operands.{bit_in, bits_of, braced, operand}

@@ -7,7 +7,7 @@ fn row_of_text(text: &[u8], pc: u32, address: u32) -> Option<Instr> {
     read32(tokens.as_slice(), pc, address)
 }
 
-/// Whether a row prints its text and is read from it; the code is another assembler's.
+/// Whether the row of a code prints this text, and is read from it.
 fn is_right(text: &str, code: u32, pc: u32) -> bool {
     match decode32(code) {
         Some(i) => {
@@ -19,7 +19,8 @@ fn is_right(text: &str, code: u32, pc: u32) -> bool {
     }
 }
 
-/// The first text that is not printed of its code's row, or not read as it; each code is another assembler's.
+/// The first text that is not printed of its code's row, or not read as it. Each code is llvm-mc's, for the text without `.w` where
+/// it takes none: `adc` and `sbc` with a constant, and offsets below zero or with a base that is written back.
 fn first_wrong(table: &[(&'static str, u32)]) -> Option<&'static str> {
     for (text, code) in table {
         if !is_right(text, *code, 0x100) {
@@ -29,7 +30,7 @@ fn first_wrong(table: &[(&'static str, u32)]) -> Option<&'static str> {
     None
 }
 
-/// The first text that is not printed of its code's row at its address, or not read as it.
+/// The first text that is not printed of its code's row at its address, or not read as it; the codes were worked out by hand.
 fn first_wrong_target(table: &[(&'static str, u32, u32)]) -> Option<&'static str> {
     for (text, code, pc) in table {
         if !is_right(text, *code, *pc) {

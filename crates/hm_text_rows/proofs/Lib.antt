@@ -3,5 +3,5 @@ pub mod Printed
 pub mod Tails
 pub mod Registers
 pub mod Fits
-pub mod Lists
+pub mod Braces
 pub mod Shown

@@ -16,10 +16,11 @@ use Rattle.hm_isa.specs.declared.vectors.NarrowName.TheVariants as narrow_
 use Rattle.hm_isa.specs.declared.vectors.OffsetsName.TheVariants as offsets
 use Rattle.hm_isa.specs.declared.vectors.ExtremeName.TheVariants as extreme
 use Rattle.hm_isa.specs.Code.{add_base, bitwise_base, carry_base, constant_shift_base, doubling_base, extreme_base, high_base, narrow_base, offsets_base, one_base, reverse_base, scalar_base, signed_base, turn_base, vector_shift_base}
+use Rattle.hm_text_rows.specs.Operands.{first}
 
--- of `qd,qn,qm`, rows V1 to V3
-abbrev pub three_base : List ℕ → Option ℕ
-three_base s =
+-- of rows V1 and V2
+abbrev pub plain_base : List ℕ → Option ℕ
+plain_base s =
     if bytes_eq s (codes "vadd") then Some (add_base add.Add)
     else if bytes_eq s (codes "vsub") then Some (add_base add.Sub)
     else if bytes_eq s (codes "vmul") then Some (add_base add.Mul)
@@ -28,7 +29,12 @@ three_base s =
     else if bytes_eq s (codes "vorr") then Some (bitwise_base bitwise.Orr)
     else if bytes_eq s (codes "vorn") then Some (bitwise_base bitwise.Orn)
     else if bytes_eq s (codes "veor") then Some (bitwise_base bitwise.Eor)
-    else if bytes_eq s (codes "vmax") then Some (signed_base signed.Max)
+    else None
+
+-- of a row V3
+abbrev pub signed_base_in : List ℕ → Option ℕ
+signed_base_in s =
+    if bytes_eq s (codes "vmax") then Some (signed_base signed.Max)
     else if bytes_eq s (codes "vmin") then Some (signed_base signed.Min)
     else if bytes_eq s (codes "vabd") then Some (signed_base signed.Abd)
     else if bytes_eq s (codes "vhadd") then Some (signed_base signed.Hadd)
@@ -37,6 +43,10 @@ three_base s =
     else if bytes_eq s (codes "vqadd") then Some (signed_base signed.Qadd)
     else if bytes_eq s (codes "vqsub") then Some (signed_base signed.Qsub)
     else None
+
+-- of `qd,qn,qm`, rows V1 to V3
+abbrev pub three_base : List ℕ → Option ℕ
+three_base s = first (plain_base s) (signed_base_in s)
 
 -- of `qd,qn,qm`, rows V5 to V7, and `vpsel`
 abbrev pub product_base : List ℕ → Option ℕ
@@ -172,9 +182,9 @@ constant_in s =
     else if bytes_eq s (codes "vbic") then Some 3
     else None
 
--- of a comparison: the mask of its block
-abbrev pub compare_in : List ℕ → Option ℕ
-compare_in s =
+-- of `vcmp`, and of a block of at most three
+abbrev pub short_compare_in : List ℕ → Option ℕ
+short_compare_in s =
     if bytes_eq s (codes "vcmp") then Some 0
     else if bytes_eq s (codes "vpt") then Some 8
     else if bytes_eq s (codes "vptt") then Some 4
@@ -183,7 +193,12 @@ compare_in s =
     else if bytes_eq s (codes "vptte") then Some 6
     else if bytes_eq s (codes "vptee") then Some 10
     else if bytes_eq s (codes "vptet") then Some 14
-    else if bytes_eq s (codes "vptttt") then Some 1
+    else None
+
+-- of a block of four
+abbrev pub long_compare_in : List ℕ → Option ℕ
+long_compare_in s =
+    if bytes_eq s (codes "vptttt") then Some 1
     else if bytes_eq s (codes "vpttte") then Some 3
     else if bytes_eq s (codes "vpttee") then Some 5
     else if bytes_eq s (codes "vpttet") then Some 7
@@ -193,9 +208,13 @@ compare_in s =
     else if bytes_eq s (codes "vptete") then Some 15
     else None
 
--- of a block: its mask
-abbrev pub block_in : List ℕ → Option ℕ
-block_in s =
+-- of a comparison: the mask of its block
+abbrev pub compare_in : List ℕ → Option ℕ
+compare_in s = first (short_compare_in s) (long_compare_in s)
+
+-- of `vpnot`, and of a block of at most three
+abbrev pub short_block_in : List ℕ → Option ℕ
+short_block_in s =
     if bytes_eq s (codes "vpnot") then Some 0
     else if bytes_eq s (codes "vpst") then Some 8
     else if bytes_eq s (codes "vpstt") then Some 4
@@ -204,7 +223,12 @@ block_in s =
     else if bytes_eq s (codes "vpstte") then Some 6
     else if bytes_eq s (codes "vpstee") then Some 10
     else if bytes_eq s (codes "vpstet") then Some 14
-    else if bytes_eq s (codes "vpstttt") then Some 1
+    else None
+
+-- of a block of four
+abbrev pub long_block_in : List ℕ → Option ℕ
+long_block_in s =
+    if bytes_eq s (codes "vpstttt") then Some 1
     else if bytes_eq s (codes "vpsttte") then Some 3
     else if bytes_eq s (codes "vpsttee") then Some 5
     else if bytes_eq s (codes "vpsttet") then Some 7
@@ -213,6 +237,10 @@ block_in s =
     else if bytes_eq s (codes "vpstett") then Some 13
     else if bytes_eq s (codes "vpstete") then Some 15
     else None
+
+-- of a block: its mask
+abbrev pub block_in : List ℕ → Option ℕ
+block_in s = first (short_block_in s) (long_block_in s)
 
 -- of a sum: whether it goes on
 abbrev pub sum_in : List ℕ → Option ℕ

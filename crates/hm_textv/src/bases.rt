@@ -1,7 +1,8 @@
 //! Stems of mnemonics: the codes that their rows begin from, and what else they tell.
 
 ghost use Rattle.std.specs.Prelude.{◌≡◌, ◌<◌, IfSome};
-ghost use Rattle.hm_textv.specs.Bases.{block_in, carry_base_in, compare_in, constant_in, dot_in, extreme_base_in, left_base, long_dot_in, long_in, long_sum_in, load_in, narrow_base_in, offsets_base_in, pair_base, product_base, quad_base, right_base, scalar_base_in, single_base, store_in, sum_in, three_base, turn_base_in, vector_shift_base_in, wrapped_base_in};
+ghost use Rattle.hm_textv.specs.Bases.{block_in, carry_base_in, compare_in, constant_in, dot_in, extreme_base_in, left_base, load_in, long_block_in, long_compare_in, long_dot_in, long_in, long_sum_in, narrow_base_in, offsets_base_in, pair_base, plain_base, product_base, quad_base, right_base, scalar_base_in, short_block_in, short_compare_in, signed_base_in, single_base, store_in, sum_in, three_base, turn_base_in, vector_shift_base_in, wrapped_base_in};
+ghost use Rattle.hm_text_rows.specs.Operands.{first};
 
 use hm_encv::{
     base_of_add, base_of_bitwise, base_of_carry, base_of_doubling, base_of_extreme, base_of_high,
@@ -15,9 +16,9 @@ use hm_isa::{
 };
 use hm_text_rows::is;
 
-/// Of `qd,qn,qm`, rows V1 to V3.
-pub fn three_base(stem: &[u8]) -> Option<u32>
-    ensures { result ≡ three_base stem.now }
+/// Of rows V1 and V2.
+fn plain_base(stem: &[u8]) -> Option<u32>
+    ensures { result ≡ plain_base stem.now }
 {
     if is(stem, "vadd") {
         return Some(base_of_add(AddName::Add));
@@ -43,6 +44,13 @@ pub fn three_base(stem: &[u8]) -> Option<u32>
     if is(stem, "veor") {
         return Some(base_of_bitwise(BitwiseName::Eor));
     }
+    None
+}
+
+/// Of a row V3.
+fn signed_base_in(stem: &[u8]) -> Option<u32>
+    ensures { result ≡ signed_base_in stem.now }
+{
     if is(stem, "vmax") {
         return Some(base_of_signed(SignedName::Max));
     }
@@ -68,6 +76,16 @@ pub fn three_base(stem: &[u8]) -> Option<u32>
         return Some(base_of_signed(SignedName::Qsub));
     }
     None
+}
+
+/// Of `qd,qn,qm`, rows V1 to V3.
+pub fn three_base(stem: &[u8]) -> Option<u32>
+    ensures { result ≡ three_base stem.now }
+{
+    if let Some(told) = plain_base(stem) {
+        return Some(told);
+    }
+    signed_base_in(stem)
 }
 
 /// Of `qd,qn,qm`, rows V5 to V7, and `vpsel`.
@@ -360,9 +378,9 @@ pub fn constant_in(stem: &[u8]) -> Option<u32>
     None
 }
 
-/// Of a comparison: the mask of its block.
-pub fn compare_in(stem: &[u8]) -> Option<u32>
-    ensures { result ≡ compare_in stem.now }
+/// Of `vcmp`, and of a block of at most three.
+fn short_compare_in(stem: &[u8]) -> Option<u32>
+    ensures { result ≡ short_compare_in stem.now }
 {
     if is(stem, "vcmp") {
         return Some(0);
@@ -388,6 +406,13 @@ pub fn compare_in(stem: &[u8]) -> Option<u32>
     if is(stem, "vptet") {
         return Some(14);
     }
+    None
+}
+
+/// Of a block of four.
+fn long_compare_in(stem: &[u8]) -> Option<u32>
+    ensures { result ≡ long_compare_in stem.now }
+{
     if is(stem, "vptttt") {
         return Some(1);
     }
@@ -415,9 +440,19 @@ pub fn compare_in(stem: &[u8]) -> Option<u32>
     None
 }
 
-/// Of a block: its mask.
-pub fn block_in(stem: &[u8]) -> Option<u32>
-    ensures { result ≡ block_in stem.now }
+/// Of a comparison: the mask of its block.
+pub fn compare_in(stem: &[u8]) -> Option<u32>
+    ensures { result ≡ compare_in stem.now }
+{
+    if let Some(told) = short_compare_in(stem) {
+        return Some(told);
+    }
+    long_compare_in(stem)
+}
+
+/// Of `vpnot`, and of a block of at most three.
+fn short_block_in(stem: &[u8]) -> Option<u32>
+    ensures { result ≡ short_block_in stem.now }
 {
     if is(stem, "vpnot") {
         return Some(0);
@@ -443,6 +478,13 @@ pub fn block_in(stem: &[u8]) -> Option<u32>
     if is(stem, "vpstet") {
         return Some(14);
     }
+    None
+}
+
+/// Of a block of four.
+fn long_block_in(stem: &[u8]) -> Option<u32>
+    ensures { result ≡ long_block_in stem.now }
+{
     if is(stem, "vpstttt") {
         return Some(1);
     }
@@ -468,6 +510,16 @@ pub fn block_in(stem: &[u8]) -> Option<u32>
         return Some(15);
     }
     None
+}
+
+/// Of a block: its mask.
+pub fn block_in(stem: &[u8]) -> Option<u32>
+    ensures { result ≡ block_in stem.now }
+{
+    if let Some(told) = short_block_in(stem) {
+        return Some(told);
+    }
+    long_block_in(stem)
 }
 
 /// Of a sum: whether it goes on.

@@ -1,8 +1,8 @@
 use super::*;
 use hm_encv::encodev;
 
-/// The first text that is not printed of its code's row, or not read as it. The codes are another assembler's, but for those of
-/// `vldrb.u8 q1,[r1],#-0` and `vst20.8 {q0,q1},[sp]!`, which were worked out by hand.
+/// The first text that is not printed of its code's row, or not read as it. Each code is llvm-mc's, which wants the whole constant
+/// of a shifted immediate, as `#0x5aff` for `#90,msl #8`, and of `vmov.i64`.
 fn first_wrong(table: &[(&'static str, u32)]) -> Option<&'static str> {
     for (text, code) in table {
         if !is_right(text, *code) {
@@ -351,6 +351,7 @@ fn worked_codes(rt: HostRuntime) {
     }
 }
 
+// The codes of `vldrb.u8 q1,[r1],#-0` and `vst20.8 {q0,q1},[sp]!`, which llvm-mc refuses, were worked out by hand.
 #[test]
 fn reads_other_spellings(rt: HostRuntime) {
     let table: [(&[u8], u32); 13] = [
