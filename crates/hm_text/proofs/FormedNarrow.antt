@@ -20,8 +20,9 @@ use Rattle.hm_line.specs.declared.form.Depth.TheVariants.{Outside}
 use Rattle.hm_line.specs.declared.form.Operands.TheVariants as ops
 use Rattle.hm_line.specs.Kinds.{Kind, kind}
 use Rattle.hm_line.proofs.Operands.{takes}
-use Rattle.hm_text16.specs.Operands.{bits_of, braced}
-use Rattle.hm_text16.specs.Rows.{braces, comma, list_tokens, listed, r, registers_from, tokens_of}
+use Rattle.hm_text_rows.specs.Operands.{bits_of, braced}
+use Rattle.hm_text_rows.specs.Shapes.{braces, comma, listed, r, registers_from}
+use Rattle.hm_text16.specs.Rows.{list_tokens, tokens_of}
 use Rattle.hm_text16.specs.Texts.{IsNarrow}
 use Rattle.hm_text16.proofs.Registers.{Braces, low_braces, pop_braces, push_braces}
 use Rattle.hm_text.proofs.Formed.{Formed, are_operands}

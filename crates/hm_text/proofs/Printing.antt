@@ -15,35 +15,34 @@ use Rattle.hm_text16.specs.Rows.{has_label, row_tokens}
 use Rattle.hm_text16.specs.Targets.{target}
 use Rattle.hm_text16.specs.Texts.{IsNarrow, text_of}
 use Rattle.hm_text16.specs.Texts as narrow
-use Rattle.hm_text16.proofs.Asked.{IsPrintedRow}
-use Rattle.hm_text16.proofs.Laws.{IsGiven, given_target, row_law, shown, shown_is}
+use Rattle.hm_text_rows.proofs.Shown.{IsGiven, IsPrintedRow}
+use Rattle.hm_text16.proofs.Laws.{given_target, row_law}
 use Rattle.hm_textv.specs.Rows as vectors
 use Rattle.hm_textv.proofs.Laws as vector_laws
 use Rattle.hm_enc32.specs.Table.{IsWide}
-use Rattle.hm_text_rows.specs.Labels.{NamesTarget}
+use Rattle.hm_text_rows.specs.Labels.{NamesTarget, printed_with}
 use Rattle.hm_text32.specs.Rows as wide_rows
 use Rattle.hm_text32.specs.Targets as wide_targets
 use Rattle.hm_text32.specs.Texts as wide
-use Rattle.hm_text32.proofs.Asked as wide_asked
 use Rattle.hm_text32.proofs.Laws as wide_laws
 use Rattle.hm_text.specs.Tables.{long_text, printed_text, width_of}
 use Rattle.hm_text.specs.Texts.{HasWidth, IsTextOf}
 use Rattle.hm_text.proofs.Formed.{Formed, formed_text}
 use Rattle.hm_text.proofs.FormedNarrow.{formed_narrow}
-use Rattle.hm_text.proofs.Targets.{given_wide, lengths, narrow_target, wide_target}
+use Rattle.hm_text.proofs.Targets.{lengths, narrow_target, wide_target}
 use Rattle.hm_text.proofs.WideRows.{formed_wide}
 use Rattle.hm_text.proofs.FormedVectors.{formed_vector}
 
 -- the form
-form_of : (b : Bool) (row : List Tok) (o : Option ℕ) → IsPrintedRow b row → IsGiven b o → ((a : ℕ) → Formed (cond b (row ++ number a ∷ []) row)) → IsOfForm forms.Instruction (shown row o)
-form_of true row (Some a) p lt f = formed_text (row ++ number a ∷ []) (shown row (Some a)) (p.again a lt) (f a)
+form_of : (b : Bool) (row : List Tok) (o : Option ℕ) → IsPrintedRow b row → IsGiven b o → ((a : ℕ) → Formed (cond b (row ++ number a ∷ []) row)) → IsOfForm forms.Instruction (printed_with row o)
+form_of true row (Some a) p lt f = formed_text (row ++ number a ∷ []) (printed_with row (Some a)) (p.again a lt) (f a)
 form_of true row None p given f = absurd given
 form_of false row (Some a) p given f = absurd given
-form_of false row None p given f = formed_text row (shown row None) p.again (f 0)
+form_of false row None p given f = formed_text row (printed_with row None) p.again (f 0)
 
 narrow_form : (i : Instr) (pc : ℕ) (text : List ℕ) → IsNarrow i → text ≡ text_of i (target i pc) → IsOfForm forms.Instruction text
 narrow_form i pc text narrow is =
-    subst (λ (x : List ℕ). IsOfForm forms.Instruction x) (sym (is ∙ shown_is i (target i pc)))
+    subst (λ (x : List ℕ). IsOfForm forms.Instruction x) (sym is)
     (form_of (has_label i) (row_tokens i) (target i pc) (row_law i narrow).prints (given_target i pc) (λ a. formed_narrow i a narrow))
 
 pub narrow_printed : (i : Instr) (pc : ℕ) (text : List ℕ) (labels : List ℕ → Option ℕ) → IsNarrow i → text ≡ text_of i (target i pc) → narrow.IsTextOf text pc labels i → IsTextOf text pc labels i
@@ -54,20 +53,10 @@ narrow_printed i pc text labels narrow_ is read = record {
 }
 
 -- a row of two halfwords
-wide_form_of : (b : Bool) (row : List Tok) (o : Option ℕ) → wide_asked.IsPrintedRow b row → IsGiven b o → ((a : ℕ) → Formed (cond b (row ++ number a ∷ []) row)) → IsOfForm forms.Instruction (shown row o)
-wide_form_of true row (Some a) p lt f = formed_text (row ++ number a ∷ []) (shown row (Some a)) (p.again a lt) (f a)
-wide_form_of true row None p given f = absurd given
-wide_form_of false row (Some a) p given f = absurd given
-wide_form_of false row None p given f = formed_text row (shown row None) p.again (f 0)
-
-wide_shown : (i : Instr) (o : Option ℕ) → wide.text_of i o ≡ shown (wide_rows.row_tokens i) o
-wide_shown i (Some a) = refl
-wide_shown i None = refl
-
 wide_form : (i : Instr) (pc : ℕ) (text : List ℕ) → IsWide i → text ≡ wide.text_of i (wide_targets.target i pc) → IsOfForm forms.Instruction text
 wide_form i pc text wide_ is =
-    subst (λ (x : List ℕ). IsOfForm forms.Instruction x) (sym (is ∙ wide_shown i (wide_targets.target i pc)))
-    (wide_form_of (wide_rows.has_label i) (wide_rows.row_tokens i) (wide_targets.target i pc) (wide_laws.row_law i wide_).prints (given_wide i pc) (λ a. formed_wide i a wide_))
+    subst (λ (x : List ℕ). IsOfForm forms.Instruction x) (sym is)
+    (form_of (wide_rows.has_label i) (wide_rows.row_tokens i) (wide_targets.target i pc) (wide_laws.row_law i wide_).prints (wide_laws.given_target i pc) (λ a. formed_wide i a wide_))
 
 pub wide_printed : (i : Instr) (pc : ℕ) (text : List ℕ) (labels : List ℕ → Option ℕ) → IsWide i → text ≡ wide.text_of i (wide_targets.target i pc) → wide.IsTextOf text pc labels i → IsTextOf text pc labels i
 wide_printed i pc text labels wide_ is read = record {

@@ -7,17 +7,15 @@ use Rattle.hm_isa.specs.declared.Instr.{Instr}
 use Rattle.hm_isa.specs.declared.Instr.TheVariants as instr
 use Rattle.hm_isa.specs.declared.Scalar.{Scalar}
 use Rattle.hm_isa.specs.declared.Scalar.TheVariants as scalar
-use Rattle.hm_isa.specs.declared.jumps.T16.TheVariants as t16
-use Rattle.hm_isa.specs.declared.jumps.T23.{T23}
-use Rattle.hm_isa.specs.declared.jumps.T23.TheVariants as t23
 use Rattle.hm_isa.specs.Code.{branch_halves, halfwords, scalar_halves}
 use Rattle.hm_enc32.specs.Table.{IsWide}
 use Rattle.hm_tokens.specs.Tokens.{Tok}
 use Rattle.hm_text16.specs.Rows as narrow_rows
 use Rattle.hm_text16.specs.Targets as narrow_targets
 use Rattle.hm_text16.specs.Texts as narrow
-use Rattle.hm_text16.proofs.Laws.{IsGiven}
+use Rattle.hm_text_rows.proofs.Shown.{IsGiven}
 use Rattle.hm_text16.proofs.Laws as narrow_laws
+use Rattle.hm_text32.proofs.Laws as wide_laws
 use Rattle.hm_text32.specs.Rows as wide_rows
 use Rattle.hm_text32.specs.Targets as wide_targets
 use Rattle.hm_text32.specs.Texts as wide
@@ -165,28 +163,6 @@ wide_length (instr.Branch i) e = e
 wide_length (instr.Vector i) e = absurd e
 
 -- A TARGET WHERE THERE IS A LABEL
-word_below : (n : ℕ) → n % 2 ^ 32 < 2 ^ 32
-word_below n = omega arith
-
-given_loop : (i : T23) (pc : ℕ) → IsGiven (wide_rows.has_label (instr.Branch (branch.T23 i))) (wide_targets.target (instr.Branch (branch.T23 i)) pc)
-given_loop (t23.Dls i) pc = tt
-given_loop (t23.Wls i) pc = word_below _
-given_loop (t23.Dlstp i) pc = tt
-given_loop (t23.Wlstp i) pc = word_below _
-given_loop (t23.End i) pc = word_below _
-given_loop t23.Lctp pc = tt
-
-given_branch : (i : Branch) (pc : ℕ) → IsGiven (wide_rows.has_label (instr.Branch i)) (wide_targets.target (instr.Branch i) pc)
-given_branch (branch.T16 (t16.Conditional i)) pc = word_below _
-given_branch (branch.T16 (t16.Always i)) pc = word_below _
-given_branch (branch.T23 i) pc = given_loop i pc
-given_branch i pc = tt
-
-pub given_wide : (i : Instr) (pc : ℕ) → IsGiven (wide_rows.has_label i) (wide_targets.target i pc)
-given_wide (instr.Scalar i) pc = tt
-given_wide (instr.Branch i) pc = given_branch i pc
-given_wide (instr.Vector i) pc = tt
-
 given_as : (a b : Bool) (o p : Option ℕ) → a ≡ b → o ≡ p → IsGiven a o → IsGiven b p
 given_as a b o p e f g = subst (λ (x : Bool). IsGiven x p) e (subst (λ (x : Option ℕ). IsGiven a x) f g)
 
@@ -195,7 +171,7 @@ given_narrow i pc e =
     given_as (narrow_rows.has_label i) (has_label i) (narrow_targets.target i pc) (target i pc) (narrow_has_label i e) (narrow_target i pc e) (narrow_laws.given_target i pc)
 
 given_two : (i : Instr) (pc : ℕ) → IsWide i → IsGiven (has_label i) (target i pc)
-given_two i pc e = given_as (wide_rows.has_label i) (has_label i) (wide_targets.target i pc) (target i pc) (wide_has_label i e) (wide_target i pc e) (given_wide i pc)
+given_two i pc e = given_as (wide_rows.has_label i) (has_label i) (wide_targets.target i pc) (target i pc) (wide_has_label i e) (wide_target i pc e) (wide_laws.given_target i pc)
 
 pub given_target : (i : Instr) (pc : ℕ) → IsGiven (has_label i) (target i pc)
 given_target (instr.Scalar i) pc =

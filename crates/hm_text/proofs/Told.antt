@@ -12,7 +12,7 @@ use Rattle.hm_line.proofs.Fronts.{not_both, one_column}
 use Rattle.hm_text_base.proofs.Steps.{some_is}
 use Rattle.hm_tokens.specs.Tokens.{Tok, word, number, mark, skip}
 use Rattle.hm_text_rows.specs.Labels.{IsLabel, Names, NamesTarget, Reaches}
-use Rattle.hm_text16.proofs.Laws.{IsGiven}
+use Rattle.hm_text_rows.proofs.Shown.{IsGiven}
 use Rattle.hm_text.specs.Named.{IsUnknown, IsUnknownGiven, NamesGiven}
 use Rattle.hm_text.specs.Refusals.{IsAtLabel, IsMissing, IsOutOfReach, IsShapeRefused, IsTextRefused}
 use Rattle.hm_text.specs.Tables.{HasText, IsRowAt, IsVectorText, has_label, label_of, target}

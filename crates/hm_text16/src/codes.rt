@@ -7,9 +7,9 @@ ghost use Rattle.hm_text_rows.specs.Operands.{first};
 ghost use Rattle.hm_tokens.specs.Tokens.{tok};
 
 use crate::bases::{
-    access_base_in, block_in, byte_access_base_in, byte_base_in,
-    fixed_code_in, half_base_in, high_base_in, jump_base_in, low_base_in, move_base_in,
-    shift_base_in, stack_base_in, stack_sum_base_in, sum_base_in, word_base_in, zero_base_in,
+    access_base_in, block_in, byte_access_base_in, byte_base_in, fixed_code_in, half_base_in,
+    high_base_in, jump_base_in, low_base_in, move_base_in, shift_base_in, stack_base_in,
+    stack_sum_base_in, sum_base_in, word_base_in, zero_base_in,
 };
 use crate::operands::{Kind, Operands, read_operands};
 use hm_text_rows::{branch_condition_in, distance, is};

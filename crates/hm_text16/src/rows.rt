@@ -42,13 +42,22 @@ fn text_s1(i: &S1) -> InstrText
 fn text_s2(i: &S2) -> InstrText
     ensures { text_tokens result ≡ scalar_tokens (scalar.S2 i.now) }
 {
-    three(sum_stem(i.name), "", r(i.d.get()), r(i.n.get()), r(i.m.get()))
+    three(
+        sum_stem(i.name),
+        "",
+        r(i.d.get()),
+        r(i.n.get()),
+        r(i.m.get()),
+    )
 }
 
 fn text_s3(i: &S3) -> InstrText
     ensures { text_tokens result ≡ scalar_tokens (scalar.S3 i.now) }
 {
-    and_constant(two(sum_stem(i.name), "", r(i.d.get()), r(i.n.get())), i.i.get())
+    and_constant(
+        two(sum_stem(i.name), "", r(i.d.get()), r(i.n.get())),
+        i.i.get(),
+    )
 }
 
 fn text_s4(i: &S4) -> InstrText

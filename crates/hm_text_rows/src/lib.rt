@@ -11,8 +11,8 @@ pub use addresses::{Index, back, indexed, inside, open, scaled};
 pub use labels::{Shape, behind, distance, is_label, split_last};
 pub use lists::{is_listed, with_list};
 pub use operands::{
-    added, back_in, before, braced_bits, branch_condition_in, first_of, is, is_mark, is_number, is_vector,
-    operand, size_of, token_behind,
+    added, back_in, before, braced_bits, branch_condition_in, first_of, is, is_mark, is_number,
+    is_vector, operand, size_of, token_behind,
 };
 pub use shapes::{
     alone, and, and_constant, and_shift, first, four, marked, one, or_zero, q, r, three, two, with,
