@@ -28,7 +28,8 @@ use Rattle.hm_run.specs.declared.Outcome.{Outcome}
 use Rattle.hm_run.specs.declared.Outcome.TheVariants as outcome
 use Rattle.hm_run.specs.Program.{Program, Stopping, is_tainted_cause, steps_left, vector_of}
 use Rattle.hm_run.specs.Timed as timed
-use Rattle.hm_run.specs.Timed.{Activation, Timed, at_stop, counted_with, outcome_of, thread_program, with_devices}
+use Rattle.hm_exc.specs.declared.types.Activation.{Activation}
+use Rattle.hm_run.specs.Timed.{Timed, at_stop, counted_with, outcome_of, thread_program, with_devices}
 use Rattle.hm_sched.specs.Schedule.{TickLine, Sched, older_letter, younger_letter, ticks_of}
 use Rattle.hm_state.specs.Start.{start}
 use Rattle.hm_state.specs.State.{State, regs_of}
@@ -41,7 +42,7 @@ use Rattle.hm_handlers.specs.Entries.{entered, interrupted_by, refused}
 use Rattle.hm_handlers.specs.Nested.{Ended, Interrupted, Nested, NestedEnd, NestedStep, Offends, TickEnd, around_under, at_step, flows, handler_step, handles, letter, letters, program_under, returned, step, step_under, steps, uncounted, went, with_acts}
 use Rattle.hm_handlers.specs.Order.{HaltsInThread, Keeps, KeepsOrder, thread_at, thread_of}
 use Rattle.hm_handlers.specs.Registers.{registers_in, restored}
-use Rattle.hm_handlers.specs.Runs.{Run, begin, after_count, closed, ended, enters, enters_unless, may_enter, next, picks, run, stops, tick_of, told}
+use Rattle.hm_handlers.specs.Runs.{Run, begin, after_count, closed, ended, enters, enters_unless, may_enter, next, picks, run, stops, tick_of, stacked_of}
 use Rattle.hm_handlers.proofs.Hiding.{Hides, counted_hides, entry_hides, hides_none, own_live, restored_live, scalar_hides}
 use Rattle.hm_handlers.proofs.Steps.{IsStop, StepHides, fault_hides, row_hides, younger_hides}
 
@@ -252,7 +253,7 @@ module _ (listing : Listing) (s : Sched) (first : State) where
       thread_outcome (outcome_of t [] c stopping) (at_stop c stopping)
       (stop_keeps listing around refl first t no_timed c e younger h only (next_stops listing around refl first c.n e (explained machine first c e h)))
       (still_thread (Some (outcome_of t [] c stopping)) (at_stop c stopping))
-  stops_keep t k younger (Ended (Stopped c e) (x ∷ acts)) es h only = handler_cause t (told x) (map told acts) c _ e (x ∷ acts) h
+  stops_keep t k younger (Ended (Stopped c e) (x ∷ acts)) es h only = handler_cause t (stacked_of x) (map stacked_of acts) c _ e (x ∷ acts) h
   stops_keep t k younger (Ended (Breaks c r) acts) es h only = record { thread = tt; halts = tt }
   stops_keep t k younger (Offends what c acts) es h only = record { thread = tt; halts = tt }
 

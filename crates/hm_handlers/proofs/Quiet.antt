@@ -11,7 +11,8 @@ use Rattle.hm_run.specs.declared.Outcome.TheVariants as outcome
 use Rattle.hm_run.specs.Program as program
 use Rattle.hm_run.specs.Program.{Program, Stepped, Stopping, Ticked, letter_step, letter_steps, older_steps, steps_left, vector_of}
 use Rattle.hm_run.specs.Timed as timed
-use Rattle.hm_run.specs.Timed.{Activation, Timed, at_stop, counted_with, outcome_of, thread_program, with_devices}
+use Rattle.hm_exc.specs.declared.types.Activation.{Activation}
+use Rattle.hm_run.specs.Timed.{Timed, at_stop, counted_with, outcome_of, thread_program, with_devices}
 use Rattle.hm_sched.specs.Schedule.{TickLine, Sched, older_letter, younger_letter, ticks_of}
 use Rattle.hm_state.specs.State.{State}
 use Rattle.hm_window.specs.Positions.{may_end}

@@ -15,13 +15,14 @@ use Rattle.hm_run.specs.declared.Outcome.{Outcome}
 use Rattle.hm_run.specs.declared.Outcome.TheVariants as outcome
 use Rattle.hm_run.specs.declared.Reason.{Reason}
 use Rattle.hm_run.specs.Program.{Program}
-use Rattle.hm_run.specs.Timed.{Activation, Timed, thread_program}
+use Rattle.hm_exc.specs.declared.types.Activation.{Activation}
+use Rattle.hm_run.specs.Timed.{Timed, thread_program}
 use Rattle.hm_sched.specs.Schedule.{Sched, ticks_of}
 use Rattle.hm_state.specs.Start.{start}
 use Rattle.hm_state.specs.State.{State}
 use Rattle.hm_handlers.specs.Nested.{Interrupted, Nested}
 use Rattle.hm_handlers.specs.Order.{HaltsInThread, Keeps, KeepsOrder, thread_at, thread_of}
-use Rattle.hm_handlers.specs.Runs.{Run, run, run_out, shown, told}
+use Rattle.hm_handlers.specs.Runs.{Run, run, run_out, shown, stacked_of}
 use Rattle.hm_handlers.proofs.Order.{keeps_order}
 
 -- what is counted is the thread's
@@ -69,7 +70,7 @@ module _ (listing : Listing) (image : List Segment) (s : Sched) where
       → (reason : Reason) (n : ℕ) → x.outcome ≡ Some (outcome.Halted reason n) → HaltsInOrder listing image report file reason n
   halts_in_order x report file keeps r f reason n e =
       halts listing image s (shown x) report file (halted_at x.outcome reason n x.machine e keeps.thread)
-      (ap (map told) (halts_alone x.outcome reason n x.machine.acts e keeps.halts)) r f reason n e
+      (ap (map stacked_of) (halts_alone x.outcome reason n x.machine.acts e keeps.halts)) r f reason n e
 
   pub headline_every : (report file : List ℕ) → report ≡ report_text (shown (run_out listing image s)) → file ≡ memory_text (shown (run_out listing image s))
       → Headline listing image (shown (run_out listing image s)) report file

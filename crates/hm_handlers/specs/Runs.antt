@@ -1,15 +1,15 @@
 -- The beat machine with handlers: the fold of steps, ends of ticks and entries over a schedule.
-use Rattle.std.specs.Prelude.{ℕ, zero, suc, ◌+◌, Bool, if◌then◌else◌, cond, List, [], ◌∷◌, length, drop, map, take, Option, Some, None, Result, Ok, Err}
+use Rattle.std.specs.Prelude.{ℕ, zero, suc, ◌+◌, Bool, if◌then◌else◌, cond, List, [], ◌∷◌, length, drop, map, Option, Some, None, Result, Ok, Err}
 use Rattle.hm_base.specs.Image.{Segment}
 use Rattle.hm_codes.specs.Listing.{Listing}
 use Rattle.hm_exc.specs.Entry.{entry_refusal}
-use Rattle.hm_exc.specs.Frame.{frame_size}
 use Rattle.hm_exc.specs.declared.types.EnterErr.{EnterErr}
 use Rattle.hm_order.specs.Machine.{Config, Stopped, Broken, at_start}
 use Rattle.hm_run.specs.declared.Outcome.{Outcome}
 use Rattle.hm_run.specs.declared.Outcome.TheVariants as outcome
 use Rattle.hm_run.specs.Program.{Stopping}
-use Rattle.hm_run.specs.Timed.{Activation, Timed, at_stop, counted_with, or_out, outcome_of, with_devices}
+use Rattle.hm_exc.specs.declared.types.Activation.{Activation}
+use Rattle.hm_run.specs.Timed.{Timed, at_stop, counted_with, or_out, outcome_of, with_devices}
 use Rattle.hm_sched.specs.Schedule.{TickLine, Sched, ticks_of}
 use Rattle.hm_state.specs.Start.{start_under}
 use Rattle.hm_state.specs.State.{State, regs_of}
@@ -27,21 +27,12 @@ pub record Run : Type 0 where
   pub ticks : ℕ
   pub entries : List ℕ
 
--- what a report tells of activations
-abbrev pub told : Interrupted → Activation
-told x = record {
-  a = x.a;
-  b = x.b;
-  regs = x.stacked.regs;
-  frame = x.stacked.frame;
-  long = x.stacked.long;
-  bytes = take (frame_size x.stacked.long) x.stacked.bytes;
-  number = x.stacked.number;
-  value = x.stacked.value;
-}
+-- what was stacked there
+abbrev pub stacked_of : Interrupted → Activation
+stacked_of x = x.stacked
 
 abbrev pub shown : Run → Timed
-shown x = record { outcome = x.outcome; config = x.machine.config; acts = map told x.machine.acts; ticks = x.ticks }
+shown x = record { outcome = x.outcome; config = x.machine.config; acts = map stacked_of x.machine.acts; ticks = x.ticks }
 
 abbrev pub begin : List Segment → Sched → Run
 begin image s = record { outcome = None; machine = record { config = at_start (start_under s.lo s.hi s.floor image); acts = [] }; ticks = 0; entries = [] }
@@ -58,7 +49,7 @@ stopped_under (x ∷ acts) c e = c
 abbrev pub stops : ℕ → ℕ → Bool → NestedEnd → List ℕ → Run
 stops t k younger (Ended (Stopped c e) acts) entries =
     let stopping : Stopping = record { cause = e; younger = younger } in
-    run_at (outcome_of t (map told acts) c stopping) (stopped_under acts c stopping) acts t entries
+    run_at (outcome_of t (map stacked_of acts) c stopping) (stopped_under acts c stopping) acts t entries
 stops t k younger (Ended (Broken c r) acts) entries = run_at (outcome.RuleBroken t k r) c acts t entries
 stops t k younger (Offends what c acts) entries = run_at (outcome.HandlerBroken t what) c acts t entries
 

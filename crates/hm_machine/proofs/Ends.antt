@@ -7,7 +7,7 @@ use Rattle.hm_exc.specs.declared.types.Activation.{Activation}
 use Rattle.hm_exc.specs.declared.types.EnterErr.{EnterErr}
 use Rattle.hm_handlers.specs.Entries.{entered, least_active, refused, running_priority}
 use Rattle.hm_handlers.specs.Nested.{Ended, Interrupted, Nested}
-use Rattle.hm_handlers.specs.Runs.{Run, after_count, enters, enters_unless, may_enter, picks, stopped_under, stops, tick_end, told}
+use Rattle.hm_handlers.specs.Runs.{Run, after_count, enters, enters_unless, may_enter, picks, stopped_under, stops, tick_end, stacked_of}
 use Rattle.hm_handlers.specs.Sound.{AreUrgent}
 use Rattle.hm_machine.proofs.Nestings.{same_acts}
 use Rattle.hm_machine.proofs.Runs.{Comes}
@@ -36,10 +36,10 @@ use Rattle.hm_window.specs.declared.rule.Rule.{Rule}
 use Rattle.hm_window.specs.declared.rule.Rule.TheVariants as rule
 
 -- WHERE SOMETHING DID NOT GO ON
-pub who_thread : (acts : List Interrupted) → acts ≡ [] → Thread ≡ who_runs (map told acts)
-who_thread acts none = ap (λ (l : List Interrupted). who_runs (map told l)) (sym none)
+pub who_thread : (acts : List Interrupted) → acts ≡ [] → Thread ≡ who_runs (map stacked_of acts)
+who_thread acts none = ap (λ (l : List Interrupted). who_runs (map stacked_of l)) (sym none)
 
-pub who_handler : (acts : List Interrupted) → 0 < length acts → InHandler ≡ who_runs (map told acts)
+pub who_handler : (acts : List Interrupted) → 0 < length acts → InHandler ≡ who_runs (map stacked_of acts)
 who_handler [] some = absurd (omega arith)
 who_handler (x ∷ acts) some = refl
 
@@ -51,7 +51,7 @@ pub stopped_in_thread : (acts : List Interrupted) (c : Config State) (e : Stoppi
 stopped_in_thread acts c e none = ap (λ (l : List Interrupted). stopped_under l c e) (sym none)
 
 pub stops_so : (x y : Cpu) (t k : ℕ) (younger : Bool) (e : Cause) (o : Outcome) (es : List ℕ) → let stopping : Stopping = record { cause = e; younger = younger } in
-    o ≡ outcome_of t (map told (nested_of x).acts) (config_of x) stopping → config_of y ≡ stopped_under (nested_of x).acts (config_of x) stopping → y.acts ≡ x.acts
+    o ≡ outcome_of t (map stacked_of (nested_of x).acts) (config_of x) stopping → config_of y ≡ stopped_under (nested_of x).acts (config_of x) stopping → y.acts ≡ x.acts
     → run_with (Some o) (nested_of y) t es ≡ stops t k younger (Ended (Stopped (config_of x) e) (nested_of x).acts) es
 stops_so x y t k younger e o es is config same = λ j. run_with (Some (is j)) (record { config = config j; acts = same_acts x y same j }) t es
 

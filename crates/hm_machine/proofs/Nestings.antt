@@ -14,7 +14,7 @@ use Rattle.hm_exc.specs.declared.types.Activation.{Activation}
 use Rattle.hm_exc.specs.declared.types.Broken.{Broken}
 use Rattle.hm_handlers.proofs.Soundness.{step_sound}
 use Rattle.hm_handlers.specs.Nested.{Ended, Interrupted, NestedStep, Offends, around_under, handles, returned, step, step_under, uncounted, went, with_acts}
-use Rattle.hm_handlers.specs.Runs.{told}
+use Rattle.hm_handlers.specs.Runs.{stacked_of}
 use Rattle.hm_handlers.specs.Registers.{cell_back, registers_in, registers_of, restored}
 use Rattle.hm_handlers.specs.Sound.{AreStacked, IsSound, IsStacked}
 use Rattle.hm_isa.specs.declared.Instr.{Instr}
@@ -90,8 +90,8 @@ none_active x none = ap (map interrupted_of) (none_there x.acts none)
 pub how_many : (x : Cpu) → length (nested_of x).acts ≡ array_vec_len x.acts
 how_many x = length-map (newest_first x.acts) interrupted_of ∙ length-reverse x.acts.items
 
-pub told_many : (x : Cpu) → length (map told (map interrupted_of (newest_first x.acts))) ≡ array_vec_len x.acts
-told_many x = length-map (map interrupted_of (newest_first x.acts)) told ∙ how_many x
+pub stacked_many : (x : Cpu) → length (map stacked_of (map interrupted_of (newest_first x.acts))) ≡ array_vec_len x.acts
+stacked_many x = length-map (map interrupted_of (newest_first x.acts)) stacked_of ∙ how_many x
 
 -- what a test of emptiness tells
 pub is_none : (n : ℕ) (b : Bool) → b ≡ (n == 0) → b ≡ true → n ≡ 0

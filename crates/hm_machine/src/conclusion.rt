@@ -5,14 +5,15 @@ ghost use Rattle.std.specs.Vec.{vec_capacity};
 ghost use Rattle.hm_codes.specs.Listing.{Listing, IsListing};
 ghost use Rattle.hm_handlers.specs.Entries.{refused, running_priority};
 ghost use Rattle.hm_handlers.specs.Nested.{Ended, at_step, letter, letters};
-ghost use Rattle.hm_handlers.specs.Runs.{ended, enters, picks as picks_of, stopped_under, stops, tick_end, told};
+ghost use Rattle.hm_handlers.specs.Runs.{ended, enters, picks as picks_of, stopped_under, stops, tick_end, stacked_of};
 ghost use Rattle.hm_machine.specs.Cpus.{config_of, step_ended, nested_of, picks, ticked, early_ended, CountsNone, CountsOne, IsPosition, IsSoundUnderSome, IsSoundUnder, KeepsFlash, Stays};
 ghost use Rattle.hm_machine.specs.Shown.{run_with};
 ghost use Rattle.hm_mem.specs.Memory.{memory_of, flash_at};
 ghost use Rattle.hm_mem.specs.Seen.{with_dev};
 ghost use Rattle.hm_order.specs.Machine.{Config, Stopped};
 ghost use Rattle.hm_run.specs.Program.{most_output};
-ghost use Rattle.hm_run.specs.Timed.{Activation, counted_with, outcome_of, outcome_of_stop, retired_by, who_runs};
+ghost use Rattle.hm_exc.specs.declared.types.Activation.{Activation};
+ghost use Rattle.hm_run.specs.Timed.{counted_with, outcome_of, outcome_of_stop, retired_by, who_runs};
 ghost use Rattle.hm_sched.specs.Schedule.{Sched, TickLine, younger_letter};
 ghost use Rattle.hm_state.specs.State.{State};
 ghost use Rattle.hm_window.specs.Positions.{may_end};
@@ -45,7 +46,7 @@ fn pc_of(pc: u32, younger: bool) -> u32
 
 /// Who runs.
 fn who_runs(x: &Cpu) -> Who
-    ensures value { result ≡ who_runs (map told (nested_of x.now).acts) }
+    ensures value { result ≡ who_runs (map stacked_of (nested_of x.now).acts) }
 {
     if x.acts.is_empty() {
         Who::Thread
@@ -57,7 +58,7 @@ fn who_runs(x: &Cpu) -> Who
 /// The outcome of an instruction of what runs that stops.
 fn outcome_of(tick: u32, cause: Cause, younger: bool, x: &Cpu) -> Outcome
     requires count { x.now.retired < 2 ^ 63 }
-    ensures value { result ≡ outcome_of tick (map told (nested_of x.now).acts) (config_of x.now) (record { cause = cause; younger = younger }) }
+    ensures value { result ≡ outcome_of tick (map stacked_of (nested_of x.now).acts) (config_of x.now) (record { cause = cause; younger = younger }) }
 {
     match cause {
         Cause::Halt(reason) => Outcome::Halted {

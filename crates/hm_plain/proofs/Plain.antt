@@ -16,7 +16,8 @@ use Rattle.hm_run.specs.Program.{Program, Stepped, alone, at_step, letter_step, 
 use Rattle.hm_run.specs.Report.{outcome_line}
 use Rattle.hm_run.specs.Stops as why
 use Rattle.hm_run.specs.Stops.{WholeStop}
-use Rattle.hm_run.specs.Timed.{Activation, Timed, begin, closed, ended, next as next_tick, or_out, thread_program, timed, timed_out, who_runs}
+use Rattle.hm_exc.specs.declared.types.Activation.{Activation}
+use Rattle.hm_run.specs.Timed.{Timed, begin, closed, ended, next as next_tick, or_out, thread_program, timed, timed_out, who_runs}
 use Rattle.hm_sched.specs.Schedule.{TickLine, whole_letter, plain_line, plain, plain_lines, repeat, ticks_of}
 use Rattle.hm_state.specs.Start.{start, start_under}
 use Rattle.hm_state.specs.State.{State}

@@ -4,6 +4,7 @@ use Rattle.hm_base.specs.Image.{Segment}
 use Rattle.hm_base.specs.declared.Stop.{Stop}
 use Rattle.hm_base.specs.declared.Stop.TheVariants as stop
 use Rattle.hm_codes.specs.Listing.{Listing}
+use Rattle.hm_exc.specs.declared.types.Activation.{Activation}
 use Rattle.hm_mem.specs.Memory.{thread_under}
 use Rattle.hm_mem.specs.declared.Dev.{Dev}
 use Rattle.hm_order.specs.Machine.{Config, Stopped, Broken, at_start}
@@ -22,18 +23,6 @@ use Rattle.hm_state.specs.Start.{start_under}
 use Rattle.hm_sys.specs.Ticks.{arrived, counted}
 use Rattle.hm_state.specs.State.{State}
 use Rattle.hm_window.specs.Positions.{may_end}
-
--- what an entry puts away: the position, the registers, the base, the form and the bytes of its frame, the exception's
--- number, and the value that a return has to give
-pub record Activation : Type 0 where
-  pub a : ℕ
-  pub b : ℕ
-  pub regs : Regs
-  pub frame : ℕ
-  pub long : Bool
-  pub bytes : List ℕ
-  pub number : ℕ
-  pub value : ℕ
 
 -- the outcome, or None while it runs; the position, the numbers of retired instructions and of older steps, and the
 -- state; the activations, the newest first; the ticks that were begun

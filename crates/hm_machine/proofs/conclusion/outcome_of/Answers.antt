@@ -1,5 +1,5 @@
 use Rattle.std.proofs.Common.{ℕ, map, refl, ap, sym, ◌∙◌}
-use Rattle.hm_handlers.specs.Runs.{told}
+use Rattle.hm_handlers.specs.Runs.{stacked_of}
 use Rattle.hm_machine.specs.Cpus.{config_of, nested_of}
 use Rattle.hm_run.specs.declared.Cause.{Cause}
 use Rattle.hm_run.specs.Timed.{outcome_of, outcome_of_stop}
@@ -10,7 +10,7 @@ pub returns-in-Stop : goal.returns-in-Stop
 unfolding state_of
 returns-in-Stop c =
     let x = c.args.x.now in
-    let acts = map told (nested_of x).acts in
+    let acts = map stacked_of (nested_of x).acts in
     record {
       value = c.stop_outcome.ensures.value acts (config_of x) (sym c.who_runs.ensures.value) refl
           ∙ ap (λ (pc : ℕ). outcome_of_stop c.args.tick acts (config_of x) pc c.in-Stop.stop) c.pc_of.ensures.value
