@@ -8,8 +8,8 @@ use Rattle.hm_text16.proofs.rows.text_s20.Goals as goal
 pub with_list-requires-clause-few : goal.with_list-requires-clause-few
 with_list-requires-clause-few c = low_few c.get-list.result c.get-list.ensures.in_range
 
-pub with_list-in-Ldm-requires-clause-few : goal.with_list-in-Ldm-requires-clause-few
-with_list-in-Ldm-requires-clause-few c = low_few c.get-list.result c.get-list.ensures.in_range
+pub with_list-requires-in-Ldm-clause-few : goal.with_list-requires-in-Ldm-clause-few
+with_list-requires-in-Ldm-clause-few c = low_few c.get-list.result c.get-list.ensures.in_range
 
 pub returns-in-Push : goal.returns-in-Push
 returns-in-Push c =
