@@ -19,7 +19,8 @@ use Rattle.hm_text32.proofs.Laws as wide_laws
 use Rattle.hm_text32.specs.Rows as wide_rows
 use Rattle.hm_text32.specs.Targets as wide_targets
 use Rattle.hm_text32.specs.Texts as wide
-use Rattle.hm_text.specs.Tables.{either, has_label, label_of, target}
+use Rattle.hm_text_rows.specs.Operands.{first}
+use Rattle.hm_text.specs.Tables.{has_label, label_of, target}
 
 -- HALFWORDS
 
@@ -94,7 +95,7 @@ or_left : (a b : Bool) → b ≡ false → a ≡ (a || b)
 or_left true b e = refl
 or_left false b e = sym e
 
-first_left : (o p : Option ℕ) → p ≡ None → o ≡ either o p
+first_left : (o p : Option ℕ) → p ≡ None → o ≡ first o p
 first_left (Some a) p e = refl
 first_left None p e = sym e
 
@@ -145,7 +146,7 @@ narrow_target_none (instr.Vector i) pc e = absurd e
 or_right : (a b : Bool) → a ≡ false → b ≡ (a || b)
 or_right a b e = rw e refl
 
-first_right : (o p : Option ℕ) → o ≡ None → p ≡ either o p
+first_right : (o p : Option ℕ) → o ≡ None → p ≡ first o p
 first_right o p e = rw e refl
 
 pub wide_has_label : (i : Instr) → IsWide i → wide_rows.has_label i ≡ has_label i

@@ -1,13 +1,13 @@
 -- The mnemonic of a row of two halfwords that is no vector row: no row of one halfword has it, and no vector row has it but `vmov.32`,
 -- which there has a lane.
-use Rattle.std.proofs.Common.{◌≡◌, ◌⊎◌, ℕ, Bool, true, false, cond, eqb, List, [], ◌∷◌, ◌++◌, Option, Some, None, refl, sym, subst, inl, inr, ◌∙◌}
-use Rattle.std.specs.Prelude.{bytes_eq, codes, not, option_map, ◌&&◌, ◌||◌}
+use Rattle.std.proofs.Common.{◌≡◌, ◌⊎◌, ℕ, Bool, true, false, cond, eqb, List, [], ◌∷◌, ◌++◌, Option, Some, None, refl, inl, inr, ◌∙◌}
+use Rattle.std.specs.Prelude.{bytes_eq, codes, not, ◌&&◌, ◌||◌}
 use Rattle.std.proofs.lemmas.Bool.{and_parts, cases_Bool, false≢true}
 use Rattle.hm_tokens.specs.Tokens.{Tok, word, number, mark}
 use Rattle.hm_text16.specs.declared.operands.Kind.{Kind}
 use Rattle.hm_text16.specs.declared.operands.Kind.TheVariants as kinds
 use Rattle.hm_text16.specs.declared.operands.Operands.{Operands}
-use Rattle.hm_text16.specs.Codes.{access_base_in, block_in, byte_access_base_in, byte_base_in, code_address, code_always, code_block, code_break, code_byte, code_byte_access, code_compare, code_conditional, code_half, code_high, code_in, code_jump, code_label, code_list, code_literal, code_low, code_number, code_of, code_of_three, code_of_two, code_registers, code_shift, code_single, code_small_sum, code_stack_access, code_stack_sum, code_with_number, code_with_register, code_word, code_zero, fixed_code_in, half_base_in, high_base_in, jump_base_in, low_base_in, move_base_in, shift_base_in, stack_base_in, stack_sum_base_in, sum_base_in, word_base_in, zero_base_in}
+use Rattle.hm_text16.specs.Codes.{access_base_in, block_in, byte_access_base_in, byte_base_in, code_address, code_always, code_block, code_break, code_byte, code_byte_access, code_compare, code_conditional, code_half, code_high, code_in, code_jump, code_label, code_list, code_literal, code_low, code_of, code_of_three, code_of_two, code_registers, code_shift, code_single, code_small_sum, code_stack_access, code_stack_sum, code_with_number, code_with_register, code_word, code_zero, fixed_code_in, half_base_in, high_base_in, jump_base_in, low_base_in, move_base_in, shift_base_in, stack_base_in, stack_sum_base_in, sum_base_in, word_base_in, zero_base_in}
 use Rattle.hm_text_rows.specs.Operands.{branch_condition_in, first}
 use Rattle.hm_text16.specs.Operands.{read_operands}
 use Rattle.hm_textv.specs.Codes as vectors

@@ -1,5 +1,5 @@
 -- Each row of two halfwords that is no vector row: its mnemonic is its own, and its text is of the form.
-use Rattle.std.proofs.Common.{◌≡◌, ℕ, zero, suc, ◌+◌, ◌*◌, ◌/◌, ◌%◌, ◌^◌, ◌<◌, ◌≤◌, Bool, true, false, cond, List, [], ◌∷◌, ◌++◌, length, map, Option, Some, None, refl, sym, ap, subst, inl, inr, ◌∙◌, arith}
+use Rattle.std.proofs.Common.{◌≡◌, ℕ, suc, ◌+◌, ◌*◌, ◌/◌, ◌%◌, ◌^◌, ◌<◌, ◌≤◌, Bool, true, false, cond, List, [], ◌∷◌, ◌++◌, length, map, Some, refl, sym, subst, inl, inr, ◌∙◌, arith}
 use Rattle.std.specs.Prelude.{codes, count_ones, nat_eq, nat_le, not, ◌&&◌, ◌||◌}
 use Rattle.std.proofs.lemmas.Bool.{and_parts, cases_Bool, eqb-true, false≢true}
 use Rattle.std.proofs.lemmas.Bool.Decides.{nat_tests}
@@ -74,13 +74,13 @@ use Rattle.hm_tokens.specs.Names.{condition_name}
 use Rattle.hm_tokens.specs.Tokens.{Tok, word, number, mark}
 use Rattle.hm_line.specs.declared.form.Depth.TheVariants.{Outside}
 use Rattle.hm_line.specs.declared.form.Operands.TheVariants as ops
-use Rattle.hm_line.specs.Kinds.{Kind, kind}
+use Rattle.hm_line.specs.Kinds.{kind}
 use Rattle.hm_line.proofs.Operands.{takes}
 use Rattle.hm_text_base.proofs.Steps.{some_is, test_some}
-use Rattle.hm_text_rows.specs.Shapes.{and_constant, and_operand, and_shift, back, braces, comma, indexed, inside, listed, one, or_zero, r, registers_from, two}
+use Rattle.hm_text_rows.specs.Shapes.{braces, comma, indexed, inside, listed, r, registers_from, two}
 use Rattle.hm_text_rows.proofs.Words.{below_holds}
 use Rattle.hm_text32.specs.Rows.{and_shifted, constant_tokens, data_tokens, is_by_carry, is_unshifted, insert_tokens, lane_tokens, loop_end_tokens, moved_tokens, other_barrier, other_scalar, other_tokens, row_tokens, shift_number, single_tokens, system_tokens, table_tokens, tokens_of}
-use Rattle.hm_text32.specs.Stems.{access_stem, accumulate_stem, barrier_stem, bits_stem, bits_suffix, carry_stem, data_stem, element_suffix, extend_stem, extract_stem, half_stem, long_stem, move_stem, operation_stem, pair_stem, saturate_stem, select_stem, shift_stem, stack_stem, test_stem, turn_stem, wide, wide_branch_stem, wide_list_stem, wide_list_suffix, wide_shift_stem, wide_sum_stem}
+use Rattle.hm_text32.specs.Stems.{access_stem, accumulate_stem, barrier_stem, bits_stem, bits_suffix, carry_stem, data_stem, element_suffix, extend_stem, extract_stem, half_stem, long_stem, move_stem, operation_stem, pair_stem, saturate_stem, select_stem, stack_stem, test_stem, turn_stem, wide, wide_branch_stem, wide_list_stem, wide_list_suffix, wide_shift_stem, wide_sum_stem}
 use Rattle.hm_text32.specs.Texts.{AreTokens}
 use Rattle.hm_text.proofs.Formed.{Formed, is_formed}
 use Rattle.hm_text.proofs.FormedNarrow.{more_registers}

@@ -14,6 +14,7 @@ use Rattle.hm_text32.specs.Rows as wide_rows
 use Rattle.hm_text32.specs.Targets as wide_targets
 use Rattle.hm_text32.specs.Texts as wide
 use Rattle.hm_textv.specs.Rows as vectors
+use Rattle.hm_text_rows.specs.Operands.{first}
 
 -- TABLES, of which each has its own rows
 -- a text has tokens that are a row's, where t stands for its label; its lists may have ranges
@@ -41,7 +42,7 @@ abbrev pub IsLongText : List ℕ → Instr → Tok → Type 0
 IsLongText text i t = IsWideText text i t ⊎ IsVectorText text i
 
 -- ALL OF THEM
--- a text has the tokens of a row, where t stands for its label; where it has none, t is any
+-- a text has the tokens of a row, where t stands for its label; where it has none, t is any label
 abbrev pub HasText : Instr → Tok → List ℕ → Type 0
 HasText i t text = IsNarrowText text i t ⊎ IsLongText text i t
 
@@ -53,14 +54,9 @@ has_label i = narrow_rows.has_label i || wide_rows.has_label i
 abbrev pub label_of : Instr → Tok → Option Tok
 label_of i t = if has_label i then Some t else None
 
--- the first of two numbers that is there
-abbrev pub either : Option ℕ → Option ℕ → Option ℕ
-either (Some a) o = Some a
-either None o = o
-
 -- the address that the label of a row names, where the instruction stands at pc; None where it has none
 abbrev pub target : Instr → ℕ → Option ℕ
-target i pc = either (narrow_targets.target i pc) (wide_targets.target i pc)
+target i pc = first (narrow_targets.target i pc) (wide_targets.target i pc)
 
 -- a row has the text and stands at pc, with a label that names the address a
 pub record IsRowAt (text : List ℕ) (pc : ℕ) (a : ℕ) (i : Instr) : Type 0 where

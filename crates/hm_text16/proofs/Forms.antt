@@ -1,7 +1,6 @@
 -- The shapes of rows' texts: what their operands give, and that they are printed and read back.
-use Rattle.std.proofs.Common.{◌≡◌, ℕ, ◌<◌, ◌≤◌, Bool, true, false, List, [], ◌∷◌, ◌++◌, Option, Some, refl, ap, sym, ◌∙◌, arith}
-use Rattle.std.specs.Prelude.{min, option_map}
-use Rattle.hm_tokens.specs.Names.{register_name}
+use Rattle.std.proofs.Common.{◌≡◌, ℕ, ◌<◌, ◌≤◌, true, List, [], ◌∷◌, ◌++◌, refl, ◌∙◌, arith}
+use Rattle.std.specs.Prelude.{min}
 use Rattle.hm_tokens.specs.Tokens.{Tok, word, number, mark}
 use Rattle.hm_text_rows.specs.Labels.{IsLabel}
 use Rattle.hm_text_rows.specs.Operands.{bits_of, braced}
@@ -12,7 +11,7 @@ use Rattle.hm_text16.specs.declared.operands.Kind.{Kind}
 use Rattle.hm_text16.specs.declared.operands.Kind.TheVariants as kinds
 use Rattle.hm_text16.specs.declared.operands.Operands.{Operands}
 use Rattle.hm_text16.specs.Codes.{code_in, code_of}
-use Rattle.hm_text16.specs.Operands.{kind_of, value, word_value}
+use Rattle.hm_text16.specs.Operands.{kind_of, value}
 use Rattle.hm_text16.specs.Rows.{by_number, by_register}
 use Rattle.hm_text16.proofs.Words.{Operand, a_register}
 

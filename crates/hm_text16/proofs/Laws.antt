@@ -1,8 +1,6 @@
 -- Every row of one halfword: its text asks for its code, and is printed and read back.
-use Rattle.std.proofs.Common.{◌≡◌, ℕ, ◌+◌, ◌^◌, ◌<◌, ◌≤◌, Bool, true, false, cond, List, [], ◌∷◌, ◌++◌, length, length-append, refl, sym, subst, ◌∙◌, Some, None, Option, arith}
-use Rattle.std.specs.Prelude.{◌&&◌, not}
-use Rattle.std.proofs.lemmas.Bool.{and_parts}
-use Rattle.hm_isa.specs.declared.fields.Below.{Below}
+use Rattle.std.proofs.Common.{◌≡◌, ℕ, ◌+◌, ◌^◌, ◌<◌, ◌≤◌, List, [], ◌∷◌, ◌++◌, length, refl, sym, subst, ◌∙◌, Option, arith}
+use Rattle.std.specs.Prelude.{◌&&◌}
 use Rattle.hm_isa.specs.declared.Scalar.{Scalar}
 use Rattle.hm_isa.specs.declared.Scalar.TheVariants as scalar
 use Rattle.hm_isa.specs.declared.Branch.{Branch}
@@ -10,17 +8,14 @@ use Rattle.hm_isa.specs.declared.Branch.TheVariants as branch
 use Rattle.hm_isa.specs.declared.Instr.{Instr}
 use Rattle.hm_isa.specs.declared.Instr.TheVariants as instr
 use Rattle.hm_isa.specs.declared.narrow.S25.TheVariants as s25
-use Rattle.hm_isa.specs.Code.{branch_halves, halfwords, scalar_halves}
-use Rattle.hm_tokens.specs.Lines.{IsLineOf, printed, printed_at}
-use Rattle.hm_tokens.specs.Ranges.{is_the_mark, normal}
-use Rattle.hm_tokens.specs.Tokens.{Tok, number}
-use Rattle.hm_tokens.proofs.Ranges.{has_no_ranges, normal_same}
-use Rattle.hm_text_rows.proofs.Shown.{IsGiven, IsPrintedRow, again_of, few_of, room_of}
-use Rattle.hm_text16.specs.Rows.{has_label, row_tokens, tokens_of}
+use Rattle.hm_isa.specs.Code.{branch_halves, scalar_halves}
+use Rattle.hm_tokens.specs.Lines.{IsLineOf, printed}
+use Rattle.hm_tokens.specs.Tokens.{Tok}
+use Rattle.hm_text_rows.proofs.Shown.{IsGiven, again_of, few_of, room_of}
+use Rattle.hm_text16.specs.Rows.{has_label, row_tokens}
 use Rattle.hm_text16.specs.Targets.{target}
 use Rattle.hm_text16.specs.Texts.{HasTokens, IsNarrow, IsTextOf, text_of}
-use Rattle.hm_text_rows.specs.Labels.{IsLabel, NamesTarget, Reaches}
-use Rattle.hm_text_rows.proofs.Printed.{IsPrinted, IsPrintedAt}
+use Rattle.hm_text_rows.specs.Labels.{Reaches}
 use Rattle.hm_text16.proofs.Asked.{Row}
 use Rattle.hm_text16.proofs.OnRegisters.{row_s1, row_s2, row_s3, row_s4, row_s5, row_s6, row_s7, row_s8, row_s9, row_s10, row_s11, row_s12, row_s13, row_s18, row_s19, row_s23}
 use Rattle.hm_text16.proofs.OnMemory.{row_s15, row_s16, row_s17}

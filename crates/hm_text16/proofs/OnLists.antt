@@ -1,5 +1,5 @@
 -- Rows of lists of registers, and blocks: their texts ask for their codes.
-use Rattle.std.proofs.Common.{◌≡◌, ℕ, zero, suc, ◌+◌, ◌*◌, ◌/◌, ◌%◌, ◌^◌, ◌<◌, ◌≤◌, Bool, true, false, cond, eqb, ltb, List, [], ◌∷◌, ◌++◌, length, Some, refl, ap, sym, subst, inl, inr, ◌⊎◌, ◌∙◌, arith}
+use Rattle.std.proofs.Common.{◌≡◌, ℕ, zero, suc, ◌+◌, ◌*◌, ◌/◌, ◌%◌, ◌^◌, ◌<◌, ◌≤◌, Bool, true, false, cond, eqb, List, [], ◌∷◌, ◌++◌, Some, refl, ap, inl, inr, ◌⊎◌, ◌∙◌, arith}
 use Rattle.std.specs.Prelude.{codes, nat_eq, nat_lt, ◌&&◌, ◌||◌}
 use Rattle.std.proofs.lemmas.Bool.{and_parts, cases_Bool, eqb-true}
 use Rattle.std.proofs.lemmas.Bool.Decides.{nat_tests}
@@ -12,7 +12,6 @@ use Rattle.hm_isa.specs.declared.narrow.S21.{S21}
 use Rattle.hm_isa.specs.Code.{list_base}
 use Rattle.hm_isa.specs.Rules.{keeps_it, keeps_list, listed_in}
 use Rattle.hm_isa.specs.Standing.{◌↑◌}
-use Rattle.hm_tokens.specs.Names.{register_name}
 use Rattle.hm_tokens.specs.Tokens.{Tok, word, mark}
 use Rattle.hm_text_rows.proofs.Braces.{printed_braces, printed_list}
 use Rattle.hm_text_rows.proofs.Printed.{IsPrinted, without_suffix}
@@ -21,10 +20,10 @@ use Rattle.hm_text16.specs.declared.operands.Operands.{Operands}
 use Rattle.hm_text16.specs.Codes.{code_in, code_of}
 use Rattle.hm_text16.specs.Operands.{read_operands}
 use Rattle.hm_text_rows.specs.Operands.{bits_of, braced}
-use Rattle.hm_text_rows.specs.Shapes.{braces, comma, r, registers_from}
+use Rattle.hm_text_rows.specs.Shapes.{braces, comma, r}
 use Rattle.hm_text_rows.proofs.Words.{at_below, below_holds, is_stem}
 use Rattle.hm_text16.specs.Rows.{list_tokens}
-use Rattle.hm_text16.specs.Stems.{block_condition, block_stem, letters_above}
+use Rattle.hm_text16.specs.Stems.{block_stem, letters_above}
 use Rattle.hm_text16.proofs.Words.{a_condition, a_low, less}
 use Rattle.hm_text16.proofs.Registers.{Braces, low_braces, pop_braces, push_braces}
 use Rattle.hm_text16.proofs.Forms.{given, reads_one}

@@ -1,6 +1,6 @@
 -- Rows that load and store one register: their texts ask for their codes.
-use Rattle.std.proofs.Common.{◌≡◌, ℕ, zero, suc, ◌+◌, ◌*◌, ◌/◌, ◌%◌, ◌^◌, ◌<◌, ◌≤◌, Bool, true, false, cond, eqb, ltb, List, [], ◌∷◌, ◌++◌, Some, refl, ap, sym, subst, ◌∙◌, arith}
-use Rattle.std.specs.Prelude.{codes, nat_eq, nat_le, ◌||◌}
+use Rattle.std.proofs.Common.{◌≡◌, ℕ, ◌+◌, ◌*◌, ◌/◌, ◌%◌, ◌^◌, ◌<◌, ◌≤◌, true, false, eqb, [], ◌∷◌, ◌++◌, Some, refl, ◌∙◌, arith}
+use Rattle.std.specs.Prelude.{codes, ◌||◌}
 use Rattle.hm_isa.specs.declared.narrow.AccessName.{AccessName}
 use Rattle.hm_isa.specs.declared.narrow.AccessName.TheVariants as access
 use Rattle.hm_isa.specs.declared.narrow.PlainName.{PlainName}

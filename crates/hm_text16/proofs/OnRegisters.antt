@@ -1,6 +1,6 @@
 -- Rows on registers: their texts ask for their codes.
-use Rattle.std.proofs.Common.{◌≡◌, ℕ, zero, suc, ◌+◌, ◌*◌, ◌/◌, ◌%◌, ◌^◌, ◌<◌, ◌≤◌, Bool, true, false, cond, eqb, ltb, List, [], ◌∷◌, ◌++◌, Some, refl, ap, sym, subst, ◌∙◌, arith}
-use Rattle.std.specs.Prelude.{codes, nat_eq, nat_le, ◌||◌}
+use Rattle.std.proofs.Common.{◌≡◌, ℕ, ◌+◌, ◌*◌, ◌/◌, ◌%◌, ◌^◌, ◌<◌, ◌≤◌, true, false, ltb, [], ◌∷◌, ◌++◌, Some, refl, ◌∙◌, arith}
+use Rattle.std.specs.Prelude.{codes, nat_le, ◌||◌}
 use Rattle.hm_isa.specs.declared.narrow.ShiftName.{ShiftName}
 use Rattle.hm_isa.specs.declared.narrow.ShiftName.TheVariants as shift
 use Rattle.hm_isa.specs.declared.narrow.SumName.{SumName}
@@ -45,7 +45,6 @@ use Rattle.hm_isa.specs.Rules.{keeps_compare}
 use Rattle.hm_isa.specs.Standing.{◌↑◌}
 use Rattle.std.proofs.lemmas.Bool.{and_parts}
 use Rattle.std.proofs.lemmas.Bool.Decides.{nat_tests}
-use Rattle.hm_tokens.specs.Names.{register_name}
 use Rattle.hm_text16.specs.declared.operands.Kind.TheVariants as kinds
 use Rattle.hm_text16.specs.Codes.{code_of}
 use Rattle.hm_text16.specs.Operands.{word_value}

@@ -1,16 +1,14 @@
 -- Reading: a row that has the tokens is the row of the code that they ask for.
-use Rattle.std.proofs.Common.{◌≡◌, ℕ, ◌+◌, ◌^◌, ◌<◌, ◌≤◌, Bool, true, false, cond, List, [], ◌∷◌, length, Option, Some, None, refl, sym, subst, ap, ◌∙◌, arith}
-use Rattle.std.specs.Prelude.{◌↔◌, IfSome, IsTrue, option_map}
+use Rattle.std.proofs.Common.{◌≡◌, ℕ, ◌+◌, ◌^◌, ◌<◌, ◌≤◌, List, [], ◌∷◌, length, Option, Some, None, refl, sym, subst, ap, ◌∙◌, arith}
+use Rattle.std.specs.Prelude.{◌↔◌, IfSome, option_map}
 use Rattle.hm_isa.specs.declared.Instr.{Instr}
 use Rattle.hm_isa.specs.Code.{halfwords}
 use Rattle.hm_text_base.proofs.Steps.{some_is}
 use Rattle.hm_tokens.specs.Ranges.{normal}
 use Rattle.hm_tokens.specs.Tokens.{Tok}
 use Rattle.hm_text16.specs.Codes.{code_in}
-use Rattle.hm_text16.specs.Rows.{has_label, row_tokens, tokens_of}
-use Rattle.hm_text16.specs.Targets.{target}
+use Rattle.hm_text16.specs.Rows.{tokens_of}
 use Rattle.hm_text16.specs.Texts.{HasTokens, IsNarrow, IsRowAt, label_of}
-use Rattle.hm_text_rows.specs.Labels.{IsLabel, Reaches}
 use Rattle.hm_text16.proofs.Fits.{IsSmall, small_code}
 use Rattle.hm_text16.proofs.Laws.{few_tokens, nearest, row_law}
 use Rattle.hm_text16.proofs.Asked.{halves}

@@ -1,10 +1,9 @@
 -- Whether tokens are a row's, and the last of them.
-use Rattle.std.proofs.Common.{◌≡◌, ℕ, zero, suc, ◌+◌, ◌-◌, ◌<◌, ◌≤◌, Bool, true, false, cond, List, [], ◌∷◌, ◌++◌, length, length-append, map, take, get_or, Option, Some, None, refl, sym, subst, ap, ◌∙◌, arith}
-use Rattle.std.specs.Prelude.{◌↔◌, IsTrue, option_map}
+use Rattle.std.proofs.Common.{◌≡◌, ℕ, ◌+◌, ◌-◌, ◌<◌, ◌≤◌, Bool, true, false, List, [], ◌∷◌, ◌++◌, length, length-append, Option, Some, None, refl, sym, subst, ap, ◌∙◌, arith}
+use Rattle.std.specs.Prelude.{◌↔◌, IsTrue}
 use Rattle.std.proofs.lemmas.Bool.{false≢true}
 use Rattle.hm_isa.specs.declared.Instr.{Instr}
-use Rattle.hm_tokens.specs.declared.token.Token.{Token}
-use Rattle.hm_tokens.specs.Tokens.{Tok, number, tok}
+use Rattle.hm_tokens.specs.Tokens.{Tok, number}
 use Rattle.hm_text_rows.proofs.Tails.{last_one}
 use Rattle.hm_text16.specs.Rows.{has_label, row_tokens, tokens_of}
 use Rattle.hm_text16.specs.Targets.{target}

@@ -1,13 +1,9 @@
 -- The names of registers and conditions, as operands.
-use Rattle.std.proofs.Common.{◌≡◌, ℕ, zero, suc, ◌<◌, ◌≤◌, Bool, true, false, eqb, ltb, List, [], ◌∷◌, length, refl, sym, subst, inl, inr, arith}
-use Rattle.std.specs.Prelude.{◌&&◌, not}
-use Rattle.std.specs.List.{list_all}
-use Rattle.std.proofs.lemmas.Bool.{agree_below, agree_below_at, cases_Bool, eqb-true, eqb-false, and_parts}
+use Rattle.std.proofs.Common.{◌≡◌, ℕ, ◌<◌, ◌≤◌, true, ltb, List, [], ◌∷◌, refl, arith}
+use Rattle.std.specs.Prelude.{◌&&◌}
 use Rattle.std.proofs.lemmas.Bool.Decides.{nat_tests}
-use Rattle.hm_tokens.specs.declared.token.Class.TheVariants as classes
 use Rattle.hm_tokens.specs.Names.{register_name}
-use Rattle.hm_tokens.specs.Tokens.{word, is_digit, is_in}
-use Rattle.hm_tokens.proofs.Again.{IsToken}
+use Rattle.hm_tokens.specs.Tokens.{word}
 use Rattle.hm_text_rows.proofs.Words.{below_holds, below_is, is_name}
 use Rattle.hm_text16.specs.Operands.{word_value}
 use Rattle.hm_text16.specs.Stems.{block_condition}

@@ -1,5 +1,5 @@
 -- The text of each row of one halfword, as tokens.
-use Rattle.std.specs.Prelude.{ℕ, zero, suc, ◌+◌, ◌*◌, Bool, length, ltb, true, false, List, [], ◌∷◌, ◌++◌, codes, nat_eq, if◌then◌else◌}
+use Rattle.std.specs.Prelude.{ℕ, ◌+◌, ◌*◌, Bool, true, false, List, [], ◌∷◌, ◌++◌, codes, nat_eq, if◌then◌else◌}
 use Rattle.hm_isa.specs.declared.Instr.{Instr}
 use Rattle.hm_isa.specs.declared.Instr.TheVariants.{Scalar, Branch, Vector}
 use Rattle.hm_isa.specs.declared.Scalar.{Scalar as ScalarRow}
@@ -18,8 +18,7 @@ use Rattle.hm_isa.specs.declared.narrow.ShiftName.{ShiftName}
 use Rattle.hm_isa.specs.declared.narrow.ShiftName.TheVariants as shift
 use Rattle.hm_isa.specs.Rules.{listed_in}
 use Rattle.hm_isa.specs.Standing.{◌↑◌}
-use Rattle.hm_tokens.specs.Names.{register_name}
-use Rattle.hm_tokens.specs.Tokens.{Tok, word, number, mark}
+use Rattle.hm_tokens.specs.Tokens.{Tok, word, mark}
 use Rattle.hm_text_rows.specs.Shapes.{and_constant, braces, comma, constant, inside, one, r, three, two}
 use Rattle.hm_text16.specs.Stems.{access_stem, block_condition, block_stem, branch_stem, byte_stem, extend_stem, hint_stem, jump_stem, logic_stem, masking_stem, plain_stem, shift_stem, stack_sum_stem, sum_stem, swap_stem, word_stem, zero_stem}
 

@@ -1,11 +1,10 @@
 -- Which texts a row has.
-use Rattle.std.specs.Prelude.{◌≡◌, ◌<◌, ℕ, ◌^◌, true, List, Option, Some, None, length, if◌then◌else◌}
+use Rattle.std.specs.Prelude.{◌≡◌, ◌<◌, ℕ, ◌^◌, List, Option, Some, None, length, if◌then◌else◌}
 use Rattle.hm_isa.specs.declared.Instr.{Instr}
 use Rattle.hm_isa.specs.Code.{halfwords}
 use Rattle.hm_tokens.specs.Lines.{IsLineOf}
-use Rattle.hm_tokens.specs.Names.{is_label_name}
 use Rattle.hm_tokens.specs.Ranges.{normal}
-use Rattle.hm_tokens.specs.Tokens.{Tok, word, number, mark}
+use Rattle.hm_tokens.specs.Tokens.{Tok}
 use Rattle.hm_text_rows.specs.Labels.{IsLabel, NamesTarget, Reaches, printed_with}
 use Rattle.hm_text16.specs.Rows.{has_label, row_tokens, tokens_of}
 use Rattle.hm_text16.specs.Targets.{target}
@@ -14,7 +13,7 @@ use Rattle.hm_text16.specs.Targets.{target}
 abbrev pub IsNarrow : Instr → Type 0
 IsNarrow i = length (halfwords i) ≡ 1
 
--- tokens with single registers are a row's, where t stands for its label; where it has none, t is any
+-- tokens with single registers are a row's, where t stands for its label; where it has none, t is any label
 pub record HasTokens (i : Instr) (t : Tok) (ts : List Tok) : Type 0 where
   pub narrow : IsNarrow i
   pub label : IsLabel t

@@ -25,7 +25,7 @@ use Rattle.hm_isa.specs.declared.arith.T11.TheVariants as t11
 use Rattle.hm_isa.specs.declared.arith.T20.{T20}
 use Rattle.hm_isa.specs.ArithCodes.{accumulate_base, bits_base, code_t10, code_t11, code_t20, code_t8, code_t9, long_product_base, operation_base, select_base, wide_extend_base, wide_shift_base}
 use Rattle.hm_isa.specs.Standing.{◌↑◌}
-use Rattle.hm_tokens.specs.Tokens.{Tok, word}
+use Rattle.hm_tokens.specs.Tokens.{word}
 use Rattle.hm_tokens.specs.Names.{condition_name}
 use Rattle.hm_text32.specs.Codes.{code_of}
 use Rattle.hm_text32.specs.Operands.{word_value}
@@ -34,7 +34,7 @@ use Rattle.hm_text32.specs.Rows.{product_tokens}
 use Rattle.hm_text32.specs.Stems.{accumulate_stem, bits_stem, bits_suffix, extend_stem, long_stem, operation_stem, select_stem, wide, wide_shift_stem}
 use Rattle.hm_text_rows.specs.Shapes.{and_shift, four, or_zero, r, three, two}
 use Rattle.hm_text_rows.proofs.Words.{is_stem}
-use Rattle.hm_text32.proofs.Forms.{Answers, Operand, Suffix, a_condition, a_register, a_register_or_zero, answers_of, bare, given, kind_given, no_suffix, reads_four, reads_three, reads_two, reads_two_shift, suffix_wide}
+use Rattle.hm_text32.proofs.Forms.{Answers, Operand, Suffix, a_condition, a_register, a_register_or_zero, answers_of, bare, given, no_suffix, reads_four, reads_three, reads_two, reads_two_shift, suffix_wide}
 
 -- T8
 stem_wide_shift : (name : WideShiftName) (s : ℕ) → s < 2 → is_stem (wide_shift_stem name s) ≡ true

@@ -1,6 +1,6 @@
 -- Rows of a register and numbers: their texts ask for their codes.
-use Rattle.std.proofs.Common.{◌≡◌, ℕ, zero, suc, ◌+◌, ◌-◌, ◌*◌, ◌/◌, ◌%◌, ◌<◌, ◌≤◌, ◌^◌, Bool, true, false, cond, eqb, List, ◌++◌, Some, refl, ap, inl, inr, arith}
-use Rattle.std.specs.Prelude.{codes, nat_eq, nat_le, nat_lt, not, ◌&&◌, ◌||◌}
+use Rattle.std.proofs.Common.{◌≡◌, ℕ, zero, suc, ◌+◌, ◌-◌, ◌*◌, ◌/◌, ◌%◌, ◌<◌, ◌≤◌, ◌^◌, true, false, cond, eqb, List, ◌++◌, Some, refl, ap, inl, inr, arith}
+use Rattle.std.specs.Prelude.{codes, nat_eq, nat_le, not, ◌&&◌, ◌||◌}
 use Rattle.std.proofs.lemmas.Bool.{and_parts, cases_Bool, eqb-true}
 use Rattle.std.proofs.lemmas.Bool.Decides.{nat_tests}
 use Rattle.hm_isa.specs.declared.Instr.{Instr}
@@ -19,7 +19,7 @@ use Rattle.hm_isa.specs.declared.data.T4.{T4}
 use Rattle.hm_isa.specs.declared.data.T5.{T5}
 use Rattle.hm_isa.specs.declared.data.T6.{T6}
 use Rattle.hm_isa.specs.declared.data.T7.{T7}
-use Rattle.hm_isa.specs.DataCodes.{code_t3, code_t4, code_t5, code_t6, code_t7, extract_base, half_base, saturate_base, wide_sum_base}
+use Rattle.hm_isa.specs.DataCodes.{code_t3, code_t4, code_t5, code_t6, extract_base, half_base, saturate_base, wide_sum_base}
 use Rattle.hm_isa.specs.Rules.{is_general}
 use Rattle.hm_isa.specs.Standing.{◌↑◌}
 use Rattle.hm_enc32.specs.Table.{HasWord}
@@ -29,9 +29,9 @@ use Rattle.hm_text32.specs.Operands.{word_value}
 use Rattle.hm_text_rows.specs.Operands.{is_vector_name}
 use Rattle.hm_text32.specs.Rows.{and_turn, insert_tokens, saturate_tokens, saturated_bits}
 use Rattle.hm_text32.specs.Stems.{extract_stem, half_stem, saturate_stem, wide_sum_stem}
-use Rattle.hm_text_rows.specs.Shapes.{and_constant, and_operand, and_shift, one, r, two}
+use Rattle.hm_text_rows.specs.Shapes.{and_constant, and_operand, one, r, two}
 use Rattle.hm_text_rows.proofs.Words.{is_stem}
-use Rattle.hm_text32.proofs.Forms.{Answers, Operand, a_register, answers_of, bare, given, kind_given, no_suffix, numbered, reads_one_constant, reads_one_constants, reads_saturate, reads_two_constant, reads_two_constants, both_numbered, second_numbered}
+use Rattle.hm_text32.proofs.Forms.{Answers, Operand, a_register, answers_of, bare, no_suffix, numbered, reads_one_constant, reads_one_constants, reads_saturate, reads_two_constant, reads_two_constants, both_numbered, second_numbered}
 
 -- T3
 stem_wide_sum : (name : SumName) → is_stem (wide_sum_stem name) ≡ true

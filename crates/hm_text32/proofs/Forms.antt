@@ -1,12 +1,12 @@
 -- The shapes of rows' texts: what their operands give, and that they are printed and read back.
-use Rattle.std.proofs.Common.{◌≡◌, ℕ, zero, suc, ◌^◌, ◌<◌, Bool, true, false, eqb, List, [], ◌∷◌, ◌++◌, Some, refl, subst, inl, inr, ◌∙◌, arith}
+use Rattle.std.proofs.Common.{◌≡◌, ℕ, ◌^◌, ◌<◌, Bool, true, false, eqb, List, [], ◌∷◌, ◌++◌, Some, refl, subst, inl, inr, ◌∙◌, arith}
 use Rattle.std.proofs.lemmas.List.{append-nil}
 use Rattle.std.proofs.lemmas.Bool.{agree_below_at, cases_Bool, eqb-true}
 use Rattle.std.specs.Prelude.{cond, codes, min, nat_eq}
 use Rattle.hm_isa.specs.declared.Instr.{Instr}
 use Rattle.hm_enc32.specs.Table.{HasWord}
 use Rattle.hm_tokens.specs.Names.{condition_name, register_name, vector_name}
-use Rattle.hm_tokens.specs.Tokens.{Tok, word, mark, number}
+use Rattle.hm_tokens.specs.Tokens.{Tok, word, number}
 use Rattle.hm_text32.specs.declared.operands.Operands.{Operands}
 use Rattle.hm_text32.specs.Operands.{word_value}
 use Rattle.hm_text_rows.specs.Operands.{is_vector_name, size_of}
@@ -14,7 +14,7 @@ use Rattle.hm_text32.specs.Codes.{code_of, plain_code_in}
 use Rattle.hm_text32.specs.Stems.{element_suffix, wide}
 use Rattle.hm_text_rows.specs.Shapes.{and_constant, and_operand, and_shift, comma, constant, four, one, three, two}
 use Rattle.hm_text_rows.proofs.Words.{below_holds, below_is, cut, is_name, is_stem, is_suffix, word_q, word_r}
-use Rattle.hm_text_rows.proofs.Printed.{IsPrinted, is_printed, short_close, short_comma, short_hash, short_number, short_open, short_word}
+use Rattle.hm_text_rows.proofs.Printed.{IsPrinted, is_printed, short_comma, short_hash, short_number, short_word}
 
 -- tokens with this stem and these operands
 pub record Reads (ts : List Tok) (s : List ℕ) (o : Operands) : Type 0 where

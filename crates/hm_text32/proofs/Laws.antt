@@ -1,8 +1,7 @@
 -- Every row of two halfwords that is no vector row: its text asks for its code, and is printed and read back; so does its other text.
-use Rattle.std.proofs.Common.{◌≡◌, ℕ, ◌+◌, ◌%◌, ◌^◌, ◌<◌, ◌≤◌, Bool, true, false, cond, List, [], ◌∷◌, ◌++◌, length, length-append, refl, sym, subst, inl, inr, ◌∙◌, Some, None, Option, arith}
-use Rattle.std.specs.Prelude.{◌&&◌, nat_eq, not}
-use Rattle.std.proofs.lemmas.Bool.{and_parts, eqb-true}
-use Rattle.hm_isa.specs.declared.fields.Below.{Below}
+use Rattle.std.proofs.Common.{◌≡◌, ℕ, ◌+◌, ◌%◌, ◌^◌, ◌<◌, ◌≤◌, false, List, [], ◌∷◌, ◌++◌, length, refl, sym, subst, inl, inr, ◌∙◌, Some, Option, arith}
+use Rattle.std.specs.Prelude.{◌&&◌, nat_eq}
+use Rattle.std.proofs.lemmas.Bool.{eqb-true}
 use Rattle.hm_isa.specs.declared.Scalar.{Scalar}
 use Rattle.hm_isa.specs.declared.Scalar.TheVariants as scalar
 use Rattle.hm_isa.specs.declared.Branch.{Branch}
@@ -17,14 +16,11 @@ use Rattle.hm_isa.specs.declared.system.T19.TheVariants as t19
 use Rattle.hm_isa.specs.Code.{branch_halves, scalar_halves}
 use Rattle.hm_enc32.specs.Table.{IsWide}
 use Rattle.hm_text_base.proofs.Steps.{some_is, test_some}
-use Rattle.hm_tokens.specs.Lines.{IsLineOf, printed, printed_at}
-use Rattle.hm_tokens.specs.Ranges.{is_the_mark, normal}
-use Rattle.hm_tokens.specs.Tokens.{Tok, number, word}
-use Rattle.hm_tokens.proofs.Ranges.{has_no_ranges, normal_same}
-use Rattle.hm_text_rows.specs.Labels.{IsLabel, NamesTarget, Reaches}
-use Rattle.hm_text_rows.proofs.Printed.{IsPrinted, IsPrintedAt}
-use Rattle.hm_text_rows.proofs.Shown.{IsGiven, IsPrintedRow, again_of, few_of, room_of}
-use Rattle.hm_text32.specs.Rows.{has_label, has_label_loop, other_barrier, other_scalar, other_tokens, row_tokens, tokens_of}
+use Rattle.hm_tokens.specs.Lines.{IsLineOf, printed}
+use Rattle.hm_tokens.specs.Tokens.{Tok, word}
+use Rattle.hm_text_rows.specs.Labels.{Reaches}
+use Rattle.hm_text_rows.proofs.Shown.{IsGiven, again_of, few_of, room_of}
+use Rattle.hm_text32.specs.Rows.{has_label, has_label_loop, other_barrier, other_scalar, other_tokens, row_tokens}
 use Rattle.hm_text32.specs.Stems.{barrier_stem}
 use Rattle.hm_text32.specs.Targets.{target}
 use Rattle.hm_text32.specs.Texts.{AreTokens, HasTokens, IsTextOf, text_of}

@@ -1,5 +1,5 @@
 -- Rows of a constant: their texts ask for their codes.
-use Rattle.std.proofs.Common.{◌≡◌, ℕ, zero, suc, ◌+◌, ◌-◌, ◌*◌, ◌/◌, ◌%◌, ◌<◌, ◌≤◌, ◌^◌, Bool, true, false, cond, eqb, ltb, List, [], ◌∷◌, ◌++◌, Some, refl, sym, subst, ap, inl, inr, ◌∙◌, arith}
+use Rattle.std.proofs.Common.{◌≡◌, ℕ, zero, suc, ◌+◌, ◌-◌, ◌*◌, ◌/◌, ◌%◌, ◌<◌, ◌≤◌, ◌^◌, Bool, true, false, eqb, [], ◌∷◌, ◌++◌, Some, refl, subst, ap, inl, inr, ◌∙◌, arith}
 use Rattle.std.specs.Prelude.{codes, nat_eq, nat_le, nat_lt, ◌&&◌, ◌||◌}
 use Rattle.std.proofs.lemmas.Bool.{and_parts, cases_Bool, eqb-true, ne_eqb}
 use Rattle.std.proofs.lemmas.Bool.Decides.{nat_tests}
@@ -10,10 +10,9 @@ use Rattle.hm_isa.specs.declared.data.DataName.{DataName}
 use Rattle.hm_isa.specs.declared.data.DataName.TheVariants as data_
 use Rattle.hm_isa.specs.declared.data.T1.{T1}
 use Rattle.hm_isa.specs.DataCodes.{operation}
-use Rattle.hm_isa.specs.DataRules.{is_constant, is_constant_row, is_first, is_result, may_test}
+use Rattle.hm_isa.specs.DataRules.{is_constant, is_first, is_result, may_test}
 use Rattle.hm_isa.specs.Standing.{◌↑◌}
 use Rattle.hm_enc32.specs.Table.{HasWord}
-use Rattle.hm_tokens.specs.Tokens.{Tok}
 use Rattle.hm_tokens.proofs.Again.{or_true}
 use Rattle.hm_thumb.specs.Arithmetic.{rotated}
 use Rattle.hm_thumb.specs.DataRows.{expand_imm_c, imm12, repeats}
@@ -21,7 +20,7 @@ use Rattle.hm_text32.specs.Codes.{code_of, constant_code, constant_field, shift_
 use Rattle.hm_text32.specs.Rows.{constant_in, constant_tokens}
 use Rattle.hm_text32.specs.Stems.{data_stem, move_stem, test_stem, wide}
 use Rattle.hm_text_rows.specs.Shapes.{and_constant, one, r, two}
-use Rattle.hm_text_rows.proofs.Words.{AllBelow, at_below, below_is}
+use Rattle.hm_text_rows.proofs.Words.{at_below, below_is}
 use Rattle.hm_text32.proofs.Forms.{Answers, a_register, answers_of, numbered, reads_one_constant, reads_two_constant, second_numbered, suffix_wide}
 use Rattle.hm_text32.proofs.Shifted.{data_base, stem_data, stem_move, stem_not, stem_test}
 

@@ -1,9 +1,8 @@
 -- Rows with a label: their texts ask for their codes, where the label names their targets.
-use Rattle.std.proofs.Common.{◌≡◌, ℕ, zero, suc, ◌+◌, ◌-◌, ◌*◌, ◌/◌, ◌%◌, ◌^◌, ◌<◌, ◌≤◌, Bool, true, false, cond, eqb, List, [], ◌∷◌, ◌++◌, length, Some, None, refl, sym, subst, ap, ◌∙◌, inl, inr, arith}
+use Rattle.std.proofs.Common.{◌≡◌, ℕ, zero, suc, ◌+◌, ◌-◌, ◌*◌, ◌/◌, ◌%◌, ◌^◌, ◌<◌, ◌≤◌, true, List, [], ◌∷◌, ◌++◌, Some, None, refl, sym, subst, ap, ◌∙◌, inl, inr, arith}
 use Rattle.std.specs.Prelude.{codes, nat_eq, nat_lt}
 use Rattle.std.proofs.lemmas.Bool.{cases_Bool}
 use Rattle.std.proofs.lemmas.Bool.Decides.{nat_tests}
-use Rattle.std.proofs.lemmas.List.{append-nil}
 use Rattle.hm_isa.specs.declared.Instr.TheVariants as instr
 use Rattle.hm_isa.specs.declared.Branch.TheVariants as branch
 use Rattle.hm_isa.specs.declared.jumps.LoopEnd.{LoopEnd}
@@ -23,9 +22,9 @@ use Rattle.hm_isa.specs.Standing.{◌↑◌}
 use Rattle.hm_thumb.specs.Arithmetic.{sign_extended}
 use Rattle.hm_thumb.specs.BranchRows.{alike, always_distance, conditional_distance}
 use Rattle.hm_tokens.specs.Names.{condition_name, register_name}
-use Rattle.hm_tokens.specs.Tokens.{Tok, word, number, mark}
-use Rattle.hm_text_rows.specs.Labels.{IsLabel, behind, distance}
-use Rattle.hm_text_rows.specs.Shapes.{comma, r, two}
+use Rattle.hm_tokens.specs.Tokens.{Tok, word, number}
+use Rattle.hm_text_rows.specs.Labels.{behind, distance}
+use Rattle.hm_text_rows.specs.Shapes.{comma, r}
 use Rattle.hm_text_rows.proofs.Printed.{IsPrintedAt, is_printed_at, short_comma, short_word}
 use Rattle.hm_text_rows.proofs.Words.{at_below, below_holds, is_stem, is_suffix, word_r}
 use Rattle.hm_text32.specs.Codes.{ahead, always_code, behind_it, code_in, code_of, code_of_label, code_of_memory, conditional_code, same_bit}

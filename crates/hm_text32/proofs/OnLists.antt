@@ -1,10 +1,7 @@
 -- Rows of lists of registers: their texts ask for their codes.
-use Rattle.std.proofs.Common.{◌≡◌, ℕ, zero, suc, ◌+◌, ◌*◌, ◌/◌, ◌%◌, ◌^◌, ◌<◌, ◌≤◌, Bool, true, false, cond, eqb, List, [], ◌∷◌, ◌++◌, length, Some, refl, sym, subst, ap, inl, inr, ◌∙◌, arith}
-use Rattle.std.specs.Prelude.{codes, min, nat_eq, nat_le, not, count_ones, ◌&&◌, ◌||◌}
-use Rattle.std.proofs.lemmas.Bool.{and_parts, cases_Bool, eqb-true}
-use Rattle.std.proofs.lemmas.Bool.Decides.{nat_tests}
-use Rattle.std.proofs.lemmas.List.{length-append}
-use Rattle.std.proofs.Math.Nat.{mul-add, mul_assoc, mul_comm}
+use Rattle.std.proofs.Common.{◌≡◌, ℕ, zero, suc, ◌+◌, ◌*◌, ◌/◌, ◌%◌, ◌^◌, ◌<◌, ◌≤◌, Bool, true, false, cond, List, [], ◌∷◌, ◌++◌, length, Some, refl, sym, subst, ap, ◌∙◌, arith}
+use Rattle.std.specs.Prelude.{codes, nat_eq, nat_le, not, count_ones, ◌&&◌, ◌||◌}
+use Rattle.std.proofs.lemmas.Bool.{and_parts}
 use Rattle.hm_isa.specs.declared.Instr.TheVariants as instr
 use Rattle.hm_isa.specs.declared.Scalar.TheVariants as scalar
 use Rattle.hm_isa.specs.declared.wide.T14.{T14}
@@ -13,20 +10,16 @@ use Rattle.hm_isa.specs.declared.wide.WideListName.TheVariants as wide_list
 use Rattle.hm_isa.specs.Code.{code_t14, wide_list_base}
 use Rattle.hm_isa.specs.Rules.{is_wide_list, listed_in, may_list}
 use Rattle.hm_isa.specs.Standing.{◌↑◌}
-use Rattle.hm_tokens.specs.Lines.{printed, spelled_behind}
-use Rattle.hm_tokens.specs.Names.{register_name}
-use Rattle.hm_tokens.specs.Tokens.{Tok, word, mark}
-use Rattle.hm_tokens.proofs.Again.{AreTokens, are_apart}
-use Rattle.hm_text_rows.specs.Shapes.{back, braces, comma, listed, r, registers_from}
-use Rattle.hm_text_rows.proofs.Printed.{IsPrinted, is_printed_in, short_bang, short_comma, short_open_brace}
-use Rattle.hm_text_rows.proofs.Registers.{AllBelow16, front_count, listed_apart, listed_length, listed_ranges, listed_spelled, listed_tokens, name_length, registers_below}
-use Rattle.hm_text_rows.proofs.Words.{below_is, is_stem, is_suffix, mnemonic_short, word_r, word_token}
+use Rattle.hm_tokens.specs.Tokens.{Tok}
+use Rattle.hm_text_rows.specs.Shapes.{braces, registers_from}
+use Rattle.hm_text_rows.proofs.Registers.{front_count}
+use Rattle.hm_text_rows.proofs.Words.{is_stem, is_suffix}
 use Rattle.hm_text_rows.proofs.Braces.{base_and_list, behind_base, braced_of, braces_bits, printed_list}
 use Rattle.hm_text32.specs.Codes.{code_of, code_of_memory}
-use Rattle.hm_text32.specs.Operands.{second_bang, value, word_value}
-use Rattle.hm_text_rows.specs.Operands.{bit_in, bits_of, braced, operand}
+use Rattle.hm_text32.specs.Operands.{second_bang, value}
+use Rattle.hm_text_rows.specs.Operands.{bits_of, braced, operand}
 use Rattle.hm_text32.specs.Rows.{list_start}
-use Rattle.hm_text32.specs.Stems.{wide, wide_list_stem, wide_list_suffix}
+use Rattle.hm_text32.specs.Stems.{wide_list_stem, wide_list_suffix}
 use Rattle.hm_text32.proofs.Asked.{Asks, IsNoPlain, asks_memory}
 use Rattle.hm_text32.proofs.Forms.{a_register}
 

@@ -1,7 +1,7 @@
 -- Rows that load and store one register or two: their texts ask for their codes.
-use Rattle.std.proofs.Common.{◌≡◌, ℕ, zero, suc, ◌+◌, ◌*◌, ◌/◌, ◌%◌, ◌<◌, ◌^◌, Bool, true, false, cond, eqb, List, [], ◌∷◌, ◌++◌, Some, None, refl, sym, subst, ap, inl, inr, ◌⊎◌, ◌∙◌, arith}
+use Rattle.std.proofs.Common.{◌≡◌, ℕ, zero, suc, ◌+◌, ◌*◌, ◌/◌, ◌%◌, ◌<◌, ◌^◌, Bool, true, false, eqb, List, [], ◌∷◌, ◌++◌, Some, refl, subst, ap, inl, inr, ◌⊎◌, ◌∙◌, arith}
 use Rattle.std.specs.Prelude.{codes, nat_eq, nat_lt, not, ◌&&◌, ◌||◌, if◌then◌else◌}
-use Rattle.std.proofs.lemmas.Bool.{and_parts, eqb-true, ne_eqb}
+use Rattle.std.proofs.lemmas.Bool.{and_parts, eqb-true}
 use Rattle.std.proofs.lemmas.Bool.Decides.{nat_tests}
 use Rattle.hm_isa.specs.declared.Instr.{Instr}
 use Rattle.hm_isa.specs.declared.Instr.TheVariants as instr
@@ -17,20 +17,20 @@ use Rattle.hm_isa.specs.declared.wide.PairName.TheVariants as pair
 use Rattle.hm_isa.specs.declared.wide.T12.{T12}
 use Rattle.hm_isa.specs.declared.wide.T12.TheVariants as t12
 use Rattle.hm_isa.specs.declared.wide.T13.{T13}
-use Rattle.hm_isa.specs.Code.{code_t12, code_t13, pair_base, wide_access_base}
+use Rattle.hm_isa.specs.Code.{code_t13, pair_base, wide_access_base}
 use Rattle.hm_isa.specs.Rules.{is_data, is_indexed, is_offset, is_pair}
 use Rattle.hm_isa.specs.Standing.{◌↑◌}
 use Rattle.std.proofs.lemmas.List.{append-nil}
 use Rattle.hm_enc32.specs.Table.{HasWord}
 use Rattle.hm_tokens.specs.Names.{register_name}
 use Rattle.hm_tokens.specs.Ranges.{singles}
-use Rattle.hm_tokens.specs.Tokens.{Tok, word, number, mark}
+use Rattle.hm_tokens.specs.Tokens.{Tok, word, number}
 use Rattle.hm_text32.specs.declared.operands.Places.{Places}
 use Rattle.hm_text32.specs.Codes.{access_code, code_of, code_of_memory, pair_code}
 use Rattle.hm_text32.specs.Operands.{read_places, word_value}
 use Rattle.hm_text32.specs.Rows.{access_tokens}
 use Rattle.hm_text32.specs.Stems.{access_stem, pair_stem, wide}
-use Rattle.hm_text_rows.specs.Shapes.{comma, indexed, inside, r, scaled}
+use Rattle.hm_text_rows.specs.Shapes.{comma, indexed, r, scaled}
 use Rattle.hm_text_rows.proofs.Words.{is_stem, is_suffix, word_r}
 use Rattle.hm_text_rows.proofs.Printed.{IsPrinted, IsShort, is_printed_as, short_bang, short_close, short_comma, short_hash, short_minus, short_number, short_open, short_word}
 use Rattle.hm_text32.proofs.Asked.{Asks, IsNoPlain, asks_memory}

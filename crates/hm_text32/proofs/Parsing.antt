@@ -1,6 +1,6 @@
 -- Reading: a row that has the tokens is the row of the code that they ask for.
-use Rattle.std.proofs.Common.{◌≡◌, ℕ, ◌+◌, ◌^◌, ◌<◌, ◌≤◌, Bool, true, false, cond, List, [], ◌∷◌, length, Option, Some, None, refl, sym, subst, ap, inl, inr, ◌∙◌, arith}
-use Rattle.std.specs.Prelude.{◌↔◌, IfSome, IsTrue, option_map}
+use Rattle.std.proofs.Common.{◌≡◌, ℕ, ◌+◌, ◌^◌, ◌<◌, ◌≤◌, List, [], ◌∷◌, length, Option, Some, None, refl, sym, subst, ap, inl, inr, ◌∙◌, arith}
+use Rattle.std.specs.Prelude.{◌↔◌, IfSome, option_map}
 use Rattle.hm_isa.specs.declared.Instr.{Instr}
 use Rattle.hm_isa.specs.declared.Instr.TheVariants as instr
 use Rattle.hm_enc32.specs.Table.{HasWord, IsWide}
@@ -9,7 +9,7 @@ use Rattle.hm_tokens.specs.Ranges.{normal}
 use Rattle.hm_tokens.specs.Tokens.{Tok}
 use Rattle.hm_text_rows.specs.Labels.{IsLabel, Reaches}
 use Rattle.hm_text32.specs.Codes.{code_in}
-use Rattle.hm_text32.specs.Rows.{has_label, other_tokens, row_tokens, tokens_of}
+use Rattle.hm_text32.specs.Rows.{has_label, other_tokens, row_tokens}
 use Rattle.hm_text32.specs.Targets.{target}
 use Rattle.hm_text32.specs.Texts.{AreTokens, HasTokens, IsRowAt, label_of}
 use Rattle.hm_text32.proofs.Fits.{word_below}

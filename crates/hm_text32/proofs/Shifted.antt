@@ -8,12 +8,12 @@ use Rattle.hm_isa.specs.declared.Scalar.TheVariants as scalar
 use Rattle.hm_isa.specs.declared.data.DataName.{DataName}
 use Rattle.hm_isa.specs.declared.data.DataName.TheVariants as data_
 use Rattle.hm_isa.specs.declared.data.T2.{T2}
-use Rattle.hm_isa.specs.DataCodes.{code_t2, operation}
+use Rattle.hm_isa.specs.DataCodes.{operation}
 use Rattle.hm_isa.specs.DataRules.{is_first, is_result, is_shifted_row, is_stack_move, may_test}
 use Rattle.hm_isa.specs.Rules.{is_general}
 use Rattle.hm_isa.specs.Standing.{◌↑◌}
 use Rattle.hm_enc32.specs.Table.{HasWord}
-use Rattle.hm_tokens.specs.Tokens.{Tok, word}
+use Rattle.hm_tokens.specs.Tokens.{word}
 use Rattle.hm_text32.specs.Codes.{code_of, shifted_code}
 use Rattle.hm_text32.specs.Operands.{word_value}
 use Rattle.hm_text_rows.specs.Operands.{is_vector_name}

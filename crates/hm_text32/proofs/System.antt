@@ -1,5 +1,5 @@
 -- Special registers, barriers, lanes, tables of branches and loops: their texts ask for their codes.
-use Rattle.std.proofs.Common.{◌≡◌, ℕ, zero, suc, ◌+◌, ◌-◌, ◌*◌, ◌/◌, ◌%◌, ◌<◌, ◌^◌, Bool, true, false, cond, List, [], ◌∷◌, ◌++◌, Some, None, refl, ap, arith}
+use Rattle.std.proofs.Common.{◌≡◌, ℕ, ◌+◌, ◌-◌, ◌*◌, ◌/◌, ◌%◌, ◌<◌, ◌^◌, Bool, true, false, cond, List, [], ◌∷◌, ◌++◌, Some, None, refl, ap, arith}
 use Rattle.std.specs.Prelude.{codes, nat_eq, nat_lt, ◌&&◌}
 use Rattle.std.proofs.lemmas.Bool.{agree_below_at, and_parts}
 use Rattle.std.proofs.lemmas.Bool.Decides.{nat_tests}
@@ -36,9 +36,9 @@ use Rattle.hm_isa.specs.Code.{code_t15, stack_base}
 use Rattle.hm_isa.specs.JumpCodes.{code_dls, code_dlstp, code_t17, table_base}
 use Rattle.hm_isa.specs.SystemCodes.{barrier_base, code_barrier, code_mrs, code_msr, code_t21, code_t22, lane_move_base, read_base, system_move_base, written_base}
 use Rattle.hm_isa.specs.Standing.{◌↑◌}
-use Rattle.hm_tokens.specs.Names.{register_in, register_name, vector_name}
+use Rattle.hm_tokens.specs.Names.{register_in, register_name}
 use Rattle.hm_tokens.specs.Ranges.{singles}
-use Rattle.hm_tokens.specs.Tokens.{Tok, mark, number, word}
+use Rattle.hm_tokens.specs.Tokens.{mark, number, word}
 use Rattle.hm_text32.specs.declared.operands.Operands.{Operands}
 use Rattle.hm_text32.specs.Codes.{code_of}
 use Rattle.hm_text32.specs.Operands.{word_value}

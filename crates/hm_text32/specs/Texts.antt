@@ -13,7 +13,7 @@ use Rattle.hm_text32.specs.Targets.{target}
 abbrev pub AreTokens : Instr → Tok → List Tok → Type 0
 AreTokens i t ts = (tokens_of i t ≡ ts) ⊎ (other_tokens i ≡ Some ts)
 
--- tokens with single registers are a row's, where t stands for its label; where it has none, t is any
+-- tokens with single registers are a row's, where t stands for its label; where it has none, t is any label
 pub record HasTokens (i : Instr) (t : Tok) (ts : List Tok) : Type 0 where
   pub wide : IsWide i
   pub label : IsLabel t

@@ -1,12 +1,7 @@
 -- The codes of vector rows have 32 bits.
-use Rattle.std.proofs.Common.{◌≡◌, ℕ, ◌≤◌, ◌<◌, ◌^◌, Bool, true, List, [], ◌∷◌, length, nat_le, refl, ap, inl, inr, ◌∙◌, arith}
-use Rattle.std.proofs.lemmas.Bool.Decides.{nat_tests}
-use Rattle.std.proofs.Math.Pow.{pow_mono}
+use Rattle.std.proofs.Common.{◌≡◌, ℕ, ◌≤◌, ◌<◌, ◌^◌, [], ◌∷◌, refl, ◌∙◌}
 use Rattle.hm_isa.specs.declared.Vector.{Vector}
 use Rattle.hm_isa.specs.Code.{vector_code}
-use Rattle.hm_layout.proofs.Bits.{Known, Matches, both_left, both_right, matches_bound}
-use Rattle.hm_layout.proofs.Coded.{Kind, Member}
-use Rattle.hm_layout.proofs.Lengths.{all_kinds}
 use Rattle.hm_codes.proofs.Vectors.{coded_vector}
 use Rattle.hm_text_rows.proofs.Fits.{below_32, has_32, kind_in}
 

@@ -21,8 +21,7 @@ use Rattle.hm_isa.specs.declared.vectors.BitwiseName.TheVariants as bitwise
 use Rattle.hm_isa.specs.declared.vectors.ConstantShiftName.{ConstantShiftName}
 use Rattle.hm_isa.specs.declared.vectors.ConstantShiftName.TheVariants as by_constant
 use Rattle.hm_tokens.specs.Lines.{IsLineOf}
-use Rattle.hm_tokens.specs.Names.{register_name, vector_name}
-use Rattle.hm_tokens.specs.Tokens.{Tok, word, number, mark}
+use Rattle.hm_tokens.specs.Tokens.{Tok, word, mark}
 use Rattle.hm_text_rows.specs.Shapes.{and_constant, back, comma, constant, either, four, indexed, inside, or_zero, q, r, three, two}
 use Rattle.hm_textv.specs.Stems.{access_stem, access_suffix, add_stem, bitwise_stem, block_letters, by_sign, carry_stem, compare_condition, compare_suffix, constant_shift_stem, constant_shift_suffix, doubling_stem, extreme_stem, high_stem, integer, narrow_stem, narrow_suffix, offsets_stem, one_stem, one_suffix, pair_stem, plain, quad_stem, reverse_stem, scalar_stem, scalar_suffix, signed, signed_stem, size_number, turn_stem, turn_suffix, unsigned, vector_shift_stem, wrapped_stem}
 

@@ -321,6 +321,7 @@ fn at_addresses_and_in_turn(rt: HostRuntime) {
         ("vld20.8 {q0,q1},[r0]", 0xfc90_1e00),
         ("vst20.32 {q3,q4},[r12]", 0xfc8c_7f00),
         ("vst21.8 {q2,q3},[lr]!", 0xfcae_5e20),
+        ("vld21.32 {q3,q4},[r12]!", 0xfcbc_7f20),
         ("vld40.8 {q0,q1,q2,q3},[r0]", 0xfc90_1e01),
         ("vld41.16 {q1,q2,q3,q4},[r1]!", 0xfcb1_3ea1),
         ("vld42.32 {q4,q5,q6,q7},[r12]!", 0xfcbc_9f41),

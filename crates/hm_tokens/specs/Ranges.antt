@@ -1,5 +1,5 @@
 -- Registers in braces: a range, as `r0-r3`, stands for each of them.
-use Rattle.std.specs.Prelude.{ℕ, zero, suc, ◌+◌, ◌-◌, Bool, true, false, List, [], ◌∷◌, ◌++◌, Option, Some, None, ◌==◌, nat_lt, ◌&&◌, ◌||◌, not, if◌then◌else◌}
+use Rattle.std.specs.Prelude.{ℕ, zero, suc, ◌+◌, ◌-◌, Bool, false, List, [], ◌∷◌, ◌++◌, Option, Some, None, ◌==◌, nat_lt, ◌&&◌, ◌||◌, not, if◌then◌else◌}
 use Rattle.hm_tokens.specs.Names.{register_in, register_name}
 use Rattle.hm_tokens.specs.Tokens.{Tok, word, number, mark}
 

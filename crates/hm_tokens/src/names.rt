@@ -150,10 +150,14 @@ fn is_letter(c: u8) -> bool
 fn are_name_bytes(bytes: &[u8]) -> bool
     ensures value { result ≡ are_name_bytes bytes.now }
 {
-    match bytes {
-        [] => true,
-        [c, rest @ ..] => (is_letter(*c) || matches!(*c, b'0'..=b'9')) && are_name_bytes(rest),
+    let mut rest = bytes;
+    while let [c, more @ ..] = rest {
+        if !(is_letter(*c) || matches!(*c, b'0'..=b'9')) {
+            return false;
+        }
+        rest = more;
     }
+    true
 }
 
 /// Whether a word is a name: it begins with a letter or `_` and goes on with these and digits.

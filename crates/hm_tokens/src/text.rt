@@ -260,6 +260,7 @@ impl InstrText {
         push_parts(&mut out, self.operands.as_slice());
         out
     }
+
     /// What it is printed as with an address for its last operand, in hexadecimal: behind a space where it has no other.
     #[tactic(auto, using(crate::proofs::Spaces::alone_at, crate::proofs::Spaces::many_at, crate::proofs::Spaces::alone_room, crate::proofs::Spaces::many_room))]
     pub fn print_at(&self, address: u32) -> ArrayString<96>

@@ -1,5 +1,5 @@
-use Rattle.std.proofs.Common.{List, map}
-use Rattle.hm_tokens.specs.Tokens.{Tok, tok}
+use Rattle.std.proofs.Common.{map}
+use Rattle.hm_tokens.specs.Tokens.{tok}
 use Rattle.hm_text32.proofs.Parsing.{read_found, read_only, too_many}
 use Rattle.hm_text32.proofs.read32.Goals as goal
 
