@@ -1,0 +1,77 @@
+-- What directives ask for, and how they are written.
+use Rattle.std.specs.Prelude.{◌≡◌, ◌<◌, ◌≤◌, ℕ, ◌-◌, ◌*◌, ◌^◌, Bool, true, false, List, [], ◌∷◌, ◌++◌, codes}
+use Rattle.std.specs.List.{AllByRecursion}
+use Rattle.hm_tokens.specs.Lines.{AreTokensOf}
+use Rattle.hm_tokens.specs.Names.{is_label_name}
+use Rattle.hm_tokens.specs.Tokens.{Tok, word, number, mark}
+use Rattle.hm_source.specs.declared.directives.Multiple.{Multiple}
+use Rattle.hm_source.specs.declared.directives.Multiple.TheVariants.{Two, Four, Eight}
+use Rattle.hm_source.specs.declared.values.Size.{Size}
+use Rattle.hm_source.specs.declared.values.Size.TheVariants.{Byte, Half, Word}
+
+-- VALUES
+-- what stands in a list: a number, before which `-` may stand; a name; or a name and a number more
+pub data Datum : Type 0 where
+  literal : Bool → ℕ → Datum
+  named : List ℕ → Datum
+  beyond : List ℕ → ℕ → Datum
+
+abbrev pub datum_tokens : Datum → List Tok
+datum_tokens (literal true n) = mark 45 ∷ number n ∷ []
+datum_tokens (literal false n) = number n ∷ []
+datum_tokens (named w) = word w ∷ []
+datum_tokens (beyond w n) = word w ∷ mark 43 ∷ number n ∷ []
+
+-- a first one and others, with commas between them
+abbrev pub list_tokens : Datum → List Datum → List Tok
+list_tokens d [] = datum_tokens d
+list_tokens d (e ∷ es) = datum_tokens d ++ mark 44 ∷ list_tokens e es
+
+-- how many bytes each value of a list has
+abbrev pub bytes_each : Size → ℕ
+bytes_each Byte = 1
+bytes_each Half = 2
+bytes_each Word = 4
+
+-- a number fits with a sign or without; a name stands for an address, which a word alone holds
+abbrev pub Fits : Size → Datum → Type 0
+Fits s (literal false n) = n < 2 ^ (8 * bytes_each s)
+Fits s (literal true n) = n ≤ 2 ^ (8 * bytes_each s - 1)
+Fits Word (named w) = is_label_name w ≡ true
+Fits Word (beyond w n) = (is_label_name w ≡ true) × (n < 2 ^ 32)
+Fits s d = ⊥
+
+-- DIRECTIVES
+-- bytes from an address on; zero bytes up to a multiple; so many zero bytes; or a list of values
+pub data Asked : Type 0 where
+  org : ℕ → Asked
+  align : ℕ → Asked
+  space : ℕ → Asked
+  values : Size → Datum → List Datum → Asked
+
+-- what `.align` may fill up to
+abbrev pub multiple_of : Multiple → ℕ
+multiple_of Two = 2
+multiple_of Four = 4
+multiple_of Eight = 8
+
+abbrev pub list_name : Size → List ℕ
+list_name Byte = codes ".byte"
+list_name Half = codes ".half"
+list_name Word = codes ".word"
+
+abbrev pub asked_tokens : Asked → List Tok
+asked_tokens (org a) = word (codes ".org") ∷ number a ∷ []
+asked_tokens (align n) = word (codes ".align") ∷ number n ∷ []
+asked_tokens (space n) = word (codes ".space") ∷ number n ∷ []
+asked_tokens (values s d ds) = word (list_name s) ∷ list_tokens d ds
+
+abbrev pub IsInRange : Asked → Type 0
+IsInRange (org a) = a < 2 ^ 32
+IsInRange (align n) = (m : Multiple) × (n ≡ multiple_of m)
+IsInRange (space n) = n < 2 ^ 32
+IsInRange (values s d ds) = AllByRecursion (Fits s) (d ∷ ds)
+
+-- a text is that of a directive
+abbrev pub IsDirective : List ℕ → Asked → Type 0
+IsDirective text asked = AreTokensOf text (asked_tokens asked) × IsInRange asked

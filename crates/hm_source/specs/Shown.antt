@@ -1,0 +1,51 @@
+-- What the program's values of a line stand for.
+use Rattle.std.specs.Prelude.{◌≡◌, ℕ, List, [], ◌∷◌, length, Some}
+use Rattle.std.specs.List.{AllByRecursion}
+use Rattle.hm_tokens.specs.Lines.{AreTokensOf}
+use Rattle.hm_tokens.specs.Tokens.{Tok, word, mark, skip, token_at}
+use Rattle.hm_source.specs.declared.values.Size.{Size}
+use Rattle.hm_source.specs.declared.values.Item.{Item}
+use Rattle.hm_source.specs.declared.values.Item.TheVariants as items
+use Rattle.hm_source.specs.declared.values.Values.{Values}
+use Rattle.hm_source.specs.declared.directives.Directive.{Directive}
+use Rattle.hm_source.specs.declared.directives.Directive.TheVariants as directives
+use Rattle.hm_source.specs.declared.statements.Statement.{Statement}
+use Rattle.hm_source.specs.declared.statements.Statement.TheVariants as statements
+use Rattle.hm_source.specs.Directives.{Datum, literal, named, beyond, Asked, org, align, space, values, list_name, list_tokens, multiple_of, Fits}
+use Rattle.hm_source.specs.Statements.{Said, nothing, instruction, directive}
+
+-- the tokens at the front of a text, and what stands behind them
+abbrev pub AreFront : List ℕ → List Tok → List ℕ → Type 0
+AreFront text [] rest = text ≡ rest
+AreFront text (t ∷ ts) rest = (after : List ℕ) × (token_at (skip text) ≡ Some (t, after)) × AreFront after ts rest
+
+-- no `+` goes on with what stands before
+abbrev pub EndsHere : List ℕ → Type 0
+EndsHere rest = (after : List ℕ) → token_at (skip rest) ≡ Some (mark 43, after) → ⊥
+
+abbrev pub datum : Item → Datum
+datum (items.Literal minus n) = literal minus n
+datum (items.Name w) = named w.now
+datum (items.Beyond w n) = beyond w.now n
+
+-- a text is a list of these values, each of them in its range
+abbrev pub AreListed : Size → List ℕ → Datum → List Datum → Type 0
+AreListed s text d ds = AreTokensOf text (list_tokens d ds) × AllByRecursion (Fits s) (d ∷ ds)
+
+-- behind the name of its directive the text goes on with the list
+abbrev pub ShowsValues : List ℕ → Values → Asked → Type 0
+ShowsValues text v (values s d ds) = (v.size ≡ s) × (v.count ≡ length (d ∷ ds)) × AreFront text (word (list_name s) ∷ []) v.list.now × AreListed s v.list.now d ds
+ShowsValues text v asked = ⊥
+
+abbrev pub ShowsAsked : List ℕ → Directive → Asked → Type 0
+ShowsAsked text (directives.Org b) asked = asked ≡ org b
+ShowsAsked text (directives.Align m) asked = asked ≡ align (multiple_of m)
+ShowsAsked text (directives.Space n) asked = asked ≡ space n
+ShowsAsked text (directives.Values v) asked = ShowsValues text v asked
+
+-- a value of the program stands for what its text says
+abbrev pub Shows : List ℕ → Statement → Said → Type 0
+Shows text statements.Nothing said = said ≡ nothing
+Shows text (statements.Instruction n) said = said ≡ instruction n
+Shows text (statements.Directive d) (directive asked) = ShowsAsked text d asked
+Shows text (statements.Directive d) said = ⊥

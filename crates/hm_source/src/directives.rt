@@ -1,0 +1,134 @@
+//! Directives: what a text asks for whose first word begins with `.`.
+
+ghost use Rattle.std.specs.Prelude.{◌≡◌, ◌<◌, ◌^◌, ℕ, List, [], ◌∷◌, length, IfSome, IfNone, IsSomeAnd};
+ghost use Rattle.hm_source.specs.Directives.{Asked, IsDirective, list_name, multiple_of};
+ghost use Rattle.hm_source.specs.Shown.{AreFront, ShowsAsked};
+ghost use Rattle.hm_tokens.specs.Lines.{AreTokensOf};
+ghost use Rattle.hm_tokens.specs.Tokens.{number, word};
+
+use crate::values::{Size, Values, number_at, read_values};
+use hm_tokens::{Token, skip, token_at};
+
+/// What `.align` fills up to.
+#[derive(Clone, Copy, Debug, PartialEq, Eq)]
+pub enum Multiple {
+    Two,
+    Four,
+    Eight,
+}
+
+impl Multiple {
+    /// The number of which it is a multiple.
+    pub fn bytes(self) -> u32
+        ensures value { result ≡ multiple_of self }
+        ensures some { 0 < result }
+    {
+        match self {
+            Multiple::Two => 2,
+            Multiple::Four => 4,
+            Multiple::Eight => 8,
+        }
+    }
+}
+
+/// What a directive asks for.
+#[derive(Clone, Copy, Debug, PartialEq, Eq)]
+pub enum Directive<'a> {
+    /// That bytes go on at an address.
+    Org(u32),
+    /// Zero bytes up to a multiple.
+    Align(Multiple),
+    /// So many zero bytes.
+    Space(u32),
+    /// Values.
+    Values(Values<'a>),
+}
+
+/// A word at the front of a text, and what stands behind it.
+fn word_at(text: &[u8]) -> Option<(&[u8], &[u8])>
+    ensures found { IfSome result (λ x. AreFront text.now (word x.0.now ∷ []) x.1.now) }
+    ensures only { (w rest : List ℕ) → AreFront text.now (word w ∷ []) rest → IsSomeAnd result (λ x. (x.0.now ≡ w) × (x.1.now ≡ rest)) }
+    ensures shorter { IfSome result (λ x. length x.1.now < length text.now) }
+{
+    let (token, rest) = token_at(skip(text))?;
+    match token {
+        Token::Word(name) => Some((name, rest)),
+        Token::Number(_) | Token::Mark(_) => None,
+    }
+}
+
+/// The number that a text consists of, below 2^32.
+fn number_alone(text: &[u8]) -> Option<u32>
+    ensures found { IfSome result (λ n. AreTokensOf text.now (number n ∷ [])) }
+    ensures only { (n : ℕ) → AreTokensOf text.now (number n ∷ []) → n < 2 ^ 32 → IsSomeAnd result (λ m. m ≡ n) }
+{
+    let (number, rest) = number_at(text)?;
+    if number > 0xffff_ffff || !skip(rest).is_empty() {
+        return None;
+    }
+    Some(number as u32)
+}
+
+/// The multiple that a text names.
+fn multiple_alone(text: &[u8]) -> Option<Multiple>
+    ensures found { IfSome result (λ m. AreTokensOf text.now (number (multiple_of m) ∷ [])) }
+    ensures only { (m : Multiple) → AreTokensOf text.now (number (multiple_of m) ∷ []) → IsSomeAnd result (λ n. n ≡ m) }
+{
+    match number_alone(text)? {
+        2 => Some(Multiple::Two),
+        4 => Some(Multiple::Four),
+        8 => Some(Multiple::Eight),
+        _ => None,
+    }
+}
+
+/// The size of the values of a list, by the name of its directive.
+fn list_size(name: &[u8]) -> Option<Size>
+    ensures found { IfSome result (λ s. name.now ≡ list_name s) }
+    ensures only { (s : Size) → name.now ≡ list_name s → IsSomeAnd result (λ t. t ≡ s) }
+{
+    if name == b".word".as_slice() {
+        return Some(Size::Word);
+    }
+    if name == b".half".as_slice() {
+        return Some(Size::Half);
+    }
+    if name == b".byte".as_slice() {
+        return Some(Size::Byte);
+    }
+    None
+}
+
+/// What a directive asks for, by its name and what stands behind that.
+fn asked_of<'a>(name: &'a [u8], behind: &'a [u8]) -> Option<Directive<'a>>
+    requires small { length behind.now < 2 ^ 31 }
+    ensures found { (text : List ℕ) → AreFront text (word name.entry.now ∷ []) behind.entry.now → IfSome result (λ d. (asked : Asked) × IsDirective text asked × ShowsAsked text d asked) }
+    ensures none { (text : List ℕ) → AreFront text (word name.entry.now ∷ []) behind.entry.now → IfNone result ((asked : Asked) → IsDirective text asked → ⊥) }
+    ensures only { (text : List ℕ) (asked : Asked) → AreFront text (word name.entry.now ∷ []) behind.entry.now → IsDirective text asked → IsSomeAnd result (λ d. ShowsAsked text d asked) }
+{
+    if let Some(size) = list_size(name) {
+        let values = read_values(size, behind)?;
+        return Some(Directive::Values(values));
+    }
+    if name == b".org".as_slice() {
+        return Some(Directive::Org(number_alone(behind)?));
+    }
+    if name == b".align".as_slice() {
+        return Some(Directive::Align(multiple_alone(behind)?));
+    }
+    if name == b".space".as_slice() {
+        return Some(Directive::Space(number_alone(behind)?));
+    }
+    None
+}
+
+/// What a text asks for, if it is that of a directive.
+pub fn read_directive(text: &[u8]) -> Option<Directive<'_>>
+    requires small { length text.now < 2 ^ 31 }
+    ensures found { IfSome result (λ d. (asked : Asked) × IsDirective text.now asked × ShowsAsked text.now d asked) }
+    ensures only { (asked : Asked) → IsDirective text.now asked → IsSomeAnd result (λ d. ShowsAsked text.now d asked) }
+    ensures none { IfNone result ((asked : Asked) → IsDirective text.now asked → ⊥) }
+{
+    let (name, behind) = word_at(text)?;
+    asked_of(name, behind)
+}
