@@ -1,3 +1,9 @@
+pub mod Asks
 pub mod Fronts
+pub mod Items
+pub mod Listed
 pub mod Rooms
+pub mod Roomy
+pub mod Sayings
 pub mod SourceLines
+pub mod Within

@@ -6,8 +6,9 @@ ghost use Rattle.hm_source.specs.Shown.{AreFront, ShowsAsked};
 ghost use Rattle.hm_tokens.specs.Lines.{AreTokensOf};
 ghost use Rattle.hm_tokens.specs.Tokens.{number, word};
 
-use crate::values::{Size, Values, number_at, read_values};
-use hm_tokens::{Token, skip, token_at};
+use crate::tokens::{number_at, word_at};
+use crate::values::{Size, Values, read_values};
+use hm_tokens::skip;
 
 /// What `.align` fills up to.
 #[derive(Clone, Copy, Debug, PartialEq, Eq)]
@@ -42,19 +43,6 @@ pub enum Directive<'a> {
     Space(u32),
     /// Values.
     Values(Values<'a>),
-}
-
-/// A word at the front of a text, and what stands behind it.
-fn word_at(text: &[u8]) -> Option<(&[u8], &[u8])>
-    ensures found { IfSome result (λ x. AreFront text.now (word x.0.now ∷ []) x.1.now) }
-    ensures only { (w rest : List ℕ) → AreFront text.now (word w ∷ []) rest → IsSomeAnd result (λ x. (x.0.now ≡ w) × (x.1.now ≡ rest)) }
-    ensures shorter { IfSome result (λ x. length x.1.now < length text.now) }
-{
-    let (token, rest) = token_at(skip(text))?;
-    match token {
-        Token::Word(name) => Some((name, rest)),
-        Token::Number(_) | Token::Mark(_) => None,
-    }
 }
 
 /// The number that a text consists of, below 2^32.

@@ -5,10 +5,15 @@ mod directives;
 mod lines;
 mod places;
 mod statements;
+mod tokens;
 mod values;
 
 pub use directives::{Directive, Multiple};
 pub use lines::{Line, first_line, read_source_line};
 pub use places::{behind_statement, padding};
 pub use statements::Statement;
-pub use values::{Item, Size, Values, behind_mark, fits, item_at, number_at};
+pub use tokens::{behind_mark, number_at};
+pub use values::{Item, Size, Values, fits, item_at};
+
+#[cfg(test)]
+mod tests;

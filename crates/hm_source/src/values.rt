@@ -4,10 +4,10 @@ ghost use Rattle.std.specs.Prelude.{◌≡◌, ◌<◌, ◌≤◌, ◌*◌, ◌^
 ghost use Rattle.hm_source.specs.Directives.{Datum, Fits, bytes_each, datum_tokens};
 ghost use Rattle.hm_source.specs.Shown.{AreFront, AreListed, EndsHere, datum};
 ghost use Rattle.hm_tokens.specs.Names.{is_label_name};
-ghost use Rattle.hm_tokens.specs.Tokens.{mark, number, word};
-ghost use Rattle.hm_tokens.specs.Marks.{mark_byte};
+ghost use Rattle.hm_tokens.specs.Tokens.{word};
 
-use hm_tokens::{Mark, Token, is_label_name, skip, token_at};
+use crate::tokens::{behind_mark, next_token, number_at};
+use hm_tokens::{Mark, Token, is_label_name, skip};
 
 /// The size of the values of a list.
 #[derive(Clone, Copy, Debug, PartialEq, Eq)]
@@ -61,32 +61,6 @@ pub struct Values<'a> {
     pub list: &'a [u8],
 }
 
-/// A number at the front of a text, and what stands behind it.
-pub fn number_at(text: &[u8]) -> Option<(u64, &[u8])>
-    ensures found { IfSome result (λ x. AreFront text.now (number x.0 ∷ []) x.1.now) }
-    ensures only { (n : ℕ) (rest : List ℕ) → AreFront text.now (number n ∷ []) rest → IsSomeAnd result (λ x. (x.0 ≡ n) × (x.1.now ≡ rest)) }
-    ensures shorter { IfSome result (λ x. length x.1.now < length text.now) }
-{
-    let (token, rest) = token_at(skip(text))?;
-    match token {
-        Token::Number(n) => Some((n, rest)),
-        Token::Word(_) | Token::Mark(_) => None,
-    }
-}
-
-/// What stands behind a mark at the front of a text.
-pub fn behind_mark(wanted: Mark, text: &[u8]) -> Option<&[u8]>
-    ensures found { IfSome result (λ rest. AreFront text.now (mark (mark_byte wanted) ∷ []) rest.now) }
-    ensures only { (rest : List ℕ) → AreFront text.now (mark (mark_byte wanted) ∷ []) rest → IsSomeAnd result (λ x. x.now ≡ rest) }
-    ensures shorter { IfSome result (λ rest. length rest.now < length text.now) }
-{
-    let (token, rest) = token_at(skip(text))?;
-    match token {
-        Token::Mark(found) => { if found == wanted { Some(rest) } else { None } }
-        Token::Word(_) | Token::Number(_) => None,
-    }
-}
-
 /// The item that begins with a name, and what stands behind it.
 fn named_at<'a>(name: &'a [u8], behind: &'a [u8]) -> Option<(Item<'a>, &'a [u8])>
     ensures found { (text : List ℕ) → AreFront text (word name.entry.now ∷ []) behind.entry.now → IfSome result (λ x. AreFront text (datum_tokens (datum x.0)) x.1.now) }
@@ -108,7 +82,7 @@ pub fn item_at(text: &[u8]) -> Option<(Item<'_>, &[u8])>
     ensures only { (d : Datum) (rest : List ℕ) → AreFront text.now (datum_tokens d) rest → EndsHere rest → IsSomeAnd result (λ x. (datum x.0 ≡ d) × (x.1.now ≡ rest)) }
     ensures shorter { IfSome result (λ x. length x.1.now < length text.now) }
 {
-    let (token, behind) = token_at(skip(text))?;
+    let (token, behind) = next_token(text)?;
     match token {
         Token::Number(number) => Some((
             Item::Literal {

@@ -1,0 +1,58 @@
+-- Items of lists, by their first token.
+use Rattle.std.proofs.Common.{◌≡◌, ◌⊎◌, ℕ, Bool, true, false, List, [], ◌∷◌, Some, refl, sym, ap, subst, inl, inr, ◌∙◌, arith}
+use Rattle.hm_tokens.specs.declared.marks.Mark.{Mark}
+use Rattle.hm_tokens.specs.declared.marks.Mark.TheVariants as marks
+use Rattle.hm_tokens.specs.Marks.{mark_byte}
+use Rattle.hm_tokens.specs.Tokens.{Tok, word, number, mark, skip, token_at}
+use Rattle.hm_source.specs.Directives.{Datum, literal, named, beyond, datum_tokens}
+use Rattle.hm_source.specs.Shown.{AreFront, EndsHere}
+use Rattle.hm_source.proofs.Fronts.{front_one, same_next}
+
+-- ---- that a number begins
+
+pub number_first : (text r rest : List ℕ) (n : ℕ) (d : Datum) → token_at (skip text) ≡ Some (number n, r) → AreFront text (datum_tokens d) rest → (literal false n ≡ d) × (r ≡ rest)
+number_first text r rest n (literal false m) e f = let same = front_one text (number n) (number m) r rest e f in (cc, same.1)
+number_first text r rest n (literal true m) e f = let same = same_next text (number n) (mark 45) r f.0 e f.1 in absurd cc
+number_first text r rest n (named w) e f = let same = same_next text (number n) (word w) r f.0 e f.1 in absurd cc
+number_first text r rest n (beyond w m) e f = let same = same_next text (number n) (word w) r f.0 e f.1 in absurd cc
+
+-- ---- that `-` begins
+
+pub minus_first : (text r rest : List ℕ) (d : Datum) → token_at (skip text) ≡ Some (mark 45, r) → AreFront text (datum_tokens d) rest → (m : ℕ) × (d ≡ literal true m) × AreFront r (number m ∷ []) rest
+minus_first text r rest (literal false m) e f = let same = same_next text (mark 45) (number m) r f.0 e f.1 in absurd cc
+minus_first text r rest (literal true m) e f =
+    let same = same_next text (mark 45) (mark 45) r f.0 e f.1 in
+    (m, refl, subst (λ (x : List ℕ). AreFront x (number m ∷ []) rest) (sym same.1) f.2)
+minus_first text r rest (named w) e f = let same = same_next text (mark 45) (word w) r f.0 e f.1 in absurd cc
+minus_first text r rest (beyond w m) e f = let same = same_next text (mark 45) (word w) r f.0 e f.1 in absurd cc
+
+-- ---- that another mark begins
+
+mark_is : (a b : ℕ) → mark a ≡ mark b → a ≡ b
+mark_is a b e = cc
+
+pub mark_first : (text r rest : List ℕ) (c : ℕ) (d : Datum) → token_at (skip text) ≡ Some (mark c, r) → AreFront text (datum_tokens d) rest → c ≡ 45
+mark_first text r rest c (literal false m) e f = let same = same_next text (mark c) (number m) r f.0 e f.1 in absurd cc
+mark_first text r rest c (literal true m) e f = mark_is c 45 (same_next text (mark c) (mark 45) r f.0 e f.1).0
+mark_first text r rest c (named w) e f = let same = same_next text (mark c) (word w) r f.0 e f.1 in absurd cc
+mark_first text r rest c (beyond w m) e f = let same = same_next text (mark c) (word w) r f.0 e f.1 in absurd cc
+
+-- ---- that a name begins: it is a name alone, or a number goes on behind `+`
+
+pub data Named (w r rest : List ℕ) (d : Datum) : Type 0 where
+  alone : d ≡ named w → r ≡ rest → Named w r rest d
+  more : (n : ℕ) → (mid : List ℕ) → d ≡ beyond w n → AreFront r (mark 43 ∷ []) mid → AreFront mid (number n ∷ []) rest → Named w r rest d
+
+word_is : (v w : List ℕ) → word v ≡ word w → v ≡ w
+word_is v w e = cc
+
+pub name_first : (text w r rest : List ℕ) (d : Datum) → AreFront text (word w ∷ []) r → AreFront text (datum_tokens d) rest → Named w r rest d
+name_first text w r rest (literal false m) a f = let same = same_next text (word w) (number m) a.0 f.0 a.1 f.1 in absurd cc
+name_first text w r rest (literal true m) a f = let same = same_next text (word w) (mark 45) a.0 f.0 a.1 f.1 in absurd cc
+name_first text w r rest (named v) a f =
+    let same = same_next text (word w) (word v) a.0 f.0 a.1 f.1 in
+    alone (ap named (sym (word_is w v same.0))) (sym a.2 ∙ same.1 ∙ f.2)
+name_first text w r rest (beyond v n) a f =
+    let same = same_next text (word w) (word v) a.0 f.0 a.1 f.1 in
+    more n f.2.0 (ap (λ (x : List ℕ). beyond x n) (sym (word_is w v same.0)))
+    (subst (λ (x : List ℕ). AreFront x (mark 43 ∷ []) f.2.0) (sym same.1 ∙ a.2) (f.2.0, f.2.1, refl)) f.2.2
