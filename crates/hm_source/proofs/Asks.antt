@@ -1,5 +1,5 @@
 -- Directives, by their names.
-use Rattle.std.proofs.Common.{◌≡◌, ℕ, true, false, List, [], ◌∷◌, length, refl, sym, ap, subst, inl, inr, ◌∙◌, arith}
+use Rattle.std.proofs.Common.{◌≡◌, ◌<◌, ◌^◌, ℕ, true, false, List, [], ◌∷◌, length, refl, sym, ap, subst, inl, inr, ◌∙◌, arith}
 use Rattle.std.specs.Prelude.{codes, bytes_eq}
 use Rattle.std.proofs.lemmas.Bool.{false≢true}
 use Rattle.std.proofs.lemmas.Slice.Eq.{bytes_eq-Decides}
@@ -8,8 +8,9 @@ use Rattle.hm_tokens.specs.Tokens.{Tok, word, number, skip}
 use Rattle.hm_source.specs.declared.directives.Multiple.{Multiple}
 use Rattle.hm_source.specs.declared.values.Size.{Size}
 use Rattle.hm_source.specs.declared.values.Size.TheVariants.{Byte, Half, Word}
-use Rattle.hm_source.specs.Directives.{Asked, org, align, space, values, asked_tokens, IsDirective, IsInRange, list_name, list_tokens, multiple_of}
-use Rattle.hm_source.specs.Shown.{AreFront, AreListed}
+use Rattle.hm_source.specs.declared.values.Values.{Values}
+use Rattle.hm_source.specs.Directives.{Datum, Asked, org, align, space, values, asked_tokens, IsDirective, IsInRange, list_name, list_tokens, multiple_of}
+use Rattle.hm_source.specs.Shown.{AreFront, AreListed, ShowsValues}
 use Rattle.hm_source.proofs.Fronts.{front_and_rest, front_one}
 
 -- a directive's name, and what stands behind it
@@ -25,7 +26,7 @@ tokens_behind (align n) = number n ∷ []
 tokens_behind (space n) = number n ∷ []
 tokens_behind (values s d ds) = list_tokens d ds
 
-in_parts : (asked : Asked) → asked_tokens asked ≡ word (name_asked asked) ∷ tokens_behind asked
+pub in_parts : (asked : Asked) → asked_tokens asked ≡ word (name_asked asked) ∷ tokens_behind asked
 in_parts (org a) = refl
 in_parts (align n) = refl
 in_parts (space n) = refl
@@ -58,7 +59,7 @@ with_name text name behind asked f e t r =
 -- ---- names differ
 
 differ : (a b : List ℕ) → bytes_eq a b ≡ false → a ≡ b → ⊥
-differ a b no e = false≢true (sym no ∙ (bytes_eq-Decides a b).1 e)
+differ a b f e = false≢true (sym f ∙ (bytes_eq-Decides a b).1 e)
 
 pub one_size : (s t : Size) → list_name s ≡ list_name t → s ≡ t
 one_size Byte Byte e = refl
@@ -71,7 +72,7 @@ one_size Word Byte e = absurd (differ (codes ".word") (codes ".byte") refl e)
 one_size Word Half e = absurd (differ (codes ".word") (codes ".half") refl e)
 one_size Word Word e = refl
 
-no_list : (s : Size) → (list_name s ≡ codes ".org" → ⊥) × (list_name s ≡ codes ".align" → ⊥) × (list_name s ≡ codes ".space" → ⊥)
+pub no_list : (s : Size) → (list_name s ≡ codes ".org" → ⊥) × (list_name s ≡ codes ".align" → ⊥) × (list_name s ≡ codes ".space" → ⊥)
 no_list Byte = (differ (codes ".byte") (codes ".org") refl, differ (codes ".byte") (codes ".align") refl, differ (codes ".byte") (codes ".space") refl)
 no_list Half = (differ (codes ".half") (codes ".org") refl, differ (codes ".half") (codes ".align") refl, differ (codes ".half") (codes ".space") refl)
 no_list Word = (differ (codes ".word") (codes ".org") refl, differ (codes ".word") (codes ".align") refl, differ (codes ".word") (codes ".space") refl)
@@ -93,3 +94,51 @@ is_space (org a) e = absurd (differ (codes ".org") (codes ".space") refl e)
 is_space (align n) e = absurd (differ (codes ".align") (codes ".space") refl e)
 is_space (space n) e = (n, refl)
 is_space (values s d ds) e = absurd ((no_list s).2 e)
+
+-- ---- what a text asks for, by its name
+
+pub first_word : (text : List ℕ) (asked : Asked) → IsDirective text asked → (rest : List ℕ) × AreFront text (word (name_asked asked) ∷ []) rest
+first_word text asked d =
+    let all = subst (λ (ts : List Tok). AreTokensOf text ts) (in_parts asked) d.0 in
+    (all.0, (all.0, all.1, refl))
+
+pub asks_org : (text name behind : List ℕ) (asked : Asked) → AreFront text (word name ∷ []) behind → IsDirective text asked → name ≡ codes ".org" → (a : ℕ) × AreTokensOf behind (number a ∷ []) × (a < 2 ^ 32)
+asks_org text name behind asked f d e =
+    let b = behind_name text name behind asked f d in
+    let o = is_org asked (sym b.name_is ∙ e) in
+    (o.0, subst (λ (x : Asked). AreTokensOf behind (tokens_behind x)) o.1 b.tokens, subst (λ (x : Asked). IsInRange x) o.1 b.range)
+
+pub asks_space : (text name behind : List ℕ) (asked : Asked) → AreFront text (word name ∷ []) behind → IsDirective text asked → name ≡ codes ".space" → (n : ℕ) × AreTokensOf behind (number n ∷ []) × (n < 2 ^ 32)
+asks_space text name behind asked f d e =
+    let b = behind_name text name behind asked f d in
+    let o = is_space asked (sym b.name_is ∙ e) in
+    (o.0, subst (λ (x : Asked). AreTokensOf behind (tokens_behind x)) o.1 b.tokens, subst (λ (x : Asked). IsInRange x) o.1 b.range)
+
+pub asks_align : (text name behind : List ℕ) (asked : Asked) → AreFront text (word name ∷ []) behind → IsDirective text asked → name ≡ codes ".align" → (m : Multiple) × AreTokensOf behind (number (multiple_of m) ∷ [])
+asks_align text name behind asked f d e =
+    let b = behind_name text name behind asked f d in
+    let o = is_align asked (sym b.name_is ∙ e) in
+    let r = subst (λ (x : Asked). IsInRange x) o.1 b.range in
+    let t = subst (λ (x : Asked). AreTokensOf behind (tokens_behind x)) o.1 b.tokens in
+    (r.0, subst (λ (n : ℕ). AreTokensOf behind (number n ∷ [])) r.1 t)
+
+-- values that were read of what stands behind the name
+abbrev pub IsRead : Size → List ℕ → Values → Type 0
+IsRead s behind v = (v.size ≡ s) × (v.list.now ≡ behind)
+
+pub values_found : (text name behind : List ℕ) (s : Size) (v : Values) (d : Datum) (ds : List Datum) → AreFront text (word name ∷ []) behind → name ≡ list_name s → IsRead s behind v → AreListed s behind d ds → v.count ≡ length (d ∷ ds)
+    → IsDirective text (values s d ds) × ShowsValues text v (values s d ds)
+values_found text name behind s v d ds f e r l n =
+    let front : AreFront text (word (list_name s) ∷ []) v.list.now = subst (λ (x : List ℕ). AreFront text (word (list_name s) ∷ []) x) (sym r.1) (subst (λ (x : List ℕ). AreFront text (word x ∷ []) behind) e f) in
+    (with_name text name behind (values s d ds) f e l.0 l.1, (r.0, n, front, subst (λ (x : List ℕ). AreListed s x d ds) (sym r.1) l))
+
+pub values_only : (text name behind : List ℕ) (s : Size) (v : Values) (asked : Asked) → AreFront text (word name ∷ []) behind → name ≡ list_name s → IsRead s behind v → IsDirective text asked
+    → ((d : Datum) (ds : List Datum) → AreListed s behind d ds → v.count ≡ length (d ∷ ds)) → ShowsValues text v asked
+values_only text name behind s v (org a) f e r d n = absurd ((no_list s).0 (sym e ∙ (behind_name text name behind (org a) f d).name_is))
+values_only text name behind s v (align a) f e r d n = absurd ((no_list s).1 (sym e ∙ (behind_name text name behind (align a) f d).name_is))
+values_only text name behind s v (space a) f e r d n = absurd ((no_list s).2 (sym e ∙ (behind_name text name behind (space a) f d).name_is))
+values_only text name behind s v (values t x xs) f e r d n =
+    let b = behind_name text name behind (values t x xs) f d in
+    let same : t ≡ s = one_size t s (sym b.name_is ∙ e) in
+    let listed : AreListed s behind x xs = subst (λ (z : Size). AreListed z behind x xs) same (b.tokens, b.range) in
+    subst (λ (z : Size). ShowsValues text v (values z x xs)) (sym same) (values_found text name behind s v x xs f e r listed (n x xs listed)).1

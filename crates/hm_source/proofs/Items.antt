@@ -6,7 +6,7 @@ use Rattle.hm_tokens.specs.Marks.{mark_byte}
 use Rattle.hm_tokens.specs.Tokens.{Tok, word, number, mark, skip, token_at}
 use Rattle.hm_source.specs.Directives.{Datum, literal, named, beyond, datum_tokens}
 use Rattle.hm_source.specs.Shown.{AreFront, EndsHere}
-use Rattle.hm_source.proofs.Fronts.{front_one, same_next}
+use Rattle.hm_source.proofs.Fronts.{front_one, same_front, same_next}
 
 -- ---- that a number begins
 
@@ -56,3 +56,17 @@ name_first text w r rest (beyond v n) a f =
     let same = same_next text (word w) (word v) a.0 f.0 a.1 f.1 in
     more n f.2.0 (ap (λ (x : List ℕ). beyond x n) (sym (word_is w v same.0)))
     (subst (λ (x : List ℕ). AreFront x (mark 43 ∷ []) f.2.0) (sym same.1 ∙ a.2) (f.2.0, f.2.1, refl)) f.2.2
+
+pub name_alone : (text w r rest : List ℕ) (d : Datum) → AreFront text (word w ∷ []) r → AreFront text (datum_tokens d) rest → ((mid : List ℕ) → AreFront r (mark 43 ∷ []) mid → ⊥) → (named w ≡ d) × (r ≡ rest)
+name_alone text w r rest d a f none =
+    elim (name_first text w r rest d a f) [
+      | alone e same ↦ (sym e, same)
+      | more n mid e plus last ↦ absurd (none mid plus)
+    ]
+
+pub name_more : (text w r from rest : List ℕ) (d : Datum) → AreFront text (word w ∷ []) r → AreFront text (datum_tokens d) rest → EndsHere rest → AreFront r (mark 43 ∷ []) from → (n : ℕ) × (d ≡ beyond w n) × AreFront from (number n ∷ []) rest
+name_more text w r from rest d a f ends plus =
+    elim (name_first text w r rest d a f) [
+      | alone e same ↦ absurd (ends plus.0 (subst (λ (x : List ℕ). token_at (skip x) ≡ Some (mark 43, plus.0)) same plus.1))
+      | more n mid e other last ↦ (n, e, subst (λ (x : List ℕ). AreFront x (number n ∷ []) rest) (same_front r (mark 43) (mark 43) mid from other plus).1 last)
+    ]

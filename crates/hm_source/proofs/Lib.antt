@@ -2,8 +2,8 @@ pub mod Asks
 pub mod Fronts
 pub mod Items
 pub mod Listed
+pub mod One
 pub mod Rooms
-pub mod Roomy
 pub mod Sayings
 pub mod SourceLines
 pub mod Within

@@ -16,7 +16,7 @@ room_behind a n m h = elim h [
 
 -- and back
 pub room_after_some : (a n m : ℕ) → 0 < n → HasRoom a n → HasRoom (a + n) m → HasRoom a (n + m)
-pub room_after_some a n m some h k = elim h [
+room_after_some a n m some h k = elim h [
   | inl e ↦ absurd (omega (arith, e, some))
   | inr r ↦ elim r [
     | inl f ↦ elim k [

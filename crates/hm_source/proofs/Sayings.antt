@@ -1,6 +1,10 @@
 -- What a text says, by its first byte.
-use Rattle.std.proofs.Common.{◌≡◌, ◌<◌, ℕ, List, [], ◌∷◌, length, get_or, refl, arith}
+use Rattle.std.proofs.Common.{◌≡◌, ◌<◌, ℕ, List, [], ◌∷◌, length, get_or, Option, Some, None, refl, sym, subst, arith}
+use Rattle.std.specs.Prelude.{IfSome}
 use Rattle.hm_text.specs.Texts.{HasWidth}
+use Rattle.hm_source.specs.declared.statements.Statement.{Statement}
+use Rattle.hm_source.specs.declared.statements.Statement.TheVariants as statements
+use Rattle.hm_source.specs.Shown.{Shows}
 use Rattle.hm_source.specs.Directives.{Asked, IsDirective}
 use Rattle.hm_source.specs.Statements.{Said, nothing, instruction, directive, Says}
 
@@ -35,3 +39,9 @@ says_nothing [] nothing e s = refl
 says_nothing [] (instruction n) e s = absurd s
 says_nothing [] (directive asked) e s = absurd s
 says_nothing (b ∷ bs) said e s = absurd (omega arith)
+
+-- ---- as the code reads
+
+pub said_of : (text : List ℕ) (o : Option Statement) → 0 < length text → (get_or text 0 0 ≡ 46 → ⊥) → IfSome o (λ s. (n : ℕ) × HasWidth text n × (s ≡ statements.Instruction n)) → IfSome o (λ s. (said : Said) × Says text said × Shows text s said)
+said_of text None some e h = tt
+said_of text (Some s) some e h = (instruction h.0, without_dot text h.0 some e h.1, subst (λ (x : Statement). Shows text x (instruction h.0)) (sym h.2) refl)

@@ -1,5 +1,5 @@
 -- The first line of a source, and the others.
-use Rattle.std.proofs.Common.{◌≡◌, ℕ, ◌+◌, ◌-◌, ◌<◌, ◌≤◌, List, [], ◌∷◌, ◌++◌, take, drop, length, refl, sym, ap, ◌∙◌, arith}
+use Rattle.std.proofs.Common.{◌≡◌, ℕ, ◌+◌, ◌-◌, ◌<◌, ◌≤◌, List, [], ◌∷◌, ◌++◌, take, drop, length, length-append, refl, sym, ap, ◌∙◌, arith}
 use Rattle.std.proofs.lemmas.List.{take_all}
 use Rattle.hm_text_base.specs.Spans.{span, Lines, lines_of}
 use Rattle.hm_text_base.proofs.LineLaws.{lines_span, lines_from}
@@ -24,3 +24,8 @@ next_line text front [] e some = absurd (omega (arith, some))
 next_line text front (b ∷ rest) e some =
     ap with_last (lines_span text ∙ ap lines_from (sym e)) ∙ onto_others front (lines_of rest)
     ∙ ap (λ (x : List ℕ). front ∷ source_lines x) (sym (take_all (length (b ∷ rest) - 1) rest (omega arith)))
+
+pub front_le : (text front rest : List ℕ) → (front, rest) ≡ span 10 text → length front ≤ length text
+front_le text front rest e =
+    let whole : front ++ rest ≡ text = ap (λ (p : List ℕ × List ℕ). p.0 ++ p.1) e ∙ span_parts 10 text in
+    omega (arith, ap length whole, length-append front rest)

@@ -1,0 +1,72 @@
+-- A text has one list of values, and asks for one thing.
+use Rattle.std.proofs.Common.{◌≡◌, ℕ, true, false, List, [], ◌∷◌, ◌++◌, refl, sym, ap, subst, ◌∙◌, arith}
+use Rattle.std.specs.Prelude.{codes}
+use Rattle.std.proofs.lemmas.List.{append-nil}
+use Rattle.hm_tokens.specs.Tokens.{Tok, word, number, mark}
+use Rattle.hm_source.specs.declared.values.Size.{Size}
+use Rattle.hm_source.specs.Directives.{Datum, literal, named, beyond, datum_tokens, list_tokens, Asked, org, align, space, values, IsDirective}
+use Rattle.hm_source.specs.Shown.{AreListed}
+use Rattle.hm_source.proofs.Asks.{name_asked, tokens_behind, in_parts, is_align, is_org, is_space, one_size}
+use Rattle.hm_source.proofs.Fronts.{one_tokens}
+
+-- no `+` goes on with what stands before
+abbrev EndsTokens : List Tok → Type 0
+EndsTokens ts = (us : List Tok) → ts ≡ mark 43 ∷ us → ⊥
+
+mark_is : (a b : ℕ) → mark a ≡ mark b → a ≡ b
+mark_is a b e = cc
+
+head_is : (t u : Tok) (ts us : List Tok) → t ∷ ts ≡ u ∷ us → t ≡ u
+head_is t u ts us e = cc
+
+no_tokens : EndsTokens []
+no_tokens us e = absurd cc
+
+comma_ends : (ts : List Tok) → EndsTokens (mark 44 ∷ ts)
+comma_ends ts us e = absurd (omega (arith, mark_is 44 43 (head_is (mark 44) (mark 43) ts us e)))
+
+-- one value stands in front of tokens
+one_front : (d e : Datum) (ts us : List Tok) → EndsTokens ts → EndsTokens us → datum_tokens d ++ ts ≡ datum_tokens e ++ us → (d ≡ e) × (ts ≡ us)
+one_front (literal false n) (literal false m) ts us x y f = (cc, cc)
+one_front (literal false n) (literal true m) ts us x y f = absurd cc
+one_front (literal false n) (named v) ts us x y f = absurd cc
+one_front (literal false n) (beyond v m) ts us x y f = absurd cc
+one_front (literal true n) (literal false m) ts us x y f = absurd cc
+one_front (literal true n) (literal true m) ts us x y f = (cc, cc)
+one_front (literal true n) (named v) ts us x y f = absurd cc
+one_front (literal true n) (beyond v m) ts us x y f = absurd cc
+one_front (named w) (literal false m) ts us x y f = absurd cc
+one_front (named w) (literal true m) ts us x y f = absurd cc
+one_front (named w) (named v) ts us x y f = (cc, cc)
+one_front (named w) (beyond v m) ts us x y f = absurd (x (number m ∷ us) cc)
+one_front (beyond w n) (literal false m) ts us x y f = absurd cc
+one_front (beyond w n) (literal true m) ts us x y f = absurd cc
+one_front (beyond w n) (named v) ts us x y f = absurd (y (number n ∷ ts) cc)
+one_front (beyond w n) (beyond v m) ts us x y f = (cc, cc)
+
+tail_is : (t u : Tok) (ts us : List Tok) → t ∷ ts ≡ u ∷ us → ts ≡ us
+tail_is t u ts us e = cc
+
+one_list : (d e : Datum) (ds es : List Datum) → list_tokens d ds ≡ list_tokens e es → (d ≡ e) × (ds ≡ es)
+one_list d e [] [] f =
+    let same = one_front d e [] [] no_tokens no_tokens (append-nil (datum_tokens d) ∙ f ∙ sym (append-nil (datum_tokens e))) in
+    (same.0, refl)
+one_list d e [] (y ∷ ys) f =
+    let same = one_front d e [] (mark 44 ∷ list_tokens y ys) no_tokens (comma_ends (list_tokens y ys)) (append-nil (datum_tokens d) ∙ f) in
+    absurd (none (mark 44) (list_tokens y ys) same.1)
+  where
+    none : (t : Tok) (ts : List Tok) → [] ≡ t ∷ ts → ⊥
+    none t ts g = absurd cc
+one_list d e (x ∷ xs) [] f =
+    let same = one_front d e (mark 44 ∷ list_tokens x xs) [] (comma_ends (list_tokens x xs)) no_tokens (f ∙ sym (append-nil (datum_tokens e))) in
+    absurd (none (mark 44) (list_tokens x xs) same.1)
+  where
+    none : (t : Tok) (ts : List Tok) → t ∷ ts ≡ [] → ⊥
+    none t ts g = absurd cc
+one_list d e (x ∷ xs) (y ∷ ys) f =
+    let same = one_front d e (mark 44 ∷ list_tokens x xs) (mark 44 ∷ list_tokens y ys) (comma_ends (list_tokens x xs)) (comma_ends (list_tokens y ys)) f in
+    let more = one_list x y xs ys (tail_is (mark 44) (mark 44) (list_tokens x xs) (list_tokens y ys) same.1) in
+    (same.0, cc (more.0, more.1))
+
+pub one_listed : (s : Size) (text : List ℕ) (d e : Datum) (ds es : List Datum) → AreListed s text d ds → AreListed s text e es → (d ≡ e) × (ds ≡ es)
+one_listed s text d e ds es a b = one_list d e ds es (one_tokens text (list_tokens d ds) (list_tokens e es) a.0 b.0)
