@@ -1,0 +1,346 @@
+ghost use Rattle.std.specs.Prelude.{◌≡◌, ◌≤◌, ◌%◌};
+ghost use Rattle.hm_base.specs.Image.{flash_size};
+
+use super::*;
+use hm_base::OutOfMemory;
+use std::test::Fail;
+
+/// A filter that a timer interrupts: a copy of 20 halfwords, the sum of their squares, and a handler that counts.
+const FILTER: &[u8] = b".org 0
+.word 0x20010000, start+1
+.org 0x3c
+.word tick+1
+.org 0x80
+start: ldr r0,cpacr
+ ldr r1,full
+ str r1,[r0,#0]
+ ldr r0,systick
+ movs r1,#9
+ str r1,[r0,#4]
+ movs r1,#3
+ str r1,[r0,#0]
+ ldr r0,src
+ ldr r1,dst
+ movs r2,#20
+ movs r3,#20
+ dlstp.16 lr,r2
+copy: vldrh.u16 q0,[r0],#16
+ vstrh.16 q0,[r1],#16
+ letp lr,copy
+ ldr r1,dst
+ movs r4,#0
+ dlstp.16 lr,r3
+sum: vldrh.u16 q0,[r1],#16
+ vmladava.s16 r4,q0,q0
+ letp lr,sum
+ movs r0,#24
+ ldr r1,done
+ bkpt #171
+tick: push {r4,lr}
+ ldr r0,mark
+ ldr r1,[r0,#0]
+ adds r1,#1
+ str r1,[r0,#0]
+ pop {r4,pc}
+.align 4
+cpacr: .word 0xe000ed88
+full: .word 0x00f00000
+systick: .word 0xe000e010
+src: .word table
+dst: .word 0x20000000
+done: .word 0x20026
+mark: .word 0x20001000
+table: .half 1,2,3,4,5,6,7,8,9,10,11,12,13,14,15,16,17,18,19,20
+";
+
+/// What llvm-mc makes of it from 80 on: code, words and the table. At ce it fills up with a nop, and here two zero bytes stand.
+#[rattlefmt::skip]
+const FILTER_CODE: [u8; 148] = [
+    0x13, 0x48, 0x14, 0x49, 0x01, 0x60, 0x14, 0x48, 0x09, 0x21, 0x41, 0x60, 0x03, 0x21, 0x01, 0x60,
+    0x12, 0x48, 0x13, 0x49, 0x14, 0x22, 0x14, 0x23, 0x12, 0xf0, 0x01, 0xe0, 0xb0, 0xec, 0x88, 0x1e,
+    0xa1, 0xec, 0x88, 0x1e, 0x1f, 0xf0, 0x07, 0xc0, 0x0d, 0x49, 0x00, 0x24, 0x13, 0xf0, 0x01, 0xe0,
+    0xb1, 0xec, 0x88, 0x1e, 0xf0, 0xee, 0x20, 0x4e, 0x1f, 0xf0, 0x07, 0xc0, 0x18, 0x20, 0x09, 0x49,
+    0xab, 0xbe, 0x10, 0xb5, 0x08, 0x48, 0x01, 0x68, 0x01, 0x31, 0x01, 0x60, 0x10, 0xbd, 0x00, 0x00,
+    0x88, 0xed, 0x00, 0xe0, 0x00, 0x00, 0xf0, 0x00, 0x10, 0xe0, 0x00, 0xe0, 0xec, 0x00, 0x00, 0x00,
+    0x00, 0x00, 0x00, 0x20, 0x26, 0x00, 0x02, 0x00, 0x00, 0x10, 0x00, 0x20, 0x01, 0x00, 0x02, 0x00,
+    0x03, 0x00, 0x04, 0x00, 0x05, 0x00, 0x06, 0x00, 0x07, 0x00, 0x08, 0x00, 0x09, 0x00, 0x0a, 0x00,
+    0x0b, 0x00, 0x0c, 0x00, 0x0d, 0x00, 0x0e, 0x00, 0x0f, 0x00, 0x10, 0x00, 0x11, 0x00, 0x12, 0x00,
+    0x13, 0x00, 0x14, 0x00,
+];
+
+/// Whether these are the image's segments.
+fn has_segments(image: &Image, segments: &[(u32, &[u8])]) -> bool {
+    if image.len() != segments.len() {
+        return false;
+    }
+    for k in 0..image.len() {
+        let (address, bytes) = image.segment(k);
+        if address != segments[k].0 || bytes != segments[k].1 {
+            return false;
+        }
+    }
+    true
+}
+
+/// Whether a source gives these segments.
+fn gives(alloc: Global, source: &[u8], segments: &[(u32, &[u8])]) -> bool {
+    if source.len() > 5000 {
+        return false;
+    }
+    match assemble(alloc, source) {
+        Ok(image) => has_segments(&image, segments),
+        Err(_) => false,
+    }
+}
+
+/// What a source is refused for.
+fn refusal(alloc: Global, source: &[u8]) -> Option<AsmErr> {
+    if source.len() > 5000 {
+        return None;
+    }
+    assemble(alloc, source).err()
+}
+
+/// The first source that is not refused so.
+fn first_wrong(alloc: Global, rows: &[(&'static [u8], u32, u32, AsmKind)]) -> Option<&'static [u8]> {
+    for row in rows {
+        let (source, line, column, kind) = *row;
+        if refusal(alloc, source) != Some(AsmErr::Line { line, column, kind }) {
+            return Some(source);
+        }
+    }
+    None
+}
+
+#[test]
+fn gives_directives(rt: HostRuntime) {
+    let alloc = rt.alloc();
+    let rows: [(&[u8], &[(u32, &[u8])]); 17] = [
+        (b"", &[]),
+        (b"\n\n  @ nothing: \xff\n a: @", &[]),
+        (
+            b".byte 1,-1,0xff,-128,255,00",
+            &[(0, b"\x01\xff\xff\x80\xff\0")],
+        ),
+        (
+            b" .half 1 , - 1,65535,-0x8000 @ four\n",
+            &[(0, b"\x01\0\xff\xff\xff\xff\0\x80")],
+        ),
+        (
+            b".word 0x12345678,-1,4294967295,-2147483648,-0",
+            &[(
+                0,
+                b"\x78\x56\x34\x12\xff\xff\xff\xff\xff\xff\xff\xff\0\0\0\x80\0\0\0\0",
+            )],
+        ),
+        // Labels before and behind their use; a number more, modulo 2^32.
+        (
+            b"a: .word a,b,a+1,b+0xffffffff,c\nb: .space 2\n .align 4\nc:",
+            &[(
+                0,
+                b"\0\0\0\0\x14\0\0\0\x01\0\0\0\x13\0\0\0\x18\0\0\0\0\0\0\0",
+            )],
+        ),
+        // A label has the place before the directive of its line.
+        (
+            b".byte 7\nl: .align 4\n.word l",
+            &[(0, b"\x07\0\0\0\x01\0\0\0")],
+        ),
+        (
+            b".half 7\nl: .org 8\n.word l",
+            &[(0, b"\x07\0"), (8, b"\x02\0\0\0")],
+        ),
+        // `.org` to the present place begins no segment.
+        (b".half 1\n.org 2\n.half 2", &[(0, b"\x01\0\x02\0")]),
+        (b".org 4\n.org 8\n.byte 1\n.org 12", &[(8, b"\x01")]),
+        (b".org 4\n.align 4\n.byte 1", &[(4, b"\x01")]),
+        (
+            b".space 3\n.align 2\n.align 8\n.align 2",
+            &[(0, b"\0\0\0\0\0\0\0\0")],
+        ),
+        (
+            b".byte 1\n.org 0x20000000\n.byte 2\n.org 0x2003ffff\n.byte 3",
+            &[(0, b"\x01"), (0x2000_0000, b"\x02"), (0x2003_ffff, b"\x03")],
+        ),
+        (
+            b".org 0xfffff\n.byte 9\nend: .org 0x20000000\n.word end",
+            &[(0xf_ffff, b"\x09"), (0x2000_0000, b"\0\0\x10\0")],
+        ),
+        // Where no byte is, nothing lies outside.
+        (b".org 0x100000\n.align 8\n.space 0\n.org 0xffffffff\nend:", &[]),
+        (b"a:.byte 0x0000000001\n", &[(0, b"\x01")]),
+        (b".byte   5   ,6  ", &[(0, b"\x05\x06")]),
+    ];
+    for (source, segments) in rows {
+        assert!(rt; gives(alloc, source, segments), "in {source:?}");
+    }
+}
+
+#[test]
+fn gives_codes(rt: HostRuntime) {
+    let alloc = rt.alloc();
+    let rows: [(&[u8], &[(u32, &[u8])]); 7] = [
+        (
+            b" movs r0,#5\n adds r0,r0,#3\n bkpt #1\n",
+            &[(0, b"\x05\x20\xc0\x1c\x01\xbe")],
+        ),
+        // The text names the row, and no width is chosen.
+        (b"movs r0,#5\nmovs.w r0,#5", &[(0, b"\x05\x20\x5f\xf0\x05\0")]),
+        (b"b end\nb.w end\nend:", &[(0, b"\x01\xe0\0\xf0\0\xb8")]),
+        (b"loop: subs r0,#1\n bne loop", &[(0, b"\x01\x38\xfd\xd1")]),
+        (b"nop\nb 0x10", &[(0, b"\0\xbf\x05\xe0")]),
+        (
+            b"vidup.u8 q0,r2,#4\nvcmp.u8 hi,q0,r3\nvldrb.s16 q1,[r3,q2]",
+            &[(0, b"\x03\xee\xee\x0f\x01\xfe\xe3\x0f\x93\xec\x84\x2e")],
+        ),
+        (b".org 0x20000000\n ldr r0,x\n.align 4\nx:", &[(0x2000_0000, b"\0\x48\0\0")]),
+    ];
+    for (source, segments) in rows {
+        assert!(rt; gives(alloc, source, segments), "in {source:?}");
+    }
+}
+
+#[test]
+fn gives_the_filter(rt: HostRuntime) {
+    let segments: [(u32, &[u8]); 3] = [
+        (0, b"\0\0\x01\x20\x81\0\0\0"),
+        (0x3c, b"\xc3\0\0\0"),
+        (0x80, FILTER_CODE.as_slice()),
+    ];
+    assert!(rt; gives(rt.alloc(), FILTER, &segments));
+}
+
+#[test]
+fn refuses_in_the_first_pass(rt: HostRuntime) {
+    let rows: [(&[u8], u32, u32, AsmKind); 62] = [
+        (b" movs r0,#256", 1, 2, AsmKind::Row),
+        (b"a:\na:", 2, 1, AsmKind::Double),
+        (b"nop\n\n  r0: nop", 3, 3, AsmKind::Syntax),
+        (b"nop\r\n", 1, 4, AsmKind::Syntax),
+        (b"\tnop", 1, 1, AsmKind::Syntax),
+        (b"NOP", 1, 1, AsmKind::Syntax),
+        (b" .word 1,,2", 1, 10, AsmKind::Syntax),
+        (b".word a-4\na:", 1, 8, AsmKind::Syntax),
+        (b".word a+", 1, 9, AsmKind::Syntax),
+        (b".word a,  @ b", 1, 9, AsmKind::Syntax),
+        (b".word-1", 1, 6, AsmKind::Syntax),
+        (b"a: b: nop", 1, 5, AsmKind::Syntax),
+        (b"nop @ fine\n x", 2, 2, AsmKind::Row),
+        (b".word1", 1, 1, AsmKind::Row),
+        (b".long 1", 1, 1, AsmKind::Row),
+        (b" .word", 1, 2, AsmKind::Row),
+        (b".org", 1, 1, AsmKind::Row),
+        (b".org -4", 1, 1, AsmKind::Row),
+        (b".org 1,2", 1, 1, AsmKind::Row),
+        (b".org a\na:", 1, 1, AsmKind::Row),
+        (b".org 4294967296", 1, 1, AsmKind::Row),
+        (b".org #4", 1, 1, AsmKind::Row),
+        (b".align 3", 1, 1, AsmKind::Row),
+        (b".align 16", 1, 1, AsmKind::Row),
+        (b".align 0", 1, 1, AsmKind::Row),
+        (b".align -4", 1, 1, AsmKind::Row),
+        (b".space -1", 1, 1, AsmKind::Row),
+        (b".space 0x100000000", 1, 1, AsmKind::Row),
+        (b".byte 256", 1, 1, AsmKind::Row),
+        (b".byte -129", 1, 1, AsmKind::Row),
+        (b".byte 1,2,300,4", 1, 1, AsmKind::Row),
+        (b".half 65536", 1, 1, AsmKind::Row),
+        (b".half -32769", 1, 1, AsmKind::Row),
+        (b".word 4294967296", 1, 1, AsmKind::Row),
+        (b".word -2147483649", 1, 1, AsmKind::Row),
+        (b"a: .half a", 1, 4, AsmKind::Row),
+        (b"a: .byte a+1", 1, 4, AsmKind::Row),
+        (b".word r0", 1, 1, AsmKind::Row),
+        (b".word 1,al", 1, 1, AsmKind::Row),
+        (b".word a.b", 1, 1, AsmKind::Row),
+        (b".word a+4294967296\na:", 1, 1, AsmKind::Row),
+        (b".word #1", 1, 1, AsmKind::Row),
+        (b".word a!\na:", 1, 1, AsmKind::Row),
+        (b".word [a]\na:", 1, 1, AsmKind::Row),
+        (b".word {a}\na:", 1, 1, AsmKind::Row),
+        (b".word a[1]\na:", 1, 1, AsmKind::Row),
+        (b".word lsl #1", 1, 1, AsmKind::Row),
+        (b"a:\na: movs r0,#256", 2, 4, AsmKind::Row),
+        (b"a: nop\na: .org 0", 2, 1, AsmKind::Double),
+        (b"nop\n .org 0", 2, 2, AsmKind::Place),
+        (b".byte 1\nnop", 2, 1, AsmKind::Place),
+        (b".org 0x100000\n.byte 1", 2, 1, AsmKind::Place),
+        (b".org 0xfffff\n.half 1", 2, 1, AsmKind::Place),
+        (b".org 0x1fffffff\n.byte 1,2", 2, 1, AsmKind::Place),
+        (b".org 0x20040000\n.space 1", 2, 1, AsmKind::Place),
+        (b".org 0xffffe\n x: vadd.i8 q0,q1,q2", 2, 5, AsmKind::Place),
+        (b".org 0x100000\nnop", 2, 1, AsmKind::Place),
+        (b".space 0x100001", 1, 1, AsmKind::Place),
+        (b".space 4294967295", 1, 1, AsmKind::Place),
+        (b".org 0xffffffff\n.align 8", 2, 1, AsmKind::Place),
+        (b".org 0xffffd\n.align 8\n.align 2\n.byte 0", 4, 1, AsmKind::Place),
+        (b" b nowhere\n movs r0,#256", 2, 2, AsmKind::Row),
+    ];
+    assert_eq!(rt; first_wrong(rt.alloc(), &rows), None);
+}
+
+#[test]
+fn refuses_in_the_second_pass(rt: HostRuntime) {
+    let rows: [(&[u8], u32, u32, AsmKind); 11] = [
+        (b" b nowhere", 1, 4, AsmKind::Missing),
+        (b".word 1, x , y", 1, 10, AsmKind::Missing),
+        (b".word a+1,b\na:", 1, 11, AsmKind::Missing),
+        (b"l:  .word x+4", 1, 11, AsmKind::Missing),
+        (b"nop\nbl nowhere", 2, 4, AsmKind::Missing),
+        (b".half 0\n.byte 1\nodd: .byte 1\n b odd", 4, 4, AsmKind::Offset),
+        (b"l: b 0x1000", 1, 6, AsmKind::Offset),
+        (b"nop\nl: ldr r0,l", 2, 11, AsmKind::Offset),
+        (b"nop\nx: cbz r0,x", 2, 11, AsmKind::Offset),
+        (b" b odd\n b nowhere\n.byte 1\nodd:", 1, 4, AsmKind::Offset),
+        (b" b nowhere\n b odd\n.byte 1\nodd:", 1, 4, AsmKind::Missing),
+    ];
+    assert_eq!(rt; first_wrong(rt.alloc(), &rows), None);
+}
+
+/// Whether an image of these bytes in flash from 8 on has this listing.
+fn lists(alloc: Global, code: &[u8], lo: u32, hi: u32, lines: &[u8]) -> Result<bool, Fail>
+    requires even { (lo % 2 ≡ 0) × (hi % 2 ≡ 0) }
+    requires order { lo ≤ hi }
+    requires within { hi ≤ flash_size }
+{
+    let mut image = Image::new(alloc);
+    image.add(8, code.to_vec(alloc)?)?;
+    Ok(listing(alloc, &image, lo, hi)?.as_slice() == lines)
+}
+
+#[test]
+fn lists_instructions(rt: HostRuntime) -> Result<(), Fail> {
+    let alloc = rt.alloc();
+    // movs, adds, bkpt; a code of two halfwords; a code of no row; a branch back
+    let code = b"\x05\x20\xc0\x1c\x01\xbe\x20\xef\x42\x08\0\xde\xfd\xe7";
+    let all = b"00000008 2005 movs r0,#5
+0000000a 1cc0 adds r0,r0,#3
+0000000c be01 bkpt #1
+0000000e ef20 0842 vadd.i32 q0,q0,q1
+00000012 de00 .half 0xde00
+00000014 e7fd b 0x00000012
+";
+    assert!(rt; lists(alloc, code, 8, 0x16, all)?);
+    assert!(rt; lists(alloc, code, 8, 8, b"")?);
+    assert!(rt; lists(alloc, code, 0xa, 0xc, b"0000000a 1cc0 adds r0,r0,#3\n")?);
+    // It passes the end of the range; its second halfword is an instruction too.
+    assert!(rt; lists(alloc, code, 0xe, 0x10, b"0000000e ef20 .half 0xef20\n")?);
+    assert!(rt; lists(alloc, code, 0x10, 0x12, b"00000010 0842 lsrs r2,r0,#1\n")?);
+    // No segment gives these bytes, and flash ends behind them.
+    let blank = b"000ffffc ffff .half 0xffff\n000ffffe ffff .half 0xffff\n";
+    assert!(rt; lists(alloc, code, 0xf_fffc, 0x10_0000, blank)?);
+    Ok(())
+}
+
+#[test]
+fn refusals_are_told(rt: HostRuntime) -> Result<(), Fail> {
+    let bad = AsmErr::Line {
+        line: 1,
+        column: 2,
+        kind: AsmKind::Row,
+    };
+    assert_eq!(rt; format!(in rt.alloc(); "{bad}")?.as_str(), "a line of the source is refused");
+    let memory = AsmErr::from(OutOfMemory);
+    assert_eq!(rt; format!(in rt.alloc(); "{memory}")?.as_str(), "out of memory");
+    Ok(())
+}
