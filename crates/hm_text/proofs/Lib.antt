@@ -11,3 +11,4 @@ pub mod Apart
 pub mod Printing
 pub mod InTables
 pub mod Told
+pub mod Once

@@ -171,7 +171,7 @@ shape_refusal_told text pc labels kinds.Offset c r = absurd r
 shape_refusal_told text pc labels kinds.Place c r = absurd r
 
 -- a refusal of the shape is the only one
-shape_first : (text : List ℕ) (pc : ℕ) (labels : Labels) (k j : AsmKind) (c d : ℕ) → IsShapeRefused k text c → IsTextRefused j text pc labels d → (k ≡ j) × (c ≡ d)
+pub shape_first : (text : List ℕ) (pc : ℕ) (labels : Labels) (k j : AsmKind) (c d : ℕ) → IsShapeRefused k text c → IsTextRefused j text pc labels d → (k ≡ j) × (c ≡ d)
 shape_first text pc labels k kinds.Syntax c d r s = one_shape_refusal text k kinds.Syntax c d r s
 shape_first text pc labels k kinds.Row c d r s = one_shape_refusal text k kinds.Row c d r s
 shape_first text pc labels k kinds.Missing c d r s = absurd (row_not_refused text s.instr (word s.name) k c s.row r)
@@ -217,7 +217,7 @@ no_text text pc labels t i label none is =
     no_name false o e g l u names = absurd cc
 
 -- what is refused where the label is unknown
-missing_only : (text : List ℕ) (pc : ℕ) (labels : Labels) (t : Tok) (c d : ℕ) (j : AsmKind) → HasLabel text (Some t) → IsMissing text labels c → IsUnknown labels t → IsOne (IsAtLabel text) c → IsTextRefused j text pc labels d
+pub missing_only : (text : List ℕ) (pc : ℕ) (labels : Labels) (t : Tok) (c d : ℕ) (j : AsmKind) → HasLabel text (Some t) → IsMissing text labels c → IsUnknown labels t → IsOne (IsAtLabel text) c → IsTextRefused j text pc labels d
     → (kinds.Missing ≡ j) × (c ≡ d)
 missing_only text pc labels t c d kinds.Syntax label m none one s = absurd (not_both forms.Instruction text d m.row.form s)
 missing_only text pc labels t c d kinds.Row label m none one s = absurd (s.none m.instr (word m.name) m.row)
@@ -245,7 +245,7 @@ named_is_row text pc a labels l i label names is = record {
 }
 
 -- a text that names an instruction is not refused
-named_not_refused : (text : List ℕ) (pc a : ℕ) (labels : Labels) (l : Option Tok) (i : Instr) (k : AsmKind) (c : ℕ) → HasLabel text l → NamesGiven labels l a → IsTextOf text pc labels i → IsTextRefused k text pc labels c → ⊥
+pub named_not_refused : (text : List ℕ) (pc a : ℕ) (labels : Labels) (l : Option Tok) (i : Instr) (k : AsmKind) (c : ℕ) → HasLabel text l → NamesGiven labels l a → IsTextOf text pc labels i → IsTextRefused k text pc labels c → ⊥
 named_not_refused text pc a labels l i kinds.Syntax c label names is r = not_both forms.Instruction text c is.row.form r
 named_not_refused text pc a labels l i kinds.Row c label names is r = r.none i is.label is.row
 named_not_refused text pc a labels l i kinds.Missing c label names is r =
@@ -288,7 +288,7 @@ is_out_of_reach text pc a labels w (Some t) c is label names none at =
 is_out_of_reach text pc a labels w None c is label names none at =
     absurd (none is.0 (record { label = is.1; has = is.2.has; reaches = reach_without (has_label is.0) (target is.0 pc) a (given_target is.0 pc) (without_label is.0 is.1 (sym is.4)) }))
 
-out_only : (text : List ℕ) (pc a : ℕ) (labels : Labels) (l : Option Tok) (c d : ℕ) (j : AsmKind) → HasLabel text l → NamesGiven labels l a → IsOutOfReach text pc labels c → IsOne (IsAtLabel text) c → IsTextRefused j text pc labels d
+pub out_only : (text : List ℕ) (pc a : ℕ) (labels : Labels) (l : Option Tok) (c d : ℕ) (j : AsmKind) → HasLabel text l → NamesGiven labels l a → IsOutOfReach text pc labels c → IsOne (IsAtLabel text) c → IsTextRefused j text pc labels d
     → (kinds.Offset ≡ j) × (c ≡ d)
 out_only text pc a labels l c d kinds.Syntax label names o one s = absurd (not_both forms.Instruction text d o.row.form s)
 out_only text pc a labels l c d kinds.Row label names o one s = absurd (s.none o.instr o.label o.row)

@@ -12,6 +12,7 @@ ghost use Rattle.hm_text.specs.Tables.{long_text, printed_text, width_of};
 ghost use Rattle.hm_text.specs.Texts.{HasWidth, IsOnlyShape, IsShape, IsTextOf};
 ghost use Rattle.hm_tokens.specs.Tokens.{tok};
 
+mod laws;
 mod named;
 mod tables;
 
@@ -23,6 +24,7 @@ use hm_text16::print16;
 use hm_text32::print32;
 use hm_textv::print_v;
 use hm_tokens::skip;
+pub use laws::text_law;
 use named::address_in;
 use tables::{Shape, row_at, row_shape};
 
