@@ -4,14 +4,15 @@ use Rattle.std.proofs.lemmas.Bool.{cases_Bool, eqb-true, eqb-false, eq-eqb, ne_e
 use Rattle.std.proofs.lemmas.List.{append-nil, length-append}
 use Rattle.std.specs.List.{AllByRecursion}
 use Rattle.hm_base.specs.Image.{Segment, segment}
+use Rattle.hm_source.specs.Places.{HasRoom}
 use Rattle.hm_asm.specs.Segments.{onto, with_piece, joined}
 
 -- in front of a segment that begins at their end, and of one that does not
-onto_next : (a : ℕ) (b : ℕ) (bs : List ℕ) (s : Segment) (ss : List Segment) → a + length (b ∷ bs) ≡ s.addr
+pub onto_next : (a : ℕ) (b : ℕ) (bs : List ℕ) (s : Segment) (ss : List Segment) → a + length (b ∷ bs) ≡ s.addr
     → onto (segment a (b ∷ bs)) (s ∷ ss) ≡ segment a ((b ∷ bs) ++ s.bytes) ∷ ss
 onto_next a b bs s ss e = rw (eq-eqb (a + length (b ∷ bs)) s.addr e) refl
 
-onto_apart : (a : ℕ) (b : ℕ) (bs : List ℕ) (s : Segment) (ss : List Segment) → (a + length (b ∷ bs) ≡ s.addr → ⊥)
+pub onto_apart : (a : ℕ) (b : ℕ) (bs : List ℕ) (s : Segment) (ss : List Segment) → (a + length (b ∷ bs) ≡ s.addr → ⊥)
     → onto (segment a (b ∷ bs)) (s ∷ ss) ≡ segment a (b ∷ bs) ∷ s ∷ ss
 onto_apart a b bs s ss e = rw (ne_eqb (a + length (b ∷ bs)) s.addr e) refl
 
@@ -49,12 +50,12 @@ with_piece-apart a [] ss all = refl
 with_piece-apart a (b ∷ bs) [] all = refl
 with_piece-apart a (b ∷ bs) (s ∷ ss) all = onto_apart a b bs s ss (λ e. omega (arith, e, all.0))
 
--- pieces one behind another from an address on
+-- pieces one behind another from an address on, each with its room
 abbrev pub AreRising : ℕ → List Segment → Type 0
 AreRising a [] = Unit {0}
-AreRising a (p ∷ ps) = (a ≤ p.addr) × AreRising (p.addr + length p.bytes) ps
+AreRising a (p ∷ ps) = (a ≤ p.addr) × HasRoom p.addr (length p.bytes) × AreRising (p.addr + length p.bytes) ps
 
-from_lower : (a b : ℕ) (ss : List Segment) → a ≤ b → AllByRecursion (λ s. b ≤ s.addr) ss → AllByRecursion (λ s. a ≤ s.addr) ss
+pub from_lower : (a b : ℕ) (ss : List Segment) → a ≤ b → AllByRecursion (λ s. b ≤ s.addr) ss → AllByRecursion (λ s. a ≤ s.addr) ss
 from_lower a b [] h all = tt
 from_lower a b (s ∷ ss) h all = (omega (arith, h, all.0), from_lower a b ss h all.1)
 
@@ -74,4 +75,4 @@ piece_from a b (c ∷ bs) ss h all = from_lower a b (onto (segment b (c ∷ bs))
 -- their segments begin there or behind
 pub joined_from : (a : ℕ) (ps : List Segment) → AreRising a ps → AllByRecursion (λ s. a ≤ s.addr) (joined ps)
 joined_from a [] h = tt
-joined_from a (p ∷ ps) h = piece_from a p.addr p.bytes (joined ps) h.0 (joined_from (p.addr + length p.bytes) ps h.1)
+joined_from a (p ∷ ps) h = piece_from a p.addr p.bytes (joined ps) h.0 (joined_from (p.addr + length p.bytes) ps h.2)

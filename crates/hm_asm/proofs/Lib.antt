@@ -1,2 +1,6 @@
 pub mod Joined
 pub mod Left
+pub mod Made
+pub mod Said
+pub mod Holding
+pub mod Given

@@ -58,6 +58,7 @@ fn add_segment(image: &mut Image, start: u32, bytes: Vec<u8>) -> Result<(), OutO
 /// Adds so many zero bytes.
 fn add_zeros(out: &mut Vec<u8>, count: u32) -> Result<(), OutOfMemory>
     ensures added { IfOk result (λ _. out.new.items ≡ out.old.items ++ replicate count 0) }
+    ensures kept { OnErr result (out.new.items ≡ out.old.items) }
 {
     out.resize(out.len() + count as usize, 0)?;
     Ok(())

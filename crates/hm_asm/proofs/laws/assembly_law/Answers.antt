@@ -1,0 +1,15 @@
+use Rattle.std.specs.FinMap.{get, empty}
+use Rattle.hm_source.specs.Lines.{source_lines}
+use Rattle.hm_asm.specs.FirstPass.{AreFine}
+use Rattle.hm_asm.proofs.Given.{given_rising, late_next}
+use Rattle.hm_asm.proofs.Holding.{holds, joined_image}
+use Rattle.hm_asm.proofs.laws.assembly_law.Goals as goal
+
+pub returns-clause-image : goal.returns-clause-image
+returns-clause-image c = λ source image a. ?
+
+pub returns-clause-holds : goal.returns-clause-holds
+returns-clause-holds c = λ source image a. ?
+
+pub returns-clause-second : goal.returns-clause-second
+returns-clause-second c = λ kind source n k r. late_next (get r.0) 0 (source_lines source) kind n k r.2
