@@ -18,12 +18,12 @@ use Rattle.hm_tokens.specs.Tokens.{skip}
 use Rattle.hm_source.specs.declared.values.Size.{Size}
 use Rattle.hm_source.specs.declared.values.Size.TheVariants.{Byte, Half, Word}
 use Rattle.hm_source.specs.Directives.{Datum, Asked, org, align, space, values, bytes_each}
-use Rattle.hm_source.specs.Lines.{text_of, text_column, shifted}
+use Rattle.hm_source.specs.Lines.{name_of, text_of, text_column, shifted}
 use Rattle.hm_source.specs.Places.{HasPlace, HasRoom, next_place, padding, size_asked, size_of}
 use Rattle.hm_source.specs.Statements.{Said, nothing, instruction, directive, Says}
 use Rattle.hm_text.specs.Texts.{HasWidth}
 use Rattle.hm_text.proofs.Once.{late_refusal, not_refused, one_instruction, one_refusal, one_width, some_width, width_named}
-use Rattle.hm_asm.specs.FirstPass.{AreFine}
+use Rattle.hm_asm.specs.FirstPass.{AreFine, with_name}
 use Rattle.hm_asm.specs.SecondPass.{AreAsked, AreBytes, AreGiven, AreValues, IsFirstMissing, IsListRefused, IsNextRefused, IsOperandColumn, IsSaidRefused, Naming, code_bytes, low_bytes, number_of}
 use Rattle.hm_asm.proofs.Joined.{AreRising}
 use Rattle.hm_asm.proofs.Said.{one_said, says_width}
@@ -87,7 +87,7 @@ given_rising m a (l ∷ ls) all labels (p ∷ ps) (said, is, fine) (said', says,
     let same : said' ≡ said = one_said (text_of l) said' said says is.says in
     let size : length p.bytes ≡ size_of said a = bytes_length labels a (text_of l) said' p.bytes says are ∙ ap (λ (s : Said). size_of s a) same in
     let room = roomed said a is.place in
-    let more = given_rising _ (next_place said a) ls all labels ps fine (subst (λ (s : Said). AreGiven labels (next_place s a) ls ps) same given) in
+    let more = given_rising (with_name m (name_of l) a) (next_place said a) ls all labels ps fine (subst (λ (s : Said). AreGiven labels (next_place s a) ls ps) same given) in
     (
       omega (arith, at),
       subst (λ (b : ℕ). HasRoom b (length p.bytes)) (sym at) (subst (λ (n : ℕ). HasRoom a n) (sym size) room.room),
@@ -135,7 +135,7 @@ one_given m a (l ∷ ls) all labels (p ∷ ps) (q ∷ qs) (said, is, fine) (s, s
             same_bytes labels a (text_of l) said p.bytes q.bytes is.place is.says (subst (λ (x : Said). AreBytes labels a (text_of l) x p.bytes) first are)
             (subst (λ (x : Said). AreBytes labels a (text_of l) x q.bytes) second give) in
     let rest =
-            one_given _ (next_place said a) ls all labels ps qs fine (subst (λ (x : Said). AreGiven labels (next_place x a) ls ps) first given)
+            one_given (with_name m (name_of l) a) (next_place said a) ls all labels ps qs fine (subst (λ (x : Said). AreGiven labels (next_place x a) ls ps) first given)
             (subst (λ (x : Said). AreGiven labels (next_place x a) ls qs) second also) in
     both (same_piece p q (at ∙ sym there) bytes) rest
   where

@@ -65,7 +65,7 @@ onto_from a b bs (s ∷ ss) all =
     let rest = from_lower a (a + length (b ∷ bs)) ss (omega arith) all.1 in
     elim (cases_Bool (eqb (a + length (b ∷ bs)) s.addr)) [
       | inl e ↦ rw (onto_next a b bs s ss (eqb-true _ _ e)) (omega arith, rest)
-      | inr e ↦ rw (onto_apart a b bs s ss (eqb-false _ _ e)) (omega arith, omega (arith, all.0), rest)
+      | inr e ↦ rw (onto_apart a b bs s ss (eqb-false _ _ e)) (omega arith, (omega (arith, all.0), rest))
     ]
 
 piece_from : (a b : ℕ) (bs : List ℕ) (ss : List Segment) → a ≤ b → AllByRecursion (λ s. b + length bs ≤ s.addr) ss → AllByRecursion (λ s. a ≤ s.addr) (with_piece b bs ss)

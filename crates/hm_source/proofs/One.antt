@@ -47,7 +47,8 @@ one_front (beyond w n) (beyond v m) ts us x y f = (cc, cc)
 tail_is : (t u : Tok) (ts us : List Tok) → t ∷ ts ≡ u ∷ us → ts ≡ us
 tail_is t u ts us e = cc
 
-one_list : (d e : Datum) (ds es : List Datum) → list_tokens d ds ≡ list_tokens e es → (d ≡ e) × (ds ≡ es)
+-- a list is told by its tokens
+pub one_list : (d e : Datum) (ds es : List Datum) → list_tokens d ds ≡ list_tokens e es → (d ≡ e) × (ds ≡ es)
 one_list d e [] [] f =
     let same = one_front d e [] [] no_tokens no_tokens (append-nil (datum_tokens d) ∙ f ∙ sym (append-nil (datum_tokens e))) in
     (same.0, refl)
