@@ -22,7 +22,8 @@ use Rattle.hm_source.specs.Lines.{name_of, text_of, text_column, shifted}
 use Rattle.hm_source.specs.Places.{HasPlace, HasRoom, next_place, padding, size_asked, size_of}
 use Rattle.hm_source.specs.Statements.{Said, nothing, instruction, directive, Says}
 use Rattle.hm_text.specs.Texts.{HasWidth}
-use Rattle.hm_text.proofs.Once.{late_refusal, not_refused, one_instruction, one_refusal, one_width, some_width, width_named}
+use Rattle.hm_text.proofs.Once.{late_refusal, not_refused, one_instruction, one_refusal, one_width, some_width}
+use Rattle.hm_text.proofs.Printing.{width_is}
 use Rattle.hm_asm.specs.FirstPass.{AreFine, with_name}
 use Rattle.hm_asm.specs.SecondPass.{AreAsked, AreBytes, AreGiven, AreValues, IsFirstMissing, IsListRefused, IsNextRefused, IsOperandColumn, IsSaidRefused, Naming, code_bytes, low_bytes, number_of}
 use Rattle.hm_asm.proofs.Joined.{AreRising}
@@ -54,7 +55,7 @@ asked_length labels a (values s d ds) bs are = values_length labels s (d ∷ ds)
 pub bytes_length : (labels : Naming) (a : ℕ) (text : List ℕ) (said : Said) (bs : List ℕ) → Says text said → AreBytes labels a text said bs → length bs ≡ size_of said a
 bytes_length labels a text nothing bs says e = ap length e
 bytes_length labels a text (instruction n) bs says (i, is, e) =
-    ap length e ∙ code_length (halfwords i) ∙ one_width text (2 * length (halfwords i)) n (width_named text a labels i is) (says_width text n says)
+    ap length e ∙ code_length (halfwords i) ∙ one_width text (2 * length (halfwords i)) n (width_is text a labels i is) (says_width text n says)
 bytes_length labels a text (directive asked) bs says are = asked_length labels a asked bs are
 
 -- ROOM

@@ -4,3 +4,5 @@ pub mod Made
 pub mod Said
 pub mod Holding
 pub mod Given
+pub mod Outcomes
+pub mod Meeting

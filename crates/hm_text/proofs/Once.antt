@@ -1,5 +1,5 @@
 -- A text says one thing: all rows with it have one width and one label, one of them stands at an address, and it is refused once or not.
-use Rattle.std.proofs.Common.{◌≡◌, ◌⊎◌, ℕ, ◌^◌, ◌<◌, Bool, true, false, cond, List, [], ◌∷◌, ◌++◌, length, Option, Some, None, refl, sym, ap, subst, inl, inr, ◌∙◌, arith}
+use Rattle.std.proofs.Common.{◌≡◌, ◌⊎◌, ℕ, ◌*◌, ◌^◌, ◌<◌, Bool, true, false, cond, List, [], ◌∷◌, ◌++◌, length, Option, Some, None, refl, sym, ap, subst, inl, inr, ◌∙◌, arith}
 use Rattle.hm_codes.proofs.Unique.{unique_code}
 use Rattle.hm_isa.specs.declared.Instr.{Instr}
 use Rattle.hm_isa.specs.declared.Instr.TheVariants.{Scalar, Branch, Vector}
@@ -43,7 +43,7 @@ use Rattle.hm_text.specs.Texts.{HasWidth, IsRowText, IsTextOf}
 use Rattle.hm_text.proofs.Apart.{apart, apart_long}
 use Rattle.hm_text.proofs.InTables.{Tokens, narrow_table, seen_of, seen_parts, vector_seen, wide_table}
 use Rattle.hm_text.proofs.Lines.{same_line}
-use Rattle.hm_text.proofs.Targets.{given_target}
+use Rattle.hm_text.proofs.Targets.{given_target, lengths}
 use Rattle.hm_text.proofs.Told.{HasLabel, IsOne, missing_only, named_is_row, named_not_refused, out_only, shape_first}
 
 abbrev given : {A : Type 0} → A → Option A
@@ -189,6 +189,13 @@ one_text text pc a i j t u hp ha (inr (inr v)) (inr (inr x)) r s = vector_row te
 -- WIDTHS
 pub one_width : (text : List ℕ) (n m : ℕ) → HasWidth text n → HasWidth text m → n ≡ m
 one_width text n m w v = w.bytes ∙ (one_seen text w.instr v.instr w.label v.label w.row.has v.row.has).0 ∙ sym v.bytes
+
+any_width : (n : ℕ) → (n ≡ 1) ⊎ (n ≡ 2) → 0 < 2 * n
+any_width n (inl e) = omega (arith, e)
+any_width n (inr e) = omega (arith, e)
+
+pub some_width : (text : List ℕ) (n : ℕ) → HasWidth text n → 0 < n
+some_width text n w = subst (λ (x : ℕ). 0 < x) (sym w.bytes) (any_width (length (halfwords w.instr)) (lengths w.instr))
 
 -- INSTRUCTIONS
 -- a row's text has its label, and no other

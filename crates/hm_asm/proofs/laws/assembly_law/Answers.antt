@@ -5,6 +5,7 @@ use Rattle.hm_source.specs.Lines.{source_lines}
 use Rattle.hm_asm.specs.Segments.{Holds}
 use Rattle.hm_asm.proofs.Given.{given_rising, late_next}
 use Rattle.hm_asm.proofs.Holding.{holds, joined_image}
+use Rattle.hm_asm.proofs.Outcomes.{one_outcome}
 use Rattle.hm_asm.proofs.laws.assembly_law.Goals as goal
 
 pub returns-clause-image : goal.returns-clause-image
@@ -21,3 +22,6 @@ returns-clause-holds c =
 
 pub returns-clause-second : goal.returns-clause-second
 returns-clause-second c = λ kind source n k r. late_next (get r.0) 0 (source_lines source) kind n k r.2
+
+pub returns-clause-one : goal.returns-clause-one
+returns-clause-one c = one_outcome
