@@ -30,7 +30,7 @@ use Rattle.hm_asm.proofs.Joined.{AreRising}
 use Rattle.hm_asm.proofs.Said.{one_said, says_width}
 
 -- SIZES
-code_length : (hs : List ℕ) → length (flat_map (to_le_bytes w16) hs) ≡ 2 * length hs
+pub code_length : (hs : List ℕ) → length (flat_map (to_le_bytes w16) hs) ≡ 2 * length hs
 code_length [] = refl
 code_length (h ∷ hs) = let more = code_length hs in omega (arith, more, length-append (to_le_bytes w16 h) (flat_map (to_le_bytes w16) hs))
 

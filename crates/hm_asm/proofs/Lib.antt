@@ -1,8 +1,10 @@
 pub mod Joined
-pub mod Left
+pub mod Operands
+pub mod Lists
 pub mod Made
 pub mod Said
 pub mod Holding
 pub mod Given
 pub mod Outcomes
 pub mod Meeting
+pub mod Steps

@@ -24,7 +24,7 @@ use Rattle.hm_asm.proofs.Given.{given_refused, one_given, one_next}
 use Rattle.hm_asm.proofs.Said.{one_said}
 
 -- LINES
-line_not_both : (l : List ℕ) (c : ℕ) → IsLine l → IsLineRefused l c → ⊥
+pub line_not_both : (l : List ℕ) (c : ℕ) → IsLine l → IsLineRefused l c → ⊥
 line_not_both l c is r = not_both forms.Line (before_comment l) c is.1 (r.1 is.0)
 
 one_bad : (b : Bool) (l : List ℕ) (c d : ℕ) → has_bad_label (before_comment l) ≡ b → IsLineRefused l c → IsLineRefused l d → c ≡ d

@@ -2,7 +2,7 @@ use Rattle.std.proofs.Common.{◌∷◌, List, length}
 use Rattle.std.specs.FinMap.{get}
 use Rattle.hm_source.specs.Directives.{Datum, values}
 use Rattle.hm_source.specs.Shown.{ShowsValues}
-use Rattle.hm_asm.proofs.Left.{Left}
+use Rattle.hm_asm.proofs.Lists.{Left}
 use Rattle.hm_asm.proofs.second.add_values.Given as goal
 
 abbrev pub invariant-loop-item : goal.invariant-loop-item
