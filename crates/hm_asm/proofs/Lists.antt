@@ -7,13 +7,16 @@ use Rattle.hm_line.specs.declared.errors.AsmKind.TheVariants as kinds
 use Rattle.hm_tokens.specs.Lines.{AreTokensOf}
 use Rattle.hm_tokens.specs.Tokens.{mark, skip, word}
 use Rattle.hm_source.specs.declared.values.Size.{Size}
-use Rattle.hm_source.specs.Directives.{Datum, bytes_each, datum_tokens, list_name, list_tokens, values}
-use Rattle.hm_source.specs.Places.{HasRoom}
-use Rattle.hm_source.specs.Shown.{AreFront, AreListed}
+use Rattle.hm_source.specs.declared.values.Values.{Values}
+use Rattle.hm_source.specs.Directives.{Asked, Datum, align, bytes_each, datum_tokens, list_name, list_tokens, org, space, values}
+use Rattle.hm_source.specs.Places.{HasPlace, HasRoom}
+use Rattle.hm_source.specs.Shown.{AreFront, AreListed, ShowsValues}
+use Rattle.hm_source.specs.Statements.{directive}
 use Rattle.hm_source.proofs.Fronts.{ends_before, front_of_all}
 use Rattle.hm_source.proofs.Listed.{EndsAt}
 use Rattle.hm_source.proofs.Rooms.{room_behind, room_front}
 use Rattle.hm_asm.specs.Making.{Made, place_of, with_bytes}
+use Rattle.hm_asm.specs.Ready.{IsReadyList}
 use Rattle.hm_asm.specs.SecondPass.{AreValues, IsFirstMissing, IsListRefused, Naming, low_bytes, number_of}
 use Rattle.hm_asm.proofs.Given.{low_length}
 use Rattle.hm_asm.proofs.Operands.{first_operand, next_operand}
@@ -111,3 +114,36 @@ module _ (text : List ℕ) (labels : Naming) (size : Size) (rest : List ℕ) (ol
 
         later : (k : ℕ) → IsFirstMissing labels size (e ∷ es) k → IsFirstMissing labels size (l.d ∷ l.ds) (suc k)
         later k none = (n, is, subst (λ (xs : List Datum). IsFirstMissing labels size xs k) (sym are) none)
+
+-- THE LIST of a text
+-- what a directive with values asks for
+pub record Shown (text : List ℕ) (v : Values) (asked : Asked) : Type 0 where
+  pub d : Datum
+  pub ds : List Datum
+  pub asks : asked ≡ values v.size d ds
+  pub shows : ShowsValues text v (values v.size d ds)
+
+pub shown_list : (text : List ℕ) (v : Values) (asked : Asked) → ShowsValues text v asked → Shown text v asked
+shown_list text v (org b) shows = absurd shows
+shown_list text v (align n) shows = absurd shows
+shown_list text v (space n) shows = absurd shows
+shown_list text v (values s d ds) shows = record {
+  d = d;
+  ds = ds;
+  asks = ap (λ (x : Size). values x d ds) (sym shows.0);
+  shows = subst (λ (x : Size). ShowsValues text v (values x d ds)) (sym shows.0) shows;
+}
+
+pub ready_list : (text : List ℕ) (v : Values) (a : ℕ) (ready : IsReadyList text v a) → Shown text v ready.0
+ready_list text v a ready = shown_list text v ready.0 ready.1
+
+same_count : (text : List ℕ) (v : Values) (a : ℕ) (s : Size) (d e : Datum) (ds es : List Datum) → ShowsValues text v (values s d ds) → ShowsValues text v (values s e es) → HasRoom a (bytes_each s * length (d ∷ ds)) → HasRoom a (bytes_each s * length (e ∷ es))
+same_count text v a s d e ds es shows also room =
+    let count : length (d ∷ ds) ≡ length (e ∷ es) = sym shows.1 ∙ also.1 in
+    subst (λ (n : ℕ). HasRoom a (bytes_each s * n)) count room
+
+pub ready_room : (text : List ℕ) (v : Values) (a : ℕ) (d : Datum) (ds : List Datum) → IsReadyList text v a → ShowsValues text v (values v.size d ds) → HasRoom a (bytes_each v.size * length (d ∷ ds))
+ready_room text v a d ds ready shows =
+    let list = ready_list text v a ready in
+    let place : HasPlace (directive (values v.size list.d list.ds)) a = subst (λ (x : Asked). HasPlace (directive x) a) list.asks ready.2 in
+    same_count text v a v.size list.d d list.ds ds list.shows shows place

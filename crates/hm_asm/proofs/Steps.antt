@@ -1,8 +1,9 @@
 -- What a line adds to what is known of the lines behind it.
-use Rattle.std.proofs.Common.{◌≡◌, ℕ, suc, ◌+◌, ◌-◌, ◌<◌, ◌≤◌, List, [], ◌∷◌, ◌++◌, eqb, length, replicate, refl, sym, ap, subst, append_assoc, ◌∙◌, inl, inr, arith}
+use Rattle.std.proofs.Common.{◌≡◌, ℕ, suc, ◌+◌, ◌-◌, ◌<◌, ◌≤◌, List, [], ◌∷◌, ◌++◌, eqb, length, replicate, false, Result, Ok, Err, refl, sym, ap, subst, append_assoc, ◌∙◌, inl, inr, arith}
+use Rattle.std.specs.Prelude.{OnOk, is_err}
 use Rattle.std.specs.FinMap.{get, empty}
 use Rattle.std.specs.List.{AllByRecursion}
-use Rattle.std.proofs.lemmas.Bool.{cases_Bool, eqb-true, eqb-false, eq-eqb, ne_eqb}
+use Rattle.std.proofs.lemmas.Bool.{cases_Bool, false≢true, eqb-true, eqb-false, eq-eqb, ne_eqb}
 use Rattle.std.proofs.lemmas.List.{append-nil, length-append}
 use Rattle.hm_base.specs.Image.{Segment, segment}
 use Rattle.hm_line.specs.Labels.{LabelMap}
@@ -79,6 +80,11 @@ pub given_space : (labels : Naming) (old new : Made) (n : ℕ) (a : Asked) → a
 given_space labels old new n a e added =
     subst (λ (x : Asked). (bs : List ℕ) × AreAsked labels (place_of old) x bs × (new ≡ after_line old (directive x) bs)) (sym e)
     (replicate n 0, refl, added)
+
+-- a result that is no error
+pub no_error : {A E : Type 0} (r : Result A E) (P : Type 0) → is_err r ≡ false → OnOk r P → P
+no_error (Ok x) P e p = p
+no_error (Err x) P e p = absurd (false≢true (sym e))
 
 -- what holds of what a directive asks for holds of what its text says
 pub of_directive : (text : List ℕ) (d : Directive) (said told : Said) (P : Said → Type 0) → Says text said → Says text told → Shows text (statements.Directive d) told → ((a : Asked) → ShowsAsked text d a → P (directive a)) → P said
@@ -188,3 +194,10 @@ second_err labels source a number l ls lines said (refusals.Line k c kind) count
       whole kind 0 c (subst (λ (x : List (List ℕ)). IsNextRefused kind labels a x 0 c) (sym at) (said, t, says, is, column)),
     )
 second_err labels source a number l ls lines said refusals.OutOfMemory counted at says whole r = tt
+
+-- nothing is made at first
+pub begun_place : (m : Made) → m ≡ record { whole = []; start = 0; bytes = [] } → place_of m ≡ 0
+begun_place m e = ap place_of e
+
+pub begun_whole : (m : Made) (ps : List Segment) → m ≡ record { whole = []; start = 0; bytes = [] } → whole_with m ps ≡ joined ps
+begun_whole m ps e = ap (λ (x : Made). whole_with x ps) e

@@ -1,6 +1,3 @@
-ghost use Rattle.std.specs.Prelude.{◌≡◌, ◌≤◌, ◌%◌};
-ghost use Rattle.hm_base.specs.Image.{flash_size};
-
 use super::*;
 use hm_base::OutOfMemory;
 use std::test::Fail;
@@ -295,41 +292,6 @@ fn refuses_in_the_second_pass(rt: HostRuntime) {
         (b" b nowhere\n b odd\n.byte 1\nodd:", 1, 4, AsmKind::Missing),
     ];
     assert_eq!(rt; first_wrong(rt.alloc(), &rows), None);
-}
-
-/// Whether an image of these bytes in flash from 8 on has this listing.
-fn lists(alloc: Global, code: &[u8], lo: u32, hi: u32, lines: &[u8]) -> Result<bool, Fail>
-    requires even { (lo % 2 ≡ 0) × (hi % 2 ≡ 0) }
-    requires order { lo ≤ hi }
-    requires within { hi ≤ flash_size }
-{
-    let mut image = Image::new(alloc);
-    image.add(8, code.to_vec(alloc)?)?;
-    Ok(listing(alloc, &image, lo, hi)?.as_slice() == lines)
-}
-
-#[test]
-fn lists_instructions(rt: HostRuntime) -> Result<(), Fail> {
-    let alloc = rt.alloc();
-    // movs, adds, bkpt; a code of two halfwords; a code of no row; a branch back
-    let code = b"\x05\x20\xc0\x1c\x01\xbe\x20\xef\x42\x08\0\xde\xfd\xe7";
-    let all = b"00000008 2005 movs r0,#5
-0000000a 1cc0 adds r0,r0,#3
-0000000c be01 bkpt #1
-0000000e ef20 0842 vadd.i32 q0,q0,q1
-00000012 de00 .half 0xde00
-00000014 e7fd b 0x00000012
-";
-    assert!(rt; lists(alloc, code, 8, 0x16, all)?);
-    assert!(rt; lists(alloc, code, 8, 8, b"")?);
-    assert!(rt; lists(alloc, code, 0xa, 0xc, b"0000000a 1cc0 adds r0,r0,#3\n")?);
-    // It passes the end of the range; its second halfword is an instruction too.
-    assert!(rt; lists(alloc, code, 0xe, 0x10, b"0000000e ef20 .half 0xef20\n")?);
-    assert!(rt; lists(alloc, code, 0x10, 0x12, b"00000010 0842 lsrs r2,r0,#1\n")?);
-    // No segment gives these bytes, and flash ends behind them.
-    let blank = b"000ffffc ffff .half 0xffff\n000ffffe ffff .half 0xffff\n";
-    assert!(rt; lists(alloc, code, 0xf_fffc, 0x10_0000, blank)?);
-    Ok(())
 }
 
 #[test]
