@@ -24,7 +24,7 @@ use Rattle.hm_text16.specs.Rows as narrow_rows
 use Rattle.hm_text16.specs.Targets as narrow_targets
 use Rattle.hm_text16.specs.Texts as narrow
 use Rattle.hm_text16.proofs.Laws as narrow_laws
-use Rattle.hm_text16.proofs.Laws.{IsGiven}
+use Rattle.hm_text_rows.proofs.Shown.{IsGiven}
 use Rattle.hm_text16.proofs.Parsing as narrow_parsing
 use Rattle.hm_text32.specs.Codes as wide_codes
 use Rattle.hm_text32.specs.Rows as wide_rows
