@@ -1,17 +1,17 @@
 -- Directives, by their names.
-use Rattle.std.proofs.Common.{◌≡◌, ◌<◌, ◌^◌, ℕ, true, false, List, [], ◌∷◌, length, refl, sym, ap, subst, inl, inr, ◌∙◌, arith}
+use Rattle.std.proofs.Common.{◌≡◌, ◌<◌, ◌^◌, ℕ, false, List, [], ◌∷◌, length, refl, sym, subst, ◌∙◌}
 use Rattle.std.specs.Prelude.{codes, bytes_eq}
 use Rattle.std.proofs.lemmas.Bool.{false≢true}
 use Rattle.std.proofs.lemmas.Slice.Eq.{bytes_eq-Decides}
 use Rattle.hm_tokens.specs.Lines.{AreTokensOf}
-use Rattle.hm_tokens.specs.Tokens.{Tok, word, number, skip}
+use Rattle.hm_tokens.specs.Tokens.{Tok, word, number}
 use Rattle.hm_source.specs.declared.directives.Multiple.{Multiple}
 use Rattle.hm_source.specs.declared.values.Size.{Size}
 use Rattle.hm_source.specs.declared.values.Size.TheVariants.{Byte, Half, Word}
 use Rattle.hm_source.specs.declared.values.Values.{Values}
 use Rattle.hm_source.specs.Directives.{Datum, Asked, org, align, space, values, asked_tokens, IsDirective, IsInRange, list_name, list_tokens, multiple_of}
 use Rattle.hm_source.specs.Shown.{AreFront, AreListed, ShowsValues}
-use Rattle.hm_source.proofs.Fronts.{front_and_rest, front_one}
+use Rattle.hm_source.proofs.Fronts.{front_and_rest, front_one, word_is}
 
 -- a directive's name, and what stands behind it
 abbrev pub name_asked : Asked → List ℕ
@@ -31,9 +31,6 @@ in_parts (org a) = refl
 in_parts (align n) = refl
 in_parts (space n) = refl
 in_parts (values s d ds) = refl
-
-word_is : (v w : List ℕ) → word v ≡ word w → v ≡ w
-word_is v w e = cc
 
 -- a text of this name, with what stands behind it
 pub record Behind (name behind : List ℕ) (asked : Asked) : Type 0 where

@@ -5,7 +5,7 @@ use Rattle.hm_line.proofs.Fronts.{token_shorter}
 use Rattle.hm_text_base.proofs.Steps.{some_is}
 use Rattle.hm_text_base.specs.Reading.{ReadsSome}
 use Rattle.hm_tokens.specs.Lines.{AreTokensOf}
-use Rattle.hm_tokens.specs.Tokens.{Tok, word, number, mark, skip, token_at}
+use Rattle.hm_tokens.specs.Tokens.{Tok, word, mark, skip, token_at}
 use Rattle.hm_source.specs.Shown.{AreFront, EndsHere}
 
 -- a token and a rest
@@ -19,8 +19,11 @@ no_token : (x : Next) → token_at [] ≡ Some x → ⊥
 unfolding token_at
 no_token x e = let f : nothing ≡ Some x = e in absurd cc
 
-mark_is : (a b : ℕ) → mark a ≡ mark b → a ≡ b
+pub mark_is : (a b : ℕ) → mark a ≡ mark b → a ≡ b
 mark_is a b e = cc
+
+pub word_is : (v w : List ℕ) → word v ≡ word w → v ≡ w
+word_is v w e = cc
 
 -- one token is read there, with one rest
 pub same_next : (text : List ℕ) (t u : Tok) (r s : List ℕ) → token_at (skip text) ≡ Some (t, r) → token_at (skip text) ≡ Some (u, s) → (t ≡ u) × (r ≡ s)
@@ -37,12 +40,6 @@ pub same_front : (text : List ℕ) (t u : Tok) (r s : List ℕ) → AreFront tex
 same_front text t u r s e f =
     let same = front_one text t u e.0 s e.1 f in
     (same.0, sym e.2 ∙ same.1)
-
-differs : (o : Option Next) (x : Next) → o ≡ None → o ≡ Some x → ⊥
-differs o x e f = cc
-
-pub no_front : (text : List ℕ) (u : Tok) (us : List Tok) (s : List ℕ) → token_at (skip text) ≡ None → AreFront text (u ∷ us) s → ⊥
-no_front text u us s e f = differs (token_at (skip text)) (u, f.0) e f.1
 
 -- all tokens of a text are one list
 pub one_tokens : (text : List ℕ) (ts us : List Tok) → AreTokensOf text ts → AreTokensOf text us → ts ≡ us

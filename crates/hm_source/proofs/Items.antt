@@ -1,12 +1,9 @@
 -- Items of lists, by their first token.
-use Rattle.std.proofs.Common.{◌≡◌, ◌⊎◌, ℕ, Bool, true, false, List, [], ◌∷◌, Some, refl, sym, ap, subst, inl, inr, ◌∙◌, arith}
-use Rattle.hm_tokens.specs.declared.marks.Mark.{Mark}
-use Rattle.hm_tokens.specs.declared.marks.Mark.TheVariants as marks
-use Rattle.hm_tokens.specs.Marks.{mark_byte}
-use Rattle.hm_tokens.specs.Tokens.{Tok, word, number, mark, skip, token_at}
+use Rattle.std.proofs.Common.{◌≡◌, ℕ, true, false, List, [], ◌∷◌, Some, refl, sym, ap, subst, ◌∙◌}
+use Rattle.hm_tokens.specs.Tokens.{word, number, mark, skip, token_at}
 use Rattle.hm_source.specs.Directives.{Datum, literal, named, beyond, datum_tokens}
 use Rattle.hm_source.specs.Shown.{AreFront, EndsHere}
-use Rattle.hm_source.proofs.Fronts.{front_one, same_front, same_next}
+use Rattle.hm_source.proofs.Fronts.{front_one, mark_is, same_front, same_next, word_is}
 
 -- ---- that a number begins
 
@@ -28,9 +25,6 @@ minus_first text r rest (beyond w m) e f = let same = same_next text (mark 45) (
 
 -- ---- that another mark begins
 
-mark_is : (a b : ℕ) → mark a ≡ mark b → a ≡ b
-mark_is a b e = cc
-
 pub mark_first : (text r rest : List ℕ) (c : ℕ) (d : Datum) → token_at (skip text) ≡ Some (mark c, r) → AreFront text (datum_tokens d) rest → c ≡ 45
 mark_first text r rest c (literal false m) e f = let same = same_next text (mark c) (number m) r f.0 e f.1 in absurd cc
 mark_first text r rest c (literal true m) e f = mark_is c 45 (same_next text (mark c) (mark 45) r f.0 e f.1).0
@@ -42,9 +36,6 @@ mark_first text r rest c (beyond w m) e f = let same = same_next text (mark c) (
 pub data Named (w r rest : List ℕ) (d : Datum) : Type 0 where
   alone : d ≡ named w → r ≡ rest → Named w r rest d
   more : (n : ℕ) → (mid : List ℕ) → d ≡ beyond w n → AreFront r (mark 43 ∷ []) mid → AreFront mid (number n ∷ []) rest → Named w r rest d
-
-word_is : (v w : List ℕ) → word v ≡ word w → v ≡ w
-word_is v w e = cc
 
 pub name_first : (text w r rest : List ℕ) (d : Datum) → AreFront text (word w ∷ []) r → AreFront text (datum_tokens d) rest → Named w r rest d
 name_first text w r rest (literal false m) a f = let same = same_next text (word w) (number m) a.0 f.0 a.1 f.1 in absurd cc

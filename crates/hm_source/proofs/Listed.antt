@@ -1,7 +1,7 @@
 -- Lists of values, by the first of them.
-use Rattle.std.proofs.Common.{◌≡◌, ℕ, ◌+◌, List, [], ◌∷◌, ◌++◌, length, refl, sym, ap, subst, ◌∙◌, arith}
+use Rattle.std.proofs.Common.{◌≡◌, ℕ, List, [], ◌∷◌, refl, sym, ap, subst, ◌∙◌}
 use Rattle.hm_tokens.specs.Lines.{AreTokensOf}
-use Rattle.hm_tokens.specs.Tokens.{Tok, mark, skip}
+use Rattle.hm_tokens.specs.Tokens.{mark, skip}
 use Rattle.hm_source.specs.declared.values.Size.{Size}
 use Rattle.hm_source.specs.Directives.{Datum, datum_tokens, list_tokens, Fits}
 use Rattle.hm_source.specs.Shown.{AreFront, AreListed, EndsHere}

@@ -1,20 +1,15 @@
 -- A text has one list of values, and asks for one thing.
-use Rattle.std.proofs.Common.{◌≡◌, ℕ, true, false, List, [], ◌∷◌, ◌++◌, refl, sym, ap, subst, ◌∙◌, arith}
-use Rattle.std.specs.Prelude.{codes}
+use Rattle.std.proofs.Common.{◌≡◌, ℕ, true, false, List, [], ◌∷◌, ◌++◌, refl, sym, ◌∙◌, arith}
 use Rattle.std.proofs.lemmas.List.{append-nil}
-use Rattle.hm_tokens.specs.Tokens.{Tok, word, number, mark}
+use Rattle.hm_tokens.specs.Tokens.{Tok, number, mark}
 use Rattle.hm_source.specs.declared.values.Size.{Size}
-use Rattle.hm_source.specs.Directives.{Datum, literal, named, beyond, datum_tokens, list_tokens, Asked, org, align, space, values, IsDirective}
+use Rattle.hm_source.specs.Directives.{Datum, literal, named, beyond, datum_tokens, list_tokens}
 use Rattle.hm_source.specs.Shown.{AreListed}
-use Rattle.hm_source.proofs.Asks.{name_asked, tokens_behind, in_parts, is_align, is_org, is_space, one_size}
-use Rattle.hm_source.proofs.Fronts.{one_tokens}
+use Rattle.hm_source.proofs.Fronts.{mark_is, one_tokens}
 
 -- no `+` goes on with what stands before
 abbrev EndsTokens : List Tok → Type 0
 EndsTokens ts = (us : List Tok) → ts ≡ mark 43 ∷ us → ⊥
-
-mark_is : (a b : ℕ) → mark a ≡ mark b → a ≡ b
-mark_is a b e = cc
 
 head_is : (t u : Tok) (ts us : List Tok) → t ∷ ts ≡ u ∷ us → t ≡ u
 head_is t u ts us e = cc

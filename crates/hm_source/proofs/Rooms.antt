@@ -1,5 +1,5 @@
 -- Room for bytes in two parts.
-use Rattle.std.proofs.Common.{◌≡◌, ℕ, ◌+◌, ◌≤◌, ◌<◌, inl, inr, arith}
+use Rattle.std.proofs.Common.{ℕ, ◌+◌, ◌<◌, inl, inr, arith}
 use Rattle.hm_source.specs.Places.{HasRoom}
 
 pub room_front : (a n m : ℕ) → HasRoom a (n + m) → HasRoom a n

@@ -1,5 +1,5 @@
 -- The text of a line is no longer than the line.
-use Rattle.std.proofs.Common.{◌≡◌, ◌≤◌, ℕ, ◌+◌, List, [], ◌∷◌, ◌++◌, Option, Some, None, length, refl, sym, ap, ◌∙◌, length-append, eqb, arith}
+use Rattle.std.proofs.Common.{◌≡◌, ◌≤◌, ℕ, ◌+◌, List, Option, Some, None, length, refl, sym, ap, ◌∙◌, length-append, eqb, arith}
 use Rattle.std.specs.Prelude.{option_map}
 use Rattle.hm_text_base.specs.Spans.{span}
 use Rattle.hm_text_base.proofs.SpanLaws.{span_parts}

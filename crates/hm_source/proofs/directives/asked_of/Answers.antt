@@ -1,4 +1,4 @@
-use Rattle.std.proofs.Common.{◌≡◌, sym, ap, subst, ◌∙◌, arith, rules}
+use Rattle.std.proofs.Common.{◌≡◌, rules}
 use Rattle.std.specs.Prelude.{codes}
 use Rattle.hm_source.specs.Directives.{values}
 use Rattle.hm_source.proofs.Asks.{asks_align, asks_org, asks_space, values_found, values_only}

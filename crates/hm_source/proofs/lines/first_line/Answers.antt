@@ -1,4 +1,4 @@
-use Rattle.std.proofs.Common.{◌≡◌, ◌+◌, ◌≤◌, ◌++◌, ℕ, List, length, length-append, sym, ap, ◌∙◌, arith, rules}
+use Rattle.std.proofs.Common.{◌≡◌, ◌≤◌, length, sym, ◌∙◌, rules}
 use Rattle.std.proofs.lemmas.Bool.{eqb-true}
 use Rattle.hm_source.proofs.SourceLines.{front_le, last_line, next_line}
 use Rattle.hm_source.proofs.lines.first_line.Goals as goal

@@ -1,4 +1,4 @@
-use Rattle.std.proofs.Common.{◌≡◌, ◌<◌, length, get_or, arith, rules}
+use Rattle.std.proofs.Common.{◌<◌, length, rules}
 use Rattle.hm_source.specs.Statements.{directive}
 use Rattle.hm_source.proofs.Sayings.{said_of, with_dot}
 use Rattle.hm_source.proofs.statements.read_statement.Goals as goal

@@ -1,4 +1,4 @@
-use Rattle.std.proofs.Common.{◌≡◌, ◌+◌, ◌≤◌, ◌∷◌, ℕ, List, length}
+use Rattle.std.proofs.Common.{◌≡◌, ◌+◌, ◌≤◌, ◌∷◌, List, length}
 use Rattle.hm_source.specs.Directives.{Datum}
 use Rattle.hm_source.specs.Shown.{AreListed}
 use Rattle.hm_source.proofs.values.count_values.Given as goal
