@@ -1,7 +1,9 @@
-use Rattle.std.proofs.Common.{◌≡◌, ap, ◌∙◌, sym, suc, None}
-use Rattle.hm_machine.specs.Shown.{Shown}
+use Rattle.std.proofs.Common.{◌≡◌, ap, ◌∙◌, sym, suc, None, ℕ, List}
+use Rattle.hm_base.specs.Image.{Segment}
+use Rattle.hm_machine.specs.Shown.{Shown, Shows}
+use Rattle.hm_sched.specs.Schedule.{Sched}
 use Rattle.hm_machine.proofs.Plain.{shown_order, shown_taint}
-use Rattle.hm_machine.proofs.Ticks.{shows_on}
+use Rattle.hm_machine.proofs.Ticks.{shows_on, shows_still}
 use Rattle.hm_machine.proofs.machine.Machine.tick.Goals as goal
 
 pub returns-clause-shows : goal.returns-clause-shows
@@ -14,3 +16,13 @@ returns-clause-order c image s t listing is h = shown_order image s (suc t) _ (r
 
 pub returns-clause-taint : goal.returns-clause-taint
 returns-clause-taint c image s t listing is h = shown_taint image s (suc t) _ (returns-clause-shows c image s t h) listing is
+
+-- a machine that has ended
+ended_shows : (c : goal.In-Some) → (image : List Segment) (s : Sched) (t : ℕ) → Shows image s t c.args.self.now → Shows image s (suc t) c.args.self.now
+ended_shows c image s t h = shows_still image s t _ _ h (ap (λ (v : Shown). v.outcome) (sym c.self.view_is) ∙ c.in-Some.is)
+
+pub returns-in-Some-clause-order : goal.returns-in-Some-clause-order
+returns-in-Some-clause-order c image s t listing is h = shown_order image s (suc t) _ (ended_shows c image s t h) listing is
+
+pub returns-in-Some-clause-taint : goal.returns-in-Some-clause-taint
+returns-in-Some-clause-taint c image s t listing is h = shown_taint image s (suc t) _ (ended_shows c image s t h) listing is
