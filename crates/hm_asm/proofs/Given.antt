@@ -88,8 +88,7 @@ given_rising m a (l ∷ ls) all labels (p ∷ ps) (said, is, fine) (said', says,
     let same : said' ≡ said = one_said (text_of l) said' said says is.says in
     let size : length p.bytes ≡ size_of said a = bytes_length labels a (text_of l) said' p.bytes says are ∙ ap (λ (s : Said). size_of s a) same in
     let room = roomed said a is.place in
-    let more = given_rising (with_name m (name_of l) a) (next_place said a) ls all labels ps fine (subst (λ (s : Said). AreGiven labels (next_place s a) ls ps) same given) in
-    (
+    let more = given_rising (with_name m (name_of l) a) (next_place said a) ls all labels ps fine (subst (λ (s : Said). AreGiven labels (next_place s a) ls ps) same given) in (
       omega (arith, at),
       subst (λ (b : ℕ). HasRoom b (length p.bytes)) (sym at) (subst (λ (n : ℕ). HasRoom a n) (sym size) room.room),
       lower_rising (p.addr + length p.bytes) (next_place said a) ps (let be = room.behind in omega (arith, at, size, be)) more,
@@ -133,11 +132,11 @@ one_given m a (l ∷ ls) all labels (p ∷ ps) (q ∷ qs) (said, is, fine) (s, s
     let first : s ≡ said = one_said (text_of l) s said says is.says in
     let second : t ≡ said = one_said (text_of l) t said tells is.says in
     let bytes =
-            same_bytes labels a (text_of l) said p.bytes q.bytes is.place is.says (subst (λ (x : Said). AreBytes labels a (text_of l) x p.bytes) first are)
-            (subst (λ (x : Said). AreBytes labels a (text_of l) x q.bytes) second give) in
+    same_bytes labels a (text_of l) said p.bytes q.bytes is.place is.says (subst (λ (x : Said). AreBytes labels a (text_of l) x p.bytes) first are)
+    (subst (λ (x : Said). AreBytes labels a (text_of l) x q.bytes) second give) in
     let rest =
-            one_given (with_name m (name_of l) a) (next_place said a) ls all labels ps qs fine (subst (λ (x : Said). AreGiven labels (next_place x a) ls ps) first given)
-            (subst (λ (x : Said). AreGiven labels (next_place x a) ls qs) second also) in
+    one_given (with_name m (name_of l) a) (next_place said a) ls all labels ps qs fine (subst (λ (x : Said). AreGiven labels (next_place x a) ls ps) first given)
+    (subst (λ (x : Said). AreGiven labels (next_place x a) ls qs) second also) in
     both (same_piece p q (at ∙ sym there) bytes) rest
   where
     both : p ≡ q → ps ≡ qs → p ∷ ps ≡ q ∷ qs
@@ -212,11 +211,10 @@ bytes_not_refused labels a text (instruction n) bs kind c (i, is, e) r = not_ref
 bytes_not_refused labels a text (directive asked) bs kind c are r = given_not_refused labels a text asked bs kind c are (list_refused kind labels text asked c r)
 
 one_list_refusal : (labels : Naming) (text : List ℕ) (asked : Asked) (k j : AsmKind) (c d : ℕ) → ListRefused labels text asked k c → ListRefused labels text asked j d → (k ≡ j) × (c ≡ d)
-one_list_refusal labels text asked k j c d r s =
-    (
-      r.missing ∙ sym s.missing,
-      one_column text r.index s.index c d (index r.size r.first r.others s.size s.first s.others (sym r.list ∙ s.list) r.none s.none) r.at s.at,
-    )
+one_list_refusal labels text asked k j c d r s = (
+  r.missing ∙ sym s.missing,
+  one_column text r.index s.index c d (index r.size r.first r.others s.size s.first s.others (sym r.list ∙ s.list) r.none s.none) r.at s.at,
+)
   where
     index : (x : Size) (f : Datum) (fs : List Datum) (y : Size) (g : Datum) (gs : List Datum) → values x f fs ≡ values y g gs
         → IsFirstMissing labels x (f ∷ fs) r.index → IsFirstMissing labels y (g ∷ gs) s.index → r.index ≡ s.index

@@ -115,15 +115,13 @@ image_piece a (b ∷ bs) (s ∷ ss) room all image = elim (cases_Bool (eqb (a + 
   | inl e ↦
       (let next = eqb-true _ _ e in
       let lengths = length-append (b ∷ bs) s.bytes in
-      rw (onto_next a b bs s ss next)
-      (
+      rw (onto_next a b bs s ss next) (
         placed_both a b bs s next room image.0,
         All-weaker (Before s) (Before (segment a ((b ∷ bs) ++ s.bytes))) (λ t h. omega (arith, lengths, next, h)) ss image.1,
         image.2,
       ))
   | inr e ↦
-      rw (onto_apart a b bs s ss (eqb-false _ _ e))
-      (
+      rw (onto_apart a b bs s ss (eqb-false _ _ e)) (
         room_placed a (b ∷ bs) (omega arith) room,
         All-cons (Before (segment a (b ∷ bs))) s ss all.0 (All-weaker (Before s) (Before (segment a (b ∷ bs))) (λ t h. omega (arith, all.0, h)) ss image.1),
         image,

@@ -66,8 +66,7 @@ module _ (text : List ℕ) (labels : Naming) (size : Size) (rest : List ℕ) (ol
   -- it has no number
   pub none_left : (first : Datum) (others : List Datum) → all ≡ first ∷ others → number_of labels size l.d ≡ None → IsListRefused kinds.Missing labels text (values size first others) (column text (skip rest))
   none_left first others e none =
-      let count : l.done + 0 ≡ l.done = omega arith in
-      (
+      let count : l.done + 0 ≡ l.done = omega arith in (
         l.done,
         subst (λ (xs : List Datum). IsFirstMissing labels size xs l.done) e (subst (λ (k : ℕ). IsFirstMissing labels size all k) count (l.missing 0 none)),
         (rest, l.operand, refl),

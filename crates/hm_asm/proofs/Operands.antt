@@ -83,8 +83,7 @@ operand_more : (text here there : List ℕ) (n : ℕ) (js : List Spaced) → IsO
 operand_more text here there zero js (t, [], are, p) more one = (t, js, tokens_more text here there (t ∷ []) js are more, one)
 operand_more text here there zero js (t, u ∷ ts, are, p) more one = absurd cc
 operand_more text here there (suc n) js (t, ts, are, p) more one =
-    let count : suc (n + 1) ≡ suc n + 1 = omega arith in
-    (
+    let count : suc (n + 1) ≡ suc n + 1 = omega arith in (
       t,
       ts ++ js,
       tokens_more text here there (t ∷ ts) js are more,

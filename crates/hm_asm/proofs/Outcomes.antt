@@ -96,8 +96,8 @@ one_image : (source : List ℕ) (x y : List Segment) → IsAssembled source x �
 one_image source x y a b =
     let labels : b.labels ≡ a.labels = one_fine empty 0 (source_lines source) b.labels a.labels b.fine a.fine in
     let pieces =
-            one_given empty 0 (source_lines source) a.labels (get a.labels) a.pieces b.pieces a.fine a.given
-            (subst (λ (m : LabelMap). AreGiven (get m) 0 (source_lines source) b.pieces) labels b.given) in
+    one_given empty 0 (source_lines source) a.labels (get a.labels) a.pieces b.pieces a.fine a.given
+    (subst (λ (m : LabelMap). AreGiven (get m) 0 (source_lines source) b.pieces) labels b.given) in
     a.image_is ∙ ap joined pieces ∙ sym b.image_is
 
 image_not_refused : (source : List ℕ) (x : List Segment) (k : AsmKind) (n c : ℕ) → IsAssembled source x → IsSourceRefused k source n c → ⊥

@@ -53,12 +53,11 @@ refused_step kind m n a b l ls lines said i c e is next named more =
 -- lines that are left begin with a line that is refused
 pub first_err : (source : List ℕ) (m : LabelMap) (a number : ℕ) (l : List ℕ) (ls lines : List (List ℕ)) (e : AsmErr) → 1 ≤ number → lines ≡ l ∷ ls
     → ((kind : AsmKind) (n c : ℕ) → IsFirstRefused kind m a lines n c → IsFirstRefused kind empty 0 (source_lines source) (number - 1 + n) c) → IsLineErr m a l number e → IsFirstErr source e
-first_err source m a number l ls lines (refusals.Line k c kind) counted at whole (same, r) =
-    (
-      number - 1 + 0,
-      same ∙ (let f : number ≡ number - 1 + 0 + 1 = omega (arith, counted) in f),
-      whole kind 0 c (subst (λ (x : List (List ℕ)). IsFirstRefused kind m a x 0 c) (sym at) r),
-    )
+first_err source m a number l ls lines (refusals.Line k c kind) counted at whole (same, r) = (
+  number - 1 + 0,
+  same ∙ (let f : number ≡ number - 1 + 0 + 1 = omega (arith, counted) in f),
+  whole kind 0 c (subst (λ (x : List (List ℕ)). IsFirstRefused kind m a x 0 c) (sym at) r),
+)
 first_err source m a number l ls lines refusals.OutOfMemory counted at whole r = tt
 
 -- THE SECOND PASS
@@ -118,7 +117,7 @@ first_of m a l ls lines all e are =
 
 -- a place at which bytes go on
 moved_place : (m : Made) (b : ℕ) → place_of (moved m b) ≡ b
-moved_place m b = elim (cases_Bool (eqb (place_of m) b)) [ | inl e ↦ rw e (eqb-true _ _ e) | inr e ↦ rw e (let f : b + 0 ≡ b = omega arith in f) ]
+moved_place m b = elim (cases_Bool (eqb (place_of m) b)) [ inl e ↦ rw e (eqb-true _ _ e) | inr e ↦ rw e (let f : b + 0 ≡ b = omega arith in f) ]
 
 after_place : (m : Made) (said : Said) (bs : List ℕ) → length bs ≡ size_of said (place_of m) → place_of (after_line m said bs) ≡ next_place said (place_of m)
 after_place m nothing bs e = let sum = length-append m.bytes bs in omega (arith, sum, e)
@@ -172,8 +171,7 @@ module _ (labels : LabelMap) (m : LabelMap) (old new : Made) (l : List ℕ) (ls 
       → AreGiven (get labels) (place_of old) lines (segment (place_of old) bs ∷ ps) × (whole_with new ps ≡ whole_with old (segment (place_of old) bs ∷ ps))
   given_step ps given =
       let there : AreGiven (get labels) (next_place said (place_of old)) ls ps = subst (λ (a : ℕ). AreGiven (get labels) a ls ps) place_is given in
-      let rising = given_rising (with_name m (name_of l) (place_of old)) (next_place said (place_of old)) ls labels (get labels) ps others there in
-      (
+      let rising = given_rising (with_name m (name_of l) (place_of old)) (next_place said (place_of old)) ls labels (get labels) ps others there in (
         subst (λ (x : List (List ℕ)). AreGiven (get labels) (place_of old) x (segment (place_of old) bs ∷ ps)) (sym at) (said, fine.says, refl, are, there),
         ap (λ (x : Made). whole_with x ps) made ∙ after_joined (get labels) old (text_of l) said bs ps are fine.place rising,
       )
@@ -187,12 +185,11 @@ module _ (labels : LabelMap) (m : LabelMap) (old new : Made) (l : List ℕ) (ls 
 pub second_err : (labels : Naming) (source : List (List ℕ)) (a number : ℕ) (l : List ℕ) (ls lines : List (List ℕ)) (said : Said) (e : AsmErr) → 1 ≤ number → lines ≡ l ∷ ls → Says (text_of l) said
     → ((kind : AsmKind) (n c : ℕ) → IsNextRefused kind labels a lines n c → IsNextRefused kind labels 0 source (number - 1 + n) c)
     → IsSaidErr labels a (text_of l) (text_column l) number said e → IsSecondErr labels source e
-second_err labels source a number l ls lines said (refusals.Line k c kind) counted at says whole (same, t, is, column) =
-    (
-      number - 1 + 0,
-      same ∙ (let f : number ≡ number - 1 + 0 + 1 = omega (arith, counted) in f),
-      whole kind 0 c (subst (λ (x : List (List ℕ)). IsNextRefused kind labels a x 0 c) (sym at) (said, t, says, is, column)),
-    )
+second_err labels source a number l ls lines said (refusals.Line k c kind) counted at says whole (same, t, is, column) = (
+  number - 1 + 0,
+  same ∙ (let f : number ≡ number - 1 + 0 + 1 = omega (arith, counted) in f),
+  whole kind 0 c (subst (λ (x : List (List ℕ)). IsNextRefused kind labels a x 0 c) (sym at) (said, t, says, is, column)),
+)
 second_err labels source a number l ls lines said refusals.OutOfMemory counted at says whole r = tt
 
 -- nothing is made at first

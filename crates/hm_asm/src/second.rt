@@ -174,12 +174,7 @@ fn add_statement(
 }
 
 /// Does the second pass on a line that has a number, and in which the first pass found no fault.
-fn add_line(
-    line: &[u8],
-    number: u32,
-    labels: &Labels,
-    out: &mut Making,
-) -> Result<(), AsmErr>
+fn add_line(line: &[u8], number: u32, labels: &Labels, out: &mut Making) -> Result<(), AsmErr>
     requires small { length line.now < 2 ^ 31 }
     requires fine { (m : LabelMap) × (said : Said) × IsFine m (place_of out.old) line.now said }
     ensures given { (said : Said) → Says (text_of line.now) said → IfOk result (λ _. (bs : List ℕ) × AreBytes (get labels.now) (place_of out.old) (text_of line.now) said bs × (out.new ≡ after_line out.old said bs)) }

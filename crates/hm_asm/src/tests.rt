@@ -99,7 +99,10 @@ fn refusal(alloc: Global, source: &[u8]) -> Option<AsmErr> {
 }
 
 /// The first source that is not refused so.
-fn first_wrong(alloc: Global, rows: &[(&'static [u8], u32, u32, AsmKind)]) -> Option<&'static [u8]> {
+fn first_wrong(
+    alloc: Global,
+    rows: &[(&'static [u8], u32, u32, AsmKind)],
+) -> Option<&'static [u8]> {
     for row in rows {
         let (source, line, column, kind) = *row;
         if refusal(alloc, source) != Some(AsmErr::Line { line, column, kind }) {
@@ -164,7 +167,10 @@ fn gives_directives(rt: HostRuntime) {
             &[(0xf_ffff, b"\x09"), (0x2000_0000, b"\0\0\x10\0")],
         ),
         // Where no byte is, nothing lies outside.
-        (b".org 0x100000\n.align 8\n.space 0\n.org 0xffffffff\nend:", &[]),
+        (
+            b".org 0x100000\n.align 8\n.space 0\n.org 0xffffffff\nend:",
+            &[],
+        ),
         (b"a:.byte 0x0000000001\n", &[(0, b"\x01")]),
         (b".byte   5   ,6  ", &[(0, b"\x05\x06")]),
     ];
@@ -182,7 +188,10 @@ fn gives_codes(rt: HostRuntime) {
             &[(0, b"\x05\x20\xc0\x1c\x01\xbe")],
         ),
         // The text names the row, and no width is chosen.
-        (b"movs r0,#5\nmovs.w r0,#5", &[(0, b"\x05\x20\x5f\xf0\x05\0")]),
+        (
+            b"movs r0,#5\nmovs.w r0,#5",
+            &[(0, b"\x05\x20\x5f\xf0\x05\0")],
+        ),
         (b"b end\nb.w end\nend:", &[(0, b"\x01\xe0\0\xf0\0\xb8")]),
         (b"loop: subs r0,#1\n bne loop", &[(0, b"\x01\x38\xfd\xd1")]),
         (b"nop\nb 0x10", &[(0, b"\0\xbf\x05\xe0")]),
@@ -190,7 +199,10 @@ fn gives_codes(rt: HostRuntime) {
             b"vidup.u8 q0,r2,#4\nvcmp.u8 hi,q0,r3\nvldrb.s16 q1,[r3,q2]",
             &[(0, b"\x03\xee\xee\x0f\x01\xfe\xe3\x0f\x93\xec\x84\x2e")],
         ),
-        (b".org 0x20000000\n ldr r0,x\n.align 4\nx:", &[(0x2000_0000, b"\0\x48\0\0")]),
+        (
+            b".org 0x20000000\n ldr r0,x\n.align 4\nx:",
+            &[(0x2000_0000, b"\0\x48\0\0")],
+        ),
     ];
     for (source, segments) in rows {
         assert!(rt; gives(alloc, source, segments), "in {source:?}");
@@ -270,7 +282,12 @@ fn refuses_in_the_first_pass(rt: HostRuntime) {
         (b".space 0x100001", 1, 1, AsmKind::Place),
         (b".space 4294967295", 1, 1, AsmKind::Place),
         (b".org 0xffffffff\n.align 8", 2, 1, AsmKind::Place),
-        (b".org 0xffffd\n.align 8\n.align 2\n.byte 0", 4, 1, AsmKind::Place),
+        (
+            b".org 0xffffd\n.align 8\n.align 2\n.byte 0",
+            4,
+            1,
+            AsmKind::Place,
+        ),
         (b" b nowhere\n movs r0,#256", 2, 2, AsmKind::Row),
     ];
     assert_eq!(rt; first_wrong(rt.alloc(), &rows), None);
@@ -284,7 +301,12 @@ fn refuses_in_the_second_pass(rt: HostRuntime) {
         (b".word a+1,b\na:", 1, 11, AsmKind::Missing),
         (b"l:  .word x+4", 1, 11, AsmKind::Missing),
         (b"nop\nbl nowhere", 2, 4, AsmKind::Missing),
-        (b".half 0\n.byte 1\nodd: .byte 1\n b odd", 4, 4, AsmKind::Offset),
+        (
+            b".half 0\n.byte 1\nodd: .byte 1\n b odd",
+            4,
+            4,
+            AsmKind::Offset,
+        ),
         (b"l: b 0x1000", 1, 6, AsmKind::Offset),
         (b"nop\nl: ldr r0,l", 2, 11, AsmKind::Offset),
         (b"nop\nx: cbz r0,x", 2, 11, AsmKind::Offset),
@@ -301,8 +323,14 @@ fn refusals_are_told(rt: HostRuntime) -> Result<(), Fail> {
         column: 2,
         kind: AsmKind::Row,
     };
-    assert_eq!(rt; format!(in rt.alloc(); "{bad}")?.as_str(), "a line of the source is refused");
+    assert_eq!(rt;
+        format!(in rt.alloc(); "{bad}")?.as_str(),
+        "a line of the source is refused"
+    );
     let memory = AsmErr::from(OutOfMemory);
-    assert_eq!(rt; format!(in rt.alloc(); "{memory}")?.as_str(), "out of memory");
+    assert_eq!(rt;
+        format!(in rt.alloc(); "{memory}")?.as_str(),
+        "out of memory"
+    );
     Ok(())
 }

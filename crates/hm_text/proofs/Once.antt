@@ -144,16 +144,14 @@ same_has Has text i j t u n m = subst (λ (x : List Tok). Has j u (normal x)) (s
 -- one width, and one label
 one_seen : (text : List ℕ) (i j : Instr) (t u : Tok) → HasText i t text → HasText j u text → (width_of i ≡ width_of j) × (label_of i t ≡ label_of j u)
 one_seen text i j t u (inl n) (inl m) =
-    let has = same_has narrow.HasTokens text i j t u n m in
-    (
+    let has = same_has narrow.HasTokens text i j t u n m in (
       sym (narrow_table.width i t (normal n.tokens) n.has) ∙ narrow_table.width j u (normal n.tokens) has,
       sym (narrow_table.labelled i t (normal n.tokens) n.has) ∙ narrow_label (normal n.tokens) i j t u n.has has ∙ narrow_table.labelled j u (normal n.tokens) has,
     )
 one_seen text i j t u (inl n) (inr l) = absurd (apart text i j t u n l)
 one_seen text i j t u (inr l) (inl n) = absurd (apart text j i u t n l)
 one_seen text i j t u (inr (inl n)) (inr (inl m)) =
-    let has = same_has wide.HasTokens text i j t u n m in
-    (
+    let has = same_has wide.HasTokens text i j t u n m in (
       sym (wide_table.width i t (normal n.tokens) n.has) ∙ wide_table.width j u (normal n.tokens) has,
       sym (wide_table.labelled i t (normal n.tokens) n.has) ∙ wide_label (normal n.tokens) i j t u n.has has ∙ wide_table.labelled j u (normal n.tokens) has,
     )
@@ -169,18 +167,18 @@ one_text : (text : List ℕ) (pc a : ℕ) (i j : Instr) (t u : Tok) → pc < 2 ^
 one_text text pc a i j t u hp ha (inl n) (inl m) r s =
     let has = same_has narrow.HasTokens text i j t u n m in
     let first : narrow.IsRowAt (normal n.tokens) pc a i
-            = record { label = t; has = n.has; reaches = subst (λ (o : Option ℕ). Reaches o a) (sym (narrow_table.aimed i t (normal n.tokens) pc n.has)) r } in
+    = record { label = t; has = n.has; reaches = subst (λ (o : Option ℕ). Reaches o a) (sym (narrow_table.aimed i t (normal n.tokens) pc n.has)) r } in
     let second : narrow.IsRowAt (normal n.tokens) pc a j
-            = record { label = u; has = has; reaches = subst (λ (o : Option ℕ). Reaches o a) (sym (narrow_table.aimed j u (normal n.tokens) pc has)) s } in
+    = record { label = u; has = has; reaches = subst (λ (o : Option ℕ). Reaches o a) (sym (narrow_table.aimed j u (normal n.tokens) pc has)) s } in
     narrow_row (normal n.tokens) pc a i j hp ha first second
 one_text text pc a i j t u hp ha (inl n) (inr l) r s = absurd (apart text i j t u n l)
 one_text text pc a i j t u hp ha (inr l) (inl n) r s = absurd (apart text j i u t n l)
 one_text text pc a i j t u hp ha (inr (inl n)) (inr (inl m)) r s =
     let has = same_has wide.HasTokens text i j t u n m in
     let first : wide.IsRowAt (normal n.tokens) pc a i
-            = record { label = t; has = n.has; reaches = subst (λ (o : Option ℕ). Reaches o a) (sym (wide_table.aimed i t (normal n.tokens) pc n.has)) r } in
+    = record { label = t; has = n.has; reaches = subst (λ (o : Option ℕ). Reaches o a) (sym (wide_table.aimed i t (normal n.tokens) pc n.has)) r } in
     let second : wide.IsRowAt (normal n.tokens) pc a j
-            = record { label = u; has = has; reaches = subst (λ (o : Option ℕ). Reaches o a) (sym (wide_table.aimed j u (normal n.tokens) pc has)) s } in
+    = record { label = u; has = has; reaches = subst (λ (o : Option ℕ). Reaches o a) (sym (wide_table.aimed j u (normal n.tokens) pc has)) s } in
     wide_row (normal n.tokens) pc a i j hp ha first second
 one_text text pc a i j t u hp ha (inr (inl w)) (inr (inr v)) r s = absurd (apart_long text i j t u w v)
 one_text text pc a i j t u hp ha (inr (inr v)) (inr (inl w)) r s = absurd (apart_long text j i u t w v)

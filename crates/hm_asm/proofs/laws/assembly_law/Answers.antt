@@ -11,14 +11,14 @@ use Rattle.hm_asm.proofs.laws.assembly_law.Goals as goal
 pub returns-clause-image : goal.returns-clause-image
 returns-clause-image c =
     λ source image a.
-        subst (λ (x : List Segment). IsImage x) (sym a.image_is)
-        (joined_image 0 a.pieces (given_rising empty 0 (source_lines source) a.labels (get a.labels) a.pieces a.fine a.given))
+    subst (λ (x : List Segment). IsImage x) (sym a.image_is)
+    (joined_image 0 a.pieces (given_rising empty 0 (source_lines source) a.labels (get a.labels) a.pieces a.fine a.given))
 
 pub returns-clause-holds : goal.returns-clause-holds
 returns-clause-holds c =
     λ source image a.
-        subst (λ (x : List Segment). Holds x a.pieces) (sym a.image_is)
-        (holds 0 a.pieces (given_rising empty 0 (source_lines source) a.labels (get a.labels) a.pieces a.fine a.given))
+    subst (λ (x : List Segment). Holds x a.pieces) (sym a.image_is)
+    (holds 0 a.pieces (given_rising empty 0 (source_lines source) a.labels (get a.labels) a.pieces a.fine a.given))
 
 pub returns-clause-second : goal.returns-clause-second
 returns-clause-second c = λ kind source n k r. late_next (get r.0) 0 (source_lines source) kind n k r.2

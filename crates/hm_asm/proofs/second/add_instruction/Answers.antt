@@ -22,16 +22,15 @@ add-requires c =
 pub returns-in_ok-add-in-Ok-clause-given : goal.returns-in_ok-add-in-Ok-clause-given
 returns-in_ok-add-in-Ok-clause-given c =
     λ n.
-        (let named = subst (λ (a : ℕ). IsTextOf c.args.line.now.parts.instruction.now a (get c.args.labels.now) c.in-Ok.i) c.place.ensures.value ((c.in-Ok.ensures.read c.in-Ok.i).1 refl) in
-        (
-          code_bytes c.in-Ok.i,
-          (c.in-Ok.i, named, refl),
-          c.in_ok-add-in-Ok.ensures.added ∙ ap (λ (x : List ℕ). with_bytes c.args.out.now x) (c.as_slice.ensures.value ∙ c.code_bytes-code.ensures.bytes),
-        ))
+    (let named = subst (λ (a : ℕ). IsTextOf c.args.line.now.parts.instruction.now a (get c.args.labels.now) c.in-Ok.i) c.place.ensures.value ((c.in-Ok.ensures.read c.in-Ok.i).1 refl) in (
+      code_bytes c.in-Ok.i,
+      (c.in-Ok.i, named, refl),
+      c.in_ok-add-in-Ok.ensures.added ∙ ap (λ (x : List ℕ). with_bytes c.args.out.now x) (c.as_slice.ensures.value ∙ c.code_bytes-code.ensures.bytes),
+    ))
 
 pub returns-in-Err-clause-refused : goal.returns-in-Err-clause-refused
 returns-in-Err-clause-refused c =
     λ n.
-        said_err (get c.args.labels.now) (place_of c.args.out.now) c.args.line.now.parts.instruction.now c.args.line.now.parts.column c.args.number (instruction n) c.refused.result c.in-Err.e c.refusal.result c.refused.ensures.told
-        c.refusal.ensures.kind c.refusal.ensures.column
-        (subst (λ (a : ℕ). IsTextRefused c.in-Err.e.kind c.args.line.now.parts.instruction.now a (get c.args.labels.now) c.in-Err.e.column) c.place.ensures.value ((c.in-Err.ensures.refused c.in-Err.e).1 refl))
+    said_err (get c.args.labels.now) (place_of c.args.out.now) c.args.line.now.parts.instruction.now c.args.line.now.parts.column c.args.number (instruction n) c.refused.result c.in-Err.e c.refusal.result c.refused.ensures.told
+    c.refusal.ensures.kind c.refusal.ensures.column
+    (subst (λ (a : ℕ). IsTextRefused c.in-Err.e.kind c.args.line.now.parts.instruction.now a (get c.args.labels.now) c.in-Err.e.column) c.place.ensures.value ((c.in-Err.ensures.refused c.in-Err.e).1 refl))

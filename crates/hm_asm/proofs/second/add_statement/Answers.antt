@@ -12,15 +12,15 @@ use Rattle.hm_asm.proofs.second.add_statement.Goals as goal
 pub returns-in-Directive-clause-given : goal.returns-in-Directive-clause-given
 returns-in-Directive-clause-given c =
     λ said says.
-        of_directive c.args.line.now.parts.instruction.now c.in-Directive.asked said c.requires.ready.1
-        (λ s. IfOk c.add_asked.result
-        (λ _. (bs : List ℕ) × AreBytes (get c.args.labels.now) (place_of c.args.out.now) c.args.line.now.parts.instruction.now s bs × (c.add_asked.new.out ≡ after_line c.args.out.now s bs))) says
-        c.requires.ready.2 (subst (λ (s : Statement). Shows c.args.line.now.parts.instruction.now s c.requires.ready.1) c.in-Directive.is c.requires.ready.3) (λ a shows. c.add_asked.ensures.given a shows)
+    of_directive c.args.line.now.parts.instruction.now c.in-Directive.asked said c.requires.ready.1
+    (λ s. IfOk c.add_asked.result
+    (λ _. (bs : List ℕ) × AreBytes (get c.args.labels.now) (place_of c.args.out.now) c.args.line.now.parts.instruction.now s bs × (c.add_asked.new.out ≡ after_line c.args.out.now s bs))) says
+    c.requires.ready.2 (subst (λ (s : Statement). Shows c.args.line.now.parts.instruction.now s c.requires.ready.1) c.in-Directive.is c.requires.ready.3) (λ a shows. c.add_asked.ensures.given a shows)
 
 pub returns-in-Directive-clause-refused : goal.returns-in-Directive-clause-refused
 returns-in-Directive-clause-refused c =
     λ said says.
-        of_directive c.args.line.now.parts.instruction.now c.in-Directive.asked said c.requires.ready.1
-        (λ s. IfErr c.add_asked.result
-        (λ e. IsSaidErr (get c.args.labels.now) (place_of c.args.out.now) c.args.line.now.parts.instruction.now c.args.line.now.parts.column c.args.number s e)) says
-        c.requires.ready.2 (subst (λ (s : Statement). Shows c.args.line.now.parts.instruction.now s c.requires.ready.1) c.in-Directive.is c.requires.ready.3) (λ a shows. c.add_asked.ensures.refused a shows)
+    of_directive c.args.line.now.parts.instruction.now c.in-Directive.asked said c.requires.ready.1
+    (λ s. IfErr c.add_asked.result
+    (λ e. IsSaidErr (get c.args.labels.now) (place_of c.args.out.now) c.args.line.now.parts.instruction.now c.args.line.now.parts.column c.args.number s e)) says
+    c.requires.ready.2 (subst (λ (s : Statement). Shows c.args.line.now.parts.instruction.now s c.requires.ready.1) c.in-Directive.is c.requires.ready.3) (λ a shows. c.add_asked.ensures.refused a shows)

@@ -53,17 +53,17 @@ missing-requires-clause-within c =
 pub returns-in_default-number_of-clause-refused : goal.returns-in_default-number_of-clause-refused
 returns-in_default-number_of-clause-refused c =
     λ a shows.
-        (let text = c.args.line.now.parts.instruction.now in
-        let labels = get c.args.labels.now in
-        let size = c.args.values.now.size in
-        let r = shown_list text c.args.values.now a shows in
-        let l = c.loop-item.invariant.left r.d r.ds r.shows in
-        let first = read (goal.at.returns-in_default-number_of-clause-refused c).In-Some c.args.out.now (r.d ∷ r.ds) l in
-        let none : number_of labels size l.d ≡ None = ap (λ (x : Datum). number_of labels size x) (sym first.0) ∙ sym c.number_of.ensures.value ∙ c.in_default-number_of.is in
-        subst (λ (x : Asked). IsSaidErr labels (place_of c.args.out.now) text c.args.line.now.parts.column c.args.number (directive x) c.refused.result) (sym r.asks)
-        (said_err labels (place_of c.args.out.now) text c.args.line.now.parts.column c.args.number (directive (values size r.d r.ds)) c.refused.result
-        (record { column = column text (skip c.loop-item.rest.now); kind = kinds.Missing }) c.missing.result c.refused.ensures.told c.missing.ensures.kind c.missing.ensures.column
-        (none_left text labels size c.loop-item.rest.now c.args.out.now c.loop-item.out (r.d ∷ r.ds) l r.d r.ds refl none)))
+    (let text = c.args.line.now.parts.instruction.now in
+    let labels = get c.args.labels.now in
+    let size = c.args.values.now.size in
+    let r = shown_list text c.args.values.now a shows in
+    let l = c.loop-item.invariant.left r.d r.ds r.shows in
+    let first = read (goal.at.returns-in_default-number_of-clause-refused c).In-Some c.args.out.now (r.d ∷ r.ds) l in
+    let none : number_of labels size l.d ≡ None = ap (λ (x : Datum). number_of labels size x) (sym first.0) ∙ sym c.number_of.ensures.value ∙ c.in_default-number_of.is in
+    subst (λ (x : Asked). IsSaidErr labels (place_of c.args.out.now) text c.args.line.now.parts.column c.args.number (directive x) c.refused.result) (sym r.asks)
+    (said_err labels (place_of c.args.out.now) text c.args.line.now.parts.column c.args.number (directive (values size r.d r.ds)) c.refused.result
+    (record { column = column text (skip c.loop-item.rest.now); kind = kinds.Missing }) c.missing.result c.refused.ensures.told c.missing.ensures.kind c.missing.ensures.column
+    (none_left text labels size c.loop-item.rest.now c.args.out.now c.loop-item.out (r.d ∷ r.ds) l r.d r.ds refl none)))
 
 pub add_number-requires : goal.add_number-requires
 add_number-requires c =
@@ -90,23 +90,23 @@ loop-item-preserved c = record {
 pub returns-in-None-clause-given : goal.returns-in-None-clause-given
 returns-in-None-clause-given c =
     λ a shows.
-        (let text = c.args.line.now.parts.instruction.now in
-        let labels = get c.args.labels.now in
-        let size = c.args.values.now.size in
-        let r = shown_list text c.args.values.now a shows in
-        let l = c.loop-item.invariant.left r.d r.ds r.shows in
-        let some = (goal.at.returns-in-None-clause-given c).In-Some in
-        let first = read some c.args.out.now (r.d ∷ r.ds) l in
-        let number : number_of labels size l.d ≡ Some c.in-Some-number_of.value = ap (λ (x : Datum). number_of labels size x) (sym first.0) ∙ sym c.number_of.ensures.value ∙ c.in-Some-number_of.is in
-        let added = no_error c.add_number.result _ (sym c.is_err.ensures.value ∙ c.if-is_err.false) c.add_number.ensures.added in
-        let alone = left_alone size c.loop-item.rest.now c.in-Some.behind.now l.d l.ds (ends some) (λ more comma. c.in-None.ensures.only more comma) l.listed in
-        let last = last_left text labels size c.loop-item.rest.now c.args.out.now c.loop-item.out (r.d ∷ r.ds) l c.in-Some-number_of.value number c.add_number.new.out added alone in
-        subst (λ (x : Asked). (bs : List ℕ) × AreAsked labels (place_of c.args.out.now) x bs × (c.add_number.new.out ≡ with_bytes c.args.out.now bs)) (sym r.asks) last)
+    (let text = c.args.line.now.parts.instruction.now in
+    let labels = get c.args.labels.now in
+    let size = c.args.values.now.size in
+    let r = shown_list text c.args.values.now a shows in
+    let l = c.loop-item.invariant.left r.d r.ds r.shows in
+    let some = (goal.at.returns-in-None-clause-given c).In-Some in
+    let first = read some c.args.out.now (r.d ∷ r.ds) l in
+    let number : number_of labels size l.d ≡ Some c.in-Some-number_of.value = ap (λ (x : Datum). number_of labels size x) (sym first.0) ∙ sym c.number_of.ensures.value ∙ c.in-Some-number_of.is in
+    let added = no_error c.add_number.result _ (sym c.is_err.ensures.value ∙ c.if-is_err.false) c.add_number.ensures.added in
+    let alone = left_alone size c.loop-item.rest.now c.in-Some.behind.now l.d l.ds (ends some) (λ more comma. c.in-None.ensures.only more comma) l.listed in
+    let last = last_left text labels size c.loop-item.rest.now c.args.out.now c.loop-item.out (r.d ∷ r.ds) l c.in-Some-number_of.value number c.add_number.new.out added alone in
+    subst (λ (x : Asked). (bs : List ℕ) × AreAsked labels (place_of c.args.out.now) x bs × (c.add_number.new.out ≡ with_bytes c.args.out.now bs)) (sym r.asks) last)
 
 pub returns-clause-given : goal.returns-clause-given
 returns-clause-given c =
     λ a shows.
-        (let r = shown_list c.args.line.now.parts.instruction.now c.args.values.now a shows in
-        let l = c.loop-item.invariant.left r.d r.ds r.shows in
-        let first = listed_first c.args.values.now.size c.loop-item.rest.now l.d l.ds l.listed in
-        absurd (c.in_default.ensures.only l.d first.mid first.front first.ends))
+    (let r = shown_list c.args.line.now.parts.instruction.now c.args.values.now a shows in
+    let l = c.loop-item.invariant.left r.d r.ds r.shows in
+    let first = listed_first c.args.values.now.size c.loop-item.rest.now l.d l.ds l.listed in
+    absurd (c.in_default.ensures.only l.d first.mid first.front first.ends))

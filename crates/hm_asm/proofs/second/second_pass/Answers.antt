@@ -67,6 +67,6 @@ pub returns-clause-given : goal.returns-clause-given
 returns-clause-given c =
     let none : length c.loop-rest.rest.now ≡ 0 = eqb-true (length c.loop-rest.rest.now) 0 (sym c.is_empty.ensures ∙ c.loop-rest-test.false) in
     let given : AreGiven (get c.args.labels.now) (place_of c.loop-rest.out) (source_lines c.loop-rest.rest.now) []
-            = subst (λ (x : List (List ℕ)). AreGiven (get c.args.labels.now) (place_of c.loop-rest.out) x []) (sym (no_lines c.loop-rest.rest.now none)) refl in
+    = subst (λ (x : List (List ℕ)). AreGiven (get c.args.labels.now) (place_of c.loop-rest.out) x []) (sym (no_lines c.loop-rest.rest.now none)) refl in
     let whole = c.loop-rest.invariant.given [] given in
     (whole.0, whole.1, c.in_ok-image.ensures.image ∙ whole.2)
