@@ -1,6 +1,6 @@
 -- What a text says, by its first byte.
 use Rattle.std.proofs.Common.{◌≡◌, ◌<◌, ℕ, List, [], ◌∷◌, length, get_or, Option, Some, None, refl, sym, subst, arith}
-use Rattle.std.specs.Prelude.{IfSome}
+use Rattle.std.specs.Prelude.{IfNone, IfSome, IsSomeAnd}
 use Rattle.hm_text.specs.Texts.{HasWidth}
 use Rattle.hm_source.specs.declared.statements.Statement.{Statement}
 use Rattle.hm_source.specs.declared.statements.Statement.TheVariants as statements
@@ -45,3 +45,13 @@ says_nothing (b ∷ bs) said e s = absurd (omega arith)
 pub said_of : (text : List ℕ) (o : Option Statement) → 0 < length text → (get_or text 0 0 ≡ 46 → ⊥) → IfSome o (λ s. (n : ℕ) × HasWidth text n × (s ≡ statements.Instruction n)) → IfSome o (λ s. (said : Said) × Says text said × Shows text s said)
 said_of text None some e h = tt
 said_of text (Some s) some e h = (instruction h.0, without_dot text h.0 some e h.1, subst (λ (x : Statement). Shows text x (instruction h.0)) (sym h.2) refl)
+
+pub only_said : (text : List ℕ) (o : Option Statement) (said : Said) → 0 < length text → (get_or text 0 0 ≡ 46 → ⊥) → ((n : ℕ) → HasWidth text n → IsSomeAnd o (λ s. s ≡ statements.Instruction n)) → Says text said → IsSomeAnd o (λ s. Shows text s said)
+only_said text None said some e h s = let x = is_instruction text said some e s in h x.0 x.2
+only_said text (Some t) said some e h s =
+    let x = is_instruction text said some e s in
+    subst (λ (y : Statement). Shows text y said) (sym (h x.0 x.2)) x.1
+
+pub none_said : (text : List ℕ) (o : Option Statement) → 0 < length text → (get_or text 0 0 ≡ 46 → ⊥) → IfNone o ((n : ℕ) → HasWidth text n → ⊥) → IfNone o ((said : Said) → Says text said → ⊥)
+none_said text (Some t) some e h = tt
+none_said text None some e h = λ said s. let x = is_instruction text said some e s in h x.0 x.2
