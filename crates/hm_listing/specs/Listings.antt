@@ -1,0 +1,48 @@
+-- The listing of what stands in flash.
+use Rattle.std.specs.Prelude.{◌≡◌, ◌≤◌, ◌<◌, ℕ, ◌+◌, ◌*◌, ◌/◌, ◌%◌, List, [], ◌∷◌, ◌++◌, length, map, codes}
+use Rattle.std.specs.List.{join_with_byte}
+use Rattle.hm_codes.specs.Listing.{half_at, Stands}
+use Rattle.hm_isa.specs.Code.{halfwords}
+use Rattle.hm_isa.specs.declared.Instr.{Instr}
+use Rattle.hm_text.specs.Tables.{printed_text, width_of}
+use Rattle.hm_text_base.specs.Texts.{hex2, hex8}
+
+-- a line shows an instruction, or a halfword at which none is shown
+pub data Entry : Type 0 where
+  shown : Instr → Entry
+  half : ℕ → Entry
+
+-- a halfword in four digits
+abbrev pub hex4 : ℕ → List ℕ
+hex4 h = hex2 (h / 256) ++ hex2 (h % 256)
+
+-- the halfwords of a line, and its text
+abbrev pub halves_of : Entry → List ℕ
+halves_of (shown i) = halfwords i
+halves_of (half h) = h ∷ []
+
+abbrev pub entry_text : ℕ → Entry → List ℕ
+entry_text a (shown i) = printed_text i a
+entry_text a (half h) = codes ".half 0x" ++ hex4 h
+
+-- the address, the halfwords and the text, with spaces between them
+abbrev pub entry_line : ℕ → Entry → List ℕ
+entry_line a e = hex8 a ++ 32 ∷ (join_with_byte 32 (map hex4 (halves_of e)) ++ 32 ∷ (entry_text a e ++ 10 ∷ []))
+
+-- what a line shows at an address: the instruction that stands there and ends at hi or before, else the halfword
+abbrev pub IsEntry : (ℕ → ℕ) → ℕ → ℕ → Entry → Type 0
+IsEntry flash a hi (shown i) = Stands flash a i × (a + width_of i ≤ hi)
+IsEntry flash a hi (half h) = ((i : Instr) → Stands flash a i → hi < a + width_of i) × (h ≡ half_at flash a)
+
+-- what the lines show from an address up to hi
+abbrev pub AreEntries : (ℕ → ℕ) → ℕ → ℕ → List Entry → Type 0
+AreEntries flash a hi [] = a ≡ hi
+AreEntries flash a hi (e ∷ es) = (a < hi) × IsEntry flash a hi e × AreEntries flash (a + 2 * length (halves_of e)) hi es
+
+abbrev pub lines_from : ℕ → List Entry → List ℕ
+lines_from a [] = []
+lines_from a (e ∷ es) = entry_line a e ++ lines_from (a + 2 * length (halves_of e)) es
+
+-- a text is the listing of a flash from lo up to hi
+abbrev pub IsListed : (ℕ → ℕ) → ℕ → ℕ → List ℕ → Type 0
+IsListed flash lo hi text = (es : List Entry) × AreEntries flash lo hi es × (text ≡ lines_from lo es)

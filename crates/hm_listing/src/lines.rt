@@ -1,0 +1,137 @@
+//! The lines of a listing, one behind another.
+
+ghost use Rattle.std.specs.Prelude.{◌≡◌, ◌<◌, ◌≤◌, ◌+◌, ◌*◌, ◌%◌, ◌++◌, List, [], ◌∷◌, ℕ, codes, length, map, IfOk, IfSome, IfNone};
+ghost use Rattle.std.specs.List.{join_with_byte};
+ghost use Rattle.hm_base.specs.Image.{flash_size};
+ghost use Rattle.hm_codes.specs.Listing.{Stands, half_at};
+ghost use Rattle.hm_isa.specs.Code.{halfwords};
+ghost use Rattle.hm_isa.specs.declared.Instr.{Instr};
+ghost use Rattle.hm_listing.specs.Listings.{Entry, IsEntry, IsListed, entry_line, half, halves_of, hex4, shown};
+ghost use Rattle.hm_text_base.specs.Texts.{hex8};
+ghost use Rattle.hm_mem.specs.Memory.{flash_at, memory_of};
+ghost use Rattle.hm_text.specs.Tables.{width_of};
+
+use hm_base::OutOfMemory;
+use hm_decode::fetch;
+use hm_isa::{Instr, width};
+use hm_mem::Mem;
+use hm_text::print_instr;
+use hm_text_base::{hex2, hex8, text};
+
+/// Adds a halfword in four digits.
+fn add_hex4(out: &mut Vec<u8>, half: u16) -> Result<(), OutOfMemory>
+    ensures added { IfOk result (λ _. out.new.items ≡ out.old.items ++ hex4 half) }
+{
+    hex2(out, (half / 256) as u8)?;
+    hex2(out, (half % 256) as u8)
+}
+
+/// The halfword of flash at an address.
+fn half_of(m: &Mem, at: u32) -> u16
+    requires even { at % 2 ≡ 0 }
+    requires within { at + 2 ≤ flash_size }
+    ensures value { result ≡ half_at (flash_at (memory_of m.now)) at }
+{
+    m.half(at).unwrap()
+}
+
+/// Adds the halfwords of an instruction that stands at an address, with a space between them.
+fn add_halves(out: &mut Vec<u8>, m: &Mem, at: u32, i: &Instr) -> Result<(), OutOfMemory>
+    requires stands { Stands (flash_at (memory_of m.now)) at i.now }
+    ensures added { IfOk result (λ _. out.new.items ≡ out.old.items ++ join_with_byte 32 (map hex4 (halfwords i.now))) }
+{
+    add_hex4(out, half_of(m, at))?;
+    if width(i) == 2 {
+        return Ok(());
+    }
+    text(out, b" ")?;
+    add_hex4(out, half_of(m, at + 2))
+}
+
+/// Adds an address and the space behind it.
+fn add_address(out: &mut Vec<u8>, at: u32) -> Result<(), OutOfMemory>
+    ensures added { IfOk result (λ _. out.new.items ≡ out.old.items ++ (hex8 at ++ 32 ∷ [])) }
+{
+    hex8(out, at)?;
+    text(out, b" ")
+}
+
+/// Adds the line of an instruction that stands at an address.
+fn add_shown(out: &mut Vec<u8>, m: &Mem, at: u32, i: &Instr) -> Result<(), OutOfMemory>
+    requires stands { Stands (flash_at (memory_of m.now)) at i.now }
+    ensures added { IfOk result (λ _. out.new.items ≡ out.old.items ++ entry_line at (shown i.now)) }
+{
+    add_address(out, at)?;
+    add_halves(out, m, at, i)?;
+    text(out, b" ")?;
+    let instr = print_instr(i, at);
+    text(out, instr.as_str().as_bytes())?;
+    text(out, b"\n")
+}
+
+/// Adds the text of a halfword, with the space before it, and the end of its line.
+fn add_half_text(out: &mut Vec<u8>, alone: u16) -> Result<(), OutOfMemory>
+    ensures added { IfOk result (λ _. out.new.items ≡ out.old.items ++ (codes " .half 0x" ++ (hex4 alone ++ 10 ∷ []))) }
+{
+    text(out, b" .half 0x")?;
+    add_hex4(out, alone)?;
+    text(out, b"\n")
+}
+
+/// Adds the line of a halfword at which no instruction is shown.
+fn add_half(out: &mut Vec<u8>, at: u32, alone: u16) -> Result<(), OutOfMemory>
+    ensures added { IfOk result (λ _. out.new.items ≡ out.old.items ++ entry_line at (half alone)) }
+{
+    add_address(out, at)?;
+    add_hex4(out, alone)?;
+    add_half_text(out, alone)
+}
+
+/// The instruction that stands at an address and ends at `hi` or before.
+fn whole_at(m: &Mem, at: u32, hi: u32) -> Option<Instr>
+    requires before { at < hi }
+    ensures found { IfSome result (λ i. Stands (flash_at (memory_of m.now)) at i × (at + width_of i ≤ hi)) }
+    ensures none { IfNone result ((i : Instr) → Stands (flash_at (memory_of m.now)) at i → hi < at + width_of i) }
+{
+    match fetch(m, at) {
+        Ok(i) => { if width(&i) <= hi - at { Some(i) } else { None } }
+        Err(_fault) => None,
+    }
+}
+
+/// Adds the line at an address, and answers where the next one stands.
+fn add_line(out: &mut Vec<u8>, m: &Mem, at: u32, hi: u32) -> Result<u32, OutOfMemory>
+    requires even { (at % 2 ≡ 0) × (hi % 2 ≡ 0) }
+    requires before { at < hi }
+    requires within { hi ≤ flash_size }
+    ensures added { IfOk result (λ next. (e : Entry) × IsEntry (flash_at (memory_of m.now)) at hi e × (out.new.items ≡ out.old.items ++ entry_line at e) × (next ≡ at + 2 * length (halves_of e))) }
+    ensures goes_on { IfOk result (λ next. (at < next) × (next ≤ hi) × (next % 2 ≡ 0)) }
+{
+    match whole_at(m, at, hi) {
+        Some(i) => {
+            add_shown(out, m, at, &i)?;
+            Ok(at + width(&i))
+        }
+        None => {
+            add_half(out, at, half_of(m, at))?;
+            Ok(at + 2)
+        }
+    }
+}
+
+/// Adds the lines from an address up to another.
+pub fn add_lines(out: &mut Vec<u8>, m: &Mem, lo: u32, hi: u32) -> Result<(), OutOfMemory>
+    requires even { (lo % 2 ≡ 0) × (hi % 2 ≡ 0) }
+    requires order { lo ≤ hi }
+    requires within { hi ≤ flash_size }
+    ensures added { IfOk result (λ _. (lines : List ℕ) × IsListed (flash_at (memory_of m.now)) lo hi lines × (out.new.items ≡ out.old.items ++ lines)) }
+{
+    let mut at = lo;
+    while at < hi {
+        match add_line(out, m, at, hi) {
+            Ok(next) => at = next,
+            Err(e) => return Err(e),
+        }
+    }
+    Ok(())
+}
