@@ -1,5 +1,6 @@
 -- How an effect is carried out, by the host's calls.
-use Rattle.std.proofs.Common.{◌≡◌, ℕ, List, ◌++◌, Option, Some, None, Err, refl, ap, sym, subst, ◌∙◌, inl, inr}
+use Rattle.std.proofs.Common.{◌≡◌, ℕ, List, [], ◌++◌, Option, Some, None, Result, Ok, Err, refl, ap, sym, subst, ◌∙◌, inl, inr}
+use Rattle.std.proofs.lemmas.List.{append-nil}
 use Rattle.hm_host.specs.Host.{FileMap, HostState, Call, Made, Stays, Becomes, Rose}
 use Rattle.hm_host.specs.declared.host.HostErr.{HostErr}
 use Rattle.hm_host.specs.declared.host.HostErr.TheVariants.{Failed, TooLarge, OutOfMemory}
@@ -8,11 +9,14 @@ use Rattle.helium.specs.declared.status.Status.TheVariants.{Done, Ended, Usage, 
 use Rattle.hm_base.specs.Image.{Segment}
 use Rattle.hm_codes.specs.Listing.{Listing}
 use Rattle.helium.specs.Words.{Form, reads_of}
-use Rattle.helium.specs.Commands.{outcome_of}
+use Rattle.helium.specs.Commands.{ComesTo}
+use Rattle.helium.specs.declared.work.Finish.{Finish}
 use Rattle.helium.specs.declared.work.Refusal.TheVariants.{FileTooLarge}
-use Rattle.helium.specs.Work.{refuses}
-use Rattle.helium.specs.Calls.{read_calls, write_calls, print_calls, with_calls, to_end, to_fault, to_memory, way_of, answer_way, MakesCalls, MakesAll}
-use Rattle.helium.specs.Effect.{Effect, Reading, whole, too_large, missing, reading_of, reads_for, effect_after, effect_for, calls_for, ButForFile, IsDone, Carries, Does, StaysOrMakesAll, failure_of, refused_line, IsComplete, WritesFile, PrintsText}
+use Rattle.helium.specs.declared.work.Stop.{Stop}
+use Rattle.helium.specs.declared.work.Stop.TheVariants as stop
+use Rattle.helium.specs.Work.{Outcome, refuses, finish_of, Gives, GivesOne}
+use Rattle.helium.specs.Calls.{MadeSome, read_calls, write_calls, print_calls, with_calls, to_end, to_fault, to_memory, way_of, answer_way, MakesCalls, MakesAll}
+use Rattle.helium.specs.Effect.{Effect, Reading, whole, too_large, missing, reading_of, reads_for, IsEffectAfter, effect_for, calls_for, IsDone, Carries, Does, StaysOrMakesAll, failure_of, refused_line, IsComplete, WritesFile, PrintsText}
 use Rattle.helium.proofs.Calling.{made_after, fault_before, memory_before, all_after}
 
 -- the effect is carried out after calls that left the files and the printed bytes
@@ -47,10 +51,6 @@ told_reading-told : (files : Option FileMap) (names : List (List ℕ)) (F : File
 unfolding told_reading
 told_reading-told files names F is = ap (λ o. told_reading o names) is
 
-ButForFile-same : (file : Option (List ℕ × List ℕ)) (F : FileMap) → ButForFile file F F
-ButForFile-same None F = refl
-ButForFile-same (Some file) F = λ other ne. refl
-
 -- ---- where memory ran out
 
 -- of an effect without a file
@@ -82,48 +82,70 @@ pub Does-no_memory : (listings : List Segment → Listing) (form : Form) (old ne
 Does-no_memory listings form old new files printed same calls = record {
   reading = told_reading old.files (reads_for (Some form));
   told = told_reading-told old.files (reads_for (Some form));
-  carries = record { faults = same; files = inl files; printed = printed };
-  makes = λ F is. memory_before (read_calls F (reads_of form)) _ old.calls new.calls (calls F is);
+  carries = inr (same, files, printed);
+  makes = λ F is. inr (calls F is);
   spent = λ F is wanted. inl files;
 }
 
 -- a read failed
 pub Does-fault : (listings : List Segment → Listing) (form : Form) (old new : HostState) → Stays old.files new.files → Stays old.printed new.printed → Rose old.faults new.faults
     → ((F : FileMap) → old.files ≡ Some F → MakesCalls (read_calls F (reads_of form)) old.calls new.calls to_fault) → Does listings (Some form) old new HostFault
-Does-fault listings form old new files printed rose calls =
-    let reading = told_reading old.files (reads_for (Some form)) in
-    record {
-      reading = reading;
-      told = told_reading-told old.files (reads_for (Some form));
-      carries = (rose, inl (record { files = λ F is. (F, files F is, ButForFile-same (effect_after listings (Some form) reading).file F); printed = printed }));
-      makes = λ F is. fault_before (read_calls F (reads_of form)) _ old.calls new.calls (calls F is);
-      spent = λ F is wanted. absurd cc;
-    }
-
--- the reads gave this, and then the effect was carried out
-Does-after : (listings : List Segment → Listing) (form : Form) (old mid new : HostState) (s : Status) (reading : Reading) → ((F : FileMap) → old.files ≡ Some F → reading_of F (reads_of form) ≡ reading)
-    → Stays old.files mid.files → Stays old.printed mid.printed → mid.faults ≡ old.faults → ((F : FileMap) → old.files ≡ Some F → Becomes (with_calls (read_calls F (reads_of form))) old.calls mid.calls)
-    → Carries (effect_after listings (Some form) reading) mid new s → MakesCalls (calls_for (effect_after listings (Some form) reading)) mid.calls new.calls (way_of s)
-    → (s ≡ NoMemory → StaysOrMakesAll (calls_for (effect_after listings (Some form) reading)) mid new) → Does listings (Some form) old new s
-Does-after listings form old mid new s reading told files printed same calls h rest all = record {
-  reading = reading;
-  told = λ F is. sym (told F is);
-  carries = Carries-after (effect_after listings (Some form) reading) old mid new s files printed same h;
-  makes = λ F is. made_after (read_calls F (reads_of form)) (calls_for (effect_after listings (Some form) reading)) old.calls mid.calls new.calls (way_of s) (calls F is) rest;
-  spent = λ F is wanted. spent_after (read_calls F (reads_of form)) (calls_for (effect_after listings (Some form) reading)) old mid new files (calls F is) (all wanted);
+Does-fault listings form old new files printed rose calls = record {
+  reading = told_reading old.files (reads_for (Some form));
+  told = told_reading-told old.files (reads_for (Some form));
+  carries = inr (rose, files, printed);
+  makes = λ F is. inr (calls F is);
+  spent = λ F is wanted. absurd cc;
 }
 
-pub Does-ok : (listings : List Segment → Listing) (form : Form) (old mid new : HostState) (s : Status) (contents : List (List ℕ)) → ((F : FileMap) → old.files ≡ Some F → reading_of F (reads_of form) ≡ whole contents)
+-- the reads gave this, and then an effect of it was carried out
+Does-after : (listings : List Segment → Listing) (form : Form) (old mid new : HostState) (s : Status) (reading : Reading) (e : Effect) → IsEffectAfter listings (Some form) reading e
+    → ((F : FileMap) → old.files ≡ Some F → reading_of F (reads_of form) ≡ reading)
     → Stays old.files mid.files → Stays old.printed mid.printed → mid.faults ≡ old.faults → ((F : FileMap) → old.files ≡ Some F → Becomes (with_calls (read_calls F (reads_of form))) old.calls mid.calls)
-    → Carries (effect_for (outcome_of listings form contents)) mid new s → MakesCalls (calls_for (effect_for (outcome_of listings form contents))) mid.calls new.calls (way_of s)
-    → (s ≡ NoMemory → StaysOrMakesAll (calls_for (effect_for (outcome_of listings form contents))) mid new) → Does listings (Some form) old new s
-Does-ok listings form old mid new s contents told files printed same calls h rest all = Does-after listings form old mid new s (whole contents) told files printed same calls h rest all
+    → Carries e mid new s → MakesCalls (calls_for e) mid.calls new.calls (way_of s) → (s ≡ NoMemory → StaysOrMakesAll (calls_for e) mid new) → Does listings (Some form) old new s
+Does-after listings form old mid new s reading e of told files printed same calls h rest all = record {
+  reading = reading;
+  told = λ F is. sym (told F is);
+  carries = inl (e, of, Carries-after e old mid new s files printed same h);
+  makes = λ F is. inl (e, of, made_after (read_calls F (reads_of form)) (calls_for e) old.calls mid.calls new.calls (way_of s) (calls F is) rest);
+  spent = λ F is wanted. elim (spent_after (read_calls F (reads_of form)) (calls_for e) old mid new files (calls F is) (all wanted)) [
+    | inl stays ↦ inl stays
+    | inr made ↦ inr (e, of, made)
+  ];
+}
+
+-- the reads gave these contents, memory was wanted, and no more was done
+Does-lost : (listings : List Segment → Listing) (form : Form) (old mid new : HostState) (s : Status) (contents : List (List ℕ)) → ((F : FileMap) → old.files ≡ Some F → reading_of F (reads_of form) ≡ whole contents)
+    → Stays old.files mid.files → Stays old.printed mid.printed → mid.faults ≡ old.faults → ((F : FileMap) → old.files ≡ Some F → Becomes (with_calls (read_calls F (reads_of form))) old.calls mid.calls)
+    → s ≡ NoMemory → new ≡ mid → Does listings (Some form) old new s
+Does-lost listings form old mid new s contents told files printed same calls wanted is =
+    subst (λ (x : HostState). Does listings (Some form) old x s) (sym is)
+    (subst (λ (x : Status). Does listings (Some form) old mid x) (sym wanted)
+    (Does-no_memory listings form old mid files printed same (λ F told. inr (λ made is. (with_calls (read_calls F (reads_of form)) made, calls F told made is, all_some (read_calls F (reads_of form)) made))))) where
+      all_some : (calls : List Call) (made : List Made) → MadeSome calls made (with_calls calls made)
+      all_some calls made = record { done = calls; left = []; parts_are = sym (append-nil calls); made_are = refl }
+
+-- the reads gave these contents, and then what the command gave was carried out
+pub Does-ok : (listings : List Segment → Listing) (form : Form) (old mid new : HostState) (s : Status) (contents : List (List ℕ)) (answer : Result Finish Stop) → GivesOne (ComesTo listings form contents) answer
+    → ((F : FileMap) → old.files ≡ Some F → reading_of F (reads_of form) ≡ whole contents)
+    → Stays old.files mid.files → Stays old.printed mid.printed → mid.faults ≡ old.faults → ((F : FileMap) → old.files ≡ Some F → Becomes (with_calls (read_calls F (reads_of form))) old.calls mid.calls)
+    → ((o : Outcome) → Gives o answer → Carries (effect_for o) mid new s) → ((o : Outcome) → Gives o answer → MakesCalls (calls_for (effect_for o)) mid.calls new.calls (way_of s))
+    → ((o : Outcome) → Gives o answer → s ≡ NoMemory → StaysOrMakesAll (calls_for (effect_for o)) mid new) → (answer ≡ Err stop.NoMemory → (s ≡ NoMemory) × (new ≡ mid))
+    → Does listings (Some form) old new s
+Does-ok listings form old mid new s contents (Ok finish) comes told files printed same calls h rest all wanted =
+    let o = finish_of finish in
+    Does-after listings form old mid new s (whole contents) (effect_for o) (o, comes, refl) told files printed same calls (h o refl) (rest o refl) (all o refl)
+Does-ok listings form old mid new s contents (Err (stop.Refused why)) comes told files printed same calls h rest all wanted =
+    let o = refuses why in
+    Does-after listings form old mid new s (whole contents) (effect_for o) (o, comes, refl) told files printed same calls (h o refl) (rest o refl) (all o refl)
+Does-ok listings form old mid new s contents (Err stop.NoMemory) comes told files printed same calls h rest all wanted =
+    Does-lost listings form old mid new s contents told files printed same calls (wanted refl).0 (wanted refl).1
 
 pub Does-too_large : (listings : List Segment → Listing) (form : Form) (old mid new : HostState) (s : Status) → ((F : FileMap) → old.files ≡ Some F → reading_of F (reads_of form) ≡ too_large)
     → Stays old.files mid.files → Stays old.printed mid.printed → mid.faults ≡ old.faults → ((F : FileMap) → old.files ≡ Some F → Becomes (with_calls (read_calls F (reads_of form))) old.calls mid.calls)
     → Carries (effect_for (refuses FileTooLarge)) mid new s → MakesCalls (calls_for (effect_for (refuses FileTooLarge))) mid.calls new.calls (way_of s) → Does listings (Some form) old new s
 Does-too_large listings form old mid new s told files printed same calls h rest =
-    Does-after listings form old mid new s too_large told files printed same calls h rest (λ wanted. inl (stays_spent Refused (Some (refused_line FileTooLarge)) mid new s h wanted))
+    Does-after listings form old mid new s too_large (effect_for (refuses FileTooLarge)) refl told files printed same calls h rest (λ wanted. inl (stays_spent Refused (Some (refused_line FileTooLarge)) mid new s h wanted))
 
 -- ---- the calls of an effect
 

@@ -1,15 +1,17 @@
--- Words that give numbers, and words of runs.
-use Rattle.std.proofs.Common.{◌≡◌, ◌≢◌, ℕ, ◌≤◌, Bool, true, false, List, [], ◌∷◌, ◌++◌, take, drop, Option, Some, None, option_map, refl, sym, ap, subst, ◌∙◌, inl, inr, arith}
+-- Words that give numbers, and the words of commands.
+use Rattle.std.proofs.Common.{◌≡◌, ◌≢◌, ℕ, ◌≤◌, ◌%◌, nat_eq, Bool, true, false, List, [], ◌∷◌, ◌++◌, take, drop, Option, Some, None, option_map, refl, sym, ap, subst, ◌∙◌, inl, inr, arith}
 use Rattle.std.specs.Prelude.{codes, bytes_eq, cond, nat_lt, option_and_then}
 use Rattle.std.specs.Fmt.{decimal}
 use Rattle.std.proofs.lemmas.Bool.{cases_Bool}
 use Rattle.std.proofs.lemmas.Bool.Decides.{nat_tests}
 use Rattle.std.proofs.lemmas.List.{take-append-drop}
 use Rattle.std.proofs.lemmas.Slice.Eq.{bytes_eq-Decides}
-use Rattle.hm_text_base.specs.Numbers.{number_in}
-use Rattle.hm_text_base.proofs.NumberLaws.{number_found, number_again}
-use Rattle.hm_text_base.proofs.Steps.{and_then_some, guard_some, some_is}
-use Rattle.helium.specs.Words.{most, not_past, number_of, Source, ticks, file, source_of, run, seq, run_form, seq_form, form_of, IsSource, IsRun, IsSeq}
+use Rattle.hm_base.specs.Image.{flash_size}
+use Rattle.hm_text_base.specs.Numbers.{hex8_in, number_in}
+use Rattle.hm_text_base.specs.Texts.{hex8}
+use Rattle.hm_text_base.proofs.NumberLaws.{hex8_found, hex8_again, number_found, number_again}
+use Rattle.hm_text_base.proofs.Steps.{and_then_some, guard_some, test_some, some_is}
+use Rattle.helium.specs.Words.{most, not_past, number_of, is_range, range_of, range_in, Source, ticks, file, source_of, Form, run, seq, dis, run_form, seq_form, dis_form, form_of, IsSource, IsRange, IsRun, IsSeq, IsDis}
 
 -- ---- numbers
 
@@ -106,50 +108,141 @@ others_of_seq (x ∷ []) image n h = cc
 others_of_seq (x ∷ y ∷ []) image n h = seq_words (number_of y) x y image n refl h
 others_of_seq (x ∷ y ∷ z ∷ words) image n h = cc
 
--- no words are both
-no_run : (o : Option ℕ) (x : List ℕ) (image : List ℕ) (schedule : Source) (memory : List ℕ) → option_map (seq x) o ≡ Some (run image schedule memory) → ⊥
-no_run None x image schedule memory h = cc
-no_run (Some k) x image schedule memory h = cc
+record OthersOfDis (words : List (List ℕ)) (image : List ℕ) (lo hi : ℕ) : Type 0 where
+  words_are : words ≡ image ∷ hex8 lo ∷ hex8 hi ∷ []
+  range : IsRange lo hi
 
-seq_no_run : (words : List (List ℕ)) (image : List ℕ) (schedule : Source) (memory : List ℕ) → seq_form words ≡ Some (run image schedule memory) → ⊥
-seq_no_run [] image schedule memory h = cc
-seq_no_run (x ∷ []) image schedule memory h = cc
-seq_no_run (x ∷ y ∷ []) image schedule memory h = no_run (number_of y) x image schedule memory h
-seq_no_run (x ∷ y ∷ z ∷ words) image schedule memory h = cc
+range_holds : (lo hi : ℕ) → is_range lo hi ≡ true → IsRange lo hi
+range_holds lo hi is = record { even = (grind (arith, nat_tests), grind (arith, nat_tests)); order = grind (arith, nat_tests); within = grind (arith, nat_tests) }
 
-no_seq : (o : Option Source) (x z image : List ℕ) (n : ℕ) → option_map (λ s. run x s z) o ≡ Some (seq image n) → ⊥
-no_seq None x z image n h = cc
-no_seq (Some k) x z image n h = cc
+range_passes : (lo hi : ℕ) → IsRange lo hi → range_of lo hi ≡ Some (lo, hi)
+range_passes lo hi h =
+    let first : lo % 2 ≡ 0 = h.even.0 in
+    let last : hi % 2 ≡ 0 = h.even.1 in
+    let order : lo ≤ hi = h.order in
+    let within : hi ≤ flash_size = h.within in
+    grind (arith, nat_tests)
 
-run_no_seq : (words : List (List ℕ)) (image : List ℕ) (n : ℕ) → run_form words ≡ Some (seq image n) → ⊥
-run_no_seq [] image n h = cc
-run_no_seq (x ∷ []) image n h = cc
-run_no_seq (x ∷ y ∷ []) image n h = cc
-run_no_seq (x ∷ y ∷ z ∷ []) image n h = no_seq (source_of y) x z image n h
-run_no_seq (x ∷ y ∷ z ∷ w ∷ words) image n h = cc
+-- the range that words give
+range_in-is : (x y : List ℕ) (r : ℕ × ℕ) → range_in x y ≡ Some r → (x ≡ hex8 r.0) × (y ≡ hex8 r.1) × IsRange r.0 r.1
+range_in-is x y r h =
+    let first = and_then_some (hex8_in x) (λ a. option_and_then (range_of a) (hex8_in y)) r h in
+    let last = and_then_some (hex8_in y) (range_of first.0) r first.2 in
+    let passed = test_some (is_range first.0 last.0) (Some (first.0, last.0)) r last.2 in
+    let same : ◌≡◌ {A = ℕ × ℕ} (first.0, last.0) r = some_is (first.0, last.0) r passed.1 in
+    subst (λ (q : ℕ × ℕ). (x ≡ hex8 q.0) × (y ≡ hex8 q.1) × IsRange q.0 q.1) same (hex8_found x first.0 first.1, hex8_found y last.0 last.1, range_holds first.0 last.0 passed.0)
 
-named_run : (b c : Bool) (name : List ℕ) (words : List (List ℕ)) (image : List ℕ) (schedule : Source) (memory : List ℕ) → bytes_eq name (codes "run") ≡ b
-    → cond b (run_form words) (cond c (seq_form words) None) ≡ Some (run image schedule memory) → IsRun (name ∷ words) image schedule memory
-named_run true c name words image schedule memory is h =
-    let first = (bytes_eq-Decides name (codes "run")).0 is in
-    let others = others_of_run words image schedule memory h in
-    record { word = others.word; words_are = ap (λ name. name ∷ words) first ∙ ap (λ words. codes "run" ∷ words) others.words_are; source = others.source }
-named_run false true name words image schedule memory is h = absurd (seq_no_run words image schedule memory h)
-named_run false false name words image schedule memory is h = cc
+range_in-again : (lo hi : ℕ) → IsRange lo hi → range_in (hex8 lo) (hex8 hi) ≡ Some (lo, hi)
+range_in-again lo hi h =
+    let order : lo ≤ hi = h.order in
+    let within : hi ≤ flash_size = h.within in
+    ap (option_and_then (λ a. option_and_then (range_of a) (hex8_in (hex8 hi)))) (hex8_again lo (omega arith))
+    ∙ ap (option_and_then (range_of lo)) (hex8_again hi (omega arith)) ∙ range_passes lo hi h
 
-named_seq : (b c : Bool) (name : List ℕ) (words : List (List ℕ)) (image : List ℕ) (n : ℕ) → bytes_eq name (codes "seq") ≡ c
-    → cond b (run_form words) (cond c (seq_form words) None) ≡ Some (seq image n) → IsSeq (name ∷ words) image n
-named_seq true c name words image n is h = absurd (run_no_seq words image n h)
-named_seq false true name words image n is h =
-    let first = (bytes_eq-Decides name (codes "seq")).0 is in
-    let others = others_of_seq words image n h in
-    record { words_are = ap (λ name. name ∷ words) first ∙ ap (λ words. codes "seq" ∷ words) others.words_are; few = others.few }
-named_seq false false name words image n is h = cc
+dis_words : (o : Option (ℕ × ℕ)) (x y z image : List ℕ) (lo hi : ℕ) → range_in y z ≡ o → option_map (λ r. dis x r.0 r.1) o ≡ Some (dis image lo hi) → OthersOfDis (x ∷ y ∷ z ∷ []) image lo hi
+dis_words None x y z image lo hi is h = cc
+dis_words (Some r) x y z image lo hi is h =
+    let first : x ≡ image = cc in
+    let from : r.0 ≡ lo = cc in
+    let to : r.1 ≡ hi = cc in
+    let range = range_in-is y z r is in
+    let second : y ≡ hex8 lo = range.0 ∙ ap hex8 from in
+    let third : z ≡ hex8 hi = range.1 ∙ ap hex8 to in
+    record { words_are = cc; range = subst (λ (b : ℕ). IsRange lo b) to (subst (λ (a : ℕ). IsRange a r.1) from range.2) }
+
+others_of_dis : (words : List (List ℕ)) (image : List ℕ) (lo hi : ℕ) → dis_form words ≡ Some (dis image lo hi) → OthersOfDis words image lo hi
+others_of_dis [] image lo hi h = cc
+others_of_dis (x ∷ []) image lo hi h = cc
+others_of_dis (x ∷ y ∷ []) image lo hi h = cc
+others_of_dis (x ∷ y ∷ z ∷ []) image lo hi h = dis_words (range_in y z) x y z image lo hi refl h
+others_of_dis (x ∷ y ∷ z ∷ w ∷ words) image lo hi h = cc
+
+pub form_of-dis : (words : List (List ℕ)) (image : List ℕ) (lo hi : ℕ) → IsDis words image lo hi → form_of words ≡ Some (dis image lo hi)
+form_of-dis words image lo hi h = ap form_of h.words_are ∙ ap (option_map (λ r. dis image r.0 r.1)) (range_in-again lo hi h.range)
+
+-- ---- words of one command are not those of another
+
+-- the number of a command
+abbrev command : Form → ℕ
+command (run image schedule memory) = 0
+command (seq image n) = 1
+command (dis image lo hi) = 2
+
+mapped : {A : Type 0} (f : A → Form) (o : Option A) (k : ℕ) (form : Form) → ((x : A) → command (f x) ≡ k) → option_map f o ≡ Some form → command form ≡ k
+mapped f None k form each h = cc
+mapped f (Some x) k form each h = let same : f x ≡ form = some_is (f x) form h in ap command (sym same) ∙ each x
+
+run_is : (words : List (List ℕ)) (form : Form) → run_form words ≡ Some form → command form ≡ 0
+run_is [] form h = cc
+run_is (x ∷ []) form h = cc
+run_is (x ∷ y ∷ []) form h = cc
+run_is (x ∷ y ∷ z ∷ []) form h = mapped (λ s. run x s z) (source_of y) 0 form (λ s. refl) h
+run_is (x ∷ y ∷ z ∷ w ∷ words) form h = cc
+
+seq_is : (words : List (List ℕ)) (form : Form) → seq_form words ≡ Some form → command form ≡ 1
+seq_is [] form h = cc
+seq_is (x ∷ []) form h = cc
+seq_is (x ∷ y ∷ []) form h = mapped (seq x) (number_of y) 1 form (λ n. refl) h
+seq_is (x ∷ y ∷ z ∷ words) form h = cc
+
+dis_is : (words : List (List ℕ)) (form : Form) → dis_form words ≡ Some form → command form ≡ 2
+dis_is [] form h = cc
+dis_is (x ∷ []) form h = cc
+dis_is (x ∷ y ∷ []) form h = cc
+dis_is (x ∷ y ∷ z ∷ []) form h = mapped (λ r. dis x r.0 r.1) (range_in y z) 2 form (λ r. refl) h
+dis_is (x ∷ y ∷ z ∷ w ∷ words) form h = cc
+
+-- the form of words behind a name, by the tests of the name
+abbrev chosen : Bool → Bool → Bool → List (List ℕ) → Option Form
+chosen b c d words = cond b (run_form words) (cond c (seq_form words) (cond d (dis_form words) None))
+
+differ : (form : Form) (j k : ℕ) → command form ≡ j → command form ≡ k → nat_eq j k ≡ false → ⊥
+differ form j k a b apart = let same : j ≡ k = sym a ∙ b in grind (arith, nat_tests)
+
+chosen_run : (b c d : Bool) (words : List (List ℕ)) (form : Form) → chosen b c d words ≡ Some form → command form ≡ 0 → (b ≡ true) × (run_form words ≡ Some form)
+chosen_run true c d words form h k = (refl, h)
+chosen_run false true d words form h k = absurd (differ form 0 1 k (seq_is words form h) refl)
+chosen_run false false true words form h k = absurd (differ form 0 2 k (dis_is words form h) refl)
+chosen_run false false false words form h k = cc
+
+chosen_seq : (b c d : Bool) (words : List (List ℕ)) (form : Form) → chosen b c d words ≡ Some form → command form ≡ 1 → (c ≡ true) × (seq_form words ≡ Some form)
+chosen_seq true c d words form h k = absurd (differ form 1 0 k (run_is words form h) refl)
+chosen_seq false true d words form h k = (refl, h)
+chosen_seq false false true words form h k = absurd (differ form 1 2 k (dis_is words form h) refl)
+chosen_seq false false false words form h k = cc
+
+chosen_dis : (b c d : Bool) (words : List (List ℕ)) (form : Form) → chosen b c d words ≡ Some form → command form ≡ 2 → (d ≡ true) × (dis_form words ≡ Some form)
+chosen_dis true c d words form h k = absurd (differ form 2 0 k (run_is words form h) refl)
+chosen_dis false true d words form h k = absurd (differ form 2 1 k (seq_is words form h) refl)
+chosen_dis false false true words form h k = (refl, h)
+chosen_dis false false false words form h k = cc
+
+-- ---- all words
+
+-- the test of a name
+abbrev named : List ℕ → List ℕ → Bool
+named name command_name = bytes_eq name command_name
+
+behind : (name : List ℕ) (text : List ℕ) (words others : List (List ℕ)) → named name text ≡ true → words ≡ others → name ∷ words ≡ text ∷ others
+behind name text words others is same = ap (λ (n : List ℕ). n ∷ words) ((bytes_eq-Decides name text).0 is) ∙ ap (λ (w : List (List ℕ)). text ∷ w) same
 
 pub form_of-is_run : (words : List (List ℕ)) (image : List ℕ) (schedule : Source) (memory : List ℕ) → form_of words ≡ Some (run image schedule memory) → IsRun words image schedule memory
 form_of-is_run [] image schedule memory h = cc
-form_of-is_run (name ∷ words) image schedule memory h = named_run (bytes_eq name (codes "run")) (bytes_eq name (codes "seq")) name words image schedule memory refl h
+form_of-is_run (name ∷ words) image schedule memory h =
+    let is = chosen_run (named name (codes "run")) (named name (codes "seq")) (named name (codes "dis")) words (run image schedule memory) h refl in
+    let others = others_of_run words image schedule memory is.1 in
+    record { word = others.word; words_are = behind name (codes "run") words _ is.0 others.words_are; source = others.source }
 
 pub form_of-is_seq : (words : List (List ℕ)) (image : List ℕ) (n : ℕ) → form_of words ≡ Some (seq image n) → IsSeq words image n
 form_of-is_seq [] image n h = cc
-form_of-is_seq (name ∷ words) image n h = named_seq (bytes_eq name (codes "run")) (bytes_eq name (codes "seq")) name words image n refl h
+form_of-is_seq (name ∷ words) image n h =
+    let is = chosen_seq (named name (codes "run")) (named name (codes "seq")) (named name (codes "dis")) words (seq image n) h refl in
+    let others = others_of_seq words image n is.1 in
+    record { words_are = behind name (codes "seq") words _ is.0 others.words_are; few = others.few }
+
+pub form_of-is_dis : (words : List (List ℕ)) (image : List ℕ) (lo hi : ℕ) → form_of words ≡ Some (dis image lo hi) → IsDis words image lo hi
+form_of-is_dis [] image lo hi h = cc
+form_of-is_dis (name ∷ words) image lo hi h =
+    let is = chosen_dis (named name (codes "run")) (named name (codes "seq")) (named name (codes "dis")) words (dis image lo hi) h refl in
+    let others = others_of_dis words image lo hi is.1 in
+    record { words_are = behind name (codes "dis") words _ is.0 others.words_are; range = others.range }

@@ -27,7 +27,7 @@ use Rattle.helium.specs.declared.status.Status.{Status}
 use Rattle.helium.specs.declared.status.Status.TheVariants.{Done, Ended, Usage, Refused, HostFault, NoMemory}
 use Rattle.helium.specs.declared.work.Refusal.TheVariants.{Reset}
 use Rattle.helium.specs.Commands.{AreListings, reported, told, run_outcome, seq_outcome, unless_refused}
-use Rattle.helium.specs.Effect.{Effect, whole, then_read, reading_of, reads_for, effect, effect_after, effect_for, with_file, with_text, Carries, Does}
+use Rattle.helium.specs.Effect.{Effect, Reading, whole, then_read, reading_of, reads_for, IsEffect, IsEffectAfter, effect_for, with_file, with_text, Carries, CarriesOne, Does}
 use Rattle.hm_sched.specs.Schedule.{Sched, plain, ticks_of}
 use Rattle.hm_sched.specs.declared.errors.SchedErr.{SchedErr}
 use Rattle.hm_sched.proofs.FileLaws.{file_again}
@@ -35,6 +35,7 @@ use Rattle.helium.specs.Headline.{IsGiven, IsReported, RunsToHeadline, IsShownIn
 use Rattle.helium.specs.Run.{is_fault, is_halted, short_report, reset_refusal, schedule_in}
 use Rattle.helium.specs.Words.{Form, Source, ticks, file, run, seq, form_of, reads_of}
 use Rattle.helium.proofs.Decimals.{form_of-run, form_of-seq}
+use Rattle.helium.proofs.Ending.{Does-carries, untouched_wanted}
 use Rattle.helium.proofs.Listed.{some_listings}
 use Rattle.helium.proofs.Runs.{reset_refusal-odd}
 
@@ -70,12 +71,13 @@ read_for F name bytes memory (file other) s image fits given = record {
 }
 
 -- what a sound run is to do
-effect-run : (listings : List Segment → Listing) (words : List (List ℕ)) (F : FileMap) (name bytes memory : List ℕ) (source : Source) (image : List Segment) (s : Sched)
+effect-run : (listings : List Segment → Listing) (words : List (List ℕ)) (F : FileMap) (name bytes memory : List ℕ) (source : Source) (image : List Segment) (s : Sched) (e : Effect)
     → form_of words ≡ Some (run name source memory) → ReadFor F name bytes memory source s → IsImageFile bytes image → reset_pc image % 2 ≡ 1
-    → effect listings words F ≡ effect_for (reported (shown_out (listings image) image s) memory)
-effect-run listings words F name bytes memory source image s asked read holds odd =
-    ap (λ o. effect_after listings o (reading_of F (reads_for o))) asked
-    ∙ ap (effect_after listings (Some (run name source memory))) read.reading
+    → IsEffect listings words F e → e ≡ effect_for (reported (shown_out (listings image) image s) memory)
+effect-run listings words F name bytes memory source image s e asked read holds odd is =
+    let one = subst (λ (o : Option Form). IsEffectAfter listings o (reading_of F (reads_for o)) e) asked is in
+    let there = subst (λ (r : Reading). IsEffectAfter listings (Some (run name source memory)) r e) read.reading one in
+    there.2 ∙ ap effect_for there.1
     ∙ ap (λ (r : Result Sched SchedErr). effect_for (run_outcome listings (image_in bytes) r memory)) read.schedule
     ∙ ap (λ (i : Result (List Segment) ImageErr). effect_for (run_outcome listings i (Ok s) memory)) (image_again bytes image holds)
     ∙ ap (λ o. effect_for (unless_refused o (reported (shown_out (listings image) image s) memory))) (reset_refusal-odd image odd)
@@ -95,6 +97,14 @@ left e F P old new Refused h files printed same last = inr (record { printed = h
 left e F P old new HostFault h files printed same last = absurd (let rose : _ = h.0 in omega arith)
 left e F P old new NoMemory h files printed same last = inl refl
 
+-- the effect that was carried out is this one
+left_one : (Is : Effect → Type 0) (d : Effect) (F : FileMap) (P : List ℕ) (old new : HostState) (s : Status) → ((e : Effect) → Is e → e ≡ d) → CarriesOne Is old new s
+    → old.files ≡ Some F → old.printed ≡ Some P → new.faults ≡ old.faults → new.faults + 1 < 2 ^ 64 → (s ≡ NoMemory) ⊎ Left d F P new s
+left_one Is d F P old new s only h files printed same last = elim h [
+  | inl one ↦ left d F P old new s (subst (λ (e : Effect). Carries e old new s) (only one.0 one.1) one.2) files printed same last
+  | inr none ↦ inl (untouched_wanted old new s none same last)
+]
+
 reported_by : (listing : Listing) (F : FileMap) (P memory : List ℕ) (image : List Segment) (s : Sched) (new : HostState) (status : Status) → IsListing (flash_byte image) listing
     → Left (effect_for (reported (shown_out listing image s) memory)) F P new status → IsReported F P memory image s new status
 reported_by listing F P memory image s new status is h = record {
@@ -112,12 +122,6 @@ reported_by listing F P memory image s new status is h = record {
       h.ends ∙ ap (λ l. if is_halted (shown_out l image s).outcome then Done else Ended) same;
 }
 
--- where the host tells its files, what is done is the effect of the words
-carries_effect : (listings : List Segment → Listing) (form : Option Form) (words : List (List ℕ)) (old new : HostState) (s : Status) (F : FileMap)
-    → Does listings form old new s → form ≡ form_of words → old.files ≡ Some F → Carries (effect listings words F) old new s
-carries_effect listings form words old new s F h is told =
-    subst (λ e. Carries e old new s) (ap (effect_after listings form) (h.told F told) ∙ ap (λ o. effect_after listings o (reading_of F (reads_for o))) is) h.carries
-
 pub headline_of : (words : List (List ℕ)) (form : Option Form) (old new : HostState) (status : Status) → form ≡ form_of words
     → ((listings : List Segment → Listing) → AreListings listings → Does listings form old new status) → RunsToHeadline words old new status
 headline_of words form old new status same does = λ F P name memory image s h.
@@ -125,9 +129,9 @@ headline_of words form old new status same does = λ F P name memory image s h.
     let x = shown_out (listings image) image s in
     let sound = h.sound in
     let read = read_for F name sound.bytes memory h.source s sound.there sound.short h.given in
-    let is = effect-run listings words F name sound.bytes memory h.source image s (form_of-run words name h.source memory h.asked) read sound.holds sound.odd in
-    let done = carries_effect listings form words old new status F (does listings some_listings.1) same sound.files in
-    elim (left (effect_for (reported x memory)) F P old new status (subst (λ e. Carries e old new status) is done) sound.files sound.printed sound.no_fault sound.not_last) [
+    let only = λ (e : Effect). effect-run listings words F name sound.bytes memory h.source image s e (form_of-run words name h.source memory h.asked) read sound.holds sound.odd in
+    let done = Does-carries listings form words old new status F (does listings some_listings.1) same sound.files in
+    elim (left_one (IsEffect listings words F) (effect_for (reported x memory)) F P old new status only done sound.files sound.printed sound.no_fault sound.not_last) [
       | inl wanted ↦ inl wanted
       | inr left ↦ inr (reported_by (listings image) F P memory image s new status (some_listings.1.at image) left)
     ]
@@ -165,12 +169,13 @@ plainly_halted : (listing : Listing) (image : List Segment) (n : ℕ) → is_hal
 plainly_halted listing image n =
     sym (ap (λ (x : Timed). is_halted x.outcome) (plain_shown listing image n)) ∙ halted_in_order (timed_out listing image (plain n)) (in_order listing image n) (plain_ends listing image n)
 
-effect-seq : (listings : List Segment → Listing) (words : List (List ℕ)) (F : FileMap) (name bytes : List ℕ) (image : List Segment) (n : ℕ)
+effect-seq : (listings : List Segment → Listing) (words : List (List ℕ)) (F : FileMap) (name bytes : List ℕ) (image : List Segment) (n : ℕ) (e : Effect)
     → form_of words ≡ Some (seq name n) → get F name ≡ Some bytes → length bytes ≤ longest → IsImageFile bytes image → reset_pc image % 2 ≡ 1
-    → effect listings words F ≡ effect_for (told (shown_out (listings image) image (plain n)))
-effect-seq listings words F name bytes image n asked there short holds odd =
-    ap (λ o. effect_after listings o (reading_of F (reads_for o))) asked
-    ∙ ap (effect_after listings (Some (seq name n))) (read_one F name bytes there short)
+    → IsEffect listings words F e → e ≡ effect_for (told (shown_out (listings image) image (plain n)))
+effect-seq listings words F name bytes image n e asked there short holds odd is =
+    let one = subst (λ (o : Option Form). IsEffectAfter listings o (reading_of F (reads_for o)) e) asked is in
+    let read = subst (λ (r : Reading). IsEffectAfter listings (Some (seq name n)) r e) (read_one F name bytes there short) one in
+    read.2 ∙ ap effect_for read.1
     ∙ ap (λ (i : Result (List Segment) ImageErr). effect_for (seq_outcome listings i n)) (image_again bytes image holds)
     ∙ ap (λ o. effect_for (unless_refused o (told (shown_out (listings image) image (plain n))))) (reset_refusal-odd image odd)
 
@@ -194,9 +199,9 @@ order_of words form old new status same does = λ F P name image n h.
     let listings = some_listings.0 in
     let x = shown_out (listings image) image (plain n) in
     let sound = h.sound in
-    let is = effect-seq listings words F name sound.bytes image n (form_of-seq words name n h.asked) sound.there sound.short sound.holds sound.odd in
-    let done = carries_effect listings form words old new status F (does listings some_listings.1) same sound.files in
-    elim (left (effect_for (told x)) F P old new status (subst (λ e. Carries e old new status) is done) sound.files sound.printed sound.no_fault sound.not_last) [
+    let only = λ (e : Effect). effect-seq listings words F name sound.bytes image n e (form_of-seq words name n h.asked) sound.there sound.short sound.holds sound.odd in
+    let done = Does-carries listings form words old new status F (does listings some_listings.1) same sound.files in
+    elim (left_one (IsEffect listings words F) (effect_for (told x)) F P old new status only done sound.files sound.printed sound.no_fault sound.not_last) [
       | inl wanted ↦ inl wanted
       | inr left ↦ inr (shown_by (listings image) F P image n new status (some_listings.1.at image) left)
     ]

@@ -6,3 +6,4 @@ pub mod Listed
 pub mod Ending
 pub mod Headlines
 pub mod Runs
+pub mod OneEffect

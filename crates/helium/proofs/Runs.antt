@@ -1,14 +1,15 @@
 -- Why a file is not run, and what a run of one comes to.
-use Rattle.std.proofs.Common.{◌≡◌, ℕ, ◌%◌, nat_eq, arith, Bool, List, Option, Some, None, Result, Ok, Err, refl, sym, ap, ◌∙◌}
+use Rattle.std.proofs.Common.{◌≡◌, ℕ, ◌%◌, nat_eq, arith, Bool, true, List, Option, Some, None, Result, Ok, Err, refl, sym, ap, subst, ◌∙◌}
 use Rattle.std.specs.Prelude.{if◌then◌else◌}
 use Rattle.std.proofs.lemmas.Bool.Decides.{nat_tests}
-use Rattle.hm_base.specs.Image.{Segment}
+use Rattle.hm_base.specs.Image.{Segment, flash_byte}
 use Rattle.hm_state.specs.Start.{reset_pc}
 use Rattle.hm_base.specs.declared.errors.ImageErr.{ImageErr}
 use Rattle.hm_base.specs.declared.errors.ImageErr.TheVariants as refusals
 use Rattle.hm_codes.specs.Listing.{Listing}
 use Rattle.hm_elf.specs.ReadImage.{Fails as FailsImage}
 use Rattle.hm_handlers.specs.Runs.{shown_out}
+use Rattle.hm_listing.specs.Listings.{IsListed}
 use Rattle.hm_machine.specs.Shown.{Shown, timed_of}
 use Rattle.hm_run.specs.Report.{report_text, memory_text}
 use Rattle.hm_run.specs.Timed.{Timed}
@@ -20,34 +21,36 @@ use Rattle.helium.specs.declared.work.Refusal.{Refusal}
 use Rattle.helium.specs.declared.work.Refusal.TheVariants.{Image, Schedule, Reset}
 use Rattle.helium.specs.declared.work.Stop.{Stop}
 use Rattle.helium.specs.declared.work.Stop.TheVariants.{Refused, NoMemory}
-use Rattle.helium.specs.Commands.{AreListings, reported, told, unless_refused, run_outcome, seq_outcome}
+use Rattle.helium.specs.Commands.{AreListings, IsDisOutcome, reported, told, unless_refused, run_outcome, seq_outcome}
 use Rattle.helium.specs.Run.{is_halted, short_report, reset_refusal, IsOver, RunsToEnd, schedule_stop}
-use Rattle.helium.specs.Work.{Outcome, finishes, refuses, Gives, image_stop}
+use Rattle.helium.specs.Work.{Outcome, finishes, refuses, Gives, GivesOne, image_stop}
 
 -- ---- refusals
 
--- a refusal that is the outcome
-gives_refusal : (o : Outcome) (why : Refusal) → o ≡ refuses why → Gives o (Err (Refused why))
-gives_refusal o why is = sym is
+gives_at : (Is : Outcome → Type 0) (stop stop' : Stop) → stop ≡ stop' → GivesOne Is (Err stop') → GivesOne Is (Err stop)
+gives_at Is stop stop' is g = rw is g
 
-gives_at : (o : Outcome) (stop stop' : Stop) → stop ≡ stop' → Gives o (Err stop') → Gives o (Err stop)
-gives_at o stop stop' is g = rw is g
-
--- what is wrong with an image, where the image's refusal is the outcome
-image_by : (o : Outcome) (e : ImageErr) (image : Result (List Segment) ImageErr) → FailsImage e image → ((d : ImageErr) → image ≡ Err d → o ≡ refuses (Image d)) → Gives o (Err (image_stop e))
-image_by o refusals.OutOfMemory image fails refused = tt
-image_by o e image fails refused = sym (refused e fails)
-
-run_at_image : (listings : List Segment → Listing) (image : Result (List Segment) ImageErr) (read : Result Sched SchedErr) (memory : List ℕ) (d : ImageErr) → image ≡ Err d → run_outcome listings image read memory ≡ refuses (Image d)
-run_at_image listings image read memory d is = ap (λ (i : Result (List Segment) ImageErr). run_outcome listings i read memory) is
+-- what is wrong with an image, where the image's refusal is an outcome
+image_by : (Is : Outcome → Type 0) (e : ImageErr) (image : Result (List Segment) ImageErr) → FailsImage e image → ((d : ImageErr) → image ≡ Err d → Is (refuses (Image d))) → GivesOne Is (Err (image_stop e))
+image_by Is refusals.OutOfMemory image fails refused = tt
+image_by Is e image fails refused = refused e fails
 
 pub run_image_refused : (listings : List Segment → Listing) (image : Result (List Segment) ImageErr) (read : Result Sched SchedErr) (memory : List ℕ) (e : ImageErr) (stop : Stop) → FailsImage e image → stop ≡ image_stop e
     → Gives (run_outcome listings image read memory) (Err stop)
-run_image_refused listings image read memory e stop fails is = gives_at _ stop (image_stop e) is (image_by _ e image fails (run_at_image listings image read memory))
+run_image_refused listings image read memory e stop fails is =
+    gives_at (λ (x : Outcome). x ≡ run_outcome listings image read memory) stop (image_stop e) is (image_by (λ (x : Outcome). x ≡ run_outcome listings image read memory) e image fails (λ d at. sym (ap (λ (i : Result (List Segment) ImageErr). run_outcome listings i read memory) at)))
 
 pub seq_image_refused : (listings : List Segment → Listing) (image : Result (List Segment) ImageErr) (n : ℕ) (e : ImageErr) (stop : Stop) → FailsImage e image → stop ≡ image_stop e
     → Gives (seq_outcome listings image n) (Err stop)
-seq_image_refused listings image n e stop fails is = gives_at _ stop (image_stop e) is (image_by _ e image fails (λ d at. ap (λ (i : Result (List Segment) ImageErr). seq_outcome listings i n) at))
+seq_image_refused listings image n e stop fails is = gives_at (λ (x : Outcome). x ≡ seq_outcome listings image n) stop (image_stop e) is (image_by (λ (x : Outcome). x ≡ seq_outcome listings image n) e image fails (λ d at. sym (ap (λ (i : Result (List Segment) ImageErr). seq_outcome listings i n) at)))
+
+pub dis_image_refused : (image : Result (List Segment) ImageErr) (lo hi : ℕ) (e : ImageErr) (stop : Stop) → FailsImage e image → stop ≡ image_stop e → GivesOne (IsDisOutcome image lo hi) (Err stop)
+dis_image_refused image lo hi e stop fails is =
+    gives_at (IsDisOutcome image lo hi) stop (image_stop e) is
+    (image_by (IsDisOutcome image lo hi) e image fails (λ d at. subst (λ (i : Result (List Segment) ImageErr). IsDisOutcome i lo hi (refuses (Image d))) (sym at) refl))
+
+pub dis_comes : (image : Result (List Segment) ImageErr) (i : List Segment) (lo hi : ℕ) (text : List ℕ) → image ≡ Ok i → IsListed (flash_byte i) lo hi text → IsDisOutcome image lo hi (finishes true None (Some text))
+dis_comes image i lo hi text at listed = subst (λ (x : Result (List Segment) ImageErr). IsDisOutcome x lo hi (finishes true None (Some text))) (sym at) (text, listed, refl)
 
 -- what is wrong with a schedule, where its image is read
 schedule_by : (o : Outcome) (e : SchedErr) (read : Result Sched SchedErr) → Fails e read → ((d : SchedErr) → read ≡ Err d → o ≡ refuses (Schedule d)) → Gives o (Err (schedule_stop e))
@@ -60,7 +63,7 @@ run_at_schedule listings image i read memory d at is =
 
 pub run_schedule_refused : (listings : List Segment → Listing) (image : Result (List Segment) ImageErr) (i : List Segment) (read : Result Sched SchedErr) (memory : List ℕ) (e : SchedErr) (stop : Stop) → image ≡ Ok i → Fails e read → stop ≡ schedule_stop e
     → Gives (run_outcome listings image read memory) (Err stop)
-run_schedule_refused listings image i read memory e stop at fails is = gives_at _ stop (schedule_stop e) is (schedule_by _ e read fails (λ d. run_at_schedule listings image i read memory d at))
+run_schedule_refused listings image i read memory e stop at fails is = gives_at (λ (x : Outcome). x ≡ run_outcome listings image read memory) stop (schedule_stop e) is (schedule_by _ e read fails (λ d. run_at_schedule listings image i read memory d at))
 
 -- a plain schedule is refused for want of memory alone
 plain_by : (o : Outcome) (e : SchedErr) (n : ℕ) → Fails e (Ok (plain n)) → Gives o (Err (schedule_stop e))
@@ -69,7 +72,7 @@ plain_by o e n fails = absurd cc
 
 pub seq_schedule_refused : (listings : List Segment → Listing) (image : Result (List Segment) ImageErr) (n : ℕ) (e : SchedErr) (stop : Stop) → Fails e (Ok (plain n)) → stop ≡ schedule_stop e
     → Gives (seq_outcome listings image n) (Err stop)
-seq_schedule_refused listings image n e stop fails is = gives_at _ stop (schedule_stop e) is (plain_by _ e n fails)
+seq_schedule_refused listings image n e stop fails is = gives_at (λ (x : Outcome). x ≡ seq_outcome listings image n) stop (schedule_stop e) is (plain_by _ e n fails)
 
 -- a reset, where both are read
 run_with : (listings : List Segment → Listing) (image : Result (List Segment) ImageErr) (i : List Segment) (read : Result Sched SchedErr) (s : Sched) (memory : List ℕ) → image ≡ Ok i → read ≡ Ok s

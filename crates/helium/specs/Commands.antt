@@ -1,10 +1,11 @@
 -- What each command comes to, from the bytes of the files that it reads.
-use Rattle.std.specs.Prelude.{ℕ, List, [], Option, Some, None, Result, Ok, Err, get_or}
+use Rattle.std.specs.Prelude.{◌≡◌, ℕ, true, List, [], Option, Some, None, Result, Ok, Err, get_or}
 use Rattle.hm_base.specs.Image.{Segment, flash_byte}
 use Rattle.hm_base.specs.declared.errors.ImageErr.{ImageErr}
 use Rattle.hm_codes.specs.Listing.{Listing, IsListing}
 use Rattle.hm_elf.specs.ReadImage.{image_in}
 use Rattle.hm_handlers.specs.Runs.{shown_out}
+use Rattle.hm_listing.specs.Listings.{IsListed}
 use Rattle.hm_run.specs.Report.{report_text, memory_text}
 use Rattle.hm_run.specs.Timed.{Timed}
 use Rattle.hm_sched.specs.Schedule.{Sched, plain}
@@ -13,7 +14,7 @@ use Rattle.helium.specs.declared.work.Refusal.{Refusal}
 use Rattle.helium.specs.declared.work.Refusal.TheVariants.{Image, Schedule}
 use Rattle.helium.specs.Run.{is_halted, reset_refusal, schedule_in, short_report}
 use Rattle.helium.specs.Work.{Outcome, finishes, refuses}
-use Rattle.helium.specs.Words.{Form, run, seq}
+use Rattle.helium.specs.Words.{Form, run, seq, dis}
 
 -- a listing of the flash of each image
 pub record AreListings (listings : List Segment → Listing) : Type 0 where
@@ -42,7 +43,13 @@ abbrev pub seq_outcome : (List Segment → Listing) → Result (List Segment) Im
 seq_outcome listings (Err e) n = refuses (Image e)
 seq_outcome listings (Ok image) n = unless_refused (reset_refusal image) (told (shown_out (listings image) image (plain n)))
 
--- by the contents of the files that are read, in order
-abbrev pub outcome_of : (List Segment → Listing) → Form → List (List ℕ) → Outcome
-outcome_of listings (run image schedule memory) contents = run_outcome listings (image_in (get_or contents 0 [])) (schedule_in schedule (get_or contents 1 [])) memory
-outcome_of listings (seq image n) contents = seq_outcome listings (image_in (get_or contents 0 [])) n
+-- a listing of a range of an image's flash, which is printed
+abbrev pub IsDisOutcome : Result (List Segment) ImageErr → ℕ → ℕ → Outcome → Type 0
+IsDisOutcome (Err e) lo hi = λ o. o ≡ refuses (Image e)
+IsDisOutcome (Ok image) lo hi = λ o. (text : List ℕ) × IsListed (flash_byte image) lo hi text × (o ≡ finishes true None (Some text))
+
+-- what a form comes to, by the contents of the files that are read, in order
+abbrev pub ComesTo : (List Segment → Listing) → Form → List (List ℕ) → Outcome → Type 0
+ComesTo listings (run image schedule memory) contents = λ o. o ≡ run_outcome listings (image_in (get_or contents 0 [])) (schedule_in schedule (get_or contents 1 [])) memory
+ComesTo listings (seq image n) contents = λ o. o ≡ seq_outcome listings (image_in (get_or contents 0 [])) n
+ComesTo listings (dis image lo hi) contents = IsDisOutcome (image_in (get_or contents 0 [])) lo hi

@@ -3,7 +3,7 @@ use Rattle.std.specs.Prelude.{◌≡◌, ◌⊎◌, ℕ, List, [], ◌∷◌, �
 use Rattle.std.specs.FinMap.{get, insert}
 use Rattle.hm_base.specs.Image.{Segment}
 use Rattle.hm_codes.specs.Listing.{Listing}
-use Rattle.hm_host.specs.Host.{FileMap, HostState, Call, Stays, Becomes, Turns, KeepsOthers, AddsPrefix, Rose, longest}
+use Rattle.hm_host.specs.Host.{FileMap, HostState, Call, Made, Stays, Becomes, Turns, KeepsOthers, AddsPrefix, Rose, longest}
 use Rattle.hm_host.specs.declared.host.HostErr.{HostErr}
 use Rattle.hm_host.specs.declared.host.HostErr.TheVariants.{Failed, TooLarge, OutOfMemory}
 use Rattle.helium.specs.declared.status.Status.{Status}
@@ -12,8 +12,8 @@ use Rattle.helium.specs.declared.work.Refusal.{Refusal}
 use Rattle.helium.specs.declared.work.Refusal.TheVariants.{FileTooLarge}
 use Rattle.helium.specs.Work.{Outcome, finishes, refuses, refusal_text}
 use Rattle.helium.specs.Words.{Form, form_of, reads_of}
-use Rattle.helium.specs.Commands.{outcome_of}
-use Rattle.helium.specs.Calls.{read_calls, write_calls, print_calls, way_of, MakesCalls, MakesAll}
+use Rattle.helium.specs.Commands.{ComesTo}
+use Rattle.helium.specs.Calls.{Way, to_end, to_fault, to_memory, read_calls, write_calls, print_calls, way_of, MakesCalls, MakesAll}
 
 -- the number of a status
 abbrev pub code_of : Status → ℕ
@@ -75,23 +75,20 @@ reads_for None = []
 reads_for (Some form) = reads_of form
 
 -- In what follows, listings gives a listing of the flash of each image.
-abbrev pub effect_after : (List Segment → Listing) → Option Form → Reading → Effect
-effect_after listings None reading = usage_effect
-effect_after listings (Some form) (whole contents) = effect_for (outcome_of listings form contents)
-effect_after listings (Some form) too_large = effect_for (refuses FileTooLarge)
-effect_after listings (Some form) missing = no_effect
+-- the effect of a form, by what comes of its reads
+abbrev pub IsEffectAfter : (List Segment → Listing) → Option Form → Reading → Effect → Type 0
+IsEffectAfter listings None reading = λ e. e ≡ usage_effect
+IsEffectAfter listings (Some form) (whole contents) = λ e. (o : Outcome) × ComesTo listings form contents o × (e ≡ effect_for o)
+IsEffectAfter listings (Some form) too_large = λ e. e ≡ effect_for (refuses FileTooLarge)
+IsEffectAfter listings (Some form) missing = λ e. e ≡ no_effect
 
 -- what the program does
-abbrev pub effect : (List Segment → Listing) → List (List ℕ) → FileMap → Effect
-effect listings words F = effect_after listings (form_of words) (reading_of F (reads_for (form_of words)))
+abbrev pub IsEffect : (List Segment → Listing) → List (List ℕ) → FileMap → Effect → Type 0
+IsEffect listings words F = IsEffectAfter listings (form_of words) (reading_of F (reads_for (form_of words)))
 
 -- the calls that do an effect: the write of its file, and the print of its text
 abbrev pub calls_for : Effect → List Call
 calls_for effect = write_calls effect.file ++ print_calls effect.text
-
--- the calls on the host that the program makes where none fails
-abbrev pub host_calls : (List Segment → Listing) → List (List ℕ) → FileMap → List Call
-host_calls listings words F = read_calls F (reads_for (form_of words)) ++ calls_for (effect listings words F)
 
 -- the files after a write
 abbrev pub with_file : Option (List ℕ × List ℕ) → FileMap → FileMap
@@ -145,21 +142,45 @@ Carries effect old new Refused = IsDone effect old new Refused
 Carries effect old new HostFault = Rose old.faults new.faults × (IsCutBeforeText effect old new ⊎ IsCutInText effect old new)
 Carries effect old new NoMemory = IsOutOfMemory effect old new
 
+-- a call failed or memory ran out, and no file was touched and nothing was printed
+abbrev pub IsUntouched : HostState → HostState → Status → Type 0
+IsUntouched old new HostFault = Rose old.faults new.faults × Stays old.files new.files × Stays old.printed new.printed
+IsUntouched old new NoMemory = (new.faults ≡ old.faults) × Stays old.files new.files × Stays old.printed new.printed
+IsUntouched old new status = ⊥
+
+-- one of these effects is carried out; or what it is was not reached
+abbrev pub CarriesOne : (Effect → Type 0) → HostState → HostState → Status → Type 0
+CarriesOne Is old new status = ((e : Effect) × Is e × Carries e old new status) ⊎ IsUntouched old new status
+
 -- where no call failed and memory was there, the effect is done
-abbrev pub Completes : Effect → HostState → HostState → Status → Type 0
-Completes effect old new status = (status ≡ NoMemory) ⊎ IsDone effect old new status
+abbrev pub Completes : (Effect → Type 0) → HostState → HostState → Status → Type 0
+Completes Is old new status = (status ≡ NoMemory) ⊎ ((e : Effect) × Is e × IsDone e old new status)
+
+-- the reads were not made to their end, or memory ran out behind them
+abbrev pub CutsReads : List Call → Option (List Made) → Option (List Made) → Way → Type 0
+CutsReads reads old new to_end = ⊥
+CutsReads reads old new to_fault = MakesCalls reads old new to_fault
+CutsReads reads old new to_memory = MakesCalls reads old new to_memory
+
+-- of the reads, and the calls that do one of these effects, these were made, by how they went
+abbrev pub MakesCallsOfOne : List Call → (Effect → Type 0) → Option (List Made) → Option (List Made) → Way → Type 0
+MakesCallsOfOne reads Is old new way = ((e : Effect) × Is e × MakesCalls (reads ++ calls_for e) old new way) ⊎ CutsReads reads old new way
 
 -- no file was touched, or all these calls were made
 abbrev pub StaysOrMakesAll : List Call → HostState → HostState → Type 0
 StaysOrMakesAll calls old new = Stays old.files new.files ⊎ MakesAll calls old.calls new.calls
 
+-- no file was touched, or the reads and all calls that do one of these effects were made
+abbrev pub StaysOrMakesAllOfOne : List Call → (Effect → Type 0) → HostState → HostState → Type 0
+StaysOrMakesAllOfOne reads Is old new = Stays old.files new.files ⊎ ((e : Effect) × Is e × MakesAll (reads ++ calls_for e) old.calls new.calls)
+
 -- a form's effect is carried out, by what the reads gave: where the files are told, what they hold
 pub record Does (listings : List Segment → Listing) (form : Option Form) (old new : HostState) (status : Status) : Type 0 where
   pub reading : Reading
   pub told : (F : FileMap) → old.files ≡ Some F → reading ≡ reading_of F (reads_for form)
-  pub carries : Carries (effect_after listings form reading) old new status
-  pub makes : (F : FileMap) → old.files ≡ Some F → MakesCalls (read_calls F (reads_for form) ++ calls_for (effect_after listings form reading)) old.calls new.calls (way_of status)
-  pub spent : (F : FileMap) → old.files ≡ Some F → status ≡ NoMemory → StaysOrMakesAll (read_calls F (reads_for form) ++ calls_for (effect_after listings form reading)) old new
+  pub carries : CarriesOne (IsEffectAfter listings form reading) old new status
+  pub makes : (F : FileMap) → old.files ≡ Some F → MakesCallsOfOne (read_calls F (reads_for form)) (IsEffectAfter listings form reading) old.calls new.calls (way_of status)
+  pub spent : (F : FileMap) → old.files ≡ Some F → status ≡ NoMemory → StaysOrMakesAllOfOne (read_calls F (reads_for form)) (IsEffectAfter listings form reading) old new
 
 -- the status of a host's error
 abbrev pub failure_of : HostErr → Status

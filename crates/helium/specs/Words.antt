@@ -1,9 +1,11 @@
 -- The words of a command, by position.
-use Rattle.std.specs.Prelude.{◌≡◌, ◌≢◌, ℕ, ◌≤◌, List, [], ◌∷◌, Option, Some, None, nat_lt, if◌then◌else◌, option_map, option_and_then, codes, bytes_eq, take, drop, ◌++◌}
+use Rattle.std.specs.Prelude.{◌≡◌, ◌≢◌, ℕ, ◌≤◌, ◌%◌, ◌&&◌, Bool, List, [], ◌∷◌, Option, Some, None, nat_eq, nat_le, nat_lt, if◌then◌else◌, option_map, option_and_then, codes, bytes_eq, take, drop, ◌++◌}
 use Rattle.std.specs.Fmt.{decimal}
-use Rattle.hm_text_base.specs.Numbers.{number_in}
+use Rattle.hm_base.specs.Image.{flash_size}
+use Rattle.hm_text_base.specs.Numbers.{hex8_in, number_in}
+use Rattle.hm_text_base.specs.Texts.{hex8}
 use Rattle.helium.specs.declared.words.Command.{Command}
-use Rattle.helium.specs.declared.words.Command.TheVariants.{Run, Seq}
+use Rattle.helium.specs.declared.words.Command.TheVariants.{Run, Seq, Dis}
 use Rattle.helium.specs.declared.words.Source.{Source as HeldSource}
 use Rattle.helium.specs.declared.words.Source.TheVariants.{Plain, File}
 
@@ -28,10 +30,22 @@ pub data Source : Type 0 where
 abbrev pub source_of : List ℕ → Option Source
 source_of word = if bytes_eq (take 6 word) (codes "plain:") then option_map ticks (number_of (drop 6 word)) else Some (file word)
 
+-- a range of flash, from an even address to another
+abbrev pub is_range : ℕ → ℕ → Bool
+is_range lo hi = nat_eq (lo % 2) 0 && nat_eq (hi % 2) 0 && nat_le lo hi && nat_le hi flash_size
+
+abbrev pub range_of : ℕ → ℕ → Option (ℕ × ℕ)
+range_of lo hi = if is_range lo hi then Some (lo, hi) else None
+
+-- the range that two words give, each of eight hexadecimal digits
+abbrev pub range_in : List ℕ → List ℕ → Option (ℕ × ℕ)
+range_in lo hi = option_and_then (λ a. option_and_then (range_of a) (hex8_in hi)) (hex8_in lo)
+
 -- what the words ask for
 pub data Form : Type 0 where
   run : (image : List ℕ) (schedule : Source) (memory : List ℕ) → Form
   seq : (image : List ℕ) (count : ℕ) → Form
+  dis : (image : List ℕ) (lo hi : ℕ) → Form
 
 abbrev pub run_form : List (List ℕ) → Option Form
 run_form (image ∷ schedule ∷ memory ∷ []) = option_map (λ s. run image s memory) (source_of schedule)
@@ -41,10 +55,17 @@ abbrev pub seq_form : List (List ℕ) → Option Form
 seq_form (image ∷ count ∷ []) = option_map (seq image) (number_of count)
 seq_form _ = None
 
+abbrev pub dis_form : List (List ℕ) → Option Form
+dis_form (image ∷ lo ∷ hi ∷ []) = option_map (λ r. dis image r.0 r.1) (range_in lo hi)
+dis_form _ = None
+
 -- the command is named by the first word
 abbrev pub form_of : List (List ℕ) → Option Form
 form_of [] = None
-form_of (name ∷ words) = if bytes_eq name (codes "run") then run_form words else (if bytes_eq name (codes "seq") then seq_form words else None)
+form_of (name ∷ words) =
+    if bytes_eq name (codes "run") then run_form words else
+    (if bytes_eq name (codes "seq") then seq_form words else
+    (if bytes_eq name (codes "dis") then dis_form words else None))
 
 -- the source that the program holds
 abbrev pub source_meant : HeldSource → Source
@@ -55,12 +76,14 @@ source_meant (File name) = file name.now
 abbrev pub meant : Command → Form
 meant (Run image schedule memory) = run image.now (source_meant schedule) memory.now
 meant (Seq image n) = seq image.now n.count
+meant (Dis image r) = dis image.now r.lo r.hi
 
 -- the files to read, in order
 abbrev pub reads_of : Form → List (List ℕ)
 reads_of (run image (ticks n) memory) = image ∷ []
 reads_of (run image (file name) memory) = image ∷ name ∷ []
 reads_of (seq image n) = image ∷ []
+reads_of (dis image lo hi) = image ∷ []
 
 -- the word that stands for a source
 abbrev pub IsSource : List ℕ → Source → Type 0
@@ -77,3 +100,14 @@ pub record IsRun (words : List (List ℕ)) (image : List ℕ) (schedule : Source
 pub record IsSeq (words : List (List ℕ)) (image : List ℕ) (n : ℕ) : Type 0 where
   pub words_are : words ≡ codes "seq" ∷ image ∷ decimal n ∷ []
   pub few : n ≤ most
+
+-- addresses of a range of flash: both are even, in order, and in flash or at its end
+pub record IsRange (lo hi : ℕ) : Type 0 where
+  pub even : (lo % 2 ≡ 0) × (hi % 2 ≡ 0)
+  pub order : lo ≤ hi
+  pub within : hi ≤ flash_size
+
+-- words that ask for the listing of an image from lo up to hi
+pub record IsDis (words : List (List ℕ)) (image : List ℕ) (lo hi : ℕ) : Type 0 where
+  pub words_are : words ≡ codes "dis" ∷ image ∷ hex8 lo ∷ hex8 hi ∷ []
+  pub range : IsRange lo hi

@@ -65,11 +65,15 @@ output_pair o = (o.name.now, o.bytes.items)
 abbrev pub finish_of : Finish → Outcome
 finish_of f = finishes f.done (option_map output_pair f.file) (option_map (λ text. text.items) f.text)
 
+-- the answer is one of these outcomes, or want of memory
+abbrev pub GivesOne : (Outcome → Type 0) → Result Finish Stop → Type 0
+GivesOne Is (Ok finish) = Is (finish_of finish)
+GivesOne Is (Err (Refused why)) = Is (refuses why)
+GivesOne Is (Err NoMemory) = Unit {0}
+
 -- the answer is this outcome, or want of memory
 abbrev pub Gives : Outcome → Result Finish Stop → Type 0
-Gives outcome (Ok finish) = finish_of finish ≡ outcome
-Gives outcome (Err (Refused why)) = refuses why ≡ outcome
-Gives outcome (Err NoMemory) = Unit {0}
+Gives outcome answer = GivesOne (λ o. o ≡ outcome) answer
 
 -- all that is wrong with an image is refused, and want of memory is no refusal
 abbrev pub image_stop : ImageErr → Stop

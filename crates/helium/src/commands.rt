@@ -9,14 +9,16 @@ ghost use Rattle.hm_sched.specs.Schedule.{Sched, plain};
 ghost use Rattle.hm_sched.specs.ReadFile.{Gives as GivesSchedule};
 ghost use Rattle.hm_sched.specs.declared.errors.SchedErr.{SchedErr};
 ghost use Rattle.helium.specs.Words.{run, source_meant, meant, reads_of};
-ghost use Rattle.helium.specs.Work.{Gives};
-ghost use Rattle.helium.specs.Commands.{AreListings, run_outcome, seq_outcome, outcome_of};
+ghost use Rattle.helium.specs.Work.{Gives, GivesOne};
+ghost use Rattle.helium.specs.Commands.{AreListings, ComesTo, IsDisOutcome, run_outcome, seq_outcome};
 
 use crate::machine::{is_halted, run_to_end, short_report};
+use crate::ranges::Range;
 use crate::ticks::Ticks;
 use crate::words::{Command, Source};
 use crate::work::{Finish, Output, Stop};
 use hm_elf::read_image;
+use hm_listing::listing;
 use hm_sched::{SchedErr, Schedule, parse, plain};
 use std::alloc::Global;
 
@@ -61,7 +63,7 @@ fn run<'a>(
     requires each { length contents.now ≡ length (reads_of (run [] (source_meant schedule.now) [])) }
     requires short { All (λ bytes. length bytes.items ≤ longest) contents.now }
     ensures { (listings : List Segment → Listing) → AreListings listings
-        → Gives (outcome_of listings (run [] (source_meant schedule.now) memory.now) (map (λ bytes. bytes.items) contents.now)) result }
+        → GivesOne (ComesTo listings (run [] (source_meant schedule.now) memory.now) (map (λ bytes. bytes.items) contents.now)) result }
 {
     match schedule {
         Source::Plain(ticks) => {
@@ -90,6 +92,20 @@ fn seq<'a>(alloc: Global, image: &[u8], ticks: Ticks) -> Result<Finish<'a>, Stop
     })
 }
 
+/// Lists a range of an image's flash. The listing is to be printed.
+fn dis<'a>(alloc: Global, image: &[u8], range: Range) -> Result<Finish<'a>, Stop>
+    requires short { length image.now ≤ longest }
+    ensures { GivesOne (IsDisOutcome (image_in image.now) range.lo range.hi) result }
+{
+    let image = read_image(alloc, image)?;
+    let lines = listing(alloc, &image, range.lo, range.hi)?;
+    Ok(Finish {
+        done: true,
+        file: None,
+        text: Some(lines),
+    })
+}
+
 /// What a command comes to, from the contents of its files in order.
 pub fn perform<'a>(
     alloc: Global,
@@ -99,7 +115,7 @@ pub fn perform<'a>(
     requires each { length contents.now ≡ length (reads_of (meant command.now)) }
     requires short { All (λ bytes. length bytes.items ≤ longest) contents.now }
     ensures { (listings : List Segment → Listing) → AreListings listings
-        → Gives (outcome_of listings (meant command.now) (map (λ bytes. bytes.items) contents.now)) result }
+        → GivesOne (ComesTo listings (meant command.now) (map (λ bytes. bytes.items) contents.now)) result }
 {
     match command {
         Command::Run {
@@ -108,5 +124,6 @@ pub fn perform<'a>(
             ..
         } => run(alloc, schedule, contents, memory),
         Command::Seq { ticks, .. } => seq(alloc, &contents[0], *ticks),
+        Command::Dis { range, .. } => dis(alloc, &contents[0], *range),
     }
 }

@@ -3,8 +3,10 @@
 ghost use Rattle.std.specs.Prelude.{◌≡◌, ◌↔◌, ℕ, List, Some};
 ghost use Rattle.hm_base.specs.Image.{Segment};
 ghost use Rattle.hm_codes.specs.Listing.{Listing};
+ghost use Rattle.hm_host.specs.Host.{FileMap};
 ghost use Rattle.helium.specs.Commands.{AreListings};
-ghost use Rattle.helium.specs.Words.{Source, run, seq, form_of, IsRun, IsSeq};
+ghost use Rattle.helium.specs.Effect.{Effect, IsEffect};
+ghost use Rattle.helium.specs.Words.{Source, run, seq, dis, form_of, IsRun, IsSeq, IsDis};
 
 /// The flash of each image has a listing.
 ///
@@ -13,10 +15,18 @@ pub fn listings_exist()
     ensures { (listings : List Segment → Listing) × AreListings listings }
 {}
 
-/// Words are read as a run, or as instructions in order, exactly where they are such.
+/// Words are read as a run, as instructions in order, or as a listing, exactly where they are such.
 ///
 /// It does nothing; its clauses are theorems about words.
 pub fn words_of_commands()
     ensures runs { (words : List (List ℕ)) (image memory : List ℕ) (schedule : Source) → (form_of words ≡ Some (run image schedule memory)) ↔ IsRun words image schedule memory }
     ensures seqs { (words : List (List ℕ)) (image : List ℕ) (n : ℕ) → (form_of words ≡ Some (seq image n)) ↔ IsSeq words image n }
+    ensures listings { (words : List (List ℕ)) (image : List ℕ) (lo hi : ℕ) → (form_of words ≡ Some (dis image lo hi)) ↔ IsDis words image lo hi }
+{}
+
+/// Words have at most one effect over the same files.
+///
+/// It does nothing; its clause is a theorem about the definitions.
+pub fn effect_law()
+    ensures one { (listings : List Segment → Listing) (words : List (List ℕ)) (F : FileMap) (d e : Effect) → IsEffect listings words F d → IsEffect listings words F e → d ≡ e }
 {}

@@ -5,6 +5,7 @@ mod commands;
 mod laws;
 mod machine;
 mod outside;
+mod ranges;
 mod status;
 mod ticks;
 mod top;

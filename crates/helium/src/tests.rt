@@ -249,7 +249,7 @@ fn refuses_elf_files(rt: HostRuntime) -> Result<(), Fail> {
 #[test]
 fn says_how_it_is_used(rt: HostRuntime) -> Result<(), Fail> {
     let alloc = rt.alloc();
-    let rows: [&[&str]; 13] = [
+    let rows: [&[&str]; 20] = [
         &[],
         &["run", "a"],
         &["run", "a", "plain:1", "b", "c"],
@@ -263,6 +263,13 @@ fn says_how_it_is_used(rt: HostRuntime) -> Result<(), Fail> {
         &["seq", "a", "01"],
         &["seq", "a", "plain:1"],
         &["seq", "a", "16777217"],
+        &["dis", "a", "00000008"],
+        &["dis", "a", "00000008", "0000000e", "b"],
+        &["dis", "a", "0000000e", "00000008"],
+        &["dis", "a", "00000009", "0000000e"],
+        &["dis", "a", "00000008", "0000000f"],
+        &["dis", "a", "00000000", "00100002"],
+        &["dis", "a", "8", "0000000e"],
     ];
     for row in rows {
         let mut outside = host(alloc, FIRST, b"", &[0])?;
@@ -506,24 +513,54 @@ fn runs_in_order(rt: HostRuntime) -> Result<(), Fail> {
 }
 
 #[test]
+fn listing_of_first_image(rt: HostRuntime) -> Result<(), Fail> {
+    let alloc = rt.alloc();
+    let lines = b"00000008 2005 movs r0,#5\n0000000a 1cc0 adds r0,r0,#3\n0000000c be01 bkpt #1\n";
+    let elf = first_elf(alloc)?;
+    let rows: [(&[u8], &str, Status, &[u8]); 4] = [
+        (FIRST, "00000008", Status::Done, lines),
+        (&elf, "00000008", Status::Done, lines),
+        (FIRST, "0000000e", Status::Done, b""),
+        (
+            b"\x00",
+            "00000008",
+            Status::Refused,
+            b"helium: refused image short\n",
+        ),
+    ];
+    for (image, lo, status, text) in rows {
+        let mut outside = host(alloc, image, b"", &[])?;
+        assert_eq!(rt;
+            obey(alloc, &["dis", "a", lo, "0000000e"], &mut outside)?,
+            status
+        );
+        assert_eq!(rt; outside.printed(), text);
+        assert_eq!(rt; outside.calls(), Some(2));
+    }
+    Ok(())
+}
+
+#[test]
 fn fails_with_its_host(rt: HostRuntime) -> Result<(), Fail> {
     let alloc = rt.alloc();
-    let rows: [(&[&str], u64, bool); 3] = [
-        (&["run", "a", "s", "b"], 4, true),
-        (&["run", "a", "plain:1", "b"], 3, true),
-        (&["seq", "a", "1"], 2, false),
+    let rows: [(&[&str], u64, bool, Status); 4] = [
+        (&["run", "a", "s", "b"], 4, true, Status::Ended),
+        (&["run", "a", "plain:1", "b"], 3, true, Status::Ended),
+        (&["seq", "a", "1"], 2, false, Status::Ended),
+        (
+            &["dis", "a", "00000008", "0000000e"],
+            2,
+            false,
+            Status::Done,
+        ),
     ];
-    for (texts, calls, writes) in rows {
+    for (texts, calls, writes, ends) in rows {
         for call in 0..calls + 1 {
             let mut outside = host(alloc, FIRST, HEAD, &[call])?;
             let status = obey(alloc, texts, &mut outside)?;
             // A call past the last does not come to fail.
             let fails = call < calls;
-            let expected = if fails {
-                Status::HostFault
-            } else {
-                Status::Ended
-            };
+            let expected = if fails { Status::HostFault } else { ends };
             assert_eq!(rt; status, expected);
             assert_eq!(rt; outside.printed().is_empty(), fails);
             let made = if fails { call + 1 } else { calls };

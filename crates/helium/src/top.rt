@@ -1,6 +1,6 @@
 //! The top call: words, reads, the command, the written file, the print.
 
-ghost use Rattle.std.specs.Prelude.{◌≡◌, ◌<◌, ◌+◌, ◌++◌, ◌^◌, List, Some, None, map, option_map, string_bytes, IfOk};
+ghost use Rattle.std.specs.Prelude.{◌≡◌, ◌<◌, ◌+◌, ◌++◌, ◌^◌, List, Some, None, Err, map, option_map, string_bytes, IfOk};
 ghost use Rattle.hm_base.specs.Image.{Segment};
 ghost use Rattle.hm_codes.specs.Listing.{Listing};
 ghost use Rattle.helium.specs.Commands.{AreListings};
@@ -8,8 +8,8 @@ ghost use Rattle.helium.specs.Headline.{RunsInOrder, RunsToHeadline};
 ghost use Rattle.hm_host.specs.Host.{FileMap, Rose, Stays};
 ghost use Rattle.helium.specs.Words.{form_of, meant};
 ghost use Rattle.helium.specs.Work.{Outcome, Gives, output_pair, refuses};
-ghost use Rattle.helium.specs.Effect.{Carries, Completes, Does, IsComplete, StaysOrMakesAll, calls_for, effect, effect_for, host_calls, usage_effect, usage_line, refused_line, failure_of};
-ghost use Rattle.helium.specs.Calls.{MakesCalls, print_calls, way_of, write_calls};
+ghost use Rattle.helium.specs.Effect.{Carries, CarriesOne, Completes, Does, IsComplete, IsEffect, MakesCallsOfOne, StaysOrMakesAll, StaysOrMakesAllOfOne, calls_for, effect_for, reads_for, usage_effect, usage_line, refused_line, failure_of};
+ghost use Rattle.helium.specs.Calls.{MakesCalls, print_calls, read_calls, way_of, write_calls};
 
 use crate::commands::perform;
 use crate::outside::{print_text, read_all, write_file};
@@ -96,6 +96,7 @@ fn conclude<H: Host>(alloc: Global, outcome: Result<Finish<'_>, Stop>, host: &mu
     ensures effect { (o : Outcome) → Gives o outcome.entry → Carries (effect_for o) (H.state host.old) (H.state host.new) result }
     ensures calls { (o : Outcome) → Gives o outcome.entry → MakesCalls (calls_for (effect_for o)) (H.state host.old).calls (H.state host.new).calls (way_of result) }
     ensures spent { (o : Outcome) → Gives o outcome.entry → result ≡ Status.NoMemory → StaysOrMakesAll (calls_for (effect_for o)) (H.state host.old) (H.state host.new) }
+    ensures wanted { outcome.entry ≡ Err Stop.NoMemory → (result ≡ Status.NoMemory) × (H.state host.new ≡ H.state host.old) }
 {
     match outcome {
         Ok(finish) => {
@@ -135,17 +136,17 @@ fn obey<H: Host>(alloc: Global, command: &Command<'_>, host: &mut H) -> Status
 pub fn helium<H: Host>(alloc: Global, words: &[String], host: &mut H) -> Status
     // Where the host tells its files, the words' effect is carried out.
     ensures effect { (listings : List Segment → Listing) → AreListings listings → (F : FileMap) → (H.state host.old).files ≡ Some F
-        → Carries (effect listings (map string_bytes words.now) F) (H.state host.old) (H.state host.new) result }
+        → CarriesOne (IsEffect listings (map string_bytes words.now) F) (H.state host.old) (H.state host.new) result }
     // Where no call failed, the effect is done, unless memory was wanted.
     ensures complete { (listings : List Segment → Listing) → AreListings listings → (F : FileMap) → (H.state host.old).files ≡ Some F
         → (H.state host.new).faults ≡ (H.state host.old).faults → (H.state host.new).faults + 1 < 2 ^ 64
-        → Completes (effect listings (map string_bytes words.now) F) (H.state host.old) (H.state host.new) result }
+        → Completes (IsEffect listings (map string_bytes words.now) F) (H.state host.old) (H.state host.new) result }
     // Where the host tells its calls, those that the program made are the ones that the words ask for: all of them, or up to the first that failed.
     ensures calls { (listings : List Segment → Listing) → AreListings listings → (F : FileMap) → (H.state host.old).files ≡ Some F
-        → MakesCalls (host_calls listings (map string_bytes words.now) F) (H.state host.old).calls (H.state host.new).calls (way_of result) }
+        → MakesCallsOfOne (read_calls F (reads_for (form_of (map string_bytes words.now)))) (IsEffect listings (map string_bytes words.now) F) (H.state host.old).calls (H.state host.new).calls (way_of result) }
     // Where memory was wanted, no file was touched or all calls were made: no file is written before all texts are there.
     ensures spent { (listings : List Segment → Listing) → AreListings listings → (F : FileMap) → (H.state host.old).files ≡ Some F → result ≡ Status.NoMemory
-        → StaysOrMakesAll (host_calls listings (map string_bytes words.now) F) (H.state host.old) (H.state host.new) }
+        → StaysOrMakesAllOfOne (read_calls F (reads_for (form_of (map string_bytes words.now)))) (IsEffect listings (map string_bytes words.now) F) (H.state host.old) (H.state host.new) }
     // Of a run that is reported the headline and its riders hold.
     ensures headline { RunsToHeadline (map string_bytes words.now) (H.state host.old) (H.state host.new) result }
     // What `seq` shows is what so many instructions in order come to.

@@ -1,10 +1,12 @@
 //! The words of a command, by position.
 
 ghost use Rattle.std.specs.Prelude.{◌≡◌, ℕ, List, [], ◌∷◌, option_map, map, string_bytes, IfOk};
-ghost use Rattle.helium.specs.Words.{number_of, source_of, source_meant, run, run_form, seq_form, form_of, meant, reads_of};
+ghost use Rattle.helium.specs.Words.{number_of, range_in, range_of, source_of, source_meant, run, run_form, seq_form, dis_form, form_of, meant, reads_of};
 
+use crate::ranges::Range;
 use crate::ticks::Ticks;
-use hm_text_base::read_number;
+use hm_base::FLASH_SIZE;
+use hm_text_base::{read_hex8, read_number};
 use std::alloc::{AllocError, Global};
 
 /// The largest number that a word may give.
@@ -32,6 +34,11 @@ pub enum Command<'a> {
     Seq {
         image: &'a str,
         ticks: Ticks,
+    },
+    /// To print the listing of a range of an image.
+    Dis {
+        image: &'a str,
+        range: Range,
     },
 }
 
@@ -87,16 +94,54 @@ fn seq_command<'a>(words: &'a [String]) -> Option<Command<'a>>
     }
 }
 
+/// A range of flash.
+fn make_range(lo: u32, hi: u32) -> Option<Range>
+    ensures { option_map (λ range. (range.lo, range.hi)) result ≡ range_of lo hi }
+{
+    if lo % 2 == 0 && hi % 2 == 0 && lo <= hi && hi <= FLASH_SIZE {
+        Some(Range { lo, hi })
+    } else {
+        None
+    }
+}
+
+/// The range of flash that two words give, each of eight hexadecimal digits.
+fn read_range(lo: &[u8], hi: &[u8]) -> Option<Range>
+    ensures { option_map (λ range. (range.lo, range.hi)) result ≡ range_in lo.now hi.now }
+{
+    let lo = read_hex8(lo)?;
+    let hi = read_hex8(hi)?;
+    make_range(lo, hi)
+}
+
+fn dis_command<'a>(words: &'a [String]) -> Option<Command<'a>>
+    ensures { option_map meant result ≡ dis_form (map string_bytes words.now) }
+{
+    match words {
+        [image, lo, hi] => {
+            let range = read_range(lo.as_bytes(), hi.as_bytes())?;
+            Some(Command::Dis { image, range })
+        }
+        _ => None,
+    }
+}
+
 /// The command that the words give, which is named by the first.
 pub fn parse<'a>(words: &'a [String]) -> Option<Command<'a>>
     ensures { option_map meant result ≡ form_of (map string_bytes words.now) }
 {
     let (name, others) = words.split_first()?;
-    match name.as_bytes() {
-        b"run" => run_command(others),
-        b"seq" => seq_command(others),
-        _ => None,
+    let name = name.as_bytes();
+    if name == b"run".as_slice() {
+        return run_command(others);
     }
+    if name == b"seq".as_slice() {
+        return seq_command(others);
+    }
+    if name == b"dis".as_slice() {
+        return dis_command(others);
+    }
+    None
 }
 
 /// The files that a run reads, in order: its image, and the file of its schedule.
@@ -118,7 +163,8 @@ fn run_reads<'a>(
     }
 }
 
-fn seq_reads<'a>(alloc: Global, image: &'a str) -> Result<Vec<&'a str>, AllocError>
+/// The file that a command reads which reads its image alone.
+fn image_reads<'a>(alloc: Global, image: &'a str) -> Result<Vec<&'a str>, AllocError>
     ensures { IfOk result (λ names. map (λ name. name.now) names.items ≡ image.now ∷ []) }
 {
     let mut names = Vec::new(alloc);
@@ -137,7 +183,8 @@ impl<'a> Command<'a> {
                 schedule,
                 ..
             } => run_reads(alloc, image, schedule),
-            Command::Seq { image, .. } => seq_reads(alloc, image),
+            Command::Seq { image, .. } => image_reads(alloc, image),
+            Command::Dis { image, .. } => image_reads(alloc, image),
         }
     }
 }

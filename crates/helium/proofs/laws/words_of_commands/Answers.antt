@@ -1,4 +1,4 @@
-use Rattle.helium.proofs.Decimals.{form_of-run, form_of-is_run, form_of-seq, form_of-is_seq}
+use Rattle.helium.proofs.Decimals.{form_of-run, form_of-is_run, form_of-seq, form_of-is_seq, form_of-dis, form_of-is_dis}
 use Rattle.helium.proofs.laws.words_of_commands.Goals as goal
 
 pub returns-clause-runs : goal.returns-clause-runs
@@ -6,3 +6,6 @@ returns-clause-runs c = λ words image memory schedule. (form_of-is_run words im
 
 pub returns-clause-seqs : goal.returns-clause-seqs
 returns-clause-seqs c = λ words image n. (form_of-is_seq words image n, form_of-seq words image n)
+
+pub returns-clause-listings : goal.returns-clause-listings
+returns-clause-listings c = λ words image lo hi. (form_of-is_dis words image lo hi, form_of-dis words image lo hi)

@@ -1,12 +1,26 @@
 use Rattle.std.proofs.Common.{Some, inl, map}
 use Rattle.std.specs.String.{string_bytes}
 use Rattle.helium.specs.declared.status.Status.TheVariants.{Usage}
-use Rattle.helium.specs.Effect.{usage_line}
+use Rattle.helium.specs.Effect.{IsEffect, usage_effect, usage_line}
 use Rattle.helium.proofs.Carrying.{stays_spent}
-use Rattle.helium.proofs.Ending.{Does-usage, Does-host_fault, Does-makes, Does-risen, Does-quiet, Does-spent}
+use Rattle.helium.proofs.Ending.{Does-carries, Does-usage, Does-host_fault, Does-makes, Does-risen, Does-quiet, Does-spent, completes, usage_is, usage_makes}
 use Rattle.helium.proofs.Headlines.{headline_of, headline_of_none, order_of, order_of_none}
 use Rattle.helium.proofs.Listed.{some_listings}
 use Rattle.helium.proofs.top.helium.Goals as goal
+
+pub returns-in-Some-clause-effect : goal.returns-in-Some-clause-effect
+returns-in-Some-clause-effect g c = λ listings are F told. Does-carries listings _ (map string_bytes c.args.words.now) _ _ _ F (c.obey.ensures.effect listings are) c.in-Some.ensures told
+
+pub returns-in-None-clause-effect : goal.returns-in-None-clause-effect
+returns-in-None-clause-effect g c = λ listings are F told. inl (usage_effect, usage_is listings (map string_bytes c.args.words.now) F c.in-None.ensures, c.say_usage.ensures.effect)
+
+pub returns-in-Some-clause-complete : goal.returns-in-Some-clause-complete
+returns-in-Some-clause-complete g c = λ listings are F told same last.
+    completes (IsEffect listings (map string_bytes c.args.words.now) F) _ _ _ (Does-carries listings _ (map string_bytes c.args.words.now) _ _ _ F (c.obey.ensures.effect listings are) c.in-Some.ensures told) same last
+
+pub returns-in-None-clause-complete : goal.returns-in-None-clause-complete
+returns-in-None-clause-complete g c = λ listings are F told same last.
+    completes (IsEffect listings (map string_bytes c.args.words.now) F) _ _ _ (inl (usage_effect, usage_is listings (map string_bytes c.args.words.now) F c.in-None.ensures, c.say_usage.ensures.effect)) same last
 
 pub returns-in-Some-clause-headline : goal.returns-in-Some-clause-headline
 returns-in-Some-clause-headline g c = headline_of _ _ _ _ _ c.in-Some.ensures c.obey.ensures.effect
@@ -22,6 +36,9 @@ returns-in-None-clause-order g c = order_of_none _ _ _ _ c.in-None.ensures
 
 pub returns-in-Some-clause-calls : goal.returns-in-Some-clause-calls
 returns-in-Some-clause-calls g c = λ listings are F told. Does-makes listings _ (map string_bytes c.args.words.now) _ _ _ F (c.obey.ensures.effect listings are) c.in-Some.ensures told
+
+pub returns-in-None-clause-calls : goal.returns-in-None-clause-calls
+returns-in-None-clause-calls g c = λ listings are F told. usage_makes listings (map string_bytes c.args.words.now) (g.H.Host.state c.args.host.now) (g.H.Host.state c.say_usage.new.host) c.say_usage.result F c.in-None.ensures c.say_usage.ensures.calls
 
 pub returns-in-Some-clause-spent : goal.returns-in-Some-clause-spent
 returns-in-Some-clause-spent g c = λ listings are F told. Does-spent listings _ (map string_bytes c.args.words.now) _ _ _ F (c.obey.ensures.effect listings are) c.in-Some.ensures told

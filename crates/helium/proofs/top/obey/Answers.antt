@@ -53,7 +53,7 @@ returns-in-Ok-read_all g c = record {
       let h = c.in-Ok-read_all.ensures in
       let names : map (λ n. n.now) c.deref.result.now ≡ reads_of (meant c.args.command.now) = ap (map (λ n. n.now)) c.deref.ensures.value ∙ c.in-Ok.ensures in
       let given = rw c.deref-in-Ok-read_all.ensures.value at c.perform.ensures listings are in
-      Does-ok _ _ _ _ _ _ _ (λ F is. ap (reading_of F) (sym names) ∙ h.answer F is) h.files h.printed h.count
+      Does-ok _ _ _ _ _ _ _ _ given (λ F is. ap (reading_of F) (sym names) ∙ h.answer F is) h.files h.printed h.count
       (λ F is. subst (λ (n : List (List ℕ)). Becomes (with_calls (read_calls F n)) (g.H.Host.state c.args.host.now).calls (g.H.Host.state c.read_all.new.host).calls) names (h.calls F is))
-      (c.conclude.ensures.effect _ given) (c.conclude.ensures.calls _ given) (c.conclude.ensures.spent _ given);
+      c.conclude.ensures.effect c.conclude.ensures.calls c.conclude.ensures.spent c.conclude.ensures.wanted;
 }
