@@ -1,0 +1,24 @@
+@ An interrupt handler that counts in SRAM, beside a loop of vector code. The schedule's region is 20001000 to 20001004.
+.word 0x20010000, start+1
+.org 0x40
+.word count+1
+.org 0x80
+start: ldr r0,enable
+ movs r1,#1
+ str r1,[r0,#0]
+ movs r2,#4
+ movs r4,#0
+ vdup.32 q0,r1
+ dls lr,r2
+again: vaddva.u32 r4,q0
+ vadd.i32 q0,q0,r1
+ le lr,again
+ bkpt #0
+count: ldr r0,mark
+ ldr r1,[r0,#0]
+ adds r1,#1
+ str r1,[r0,#0]
+ bx lr
+.align 4
+enable: .word 0xe000e100
+mark: .word 0x20001000
