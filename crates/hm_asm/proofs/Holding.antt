@@ -8,7 +8,7 @@ use Rattle.std.proofs.lemmas.List.{get_or_append_left, get_or-append_right, leng
 use Rattle.std.proofs.lemmas.List.Elements.{All-nil, All-cons, All-head, All-tail, All-weaker}
 use Rattle.hm_base.specs.Image.{Segment, segment, Before, IsImage, IsPlaced, covers, given}
 use Rattle.hm_source.specs.Places.{HasRoom}
-use Rattle.hm_asm.specs.Segments.{Holds, joined, onto, with_piece}
+use Rattle.hm_asm.specs.Segments.{HasExactly, joined, onto, with_piece}
 use Rattle.hm_asm.proofs.Joined.{AreRising, joined_from, onto_apart, onto_next}
 use Rattle.hm_asm.proofs.Made.{room_placed}
 
@@ -83,7 +83,7 @@ each_given a (p ∷ ps) rising =
     behind q s =
         (omega (arith, s.0, rising.0), λ blank k l. rw (above p.addr (length p.bytes) (q.addr + k) (omega (arith, s.0))) (s.1 blank k l))
 
-pub holds : (a : ℕ) (ps : List Segment) → AreRising a ps → Holds (joined ps) ps
+pub holds : (a : ℕ) (ps : List Segment) → AreRising a ps → HasExactly (joined ps) ps
 holds a ps rising = record {
   each =
       All-weaker (Stands ps a) (λ p. (blank k : ℕ) → k < length p.bytes → given (joined ps) blank (p.addr + k) ≡ get_or p.bytes k 0)

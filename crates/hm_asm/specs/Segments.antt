@@ -18,6 +18,6 @@ joined [] = []
 joined (p ∷ ps) = with_piece p.addr p.bytes (joined ps)
 
 -- an image has each byte of the pieces at its address, and no byte where they have none
-pub record Holds (image : List Segment) (pieces : List Segment) : Type 0 where
+pub record HasExactly (image : List Segment) (pieces : List Segment) : Type 0 where
   pub each : All (λ p. (blank k : ℕ) → k < length p.bytes → given image blank (p.addr + k) ≡ slice_index p.bytes k) pieces
   pub nothing_else : (blank a : ℕ) → All (λ p. covers p a ≡ false) pieces → given image blank a ≡ blank

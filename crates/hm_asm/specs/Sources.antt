@@ -42,9 +42,9 @@ IsOutcome source (Ok image) = IsAssembled source image
 IsOutcome source (Err e) = IsRefusal source e
 
 -- what a function returned is the outcome, unless memory was wanted
-abbrev pub Meets : List ℕ → Result (List Segment) AsmErr → Type 0
-Meets source (Err refusals.OutOfMemory) = Unit {0}
-Meets source r = IsOutcome source r
+abbrev pub GivesOutcome : List ℕ → Result (List Segment) AsmErr → Type 0
+GivesOutcome source (Err refusals.OutOfMemory) = Unit {0}
+GivesOutcome source r = IsOutcome source r
 
 -- memory was wanted, or what was returned is this
 abbrev pub IsUnlessMemory : Result (List Segment) AsmErr → Result (List Segment) AsmErr → Type 0

@@ -2,7 +2,7 @@
 #![tactic(auto)]
 
 ghost use Rattle.std.specs.Prelude.{◌<◌, ◌^◌, List, length, Ok, Err, IfOk};
-ghost use Rattle.hm_asm.specs.Sources.{IsAssembled, IsRefusal, IsUnlessMemory, Meets};
+ghost use Rattle.hm_asm.specs.Sources.{IsAssembled, IsRefusal, IsUnlessMemory, GivesOutcome};
 ghost use Rattle.hm_asm.specs.declared.errors.AsmErr.{AsmErr};
 ghost use Rattle.hm_base.specs.Image.{Segment};
 
@@ -35,7 +35,7 @@ pub fn assemble(alloc: Global, source: &[u8]) -> Result<Image, AsmErr>
     // What the source says is given, unless memory was wanted.
     ensures only { (image : List Segment) → IsAssembled source.now image → IsUnlessMemory result (Ok image) }
     // A refusal is that of the first line that is refused.
-    ensures cause { Meets source.now result }
+    ensures cause { GivesOutcome source.now result }
     // A source with such a line is refused so, unless memory was wanted.
     ensures refused { (e : AsmErr) → IsRefusal source.now e → IsUnlessMemory result (Err e) }
 {

@@ -21,7 +21,7 @@ use std::alloc::Global;
 ///
 /// Each instruction has a line: its address, its halfwords and its text, with spaces between them. A halfword at which no instruction
 /// stands, or one whose code passes `hi`, has a line of its own with `.half 0xhhhh` for its text. It takes time that is linear in the
-/// range, and at most 50 MiB. It is refused only where memory was wanted.
+/// range, and 26 MiB at most beside the image. It is refused only where memory was wanted.
 pub fn listing(alloc: Global, image: &Image, lo: u32, hi: u32) -> Result<Vec<u8>, OutOfMemory>
     requires even { (lo % 2 ≡ 0) × (hi % 2 ≡ 0) }
     requires order { lo ≤ hi }
@@ -32,7 +32,8 @@ pub fn listing(alloc: Global, image: &Image, lo: u32, hi: u32) -> Result<Vec<u8>
 {
     // The listing reads flash alone: no handler stores.
     let m = Mem::new(alloc, image, SRAM_START, SRAM_START, SRAM_START)?;
-    let mut out = Vec::new(alloc);
+    // a line of one halfword has 48 bytes at most
+    let mut out = Vec::with_capacity(alloc, (hi - lo) as usize / 2 * 48)?;
     add_lines(&mut out, &m, lo, hi)?;
     Ok(out)
 }

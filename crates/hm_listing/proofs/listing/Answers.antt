@@ -7,4 +7,4 @@ pub returns-clause-own : goal.returns-clause-own
 returns-clause-own c = λ i stands is.
     let lines = c.in_ok-add_lines.ensures.added in
     let listed = subst (λ (flash : ℕ → ℕ). IsListed flash c.args.lo c.args.hi lines.0) c.in_ok-m.ensures.flash lines.1 in
-    lines.2 ∙ ap (λ (x : List ℕ). x ++ lines.0) c.new-out.ensures.items ∙ own_is _ _ _ i lines.0 stands is listed
+    lines.2 ∙ ap (λ (x : List ℕ). x ++ lines.0) c.in_ok-out.ensures.items ∙ own_is _ _ _ i lines.0 stands is listed

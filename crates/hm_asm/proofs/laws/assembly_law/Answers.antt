@@ -2,7 +2,7 @@ use Rattle.std.proofs.Common.{List, subst, sym}
 use Rattle.std.specs.FinMap.{get, empty}
 use Rattle.hm_base.specs.Image.{IsImage, Segment}
 use Rattle.hm_source.specs.Lines.{source_lines}
-use Rattle.hm_asm.specs.Segments.{Holds}
+use Rattle.hm_asm.specs.Segments.{HasExactly}
 use Rattle.hm_asm.proofs.Given.{given_rising, late_next}
 use Rattle.hm_asm.proofs.Holding.{holds, joined_image}
 use Rattle.hm_asm.proofs.Outcomes.{one_outcome}
@@ -17,7 +17,7 @@ returns-clause-image c =
 pub returns-clause-holds : goal.returns-clause-holds
 returns-clause-holds c =
     λ source image a.
-    subst (λ (x : List Segment). Holds x a.pieces) (sym a.image_is)
+    subst (λ (x : List Segment). HasExactly x a.pieces) (sym a.image_is)
     (holds 0 a.pieces (given_rising empty 0 (source_lines source) a.labels (get a.labels) a.pieces a.fine a.given))
 
 pub returns-clause-second : goal.returns-clause-second
