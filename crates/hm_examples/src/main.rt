@@ -1,7 +1,7 @@
 //! Assembles the shipped examples, runs each under its schedule, and prints what they come to.
 #![tactic(auto)]
 
-use anyhow::{Context, Result, ensure};
+use anyhow::{Context, Result, bail, ensure};
 use hm_asm::assemble;
 use hm_machine::Machine;
 use hm_sched::parse;
@@ -24,7 +24,10 @@ const COUNTED: Range<u32> = 0x2000_1000..0x2000_1004;
 /// Assembles a source, and runs its image to the end under a schedule.
 fn run(alloc: Global, source: &[u8], schedule: &[u8]) -> Result<Machine> {
     ensure!(source.len() <= LONGEST, "the source is too long");
-    let image = assemble(alloc, source)?;
+    let image = match assemble(alloc, source) {
+        Ok(image) => image,
+        Err(e) => bail!("{e}: {e:?}"),
+    };
     let schedule = parse(alloc, schedule)?;
     let mut machine = Machine::load(alloc, &image, schedule)?;
     let _outcome = machine.run();
