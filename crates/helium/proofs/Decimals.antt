@@ -11,7 +11,7 @@ use Rattle.hm_text_base.specs.Numbers.{hex8_in, number_in}
 use Rattle.hm_text_base.specs.Texts.{hex8}
 use Rattle.hm_text_base.proofs.NumberLaws.{hex8_found, hex8_again, number_found, number_again}
 use Rattle.hm_text_base.proofs.Steps.{and_then_some, guard_some, test_some, some_is}
-use Rattle.helium.specs.Words.{most, not_past, number_of, is_range, range_of, range_in, Source, ticks, file, source_of, Form, run, seq, dis, run_form, seq_form, dis_form, form_of, IsSource, IsRange, IsRun, IsSeq, IsDis}
+use Rattle.helium.specs.Words.{most, not_past, number_of, is_range, range_of, range_in, Source, ticks, file, source_of, Form, run, seq, dis, asm, run_form, seq_form, dis_form, asm_form, form_of, IsSource, IsRange, IsRun, IsSeq, IsDis, IsAsm}
 
 -- ---- numbers
 
@@ -167,6 +167,7 @@ abbrev command : Form → ℕ
 command (run image schedule memory) = 0
 command (seq image n) = 1
 command (dis image lo hi) = 2
+command (asm source out) = 3
 
 mapped : {A : Type 0} (f : A → Form) (o : Option A) (k : ℕ) (form : Form) → ((x : A) → command (f x) ≡ k) → option_map f o ≡ Some form → command form ≡ k
 mapped f None k form each h = cc
@@ -192,30 +193,46 @@ dis_is (x ∷ y ∷ []) form h = cc
 dis_is (x ∷ y ∷ z ∷ []) form h = mapped (λ r. dis x r.0 r.1) (range_in y z) 2 form (λ r. refl) h
 dis_is (x ∷ y ∷ z ∷ w ∷ words) form h = cc
 
+asm_is : (words : List (List ℕ)) (form : Form) → asm_form words ≡ Some form → command form ≡ 3
+asm_is [] form h = cc
+asm_is (x ∷ []) form h = cc
+asm_is (x ∷ y ∷ []) form h = let same : asm x y ≡ form = some_is (asm x y) form h in ap command (sym same)
+asm_is (x ∷ y ∷ z ∷ words) form h = cc
+
 -- the form of words behind a name, by the tests of the name
-abbrev chosen : Bool → Bool → Bool → List (List ℕ) → Option Form
-chosen b c d words = cond b (run_form words) (cond c (seq_form words) (cond d (dis_form words) None))
+abbrev chosen : Bool → Bool → Bool → Bool → List (List ℕ) → Option Form
+chosen b c d e words = cond b (run_form words) (cond c (seq_form words) (cond d (dis_form words) (cond e (asm_form words) None)))
 
 differ : (form : Form) (j k : ℕ) → command form ≡ j → command form ≡ k → nat_eq j k ≡ false → ⊥
 differ form j k a b apart = let same : j ≡ k = sym a ∙ b in grind (arith, nat_tests)
 
-chosen_run : (b c d : Bool) (words : List (List ℕ)) (form : Form) → chosen b c d words ≡ Some form → command form ≡ 0 → (b ≡ true) × (run_form words ≡ Some form)
-chosen_run true c d words form h k = (refl, h)
-chosen_run false true d words form h k = absurd (differ form 0 1 k (seq_is words form h) refl)
-chosen_run false false true words form h k = absurd (differ form 0 2 k (dis_is words form h) refl)
-chosen_run false false false words form h k = cc
+chosen_run : (b c d e : Bool) (words : List (List ℕ)) (form : Form) → chosen b c d e words ≡ Some form → command form ≡ 0 → (b ≡ true) × (run_form words ≡ Some form)
+chosen_run true c d e words form h k = (refl, h)
+chosen_run false true d e words form h k = absurd (differ form 0 1 k (seq_is words form h) refl)
+chosen_run false false true e words form h k = absurd (differ form 0 2 k (dis_is words form h) refl)
+chosen_run false false false true words form h k = absurd (differ form 0 3 k (asm_is words form h) refl)
+chosen_run false false false false words form h k = cc
 
-chosen_seq : (b c d : Bool) (words : List (List ℕ)) (form : Form) → chosen b c d words ≡ Some form → command form ≡ 1 → (c ≡ true) × (seq_form words ≡ Some form)
-chosen_seq true c d words form h k = absurd (differ form 1 0 k (run_is words form h) refl)
-chosen_seq false true d words form h k = (refl, h)
-chosen_seq false false true words form h k = absurd (differ form 1 2 k (dis_is words form h) refl)
-chosen_seq false false false words form h k = cc
+chosen_seq : (b c d e : Bool) (words : List (List ℕ)) (form : Form) → chosen b c d e words ≡ Some form → command form ≡ 1 → (c ≡ true) × (seq_form words ≡ Some form)
+chosen_seq true c d e words form h k = absurd (differ form 1 0 k (run_is words form h) refl)
+chosen_seq false true d e words form h k = (refl, h)
+chosen_seq false false true e words form h k = absurd (differ form 1 2 k (dis_is words form h) refl)
+chosen_seq false false false true words form h k = absurd (differ form 1 3 k (asm_is words form h) refl)
+chosen_seq false false false false words form h k = cc
 
-chosen_dis : (b c d : Bool) (words : List (List ℕ)) (form : Form) → chosen b c d words ≡ Some form → command form ≡ 2 → (d ≡ true) × (dis_form words ≡ Some form)
-chosen_dis true c d words form h k = absurd (differ form 2 0 k (run_is words form h) refl)
-chosen_dis false true d words form h k = absurd (differ form 2 1 k (seq_is words form h) refl)
-chosen_dis false false true words form h k = (refl, h)
-chosen_dis false false false words form h k = cc
+chosen_dis : (b c d e : Bool) (words : List (List ℕ)) (form : Form) → chosen b c d e words ≡ Some form → command form ≡ 2 → (d ≡ true) × (dis_form words ≡ Some form)
+chosen_dis true c d e words form h k = absurd (differ form 2 0 k (run_is words form h) refl)
+chosen_dis false true d e words form h k = absurd (differ form 2 1 k (seq_is words form h) refl)
+chosen_dis false false true e words form h k = (refl, h)
+chosen_dis false false false true words form h k = absurd (differ form 2 3 k (asm_is words form h) refl)
+chosen_dis false false false false words form h k = cc
+
+chosen_asm : (b c d e : Bool) (words : List (List ℕ)) (form : Form) → chosen b c d e words ≡ Some form → command form ≡ 3 → (e ≡ true) × (asm_form words ≡ Some form)
+chosen_asm true c d e words form h k = absurd (differ form 3 0 k (run_is words form h) refl)
+chosen_asm false true d e words form h k = absurd (differ form 3 1 k (seq_is words form h) refl)
+chosen_asm false false true e words form h k = absurd (differ form 3 2 k (dis_is words form h) refl)
+chosen_asm false false false true words form h k = (refl, h)
+chosen_asm false false false false words form h k = cc
 
 -- ---- all words
 
@@ -229,20 +246,38 @@ behind name text words others is same = ap (λ (n : List ℕ). n ∷ words) ((by
 pub form_of-is_run : (words : List (List ℕ)) (image : List ℕ) (schedule : Source) (memory : List ℕ) → form_of words ≡ Some (run image schedule memory) → IsRun words image schedule memory
 form_of-is_run [] image schedule memory h = cc
 form_of-is_run (name ∷ words) image schedule memory h =
-    let is = chosen_run (named name (codes "run")) (named name (codes "seq")) (named name (codes "dis")) words (run image schedule memory) h refl in
+    let is = chosen_run (named name (codes "run")) (named name (codes "seq")) (named name (codes "dis")) (named name (codes "asm")) words (run image schedule memory) h refl in
     let others = others_of_run words image schedule memory is.1 in
     record { word = others.word; words_are = behind name (codes "run") words _ is.0 others.words_are; source = others.source }
 
 pub form_of-is_seq : (words : List (List ℕ)) (image : List ℕ) (n : ℕ) → form_of words ≡ Some (seq image n) → IsSeq words image n
 form_of-is_seq [] image n h = cc
 form_of-is_seq (name ∷ words) image n h =
-    let is = chosen_seq (named name (codes "run")) (named name (codes "seq")) (named name (codes "dis")) words (seq image n) h refl in
+    let is = chosen_seq (named name (codes "run")) (named name (codes "seq")) (named name (codes "dis")) (named name (codes "asm")) words (seq image n) h refl in
     let others = others_of_seq words image n is.1 in
     record { words_are = behind name (codes "seq") words _ is.0 others.words_are; few = others.few }
 
 pub form_of-is_dis : (words : List (List ℕ)) (image : List ℕ) (lo hi : ℕ) → form_of words ≡ Some (dis image lo hi) → IsDis words image lo hi
 form_of-is_dis [] image lo hi h = cc
 form_of-is_dis (name ∷ words) image lo hi h =
-    let is = chosen_dis (named name (codes "run")) (named name (codes "seq")) (named name (codes "dis")) words (dis image lo hi) h refl in
+    let is = chosen_dis (named name (codes "run")) (named name (codes "seq")) (named name (codes "dis")) (named name (codes "asm")) words (dis image lo hi) h refl in
     let others = others_of_dis words image lo hi is.1 in
     record { words_are = behind name (codes "dis") words _ is.0 others.words_are; range = others.range }
+
+pub form_of-asm : (words : List (List ℕ)) (source out : List ℕ) → IsAsm words source out → form_of words ≡ Some (asm source out)
+form_of-asm words source out h = ap form_of h.words_are
+
+others_of_asm : (words : List (List ℕ)) (source out : List ℕ) → asm_form words ≡ Some (asm source out) → words ≡ source ∷ out ∷ []
+others_of_asm [] source out h = cc
+others_of_asm (x ∷ []) source out h = cc
+others_of_asm (x ∷ y ∷ []) source out h =
+    let first : x ≡ source = cc in
+    let second : y ≡ out = cc in
+    cc
+others_of_asm (x ∷ y ∷ z ∷ words) source out h = cc
+
+pub form_of-is_asm : (words : List (List ℕ)) (source out : List ℕ) → form_of words ≡ Some (asm source out) → IsAsm words source out
+form_of-is_asm [] source out h = cc
+form_of-is_asm (name ∷ words) source out h =
+    let is = chosen_asm (named name (codes "run")) (named name (codes "seq")) (named name (codes "dis")) (named name (codes "asm")) words (asm source out) h refl in
+    record { words_are = behind name (codes "asm") words _ is.0 (others_of_asm words source out is.1) }

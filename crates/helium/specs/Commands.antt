@@ -1,9 +1,13 @@
 -- What each command comes to, from the bytes of the files that it reads.
-use Rattle.std.specs.Prelude.{◌≡◌, ℕ, true, List, [], Option, Some, None, Result, Ok, Err, get_or}
+use Rattle.std.specs.Prelude.{◌≡◌, ℕ, true, List, [], Option, Some, None, Result, Ok, Err, get_or, length, nat_lt, if◌then◌else◌}
+use Rattle.hm_asm.specs.Sources.{IsOutcome}
+use Rattle.hm_asm.specs.declared.errors.AsmErr.{AsmErr}
 use Rattle.hm_base.specs.Image.{Segment, flash_byte}
 use Rattle.hm_base.specs.declared.errors.ImageErr.{ImageErr}
 use Rattle.hm_codes.specs.Listing.{Listing, IsListing}
+use Rattle.hm_base.specs.declared.errors.ImageErr.TheVariants.{TooMany}
 use Rattle.hm_elf.specs.ReadImage.{image_in}
+use Rattle.hm_elf.specs.WriteImage.{elf_file}
 use Rattle.hm_handlers.specs.Runs.{shown_out}
 use Rattle.hm_listing.specs.Listings.{IsListed}
 use Rattle.hm_run.specs.Report.{report_text, memory_text}
@@ -11,10 +15,10 @@ use Rattle.hm_run.specs.Timed.{Timed}
 use Rattle.hm_sched.specs.Schedule.{Sched, plain}
 use Rattle.hm_sched.specs.declared.errors.SchedErr.{SchedErr}
 use Rattle.helium.specs.declared.work.Refusal.{Refusal}
-use Rattle.helium.specs.declared.work.Refusal.TheVariants.{Image, Schedule}
+use Rattle.helium.specs.declared.work.Refusal.TheVariants.{Image, Schedule, Source}
 use Rattle.helium.specs.Run.{is_halted, reset_refusal, schedule_in, short_report}
 use Rattle.helium.specs.Work.{Outcome, finishes, refuses}
-use Rattle.helium.specs.Words.{Form, run, seq, dis}
+use Rattle.helium.specs.Words.{Form, run, seq, dis, asm}
 
 -- a listing of the flash of each image
 pub record AreListings (listings : List Segment → Listing) : Type 0 where
@@ -48,8 +52,17 @@ abbrev pub IsDisOutcome : Result (List Segment) ImageErr → ℕ → ℕ → Out
 IsDisOutcome (Err e) lo hi = λ o. o ≡ refuses (Image e)
 IsDisOutcome (Ok image) lo hi = λ o. (text : List ℕ) × IsListed (flash_byte image) lo hi text × (o ≡ finishes true None (Some text))
 
+-- an image that was assembled, as the file that is written of at most 64 segments; or the refusal of its source
+abbrev pub asm_outcome : Result (List Segment) AsmErr → List ℕ → Outcome
+asm_outcome (Err e) out = refuses (Source e)
+asm_outcome (Ok image) out = if nat_lt 64 (length image) then refuses (Image TooMany) else finishes true (Some (out, elf_file image)) None
+
+abbrev pub IsAsmOutcome : List ℕ → List ℕ → Outcome → Type 0
+IsAsmOutcome source out = λ o. (assembled : Result (List Segment) AsmErr) × IsOutcome source assembled × (o ≡ asm_outcome assembled out)
+
 -- what a form comes to, by the contents of the files that are read, in order
 abbrev pub ComesTo : (List Segment → Listing) → Form → List (List ℕ) → Outcome → Type 0
 ComesTo listings (run image schedule memory) contents = λ o. o ≡ run_outcome listings (image_in (get_or contents 0 [])) (schedule_in schedule (get_or contents 1 [])) memory
 ComesTo listings (seq image n) contents = λ o. o ≡ seq_outcome listings (image_in (get_or contents 0 [])) n
 ComesTo listings (dis image lo hi) contents = IsDisOutcome (image_in (get_or contents 0 [])) lo hi
+ComesTo listings (asm source out) contents = IsAsmOutcome (get_or contents 0 []) out

@@ -5,7 +5,7 @@ use Rattle.hm_base.specs.Image.{flash_size}
 use Rattle.hm_text_base.specs.Numbers.{hex8_in, number_in}
 use Rattle.hm_text_base.specs.Texts.{hex8}
 use Rattle.helium.specs.declared.words.Command.{Command}
-use Rattle.helium.specs.declared.words.Command.TheVariants.{Run, Seq, Dis}
+use Rattle.helium.specs.declared.words.Command.TheVariants.{Run, Seq, Dis, Asm}
 use Rattle.helium.specs.declared.words.Source.{Source as HeldSource}
 use Rattle.helium.specs.declared.words.Source.TheVariants.{Plain, File}
 
@@ -46,6 +46,7 @@ pub data Form : Type 0 where
   run : (image : List ℕ) (schedule : Source) (memory : List ℕ) → Form
   seq : (image : List ℕ) (count : ℕ) → Form
   dis : (image : List ℕ) (lo hi : ℕ) → Form
+  asm : (source out : List ℕ) → Form
 
 abbrev pub run_form : List (List ℕ) → Option Form
 run_form (image ∷ schedule ∷ memory ∷ []) = option_map (λ s. run image s memory) (source_of schedule)
@@ -59,13 +60,18 @@ abbrev pub dis_form : List (List ℕ) → Option Form
 dis_form (image ∷ lo ∷ hi ∷ []) = option_map (λ r. dis image r.0 r.1) (range_in lo hi)
 dis_form _ = None
 
+abbrev pub asm_form : List (List ℕ) → Option Form
+asm_form (source ∷ out ∷ []) = Some (asm source out)
+asm_form _ = None
+
 -- the command is named by the first word
 abbrev pub form_of : List (List ℕ) → Option Form
 form_of [] = None
 form_of (name ∷ words) =
     if bytes_eq name (codes "run") then run_form words else
     (if bytes_eq name (codes "seq") then seq_form words else
-    (if bytes_eq name (codes "dis") then dis_form words else None))
+    (if bytes_eq name (codes "dis") then dis_form words else
+    (if bytes_eq name (codes "asm") then asm_form words else None)))
 
 -- the source that the program holds
 abbrev pub source_meant : HeldSource → Source
@@ -77,6 +83,7 @@ abbrev pub meant : Command → Form
 meant (Run image schedule memory) = run image.now (source_meant schedule) memory.now
 meant (Seq image n) = seq image.now n.count
 meant (Dis image r) = dis image.now r.lo r.hi
+meant (Asm source out) = asm source.now out.now
 
 -- the files to read, in order
 abbrev pub reads_of : Form → List (List ℕ)
@@ -84,6 +91,7 @@ reads_of (run image (ticks n) memory) = image ∷ []
 reads_of (run image (file name) memory) = image ∷ name ∷ []
 reads_of (seq image n) = image ∷ []
 reads_of (dis image lo hi) = image ∷ []
+reads_of (asm source out) = source ∷ []
 
 -- the word that stands for a source
 abbrev pub IsSource : List ℕ → Source → Type 0
@@ -111,3 +119,7 @@ pub record IsRange (lo hi : ℕ) : Type 0 where
 pub record IsDis (words : List (List ℕ)) (image : List ℕ) (lo hi : ℕ) : Type 0 where
   pub words_are : words ≡ codes "dis" ∷ image ∷ hex8 lo ∷ hex8 hi ∷ []
   pub range : IsRange lo hi
+
+-- words that ask for a source to be assembled, with a file for its image
+pub record IsAsm (words : List (List ℕ)) (source out : List ℕ) : Type 0 where
+  pub words_are : words ≡ codes "asm" ∷ source ∷ out ∷ []

@@ -1,8 +1,12 @@
 -- What a command comes to, once its files are read.
 use Rattle.std.specs.Prelude.{◌≡◌, ℕ, Bool, List, ◌++◌, Option, Result, Ok, Err, option_map, codes}
 use Rattle.std.specs.Fmt.{decimal}
+use Rattle.hm_asm.specs.declared.errors.AsmErr.{AsmErr}
+use Rattle.hm_asm.specs.declared.errors.AsmErr.TheVariants as asm
 use Rattle.hm_base.specs.declared.errors.ImageErr.{ImageErr}
 use Rattle.hm_base.specs.declared.errors.ImageErr.TheVariants as image
+use Rattle.hm_line.specs.declared.errors.AsmKind.{AsmKind}
+use Rattle.hm_line.specs.declared.errors.AsmKind.TheVariants as row
 use Rattle.hm_sched.specs.declared.errors.LineKind.{LineKind}
 use Rattle.hm_sched.specs.declared.errors.LineKind.TheVariants as kind
 use Rattle.hm_sched.specs.declared.errors.SchedErr.{SchedErr}
@@ -11,7 +15,7 @@ use Rattle.hm_text_base.specs.Texts.{hex8}
 use Rattle.helium.specs.declared.work.Output.{Output}
 use Rattle.helium.specs.declared.work.Finish.{Finish}
 use Rattle.helium.specs.declared.work.Refusal.{Refusal}
-use Rattle.helium.specs.declared.work.Refusal.TheVariants.{FileTooLarge, Image, Schedule, Reset}
+use Rattle.helium.specs.declared.work.Refusal.TheVariants.{FileTooLarge, Image, Schedule, Source, Reset}
 use Rattle.helium.specs.declared.work.Stop.{Stop}
 use Rattle.helium.specs.declared.work.Stop.TheVariants.{Refused, NoMemory}
 
@@ -46,11 +50,26 @@ schedule_text (sched.Line k kind) out = out ++ codes "line " ++ decimal k ++ cod
 schedule_text (sched.TooManyTicks k) out = out ++ codes "too many ticks " ++ decimal k
 schedule_text sched.OutOfMemory out = out
 
+-- the word for what is bad in a line of a source
+abbrev pub asm_kind_text : AsmKind → List ℕ
+asm_kind_text row.Syntax = codes "syntax"
+asm_kind_text row.Row = codes "row"
+asm_kind_text row.Missing = codes "missing"
+asm_kind_text row.Double = codes "double"
+asm_kind_text row.Offset = codes "offset"
+asm_kind_text row.Place = codes "place"
+
+-- what is wrong with a source, after a text
+abbrev pub source_text : AsmErr → List ℕ → List ℕ
+source_text (asm.Line k c kind) out = out ++ codes "line " ++ decimal k ++ codes " column " ++ decimal c ++ codes " " ++ asm_kind_text kind
+source_text asm.OutOfMemory out = out
+
 -- what a refusal's line says, after a text
 abbrev pub refusal_text : Refusal → List ℕ → List ℕ
 refusal_text FileTooLarge out = out ++ codes "file too large"
 refusal_text (Image e) out = image_text e (out ++ codes "image ")
 refusal_text (Schedule e) out = schedule_text e (out ++ codes "schedule ")
+refusal_text (Source e) out = source_text e (out ++ codes "source ")
 refusal_text (Reset value) out = out ++ codes "image reset " ++ hex8 value
 
 -- what a command comes to: whether what was asked came about, the file to write and the text to print; or a refusal
@@ -79,3 +98,8 @@ Gives outcome answer = GivesOne (λ o. o ≡ outcome) answer
 abbrev pub image_stop : ImageErr → Stop
 image_stop image.OutOfMemory = NoMemory
 image_stop e = Refused (Image e)
+
+-- all that is wrong with a source is refused, and want of memory is no refusal
+abbrev pub source_stop : AsmErr → Stop
+source_stop asm.OutOfMemory = NoMemory
+source_stop e = Refused (Source e)

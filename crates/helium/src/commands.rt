@@ -10,14 +10,15 @@ ghost use Rattle.hm_sched.specs.ReadFile.{Gives as GivesSchedule};
 ghost use Rattle.hm_sched.specs.declared.errors.SchedErr.{SchedErr};
 ghost use Rattle.helium.specs.Words.{run, source_meant, meant, reads_of};
 ghost use Rattle.helium.specs.Work.{Gives, GivesOne};
-ghost use Rattle.helium.specs.Commands.{AreListings, ComesTo, IsDisOutcome, run_outcome, seq_outcome};
+ghost use Rattle.helium.specs.Commands.{AreListings, ComesTo, IsAsmOutcome, IsDisOutcome, run_outcome, seq_outcome};
 
 use crate::machine::{is_halted, run_to_end, short_report};
 use crate::ranges::Range;
 use crate::ticks::Ticks;
 use crate::words::{Command, Source};
 use crate::work::{Finish, Output, Stop};
-use hm_elf::read_image;
+use hm_asm::assemble;
+use hm_elf::{read_image, write_image};
 use hm_listing::listing;
 use hm_sched::{SchedErr, Schedule, parse, plain};
 use std::alloc::Global;
@@ -106,6 +107,20 @@ fn dis<'a>(alloc: Global, image: &[u8], range: Range) -> Result<Finish<'a>, Stop
     })
 }
 
+/// Assembles a source. Its image is to be written, as an ELF file.
+fn asm<'a>(alloc: Global, source: &[u8], out: &'a str) -> Result<Finish<'a>, Stop>
+    requires short { length source.now ≤ longest }
+    ensures { GivesOne (IsAsmOutcome source.now out.now) result }
+{
+    let image = assemble(alloc, source)?;
+    let bytes = write_image(alloc, &image)?;
+    Ok(Finish {
+        done: true,
+        file: Some(Output { name: out, bytes }),
+        text: None,
+    })
+}
+
 /// What a command comes to, from the contents of its files in order.
 pub fn perform<'a>(
     alloc: Global,
@@ -125,5 +140,6 @@ pub fn perform<'a>(
         } => run(alloc, schedule, contents, memory),
         Command::Seq { ticks, .. } => seq(alloc, &contents[0], *ticks),
         Command::Dis { range, .. } => dis(alloc, &contents[0], *range),
+        Command::Asm { out, .. } => asm(alloc, &contents[0], out),
     }
 }

@@ -6,7 +6,7 @@ ghost use Rattle.hm_codes.specs.Listing.{Listing};
 ghost use Rattle.hm_host.specs.Host.{FileMap};
 ghost use Rattle.helium.specs.Commands.{AreListings};
 ghost use Rattle.helium.specs.Effect.{Effect, IsEffect};
-ghost use Rattle.helium.specs.Words.{Source, run, seq, dis, form_of, IsRun, IsSeq, IsDis};
+ghost use Rattle.helium.specs.Words.{Source, run, seq, dis, asm, form_of, IsRun, IsSeq, IsDis, IsAsm};
 
 /// The flash of each image has a listing.
 ///
@@ -15,13 +15,14 @@ pub fn listings_exist()
     ensures { (listings : List Segment → Listing) × AreListings listings }
 {}
 
-/// Words are read as a run, as instructions in order, or as a listing, exactly where they are such.
+/// Words are read as a run, as instructions in order, as a listing, or as a source to be assembled, exactly where they are such.
 ///
 /// It does nothing; its clauses are theorems about words.
 pub fn words_of_commands()
     ensures runs { (words : List (List ℕ)) (image memory : List ℕ) (schedule : Source) → (form_of words ≡ Some (run image schedule memory)) ↔ IsRun words image schedule memory }
     ensures seqs { (words : List (List ℕ)) (image : List ℕ) (n : ℕ) → (form_of words ≡ Some (seq image n)) ↔ IsSeq words image n }
     ensures listings { (words : List (List ℕ)) (image : List ℕ) (lo hi : ℕ) → (form_of words ≡ Some (dis image lo hi)) ↔ IsDis words image lo hi }
+    ensures sources { (words : List (List ℕ)) (source out : List ℕ) → (form_of words ≡ Some (asm source out)) ↔ IsAsm words source out }
 {}
 
 /// Words have at most one effect over the same files.

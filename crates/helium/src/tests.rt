@@ -249,7 +249,7 @@ fn refuses_elf_files(rt: HostRuntime) -> Result<(), Fail> {
 #[test]
 fn says_how_it_is_used(rt: HostRuntime) -> Result<(), Fail> {
     let alloc = rt.alloc();
-    let rows: [&[&str]; 20] = [
+    let rows: [&[&str]; 22] = [
         &[],
         &["run", "a"],
         &["run", "a", "plain:1", "b", "c"],
@@ -270,6 +270,8 @@ fn says_how_it_is_used(rt: HostRuntime) -> Result<(), Fail> {
         &["dis", "a", "00000008", "0000000f"],
         &["dis", "a", "00000000", "00100002"],
         &["dis", "a", "8", "0000000e"],
+        &["asm", "a"],
+        &["asm", "a", "b", "c"],
     ];
     for row in rows {
         let mut outside = host(alloc, FIRST, b"", &[0])?;
@@ -570,6 +572,113 @@ fn fails_with_its_host(rt: HostRuntime) -> Result<(), Fail> {
             let whole = writes && call + 1 >= calls;
             assert_eq!(rt; size, if whole { Some(MEMORY_FILE) } else { None });
         }
+    }
+    Ok(())
+}
+
+/// The source of the first image.
+const FIRST_SOURCE: &[u8] = b".word 0x20010000,9\n movs r0,#5\n adds r0,r0,#3\n bkpt #1\n";
+
+#[test]
+fn assembles_and_runs(rt: HostRuntime) -> Result<(), Fail> {
+    let alloc = rt.alloc();
+    let mut outside = host(alloc, FIRST_SOURCE, b"", &[])?;
+    assert_eq!(rt;
+        obey(alloc, &["asm", "a", "b"], &mut outside)?,
+        Status::Done
+    );
+    assert!(rt; outside.printed().is_empty());
+    assert_eq!(rt; outside.calls(), Some(2));
+    let file = outside.file("b").ok_or("no file b")?;
+    let mut outside = host(alloc, file, b"", &[])?;
+    assert_eq!(rt; run(alloc, "plain:3", &mut outside)?, Status::Done);
+    assert_eq!(rt; outside.printed(), FIRST_REPORT);
+    Ok(())
+}
+
+/// A source of so many segments, and more behind it.
+fn segments(alloc: Global, count: u8, more: &[u8]) -> Result<Vec<u8>, Fail> {
+    let mut source = Vec::new(alloc);
+    for k in 0..count {
+        let lines = format!(in alloc; ".org {}\n.byte 1\n", 2 * k as u32)?;
+        source.extend_from_slice(lines.as_bytes())?;
+    }
+    source.extend_from_slice(more)?;
+    Ok(source)
+}
+
+#[test]
+fn refuses_sources(rt: HostRuntime) -> Result<(), Fail> {
+    let alloc = rt.alloc();
+    let many = segments(alloc, 65, b"")?;
+    // The source's refusal stands before that of its image.
+    let worse = segments(alloc, 65, b".org 132\n b nowhere\n")?;
+    let rows: [(&[u8], &[u8]); 8] = [
+        (
+            b" movs r0,#256\n",
+            b"helium: refused source line 1 column 2 row\n",
+        ),
+        (
+            b" b nowhere\n",
+            b"helium: refused source line 1 column 4 missing\n",
+        ),
+        (
+            b"a:\na:\n",
+            b"helium: refused source line 2 column 1 double\n",
+        ),
+        (
+            b"nop\n .org 0",
+            b"helium: refused source line 2 column 2 place\n",
+        ),
+        (
+            b"nop\r\n",
+            b"helium: refused source line 1 column 4 syntax\n",
+        ),
+        (
+            b"l: b 0x1000",
+            b"helium: refused source line 1 column 6 offset\n",
+        ),
+        (&many, b"helium: refused image too many\n"),
+        (
+            &worse,
+            b"helium: refused source line 132 column 4 missing\n",
+        ),
+    ];
+    for (source, line) in rows {
+        let mut outside = host(alloc, source, b"", &[])?;
+        assert_eq!(rt;
+            obey(alloc, &["asm", "a", "b"], &mut outside)?,
+            Status::Refused
+        );
+        assert_eq!(rt; outside.printed(), line);
+        assert!(rt; outside.file("b").is_none());
+    }
+    let most = segments(alloc, 64, b"")?;
+    let mut outside = host(alloc, &most, b"", &[])?;
+    assert_eq!(rt;
+        obey(alloc, &["asm", "a", "b"], &mut outside)?,
+        Status::Done
+    );
+    Ok(())
+}
+
+#[test]
+fn assembling_fails_with_its_host(rt: HostRuntime) -> Result<(), Fail> {
+    let alloc = rt.alloc();
+    for call in 0..3_u64 {
+        let mut outside = host(alloc, FIRST_SOURCE, b"", &[call])?;
+        let status = obey(alloc, &["asm", "a", "b"], &mut outside)?;
+        // The third call does not come to fail.
+        let fails = call < 2;
+        let expected = if fails {
+            Status::HostFault
+        } else {
+            Status::Done
+        };
+        assert_eq!(rt; status, expected);
+        assert!(rt; outside.printed().is_empty());
+        assert_eq!(rt; outside.calls(), Some(if call == 0 { 1 } else { 2 }));
+        assert_eq!(rt; outside.file("b").is_some(), !fails);
     }
     Ok(())
 }

@@ -1,7 +1,7 @@
 //! The words of a command, by position.
 
 ghost use Rattle.std.specs.Prelude.{◌≡◌, ℕ, List, [], ◌∷◌, option_map, map, string_bytes, IfOk};
-ghost use Rattle.helium.specs.Words.{number_of, range_in, range_of, source_of, source_meant, run, run_form, seq_form, dis_form, form_of, meant, reads_of};
+ghost use Rattle.helium.specs.Words.{number_of, range_in, range_of, source_of, source_meant, run, run_form, seq_form, dis_form, asm_form, form_of, meant, reads_of};
 
 use crate::ranges::Range;
 use crate::ticks::Ticks;
@@ -39,6 +39,11 @@ pub enum Command<'a> {
     Dis {
         image: &'a str,
         range: Range,
+    },
+    /// To assemble a source, and to write its image to a file.
+    Asm {
+        source: &'a str,
+        out: &'a str,
     },
 }
 
@@ -126,6 +131,15 @@ fn dis_command<'a>(words: &'a [String]) -> Option<Command<'a>>
     }
 }
 
+fn asm_command<'a>(words: &'a [String]) -> Option<Command<'a>>
+    ensures { option_map meant result ≡ asm_form (map string_bytes words.now) }
+{
+    match words {
+        [source, out] => Some(Command::Asm { source, out }),
+        _ => None,
+    }
+}
+
 /// The command that the words give, which is named by the first.
 pub fn parse<'a>(words: &'a [String]) -> Option<Command<'a>>
     ensures { option_map meant result ≡ form_of (map string_bytes words.now) }
@@ -140,6 +154,9 @@ pub fn parse<'a>(words: &'a [String]) -> Option<Command<'a>>
     }
     if name == b"dis".as_slice() {
         return dis_command(others);
+    }
+    if name == b"asm".as_slice() {
+        return asm_command(others);
     }
     None
 }
@@ -163,12 +180,12 @@ fn run_reads<'a>(
     }
 }
 
-/// The file that a command reads which reads its image alone.
-fn image_reads<'a>(alloc: Global, image: &'a str) -> Result<Vec<&'a str>, AllocError>
-    ensures { IfOk result (λ names. map (λ name. name.now) names.items ≡ image.now ∷ []) }
+/// The file that a command reads which reads one alone.
+fn one_read<'a>(alloc: Global, name: &'a str) -> Result<Vec<&'a str>, AllocError>
+    ensures { IfOk result (λ names. map (λ name. name.now) names.items ≡ name.now ∷ []) }
 {
     let mut names = Vec::new(alloc);
-    names.push(image)?;
+    names.push(name)?;
     Ok(names)
 }
 
@@ -183,8 +200,9 @@ impl<'a> Command<'a> {
                 schedule,
                 ..
             } => run_reads(alloc, image, schedule),
-            Command::Seq { image, .. } => image_reads(alloc, image),
-            Command::Dis { image, .. } => image_reads(alloc, image),
+            Command::Seq { image, .. } => one_read(alloc, image),
+            Command::Dis { image, .. } => one_read(alloc, image),
+            Command::Asm { source, .. } => one_read(alloc, source),
         }
     }
 }

@@ -1,8 +1,9 @@
 //! What a command comes to, once its files are read: what is to be written and printed, or a refusal.
 
 ghost use Rattle.std.specs.Prelude.{◌≡◌, IfOk};
-ghost use Rattle.helium.specs.Work.{image_text, kind_text, schedule_text, refusal_text};
+ghost use Rattle.helium.specs.Work.{asm_kind_text, image_text, kind_text, schedule_text, source_text, refusal_text};
 
+use hm_asm::{AsmErr, AsmKind};
 use hm_base::{ImageErr, OutOfMemory};
 use hm_sched::{LineKind, SchedErr};
 use hm_text_base::{decimal, hex8, text};
@@ -32,6 +33,8 @@ pub enum Refusal {
     Image(ImageErr),
     /// The bytes of a file are no schedule.
     Schedule(SchedErr),
+    /// The bytes of a file are no source.
+    Source(AsmErr),
     /// The word at 4 of an image, whose bit 0 is not set.
     Reset { value: u32 },
 }
@@ -96,6 +99,37 @@ fn add_schedule_text(alloc: Global, out: &mut Vec<u8>, e: SchedErr) -> Result<()
     }
 }
 
+/// The word for what is bad in a line of a source.
+fn asm_kind_text(kind: AsmKind) -> &'static [u8]
+    ensures { result.now ≡ asm_kind_text kind }
+{
+    match kind {
+        AsmKind::Syntax => b"syntax",
+        AsmKind::Row => b"row",
+        AsmKind::Missing => b"missing",
+        AsmKind::Double => b"double",
+        AsmKind::Offset => b"offset",
+        AsmKind::Place => b"place",
+    }
+}
+
+/// Adds what is wrong with a source. Want of memory is no such thing, and adds nothing.
+fn add_source_text(alloc: Global, out: &mut Vec<u8>, e: AsmErr) -> Result<(), OutOfMemory>
+    ensures { IfOk result (λ _. out.new.items ≡ source_text e out.old.items) }
+{
+    match e {
+        AsmErr::Line { line, column, kind } => {
+            text(out, b"line ")?;
+            decimal(alloc, out, line as u64)?;
+            text(out, b" column ")?;
+            decimal(alloc, out, column as u64)?;
+            text(out, b" ")?;
+            text(out, asm_kind_text(kind))
+        }
+        AsmErr::OutOfMemory => Ok(()),
+    }
+}
+
 impl Refusal {
     /// Adds what the line of a refusal says.
     pub fn add_text(self, alloc: Global, out: &mut Vec<u8>) -> Result<(), OutOfMemory>
@@ -110,6 +144,10 @@ impl Refusal {
             Refusal::Schedule(e) => {
                 text(out, b"schedule ")?;
                 add_schedule_text(alloc, out, e)
+            }
+            Refusal::Source(e) => {
+                text(out, b"source ")?;
+                add_source_text(alloc, out, e)
             }
             Refusal::Reset { value } => {
                 text(out, b"image reset ")?;
@@ -158,6 +196,19 @@ impl From<SchedErr> for Stop {
         match e {
             SchedErr::OutOfMemory => Stop::NoMemory,
             e => Stop::Refused(Refusal::Schedule(e)),
+        }
+    }
+}
+
+impl From<AsmErr> for Stop {
+    ghost use Rattle.helium.specs.Work.{source_stop};
+
+    ghost from_gives = { λ e stop. stop ≡ source_stop e };
+
+    fn from(e: AsmErr) -> Stop {
+        match e {
+            AsmErr::OutOfMemory => Stop::NoMemory,
+            e => Stop::Refused(Refusal::Source(e)),
         }
     }
 }
