@@ -682,3 +682,84 @@ fn assembling_fails_with_its_host(rt: HostRuntime) -> Result<(), Fail> {
     }
     Ok(())
 }
+
+/// A filter over 20 elements in loops with a tail, whose handler counts the interrupts of a timer.
+const FILTER: &[u8] = b".org 0
+.word 0x20010000, start+1
+.org 0x3c
+.word tick+1
+.org 0x80
+start: ldr r0,cpacr
+ ldr r1,full
+ str r1,[r0,#0]
+ ldr r0,systick
+ movs r1,#9
+ str r1,[r0,#4]
+ movs r1,#3
+ str r1,[r0,#0]
+ ldr r0,src
+ ldr r1,dst
+ movs r2,#20
+ movs r3,#20
+ dlstp.16 lr,r2
+copy: vldrh.u16 q0,[r0],#16
+ vstrh.16 q0,[r1],#16
+ letp lr,copy
+ ldr r1,dst
+ movs r4,#0
+ dlstp.16 lr,r3
+sum: vldrh.u16 q0,[r1],#16
+ vmladava.s16 r4,q0,q0
+ letp lr,sum
+ movs r0,#24
+ ldr r1,done
+ bkpt #171
+tick: push {r4,lr}
+ ldr r0,mark
+ ldr r1,[r0,#0]
+ adds r1,#1
+ str r1,[r0,#0]
+ pop {r4,pc}
+.align 4
+cpacr: .word 0xe000ed88
+full: .word 0x00f00000
+systick: .word 0xe000e010
+src: .word table
+dst: .word 0x20000000
+done: .word 0x20026
+mark: .word 0x20001000
+table: .half 1,2,3,4,5,6,7,8,9,10,11,12,13,14,15,16,17,18,19,20
+";
+
+/// The ELF file of its image, by the rules for what is written.
+const FILTER_FILE: &[u8] =
+    b"\x7f\x45\x4c\x46\x01\x01\x01\x00\x00\x00\x00\x00\x00\x00\x00\x00\x02\x00\x28\x00\x01\x00\x00\x00\x00\x00\x00\x00\x34\x00\x00\x00\x00\x00\x00\x00\x00\x00\x00\x00\x34\x00\x20\x00\x03\x00\x00\x00\x00\x00\x00\x00\x01\x00\x00\x00\x94\x00\x00\x00\x00\x00\x00\x00\x00\x00\x00\x00\x08\x00\x00\x00\x08\x00\x00\x00\x07\x00\x00\x00\x01\x00\x00\x00\x01\x00\x00\x00\x9c\x00\x00\x00\x3c\x00\x00\x00\x3c\x00\x00\x00\x04\x00\x00\x00\x04\x00\x00\x00\x07\x00\x00\x00\x01\x00\x00\x00\x01\x00\x00\x00\xa0\x00\x00\x00\x80\x00\x00\x00\x80\x00\x00\x00\x94\x00\x00\x00\x94\x00\x00\x00\x07\x00\x00\x00\x01\x00\x00\x00\x00\x00\x01\x20\x81\x00\x00\x00\xc3\x00\x00\x00\x13\x48\x14\x49\x01\x60\x14\x48\x09\x21\x41\x60\x03\x21\x01\x60\x12\x48\x13\x49\x14\x22\x14\x23\x12\xf0\x01\xe0\xb0\xec\x88\x1e\xa1\xec\x88\x1e\x1f\xf0\x07\xc0\x0d\x49\x00\x24\x13\xf0\x01\xe0\xb1\xec\x88\x1e\xf0\xee\x20\x4e\x1f\xf0\x07\xc0\x18\x20\x09\x49\xab\xbe\x10\xb5\x08\x48\x01\x68\x01\x31\x01\x60\x10\xbd\x00\x00\x88\xed\x00\xe0\x00\x00\xf0\x00\x10\xe0\x00\xe0\xec\x00\x00\x00\x00\x00\x00\x20\x26\x00\x02\x00\x00\x10\x00\x20\x01\x00\x02\x00\x03\x00\x04\x00\x05\x00\x06\x00\x07\x00\x08\x00\x09\x00\x0a\x00\x0b\x00\x0c\x00\x0d\x00\x0e\x00\x0f\x00\x10\x00\x11\x00\x12\x00\x13\x00\x14\x00";
+
+#[test]
+fn filter_with_timer(rt: HostRuntime) -> Result<(), Fail> {
+    let alloc = rt.alloc();
+    let mut outside = host(alloc, FILTER, b"", &[])?;
+    assert_eq!(rt;
+        obey(alloc, &["asm", "a", "b"], &mut outside)?,
+        Status::Done
+    );
+    assert_eq!(rt; outside.file("b").ok_or("no file b")?, FILTER_FILE);
+    let mut outside = host(alloc, FILTER_FILE, b"", &[])?;
+    assert_eq!(rt; run(alloc, "plain:37", &mut outside)?, Status::Done);
+    let lines: [&[u8]; 3] = [
+        b"outcome halted exit 00020026 after 37",
+        b"r4 00000b36",
+        b"lr 00000004",
+    ];
+    assert!(rt; has_lines(outside.printed(), &lines));
+    let memory = outside.file("b").ok_or("no file b")?;
+    assert_eq!(rt; memory.get(0x1000..0x1004), Some(b"\0\0\0\0".as_slice()));
+    let cut = FILTER_FILE.get(..51).ok_or("too short")?;
+    let mut outside = host(alloc, cut, b"", &[])?;
+    assert_eq!(rt; run(alloc, "plain:37", &mut outside)?, Status::Refused);
+    assert_eq!(rt;
+        outside.printed(),
+        b"helium: refused image truncated 51\n".as_slice()
+    );
+    Ok(())
+}

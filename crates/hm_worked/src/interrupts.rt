@@ -716,7 +716,7 @@ const FILTER: &[u16] = &[
 ];
 
 #[test]
-fn filter_with_timer(rt: HostRuntime) -> Result<(), Fail> {
+fn filter_under_its_timer(rt: HostRuntime) -> Result<(), Fail> {
     let alloc = rt.alloc();
     let mut bytes = [0, 0, 1, 0x20, 0x81, 0, 0, 0].to_vec(alloc)?;
     bytes.extend_from_slice(&[0; 52])?;
