@@ -15,7 +15,7 @@ use Rattle.hm_source.specs.declared.directives.Directive.{Directive}
 use Rattle.hm_source.specs.declared.statements.Statement.TheVariants as statements
 use Rattle.hm_source.specs.Directives.{Asked, org, align, space, values}
 use Rattle.hm_source.specs.Lines.{name_of, shifted, source_lines, text_column, text_of}
-use Rattle.hm_source.specs.Places.{HasPlace, next_place, padding, size_of}
+use Rattle.hm_source.specs.Places.{HasPlace, HasRoom, next_place, padding, size_of}
 use Rattle.hm_source.specs.Shown.{Shows, ShowsAsked}
 use Rattle.hm_source.specs.Statements.{Said, nothing, instruction, directive, Says}
 use Rattle.hm_source.specs.Unread.{IsUnread}
@@ -29,7 +29,9 @@ use Rattle.hm_asm.specs.Segments.{joined, with_piece}
 use Rattle.hm_asm.proofs.Given.{bytes_length, given_rising}
 use Rattle.hm_asm.proofs.Joined.{AreRising, joined_both, joined_from, with_piece-apart}
 use Rattle.hm_asm.proofs.Outcomes.{line_not_both}
-use Rattle.hm_asm.proofs.Said.{one_said}
+use Rattle.hm_asm.proofs.Said.{one_said, says_width}
+use Rattle.hm_text.proofs.Once.{one_width}
+use Rattle.hm_text.specs.Texts.{HasWidth}
 
 -- no line is left
 pub no_lines : (rest : List ℕ) → length rest ≡ 0 → source_lines rest ≡ []
@@ -94,6 +96,16 @@ of_directive text d said told P says tells shows each =
     go nothing sh = absurd sh
     go (instruction n) sh = absurd sh
     go (directive a) sh = each a sh
+
+-- the same of an instruction, for which there is room
+pub of_instruction : (text : List ℕ) (w : ℕ) (said told : Said) (P : Said → Type 0) → Says text said → Says text told → Shows text (statements.Instruction w) told → P (instruction w) → P said
+of_instruction text w said told P says tells shows here = subst (λ (s : Said). P s) (sym shows ∙ one_said text told said tells says) here
+
+pub room_here : (text : List ℕ) (a w n : ℕ) (told : Said) → Says text told → Shows text (statements.Instruction w) told → HasPlace told a → HasWidth text n → HasRoom a n
+room_here text a w n told tells shows place width =
+    let read : HasWidth text w = says_width text w (subst (λ (s : Said). Says text s) shows tells) in
+    let room : HasPlace (instruction w) a = subst (λ (s : Said). HasPlace s a) shows place in
+    subst (λ (k : ℕ). HasRoom a k) (one_width text w n read width) room.1
 
 -- a line that is fine is read
 pub read_fine : (m : LabelMap) (a : ℕ) (l : List ℕ) (said : Said) (kind : AsmKind) (c : ℕ) → IsFine m a l said → IsUnread kind l c → ⊥

@@ -729,7 +729,7 @@ fn filter_under_its_timer(rt: HostRuntime) -> Result<(), Fail> {
     image.add(0, bytes)?;
     let text = b"helium-schedule 1\nentries yes\nregion 20001000 20001004\nfloor 2000f000\n300*W\n";
     let printed = print(alloc, &parse(alloc, text)?)?;
-    assert_eq!(rt; printed.as_slice(), text);
+    assert_eq!(rt; printed.as_slice(), text.as_slice());
     let mut machine = Machine::load(alloc, &image, parse(alloc, &printed)?)?;
     let _outcome = machine.run();
     let lines = [
