@@ -5,7 +5,7 @@ use Rattle.std.proofs.lemmas.Bool.{cases_Bool}
 use Rattle.std.proofs.lemmas.Bool.Decides.{nat_tests}
 use Rattle.hm_base.specs.Image.{Segment, flash_byte}
 use Rattle.hm_state.specs.Start.{reset_pc}
-use Rattle.hm_asm.specs.Sources.{IsAssembled, Meets}
+use Rattle.hm_asm.specs.Sources.{GivesOutcome, IsAssembled}
 use Rattle.hm_asm.specs.declared.errors.AsmErr.{AsmErr}
 use Rattle.hm_asm.specs.declared.errors.AsmErr.TheVariants as assembly
 use Rattle.hm_base.specs.declared.errors.ImageErr.{ImageErr}
@@ -58,7 +58,7 @@ pub dis_comes : (image : Result (List Segment) ImageErr) (i : List Segment) (lo 
 dis_comes image i lo hi text at listed = subst (λ (x : Result (List Segment) ImageErr). IsDisOutcome x lo hi (finishes true None (Some text))) (sym at) (text, listed, refl)
 
 -- a source that is refused
-pub asm_source_refused : (source out : List ℕ) (e : AsmErr) (stop : Stop) → Meets source (Err e) → stop ≡ source_stop e → GivesOne (IsAsmOutcome source out) (Err stop)
+pub asm_source_refused : (source out : List ℕ) (e : AsmErr) (stop : Stop) → GivesOutcome source (Err e) → stop ≡ source_stop e → GivesOne (IsAsmOutcome source out) (Err stop)
 asm_source_refused source out (assembly.Line k c kind) stop cause is = gives_at (IsAsmOutcome source out) stop (source_stop (assembly.Line k c kind)) is (Err (assembly.Line k c kind), cause, refl)
 asm_source_refused source out assembly.OutOfMemory stop cause is = gives_at (IsAsmOutcome source out) stop NoMemory is tt
 
