@@ -1,6 +1,9 @@
-use Rattle.std.proofs.Common.{◌≡◌, ◌<◌, ℕ, length, Vec, Global, [], map, get_or, Ok, sym, ap, ◌∙◌, arith}
+use Rattle.std.proofs.Common.{◌≡◌, ◌<◌, ℕ, List, length, subst, Vec, Global, [], map, get_or, Ok, sym, ap, ◌∙◌, arith}
 use Rattle.std.proofs.lemmas.List.{get_or-map}
+use Rattle.hm_elf.specs.ReadImage.{image_in}
 use Rattle.hm_sched.specs.Schedule.{plain}
+use Rattle.helium.specs.Commands.{run_outcome}
+use Rattle.helium.specs.Work.{GivesOne}
 use Rattle.hm_sched.specs.ReadFile.{file_in}
 use Rattle.helium.proofs.commands.run.Goals as goal
 
@@ -10,7 +13,9 @@ returns-in-Plain c = λ listings are.
     let some : 0 < length c.args.contents.now = omega arith in
     let first : get_or (map (λ (v : Vec ℕ Global). v.items) c.args.contents.now) 0 [] ≡ c.deref.result.now
     = get_or-map (λ (v : Vec ℕ Global). v.items) c.args.contents.now 0 _ [] some ∙ ap (λ (v : Vec ℕ Global). v.items) (sym c.index-contents-0.is) ∙ sym c.deref.ensures.value in
-    rw (c.in-Plain.is, first) (c.run_under.ensures listings are (Ok (plain c.in-Plain.ticks.count)) c.plain_schedule-schedule.ensures)
+    rw c.in-Plain.is
+    (subst (λ (image : List ℕ). GivesOne (λ o. o ≡ run_outcome listings (image_in image) (Ok (plain c.in-Plain.ticks.count)) c.args.memory.now) c.run_under.result) (sym first)
+    (c.run_under.ensures listings are (Ok (plain c.in-Plain.ticks.count)) c.plain_schedule-schedule.ensures))
 
 pub returns-in-File : goal.returns-in-File
 returns-in-File c = λ listings are.
@@ -21,4 +26,7 @@ returns-in-File c = λ listings are.
     = get_or-map (λ (v : Vec ℕ Global). v.items) c.args.contents.now 0 _ [] some ∙ ap (λ (v : Vec ℕ Global). v.items) (sym c.index-contents-0-in-File.is) ∙ sym c.deref-in-File-2.ensures.value in
     let second : get_or (map (λ (v : Vec ℕ Global). v.items) c.args.contents.now) 1 [] ≡ c.deref-in-File.result.now
     = get_or-map (λ (v : Vec ℕ Global). v.items) c.args.contents.now 1 _ [] more ∙ ap (λ (v : Vec ℕ Global). v.items) (sym c.index-contents-1.is) ∙ sym c.deref-in-File.ensures.value in
-    rw (c.in-File.is, first, second) (c.run_under-in-File.ensures listings are (file_in c.deref-in-File.result.now) c.parse-schedule.ensures.exact)
+    rw c.in-File.is
+    (subst (λ (image : List ℕ). GivesOne (λ o. o ≡ run_outcome listings (image_in image) (file_in (get_or (map (λ (v : Vec ℕ Global). v.items) c.args.contents.now) 1 [])) c.args.memory.now) c.run_under-in-File.result) (sym first)
+    (subst (λ (text : List ℕ). GivesOne (λ o. o ≡ run_outcome listings (image_in c.deref-in-File-2.result.now) (file_in text) c.args.memory.now) c.run_under-in-File.result) (sym second)
+    (c.run_under-in-File.ensures listings are (file_in c.deref-in-File.result.now) c.parse-schedule.ensures.exact)))
