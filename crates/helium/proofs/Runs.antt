@@ -1,20 +1,17 @@
 -- Why a file is not run, and what a run of one comes to.
-use Rattle.std.proofs.Common.{◌≡◌, ◌<◌, ◌≤◌, ℕ, ◌%◌, nat_eq, nat_lt, arith, Bool, true, false, inl, inr, length, List, Option, Some, None, Result, Ok, Err, refl, sym, ap, subst, ◌∙◌}
+use Rattle.std.proofs.Common.{◌≡◌, ℕ, ◌%◌, nat_eq, arith, Bool, List, Option, Some, None, Result, Ok, Err, refl, sym, ap, subst, ◌∙◌}
 use Rattle.std.specs.Prelude.{if◌then◌else◌}
-use Rattle.std.proofs.lemmas.Bool.{cases_Bool}
 use Rattle.std.proofs.lemmas.Bool.Decides.{nat_tests}
-use Rattle.hm_base.specs.Image.{Segment, flash_byte}
+use Rattle.hm_base.specs.Image.{Segment}
 use Rattle.hm_state.specs.Start.{reset_pc}
-use Rattle.hm_asm.specs.Sources.{GivesOutcome, IsAssembled}
+use Rattle.hm_asm.specs.Sources.{GivesOutcome}
 use Rattle.hm_asm.specs.declared.errors.AsmErr.{AsmErr}
 use Rattle.hm_asm.specs.declared.errors.AsmErr.TheVariants as assembly
 use Rattle.hm_base.specs.declared.errors.ImageErr.{ImageErr}
 use Rattle.hm_base.specs.declared.errors.ImageErr.TheVariants as refusals
 use Rattle.hm_codes.specs.Listing.{Listing}
 use Rattle.hm_elf.specs.ReadImage.{Fails as FailsImage}
-use Rattle.hm_elf.specs.WriteImage.{elf_file}
 use Rattle.hm_handlers.specs.Runs.{shown_out}
-use Rattle.hm_listing.specs.Listings.{IsListed}
 use Rattle.hm_machine.specs.Shown.{Shown, timed_of}
 use Rattle.hm_run.specs.Report.{report_text, memory_text}
 use Rattle.hm_run.specs.Timed.{Timed}
@@ -26,7 +23,7 @@ use Rattle.helium.specs.declared.work.Refusal.{Refusal}
 use Rattle.helium.specs.declared.work.Refusal.TheVariants.{Image, Schedule, Reset}
 use Rattle.helium.specs.declared.work.Stop.{Stop}
 use Rattle.helium.specs.declared.work.Stop.TheVariants.{Refused, NoMemory}
-use Rattle.helium.specs.Commands.{AreListings, IsAsmOutcome, IsDisOutcome, asm_outcome, reported, told, unless_refused, run_outcome, seq_outcome}
+use Rattle.helium.specs.Commands.{AreListings, IsAsmOutcome, IsDisOutcome, reported, told, unless_refused, run_outcome, seq_outcome}
 use Rattle.helium.specs.Run.{is_halted, short_report, reset_refusal, IsOver, RunsToEnd, schedule_stop}
 use Rattle.helium.specs.Work.{Outcome, finishes, refuses, Gives, GivesOne, image_stop, source_stop}
 
@@ -54,43 +51,10 @@ dis_image_refused image lo hi e stop fails is =
     gives_at (IsDisOutcome image lo hi) stop (image_stop e) is
     (image_by (IsDisOutcome image lo hi) e image fails (λ d at. subst (λ (i : Result (List Segment) ImageErr). IsDisOutcome i lo hi (refuses (Image d))) (sym at) refl))
 
-pub dis_comes : (image : Result (List Segment) ImageErr) (i : List Segment) (lo hi : ℕ) (text : List ℕ) → image ≡ Ok i → IsListed (flash_byte i) lo hi text → IsDisOutcome image lo hi (finishes true None (Some text))
-dis_comes image i lo hi text at listed = subst (λ (x : Result (List Segment) ImageErr). IsDisOutcome x lo hi (finishes true None (Some text))) (sym at) (text, listed, refl)
-
 -- a source that is refused
 pub asm_source_refused : (source out : List ℕ) (e : AsmErr) (stop : Stop) → GivesOutcome source (Err e) → stop ≡ source_stop e → GivesOne (IsAsmOutcome source out) (Err stop)
 asm_source_refused source out (assembly.Line k c kind) stop cause is = gives_at (IsAsmOutcome source out) stop (source_stop (assembly.Line k c kind)) is (Err (assembly.Line k c kind), cause, refl)
 asm_source_refused source out assembly.OutOfMemory stop cause is = gives_at (IsAsmOutcome source out) stop NoMemory is tt
-
--- an image that was assembled is refused where it has more segments than a file
-abbrev written : Bool → List ℕ → List Segment → Outcome
-written more out image = if more then refuses (Image refusals.TooMany) else finishes true (Some (out, elf_file image)) None
-
-many_segments : (out : List ℕ) (image : List Segment) → nat_lt 64 (length image) ≡ true → refuses (Image refusals.TooMany) ≡ asm_outcome (Ok image) out
-many_segments out image more = ap (λ (b : Bool). written b out image) (sym more)
-
-few_segments : (out : List ℕ) (image : List Segment) → nat_lt 64 (length image) ≡ false → finishes true (Some (out, elf_file image)) None ≡ asm_outcome (Ok image) out
-few_segments out image few = ap (λ (b : Bool). written b out image) (sym few)
-
-above : (n : ℕ) → nat_lt 64 n ≡ true → 64 < n
-above n more = grind (arith, nat_tests)
-
-below : (n : ℕ) → nat_lt 64 n ≡ false → n ≤ 64
-below n few = grind (arith, nat_tests)
-
-not_above : (n : ℕ) → n ≤ 64 → nat_lt 64 n ≡ false
-not_above n few = grind (arith, nat_tests)
-
-pub asm_image_refused : (source out : List ℕ) (image : List Segment) (e : ImageErr) (stop : Stop) → IsAssembled source image → (64 < length image → e ≡ refusals.TooMany) → (length image ≤ 64 → e ≡ refusals.OutOfMemory) → stop ≡ image_stop e
-    → GivesOne (IsAsmOutcome source out) (Err stop)
-asm_image_refused source out image e stop assembled many few is = elim (cases_Bool (nat_lt 64 (length image))) [
-  | inl more ↦ gives_at (IsAsmOutcome source out) stop (Refused (Image refusals.TooMany)) (is ∙ ap image_stop (many (above (length image) more))) (Ok image, assembled, many_segments out image more)
-  | inr less ↦ gives_at (IsAsmOutcome source out) stop NoMemory (is ∙ ap image_stop (few (below (length image) less))) tt
-]
-
-pub asm_comes : (source out bytes : List ℕ) (image : List Segment) → IsAssembled source image → bytes ≡ elf_file image → length image ≤ 64 → IsAsmOutcome source out (finishes true (Some (out, bytes)) None)
-asm_comes source out bytes image assembled is few =
-    (Ok image, assembled, ap (λ (b : List ℕ). finishes true (Some (out, b)) None) is ∙ few_segments out image (not_above (length image) few))
 
 -- what is wrong with a schedule, where its image is read
 schedule_by : (o : Outcome) (e : SchedErr) (read : Result Sched SchedErr) → Fails e read → ((d : SchedErr) → read ≡ Err d → o ≡ refuses (Schedule d)) → Gives o (Err (schedule_stop e))
