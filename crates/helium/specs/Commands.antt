@@ -6,6 +6,7 @@ use Rattle.hm_base.specs.Image.{Segment, flash_byte}
 use Rattle.hm_base.specs.declared.errors.ImageErr.{ImageErr}
 use Rattle.hm_codes.specs.Listing.{Listing, IsListing}
 use Rattle.hm_base.specs.declared.errors.ImageErr.TheVariants.{TooMany}
+use Rattle.hm_elf.specs.Elf.{most_headers}
 use Rattle.hm_elf.specs.ReadImage.{image_in}
 use Rattle.hm_elf.specs.WriteImage.{elf_file}
 use Rattle.hm_handlers.specs.Runs.{shown_out}
@@ -52,10 +53,10 @@ abbrev pub IsDisOutcome : Result (List Segment) ImageErr → ℕ → ℕ → Out
 IsDisOutcome (Err e) lo hi = λ o. o ≡ refuses (Image e)
 IsDisOutcome (Ok image) lo hi = λ o. (text : List ℕ) × IsListed (flash_byte image) lo hi text × (o ≡ finishes true None (Some text))
 
--- an image that was assembled, as the file that is written of at most 64 segments; or the refusal of its source
+-- an image that was assembled, as the file that is written of at most as many segments as a file has headers; or the refusal of its source
 abbrev pub asm_outcome : Result (List Segment) AsmErr → List ℕ → Outcome
 asm_outcome (Err e) out = refuses (Source e)
-asm_outcome (Ok image) out = if nat_lt 64 (length image) then refuses (Image TooMany) else finishes true (Some (out, elf_file image)) None
+asm_outcome (Ok image) out = if nat_lt most_headers (length image) then refuses (Image TooMany) else finishes true (Some (out, elf_file image)) None
 
 abbrev pub IsAsmOutcome : List ℕ → List ℕ → Outcome → Type 0
 IsAsmOutcome source out = λ o. (assembled : Result (List Segment) AsmErr) × IsOutcome source assembled × (o ≡ asm_outcome assembled out)

@@ -15,8 +15,8 @@ use Rattle.hm_line.specs.declared.errors.AsmKind.{AsmKind}
 use Rattle.hm_line.specs.declared.errors.AsmKind.TheVariants as asm_kinds
 use Rattle.hm_text_base.proofs.Steps.{some_is}
 use Rattle.hm_tokens.specs.Tokens.{skip}
-use Rattle.hm_source.specs.declared.values.Size.{Size}
-use Rattle.hm_source.specs.declared.values.Size.TheVariants.{Byte, Half, Word}
+use Rattle.hm_source.specs.declared.values.DatumSize.{DatumSize}
+use Rattle.hm_source.specs.declared.values.DatumSize.TheVariants.{Byte, Half, Word}
 use Rattle.hm_source.specs.Directives.{Datum, Asked, org, align, space, values, bytes_each}
 use Rattle.hm_source.specs.Lines.{name_of, text_of, text_column, shifted}
 use Rattle.hm_source.specs.Places.{HasPlace, HasRoom, next_place, padding, size_asked, size_of}
@@ -34,12 +34,12 @@ pub code_length : (hs : List ℕ) → length (flat_map (to_le_bytes w16) hs) ≡
 code_length [] = refl
 code_length (h ∷ hs) = let more = code_length hs in omega (arith, more, length-append (to_le_bytes w16 h) (flat_map (to_le_bytes w16) hs))
 
-pub low_length : (s : Size) (n : ℕ) → length (low_bytes (bytes_each s) n) ≡ bytes_each s
+pub low_length : (s : DatumSize) (n : ℕ) → length (low_bytes (bytes_each s) n) ≡ bytes_each s
 low_length Byte n = refl
 low_length Half n = refl
 low_length Word n = refl
 
-values_length : (labels : Naming) (s : Size) (ds : List Datum) (bs : List ℕ) → AreValues labels s ds bs → length bs ≡ bytes_each s * length ds
+values_length : (labels : Naming) (s : DatumSize) (ds : List Datum) (bs : List ℕ) → AreValues labels s ds bs → length bs ≡ bytes_each s * length ds
 values_length labels s [] bs e = ap length e ∙ (let f : 0 ≡ bytes_each s * 0 = omega arith in f)
 values_length labels s (d ∷ ds) bs (n, rest, is, more, e) =
     let tail = values_length labels s ds rest more in
@@ -95,7 +95,7 @@ given_rising m a (l ∷ ls) all labels (p ∷ ps) (said, is, fine) (said', says,
     )
 
 -- ONE THING
-same_values : (labels : Naming) (s : Size) (ds : List Datum) (bs cs : List ℕ) → AreValues labels s ds bs → AreValues labels s ds cs → bs ≡ cs
+same_values : (labels : Naming) (s : DatumSize) (ds : List Datum) (bs cs : List ℕ) → AreValues labels s ds bs → AreValues labels s ds cs → bs ≡ cs
 same_values labels s [] bs cs e f = e ∙ sym f
 same_values labels s (d ∷ ds) bs cs (n, rest, is, more, e) (m, left, also, others, f) =
     let number : n ≡ m = some_is n m (sym is ∙ also) in
@@ -143,12 +143,12 @@ one_given m a (l ∷ ls) all labels (p ∷ ps) (q ∷ qs) (said, is, fine) (s, s
     both e f = cc
 
 -- REFUSALS
-missing_number : (labels : Naming) (s : Size) (ds : List Datum) (bs : List ℕ) (n : ℕ) → AreValues labels s ds bs → IsFirstMissing labels s ds n → ⊥
+missing_number : (labels : Naming) (s : DatumSize) (ds : List Datum) (bs : List ℕ) (n : ℕ) → AreValues labels s ds bs → IsFirstMissing labels s ds n → ⊥
 missing_number labels s [] bs n are is = is
 missing_number labels s (d ∷ ds) bs zero (k, rest, there, more, e) is = let f = sym is ∙ there in cc
 missing_number labels s (d ∷ ds) bs (suc n) (k, rest, there, more, e) (m, also, is) = missing_number labels s ds rest n more is
 
-one_missing : (labels : Naming) (s : Size) (ds : List Datum) (n m : ℕ) → IsFirstMissing labels s ds n → IsFirstMissing labels s ds m → n ≡ m
+one_missing : (labels : Naming) (s : DatumSize) (ds : List Datum) (n m : ℕ) → IsFirstMissing labels s ds n → IsFirstMissing labels s ds m → n ≡ m
 one_missing labels s [] n m is also = absurd is
 one_missing labels s (d ∷ ds) zero zero is also = refl
 one_missing labels s (d ∷ ds) zero (suc m) is (k, there, also) = absurd (let f = sym is ∙ there in cc)
@@ -181,7 +181,7 @@ one_column text n m c d e (here, is, at) (there, also, stands) =
 
 -- a list is refused as Missing alone
 record ListRefused (labels : Naming) (text : List ℕ) (asked : Asked) (kind : AsmKind) (c : ℕ) : Type 0 where
-  size : Size
+  size : DatumSize
   first : Datum
   others : List Datum
   list : asked ≡ values size first others
@@ -216,12 +216,12 @@ one_list_refusal labels text asked k j c d r s = (
   one_column text r.index s.index c d (index r.size r.first r.others s.size s.first s.others (sym r.list ∙ s.list) r.none s.none) r.at s.at,
 )
   where
-    index : (x : Size) (f : Datum) (fs : List Datum) (y : Size) (g : Datum) (gs : List Datum) → values x f fs ≡ values y g gs
+    index : (x : DatumSize) (f : Datum) (fs : List Datum) (y : DatumSize) (g : Datum) (gs : List Datum) → values x f fs ≡ values y g gs
         → IsFirstMissing labels x (f ∷ fs) r.index → IsFirstMissing labels y (g ∷ gs) s.index → r.index ≡ s.index
     index x f fs y g gs e a b =
         let size : x ≡ y = cc in
         let list : f ∷ fs ≡ g ∷ gs = cc in
-        one_missing labels y (g ∷ gs) r.index s.index (subst (λ (z : Size). IsFirstMissing labels z (g ∷ gs) r.index) size (subst (λ (zs : List Datum). IsFirstMissing labels x zs r.index) list a)) b
+        one_missing labels y (g ∷ gs) r.index s.index (subst (λ (z : DatumSize). IsFirstMissing labels z (g ∷ gs) r.index) size (subst (λ (zs : List Datum). IsFirstMissing labels x zs r.index) list a)) b
 
 one_said_refusal : (labels : Naming) (a : ℕ) (text : List ℕ) (said : Said) (k j : AsmKind) (c d : ℕ) → IsSaidRefused k labels a text said c → IsSaidRefused j labels a text said d → (k ≡ j) × (c ≡ d)
 one_said_refusal labels a text nothing k j c d r s = absurd r

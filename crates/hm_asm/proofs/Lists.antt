@@ -6,7 +6,7 @@ use Rattle.hm_line.specs.Texts.{column}
 use Rattle.hm_line.specs.declared.errors.AsmKind.TheVariants as kinds
 use Rattle.hm_tokens.specs.Lines.{AreTokensOf}
 use Rattle.hm_tokens.specs.Tokens.{mark, skip, word}
-use Rattle.hm_source.specs.declared.values.Size.{Size}
+use Rattle.hm_source.specs.declared.values.DatumSize.{DatumSize}
 use Rattle.hm_source.specs.declared.values.Values.{Values}
 use Rattle.hm_source.specs.Directives.{Asked, Datum, align, bytes_each, datum_tokens, list_name, list_tokens, org, space, values}
 use Rattle.hm_source.specs.Places.{HasPlace, HasRoom}
@@ -23,7 +23,7 @@ use Rattle.hm_asm.proofs.Operands.{first_operand, next_operand}
 
 -- values that are left, of those that a text lists: they have room; the next one is an operand of the text; what they give, behind what
 -- was added, is what all give; and the first of them that is missing is the first of all
-pub record Left (text : List ℕ) (labels : Naming) (size : Size) (rest : List ℕ) (old now : Made) (all : List Datum) : Type 0 where
+pub record Left (text : List ℕ) (labels : Naming) (size : DatumSize) (rest : List ℕ) (old now : Made) (all : List Datum) : Type 0 where
   pub done : ℕ
   pub d : Datum
   pub ds : List Datum
@@ -34,7 +34,7 @@ pub record Left (text : List ℕ) (labels : Naming) (size : Size) (rest : List �
   pub missing : (n : ℕ) → IsFirstMissing labels size (d ∷ ds) n → IsFirstMissing labels size all (done + n)
 
 -- all are left at first
-pub left_all : (text : List ℕ) (labels : Naming) (size : Size) (list : List ℕ) (old : Made) (d : Datum) (ds : List Datum) → AreFront text (word (list_name size) ∷ []) list → AreListed size list d ds
+pub left_all : (text : List ℕ) (labels : Naming) (size : DatumSize) (list : List ℕ) (old : Made) (d : Datum) (ds : List Datum) → AreFront text (word (list_name size) ∷ []) list → AreListed size list d ds
     → HasRoom (place_of old) (bytes_each size * length (d ∷ ds)) → Left text labels size list old old (d ∷ ds)
 left_all text labels size list old d ds front listed room = record {
   done = 0;
@@ -48,7 +48,7 @@ left_all text labels size list old d ds front listed room = record {
 }
 
 -- no comma behind the first value: no others follow
-pub left_alone : (size : Size) (rest mid : List ℕ) (d : Datum) (ds : List Datum) → EndsAt rest mid → ((more : List ℕ) → AreFront mid (mark 44 ∷ []) more → ⊥) → AreListed size rest d ds → ds ≡ []
+pub left_alone : (size : DatumSize) (rest mid : List ℕ) (d : Datum) (ds : List Datum) → EndsAt rest mid → ((more : List ℕ) → AreFront mid (mark 44 ∷ []) more → ⊥) → AreListed size rest d ds → ds ≡ []
 left_alone size rest mid d [] only none listed = refl
 left_alone size rest mid d (e ∷ es) only none listed =
     let f = front_of_all rest (datum_tokens d) (mark 44 ∷ list_tokens e es) listed.0 in
@@ -56,7 +56,7 @@ left_alone size rest mid d (e ∷ es) only none listed =
     let same : mid ≡ f.0 = only d f.0 f.1 (ends_before f.0 f.2.0 comma) in
     absurd (none f.2.0 (subst (λ (x : List ℕ). AreFront x (mark 44 ∷ []) f.2.0) (sym same) comma))
 
-module _ (text : List ℕ) (labels : Naming) (size : Size) (rest : List ℕ) (old now : Made) (all : List Datum) (l : Left text labels size rest old now all) where
+module _ (text : List ℕ) (labels : Naming) (size : DatumSize) (rest : List ℕ) (old now : Made) (all : List Datum) (l : Left text labels size rest old now all) where
   -- the first one has room
   pub room_one : HasRoom (place_of now) (bytes_each size)
   room_one =
@@ -129,14 +129,14 @@ shown_list text v (space n) shows = absurd shows
 shown_list text v (values s d ds) shows = record {
   d = d;
   ds = ds;
-  asks = ap (λ (x : Size). values x d ds) (sym shows.0);
-  shows = subst (λ (x : Size). ShowsValues text v (values x d ds)) (sym shows.0) shows;
+  asks = ap (λ (x : DatumSize). values x d ds) (sym shows.0);
+  shows = subst (λ (x : DatumSize). ShowsValues text v (values x d ds)) (sym shows.0) shows;
 }
 
 pub ready_list : (text : List ℕ) (v : Values) (a : ℕ) (ready : IsReadyList text v a) → Shown text v ready.0
 ready_list text v a ready = shown_list text v ready.0 ready.1
 
-same_count : (text : List ℕ) (v : Values) (a : ℕ) (s : Size) (d e : Datum) (ds es : List Datum) → ShowsValues text v (values s d ds) → ShowsValues text v (values s e es) → HasRoom a (bytes_each s * length (d ∷ ds)) → HasRoom a (bytes_each s * length (e ∷ es))
+same_count : (text : List ℕ) (v : Values) (a : ℕ) (s : DatumSize) (d e : Datum) (ds es : List Datum) → ShowsValues text v (values s d ds) → ShowsValues text v (values s e es) → HasRoom a (bytes_each s * length (d ∷ ds)) → HasRoom a (bytes_each s * length (e ∷ es))
 same_count text v a s d e ds es shows also room =
     let count : length (d ∷ ds) ≡ length (e ∷ es) = sym shows.1 ∙ also.1 in
     subst (λ (n : ℕ). HasRoom a (bytes_each s * n)) count room

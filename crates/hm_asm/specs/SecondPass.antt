@@ -12,7 +12,7 @@ use Rattle.hm_line.specs.declared.errors.AsmKind.TheVariants as kinds
 use Rattle.hm_text.specs.Refusals.{IsTextRefused}
 use Rattle.hm_text.specs.Texts.{IsTextOf}
 use Rattle.hm_tokens.specs.Tokens.{skip}
-use Rattle.hm_source.specs.declared.values.Size.{Size}
+use Rattle.hm_source.specs.declared.values.DatumSize.{DatumSize}
 use Rattle.hm_source.specs.Directives.{Datum, literal, named, beyond, Asked, org, align, space, values, bytes_each}
 use Rattle.hm_source.specs.Lines.{text_of, text_column, shifted}
 use Rattle.hm_source.specs.Places.{padding, next_place}
@@ -32,13 +32,13 @@ abbrev pub code_bytes : Instr → List ℕ
 code_bytes i = flat_map (to_le_bytes w16) (halfwords i)
 
 -- the number that a value stands for, of which a list keeps the low bytes; none where its name is not defined
-abbrev pub number_of : Naming → Size → Datum → Option ℕ
+abbrev pub number_of : Naming → DatumSize → Datum → Option ℕ
 number_of labels s (literal true n) = Some (2 ^ (8 * bytes_each s) - n)
 number_of labels s (literal false n) = Some n
 number_of labels s (named w) = labels w
 number_of labels s (beyond w n) = option_map (λ a. a + n) (labels w)
 
-abbrev pub AreValues : Naming → Size → List Datum → List ℕ → Type 0
+abbrev pub AreValues : Naming → DatumSize → List Datum → List ℕ → Type 0
 AreValues labels s [] bs = bs ≡ []
 AreValues labels s (d ∷ ds) bs = (n : ℕ) × (rest : List ℕ) × (number_of labels s d ≡ Some n) × AreValues labels s ds rest × (bs ≡ low_bytes (bytes_each s) n ++ rest)
 
@@ -56,7 +56,7 @@ AreBytes labels a text (directive asked) bs = AreAsked labels a asked bs
 
 -- REFUSALS
 -- n values have their numbers, and the next one is a name that is not defined
-abbrev pub IsFirstMissing : Naming → Size → List Datum → ℕ → Type 0
+abbrev pub IsFirstMissing : Naming → DatumSize → List Datum → ℕ → Type 0
 IsFirstMissing labels s [] n = ⊥
 IsFirstMissing labels s (d ∷ ds) zero = number_of labels s d ≡ None
 IsFirstMissing labels s (d ∷ ds) (suc n) = (m : ℕ) × (number_of labels s d ≡ Some m) × IsFirstMissing labels s ds n

@@ -25,7 +25,7 @@ use crate::making::Making;
 use hm_base::{Image, OutOfMemory};
 use hm_line::{AsmKind, Labels, TextErr, column};
 use hm_source::{
-    Directive, Item, Line, Size, Statement, Values, behind_mark, first_line, item_at, padding,
+    DatumSize, Directive, Item, Line, Statement, Values, behind_mark, first_line, item_at, padding,
     read_source_line,
 };
 use hm_text::parse_instr;
@@ -33,7 +33,7 @@ use hm_tokens::{Mark, skip};
 use std::alloc::Global;
 
 /// The number that an item stands for, of which a list keeps the low bytes. None where its name is not defined.
-fn number_of(size: Size, item: Item<'_>, labels: &Labels) -> Option<u64>
+fn number_of(size: DatumSize, item: Item<'_>, labels: &Labels) -> Option<u64>
     requires fits { Fits size (datum item) }
     ensures value { result ≡ number_of (get labels.now) size (datum item.entry) }
 {
@@ -51,7 +51,7 @@ fn number_of(size: Size, item: Item<'_>, labels: &Labels) -> Option<u64>
 }
 
 /// Adds the low bytes of a number.
-fn add_number(out: &mut Making, size: Size, number: u64) -> Result<(), OutOfMemory>
+fn add_number(out: &mut Making, size: DatumSize, number: u64) -> Result<(), OutOfMemory>
     requires room { HasRoom (place_of out.old) (bytes_each size) }
     ensures added { OnOk result (out.new ≡ with_bytes out.old (low_bytes (bytes_each size) number)) }
 {

@@ -40,7 +40,7 @@ use Rattle.hm_plain.proofs.Ticks.{NextStops, OnlyTaint, begun, devices_restore, 
 use Rattle.hm_window.specs.Positions.{may_end}
 use Rattle.hm_handlers.specs.Entries.{entered, interrupted_by, refused}
 use Rattle.hm_handlers.specs.Nested.{Ended, Interrupted, Nested, NestedEnd, NestedStep, Offends, TickEnd, around_under, at_step, flows, handler_step, handles, letter, letters, program_under, returned, step, step_under, steps, uncounted, went, with_acts}
-use Rattle.hm_handlers.specs.Order.{HaltsInThread, Keeps, KeepsOrder, thread_at, thread_of}
+use Rattle.hm_handlers.specs.Order.{HaltsInThread, AgreesInThread, KeepsOrder, thread_at, thread_of}
 use Rattle.hm_handlers.specs.Registers.{registers_in, restored}
 use Rattle.hm_handlers.specs.Runs.{Run, begin, after_count, closed, ended, enters, enters_unless, may_enter, next, picks, run, stops, tick_of, stacked_of}
 use Rattle.hm_handlers.proofs.Hiding.{Hides, counted_hides, entry_hides, hides_none, own_live, restored_live, scalar_hides}
@@ -203,13 +203,13 @@ module _ (listing : Listing) (s : Sched) (first : State) where
 
   -- ENDS
   abbrev KeepsRun : Run → Type 0
-  KeepsRun x = Keeps machine first x.outcome x.machine
+  KeepsRun x = AgreesInThread machine first x.outcome x.machine
 
   abbrev no_timed : Timed
   no_timed = record { outcome = None; config = record { a = 0; b = 0; n = 0; steps = 0; state = first }; acts = []; ticks = 0 }
 
   -- a stop of the thread
-  thread_outcome : (o : Outcome) (c : Config State) → AgreesAfter machine first (Some o) c → thread_at (Some o) c [] ≡ c → Keeps machine first (Some o) (record { config = c; acts = [] })
+  thread_outcome : (o : Outcome) (c : Config State) → AgreesAfter machine first (Some o) c → thread_at (Some o) c [] ≡ c → AgreesInThread machine first (Some o) (record { config = c; acts = [] })
   thread_outcome o c h same = record { thread = subst (AgreesAfter machine first (Some o)) (sym same) h; halts = in_thread o }
     where
       in_thread : (o : Outcome) → HaltsInThread (Some o) []
@@ -235,13 +235,13 @@ module _ (listing : Listing) (s : Sched) (first : State) where
 
   -- a stop of a handler
   handler_stop : (t : ℕ) (x : Activation) (xs : List Activation) (c : Config State) (pc : ℕ) (e : Stop) (acts : List Interrupted)
-      → Keeps machine first (Some (timed.outcome_of_stop t (x ∷ xs) c pc e)) (record { config = c; acts = acts })
+      → AgreesInThread machine first (Some (timed.outcome_of_stop t (x ∷ xs) c pc e)) (record { config = c; acts = acts })
   handler_stop t x xs c pc (stop.Fault f) acts = record { thread = tt; halts = tt }
   handler_stop t x xs c pc (stop.Tainted addr) acts = record { thread = tt; halts = tt }
   handler_stop t x xs c pc (stop.Denied addr) acts = record { thread = tt; halts = tt }
 
   handler_cause : (t : ℕ) (x : Activation) (xs : List Activation) (c : Config State) (pc : ℕ) (e : Cause) (acts : List Interrupted) → IsStop e
-      → Keeps machine first (Some (timed.outcome_of_cause t (x ∷ xs) c pc e)) (record { config = c; acts = acts })
+      → AgreesInThread machine first (Some (timed.outcome_of_cause t (x ∷ xs) c pc e)) (record { config = c; acts = acts })
   handler_cause t x xs c pc (cause.Halt reason) acts h = absurd h
   handler_cause t x xs c pc cause.Full acts h = absurd h
   handler_cause t x xs c pc (cause.Stop e) acts h = handler_stop t x xs c pc e acts
@@ -263,10 +263,10 @@ module _ (listing : Listing) (s : Sched) (first : State) where
       interrupt_holds machine (laws listing (thread_under s.lo s.hi s.floor) refl) first c _ (devices_restore listing (thread_under s.lo s.hi s.floor) refl first irq c.state) h
   counted_in_order irq c (x ∷ acts) h = hidden c (record c { state = with_devices (counted_with irq) c.state }) x acts refl refl (counted_hides irq c.state) h
 
-  going : (x : Nested) → InOrder x.config x.acts → Keeps machine first None x
+  going : (x : Nested) → InOrder x.config x.acts → AgreesInThread machine first None x
   going x h = record { thread = h; halts = tt }
 
-  refused_keeps : (t : ℕ) (x : Nested) (why : EnterErr) → Keeps machine first (Some (refused t x.config why)) x
+  refused_keeps : (t : ℕ) (x : Nested) (why : EnterErr) → AgreesInThread machine first (Some (refused t x.config why)) x
   refused_keeps t x (err.StackSpent sp) = record { thread = tt; halts = tt }
   refused_keeps t x (err.Vector addr) = record { thread = tt; halts = tt }
 
@@ -284,7 +284,7 @@ module _ (listing : Listing) (s : Sched) (first : State) where
   may_enter_keeps true x t es h = picked_keeps (picks (record { outcome = None; machine = x; ticks = t; entries = es })) x t es h
   may_enter_keeps false x t es h = going x h
 
-  judged : (b : Bool) (line : TickLine) (x : Nested) (t : ℕ) (es : List ℕ) (o : Outcome) → Keeps machine first (Some o) x → InOrder x.config x.acts
+  judged : (b : Bool) (line : TickLine) (x : Nested) (t : ℕ) (es : List ℕ) (o : Outcome) → AgreesInThread machine first (Some o) x → InOrder x.config x.acts
       → let y : Run = record { outcome = None; machine = x; ticks = t; entries = es } in KeepsRun (cond b (may_enter s (after_count line y)) (record y { outcome = Some o }))
   judged true line x t es o broken h = may_enter_keeps s.entries _ t es (counted_in_order line.irq x.config x.acts h)
   judged false line x t es o broken h = broken
@@ -296,10 +296,10 @@ module _ (listing : Listing) (s : Sched) (first : State) where
   tick_keeps : (line : TickLine) (x : Run) (o : Option Outcome) → x.outcome ≡ o → KeepsRun x → KeepsRun (tick_of listing s line x o)
   tick_keeps line x (Some o) e h = h
   tick_keeps line x None e h =
-      let on : Keeps machine first None x.machine = subst (λ (o : Option Outcome). Keeps machine first o x.machine) e h in
+      let on : AgreesInThread machine first None x.machine = subst (λ (o : Option Outcome). AgreesInThread machine first o x.machine) e h in
       ended_keeps line x (letters listing s 0 line.letters x.machine) (letters_agree line.letters 0 x.machine on.thread)
 
-  out_keeps : (o : Option Outcome) (x : Nested) → Keeps machine first o x → Keeps machine first (timed.or_out o) x
+  out_keeps : (o : Option Outcome) (x : Nested) → AgreesInThread machine first o x → AgreesInThread machine first (timed.or_out o) x
   out_keeps (Some o) x h = h
   out_keeps None x h = record { thread = h.thread; halts = tt }
 

@@ -21,7 +21,7 @@ use Rattle.hm_sched.specs.Schedule.{Sched, ticks_of}
 use Rattle.hm_state.specs.Start.{start}
 use Rattle.hm_state.specs.State.{State}
 use Rattle.hm_handlers.specs.Nested.{Interrupted, Nested}
-use Rattle.hm_handlers.specs.Order.{HaltsInThread, Keeps, KeepsOrder, thread_at, thread_of}
+use Rattle.hm_handlers.specs.Order.{HaltsInThread, AgreesInThread, KeepsOrder, thread_at, thread_of}
 use Rattle.hm_handlers.specs.Runs.{Run, run, run_out, shown, stacked_of}
 use Rattle.hm_handlers.proofs.Order.{keeps_order}
 

@@ -33,10 +33,10 @@ abbrev pub HaltsInThread : Option Outcome → List Interrupted → Type 0
 HaltsInThread (Some (outcome.Halted reason n)) acts = acts ≡ []
 HaltsInThread o acts = Unit {0}
 
-pub record Keeps (M : Program) (first : State) (o : Option Outcome) (x : Nested) : Type 0 where
+pub record AgreesInThread (M : Program) (first : State) (o : Option Outcome) (x : Nested) : Type 0 where
   pub thread : AgreesAfter M first o (thread_at o x.config x.acts)
   pub halts : HaltsInThread o x.acts
 
 -- After a tick whole instructions in order agree with the thread while the run goes on; where it halts, or the thread has a fault, so do they.
 abbrev pub KeepsOrder : Listing → List Segment → Sched → Run → Type 0
-KeepsOrder listing image s x = Keeps (thread_program listing s) (start image) x.outcome x.machine
+KeepsOrder listing image s x = AgreesInThread (thread_program listing s) (start image) x.outcome x.machine

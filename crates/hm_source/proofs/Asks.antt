@@ -6,8 +6,8 @@ use Rattle.std.proofs.lemmas.Slice.Eq.{bytes_eq-Decides}
 use Rattle.hm_tokens.specs.Lines.{AreTokensOf}
 use Rattle.hm_tokens.specs.Tokens.{Tok, word, number}
 use Rattle.hm_source.specs.declared.directives.Multiple.{Multiple}
-use Rattle.hm_source.specs.declared.values.Size.{Size}
-use Rattle.hm_source.specs.declared.values.Size.TheVariants.{Byte, Half, Word}
+use Rattle.hm_source.specs.declared.values.DatumSize.{DatumSize}
+use Rattle.hm_source.specs.declared.values.DatumSize.TheVariants.{Byte, Half, Word}
 use Rattle.hm_source.specs.declared.values.Values.{Values}
 use Rattle.hm_source.specs.Directives.{Datum, Asked, org, align, space, values, asked_tokens, IsDirective, IsInRange, list_name, list_tokens, multiple_of}
 use Rattle.hm_source.specs.Shown.{AreFront, AreListed, ShowsValues}
@@ -58,7 +58,7 @@ with_name text name behind asked f e t r =
 differ : (a b : List ℕ) → bytes_eq a b ≡ false → a ≡ b → ⊥
 differ a b f e = false≢true (sym f ∙ (bytes_eq-Decides a b).1 e)
 
-pub one_size : (s t : Size) → list_name s ≡ list_name t → s ≡ t
+pub one_size : (s t : DatumSize) → list_name s ≡ list_name t → s ≡ t
 one_size Byte Byte e = refl
 one_size Byte Half e = absurd (differ (codes ".byte") (codes ".half") refl e)
 one_size Byte Word e = absurd (differ (codes ".byte") (codes ".word") refl e)
@@ -69,7 +69,7 @@ one_size Word Byte e = absurd (differ (codes ".word") (codes ".byte") refl e)
 one_size Word Half e = absurd (differ (codes ".word") (codes ".half") refl e)
 one_size Word Word e = refl
 
-pub no_list : (s : Size) → (list_name s ≡ codes ".org" → ⊥) × (list_name s ≡ codes ".align" → ⊥) × (list_name s ≡ codes ".space" → ⊥)
+pub no_list : (s : DatumSize) → (list_name s ≡ codes ".org" → ⊥) × (list_name s ≡ codes ".align" → ⊥) × (list_name s ≡ codes ".space" → ⊥)
 no_list Byte = (differ (codes ".byte") (codes ".org") refl, differ (codes ".byte") (codes ".align") refl, differ (codes ".byte") (codes ".space") refl)
 no_list Half = (differ (codes ".half") (codes ".org") refl, differ (codes ".half") (codes ".align") refl, differ (codes ".half") (codes ".space") refl)
 no_list Word = (differ (codes ".word") (codes ".org") refl, differ (codes ".word") (codes ".align") refl, differ (codes ".word") (codes ".space") refl)
@@ -120,16 +120,16 @@ asks_align text name behind asked f d e =
     (r.0, subst (λ (n : ℕ). AreTokensOf behind (number n ∷ [])) r.1 t)
 
 -- values that were read of what stands behind the name
-abbrev pub IsRead : Size → List ℕ → Values → Type 0
+abbrev pub IsRead : DatumSize → List ℕ → Values → Type 0
 IsRead s behind v = (v.size ≡ s) × (v.list.now ≡ behind)
 
-pub values_found : (text name behind : List ℕ) (s : Size) (v : Values) (d : Datum) (ds : List Datum) → AreFront text (word name ∷ []) behind → name ≡ list_name s → IsRead s behind v → AreListed s behind d ds → v.count ≡ length (d ∷ ds)
+pub values_found : (text name behind : List ℕ) (s : DatumSize) (v : Values) (d : Datum) (ds : List Datum) → AreFront text (word name ∷ []) behind → name ≡ list_name s → IsRead s behind v → AreListed s behind d ds → v.count ≡ length (d ∷ ds)
     → IsDirective text (values s d ds) × ShowsValues text v (values s d ds)
 values_found text name behind s v d ds f e r l n =
     let front : AreFront text (word (list_name s) ∷ []) v.list.now = subst (λ (x : List ℕ). AreFront text (word (list_name s) ∷ []) x) (sym r.1) (subst (λ (x : List ℕ). AreFront text (word x ∷ []) behind) e f) in
     (with_name text name behind (values s d ds) f e l.0 l.1, (r.0, n, front, subst (λ (x : List ℕ). AreListed s x d ds) (sym r.1) l))
 
-pub values_only : (text name behind : List ℕ) (s : Size) (v : Values) (asked : Asked) → AreFront text (word name ∷ []) behind → name ≡ list_name s → IsRead s behind v → IsDirective text asked
+pub values_only : (text name behind : List ℕ) (s : DatumSize) (v : Values) (asked : Asked) → AreFront text (word name ∷ []) behind → name ≡ list_name s → IsRead s behind v → IsDirective text asked
     → ((d : Datum) (ds : List Datum) → AreListed s behind d ds → v.count ≡ length (d ∷ ds)) → ShowsValues text v asked
 values_only text name behind s v (org a) f e r d n = absurd ((no_list s).0 (sym e ∙ (behind_name text name behind (org a) f d).name_is))
 values_only text name behind s v (align a) f e r d n = absurd ((no_list s).1 (sym e ∙ (behind_name text name behind (align a) f d).name_is))
@@ -137,5 +137,5 @@ values_only text name behind s v (space a) f e r d n = absurd ((no_list s).2 (sy
 values_only text name behind s v (values t x xs) f e r d n =
     let b = behind_name text name behind (values t x xs) f d in
     let same : t ≡ s = one_size t s (sym b.name_is ∙ e) in
-    let listed : AreListed s behind x xs = subst (λ (z : Size). AreListed z behind x xs) same (b.tokens, b.range) in
-    subst (λ (z : Size). ShowsValues text v (values z x xs)) (sym same) (values_found text name behind s v x xs f e r listed (n x xs listed)).1
+    let listed : AreListed s behind x xs = subst (λ (z : DatumSize). AreListed z behind x xs) same (b.tokens, b.range) in
+    subst (λ (z : DatumSize). ShowsValues text v (values z x xs)) (sym same) (values_found text name behind s v x xs f e r listed (n x xs listed)).1

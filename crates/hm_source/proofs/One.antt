@@ -2,7 +2,7 @@
 use Rattle.std.proofs.Common.{◌≡◌, ℕ, true, false, List, [], ◌∷◌, ◌++◌, refl, sym, ◌∙◌, arith}
 use Rattle.std.proofs.lemmas.List.{append-nil}
 use Rattle.hm_tokens.specs.Tokens.{Tok, number, mark}
-use Rattle.hm_source.specs.declared.values.Size.{Size}
+use Rattle.hm_source.specs.declared.values.DatumSize.{DatumSize}
 use Rattle.hm_source.specs.Directives.{Datum, literal, named, beyond, datum_tokens, list_tokens}
 use Rattle.hm_source.specs.Shown.{AreListed}
 use Rattle.hm_source.proofs.Fronts.{mark_is, one_tokens}
@@ -64,5 +64,5 @@ one_list d e (x ∷ xs) (y ∷ ys) f =
     let more = one_list x y xs ys (tail_is (mark 44) (mark 44) (list_tokens x xs) (list_tokens y ys) same.1) in
     (same.0, cc (more.0, more.1))
 
-pub one_listed : (s : Size) (text : List ℕ) (d e : Datum) (ds es : List Datum) → AreListed s text d ds → AreListed s text e es → (d ≡ e) × (ds ≡ es)
+pub one_listed : (s : DatumSize) (text : List ℕ) (d e : Datum) (ds es : List Datum) → AreListed s text d ds → AreListed s text e es → (d ≡ e) × (ds ≡ es)
 one_listed s text d e ds es a b = one_list d e ds es (one_tokens text (list_tokens d ds) (list_tokens e es) a.0 b.0)

@@ -6,8 +6,8 @@ use Rattle.hm_tokens.specs.Names.{is_label_name}
 use Rattle.hm_tokens.specs.Tokens.{Tok, word, number, mark}
 use Rattle.hm_source.specs.declared.directives.Multiple.{Multiple}
 use Rattle.hm_source.specs.declared.directives.Multiple.TheVariants.{Two, Four, Eight}
-use Rattle.hm_source.specs.declared.values.Size.{Size}
-use Rattle.hm_source.specs.declared.values.Size.TheVariants.{Byte, Half, Word}
+use Rattle.hm_source.specs.declared.values.DatumSize.{DatumSize}
+use Rattle.hm_source.specs.declared.values.DatumSize.TheVariants.{Byte, Half, Word}
 
 -- VALUES
 -- what stands in a list: a number, before which `-` may stand; a name; or a name and a number more
@@ -28,13 +28,13 @@ list_tokens d [] = datum_tokens d
 list_tokens d (e ∷ es) = datum_tokens d ++ mark 44 ∷ list_tokens e es
 
 -- how many bytes each value of a list has
-abbrev pub bytes_each : Size → ℕ
+abbrev pub bytes_each : DatumSize → ℕ
 bytes_each Byte = 1
 bytes_each Half = 2
 bytes_each Word = 4
 
 -- a number fits with a sign or without; a name stands for an address, which a word alone holds
-abbrev pub Fits : Size → Datum → Type 0
+abbrev pub Fits : DatumSize → Datum → Type 0
 Fits s (literal false n) = n < 2 ^ (8 * bytes_each s)
 Fits s (literal true n) = n ≤ 2 ^ (8 * bytes_each s - 1)
 Fits Word (named w) = is_label_name w ≡ true
@@ -47,7 +47,7 @@ pub data Asked : Type 0 where
   org : ℕ → Asked
   align : ℕ → Asked
   space : ℕ → Asked
-  values : Size → Datum → List Datum → Asked
+  values : DatumSize → Datum → List Datum → Asked
 
 -- what `.align` may fill up to
 abbrev pub multiple_of : Multiple → ℕ
@@ -55,7 +55,7 @@ multiple_of Two = 2
 multiple_of Four = 4
 multiple_of Eight = 8
 
-abbrev pub list_name : Size → List ℕ
+abbrev pub list_name : DatumSize → List ℕ
 list_name Byte = codes ".byte"
 list_name Half = codes ".half"
 list_name Word = codes ".word"

@@ -3,7 +3,7 @@ use Rattle.std.specs.Prelude.{◌≡◌, ℕ, List, [], ◌∷◌, length, Some}
 use Rattle.std.specs.List.{AllByRecursion}
 use Rattle.hm_tokens.specs.Lines.{AreTokensOf}
 use Rattle.hm_tokens.specs.Tokens.{Tok, word, mark, skip, token_at}
-use Rattle.hm_source.specs.declared.values.Size.{Size}
+use Rattle.hm_source.specs.declared.values.DatumSize.{DatumSize}
 use Rattle.hm_source.specs.declared.values.Item.{Item}
 use Rattle.hm_source.specs.declared.values.Item.TheVariants as items
 use Rattle.hm_source.specs.declared.values.Values.{Values}
@@ -29,7 +29,7 @@ datum (items.Name w) = named w.now
 datum (items.Beyond w n) = beyond w.now n
 
 -- a text is a list of these values, each of them in its range
-abbrev pub AreListed : Size → List ℕ → Datum → List Datum → Type 0
+abbrev pub AreListed : DatumSize → List ℕ → Datum → List Datum → Type 0
 AreListed s text d ds = AreTokensOf text (list_tokens d ds) × AllByRecursion (Fits s) (d ∷ ds)
 
 -- behind the name of its directive the text goes on with the list

@@ -7,7 +7,7 @@ ghost use Rattle.hm_tokens.specs.Lines.{AreTokensOf};
 ghost use Rattle.hm_tokens.specs.Tokens.{number, word};
 
 use crate::tokens::{number_at, word_at};
-use crate::values::{Size, Values, read_values};
+use crate::values::{DatumSize, Values, read_values};
 use hm_tokens::skip;
 
 /// What `.align` fills up to.
@@ -71,18 +71,18 @@ fn multiple_alone(text: &[u8]) -> Option<Multiple>
 }
 
 /// The size of the values of a list, by the name of its directive.
-fn list_size(name: &[u8]) -> Option<Size>
+fn list_size(name: &[u8]) -> Option<DatumSize>
     ensures found { IfSome result (λ s. name.now ≡ list_name s) }
-    ensures only { (s : Size) → name.now ≡ list_name s → IsSomeAnd result (λ t. t ≡ s) }
+    ensures only { (s : DatumSize) → name.now ≡ list_name s → IsSomeAnd result (λ t. t ≡ s) }
 {
     if name == b".word".as_slice() {
-        return Some(Size::Word);
+        return Some(DatumSize::Word);
     }
     if name == b".half".as_slice() {
-        return Some(Size::Half);
+        return Some(DatumSize::Half);
     }
     if name == b".byte".as_slice() {
-        return Some(Size::Byte);
+        return Some(DatumSize::Byte);
     }
     None
 }

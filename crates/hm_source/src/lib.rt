@@ -13,7 +13,7 @@ pub use lines::{Line, first_line, read_source_line};
 pub use places::{behind_statement, padding};
 pub use statements::Statement;
 pub use tokens::{behind_mark, number_at};
-pub use values::{Item, Size, Values, fits, item_at};
+pub use values::{DatumSize, Item, Values, fits, item_at};
 
 #[cfg(test)]
 mod tests;

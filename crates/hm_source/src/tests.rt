@@ -3,7 +3,7 @@ use hm_line::{AsmKind, TextErr};
 use hm_tokens::Mark;
 
 /// What a list of values is read as.
-fn list(size: Size, count: u32, list: &'static [u8]) -> Statement<'static> {
+fn list(size: DatumSize, count: u32, list: &'static [u8]) -> Statement<'static> {
     Statement::Directive(Directive::Values(Values { size, count, list }))
 }
 
@@ -50,25 +50,25 @@ fn reads_lines(rt: HostRuntime) {
             b"x:.byte -128 , 255 @ two",
             Some(b"x"),
             3,
-            list(Size::Byte, 2, b" -128 , 255 "),
+            list(DatumSize::Byte, 2, b" -128 , 255 "),
         ),
         (
             b".half -0x8000,65535,0",
             None,
             1,
-            list(Size::Half, 3, b" -0x8000,65535,0"),
+            list(DatumSize::Half, 3, b" -0x8000,65535,0"),
         ),
         (
             b".word a,b+4,-2147483648",
             None,
             1,
-            list(Size::Word, 3, b" a,b+4,-2147483648"),
+            list(DatumSize::Word, 3, b" a,b+4,-2147483648"),
         ),
         (
             b".word b+4294967295",
             None,
             1,
-            list(Size::Word, 1, b" b+4294967295"),
+            list(DatumSize::Word, 1, b" b+4294967295"),
         ),
     ];
     for (line, label, column, statement) in rows {
@@ -142,7 +142,9 @@ fn reads_items(rt: HostRuntime) {
     );
     let more = behind_mark(Mark::Comma, behind).unwrap_or(b"");
     assert_eq!(rt; more, b" b".as_slice());
-    assert!(rt; fits(Size::Word, Item::Name(b"b")) && !fits(Size::Half, Item::Name(b"b")));
+    assert!(rt;
+        fits(DatumSize::Word, Item::Name(b"b")) && !fits(DatumSize::Half, Item::Name(b"b"))
+    );
     assert_eq!(rt; item_at(b"b+"), None);
     assert_eq!(rt; number_at(b"7+"), Some((7, b"+".as_slice())));
 }
@@ -196,8 +198,8 @@ fn places_statements(rt: HostRuntime) {
             0x2000_0000,
             Some(0x2004_0000),
         ),
-        (list(Size::Half, 1, b" 0"), 0xf_ffff, None),
-        (list(Size::Word, 3, b" 1,2,3"), 0, Some(12)),
+        (list(DatumSize::Half, 1, b" 0"), 0xf_ffff, None),
+        (list(DatumSize::Word, 3, b" 1,2,3"), 0, Some(12)),
     ];
     for (statement, at, next) in rows {
         assert_eq!(rt; behind_statement(statement, at), next, "at {at:?}");

@@ -11,22 +11,22 @@ use hm_tokens::{Mark, Token, is_label_name, skip};
 
 /// The size of the values of a list.
 #[derive(Clone, Copy, Debug, PartialEq, Eq)]
-pub enum Size {
+pub enum DatumSize {
     Byte,
     Half,
     Word,
 }
 
-impl Size {
+impl DatumSize {
     /// How many bytes each value has.
     pub fn bytes(self) -> u32
         ensures value { result ≡ bytes_each self }
         ensures few { result ≤ 4 }
     {
         match self {
-            Size::Byte => 1,
-            Size::Half => 2,
-            Size::Word => 4,
+            DatumSize::Byte => 1,
+            DatumSize::Half => 2,
+            DatumSize::Word => 4,
         }
     }
 
@@ -35,9 +35,9 @@ impl Size {
         ensures value { result ≡ 2 ^ (8 * bytes_each self) }
     {
         match self {
-            Size::Byte => 0x100,
-            Size::Half => 0x1_0000,
-            Size::Word => 0x1_0000_0000,
+            DatumSize::Byte => 0x100,
+            DatumSize::Half => 0x1_0000,
+            DatumSize::Word => 0x1_0000_0000,
         }
     }
 }
@@ -56,7 +56,7 @@ pub enum Item<'a> {
 /// The values of a list: their size, how many they are, and the text of the list.
 #[derive(Clone, Copy, Debug, PartialEq, Eq)]
 pub struct Values<'a> {
-    pub size: Size,
+    pub size: DatumSize,
     pub count: u32,
     pub list: &'a [u8],
 }
@@ -102,14 +102,14 @@ pub fn item_at(text: &[u8]) -> Option<(Item<'_>, &[u8])>
 }
 
 /// Whether a name may stand in a list: it is one that labels have, and the values are words.
-fn may_name(size: Size, name: &[u8]) -> bool
-    ensures value { IsTrue result ↔ ((size ≡ Size.Word) × (is_label_name name.now ≡ true)) }
+fn may_name(size: DatumSize, name: &[u8]) -> bool
+    ensures value { IsTrue result ↔ ((size ≡ DatumSize.Word) × (is_label_name name.now ≡ true)) }
 {
-    size == Size::Word && is_label_name(name)
+    size == DatumSize::Word && is_label_name(name)
 }
 
 /// Whether an item is in the range of values of a size.
-pub fn fits(size: Size, item: Item<'_>) -> bool
+pub fn fits(size: DatumSize, item: Item<'_>) -> bool
     ensures value { IsTrue result ↔ Fits size (datum item.entry) }
 {
     match item {
@@ -121,12 +121,12 @@ pub fn fits(size: Size, item: Item<'_>) -> bool
             }
         }
         Item::Name(name) => may_name(size, name),
-        Item::Beyond(name, number) => may_name(size, name) && number < Size::Word.limit(),
+        Item::Beyond(name, number) => may_name(size, name) && number < DatumSize::Word.limit(),
     }
 }
 
 /// How many values of a size a text lists, if it is a list of them.
-fn count_values(size: Size, text: &[u8]) -> Option<u32>
+fn count_values(size: DatumSize, text: &[u8]) -> Option<u32>
     requires small { length text.now < 2 ^ 31 }
     ensures found { IfSome result (λ n. (d : Datum) × (ds : List Datum) × AreListed size text.now d ds × (n ≡ length (d ∷ ds))) }
     ensures only { (d : Datum) (ds : List Datum) → AreListed size text.now d ds → IsSomeAnd result (λ n. n ≡ length (d ∷ ds)) }
@@ -148,7 +148,7 @@ fn count_values(size: Size, text: &[u8]) -> Option<u32>
 }
 
 /// The values of a size that a text lists, if it is a list of them.
-pub fn read_values(size: Size, list: &[u8]) -> Option<Values<'_>>
+pub fn read_values(size: DatumSize, list: &[u8]) -> Option<Values<'_>>
     requires small { length list.now < 2 ^ 31 }
     ensures found { IfSome result (λ v. (d : Datum) × (ds : List Datum) × AreListed size list.now d ds × (v.count ≡ length (d ∷ ds))) }
     ensures only { (d : Datum) (ds : List Datum) → AreListed size list.now d ds → IsSomeAnd result (λ v. v.count ≡ length (d ∷ ds)) }
