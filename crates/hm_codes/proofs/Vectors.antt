@@ -82,7 +82,7 @@ use Rattle.hm_isa.specs.Code.{add_base, bitwise_base, signed_base, vector_shift_
 use Rattle.hm_isa.specs.Code.{code_v1, code_v2, code_v3, code_v4, code_v5, code_v6, code_v7, code_v8, code_v9, code_v10, code_v11, code_long_bytes, code_long_halves, code_long_full, code_v12, code_one_element, code_invert, code_v13, code_v14, code_v15, code_v16, code_v17, code_v18}
 use Rattle.hm_isa.specs.Code.{code_offsets, code_wrapped_offsets, code_v19, code_compare_vectors, code_compare_scalar, code_v20, code_block, code_select, code_tail, code_v21, code_sum, code_dot, code_long_sum, code_long_dot, code_v22, code_v23, vector_code}
 use Rattle.hm_layout.proofs.Places.{head_or, rest_of, Place, place}
-use Rattle.hm_layout.proofs.Search.{no_rule, one_rule, decided_both, decided_test, decided_differ, Tried}
+use Rattle.hm_layout.proofs.Search.{no_rule, one_rule, decided_both, decided_test, decided_differ}
 use Rattle.hm_layout.proofs.Coded.{Coded, digit}
 use Rattle.hm_layout.proofs.Rows.{Row, sparing, at, spread, the_name, Named, named, coded, Plain, plain, Varied, varied}
 use Rattle.hm_layout.proofs.Tables.{of_table, ◌▹◌}
@@ -471,6 +471,3 @@ coded_vector =
 
 pub unique_vector : (u v : Vector) → vector_code u ≡ vector_code v → u ≡ v
 unique_vector = coded_vector.one refl
-
-pub try_vector : Tried Vector
-try_vector = coded_vector.tried

@@ -1,11 +1,11 @@
 -- Two runs of one image that halt come to one state in order.
 use Rattle.std.proofs.Common.{◌≡◌, ℕ, ◌+◌, ◌≤◌, ◌<◌, ap, refl, sym, ◌∙◌, subst, ◌⊎◌, ⊎_elim, inl, inr, zero, suc, arith, List, Some}
-use Rattle.hm_base.specs.Image.{Segment, sram_size, sram_start}
+use Rattle.hm_base.specs.Image.{Segment, sram_start}
 use Rattle.hm_codes.specs.Listing.{Listing}
 use Rattle.hm_plain.proofs.Orders.{stopped_later}
 use Rattle.hm_plain.specs.Orders.{HasStopped}
-use Rattle.hm_run.specs.Headline.{HaltsInOrder, taint_bit_in}
-use Rattle.hm_run.specs.InOrder.{InOrder, Running, Halted, Full, Faulted, in_order, in_order_report}
+use Rattle.hm_run.specs.Headline.{HaltsInOrder}
+use Rattle.hm_run.specs.InOrder.{InOrder, Halted, in_order, in_order_report}
 use Rattle.hm_run.specs.Report.{memory_text, report_text}
 use Rattle.hm_run.specs.Timed.{Timed}
 use Rattle.hm_run.specs.declared.Outcome.TheVariants as outcome

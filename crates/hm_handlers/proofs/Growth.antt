@@ -14,7 +14,7 @@ use Rattle.hm_run.proofs.Steps.{past}
 use Rattle.hm_run.specs.declared.Cause.{Cause}
 use Rattle.hm_run.specs.declared.Cause.TheVariants as cause
 use Rattle.hm_run.specs.declared.Reason.TheVariants.{Break}
-use Rattle.hm_run.specs.Program.{Program, answered, asks, begins, broken_by, caused, core, done_in_machine, in_machine, made_here, makes_here, other_by, other_here, printed, rows, served_by, unless_refused, vector_of}
+use Rattle.hm_run.specs.Program.{Program, answered, asks, broken_by, caused, core, done_in_machine, in_machine, makes_here, other_here, printed, rows, served_by, vector_of}
 use Rattle.hm_run.specs.Stops as why
 use Rattle.hm_run.specs.Stops.{at_break, break_of}
 use Rattle.hm_rows.proofs.Context.{context_bytes}

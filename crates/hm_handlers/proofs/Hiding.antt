@@ -1,7 +1,6 @@
 -- What handlers and entries change of the memory is hidden from the thread.
 use Rattle.std.proofs.Common.{◌≡◌, ℕ, zero, suc, ◌-◌, ◌==◌, slice_index, ap, refl, sym, ◌∙◌, subst, Bool, true, false, cond, nat_lt, List, [], ◌∷◌, Option, Some, None, Result, Ok, Err}
 use Rattle.hm_base.specs.declared.Fault.{Fault}
-use Rattle.hm_base.specs.declared.Place.TheVariants.{R}
 use Rattle.hm_base.specs.declared.Stop.{Stop}
 use Rattle.hm_beat.specs.Laws.{WritesTaint}
 use Rattle.hm_beat.specs.Ordered.{nothing, of_four}
@@ -14,30 +13,29 @@ use Rattle.hm_isa.specs.declared.Vector.{Vector}
 use Rattle.hm_mem.specs.Devices.{open_devices}
 use Rattle.hm_mem.specs.Memory.{Around, thread_under}
 use Rattle.hm_mem.specs.Seen.{marks}
-use Rattle.hm_mem.specs.declared.Actor.TheVariants.{Thread, Handler}
+use Rattle.hm_mem.specs.declared.Actor.TheVariants.{Thread}
 use Rattle.hm_mem.specs.declared.Dev.{Dev}
-use Rattle.hm_order.specs.Beats.{Live, then}
+use Rattle.hm_order.specs.Beats.{Live}
 use Rattle.hm_order.specs.Machine.{begin}
-use Rattle.hm_order.proofs.Results.{decide, err_same, ok_err, ok_same, then_ok, true_not_false}
+use Rattle.hm_order.proofs.Results.{decide, ok_err, ok_same, true_not_false}
 use Rattle.hm_plain.proofs.Ticks.{open_arrived, open_cond}
 use Rattle.hm_plain.proofs.Vectors.{beat_rest}
 use Rattle.hm_rows.proofs.Context.{context_fresh, fresh}
 use Rattle.hm_rows.proofs.Rows.{row_laws}
 use Rattle.hm_rows.specs.Context.{with_context}
 use Rattle.hm_rows.specs.Rows.{refuse, vector_tree}
-use Rattle.hm_run.specs.declared.Cause.{Cause}
-use Rattle.hm_run.specs.Program.{Program, begins, caused, core, in_machine, rows, unless_refused}
+use Rattle.hm_run.specs.Program.{Program, begins, caused, in_machine, rows, unless_refused}
 use Rattle.hm_run.specs.Timed.{counted_with, with_devices}
 use Rattle.hm_sched.specs.Schedule.{Sched}
-use Rattle.hm_state.specs.State.{State, Cell, At, Byte, Value, Rest, cells, regs_of}
+use Rattle.hm_state.specs.State.{State, At, Byte, Value, Rest, cells, regs_of}
 use Rattle.hm_sys.specs.Exceptions.{accepted, tick_number}
 use Rattle.hm_thumb.specs.Laws.{under_handler}
 use Rattle.hm_thumb.specs.Steps.{Stepped}
-use Rattle.hm_whole.specs.Watched.{GoesHidden, Watched, In, Beside, Held, InCell, Besides, open_rest, held, dead, view}
-use Rattle.hm_whole.specs.Whole.{Went, goes_from, scalar_in_machine, seen_in, state_with}
+use Rattle.hm_whole.specs.Watched.{GoesHidden, Watched, In, Beside, Held, InCell, Besides, held, dead, view}
+use Rattle.hm_whole.specs.Whole.{Went, goes_from, scalar_in_machine, state_with}
 use Rattle.hm_whole.proofs.Agreement.{whole-hides}
 use Rattle.hm_handlers.specs.Entries.{entered_state}
-use Rattle.hm_handlers.specs.Registers.{bare, registers_in, restored}
+use Rattle.hm_handlers.specs.Registers.{registers_in, restored}
 
 -- The bytes that are not tainted in t are those of s, and the output and the device words that a thread may read are the same.
 pub record Hides (s t : State) : Type 0 where

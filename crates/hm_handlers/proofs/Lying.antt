@@ -1,11 +1,11 @@
 -- After each tick every tainted byte lies where an entry or a handler may write.
-use Rattle.std.proofs.Common.{◌≡◌, ◌⊎◌, ℕ, zero, suc, ◌==◌, ◌+◌, ◌-◌, ◌*◌, ◌/◌, ◌%◌, ◌^◌, ◌<◌, ◌≤◌, ap, refl, sym, ◌∙◌, subst, Bool, true, false, cond, not, ◌&&◌, ◌||◌, nat_le, nat_lt, List, [], ◌∷◌, map, drop, length, Option, Some, None, Result, Ok, Err, inl, inr, ⊎_elim, arith}
+use Rattle.std.proofs.Common.{◌≡◌, ◌⊎◌, ℕ, zero, suc, ◌==◌, ◌+◌, ◌-◌, ◌*◌, ◌/◌, ◌%◌, ◌^◌, ◌<◌, ◌≤◌, ap, refl, sym, ◌∙◌, Bool, true, false, cond, not, ◌&&◌, ◌||◌, nat_le, nat_lt, List, [], ◌∷◌, drop, Option, Some, None, Result, Ok, Err, inl, inr, ⊎_elim, arith}
 use Rattle.std.proofs.lemmas.Bool.Decides.{nat_tests}
 use Rattle.hm_base.specs.Image.{Segment}
 use Rattle.hm_base.specs.declared.Fault.{Fault}
 use Rattle.hm_base.specs.declared.Stop.{Stop}
 use Rattle.hm_codes.specs.Listing.{Listing}
-use Rattle.hm_exc.specs.Entry.{actor_under, entry_refusal, in_frame}
+use Rattle.hm_exc.specs.Entry.{entry_refusal, in_frame}
 use Rattle.hm_exc.specs.Frame.{frame_base, frame_size, has_room}
 use Rattle.hm_exc.specs.Return.{return_rule}
 use Rattle.hm_exc.specs.declared.types.Activation.{Activation}
@@ -15,32 +15,27 @@ use Rattle.hm_isa.specs.declared.Flow.{Flow}
 use Rattle.hm_isa.specs.declared.Flow.TheVariants as flow
 use Rattle.hm_isa.specs.declared.Instr.{Instr}
 use Rattle.hm_isa.specs.declared.Instr.TheVariants as instr
-use Rattle.hm_mem.specs.Memory.{thread_under}
-use Rattle.hm_mem.specs.Seen.{is_allowed, lies_in_sram}
 use Rattle.hm_order.specs.Beats.{then}
 use Rattle.hm_order.specs.Turns.{Turn, Older, Younger, turn}
 use Rattle.hm_order.specs.Machine.{Config, End, Stopped, Broken as Breaks, begun, older, younger}
-use Rattle.hm_order.proofs.Results.{decide, true_not_false}
+use Rattle.hm_order.proofs.Results.{decide}
 use Rattle.hm_regs.specs.declared.Regs.{Regs}
 use Rattle.hm_run.specs.declared.Cause.{Cause}
 use Rattle.hm_run.specs.declared.Outcome.{Outcome}
-use Rattle.hm_run.specs.Program.{Program, steps_left, vector_of}
+use Rattle.hm_run.specs.Program.{steps_left, vector_of}
 use Rattle.hm_run.specs.Timed as timed
-use Rattle.hm_run.specs.Timed.{Timed, counted_with, with_devices}
 use Rattle.hm_sched.specs.Schedule.{TickLine, Sched, older_letter, younger_letter, ticks_of}
 use Rattle.hm_state.specs.Start.{start_under}
 use Rattle.hm_state.specs.State.{State, Byte, regs_of}
-use Rattle.hm_thumb.specs.Laws.{under_handler}
 use Rattle.hm_whole.specs.Whole.{Went, scalar_in_machine, seen_in, state_with}
 use Rattle.hm_window.specs.Positions.{may_end}
 use Rattle.hm_window.specs.declared.rule.Rule.{Rule}
-use Rattle.hm_handlers.specs.Entries.{entered, entered_state, interrupted_by, refused}
+use Rattle.hm_handlers.specs.Entries.{entered, entered_state, interrupted_by}
 use Rattle.hm_handlers.specs.Nested.{Ended, Interrupted, Nested, NestedEnd, NestedStep, Offends, TickEnd, around_under, at_step, flows, handler_step, handles, letter, letters, program_under, returned, step, step_under, steps, uncounted, went, with_acts}
-use Rattle.hm_handlers.specs.Registers.{restored}
 use Rattle.hm_handlers.specs.Runs.{Run, after_count, begin, closed, ended, enters, enters_unless, may_enter, next, picks, run, stopped_under, stops, tick_of}
 use Rattle.hm_handlers.specs.Taint.{Below, MayBeTainted, TaintLies}
-use Rattle.hm_handlers.proofs.Growing.{Allowed, Grows, Nothing, grows_none, handler_scalar, not_false}
-use Rattle.hm_handlers.proofs.Growth.{StepGrows, begun_grows, fault_grows, same_bytes, thread_older, thread_younger, vector_grows, younger_grows}
+use Rattle.hm_handlers.proofs.Growing.{Allowed, Grows, Nothing, handler_scalar}
+use Rattle.hm_handlers.proofs.Growth.{StepGrows, begun_grows, fault_grows, thread_older, thread_younger, vector_grows, younger_grows}
 use Rattle.hm_handlers.proofs.Written.{handler_beat}
 
 either_of : (x y : Bool) → (x || y) ≡ true → (x ≡ true) ⊎ (y ≡ true)

@@ -1,5 +1,5 @@
 -- After each tick whole instructions in order agree with the thread, whatever enters and whatever handlers do.
-use Rattle.std.proofs.Common.{◌≡◌, ℕ, zero, suc, ◌==◌, ◌+◌, ap, refl, sym, ◌∙◌, subst, eqb-true, Bool, true, false, cond, List, [], ◌∷◌, map, drop, length, Option, Some, None, Result, Ok, Err}
+use Rattle.std.proofs.Common.{◌≡◌, ℕ, zero, suc, ◌==◌, ◌+◌, refl, sym, ◌∙◌, subst, eqb-true, Bool, true, false, cond, List, [], ◌∷◌, map, drop, Option, Some, None, Result, Ok, Err}
 use Rattle.hm_base.specs.Image.{Segment}
 use Rattle.hm_base.specs.declared.Fault.{Fault}
 use Rattle.hm_base.specs.declared.Stop.{Stop}
@@ -15,10 +15,10 @@ use Rattle.hm_isa.specs.declared.Flow.TheVariants as flow
 use Rattle.hm_isa.specs.declared.Instr.{Instr}
 use Rattle.hm_isa.specs.declared.Instr.TheVariants as instr
 use Rattle.hm_mem.specs.Memory.{thread_under}
-use Rattle.hm_mem.specs.declared.Actor.TheVariants.{Thread, Handler}
+use Rattle.hm_mem.specs.declared.Actor.TheVariants.{Thread}
 use Rattle.hm_order.specs.Beats.{then}
 use Rattle.hm_order.specs.Turns.{Turn, Older, Younger, turn}
-use Rattle.hm_order.specs.Machine.{Config, End, Stopped, Broken as Breaks, older, younger}
+use Rattle.hm_order.specs.Machine.{Config, End, Stopped, Broken as Breaks, younger}
 use Rattle.hm_order.specs.Position.{Agrees, Holds, StopsAt}
 use Rattle.hm_order.proofs.Headline.{explained}
 use Rattle.hm_order.proofs.Steps.{interrupt_holds, older_agrees, younger_agrees}
@@ -36,14 +36,14 @@ use Rattle.hm_state.specs.State.{State, regs_of}
 use Rattle.hm_whole.specs.Whole.{Went, scalar_in_machine, seen_in}
 use Rattle.hm_plain.specs.Overlap.{AgreesAfter}
 use Rattle.hm_plain.proofs.Laws.{laws}
-use Rattle.hm_plain.proofs.Ticks.{NextStops, OnlyTaint, begun, devices_restore, next_stops, stop_keeps, younger_only}
+use Rattle.hm_plain.proofs.Ticks.{OnlyTaint, begun, devices_restore, next_stops, stop_keeps, younger_only}
 use Rattle.hm_window.specs.Positions.{may_end}
 use Rattle.hm_handlers.specs.Entries.{entered, interrupted_by, refused}
 use Rattle.hm_handlers.specs.Nested.{Ended, Interrupted, Nested, NestedEnd, NestedStep, Offends, TickEnd, around_under, at_step, flows, handler_step, handles, letter, letters, program_under, returned, step, step_under, steps, uncounted, went, with_acts}
 use Rattle.hm_handlers.specs.Order.{HaltsInThread, AgreesInThread, KeepsOrder, thread_at, thread_of}
 use Rattle.hm_handlers.specs.Registers.{registers_in, restored}
 use Rattle.hm_handlers.specs.Runs.{Run, begin, after_count, closed, ended, enters, enters_unless, may_enter, next, picks, run, stops, tick_of, stacked_of}
-use Rattle.hm_handlers.proofs.Hiding.{Hides, counted_hides, entry_hides, hides_none, own_live, restored_live, scalar_hides}
+use Rattle.hm_handlers.proofs.Hiding.{Hides, counted_hides, entry_hides, own_live, restored_live, scalar_hides}
 use Rattle.hm_handlers.proofs.Steps.{IsStop, StepHides, fault_hides, row_hides, younger_hides}
 
 module _ (listing : Listing) (s : Sched) (first : State) where

@@ -3,13 +3,11 @@ use Rattle.std.proofs.Common.{◌≡◌, ℕ, zero, suc, ◌==◌, ◌+◌, ap, 
 use Rattle.hm_base.specs.Image.{Segment}
 use Rattle.hm_codes.specs.Listing.{Listing}
 use Rattle.hm_order.specs.Beats.{then}
-use Rattle.hm_order.specs.Turns.{Turn, Older, Younger}
-use Rattle.hm_order.specs.Machine.{Config, End, Stopped, Broken, older, younger}
-use Rattle.hm_run.specs.declared.Cause.{Cause}
+use Rattle.hm_order.specs.Machine.{Config, Stopped, Broken, older, younger}
 use Rattle.hm_run.specs.declared.Outcome.{Outcome}
 use Rattle.hm_run.specs.declared.Outcome.TheVariants as outcome
 use Rattle.hm_run.specs.Program as program
-use Rattle.hm_run.specs.Program.{Program, Stepped, Stopping, Ticked, letter_step, letter_steps, older_steps, steps_left, vector_of}
+use Rattle.hm_run.specs.Program.{Program, Stepped, Ticked, letter_step, letter_steps, older_steps, steps_left, vector_of}
 use Rattle.hm_run.specs.Timed as timed
 use Rattle.hm_exc.specs.declared.types.Activation.{Activation}
 use Rattle.hm_run.specs.Timed.{Timed, at_stop, counted_with, outcome_of, thread_program, with_devices}
@@ -17,7 +15,7 @@ use Rattle.hm_sched.specs.Schedule.{TickLine, Sched, older_letter, younger_lette
 use Rattle.hm_state.specs.State.{State}
 use Rattle.hm_window.specs.Positions.{may_end}
 use Rattle.hm_window.specs.declared.rule.Rule.TheVariants as rule
-use Rattle.hm_handlers.specs.Nested.{Ended, Nested, NestedEnd, NestedStep, TickEnd, at_step, letter, letters, step, steps, with_acts}
+use Rattle.hm_handlers.specs.Nested.{Ended, Nested, NestedStep, TickEnd, at_step, letter, letters, step, steps, with_acts}
 use Rattle.hm_handlers.specs.Runs.{Run, after_count, begin, closed, ended, enters, next, picks, run, shown, tick_end, tick_of}
 
 -- nothing is interrupted

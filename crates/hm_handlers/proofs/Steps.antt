@@ -1,5 +1,5 @@
 -- A step of a handler hides what it changes, and stops for no halt.
-use Rattle.std.proofs.Common.{◌≡◌, ℕ, zero, suc, ◌==◌, ◌+◌, ap, refl, sym, ◌∙◌, subst, Bool, true, false, cond, List, [], ◌∷◌, Option, Some, None, Result, Ok, Err}
+use Rattle.std.proofs.Common.{◌≡◌, ℕ, zero, suc, ◌==◌, ◌+◌, ap, refl, sym, ◌∙◌, subst, Bool, true, false, cond, [], ◌∷◌, Option, Some, None, Result, Ok, Err}
 use Rattle.hm_base.specs.declared.Fault.{Fault}
 use Rattle.hm_base.specs.declared.Stop.{Stop}
 use Rattle.hm_codes.specs.Listing.{Listing}
@@ -10,10 +10,10 @@ use Rattle.hm_mem.specs.Memory.{Around}
 use Rattle.hm_mem.specs.Seen.{marks}
 use Rattle.hm_order.specs.Beats.{then}
 use Rattle.hm_order.specs.Machine.{Config, End, Stopped, Broken, begin, did, done, fault_end, older, older_of, settle, younger, younger_of}
-use Rattle.hm_order.proofs.Results.{err_same, ok_err, ok_same, then_err, then_ok}
+use Rattle.hm_order.proofs.Results.{err_same, ok_err, then_err, then_ok}
 use Rattle.hm_run.specs.declared.Cause.{Cause}
 use Rattle.hm_run.specs.declared.Cause.TheVariants as cause
-use Rattle.hm_run.specs.Program.{Program, begins, caused, core, in_machine, other_here, rows, step_rule, unless_refused, vector_of}
+use Rattle.hm_run.specs.Program.{Program, caused, core, in_machine, other_here, rows, unless_refused, vector_of}
 use Rattle.hm_rows.specs.Context.{with_context}
 use Rattle.hm_rows.specs.Rows.{refuse}
 use Rattle.hm_state.specs.State.{State}

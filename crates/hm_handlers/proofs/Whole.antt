@@ -1,5 +1,5 @@
 -- The headline and its riders, from what holds after each tick.
-use Rattle.std.proofs.Common.{◌≡◌, ℕ, ◌+◌, ◌*◌, ◌<◌, ap, refl, sym, ◌∙◌, subst, ⊎_elim, List, [], ◌∷◌, map, length, Option, Some, None}
+use Rattle.std.proofs.Common.{◌≡◌, ℕ, ◌+◌, ◌*◌, ◌<◌, ap, refl, sym, ◌∙◌, subst, ⊎_elim, List, [], ◌∷◌, map, length, Option, Some}
 use Rattle.hm_base.specs.Image.{Segment}
 use Rattle.hm_codes.specs.Listing.{Listing}
 use Rattle.hm_order.specs.Machine.{Config}
@@ -15,13 +15,12 @@ use Rattle.hm_run.specs.declared.Outcome.{Outcome}
 use Rattle.hm_run.specs.declared.Outcome.TheVariants as outcome
 use Rattle.hm_run.specs.declared.Reason.{Reason}
 use Rattle.hm_run.specs.Program.{Program}
-use Rattle.hm_exc.specs.declared.types.Activation.{Activation}
 use Rattle.hm_run.specs.Timed.{Timed, thread_program}
 use Rattle.hm_sched.specs.Schedule.{Sched, ticks_of}
 use Rattle.hm_state.specs.Start.{start}
 use Rattle.hm_state.specs.State.{State}
 use Rattle.hm_handlers.specs.Nested.{Interrupted, Nested}
-use Rattle.hm_handlers.specs.Order.{HaltsInThread, AgreesInThread, KeepsOrder, thread_at, thread_of}
+use Rattle.hm_handlers.specs.Order.{HaltsInThread, KeepsOrder, thread_at, thread_of}
 use Rattle.hm_handlers.specs.Runs.{Run, run, run_out, shown, stacked_of}
 use Rattle.hm_handlers.proofs.Order.{keeps_order}
 

@@ -1,5 +1,5 @@
 -- Which bytes a beat taints.
-use Rattle.std.proofs.Common.{◌≡◌, ◌⊎◌, ℕ, zero, suc, ◌+◌, ◌*◌, ◌%◌, ◌^◌, ◌<◌, ◌≤◌, Bool, true, false, cond, not, ◌&&◌, ◌||◌, eqb, eqb-true, nat_le, nat_lt, List, [], ◌∷◌, ◌++◌, map, Option, Some, None, Result, Ok, Err, inl, inr, refl, sym, ◌∙◌, ap, subst, arith, add-zero}
+use Rattle.std.proofs.Common.{◌≡◌, ◌⊎◌, ℕ, ◌+◌, ◌*◌, ◌%◌, ◌^◌, ◌<◌, ◌≤◌, Bool, true, false, cond, ◌&&◌, ◌||◌, eqb-true, nat_lt, List, [], ◌∷◌, ◌++◌, map, Option, Some, None, Ok, inl, inr, refl, sym, ◌∙◌, ap, subst, arith, add-zero}
 use Rattle.std.proofs.lemmas.Bool.Decides.{nat_tests}
 use Rattle.hm_base.specs.declared.FaultKind.{FaultKind}
 use Rattle.hm_base.specs.declared.Place.{Place}
@@ -11,11 +11,11 @@ use Rattle.hm_beat.specs.Touches.{span_bytes}
 use Rattle.hm_beat.specs.Trees.{Check, Leaf, action, checked, finish, reach, written}
 use Rattle.hm_isa.specs.declared.Vector.{Vector}
 use Rattle.hm_mem.specs.Memory.{Around, thread_under}
-use Rattle.hm_mem.specs.Seen.{fault_kind, is_denied, lies_in_sram, marks, stop_after}
+use Rattle.hm_mem.specs.Seen.{fault_kind, is_denied, lies_in_sram, stop_after}
 use Rattle.hm_mem.specs.declared.Access.TheVariants.{Vector as VectorAccess}
 use Rattle.hm_moves.proofs.Accesses.{in_sram}
 use Rattle.hm_moves.proofs.Trees.{leaf_at, reach_moves}
-use Rattle.hm_moves.specs.Moves.{Moves, checks_of, elements_at, fails, fill, moved_by, moves_tree, store_all, store_bytes, sure_stop, width}
+use Rattle.hm_moves.specs.Moves.{Moves, checks_of, elements_at, fails, fill, moved_by, store_all, store_bytes, sure_stop, width}
 use Rattle.hm_moves.specs.Ways.{moves_by}
 use Rattle.hm_moves.specs.declared.elements.Element.{Element}
 use Rattle.hm_lane.specs.declared.lanes.Size.{Size}
@@ -25,8 +25,7 @@ use Rattle.hm_order.proofs.Results.{decide, ok_err, ok_same, true_not_false}
 use Rattle.hm_regs.specs.Writes.{Write}
 use Rattle.hm_rows.proofs.Rows.{kind_laws}
 use Rattle.hm_rows.specs.Rows.{Kind, Registers, Moves as MovesKind, kind_of, tree_of, vector_tree}
-use Rattle.hm_run.specs.Program.{caused, rows}
-use Rattle.hm_run.specs.declared.Cause.{Cause}
+use Rattle.hm_run.specs.Program.{rows}
 use Rattle.hm_state.specs.State.{State, Cell, At, Byte, Value, cells, same_cell}
 use Rattle.hm_state.specs.Store.{put, put_all}
 use Rattle.hm_thumb.specs.Laws.{under_handler}

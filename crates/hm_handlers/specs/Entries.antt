@@ -1,5 +1,5 @@
 -- The exception that is picked at the end of a tick, and its entry.
-use Rattle.std.specs.Prelude.{ℕ, Bool, if◌then◌else◌, min, List, [], ◌∷◌, Option}
+use Rattle.std.specs.Prelude.{ℕ, Bool, if◌then◌else◌, min, List, [], ◌∷◌}
 use Rattle.hm_base.specs.declared.FaultKind.TheVariants as kind
 use Rattle.hm_exc.specs.Entry.{activation, entered_memory, entered_registers, vector_of}
 use Rattle.hm_exc.specs.declared.types.Activation.{Activation}

@@ -367,9 +367,6 @@ pub record Sorts (R : Type 0) (Sort : Type 0) : Type 0 where
   pub sort : R → Sort
   pub listed : (r : R) → Member (sort r) all
 
-abbrev pub one_sort : {R : Type 0} → Sorts R (Unit {0})
-one_sort = record { all = tt ∷ []; sort = λ r. tt; listed = λ r. inl refl }
-
 abbrev pub by_name : {R : Type 0} (E : enum.Record) → Bare E.parts → (R → E.D) → Sorts R E.D
 by_name E bare name = record { all = names_of E bare; sort = name; listed = λ r. each_name E bare (name r) }
 

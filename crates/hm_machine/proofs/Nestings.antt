@@ -32,7 +32,7 @@ use Rattle.hm_mem.specs.Seen.{with_actor}
 use Rattle.hm_mem.specs.declared.Actor.{Actor}
 use Rattle.hm_order.specs.Turns.{Turn, Older, Younger}
 use Rattle.hm_order.specs.Machine as order
-use Rattle.hm_order.specs.Machine.{Config, End, begun, older, younger}
+use Rattle.hm_order.specs.Machine.{begun, older, younger}
 use Rattle.hm_regs.specs.declared.Regs.{Regs}
 use Rattle.hm_run.specs.Program.{Stepped, core}
 use Rattle.hm_run.specs.declared.Cause.{Cause}

@@ -16,7 +16,7 @@ use Rattle.hm_state.specs.State.{State, regs_of, state_of}
 use Rattle.hm_order.specs.Beats.{then}
 use Rattle.hm_thumb.specs.Calls.{Asked, Writes, asked, more, most_text, text}
 use Rattle.hm_thumb.specs.Does as runner
-use Rattle.hm_thumb.specs.Does.{Runner, behind, first_stop, unless, words}
+use Rattle.hm_thumb.specs.Does.{Runner, behind, first_stop, words}
 use Rattle.hm_thumb.specs.Steps.{settled}
 use Rattle.hm_thumb.specs.declared.Way.TheVariants as way
 use Rattle.hm_whole.specs.Whole.{seen_in, state_with}

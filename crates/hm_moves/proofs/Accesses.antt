@@ -1,20 +1,17 @@
 -- Accesses to the memory, and the bytes of the state.
-use Rattle.std.proofs.Common.{◌≡◌, ℕ, zero, suc, ◌+◌, ◌-◌, ◌*◌, ◌/◌, ◌%◌, ◌^◌, ◌<◌, ◌≤◌, Bool, true, false, not, cond, ◌||◌, ◌&&◌, ltb, eqb, nat_eq, nat_le, nat_lt, List, [], ◌∷◌, ◌++◌, map, get_or, Option, Some, None, refl, sym, ◌∙◌, ap, subst, arith, eqb-true, ne_eqb}
+use Rattle.std.proofs.Common.{◌≡◌, ℕ, ◌+◌, ◌-◌, ◌*◌, ◌/◌, ◌%◌, ◌^◌, ◌<◌, ◌≤◌, Bool, true, false, not, ◌||◌, ◌&&◌, nat_eq, nat_le, nat_lt, [], ◌∷◌, ◌++◌, Option, Some, None, refl, ◌∙◌, ap, arith, ne_eqb}
 use Rattle.std.specs.Prelude.{if◌then◌else◌}
 use Rattle.std.proofs.lemmas.Bool.Decides.{nat_tests}
 use Rattle.std.proofs.lemmas.Nat.{shr-shr}
 use Rattle.hm_base.specs.declared.FaultKind.{FaultKind}
 use Rattle.hm_base.specs.declared.FaultKind.TheVariants as kind
-use Rattle.hm_base.specs.declared.Stop.{Stop}
-use Rattle.hm_base.specs.declared.Stop.TheVariants as stop
 use Rattle.hm_lane.specs.declared.lanes.Size.{Size}
-use Rattle.hm_lane.specs.declared.lanes.Size.TheVariants as size
 use Rattle.hm_mem.specs.declared.Access.TheVariants.{Vector}
 use Rattle.hm_mem.specs.declared.Actor.{Actor}
 use Rattle.hm_mem.specs.declared.Actor.TheVariants.{Thread, Handler, Entry}
 use Rattle.hm_mem.specs.Devices.{byte_of, has_width, in_devices, word_at}
-use Rattle.hm_mem.specs.Memory.{Around, Memory}
-use Rattle.hm_mem.specs.Seen.{Seen, after_store, covers, fault_kind, is_kept, is_thread, is_unaligned, lies_in_flash, lies_in_memory, lies_in_sram, marks, read, seen, stop_after, stop_of}
+use Rattle.hm_mem.specs.Memory.{Around}
+use Rattle.hm_mem.specs.Seen.{Seen, fault_kind, is_kept, is_thread, is_unaligned, lies_in_flash, lies_in_memory, lies_in_sram, stop_after, stop_of}
 use Rattle.hm_order.proofs.Results.{decide, true_not_false}
 use Rattle.hm_moves.specs.Moves.{width}
 

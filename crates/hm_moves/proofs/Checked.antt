@@ -1,5 +1,5 @@
 -- The checks of the code are those of the tree.
-use Rattle.std.proofs.Common.{◌≡◌, ℕ, ◌+◌, ◌%◌, ◌^◌, ◌<◌, Bool, true, false, not, cond, ◌||◌, ◌&&◌, List, [], ◌∷◌, ◌++◌, Option, Some, None, Result, Ok, Err, IsOk, refl, sym, ◌∙◌, ap, subst, arith, append_assoc}
+use Rattle.std.proofs.Common.{◌≡◌, ℕ, ◌+◌, ◌%◌, ◌^◌, ◌<◌, Bool, true, false, not, cond, ◌||◌, ◌&&◌, List, [], ◌∷◌, ◌++◌, Option, Some, None, Result, Ok, Err, refl, sym, ◌∙◌, ap, subst, arith}
 use Rattle.hm_base.specs.declared.FaultKind.{FaultKind}
 use Rattle.hm_base.specs.declared.Stop.{Stop}
 use Rattle.hm_base.specs.declared.Stop.TheVariants as stop
@@ -9,17 +9,17 @@ use Rattle.hm_lane.specs.declared.lanes.Size.TheVariants as size
 use Rattle.hm_mem.specs.declared.Access.TheVariants.{Vector}
 use Rattle.hm_mem.specs.declared.Actor.{Actor}
 use Rattle.hm_mem.specs.declared.Actor.TheVariants.{Thread, Handler, Entry}
-use Rattle.hm_mem.specs.Memory.{Around, Memory, tainted_at}
+use Rattle.hm_mem.specs.Memory.{Memory, tainted_at}
 use Rattle.hm_mem.specs.Seen.{fault_kind, is_denied, is_kept, is_thread, lies_in_memory, seen, some_byte, stop_after, stop_in, stop_of}
 use Rattle.hm_state.specs.State.{Byte, Cell, State, Value, cells, state_of}
-use Rattle.hm_beat.specs.Trees.{Check, Leaf, action, checked, finish}
+use Rattle.hm_beat.specs.Trees.{Check, Leaf, checked, finish}
 use Rattle.hm_beat.specs.Touches.{span_bytes}
 use Rattle.hm_beat.specs.Laws.{Checks, run}
 use Rattle.hm_moves.specs.declared.elements.Element.{Element}
 use Rattle.hm_moves.specs.Coded.{first_stop, or_stop}
 use Rattle.hm_moves.specs.Moves.{Moves, asks, checks_of, element_checks, elements_at, fails, is_closed, moves_tree, width}
 use Rattle.hm_moves.proofs.Accesses.{in_memory, within}
-use Rattle.hm_moves.proofs.Trees.{checked_fails, leaf_at, reach_moves}
+use Rattle.hm_moves.proofs.Trees.{leaf_at, reach_moves}
 
 abbrev pub any_tainted : Memory → List ℕ → Bool
 any_tainted m [] = false

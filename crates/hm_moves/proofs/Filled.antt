@@ -1,30 +1,29 @@
 -- What the code fills words with, and what a beat then has done.
-use Rattle.std.proofs.Common.{◌≡◌, ℕ, zero, suc, ◌+◌, ◌*◌, ◌%◌, ◌^◌, ◌<◌, Bool, true, false, not, cond, ◌||◌, List, [], ◌∷◌, ◌++◌, drop, get_or, length, map, Option, Some, None, Result, Ok, refl, sym, ◌∙◌, ap, subst, arith}
+use Rattle.std.proofs.Common.{◌≡◌, ℕ, suc, ◌+◌, ◌*◌, ◌%◌, ◌^◌, ◌<◌, Bool, true, false, not, cond, ◌||◌, List, [], ◌∷◌, ◌++◌, drop, get_or, length, map, None, refl, sym, ◌∙◌, ap, subst, arith}
 use Rattle.std.specs.Prelude.{All, if◌then◌else◌}
 use Rattle.std.proofs.lemmas.List.{append_assoc, get_or-map, map-append}
 use Rattle.std.proofs.lemmas.List.Elements.{All-head, All-tail}
 use Rattle.hm_base.specs.Place.{IsPlace, same_place}
 use Rattle.hm_base.specs.declared.Place.{Place}
 use Rattle.hm_base.specs.declared.Place.TheVariants.{R, QWord, P0, Mask01, Mask23, Carry, Ltp, Sticky}
-use Rattle.hm_base.specs.declared.Stop.{Stop}
 use Rattle.hm_regs.specs.declared.Regs.{Regs}
 use Rattle.hm_regs.specs.Place.{value_at}
-use Rattle.hm_regs.specs.Writes.{Write, write}
+use Rattle.hm_regs.specs.Writes.{write}
 use Rattle.hm_lane.specs.declared.lanes.Size.{Size}
 use Rattle.hm_lane.specs.declared.lanes.Size.TheVariants as size
 use Rattle.hm_mem.specs.declared.Access.TheVariants.{Vector}
-use Rattle.hm_mem.specs.Devices.{little, read_devices, word_at}
+use Rattle.hm_mem.specs.Devices.{little}
 use Rattle.hm_mem.specs.Memory.{Memory, byte_at}
 use Rattle.hm_mem.specs.Seen.{Seen, is_thread, lies_in_memory, read, seen, stop_of}
 use Rattle.hm_order.proofs.Results.{true_not_false}
-use Rattle.hm_state.specs.State.{AreCells, At, Byte, Cell, State, at, into, state_of}
+use Rattle.hm_state.specs.State.{AreCells, At, Byte, Cell, State, into, state_of}
 use Rattle.hm_state.proofs.Cells.{proper_cell}
 use Rattle.hm_beat.specs.Rows.{Each}
 use Rattle.hm_beat.specs.Touches.{span_bytes}
 use Rattle.hm_beat.proofs.Footprint.{at_is}
 use Rattle.hm_kinds.specs.Row.{numbers}
 use Rattle.hm_moves.specs.declared.elements.Element.{Element}
-use Rattle.hm_moves.specs.Coded.{filled_in, first_stop, old_word, or_stop, word_puts}
+use Rattle.hm_moves.specs.Coded.{filled_in, first_stop, old_word, word_puts}
 use Rattle.hm_moves.specs.Moves.{Moves, all_bytes_from, bytes_of, elements_at, filled, is_word, laid, loaded_at, number, stored_at, width, words_from}
 use Rattle.hm_moves.proofs.Accesses.{fault_free, in_memory, within}
 use Rattle.hm_moves.proofs.Loops.{both_none}

@@ -1,5 +1,5 @@
 -- Rows that load or store: what a beat uses and sets, and four beats are the whole.
-use Rattle.std.proofs.Common.{◌≡◌, ℕ, ◌+◌, ◌*◌, ◌-◌, ◌%◌, ◌<◌, Bool, true, false, not, cond, ◌||◌, ◌&&◌, ltb, eqb, List, [], ◌∷◌, ◌++◌, map, Option, Some, None, Result, Ok, Err, refl, sym, ◌∙◌, ap, subst, arith, ◌⊎◌, inl, inr}
+use Rattle.std.proofs.Common.{◌≡◌, ℕ, ◌+◌, ◌*◌, ◌-◌, ◌%◌, ◌<◌, Bool, true, false, not, cond, ◌||◌, ◌&&◌, ltb, eqb, List, [], ◌∷◌, ◌++◌, map, Option, Some, None, Result, Ok, refl, sym, ◌∙◌, ap, subst, arith, ◌⊎◌, inl, inr}
 use Rattle.hm_base.specs.Place.{same_place}
 use Rattle.hm_base.specs.declared.Fault.{Fault}
 use Rattle.hm_base.specs.declared.Stop.{Stop}
@@ -14,15 +14,15 @@ use Rattle.hm_mem.specs.Memory.{Around}
 use Rattle.hm_mem.specs.declared.Access.TheVariants.{Vector}
 use Rattle.hm_mem.specs.Seen.{fault_kind, marks}
 use Rattle.hm_order.proofs.Results.{decide, ok_same, ok_err, true_not_false}
-use Rattle.hm_state.specs.Store.{put, put_all}
+use Rattle.hm_state.specs.Store.{put_all}
 use Rattle.hm_state.specs.State.{At, Byte, Cell, State, Value, at, cells, into, is_dead, same_cell}
 use Rattle.hm_beat.specs.Trees.{Careful, FailsElse, Leaf, StopsAs, WritesLive, action, asked, checked, holds, reach, marks_by, targets, tested, tests, written}
-use Rattle.hm_beat.specs.Rows.{Each, Tree, active_at, advance_half, retired}
+use Rattle.hm_beat.specs.Rows.{Each, advance_half, retired}
 use Rattle.hm_beat.specs.Touches.{span_bytes}
-use Rattle.hm_beat.specs.Effects.{Effect, effect, effect_of, four_beats}
-use Rattle.hm_beat.specs.Laws.{Clean, KeepsLr, MayRun, RowLaws, WritesTaint, stopped}
-use Rattle.hm_beat.proofs.Predicated.{IsStill, advance_at, by_beats, held_of, holds-append}
-use Rattle.hm_beat.proofs.Whole.{advanced, and_false, either, flag_still, no_byte, put_all-append, size_still}
+use Rattle.hm_beat.specs.Effects.{effect, effect_of, four_beats}
+use Rattle.hm_beat.specs.Laws.{Clean, KeepsLr, RowLaws, WritesTaint, stopped}
+use Rattle.hm_beat.proofs.Predicated.{IsStill, by_beats, held_of, holds-append}
+use Rattle.hm_beat.proofs.Whole.{advanced, and_false, flag_still, no_byte, put_all-append, size_still}
 use Rattle.hm_beat.proofs.Chained.{Apart, Off, off-append, put_other}
 use Rattle.hm_kinds.specs.Row.{is_body}
 use Rattle.hm_kinds.proofs.Row.{body_off, body_still, gathered, holds_written, pc-put_all}

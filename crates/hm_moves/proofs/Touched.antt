@@ -1,5 +1,5 @@
 -- What the code of a row that loads or stores touches is what its tree touches.
-use Rattle.std.proofs.Common.{◌≡◌, ℕ, ◌+◌, ◌<◌, Bool, true, false, not, cond, ◌||◌, ltb, eqb, List, [], ◌∷◌, ◌++◌, map, drop, length, get_or, refl, sym, ◌∙◌, ap, arith, append_assoc}
+use Rattle.std.proofs.Common.{◌≡◌, ℕ, ◌+◌, ◌<◌, Bool, true, false, not, cond, ◌||◌, ltb, List, [], ◌∷◌, ◌++◌, map, drop, length, get_or, refl, sym, ◌∙◌, ap, append_assoc}
 use Rattle.std.proofs.lemmas.List.{append-nil, map-append}
 use Rattle.hm_base.specs.Place.{listed, noted, noted_all}
 use Rattle.hm_base.specs.declared.Place.{Place}
@@ -12,15 +12,15 @@ use Rattle.hm_lane.specs.declared.lanes.Size.{Size}
 use Rattle.hm_lane.specs.Predicate.{advance_places, mask_place}
 use Rattle.hm_mem.specs.Memory.{Memory}
 use Rattle.hm_mem.specs.Seen.{marks}
-use Rattle.hm_state.specs.State.{At, Byte, Cell, State, Value, at, state_of}
-use Rattle.hm_beat.specs.Trees.{Leaf, targets, tests}
+use Rattle.hm_state.specs.State.{At, Byte, Cell, Value, state_of}
+use Rattle.hm_beat.specs.Trees.{Leaf, targets}
 use Rattle.hm_beat.specs.Rows.{always}
 use Rattle.hm_beat.specs.Touches.{bytes_in, flag_places, loads_in, places_in, reads_in, span_bytes, stores_in, writes_in}
 use Rattle.hm_beat.proofs.Predicated.{advance_at, targets-append}
 use Rattle.hm_beat.proofs.Footprint.{advance_places_is, all_listed, bytes_at, bytes_at-append, mask_is, places_at, places_at-append, targets_always, tested_is}
 use Rattle.hm_moves.specs.declared.elements.Element.{Element}
 use Rattle.hm_moves.specs.Coded.{begun_in}
-use Rattle.hm_moves.specs.Moves.{Moves, bytes_of, elements_at, fill, moved_by, moves_tree, reads_of, sources_at, store_all, store_bytes, width, words_read}
+use Rattle.hm_moves.specs.Moves.{Moves, bytes_of, elements_at, fill, moved_by, moves_tree, sources_at, store_all, store_bytes, width, words_read}
 use Rattle.hm_moves.proofs.Loops.{drop_at}
 use Rattle.hm_moves.proofs.Trees.{begun_places, leaf_at, reach_moves, tests_moves}
 

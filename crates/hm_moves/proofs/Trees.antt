@@ -29,7 +29,7 @@ use Rattle.hm_beat.proofs.Footprint.{no_tests}
 use Rattle.hm_kinds.specs.Row.{numbers}
 use Rattle.hm_moves.specs.declared.elements.Element.{Element}
 use Rattle.hm_moves.specs.Coded.{or_stop}
-use Rattle.hm_moves.specs.Moves.{Moves, all_bytes_from, asks, back_at, begun, bytes_from, bytes_of, checks_of, element_checks, elements_at, active_ones, every_byte, fails, fault_after, fill, filled, first_fault, is_closed, loaded_at, moved_by, moves_leaf, moves_tree, or_else, reads_of, sources_at, store_all, store_bytes, stored_at, sure_stop, test_all, values_at, width, words_from}
+use Rattle.hm_moves.specs.Moves.{Moves, all_bytes_from, asks, back_at, begun, bytes_from, bytes_of, checks_of, element_checks, elements_at, active_ones, every_byte, fails, fault_after, fill, filled, first_fault, is_closed, loaded_at, moved_by, moves_leaf, moves_tree, or_else, reads_of, sources_at, store_all, store_bytes, stored_at, sure_stop, test_all, width, words_from}
 
 -- TESTS
 reach_all : (ps : List Place) (k : List ℕ → Tree) (s : State) → reach (test_all ps k) s ≡ reach (k (map (λ p. at p s) ps)) s

@@ -1,8 +1,7 @@
 -- Breakpoints: in the machine and alone.
-use Rattle.std.proofs.Common.{◌≡◌, ℕ, ◌+◌, ◌++◌, ap, refl, subst, sym, Bool, true, false, cond, length, nat_lt, List, Option, Some, None, Result, Ok, Err, inl, inr, ◌⊎◌, ◌∙◌}
+use Rattle.std.proofs.Common.{◌≡◌, ℕ, ◌+◌, ◌++◌, ap, refl, subst, Bool, true, false, cond, length, nat_lt, List, Option, Some, None, Result, Ok, Err, inl, inr, ◌⊎◌, ◌∙◌}
 use Rattle.hm_base.specs.declared.Fault.{Fault}
 use Rattle.hm_base.specs.declared.Stop.{Stop}
-use Rattle.hm_base.specs.Stops.{is_tainted}
 use Rattle.hm_mem.specs.Memory.{thread_under}
 use Rattle.hm_order.specs.Beats.{AlikeAs, Live, StopsBy, then}
 use Rattle.hm_regs.specs.declared.Regs.{Regs}

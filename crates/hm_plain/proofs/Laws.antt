@@ -40,13 +40,12 @@ use Rattle.hm_window.specs.Overlap.{first_rule, is_too_early, rule_of_clash, rul
 use Rattle.hm_run.specs.Program.{rows, core, alone, begins, caused, cause_of, done_alone, done_in_machine, in_machine, is_ready, is_tainted_cause, lifted, makes_here, on_cell, or_fault, other_by, other_here, other_row, ready_state, refusal_rule, step_rule, unless_refused, vector_of, whole_here}
 use Rattle.hm_whole.specs.Watched.{GoesAlike, Watched, In, Beside, Held, InCell, Besides, open_rest, held, dead, view}
 use Rattle.hm_run.specs.Stops as why
-use Rattle.hm_run.specs.declared.Reason.{Reason}
 use Rattle.hm_run.specs.Stops.{WholeStop, break_of}
 use Rattle.hm_rows.proofs.Rows.{keeps_lr, row_laws}
 use Rattle.hm_rows.proofs.Context.{context_fresh, context_pc, context_ready, context_there, fresh}
 use Rattle.hm_whole.specs.Whole.{Went, scalar_alone, scalar_in_machine}
 use Rattle.hm_whole.proofs.Agreement.{whole-live}
-use Rattle.hm_plain.proofs.Breakpoints.{AlikeBoth, Leaves, TaintedOrAlike, asked_alike, break_alike}
+use Rattle.hm_plain.proofs.Breakpoints.{Leaves, TaintedOrAlike, asked_alike, break_alike}
 use Rattle.hm_plain.proofs.Vectors.{beat_rest, context_clean, four_are, not_refused, ready_counts, ready_same, refuse_same, retire, row_beats, row_pc}
 use Rattle.hm_plain.proofs.Wholes.{leaves, under_thread, watched_clean}
 

@@ -31,7 +31,6 @@ use Rattle.hm_run.specs.Program.{Program, Stepped, Stopping, Ticked, alone, brok
 use Rattle.hm_whole.specs.Watched.{Watched, In, Beside, view, held, dead}
 use Rattle.hm_mem.specs.Devices.{open_devices}
 use Rattle.hm_run.specs.Stops as why
-use Rattle.hm_run.specs.declared.Reason.{Reason}
 use Rattle.hm_run.specs.Stops.{WholeStop, at_break, scalar_break}
 use Rattle.hm_run.proofs.Steps.{break_makes}
 use Rattle.hm_run.specs.Timed.{Timed, begin, who_runs, outcome_of, at_stop, counted_with, with_devices, ended, tick_of, closed, or_out, next, thread_program, timed}

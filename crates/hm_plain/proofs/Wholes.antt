@@ -1,5 +1,5 @@
 -- The letter W, between two instructions, does what the whole of the next one does alone.
-use Rattle.std.proofs.Common.{◌≡◌, ℕ, suc, ◌==◌, ap, refl, sym, ◌∙◌, subst, true, cond, Option, None, Some, Result, Ok, Err}
+use Rattle.std.proofs.Common.{◌≡◌, ℕ, suc, ◌==◌, ap, refl, sym, ◌∙◌, subst, true, Option, None, Some, Result, Ok, Err}
 use Rattle.hm_base.specs.declared.Fault.{Fault}
 use Rattle.hm_base.specs.declared.Stop.{Stop}
 use Rattle.hm_codes.specs.Listing.{Listing}
@@ -20,8 +20,6 @@ use Rattle.hm_rows.proofs.Context.{context_pc, context_ready}
 use Rattle.hm_run.specs.declared.Cause.{Cause}
 use Rattle.hm_run.specs.declared.Cause.TheVariants as cause
 use Rattle.hm_run.specs.Program.{Program, Stepped, core, rows, alone, caused, cause_of, done_alone, done_in_machine, in_machine, letter_step, older_steps, or_fault, other_by, other_here, other_row, ready_state, steps_left, vector_of, vector_row, whole_here}
-use Rattle.hm_run.specs.declared.Reason.{Reason}
-use Rattle.hm_run.specs.Stops as why
 use Rattle.hm_run.specs.Stops.{WholeStop, break_of}
 use Rattle.hm_run.proofs.Steps.{older_other, older_vector, past}
 use Rattle.hm_sched.specs.Schedule.{whole_letter}

@@ -1,5 +1,5 @@
 -- The beat machine: the fold of steps and ends of ticks over a schedule.
-use Rattle.std.specs.Prelude.{ℕ, zero, suc, ◌+◌, ◌%◌, ◌^◌, Bool, if◌then◌else◌, List, [], ◌∷◌, length, drop, Option, Some, None, Ok, Err}
+use Rattle.std.specs.Prelude.{ℕ, zero, suc, ◌+◌, ◌%◌, ◌^◌, if◌then◌else◌, List, [], ◌∷◌, length, drop, Option, Some, None, Ok, Err}
 use Rattle.hm_base.specs.Image.{Segment}
 use Rattle.hm_base.specs.declared.Stop.{Stop}
 use Rattle.hm_base.specs.declared.Stop.TheVariants as stop
@@ -8,7 +8,6 @@ use Rattle.hm_exc.specs.declared.types.Activation.{Activation}
 use Rattle.hm_mem.specs.Memory.{thread_under}
 use Rattle.hm_mem.specs.declared.Dev.{Dev}
 use Rattle.hm_order.specs.Machine.{Config, Stopped, Broken, at_start}
-use Rattle.hm_regs.specs.declared.Regs.{Regs}
 use Rattle.hm_run.specs.declared.Cause.{Cause}
 use Rattle.hm_run.specs.declared.Cause.TheVariants as cause
 use Rattle.hm_run.specs.declared.Outcome.{Outcome}

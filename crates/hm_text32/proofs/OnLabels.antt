@@ -301,17 +301,6 @@ row_wlstp i =
     asks_label (codes "wlstp") f (after i.n.value t) pc a (code_wlstp i) refl g.is no_wlstp (no_wlstp_access (after i.n.value t))
     (asks_wlstp f i.z.value i.n.value i.v.value t pc a i.n.in_range g.size (ahead_back pc i.v.value a hp i.v.in_range re)))
 
--- the ends of loops
-abbrev end_stem : LoopEndName → List ℕ
-end_stem loop_end.LeLr = codes "le"
-end_stem loop_end.Letp = codes "letp"
-end_stem loop_end.Le = codes "le"
-
-abbrev end_front : LoopEndName → List Tok
-end_front loop_end.LeLr = r 14 ∷ comma ∷ []
-end_front loop_end.Letp = r 14 ∷ comma ∷ []
-end_front loop_end.Le = []
-
 record End (name : LoopEndName) : Type 0 where
   prints : IsPrintedAt (loop_end_tokens name)
   asks : (v : ℕ) (t : Tok) (pc a : ℕ) → behind_it pc a ≡ v → code_in (loop_end_tokens name ++ t ∷ []) pc a ≡ Some (loop_end_base name + ((v / 2) ↑ 1 + (v % 2) ↑ 11))

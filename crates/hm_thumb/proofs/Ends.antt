@@ -1,7 +1,7 @@
 -- Every text ends: behind its start there is a byte that can't be loaded, nearer than the most bytes of a text.
 use Rattle.std.proofs.Common.{◌≡◌, ◌⊎◌, ℕ, zero, suc, ◌+◌, ◌-◌, ◌%◌, ◌^◌, ◌<◌, ◌≤◌, Bool, true, false, inl, inr, List, [], arith, refl, ap, sym, subst, cond, ◌∙◌}
 use Rattle.std.proofs.lemmas.Bool.Decides.{nat_tests}
-use Rattle.std.specs.Prelude.{Option, Some, None, Result, Ok, Err, nat_eq, nat_le, nat_lt}
+use Rattle.std.specs.Prelude.{Some, Result, Ok, nat_eq, nat_le, nat_lt}
 use native.Mathlib.Nat.{mod-eq_of_lt}
 use Rattle.hm_base.specs.declared.FaultKind.{FaultKind}
 use Rattle.hm_base.specs.declared.FaultKind.TheVariants.{Bus}

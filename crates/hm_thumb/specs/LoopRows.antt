@@ -8,7 +8,6 @@ use Rattle.hm_isa.specs.declared.jumps.Dlstp.{Dlstp}
 use Rattle.hm_isa.specs.declared.jumps.Wlstp.{Wlstp}
 use Rattle.hm_isa.specs.declared.jumps.LoopEndName.{LoopEndName}
 use Rattle.hm_isa.specs.declared.jumps.LoopEndName.TheVariants as loop_end
-use Rattle.hm_isa.specs.declared.jumps.LoopEnd.{LoopEnd}
 use Rattle.hm_isa.specs.declared.jumps.T23.{T23}
 use Rattle.hm_isa.specs.declared.jumps.T23.TheVariants as t23_
 use Rattle.hm_regs.specs.Place.{value_at, with_value}
