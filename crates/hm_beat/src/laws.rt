@@ -10,7 +10,7 @@ ghost use Rattle.hm_regs.specs.declared.Regs.{Regs};
 ghost use Rattle.hm_lane.specs.Predicate.{predicate_of};
 ghost use Rattle.hm_order.specs.Beats.{ActionLaws, Alike, Apart, BeatLaws, beats, then};
 ghost use Rattle.hm_state.specs.State.{Rest, State, cells, state_of};
-ghost use Rattle.hm_beat.specs.Laws.{AsksWhatItReads, Clean, HidesBytes, KeepsLr, MayRun, RowLaws, stopped};
+ghost use Rattle.hm_beat.specs.Laws.{AsksWhatItReads, NoTaint, HidesBytes, KeepsLr, MayRun, RowLaws, stopped};
 ghost use Rattle.hm_beat.specs.Lists.{Kept, Listed, SameDone, SameRead};
 ghost use Rattle.hm_beat.specs.Meeting.{MeetAt, MeetsByte, MeetsPlace, Touches, byte_meets, clash_with, meeting, place_meets, touches, touches_from};
 ghost use Rattle.hm_beat.specs.Ordered.{ordered};
@@ -38,7 +38,7 @@ pub fn lists_law()
 {}
 
 /// The predicate of the definitions is that of the registers.
-pub fn rows_law()
+pub fn predicate_at_law()
     ensures predicate { (r : Regs) (m : Memory) (output : List ℕ) → predicate_at (state_of r m output) ≡ predicate_of r }
 {}
 
@@ -47,7 +47,7 @@ pub fn overlap<T: BeatWise>()
     ensures beats { (writes_lr : T → Bool) → ((i : T) (x : Around) → writes_lr i ≡ false → KeepsLr (T.tree i x))
         → (x : Around) → x.actor ≡ Thread → BeatLaws (ordered T (λ i. T.tree i x) writes_lr) }
     // Four beats, and the next instruction behind them, are the whole instruction, which stops for no taint.
-    ensures whole { (writes_lr : T → Bool) (x : Around) → x.actor ≡ Thread → (i : T) (s : State) → MayRun (T.tree i x) s → Clean s
+    ensures whole { (writes_lr : T → Bool) (x : Around) → x.actor ≡ Thread → (i : T) (s : State) → MayRun (T.tree i x) s → NoTaint s
         → then (beats (ordered T (λ j. T.tree j x) writes_lr) i 0 4 s) (λ u. Ok (retired u)) ≡ stopped (T.whole i s) }
     // What a beat of a handler changes of the bytes is tainted.
     ensures hidden { (i : T) (x : Around) (k : ℕ) (s t : State) → marks x.actor ≡ true → (action cells (T.tree i x k)).run s ≡ Ok t → HidesBytes s t }

@@ -10,7 +10,7 @@ use Rattle.hm_state.proofs.Cells.{cell_laws}
 use Rattle.hm_beat.specs.Trees.{action}
 use Rattle.hm_beat.specs.Rows.{Tree}
 use Rattle.hm_beat.specs.Effects.{Effect, effect, done, four_beats}
-use Rattle.hm_beat.specs.Laws.{Clean}
+use Rattle.hm_beat.specs.Laws.{NoTaint}
 use Rattle.hm_beat.proofs.Chained.{Apart, Off, apart-append, apart_each, commute, off-append, put_other}
 use Rattle.hm_beat.proofs.Effects.{effect_same, run_is}
 use Rattle.hm_beat.proofs.Whole.{put_all-append}
@@ -33,10 +33,10 @@ after_step None ws u v h = ap Ok h
 after_step (Some f) ws u v h = refl
 
 module _ (t : ℕ → Tree) (fault : ℕ → State → Option Fault) (links others : ℕ → State → List (Cell × Value))
-    (effects : (b : ℕ) (s : State) → Clean s → effect cells (t b) s ≡ effect_after (fault b s) (links b s ++ others b s))
+    (effects : (b : ℕ) (s : State) → NoTaint s → effect cells (t b) s ≡ effect_after (fault b s) (links b s ++ others b s))
     (kept : (b : ℕ) (s : State) (a : ℕ) → Off (Byte a) (links b s)) where
   -- a beat in a state that differs by writes to cells that it does not use
-  step : (b : ℕ) (s : State) (ws : List (Cell × Value)) → Clean s → ((c : Cell) → (action cells (t b)).uses s c ≡ true → Off c ws) → Apart ws (links b s)
+  step : (b : ℕ) (s : State) (ws : List (Cell × Value)) → NoTaint s → ((c : Cell) → (action cells (t b)).uses s c ≡ true → Off c ws) → Apart ws (links b s)
       → (action cells (t b)).run (put_all cells ws s) ≡ stop_first (fault b s) (Ok (put_all cells (ws ++ others b s) (put_all cells (links b s) s)))
   step b s ws clean off apart =
       let u = put_all cells ws s in
@@ -51,10 +51,10 @@ module _ (t : ℕ → Tree) (fault : ℕ → State → Option Fault) (links othe
   abbrev pub linked : ℕ → State → State
   linked b s = put_all cells (links b s) s
 
-  pub clean_linked : (b : ℕ) (s : State) → Clean s → Clean (linked b s)
+  pub clean_linked : (b : ℕ) (s : State) → NoTaint s → NoTaint (linked b s)
   clean_linked b s clean a = ap (λ (v : Value). v.taint) (put_other (links b s) (Byte a) s (kept b s a)) ∙ clean a
 
-  pub four_faulting : {R : Type 0} (f : State → Result R Stop) (s : State) → Clean s
+  pub four_faulting : {R : Type 0} (f : State → Result R Stop) (s : State) → NoTaint s
       → ((b k : ℕ) → k < b → b < 4 → (u v : State) (c : Cell) → (action cells (t b)).uses u c ≡ true → Off c (others k v))
       → ((b k : ℕ) → k < b → b < 4 → (u v : State) → Apart (others k v) (links b u))
       → let s1 = linked 0 s in let s2 = linked 1 s1 in let s3 = linked 2 s2 in

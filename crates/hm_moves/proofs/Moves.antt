@@ -20,7 +20,7 @@ use Rattle.hm_beat.specs.Trees.{Careful, FailsElse, Leaf, StopsAs, WritesLive, a
 use Rattle.hm_beat.specs.Rows.{Each, advance_half, retired}
 use Rattle.hm_beat.specs.Touches.{span_bytes}
 use Rattle.hm_beat.specs.Effects.{effect, effect_of, four_beats}
-use Rattle.hm_beat.specs.Laws.{Clean, KeepsLr, RowLaws, WritesTaint, stopped}
+use Rattle.hm_beat.specs.Laws.{NoTaint, KeepsLr, RowLaws, WritesTaint, stopped}
 use Rattle.hm_beat.proofs.Predicated.{IsStill, by_beats, held_of, holds-append}
 use Rattle.hm_beat.proofs.Whole.{advanced, and_false, flag_still, no_byte, put_all-append, size_still}
 use Rattle.hm_beat.proofs.Chained.{Apart, Off, off-append, put_other}
@@ -39,7 +39,7 @@ effect_where : (o : Option Fault) (l : Leaf Cell Value Stop) (vs : List Value) �
 effect_where None l vs h = ap (λ m. Ok (marks_by m vs, written l.writes vs)) h
 effect_where (Some f) l vs h = refl
 
-pub moves_effect : (i : Moves) (x : Around) (b : ℕ) (s : State) → x.actor ≡ Thread → Clean s
+pub moves_effect : (i : Moves) (x : Around) (b : ℕ) (s : State) → x.actor ≡ Thread → NoTaint s
     → effect cells (moves_tree i x b) s ≡ effect_after (fault_at i b s) (loaded_at i b s ++ others_of i false b s)
 moves_effect i x b s thread clean =
     let l = leaf_at i x b s in
@@ -406,7 +406,7 @@ module _ (i : Moves) (is : IsMoves i) where
       ∙ put_all-append (N 0 ++ N 1 ++ N 2) (N 3) w ∙ ap (put_all cells (N 3)) (put_all-append (N 0 ++ N 1) (N 2) w ∙ ap (put_all cells (N 2)) (put_all-append (N 0) (N 1) w))
       ∙ advanced s w
 
-  pub four_moves : (x : Around) (s : State) → x.actor ≡ Thread → Clean s → four_beats cells (moves_tree i x) (λ u. Ok (retired u)) s ≡ stopped (moves_whole i s)
+  pub four_moves : (x : Around) (s : State) → x.actor ≡ Thread → NoTaint s → four_beats cells (moves_tree i x) (λ u. Ok (retired u)) s ≡ stopped (moves_whole i s)
   four_moves x s thread clean =
       let s1 = handed i 0 s in
       let s2 = handed i 1 s1 in

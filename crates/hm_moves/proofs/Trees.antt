@@ -21,7 +21,7 @@ use Rattle.hm_state.specs.State.{At, Byte, Cell, State, Value, at, cells, into}
 use Rattle.hm_beat.specs.Trees.{Asks, Check, Do, Fails, Leaf, FailsElse, StopsAs, WritesLive, asked, checked, holds, reach, tests, written}
 use Rattle.hm_beat.specs.Rows.{Tree, active_at, always, test_where}
 use Rattle.hm_beat.specs.Touches.{span_bytes}
-use Rattle.hm_beat.specs.Laws.{Clean, WritesTaint}
+use Rattle.hm_beat.specs.Laws.{NoTaint, WritesTaint}
 use Rattle.hm_beat.proofs.Trees.{one_of}
 use Rattle.hm_beat.proofs.Predicated.{advance_at, holds-append, kept_tested, reach_looked, tested_places, tests_looked, written-append, written_always}
 use Rattle.hm_beat.proofs.Whole.{advance_taints, no_byte}
@@ -202,11 +202,11 @@ pub checked_fails : (o : Option Stop) (cs : List (Check Cell Stop)) (s : State) 
 checked_fails None cs s = refl
 checked_fails (Some e) cs s = refl
 
-checked_asks : (a : ℕ) (bs : List ℕ) (cs : List (Check Cell Stop)) (s : State) → Clean s → checked cells (asks a bs ++ cs) s ≡ checked cells cs s
+checked_asks : (a : ℕ) (bs : List ℕ) (cs : List (Check Cell Stop)) (s : State) → NoTaint s → checked cells (asks a bs ++ cs) s ≡ checked cells cs s
 checked_asks a [] cs s clean = refl
 checked_asks a (b ∷ bs) cs s clean = ap (λ d. cond d (Some (stop.Tainted a)) (checked cells (asks a bs ++ cs) s)) (clean b) ∙ checked_asks a bs cs s clean
 
-checked_where : (y : Bool) (a : ℕ) (bs : List ℕ) (cs : List (Check Cell Stop)) (s : State) → Clean s → checked cells (cond y (asks a bs) [] ++ cs) s ≡ checked cells cs s
+checked_where : (y : Bool) (a : ℕ) (bs : List ℕ) (cs : List (Check Cell Stop)) (s : State) → NoTaint s → checked cells (cond y (asks a bs) [] ++ cs) s ≡ checked cells cs s
 checked_where true a bs cs s clean = checked_asks a bs cs s clean
 checked_where false a bs cs s clean = refl
 
@@ -214,7 +214,7 @@ or_faults : (f g : Option Fault) → or_stop (fault_stop f) (fault_stop g) ≡ f
 or_faults None g = refl
 or_faults (Some f) g = refl
 
-pub checked_clean : (x : Around) (store : Bool) (len : ℕ) (es : List Element) (s : State) → x.actor ≡ Thread → Clean s → checked cells (checks_of x store len es) s ≡ fault_stop (first_fault store len es)
+pub checked_clean : (x : Around) (store : Bool) (len : ℕ) (es : List Element) (s : State) → x.actor ≡ Thread → NoTaint s → checked cells (checks_of x store len es) s ≡ fault_stop (first_fault store len es)
 checked_clean x store len [] s thread clean = refl
 checked_clean x store len (e ∷ es) s thread clean =
     let o = sure_stop x store len e.addr in

@@ -5,7 +5,7 @@ use Rattle.hm_base.specs.declared.Stop.{Stop}
 use Rattle.hm_mem.specs.Memory.{thread_under}
 use Rattle.hm_order.specs.Beats.{AlikeAs, Live, StopsBy, then}
 use Rattle.hm_regs.specs.declared.Regs.{Regs}
-use Rattle.hm_beat.specs.Laws.{Clean}
+use Rattle.hm_beat.specs.Laws.{NoTaint}
 use Rattle.hm_run.specs.declared.Cause.{Cause}
 use Rattle.hm_run.specs.declared.Cause.TheVariants as cause
 use Rattle.hm_run.specs.declared.Reason.{Reason}
@@ -82,14 +82,14 @@ module _ (s t : State) (live : Live view s t) (at : s.pc ≡ t.pc) where
 
 -- WHAT IT LEAVES: no taint
 abbrev pub Leaves : Result State WholeStop → Type 0
-Leaves (Ok t) = Clean t
+Leaves (Ok t) = NoTaint t
 Leaves (Err w) = Unit {0}
 
 pub break_leaves : (f : ℕ → Result State WholeStop) (o : Option ℕ) (r : Result State WholeStop) → ((k : ℕ) → Leaves (f k)) → Leaves r → Leaves (at_break f o r)
 break_leaves f (Some k) r h l = h k
 break_leaves f None r h l = l
 
-module _ (s : State) (clean : Clean s) where
+module _ (s : State) (clean : NoTaint s) where
   printed_leaves : (b : Bool) (xs : List ℕ) → Leaves (cond b (Err why.Full) (Ok (printed xs s)))
   unfolding state_with
   printed_leaves true xs = tt
@@ -125,7 +125,7 @@ either_same : (b : Bool) (reason : Reason) (r : Result State Cause) (q : Result 
 either_same true reason r q h = h
 either_same false reason r q h = refl
 
-pub broken_same : (lo hi floor k : ℕ) (s : State) → Clean s → broken_by (thread_under lo hi floor) k s ≡ in_machine (broken k s)
+pub broken_same : (lo hi floor k : ℕ) (s : State) → NoTaint s → broken_by (thread_under lo hi floor) k s ≡ in_machine (broken k s)
 broken_same lo hi floor k s clean =
     either_same (asks k) (Break k) _ _
     (ap (λ q. then (caused q) (λ x. in_machine (answered s x))) (asked-same lo hi floor (seen_in s) clean (regs_of s))

@@ -154,10 +154,10 @@ module _ (listing : Listing) (around : Around) where
   next_is s = next_at s (listing s.pc) refl
 
   -- clean states have no tainted byte
-  pub clean_of : (s : State) → cell.Clean s → Clean (core listing around) s
+  pub clean_of : (s : State) → cell.NoTaint s → Clean (core listing around) s
   clean_of s h = watched_clean s h
 
-  clean_bytes : (s : State) → Clean (core listing around) s → cell.Clean s
+  clean_bytes : (s : State) → Clean (core listing around) s → cell.NoTaint s
   clean_bytes s h a = h (In (Byte a))
 
   clean_after : around.actor ≡ Thread → (s t : State) → Clean (core listing around) s → alone listing s ≡ Ok t → Clean (core listing around) t
@@ -353,7 +353,7 @@ module _ (x : Around) (thread : x.actor ≡ Thread) where
   four_same (Err w) (Ok t) e = absurd (ok_err (sym e))
   four_same (Err w) (Err f) e = ap cause.Stop (err_same e)
 
-  whole_from : (v : Vector) (s : State) → cell.Clean s → (q : Result State WholeStop) → ready_state v s ≡ q
+  whole_from : (v : Vector) (s : State) → cell.NoTaint s → (q : Result State WholeStop) → ready_state v s ≡ q
       → AlikeAs cause_of (Same view) (then (in_machine q) (beats (rows x) v 0 4)) (then q (λ t. or_fault (vector_whole v t)))
   whole_from v s clean (Err w) e = refl
   whole_from v s clean (Ok t) e =
@@ -361,7 +361,7 @@ module _ (x : Around) (thread : x.actor ≡ Thread) where
       let there : t.rest.fpca ≡ true = ap (λ (u : State). u.rest.fpca) (sym free.1) ∙ context_ready s in
       subst (λ (r : Result State Cause). AlikeAs cause_of (Same view) r (or_fault (vector_whole v t))) (sym (beats_caused v 4 0 t))
       (four_same (row_beats x v 0 4 t) (vector_whole v t)
-      (four_are x thread v t there (ap (refuse v) (sym free.1) ∙ free.0) (subst cell.Clean free.1 (context_clean s clean))))
+      (four_are x thread v t there (ap (refuse v) (sym free.1) ∙ free.0) (subst cell.NoTaint free.1 (context_clean s clean))))
 
 -- HOW A ROW BEGINS
 machine_ok : (r : Result State WholeStop) (t : State) → in_machine r ≡ Ok t → r ≡ Ok t

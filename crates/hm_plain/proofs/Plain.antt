@@ -6,7 +6,7 @@ use Rattle.hm_mem.specs.Memory.{Around, thread_under}
 use Rattle.hm_order.specs.Beats.{then}
 use Rattle.hm_order.specs.Machine.{Config}
 use Rattle.hm_order.specs.Position.{Holds}
-use Rattle.hm_beat.specs.Laws.{Clean}
+use Rattle.hm_beat.specs.Laws.{NoTaint}
 use Rattle.hm_run.specs.declared.Outcome.{Outcome}
 use Rattle.hm_run.specs.declared.Outcome.TheVariants as outcome
 use Rattle.hm_run.specs.declared.Who.TheVariants.{Thread, Handler, Entry}
@@ -44,7 +44,7 @@ record Goes (left t : ℕ) (x : Timed) : Type 0 where
   outcome : x.outcome ≡ left_out left
   config : x.config ≡ between t steps state
   ticks : x.ticks ≡ t
-  clean : Clean state
+  clean : NoTaint state
 
 -- a run that one of the first t instructions ended
 record Ends (t : ℕ) (x : Timed) : Type 0 where
@@ -72,7 +72,7 @@ closed_ends : (rest : List TickLine) (t : ℕ) (y : Timed) → Ends t y → Ends
 closed_ends [] t y h = record { end = h.end; outcome = ap or_out h.outcome; plainly = h.plainly }
 closed_ends (l ∷ rest) t y h = h
 
-closed_goes : (line : TickLine) (left t : ℕ) (y : Timed) → y.outcome ≡ None → (k : ℕ) (u : State) → y.config ≡ between t k u → y.ticks ≡ t → Clean u
+closed_goes : (line : TickLine) (left t : ℕ) (y : Timed) → y.outcome ≡ None → (k : ℕ) (u : State) → y.config ≡ between t k u → y.ticks ≡ t → NoTaint u
     → Goes left t (closed (repeat left line []) y)
 closed_goes line zero t y none k u config ticks clean = record { steps = k; state = u; outcome = ap or_out none; config = config; ticks = ticks; clean = clean }
 closed_goes line (suc left) t y none k u config ticks clean = record { steps = k; state = u; outcome = none; config = config; ticks = ticks; clean = clean }
@@ -151,7 +151,7 @@ repeat_length (suc n) line = ap suc (repeat_length n line)
 pub plain_length : (n : ℕ) → length (ticks_of (plain n).lines) ≡ n
 plain_length n = ap length (ticks_plain n) ∙ repeat_length n (plain_line n)
 
-pub clean_start : (lo hi floor : ℕ) (image : List Segment) → Clean (start_under lo hi floor image)
+pub clean_start : (lo hi floor : ℕ) (image : List Segment) → NoTaint (start_under lo hi floor image)
 unfolding start_under
 clean_start lo hi floor image = λ a. refl
 

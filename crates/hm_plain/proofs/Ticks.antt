@@ -16,7 +16,7 @@ use Rattle.hm_order.specs.Position.{Holds, Agrees, Explains, StopsAt}
 use Rattle.hm_order.proofs.Headline.{explained, stop_n, stop_position, unmade}
 use Rattle.hm_order.proofs.Results.{err_same, ok_err, ok_same, true_not_false}
 use Rattle.hm_order.proofs.Steps.{cond_agrees, interrupt_holds, older_agrees, then_agrees, younger_agrees}
-use Rattle.hm_beat.specs.Laws.{Clean}
+use Rattle.hm_beat.specs.Laws.{NoTaint}
 use Rattle.hm_rows.specs.Context.{with_context}
 use Rattle.hm_rows.specs.Rows.{refuse, vector_whole}
 use Rattle.hm_run.specs.declared.Cause.{Cause}
@@ -304,7 +304,7 @@ first_pc : (image : List Segment) (lo hi floor : ℕ) → (start_under lo hi flo
 unfolding start_under
 first_pc image lo hi floor = refl
 
-clean_first : (image : List Segment) → Clean (start image)
+clean_first : (image : List Segment) → NoTaint (start image)
 unfolding start_under
 clean_first image = λ a. refl
 

@@ -14,9 +14,9 @@ use Rattle.hm_state.specs.State.{State, Value, at, cells}
 use Rattle.hm_state.proofs.Cells.{cell_laws}
 use Rattle.hm_beat.specs.Trees.{action, checked, reach}
 use Rattle.hm_beat.specs.Rows.{Tree, retired}
-use Rattle.hm_beat.specs.Laws.{Clean, stopped}
+use Rattle.hm_beat.specs.Laws.{NoTaint, stopped}
 use Rattle.hm_beat.specs.Ordered.{ordered}
-use Rattle.hm_beat.proofs.Clean.{beats_clean}
+use Rattle.hm_beat.proofs.NoTaint.{beats_clean}
 use Rattle.hm_beat.proofs.Ordered.{whole_ordered}
 use Rattle.hm_beat.proofs.Trees.{finished, keeps_laws, written_rest}
 use Rattle.hm_rows.specs.Context.{with_context}
@@ -26,7 +26,7 @@ use Rattle.hm_rows.proofs.Rows.{may_run, row_laws}
 use Rattle.hm_run.specs.Program.{is_ready, or_fault, ready_state, unless_refused, vector_row}
 
 -- THE CONTEXT
-pub context_clean : (s : State) → Clean s → Clean (with_context s)
+pub context_clean : (s : State) → NoTaint s → NoTaint (with_context s)
 context_clean s h = λ a. ap (λ (v : Value). v.taint) (context_bytes s a) ∙ h a
 
 -- REFUSALS
@@ -104,17 +104,17 @@ begun_of v s t e =
 
 module _ (x : Around) (thread : x.actor ≡ Thread) where
   -- the whole of a row is its four beats
-  pub four_are : (v : Vector) (s : State) → s.rest.fpca ≡ true → refuse v s ≡ None → Clean s → then (row_beats x v 0 4 s) retire ≡ stopped (vector_whole v s)
+  pub four_are : (v : Vector) (s : State) → s.rest.fpca ≡ true → refuse v s ≡ None → NoTaint s → then (row_beats x v 0 4 s) retire ≡ stopped (vector_whole v s)
   four_are v s there free clean = whole_ordered Vector vector_tree vector_whole row_laws writes_lr x thread v s (may_run v x s there free) clean
 
   -- it leaves no cell tainted
-  whole_clean : (v : Vector) (s t : State) → s.rest.fpca ≡ true → refuse v s ≡ None → Clean s → vector_whole v s ≡ Ok t → Clean t
+  whole_clean : (v : Vector) (s t : State) → s.rest.fpca ≡ true → refuse v s ≡ None → NoTaint s → vector_whole v s ≡ Ok t → NoTaint t
   whole_clean v s t there free clean e =
       let four = then_ok (row_beats x v 0 4 s) retire t (four_are v s there free clean ∙ ap stopped e) in
-      subst Clean (ok_same four.2) (beats_clean Vector vector_tree vector_whole row_laws writes_lr x thread v 4 0 s four.0 clean four.1)
+      subst NoTaint (ok_same four.2) (beats_clean Vector vector_tree vector_whole row_laws writes_lr x thread v 4 0 s four.0 clean four.1)
 
   -- the row with its context
-  pub row_leaves : (v : Vector) (s t : State) → Clean s → vector_row v s ≡ Ok t → Clean t
+  pub row_leaves : (v : Vector) (s t : State) → NoTaint s → vector_row v s ≡ Ok t → NoTaint t
   row_leaves v s t clean e =
       let begun = begun_of v s t e in
       whole_clean v (with_context s) t (context_ready s) begun.free (context_clean s clean) begun.whole

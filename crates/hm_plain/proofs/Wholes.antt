@@ -12,7 +12,7 @@ use Rattle.hm_order.specs.Beats.{then}
 use Rattle.hm_order.specs.Machine.{Config, Stopped, begun, done, settle}
 use Rattle.hm_state.specs.State.{State, At, Byte, cells}
 use Rattle.hm_beat.specs.Trees.{action}
-use Rattle.hm_beat.specs.Laws.{Clean, stopped}
+use Rattle.hm_beat.specs.Laws.{NoTaint, stopped}
 use Rattle.hm_beat.specs.Ordered.{of_four}
 use Rattle.hm_rows.specs.Context.{with_context}
 use Rattle.hm_rows.specs.Rows.{refuse, vector_tree, vector_whole}
@@ -35,7 +35,7 @@ abbrev pub between : ℕ → ℕ → State → Config State
 between n k s = record { a = 0; b = 0; n = n; steps = k; state = s }
 
 -- WHAT AN INSTRUCTION LEAVES: no taint
-pub watched_clean : (s : State) → Clean s → watched.Clean s
+pub watched_clean : (s : State) → NoTaint s → watched.NoTaint s
 watched_clean s h (In (At p)) = refl
 watched_clean s h (In (Byte a)) = h a
 watched_clean s h Beside = refl
@@ -44,15 +44,15 @@ done_leaves : (q : Result Went Fault) → GoesClean q → Leaves (done_alone q)
 done_leaves (Ok x) h = λ a. h (In (Byte a))
 done_leaves (Err f) h = tt
 
-other_leaves : (i : Instr) (s : State) → Clean s → Leaves (other_row i s)
+other_leaves : (i : Instr) (s : State) → NoTaint s → Leaves (other_row i s)
 other_leaves i s h = break_leaves _ (break_of i) (done_alone (scalar_alone i s)) (broken_leaves s h) (done_leaves (scalar_alone i s) (whole-clean i s (watched_clean s h)))
 
 module _ (around : Around) (thread : around.actor ≡ Thread) where
-  row_kept : (v : Vector) (s : State) → Clean s → (r : Result State WholeStop) → vector_row v s ≡ r → Leaves r
+  row_kept : (v : Vector) (s : State) → NoTaint s → (r : Result State WholeStop) → vector_row v s ≡ r → Leaves r
   row_kept v s clean (Ok t) e = row_leaves around thread v s t clean e
   row_kept v s clean (Err w) e = tt
 
-  pub leaves : (r : Result Instr Fault) (s : State) → Clean s → Leaves (whole_here r s)
+  pub leaves : (r : Result Instr Fault) (s : State) → NoTaint s → Leaves (whole_here r s)
   leaves (Ok (instr.Scalar i)) s h = other_leaves (instr.Scalar i) s h
   leaves (Ok (instr.Branch i)) s h = other_leaves (instr.Branch i) s h
   leaves (Ok (instr.Vector v)) s h = row_kept v s h (vector_row v s) refl
@@ -67,13 +67,13 @@ pub under_thread : (x : Around) → x.actor ≡ Thread → x ≡ thread_under x.
 under_thread x e = λ j. record { actor = e j; lo = x.lo; hi = x.hi; floor = x.floor }
 
 module _ (x : Around) (thread : x.actor ≡ Thread) where
-  same_is : (i : Instr) (s : State) → Clean s → other_by x i s ≡ in_machine (other_row i s)
+  same_is : (i : Instr) (s : State) → NoTaint s → other_by x i s ≡ in_machine (other_row i s)
   same_is i s clean =
       ap (λ (y : Around). other_by y i s) (under_thread x thread)
       ∙ break_same _ _ (break_of i) _ _ (λ k. broken_same x.lo x.hi x.floor k s clean)
       (ap done_in_machine (whole-same x.lo x.hi x.floor i s (watched_clean s clean)) ∙ done_same (scalar_alone i s))
 
-  other_is : (r : Result Instr Fault) (s : State) → vector_of r ≡ None → Clean s → other_here x r s ≡ in_machine (whole_here r s)
+  other_is : (r : Result Instr Fault) (s : State) → vector_of r ≡ None → NoTaint s → other_here x r s ≡ in_machine (whole_here r s)
   other_is (Ok (instr.Scalar i)) s none clean = same_is (instr.Scalar i) s clean
   other_is (Ok (instr.Branch i)) s none clean = same_is (instr.Branch i) s clean
   other_is (Ok (instr.Vector v)) s none clean = absurd cc
@@ -133,7 +133,7 @@ module _ (listing : Listing) (around : Around) (thread : around.actor ≡ Thread
   from_first v n k s here = later_beat v 0 2 n k s here (λ t there. from_second v n (suc k) t there)
 
   -- a row from its start
-  row_comes : (v : Vector) (n k : ℕ) (s : State) → Clean s → Here v s → (q : Result State WholeStop) → ready_state v s ≡ q
+  row_comes : (v : Vector) (n k : ℕ) (s : State) → NoTaint s → Here v s → (q : Result State WholeStop) → ready_state v s ≡ q
       → Comes n (then q (λ t. or_fault (vector_whole v t)))
       (then (done machine (between n k s) (then (in_machine q) ((rows around).act v 0).run) (settle machine 1 0 n (suc k))) (older_steps machine 3))
   row_comes v n k s clean here (Err w) e = (begun machine (between n k s), refl, refl)
@@ -145,10 +145,10 @@ module _ (listing : Listing) (around : Around) (thread : around.actor ≡ Thread
       let ready : refuse v t ≡ None = ap (refuse v) (sym is) ∙ free.0 in
       let b = of_four (vector_tree v around) 0 in
       whole_comes n (vector_whole v t) _ (subst (λ (r : Result State Stop). BeatsCome n r (then (done machine (between n k s) (caused ((action cells b).run t)) (settle machine 1 0 n (suc k))) (older_steps machine 3)))
-      (four_are around thread v t there ready (subst Clean is (context_clean s clean)))
+      (four_are around thread v t there ready (subst NoTaint is (context_clean s clean)))
       (beat_comes v 0 3 n k (between n k s) ((action cells b).run t) refl (λ u e. from_first v n (suc k) u (here_still v t u here_too (beat_pc b t u e)))))
 
-  row_step : (v : Vector) (n k : ℕ) (s : State) → Clean s → listing s.pc ≡ Ok (instr.Vector v) → Comes n (alone listing s) (letter_step machine whole_letter (between n k s))
+  row_step : (v : Vector) (n k : ℕ) (s : State) → NoTaint s → listing s.pc ≡ Ok (instr.Vector v) → Comes n (alone listing s) (letter_step machine whole_letter (between n k s))
   row_step v n k s clean e =
       let here : Here v s = ap vector_of e in
       subst (λ (r : Result Instr Fault). Comes n (whole_here r s) (letter_step machine whole_letter (between n k s))) (sym e)
@@ -161,7 +161,7 @@ module _ (listing : Listing) (around : Around) (thread : around.actor ≡ Thread
   other_comes n k s (Ok t) = (suc k, refl)
   other_comes n k s (Err w) = (begun machine (between n k s), refl, refl)
 
-  other_step : (n k : ℕ) (s : State) → Clean s → vector_of (listing s.pc) ≡ None → Comes n (alone listing s) (letter_step machine whole_letter (between n k s))
+  other_step : (n k : ℕ) (s : State) → NoTaint s → vector_of (listing s.pc) ≡ None → Comes n (alone listing s) (letter_step machine whole_letter (between n k s))
   other_step n k s clean none =
       subst (λ (o : Option Vector). Comes n (alone listing s) (older_steps machine (steps_left o 0) (between n k s))) (sym none)
       (subst (λ (r : Stepped). Comes n (alone listing s) (then r (older_steps machine 0)))
@@ -169,12 +169,12 @@ module _ (listing : Listing) (around : Around) (thread : around.actor ≡ Thread
       ∙ ap (λ (r : Result State Cause). done machine (between n k s) r (past (between n k s))) (other_is around thread (listing s.pc) s none clean)))
       (other_comes n k s (alone listing s)))
 
-  step_of : (n k : ℕ) (s : State) → Clean s → (r : Result Instr Fault) → listing s.pc ≡ r → Comes n (alone listing s) (letter_step machine whole_letter (between n k s))
+  step_of : (n k : ℕ) (s : State) → NoTaint s → (r : Result Instr Fault) → listing s.pc ≡ r → Comes n (alone listing s) (letter_step machine whole_letter (between n k s))
   step_of n k s clean (Ok (instr.Scalar i)) e = other_step n k s clean (ap vector_of e)
   step_of n k s clean (Ok (instr.Branch i)) e = other_step n k s clean (ap vector_of e)
   step_of n k s clean (Ok (instr.Vector v)) e = row_step v n k s clean e
   step_of n k s clean (Err f) e = other_step n k s clean (ap vector_of e)
 
   -- the whole of the next instruction, in one step or in four
-  pub whole_step : (n k : ℕ) (s : State) → Clean s → Comes n (alone listing s) (letter_step machine whole_letter (between n k s))
+  pub whole_step : (n k : ℕ) (s : State) → NoTaint s → Comes n (alone listing s) (letter_step machine whole_letter (between n k s))
   whole_step n k s clean = step_of n k s clean (listing s.pc) refl

@@ -99,7 +99,7 @@ pub fn reads_law()
 
 /// The list of a function's first values grows by one value at its end, and is the one list of its length with
 /// these elements.
-pub fn lists_law()
+pub fn first_values_law()
     ensures more { (n : ℕ) (f : ℕ → ℕ) → listed (suc n) f ≡ listed n f ++ f n ∷ [] }
     ensures only { (n : ℕ) (f : ℕ → ℕ) (xs : List ℕ)
         → length xs ≡ n → ((k : ℕ) → k < n → slice_index xs k ≡ f k) → listed n f ≡ xs }
