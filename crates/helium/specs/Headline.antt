@@ -24,7 +24,7 @@ IsGiven F (file name) s = (text : List ℕ) × (get F name ≡ Some text) × (le
 
 -- The host tells the files F and the printed bytes P, and none of its calls failed. The file that is named is there, not
 -- too large, and holds this image, whose reset address is odd.
-pub record IsSound (old new : HostState) (F : FileMap) (P name : List ℕ) (image : List Segment) : Type 0 where
+pub record IsSoundImage (old new : HostState) (F : FileMap) (P name : List ℕ) (image : List Segment) : Type 0 where
   pub files : old.files ≡ Some F
   pub printed : old.printed ≡ Some P
   pub bytes : List ℕ
@@ -40,7 +40,7 @@ pub record IsSoundRun (words : List (List ℕ)) (old new : HostState) (F : FileM
   pub source : Source
   pub asked : IsRun words name source memory
   pub given : IsGiven F source s
-  pub sound : IsSound old new F P name image
+  pub sound : IsSoundImage old new F P name image
 
 -- A report was printed and a file was written, and the headline and its riders hold of them. The status says whether the run halted.
 pub record IsReported (F : FileMap) (P memory : List ℕ) (image : List Segment) (s : Sched) (new : HostState) (status : Status) : Type 0 where
@@ -63,7 +63,7 @@ RunsToHeadline words old new status =
 -- The words ask for n instructions in order of a sound image.
 pub record IsSoundSeq (words : List (List ℕ)) (old new : HostState) (F : FileMap) (P name : List ℕ) (image : List Segment) (n : ℕ) : Type 0 where
   pub asked : IsSeq words name n
-  pub sound : IsSound old new F P name image
+  pub sound : IsSoundImage old new F P name image
 
 -- whether instructions in order halted
 abbrev pub has_halted : InOrder → Bool

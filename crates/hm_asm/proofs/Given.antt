@@ -17,7 +17,7 @@ use Rattle.hm_text_base.proofs.Steps.{some_is}
 use Rattle.hm_tokens.specs.Tokens.{skip}
 use Rattle.hm_source.specs.declared.values.DatumSize.{DatumSize}
 use Rattle.hm_source.specs.declared.values.DatumSize.TheVariants.{Byte, Half, Word}
-use Rattle.hm_source.specs.Directives.{Datum, Asked, org, align, space, values, bytes_each}
+use Rattle.hm_source.specs.Directives.{Datum, Directed, org, align, space, values, bytes_each}
 use Rattle.hm_source.specs.Lines.{name_of, text_of, text_column, shifted}
 use Rattle.hm_source.specs.Places.{HasPlace, HasRoom, next_place, padding, size_asked, size_of}
 use Rattle.hm_source.specs.Statements.{Said, nothing, instruction, directive, Says}
@@ -46,7 +46,7 @@ values_length labels s (d ∷ ds) bs (n, rest, is, more, e) =
     let low = low_length s n in
     ap length e ∙ (let f : length (low_bytes (bytes_each s) n ++ rest) ≡ bytes_each s * length (d ∷ ds) = omega (arith, tail, low, length-append (low_bytes (bytes_each s) n) rest) in f)
 
-asked_length : (labels : Naming) (a : ℕ) (asked : Asked) (bs : List ℕ) → AreAsked labels a asked bs → length bs ≡ size_asked asked a
+asked_length : (labels : Naming) (a : ℕ) (asked : Directed) (bs : List ℕ) → AreAsked labels a asked bs → length bs ≡ size_asked asked a
 asked_length labels a (org b) bs e = ap length e
 asked_length labels a (align n) bs e = ap length e ∙ length-replicate (padding n a) 0
 asked_length labels a (space n) bs e = ap length e ∙ length-replicate n 0
@@ -64,7 +64,7 @@ record Roomed (a n b : ℕ) : Type 0 where
   room : HasRoom a n
   behind : a + n ≤ b
 
-roomed_asked : (asked : Asked) (a : ℕ) → HasPlace (directive asked) a → Roomed a (size_asked asked a) (next_place (directive asked) a)
+roomed_asked : (asked : Directed) (a : ℕ) → HasPlace (directive asked) a → Roomed a (size_asked asked a) (next_place (directive asked) a)
 roomed_asked (org b) a place = record { room = inl refl; behind = omega (arith, place) }
 roomed_asked (align n) a place = record { room = place; behind = omega arith }
 roomed_asked (space n) a place = record { room = place; behind = omega arith }
@@ -102,7 +102,7 @@ same_values labels s (d ∷ ds) bs cs (n, rest, is, more, e) (m, left, also, oth
     let tail = same_values labels s ds rest left more others in
     e ∙ ap (λ (x : ℕ). low_bytes (bytes_each s) x ++ rest) number ∙ ap (λ (x : List ℕ). low_bytes (bytes_each s) m ++ x) tail ∙ sym f
 
-same_asked : (labels : Naming) (a : ℕ) (asked : Asked) (bs cs : List ℕ) → AreAsked labels a asked bs → AreAsked labels a asked cs → bs ≡ cs
+same_asked : (labels : Naming) (a : ℕ) (asked : Directed) (bs cs : List ℕ) → AreAsked labels a asked bs → AreAsked labels a asked cs → bs ≡ cs
 same_asked labels a (org b) bs cs e f = e ∙ sym f
 same_asked labels a (align n) bs cs e f = e ∙ sym f
 same_asked labels a (space n) bs cs e f = e ∙ sym f
@@ -180,7 +180,7 @@ one_column text n m c d e (here, is, at) (there, also, stands) =
     at ∙ ap (λ (x : List ℕ). column text (skip x)) (one_operand text m here there (subst (λ (k : ℕ). IsOperand text k here) e is) also) ∙ sym stands
 
 -- a list is refused as Missing alone
-record ListRefused (labels : Naming) (text : List ℕ) (asked : Asked) (kind : AsmKind) (c : ℕ) : Type 0 where
+record ListRefused (labels : Naming) (text : List ℕ) (asked : Directed) (kind : AsmKind) (c : ℕ) : Type 0 where
   size : DatumSize
   first : Datum
   others : List Datum
@@ -190,7 +190,7 @@ record ListRefused (labels : Naming) (text : List ℕ) (asked : Asked) (kind : A
   none : IsFirstMissing labels size (first ∷ others) index
   at : IsOperandColumn text index c
 
-list_refused : (kind : AsmKind) (labels : Naming) (text : List ℕ) (asked : Asked) (c : ℕ) → IsListRefused kind labels text asked c → ListRefused labels text asked kind c
+list_refused : (kind : AsmKind) (labels : Naming) (text : List ℕ) (asked : Directed) (c : ℕ) → IsListRefused kind labels text asked c → ListRefused labels text asked kind c
 list_refused asm_kinds.Missing labels text (values s d ds) c (n, none, at) = record { size = s; first = d; others = ds; list = refl; missing = refl; index = n; none = none; at = at }
 list_refused asm_kinds.Missing labels text (org b) c r = absurd r
 list_refused asm_kinds.Missing labels text (align n) c r = absurd r
@@ -201,16 +201,16 @@ list_refused asm_kinds.Double labels text asked c r = absurd r
 list_refused asm_kinds.Offset labels text asked c r = absurd r
 list_refused asm_kinds.Place labels text asked c r = absurd r
 
-given_not_refused : (labels : Naming) (a : ℕ) (text : List ℕ) (asked : Asked) (bs : List ℕ) (kind : AsmKind) (c : ℕ) → AreAsked labels a asked bs → ListRefused labels text asked kind c → ⊥
+given_not_refused : (labels : Naming) (a : ℕ) (text : List ℕ) (asked : Directed) (bs : List ℕ) (kind : AsmKind) (c : ℕ) → AreAsked labels a asked bs → ListRefused labels text asked kind c → ⊥
 given_not_refused labels a text asked bs kind c are r =
-    missing_number labels r.size (r.first ∷ r.others) bs r.index (subst (λ (x : Asked). AreAsked labels a x bs) r.list are) r.none
+    missing_number labels r.size (r.first ∷ r.others) bs r.index (subst (λ (x : Directed). AreAsked labels a x bs) r.list are) r.none
 
 bytes_not_refused : (labels : Naming) (a : ℕ) (text : List ℕ) (said : Said) (bs : List ℕ) (kind : AsmKind) (c : ℕ) → AreBytes labels a text said bs → IsSaidRefused kind labels a text said c → ⊥
 bytes_not_refused labels a text nothing bs kind c are r = r
 bytes_not_refused labels a text (instruction n) bs kind c (i, is, e) r = not_refused text a labels i kind c is r
 bytes_not_refused labels a text (directive asked) bs kind c are r = given_not_refused labels a text asked bs kind c are (list_refused kind labels text asked c r)
 
-one_list_refusal : (labels : Naming) (text : List ℕ) (asked : Asked) (k j : AsmKind) (c d : ℕ) → ListRefused labels text asked k c → ListRefused labels text asked j d → (k ≡ j) × (c ≡ d)
+one_list_refusal : (labels : Naming) (text : List ℕ) (asked : Directed) (k j : AsmKind) (c d : ℕ) → ListRefused labels text asked k c → ListRefused labels text asked j d → (k ≡ j) × (c ≡ d)
 one_list_refusal labels text asked k j c d r s = (
   r.missing ∙ sym s.missing,
   one_column text r.index s.index c d (index r.size r.first r.others s.size s.first s.others (sym r.list ∙ s.list) r.none s.none) r.at s.at,

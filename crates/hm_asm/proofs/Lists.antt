@@ -8,7 +8,7 @@ use Rattle.hm_tokens.specs.Lines.{AreTokensOf}
 use Rattle.hm_tokens.specs.Tokens.{mark, skip, word}
 use Rattle.hm_source.specs.declared.values.DatumSize.{DatumSize}
 use Rattle.hm_source.specs.declared.values.Values.{Values}
-use Rattle.hm_source.specs.Directives.{Asked, Datum, align, bytes_each, datum_tokens, list_name, list_tokens, org, space, values}
+use Rattle.hm_source.specs.Directives.{Directed, Datum, align, bytes_each, datum_tokens, list_name, list_tokens, org, space, values}
 use Rattle.hm_source.specs.Places.{HasPlace, HasRoom}
 use Rattle.hm_source.specs.Shown.{AreFront, AreListed, ShowsValues}
 use Rattle.hm_source.specs.Statements.{directive}
@@ -116,13 +116,13 @@ module _ (text : List ℕ) (labels : Naming) (size : DatumSize) (rest : List ℕ
 
 -- THE LIST of a text
 -- what a directive with values asks for
-pub record Shown (text : List ℕ) (v : Values) (asked : Asked) : Type 0 where
+pub record Shown (text : List ℕ) (v : Values) (asked : Directed) : Type 0 where
   pub d : Datum
   pub ds : List Datum
   pub asks : asked ≡ values v.size d ds
   pub shows : ShowsValues text v (values v.size d ds)
 
-pub shown_list : (text : List ℕ) (v : Values) (asked : Asked) → ShowsValues text v asked → Shown text v asked
+pub shown_list : (text : List ℕ) (v : Values) (asked : Directed) → ShowsValues text v asked → Shown text v asked
 shown_list text v (org b) shows = absurd shows
 shown_list text v (align n) shows = absurd shows
 shown_list text v (space n) shows = absurd shows
@@ -144,5 +144,5 @@ same_count text v a s d e ds es shows also room =
 pub ready_room : (text : List ℕ) (v : Values) (a : ℕ) (d : Datum) (ds : List Datum) → IsReadyList text v a → ShowsValues text v (values v.size d ds) → HasRoom a (bytes_each v.size * length (d ∷ ds))
 ready_room text v a d ds ready shows =
     let list = ready_list text v a ready in
-    let place : HasPlace (directive (values v.size list.d list.ds)) a = subst (λ (x : Asked). HasPlace (directive x) a) list.asks ready.2 in
+    let place : HasPlace (directive (values v.size list.d list.ds)) a = subst (λ (x : Directed). HasPlace (directive x) a) list.asks ready.2 in
     same_count text v a v.size list.d d list.ds ds list.shows shows place

@@ -3,7 +3,7 @@ use Rattle.std.proofs.Common.{◌≡◌, ℕ, true, ltb, List, [], ◌∷◌, ge
 use Rattle.std.specs.Prelude.{◌||◌}
 use Rattle.std.proofs.lemmas.Bool.Decides.{nat_tests}
 use Rattle.hm_tokens.specs.Tokens.{Tok, word, number}
-use Rattle.hm_source.specs.Directives.{Asked, org, align, space, values, asked_tokens, list_name, list_tokens}
+use Rattle.hm_source.specs.Directives.{Directed, org, align, space, values, asked_tokens, list_name, list_tokens}
 use Rattle.hm_source.specs.Statements.{Said, nothing, instruction, directive, Says}
 use Rattle.hm_source.proofs.Asks.{no_list, one_size}
 use Rattle.hm_source.proofs.Fronts.{one_tokens}
@@ -22,7 +22,7 @@ rest_same t u ts us e = cc
 differ : (v w : List ℕ) (ts us : List Tok) (a b : ℕ) → get_or v 1 0 ≡ a → get_or w 1 0 ≡ b → ltb a b || ltb b a ≡ true → word v ∷ ts ≡ word w ∷ us → ⊥
 differ v w ts us a b p q apart e = let same : a ≡ b = sym p ∙ ap (λ (x : List ℕ). get_or x 1 0) (name_same v w ts us e) ∙ q in grind (arith, nat_tests)
 
-one_asked : (x y : Asked) → asked_tokens x ≡ asked_tokens y → x ≡ y
+one_asked : (x y : Directed) → asked_tokens x ≡ asked_tokens y → x ≡ y
 one_asked (org a) (org b) t = cc
 one_asked (org a) (align m) t = absurd (differ (codes ".org") (codes ".align") (number a ∷ []) (number m ∷ []) 111 97 refl refl refl t)
 one_asked (org a) (space m) t = absurd (differ (codes ".org") (codes ".space") (number a ∷ []) (number m ∷ []) 111 115 refl refl refl t)

@@ -13,10 +13,10 @@ use Rattle.hm_line.specs.declared.errors.TextErr.{TextErr}
 use Rattle.hm_text_base.specs.Spans.{lines_of}
 use Rattle.hm_source.specs.declared.directives.Directive.{Directive}
 use Rattle.hm_source.specs.declared.statements.Statement.TheVariants as statements
-use Rattle.hm_source.specs.Directives.{Asked, org, align, space, values}
+use Rattle.hm_source.specs.Directives.{Directed, org, align, space, values}
 use Rattle.hm_source.specs.Lines.{name_of, shifted, source_lines, text_column, text_of}
 use Rattle.hm_source.specs.Places.{HasPlace, HasRoom, next_place, padding, size_of}
-use Rattle.hm_source.specs.Shown.{Shows, ShowsAsked}
+use Rattle.hm_source.specs.Shown.{ShowsSaid, ShowsDirected}
 use Rattle.hm_source.specs.Statements.{Said, nothing, instruction, directive, Says}
 use Rattle.hm_source.specs.Unread.{IsUnread}
 use Rattle.hm_asm.specs.declared.errors.AsmErr.{AsmErr}
@@ -70,16 +70,16 @@ said_err labels a text begin number said r x y told kind column is =
     subst (λ (e : AsmErr). IsSaidErr labels a text begin number said e) (sym told)
     (refl, x.column, subst (λ (k : AsmKind). IsSaidRefused k labels a text said x.column) (sym kind) is, column)
 
-pub given_align : (labels : Naming) (old new : Made) (n count : ℕ) (a : Asked) → a ≡ align n → count ≡ padding n (place_of old) → new ≡ with_bytes old (replicate count 0)
+pub given_align : (labels : Naming) (old new : Made) (n count : ℕ) (a : Directed) → a ≡ align n → count ≡ padding n (place_of old) → new ≡ with_bytes old (replicate count 0)
     → (bs : List ℕ) × AreAsked labels (place_of old) a bs × (new ≡ after_line old (directive a) bs)
 given_align labels old new n count a e many added =
-    subst (λ (x : Asked). (bs : List ℕ) × AreAsked labels (place_of old) x bs × (new ≡ after_line old (directive x) bs)) (sym e)
+    subst (λ (x : Directed). (bs : List ℕ) × AreAsked labels (place_of old) x bs × (new ≡ after_line old (directive x) bs)) (sym e)
     (replicate count 0, ap (λ (k : ℕ). replicate k 0) many, added)
 
-pub given_space : (labels : Naming) (old new : Made) (n : ℕ) (a : Asked) → a ≡ space n → new ≡ with_bytes old (replicate n 0)
+pub given_space : (labels : Naming) (old new : Made) (n : ℕ) (a : Directed) → a ≡ space n → new ≡ with_bytes old (replicate n 0)
     → (bs : List ℕ) × AreAsked labels (place_of old) a bs × (new ≡ after_line old (directive a) bs)
 given_space labels old new n a e added =
-    subst (λ (x : Asked). (bs : List ℕ) × AreAsked labels (place_of old) x bs × (new ≡ after_line old (directive x) bs)) (sym e)
+    subst (λ (x : Directed). (bs : List ℕ) × AreAsked labels (place_of old) x bs × (new ≡ after_line old (directive x) bs)) (sym e)
     (replicate n 0, refl, added)
 
 -- a result that is no error
@@ -88,20 +88,20 @@ no_error (Ok x) P e p = p
 no_error (Err x) P e p = absurd (false≢true (sym e))
 
 -- what holds of what a directive asks for holds of what its text says
-pub of_directive : (text : List ℕ) (d : Directive) (said told : Said) (P : Said → Type 0) → Says text said → Says text told → Shows text (statements.Directive d) told → ((a : Asked) → ShowsAsked text d a → P (directive a)) → P said
+pub of_directive : (text : List ℕ) (d : Directive) (said told : Said) (P : Said → Type 0) → Says text said → Says text told → ShowsSaid text (statements.Directive d) told → ((a : Directed) → ShowsDirected text d a → P (directive a)) → P said
 of_directive text d said told P says tells shows each =
     subst (λ (s : Said). P s) (one_said text told said tells says) (go told shows)
   where
-    go : (s : Said) → Shows text (statements.Directive d) s → P s
+    go : (s : Said) → ShowsSaid text (statements.Directive d) s → P s
     go nothing sh = absurd sh
     go (instruction n) sh = absurd sh
     go (directive a) sh = each a sh
 
 -- the same of an instruction, for which there is room
-pub of_instruction : (text : List ℕ) (w : ℕ) (said told : Said) (P : Said → Type 0) → Says text said → Says text told → Shows text (statements.Instruction w) told → P (instruction w) → P said
+pub of_instruction : (text : List ℕ) (w : ℕ) (said told : Said) (P : Said → Type 0) → Says text said → Says text told → ShowsSaid text (statements.Instruction w) told → P (instruction w) → P said
 of_instruction text w said told P says tells shows here = subst (λ (s : Said). P s) (sym shows ∙ one_said text told said tells says) here
 
-pub room_here : (text : List ℕ) (a w n : ℕ) (told : Said) → Says text told → Shows text (statements.Instruction w) told → HasPlace told a → HasWidth text n → HasRoom a n
+pub room_here : (text : List ℕ) (a w n : ℕ) (told : Said) → Says text told → ShowsSaid text (statements.Instruction w) told → HasPlace told a → HasWidth text n → HasRoom a n
 room_here text a w n told tells shows place width =
     let read : HasWidth text w = says_width text w (subst (λ (s : Said). Says text s) shows tells) in
     let room : HasPlace (instruction w) a = subst (λ (s : Said). HasPlace s a) shows place in

@@ -5,20 +5,20 @@ use Rattle.hm_isa.specs.declared.Instr.TheVariants as instr
 use Rattle.hm_source.specs.declared.values.Values.{Values}
 use Rattle.hm_source.specs.declared.directives.Directive.{Directive}
 use Rattle.hm_source.specs.declared.lines.Line.{Line}
-use Rattle.hm_source.specs.Directives.{Asked}
+use Rattle.hm_source.specs.Directives.{Directed}
 use Rattle.hm_source.specs.Places.{HasPlace}
-use Rattle.hm_source.specs.Shown.{Shows, ShowsAsked, ShowsValues}
+use Rattle.hm_source.specs.Shown.{ShowsSaid, ShowsDirected, ShowsValues}
 use Rattle.hm_source.specs.Statements.{Said, directive, Says}
 
 -- it has its place at a
 abbrev pub IsReadyList : List ℕ → Values → ℕ → Type 0
-IsReadyList text v a = (asked : Asked) × ShowsValues text v asked × HasPlace (directive asked) a
+IsReadyList text v a = (asked : Directed) × ShowsValues text v asked × HasPlace (directive asked) a
 
 abbrev pub IsReadyAsked : List ℕ → Directive → ℕ → Type 0
-IsReadyAsked text d a = (asked : Asked) × ShowsAsked text d asked × HasPlace (directive asked) a
+IsReadyAsked text d a = (asked : Directed) × ShowsDirected text d asked × HasPlace (directive asked) a
 
 abbrev pub IsReady : Line → ℕ → Type 0
-IsReady l a = (0 < l.parts.column) × (said : Said) × Says l.parts.instruction.now said × Shows l.parts.instruction.now l.statement said × HasPlace said a
+IsReady l a = (0 < l.parts.column) × (said : Said) × Says l.parts.instruction.now said × ShowsSaid l.parts.instruction.now l.statement said × HasPlace said a
 
 -- an instruction is no vector row
 abbrev pub IsPlain : Instr → Type 0

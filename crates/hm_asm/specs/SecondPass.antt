@@ -13,7 +13,7 @@ use Rattle.hm_text.specs.Refusals.{IsTextRefused}
 use Rattle.hm_text.specs.Texts.{IsTextOf}
 use Rattle.hm_tokens.specs.Tokens.{skip}
 use Rattle.hm_source.specs.declared.values.DatumSize.{DatumSize}
-use Rattle.hm_source.specs.Directives.{Datum, literal, named, beyond, Asked, org, align, space, values, bytes_each}
+use Rattle.hm_source.specs.Directives.{Datum, literal, named, beyond, Directed, org, align, space, values, bytes_each}
 use Rattle.hm_source.specs.Lines.{text_of, text_column, shifted}
 use Rattle.hm_source.specs.Places.{padding, next_place}
 use Rattle.hm_source.specs.Statements.{Said, nothing, instruction, directive, Says}
@@ -42,7 +42,7 @@ abbrev pub AreValues : Naming → DatumSize → List Datum → List ℕ → Type
 AreValues labels s [] bs = bs ≡ []
 AreValues labels s (d ∷ ds) bs = (n : ℕ) × (rest : List ℕ) × (number_of labels s d ≡ Some n) × AreValues labels s ds rest × (bs ≡ low_bytes (bytes_each s) n ++ rest)
 
-abbrev pub AreAsked : Naming → ℕ → Asked → List ℕ → Type 0
+abbrev pub AreAsked : Naming → ℕ → Directed → List ℕ → Type 0
 AreAsked labels a (org b) bs = bs ≡ []
 AreAsked labels a (align n) bs = bs ≡ replicate (padding n a) 0
 AreAsked labels a (space n) bs = bs ≡ replicate n 0
@@ -65,7 +65,7 @@ IsFirstMissing labels s (d ∷ ds) (suc n) = (m : ℕ) × (number_of labels s d 
 abbrev pub IsOperandColumn : List ℕ → ℕ → ℕ → Type 0
 IsOperandColumn text n c = (here : List ℕ) × IsOperand text n here × (c ≡ column text (skip here))
 
-abbrev pub IsListRefused : AsmKind → Naming → List ℕ → Asked → ℕ → Type 0
+abbrev pub IsListRefused : AsmKind → Naming → List ℕ → Directed → ℕ → Type 0
 IsListRefused kinds.Missing labels text (values s d ds) c = (n : ℕ) × IsFirstMissing labels s (d ∷ ds) n × IsOperandColumn text n c
 IsListRefused kind labels text asked c = ⊥
 

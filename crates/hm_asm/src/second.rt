@@ -2,7 +2,7 @@
 
 ghost use Rattle.std.specs.Prelude.{◌≡◌, ◌<◌, ◌≤◌, ◌%◌, ◌^◌, ℕ, List, length, IfOk, IfErr, OnOk};
 ghost use Rattle.std.specs.FinMap.{empty, get};
-ghost use Rattle.hm_source.specs.Directives.{Asked, Fits, bytes_each};
+ghost use Rattle.hm_source.specs.Directives.{Directed, Fits, bytes_each};
 ghost use Rattle.hm_asm.specs.FirstPass.{AreFine, IsFine};
 ghost use Rattle.hm_source.specs.Lines.{shifted, source_lines, text_column, text_of};
 ghost use Rattle.hm_asm.specs.Making.{after_line, place_of, with_bytes};
@@ -10,7 +10,7 @@ ghost use Rattle.hm_source.specs.Places.{HasRoom};
 ghost use Rattle.hm_asm.specs.Refusals.{IsSaidErr, IsSecondErr};
 ghost use Rattle.hm_asm.specs.SecondPass.{AreAsked, AreBytes, AreGiven, low_bytes, number_of};
 ghost use Rattle.hm_asm.specs.Ready.{IsReady, IsReadyAsked, IsReadyList};
-ghost use Rattle.hm_source.specs.Shown.{ShowsAsked, ShowsValues, datum};
+ghost use Rattle.hm_source.specs.Shown.{ShowsDirected, ShowsValues, datum};
 ghost use Rattle.hm_asm.specs.Segments.{joined};
 ghost use Rattle.hm_source.specs.Statements.{Said, Says, directive, instruction};
 ghost use Rattle.hm_base.specs.Image.{Segment};
@@ -82,8 +82,8 @@ fn add_values(
 ) -> Result<(), AsmErr>
     requires counted { 0 < line.now.parts.column }
     requires ready { IsReadyList line.now.parts.instruction.now values.now (place_of out.old) }
-    ensures given { (a : Asked) → ShowsValues line.now.parts.instruction.now values.now a → IfOk result (λ _. (bs : List ℕ) × AreAsked (get labels.now) (place_of out.old) a bs × (out.new ≡ with_bytes out.old bs)) }
-    ensures refused { (a : Asked) → ShowsValues line.now.parts.instruction.now values.now a → IfErr result (λ e. IsSaidErr (get labels.now) (place_of out.old) line.now.parts.instruction.now line.now.parts.column number (directive a) e) }
+    ensures given { (a : Directed) → ShowsValues line.now.parts.instruction.now values.now a → IfOk result (λ _. (bs : List ℕ) × AreAsked (get labels.now) (place_of out.old) a bs × (out.new ≡ with_bytes out.old bs)) }
+    ensures refused { (a : Directed) → ShowsValues line.now.parts.instruction.now values.now a → IfErr result (λ e. IsSaidErr (get labels.now) (place_of out.old) line.now.parts.instruction.now line.now.parts.column number (directive a) e) }
 {
     let mut rest = values.list;
     while let Some((item, behind)) = item_at(rest) {
@@ -134,8 +134,8 @@ fn add_asked(
 ) -> Result<(), AsmErr>
     requires counted { 0 < line.now.parts.column }
     requires ready { IsReadyAsked line.now.parts.instruction.now asked.now (place_of out.old) }
-    ensures given { (a : Asked) → ShowsAsked line.now.parts.instruction.now asked.now a → IfOk result (λ _. (bs : List ℕ) × AreAsked (get labels.now) (place_of out.old) a bs × (out.new ≡ after_line out.old (directive a) bs)) }
-    ensures refused { (a : Asked) → ShowsAsked line.now.parts.instruction.now asked.now a → IfErr result (λ e. IsSaidErr (get labels.now) (place_of out.old) line.now.parts.instruction.now line.now.parts.column number (directive a) e) }
+    ensures given { (a : Directed) → ShowsDirected line.now.parts.instruction.now asked.now a → IfOk result (λ _. (bs : List ℕ) × AreAsked (get labels.now) (place_of out.old) a bs × (out.new ≡ after_line out.old (directive a) bs)) }
+    ensures refused { (a : Directed) → ShowsDirected line.now.parts.instruction.now asked.now a → IfErr result (λ e. IsSaidErr (get labels.now) (place_of out.old) line.now.parts.instruction.now line.now.parts.column number (directive a) e) }
 {
     match asked {
         Directive::Org(to) => {

@@ -23,7 +23,7 @@ use Rattle.hm_state.specs.Start.{start}
 use Rattle.hm_state.specs.State.{State, Byte, bit, byte_of_bits, listed, sram_bytes, taint_bytes}
 use Rattle.hm_state.proofs.Lists.{length-listed, get_or-listed}
 use Rattle.hm_plain.specs.Ends.{GoesOn}
-use Rattle.hm_plain.specs.Overlap.{HaltsAfter, AgreesAfter, KeepsOrder, StopsBetween}
+use Rattle.hm_plain.specs.Overlap.{HaltsAfter, AgreesAfter, StaysInOrder, StopsBetween}
 use Rattle.hm_plain.specs.Readings.{ShownAlike, ShownInOrder}
 use Rattle.hm_plain.specs.Sequence.{FaultsAt, StopsFrom}
 use Rattle.hm_plain.proofs.Readings.{shown_alike}
@@ -128,7 +128,7 @@ module _ (listing : Listing) (image : List Segment) (s : Sched) where
   machine = thread_program listing s
 
   -- what is kept, by the outcome
-  pub kept : (x : Timed) (o : Option Outcome) → KeepsOrder listing image s x → x.outcome ≡ o → AgreesAfter machine (start image) o x.config
+  pub kept : (x : Timed) (o : Option Outcome) → StaysInOrder listing image s x → x.outcome ≡ o → AgreesAfter machine (start image) o x.config
   kept x o h e = subst (λ (q : Option Outcome). AgreesAfter machine (start image) q x.config) e h
 
   -- between two instructions what is shown is in order
@@ -145,7 +145,7 @@ module _ (listing : Listing) (image : List Segment) (s : Sched) where
   b_between c h none = ⊎_elim (λ p. p.b) (λ p. let more = p.begun in absurd (omega arith)) h.place
 
   -- a run that goes on, or is out of ticks
-  going : (x : Timed) → KeepsOrder listing image s x → GoesOn x.outcome → Holds machine (start image) x.config
+  going : (x : Timed) → StaysInOrder listing image s x → GoesOn x.outcome → Holds machine (start image) x.config
   going x keeps on = ⊎_elim (λ e. kept x None keeps e) (λ e. kept x (Some outcome.OutOfTicks) keeps e) on
 
   pub between_all : (t : ℕ) → GoesOn (timed listing image s t).outcome → (timed listing image s t).config.a ≡ 0
@@ -178,7 +178,7 @@ module _ (listing : Listing) (image : List Segment) (s : Sched) where
   fault_as f pc n h = (sequence.faulted listing image around n f pc).0 h
 
   -- THE HEADLINE
-  pub halts : (x : Timed) (report file : List ℕ) → KeepsOrder listing image s x → x.acts ≡ [] → report ≡ report_text x → file ≡ memory_text x
+  pub halts : (x : Timed) (report file : List ℕ) → StaysInOrder listing image s x → x.acts ≡ [] → report ≡ report_text x → file ≡ memory_text x
       → (reason : Reason) (n : ℕ) → x.outcome ≡ Some (outcome.Halted reason n) → HaltsInOrder listing image report file reason n
   halts x report file keeps none r f reason n e =
       let h : HaltsAfter machine (start image) reason n x.config = kept x (Some (outcome.Halted reason n)) keeps e in
@@ -196,7 +196,7 @@ module _ (listing : Listing) (image : List Segment) (s : Sched) where
       record { report_is = r; file_is = f; in_order = halts (timed_out listing image s) report file (keeps_order listing image s t) (no_acts listing image s t) r f }
 
   -- THE RIDERS
-  few : (x : Timed) → KeepsOrder listing image s x → (reason : Reason) (n : ℕ) (u : State) → in_order listing image n ≡ Halted reason n u
+  few : (x : Timed) → StaysInOrder listing image s x → (reason : Reason) (n : ℕ) (u : State) → in_order listing image n ≡ Halted reason n u
       → x.outcome ≡ Some outcome.OutOfTicks → x.config.steps < 4 * n
   few x keeps reason zero u h e = absurd cc
   few x keeps reason (suc n) u h e =
@@ -206,7 +206,7 @@ module _ (listing : Listing) (image : List Segment) (s : Sched) where
       few_steps machine (start image) x.config n (why.Halt reason) (kept x (Some outcome.OutOfTicks) keeps e)
       (record { state = u; runs = stops.runs; stop = stops.stop })
 
-  pub riders_of : (x : Timed) → KeepsOrder listing image s x → Riders listing image x
+  pub riders_of : (x : Timed) → StaysInOrder listing image s x → Riders listing image x
   riders_of x keeps = record {
     fault = λ f pc n e. fault_as f pc n (kept x (Some (outcome.Fault Thread f pc n)) keeps e);
     full = λ t e. let h : StopsBetween machine (start image) x.config.n why.Full x.config = kept x (Some (outcome.OutputFull t)) keeps e in (h.order, full_as x.config h);

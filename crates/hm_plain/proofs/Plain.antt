@@ -23,7 +23,7 @@ use Rattle.hm_state.specs.Start.{start, start_under}
 use Rattle.hm_state.specs.State.{State}
 use Rattle.hm_plain.specs.Ends.{GoesOn, PlainlyEnds}
 use Rattle.hm_plain.specs.Orders.{HasStopped, plain_end}
-use Rattle.hm_plain.specs.Overlap.{HaltsAfter, KeepsOrder, StopsBetween}
+use Rattle.hm_plain.specs.Overlap.{HaltsAfter, StaysInOrder, StopsBetween}
 use Rattle.hm_plain.specs.Sequence.{FaultsAt}
 use Rattle.hm_plain.proofs.Halts.{fault_as, full_as, halted_as, kept, no_acts, reports_going, reports_stop, shown_between}
 use Rattle.hm_plain.proofs.Orders.{stopped_later}
@@ -193,7 +193,7 @@ record Tells (x : Timed) (y : InOrder) : Type 0 where
   ends : x.outcome ≡ Some (plain_end y)
 
 module _ (listing : Listing) (image : List Segment) (n : ℕ) where
-  goes_reports : (x : Timed) → KeepsOrder listing image (plain n) x → x.acts ≡ [] → Goes 0 n x → Tells x (in_order listing image n)
+  goes_reports : (x : Timed) → StaysInOrder listing image (plain n) x → x.acts ≡ [] → Goes 0 n x → Tells x (in_order listing image n)
   goes_reports x keeps none h =
       let holds : Holds (thread_program listing (plain n)) (start image) x.config = kept listing image (plain n) x (Some outcome.OutOfTicks) keeps h.outcome in
       let between : x.config.a ≡ 0 = ap (λ (c : Config State). c.a) h.config in
@@ -205,7 +205,7 @@ module _ (listing : Listing) (image : List Segment) (n : ℕ) where
   within : (x : Timed) (k : ℕ) (y : InOrder) → k ≤ n → in_order listing image k ≡ y → HasStopped y → Tells x y → Tells x (in_order listing image n)
   within x k y few e stopped h = subst (Tells x) (sym (stopped_later listing image k n few (subst HasStopped (sym e) stopped) ∙ e)) h
 
-  ends_reports : (x : Timed) → KeepsOrder listing image (plain n) x → x.acts ≡ [] → (o : Outcome) → x.outcome ≡ Some o → PlainlyEnds n x.config o
+  ends_reports : (x : Timed) → StaysInOrder listing image (plain n) x → x.acts ≡ [] → (o : Outcome) → x.outcome ≡ Some o → PlainlyEnds n x.config o
       → Tells x (in_order listing image n)
   ends_reports x keeps none outcome.OutOfTicks e p = absurd p
   ends_reports x keeps none (outcome.Halted reason k) e p =
@@ -228,7 +228,7 @@ module _ (listing : Listing) (image : List Segment) (n : ℕ) where
       within x (x.config.n + 1) (Full (x.config.n + 1) h.order) (subst (λ (i : ℕ). i ≤ n) same p.0) (full_as listing image (plain n) x.config h) tt
       (record { report = reports_stop listing image (plain n) x (outcome.OutputFull (x.config.n + 1)) x.config.n why.Full ends none h; ends = ends })
 
-  plain_reports : (x : Timed) → KeepsOrder listing image (plain n) x → x.acts ≡ [] → Plainly 0 n x → Tells x (in_order listing image n)
+  plain_reports : (x : Timed) → StaysInOrder listing image (plain n) x → x.acts ≡ [] → Plainly 0 n x → Tells x (in_order listing image n)
   plain_reports x keeps none (inl h) = goes_reports x keeps none h
   plain_reports x keeps none (inr h) = ends_reports x keeps none h.end h.outcome h.plainly
 

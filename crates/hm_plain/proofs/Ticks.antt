@@ -40,7 +40,7 @@ use Rattle.hm_state.specs.Start.{start, start_under}
 use Rattle.hm_state.specs.State.{State, regs_of}
 use Rattle.hm_whole.specs.Whole.{Went, scalar_alone}
 use Rattle.hm_whole.proofs.Agreement.{same_regs}
-use Rattle.hm_plain.specs.Overlap.{AgreesAfter, KeepsOrder, StopsBetween}
+use Rattle.hm_plain.specs.Overlap.{AgreesAfter, StaysInOrder, StopsBetween}
 use Rattle.hm_plain.specs.Sequence.{FaultsAt}
 use Rattle.hm_plain.proofs.Laws.{laws, clean_of, next_is}
 use Rattle.hm_window.specs.Positions.{may_end}
@@ -318,7 +318,7 @@ begun listing image s = record {
   place = inl (record { a = refl; b = refl; live = first_alike image s.lo s.hi s.floor });
 }
 
-pub keeps_order : (listing : Listing) (image : List Segment) (s : Sched) (t : ℕ) → KeepsOrder listing image s (timed listing image s t)
+pub keeps_order : (listing : Listing) (image : List Segment) (s : Sched) (t : ℕ) → StaysInOrder listing image s (timed listing image s t)
 keeps_order listing image s zero =
     closed_keeps listing (thread_under s.lo s.hi s.floor) refl (start image) (ticks_of s.lines) (begin image s) (begun listing image s)
 keeps_order listing image s (suc t) =

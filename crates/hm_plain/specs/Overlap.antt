@@ -51,5 +51,5 @@ AgreesAfter M first (Some (outcome.TaintedRead t pc addr)) c = Unit {0}
 AgreesAfter M first (Some (outcome.StackSpent t sp)) c = Unit {0}
 AgreesAfter M first (Some (outcome.OutputFull t)) c = StopsBetween M first c.n why.Full c
 
-abbrev pub KeepsOrder : Listing → List Segment → Sched → Timed → Type 0
-KeepsOrder listing image s x = AgreesAfter (thread_program listing s) (start image) x.outcome x.config
+abbrev pub StaysInOrder : Listing → List Segment → Sched → Timed → Type 0
+StaysInOrder listing image s x = AgreesAfter (thread_program listing s) (start image) x.outcome x.config

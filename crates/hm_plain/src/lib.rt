@@ -26,7 +26,7 @@ ghost use Rattle.hm_plain.specs.Readings.{ShownAlike, ShownInOrder};
 ghost use Rattle.hm_plain.specs.Sequence.{StopsFrom, FaultsAt};
 ghost use Rattle.hm_plain.specs.Ends.{GoesOn, HasEnded};
 ghost use Rattle.hm_plain.specs.Orders.{HasStopped, StaysStopped, plain_end};
-ghost use Rattle.hm_plain.specs.Overlap.{KeepsOrder};
+ghost use Rattle.hm_plain.specs.Overlap.{StaysInOrder};
 
 /// A run of n plain ticks ends as the first n instructions in order come to, and reports that; of a fault the first line.
 pub fn plain_in_order()
@@ -99,7 +99,7 @@ pub fn core_laws()
 /// After each tick of any schedule whole instructions in order agree with the machine, which knows no handler here, while the run goes on. Where it
 /// halts, or the thread has a fault, so do they.
 pub fn after_each_tick()
-    ensures order { (listing : Listing) (image : List Segment) (s : Sched) (t : ℕ) → KeepsOrder listing image s (timed listing image s t) }
+    ensures order { (listing : Listing) (image : List Segment) (s : Sched) (t : ℕ) → StaysInOrder listing image s (timed listing image s t) }
     // Between two instructions the registers, the output, the device words that a thread may read and the bytes without taint are
     // those of the instructions in order.
     ensures between { (listing : Listing) (image : List Segment) (s : Sched) (t : ℕ) → let x = timed listing image s t in

@@ -9,36 +9,36 @@ use Rattle.hm_source.specs.declared.directives.Multiple.{Multiple}
 use Rattle.hm_source.specs.declared.values.DatumSize.{DatumSize}
 use Rattle.hm_source.specs.declared.values.DatumSize.TheVariants.{Byte, Half, Word}
 use Rattle.hm_source.specs.declared.values.Values.{Values}
-use Rattle.hm_source.specs.Directives.{Datum, Asked, org, align, space, values, asked_tokens, IsDirective, IsInRange, list_name, list_tokens, multiple_of}
+use Rattle.hm_source.specs.Directives.{Datum, Directed, org, align, space, values, asked_tokens, IsDirective, IsInRange, list_name, list_tokens, multiple_of}
 use Rattle.hm_source.specs.Shown.{AreFront, AreListed, ShowsValues}
 use Rattle.hm_source.proofs.Fronts.{front_and_rest, front_one, word_is}
 
 -- a directive's name, and what stands behind it
-abbrev pub name_asked : Asked → List ℕ
+abbrev pub name_asked : Directed → List ℕ
 name_asked (org a) = codes ".org"
 name_asked (align n) = codes ".align"
 name_asked (space n) = codes ".space"
 name_asked (values s d ds) = list_name s
 
-abbrev pub tokens_behind : Asked → List Tok
+abbrev pub tokens_behind : Directed → List Tok
 tokens_behind (org a) = number a ∷ []
 tokens_behind (align n) = number n ∷ []
 tokens_behind (space n) = number n ∷ []
 tokens_behind (values s d ds) = list_tokens d ds
 
-pub in_parts : (asked : Asked) → asked_tokens asked ≡ word (name_asked asked) ∷ tokens_behind asked
+pub in_parts : (asked : Directed) → asked_tokens asked ≡ word (name_asked asked) ∷ tokens_behind asked
 in_parts (org a) = refl
 in_parts (align n) = refl
 in_parts (space n) = refl
 in_parts (values s d ds) = refl
 
 -- a text of this name, with what stands behind it
-pub record Behind (name behind : List ℕ) (asked : Asked) : Type 0 where
+pub record Behind (name behind : List ℕ) (asked : Directed) : Type 0 where
   pub name_is : name ≡ name_asked asked
   pub tokens : AreTokensOf behind (tokens_behind asked)
   pub range : IsInRange asked
 
-pub behind_name : (text name behind : List ℕ) (asked : Asked) → AreFront text (word name ∷ []) behind → IsDirective text asked → Behind name behind asked
+pub behind_name : (text name behind : List ℕ) (asked : Directed) → AreFront text (word name ∷ []) behind → IsDirective text asked → Behind name behind asked
 behind_name text name behind asked f d =
     let all = subst (λ (ts : List Tok). AreTokensOf text ts) (in_parts asked) d.0 in
     let same = front_one text (word (name_asked asked)) (word name) all.0 behind all.1 f in
@@ -48,7 +48,7 @@ behind_name text name behind asked f d =
       range = d.1;
     }
 
-pub with_name : (text name behind : List ℕ) (asked : Asked) → AreFront text (word name ∷ []) behind → name ≡ name_asked asked → AreTokensOf behind (tokens_behind asked) → IsInRange asked → IsDirective text asked
+pub with_name : (text name behind : List ℕ) (asked : Directed) → AreFront text (word name ∷ []) behind → name ≡ name_asked asked → AreTokensOf behind (tokens_behind asked) → IsInRange asked → IsDirective text asked
 with_name text name behind asked f e t r =
     let front = subst (λ (x : List ℕ). AreFront text (word x ∷ []) behind) e f in
     (subst (λ (ts : List Tok). AreTokensOf text ts) (sym (in_parts asked)) (front_and_rest text behind (word (name_asked asked) ∷ []) (tokens_behind asked) front t), r)
@@ -74,19 +74,19 @@ no_list Byte = (differ (codes ".byte") (codes ".org") refl, differ (codes ".byte
 no_list Half = (differ (codes ".half") (codes ".org") refl, differ (codes ".half") (codes ".align") refl, differ (codes ".half") (codes ".space") refl)
 no_list Word = (differ (codes ".word") (codes ".org") refl, differ (codes ".word") (codes ".align") refl, differ (codes ".word") (codes ".space") refl)
 
-pub is_org : (asked : Asked) → name_asked asked ≡ codes ".org" → (a : ℕ) × (asked ≡ org a)
+pub is_org : (asked : Directed) → name_asked asked ≡ codes ".org" → (a : ℕ) × (asked ≡ org a)
 is_org (org a) e = (a, refl)
 is_org (align n) e = absurd (differ (codes ".align") (codes ".org") refl e)
 is_org (space n) e = absurd (differ (codes ".space") (codes ".org") refl e)
 is_org (values s d ds) e = absurd ((no_list s).0 e)
 
-pub is_align : (asked : Asked) → name_asked asked ≡ codes ".align" → (n : ℕ) × (asked ≡ align n)
+pub is_align : (asked : Directed) → name_asked asked ≡ codes ".align" → (n : ℕ) × (asked ≡ align n)
 is_align (org a) e = absurd (differ (codes ".org") (codes ".align") refl e)
 is_align (align n) e = (n, refl)
 is_align (space n) e = absurd (differ (codes ".space") (codes ".align") refl e)
 is_align (values s d ds) e = absurd ((no_list s).1 e)
 
-pub is_space : (asked : Asked) → name_asked asked ≡ codes ".space" → (n : ℕ) × (asked ≡ space n)
+pub is_space : (asked : Directed) → name_asked asked ≡ codes ".space" → (n : ℕ) × (asked ≡ space n)
 is_space (org a) e = absurd (differ (codes ".org") (codes ".space") refl e)
 is_space (align n) e = absurd (differ (codes ".align") (codes ".space") refl e)
 is_space (space n) e = (n, refl)
@@ -94,29 +94,29 @@ is_space (values s d ds) e = absurd ((no_list s).2 e)
 
 -- ---- what a text asks for, by its name
 
-pub first_word : (text : List ℕ) (asked : Asked) → IsDirective text asked → (rest : List ℕ) × AreFront text (word (name_asked asked) ∷ []) rest
+pub first_word : (text : List ℕ) (asked : Directed) → IsDirective text asked → (rest : List ℕ) × AreFront text (word (name_asked asked) ∷ []) rest
 first_word text asked d =
     let all = subst (λ (ts : List Tok). AreTokensOf text ts) (in_parts asked) d.0 in
     (all.0, (all.0, all.1, refl))
 
-pub asks_org : (text name behind : List ℕ) (asked : Asked) → AreFront text (word name ∷ []) behind → IsDirective text asked → name ≡ codes ".org" → (a : ℕ) × AreTokensOf behind (number a ∷ []) × (a < 2 ^ 32)
+pub asks_org : (text name behind : List ℕ) (asked : Directed) → AreFront text (word name ∷ []) behind → IsDirective text asked → name ≡ codes ".org" → (a : ℕ) × AreTokensOf behind (number a ∷ []) × (a < 2 ^ 32)
 asks_org text name behind asked f d e =
     let b = behind_name text name behind asked f d in
     let o = is_org asked (sym b.name_is ∙ e) in
-    (o.0, subst (λ (x : Asked). AreTokensOf behind (tokens_behind x)) o.1 b.tokens, subst (λ (x : Asked). IsInRange x) o.1 b.range)
+    (o.0, subst (λ (x : Directed). AreTokensOf behind (tokens_behind x)) o.1 b.tokens, subst (λ (x : Directed). IsInRange x) o.1 b.range)
 
-pub asks_space : (text name behind : List ℕ) (asked : Asked) → AreFront text (word name ∷ []) behind → IsDirective text asked → name ≡ codes ".space" → (n : ℕ) × AreTokensOf behind (number n ∷ []) × (n < 2 ^ 32)
+pub asks_space : (text name behind : List ℕ) (asked : Directed) → AreFront text (word name ∷ []) behind → IsDirective text asked → name ≡ codes ".space" → (n : ℕ) × AreTokensOf behind (number n ∷ []) × (n < 2 ^ 32)
 asks_space text name behind asked f d e =
     let b = behind_name text name behind asked f d in
     let o = is_space asked (sym b.name_is ∙ e) in
-    (o.0, subst (λ (x : Asked). AreTokensOf behind (tokens_behind x)) o.1 b.tokens, subst (λ (x : Asked). IsInRange x) o.1 b.range)
+    (o.0, subst (λ (x : Directed). AreTokensOf behind (tokens_behind x)) o.1 b.tokens, subst (λ (x : Directed). IsInRange x) o.1 b.range)
 
-pub asks_align : (text name behind : List ℕ) (asked : Asked) → AreFront text (word name ∷ []) behind → IsDirective text asked → name ≡ codes ".align" → (m : Multiple) × AreTokensOf behind (number (multiple_of m) ∷ [])
+pub asks_align : (text name behind : List ℕ) (asked : Directed) → AreFront text (word name ∷ []) behind → IsDirective text asked → name ≡ codes ".align" → (m : Multiple) × AreTokensOf behind (number (multiple_of m) ∷ [])
 asks_align text name behind asked f d e =
     let b = behind_name text name behind asked f d in
     let o = is_align asked (sym b.name_is ∙ e) in
-    let r = subst (λ (x : Asked). IsInRange x) o.1 b.range in
-    let t = subst (λ (x : Asked). AreTokensOf behind (tokens_behind x)) o.1 b.tokens in
+    let r = subst (λ (x : Directed). IsInRange x) o.1 b.range in
+    let t = subst (λ (x : Directed). AreTokensOf behind (tokens_behind x)) o.1 b.tokens in
     (r.0, subst (λ (n : ℕ). AreTokensOf behind (number n ∷ [])) r.1 t)
 
 -- values that were read of what stands behind the name
@@ -129,7 +129,7 @@ values_found text name behind s v d ds f e r l n =
     let front : AreFront text (word (list_name s) ∷ []) v.list.now = subst (λ (x : List ℕ). AreFront text (word (list_name s) ∷ []) x) (sym r.1) (subst (λ (x : List ℕ). AreFront text (word x ∷ []) behind) e f) in
     (with_name text name behind (values s d ds) f e l.0 l.1, (r.0, n, front, subst (λ (x : List ℕ). AreListed s x d ds) (sym r.1) l))
 
-pub values_only : (text name behind : List ℕ) (s : DatumSize) (v : Values) (asked : Asked) → AreFront text (word name ∷ []) behind → name ≡ list_name s → IsRead s behind v → IsDirective text asked
+pub values_only : (text name behind : List ℕ) (s : DatumSize) (v : Values) (asked : Directed) → AreFront text (word name ∷ []) behind → name ≡ list_name s → IsRead s behind v → IsDirective text asked
     → ((d : Datum) (ds : List Datum) → AreListed s behind d ds → v.count ≡ length (d ∷ ds)) → ShowsValues text v asked
 values_only text name behind s v (org a) f e r d n = absurd ((no_list s).0 (sym e ∙ (behind_name text name behind (org a) f d).name_is))
 values_only text name behind s v (align a) f e r d n = absurd ((no_list s).1 (sym e ∙ (behind_name text name behind (align a) f d).name_is))

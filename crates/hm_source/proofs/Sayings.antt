@@ -4,11 +4,11 @@ use Rattle.std.specs.Prelude.{IfNone, IfSome, IsSomeAnd}
 use Rattle.hm_text.specs.Texts.{HasWidth}
 use Rattle.hm_source.specs.declared.statements.Statement.{Statement}
 use Rattle.hm_source.specs.declared.statements.Statement.TheVariants as statements
-use Rattle.hm_source.specs.Shown.{Shows}
-use Rattle.hm_source.specs.Directives.{Asked, IsDirective}
+use Rattle.hm_source.specs.Shown.{ShowsSaid}
+use Rattle.hm_source.specs.Directives.{Directed, IsDirective}
 use Rattle.hm_source.specs.Statements.{Said, nothing, instruction, directive, Says}
 
-pub with_dot : (text : List ℕ) (asked : Asked) → 0 < length text → get_or text 0 0 ≡ 46 → IsDirective text asked → Says text (directive asked)
+pub with_dot : (text : List ℕ) (asked : Directed) → 0 < length text → get_or text 0 0 ≡ 46 → IsDirective text asked → Says text (directive asked)
 with_dot [] asked some e d = absurd (omega arith)
 with_dot (b ∷ bs) asked some e d = (e, d)
 
@@ -22,7 +22,7 @@ is_nothing (b ∷ bs) e = absurd (omega arith)
 
 -- ---- and back
 
-pub is_directive : (text : List ℕ) (said : Said) → 0 < length text → get_or text 0 0 ≡ 46 → Says text said → (asked : Asked) × (said ≡ directive asked) × IsDirective text asked
+pub is_directive : (text : List ℕ) (said : Said) → 0 < length text → get_or text 0 0 ≡ 46 → Says text said → (asked : Directed) × (said ≡ directive asked) × IsDirective text asked
 is_directive [] said some e s = absurd (omega arith)
 is_directive (b ∷ bs) nothing some e s = absurd s
 is_directive (b ∷ bs) (instruction n) some e s = absurd (s.0 e)
@@ -42,15 +42,15 @@ says_nothing (b ∷ bs) said e s = absurd (omega arith)
 
 -- ---- as the code reads
 
-pub said_of : (text : List ℕ) (o : Option Statement) → 0 < length text → (get_or text 0 0 ≡ 46 → ⊥) → IfSome o (λ s. (n : ℕ) × HasWidth text n × (s ≡ statements.Instruction n)) → IfSome o (λ s. (said : Said) × Says text said × Shows text s said)
+pub said_of : (text : List ℕ) (o : Option Statement) → 0 < length text → (get_or text 0 0 ≡ 46 → ⊥) → IfSome o (λ s. (n : ℕ) × HasWidth text n × (s ≡ statements.Instruction n)) → IfSome o (λ s. (said : Said) × Says text said × ShowsSaid text s said)
 said_of text None some e h = tt
-said_of text (Some s) some e h = (instruction h.0, without_dot text h.0 some e h.1, subst (λ (x : Statement). Shows text x (instruction h.0)) (sym h.2) refl)
+said_of text (Some s) some e h = (instruction h.0, without_dot text h.0 some e h.1, subst (λ (x : Statement). ShowsSaid text x (instruction h.0)) (sym h.2) refl)
 
-pub only_said : (text : List ℕ) (o : Option Statement) (said : Said) → 0 < length text → (get_or text 0 0 ≡ 46 → ⊥) → ((n : ℕ) → HasWidth text n → IsSomeAnd o (λ s. s ≡ statements.Instruction n)) → Says text said → IsSomeAnd o (λ s. Shows text s said)
+pub only_said : (text : List ℕ) (o : Option Statement) (said : Said) → 0 < length text → (get_or text 0 0 ≡ 46 → ⊥) → ((n : ℕ) → HasWidth text n → IsSomeAnd o (λ s. s ≡ statements.Instruction n)) → Says text said → IsSomeAnd o (λ s. ShowsSaid text s said)
 only_said text None said some e h s = let x = is_instruction text said some e s in h x.0 x.2
 only_said text (Some t) said some e h s =
     let x = is_instruction text said some e s in
-    subst (λ (y : Statement). Shows text y said) (sym (h x.0 x.2)) x.1
+    subst (λ (y : Statement). ShowsSaid text y said) (sym (h x.0 x.2)) x.1
 
 pub none_said : (text : List ℕ) (o : Option Statement) → 0 < length text → (get_or text 0 0 ≡ 46 → ⊥) → IfNone o ((n : ℕ) → HasWidth text n → ⊥) → IfNone o ((said : Said) → Says text said → ⊥)
 none_said text (Some t) some e h = tt

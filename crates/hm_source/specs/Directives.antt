@@ -43,11 +43,11 @@ Fits s d = ⊥
 
 -- DIRECTIVES
 -- bytes from an address on; zero bytes up to a multiple; so many zero bytes; or a list of values
-pub data Asked : Type 0 where
-  org : ℕ → Asked
-  align : ℕ → Asked
-  space : ℕ → Asked
-  values : DatumSize → Datum → List Datum → Asked
+pub data Directed : Type 0 where
+  org : ℕ → Directed
+  align : ℕ → Directed
+  space : ℕ → Directed
+  values : DatumSize → Datum → List Datum → Directed
 
 -- what `.align` may fill up to
 abbrev pub multiple_of : Multiple → ℕ
@@ -60,18 +60,18 @@ list_name Byte = codes ".byte"
 list_name Half = codes ".half"
 list_name Word = codes ".word"
 
-abbrev pub asked_tokens : Asked → List Tok
+abbrev pub asked_tokens : Directed → List Tok
 asked_tokens (org a) = word (codes ".org") ∷ number a ∷ []
 asked_tokens (align n) = word (codes ".align") ∷ number n ∷ []
 asked_tokens (space n) = word (codes ".space") ∷ number n ∷ []
 asked_tokens (values s d ds) = word (list_name s) ∷ list_tokens d ds
 
-abbrev pub IsInRange : Asked → Type 0
+abbrev pub IsInRange : Directed → Type 0
 IsInRange (org a) = a < 2 ^ 32
 IsInRange (align n) = (m : Multiple) × (n ≡ multiple_of m)
 IsInRange (space n) = n < 2 ^ 32
 IsInRange (values s d ds) = AllByRecursion (Fits s) (d ∷ ds)
 
 -- a text is that of a directive
-abbrev pub IsDirective : List ℕ → Asked → Type 0
+abbrev pub IsDirective : List ℕ → Directed → Type 0
 IsDirective text asked = AreTokensOf text (asked_tokens asked) × IsInRange asked

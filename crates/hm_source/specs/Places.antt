@@ -1,7 +1,7 @@
 -- Which addresses a line takes.
 use Rattle.std.specs.Prelude.{◌≡◌, ◌≤◌, ◌⊎◌, ℕ, ◌+◌, ◌-◌, ◌*◌, ◌%◌, ◌∷◌, length}
 use Rattle.hm_base.specs.Image.{flash_size, sram_start, sram_size}
-use Rattle.hm_source.specs.Directives.{Asked, org, align, space, values, bytes_each}
+use Rattle.hm_source.specs.Directives.{Directed, org, align, space, values, bytes_each}
 use Rattle.hm_source.specs.Statements.{Said, nothing, instruction, directive}
 
 -- how many bytes there are from an address up to a multiple of n
@@ -9,7 +9,7 @@ abbrev pub padding : ℕ → ℕ → ℕ
 padding n a = (n - a % n) % n
 
 -- how many bytes a line gives that stands at an address
-abbrev pub size_asked : Asked → ℕ → ℕ
+abbrev pub size_asked : Directed → ℕ → ℕ
 size_asked (org b) a = 0
 size_asked (align n) a = padding n a
 size_asked (space n) a = n

@@ -11,7 +11,7 @@ use Rattle.hm_source.specs.declared.directives.Directive.{Directive}
 use Rattle.hm_source.specs.declared.directives.Directive.TheVariants as directives
 use Rattle.hm_source.specs.declared.statements.Statement.{Statement}
 use Rattle.hm_source.specs.declared.statements.Statement.TheVariants as statements
-use Rattle.hm_source.specs.Directives.{Datum, literal, named, beyond, Asked, org, align, space, values, list_name, list_tokens, multiple_of, Fits}
+use Rattle.hm_source.specs.Directives.{Datum, literal, named, beyond, Directed, org, align, space, values, list_name, list_tokens, multiple_of, Fits}
 use Rattle.hm_source.specs.Statements.{Said, nothing, instruction, directive}
 
 -- the tokens at the front of a text, and what stands behind them
@@ -33,19 +33,19 @@ abbrev pub AreListed : DatumSize → List ℕ → Datum → List Datum → Type 
 AreListed s text d ds = AreTokensOf text (list_tokens d ds) × AllByRecursion (Fits s) (d ∷ ds)
 
 -- behind the name of its directive the text goes on with the list
-abbrev pub ShowsValues : List ℕ → Values → Asked → Type 0
+abbrev pub ShowsValues : List ℕ → Values → Directed → Type 0
 ShowsValues text v (values s d ds) = (v.size ≡ s) × (v.count ≡ length (d ∷ ds)) × AreFront text (word (list_name s) ∷ []) v.list.now × AreListed s v.list.now d ds
 ShowsValues text v asked = ⊥
 
-abbrev pub ShowsAsked : List ℕ → Directive → Asked → Type 0
-ShowsAsked text (directives.Org b) asked = asked ≡ org b
-ShowsAsked text (directives.Align m) asked = asked ≡ align (multiple_of m)
-ShowsAsked text (directives.Space n) asked = asked ≡ space n
-ShowsAsked text (directives.Values v) asked = ShowsValues text v asked
+abbrev pub ShowsDirected : List ℕ → Directive → Directed → Type 0
+ShowsDirected text (directives.Org b) asked = asked ≡ org b
+ShowsDirected text (directives.Align m) asked = asked ≡ align (multiple_of m)
+ShowsDirected text (directives.Space n) asked = asked ≡ space n
+ShowsDirected text (directives.Values v) asked = ShowsValues text v asked
 
 -- a value of the program stands for what its text says
-abbrev pub Shows : List ℕ → Statement → Said → Type 0
-Shows text statements.Nothing said = said ≡ nothing
-Shows text (statements.Instruction n) said = said ≡ instruction n
-Shows text (statements.Directive d) (directive asked) = ShowsAsked text d asked
-Shows text (statements.Directive d) said = ⊥
+abbrev pub ShowsSaid : List ℕ → Statement → Said → Type 0
+ShowsSaid text statements.Nothing said = said ≡ nothing
+ShowsSaid text (statements.Instruction n) said = said ≡ instruction n
+ShowsSaid text (statements.Directive d) (directive asked) = ShowsDirected text d asked
+ShowsSaid text (statements.Directive d) said = ⊥

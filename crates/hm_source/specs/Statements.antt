@@ -1,13 +1,13 @@
 -- What the text of a line says, behind its label and before its comment.
 use Rattle.std.specs.Prelude.{◌≡◌, ◌≢◌, ℕ, List, [], ◌∷◌}
 use Rattle.hm_text.specs.Texts.{HasWidth}
-use Rattle.hm_source.specs.Directives.{Asked, IsDirective}
+use Rattle.hm_source.specs.Directives.{Directed, IsDirective}
 
 -- nothing, an instruction whose code has so many bytes, or a directive
 pub data Said : Type 0 where
   nothing : Said
   instruction : ℕ → Said
-  directive : Asked → Said
+  directive : Directed → Said
 
 -- a text that begins with `.` is a directive, and no other is
 abbrev pub Says : List ℕ → Said → Type 0

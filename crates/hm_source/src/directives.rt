@@ -1,8 +1,8 @@
 //! Directives: what a text asks for whose first word begins with `.`.
 
 ghost use Rattle.std.specs.Prelude.{◌≡◌, ◌<◌, ◌^◌, ℕ, List, [], ◌∷◌, length, IfSome, IfNone, IsSomeAnd};
-ghost use Rattle.hm_source.specs.Directives.{Asked, IsDirective, list_name, multiple_of};
-ghost use Rattle.hm_source.specs.Shown.{AreFront, ShowsAsked};
+ghost use Rattle.hm_source.specs.Directives.{Directed, IsDirective, list_name, multiple_of};
+ghost use Rattle.hm_source.specs.Shown.{AreFront, ShowsDirected};
 ghost use Rattle.hm_tokens.specs.Lines.{AreTokensOf};
 ghost use Rattle.hm_tokens.specs.Tokens.{number, word};
 
@@ -90,9 +90,9 @@ fn list_size(name: &[u8]) -> Option<DatumSize>
 /// What a directive asks for, by its name and what stands behind that.
 fn asked_of<'a>(name: &'a [u8], behind: &'a [u8]) -> Option<Directive<'a>>
     requires small { length behind.now < 2 ^ 31 }
-    ensures found { (text : List ℕ) → AreFront text (word name.entry.now ∷ []) behind.entry.now → IfSome result (λ d. (asked : Asked) × IsDirective text asked × ShowsAsked text d asked) }
-    ensures none { (text : List ℕ) → AreFront text (word name.entry.now ∷ []) behind.entry.now → IfNone result ((asked : Asked) → IsDirective text asked → ⊥) }
-    ensures only { (text : List ℕ) (asked : Asked) → AreFront text (word name.entry.now ∷ []) behind.entry.now → IsDirective text asked → IsSomeAnd result (λ d. ShowsAsked text d asked) }
+    ensures found { (text : List ℕ) → AreFront text (word name.entry.now ∷ []) behind.entry.now → IfSome result (λ d. (asked : Directed) × IsDirective text asked × ShowsDirected text d asked) }
+    ensures none { (text : List ℕ) → AreFront text (word name.entry.now ∷ []) behind.entry.now → IfNone result ((asked : Directed) → IsDirective text asked → ⊥) }
+    ensures only { (text : List ℕ) (asked : Directed) → AreFront text (word name.entry.now ∷ []) behind.entry.now → IsDirective text asked → IsSomeAnd result (λ d. ShowsDirected text d asked) }
 {
     if let Some(size) = list_size(name) {
         let values = read_values(size, behind)?;
@@ -113,9 +113,9 @@ fn asked_of<'a>(name: &'a [u8], behind: &'a [u8]) -> Option<Directive<'a>>
 /// What a text asks for, if it is that of a directive.
 pub fn read_directive(text: &[u8]) -> Option<Directive<'_>>
     requires small { length text.now < 2 ^ 31 }
-    ensures found { IfSome result (λ d. (asked : Asked) × IsDirective text.now asked × ShowsAsked text.now d asked) }
-    ensures only { (asked : Asked) → IsDirective text.now asked → IsSomeAnd result (λ d. ShowsAsked text.now d asked) }
-    ensures none { IfNone result ((asked : Asked) → IsDirective text.now asked → ⊥) }
+    ensures found { IfSome result (λ d. (asked : Directed) × IsDirective text.now asked × ShowsDirected text.now d asked) }
+    ensures only { (asked : Directed) → IsDirective text.now asked → IsSomeAnd result (λ d. ShowsDirected text.now d asked) }
+    ensures none { IfNone result ((asked : Directed) → IsDirective text.now asked → ⊥) }
 {
     let (name, behind) = word_at(text)?;
     asked_of(name, behind)

@@ -3,7 +3,7 @@
 ghost use Rattle.std.specs.Prelude.{◌≡◌, ◌<◌, ◌≤◌, ◌^◌, ◌∷◌, ℕ, length, IfErr, IfOk, IsOk, option_map};
 ghost use Rattle.hm_source.specs.Lines.{name_column, name_of, shifted, source_lines, text_column, text_of};
 ghost use Rattle.hm_source.specs.Unread.{IsUnread};
-ghost use Rattle.hm_source.specs.Shown.{Shows};
+ghost use Rattle.hm_source.specs.Shown.{ShowsSaid};
 ghost use Rattle.hm_source.specs.Statements.{Said, Says};
 ghost use Rattle.hm_line.specs.Sources.{IsLine};
 
@@ -50,8 +50,8 @@ impl Line<'_> {
 /// Reads a line whose parts are known.
 fn with_statement(parts: SourceLine<'_>) -> Result<Line<'_>, TextErr>
     requires small { length parts.instruction.now < 2 ^ 31 }
-    ensures said { IfOk result (λ l. (said : Said) × Says parts.entry.instruction.now said × Shows parts.entry.instruction.now l.statement said) }
-    ensures only { (said : Said) → Says parts.entry.instruction.now said → IfOk result (λ l. Shows parts.entry.instruction.now l.statement said) }
+    ensures said { IfOk result (λ l. (said : Said) × Says parts.entry.instruction.now said × ShowsSaid parts.entry.instruction.now l.statement said) }
+    ensures only { (said : Said) → Says parts.entry.instruction.now said → IfOk result (λ l. ShowsSaid parts.entry.instruction.now l.statement said) }
     ensures same { IfOk result (λ l. l.parts ≡ parts.entry) }
     ensures none { IfErr result (λ e. ((said : Said) → Says parts.entry.instruction.now said → ⊥) × (e.kind ≡ AsmKind.Row) × (e.column ≡ parts.entry.column)) }
 {
@@ -69,8 +69,8 @@ fn with_statement(parts: SourceLine<'_>) -> Result<Line<'_>, TextErr>
 pub fn read_source_line(line: &[u8]) -> Result<Line<'_>, TextErr>
     requires small { length line.now < 2 ^ 31 }
     ensures form { IsOk result → IsLine line.now }
-    ensures said { IfOk result (λ l. (said : Said) × Says (text_of line.now) said × Shows (text_of line.now) l.statement said) }
-    ensures only { (said : Said) → Says (text_of line.now) said → IfOk result (λ l. Shows (text_of line.now) l.statement said) }
+    ensures said { IfOk result (λ l. (said : Said) × Says (text_of line.now) said × ShowsSaid (text_of line.now) l.statement said) }
+    ensures only { (said : Said) → Says (text_of line.now) said → IfOk result (λ l. ShowsSaid (text_of line.now) l.statement said) }
     ensures text { IfOk result (λ l. l.parts.instruction.now ≡ text_of line.now) }
     ensures label { IfOk result (λ l. option_map (λ n. n.now) l.parts.label ≡ name_of line.now) }
     ensures columns { IfOk result (λ l. (l.parts.label_column ≡ name_column line.now) × (l.parts.column ≡ text_column line.now)) }

@@ -1,7 +1,7 @@
 //! What the text of a line says.
 
 ghost use Rattle.std.specs.Prelude.{◌≡◌, ◌<◌, ◌^◌, ℕ, length, IfSome, IfNone, IsSomeAnd};
-ghost use Rattle.hm_source.specs.Shown.{Shows};
+ghost use Rattle.hm_source.specs.Shown.{ShowsSaid};
 ghost use Rattle.hm_source.specs.Statements.{Said, Says};
 ghost use Rattle.hm_text.specs.Texts.{HasWidth};
 
@@ -34,8 +34,8 @@ fn read_instruction(text: &[u8]) -> Option<Statement<'_>>
 /// What the text of a line says, of which no space stands at the front. None where no row and no directive has it.
 pub fn read_statement(text: &[u8]) -> Option<Statement<'_>>
     requires small { length text.now < 2 ^ 31 }
-    ensures found { IfSome result (λ s. (said : Said) × Says text.now said × Shows text.now s said) }
-    ensures only { (said : Said) → Says text.now said → IsSomeAnd result (λ s. Shows text.now s said) }
+    ensures found { IfSome result (λ s. (said : Said) × Says text.now said × ShowsSaid text.now s said) }
+    ensures only { (said : Said) → Says text.now said → IsSomeAnd result (λ s. ShowsSaid text.now s said) }
     ensures none { IfNone result ((said : Said) → Says text.now said → ⊥) }
 {
     if text.is_empty() {

@@ -3,7 +3,7 @@ use Rattle.std.specs.FinMap.{get}
 use Rattle.hm_line.specs.Texts.{column}
 use Rattle.hm_line.specs.declared.errors.AsmKind.TheVariants as kinds
 use Rattle.hm_tokens.specs.Tokens.{skip}
-use Rattle.hm_source.specs.Directives.{Asked, Datum, Fits, datum_tokens, values}
+use Rattle.hm_source.specs.Directives.{Directed, Datum, Fits, datum_tokens, values}
 use Rattle.hm_source.specs.Shown.{AreFront, datum}
 use Rattle.hm_source.specs.Statements.{directive}
 use Rattle.hm_source.proofs.Listed.{EndsAt, listed_behind, listed_first}
@@ -60,7 +60,7 @@ returns-in_default-number_of-clause-refused c =
     let l = c.loop-item.invariant.left r.d r.ds r.shows in
     let first = read (goal.at.returns-in_default-number_of-clause-refused c).In-Some c.args.out.now (r.d ∷ r.ds) l in
     let none : number_of labels size l.d ≡ None = ap (λ (x : Datum). number_of labels size x) (sym first.0) ∙ sym c.number_of.ensures.value ∙ c.in_default-number_of.is in
-    subst (λ (x : Asked). IsSaidErr labels (place_of c.args.out.now) text c.args.line.now.parts.column c.args.number (directive x) c.refused.result) (sym r.asks)
+    subst (λ (x : Directed). IsSaidErr labels (place_of c.args.out.now) text c.args.line.now.parts.column c.args.number (directive x) c.refused.result) (sym r.asks)
     (said_err labels (place_of c.args.out.now) text c.args.line.now.parts.column c.args.number (directive (values size r.d r.ds)) c.refused.result
     (record { column = column text (skip c.loop-item.rest.now); kind = kinds.Missing }) c.missing.result c.refused.ensures.told c.missing.ensures.kind c.missing.ensures.column
     (none_left text labels size c.loop-item.rest.now c.args.out.now c.loop-item.out (r.d ∷ r.ds) l r.d r.ds refl none)))
@@ -101,7 +101,7 @@ returns-in-None-clause-given c =
     let added = no_error c.add_number.result _ (sym c.is_err.ensures.value ∙ c.if-is_err.false) c.add_number.ensures.added in
     let alone = left_alone size c.loop-item.rest.now c.in-Some.behind.now l.d l.ds (ends some) (λ more comma. c.in-None.ensures.only more comma) l.listed in
     let last = last_left text labels size c.loop-item.rest.now c.args.out.now c.loop-item.out (r.d ∷ r.ds) l c.in-Some-number_of.value number c.add_number.new.out added alone in
-    subst (λ (x : Asked). (bs : List ℕ) × AreAsked labels (place_of c.args.out.now) x bs × (c.add_number.new.out ≡ with_bytes c.args.out.now bs)) (sym r.asks) last)
+    subst (λ (x : Directed). (bs : List ℕ) × AreAsked labels (place_of c.args.out.now) x bs × (c.add_number.new.out ≡ with_bytes c.args.out.now bs)) (sym r.asks) last)
 
 pub returns-clause-given : goal.returns-clause-given
 returns-clause-given c =
