@@ -35,7 +35,7 @@ abbrev pub between : ℕ → ℕ → State → Config State
 between n k s = record { a = 0; b = 0; n = n; steps = k; state = s }
 
 -- WHAT AN INSTRUCTION LEAVES: no taint
-pub watched_clean : (s : State) → NoTaint s → watched.NoTaint s
+pub watched_clean : (s : State) → NoTaint s → watched.Clean s
 watched_clean s h (In (At p)) = refl
 watched_clean s h (In (Byte a)) = h a
 watched_clean s h Beside = refl
