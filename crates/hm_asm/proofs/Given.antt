@@ -1,16 +1,14 @@
 -- What lines give is one thing, each piece has its size and its room.
-use Rattle.std.proofs.Common.{◌≡◌, ◌⊎◌, ℕ, zero, suc, ◌+◌, ◌-◌, ◌*◌, ◌^◌, ◌<◌, ◌≤◌, Bool, true, false, cond, List, [], ◌∷◌, ◌++◌, length, take, replicate, Option, Some, None, refl, sym, ap, subst, ◌∙◌, inl, inr, arith}
-use Rattle.std.specs.Int.{w16, w64, to_le_bytes}
+use Rattle.std.proofs.Common.{◌≡◌, ◌⊎◌, ℕ, zero, suc, ◌+◌, ◌*◌, ◌^◌, ◌<◌, ◌≤◌, Bool, false, cond, List, [], ◌∷◌, ◌++◌, length, refl, sym, ap, subst, ◌∙◌, inl, inr, arith}
+use Rattle.std.specs.Int.{w16, to_le_bytes}
 use Rattle.std.specs.List.{flat_map}
 use Rattle.std.proofs.lemmas.List.{length-append, length-replicate}
 use Rattle.hm_base.specs.Image.{Segment}
-use Rattle.hm_isa.specs.declared.Instr.{Instr}
 use Rattle.hm_isa.specs.Code.{halfwords}
 use Rattle.hm_line.specs.Columns.{ArePassed, IsOperand, is_between, is_inside}
 use Rattle.hm_line.specs.Forms.{Spaced, kinds}
-use Rattle.hm_line.specs.Kinds.{Kind}
 use Rattle.hm_line.specs.Labels.{LabelMap}
-use Rattle.hm_line.specs.Texts.{AreTokens, column, next}
+use Rattle.hm_line.specs.Texts.{AreTokens, column}
 use Rattle.hm_line.specs.declared.errors.AsmKind.{AsmKind}
 use Rattle.hm_line.specs.declared.errors.AsmKind.TheVariants as asm_kinds
 use Rattle.hm_text_base.proofs.Steps.{some_is}
@@ -21,11 +19,10 @@ use Rattle.hm_source.specs.Directives.{Datum, Directed, org, align, space, value
 use Rattle.hm_source.specs.Lines.{name_of, text_of, text_column, shifted}
 use Rattle.hm_source.specs.Places.{HasPlace, HasRoom, next_place, padding, size_asked, size_of}
 use Rattle.hm_source.specs.Statements.{Said, nothing, instruction, directive, Says}
-use Rattle.hm_text.specs.Texts.{HasWidth}
 use Rattle.hm_text.proofs.Once.{late_refusal, not_refused, one_instruction, one_refusal, one_width, some_width}
 use Rattle.hm_text.proofs.Printing.{width_is}
 use Rattle.hm_asm.specs.FirstPass.{AreFine, with_name}
-use Rattle.hm_asm.specs.SecondPass.{AreAsked, AreBytes, AreGiven, AreValues, IsFirstMissing, IsListRefused, IsNextRefused, IsOperandColumn, IsSaidRefused, Naming, code_bytes, low_bytes, number_of}
+use Rattle.hm_asm.specs.SecondPass.{AreAsked, AreBytes, AreGiven, AreValues, IsFirstMissing, IsListRefused, IsNextRefused, IsOperandColumn, IsSaidRefused, Naming, code_bytes, low_bytes}
 use Rattle.hm_asm.proofs.Joined.{AreRising}
 use Rattle.hm_asm.proofs.Said.{one_said, says_width}
 

@@ -1,5 +1,5 @@
 -- An image that is joined from pieces is an image, and holds each byte of the pieces at its address.
-use Rattle.std.proofs.Common.{◌≡◌, ◌⊎◌, ℕ, ◌+◌, ◌-◌, ◌<◌, ◌≤◌, Bool, true, false, cond, eqb, leb, ltb, List, [], ◌∷◌, ◌++◌, length, get_or, All, refl, sym, ap, ◌∙◌, inl, inr, arith}
+use Rattle.std.proofs.Common.{◌≡◌, ◌⊎◌, ℕ, ◌+◌, ◌-◌, ◌<◌, ◌≤◌, true, false, cond, eqb, leb, ltb, List, [], ◌∷◌, ◌++◌, length, get_or, All, refl, ap, ◌∙◌, inl, inr, arith}
 use Rattle.std.specs.Prelude.{◌&&◌}
 use Rattle.std.specs.List.{AllByRecursion}
 use Rattle.std.proofs.lemmas.Bool.{cases_Bool, eqb-true, eqb-false}
@@ -8,7 +8,7 @@ use Rattle.std.proofs.lemmas.List.{get_or_append_left, get_or-append_right, leng
 use Rattle.std.proofs.lemmas.List.Elements.{All-nil, All-cons, All-head, All-tail, All-weaker}
 use Rattle.hm_base.specs.Image.{Segment, segment, Before, IsImage, IsPlaced, covers, given}
 use Rattle.hm_source.specs.Places.{HasRoom}
-use Rattle.hm_asm.specs.Segments.{HasExactly, joined, onto, with_piece}
+use Rattle.hm_asm.specs.Segments.{HasExactly, joined, with_piece}
 use Rattle.hm_asm.proofs.Joined.{AreRising, joined_from, onto_apart, onto_next}
 use Rattle.hm_asm.proofs.Made.{room_placed}
 

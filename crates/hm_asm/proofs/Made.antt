@@ -1,5 +1,5 @@
 -- An image that is being made stays one.
-use Rattle.std.proofs.Common.{◌≡◌, ◌⊎◌, ℕ, ◌+◌, ◌^◌, ◌<◌, ◌≤◌, List, [], ◌∷◌, ◌++◌, length, replicate, All, Result, Ok, Err, refl, sym, ap, subst, ◌∙◌, inl, inr, arith}
+use Rattle.std.proofs.Common.{◌≡◌, ◌⊎◌, ℕ, ◌+◌, ◌^◌, ◌<◌, ◌≤◌, List, [], ◌∷◌, ◌++◌, length, replicate, All, Result, Ok, Err, refl, sym, subst, inl, inr, arith}
 use Rattle.std.specs.Prelude.{IfOk, OnErr}
 use Rattle.std.proofs.lemmas.List.{append-nil, length-append, length-replicate}
 use Rattle.std.proofs.lemmas.List.Elements.{All-append, All-cons, All-nil, All-weaker}
@@ -7,7 +7,7 @@ use Rattle.hm_base.specs.Image.{Before, IsImage, IsPlaced, Segment, segment, wit
 use Rattle.hm_base.proofs.Images.{IsImage-with_segment, with_segment-behind}
 use Rattle.hm_source.specs.Places.{HasRoom}
 use Rattle.hm_source.proofs.Rooms.{room_after_some}
-use Rattle.hm_asm.specs.Making.{IsMade, Made}
+use Rattle.hm_asm.specs.Making.{IsMade}
 use Rattle.hm_asm.specs.Segments.{with_piece}
 
 -- ROOM for bytes in two parts

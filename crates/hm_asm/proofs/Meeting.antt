@@ -1,5 +1,5 @@
 -- What the two passes tell is the outcome of the source.
-use Rattle.std.proofs.Common.{◌≡◌, ℕ, List, Result, Ok, Err, inl, inr}
+use Rattle.std.proofs.Common.{◌≡◌, ℕ, List, Ok, Err, inl, inr}
 use Rattle.std.specs.Prelude.{IfErr, IfOk}
 use Rattle.std.specs.FinMap.{get, empty}
 use Rattle.hm_base.specs.Image.{Segment}

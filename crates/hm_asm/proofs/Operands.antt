@@ -3,7 +3,6 @@ use Rattle.std.proofs.Common.{◌≡◌, ℕ, zero, suc, ◌+◌, ◌≤◌, Boo
 use Rattle.std.proofs.lemmas.Bool.{false≢true}
 use Rattle.hm_text_base.proofs.Steps.{some_is}
 use Rattle.hm_tokens.specs.declared.token.Class.TheVariants as classes
-use Rattle.hm_tokens.specs.declared.marks.Mark.{Mark}
 use Rattle.hm_tokens.specs.declared.marks.Mark.TheVariants as marks
 use Rattle.hm_tokens.specs.Tokens.{Tok, mark, skip, token_at}
 use Rattle.hm_line.specs.Columns.{ArePassed, IsOperand, is_between, is_inside}

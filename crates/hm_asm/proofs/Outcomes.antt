@@ -8,12 +8,10 @@ use Rattle.hm_line.specs.Sources.{IsLine, IsLineRefused, before_comment, has_bad
 use Rattle.hm_line.specs.declared.errors.AsmKind.{AsmKind}
 use Rattle.hm_line.specs.declared.errors.AsmKind.TheVariants as kinds
 use Rattle.hm_line.specs.declared.form.Form.TheVariants as forms
-use Rattle.hm_line.specs.Texts.{column}
 use Rattle.hm_line.proofs.Fronts.{not_both, one_column}
-use Rattle.hm_tokens.specs.Tokens.{skip}
 use Rattle.hm_source.specs.Lines.{name_of, source_lines, text_of}
 use Rattle.hm_source.specs.Places.{HasPlace, next_place}
-use Rattle.hm_source.specs.Statements.{Said, Says}
+use Rattle.hm_source.specs.Statements.{Said}
 use Rattle.hm_asm.specs.declared.errors.AsmErr.{AsmErr}
 use Rattle.hm_asm.specs.declared.errors.AsmErr.TheVariants as refusals
 use Rattle.hm_asm.specs.FirstPass.{AreFine, IsFine, IsFirstRefused, IsRefusedAs, with_name}

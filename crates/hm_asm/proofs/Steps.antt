@@ -3,8 +3,8 @@ use Rattle.std.proofs.Common.{◌≡◌, ℕ, suc, ◌+◌, ◌-◌, ◌<◌, �
 use Rattle.std.specs.Prelude.{OnOk, is_err}
 use Rattle.std.specs.FinMap.{get, empty}
 use Rattle.std.specs.List.{AllByRecursion}
-use Rattle.std.proofs.lemmas.Bool.{cases_Bool, false≢true, eqb-true, eqb-false, eq-eqb, ne_eqb}
-use Rattle.std.proofs.lemmas.List.{append-nil, length-append}
+use Rattle.std.proofs.lemmas.Bool.{cases_Bool, false≢true, eqb-true, eqb-false}
+use Rattle.std.proofs.lemmas.List.{length-append}
 use Rattle.hm_base.specs.Image.{Segment, segment}
 use Rattle.hm_line.specs.Labels.{LabelMap}
 use Rattle.hm_line.specs.declared.errors.AsmKind.{AsmKind}
@@ -21,8 +21,8 @@ use Rattle.hm_source.specs.Statements.{Said, nothing, instruction, directive, Sa
 use Rattle.hm_source.specs.Unread.{IsUnread}
 use Rattle.hm_asm.specs.declared.errors.AsmErr.{AsmErr}
 use Rattle.hm_asm.specs.declared.errors.AsmErr.TheVariants as refusals
-use Rattle.hm_asm.specs.FirstPass.{AreFine, IsFine, IsFirstRefused, IsRefusedAs, with_name}
-use Rattle.hm_asm.specs.Making.{Made, after_line, closed, moved, place_of, with_bytes}
+use Rattle.hm_asm.specs.FirstPass.{AreFine, IsFine, IsFirstRefused, with_name}
+use Rattle.hm_asm.specs.Making.{Made, after_line, moved, place_of, with_bytes}
 use Rattle.hm_asm.specs.Refusals.{IsFirstErr, IsLineErr, IsSaidErr, IsSecondErr}
 use Rattle.hm_asm.specs.SecondPass.{AreAsked, AreBytes, AreGiven, IsNextRefused, IsSaidRefused, Naming}
 use Rattle.hm_asm.specs.Segments.{joined, with_piece}

@@ -1,5 +1,5 @@
 -- Two runs of one image that halt come to one state in order.
-use Rattle.std.proofs.Common.{◌≡◌, ℕ, ◌+◌, ◌≤◌, ◌<◌, ap, refl, sym, ◌∙◌, subst, ◌⊎◌, ⊎_elim, inl, inr, zero, suc, arith, List, Some}
+use Rattle.std.proofs.Common.{◌≡◌, ℕ, ◌+◌, ◌≤◌, ap, refl, sym, ◌∙◌, subst, ◌⊎◌, ⊎_elim, inl, inr, zero, suc, arith, List, Some}
 use Rattle.hm_base.specs.Image.{Segment, sram_start}
 use Rattle.hm_codes.specs.Listing.{Listing}
 use Rattle.hm_plain.proofs.Orders.{stopped_later}

@@ -1,5 +1,5 @@
 -- Which bytes a step taints, of the thread and of a handler.
-use Rattle.std.proofs.Common.{◌≡◌, ℕ, zero, suc, ◌==◌, ◌+◌, ap, refl, sym, ◌∙◌, subst, Bool, true, false, cond, List, [], ◌∷◌, Option, Some, None, Result, Ok, Err, inl}
+use Rattle.std.proofs.Common.{◌≡◌, ℕ, zero, suc, ◌==◌, ◌+◌, ap, refl, sym, ◌∙◌, subst, Bool, true, false, cond, List, Option, Some, None, Result, Ok, Err, inl}
 use Rattle.hm_base.specs.declared.Fault.{Fault}
 use Rattle.hm_base.specs.declared.Stop.{Stop}
 use Rattle.hm_codes.specs.Listing.{Listing}

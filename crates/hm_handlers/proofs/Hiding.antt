@@ -1,5 +1,5 @@
 -- What handlers and entries change of the memory is hidden from the thread.
-use Rattle.std.proofs.Common.{◌≡◌, ℕ, zero, suc, ◌-◌, ◌==◌, slice_index, ap, refl, sym, ◌∙◌, subst, Bool, true, false, cond, nat_lt, List, [], ◌∷◌, Option, Some, None, Result, Ok, Err}
+use Rattle.std.proofs.Common.{◌≡◌, ℕ, zero, suc, ◌-◌, ◌==◌, slice_index, ap, refl, sym, ◌∙◌, subst, Bool, true, false, cond, nat_lt, List, [], Option, Some, None, Result, Ok, Err}
 use Rattle.hm_base.specs.declared.Fault.{Fault}
 use Rattle.hm_base.specs.declared.Stop.{Stop}
 use Rattle.hm_beat.specs.Laws.{WritesTaint}

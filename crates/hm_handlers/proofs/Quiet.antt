@@ -15,7 +15,7 @@ use Rattle.hm_sched.specs.Schedule.{TickLine, Sched, older_letter, younger_lette
 use Rattle.hm_state.specs.State.{State}
 use Rattle.hm_window.specs.Positions.{may_end}
 use Rattle.hm_window.specs.declared.rule.Rule.TheVariants as rule
-use Rattle.hm_handlers.specs.Nested.{Ended, Nested, NestedStep, TickEnd, at_step, letter, letters, step, steps, with_acts}
+use Rattle.hm_handlers.specs.Nested.{Ended, Nested, NestedStep, TickEnd, at_step, letter, letters, steps, with_acts}
 use Rattle.hm_handlers.specs.Runs.{Run, after_count, begin, closed, ended, enters, next, picks, run, shown, tick_end, tick_of}
 
 -- nothing is interrupted

@@ -1,5 +1,5 @@
 -- What instructions store has 1, 2 or 4 bytes an element.
-use Rattle.std.proofs.Common.{◌≡◌, ℕ, ◌+◌, ◌-◌, ◌*◌, ◌/◌, ◌%◌, ◌^◌, Bool, true, false, cond, not, ◌&&◌, nat_eq, nat_le, List, length, slice_index, refl, inl, inr}
+use Rattle.std.proofs.Common.{ℕ, ◌+◌, ◌-◌, ◌*◌, ◌/◌, ◌%◌, ◌^◌, Bool, true, false, cond, not, ◌&&◌, nat_eq, nat_le, List, length, slice_index, refl, inl, inr}
 use Rattle.hm_base.specs.declared.FaultKind.TheVariants.{InvState}
 use Rattle.hm_base.specs.declared.Place.TheVariants.{Ltp}
 use Rattle.hm_isa.specs.declared.Branch.{Branch}

@@ -9,7 +9,7 @@ use Rattle.hm_plain.specs.Ends.{GoesOn}
 use Rattle.hm_plain.specs.Readings.{ShownInOrder}
 use Rattle.hm_plain.proofs.Halts.{halts, riders_of, shown_between}
 use Rattle.hm_run.specs.Headline.{HaltsInOrder, Headline, Riders}
-use Rattle.hm_run.specs.InOrder.{Full, Halted, in_order}
+use Rattle.hm_run.specs.InOrder.{Full, in_order}
 use Rattle.hm_run.specs.Report.{memory_text, report_text}
 use Rattle.hm_run.specs.declared.Outcome.{Outcome}
 use Rattle.hm_run.specs.declared.Outcome.TheVariants as outcome

@@ -1,5 +1,5 @@
 -- Which bytes a beat taints.
-use Rattle.std.proofs.Common.{◌≡◌, ◌⊎◌, ℕ, ◌+◌, ◌*◌, ◌%◌, ◌^◌, ◌<◌, ◌≤◌, Bool, true, false, cond, ◌&&◌, ◌||◌, eqb-true, nat_lt, List, [], ◌∷◌, ◌++◌, map, Option, Some, None, Ok, inl, inr, refl, sym, ◌∙◌, ap, subst, arith, add-zero}
+use Rattle.std.proofs.Common.{◌≡◌, ℕ, ◌+◌, ◌%◌, ◌^◌, ◌<◌, ◌≤◌, Bool, true, false, cond, eqb-true, nat_lt, List, [], ◌∷◌, ◌++◌, map, Option, Some, None, Ok, inl, inr, refl, sym, ◌∙◌, ap, subst, arith, add-zero}
 use Rattle.std.proofs.lemmas.Bool.Decides.{nat_tests}
 use Rattle.hm_base.specs.declared.FaultKind.{FaultKind}
 use Rattle.hm_base.specs.declared.Place.{Place}

@@ -1,5 +1,5 @@
 -- What holds after each tick of any schedule, with handlers: of the thread, with its position and registers and the memory as it is now.
-use Rattle.std.specs.Prelude.{◌≡◌, ℕ, List, [], ◌∷◌, Option, Some, None}
+use Rattle.std.specs.Prelude.{◌≡◌, List, [], ◌∷◌, Option, Some, None}
 use Rattle.hm_base.specs.Image.{Segment}
 use Rattle.hm_codes.specs.Listing.{Listing}
 use Rattle.hm_mem.specs.declared.Actor.TheVariants.{Thread}

@@ -1,5 +1,5 @@
 -- The lines that are left of a range, behind those that were added.
-use Rattle.std.proofs.Common.{◌≡◌, ◌<◌, ℕ, ◌+◌, ◌*◌, List, [], ◌∷◌, ◌++◌, length, ap, append_assoc, subst, sym, ◌∙◌}
+use Rattle.std.proofs.Common.{◌≡◌, ◌<◌, ℕ, ◌+◌, ◌*◌, List, ◌∷◌, ◌++◌, length, ap, append_assoc, subst, ◌∙◌}
 use Rattle.hm_listing.specs.Listings.{Entry, halves_of, IsEntry, AreEntries, lines_from, entry_line}
 
 -- the lines from an address up to hi, behind what was added, are those of the range

@@ -1,7 +1,7 @@
 -- A range has one listing, since one instruction at most stands at an address.
-use Rattle.std.proofs.Common.{◌≡◌, ℕ, ◌+◌, ◌*◌, ◌≤◌, ◌<◌, List, [], ◌∷◌, ◌++◌, length, refl, ap, arith, subst, sym, ◌∙◌}
+use Rattle.std.proofs.Common.{◌≡◌, ℕ, ◌+◌, ◌*◌, ◌≤◌, ◌<◌, List, [], ◌∷◌, length, refl, ap, arith, subst, sym, ◌∙◌}
 use Rattle.std.proofs.lemmas.List.{append-nil}
-use Rattle.hm_codes.specs.Listing.{half_at, Stands}
+use Rattle.hm_codes.specs.Listing.{Stands}
 use Rattle.hm_codes.proofs.Unique.{unique}
 use Rattle.hm_isa.specs.Code.{halfwords}
 use Rattle.hm_isa.specs.declared.Instr.{Instr}

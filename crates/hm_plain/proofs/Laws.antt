@@ -1,5 +1,5 @@
 -- The machine of a program keeps the laws of the machine that overlaps beats.
-use Rattle.std.proofs.Common.{◌≡◌, ℕ, zero, suc, ◌<◌, ◌≤◌, arith, ◌&&◌, ◌||◌, ap, refl, sym, ◌∙◌, subst, Bool, true, false, not, ltb, nat_lt, cond, Option, Some, None, Result, Ok, Err, inl, inr, ⊎_elim, ◌⊎◌}
+use Rattle.std.proofs.Common.{◌≡◌, ℕ, zero, suc, ◌<◌, ◌≤◌, arith, ◌&&◌, ◌||◌, ap, refl, sym, ◌∙◌, subst, Bool, true, false, not, ltb, nat_lt, cond, Option, Some, None, Result, Ok, Err, inl, inr, ⊎_elim}
 use Rattle.std.proofs.lemmas.Bool.Decides.{nat_tests}
 use Rattle.std.specs.Option.{is_none}
 use Rattle.std.specs.Prelude.{option_map}

@@ -3,7 +3,6 @@ use Rattle.std.proofs.Common.{◌≡◌, ◌⊎◌, ℕ, ◌*◌, ◌^◌, ◌<�
 use Rattle.hm_codes.proofs.Unique.{unique_code}
 use Rattle.hm_isa.specs.declared.Instr.{Instr}
 use Rattle.hm_isa.specs.declared.Instr.TheVariants.{Scalar, Branch, Vector}
-use Rattle.hm_isa.specs.declared.Vector.{Vector as VectorRow}
 use Rattle.hm_isa.specs.Code.{halfwords, two_halves, vector_code}
 use Rattle.hm_enc32.specs.Table.{HasWord}
 use Rattle.hm_line.specs.declared.errors.AsmKind.{AsmKind}
@@ -17,28 +16,25 @@ use Rattle.hm_line.proofs.Lasts.{last_behind, last_here}
 use Rattle.hm_text_base.proofs.Steps.{some_is}
 use Rattle.hm_tokens.specs.Ranges.{normal}
 use Rattle.hm_tokens.specs.Tokens.{Tok, word, skip, token_at}
-use Rattle.hm_text_rows.specs.Labels.{Names, NamesTarget, Reaches}
+use Rattle.hm_text_rows.specs.Labels.{NamesTarget, Reaches}
 use Rattle.hm_text_rows.proofs.Tails.{last_one}
 use Rattle.hm_text16.specs.Codes as narrow_codes
 use Rattle.hm_text16.specs.Rows as narrow_rows
-use Rattle.hm_text16.specs.Targets as narrow_targets
 use Rattle.hm_text16.specs.Texts as narrow
 use Rattle.hm_text16.proofs.Laws as narrow_laws
 use Rattle.hm_text_rows.proofs.Shown.{IsGiven}
 use Rattle.hm_text16.proofs.Parsing as narrow_parsing
 use Rattle.hm_text32.specs.Codes as wide_codes
 use Rattle.hm_text32.specs.Rows as wide_rows
-use Rattle.hm_text32.specs.Targets as wide_targets
 use Rattle.hm_text32.specs.Texts as wide
 use Rattle.hm_text32.proofs.Laws as wide_laws
 use Rattle.hm_text32.proofs.Parsing as wide_parsing
 use Rattle.hm_text32.proofs.Tails.{no_other}
 use Rattle.hm_textv.specs.Codes as vector_codes
-use Rattle.hm_textv.specs.Rows as vectors
 use Rattle.hm_textv.proofs.Laws.{answers_law}
 use Rattle.hm_text.specs.Named.{NamesGiven}
-use Rattle.hm_text.specs.Refusals.{IsAtLabel, IsMissing, IsOutOfReach, IsTextRefused}
-use Rattle.hm_text.specs.Tables.{HasText, IsNarrowText, IsRowAt, IsTextIn, IsVectorText, IsWideText, has_label, label_of, target, width_of}
+use Rattle.hm_text.specs.Refusals.{IsAtLabel, IsTextRefused}
+use Rattle.hm_text.specs.Tables.{HasText, IsTextIn, IsVectorText, has_label, label_of, target, width_of}
 use Rattle.hm_text.specs.Texts.{HasWidth, IsRowText, IsTextOf}
 use Rattle.hm_text.proofs.Apart.{apart, apart_long}
 use Rattle.hm_text.proofs.InTables.{Tokens, narrow_table, seen_of, seen_parts, vector_seen, wide_table}

@@ -1,6 +1,6 @@
 -- The mnemonic of a row of two halfwords that is no vector row: no row of one halfword has it, and no vector row has it but `vmov.32`,
 -- which there has a lane.
-use Rattle.std.proofs.Common.{◌≡◌, ◌⊎◌, ℕ, Bool, true, false, cond, eqb, List, [], ◌∷◌, ◌++◌, Option, Some, None, refl, inl, inr, ◌∙◌}
+use Rattle.std.proofs.Common.{◌≡◌, ◌⊎◌, ℕ, Bool, true, false, cond, eqb, List, [], ◌∷◌, Option, Some, None, refl, inl, inr}
 use Rattle.std.specs.Prelude.{bytes_eq, codes, not, ◌&&◌, ◌||◌}
 use Rattle.std.proofs.lemmas.Bool.{and_parts, cases_Bool, false≢true}
 use Rattle.hm_tokens.specs.Tokens.{Tok, word, number, mark}

@@ -1,5 +1,5 @@
 -- The texts of all tables together: which row has a text, and what its label names.
-use Rattle.std.specs.Prelude.{◌≡◌, ◌⊎◌, ℕ, ◌*◌, ◌||◌, Bool, List, Option, Some, None, length, nat_eq, if◌then◌else◌}
+use Rattle.std.specs.Prelude.{◌⊎◌, ℕ, ◌*◌, ◌||◌, Bool, List, Option, Some, None, length, nat_eq, if◌then◌else◌}
 use Rattle.hm_isa.specs.declared.Instr.{Instr}
 use Rattle.hm_isa.specs.declared.Instr.TheVariants.{Scalar, Branch, Vector}
 use Rattle.hm_isa.specs.Code.{halfwords}

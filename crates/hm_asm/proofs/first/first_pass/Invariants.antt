@@ -1,4 +1,4 @@
-use Rattle.std.proofs.Common.{◌≡◌, ◌+◌, ◌-◌, ◌≤◌, ℕ, length}
+use Rattle.std.proofs.Common.{◌+◌, ◌-◌, ◌≤◌, ℕ, length}
 use Rattle.std.specs.FinMap.{empty}
 use Rattle.hm_line.specs.Labels.{LabelMap}
 use Rattle.hm_line.specs.declared.errors.AsmKind.{AsmKind}

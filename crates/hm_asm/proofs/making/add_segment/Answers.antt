@@ -1,4 +1,4 @@
-use Rattle.std.proofs.Common.{false, ltb, sym, ◌∙◌, arith}
+use Rattle.std.proofs.Common.{◌∙◌, arith}
 use Rattle.std.proofs.lemmas.Bool.Decides.{nat_tests}
 use Rattle.hm_asm.proofs.Made.{put_behind}
 use Rattle.hm_asm.proofs.making.add_segment.Goals as goal

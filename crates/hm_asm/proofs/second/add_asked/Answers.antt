@@ -1,10 +1,9 @@
-use Rattle.std.proofs.Common.{◌≡◌, ℕ, ap, subst, ◌∙◌}
+use Rattle.std.proofs.Common.{ℕ, ap, subst, ◌∙◌}
 use Rattle.std.specs.FinMap.{get}
 use Rattle.hm_source.specs.declared.directives.Directive.{Directive}
 use Rattle.hm_source.specs.Directives.{multiple_of}
 use Rattle.hm_source.specs.Places.{padding}
 use Rattle.hm_source.specs.Shown.{ShowsDirected}
-use Rattle.hm_asm.specs.Making.{place_of}
 use Rattle.hm_asm.proofs.Steps.{given_align, given_space}
 use Rattle.hm_asm.proofs.second.add_asked.Goals as goal
 

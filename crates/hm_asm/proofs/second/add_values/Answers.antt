@@ -1,4 +1,4 @@
-use Rattle.std.proofs.Common.{◌≡◌, ℕ, List, [], ◌∷◌, Option, Some, None, refl, sym, ap, subst, ◌∙◌}
+use Rattle.std.proofs.Common.{◌≡◌, ℕ, List, ◌∷◌, Some, None, refl, sym, ap, subst, ◌∙◌}
 use Rattle.std.specs.FinMap.{get}
 use Rattle.hm_line.specs.Texts.{column}
 use Rattle.hm_line.specs.declared.errors.AsmKind.TheVariants as kinds
@@ -10,7 +10,7 @@ use Rattle.hm_source.proofs.Listed.{EndsAt, listed_behind, listed_first}
 use Rattle.hm_asm.specs.Making.{Made, place_of, with_bytes}
 use Rattle.hm_asm.specs.Refusals.{IsSaidErr}
 use Rattle.hm_asm.specs.SecondPass.{AreAsked, number_of}
-use Rattle.hm_asm.proofs.Lists.{Left, Shown, last_left, left_all, left_alone, next_left, none_left, ready_list, ready_room, room_one, shown_list}
+use Rattle.hm_asm.proofs.Lists.{Left, last_left, left_all, left_alone, next_left, none_left, ready_list, ready_room, room_one, shown_list}
 use Rattle.hm_asm.proofs.Operands.{operand_le}
 use Rattle.hm_asm.proofs.Steps.{no_error, said_err}
 use Rattle.hm_asm.proofs.second.add_values.Goals as goal

@@ -5,7 +5,7 @@ use Rattle.hm_line.specs.Labels.{LabelMap}
 use Rattle.hm_line.specs.declared.errors.AsmKind.{AsmKind}
 use Rattle.hm_asm.specs.FirstPass.{AreFine}
 use Rattle.hm_source.specs.Lines.{source_lines}
-use Rattle.hm_asm.specs.Making.{Made, place_of}
+use Rattle.hm_asm.specs.Making.{place_of}
 use Rattle.hm_asm.specs.SecondPass.{AreGiven, IsNextRefused}
 use Rattle.hm_asm.specs.Segments.{joined}
 use Rattle.hm_asm.proofs.second.second_pass.Given as goal

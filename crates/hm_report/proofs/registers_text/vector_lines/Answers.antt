@@ -1,4 +1,4 @@
-use Rattle.std.proofs.Common.{◌≡◌, ℕ, List, ap, ◌∙◌, add-one}
+use Rattle.std.proofs.Common.{ℕ, List, ap, ◌∙◌, add-one}
 use Rattle.hm_run.specs.Report.{vector_line}
 use Rattle.hm_report.proofs.registers_text.vector_lines.Goals as goal
 

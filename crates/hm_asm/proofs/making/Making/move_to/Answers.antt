@@ -1,4 +1,4 @@
-use Rattle.std.proofs.Common.{◌≡◌, ◌≤◌, ◌+◌, ◌++◌, ℕ, List, [], ap, length, subst, sym, ◌∙◌, arith}
+use Rattle.std.proofs.Common.{◌≡◌, ◌≤◌, ◌++◌, ℕ, List, [], ap, subst, sym, ◌∙◌}
 use Rattle.hm_base.specs.Image.{Segment}
 use Rattle.hm_asm.specs.Making.{IsMade, Made, place_of}
 use Rattle.hm_asm.specs.Segments.{with_piece}
