@@ -9,13 +9,13 @@ use Rattle.hm_isa.specs.declared.vectors.ExtremeName.{ExtremeName}
 use Rattle.hm_isa.specs.declared.vectors.ExtremeName.TheVariants.{Max, Min}
 use Rattle.hm_lane.specs.declared.lanes.Size.{Size}
 use Rattle.hm_lane.specs.declared.lanes.Size.TheVariants.{Byte, Half, Word}
-use Rattle.hm_lane.specs.Lanes.{bytes_of, lanes, modulus}
+use Rattle.hm_lane.specs.Lanes.{bytes_of, firsts, lanes, modulus}
 use Rattle.hm_state.specs.Store.{put, put_all}
 use Rattle.hm_state.specs.State.{At, Cell, State, at, cells, word}
 use Rattle.hm_beat.specs.Rows.{Each, active_at, advance_half, predicate_at, retired, word_place}
 use Rattle.hm_kinds.specs.Row.{Row, ends_at, linked, row_whole}
 use Rattle.hm_lane_fns.specs.LaneFns.{cut, half, number}
-use Rattle.hm_lane_fns.specs.Words.{firsts, size_of}
+use Rattle.hm_lane_fns.specs.Words.{size_of}
 use Rattle.hm_forms.specs.Forms.{best, better, extreme_row}
 use Rattle.hm_forms.specs.Registers.{extreme_whole, four}
 use Rattle.hm_forms.proofs.Wholes.{advances}

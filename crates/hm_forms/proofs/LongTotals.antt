@@ -2,12 +2,11 @@
 use Rattle.std.proofs.Common.{◌≡◌, ℕ, ◌+◌, ◌-◌, ◌*◌, ◌/◌, ◌%◌, ◌^◌, Bool, true, false, not, ◌&&◌, ◌⊎◌, inl, inr, cond, eqb, ltb, List, ◌++◌, refl, sym, ◌∙◌, ap, arith, ne_eqb, eq-eqb}
 use Rattle.hm_base.specs.Place.{fit}
 use Rattle.hm_base.specs.declared.Place.TheVariants.{R, Mask01, Mask23, P0, Ltp}
-use Rattle.hm_lane.specs.Lanes.{bytes_of, lanes}
+use Rattle.hm_lane.specs.Lanes.{bytes_of, firsts, lanes}
 use Rattle.hm_state.specs.Store.{put, put_all}
 use Rattle.hm_state.specs.State.{At, Cell, State, Value, at, cells, same_cell, word}
 use Rattle.hm_beat.specs.Rows.{active_at, advance_half, retired, word_place}
 use Rattle.hm_kinds.specs.Row.{Row, ends_at, linked, row_whole}
-use Rattle.hm_lane_fns.specs.Words.{firsts}
 use Rattle.hm_forms.specs.declared.long_sums.LongSums.{LongSums}
 use Rattle.hm_forms.specs.Forms.{added, long_row, long_term}
 use Rattle.hm_forms.specs.Registers.{long_whole}

@@ -13,7 +13,7 @@ use Rattle.hm_isa.specs.declared.vectors.ReverseName.TheVariants as rev
 use Rattle.hm_isa.specs.Rules.{is_reversed}
 use Rattle.hm_lane.specs.declared.lanes.Size.{Size}
 use Rattle.hm_lane.specs.declared.lanes.Size.TheVariants.{Byte, Half, Word}
-use Rattle.hm_lane.specs.Lanes.{bytes_of, lanes, merged, paired, unlanes, word_of}
+use Rattle.hm_lane.specs.Lanes.{bytes_of, lanes, merged, paired, per_word, unlanes, word_of}
 use Rattle.hm_regs.specs.Writes.{write}
 use Rattle.hm_state.specs.Store.{put_all}
 use Rattle.hm_state.specs.State.{At, State, at, cells, into}
@@ -22,7 +22,7 @@ use Rattle.hm_kinds.specs.Row.{Row, numbers, outs_at, row_whole}
 use Rattle.hm_lane_fns.specs.Words.{size_of, truths}
 use Rattle.hm_forms.specs.declared.longer.Longer.{Longer}
 use Rattle.hm_forms.specs.declared.offsets.Steps.{Steps}
-use Rattle.hm_forms.specs.Forms.{constant_new, constant_row, every_second, exchanged, in_turn, lengthened, longer_new, longer_row, offset_after, offsets_from, offsets_row, other_word, per_word, reversed_at, reversed_new, reversed_row, reversed_word, select_new, select_row, round_of, round_places, product, turned_at, turned_lane, turned_new, turned_row, wide_at, wide_new, wide_row, wide_word, words_row}
+use Rattle.hm_forms.specs.Forms.{constant_new, constant_row, every_second, exchanged, in_turn, lengthened, longer_new, longer_row, offset_after, offsets_from, offsets_row, other_word, reversed_at, reversed_new, reversed_row, reversed_word, select_new, select_row, round_of, round_places, product, turned_at, turned_lane, turned_new, turned_row, wide_at, wide_new, wide_row, wide_word, words_row}
 use Rattle.hm_forms.specs.Registers.{constant_result, four, in_groups, long_bytes, reversed_result, select_result, words_result, longer_result, offsets_whole, round_at, merged_whole, turned_result, wide_result, wide_words_result}
 use Rattle.hm_forms.proofs.Wholes.{advances, bytes_of-word}
 

@@ -4,13 +4,12 @@ use Rattle.hm_base.specs.Place.{fit}
 use Rattle.hm_base.specs.declared.Place.TheVariants.{R, Mask01, Mask23, P0, Ltp}
 use Rattle.hm_lane.specs.declared.lanes.Size.{Size}
 use Rattle.hm_lane.specs.declared.lanes.Size.TheVariants.{Byte, Half, Word}
-use Rattle.hm_lane.specs.Lanes.{bytes_of, lanes}
+use Rattle.hm_lane.specs.Lanes.{bytes_of, firsts, lanes}
 use Rattle.hm_lane.specs.Predicate.{active_bytes, allowed, remains}
 use Rattle.hm_state.specs.Store.{put, put_all}
 use Rattle.hm_state.specs.State.{At, Cell, State, Value, at, cells, same_cell, word}
 use Rattle.hm_beat.specs.Rows.{active_at, advance_half, predicate_at, retired, word_place}
 use Rattle.hm_kinds.specs.Row.{Row, ends_at, linked, row_whole}
-use Rattle.hm_lane_fns.specs.Words.{firsts}
 use Rattle.hm_forms.specs.declared.sums.Sums.{Sums}
 use Rattle.hm_forms.specs.Forms.{added, sum_next, sum_row, term_of}
 use Rattle.hm_forms.specs.Registers.{four, sum_whole}

@@ -17,21 +17,21 @@ use Rattle.hm_isa.specs.declared.vectors.ReverseName.{ReverseName}
 use Rattle.hm_isa.specs.declared.vectors.ReverseName.TheVariants as rev
 use Rattle.hm_lane.specs.declared.lanes.Size.{Size}
 use Rattle.hm_lane.specs.declared.lanes.Size.TheVariants.{Byte, Half, Word}
-use Rattle.hm_lane.specs.Lanes.{bytes_of, lanes, merged, modulus, paired, spread, unlanes}
+use Rattle.hm_lane.specs.Lanes.{bytes_of, firsts, lanes, merged, modulus, paired, per_word, spread, unlanes}
 use Rattle.hm_regs.specs.Writes.{write}
 use Rattle.hm_state.specs.Store.{flagged, put_all}
 use Rattle.hm_state.specs.State.{State, at, cells, into}
 use Rattle.hm_beat.specs.Rows.{advance_half, predicate_at, register_at, retired, word_place, write_register}
 use Rattle.hm_kinds.specs.Row.{slice_at, values_at}
 use Rattle.hm_lane_fns.specs.LaneFns.{cut, number}
-use Rattle.hm_lane_fns.specs.Words.{any_both, firsts, size_of, truths}
+use Rattle.hm_lane_fns.specs.Words.{any_both, size_of, truths}
 use Rattle.hm_forms.specs.declared.long_sums.LongSums.{LongSums}
 use Rattle.hm_forms.specs.declared.longer.Longer.{Longer}
 use Rattle.hm_forms.specs.declared.offsets.Steps.{Steps}
 use Rattle.hm_forms.specs.declared.sums.Sums.{Sums}
 use Rattle.hm_isa.specs.declared.fields.Below.{Below}
 use Rattle.hm_forms.specs.Constants.{constant_op, imm_word}
-use Rattle.hm_forms.specs.Forms.{added, begins, best, every_second, exchanged, in_turn, lengthened, long_term, narrow_outside, narrow_saturates, narrowed, offset_after, offsets_from, per_word, product, shift_of, subtracts, term_of, turned_lane, words_row}
+use Rattle.hm_forms.specs.Forms.{added, begins, best, every_second, exchanged, in_turn, lengthened, long_term, narrow_outside, narrow_saturates, narrowed, offset_after, offsets_from, product, shift_of, subtracts, term_of, turned_lane, words_row}
 
 -- 16 bytes are merged into a register under the predicate, and the masks advance
 abbrev pub merged_whole : ℕ → List ℕ → State → State

@@ -27,6 +27,12 @@ lanes Byte v = v
 lanes Half v = halves v
 lanes Word v = words v
 
+-- how many lanes a word has
+abbrev pub per_word : Size → ℕ
+per_word Byte = 4
+per_word Half = 2
+per_word Word = 1
+
 -- the bytes of a list of lanes
 abbrev pub unlanes : Size → List ℕ → List ℕ
 unlanes Byte l = flat_map (λ (x : ℕ). x % 256 ∷ []) l
@@ -54,6 +60,14 @@ abbrev pub spread : Size → List Bool → List Bool
 spread Byte l = l
 spread Half l = flat_map (λ (v : Bool). v ∷ false ∷ []) l
 spread Word l = flat_map (λ (v : Bool). v ∷ false ∷ false ∷ false ∷ []) l
+
+-- of a truth value for each byte, those of the lanes: a lane has that of its lowest byte
+abbrev pub firsts : Size → List Bool → List Bool
+firsts Byte l = l
+firsts Half (p ∷ q ∷ l) = p ∷ firsts Half l
+firsts Half _ = []
+firsts Word (p ∷ q ∷ r ∷ s ∷ l) = p ∷ firsts Word l
+firsts Word _ = []
 
 abbrev pub paired_tests : (ℕ → ℕ → Bool) → List ℕ → List ℕ → List Bool
 paired_tests g (x ∷ xs) (y ∷ ys) = g x y ∷ paired_tests g xs ys

@@ -1,7 +1,7 @@
 //! The words of vector registers as lanes.
 
-ghost use Rattle.std.specs.Prelude.{◌≡◌};
-ghost use Rattle.hm_lane.specs.Lanes.{bytes_of, word_of};
+ghost use Rattle.std.specs.Prelude.{◌≡◌, ◌≤◌};
+ghost use Rattle.hm_lane.specs.Lanes.{bytes_of, per_word, word_of};
 
 /// The size of a lane (DDI0553, "Vector registers and elements").
 #[derive(Clone, Copy, Debug, PartialEq, Eq)]
@@ -9,6 +9,18 @@ pub enum Size {
     Byte,
     Half,
     Word,
+}
+
+/// How many lanes a word has.
+pub fn per_word(z: Size) -> u32
+    ensures value { result ≡ per_word z }
+    ensures at_most { result ≤ 4 }
+{
+    match z {
+        Size::Byte => 4,
+        Size::Half => 2,
+        Size::Word => 1,
+    }
 }
 
 /// The four bytes of a word, lowest first.

@@ -5,7 +5,7 @@ mod lanes;
 mod laws;
 mod masks;
 
-pub use lanes::{Size, bytes, word};
+pub use lanes::{Size, bytes, per_word, word};
 pub use laws::{finish_law, lanes_law, predicate_law};
 pub use masks::{advance, context, finish, mask_at, merge, predicate};
 

@@ -9,7 +9,8 @@ use Rattle.hm_beat.specs.Rows.{Each, word_place}
 use Rattle.hm_order.proofs.Results.{true_not_false}
 use Rattle.hm_kinds.specs.Row.{is_body}
 use Rattle.hm_moves.specs.Moves.{IsMoves, SparesLr, Unwritten, is_word, width}
-use Rattle.hm_moves.specs.Ways.{Found, Transfer, at_addresses, at_offsets, each_from, interleaved, moves_by, per_word, registers, stream, way_back, way_sources, way_words, way_writes_lr, straight}
+use Rattle.hm_lane.specs.Lanes.{per_word}
+use Rattle.hm_moves.specs.Ways.{Found, Transfer, at_addresses, at_offsets, each_from, interleaved, moves_by, registers, stream, way_back, way_sources, way_words, way_writes_lr, straight}
 
 -- word k of a register is no later word of it or of another
 word_off : (d n b k : ℕ) → k < b → b < 4 → same_place (word_place d k) (word_place n b) ≡ false

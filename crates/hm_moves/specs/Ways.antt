@@ -5,7 +5,7 @@ use Rattle.hm_base.specs.declared.Place.{Place}
 use Rattle.hm_base.specs.declared.Place.TheVariants.{R}
 use Rattle.hm_regs.specs.Writes.{Write, write}
 use Rattle.hm_lane.specs.declared.lanes.Size.{Size}
-use Rattle.hm_lane.specs.declared.lanes.Size.TheVariants as size
+use Rattle.hm_lane.specs.Lanes.{per_word}
 use Rattle.hm_mem.specs.Memory.{Around}
 use Rattle.hm_beat.specs.Rows.{Tree, word_place}
 use Rattle.hm_moves.specs.declared.elements.Element.{Element}
@@ -13,12 +13,6 @@ use Rattle.hm_moves.specs.declared.ways.Way.{Way}
 use Rattle.hm_moves.specs.declared.ways.Way.TheVariants.{Straight, Offsets, Addresses, Interleaved}
 use Rattle.hm_moves.specs.declared.ways.Move.{Move}
 use Rattle.hm_moves.specs.Moves.{Moves, moves_tree, width}
-
--- how many elements of a size a word has
-abbrev pub per_word : Size → ℕ
-per_word size.Byte = 4
-per_word size.Half = 2
-per_word size.Word = 1
 
 -- f of n numbers from j on
 abbrev pub each_from : {A : Type 0} → (ℕ → A) → ℕ → ℕ → List A

@@ -11,7 +11,7 @@ ghost use Rattle.hm_state.specs.State.{cells, state_of};
 ghost use Rattle.hm_state.specs.Store.{put_all};
 ghost use Rattle.hm_moves.specs.Coded.{Fit, filled_in, first_stop};
 ghost use Rattle.hm_moves.specs.Moves.{all_bytes_from, bytes_of, extended, laid, width};
-ghost use Rattle.hm_moves.specs.Ways.{moves_of, per_word};
+ghost use Rattle.hm_moves.specs.Ways.{moves_of};
 
 use crate::Move;
 use arrayvec::ArrayVec;
@@ -42,18 +42,6 @@ pub fn width(z: Size) -> u32
         Size::Byte => 1,
         Size::Half => 2,
         Size::Word => 4,
-    }
-}
-
-/// How many elements a word has.
-pub fn per_word(z: Size) -> u32
-    ensures value { result ≡ per_word z }
-    ensures at_most { result ≤ 4 }
-{
-    match z {
-        Size::Byte => 4,
-        Size::Half => 2,
-        Size::Word => 1,
     }
 }
 

@@ -10,15 +10,16 @@ ghost use Rattle.hm_kinds.specs.Coded.{those};
 ghost use Rattle.hm_kinds.specs.Row.{is_body};
 ghost use Rattle.hm_moves.specs.Coded.{Fit, active_of};
 ghost use Rattle.hm_moves.specs.Moves.{active_ones, elements_at, every_byte, width};
-ghost use Rattle.hm_moves.specs.Ways.{each_from, moves_of, per_word, registers, start, stream, way_element, way_of, way_predicated, way_sources};
+ghost use Rattle.hm_lane.specs.Lanes.{per_word};
+ghost use Rattle.hm_moves.specs.Ways.{each_from, moves_of, registers, start, stream, way_element, way_of, way_predicated, way_sources};
 ghost use Rattle.hm_moves.specs.declared.ways.Way.TheVariants as way;
 
-use crate::elements::{Element, Elements, per_word, width};
+use crate::elements::{Element, Elements, width};
 use crate::{Addresses, Interleaved, Move, Offsets, Straight, Way};
 use hm_base::{Place, bits};
 use hm_beat::read_word;
 use hm_kinds::{active, read};
-use hm_lane::Size;
+use hm_lane::{Size, per_word};
 use hm_regs::Regs;
 
 /// So many elements in bytes.

@@ -8,15 +8,15 @@ ghost use Rattle.hm_beat.specs.Rows.{word_place};
 ghost use Rattle.hm_kinds.specs.Coded.{puts};
 ghost use Rattle.hm_kinds.specs.Row.{is_body};
 ghost use Rattle.hm_moves.specs.Moves.{width};
-ghost use Rattle.hm_moves.specs.Ways.{each_from, per_word, registers, stream, way_back, way_of, way_words};
+ghost use Rattle.hm_lane.specs.Lanes.{per_word};
+ghost use Rattle.hm_moves.specs.Ways.{each_from, registers, stream, way_back, way_of, way_words};
 
-use crate::elements::per_word;
 use crate::found::{registers, stream};
 use crate::{Interleaved, Way};
 use arrayvec::ArrayVec;
 use hm_base::Place;
 use hm_kinds::Written;
-use hm_lane::Size;
+use hm_lane::{Size, per_word};
 
 /// At most four words.
 pub type Words = ArrayVec<Place, 4>;

@@ -1,6 +1,7 @@
 use Rattle.std.proofs.Common.{◌≡◌, suc, ◌+◌, ◌-◌, ◌∷◌, [], arith, ◌∙◌}
 use Rattle.hm_moves.specs.Moves.{width}
-use Rattle.hm_moves.specs.Ways.{per_word, way_element, way_of}
+use Rattle.hm_lane.specs.Lanes.{per_word}
+use Rattle.hm_moves.specs.Ways.{way_element, way_of}
 use Rattle.hm_moves.proofs.Widths.{more_active}
 use Rattle.hm_moves.proofs.found.active_elements.Goals as goal
 

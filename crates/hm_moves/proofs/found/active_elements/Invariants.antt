@@ -1,7 +1,8 @@
 use Rattle.std.proofs.Common.{◌≡◌, ◌≤◌, ◌-◌, ◌++◌, [], ◌∷◌, length}
 use Rattle.hm_moves.specs.Coded.{Fit}
 use Rattle.hm_moves.specs.Moves.{active_ones}
-use Rattle.hm_moves.specs.Ways.{each_from, per_word, way_element, way_of}
+use Rattle.hm_lane.specs.Lanes.{per_word}
+use Rattle.hm_moves.specs.Ways.{each_from, way_element, way_of}
 use Rattle.hm_moves.proofs.found.active_elements.Given as goal
 
 abbrev pub invariant-loop-j : goal.invariant-loop-j

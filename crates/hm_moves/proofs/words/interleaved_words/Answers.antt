@@ -5,7 +5,8 @@ use Rattle.hm_base.specs.Place.{IsPlace}
 use Rattle.hm_base.specs.declared.Place.{Place}
 use Rattle.hm_beat.specs.Rows.{word_place}
 use Rattle.hm_moves.specs.Moves.{width}
-use Rattle.hm_moves.specs.Ways.{per_word, registers, stream}
+use Rattle.hm_lane.specs.Lanes.{per_word}
+use Rattle.hm_moves.specs.Ways.{registers, stream}
 use Rattle.hm_moves.proofs.Widths.{each_more}
 use Rattle.hm_moves.proofs.words.interleaved_words.Goals as goal
 
