@@ -17,9 +17,8 @@ use crate::ranges::Range;
 use crate::ticks::Ticks;
 use crate::words::{Command, Source};
 use crate::work::{Finish, Output, Stop};
-use hm_asm::assemble;
+use hm_asm::{assemble, listing};
 use hm_elf::{read_image, write_image};
-use hm_listing::listing;
 use hm_sched::{SchedErr, Schedule, parse, plain};
 use std::alloc::Global;
 

@@ -1,4 +1,4 @@
-//! The assembler, from a source to its image.
+//! The assembler, from a source to its image, and the listing of an image.
 #![tactic(auto)]
 
 ghost use Rattle.std.specs.Prelude.{◌<◌, ◌^◌, List, length, Ok, Err, IfOk};
@@ -17,6 +17,7 @@ pub use errors::AsmErr;
 use first::first_pass;
 use hm_base::Image;
 pub use hm_line::AsmKind;
+pub use hm_listing::{listing, listing_law};
 pub use laws::assembly_law;
 use second::second_pass;
 use std::alloc::Global;
