@@ -31,7 +31,7 @@ pub fn q_register(w: u32, position: u32) -> QRegister
 }
 
 /// The size of elements whose number stands at this place of w, or None where that is 3.
-pub fn size(w: u32, position: u32) -> Option<ElementSize>
+pub fn size_at(w: u32, position: u32) -> Option<ElementSize>
     requires { position < 32 }
     ensures value { MatchOption result (w / 2 ^ position % 4 ≡ 3) (λ z. z.value ≡ w / 2 ^ position % 4) }
 {

@@ -10,7 +10,7 @@ ghost use Rattle.hm_isa.specs.Code.{vector_code};
 ghost use Rattle.hm_isa.specs.MemoryCodes.{code_v24, code_v25, code_v26, code_v27, code_v28};
 ghost use Rattle.hm_isa.specs.MemoryRules.{is_access, is_at_addresses, is_at_offsets, is_contiguous, is_interleaved, is_widening};
 
-use crate::fields::{bit, bits, q_register, size};
+use crate::fields::{bit, bits, q_register, size_at};
 use hm_isa::{Below, Bit, ElementSize, QRegister, Register, V24, V25, V26, V27, V28, Vector};
 
 /// How an offset is used, as the letters of the rows V24 and V25.
@@ -60,7 +60,7 @@ fn decode_v24(w: u32) -> Option<V24>
     let l = bit(w, 20);
     let n = Below::new(bits(w, 16, 4));
     let d = q_register(w, 13);
-    let z = size(w, 7)?;
+    let z = size_at(w, 7)?;
     let i = Below::new(bits(w, 0, 7));
     let base = w
         - place_index(index.p, index.a, index.w)
@@ -115,7 +115,7 @@ fn decode_v25(w: u32) -> Option<V25>
     let h = bit(w, 19);
     let n = Below::new(bits(w, 16, 3));
     let d = q_register(w, 13);
-    let z = size(w, 7)?;
+    let z = size_at(w, 7)?;
     let i = Below::new(bits(w, 0, 7));
     let base = w
         - (u.get() << 28)
@@ -204,7 +204,7 @@ fn decode_v26(w: u32) -> Option<V26>
     let l = bit(w, 20);
     let n = Below::new(bits(w, 16, 4));
     let d = q_register(w, 13);
-    let z = size(w, 7)?;
+    let z = size_at(w, 7)?;
     let y = memory_size(w)?;
     let m = q_register(w, 1);
     let o = bit(w, 0);
@@ -327,7 +327,7 @@ fn decode_v28(w: u32) -> Option<V28>
     let l = bit(w, 20);
     let n = Below::new(bits(w, 16, 4));
     let d = q_register(w, 13);
-    let z = size(w, 7)?;
+    let z = size_at(w, 7)?;
     let p = Below::new(bits(w, 5, 2));
     let f = bit(w, 0);
     let base = w

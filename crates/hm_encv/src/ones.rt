@@ -18,7 +18,7 @@ ghost use Rattle.hm_isa.specs.Code.{code_long_bytes, code_long_halves, code_long
 ghost use Rattle.hm_isa.specs.Code.{one_base, reverse_base, narrow_base, code_v12, code_v13, code_v14, code_v15, code_v16, vector_code};
 ghost use Rattle.hm_isa.specs.Rules.{is_reversed};
 
-use crate::fields::{bit, bits, q_register, size};
+use crate::fields::{bit, bits, q_register, size_at};
 use hm_isa::{
     Below, ElementSize, Invert, LongBytes, LongFull, LongHalves, NarrowName, OneElement, OneName,
     QRegister, ReverseName, V12, V13, V14, V15, V16, Vector,
@@ -189,7 +189,7 @@ fn decode_one_element(w: u32) -> Option<OneElement>
     ensures found { IfSome result (λ r. code_one_element r ≡ w) }
     ensures none { IfNone result ((r : OneElement) → code_one_element r ≡ w → ⊥) }
 {
-    let z = size(w, 18)?;
+    let z = size_at(w, 18)?;
     let d = q_register(w, 13);
     let m = q_register(w, 1);
     let name = one_name(w - (z.get() << 18) - (d.get() << 13) - (m.get() << 1))?;
@@ -280,7 +280,7 @@ fn decode_v14(w: u32) -> Option<V14>
     ensures found { IfSome result (λ r. code_v14 r ≡ w) }
     ensures none { IfNone result ((r : V14) → code_v14 r ≡ w → ⊥) }
 {
-    let z = size(w, 18)?;
+    let z = size_at(w, 18)?;
     let d = q_register(w, 13);
     let m = q_register(w, 1);
     let name = reverse_name(w - (z.get() << 18) - (d.get() << 13) - (m.get() << 1))?;

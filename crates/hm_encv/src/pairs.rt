@@ -22,7 +22,7 @@ ghost use Rattle.hm_isa.specs.Code.{add_base, bitwise_base, signed_base, vector_
 ghost use Rattle.hm_isa.specs.Code.{code_v1, code_v2, code_v3, code_v4, code_v5, code_v6, code_v7, code_v8, code_v9, vector_code};
 ghost use Rattle.hm_isa.specs.Rules.{is_turned, is_widened};
 
-use crate::fields::{bit, q_register, size};
+use crate::fields::{bit, q_register, size_at};
 use hm_isa::{
     AddName, BitwiseName, CarryName, DoublingName, ElementSize, HighName, QRegister, SignedName,
     TurnName, V1, V2, V3, V4, V5, V6, V7, V8, V9, Vector, VectorShiftName,
@@ -57,7 +57,7 @@ fn decode_v1(w: u32) -> Option<V1>
     ensures found { IfSome result (λ r. code_v1 r ≡ w) }
     ensures none { IfNone result ((r : V1) → code_v1 r ≡ w → ⊥) }
 {
-    let z = size(w, 20)?;
+    let z = size_at(w, 20)?;
     let n = q_register(w, 17);
     let d = q_register(w, 13);
     let m = q_register(w, 1);
@@ -163,7 +163,7 @@ fn decode_v3(w: u32) -> Option<V3>
     ensures none { IfNone result ((r : V3) → code_v3 r ≡ w → ⊥) }
 {
     let u = bit(w, 28);
-    let z = size(w, 20)?;
+    let z = size_at(w, 20)?;
     let n = q_register(w, 17);
     let d = q_register(w, 13);
     let m = q_register(w, 1);
@@ -224,7 +224,7 @@ fn decode_v4(w: u32) -> Option<V4>
     ensures none { IfNone result ((r : V4) → code_v4 r ≡ w → ⊥) }
 {
     let u = bit(w, 28);
-    let z = size(w, 20)?;
+    let z = size_at(w, 20)?;
     let n = q_register(w, 17);
     let d = q_register(w, 13);
     let m = q_register(w, 1);
@@ -280,7 +280,7 @@ fn decode_v5(w: u32) -> Option<V5>
     ensures found { IfSome result (λ r. code_v5 r ≡ w) }
     ensures none { IfNone result ((r : V5) → code_v5 r ≡ w → ⊥) }
 {
-    let z = size(w, 20)?;
+    let z = size_at(w, 20)?;
     let n = q_register(w, 17);
     let d = q_register(w, 13);
     let m = q_register(w, 1);
@@ -314,7 +314,7 @@ fn decode_v6(w: u32) -> Option<V6>
     ensures none { IfNone result ((r : V6) → code_v6 r ≡ w → ⊥) }
 {
     let u = bit(w, 28);
-    let z = size(w, 20)?;
+    let z = size_at(w, 20)?;
     let t = bit(w, 12);
     let n = q_register(w, 17);
     let d = q_register(w, 13);
@@ -373,7 +373,7 @@ fn decode_v7(w: u32) -> Option<V7>
     ensures none { IfNone result ((r : V7) → code_v7 r ≡ w → ⊥) }
 {
     let u = bit(w, 28);
-    let z = size(w, 20)?;
+    let z = size_at(w, 20)?;
     let n = q_register(w, 17);
     let d = q_register(w, 13);
     let m = q_register(w, 1);
@@ -481,7 +481,7 @@ fn decode_v9(w: u32) -> Option<V9>
     ensures found { IfSome result (λ r. code_v9 r ≡ w) }
     ensures none { IfNone result ((r : V9) → code_v9 r ≡ w → ⊥) }
 {
-    let z = size(w, 20)?;
+    let z = size_at(w, 20)?;
     let t = bit(w, 12);
     let n = q_register(w, 17);
     let d = q_register(w, 13);

@@ -10,7 +10,7 @@ ghost use Rattle.hm_isa.specs.declared.vectors.V20.{V20};
 ghost use Rattle.hm_isa.specs.declared.vectors.V21.{V21};
 ghost use Rattle.hm_isa.specs.Code.{code_compare_vectors, code_compare_scalar, code_block, code_select, code_tail, code_v20, code_v21, vector_code};
 
-use crate::fields::{bit, bits, general, mask, place_mask, q_register, size};
+use crate::fields::{bit, bits, general, mask, place_mask, q_register, size_at};
 use hm_isa::{Below, Block, CompareScalar, CompareVectors, Select, Tail, V20, V21, Vector};
 
 /// `vcmp` and `vpt` of two vectors: the condition's bits 2 to 0 are bits 12, 0 and 7
@@ -19,7 +19,7 @@ fn decode_compare_vectors(w: u32) -> Option<CompareVectors>
     ensures none { IfNone result ((r : CompareVectors) → code_compare_vectors r ≡ w → ⊥) }
 {
     let k = mask(w);
-    let z = size(w, 20)?;
+    let z = size_at(w, 20)?;
     let n = q_register(w, 17);
     let high = bits(w, 12, 1);
     let middle = bits(w, 0, 1);
@@ -60,7 +60,7 @@ fn decode_compare_scalar(w: u32) -> Option<CompareScalar>
     ensures none { IfNone result ((r : CompareScalar) → code_compare_scalar r ≡ w → ⊥) }
 {
     let k = mask(w);
-    let z = size(w, 20)?;
+    let z = size_at(w, 20)?;
     let n = q_register(w, 17);
     let high = bits(w, 12, 1);
     let middle = bits(w, 5, 1);

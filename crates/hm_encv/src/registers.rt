@@ -12,7 +12,7 @@ ghost use Rattle.hm_isa.specs.Code.{scalar_base, dup_base, offsets_base};
 ghost use Rattle.hm_isa.specs.Code.{code_v10, code_v17, code_v18, code_v19, vector_code};
 ghost use Rattle.hm_isa.specs.Rules.{has_sign, is_signed_by};
 
-use crate::fields::{bit, bits, general, place_step, q_register, size, step};
+use crate::fields::{bit, bits, general, place_step, q_register, size_at, step};
 use hm_isa::{
     Below, Bit, Element, Offsets, OffsetsName, ScalarName, V10, V17, V18, V19, Vector,
     WrappedOffsets,
@@ -102,7 +102,7 @@ fn decode_v10(w: u32) -> Option<V10>
     ensures found { IfSome result (λ r. code_v10 r ≡ w) }
     ensures none { IfNone result ((r : V10) → code_v10 r ≡ w → ⊥) }
 {
-    let z = size(w, 20)?;
+    let z = size_at(w, 20)?;
     let n = q_register(w, 17);
     let d = q_register(w, 13);
     let m = general(w, 0)?;
@@ -221,7 +221,7 @@ fn decode_v19(w: u32) -> Option<V19>
     ensures found { IfSome result (λ r. code_v19 r ≡ w) }
     ensures none { IfNone result ((r : V19) → code_v19 r ≡ w → ⊥) }
 {
-    let z = size(w, 20)?;
+    let z = size_at(w, 20)?;
     let n = Below::new(bits(w, 17, 3));
     let d = q_register(w, 13);
     let k = step(w);

@@ -11,7 +11,7 @@ ghost use Rattle.hm_isa.specs.declared.vectors.V22.{V22};
 ghost use Rattle.hm_isa.specs.declared.vectors.V23.{V23};
 ghost use Rattle.hm_isa.specs.Code.{dot_base, extreme_base, code_sum, code_dot, code_long_sum, code_long_dot, code_v22, code_v23, vector_code};
 
-use crate::fields::{bit, bits, general, q_register, size};
+use crate::fields::{bit, bits, general, q_register, size_at};
 use hm_isa::{Below, Dot, Element, ExtremeName, LongDot, LongSum, Sum, V22, V23, Vector};
 
 /// `vaddv`
@@ -20,7 +20,7 @@ fn decode_sum(w: u32) -> Option<Sum>
     ensures none { IfNone result ((r : Sum) → code_sum r ≡ w → ⊥) }
 {
     let u = bit(w, 28);
-    let z = size(w, 18)?;
+    let z = size_at(w, 18)?;
     let l = Below::new(bits(w, 13, 3));
     let a = bit(w, 5);
     let m = q_register(w, 1);
@@ -249,7 +249,7 @@ fn decode_v23(w: u32) -> Option<V23>
     ensures none { IfNone result ((r : V23) → code_v23 r ≡ w → ⊥) }
 {
     let u = bit(w, 28);
-    let z = size(w, 18)?;
+    let z = size_at(w, 18)?;
     let t = general(w, 12)?;
     let m = q_register(w, 1);
     let name = extreme_name(

@@ -13,12 +13,12 @@ use Rattle.hm_lane.specs.Lanes.{bytes_of, firsts, lanes, modulus}
 use Rattle.hm_state.specs.Store.{put, put_all}
 use Rattle.hm_state.specs.State.{At, Cell, State, at, cells, word}
 use Rattle.hm_beat.specs.Rows.{Each, active_at, advance_half, predicate_at, retired, word_place}
-use Rattle.hm_kinds.specs.Row.{Row, ends_at, linked, row_whole}
+use Rattle.hm_kinds.specs.Row.{Row, ends_at, linked, row_by_words}
 use Rattle.hm_lane_fns.specs.LaneFns.{cut, half, number}
 use Rattle.hm_lane_fns.specs.Words.{size_of}
 use Rattle.hm_forms.specs.Forms.{best, better, extreme_row}
-use Rattle.hm_forms.specs.Registers.{extreme_whole, four}
-use Rattle.hm_forms.proofs.Wholes.{advances}
+use Rattle.hm_forms.specs.Registers.{advancing, extreme_writes}
+use Rattle.hm_forms.proofs.Lanewise.{advances, four}
 use Rattle.hm_forms.proofs.Totals.{active_any, put_twice}
 
 -- A NUMBER THAT A LANE HOLDS COMES BACK FROM A REGISTER
@@ -200,7 +200,7 @@ module _ (r : V23) (s : State) (runs : (ltb (at Ltp s) 4 ≡ false) ⊎ (eqb r.t
   abbrev over : State → State → State → State → State
   over a b c d = retired (put_all cells (ends_at form_row 0 s ++ ends_at form_row 1 a ++ ends_at form_row 2 b ++ ends_at form_row 3 c) d)
 
-  pub extreme_is : row_whole form_row s ≡ extreme_whole r s
+  pub extreme_is : row_by_words form_row s ≡ advancing (extreme_writes r s) s
   extreme_is = (λ j. over (after_0 j) (after_1 j) (after_2 j) (after_3 j))
       ∙ ap retired (advances form_row s (with_value v3) refl refl)
       ∙ (λ j. retired (put_all cells (advance_half 0 s ++ advance_half 2 s) (put cells place (word (sym (fit_is (cut Word v3)) j)) s)))

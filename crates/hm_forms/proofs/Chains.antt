@@ -10,11 +10,11 @@ use Rattle.hm_lane.specs.Predicate.{first}
 use Rattle.hm_state.specs.Store.{put, put_all}
 use Rattle.hm_state.specs.State.{At, Cell, State, Value, at, cells, word}
 use Rattle.hm_beat.specs.Rows.{active_at, advance_half, retired, word_place}
-use Rattle.hm_kinds.specs.Row.{Row, ends_at, linked, numbers, outs_at, row_whole}
+use Rattle.hm_kinds.specs.Row.{Row, ends_at, linked, numbers, outs_at, row_by_words}
 use Rattle.hm_forms.specs.Forms.{begins, carry_places, carry_row, flags_before, shift_of, shift_row, subtracts}
-use Rattle.hm_forms.specs.Registers.{bits_after, carry_whole, flags_after, shift_whole, sum_with}
+use Rattle.hm_forms.specs.Registers.{advancing, bits_after, carry_writes, flags_after, shift_writes, sum_with}
 use Rattle.hm_forms.proofs.Totals.{active_any, put_twice}
-use Rattle.hm_forms.proofs.Wholes.{advances}
+use Rattle.hm_forms.proofs.Lanewise.{advances}
 
 -- A CARRY
 -- the flags that a word finds
@@ -130,7 +130,7 @@ module _ (r : V8) (s : State) where
   sums = (λ j. with_sums (sum_of 0 (found_0 j)) (sum_of 1 (found_1 f0 j)) (sum_of 2 (found_2 f1 j)) (sum_of 3 (found_3 f2 j)))
       ∙ (λ j. with_sums (sum_of 0 start) (sum_kept r.name f0 (x 1) (y 1) j) (sum_kept r.name f1 (x 2) (y 2) j) (sum_kept r.name f2 (x 3) (y 3) j))
 
-  pub carry_is : row_whole carry s ≡ carry_whole r s
+  pub carry_is : row_by_words carry s ≡ advancing (carry_writes r s) s
   carry_is = (λ j. over (after_0 j) (after_1 j) (after_2 j) (after_3 j))
       ∙ ap retired (advances carry s (with_sums (sum_of 0 (flags_before r.name (numbers (map s.cell (map At (carry_places r.name 0)))))) (sum_of 1 (found 1 f0)) (sum_of 2 (found 2 f1)) (sum_of 3 (found 3 f2))) refl refl)
       ∙ ap (λ u. retired (put_all cells (advance_half 0 s ++ advance_half 2 s) u)) sums
@@ -218,7 +218,7 @@ module _ (r : V17) (s : State) (runs : (ltb (at Ltp s) 4 ≡ false) ⊎ (eqb r.m
   abbrev with_words : State → Cell × Value → Cell × Value → Cell × Value → State
   with_words u k l n = put_all cells (merged_bits 0 (active_at 0 s) start_bits ∷ k ∷ l ∷ n ∷ []) u
 
-  pub shift_is : row_whole shift s ≡ shift_whole r s
+  pub shift_is : row_by_words shift s ≡ advancing (shift_writes r s) s
   shift_is = (λ j. shift_over (bits_0 j) (bits_1 j) (bits_2 j) (bits_3 j))
       ∙ ap retired (advances shift s (with_words (with_bits m3) (merged_bits 1 (active_at 1 (with_bits m0)) (at (R r.m.value) (with_bits m0))) (merged_bits 2 (active_at 2 (with_bits m1)) (at (R r.m.value) (with_bits m1)))
       (merged_bits 3 (active_at 3 (with_bits m2)) (at (R r.m.value) (with_bits m2)))) refl refl)

@@ -6,11 +6,11 @@ use Rattle.hm_lane.specs.Lanes.{bytes_of, firsts, lanes}
 use Rattle.hm_state.specs.Store.{put, put_all}
 use Rattle.hm_state.specs.State.{At, Cell, State, Value, at, cells, same_cell, word}
 use Rattle.hm_beat.specs.Rows.{active_at, advance_half, retired, word_place}
-use Rattle.hm_kinds.specs.Row.{Row, ends_at, linked, row_whole}
+use Rattle.hm_kinds.specs.Row.{Row, ends_at, linked, row_by_words}
 use Rattle.hm_forms.specs.declared.long_sums.LongSums.{LongSums}
 use Rattle.hm_forms.specs.Forms.{added, long_row, long_term}
-use Rattle.hm_forms.specs.Registers.{long_whole}
-use Rattle.hm_forms.proofs.Wholes.{advances}
+use Rattle.hm_forms.specs.Registers.{advancing, long_writes}
+use Rattle.hm_forms.proofs.Lanewise.{advances}
 use Rattle.hm_forms.proofs.Totals.{active_any, first_start, later_start, whole_added, word_added}
 
 -- the two parts of a number make it
@@ -134,7 +134,7 @@ module _ (r : LongSums) (s : State) (runs : (ltb (at Ltp s) 4 ≡ false) ⊎ (eq
   abbrev over : State → State → State → State → State
   over a b c d = retired (put_all cells (ends_at form_row 0 s ++ ends_at form_row 1 a ++ ends_at form_row 2 b ++ ends_at form_row 3 c) d)
 
-  pub long_is : row_whole form_row s ≡ long_whole r s
+  pub long_is : row_by_words form_row s ≡ advancing (long_writes r s) s
   long_is = (λ j. over (after_0 j) (after_1 j) (after_2 j) (after_3 j))
       ∙ ap retired (advances form_row s (with_sum s3) refl refl)
       ∙ (λ j. retired (put_all cells (advance_half 0 s ++ advance_half 2 s) (sym (fitted s3 s) j)))

@@ -12,12 +12,12 @@ use Rattle.hm_lane.specs.Lanes.{bytes_of, lanes, merged, modulus, spread, unlane
 use Rattle.hm_state.specs.Store.{flagged, put_all}
 use Rattle.hm_state.specs.State.{State, at, cells}
 use Rattle.hm_beat.specs.Rows.{active_at, advance_half, predicate_at, register_at, retired, word_place, write_register}
-use Rattle.hm_kinds.specs.Row.{Row, ends_at, mark_at, outs_at, row_whole, values_at}
+use Rattle.hm_kinds.specs.Row.{Row, ends_at, mark_at, outs_at, row_by_words, values_at}
 use Rattle.hm_lane_fns.specs.LaneFns.{cut}
 use Rattle.hm_lane_fns.specs.Words.{any_both}
 use Rattle.hm_forms.specs.Forms.{narrow_bytes, narrow_mark, narrow_outside, narrow_row, narrow_saturates, narrow_tests, narrowed}
-use Rattle.hm_forms.specs.Registers.{four, halves_of, narrow_result, narrow_saturated, narrow_whole, placed, placed_tests}
-use Rattle.hm_forms.proofs.Wholes.{active_byte, advances, and_four, any_words, marked_where}
+use Rattle.hm_forms.specs.Registers.{halves_of, narrow_result, narrow_saturated, narrow_whole, placed, placed_tests}
+use Rattle.hm_forms.proofs.Lanewise.{active_byte, advances, and_four, any_words, four, marked_where}
 
 -- A NUMBER CUT to its lane fits it
 rem_below : (v : ℤ) (m : ℕ) → 0 < m → unsigned_abs (int_rem_euclid v (pos m)) < m
@@ -121,10 +121,10 @@ module _ (r : V16) (s : State) where
   abbrev ends : State → State
   ends u = put_all cells (ends_at form_row 0 s ++ ends_at form_row 1 s ++ ends_at form_row 2 s ++ ends_at form_row 3 s) u
 
-  merges : ends (put_all cells (outs_at form_row 0 s (form_row.outs 0) ++ outs_at form_row 1 s (form_row.outs 1) ++ outs_at form_row 2 s (form_row.outs 2) ++ outs_at form_row 3 s (form_row.outs 3)) s)
+  merged_is : ends (put_all cells (outs_at form_row 0 s (form_row.outs 0) ++ outs_at form_row 1 s (form_row.outs 1) ++ outs_at form_row 2 s (form_row.outs 2) ++ outs_at form_row 3 s (form_row.outs 3)) s)
       ≡ merged_with (narrow_result r s)
-  merges = advances form_row s (put_all cells (outs_at form_row 0 s (form_row.outs 0) ++ outs_at form_row 1 s (form_row.outs 1) ++ outs_at form_row 2 s (form_row.outs 2) ++ outs_at form_row 3 s (form_row.outs 3)) s) refl refl
+  merged_is = advances form_row s (put_all cells (outs_at form_row 0 s (form_row.outs 0) ++ outs_at form_row 1 s (form_row.outs 1) ++ outs_at form_row 2 s (form_row.outs 2) ++ outs_at form_row 3 s (form_row.outs 3)) s) refl refl
       ∙ ap merged_with (four_words z odd r.name old x)
 
-  pub narrow_is : row_whole form_row s ≡ narrow_whole r s
-  narrow_is = λ j. retired (flagged (marks j) (merges j))
+  pub narrow_is : row_by_words form_row s ≡ narrow_whole r s
+  narrow_is = λ j. retired (flagged (marks j) (merged_is j))

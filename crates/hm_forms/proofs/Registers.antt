@@ -16,22 +16,31 @@ use Rattle.hm_lane.specs.declared.lanes.Size.TheVariants.{Byte, Half, Word}
 use Rattle.hm_lane.specs.Lanes.{bytes_of, lanes, merged, paired, per_word, unlanes, word_of}
 use Rattle.hm_regs.specs.Writes.{write}
 use Rattle.hm_state.specs.Store.{put_all}
-use Rattle.hm_state.specs.State.{At, State, at, cells, into}
+use Rattle.hm_state.specs.State.{At, Cell, State, Value, at, cells, into}
 use Rattle.hm_beat.specs.Rows.{advance_half, predicate_at, register_at, retired, word_place, write_register}
-use Rattle.hm_kinds.specs.Row.{Row, numbers, outs_at, row_whole}
+use Rattle.hm_beat.proofs.Whole.{put_all-append}
+use Rattle.hm_kinds.specs.Row.{Row, numbers, outs_at, row_by_words, slice_at, values_at}
 use Rattle.hm_lane_fns.specs.Words.{size_of, truths}
 use Rattle.hm_forms.specs.declared.longer.Longer.{Longer}
 use Rattle.hm_forms.specs.declared.offsets.Steps.{Steps}
 use Rattle.hm_forms.specs.Forms.{constant_new, constant_row, every_second, exchanged, in_turn, lengthened, longer_new, longer_row, offset_after, offsets_from, offsets_row, other_word, reversed_at, reversed_new, reversed_row, reversed_word, select_new, select_row, round_of, round_places, product, turned_at, turned_lane, turned_new, turned_row, wide_at, wide_new, wide_row, wide_word, words_row}
-use Rattle.hm_forms.specs.Registers.{constant_result, four, in_groups, long_bytes, reversed_result, select_result, words_result, longer_result, offsets_whole, round_at, merged_whole, turned_result, wide_result, wide_words_result}
-use Rattle.hm_forms.proofs.Wholes.{advances, bytes_of-word}
+use Rattle.hm_forms.specs.Registers.{advancing, constant_result, in_groups, long_bytes, longer_result, merges, offsets_writes, reversed_result, round_at, select_result, turned_result, wide_result}
+use Rattle.hm_forms.proofs.Lanewise.{advances, bytes_of-word, four}
+
+-- the four words of a row that merges a word on each beat
+abbrev words_result : Bool → ℕ → (ℕ → List Place) → (ℕ → ℕ → List ℕ → ℕ) → State → List ℕ
+words_result w d sources f s = let row = words_row w d sources f None in four (λ b. f b (slice_at row b s) (values_at row b s))
+
+-- a register merges 16 bytes, and the masks advance
+abbrev merged_whole : ℕ → List ℕ → State → State
+merged_whole d result s = advancing (merges d result s) s
 
 module _ (w : Bool) (d : ℕ) (sources : ℕ → List Place) (f : ℕ → ℕ → List ℕ → ℕ) (s : State) where
   abbrev form_row : Row
   form_row = words_row w d sources f None
 
   -- a row that merges words merges the bytes of the four
-  pub words_whole : row_whole form_row s ≡ merged_whole d (words_result w d sources f s) s
+  pub words_whole : row_by_words form_row s ≡ merged_whole d (words_result w d sources f s) s
   words_whole = λ j. retired (advances form_row s (put_all cells (outs_at form_row 0 s (form_row.outs 0) ++ outs_at form_row 1 s (form_row.outs 1) ++ outs_at form_row 2 s (form_row.outs 2) ++ outs_at form_row 3 s (form_row.outs 3)) s) refl refl j)
 
 -- NEIGHBOURS
@@ -51,7 +60,7 @@ turned_words (suc zero) h f x y = λ j. turn_back f Half true (x 0) (y 0) j ++ t
 turned_words (suc (suc zero)) h f x y = λ j. turn_back f Word true (x 0) (y 1) j ++ turn_back f Word false (x 1) (y 0) j ++ turn_back f Word true (x 2) (y 3) j ++ turn_back f Word false (x 3) (y 2) j
 turned_words (suc (suc (suc z))) h f x y = absurd (omega arith)
 
-pub turned_is : (r : V9) (s : State) → row_whole (turned_row r) s ≡ merged_whole r.d.value (turned_result r s) s
+pub turned_is : (r : V9) (s : State) → row_by_words (turned_row r) s ≡ merged_whole r.d.value (turned_result r s) s
 turned_is r s = words_whole false r.d.value (λ b. word_place r.n.value b ∷ word_place r.m.value (turned_at r b) ∷ []) (λ b slice. turned_new r b) s
     ∙ ap (λ u. merged_whole r.d.value u s)
     (sym (turned_words r.z.value r.z.in_range (turned_lane r (size_of r.z.value)) (λ b. at (word_place r.n.value b) s) (λ b. at (word_place r.m.value b) s)))
@@ -83,7 +92,7 @@ reversed_words rev.Rev16 zero d m h rule x = λ j. swapped_back (x 0) j ++ swapp
 reversed_words rev.Rev16 (suc z) d m h rule x = let none = eqb-true (suc z) 0 rule in absurd (omega arith)
 reversed_words rev.Rev64 (suc (suc (suc z))) d m h rule x = absurd (omega arith)
 
-pub reversed_is : (r : V14) (s : State) → row_whole (reversed_row r) s ≡ merged_whole r.d.value (reversed_result r s) s
+pub reversed_is : (r : V14) (s : State) → row_by_words (reversed_row r) s ≡ merged_whole r.d.value (reversed_result r s) s
 reversed_is r s = words_whole false r.d.value (λ b. word_place r.m.value (reversed_at r.name b) ∷ []) (λ b slice. reversed_new r) s
     ∙ ap (λ u. merged_whole r.d.value u s) (sym (reversed_words r.name r.z.value r.d.value r.m.value r.z.in_range r.rule (λ b. at (word_place r.m.value b) s)))
 
@@ -102,7 +111,7 @@ longer_words : (halves : Bool) (f : Size → ℕ → ℕ) (odd : Bool) (x : ℕ 
 longer_words true f odd x = λ j. every_half (f Half) odd (x 0) j ++ every_half (f Half) odd (x 1) j ++ every_half (f Half) odd (x 2) j ++ every_half (f Half) odd (x 3) j
 longer_words false f odd x = λ j. every_byte (f Byte) odd (x 0) j ++ every_byte (f Byte) odd (x 1) j ++ every_byte (f Byte) odd (x 2) j ++ every_byte (f Byte) odd (x 3) j
 
-pub longer_is : (r : Longer) (s : State) → row_whole (longer_row r) s ≡ merged_whole r.d.value (longer_result r s) s
+pub longer_is : (r : Longer) (s : State) → row_by_words (longer_row r) s ≡ merged_whole r.d.value (longer_result r s) s
 longer_is r s = words_whole false r.d.value (λ b. word_place r.m.value b ∷ []) (λ b slice. longer_new r) s
     ∙ ap (λ u. merged_whole r.d.value u s) (sym (longer_words r.halves (lengthened r) r.odd (λ b. at (word_place r.m.value b) s)))
 
@@ -123,7 +132,7 @@ module _ (r : V6) (s : State) where
       let k = cond (nat_eq z 2) (2 * (b / 2) + r.t.value) b in
       wide_word r (size_of z) b (at (word_place r.n.value k) s) (at (word_place r.m.value k) s)
 
-  by_size : row_whole (wide_row r) s ≡ merged_whole r.d.value (four (wide_of r.z.value)) s
+  by_size : row_by_words (wide_row r) s ≡ merged_whole r.d.value (four (wide_of r.z.value)) s
   by_size = words_whole false r.d.value (λ b. word_place r.n.value (wide_at r b) ∷ word_place r.m.value (wide_at r b) ∷ []) (λ b slice. wide_new r b) s
 
   abbrev first : ℕ → ℕ
@@ -132,14 +141,14 @@ module _ (r : V6) (s : State) where
   abbrev second : ℕ → ℕ
   second b = at (word_place r.m.value b) s
 
-  pub wide_bytes : r.z.value ≡ 0 → row_whole (wide_row r) s ≡ merged_whole r.d.value (wide_result r Byte Half s) s
+  wide_bytes : r.z.value ≡ 0 → row_by_words (wide_row r) s ≡ merged_whole r.d.value (wide_result r Byte s) s
   wide_bytes e =
       let odd = nat_eq r.t.value 1 in
       by_size ∙ (λ j. merged_whole r.d.value (four (wide_of (e j))) s)
       ∙ ap (λ u. merged_whole r.d.value u s) (sym (λ j. pairs_byte (product r) odd (first 0) (second 0) j ++ pairs_byte (product r) odd (first 1) (second 1) j
       ++ pairs_byte (product r) odd (first 2) (second 2) j ++ pairs_byte (product r) odd (first 3) (second 3) j))
 
-  pub wide_halves : r.z.value ≡ 1 → row_whole (wide_row r) s ≡ merged_whole r.d.value (wide_result r Half Word s) s
+  wide_halves : r.z.value ≡ 1 → row_by_words (wide_row r) s ≡ merged_whole r.d.value (wide_result r Half s) s
   wide_halves e =
       let odd = nat_eq r.t.value 1 in
       by_size ∙ (λ j. merged_whole r.d.value (four (wide_of (e j))) s)
@@ -162,13 +171,22 @@ long_words zero h p x y = λ j. low (p (x 0) (y 0)) j ++ bytes_of (p (x 0) (y 0)
 long_words (suc zero) h p x y = λ j. low (p (x 1) (y 1)) j ++ bytes_of (p (x 1) (y 1) / 2 ^ 32) ++ low (p (x 3) (y 3)) j ++ bytes_of (p (x 3) (y 3) / 2 ^ 32)
 long_words (suc (suc t)) h p x y = absurd (omega arith)
 
-pub wide_words : (r : V6) (s : State) → r.z.value ≡ 2 → row_whole (wide_row r) s ≡ merged_whole r.d.value (wide_words_result r s) s
+wide_words : (r : V6) (s : State) → r.z.value ≡ 2 → row_by_words (wide_row r) s ≡ merged_whole r.d.value (wide_result r Word s) s
 wide_words r s e =
     by_size r s ∙ (λ j. merged_whole r.d.value (four (wide_of r s (e j))) s)
     ∙ ap (λ u. merged_whole r.d.value u s) (long_words r.t.value r.t.in_range (product r) (λ b. at (word_place r.n.value b) s) (λ b. at (word_place r.m.value b) s))
 
+pub wide_is : (r : V6) (s : State) → row_by_words (wide_row r) s ≡ merged_whole r.d.value (wide_result r (size_of r.z.value) s) s
+wide_is r s = by_value r.z.value r.z.in_range refl
+  where
+    by_value : (z : ℕ) → z < 3 → r.z.value ≡ z → row_by_words (wide_row r) s ≡ merged_whole r.d.value (wide_result r (size_of r.z.value) s) s
+    by_value zero h e = wide_bytes r s e ∙ ap (λ z. merged_whole r.d.value (wide_result r (size_of z) s) s) (sym e)
+    by_value (suc zero) h e = wide_halves r s e ∙ ap (λ z. merged_whole r.d.value (wide_result r (size_of z) s) s) (sym e)
+    by_value (suc (suc zero)) h e = wide_words r s e ∙ ap (λ z. merged_whole r.d.value (wide_result r (size_of z) s) s) (sym e)
+    by_value (suc (suc (suc z))) h e = absurd (omega arith)
+
 -- CONSTANTS
-pub constant_is : (r : V15) (s : State) → row_whole (constant_row r) s ≡ merged_whole r.d.value (constant_result r s) s
+pub constant_is : (r : V15) (s : State) → row_by_words (constant_row r) s ≡ merged_whole r.d.value (constant_result r s) s
 constant_is r s = words_whole false r.d.value (λ b. []) (λ b slice. constant_new r b) s
 
 -- A CHOICE
@@ -179,7 +197,7 @@ one_of false a b h i = i
 chosen_back : (p q r t : Bool) (x y : ℕ) → (let l = merged (p ∷ q ∷ r ∷ t ∷ []) (bytes_of y) (bytes_of x) in bytes_of (word_of l) ≡ l)
 chosen_back p q r t x y = sym (bytes_of-word _ _ _ _ (one_of p _ _ (omega arith) (omega arith)) (one_of q _ _ (omega arith) (omega arith)) (one_of r _ _ (omega arith) (omega arith)) (one_of t _ _ (omega arith) (omega arith)))
 
-pub select_is : (r : Select) (s : State) → row_whole (select_row r) s ≡ merged_whole r.d.value (select_result r s) s
+pub select_is : (r : Select) (s : State) → row_by_words (select_row r) s ≡ merged_whole r.d.value (select_result r s) s
 select_is r s = words_whole true r.d.value (λ b. word_place r.n.value b ∷ word_place r.m.value b ∷ []) (λ b. select_new) s
     ∙ ap (λ u. merged_whole r.d.value u s) (λ j. word 0 j ++ word 1 j ++ word 2 j ++ word 3 j)
   where
@@ -219,7 +237,7 @@ module _ (r : Steps) (s : State) where
   abbrev advanced_after : State → State
   advanced_after x = retired (put_all cells (advance_half 0 s ++ advance_half 2 s) x)
 
-  by_words : row_whole steps s ≡ advanced_after (put_all cells (outs_at steps 0 s (steps.outs 0) ++ outs_at steps 1 s (steps.outs 1) ++ outs_at steps 2 s (steps.outs 2) ++ outs_at steps 3 s (steps.outs 3)) s)
+  by_words : row_by_words steps s ≡ advanced_after (put_all cells (outs_at steps 0 s (steps.outs 0) ++ outs_at steps 1 s (steps.outs 1) ++ outs_at steps 2 s (steps.outs 2) ++ outs_at steps 3 s (steps.outs 3)) s)
   by_words = λ j. retired (advances steps s (put_all cells (outs_at steps 0 s (steps.outs 0) ++ outs_at steps 1 s (steps.outs 1) ++ outs_at steps 2 s (steps.outs 2) ++ outs_at steps 3 s (steps.outs 3)) s) refl refl j)
 
   abbrev limit : Option ℕ
@@ -229,9 +247,18 @@ module _ (r : Steps) (s : State) where
       ≡ offsets_put limit (four (λ b. word_of (run_from r r.z limit (offset_after r limit (per_word r.z * b) base))))
   as_put = refl
 
-  pub offsets_is : row_whole steps s ≡ offsets_whole r s
+  pub offsets_is : row_by_words steps s ≡ advancing (offsets_writes r s) s
   offsets_is = by_words ∙ ap advanced_after as_put
       ∙ (λ j. advanced_after (offsets_put (round_is r.round s j) (four (λ b. word_of (run_from r r.z (round_is r.round s j) (offset_after r (round_is r.round s j) (per_word r.z * b) base))))))
-      ∙ ap (λ u. retired (put_all cells (write_register r.d.value (merged (predicate_at s) (register_at r.d.value s) u)
-      ++ (into (write (R (2 * r.n.value)) (offset_after r (round_at r.round s) (4 * per_word r.z) base)) ∷ advance_half 0 s ++ advance_half 2 s)) s))
+      ∙ ap (λ u. advanced_after (put_all cells (merges r.d.value u s ++ (into (write (R (2 * r.n.value)) (offset_after r (round_at r.round s) (4 * per_word r.z) base)) ∷ [])) s))
       (sym (offsets_words r r.z (round_at r.round s) base))
+      ∙ ap retired (put_all-append first second (put_all cells ws s) ∙ sym (put_all-append (ws ++ first) second s ∙ ap (put_all cells second) (put_all-append ws first s)))
+    where
+      ws : List (Cell × Value)
+      ws = offsets_writes r s
+
+      first : List (Cell × Value)
+      first = advance_half 0 s
+
+      second : List (Cell × Value)
+      second = advance_half 2 s

@@ -9,11 +9,11 @@ use Rattle.hm_lane.specs.Predicate.{active_bytes, allowed, remains}
 use Rattle.hm_state.specs.Store.{put, put_all}
 use Rattle.hm_state.specs.State.{At, Cell, State, Value, at, cells, same_cell, word}
 use Rattle.hm_beat.specs.Rows.{active_at, advance_half, predicate_at, retired, word_place}
-use Rattle.hm_kinds.specs.Row.{Row, ends_at, linked, row_whole}
+use Rattle.hm_kinds.specs.Row.{Row, ends_at, linked, row_by_words}
 use Rattle.hm_forms.specs.declared.sums.Sums.{Sums}
 use Rattle.hm_forms.specs.Forms.{added, sum_next, sum_row, term_of}
-use Rattle.hm_forms.specs.Registers.{four, sum_whole}
-use Rattle.hm_forms.proofs.Wholes.{advances}
+use Rattle.hm_forms.specs.Registers.{advancing, sum_writes}
+use Rattle.hm_forms.proofs.Lanewise.{advances, four}
 
 -- THE TERMS OF FOUR WORDS
 module _ (m : ℕ) (f : ℕ → ℕ → ℕ) where
@@ -162,7 +162,7 @@ module _ (r : Sums) (s : State) (runs : (ltb (at Ltp s) 4 ≡ false) ⊎ (eqb (2
   abbrev over : State → State → State → State → State
   over a b c d = retired (put_all cells (ends_at form_row 0 s ++ ends_at form_row 1 a ++ ends_at form_row 2 b ++ ends_at form_row 3 c) d)
 
-  pub sum_is : row_whole form_row s ≡ sum_whole r s
+  pub sum_is : row_by_words form_row s ≡ advancing (sum_writes r s) s
   sum_is = (λ j. over (after_0 j) (after_1 j) (after_2 j) (after_3 j))
       ∙ ap retired (advances form_row s (with_sum s3) refl refl)
       ∙ (λ j. retired (put_all cells (advance_half 0 s ++ advance_half 2 s) (put cells (At (R (2 * r.l.value))) (word (sym (fit_is s3) j)) s)))

@@ -1,5 +1,6 @@
 -- What forms make of P0, as truth values for the 16 bytes of a register.
-use Rattle.std.specs.Prelude.{ℕ, zero, suc, ◌*◌, ◌^◌, Bool, ltb, List, [], ◌∷◌, ◌++◌, map, Option}
+use Rattle.std.specs.Prelude.{ℕ, ◌+◌, ◌*◌, ◌^◌, Bool, not, cond, eqb, ltb, List, [], ◌∷◌, ◌++◌, drop, map, take, Option, Some, None}
+use Rattle.hm_base.specs.declared.Place.{Place}
 use Rattle.hm_base.specs.declared.Place.TheVariants.{R, P0}
 use Rattle.hm_regs.specs.Writes.{write}
 use Rattle.hm_isa.specs.declared.vectors.Tail.{Tail}
@@ -8,30 +9,30 @@ use Rattle.hm_lane.specs.Predicate.{mask_place}
 use Rattle.hm_state.specs.Store.{put_all}
 use Rattle.hm_state.specs.State.{Cell, State, Value, at, cells, into}
 use Rattle.hm_beat.specs.Rows.{predicate_at, retired}
-use Rattle.hm_kinds.specs.Row.{mask_writes, turned}
 use Rattle.hm_lane_fns.specs.Words.{both, filled, nibble, truths}
 use Rattle.hm_forms.specs.declared.compare.Comparison.{Comparison}
 use Rattle.hm_forms.specs.Forms.{compares, negated}
-use Rattle.hm_forms.specs.Registers.{elements}
-use Rattle.hm_forms.specs.Wholes.{operand_register}
+use Rattle.hm_forms.specs.Registers.{elements, operand_register}
 
--- word b gets a slice, which is inverted where the mask of its half is greater than 8; after each half its mask gets a new one, or shifts
-abbrev pub slice_ends : ℕ → ℕ → Option ℕ → State → List (Cell × Value)
-slice_ends b x mask s = into (write (P0 b) (turned (at (mask_place b) s) x)) ∷ map into (mask_writes b (at (mask_place b) s) mask)
+-- the truth values of a half, inverted where its mask is greater than 8
+abbrev pub turned_half : ℕ → List Bool → List Bool
+turned_half mask l = cond (ltb 8 mask) (negated l) l
 
--- P0 gets four slices
-abbrev pub slices_whole : ℕ → ℕ → ℕ → ℕ → Option ℕ → State → State
-slices_whole a b c d mask s = retired (put_all cells (slice_ends 0 a mask s ++ slice_ends 1 b mask s ++ slice_ends 2 c mask s ++ slice_ends 3 d mask s) s)
+-- a mask shifts, or gets a new one
+abbrev pub mask_after : Place → ℕ → Option ℕ → List (Cell × Value)
+mask_after p mask None = cond (not (eqb mask 0)) (into (write p (2 * mask)) ∷ []) []
+mask_after p mask (Some k) = into (write p k) ∷ []
 
--- of truth values the four of word b
-abbrev pub slice_of : List Bool → ℕ → ℕ
-slice_of (p ∷ q ∷ r ∷ t ∷ l) zero = nibble (p ∷ q ∷ r ∷ t ∷ [])
-slice_of (p ∷ q ∷ r ∷ t ∷ l) (suc b) = slice_of l b
-slice_of l b = 0
+-- the half whose first word is b gets eight truth values in P0, and then its mask
+abbrev pub half_writes : ℕ → List Bool → Option ℕ → State → List (Cell × Value)
+half_writes b l new s =
+    let mask = at (mask_place b) s in
+    let turned = turned_half mask l in
+    into (write (P0 b) (nibble turned)) ∷ into (write (P0 (b + 1)) (nibble (drop 4 turned))) ∷ mask_after (mask_place b) mask new
 
 -- P0 gets 16 truth values
 abbrev pub predicate_whole : List Bool → Option ℕ → State → State
-predicate_whole l = slices_whole (slice_of l 0) (slice_of l 1) (slice_of l 2) (slice_of l 3)
+predicate_whole l new s = retired (put_all cells (half_writes 0 (take 8 l) new s ++ half_writes 2 (drop 8 l) new s) s)
 
 -- where a comparison of elements holds, of active bytes
 abbrev pub compare_result : Comparison → State → List Bool

@@ -1,7 +1,6 @@
 -- What forms do to whole registers, as lists of elements in rising order.
-use Rattle.std.specs.Prelude.{ℕ, ◌+◌, ◌-◌, ◌*◌, ◌/◌, ◌%◌, ◌^◌, Bool, true, false, ◌&&◌, cond, List, [], ◌∷◌, ◌++◌, map, nat_eq, Option, Some, None}
+use Rattle.std.specs.Prelude.{ℕ, zero, suc, ◌+◌, ◌-◌, ◌*◌, ◌/◌, ◌%◌, ◌^◌, Bool, true, false, ◌&&◌, cond, List, [], ◌∷◌, ◌++◌, map, nat_eq, Option, Some, None}
 use Rattle.std.specs.List.{flat_map}
-use Rattle.hm_base.specs.declared.Place.{Place}
 use Rattle.hm_base.specs.declared.Place.TheVariants.{R, P0, Carry}
 use Rattle.hm_isa.specs.declared.vectors.V6.{V6}
 use Rattle.hm_isa.specs.declared.vectors.V8.{V8}
@@ -20,30 +19,32 @@ use Rattle.hm_lane.specs.declared.lanes.Size.TheVariants.{Byte, Half, Word}
 use Rattle.hm_lane.specs.Lanes.{bytes_of, firsts, lanes, merged, modulus, paired, per_word, spread, unlanes}
 use Rattle.hm_regs.specs.Writes.{write}
 use Rattle.hm_state.specs.Store.{flagged, put_all}
-use Rattle.hm_state.specs.State.{State, at, cells, into}
+use Rattle.hm_state.specs.State.{Cell, State, Value, at, cells, into}
 use Rattle.hm_beat.specs.Rows.{advance_half, predicate_at, register_at, retired, word_place, write_register}
-use Rattle.hm_kinds.specs.Row.{slice_at, values_at}
-use Rattle.hm_lane_fns.specs.LaneFns.{cut, number}
-use Rattle.hm_lane_fns.specs.Words.{any_both, size_of, truths}
+use Rattle.hm_lane_fns.specs.declared.words.Operand.{Operand}
+use Rattle.hm_lane_fns.specs.declared.words.Operand.TheVariants.{Vector, Scalar, Constant}
+use Rattle.hm_lane_fns.specs.LaneFns.{cut, lane_of, lane_saturates, number, saturates}
+use Rattle.hm_lane_fns.specs.Words.{any_both, lane_tests3, lanewise3, size_of, truths}
+use Rattle.hm_forms.specs.declared.lanes.Lanes.{Lanes}
 use Rattle.hm_forms.specs.declared.long_sums.LongSums.{LongSums}
 use Rattle.hm_forms.specs.declared.longer.Longer.{Longer}
 use Rattle.hm_forms.specs.declared.offsets.Steps.{Steps}
 use Rattle.hm_forms.specs.declared.sums.Sums.{Sums}
 use Rattle.hm_isa.specs.declared.fields.Below.{Below}
 use Rattle.hm_forms.specs.Constants.{constant_op, imm_word}
-use Rattle.hm_forms.specs.Forms.{added, begins, best, every_second, exchanged, in_turn, lengthened, long_term, narrow_outside, narrow_saturates, narrowed, offset_after, offsets_from, product, shift_of, subtracts, term_of, turned_lane, words_row}
+use Rattle.hm_forms.specs.Forms.{added, begins, best, every_second, exchanged, in_turn, lengthened, long_term, narrow_outside, narrow_saturates, narrowed, offset_after, offsets_from, product, shift_of, subtracts, term_of, turned_lane}
 
--- 16 bytes are merged into a register under the predicate, and the masks advance
-abbrev pub merged_whole : ℕ → List ℕ → State → State
-merged_whole d result s = retired (put_all cells (write_register d (merged (predicate_at s) (register_at d s) result) ++ advance_half 0 s ++ advance_half 2 s) s)
+-- registers get these values, the masks advance, and the next instruction stands behind it
+abbrev pub advancing : List (Cell × Value) → State → State
+advancing ws s = retired (put_all cells (ws ++ advance_half 0 s ++ advance_half 2 s) s)
 
--- the bytes of four words
-abbrev pub four : (ℕ → ℕ) → List ℕ
-four x = bytes_of (x 0) ++ bytes_of (x 1) ++ bytes_of (x 2) ++ bytes_of (x 3)
+-- the same where QC may be set
+abbrev pub saturating : Bool → List (Cell × Value) → State → State
+saturating marked ws s = retired (flagged marked (put_all cells (ws ++ advance_half 0 s ++ advance_half 2 s) s))
 
--- the four words of a row that merges a word on each beat
-abbrev pub words_result : Bool → ℕ → (ℕ → List Place) → (ℕ → ℕ → List ℕ → ℕ) → State → List ℕ
-words_result w d sources f s = let row = words_row w d sources f None in four (λ b. f b (slice_at row b s) (values_at row b s))
+-- a register merges 16 bytes under the predicate
+abbrev pub merges : ℕ → List ℕ → State → List (Cell × Value)
+merges d result s = write_register d (merged (predicate_at s) (register_at d s) result)
 
 -- the elements of a register
 abbrev pub elements : Size → ℕ → State → List ℕ
@@ -53,6 +54,32 @@ elements z q s = lanes z (register_at q s)
 abbrev pub words_at : ℕ → State → List ℕ
 words_at q s = at (word_place q 0) s ∷ at (word_place q 1) s ∷ at (word_place q 2) s ∷ at (word_place q 3) s ∷ []
 
+-- LANES
+-- a number in each lane of a register
+abbrev pub repeated : ℕ → ℕ → List ℕ
+repeated zero x = []
+repeated (suc n) x = x ∷ repeated n x
+
+abbrev pub in_each_lane : Size → ℕ → List ℕ
+in_each_lane z x = unlanes z (repeated (4 * per_word z) x)
+
+-- the second operand: a register, or a core register or a constant in each lane; number 15 stands for zero
+abbrev pub operand_register : Size → Operand → State → List ℕ
+operand_register z (Vector q) s = register_at q.value s
+operand_register z (Scalar m) s = in_each_lane z (cond (nat_eq m.value 15) 0 (at (R m.value) s))
+operand_register z (Constant k) s = in_each_lane z k
+
+abbrev pub lanes_result : Lanes → State → List ℕ
+lanes_result l s = lanewise3 l.z (lane_of l.f l.unsigned l.z) (register_at l.d.value s) (register_at l.n.value s) (operand_register l.z l.by s)
+
+abbrev pub lanes_saturated : Lanes → State → List Bool
+lanes_saturated l s = lane_tests3 l.z (lane_saturates l.f l.unsigned l.z) (register_at l.d.value s) (register_at l.n.value s) (operand_register l.z l.by s)
+
+-- the 16 bytes are merged, and QC is set where an active lane saturates
+abbrev pub lanes_whole : Lanes → State → State
+lanes_whole l s = saturating (saturates l.f && any_both (predicate_at s) (lanes_saturated l s)) (merges l.d.value (lanes_result l s) s) s
+
+-- CONSTANTS, CHOICES, NARROW ELEMENTS
 -- a constant of four words takes the register's place, or its bits are set or cleared there
 abbrev pub constant_result : V15 → State → List ℕ
 constant_result r s = unlanes Word (paired (constant_op r) (words_at r.d.value s) (map (imm_word r) (0 ∷ 1 ∷ 2 ∷ 3 ∷ [])))
@@ -93,9 +120,7 @@ narrow_saturated r s =
     cond (nat_eq r.z.value 1) (narrowed_tests r Word Half xs) (narrowed_tests r Half Byte (halves_of xs))
 
 abbrev pub narrow_whole : V16 → State → State
-narrow_whole r s =
-    retired (flagged (narrow_saturates r.name && any_both (predicate_at s) (narrow_saturated r s))
-    (put_all cells (write_register r.d.value (merged (predicate_at s) (register_at r.d.value s) (narrow_result r s)) ++ advance_half 0 s ++ advance_half 2 s) s))
+narrow_whole r s = saturating (narrow_saturates r.name && any_both (predicate_at s) (narrow_saturated r s)) (merges r.d.value (narrow_result r s) s) s
 
 -- A CARRY from word to word
 -- two words and a carry, which stands in bit 1 of the flags; the second word is inverted where it is to be taken away
@@ -115,13 +140,13 @@ abbrev pub flags_from : CarryName → List Bool → List ℕ → List ℕ → �
 flags_from name (p ∷ ps) (x ∷ xs) (y ∷ ys) flags = flags_from name ps xs ys (flags_after name p flags x y)
 flags_from name _ _ _ flags = flags
 
-abbrev pub carry_whole : V8 → State → State
-carry_whole r s =
+abbrev pub carry_writes : V8 → State → List (Cell × Value)
+carry_writes r s =
     let start = cond (begins r.name) (cond (subtracts r.name) 2 0) (at Carry s) in
     let active = firsts Word (predicate_at s) in
     let result = unlanes Word (sums_from r.name active (words_at r.n.value s) (words_at r.m.value s) start) in
     let flags = flags_from r.name active (words_at r.n.value s) (words_at r.m.value s) start in
-    retired (put_all cells (into (write Carry flags) ∷ write_register r.d.value (merged (predicate_at s) (register_at r.d.value s) result) ++ advance_half 0 s ++ advance_half 2 s) s)
+    into (write Carry flags) ∷ merges r.d.value result s
 
 -- BITS from word to word
 -- what an active word lets out, and what goes by another one
@@ -137,13 +162,13 @@ abbrev pub bits_from : ℕ → List Bool → List ℕ → ℕ → ℕ
 bits_from n (p ∷ ps) (c ∷ cs) m = bits_from n ps cs (bits_after n p m c)
 bits_from n _ _ m = m
 
-abbrev pub shift_whole : V17 → State → State
-shift_whole r s =
+abbrev pub shift_writes : V17 → State → List (Cell × Value)
+shift_writes r s =
     let place = R r.m.value in
     let active = firsts Word (predicate_at s) in
     let result = unlanes Word (shifted_from (shift_of r) active (words_at r.d.value s) (at place s)) in
     let bits = bits_from (shift_of r) active (words_at r.d.value s) (at place s) in
-    retired (put_all cells (into (write place bits) ∷ write_register r.d.value (merged (predicate_at s) (register_at r.d.value s) result) ++ advance_half 0 s ++ advance_half 2 s) s)
+    into (write place bits) ∷ merges r.d.value result s
 
 -- NEIGHBOURS
 -- to each element its neighbour is added, or it is taken away
@@ -159,20 +184,18 @@ lengthened_result r z wide s = unlanes wide (map (lengthened r z) (every_second 
 abbrev pub longer_result : Longer → State → List ℕ
 longer_result r s = cond r.halves (lengthened_result r Half Word s) (lengthened_result r Byte Half s)
 
--- the products of every second elements
-abbrev pub wide_result : V6 → Size → Size → State → List ℕ
-wide_result r z wide s =
-    let odd = nat_eq r.t.value 1 in
-    unlanes wide (paired (product r) (every_second odd (elements z r.n.value s)) (every_second odd (elements z r.m.value s)))
+abbrev pub products_of : V6 → List ℕ → List ℕ → List ℕ
+products_of r xs ys = let odd = nat_eq r.t.value 1 in paired (product r) (every_second odd xs) (every_second odd ys)
 
--- numbers of 64 bits as bytes, and those that are products of words
+-- numbers of 64 bits as bytes
 abbrev pub long_bytes : List ℕ → List ℕ
 long_bytes l = flat_map (λ (x : ℕ). bytes_of x ++ bytes_of (x / 2 ^ 32)) l
 
-abbrev pub wide_words_result : V6 → State → List ℕ
-wide_words_result r s =
-    let odd = nat_eq r.t.value 1 in
-    long_bytes (paired (product r) (every_second odd (words_at r.n.value s)) (every_second odd (words_at r.m.value s)))
+-- the products of every second elements of a size, each of twice that size
+abbrev pub wide_result : V6 → Size → State → List ℕ
+wide_result r Byte s = unlanes Half (products_of r (elements Byte r.n.value s) (elements Byte r.m.value s))
+wide_result r Half s = unlanes Word (products_of r (elements Half r.n.value s) (elements Half r.m.value s))
+wide_result r Word s = long_bytes (products_of r (words_at r.n.value s) (words_at r.m.value s))
 
 -- each two elements exchanged, each four, each eight in reverse
 abbrev pub fours : List ℕ → List ℕ
@@ -194,21 +217,21 @@ abbrev pub reversed_result : V14 → State → List ℕ
 reversed_result r s = let z = size_of r.z.value in unlanes z (in_groups r.name z (elements z r.m.value s))
 
 -- the elements of a register, or the products of those of two, are added to a register one after another
-abbrev pub sum_whole : Sums → State → State
-sum_whole r s =
+abbrev pub sum_writes : Sums → State → List (Cell × Value)
+sum_writes r s =
     let place = R (2 * r.l.value) in
     let start = cond r.goes_on (at place s) 0 in
     let sum = added (2 ^ 32) (term_of r) (firsts r.z (predicate_at s)) (elements r.z r.n.value s) (elements r.z r.m.value s) start in
-    retired (put_all cells (into (write place sum) ∷ advance_half 0 s ++ advance_half 2 s) s)
+    into (write place sum) ∷ []
 
 -- the same in two registers
-abbrev pub long_whole : LongSums → State → State
-long_whole r s =
+abbrev pub long_writes : LongSums → State → List (Cell × Value)
+long_writes r s =
     let low = R (2 * r.l.value) in
     let high = R (2 * r.h.value + 1) in
     let start = cond r.goes_on (at low s + 2 ^ 32 * at high s) 0 in
     let sum = added (2 ^ 64) (long_term r) (firsts r.z (predicate_at s)) (elements r.z r.n.value s) (elements r.z r.m.value s) start in
-    retired (put_all cells (into (write low (sum % 2 ^ 32)) ∷ into (write high (sum / 2 ^ 32)) ∷ advance_half 0 s ++ advance_half 2 s) s)
+    into (write low (sum % 2 ^ 32)) ∷ into (write high (sum / 2 ^ 32)) ∷ []
 
 -- where offsets go round
 abbrev pub round_at : Option (Below 6) → State → Option ℕ
@@ -216,19 +239,19 @@ round_at None s = None
 round_at (Some q) s = Some (at (R (2 * q.value + 1)) s)
 
 -- offsets from a register on, which gets the next one
-abbrev pub offsets_whole : Steps → State → State
-offsets_whole r s =
+abbrev pub offsets_writes : Steps → State → List (Cell × Value)
+offsets_writes r s =
     let place = R (2 * r.n.value) in
     let count = 4 * per_word r.z in
     let result = unlanes r.z (offsets_from r (round_at r.round s) count (at place s)) in
     let next = offset_after r (round_at r.round s) count (at place s) in
-    retired (put_all cells (write_register r.d.value (merged (predicate_at s) (register_at r.d.value s) result) ++ (into (write place next) ∷ advance_half 0 s ++ advance_half 2 s)) s)
+    merges r.d.value result s ++ (into (write place next) ∷ [])
 
 -- the best of a register's old value and of the elements of a vector register
-abbrev pub extreme_whole : V23 → State → State
-extreme_whole r s =
+abbrev pub extreme_writes : V23 → State → List (Cell × Value)
+extreme_writes r s =
     let z = size_of r.z.value in
     let u = nat_eq r.u.value 1 in
     let place = R r.t.value in
     let extreme = best r.name (firsts z (predicate_at s)) (map (number u z) (elements z r.m.value s)) (number u z (at place s % modulus z)) in
-    retired (put_all cells (into (write place (cut Word extreme)) ∷ advance_half 0 s ++ advance_half 2 s) s)
+    into (write place (cut Word extreme)) ∷ []

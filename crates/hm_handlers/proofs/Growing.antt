@@ -6,11 +6,11 @@ use Rattle.hm_base.specs.declared.Stop.{Stop}
 use Rattle.hm_isa.specs.declared.Instr.{Instr}
 use Rattle.hm_mem.specs.Devices.{IsLen, sets_pending, word_at}
 use Rattle.hm_mem.specs.Memory.{Around, thread_under}
-use Rattle.hm_mem.specs.Seen.{Seen, after_load, after_store, covers, fault_kind, is_allowed, is_denied, lies_in_sram, marks, some_byte, stop_after, stop_of}
+use Rattle.hm_mem.specs.Seen.{Seen, after_load, after_store, covers, fault_kind, is_allowed, is_denied, lies_in_sram, marks, or_else, some_byte, stop_after, stop_of, unless}
 use Rattle.hm_mem.specs.declared.Access.{Access}
 use Rattle.hm_order.proofs.Results.{decide, ok_err, ok_same, true_not_false}
 use Rattle.hm_state.specs.State.{State, Byte, regs_of}
-use Rattle.hm_thumb.specs.Does.{Does, Ends, Faults, Loads, Stores, Done, after_loads, after_stores, behind, first_stop, in_machine, or_else, run, unless, words}
+use Rattle.hm_thumb.specs.Does.{Does, Ends, Faults, Loads, Stores, Done, after_loads, after_stores, behind, first_stop, in_machine, run, words}
 use Rattle.hm_thumb.specs.Laws.{under_handler}
 use Rattle.hm_thumb.specs.Rows.{in_block, width}
 use Rattle.hm_thumb.specs.Steps.{Stepped, finish, step}

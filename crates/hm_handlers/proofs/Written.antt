@@ -23,7 +23,7 @@ use Rattle.hm_lane.specs.declared.lanes.Size.TheVariants as size
 use Rattle.hm_mem.specs.Devices.{IsLen}
 use Rattle.hm_order.proofs.Results.{decide, ok_err, ok_same, true_not_false}
 use Rattle.hm_regs.specs.Writes.{Write}
-use Rattle.hm_rows.proofs.Rows.{kind_laws}
+use Rattle.hm_rows.proofs.Rows.{kind_laws, row_laws}
 use Rattle.hm_rows.specs.Rows.{Kind, Registers, Moves as MovesKind, kind_of, tree_of, vector_tree}
 use Rattle.hm_run.specs.Program.{rows}
 use Rattle.hm_state.specs.State.{State, Cell, At, Byte, Value, cells, same_cell}
@@ -156,7 +156,7 @@ module _ (frame lo hi floor : ℕ) where
       checked cells (reach t s).checks s ≡ None → WritesAt (Allowed frame lo hi floor) (reach t s).writes
   kind_writes (Registers f) b s free =
       no_byte (Allowed frame lo hi floor) (reach (tree_of (Registers f) (under_handler frame lo hi floor) b) s).writes
-      ((kind_laws (Registers f)).taints (under_handler frame lo hi floor) b s) ((kind_laws (Registers f)).taints (thread_under lo hi floor) b s)
+      ((kind_laws (Registers f) tt).taints (under_handler frame lo hi floor) b s) ((kind_laws (Registers f) tt).taints (thread_under lo hi floor) b s)
   kind_writes (MovesKind t) b s free =
       let i = moves_by t in
       let x = under_handler frame lo hi floor in
@@ -198,7 +198,7 @@ four_clean : (lo hi floor : ℕ) (v : Vector) (b : ℕ) (s : State) → WritesTa
 four_clean lo hi floor v b s = one_of (nat_lt b 4)
   where
     one_of : (q : Bool) → WritesTaint false (reach (cond q (vector_tree v (thread_under lo hi floor) b) nothing) s).writes
-    one_of true = (kind_laws (kind_of v)).taints (thread_under lo hi floor) b s
+    one_of true = (row_laws v).taints (thread_under lo hi floor) b s
     one_of false = tt
 
 pub thread_beat : (lo hi floor : ℕ) (v : Vector) (b : ℕ) (s t : State) → ((rows (thread_under lo hi floor)).act v b).run s ≡ Ok t → Grows Nothing s t

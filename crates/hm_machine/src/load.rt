@@ -1,7 +1,7 @@
 //! Making a machine of an image.
 
 ghost use Rattle.std.specs.Prelude.{◌≡◌, ◌+◌, ◌≤◌, ◌%◌};
-ghost use Rattle.hm_base.specs.Image.{word_at};
+ghost use Rattle.hm_base.specs.Image.{flash_size, word_at};
 ghost use Rattle.hm_mem.specs.Memory.{memory_of, flash_at};
 
 use hm_base::OutOfMemory;
@@ -41,7 +41,7 @@ impl From<AllocError> for LoadErr {
 /// The little-endian word at an even address of flash.
 pub fn flash_word(mem: &Mem, addr: u32) -> u32
     requires even { addr % 2 ≡ 0 }
-    requires inside { addr + 4 ≤ 0x100000 }
+    requires inside { addr + 4 ≤ flash_size }
     ensures { result ≡ word_at (flash_at (memory_of mem.now)) addr }
 {
     match (mem.half(addr), mem.half(addr + 2)) {

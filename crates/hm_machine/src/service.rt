@@ -6,11 +6,11 @@ ghost use Rattle.hm_machine.specs.Cpus.{executed, state_in, IsServed};
 ghost use Rattle.hm_machine.specs.Services.{asked_by, asked_for, told, AreFree, IsThere};
 ghost use Rattle.hm_mem.specs.Devices.{has_width, read_devices, word_at};
 ghost use Rattle.hm_mem.specs.Memory.{memory_of};
-ghost use Rattle.hm_mem.specs.Seen.{read, seen, stop_of};
+ghost use Rattle.hm_mem.specs.Seen.{read, seen, stop_of, unless};
 ghost use Rattle.hm_mem.specs.declared.Access.TheVariants.{Scalar};
 ghost use Rattle.hm_run.specs.Program.{answered, broken_by, in_machine as stops_as, most_output};
 ghost use Rattle.hm_thumb.specs.Calls.{Writes, asked, most_text, text, writes};
-ghost use Rattle.hm_thumb.specs.Does.{in_machine, unless, words};
+ghost use Rattle.hm_thumb.specs.Does.{in_machine, words};
 
 use crate::cpu::Cpu;
 use hm_base::{Fault, FaultKind, Place, Stop};

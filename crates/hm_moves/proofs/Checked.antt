@@ -1,5 +1,5 @@
 -- The checks of the code are those of the tree.
-use Rattle.std.proofs.Common.{◌≡◌, ℕ, ◌+◌, ◌%◌, ◌^◌, ◌<◌, Bool, true, false, not, cond, ◌||◌, ◌&&◌, List, [], ◌∷◌, ◌++◌, Option, Some, None, Result, Ok, Err, refl, sym, ◌∙◌, ap, subst, arith}
+use Rattle.std.proofs.Common.{◌≡◌, ℕ, ◌+◌, Bool, true, false, not, cond, ◌||◌, ◌&&◌, List, [], ◌∷◌, ◌++◌, Option, Some, None, Result, Ok, Err, refl, sym, ◌∙◌, ap, subst, arith}
 use Rattle.hm_base.specs.declared.FaultKind.{FaultKind}
 use Rattle.hm_base.specs.declared.Stop.{Stop}
 use Rattle.hm_base.specs.declared.Stop.TheVariants as stop
@@ -10,13 +10,13 @@ use Rattle.hm_mem.specs.declared.Access.TheVariants.{Vector}
 use Rattle.hm_mem.specs.declared.Actor.{Actor}
 use Rattle.hm_mem.specs.declared.Actor.TheVariants.{Thread, Handler, Entry}
 use Rattle.hm_mem.specs.Memory.{Memory, tainted_at}
-use Rattle.hm_mem.specs.Seen.{fault_kind, is_denied, is_kept, is_thread, lies_in_memory, seen, some_byte, stop_after, stop_in, stop_of}
-use Rattle.hm_state.specs.State.{Byte, Cell, State, Value, cells, state_of}
+use Rattle.hm_mem.specs.Seen.{fault_kind, is_denied, is_kept, is_thread, lies_in_memory, or_else, seen, some_byte, stop_after, stop_in, stop_of}
+use Rattle.hm_state.specs.State.{Cell, State, Value, cells, state_of}
 use Rattle.hm_beat.specs.Trees.{Check, Leaf, checked, finish}
 use Rattle.hm_beat.specs.Touches.{span_bytes}
 use Rattle.hm_beat.specs.Laws.{Checks, run}
 use Rattle.hm_moves.specs.declared.elements.Element.{Element}
-use Rattle.hm_moves.specs.Coded.{first_stop, or_stop}
+use Rattle.hm_moves.specs.Coded.{first_stop}
 use Rattle.hm_moves.specs.Moves.{Moves, asks, checks_of, element_checks, elements_at, fails, is_closed, moves_tree, width}
 use Rattle.hm_moves.proofs.Accesses.{in_memory, within}
 use Rattle.hm_moves.proofs.Trees.{leaf_at, reach_moves}
@@ -67,32 +67,32 @@ module _ (m : Memory) (r : Regs) (output : List ℕ) (store : Bool) (z : Size) (
   abbrev rest : Option Stop
   rest = checked cells cs s
 
-  closed : (q : Option Stop) → checked cells ((fails q ++ []) ++ cs) s ≡ or_stop q rest
+  closed : (q : Option Stop) → checked cells ((fails q ++ []) ++ cs) s ≡ or_else q rest
   closed None = refl
   closed (Some e) = refl
 
-  tainted : (y : Bool) → cond y (Some (stop.Tainted a)) rest ≡ or_stop (stop_after None y false a) rest
+  tainted : (y : Bool) → cond y (Some (stop.Tainted a)) rest ≡ or_else (stop_after None y false a) rest
   tainted true = refl
   tainted false = refl
 
   by_actor : (o : Option FaultKind) (who : Actor) → (o ≡ None → lies_in_memory (width z) a ≡ true)
       → checked cells ((fails (stop_after o (is_closed who m.around store (width z) a) store a) ++ cond (is_thread who && not store) (asks a (span_bytes a (width z))) []) ++ cs) s
-      ≡ or_stop (stop_after o (is_kept who m.around store (width z) a (seen m)) store a) rest
+      ≡ or_else (stop_after o (is_kept who m.around store (width z) a (seen m)) store a) rest
   by_actor (Some k) who h = refl
   by_actor None Entry h = refl
   by_actor None (Handler f) h = closed (stop_after None (store && is_denied m.around f (width z) a) store a)
   by_actor None Thread h = by_store store
     where
       by_store : (y : Bool) → checked cells ((fails (stop_after None false y a) ++ cond (true && not y) (asks a (span_bytes a (width z))) []) ++ cs) s
-          ≡ or_stop (stop_after None (not y && lies_in_memory (width z) a && some_byte (width z) (tainted_at m) a) y a) rest
+          ≡ or_else (stop_after None (not y && lies_in_memory (width z) a && some_byte (width z) (tainted_at m) a) y a) rest
       by_store true = refl
       by_store false =
           checked_asks m r output a (span_bytes a (width z)) cs
           ∙ (λ j. cond (any_byte m z a (h refl) j) (Some (stop.Tainted a)) rest)
           ∙ tainted (some_byte (width z) (tainted_at m) a)
-          ∙ ap (λ y. or_stop (stop_after None (y && some_byte (width z) (tainted_at m) a) false a) rest) (sym (h refl))
+          ∙ ap (λ y. or_else (stop_after None (y && some_byte (width z) (tainted_at m) a) false a) rest) (sym (h refl))
 
-  pub element_checked : checked cells (element_checks m.around store (width z) a ++ cs) s ≡ or_stop (stop_of m.around Vector store (width z) a (seen m)) rest
+  pub element_checked : checked cells (element_checks m.around store (width z) a ++ cs) s ≡ or_else (stop_of m.around Vector store (width z) a (seen m)) rest
   element_checked = by_actor (fault_kind (is_thread m.around.actor) Vector store (width z) a) m.around.actor (λ e. (in_memory (is_thread m.around.actor) store (width z) a e).0)
 
 pub all_checked : (m : Memory) (r : Regs) (output : List ℕ) (store : Bool) (z : Size) (es : List Element)
@@ -100,7 +100,7 @@ pub all_checked : (m : Memory) (r : Regs) (output : List ℕ) (store : Bool) (z 
 all_checked m r output store z [] = refl
 all_checked m r output store z (e ∷ es) =
     element_checked m r output store z e.addr (checks_of m.around store (width z) es)
-    ∙ ap (or_stop (stop_of m.around Vector store (width z) e.addr (seen m))) (all_checked m r output store z es)
+    ∙ ap (or_else (stop_of m.around Vector store (width z) e.addr (seen m))) (all_checked m r output store z es)
 
 -- the run of a beat, by the stop of the code
 pub run_checked : (i : Moves) (b : ℕ) (m : Memory) (r : Regs) (output : List ℕ) (es : List Element) → es ≡ elements_at i b (state_of r m output)

@@ -89,7 +89,7 @@ module _ (m : Memory) (r : Regs) (output : List ℕ) where
 
   -- the elements that are loaded are those that the tree reads
   filled_read : (i : Moves) (k : ℕ) (es : List Element) (cs : List Cell) → first_stop m.around false (width i.memory) es (seen m) ≡ None
-      → filled i k es (numbers (map s.cell (map Byte (bytes_of i.memory es) ++ cs))) ≡ filled_in i k es (get_or (numbers (map s.cell cs)) k 0) (seen m)
+      → filled i k es (numbers (map s.cell (map Byte (bytes_of i.memory es) ++ cs))) ≡ filled_in i k es (get_or (numbers (map s.cell cs)) k 0 % 2 ^ 32) (seen m)
   filled_read i k [] cs free = refl
   filled_read i k (e ∷ es) cs free =
       let z = i.memory in
@@ -106,12 +106,12 @@ module _ (m : Memory) (r : Regs) (output : List ℕ) where
 
   -- how word number k begins
   begins : (i : Moves) (ws : List Place) (k : ℕ) → All IsPlace ws → Words ws → k < length ws
-      → get_or (numbers (map s.cell (map At (cond (not i.predicated) ws [])))) k 0 ≡ old_word i r (get_or ws k (R 0))
+      → get_or (numbers (map s.cell (map At (cond (not i.predicated) ws [])))) k 0 % 2 ^ 32 ≡ old_word i r (get_or ws k (R 0))
   begins i ws k placed are low = go i.predicated
     where
-      go : (y : Bool) → get_or (numbers (map s.cell (map At (cond (not y) ws [])))) k 0 ≡ cond y 0 (value_at (get_or ws k (R 0)) r)
+      go : (y : Bool) → get_or (numbers (map s.cell (map At (cond (not y) ws [])))) k 0 % 2 ^ 32 ≡ cond y 0 (value_at (get_or ws k (R 0)) r % 2 ^ 32)
       go true = refl
-      go false = ap (λ xs. get_or xs k 0) (words_hold ws placed are) ∙ get_or-map (λ p. value_at p r) ws k (R 0) 0 low
+      go false = ap (λ x. x % 2 ^ 32) (ap (λ xs. get_or xs k 0) (words_hold ws placed are) ∙ get_or-map (λ p. value_at p r) ws k (R 0) 0 low)
 
   -- words that are filled alike are written alike
   puts_words : (i : Moves) (j : ℕ) (es : List Element) (ws : List Place) (vs : List ℕ)
@@ -133,8 +133,8 @@ module _ (m : Memory) (r : Regs) (output : List ℕ) where
       puts_words i 0 es ws _ (λ k low. filled_read i (0 + k) es (map At (cond (not i.predicated) ws [])) free
       ∙ ap (λ o. filled_in i (0 + k) es o (seen m)) (shifted k low))
     where
-      shifted : (k : ℕ) → k < length ws → get_or (numbers (map s.cell (map At (cond (not i.predicated) ws [])))) (0 + k) 0 ≡ old_word i r (get_or ws k (R 0))
-      shifted k low = subst (λ (n : ℕ). get_or (numbers (map s.cell (map At (cond (not i.predicated) ws [])))) n 0 ≡ old_word i r (get_or ws k (R 0))) (omega arith) (begins i ws k placed are low)
+      shifted : (k : ℕ) → k < length ws → get_or (numbers (map s.cell (map At (cond (not i.predicated) ws [])))) (0 + k) 0 % 2 ^ 32 ≡ old_word i r (get_or ws k (R 0))
+      shifted k low = subst (λ (n : ℕ). get_or (numbers (map s.cell (map At (cond (not i.predicated) ws [])))) n 0 % 2 ^ 32 ≡ old_word i r (get_or ws k (R 0))) (omega arith) (begins i ws k placed are low)
 
   -- where the row loads, the words that the code fills are those that the beat fills
   pub loads_filled : (i : Moves) (b : ℕ) (es : List Element) (ws : List Place) → i.store ≡ false → es ≡ elements_at i b s → ws ≡ i.words b → All IsPlace ws → Words ws

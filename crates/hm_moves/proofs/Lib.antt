@@ -10,3 +10,15 @@ pub mod Checked
 pub mod Touched
 pub mod Done
 pub mod Filled
+pub mod OneWord
+pub mod FourWords
+pub mod OneRegister
+pub mod Slots
+pub mod Fields
+pub mod Laying
+pub mod InterleavedElements
+pub mod InterleavedLoads
+pub mod InterleavedParts
+pub mod InterleavedStores
+pub mod InterleavedWholes
+pub mod Transfers

@@ -6,11 +6,11 @@ use Rattle.hm_base.specs.declared.Span.{Span}
 use Rattle.hm_base.specs.declared.Stop.{Stop}
 use Rattle.hm_lane.specs.declared.lanes.Size.{Size}
 use Rattle.hm_mem.specs.declared.Access.TheVariants.{Vector}
-use Rattle.hm_mem.specs.Memory.{Around, Memory}
-use Rattle.hm_mem.specs.Seen.{IsSameElsewhere, Seen, read, stop_of}
+use Rattle.hm_mem.specs.Memory.{Around}
+use Rattle.hm_mem.specs.Seen.{Seen, or_else, read, stop_of}
 use Rattle.hm_beat.specs.Touches.{span_bytes, spanned}
 use Rattle.hm_moves.specs.declared.elements.Element.{Element}
-use Rattle.hm_moves.specs.Coded.{filled_in, first_stop, or_stop}
+use Rattle.hm_moves.specs.Coded.{filled_in, first_stop}
 use Rattle.hm_moves.specs.Moves.{Moves, bytes_of, laid, width}
 
 abbrev pub none : Element
@@ -22,20 +22,20 @@ drop_at d xs k h =
     drop-cons xs k d h ∙ ap (λ (j : ℕ). get_or xs k d ∷ drop j xs) one
 
 -- neither stops
-pub both_none : (o p : Option Stop) → or_stop o p ≡ None → (o ≡ None) × (p ≡ None)
+pub both_none : (o p : Option Stop) → or_else o p ≡ None → (o ≡ None) × (p ≡ None)
 both_none (Some e) p h = absurd (cc)
 both_none None p h = (refl, h)
 
 module _ (x : Around) (store : Bool) (len : ℕ) (es : List Element) (k : ℕ) (s : Seen) (low : k < length es) where
-  stop_step : first_stop x store len (drop k es) s ≡ or_stop (stop_of x Vector store len (get_or es k none).addr s) (first_stop x store len (drop (k + 1) es) s)
+  stop_step : first_stop x store len (drop k es) s ≡ or_else (stop_of x Vector store len (get_or es k none).addr s) (first_stop x store len (drop (k + 1) es) s)
   stop_step = ap (λ xs. first_stop x store len xs s) (drop_at none es k low)
 
   -- an element that does not stop, and one that does
   pub stop_next : stop_of x Vector store len (get_or es k none).addr s ≡ None → first_stop x store len (drop k es) s ≡ first_stop x store len (drop (k + 1) es) s
-  stop_next e = stop_step ∙ ap (λ o. or_stop o (first_stop x store len (drop (k + 1) es) s)) e
+  stop_next e = stop_step ∙ ap (λ o. or_else o (first_stop x store len (drop (k + 1) es) s)) e
 
   pub stop_here : (e : Stop) → stop_of x Vector store len (get_or es k none).addr s ≡ Some e → first_stop x store len (drop k es) s ≡ Some e
-  stop_here e h = stop_step ∙ ap (λ o. or_stop o (first_stop x store len (drop (k + 1) es) s)) h
+  stop_here e h = stop_step ∙ ap (λ o. or_else o (first_stop x store len (drop (k + 1) es) s)) h
 
   -- where none stops, this one does not, nor any behind it
   pub stop_none : first_stop x store len (drop k es) s ≡ None → (stop_of x Vector store len (get_or es k none).addr s ≡ None) × (first_stop x store len (drop (k + 1) es) s ≡ None)
@@ -66,6 +66,3 @@ pub fill_next : (i : Moves) (j : ℕ) (es : List Element) (k old x w v : ℕ) (s
     → x ≡ read (width i.memory) (get_or es k none).addr s → v ≡ laid i j (get_or es k none) x w → v ≡ filled_in i j (drop k es) old s
 fill_next i j es k old x w v s low hw hx hv =
     hv ∙ (λ t. laid i j (get_or es k none) (hx t) (hw t)) ∙ sym (ap (λ xs. filled_in i j xs old s) (drop_at none es k low))
-
-pub same_trans : (m n o : Memory) → IsSameElsewhere m n → IsSameElsewhere n o → IsSameElsewhere m o
-same_trans m n o h k = record { flash = k.flash ∙ h.flash; around = k.around ∙ h.around }

@@ -12,7 +12,7 @@ use Rattle.hm_lane.specs.Predicate.{active_bytes, advance_of, mask_place}
 use Rattle.hm_mem.specs.declared.Actor.TheVariants.{Thread}
 use Rattle.hm_mem.specs.Memory.{Around}
 use Rattle.hm_mem.specs.declared.Access.TheVariants.{Vector}
-use Rattle.hm_mem.specs.Seen.{fault_kind, marks}
+use Rattle.hm_mem.specs.Seen.{as_stops, fault_kind, marks, or_else, unless}
 use Rattle.hm_order.proofs.Results.{decide, ok_same, ok_err, true_not_false}
 use Rattle.hm_state.specs.Store.{put_all}
 use Rattle.hm_state.specs.State.{At, Byte, Cell, State, Value, at, cells, into, is_dead, same_cell}
@@ -20,14 +20,14 @@ use Rattle.hm_beat.specs.Trees.{Careful, FailsElse, Leaf, StopsAs, WritesLive, a
 use Rattle.hm_beat.specs.Rows.{Each, advance_half, retired}
 use Rattle.hm_beat.specs.Touches.{span_bytes}
 use Rattle.hm_beat.specs.Effects.{effect, effect_of, four_beats}
-use Rattle.hm_beat.specs.Laws.{NoTaint, KeepsLr, RowLaws, WritesTaint, stopped}
+use Rattle.hm_beat.specs.Laws.{NoTaint, KeepsLr, RowLaws, WritesTaint}
 use Rattle.hm_beat.proofs.Predicated.{IsStill, by_beats, held_of, holds-append}
 use Rattle.hm_beat.proofs.Whole.{advanced, and_false, flag_still, no_byte, put_all-append, size_still}
 use Rattle.hm_beat.proofs.Chained.{Apart, Off, off-append, put_other}
 use Rattle.hm_kinds.specs.Row.{is_body}
 use Rattle.hm_kinds.proofs.Row.{body_off, body_still, gathered, holds_written, pc-put_all}
 use Rattle.hm_moves.specs.declared.elements.Element.{Element}
-use Rattle.hm_moves.specs.Moves.{IsMoves, Moves, SparesLr, Unwritten, all_bytes_from, all_elements, active_ones, back_at, bytes_from, elements_at, every_byte, first_fault, handed, is_word, loaded_at, moved, moves_tree, moves_whole, or_else, fault_after, bytes_of, reads_of, sources_at, stored_at, unless, values_at, width, words_from}
+use Rattle.hm_moves.specs.Moves.{IsMoves, Moves, SparesLr, Unwritten, all_bytes_from, all_elements, active_ones, back_at, bytes_from, elements_at, every_byte, first_fault, handed, is_word, loaded_at, moved, moves_tree, moves_by_words, fault_after, bytes_of, reads_of, sources_at, stored_at, values_at, width, words_from}
 use Rattle.hm_moves.proofs.Trees.{begun_places, checked_clean, checks_fail, checks_stop, ends_at, fault_stop, leaf_asks, leaf_at, leaf_lives, leaf_read_asked, leaf_taints, others_of, reach_moves, tests_moves, written_leaf}
 use Rattle.hm_moves.proofs.Faulting.{effect_after, four_faulting, stop_first}
 
@@ -260,7 +260,7 @@ module _ (i : Moves) (is : IsMoves i) where
 
   -- THE SAME AT THE START
   -- u has what beat b looks at as s has it
-  record Same (b : ℕ) (s u : State) : Type 0 where
+  pub record Same (b : ℕ) (s u : State) : Type 0 where
     pub places : Each (λ (p : Place). u.cell (At p) ≡ s.cell (At p)) (i.sources b)
     pub mask : u.cell (At (mask_place b)) ≡ s.cell (At (mask_place b))
     pub size : u.cell (At Ltp) ≡ s.cell (At Ltp)
@@ -271,7 +271,7 @@ module _ (i : Moves) (is : IsMoves i) where
   same_sources s u [] h = refl
   same_sources s u (p ∷ ps) h = λ j. (h.0 j).n ∷ same_sources s u ps h.1 j
 
-  same_elements : (b : ℕ) (s u : State) → Same b s u → elements_at i b u ≡ elements_at i b s
+  pub same_elements : (b : ℕ) (s u : State) → Same b s u → elements_at i b u ≡ elements_at i b s
   same_elements b s u h = λ j.
       active_ones (cond i.predicated (active_bytes b (h.mask j).n (h.size j).n (h.left j).n (h.slice j).n) every_byte) (i.elements b (same_sources s u (i.sources b) h.places j))
 
@@ -303,7 +303,7 @@ module _ (i : Moves) (is : IsMoves i) where
       go y e = each (i.sources b) (is.unfilled b k low high)
 
   -- one beat more is handed on
-  same_next : (b k : ℕ) (s u : State) → k < b → b < 4 → Same b s u → Same b s (handed i k u)
+  pub same_next : (b k : ℕ) (s u : State) → k < b → b < 4 → Same b s u → Same b s (handed i k u)
   same_next b k s u low high h = record {
     places = places (i.sources b) (sources_filled b k low high u) h.places;
     mask = cell (mask_place b) (off_filled k u (mask_place b) (mask_no_word b)) ∙ h.mask;
@@ -320,7 +320,7 @@ module _ (i : Moves) (is : IsMoves i) where
       places [] off e = tt
       places (p ∷ ps) off e = (cell p off.0 ∙ e.0, places ps off.1 e.1)
 
-  same_start : (b : ℕ) (s : State) → Same b s s
+  pub same_start : (b : ℕ) (s : State) → Same b s s
   same_start b s = record { places = each (i.sources b); mask = refl; size = refl; left = refl; slice = refl }
     where
       each : (ps : List Place) → Each (λ (p : Place). s.cell (At p) ≡ s.cell (At p)) ps
@@ -353,9 +353,9 @@ first_fault-append store len (e ∷ es) fs r =
     or_first None g r = refl
     or_first (Some f) g r = refl
 
-stopped_unless : (o : Option Fault) (s : State) → stopped (unless o s) ≡ stop_first o (Ok s)
-stopped_unless None s = refl
-stopped_unless (Some f) s = refl
+stops_unless : (o : Option Fault) (s : State) → as_stops (unless o (Ok s)) ≡ stop_first o (Ok s)
+stops_unless None s = refl
+stops_unless (Some f) s = refl
 
 -- writes to bytes and writes to places
 bytes_apart : (ws : List (Cell × Value)) (t : Bool) (e : Element) (xs : List ℕ) (k : ℕ) (bs : List ℕ) → ((a : ℕ) → Off (Byte a) ws) → Apart ws (bytes_from t e xs k bs)
@@ -406,7 +406,7 @@ module _ (i : Moves) (is : IsMoves i) where
       ∙ put_all-append (N 0 ++ N 1 ++ N 2) (N 3) w ∙ ap (put_all cells (N 3)) (put_all-append (N 0 ++ N 1) (N 2) w ∙ ap (put_all cells (N 2)) (put_all-append (N 0) (N 1) w))
       ∙ advanced s w
 
-  pub four_moves : (x : Around) (s : State) → x.actor ≡ Thread → NoTaint s → four_beats cells (moves_tree i x) (λ u. Ok (retired u)) s ≡ stopped (moves_whole i s)
+  pub four_moves : (x : Around) (s : State) → x.actor ≡ Thread → NoTaint s → four_beats cells (moves_tree i x) (λ u. Ok (retired u)) s ≡ as_stops (moves_by_words i s)
   four_moves x s thread clean =
       let s1 = handed i 0 s in
       let s2 = handed i 1 s1 in
@@ -427,7 +427,7 @@ module _ (i : Moves) (is : IsMoves i) where
       (stop_first (first_fault i.store len (same_elements i is 3 s s3 same3 j))
       (Ok (retired (put_all cells (others_of i false 0 s ++ same_others i is 1 s s1 keeps1 one j ++ same_others i is 2 s s2 keeps2 two j ++ same_others i is 3 s s3 keeps3 same3 j) (handed i 3 s3))))))))
       ∙ ap (λ (u : State). stop_first (fault_at i 0 s) (stop_first (fault_at i 1 s) (stop_first (fault_at i 2 s) (stop_first (fault_at i 3 s) (Ok (retired u)))))) (in_order s (handed i 3 s3))
-      ∙ sym (stopped_unless (first_fault i.store len (all_elements i s)) (moved i s)
+      ∙ sym (stops_unless (first_fault i.store len (all_elements i s)) (moved i s)
       ∙ first_fault-append i.store len (elements_at i 0 s ++ elements_at i 1 s ++ elements_at i 2 s) (elements_at i 3 s) end
       ∙ first_fault-append i.store len (elements_at i 0 s ++ elements_at i 1 s) (elements_at i 2 s) (stop_first (fault_at i 3 s) end)
       ∙ first_fault-append i.store len (elements_at i 0 s) (elements_at i 1 s) (stop_first (fault_at i 2 s) (stop_first (fault_at i 3 s) end)))
@@ -490,13 +490,13 @@ module _ (i : Moves) (is : IsMoves i) where
   moves_asks x b s c h = ap (λ (l : Leaf Cell Value Stop). holds cells l.reads c) (reach_moves i x b s)
       ∙ leaf_asks i x b s c (sym (ap (λ (l : Leaf Cell Value Stop). holds cells (asked l.checks) c) (reach_moves i x b s)) ∙ h)
 
-  moves_next : (s t : State) → moves_whole i s ≡ Ok t → t.pc ≡ s.pc + 4
+  moves_next : (s t : State) → moves_by_words i s ≡ Ok t → t.pc ≡ s.pc + 4
   moves_next s t e = go (first_fault i.store (width i.memory) (all_elements i s)) e
     where
       pc_handed : (b : ℕ) (u : State) → (handed i b u).pc ≡ u.pc
       pc_handed b u = pc-put_all (loaded_at i b u) u
 
-      go : (o : Option Fault) → unless o (moved i s) ≡ Ok t → t.pc ≡ s.pc + 4
+      go : (o : Option Fault) → unless o (Ok (moved i s)) ≡ Ok t → t.pc ≡ s.pc + 4
       go (Some f) h = absurd (ok_err (sym h))
       go None h =
           let s1 = handed i 0 s in
@@ -506,7 +506,7 @@ module _ (i : Moves) (is : IsMoves i) where
           ∙ ap (λ n. n + 4) (pc-put_all (advance_half 0 s ++ advance_half 2 s) _ ∙ pc-put_all (back_at i 0 s ++ back_at i 1 s ++ back_at i 2 s ++ back_at i 3 s) _
           ∙ pc-put_all (stored_at i false 0 s ++ stored_at i false 1 s ++ stored_at i false 2 s ++ stored_at i false 3 s) _ ∙ pc_handed 3 s3 ∙ pc_handed 2 s2 ∙ pc_handed 1 s1 ∙ pc_handed 0 s)
 
-  pub moves_laws : RowLaws (moves_tree i) (moves_whole i)
+  pub moves_laws : RowLaws (moves_tree i) (moves_by_words i)
   moves_laws = record {
     later = λ x b k s low high runs c h. moves_later x b k s low high c h;
     asks = λ x b s c h. moves_asks x b s c h;

@@ -1,5 +1,5 @@
 -- What the rows that load or store owe.
-use Rattle.std.proofs.Common.{◌≡◌, ℕ, zero, suc, ◌+◌, ◌*◌, ◌/◌, ◌%◌, ◌<◌, Bool, true, false, ◌&&◌, cond, eqb, ltb, List, [], ◌∷◌, refl, ◌∙◌, arith, ne_eqb}
+use Rattle.std.proofs.Common.{◌≡◌, ℕ, zero, suc, ◌+◌, ◌*◌, ◌/◌, ◌%◌, ◌<◌, Bool, true, false, ◌&&◌, cond, eqb, ltb, List, [], ◌∷◌, refl, arith, ne_eqb}
 use Rattle.hm_base.specs.Place.{same_place}
 use Rattle.hm_base.specs.declared.Place.{Place}
 use Rattle.hm_base.specs.declared.Place.TheVariants.{R}

@@ -15,7 +15,7 @@ use Rattle.hm_mem.specs.declared.Access.TheVariants.{Vector}
 use Rattle.hm_mem.specs.declared.Actor.TheVariants.{Thread}
 use Rattle.hm_mem.specs.Devices.{byte_of}
 use Rattle.hm_mem.specs.Memory.{Around}
-use Rattle.hm_mem.specs.Seen.{fault_kind, is_thread, marks, stop_after}
+use Rattle.hm_mem.specs.Seen.{fault_kind, is_thread, marks, or_else, stop_after}
 use Rattle.hm_order.proofs.Results.{true_not_false}
 use Rattle.hm_state.specs.State.{At, Byte, Cell, State, Value, at, cells, into}
 use Rattle.hm_beat.specs.Trees.{Asks, Check, Do, Fails, Leaf, FailsElse, StopsAs, WritesLive, asked, checked, holds, reach, tests, written}
@@ -28,8 +28,7 @@ use Rattle.hm_beat.proofs.Whole.{advance_taints, no_byte}
 use Rattle.hm_beat.proofs.Footprint.{no_tests}
 use Rattle.hm_kinds.specs.Row.{numbers}
 use Rattle.hm_moves.specs.declared.elements.Element.{Element}
-use Rattle.hm_moves.specs.Coded.{or_stop}
-use Rattle.hm_moves.specs.Moves.{Moves, all_bytes_from, asks, back_at, begun, bytes_from, bytes_of, checks_of, element_checks, elements_at, active_ones, every_byte, fails, fault_after, fill, filled, first_fault, is_closed, loaded_at, moved_by, moves_leaf, moves_tree, or_else, reads_of, sources_at, store_all, store_bytes, stored_at, sure_stop, test_all, width, words_from}
+use Rattle.hm_moves.specs.Moves.{Moves, all_bytes_from, asks, back_at, begun, bytes_from, bytes_of, checks_of, element_checks, elements_at, active_ones, every_byte, fails, fault_after, fill, filled, first_fault, is_closed, loaded_at, moved_by, moves_leaf, moves_tree, reads_of, sources_at, store_all, store_bytes, stored_at, sure_stop, test_all, width, words_from}
 
 -- TESTS
 reach_all : (ps : List Place) (k : List ℕ → Tree) (s : State) → reach (test_all ps k) s ≡ reach (k (map (λ p. at p s) ps)) s
@@ -198,7 +197,7 @@ sure_thread x store len a thread = (λ j. stop_after (fault_kind (is_thread (thr
     go None = refl
     go (Some k) = refl
 
-pub checked_fails : (o : Option Stop) (cs : List (Check Cell Stop)) (s : State) → checked cells (fails o ++ cs) s ≡ or_stop o (checked cells cs s)
+pub checked_fails : (o : Option Stop) (cs : List (Check Cell Stop)) (s : State) → checked cells (fails o ++ cs) s ≡ or_else o (checked cells cs s)
 checked_fails None cs s = refl
 checked_fails (Some e) cs s = refl
 
@@ -210,7 +209,7 @@ checked_where : (y : Bool) (a : ℕ) (bs : List ℕ) (cs : List (Check Cell Stop
 checked_where true a bs cs s clean = checked_asks a bs cs s clean
 checked_where false a bs cs s clean = refl
 
-or_faults : (f g : Option Fault) → or_stop (fault_stop f) (fault_stop g) ≡ fault_stop (or_else f g)
+or_faults : (f g : Option Fault) → or_else (fault_stop f) (fault_stop g) ≡ fault_stop (or_else f g)
 or_faults None g = refl
 or_faults (Some f) g = refl
 
@@ -223,7 +222,7 @@ checked_clean x store len (e ∷ es) s thread clean =
     let cs = checks_of x store len es in
     ap (λ ks. checked cells ks s) (append_assoc (fails o) (cond y (asks e.addr bs) []) cs)
     ∙ checked_fails o (cond y (asks e.addr bs) [] ++ cs) s
-    ∙ (λ j. or_stop (sure_thread x store len e.addr thread j) ((checked_where y e.addr bs cs s clean ∙ checked_clean x store len es s thread clean) j))
+    ∙ (λ j. or_else (sure_thread x store len e.addr thread j) ((checked_where y e.addr bs cs s clean ∙ checked_clean x store len es s thread clean) j))
     ∙ or_faults (fault_after (fault_kind true Vector store len e.addr) e.addr) (first_fault store len es)
 
 stops-append : (cs ds : List (Check Cell Stop)) → StopsAs is_tainted cs → StopsAs is_tainted ds → StopsAs is_tainted (cs ++ ds)

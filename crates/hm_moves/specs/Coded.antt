@@ -1,5 +1,5 @@
 -- What the code of a row that loads or stores says of itself.
-use Rattle.std.specs.Prelude.{ℕ, ◌≡◌, ◌+◌, ◌≤◌, Bool, true, false, cond, ltb, List, [], ◌∷◌, ◌++◌, Option, Some, None, All}
+use Rattle.std.specs.Prelude.{ℕ, ◌+◌, ◌%◌, ◌^◌, ◌≤◌, Bool, true, false, cond, ltb, List, [], ◌∷◌, Option, None, All}
 use Rattle.hm_base.specs.declared.Place.{Place}
 use Rattle.hm_base.specs.declared.Stop.{Stop}
 use Rattle.hm_base.specs.declared.Place.TheVariants.{P0}
@@ -9,7 +9,7 @@ use Rattle.hm_regs.specs.Writes.{Write, write}
 use Rattle.hm_lane.specs.declared.lanes.Size.{Size}
 use Rattle.hm_mem.specs.declared.Access.TheVariants.{Vector}
 use Rattle.hm_mem.specs.Memory.{Around}
-use Rattle.hm_mem.specs.Seen.{Seen, read, stop_of}
+use Rattle.hm_mem.specs.Seen.{Seen, or_else, read, stop_of}
 use Rattle.hm_state.specs.State.{State}
 use Rattle.hm_lane.specs.Predicate.{mask_of, mask_place}
 use Rattle.hm_beat.specs.Touches.{looked_places}
@@ -18,14 +18,10 @@ use Rattle.hm_kinds.specs.declared.rows.Written.{Written}
 use Rattle.hm_moves.specs.declared.elements.Element.{Element}
 use Rattle.hm_moves.specs.Moves.{Moves, every_byte, laid, width}
 
-abbrev pub or_stop : Option Stop → Option Stop → Option Stop
-or_stop None o = o
-or_stop (Some e) o = Some e
-
 -- the stop of the first element that has one
 abbrev pub first_stop : Around → Bool → ℕ → List Element → Seen → Option Stop
 first_stop x store len [] s = None
-first_stop x store len (e ∷ es) s = or_stop (stop_of x Vector store len e.addr s) (first_stop x store len es s)
+first_stop x store len (e ∷ es) s = or_else (stop_of x Vector store len e.addr s) (first_stop x store len es s)
 
 -- each element lies in its word
 abbrev pub Fit : Size → List Element → Type 0
@@ -47,7 +43,7 @@ active_of i b s = cond i.predicated (active_at b s) every_byte
 
 -- how a word begins to be filled, as the registers stand
 abbrev pub old_word : Moves → Regs → Place → ℕ
-old_word i r p = cond i.predicated 0 (value_at p r)
+old_word i r p = cond i.predicated 0 (value_at p r % 2 ^ 32)
 
 -- the places that say which elements are active and how the masks advance, as the registers stand
 abbrev pub begun_in : Bool → ℕ → Regs → List Place

@@ -1,5 +1,5 @@
 -- Rows that load or store elements of vector registers: one form for all of them.
-use Rattle.std.specs.Prelude.{ℕ, zero, suc, ◌≡◌, ◌+◌, ◌-◌, ◌*◌, ◌%◌, ◌^◌, ◌<◌, Bool, true, false, not, ◌&&◌, ◌||◌, cond, eqb, leb, ltb, List, [], ◌∷◌, ◌++◌, map, drop, get_or, Option, Some, None, Result, Ok, Err}
+use Rattle.std.specs.Prelude.{ℕ, zero, suc, ◌≡◌, ◌+◌, ◌-◌, ◌*◌, ◌%◌, ◌^◌, ◌<◌, Bool, true, false, not, ◌&&◌, ◌||◌, cond, eqb, leb, ltb, List, [], ◌∷◌, ◌++◌, map, drop, get_or, Option, Some, None, Result, Ok}
 use Rattle.hm_base.specs.Bits.{put_field}
 use Rattle.hm_base.specs.Place.{fit, same_place}
 use Rattle.hm_base.specs.declared.Fault.{Fault}
@@ -17,7 +17,7 @@ use Rattle.hm_mem.specs.declared.Actor.{Actor}
 use Rattle.hm_mem.specs.declared.Actor.TheVariants.{Handler}
 use Rattle.hm_mem.specs.Devices.{byte_of}
 use Rattle.hm_mem.specs.Memory.{Around}
-use Rattle.hm_mem.specs.Seen.{fault_kind, is_denied, is_thread, marks, stop_after}
+use Rattle.hm_mem.specs.Seen.{fault_kind, is_denied, is_thread, marks, or_else, stop_after, unless}
 use Rattle.hm_state.specs.Store.{put_all}
 use Rattle.hm_state.specs.State.{At, Byte, Cell, State, Value, at, cells, into, word}
 use Rattle.hm_beat.specs.Trees.{Asks, Check, Do, Fails, Leaf}
@@ -103,9 +103,9 @@ extended i x = let n = 8 * width i.memory in cond (i.signed && leb (2 ^ (n - 1))
 abbrev pub laid : Moves → ℕ → Element → ℕ → ℕ → ℕ
 laid i j e x w = cond (eqb e.word j) (put_field (8 * e.lane) (8 * width i.register) (extended i x) w) w
 
--- word j with the elements that are loaded, by their bytes and then the old words; a word that was not read begins as zero
+-- word j with the elements that are loaded, by their bytes and then the old words of 32 bits; a word that was not read begins as zero
 abbrev pub filled : Moves → ℕ → List Element → List ℕ → ℕ
-filled i j [] xs = get_or xs j 0
+filled i j [] xs = get_or xs j 0 % 2 ^ 32
 filled i j (e ∷ es) xs = laid i j e (number (width i.memory) xs) (filled i j es (drop (width i.memory) xs))
 
 -- words from number j on are filled
@@ -198,24 +198,16 @@ stored_at i tainted b s = cond i.store (all_bytes_from tainted i.memory (element
 abbrev pub back_at : Moves → ℕ → State → List (Cell × Value)
 back_at i b s = map into (i.back b (sources_at i b s))
 
--- THE WHOLE
+-- FOUR BEATS
 -- the fault of an access of the thread
 abbrev pub fault_after : Option FaultKind → ℕ → Option Fault
 fault_after None a = None
 fault_after (Some k) a = Some (record { kind = k; addr = a })
 
-abbrev pub or_else : Option Fault → Option Fault → Option Fault
-or_else None o = o
-or_else (Some f) o = Some f
-
 -- the fault of the first element that has one
 abbrev pub first_fault : Bool → ℕ → List Element → Option Fault
 first_fault store len [] = None
 first_fault store len (e ∷ es) = or_else (fault_after (fault_kind true Vector store len e.addr) e.addr) (first_fault store len es)
-
-abbrev pub unless : {A : Type 0} → Option Fault → A → Result A Fault
-unless None x = Ok x
-unless (Some f) x = Err f
 
 -- a state with the words of beat b filled
 abbrev pub handed : Moves → ℕ → State → State
@@ -235,9 +227,9 @@ moved i s =
 abbrev pub all_elements : Moves → State → List Element
 all_elements i s = elements_at i 0 s ++ elements_at i 1 s ++ elements_at i 2 s ++ elements_at i 3 s
 
--- the whole instruction: the first active element that has a fault gives it, and else all are moved
-abbrev pub moves_whole : Moves → State → Result State Fault
-moves_whole i s = unless (first_fault i.store (width i.memory) (all_elements i s)) (moved i s)
+-- what four beats come to: the first active element that has a fault gives it, and else all are moved
+abbrev pub moves_by_words : Moves → State → Result State Fault
+moves_by_words i s = unless (first_fault i.store (width i.memory) (all_elements i s)) (Ok (moved i s))
 
 -- WHAT A ROW OWES
 abbrev pub is_word : Place → Bool

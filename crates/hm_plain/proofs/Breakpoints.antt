@@ -16,7 +16,8 @@ use Rattle.hm_run.specs.Stops.{WholeStop, at_break}
 use Rattle.hm_state.specs.State.{State, regs_of}
 use Rattle.hm_thumb.specs.Calls.{Asked, Writes, Exits, asked}
 use Rattle.hm_thumb.specs.Does as runner
-use Rattle.hm_thumb.specs.Laws.{ReadsAlike, in_machine_too}
+use Rattle.hm_mem.specs.Seen.{as_stops}
+use Rattle.hm_thumb.specs.Laws.{ReadsAlike}
 use Rattle.hm_thumb.specs.Steps.{settled}
 use Rattle.hm_thumb.specs.declared.Way.TheVariants as way
 use Rattle.hm_thumb.proofs.Texts.{asked-live, asked-same}
@@ -116,7 +117,7 @@ pub break_same : (f : ℕ → Result State Cause) (g : ℕ → Result State Whol
 break_same f g (Some k) r q h l = h k
 break_same f g None r q h l = l
 
-served_same : (s : State) (q : Result Asked Fault) → then (caused (in_machine_too q)) (λ x. in_machine (answered s x)) ≡ in_machine (then (or_fault q) (answered s))
+served_same : (s : State) (q : Result Asked Fault) → then (caused (as_stops q)) (λ x. in_machine (answered s x)) ≡ in_machine (then (or_fault q) (answered s))
 served_same s (Ok x) = refl
 served_same s (Err f) = refl
 

@@ -21,7 +21,7 @@ use Rattle.hm_state.specs.State.{State, At, Byte, Cell, Value, Rest, at, cells, 
 use Rattle.hm_state.proofs.Cells.{cell_laws}
 use Rattle.hm_base.specs.Stops.{is_tainted}
 use Rattle.hm_beat.specs.Laws as cell
-use Rattle.hm_beat.specs.Laws.{stopped}
+use Rattle.hm_mem.specs.Seen.{as_stops}
 use Rattle.hm_beat.specs.Ordered.{nothing, of_four, ordered}
 use Rattle.hm_beat.specs.Rows.{Tree, retired}
 use Rattle.hm_beat.specs.Trees.{action, view as cell_view}
@@ -263,7 +263,7 @@ module _ (x : Around) (thread : x.actor ≡ Thread) where
     later = λ v k m s t ready e low. touch_lifted (of_four (vector_tree v x) m) s t
         (over_cells.later v k m s t (may_loop v s ready) (caused_ok ((action cells (of_four (vector_tree v x) k)).run s) t e) low);
     live = λ v k s t ready h. ⊎_elim
-        (λ stopped. inl (stops_caused ((action cells (of_four (vector_tree v x) k)).run s) stopped))
+        (λ stops. inl (stops_caused ((action cells (of_four (vector_tree v x) k)).run s) stops))
         (λ same. inr (beat_lifted (of_four (vector_tree v x) k) s t same))
         (over_cells.live v k s t (may_loop v s ready) (λ c uses alive. ap (value_in (s.cell c)) (h (In c) uses alive)));
     ready_live = ready_live;
@@ -347,7 +347,7 @@ module _ (x : Around) (thread : x.actor ≡ Thread) where
   same_over : (s : State) → Same view s (retired s)
   same_over s = record { cells = λ w. elim w as (λ w. held s w ≡ held (retired s) w) [ In c ↦ refl | Beside ↦ refl ]; sticky = refl }
 
-  four_same : (r : Result State Stop) (q : Result State Fault) → then r retire ≡ stopped q → AlikeAs cause_of (Same view) (caused r) (or_fault q)
+  four_same : (r : Result State Stop) (q : Result State Fault) → then r retire ≡ as_stops q → AlikeAs cause_of (Same view) (caused r) (or_fault q)
   four_same (Ok s) (Ok t) e = subst (λ (u : State). Same view s u) (ok_same e) (same_over s)
   four_same (Ok s) (Err f) e = absurd (ok_err e)
   four_same (Err w) (Ok t) e = absurd (ok_err (sym e))

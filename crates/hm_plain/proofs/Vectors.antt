@@ -14,7 +14,8 @@ use Rattle.hm_state.specs.State.{State, Value, at, cells}
 use Rattle.hm_state.proofs.Cells.{cell_laws}
 use Rattle.hm_beat.specs.Trees.{action, checked, reach}
 use Rattle.hm_beat.specs.Rows.{Tree, retired}
-use Rattle.hm_beat.specs.Laws.{NoTaint, stopped}
+use Rattle.hm_mem.specs.Seen.{as_stops}
+use Rattle.hm_beat.specs.Laws.{NoTaint}
 use Rattle.hm_beat.specs.Ordered.{ordered}
 use Rattle.hm_beat.proofs.NoTaint.{beats_clean}
 use Rattle.hm_beat.proofs.Ordered.{whole_ordered}
@@ -104,13 +105,13 @@ begun_of v s t e =
 
 module _ (x : Around) (thread : x.actor ≡ Thread) where
   -- the whole of a row is its four beats
-  pub four_are : (v : Vector) (s : State) → s.rest.fpca ≡ true → refuse v s ≡ None → NoTaint s → then (row_beats x v 0 4 s) retire ≡ stopped (vector_whole v s)
+  pub four_are : (v : Vector) (s : State) → s.rest.fpca ≡ true → refuse v s ≡ None → NoTaint s → then (row_beats x v 0 4 s) retire ≡ as_stops (vector_whole v s)
   four_are v s there free clean = whole_ordered Vector vector_tree vector_whole row_laws writes_lr x thread v s (may_run v x s there free) clean
 
   -- it leaves no cell tainted
   whole_clean : (v : Vector) (s t : State) → s.rest.fpca ≡ true → refuse v s ≡ None → NoTaint s → vector_whole v s ≡ Ok t → NoTaint t
   whole_clean v s t there free clean e =
-      let four = then_ok (row_beats x v 0 4 s) retire t (four_are v s there free clean ∙ ap stopped e) in
+      let four = then_ok (row_beats x v 0 4 s) retire t (four_are v s there free clean ∙ ap as_stops e) in
       subst NoTaint (ok_same four.2) (beats_clean Vector vector_tree vector_whole row_laws writes_lr x thread v 4 0 s four.0 clean four.1)
 
   -- the row with its context

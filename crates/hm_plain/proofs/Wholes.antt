@@ -12,7 +12,7 @@ use Rattle.hm_order.specs.Beats.{then}
 use Rattle.hm_order.specs.Machine.{Config, Stopped, begun, done, settle}
 use Rattle.hm_state.specs.State.{State, At, Byte, cells}
 use Rattle.hm_beat.specs.Trees.{action}
-use Rattle.hm_beat.specs.Laws.{NoTaint, stopped}
+use Rattle.hm_beat.specs.Laws.{NoTaint}
 use Rattle.hm_beat.specs.Ordered.{of_four}
 use Rattle.hm_rows.specs.Context.{with_context}
 use Rattle.hm_rows.specs.Rows.{refuse, vector_tree, vector_whole}
@@ -24,7 +24,8 @@ use Rattle.hm_run.specs.Stops.{WholeStop, break_of}
 use Rattle.hm_run.proofs.Steps.{older_other, older_vector, past}
 use Rattle.hm_sched.specs.Schedule.{whole_letter}
 use Rattle.hm_whole.specs.Watched as watched
-use Rattle.hm_whole.specs.Watched.{GoesClean, In, Beside, stops_too}
+use Rattle.hm_mem.specs.Seen.{as_stops}
+use Rattle.hm_whole.specs.Watched.{GoesClean, In, Beside}
 use Rattle.hm_whole.specs.Whole.{Went, scalar_alone}
 use Rattle.hm_whole.proofs.Agreement.{whole-clean, whole-same}
 use Rattle.hm_plain.proofs.Breakpoints.{Leaves, break_leaves, break_same, broken_leaves, broken_same}
@@ -59,7 +60,7 @@ module _ (around : Around) (thread : around.actor ≡ Thread) where
   leaves (Err f) s h = tt
 
 -- WITHOUT TAINT an instruction that is no vector row comes in the machine to what it comes to alone
-done_same : (q : Result Went Fault) → done_in_machine (stops_too q) ≡ in_machine (done_alone q)
+done_same : (q : Result Went Fault) → done_in_machine (as_stops q) ≡ in_machine (done_alone q)
 done_same (Ok x) = refl
 done_same (Err f) = refl
 
@@ -89,7 +90,7 @@ abbrev BeatsCome : ℕ → Result State Stop → Stepped → Type 0
 BeatsCome n (Ok t) r = (j : ℕ) × (r ≡ Ok (between (suc n) j t))
 BeatsCome n (Err e) r = (d : Config State) × (d.n ≡ n) × (r ≡ Err (Stopped d (cause.Stop e)))
 
-whole_comes : (n : ℕ) (q : Result State Fault) (r : Stepped) → BeatsCome n (stopped q) r → Comes n (or_fault q) r
+whole_comes : (n : ℕ) (q : Result State Fault) (r : Stepped) → BeatsCome n (as_stops q) r → Comes n (or_fault q) r
 whole_comes n (Ok t) r h = h
 whole_comes n (Err f) r h = h
 

@@ -1,5 +1,5 @@
 -- Codes of one halfword are below 2^16.
-use Rattle.std.proofs.Common.{◌≡◌, ◌<◌, ℕ, refl, List, [], ◌∷◌, arith}
+use Rattle.std.proofs.Common.{◌<◌, ℕ, refl, List, [], ◌∷◌, arith}
 use Rattle.hm_isa.specs.declared.Scalar.{Scalar}
 use Rattle.hm_isa.specs.declared.Scalar.TheVariants as scalar
 use Rattle.hm_isa.specs.declared.Branch.{Branch}

@@ -1,6 +1,5 @@
 -- Every row of one halfword: its text asks for its code, and is printed and read back.
-use Rattle.std.proofs.Common.{◌≡◌, ℕ, ◌+◌, ◌^◌, ◌<◌, ◌≤◌, List, [], ◌∷◌, ◌++◌, length, refl, sym, subst, ◌∙◌, Option, arith}
-use Rattle.std.specs.Prelude.{◌&&◌}
+use Rattle.std.proofs.Common.{◌≡◌, ℕ, ◌≤◌, List, [], ◌∷◌, length, refl, sym, subst, Option, arith}
 use Rattle.hm_isa.specs.declared.Scalar.{Scalar}
 use Rattle.hm_isa.specs.declared.Scalar.TheVariants as scalar
 use Rattle.hm_isa.specs.declared.Branch.{Branch}
@@ -9,7 +8,7 @@ use Rattle.hm_isa.specs.declared.Instr.{Instr}
 use Rattle.hm_isa.specs.declared.Instr.TheVariants as instr
 use Rattle.hm_isa.specs.declared.narrow.S25.TheVariants as s25
 use Rattle.hm_isa.specs.Code.{branch_halves, scalar_halves}
-use Rattle.hm_tokens.specs.Lines.{IsLineOf, printed}
+use Rattle.hm_tokens.specs.Lines.{IsLineOf}
 use Rattle.hm_tokens.specs.Tokens.{Tok}
 use Rattle.hm_text_rows.proofs.Shown.{IsGiven, again_of, few_of, room_of}
 use Rattle.hm_text16.specs.Rows.{has_label, row_tokens}

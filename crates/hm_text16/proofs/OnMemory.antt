@@ -1,6 +1,5 @@
 -- Rows that load and store one register: their texts ask for their codes.
-use Rattle.std.proofs.Common.{◌≡◌, ℕ, ◌+◌, ◌*◌, ◌/◌, ◌%◌, ◌^◌, ◌<◌, ◌≤◌, true, false, eqb, [], ◌∷◌, ◌++◌, Some, refl, ◌∙◌, arith}
-use Rattle.std.specs.Prelude.{codes, ◌||◌}
+use Rattle.std.proofs.Common.{◌≡◌, ℕ, ◌+◌, ◌*◌, ◌/◌, ◌<◌, true, false, eqb, Some, refl, arith}
 use Rattle.hm_isa.specs.declared.narrow.AccessName.{AccessName}
 use Rattle.hm_isa.specs.declared.narrow.AccessName.TheVariants as access
 use Rattle.hm_isa.specs.declared.narrow.PlainName.{PlainName}

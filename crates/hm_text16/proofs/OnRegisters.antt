@@ -1,5 +1,5 @@
 -- Rows on registers: their texts ask for their codes.
-use Rattle.std.proofs.Common.{◌≡◌, ℕ, ◌+◌, ◌*◌, ◌/◌, ◌%◌, ◌^◌, ◌<◌, ◌≤◌, true, false, ltb, [], ◌∷◌, ◌++◌, Some, refl, ◌∙◌, arith}
+use Rattle.std.proofs.Common.{◌≡◌, ℕ, ◌+◌, ◌*◌, ◌/◌, ◌%◌, ◌<◌, true, false, ltb, Some, refl, arith}
 use Rattle.std.specs.Prelude.{codes, nat_le, ◌||◌}
 use Rattle.hm_isa.specs.declared.narrow.ShiftName.{ShiftName}
 use Rattle.hm_isa.specs.declared.narrow.ShiftName.TheVariants as shift

@@ -1,9 +1,7 @@
 -- The names of registers and conditions, as operands.
-use Rattle.std.proofs.Common.{◌≡◌, ℕ, ◌<◌, ◌≤◌, true, ltb, List, [], ◌∷◌, refl, arith}
-use Rattle.std.specs.Prelude.{◌&&◌}
+use Rattle.std.proofs.Common.{◌≡◌, ℕ, ◌<◌, true, ltb, List, refl, arith}
 use Rattle.std.proofs.lemmas.Bool.Decides.{nat_tests}
 use Rattle.hm_tokens.specs.Names.{register_name}
-use Rattle.hm_tokens.specs.Tokens.{word}
 use Rattle.hm_text_rows.proofs.Words.{below_holds, below_is, is_name}
 use Rattle.hm_text16.specs.Operands.{word_value}
 use Rattle.hm_text16.specs.Stems.{block_condition}

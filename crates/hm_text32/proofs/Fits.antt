@@ -1,5 +1,5 @@
 -- The codes of these rows have 32 bits.
-use Rattle.std.proofs.Common.{◌≡◌, ℕ, ◌+◌, ◌*◌, ◌/◌, ◌%◌, ◌<◌, ◌^◌, refl, ap, arith}
+use Rattle.std.proofs.Common.{ℕ, ◌<◌, ◌^◌, refl, ap, arith}
 use Rattle.hm_isa.specs.declared.Instr.{Instr}
 use Rattle.hm_isa.specs.declared.Instr.TheVariants as instr
 use Rattle.hm_isa.specs.declared.Scalar.{Scalar}

@@ -6,7 +6,7 @@ use Rattle.std.specs.Prelude.{cond, codes, min, nat_eq}
 use Rattle.hm_isa.specs.declared.Instr.{Instr}
 use Rattle.hm_enc32.specs.Table.{HasWord}
 use Rattle.hm_tokens.specs.Names.{condition_name, register_name, vector_name}
-use Rattle.hm_tokens.specs.Tokens.{Tok, word, number}
+use Rattle.hm_tokens.specs.Tokens.{Tok, word}
 use Rattle.hm_text32.specs.declared.operands.Operands.{Operands}
 use Rattle.hm_text32.specs.Operands.{word_value}
 use Rattle.hm_text_rows.specs.Operands.{is_vector_name, size_of}

@@ -1,6 +1,6 @@
 -- Every row of two halfwords that is no vector row: its text asks for its code, and is printed and read back; so does its other text.
-use Rattle.std.proofs.Common.{◌≡◌, ℕ, ◌+◌, ◌%◌, ◌^◌, ◌<◌, ◌≤◌, false, List, [], ◌∷◌, ◌++◌, length, refl, sym, subst, inl, inr, ◌∙◌, Some, Option, arith}
-use Rattle.std.specs.Prelude.{◌&&◌, nat_eq}
+use Rattle.std.proofs.Common.{◌≡◌, ℕ, ◌%◌, ◌^◌, ◌<◌, ◌≤◌, false, List, [], ◌∷◌, length, refl, sym, subst, inl, inr, Some, Option, arith}
+use Rattle.std.specs.Prelude.{nat_eq}
 use Rattle.std.proofs.lemmas.Bool.{eqb-true}
 use Rattle.hm_isa.specs.declared.Scalar.{Scalar}
 use Rattle.hm_isa.specs.declared.Scalar.TheVariants as scalar
@@ -16,7 +16,7 @@ use Rattle.hm_isa.specs.declared.system.T19.TheVariants as t19
 use Rattle.hm_isa.specs.Code.{branch_halves, scalar_halves}
 use Rattle.hm_enc32.specs.Table.{IsWide}
 use Rattle.hm_text_base.proofs.Steps.{some_is, test_some}
-use Rattle.hm_tokens.specs.Lines.{IsLineOf, printed}
+use Rattle.hm_tokens.specs.Lines.{IsLineOf}
 use Rattle.hm_tokens.specs.Tokens.{Tok, word}
 use Rattle.hm_text_rows.specs.Labels.{Reaches}
 use Rattle.hm_text_rows.proofs.Shown.{IsGiven, again_of, few_of, room_of}

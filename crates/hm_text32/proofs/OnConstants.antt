@@ -1,6 +1,6 @@
 -- Rows of a constant: their texts ask for their codes.
-use Rattle.std.proofs.Common.{◌≡◌, ℕ, zero, suc, ◌+◌, ◌-◌, ◌*◌, ◌/◌, ◌%◌, ◌<◌, ◌≤◌, ◌^◌, Bool, true, false, eqb, [], ◌∷◌, ◌++◌, Some, refl, subst, ap, inl, inr, ◌∙◌, arith}
-use Rattle.std.specs.Prelude.{codes, nat_eq, nat_le, nat_lt, ◌&&◌, ◌||◌}
+use Rattle.std.proofs.Common.{◌≡◌, ℕ, zero, suc, ◌+◌, ◌-◌, ◌*◌, ◌/◌, ◌%◌, ◌<◌, ◌≤◌, ◌^◌, Bool, true, false, eqb, ◌++◌, Some, refl, subst, ap, inl, inr, ◌∙◌, arith}
+use Rattle.std.specs.Prelude.{nat_eq, nat_le, nat_lt, ◌&&◌, ◌||◌}
 use Rattle.std.proofs.lemmas.Bool.{and_parts, cases_Bool, eqb-true, ne_eqb}
 use Rattle.std.proofs.lemmas.Bool.Decides.{nat_tests}
 use Rattle.hm_isa.specs.declared.Instr.{Instr}
@@ -14,7 +14,6 @@ use Rattle.hm_isa.specs.DataRules.{is_constant, is_first, is_result, may_test}
 use Rattle.hm_isa.specs.Standing.{◌↑◌}
 use Rattle.hm_enc32.specs.Table.{HasWord}
 use Rattle.hm_tokens.proofs.Again.{or_true}
-use Rattle.hm_thumb.specs.Arithmetic.{rotated}
 use Rattle.hm_thumb.specs.DataRows.{expand_imm_c, imm12, repeats}
 use Rattle.hm_text32.specs.Codes.{code_of, constant_code, constant_field, shift_of}
 use Rattle.hm_text32.specs.Rows.{constant_in, constant_tokens}

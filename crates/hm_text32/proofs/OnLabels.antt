@@ -22,7 +22,7 @@ use Rattle.hm_isa.specs.Standing.{◌↑◌}
 use Rattle.hm_thumb.specs.Arithmetic.{sign_extended}
 use Rattle.hm_thumb.specs.BranchRows.{alike, always_distance, conditional_distance}
 use Rattle.hm_tokens.specs.Names.{condition_name, register_name}
-use Rattle.hm_tokens.specs.Tokens.{Tok, word, number}
+use Rattle.hm_tokens.specs.Tokens.{Tok, word}
 use Rattle.hm_text_rows.specs.Labels.{behind, distance}
 use Rattle.hm_text_rows.specs.Shapes.{comma, r}
 use Rattle.hm_text_rows.proofs.Printed.{IsPrintedAt, is_printed_at, short_comma, short_word}

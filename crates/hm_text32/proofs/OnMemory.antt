@@ -1,6 +1,6 @@
 -- Rows that load and store one register or two: their texts ask for their codes.
-use Rattle.std.proofs.Common.{◌≡◌, ℕ, zero, suc, ◌+◌, ◌*◌, ◌/◌, ◌%◌, ◌<◌, ◌^◌, Bool, true, false, eqb, List, [], ◌∷◌, ◌++◌, Some, refl, subst, ap, inl, inr, ◌⊎◌, ◌∙◌, arith}
-use Rattle.std.specs.Prelude.{codes, nat_eq, nat_lt, not, ◌&&◌, ◌||◌, if◌then◌else◌}
+use Rattle.std.proofs.Common.{◌≡◌, ℕ, zero, suc, ◌+◌, ◌*◌, ◌<◌, ◌^◌, Bool, true, false, eqb, List, [], ◌∷◌, ◌++◌, Some, refl, subst, ap, inl, inr, ◌⊎◌, ◌∙◌, arith}
+use Rattle.std.specs.Prelude.{codes, nat_eq, nat_lt, not, ◌&&◌, if◌then◌else◌}
 use Rattle.std.proofs.lemmas.Bool.{and_parts, eqb-true}
 use Rattle.std.proofs.lemmas.Bool.Decides.{nat_tests}
 use Rattle.hm_isa.specs.declared.Instr.{Instr}
@@ -24,7 +24,7 @@ use Rattle.std.proofs.lemmas.List.{append-nil}
 use Rattle.hm_enc32.specs.Table.{HasWord}
 use Rattle.hm_tokens.specs.Names.{register_name}
 use Rattle.hm_tokens.specs.Ranges.{singles}
-use Rattle.hm_tokens.specs.Tokens.{Tok, word, number}
+use Rattle.hm_tokens.specs.Tokens.{Tok, word}
 use Rattle.hm_text32.specs.declared.operands.Places.{Places}
 use Rattle.hm_text32.specs.Codes.{access_code, code_of, code_of_memory, pair_code}
 use Rattle.hm_text32.specs.Operands.{read_places, word_value}

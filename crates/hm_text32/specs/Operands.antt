@@ -1,5 +1,5 @@
 -- What a text gives numbers for, read carelessly: nothing is refused, since the row that is found is asked for its text.
-use Rattle.std.specs.Prelude.{ℕ, ◌+◌, ◌-◌, ◌^◌, min, List, [], ◌∷◌, length, codes, bytes_eq, Option, Some, None, ◌==◌, if◌then◌else◌}
+use Rattle.std.specs.Prelude.{ℕ, min, List, [], ◌∷◌, length, codes, bytes_eq, Option, Some, None, ◌==◌, if◌then◌else◌}
 use Rattle.hm_tokens.specs.Names.{condition_in, register_in, vector_in}
 use Rattle.hm_tokens.specs.Ranges.{is_the_mark}
 use Rattle.hm_tokens.specs.Tokens.{Tok, word, number, mark}

@@ -1,5 +1,5 @@
 -- The mnemonics of rows of two halfwords: stems, and the names that stand for operands.
-use Rattle.std.specs.Prelude.{ℕ, ◌+◌, List, [], ◌∷◌, ◌++◌, get_or, codes, Option}
+use Rattle.std.specs.Prelude.{ℕ, List, [], ◌∷◌, get_or, codes, Option}
 use Rattle.hm_isa.specs.declared.narrow.AccessName.{AccessName}
 use Rattle.hm_isa.specs.declared.narrow.AccessName.TheVariants as access
 use Rattle.hm_isa.specs.declared.narrow.ExtendName.{ExtendName}

@@ -13,20 +13,20 @@ use Rattle.hm_tokens.proofs.Ranges.{has_no_ranges, normal_same}
 use Rattle.hm_text_rows.proofs.Words.{is_name, is_stem, is_suffix, mnemonic_short, mnemonic_token, word_short, word_token}
 
 -- how long a token is at most
-abbrev pub size : Tok → ℕ
-size (word w) = 9
-size (number n) = 10
-size (mark c) = 1
+abbrev pub most : Tok → ℕ
+most (word w) = 9
+most (number n) = 10
+most (mark c) = 1
 
 -- what may stand behind a mnemonic
 pub record IsShort (t : Tok) : Type 0 where
   pub is : IsToken t
-  pub short : length (spell t) ≤ size t
+  pub short : length (spell t) ≤ most t
 
 -- and how long all are at most, each with a space
 abbrev pub room : List Tok → ℕ
 room [] = 0
-room (t ∷ ts) = size t + 1 + room ts
+room (t ∷ ts) = most t + 1 + room ts
 
 abbrev pub AreShort : List Tok → Type 0
 AreShort [] = Unit {0}
@@ -86,14 +86,14 @@ spelled_short (t ∷ ts) b are =
     let space = gap_short b t in
     omega (arith, rest, one, space, length-append (gap b t) (spell t ++ spelled_behind (is_word t) ts), length-append (spell t) (spelled_behind (is_word t) ts))
 
-some_size : (t : Tok) → 1 ≤ size t
-some_size (word w) = omega arith
-some_size (number n) = omega arith
-some_size (mark c) = omega arith
+some_room : (t : Tok) → 1 ≤ most t
+some_room (word w) = omega arith
+some_room (number n) = omega arith
+some_room (mark c) = omega arith
 
 few_in_room : (ts : List Tok) → 2 * length ts ≤ room ts
 few_in_room [] = omega arith
-few_in_room (t ∷ ts) = omega (arith, some_size t, few_in_room ts)
+few_in_room (t ∷ ts) = omega (arith, some_room t, few_in_room ts)
 
 -- a text is printed in 96 bytes, and read back
 pub record IsReadBack (ts : List Tok) : Type 0 where

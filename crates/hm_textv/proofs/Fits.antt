@@ -1,5 +1,5 @@
 -- The codes of vector rows have 32 bits.
-use Rattle.std.proofs.Common.{◌≡◌, ℕ, ◌≤◌, ◌<◌, ◌^◌, [], ◌∷◌, refl, ◌∙◌}
+use Rattle.std.proofs.Common.{◌<◌, ◌^◌, refl}
 use Rattle.hm_isa.specs.declared.Vector.{Vector}
 use Rattle.hm_isa.specs.Code.{vector_code}
 use Rattle.hm_codes.proofs.Vectors.{coded_vector}

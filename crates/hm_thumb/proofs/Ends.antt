@@ -7,11 +7,11 @@ use Rattle.hm_base.specs.declared.FaultKind.{FaultKind}
 use Rattle.hm_base.specs.declared.FaultKind.TheVariants.{Bus}
 use Rattle.hm_mem.specs.Devices.{has_width, word_at}
 use Rattle.hm_mem.specs.Memory.{thread_under}
-use Rattle.hm_mem.specs.Seen.{Seen, fault_kind, is_kept, read, stop_after}
+use Rattle.hm_mem.specs.Seen.{Seen, fault_kind, is_kept, read, stop_after, unless}
 use Rattle.hm_mem.specs.declared.Actor.TheVariants.{Thread}
 use Rattle.hm_mem.specs.declared.Access.TheVariants.{Scalar}
 use Rattle.hm_thumb.specs.Calls.{more, most_text, text}
-use Rattle.hm_thumb.specs.Does.{Runner, alone, behind, fault_at, in_machine, unless}
+use Rattle.hm_thumb.specs.Does.{Runner, alone, behind, fault_at, in_machine}
 
 -- a byte that no thread can load
 abbrev pub IsBad : ℕ → Type 0

@@ -1,4 +1,4 @@
-use Rattle.std.proofs.Common.{◌≡◌, ◌+◌, ◌<◌, length, get_or, ap, subst, sym, arith, rules, length-append, ◌∙◌}
+use Rattle.std.proofs.Common.{◌<◌, length, ap, subst, sym, arith, rules, length-append, ◌∙◌}
 use Rattle.std.specs.Prelude.{All}
 use Rattle.std.proofs.lemmas.List.Elements.{All-push}
 use Rattle.hm_base.specs.Place.{IsPlace}

@@ -1,4 +1,4 @@
-use Rattle.std.proofs.Common.{◌≡◌, ◌+◌, ◌<◌, drop, length, ap, sym, arith, ◌∙◌}
+use Rattle.std.proofs.Common.{◌+◌, ◌<◌, drop, length, ap, sym, arith, ◌∙◌}
 use Rattle.hm_base.specs.declared.Place.TheVariants.{R}
 use Rattle.hm_regs.specs.Writes.{apply}
 use Rattle.hm_moves.specs.Coded.{puts_of}

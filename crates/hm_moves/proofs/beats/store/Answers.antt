@@ -1,9 +1,8 @@
-use Rattle.std.proofs.Common.{◌≡◌, map, sym, ap, subst, ◌∙◌}
+use Rattle.std.proofs.Common.{sym, ap, subst, ◌∙◌}
 use Rattle.std.specs.Prelude.{All}
 use Rattle.hm_base.specs.Place.{IsPlace}
 use Rattle.hm_mem.specs.Memory.{memory_of}
 use Rattle.hm_mem.specs.Seen.{marks}
-use Rattle.hm_regs.specs.Place.{value_at}
 use Rattle.hm_state.specs.State.{cells, state_of}
 use Rattle.hm_state.specs.Store.{put_all}
 use Rattle.hm_moves.specs.Ways.{moves_of, transfer_of}

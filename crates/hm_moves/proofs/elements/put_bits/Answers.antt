@@ -1,4 +1,4 @@
-use Rattle.std.proofs.Common.{ℕ, ◌+◌, ◌-◌, ◌<◌, ◌≤◌, ◌^◌, ◌≡◌, arith}
+use Rattle.std.proofs.Common.{◌+◌, ◌-◌, ◌<◌, ◌^◌, arith}
 use Rattle.hm_base.specs.Bits.{put_field}
 use Rattle.hm_base.proofs.Fields.{put_bits_is, put_field_below}
 use Rattle.hm_moves.proofs.elements.put_bits.Goals as goal

@@ -1,4 +1,4 @@
-use Rattle.std.proofs.Common.{◌+◌, ◌++◌, [], ◌∷◌, arith, length-append}
+use Rattle.std.proofs.Common.{arith, length-append}
 use Rattle.hm_moves.proofs.Loops.{spans_more}
 use Rattle.hm_moves.proofs.elements.spans.Goals as goal
 

@@ -1,9 +1,10 @@
-use Rattle.std.proofs.Common.{◌+◌, ◌*◌, ◌/◌, ◌^◌, ◌<◌, length, get_or, true, sym, ◌∙◌, ap, arith}
-use Rattle.hm_mem.specs.Memory.{Around, memory_of}
+use Rattle.std.proofs.Common.{◌*◌, ◌/◌, ◌^◌, ◌<◌, length, get_or, true, ◌∙◌, arith}
+use Rattle.hm_mem.specs.Memory.{memory_of}
 use Rattle.hm_mem.specs.Seen.{after_store, is_thread, marks, seen}
 use Rattle.hm_moves.specs.Moves.{width}
 use Rattle.hm_moves.proofs.Accesses.{fault_free, in_sram, stop_of-elsewhere}
-use Rattle.hm_moves.proofs.Loops.{drop_none, none, same_trans, stop_none}
+use Rattle.hm_mem.proofs.Elsewhere.{same_trans}
+use Rattle.hm_moves.proofs.Loops.{drop_none, none, stop_none}
 use Rattle.hm_moves.proofs.Stored.{put_state, store_next}
 use Rattle.hm_moves.proofs.elements.store_all.Goals as goal
 

@@ -1,12 +1,10 @@
 use Rattle.std.proofs.Common.{◌≡◌, ℕ, List, drop}
-use Rattle.std.specs.Prelude.{None, true}
 use Rattle.hm_regs.specs.declared.Regs.{Regs}
 use Rattle.hm_mem.specs.Memory.{memory_of}
-use Rattle.hm_mem.specs.Seen.{IsSameElsewhere, marks, seen}
+use Rattle.hm_mem.specs.Seen.{IsSameElsewhere, marks}
 use Rattle.hm_state.specs.Store.{put_all}
 use Rattle.hm_state.specs.State.{cells, state_of}
-use Rattle.hm_moves.specs.Coded.{first_stop}
-use Rattle.hm_moves.specs.Moves.{all_bytes_from, width}
+use Rattle.hm_moves.specs.Moves.{all_bytes_from}
 use Rattle.hm_moves.proofs.elements.store_all.Given as goal
 
 abbrev pub invariant-loop-e : goal.invariant-loop-e

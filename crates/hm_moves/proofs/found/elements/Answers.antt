@@ -1,9 +1,8 @@
-use Rattle.std.proofs.Common.{◌≡◌, ◌∷◌, [], ap, ◌∙◌}
+use Rattle.std.proofs.Common.{◌∷◌, [], ◌∙◌}
 use Rattle.hm_state.specs.State.{state_of}
 use Rattle.hm_moves.specs.Moves.{active_ones, sources_at}
 use Rattle.hm_lane.specs.Lanes.{per_word}
-use Rattle.hm_moves.specs.Ways.{each_from, moves_of, way_element, way_of}
-use Rattle.hm_moves.specs.Coded.{active_of}
+use Rattle.hm_moves.specs.Ways.{moves_of, way_element, way_of}
 use Rattle.hm_moves.proofs.Widths.{by_sources, each_same}
 use Rattle.hm_moves.proofs.found.elements.Goals as goal
 

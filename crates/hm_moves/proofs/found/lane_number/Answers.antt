@@ -1,6 +1,4 @@
-use Rattle.std.proofs.Common.{◌≡◌, ◌+◌, ◌-◌, ◌*◌, arith, ◌∙◌, ap}
-use Rattle.hm_base.specs.Bits.{field}
-use Rattle.hm_moves.specs.Moves.{width}
+use Rattle.std.proofs.Common.{◌∙◌}
 use Rattle.hm_moves.proofs.Widths.{field_at}
 use Rattle.hm_moves.proofs.found.lane_number.Goals as goal
 

@@ -1,4 +1,4 @@
-use Rattle.std.proofs.Common.{sym, ap, ◌∙◌, not, cond, [], ◌∷◌}
+use Rattle.std.proofs.Common.{sym, ap, ◌∙◌, not, cond, []}
 use Rattle.hm_base.specs.Place.{noted_all}
 use Rattle.hm_lane.specs.Predicate.{advance_places}
 use Rattle.hm_regs.specs.Writes.{places_of}

@@ -1,4 +1,4 @@
-use Rattle.std.proofs.Common.{◌≤◌, ◌+◌, ◌*◌, ◌++◌, List, ap, ◌∙◌, arith}
+use Rattle.std.proofs.Common.{◌+◌, ◌*◌, ◌++◌, List, ap, ◌∙◌, arith}
 use Rattle.hm_text_rows.specs.Shapes.{braces}
 use Rattle.hm_text16.proofs.Registers.{pop_few}
 use Rattle.hm_tokens.specs.Tokens.{Tok}

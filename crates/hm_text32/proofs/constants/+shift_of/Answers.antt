@@ -1,4 +1,4 @@
-use Rattle.std.proofs.Common.{◌<◌, ◌≤◌, arith}
+use Rattle.std.proofs.Common.{arith}
 use Rattle.hm_text32.proofs.Shifts.{is_byte, none_left, one_more}
 use Rattle.hm_text32.proofs.constants.+shift_of.Goals as goal
 
