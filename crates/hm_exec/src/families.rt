@@ -14,7 +14,7 @@ use hm_vred::Reduce;
 use hm_vwide::Wide;
 
 /// A vector instruction, by its family.
-#[derive(Clone, Copy, Debug, PartialEq, Eq)]
+#[derive(Clone, Copy)]
 pub enum Any {
     /// Lane arithmetic and immediates
     Arith(Arith),

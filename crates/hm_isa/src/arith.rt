@@ -7,7 +7,7 @@ use crate::fields::{Below, Bit, Register};
 use crate::narrow::ExtendName;
 
 /// The operation of the row T8, in the order of its codes.
-#[derive(Clone, Copy, PartialEq, Eq, Debug)]
+#[derive(Clone, Copy)]
 pub enum WideShiftName {
     Lsl,
     Lsr,
@@ -17,7 +17,7 @@ pub enum WideShiftName {
 
 /// `lsl.w`, `lsr.w`, `asr.w`, `ror.w rd,rn,rm`: DDI0553, "LSL (register)", "LSR (register)", "ASR (register)" and "ROR (register)",
 /// encodings T2.
-#[derive(Clone, Copy, PartialEq, Eq, Debug)]
+#[derive(Clone, Copy)]
 pub struct T8 {
     pub name: WideShiftName,
     /// Whether the flags tell the result.
@@ -31,7 +31,7 @@ pub struct T8 {
 }
 
 /// `sxth.w`, `uxth.w`, `sxtb.w`, `uxtb.w rd,rm,ror #8r`: DDI0553, "SXTH", "UXTH", "SXTB" and "UXTB", encodings T2.
-#[derive(Clone, Copy, PartialEq, Eq, Debug)]
+#[derive(Clone, Copy)]
 pub struct T9 {
     pub name: ExtendName,
     pub d: Register,
@@ -42,7 +42,7 @@ pub struct T9 {
 }
 
 /// The operation of the row T10.
-#[derive(Clone, Copy, PartialEq, Eq, Debug)]
+#[derive(Clone, Copy)]
 pub enum BitsName {
     Rev,
     Rev16,
@@ -52,7 +52,7 @@ pub enum BitsName {
 }
 
 /// `rev.w`, `rev16.w`, `rbit`, `revsh.w`, `clz rd,rm`: DDI0553, "REV", "REV16" and "REVSH", encodings T2, "RBIT" and "CLZ", encodings T1.
-#[derive(Clone, Copy, PartialEq, Eq, Debug)]
+#[derive(Clone, Copy)]
 pub struct T10 {
     pub name: BitsName,
     pub d: Register,
@@ -61,7 +61,7 @@ pub struct T10 {
 }
 
 /// An operation of the row T11 on two registers.
-#[derive(Clone, Copy, PartialEq, Eq, Debug)]
+#[derive(Clone, Copy)]
 pub enum OperationName {
     Mul,
     Sdiv,
@@ -69,7 +69,7 @@ pub enum OperationName {
 }
 
 /// `mul`, `sdiv`, `udiv rd,rn,rm`.
-#[derive(Clone, Copy, PartialEq, Eq, Debug)]
+#[derive(Clone, Copy)]
 pub struct Operation {
     pub name: OperationName,
     pub n: Register,
@@ -79,14 +79,14 @@ pub struct Operation {
 }
 
 /// Whether a product is added or taken off.
-#[derive(Clone, Copy, PartialEq, Eq, Debug)]
+#[derive(Clone, Copy)]
 pub enum AccumulateName {
     Mla,
     Mls,
 }
 
 /// `mla`, `mls rd,rn,rm,ra`.
-#[derive(Clone, Copy, PartialEq, Eq, Debug)]
+#[derive(Clone, Copy)]
 pub struct Accumulate {
     pub name: AccumulateName,
     pub n: Register,
@@ -98,7 +98,7 @@ pub struct Accumulate {
 }
 
 /// A product of 64 bits, alone or added.
-#[derive(Clone, Copy, PartialEq, Eq, Debug)]
+#[derive(Clone, Copy)]
 pub enum LongProductName {
     Smull,
     Umull,
@@ -107,7 +107,7 @@ pub enum LongProductName {
 }
 
 /// `smull`, `umull`, `smlal`, `umlal rl,rh,rn,rm`.
-#[derive(Clone, Copy, PartialEq, Eq, Debug)]
+#[derive(Clone, Copy)]
 pub struct LongProduct {
     pub name: LongProductName,
     pub n: Register,
@@ -121,7 +121,7 @@ pub struct LongProduct {
 
 /// A product or a quotient: DDI0553, "MUL", encoding T2, and "MLA", "MLS", "SMULL", "UMULL", "SMLAL", "UMLAL", "SDIV" and "UDIV",
 /// encodings T1.
-#[derive(Clone, Copy, PartialEq, Eq, Debug)]
+#[derive(Clone, Copy)]
 pub enum T11 {
     Operation(Operation),
     Accumulate(Accumulate),
@@ -129,7 +129,7 @@ pub enum T11 {
 }
 
 /// The operation of the row T20, in the order of its codes.
-#[derive(Clone, Copy, PartialEq, Eq, Debug)]
+#[derive(Clone, Copy)]
 pub enum SelectName {
     Csel,
     Csinc,
@@ -139,7 +139,7 @@ pub enum SelectName {
 
 /// `csel`, `csinc`, `csinv`, `csneg rd,rn,rm,cond`, where 15 as an operand stands for 0: DDI0553, "CSEL", "CSINC", "CSINV" and "CSNEG",
 /// encodings T1.
-#[derive(Clone, Copy, PartialEq, Eq, Debug)]
+#[derive(Clone, Copy)]
 pub struct T20 {
     pub name: SelectName,
     /// The operand where the condition holds.

@@ -8,7 +8,7 @@ use crate::fields::{Below, Bit, Byte, Register};
 use crate::narrow::SumName;
 
 /// The operation of the rows T1 and T2.
-#[derive(Clone, Copy, PartialEq, Eq, Debug)]
+#[derive(Clone, Copy)]
 pub enum DataName {
     /// `and`, and `tst`
     And,
@@ -35,7 +35,7 @@ pub enum DataName {
 /// `and.w rd,rn,#c` and so on, where `i`, `i3` and `i8` stand for the constant: DDI0553, "Data-processing (modified immediate)".
 ///
 /// With `s` and `d` 15 it is `tst.w`, `teq.w`, `cmn.w` or `cmp.w rn,#c`, and with `n` 15 it is `mov` or `mvn`.
-#[derive(Clone, Copy, PartialEq, Eq, Debug)]
+#[derive(Clone, Copy)]
 pub struct T1 {
     pub name: DataName,
     /// Whether the flags tell the result.
@@ -51,7 +51,7 @@ pub struct T1 {
 /// `and.w rd,rn,rm,lsl #k` and so on, where `i3` and `i2` make k: DDI0553, "Data-processing (shifted register)".
 ///
 /// With `s` and `d` 15 it is `tst.w`, `teq.w`, `cmn.w` or `cmp.w rn,rm`, and with `n` 15 it is `mvn`, or `mov.w` and the shifts.
-#[derive(Clone, Copy, PartialEq, Eq, Debug)]
+#[derive(Clone, Copy)]
 pub struct T2 {
     pub name: DataName,
     /// Whether the flags tell the result.
@@ -68,7 +68,7 @@ pub struct T2 {
 
 /// `addw`, `subw rd,rn,#i12`, where `i`, `i3` and `i8` make the number: DDI0553, "ADD (immediate)", encoding T4, "SUB (immediate)",
 /// encoding T4, and "ADR", encodings T2 and T3.
-#[derive(Clone, Copy, PartialEq, Eq, Debug)]
+#[derive(Clone, Copy)]
 pub struct T3 {
     pub name: SumName,
     pub n: Register,
@@ -80,14 +80,14 @@ pub struct T3 {
 }
 
 /// The operation of the row T4.
-#[derive(Clone, Copy, PartialEq, Eq, Debug)]
+#[derive(Clone, Copy)]
 pub enum HalfName {
     Movw,
     Movt,
 }
 
 /// `movw`, `movt rd,#i16`, where `i4`, `i`, `i3` and `i8` make the number: DDI0553, "MOV (immediate)", encoding T3, and "MOVT".
-#[derive(Clone, Copy, PartialEq, Eq, Debug)]
+#[derive(Clone, Copy)]
 pub struct T4 {
     pub name: HalfName,
     pub d: Register,
@@ -99,14 +99,14 @@ pub struct T4 {
 }
 
 /// The operation of the row T5.
-#[derive(Clone, Copy, PartialEq, Eq, Debug)]
+#[derive(Clone, Copy)]
 pub enum SaturateName {
     Ssat,
     Usat,
 }
 
 /// `ssat rd,#s+1,rn,lsl #k`, `usat rd,#s,rn,lsl #k` and so on, where `i3` and `i2` make k: DDI0553, "SSAT" and "USAT".
-#[derive(Clone, Copy, PartialEq, Eq, Debug)]
+#[derive(Clone, Copy)]
 pub struct T5 {
     pub name: SaturateName,
     /// How to shift: 0 is `lsl`, 1 is `asr`.
@@ -120,14 +120,14 @@ pub struct T5 {
 }
 
 /// The operation of the row T6.
-#[derive(Clone, Copy, PartialEq, Eq, Debug)]
+#[derive(Clone, Copy)]
 pub enum ExtractName {
     Sbfx,
     Ubfx,
 }
 
 /// `sbfx`, `ubfx rd,rn,#lsb,#w+1`, where `i3` and `i2` make lsb: DDI0553, "SBFX" and "UBFX".
-#[derive(Clone, Copy, PartialEq, Eq, Debug)]
+#[derive(Clone, Copy)]
 pub struct T6 {
     pub name: ExtractName,
     pub n: Register,
@@ -140,7 +140,7 @@ pub struct T6 {
 
 /// `bfi rd,rn,#lsb,#width`, and with `n` 15 `bfc rd,#lsb,#width`, where `i3` and `i2` make lsb and `e` is the highest bit of the
 /// field: DDI0553, "BFI" and "BFC".
-#[derive(Clone, Copy, PartialEq, Eq, Debug)]
+#[derive(Clone, Copy)]
 pub struct T7 {
     pub n: Register,
     pub d: Register,

@@ -5,7 +5,7 @@ ghost use Rattle.std.specs.Prelude.{◌≢◌};
 use crate::fields::{Below, Bit, Register};
 
 /// `beq.w label` and so on under condition `c`. The distance in bytes from the address plus 4 is `s:j2:j1:i6:i11:0`, with sign `s`.
-#[derive(Clone, Copy, PartialEq, Eq, Debug)]
+#[derive(Clone, Copy)]
 pub struct WideConditional {
     pub s: Bit,
     pub c: Below<14>,
@@ -16,7 +16,7 @@ pub struct WideConditional {
 }
 
 /// The operation of a branch with no condition of the row T16.
-#[derive(Clone, Copy, PartialEq, Eq, Debug)]
+#[derive(Clone, Copy)]
 pub enum WideBranchName {
     /// `b.w`
     B,
@@ -26,7 +26,7 @@ pub enum WideBranchName {
 
 /// `b.w label`, `bl label`. The distance in bytes from the address plus 4 is `s:I1:I2:i10:i11:0`, with sign `s`, where I1 and
 /// I2 are `s`, turned over where `j1` and `j2` are 0.
-#[derive(Clone, Copy, PartialEq, Eq, Debug)]
+#[derive(Clone, Copy)]
 pub struct WideAlways {
     pub name: WideBranchName,
     pub s: Bit,
@@ -37,14 +37,14 @@ pub struct WideAlways {
 }
 
 /// A wide branch with a condition or with none: DDI0553, "B", encodings T3 and T4, and "BL", encoding T1.
-#[derive(Clone, Copy, PartialEq, Eq, Debug)]
+#[derive(Clone, Copy)]
 pub enum T16 {
     Conditional(WideConditional),
     Always(WideAlways),
 }
 
 /// The operation of the row T17.
-#[derive(Clone, Copy, PartialEq, Eq, Debug)]
+#[derive(Clone, Copy)]
 pub enum TableName {
     /// `tbb`
     Tbb,
@@ -53,7 +53,7 @@ pub enum TableName {
 }
 
 /// `tbb [rn,rm]`, `tbh [rn,rm,lsl #1]`, a branch forward by twice a number of a table: DDI0553, "TBB, TBH", encodings T1.
-#[derive(Clone, Copy, PartialEq, Eq, Debug)]
+#[derive(Clone, Copy)]
 pub struct T17 {
     pub name: TableName,
     pub n: Register,
@@ -64,7 +64,7 @@ pub struct T17 {
 }
 
 /// `dls lr,rn`
-#[derive(Clone, Copy, PartialEq, Eq, Debug)]
+#[derive(Clone, Copy)]
 pub struct Dls {
     pub n: Register,
     pub ghost not_sp: { n.value ≢ 13 },
@@ -72,7 +72,7 @@ pub struct Dls {
 }
 
 /// `wls lr,rn,label`, forward by 2v from the address plus 4.
-#[derive(Clone, Copy, PartialEq, Eq, Debug)]
+#[derive(Clone, Copy)]
 pub struct Wls {
     pub n: Register,
     pub v: Below<2048>,
@@ -81,7 +81,7 @@ pub struct Wls {
 }
 
 /// `dlstp.8 lr,rn` and so on, for elements of 8, 16, 32 and 64 bits as `z` is 0 to 3.
-#[derive(Clone, Copy, PartialEq, Eq, Debug)]
+#[derive(Clone, Copy)]
 pub struct Dlstp {
     pub z: Below<4>,
     pub n: Register,
@@ -90,7 +90,7 @@ pub struct Dlstp {
 }
 
 /// `wlstp.8 lr,rn,label` and so on, forward by 2v from the address plus 4.
-#[derive(Clone, Copy, PartialEq, Eq, Debug)]
+#[derive(Clone, Copy)]
 pub struct Wlstp {
     pub z: Below<4>,
     pub n: Register,
@@ -100,7 +100,7 @@ pub struct Wlstp {
 }
 
 /// The operation at the end of a loop.
-#[derive(Clone, Copy, PartialEq, Eq, Debug)]
+#[derive(Clone, Copy)]
 pub enum LoopEndName {
     /// `le lr,label`
     LeLr,
@@ -111,14 +111,14 @@ pub enum LoopEndName {
 }
 
 /// `le lr,label`, `letp lr,label` and `le label`, backward by 2v from the address plus 4.
-#[derive(Clone, Copy, PartialEq, Eq, Debug)]
+#[derive(Clone, Copy)]
 pub struct LoopEnd {
     pub name: LoopEndName,
     pub v: Below<2048>,
 }
 
 /// Low-overhead loops: DDI0553, "WLS, DLS, WLSTP, DLSTP", "LE, LETP" and "LCTP".
-#[derive(Clone, Copy, PartialEq, Eq, Debug)]
+#[derive(Clone, Copy)]
 pub enum T23 {
     Dls(Dls),
     Wls(Wls),

@@ -185,7 +185,7 @@ pub use wide::T15;
 pub use wide::WideListName;
 
 /// An instruction of the scalar rows: neither a branch nor a vector instruction.
-#[derive(Clone, Copy, Debug, PartialEq, Eq)]
+#[derive(Clone, Copy)]
 pub enum Scalar {
     /// `lsls`, `lsrs`, `asrs rd,rm,#i`
     S1(S1),
@@ -272,7 +272,7 @@ pub enum Scalar {
 }
 
 /// An instruction of the branch rows.
-#[derive(Clone, Copy, Debug, PartialEq, Eq)]
+#[derive(Clone, Copy)]
 pub enum Branch {
     /// `bx`, `blx rm`
     S23(S23),
@@ -289,7 +289,7 @@ pub enum Branch {
 }
 
 /// An instruction of the vector rows: DDI0553, "M-profile Vector Extension".
-#[derive(Clone, Copy, Debug, PartialEq, Eq)]
+#[derive(Clone, Copy)]
 pub enum Vector {
     /// `vadd`, `vsub`, `vmul` of elements
     V1(V1),
@@ -350,7 +350,7 @@ pub enum Vector {
 }
 
 /// An instruction. Each value is one of a row, with its fields in range.
-#[derive(Clone, Copy, Debug, PartialEq, Eq)]
+#[derive(Clone, Copy)]
 pub enum Instr {
     Scalar(Scalar),
     Branch(Branch),
@@ -358,7 +358,7 @@ pub enum Instr {
 }
 
 /// What has become of an instruction that did not stop.
-#[derive(Clone, Copy, Debug, PartialEq, Eq)]
+#[derive(Clone, Copy)]
 pub enum Flow {
     /// It is done, and the program counter has moved.
     Next,

@@ -6,7 +6,7 @@ ghost use Rattle.hm_isa.specs.Rules.{is_system_move};
 use crate::fields::{Below, QRegister, Register};
 
 /// A special register that is read.
-#[derive(Clone, Copy, PartialEq, Eq, Debug)]
+#[derive(Clone, Copy)]
 pub enum ReadName {
     Apsr,
     Ipsr,
@@ -16,7 +16,7 @@ pub enum ReadName {
 }
 
 /// `mrs rd,NAME`.
-#[derive(Clone, Copy, PartialEq, Eq, Debug)]
+#[derive(Clone, Copy)]
 pub struct Mrs {
     pub name: ReadName,
     pub d: Register,
@@ -25,7 +25,7 @@ pub struct Mrs {
 }
 
 /// A special register that is written.
-#[derive(Clone, Copy, PartialEq, Eq, Debug)]
+#[derive(Clone, Copy)]
 pub enum WrittenName {
     Apsr,
     Msp,
@@ -33,7 +33,7 @@ pub enum WrittenName {
 }
 
 /// `msr NAME,rn`.
-#[derive(Clone, Copy, PartialEq, Eq, Debug)]
+#[derive(Clone, Copy)]
 pub struct Msr {
     pub name: WrittenName,
     pub n: Register,
@@ -42,14 +42,14 @@ pub struct Msr {
 }
 
 /// A special register, read or written: DDI0553, "MRS" and "MSR (register)", encodings T1.
-#[derive(Clone, Copy, PartialEq, Eq, Debug)]
+#[derive(Clone, Copy)]
 pub enum T18 {
     Read(Mrs),
     Write(Msr),
 }
 
 /// A barrier, in the order of the codes.
-#[derive(Clone, Copy, PartialEq, Eq, Debug)]
+#[derive(Clone, Copy)]
 pub enum BarrierName {
     Dsb,
     Dmb,
@@ -57,14 +57,14 @@ pub enum BarrierName {
 }
 
 /// `dsb`, `dmb`, `isb #o`.
-#[derive(Clone, Copy, PartialEq, Eq, Debug)]
+#[derive(Clone, Copy)]
 pub struct Barrier {
     pub name: BarrierName,
     pub o: Below<16>,
 }
 
 /// An instruction that does nothing: DDI0553, "NOP", encoding T2, and "DSB", "DMB" and "ISB", encodings T1.
-#[derive(Clone, Copy, PartialEq, Eq, Debug)]
+#[derive(Clone, Copy)]
 pub enum T19 {
     /// `nop.w`
     Nop,
@@ -72,7 +72,7 @@ pub enum T19 {
 }
 
 /// The operation of the row T21.
-#[derive(Clone, Copy, PartialEq, Eq, Debug)]
+#[derive(Clone, Copy)]
 pub enum SystemMoveName {
     /// `vmrs rt,fpscr`, and with 15 as `t` `vmrs apsr_nzcv,fpscr`
     ReadFpscr,
@@ -89,7 +89,7 @@ pub enum SystemMoveName {
 }
 
 /// A move between a core register and FPSCR, VPR or its P0: DDI0553, "VMRS" and "VMSR", encodings T1.
-#[derive(Clone, Copy, PartialEq, Eq, Debug)]
+#[derive(Clone, Copy)]
 pub struct T21 {
     pub name: SystemMoveName,
     pub t: Register,
@@ -97,7 +97,7 @@ pub struct T21 {
 }
 
 /// The operation of the row T22.
-#[derive(Clone, Copy, PartialEq, Eq, Debug)]
+#[derive(Clone, Copy)]
 pub enum LaneMoveName {
     /// `vmov.32 qd[x],rt`
     ToLane,
@@ -107,7 +107,7 @@ pub enum LaneMoveName {
 
 /// A move between a core register and word `x` of a vector register: DDI0553, "VMOV (general-purpose register to vector lane)" and
 /// "VMOV (vector lane to general-purpose register)", encodings T1.
-#[derive(Clone, Copy, PartialEq, Eq, Debug)]
+#[derive(Clone, Copy)]
 pub struct T22 {
     pub name: LaneMoveName,
     pub x: Below<4>,

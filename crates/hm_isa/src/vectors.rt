@@ -6,7 +6,7 @@ ghost use Rattle.hm_isa.specs.Rules.{has_size, is_reversed, is_shifted_by, is_si
 use crate::fields::{Below, Bit, ElementSize, QRegister, Register};
 
 /// The size of elements, where it tells codes apart as a name does.
-#[derive(Clone, Copy, PartialEq, Eq, Debug)]
+#[derive(Clone, Copy)]
 pub enum Element {
     /// 8 bits
     Bytes,
@@ -17,7 +17,7 @@ pub enum Element {
 }
 
 /// The operation of the row V1.
-#[derive(Clone, Copy, PartialEq, Eq, Debug)]
+#[derive(Clone, Copy)]
 pub enum AddName {
     /// `vadd`
     Add,
@@ -28,7 +28,7 @@ pub enum AddName {
 }
 
 /// `vadd`, `vsub`, `vmul` of elements, as `vadd.i32 qd,qn,qm`: DDI0553, "VADD (vector)", "VSUB (vector)" and "VMUL (vector)".
-#[derive(Clone, Copy, PartialEq, Eq, Debug)]
+#[derive(Clone, Copy)]
 pub struct V1 {
     pub name: AddName,
     /// The size of the elements.
@@ -42,7 +42,7 @@ pub struct V1 {
 }
 
 /// The operation of the row V2.
-#[derive(Clone, Copy, PartialEq, Eq, Debug)]
+#[derive(Clone, Copy)]
 pub enum BitwiseName {
     /// `vand`
     And,
@@ -57,7 +57,7 @@ pub enum BitwiseName {
 }
 
 /// `vand`, `vbic`, `vorr`, `vorn`, `veor qd,qn,qm`: DDI0553, "VAND", "VBIC (register)", "VORR", "VORN" and "VEOR".
-#[derive(Clone, Copy, PartialEq, Eq, Debug)]
+#[derive(Clone, Copy)]
 pub struct V2 {
     pub name: BitwiseName,
     /// The register of the first operands.
@@ -69,7 +69,7 @@ pub struct V2 {
 }
 
 /// The operation of the row V3.
-#[derive(Clone, Copy, PartialEq, Eq, Debug)]
+#[derive(Clone, Copy)]
 pub enum SignedName {
     /// `vmax`
     Max,
@@ -91,7 +91,7 @@ pub enum SignedName {
 
 /// `vmax`, `vmin`, `vabd`, `vhadd`, `vrhadd`, `vhsub`, `vqadd`, `vqsub` of elements, as `vmax.s8 qd,qn,qm`: DDI0553, these
 /// instructions' vector forms.
-#[derive(Clone, Copy, PartialEq, Eq, Debug)]
+#[derive(Clone, Copy)]
 pub struct V3 {
     pub name: SignedName,
     /// 1 for unsigned elements.
@@ -107,7 +107,7 @@ pub struct V3 {
 }
 
 /// The operation of the row V4.
-#[derive(Clone, Copy, PartialEq, Eq, Debug)]
+#[derive(Clone, Copy)]
 pub enum VectorShiftName {
     /// `vshl`
     Shl,
@@ -121,7 +121,7 @@ pub enum VectorShiftName {
 
 /// Shifts of elements by elements, as `vshl.s8 qd,qm,qn`: DDI0553, "VSHL", "VQSHL", "VRSHL" and "VQRSHL" (vector). A count is
 /// the signed low byte of an element, and shifts to the right where it is negative.
-#[derive(Clone, Copy, PartialEq, Eq, Debug)]
+#[derive(Clone, Copy)]
 pub struct V4 {
     pub name: VectorShiftName,
     /// 1 for unsigned elements.
@@ -137,7 +137,7 @@ pub struct V4 {
 }
 
 /// The operation of the row V5.
-#[derive(Clone, Copy, PartialEq, Eq, Debug)]
+#[derive(Clone, Copy)]
 pub enum DoublingName {
     /// `vqdmulh`
     Qdmulh,
@@ -146,7 +146,7 @@ pub enum DoublingName {
 }
 
 /// `vqdmulh`, `vqrdmulh`, as `vqdmulh.s8 qd,qn,qm`: DDI0553, "VQDMULH, VQRDMULH (vector)".
-#[derive(Clone, Copy, PartialEq, Eq, Debug)]
+#[derive(Clone, Copy)]
 pub struct V5 {
     pub name: DoublingName,
     /// The size of the elements.
@@ -160,7 +160,7 @@ pub struct V5 {
 }
 
 /// `vmullb`, `vmullt`, as `vmullb.s8 qd,qn,qm`: DDI0553, "VMULL (integer)".
-#[derive(Clone, Copy, PartialEq, Eq, Debug)]
+#[derive(Clone, Copy)]
 pub struct V6 {
     /// 1 for unsigned elements.
     pub u: Bit,
@@ -178,7 +178,7 @@ pub struct V6 {
 }
 
 /// The operation of the row V7.
-#[derive(Clone, Copy, PartialEq, Eq, Debug)]
+#[derive(Clone, Copy)]
 pub enum HighName {
     /// `vmulh`
     Mulh,
@@ -187,7 +187,7 @@ pub enum HighName {
 }
 
 /// `vmulh`, `vrmulh`, as `vmulh.s8 qd,qn,qm`: DDI0553, "VMULH, VRMULH".
-#[derive(Clone, Copy, PartialEq, Eq, Debug)]
+#[derive(Clone, Copy)]
 pub struct V7 {
     pub name: HighName,
     /// 1 for unsigned elements.
@@ -203,7 +203,7 @@ pub struct V7 {
 }
 
 /// The operation of the row V8.
-#[derive(Clone, Copy, PartialEq, Eq, Debug)]
+#[derive(Clone, Copy)]
 pub enum CarryName {
     /// `vadc`
     Adc,
@@ -216,7 +216,7 @@ pub enum CarryName {
 }
 
 /// `vadc`, `vadci`, `vsbc`, `vsbci`, as `vadc.i32 qd,qn,qm`: DDI0553, "VADC" and "VSBC".
-#[derive(Clone, Copy, PartialEq, Eq, Debug)]
+#[derive(Clone, Copy)]
 pub struct V8 {
     pub name: CarryName,
     /// The register of the first operands.
@@ -228,7 +228,7 @@ pub struct V8 {
 }
 
 /// The operation of the row V9.
-#[derive(Clone, Copy, PartialEq, Eq, Debug)]
+#[derive(Clone, Copy)]
 pub enum TurnName {
     /// `vcadd`
     Cadd,
@@ -237,7 +237,7 @@ pub enum TurnName {
 }
 
 /// `vcadd`, `vhcadd`, as `vcadd.i8 qd,qn,qm,#90`: DDI0553, "VCADD" and "VHCADD".
-#[derive(Clone, Copy, PartialEq, Eq, Debug)]
+#[derive(Clone, Copy)]
 pub struct V9 {
     pub name: TurnName,
     /// The size of the elements.
@@ -254,7 +254,7 @@ pub struct V9 {
 }
 
 /// The operation of the row V10.
-#[derive(Clone, Copy, PartialEq, Eq, Debug)]
+#[derive(Clone, Copy)]
 pub enum ScalarName {
     /// `vadd`
     Add,
@@ -282,7 +282,7 @@ pub enum ScalarName {
 
 /// Operations of elements and a core register, as `vadd.i8 qd,qn,rm`: DDI0553, these instructions' forms with a vector and a
 /// scalar. `u` is 0 where the name says nothing of signs.
-#[derive(Clone, Copy, PartialEq, Eq, Debug)]
+#[derive(Clone, Copy)]
 pub struct V10 {
     pub name: ScalarName,
     /// 1 for unsigned elements.
@@ -301,7 +301,7 @@ pub struct V10 {
 }
 
 /// The operation of the row V11.
-#[derive(Clone, Copy, PartialEq, Eq, Debug)]
+#[derive(Clone, Copy)]
 pub enum ConstantShiftName {
     /// `vshr`
     Shr,
@@ -321,7 +321,7 @@ pub enum ConstantShiftName {
 
 /// Shifts of elements by a constant, as `vshr.s8 qd,qm,#k`: DDI0553, "VSHR", "VRSHR", "VQSHL, VQSHLU", "VSHL" (immediate), "VSRI"
 /// and "VSLI". `u` is 0 where the name says nothing of signs.
-#[derive(Clone, Copy, PartialEq, Eq, Debug)]
+#[derive(Clone, Copy)]
 pub struct V11 {
     pub name: ConstantShiftName,
     /// 1 for unsigned elements.
@@ -340,7 +340,7 @@ pub struct V11 {
 }
 
 /// `vshllb`, `vshllt` of 8 bits by less than 8, as `vshllb.s8 qd,qm,#k`; by 0 they are `vmovlb`, `vmovlt`.
-#[derive(Clone, Copy, PartialEq, Eq, Debug)]
+#[derive(Clone, Copy)]
 pub struct LongBytes {
     /// 1 for unsigned elements.
     pub u: Bit,
@@ -355,7 +355,7 @@ pub struct LongBytes {
 }
 
 /// `vshllb`, `vshllt` of 16 bits by less than 16, as `vshllb.s16 qd,qm,#k`; by 0 they are `vmovlb`, `vmovlt`.
-#[derive(Clone, Copy, PartialEq, Eq, Debug)]
+#[derive(Clone, Copy)]
 pub struct LongHalves {
     /// 1 for unsigned elements.
     pub u: Bit,
@@ -370,7 +370,7 @@ pub struct LongHalves {
 }
 
 /// `vshllb`, `vshllt` by the size of the elements, as `vshllb.s8 qd,qm,#8`.
-#[derive(Clone, Copy, PartialEq, Eq, Debug)]
+#[derive(Clone, Copy)]
 pub struct LongFull {
     /// 1 for unsigned elements.
     pub u: Bit,
@@ -385,7 +385,7 @@ pub struct LongFull {
 }
 
 /// `vshllb`, `vshllt`, `vmovlb`, `vmovlt`: DDI0553, "VSHLL" and "VMOVL".
-#[derive(Clone, Copy, PartialEq, Eq, Debug)]
+#[derive(Clone, Copy)]
 pub enum V12 {
     Bytes(LongBytes),
     Halves(LongHalves),
@@ -393,7 +393,7 @@ pub enum V12 {
 }
 
 /// The operation of the row V13 on elements.
-#[derive(Clone, Copy, PartialEq, Eq, Debug)]
+#[derive(Clone, Copy)]
 pub enum OneName {
     /// `vcls`
     Cls,
@@ -410,7 +410,7 @@ pub enum OneName {
 }
 
 /// `vcls`, `vclz`, `vabs`, `vneg`, `vqabs`, `vqneg`, as `vabs.s8 qd,qm`.
-#[derive(Clone, Copy, PartialEq, Eq, Debug)]
+#[derive(Clone, Copy)]
 pub struct OneElement {
     pub name: OneName,
     /// The size of the elements.
@@ -422,7 +422,7 @@ pub struct OneElement {
 }
 
 /// `vmvn qd,qm`.
-#[derive(Clone, Copy, PartialEq, Eq, Debug)]
+#[derive(Clone, Copy)]
 pub struct Invert {
     /// The register that gets the result.
     pub d: QRegister,
@@ -431,14 +431,14 @@ pub struct Invert {
 }
 
 /// Operations on one vector: DDI0553, "VCLS", "VCLZ", "VABS", "VNEG", "VQABS", "VQNEG" and "VMVN (register)".
-#[derive(Clone, Copy, PartialEq, Eq, Debug)]
+#[derive(Clone, Copy)]
 pub enum V13 {
     Elements(OneElement),
     Not(Invert),
 }
 
 /// The operation of the row V14.
-#[derive(Clone, Copy, PartialEq, Eq, Debug)]
+#[derive(Clone, Copy)]
 pub enum ReverseName {
     /// `vrev64`
     Rev64,
@@ -449,7 +449,7 @@ pub enum ReverseName {
 }
 
 /// `vrev64`, `vrev32`, `vrev16`, as `vrev64.8 qd,qm`: DDI0553, these instructions.
-#[derive(Clone, Copy, PartialEq, Eq, Debug)]
+#[derive(Clone, Copy)]
 pub struct V14 {
     pub name: ReverseName,
     /// The size of the elements.
@@ -465,7 +465,7 @@ pub struct V14 {
 /// "VORR (immediate)" and "VBIC (immediate)".
 ///
 /// The immediate has eight bits, i, i3 and i4 from the highest on.
-#[derive(Clone, Copy, PartialEq, Eq, Debug)]
+#[derive(Clone, Copy)]
 pub struct V15 {
     /// Bit 7 of the immediate.
     pub i: Bit,
@@ -484,7 +484,7 @@ pub struct V15 {
 }
 
 /// The operation of the row V16.
-#[derive(Clone, Copy, PartialEq, Eq, Debug)]
+#[derive(Clone, Copy)]
 pub enum NarrowName {
     /// `vmovn`
     Plain,
@@ -497,7 +497,7 @@ pub enum NarrowName {
 }
 
 /// `vmovnb`, `vmovnt`, `vqmovunb`, `vqmovnb` and so on, as `vmovnb.i16 qd,qm`: DDI0553, "VMOVN", "VQMOVN" and "VQMOVUN".
-#[derive(Clone, Copy, PartialEq, Eq, Debug)]
+#[derive(Clone, Copy)]
 pub struct V16 {
     pub name: NarrowName,
     /// 0 for elements of 16 bits to 8, 1 for 32 to 16.
@@ -511,7 +511,7 @@ pub struct V16 {
 }
 
 /// `vshlc qd,rm,#k`, 32 coded 0: DDI0553, "VSHLC".
-#[derive(Clone, Copy, PartialEq, Eq, Debug)]
+#[derive(Clone, Copy)]
 pub struct V17 {
     /// The shift, where 0 stands for 32.
     pub k: Below<32>,
@@ -524,7 +524,7 @@ pub struct V17 {
 }
 
 /// `vdup.32 qd,rt`: DDI0553, "VDUP".
-#[derive(Clone, Copy, PartialEq, Eq, Debug)]
+#[derive(Clone, Copy)]
 pub struct V18 {
     /// The size of the elements.
     pub size: Element,
@@ -537,7 +537,7 @@ pub struct V18 {
 }
 
 /// Which way the offsets of the row V19 go.
-#[derive(Clone, Copy, PartialEq, Eq, Debug)]
+#[derive(Clone, Copy)]
 pub enum OffsetsName {
     /// `vidup`, `viwdup`
     Up,
@@ -546,7 +546,7 @@ pub enum OffsetsName {
 }
 
 /// `vidup`, `vddup`, as `vidup.u8 qd,rn,#2^k`.
-#[derive(Clone, Copy, PartialEq, Eq, Debug)]
+#[derive(Clone, Copy)]
 pub struct Offsets {
     pub name: OffsetsName,
     /// The size of the elements.
@@ -560,7 +560,7 @@ pub struct Offsets {
 }
 
 /// `viwdup`, `vdwdup`, as `viwdup.u8 qd,rn,rm,#2^k`.
-#[derive(Clone, Copy, PartialEq, Eq, Debug)]
+#[derive(Clone, Copy)]
 pub struct WrappedOffsets {
     pub name: OffsetsName,
     /// The size of the elements.
@@ -576,14 +576,14 @@ pub struct WrappedOffsets {
 }
 
 /// Offsets from a register: DDI0553, "VIDUP, VIWDUP" and "VDDUP, VDWDUP".
-#[derive(Clone, Copy, PartialEq, Eq, Debug)]
+#[derive(Clone, Copy)]
 pub enum V19 {
     Free(Offsets),
     Wrapped(WrappedOffsets),
 }
 
 /// `vcmp` and `vpt` of two vectors, as `vcmp.i8 eq,qn,qm`.
-#[derive(Clone, Copy, PartialEq, Eq, Debug)]
+#[derive(Clone, Copy)]
 pub struct CompareVectors {
     /// The mask of `vpt`; 0 for `vcmp`.
     pub k: Below<16>,
@@ -598,7 +598,7 @@ pub struct CompareVectors {
 }
 
 /// `vcmp` and `vpt` of a vector and a core register, as `vcmp.i8 eq,qn,rm`, or zero, which is 15 as `m`.
-#[derive(Clone, Copy, PartialEq, Eq, Debug)]
+#[derive(Clone, Copy)]
 pub struct CompareScalar {
     /// The mask of `vpt`; 0 for `vcmp`.
     pub k: Below<16>,
@@ -614,20 +614,20 @@ pub struct CompareScalar {
 }
 
 /// Comparisons: DDI0553, "VCMP" and "VPT".
-#[derive(Clone, Copy, PartialEq, Eq, Debug)]
+#[derive(Clone, Copy)]
 pub enum V20 {
     Vectors(CompareVectors),
     Scalar(CompareScalar),
 }
 
 /// `vpst` with the mask `k` of a block, or `vpnot` where it is 0.
-#[derive(Clone, Copy, PartialEq, Eq, Debug)]
+#[derive(Clone, Copy)]
 pub struct Block {
     pub k: Below<16>,
 }
 
 /// `vpsel qd,qn,qm`.
-#[derive(Clone, Copy, PartialEq, Eq, Debug)]
+#[derive(Clone, Copy)]
 pub struct Select {
     /// The register of the first operands.
     pub n: QRegister,
@@ -638,7 +638,7 @@ pub struct Select {
 }
 
 /// `vctp.8 rn`, `vctp.16`, `vctp.32`, `vctp.64`.
-#[derive(Clone, Copy, PartialEq, Eq, Debug)]
+#[derive(Clone, Copy)]
 pub struct Tail {
     /// The size of the elements: 0 to 3 are 8, 16, 32 and 64 bits.
     pub z: Below<4>,
@@ -649,7 +649,7 @@ pub struct Tail {
 }
 
 /// What sets or uses the predicate: DDI0553, "VPST", "VPNOT", "VPSEL" and "VCTP".
-#[derive(Clone, Copy, PartialEq, Eq, Debug)]
+#[derive(Clone, Copy)]
 pub enum V21 {
     Block(Block),
     Select(Select),
@@ -657,7 +657,7 @@ pub enum V21 {
 }
 
 /// `vaddv`, as `vaddva.s8 rl,qm`: the elements of a vector, added up.
-#[derive(Clone, Copy, PartialEq, Eq, Debug)]
+#[derive(Clone, Copy)]
 pub struct Sum {
     /// 1 for unsigned elements.
     pub u: Bit,
@@ -672,7 +672,7 @@ pub struct Sum {
 }
 
 /// `vmladav`, as `vmladava.s8 rl,qn,qm`: products of elements, added up.
-#[derive(Clone, Copy, PartialEq, Eq, Debug)]
+#[derive(Clone, Copy)]
 pub struct Dot {
     /// The size of the elements.
     pub size: Element,
@@ -689,7 +689,7 @@ pub struct Dot {
 }
 
 /// `vaddlv`, as `vaddlva.s32 rl,rh,qm`: words, added up in 64 bits.
-#[derive(Clone, Copy, PartialEq, Eq, Debug)]
+#[derive(Clone, Copy)]
 pub struct LongSum {
     /// 1 for unsigned elements.
     pub u: Bit,
@@ -704,7 +704,7 @@ pub struct LongSum {
 }
 
 /// `vmlaldav`, as `vmlaldava.s16 rl,rh,qn,qm`: products, added up in 64 bits.
-#[derive(Clone, Copy, PartialEq, Eq, Debug)]
+#[derive(Clone, Copy)]
 pub struct LongDot {
     /// 1 for unsigned elements.
     pub u: Bit,
@@ -723,7 +723,7 @@ pub struct LongDot {
 }
 
 /// Sums: DDI0553, "VADDV", "VMLADAV", "VADDLV" and "VMLALDAV".
-#[derive(Clone, Copy, PartialEq, Eq, Debug)]
+#[derive(Clone, Copy)]
 pub enum V22 {
     Sum(Sum),
     Dot(Dot),
@@ -732,7 +732,7 @@ pub enum V22 {
 }
 
 /// The operation of the row V23.
-#[derive(Clone, Copy, PartialEq, Eq, Debug)]
+#[derive(Clone, Copy)]
 pub enum ExtremeName {
     /// `vmaxv`
     Max,
@@ -741,7 +741,7 @@ pub enum ExtremeName {
 }
 
 /// `vmaxv`, `vminv`, as `vmaxv.s8 rt,qm`: DDI0553, "VMAXV" and "VMINV".
-#[derive(Clone, Copy, PartialEq, Eq, Debug)]
+#[derive(Clone, Copy)]
 pub struct V23 {
     pub name: ExtremeName,
     /// 1 for unsigned elements.

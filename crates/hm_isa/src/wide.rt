@@ -7,7 +7,7 @@ use crate::fields::{Below, Bit, Byte, Register};
 use crate::narrow::AccessName;
 
 /// `strb.w rt,[rn,#i]` and so on.
-#[derive(Clone, Copy, PartialEq, Eq, Debug)]
+#[derive(Clone, Copy)]
 pub struct Offset {
     pub name: AccessName,
     pub n: Register,
@@ -17,7 +17,7 @@ pub struct Offset {
 }
 
 /// `strb.w rt,[rn,#-i]`, `[rn,#i]!`, `[rn],#i` and so on, as p, u and w say.
-#[derive(Clone, Copy, PartialEq, Eq, Debug)]
+#[derive(Clone, Copy)]
 pub struct Indexed {
     pub name: AccessName,
     pub n: Register,
@@ -33,7 +33,7 @@ pub struct Indexed {
 }
 
 /// `strb.w rt,[rn,rm,lsl #i]` and so on.
-#[derive(Clone, Copy, PartialEq, Eq, Debug)]
+#[derive(Clone, Copy)]
 pub struct Shifted {
     pub name: AccessName,
     pub n: Register,
@@ -44,7 +44,7 @@ pub struct Shifted {
 }
 
 /// `ldrb.w rt,[pc,#i]` and so on, from pc rounded down to a word.
-#[derive(Clone, Copy, PartialEq, Eq, Debug)]
+#[derive(Clone, Copy)]
 pub struct Literal {
     pub name: AccessName,
     /// Whether the offset is added.
@@ -56,7 +56,7 @@ pub struct Literal {
 
 /// A load or store of a byte, a halfword or a word: DDI0553, "LDR (immediate)", "LDR (literal)", "LDR (register)" and their
 /// kin, encodings T2 to T4.
-#[derive(Clone, Copy, PartialEq, Eq, Debug)]
+#[derive(Clone, Copy)]
 pub enum T12 {
     Offset(Offset),
     Indexed(Indexed),
@@ -65,7 +65,7 @@ pub enum T12 {
 }
 
 /// The operation of the row T13.
-#[derive(Clone, Copy, PartialEq, Eq, Debug)]
+#[derive(Clone, Copy)]
 pub enum PairName {
     Strd,
     Ldrd,
@@ -73,7 +73,7 @@ pub enum PairName {
 
 /// `strd`, `ldrd rt,ru,[rn,#4i]` and its other forms of address: DDI0553, "STRD (immediate)", "LDRD (immediate)" and "LDRD (literal)",
 /// encodings T1.
-#[derive(Clone, Copy, PartialEq, Eq, Debug)]
+#[derive(Clone, Copy)]
 pub struct T13 {
     pub name: PairName,
     /// Whether the offset goes to the address of the access.
@@ -90,7 +90,7 @@ pub struct T13 {
 }
 
 /// The operation of the row T14: a store or a load of several registers, from the base up or up to it.
-#[derive(Clone, Copy, PartialEq, Eq, Debug)]
+#[derive(Clone, Copy)]
 pub enum WideListName {
     Stmia,
     Ldmia,
@@ -100,7 +100,7 @@ pub enum WideListName {
 
 /// `stmia.w`, `ldmia.w`, `stmdb`, `ldmdb rn,{..}`: DDI0553, "STM, STMIA, STMEA", "LDM, LDMIA, LDMFD", "STMDB, STMFD" and "LDMDB,
 /// LDMEA", encodings T2 and T1. Bit k of `list` is register k.
-#[derive(Clone, Copy, PartialEq, Eq, Debug)]
+#[derive(Clone, Copy)]
 pub struct T14 {
     pub name: WideListName,
     /// Whether the base gets the address at the other end of the list.
@@ -111,14 +111,14 @@ pub struct T14 {
 }
 
 /// The operation of the row T15.
-#[derive(Clone, Copy, PartialEq, Eq, Debug)]
+#[derive(Clone, Copy)]
 pub enum StackName {
     Vpush,
     Vpop,
 }
 
 /// `vpush`, `vpop {dv-dw}` of `k` registers from `v` on: DDI0553, "VPUSH" and "VPOP", encodings T1.
-#[derive(Clone, Copy, PartialEq, Eq, Debug)]
+#[derive(Clone, Copy)]
 pub struct T15 {
     pub name: StackName,
     pub v: Below<16>,

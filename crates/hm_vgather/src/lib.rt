@@ -12,7 +12,7 @@ use hm_regs::Regs;
 use hm_rows::kind;
 
 /// An instruction that loads or stores at addresses that a vector register has or gives: one of the rows V26 and V27.
-#[derive(Clone, Copy, Debug, PartialEq, Eq)]
+#[derive(Clone, Copy)]
 pub struct Gather {
     pub row: Vector,
     pub ghost family: { IsTrue (is_gather row) },

@@ -12,7 +12,7 @@ use hm_regs::Regs;
 use hm_rows::kind;
 
 /// An instruction that loads or stores elements that two or four vector registers take in turn: a row V28.
-#[derive(Clone, Copy, Debug, PartialEq, Eq)]
+#[derive(Clone, Copy)]
 pub struct Inter {
     pub row: Vector,
     pub ghost family: { IsTrue (is_inter row) },

@@ -12,7 +12,7 @@ use hm_regs::Regs;
 use hm_rows::kind;
 
 /// An instruction that loads or stores elements one behind another: one of the rows V24 and V25.
-#[derive(Clone, Copy, Debug, PartialEq, Eq)]
+#[derive(Clone, Copy)]
 pub struct Straight {
     pub row: Vector,
     pub ghost family: { IsTrue (is_straight row) },
