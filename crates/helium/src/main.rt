@@ -1,24 +1,12 @@
-//! The program: it reads, runs, writes and prints by its words.
+//! The program: it does what the words of its command line ask for.
 #![tactic(auto)]
 
-mod commands;
-mod laws;
-mod machine;
-mod outside;
-mod ranges;
-mod status;
-mod ticks;
-mod top;
-mod words;
-mod work;
-
+use hm_commands::{Status, helium};
 use hm_host::OsHost;
-use status::Status;
 use std::env;
 use std::env::Env;
 use std::io::ErrorKind;
 use std::process::ExitCode;
-use top::helium;
 
 /// The words of the command line, but for the program's name. Where they cannot be had, but not for want of memory, there are none.
 fn words_of(rt: &(impl Env + AllocGlobal)) -> Result<Vec<String>, Status> {
@@ -45,6 +33,3 @@ fn main(rt: HostRuntime) -> ExitCode {
     };
     ExitCode::from(status.code())
 }
-
-#[cfg(test)]
-mod tests;

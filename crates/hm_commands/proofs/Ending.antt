@@ -1,0 +1,119 @@
+-- What a status tells, whatever the host tells.
+use Rattle.std.proofs.Common.{◌≡◌, ◌⊎◌, ◌<◌, ◌+◌, ◌^◌, ℕ, ◌++◌, ◌∙◌, ap, refl, sym, inl, inr, Option, Some, None, true, false, subst, arith, List}
+use Rattle.hm_base.specs.Image.{Segment}
+use Rattle.hm_codes.specs.Listing.{Listing}
+use Rattle.hm_host.specs.Host.{FileMap, HostState, Stays, Rose}
+use Rattle.hm_commands.specs.declared.status.Status.{Status}
+use Rattle.hm_commands.specs.declared.status.Status.TheVariants.{Done, Ended, Usage, Refused, HostFault, NoMemory}
+use Rattle.hm_commands.specs.Words.{Form, form_of}
+use Rattle.hm_commands.specs.Calls.{MakesCalls, read_calls, way_of}
+use Rattle.hm_commands.specs.Work.{Outcome, finishes, refuses}
+use Rattle.hm_commands.specs.Effect.{Effect, Reading, whole, too_large, missing, reading_of, reads_for, usage_effect, IsEffectAfter, IsEffect, effect_for, calls_for, IsDone, IsUntouched, Carries, CarriesOne, Completes, Does, MakesCallsOfOne, StaysOrMakesAllOfOne}
+
+not_usage : (o : Outcome) → (effect_for o).status ≡ Usage → ⊥
+not_usage (finishes true file text) h = cc
+not_usage (finishes false file text) h = cc
+not_usage (refuses why) h = cc
+
+status_not_usage : (listings : List Segment → Listing) (form : Form) (r : Reading) (e : Effect) → IsEffectAfter listings (Some form) r e → e.status ≡ Usage → ⊥
+status_not_usage listings form (whole contents) e of h = not_usage of.0 (sym (ap (λ (x : Effect). x.status) of.2) ∙ h)
+status_not_usage listings form too_large e of h = let no : Refused ≡ Usage = sym (ap (λ (x : Effect). x.status) of) ∙ h in cc
+status_not_usage listings form missing e of h = let no : HostFault ≡ Usage = sym (ap (λ (x : Effect). x.status) of) ∙ h in cc
+
+pub Does-usage : (listings : List Segment → Listing) (form : Form) (old new : HostState) (s : Status) → Does listings (Some form) old new s → s ≡ Usage → ⊥
+Does-usage listings form old new s h is = elim h.carries [
+  | inl one ↦ status_not_usage listings form h.reading one.0 one.1 (subst (Carries one.0 old new) is one.2).status_is
+  | inr none ↦ subst (IsUntouched old new) is none
+]
+
+pub Does-host_fault : (listings : List Segment → Listing) (form : Option Form) (old new : HostState) (s : Status) → Does listings form old new s → s ≡ HostFault → Rose old.faults new.faults
+Does-host_fault listings form old new s h is = elim h.carries [
+  | inl one ↦ (subst (Carries one.0 old new) is one.2).0
+  | inr none ↦ (subst (IsUntouched old new) is none).0
+]
+
+risen : (e : Effect) (old new : HostState) (s : Status) → Carries e old new s → old.faults < new.faults → s ≡ HostFault
+risen e old new Done h rose = absurd (let same : new.faults ≡ old.faults = h.faults in omega arith)
+risen e old new Ended h rose = absurd (let same : new.faults ≡ old.faults = h.faults in omega arith)
+risen e old new Usage h rose = absurd (let same : new.faults ≡ old.faults = h.faults in omega arith)
+risen e old new Refused h rose = absurd (let same : new.faults ≡ old.faults = h.faults in omega arith)
+risen e old new HostFault h rose = refl
+risen e old new NoMemory h rose = absurd (let same : new.faults ≡ old.faults = h.faults in omega arith)
+
+untouched_risen : (old new : HostState) (s : Status) → IsUntouched old new s → old.faults < new.faults → s ≡ HostFault
+untouched_risen old new Done h rose = absurd h
+untouched_risen old new Ended h rose = absurd h
+untouched_risen old new Usage h rose = absurd h
+untouched_risen old new Refused h rose = absurd h
+untouched_risen old new HostFault h rose = refl
+untouched_risen old new NoMemory h rose = absurd (let same : new.faults ≡ old.faults = h.0 in omega arith)
+
+pub Does-risen : (listings : List Segment → Listing) (form : Option Form) (old new : HostState) (s : Status) → Does listings form old new s → old.faults < new.faults → s ≡ HostFault
+Does-risen listings form old new s h rose = elim h.carries [
+  | inl one ↦ risen one.0 old new s one.2 rose
+  | inr none ↦ untouched_risen old new s none rose
+]
+
+pub Does-quiet : (listings : List Segment → Listing) (form : Option Form) (old new : HostState) (s : Status) → Does listings form old new s → s ≡ NoMemory → Stays old.printed new.printed
+Does-quiet listings form old new s h is = elim h.carries [
+  | inl one ↦ (subst (Carries one.0 old new) is one.2).printed
+  | inr none ↦ (subst (IsUntouched old new) is none).2
+]
+
+-- ---- by the words
+
+-- what the reads gave is what the files hold that the words name
+read_for_words : (form : Option Form) (words : List (List ℕ)) (F : FileMap) (reading : Reading) → reading ≡ reading_of F (reads_for form) → form ≡ form_of words
+    → (reading ≡ reading_of F (reads_for (form_of words)))
+read_for_words form words F reading read is = read ∙ ap (λ (o : Option Form). reading_of F (reads_for o)) is
+
+pub Does-carries : (listings : List Segment → Listing) (form : Option Form) (words : List (List ℕ)) (old new : HostState) (s : Status) (F : FileMap)
+    → Does listings form old new s → form ≡ form_of words → old.files ≡ Some F → CarriesOne (IsEffect listings words F) old new s
+Does-carries listings form words old new s F h is told =
+    subst (λ (r : Reading). CarriesOne (IsEffectAfter listings (form_of words) r) old new s) (read_for_words form words F h.reading (h.told F told) is)
+    (subst (λ (o : Option Form). CarriesOne (IsEffectAfter listings o h.reading) old new s) is h.carries)
+
+pub Does-makes : (listings : List Segment → Listing) (form : Option Form) (words : List (List ℕ)) (old new : HostState) (s : Status) (F : FileMap) → Does listings form old new s → form ≡ form_of words → old.files ≡ Some F
+    → MakesCallsOfOne (read_calls F (reads_for (form_of words))) (IsEffect listings words F) old.calls new.calls (way_of s)
+Does-makes listings form words old new s F h is told =
+    subst (λ (r : Reading). MakesCallsOfOne (read_calls F (reads_for (form_of words))) (IsEffectAfter listings (form_of words) r) old.calls new.calls (way_of s)) (read_for_words form words F h.reading (h.told F told) is)
+    (subst (λ (o : Option Form). MakesCallsOfOne (read_calls F (reads_for o)) (IsEffectAfter listings o h.reading) old.calls new.calls (way_of s)) is (h.makes F told))
+
+pub Does-spent : (listings : List Segment → Listing) (form : Option Form) (words : List (List ℕ)) (old new : HostState) (s : Status) (F : FileMap) → Does listings form old new s → form ≡ form_of words → old.files ≡ Some F → s ≡ NoMemory
+    → StaysOrMakesAllOfOne (read_calls F (reads_for (form_of words))) (IsEffect listings words F) old new
+Does-spent listings form words old new s F h is told wanted =
+    subst (λ (r : Reading). StaysOrMakesAllOfOne (read_calls F (reads_for (form_of words))) (IsEffectAfter listings (form_of words) r) old new) (read_for_words form words F h.reading (h.told F told) is)
+    (subst (λ (o : Option Form). StaysOrMakesAllOfOne (read_calls F (reads_for o)) (IsEffectAfter listings o h.reading) old new) is (h.spent F told wanted))
+
+-- words that are no form have the effect of the usage line
+pub usage_is : (listings : List Segment → Listing) (words : List (List ℕ)) (F : FileMap) → None ≡ form_of words → IsEffect listings words F usage_effect
+usage_is listings words F none = subst (λ (o : Option Form). IsEffectAfter listings o (reading_of F (reads_for o)) usage_effect) none refl
+
+pub usage_makes : (listings : List Segment → Listing) (words : List (List ℕ)) (old new : HostState) (s : Status) (F : FileMap) → None ≡ form_of words → MakesCalls (calls_for usage_effect) old.calls new.calls (way_of s)
+    → MakesCallsOfOne (read_calls F (reads_for (form_of words))) (IsEffect listings words F) old.calls new.calls (way_of s)
+usage_makes listings words old new s F none calls =
+    inl (usage_effect, usage_is listings words F none, subst (λ (o : Option Form). MakesCalls (read_calls F (reads_for o) ++ calls_for usage_effect) old.calls new.calls (way_of s)) none calls)
+
+-- ---- what is complete
+
+carried_done : (e : Effect) (old new : HostState) (s : Status) → Carries e old new s → new.faults ≡ old.faults → new.faults + 1 < 2 ^ 64 → (s ≡ NoMemory) ⊎ IsDone e old new s
+carried_done e old new Done h same last = inr h
+carried_done e old new Ended h same last = inr h
+carried_done e old new Usage h same last = inr h
+carried_done e old new Refused h same last = inr h
+carried_done e old new HostFault h same last = absurd (let rose : Rose old.faults new.faults = h.0 in omega arith)
+carried_done e old new NoMemory h same last = inl refl
+
+pub untouched_wanted : (old new : HostState) (s : Status) → IsUntouched old new s → new.faults ≡ old.faults → new.faults + 1 < 2 ^ 64 → s ≡ NoMemory
+untouched_wanted old new Done h same last = absurd h
+untouched_wanted old new Ended h same last = absurd h
+untouched_wanted old new Usage h same last = absurd h
+untouched_wanted old new Refused h same last = absurd h
+untouched_wanted old new HostFault h same last = absurd (let rose : Rose old.faults new.faults = h.0 in omega arith)
+untouched_wanted old new NoMemory h same last = refl
+
+pub completes : (Is : Effect → Type 0) (old new : HostState) (s : Status) → CarriesOne Is old new s → new.faults ≡ old.faults → new.faults + 1 < 2 ^ 64 → Completes Is old new s
+completes Is old new s h same last = elim h [
+  | inl one ↦ elim (carried_done one.0 old new s one.2 same last) [ inl wanted ↦ inl wanted | inr done ↦ inr (one.0, one.1, done) ]
+  | inr none ↦ inl (untouched_wanted old new s none same last)
+]

@@ -1,0 +1,105 @@
+-- What a command comes to, once its files are read.
+use Rattle.std.specs.Prelude.{◌≡◌, ℕ, Bool, List, ◌++◌, Option, Result, Ok, Err, option_map, codes}
+use Rattle.std.specs.Fmt.{decimal}
+use Rattle.hm_asm.specs.declared.errors.AsmErr.{AsmErr}
+use Rattle.hm_asm.specs.declared.errors.AsmErr.TheVariants as asm
+use Rattle.hm_base.specs.declared.errors.ImageErr.{ImageErr}
+use Rattle.hm_base.specs.declared.errors.ImageErr.TheVariants as image
+use Rattle.hm_line.specs.declared.errors.AsmKind.{AsmKind}
+use Rattle.hm_line.specs.declared.errors.AsmKind.TheVariants as row
+use Rattle.hm_sched.specs.declared.errors.LineKind.{LineKind}
+use Rattle.hm_sched.specs.declared.errors.LineKind.TheVariants as kind
+use Rattle.hm_sched.specs.declared.errors.SchedErr.{SchedErr}
+use Rattle.hm_sched.specs.declared.errors.SchedErr.TheVariants as sched
+use Rattle.hm_text_base.specs.Texts.{hex8}
+use Rattle.hm_commands.specs.declared.work.Output.{Output}
+use Rattle.hm_commands.specs.declared.work.Finish.{Finish}
+use Rattle.hm_commands.specs.declared.work.Refusal.{Refusal}
+use Rattle.hm_commands.specs.declared.work.Refusal.TheVariants.{FileTooLarge, Image, Schedule, Source, Reset}
+use Rattle.hm_commands.specs.declared.work.Stop.{Stop}
+use Rattle.hm_commands.specs.declared.work.Stop.TheVariants.{Refused, NoMemory}
+
+-- what is wrong with an image, after a text
+abbrev pub image_text : ImageErr → List ℕ → List ℕ
+image_text image.Short out = out ++ codes "short"
+image_text image.Long out = out ++ codes "long"
+image_text (image.Truncated k) out = out ++ codes "truncated " ++ decimal k
+image_text image.Class out = out ++ codes "class"
+image_text image.Order out = out ++ codes "order"
+image_text image.Header out = out ++ codes "header"
+image_text image.Kind out = out ++ codes "kind"
+image_text image.Machine out = out ++ codes "machine"
+image_text image.TooMany out = out ++ codes "too many"
+image_text (image.Segment k) out = out ++ codes "segment " ++ decimal k
+image_text image.OutOfMemory out = out
+
+-- the word for what is bad in a line of a schedule
+abbrev pub kind_text : LineKind → List ℕ
+kind_text kind.Header = codes "header"
+kind_text kind.Entries = codes "entries"
+kind_text kind.Region = codes "region"
+kind_text kind.Floor = codes "floor"
+kind_text kind.Count = codes "count"
+kind_text kind.Steps = codes "steps"
+kind_text kind.Irq = codes "irq"
+kind_text kind.Newline = codes "newline"
+
+-- what is wrong with a schedule, after a text
+abbrev pub schedule_text : SchedErr → List ℕ → List ℕ
+schedule_text (sched.Line k kind) out = out ++ codes "line " ++ decimal k ++ codes " " ++ kind_text kind
+schedule_text (sched.TooManyTicks k) out = out ++ codes "too many ticks " ++ decimal k
+schedule_text sched.OutOfMemory out = out
+
+-- the word for what is bad in a line of a source
+abbrev pub asm_kind_text : AsmKind → List ℕ
+asm_kind_text row.Syntax = codes "syntax"
+asm_kind_text row.Row = codes "row"
+asm_kind_text row.Missing = codes "missing"
+asm_kind_text row.Double = codes "double"
+asm_kind_text row.Offset = codes "offset"
+asm_kind_text row.Place = codes "place"
+
+-- what is wrong with a source, after a text
+abbrev pub source_text : AsmErr → List ℕ → List ℕ
+source_text (asm.Line k c kind) out = out ++ codes "line " ++ decimal k ++ codes " column " ++ decimal c ++ codes " " ++ asm_kind_text kind
+source_text asm.OutOfMemory out = out
+
+-- what a refusal's line says, after a text
+abbrev pub refusal_text : Refusal → List ℕ → List ℕ
+refusal_text FileTooLarge out = out ++ codes "file too large"
+refusal_text (Image e) out = image_text e (out ++ codes "image ")
+refusal_text (Schedule e) out = schedule_text e (out ++ codes "schedule ")
+refusal_text (Source e) out = source_text e (out ++ codes "source ")
+refusal_text (Reset value) out = out ++ codes "image reset " ++ hex8 value
+
+-- what a command comes to: whether what was asked came about, the file to write and the text to print; or a refusal
+pub data Outcome : Type 0 where
+  finishes : (done : Bool) (file : Option (List ℕ × List ℕ)) (text : Option (List ℕ)) → Outcome
+  refuses : (why : Refusal) → Outcome
+
+abbrev pub output_pair : Output → List ℕ × List ℕ
+output_pair o = (o.name.now, o.bytes.items)
+
+-- the outcome that a finish stands for
+abbrev pub finish_of : Finish → Outcome
+finish_of f = finishes f.done (option_map output_pair f.file) (option_map (λ text. text.items) f.text)
+
+-- the answer is one of these outcomes, or want of memory
+abbrev pub GivesOne : (Outcome → Type 0) → Result Finish Stop → Type 0
+GivesOne Is (Ok finish) = Is (finish_of finish)
+GivesOne Is (Err (Refused why)) = Is (refuses why)
+GivesOne Is (Err NoMemory) = Unit {0}
+
+-- the answer is this outcome, or want of memory
+abbrev pub Gives : Outcome → Result Finish Stop → Type 0
+Gives outcome answer = GivesOne (λ o. o ≡ outcome) answer
+
+-- all that is wrong with an image is refused, and want of memory is no refusal
+abbrev pub image_stop : ImageErr → Stop
+image_stop image.OutOfMemory = NoMemory
+image_stop e = Refused (Image e)
+
+-- all that is wrong with a source is refused, and want of memory is no refusal
+abbrev pub source_stop : AsmErr → Stop
+source_stop asm.OutOfMemory = NoMemory
+source_stop e = Refused (Source e)

@@ -1,0 +1,144 @@
+//! What each command comes to, from the bytes of the files that it reads. No command calls the host.
+
+ghost use Rattle.std.specs.Prelude.{◌≡◌, ◌≤◌, List, [], Result, Ok, length, map, All};
+ghost use Rattle.hm_base.specs.Image.{Segment};
+ghost use Rattle.hm_codes.specs.Listing.{Listing};
+ghost use Rattle.hm_elf.specs.ReadImage.{image_in};
+ghost use Rattle.hm_host.specs.Host.{longest};
+ghost use Rattle.hm_sched.specs.Schedule.{Sched, plain};
+ghost use Rattle.hm_sched.specs.ReadFile.{Gives as GivesSchedule};
+ghost use Rattle.hm_sched.specs.declared.errors.SchedErr.{SchedErr};
+ghost use Rattle.hm_commands.specs.Words.{run, source_meant, meant, reads_of};
+ghost use Rattle.hm_commands.specs.Work.{Gives, GivesOne};
+ghost use Rattle.hm_commands.specs.Commands.{AreListings, ComesTo, IsAsmOutcome, IsDisOutcome, run_outcome, seq_outcome};
+
+use crate::machine::{is_halted, run_to_end, short_report};
+use crate::ranges::Range;
+use crate::ticks::Ticks;
+use crate::words::{Command, Source};
+use crate::work::{Finish, Output, Stop};
+use hm_asm::{assemble, listing};
+use hm_elf::{read_image, write_image};
+use hm_sched::{SchedErr, Schedule, parse, plain};
+use std::alloc::Global;
+
+/// The schedule of so many ticks of one whole instruction each. It is refused for want of memory alone.
+fn plain_schedule(alloc: Global, ticks: Ticks) -> Result<Schedule, SchedErr>
+    ensures { GivesSchedule (λ s. s) result (Ok (plain ticks.count)) }
+{
+    plain(alloc, ticks.count)
+}
+
+/// Runs an image under a schedule, as it was read. Its memory is to be written, and its report to be printed.
+fn run_under<'a>(
+    alloc: Global,
+    image: &[u8],
+    schedule: Result<Schedule, SchedErr>,
+    memory: &'a str,
+) -> Result<Finish<'a>, Stop>
+    requires short { length image.now ≤ longest }
+    ensures { (listings : List Segment → Listing) → AreListings listings → (read : Result Sched SchedErr) → GivesSchedule (λ s. s) schedule read
+        → Gives (run_outcome listings (image_in image.now) read memory.now) result }
+{
+    let image = read_image(alloc, image)?;
+    let schedule = schedule?;
+    let machine = run_to_end(alloc, &image, schedule)?;
+    Ok(Finish {
+        done: is_halted(machine.outcome()),
+        file: Some(Output {
+            name: memory,
+            bytes: machine.memory_file(alloc)?,
+        }),
+        text: Some(machine.report(alloc)?),
+    })
+}
+
+/// Runs an image under the schedule of its source, from the contents of the two files.
+fn run<'a>(
+    alloc: Global,
+    schedule: &Source<'_>,
+    contents: &[Vec<u8>],
+    memory: &'a str,
+) -> Result<Finish<'a>, Stop>
+    requires each { length contents.now ≡ length (reads_of (run [] (source_meant schedule.now) [])) }
+    requires short { All (λ bytes. length bytes.items ≤ longest) contents.now }
+    ensures { (listings : List Segment → Listing) → AreListings listings
+        → GivesOne (ComesTo listings (run [] (source_meant schedule.now) memory.now) (map (λ bytes. bytes.items) contents.now)) result }
+{
+    match schedule {
+        Source::Plain(ticks) => {
+            let schedule = plain_schedule(alloc, *ticks);
+            run_under(alloc, &contents[0], schedule, memory)
+        }
+        Source::File(_) => {
+            let schedule = parse(alloc, &contents[1]);
+            run_under(alloc, &contents[0], schedule, memory)
+        }
+    }
+}
+
+/// Runs so many whole instructions of an image in order. The report is to be printed, of a fault the first line alone.
+fn seq<'a>(alloc: Global, image: &[u8], ticks: Ticks) -> Result<Finish<'a>, Stop>
+    requires short { length image.now ≤ longest }
+    ensures { (listings : List Segment → Listing) → AreListings listings → Gives (seq_outcome listings (image_in image.now) ticks.count) result }
+{
+    let image = read_image(alloc, image)?;
+    let schedule = plain_schedule(alloc, ticks)?;
+    let machine = run_to_end(alloc, &image, schedule)?;
+    Ok(Finish {
+        done: is_halted(machine.outcome()),
+        file: None,
+        text: Some(short_report(alloc, &machine)?),
+    })
+}
+
+/// Lists a range of an image's flash. The listing is to be printed.
+fn dis<'a>(alloc: Global, image: &[u8], range: Range) -> Result<Finish<'a>, Stop>
+    requires short { length image.now ≤ longest }
+    ensures { GivesOne (IsDisOutcome (image_in image.now) range.lo range.hi) result }
+{
+    let image = read_image(alloc, image)?;
+    let lines = listing(alloc, &image, range.lo, range.hi)?;
+    Ok(Finish {
+        done: true,
+        file: None,
+        text: Some(lines),
+    })
+}
+
+/// Assembles a source. Its image is to be written, as an ELF file.
+fn asm<'a>(alloc: Global, source: &[u8], out: &'a str) -> Result<Finish<'a>, Stop>
+    requires short { length source.now ≤ longest }
+    ensures { GivesOne (IsAsmOutcome source.now out.now) result }
+{
+    let image = assemble(alloc, source)?;
+    let bytes = write_image(alloc, &image)?;
+    Ok(Finish {
+        done: true,
+        file: Some(Output { name: out, bytes }),
+        text: None,
+    })
+}
+
+/// What a command comes to, from the contents of its files in order.
+pub fn perform<'a>(
+    alloc: Global,
+    command: &Command<'a>,
+    contents: &[Vec<u8>],
+) -> Result<Finish<'a>, Stop>
+    requires each { length contents.now ≡ length (reads_of (meant command.now)) }
+    requires short { All (λ bytes. length bytes.items ≤ longest) contents.now }
+    ensures { (listings : List Segment → Listing) → AreListings listings
+        → GivesOne (ComesTo listings (meant command.now) (map (λ bytes. bytes.items) contents.now)) result }
+{
+    match command {
+        Command::Run {
+            schedule,
+            memory,
+            ..
+        } => run(alloc, schedule, contents, memory),
+        Command::Seq { ticks, .. } => seq(alloc, &contents[0], *ticks),
+        Command::Dis { range, .. } => dis(alloc, &contents[0], *range),
+        Command::Asm { out, .. } => asm(alloc, &contents[0], out),
+    }
+}

@@ -1,0 +1,214 @@
+//! What a command comes to, once its files are read: what is to be written and printed, or a refusal.
+
+ghost use Rattle.std.specs.Prelude.{◌≡◌, IfOk};
+ghost use Rattle.hm_commands.specs.Work.{asm_kind_text, image_text, kind_text, schedule_text, source_text, refusal_text};
+
+use hm_asm::{AsmErr, AsmKind};
+use hm_base::{ImageErr, OutOfMemory};
+use hm_sched::{LineKind, SchedErr};
+use hm_text_base::{decimal, hex8, text};
+use std::alloc::Global;
+
+/// A file to write.
+#[derive(Drop)]
+pub struct Output<'a> {
+    pub name: &'a str,
+    pub bytes: Vec<u8>,
+}
+
+/// What is left to do: to write the file and to print the text. `done` says whether what was asked came about.
+#[derive(Drop)]
+pub struct Finish<'a> {
+    pub done: bool,
+    pub file: Option<Output<'a>>,
+    pub text: Option<Vec<u8>>,
+}
+
+/// Why a command is refused.
+#[derive(Clone, Copy, Debug, PartialEq, Eq)]
+pub enum Refusal {
+    /// A file has more bytes than are read.
+    FileTooLarge,
+    /// The bytes of a file are no image.
+    Image(ImageErr),
+    /// The bytes of a file are no schedule.
+    Schedule(SchedErr),
+    /// The bytes of a file are no source.
+    Source(AsmErr),
+    /// The word at 4 of an image, whose bit 0 is not set.
+    Reset { value: u32 },
+}
+
+/// Adds what is wrong with an image. Want of memory is no such thing, and adds nothing.
+fn add_image_text(alloc: Global, out: &mut Vec<u8>, e: ImageErr) -> Result<(), OutOfMemory>
+    ensures { IfOk result (λ _. out.new.items ≡ image_text e out.old.items) }
+{
+    match e {
+        ImageErr::Short => text(out, b"short"),
+        ImageErr::Long => text(out, b"long"),
+        ImageErr::Truncated { at } => {
+            text(out, b"truncated ")?;
+            decimal(alloc, out, at as u64)
+        }
+        ImageErr::Class => text(out, b"class"),
+        ImageErr::Order => text(out, b"order"),
+        ImageErr::Header => text(out, b"header"),
+        ImageErr::Kind => text(out, b"kind"),
+        ImageErr::Machine => text(out, b"machine"),
+        ImageErr::TooMany => text(out, b"too many"),
+        ImageErr::Segment { index } => {
+            text(out, b"segment ")?;
+            decimal(alloc, out, index as u64)
+        }
+        ImageErr::OutOfMemory => Ok(()),
+    }
+}
+
+/// The word for what is bad in a line of a schedule.
+fn kind_text(kind: LineKind) -> &'static [u8]
+    ensures { result.now ≡ kind_text kind }
+{
+    match kind {
+        LineKind::Header => b"header",
+        LineKind::Entries => b"entries",
+        LineKind::Region => b"region",
+        LineKind::Floor => b"floor",
+        LineKind::Count => b"count",
+        LineKind::Steps => b"steps",
+        LineKind::Irq => b"irq",
+        LineKind::Newline => b"newline",
+    }
+}
+
+/// Adds what is wrong with a schedule. Want of memory is no such thing, and adds nothing.
+fn add_schedule_text(alloc: Global, out: &mut Vec<u8>, e: SchedErr) -> Result<(), OutOfMemory>
+    ensures { IfOk result (λ _. out.new.items ≡ schedule_text e out.old.items) }
+{
+    match e {
+        SchedErr::Line { line, kind } => {
+            text(out, b"line ")?;
+            decimal(alloc, out, line as u64)?;
+            text(out, b" ")?;
+            text(out, kind_text(kind))
+        }
+        SchedErr::TooManyTicks { line } => {
+            text(out, b"too many ticks ")?;
+            decimal(alloc, out, line as u64)
+        }
+        SchedErr::OutOfMemory => Ok(()),
+    }
+}
+
+/// The word for what is bad in a line of a source.
+fn asm_kind_text(kind: AsmKind) -> &'static [u8]
+    ensures { result.now ≡ asm_kind_text kind }
+{
+    match kind {
+        AsmKind::Syntax => b"syntax",
+        AsmKind::Row => b"row",
+        AsmKind::Missing => b"missing",
+        AsmKind::Double => b"double",
+        AsmKind::Offset => b"offset",
+        AsmKind::Place => b"place",
+    }
+}
+
+/// Adds what is wrong with a source. Want of memory is no such thing, and adds nothing.
+fn add_source_text(alloc: Global, out: &mut Vec<u8>, e: AsmErr) -> Result<(), OutOfMemory>
+    ensures { IfOk result (λ _. out.new.items ≡ source_text e out.old.items) }
+{
+    match e {
+        AsmErr::Line { line, column, kind } => {
+            text(out, b"line ")?;
+            decimal(alloc, out, line as u64)?;
+            text(out, b" column ")?;
+            decimal(alloc, out, column as u64)?;
+            text(out, b" ")?;
+            text(out, asm_kind_text(kind))
+        }
+        AsmErr::OutOfMemory => Ok(()),
+    }
+}
+
+impl Refusal {
+    /// Adds what the line of a refusal says.
+    pub fn add_text(self, alloc: Global, out: &mut Vec<u8>) -> Result<(), OutOfMemory>
+        ensures { IfOk result (λ _. out.new.items ≡ refusal_text self out.old.items) }
+    {
+        match self {
+            Refusal::FileTooLarge => text(out, b"file too large"),
+            Refusal::Image(e) => {
+                text(out, b"image ")?;
+                add_image_text(alloc, out, e)
+            }
+            Refusal::Schedule(e) => {
+                text(out, b"schedule ")?;
+                add_schedule_text(alloc, out, e)
+            }
+            Refusal::Source(e) => {
+                text(out, b"source ")?;
+                add_source_text(alloc, out, e)
+            }
+            Refusal::Reset { value } => {
+                text(out, b"image reset ")?;
+                hex8(out, value)
+            }
+        }
+    }
+}
+
+/// Why a command comes to no finish.
+#[derive(Clone, Copy, Debug, PartialEq, Eq)]
+pub enum Stop {
+    Refused(Refusal),
+    NoMemory,
+}
+
+impl From<OutOfMemory> for Stop {
+    ghost use Rattle.hm_commands.specs.declared.work.Stop.TheVariants.{NoMemory};
+
+    ghost from_gives = { λ _ e. e ≡ NoMemory };
+
+    fn from(_: OutOfMemory) -> Stop {
+        Stop::NoMemory
+    }
+}
+
+impl From<ImageErr> for Stop {
+    ghost use Rattle.hm_commands.specs.Work.{image_stop};
+
+    ghost from_gives = { λ e stop. stop ≡ image_stop e };
+
+    fn from(e: ImageErr) -> Stop {
+        match e {
+            ImageErr::OutOfMemory => Stop::NoMemory,
+            e => Stop::Refused(Refusal::Image(e)),
+        }
+    }
+}
+
+impl From<SchedErr> for Stop {
+    ghost use Rattle.hm_commands.specs.Run.{schedule_stop};
+
+    ghost from_gives = { λ e stop. stop ≡ schedule_stop e };
+
+    fn from(e: SchedErr) -> Stop {
+        match e {
+            SchedErr::OutOfMemory => Stop::NoMemory,
+            e => Stop::Refused(Refusal::Schedule(e)),
+        }
+    }
+}
+
+impl From<AsmErr> for Stop {
+    ghost use Rattle.hm_commands.specs.Work.{source_stop};
+
+    ghost from_gives = { λ e stop. stop ≡ source_stop e };
+
+    fn from(e: AsmErr) -> Stop {
+        match e {
+            AsmErr::OutOfMemory => Stop::NoMemory,
+            e => Stop::Refused(Refusal::Source(e)),
+        }
+    }
+}
