@@ -1,0 +1,61 @@
+//! How lines say what bytes are.
+
+use crate::named::{Named, find, number};
+use anyhow::{Context, Result};
+use hm_host::MemHost;
+use std::alloc::Global;
+
+/// The bytes of hexadecimal words.
+fn hex_bytes(alloc: Global, text: &str) -> Result<Vec<u8>> {
+    let mut bytes = Vec::new(alloc);
+    for word in text.split_whitespace() {
+        let some = hex::decode(alloc, word).context("no bytes")?;
+        bytes.extend_from_slice(&some)?;
+    }
+    Ok(bytes)
+}
+
+/// A line of text with its end.
+fn line_bytes(alloc: Global, text: &str) -> Result<Vec<u8>> {
+    let mut bytes = text.as_bytes().to_vec(alloc)?;
+    bytes.push(b'\n')?;
+    Ok(bytes)
+}
+
+/// The first bytes of some that have a name, behind how many they are.
+fn front_bytes(alloc: Global, named: &[Named], text: &str) -> Result<Vec<u8>> {
+    let mut words = text.split_whitespace();
+    let count = number(words.next())?;
+    let all = find(named, words.next().context("a name is wanted")?)?;
+    Ok(all.get(..count).context("too few bytes")?.to_vec(alloc)?)
+}
+
+/// The bytes that a line says by its first word and the text behind it; None where it is no such line.
+pub fn content(
+    alloc: Global,
+    named: &[Named],
+    host: &MemHost,
+    word: &str,
+    text: &str,
+) -> Result<Option<Vec<u8>>> {
+    let bytes = match word {
+        "|" => line_bytes(alloc, text)?,
+        "text" => text.as_bytes().to_vec(alloc)?,
+        "hex" => hex_bytes(alloc, text)?,
+        "zeros" => vec![in alloc; 0; number(Some(text))?]?,
+        "add" => find(named, text)?.to_vec(alloc)?,
+        "front" => front_bytes(alloc, named, text)?,
+        "written" => host.file(text).context("no such file")?.to_vec(alloc)?,
+        "printed" => host.printed().to_vec(alloc)?,
+        _ => return Ok(None),
+    };
+    Ok(Some(bytes))
+}
+
+/// Puts a byte in the place of another: where it stands, and the byte.
+pub fn put(bytes: &mut [u8], text: &str) -> Result<()> {
+    let (at, byte) = text.split_once(' ').context("a byte is wanted")?;
+    let place = bytes.get_mut(number(Some(at))?).context("no such place")?;
+    *place = u8::from_str_radix(byte, 16).context("no byte")?;
+    Ok(())
+}

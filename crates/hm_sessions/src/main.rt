@@ -1,0 +1,68 @@
+//! Command lines on a host in memory, and calls on hosts, compared with what files say that they come to.
+#![tactic(auto)]
+
+mod content;
+mod named;
+mod session;
+
+use anyhow::{Context, Result};
+use hm_host::OsHost;
+use session::{Session, Taken};
+use std::io::{BufWriter, Write};
+use std::{env, fs, io};
+
+/// How many cases and facts a file has, and how many of the facts do not hold.
+#[derive(Clone, Copy, Default)]
+struct Tally {
+    cases: u32,
+    facts: u32,
+    differ: u32,
+}
+
+impl Tally {
+    /// Counts a line.
+    fn count(&mut self, taken: Taken) {
+        match taken {
+            Taken::Nothing => {}
+            Taken::Case => self.cases = self.cases.saturating_add(1),
+            Taken::Fact { holds } => {
+                self.facts = self.facts.saturating_add(1);
+                if !holds {
+                    self.differ = self.differ.saturating_add(1);
+                }
+            }
+        }
+    }
+}
+
+/// Takes the lines of a file. Writes each that does not hold, and how many there are.
+fn write_file<W: Write>(out: &mut W, session: &mut Session, name: &str, text: &str) -> Result<()> {
+    let mut tally = Tally::default();
+    for (line, text) in (1..).zip(text.lines()) {
+        let taken = session.take(text).context(format_args!("{name}:{line}"))?;
+        if let Taken::Fact { holds: false } = taken {
+            writeln!(out, "{name}:{line}: {text}")?;
+        }
+        tally.count(taken);
+    }
+    let Tally {
+        cases,
+        facts,
+        differ,
+    } = tally;
+    writeln!(out, "{name}: {cases} cases, {facts} facts, {differ} differ")?;
+    Ok(())
+}
+
+/// Takes the files that are named.
+fn main(rt: HostRuntime) -> Result<()> {
+    let alloc = rt.alloc();
+    let mut out = BufWriter::new(alloc, io::writer(&rt))?;
+    for name in env::args(&rt)?.skip(1) {
+        let text = fs::read_to_string(&rt, &name)?;
+        let mut session = Session::new(alloc, OsHost::new(rt.clone()?));
+        write_file(&mut out, &mut session, &name, &text)?;
+    }
+    out.flush()?;
+    Ok(())
+}

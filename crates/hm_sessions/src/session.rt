@@ -1,0 +1,253 @@
+//! What the lines of a file give, do and say.
+
+use crate::content::{content, put};
+use crate::named::{Named, find, number};
+use anyhow::{Context, Result, bail, ensure};
+use hm_commands::helium;
+use hm_host::{FailList, Files, Host, HostErr, MemHost, OsHost};
+use std::alloc::Global;
+use std::str::SplitWhitespace;
+
+/// What a line is.
+#[derive(Clone, Copy)]
+pub enum Taken {
+    /// It gives something, or is empty.
+    Nothing,
+    /// It begins a case.
+    Case,
+    /// It says what something comes to, and whether that holds.
+    Fact { holds: bool },
+}
+
+/// What has been given so far, and the hosts.
+#[derive(Drop)]
+pub struct Session {
+    alloc: Global,
+    /// All bytes that have a name.
+    named: Vec<Named>,
+    /// The files that a new host has.
+    files: Vec<Named>,
+    /// The host in memory, as the last command or call left it.
+    host: MemHost,
+    system: OsHost,
+}
+
+/// The words of a command line.
+fn words_of(alloc: Global, line: &str) -> Result<Vec<String>> {
+    let mut words = Vec::new(alloc);
+    for word in line.split_whitespace() {
+        words.push(String::from_str(alloc, word)?)?;
+    }
+    Ok(words)
+}
+
+/// The calls that are to fail: none, or the numbers behind `failing`.
+fn failing(alloc: Global, words: &mut SplitWhitespace<'_>) -> Result<FailList> {
+    let mut list = FailList::new(alloc);
+    if let Some(word) = words.next() {
+        ensure!(word == "failing", "not failing but {word}");
+    }
+    for word in words {
+        list.add(number(Some(word))? as u64)?;
+    }
+    Ok(list)
+}
+
+/// A host with copies of these files.
+fn host_of(alloc: Global, given: &[Named], failing: FailList) -> Result<MemHost> {
+    let mut files = Files::new(alloc);
+    for file in given {
+        files.add(&file.name, file.bytes.as_slice().to_vec(alloc)?)?;
+    }
+    Ok(MemHost::new(alloc, files, failing))
+}
+
+/// The word for an error of a host.
+fn error_word(e: HostErr) -> &'static str {
+    match e {
+        HostErr::Failed => "failed",
+        HostErr::TooLarge => "large",
+        HostErr::OutOfMemory => "memory",
+    }
+}
+
+/// The word for what a host answers.
+fn answer_word(answer: Result<(), HostErr>) -> &'static str {
+    match answer {
+        Ok(()) => "ok",
+        Err(e) => error_word(e),
+    }
+}
+
+/// Whether a host reads these bytes, or answers so.
+fn reads<H: Host>(
+    alloc: Global,
+    host: &mut H,
+    named: &[Named],
+    told: &str,
+    words: &mut SplitWhitespace<'_>,
+) -> Result<bool> {
+    let name = words.next().context("a file is wanted")?;
+    match host.read(alloc, name) {
+        Ok(bytes) => {
+            if told != "ok" {
+                return Ok(false);
+            }
+            let expected = find(named, words.next().context("bytes are wanted")?)?;
+            Ok(bytes.as_slice() == expected)
+        }
+        Err(e) => Ok(told == error_word(e)),
+    }
+}
+
+/// Makes a call on a host, and says whether it answers what the line says.
+fn answers<H: Host>(
+    alloc: Global,
+    host: &mut H,
+    named: &[Named],
+    call: &str,
+    text: &str,
+) -> Result<bool> {
+    let mut words = text.split_whitespace();
+    let told = words.next().context("an answer is wanted")?;
+    match call {
+        "read" => reads(alloc, host, named, told, &mut words),
+        "write" => {
+            let name = words.next().context("a file is wanted")?;
+            let bytes = find(named, words.next().context("bytes are wanted")?)?;
+            Ok(told == answer_word(host.write(alloc, name, bytes)))
+        }
+        "print" => {
+            let bytes = find(named, words.next().context("bytes are wanted")?)?;
+            Ok(told == answer_word(host.print(alloc, bytes)))
+        }
+        _ => bail!("no such call: {call}"),
+    }
+}
+
+/// Whether a text has a line.
+fn has_line(text: &[u8], line: &[u8]) -> bool {
+    text.split(|byte| *byte == b'\n').any(|piece| piece == line)
+}
+
+/// Whether bytes stand in others, from an index on.
+fn stands_at(bytes: &[u8], at: usize, part: &[u8]) -> bool {
+    match bytes.get(at..) {
+        Some(others) => others.starts_with(part),
+        None => false,
+    }
+}
+
+impl Session {
+    /// Nothing is given.
+    pub fn new(alloc: Global, system: OsHost) -> Session {
+        Session {
+            alloc,
+            named: Vec::new(alloc),
+            files: Vec::new(alloc),
+            host: MemHost::new(alloc, Files::new(alloc), FailList::new(alloc)),
+            system,
+        }
+    }
+
+    /// Gives a new host from now on a file, with bytes that have a name.
+    fn give(&mut self, text: &str) -> Result<()> {
+        let (file, name) = text.split_once(' ').context("bytes are wanted")?;
+        let bytes = find(&self.named, name)?.to_vec(self.alloc)?;
+        self.files.push(Named::new(self.alloc, file, bytes)?)?;
+        Ok(())
+    }
+
+    /// Takes a new host in memory, whose calls of these numbers fail.
+    fn renew(&mut self, words: &mut SplitWhitespace<'_>) -> Result<()> {
+        let failing = failing(self.alloc, words)?;
+        self.host = host_of(self.alloc, &self.files, failing)?;
+        Ok(())
+    }
+
+    /// Does a command line on a new host, and says whether it ends with the status before it.
+    fn ends(&mut self, text: &str) -> Result<bool> {
+        let (head, line) = text.split_once(':').context("a command is wanted")?;
+        let mut head = head.split_whitespace();
+        let status = number(head.next())?;
+        self.renew(&mut head)?;
+        let words = words_of(self.alloc, line)?;
+        let ended = helium(self.alloc, &words, &mut self.host);
+        Ok(ended.code() as usize == status)
+    }
+
+    /// Whether a file is as the line says.
+    fn holds_in_file(&self, fact: &str, text: &str) -> Result<bool> {
+        let mut words = text.split_whitespace();
+        let name = words.next().context("a file is wanted")?;
+        let Some(bytes) = self.host.file(name) else {
+            return Ok(fact == "absent");
+        };
+        match fact {
+            "absent" => Ok(false),
+            "size" => Ok(bytes.len() == number(words.next())?),
+            "holds" => {
+                let expected = find(&self.named, words.next().context("bytes are wanted")?)?;
+                Ok(bytes == expected)
+            }
+            "part" => {
+                let at = number(words.next())?;
+                let expected = find(&self.named, words.next().context("bytes are wanted")?)?;
+                Ok(stands_at(bytes, at, expected))
+            }
+            _ => bail!("no such line: {fact}"),
+        }
+    }
+
+    /// Whether what a line says holds.
+    fn holds(&mut self, fact: &str, text: &str) -> Result<bool> {
+        match fact {
+            "ends" => self.ends(text),
+            "calls" => Ok(self.host.calls() == Some(number(Some(text))?)),
+            "prints" => Ok(self.host.printed() == find(&self.named, text)?),
+            "says" => Ok(self.host.printed().strip_suffix(b"\n") == Some(text.as_bytes())),
+            "line" => Ok(has_line(self.host.printed(), text.as_bytes())),
+            "read" | "write" | "print" => {
+                answers(self.alloc, &mut self.host, &self.named, fact, text)
+            }
+            "system" => {
+                let (call, text) = text.split_once(' ').context("a call is wanted")?;
+                answers(self.alloc, &mut self.system, &self.named, call, text)
+            }
+            _ => self.holds_in_file(fact, text),
+        }
+    }
+
+    /// Takes a line.
+    pub fn take(&mut self, line: &str) -> Result<Taken> {
+        let (word, text) = line.split_once(' ').unwrap_or((line, ""));
+        if let Some(bytes) = content(self.alloc, &self.named, &self.host, word, text)? {
+            let last = self.named.last_mut().context("no bytes have begun")?;
+            last.bytes.extend_from_slice(&bytes)?;
+            return Ok(Taken::Nothing);
+        }
+        match word {
+            "" | "#" => {}
+            "case" => {
+                self.files.clear();
+                self.renew(&mut "".split_whitespace())?;
+                return Ok(Taken::Case);
+            }
+            "bytes" => {
+                let none = Vec::new(self.alloc);
+                self.named.push(Named::new(self.alloc, text, none)?)?;
+            }
+            "put" => {
+                let last = self.named.last_mut().context("no bytes have begun")?;
+                put(&mut last.bytes, text)?;
+            }
+            "file" => self.give(text)?,
+            "host" => self.renew(&mut text.split_whitespace())?,
+            _ => {
+                let holds = self.holds(word, text)?;
+                return Ok(Taken::Fact { holds });
+            }
+        }
+        Ok(Taken::Nothing)
+    }
+}
