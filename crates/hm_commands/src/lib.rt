@@ -15,6 +15,3 @@ mod work;
 pub use laws::{effect_law, listings_exist, words_of_commands};
 pub use status::Status;
 pub use top::helium;
-
-#[cfg(test)]
-mod tests;

@@ -11,6 +11,3 @@ pub use files::{FailList, Files};
 pub use host::{Host, HostErr};
 pub use mem_host::MemHost;
 pub use os_host::OsHost;
-
-#[cfg(test)]
-mod tests;

@@ -8,6 +8,3 @@ mod masks;
 pub use lanes::{Size, bytes, per_word, word};
 pub use laws::{finish_law, lanes_law, predicate_law};
 pub use masks::{advance, context, finish, mask_at, merge, predicate};
-
-#[cfg(test)]
-mod tests;

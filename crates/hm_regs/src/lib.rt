@@ -157,6 +157,3 @@ impl Regs {
         }
     }
 }
-
-#[cfg(test)]
-mod tests;

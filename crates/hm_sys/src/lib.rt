@@ -52,6 +52,3 @@ pub fn count(d: &mut Dev)
         expire(d);
     }
 }
-
-#[cfg(test)]
-mod tests;
