@@ -44,6 +44,3 @@ pub fn encode16(i: &Instr) -> u16
         Instr::Vector(_) => unreachable!(),
     }
 }
-
-#[cfg(test)]
-mod tests;

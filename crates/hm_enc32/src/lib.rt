@@ -53,14 +53,3 @@ pub fn encode32(i: &Instr) -> u32
         Instr::Vector(_) => unreachable!(),
     }
 }
-
-#[cfg(test)]
-mod arith_tests;
-#[cfg(test)]
-mod data_tests;
-#[cfg(test)]
-mod jump_tests;
-#[cfg(test)]
-mod system_tests;
-#[cfg(test)]
-mod tests;

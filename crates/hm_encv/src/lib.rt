@@ -13,8 +13,6 @@ mod predicate;
 mod registers;
 mod shifts;
 mod sums;
-#[cfg(test)]
-mod tests;
 
 use hm_isa::Vector;
 use memory::{decode_memory, encode_v24, encode_v25, encode_v26, encode_v27, encode_v28};

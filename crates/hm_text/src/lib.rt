@@ -132,6 +132,3 @@ pub fn parse_instr(text: &[u8], pc: u32, labels: &Labels) -> Result<Instr, TextE
         Err(e) => Err(e),
     }
 }
-
-#[cfg(test)]
-mod tests;

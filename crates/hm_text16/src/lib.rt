@@ -98,6 +98,3 @@ pub fn shape16<'a>(tokens: &[Token<'a>]) -> Option<Shape<'a>>
     let single = single_registers(tokens)?;
     shape_of(single.as_slice())
 }
-
-#[cfg(test)]
-mod tests;

@@ -62,6 +62,3 @@ pub fn parse_v(text: &[u8]) -> Option<Vector>
     let tokens = read_tokens(text)?;
     row_of(tokens.as_slice())
 }
-
-#[cfg(test)]
-mod tests;
