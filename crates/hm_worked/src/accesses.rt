@@ -1,0 +1,73 @@
+//! Accesses of a memory, one by one.
+
+ghost use Rattle.std.specs.Prelude.{◌≡◌, ◌≤◌};
+
+use crate::words::{Stopped, alignment, length, number};
+use anyhow::{Result, bail, ensure};
+use hm_base::{Image, Stop};
+use hm_mem::{Access, Actor, Mem};
+use std::alloc::Global;
+use std::str::SplitWhitespace;
+
+/// A memory of a blank image: where handlers may store from, up to where, and the floor.
+pub fn blank(alloc: Global, words: &mut SplitWhitespace<'_>) -> Result<Mem> {
+    let lo = number(words)?;
+    let hi = number(words)?;
+    let floor = number(words)?;
+    ensure!(
+        0x2000_0000 <= lo && lo <= hi && hi <= 0x2004_0000,
+        "no region"
+    );
+    ensure!(0x2000_0000 <= floor && floor <= 0x2004_0000, "no floor");
+    Ok(Mem::new(alloc, &Image::new(alloc), lo, hi, floor)?)
+}
+
+/// Who accesses from now on: the thread, or a handler with its frame.
+pub fn actor(words: &mut SplitWhitespace<'_>) -> Result<Actor> {
+    match words.next() {
+        Some("thread") => Ok(Actor::Thread),
+        Some("handler") => Ok(Actor::Handler {
+            frame: number(words)?,
+        }),
+        _ => bail!("nobody"),
+    }
+}
+
+/// How an access ended that gives nothing.
+fn ended(alloc: Global, end: Result<(), Stop>) -> Result<String> {
+    match end {
+        Ok(()) => Ok(String::from_str(alloc, "done")?),
+        Err(stop) => Ok(format!(in alloc; "{}", Stopped(stop))?),
+    }
+}
+
+/// What an access would stop for: how it is aligned, the address and how many bytes.
+pub fn checked(
+    alloc: Global,
+    words: &mut SplitWhitespace<'_>,
+    mem: &Mem,
+    write: bool,
+) -> Result<String> {
+    let how = alignment(words)?;
+    let addr = number(words)?;
+    let len = length(words)?;
+    ended(alloc, mem.check(addr, len, how, write))
+}
+
+/// What a load gives: the address and how many bytes.
+pub fn loaded(alloc: Global, words: &mut SplitWhitespace<'_>, mem: &mut Mem) -> Result<String> {
+    let addr = number(words)?;
+    let len = length(words)?;
+    match mem.load(addr, len, Access::Scalar) {
+        Ok(value) => Ok(format!(in alloc; "{value:08x}")?),
+        Err(stop) => Ok(format!(in alloc; "{}", Stopped(stop))?),
+    }
+}
+
+/// How a store ends: the address, how many bytes and the value.
+pub fn stored(alloc: Global, words: &mut SplitWhitespace<'_>, mem: &mut Mem) -> Result<String> {
+    let addr = number(words)?;
+    let len = length(words)?;
+    let value = number(words)?;
+    ended(alloc, mem.store(addr, len, value, Access::Scalar))
+}

@@ -1,0 +1,80 @@
+//! Machines, from their sources and schedules to what they show.
+
+use crate::words::number;
+use anyhow::{Context, Result, bail, ensure};
+use hm_asm::assemble;
+use hm_machine::Machine;
+use hm_sched::{parse, print};
+use std::alloc::Global;
+use std::str::SplitWhitespace;
+
+/// The most bytes that a source may have.
+const LONGEST: usize = 16_777_216;
+
+/// The machine at the start of a run.
+pub fn started(alloc: Global, source: &[u8], schedule: &[u8]) -> Result<Machine> {
+    ensure!(source.len() <= LONGEST, "the source is too long");
+    let image = match assemble(alloc, source) {
+        Ok(image) => image,
+        Err(e) => bail!("{e}: {e:?}"),
+    };
+    Ok(Machine::load(alloc, &image, parse(alloc, schedule)?)?)
+}
+
+/// Whether a line is one of a report's.
+pub fn has_line(report: &[u8], line: &str) -> bool {
+    report
+        .split(|byte| *byte == b'\n')
+        .any(|piece| piece == line.as_bytes())
+}
+
+/// The bytes from one address up to another, in hexadecimal, and `--` where none is.
+pub fn bytes_text(
+    alloc: Global,
+    words: &mut SplitWhitespace<'_>,
+    machine: &Machine,
+) -> Result<String> {
+    let mut text = String::new(alloc);
+    for addr in number(words)?..number(words)? {
+        match machine.byte(addr) {
+            Some(byte) => text.push_str(&format!(in alloc; "{byte:02x}")?)?,
+            None => text.push_str("--")?,
+        }
+    }
+    Ok(text)
+}
+
+/// How many bytes are tainted from one address up to another.
+pub fn taint_text(
+    alloc: Global,
+    words: &mut SplitWhitespace<'_>,
+    machine: &Machine,
+) -> Result<String> {
+    let addresses = number(words)?..number(words)?;
+    let count = addresses.filter(|addr| machine.tainted(*addr)).count();
+    Ok(format!(in alloc; "{count}")?)
+}
+
+/// The report, and the first 48 bytes of SRAM.
+pub fn shown(alloc: Global, machine: &Machine) -> Result<Vec<u8>> {
+    let mut text = machine.report(alloc)?;
+    for addr in 0x2000_0000_u32..0x2000_0030 {
+        text.push(machine.byte(addr).context("no memory there")?)?;
+    }
+    Ok(text)
+}
+
+/// A schedule as it is printed, with `;` for the ends of its lines, and how many ticks and lines of ticks it has; or why it is refused.
+pub fn schedule_text(alloc: Global, schedule: &[u8]) -> Result<String> {
+    let schedule = match parse(alloc, schedule) {
+        Ok(schedule) => schedule,
+        Err(e) => return Ok(format!(in alloc; "{e:?}")?),
+    };
+    let mut text = String::new(alloc);
+    for byte in print(alloc, &schedule)? {
+        text.push(if byte == b'\n' { ';' } else { byte as char })?;
+    }
+    let (ticks, lines) = (schedule.ticks(), schedule.lines());
+    text.push_str(&format!(in alloc; " ticks {ticks} lines {lines}")?)?;
+    Ok(text)
+}
