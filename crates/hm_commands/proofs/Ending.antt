@@ -1,5 +1,5 @@
 -- What a status tells, whatever the host tells.
-use Rattle.std.proofs.Common.{◌≡◌, ◌⊎◌, ◌<◌, ◌+◌, ◌^◌, ℕ, ◌++◌, ◌∙◌, ap, refl, sym, inl, inr, Option, Some, None, true, false, subst, arith, List}
+use Rattle.std.proofs.Common.{◌≡◌, ◌≢◌, ◌⊎◌, ◌<◌, ℕ, ◌++◌, ◌∙◌, ap, refl, sym, inl, inr, Option, Some, None, true, false, subst, arith, List}
 use Rattle.hm_base.specs.Image.{Segment}
 use Rattle.hm_codes.specs.Listing.{Listing}
 use Rattle.hm_host.specs.Host.{FileMap, HostState, Stays, Rose}
@@ -8,7 +8,7 @@ use Rattle.hm_commands.specs.declared.status.Status.TheVariants.{Done, Ended, Us
 use Rattle.hm_commands.specs.Words.{Form, form_of}
 use Rattle.hm_commands.specs.Calls.{MakesCalls, read_calls, way_of}
 use Rattle.hm_commands.specs.Work.{Outcome, finishes, refuses}
-use Rattle.hm_commands.specs.Effect.{Effect, Reading, whole, too_large, missing, reading_of, reads_for, usage_effect, IsEffectAfter, IsEffect, effect_for, calls_for, IsDone, IsUntouched, Carries, CarriesOne, Completes, Does, MakesCallsOfOne, StaysOrMakesAllOfOne}
+use Rattle.hm_commands.specs.Effect.{Effect, Reading, whole, too_large, missing, reading_of, reads_for, usage_effect, IsEffectAfter, IsEffect, effect_for, calls_for, IsDone, IsUntouched, Carries, CarriesOne, Does, MakesCallsOfOne, StaysOrMakesAllOfOne}
 
 not_usage : (o : Outcome) → (effect_for o).status ≡ Usage → ⊥
 not_usage (finishes true file text) h = cc
@@ -96,24 +96,18 @@ usage_makes listings words old new s F none calls =
 
 -- ---- what is complete
 
-carried_done : (e : Effect) (old new : HostState) (s : Status) → Carries e old new s → new.faults ≡ old.faults → new.faults + 1 < 2 ^ 64 → (s ≡ NoMemory) ⊎ IsDone e old new s
-carried_done e old new Done h same last = inr h
-carried_done e old new Ended h same last = inr h
-carried_done e old new Usage h same last = inr h
-carried_done e old new Refused h same last = inr h
-carried_done e old new HostFault h same last = absurd (let rose : Rose old.faults new.faults = h.0 in omega arith)
-carried_done e old new NoMemory h same last = inl refl
+pub carried_done : (e : Effect) (old new : HostState) (s : Status) → Carries e old new s → s ≢ HostFault → (s ≡ NoMemory) ⊎ IsDone e old new s
+carried_done e old new Done h ne = inr h
+carried_done e old new Ended h ne = inr h
+carried_done e old new Usage h ne = inr h
+carried_done e old new Refused h ne = inr h
+carried_done e old new HostFault h ne = absurd (ne refl)
+carried_done e old new NoMemory h ne = inl refl
 
-pub untouched_wanted : (old new : HostState) (s : Status) → IsUntouched old new s → new.faults ≡ old.faults → new.faults + 1 < 2 ^ 64 → s ≡ NoMemory
-untouched_wanted old new Done h same last = absurd h
-untouched_wanted old new Ended h same last = absurd h
-untouched_wanted old new Usage h same last = absurd h
-untouched_wanted old new Refused h same last = absurd h
-untouched_wanted old new HostFault h same last = absurd (let rose : Rose old.faults new.faults = h.0 in omega arith)
-untouched_wanted old new NoMemory h same last = refl
-
-pub completes : (Is : Effect → Type 0) (old new : HostState) (s : Status) → CarriesOne Is old new s → new.faults ≡ old.faults → new.faults + 1 < 2 ^ 64 → Completes Is old new s
-completes Is old new s h same last = elim h [
-  | inl one ↦ elim (carried_done one.0 old new s one.2 same last) [ inl wanted ↦ inl wanted | inr done ↦ inr (one.0, one.1, done) ]
-  | inr none ↦ inl (untouched_wanted old new s none same last)
-]
+pub untouched_wanted : (old new : HostState) (s : Status) → IsUntouched old new s → s ≢ HostFault → s ≡ NoMemory
+untouched_wanted old new Done h ne = absurd h
+untouched_wanted old new Ended h ne = absurd h
+untouched_wanted old new Usage h ne = absurd h
+untouched_wanted old new Refused h ne = absurd h
+untouched_wanted old new HostFault h ne = absurd (ne refl)
+untouched_wanted old new NoMemory h ne = refl

@@ -1,5 +1,5 @@
 -- The headline of a run, by what the top call carries out.
-use Rattle.std.proofs.Common.{◌≡◌, ◌⊎◌, ◌<◌, ◌≤◌, ◌+◌, ◌%◌, ◌^◌, ℕ, Bool, List, [], ◌∷◌, ◌++◌, length, get_or, Option, Some, None, Result, Ok, refl, sym, ap, subst, ◌∙◌, inl, inr, arith, nat_eq}
+use Rattle.std.proofs.Common.{◌≡◌, ◌≢◌, ◌⊎◌, ◌≤◌, ◌%◌, ℕ, Bool, List, [], ◌∷◌, ◌++◌, length, get_or, Option, Some, None, Result, Ok, refl, sym, ap, subst, ◌∙◌, inl, inr, arith, nat_eq}
 use Rattle.std.specs.Prelude.{option_map, if◌then◌else◌}
 use Rattle.std.proofs.lemmas.Bool.Decides.{nat_tests}
 use Rattle.std.specs.FinMap.{get, insert}
@@ -89,20 +89,20 @@ record Left (e : Effect) (F : FileMap) (P : List ℕ) (new : HostState) (s : Sta
   ends : s ≡ e.status
 
 left : (e : Effect) (F : FileMap) (P : List ℕ) (old new : HostState) (s : Status) → Carries e old new s
-    → old.files ≡ Some F → old.printed ≡ Some P → new.faults ≡ old.faults → new.faults + 1 < 2 ^ 64 → (s ≡ NoMemory) ⊎ Left e F P new s
-left e F P old new Done h files printed same last = inr (record { printed = h.printed P printed; files = h.files F files; ends = sym h.status_is })
-left e F P old new Ended h files printed same last = inr (record { printed = h.printed P printed; files = h.files F files; ends = sym h.status_is })
-left e F P old new Usage h files printed same last = inr (record { printed = h.printed P printed; files = h.files F files; ends = sym h.status_is })
-left e F P old new Refused h files printed same last = inr (record { printed = h.printed P printed; files = h.files F files; ends = sym h.status_is })
-left e F P old new HostFault h files printed same last = absurd (let rose : _ = h.0 in omega arith)
-left e F P old new NoMemory h files printed same last = inl refl
+    → old.files ≡ Some F → old.printed ≡ Some P → s ≢ HostFault → (s ≡ NoMemory) ⊎ Left e F P new s
+left e F P old new Done h files printed ne = inr (record { printed = h.printed P printed; files = h.files F files; ends = sym h.status_is })
+left e F P old new Ended h files printed ne = inr (record { printed = h.printed P printed; files = h.files F files; ends = sym h.status_is })
+left e F P old new Usage h files printed ne = inr (record { printed = h.printed P printed; files = h.files F files; ends = sym h.status_is })
+left e F P old new Refused h files printed ne = inr (record { printed = h.printed P printed; files = h.files F files; ends = sym h.status_is })
+left e F P old new HostFault h files printed ne = absurd (ne refl)
+left e F P old new NoMemory h files printed ne = inl refl
 
 -- the effect that was carried out is this one
 left_one : (Is : Effect → Type 0) (d : Effect) (F : FileMap) (P : List ℕ) (old new : HostState) (s : Status) → ((e : Effect) → Is e → e ≡ d) → CarriesOne Is old new s
-    → old.files ≡ Some F → old.printed ≡ Some P → new.faults ≡ old.faults → new.faults + 1 < 2 ^ 64 → (s ≡ NoMemory) ⊎ Left d F P new s
-left_one Is d F P old new s only h files printed same last = elim h [
-  | inl one ↦ left d F P old new s (subst (λ (e : Effect). Carries e old new s) (only one.0 one.1) one.2) files printed same last
-  | inr none ↦ inl (untouched_wanted old new s none same last)
+    → old.files ≡ Some F → old.printed ≡ Some P → s ≢ HostFault → (s ≡ NoMemory) ⊎ Left d F P new s
+left_one Is d F P old new s only h files printed ne = elim h [
+  | inl one ↦ left d F P old new s (subst (λ (e : Effect). Carries e old new s) (only one.0 one.1) one.2) files printed ne
+  | inr none ↦ inl (untouched_wanted old new s none ne)
 ]
 
 reported_by : (listing : Listing) (F : FileMap) (P memory : List ℕ) (image : List Segment) (s : Sched) (new : HostState) (status : Status) → IsListing (flash_byte image) listing
@@ -124,21 +124,21 @@ reported_by listing F P memory image s new status is h = record {
 
 pub headline_of : (words : List (List ℕ)) (form : Option Form) (old new : HostState) (status : Status) → form ≡ form_of words
     → ((listings : List Segment → Listing) → AreListings listings → Does listings form old new status) → RunsToHeadline words old new status
-headline_of words form old new status same does = λ F P name memory image s h.
+headline_of words form old new status same does = λ F P name memory image s h ne.
     let listings = some_listings.0 in
     let x = shown_out (listings image) image s in
     let sound = h.sound in
     let read = read_for F name sound.bytes memory h.source s sound.there sound.short h.given in
     let only = λ (e : Effect). effect-run listings words F name sound.bytes memory h.source image s e (form_of-run words name h.source memory h.asked) read sound.holds sound.odd in
     let done = Does-carries listings form words old new status F (does listings some_listings.1) same sound.files in
-    elim (left_one (IsEffect listings words F) (effect_for (reported x memory)) F P old new status only done sound.files sound.printed sound.no_fault sound.not_last) [
+    elim (left_one (IsEffect listings words F) (effect_for (reported x memory)) F P old new status only done sound.files sound.printed ne) [
       | inl wanted ↦ inl wanted
       | inr left ↦ inr (reported_by (listings image) F P memory image s new status (some_listings.1.at image) left)
     ]
 
 -- of words that are no form it says nothing
 pub headline_of_none : (words : List (List ℕ)) (old new : HostState) (status : Status) → None ≡ form_of words → RunsToHeadline words old new status
-headline_of_none words old new status none = λ F P name memory image s h.
+headline_of_none words old new status none = λ F P name memory image s h ne.
     let asked : None ≡ Some (run name h.source memory) = none ∙ form_of-run words name h.source memory h.asked in
     cc
 
@@ -195,18 +195,18 @@ shown_by listing F P image n new status is h = record {
 
 pub order_of : (words : List (List ℕ)) (form : Option Form) (old new : HostState) (status : Status) → form ≡ form_of words
     → ((listings : List Segment → Listing) → AreListings listings → Does listings form old new status) → RunsInOrder words old new status
-order_of words form old new status same does = λ F P name image n h.
+order_of words form old new status same does = λ F P name image n h ne.
     let listings = some_listings.0 in
     let x = shown_out (listings image) image (plain n) in
     let sound = h.sound in
     let only = λ (e : Effect). effect-seq listings words F name sound.bytes image n e (form_of-seq words name n h.asked) sound.there sound.short sound.holds sound.odd in
     let done = Does-carries listings form words old new status F (does listings some_listings.1) same sound.files in
-    elim (left_one (IsEffect listings words F) (effect_for (told x)) F P old new status only done sound.files sound.printed sound.no_fault sound.not_last) [
+    elim (left_one (IsEffect listings words F) (effect_for (told x)) F P old new status only done sound.files sound.printed ne) [
       | inl wanted ↦ inl wanted
       | inr left ↦ inr (shown_by (listings image) F P image n new status (some_listings.1.at image) left)
     ]
 
 pub order_of_none : (words : List (List ℕ)) (old new : HostState) (status : Status) → None ≡ form_of words → RunsInOrder words old new status
-order_of_none words old new status none = λ F P name image n h.
+order_of_none words old new status none = λ F P name image n h ne.
     let asked : None ≡ Some (seq name n) = none ∙ form_of-seq words name n h.asked in
     cc

@@ -1,5 +1,5 @@
 -- What the program does, by its words and the files that the host tells.
-use Rattle.std.specs.Prelude.{◌≡◌, ◌⊎◌, ℕ, List, [], ◌∷◌, ◌++◌, length, Option, Some, None, Result, Ok, Err, codes, nat_lt, if◌then◌else◌}
+use Rattle.std.specs.Prelude.{◌≡◌, ◌≢◌, ◌⊎◌, ℕ, List, [], ◌∷◌, ◌++◌, length, Option, Some, None, Result, Ok, Err, codes, nat_lt, if◌then◌else◌}
 use Rattle.std.specs.FinMap.{get, insert}
 use Rattle.hm_base.specs.Image.{Segment}
 use Rattle.hm_codes.specs.Listing.{Listing}
@@ -152,10 +152,6 @@ IsUntouched old new status = ⊥
 abbrev pub CarriesOne : (Effect → Type 0) → HostState → HostState → Status → Type 0
 CarriesOne Is old new status = ((e : Effect) × Is e × Carries e old new status) ⊎ IsUntouched old new status
 
--- where no call failed and memory was there, the effect is done
-abbrev pub Completes : (Effect → Type 0) → HostState → HostState → Status → Type 0
-Completes Is old new status = (status ≡ NoMemory) ⊎ ((e : Effect) × Is e × IsDone e old new status)
-
 -- the reads were not made to their end, or memory ran out behind them
 abbrev pub CutsReads : List Call → Option (List Made) → Option (List Made) → Way → Type 0
 CutsReads reads old new to_end = ⊥
@@ -173,6 +169,15 @@ StaysOrMakesAll calls old new = Stays old.files new.files ⊎ MakesAll calls old
 -- no file was touched, or the reads and all calls that do one of these effects were made
 abbrev pub StaysOrMakesAllOfOne : List Call → (Effect → Type 0) → HostState → HostState → Type 0
 StaysOrMakesAllOfOne reads Is old new = Stays old.files new.files ⊎ ((e : Effect) × Is e × MakesAll (reads ++ calls_for e) old.calls new.calls)
+
+-- WHAT A CALL DOES of this effect, after these reads: the files and the printed bytes, by the status; done whole where no call of the host failed
+-- and memory was there; the calls that were made, all of them or up to the first that failed; and where memory was wanted, no file was touched
+-- or all calls were made.
+pub record DoesEffect (reads : List Call) (effect : Effect) (old new : HostState) (status : Status) : Type 0 where
+  pub carries : Carries effect old new status
+  pub complete : status ≢ HostFault → (status ≡ NoMemory) ⊎ IsDone effect old new status
+  pub calls : MakesCalls (reads ++ calls_for effect) old.calls new.calls (way_of status)
+  pub spent : status ≡ NoMemory → StaysOrMakesAll (reads ++ calls_for effect) old new
 
 -- a form's effect is carried out, by what the reads gave: where the files are told, what they hold
 pub record Does (listings : List Segment → Listing) (form : Option Form) (old new : HostState) (status : Status) : Type 0 where

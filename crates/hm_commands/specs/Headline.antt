@@ -1,5 +1,5 @@
 -- What the top call owes to the instructions in order.
-use Rattle.std.specs.Prelude.{◌≡◌, ◌⊎◌, ℕ, ◌+◌, ◌%◌, ◌^◌, ◌<◌, ◌≤◌, Bool, true, false, List, ◌++◌, length, Some, None, if◌then◌else◌}
+use Rattle.std.specs.Prelude.{◌≡◌, ◌≢◌, ◌⊎◌, ℕ, ◌%◌, ◌≤◌, Bool, true, false, List, ◌++◌, length, Some, None, if◌then◌else◌}
 use Rattle.std.specs.FinMap.{get, insert}
 use Rattle.hm_base.specs.Image.{Segment, flash_byte}
 use Rattle.hm_codes.specs.Listing.{Listing, IsListing}
@@ -13,7 +13,7 @@ use Rattle.hm_sched.specs.Schedule.{Sched, plain}
 use Rattle.hm_sched.specs.Written.{IsFile}
 use Rattle.hm_state.specs.Start.{reset_pc}
 use Rattle.hm_commands.specs.declared.status.Status.{Status}
-use Rattle.hm_commands.specs.declared.status.Status.TheVariants.{Done, Ended, NoMemory}
+use Rattle.hm_commands.specs.declared.status.Status.TheVariants.{Done, Ended, HostFault, NoMemory}
 use Rattle.hm_commands.specs.Run.{is_halted}
 use Rattle.hm_commands.specs.Words.{Source, ticks, file, IsRun, IsSeq}
 
@@ -22,9 +22,9 @@ abbrev pub IsGiven : FileMap → Source → Sched → Type 0
 IsGiven F (ticks n) s = s ≡ plain n
 IsGiven F (file name) s = (text : List ℕ) × (get F name ≡ Some text) × (length text ≤ longest) × IsFile text s
 
--- The host tells the files F and the printed bytes P, and none of its calls failed. The file that is named is there, not
--- too large, and holds this image, whose reset address is odd.
-pub record IsSoundImage (old new : HostState) (F : FileMap) (P name : List ℕ) (image : List Segment) : Type 0 where
+-- The host tells the files F and the printed bytes P. The file that is named is there, not too large, and holds this image, whose reset
+-- address is odd.
+pub record IsSoundImage (old : HostState) (F : FileMap) (P name : List ℕ) (image : List Segment) : Type 0 where
   pub files : old.files ≡ Some F
   pub printed : old.printed ≡ Some P
   pub bytes : List ℕ
@@ -32,15 +32,13 @@ pub record IsSoundImage (old new : HostState) (F : FileMap) (P name : List ℕ) 
   pub short : length bytes ≤ longest
   pub holds : IsImageFile bytes image
   pub odd : reset_pc image % 2 ≡ 1
-  pub no_fault : new.faults ≡ old.faults
-  pub not_last : new.faults + 1 < 2 ^ 64
 
 -- The words are those of a run of a sound image under this schedule.
-pub record IsSoundRun (words : List (List ℕ)) (old new : HostState) (F : FileMap) (P name memory : List ℕ) (image : List Segment) (s : Sched) : Type 0 where
+pub record IsSoundRun (words : List (List ℕ)) (old : HostState) (F : FileMap) (P name memory : List ℕ) (image : List Segment) (s : Sched) : Type 0 where
   pub source : Source
   pub asked : IsRun words name source memory
   pub given : IsGiven F source s
-  pub sound : IsSoundImage old new F P name image
+  pub sound : IsSoundImage old F P name image
 
 -- A report was printed and a file was written, and the headline and its riders hold of them. The status says whether the run halted.
 pub record IsReported (F : FileMap) (P memory : List ℕ) (image : List Segment) (s : Sched) (new : HostState) (status : Status) : Type 0 where
@@ -54,16 +52,16 @@ pub record IsReported (F : FileMap) (P memory : List ℕ) (image : List Segment)
   pub taint : (listing : Listing) → IsListing (flash_byte image) listing → TaintLies s (run_out listing image s).entries (shown_out listing image s).config.state
   pub ends : (listing : Listing) → IsListing (flash_byte image) listing → status ≡ (if is_halted (shown_out listing image s).outcome then Done else Ended)
 
--- each such run is reported, unless memory was wanted
+-- each such run is reported, unless a call of the host failed or memory was wanted
 abbrev pub RunsToHeadline : List (List ℕ) → HostState → HostState → Status → Type 0
 RunsToHeadline words old new status =
-    (F : FileMap) (P name memory : List ℕ) (image : List Segment) (s : Sched) → IsSoundRun words old new F P name memory image s
+    (F : FileMap) (P name memory : List ℕ) (image : List Segment) (s : Sched) → IsSoundRun words old F P name memory image s → status ≢ HostFault
     → (status ≡ NoMemory) ⊎ IsReported F P memory image s new status
 
 -- The words ask for n instructions in order of a sound image.
-pub record IsSoundSeq (words : List (List ℕ)) (old new : HostState) (F : FileMap) (P name : List ℕ) (image : List Segment) (n : ℕ) : Type 0 where
+pub record IsSoundSeq (words : List (List ℕ)) (old : HostState) (F : FileMap) (P name : List ℕ) (image : List Segment) (n : ℕ) : Type 0 where
   pub asked : IsSeq words name n
-  pub sound : IsSoundImage old new F P name image
+  pub sound : IsSoundImage old F P name image
 
 -- whether instructions in order halted
 abbrev pub has_halted : InOrder → Bool
@@ -78,8 +76,8 @@ pub record IsShownInOrder (F : FileMap) (P : List ℕ) (image : List Segment) (n
   pub files : new.files ≡ Some F
   pub ends : (listing : Listing) → IsListing (flash_byte image) listing → status ≡ (if has_halted (in_order listing image n) then Done else Ended)
 
--- each n such instructions are shown, unless memory was wanted
+-- each n such instructions are shown, unless a call of the host failed or memory was wanted
 abbrev pub RunsInOrder : List (List ℕ) → HostState → HostState → Status → Type 0
 RunsInOrder words old new status =
-    (F : FileMap) (P name : List ℕ) (image : List Segment) (n : ℕ) → IsSoundSeq words old new F P name image n
+    (F : FileMap) (P name : List ℕ) (image : List Segment) (n : ℕ) → IsSoundSeq words old F P name image n → status ≢ HostFault
     → (status ≡ NoMemory) ⊎ IsShownInOrder F P image n new status

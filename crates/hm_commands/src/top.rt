@@ -1,6 +1,6 @@
 //! The top call: words, reads, the command, the written file, the print.
 
-ghost use Rattle.std.specs.Prelude.{◌≡◌, ◌<◌, ◌+◌, ◌++◌, ◌^◌, List, Some, None, Err, map, option_map, string_bytes, IfOk};
+ghost use Rattle.std.specs.Prelude.{◌≡◌, ◌<◌, ◌++◌, List, Some, None, Err, map, option_map, string_bytes, IfOk};
 ghost use Rattle.hm_base.specs.Image.{Segment};
 ghost use Rattle.hm_codes.specs.Listing.{Listing};
 ghost use Rattle.hm_commands.specs.Commands.{AreListings};
@@ -8,7 +8,7 @@ ghost use Rattle.hm_commands.specs.Headline.{RunsInOrder, RunsToHeadline};
 ghost use Rattle.hm_host.specs.Host.{FileMap, Rose, Stays};
 ghost use Rattle.hm_commands.specs.Words.{form_of, meant};
 ghost use Rattle.hm_commands.specs.Work.{Outcome, Gives, output_pair, refuses};
-ghost use Rattle.hm_commands.specs.Effect.{Carries, CarriesOne, Completes, Does, IsComplete, IsEffect, MakesCallsOfOne, StaysOrMakesAll, StaysOrMakesAllOfOne, calls_for, effect_for, reads_for, usage_effect, usage_line, refused_line, failure_of};
+ghost use Rattle.hm_commands.specs.Effect.{Carries, Does, DoesEffect, Effect, IsComplete, IsEffect, StaysOrMakesAll, calls_for, effect_for, reads_for, usage_effect, usage_line, refused_line, failure_of};
 ghost use Rattle.hm_commands.specs.Calls.{MakesCalls, print_calls, read_calls, way_of, write_calls};
 
 use crate::commands::perform;
@@ -134,19 +134,9 @@ fn obey<H: Host>(alloc: Global, command: &Command<'_>, host: &mut H) -> Status
 /// Each text is made before the first is written, the file is written by one call of the host, and then the text is
 /// printed by one. Want of memory prints nothing.
 pub fn helium<H: Host>(alloc: Global, words: &[String], host: &mut H) -> Status
-    // Where the host tells its files, the words' effect is carried out.
+    // Where the host tells its files, one effect of the words is what the call does: its status, its file, its text and its calls.
     ensures effect { (listings : List Segment → Listing) → AreListings listings → (F : FileMap) → (H.state host.old).files ≡ Some F
-        → CarriesOne (IsEffect listings (map string_bytes words.now) F) (H.state host.old) (H.state host.new) result }
-    // Where no call failed, the effect is done, unless memory was wanted.
-    ensures complete { (listings : List Segment → Listing) → AreListings listings → (F : FileMap) → (H.state host.old).files ≡ Some F
-        → (H.state host.new).faults ≡ (H.state host.old).faults → (H.state host.new).faults + 1 < 2 ^ 64
-        → Completes (IsEffect listings (map string_bytes words.now) F) (H.state host.old) (H.state host.new) result }
-    // Where the host tells its calls, those that the program made are the ones that the words ask for: all of them, or up to the first that failed.
-    ensures calls { (listings : List Segment → Listing) → AreListings listings → (F : FileMap) → (H.state host.old).files ≡ Some F
-        → MakesCallsOfOne (read_calls F (reads_for (form_of (map string_bytes words.now)))) (IsEffect listings (map string_bytes words.now) F) (H.state host.old).calls (H.state host.new).calls (way_of result) }
-    // Where memory was wanted, no file was touched or all calls were made: no file is written before all texts are there.
-    ensures spent { (listings : List Segment → Listing) → AreListings listings → (F : FileMap) → (H.state host.old).files ≡ Some F → result ≡ Status.NoMemory
-        → StaysOrMakesAllOfOne (read_calls F (reads_for (form_of (map string_bytes words.now)))) (IsEffect listings (map string_bytes words.now) F) (H.state host.old) (H.state host.new) }
+        → (e : Effect) × IsEffect listings (map string_bytes words.now) F e × DoesEffect (read_calls F (reads_for (form_of (map string_bytes words.now)))) e (H.state host.old) (H.state host.new) result }
     // Of a run that is reported the headline and its riders hold.
     ensures headline { RunsToHeadline (map string_bytes words.now) (H.state host.old) (H.state host.new) result }
     // What `seq` shows is what so many instructions in order come to.

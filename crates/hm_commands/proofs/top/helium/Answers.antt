@@ -1,26 +1,34 @@
 use Rattle.std.proofs.Common.{Some, inl, map}
 use Rattle.std.specs.String.{string_bytes}
 use Rattle.hm_commands.specs.declared.status.Status.TheVariants.{Usage}
-use Rattle.hm_commands.specs.Effect.{IsEffect, usage_effect, usage_line}
+use Rattle.hm_commands.specs.Calls.{read_calls}
+use Rattle.hm_commands.specs.Effect.{IsEffect, reads_for, usage_effect, usage_line}
+use Rattle.hm_commands.specs.Words.{form_of}
 use Rattle.hm_commands.proofs.Carrying.{stays_spent}
-use Rattle.hm_commands.proofs.Ending.{Does-carries, Does-usage, Does-host_fault, Does-makes, Does-risen, Does-quiet, Does-spent, completes, usage_is, usage_makes}
+use Rattle.hm_commands.proofs.Ending.{Does-carries, Does-usage, Does-host_fault, Does-makes, Does-risen, Does-quiet, Does-spent, usage_is, usage_makes}
 use Rattle.hm_commands.proofs.Headlines.{headline_of, headline_of_none, order_of, order_of_none}
 use Rattle.hm_commands.proofs.Listed.{some_listings}
+use Rattle.hm_commands.proofs.OneEffect.{one_effect}
+use Rattle.hm_commands.proofs.Single.{does_one}
+use Rattle.hm_commands.proofs.SomeEffect.{some_effect}
 use Rattle.hm_commands.proofs.top.helium.Goals as goal
 
 pub returns-in-Some-clause-effect : goal.returns-in-Some-clause-effect
-returns-in-Some-clause-effect g c = λ listings are F told. Does-carries listings _ (map string_bytes c.args.words.now) _ _ _ F (c.obey.ensures.effect listings are) c.in-Some.ensures told
+returns-in-Some-clause-effect g c = λ listings are F told.
+    let words = map string_bytes c.args.words.now in
+    let does = c.obey.ensures.effect listings are in
+    does_one (read_calls F (reads_for (form_of words))) (IsEffect listings words F) _ _ _ (one_effect listings words F) (some_effect listings words F)
+    (Does-carries listings _ words _ _ _ F does c.in-Some.ensures told)
+    (Does-makes listings _ words _ _ _ F does c.in-Some.ensures told)
+    (Does-spent listings _ words _ _ _ F does c.in-Some.ensures told)
 
 pub returns-in-None-clause-effect : goal.returns-in-None-clause-effect
-returns-in-None-clause-effect g c = λ listings are F told. inl (usage_effect, usage_is listings (map string_bytes c.args.words.now) F c.in-None.ensures, c.say_usage.ensures.effect)
-
-pub returns-in-Some-clause-complete : goal.returns-in-Some-clause-complete
-returns-in-Some-clause-complete g c = λ listings are F told same last.
-    completes (IsEffect listings (map string_bytes c.args.words.now) F) _ _ _ (Does-carries listings _ (map string_bytes c.args.words.now) _ _ _ F (c.obey.ensures.effect listings are) c.in-Some.ensures told) same last
-
-pub returns-in-None-clause-complete : goal.returns-in-None-clause-complete
-returns-in-None-clause-complete g c = λ listings are F told same last.
-    completes (IsEffect listings (map string_bytes c.args.words.now) F) _ _ _ (inl (usage_effect, usage_is listings (map string_bytes c.args.words.now) F c.in-None.ensures, c.say_usage.ensures.effect)) same last
+returns-in-None-clause-effect g c = λ listings are F told.
+    let words = map string_bytes c.args.words.now in
+    does_one (read_calls F (reads_for (form_of words))) (IsEffect listings words F) _ _ _ (one_effect listings words F) (some_effect listings words F)
+    (inl (usage_effect, usage_is listings words F c.in-None.ensures, c.say_usage.ensures.effect))
+    (usage_makes listings words (g.H.Host.state c.args.host.now) (g.H.Host.state c.say_usage.new.host) c.say_usage.result F c.in-None.ensures c.say_usage.ensures.calls)
+    (λ wanted. inl (stays_spent Usage (Some usage_line) _ _ _ c.say_usage.ensures.effect wanted))
 
 pub returns-in-Some-clause-headline : goal.returns-in-Some-clause-headline
 returns-in-Some-clause-headline g c = headline_of _ _ _ _ _ c.in-Some.ensures c.obey.ensures.effect
@@ -33,18 +41,6 @@ returns-in-Some-clause-order g c = order_of _ _ _ _ _ c.in-Some.ensures c.obey.e
 
 pub returns-in-None-clause-order : goal.returns-in-None-clause-order
 returns-in-None-clause-order g c = order_of_none _ _ _ _ c.in-None.ensures
-
-pub returns-in-Some-clause-calls : goal.returns-in-Some-clause-calls
-returns-in-Some-clause-calls g c = λ listings are F told. Does-makes listings _ (map string_bytes c.args.words.now) _ _ _ F (c.obey.ensures.effect listings are) c.in-Some.ensures told
-
-pub returns-in-None-clause-calls : goal.returns-in-None-clause-calls
-returns-in-None-clause-calls g c = λ listings are F told. usage_makes listings (map string_bytes c.args.words.now) (g.H.Host.state c.args.host.now) (g.H.Host.state c.say_usage.new.host) c.say_usage.result F c.in-None.ensures c.say_usage.ensures.calls
-
-pub returns-in-Some-clause-spent : goal.returns-in-Some-clause-spent
-returns-in-Some-clause-spent g c = λ listings are F told. Does-spent listings _ (map string_bytes c.args.words.now) _ _ _ F (c.obey.ensures.effect listings are) c.in-Some.ensures told
-
-pub returns-in-None-clause-spent : goal.returns-in-None-clause-spent
-returns-in-None-clause-spent g c = λ listings are F told wanted. inl (stays_spent Usage (Some usage_line) _ _ _ c.say_usage.ensures.effect wanted)
 
 pub returns-in-Some-clause-usage_only : goal.returns-in-Some-clause-usage_only
 returns-in-Some-clause-usage_only g c = λ is. absurd (Does-usage _ _ _ _ _ (c.obey.ensures.effect some_listings.0 some_listings.1) is)
