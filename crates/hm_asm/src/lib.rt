@@ -45,6 +45,3 @@ pub fn assemble(alloc: Global, source: &[u8]) -> Result<Image, AsmErr>
         Err(e) => Err(e),
     }
 }
-
-#[cfg(test)]
-mod tests;

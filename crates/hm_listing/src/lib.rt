@@ -37,6 +37,3 @@ pub fn listing(alloc: Global, image: &Image, lo: u32, hi: u32) -> Result<Vec<u8>
     add_lines(&mut out, &m, lo, hi)?;
     Ok(out)
 }
-
-#[cfg(test)]
-mod tests;

@@ -190,6 +190,3 @@ pub fn plain(alloc: Global, n: u32) -> Result<Schedule, SchedErr>
     }
     Ok(schedule)
 }
-
-#[cfg(test)]
-mod tests;

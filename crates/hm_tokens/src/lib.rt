@@ -17,6 +17,3 @@ pub use names::{
 };
 pub use text::{InstrText, Part};
 pub use token::{Token, skip, token_at};
-
-#[cfg(test)]
-mod tests;
