@@ -11,6 +11,3 @@ mod types;
 pub use entry::enter;
 pub use exit::{leave, newest};
 pub use types::{Activation, Acts, Broken, EnterErr, Slot};
-
-#[cfg(test)]
-mod tests;
