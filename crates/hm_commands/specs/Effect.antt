@@ -170,9 +170,9 @@ StaysOrMakesAll calls old new = Stays old.files new.files ⊎ MakesAll calls old
 abbrev pub StaysOrMakesAllOfOne : List Call → (Effect → Type 0) → HostState → HostState → Type 0
 StaysOrMakesAllOfOne reads Is old new = Stays old.files new.files ⊎ ((e : Effect) × Is e × MakesAll (reads ++ calls_for e) old.calls new.calls)
 
--- WHAT A CALL DOES of this effect, after these reads: the files and the printed bytes, by the status; done whole where no call of the host failed
--- and memory was there; the calls that were made, all of them or up to the first that failed; and where memory was wanted, no file was touched
--- or all calls were made.
+-- WHAT A CALL DOES of this effect, after these reads: the files and the printed bytes, by the status; done whole where the status is neither the
+-- host's fault nor want of memory (which `carries` tells by cases, and is said here for the reader); the calls that were made, all of them or up
+-- to the first that failed; and where memory was wanted, no file was touched or all calls were made.
 pub record DoesEffect (reads : List Call) (effect : Effect) (old new : HostState) (status : Status) : Type 0 where
   pub carries : Carries effect old new status
   pub complete : status ≢ HostFault → (status ≡ NoMemory) ⊎ IsDone effect old new status

@@ -52,7 +52,7 @@ pub record IsReported (F : FileMap) (P memory : List ℕ) (image : List Segment)
   pub taint : (listing : Listing) → IsListing (flash_byte image) listing → TaintLies s (run_out listing image s).entries (shown_out listing image s).config.state
   pub ends : (listing : Listing) → IsListing (flash_byte image) listing → status ≡ (if is_halted (shown_out listing image s).outcome then Done else Ended)
 
--- each such run is reported, unless a call of the host failed or memory was wanted
+-- each such run is reported, unless the status is the host's fault or memory was wanted
 abbrev pub RunsToHeadline : List (List ℕ) → HostState → HostState → Status → Type 0
 RunsToHeadline words old new status =
     (F : FileMap) (P name memory : List ℕ) (image : List Segment) (s : Sched) → IsSoundRun words old F P name memory image s → status ≢ HostFault
@@ -76,7 +76,7 @@ pub record IsShownInOrder (F : FileMap) (P : List ℕ) (image : List Segment) (n
   pub files : new.files ≡ Some F
   pub ends : (listing : Listing) → IsListing (flash_byte image) listing → status ≡ (if has_halted (in_order listing image n) then Done else Ended)
 
--- each n such instructions are shown, unless a call of the host failed or memory was wanted
+-- each n such instructions are shown, unless the status is the host's fault or memory was wanted
 abbrev pub RunsInOrder : List (List ℕ) → HostState → HostState → Status → Type 0
 RunsInOrder words old new status =
     (F : FileMap) (P name : List ℕ) (image : List Segment) (n : ℕ) → IsSoundSeq words old F P name image n → status ≢ HostFault

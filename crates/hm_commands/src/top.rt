@@ -144,7 +144,7 @@ pub fn helium<H: Host>(alloc: Global, words: &[String], host: &mut H) -> Status
     // Words that are no form are answered by the usage line, whatever the host tells.
     ensures usage { form_of (map string_bytes words.now) ≡ None → Carries usage_effect (H.state host.old) (H.state host.new) result }
     ensures usage_only { result ≡ Status.Usage → form_of (map string_bytes words.now) ≡ None }
-    // The host's fault is answered exactly where its count rose.
+    // The host's fault is answered only where its count rose or stands at its last value, and always where it rose.
     ensures fault { result ≡ Status.HostFault → Rose (H.state host.old).faults (H.state host.new).faults }
     ensures fault_always { (H.state host.old).faults < (H.state host.new).faults → result ≡ Status.HostFault }
     // Want of memory prints nothing.

@@ -65,7 +65,7 @@ module _ (listing : Listing) (image : List Segment) (s : Sched) where
   halts_alone : (o : Option Outcome) (reason : Reason) (n : ℕ) (acts : List Interrupted) → o ≡ Some (outcome.Halted reason n) → HaltsInThread o acts → acts ≡ []
   halts_alone o reason n acts e h = subst (λ (q : Option Outcome). HaltsInThread q acts) e h
 
-  pub halts_in_order : (x : Run) (report file : List ℕ) → KeepsOrder listing image s x → report ≡ report_text (shown x) → file ≡ memory_text (shown x)
+  halts_in_order : (x : Run) (report file : List ℕ) → KeepsOrder listing image s x → report ≡ report_text (shown x) → file ≡ memory_text (shown x)
       → (reason : Reason) (n : ℕ) → x.outcome ≡ Some (outcome.Halted reason n) → HaltsInOrder listing image report file reason n
   halts_in_order x report file keeps r f reason n e =
       halts listing image s (shown x) report file (halted_at x.outcome reason n x.machine e keeps.thread)
@@ -87,7 +87,7 @@ module _ (listing : Listing) (image : List Segment) (s : Sched) where
   out_steps : (o : Option Outcome) (c : Config State) (acts : List Interrupted) → o ≡ Some outcome.OutOfTicks → (thread_at o c acts).steps ≡ c.steps
   out_steps o c acts e = ap (λ (q : Option Outcome). (thread_at q c acts).steps) e ∙ counted_steps c acts
 
-  pub riders_at : (x : Run) → KeepsOrder listing image s x → Riders listing image (shown x)
+  riders_at : (x : Run) → KeepsOrder listing image s x → Riders listing image (shown x)
   riders_at x keeps =
       let rides = riders_of listing image s (thread_shown x) keeps.thread in
       let c = x.machine.config in

@@ -6,6 +6,8 @@ use Rattle.hm_machine.specs.Shown.{Shown, Shows, run_of, timed_of}
 use Rattle.hm_handlers.proofs.Quiet.{run_quiet}
 use Rattle.hm_handlers.proofs.Whole.{headline_every, riders_every}
 use Rattle.hm_handlers.proofs.Lying.{taint_lies}
+use Rattle.hm_handlers.proofs.Order.{keeps_order}
+use Rattle.hm_handlers.specs.Order.{KeepsOrder}
 use Rattle.hm_handlers.specs.Runs.{run, run_out, shown}
 use Rattle.hm_handlers.specs.Taint.{TaintLies}
 use Rattle.hm_machine.proofs.Ticks.{timed_is}
@@ -22,8 +24,11 @@ module _ (image : List Segment) (s : Sched) (t : ℕ) (m : Shown) (shows : Shows
   pub shown_at : timed_of m ≡ shown (run listing image s t)
   shown_at = timed_is m (run listing image s t) (shows.now listing is)
 
-  pub shown_order : StandsInOrder listing image s (run_of m (run listing image s t).entries)
-  shown_order = subst (StandsInOrder listing image s) (sym (shows.now listing is)) (stands_in_order listing image s t)
+  pub shown_order : KeepsOrder listing image s (run_of m (run listing image s t).entries)
+  shown_order = subst (KeepsOrder listing image s) (sym (shows.now listing is)) (keeps_order listing image s t)
+
+  pub shown_position : StandsInOrder listing image s (run_of m (run listing image s t).entries)
+  shown_position = subst (StandsInOrder listing image s) (sym (shows.now listing is)) (stands_in_order listing image s t)
 
   pub shown_taint : TaintLies s (run listing image s t).entries (timed_of m).config.state
   shown_taint = subst (λ (x : Timed). TaintLies s (run listing image s t).entries x.config.state) (sym shown_at) (taint_lies listing image s t)

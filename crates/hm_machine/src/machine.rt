@@ -9,6 +9,7 @@ ghost use Rattle.hm_mem.specs.Memory.{flash_at, told_at, tainted_at};
 ghost use Rattle.hm_run.specs.Headline.{Headline, PlainReport, Riders};
 ghost use Rattle.hm_run.specs.InOrder.{in_order};
 ghost use Rattle.hm_run.specs.Report.{report_text, memory_text};
+ghost use Rattle.hm_handlers.specs.Order.{KeepsOrder};
 ghost use Rattle.hm_handlers.specs.Runs.{next, run, run_out};
 ghost use Rattle.hm_handlers.specs.Taint.{TaintLies};
 ghost use Rattle.hm_position.specs.Position.{StandsInOrder};
@@ -75,6 +76,9 @@ impl Machine {
         ensures odd { IfOk result (λ m. reset_pc image.now % 2 ≡ 1) }
         ensures refused { IfErr result (λ e. LoadRefuses image.now e) }
         ensures order { IfOk result (λ m. (listing : Listing) → IsListing (flash_byte image.now) listing
+            → KeepsOrder listing image.now s (run_of m (run listing image.now s 0).entries)) }
+        // The same in plain words: where the thread stands among whole instructions in order.
+        ensures position { IfOk result (λ m. (listing : Listing) → IsListing (flash_byte image.now) listing
             → StandsInOrder listing image.now s (run_of m (run listing image.now s 0).entries)) }
         ensures taint { IfOk result (λ m. (listing : Listing) → IsListing (flash_byte image.now) listing
             → TaintLies s (run listing image.now s 0).entries (timed_of m).config.state) }
@@ -207,8 +211,11 @@ impl Machine {
         ensures turn { result ≡ turned self.new.outcome }
         ensures fewer { self.old.outcome ≡ None → length self.new.left < length self.old.left }
         ensures once { self.old.outcome ≡ None → self.new.ticks ≡ self.old.ticks + 1 }
-        // The thread stands where whole instructions in order do, and tainted bytes lie where they may.
+        // Whole instructions in order agree with the thread, and tainted bytes lie where they may.
         ensures order { (image : List Segment) (s : Sched) (t : ℕ) (listing : Listing) → IsListing (flash_byte image) listing → Shows image s t self.old
+            → KeepsOrder listing image s (run_of self.new (run listing image s (suc t)).entries) }
+        // The same in plain words: where the thread stands among whole instructions in order.
+        ensures position { (image : List Segment) (s : Sched) (t : ℕ) (listing : Listing) → IsListing (flash_byte image) listing → Shows image s t self.old
             → StandsInOrder listing image s (run_of self.new (run listing image s (suc t)).entries) }
         ensures taint { (image : List Segment) (s : Sched) (t : ℕ) (listing : Listing) → IsListing (flash_byte image) listing → Shows image s t self.old
             → TaintLies s (run listing image s (suc t)).entries (timed_of self.new).config.state }
@@ -246,8 +253,8 @@ impl Machine {
         // n-th instruction in order halts, there were fewer than 4n steps of the older.
         ensures riders { (image : List Segment) (s : Sched) (t : ℕ) (listing : Listing) → IsListing (flash_byte image) listing
             → Shows image s t self.old → Riders listing image (timed_of self.new) }
-        // Where the ticks are out the thread stands where whole instructions in order do.
-        ensures order { (image : List Segment) (s : Sched) (t : ℕ) (listing : Listing) → IsListing (flash_byte image) listing → Shows image s t self.old
+        // Where the ticks are out: where the thread stands among whole instructions in order.
+        ensures position { (image : List Segment) (s : Sched) (t : ℕ) (listing : Listing) → IsListing (flash_byte image) listing → Shows image s t self.old
             → StandsInOrder listing image s (run_of self.new (run_out listing image s).entries) }
         // Every tainted byte lies in the region, or from the floor up and below the stack pointer at one of the run's entries.
         ensures taint { (image : List Segment) (s : Sched) (t : ℕ) (listing : Listing) → IsListing (flash_byte image) listing → Shows image s t self.old

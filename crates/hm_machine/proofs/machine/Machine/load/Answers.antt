@@ -1,7 +1,7 @@
 use Rattle.std.proofs.Common.{arith, ap}
 use Rattle.std.specs.Prelude.{reverse}
 use Rattle.hm_machine.proofs.Loads.{first_stands, first_length, running_ticks, shows_start, sound_start, odd_pc}
-use Rattle.hm_machine.proofs.Plain.{shown_order, shown_taint}
+use Rattle.hm_machine.proofs.Plain.{shown_order, shown_position, shown_taint}
 use Rattle.hm_mem.specs.Memory.{memory_of}
 use Rattle.hm_machine.proofs.machine.Machine.load.Goals as goal
 
@@ -34,3 +34,6 @@ returns-clause-order c listing is = shown_order c.args.image.now c.args.s 0 _ (r
 
 pub returns-clause-taint : goal.returns-clause-taint
 returns-clause-taint c listing is = shown_taint c.args.image.now c.args.s 0 _ (returns-clause-shows c) listing is
+
+pub returns-clause-position : goal.returns-clause-position
+returns-clause-position c listing is = shown_position c.args.image.now c.args.s 0 _ (returns-clause-shows c) listing is

@@ -3,7 +3,7 @@ use Rattle.std.proofs.lemmas.Bool.Decides.{nat_tests}
 use Rattle.hm_order.proofs.Results.{decide}
 use Rattle.std.specs.Prelude.{IsSome}
 use Rattle.hm_machine.specs.Shown.{Shown, Shows}
-use Rattle.hm_machine.proofs.Plain.{plain_report, shown_headline, shown_order, shown_riders, shown_taint}
+use Rattle.hm_machine.proofs.Plain.{plain_report, shown_headline, shown_position, shown_riders, shown_taint}
 use Rattle.hm_sched.specs.Schedule.{plain, ticks_of}
 use Rattle.hm_machine.proofs.Ticks.{left_below, shows_end, shows_past}
 use Rattle.hm_machine.proofs.machine.Machine.run.Goals as goal
@@ -49,5 +49,5 @@ returns-clause-riders c image s t listing is shows = shown_riders image s _ (ret
 pub returns-clause-taint : goal.returns-clause-taint
 returns-clause-taint c image s t listing is shows = shown_taint image s (length (ticks_of s.lines)) _ (returns-clause-shows c image s t shows) listing is
 
-pub returns-clause-order : goal.returns-clause-order
-returns-clause-order c image s t listing is shows = shown_order image s (length (ticks_of s.lines)) _ (returns-clause-shows c image s t shows) listing is
+pub returns-clause-position : goal.returns-clause-position
+returns-clause-position c image s t listing is shows = shown_position image s (length (ticks_of s.lines)) _ (returns-clause-shows c image s t shows) listing is

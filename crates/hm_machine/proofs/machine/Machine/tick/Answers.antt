@@ -2,7 +2,7 @@ use Rattle.std.proofs.Common.{◌≡◌, ap, ◌∙◌, sym, suc, None, ℕ, Lis
 use Rattle.hm_base.specs.Image.{Segment}
 use Rattle.hm_machine.specs.Shown.{Shown, Shows}
 use Rattle.hm_sched.specs.Schedule.{Sched}
-use Rattle.hm_machine.proofs.Plain.{shown_order, shown_taint}
+use Rattle.hm_machine.proofs.Plain.{shown_order, shown_position, shown_taint}
 use Rattle.hm_machine.proofs.Ticks.{shows_on, shows_still}
 use Rattle.hm_machine.proofs.machine.Machine.tick.Goals as goal
 
@@ -26,3 +26,9 @@ returns-in-Some-clause-order c image s t listing is h = shown_order image s (suc
 
 pub returns-in-Some-clause-taint : goal.returns-in-Some-clause-taint
 returns-in-Some-clause-taint c image s t listing is h = shown_taint image s (suc t) _ (ended_shows c image s t h) listing is
+
+pub returns-clause-position : goal.returns-clause-position
+returns-clause-position c image s t listing is h = shown_position image s (suc t) _ (returns-clause-shows c image s t h) listing is
+
+pub returns-in-Some-clause-position : goal.returns-in-Some-clause-position
+returns-in-Some-clause-position c image s t listing is h = shown_position image s (suc t) _ (ended_shows c image s t h) listing is
