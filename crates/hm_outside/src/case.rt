@@ -33,8 +33,8 @@ pub struct Case {
     pub after: Regs,
     /// The bytes of SRAM that are others afterwards.
     pub written: Vec<Segment>,
-    /// The registers that are not compared.
-    pub open: Vec<Register>,
+    /// The bits of the registers that are not compared.
+    pub open: u32,
 }
 
 /// The next word of a line, a hexadecimal number.
@@ -81,7 +81,7 @@ impl Case {
             loaded: Vec::new(alloc),
             after: regs,
             written: Vec::new(alloc),
-            open: Vec::new(alloc),
+            open: 0,
         })
     }
 
@@ -132,7 +132,7 @@ impl Case {
             "regs" => self.set_core(words)?,
             "flags" => self.set_flags(words)?,
             "then" => self.change(alloc, words)?,
-            "any" => self.open.push(read_register(words)?)?,
+            "any" => self.open |= read_register(words)?.bit(),
             "end" => {}
             _ => self.set_before(Register::of(name).context("no register")?, words)?,
         }

@@ -20,8 +20,10 @@ const MOST: u32 = 1000;
 #[derive(Clone, Copy, Debug, PartialEq, Eq)]
 pub enum Trouble {
     Stopped(Stop),
-    /// It was a breakpoint or a return from a handler.
-    Left(Flow),
+    /// It was this breakpoint.
+    Break(u8),
+    /// It was a return from a handler to this value.
+    Return(u32),
     TooLong,
 }
 
@@ -47,7 +49,8 @@ fn other_step(i: &Instr, regs: &mut Regs, mem: &mut Mem) -> Result<(), Trouble>
 {
     match step(i, regs, mem) {
         Ok(Flow::Next) => Ok(()),
-        Ok(flow) => Err(Trouble::Left(flow)),
+        Ok(Flow::Break { k }) => Err(Trouble::Break(k)),
+        Ok(Flow::Return { value }) => Err(Trouble::Return(value)),
         Err(stop) => Err(Trouble::Stopped(stop)),
     }
 }

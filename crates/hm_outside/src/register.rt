@@ -11,7 +11,7 @@ use std::fmt;
 use std::str::SplitWhitespace;
 
 /// A register, by the name that tests give it.
-#[derive(Clone, Copy, Debug, PartialEq, Eq)]
+#[derive(Clone, Copy)]
 pub enum Register {
     /// r0 to r12, sp as 13 and lr as 14
     Core(Below<15>),
@@ -27,10 +27,10 @@ pub enum Register {
 pub type Value = [u32; 4];
 
 /// What stands in a register.
-#[derive(Clone, Copy, Debug, PartialEq, Eq)]
+#[derive(Clone, Copy)]
 pub struct Told {
     register: Register,
-    value: Value,
+    pub value: Value,
 }
 
 impl fmt::Display for Told {
@@ -121,6 +121,17 @@ impl Register {
             "fpscr" => Some(Register::Fpscr),
             "vpr" => Some(Register::Vpr),
             _ => numbered(name),
+        }
+    }
+
+    /// A number with one bit, which no other register has.
+    pub fn bit(self) -> u32 {
+        match self {
+            Register::Core(n) => 1 << n.get(),
+            Register::Vector(n) => 1 << (15 + n.get()),
+            Register::Flags => 1 << 23,
+            Register::Fpscr => 1 << 24,
+            Register::Vpr => 1 << 25,
         }
     }
 
