@@ -1,10 +1,17 @@
 //! What stands in flash and SRAM before a test and after it.
 
-use crate::case::{CODE_START, Case, Segment};
+use crate::case::{Case, Segment};
 use anyhow::{Context, Result};
 use hm_base::{FLASH_SIZE, Image, SRAM_SIZE, SRAM_START};
-use hm_mem::Mem;
+use hm_mem::{Access, Actor, Mem};
 use std::alloc::Global;
+
+/// A handler may store to the bytes from here on, up to those from `REGION_END` on, and from `STACK_FLOOR` up to its frame.
+const REGION_START: u32 = 0x2000_1000;
+
+const REGION_END: u32 = 0x2000_1004;
+
+const STACK_FLOOR: u32 = 0x2000_f000;
 
 /// Flash with `nop` everywhere.
 pub fn blank_flash(alloc: Global) -> Result<Vec<u8>> {
@@ -42,7 +49,7 @@ fn lay_in_sram(sram: &mut [u8], segments: &[Segment]) -> Result<()> {
 /// Flash before a test, given flash with `nop` everywhere.
 fn flash_before(alloc: Global, blank: &[u8], case: &Case) -> Result<Vec<u8>> {
     let mut flash = copied(alloc, blank)?;
-    lay(&mut flash, CODE_START as usize, &case.code).context("code past flash")?;
+    lay(&mut flash, case.before.pc as usize, &case.code).context("code past flash")?;
     for segment in &case.loaded {
         if segment.addr < FLASH_SIZE {
             lay(&mut flash, segment.addr as usize, &segment.bytes).context("bytes past flash")?;
@@ -65,10 +72,24 @@ pub fn sram_after(alloc: Global, case: &Case) -> Result<Vec<u8>> {
     Ok(sram)
 }
 
+/// Has bytes of SRAM tainted.
+fn taint(mem: &mut Mem, addresses: &[u32]) -> Result<()> {
+    mem.set_actor(Actor::Entry);
+    for addr in addresses {
+        let byte = mem.byte(*addr).context("no memory there")?;
+        let stored = mem.store(*addr, 1, byte as u32, Access::Scalar);
+        stored.ok().context("no SRAM there")?;
+    }
+    Ok(())
+}
+
 /// The memory before a test, given flash with `nop` everywhere.
 pub fn memory_before(alloc: Global, blank: &[u8], case: &Case) -> Result<Mem> {
     let mut image = Image::new(alloc);
     image.add(0, flash_before(alloc, blank, case)?)?;
     image.add(SRAM_START, sram_before(alloc, case)?)?;
-    Ok(Mem::new(alloc, &image, SRAM_START, SRAM_START, SRAM_START)?)
+    let mut mem = Mem::new(alloc, &image, REGION_START, REGION_END, STACK_FLOOR)?;
+    taint(&mut mem, &case.tainted)?;
+    mem.set_actor(case.actor);
+    Ok(mem)
 }

@@ -6,40 +6,41 @@ mod contents;
 mod outcome;
 mod perform;
 mod register;
+mod touched;
 
 use anyhow::{Context, Result};
 use case::{Case, read_cases};
 use contents::blank_flash;
-use outcome::{Outcome, try_case};
+use outcome::differences;
 use register::Register;
 use std::alloc::Global;
 use std::io::{BufWriter, Write};
 use std::{env, fs, io};
 
-/// What each test comes to, in their order.
-fn outcomes(alloc: Global, cases: &[Case]) -> Result<Vec<Outcome>> {
+/// What differs in each test, in their order.
+fn outcomes(alloc: Global, cases: &[Case]) -> Result<Vec<Vec<String>>> {
     let flash = blank_flash(alloc)?;
     let registers = Register::all(alloc)?;
     let mut all = Vec::new(alloc);
     for case in cases {
-        all.push(try_case(alloc, case, &flash, &registers)?)?;
+        all.push(differences(alloc, case, &flash, &registers)?)?;
     }
     Ok(all)
 }
 
 /// Writes a line for each difference, behind the place and the row of its test.
-fn write_one<W: Write>(out: &mut W, name: &str, case: &Case, outcome: &Outcome) -> io::Result<()> {
+fn write_one<W: Write>(
+    out: &mut W,
+    name: &str,
+    case: &Case,
+    differences: &[String],
+) -> io::Result<()> {
     let line = case.line;
     let row = &case.row;
-    match outcome {
-        Outcome::Ended(differences) => {
-            for difference in differences {
-                writeln!(out, "{name}:{line}: {row}: {difference}")?;
-            }
-            Ok(())
-        }
-        Outcome::Broken(trouble) => writeln!(out, "{name}:{line}: {row}: {trouble:?}"),
+    for difference in differences {
+        writeln!(out, "{name}:{line}: {row}: {difference}")?;
     }
+    Ok(())
 }
 
 /// Writes what differs, and how many tests there are and differ.
@@ -47,13 +48,16 @@ fn write_all<W: Write>(
     out: &mut W,
     name: &str,
     cases: &[Case],
-    outcomes: &[Outcome],
+    outcomes: &[Vec<String>],
 ) -> io::Result<()> {
-    for (case, outcome) in cases.iter().zip(outcomes) {
-        write_one(out, name, case, outcome)?;
+    for (case, differences) in cases.iter().zip(outcomes) {
+        write_one(out, name, case, differences)?;
     }
     let count = outcomes.len();
-    let differ = outcomes.iter().filter(|outcome| outcome.differs()).count();
+    let differ = outcomes
+        .iter()
+        .filter(|outcome| !outcome.is_empty())
+        .count();
     writeln!(out, "{name}: {count} vectors, {differ} differ")
 }
 
@@ -63,7 +67,7 @@ fn main(rt: HostRuntime) -> Result<()> {
     let mut out = BufWriter::new(alloc, io::writer(&rt))?;
     for name in env::args(&rt)?.skip(1) {
         let text = fs::read_to_string(&rt, &name)?;
-        let cases = read_cases(alloc, &text)?;
+        let cases = read_cases(alloc, &text).context(format_args!("{name}"))?;
         let outcomes = outcomes(alloc, &cases)?;
         write_all(&mut out, &name, &cases, &outcomes)?;
     }

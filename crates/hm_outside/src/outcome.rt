@@ -2,100 +2,99 @@
 
 use crate::case::Case;
 use crate::contents::{memory_before, sram_after};
-use crate::perform::{Trouble, perform};
-use crate::register::{Register, Told};
+use crate::perform::{first_touch, perform};
+use crate::register::Register;
 use anyhow::Result;
 use hm_base::SRAM_START;
 use hm_mem::Mem;
 use hm_regs::Regs;
 use std::alloc::Global;
-use std::fmt;
 
-/// What is here, and what is told.
-#[derive(Clone, Copy)]
-pub enum Difference {
-    Register { here: Told, told: Told },
-    /// The first byte of SRAM that differs.
-    Byte { addr: u32, here: u8, told: u8 },
-}
-
-/// What a test comes to.
-#[derive(Drop)]
-pub enum Outcome {
-    /// It came to its end. There is no difference where all is as told.
-    Ended(Vec<Difference>),
-    Broken(Trouble),
-}
-
-impl fmt::Display for Difference {
-    fn fmt<W: fmt::Write>(&self, f: &mut fmt::Formatter<W>) -> fmt::Result {
-        match self {
-            Difference::Register { here, told } => write!(f, "{here}, told {told}"),
-            Difference::Byte { addr, here, told } => {
-                write!(f, "byte {addr:08x} {here:02x}, told {told:02x}")
-            }
-        }
-    }
-}
-
-/// The first byte of SRAM that is not as told.
-fn sram_difference(mem: &Mem, told: &[u8]) -> Option<Difference> {
-    for (addr, told) in (SRAM_START..u32::MAX).zip(told) {
-        let here = mem.byte(addr)?;
-        if here != *told {
-            return Some(Difference::Byte {
-                addr,
-                here,
-                told: *told,
-            });
-        }
-    }
-    None
-}
-
-/// What differs at the end of a test.
-fn differences(
+/// Tells the registers that are not as told.
+fn compare_registers(
     alloc: Global,
     case: &Case,
     registers: &[Register],
     regs: &Regs,
-    mem: &Mem,
-) -> Result<Vec<Difference>> {
-    let mut all = Vec::new(alloc);
+    all: &mut Vec<String>,
+) -> Result<()> {
     for register in registers {
         let here = register.told(regs);
         let told = register.told(&case.after);
         if here.value != told.value && case.open & register.bit() == 0 {
-            all.push(Difference::Register { here, told })?;
+            all.push(format!(in alloc; "{here}, told {told}")?)?;
         }
     }
-    if let Some(byte) = sram_difference(mem, &sram_after(alloc, case)?) {
-        all.push(byte)?;
-    }
-    Ok(all)
+    Ok(())
 }
 
-/// What a test comes to, given flash with `nop` everywhere and the registers to compare.
-pub fn try_case(
+/// Tells the first byte of SRAM that is not as told.
+fn compare_sram(alloc: Global, mem: &Mem, told: &[u8], all: &mut Vec<String>) -> Result<()> {
+    for (addr, told) in (SRAM_START..u32::MAX).zip(told) {
+        let here = mem.byte(addr).unwrap_or(0);
+        if here != *told {
+            all.push(format!(in alloc; "byte {addr:08x} {here:02x}, told {told:02x}")?)?;
+            return Ok(());
+        }
+    }
+    Ok(())
+}
+
+/// Tells the bytes whose taint is not this.
+fn compare_taint(
+    alloc: Global,
+    mem: &Mem,
+    addresses: &[u32],
+    wanted: bool,
+    all: &mut Vec<String>,
+) -> Result<()> {
+    for addr in addresses {
+        if mem.tainted(*addr) != wanted {
+            all.push(format!(in alloc; "taint of byte {addr:08x}, told {wanted}")?)?;
+        }
+    }
+    Ok(())
+}
+
+/// Tells the lines of what the first beat touches that are not as told.
+fn compare_touched(
+    alloc: Global,
+    case: &Case,
+    mem: &Mem,
+    regs: &Regs,
+    all: &mut Vec<String>,
+) -> Result<()> {
+    if case.touched.is_empty() {
+        return Ok(());
+    }
+    let lines = first_touch(alloc, case, mem, regs)?;
+    for told in &case.touched {
+        if !lines.contains(told) {
+            all.push(format!(in alloc; "it touches others, told {told}")?)?;
+        }
+    }
+    Ok(())
+}
+
+/// What differs from what is told of a test, a line each, given flash with `nop` everywhere and the registers to compare.
+pub fn differences(
     alloc: Global,
     case: &Case,
     flash: &[u8],
     registers: &[Register],
-) -> Result<Outcome> {
+) -> Result<Vec<String>> {
     let mut mem = memory_before(alloc, flash, case)?;
     let mut regs = case.before;
-    match perform(case, &mut regs, &mut mem) {
-        Ok(()) => Ok(Outcome::Ended(differences(alloc, case, registers, &regs, &mem)?)),
-        Err(trouble) => Ok(Outcome::Broken(trouble)),
+    let mut all = Vec::new(alloc);
+    compare_touched(alloc, case, &mem, &regs, &mut all)?;
+    let ending = perform(case, &mut regs, &mut mem);
+    let ends = format!(in alloc; "{ending}")?;
+    if ends != case.ends {
+        all.push(format!(in alloc; "{ends}, told {}", case.ends)?)?;
     }
-}
-
-impl Outcome {
-    /// Whether it ended otherwise than told.
-    pub fn differs(&self) -> bool {
-        match self {
-            Outcome::Ended(differences) => !differences.is_empty(),
-            Outcome::Broken(_) => true,
-        }
-    }
+    compare_registers(alloc, case, registers, &regs, &mut all)?;
+    compare_sram(alloc, &mem, &sram_after(alloc, case)?, &mut all)?;
+    compare_taint(alloc, &mem, &case.still_tainted, true, &mut all)?;
+    compare_taint(alloc, &mem, &case.clean, false, &mut all)?;
+    Ok(all)
 }

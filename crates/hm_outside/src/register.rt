@@ -19,9 +19,29 @@ pub enum Register {
     Flags,
     Fpscr,
     Vpr,
+    Pc,
+    /// The state of an IT block
+    It,
+    Primask,
+    /// The number of the exception that is handled
+    Ipsr,
+    /// Whether there is a context
+    Fpca,
     /// q0 to q7
     Vector(Below<8>),
 }
+
+/// The registers that have no number.
+const OTHERS: [Register; 8] = [
+    Register::Flags,
+    Register::Fpscr,
+    Register::Vpr,
+    Register::Pc,
+    Register::It,
+    Register::Primask,
+    Register::Ipsr,
+    Register::Fpca,
+];
 
 /// The words of a vector register from the lowest on; all other registers have the first alone.
 pub type Value = [u32; 4];
@@ -41,6 +61,11 @@ impl fmt::Display for Told {
             Register::Flags => write!(f, "flags {word:05b}"),
             Register::Fpscr => write!(f, "fpscr {word:08x}"),
             Register::Vpr => write!(f, "vpr {word:08x}"),
+            Register::Pc => write!(f, "pc {word:08x}"),
+            Register::It => write!(f, "it {word:02x}"),
+            Register::Primask => write!(f, "primask {word}"),
+            Register::Ipsr => write!(f, "ipsr {word:x}"),
+            Register::Fpca => write!(f, "fpca {word}"),
             Register::Vector(n) => write!(f, "q{} {word:08x} {b:08x} {c:08x} {d:08x}", n.get()),
         }
     }
@@ -103,7 +128,7 @@ impl Register {
         for n in 0_u32..15 {
             all.push(Register::Core(Below::new(n)))?;
         }
-        for register in [Register::Flags, Register::Fpscr, Register::Vpr] {
+        for register in OTHERS {
             all.push(register)?;
         }
         for n in 0_u32..8 {
@@ -120,6 +145,11 @@ impl Register {
             "flags" => Some(Register::Flags),
             "fpscr" => Some(Register::Fpscr),
             "vpr" => Some(Register::Vpr),
+            "pc" => Some(Register::Pc),
+            "it" => Some(Register::It),
+            "primask" => Some(Register::Primask),
+            "ipsr" => Some(Register::Ipsr),
+            "fpca" => Some(Register::Fpca),
             _ => numbered(name),
         }
     }
@@ -132,6 +162,11 @@ impl Register {
             Register::Flags => 1 << 23,
             Register::Fpscr => 1 << 24,
             Register::Vpr => 1 << 25,
+            Register::Pc => 1 << 26,
+            Register::It => 1 << 27,
+            Register::Primask => 1 << 28,
+            Register::Ipsr => 1 << 29,
+            Register::Fpca => 1 << 30,
         }
     }
 
@@ -172,6 +207,11 @@ impl Register {
             Register::Flags => [flags(regs), 0, 0, 0],
             Register::Fpscr => [regs.fpscr, 0, 0, 0],
             Register::Vpr => [regs.vpr, 0, 0, 0],
+            Register::Pc => [regs.pc, 0, 0, 0],
+            Register::It => [regs.it as u32, 0, 0, 0],
+            Register::Primask => [flag_bit(regs.primask, 1), 0, 0, 0],
+            Register::Ipsr => [regs.ipsr as u32, 0, 0, 0],
+            Register::Fpca => [flag_bit(regs.fpca, 1), 0, 0, 0],
             Register::Vector(n) => words(n, regs),
         }
     }
@@ -191,6 +231,11 @@ impl Register {
             Register::Flags => set_flags(regs, value[0]),
             Register::Fpscr => regs.fpscr = value[0],
             Register::Vpr => regs.vpr = value[0],
+            Register::Pc => regs.pc = value[0],
+            Register::It => regs.it = (value[0] % 256) as u8,
+            Register::Primask => regs.primask = value[0] != 0,
+            Register::Ipsr => regs.ipsr = (value[0] % 65536) as u16,
+            Register::Fpca => regs.fpca = value[0] != 0,
             Register::Vector(n) => {
                 for k in 0_u8..4 {
                     regs.set(word_place(n, k), value[k as usize]);
