@@ -51,6 +51,3 @@ pub fn step(i: &Instr, regs: &mut Regs, mem: &mut Mem) -> Result<Flow, Stop>
         _ => unreachable!(),
     }
 }
-
-#[cfg(test)]
-mod tests;

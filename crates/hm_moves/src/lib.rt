@@ -14,6 +14,3 @@ pub use elements::{Element, Elements};
 pub use laws::moves_law;
 pub use touches::touch_move;
 pub use ways::{Addresses, Interleaved, Move, Offsets, Straight, Way};
-
-#[cfg(test)]
-mod tests;
