@@ -31,6 +31,7 @@ image_text image.Kind out = out ++ codes "kind"
 image_text image.Machine out = out ++ codes "machine"
 image_text image.TooMany out = out ++ codes "too many"
 image_text (image.Segment k) out = out ++ codes "segment " ++ decimal k
+image_text (image.Hex k) out = out ++ codes "hex " ++ decimal k
 image_text image.OutOfMemory out = out
 
 -- the word for what is bad in a line of a schedule

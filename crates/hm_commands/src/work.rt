@@ -60,6 +60,10 @@ fn add_image_text(alloc: Global, out: &mut Vec<u8>, e: ImageErr) -> Result<(), O
             text(out, b"segment ")?;
             decimal(alloc, out, index as u64)
         }
+        ImageErr::Hex { line } => {
+            text(out, b"hex ")?;
+            decimal(alloc, out, line as u64)
+        }
         ImageErr::OutOfMemory => Ok(()),
     }
 }

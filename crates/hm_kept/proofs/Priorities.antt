@@ -26,16 +26,8 @@ set-levels : (ps : List ℕ) (k x : ℕ) → All IsLevel ps → All IsLevel (set
 set-levels ps k x h = All-set IsLevel ps k (top_three x) (top-level x) h
 
 prios-levels : (len k x : ℕ) (ps : List ℕ) → All IsLevel ps → All IsLevel (put_prios len k x ps)
-prios-levels len k x ps h =
-    let one = set ps k (top_three (byte_of x 0)) in
-    let two = set one (k + 1) (top_three (byte_of x 1)) in
-    let three = set two (k + 2) (top_three (byte_of x 2)) in
-    let four = set three (k + 3) (top_three (byte_of x 3)) in
-    let first : All IsLevel one = set-levels ps k (byte_of x 0) h in
-    let second : All IsLevel two = set-levels one (k + 1) (byte_of x 1) first in
-    let third : All IsLevel three = set-levels two (k + 2) (byte_of x 2) second in
-    let fourth : All IsLevel four = set-levels three (k + 3) (byte_of x 3) third in
-    either (All IsLevel) (nat_eq len 1) one (cond (nat_eq len 2) two four) first (either (All IsLevel) (nat_eq len 2) two four second fourth)
+prios-levels zero k x ps h = h
+prios-levels (suc n) k x ps h = set-levels (put_prios n k x ps) (k + n) (byte_of x n) (prios-levels n k x ps h)
 
 read-levels : (d : Dev) (w : Option Word) → HasLevels d → HasLevels (after_read d w)
 read-levels d (Some Csr) h = record { interrupts = h.interrupts; tick = h.tick }

@@ -27,10 +27,10 @@ cond_count : (b : Bool) (xs ys : List ℕ) (n : ℕ) → length xs ≡ n → len
 cond_count b xs ys n p q = elim b as (λ v. length (cond v xs ys) ≡ n) [ true ↦ p | false ↦ q ]
 
 vpr_range : (s : Regs) (v : ℕ) → v < 2 ^ 32 → InRange s → InRange (record s { vpr = v })
-vpr_range s v h i = record { r_count = i.r_count; r_fits = i.r_fits; sp_fits = i.sp_fits; lr_fits = i.lr_fits; fpscr_fits = i.fpscr_fits; vpr_fits = h; qw_count = i.qw_count; qw_fits = i.qw_fits }
+vpr_range s v h i = record { r_count = i.r_count; r_fits = i.r_fits; sp_fits = i.sp_fits; lr_fits = i.lr_fits; pc_fits = i.pc_fits; it_fits = i.it_fits; fpscr_fits = i.fpscr_fits; vpr_fits = h; qw_count = i.qw_count; qw_fits = i.qw_fits; ipsr_fits = i.ipsr_fits }
 
 fpscr_range : (s : Regs) (v : ℕ) → v < 2 ^ 32 → InRange s → InRange (record s { fpscr = v })
-fpscr_range s v h i = record { r_count = i.r_count; r_fits = i.r_fits; sp_fits = i.sp_fits; lr_fits = i.lr_fits; fpscr_fits = h; vpr_fits = i.vpr_fits; qw_count = i.qw_count; qw_fits = i.qw_fits }
+fpscr_range s v h i = record { r_count = i.r_count; r_fits = i.r_fits; sp_fits = i.sp_fits; lr_fits = i.lr_fits; pc_fits = i.pc_fits; it_fits = i.it_fits; fpscr_fits = h; vpr_fits = i.vpr_fits; qw_count = i.qw_count; qw_fits = i.qw_fits; ipsr_fits = i.ipsr_fits }
 
 pub InRange-with_value : (p : Place) (x : ℕ) (s : Regs) → IsPlace p → x < 2 ^ 32 → InRange s → InRange (with_value p x s)
 InRange-with_value (R n) x s p h i = record {
@@ -42,6 +42,9 @@ InRange-with_value (R n) x s p h i = record {
   vpr_fits = i.vpr_fits;
   qw_count = i.qw_count;
   qw_fits = i.qw_fits;
+  pc_fits = i.pc_fits;
+  it_fits = i.it_fits;
+  ipsr_fits = i.ipsr_fits;
 }
 InRange-with_value (QWord k) x s p h i = record {
   r_count = i.r_count;
@@ -52,6 +55,9 @@ InRange-with_value (QWord k) x s p h i = record {
   vpr_fits = i.vpr_fits;
   qw_count = length-set s.qw k x ∙ i.qw_count;
   qw_fits = set_fits s.qw k x h i.qw_fits;
+  pc_fits = i.pc_fits;
+  it_fits = i.it_fits;
+  ipsr_fits = i.ipsr_fits;
 }
 InRange-with_value (P0 b) x s p h i = vpr_range s (put_field (4 * b) 4 x s.vpr) (put_field_below (4 * b) 4 x s.vpr 32 (omega arith) i.vpr_fits) i
 InRange-with_value Mask01 x s p h i = vpr_range s (put_field 16 4 x s.vpr) (put_field_below 16 4 x s.vpr 32 (omega arith) i.vpr_fits) i

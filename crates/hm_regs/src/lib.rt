@@ -98,6 +98,9 @@ impl Regs {
     {
         let _sp = self.sp;
         let _lr = self.lr;
+        let _pc = self.pc;
+        let _it = self.it;
+        let _ipsr = self.ipsr;
         let _fpscr = self.fpscr;
         let _vpr = self.vpr;
         words_fit(&self.r);
