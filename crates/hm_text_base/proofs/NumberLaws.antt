@@ -1,6 +1,6 @@
 -- Numbers that are read are the ones that were written, and back.
-use Rattle.std.proofs.Common.{◌≡◌, ◌≢◌, ℕ, zero, suc, ◌+◌, ◌-◌, ◌*◌, ◌/◌, ◌%◌, ◌^◌, ◌<◌, ◌≤◌, true, false, eqb, ltb, List, [], ◌∷◌, ◌++◌, length, get_or, Some, refl, sym, ap, subst, ◌∙◌, arith, add-zero, append_assoc, rules}
-use Rattle.std.specs.Prelude.{decimal, ◌&&◌, ◌||◌}
+use Rattle.std.proofs.Common.{◌≡◌, ◌≢◌, ℕ, zero, suc, ◌+◌, ◌-◌, ◌*◌, ◌/◌, ◌%◌, ◌^◌, ◌<◌, ◌≤◌, true, false, cond, eqb, ltb, List, [], ◌∷◌, ◌++◌, length, get_or, Some, None, refl, sym, ap, subst, ◌∙◌, arith, add-zero, append_assoc, rules}
+use Rattle.std.specs.Prelude.{decimal, option_and_then, ◌&&◌, ◌||◌}
 use Rattle.std.specs.Char.{is_ascii_digit}
 use Rattle.std.specs.Str.{all_ascii_digits}
 use Rattle.std.proofs.Math.Nat.{pow-suc}
@@ -12,8 +12,8 @@ use Rattle.std.proofs.lemmas.Fmt.{decimal-digits_value, digits_decimal, digits_v
 use Rattle.hm_text_base.specs.Spans.{Lacks}
 use Rattle.hm_text_base.proofs.SpanLaws.{Lacks_append}
 use Rattle.hm_text_base.specs.Texts.{hex_digit, hex8}
-use Rattle.hm_text_base.specs.Numbers.{digit_in, hex_in, hex8_in, digits_in, number_in}
-use Rattle.hm_text_base.proofs.Steps.{and_then_some, guard_some, test_some}
+use Rattle.hm_text_base.specs.Numbers.{digit_in, hex_in, hex8_in, digits_in, digits_up_to, number_in, word_in}
+use Rattle.hm_text_base.proofs.Steps.{and_then_some, guard_some, some_is, test_some}
 
 -- ---- hexadecimal
 
@@ -113,33 +113,55 @@ digits_again (d ∷ ds) n e =
 plain_first : (len first : ℕ) → (ltb 1 len && eqb first 48) ≡ false → 0 < len → first ≡ 48 → len ≡ 1
 plain_first len first e some is = grind (arith, nat_tests)
 
-passes : (len first : ℕ) → 0 < len → len ≤ 8 → (first ≡ 48 → len ≡ 1) → (eqb len 0 || (ltb 8 len || (ltb 1 len && eqb first 48))) ≡ false
-passes len first some short plain = grind (arith, nat_tests)
+passes : (most len first : ℕ) → 0 < len → len ≤ most → (first ≡ 48 → len ≡ 1) → (eqb len 0 || (ltb most len || (ltb 1 len && eqb first 48))) ≡ false
+passes most len first some short plain = grind (arith, nat_tests)
 
-pub number_found : (text : List ℕ) (n : ℕ) → number_in text ≡ Some n → (text ≡ decimal n) × (n < 10 ^ 8)
-number_found text n e =
-    let g = guard_some (eqb (length text) 0 || (ltb 8 (length text) || (ltb 1 (length text) && eqb (get_or text 0 0) 48))) (digits_in 0 text) n e in
+-- so many digits or fewer that are read are the number's own
+digits_up_to_found : (most : ℕ) (text : List ℕ) (n : ℕ) → 10 ^ most ≤ 10 ^ 10 → digits_up_to most text ≡ Some n → (text ≡ decimal n) × (n < 10 ^ most)
+digits_up_to_found most text n fits e =
+    let g = guard_some (eqb (length text) 0 || (ltb most (length text) || (ltb 1 (length text) && eqb (get_or text 0 0) 48))) (digits_in 0 text) n e in
     let d = digits_found text 0 n g.1 in
-    let t = or_parts (eqb (length text) 0) (ltb 8 (length text) || (ltb 1 (length text) && eqb (get_or text 0 0) 48)) g.0 in
-    let u = or_parts (ltb 8 (length text)) (ltb 1 (length text) && eqb (get_or text 0 0) 48) t.1 in
+    let t = or_parts (eqb (length text) 0) (ltb most (length text) || (ltb 1 (length text) && eqb (get_or text 0 0) 48)) g.0 in
+    let u = or_parts (ltb most (length text)) (ltb 1 (length text) && eqb (get_or text 0 0) 48) t.1 in
     let none : length text ≢ 0 = eqb-false (length text) 0 t.0 in
     let some : 0 < length text = omega arith in
-    let short : length text ≤ 8 = ltb-false 8 (length text) u.0 in
-    let small = digits_value_short own text 8 d.0 short in
+    let short : length text ≤ most = ltb-false most (length text) u.0 in
+    let small = digits_value_short own text most d.0 short in
     let same = decimal-digits_value own text d.0 some (plain_first (length text) (get_or text 0 0) u.1 some) (omega (arith, small)) in
-    (sym (subst (λ (x : ℕ). decimal x ≡ text) d.1 same), subst (λ (x : ℕ). x < 10 ^ 8) d.1 small)
+    (sym (subst (λ (x : ℕ). decimal x ≡ text) d.1 same), subst (λ (x : ℕ). x < 10 ^ most) d.1 small)
+
+pub number_found : (text : List ℕ) (n : ℕ) → number_in text ≡ Some n → (text ≡ decimal n) × (n < 10 ^ 8)
+number_found text n e = digits_up_to_found 8 text n (omega arith) e
+
+pub word_found : (text : List ℕ) (n : ℕ) → word_in text ≡ Some n → (text ≡ decimal n) × (n < 2 ^ 32)
+word_found text n e =
+    let read = and_then_some (digits_up_to 10 text) (λ n. cond (ltb n (2 ^ 32)) (Some n) None) n e in
+    let small = test_some (ltb read.0 (2 ^ 32)) (Some read.0) n read.2 in
+    let same : read.0 ≡ n = some_is read.0 n small.1 in
+    let found = digits_up_to_found 10 text read.0 (omega arith) read.1 in
+    (subst (λ (x : ℕ). text ≡ decimal x) same found.0, subst (λ (x : ℕ). x < 2 ^ 32) same (below read.0 small.0)) where
+      below : (x : ℕ) → ltb x (2 ^ 32) ≡ true → x < 2 ^ 32
+      below x test = grind (arith, nat_tests)
 
 first_plain : (n : ℕ) → n < 2 ^ 64 → get_or (decimal n) 0 0 ≡ 48 → length (decimal n) ≡ 1
 first_plain zero wide is = ap length (decimal_digit 0 (omega arith))
 first_plain (suc n) wide is = absurd (omega (arith, first_decimal (suc n) (omega arith) wide))
 
-pub number_again : (n : ℕ) → n < 10 ^ 8 → number_in (decimal n) ≡ Some n
-number_again n lt =
+digits_up_to_again : (most n : ℕ) → 0 < most → n < 10 ^ most → 10 ^ most ≤ 10 ^ 10 → digits_up_to most (decimal n) ≡ Some n
+digits_up_to_again most n some lt fits =
     let wide : n < 2 ^ 64 = omega arith in
     let all = digits_decimal own n wide in
     let value = digits_value-decimal own n wide in
-    let tests = passes (length (decimal n)) (get_or (decimal n) 0 0) (decimal_nonempty n wide) (length-decimal-le 8 n (omega arith) lt wide) (first_plain n wide) in
+    let tests = passes most (length (decimal n)) (get_or (decimal n) 0 0) (decimal_nonempty n wide) (length-decimal-le most n some lt wide) (first_plain n wide) in
     rw tests (digits_again (decimal n) 0 all ∙ ap (λ (x : ℕ). Some x) value)
+
+pub number_again : (n : ℕ) → n < 10 ^ 8 → number_in (decimal n) ≡ Some n
+number_again n lt = digits_up_to_again 8 n (omega arith) lt (omega arith)
+
+pub word_again : (n : ℕ) → n < 2 ^ 32 → word_in (decimal n) ≡ Some n
+word_again n lt = ap (option_and_then (λ n. cond (ltb n (2 ^ 32)) (Some n) None)) (digits_up_to_again 10 n (omega arith) (omega arith) (omega arith)) ∙ small n lt where
+  small : (x : ℕ) → x < 2 ^ 32 → cond (ltb x (2 ^ 32)) (Some x) None ≡ Some x
+  small x lt = grind (arith, nat_tests)
 
 -- ---- what numbers lack
 

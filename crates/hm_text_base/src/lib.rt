@@ -10,7 +10,7 @@ mod numbers;
 mod spans;
 
 use hm_base::OutOfMemory;
-pub use numbers::{read_hex8, read_number};
+pub use numbers::{read_hex8, read_number, read_word};
 pub use spans::span;
 use std::alloc::Global;
 

@@ -1,7 +1,7 @@
 //! Reading numbers.
 
-ghost use Rattle.std.specs.Prelude.{◌≡◌, ◌<◌, IfSome};
-ghost use Rattle.hm_text_base.specs.Numbers.{digit_in, hex8_in, number_in};
+ghost use Rattle.std.specs.Prelude.{◌≡◌, ◌<◌, ◌≤◌, ◌^◌, IfSome};
+ghost use Rattle.hm_text_base.specs.Numbers.{digit_in, digits_up_to, hex8_in, number_in, word_in};
 
 /// The number of a hexadecimal digit in lower case.
 fn read_digit(c: u8) -> Option<u8>
@@ -31,12 +31,14 @@ pub fn read_hex8(text: &[u8]) -> Option<u32>
     Some(n)
 }
 
-/// The number that one to eight decimal digits give, with no leading zero.
+/// The number that decimal digits give, at most `most` and at most ten of them, with no leading zero.
 #[tactic(auto, using(crate::proofs::NumberSteps::digits_more, crate::proofs::NumberSteps::digits_all))]
-pub fn read_number(text: &[u8]) -> Option<u32>
-    ensures value { result ≡ number_in text.now }
+fn read_digits(most: usize, text: &[u8]) -> Option<u64>
+    requires { most ≤ 10 }
+    ensures value { result ≡ digits_up_to most text.now }
+    ensures below { IfSome result (λ n. n < 10 ^ most) }
 {
-    if text.is_empty() || text.len() > 8 || (text.len() > 1 && text[0] == b'0') {
+    if text.is_empty() || text.len() > most || (text.len() > 1 && text[0] == b'0') {
         return None;
     }
     let mut n = 0;
@@ -44,7 +46,23 @@ pub fn read_number(text: &[u8]) -> Option<u32>
         if !c.is_ascii_digit() {
             return None;
         }
-        n = n * 10 + u32::from(*c - b'0');
+        n = n * 10 + u64::from(*c - b'0');
     }
     Some(n)
+}
+
+/// The number that one to eight decimal digits give, with no leading zero.
+pub fn read_number(text: &[u8]) -> Option<u32>
+    ensures value { result ≡ number_in text.now }
+{
+    let n = read_digits(8, text)?;
+    Some(n as u32)
+}
+
+/// The number below 2^32 that decimal digits give, with no leading zero.
+pub fn read_word(text: &[u8]) -> Option<u32>
+    ensures value { result ≡ word_in text.now }
+{
+    let n = read_digits(10, text)?;
+    u32::try_from(n).ok()
 }
