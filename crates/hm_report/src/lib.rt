@@ -1,6 +1,7 @@
 //! The text of a report: how a run ended, and then the registers, the position and the output.
 #![tactic(auto)]
 
+mod laws;
 mod outcome_text;
 mod registers_text;
 
@@ -12,6 +13,7 @@ use hm_regs::Regs;
 use hm_run::Outcome;
 use hm_text_base::{decimal, hex_bytes, text};
 use hm_window::Window;
+pub use laws::report_law;
 pub use outcome_text::outcome_line;
 use registers_text::register_lines;
 use std::alloc::Global;
