@@ -3,3 +3,9 @@ pub mod Shown
 pub mod Machines
 pub mod Turns
 pub mod Services
+pub mod Checkpoints
+pub mod Taped
+pub mod Tapes
+pub mod TapeLending
+pub mod Bares
+pub mod Trials

@@ -1,6 +1,7 @@
 //! The machine: ticks of a schedule, outcomes, and what a run shows.
 #![tactic(auto)]
 
+mod checkpoint;
 mod conclusion;
 mod cpu;
 mod cursor;
@@ -8,9 +9,12 @@ mod entry;
 mod load;
 mod machine;
 mod memory_text;
+mod ready;
+mod reel;
 mod running;
 mod service;
 mod step_ends;
+mod tape;
 mod tick;
 mod younger;
 
@@ -19,3 +23,4 @@ pub use hm_run::{Offence, Outcome, Reason, Turn, Who};
 pub use hm_window::{Rule, Window};
 pub use load::LoadErr;
 pub use machine::Machine;
+pub use tape::{Past, Tape};

@@ -1,9 +1,11 @@
 //! The machine.
 
-ghost use Rattle.std.specs.Prelude.{◌≡◌, ℕ, suc, ◌+◌, ◌-◌, ◌<◌, ◌≤◌, ◌↔◌, ◌%◌, List, length, drop, None, Some, IsSome, IfOk, IfErr, IsTrue};
+ghost use Rattle.std.specs.Prelude.{◌≡◌, ℕ, suc, ◌+◌, ◌-◌, ◌<◌, ◌≤◌, ◌↔◌, ◌%◌, List, [], ◌∷◌, ◌++◌, length, drop, None, Some, IsSome, IfOk, IfErr, IfNone, IfSome, IsTrue};
 ghost use Rattle.hm_base.specs.Image.{Segment, flash_byte};
-ghost use Rattle.hm_codes.specs.Listing.{Listing, IsListing};
-ghost use Rattle.hm_machine.specs.Shown.{Shows, run_of, timed_of};
+ghost use Rattle.hm_codes.specs.Listing.{Listing, IsListing, Stands};
+ghost use Rattle.hm_isa.specs.declared.Instr.{Instr};
+ghost use Rattle.hm_machine.specs.Bares.{IsBare, ShowsGiven, may_pair};
+ghost use Rattle.hm_machine.specs.Shown.{Shows, fixed_of, run_of, timed_of};
 ghost use Rattle.hm_machine.specs.Turns.{turned, LoadRefuses};
 ghost use Rattle.hm_mem.specs.Memory.{flash_at, told_at, tainted_at};
 ghost use Rattle.hm_run.specs.Headline.{Headline, PlainReport, Riders};
@@ -12,20 +14,26 @@ ghost use Rattle.hm_run.specs.Report.{report_text, memory_text};
 ghost use Rattle.hm_handlers.specs.Order.{KeepsOrder};
 ghost use Rattle.hm_handlers.specs.Runs.{next, run, run_out};
 ghost use Rattle.hm_handlers.specs.Taint.{TaintLies};
+ghost use Rattle.hm_plan_laws.specs.Planned.{bare, bare_program};
 ghost use Rattle.hm_position.specs.Position.{StandsInOrder};
-ghost use Rattle.hm_sched.specs.Schedule.{Sched, plain, ticks_of, most_ticks};
+ghost use Rattle.hm_run.specs.Timed.{tick};
+ghost use Rattle.hm_sched.specs.Schedule.{Sched, TickLine, plain, ticks_of, most_ticks};
 ghost use Rattle.hm_state.specs.Start.{reset_pc};
-ghost use Rattle.hm_state.specs.State.{regs_of};
+ghost use Rattle.hm_state.specs.State.{Byte, regs_of};
 
+use crate::checkpoint::{Checkpoint, copied, put_acts, put_over};
 use crate::cpu::Cpu;
 use crate::cursor::{Cursor, after_tick, line_at};
 use crate::load::{LoadErr, flash_word};
 use crate::memory_text::memory_text;
+use crate::ready::ready;
 use crate::service::OUTPUT;
 use crate::tick::tick;
-use hm_base::{Image, OutOfMemory};
+use hm_base::{Image, OutOfMemory, SRAM_START};
+use hm_decode::fetch;
 use hm_exc::Acts;
-use hm_mem::Mem;
+use hm_isa::Instr;
+use hm_mem::{Mem, Still};
 use hm_regs::Regs;
 use hm_run::{Outcome, Turn};
 use hm_sched::Schedule;
@@ -69,6 +77,8 @@ fn first_outcome(schedule: &Schedule) -> Option<Outcome>
 }
 
 impl Machine {
+    ghost use Rattle.hm_machine.specs.Checkpoints.{IsKept, at_checkpoint};
+
     /// The machine after a reset to this image, at the start of this schedule. It takes all the memory that the run needs.
     /// LoadErr::Reset exactly where bit 0 of the word at 4 is 0 (DDI0553, "Reset": the address of the first instruction).
     pub fn load(alloc: Global, image: &Image, s: Schedule) -> Result<Machine, LoadErr>
@@ -107,6 +117,28 @@ impl Machine {
             ticks: 0,
             outcome,
         })
+    }
+
+    /// The machine after a reset to this image, at tick 0 of a schedule without entries, with an empty region and the lowest floor, whose ticks are
+    /// still to be given (`extend`). It is refused as by `load`.
+    pub fn bare(alloc: Global, image: &Image) -> Result<Machine, LoadErr>
+        ensures bare { IfOk result (λ m. IsBare m) }
+        ensures shows { IfOk result (λ m. ShowsGiven image.now [] m) }
+        ensures running { IfOk result (λ m. m.outcome ≡ None) }
+        ensures refused { IfErr result (λ e. LoadRefuses image.now e) }
+    {
+        let schedule = Schedule::begin(alloc, false, SRAM_START, SRAM_START, SRAM_START);
+        let mut machine = Machine::load(alloc, image, schedule)?;
+        machine.reopen();
+        Ok(machine)
+    }
+
+    // A machine under a schedule without ticks, which is over at once, goes on: its ticks are given one by one.
+    fn reopen(&mut self)
+        requires { (image : List Segment) × Shows image (bare []) 0 self.old }
+        ensures value { self.new ≡ record self.old { outcome = None; left = [] } }
+    {
+        self.outcome = None;
     }
 
     /// How the run ended; None exactly while it runs.
@@ -163,21 +195,24 @@ impl Machine {
 
     /// The byte at an address, whatever its taint; None exactly outside flash and SRAM.
     pub fn byte(&self, addr: u32) -> Option<u8>
-        ensures { result ≡ told_at self.now.memory addr }
+        ensures value { result ≡ told_at self.now.memory addr }
+        ensures cell { IfSome result (λ x. x ≡ ((timed_of self.now).config.state.cell (Byte addr)).n) }
     {
         self.cpu.mem.byte(addr)
     }
 
     /// Whether the byte at an address is one of SRAM that an entry or a handler wrote last.
     pub fn tainted(&self, addr: u32) -> bool
-        ensures { result ≡ tainted_at self.now.memory addr }
+        ensures value { result ≡ tainted_at self.now.memory addr }
+        ensures cell { result ≡ ((timed_of self.now).config.state.cell (Byte addr)).taint }
     {
         self.cpu.mem.tainted(addr)
     }
 
     // Does one tick of a run that goes on.
     fn advance(&mut self)
-        requires { self.old.outcome ≡ None }
+        requires running { self.old.outcome ≡ None }
+        requires lines { 0 < length self.old.schedule.lines }
         ensures next { (listing : Listing) (es : List ℕ) → IsListing (flash_at self.old.memory) listing
             → let r = next listing self.old.schedule self.old.left (run_of self.old es) in run_of self.new r.entries ≡ r }
         ensures left { self.new.outcome ≡ None → self.new.left ≡ drop 1 self.old.left }
@@ -185,6 +220,7 @@ impl Machine {
         ensures once { self.new.ticks ≡ self.old.ticks + 1 }
         ensures flash { flash_at self.new.memory ≡ flash_at self.old.memory }
         ensures plan { self.new.schedule ≡ self.old.schedule }
+        ensures fixed { fixed_of self.new ≡ fixed_of self.old }
     {
         self.ticks += 1;
         let line = line_at(&self.schedule, self.cursor);
@@ -209,8 +245,12 @@ impl Machine {
         ensures shows { (image : List Segment) (s : Sched) (t : ℕ) → Shows image s t self.old → Shows image s (suc t) self.new }
         ensures ended { IsSome self.old.outcome → self.new ≡ self.old }
         ensures turn { result ≡ turned self.new.outcome }
-        ensures fewer { self.old.outcome ≡ None → length self.new.left < length self.old.left }
-        ensures once { self.old.outcome ≡ None → self.new.ticks ≡ self.old.ticks + 1 }
+        // Under a schedule with lines.
+        ensures fewer { self.old.outcome ≡ None → 0 < length self.old.schedule.lines → length self.new.left < length self.old.left }
+        ensures once { self.old.outcome ≡ None → 0 < length self.old.schedule.lines → self.new.ticks ≡ self.old.ticks + 1 }
+        // Under one without lines, whose ticks were given one by one, the ticks are out.
+        ensures out { self.old.outcome ≡ None → length self.old.schedule.lines ≡ 0 → self.new ≡ record self.old { outcome = Some Outcome.OutOfTicks } }
+        ensures fixed { fixed_of self.new ≡ fixed_of self.old }
         // Whole instructions in order agree with the thread, and tainted bytes lie where they may.
         ensures order { (image : List Segment) (s : Sched) (t : ℕ) (listing : Listing) → IsListing (flash_byte image) listing → Shows image s t self.old
             → KeepsOrder listing image s (run_of self.new (run listing image s (suc t)).entries) }
@@ -223,9 +263,54 @@ impl Machine {
         if let Some(outcome) = self.outcome {
             return Turn::Ended(outcome);
         }
+        if self.schedule.lines() == 0 {
+            self.outcome = Some(Outcome::OutOfTicks);
+            return Turn::Ended(Outcome::OutOfTicks);
+        }
         self.advance();
         match self.outcome {
             Some(outcome) => Turn::Ended(outcome),
+            None => Turn::Running,
+        }
+    }
+
+    /// Whether the next O and then a Y go on, of a machine that `bare` made: it stands where two beats of the older instruction are done and none of
+    /// the younger, the third goes on, and behind it the first of the younger breaks no rule and does not stop. The machine stays as it is.
+    pub fn ready(&mut self) -> bool
+        requires bare { IsBare self.old }
+        ensures value { (listing : Listing) → IsListing (flash_at self.old.memory) listing → result ≡ may_pair (bare_program listing) (timed_of self.old) }
+        ensures same { self.new ≡ self.old }
+    {
+        if self.outcome.is_some() {
+            return false;
+        }
+        ready(&self.cpu.regs, self.cpu.window, &mut self.cpu.mem)
+    }
+
+    /// Does one tick of these letters, of a machine that `bare` made. An ended machine answers as by `tick`. It takes no memory.
+    pub fn extend(&mut self, letters: &[u8]) -> Turn
+        requires bare { IsBare self.old }
+        requires few { length letters.now ≤ 8 }
+        requires ticks { self.old.ticks < most_ticks - 1 }
+        // One tick more of the machine without handlers.
+        ensures next { (listing : Listing) (line : TickLine) → IsListing (flash_at self.old.memory) listing → line.letters ≡ letters.now → line.irq ≡ 0
+            → timed_of self.new ≡ tick (bare_program listing) line (timed_of self.old) }
+        ensures shows { (image : List Segment) (given : List TickLine) (line : TickLine) → line.letters ≡ letters.now → line.irq ≡ 0
+            → ShowsGiven image given self.old → ShowsGiven image (given ++ line ∷ []) self.new }
+        ensures bare { IsBare self.new }
+        ensures flash { flash_at self.new.memory ≡ flash_at self.old.memory }
+        ensures ended { IsSome self.old.outcome → self.new ≡ self.old }
+        ensures turn { result ≡ turned self.new.outcome }
+    {
+        if let Some(outcome) = self.outcome {
+            return Turn::Ended(outcome);
+        }
+        self.ticks += 1;
+        match tick(self.ticks, letters, 0, false, &mut self.cpu) {
+            Some(outcome) => {
+                self.outcome = Some(outcome);
+                Turn::Ended(outcome)
+            }
             None => Turn::Running,
         }
     }
@@ -242,6 +327,7 @@ impl Machine {
         ensures outcome { self.new.outcome ≡ Some result }
         ensures ended { IsSome self.old.outcome → self.new ≡ self.old }
         ensures turns { self.new.ticks ≤ self.old.ticks + length self.old.left }
+        ensures fixed { fixed_of self.new ≡ fixed_of self.old }
         // Under a plain schedule the report is that of the instructions in order; of a fault the first line.
         ensures plain { (image : List Segment) (n t : ℕ) (listing : Listing) → IsListing (flash_byte image) listing → Shows image (plain n) t self.old
             → PlainReport (timed_of self.new) (in_order listing image n) }
@@ -267,6 +353,73 @@ impl Machine {
             Some(outcome) => outcome,
             None => unreachable!(),
         }
+    }
+
+    /// How many ticks its schedule has.
+    pub(crate) fn scheduled(&self) -> u32
+        ensures value { result ≡ length (ticks_of self.now.schedule.lines) }
+        ensures most { result ≤ most_ticks }
+    {
+        self.schedule.ticks()
+    }
+
+    /// The instruction that stands at an address; None exactly where none does.
+    pub fn instr(&self, addr: u32) -> Option<Instr>
+        ensures there { IfSome result (λ i. Stands (flash_at self.now.memory) addr i) }
+        ensures none { IfNone result ((i : Instr) → ¬ (Stands (flash_at self.now.memory) addr i)) }
+    {
+        match fetch(&self.cpu.mem, addr) {
+            Ok(i) => Some(i),
+            Err(_) => None,
+        }
+    }
+
+    /// What changes of it in a run, as it stands. OutOfMemory where memory for it was refused.
+    pub(crate) fn checkpoint(&self, alloc: Global) -> Result<Checkpoint, OutOfMemory>
+        ensures written { IfOk result (λ c. c.written ≡ length self.now.output) }
+        ensures kept { IfOk result (λ c. IsKept c (fixed_of self.now) self.now.output) }
+        ensures shows { IfOk result (λ c. at_checkpoint c (fixed_of self.now) self.now.output ≡ self.now) }
+    {
+        let mut still = Still::new(alloc)?;
+        let mut acts = Acts::new();
+        put_acts(&self.cpu.acts, &mut acts);
+        self.cpu.mem.keep(&mut still);
+        Ok(Checkpoint {
+            regs: self.cpu.regs,
+            still,
+            written: self.cpu.output.len(),
+            window: self.cpu.window,
+            acts,
+            retired: self.cpu.retired,
+            older_steps: self.cpu.older_steps,
+            cursor: self.cursor,
+            ticks: self.ticks,
+            outcome: self.outcome,
+        })
+    }
+
+    /// Puts it back to a checkpoint, which lies in a run of this image under this schedule; `output` was written by then. It takes no memory.
+    pub(crate) fn back(&mut self, c: &Checkpoint, output: &[u8])
+        requires kept { IsKept c.now (fixed_of self.old) output.now }
+        ensures shows { self.new ≡ at_checkpoint c.now (fixed_of self.old) output.now }
+    {
+        put_over(output, &mut self.cpu.output);
+        put_acts(&c.acts, &mut self.cpu.acts);
+        self.cpu.mem.back(&c.still);
+        self.cpu.regs = c.regs;
+        self.cpu.window = c.window;
+        self.cpu.retired = c.retired;
+        self.cpu.older_steps = c.older_steps;
+        self.cursor = c.cursor;
+        self.ticks = c.ticks;
+        self.outcome = c.outcome;
+    }
+
+    /// A copy of what the program wrote. OutOfMemory where memory for it was refused.
+    pub(crate) fn copied_output(&self, alloc: Global) -> Result<Vec<u8>, OutOfMemory>
+        ensures value { IfOk result (λ v. v.items ≡ self.now.output) }
+    {
+        copied(alloc, &self.cpu.output)
     }
 
     // How many exceptions are active.

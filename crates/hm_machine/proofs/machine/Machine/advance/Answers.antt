@@ -1,5 +1,6 @@
-use Rattle.std.proofs.Common.{◌≡◌, ◌<◌, suc, arith, ap, refl, sym, ◌∙◌, subst, [], ◌∷◌, ◌+◌, None, Some, List, drop, length}
+use Rattle.std.proofs.Common.{◌≡◌, ◌<◌, suc, arith, ap, refl, sym, ◌∙◌, subst, [], ◌∷◌, ◌+◌, None, Some, List, drop, length, inl}
 use Rattle.hm_codes.proofs.Exists.{exists}
+use Rattle.hm_machine.proofs.Bares.{stands_there}
 use Rattle.hm_handlers.specs.Runs.{Run, next}
 use Rattle.hm_machine.proofs.Runs.{comes_ended, comes_on, comes_out, comes_sound}
 use Rattle.hm_machine.proofs.Ticks.{some_left}
@@ -11,14 +12,22 @@ use Rattle.hm_run.specs.declared.Outcome.TheVariants as outcome
 use Rattle.hm_sched.specs.Schedule.{TickLine, line_of}
 use Rattle.hm_machine.proofs.machine.Machine.advance.Goals as goal
 
+pub line_at-line-requires : goal.line_at-line-requires
+line_at-line-requires c = stands_there c.self.inside.schedule.lines c.self.inside.cursor
+    (c.self.invariant.running (ap (λ (v : Shown). v.outcome) c.self.view_is ∙ c.requires.running)) (subst (λ (v : Shown). 0 < length v.schedule.lines) (sym c.self.view_is) c.requires.lines)
+
+pub after_tick-requires : goal.after_tick-requires
+after_tick-requires c = stands_there c.self.inside.schedule.lines c.self.inside.cursor
+    (c.self.invariant.running (ap (λ (v : Shown). v.outcome) c.self.view_is ∙ c.requires.running)) (subst (λ (v : Shown). 0 < length v.schedule.lines) (sym c.self.view_is) c.requires.lines)
+
 pub tick-requires-clause-sound : goal.tick-requires-clause-sound
-tick-requires-clause-sound c = (c.self.inside.schedule, c.self.invariant.sound (ap (λ (v : Shown). v.outcome) c.self.view_is ∙ c.requires))
+tick-requires-clause-sound c = (c.self.inside.schedule, c.self.invariant.sound (ap (λ (v : Shown). v.outcome) c.self.view_is ∙ c.requires.running))
 
 pub returns-in-Some-clause-next : goal.returns-in-Some-clause-next
 returns-in-Some-clause-next c =
     rw (← c.self.view_is) (λ listing es is.
     let inside = c.self.inside in
-    let running : inside.outcome ≡ None = ap (λ (v : Shown). v.outcome) c.self.view_is ∙ c.requires in
+    let running : inside.outcome ≡ None = ap (λ (v : Shown). v.outcome) c.self.view_is ∙ c.requires.running in
     let s = inside.schedule in
     let left = left_at s.lines inside.cursor in
     let line = line_of c.line_at-line.result.now in
@@ -33,7 +42,7 @@ pub returns-in-Some-after_tick-clause-next : goal.returns-in-Some-after_tick-cla
 returns-in-Some-after_tick-clause-next c =
     rw (← c.self.view_is) (λ listing es is.
     let inside = c.self.inside in
-    let running : inside.outcome ≡ None = ap (λ (v : Shown). v.outcome) c.self.view_is ∙ c.requires in
+    let running : inside.outcome ≡ None = ap (λ (v : Shown). v.outcome) c.self.view_is ∙ c.requires.running in
     let s = inside.schedule in
     let left = left_at s.lines inside.cursor in
     let line = line_of c.line_at-line.result.now in
@@ -51,7 +60,7 @@ pub returns-in-None-after_tick-clause-next : goal.returns-in-None-after_tick-cla
 returns-in-None-after_tick-clause-next c =
     rw (← c.self.view_is) (λ listing es is.
     let inside = c.self.inside in
-    let running : inside.outcome ≡ None = ap (λ (v : Shown). v.outcome) c.self.view_is ∙ c.requires in
+    let running : inside.outcome ≡ None = ap (λ (v : Shown). v.outcome) c.self.view_is ∙ c.requires.running in
     let s = inside.schedule in
     let left = left_at s.lines inside.cursor in
     let line = line_of c.line_at-line.result.now in
@@ -65,7 +74,7 @@ returns-in-None-after_tick-clause-next c =
 pub invariant_of-self-in-Some-after_tick : goal.invariant_of-self-in-Some-after_tick
 invariant_of-self-in-Some-after_tick c =
     let inside = c.self.inside in
-    let running : inside.outcome ≡ None = ap (λ (v : Shown). v.outcome) c.self.view_is ∙ c.requires in
+    let running : inside.outcome ≡ None = ap (λ (v : Shown). v.outcome) c.self.view_is ∙ c.requires.running in
     let s = inside.schedule in
     let left = left_at s.lines inside.cursor in
     let line = line_of c.line_at-line.result.now in
@@ -85,9 +94,24 @@ invariant_of-self-in-Some-after_tick c =
       sound = λ none. comes_sound there.0 s (line ∷ drop 1 left) before (nested_of c.tick.new.x) (inside.ticks + 1) (λ on. c.self.invariant.sound running)
           (comes_on there.0 s line (drop 1 left) before refl (nested_of c.tick.new.x) (inside.ticks + 1) more did);
       position = λ none. c.in-None.ensures.position refl;
-      running = λ none. c.in-Some-after_tick.ensures.stands;
+      running = λ none. inl c.in-Some-after_tick.ensures.stands;
       begun = λ none. omega (arith, first, behind, begun);
       few = omega (arith, first, begun);
       retired = omega (arith, count.0, retired);
       steps = omega (arith, count.1, steps);
     }
+
+pub returns-in-Some-clause-fixed : goal.returns-in-Some-clause-fixed
+returns-in-Some-clause-fixed c =
+    let moves = c.in-Some.ensures.moves in
+    rw (← c.self.view_is) (λ j. record { flash = moves.flash j; places = moves.places j; schedule = c.self.inside.schedule })
+
+pub returns-in-Some-after_tick-clause-fixed : goal.returns-in-Some-after_tick-clause-fixed
+returns-in-Some-after_tick-clause-fixed c =
+    let moves = c.in-None.ensures.moves in
+    rw (← c.self.view_is) (λ j. record { flash = moves.flash j; places = moves.places j; schedule = c.self.inside.schedule })
+
+pub returns-in-None-after_tick-clause-fixed : goal.returns-in-None-after_tick-clause-fixed
+returns-in-None-after_tick-clause-fixed c =
+    let moves = c.in-None.ensures.moves in
+    rw (← c.self.view_is) (λ j. record { flash = moves.flash j; places = moves.places j; schedule = c.self.inside.schedule })

@@ -1,4 +1,4 @@
-use Rattle.std.proofs.Common.{arith, ap}
+use Rattle.std.proofs.Common.{arith, ap, inl}
 use Rattle.std.specs.Prelude.{reverse}
 use Rattle.hm_machine.proofs.Loads.{first_stands, first_length, running_ticks, shows_start, sound_start, odd_pc}
 use Rattle.hm_machine.proofs.Plain.{shown_order, shown_position, shown_taint}
@@ -12,8 +12,8 @@ invariant_of-result c = record {
       c.in_ok-mem.ensures.flash c.in_ok-mem.ensures.bytes c.in_ok-mem.ensures.clean c.in_ok-mem.ensures.devices (rw (← c.region-lo.ensures.start, ← c.region-lo.ensures.end, ← c.floor.ensures.value) c.in_ok-mem.ensures.around)
       c.flash_word-sp.ensures c.flash_word-pc.ensures c.start.ensures c.in_ok-output.ensures.items (ap reverse c.new-2.ensures);
   position = λ none. (omega arith, omega arith, λ some. absurd (omega arith));
-  running = λ none. first_stands c.args.s.lines c.region-lo.ensures.sound.each_line
-      (running_ticks _ c.first_outcome-outcome.result none c.first_outcome-outcome.ensures.out);
+  running = λ none. inl (first_stands c.args.s.lines c.region-lo.ensures.sound.each_line
+      (running_ticks _ c.first_outcome-outcome.result none c.first_outcome-outcome.ensures.out));
   begun = λ none. first_length c.args.s.lines c.first_outcome-outcome.ensures.most;
   few = omega arith;
   retired = omega arith;

@@ -1,12 +1,51 @@
-use Rattle.std.proofs.Common.{◌≡◌, ◌≤◌, None, ap, sym, ◌∙◌, subst, arith, length, nat_le}
+use Rattle.std.proofs.Common.{◌≡◌, ℕ, ◌+◌, ◌<◌, ◌≤◌, suc, List, Option, Some, None, ap, sym, ◌∙◌, subst, ⊎_elim, arith, length, nat_le, eq-zero-or-pos}
+use Rattle.std.proofs.lemmas.List.{nil_from_length}
+use Rattle.hm_base.specs.Image.{Segment}
+use Rattle.hm_machine.proofs.Bares.{has_ticks}
+use Rattle.hm_machine.specs.Machines.{turns_left}
+use Rattle.hm_run.specs.declared.Outcome.{Outcome}
+use Rattle.hm_run.specs.declared.Outcome.TheVariants as outcome
 use Rattle.std.proofs.lemmas.Bool.Decides.{nat_tests}
 use Rattle.hm_order.proofs.Results.{decide}
 use Rattle.std.specs.Prelude.{IsSome}
 use Rattle.hm_machine.specs.Shown.{Shown, Shows}
 use Rattle.hm_machine.proofs.Plain.{plain_report, shown_headline, shown_position, shown_riders, shown_taint}
-use Rattle.hm_sched.specs.Schedule.{plain, ticks_of}
+use Rattle.hm_sched.specs.Schedule.{Sched, TickLine, plain, ticks_of}
 use Rattle.hm_machine.proofs.Ticks.{left_below, shows_end, shows_past}
 use Rattle.hm_machine.proofs.machine.Machine.run.Goals as goal
+
+-- a turn that is taken: with no lines the ticks are out, and else one is done
+module _ (old new : Shown) (none : old.outcome ≡ None)
+    (fewer : old.outcome ≡ None → 0 < length old.schedule.lines → length new.left < length old.left)
+    (once : old.outcome ≡ None → 0 < length old.schedule.lines → new.ticks ≡ old.ticks + 1)
+    (out : old.outcome ≡ None → length old.schedule.lines ≡ 0 → new ≡ record old { outcome = Some outcome.OutOfTicks }) where
+  taken : new.ticks + length new.left ≤ old.ticks + length old.left
+  taken = ⊎_elim
+      (λ empty. let same = out none empty in subst (λ (m : Shown). m.ticks + length m.left ≤ old.ticks + length old.left) (sym same) (omega arith))
+      (λ some. let less = fewer none some in let one = once none some in omega arith) (eq-zero-or-pos (length old.schedule.lines))
+
+  turns_most : (o : Option Outcome) (left : List TickLine) → turns_left o left ≤ suc (length left)
+  turns_most None left = omega arith
+  turns_most (Some o) left = omega arith
+
+  smaller : turns_left new.outcome new.left < suc (length old.left)
+  smaller = ⊎_elim
+      (λ empty. subst (λ (m : Shown). turns_left m.outcome m.left < suc (length old.left)) (sym (out none empty)) (omega arith))
+      (λ some. let less = fewer none some in let most = turns_most new.outcome new.left in omega arith) (eq-zero-or-pos (length old.schedule.lines))
+
+-- a schedule whose run a machine shows has lines while it goes on
+some_lines : (image : List Segment) (s : Sched) (t : ℕ) (m : Shown) → Shows image s t m → m.outcome ≡ None → 0 < length m.schedule.lines
+some_lines image s t m h none = ⊎_elim
+    (λ empty. absurd (has_ticks image s t m h none (ap (λ (u : Sched). u.lines) (sym h.plan) ∙ nil_from_length m.schedule.lines empty)))
+    (λ some. some) (eq-zero-or-pos (length m.schedule.lines))
+
+pub loop-self-smaller : goal.loop-self-smaller
+loop-self-smaller c =
+    let none : c.loop-self.self.outcome ≡ None = c.is_running.ensures.0 c.loop-self-test.true in
+    let less : turns_left c.tick-turn.new.self.outcome c.tick-turn.new.self.left < turns_left c.loop-self.self.outcome c.loop-self.self.left
+    = subst (λ (o : Option Outcome). turns_left c.tick-turn.new.self.outcome c.tick-turn.new.self.left < turns_left o c.loop-self.self.left) (sym none)
+    (smaller c.loop-self.self c.tick-turn.new.self none c.tick-turn.ensures.fewer c.tick-turn.ensures.once c.tick-turn.ensures.out) in
+    less
 
 pub loop-self-preserved : goal.loop-self-preserved
 loop-self-preserved c =
@@ -14,16 +53,16 @@ loop-self-preserved c =
     record {
       shows = λ image s t h shows.
           let r = c.loop-self.invariant.shows image s t h shows in
-          let fewer = c.tick-turn.ensures.fewer none in
+          let fewer = c.tick-turn.ensures.fewer none (some_lines image s r.0 _ r.2 none) in
           (_, left_below image s r.0 _ r.2 none (omega (arith, fewer)), c.tick-turn.ensures.shows image s r.0 r.2);
       turns =
           let before = c.loop-self.invariant.turns in
-          let fewer = c.tick-turn.ensures.fewer none in
-          let once = c.tick-turn.ensures.once none in
-          omega (arith, before, fewer, once);
+          let now = taken c.loop-self.self c.tick-turn.new.self none c.tick-turn.ensures.fewer c.tick-turn.ensures.once c.tick-turn.ensures.out in
+          omega (arith, before, now);
       ended = λ some.
           let same = c.loop-self.invariant.ended some in
           c.tick-turn.ensures.ended (subst (λ (m : Shown). IsSome m.outcome) (sym same) some) ∙ same;
+      fixed = c.tick-turn.ensures.fixed ∙ c.loop-self.invariant.fixed;
     }
 
 pub returns-clause-shows : goal.returns-clause-shows
@@ -51,3 +90,6 @@ returns-clause-taint c image s t listing is shows = shown_taint image s (length 
 
 pub returns-clause-position : goal.returns-clause-position
 returns-clause-position c image s t listing is shows = shown_position image s (length (ticks_of s.lines)) _ (returns-clause-shows c image s t shows) listing is
+
+pub returns-clause-fixed : goal.returns-clause-fixed
+returns-clause-fixed c = c.loop-self.invariant.fixed

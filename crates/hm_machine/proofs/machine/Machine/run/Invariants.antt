@@ -2,7 +2,8 @@ use Rattle.std.proofs.Common.{◌≡◌, ℕ, ◌+◌, ◌≤◌, length}
 use Rattle.std.specs.Prelude.{IsSome}
 use Rattle.hm_base.specs.Image.{Segment}
 use Rattle.hm_sched.specs.Schedule.{Sched, ticks_of}
-use Rattle.hm_machine.specs.Shown.{Shows}
+use Rattle.hm_machine.specs.Machines.{turns_left}
+use Rattle.hm_machine.specs.Shown.{Shows, fixed_of}
 use Rattle.std.proofs.Common.{List}
 use Rattle.hm_machine.proofs.machine.Machine.run.Given as goal
 
@@ -12,7 +13,8 @@ invariant-loop-self l = record {
       → (u : ℕ) × (u ≤ length (ticks_of s.lines)) × Shows image s u l.self;
   turns : l.self.ticks + length l.self.left ≤ l.initial.self.ticks + length l.initial.self.left;
   ended : IsSome l.initial.self.outcome → l.self ≡ l.initial.self;
+  fixed : fixed_of l.self ≡ fixed_of l.initial.self;
 }
 
 abbrev pub decreases-loop-self : goal.decreases-loop-self
-decreases-loop-self l = length l.self.left
+decreases-loop-self l = turns_left l.self.outcome l.self.left

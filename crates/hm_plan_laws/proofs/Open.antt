@@ -1,0 +1,83 @@
+-- Readiness in so many words, and runs to which more ticks may be added.
+use Rattle.std.proofs.Common.{◌≡◌, ◌↔◌, ℕ, suc, ◌+◌, ◌==◌, ◌&&◌, ◌<◌, arith, Bool, true, false, List, [], ◌∷◌, ◌++◌, drop, length, Option, Some, None, Ok, Err, refl, sym, ◌∙◌, ap, add-zero}
+use Rattle.std.proofs.lemmas.Bool.Decides.{nat_tests}
+use Rattle.hm_base.specs.Image.{Segment}
+use Rattle.hm_codes.specs.Listing.{Listing}
+use Rattle.hm_isa.specs.declared.Vector.{Vector}
+use Rattle.hm_order.specs.Beats.{then}
+use Rattle.hm_order.specs.Machine.{Config, older, younger, younger_of}
+use Rattle.hm_order.proofs.Results.{ok_err, then_ok_at}
+use Rattle.hm_plan_laws.specs.Greedy.{IsReady, goes_on, is_ready}
+use Rattle.hm_plan_laws.specs.Planned.{after_ticks}
+use Rattle.hm_plan_laws.proofs.Folds.{next_left}
+use Rattle.hm_run.proofs.Steps.{closed_on}
+use Rattle.hm_run.specs.Program.{Program, Stepped}
+use Rattle.hm_run.specs.Timed.{Timed, begin, closed, next, thread_program, tick, timed}
+use Rattle.hm_sched.specs.Schedule.{TickLine, Sched, ticks_of}
+use Rattle.hm_state.specs.State.{State}
+use Rattle.hm_window.specs.declared.rule.Rule.{Rule}
+
+-- READINESS
+both_true : (a b : Bool) → (a && b) ≡ true → (a ≡ true) × (b ≡ true)
+both_true true b e = (refl, e)
+both_true false b e = absurd cc
+
+nat_is : (a b : ℕ) → (a == b) ≡ true → a ≡ b
+nat_is a b e = grind (arith, nat_tests)
+
+module _ (M : Program) where
+  -- a step of the younger that goes on breaks no rule
+  rule_none : (r : Option Rule) (o : Option Vector) (c d : Config State) → younger_of M r o c ≡ Ok d → r ≡ None
+  rule_none None o c d e = refl
+  rule_none (Some b) o c d e = absurd (ok_err (sym e))
+
+  second_of : (c d : Config State) (q : Stepped) → c.a ≡ 2 → c.b ≡ 0 → older M c ≡ Ok d → younger M d ≡ q → goes_on q ≡ true → IsReady M c
+  second_of c d (Ok f) a b e y on = record {
+    a = a;
+    b = b;
+    third = d;
+    goes = e;
+    no_rule = rule_none (M.rule (M.code (M.rows.view.pc d.state)) (M.code (M.rows.view.pc d.state + 4)) d) (M.code (M.rows.view.pc d.state + 4)) d f y;
+    first = f;
+    follows = y;
+  }
+  second_of c d (Err w) a b e y on = absurd cc
+
+  first_of_two : (c : Config State) (r : Stepped) → c.a ≡ 2 → c.b ≡ 0 → older M c ≡ r → goes_on (then r (younger M)) ≡ true → IsReady M c
+  first_of_two c (Ok d) a b e on = second_of c d (younger M d) a b e refl on
+  first_of_two c (Err w) a b e on = absurd cc
+
+  told : (c : Config State) → is_ready M c ≡ true → IsReady M c
+  told c e =
+      let first = both_true (c.a == 2) ((c.b == 0) && goes_on (then (older M c) (younger M))) e in
+      let second = both_true (c.b == 0) (goes_on (then (older M c) (younger M))) first.1 in
+      first_of_two c (older M c) (nat_is c.a 2 first.0) (nat_is c.b 0 second.0) refl second.1
+
+  tells : (c : Config State) → IsReady M c → is_ready M c ≡ true
+  tells c h = λ j. (h.a j == 2) && ((h.b j == 0) && goes_on ((then_ok_at (older M c) (younger M) h.third h.goes ∙ h.follows) j))
+
+  pub ready : (c : Config State) → (is_ready M c ≡ true) ↔ IsReady M c
+  ready c = (told c, tells c)
+
+-- RUNS
+module _ (listing : Listing) (image : List Segment) (s : Sched) (line : TickLine) (left : List TickLine) where
+  abbrev M : Program
+  M = thread_program listing s
+
+  some : (gs : List TickLine) → 0 < length (gs ++ (line ∷ left))
+  some [] = omega arith
+  some (g ∷ gs) = omega arith
+
+  open_from : (gs : List TickLine) (t : ℕ) (x : Timed) → drop t (ticks_of s.lines) ≡ gs ++ (line ∷ left) → timed listing image s t ≡ x
+      → timed listing image s (t + length gs) ≡ after_ticks M gs x
+  open_from [] t x e h = ap (timed listing image s) (add-zero t) ∙ h
+  open_from (g ∷ gs) t x e h =
+      let sum : t + suc (length gs) ≡ suc t + length gs = omega arith in
+      let one : timed listing image s (suc t) ≡ tick M g x = (λ j. next M (e j) (h j)) ∙ closed_on (gs ++ (line ∷ left)) (tick M g x) (some gs) in
+      ap (timed listing image s) sum ∙ open_from gs (suc t) (tick M g x) (next_left listing image s t g (gs ++ (line ∷ left)) e) one
+
+  pub open_run : (given : List TickLine) → ticks_of s.lines ≡ given ++ (line ∷ left) → timed listing image s (length given) ≡ after_ticks M given (begin image s)
+  open_run given e =
+      let all : 0 + length given ≡ length given = omega arith in
+      let begun : timed listing image s 0 ≡ begin image s = ap (λ (l : List TickLine). closed l (begin image s)) e ∙ closed_on (given ++ (line ∷ left)) (begin image s) (some given) in
+      ap (timed listing image s) (sym all) ∙ open_from given 0 (begin image s) e begun
