@@ -1,0 +1,115 @@
+//! The plan, tick by tick.
+
+ghost use Rattle.std.specs.Prelude.{◌≡◌, ℕ, ◌*◌, ◌≤◌, false, ◌∷◌, List, drop, length, IfOk, IfErr};
+ghost use Rattle.std.specs.Option.{is_some};
+ghost use Rattle.hm_base.specs.Image.{Segment, flash_byte};
+ghost use Rattle.hm_codes.specs.Listing.{Listing, IsListing};
+ghost use Rattle.hm_machine.specs.Bares.{IsBare};
+ghost use Rattle.hm_machine.specs.Shown.{timed_of};
+ghost use Rattle.hm_machine.specs.Turns.{LoadRefuses};
+ghost use Rattle.hm_mem.specs.Memory.{flash_at};
+ghost use Rattle.hm_plan_laws.specs.Ends.{DecidedBy, EndsAs, IsGreedyAt, IsPlanEnd};
+ghost use Rattle.hm_plan_laws.specs.Greedy.{greedy_at};
+ghost use Rattle.hm_plan_laws.specs.Planned.{bare_program, is_over, planned};
+ghost use Rattle.hm_run.specs.InOrder.{in_order};
+ghost use Rattle.hm_run.specs.Program.{vector_in, vector_of};
+ghost use Rattle.hm_run.specs.Timed.{timed_out};
+ghost use Rattle.hm_sched.specs.Schedule.{TickLine, ticks_of};
+
+use crate::lines::{Lines, finish, letters, push};
+use hm_base::{Image, SRAM_START};
+use hm_isa::Instr;
+use hm_machine::{LoadErr, Machine};
+use hm_plan_laws::{Greedy, plan_in_order};
+use hm_sched::Schedule;
+use std::alloc::Global;
+
+/// Whether an instruction is done by beats.
+fn is_vector(i: &Instr) -> bool
+    ensures value { result ≡ is_some (vector_in i.now) }
+{
+    matches!(i, Instr::Vector(_))
+}
+
+/// Whether a vector instruction stands at the program counter.
+fn has_row(machine: &Machine) -> bool
+    ensures value { (listing : Listing) → IsListing (flash_at machine.now.memory) listing → result ≡ is_some (vector_of (listing (timed_of machine.now).config.state.pc)) }
+{
+    match machine.instr(machine.regs().pc) {
+        Some(i) => is_vector(&i),
+        None => false,
+    }
+}
+
+/// What the next tick of a plan of n instructions does.
+fn greedy(machine: &mut Machine, n: u32) -> Greedy
+    requires bare { IsBare machine.old }
+    requires goes { is_over n (timed_of machine.old) ≡ false }
+    ensures value { (listing : Listing) → IsListing (flash_at machine.old.memory) listing → result ≡ greedy_at (bare_program listing) n (timed_of machine.old).config }
+    ensures same { machine.new ≡ machine.old }
+{
+    if !has_row(machine) {
+        return Greedy::Whole;
+    }
+    if !machine.ready() {
+        return Greedy::One;
+    }
+    if machine.retired() + 1 < n as u64 {
+        Greedy::Two
+    } else {
+        Greedy::One
+    }
+}
+
+/// Whether a plan of n instructions is at its end.
+fn is_over(machine: &Machine, n: u32) -> bool
+    ensures value { result ≡ is_over n (timed_of machine.now) }
+{
+    machine.outcome().is_some() || machine.retired() >= n as u64
+}
+
+/// The plan of n instructions of an image: a schedule without entries whose every tick overlaps two instructions where it may. It is refused as by
+/// `Machine::bare`. Its time grows with n alone.
+pub fn plan(alloc: Global, image: &Image, n: u32) -> Result<Schedule, LoadErr>
+    requires few { n ≤ 262144 }
+    ensures planned { IfOk result (λ s. (listing : Listing) → IsListing (flash_byte image.now) listing → s ≡ planned listing image.now n) }
+    // Its run ends as the n instructions in order do, exactly, within 4n ticks, and no rule is broken.
+    ensures ends { IfOk result (λ s. (listing : Listing) → IsListing (flash_byte image.now) listing → EndsAs n (timed_out listing image.now s) (in_order listing image.now n)) }
+    ensures exactly { IfOk result (λ s. (listing : Listing) → IsListing (flash_byte image.now) listing
+        → DecidedBy n (timed_out listing image.now s) (in_order listing image.now n)) }
+    ensures only { IfOk result (λ s. (listing : Listing) → IsListing (flash_byte image.now) listing → IsPlanEnd (timed_out listing image.now s).outcome) }
+    ensures few { IfOk result (λ s. length (ticks_of s.lines) ≤ 4 * n) }
+    // Each tick does what is greedy in the state before it.
+    ensures greedy { IfOk result (λ s. (listing : Listing) → IsListing (flash_byte image.now) listing → (t : ℕ) (line : TickLine) (left : List TickLine)
+        → drop t (ticks_of s.lines) ≡ line ∷ left → IsGreedyAt listing image.now n s t line) }
+    ensures refused { IfErr result (λ e. LoadRefuses image.now e) }
+{
+    plan_in_order();
+    grown(alloc, image, n)
+}
+
+/// The same, whose run is not looked at.
+fn grown(alloc: Global, image: &Image, n: u32) -> Result<Schedule, LoadErr>
+    requires few { n ≤ 262144 }
+    ensures planned { IfOk result (λ s. (listing : Listing) → IsListing (flash_byte image.now) listing → s ≡ planned listing image.now n) }
+    ensures refused { IfErr result (λ e. LoadRefuses image.now e) }
+{
+    let mut machine = Machine::bare(alloc, image)?;
+    let schedule = Schedule::begin(alloc, false, SRAM_START, SRAM_START, SRAM_START);
+    if is_over(&machine, n) {
+        return Ok(schedule);
+    }
+    let first = greedy(&mut machine, n);
+    let mut lines = Lines {
+        schedule,
+        kind: first,
+        count: 1,
+    };
+    machine.extend(letters(first));
+    while !is_over(&machine, n) {
+        let kind = greedy(&mut machine, n);
+        push(&mut lines, kind)?;
+        machine.extend(letters(kind));
+    }
+    Ok(finish(lines)?)
+}
