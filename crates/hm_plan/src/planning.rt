@@ -1,6 +1,6 @@
 //! The plan, tick by tick.
 
-ghost use Rattle.std.specs.Prelude.{◌≡◌, ℕ, ◌*◌, ◌≤◌, false, ◌∷◌, List, drop, length, IfOk, IfErr};
+ghost use Rattle.std.specs.Prelude.{◌≡◌, ℕ, ◌+◌, ◌*◌, ◌≤◌, false, [], ◌∷◌, List, drop, length, IfOk, IfErr};
 ghost use Rattle.std.specs.Option.{is_some};
 ghost use Rattle.hm_base.specs.Image.{Segment, flash_byte};
 ghost use Rattle.hm_codes.specs.Listing.{Listing, IsListing};
@@ -9,18 +9,18 @@ ghost use Rattle.hm_machine.specs.Shown.{timed_of};
 ghost use Rattle.hm_machine.specs.Turns.{LoadRefuses};
 ghost use Rattle.hm_mem.specs.Memory.{flash_at};
 ghost use Rattle.hm_plan_laws.specs.Ends.{DecidedBy, EndsAs, IsGreedyAt, IsPlanEnd};
-ghost use Rattle.hm_plan_laws.specs.Greedy.{greedy_at};
+ghost use Rattle.hm_plan_laws.specs.Greedy.{IsReady, greedy_at};
 ghost use Rattle.hm_plan_laws.specs.Planned.{bare_program, is_over, planned};
 ghost use Rattle.hm_run.specs.InOrder.{in_order};
 ghost use Rattle.hm_run.specs.Program.{vector_in, vector_of};
-ghost use Rattle.hm_run.specs.Timed.{timed_out};
-ghost use Rattle.hm_sched.specs.Schedule.{TickLine, ticks_of};
+ghost use Rattle.hm_run.specs.Timed.{timed, timed_out};
+ghost use Rattle.hm_sched.specs.Schedule.{TickLine, older_letter, ticks_of};
 
 use crate::lines::{Lines, finish, letters, push};
 use hm_base::{Image, SRAM_START};
 use hm_isa::Instr;
 use hm_machine::{LoadErr, Machine};
-use hm_plan_laws::{Greedy, plan_in_order};
+use hm_plan_laws::{Greedy, open_runs, plan_in_order};
 use hm_sched::Schedule;
 use std::alloc::Global;
 
@@ -82,9 +82,14 @@ pub fn plan(alloc: Global, image: &Image, n: u32) -> Result<Schedule, LoadErr>
     // Each tick does what is greedy in the state before it.
     ensures greedy { IfOk result (λ s. (listing : Listing) → IsListing (flash_byte image.now) listing → (t : ℕ) (line : TickLine) (left : List TickLine)
         → drop t (ticks_of s.lines) ≡ line ∷ left → IsGreedyAt listing image.now n s t line) }
+    // It is as dense as it may be: where a tick does a beat of the older alone while two may overlap, the older is the last that is asked for.
+    ensures dense { IfOk result (λ s. (listing : Listing) → IsListing (flash_byte image.now) listing → (t : ℕ) (line : TickLine) (left : List TickLine)
+        → drop t (ticks_of s.lines) ≡ line ∷ left → line.letters ≡ older_letter ∷ [] → let c = (timed listing image.now s t).config in
+        IsReady (bare_program listing) c → n ≤ c.n + 1) }
     ensures refused { IfErr result (λ e. LoadRefuses image.now e) }
 {
     plan_in_order();
+    open_runs();
     grown(alloc, image, n)
 }
 
