@@ -1,0 +1,4 @@
+pub mod Loops
+pub mod Runs
+pub mod Lines
+pub mod Steps

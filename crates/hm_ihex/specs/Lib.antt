@@ -1,0 +1,4 @@
+pub mod Records
+pub mod Cells
+pub mod Files
+pub mod Meant
