@@ -2,3 +2,5 @@ pub mod Loops
 pub mod Runs
 pub mod Lines
 pub mod Steps
+pub mod WrittenLines
+pub mod Pieces

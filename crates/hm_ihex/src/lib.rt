@@ -1,9 +1,11 @@
-//! Images in files of Intel HEX: read, with the first refusal.
+//! Images in files of Intel HEX: read, with the first refusal, and written.
 #![tactic(auto)]
 
 mod areas;
 mod collect;
 mod reading;
 mod record;
+mod writing;
 
 pub use reading::read_hex;
+pub use writing::write_hex;

@@ -65,7 +65,7 @@ pub fn read_bytes(alloc: Global, digits: &[u8]) -> Result<Option<Vec<u8>>, OutOf
 
 /// The sum of bytes, modulo 256.
 #[tactic(auto, using(crate::proofs::Loops::sum_more, crate::proofs::Loops::sum_all))]
-fn sum(bytes: &[u8]) -> u32
+pub fn sum(bytes: &[u8]) -> u32
     ensures value { result ≡ sum_of bytes.now % 256 }
 {
     let mut total = 0;

@@ -1,4 +1,4 @@
-use Rattle.std.proofs.Common.{◌≡◌, ◌+◌, ℕ, Bool, true, cond, List, drop, set, get_or, Option, Some, None, sym, ap, ◌∙◌, rules, arith}
+use Rattle.std.proofs.Common.{◌≡◌, ◌+◌, Bool, true, cond, drop, set, get_or, Some, None, sym, ap, ◌∙◌, rules, arith}
 use Rattle.std.proofs.lemmas.List.{length-set}
 use Rattle.hm_ihex.specs.Cells.{is_free, put_in}
 use Rattle.hm_ihex.proofs.Loops.{put_more}

@@ -1,4 +1,4 @@
-use Rattle.std.proofs.Common.{◌≡◌, ◌∙◌}
+use Rattle.std.proofs.Common.{◌∙◌}
 use Rattle.hm_base.specs.Image.{segment}
 use Rattle.hm_base.proofs.Images.{with_segment-behind}
 use Rattle.hm_ihex.proofs.collect.add_behind.Goals as goal

@@ -1,6 +1,6 @@
-use Rattle.std.proofs.Common.{◌≡◌, ◌≤◌, ◌+◌, ◌++◌, ◌∷◌, [], ℕ, List, All, true, false, append_assoc, get_or, is_none, length, drop, take, Option, None, refl, sym, ap, ◌∙◌, rules, arith}
+use Rattle.std.proofs.Common.{◌≡◌, ◌≤◌, ◌+◌, ◌++◌, ◌∷◌, [], ℕ, List, true, false, get_or, is_none, length, drop, None, refl, sym, ap, ◌∙◌, rules, arith}
 use Rattle.std.proofs.lemmas.List.{append-nil, drop_all, take_rest}
-use Rattle.std.proofs.lemmas.List.Elements.{All-push, All-weaker}
+use Rattle.std.proofs.lemmas.List.Elements.{All-weaker}
 use Rattle.hm_base.specs.Image.{Segment, segment}
 use Rattle.hm_ihex.specs.Cells.{front_of, runs}
 use Rattle.hm_ihex.proofs.Runs.{at_next, in_area, run_at, runs_nil, runs_skip}

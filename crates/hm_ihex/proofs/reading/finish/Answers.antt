@@ -1,6 +1,5 @@
-use Rattle.std.proofs.Common.{◌≡◌, ◌<◌, length, ap, sym, ◌∙◌, rules, Ok, Result, List}
+use Rattle.std.proofs.Common.{◌≡◌, length, ap, sym, ◌∙◌, rules, Ok, List}
 use Rattle.hm_base.specs.Image.{Segment}
-use Rattle.hm_base.specs.declared.errors.ImageErr.{ImageErr}
 use Rattle.hm_ihex.specs.Meant.{cells_of}
 use Rattle.hm_ihex.proofs.Lines.{line_follows, nothing_follows}
 use Rattle.hm_ihex.proofs.reading.finish.Goals as goal

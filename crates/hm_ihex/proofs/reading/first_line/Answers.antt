@@ -1,4 +1,4 @@
-use Rattle.std.proofs.Common.{◌≡◌, ◌≤◌, ◌-◌, ◌∷◌, List, ℕ, length, drop, take, sym, ap, ◌∙◌, rules}
+use Rattle.std.proofs.Common.{◌-◌, ◌∷◌, List, ℕ, length, drop, take, sym, ap, ◌∙◌, rules}
 use Rattle.hm_text_base.specs.Spans.{lines_of}
 use Rattle.hm_ihex.specs.Files.{all_lines}
 use Rattle.hm_ihex.proofs.Lines.{line_ended, line_unended}

@@ -1,6 +1,6 @@
-use Rattle.std.proofs.Common.{◌≡◌, ◌∷◌, Some, Option, sym, subst, ap, ◌∙◌, rules, List, ℕ}
+use Rattle.std.proofs.Common.{◌≡◌, ◌∷◌, Some, Option, sym, subst, rules}
 use Rattle.hm_ihex.specs.Meant.{IsNext, reading_of, record_meant}
-use Rattle.hm_ihex.specs.Records.{Record, bytes_in, line_in, record_in}
+use Rattle.hm_ihex.specs.Records.{Record, bytes_in, record_in}
 use Rattle.hm_ihex.proofs.Steps.{line_of}
 use Rattle.hm_ihex.proofs.reading.follow.Goals as goal
 

@@ -1,8 +1,8 @@
-use Rattle.std.proofs.Common.{◌≡◌, ◌+◌, ◌∷◌, List, ℕ, Result, Ok, length, sym, ap, subst, ◌∙◌, rules, arith}
+use Rattle.std.proofs.Common.{◌≡◌, List, Result, Ok, length, sym, ap, subst, ◌∙◌, rules, arith}
 use Rattle.hm_base.specs.Image.{Segment}
 use Rattle.hm_base.specs.declared.errors.ImageErr.{ImageErr}
 use Rattle.hm_text_base.specs.Spans.{lines_of}
-use Rattle.hm_ihex.specs.Files.{Fails, Gives, all_lines, hex_in, lines_in}
+use Rattle.hm_ihex.specs.Files.{Fails, Gives, all_lines, lines_in}
 use Rattle.hm_ihex.specs.Meant.{reading_of}
 use Rattle.hm_ihex.specs.declared.reading.Next.{Next}
 use Rattle.hm_ihex.specs.declared.reading.Next.TheVariants.{End, More}

@@ -1,4 +1,4 @@
-use Rattle.std.proofs.Common.{◌≡◌, ◌≤◌, ◌-◌, ◌++◌, ◌∷◌, [], ℕ, List, Some, None, get_or, length, drop, take, sym, ap, ◌∙◌, rules, arith}
+use Rattle.std.proofs.Common.{◌≡◌, ◌-◌, ◌++◌, ◌∷◌, [], ℕ, List, Some, None, get_or, length, drop, take, sym, ap, ◌∙◌, rules}
 use Rattle.std.proofs.lemmas.List.{take_rest}
 use Rattle.hm_ihex.specs.Records.{byte_in, bytes_in}
 use Rattle.hm_ihex.proofs.Loops.{behind, bytes_none, bytes_more, bytes_end, bytes_alone}
