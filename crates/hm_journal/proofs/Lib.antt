@@ -1,0 +1,9 @@
+pub mod Pairs
+pub mod Found
+pub mod Texts
+pub mod Deciding
+pub mod Readings
+pub mod Reports
+pub mod RunTicks
+pub mod Checkpoints
+pub mod Comparing

@@ -1,0 +1,30 @@
+//! Laws of the definitions. The functions do nothing, and their clauses are what is proved.
+
+ghost use Rattle.std.specs.Prelude.{◌≡◌, ◌≤◌, ◌+◌, ◌/◌, ℕ, List, Result, length};
+ghost use Rattle.hm_base.specs.Image.{Segment};
+ghost use Rattle.hm_codes.specs.Listing.{Listing};
+ghost use Rattle.hm_sched.specs.Schedule.{Sched, ticks_of};
+ghost use Rattle.hm_journal.specs.Journals.{IsJournal, Noted, ReportAt};
+ghost use Rattle.hm_journal.specs.Outcomes.{IsOutcome};
+ghost use Rattle.hm_journal.specs.Runs.{AreOfRun, IsComparison, journal_of};
+ghost use Rattle.hm_journal.specs.declared.journal.JournalErr.{JournalErr};
+
+/// Bytes are exactly one journal's, or are refused in exactly one way.
+pub fn journal_law()
+    ensures one { (bytes : List ℕ) (q r : Result Noted JournalErr) → IsOutcome bytes q → IsOutcome bytes r → q ≡ r }
+    ensures some { (bytes : List ℕ) → (r : Result Noted JournalErr) × IsOutcome bytes r }
+{}
+
+/// Checkpoints are all a run's, or there is a first that is not, and one alone.
+pub fn comparison_law()
+    ensures one { (listing : Listing) (image : List Segment) (s : Sched) (xs : List ReportAt) (q r : Result Unit JournalErr)
+        → IsComparison listing image s xs q → IsComparison listing image s xs r → q ≡ r }
+    ensures some { (listing : Listing) (image : List Segment) (s : Sched) (xs : List ReportAt) → (r : Result Unit JournalErr) × IsComparison listing image s xs r }
+{}
+
+/// The journal of a run is the run's, and where the schedule's ticks allow no more than 64 checkpoints there is such a journal.
+pub fn own_journal_law()
+    ensures own { (listing : Listing) (image : List Segment) (s : Sched) (every : ℕ) → AreOfRun listing image s (journal_of listing image s every).checkpoints }
+    ensures sound { (listing : Listing) (image : List Segment) (s : Sched) (every : ℕ) → 1 ≤ every → every ≤ 16777216
+        → length (ticks_of s.lines) / every + 1 ≤ 64 → IsJournal (journal_of listing image s every) }
+{}
