@@ -1,5 +1,5 @@
 -- The checkpoints of a run's journal.
-use Rattle.std.proofs.Common.{◌≡◌, ℕ, zero, suc, ◌+◌, ◌*◌, ◌/◌, ◌<◌, ◌≤◌, arith, ap, refl, subst, sym, ◌∙◌, List, [], ◌∷◌, ◌++◌, length, slice_get, Some, zero-add}
+use Rattle.std.proofs.Common.{◌≡◌, ℕ, zero, suc, ◌+◌, ◌*◌, ◌/◌, ◌<◌, ◌≤◌, arith, ap, refl, subst, sym, ◌∙◌, List, [], ◌∷◌, ◌++◌, length, slice_get, Some}
 use Rattle.std.proofs.Math.Nat.{div-lt_iff_lt-mul, div-mul-le_self, lt-div-mul-add, mul-le-mul}
 use Rattle.hm_base.specs.Image.{Segment}
 use Rattle.hm_codes.specs.Listing.{Listing}

@@ -1,12 +1,12 @@
 -- What a journal's JSON has under its keys.
-use Rattle.std.proofs.Common.{◌≡◌, ℕ, ◌+◌, ◌*◌, ◌<◌, ◌≤◌, arith, ap, refl, subst, sym, ◌∙◌, codes, List, map, Some, slice_get, option_and_then, length}
+use Rattle.std.proofs.Common.{◌≡◌, ℕ, ◌*◌, ◌≤◌, arith, ap, refl, subst, sym, ◌∙◌, codes, List, map, Some, option_and_then}
 use Rattle.std.proofs.Math.Nat.{mul-le-mul}
 use Rattle.std.specs.Str.{IsUtf8}
 use Rattle.serde_json.specs.Find.{as_array, get}
 use Rattle.serde_json.specs.Read.{read}
 use Rattle.serde_json.specs.View.{items_of}
 use Rattle.hm_journal.proofs.Pairs.{below_here}
-use Rattle.hm_journal.specs.Journals.{AreSmall, IsJournal, IsJournalFile, ReportAt, Noted, journal_data, checkpoint_data, number_at}
+use Rattle.hm_journal.specs.Journals.{AreSmall, IsJournal, IsJournalFile, Noted, journal_data, checkpoint_data, number_at}
 
 pub every_in : (j : Noted) → number_at (codes "every") (journal_data j) ≡ Some j.every
 every_in j = refl

@@ -1,5 +1,5 @@
 -- Bytes come to one outcome, and to one alone.
-use Rattle.std.proofs.Common.{◌≡◌, ℕ, ap, refl, subst, sym, ◌∙◌, Bool, true, false, ◌⊎◌, inl, inr, List, codes, Option, Some, None, Result, Ok, Err}
+use Rattle.std.proofs.Common.{◌≡◌, ℕ, ap, refl, subst, sym, ◌∙◌, Bool, true, false, inl, inr, List, codes, Option, Some, None, Result, Ok, Err}
 use Rattle.std.proofs.lemmas.Bool.{cases_eq}
 use Rattle.std.proofs.lemmas.Str.{IsUtf8-from_is_utf8, is_utf8-from_IsUtf8}
 use Rattle.std.specs.Str.{IsUtf8, is_utf8}
@@ -8,7 +8,7 @@ use Rattle.serde_json.specs.Read.{read}
 use Rattle.hm_journal.proofs.Deciding.{OrNone, journal_or, one_journal, sound_or}
 use Rattle.hm_journal.proofs.Found.{format_in}
 use Rattle.hm_journal.specs.Journals.{HasFormat, IsJournal, IsJournalFile, Noted, Reads, journal_data, number_at}
-use Rattle.hm_journal.specs.Outcomes.{IsNoFormat, IsNoJson, IsNoShape, IsOutcome}
+use Rattle.hm_journal.specs.Outcomes.{IsNoFormat, IsNoShape, IsOutcome}
 use Rattle.hm_journal.specs.declared.journal.JournalErr.{JournalErr}
 use Rattle.hm_journal.specs.declared.journal.JournalErr.TheVariants as err
 

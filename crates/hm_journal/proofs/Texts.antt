@@ -1,8 +1,6 @@
 -- The JSON of a journal: it has no float, nests three deep, and its compact text is the journal's.
-use Rattle.std.proofs.Common.{◌≡◌, ℕ, ◌≤◌, Bool, true, false, List, [], ◌∷◌, ◌++◌, codes, decimal, map, arith, ap, refl, sym, ◌∙◌, append_assoc, suc, max, lit<}
-use Rattle.std.proofs.lemmas.Fmt.{decimal_digit}
-use Rattle.json.specs.Print.{quoted}
-use Rattle.serde_json.specs.Data.{Data, Items, Members, array, member, no_members, number, object, string, unsigned, depth, items_depth}
+use Rattle.std.proofs.Common.{◌≡◌, ℕ, ◌≤◌, Bool, true, false, List, [], ◌∷◌, ◌++◌, codes, decimal, map, arith, ap, refl, ◌∙◌, append_assoc}
+use Rattle.serde_json.specs.Data.{Items, Members, array, member, no_members, number, object, unsigned, depth, items_depth}
 use Rattle.serde_json.specs.Read.{max_depth}
 use Rattle.serde_json.specs.View.{items_of}
 use Rattle.serde_json.specs.Written.{comma_if, compact_text, has_float, items_have_float, items_text, members_text}

@@ -1,7 +1,7 @@
-use Rattle.std.proofs.Common.{◌≡◌, ◌++◌, [], ◌∷◌, List, None, Some, ap, sym, ◌∙◌, map, option_map}
+use Rattle.std.proofs.Common.{◌≡◌, ◌++◌, [], ◌∷◌, None, Some, ap, sym, ◌∙◌, map, option_map}
 use Rattle.serde_json.specs.View.{view}
 use Rattle.hm_journal.proofs.Pairs.{beside, map-push, take_more}
-use Rattle.hm_journal.specs.Journals.{ReportAt, checkpoint_data}
+use Rattle.hm_journal.specs.Journals.{checkpoint_data}
 use Rattle.hm_journal.specs.Views.{checkpoint_of}
 use Rattle.hm_journal.proofs.reading.checkpoints_in.Goals as goal
 

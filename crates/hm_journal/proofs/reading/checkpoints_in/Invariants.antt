@@ -1,4 +1,4 @@
-use Rattle.std.proofs.Common.{◌≡◌, ℕ, List, map, take}
+use Rattle.std.proofs.Common.{◌≡◌, List, map, take}
 use Rattle.serde_json.specs.View.{view}
 use Rattle.hm_journal.specs.Journals.{AreSmall, ReportAt, checkpoint_data}
 use Rattle.hm_journal.specs.Views.{checkpoint_of}

@@ -1,10 +1,10 @@
-use Rattle.std.proofs.Common.{◌≡◌, ℕ, ◌<◌, ◌^◌, ap, arith, sym, ◌∙◌, codes, map, None, Some, List, option_and_then, option_map}
-use Rattle.serde_json.specs.Data.{Data, Items}
+use Rattle.std.proofs.Common.{◌≡◌, ap, arith, sym, ◌∙◌, codes, map, None, Some, option_and_then, option_map}
+use Rattle.serde_json.specs.Data.{Data}
 use Rattle.serde_json.specs.Find.{as_array, get}
 use Rattle.serde_json.specs.View.{items_of, items_view, view}
 use Rattle.hm_journal.proofs.Found.{checkpoints_in, every_in, ticks_fit}
 use Rattle.hm_journal.proofs.Pairs.{items_same}
-use Rattle.hm_journal.specs.Journals.{ReportAt, journal_data, checkpoint_data, number_at}
+use Rattle.hm_journal.specs.Journals.{checkpoint_data, number_at}
 use Rattle.hm_journal.specs.Views.{checkpoint_of}
 use Rattle.hm_journal.proofs.reading.draft_in.Goals as goal
 

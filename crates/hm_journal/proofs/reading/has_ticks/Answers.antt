@@ -1,4 +1,4 @@
-use Rattle.std.proofs.Common.{◌≡◌, ℕ, ◌+◌, ◌*◌, ◌<◌, ap, arith, refl, sym, ◌∙◌, map, slice_get, Some, length}
+use Rattle.std.proofs.Common.{◌≡◌, ℕ, ◌+◌, ◌*◌, ap, arith, refl, sym, ◌∙◌, map, slice_get, Some, length}
 use borrow.Author.Count.{below_more}
 use Rattle.hm_journal.proofs.Pairs.{below_some, item_at, one_more_tick}
 use Rattle.hm_journal.specs.Journals.{ReportAt}

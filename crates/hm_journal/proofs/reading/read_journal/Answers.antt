@@ -1,10 +1,9 @@
-use Rattle.std.proofs.Common.{◌≡◌, ℕ, List, Some, ap, codes, sym, ◌∙◌, option_map, rules, string_bytes}
-use Rattle.serde_json.specs.Data.{Data}
+use Rattle.std.proofs.Common.{◌≡◌, List, Some, ap, codes, sym, ◌∙◌, option_map, rules}
 use Rattle.serde_json.specs.View.{view}
 use Rattle.serde_json.specs.Written.{compact_text, has_float}
 use Rattle.hm_journal.proofs.Found.{format_in}
 use Rattle.hm_journal.proofs.Texts.{no_float, text_is}
-use Rattle.hm_journal.specs.Journals.{Noted, journal_data, journal_text, number_at}
+use Rattle.hm_journal.specs.Journals.{journal_text, number_at}
 use Rattle.hm_journal.specs.Views.{noted, noted_in}
 use Rattle.hm_journal.specs.declared.journal.Checkpoint.{Checkpoint}
 use Rattle.hm_journal.proofs.reading.read_journal.Goals as goal

@@ -9,5 +9,5 @@ returns-clause-checkpoints c = λ image s listing is tapes.
     let past = c.loop-k-test.false in
     let within = c.loop-k.auto.k-end in
     let all : c.loop-k.k ≡ c.last-last.result / every + 1 = omega (arith, past, within) in
-    let last : c.last-last.result ≡ (run_out listing image s).ticks = c.last-last.ensures ∙ sym (tapes.last listing is) in
+    let last : c.last-last.result ≡ (run_out listing image s).ticks = c.last-last.ensures.value ∙ sym (tapes.last listing is) in
     c.loop-k.invariant.built image s listing is tapes ∙ ap (first_checkpoints (report_at listing image s) every) (all ∙ ap (λ (n : ℕ). n / every + 1) last)

@@ -1,4 +1,4 @@
-use Rattle.std.proofs.Common.{◌≡◌, true, ℕ, ◌<◌, arith, refl, subst, sym, ◌∙◌, List, map, slice_get, Some}
+use Rattle.std.proofs.Common.{◌≡◌, true, ℕ, arith, refl, subst, sym, ◌∙◌, map, slice_get, Some}
 use borrow.Author.Count.{below_more}
 use Rattle.hm_machine.specs.Taped.{Taped, Tapes}
 use Rattle.hm_journal.proofs.Pairs.{below_some, item_at}

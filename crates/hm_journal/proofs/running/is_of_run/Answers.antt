@@ -1,4 +1,4 @@
-use Rattle.std.proofs.Common.{◌≡◌, ◌≤◌, arith, sym, ◌∙◌, string_bytes}
+use Rattle.std.proofs.Common.{arith, string_bytes}
 use Rattle.hm_journal.proofs.Reports.{of_run, reported, tells}
 use Rattle.hm_journal.proofs.running.is_of_run.Goals as goal
 

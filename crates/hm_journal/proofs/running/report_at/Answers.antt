@@ -1,4 +1,4 @@
-use Rattle.std.proofs.Common.{◌≡◌, Bool, true, false, ap, subst, sym, ◌∙◌, string_bytes}
+use Rattle.std.proofs.Common.{◌≡◌, true, false, ap, subst, sym, ◌∙◌, string_bytes}
 use Rattle.std.proofs.lemmas.Str.{IsUtf8-from_ascii}
 use Rattle.std.specs.Str.{IsAscii}
 use Rattle.hm_machine.specs.Shown.{timed_of}

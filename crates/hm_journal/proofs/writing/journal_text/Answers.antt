@@ -1,8 +1,7 @@
-use Rattle.std.proofs.Common.{◌≡◌, ◌≤◌, false, ap, subst, sym, ◌∙◌, Some}
+use Rattle.std.proofs.Common.{◌≤◌, ap, subst, sym, ◌∙◌, Some}
 use Rattle.std.proofs.lemmas.Result.{IfOk-weaker}
 use Rattle.serde_json.specs.Data.{Data, depth}
 use Rattle.serde_json.specs.Read.{max_depth}
-use Rattle.serde_json.specs.View.{view}
 use Rattle.serde_json.specs.Written.{compact_text, has_float}
 use Rattle.hm_journal.proofs.Texts.{no_float, not_deep, text_is}
 use Rattle.hm_journal.specs.Views.{noted}
