@@ -4,7 +4,7 @@ use Rattle.std.proofs.lemmas.Bool.{cases_eq, cases_lt}
 use Rattle.serde_json.specs.Data.{Data, Items, Members, array, boolean, float, item, member, negative, no_items, no_members, null, number, object, string, unsigned}
 use Rattle.serde_json.specs.View.{items_of}
 use Rattle.hm_journal.proofs.Pairs.{items_same}
-use Rattle.hm_journal.specs.Journals.{IsJournal, Noted, ReportAt, checkpoint_data, journal_data}
+use Rattle.hm_journal.specs.Journals.{IsJournal, Journaled, ReportAt, checkpoint_data, journal_data}
 
 -- an x of which P holds, or that P holds of none
 abbrev pub OrNone : (A : Type 0) → (A → Type 0) → Type 0
@@ -100,7 +100,7 @@ checkpoint_or d =
       | inl p ↦ inl (record { tick = p.0.1.0; report = p.0.0 }, p.1)
     ]
 
-pub journal_or : (d : Data) → OrNone Noted (λ j. d ≡ journal_data j)
+pub journal_or : (d : Data) → OrNone Journaled (λ j. d ≡ journal_data j)
 journal_or d =
     let formatted = member_or (codes "format") (λ n. number (unsigned n)) (λ (u : Unit {0}). no_members) number_or end_or in
     let every = member_or (codes "every") (λ n. number (unsigned n)) (λ (p : ℕ × Unit {0}). member (codes "format") (number (unsigned p.0)) no_members) number_or formatted in
@@ -136,7 +136,7 @@ ticks_or want (y ∷ ys) =
           ]
     ]
 
-pub sound_or : (j : Noted) → IsJournal j ⊎ (¬ (IsJournal j))
+pub sound_or : (j : Journaled) → IsJournal j ⊎ (¬ (IsJournal j))
 sound_or j =
     elim (cases_eq j.format 1) [
       | inr never ↦ inr (λ is. never is.format)
@@ -176,7 +176,7 @@ one_list (x ∷ xs) (y ∷ ys) e =
     let report : x.report ≡ y.report = cc in
     λ i. record { tick = tick i; report = report i } ∷ one_list xs ys rest i
 
-pub one_journal : (j k : Noted) → journal_data j ≡ journal_data k → j ≡ k
+pub one_journal : (j k : Journaled) → journal_data j ≡ journal_data k → j ≡ k
 one_journal j k e =
     let items : items_of (map checkpoint_data j.checkpoints) ≡ items_of (map checkpoint_data k.checkpoints) = cc in
     let every : j.every ≡ k.every = cc in

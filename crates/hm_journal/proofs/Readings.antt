@@ -7,17 +7,17 @@ use Rattle.serde_json.specs.Data.{Data}
 use Rattle.serde_json.specs.Read.{read}
 use Rattle.hm_journal.proofs.Deciding.{OrNone, journal_or, one_journal, sound_or}
 use Rattle.hm_journal.proofs.Found.{format_in}
-use Rattle.hm_journal.specs.Journals.{HasFormat, IsJournal, IsJournalFile, Noted, Reads, journal_data, number_at}
-use Rattle.hm_journal.specs.Outcomes.{IsNoFormat, IsNoShape, IsOutcome}
+use Rattle.hm_journal.specs.Journals.{HasFormat, IsJournal, IsJournalFile, Journaled, Reads, journal_data, number_at}
+use Rattle.hm_journal.specs.Outcomes.{IsNoFormat, IsNoShape, IsReading}
 use Rattle.hm_journal.specs.declared.journal.JournalErr.{JournalErr}
 use Rattle.hm_journal.specs.declared.journal.JournalErr.TheVariants as err
 
 -- SOME
 abbrev SomeOutcome : List ℕ → Type 0
-SomeOutcome bytes = (r : Result Noted JournalErr) × IsOutcome bytes r
+SomeOutcome bytes = (r : Result Journaled JournalErr) × IsReading bytes r
 
 module _ (bytes : List ℕ) (d : Data) (reads : Reads bytes d) where
-  with_shape : (n : ℕ) → HasFormat d n → OrNone Noted (λ j. d ≡ journal_data j) → SomeOutcome bytes
+  with_shape : (n : ℕ) → HasFormat d n → OrNone Journaled (λ j. d ≡ journal_data j) → SomeOutcome bytes
   with_shape n has (inr never) = (Err err.Shape, (d, reads, (n, has), λ j sound is. never j is))
   with_shape n has (inl found) =
       let j = found.0 in
@@ -52,7 +52,7 @@ with_text : (bytes : List ℕ) (b : Bool) → is_utf8 bytes ≡ b → SomeOutcom
 with_text bytes true is = with_read bytes (IsUtf8-from_is_utf8 bytes is) (read bytes) refl
 with_text bytes false is = (Err err.Json, λ d reads. let other = is_utf8-from_IsUtf8 bytes reads.0 in cc)
 
-pub some_outcome : (bytes : List ℕ) → (r : Result Noted JournalErr) × IsOutcome bytes r
+pub some_outcome : (bytes : List ℕ) → (r : Result Journaled JournalErr) × IsReading bytes r
 some_outcome bytes = with_text bytes (is_utf8 bytes) refl
 
 -- AND ONE ALONE
@@ -62,19 +62,19 @@ one_value bytes d e first second =
     let b : read bytes ≡ Some e = second.1 in
     cc
 
-has_format : (d : Data) (j : Noted) → IsJournal j → d ≡ journal_data j → HasFormat d j.format
+has_format : (d : Data) (j : Journaled) → IsJournal j → d ≡ journal_data j → HasFormat d j.format
 has_format d j sound is = (ap (number_at (codes "format")) is ∙ format_in j, sound.format)
 
-journal_format : (bytes : List ℕ) (j : Noted) → IsJournalFile bytes j → ¬ (IsNoFormat bytes)
+journal_format : (bytes : List ℕ) (j : Journaled) → IsJournalFile bytes j → ¬ (IsNoFormat bytes)
 journal_format bytes j file bad = bad.2 j.format (has_format bad.0 j file.sound (one_value bytes bad.0 (journal_data j) bad.1 file.reads))
 
-journal_shape : (bytes : List ℕ) (j : Noted) → IsJournalFile bytes j → ¬ (IsNoShape bytes)
+journal_shape : (bytes : List ℕ) (j : Journaled) → IsJournalFile bytes j → ¬ (IsNoShape bytes)
 journal_shape bytes j file bad = bad.3 j file.sound (one_value bytes bad.0 (journal_data j) bad.1 file.reads)
 
 format_shape : (bytes : List ℕ) → IsNoFormat bytes → ¬ (IsNoShape bytes)
 format_shape bytes bad other = bad.2 other.2.0 (subst (λ d. HasFormat d other.2.0) (one_value bytes other.0 bad.0 other.1 bad.1) other.2.1)
 
-pub one_outcome : (bytes : List ℕ) (r s : Result Noted JournalErr) → IsOutcome bytes r → IsOutcome bytes s → r ≡ s
+pub one_outcome : (bytes : List ℕ) (r s : Result Journaled JournalErr) → IsReading bytes r → IsReading bytes s → r ≡ s
 one_outcome bytes (Ok j) (Ok k) a b = ap Ok (one_journal j k (one_value bytes (journal_data j) (journal_data k) a.reads b.reads))
 one_outcome bytes (Ok j) (Err err.Json) a b = absurd (b (journal_data j) a.reads)
 one_outcome bytes (Ok j) (Err err.Format) a b = absurd (journal_format bytes j a b)

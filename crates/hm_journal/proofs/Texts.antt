@@ -5,7 +5,7 @@ use Rattle.serde_json.specs.Read.{max_depth}
 use Rattle.serde_json.specs.View.{items_of}
 use Rattle.serde_json.specs.Written.{comma_if, compact_text, has_float, items_have_float, items_text, members_text}
 use Rattle.serde_json.proofs.OnLiterals.{serde_json_on_literals}
-use Rattle.hm_journal.specs.Journals.{ReportAt, Noted, journal_data, journal_text, checkpoint_data, checkpoint_text, checkpoints_text}
+use Rattle.hm_journal.specs.Journals.{ReportAt, Journaled, journal_data, journal_text, checkpoint_data, checkpoint_text, checkpoints_text}
 
 checkpoint_is : (x : ReportAt) → compact_text (checkpoint_data x) ≡ checkpoint_text x
 unfolding serde_json_on_literals
@@ -35,7 +35,7 @@ front_is is t = refl
 joined : (a m s e d f g z : List ℕ) → a ++ ((m ++ s) ++ (e ++ (d ++ (f ++ (g ++ z))))) ≡ a ++ m ++ (s ++ e) ++ d ++ f ++ g ++ z
 joined a m s e d f g z = simp append_assoc
 
-pub text_is : (j : Noted) → compact_text (journal_data j) ≡ journal_text j
+pub text_is : (j : Journaled) → compact_text (journal_data j) ≡ journal_text j
 text_is j =
     let front : List ℕ = codes "{\"checkpoints\":[" in
     let m = checkpoints_text false j.checkpoints in
@@ -47,12 +47,12 @@ items_no_float : (xs : List ReportAt) → items_have_float (items_of (map checkp
 items_no_float [] = refl
 items_no_float (x ∷ xs) = items_no_float xs
 
-pub no_float : (j : Noted) → has_float (journal_data j) ≡ false
+pub no_float : (j : Journaled) → has_float (journal_data j) ≡ false
 no_float j = rw (items_no_float j.checkpoints)
 
 items_flat : (xs : List ReportAt) → items_depth (items_of (map checkpoint_data xs)) ≤ 1
 items_flat [] = omega arith
 items_flat (x ∷ xs) = let rest = items_flat xs in omega (arith, rest)
 
-pub not_deep : (j : Noted) → depth (journal_data j) ≤ max_depth
+pub not_deep : (j : Journaled) → depth (journal_data j) ≤ max_depth
 not_deep j = let flat = items_flat j.checkpoints in omega (arith, flat)

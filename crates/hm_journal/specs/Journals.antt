@@ -14,7 +14,7 @@ pub record ReportAt : Type 0 where
   pub report : List ℕ
 
 -- what a journal says: the format of its text, and the reports at tick 0 and from there on at each so many ticks
-pub record Noted : Type 0 where
+pub record Journaled : Type 0 where
   pub format : ℕ
   pub every : ℕ
   pub checkpoints : List ReportAt
@@ -23,7 +23,7 @@ pub record Noted : Type 0 where
 abbrev pub checkpoint_data : ReportAt → Data
 checkpoint_data x = object (member (codes "report") (string x.report) (member (codes "tick") (number (unsigned x.tick)) no_members))
 
-abbrev pub journal_data : Noted → Data
+abbrev pub journal_data : Journaled → Data
 journal_data j =
     object (member (codes "checkpoints") (array (items_of (map checkpoint_data j.checkpoints)))
     (member (codes "every") (number (unsigned j.every))
@@ -37,7 +37,7 @@ abbrev pub checkpoints_text : Bool → List ReportAt → List ℕ
 checkpoints_text later [] = []
 checkpoints_text later (x ∷ xs) = comma_if later ++ checkpoint_text x ++ checkpoints_text true xs
 
-abbrev pub journal_text : Noted → List ℕ
+abbrev pub journal_text : Journaled → List ℕ
 journal_text j =
     codes "{\"checkpoints\":[" ++ checkpoints_text false j.checkpoints ++ codes "],\"every\":" ++ decimal j.every ++ codes ",\"format\":" ++ decimal j.format ++ codes "}"
 
@@ -47,10 +47,10 @@ abbrev pub IsFormat : ℕ → Type 0
 IsFormat n = n ≡ 1
 
 -- the checkpoints lie at the ticks 0, every, 2 * every and so on
-abbrev pub AreTicks : Noted → Type 0
+abbrev pub AreTicks : Journaled → Type 0
 AreTicks j = (k : ℕ) (x : ReportAt) → slice_get j.checkpoints k ≡ Some x → x.tick ≡ k * j.every
 
-pub record IsJournal (j : Noted) : Type 0 where
+pub record IsJournal (j : Journaled) : Type 0 where
   pub format : IsFormat j.format
   pub some : 0 < length j.checkpoints
   pub few : length j.checkpoints ≤ 64
@@ -74,6 +74,6 @@ number_at key d = option_and_then as_u64 (option_and_then as_number (get key d))
 abbrev pub HasFormat : Data → ℕ → Type 0
 HasFormat d n = (number_at (codes "format") d ≡ Some n) × IsFormat n
 
-pub record IsJournalFile (bytes : List ℕ) (j : Noted) : Type 0 where
+pub record IsJournalFile (bytes : List ℕ) (j : Journaled) : Type 0 where
   pub reads : Reads bytes (journal_data j)
   pub sound : IsJournal j

@@ -5,7 +5,7 @@ use Rattle.hm_codes.specs.Listing.{Listing}
 use Rattle.hm_handlers.specs.Runs.{run, run_out, shown}
 use Rattle.hm_run.specs.Report.{report_text}
 use Rattle.hm_sched.specs.Schedule.{Sched, ticks_of}
-use Rattle.hm_journal.specs.Journals.{Noted, ReportAt}
+use Rattle.hm_journal.specs.Journals.{Journaled, ReportAt}
 use Rattle.hm_journal.specs.declared.journal.JournalErr.{JournalErr}
 use Rattle.hm_journal.specs.declared.journal.JournalErr.TheVariants as err
 
@@ -19,7 +19,7 @@ first_checkpoints report every zero = []
 first_checkpoints report every (suc n) = first_checkpoints report every n ++ record { tick = n * every; report = report (n * every) } ∷ []
 
 -- THE JOURNAL OF A RUN has those up to the last tick that the run begins
-abbrev pub journal_of : Listing → List Segment → Sched → ℕ → Noted
+abbrev pub journal_of : Listing → List Segment → Sched → ℕ → Journaled
 journal_of listing image s every = record {
   format = 1;
   every = every;

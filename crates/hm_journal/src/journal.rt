@@ -27,9 +27,9 @@ pub struct Journal {
 }
 
 impl Model for Journal {
-    ghost use Rattle.hm_journal.specs.Journals.{Noted};
+    ghost use Rattle.hm_journal.specs.Journals.{Journaled};
 
-    ghost Value = { Noted };
+    ghost Value = { Journaled };
 
     ghost use Rattle.hm_journal.specs.Views.{journal_view, IsSound};
 

@@ -4,15 +4,15 @@ ghost use Rattle.std.specs.Prelude.{◌≡◌, ◌≤◌, ◌+◌, ◌/◌, ℕ,
 ghost use Rattle.hm_base.specs.Image.{Segment};
 ghost use Rattle.hm_codes.specs.Listing.{Listing};
 ghost use Rattle.hm_sched.specs.Schedule.{Sched, ticks_of};
-ghost use Rattle.hm_journal.specs.Journals.{IsJournal, Noted, ReportAt};
-ghost use Rattle.hm_journal.specs.Outcomes.{IsOutcome};
+ghost use Rattle.hm_journal.specs.Journals.{IsJournal, Journaled, ReportAt};
+ghost use Rattle.hm_journal.specs.Outcomes.{IsReading};
 ghost use Rattle.hm_journal.specs.Runs.{AreOfRun, IsComparison, journal_of};
 ghost use Rattle.hm_journal.specs.declared.journal.JournalErr.{JournalErr};
 
 /// Bytes are exactly one journal's, or are refused in exactly one way.
 pub fn journal_law()
-    ensures one { (bytes : List ℕ) (q r : Result Noted JournalErr) → IsOutcome bytes q → IsOutcome bytes r → q ≡ r }
-    ensures some { (bytes : List ℕ) → (r : Result Noted JournalErr) × IsOutcome bytes r }
+    ensures one { (bytes : List ℕ) (q r : Result Journaled JournalErr) → IsReading bytes q → IsReading bytes r → q ≡ r }
+    ensures some { (bytes : List ℕ) → (r : Result Journaled JournalErr) × IsReading bytes r }
 {}
 
 /// Checkpoints are all a run's, or there is a first that is not, and one alone.

@@ -4,9 +4,9 @@ ghost use Rattle.std.specs.Prelude.{◌≡◌, ◌↔◌, ℕ, ◌*◌, ◌<◌,
 ghost use Rattle.serde_json.specs.Find.{as_array, get};
 ghost use Rattle.serde_json.specs.Errors.{IsMemory};
 ghost use Rattle.serde_json.specs.View.{items_view, view};
-ghost use Rattle.hm_journal.specs.Journals.{AreSmall, AreTicks, HasFormat, IsFormat, IsJournal, IsJournalFile, number_at, ReportAt, Noted, journal_data, checkpoint_data};
+ghost use Rattle.hm_journal.specs.Journals.{AreSmall, AreTicks, HasFormat, IsFormat, IsJournal, IsJournalFile, number_at, ReportAt, Journaled, journal_data, checkpoint_data};
 ghost use Rattle.hm_journal.specs.Outcomes.{IsReadErr};
-ghost use Rattle.hm_journal.specs.Views.{checkpoint_of, noted, noted_in};
+ghost use Rattle.hm_journal.specs.Views.{checkpoint_of, journal_with, drafted};
 
 use crate::journal::{Checkpoint, Journal, JournalErr};
 use crate::writing::journal_text;
@@ -66,7 +66,7 @@ fn values_at<'v>(value: &'v Value, key: &str) -> Option<&'v Vec<Value>>
 
 // A journal of a format, where the value is its.
 fn draft_in(alloc: Global, value: &Value, format: u32) -> Result<Option<Draft>, AllocError>
-    ensures draft { IfOk result (λ o. (j : Noted) → IsJournal j → j.format ≡ format → view value.now ≡ journal_data j → option_map noted_in o ≡ Some j) }
+    ensures draft { IfOk result (λ o. (j : Journaled) → IsJournal j → j.format ≡ format → view value.now ≡ journal_data j → option_map drafted o ≡ Some j) }
     ensures format { IfOk result (λ o. IfSome o (λ d. d.format ≡ format)) }
 {
     let Some(every) = number_at(value, "every") else {
@@ -88,7 +88,7 @@ fn draft_in(alloc: Global, value: &Value, format: u32) -> Result<Option<Draft>, 
 // Whether the checkpoints lie at the ticks 0, `every`, twice that and so on.
 fn has_ticks(d: &Draft) -> bool
     requires { length d.now.checkpoints.items ≤ 64 }
-    ensures { IsTrue result ↔ AreTicks (noted_in d.now) }
+    ensures { IsTrue result ↔ AreTicks (drafted d.now) }
 {
     let mut tick = 0_u64;
     for x in &d.checkpoints {
@@ -103,7 +103,7 @@ fn has_ticks(d: &Draft) -> bool
 // Whether there is such a journal, of a format that there is.
 fn is_journal(d: &Draft) -> bool
     requires { IsFormat d.now.format }
-    ensures { IsTrue result ↔ IsJournal (noted_in d.now) }
+    ensures { IsTrue result ↔ IsJournal (drafted d.now) }
 {
     !d.checkpoints.is_empty()
         && d.checkpoints.len() <= 64

@@ -5,7 +5,7 @@ ghost use Rattle.serde_json.specs.Data.{array, member, no_members, number, objec
 ghost use Rattle.serde_json.specs.Read.{read};
 ghost use Rattle.serde_json.specs.View.{items_view, view};
 ghost use Rattle.hm_journal.specs.Journals.{checkpoint_data, journal_data, journal_text};
-ghost use Rattle.hm_journal.specs.Views.{checkpoint_of, noted};
+ghost use Rattle.hm_journal.specs.Views.{checkpoint_of, journal_with};
 
 use crate::journal::Checkpoint;
 use serde_json::{Value, json};
@@ -49,7 +49,7 @@ fn journal_value(
     every: u32,
     checkpoints: &[Checkpoint],
 ) -> Result<Value, AllocError>
-    ensures { IfOk result (λ v. view v ≡ journal_data (noted format every checkpoints.now)) }
+    ensures { IfOk result (λ v. view v ≡ journal_data (journal_with format every checkpoints.now)) }
 {
     let list = checkpoint_values(alloc, checkpoints)?;
     whole_value(alloc, format, every, list)
@@ -62,8 +62,8 @@ pub fn journal_text(
     every: u32,
     checkpoints: &[Checkpoint],
 ) -> Result<String, AllocError>
-    ensures text { IfOk result (λ s. string_bytes s ≡ journal_text (noted format every checkpoints.now)) }
-    ensures reads_back { IfOk result (λ s. read (string_bytes s) ≡ Some (journal_data (noted format every checkpoints.now))) }
+    ensures text { IfOk result (λ s. string_bytes s ≡ journal_text (journal_with format every checkpoints.now)) }
+    ensures reads_back { IfOk result (λ s. read (string_bytes s) ≡ Some (journal_data (journal_with format every checkpoints.now))) }
 {
     let value = journal_value(alloc, format, every, checkpoints)?;
     value.to_string(alloc)
