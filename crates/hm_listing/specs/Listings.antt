@@ -1,5 +1,5 @@
 -- The listing of what stands in flash.
-use Rattle.std.specs.Prelude.{◌≡◌, ◌≤◌, ◌<◌, ℕ, ◌+◌, ◌*◌, ◌/◌, ◌%◌, List, [], ◌∷◌, ◌++◌, length, map, codes}
+use Rattle.std.specs.Prelude.{◌≡◌, ◌≤◌, ◌<◌, ℕ, ◌+◌, ◌*◌, ◌/◌, ◌%◌, List, [], ◌∷◌, ◌++◌, length, map, codes, Option, Some, None}
 use Rattle.std.specs.List.{join_with_byte}
 use Rattle.hm_codes.specs.Listing.{half_at, Stands}
 use Rattle.hm_isa.specs.Code.{halfwords}
@@ -16,6 +16,11 @@ pub data Entry : Type 0 where
 abbrev pub hex4 : ℕ → List ℕ
 hex4 h = hex2 (h / 256) ++ hex2 (h % 256)
 
+-- one halfword, or two
+abbrev pub halves_from : ℕ → Option ℕ → List ℕ
+halves_from first None = first ∷ []
+halves_from first (Some second) = first ∷ second ∷ []
+
 -- the halfwords of a line, and its text
 abbrev pub halves_of : Entry → List ℕ
 halves_of (shown i) = halfwords i
@@ -25,9 +30,12 @@ abbrev pub entry_text : ℕ → Entry → List ℕ
 entry_text a (shown i) = printed_text i a
 entry_text a (half h) = codes ".half 0x" ++ hex4 h
 
--- the address, the halfwords and the text, with spaces between them
+-- A LINE: an address, halfwords and a text, with spaces between them
+abbrev pub listing_line : ℕ → List ℕ → List ℕ → List ℕ
+listing_line a halves text = hex8 a ++ 32 ∷ (join_with_byte 32 (map hex4 halves) ++ 32 ∷ (text ++ 10 ∷ []))
+
 abbrev pub entry_line : ℕ → Entry → List ℕ
-entry_line a e = hex8 a ++ 32 ∷ (join_with_byte 32 (map hex4 (halves_of e)) ++ 32 ∷ (entry_text a e ++ 10 ∷ []))
+entry_line a e = listing_line a (halves_of e) (entry_text a e)
 
 -- what a line shows at an address: the instruction that stands there and ends at hi or before, else the halfword
 abbrev pub IsEntry : (ℕ → ℕ) → ℕ → ℕ → Entry → Type 0

@@ -8,9 +8,11 @@ ghost use Rattle.hm_isa.specs.declared.Instr.{Instr};
 ghost use Rattle.hm_listing.specs.Listings.{IsListed, entry_line, shown};
 ghost use Rattle.hm_text.specs.Tables.{width_of};
 
+mod entry;
 mod laws;
 mod lines;
 
+pub use entry::{half_line, instr_line};
 use hm_base::{Image, OutOfMemory, SRAM_START};
 use hm_mem::Mem;
 pub use laws::listing_law;

@@ -1,30 +1,19 @@
 //! The lines of a listing, one behind another.
 
-ghost use Rattle.std.specs.Prelude.{◌≡◌, ◌<◌, ◌≤◌, ◌+◌, ◌*◌, ◌%◌, ◌++◌, List, [], ◌∷◌, ℕ, codes, length, map, IfOk, IfSome, IfNone};
-ghost use Rattle.std.specs.List.{join_with_byte};
+ghost use Rattle.std.specs.Prelude.{◌≡◌, ◌<◌, ◌≤◌, ◌+◌, ◌*◌, ◌%◌, ◌++◌, List, ℕ, length, IfOk, IfSome, IfNone};
 ghost use Rattle.hm_base.specs.Image.{flash_size};
 ghost use Rattle.hm_codes.specs.Listing.{Stands, half_at};
 ghost use Rattle.hm_isa.specs.Code.{halfwords};
 ghost use Rattle.hm_isa.specs.declared.Instr.{Instr};
-ghost use Rattle.hm_listing.specs.Listings.{Entry, IsEntry, IsListed, entry_line, half, halves_of, hex4, shown};
-ghost use Rattle.hm_text_base.specs.Texts.{hex8};
+ghost use Rattle.hm_listing.specs.Listings.{Entry, IsEntry, IsListed, entry_line, halves_from, halves_of, shown};
 ghost use Rattle.hm_mem.specs.Memory.{flash_at, memory_of};
 ghost use Rattle.hm_text.specs.Tables.{width_of};
 
+use crate::entry::{half_line, instr_line};
 use hm_base::OutOfMemory;
 use hm_decode::fetch;
 use hm_isa::{Instr, width};
 use hm_mem::Mem;
-use hm_text::print_instr;
-use hm_text_base::{hex2, hex8, text};
-
-/// Adds a halfword in four digits.
-fn add_hex4(out: &mut Vec<u8>, half: u16) -> Result<(), OutOfMemory>
-    ensures added { IfOk result (λ _. out.new.items ≡ out.old.items ++ hex4 half) }
-{
-    hex2(out, (half / 256) as u8)?;
-    hex2(out, (half % 256) as u8)
-}
 
 /// The halfword of flash at an address.
 fn half_of(m: &Mem, at: u32) -> u16
@@ -35,25 +24,15 @@ fn half_of(m: &Mem, at: u32) -> u16
     m.half(at).unwrap()
 }
 
-/// Adds the halfwords of an instruction that stands at an address, with a space between them.
-fn add_halves(out: &mut Vec<u8>, m: &Mem, at: u32, i: &Instr) -> Result<(), OutOfMemory>
+/// The second halfword of an instruction that stands at an address, where it has two.
+fn second_of(m: &Mem, at: u32, i: &Instr) -> Option<u16>
     requires stands { Stands (flash_at (memory_of m.now)) at i.now }
-    ensures added { IfOk result (λ _. out.new.items ≡ out.old.items ++ join_with_byte 32 (map hex4 (halfwords i.now))) }
+    ensures code { halves_from (half_at (flash_at (memory_of m.now)) at) result ≡ halfwords i.now }
 {
-    add_hex4(out, half_of(m, at))?;
     if width(i) == 2 {
-        return Ok(());
+        return None;
     }
-    text(out, b" ")?;
-    add_hex4(out, half_of(m, at + 2))
-}
-
-/// Adds an address and the space behind it.
-fn add_address(out: &mut Vec<u8>, at: u32) -> Result<(), OutOfMemory>
-    ensures added { IfOk result (λ _. out.new.items ≡ out.old.items ++ (hex8 at ++ 32 ∷ [])) }
-{
-    hex8(out, at)?;
-    text(out, b" ")
+    Some(half_of(m, at + 2))
 }
 
 /// Adds the line of an instruction that stands at an address.
@@ -61,30 +40,7 @@ fn add_shown(out: &mut Vec<u8>, m: &Mem, at: u32, i: &Instr) -> Result<(), OutOf
     requires stands { Stands (flash_at (memory_of m.now)) at i.now }
     ensures added { IfOk result (λ _. out.new.items ≡ out.old.items ++ entry_line at (shown i.now)) }
 {
-    add_address(out, at)?;
-    add_halves(out, m, at, i)?;
-    text(out, b" ")?;
-    let instr = print_instr(i, at);
-    text(out, instr.as_str().as_bytes())?;
-    text(out, b"\n")
-}
-
-/// Adds the text of a halfword, with the space before it, and the end of its line.
-fn add_half_text(out: &mut Vec<u8>, alone: u16) -> Result<(), OutOfMemory>
-    ensures added { IfOk result (λ _. out.new.items ≡ out.old.items ++ (codes " .half 0x" ++ (hex4 alone ++ 10 ∷ []))) }
-{
-    text(out, b" .half 0x")?;
-    add_hex4(out, alone)?;
-    text(out, b"\n")
-}
-
-/// Adds the line of a halfword at which no instruction is shown.
-fn add_half(out: &mut Vec<u8>, at: u32, alone: u16) -> Result<(), OutOfMemory>
-    ensures added { IfOk result (λ _. out.new.items ≡ out.old.items ++ entry_line at (half alone)) }
-{
-    add_address(out, at)?;
-    add_hex4(out, alone)?;
-    add_half_text(out, alone)
+    instr_line(out, at, half_of(m, at), second_of(m, at, i), i)
 }
 
 /// The instruction that stands at an address and ends at `hi` or before.
@@ -113,7 +69,7 @@ fn add_line(out: &mut Vec<u8>, m: &Mem, at: u32, hi: u32) -> Result<u32, OutOfMe
             Ok(at + width(&i))
         }
         None => {
-            add_half(out, at, half_of(m, at))?;
+            half_line(out, at, half_of(m, at))?;
             Ok(at + 2)
         }
     }
