@@ -1,0 +1,11 @@
+pub mod Lines
+pub mod Words
+pub mod TwoNumbers
+pub mod Deciding
+pub mod ScriptLaws
+pub mod Showing
+pub mod Bytes
+pub mod Going
+pub mod Answering
+pub mod Flashes
+pub mod AnswerLaws

@@ -1,0 +1,33 @@
+-- COMMANDS OF A SCRIPT: how each is written, and which there are.
+use Rattle.std.specs.Prelude.{◌≡◌, ℕ, ◌+◌, ◌^◌, ◌%◌, ◌<◌, ◌≤◌, List, ◌++◌, codes}
+use Rattle.std.specs.Fmt.{decimal}
+use Rattle.hm_base.specs.Image.{flash_size}
+use Rattle.hm_sched.specs.Schedule.{most_ticks}
+use Rattle.hm_text_base.specs.Texts.{hex8}
+use Rattle.hm_debug.specs.declared.command.Command.{Command}
+use Rattle.hm_debug.specs.declared.command.Command.TheVariants.{Goto, Step, Back, Until, Show, Memory, Listing}
+
+-- a line without its end
+abbrev pub command_text : Command → List ℕ
+command_text (Goto n) = codes "goto " ++ decimal n
+command_text Step = codes "step"
+command_text Back = codes "back"
+command_text (Until addr) = codes "until " ++ hex8 addr
+command_text Show = codes "show"
+command_text (Memory addr len) = codes "mem " ++ hex8 addr ++ codes " " ++ decimal len
+command_text (Listing addr count) = codes "dis " ++ hex8 addr ++ codes " " ++ decimal count
+
+-- the numbers that a command may have
+abbrev pub Fits : Command → Type 0
+Fits (Goto n) = n ≤ most_ticks
+Fits Step = Unit {0}
+Fits Back = Unit {0}
+Fits (Until addr) = addr < 2 ^ 32
+Fits Show = Unit {0}
+Fits (Memory addr len) = (addr + len ≤ 2 ^ 32) × (0 < len) × (len ≤ 4096)
+Fits (Listing addr count) = (addr % 2 ≡ 0) × (addr < flash_size) × (0 < count) × (count ≤ 1000)
+
+-- a line says a command
+pub record Says (line : List ℕ) (c : Command) : Type 0 where
+  pub reads : line ≡ command_text c
+  pub fits : Fits c

@@ -1,0 +1,6 @@
+pub mod Commands
+pub mod Scripts
+pub mod Reading
+pub mod Films
+pub mod Lines
+pub mod Answers

@@ -1,0 +1,30 @@
+//! Laws of the definitions. The functions do nothing, and their clauses are what is proved.
+
+ghost use Rattle.std.specs.Prelude.{◌≡◌, ◌⊎◌, ◌++◌, List, ℕ, take};
+ghost use Rattle.hm_base.specs.Image.{flash_size};
+ghost use Rattle.hm_codes.specs.Listing.{IsListing};
+ghost use Rattle.hm_debug.specs.Answers.{IsAnswered, answers};
+ghost use Rattle.hm_debug.specs.Films.{Film};
+ghost use Rattle.hm_debug.specs.Lines.{listing_lines};
+ghost use Rattle.hm_debug.specs.Scripts.{IsScript, ScriptRefuses};
+ghost use Rattle.hm_debug.specs.declared.command.Command.{Command};
+ghost use Rattle.hm_debug.specs.declared.errors.ScriptErr.{ScriptErr};
+ghost use Rattle.hm_listing.specs.Listings.{AreEntries, Entry, lines_from};
+
+/// A text is a script, and then of one list of commands, or it is refused, and then in one way.
+pub fn script_law()
+    ensures some { (text : List ℕ) → ((cs : List Command) × IsScript text cs) ⊎ ((e : ScriptErr) × ScriptRefuses text e) }
+    ensures one { (text : List ℕ) (cs ds : List Command) → IsScript text cs → IsScript text ds → cs ≡ ds }
+    ensures one_refusal { (text : List ℕ) (d e : ScriptErr) → ScriptRefuses text d → ScriptRefuses text e → d ≡ e }
+    ensures not_both { (text : List ℕ) (cs : List Command) (e : ScriptErr) → IsScript text cs → ¬ (ScriptRefuses text e) }
+{}
+
+/// A script has one text of answers on each run. It begins with the text of each script that this one goes on with.
+pub fn answer_law()
+    ensures some { (f : Film) (text : List ℕ) (cs : List Command) → IsScript text cs → (x : List ℕ) × IsAnswered f text x }
+    ensures one { (f : Film) (text x y : List ℕ) → IsAnswered f text x → IsAnswered f text y → x ≡ y }
+    ensures grows { (f : Film) (cs ds : List Command) (t : ℕ) → (more : List ℕ) × (answers f (cs ++ ds) t ≡ answers f cs t ++ more) }
+    // Its lines of the listing are the first of those from the address up to the end of flash.
+    ensures listing { (f : Film) (a n : ℕ) (es : List Entry) → IsListing f.flash f.listing → AreEntries f.flash a flash_size es
+        → listing_lines f.flash f.listing a n ≡ lines_from a (take n es) }
+{}

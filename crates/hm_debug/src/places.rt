@@ -1,0 +1,119 @@
+//! Going to a tick of the run, and the line that names it.
+
+ghost use Rattle.std.specs.Prelude.{◌≡◌, ◌+◌, ◌-◌, ◌≤◌, ◌++◌, ◌&&◌, nat_eq, IfOk, IfSome};
+ghost use Rattle.hm_debug.specs.Answers.{Gives, at_end, at_tick, found_or_end, next_at, stands_at, to_tick};
+ghost use Rattle.hm_debug.specs.Films.{Film, IsFilm};
+ghost use Rattle.hm_debug.specs.Lines.{end_line, tick_line};
+ghost use Rattle.hm_machine.specs.Shown.{timed_of};
+
+use hm_base::OutOfMemory;
+use hm_machine::{Machine, Tape, Window};
+use hm_regs::Regs;
+use hm_text_base::{decimal, text};
+use std::alloc::Global;
+
+/// Adds the line of a tick, and answers that tick.
+pub fn stand(alloc: Global, out: &mut Vec<u8>, tick: u32) -> Result<u32, OutOfMemory>
+    ensures gives { IfOk result (λ place. Gives (at_tick tick) out.old.items out.new.items place) }
+{
+    text(out, b"tick ")?;
+    decimal(alloc, out, u64::from(tick))?;
+    text(out, b"\n")?;
+    Ok(tick)
+}
+
+/// Adds the line of the last tick, where none is as was asked for, and answers that tick.
+fn stand_at_end(alloc: Global, out: &mut Vec<u8>, last: u32) -> Result<u32, OutOfMemory>
+    ensures gives { IfOk result (λ place. Gives (at_end last) out.old.items out.new.items place) }
+{
+    text(out, b"end ")?;
+    decimal(alloc, out, u64::from(last))?;
+    text(out, b"\n")?;
+    Ok(last)
+}
+
+/// Goes to a tick of a run, or to its last one.
+pub fn go_to(alloc: Global, out: &mut Vec<u8>, last: u32, tick: u32) -> Result<u32, OutOfMemory>
+    ensures gives { IfOk result (λ place. Gives (to_tick last tick) out.old.items out.new.items place) }
+{
+    if tick <= last {
+        stand(alloc, out, tick)
+    } else {
+        stand_at_end(alloc, out, last)
+    }
+}
+
+/// Goes to the next tick, where the run has one.
+pub fn go_on(alloc: Global, out: &mut Vec<u8>, last: u32, place: u32) -> Result<u32, OutOfMemory>
+    requires within { place ≤ last }
+    ensures gives { IfOk result (λ next. Gives (to_tick last (place + 1)) out.old.items out.new.items next) }
+{
+    if place < last {
+        stand(alloc, out, place + 1)
+    } else {
+        stand_at_end(alloc, out, last)
+    }
+}
+
+/// Whether these are registers and a position of the thread between two instructions, of which the next is at an address.
+fn stands(regs: &Regs, window: Window, addr: u32) -> bool
+    ensures value { result ≡ (nat_eq regs.now.ipsr 0 && nat_eq window.a 0 && nat_eq window.b 0 && nat_eq regs.now.pc addr) }
+{
+    regs.ipsr == 0 && window.a == 0 && window.b == 0 && regs.pc == addr
+}
+
+/// Whether the thread stands between two instructions, of which the next is at an address.
+#[tactic(auto, unfolding(hm_state::specs::State::regs_of))]
+fn is_before(machine: &Machine, addr: u32) -> bool
+    ensures value { result ≡ stands_at addr (timed_of machine.now) }
+{
+    stands(machine.regs(), machine.position(), addr)
+}
+
+/// The same at a tick of a run.
+fn is_before_at(tape: &mut Tape, tick: u32, addr: u32) -> bool
+    requires within { tick ≤ tape.old.last }
+    ensures stays { tape.new ≡ tape.old }
+    ensures value { (f : Film) → IsFilm f tape.old → result ≡ stands_at addr (f.at tick) }
+{
+    match tape.at(tick) {
+        Ok(machine) => is_before(machine, addr),
+        Err(_past) => unreachable!(),
+    }
+}
+
+/// The next later tick at which the thread stands before an address. It goes through the run once.
+fn next_before(tape: &mut Tape, addr: u32, place: u32) -> Option<u32>
+    requires within { place ≤ tape.old.last }
+    ensures stays { tape.new ≡ tape.old }
+    ensures within { IfSome result (λ tick. tick ≤ tape.old.last) }
+    ensures next { (f : Film) → IsFilm f tape.old → result ≡ next_at (λ u. stands_at addr (f.at u)) place (tape.old.last - place) }
+{
+    let last = tape.last();
+    for tick in place..last {
+        if is_before_at(tape, tick + 1, addr) {
+            return Some(tick + 1);
+        }
+    }
+    None
+}
+
+/// Goes to the next later tick at which the thread stands before an address, or to the last one.
+pub fn go_before(
+    alloc: Global,
+    out: &mut Vec<u8>,
+    tape: &mut Tape,
+    addr: u32,
+    place: u32,
+) -> Result<u32, OutOfMemory>
+    requires within { place ≤ tape.old.last }
+    ensures stays { tape.new ≡ tape.old }
+    ensures within { IfOk result (λ tick. tick ≤ tape.old.last) }
+    ensures gives { (f : Film) → IsFilm f tape.old
+        → IfOk result (λ tick. Gives (found_or_end tape.old.last (next_at (λ u. stands_at addr (f.at u)) place (tape.old.last - place))) out.old.items out.new.items tick) }
+{
+    match next_before(tape, addr, place) {
+        Some(tick) => stand(alloc, out, tick),
+        None => stand_at_end(alloc, out, tape.last()),
+    }
+}

@@ -1,0 +1,171 @@
+//! Doing a script: each command, at the place where the one before it left off.
+
+ghost use Rattle.std.specs.Prelude.{◌≡◌, ℕ, ◌+◌, ◌/◌, ◌≤◌, ◌++◌, List, IfOk, IfErr, OnOk};
+ghost use Rattle.hm_base.specs.Image.{Segment, flash_byte};
+ghost use Rattle.hm_codes.specs.Listing.{IsListing, Listing};
+ghost use Rattle.hm_debug.specs.Answers.{Gives, IsAnswered, answer, answers, stay};
+ghost use Rattle.hm_debug.specs.Commands.{Fits, Says};
+ghost use Rattle.hm_debug.specs.Films.{Film, IsFilm, film_of};
+ghost use Rattle.hm_debug.specs.Lines.{listing_lines, memory_lines};
+ghost use Rattle.hm_debug.specs.Scripts.{IsScript, SayAll, ScriptStops};
+ghost use Rattle.hm_debug.specs.declared.command.Command.{Command};
+ghost use Rattle.hm_machine.specs.Taped.{Tapes};
+ghost use Rattle.hm_run.specs.Report.{report_text};
+ghost use Rattle.hm_sched.specs.Schedule.{Sched};
+ghost use Rattle.hm_text_base.specs.Spans.{lines_of};
+
+use crate::checking::{check_script, next_line};
+use crate::command::{Command, read_command};
+use crate::errors::ScriptErr;
+use crate::flash::add_listing;
+use crate::memory::add_memory;
+use crate::places::{go_before, go_on, go_to, stand};
+use hm_base::OutOfMemory;
+use hm_machine::Tape;
+use hm_text_base::text;
+use std::alloc::Global;
+
+/// Adds the report at a tick.
+fn show(alloc: Global, out: &mut Vec<u8>, tape: &mut Tape, tick: u32) -> Result<(), OutOfMemory>
+    requires within { tick ≤ tape.old.last }
+    ensures stays { tape.new ≡ tape.old }
+    ensures added { (f : Film) → IsFilm f tape.old → IfOk result (λ _. out.new.items ≡ out.old.items ++ report_text (f.at tick)) }
+{
+    match tape.at(tick) {
+        Ok(machine) => {
+            let report = machine.report(alloc)?;
+            text(out, &report)
+        }
+        Err(_past) => unreachable!(),
+    }
+}
+
+/// Adds bytes of memory at a tick.
+fn show_memory(
+    out: &mut Vec<u8>,
+    tape: &mut Tape,
+    addr: u32,
+    len: u32,
+    tick: u32,
+) -> Result<(), OutOfMemory>
+    requires fits { Fits (Command.Memory addr len) }
+    requires within { tick ≤ tape.old.last }
+    ensures stays { tape.new ≡ tape.old }
+    ensures added { (f : Film) → IsFilm f tape.old
+        → IfOk result (λ _. out.new.items ≡ out.old.items ++ memory_lines (f.at tick).config.state addr len ((len + 15) / 16)) }
+{
+    match tape.at(tick) {
+        Ok(machine) => add_memory(out, machine, addr, len),
+        Err(_past) => unreachable!(),
+    }
+}
+
+/// Adds lines of the listing. No tick changes flash: it is told at the start of the run, where it is that of the image.
+fn show_listing(
+    out: &mut Vec<u8>,
+    tape: &mut Tape,
+    addr: u32,
+    count: u32,
+) -> Result<(), OutOfMemory>
+    requires fits { Fits (Command.Listing addr count) }
+    ensures stays { tape.new ≡ tape.old }
+    ensures added { (f : Film) → IsFilm f tape.old → IfOk result (λ _. out.new.items ≡ out.old.items ++ listing_lines f.flash f.listing addr count) }
+{
+    match tape.at(0) {
+        Ok(machine) => add_listing(out, machine, addr, count),
+        Err(_past) => unreachable!(),
+    }
+}
+
+/// Does a command at a place: adds its answer, and gives the place after it.
+fn answer(
+    alloc: Global,
+    out: &mut Vec<u8>,
+    tape: &mut Tape,
+    command: Command,
+    place: u32,
+) -> Result<u32, OutOfMemory>
+    requires fits { Fits command }
+    requires within { place ≤ tape.old.last }
+    ensures stays { tape.new ≡ tape.old }
+    ensures within { IfOk result (λ next. next ≤ tape.old.last) }
+    ensures gives { (f : Film) → IsFilm f tape.old → IfOk result (λ next. Gives (answer f command place) out.old.items out.new.items next) }
+{
+    match command {
+        Command::Goto { tick } => go_to(alloc, out, tape.last(), tick),
+        Command::Step => go_on(alloc, out, tape.last(), place),
+        Command::Back => stand(alloc, out, place.saturating_sub(1)),
+        Command::Until { addr } => go_before(alloc, out, tape, addr, place),
+        Command::Show => {
+            show(alloc, out, tape, place)?;
+            Ok(place)
+        }
+        Command::Memory { addr, len } => {
+            show_memory(out, tape, addr, len, place)?;
+            Ok(place)
+        }
+        Command::Listing { addr, count } => {
+            show_listing(out, tape, addr, count)?;
+            Ok(place)
+        }
+    }
+}
+
+/// Does the command that a line says.
+fn do_line(
+    alloc: Global,
+    out: &mut Vec<u8>,
+    tape: &mut Tape,
+    line: &[u8],
+    place: u32,
+) -> Result<u32, OutOfMemory>
+    requires said { (c : Command) × Says line.now c }
+    requires within { place ≤ tape.old.last }
+    ensures stays { tape.new ≡ tape.old }
+    ensures within { IfOk result (λ next. next ≤ tape.old.last) }
+    ensures gives { (f : Film) (c : Command) → IsFilm f tape.old → Says line.now c → IfOk result (λ next. Gives (answer f c place) out.old.items out.new.items next) }
+{
+    match read_command(line) {
+        Some(command) => answer(alloc, out, tape, command, place),
+        None => unreachable!(),
+    }
+}
+
+/// Does all lines of a script, from tick 0 on.
+fn do_lines(alloc: Global, tape: &mut Tape, text: &[u8]) -> Result<Vec<u8>, OutOfMemory>
+    requires said { (cs : List Command) × SayAll (lines_of text.now) cs }
+    ensures stays { tape.new ≡ tape.old }
+    ensures answers { (f : Film) (cs : List Command) → IsFilm f tape.old → SayAll (lines_of text.now) cs → IfOk result (λ out. out.items ≡ answers f cs 0) }
+{
+    let mut out = Vec::new(alloc);
+    let mut place = 0;
+    let mut rest = text;
+    while let Some((line, after)) = next_line(rest) {
+        match do_line(alloc, &mut out, tape, line, place) {
+            Ok(next) => place = next,
+            Err(e) => return Err(e),
+        }
+        rest = after;
+    }
+    Ok(out)
+}
+
+/// What a script answers on the run that a tape holds, from tick 0 on.
+///
+/// `goto N`, `step`, `back` and `until ADDR` go to a tick and answer `tick T`, or `end T` with the last tick T of the run where it has
+/// none that was asked for; `show`, `mem ADDR LEN` and `dis ADDR COUNT` answer the report, bytes of memory and lines of the listing there.
+/// Each answer is that of the tick, whatever was shown before. The script is read whole before its first command is done: the refusals are
+/// those of `check_script`, and OutOfMemory.
+pub fn script(alloc: Global, tape: &mut Tape, text: &[u8]) -> Result<Vec<u8>, ScriptErr>
+    ensures answers { IfOk result (λ out. (image : List Segment) (s : Sched) (listing : Listing) → IsListing (flash_byte image) listing → Tapes image s tape.old
+        → IsAnswered (film_of listing image s) text.now out.items) }
+    ensures stays { tape.new ≡ tape.old }
+    ensures fine { OnOk result ((cs : List Command) × IsScript text.now cs) }
+    ensures refused { IfErr result (λ e. ScriptStops text.now e) }
+{
+    check_script(text)?;
+    match do_lines(alloc, tape, text) {
+        Ok(out) => Ok(out),
+        Err(_no_memory) => Err(ScriptErr::OutOfMemory),
+    }
+}
