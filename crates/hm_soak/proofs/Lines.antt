@@ -1,0 +1,104 @@
+-- Lines that are added to a schedule, pair by pair.
+use Rattle.std.proofs.Common.{◌≡◌, ◌≢◌, ℕ, zero, suc, ◌+◌, ◌*◌, ◌%◌, ◌≤◌, Bool, true, false, cond, nat_eq, List, [], ◌∷◌, ◌++◌, refl, sym, ap, ◌∙◌, arith, inl, inr}
+use Rattle.std.specs.List.{All}
+use Rattle.std.specs.Prelude.{IfOk, Result, Ok, Err}
+use Rattle.std.proofs.lemmas.Bool.Decides.{nat_tests}
+use Rattle.std.proofs.lemmas.List.{append_assoc}
+use Rattle.std.proofs.lemmas.List.Elements.{All-cons, All-nil}
+use Rattle.std.proofs.lemmas.List.Sums.{sum_by-append}
+use Rattle.hm_base.specs.Image.{sram_start}
+use Rattle.hm_base.specs.declared.errors.OutOfMemory.{OutOfMemory}
+use Rattle.hm_sched.specs.Schedule.{IsLetter, Sched, TickLine, older_letter, total, whole_letter, younger_letter}
+use Rattle.hm_soak.specs.Lines.{with_lines}
+use Rattle.hm_soak_laws.specs.Schedule.{both, pair_lines, pairs, schedule, twice, wholes}
+
+-- LETTERS
+pub one_whole : All IsLetter (whole_letter ∷ [])
+one_whole = All-cons IsLetter whole_letter [] (inr (inr refl)) (All-nil IsLetter)
+
+pub two_older : All IsLetter (older_letter ∷ older_letter ∷ [])
+two_older = All-cons IsLetter older_letter (older_letter ∷ []) (inl refl) (All-cons IsLetter older_letter [] (inl refl) (All-nil IsLetter))
+
+pub one_each : All IsLetter (older_letter ∷ younger_letter ∷ [])
+one_each = All-cons IsLetter older_letter (younger_letter ∷ []) (inl refl) (All-cons IsLetter younger_letter [] (inr (inl refl)) (All-nil IsLetter))
+
+-- LINES behind others
+pub total_with : (xs : List TickLine) (s : Sched) → total (with_lines xs s).lines ≡ total s.lines + total xs
+total_with xs s = sum_by-append (λ (line : TickLine). line.count) s.lines xs
+
+pub twice_with : (xs ys : List TickLine) (s : Sched) → with_lines ys (with_lines xs s) ≡ with_lines (xs ++ ys) s
+twice_with xs ys s = ap (λ (ls : List TickLine). record s { lines = ls }) (append_assoc s.lines xs ys)
+
+pub with_more : (xs ys : List TickLine) (a b c : Sched) → b ≡ with_lines xs a → c ≡ with_lines ys b → c ≡ with_lines (xs ++ ys) a
+with_more xs ys a b c h k = k ∙ ap (with_lines ys) h ∙ twice_with xs ys a
+
+-- by a last call that may find no memory
+pub with_last : (xs ys : List TickLine) (a b c : Sched) (r : Result (Unit {0}) OutOfMemory) → b ≡ with_lines xs a → IfOk r (λ u. c ≡ with_lines ys b) → IfOk r (λ u. c ≡ with_lines (xs ++ ys) a)
+with_last xs ys a b c (Ok u) h k = with_more xs ys a b c h k
+with_last xs ys a b c (Err e) h none = tt
+
+pub total_more : (xs : List TickLine) (a b : Sched) → b ≡ with_lines xs a → total b.lines ≡ total a.lines + total xs
+total_more xs a b h = ap (λ (s : Sched). total s.lines) h ∙ total_with xs a
+
+append_none : (xs : List TickLine) → xs ++ [] ≡ xs
+append_none [] = refl
+append_none (x ∷ xs) = ap (λ (l : List TickLine). x ∷ l) (append_none xs)
+
+-- PAIRS
+pub pair_entered : (p : ℕ) → p % 64 ≡ 0 → pair_lines p ≡ twice 1 ∷ both 1 ∷ wholes 3 ∷ []
+pair_entered p e = let t : nat_eq (p % 64) 0 ≡ true = grind (arith, nat_tests) in ap (λ (b : Bool). cond b (twice 1 ∷ both 1 ∷ wholes 3 ∷ []) (twice 1 ∷ both 0 ∷ [])) t
+
+pub pair_alone : (p : ℕ) → p % 64 ≢ 0 → pair_lines p ≡ twice 1 ∷ both 0 ∷ []
+pair_alone p e = let t : nat_eq (p % 64) 0 ≡ false = grind (arith, nat_tests) in ap (λ (b : Bool). cond b (twice 1 ∷ both 1 ∷ wholes 3 ∷ []) (twice 1 ∷ both 0 ∷ [])) t
+
+either_few : (b : Bool) → total (cond b (twice 1 ∷ both 1 ∷ wholes 3 ∷ []) (twice 1 ∷ both 0 ∷ [])) ≤ 5
+either_few true = let e : total (twice 1 ∷ both 1 ∷ wholes 3 ∷ []) ≡ 5 = refl in omega arith
+either_few false = let e : total (twice 1 ∷ both 0 ∷ []) ≡ 2 = refl in omega arith
+
+pub pair_few : (p : ℕ) → total (pair_lines p) ≤ 5
+pair_few p = either_few (nat_eq (p % 64) 0)
+
+pairs_more : (n p : ℕ) → pairs (suc n) p ≡ pairs n p ++ pair_lines (p + n)
+unfolding pairs
+pairs_more zero p = let e : p ≡ p + 0 = omega arith in append_none (pair_lines p) ∙ ap pair_lines e
+pairs_more (suc n) p =
+    let e : p + 1 + n ≡ p + suc n = omega arith in
+    ap (λ (l : List TickLine). pair_lines p ++ l) (pairs_more n (p + 1) ∙ ap (λ (k : ℕ). pairs n (p + 1) ++ pair_lines k) e)
+    ∙ sym (append_assoc (pair_lines p) (pairs n (p + 1)) (pair_lines (p + suc n)))
+
+pairs_none : (p : ℕ) → pairs 0 p ≡ []
+unfolding pairs
+pairs_none p = refl
+
+-- the first n pairs, and room for five ticks each
+pub record Paired (old : Sched) (n : ℕ) (new : Sched) : Type 0 where
+  pub lines : new ≡ with_lines (pairs n 1) old
+  pub few : total new.lines ≤ total old.lines + 5 * n
+
+pub paired_none : (old : Sched) → Paired old 0 old
+paired_none old = record {
+  lines = ap (λ (ls : List TickLine). record old { lines = ls }) (sym (append_none old.lines) ∙ ap (λ (l : List TickLine). old.lines ++ l) (sym (pairs_none 1)));
+  few = omega arith;
+}
+
+pub paired_next : (old : Sched) (n : ℕ) (new newer : Sched) → Paired old n new → newer ≡ with_lines (pair_lines (n + 1)) new → Paired old (n + 1) newer
+paired_next old n new newer h e =
+    let s : suc n ≡ n + 1 = omega arith in
+    let z : n + 1 ≡ 1 + n = omega arith in
+    let here : newer ≡ with_lines (pair_lines (1 + n)) new = e ∙ ap (λ (k : ℕ). with_lines (pair_lines k) new) z in
+    let few = pair_few (n + 1) in
+    let sum = total_more (pair_lines (n + 1)) new newer e in
+    let before = h.few in
+    record {
+      lines = with_more (pairs n 1) (pair_lines (1 + n)) old new newer h.lines here ∙ ap (λ (l : List TickLine). with_lines l old) (sym (pairs_more n 1) ∙ ap (λ (k : ℕ). pairs k 1) s);
+      few = omega arith;
+    }
+
+-- THE WHOLE, behind no lines
+pub all_lines : (a b c d e : Sched) → a ≡ record { entries = true; lo = sram_start; hi = sram_start; floor = 0x2000f000; lines = [] } → b ≡ with_lines (wholes 16 ∷ []) a → c ≡ with_lines (pairs 4095 1) b
+    → d ≡ with_lines (twice 2 ∷ []) c → e ≡ with_lines (wholes 1 ∷ []) d → e ≡ schedule
+unfolding schedule
+all_lines a b c d e h i j k l =
+    let back = with_more (twice 2 ∷ []) (wholes 1 ∷ []) c d e k l in
+    let middle = with_more (pairs 4095 1) (twice 2 ∷ wholes 1 ∷ []) b c e j back in
+    with_more (wholes 16 ∷ []) (pairs 4095 1 ++ (twice 2 ∷ wholes 1 ∷ [])) a b e i middle ∙ ap (with_lines (wholes 16 ∷ (pairs 4095 1 ++ (twice 2 ∷ wholes 1 ∷ [])))) h

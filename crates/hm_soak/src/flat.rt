@@ -1,0 +1,74 @@
+//! The image of a soak: one segment, in flash from 0 on.
+
+ghost use Rattle.std.specs.Prelude.{◌≡◌, ◌<◌, ◌≤◌, length, IfOk};
+ghost use Rattle.hm_base.specs.Image.{flash_size, flat};
+ghost use Rattle.hm_soak_laws.specs.Image.{IsSoak, vectors};
+
+use crate::bytes::add_word;
+use crate::code::{OPERATIONS, add_instructions};
+use crate::refusals::of_image;
+use hm_base::{Image, OutOfMemory};
+use std::alloc::Global;
+
+/// The stack pointer at the reset.
+const STACK: u32 = 0x2001_0000;
+
+/// Where the first instruction stands: behind the vectors.
+const FIRST: u32 = 0x44;
+
+/// Where the handler stands: behind the head, the four registers that are filled, the operations and the breakpoint.
+const HANDLER: u32 = FIRST + 12 + 4 * 12 + OPERATIONS * 4 + 2;
+
+/// The vectors: the stack pointer, the first instruction, those of exceptions that never come, and that of interrupt 0.
+const VECTORS: [u32; 17] = [
+    STACK,
+    FIRST + 1,
+    0,
+    0,
+    0,
+    0,
+    0,
+    0,
+    0,
+    0,
+    0,
+    0,
+    0,
+    0,
+    0,
+    0,
+    HANDLER + 1,
+];
+
+/// The bytes of the vectors.
+fn vector_bytes(alloc: Global) -> Result<Vec<u8>, OutOfMemory>
+    ensures value { IfOk result (λ bytes. bytes.items ≡ vectors) }
+{
+    let mut bytes = Vec::new(alloc);
+    for word in VECTORS {
+        add_word(&mut bytes, word)?;
+    }
+    Ok(bytes)
+}
+
+/// The image of bytes that lie in flash from 0 on.
+fn flat_image(alloc: Global, bytes: Vec<u8>) -> Result<Image, OutOfMemory>
+    requires some { 0 < length bytes.items }
+    requires few { length bytes.items ≤ flash_size }
+    ensures value { IfOk result (λ image. image ≡ flat bytes.items) }
+{
+    let mut image = Image::new(alloc);
+    match image.add(0, bytes) {
+        Ok(()) => Ok(image),
+        Err(e) => Err(of_image(e)),
+    }
+}
+
+/// The image of the soak of a number.
+pub fn soak_image(alloc: Global, number: u32) -> Result<Image, OutOfMemory>
+    ensures soak { IfOk result (λ image. IsSoak number image) }
+{
+    let mut bytes = vector_bytes(alloc)?;
+    add_instructions(&mut bytes, number)?;
+    flat_image(alloc, bytes)
+}

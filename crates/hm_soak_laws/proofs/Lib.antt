@@ -1,0 +1,13 @@
+pub mod Straight
+pub mod Rows
+pub mod Standing
+pub mod Items
+pub mod Head
+pub mod Counting
+pub mod Ends
+pub mod Whole
+pub mod Handler
+pub mod Schedules
+pub mod Codes
+pub mod Given
+pub mod Line
