@@ -7,7 +7,7 @@ use Rattle.hm_codes.specs.Listing.{IsListing, Listing}
 use Rattle.hm_handlers.specs.Runs.{Run, begin, closed, run}
 use Rattle.hm_machine.proofs.Runs.{closed_on}
 use Rattle.hm_machine.proofs.Ticks.{shows_end, shows_past}
-use Rattle.hm_machine.specs.Shown.{Shown, Shows, timed_of}
+use Rattle.hm_machine.specs.Shown.{Shown, Shows, fixed_of, timed_of}
 use Rattle.hm_order.proofs.Results.{decide}
 use Rattle.hm_run.specs.declared.Outcome.{Outcome}
 use Rattle.hm_sched.proofs.Ticks.{length-ticks_of}
@@ -82,3 +82,15 @@ few_left image m h =
     let running : m.outcome ≡ None = ap (λ (r : Run). r.outcome) (h.now there.0 there.1 ∙ closed_on (ticks_of schedule.lines) (begin image schedule) some) in
     let left : length m.left ≡ length (ticks_of schedule.lines) = ap length (h.left running) in
     omega arith
+
+-- and its schedule has lines
+some_lines : 0 < length schedule.lines
+unfolding schedule
+some_lines = omega arith
+
+pub lines_there : (image : List Segment) (m : Shown) → Shows image schedule 0 m → 0 < length m.schedule.lines
+lines_there image m h = subst (λ (s : Sched). 0 < length s.lines) (sym h.plan) some_lines
+
+-- they stay
+pub lines_stay : (m n : Shown) → fixed_of n ≡ fixed_of m → 0 < length m.schedule.lines → 0 < length n.schedule.lines
+lines_stay m n same h = subst (λ (s : Sched). 0 < length s.lines) (sym (ap (λ x. x.schedule) same)) h

@@ -55,6 +55,7 @@ fn entry(begins_in_thread: bool, ends_in_thread: bool) -> u32
 /// Runs a machine to its end. It gives how many ticks began in the thread and ended in a handler.
 pub fn run_counting(machine: &mut Machine) -> u32
     requires few { length machine.old.left < 2 ^ 32 }
+    requires lines { 0 < length machine.old.schedule.lines }
     ensures over { (image : List Segment) (s : Sched) → Shows image s 0 machine.old → IsOver image s machine.new }
     ensures entered { (image : List Segment) (s : Sched) → Shows image s 0 machine.old → CountsEntries image s result }
 {

@@ -2,17 +2,22 @@ use Rattle.std.proofs.Common.{subst}
 use Rattle.hm_machine.specs.Shown.{Shows}
 use Rattle.hm_sched.specs.Schedule.{Sched}
 use Rattle.hm_soak_laws.specs.Schedule.{schedule}
-use Rattle.hm_soak.proofs.Counted.{few_left}
+use Rattle.hm_soak.proofs.Counted.{few_left, lines_there}
 use Rattle.hm_soak.proofs.Overs.{equal_ok, line_ok, odd_reset}
 use Rattle.hm_soak.proofs.shown.summary.Goals as goal
 
 pub load-requires : goal.load-requires
 load-requires c = record { odd = odd_reset c.args.number c.in_ok-image.image c.in_ok-image.ensures.image }
 
-pub run_counting-entries-requires : goal.run_counting-entries-requires
-run_counting-entries-requires c =
+pub run_counting-entries-requires-clause-few : goal.run_counting-entries-requires-clause-few
+run_counting-entries-requires-clause-few c =
     let begins = subst (λ (s : Sched). Shows c.in_ok-image.image s 0 c.in_ok-scheduled.scheduled) c.in_ok-image.ensures.schedule c.in_ok-scheduled.ensures.shows in
-    record { few = few_left c.in_ok-image.image c.in_ok-scheduled.scheduled begins }
+    few_left c.in_ok-image.image c.in_ok-scheduled.scheduled begins
+
+pub run_counting-entries-requires-clause-lines : goal.run_counting-entries-requires-clause-lines
+run_counting-entries-requires-clause-lines c =
+    let begins = subst (λ (s : Sched). Shows c.in_ok-image.image s 0 c.in_ok-scheduled.scheduled) c.in_ok-image.ensures.schedule c.in_ok-scheduled.ensures.shows in
+    lines_there c.in_ok-image.image c.in_ok-scheduled.scheduled begins
 
 pub run_plainly-requires : goal.run_plainly-requires
 run_plainly-requires c = record { odd = odd_reset c.args.number c.in_ok-image.image c.in_ok-image.ensures.image }
