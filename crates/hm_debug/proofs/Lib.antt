@@ -9,3 +9,4 @@ pub mod Going
 pub mod Answering
 pub mod Flashes
 pub mod AnswerLaws
+pub mod Modes

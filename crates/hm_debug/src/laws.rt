@@ -1,15 +1,17 @@
 //! Laws of the definitions. The functions do nothing, and their clauses are what is proved.
 
-ghost use Rattle.std.specs.Prelude.{◌≡◌, ◌⊎◌, ◌++◌, List, ℕ, take};
-ghost use Rattle.hm_base.specs.Image.{flash_size};
-ghost use Rattle.hm_codes.specs.Listing.{IsListing};
+ghost use Rattle.std.specs.Prelude.{◌≡◌, ◌⊎◌, ◌↔◌, ◌++◌, List, [], ℕ, None, take};
+ghost use Rattle.hm_base.specs.Image.{Segment, flash_size};
+ghost use Rattle.hm_codes.specs.Listing.{IsListing, Listing};
 ghost use Rattle.hm_debug.specs.Answers.{IsAnswered, answers};
 ghost use Rattle.hm_debug.specs.Films.{Film};
 ghost use Rattle.hm_debug.specs.Lines.{listing_lines};
 ghost use Rattle.hm_debug.specs.Scripts.{IsScript, ScriptRefuses};
 ghost use Rattle.hm_debug.specs.declared.command.Command.{Command};
 ghost use Rattle.hm_debug.specs.declared.errors.ScriptErr.{ScriptErr};
+ghost use Rattle.hm_handlers.specs.Runs.{run};
 ghost use Rattle.hm_listing.specs.Listings.{AreEntries, Entry, lines_from};
+ghost use Rattle.hm_sched.specs.Schedule.{Sched};
 
 /// A text is a script, and then of one list of commands, or it is refused, and then in one way.
 pub fn script_law()
@@ -27,4 +29,10 @@ pub fn answer_law()
     // Its lines of the listing are the first of those from the address up to the end of flash.
     ensures listing { (f : Film) (a n : ℕ) (es : List Entry) → IsListing f.flash f.listing → AreEntries f.flash a flash_size es
         → listing_lines f.flash f.listing a n ≡ lines_from a (take n es) }
+{}
+
+/// While a run goes on, the exception number is 0 exactly where no exception is active: `until` looks at thread mode as a report tells it.
+pub fn thread_law()
+    ensures thread { (listing : Listing) (image : List Segment) (s : Sched) (t : ℕ) → let x = run listing image s t in x.outcome ≡ None
+        → ((x.machine.config.state.rest.ipsr ≡ 0) ↔ (x.machine.acts ≡ [])) }
 {}
