@@ -125,6 +125,7 @@ impl Machine {
         ensures bare { IfOk result (λ m. IsBare m) }
         ensures shows { IfOk result (λ m. ShowsGiven image.now [] m) }
         ensures running { IfOk result (λ m. m.outcome ≡ None) }
+        ensures odd { IfOk result (λ _. reset_pc image.now % 2 ≡ 1) }
         ensures refused { IfErr result (λ e. LoadRefuses image.now e) }
     {
         let schedule = Schedule::begin(alloc, false, SRAM_START, SRAM_START, SRAM_START);

@@ -1,6 +1,6 @@
 //! The plan, tick by tick.
 
-ghost use Rattle.std.specs.Prelude.{◌≡◌, ℕ, ◌+◌, ◌*◌, ◌≤◌, false, [], ◌∷◌, List, drop, length, IfOk, IfErr};
+ghost use Rattle.std.specs.Prelude.{◌≡◌, ℕ, ◌+◌, ◌*◌, ◌%◌, ◌≤◌, false, [], ◌∷◌, List, drop, length, IfOk, IfErr};
 ghost use Rattle.std.specs.Option.{is_some};
 ghost use Rattle.hm_base.specs.Image.{Segment, flash_byte};
 ghost use Rattle.hm_codes.specs.Listing.{Listing, IsListing};
@@ -15,6 +15,7 @@ ghost use Rattle.hm_run.specs.InOrder.{in_order};
 ghost use Rattle.hm_run.specs.Program.{vector_in, vector_of};
 ghost use Rattle.hm_run.specs.Timed.{timed, timed_out};
 ghost use Rattle.hm_sched.specs.Schedule.{TickLine, older_letter, ticks_of};
+ghost use Rattle.hm_state.specs.Start.{reset_pc};
 
 use crate::lines::{Lines, finish, letters, push};
 use hm_base::{Image, SRAM_START};
@@ -86,6 +87,7 @@ pub fn plan(alloc: Global, image: &Image, n: u32) -> Result<Schedule, LoadErr>
     ensures dense { IfOk result (λ s. (listing : Listing) → IsListing (flash_byte image.now) listing → (t : ℕ) (line : TickLine) (left : List TickLine)
         → drop t (ticks_of s.lines) ≡ line ∷ left → line.letters ≡ older_letter ∷ [] → let c = (timed listing image.now s t).config in
         IsReady (bare_program listing) c → n ≤ c.n + 1) }
+    ensures odd { IfOk result (λ _. reset_pc image.now % 2 ≡ 1) }
     ensures refused { IfErr result (λ e. LoadRefuses image.now e) }
 {
     plan_in_order();
@@ -97,6 +99,7 @@ pub fn plan(alloc: Global, image: &Image, n: u32) -> Result<Schedule, LoadErr>
 fn grown(alloc: Global, image: &Image, n: u32) -> Result<Schedule, LoadErr>
     requires few { n ≤ 262144 }
     ensures planned { IfOk result (λ s. (listing : Listing) → IsListing (flash_byte image.now) listing → s ≡ planned listing image.now n) }
+    ensures odd { IfOk result (λ _. reset_pc image.now % 2 ≡ 1) }
     ensures refused { IfErr result (λ e. LoadRefuses image.now e) }
 {
     let mut machine = Machine::bare(alloc, image)?;
