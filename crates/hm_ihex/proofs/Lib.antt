@@ -4,3 +4,7 @@ pub mod Lines
 pub mod Steps
 pub mod WrittenLines
 pub mod Pieces
+pub mod Filled
+pub mod Again
+pub mod ReadBack
+pub mod SameBytes

@@ -7,7 +7,7 @@ use Rattle.hm_base.specs.Image.{IsPlaced, Segment, flash_size, segment, sram_siz
 use Rattle.hm_ihex.specs.Cells.{front_of, onto_runs, runs}
 
 -- all segments begin at an address or behind it
-abbrev From : ℕ → List Segment → Type 0
+abbrev pub From : ℕ → List Segment → Type 0
 From a [] = Unit {0}
 From a (s ∷ ss) = (a ≤ s.addr) × From a ss
 
@@ -23,7 +23,7 @@ onto_from a (Some b) (s ∷ ss) h = elim (eqb s.addr (a + 1)) as (λ t. From a (
   | false ↦ (omega arith, from_later a (a + 1) (s ∷ ss) (omega arith) h)
 ]
 
-runs_from : (a : ℕ) (cs : List (Option ℕ)) → From a (runs a cs)
+pub runs_from : (a : ℕ) (cs : List (Option ℕ)) → From a (runs a cs)
 unfolding runs
 runs_from a [] = tt
 runs_from a (c ∷ cs) = onto_from a c (runs (a + 1) cs) (runs_from (a + 1) cs)

@@ -1,6 +1,6 @@
 -- The one file of Intel HEX that an image is written as.
-use Rattle.std.specs.Prelude.{ℕ, zero, suc, ◌+◌, ◌-◌, ◌/◌, ◌%◌, List, [], ◌∷◌, ◌++◌, codes, drop, length, take, nat_eq, nat_lt, if◌then◌else◌}
-use Rattle.std.specs.List.{flat_map}
+use Rattle.std.specs.Prelude.{ℕ, zero, suc, ◌+◌, ◌-◌, ◌/◌, ◌%◌, ◌<◌, List, [], ◌∷◌, ◌++◌, codes, drop, length, take, nat_eq, nat_lt, if◌then◌else◌}
+use Rattle.std.specs.List.{AllByRecursion, flat_map}
 use Rattle.hm_base.specs.Image.{Segment, segment}
 use Rattle.hm_text_base.specs.Spans.{line}
 use Rattle.hm_ihex.specs.Records.{sum_of}
@@ -74,3 +74,7 @@ joined_to s (t ∷ ts) = if nat_eq t.addr (s.addr + length s.bytes) then segment
 abbrev pub joined : List Segment → List Segment
 joined [] = []
 joined (s ∷ ss) = joined_to s (joined ss)
+
+-- the bytes of all segments are bytes
+abbrev pub AreBytes : List Segment → Type 0
+AreBytes image = AllByRecursion (λ s. AllByRecursion (λ b. b < 256) s.bytes) image

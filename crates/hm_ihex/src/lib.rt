@@ -3,9 +3,11 @@
 
 mod areas;
 mod collect;
+mod laws;
 mod reading;
 mod record;
 mod writing;
 
+pub use laws::hex_law;
 pub use reading::read_hex;
 pub use writing::write_hex;

@@ -1,10 +1,11 @@
 //! Images written as Intel HEX.
 
-ghost use Rattle.std.specs.Prelude.{◌≡◌, ◌⊎◌, ◌+◌, ◌*◌, ◌/◌, ◌%◌, ◌<◌, ◌≤◌, ◌++◌, ◌∷◌, ℕ, List, [], IfOk, OnOk, length};
-ghost use Rattle.std.specs.List.{flat_map};
+ghost use Rattle.std.specs.Prelude.{◌≡◌, ◌⊎◌, ◌+◌, ◌*◌, ◌/◌, ◌%◌, ◌<◌, ◌≤◌, ◌++◌, ◌∷◌, ℕ, List, [], Ok, IfOk, OnOk, length};
+ghost use Rattle.std.specs.List.{AllByRecursion, flat_map};
 ghost use Rattle.hm_base.specs.Image.{IsPlaced, Segment, segment};
 ghost use Rattle.hm_text_base.specs.Spans.{line};
-ghost use Rattle.hm_ihex.specs.Written.{base_lines, check_of, data_text, digit, digits_of, end_text, hex_file, pieces, record_text, room_at, text_of};
+ghost use Rattle.hm_ihex.specs.Files.{hex_in};
+ghost use Rattle.hm_ihex.specs.Written.{base_lines, check_of, data_text, digit, digits_of, end_text, hex_file, joined, pieces, record_text, room_at, text_of};
 
 use crate::record::sum;
 use hm_base::{Image, OutOfMemory};
@@ -105,6 +106,7 @@ fn piece_end(count: usize, at: usize, room: usize) -> usize
 fn add_segment(out: &mut Vec<u8>, last: u32, address: u32, bytes: &[u8]) -> Result<u32, OutOfMemory>
     requires within { address + length bytes.now ≤ 4294967296 }
     ensures added { IfOk result (λ upper. (rest : List Segment) → out.new.items ++ text_of upper rest ≡ out.old.items ++ text_of last (pieces (length bytes.now) address bytes.now ++ rest)) }
+    ensures bytes { IfOk result (λ _. AllByRecursion (λ b. b < 256) bytes.now) }
 {
     let mut upper = last;
     let mut at = 0;
@@ -120,9 +122,11 @@ fn add_segment(out: &mut Vec<u8>, last: u32, address: u32, bytes: &[u8]) -> Resu
 }
 
 /// The one file of Intel HEX of an image: upper-case digits, each segment from its first byte in records of 16 bytes, a shorter one at its end or
-/// at a multiple of 65,536, a record of kind 04 where the upper half of an address changes, and the end record.
+/// at a multiple of 65,536, a record of kind 04 where the upper half of an address changes, and the end record. Read again, it gives the image,
+/// those segments that touch made one.
 pub fn write_hex(alloc: Global, image: &Image) -> Result<Vec<u8>, OutOfMemory>
     ensures text { IfOk result (λ v. v.items ≡ hex_file image.now) }
+    ensures read_back { IfOk result (λ v. hex_in v.items ≡ Ok (joined image.now)) }
 {
     let mut out = Vec::new(alloc);
     let mut upper = 0;

@@ -1,6 +1,7 @@
 use Rattle.std.proofs.Common.{◌≡◌, ◌⊎◌, ◌+◌, ◌-◌, ◌<◌, ◌≤◌, ℕ, drop, length, take, subst}
 use Rattle.hm_ihex.specs.Written.{pieces, room_at}
 use Rattle.hm_ihex.proofs.Pieces.{no_piece, on_piece, piece_at}
+use Rattle.hm_ihex.proofs.ReadBack.{bytes_from}
 use Rattle.hm_ihex.proofs.writing.add_segment.Goals as goal
 
 pub loop-at-preserved : goal.loop-at-preserved
@@ -14,6 +15,7 @@ loop-at-preserved c =
     let piece = piece_at c.args.address at end bytes c.loop-at-test.true h in
     record {
       within = c.piece_end-end.ensures.last;
+      bytes = c.loop-at.invariant.bytes;
       added = λ rest. on_piece c.loop-at.out.items c.add_base.new.out.items c.add_data.new.out.items c.loop-at.upper start (take (end - at) (drop at bytes))
           (pieces (length bytes - at) start (drop at bytes)) (pieces (length bytes - end) (c.args.address + end) (drop end bytes)) rest _
           c.in_ok-add_base.ensures.added c.in_ok-add_data.ensures.added piece.first (c.loop-at.invariant.added rest);
@@ -22,4 +24,5 @@ loop-at-preserved c =
 pub returns : goal.returns
 returns c = record {
   added = λ rest. no_piece c.loop-at.out.items c.loop-at.upper (length c.args.bytes.now - c.loop-at.at) c.args.address c.loop-at.at c.args.bytes.now rest _ c.loop-at-test.false (c.loop-at.invariant.added rest);
+  bytes = bytes_from c.args.bytes.now c.loop-at.invariant.bytes;
 }

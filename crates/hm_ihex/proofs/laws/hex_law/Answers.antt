@@ -1,0 +1,6 @@
+use Rattle.hm_ihex.proofs.ReadBack.{read_back_is}
+use Rattle.hm_ihex.proofs.SameBytes.{is_image_is, same_bytes_is}
+use Rattle.hm_ihex.proofs.laws.hex_law.Goals as goal
+
+pub returns : goal.returns
+returns c = record { read_back = read_back_is; is_image = is_image_is; same_bytes = same_bytes_is }

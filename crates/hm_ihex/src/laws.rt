@@ -1,0 +1,13 @@
+//! Laws of the definitions. The function does nothing, and its clauses are what is proved.
+
+ghost use Rattle.std.specs.Prelude.{◌≡◌, ℕ, List, Ok};
+ghost use Rattle.hm_base.specs.Image.{IsImage, Segment, first_byte, flash_byte};
+ghost use Rattle.hm_ihex.specs.Files.{hex_in};
+ghost use Rattle.hm_ihex.specs.Written.{AreBytes, hex_file, joined};
+
+/// The file of an image is read as the image, those segments that touch made one, which is an image of the same bytes.
+pub fn hex_law()
+    ensures read_back { (image : List Segment) → IsImage image → AreBytes image → hex_in (hex_file image) ≡ Ok (joined image) }
+    ensures is_image { (image : List Segment) → IsImage image → IsImage (joined image) }
+    ensures same_bytes { (image : List Segment) → IsImage image → (a : ℕ) → (flash_byte (joined image) a ≡ flash_byte image a) × (first_byte (joined image) a ≡ first_byte image a) }
+{}
