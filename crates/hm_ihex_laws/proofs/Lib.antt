@@ -1,0 +1,2 @@
+pub mod SameImage
+pub mod HexRuns

@@ -1,0 +1,6 @@
+//! What an image and its file of Intel HEX have in common: they run alike.
+#![tactic(auto)]
+
+mod laws;
+
+pub use laws::hex_run_law;
