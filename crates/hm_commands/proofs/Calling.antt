@@ -1,7 +1,7 @@
 -- Calls that are made one after another.
-use Rattle.std.proofs.Common.{◌≡◌, ◌⊎◌, List, [], ◌∷◌, ◌++◌, map, Option, Some, None, Result, Ok, Err, refl, sym, ap, ◌∙◌, inl, inr, append_assoc}
+use Rattle.std.proofs.Common.{◌≡◌, List, [], ◌∷◌, ◌++◌, map, Option, Some, None, Result, Ok, Err, refl, sym, ap, ◌∙◌, inl, inr, append_assoc}
 use Rattle.std.proofs.lemmas.List.{append-nil, map-append}
-use Rattle.hm_host.specs.Host.{Call, Made, answered, failed, Becomes, Turns, Makes}
+use Rattle.hm_host.specs.Host.{Call, Made, answered, failed, Becomes, Makes}
 use Rattle.hm_host.specs.declared.host.HostErr.{HostErr}
 use Rattle.hm_host.specs.declared.host.HostErr.TheVariants.{Failed, TooLarge, OutOfMemory}
 use Rattle.hm_commands.specs.Calls.{with_calls, MadeSome, MadeToFault, Way, to_end, to_fault, to_memory, answer_way, MakesCalls, MakesAll}

@@ -8,7 +8,7 @@ use Rattle.hm_commands.specs.declared.status.Status.{Status}
 use Rattle.hm_commands.specs.declared.status.Status.TheVariants.{Done, Ended, Usage, Refused, HostFault, NoMemory}
 use Rattle.hm_base.specs.Image.{Segment}
 use Rattle.hm_codes.specs.Listing.{Listing}
-use Rattle.hm_commands.specs.Words.{Form, reads_of}
+use Rattle.hm_words.specs.Words.{Form, reads_of}
 use Rattle.hm_commands.specs.Commands.{ComesTo}
 use Rattle.hm_commands.specs.declared.work.Finish.{Finish}
 use Rattle.hm_commands.specs.declared.work.Refusal.TheVariants.{FileTooLarge}

@@ -5,7 +5,7 @@ use Rattle.hm_codes.specs.Listing.{Listing}
 use Rattle.hm_host.specs.Host.{FileMap, HostState, Stays, Rose}
 use Rattle.hm_commands.specs.declared.status.Status.{Status}
 use Rattle.hm_commands.specs.declared.status.Status.TheVariants.{Done, Ended, Usage, Refused, HostFault, NoMemory}
-use Rattle.hm_commands.specs.Words.{Form, form_of}
+use Rattle.hm_words.specs.Words.{Form, form_of}
 use Rattle.hm_commands.specs.Calls.{MakesCalls, read_calls, way_of}
 use Rattle.hm_commands.specs.Work.{Outcome, finishes, refuses}
 use Rattle.hm_commands.specs.Effect.{Effect, Reading, whole, too_large, missing, reading_of, reads_for, usage_effect, IsEffectAfter, IsEffect, effect_for, calls_for, IsDone, IsUntouched, Carries, CarriesOne, Does, MakesCallsOfOne, StaysOrMakesAllOfOne}

@@ -1,14 +1,15 @@
 -- The headline of a run, by what the top call carries out.
-use Rattle.std.proofs.Common.{◌≡◌, ◌≢◌, ◌⊎◌, ◌≤◌, ◌%◌, ℕ, Bool, List, [], ◌∷◌, ◌++◌, length, get_or, Option, Some, None, Result, Ok, refl, sym, ap, subst, ◌∙◌, inl, inr, arith, nat_eq}
-use Rattle.std.specs.Prelude.{option_map, if◌then◌else◌}
+use Rattle.std.proofs.Common.{◌≡◌, ◌≢◌, ◌⊎◌, ◌≤◌, ◌%◌, ℕ, Bool, true, false, List, [], ◌∷◌, ◌++◌, length, get_or, Option, Some, None, Result, Ok, refl, sym, ap, subst, ◌∙◌, inl, inr, arith}
+use Rattle.std.specs.Prelude.{if◌then◌else◌}
 use Rattle.std.proofs.lemmas.Bool.Decides.{nat_tests}
-use Rattle.std.specs.FinMap.{get, insert}
+use Rattle.std.specs.FinMap.{get}
 use Rattle.hm_base.specs.Image.{Segment, flash_byte}
 use Rattle.hm_base.specs.declared.errors.ImageErr.{ImageErr}
 use Rattle.hm_codes.specs.Listing.{Listing, IsListing}
 use Rattle.hm_codes.proofs.Unique.{fetched_one}
-use Rattle.hm_elf.specs.Elf.{IsImageFile}
 use Rattle.hm_elf.specs.ReadImage.{image_in}
+use Rattle.hm_ihex.specs.Files.{hex_in}
+use Rattle.hm_commands.specs.Images.{IsImageIn, IsImageOf, begins_as_hex, image_of}
 use Rattle.hm_elf.proofs.ReadLaws.{image_again}
 use Rattle.hm_handlers.proofs.Lying.{taint_lies}
 use Rattle.hm_handlers.proofs.Quiet.{run_quiet}
@@ -25,23 +26,29 @@ use Rattle.hm_run.specs.Timed.{Timed, timed_out}
 use Rattle.hm_state.specs.Start.{reset_pc}
 use Rattle.hm_commands.specs.declared.status.Status.{Status}
 use Rattle.hm_commands.specs.declared.status.Status.TheVariants.{Done, Ended, Usage, Refused, HostFault, NoMemory}
-use Rattle.hm_commands.specs.declared.work.Refusal.TheVariants.{Reset}
 use Rattle.hm_commands.specs.Commands.{AreListings, reported, told, run_outcome, seq_outcome, unless_refused}
 use Rattle.hm_commands.specs.Effect.{Effect, Reading, whole, then_read, reading_of, reads_for, IsEffect, IsEffectAfter, effect_for, with_file, with_text, Carries, CarriesOne, Does}
 use Rattle.hm_sched.specs.Schedule.{Sched, plain, ticks_of}
 use Rattle.hm_sched.specs.declared.errors.SchedErr.{SchedErr}
 use Rattle.hm_sched.proofs.FileLaws.{file_again}
 use Rattle.hm_commands.specs.Headline.{IsGiven, IsReported, RunsToHeadline, IsShownInOrder, RunsInOrder, has_halted}
-use Rattle.hm_commands.specs.Run.{is_fault, is_halted, short_report, reset_refusal, schedule_in}
-use Rattle.hm_commands.specs.Words.{Form, Source, ticks, file, run, seq, form_of, reads_of}
-use Rattle.hm_commands.proofs.Decimals.{form_of-run, form_of-seq}
+use Rattle.hm_commands.specs.Run.{is_fault, is_halted, short_report, schedule_in}
+use Rattle.hm_words.specs.Words.{Form, Source, ticks, file, run, seq, form_of, reads_of}
+use Rattle.hm_words.proofs.Forms.{form_of-run, form_of-seq}
 use Rattle.hm_commands.proofs.Ending.{Does-carries, untouched_wanted}
 use Rattle.hm_commands.proofs.Listed.{some_listings}
 use Rattle.hm_commands.proofs.Runs.{reset_refusal-odd}
 
 -- a flash has one listing
-listing_one : (flash : ℕ → ℕ) (x y : Listing) → IsListing flash x → IsListing flash y → x ≡ y
+pub listing_one : (flash : ℕ → ℕ) (x y : Listing) → IsListing flash x → IsListing flash y → x ≡ y
 listing_one flash x y h k = λ i. λ a. fetched_one flash a (x a) (y a) (h.at a) (k.at a) i
+
+-- a file that holds an image is read as it
+image_of_again : (bytes : List ℕ) (image : List Segment) → IsImageOf bytes image → image_of bytes ≡ Ok image
+image_of_again bytes image holds = by_form (begins_as_hex bytes) holds where
+  by_form : (hex : Bool) → IsImageIn hex bytes image → (if hex then hex_in bytes else image_in bytes) ≡ Ok image
+  by_form true h = h
+  by_form false h = image_again bytes image h
 
 then_read-whole : (bytes : List ℕ) (more : List (List ℕ)) → length bytes ≤ longest → then_read (Some bytes) (whole more) ≡ whole (bytes ∷ more)
 then_read-whole bytes more fits = grind (arith, nat_tests)
@@ -72,14 +79,14 @@ read_for F name bytes memory (file other) s image fits given = record {
 
 -- what a sound run is to do
 effect-run : (listings : List Segment → Listing) (words : List (List ℕ)) (F : FileMap) (name bytes memory : List ℕ) (source : Source) (image : List Segment) (s : Sched) (e : Effect)
-    → form_of words ≡ Some (run name source memory) → ReadFor F name bytes memory source s → IsImageFile bytes image → reset_pc image % 2 ≡ 1
+    → form_of words ≡ Some (run name source memory) → ReadFor F name bytes memory source s → IsImageOf bytes image → reset_pc image % 2 ≡ 1
     → IsEffect listings words F e → e ≡ effect_for (reported (shown_out (listings image) image s) memory)
 effect-run listings words F name bytes memory source image s e asked read holds odd is =
     let one = subst (λ (o : Option Form). IsEffectAfter listings o (reading_of F (reads_for o)) e) asked is in
     let there = subst (λ (r : Reading). IsEffectAfter listings (Some (run name source memory)) r e) read.reading one in
     there.2 ∙ ap effect_for there.1
-    ∙ ap (λ (r : Result Sched SchedErr). effect_for (run_outcome listings (image_in bytes) r memory)) read.schedule
-    ∙ ap (λ (i : Result (List Segment) ImageErr). effect_for (run_outcome listings i (Ok s) memory)) (image_again bytes image holds)
+    ∙ ap (λ (r : Result Sched SchedErr). effect_for (run_outcome listings (image_of bytes) r memory)) read.schedule
+    ∙ ap (λ (i : Result (List Segment) ImageErr). effect_for (run_outcome listings i (Ok s) memory)) (image_of_again bytes image holds)
     ∙ ap (λ o. effect_for (unless_refused o (reported (shown_out (listings image) image s) memory))) (reset_refusal-odd image odd)
 
 -- what an effect that was done leaves
@@ -170,13 +177,13 @@ plainly_halted listing image n =
     sym (ap (λ (x : Timed). is_halted x.outcome) (plain_shown listing image n)) ∙ halted_in_order (timed_out listing image (plain n)) (in_order listing image n) (plain_ends listing image n)
 
 effect-seq : (listings : List Segment → Listing) (words : List (List ℕ)) (F : FileMap) (name bytes : List ℕ) (image : List Segment) (n : ℕ) (e : Effect)
-    → form_of words ≡ Some (seq name n) → get F name ≡ Some bytes → length bytes ≤ longest → IsImageFile bytes image → reset_pc image % 2 ≡ 1
+    → form_of words ≡ Some (seq name n) → get F name ≡ Some bytes → length bytes ≤ longest → IsImageOf bytes image → reset_pc image % 2 ≡ 1
     → IsEffect listings words F e → e ≡ effect_for (told (shown_out (listings image) image (plain n)))
 effect-seq listings words F name bytes image n e asked there short holds odd is =
     let one = subst (λ (o : Option Form). IsEffectAfter listings o (reading_of F (reads_for o)) e) asked is in
     let read = subst (λ (r : Reading). IsEffectAfter listings (Some (seq name n)) r e) (read_one F name bytes there short) one in
     read.2 ∙ ap effect_for read.1
-    ∙ ap (λ (i : Result (List Segment) ImageErr). effect_for (seq_outcome listings i n)) (image_again bytes image holds)
+    ∙ ap (λ (i : Result (List Segment) ImageErr). effect_for (seq_outcome listings i n)) (image_of_again bytes image holds)
     ∙ ap (λ o. effect_for (unless_refused o (told (shown_out (listings image) image (plain n))))) (reset_refusal-odd image odd)
 
 shown_by : (listing : Listing) (F : FileMap) (P : List ℕ) (image : List Segment) (n : ℕ) (new : HostState) (status : Status) → IsListing (flash_byte image) listing

@@ -1,5 +1,5 @@
 -- Why a file is not run, and what a run of one comes to.
-use Rattle.std.proofs.Common.{◌≡◌, ℕ, ◌%◌, nat_eq, arith, Bool, List, Option, Some, None, Result, Ok, Err, refl, sym, ap, subst, ◌∙◌}
+use Rattle.std.proofs.Common.{◌≡◌, ℕ, ◌%◌, nat_eq, arith, Bool, true, List, Option, Some, None, Result, Ok, Err, refl, sym, ap, subst, ◌∙◌}
 use Rattle.std.specs.Prelude.{if◌then◌else◌}
 use Rattle.std.proofs.lemmas.Bool.Decides.{nat_tests}
 use Rattle.hm_base.specs.Image.{Segment}
@@ -13,8 +13,10 @@ use Rattle.hm_codes.specs.Listing.{Listing}
 use Rattle.hm_elf.specs.ReadImage.{Fails as FailsImage}
 use Rattle.hm_handlers.specs.Runs.{shown_out}
 use Rattle.hm_machine.specs.Shown.{Shown, timed_of}
+use Rattle.hm_plan_laws.specs.Planned.{planned}
 use Rattle.hm_run.specs.Report.{report_text, memory_text}
 use Rattle.hm_run.specs.Timed.{Timed}
+use Rattle.hm_sched.specs.Printed.{file_text}
 use Rattle.hm_sched.specs.Schedule.{Sched, plain}
 use Rattle.hm_sched.specs.ReadFile.{Fails}
 use Rattle.hm_sched.specs.declared.errors.SchedErr.{SchedErr}
@@ -23,7 +25,7 @@ use Rattle.hm_commands.specs.declared.work.Refusal.{Refusal}
 use Rattle.hm_commands.specs.declared.work.Refusal.TheVariants.{Image, Schedule, Reset}
 use Rattle.hm_commands.specs.declared.work.Stop.{Stop}
 use Rattle.hm_commands.specs.declared.work.Stop.TheVariants.{Refused, NoMemory}
-use Rattle.hm_commands.specs.Commands.{AreListings, IsAsmOutcome, IsDisOutcome, reported, told, unless_refused, run_outcome, seq_outcome}
+use Rattle.hm_commands.specs.Commands.{AreListings, IsAsmOutcome, IsDisOutcome, reported, told, unless_refused, plan_outcome, run_outcome, seq_outcome}
 use Rattle.hm_commands.specs.Run.{is_halted, short_report, reset_refusal, IsOver, RunsToEnd, schedule_stop}
 use Rattle.hm_commands.specs.Work.{Outcome, finishes, refuses, Gives, GivesOne, image_stop, source_stop}
 
@@ -105,6 +107,14 @@ reset_refusal-odd image odd = even_refused (reset_pc image) odd where
   even_refused : (k : ℕ) → k % 2 ≡ 1 → (if nat_eq (k % 2) 0 then Some (Reset k) else None) ≡ None
   even_refused k h = grind (arith, nat_tests)
 
+pub reset_refusal-even : (image : List Segment) (value : ℕ) → value ≡ reset_pc image → value % 2 ≡ 0 → reset_refusal image ≡ Some (Reset value)
+reset_refusal-even image value is even = subst (λ (k : ℕ). refused_at (reset_pc image) ≡ Some (Reset k)) (sym is) (even_refused (reset_pc image) (subst (λ (k : ℕ). k % 2 ≡ 0) is even)) where
+  refused_at : ℕ → Option Refusal
+  refused_at k = if nat_eq (k % 2) 0 then Some (Reset k) else None
+
+  even_refused : (k : ℕ) → k % 2 ≡ 0 → refused_at k ≡ Some (Reset k)
+  even_refused k h = rw h refl
+
 -- what a machine shows once its run is over is what the run comes to
 pub run_comes : (listings : List Segment → Listing) (image : Result (List Segment) ImageErr) (i : List Segment) (read : Result Sched SchedErr) (s : Sched) (memory : List ℕ) (m : Shown) (done : Bool) (file report : List ℕ)
     → AreListings listings → image ≡ Ok i → read ≡ Ok s → IsOver i s m → reset_refusal i ≡ None
@@ -123,3 +133,12 @@ seq_comes listings image i n m done report are at over odd halts report_is =
     let texts : finishes done None (Some report) ≡ told (timed_of m) = rw (halts, report_is) refl in
     texts ∙ ap told (over.shows (listings i) (are.at i))
     ∙ sym (seq_with listings image i n at ∙ ap (λ (o : Option Refusal). unless_refused o (told (shown_out (listings i) i (plain n)))) odd)
+
+-- ---- plans
+
+pub plan_written : (listings : List Segment → Listing) (read : Result (List Segment) ImageErr) (image : List Segment) (n : ℕ) (out bytes : List ℕ) → read ≡ Ok image → reset_pc image % 2 ≡ 1
+    → bytes ≡ file_text (planned (listings image) image n) → finishes true (Some (out, bytes)) None ≡ plan_outcome listings read n out
+plan_written listings read image n out bytes at odd is =
+    ap (λ (b : List ℕ). finishes true (Some (out, b)) None) is
+    ∙ sym (ap (λ (r : Result (List Segment) ImageErr). plan_outcome listings r n out) at
+    ∙ ap (λ (why : Option Refusal). unless_refused why (finishes true (Some (out, file_text (planned (listings image) image n))) None)) (reset_refusal-odd image odd))

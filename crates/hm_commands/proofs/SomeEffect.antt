@@ -1,20 +1,33 @@
 -- Words have an effect.
-use Rattle.std.proofs.Common.{◌≡◌, ℕ, true, List, [], Option, Some, None, Result, Ok, Err, refl, ap}
+use Rattle.std.proofs.Common.{◌≡◌, ℕ, true, List, [], Option, Some, None, Result, Ok, Err, refl, ap, inl, inr}
 use Rattle.std.specs.Prelude.{get_or}
 use Rattle.hm_base.specs.Image.{Segment, flash_byte}
 use Rattle.hm_base.specs.declared.errors.ImageErr.{ImageErr}
 use Rattle.hm_codes.specs.Listing.{Listing}
-use Rattle.hm_elf.specs.ReadImage.{image_in}
+use Rattle.hm_debug.proofs.ScriptLaws.{read_or_refused}
+use Rattle.hm_debug.specs.Answers.{answers}
+use Rattle.hm_debug.specs.Films.{film_of}
+use Rattle.hm_debug.specs.declared.command.Command.{Command}
+use Rattle.hm_debug.specs.declared.errors.ScriptErr.{ScriptErr}
+use Rattle.hm_commands.specs.Images.{image_of}
 use Rattle.hm_host.specs.Host.{FileMap}
+use Rattle.hm_journal.proofs.Comparing.{some_comparison}
+use Rattle.hm_journal.proofs.Readings.{some_outcome as some_journal}
+use Rattle.hm_journal.specs.Journals.{Journaled}
+use Rattle.hm_journal.specs.declared.journal.JournalErr.{JournalErr}
 use Rattle.hm_listing.proofs.Exists.{some_listing}
+use Rattle.hm_sched.specs.Schedule.{Sched}
+use Rattle.hm_sched.specs.declared.errors.SchedErr.{SchedErr}
+use Rattle.hm_soak_laws.proofs.Line.{some_line}
 use Rattle.hm_asm.proofs.Exists.{some_outcome as some_assembled}
-use Rattle.hm_commands.specs.declared.work.Refusal.TheVariants.{FileTooLarge, Image}
-use Rattle.hm_commands.specs.Commands.{ComesTo, IsAsmOutcome, IsDisOutcome, asm_outcome, run_outcome, seq_outcome}
+use Rattle.hm_commands.specs.declared.work.Refusal.TheVariants.{FileTooLarge, Image, Schedule, Script, Journal}
+use Rattle.hm_commands.specs.declared.work.Refusal.{Refusal}
+use Rattle.hm_commands.specs.Commands.{ComesTo, IsAnswers, IsAsmOutcome, IsCompared, IsDebugOutcome, IsDisOutcome, IsJournalOutcome, IsReplay, IsReplayOutcome, IsScriptRead, IsSoakOutcome, OfRun, UnlessRefused, asm_outcome, compared, hex_outcome, journal_outcome, last_read, plan_outcome, run_outcome, seq_outcome}
 use Rattle.hm_commands.specs.Effect.{Effect, Reading, whole, too_large, missing, reading_of, reads_for, effect_for, no_effect, usage_effect, IsEffect, IsEffectAfter}
-use Rattle.hm_commands.specs.Run.{schedule_in}
+use Rattle.hm_commands.specs.Run.{reset_refusal, schedule_in}
 use Rattle.hm_commands.specs.Work.{Outcome, finishes, refuses}
-use Rattle.hm_commands.specs.Words.{Form, run, seq, dis, asm, form_of, IsRange}
-use Rattle.hm_commands.proofs.Decimals.{form_of-is_dis}
+use Rattle.hm_words.specs.Words.{Form, run, seq, dis, asm, soak, debug, journal, replay, plan, hex, form_of, IsRange}
+use Rattle.hm_words.proofs.Forms.{form_of-is_dis}
 
 some_dis : (image : Result (List Segment) ImageErr) (lo hi : ℕ) → IsRange lo hi → (o : Outcome) × IsDisOutcome image lo hi o
 some_dis (Err e) lo hi r = (refuses (Image e), refl)
@@ -27,15 +40,69 @@ some_asm source out =
     let x = some_assembled source in
     (asm_outcome x.0 out, (x.0, x.1, refl))
 
+some_soak : (number : ℕ) → (o : Outcome) × IsSoakOutcome number o
+some_soak number =
+    let x = some_line number in
+    (finishes true None (Some x.0), (x.0, x.1, refl))
+
+-- ---- runs
+
+some_unless : (why : Option Refusal) (Is : Outcome → Type 0) → ((o : Outcome) × Is o) → (o : Outcome) × UnlessRefused why Is o
+some_unless (Some why) Is x = (refuses why, refl)
+some_unless None Is x = x
+
+some_of_run : (image : Result (List Segment) ImageErr) (schedule : Result Sched SchedErr) (Is : List Segment → Sched → Outcome → Type 0) → ((i : List Segment) (s : Sched) → (o : Outcome) × Is i s o) → (o : Outcome) × OfRun image schedule Is o
+some_of_run (Err e) schedule Is some = (refuses (Image e), refl)
+some_of_run (Ok image) (Err e) Is some = (refuses (Schedule e), refl)
+some_of_run (Ok image) (Ok s) Is some = some image s
+
+some_read : (text : List ℕ) → (read : Result (List Command) ScriptErr) × IsScriptRead text read
+some_read text = elim (read_or_refused text) [ inl script ↦ (Ok script.0, script.1) | inr refused ↦ (Err refused.0, refused.1) ]
+
+some_answers : (listings : List Segment → Listing) (image : List Segment) (s : Sched) (read : Result (List Command) ScriptErr) → (o : Outcome) × IsAnswers listings image s read o
+some_answers listings image s (Err e) = (refuses (Script e), refl)
+some_answers listings image s (Ok cs) =
+    some_unless (reset_refusal image) (λ o. o ≡ finishes true None (Some (answers (film_of (listings image) image s) cs 0))) (finishes true None (Some (answers (film_of (listings image) image s) cs 0)), refl)
+
+some_debug : (listings : List Segment → Listing) (text : List ℕ) (image : List Segment) (s : Sched) → (o : Outcome) × IsDebugOutcome listings text image s o
+some_debug listings text image s =
+    let read = some_read text in
+    let x = some_answers listings image s read.0 in
+    (x.0, (read.0, read.1, x.1))
+
+some_compared : (listings : List Segment → Listing) (image : List Segment) (s : Sched) (tick : ℕ) (j : Journaled) → (o : Outcome) × IsCompared listings image s tick j o
+some_compared listings image s tick j =
+    let x = some_comparison (listings image) image s j.checkpoints in
+    (compared listings image s tick x.0, (x.0, x.1, refl))
+
+some_checked : (listings : List Segment → Listing) (image : List Segment) (s : Sched) (tick : ℕ) (read : Result Journaled JournalErr) → (o : Outcome) × IsReplay listings image s tick read o
+some_checked listings image s tick (Err e) = (refuses (Journal e), refl)
+some_checked listings image s tick (Ok j) = some_unless (reset_refusal image) (IsCompared listings image s tick j) (some_compared listings image s tick j)
+
+some_replay : (listings : List Segment → Listing) (text : List ℕ) (tick : ℕ) (image : List Segment) (s : Sched) → (o : Outcome) × IsReplayOutcome listings text tick image s o
+some_replay listings text tick image s =
+    let read = some_journal text in
+    let x = some_checked listings image s tick read.0 in
+    (x.0, (read.0, read.1, x.1))
+
 -- the form is no listing but of a range
 abbrev HasRange : Form → Type 0
 HasRange form = (image : List ℕ) (lo hi : ℕ) → form ≡ dis image lo hi → IsRange lo hi
 
 some_comes : (listings : List Segment → Listing) (form : Form) (contents : List (List ℕ)) → HasRange form → (o : Outcome) × ComesTo listings form contents o
-some_comes listings (run image schedule memory) contents r = (run_outcome listings (image_in (get_or contents 0 [])) (schedule_in schedule (get_or contents 1 [])) memory, refl)
-some_comes listings (seq image n) contents r = (seq_outcome listings (image_in (get_or contents 0 [])) n, refl)
-some_comes listings (dis image lo hi) contents r = some_dis (image_in (get_or contents 0 [])) lo hi (r image lo hi refl)
+some_comes listings (run image schedule memory) contents r = (run_outcome listings (image_of (get_or contents 0 [])) (schedule_in schedule (get_or contents 1 [])) memory, refl)
+some_comes listings (seq image n) contents r = (seq_outcome listings (image_of (get_or contents 0 [])) n, refl)
+some_comes listings (dis image lo hi) contents r = some_dis (image_of (get_or contents 0 [])) lo hi (r image lo hi refl)
 some_comes listings (asm source out) contents r = some_asm (get_or contents 0 []) out
+some_comes listings (soak number) contents r = some_soak number
+some_comes listings (debug image schedule script) contents r =
+    some_of_run (image_of (get_or contents 0 [])) (schedule_in schedule (get_or contents 1 [])) (IsDebugOutcome listings (last_read schedule contents)) (some_debug listings (last_read schedule contents))
+some_comes listings (journal image schedule every out) contents r =
+    some_of_run (image_of (get_or contents 0 [])) (schedule_in schedule (get_or contents 1 [])) (IsJournalOutcome listings every out) (λ i s. (journal_outcome listings every out i s, refl))
+some_comes listings (replay image schedule text tick) contents r =
+    some_of_run (image_of (get_or contents 0 [])) (schedule_in schedule (get_or contents 1 [])) (IsReplayOutcome listings (last_read schedule contents) tick) (some_replay listings (last_read schedule contents) tick)
+some_comes listings (hex image out) contents r = (hex_outcome (image_of (get_or contents 0 [])) out, refl)
+some_comes listings (plan image n out) contents r = (plan_outcome listings (image_of (get_or contents 0 [])) n out, refl)
 
 some_after : (listings : List Segment → Listing) (form : Option Form) (reading : Reading) → ((image : List ℕ) (lo hi : ℕ) → form ≡ Some (dis image lo hi) → IsRange lo hi) → (e : Effect) × IsEffectAfter listings form reading e
 some_after listings None reading r = (usage_effect, refl)

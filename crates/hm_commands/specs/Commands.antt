@@ -1,25 +1,39 @@
 -- What each command comes to, from the bytes of the files that it reads.
-use Rattle.std.specs.Prelude.{◌≡◌, ℕ, true, List, [], Option, Some, None, Result, Ok, Err, get_or, length, nat_lt, if◌then◌else◌}
+use Rattle.std.specs.Prelude.{◌≡◌, ℕ, ◌+◌, ◌/◌, true, List, [], Option, Some, None, Result, Ok, Err, get_or, length, nat_le, nat_lt, if◌then◌else◌}
 use Rattle.hm_asm.specs.Sources.{IsOutcome}
 use Rattle.hm_asm.specs.declared.errors.AsmErr.{AsmErr}
 use Rattle.hm_base.specs.Image.{Segment, flash_byte}
 use Rattle.hm_base.specs.declared.errors.ImageErr.{ImageErr}
 use Rattle.hm_codes.specs.Listing.{Listing, IsListing}
 use Rattle.hm_base.specs.declared.errors.ImageErr.TheVariants.{TooMany}
+use Rattle.hm_debug.specs.Answers.{answers}
+use Rattle.hm_debug.specs.Films.{film_of}
+use Rattle.hm_debug.specs.Scripts.{IsScript, ScriptRefuses}
+use Rattle.hm_debug.specs.declared.command.Command.{Command}
+use Rattle.hm_debug.specs.declared.errors.ScriptErr.{ScriptErr}
 use Rattle.hm_elf.specs.Elf.{most_headers}
-use Rattle.hm_elf.specs.ReadImage.{image_in}
+use Rattle.hm_commands.specs.Images.{image_of}
 use Rattle.hm_elf.specs.WriteImage.{elf_file}
-use Rattle.hm_handlers.specs.Runs.{shown_out}
+use Rattle.hm_handlers.specs.Runs.{run_out, shown_out}
+use Rattle.hm_ihex.specs.Written.{hex_file}
+use Rattle.hm_journal.specs.Journals.{Journaled, journal_text}
+use Rattle.hm_journal.specs.Outcomes.{IsReading as IsJournalRead}
+use Rattle.hm_journal.specs.Runs.{IsComparison, journal_of, report_at}
+use Rattle.hm_journal.specs.declared.journal.JournalErr.{JournalErr}
+use Rattle.hm_journal.specs.declared.journal.JournalErr.TheVariants as journal_err
 use Rattle.hm_listing.specs.Listings.{IsListed}
+use Rattle.hm_plan_laws.specs.Planned.{planned}
 use Rattle.hm_run.specs.Report.{report_text, memory_text}
 use Rattle.hm_run.specs.Timed.{Timed}
-use Rattle.hm_sched.specs.Schedule.{Sched, plain}
+use Rattle.hm_sched.specs.Printed.{file_text}
+use Rattle.hm_sched.specs.Schedule.{Sched, plain, ticks_of}
 use Rattle.hm_sched.specs.declared.errors.SchedErr.{SchedErr}
+use Rattle.hm_soak_laws.specs.Summary.{IsSoakLine}
+use Rattle.hm_words.specs.Words.{Form, Source as Given, ticks, file, run, seq, dis, asm, soak, debug, journal, replay, plan, hex}
 use Rattle.hm_commands.specs.declared.work.Refusal.{Refusal}
-use Rattle.hm_commands.specs.declared.work.Refusal.TheVariants.{Image, Schedule, Source}
+use Rattle.hm_commands.specs.declared.work.Refusal.TheVariants.{Image, Schedule, Source, Script, Journal, Past}
 use Rattle.hm_commands.specs.Run.{is_halted, reset_refusal, schedule_in, short_report}
 use Rattle.hm_commands.specs.Work.{Outcome, finishes, refuses}
-use Rattle.hm_commands.specs.Words.{Form, run, seq, dis, asm}
 
 -- a listing of the flash of each image
 pub record AreListings (listings : List Segment → Listing) : Type 0 where
@@ -61,9 +75,98 @@ asm_outcome (Ok image) out = if nat_lt most_headers (length image) then refuses 
 abbrev pub IsAsmOutcome : List ℕ → List ℕ → Outcome → Type 0
 IsAsmOutcome source out = λ o. (assembled : Result (List Segment) AsmErr) × IsOutcome source assembled × (o ≡ asm_outcome assembled out)
 
+-- one of these outcomes, where nothing is refused
+abbrev pub UnlessRefused : Option Refusal → (Outcome → Type 0) → Outcome → Type 0
+UnlessRefused (Some why) Is = λ o. o ≡ refuses why
+UnlessRefused None Is = Is
+
+-- why a run is refused, of an image and a schedule as they were read
+abbrev pub run_refusal : Result (List Segment) ImageErr → Result Sched SchedErr → Option Refusal
+run_refusal (Err e) schedule = Some (Image e)
+run_refusal (Ok image) (Err e) = Some (Schedule e)
+run_refusal (Ok image) (Ok s) = None
+
+-- what comes of an image and a schedule, where both were read
+abbrev pub OfRun : Result (List Segment) ImageErr → Result Sched SchedErr → (List Segment → Sched → Outcome → Type 0) → Outcome → Type 0
+OfRun (Err e) schedule Is = λ o. o ≡ refuses (Image e)
+OfRun (Ok image) (Err e) Is = λ o. o ≡ refuses (Schedule e)
+OfRun (Ok image) (Ok s) Is = Is image s
+
+-- what a text is read as: the commands of a script, or its refusal
+abbrev pub IsScriptRead : List ℕ → Result (List Command) ScriptErr → Type 0
+IsScriptRead text (Ok commands) = IsScript text commands
+IsScriptRead text (Err e) = ScriptRefuses text e
+
+-- the answers of a script that was read, which are printed
+abbrev pub IsAnswers : (List Segment → Listing) → List Segment → Sched → Result (List Command) ScriptErr → Outcome → Type 0
+IsAnswers listings image s (Err e) = λ o. o ≡ refuses (Script e)
+IsAnswers listings image s (Ok commands) = UnlessRefused (reset_refusal image) (λ o. o ≡ finishes true None (Some (answers (film_of (listings image) image s) commands 0)))
+
+-- a script over a run
+abbrev pub IsDebugOutcome : (List Segment → Listing) → List ℕ → List Segment → Sched → Outcome → Type 0
+IsDebugOutcome listings text image s = λ o. (read : Result (List Command) ScriptErr) × IsScriptRead text read × IsAnswers listings image s read o
+
+-- the journal of a run, which is written, unless it would have too many checkpoints
+abbrev pub journal_outcome : (List Segment → Listing) → ℕ → List ℕ → List Segment → Sched → Outcome
+journal_outcome listings every out image s = unless_refused (reset_refusal image)
+    (if nat_lt 64 (length (ticks_of s.lines) / every + 1) then refuses (Journal journal_err.TooMany) else finishes true (Some (out, journal_text (journal_of (listings image) image s every))) None)
+
+abbrev pub IsJournalOutcome : (List Segment → Listing) → ℕ → List ℕ → List Segment → Sched → Outcome → Type 0
+IsJournalOutcome listings every out image s = λ o. o ≡ journal_outcome listings every out image s
+
+-- the report at a tick, which is printed, where the run begins that tick
+abbrev pub tick_outcome : (List Segment → Listing) → List Segment → Sched → ℕ → Outcome
+tick_outcome listings image s tick =
+    if nat_le tick (run_out (listings image) image s).ticks then finishes true None (Some (report_at (listings image) image s tick)) else refuses (Past (run_out (listings image) image s).ticks)
+
+-- what comes of a comparison of a journal with a run
+abbrev pub compared : (List Segment → Listing) → List Segment → Sched → ℕ → Result Unit JournalErr → Outcome
+compared listings image s tick (Ok same) = tick_outcome listings image s tick
+compared listings image s tick (Err e) = refuses (Journal e)
+
+-- a journal that was read is compared with a run
+abbrev pub IsCompared : (List Segment → Listing) → List Segment → Sched → ℕ → Journaled → Outcome → Type 0
+IsCompared listings image s tick j = λ o. (r : Result Unit JournalErr) × IsComparison (listings image) image s j.checkpoints r × (o ≡ compared listings image s tick r)
+
+abbrev pub IsReplay : (List Segment → Listing) → List Segment → Sched → ℕ → Result Journaled JournalErr → Outcome → Type 0
+IsReplay listings image s tick (Err e) = λ o. o ≡ refuses (Journal e)
+IsReplay listings image s tick (Ok j) = UnlessRefused (reset_refusal image) (IsCompared listings image s tick j)
+
+-- a journal is checked against a run, and the report at a tick is printed
+abbrev pub IsReplayOutcome : (List Segment → Listing) → List ℕ → ℕ → List Segment → Sched → Outcome → Type 0
+IsReplayOutcome listings text tick image s = λ o. (read : Result Journaled JournalErr) × IsJournalRead text read × IsReplay listings image s tick read o
+
+-- the dense schedule of n instructions of an image, which is written
+abbrev pub plan_outcome : (List Segment → Listing) → Result (List Segment) ImageErr → ℕ → List ℕ → Outcome
+plan_outcome listings (Err e) n out = refuses (Image e)
+plan_outcome listings (Ok image) n out = unless_refused (reset_refusal image) (finishes true (Some (out, file_text (planned (listings image) image n))) None)
+
+-- an image of any form, which is written as Intel HEX
+abbrev pub hex_outcome : Result (List Segment) ImageErr → List ℕ → Outcome
+hex_outcome (Err e) out = refuses (Image e)
+hex_outcome (Ok image) out = finishes true (Some (out, hex_file image)) None
+
+-- the summary of the generated work of a number, which is printed
+abbrev pub IsSoakOutcome : ℕ → Outcome → Type 0
+IsSoakOutcome number = λ o. (text : List ℕ) × IsSoakLine number text × (o ≡ finishes true None (Some text))
+
+-- the last file that is read behind an image and a schedule
+abbrev pub last_read : Given → List (List ℕ) → List ℕ
+last_read (ticks n) contents = get_or contents 1 []
+last_read (file name) contents = get_or contents 2 []
+
 -- what a form comes to, by the contents of the files that are read, in order
 abbrev pub ComesTo : (List Segment → Listing) → Form → List (List ℕ) → Outcome → Type 0
-ComesTo listings (run image schedule memory) contents = λ o. o ≡ run_outcome listings (image_in (get_or contents 0 [])) (schedule_in schedule (get_or contents 1 [])) memory
-ComesTo listings (seq image n) contents = λ o. o ≡ seq_outcome listings (image_in (get_or contents 0 [])) n
-ComesTo listings (dis image lo hi) contents = IsDisOutcome (image_in (get_or contents 0 [])) lo hi
+ComesTo listings (run image schedule memory) contents = λ o. o ≡ run_outcome listings (image_of (get_or contents 0 [])) (schedule_in schedule (get_or contents 1 [])) memory
+ComesTo listings (seq image n) contents = λ o. o ≡ seq_outcome listings (image_of (get_or contents 0 [])) n
+ComesTo listings (dis image lo hi) contents = IsDisOutcome (image_of (get_or contents 0 [])) lo hi
 ComesTo listings (asm source out) contents = IsAsmOutcome (get_or contents 0 []) out
+ComesTo listings (debug image schedule script) contents =
+    OfRun (image_of (get_or contents 0 [])) (schedule_in schedule (get_or contents 1 [])) (IsDebugOutcome listings (last_read schedule contents))
+ComesTo listings (journal image schedule every out) contents =
+    OfRun (image_of (get_or contents 0 [])) (schedule_in schedule (get_or contents 1 [])) (IsJournalOutcome listings every out)
+ComesTo listings (replay image schedule text tick) contents =
+    OfRun (image_of (get_or contents 0 [])) (schedule_in schedule (get_or contents 1 [])) (IsReplayOutcome listings (last_read schedule contents) tick)
+ComesTo listings (plan image n out) contents = λ o. o ≡ plan_outcome listings (image_of (get_or contents 0 [])) n out
+ComesTo listings (hex image out) contents = λ o. o ≡ hex_outcome (image_of (get_or contents 0 [])) out
+ComesTo listings (soak number) contents = IsSoakOutcome number

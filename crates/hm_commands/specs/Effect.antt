@@ -11,7 +11,7 @@ use Rattle.hm_commands.specs.declared.status.Status.TheVariants.{Done, Ended, Us
 use Rattle.hm_commands.specs.declared.work.Refusal.{Refusal}
 use Rattle.hm_commands.specs.declared.work.Refusal.TheVariants.{FileTooLarge}
 use Rattle.hm_commands.specs.Work.{Outcome, finishes, refuses, refusal_text}
-use Rattle.hm_commands.specs.Words.{Form, form_of, reads_of}
+use Rattle.hm_words.specs.Words.{Form, form_of, reads_of}
 use Rattle.hm_commands.specs.Commands.{ComesTo}
 use Rattle.hm_commands.specs.Calls.{Way, to_end, to_fault, to_memory, read_calls, write_calls, print_calls, way_of, MakesCalls, MakesAll}
 

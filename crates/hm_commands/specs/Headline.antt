@@ -1,9 +1,9 @@
 -- What the top call owes to the instructions in order.
-use Rattle.std.specs.Prelude.{◌≡◌, ◌≢◌, ◌⊎◌, ℕ, ◌%◌, ◌≤◌, Bool, true, false, List, ◌++◌, length, Some, None, if◌then◌else◌}
+use Rattle.std.specs.Prelude.{◌≡◌, ◌≢◌, ◌⊎◌, ℕ, ◌%◌, ◌≤◌, Bool, true, false, List, ◌++◌, length, Some, if◌then◌else◌}
 use Rattle.std.specs.FinMap.{get, insert}
 use Rattle.hm_base.specs.Image.{Segment, flash_byte}
 use Rattle.hm_codes.specs.Listing.{Listing, IsListing}
-use Rattle.hm_elf.specs.Elf.{IsImageFile}
+use Rattle.hm_commands.specs.Images.{IsImageOf}
 use Rattle.hm_handlers.specs.Runs.{run_out, shown_out}
 use Rattle.hm_handlers.specs.Taint.{TaintLies}
 use Rattle.hm_host.specs.Host.{FileMap, HostState, longest}
@@ -15,7 +15,7 @@ use Rattle.hm_state.specs.Start.{reset_pc}
 use Rattle.hm_commands.specs.declared.status.Status.{Status}
 use Rattle.hm_commands.specs.declared.status.Status.TheVariants.{Done, Ended, HostFault, NoMemory}
 use Rattle.hm_commands.specs.Run.{is_halted}
-use Rattle.hm_commands.specs.Words.{Source, ticks, file, IsRun, IsSeq}
+use Rattle.hm_words.specs.Words.{Source, ticks, file, IsRun, IsSeq}
 
 -- a source gives a schedule: its plain ticks, or what its file, which is there, writes
 abbrev pub IsGiven : FileMap → Source → Sched → Type 0
@@ -30,7 +30,7 @@ pub record IsSoundImage (old : HostState) (F : FileMap) (P name : List ℕ) (ima
   pub bytes : List ℕ
   pub there : get F name ≡ Some bytes
   pub short : length bytes ≤ longest
-  pub holds : IsImageFile bytes image
+  pub holds : IsImageOf bytes image
   pub odd : reset_pc image % 2 ≡ 1
 
 -- The words are those of a run of a sound image under this schedule.

@@ -1,7 +1,8 @@
-pub mod Words
+pub mod Images
 pub mod Work
 pub mod Run
 pub mod Commands
+pub mod Given
 pub mod Calls
 pub mod Effect
 pub mod Headline

@@ -19,7 +19,7 @@ use Rattle.hm_commands.specs.declared.work.Refusal.{Refusal}
 use Rattle.hm_commands.specs.declared.work.Refusal.TheVariants.{Schedule, Reset}
 use Rattle.hm_commands.specs.declared.work.Stop.{Stop}
 use Rattle.hm_commands.specs.declared.work.Stop.TheVariants.{Refused, NoMemory}
-use Rattle.hm_commands.specs.Words.{Source, ticks, file}
+use Rattle.hm_words.specs.Words.{Source, ticks, file}
 
 -- whether a run halted
 abbrev pub is_halted : Option Outcome → Bool

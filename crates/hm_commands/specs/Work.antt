@@ -5,6 +5,10 @@ use Rattle.hm_asm.specs.declared.errors.AsmErr.{AsmErr}
 use Rattle.hm_asm.specs.declared.errors.AsmErr.TheVariants as asm
 use Rattle.hm_base.specs.declared.errors.ImageErr.{ImageErr}
 use Rattle.hm_base.specs.declared.errors.ImageErr.TheVariants as image
+use Rattle.hm_debug.specs.declared.errors.ScriptErr.{ScriptErr}
+use Rattle.hm_debug.specs.declared.errors.ScriptErr.TheVariants as script
+use Rattle.hm_journal.specs.declared.journal.JournalErr.{JournalErr}
+use Rattle.hm_journal.specs.declared.journal.JournalErr.TheVariants as journal
 use Rattle.hm_line.specs.declared.errors.AsmKind.{AsmKind}
 use Rattle.hm_line.specs.declared.errors.AsmKind.TheVariants as row
 use Rattle.hm_sched.specs.declared.errors.LineKind.{LineKind}
@@ -15,7 +19,7 @@ use Rattle.hm_text_base.specs.Texts.{hex8}
 use Rattle.hm_commands.specs.declared.work.Output.{Output}
 use Rattle.hm_commands.specs.declared.work.Finish.{Finish}
 use Rattle.hm_commands.specs.declared.work.Refusal.{Refusal}
-use Rattle.hm_commands.specs.declared.work.Refusal.TheVariants.{FileTooLarge, Image, Schedule, Source, Reset}
+use Rattle.hm_commands.specs.declared.work.Refusal.TheVariants.{FileTooLarge, Image, Schedule, Source, Script, Journal, Past, Reset}
 use Rattle.hm_commands.specs.declared.work.Stop.{Stop}
 use Rattle.hm_commands.specs.declared.work.Stop.TheVariants.{Refused, NoMemory}
 
@@ -65,12 +69,30 @@ abbrev pub source_text : AsmErr → List ℕ → List ℕ
 source_text (asm.Line k c kind) out = out ++ codes "line " ++ decimal k ++ codes " column " ++ decimal c ++ codes " " ++ asm_kind_text kind
 source_text asm.OutOfMemory out = out
 
+-- what is wrong with a script, after a text
+abbrev pub script_text : ScriptErr → List ℕ → List ℕ
+script_text (script.Line k) out = out ++ codes "line " ++ decimal k
+script_text script.TooManyLines out = out ++ codes "too many lines"
+script_text script.OutOfMemory out = out
+
+-- what is wrong with a journal, after a text
+abbrev pub journal_refusal_text : JournalErr → List ℕ → List ℕ
+journal_refusal_text journal.TooMany out = out ++ codes "too many"
+journal_refusal_text journal.Json out = out ++ codes "json"
+journal_refusal_text journal.Shape out = out ++ codes "shape"
+journal_refusal_text journal.Format out = out ++ codes "format"
+journal_refusal_text (journal.Differs tick) out = out ++ codes "differs " ++ decimal tick
+journal_refusal_text journal.OutOfMemory out = out
+
 -- what a refusal's line says, after a text
 abbrev pub refusal_text : Refusal → List ℕ → List ℕ
 refusal_text FileTooLarge out = out ++ codes "file too large"
 refusal_text (Image e) out = image_text e (out ++ codes "image ")
 refusal_text (Schedule e) out = schedule_text e (out ++ codes "schedule ")
 refusal_text (Source e) out = source_text e (out ++ codes "source ")
+refusal_text (Script e) out = script_text e (out ++ codes "script ")
+refusal_text (Journal e) out = journal_refusal_text e (out ++ codes "journal ")
+refusal_text (Past last) out = out ++ codes "replay past " ++ decimal last
 refusal_text (Reset value) out = out ++ codes "image reset " ++ hex8 value
 
 -- what a command comes to: whether what was asked came about, the file to write and the text to print; or a refusal
@@ -104,3 +126,17 @@ image_stop e = Refused (Image e)
 abbrev pub source_stop : AsmErr → Stop
 source_stop asm.OutOfMemory = NoMemory
 source_stop e = Refused (Source e)
+
+-- all that is wrong with a script is refused, and want of memory is no refusal
+abbrev pub script_stop : ScriptErr → Stop
+script_stop script.OutOfMemory = NoMemory
+script_stop e = Refused (Script e)
+
+-- all that is wrong with a journal is refused, and want of memory is no refusal
+abbrev pub journal_stop : JournalErr → Stop
+journal_stop journal.OutOfMemory = NoMemory
+journal_stop e = Refused (Journal e)
+
+-- a tick that no run of a tape reaches, which begins so many
+abbrev pub past_stop : ℕ → Stop
+past_stop last = Refused (Past last)

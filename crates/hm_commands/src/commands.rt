@@ -3,23 +3,26 @@
 ghost use Rattle.std.specs.Prelude.{◌≡◌, ◌≤◌, List, [], Result, Ok, length, map, All};
 ghost use Rattle.hm_base.specs.Image.{Segment};
 ghost use Rattle.hm_codes.specs.Listing.{Listing};
-ghost use Rattle.hm_elf.specs.ReadImage.{image_in};
+ghost use Rattle.hm_commands.specs.Images.{image_of};
 ghost use Rattle.hm_host.specs.Host.{longest};
 ghost use Rattle.hm_sched.specs.Schedule.{Sched, plain};
 ghost use Rattle.hm_sched.specs.ReadFile.{Gives as GivesSchedule};
 ghost use Rattle.hm_sched.specs.declared.errors.SchedErr.{SchedErr};
-ghost use Rattle.hm_commands.specs.Words.{run, source_meant, meant, reads_of};
+ghost use Rattle.hm_words.specs.Words.{run, source_meant, meant, reads_of};
 ghost use Rattle.hm_commands.specs.Work.{Gives, GivesOne};
-ghost use Rattle.hm_commands.specs.Commands.{AreListings, ComesTo, IsAsmOutcome, IsDisOutcome, run_outcome, seq_outcome};
+ghost use Rattle.hm_commands.specs.Commands.{AreListings, ComesTo, IsAsmOutcome, IsDisOutcome, IsSoakOutcome, hex_outcome, plan_outcome, run_outcome, seq_outcome};
 
+use crate::images::read_any;
 use crate::machine::{is_halted, run_to_end, short_report};
-use crate::ranges::Range;
-use crate::ticks::Ticks;
-use crate::words::{Command, Source};
+use crate::tapes::{debug, journal, read_schedule, replay};
 use crate::work::{Finish, Output, Stop};
 use hm_asm::{assemble, listing};
-use hm_elf::{read_image, write_image};
-use hm_sched::{SchedErr, Schedule, parse, plain};
+use hm_elf::write_image;
+use hm_ihex::write_hex;
+use hm_plan::plan;
+use hm_sched::{SchedErr, Schedule, plain, print};
+use hm_soak::summary;
+use hm_words::{Command, Planned, Range, Source, Ticks};
 use std::alloc::Global;
 
 /// The schedule of so many ticks of one whole instruction each. It is refused for want of memory alone.
@@ -38,9 +41,9 @@ fn run_under<'a>(
 ) -> Result<Finish<'a>, Stop>
     requires short { length image.now ≤ longest }
     ensures { (listings : List Segment → Listing) → AreListings listings → (read : Result Sched SchedErr) → GivesSchedule (λ s. s) schedule read
-        → Gives (run_outcome listings (image_in image.now) read memory.now) result }
+        → Gives (run_outcome listings (image_of image.now) read memory.now) result }
 {
-    let image = read_image(alloc, image)?;
+    let image = read_any(alloc, image)?;
     let schedule = schedule?;
     let machine = run_to_end(alloc, &image, schedule)?;
     Ok(Finish {
@@ -53,7 +56,7 @@ fn run_under<'a>(
     })
 }
 
-/// Runs an image under the schedule of its source, from the contents of the two files.
+/// Runs an image under the schedule of its source, from the contents of the files.
 fn run<'a>(
     alloc: Global,
     schedule: &Source<'_>,
@@ -65,24 +68,16 @@ fn run<'a>(
     ensures { (listings : List Segment → Listing) → AreListings listings
         → GivesOne (ComesTo listings (run [] (source_meant schedule.now) memory.now) (map (λ bytes. bytes.items) contents.now)) result }
 {
-    match schedule {
-        Source::Plain(ticks) => {
-            let schedule = plain_schedule(alloc, *ticks);
-            run_under(alloc, &contents[0], schedule, memory)
-        }
-        Source::File(_) => {
-            let schedule = parse(alloc, &contents[1]);
-            run_under(alloc, &contents[0], schedule, memory)
-        }
-    }
+    let read = read_schedule(alloc, schedule, contents);
+    run_under(alloc, &contents[0], read, memory)
 }
 
 /// Runs so many whole instructions of an image in order. The report is to be printed, of a fault the first line alone.
 fn seq<'a>(alloc: Global, image: &[u8], ticks: Ticks) -> Result<Finish<'a>, Stop>
     requires short { length image.now ≤ longest }
-    ensures { (listings : List Segment → Listing) → AreListings listings → Gives (seq_outcome listings (image_in image.now) ticks.count) result }
+    ensures { (listings : List Segment → Listing) → AreListings listings → Gives (seq_outcome listings (image_of image.now) ticks.count) result }
 {
-    let image = read_image(alloc, image)?;
+    let image = read_any(alloc, image)?;
     let schedule = plain_schedule(alloc, ticks)?;
     let machine = run_to_end(alloc, &image, schedule)?;
     Ok(Finish {
@@ -95,9 +90,9 @@ fn seq<'a>(alloc: Global, image: &[u8], ticks: Ticks) -> Result<Finish<'a>, Stop
 /// Lists a range of an image's flash. The listing is to be printed.
 fn dis<'a>(alloc: Global, image: &[u8], range: Range) -> Result<Finish<'a>, Stop>
     requires short { length image.now ≤ longest }
-    ensures { GivesOne (IsDisOutcome (image_in image.now) range.lo range.hi) result }
+    ensures { GivesOne (IsDisOutcome (image_of image.now) range.lo range.hi) result }
 {
-    let image = read_image(alloc, image)?;
+    let image = read_any(alloc, image)?;
     let lines = listing(alloc, &image, range.lo, range.hi)?;
     Ok(Finish {
         done: true,
@@ -116,6 +111,56 @@ fn asm<'a>(alloc: Global, source: &[u8], out: &'a str) -> Result<Finish<'a>, Sto
     Ok(Finish {
         done: true,
         file: Some(Output { name: out, bytes }),
+        text: None,
+    })
+}
+
+/// Runs the generated work of a number. The summary is to be printed.
+fn soak<'a>(alloc: Global, number: u32) -> Result<Finish<'a>, Stop>
+    ensures { GivesOne (IsSoakOutcome number) result }
+{
+    let summary = summary(alloc, number)?;
+    Ok(Finish {
+        done: true,
+        file: None,
+        text: Some(summary),
+    })
+}
+
+/// Plans so many instructions of an image. The schedule is to be written.
+fn plan_to<'a>(
+    alloc: Global,
+    image: &[u8],
+    count: Planned,
+    out: &'a str,
+) -> Result<Finish<'a>, Stop>
+    requires short { length image.now ≤ longest }
+    ensures { (listings : List Segment → Listing) → AreListings listings → Gives (plan_outcome listings (image_of image.now) count.count out.now) result }
+{
+    let image = read_any(alloc, image)?;
+    let schedule = plan(alloc, &image, count.count)?;
+    Ok(Finish {
+        done: true,
+        file: Some(Output {
+            name: out,
+            bytes: print(alloc, &schedule)?,
+        }),
+        text: None,
+    })
+}
+
+/// Writes an image of any form as Intel HEX.
+fn hex_to<'a>(alloc: Global, image: &[u8], out: &'a str) -> Result<Finish<'a>, Stop>
+    requires short { length image.now ≤ longest }
+    ensures { Gives (hex_outcome (image_of image.now) out.now) result }
+{
+    let image = read_any(alloc, image)?;
+    Ok(Finish {
+        done: true,
+        file: Some(Output {
+            name: out,
+            bytes: write_hex(alloc, &image)?,
+        }),
         text: None,
     })
 }
@@ -140,5 +185,16 @@ pub fn perform<'a>(
         Command::Seq { ticks, .. } => seq(alloc, &contents[0], *ticks),
         Command::Dis { range, .. } => dis(alloc, &contents[0], *range),
         Command::Asm { out, .. } => asm(alloc, &contents[0], out),
+        Command::Soak { number } => soak(alloc, *number),
+        Command::Debug { schedule, .. } => debug(alloc, schedule, contents),
+        Command::Journal {
+            schedule,
+            every,
+            out,
+            ..
+        } => journal(alloc, schedule, *every, contents, out),
+        Command::Replay { schedule, tick, .. } => replay(alloc, schedule, *tick, contents),
+        Command::Plan { count, out, .. } => plan_to(alloc, &contents[0], *count, out),
+        Command::Hex { out, .. } => hex_to(alloc, &contents[0], out),
     }
 }

@@ -2,16 +2,16 @@
 #![tactic(auto)]
 
 mod commands;
+mod images;
 mod laws;
 mod machine;
 mod outside;
-mod ranges;
 mod status;
-mod ticks;
+mod tapes;
 mod top;
-mod words;
 mod work;
 
-pub use laws::{effect_law, listings_exist, words_of_commands};
+pub use hm_words::words_of_commands;
+pub use laws::{effect_law, hex_run_law, listings_exist};
 pub use status::Status;
 pub use top::helium;

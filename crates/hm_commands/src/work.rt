@@ -1,10 +1,13 @@
 //! What a command comes to, once its files are read: what is to be written and printed, or a refusal.
 
 ghost use Rattle.std.specs.Prelude.{◌≡◌, IfOk};
-ghost use Rattle.hm_commands.specs.Work.{asm_kind_text, image_text, kind_text, schedule_text, source_text, refusal_text};
+ghost use Rattle.hm_commands.specs.Work.{asm_kind_text, image_text, kind_text, schedule_text, journal_refusal_text, script_text, source_text, refusal_text};
 
 use hm_asm::{AsmErr, AsmKind};
 use hm_base::{ImageErr, OutOfMemory};
+use hm_debug::ScriptErr;
+use hm_journal::JournalErr;
+use hm_machine::Past;
 use hm_sched::{LineKind, SchedErr};
 use hm_text_base::{decimal, hex8, text};
 use std::alloc::Global;
@@ -35,6 +38,12 @@ pub enum Refusal {
     Schedule(SchedErr),
     /// The bytes of a file are no source.
     Source(AsmErr),
+    /// The bytes of a file are no script.
+    Script(ScriptErr),
+    /// The bytes of a file are no journal, or not the run's, or a journal would have too many checkpoints.
+    Journal(JournalErr),
+    /// The run begins no more than so many ticks.
+    Past { last: u32 },
     /// The word at 4 of an image, whose bit 0 is not set.
     Reset { value: u32 },
 }
@@ -134,6 +143,37 @@ fn add_source_text(alloc: Global, out: &mut Vec<u8>, e: AsmErr) -> Result<(), Ou
     }
 }
 
+/// Adds what is wrong with a script. Want of memory is no such thing, and adds nothing.
+fn add_script_text(alloc: Global, out: &mut Vec<u8>, e: ScriptErr) -> Result<(), OutOfMemory>
+    ensures { IfOk result (λ _. out.new.items ≡ script_text e out.old.items) }
+{
+    match e {
+        ScriptErr::Line { line } => {
+            text(out, b"line ")?;
+            decimal(alloc, out, line as u64)
+        }
+        ScriptErr::TooManyLines => text(out, b"too many lines"),
+        ScriptErr::OutOfMemory => Ok(()),
+    }
+}
+
+/// Adds what is wrong with a journal. Want of memory is no such thing, and adds nothing.
+fn add_journal_text(alloc: Global, out: &mut Vec<u8>, e: JournalErr) -> Result<(), OutOfMemory>
+    ensures { IfOk result (λ _. out.new.items ≡ journal_refusal_text e out.old.items) }
+{
+    match e {
+        JournalErr::TooMany => text(out, b"too many"),
+        JournalErr::Json => text(out, b"json"),
+        JournalErr::Shape => text(out, b"shape"),
+        JournalErr::Format => text(out, b"format"),
+        JournalErr::Differs { tick } => {
+            text(out, b"differs ")?;
+            decimal(alloc, out, tick as u64)
+        }
+        JournalErr::OutOfMemory => Ok(()),
+    }
+}
+
 impl Refusal {
     /// Adds what the line of a refusal says.
     pub fn add_text(self, alloc: Global, out: &mut Vec<u8>) -> Result<(), OutOfMemory>
@@ -152,6 +192,18 @@ impl Refusal {
             Refusal::Source(e) => {
                 text(out, b"source ")?;
                 add_source_text(alloc, out, e)
+            }
+            Refusal::Script(e) => {
+                text(out, b"script ")?;
+                add_script_text(alloc, out, e)
+            }
+            Refusal::Journal(e) => {
+                text(out, b"journal ")?;
+                add_journal_text(alloc, out, e)
+            }
+            Refusal::Past { last } => {
+                text(out, b"replay past ")?;
+                decimal(alloc, out, last as u64)
             }
             Refusal::Reset { value } => {
                 text(out, b"image reset ")?;
@@ -214,5 +266,41 @@ impl From<AsmErr> for Stop {
             AsmErr::OutOfMemory => Stop::NoMemory,
             e => Stop::Refused(Refusal::Source(e)),
         }
+    }
+}
+
+impl From<ScriptErr> for Stop {
+    ghost use Rattle.hm_commands.specs.Work.{script_stop};
+
+    ghost from_gives = { λ e stop. stop ≡ script_stop e };
+
+    fn from(e: ScriptErr) -> Stop {
+        match e {
+            ScriptErr::OutOfMemory => Stop::NoMemory,
+            e => Stop::Refused(Refusal::Script(e)),
+        }
+    }
+}
+
+impl From<JournalErr> for Stop {
+    ghost use Rattle.hm_commands.specs.Work.{journal_stop};
+
+    ghost from_gives = { λ e stop. stop ≡ journal_stop e };
+
+    fn from(e: JournalErr) -> Stop {
+        match e {
+            JournalErr::OutOfMemory => Stop::NoMemory,
+            e => Stop::Refused(Refusal::Journal(e)),
+        }
+    }
+}
+
+impl From<Past> for Stop {
+    ghost use Rattle.hm_commands.specs.Work.{past_stop};
+
+    ghost from_gives = { λ e stop. stop ≡ past_stop e.last };
+
+    fn from(e: Past) -> Stop {
+        Stop::Refused(Refusal::Past { last: e.last })
     }
 }

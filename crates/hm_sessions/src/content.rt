@@ -22,12 +22,24 @@ fn line_bytes(alloc: Global, text: &str) -> Result<Vec<u8>> {
     Ok(bytes)
 }
 
-/// The first bytes of some that have a name, behind how many they are.
-fn front_bytes(alloc: Global, named: &[Named], text: &str) -> Result<Vec<u8>> {
+/// A number and the bytes of a name.
+fn counted<'a>(named: &'a [Named], text: &str) -> Result<(usize, &'a [u8])> {
     let mut words = text.split_whitespace();
     let count = number(words.next())?;
     let all = find(named, words.next().context("a name is wanted")?)?;
+    Ok((count, all))
+}
+
+/// The first bytes of some that have a name, behind how many they are.
+fn front_bytes(alloc: Global, named: &[Named], text: &str) -> Result<Vec<u8>> {
+    let (count, all) = counted(named, text)?;
     Ok(all.get(..count).context("too few bytes")?.to_vec(alloc)?)
+}
+
+/// The bytes behind the first of some that have a name, behind how many these are.
+fn other_bytes(alloc: Global, named: &[Named], text: &str) -> Result<Vec<u8>> {
+    let (count, all) = counted(named, text)?;
+    Ok(all.get(count..).context("too few bytes")?.to_vec(alloc)?)
 }
 
 /// The bytes that a line says by its first word and the text behind it; None where it is no such line.
@@ -45,6 +57,7 @@ pub fn content(
         "zeros" => vec![in alloc; 0; number(Some(text))?]?,
         "add" => find(named, text)?.to_vec(alloc)?,
         "front" => front_bytes(alloc, named, text)?,
+        "behind" => other_bytes(alloc, named, text)?,
         "written" => host.file(text).context("no such file")?.to_vec(alloc)?,
         "printed" => host.printed().to_vec(alloc)?,
         _ => return Ok(None),

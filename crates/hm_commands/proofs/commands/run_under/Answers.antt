@@ -1,5 +1,5 @@
 use Rattle.std.proofs.lemmas.Result.{err_from_is_err_and}
-use Rattle.hm_elf.specs.ReadImage.{image_in}
+use Rattle.hm_commands.specs.Images.{image_of}
 use Rattle.hm_commands.proofs.Runs.{run_image_refused}
 use Rattle.hm_commands.proofs.commands.run_under.Goals as goal
 
@@ -7,4 +7,4 @@ pub returns-in_err-image : goal.returns-in_err-image
 returns-in_err-image c = λ listings are read given.
     let p = err_from_is_err_and c.from_residual.result c.from_residual.ensures.1 in
     let e = c.in_err-image.field-0.0 in
-    rw p.1 (run_image_refused listings (image_in c.args.image.now) read c.args.memory.now e p.0 c.in_err-image.ensures.exact p.2)
+    rw p.1 (run_image_refused listings (image_of c.args.image.now) read c.args.memory.now e p.0 c.in_err-image.ensures.exact p.2)

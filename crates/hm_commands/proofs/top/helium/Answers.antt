@@ -3,7 +3,7 @@ use Rattle.std.specs.String.{string_bytes}
 use Rattle.hm_commands.specs.declared.status.Status.TheVariants.{Usage}
 use Rattle.hm_commands.specs.Calls.{read_calls}
 use Rattle.hm_commands.specs.Effect.{IsEffect, reads_for, usage_effect, usage_line}
-use Rattle.hm_commands.specs.Words.{form_of}
+use Rattle.hm_words.specs.Words.{form_of}
 use Rattle.hm_commands.proofs.Carrying.{stays_spent}
 use Rattle.hm_commands.proofs.Ending.{Does-carries, Does-usage, Does-host_fault, Does-makes, Does-risen, Does-quiet, Does-spent, usage_is, usage_makes}
 use Rattle.hm_commands.proofs.Headlines.{headline_of, headline_of_none, order_of, order_of_none}
@@ -18,29 +18,29 @@ returns-in-Some-clause-effect g c = λ listings are F told.
     let words = map string_bytes c.args.words.now in
     let does = c.obey.ensures.effect listings are in
     does_one (read_calls F (reads_for (form_of words))) (IsEffect listings words F) _ _ _ (one_effect listings words F) (some_effect listings words F)
-    (Does-carries listings _ words _ _ _ F does c.in-Some.ensures told)
-    (Does-makes listings _ words _ _ _ F does c.in-Some.ensures told)
-    (Does-spent listings _ words _ _ _ F does c.in-Some.ensures told)
+    (Does-carries listings _ words _ _ _ F does c.in-Some.ensures.value told)
+    (Does-makes listings _ words _ _ _ F does c.in-Some.ensures.value told)
+    (Does-spent listings _ words _ _ _ F does c.in-Some.ensures.value told)
 
 pub returns-in-None-clause-effect : goal.returns-in-None-clause-effect
 returns-in-None-clause-effect g c = λ listings are F told.
     let words = map string_bytes c.args.words.now in
     does_one (read_calls F (reads_for (form_of words))) (IsEffect listings words F) _ _ _ (one_effect listings words F) (some_effect listings words F)
-    (inl (usage_effect, usage_is listings words F c.in-None.ensures, c.say_usage.ensures.effect))
-    (usage_makes listings words (g.H.Host.state c.args.host.now) (g.H.Host.state c.say_usage.new.host) c.say_usage.result F c.in-None.ensures c.say_usage.ensures.calls)
+    (inl (usage_effect, usage_is listings words F c.in-None.ensures.value, c.say_usage.ensures.effect))
+    (usage_makes listings words (g.H.Host.state c.args.host.now) (g.H.Host.state c.say_usage.new.host) c.say_usage.result F c.in-None.ensures.value c.say_usage.ensures.calls)
     (λ wanted. inl (stays_spent Usage (Some usage_line) _ _ _ c.say_usage.ensures.effect wanted))
 
 pub returns-in-Some-clause-headline : goal.returns-in-Some-clause-headline
-returns-in-Some-clause-headline g c = headline_of _ _ _ _ _ c.in-Some.ensures c.obey.ensures.effect
+returns-in-Some-clause-headline g c = headline_of _ _ _ _ _ c.in-Some.ensures.value c.obey.ensures.effect
 
 pub returns-in-None-clause-headline : goal.returns-in-None-clause-headline
-returns-in-None-clause-headline g c = headline_of_none _ _ _ _ c.in-None.ensures
+returns-in-None-clause-headline g c = headline_of_none _ _ _ _ c.in-None.ensures.value
 
 pub returns-in-Some-clause-order : goal.returns-in-Some-clause-order
-returns-in-Some-clause-order g c = order_of _ _ _ _ _ c.in-Some.ensures c.obey.ensures.effect
+returns-in-Some-clause-order g c = order_of _ _ _ _ _ c.in-Some.ensures.value c.obey.ensures.effect
 
 pub returns-in-None-clause-order : goal.returns-in-None-clause-order
-returns-in-None-clause-order g c = order_of_none _ _ _ _ c.in-None.ensures
+returns-in-None-clause-order g c = order_of_none _ _ _ _ c.in-None.ensures.value
 
 pub returns-in-Some-clause-usage_only : goal.returns-in-Some-clause-usage_only
 returns-in-Some-clause-usage_only g c = λ is. absurd (Does-usage _ _ _ _ _ (c.obey.ensures.effect some_listings.0 some_listings.1) is)

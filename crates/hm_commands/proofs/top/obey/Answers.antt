@@ -3,7 +3,7 @@ use Rattle.std.proofs.lemmas.List.{length-map}
 use Rattle.hm_host.specs.Host.{Becomes}
 use Rattle.hm_commands.specs.Calls.{MakesCalls, read_calls, with_calls, to_fault, to_memory}
 use Rattle.hm_commands.specs.Effect.{reading_of}
-use Rattle.hm_commands.specs.Words.{meant, reads_of}
+use Rattle.hm_words.specs.Words.{meant, reads_of}
 use Rattle.hm_commands.proofs.Calling.{none_made}
 use Rattle.hm_commands.proofs.Carrying.{Does-no_memory, Does-fault, Does-ok, Does-too_large}
 use Rattle.hm_commands.proofs.top.obey.Goals as goal
@@ -15,7 +15,7 @@ pub returns : goal.returns
 returns g c = record {
   effect = λ listings are.
       let h = c.in-Err-OutOfMemory.ensures in
-      let names : map (λ n. n.now) c.deref.result.now ≡ reads_of (meant c.args.command.now) = ap (map (λ n. n.now)) c.deref.ensures.value ∙ c.in-Ok.ensures in
+      let names : map (λ n. n.now) c.deref.result.now ≡ reads_of (meant c.args.command.now) = ap (map (λ n. n.now)) c.deref.ensures.value ∙ c.in-Ok.ensures.names in
       Does-no_memory _ _ _ _ h.files h.printed (rw c.in-Err-OutOfMemory.field-0-is at h.count)
       (λ F is. subst (λ (n : List (List ℕ)). MakesCalls (read_calls F n) (g.H.Host.state c.args.host.now).calls (g.H.Host.state c.read_all.new.host).calls to_memory) names (rw c.in-Err-OutOfMemory.field-0-is at h.calls F is));
 }
@@ -24,7 +24,7 @@ pub returns-in-Err-Failed : goal.returns-in-Err-Failed
 returns-in-Err-Failed g c = record {
   effect = λ listings are.
       let h = c.in-Err-Failed.ensures in
-      let names : map (λ n. n.now) c.deref.result.now ≡ reads_of (meant c.args.command.now) = ap (map (λ n. n.now)) c.deref.ensures.value ∙ c.in-Ok.ensures in
+      let names : map (λ n. n.now) c.deref.result.now ≡ reads_of (meant c.args.command.now) = ap (map (λ n. n.now)) c.deref.ensures.value ∙ c.in-Ok.ensures.names in
       Does-fault _ _ _ _ h.files h.printed (rw c.in-Err-Failed.field-0-is at h.count)
       (λ F is. subst (λ (n : List (List ℕ)). MakesCalls (read_calls F n) (g.H.Host.state c.args.host.now).calls (g.H.Host.state c.read_all.new.host).calls to_fault) names (rw c.in-Err-Failed.field-0-is at h.calls F is));
 }
@@ -33,7 +33,7 @@ pub returns-in-Err-TooLarge : goal.returns-in-Err-TooLarge
 returns-in-Err-TooLarge g c = record {
   effect = λ listings are.
       let h = c.in-Err-TooLarge.ensures in
-      let names : map (λ n. n.now) c.deref.result.now ≡ reads_of (meant c.args.command.now) = ap (map (λ n. n.now)) c.deref.ensures.value ∙ c.in-Ok.ensures in
+      let names : map (λ n. n.now) c.deref.result.now ≡ reads_of (meant c.args.command.now) = ap (map (λ n. n.now)) c.deref.ensures.value ∙ c.in-Ok.ensures.names in
       Does-too_large _ _ _ _ _ _ (λ F is. ap (reading_of F) (sym names) ∙ (rw c.in-Err-TooLarge.field-0-is at h.answer) F is) h.files h.printed (rw c.in-Err-TooLarge.field-0-is at h.count)
       (λ F is. subst (λ (n : List (List ℕ)). Becomes (with_calls (read_calls F n)) (g.H.Host.state c.args.host.now).calls (g.H.Host.state c.read_all.new.host).calls) names (rw c.in-Err-TooLarge.field-0-is at h.calls F is))
       c.refuse.ensures.effect c.refuse.ensures.calls;
@@ -45,13 +45,13 @@ perform-requires-clause-short g c = rw c.deref-in-Ok-read_all.ensures.value c.in
 pub perform-requires-clause-each : goal.perform-requires-clause-each
 perform-requires-clause-each g c =
     c.deref-in-Ok-read_all.ensures.len ∙ c.in-Ok-read_all.ensures.each
-    ∙ sym (length-map c.deref.result.now (λ n. n.now)) ∙ ap (λ l. length (map (λ n. n.now) l)) c.deref.ensures.value ∙ ap length c.in-Ok.ensures
+    ∙ sym (length-map c.deref.result.now (λ n. n.now)) ∙ ap (λ l. length (map (λ n. n.now) l)) c.deref.ensures.value ∙ ap length c.in-Ok.ensures.names
 
 pub returns-in-Ok-read_all : goal.returns-in-Ok-read_all
 returns-in-Ok-read_all g c = record {
   effect = λ listings are.
       let h = c.in-Ok-read_all.ensures in
-      let names : map (λ n. n.now) c.deref.result.now ≡ reads_of (meant c.args.command.now) = ap (map (λ n. n.now)) c.deref.ensures.value ∙ c.in-Ok.ensures in
+      let names : map (λ n. n.now) c.deref.result.now ≡ reads_of (meant c.args.command.now) = ap (map (λ n. n.now)) c.deref.ensures.value ∙ c.in-Ok.ensures.names in
       let given = rw c.deref-in-Ok-read_all.ensures.value at c.perform.ensures listings are in
       Does-ok _ _ _ _ _ _ _ _ given (λ F is. ap (reading_of F) (sym names) ∙ h.answer F is) h.files h.printed h.count
       (λ F is. subst (λ (n : List (List ℕ)). Becomes (with_calls (read_calls F n)) (g.H.Host.state c.args.host.now).calls (g.H.Host.state c.read_all.new.host).calls) names (h.calls F is))

@@ -1,0 +1,69 @@
+-- An image and a schedule as they were read, and what comes of them.
+use Rattle.std.proofs.Common.{◌≡◌, ◌%◌, List, Option, Some, Result, Ok, Err, refl, sym, ap, subst, ◌∙◌}
+use Rattle.hm_base.specs.Image.{Segment}
+use Rattle.hm_base.specs.declared.errors.ImageErr.{ImageErr}
+use Rattle.hm_base.specs.declared.errors.ImageErr.TheVariants as refusals
+use Rattle.hm_elf.specs.ReadImage.{Fails as FailsImage}
+use Rattle.hm_machine.specs.Turns.{LoadRefuses}
+use Rattle.hm_machine.specs.declared.load.LoadErr.{LoadErr}
+use Rattle.hm_machine.specs.declared.load.LoadErr.TheVariants as load
+use Rattle.hm_sched.specs.ReadFile.{Fails}
+use Rattle.hm_sched.specs.Schedule.{Sched}
+use Rattle.hm_sched.specs.declared.errors.SchedErr.{SchedErr}
+use Rattle.hm_sched.specs.declared.errors.SchedErr.TheVariants as sched
+use Rattle.hm_state.specs.Start.{reset_pc}
+use Rattle.hm_commands.specs.Commands.{OfRun, UnlessRefused, run_refusal}
+use Rattle.hm_commands.specs.Given.{GivesRun}
+use Rattle.hm_commands.specs.Run.{load_stop, reset_refusal, schedule_stop}
+use Rattle.hm_commands.specs.Work.{Outcome, GivesOne, image_stop, refuses}
+use Rattle.hm_commands.specs.declared.work.Finish.{Finish}
+use Rattle.hm_commands.specs.declared.work.Refusal.{Refusal}
+use Rattle.hm_commands.specs.declared.work.Refusal.TheVariants.{Image, Schedule, Reset}
+use Rattle.hm_commands.specs.declared.work.Stop.{Stop}
+use Rattle.hm_commands.specs.declared.work.Stop.TheVariants.{Refused, NoMemory}
+use Rattle.hm_commands.proofs.Runs.{reset_refusal-even, reset_refusal-odd}
+
+-- ---- reading
+
+image_by_error : (e : ImageErr) (image : Result (List Segment) ImageErr) (schedule : Result Sched SchedErr) → FailsImage e image → GivesRun image schedule (Err (image_stop e))
+image_by_error refusals.OutOfMemory image schedule fails = tt
+image_by_error e image schedule fails = ap (λ (i : Result (List Segment) ImageErr). run_refusal i schedule) fails
+
+pub image_refused : (e : ImageErr) (image : Result (List Segment) ImageErr) (schedule : Result Sched SchedErr) (stop : Stop) → FailsImage e image → stop ≡ image_stop e → GivesRun image schedule (Err stop)
+image_refused e image schedule stop fails is = subst (λ (s : Stop). GivesRun image schedule (Err s)) (sym is) (image_by_error e image schedule fails)
+
+schedule_by_error : (e : SchedErr) (i : List Segment) (image : Result (List Segment) ImageErr) (schedule : Result Sched SchedErr) → image ≡ Ok i → Fails e schedule → GivesRun image schedule (Err (schedule_stop e))
+schedule_by_error sched.OutOfMemory i image schedule at fails = tt
+schedule_by_error e i image schedule at fails = ap (λ (x : Result (List Segment) ImageErr). run_refusal x schedule) at ∙ ap (run_refusal (Ok i)) fails
+
+pub schedule_refused : (e : SchedErr) (i : List Segment) (image : Result (List Segment) ImageErr) (schedule : Result Sched SchedErr) (stop : Stop) → image ≡ Ok i → Fails e schedule → stop ≡ schedule_stop e → GivesRun image schedule (Err stop)
+schedule_refused e i image schedule stop at fails is = subst (λ (s : Stop). GivesRun image schedule (Err s)) (sym is) (schedule_by_error e i image schedule at fails)
+
+-- ---- what comes of both
+
+refused_of : (image : Result (List Segment) ImageErr) (schedule : Result Sched SchedErr) (Is : List Segment → Sched → Outcome → Type 0) (why : Refusal) → run_refusal image schedule ≡ Some why → OfRun image schedule Is (refuses why)
+refused_of (Err e) schedule Is why is = (let same : Image e ≡ why = cc in ap refuses (sym same))
+refused_of (Ok image) (Err e) Is why is = (let same : Schedule e ≡ why = cc in ap refuses (sym same))
+refused_of (Ok image) (Ok s) Is why is = absurd cc
+
+pub run_stops : (image : Result (List Segment) ImageErr) (schedule : Result Sched SchedErr) (Is : List Segment → Sched → Outcome → Type 0) (stop : Stop) → GivesRun image schedule (Err stop) → GivesOne (OfRun image schedule Is) (Err stop)
+run_stops image schedule Is (Refused why) given = refused_of image schedule Is why given
+run_stops image schedule Is NoMemory given = tt
+
+pub run_goes_on : (image : Result (List Segment) ImageErr) (schedule : Result Sched SchedErr) (i : List Segment) (s : Sched) (Is : List Segment → Sched → Outcome → Type 0) (answer : Result Finish Stop) → image ≡ Ok i → schedule ≡ Ok s
+    → GivesOne (Is i s) answer → GivesOne (OfRun image schedule Is) answer
+run_goes_on image schedule i s Is answer at is h =
+    subst (λ (x : Result (List Segment) ImageErr). GivesOne (OfRun x schedule Is) answer) (sym at) (subst (λ (x : Result Sched SchedErr). GivesOne (OfRun (Ok i) x Is) answer) (sym is) h)
+
+-- ---- loading
+
+load_by_error : (image : List Segment) (Is : Outcome → Type 0) (e : LoadErr) → LoadRefuses image e → GivesOne (UnlessRefused (reset_refusal image) Is) (Err (load_stop e))
+load_by_error image Is (load.Reset value) h =
+    subst (λ (why : Option Refusal). UnlessRefused why Is (refuses (Reset value))) (sym (reset_refusal-even image value h.0 h.1)) refl
+load_by_error image Is load.OutOfMemory h = tt
+
+pub load_stops : (image : List Segment) (Is : Outcome → Type 0) (e : LoadErr) (stop : Stop) → LoadRefuses image e → stop ≡ load_stop e → GivesOne (UnlessRefused (reset_refusal image) Is) (Err stop)
+load_stops image Is e stop h is = subst (λ (s : Stop). GivesOne (UnlessRefused (reset_refusal image) Is) (Err s)) (sym is) (load_by_error image Is e h)
+
+pub load_goes_on : (image : List Segment) (Is : Outcome → Type 0) (answer : Result Finish Stop) → reset_pc image % 2 ≡ 1 → GivesOne Is answer → GivesOne (UnlessRefused (reset_refusal image) Is) answer
+load_goes_on image Is answer odd h = subst (λ (why : Option Refusal). GivesOne (UnlessRefused why Is) answer) (sym (reset_refusal-odd image odd)) h

@@ -1,0 +1,5 @@
+use Rattle.hm_commands.proofs.HexRuns.{hex_runs_alike}
+use Rattle.hm_commands.proofs.laws.hex_run_law.Goals as goal
+
+pub returns : goal.returns
+returns c = record { alike = hex_runs_alike }
