@@ -29,7 +29,7 @@ use Rattle.hm_sched.specs.Printed.{file_text}
 use Rattle.hm_sched.specs.Schedule.{Sched, plain, ticks_of}
 use Rattle.hm_sched.specs.declared.errors.SchedErr.{SchedErr}
 use Rattle.hm_soak_laws.specs.Summary.{IsSoakLine}
-use Rattle.hm_words.specs.Words.{Form, Source as Given, ticks, file, run, seq, dis, asm, soak, debug, journal, replay, plan, hex}
+use Rattle.hm_words.specs.Words.{Form, Source as Held, ticks, file, run, seq, dis, asm, soak, debug, journal, replay, plan, hex}
 use Rattle.hm_commands.specs.declared.work.Refusal.{Refusal}
 use Rattle.hm_commands.specs.declared.work.Refusal.TheVariants.{Image, Schedule, Source, Script, Journal, Past}
 use Rattle.hm_commands.specs.Run.{is_halted, reset_refusal, schedule_in, short_report}
@@ -151,7 +151,7 @@ abbrev pub IsSoakOutcome : ℕ → Outcome → Type 0
 IsSoakOutcome number = λ o. (text : List ℕ) × IsSoakLine number text × (o ≡ finishes true None (Some text))
 
 -- the last file that is read behind an image and a schedule
-abbrev pub last_read : Given → List (List ℕ) → List ℕ
+abbrev pub last_read : Held → List (List ℕ) → List ℕ
 last_read (ticks n) contents = get_or contents 1 []
 last_read (file name) contents = get_or contents 2 []
 

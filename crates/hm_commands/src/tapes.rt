@@ -17,8 +17,8 @@ use crate::images::read_any;
 use crate::work::{Finish, Output, Stop};
 use hm_base::Image;
 use hm_debug::{check_script, script};
-use hm_journal::{Journal, compare, read_journal, write_journal};
-use hm_machine::Tape;
+use hm_journal::{Journal, JournalErr, compare, read_journal, write_journal};
+use hm_machine::{Machine, Tape};
 use hm_sched::{SchedErr, Schedule, parse, plain};
 use hm_words::{Every, Source, Ticks};
 use std::alloc::Global;
@@ -103,6 +103,11 @@ fn write<'a>(alloc: Global, given: Given, every: Every, out: &'a str) -> Result<
     ensures outcome { (listings : List Segment → Listing) → AreListings listings → GivesOne (IsJournalOutcome listings every.ticks out.now given.image given.schedule) result }
 {
     let Given { image, schedule } = given;
+    // One with too many checkpoints is refused before the run, but behind the reset address.
+    if schedule.ticks() / every.ticks + 1 > 64 {
+        Machine::load(alloc, &image, schedule)?;
+        return Err(Stop::from(JournalErr::TooMany));
+    }
     let mut tape = Tape::new(alloc, &image, schedule)?;
     let bytes = write_journal(alloc, &mut tape, every.ticks)?;
     Ok(Finish {

@@ -83,7 +83,7 @@ pub fn plan(alloc: Global, image: &Image, n: u32) -> Result<Schedule, LoadErr>
     // Each tick does what is greedy in the state before it.
     ensures greedy { IfOk result (λ s. (listing : Listing) → IsListing (flash_byte image.now) listing → (t : ℕ) (line : TickLine) (left : List TickLine)
         → drop t (ticks_of s.lines) ≡ line ∷ left → IsGreedyAt listing image.now n s t line) }
-    // It is as dense as it may be: where a tick does a beat of the older alone while two may overlap, the older is the last that is asked for.
+    // Where a tick does a beat of the older alone while two may overlap, the older is the last that is asked for.
     ensures dense { IfOk result (λ s. (listing : Listing) → IsListing (flash_byte image.now) listing → (t : ℕ) (line : TickLine) (left : List TickLine)
         → drop t (ticks_of s.lines) ≡ line ∷ left → line.letters ≡ older_letter ∷ [] → let c = (timed listing image.now s t).config in
         IsReady (bare_program listing) c → n ≤ c.n + 1) }

@@ -3,7 +3,7 @@
 ghost use Rattle.std.specs.Prelude.{◌≡◌, ◌↔◌, ℕ, List, Some};
 ghost use Rattle.hm_words.specs.Words.{Source, run, seq, dis, asm, soak, debug, journal, replay, plan, hex, form_of, IsRun, IsSeq, IsDis, IsAsm, IsSoak, IsDebug, IsJournal, IsReplay, IsPlan, IsHex};
 
-/// Words are read as a command exactly where they are such.
+/// Words are read as a command exactly where they are the words of that command, by position.
 ///
 /// It does nothing; its clauses are theorems about words.
 pub fn words_of_commands()
