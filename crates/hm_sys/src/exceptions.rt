@@ -32,23 +32,11 @@ pub fn arrive(d: &mut Dev, n: u8)
     d.pending |= 1 << n;
 }
 
-/// Interrupt `n` becomes pending where its bit is set in `irq`.
-fn arrive_where(d: &mut Dev, irq: u32, n: u8)
-    requires { n < 32 }
-    ensures value { d.new ≡ (if is_set n irq then arrived (2 ^ n) d.old else d.old) }
-{
-    if is_set(n as u32, irq) {
-        arrive(d, n);
-    }
-}
-
 /// The interrupts whose bits are set in `irq` become pending.
 pub fn arrive_all(d: &mut Dev, irq: u32)
     ensures value { d.new ≡ arrived irq d.old }
 {
-    for n in 0_u8..32 {
-        arrive_where(d, irq, n);
-    }
+    d.pending |= irq;
 }
 
 /// The priority number of an exception, 15 to 47: the byte of SHPR3 or of NVIC_IPR that stands for it. A lower number is more urgent.
