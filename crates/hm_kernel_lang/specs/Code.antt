@@ -1,0 +1,44 @@
+-- The code of a text.
+use Rattle.std.specs.Prelude.{ℕ, ◌+◌, ◌/◌, ◌%◌, ◌^◌, List, [], ◌∷◌, ◌++◌, map}
+use Rattle.hm_kernel_lang.specs.declared.text.Expr.{Expr}
+use Rattle.hm_kernel_lang.specs.declared.text.Expr.TheVariants.{Name, Number, Apply'}
+use Rattle.hm_kernel_lang.specs.declared.text.Line.{Line}
+use Rattle.hm_kernel_lang.specs.declared.text.Text.{Text}
+use Rattle.hm_kernel_lang.specs.Language.{address}
+use Rattle.hm_kernel_lang.specs.Machine.{Kind, Clear, Low, High, LowLength, HighLength, Offset, Splat, Load, Store, Do, Further, halves, Item, Plain, Begin, Again, Stop}
+
+-- an address or a constant in the scratch register
+abbrev pub constant_code : ℕ → List Kind → List Kind
+constant_code n ks = Low (n % 2 ^ 16) ∷ High (n / 2 ^ 16) ∷ ks
+
+-- the value of an expression in register q; registers above it are changed
+abbrev pub expr_code : (ℕ → ℕ) → Expr → ℕ → List Kind
+expr_code at (Name i) q = constant_code (at i) (Offset ∷ Load q ∷ [])
+expr_code at (Number n) q = constant_code n (Splat q ∷ [])
+expr_code at (Apply' o p l r1 r) q = expr_code at l q ++ (expr_code at r (q + 1) ++ Do o q ∷ [])
+
+abbrev pub halves_of : List Kind → ℕ
+halves_of [] = 0
+halves_of (k ∷ ks) = halves k + halves_of ks
+
+-- the body of a loop but for the branch at its end
+abbrev pub end_code : ℕ → List Kind
+end_code a = constant_code a (Offset ∷ Store 0 ∷ Further ∷ [])
+
+abbrev pub body_code : (ℕ → ℕ) → Line → List Kind
+body_code at l = expr_code at l.expr 0 ++ end_code (at l.array)
+
+abbrev pub head_code : ℕ → List Kind
+head_code n = Clear ∷ LowLength (n % 2 ^ 16) ∷ HighLength (n / 2 ^ 16) ∷ []
+
+abbrev pub line_code : (ℕ → ℕ) → ℕ → Line → List Item
+line_code at n l =
+    let h = halves_of (body_code at l) + 2 in
+    map Plain (head_code n) ++ (Begin h ∷ (map Plain (body_code at l) ++ Again h ∷ []))
+
+abbrev pub lines_code : (ℕ → ℕ) → ℕ → List Line → List Item
+lines_code at n [] = Stop ∷ []
+lines_code at n (l ∷ ls) = line_code at n l ++ lines_code at n ls
+
+abbrev pub code : Text → List Item
+code x = lines_code (address x.arrays.items) x.count x.lines.items
