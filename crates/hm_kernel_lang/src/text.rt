@@ -1,5 +1,8 @@
 // Texts of the language.
 
+ghost use Rattle.std.specs.Prelude.{◌≡◌, ◌≤◌};
+ghost use Rattle.hm_kernel_lang.specs.Language.{bytes};
+
 /// The type of the elements of all arrays.
 #[derive(Clone, Copy)]
 pub enum ElementType {
@@ -9,6 +12,20 @@ pub enum ElementType {
     S16,
     U32,
     S32,
+}
+
+impl ElementType {
+    /// How many bytes an element has: 1, 2 or 4.
+    pub fn bytes(self) -> u32
+        ensures value { result ≡ bytes self }
+        ensures few { result ≤ 4 }
+    {
+        match self {
+            ElementType::U8 | ElementType::S8 => 1,
+            ElementType::U16 | ElementType::S16 => 2,
+            ElementType::U32 | ElementType::S32 => 4,
+        }
+    }
 }
 
 /// An operation on two elements.
