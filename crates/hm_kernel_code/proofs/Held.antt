@@ -1,0 +1,140 @@
+-- A list of instructions whose halfwords stand in flash: each stands there.
+use Rattle.std.proofs.Common.{◌≡◌, ℕ, ◌+◌, ◌*◌, ◌%◌, ◌<◌, ◌≤◌, List, [], ◌∷◌, ◌++◌, length, map, refl, ap, subst, arith, length-append}
+use Rattle.hm_base.specs.Image.{flash_size}
+use Rattle.hm_codes.specs.Listing.{HalvesStand}
+use Rattle.hm_isa.specs.declared.Instr.{Instr}
+use Rattle.hm_isa.specs.Code.{halfwords}
+use Rattle.hm_kernel_lang.specs.declared.text.ElementType.{ElementType}
+use Rattle.hm_kernel_lang.specs.declared.text.Op.{Op}
+use Rattle.hm_kernel_lang.specs.declared.text.Op.TheVariants as op
+use Rattle.hm_kernel_lang.specs.declared.text.Line.{Line}
+use Rattle.hm_kernel_lang.specs.Machine.{Again, Begin, Clear, Do, Further, High, HighLength, Item, Kind, Load, Low, LowLength, Offset, Plain, Splat, Stop, Store, halves, item_halves}
+use Rattle.hm_kernel_lang.specs.Code.{body_code, halves_of, head_code, line_code, lines_code}
+use Rattle.hm_kernel_lang.specs.Correct.{CodeStands}
+use Rattle.hm_kernel_lang.proofs.Lines.{items_append}
+use Rattle.hm_kernel_lang.proofs.Straight.{items_halves, plain_halves}
+use Rattle.hm_code_bytes.specs.Bytes.{all_halves}
+use Rattle.hm_kernel_code.specs.Instructions.{AreItems, IsItem, IsKind, IsOperation, StaysIn}
+use Rattle.hm_kernel_code.specs.Images.{StandsIn}
+
+-- HALFWORDS
+front : (flash : ℕ → ℕ) (hs ks : List ℕ) (a : ℕ) → HalvesStand flash (hs ++ ks) a → HalvesStand flash hs a
+front flash [] ks a h = tt
+front flash (x ∷ hs) ks a h = (h.0, h.1, front flash hs ks (a + 2) h.2)
+
+behind : (flash : ℕ → ℕ) (hs ks : List ℕ) (a : ℕ) → HalvesStand flash (hs ++ ks) a → HalvesStand flash ks (a + 2 * length hs)
+behind flash [] ks a h = let e : a ≡ a + 2 * 0 = omega arith in subst (HalvesStand flash ks) e h
+behind flash (x ∷ hs) ks a h =
+    let e : a + 2 + 2 * length hs ≡ a + 2 * length (x ∷ hs) = omega arith in
+    subst (HalvesStand flash ks) e (behind flash hs ks (a + 2) h.2)
+
+room : (flash : ℕ → ℕ) (hs : List ℕ) (a : ℕ) → HalvesStand flash hs a → 0 < length hs → a + 2 * length hs ≤ flash_size
+room flash [] a h s = absurd (omega arith)
+room flash (x ∷ []) a h s = let l = h.0 in omega arith
+room flash (x ∷ y ∷ hs) a h s = let l = room flash (y ∷ hs) (a + 2) h.2 (omega arith) in omega arith
+
+-- HOW LONG EACH KIND IS
+operation_width : (t : ElementType) (o : Op) (q : ℕ) (i : Instr) → IsOperation t o q i → length (halfwords i) ≡ 2
+operation_width t op.Add q i k = ap (λ (x : Instr). length (halfwords x)) k.is
+operation_width t op.Sub q i k = ap (λ (x : Instr). length (halfwords x)) k.is
+operation_width t op.Mul q i k = ap (λ (x : Instr). length (halfwords x)) k.is
+operation_width t op.Min q i k = ap (λ (x : Instr). length (halfwords x)) k.is
+operation_width t op.Max q i k = ap (λ (x : Instr). length (halfwords x)) k.is
+operation_width t op.And q i k = ap (λ (x : Instr). length (halfwords x)) k.is
+operation_width t op.Or q i k = ap (λ (x : Instr). length (halfwords x)) k.is
+operation_width t op.Xor q i k = ap (λ (x : Instr). length (halfwords x)) k.is
+
+kind_width : (t : ElementType) (k : Kind) (i : Instr) → IsKind t k i → length (halfwords i) ≡ halves k
+kind_width t Clear i k = ap (λ (x : Instr). length (halfwords x)) k.is
+kind_width t (Low n) i k = ap (λ (x : Instr). length (halfwords x)) k.is
+kind_width t (High n) i k = ap (λ (x : Instr). length (halfwords x)) k.is
+kind_width t (LowLength n) i k = ap (λ (x : Instr). length (halfwords x)) k.is
+kind_width t (HighLength n) i k = ap (λ (x : Instr). length (halfwords x)) k.is
+kind_width t Offset i k = ap (λ (x : Instr). length (halfwords x)) k.is
+kind_width t (Splat q) i k = ap (λ (x : Instr). length (halfwords x)) k.is
+kind_width t (Load q) i k = ap (λ (x : Instr). length (halfwords x)) k.is
+kind_width t (Store q) i k = ap (λ (x : Instr). length (halfwords x)) k.is
+kind_width t (Do o q) i k = operation_width t o q i k
+kind_width t Further i k = ap (λ (x : Instr). length (halfwords x)) k.is
+
+item_width : (t : ElementType) (x : Item) (i : Instr) → IsItem t x i → length (halfwords i) ≡ item_halves x
+item_width t (Plain k) i h = kind_width t k i h
+item_width t (Begin n) i h = ap (λ (x : Instr). length (halfwords x)) h.is
+item_width t (Again n) i h = ap (λ (x : Instr). length (halfwords x)) h.is
+item_width t Stop i h = ap (λ (x : Instr). length (halfwords x)) h.is
+
+some_kind : (k : Kind) → 0 < halves k
+some_kind Clear = omega arith
+some_kind (Low n) = omega arith
+some_kind (High n) = omega arith
+some_kind (LowLength n) = omega arith
+some_kind (HighLength n) = omega arith
+some_kind Offset = omega arith
+some_kind (Splat q) = omega arith
+some_kind (Load q) = omega arith
+some_kind (Store q) = omega arith
+some_kind (Do o q) = omega arith
+some_kind Further = omega arith
+
+some_item : (x : Item) → 0 < item_halves x
+some_item (Plain k) = some_kind k
+some_item (Begin h) = omega arith
+some_item (Again h) = omega arith
+some_item Stop = omega arith
+
+-- BRANCHES STAY
+abbrev pub AllStay : ℕ → List Item → Type 0
+AllStay a [] = Unit {0}
+AllStay a (x ∷ xs) = StaysIn a x × AllStay (a + 2 * item_halves x) xs
+
+stay_append : (a : ℕ) (xs ys : List Item) → AllStay a xs → AllStay (a + 2 * items_halves xs) ys → AllStay a (xs ++ ys)
+stay_append a [] ys h k = let e : a + 2 * 0 ≡ a = omega arith in subst (λ (x : ℕ). AllStay x ys) e k
+stay_append a (x ∷ xs) ys h k =
+    let e : a + 2 * (item_halves x + items_halves xs) ≡ a + 2 * item_halves x + 2 * items_halves xs = omega arith in
+    (h.0, stay_append (a + 2 * item_halves x) xs ys h.1 (subst (λ (y : ℕ). AllStay y ys) e k))
+
+plain_stay : (a : ℕ) (ks : List Kind) → AllStay a (map Plain ks)
+plain_stay a [] = tt
+plain_stay a (k ∷ ks) = (tt, plain_stay (a + 2 * halves k) ks)
+
+line_stays : (at : ℕ → ℕ) (n a : ℕ) (l : Line) → a + 2 * items_halves (line_code at n l) ≤ 0x100000 → AllStay a (line_code at n l)
+line_stays at n a l fits =
+    let b = map Plain (body_code at l) in
+    let h = halves_of (body_code at l) + 2 in
+    let width = plain_halves (body_code at l) in
+    let all = items_append b (Again h ∷ []) in
+    let p = a + 2 * 5 + 2 * 2 in
+    let back : 2 * h ≤ p + 2 * items_halves b + 4 = omega arith in
+    let over : a + 2 * 5 + 4 + 2 * h ≤ 0x100000 = omega arith in
+    stay_append a (map Plain (head_code n)) (Begin h ∷ (b ++ Again h ∷ [])) (plain_stay a (head_code n))
+    (over, stay_append p b (Again h ∷ []) (plain_stay p (body_code at l)) (back, tt))
+
+pub lines_stay : (at : ℕ → ℕ) (n : ℕ) (ls : List Line) (a : ℕ) → a + 2 * items_halves (lines_code at n ls) ≤ 0x100000 → AllStay a (lines_code at n ls)
+lines_stay at n [] a fits = (tt, tt)
+lines_stay at n (l ∷ ls) a fits =
+    let all = items_append (line_code at n l) (lines_code at n ls) in
+    stay_append a (line_code at n l) (lines_code at n ls) (line_stays at n a l (omega arith)) (lines_stay at n ls (a + 2 * items_halves (line_code at n l)) (omega arith))
+
+-- ITEMS STAND
+pub items_stand : (t : ElementType) (flash : ℕ → ℕ) (a : ℕ) (xs : List Item) (is : List Instr) → a % 2 ≡ 0 → AreItems t xs is → HalvesStand flash (all_halves is) a → AllStay a xs → CodeStands (StandsIn t flash) a xs
+items_stand t flash a [] is even k h s = tt
+items_stand t flash a (x ∷ xs) [] even k h s = absurd k
+items_stand t flash a (x ∷ xs) (i ∷ is) even k h s =
+    let width = item_width t x i k.0 in
+    let here = front flash (halfwords i) (all_halves is) a h in
+    let some = some_item x in
+    let fits = room flash (halfwords i) a here (omega arith) in
+    let next : a + 2 * length (halfwords i) ≡ a + 2 * item_halves x = omega arith in (
+      record { instr = i; here = record { even = even; code = here }; is = k.0; fits = omega arith; reach = s.0 },
+      items_stand t flash (a + 2 * item_halves x) xs is (omega arith) k.1 (subst (HalvesStand flash (all_halves is)) next (behind flash (halfwords i) (all_halves is) a h)) s.1,
+    )
+
+pub total : (t : ElementType) (xs : List Item) (is : List Instr) → AreItems t xs is → length (all_halves is) ≡ items_halves xs
+total t [] [] k = refl
+total t [] (i ∷ is) k = absurd k
+total t (x ∷ xs) [] k = absurd k
+total t (x ∷ xs) (i ∷ is) k = omega (arith, length-append (halfwords i) (all_halves is), item_width t x i k.0, total t xs is k.1)
+
+pub some_code : (at : ℕ → ℕ) (n : ℕ) (ls : List Line) → 0 < items_halves (lines_code at n ls)
+some_code at n [] = omega arith
+some_code at n (l ∷ ls) = omega (arith, items_append (line_code at n l) (lines_code at n ls), some_code at n ls)

@@ -1,0 +1,11 @@
+use Rattle.hm_kernel_code.proofs.Whole.{few_segments, first_word_is, is_image}
+use Rattle.hm_kernel_code.proofs.image.image_law.Goals as goal
+
+pub returns-clause-image : goal.returns-clause-image
+returns-clause-image c = is_image
+
+pub returns-clause-first : goal.returns-clause-first
+returns-clause-first c = first_word_is
+
+pub returns-clause-few : goal.returns-clause-few
+returns-clause-few c = few_segments

@@ -1,0 +1,116 @@
+//! The image of a text: one segment in flash, and one for each array that is given values.
+
+ghost use Rattle.std.specs.Prelude.{◌≡◌, ℕ, ◌<◌, ◌≤◌, All, List, length, IfOk};
+ghost use Rattle.hm_base.specs.Image.{Segment, IsApart, IsPlaced, flash_byte, flash_size, flat, word_at};
+ghost use Rattle.hm_base.specs.declared.errors.ImageErr.TheVariants as image_err;
+ghost use Rattle.hm_kernel_code.specs.Images.{IsImageOf, IsMade, flash_bytes};
+ghost use Rattle.hm_kernel_code.specs.Segments.{AllApart, AllPlaced, array_segment, with_array, with_arrays};
+ghost use Rattle.hm_kernel_lang.specs.declared.text.Text.{Text};
+ghost use Rattle.hm_kernel_lang.specs.Texts.{IsText};
+
+use crate::lines::code_of;
+use crate::values::value_bytes;
+use hm_base::{Image, ImageErr, OutOfMemory};
+use hm_code_bytes::{add_codes, add_word};
+use hm_isa::Instr;
+use hm_kernel_lang::text::{Array, ElementType, Text};
+use std::alloc::Global;
+
+/// The stack pointer at the reset: the end of SRAM.
+const STACK: u32 = 0x2004_0000;
+
+/// The address of the first instruction, with the bit of Thumb code.
+const FIRST: u32 = 9;
+
+/// Why a segment is refused that has its place.
+fn memory_of(e: ImageErr) -> OutOfMemory
+    requires only { e ≡ image_err.OutOfMemory }
+{
+    let _ = e;
+    OutOfMemory
+}
+
+/// The bytes of flash.
+fn flash_bytes(alloc: Global, instrs: &[Instr]) -> Result<Vec<u8>, OutOfMemory>
+    ensures bytes { IfOk result (λ bytes. bytes.items ≡ flash_bytes instrs.now) }
+{
+    let mut bytes = Vec::new(alloc);
+    add_word(&mut bytes, STACK)?;
+    add_word(&mut bytes, FIRST)?;
+    add_codes(&mut bytes, instrs)?;
+    Ok(bytes)
+}
+
+/// The image of bytes that lie in flash from 0 on.
+fn flat_image(alloc: Global, bytes: Vec<u8>) -> Result<Image, OutOfMemory>
+    requires some { 0 < length bytes.items }
+    requires few { length bytes.items ≤ flash_size }
+    ensures value { IfOk result (λ image. image ≡ flat bytes.items) }
+{
+    let mut image = Image::new(alloc);
+    match image.add(0, bytes) {
+        Ok(()) => Ok(image),
+        Err(e) => Err(memory_of(e)),
+    }
+}
+
+/// Adds the values of an array to an image, if it is given any.
+fn add_array(
+    alloc: Global,
+    image: &mut Image,
+    t: ElementType,
+    array: &Array,
+) -> Result<(), OutOfMemory>
+    requires placed { 0 < length array.now.values.items → IsPlaced (array_segment t array.now) }
+    requires apart { IsApart (array_segment t array.now) image.old }
+    ensures added { IfOk result (λ _. image.new ≡ with_array t array.now image.old) }
+{
+    if array.values.is_empty() {
+        return Ok(());
+    }
+    let bytes = value_bytes(alloc, t, &array.values)?;
+    match image.add(array.addr, bytes) {
+        Ok(()) => Ok(()),
+        Err(e) => Err(memory_of(e)),
+    }
+}
+
+/// Adds the values of arrays to an image, those of the last one first.
+fn add_arrays(
+    alloc: Global,
+    image: &mut Image,
+    t: ElementType,
+    arrays: &[Array],
+) -> Result<(), OutOfMemory>
+    requires placed { AllPlaced t arrays.now }
+    requires apart { AllApart t arrays.now image.old }
+    ensures added { IfOk result (λ _. image.new ≡ with_arrays t arrays.now image.old) }
+{
+    match arrays.split_first() {
+        None => Ok(()),
+        Some((first, others)) => {
+            add_arrays(alloc, image, t, others)?;
+            add_array(alloc, image, t, first)
+        }
+    }
+}
+
+/// The image of a text. Nothing but want of memory is refused.
+pub fn image_of(alloc: Global, text: &Text) -> Result<Image, OutOfMemory>
+    requires text { IsText text.now }
+    ensures made { IfOk result (λ image. IsMade text.now image) }
+{
+    let instrs = code_of(alloc, text)?;
+    let bytes = flash_bytes(alloc, &instrs)?;
+    let mut image = flat_image(alloc, bytes)?;
+    add_arrays(alloc, &mut image, text.element, &text.arrays)?;
+    Ok(image)
+}
+
+/// What the image of a text is like: it has the text's code and its first memory, it begins with the end of SRAM as the stack pointer, and
+/// it has at most 17 segments.
+pub fn image_law()
+    ensures image { (x : Text) (image : List Segment) → IsText x → IsMade x image → IsImageOf x image }
+    ensures first { (x : Text) (image : List Segment) → IsText x → IsMade x image → word_at (flash_byte image) 0 ≡ 0x20040000 }
+    ensures few { (x : Text) (image : List Segment) → IsText x → IsMade x image → length image ≤ 17 }
+{}
