@@ -1,5 +1,5 @@
 -- Instructions put behind others, for one expression, line and text after another.
-use Rattle.std.proofs.Common.{◌≡◌, ℕ, zero, suc, ◌+◌, ◌*◌, ◌<◌, ◌≤◌, List, [], ◌∷◌, ◌++◌, length, map, max, take, refl, sym, ap, ◌∙◌, subst, arith, append-nil}
+use Rattle.std.proofs.Common.{◌≡◌, ℕ, ◌+◌, ◌*◌, ◌<◌, ◌≤◌, List, [], ◌∷◌, ◌++◌, length, map, max, take, refl, sym, ap, ◌∙◌, subst, arith, append-nil}
 use Rattle.std.specs.Prelude.{IfOk, Result, Ok, Err, slice_index_or}
 use Rattle.std.specs.List.{flat_map}
 use Rattle.std.proofs.lemmas.Grind.{flat_map-append}
@@ -37,11 +37,6 @@ pub appends_one : (t : ElementType) (x : Item) (i : Instr) (a b : List Instr) �
 appends_one t x i a b is e = record { added = i ∷ []; kinds = (is, tt); is = e }
 
 -- EXPRESSIONS
-pub address_at : (xs : List Array) (i : ℕ) (d : Array) → i < length xs → address xs i ≡ (slice_index_or xs i d).addr
-address_at [] i d h = absurd (omega arith)
-address_at (x ∷ xs) zero d h = refl
-address_at (x ∷ xs) (suc i) d h = address_at xs i d (omega arith)
-
 pub named : (t : ElementType) (xs : List Array) (e : Expr) (q i a : ℕ) (old new : List Instr) (r : Result (Unit {0}) OutOfMemory) → e ≡ Name i → address xs i ≡ a
     → IfOk r (λ u. Appends t (map Plain (constant_code a (Offset ∷ Load q ∷ []))) old new) → IfOk r (λ u. Appends t (map Plain (expr_code (address xs) e q)) old new)
 named t xs e q i a old new r is there h =

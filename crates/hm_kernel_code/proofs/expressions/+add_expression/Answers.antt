@@ -3,7 +3,8 @@ use Rattle.std.specs.Prelude.{slice_index_or}
 use Rattle.hm_kernel_lang.specs.declared.text.Expr.{Expr}
 use Rattle.hm_kernel_lang.specs.Code.{expr_code}
 use Rattle.hm_kernel_lang.specs.Language.{address, need}
-use Rattle.hm_kernel_code.proofs.Appending.{address_at, applied, named, room_above}
+use Rattle.hm_kernel_lang.proofs.Texts.{address_at}
+use Rattle.hm_kernel_code.proofs.Appending.{applied, named, room_above}
 use Rattle.hm_kernel_code.proofs.expressions.+add_expression.Goals as goal
 
 pub operation-requires : goal.operation-requires

@@ -1,6 +1,7 @@
 use Rattle.std.specs.Prelude.{slice_index_or}
 use Rattle.hm_kernel_lang.specs.Language.{address}
-use Rattle.hm_kernel_code.proofs.Appending.{address_at, line_appended}
+use Rattle.hm_kernel_lang.proofs.Texts.{address_at}
+use Rattle.hm_kernel_code.proofs.Appending.{line_appended}
 use Rattle.hm_kernel_code.proofs.lines.add_line.Goals as goal
 
 pub returns : goal.returns
