@@ -1,0 +1,12 @@
+pub mod Scalars
+pub mod Steps
+pub mod LoopSteps
+pub mod Merging
+pub mod Vectors
+pub mod Operations
+pub mod Moves
+pub mod Stores
+pub mod Theorem
+pub mod Bests
+pub mod Bitwise
+pub mod AllOperations
