@@ -6,3 +6,4 @@ pub mod Summing
 pub mod Room
 pub mod Apart
 pub mod Whole
+pub mod Exists

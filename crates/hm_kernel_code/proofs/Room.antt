@@ -21,7 +21,7 @@ use Rattle.hm_kernel_code.specs.Instructions.{AreItems}
 use Rattle.hm_kernel_code.proofs.Appending.{expr_halves}
 use Rattle.hm_kernel_code.proofs.Held.{total}
 
-one_fewer : (e : Expr) → operations e + 1 ≡ names e + numbers e
+pub one_fewer : (e : Expr) → operations e + 1 ≡ names e + numbers e
 one_fewer (Name i) = omega arith
 one_fewer (Number n) = omega arith
 one_fewer (Apply' o p l u r) = omega (arith, one_fewer l, one_fewer r)

@@ -107,10 +107,11 @@ pub fn image_of(alloc: Global, text: &Text) -> Result<Image, OutOfMemory>
     Ok(image)
 }
 
-/// What the image of a text is like: it has the text's code and its first memory, it begins with the end of SRAM as the stack pointer, and
-/// it has at most 17 segments.
+/// Every text has an image. It has the text's code and its first memory, it begins with the end of SRAM as the stack pointer, and it has at
+/// most 17 segments.
 pub fn image_law()
     ensures image { (x : Text) (image : List Segment) → IsText x → IsMade x image → IsImageOf x image }
     ensures first { (x : Text) (image : List Segment) → IsText x → IsMade x image → word_at (flash_byte image) 0 ≡ 0x20040000 }
     ensures few { (x : Text) (image : List Segment) → IsText x → IsMade x image → length image ≤ 17 }
+    ensures some { (x : Text) → IsText x → (image : List Segment) × IsMade x image }
 {}

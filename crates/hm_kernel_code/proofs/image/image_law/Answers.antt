@@ -1,4 +1,5 @@
 use Rattle.hm_kernel_code.proofs.Whole.{few_segments, first_word_is, is_image}
+use Rattle.hm_kernel_code.proofs.Exists.{some_made}
 use Rattle.hm_kernel_code.proofs.image.image_law.Goals as goal
 
 pub returns-clause-image : goal.returns-clause-image
@@ -9,3 +10,6 @@ returns-clause-first c = first_word_is
 
 pub returns-clause-few : goal.returns-clause-few
 returns-clause-few c = few_segments
+
+pub returns-clause-some : goal.returns-clause-some
+returns-clause-some c = some_made
