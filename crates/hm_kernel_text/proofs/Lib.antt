@@ -1,0 +1,13 @@
+pub mod WordSteps
+pub mod ShapeSteps
+pub mod ValueSteps
+pub mod TreeLaws
+pub mod TreeSteps
+pub mod NameSteps
+pub mod FileSteps
+pub mod FoundLaws
+pub mod FoundLines
+pub mod FoundFile
+pub mod AgainWords
+pub mod AgainFile
+pub mod TextLaws

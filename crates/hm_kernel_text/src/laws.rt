@@ -1,0 +1,11 @@
+//! Laws of the definitions. The function does nothing, and its clauses are what is proved.
+
+ghost use Rattle.std.specs.Prelude.{◌≡◌, ℕ, List, Ok};
+ghost use Rattle.hm_kernel_text.specs.Written.{IsKernel, Written};
+ghost use Rattle.hm_kernel_text.specs.ReadFile.{kernel_in};
+
+/// Reading finds what a text says exactly where the bytes are the text of it.
+pub fn kernel_text_law()
+    ensures found { (text : List ℕ) (w : Written) → kernel_in text ≡ Ok w → IsKernel text w }
+    ensures only { (text : List ℕ) (w : Written) → IsKernel text w → kernel_in text ≡ Ok w }
+{}
