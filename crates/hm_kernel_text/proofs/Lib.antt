@@ -11,3 +11,4 @@ pub mod FoundFile
 pub mod AgainWords
 pub mod AgainFile
 pub mod TextLaws
+pub mod Exists
