@@ -44,7 +44,7 @@ lines_shown upper (p ∷ ps) =
       | false ↦ (record_shown (2 ∷ 0 ∷ 0 ∷ 4 ∷ p.addr / 65536 / 256 ∷ p.addr / 65536 % 256 ∷ []), rest)
     ]
 
-shown_lacks : (text : List ℕ) → Shown text → Lacks 10 text
+pub shown_lacks : (text : List ℕ) → Shown text → Lacks 10 text
 shown_lacks [] h = tt
 shown_lacks (c ∷ cs) h = ((λ e. let low : 48 ≤ c = h.0 in let is : c ≡ 10 = e in absurd (omega arith)), shown_lacks cs h.1)
 
@@ -56,7 +56,7 @@ shown_at [] k h = none_is 0 refl
 shown_at (c ∷ cs) zero h = λ e. let low : 48 ≤ c = h.0 in let is : c ≡ 13 = e in absurd (omega arith)
 shown_at (c ∷ cs) (suc k) h = shown_at cs k h.1
 
-shown_whole : (text : List ℕ) → Shown text → without_return text ≡ text
+pub shown_whole : (text : List ℕ) → Shown text → without_return text ≡ text
 shown_whole text h = rw (ne_eqb (get_or text (length text - 1) 0) 13 (shown_at text (length text - 1) h)) refl
 
 all_lack : (ls : List (List ℕ)) → AllByRecursion Shown ls → AllByRecursion (Lacks 10) ls
@@ -96,11 +96,11 @@ byte_again b lt =
 abbrev pub Bytes : List ℕ → Type 0
 Bytes bytes = AllByRecursion (λ b. b < 256) bytes
 
-bytes_next : (c d : ℕ) (cs : List ℕ) → bytes_in (c ∷ d ∷ cs) ≡ option_and_then (λ (b : ℕ). option_map (λ (bs : List ℕ). b ∷ bs) (bytes_in cs)) (byte_in c d)
+pub bytes_next : (c d : ℕ) (cs : List ℕ) → bytes_in (c ∷ d ∷ cs) ≡ option_and_then (λ (b : ℕ). option_map (λ (bs : List ℕ). b ∷ bs) (bytes_in cs)) (byte_in c d)
 unfolding bytes_in
 bytes_next c d cs = refl
 
-bytes_nil : bytes_in [] ≡ Some []
+pub bytes_nil : bytes_in [] ≡ Some []
 unfolding bytes_in
 bytes_nil = refl
 
@@ -132,7 +132,7 @@ check_sum bytes =
     omega arith
 
 -- the record of a head and of bytes whose number it gives
-record_is : (high low kind check : ℕ) (bytes : List ℕ) → sum_of (length bytes ∷ high ∷ low ∷ kind ∷ (bytes ++ check ∷ [])) % 256 ≡ 0
+pub record_is : (high low kind check : ℕ) (bytes : List ℕ) → sum_of (length bytes ∷ high ∷ low ∷ kind ∷ (bytes ++ check ∷ [])) % 256 ≡ 0
     → record_in (length bytes ∷ high ∷ low ∷ kind ∷ (bytes ++ check ∷ [])) ≡ record_of kind (256 * high + low) bytes
 record_is high low kind check bytes zero_sum =
     let count : length (bytes ++ check ∷ []) ≡ length bytes + 1 = length-append bytes (check ∷ []) in

@@ -54,7 +54,7 @@ no_cells_add (suc n) m =
     ap no_cells (let e : suc n + m ≡ suc (n + m) = omega arith in e) ∙ no_cells_suc (n + m) ∙ ap (λ (x : List (Option ℕ)). None ∷ x) (no_cells_add n m)
     ∙ sym (ap (λ (x : List (Option ℕ)). x ++ no_cells m) (no_cells_suc n))
 
-length_no_cells : (n : ℕ) → length (no_cells n) ≡ n
+pub length_no_cells : (n : ℕ) → length (no_cells n) ≡ n
 length_no_cells zero = ap length no_cells_zero
 length_no_cells (suc n) = ap length (no_cells_suc n) ∙ ap (λ (k : ℕ). suc k) (length_no_cells n)
 
@@ -67,7 +67,7 @@ put_one xs more b bs =
     = and_from (ltb (length xs) (length (xs ++ None ∷ more))) (is_none (get_or (xs ++ None ∷ more) (length xs) None)) (lt-ltb (length xs) (length (xs ++ None ∷ more)) (omega arith)) (ap is_none (get_or-append_seam xs None more None)) in
     rw (free, set-append_seam xs None more (Some b)) refl
 
-put_none : (k : ℕ) (xs : List (Option ℕ)) → put_in k [] xs ≡ Some xs
+pub put_none : (k : ℕ) (xs : List (Option ℕ)) → put_in k [] xs ≡ Some xs
 unfolding put_in
 put_none k xs = refl
 

@@ -6,5 +6,10 @@ pub mod WrittenLines
 pub mod Pieces
 pub mod Filled
 pub mod Again
+pub mod RecordForms
+pub mod LineForms
+pub mod Holding
+pub mod Longest
+pub mod HexFiles
 pub mod ReadBack
 pub mod SameBytes

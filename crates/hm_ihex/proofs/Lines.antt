@@ -17,11 +17,11 @@ pub no_lines : all_lines (lines_of []) ≡ []
 unfolding lines_of
 no_lines = refl
 
-one_line : (text : List ℕ) → 0 < length text → all_lines ([], text) ≡ text ∷ []
+pub one_line : (text : List ℕ) → 0 < length text → all_lines ([], text) ≡ text ∷ []
 one_line [] some = absurd (omega arith)
 one_line (b ∷ bs) some = refl
 
-more_lines : (l : List ℕ) (ls : Lines) → all_lines (l ∷ ls.0, ls.1) ≡ without_return l ∷ all_lines ls
+pub more_lines : (l : List ℕ) (ls : Lines) → all_lines (l ∷ ls.0, ls.1) ≡ without_return l ∷ all_lines ls
 more_lines l (ended, []) = refl
 more_lines l (ended, c ∷ cs) = refl
 

@@ -8,12 +8,14 @@ use Rattle.std.proofs.lemmas.List.Elements.{All-head}
 use Rattle.hm_base.specs.Image.{Before, IsImage, Segment, flash_size, segment, segment_at, sram_size, sram_start}
 use Rattle.hm_ihex.specs.Cells.{Cells, image_of, no_cells, runs, with_data}
 use Rattle.hm_ihex.specs.Files.{Reading, by_record, first_reading, hex_in, lines_in}
-use Rattle.hm_ihex.specs.Records.{line_in}
 use Rattle.hm_ihex.specs.Written.{AreBytes, all_pieces, base_text, data_text, end_text, hex_file, joined, joined_to, lines_of_pieces, pieces, room_at}
 use Rattle.hm_ihex.proofs.Again.{Bytes, base_again, data_again, end_again, lines_shown, shown_again}
 use Rattle.hm_ihex.proofs.Filled.{Puts, Rises, cells, fuse, puts_append, puts_flash, puts_sram, rises_end, runs_spread, spread}
+use Rattle.hm_ihex.proofs.RecordForms.{length_taken}
+use Rattle.hm_ihex.proofs.Longest.{all_both}
 use Rattle.hm_ihex.proofs.Pieces.{pieces_none, pieces_some, room_few, room_some}
 use Rattle.hm_ihex.proofs.Runs.{From, runs_from}
+use Rattle.hm_ihex.proofs.Steps.{step}
 
 -- ---- the lines of pieces
 
@@ -28,12 +30,8 @@ pub record OneRecord (s : Segment) : Type 0 where
 abbrev pub rebased : Reading → ℕ → Reading
 rebased r base = record { base = base; cells = r.cells; count = r.count }
 
-line_step : (k : ℕ) (r : Reading) (l : List ℕ) (ls : List (List ℕ)) → lines_in k r (l ∷ ls) ≡ by_record k r ls (λ q. lines_in (k + 1) q ls) (line_in l)
-unfolding lines_in
-line_step k r l ls = refl
-
 base_step : (k upper : ℕ) (r : Reading) (ls : List (List ℕ)) → upper < 65536 → lines_in k r (base_text upper ∷ ls) ≡ lines_in (k + 1) (rebased r (65536 * upper)) ls
-base_step k upper r ls lt = line_step k r (base_text upper) ls ∙ ap (by_record k r ls (λ q. lines_in (k + 1) q ls)) (base_again upper lt)
+base_step k upper r ls lt = step k r (base_text upper) ls ∙ ap (by_record k r ls (λ q. lines_in (k + 1) q ls)) (base_again upper lt)
 
 abbrev pub after : Reading → Cells → Reading
 after r next = record { base = r.base; cells = next; count = r.count + 1 }
@@ -43,14 +41,14 @@ data_step : (k : ℕ) (r : Reading) (p : Segment) (next : Cells) (ls : List (Lis
 data_step k r p next ls base h put =
     let few = h.few in
     let is : r.base + p.addr % 65536 ≡ p.addr = omega arith in
-    line_step k r (data_text (p.addr % 65536) p.bytes) ls
+    step k r (data_text (p.addr % 65536) p.bytes) ls
     ∙ ap (by_record k r ls (λ q. lines_in (k + 1) q ls)) (data_again (p.addr % 65536) p.bytes h.all (omega arith) (omega arith) h.within)
     ∙ rw (is, put) refl
 
 -- the lines of pieces give what the pieces give
 pub read_pieces : (ps : List Segment) (k upper : ℕ) (r : Reading) (all : Cells) → AllByRecursion OneRecord ps → r.base ≡ 65536 * upper → Puts r.cells ps all
     → lines_in k r (lines_of_pieces upper ps) ≡ Ok (image_of all)
-read_pieces [] k upper r all rise base put = line_step k r end_text [] ∙ ap (by_record k r [] (λ q. lines_in (k + 1) q [])) end_again ∙ ap (λ (c : Cells). Ok (image_of c)) put
+read_pieces [] k upper r all rise base put = step k r end_text [] ∙ ap (by_record k r [] (λ q. lines_in (k + 1) q [])) end_again ∙ ap (λ (c : Cells). Ok (image_of c)) put
 read_pieces (p ∷ ps) k upper r all rise base put =
     let h = rise.0 in
     let low = h.low in
@@ -79,11 +77,6 @@ bytes_drop : (n : ℕ) (bytes : List ℕ) → Bytes bytes → Bytes (drop n byte
 bytes_drop zero bytes h = h
 bytes_drop (suc n) [] h = tt
 bytes_drop (suc n) (b ∷ bs) h = bytes_drop n bs h.1
-
-length_taken : (n : ℕ) (bytes : List ℕ) → n ≤ length bytes → length (take n bytes) ≡ n
-length_taken zero bytes le = refl
-length_taken (suc n) [] le = absurd (omega arith)
-length_taken (suc n) (b ∷ bs) le = ap (λ (k : ℕ). suc k) (length_taken n bs (omega arith))
 
 room_within : (a : ℕ) → a % 65536 + room_at a ≤ 65536
 room_within a = grind (arith, nat_tests)
@@ -213,10 +206,6 @@ rises_all : (P : Segment → Type 0) (p end : ℕ) (ss : List Segment) → Rises
 rises_all P p end [] h = tt
 rises_all P p end (s ∷ ss) h = (h.1, rises_all P (s.addr + length s.bytes) end ss h.2)
 
-all_and : (P : Segment → Type 0) (xs ys : List Segment) → AllByRecursion P xs → AllByRecursion P ys → AllByRecursion P (xs ++ ys)
-all_and P [] ys h more = more
-all_and P (x ∷ xs) ys h more = (h.0, all_and P xs ys h.1 more)
-
 -- cells of any size in which no byte is given
 first_puts : (P : Segment → Type 0) (xs ys : List Segment) (start size : ℕ) → size ≡ start - sram_start → Rises P 0 flash_size xs → Rises P sram_start start ys
     → Puts (cells (no_cells flash_size) (no_cells size)) (xs ++ ys) (cells (spread 0 xs flash_size) (spread sram_start ys start))
@@ -246,7 +235,7 @@ read_halves image h =
     ap (lines_in 1 first_reading) (shown_again (lines_of_pieces 0 (all_pieces image)) (lines_shown 0 (all_pieces image)))
     ∙ ap (λ (ps : List Segment). lines_in 1 first_reading (lines_of_pieces 0 ps)) whole
     ∙ read_pieces (xs ++ ys) 1 0 first_reading (cells (spread 0 xs flash_size) (spread sram_start ys end))
-    (all_and OneRecord xs ys (rises_all OneRecord 0 flash_size xs flash) (rises_all OneRecord sram_start end ys sram)) refl put
+    (all_both OneRecord xs ys (rises_all OneRecord 0 flash_size xs flash) (rises_all OneRecord sram_start end ys sram)) refl put
     ∙ (λ i. Ok (runs_flash i ++ runs_sram i))
     ∙ ap (λ (ss : List Segment). Ok ss) (sym (joined_halves 0 h.flash h.sram h.in_flash behind) ∙ ap joined (sym h.whole))
 

@@ -10,17 +10,17 @@ use Rattle.hm_ihex.specs.Written.{joined, joined_to}
 -- ---- the bytes
 
 -- a segment covers an address from its first byte to its last
-covered : (s : Segment) (a : ℕ) → s.addr ≤ a → a < s.addr + length s.bytes → covers s a ≡ true
+pub covered : (s : Segment) (a : ℕ) → s.addr ≤ a → a < s.addr + length s.bytes → covers s a ≡ true
 covered s a low high = and_from (leb s.addr a) (ltb a (s.addr + length s.bytes)) (le-leb s.addr a low) (lt-ltb a (s.addr + length s.bytes) high)
 
-early : (s : Segment) (a : ℕ) → a < s.addr → covers s a ≡ false
+pub early : (s : Segment) (a : ℕ) → a < s.addr → covers s a ≡ false
 early s a low = and_left (leb s.addr a) (ltb a (s.addr + length s.bytes)) (lt-leb s.addr a low)
 
-late : (s : Segment) (a : ℕ) → s.addr + length s.bytes ≤ a → covers s a ≡ false
+pub late : (s : Segment) (a : ℕ) → s.addr + length s.bytes ≤ a → covers s a ≡ false
 late s a high = and_right (leb s.addr a) (ltb a (s.addr + length s.bytes)) (le-ltb a (s.addr + length s.bytes) high)
 
 -- where an address lies by a segment
-place : (s : Segment) (a : ℕ) → (a < s.addr) ⊎ ((s.addr ≤ a) × (a < s.addr + length s.bytes)) ⊎ (s.addr + length s.bytes ≤ a)
+pub place : (s : Segment) (a : ℕ) → (a < s.addr) ⊎ ((s.addr ≤ a) × (a < s.addr + length s.bytes)) ⊎ (s.addr + length s.bytes ≤ a)
 place s a = grind arith
 
 given_in : (s : Segment) (ss : List Segment) (blank a : ℕ) → s.addr ≤ a → a < s.addr + length s.bytes → given (s ∷ ss) blank a ≡ slice_index s.bytes (a - s.addr)

@@ -11,7 +11,7 @@ use Rattle.hm_ihex.specs.declared.reading.Next.{Next}
 use Rattle.hm_ihex.specs.declared.reading.Next.TheVariants.{End, More}
 use Rattle.hm_ihex.proofs.Lines.{no_lines, none_left}
 
-step : (k : ℕ) (r : Reading) (l : List ℕ) (ls : List (List ℕ)) → lines_in k r (l ∷ ls) ≡ by_record k r ls (λ q. lines_in (k + 1) q ls) (line_in l)
+pub step : (k : ℕ) (r : Reading) (l : List ℕ) (ls : List (List ℕ)) → lines_in k r (l ∷ ls) ≡ by_record k r ls (λ q. lines_in (k + 1) q ls) (line_in l)
 unfolding lines_in
 step k r l ls = refl
 
