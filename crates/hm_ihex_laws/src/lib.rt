@@ -3,4 +3,4 @@
 
 mod laws;
 
-pub use laws::hex_run_law;
+pub use laws::same_run_law;

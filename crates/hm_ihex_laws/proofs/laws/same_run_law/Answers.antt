@@ -1,5 +1,5 @@
 use Rattle.hm_ihex_laws.proofs.HexRuns.{hex_colon, hex_runs, joined_listing, joined_reset, joined_shown}
-use Rattle.hm_ihex_laws.proofs.laws.hex_run_law.Goals as goal
+use Rattle.hm_ihex_laws.proofs.laws.same_run_law.Goals as goal
 
 pub returns : goal.returns
 returns c = record {
