@@ -1,3 +1,4 @@
 pub mod Growing
 pub mod Rows
 pub mod Dense
+pub mod Lawful

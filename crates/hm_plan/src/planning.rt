@@ -1,6 +1,6 @@
 //! The plan, tick by tick.
 
-ghost use Rattle.std.specs.Prelude.{◌≡◌, ℕ, ◌+◌, ◌*◌, ◌%◌, ◌≤◌, false, [], ◌∷◌, List, drop, length, IfOk, IfErr};
+ghost use Rattle.std.specs.Prelude.{◌≡◌, ℕ, ◌+◌, ◌*◌, ◌%◌, ◌≤◌, false, None, [], ◌∷◌, List, drop, length, IfOk, IfErr};
 ghost use Rattle.std.specs.Option.{is_some};
 ghost use Rattle.hm_base.specs.Image.{Segment, flash_byte};
 ghost use Rattle.hm_codes.specs.Listing.{Listing, IsListing};
@@ -9,11 +9,11 @@ ghost use Rattle.hm_machine.specs.Shown.{timed_of};
 ghost use Rattle.hm_machine.specs.Turns.{LoadRefuses};
 ghost use Rattle.hm_mem.specs.Memory.{flash_at};
 ghost use Rattle.hm_plan_laws.specs.Ends.{DecidedBy, EndsAs, IsGreedyAt, IsPlanEnd};
-ghost use Rattle.hm_plan_laws.specs.Greedy.{IsReady, greedy_at};
-ghost use Rattle.hm_plan_laws.specs.Planned.{bare_program, is_over, planned};
+ghost use Rattle.hm_plan_laws.specs.Greedy.{greedy_at};
+ghost use Rattle.hm_plan_laws.specs.Planned.{bare_program, is_over, plan_line, planned};
 ghost use Rattle.hm_run.specs.InOrder.{in_order};
 ghost use Rattle.hm_run.specs.Program.{vector_in, vector_of};
-ghost use Rattle.hm_run.specs.Timed.{timed, timed_out};
+ghost use Rattle.hm_run.specs.Timed.{tick, timed, timed_out};
 ghost use Rattle.hm_sched.specs.Schedule.{TickLine, older_letter, ticks_of};
 ghost use Rattle.hm_state.specs.Start.{reset_pc};
 
@@ -83,10 +83,10 @@ pub fn plan(alloc: Global, image: &Image, n: u32) -> Result<Schedule, LoadErr>
     // Each tick does what is greedy in the state before it.
     ensures greedy { IfOk result (λ s. (listing : Listing) → IsListing (flash_byte image.now) listing → (t : ℕ) (line : TickLine) (left : List TickLine)
         → drop t (ticks_of s.lines) ≡ line ∷ left → IsGreedyAt listing image.now n s t line) }
-    // Where a tick does a beat of the older alone while two may overlap, the older is the last that is asked for.
+    // Where a tick does a beat of the older alone though a tick of that and of the younger's would go on, the older is the last that is asked for.
     ensures dense { IfOk result (λ s. (listing : Listing) → IsListing (flash_byte image.now) listing → (t : ℕ) (line : TickLine) (left : List TickLine)
-        → drop t (ticks_of s.lines) ≡ line ∷ left → line.letters ≡ older_letter ∷ [] → let c = (timed listing image.now s t).config in
-        IsReady (bare_program listing) c → n ≤ c.n + 1) }
+        → drop t (ticks_of s.lines) ≡ line ∷ left → line.letters ≡ older_letter ∷ [] → let x = timed listing image.now s t in
+        (tick (bare_program listing) (plan_line 1 Greedy.Two) x).outcome ≡ None → n ≤ x.config.n + 1) }
     ensures odd { IfOk result (λ _. reset_pc image.now % 2 ≡ 1) }
     ensures refused { IfErr result (λ e. LoadRefuses image.now e) }
 {

@@ -1,14 +1,14 @@
-use Rattle.std.proofs.Common.{◌≡◌, [], ◌+◌, ◌∙◌, ◌*◌, ◌≤◌, ◌∷◌, ℕ, List, drop, length, sym, subst}
+use Rattle.std.proofs.Common.{◌≡◌, [], None, ◌+◌, ◌∙◌, ◌*◌, ◌≤◌, ◌∷◌, ℕ, List, drop, length, sym, subst}
 use Rattle.hm_base.specs.Image.{flash_byte}
 use Rattle.hm_codes.proofs.Exists.{exists}
 use Rattle.hm_codes.specs.Listing.{Listing}
 use Rattle.hm_plan.proofs.Dense.{last_alone}
 use Rattle.hm_plan.proofs.Growing.{if_ok, of_planned}
+use Rattle.hm_plan.proofs.Lawful.{both, overlaps}
 use Rattle.hm_plan_laws.specs.Ends.{DecidedBy, EndsAs, IsGreedyAt, IsPlanEnd}
-use Rattle.hm_plan_laws.specs.Greedy.{IsReady}
 use Rattle.hm_plan_laws.specs.Planned.{bare_program, planned}
 use Rattle.hm_run.specs.InOrder.{in_order}
-use Rattle.hm_run.specs.Timed.{timed, timed_out}
+use Rattle.hm_run.specs.Timed.{tick, timed, timed_out}
 use Rattle.hm_sched.specs.Schedule.{Sched, TickLine, older_letter, ticks_of}
 use Rattle.hm_plan.proofs.planning.plan.Goals as goal
 
@@ -55,8 +55,11 @@ returns-clause-dense c =
     let n = c.args.n in
     of_planned image n
     (λ (listing : Listing) (s : Sched). (t : ℕ) (line : TickLine) (left : List TickLine) → drop t (ticks_of s.lines) ≡ line ∷ left → line.letters ≡ older_letter ∷ []
-    → let x = (timed listing image s t).config in IsReady (bare_program listing) x → n ≤ x.n + 1)
-    (λ listing t line left there one ready.
-    let x = (timed listing image (planned listing image n) t).config in
-    last_alone (bare_program listing) n x ((c.open_runs.ensures.ready (bare_program listing) x).1 ready) (sym (c.plan_in_order.ensures.greedy listing image n t line left there).letters ∙ one))
+    → let x = timed listing image s t in (tick (bare_program listing) both x).outcome ≡ None → n ≤ x.config.n + 1)
+    (λ listing t line left there one goes.
+    let s = planned listing image n in
+    let x = (timed listing image s t).config in
+    let greedy = c.plan_in_order.ensures.greedy listing image n t line left there in
+    let ready = (c.open_runs.ensures.ready (bare_program listing) x).1 (overlaps listing image n t s line greedy goes) in
+    last_alone (bare_program listing) n x ready (sym greedy.letters ∙ one))
     c.grown.result c.grown.ensures.planned
