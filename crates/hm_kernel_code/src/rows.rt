@@ -6,7 +6,8 @@ ghost use Rattle.hm_isa.specs.declared.narrow.ByteName.{ByteName};
 ghost use Rattle.hm_isa.specs.declared.vectors.AddName.{AddName};
 ghost use Rattle.hm_isa.specs.declared.vectors.BitwiseName.{BitwiseName};
 ghost use Rattle.hm_isa.specs.declared.vectors.SignedName.{SignedName};
-ghost use Rattle.hm_kernel_code.specs.Instructions.{IsAddRow, IsAgainRow, IsBeginRow, IsBestRow, IsBitwiseRow, IsByteRow, IsHalfRow, IsMoveRow, IsOperation, IsSplatRow, IsStopRow, IsSumRow, element_name};
+ghost use Rattle.hm_kernel_code.specs.Instructions.{IsAddRow, IsBestRow, IsBitwiseRow, IsMoveRow, IsOperation, IsSplatRow, element_name};
+ghost use Rattle.hm_kernel_code.specs.Instructions.{IsAgainRow, IsBeginRow, IsByteRow, IsHalfRow, IsStopRow, IsSumRow};
 ghost use Rattle.hm_kernel_lang.specs.Language.{is_signed};
 ghost use Rattle.hm_kernel_lang.specs.Machine.{size_code};
 

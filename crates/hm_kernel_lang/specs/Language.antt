@@ -1,5 +1,6 @@
 -- The language: what a text means, and how many steps its code takes.
-use Rattle.std.specs.Prelude.{ℕ, zero, suc, ◌+◌, ◌-◌, ◌*◌, ◌/◌, ◌%◌, ◌^◌, Bool, true, false, cond, ◌&&◌, nat_le, nat_lt, List, [], ◌∷◌, length, slice_index, bit_and, bit_or, bit_xor, max}
+use Rattle.std.specs.Prelude.{ℕ, zero, suc, ◌+◌, ◌-◌, ◌*◌, ◌/◌, ◌%◌, ◌^◌, Bool, true, false, cond, ◌&&◌, nat_le, nat_lt, max}
+use Rattle.std.specs.Prelude.{List, [], ◌∷◌, length, slice_index, bit_and, bit_or, bit_xor}
 use Rattle.hm_kernel_lang.specs.declared.text.ElementType.{ElementType}
 use Rattle.hm_kernel_lang.specs.declared.text.ElementType.TheVariants.{U8, S8, U16, S16, U32, S32}
 use Rattle.hm_kernel_lang.specs.declared.text.Op.{Op}

@@ -16,7 +16,9 @@ ghost use Rattle.hm_kernel_rows.specs.Theorem.{Computes, IsFileOf};
 /// then what the text means, where an image has its code and its values. And every run that halts as the instructions in order do has
 /// that in each untainted byte of its file.
 pub fn kernel_law()
-    ensures computes { (x : Text) (image : List Segment) (listing : Listing) → IsText x → IsImageOf x image → IsListing (flash_byte image) listing → Computes x image listing }
-    ensures file { (x : Text) (image : List Segment) (listing : Listing) (report file : List ℕ) (reason : Reason) (n : ℕ) → IsText x → IsImageOf x image → IsListing (flash_byte image) listing
+    ensures computes { (x : Text) (image : List Segment) (listing : Listing)
+        → IsText x → IsImageOf x image → IsListing (flash_byte image) listing → Computes x image listing }
+    ensures file { (x : Text) (image : List Segment) (listing : Listing) (report file : List ℕ) (reason : Reason) (n : ℕ)
+        → IsText x → IsImageOf x image → IsListing (flash_byte image) listing
         → HaltsInOrder listing image report file reason n → IsFileOf x file reason n }
 {}
