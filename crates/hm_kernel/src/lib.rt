@@ -1,0 +1,57 @@
+//! The compiler of the array language: from the bytes of a text to its image, and to the number of its steps.
+#![tactic(auto)]
+
+ghost use Rattle.std.specs.Prelude.{◌≡◌, ℕ, List, IfOk, IfErr};
+ghost use Rattle.hm_base.specs.Image.{Segment, flash_byte};
+ghost use Rattle.hm_codes.specs.Listing.{IsListing, Listing};
+ghost use Rattle.hm_kernel.specs.Compiled.{Compiles, IsCompiled, Takes};
+ghost use Rattle.hm_kernel_lang.specs.declared.text.Text.{Text};
+ghost use Rattle.hm_kernel_rows.specs.Theorem.{IsFileOf};
+ghost use Rattle.hm_kernel_text.specs.ReadFile.{Fails, kernel_in};
+ghost use Rattle.hm_kernel_text.specs.Written.{IsKernel, Written};
+ghost use Rattle.hm_run.specs.declared.Reason.{Reason};
+ghost use Rattle.hm_run.specs.Headline.{HaltsInOrder};
+
+use hm_base::Image;
+use hm_kernel_code::{image_of, steps_of};
+use hm_kernel_text::read_kernel;
+pub use hm_kernel_text::{KernelErr, KernelKind};
+use std::alloc::Global;
+
+/// The image of the text that the bytes say: in flash its code from 8 on, in SRAM the values of its arrays.
+///
+/// Refuses what reading refuses: Line at the first bad line, with its number from 1 on and what is bad in it. And OutOfMemory.
+pub fn compile(alloc: Global, text: &[u8]) -> Result<Image, KernelErr>
+    // The instructions of the image in order do what the text means.
+    ensures found { IfOk result (λ image. Compiles text.now image) }
+    // A text is compiled, unless memory was wanted.
+    ensures only { (w : Written) → IsKernel text.now w → IfErr result (λ e. e ≡ KernelErr.OutOfMemory) }
+    // A refusal is that of reading.
+    ensures cause { IfErr result (λ e. Fails e (kernel_in text.now)) }
+{
+    let x = read_kernel(alloc, text)?;
+    Ok(image_of(alloc, &x)?)
+}
+
+/// How many steps the code of the text takes that the bytes say, to the end of the run, the breakpoint among them. It makes no image.
+///
+/// Refuses what reading refuses: Line at the first bad line, with its number from 1 on and what is bad in it. And OutOfMemory.
+pub fn steps(alloc: Global, text: &[u8]) -> Result<u64, KernelErr>
+    // So many steps has the text.
+    ensures found { IfOk result (λ n. Takes text.now n) }
+    // A text has its steps, unless memory was wanted.
+    ensures only { (w : Written) → IsKernel text.now w → IfErr result (λ e. e ≡ KernelErr.OutOfMemory) }
+    // A refusal is that of reading.
+    ensures cause { IfErr result (λ e. Fails e (kernel_in text.now)) }
+{
+    let x = read_kernel(alloc, text)?;
+    Ok(steps_of(&x))
+}
+
+/// Every run of a compiled image that halts as its instructions in order do, as each run does under any schedule that reports Halted,
+/// has halted at the end of the code, after its steps, and each byte of its file that is not tainted is what the text means.
+pub fn compiled_law()
+    ensures file { (x : Text) (image : List Segment) (listing : Listing) (report file : List ℕ) (reason : Reason) (n : ℕ)
+        → IsCompiled x image → IsListing (flash_byte image) listing
+        → HaltsInOrder listing image report file reason n → IsFileOf x file reason n }
+{}
