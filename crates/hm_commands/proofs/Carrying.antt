@@ -82,9 +82,7 @@ pub Does-no_memory : (listings : List Segment → Listing) (form : Form) (old ne
 Does-no_memory listings form old new files printed same calls = record {
   reading = told_reading old.files (reads_for (Some form));
   told = told_reading-told old.files (reads_for (Some form));
-  carries = inr (same, files, printed);
-  makes = λ F is. inr (calls F is);
-  spent = λ F is wanted. inl files;
+  begins = inr (record { untouched = (same, files, printed); calls = calls });
 }
 
 -- a read failed
@@ -93,9 +91,7 @@ pub Does-fault : (listings : List Segment → Listing) (form : Form) (old new : 
 Does-fault listings form old new files printed rose calls = record {
   reading = told_reading old.files (reads_for (Some form));
   told = told_reading-told old.files (reads_for (Some form));
-  carries = inr (rose, files, printed);
-  makes = λ F is. inr (calls F is);
-  spent = λ F is wanted. absurd cc;
+  begins = inr (record { untouched = (rose, files, printed); calls = calls });
 }
 
 -- the reads gave this, and then an effect of it was carried out
@@ -106,12 +102,11 @@ Does-after : (listings : List Segment → Listing) (form : Form) (old mid new : 
 Does-after listings form old mid new s reading e of told files printed same calls h rest all = record {
   reading = reading;
   told = λ F is. sym (told F is);
-  carries = inl (e, of, Carries-after e old mid new s files printed same h);
-  makes = λ F is. inl (e, of, made_after (read_calls F (reads_of form)) (calls_for e) old.calls mid.calls new.calls (way_of s) (calls F is) rest);
-  spent = λ F is wanted. elim (spent_after (read_calls F (reads_of form)) (calls_for e) old mid new files (calls F is) (all wanted)) [
-    | inl stays ↦ inl stays
-    | inr made ↦ inr (e, of, made)
-  ];
+  begins = inl (e, of, record {
+    carries = Carries-after e old mid new s files printed same h;
+    calls = λ F is. made_after (read_calls F (reads_of form)) (calls_for e) old.calls mid.calls new.calls (way_of s) (calls F is) rest;
+    spent = λ F is wanted. spent_after (read_calls F (reads_of form)) (calls_for e) old mid new files (calls F is) (all wanted);
+  });
 }
 
 -- the reads gave these contents, memory was wanted, and no more was done

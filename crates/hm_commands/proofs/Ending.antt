@@ -8,7 +8,7 @@ use Rattle.hm_commands.specs.declared.status.Status.TheVariants.{Done, Ended, Us
 use Rattle.hm_words.specs.Words.{Form, form_of}
 use Rattle.hm_commands.specs.Calls.{MakesCalls, read_calls, way_of}
 use Rattle.hm_commands.specs.Work.{Outcome, finishes, refuses}
-use Rattle.hm_commands.specs.Effect.{Effect, Reading, whole, too_large, missing, reading_of, reads_for, usage_effect, IsEffectAfter, IsEffect, effect_for, calls_for, IsDone, IsUntouched, Carries, CarriesOne, Does, MakesCallsOfOne, StaysOrMakesAllOfOne}
+use Rattle.hm_commands.specs.Effect.{Effect, Reading, whole, too_large, missing, reading_of, reads_for, usage_effect, IsEffectAfter, IsEffect, effect_for, calls_for, BeginsOne, IsBegun, IsDone, IsUntouched, Carries, Does, StaysOrMakesAll}
 
 not_usage : (o : Outcome) → (effect_for o).status ≡ Usage → ⊥
 not_usage (finishes true file text) h = cc
@@ -21,15 +21,15 @@ status_not_usage listings form too_large e of h = let no : Refused ≡ Usage = s
 status_not_usage listings form missing e of h = let no : HostFault ≡ Usage = sym (ap (λ (x : Effect). x.status) of) ∙ h in cc
 
 pub Does-usage : (listings : List Segment → Listing) (form : Form) (old new : HostState) (s : Status) → Does listings (Some form) old new s → s ≡ Usage → ⊥
-Does-usage listings form old new s h is = elim h.carries [
-  | inl one ↦ status_not_usage listings form h.reading one.0 one.1 (subst (Carries one.0 old new) is one.2).status_is
-  | inr none ↦ subst (IsUntouched old new) is none
+Does-usage listings form old new s h is = elim h.begins [
+  | inl one ↦ status_not_usage listings form h.reading one.0 one.1 (subst (Carries one.0 old new) is one.2.carries).status_is
+  | inr none ↦ subst (IsUntouched old new) is none.untouched
 ]
 
 pub Does-host_fault : (listings : List Segment → Listing) (form : Option Form) (old new : HostState) (s : Status) → Does listings form old new s → s ≡ HostFault → Rose old.faults new.faults
-Does-host_fault listings form old new s h is = elim h.carries [
-  | inl one ↦ (subst (Carries one.0 old new) is one.2).0
-  | inr none ↦ (subst (IsUntouched old new) is none).0
+Does-host_fault listings form old new s h is = elim h.begins [
+  | inl one ↦ (subst (Carries one.0 old new) is one.2.carries).0
+  | inr none ↦ (subst (IsUntouched old new) is none.untouched).0
 ]
 
 risen : (e : Effect) (old new : HostState) (s : Status) → Carries e old new s → old.faults < new.faults → s ≡ HostFault
@@ -49,15 +49,15 @@ untouched_risen old new HostFault h rose = refl
 untouched_risen old new NoMemory h rose = absurd (let same : new.faults ≡ old.faults = h.0 in omega arith)
 
 pub Does-risen : (listings : List Segment → Listing) (form : Option Form) (old new : HostState) (s : Status) → Does listings form old new s → old.faults < new.faults → s ≡ HostFault
-Does-risen listings form old new s h rose = elim h.carries [
-  | inl one ↦ risen one.0 old new s one.2 rose
-  | inr none ↦ untouched_risen old new s none rose
+Does-risen listings form old new s h rose = elim h.begins [
+  | inl one ↦ risen one.0 old new s one.2.carries rose
+  | inr none ↦ untouched_risen old new s none.untouched rose
 ]
 
 pub Does-quiet : (listings : List Segment → Listing) (form : Option Form) (old new : HostState) (s : Status) → Does listings form old new s → s ≡ NoMemory → Stays old.printed new.printed
-Does-quiet listings form old new s h is = elim h.carries [
-  | inl one ↦ (subst (Carries one.0 old new) is one.2).printed
-  | inr none ↦ (subst (IsUntouched old new) is none).2
+Does-quiet listings form old new s h is = elim h.begins [
+  | inl one ↦ (subst (Carries one.0 old new) is one.2.carries).printed
+  | inr none ↦ (subst (IsUntouched old new) is none.untouched).2
 ]
 
 -- ---- by the words
@@ -67,32 +67,24 @@ read_for_words : (form : Option Form) (words : List (List ℕ)) (F : FileMap) (r
     → (reading ≡ reading_of F (reads_for (form_of words)))
 read_for_words form words F reading read is = read ∙ ap (λ (o : Option Form). reading_of F (reads_for o)) is
 
-pub Does-carries : (listings : List Segment → Listing) (form : Option Form) (words : List (List ℕ)) (old new : HostState) (s : Status) (F : FileMap)
-    → Does listings form old new s → form ≡ form_of words → old.files ≡ Some F → CarriesOne (IsEffect listings words F) old new s
-Does-carries listings form words old new s F h is told =
-    subst (λ (r : Reading). CarriesOne (IsEffectAfter listings (form_of words) r) old new s) (read_for_words form words F h.reading (h.told F told) is)
-    (subst (λ (o : Option Form). CarriesOne (IsEffectAfter listings o h.reading) old new s) is h.carries)
-
-pub Does-makes : (listings : List Segment → Listing) (form : Option Form) (words : List (List ℕ)) (old new : HostState) (s : Status) (F : FileMap) → Does listings form old new s → form ≡ form_of words → old.files ≡ Some F
-    → MakesCallsOfOne (read_calls F (reads_for (form_of words))) (IsEffect listings words F) old.calls new.calls (way_of s)
-Does-makes listings form words old new s F h is told =
-    subst (λ (r : Reading). MakesCallsOfOne (read_calls F (reads_for (form_of words))) (IsEffectAfter listings (form_of words) r) old.calls new.calls (way_of s)) (read_for_words form words F h.reading (h.told F told) is)
-    (subst (λ (o : Option Form). MakesCallsOfOne (read_calls F (reads_for o)) (IsEffectAfter listings o h.reading) old.calls new.calls (way_of s)) is (h.makes F told))
-
-pub Does-spent : (listings : List Segment → Listing) (form : Option Form) (words : List (List ℕ)) (old new : HostState) (s : Status) (F : FileMap) → Does listings form old new s → form ≡ form_of words → old.files ≡ Some F → s ≡ NoMemory
-    → StaysOrMakesAllOfOne (read_calls F (reads_for (form_of words))) (IsEffect listings words F) old new
-Does-spent listings form words old new s F h is told wanted =
-    subst (λ (r : Reading). StaysOrMakesAllOfOne (read_calls F (reads_for (form_of words))) (IsEffectAfter listings (form_of words) r) old new) (read_for_words form words F h.reading (h.told F told) is)
-    (subst (λ (o : Option Form). StaysOrMakesAllOfOne (read_calls F (reads_for o)) (IsEffectAfter listings o h.reading) old new) is (h.spent F told wanted))
+pub Does-begins : (listings : List Segment → Listing) (form : Option Form) (words : List (List ℕ)) (old new : HostState) (s : Status) (F : FileMap)
+    → Does listings form old new s → form ≡ form_of words → old.files ≡ Some F → BeginsOne (reads_for (form_of words)) (IsEffect listings words F) old new s
+Does-begins listings form words old new s F h is told =
+    subst (λ (r : Reading). BeginsOne (reads_for (form_of words)) (IsEffectAfter listings (form_of words) r) old new s) (read_for_words form words F h.reading (h.told F told) is)
+    (subst (λ (o : Option Form). BeginsOne (reads_for o) (IsEffectAfter listings o h.reading) old new s) is h.begins)
 
 -- words that are no form have the effect of the usage line
-pub usage_is : (listings : List Segment → Listing) (words : List (List ℕ)) (F : FileMap) → None ≡ form_of words → IsEffect listings words F usage_effect
+usage_is : (listings : List Segment → Listing) (words : List (List ℕ)) (F : FileMap) → None ≡ form_of words → IsEffect listings words F usage_effect
 usage_is listings words F none = subst (λ (o : Option Form). IsEffectAfter listings o (reading_of F (reads_for o)) usage_effect) none refl
 
-pub usage_makes : (listings : List Segment → Listing) (words : List (List ℕ)) (old new : HostState) (s : Status) (F : FileMap) → None ≡ form_of words → MakesCalls (calls_for usage_effect) old.calls new.calls (way_of s)
-    → MakesCallsOfOne (read_calls F (reads_for (form_of words))) (IsEffect listings words F) old.calls new.calls (way_of s)
-usage_makes listings words old new s F none calls =
-    inl (usage_effect, usage_is listings words F none, subst (λ (o : Option Form). MakesCalls (read_calls F (reads_for o) ++ calls_for usage_effect) old.calls new.calls (way_of s)) none calls)
+pub usage_begins : (listings : List Segment → Listing) (words : List (List ℕ)) (old new : HostState) (s : Status) (F : FileMap) → None ≡ form_of words
+    → Carries usage_effect old new s → MakesCalls (calls_for usage_effect) old.calls new.calls (way_of s) → (s ≡ NoMemory → Stays old.files new.files)
+    → BeginsOne (reads_for (form_of words)) (IsEffect listings words F) old new s
+usage_begins listings words old new s F none carries calls stays = inl (usage_effect, usage_is listings words F none, record {
+  carries = carries;
+  calls = λ G told. subst (λ (o : Option Form). MakesCalls (read_calls G (reads_for o) ++ calls_for usage_effect) old.calls new.calls (way_of s)) none calls;
+  spent = λ G told wanted. inl (stays wanted);
+})
 
 -- ---- what is complete
 

@@ -27,7 +27,7 @@ use Rattle.hm_state.specs.Start.{reset_pc}
 use Rattle.hm_commands.specs.declared.status.Status.{Status}
 use Rattle.hm_commands.specs.declared.status.Status.TheVariants.{Done, Ended, Usage, Refused, HostFault, NoMemory}
 use Rattle.hm_commands.specs.Commands.{AreListings, reported, told, run_outcome, seq_outcome, unless_refused}
-use Rattle.hm_commands.specs.Effect.{Effect, Reading, whole, then_read, reading_of, reads_for, IsEffect, IsEffectAfter, effect_for, with_file, with_text, Carries, CarriesOne, Does}
+use Rattle.hm_commands.specs.Effect.{Effect, Reading, whole, then_read, reading_of, reads_for, IsEffect, IsEffectAfter, effect_for, with_file, with_text, BeginsOne, Carries, Does}
 use Rattle.hm_sched.specs.Schedule.{Sched, plain, ticks_of}
 use Rattle.hm_sched.specs.declared.errors.SchedErr.{SchedErr}
 use Rattle.hm_sched.proofs.FileLaws.{file_again}
@@ -35,7 +35,7 @@ use Rattle.hm_commands.specs.Headline.{IsGiven, IsReported, RunsToHeadline, IsSh
 use Rattle.hm_commands.specs.Run.{is_fault, is_halted, short_report, schedule_in}
 use Rattle.hm_words.specs.Words.{Form, Source, ticks, file, run, seq, form_of, reads_of}
 use Rattle.hm_words.proofs.Forms.{form_of-run, form_of-seq}
-use Rattle.hm_commands.proofs.Ending.{Does-carries, untouched_wanted}
+use Rattle.hm_commands.proofs.Ending.{Does-begins, untouched_wanted}
 use Rattle.hm_commands.proofs.Listed.{some_listings}
 use Rattle.hm_commands.proofs.Runs.{reset_refusal-odd}
 
@@ -105,11 +105,11 @@ left e F P old new HostFault h files printed ne = absurd (ne refl)
 left e F P old new NoMemory h files printed ne = inl refl
 
 -- the effect that was carried out is this one
-left_one : (Is : Effect → Type 0) (d : Effect) (F : FileMap) (P : List ℕ) (old new : HostState) (s : Status) → ((e : Effect) → Is e → e ≡ d) → CarriesOne Is old new s
+left_one : (names : List (List ℕ)) (Is : Effect → Type 0) (d : Effect) (F : FileMap) (P : List ℕ) (old new : HostState) (s : Status) → ((e : Effect) → Is e → e ≡ d) → BeginsOne names Is old new s
     → old.files ≡ Some F → old.printed ≡ Some P → s ≢ HostFault → (s ≡ NoMemory) ⊎ Left d F P new s
-left_one Is d F P old new s only h files printed ne = elim h [
-  | inl one ↦ left d F P old new s (subst (λ (e : Effect). Carries e old new s) (only one.0 one.1) one.2) files printed ne
-  | inr none ↦ inl (untouched_wanted old new s none ne)
+left_one names Is d F P old new s only h files printed ne = elim h [
+  | inl one ↦ left d F P old new s (subst (λ (e : Effect). Carries e old new s) (only one.0 one.1) one.2.carries) files printed ne
+  | inr none ↦ inl (untouched_wanted old new s none.untouched ne)
 ]
 
 reported_by : (listing : Listing) (F : FileMap) (P memory : List ℕ) (image : List Segment) (s : Sched) (new : HostState) (status : Status) → IsListing (flash_byte image) listing
@@ -137,8 +137,8 @@ headline_of words form old new status same does = λ F P name memory image s h n
     let sound = h.sound in
     let read = read_for F name sound.bytes memory h.source s sound.there sound.short h.given in
     let only = λ (e : Effect). effect-run listings words F name sound.bytes memory h.source image s e (form_of-run words name h.source memory h.asked) read sound.holds sound.odd in
-    let done = Does-carries listings form words old new status F (does listings some_listings.1) same sound.files in
-    elim (left_one (IsEffect listings words F) (effect_for (reported x memory)) F P old new status only done sound.files sound.printed ne) [
+    let done = Does-begins listings form words old new status F (does listings some_listings.1) same sound.files in
+    elim (left_one (reads_for (form_of words)) (IsEffect listings words F) (effect_for (reported x memory)) F P old new status only done sound.files sound.printed ne) [
       | inl wanted ↦ inl wanted
       | inr left ↦ inr (reported_by (listings image) F P memory image s new status (some_listings.1.at image) left)
     ]
@@ -207,8 +207,8 @@ order_of words form old new status same does = λ F P name image n h ne.
     let x = shown_out (listings image) image (plain n) in
     let sound = h.sound in
     let only = λ (e : Effect). effect-seq listings words F name sound.bytes image n e (form_of-seq words name n h.asked) sound.there sound.short sound.holds sound.odd in
-    let done = Does-carries listings form words old new status F (does listings some_listings.1) same sound.files in
-    elim (left_one (IsEffect listings words F) (effect_for (told x)) F P old new status only done sound.files sound.printed ne) [
+    let done = Does-begins listings form words old new status F (does listings some_listings.1) same sound.files in
+    elim (left_one (reads_for (form_of words)) (IsEffect listings words F) (effect_for (told x)) F P old new status only done sound.files sound.printed ne) [
       | inl wanted ↦ inl wanted
       | inr left ↦ inr (shown_by (listings image) F P image n new status (some_listings.1.at image) left)
     ]

@@ -1,5 +1,5 @@
--- Words have one effect.
-use Rattle.std.proofs.Common.{◌≡◌, ℕ, true, List, Option, Some, None, Result, Ok, Err, sym, ap, subst, ◌∙◌}
+-- Words have one effect, but for the image that a text of the array language is compiled to.
+use Rattle.std.proofs.Common.{◌≡◌, ◌≢◌, ◌⊎◌, ℕ, true, List, Option, Some, None, Result, Ok, Err, option_map, refl, sym, ap, subst, ◌∙◌, inl, inr}
 use Rattle.hm_asm.specs.declared.errors.AsmErr.{AsmErr}
 use Rattle.hm_base.specs.Image.{Segment, flash_byte}
 use Rattle.hm_base.specs.declared.errors.ImageErr.{ImageErr}
@@ -15,18 +15,22 @@ use Rattle.hm_journal.proofs.Comparing.{one_comparison}
 use Rattle.hm_journal.proofs.Readings.{one_outcome as one_journal}
 use Rattle.hm_journal.specs.Journals.{Journaled}
 use Rattle.hm_journal.specs.declared.journal.JournalErr.{JournalErr}
+use Rattle.hm_elf.specs.WriteImage.{elf_file}
+use Rattle.hm_kernel_text.specs.ReadFile.{kernel_in}
+use Rattle.hm_kernel_text.specs.Written.{Written}
+use Rattle.hm_kernel_text.specs.declared.errors.KernelErr.{KernelErr}
 use Rattle.hm_listing.proofs.OneListing.{one_listing}
 use Rattle.hm_sched.specs.Schedule.{Sched}
 use Rattle.hm_sched.specs.declared.errors.SchedErr.{SchedErr}
 use Rattle.hm_soak_laws.proofs.Line.{one_line}
 use Rattle.std.specs.Prelude.{[], get_or}
 use Rattle.hm_asm.proofs.Outcomes.{one_outcome as one_assembled}
-use Rattle.hm_commands.specs.Commands.{ComesTo, IsAnswers, IsAsmOutcome, IsCompared, IsDebugOutcome, IsDisOutcome, IsJournalOutcome, IsReplay, IsReplayOutcome, IsScriptRead, IsSoakOutcome, OfRun, UnlessRefused, asm_outcome, compared, last_read}
+use Rattle.hm_commands.specs.Commands.{ComesTo, IsAnswers, IsAsmOutcome, IsCompared, IsCompiledFile, IsDebugOutcome, IsDisOutcome, IsJournalOutcome, IsReplay, IsReplayOutcome, IsScriptRead, IsSoakOutcome, OfRun, UnlessRefused, asm_outcome, compared, last_read}
 use Rattle.hm_commands.specs.Effect.{Effect, Reading, whole, too_large, missing, reading_of, reads_for, effect_for, IsEffect, IsEffectAfter}
 use Rattle.hm_commands.specs.Run.{reset_refusal, schedule_in}
 use Rattle.hm_commands.specs.Work.{Outcome, finishes}
 use Rattle.hm_commands.specs.declared.work.Refusal.{Refusal}
-use Rattle.hm_words.specs.Words.{Form, run, seq, dis, asm, soak, debug, journal, replay, plan, hex, form_of}
+use Rattle.hm_words.specs.Words.{Form, run, seq, dis, asm, soak, debug, journal, replay, plan, hex, kernel, form_of}
 
 one_dis : (image : Result (List Segment) ImageErr) (lo hi : ℕ) (o p : Outcome) → IsDisOutcome image lo hi o → IsDisOutcome image lo hi p → o ≡ p
 one_dis (Err e) lo hi o p x y = x ∙ sym y
@@ -76,26 +80,83 @@ one_replay : (listings : List Segment → Listing) (text : List ℕ) (tick : ℕ
 one_replay listings text tick image s o p x y =
     one_checked listings image s tick y.0 o p (subst (λ (r : Result Journaled JournalErr). IsReplay listings image s tick r o) (one_journal text x.0 y.0 x.1 y.1) x.2) y.2
 
-one_outcome : (listings : List Segment → Listing) (form : Form) (contents : List (List ℕ)) (o p : Outcome) → ComesTo listings form contents o → ComesTo listings form contents p → o ≡ p
-one_outcome listings (run image schedule memory) contents o p x y = x ∙ sym y
-one_outcome listings (seq image n) contents o p x y = x ∙ sym y
-one_outcome listings (dis image lo hi) contents o p x y = one_dis (image_of (get_or contents 0 [])) lo hi o p x y
-one_outcome listings (asm source out) contents o p x y = one_asm (get_or contents 0 []) out o p x y
-one_outcome listings (soak number) contents o p x y = one_soak number o p x y
-one_outcome listings (debug image schedule script) contents o p x y =
+-- the form is of no text of the array language
+abbrev IsNoKernel : Form → Type 0
+IsNoKernel form = (source out : List ℕ) → form ≢ kernel source out
+
+one_outcome : (listings : List Segment → Listing) (form : Form) (contents : List (List ℕ)) (o p : Outcome) → IsNoKernel form → ComesTo listings form contents o → ComesTo listings form contents p → o ≡ p
+one_outcome listings (run image schedule memory) contents o p no x y = x ∙ sym y
+one_outcome listings (seq image n) contents o p no x y = x ∙ sym y
+one_outcome listings (dis image lo hi) contents o p no x y = one_dis (image_of (get_or contents 0 [])) lo hi o p x y
+one_outcome listings (asm source out) contents o p no x y = one_asm (get_or contents 0 []) out o p x y
+one_outcome listings (soak number) contents o p no x y = one_soak number o p x y
+one_outcome listings (debug image schedule script) contents o p no x y =
     one_of_run (image_of (get_or contents 0 [])) (schedule_in schedule (get_or contents 1 [])) (IsDebugOutcome listings (last_read schedule contents)) o p (λ i s u v. one_debug listings (last_read schedule contents) i s o p u v) x y
-one_outcome listings (journal image schedule every out) contents o p x y =
+one_outcome listings (journal image schedule every out) contents o p no x y =
     one_of_run (image_of (get_or contents 0 [])) (schedule_in schedule (get_or contents 1 [])) (IsJournalOutcome listings every out) o p (λ i s u v. u ∙ sym v) x y
-one_outcome listings (replay image schedule text tick) contents o p x y =
+one_outcome listings (replay image schedule text tick) contents o p no x y =
     one_of_run (image_of (get_or contents 0 [])) (schedule_in schedule (get_or contents 1 [])) (IsReplayOutcome listings (last_read schedule contents) tick) o p (λ i s u v. one_replay listings (last_read schedule contents) tick i s o p u v) x y
-one_outcome listings (plan image n out) contents o p x y = x ∙ sym y
-one_outcome listings (hex image out) contents o p x y = x ∙ sym y
+one_outcome listings (plan image n out) contents o p no x y = x ∙ sym y
+one_outcome listings (hex image out) contents o p no x y = x ∙ sym y
+one_outcome listings (kernel source out) contents o p no x y = absurd (no source out refl)
 
-one_after : (listings : List Segment → Listing) (form : Option Form) (reading : Reading) (d e : Effect) → IsEffectAfter listings form reading d → IsEffectAfter listings form reading e → d ≡ e
-one_after listings None reading d e x y = x ∙ sym y
-one_after listings (Some form) (whole contents) d e x y = x.2 ∙ ap effect_for (one_outcome listings form contents x.0 y.0 x.1 y.1) ∙ sym y.2
-one_after listings (Some form) too_large d e x y = x ∙ sym y
-one_after listings (Some form) missing d e x y = x ∙ sym y
+one_after : (listings : List Segment → Listing) (form : Option Form) (reading : Reading) (d e : Effect) → ((source out : List ℕ) → form ≢ Some (kernel source out))
+    → IsEffectAfter listings form reading d → IsEffectAfter listings form reading e → d ≡ e
+one_after listings None reading d e no x y = x ∙ sym y
+one_after listings (Some form) (whole contents) d e no x y =
+    x.2 ∙ ap effect_for (one_outcome listings form contents x.0 y.0 (λ source out is. no source out (ap (λ (f : Form). Some f) is)) x.1 y.1) ∙ sym y.2
+one_after listings (Some form) too_large d e no x y = x ∙ sym y
+one_after listings (Some form) missing d e no x y = x ∙ sym y
 
-pub one_effect : (listings : List Segment → Listing) (words : List (List ℕ)) (F : FileMap) (d e : Effect) → IsEffect listings words F d → IsEffect listings words F e → d ≡ e
-one_effect listings words F d e x y = one_after listings (form_of words) (reading_of F (reads_for (form_of words))) d e x y
+pub one_effect : (listings : List Segment → Listing) (words : List (List ℕ)) (F : FileMap) (d e : Effect) → ((source out : List ℕ) → form_of words ≢ Some (kernel source out))
+    → IsEffect listings words F d → IsEffect listings words F e → d ≡ e
+one_effect listings words F d e no x y = one_after listings (form_of words) (reading_of F (reads_for (form_of words))) d e no x y
+
+-- ---- texts of the array language: effects are alike but for the bytes of the file
+
+abbrev Alike : Effect → Effect → Type 0
+Alike d e = (d.status ≡ e.status) × (d.text ≡ e.text) × (option_map (λ file. file.0) d.file ≡ option_map (λ file. file.0) e.file)
+
+alike_same : (d e : Effect) → d ≡ e → Alike d e
+alike_same d e is = subst (Alike d) is (refl, refl, refl)
+
+alike_files : (source : List ℕ) (read : Result Written KernelErr) (out : List ℕ) (o p : Outcome) → IsCompiledFile source read out o → IsCompiledFile source read out p → Alike (effect_for o) (effect_for p)
+alike_files source (Err e) out o p x y = alike_same (effect_for o) (effect_for p) (ap effect_for (x ∙ sym y))
+alike_files source (Ok w) out o p x y =
+    let first = finishes true (Some (out, elf_file x.0)) None in
+    subst (λ (a : Outcome). Alike (effect_for a) (effect_for p)) (sym x.2) (subst (λ (b : Outcome). Alike (effect_for first) (effect_for b)) (sym y.2) (refl, refl, refl))
+
+kernel_or_not : (form : Form) → ((source : List ℕ) × (out : List ℕ) × (form ≡ kernel source out)) ⊎ IsNoKernel form
+kernel_or_not (run image schedule memory) = inr (λ source out is. absurd cc)
+kernel_or_not (seq image n) = inr (λ source out is. absurd cc)
+kernel_or_not (dis image lo hi) = inr (λ source out is. absurd cc)
+kernel_or_not (asm source out) = inr (λ source out is. absurd cc)
+kernel_or_not (soak number) = inr (λ source out is. absurd cc)
+kernel_or_not (debug image schedule script) = inr (λ source out is. absurd cc)
+kernel_or_not (journal image schedule every out) = inr (λ source out is. absurd cc)
+kernel_or_not (replay image schedule text tick) = inr (λ source out is. absurd cc)
+kernel_or_not (plan image n out) = inr (λ source out is. absurd cc)
+kernel_or_not (hex image out) = inr (λ source out is. absurd cc)
+kernel_or_not (kernel source out) = inl (source, out, refl)
+
+alike_outcomes : (listings : List Segment → Listing) (form : Form) (contents : List (List ℕ)) (o p : Outcome) → ComesTo listings form contents o → ComesTo listings form contents p → Alike (effect_for o) (effect_for p)
+alike_outcomes listings form contents o p x y = elim (kernel_or_not form) [
+  | inl of ↦ (
+    let here = subst (λ (f : Form). ComesTo listings f contents o) of.2 x in
+    let there = subst (λ (f : Form). ComesTo listings f contents p) of.2 y in
+    alike_files (get_or contents 0 []) (kernel_in (get_or contents 0 [])) of.1 o p here there
+  )
+  | inr no ↦ alike_same (effect_for o) (effect_for p) (ap effect_for (one_outcome listings form contents o p no x y))
+]
+
+alike_after : (listings : List Segment → Listing) (form : Option Form) (reading : Reading) (d e : Effect) → IsEffectAfter listings form reading d → IsEffectAfter listings form reading e → Alike d e
+alike_after listings None reading d e x y = alike_same d e (x ∙ sym y)
+alike_after listings (Some form) (whole contents) d e x y =
+    let outcomes = alike_outcomes listings form contents x.0 y.0 x.1 y.1 in
+    subst (λ (a : Effect). Alike a e) (sym x.2) (subst (λ (b : Effect). Alike (effect_for x.0) b) (sym y.2) outcomes)
+alike_after listings (Some form) too_large d e x y = alike_same d e (x ∙ sym y)
+alike_after listings (Some form) missing d e x y = alike_same d e (x ∙ sym y)
+
+pub alike_effects : (listings : List Segment → Listing) (words : List (List ℕ)) (F : FileMap) (d e : Effect) → IsEffect listings words F d → IsEffect listings words F e
+    → (d.status ≡ e.status) × (d.text ≡ e.text) × (option_map (λ file. file.0) d.file ≡ option_map (λ file. file.0) e.file)
+alike_effects listings words F d e x y = alike_after listings (form_of words) (reading_of F (reads_for (form_of words))) d e x y

@@ -1,10 +1,10 @@
 -- One effect carries all that is told of an effect.
 use Rattle.std.proofs.Common.{◌≡◌, List, ◌∷◌, ◌++◌, Option, Some, None, refl, ap, subst, ◌∙◌, inl, inr, append_assoc, ℕ}
-use Rattle.hm_host.specs.Host.{Call, FileMap, HostState, Made, Turns}
+use Rattle.hm_host.specs.Host.{Call, FileMap, HostState, Made, Stays, Turns}
 use Rattle.hm_commands.specs.declared.status.Status.{Status}
 use Rattle.hm_commands.specs.declared.status.Status.TheVariants.{Done, Ended, Usage, Refused, HostFault, NoMemory}
-use Rattle.hm_commands.specs.Calls.{MadeSome, MadeToFault, MakesCalls, Way, to_end, to_fault, to_memory, way_of}
-use Rattle.hm_commands.specs.Effect.{ButForFile, Carries, CarriesOne, CutsReads, DoesEffect, Effect, IsUntouched, MakesCallsOfOne, StaysOrMakesAll, StaysOrMakesAllOfOne, calls_for}
+use Rattle.hm_commands.specs.Calls.{MadeSome, MadeToFault, MakesCalls, Way, to_end, to_fault, to_memory, read_calls, way_of}
+use Rattle.hm_commands.specs.Effect.{BeginsOne, IsBegun, ButForFile, Carries, CutsReads, DoesEffect, Effect, IsUntouched, IsNotReached, calls_for}
 use Rattle.hm_commands.proofs.Ending.{carried_done}
 
 -- MORE CALLS that were to be made
@@ -49,21 +49,20 @@ untouched_carries e old new Refused h = absurd h
 untouched_carries e old new HostFault h = (h.0, inl (record { files = λ F is. (F, h.1 F is, same_files e.file F); printed = h.2 }))
 untouched_carries e old new NoMemory h = record { faults = h.0; files = inl h.1; printed = h.2 }
 
--- ONE EFFECT: what is told of an effect, each time of one, is told of one and the same
-module _ (reads : List Call) (Is : Effect → Type 0) (old new : HostState) (s : Status) (only : (d e : Effect) → Is d → Is e → d ≡ e) where
-  calls_of : (e : Effect) → Is e → MakesCallsOfOne reads Is old.calls new.calls (way_of s) → MakesCalls (reads ++ calls_for e) old.calls new.calls (way_of s)
-  calls_of e is (inl one) = subst (λ (d : Effect). MakesCalls (reads ++ calls_for d) old.calls new.calls (way_of s)) (only one.0 e one.1 is) one.2
-  calls_of e is (inr cut) = cut_more reads (calls_for e) old.calls new.calls (way_of s) cut
+untouched_files : (old new : HostState) (s : Status) → IsUntouched old new s → s ≡ NoMemory → Stays old.files new.files
+untouched_files old new s h is = (subst (IsUntouched old new) is h).1
 
-  spent_of : (e : Effect) → Is e → StaysOrMakesAllOfOne reads Is old new → StaysOrMakesAll (reads ++ calls_for e) old new
-  spent_of e is (inl stays) = inl stays
-  spent_of e is (inr one) = subst (λ (d : Effect). StaysOrMakesAll (reads ++ calls_for d) old new) (only one.0 e one.1 is) (inr one.2)
+-- ONE EFFECT: what is told of an effect is told of one and the same
+all_of : (names : List (List ℕ)) (e : Effect) (F : FileMap) (old new : HostState) (s : Status) → old.files ≡ Some F → IsBegun names e old new s → DoesEffect (read_calls F names) e old new s
+all_of names e F old new s told h = record { carries = h.carries; complete = carried_done e old new s h.carries; calls = h.calls F told; spent = h.spent F told }
 
-  all_of : (e : Effect) → Is e → Carries e old new s → MakesCallsOfOne reads Is old.calls new.calls (way_of s) → (s ≡ NoMemory → StaysOrMakesAllOfOne reads Is old new) → DoesEffect reads e old new s
-  all_of e is carries calls spent =
-      record { carries = carries; complete = carried_done e old new s carries; calls = calls_of e is calls; spent = λ wanted. spent_of e is (spent wanted) }
+-- any effect may have been cut where none was reached
+none_of : (names : List (List ℕ)) (e : Effect) (F : FileMap) (old new : HostState) (s : Status) → old.files ≡ Some F → IsNotReached names old new s → DoesEffect (read_calls F names) e old new s
+none_of names e F old new s told h =
+    let carries = untouched_carries e old new s h.untouched in
+    record { carries = carries; complete = carried_done e old new s carries; calls = cut_more (read_calls F names) (calls_for e) old.calls new.calls (way_of s) (h.calls F told); spent = λ wanted. inl (untouched_files old new s h.untouched wanted) }
 
-  pub does_one : (e : Effect) × Is e → CarriesOne Is old new s → MakesCallsOfOne reads Is old.calls new.calls (way_of s) → (s ≡ NoMemory → StaysOrMakesAllOfOne reads Is old new)
-      → (e : Effect) × Is e × DoesEffect reads e old new s
-  does_one some (inl one) calls spent = (one.0, one.1, all_of one.0 one.1 one.2 calls spent)
-  does_one some (inr none) calls spent = (some.0, some.1, all_of some.0 some.1 (untouched_carries some.0 old new s none) calls spent)
+pub does_one : (names : List (List ℕ)) (Is : Effect → Type 0) (F : FileMap) (old new : HostState) (s : Status) → old.files ≡ Some F → (e : Effect) × Is e → BeginsOne names Is old new s
+    → (e : Effect) × Is e × DoesEffect (read_calls F names) e old new s
+does_one names Is F old new s told some (inl one) = (one.0, one.1, all_of names one.0 F old new s told one.2)
+does_one names Is F old new s told some (inr none) = (some.0, some.1, none_of names some.0 F old new s told none)

@@ -1,6 +1,8 @@
 -- Words have an effect.
-use Rattle.std.proofs.Common.{◌≡◌, ℕ, true, List, [], Option, Some, None, Result, Ok, Err, refl, ap, inl, inr}
-use Rattle.std.specs.Prelude.{get_or}
+use Rattle.std.proofs.Common.{◌≡◌, ◌≤◌, ℕ, Bool, true, false, List, [], ◌∷◌, length, Option, Some, None, Result, Ok, Err, refl, ap, subst, inl, inr, arith}
+use Rattle.std.specs.FinMap.{get}
+use Rattle.std.specs.Prelude.{get_or, nat_lt, if◌then◌else◌}
+use Rattle.std.proofs.lemmas.Bool.Decides.{nat_tests}
 use Rattle.hm_base.specs.Image.{Segment, flash_byte}
 use Rattle.hm_base.specs.declared.errors.ImageErr.{ImageErr}
 use Rattle.hm_codes.specs.Listing.{Listing}
@@ -10,23 +12,29 @@ use Rattle.hm_debug.specs.Films.{film_of}
 use Rattle.hm_debug.specs.declared.command.Command.{Command}
 use Rattle.hm_debug.specs.declared.errors.ScriptErr.{ScriptErr}
 use Rattle.hm_commands.specs.Images.{image_of}
-use Rattle.hm_host.specs.Host.{FileMap}
+use Rattle.hm_host.specs.Host.{FileMap, longest}
 use Rattle.hm_journal.proofs.Comparing.{some_comparison}
 use Rattle.hm_journal.proofs.Readings.{some_outcome as some_journal}
 use Rattle.hm_journal.specs.Journals.{Journaled}
 use Rattle.hm_journal.specs.declared.journal.JournalErr.{JournalErr}
+use Rattle.hm_elf.specs.WriteImage.{elf_file}
+use Rattle.hm_kernel.proofs.Joined.{some_compiled}
+use Rattle.hm_kernel_text.proofs.FoundFile.{kernel_found}
+use Rattle.hm_kernel_text.specs.ReadFile.{kernel_in}
+use Rattle.hm_kernel_text.specs.Written.{Written}
+use Rattle.hm_kernel_text.specs.declared.errors.KernelErr.{KernelErr}
 use Rattle.hm_listing.proofs.Exists.{some_listing}
 use Rattle.hm_sched.specs.Schedule.{Sched}
 use Rattle.hm_sched.specs.declared.errors.SchedErr.{SchedErr}
 use Rattle.hm_soak_laws.proofs.Line.{some_line}
 use Rattle.hm_asm.proofs.Exists.{some_outcome as some_assembled}
-use Rattle.hm_commands.specs.declared.work.Refusal.TheVariants.{FileTooLarge, Image, Schedule, Script, Journal}
+use Rattle.hm_commands.specs.declared.work.Refusal.TheVariants.{FileTooLarge, Image, Schedule, Script, Journal, Kernel}
 use Rattle.hm_commands.specs.declared.work.Refusal.{Refusal}
-use Rattle.hm_commands.specs.Commands.{ComesTo, IsAnswers, IsAsmOutcome, IsCompared, IsDebugOutcome, IsDisOutcome, IsJournalOutcome, IsReplay, IsReplayOutcome, IsScriptRead, IsSoakOutcome, OfRun, UnlessRefused, asm_outcome, compared, hex_outcome, journal_outcome, last_read, plan_outcome, run_outcome, seq_outcome}
-use Rattle.hm_commands.specs.Effect.{Effect, Reading, whole, too_large, missing, reading_of, reads_for, effect_for, no_effect, usage_effect, IsEffect, IsEffectAfter}
+use Rattle.hm_commands.specs.Commands.{ComesTo, IsAnswers, IsAsmOutcome, IsCompared, IsCompiledFile, IsDebugOutcome, IsDisOutcome, IsJournalOutcome, IsKernelOutcome, IsReplay, IsReplayOutcome, IsScriptRead, IsSoakOutcome, OfRun, UnlessRefused, asm_outcome, compared, hex_outcome, journal_outcome, last_read, plan_outcome, run_outcome, seq_outcome}
+use Rattle.hm_commands.specs.Effect.{Effect, Reading, whole, too_large, missing, after_contents, then_read, reading_of, reads_for, effect_for, no_effect, usage_effect, IsEffect, IsEffectAfter}
 use Rattle.hm_commands.specs.Run.{reset_refusal, schedule_in}
 use Rattle.hm_commands.specs.Work.{Outcome, finishes, refuses}
-use Rattle.hm_words.specs.Words.{Form, run, seq, dis, asm, soak, debug, journal, replay, plan, hex, form_of, IsRange}
+use Rattle.hm_words.specs.Words.{Form, run, seq, dis, asm, soak, debug, journal, replay, plan, hex, kernel, form_of, IsRange}
 use Rattle.hm_words.proofs.Forms.{form_of-is_dis}
 
 some_dis : (image : Result (List Segment) ImageErr) (lo hi : ℕ) → IsRange lo hi → (o : Outcome) × IsDisOutcome image lo hi o
@@ -44,6 +52,15 @@ some_soak : (number : ℕ) → (o : Outcome) × IsSoakOutcome number o
 some_soak number =
     let x = some_line number in
     (finishes true None (Some x.0), (x.0, x.1, refl))
+
+some_file : (source : List ℕ) (read : Result Written KernelErr) (out : List ℕ) → length source ≤ longest → kernel_in source ≡ read → (o : Outcome) × IsCompiledFile source read out o
+some_file source (Err e) out fits is = (refuses (Kernel e), refl)
+some_file source (Ok w) out fits is =
+    let image = some_compiled source w (omega arith) (kernel_found source w is) in
+    (finishes true (Some (out, elf_file image.0)) None, (image.0, image.1, refl))
+
+some_kernel : (source out : List ℕ) → length source ≤ longest → (o : Outcome) × IsKernelOutcome source out o
+some_kernel source out fits = some_file source (kernel_in source) out fits refl
 
 -- ---- runs
 
@@ -89,28 +106,51 @@ some_replay listings text tick image s =
 abbrev HasRange : Form → Type 0
 HasRange form = (image : List ℕ) (lo hi : ℕ) → form ≡ dis image lo hi → IsRange lo hi
 
-some_comes : (listings : List Segment → Listing) (form : Form) (contents : List (List ℕ)) → HasRange form → (o : Outcome) × ComesTo listings form contents o
-some_comes listings (run image schedule memory) contents r = (run_outcome listings (image_of (get_or contents 0 [])) (schedule_in schedule (get_or contents 1 [])) memory, refl)
-some_comes listings (seq image n) contents r = (seq_outcome listings (image_of (get_or contents 0 [])) n, refl)
-some_comes listings (dis image lo hi) contents r = some_dis (image_of (get_or contents 0 [])) lo hi (r image lo hi refl)
-some_comes listings (asm source out) contents r = some_asm (get_or contents 0 []) out
-some_comes listings (soak number) contents r = some_soak number
-some_comes listings (debug image schedule script) contents r =
+some_comes : (listings : List Segment → Listing) (form : Form) (contents : List (List ℕ)) → HasRange form → length (get_or contents 0 []) ≤ longest → (o : Outcome) × ComesTo listings form contents o
+some_comes listings (run image schedule memory) contents r fits = (run_outcome listings (image_of (get_or contents 0 [])) (schedule_in schedule (get_or contents 1 [])) memory, refl)
+some_comes listings (seq image n) contents r fits = (seq_outcome listings (image_of (get_or contents 0 [])) n, refl)
+some_comes listings (dis image lo hi) contents r fits = some_dis (image_of (get_or contents 0 [])) lo hi (r image lo hi refl)
+some_comes listings (asm source out) contents r fits = some_asm (get_or contents 0 []) out
+some_comes listings (soak number) contents r fits = some_soak number
+some_comes listings (debug image schedule script) contents r fits =
     some_of_run (image_of (get_or contents 0 [])) (schedule_in schedule (get_or contents 1 [])) (IsDebugOutcome listings (last_read schedule contents)) (some_debug listings (last_read schedule contents))
-some_comes listings (journal image schedule every out) contents r =
+some_comes listings (journal image schedule every out) contents r fits =
     some_of_run (image_of (get_or contents 0 [])) (schedule_in schedule (get_or contents 1 [])) (IsJournalOutcome listings every out) (λ i s. (journal_outcome listings every out i s, refl))
-some_comes listings (replay image schedule text tick) contents r =
+some_comes listings (replay image schedule text tick) contents r fits =
     some_of_run (image_of (get_or contents 0 [])) (schedule_in schedule (get_or contents 1 [])) (IsReplayOutcome listings (last_read schedule contents) tick) (some_replay listings (last_read schedule contents) tick)
-some_comes listings (hex image out) contents r = (hex_outcome (image_of (get_or contents 0 [])) out, refl)
-some_comes listings (plan image n out) contents r = (plan_outcome listings (image_of (get_or contents 0 [])) n out, refl)
+some_comes listings (hex image out) contents r fits = (hex_outcome (image_of (get_or contents 0 [])) out, refl)
+some_comes listings (kernel source out) contents r fits = some_kernel (get_or contents 0 []) out fits
+some_comes listings (plan image n out) contents r fits = (plan_outcome listings (image_of (get_or contents 0 [])) n out, refl)
 
-some_after : (listings : List Segment → Listing) (form : Option Form) (reading : Reading) → ((image : List ℕ) (lo hi : ℕ) → form ≡ Some (dis image lo hi) → IsRange lo hi) → (e : Effect) × IsEffectAfter listings form reading e
-some_after listings None reading r = (usage_effect, refl)
-some_after listings (Some form) (whole contents) r =
-    let x = some_comes listings form contents (λ image lo hi e. r image lo hi (ap (λ (f : Form). Some f) e)) in
+-- what is read is no longer than a file may be
+after_fits : (bytes : List ℕ) (others : Reading) (contents : List (List ℕ)) → after_contents (bytes ∷ []) others ≡ whole contents → length bytes ≤ longest → length (get_or contents 0 []) ≤ longest
+after_fits bytes (whole more) contents is fits = subst (λ (c : List (List ℕ)). length (get_or c 0 []) ≤ longest) (whole_is (bytes ∷ more) contents is) fits
+  where
+    whole_is : (x y : List (List ℕ)) → whole x ≡ whole y → x ≡ y
+    whole_is x y e = cc
+after_fits bytes too_large contents is fits = absurd cc
+after_fits bytes missing contents is fits = absurd cc
+
+read_fits : (t : Bool) (bytes : List ℕ) (others : Reading) (contents : List (List ℕ)) → nat_lt longest (length bytes) ≡ t → (if t then too_large else after_contents (bytes ∷ []) others) ≡ whole contents
+    → length (get_or contents 0 []) ≤ longest
+read_fits true bytes others contents test is = absurd cc
+read_fits false bytes others contents test is = after_fits bytes others contents is (grind (arith, nat_tests))
+
+first_fits : (F : FileMap) (names : List (List ℕ)) (contents : List (List ℕ)) → reading_of F names ≡ whole contents → length (get_or contents 0 []) ≤ longest
+first_fits F [] contents is = subst (λ (c : List (List ℕ)). length (get_or c 0 []) ≤ longest) (let e : [] ≡ contents = cc in e) (let none : 0 ≤ longest = omega arith in none)
+first_fits F (name ∷ names) contents is = by_file (get F name) is
+  where
+    by_file : (file : Option (List ℕ)) → then_read file (reading_of F names) ≡ whole contents → length (get_or contents 0 []) ≤ longest
+    by_file None e = absurd cc
+    by_file (Some bytes) e = read_fits (nat_lt longest (length bytes)) bytes (reading_of F names) contents refl e
+
+some_after : (listings : List Segment → Listing) (form : Option Form) (reading : Reading) → ((contents : List (List ℕ)) → reading ≡ whole contents → length (get_or contents 0 []) ≤ longest) → ((image : List ℕ) (lo hi : ℕ) → form ≡ Some (dis image lo hi) → IsRange lo hi) → (e : Effect) × IsEffectAfter listings form reading e
+some_after listings None reading fits r = (usage_effect, refl)
+some_after listings (Some form) (whole contents) fits r =
+    let x = some_comes listings form contents (λ image lo hi e. r image lo hi (ap (λ (f : Form). Some f) e)) (fits contents refl) in
     (effect_for x.0, (x.0, x.1, refl))
-some_after listings (Some form) too_large r = (effect_for (refuses FileTooLarge), refl)
-some_after listings (Some form) missing r = (no_effect, refl)
+some_after listings (Some form) too_large fits r = (effect_for (refuses FileTooLarge), refl)
+some_after listings (Some form) missing fits r = (no_effect, refl)
 
 pub some_effect : (listings : List Segment → Listing) (words : List (List ℕ)) (F : FileMap) → (e : Effect) × IsEffect listings words F e
-some_effect listings words F = some_after listings (form_of words) (reading_of F (reads_for (form_of words))) (λ image lo hi e. (form_of-is_dis words image lo hi e).range)
+some_effect listings words F = some_after listings (form_of words) (reading_of F (reads_for (form_of words))) (first_fits F (reads_for (form_of words))) (λ image lo hi e. (form_of-is_dis words image lo hi e).range)

@@ -30,7 +30,7 @@ use Rattle.hm_commands.specs.declared.work.Refusal.{Refusal}
 use Rattle.hm_commands.specs.declared.work.Refusal.TheVariants.{Journal, Past, Reset}
 use Rattle.hm_commands.specs.declared.work.Stop.{Stop}
 use Rattle.hm_commands.specs.declared.work.Stop.TheVariants.{Refused, NoMemory}
-use Rattle.hm_commands.proofs.Givens.{load_goes_on, load_stops}
+use Rattle.hm_commands.proofs.RunInputs.{load_goes_on, load_stops}
 use Rattle.hm_commands.proofs.Runs.{reset_refusal-even, reset_refusal-odd}
 
 unless_odd : (image : List Segment) (Is : Outcome → Type 0) (o : Outcome) → reset_pc image % 2 ≡ 1 → Is o → UnlessRefused (reset_refusal image) Is o

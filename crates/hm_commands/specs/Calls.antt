@@ -52,6 +52,7 @@ pub data Way : Type 0 where
   to_fault : Way
   to_memory : Way
 
+-- how the calls went, by the status of a command
 abbrev pub way_of : Status → Way
 way_of HostFault = to_fault
 way_of NoMemory = to_memory
@@ -60,6 +61,7 @@ way_of Ended = to_end
 way_of Usage = to_end
 way_of Refused = to_end
 
+-- how the calls went, by what a host answered to the last
 abbrev pub answer_way : {T : Type 0} → Result T HostErr → Way
 answer_way (Ok _) = to_end
 answer_way (Err Failed) = to_fault

@@ -21,6 +21,10 @@ use Rattle.hm_journal.specs.Outcomes.{IsReading as IsJournalRead}
 use Rattle.hm_journal.specs.Runs.{IsComparison, journal_of, report_at}
 use Rattle.hm_journal.specs.declared.journal.JournalErr.{JournalErr}
 use Rattle.hm_journal.specs.declared.journal.JournalErr.TheVariants as journal_err
+use Rattle.hm_kernel.specs.Compiled.{Compiles}
+use Rattle.hm_kernel_text.specs.ReadFile.{kernel_in}
+use Rattle.hm_kernel_text.specs.Written.{Written}
+use Rattle.hm_kernel_text.specs.declared.errors.KernelErr.{KernelErr}
 use Rattle.hm_listing.specs.Listings.{IsListed}
 use Rattle.hm_plan_laws.specs.Planned.{planned}
 use Rattle.hm_run.specs.Report.{report_text, memory_text}
@@ -29,9 +33,9 @@ use Rattle.hm_sched.specs.Printed.{file_text}
 use Rattle.hm_sched.specs.Schedule.{Sched, plain, ticks_of}
 use Rattle.hm_sched.specs.declared.errors.SchedErr.{SchedErr}
 use Rattle.hm_soak_laws.specs.Summary.{IsSoakLine}
-use Rattle.hm_words.specs.Words.{Form, Source as Held, ticks, file, run, seq, dis, asm, soak, debug, journal, replay, plan, hex}
+use Rattle.hm_words.specs.Words.{Form, Source as Held, ticks, file, run, seq, dis, asm, soak, debug, journal, replay, plan, hex, kernel}
 use Rattle.hm_commands.specs.declared.work.Refusal.{Refusal}
-use Rattle.hm_commands.specs.declared.work.Refusal.TheVariants.{Image, Schedule, Source, Script, Journal, Past}
+use Rattle.hm_commands.specs.declared.work.Refusal.TheVariants.{Image, Schedule, Source, Script, Journal, Kernel, Past}
 use Rattle.hm_commands.specs.Run.{is_halted, reset_refusal, schedule_in, short_report}
 use Rattle.hm_commands.specs.Work.{Outcome, finishes, refuses}
 
@@ -58,6 +62,7 @@ run_outcome listings (Ok image) (Ok s) memory = unless_refused (reset_refusal im
 abbrev pub told : Timed → Outcome
 told x = finishes (is_halted x.outcome) None (Some (short_report x))
 
+-- a run of n instructions of an image in order, as the image was read
 abbrev pub seq_outcome : (List Segment → Listing) → Result (List Segment) ImageErr → ℕ → Outcome
 seq_outcome listings (Err e) n = refuses (Image e)
 seq_outcome listings (Ok image) n = unless_refused (reset_refusal image) (told (shown_out (listings image) image (plain n)))
@@ -72,6 +77,7 @@ abbrev pub asm_outcome : Result (List Segment) AsmErr → List ℕ → Outcome
 asm_outcome (Err e) out = refuses (Source e)
 asm_outcome (Ok image) out = if nat_lt most_headers (length image) then refuses (Image TooMany) else finishes true (Some (out, elf_file image)) None
 
+-- what a source comes to, by one of the outcomes that it has
 abbrev pub IsAsmOutcome : List ℕ → List ℕ → Outcome → Type 0
 IsAsmOutcome source out = λ o. (assembled : Result (List Segment) AsmErr) × IsOutcome source assembled × (o ≡ asm_outcome assembled out)
 
@@ -111,6 +117,7 @@ abbrev pub journal_outcome : (List Segment → Listing) → ℕ → List ℕ →
 journal_outcome listings every out image s = unless_refused (reset_refusal image)
     (if nat_lt 64 (length (ticks_of s.lines) / every + 1) then refuses (Journal journal_err.TooMany) else finishes true (Some (out, journal_text (journal_of (listings image) image s every))) None)
 
+-- the journal of a run, and nothing else
 abbrev pub IsJournalOutcome : (List Segment → Listing) → ℕ → List ℕ → List Segment → Sched → Outcome → Type 0
 IsJournalOutcome listings every out image s = λ o. o ≡ journal_outcome listings every out image s
 
@@ -128,6 +135,7 @@ compared listings image s tick (Err e) = refuses (Journal e)
 abbrev pub IsCompared : (List Segment → Listing) → List Segment → Sched → ℕ → Journaled → Outcome → Type 0
 IsCompared listings image s tick j = λ o. (r : Result Unit JournalErr) × IsComparison (listings image) image s j.checkpoints r × (o ≡ compared listings image s tick r)
 
+-- a journal, as it was read, is checked against a run of an image whose reset address is odd
 abbrev pub IsReplay : (List Segment → Listing) → List Segment → Sched → ℕ → Result Journaled JournalErr → Outcome → Type 0
 IsReplay listings image s tick (Err e) = λ o. o ≡ refuses (Journal e)
 IsReplay listings image s tick (Ok j) = UnlessRefused (reset_refusal image) (IsCompared listings image s tick j)
@@ -145,6 +153,15 @@ plan_outcome listings (Ok image) n out = unless_refused (reset_refusal image) (f
 abbrev pub hex_outcome : Result (List Segment) ImageErr → List ℕ → Outcome
 hex_outcome (Err e) out = refuses (Image e)
 hex_outcome (Ok image) out = finishes true (Some (out, hex_file image)) None
+
+-- the file of an image that a text of the array language is compiled to, whichever of these images it is; or the refusal of the text
+abbrev pub IsCompiledFile : List ℕ → Result Written KernelErr → List ℕ → Outcome → Type 0
+IsCompiledFile source (Err e) out = λ o. o ≡ refuses (Kernel e)
+IsCompiledFile source (Ok w) out = λ o. (image : List Segment) × Compiles source image × (o ≡ finishes true (Some (out, elf_file image)) None)
+
+-- what a text of the array language comes to
+abbrev pub IsKernelOutcome : List ℕ → List ℕ → Outcome → Type 0
+IsKernelOutcome source out = IsCompiledFile source (kernel_in source) out
 
 -- the summary of the generated work of a number, which is printed
 abbrev pub IsSoakOutcome : ℕ → Outcome → Type 0
@@ -168,5 +185,6 @@ ComesTo listings (journal image schedule every out) contents =
 ComesTo listings (replay image schedule text tick) contents =
     OfRun (image_of (get_or contents 0 [])) (schedule_in schedule (get_or contents 1 [])) (IsReplayOutcome listings (last_read schedule contents) tick)
 ComesTo listings (plan image n out) contents = λ o. o ≡ plan_outcome listings (image_of (get_or contents 0 [])) n out
+ComesTo listings (kernel source out) contents = IsKernelOutcome (get_or contents 0 []) out
 ComesTo listings (hex image out) contents = λ o. o ≡ hex_outcome (image_of (get_or contents 0 [])) out
 ComesTo listings (soak number) contents = IsSoakOutcome number

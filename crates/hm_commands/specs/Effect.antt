@@ -38,6 +38,7 @@ usage_line = codes "helium: usage\n"
 abbrev pub refused_line : Refusal → List ℕ
 refused_line why = refusal_text why (codes "helium: refused ") ++ codes "\n"
 
+-- words that ask for nothing print how the program is used
 abbrev pub usage_effect : Effect
 usage_effect = record { status = Usage; file = None; text = Some usage_line }
 
@@ -45,6 +46,7 @@ usage_effect = record { status = Usage; file = None; text = Some usage_line }
 abbrev pub no_effect : Effect
 no_effect = record { status = HostFault; file = None; text = None }
 
+-- the status, the file and the text of an outcome
 abbrev pub effect_for : Outcome → Effect
 effect_for (finishes done file text) = record { status = (if done then Done else Ended); file = file; text = text }
 effect_for (refuses why) = record { status = Refused; file = None; text = Some (refused_line why) }
@@ -66,10 +68,12 @@ abbrev pub then_read : Option (List ℕ) → Reading → Reading
 then_read None others = missing
 then_read (Some bytes) others = if nat_lt longest (length bytes) then too_large else after_contents (bytes ∷ []) others
 
+-- what comes of the reads of files, one after another
 abbrev pub reading_of : FileMap → List (List ℕ) → Reading
 reading_of F [] = whole []
 reading_of F (name ∷ names) = then_read (get F name) (reading_of F names)
 
+-- the files that are read: none for words that ask for nothing
 abbrev pub reads_for : Option Form → List (List ℕ)
 reads_for None = []
 reads_for (Some form) = reads_of form
@@ -148,27 +152,15 @@ IsUntouched old new HostFault = Rose old.faults new.faults × Stays old.files ne
 IsUntouched old new NoMemory = (new.faults ≡ old.faults) × Stays old.files new.files × Stays old.printed new.printed
 IsUntouched old new status = ⊥
 
--- one of these effects is carried out; or what it is was not reached
-abbrev pub CarriesOne : (Effect → Type 0) → HostState → HostState → Status → Type 0
-CarriesOne Is old new status = ((e : Effect) × Is e × Carries e old new status) ⊎ IsUntouched old new status
-
 -- the reads were not made to their end, or memory ran out behind them
 abbrev pub CutsReads : List Call → Option (List Made) → Option (List Made) → Way → Type 0
 CutsReads reads old new to_end = ⊥
 CutsReads reads old new to_fault = MakesCalls reads old new to_fault
 CutsReads reads old new to_memory = MakesCalls reads old new to_memory
 
--- of the reads, and the calls that do one of these effects, these were made, by how they went
-abbrev pub MakesCallsOfOne : List Call → (Effect → Type 0) → Option (List Made) → Option (List Made) → Way → Type 0
-MakesCallsOfOne reads Is old new way = ((e : Effect) × Is e × MakesCalls (reads ++ calls_for e) old new way) ⊎ CutsReads reads old new way
-
 -- no file was touched, or all these calls were made
 abbrev pub StaysOrMakesAll : List Call → HostState → HostState → Type 0
 StaysOrMakesAll calls old new = Stays old.files new.files ⊎ MakesAll calls old.calls new.calls
-
--- no file was touched, or the reads and all calls that do one of these effects were made
-abbrev pub StaysOrMakesAllOfOne : List Call → (Effect → Type 0) → HostState → HostState → Type 0
-StaysOrMakesAllOfOne reads Is old new = Stays old.files new.files ⊎ ((e : Effect) × Is e × MakesAll (reads ++ calls_for e) old.calls new.calls)
 
 -- WHAT A CALL DOES of this effect, after these reads: the files and the printed bytes, by the status; done whole where the status is neither the
 -- host's fault nor want of memory (which `carries` tells by cases, and is said here for the reader); the calls that were made, all of them or up
@@ -179,13 +171,26 @@ pub record DoesEffect (reads : List Call) (effect : Effect) (old new : HostState
   pub calls : MakesCalls (reads ++ calls_for effect) old.calls new.calls (way_of status)
   pub spent : status ≡ NoMemory → StaysOrMakesAll (reads ++ calls_for effect) old new
 
--- a form's effect is carried out, by what the reads gave: where the files are told, what they hold
+-- an effect is begun behind the reads of these files, and the calls are told where the files are
+pub record IsBegun (names : List (List ℕ)) (effect : Effect) (old new : HostState) (status : Status) : Type 0 where
+  pub carries : Carries effect old new status
+  pub calls : (F : FileMap) → old.files ≡ Some F → MakesCalls (read_calls F names ++ calls_for effect) old.calls new.calls (way_of status)
+  pub spent : (F : FileMap) → old.files ≡ Some F → status ≡ NoMemory → StaysOrMakesAll (read_calls F names ++ calls_for effect) old new
+
+-- no effect was reached
+pub record IsNotReached (names : List (List ℕ)) (old new : HostState) (status : Status) : Type 0 where
+  pub untouched : IsUntouched old new status
+  pub calls : (F : FileMap) → old.files ≡ Some F → CutsReads (read_calls F names) old.calls new.calls (way_of status)
+
+-- one of these effects is begun, or none was reached
+abbrev pub BeginsOne : List (List ℕ) → (Effect → Type 0) → HostState → HostState → Status → Type 0
+BeginsOne names Is old new status = ((e : Effect) × Is e × IsBegun names e old new status) ⊎ IsNotReached names old new status
+
+-- a form's effect is begun, by what the reads gave: where the files are told, what they hold
 pub record Does (listings : List Segment → Listing) (form : Option Form) (old new : HostState) (status : Status) : Type 0 where
   pub reading : Reading
   pub told : (F : FileMap) → old.files ≡ Some F → reading ≡ reading_of F (reads_for form)
-  pub carries : CarriesOne (IsEffectAfter listings form reading) old new status
-  pub makes : (F : FileMap) → old.files ≡ Some F → MakesCallsOfOne (read_calls F (reads_for form)) (IsEffectAfter listings form reading) old.calls new.calls (way_of status)
-  pub spent : (F : FileMap) → old.files ≡ Some F → status ≡ NoMemory → StaysOrMakesAllOfOne (read_calls F (reads_for form)) (IsEffectAfter listings form reading) old new
+  pub begins : BeginsOne (reads_for form) (IsEffectAfter listings form reading) old new status
 
 -- the status of a host's error
 abbrev pub failure_of : HostErr → Status

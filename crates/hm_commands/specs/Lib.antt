@@ -2,7 +2,7 @@ pub mod Images
 pub mod Work
 pub mod Run
 pub mod Commands
-pub mod Given
+pub mod RunInputs
 pub mod Calls
 pub mod Effect
 pub mod Headline

@@ -9,6 +9,10 @@ use Rattle.hm_debug.specs.declared.errors.ScriptErr.{ScriptErr}
 use Rattle.hm_debug.specs.declared.errors.ScriptErr.TheVariants as script
 use Rattle.hm_journal.specs.declared.journal.JournalErr.{JournalErr}
 use Rattle.hm_journal.specs.declared.journal.JournalErr.TheVariants as journal
+use Rattle.hm_kernel_text.specs.declared.errors.KernelErr.{KernelErr}
+use Rattle.hm_kernel_text.specs.declared.errors.KernelErr.TheVariants as kernel
+use Rattle.hm_kernel_text.specs.declared.errors.KernelKind.{KernelKind}
+use Rattle.hm_kernel_text.specs.declared.errors.KernelKind.TheVariants as fault
 use Rattle.hm_line.specs.declared.errors.AsmKind.{AsmKind}
 use Rattle.hm_line.specs.declared.errors.AsmKind.TheVariants as row
 use Rattle.hm_sched.specs.declared.errors.LineKind.{LineKind}
@@ -19,7 +23,7 @@ use Rattle.hm_text_base.specs.Texts.{hex8}
 use Rattle.hm_commands.specs.declared.work.Output.{Output}
 use Rattle.hm_commands.specs.declared.work.Finish.{Finish}
 use Rattle.hm_commands.specs.declared.work.Refusal.{Refusal}
-use Rattle.hm_commands.specs.declared.work.Refusal.TheVariants.{FileTooLarge, Image, Schedule, Source, Script, Journal, Past, Reset}
+use Rattle.hm_commands.specs.declared.work.Refusal.TheVariants.{FileTooLarge, Image, Schedule, Source, Script, Journal, Kernel, Past, Reset}
 use Rattle.hm_commands.specs.declared.work.Stop.{Stop}
 use Rattle.hm_commands.specs.declared.work.Stop.TheVariants.{Refused, NoMemory}
 
@@ -84,6 +88,20 @@ journal_refusal_text journal.Format out = out ++ codes "format"
 journal_refusal_text (journal.Differs tick) out = out ++ codes "differs " ++ decimal tick
 journal_refusal_text journal.OutOfMemory out = out
 
+-- the word for what is bad in a line of the array language
+abbrev pub kernel_kind_text : KernelKind → List ℕ
+kernel_kind_text fault.Syntax = codes "syntax"
+kernel_kind_text fault.Large = codes "large"
+kernel_kind_text fault.Name = codes "name"
+kernel_kind_text fault.Range = codes "range"
+kernel_kind_text fault.Overlap = codes "overlap"
+kernel_kind_text fault.Deep = codes "deep"
+
+-- what is wrong with a text of the array language, after a text
+abbrev pub kernel_text : KernelErr → List ℕ → List ℕ
+kernel_text (kernel.Line k kind) out = out ++ codes "line " ++ decimal k ++ codes " " ++ kernel_kind_text kind
+kernel_text kernel.OutOfMemory out = out
+
 -- what a refusal's line says, after a text
 abbrev pub refusal_text : Refusal → List ℕ → List ℕ
 refusal_text FileTooLarge out = out ++ codes "file too large"
@@ -92,6 +110,7 @@ refusal_text (Schedule e) out = schedule_text e (out ++ codes "schedule ")
 refusal_text (Source e) out = source_text e (out ++ codes "source ")
 refusal_text (Script e) out = script_text e (out ++ codes "script ")
 refusal_text (Journal e) out = journal_refusal_text e (out ++ codes "journal ")
+refusal_text (Kernel e) out = kernel_text e (out ++ codes "kernel ")
 refusal_text (Past last) out = out ++ codes "replay past " ++ decimal last
 refusal_text (Reset value) out = out ++ codes "image reset " ++ hex8 value
 
@@ -100,6 +119,7 @@ pub data Outcome : Type 0 where
   finishes : (done : Bool) (file : Option (List ℕ × List ℕ)) (text : Option (List ℕ)) → Outcome
   refuses : (why : Refusal) → Outcome
 
+-- the name of a file to write, and its bytes
 abbrev pub output_pair : Output → List ℕ × List ℕ
 output_pair o = (o.name.now, o.bytes.items)
 
@@ -136,6 +156,11 @@ script_stop e = Refused (Script e)
 abbrev pub journal_stop : JournalErr → Stop
 journal_stop journal.OutOfMemory = NoMemory
 journal_stop e = Refused (Journal e)
+
+-- all that is wrong with a text of the array language is refused, and want of memory is no refusal
+abbrev pub kernel_stop : KernelErr → Stop
+kernel_stop kernel.OutOfMemory = NoMemory
+kernel_stop e = Refused (Kernel e)
 
 -- a tick that no run of a tape reaches, which begins so many
 abbrev pub past_stop : ℕ → Stop

@@ -10,7 +10,7 @@ ghost use Rattle.hm_sched.specs.ReadFile.{Gives as GivesSchedule};
 ghost use Rattle.hm_sched.specs.declared.errors.SchedErr.{SchedErr};
 ghost use Rattle.hm_words.specs.Words.{run, source_meant, meant, reads_of};
 ghost use Rattle.hm_commands.specs.Work.{Gives, GivesOne};
-ghost use Rattle.hm_commands.specs.Commands.{AreListings, ComesTo, IsAsmOutcome, IsDisOutcome, IsSoakOutcome, hex_outcome, plan_outcome, run_outcome, seq_outcome};
+ghost use Rattle.hm_commands.specs.Commands.{AreListings, ComesTo, IsAsmOutcome, IsDisOutcome, IsKernelOutcome, IsSoakOutcome, hex_outcome, plan_outcome, run_outcome, seq_outcome};
 
 use crate::images::read_any;
 use crate::machine::{is_halted, run_to_end, short_report};
@@ -19,6 +19,7 @@ use crate::work::{Finish, Output, Stop};
 use hm_asm::{assemble, listing};
 use hm_elf::write_image;
 use hm_ihex::write_hex;
+use hm_kernel::compile;
 use hm_plan::plan;
 use hm_sched::{SchedErr, Schedule, plain, print};
 use hm_soak::summary;
@@ -165,6 +166,20 @@ fn hex_to<'a>(alloc: Global, image: &[u8], out: &'a str) -> Result<Finish<'a>, S
     })
 }
 
+/// Compiles a text of the array language. Its image is to be written, as an ELF file.
+fn kernel<'a>(alloc: Global, source: &[u8], out: &'a str) -> Result<Finish<'a>, Stop>
+    requires short { length source.now ≤ longest }
+    ensures { GivesOne (IsKernelOutcome source.now out.now) result }
+{
+    let image = compile(alloc, source)?;
+    let bytes = write_image(alloc, &image)?;
+    Ok(Finish {
+        done: true,
+        file: Some(Output { name: out, bytes }),
+        text: None,
+    })
+}
+
 /// What a command comes to, from the contents of its files in order.
 pub fn perform<'a>(
     alloc: Global,
@@ -196,5 +211,6 @@ pub fn perform<'a>(
         Command::Replay { schedule, tick, .. } => replay(alloc, schedule, *tick, contents),
         Command::Plan { count, out, .. } => plan_to(alloc, &contents[0], *count, out),
         Command::Hex { out, .. } => hex_to(alloc, &contents[0], out),
+        Command::Kernel { out, .. } => kernel(alloc, &contents[0], out),
     }
 }

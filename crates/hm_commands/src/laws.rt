@@ -1,6 +1,6 @@
 //! Laws of what the clauses of the top call speak of.
 
-ghost use Rattle.std.specs.Prelude.{◌≡◌, ℕ, List, Ok, Result};
+ghost use Rattle.std.specs.Prelude.{◌≡◌, ◌≢◌, ℕ, List, Some, Ok, Result, option_map};
 ghost use Rattle.hm_base.specs.Image.{IsImage, Segment};
 ghost use Rattle.hm_codes.specs.Listing.{Listing};
 ghost use Rattle.hm_host.specs.Host.{FileMap};
@@ -10,6 +10,7 @@ ghost use Rattle.hm_sched.specs.declared.errors.SchedErr.{SchedErr};
 ghost use Rattle.hm_commands.specs.Commands.{AreListings, run_outcome};
 ghost use Rattle.hm_commands.specs.Images.{image_of};
 ghost use Rattle.hm_commands.specs.Effect.{Effect, IsEffect};
+ghost use Rattle.hm_words.specs.Words.{form_of, kernel};
 
 /// The flash of each image has a listing.
 ///
@@ -18,11 +19,14 @@ pub fn listings_exist()
     ensures { (listings : List Segment → Listing) × AreListings listings }
 {}
 
-/// Words have one effect over the same files, and one alone.
+/// Words have an effect over the same files, and but for the image that a text of the array language is compiled to, one alone.
 ///
 /// It does nothing; its clauses are theorems about the definitions.
 pub fn effect_law()
-    ensures one { (listings : List Segment → Listing) (words : List (List ℕ)) (F : FileMap) (d e : Effect) → IsEffect listings words F d → IsEffect listings words F e → d ≡ e }
+    ensures one { (listings : List Segment → Listing) (words : List (List ℕ)) (F : FileMap) (d e : Effect) → ((source out : List ℕ) → form_of words ≢ Some (kernel source out))
+        → IsEffect listings words F d → IsEffect listings words F e → d ≡ e }
+    ensures alike { (listings : List Segment → Listing) (words : List (List ℕ)) (F : FileMap) (d e : Effect) → IsEffect listings words F d → IsEffect listings words F e
+        → (d.status ≡ e.status) × (d.text ≡ e.text) × (option_map (λ file. file.0) d.file ≡ option_map (λ file. file.0) e.file) }
     ensures some { (listings : List Segment → Listing) (words : List (List ℕ)) (F : FileMap) → (e : Effect) × IsEffect listings words F e }
 {}
 

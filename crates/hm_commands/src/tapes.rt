@@ -9,7 +9,7 @@ ghost use Rattle.hm_sched.specs.Schedule.{Sched};
 ghost use Rattle.hm_sched.specs.ReadFile.{Gives as GivesSchedule};
 ghost use Rattle.hm_words.specs.Words.{source_meant, source_reads};
 ghost use Rattle.hm_commands.specs.Commands.{AreListings, IsCompared, IsDebugOutcome, IsJournalOutcome, IsReplayOutcome, OfRun, UnlessRefused, last_read};
-ghost use Rattle.hm_commands.specs.Given.{GivesRun};
+ghost use Rattle.hm_commands.specs.RunInputs.{GivesRun};
 ghost use Rattle.hm_commands.specs.Run.{reset_refusal, schedule_in};
 ghost use Rattle.hm_commands.specs.Work.{GivesOne};
 
@@ -25,7 +25,7 @@ use std::alloc::Global;
 
 /// An image and a schedule, as they were read.
 #[derive(Drop)]
-pub struct Given {
+pub struct RunInput {
     pub image: Image,
     pub schedule: Schedule,
 }
@@ -58,22 +58,22 @@ fn last_of<'a>(schedule: &Source<'_>, contents: &'a [Vec<u8>]) -> &'a [u8]
 }
 
 /// An image and a schedule, from the contents of the files that were read.
-fn read_run(alloc: Global, schedule: &Source<'_>, contents: &[Vec<u8>]) -> Result<Given, Stop>
+fn read_run(alloc: Global, schedule: &Source<'_>, contents: &[Vec<u8>]) -> Result<RunInput, Stop>
     requires each { 1 + length (source_reads (source_meant schedule.now)) ≤ length contents.now }
     requires short { All (λ bytes. length bytes.items ≤ longest) contents.now }
-    ensures given { let all = map (λ bytes. bytes.items) contents.now in GivesRun (image_of (get_or all 0 [])) (schedule_in (source_meant schedule.now) (get_or all 1 [])) result }
+    ensures input { let all = map (λ bytes. bytes.items) contents.now in GivesRun (image_of (get_or all 0 [])) (schedule_in (source_meant schedule.now) (get_or all 1 [])) result }
 {
     let image = read_any(alloc, &contents[0])?;
     let schedule = read_schedule(alloc, schedule, contents)?;
-    Ok(Given { image, schedule })
+    Ok(RunInput { image, schedule })
 }
 
 /// The answers of a script over a run, which are to be printed.
-fn answers<'a>(alloc: Global, given: Given, text: &[u8]) -> Result<Finish<'a>, Stop>
-    ensures outcome { (listings : List Segment → Listing) → AreListings listings → GivesOne (IsDebugOutcome listings text.now given.image given.schedule) result }
+fn answers<'a>(alloc: Global, input: RunInput, text: &[u8]) -> Result<Finish<'a>, Stop>
+    ensures outcome { (listings : List Segment → Listing) → AreListings listings → GivesOne (IsDebugOutcome listings text.now input.image input.schedule) result }
 {
     check_script(text)?;
-    let Given { image, schedule } = given;
+    let RunInput { image, schedule } = input;
     let mut tape = Tape::new(alloc, &image, schedule)?;
     let answers = script(alloc, &mut tape, text)?;
     Ok(Finish {
@@ -94,15 +94,15 @@ pub fn debug<'a>(
     ensures outcome { (listings : List Segment → Listing) → AreListings listings → let all = map (λ bytes. bytes.items) contents.now in
         GivesOne (OfRun (image_of (get_or all 0 [])) (schedule_in (source_meant schedule.now) (get_or all 1 [])) (IsDebugOutcome listings (last_read (source_meant schedule.now) all))) result }
 {
-    let given = read_run(alloc, schedule, contents)?;
-    answers(alloc, given, last_of(schedule, contents))
+    let input = read_run(alloc, schedule, contents)?;
+    answers(alloc, input, last_of(schedule, contents))
 }
 
 /// The journal of a run, which is to be written.
-fn write<'a>(alloc: Global, given: Given, every: Every, out: &'a str) -> Result<Finish<'a>, Stop>
-    ensures outcome { (listings : List Segment → Listing) → AreListings listings → GivesOne (IsJournalOutcome listings every.ticks out.now given.image given.schedule) result }
+fn write<'a>(alloc: Global, input: RunInput, every: Every, out: &'a str) -> Result<Finish<'a>, Stop>
+    ensures outcome { (listings : List Segment → Listing) → AreListings listings → GivesOne (IsJournalOutcome listings every.ticks out.now input.image input.schedule) result }
 {
-    let Given { image, schedule } = given;
+    let RunInput { image, schedule } = input;
     // One with too many checkpoints is refused before the run, but behind the reset address.
     if schedule.ticks() / every.ticks + 1 > 64 {
         Machine::load(alloc, &image, schedule)?;
@@ -130,20 +130,20 @@ pub fn journal<'a>(
     ensures outcome { (listings : List Segment → Listing) → AreListings listings → let all = map (λ bytes. bytes.items) contents.now in
         GivesOne (OfRun (image_of (get_or all 0 [])) (schedule_in (source_meant schedule.now) (get_or all 1 [])) (IsJournalOutcome listings every.ticks out.now)) result }
 {
-    let given = read_run(alloc, schedule, contents)?;
-    write(alloc, given, every, out)
+    let input = read_run(alloc, schedule, contents)?;
+    write(alloc, input, every, out)
 }
 
 /// Compares a journal with a run. The report at a tick is to be printed.
 fn check<'a>(
     alloc: Global,
-    given: Given,
+    input: RunInput,
     journal: &Journal,
     tick: Ticks,
 ) -> Result<Finish<'a>, Stop>
-    ensures outcome { (listings : List Segment → Listing) → AreListings listings → GivesOne (UnlessRefused (reset_refusal given.image) (IsCompared listings given.image given.schedule tick.count journal.now)) result }
+    ensures outcome { (listings : List Segment → Listing) → AreListings listings → GivesOne (UnlessRefused (reset_refusal input.image) (IsCompared listings input.image input.schedule tick.count journal.now)) result }
 {
-    let Given { image, schedule } = given;
+    let RunInput { image, schedule } = input;
     let mut tape = Tape::new(alloc, &image, schedule)?;
     compare(alloc, journal, &mut tape)?;
     let machine = tape.at(tick.count)?;
@@ -167,7 +167,7 @@ pub fn replay<'a>(
     ensures outcome { (listings : List Segment → Listing) → AreListings listings → let all = map (λ bytes. bytes.items) contents.now in
         GivesOne (OfRun (image_of (get_or all 0 [])) (schedule_in (source_meant schedule.now) (get_or all 1 [])) (IsReplayOutcome listings (last_read (source_meant schedule.now) all) tick.count)) result }
 {
-    let given = read_run(alloc, schedule, contents)?;
+    let input = read_run(alloc, schedule, contents)?;
     let journal = read_journal(alloc, last_of(schedule, contents))?;
-    check(alloc, given, &journal, tick)
+    check(alloc, input, &journal, tick)
 }

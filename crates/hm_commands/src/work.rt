@@ -1,12 +1,13 @@
 //! What a command comes to, once its files are read: what is to be written and printed, or a refusal.
 
 ghost use Rattle.std.specs.Prelude.{◌≡◌, IfOk};
-ghost use Rattle.hm_commands.specs.Work.{asm_kind_text, image_text, kind_text, schedule_text, journal_refusal_text, script_text, source_text, refusal_text};
+ghost use Rattle.hm_commands.specs.Work.{asm_kind_text, image_text, kind_text, schedule_text, journal_refusal_text, kernel_kind_text, kernel_text, script_text, source_text, refusal_text};
 
 use hm_asm::{AsmErr, AsmKind};
 use hm_base::{ImageErr, OutOfMemory};
 use hm_debug::ScriptErr;
 use hm_journal::JournalErr;
+use hm_kernel::{KernelErr, KernelKind};
 use hm_machine::Past;
 use hm_sched::{LineKind, SchedErr};
 use hm_text_base::{decimal, hex8, text};
@@ -42,6 +43,8 @@ pub enum Refusal {
     Script(ScriptErr),
     /// The bytes of a file are no journal, or not the run's, or a journal would have too many checkpoints.
     Journal(JournalErr),
+    /// The bytes of a file are no text of the array language.
+    Kernel(KernelErr),
     /// The run begins no more than so many ticks.
     Past { last: u32 },
     /// The word at 4 of an image, whose bit 0 is not set.
@@ -174,6 +177,35 @@ fn add_journal_text(alloc: Global, out: &mut Vec<u8>, e: JournalErr) -> Result<(
     }
 }
 
+/// The word for what is bad in a line of the array language.
+fn kernel_kind_text(kind: KernelKind) -> &'static [u8]
+    ensures { result.now ≡ kernel_kind_text kind }
+{
+    match kind {
+        KernelKind::Syntax => b"syntax",
+        KernelKind::Large => b"large",
+        KernelKind::Name => b"name",
+        KernelKind::Range => b"range",
+        KernelKind::Overlap => b"overlap",
+        KernelKind::Deep => b"deep",
+    }
+}
+
+/// Adds what is wrong with a text of the array language. Want of memory is no such thing, and adds nothing.
+fn add_kernel_text(alloc: Global, out: &mut Vec<u8>, e: KernelErr) -> Result<(), OutOfMemory>
+    ensures { IfOk result (λ _. out.new.items ≡ kernel_text e out.old.items) }
+{
+    match e {
+        KernelErr::Line { line, kind } => {
+            text(out, b"line ")?;
+            decimal(alloc, out, line as u64)?;
+            text(out, b" ")?;
+            text(out, kernel_kind_text(kind))
+        }
+        KernelErr::OutOfMemory => Ok(()),
+    }
+}
+
 impl Refusal {
     /// Adds what the line of a refusal says.
     pub fn add_text(self, alloc: Global, out: &mut Vec<u8>) -> Result<(), OutOfMemory>
@@ -200,6 +232,10 @@ impl Refusal {
             Refusal::Journal(e) => {
                 text(out, b"journal ")?;
                 add_journal_text(alloc, out, e)
+            }
+            Refusal::Kernel(e) => {
+                text(out, b"kernel ")?;
+                add_kernel_text(alloc, out, e)
             }
             Refusal::Past { last } => {
                 text(out, b"replay past ")?;
@@ -291,6 +327,19 @@ impl From<JournalErr> for Stop {
         match e {
             JournalErr::OutOfMemory => Stop::NoMemory,
             e => Stop::Refused(Refusal::Journal(e)),
+        }
+    }
+}
+
+impl From<KernelErr> for Stop {
+    ghost use Rattle.hm_commands.specs.Work.{kernel_stop};
+
+    ghost from_gives = { λ e stop. stop ≡ kernel_stop e };
+
+    fn from(e: KernelErr) -> Stop {
+        match e {
+            KernelErr::OutOfMemory => Stop::NoMemory,
+            e => Stop::Refused(Refusal::Kernel(e)),
         }
     }
 }

@@ -8,7 +8,7 @@ use Rattle.hm_text_base.specs.Numbers.{word_in}
 use Rattle.hm_text_base.specs.Texts.{hex8}
 use Rattle.hm_text_base.proofs.NumberLaws.{word_found, word_again}
 use Rattle.hm_text_base.proofs.Steps.{and_then_some, some_is}
-use Rattle.hm_words.specs.Words.{most, most_planned, number_of, every_of, range_in, Source, source_of, Form, run, seq, dis, asm, soak, debug, journal, replay, plan, hex, run_form, seq_form, dis_form, asm_form, soak_form, debug_form, journal_form, replay_form, plan_form, hex_form, commands, form_in, form_of, IsRange, IsRun, IsSeq, IsDis, IsAsm, IsSoak, IsDebug, IsJournal, IsReplay, IsPlan, IsHex}
+use Rattle.hm_words.specs.Words.{most, most_planned, number_of, every_of, range_in, Source, source_of, Form, run, seq, dis, asm, soak, debug, journal, replay, plan, hex, kernel, two_names, run_form, seq_form, dis_form, asm_form, soak_form, debug_form, journal_form, replay_form, plan_form, hex_form, kernel_form, commands, form_in, form_of, IsRange, IsRun, IsSeq, IsDis, IsAsm, IsSoak, IsDebug, IsJournal, IsReplay, IsPlan, IsHex, IsKernel}
 use Rattle.hm_words.proofs.Decimals.{map_some, number_of-is, number_of-decimal, every_of-is, every_of-decimal, source_of-word, source_of-is, range_in-is, range_in-again}
 
 -- ---- the command of a name
@@ -25,6 +25,7 @@ name_of (journal image schedule every out) = codes "journal"
 name_of (replay image schedule text tick) = codes "replay"
 name_of (plan image n out) = codes "plan"
 name_of (hex image out) = codes "hex"
+name_of (kernel source out) = codes "kernel"
 
 -- all that the words behind a name ask for has that name
 abbrev Asks : List ℕ → (List (List ℕ) → Option Form) → Type 0
@@ -65,11 +66,14 @@ asks_dis (x ∷ y ∷ []) form h = absurd cc
 asks_dis (x ∷ y ∷ z ∷ []) form h = mapped (λ r. dis x r.0 r.1) (range_in y z) (codes "dis") form (λ r. refl) h
 asks_dis (x ∷ y ∷ z ∷ v ∷ words) form h = absurd cc
 
+asks_two : (name : List ℕ) (of : List ℕ → List ℕ → Form) → ((x y : List ℕ) → name_of (of x y) ≡ name) → Asks name (two_names of)
+asks_two name of named [] form h = absurd cc
+asks_two name of named (x ∷ []) form h = absurd cc
+asks_two name of named (x ∷ y ∷ []) form h = ap name_of (sym (some_is (of x y) form h)) ∙ named x y
+asks_two name of named (x ∷ y ∷ v ∷ words) form h = absurd cc
+
 asks_asm : Asks (codes "asm") asm_form
-asks_asm [] form h = absurd cc
-asks_asm (x ∷ []) form h = absurd cc
-asks_asm (x ∷ y ∷ []) form h = ap name_of (sym (some_is (asm x y) form h))
-asks_asm (x ∷ y ∷ v ∷ words) form h = absurd cc
+asks_asm = asks_two (codes "asm") asm (λ x y. refl)
 
 asks_soak : Asks (codes "soak") soak_form
 asks_soak [] form h = absurd cc
@@ -107,13 +111,13 @@ asks_plan (x ∷ y ∷ z ∷ []) form h = mapped (λ n. plan x n z) (number_of m
 asks_plan (x ∷ y ∷ z ∷ v ∷ words) form h = absurd cc
 
 asks_hex : Asks (codes "hex") hex_form
-asks_hex [] form h = absurd cc
-asks_hex (x ∷ []) form h = absurd cc
-asks_hex (x ∷ y ∷ []) form h = ap name_of (sym (some_is (hex x y) form h))
-asks_hex (x ∷ y ∷ v ∷ words) form h = absurd cc
+asks_hex = asks_two (codes "hex") hex (λ x y. refl)
+
+asks_kernel : Asks (codes "kernel") kernel_form
+asks_kernel = asks_two (codes "kernel") kernel (λ x y. refl)
 
 all_ask : AllAsk commands
-all_ask = (asks_run, (asks_seq, (asks_dis, (asks_asm, (asks_soak, (asks_debug, (asks_journal, (asks_replay, (asks_plan, (asks_hex, tt))))))))))
+all_ask = (asks_run, (asks_seq, (asks_dis, (asks_asm, (asks_soak, (asks_debug, (asks_journal, (asks_replay, (asks_plan, (asks_hex, (asks_kernel, tt)))))))))))
 
 -- four words and no other number of them
 pub no_journal : {A : Type 0} (f : A → List ℕ) (words : List A) → length words ≢ 4 → journal_form (map f words) ≡ None
@@ -215,13 +219,20 @@ form_of-is_dis words image lo hi h =
 pub form_of-asm : (words : List (List ℕ)) (source out : List ℕ) → IsAsm words source out → form_of words ≡ Some (asm source out)
 form_of-asm words source out h = ap form_of h.words_are
 
+-- the words behind a command of two names are these, where the form tells its names
+two_words : (name : List ℕ) (of : List ℕ → List ℕ → Form) (words : List (List ℕ)) (source out : List ℕ) → ((x y : List ℕ) → of x y ≡ of source out → (x ≡ source) × (y ≡ out))
+    → two_names of words ≡ Some (of source out) → name ∷ words ≡ name ∷ source ∷ out ∷ []
+two_words name of [] source out tells h = absurd cc
+two_words name of (x ∷ []) source out tells h = absurd cc
+two_words name of (x ∷ y ∷ []) source out tells h =
+    let same = tells x y (some_is (of x y) (of source out) h) in
+    let first : x ≡ source = same.0 in
+    let second : y ≡ out = same.1 in
+    cc
+two_words name of (x ∷ y ∷ v ∷ words) source out tells h = absurd cc
+
 asm_words : (words : List (List ℕ)) (source out : List ℕ) → asm_form words ≡ Some (asm source out) → IsAsm (codes "asm" ∷ words) source out
-asm_words [] source out h = absurd cc
-asm_words (x ∷ []) source out h = absurd cc
-asm_words (x ∷ y ∷ []) source out h = (let first : x ≡ source = cc in
-    let second : y ≡ out = cc in
-    record { words_are = cc })
-asm_words (x ∷ y ∷ v ∷ words) source out h = absurd cc
+asm_words words source out h = record { words_are = two_words (codes "asm") asm words source out (λ x y same. (cc, cc)) h }
 
 pub form_of-is_asm : (words : List (List ℕ)) (source out : List ℕ) → form_of words ≡ Some (asm source out) → IsAsm words source out
 form_of-is_asm words source out h =
@@ -349,15 +360,22 @@ pub form_of-hex : (words : List (List ℕ)) (image out : List ℕ) → IsHex wor
 form_of-hex words image out h = ap form_of h.words_are
 
 hex_words : (words : List (List ℕ)) (image out : List ℕ) → hex_form words ≡ Some (hex image out) → IsHex (codes "hex" ∷ words) image out
-hex_words [] image out h = absurd cc
-hex_words (x ∷ []) image out h = absurd cc
-hex_words (x ∷ y ∷ []) image out h =
-    let first : x ≡ image = cc in
-    let second : y ≡ out = cc in
-    record { words_are = cc }
-hex_words (x ∷ y ∷ v ∷ words) image out h = absurd cc
+hex_words words image out h = record { words_are = two_words (codes "hex") hex words image out (λ x y same. (cc, cc)) h }
 
 pub form_of-is_hex : (words : List (List ℕ)) (image out : List ℕ) → form_of words ≡ Some (hex image out) → IsHex words image out
 form_of-is_hex words image out h =
     let found = asked words (hex image out) h in
     subst (λ (w : List (List ℕ)). IsHex w image out) (sym found.words_are) (hex_words found.others image out found.rest)
+
+-- ---- kernel
+
+pub form_of-kernel : (words : List (List ℕ)) (source out : List ℕ) → IsKernel words source out → form_of words ≡ Some (kernel source out)
+form_of-kernel words source out h = ap form_of h.words_are
+
+kernel_words : (words : List (List ℕ)) (source out : List ℕ) → kernel_form words ≡ Some (kernel source out) → IsKernel (codes "kernel" ∷ words) source out
+kernel_words words source out h = record { words_are = two_words (codes "kernel") kernel words source out (λ x y same. (cc, cc)) h }
+
+pub form_of-is_kernel : (words : List (List ℕ)) (source out : List ℕ) → form_of words ≡ Some (kernel source out) → IsKernel words source out
+form_of-is_kernel words source out h =
+    let found = asked words (kernel source out) h in
+    subst (λ (w : List (List ℕ)). IsKernel w source out) (sym found.words_are) (kernel_words found.others source out found.rest)

@@ -5,7 +5,7 @@ use Rattle.hm_base.specs.Image.{flash_size}
 use Rattle.hm_text_base.specs.Numbers.{hex8_in, number_in, word_in}
 use Rattle.hm_text_base.specs.Texts.{hex8}
 use Rattle.hm_words.specs.declared.command.Command.{Command}
-use Rattle.hm_words.specs.declared.command.Command.TheVariants.{Run, Seq, Dis, Asm, Soak, Debug, Journal, Replay, Plan, Hex}
+use Rattle.hm_words.specs.declared.command.Command.TheVariants.{Run, Seq, Dis, Asm, Soak, Debug, Journal, Replay, Plan, Hex, Kernel}
 use Rattle.hm_words.specs.declared.command.Source.{Source as HeldSource}
 use Rattle.hm_words.specs.declared.command.Source.TheVariants.{Plain, File}
 
@@ -46,6 +46,7 @@ source_of word = if bytes_eq (take 6 word) (codes "plain:") then option_map tick
 abbrev pub is_range : ℕ → ℕ → Bool
 is_range lo hi = nat_eq (lo % 2) 0 && nat_eq (hi % 2) 0 && nat_le lo hi && nat_le hi flash_size
 
+-- two addresses that are a range
 abbrev pub range_of : ℕ → ℕ → Option (ℕ × ℕ)
 range_of lo hi = if is_range lo hi then Some (lo, hi) else None
 
@@ -65,52 +66,71 @@ pub data Form : Type 0 where
   replay : (image : List ℕ) (schedule : Source) (journal : List ℕ) (tick : ℕ) → Form
   plan : (image : List ℕ) (count : ℕ) (out : List ℕ) → Form
   hex : (image out : List ℕ) → Form
+  kernel : (source out : List ℕ) → Form
 
+-- an image, a schedule and a file for the memory
 abbrev pub run_form : List (List ℕ) → Option Form
 run_form (image ∷ schedule ∷ memory ∷ []) = option_map (λ s. run image s memory) (source_of schedule)
 run_form _ = None
 
+-- an image and a number of instructions
 abbrev pub seq_form : List (List ℕ) → Option Form
 seq_form (image ∷ count ∷ []) = option_map (seq image) (number_of most count)
 seq_form _ = None
 
+-- an image and a range
 abbrev pub dis_form : List (List ℕ) → Option Form
 dis_form (image ∷ lo ∷ hi ∷ []) = option_map (λ r. dis image r.0 r.1) (range_in lo hi)
 dis_form _ = None
 
-abbrev pub asm_form : List (List ℕ) → Option Form
-asm_form (source ∷ out ∷ []) = Some (asm source out)
-asm_form _ = None
+-- two names of files and no more
+abbrev pub two_names : (List ℕ → List ℕ → Form) → List (List ℕ) → Option Form
+two_names form (name ∷ out ∷ []) = Some (form name out)
+two_names form _ = None
 
+-- a source and a file for its image
+abbrev pub asm_form : List (List ℕ) → Option Form
+asm_form = two_names asm
+
+-- a number
 abbrev pub soak_form : List (List ℕ) → Option Form
 soak_form (number ∷ []) = option_map soak (word_in number)
 soak_form _ = None
 
+-- an image, a schedule and a script
 abbrev pub debug_form : List (List ℕ) → Option Form
 debug_form (image ∷ schedule ∷ script ∷ []) = option_map (λ s. debug image s script) (source_of schedule)
 debug_form _ = None
 
+-- an image, a schedule, a distance and a file for the journal
 abbrev pub journal_form : List (List ℕ) → Option Form
 journal_form (image ∷ schedule ∷ every ∷ out ∷ []) = option_and_then (λ s. option_map (λ e. journal image s e out) (every_of every)) (source_of schedule)
 journal_form _ = None
 
+-- an image, a schedule, a journal and a tick
 abbrev pub replay_form : List (List ℕ) → Option Form
 replay_form (image ∷ schedule ∷ text ∷ tick ∷ []) = option_and_then (λ s. option_map (replay image s text) (number_of most tick)) (source_of schedule)
 replay_form _ = None
 
+-- an image, a number of instructions and a file for the schedule
 abbrev pub plan_form : List (List ℕ) → Option Form
 plan_form (image ∷ count ∷ out ∷ []) = option_map (λ n. plan image n out) (number_of most_planned count)
 plan_form _ = None
 
+-- an image and a file for it as Intel HEX
 abbrev pub hex_form : List (List ℕ) → Option Form
-hex_form (image ∷ out ∷ []) = Some (hex image out)
-hex_form _ = None
+hex_form = two_names hex
+
+-- a text of the array language and a file for its image
+abbrev pub kernel_form : List (List ℕ) → Option Form
+kernel_form = two_names kernel
 
 -- the commands by their names, and what the words behind a name ask for
 abbrev pub commands : List (List ℕ × (List (List ℕ) → Option Form))
 commands =
     (codes "run", run_form) ∷ (codes "seq", seq_form) ∷ (codes "dis", dis_form) ∷ (codes "asm", asm_form) ∷ (codes "soak", soak_form)
-    ∷ (codes "debug", debug_form) ∷ (codes "journal", journal_form) ∷ (codes "replay", replay_form) ∷ (codes "plan", plan_form) ∷ (codes "hex", hex_form) ∷ []
+    ∷ (codes "debug", debug_form) ∷ (codes "journal", journal_form) ∷ (codes "replay", replay_form) ∷ (codes "plan", plan_form) ∷ (codes "hex", hex_form)
+    ∷ (codes "kernel", kernel_form) ∷ []
 
 -- the command of a name among these
 abbrev pub form_in : List (List ℕ × (List (List ℕ) → Option Form)) → List ℕ → List (List ℕ) → Option Form
@@ -139,6 +159,7 @@ meant (Journal image schedule every out) = journal image.now (source_meant sched
 meant (Replay image schedule text tick) = replay image.now (source_meant schedule) text.now tick.count
 meant (Plan image n out) = plan image.now n.count out.now
 meant (Hex image out) = hex image.now out.now
+meant (Kernel source out) = kernel source.now out.now
 
 -- the file to read for a schedule
 abbrev pub source_reads : Source → List (List ℕ)
@@ -157,6 +178,7 @@ reads_of (journal image schedule every out) = image ∷ source_reads schedule
 reads_of (replay image schedule text tick) = image ∷ (source_reads schedule ++ text ∷ [])
 reads_of (plan image n out) = image ∷ []
 reads_of (hex image out) = image ∷ []
+reads_of (kernel source out) = source ∷ []
 
 -- the word that stands for a source
 abbrev pub IsSource : List ℕ → Source → Type 0
@@ -223,3 +245,7 @@ pub record IsPlan (words : List (List ℕ)) (image : List ℕ) (n : ℕ) (out : 
 -- words that ask for an image to be written as Intel HEX, with a file for it
 pub record IsHex (words : List (List ℕ)) (image out : List ℕ) : Type 0 where
   pub words_are : words ≡ codes "hex" ∷ image ∷ out ∷ []
+
+-- words that ask for a text of the array language to be compiled, with a file for its image
+pub record IsKernel (words : List (List ℕ)) (source out : List ℕ) : Type 0 where
+  pub words_are : words ≡ codes "kernel" ∷ source ∷ out ∷ []

@@ -74,6 +74,11 @@ pub enum Command<'a> {
         image: &'a str,
         out: &'a str,
     },
+    /// To compile a text of the array language, and to write its image to a file.
+    Kernel {
+        source: &'a str,
+        out: &'a str,
+    },
 }
 
 /// Adds the file of a schedule, where it is one.
@@ -159,6 +164,7 @@ impl<'a> Command<'a> {
             } => run_reads_and(alloc, image, schedule, journal),
             Command::Plan { image, .. } => one_read(alloc, image),
             Command::Hex { image, .. } => one_read(alloc, image),
+            Command::Kernel { source, .. } => one_read(alloc, source),
         }
     }
 }

@@ -1,7 +1,7 @@
 //! The words of a command, by position.
 
 ghost use Rattle.std.specs.Prelude.{◌≡◌, ℕ, List, option_map, map, string_bytes};
-ghost use Rattle.hm_words.specs.Words.{number_of, every_of, range_in, range_of, source_of, source_meant, run_form, seq_form, dis_form, asm_form, soak_form, debug_form, journal_form, replay_form, plan_form, hex_form, form_of, meant, most, most_planned};
+ghost use Rattle.hm_words.specs.Words.{number_of, every_of, range_in, range_of, source_of, source_meant, run_form, seq_form, dis_form, asm_form, soak_form, debug_form, journal_form, replay_form, plan_form, hex_form, kernel_form, form_of, meant, most, most_planned};
 
 use crate::command::{Command, Source};
 use crate::numbers::{Every, Planned, Range, Ticks};
@@ -217,6 +217,15 @@ fn hex_command<'a>(words: &'a [String]) -> Option<Command<'a>>
     }
 }
 
+fn kernel_command<'a>(words: &'a [String]) -> Option<Command<'a>>
+    ensures value { option_map meant result ≡ kernel_form (map string_bytes words.now) }
+{
+    match words {
+        [source, out] => Some(Command::Kernel { source, out }),
+        _ => None,
+    }
+}
+
 /// The command that the words give, which is named by the first.
 pub fn parse<'a>(words: &'a [String]) -> Option<Command<'a>>
     ensures value { option_map meant result ≡ form_of (map string_bytes words.now) }
@@ -252,6 +261,9 @@ pub fn parse<'a>(words: &'a [String]) -> Option<Command<'a>>
     }
     if name == b"hex".as_slice() {
         return hex_command(others);
+    }
+    if name == b"kernel".as_slice() {
+        return kernel_command(others);
     }
     None
 }

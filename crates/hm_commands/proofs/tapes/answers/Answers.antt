@@ -6,7 +6,7 @@ pub returns-in_err-check_script : goal.returns-in_err-check_script
 returns-in_err-check_script c =
     let p = err_from_is_err_and c.from_residual.result c.from_residual.ensures.1 in
     let e = c.in_err-check_script.field-0.0 in
-    record { outcome = λ listings are. rw p.1 (script_refused listings c.args.text.now c.args.given.image c.args.given.schedule e p.0 c.in_err-check_script.ensures.refused p.2) }
+    record { outcome = λ listings are. rw p.1 (script_refused listings c.args.text.now c.args.input.image c.args.input.schedule e p.0 c.in_err-check_script.ensures.refused p.2) }
 
 pub returns-in_err-tape : goal.returns-in_err-tape
 returns-in_err-tape c =
@@ -14,7 +14,7 @@ returns-in_err-tape c =
     let script = c.in_ok-check_script.ensures.fine in
     let e = c.in_err-tape.field-0.0 in
     record {
-      outcome = λ listings are. rw p.1 (script_not_loaded listings c.args.text.now c.args.given.image c.args.given.schedule script.0 e p.0 script.1 c.in_err-tape.ensures.refused p.2);
+      outcome = λ listings are. rw p.1 (script_not_loaded listings c.args.text.now c.args.input.image c.args.input.schedule script.0 e p.0 script.1 c.in_err-tape.ensures.refused p.2);
     }
 
 pub returns-in_err-answers : goal.returns-in_err-answers
@@ -23,13 +23,13 @@ returns-in_err-answers c =
     let script = c.in_ok-check_script.ensures.fine in
     let e = c.in_err-answers.field-0.0 in
     record {
-      outcome = λ listings are. rw p.1 (script_lost listings c.args.text.now c.args.given.image c.args.given.schedule script.0 e p.0 script.1 c.in_err-answers.ensures.refused p.2);
+      outcome = λ listings are. rw p.1 (script_lost listings c.args.text.now c.args.input.image c.args.input.schedule script.0 e p.0 script.1 c.in_err-answers.ensures.refused p.2);
     }
 
 pub returns : goal.returns
 returns c =
-    let image = c.args.given.image in
-    let s = c.args.given.schedule in
+    let image = c.args.input.image in
+    let s = c.args.input.schedule in
     let tape = c.in_ok-tape.ensures in
     record {
       outcome = λ listings are.

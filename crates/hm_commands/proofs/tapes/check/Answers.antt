@@ -12,8 +12,8 @@ use Rattle.hm_commands.proofs.tapes.check.Goals as goal
 
 pub returns-in_err-compare : goal.returns-in_err-compare
 returns-in_err-compare c =
-    let image = c.args.given.image in
-    let s = c.args.given.schedule in
+    let image = c.args.input.image in
+    let s = c.args.input.schedule in
     let tape = c.in_ok-tape.ensures in
     let p = err_from_is_err_and c.from_residual-in_err-compare.result c.from_residual-in_err-compare.ensures.1 in
     let e = c.in_err-compare.field-0.0 in
@@ -24,8 +24,8 @@ returns-in_err-compare c =
 
 pub returns-in_err-machine : goal.returns-in_err-machine
 returns-in_err-machine c =
-    let image = c.args.given.image in
-    let s = c.args.given.schedule in
+    let image = c.args.input.image in
+    let s = c.args.input.schedule in
     let tape = c.in_ok-tape.ensures in
     let p = err_from_is_err_and c.from_residual-in_err-machine.result c.from_residual-in_err-machine.ensures.1 in
     let e = c.in_err-machine.field-0.0 in
@@ -40,8 +40,8 @@ returns-in_err-machine c =
 
 pub returns : goal.returns
 returns c =
-    let image = c.args.given.image in
-    let s = c.args.given.schedule in
+    let image = c.args.input.image in
+    let s = c.args.input.schedule in
     let tape = c.in_ok-tape.ensures in
     let stays = c.in_ok-compare.ensures.stays in
     let tapes = subst (Tapes image s) (sym stays) tape.tapes in

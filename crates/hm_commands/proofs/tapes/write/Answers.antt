@@ -4,8 +4,8 @@ use Rattle.hm_commands.proofs.tapes.write.Goals as goal
 
 pub returns-in_err-bytes : goal.returns-in_err-bytes
 returns-in_err-bytes c =
-    let image = c.args.given.image in
-    let s = c.args.given.schedule in
+    let image = c.args.input.image in
+    let s = c.args.input.schedule in
     let tape = c.in_ok-tape.ensures in
     let p = err_from_is_err_and c.from_residual-in_err-bytes.result c.from_residual-in_err-bytes.ensures.1 in
     let e = c.in_err-bytes.field-0.0 in
@@ -13,8 +13,8 @@ returns-in_err-bytes c =
 
 pub returns : goal.returns
 returns c =
-    let image = c.args.given.image in
-    let s = c.args.given.schedule in
+    let image = c.args.input.image in
+    let s = c.args.input.schedule in
     let tape = c.in_ok-tape.ensures in
     let journal = c.in_ok-bytes.ensures in
     record {

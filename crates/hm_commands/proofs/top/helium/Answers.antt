@@ -1,14 +1,12 @@
-use Rattle.std.proofs.Common.{Some, inl, map}
+use Rattle.std.proofs.Common.{Some, map}
 use Rattle.std.specs.String.{string_bytes}
 use Rattle.hm_commands.specs.declared.status.Status.TheVariants.{Usage}
-use Rattle.hm_commands.specs.Calls.{read_calls}
-use Rattle.hm_commands.specs.Effect.{IsEffect, reads_for, usage_effect, usage_line}
+use Rattle.hm_commands.specs.Effect.{IsEffect, reads_for, usage_line}
 use Rattle.hm_words.specs.Words.{form_of}
 use Rattle.hm_commands.proofs.Carrying.{stays_spent}
-use Rattle.hm_commands.proofs.Ending.{Does-carries, Does-usage, Does-host_fault, Does-makes, Does-risen, Does-quiet, Does-spent, usage_is, usage_makes}
+use Rattle.hm_commands.proofs.Ending.{Does-begins, Does-usage, Does-host_fault, Does-risen, Does-quiet, usage_begins}
 use Rattle.hm_commands.proofs.Headlines.{headline_of, headline_of_none, order_of, order_of_none}
 use Rattle.hm_commands.proofs.Listed.{some_listings}
-use Rattle.hm_commands.proofs.OneEffect.{one_effect}
 use Rattle.hm_commands.proofs.Single.{does_one}
 use Rattle.hm_commands.proofs.SomeEffect.{some_effect}
 use Rattle.hm_commands.proofs.top.helium.Goals as goal
@@ -16,19 +14,16 @@ use Rattle.hm_commands.proofs.top.helium.Goals as goal
 pub returns-in-Some-clause-effect : goal.returns-in-Some-clause-effect
 returns-in-Some-clause-effect g c = λ listings are F told.
     let words = map string_bytes c.args.words.now in
-    let does = c.obey.ensures.effect listings are in
-    does_one (read_calls F (reads_for (form_of words))) (IsEffect listings words F) _ _ _ (one_effect listings words F) (some_effect listings words F)
-    (Does-carries listings _ words _ _ _ F does c.in-Some.ensures.value told)
-    (Does-makes listings _ words _ _ _ F does c.in-Some.ensures.value told)
-    (Does-spent listings _ words _ _ _ F does c.in-Some.ensures.value told)
+    does_one (reads_for (form_of words)) (IsEffect listings words F) F _ _ _ told (some_effect listings words F)
+    (Does-begins listings _ words _ _ _ F (c.obey.ensures.effect listings are) c.in-Some.ensures.value told)
 
 pub returns-in-None-clause-effect : goal.returns-in-None-clause-effect
 returns-in-None-clause-effect g c = λ listings are F told.
     let words = map string_bytes c.args.words.now in
-    does_one (read_calls F (reads_for (form_of words))) (IsEffect listings words F) _ _ _ (one_effect listings words F) (some_effect listings words F)
-    (inl (usage_effect, usage_is listings words F c.in-None.ensures.value, c.say_usage.ensures.effect))
-    (usage_makes listings words (g.H.Host.state c.args.host.now) (g.H.Host.state c.say_usage.new.host) c.say_usage.result F c.in-None.ensures.value c.say_usage.ensures.calls)
-    (λ wanted. inl (stays_spent Usage (Some usage_line) _ _ _ c.say_usage.ensures.effect wanted))
+    let said = c.say_usage.ensures in
+    does_one (reads_for (form_of words)) (IsEffect listings words F) F _ _ _ told (some_effect listings words F)
+    (usage_begins listings words (g.H.Host.state c.args.host.now) (g.H.Host.state c.say_usage.new.host) c.say_usage.result F c.in-None.ensures.value said.effect said.calls
+    (stays_spent Usage (Some usage_line) _ _ _ said.effect))
 
 pub returns-in-Some-clause-headline : goal.returns-in-Some-clause-headline
 returns-in-Some-clause-headline g c = headline_of _ _ _ _ _ c.in-Some.ensures.value c.obey.ensures.effect

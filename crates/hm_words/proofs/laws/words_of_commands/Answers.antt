@@ -1,4 +1,4 @@
-use Rattle.hm_words.proofs.Forms.{form_of-run, form_of-is_run, form_of-seq, form_of-is_seq, form_of-dis, form_of-is_dis, form_of-asm, form_of-is_asm, form_of-soak, form_of-is_soak, form_of-debug, form_of-is_debug, form_of-journal, form_of-is_journal, form_of-replay, form_of-is_replay, form_of-plan, form_of-is_plan, form_of-hex, form_of-is_hex}
+use Rattle.hm_words.proofs.Forms.{form_of-run, form_of-is_run, form_of-seq, form_of-is_seq, form_of-dis, form_of-is_dis, form_of-asm, form_of-is_asm, form_of-soak, form_of-is_soak, form_of-debug, form_of-is_debug, form_of-journal, form_of-is_journal, form_of-replay, form_of-is_replay, form_of-plan, form_of-is_plan, form_of-hex, form_of-is_hex, form_of-kernel, form_of-is_kernel}
 use Rattle.hm_words.proofs.laws.words_of_commands.Goals as goal
 
 pub returns-clause-runs : goal.returns-clause-runs
@@ -30,3 +30,6 @@ returns-clause-plans c = λ words image out n. (form_of-is_plan words image n ou
 
 pub returns-clause-images : goal.returns-clause-images
 returns-clause-images c = λ words image out. (form_of-is_hex words image out, form_of-hex words image out)
+
+pub returns-clause-kernels : goal.returns-clause-kernels
+returns-clause-kernels c = λ words source out. (form_of-is_kernel words source out, form_of-kernel words source out)

@@ -5,11 +5,12 @@ use Rattle.hm_base.specs.declared.errors.ImageErr.{ImageErr}
 use Rattle.hm_sched.specs.Schedule.{Sched}
 use Rattle.hm_sched.specs.declared.errors.SchedErr.{SchedErr}
 use Rattle.hm_commands.specs.Commands.{run_refusal}
-use Rattle.hm_commands.specs.declared.tapes.Given.{Given}
+use Rattle.hm_commands.specs.declared.tapes.RunInput.{RunInput}
 use Rattle.hm_commands.specs.declared.work.Stop.{Stop}
 use Rattle.hm_commands.specs.declared.work.Stop.TheVariants.{Refused, NoMemory}
 
-abbrev pub GivesRun : Result (List Segment) ImageErr → Result Sched SchedErr → Result Given Stop → Type 0
-GivesRun image schedule (Ok given) = (image ≡ Ok given.image) × (schedule ≡ Ok given.schedule)
+-- both were read, or this is why they are refused; want of memory says nothing
+abbrev pub GivesRun : Result (List Segment) ImageErr → Result Sched SchedErr → Result RunInput Stop → Type 0
+GivesRun image schedule (Ok input) = (image ≡ Ok input.image) × (schedule ≡ Ok input.schedule)
 GivesRun image schedule (Err (Refused why)) = run_refusal image schedule ≡ Some why
 GivesRun image schedule (Err NoMemory) = Unit {0}

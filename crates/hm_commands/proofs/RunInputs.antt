@@ -13,7 +13,7 @@ use Rattle.hm_sched.specs.declared.errors.SchedErr.{SchedErr}
 use Rattle.hm_sched.specs.declared.errors.SchedErr.TheVariants as sched
 use Rattle.hm_state.specs.Start.{reset_pc}
 use Rattle.hm_commands.specs.Commands.{OfRun, UnlessRefused, run_refusal}
-use Rattle.hm_commands.specs.Given.{GivesRun}
+use Rattle.hm_commands.specs.RunInputs.{GivesRun}
 use Rattle.hm_commands.specs.Run.{load_stop, reset_refusal, schedule_stop}
 use Rattle.hm_commands.specs.Work.{Outcome, GivesOne, image_stop, refuses}
 use Rattle.hm_commands.specs.declared.work.Finish.{Finish}
