@@ -1,7 +1,7 @@
 //! The compiler of the array language: from the bytes of a text to its image, and to the number of its steps.
 #![tactic(auto)]
 
-ghost use Rattle.std.specs.Prelude.{◌≡◌, ℕ, List, IfOk, IfErr};
+ghost use Rattle.std.specs.Prelude.{◌≡◌, ◌<◌, ◌^◌, ℕ, List, length, IfOk, IfErr};
 ghost use Rattle.hm_base.specs.Image.{Segment, flash_byte};
 ghost use Rattle.hm_codes.specs.Listing.{IsListing, Listing};
 ghost use Rattle.hm_kernel.specs.Compiled.{Compiles, IsCompiled, Takes};
@@ -48,10 +48,11 @@ pub fn steps(alloc: Global, text: &[u8]) -> Result<u64, KernelErr>
     Ok(steps_of(&x))
 }
 
-/// Every run of a compiled image that halts as its instructions in order do, as each run does under any schedule that reports Halted,
+/// What a file may hold that says a text is compiled to some image. Every run of a compiled image that halts as its instructions in order do, as each run does under any schedule that reports Halted,
 /// has halted at the end of the code, after its steps, and each byte of its file that is not tainted is what the text means.
 pub fn compiled_law()
     ensures file { (x : Text) (image : List Segment) (listing : Listing) (report file : List ℕ) (reason : Reason) (n : ℕ)
         → IsCompiled x image → IsListing (flash_byte image) listing
         → HaltsInOrder listing image report file reason n → IsFileOf x file reason n }
+    ensures some { (bytes : List ℕ) (w : Written) → length bytes < 2 ^ 63 → IsKernel bytes w → (image : List Segment) × Compiles bytes image }
 {}

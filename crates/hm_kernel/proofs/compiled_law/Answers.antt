@@ -1,5 +1,9 @@
 use Rattle.hm_kernel_rows.proofs.Theorem.{file_of}
+use Rattle.hm_kernel.proofs.Joined.{some_compiled}
 use Rattle.hm_kernel.proofs.compiled_law.Goals as goal
 
-pub returns : goal.returns
-returns c = record { file = λ x image listing report file reason n compiled. file_of x image listing report file reason n compiled.text compiled.holds }
+pub returns-clause-file : goal.returns-clause-file
+returns-clause-file c = λ x image listing report file reason n compiled. file_of x image listing report file reason n compiled.text compiled.holds
+
+pub returns-clause-some : goal.returns-clause-some
+returns-clause-some c = some_compiled
