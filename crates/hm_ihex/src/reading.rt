@@ -1,6 +1,6 @@
 //! Files of Intel HEX.
 
-ghost use Rattle.std.specs.Prelude.{◌≡◌, ◌+◌, ◌<◌, ◌≤◌, ℕ, List, Ok, Some, ◌∷◌, length, IfOk};
+ghost use Rattle.std.specs.Prelude.{◌≡◌, ◌+◌, ◌<◌, ◌≤◌, ◌^◌, ℕ, List, Ok, Some, ◌∷◌, length, IfOk};
 ghost use Rattle.hm_base.specs.Image.{Segment};
 ghost use Rattle.hm_text_base.specs.Spans.{lines_of};
 ghost use Rattle.hm_ihex.specs.Files.{Gives, all_lines, ended_by, first_reading, hex_in, without_return};
@@ -140,6 +140,7 @@ fn first_state(alloc: Global) -> Result<State, OutOfMemory>
 
 /// Reads the lines of a file in turn.
 fn read_lines(alloc: Global, bytes: &[u8]) -> Result<Image, ImageErr>
+    requires short { length bytes.now < 2 ^ 31 }
     ensures exact { Gives result (hex_in bytes.now) }
 {
     let Ok(mut state) = first_state(alloc) else {
@@ -148,9 +149,6 @@ fn read_lines(alloc: Global, bytes: &[u8]) -> Result<Image, ImageErr>
     let mut rest = bytes;
     let mut number = 1;
     while !rest.is_empty() {
-        if number == u32::MAX {
-            return Err(ImageErr::OutOfMemory);
-        }
         let Cut { line, rest: more } = first_line(rest);
         match follow(alloc, line, number, &mut state) {
             Ok(Next::More) => {}
@@ -168,9 +166,10 @@ fn read_lines(alloc: Global, bytes: &[u8]) -> Result<Image, ImageErr>
 /// Its segments are the longest runs of given bytes, parted at the end of flash, however the records lie and in whatever order they come.
 /// Hex is refused at the first line that is no record, or that follows the end record, or at one past the last line where the end record is
 /// missing; Segment at the first data record that lies not whole in flash or whole in SRAM, or that gives a byte already given, by its number
-/// among the data records. The first such line is answered. Lines are counted by a u32: a file of more is refused with OutOfMemory.
-/// It takes a time that grows with the bytes of the file alone.
+/// among the data records. The first such line is answered. It takes a time that grows with the bytes of the file, beside that of the 1,310,720 bytes
+/// that an image may have.
 pub fn read_hex(alloc: Global, bytes: &[u8]) -> Result<Image, ImageErr>
+    requires short { length bytes.now < 2 ^ 31 }
     // What is read is what the file holds.
     ensures found { IfOk result (λ image. IsHexFile bytes.now image) }
     // What the file holds is read, unless memory was wanted.

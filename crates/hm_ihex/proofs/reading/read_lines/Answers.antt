@@ -26,9 +26,12 @@ pub loop-rest-preserved : goal.loop-rest-preserved
 loop-rest-preserved c =
     let more : c.follow.result ≡ Ok More = c.in-Ok-More.is ∙ ap (λ (n : Next). Ok n) c.in-Ok-More.field-0-is in
     let read = by_more c.loop-rest.number (reading_of c.loop-rest.state) (reading_of c.follow.new.state) c.first_line.result.line.now (all_lines (lines_of c.first_line.result.rest.now)) c.follow.result c.follow.ensures.next more in
+    let few = c.loop-rest.invariant.few in
     let count = c.loop-rest.invariant.count in
+    let shorter = c.first_line.ensures.shorter in
     let added = c.follow.ensures.count in
     record {
+      few = omega arith;
       count = omega arith;
       read = sym read ∙ sym (ap (lines_in c.loop-rest.number (reading_of c.loop-rest.state)) c.first_line.ensures.lines) ∙ c.loop-rest.invariant.read;
     }
