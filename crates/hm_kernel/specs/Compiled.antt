@@ -29,4 +29,5 @@ pub record Compiles (bytes : List ℕ) (image : List Segment) : Type 0 where
 pub record Takes (bytes : List ℕ) (n : ℕ) : Type 0 where
   pub text : Text
   pub says : IsKernel bytes (written text)
+  pub sound : IsText text
   pub steps_are : n ≡ steps text

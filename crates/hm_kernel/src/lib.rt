@@ -6,6 +6,7 @@ ghost use Rattle.hm_base.specs.Image.{Segment, flash_byte};
 ghost use Rattle.hm_codes.specs.Listing.{IsListing, Listing};
 ghost use Rattle.hm_kernel.specs.Compiled.{Compiles, IsCompiled, Takes};
 ghost use Rattle.hm_kernel_lang.specs.declared.text.Text.{Text};
+ghost use Rattle.hm_kernel_lang.specs.Language.{steps};
 ghost use Rattle.hm_kernel_rows.specs.Theorem.{IsFileOf};
 ghost use Rattle.hm_kernel_text.specs.ReadFile.{Fails, kernel_in};
 ghost use Rattle.hm_kernel_text.specs.Written.{IsKernel, Written};
@@ -48,9 +49,12 @@ pub fn steps(alloc: Global, text: &[u8]) -> Result<u64, KernelErr>
     Ok(steps_of(&x))
 }
 
-/// What a file may hold that says a text is compiled to some image. Every run of a compiled image that halts as its instructions in order do, as each run does under any schedule that reports Halted,
-/// has halted at the end of the code, after its steps, and each byte of its file that is not tainted is what the text means.
+/// The instructions of a compiled image in order halt after as many steps as the bytes of its text take. And every run of it that halts as
+/// they do, as each run does under any schedule that reports Halted, has halted at the end of the code, after its steps, and each byte of
+/// its file that is not tainted is what the text means. And what a file may hold that says a text is compiled to
+/// some image.
 pub fn compiled_law()
+    ensures steps { (bytes : List ℕ) (image : List Segment) (n : ℕ) (compiled : Compiles bytes image) → Takes bytes n → n ≡ steps compiled.text }
     ensures file { (x : Text) (image : List Segment) (listing : Listing) (report file : List ℕ) (reason : Reason) (n : ℕ)
         → IsCompiled x image → IsListing (flash_byte image) listing
         → HaltsInOrder listing image report file reason n → IsFileOf x file reason n }

@@ -88,7 +88,7 @@ number_go false t arrays w n is numeral small not_name = record { leafy = rw (is
 digit_not_lower : (b : ℕ) → is_ascii_digit b ≡ true → is_ascii_lowercase b ≡ true → ⊥
 digit_not_lower b d l = grind (arith, nat_tests)
 
-numeral_not_name : (w : List ℕ) → is_numeral w ≡ true → is_name w ≡ true → ⊥
+pub numeral_not_name : (w : List ℕ) → is_numeral w ≡ true → is_name w ≡ true → ⊥
 unfolding is_numeral is_name
 numeral_not_name [] d l = absurd cc
 numeral_not_name (b ∷ w) d l =
