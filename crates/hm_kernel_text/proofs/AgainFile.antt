@@ -1,5 +1,7 @@
 -- What is written is read: lines, and all of a text.
-use Rattle.std.proofs.Common.{◌≡◌, ◌≢◌, ℕ, zero, suc, ◌+◌, ◌*◌, ◌%◌, ◌^◌, ◌<◌, ◌≤◌, Bool, true, false, cond, eqb, leb, ltb, List, [], ◌∷◌, ◌++◌, length, get_or, drop, map, Option, Some, None, Result, Ok, Err, refl, sym, ap, subst, ◌∙◌, arith, inl, inr, append_assoc}
+use Rattle.std.proofs.Common.{◌≡◌, ◌≢◌, ℕ, zero, suc, ◌+◌, ◌*◌, ◌%◌, ◌^◌, ◌<◌, ◌≤◌, Bool, true, false, cond, eqb, leb, ltb, List, [], ◌∷◌, ◌++◌}
+use Rattle.std.proofs.Common.{length, get_or, drop, map, Option, Some, None, Result, Ok, Err, refl, sym, ap, subst, ◌∙◌, arith, inl, inr}
+use Rattle.std.proofs.Common.{append_assoc}
 use Rattle.std.specs.Prelude.{◌⊎◌, option_map, codes, decimal, bytes_eq, is_none, is_some, not, ◌&&◌, ◌||◌}
 use Rattle.std.specs.Char.{is_ascii_alphanumeric, is_ascii_digit, is_ascii_lowercase}
 use Rattle.std.specs.List.{AllByRecursion, flat_map, join_with_byte, list_all, list_any}
@@ -26,8 +28,11 @@ use Rattle.hm_kernel_text.specs.declared.errors.KernelErr.{KernelErr}
 use Rattle.hm_kernel_text.specs.Trees.{Tree, word, apply, leaves, op_text, tree_need, tree_text}
 use Rattle.hm_kernel_text.specs.Words.{op_in, is_name, is_numeral, number_below, words_of}
 use Rattle.hm_kernel_text.specs.ReadTree.{is_leaf, tree_in}
-use Rattle.hm_kernel_text.specs.Written.{WrittenArray, WrittenSet, Written, HasOtherName, IsApart, IsNewArray, AreArrays, IsThere, IsNumber, IsOverArrays, IsWrittenSet, IsWritten, IsKernel, array_text, set_text, header_text, type_text, length_text, kernel_lines, kernel_text}
-use Rattle.hm_kernel_text.specs.ReadLine.{Form, an_array, a_set, by_form, form_from, form_in, in_range, is_placed, is_there, knows, line_in, share, values_in, with_array, with_set, with_written_array, with_written_set}
+use Rattle.hm_kernel_text.specs.Written.{WrittenArray, WrittenSet, Written, HasOtherName, IsApart, IsNewArray, AreArrays, IsThere, IsNumber}
+use Rattle.hm_kernel_text.specs.Written.{IsOverArrays, IsWrittenSet, IsWritten, IsKernel, array_text, set_text, header_text, type_text, length_text}
+use Rattle.hm_kernel_text.specs.Written.{kernel_lines, kernel_text}
+use Rattle.hm_kernel_text.specs.ReadLine.{Form, an_array, a_set, by_form, form_from, form_in, in_range, is_placed, is_there, knows, line_in, share}
+use Rattle.hm_kernel_text.specs.ReadLine.{values_in, with_array, with_set, with_written_array, with_written_set}
 use Rattle.hm_kernel_text.specs.ReadFile.{count_in, ended, first_written, kernel_in, length_in, lines_in, on_line, type_in}
 use Rattle.hm_kernel_text.proofs.FoundLaws.{IsLeafy, joined}
 use Rattle.hm_kernel_text.proofs.AgainWords.{IsWord, leaf_word, lacks_all, numeral_again, words_front, ends, goes, tree_again}
@@ -81,7 +86,8 @@ record Passes (t : ElementType) (arrays : List WrittenArray) (e : Tree) : Type 0
 name_passes : (t : ElementType) (arrays : List WrittenArray) (w : List ℕ) → is_name w ≡ true → is_there w arrays ≡ true → Passes t arrays (word w)
 name_passes t arrays w named there = record { leafy = rw named refl; known = rw (named, there) refl; small = rw named refl }
 
-number_go : (named : Bool) (t : ElementType) (arrays : List WrittenArray) (w : List ℕ) (n : ℕ) → is_name w ≡ named → is_numeral w ≡ true → number_below (modulus t) w ≡ Some n → (named ≡ true → ⊥) → Passes t arrays (word w)
+number_go : (named : Bool) (t : ElementType) (arrays : List WrittenArray) (w : List ℕ) (n : ℕ) → is_name w ≡ named → is_numeral w ≡ true
+    → number_below (modulus t) w ≡ Some n → (named ≡ true → ⊥) → Passes t arrays (word w)
 number_go true t arrays w n is numeral small not_name = absurd (not_name refl)
 number_go false t arrays w n is numeral small not_name = record { leafy = rw (is, numeral) refl; known = rw is refl; small = rw (is, small) refl }
 
@@ -127,7 +133,8 @@ numeral_leaf false = refl
 decimal_word : (n : ℕ) → n < 2 ^ 32 → IsWord (decimal n)
 decimal_word n lt = leaf_word (decimal n) (rw (numeral_again n lt) (numeral_leaf (is_name (decimal n))))
 
-decimals_lack : (mark : ℕ) (t : ElementType) (values : List ℕ) → is_ascii_alphanumeric mark ≡ false → AllByRecursion (λ v. v < modulus t) values → AllByRecursion (Lacks mark) (map decimal values)
+decimals_lack : (mark : ℕ) (t : ElementType) (values : List ℕ) → is_ascii_alphanumeric mark ≡ false → AllByRecursion (λ v. v < modulus t) values
+    → AllByRecursion (Lacks mark) (map decimal values)
 decimals_lack mark t [] fails small = tt
 decimals_lack mark t (v ∷ values) fails small = (word_lacks mark (decimal v) fails (decimal_word v (below_modulus t v small.0)), decimals_lack mark t values fails small.1)
 
@@ -165,7 +172,8 @@ tree_lacks (apply o l r) leafy = (
 placed_small : (t : ElementType) (n a : ℕ) → IsPlaced t n a → a < 2 ^ 32
 placed_small t n a is = omega (arith, is.high)
 
-array_words_lack : (mark : ℕ) (t : ElementType) (n : ℕ) (front : List WrittenArray) (a : WrittenArray) → is_ascii_alphanumeric mark ≡ false → mark < 48 → Lacks mark (codes "array") → IsNewArray t n front a
+array_words_lack : (mark : ℕ) (t : ElementType) (n : ℕ) (front : List WrittenArray) (a : WrittenArray) → is_ascii_alphanumeric mark ≡ false
+    → mark < 48 → Lacks mark (codes "array") → IsNewArray t n front a
     → AllByRecursion (Lacks mark) (codes "array" ∷ a.name ∷ hex8 a.addr ∷ map decimal a.values)
 array_words_lack mark t n front a fails lt word_lack is = (word_lack, (word_lacks mark a.name fails (name_leaf a.name is.name), (hex8_lacks mark a.addr lt, decimals_lack mark t a.values fails is.small)))
 
@@ -173,12 +181,14 @@ numerals_again : (t : ElementType) (values : List ℕ) → AllByRecursion (λ v.
 numerals_again t [] small = refl
 numerals_again t (v ∷ values) small = rw (numeral_again v (below_modulus t v small.0), numerals_again t values small.1) refl
 
-values_again : (t : ElementType) (values : List ℕ) → AllByRecursion (λ v. v < modulus t) values → values_in (modulus t) (map decimal values) ≡ Some values
+values_again : (t : ElementType) (values : List ℕ) → AllByRecursion (λ v. v < modulus t) values
+    → values_in (modulus t) (map decimal values) ≡ Some values
 unfolding values_in
 values_again t [] small = refl
 values_again t (v ∷ values) small = rw (number_again (modulus t) v small.0 (below_modulus t v small.0), values_again t values small.1) refl
 
-array_form_again : (t : ElementType) (n : ℕ) (front : List WrittenArray) (a : WrittenArray) → IsNewArray t n front a → form_in (array_text a) ≡ Some (an_array a.name a.addr (map decimal a.values))
+array_form_again : (t : ElementType) (n : ℕ) (front : List WrittenArray) (a : WrittenArray) → IsNewArray t n front a
+    → form_in (array_text a) ≡ Some (an_array a.name a.addr (map decimal a.values))
 unfolding form_in
 array_form_again t n front a is =
     let words = split_join 32 (codes "array") (a.name ∷ hex8 a.addr ∷ map decimal a.values) (array_words_lack 32 t n front a refl (omega arith) (Lacks_from_test 32 (codes "array") refl) is) in
@@ -201,7 +211,8 @@ apart_test a b s (inr le) = second_false (ltb a (b + s)) (ltb b (a + s)) (le-ltb
   second_false true y e = e
   second_false false y e = refl
 
-apart_again : (t : ElementType) (n addr : ℕ) (front : List WrittenArray) → AllByRecursion (IsApart t n addr) front → list_any (λ a. share t n a.addr addr) front ≡ false
+apart_again : (t : ElementType) (n addr : ℕ) (front : List WrittenArray) → AllByRecursion (IsApart t n addr) front
+    → list_any (λ a. share t n a.addr addr) front ≡ false
 apart_again t n addr [] apart = refl
 apart_again t n addr (a ∷ more) apart = rw (apart_test a.addr addr (bytes t * n) apart.0, apart_again t n addr more apart.1) refl
 
@@ -218,12 +229,14 @@ few_again n values le = rw (length-decimals values) (le-leb (length values) n le
 not_full : (n : ℕ) → n < 16 → leb 16 n ≡ false
 not_full n lt = grind (arith, nat_tests)
 
-with_array_again : (k : Written) (a : WrittenArray) → length k.sets ≡ 0 → length k.arrays < 16 → IsNewArray k.element k.count k.arrays a → with_array k a.name a.addr (map decimal a.values) ≡ Ok (with_written_array k a)
+with_array_again : (k : Written) (a : WrittenArray) → length k.sets ≡ 0 → length k.arrays < 16 → IsNewArray k.element k.count k.arrays a
+    → with_array k a.name a.addr (map decimal a.values) ≡ Ok (with_written_array k a)
 unfolding with_array
 with_array_again k a none room is =
     rw (none, not_full (length k.arrays) room, others_again a.name k.arrays is.other, placed_again k.element k.count a.addr is.placed, few_again k.count a.values is.few, values_again k.element a.values is.small, apart_again k.element k.count a.addr k.arrays is.apart) refl
 
-array_again : (k : Written) (a : WrittenArray) → length k.sets ≡ 0 → length k.arrays < 16 → IsNewArray k.element k.count k.arrays a → line_in k (array_text a) ≡ Ok (with_written_array k a)
+array_again : (k : Written) (a : WrittenArray) → length k.sets ≡ 0 → length k.arrays < 16 → IsNewArray k.element k.count k.arrays a
+    → line_in k (array_text a) ≡ Ok (with_written_array k a)
 array_again k a none room is = ap (by_form k) (array_form_again k.element k.count k.arrays a is) ∙ with_array_again k a none room is
 
 -- ---- a line that sets an array
@@ -241,19 +254,22 @@ set_form_again s named leafy =
 some_test : (n : ℕ) → 1 ≤ n → eqb n 0 ≡ false
 some_test n le = ne_eqb n 0 (λ is. absurd (omega (arith, is, le)))
 
-with_set_again : (k : Written) (s : WrittenSet) → 1 ≤ length k.arrays → length k.sets < 16 → Passes k.element k.arrays s.expr → IsWrittenSet k.element k.arrays s → with_set k s.name s.expr ≡ Ok (with_written_set k s)
+with_set_again : (k : Written) (s : WrittenSet) → 1 ≤ length k.arrays → length k.sets < 16 → Passes k.element k.arrays s.expr
+    → IsWrittenSet k.element k.arrays s → with_set k s.name s.expr ≡ Ok (with_written_set k s)
 unfolding with_set
 with_set_again k s some room pass is =
     rw (some_test (length k.arrays) some, not_full (length k.sets) room, le-ltb 64 (leaves s.expr) is.few, there_again k.arrays s.name is.target, pass.known, pass.small, le-ltb 8 (tree_need s.expr) is.shallow) refl
 
-set_again : (k : Written) (s : WrittenSet) → AreNamed k.arrays → 1 ≤ length k.arrays → length k.sets < 16 → IsWrittenSet k.element k.arrays s → line_in k (set_text s) ≡ Ok (with_written_set k s)
+set_again : (k : Written) (s : WrittenSet) → AreNamed k.arrays → 1 ≤ length k.arrays → length k.sets < 16 → IsWrittenSet k.element k.arrays s
+    → line_in k (set_text s) ≡ Ok (with_written_set k s)
 set_again k s named some room is =
     let pass = passes k.element k.arrays s.expr named is.over in
     ap (by_form k) (set_form_again s (there_named k.arrays s.name named is.target) pass.leafy) ∙ with_set_again k s some room pass is
 
 -- ---- all lines
 
-next_line : (n : ℕ) (k next : Written) (l : List ℕ) (ls : List (List ℕ)) → line_in k l ≡ Ok next → lines_in n k (l ∷ ls) [] ≡ lines_in (n + 1) next ls []
+next_line : (n : ℕ) (k next : Written) (l : List ℕ) (ls : List (List ℕ)) → line_in k l ≡ Ok next
+    → lines_in n k (l ∷ ls) [] ≡ lines_in (n + 1) next ls []
 unfolding lines_in
 next_line n k next l ls e = ap (λ (r : Result Written KernelKind). on_line n r >>= λ next. lines_in (n + 1) next ls []) e
 
@@ -261,7 +277,8 @@ no_line : (n : ℕ) (k : Written) → 1 ≤ length k.sets → lines_in n k [] []
 unfolding lines_in
 no_line n k some = rw (some_test (length k.sets) some) refl
 
-sets_again : (ss : List WrittenSet) (n : ℕ) (k : Written) → AreNamed k.arrays → 1 ≤ length k.arrays → length k.sets + length ss ≤ 16 → 1 ≤ length k.sets + length ss → AllByRecursion (IsWrittenSet k.element k.arrays) ss
+sets_again : (ss : List WrittenSet) (n : ℕ) (k : Written) → AreNamed k.arrays → 1 ≤ length k.arrays → length k.sets + length ss ≤ 16
+    → 1 ≤ length k.sets + length ss → AllByRecursion (IsWrittenSet k.element k.arrays) ss
     → lines_in n k (map set_text ss) [] ≡ Ok (record k { sets = k.sets ++ ss })
 sets_again [] n k named some room any good = no_line n k (omega (arith, any)) ∙ ap (λ (x : List WrittenSet). let r : Result Written KernelErr = Ok (record k { sets = x }) in r) (sym (append-nil k.sets))
 sets_again (s ∷ ss) n k named some room any good =
@@ -270,8 +287,10 @@ sets_again (s ∷ ss) n k named some room any good =
     ∙ sets_again ss (n + 1) (with_written_set k s) named some (omega (arith, pushed, room)) (omega (arith, pushed)) good.1
     ∙ ap (λ (x : List WrittenSet). let r : Result Written KernelErr = Ok (record k { sets = x }) in r) (append_assoc k.sets (s ∷ []) ss)
 
-arrays_again : (xs : List WrittenArray) (ss : List WrittenSet) (n : ℕ) (k : Written) → length k.sets ≡ 0 → length k.arrays + length xs ≤ 16 → AreArrays k.element k.count k.arrays xs → AreNamed (k.arrays ++ xs) → 1 ≤ length (k.arrays ++ xs) → length ss ≤ 16 → 1 ≤ length ss
-    → AllByRecursion (IsWrittenSet k.element (k.arrays ++ xs)) ss → lines_in n k (map array_text xs ++ map set_text ss) [] ≡ Ok (record k { arrays = k.arrays ++ xs; sets = k.sets ++ ss })
+arrays_again : (xs : List WrittenArray) (ss : List WrittenSet) (n : ℕ) (k : Written) → length k.sets ≡ 0 → length k.arrays + length xs ≤ 16
+    → AreArrays k.element k.count k.arrays xs → AreNamed (k.arrays ++ xs) → 1 ≤ length (k.arrays ++ xs) → length ss ≤ 16 → 1 ≤ length ss
+    → AllByRecursion (IsWrittenSet k.element (k.arrays ++ xs)) ss
+    → lines_in n k (map array_text xs ++ map set_text ss) [] ≡ Ok (record k { arrays = k.arrays ++ xs; sets = k.sets ++ ss })
 arrays_again [] ss n k none room new named some few any good =
     let same = append-nil k.arrays in
     sets_again ss n k (subst AreNamed same named) (subst (λ (x : List WrittenArray). 1 ≤ length x) same some) (omega (arith, none, few)) (omega (arith, none, any)) (subst (λ (x : List WrittenArray). AllByRecursion (IsWrittenSet k.element x) ss) same good)
@@ -315,11 +334,13 @@ set_lacks t arrays s named is =
     join_lacks (codes "set" ∷ s.name ∷ codes "=" ∷ tree_text s.expr ∷ [])
     (Lacks_from_test 10 (codes "set") refl, (word_lacks 10 s.name refl (name_leaf s.name (there_named arrays s.name named is.target)), (Lacks_from_test 10 (codes "=") refl, (tree_lacks s.expr (passes t arrays s.expr named is.over).leafy, tt))))
 
-sets_lack : (t : ElementType) (arrays : List WrittenArray) (ss : List WrittenSet) → AreNamed arrays → AllByRecursion (IsWrittenSet t arrays) ss → AllByRecursion (Lacks 10) (map set_text ss)
+sets_lack : (t : ElementType) (arrays : List WrittenArray) (ss : List WrittenSet) → AreNamed arrays → AllByRecursion (IsWrittenSet t arrays) ss
+    → AllByRecursion (Lacks 10) (map set_text ss)
 sets_lack t arrays [] named good = tt
 sets_lack t arrays (s ∷ ss) named good = (set_lacks t arrays s named good.0, sets_lack t arrays ss named good.1)
 
-lines_lack : (t : ElementType) (n : ℕ) (front xs : List WrittenArray) (rest : List (List ℕ)) → AreArrays t n front xs → AllByRecursion (Lacks 10) rest → AllByRecursion (Lacks 10) (map array_text xs ++ rest)
+lines_lack : (t : ElementType) (n : ℕ) (front xs : List WrittenArray) (rest : List (List ℕ)) → AreArrays t n front xs
+    → AllByRecursion (Lacks 10) rest → AllByRecursion (Lacks 10) (map array_text xs ++ rest)
 lines_lack t n front [] rest new all = all
 lines_lack t n front (a ∷ xs) rest new all =
     (join_lacks (codes "array" ∷ a.name ∷ hex8 a.addr ∷ map decimal a.values) (array_words_lack 10 t n front a refl (omega arith) (Lacks_from_test 10 (codes "array") refl) new.0), lines_lack t n (front ++ a ∷ []) xs rest new.1 all)
@@ -337,7 +358,8 @@ lines_cut w fits =
       ),
     )
 
-head_again : (text : List ℕ) (w : Written) → w.count ≤ 65536 → lines_of text ≡ (kernel_lines w, []) → kernel_in text ≡ lines_in 4 (first_written w.element w.count) (map array_text w.arrays ++ map set_text w.sets) []
+head_again : (text : List ℕ) (w : Written) → w.count ≤ 65536 → lines_of text ≡ (kernel_lines w, [])
+    → kernel_in text ≡ lines_in 4 (first_written w.element w.count) (map array_text w.arrays ++ map set_text w.sets) []
 unfolding kernel_in
 head_again text w le cut = rw (cut, type_again w.element, length_again w.count le) refl
 

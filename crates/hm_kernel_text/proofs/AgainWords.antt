@@ -1,5 +1,6 @@
 -- What is written is read: words and expressions.
-use Rattle.std.proofs.Common.{◌≡◌, ◌≢◌, ℕ, zero, suc, ◌+◌, ◌-◌, ◌*◌, ◌^◌, ◌<◌, ◌≤◌, Bool, true, false, cond, eqb, ltb, List, [], ◌∷◌, ◌++◌, length, get_or, drop, map, Option, Some, None, refl, sym, ap, subst, ◌∙◌, arith, append_assoc}
+use Rattle.std.proofs.Common.{◌≡◌, ◌≢◌, ℕ, zero, suc, ◌+◌, ◌-◌, ◌*◌, ◌^◌, ◌<◌, ◌≤◌, Bool, true, false, cond, eqb, ltb, List, [], ◌∷◌, ◌++◌, length}
+use Rattle.std.proofs.Common.{get_or, drop, map, Option, Some, None, refl, sym, ap, subst, ◌∙◌, arith, append_assoc}
 use Rattle.std.specs.Prelude.{option_and_then, codes, decimal, not, is_none, ◌&&◌, ◌||◌}
 use Rattle.std.specs.Char.{is_ascii_alphanumeric, is_ascii_digit, is_ascii_lowercase}
 use Rattle.std.specs.List.{list_all}
@@ -15,7 +16,8 @@ use Rattle.hm_kernel_lang.specs.declared.text.Op.{Op}
 use Rattle.hm_kernel_lang.specs.declared.text.Op.TheVariants as op
 use Rattle.hm_kernel_text.specs.Trees.{Tree, word, apply, op_text, tree_text}
 use Rattle.hm_kernel_text.specs.Words.{op_in, is_name, is_numeral, words_of, words_behind}
-use Rattle.hm_kernel_text.specs.ReadTree.{Frame, first, second, Step, whole, part, closed, stands, is_leaf, leaf_step, open_step, step_in, tree_after, tree_from, tree_in}
+use Rattle.hm_kernel_text.specs.ReadTree.{Frame, first, second, Step, whole, part, closed, stands, is_leaf, leaf_step, open_step, step_in}
+use Rattle.hm_kernel_text.specs.ReadTree.{tree_after, tree_from, tree_in}
 use Rattle.hm_kernel_text.proofs.WordSteps.{words_cut}
 use Rattle.hm_kernel_text.proofs.FoundLaws.{IsLeafy}
 
@@ -160,7 +162,8 @@ op_lacks o = lacks_all 32 (λ b. not (eqb b 32)) (40 ∷ op_text o) refl (all o)
 abbrev resumed : List Frame → Tree → List ℕ → List (List ℕ) → Option Tree
 resumed fs t cs ws = tree_after (option_and_then stands (closed fs t cs)) ws (λ gs. tree_from gs ws)
 
-leaf_step_again : (fs : List Frame) (w cs : List ℕ) → is_leaf w ≡ true → AreBrackets cs → step_in fs (w ++ cs) ≡ option_and_then stands (closed fs (word w) cs)
+leaf_step_again : (fs : List Frame) (w cs : List ℕ) → is_leaf w ≡ true → AreBrackets cs
+    → step_in fs (w ++ cs) ≡ option_and_then stands (closed fs (word w) cs)
 unfolding step_in
 leaf_step_again fs w cs leaf are =
     let is = leaf_word w leaf in
@@ -173,14 +176,17 @@ open_step_again fs o = rw (op_again o) refl
 regroup_leaf : (w cs tail : List ℕ) → w ++ (cs ++ tail) ≡ (w ++ cs) ++ tail
 regroup_leaf w cs tail = sym (append_assoc w cs tail)
 
-regroup_apply : (op l r cs tail : List ℕ) → (40 ∷ (op ++ 32 ∷ (l ++ 32 ∷ (r ++ 41 ∷ [])))) ++ (cs ++ tail) ≡ (40 ∷ op) ++ 32 ∷ (l ++ ([] ++ 32 ∷ (r ++ ((41 ∷ cs) ++ tail))))
+regroup_apply : (op l r cs tail : List ℕ)
+    → (40 ∷ (op ++ 32 ∷ (l ++ 32 ∷ (r ++ 41 ∷ [])))) ++ (cs ++ tail) ≡ (40 ∷ op) ++ 32 ∷ (l ++ ([] ++ 32 ∷ (r ++ ((41 ∷ cs) ++ tail))))
 regroup_apply op l r cs tail = simp append_assoc
 
-tree_from_cons : (fs : List Frame) (ws : List (List ℕ)) (w : List ℕ) (more : List (List ℕ)) (s : Option Step) → ws ≡ w ∷ more → step_in fs w ≡ s → tree_from fs ws ≡ tree_after s more (λ gs. tree_from gs more)
+tree_from_cons : (fs : List Frame) (ws : List (List ℕ)) (w : List ℕ) (more : List (List ℕ)) (s : Option Step) → ws ≡ w ∷ more → step_in fs w ≡ s
+    → tree_from fs ws ≡ tree_after s more (λ gs. tree_from gs more)
 unfolding tree_from
 tree_from_cons fs ws w more s is step = ap (tree_from fs) is ∙ ap (λ (x : Option Step). tree_after x more (λ gs. tree_from gs more)) step
 
-second_again : (fs : List Frame) (o : Op) (l r : Tree) (cs : List ℕ) (ws : List (List ℕ)) → resumed (second o l ∷ fs) r (41 ∷ cs) ws ≡ resumed fs (apply o l r) cs ws
+second_again : (fs : List Frame) (o : Op) (l r : Tree) (cs : List ℕ) (ws : List (List ℕ))
+    → resumed (second o l ∷ fs) r (41 ∷ cs) ws ≡ resumed fs (apply o l r) cs ws
 unfolding closed
 second_again fs o l r cs ws = refl
 
@@ -188,7 +194,8 @@ first_again : (fs : List Frame) (o : Op) (l : Tree) (ws : List (List ℕ)) → r
 unfolding closed
 first_again fs o l ws = refl
 
-tree_again_at : (t : Tree) (fs : List Frame) (cs : List ℕ) (tail : Tail) → IsLeafy t → AreBrackets cs → tree_from fs (words_of (tree_text t ++ (cs ++ tail_text tail))) ≡ resumed fs t cs (tail_words tail)
+tree_again_at : (t : Tree) (fs : List Frame) (cs : List ℕ) (tail : Tail) → IsLeafy t → AreBrackets cs
+    → tree_from fs (words_of (tree_text t ++ (cs ++ tail_text tail))) ≡ resumed fs t cs (tail_words tail)
 tree_again_at (word w) fs cs tail leafy are =
     let is = leaf_word w leafy in
     let lacks = Lacks_append 32 w cs (lacks_all 32 is_ascii_alphanumeric w refl is.letters) (brackets_lack cs are) in

@@ -1,5 +1,6 @@
 -- Taking lines of a text one after another, as a loop does.
-use Rattle.std.proofs.Common.{◌≡◌, ℕ, suc, ◌+◌, ◌-◌, ◌<◌, ◌≤◌, List, [], ◌∷◌, ◌++◌, take, drop, length, map, Result, Ok, Err, refl, sym, ap, subst, ◌∙◌, arith}
+use Rattle.std.proofs.Common.{◌≡◌, ℕ, suc, ◌+◌, ◌-◌, ◌<◌, ◌≤◌, List, [], ◌∷◌, ◌++◌, take, drop, length, map, Result, Ok, Err, refl, sym, ap, subst}
+use Rattle.std.proofs.Common.{◌∙◌, arith}
 use Rattle.std.proofs.Common.{◌≢◌, inl, inr}
 use Rattle.std.proofs.lemmas.Bool.{eq-eqb, ne_eqb}
 use Rattle.std.proofs.lemmas.List.{take_all, length_push}
@@ -19,7 +20,8 @@ use Rattle.hm_kernel_text.specs.ReadLine.{line_in}
 use Rattle.hm_kernel_text.proofs.FoundLines.{SaysArray, SaysSet, line_found}
 use Rattle.hm_kernel_text.specs.ReadFile.{Fails, ended, line_at, lines_in, on_line}
 
-pub next_some : (text front rest : List ℕ) (k : ℕ) → (front, rest) ≡ span 10 text → 1 ≤ length rest → line_at k (lines_of text) ≡ Ok (front, lines_of (take (length rest - 1) (drop 1 rest)))
+pub next_some : (text front rest : List ℕ) (k : ℕ) → (front, rest) ≡ span 10 text → 1 ≤ length rest
+    → line_at k (lines_of text) ≡ Ok (front, lines_of (take (length rest - 1) (drop 1 rest)))
 next_some text front [] k e some = absurd (omega arith)
 next_some text front (b ∷ rest) k e some = rw (lines_span text, ← e, take_all (length (b ∷ rest) - 1) rest (omega arith)) refl
 
@@ -28,7 +30,8 @@ abbrev pub all_lines : ℕ → Written → Lines → Result Written KernelErr
 all_lines line k ls = lines_in line k ls.0 ls.1
 
 -- the next line is none
-pub ends_line : (e : KernelErr) (line : ℕ) (k : Written) (ls : Lines) (whole : Result Written KernelErr) → line_at line ls ≡ Err e → 0 < length ls.0 + length ls.1 → all_lines line k ls ≡ whole → whole ≡ Err e
+pub ends_line : (e : KernelErr) (line : ℕ) (k : Written) (ls : Lines) (whole : Result Written KernelErr) → line_at line ls ≡ Err e
+    → 0 < length ls.0 + length ls.1 → all_lines line k ls ≡ whole → whole ≡ Err e
 unfolding lines_in
 ends_line e line k ([], []) whole at some so_far = absurd (omega arith)
 ends_line e line k ([], b ∷ rest) whole at some so_far = sym so_far ∙ ap (λ (x : KernelErr). let r : Result Written KernelErr = Err x in r) (err_is {A = List ℕ × Lines} (refusals.Line line Syntax) e at)
@@ -45,7 +48,8 @@ ends_bad e line k (l ∷ ls, rest) text after whole at bad so_far =
     sym so_far ∙ one
 
 pub goes_on : (line : ℕ) (k next : Written) (ls : Lines) (text : List ℕ) (after : Lines) (whole : Result Written KernelErr)
-    → line_at line ls ≡ Ok (text, after) → on_line line (line_in k text) ≡ Ok next → all_lines line k ls ≡ whole → all_lines (line + 1) next after ≡ whole
+    → line_at line ls ≡ Ok (text, after) → on_line line (line_in k text) ≡ Ok next → all_lines line k ls ≡ whole
+    → all_lines (line + 1) next after ≡ whole
 unfolding lines_in
 goes_on line k next ([], rest) text after whole at good so_far = absurd cc
 goes_on line k next (l ∷ ls, rest) text after whole at good so_far =
@@ -56,7 +60,8 @@ goes_on line k next (l ∷ ls, rest) text after whole at good so_far =
     ap (λ (a : Lines). all_lines (line + 1) next a) (sym after-is) ∙ sym one ∙ so_far
 
 -- no line is left
-pub is_done : (line : ℕ) (k : Written) (text : List ℕ) (whole : Result Written KernelErr) → length text ≡ 0 → all_lines line k (lines_of text) ≡ whole → whole ≡ ended line k
+pub is_done : (line : ℕ) (k : Written) (text : List ℕ) (whole : Result Written KernelErr) → length text ≡ 0
+    → all_lines line k (lines_of text) ≡ whole → whole ≡ ended line k
 unfolding lines_in lines_of
 is_done line k [] whole none so_far = sym so_far
 is_done line k (b ∷ text) whole none so_far = absurd (omega arith)
@@ -91,7 +96,8 @@ pub on_line_found : {A : Type 0} (line : ℕ) (r : Result A KernelKind) (x : A) 
 on_line_found line (Ok y) x e = cc
 on_line_found line (Err kind) x e = absurd cc
 
-pub grows : (line : ℕ) (k next : Written) (text : List ℕ) → length k.arrays ≤ 16 → length k.sets ≤ 16 → on_line line (line_in k text) ≡ Ok next → Grows k next
+pub grows : (line : ℕ) (k next : Written) (text : List ℕ) → length k.arrays ≤ 16 → length k.sets ≤ 16 → on_line line (line_in k text) ≡ Ok next
+    → Grows k next
 grows line k next text few_arrays few_sets e = elim (line_found k text next (on_line_found line (line_in k text) next e)) [
   | inl says ↦ grows_array k next text few_sets says
   | inr says ↦ grows_set k next text few_arrays says

@@ -1,5 +1,6 @@
 -- A text that is read is written so.
-use Rattle.std.proofs.Common.{◌≡◌, ◌≢◌, ℕ, zero, suc, ◌+◌, ◌<◌, ◌≤◌, Bool, true, false, cond, eqb, List, [], ◌∷◌, ◌++◌, length, drop, map, Option, Some, None, Result, Ok, Err, refl, sym, ap, subst, ◌∙◌, arith, inl, inr, append_assoc}
+use Rattle.std.proofs.Common.{◌≡◌, ◌≢◌, ℕ, zero, suc, ◌+◌, ◌<◌, ◌≤◌, Bool, true, false, cond, eqb, List, [], ◌∷◌, ◌++◌, length, drop, map, Option}
+use Rattle.std.proofs.Common.{Some, None, Result, Ok, Err, refl, sym, ap, subst, ◌∙◌, arith, inl, inr, append_assoc}
 use Rattle.std.specs.Prelude.{◌⊎◌, codes, decimal, bytes_eq, nat_eq, ok_or}
 use Rattle.std.specs.List.{AllByRecursion, flat_map, starts_with}
 use Rattle.std.proofs.lemmas.Bool.{eqb-false}
@@ -17,7 +18,8 @@ use Rattle.hm_kernel_text.specs.declared.errors.KernelKind.TheVariants.{Syntax, 
 use Rattle.hm_kernel_text.specs.declared.errors.KernelErr.{KernelErr}
 use Rattle.hm_kernel_text.specs.declared.errors.KernelErr.TheVariants as refusals
 use Rattle.hm_kernel_text.specs.Words.{is_numeral, number_below}
-use Rattle.hm_kernel_text.specs.Written.{WrittenArray, WrittenSet, Written, AreArrays, IsWrittenSet, IsWritten, IsKernel, array_text, set_text, header_text, type_text, length_text, kernel_lines, kernel_text}
+use Rattle.hm_kernel_text.specs.Written.{WrittenArray, WrittenSet, Written, AreArrays, IsWrittenSet, IsWritten, IsKernel, array_text, set_text}
+use Rattle.hm_kernel_text.specs.Written.{header_text, type_text, length_text, kernel_lines, kernel_text}
 use Rattle.hm_kernel_text.specs.ReadLine.{line_in, with_written_array, with_written_set}
 use Rattle.hm_kernel_text.specs.ReadFile.{count_in, ended, first_written, kernel_in, length_in, line_at, lines_in, on_line, type_in}
 use Rattle.hm_kernel_text.proofs.NameSteps.{number_found}
@@ -26,7 +28,8 @@ use Rattle.hm_kernel_text.proofs.FileSteps.{on_line_found}
 
 -- ---- the head
 
-type_made : (text t : List ℕ) (o p : ElementType) (more : Option ElementType) (same : Bool) → (same ≡ true → text ≡ t) → type_text o ≡ t → (more ≡ Some p → text ≡ type_text p) → cond same (Some o) more ≡ Some p → text ≡ type_text p
+type_made : (text t : List ℕ) (o p : ElementType) (more : Option ElementType) (same : Bool) → (same ≡ true → text ≡ t) → type_text o ≡ t
+    → (more ≡ Some p → text ≡ type_text p) → cond same (Some o) more ≡ Some p → text ≡ type_text p
 type_made text t o p more true is is-text others e = is refl ∙ sym is-text ∙ ap type_text (some_is o p e)
 type_made text t o p more false is is-text others e = others e
 
@@ -94,7 +97,8 @@ ended_found k w rest none s some is = subst (LinesFound [] rest k) is (record {
   few_sets = s.few_sets;
 })
 
-array_behind : (k w : Written) (l : List ℕ) (ls : List (List ℕ)) (rest : List ℕ) (next : Written) (says : SaysArray k l next) → LinesFound ls rest (with_written_array k says.array) w → LinesFound (l ∷ ls) rest k w
+array_behind : (k w : Written) (l : List ℕ) (ls : List (List ℕ)) (rest : List ℕ) (next : Written) (says : SaysArray k l next)
+    → LinesFound ls rest (with_written_array k says.array) w → LinesFound (l ∷ ls) rest k w
 array_behind k w l ls rest next says more = record {
   ended = more.ended;
   arrays = says.array ∷ more.arrays;
@@ -139,7 +143,8 @@ sound_set k l next says s =
     record { few_arrays = s.few_arrays; few_sets = omega (arith, pushed, says.room); some = λ _. says.some }
 
 -- a line, and what is known of those behind it
-behind : (k w : Written) (l : List ℕ) (ls : List (List ℕ)) (rest : List ℕ) (next : Written) → Sound k → (SaysArray k l next ⊎ SaysSet k l next) → (Sound next → LinesFound ls rest next w) → LinesFound (l ∷ ls) rest k w
+behind : (k w : Written) (l : List ℕ) (ls : List (List ℕ)) (rest : List ℕ) (next : Written) → Sound k → (SaysArray k l next ⊎ SaysSet k l next)
+    → (Sound next → LinesFound ls rest next w) → LinesFound (l ∷ ls) rest k w
 behind k w l ls rest next s (inl says) more =
     let P : Written → Type 0 = λ x. Sound x → LinesFound ls rest x w in
     array_behind k w l ls rest next says (subst P (sym says.next_is) more (sound_array k l next says s))
@@ -164,14 +169,17 @@ line_at_found : (k : ℕ) (ls : Lines) (x : List ℕ × Lines) → line_at k ls 
 line_at_found k ([], rest) x e = absurd cc
 line_at_found k (l ∷ ls, rest) x e = ap (λ (y : List ℕ × Lines). (y.0 ∷ y.1.0, y.1.1)) (ok_is (l, (ls, rest)) x e)
 
-header_go : (same : Bool) (text : List ℕ) (ls x : Lines) → (same ≡ true → text ≡ header_text) → cond same (Ok ls) (Err (refusals.Line 1 Syntax)) ≡ Ok x → (text ≡ header_text) × (ls ≡ x)
+header_go : (same : Bool) (text : List ℕ) (ls x : Lines) → (same ≡ true → text ≡ header_text)
+    → cond same (Ok ls) (Err (refusals.Line 1 Syntax)) ≡ Ok x → (text ≡ header_text) × (ls ≡ x)
 header_go true text ls x is e = (is refl, ok_is ls x e)
 header_go false text ls x is e = absurd cc
 
-joined_lines : (text : List ℕ) (x1 x2 x3 : List ℕ × Lines) (h : Lines) → lines_of text ≡ (x1.0 ∷ x1.1.0, x1.1.1) → x1.1 ≡ h → h ≡ (x2.0 ∷ x2.1.0, x2.1.1) → x2.1 ≡ (x3.0 ∷ x3.1.0, x3.1.1) → lines_of text ≡ (x1.0 ∷ x2.0 ∷ x3.0 ∷ x3.1.0, x3.1.1)
+joined_lines : (text : List ℕ) (x1 x2 x3 : List ℕ × Lines) (h : Lines) → lines_of text ≡ (x1.0 ∷ x1.1.0, x1.1.1) → x1.1 ≡ h
+    → h ≡ (x2.0 ∷ x2.1.0, x2.1.1) → x2.1 ≡ (x3.0 ∷ x3.1.0, x3.1.1) → lines_of text ≡ (x1.0 ∷ x2.0 ∷ x3.0 ∷ x3.1.0, x3.1.1)
 joined_lines text x1 x2 x3 h e1 eh e2 e3 = e1 ∙ ap (λ (y : Lines). (x1.0 ∷ y.0, y.1)) (eh ∙ e2 ∙ ap (λ (y : Lines). (x2.0 ∷ y.0, y.1)) e3)
 
-kernel_made : (text l1 l2 l3 : List ℕ) (ls : List (List ℕ)) (rest : List ℕ) (t : ElementType) (n : ℕ) (w : Written) → lines_of text ≡ (l1 ∷ l2 ∷ l3 ∷ ls, rest) → l1 ≡ header_text → l2 ≡ type_text t → l3 ≡ length_text n → n ≤ 65536
+kernel_made : (text l1 l2 l3 : List ℕ) (ls : List (List ℕ)) (rest : List ℕ) (t : ElementType) (n : ℕ) (w : Written)
+    → lines_of text ≡ (l1 ∷ l2 ∷ l3 ∷ ls, rest) → l1 ≡ header_text → l2 ≡ type_text t → l3 ≡ length_text n → n ≤ 65536
     → LinesFound ls rest (first_written t n) w → IsKernel text w
 kernel_made text l1 l2 l3 ls rest t n w cut is1 is2 is3 le found =
     let made : Written = record { element = t; count = n; arrays = found.arrays; sets = found.sets } in

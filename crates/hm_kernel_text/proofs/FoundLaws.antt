@@ -1,5 +1,7 @@
 -- What is read is written so: words, trees and lines.
-use Rattle.std.proofs.Common.{◌≡◌, ◌≢◌, ℕ, zero, suc, ◌+◌, ◌-◌, ◌*◌, ◌%◌, ◌<◌, ◌≤◌, Bool, true, false, cond, eqb, leb, ltb, List, [], ◌∷◌, ◌++◌, length, get_or, drop, map, Option, Some, None, Result, Ok, Err, refl, sym, ap, subst, ◌∙◌, arith, inl, inr, append_assoc}
+use Rattle.std.proofs.Common.{◌≡◌, ◌≢◌, ℕ, zero, suc, ◌+◌, ◌-◌, ◌*◌, ◌%◌, ◌<◌, ◌≤◌, Bool, true, false, cond, eqb, leb, ltb, List, [], ◌∷◌, ◌++◌}
+use Rattle.std.proofs.Common.{length, get_or, drop, map, Option, Some, None, Result, Ok, Err, refl, sym, ap, subst, ◌∙◌, arith, inl, inr}
+use Rattle.std.proofs.Common.{append_assoc}
 use Rattle.std.specs.Prelude.{◌⊎◌, option_and_then, option_map, codes, decimal, bytes_eq, is_some, not, ◌&&◌, ◌||◌}
 use Rattle.std.specs.List.{AllByRecursion, join_with_byte, list_all, list_any, slice_split}
 use Rattle.std.proofs.lemmas.Bool.{cases_Bool, eqb-true, eqb-false, ltb-false, or_parts, and_parts}
@@ -17,11 +19,13 @@ use Rattle.hm_kernel_lang.specs.declared.text.Op.{Op}
 use Rattle.hm_kernel_lang.specs.declared.text.Op.TheVariants as op
 use Rattle.hm_kernel_text.specs.Trees.{Tree, word, apply, op_text, tree_text}
 use Rattle.hm_kernel_text.specs.Words.{op_in, words_of}
-use Rattle.hm_kernel_text.specs.ReadTree.{Frame, first, second, Step, whole, part, close, closed, stands, is_leaf, leaf_step, open_step, step_in, tree_after, tree_from, tree_in}
+use Rattle.hm_kernel_text.specs.ReadTree.{Frame, first, second, Step, whole, part, close, closed, stands, is_leaf, leaf_step, open_step, step_in}
+use Rattle.hm_kernel_text.specs.ReadTree.{tree_after, tree_from, tree_in}
 
 -- ---- operations
 
-op_made : (w t : List ℕ) (o p : Op) (more : Option Op) (same : Bool) → (same ≡ true → w ≡ t) → op_text o ≡ t → (more ≡ Some p → w ≡ op_text p) → cond same (Some o) more ≡ Some p → w ≡ op_text p
+op_made : (w t : List ℕ) (o p : Op) (more : Option Op) (same : Bool) → (same ≡ true → w ≡ t) → op_text o ≡ t → (more ≡ Some p → w ≡ op_text p)
+    → cond same (Some o) more ≡ Some p → w ≡ op_text p
 op_made w t o p more true is text others e = is refl ∙ sym text ∙ ap op_text (some_is o p e)
 op_made w t o p more false is text others e = others e
 
@@ -63,10 +67,12 @@ record Stands (fs : List Frame) (text : List ℕ) (gs : List Frame) (t : Tree) :
   frames : AreLeafy gs
   tree : IsLeafy t
 
-closed_text : (front op l t cs : List ℕ) → (front ++ 40 ∷ (op ++ 32 ∷ (l ++ 32 ∷ []))) ++ (t ++ 41 ∷ cs) ≡ front ++ ((40 ∷ (op ++ 32 ∷ (l ++ 32 ∷ (t ++ 41 ∷ [])))) ++ cs)
+closed_text : (front op l t cs : List ℕ)
+    → (front ++ 40 ∷ (op ++ 32 ∷ (l ++ 32 ∷ []))) ++ (t ++ 41 ∷ cs) ≡ front ++ ((40 ∷ (op ++ 32 ∷ (l ++ 32 ∷ (t ++ 41 ∷ [])))) ++ cs)
 closed_text front op l t cs = simp append_assoc
 
-closed_found : (cs : List ℕ) (fs : List Frame) (t : Tree) (s : List Frame × Tree) → AreLeafy fs → IsLeafy t → closed fs t cs ≡ Some s → Stands fs (tree_text t ++ cs) s.0 s.1
+closed_found : (cs : List ℕ) (fs : List Frame) (t : Tree) (s : List Frame × Tree) → AreLeafy fs → IsLeafy t → closed fs t cs ≡ Some s
+    → Stands fs (tree_text t ++ cs) s.0 s.1
 unfolding closed
 closed_found [] fs t s leafy leaf e =
     subst (λ (x : List Frame × Tree). Stands fs (tree_text t ++ []) x.0 x.1) (some_is (fs, t) s e) (record { texts = ap (λ (x : List ℕ). before fs ++ x) (append-nil (tree_text t)); frames = leafy; tree = leaf })
@@ -99,7 +105,8 @@ first_byte : (w : List ℕ) → get_or w 0 0 ≡ 40 → w ≡ 40 ∷ drop 1 w
 first_byte [] e = absurd (omega arith)
 first_byte (b ∷ w) e = ap (λ (c : ℕ). c ∷ w) e
 
-step_of : (b : Bool) (fs : List Frame) (w : List ℕ) (u : Step) → eqb (get_or w 0 0) 40 ≡ b → AreLeafy fs → cond b (open_step fs (drop 1 w)) (leaf_step fs (span 41 w)) ≡ Some u → StepStands fs w u
+step_of : (b : Bool) (fs : List Frame) (w : List ℕ) (u : Step) → eqb (get_or w 0 0) 40 ≡ b → AreLeafy fs
+    → cond b (open_step fs (drop 1 w)) (leaf_step fs (span 41 w)) ≡ Some u → StepStands fs w u
 step_of true fs w u is leafy e =
     let o = and_then_some (op_in (drop 1 w)) (λ o. Some (part (first o ∷ fs))) u e in
     let w-is : w ≡ 40 ∷ op_text o.0 = first_byte w (eqb-true _ _ is) ∙ ap (λ (x : List ℕ). 40 ∷ x) (op_found (drop 1 w) o.0 o.1) in
@@ -133,7 +140,8 @@ steps_stand fs w (Some u) more = more u refl
 grown : (front gs w rest u : List ℕ) → front ++ (w ++ 32 ∷ []) ≡ gs → gs ++ rest ≡ u → front ++ (w ++ 32 ∷ rest) ≡ u
 grown front gs w rest u one more = simp append_assoc at (ap (λ (x : List ℕ). x ++ rest) one) ∙ more
 
-after_found : (s : Option Step) (fs : List Frame) (w : List ℕ) (ws : List (List ℕ)) (u : Tree) → StepsStand fs w s → ((gs : List Frame) → AreLeafy gs → tree_from gs ws ≡ Some u → IsTree gs ws u)
+after_found : (s : Option Step) (fs : List Frame) (w : List ℕ) (ws : List (List ℕ)) (u : Tree) → StepsStand fs w s
+    → ((gs : List Frame) → AreLeafy gs → tree_from gs ws ≡ Some u → IsTree gs ws u)
     → tree_after s ws (λ gs. tree_from gs ws) ≡ Some u → IsTree fs (w ∷ ws) u
 unfolding tree_from
 after_found None fs w ws u h more e = absurd cc

@@ -1,5 +1,7 @@
 -- What is read is written so: lines.
-use Rattle.std.proofs.Common.{◌≡◌, ◌≢◌, ℕ, zero, suc, ◌+◌, ◌-◌, ◌*◌, ◌%◌, ◌<◌, ◌≤◌, Bool, true, false, cond, eqb, leb, ltb, List, [], ◌∷◌, ◌++◌, length, get_or, drop, map, Option, Some, None, Result, Ok, Err, refl, sym, ap, subst, ◌∙◌, arith, inl, inr, append_assoc}
+use Rattle.std.proofs.Common.{◌≡◌, ◌≢◌, ℕ, zero, suc, ◌+◌, ◌-◌, ◌*◌, ◌%◌, ◌<◌, ◌≤◌, Bool, true, false, cond, eqb, leb, ltb, List, [], ◌∷◌, ◌++◌}
+use Rattle.std.proofs.Common.{length, get_or, drop, map, Option, Some, None, Result, Ok, Err, refl, sym, ap, subst, ◌∙◌, arith, inl, inr}
+use Rattle.std.proofs.Common.{append_assoc}
 use Rattle.std.specs.Prelude.{◌⊎◌, option_and_then, option_map, codes, decimal, bytes_eq, is_some, not, ◌&&◌, ◌||◌}
 use Rattle.std.specs.List.{AllByRecursion, join_with_byte, list_all, list_any}
 use Rattle.std.proofs.lemmas.Bool.{cases_Bool, eqb-true, eqb-false, ltb-false, or_parts, and_parts, cases_lt, lt-ltb}
@@ -20,8 +22,11 @@ use Rattle.hm_kernel_text.specs.declared.errors.KernelKind.TheVariants.{Syntax, 
 use Rattle.hm_kernel_text.specs.Trees.{Tree, word, apply, leaves, tree_need, tree_text}
 use Rattle.hm_kernel_text.specs.Words.{is_name, is_numeral, number_below, words_of}
 use Rattle.hm_kernel_text.specs.ReadTree.{is_leaf, tree_from, tree_in}
-use Rattle.hm_kernel_text.specs.Written.{WrittenArray, WrittenSet, Written, HasOtherName, IsApart, IsNewArray, IsThere, IsNumber, IsOverArrays, IsWrittenSet, array_text, set_text}
-use Rattle.hm_kernel_text.specs.ReadLine.{Form, an_array, a_set, array_form, behind_array, bounded_values, by_form, form_from, form_in, form_of, in_range, is_placed, is_there, knows, line_in, set_form, share, values_in, with_array, with_set, with_written_array, with_written_set}
+use Rattle.hm_kernel_text.specs.Written.{WrittenArray, WrittenSet, Written, HasOtherName, IsApart, IsNewArray, IsThere, IsNumber, IsOverArrays}
+use Rattle.hm_kernel_text.specs.Written.{IsWrittenSet, array_text, set_text}
+use Rattle.hm_kernel_text.specs.ReadLine.{Form, an_array, a_set, array_form, behind_array, bounded_values, by_form, form_from, form_in, form_of}
+use Rattle.hm_kernel_text.specs.ReadLine.{in_range, is_placed, is_there, knows, line_in, set_form, share, values_in, with_array, with_set}
+use Rattle.hm_kernel_text.specs.ReadLine.{with_written_array, with_written_set}
 use Rattle.hm_kernel_text.proofs.NameSteps.{number_found}
 use Rattle.hm_kernel_text.proofs.FoundLaws.{IsLeafy, IsTree, joined, tree_found}
 
@@ -49,17 +54,20 @@ abbrev pub IsForm : List ℕ → Form → Type 0
 IsForm text (an_array name addr words) = (is_name name ≡ true) × (text ≡ joined (codes "array" ∷ name ∷ hex8 addr ∷ words))
 IsForm text (a_set name t) = (is_name name ≡ true) × (text ≡ joined (codes "set" ∷ name ∷ codes "=" ∷ tree_text t ∷ [])) × IsLeafy t
 
-one_text : (a b c : List ℕ) (w : List ℕ) (ws : List (List ℕ)) (t : List ℕ) → joined (w ∷ ws) ≡ t → joined (a ∷ b ∷ c ∷ w ∷ ws) ≡ joined (a ∷ b ∷ c ∷ t ∷ [])
+one_text : (a b c : List ℕ) (w : List ℕ) (ws : List (List ℕ)) (t : List ℕ) → joined (w ∷ ws) ≡ t
+    → joined (a ∷ b ∷ c ∷ w ∷ ws) ≡ joined (a ∷ b ∷ c ∷ t ∷ [])
 one_text a b c w ws t e = ap (λ (x : List ℕ). a ++ 32 ∷ (b ++ 32 ∷ (c ++ 32 ∷ x))) e
 
-set_words : (text name : List ℕ) (more : List (List ℕ)) (t : Tree) → is_name name ≡ true → text ≡ joined (codes "set" ∷ name ∷ codes "=" ∷ more) → tree_in more ≡ Some t → IsForm text (a_set name t)
+set_words : (text name : List ℕ) (more : List (List ℕ)) (t : Tree) → is_name name ≡ true → text ≡ joined (codes "set" ∷ name ∷ codes "=" ∷ more)
+    → tree_in more ≡ Some t → IsForm text (a_set name t)
 unfolding tree_from
 set_words text name [] t is e read = absurd cc
 set_words text name (w ∷ ws) t is e read =
     let found = tree_found (w ∷ ws) t read in
     (is, e ∙ one_text (codes "set") name (codes "=") w ws (tree_text t) found.texts, found.leafy)
 
-array_made : (text kind name third : List ℕ) (more : List (List ℕ)) (f : Form) → is_name name ≡ true → kind ≡ codes "array" → text ≡ joined (kind ∷ name ∷ third ∷ more) → array_form name third more ≡ Some f → IsForm text f
+array_made : (text kind name third : List ℕ) (more : List (List ℕ)) (f : Form) → is_name name ≡ true → kind ≡ codes "array"
+    → text ≡ joined (kind ∷ name ∷ third ∷ more) → array_form name third more ≡ Some f → IsForm text f
 array_made text kind name third more f is kind-is e made =
     let numerals = test_some (list_all is_numeral more) (option_map (λ addr. an_array name addr more) (hex8_in third)) f made in
     by_addr (hex8_in third) refl numerals.1 where
@@ -67,7 +75,8 @@ array_made text kind name third more f is kind-is e made =
       by_addr None at given = absurd cc
       by_addr (Some addr) at given = subst (IsForm text) (some_is (an_array name addr more) f given) (is, e ∙ ap (λ (k : List ℕ). joined (k ∷ name ∷ third ∷ more)) kind-is ∙ ap (λ (x : List ℕ). joined (codes "array" ∷ name ∷ x ∷ more)) (hex8_found third addr at))
 
-set_made : (text kind name third : List ℕ) (more : List (List ℕ)) (f : Form) → is_name name ≡ true → kind ≡ codes "set" → text ≡ joined (kind ∷ name ∷ third ∷ more) → set_form name third more ≡ Some f → IsForm text f
+set_made : (text kind name third : List ℕ) (more : List (List ℕ)) (f : Form) → is_name name ≡ true → kind ≡ codes "set"
+    → text ≡ joined (kind ∷ name ∷ third ∷ more) → set_form name third more ≡ Some f → IsForm text f
 set_made text kind name third more f is kind-is e made =
     let equals = test_some (bytes_eq third (codes "=")) (option_map (λ t. a_set name t) (tree_in more)) f made in
     by_tree (tree_in more) refl ((bytes_eq-Decides third (codes "=")).0 equals.0) equals.1 where
@@ -75,7 +84,8 @@ set_made text kind name third more f is kind-is e made =
       by_tree None at third-is given = absurd cc
       by_tree (Some t) at third-is given = subst (IsForm text) (some_is (a_set name t) f given) (set_words text name more t is (e ∙ ap (λ (k : List ℕ). joined (k ∷ name ∷ third ∷ more)) kind-is ∙ ap (λ (x : List ℕ). joined (codes "set" ∷ name ∷ x ∷ more)) third-is) at)
 
-kind_made : (a s : Bool) (text kind name third : List ℕ) (more : List (List ℕ)) (f : Form) → (a ≡ true → kind ≡ codes "array") → (s ≡ true → kind ≡ codes "set") → is_name name ≡ true → text ≡ joined (kind ∷ name ∷ third ∷ more)
+kind_made : (a s : Bool) (text kind name third : List ℕ) (more : List (List ℕ)) (f : Form) → (a ≡ true → kind ≡ codes "array")
+    → (s ≡ true → kind ≡ codes "set") → is_name name ≡ true → text ≡ joined (kind ∷ name ∷ third ∷ more)
     → cond a (array_form name third more) (cond s (set_form name third more) None) ≡ Some f → IsForm text f
 kind_made true s text kind name third more f array-is set-is is e made = array_made text kind name third more f is (array-is refl) e made
 kind_made false true text kind name third more f array-is set-is is e made = set_made text kind name third more f is (set-is refl) e made
@@ -112,7 +122,8 @@ pub record AreValues (limit : ℕ) (words : List (List ℕ)) (values : List ℕ)
   pub texts : words ≡ map decimal values
   pub small : AllByRecursion (λ v. v < limit) values
 
-more_values : (limit : ℕ) (w : List ℕ) (ws : List (List ℕ)) (n : ℕ) (vs values : List ℕ) → (w ≡ decimal n) × (n < limit) → AreValues limit ws vs → n ∷ vs ≡ values → AreValues limit (w ∷ ws) values
+more_values : (limit : ℕ) (w : List ℕ) (ws : List (List ℕ)) (n : ℕ) (vs values : List ℕ) → (w ≡ decimal n) × (n < limit) → AreValues limit ws vs
+    → n ∷ vs ≡ values → AreValues limit (w ∷ ws) values
 more_values limit w ws n vs values one more is = subst (AreValues limit (w ∷ ws)) is (record { texts = rw (one.0, more.texts) refl; small = (one.1, more.small) })
 
 map_some : {A B : Type 0} (f : A → B) (o : Option A) (y : B) → option_map f o ≡ Some y → (x : A) × (o ≡ Some x) × (f x ≡ y)
@@ -136,7 +147,8 @@ one_apart a b s e = elim (cases_lt a (b + s)) [
   | inr first ↦ inl first
 ]
 
-apart_found : (t : ElementType) (n addr : ℕ) (arrays : List WrittenArray) → list_any (λ a. share t n a.addr addr) arrays ≡ false → AllByRecursion (IsApart t n addr) arrays
+apart_found : (t : ElementType) (n addr : ℕ) (arrays : List WrittenArray) → list_any (λ a. share t n a.addr addr) arrays ≡ false
+    → AllByRecursion (IsApart t n addr) arrays
 apart_found t n addr [] e = tt
 apart_found t n addr (a ∷ more) e =
     let parts = or_parts (share t n a.addr addr) (list_any (λ a. share t n a.addr addr) more) e in
@@ -155,8 +167,11 @@ length-decimals : (values : List ℕ) → length (map decimal values) ≡ length
 length-decimals [] = refl
 length-decimals (v ∷ values) = ap suc (length-decimals values)
 
-array_says : (k : Written) (text name : List ℕ) (addr : ℕ) (words : List (List ℕ)) (values : List ℕ) (next : Written) → IsForm text (an_array name addr words) → length k.sets ≡ 0 → length k.arrays < 16 → is_there name k.arrays ≡ false → is_placed k.element k.count addr ≡ true
-    → length words ≤ k.count → AreValues (modulus k.element) words values → list_any (λ a. share k.element k.count a.addr addr) k.arrays ≡ false → with_written_array k (record { name = name; addr = addr; values = values }) ≡ next → SaysArray k text next
+array_says : (k : Written) (text name : List ℕ) (addr : ℕ) (words : List (List ℕ)) (values : List ℕ) (next : Written)
+    → IsForm text (an_array name addr words) → length k.sets ≡ 0 → length k.arrays < 16 → is_there name k.arrays ≡ false
+    → is_placed k.element k.count addr ≡ true
+    → length words ≤ k.count → AreValues (modulus k.element) words values → list_any (λ a. share k.element k.count a.addr addr) k.arrays ≡ false
+    → with_written_array k (record { name = name; addr = addr; values = values }) ≡ next → SaysArray k text next
 array_says k text name addr words values next form none room new placed few are apart is = record {
   array = record { name = name; addr = addr; values = values };
   is = record {
@@ -180,7 +195,8 @@ behind_found k name addr (Some values) next e =
     let g = guard_ok (list_any (λ a. share k.element k.count a.addr addr) k.arrays) Overlap (with_written_array k (record { name = name; addr = addr; values = values })) next e in
     (values, refl, g.0, g.1)
 
-array_found : (k : Written) (text name : List ℕ) (addr : ℕ) (words : List (List ℕ)) (next : Written) → IsForm text (an_array name addr words) → with_array k name addr words ≡ Ok next → SaysArray k text next
+array_found : (k : Written) (text name : List ℕ) (addr : ℕ) (words : List (List ℕ)) (next : Written) → IsForm text (an_array name addr words)
+    → with_array k name addr words ≡ Ok next → SaysArray k text next
 unfolding with_array
 array_found k text name addr words next form e =
     let a = refuse_ok (ltb 0 (length k.sets)) Syntax _ next e in
@@ -193,7 +209,8 @@ array_found k text name addr words next form e =
 
 -- ---- a line that sets an array
 
-there_first : (b : Bool) (name : List ℕ) (a : WrittenArray) (more : List WrittenArray) → (b ≡ true → a.name ≡ name) → (is_there name more ≡ true → IsThere more name) → (b || is_there name more) ≡ true → IsThere (a ∷ more) name
+there_first : (b : Bool) (name : List ℕ) (a : WrittenArray) (more : List WrittenArray) → (b ≡ true → a.name ≡ name)
+    → (is_there name more ≡ true → IsThere more name) → (b || is_there name more) ≡ true → IsThere (a ∷ more) name
 there_first true name a more is others e = inl (is refl)
 there_first false name a more is others e = inr (others e)
 
@@ -205,14 +222,16 @@ some_number : (o : Option ℕ) → is_some o ≡ true → (n : ℕ) × (o ≡ So
 some_number None e = absurd cc
 some_number (Some n) e = (n, refl)
 
-word_found : (named : Bool) (t : ElementType) (arrays : List WrittenArray) (w : List ℕ) → is_name w ≡ named → (not named || is_there w arrays) ≡ true → (named || is_some (number_below (modulus t) w)) ≡ true → IsOverArrays t arrays (word w)
+word_found : (named : Bool) (t : ElementType) (arrays : List WrittenArray) (w : List ℕ) → is_name w ≡ named
+    → (not named || is_there w arrays) ≡ true → (named || is_some (number_below (modulus t) w)) ≡ true → IsOverArrays t arrays (word w)
 word_found true t arrays w is known small = inl (there_found w arrays known)
 word_found false t arrays w is known small =
     let n = some_number (number_below (modulus t) w) small in
     let found = number_found (modulus t) w n.0 n.1 in
     inr (n.0, found.1, found.0)
 
-over_found : (t : ElementType) (arrays : List WrittenArray) (e : Tree) → knows arrays e ≡ true → in_range (modulus t) e ≡ true → IsOverArrays t arrays e
+over_found : (t : ElementType) (arrays : List WrittenArray) (e : Tree) → knows arrays e ≡ true → in_range (modulus t) e ≡ true
+    → IsOverArrays t arrays e
 over_found t arrays (word w) known small = word_found (is_name w) t arrays w refl known small
 over_found t arrays (apply o l r) known small =
     let k = and_parts (knows arrays l) (knows arrays r) known in
@@ -228,7 +247,8 @@ pub record SaysSet (k : Written) (text : List ℕ) (next : Written) : Type 0 whe
   pub room : length k.sets < 16
   pub some : 1 ≤ length k.arrays
 
-set_found : (k : Written) (text name : List ℕ) (t : Tree) (next : Written) → IsForm text (a_set name t) → with_set k name t ≡ Ok next → SaysSet k text next
+set_found : (k : Written) (text name : List ℕ) (t : Tree) (next : Written) → IsForm text (a_set name t) → with_set k name t ≡ Ok next
+    → SaysSet k text next
 unfolding with_set
 set_found k text name t next form e =
     let a = refuse_ok (eqb (length k.arrays) 0) Syntax _ next e in
@@ -249,7 +269,8 @@ set_found k text name t next form e =
 
 -- ---- a line of either form
 
-form_says : (k : Written) (text : List ℕ) (f : Option Form) (next : Written) → form_in text ≡ f → by_form k f ≡ Ok next → SaysArray k text next ⊎ SaysSet k text next
+form_says : (k : Written) (text : List ℕ) (f : Option Form) (next : Written) → form_in text ≡ f → by_form k f ≡ Ok next
+    → SaysArray k text next ⊎ SaysSet k text next
 form_says k text None next is e = absurd cc
 form_says k text (Some (an_array name addr words)) next is e = inl (array_found k text name addr words next (form_found text (an_array name addr words) is) e)
 form_says k text (Some (a_set name t)) next is e = inr (set_found k text name t next (form_found text (a_set name t) is) e)

@@ -1,5 +1,6 @@
 -- What is open, as the code holds it: the innermost at the end.
-use Rattle.std.proofs.Common.{◌≡◌, ℕ, ◌+◌, ◌<◌, ◌≤◌, ◌≢◌, Bool, true, false, cond, eqb, List, [], ◌∷◌, ◌++◌, length, get_or, drop, Option, Some, None, refl, sym, ap, subst, ◌∙◌, arith, add-one}
+use Rattle.std.proofs.Common.{◌≡◌, ℕ, ◌+◌, ◌<◌, ◌≤◌, ◌≢◌, Bool, true, false, cond, eqb, List, [], ◌∷◌, ◌++◌, length, get_or, drop, Option, Some}
+use Rattle.std.proofs.Common.{None, refl, sym, ap, subst, ◌∙◌, arith, add-one}
 use Rattle.std.specs.Prelude.{reverse, option_and_then, option_map, option_to_list}
 use Rattle.std.proofs.lemmas.List.{drop_more, drop_all, reverse-append, append-nil}
 use Rattle.std.proofs.lemmas.Bool.{ne_eqb, eq-eqb}
@@ -26,15 +27,18 @@ unfolding closed_sides
 closed_more ss brackets i lt = rw (drop_more brackets i 0 lt) refl
 
 -- a byte that is no bracket
-pub closed_other : (ss : List Side) (brackets : List ℕ) (i : ℕ) → i < length brackets → get_or brackets i 0 ≢ 41 → closed_sides ss (drop i brackets) ≡ None
+pub closed_other : (ss : List Side) (brackets : List ℕ) (i : ℕ) → i < length brackets → get_or brackets i 0 ≢ 41
+    → closed_sides ss (drop i brackets) ≡ None
 closed_other ss brackets i lt other = closed_more ss brackets i lt ∙ rw (ne_eqb _ _ other) refl
 
 -- a bracket that closes nothing
-pub closed_none : (ss : List Side) (brackets : List ℕ) (i : ℕ) → i < length brackets → get_or brackets i 0 ≡ 41 → close_side ss ≡ None → closed_sides ss (drop i brackets) ≡ None
+pub closed_none : (ss : List Side) (brackets : List ℕ) (i : ℕ) → i < length brackets → get_or brackets i 0 ≡ 41 → close_side ss ≡ None
+    → closed_sides ss (drop i brackets) ≡ None
 closed_none ss brackets i lt is none = closed_more ss brackets i lt ∙ rw (eq-eqb _ _ is, none) refl
 
 -- a bracket that closes one
-pub closed_next : (ss more : List Side) (brackets : List ℕ) (i : ℕ) → i < length brackets → get_or brackets i 0 ≡ 41 → close_side ss ≡ Some more → closed_sides ss (drop i brackets) ≡ closed_sides more (drop (i + 1) brackets)
+pub closed_next : (ss more : List Side) (brackets : List ℕ) (i : ℕ) → i < length brackets → get_or brackets i 0 ≡ 41 → close_side ss ≡ Some more
+    → closed_sides ss (drop i brackets) ≡ closed_sides more (drop (i + 1) brackets)
 closed_next ss more brackets i lt is one = closed_more ss brackets i lt ∙ rw (eq-eqb _ _ is, one) refl
 
 pub closed_end : (ss : List Side) (brackets : List ℕ) (i : ℕ) → length brackets ≤ i → closed_sides ss (drop i brackets) ≡ Some ss
@@ -65,12 +69,14 @@ some_words [] some = absurd (omega arith)
 some_words (b ∷ rest) some = subst HasWords (sym (words_cut rest)) tt
 
 -- words that no expression begins with, as the code finds them
-pub wrong_word : (ss : List Side) (n : ℕ) (text words : List (List ℕ)) (w : List ℕ) (ws : List (List ℕ)) → words ≡ w ∷ ws → shape_in ss w ≡ None → leaves_from ss n words ≡ leaves_from [] 0 text
+pub wrong_word : (ss : List Side) (n : ℕ) (text words : List (List ℕ)) (w : List ℕ) (ws : List (List ℕ)) → words ≡ w ∷ ws → shape_in ss w ≡ None
+    → leaves_from ss n words ≡ leaves_from [] 0 text
     → None ≡ option_map leaves (tree_in text)
 wrong_word ss n text words w ws is none so_far = sym (leaves_more ss n words w ws is ∙ rw none refl) ∙ so_far ∙ leaves_are text
 
 -- the last word
-pub last_word : (ss : List Side) (n : ℕ) (text words : List (List ℕ)) (w : List ℕ) (ws : List (List ℕ)) → words ≡ w ∷ ws → shape_in ss w ≡ Some None → ws ≡ [] → leaves_from ss n words ≡ leaves_from [] 0 text
+pub last_word : (ss : List Side) (n : ℕ) (text words : List (List ℕ)) (w : List ℕ) (ws : List (List ℕ)) → words ≡ w ∷ ws
+    → shape_in ss w ≡ Some None → ws ≡ [] → leaves_from ss n words ≡ leaves_from [] 0 text
     → Some (operations_behind n w + 1) ≡ option_map leaves (tree_in text)
 last_word ss n text words w ws is ends none so_far = sym (leaves_more ss n words w ws is ∙ rw (ends, none) refl) ∙ so_far ∙ leaves_are text
 
@@ -79,16 +85,19 @@ too_many n [] more some = absurd some
 too_many n (w ∷ ws) more some = refl
 
 -- a word behind the last
-pub words_left : (ss : List Side) (n : ℕ) (text words : List (List ℕ)) (w : List ℕ) (ws : List (List ℕ)) → words ≡ w ∷ ws → shape_in ss w ≡ Some None → HasWords ws → leaves_from ss n words ≡ leaves_from [] 0 text
+pub words_left : (ss : List Side) (n : ℕ) (text words : List (List ℕ)) (w : List ℕ) (ws : List (List ℕ)) → words ≡ w ∷ ws
+    → shape_in ss w ≡ Some None → HasWords ws → leaves_from ss n words ≡ leaves_from [] 0 text
     → None ≡ option_map leaves (tree_in text)
 words_left ss n text words w ws is ends some so_far = sym (leaves_more ss n words w ws is ∙ rw ends (too_many (operations_behind n w) ws (λ more. leaves_from more (operations_behind n w) ws) some)) ∙ so_far ∙ leaves_are text
 
 -- a word inside
-pub word_inside : (ss more : List Side) (n : ℕ) (text words : List (List ℕ)) (w : List ℕ) (ws : List (List ℕ)) → words ≡ w ∷ ws → shape_in ss w ≡ Some (Some more) → leaves_from ss n words ≡ leaves_from [] 0 text
+pub word_inside : (ss more : List Side) (n : ℕ) (text words : List (List ℕ)) (w : List ℕ) (ws : List (List ℕ)) → words ≡ w ∷ ws
+    → shape_in ss w ≡ Some (Some more) → leaves_from ss n words ≡ leaves_from [] 0 text
     → leaves_from more (operations_behind n w) ws ≡ leaves_from [] 0 text
 word_inside ss more n text words w ws is inside so_far = sym (leaves_more ss n words w ws is ∙ rw inside refl) ∙ so_far
 
 -- no word at all
-pub words_end : (ss : List Side) (n : ℕ) (text words : List (List ℕ)) → words ≡ [] → leaves_from ss n words ≡ leaves_from [] 0 text → None ≡ option_map leaves (tree_in text)
+pub words_end : (ss : List Side) (n : ℕ) (text words : List (List ℕ)) → words ≡ [] → leaves_from ss n words ≡ leaves_from [] 0 text
+    → None ≡ option_map leaves (tree_in text)
 unfolding leaves_from
 words_end ss n text words is so_far = sym (ap (leaves_from ss n) is) ∙ so_far ∙ leaves_are text

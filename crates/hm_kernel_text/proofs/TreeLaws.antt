@@ -1,5 +1,6 @@
 -- What is open, told apart by its sides alone, and trees read with no look at brackets.
-use Rattle.std.proofs.Common.{◌≡◌, ℕ, zero, suc, ◌+◌, ◌<◌, ◌≤◌, Bool, true, false, cond, eqb, List, [], ◌∷◌, ◌++◌, length, get_or, drop, map, Option, Some, None, refl, sym, ap, subst, ◌∙◌, arith, inl, inr}
+use Rattle.std.proofs.Common.{◌≡◌, ℕ, zero, suc, ◌+◌, ◌<◌, ◌≤◌, Bool, true, false, cond, eqb, List, [], ◌∷◌, ◌++◌, length, get_or, drop, map, Option}
+use Rattle.std.proofs.Common.{Some, None, refl, sym, ap, subst, ◌∙◌, arith, inl, inr}
 use Rattle.std.specs.Prelude.{option_and_then, option_map}
 use Rattle.std.proofs.lemmas.Bool.{cases_Bool}
 use Rattle.hm_text_base.specs.Spans.{span}
@@ -9,8 +10,10 @@ use Rattle.hm_kernel_text.specs.declared.shape.Side.{Side}
 use Rattle.hm_kernel_text.specs.declared.shape.Side.TheVariants.{First, Second}
 use Rattle.hm_kernel_text.specs.Trees.{Tree, word, apply, leaves}
 use Rattle.hm_kernel_text.specs.Words.{op_in}
-use Rattle.hm_kernel_text.specs.ReadTree.{Frame, first, second, Step, whole, part, close, closed, stands, is_leaf, leaf_step, open_step, step_in, tree_after, tree_from, tree_in}
-use Rattle.hm_kernel_text.specs.Shapes.{close_side, closed_sides, stands_side, opens, open_shape, leaf_shape, shape_in, operations_behind, leaves_after, leaves_from, tree_at}
+use Rattle.hm_kernel_text.specs.ReadTree.{Frame, first, second, Step, whole, part, close, closed, stands, is_leaf, leaf_step, open_step, step_in}
+use Rattle.hm_kernel_text.specs.ReadTree.{tree_after, tree_from, tree_in}
+use Rattle.hm_kernel_text.specs.Shapes.{close_side, closed_sides, stands_side, opens, open_shape, leaf_shape, shape_in, operations_behind}
+use Rattle.hm_kernel_text.specs.Shapes.{leaves_after, leaves_from, tree_at}
 
 -- ---- sides
 
@@ -35,7 +38,8 @@ test_map : {A B : Type 0} (b : Bool) (f : A → B) (x : Option A) (y : Option B)
 test_map true f x y e = e
 test_map false f x y e = refl
 
-map_then : {A B C : Type 0} (f : B → C) (g : A → Option B) (x : Option A) → option_map f (option_and_then g x) ≡ option_and_then (λ a. option_map f (g a)) x
+map_then : {A B C : Type 0} (f : B → C) (g : A → Option B) (x : Option A)
+    → option_map f (option_and_then g x) ≡ option_and_then (λ a. option_map f (g a)) x
 map_then f g None = refl
 map_then f g (Some a) = refl
 
@@ -51,15 +55,18 @@ stands_shape ([], t) = refl
 stands_shape (first o ∷ fs, t) = refl
 stands_shape (second o l ∷ fs, t) = refl
 
-both_shape : (x : Option (List Frame × Tree)) (y : Option (List Side)) → option_map (λ s. sides s.0) x ≡ y → option_map shape (option_and_then stands x) ≡ option_and_then stands_side y
+both_shape : (x : Option (List Frame × Tree)) (y : Option (List Side)) → option_map (λ s. sides s.0) x ≡ y
+    → option_map shape (option_and_then stands x) ≡ option_and_then stands_side y
 both_shape None y e = ap (option_and_then stands_side) e
 both_shape (Some s) y e = stands_shape s ∙ ap (option_and_then stands_side) e
 
-opened_shape : (fs : List Frame) (o : Option Op) → option_map shape (option_and_then (λ o. Some (part (first o ∷ fs))) o) ≡ option_and_then (λ o. Some (Some (First ∷ sides fs))) o
+opened_shape : (fs : List Frame) (o : Option Op)
+    → option_map shape (option_and_then (λ o. Some (part (first o ∷ fs))) o) ≡ option_and_then (λ o. Some (Some (First ∷ sides fs))) o
 opened_shape fs None = refl
 opened_shape fs (Some o) = refl
 
-cond_shape : (b : Bool) (x y : Option Step) (p q : Option (Option (List Side))) → option_map shape x ≡ p → option_map shape y ≡ q → option_map shape (cond b x y) ≡ cond b p q
+cond_shape : (b : Bool) (x y : Option Step) (p q : Option (Option (List Side))) → option_map shape x ≡ p → option_map shape y ≡ q
+    → option_map shape (cond b x y) ≡ cond b p q
 cond_shape true x y p q e f = e
 cond_shape false x y p q e f = f
 
@@ -76,7 +83,8 @@ abbrev pub Counts : ℕ → Step → Type 0
 Counts n (whole t) = leaves t ≡ n + 1
 Counts n (part fs) = room fs ≡ n
 
-closed_room : (cs : List ℕ) (fs : List Frame) (t : Tree) (s : List Frame × Tree) → closed fs t cs ≡ Some s → leaves s.1 + room s.0 ≡ leaves t + room fs
+closed_room : (cs : List ℕ) (fs : List Frame) (t : Tree) (s : List Frame × Tree) → closed fs t cs ≡ Some s
+    → leaves s.1 + room s.0 ≡ leaves t + room fs
 unfolding closed
 closed_room [] fs t s e = ap (λ (x : List Frame × Tree). leaves x.1 + room x.0) (sym (some_is (fs, t) s e))
 closed_room (c ∷ cs) [] t s e = let x = test_some (eqb c 41) None s e in absurd cc
@@ -112,7 +120,8 @@ counts_some : (n : ℕ) (s : Option Step) → ((u : Step) → s ≡ Some u → C
 counts_some n None more = tt
 counts_some n (Some u) more = more u refl
 
-after_step : (s : Option Step) (n : ℕ) (ws : List (List ℕ)) → ((gs : List Frame) → leaves_from (sides gs) (room gs) ws ≡ option_map leaves (tree_from gs ws)) → CountsSome n s
+after_step : (s : Option Step) (n : ℕ) (ws : List (List ℕ))
+    → ((gs : List Frame) → leaves_from (sides gs) (room gs) ws ≡ option_map leaves (tree_from gs ws)) → CountsSome n s
     → leaves_after (option_map shape s) n ws (λ ss. leaves_from ss n ws) ≡ option_map leaves (tree_after s ws (λ gs. tree_from gs ws))
 after_step None n ws more counts = refl
 after_step (Some (whole t)) n [] more counts = ap (λ (k : ℕ). let o : Option ℕ = Some k in o) (sym counts)
@@ -151,7 +160,8 @@ operations_more n w = by_opening (opens w) where
   by_opening true = omega arith
   by_opening false = omega arith
 
-after_room : (s : Option Step) (n : ℕ) (ws : List (List ℕ)) (u : Tree) → ((gs : List Frame) → tree_from gs ws ≡ Some u → room gs + 1 ≤ leaves u) → CountsSome n s → tree_after s ws (λ gs. tree_from gs ws) ≡ Some u → n + 1 ≤ leaves u
+after_room : (s : Option Step) (n : ℕ) (ws : List (List ℕ)) (u : Tree) → ((gs : List Frame) → tree_from gs ws ≡ Some u → room gs + 1 ≤ leaves u)
+    → CountsSome n s → tree_after s ws (λ gs. tree_from gs ws) ≡ Some u → n + 1 ≤ leaves u
 after_room None n ws u more counts e = absurd cc
 after_room (Some (whole t)) n [] u more counts e = omega (arith, ap leaves (some_is t u e))
 after_room (Some (whole t)) n (w ∷ ws) u more counts e = absurd cc
@@ -172,21 +182,25 @@ record Begins (n : ℕ) (fs : List Frame) (ws : List (List ℕ)) (u : Tree) : Ty
   at : tree_at n ws ≡ Some (tree, rest)
   resumes : resumed fs tree brackets rest ≡ Some u
 
-leaf_resumes : (b : Bool) (s : Option Step) (ws : List (List ℕ)) (more : List Frame → Option Tree) (u : Tree) → tree_after (cond b s None) ws more ≡ Some u → tree_after s ws more ≡ Some u
+leaf_resumes : (b : Bool) (s : Option Step) (ws : List (List ℕ)) (more : List Frame → Option Tree) (u : Tree)
+    → tree_after (cond b s None) ws more ≡ Some u → tree_after s ws more ≡ Some u
 leaf_resumes true s ws more u e = e
 leaf_resumes false s ws more u e = absurd cc
 
-op_resumes : (fs : List Frame) (o : Option Op) (ws : List (List ℕ)) (u : Tree) → tree_after (option_and_then (λ o. Some (part (first o ∷ fs))) o) ws (λ gs. tree_from gs ws) ≡ Some u
+op_resumes : (fs : List Frame) (o : Option Op) (ws : List (List ℕ)) (u : Tree)
+    → tree_after (option_and_then (λ o. Some (part (first o ∷ fs))) o) ws (λ gs. tree_from gs ws) ≡ Some u
     → (p : Op) × (o ≡ Some p) × (tree_from (first p ∷ fs) ws ≡ Some u)
 op_resumes fs None ws u e = absurd cc
 op_resumes fs (Some p) ws u e = (p, refl, e)
 
-bracket_none : (b : Bool) (ws : List (List ℕ)) (more : List Frame → Option Tree) (u : Tree) → tree_after (option_and_then stands (cond b None None)) ws more ≡ Some u → ⊥
+bracket_none : (b : Bool) (ws : List (List ℕ)) (more : List Frame → Option Tree) (u : Tree)
+    → tree_after (option_and_then stands (cond b None None)) ws more ≡ Some u → ⊥
 bracket_none true ws more u e = absurd cc
 bracket_none false ws more u e = absurd cc
 
 -- behind a first argument no bracket stands
-first_resumes : (fs : List Frame) (o : Op) (l : Tree) (cs : List ℕ) (ws : List (List ℕ)) (u : Tree) → resumed (first o ∷ fs) l cs ws ≡ Some u → tree_from (second o l ∷ fs) ws ≡ Some u
+first_resumes : (fs : List Frame) (o : Op) (l : Tree) (cs : List ℕ) (ws : List (List ℕ)) (u : Tree) → resumed (first o ∷ fs) l cs ws ≡ Some u
+    → tree_from (second o l ∷ fs) ws ≡ Some u
 unfolding closed
 first_resumes fs o l [] ws u e = e
 first_resumes fs o l (c ∷ cs) ws u e = absurd (bracket_none (eqb c 41) ws (λ gs. tree_from gs ws) u e)
@@ -196,16 +210,19 @@ record Closes (fs : List Frame) (t : Tree) (ws : List (List ℕ)) (u : Tree) : T
   brackets : List ℕ
   resumes : resumed fs t brackets ws ≡ Some u
 
-bracket_some : (b : Bool) (s : Option (List Frame × Tree)) (ws : List (List ℕ)) (more : List Frame → Option Tree) (u : Tree) → tree_after (option_and_then stands (cond b s None)) ws more ≡ Some u → tree_after (option_and_then stands s) ws more ≡ Some u
+bracket_some : (b : Bool) (s : Option (List Frame × Tree)) (ws : List (List ℕ)) (more : List Frame → Option Tree) (u : Tree)
+    → tree_after (option_and_then stands (cond b s None)) ws more ≡ Some u → tree_after (option_and_then stands s) ws more ≡ Some u
 bracket_some true s ws more u e = e
 bracket_some false s ws more u e = absurd cc
 
-second_resumes : (fs : List Frame) (o : Op) (l r : Tree) (cs : List ℕ) (ws : List (List ℕ)) (u : Tree) → resumed (second o l ∷ fs) r cs ws ≡ Some u → Closes fs (apply o l r) ws u
+second_resumes : (fs : List Frame) (o : Op) (l r : Tree) (cs : List ℕ) (ws : List (List ℕ)) (u : Tree) → resumed (second o l ∷ fs) r cs ws ≡ Some u
+    → Closes fs (apply o l r) ws u
 unfolding closed
 second_resumes fs o l r [] ws u e = absurd cc
 second_resumes fs o l r (c ∷ cs) ws u e = record { brackets = cs; resumes = bracket_some (eqb c 41) (closed fs (apply o l r) cs) ws (λ gs. tree_from gs ws) u e }
 
-begins_leaf : (n : ℕ) (fs : List Frame) (w : List ℕ) (ws : List (List ℕ)) (u : Tree) → opens w ≡ false → tree_after (leaf_step fs (span 41 w)) ws (λ gs. tree_from gs ws) ≡ Some u → Begins (suc n) fs (w ∷ ws) u
+begins_leaf : (n : ℕ) (fs : List Frame) (w : List ℕ) (ws : List (List ℕ)) (u : Tree) → opens w ≡ false
+    → tree_after (leaf_step fs (span 41 w)) ws (λ gs. tree_from gs ws) ≡ Some u → Begins (suc n) fs (w ∷ ws) u
 unfolding tree_at
 begins_leaf n fs w ws u is e = record {
   tree = word (span 41 w).0;
@@ -216,7 +233,8 @@ begins_leaf n fs w ws u is e = record {
 }
 
 begins_apply : (n : ℕ) (fs : List Frame) (w : List ℕ) (ws : List (List ℕ)) (u : Tree) (o : Op) (l r : Tree) (behind_left behind_right : List (List ℕ))
-    → opens w ≡ true → op_in (drop 1 w) ≡ Some o → tree_at n ws ≡ Some (l, behind_left) → tree_at n behind_left ≡ Some (r, behind_right) → Closes fs (apply o l r) behind_right u → Begins (suc n) fs (w ∷ ws) u
+    → opens w ≡ true → op_in (drop 1 w) ≡ Some o → tree_at n ws ≡ Some (l, behind_left) → tree_at n behind_left ≡ Some (r, behind_right)
+    → Closes fs (apply o l r) behind_right u → Begins (suc n) fs (w ∷ ws) u
 unfolding tree_at
 begins_apply n fs w ws u o l r behind_left behind_right is op left right closes = record {
   tree = apply o l r;
@@ -243,7 +261,8 @@ begins zero ws fs u e le = absurd (omega (arith, tree_room ws fs u e))
 begins (suc n) [] fs u e le = absurd cc
 begins (suc n) (w ∷ ws) fs u e le = begins_word n w ws fs u (opens w) refl le (λ gs vs. begins n vs gs u) e
 
-whole_begins : (n : ℕ) (ws : List (List ℕ)) (u t : Tree) (cs : List ℕ) (rest : List (List ℕ)) → tree_at n ws ≡ Some (t, rest) → resumed [] t cs rest ≡ Some u → tree_at n ws ≡ Some (u, [])
+whole_begins : (n : ℕ) (ws : List (List ℕ)) (u t : Tree) (cs : List ℕ) (rest : List (List ℕ)) → tree_at n ws ≡ Some (t, rest)
+    → resumed [] t cs rest ≡ Some u → tree_at n ws ≡ Some (u, [])
 unfolding closed
 whole_begins n ws u t [] [] at e = at ∙ ap (λ (t : Tree). let o : Option (Tree × List (List ℕ)) = Some (t, []) in o) (some_is t u e)
 whole_begins n ws u t [] (w ∷ rest) at e = absurd cc

@@ -19,5 +19,6 @@ behind_first : (text word rest : List ℕ) → 0 < length text → (word, rest) 
 behind_first [] word rest some e = absurd (omega arith)
 behind_first (b ∷ text) word rest some e = first_cut text word rest e
 
-pub next_cut : (text word rest : List ℕ) → 0 < length text → (word, rest) ≡ span 32 (take (length text - 1) (drop 1 text)) → words_behind text ≡ word ∷ words_behind rest
+pub next_cut : (text word rest : List ℕ) → 0 < length text → (word, rest) ≡ span 32 (take (length text - 1) (drop 1 text))
+    → words_behind text ≡ word ∷ words_behind rest
 next_cut text word rest some e = behind_first text word rest some (e ∙ ap (λ (s : List ℕ). span 32 s) (take_rest text 1))

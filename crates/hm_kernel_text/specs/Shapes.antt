@@ -1,5 +1,6 @@
 -- How an expression is told apart from other texts with no tree in hand: by the sides of what is open alone.
-use Rattle.std.specs.Prelude.{ℕ, zero, suc, Bool, true, false, ◌+◌, ◌||◌, List, [], ◌∷◌, drop, slice_index, Option, Some, None, option_and_then, option_map, ◌==◌, if◌then◌else◌}
+use Rattle.std.specs.Prelude.{ℕ, zero, suc, Bool, true, false, ◌+◌, ◌||◌, List, [], ◌∷◌, drop, slice_index, Option, Some, None, option_and_then}
+use Rattle.std.specs.Prelude.{option_map, ◌==◌, if◌then◌else◌}
 use Rattle.hm_text_base.specs.Spans.{span}
 use Rattle.hm_kernel_lang.specs.declared.text.Op.{Op}
 use Rattle.hm_kernel_text.specs.Words.{op_in, words_of}
@@ -66,5 +67,6 @@ unfoldable pub tree_at : ℕ → List (List ℕ) → Option (Tree × List (List 
 tree_at zero ws = None
 tree_at (suc n) [] = None
 tree_at (suc n) (w ∷ ws) =
-    if opens w then option_and_then (λ o. option_and_then (λ l. option_and_then (λ r. Some (apply o l.0 r.0, r.1)) (tree_at n l.1)) (tree_at n ws)) (op_in (drop 1 w))
+    if opens w then
+    option_and_then (λ o. option_and_then (λ l. option_and_then (λ r. Some (apply o l.0 r.0, r.1)) (tree_at n l.1)) (tree_at n ws)) (op_in (drop 1 w))
     else Some (word (span 41 w).0, ws)

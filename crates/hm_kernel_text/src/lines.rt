@@ -1,11 +1,13 @@
 //! Lines of arrays, and lines that set arrays.
 
-ghost use Rattle.std.specs.Prelude.{◌≡◌, ◌<◌, ◌≤◌, All, IfOk, IsSomeAnd, OnOk, MatchOption, None, Some, [], length, map, nat_le, option_map, if◌then◌else◌};
+ghost use Rattle.std.specs.Prelude.{◌≡◌, ◌<◌, ◌≤◌, All, IfOk, IsSomeAnd, OnOk, MatchOption, None, Some, [], length, map, nat_le, option_map};
+ghost use Rattle.std.specs.Prelude.{if◌then◌else◌};
 ghost use Rattle.std.specs.List.{list_all, list_any};
 ghost use Rattle.hm_kernel_lang.specs.Language.{bytes};
 ghost use Rattle.hm_kernel_lang.specs.Texts.{IsSet};
 ghost use Rattle.hm_kernel_text.specs.Words.{is_name, is_numeral, words_behind};
-ghost use Rattle.hm_kernel_text.specs.ReadLine.{array_form, bounded_values, by_form, form_in, form_of, is_placed, line_in, set_form, share, values_in, with_array, with_set, with_written_array, with_written_set};
+ghost use Rattle.hm_kernel_text.specs.ReadLine.{array_form, bounded_values, by_form, form_in, form_of, is_placed, line_in, set_form, share};
+ghost use Rattle.hm_kernel_text.specs.ReadLine.{values_in, with_array, with_set, with_written_array, with_written_set};
 ghost use Rattle.hm_kernel_text.specs.ReadFile.{Gives, on_line};
 ghost use Rattle.hm_kernel_text.specs.ReadTree.{tree_in};
 ghost use Rattle.hm_kernel_text.specs.Trees.{leaves};
@@ -58,7 +60,8 @@ fn bytes(element: ElementType) -> u64
 /// A line in parts; None where it has fewer words, or the second is no name.
 #[tactic(auto, unfolding(crate::specs::ReadLine::form_in))]
 fn parts_of(text: &[u8]) -> Option<Parts<'_>>
-    ensures form { MatchOption result (form_in text.now ≡ None) (λ p. form_in text.now ≡ form_of p.kind.now p.name.now p.third.now (words_behind p.more.now)) }
+    ensures form { MatchOption result (form_in text.now ≡ None)
+        (λ p. form_in text.now ≡ form_of p.kind.now p.name.now p.third.now (words_behind p.more.now)) }
 {
     let (kind, rest) = first_word(text);
     if rest.is_empty() {
@@ -131,7 +134,8 @@ fn read_values(
     most: u32,
     text: &[u8],
 ) -> Result<Option<Vec<u32>>, OutOfMemory>
-    ensures value { IfOk result (λ v. option_map (λ values. values.items) v ≡ (if nat_le (length (words_behind text.now)) most then values_in limit (words_behind text.now) else None)) }
+    ensures value { IfOk result (λ v. option_map (λ values. values.items) v
+        ≡ (if nat_le (length (words_behind text.now)) most then values_in limit (words_behind text.now) else None)) }
 {
     let mut values = Vec::new(alloc);
     let mut rest = text;
@@ -182,7 +186,8 @@ fn new_array(
 ) -> Result<Array, KernelErr>
     requires few { length x.now.arrays.items ≤ 16 }
     ensures none { IfOk result (λ _. x.now.lines.items ≡ []) }
-    ensures read { Gives (λ a. with_written_array (written x.now) (array_written a)) result (on_line line (with_array (written x.now) said.entry.name.now addr (words_behind said.entry.more.now))) }
+    ensures read { Gives (λ a. with_written_array (written x.now) (array_written a)) result
+        (on_line line (with_array (written x.now) said.entry.name.now addr (words_behind said.entry.more.now))) }
 {
     if !x.lines.is_empty() {
         return Err(refused(line, KernelKind::Syntax));
@@ -207,7 +212,8 @@ fn new_array(
 fn read_array(alloc: Global, x: &Text, said: Parts<'_>, line: u32) -> Result<Array, KernelErr>
     requires few { length x.now.arrays.items ≤ 16 }
     ensures none { IfOk result (λ _. x.now.lines.items ≡ []) }
-    ensures read { Gives (λ a. with_written_array (written x.now) (array_written a)) result (on_line line (by_form (written x.now) (array_form said.entry.name.now said.entry.third.now (words_behind said.entry.more.now)))) }
+    ensures read { Gives (λ a. with_written_array (written x.now) (array_written a)) result
+        (on_line line (by_form (written x.now) (array_form said.entry.name.now said.entry.third.now (words_behind said.entry.more.now)))) }
 {
     if !are_numerals(said.more) {
         return Err(refused(line, KernelKind::Syntax));
@@ -242,7 +248,8 @@ fn new_set(
     requires some { 1 ≤ length x.now.arrays.items }
     requires room { length x.now.lines.items < 16 }
     requires short { leaves (tree_of tree.now) ≤ 64 }
-    ensures read { Gives (λ l. with_written_set (written x.now) (set_written x.now.arrays.items l)) result (on_line line (with_set (written x.now) name.now (tree_of tree.now))) }
+    ensures read { Gives (λ l. with_written_set (written x.now) (set_written x.now.arrays.items l)) result
+        (on_line line (with_set (written x.now) name.now (tree_of tree.now))) }
     ensures set { IfOk result (IsSet x.now.element (length x.now.arrays.items)) }
 {
     let Some(array) = position(&x.arrays, name) else {
@@ -265,7 +272,8 @@ fn new_set(
 #[tactic(auto, unfolding(crate::specs::ReadLine::with_set))]
 fn read_set(alloc: Global, x: &Text, said: Parts<'_>, line: u32) -> Result<Line, KernelErr>
     requires few { length x.now.arrays.items ≤ 16 }
-    ensures read { Gives (λ l. with_written_set (written x.now) (set_written x.now.arrays.items l)) result (on_line line (by_form (written x.now) (set_form said.entry.name.now said.entry.third.now (words_behind said.entry.more.now)))) }
+    ensures read { Gives (λ l. with_written_set (written x.now) (set_written x.now.arrays.items l)) result
+        (on_line line (by_form (written x.now) (set_form said.entry.name.now said.entry.third.now (words_behind said.entry.more.now)))) }
     ensures set { IfOk result (IsSet x.now.element (length x.now.arrays.items)) }
 {
     if said.third != b"=".as_slice() {

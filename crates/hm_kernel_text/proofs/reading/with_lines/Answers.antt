@@ -3,7 +3,8 @@ use Rattle.std.proofs.lemmas.Result.{err_from_is_err_and}
 use Rattle.hm_text_base.specs.Spans.{lines_of}
 use Rattle.hm_text_base.proofs.LineLaws.{some_lines}
 use Rattle.hm_kernel_text.specs.Held.{written}
-use Rattle.hm_kernel_text.proofs.FileSteps.{ended_none, ended_some, ends_line, fails, fails_line, goes_on, grows, is_done, all_lines, length-arrays, length-sets}
+use Rattle.hm_kernel_text.proofs.FileSteps.{ended_none, ended_some, ends_line, fails, fails_line, goes_on, grows, is_done, all_lines, length-arrays}
+use Rattle.hm_kernel_text.proofs.FileSteps.{length-sets}
 use Rattle.hm_kernel_text.proofs.reading.with_lines.Goals as goal
 
 pub returns-in_err-said-clause-read : goal.returns-in_err-said-clause-read
