@@ -1,19 +1,18 @@
 -- What is written is read: lines, and all of a text.
-use Rattle.std.proofs.Common.{◌≡◌, ◌≢◌, ℕ, zero, suc, ◌+◌, ◌*◌, ◌%◌, ◌^◌, ◌<◌, ◌≤◌, Bool, true, false, cond, eqb, leb, ltb, List, [], ◌∷◌, ◌++◌}
-use Rattle.std.proofs.Common.{length, get_or, drop, map, Option, Some, None, Result, Ok, Err, refl, sym, ap, subst, ◌∙◌, arith, inl, inr}
+use Rattle.std.proofs.Common.{◌≡◌, ◌≢◌, ℕ, suc, ◌+◌, ◌*◌, ◌%◌, ◌^◌, ◌<◌, ◌≤◌, Bool, true, false, eqb, leb, ltb, List, [], ◌∷◌, ◌++◌}
+use Rattle.std.proofs.Common.{length, map, Some, Result, Ok, refl, sym, ap, subst, ◌∙◌, arith, inl, inr}
 use Rattle.std.proofs.Common.{append_assoc}
-use Rattle.std.specs.Prelude.{◌⊎◌, option_map, codes, decimal, bytes_eq, is_none, is_some, not, ◌&&◌, ◌||◌}
+use Rattle.std.specs.Prelude.{◌⊎◌, codes, decimal, bytes_eq, is_none, not, ◌&&◌, ◌||◌}
 use Rattle.std.specs.Char.{is_ascii_alphanumeric, is_ascii_digit, is_ascii_lowercase}
-use Rattle.std.specs.List.{AllByRecursion, flat_map, join_with_byte, list_all, list_any}
+use Rattle.std.specs.List.{AllByRecursion, list_all, list_any}
 use Rattle.std.proofs.lemmas.Bool.{eq-eqb, ne_eqb, le-leb, le-ltb, lt-ltb, and_parts}
 use Rattle.std.proofs.lemmas.Bool.Decides.{nat_tests}
 use Rattle.std.proofs.lemmas.List.{append-nil, length_push}
 use Rattle.std.proofs.lemmas.Slice.Eq.{bytes_eq-Decides}
 use Rattle.hm_base.specs.Image.{sram_start, sram_size}
 use Rattle.hm_text_base.specs.Reading.{◌>>=◌}
-use Rattle.hm_text_base.specs.Spans.{Lacks, line, lines_of}
+use Rattle.hm_text_base.specs.Spans.{Lacks, lines_of}
 use Rattle.hm_text_base.specs.Texts.{hex8}
-use Rattle.hm_text_base.specs.Numbers.{hex8_in, word_in}
 use Rattle.hm_text_base.proofs.LineLaws.{lines_again}
 use Rattle.hm_text_base.proofs.NumberLaws.{hex8_again, hex8_lacks, word_again}
 use Rattle.hm_text_base.proofs.SpanLaws.{Lacks_append, Lacks_from_test, split_join}
@@ -27,15 +26,14 @@ use Rattle.hm_kernel_text.specs.declared.errors.KernelKind.{KernelKind}
 use Rattle.hm_kernel_text.specs.declared.errors.KernelErr.{KernelErr}
 use Rattle.hm_kernel_text.specs.Trees.{Tree, word, apply, leaves, op_text, tree_need, tree_text}
 use Rattle.hm_kernel_text.specs.Words.{op_in, is_name, is_numeral, number_below, words_of}
-use Rattle.hm_kernel_text.specs.ReadTree.{is_leaf, tree_in}
-use Rattle.hm_kernel_text.specs.Written.{WrittenArray, WrittenSet, Written, HasOtherName, IsApart, IsNewArray, AreArrays, IsThere, IsNumber}
+use Rattle.hm_kernel_text.specs.Written.{WrittenArray, WrittenSet, Written, HasOtherName, IsApart, IsNewArray, AreArrays, IsThere}
 use Rattle.hm_kernel_text.specs.Written.{IsOverArrays, IsWrittenSet, IsWritten, IsKernel, array_text, set_text, header_text, type_text, length_text}
 use Rattle.hm_kernel_text.specs.Written.{kernel_lines, kernel_text}
-use Rattle.hm_kernel_text.specs.ReadLine.{Form, an_array, a_set, by_form, form_from, form_in, in_range, is_placed, is_there, knows, line_in, share}
+use Rattle.hm_kernel_text.specs.ReadLine.{an_array, a_set, by_form, form_from, form_in, in_range, is_placed, is_there, knows, line_in, share}
 use Rattle.hm_kernel_text.specs.ReadLine.{values_in, with_array, with_set, with_written_array, with_written_set}
-use Rattle.hm_kernel_text.specs.ReadFile.{count_in, ended, first_written, kernel_in, length_in, lines_in, on_line, type_in}
+use Rattle.hm_kernel_text.specs.ReadFile.{first_written, kernel_in, length_in, lines_in, on_line, type_in}
 use Rattle.hm_kernel_text.proofs.FoundLaws.{IsLeafy, joined}
-use Rattle.hm_kernel_text.proofs.AgainWords.{IsWord, leaf_word, lacks_all, numeral_again, words_front, ends, goes, tree_again}
+use Rattle.hm_kernel_text.proofs.AgainWords.{IsWord, leaf_word, lacks_all, numeral_again, words_front, goes, tree_again}
 
 -- ---- numbers
 

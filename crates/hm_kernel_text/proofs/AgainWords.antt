@@ -1,22 +1,22 @@
 -- What is written is read: words and expressions.
-use Rattle.std.proofs.Common.{◌≡◌, ◌≢◌, ℕ, zero, suc, ◌+◌, ◌-◌, ◌*◌, ◌^◌, ◌<◌, ◌≤◌, Bool, true, false, cond, eqb, ltb, List, [], ◌∷◌, ◌++◌, length}
-use Rattle.std.proofs.Common.{get_or, drop, map, Option, Some, None, refl, sym, ap, subst, ◌∙◌, arith, append_assoc}
-use Rattle.std.specs.Prelude.{option_and_then, codes, decimal, not, is_none, ◌&&◌, ◌||◌}
+use Rattle.std.proofs.Common.{◌≡◌, ◌≢◌, ℕ, ◌+◌, ◌-◌, ◌*◌, ◌^◌, ◌<◌, Bool, true, false, cond, eqb, ltb, List, [], ◌∷◌, ◌++◌, length}
+use Rattle.std.proofs.Common.{get_or, Option, Some, None, refl, sym, ap, ◌∙◌, arith, append_assoc}
+use Rattle.std.specs.Prelude.{option_and_then, decimal, not, is_none, ◌&&◌, ◌||◌}
 use Rattle.std.specs.Char.{is_ascii_alphanumeric, is_ascii_digit, is_ascii_lowercase}
 use Rattle.std.specs.List.{list_all}
-use Rattle.std.proofs.lemmas.Bool.{cases_Bool, eqb-true, eqb-false, ne_eqb, eq-eqb, or_parts, and_parts, not-true}
+use Rattle.std.proofs.lemmas.Bool.{or_parts, and_parts}
 use Rattle.std.proofs.lemmas.Bool.Decides.{nat_tests}
 use Rattle.std.proofs.lemmas.List.{append-nil}
 use Rattle.hm_text_base.specs.Spans.{span, Lacks}
-use Rattle.hm_text_base.specs.Numbers.{digits_in, digits_up_to, word_in}
+use Rattle.hm_text_base.specs.Numbers.{digits_in, digits_up_to}
 use Rattle.hm_text_base.proofs.NumberLaws.{word_again}
 use Rattle.hm_text_base.proofs.SpanLaws.{span_all, span_at, Lacks_append}
 use Rattle.hm_text_base.proofs.Steps.{and_then_some, guard_some, test_some}
 use Rattle.hm_kernel_lang.specs.declared.text.Op.{Op}
 use Rattle.hm_kernel_lang.specs.declared.text.Op.TheVariants as op
 use Rattle.hm_kernel_text.specs.Trees.{Tree, word, apply, op_text, tree_text}
-use Rattle.hm_kernel_text.specs.Words.{op_in, is_name, is_numeral, words_of, words_behind}
-use Rattle.hm_kernel_text.specs.ReadTree.{Frame, first, second, Step, whole, part, closed, stands, is_leaf, leaf_step, open_step, step_in}
+use Rattle.hm_kernel_text.specs.Words.{op_in, is_name, is_numeral, words_of}
+use Rattle.hm_kernel_text.specs.ReadTree.{Frame, first, second, Step, part, closed, stands, is_leaf, step_in}
 use Rattle.hm_kernel_text.specs.ReadTree.{tree_after, tree_from, tree_in}
 use Rattle.hm_kernel_text.proofs.WordSteps.{words_cut}
 use Rattle.hm_kernel_text.proofs.FoundLaws.{IsLeafy}

@@ -1,13 +1,12 @@
 -- A text that is read is written so.
-use Rattle.std.proofs.Common.{◌≡◌, ◌≢◌, ℕ, zero, suc, ◌+◌, ◌<◌, ◌≤◌, Bool, true, false, cond, eqb, List, [], ◌∷◌, ◌++◌, length, drop, map, Option}
+use Rattle.std.proofs.Common.{◌≡◌, ℕ, ◌+◌, ◌≤◌, Bool, true, false, cond, eqb, List, [], ◌∷◌, ◌++◌, length, drop, map, Option}
 use Rattle.std.proofs.Common.{Some, None, Result, Ok, Err, refl, sym, ap, subst, ◌∙◌, arith, inl, inr, append_assoc}
-use Rattle.std.specs.Prelude.{◌⊎◌, codes, decimal, bytes_eq, nat_eq, ok_or}
+use Rattle.std.specs.Prelude.{◌⊎◌, codes, bytes_eq, nat_eq, ok_or}
 use Rattle.std.specs.List.{AllByRecursion, flat_map, starts_with}
 use Rattle.std.proofs.lemmas.Bool.{eqb-false}
 use Rattle.std.proofs.lemmas.Bool.Decides.{Decides-eqb}
 use Rattle.std.proofs.lemmas.List.{append-nil, length_push}
 use Rattle.std.proofs.lemmas.Slice.Eq.{bytes_eq-Decides, starts_is}
-use Rattle.hm_text_base.specs.Reading.{◌>>=◌}
 use Rattle.hm_text_base.specs.Spans.{line, Lines, lines_of}
 use Rattle.hm_text_base.proofs.LineLaws.{whole, lines_whole}
 use Rattle.hm_text_base.proofs.Steps.{bind_ok, ok_or_found, ok_is, some_is, guard_ok}
@@ -15,13 +14,12 @@ use Rattle.hm_kernel_lang.specs.declared.text.ElementType.{ElementType}
 use Rattle.hm_kernel_lang.specs.declared.text.ElementType.TheVariants.{U8, S8, U16, S16, U32, S32}
 use Rattle.hm_kernel_text.specs.declared.errors.KernelKind.{KernelKind}
 use Rattle.hm_kernel_text.specs.declared.errors.KernelKind.TheVariants.{Syntax, Range}
-use Rattle.hm_kernel_text.specs.declared.errors.KernelErr.{KernelErr}
 use Rattle.hm_kernel_text.specs.declared.errors.KernelErr.TheVariants as refusals
 use Rattle.hm_kernel_text.specs.Words.{is_numeral, number_below}
-use Rattle.hm_kernel_text.specs.Written.{WrittenArray, WrittenSet, Written, AreArrays, IsWrittenSet, IsWritten, IsKernel, array_text, set_text}
-use Rattle.hm_kernel_text.specs.Written.{header_text, type_text, length_text, kernel_lines, kernel_text}
+use Rattle.hm_kernel_text.specs.Written.{WrittenArray, WrittenSet, Written, AreArrays, IsWrittenSet, IsKernel, array_text, set_text}
+use Rattle.hm_kernel_text.specs.Written.{header_text, type_text, length_text, kernel_text}
 use Rattle.hm_kernel_text.specs.ReadLine.{line_in, with_written_array, with_written_set}
-use Rattle.hm_kernel_text.specs.ReadFile.{count_in, ended, first_written, kernel_in, length_in, line_at, lines_in, on_line, type_in}
+use Rattle.hm_kernel_text.specs.ReadFile.{count_in, first_written, kernel_in, length_in, line_at, lines_in, on_line, type_in}
 use Rattle.hm_kernel_text.proofs.NameSteps.{number_found}
 use Rattle.hm_kernel_text.proofs.FoundLines.{SaysArray, SaysSet, line_found, some_length}
 use Rattle.hm_kernel_text.proofs.FileSteps.{on_line_found}

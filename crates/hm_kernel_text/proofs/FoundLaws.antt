@@ -1,25 +1,20 @@
 -- What is read is written so: words, trees and lines.
-use Rattle.std.proofs.Common.{◌≡◌, ◌≢◌, ℕ, zero, suc, ◌+◌, ◌-◌, ◌*◌, ◌%◌, ◌<◌, ◌≤◌, Bool, true, false, cond, eqb, leb, ltb, List, [], ◌∷◌, ◌++◌}
-use Rattle.std.proofs.Common.{length, get_or, drop, map, Option, Some, None, Result, Ok, Err, refl, sym, ap, subst, ◌∙◌, arith, inl, inr}
+use Rattle.std.proofs.Common.{◌≡◌, ℕ, Bool, true, false, cond, eqb, List, [], ◌∷◌, ◌++◌}
+use Rattle.std.proofs.Common.{get_or, drop, Option, Some, None, refl, sym, ap, subst, ◌∙◌, arith}
 use Rattle.std.proofs.Common.{append_assoc}
-use Rattle.std.specs.Prelude.{◌⊎◌, option_and_then, option_map, codes, decimal, bytes_eq, is_some, not, ◌&&◌, ◌||◌}
-use Rattle.std.specs.List.{AllByRecursion, join_with_byte, list_all, list_any, slice_split}
-use Rattle.std.proofs.lemmas.Bool.{cases_Bool, eqb-true, eqb-false, ltb-false, or_parts, and_parts}
-use borrow.Author.Tests.{ltb-true, leb-true}
+use Rattle.std.specs.Prelude.{option_and_then, codes, bytes_eq}
+use Rattle.std.specs.List.{join_with_byte}
+use Rattle.std.proofs.lemmas.Bool.{eqb-true}
 use Rattle.std.proofs.lemmas.List.{append-nil}
-use Rattle.std.proofs.lemmas.List.Splits.{join_with_byte-slice_split}
 use Rattle.std.proofs.lemmas.Slice.Eq.{bytes_eq-Decides}
 use Rattle.hm_text_base.specs.Spans.{span}
-use Rattle.hm_text_base.specs.Texts.{hex8}
-use Rattle.hm_text_base.specs.Numbers.{hex8_in}
-use Rattle.hm_text_base.proofs.NumberLaws.{hex8_found}
 use Rattle.hm_text_base.proofs.SpanLaws.{span_parts}
-use Rattle.hm_text_base.proofs.Steps.{and_then_some, guard_some, test_some, some_is}
+use Rattle.hm_text_base.proofs.Steps.{and_then_some, test_some, some_is}
 use Rattle.hm_kernel_lang.specs.declared.text.Op.{Op}
 use Rattle.hm_kernel_lang.specs.declared.text.Op.TheVariants as op
 use Rattle.hm_kernel_text.specs.Trees.{Tree, word, apply, op_text, tree_text}
-use Rattle.hm_kernel_text.specs.Words.{op_in, words_of}
-use Rattle.hm_kernel_text.specs.ReadTree.{Frame, first, second, Step, whole, part, close, closed, stands, is_leaf, leaf_step, open_step, step_in}
+use Rattle.hm_kernel_text.specs.Words.{op_in}
+use Rattle.hm_kernel_text.specs.ReadTree.{Frame, first, second, Step, whole, part, closed, stands, is_leaf, leaf_step, open_step, step_in}
 use Rattle.hm_kernel_text.specs.ReadTree.{tree_after, tree_from, tree_in}
 
 -- ---- operations

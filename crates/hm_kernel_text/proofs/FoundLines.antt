@@ -1,12 +1,11 @@
 -- What is read is written so: lines.
-use Rattle.std.proofs.Common.{◌≡◌, ◌≢◌, ℕ, zero, suc, ◌+◌, ◌-◌, ◌*◌, ◌%◌, ◌<◌, ◌≤◌, Bool, true, false, cond, eqb, leb, ltb, List, [], ◌∷◌, ◌++◌}
-use Rattle.std.proofs.Common.{length, get_or, drop, map, Option, Some, None, Result, Ok, Err, refl, sym, ap, subst, ◌∙◌, arith, inl, inr}
-use Rattle.std.proofs.Common.{append_assoc}
-use Rattle.std.specs.Prelude.{◌⊎◌, option_and_then, option_map, codes, decimal, bytes_eq, is_some, not, ◌&&◌, ◌||◌}
-use Rattle.std.specs.List.{AllByRecursion, join_with_byte, list_all, list_any}
-use Rattle.std.proofs.lemmas.Bool.{cases_Bool, eqb-true, eqb-false, ltb-false, or_parts, and_parts, cases_lt, lt-ltb}
+use Rattle.std.proofs.Common.{◌≡◌, ◌≢◌, ℕ, zero, suc, ◌+◌, ◌*◌, ◌%◌, ◌<◌, ◌≤◌, Bool, true, false, cond, eqb, leb, ltb, List, [], ◌∷◌, ◌++◌}
+use Rattle.std.proofs.Common.{length, map, Option, Some, None, Result, Ok, Err, refl, sym, ap, subst, ◌∙◌, arith, inl, inr}
+use Rattle.std.specs.Prelude.{◌⊎◌, option_map, codes, decimal, bytes_eq, is_some, not, ◌&&◌, ◌||◌}
+use Rattle.std.specs.List.{AllByRecursion, list_all, list_any}
+use Rattle.std.proofs.lemmas.Bool.{eqb-true, eqb-false, ltb-false, or_parts, and_parts, cases_lt, lt-ltb}
 use Rattle.std.proofs.lemmas.Bool.Decides.{nat_tests}
-use borrow.Author.Tests.{ltb-true, leb-true}
+use borrow.Author.Tests.{leb-true}
 use Rattle.std.proofs.lemmas.List.Splits.{join_with_byte-slice_split}
 use Rattle.std.proofs.lemmas.Slice.Eq.{bytes_eq-Decides}
 use Rattle.hm_base.specs.Image.{sram_start, sram_size}
@@ -21,14 +20,14 @@ use Rattle.hm_kernel_text.specs.declared.errors.KernelKind.{KernelKind}
 use Rattle.hm_kernel_text.specs.declared.errors.KernelKind.TheVariants.{Syntax, Large, Name, Range, Overlap, Deep}
 use Rattle.hm_kernel_text.specs.Trees.{Tree, word, apply, leaves, tree_need, tree_text}
 use Rattle.hm_kernel_text.specs.Words.{is_name, is_numeral, number_below, words_of}
-use Rattle.hm_kernel_text.specs.ReadTree.{is_leaf, tree_from, tree_in}
-use Rattle.hm_kernel_text.specs.Written.{WrittenArray, WrittenSet, Written, HasOtherName, IsApart, IsNewArray, IsThere, IsNumber, IsOverArrays}
+use Rattle.hm_kernel_text.specs.ReadTree.{tree_from, tree_in}
+use Rattle.hm_kernel_text.specs.Written.{WrittenArray, WrittenSet, Written, HasOtherName, IsApart, IsNewArray, IsThere, IsOverArrays}
 use Rattle.hm_kernel_text.specs.Written.{IsWrittenSet, array_text, set_text}
 use Rattle.hm_kernel_text.specs.ReadLine.{Form, an_array, a_set, array_form, behind_array, bounded_values, by_form, form_from, form_in, form_of}
 use Rattle.hm_kernel_text.specs.ReadLine.{in_range, is_placed, is_there, knows, line_in, set_form, share, values_in, with_array, with_set}
 use Rattle.hm_kernel_text.specs.ReadLine.{with_written_array, with_written_set}
 use Rattle.hm_kernel_text.proofs.NameSteps.{number_found}
-use Rattle.hm_kernel_text.proofs.FoundLaws.{IsLeafy, IsTree, joined, tree_found}
+use Rattle.hm_kernel_text.proofs.FoundLaws.{IsLeafy, joined, tree_found}
 
 -- ---- tests that refuse
 

@@ -1,6 +1,6 @@
 -- What is open, as the code holds it: the innermost at the end.
-use Rattle.std.proofs.Common.{◌≡◌, ℕ, ◌+◌, ◌<◌, ◌≤◌, ◌≢◌, Bool, true, false, cond, eqb, List, [], ◌∷◌, ◌++◌, length, get_or, drop, Option, Some}
-use Rattle.std.proofs.Common.{None, refl, sym, ap, subst, ◌∙◌, arith, add-one}
+use Rattle.std.proofs.Common.{◌≡◌, ℕ, ◌+◌, ◌<◌, ◌≤◌, ◌≢◌, cond, eqb, List, [], ◌∷◌, ◌++◌, length, get_or, drop, Option, Some}
+use Rattle.std.proofs.Common.{None, refl, sym, ap, subst, ◌∙◌, arith}
 use Rattle.std.specs.Prelude.{reverse, option_and_then, option_map, option_to_list}
 use Rattle.std.proofs.lemmas.List.{drop_more, drop_all, reverse-append, append-nil}
 use Rattle.std.proofs.lemmas.Bool.{ne_eqb, eq-eqb}
@@ -10,7 +10,6 @@ use Rattle.hm_kernel_text.specs.ReadTree.{tree_in}
 use Rattle.hm_kernel_text.proofs.WordSteps.{words_cut}
 use Rattle.hm_kernel_text.proofs.TreeLaws.{leaves_are}
 use Rattle.hm_kernel_text.specs.declared.shape.Side.{Side}
-use Rattle.hm_kernel_text.specs.declared.shape.Side.TheVariants.{First, Second}
 use Rattle.hm_kernel_text.specs.Shapes.{close_side, closed_sides, leaves_after, leaves_from, operations_behind, shape_in}
 
 pub reverse-push : {A : Type 0} (xs : List A) (x : A) → reverse (xs ++ x ∷ []) ≡ x ∷ reverse xs

@@ -1,17 +1,15 @@
 -- A text that is read may be compiled.
-use Rattle.std.proofs.Common.{◌≡◌, ℕ, suc, ◌+◌, ◌*◌, ◌≤◌, List, [], ◌∷◌, ◌++◌, length, map, Result, Ok, Err, refl, sym, ap, subst, ◌∙◌, arith, inl}
+use Rattle.std.proofs.Common.{ℕ, List, [], ◌∷◌, ◌++◌, length, map, Result, Ok, Err, subst, arith, inl}
 use Rattle.std.proofs.Common.{inr, append_assoc}
-use Rattle.std.specs.Prelude.{◌⊎◌, All, AllPairs, IfOk}
+use Rattle.std.specs.Prelude.{All, AllPairs, IfOk}
 use Rattle.std.specs.List.{AllByRecursion}
 use Rattle.std.proofs.lemmas.List.Elements.{All-nil, All-cons, All-from_recursion}
 use Rattle.std.proofs.lemmas.List.Kept.{AllPairs-cons}
 use Rattle.hm_kernel_lang.specs.declared.text.ElementType.{ElementType}
 use Rattle.hm_kernel_lang.specs.declared.text.Array.{Array}
 use Rattle.hm_kernel_lang.specs.declared.text.Text.{Text}
-use Rattle.hm_kernel_lang.specs.Language.{bytes}
 use Rattle.hm_kernel_lang.specs.Texts.{IsArray, IsSet, IsText, ShareNone}
 use Rattle.hm_kernel_text.specs.declared.errors.KernelErr.{KernelErr}
-use Rattle.hm_kernel_text.specs.declared.errors.KernelErr.TheVariants as refusals
 use Rattle.hm_kernel_text.specs.Written.{WrittenArray, Written, IsApart, AreArrays, IsWritten, IsKernel}
 use Rattle.hm_kernel_text.specs.Held.{array_written, written}
 use Rattle.hm_kernel_text.specs.ReadFile.{Gives, kernel_in}

@@ -1,8 +1,7 @@
 -- What is open, told apart by its sides alone, and trees read with no look at brackets.
-use Rattle.std.proofs.Common.{◌≡◌, ℕ, zero, suc, ◌+◌, ◌<◌, ◌≤◌, Bool, true, false, cond, eqb, List, [], ◌∷◌, ◌++◌, length, get_or, drop, map, Option}
-use Rattle.std.proofs.Common.{Some, None, refl, sym, ap, subst, ◌∙◌, arith, inl, inr}
+use Rattle.std.proofs.Common.{◌≡◌, ℕ, zero, suc, ◌+◌, ◌≤◌, Bool, true, false, cond, eqb, List, [], ◌∷◌, drop, map, Option}
+use Rattle.std.proofs.Common.{Some, None, refl, sym, ap, subst, ◌∙◌, arith}
 use Rattle.std.specs.Prelude.{option_and_then, option_map}
-use Rattle.std.proofs.lemmas.Bool.{cases_Bool}
 use Rattle.hm_text_base.specs.Spans.{span}
 use Rattle.hm_text_base.proofs.Steps.{and_then_some, test_some, some_is}
 use Rattle.hm_kernel_lang.specs.declared.text.Op.{Op}
@@ -10,9 +9,9 @@ use Rattle.hm_kernel_text.specs.declared.shape.Side.{Side}
 use Rattle.hm_kernel_text.specs.declared.shape.Side.TheVariants.{First, Second}
 use Rattle.hm_kernel_text.specs.Trees.{Tree, word, apply, leaves}
 use Rattle.hm_kernel_text.specs.Words.{op_in}
-use Rattle.hm_kernel_text.specs.ReadTree.{Frame, first, second, Step, whole, part, close, closed, stands, is_leaf, leaf_step, open_step, step_in}
+use Rattle.hm_kernel_text.specs.ReadTree.{Frame, first, second, Step, whole, part, closed, stands, is_leaf, leaf_step, open_step, step_in}
 use Rattle.hm_kernel_text.specs.ReadTree.{tree_after, tree_from, tree_in}
-use Rattle.hm_kernel_text.specs.Shapes.{close_side, closed_sides, stands_side, opens, open_shape, leaf_shape, shape_in, operations_behind}
+use Rattle.hm_kernel_text.specs.Shapes.{closed_sides, stands_side, opens, shape_in, operations_behind}
 use Rattle.hm_kernel_text.specs.Shapes.{leaves_after, leaves_from, tree_at}
 
 -- ---- sides

@@ -1,5 +1,5 @@
 -- Words one after another, as the code cuts them off.
-use Rattle.std.proofs.Common.{◌≡◌, ℕ, ◌<◌, ◌-◌, eqb, List, [], ◌∷◌, length, take, drop, refl, ap, ◌∙◌, sym, arith}
+use Rattle.std.proofs.Common.{◌≡◌, ℕ, ◌<◌, ◌-◌, List, [], ◌∷◌, length, take, drop, refl, ap, ◌∙◌, sym, arith}
 use Rattle.std.proofs.lemmas.List.{take_rest}
 use Rattle.hm_text_base.specs.Spans.{span}
 use Rattle.hm_text_base.proofs.SpanLaws.{parts_from, split_span}

@@ -1,6 +1,6 @@
 -- Reading a text: what it writes, or the first refusal.
-use Rattle.std.specs.Prelude.{◌≡◌, ℕ, Bool, ◌+◌, List, [], ◌∷◌, length, drop, codes, Option, Some, None, ok_or, Result, Ok, Err, ◌==◌, nat_eq}
-use Rattle.std.specs.Prelude.{nat_lt, if◌then◌else◌, bytes_eq}
+use Rattle.std.specs.Prelude.{◌≡◌, ℕ, ◌+◌, List, [], ◌∷◌, length, drop, codes, Option, Some, None, ok_or, Result, Ok, Err, ◌==◌, nat_eq}
+use Rattle.std.specs.Prelude.{if◌then◌else◌, bytes_eq}
 use Rattle.std.specs.List.{starts_with}
 use Rattle.hm_text_base.specs.Reading.{◌>>=◌}
 use Rattle.hm_text_base.specs.Spans.{Lines, lines_of}

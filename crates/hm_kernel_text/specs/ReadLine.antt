@@ -1,5 +1,5 @@
 -- Reading a line of an array, or one that sets an array: what of it is bad first.
-use Rattle.std.specs.Prelude.{ℕ, Bool, true, false, not, ◌+◌, ◌*◌, ◌%◌, List, [], ◌∷◌, ◌++◌, length, codes, Option, Some, None, is_some}
+use Rattle.std.specs.Prelude.{ℕ, Bool, not, ◌+◌, ◌*◌, ◌%◌, List, [], ◌∷◌, ◌++◌, length, codes, Option, Some, None, is_some}
 use Rattle.std.specs.Prelude.{option_and_then, Result, Ok, Err, ◌==◌, nat_lt, nat_le, ◌&&◌, ◌||◌, if◌then◌else◌, bytes_eq, option_map}
 use Rattle.std.specs.List.{list_all, list_any}
 use Rattle.hm_base.specs.Image.{sram_start, sram_size}

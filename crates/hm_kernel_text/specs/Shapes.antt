@@ -1,9 +1,8 @@
 -- How an expression is told apart from other texts with no tree in hand: by the sides of what is open alone.
-use Rattle.std.specs.Prelude.{ℕ, zero, suc, Bool, true, false, ◌+◌, ◌||◌, List, [], ◌∷◌, drop, slice_index, Option, Some, None, option_and_then}
-use Rattle.std.specs.Prelude.{option_map, ◌==◌, if◌then◌else◌}
+use Rattle.std.specs.Prelude.{ℕ, zero, suc, Bool, ◌+◌, List, [], ◌∷◌, drop, slice_index, Option, Some, None, option_and_then}
+use Rattle.std.specs.Prelude.{◌==◌, if◌then◌else◌}
 use Rattle.hm_text_base.specs.Spans.{span}
-use Rattle.hm_kernel_lang.specs.declared.text.Op.{Op}
-use Rattle.hm_kernel_text.specs.Words.{op_in, words_of}
+use Rattle.hm_kernel_text.specs.Words.{op_in}
 use Rattle.hm_kernel_text.specs.Trees.{Tree, word, apply}
 use Rattle.hm_kernel_text.specs.ReadTree.{is_leaf}
 use Rattle.hm_kernel_text.specs.declared.shape.Side.{Side}

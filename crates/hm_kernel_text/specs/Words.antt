@@ -1,5 +1,5 @@
 -- Words: parts of a line that one space separates.
-use Rattle.std.specs.Prelude.{ℕ, Bool, not, ◌-◌, ◌^◌, List, [], ◌∷◌, length, slice_index, codes, Option, Some, None, is_none, option_and_then, ◌==◌}
+use Rattle.std.specs.Prelude.{ℕ, Bool, not, List, [], ◌∷◌, length, slice_index, codes, Option, Some, None, is_none, option_and_then, ◌==◌}
 use Rattle.std.specs.Prelude.{nat_lt, ◌&&◌, ◌||◌, if◌then◌else◌, bytes_eq}
 use Rattle.std.specs.Char.{is_ascii_alphanumeric, is_ascii_digit, is_ascii_lowercase}
 use Rattle.std.specs.List.{list_all, slice_split}

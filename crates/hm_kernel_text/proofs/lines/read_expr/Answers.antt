@@ -1,4 +1,3 @@
-use Rattle.std.proofs.Common.{List}
 use Rattle.hm_kernel_text.specs.Words.{words_behind}
 use Rattle.hm_kernel_text.specs.Held.{tree_of}
 use Rattle.hm_kernel_text.proofs.TreeSteps.{seen, seen_none, is_expression, is_some_expression}

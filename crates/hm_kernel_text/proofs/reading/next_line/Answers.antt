@@ -1,4 +1,4 @@
-use Rattle.std.proofs.Common.{arith, rules}
+use Rattle.std.proofs.Common.{rules}
 use Rattle.hm_kernel_text.proofs.FileSteps.{next_some}
 use Rattle.hm_kernel_text.proofs.reading.next_line.Goals as goal
 

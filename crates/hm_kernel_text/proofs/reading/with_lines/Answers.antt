@@ -1,4 +1,4 @@
-use Rattle.std.proofs.Common.{◌≡◌, ◌+◌, ◌≤◌, length, Ok, ◌∙◌, refl, sym, ap, arith, rules}
+use Rattle.std.proofs.Common.{length, ◌∙◌, arith, rules}
 use Rattle.std.proofs.lemmas.Result.{err_from_is_err_and}
 use Rattle.hm_text_base.specs.Spans.{lines_of}
 use Rattle.hm_text_base.proofs.LineLaws.{some_lines}

@@ -1,4 +1,4 @@
-use Rattle.std.proofs.Common.{◌∙◌, sym, rules, refl}
+use Rattle.std.proofs.Common.{◌∙◌, sym, rules}
 use Rattle.hm_kernel_text.specs.Words.{words_behind}
 use Rattle.hm_kernel_text.specs.Held.{tree_of}
 use Rattle.hm_kernel_text.proofs.TreeSteps.{seen, seen_none, at_zero, at_end, at_leaf, at_no_op, at_no_left, at_no_right, at_apply}
