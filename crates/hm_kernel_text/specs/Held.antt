@@ -27,11 +27,14 @@ expr_written arrays (Name i) = word (name_at arrays i)
 expr_written arrays (Number n) = word (decimal n)
 expr_written arrays (Apply' o p l q r) = apply o (expr_written arrays l) (expr_written arrays r)
 
+-- the array of a text, as it is written
 abbrev pub array_written : Array → WrittenArray
 array_written a = record { name = a.name.items; addr = a.addr; values = a.values.items }
 
+-- a line over arrays, with the array that it sets by its name
 abbrev pub set_written : List Array → Line → WrittenSet
 set_written arrays l = record { name = name_at arrays l.array; expr = expr_written arrays l.expr }
 
+-- a whole text, as it is written
 abbrev pub written : Text → Written
 written x = record { element = x.element; count = x.count; arrays = map array_written x.arrays.items; sets = map (set_written x.arrays.items) x.lines.items }

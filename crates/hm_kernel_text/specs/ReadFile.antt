@@ -39,6 +39,7 @@ type_in text =
 abbrev pub count_in : List ℕ → Result ℕ KernelKind
 count_in w = if is_numeral w then ok_or (number_below 65537 w) Range else Err Syntax
 
+-- the third line: how many elements each array has
 unfoldable pub length_in : List ℕ → Result ℕ KernelKind
 length_in text = if starts_with nat_eq text (codes "length ") then count_in (drop 7 text) else Err Syntax
 

@@ -35,12 +35,14 @@ form_of kind name third more =
     else if bytes_eq kind (codes "set") then set_form name third more
     else None
 
+-- the form of a line by its words, of which the second is a name
 abbrev pub form_from : List (List ℕ) → Option Form
 form_from [] = None
 form_from (kind ∷ []) = None
 form_from (kind ∷ name ∷ []) = None
 form_from (kind ∷ name ∷ third ∷ more) = if is_name name then form_of kind name third more else None
 
+-- the form of a line; None where it is of neither
 unfoldable pub form_in : List ℕ → Option Form
 form_in text = form_from (words_of text)
 
@@ -67,6 +69,7 @@ bounded_values t n addr words = if is_placed t n addr && nat_le (length words) n
 abbrev pub share : ElementType → ℕ → ℕ → ℕ → Bool
 share t n a b = nat_lt a (b + bytes t * n) && nat_lt b (a + bytes t * n)
 
+-- one more array
 abbrev pub with_written_array : Written → WrittenArray → Written
 with_written_array k a = record k { arrays = k.arrays ++ a ∷ [] }
 
@@ -77,6 +80,7 @@ behind_array k name addr (Some values) =
     if list_any (λ a. share k.element k.count a.addr addr) k.arrays then Err Overlap
     else Ok (with_written_array k (record { name = name; addr = addr; values = values }))
 
+-- behind a line of an array: it stands before all lines that set one, is no 17th, has a new name, lies in its bounds, and shares no byte
 unfoldable pub with_array : Written → List ℕ → ℕ → List (List ℕ) → Result Written KernelKind
 with_array k name addr words =
     if nat_lt 0 (length k.sets) then Err Syntax
@@ -96,9 +100,11 @@ abbrev pub in_range : ℕ → Tree → Bool
 in_range limit (word w) = is_name w || is_some (number_below limit w)
 in_range limit (apply o l r) = in_range limit l && in_range limit r
 
+-- one more line that sets an array
 abbrev pub with_written_set : Written → WrittenSet → Written
 with_written_set k s = record k { sets = k.sets ++ s ∷ [] }
 
+-- behind a line that sets an array: an array stands before it, it is no 17th and not too long, its names are there, its numbers fit, and it is not too deep
 unfoldable pub with_set : Written → List ℕ → Tree → Result Written KernelKind
 with_set k name t =
     if length k.arrays == 0 then Err Syntax
@@ -110,10 +116,12 @@ with_set k name t =
 
 -- ---- a line of either form
 
+-- behind a line of a form
 abbrev pub by_form : Written → Option Form → Result Written KernelKind
 by_form k None = Err Syntax
 by_form k (Some (an_array name addr words)) = with_array k name addr words
 by_form k (Some (a_set name t)) = with_set k name t
 
+-- BEHIND ONE LINE: what is written up to it, or what of it is bad first
 abbrev pub line_in : Written → List ℕ → Result Written KernelKind
 line_in k text = by_form k (form_in text)

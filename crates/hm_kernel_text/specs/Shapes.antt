@@ -27,12 +27,15 @@ stands_side [] = Some None
 stands_side (First ∷ ss) = Some (Some (Second ∷ ss))
 stands_side (Second ∷ ss) = None
 
+-- a word begins with a bracket that opens
 abbrev pub opens : List ℕ → Bool
 opens w = slice_index w 0 == 40
 
+-- what is open behind an operation that begins
 abbrev pub open_shape : List Side → List ℕ → Option (Option (List Side))
 open_shape ss w = option_and_then (λ o. Some (Some (First ∷ ss))) (op_in w)
 
+-- what is open behind a name or a number and the brackets that stand behind it
 abbrev pub leaf_shape : List Side → List ℕ × List ℕ → Option (Option (List Side))
 leaf_shape ss s = if is_leaf s.0 then option_and_then stands_side (closed_sides ss s.1) else None
 
@@ -44,6 +47,7 @@ shape_in ss w = if opens w then open_shape ss (drop 1 w) else leaf_shape ss (spa
 abbrev pub operations_behind : ℕ → List ℕ → ℕ
 operations_behind n w = if opens w then n + 1 else n
 
+-- how many names and numbers there are where nothing follows, and where words do
 abbrev pub leaves_after : Option (Option (List Side)) → ℕ → List (List ℕ) → (List Side → Option ℕ) → Option ℕ
 leaves_after None n ws more = None
 leaves_after (Some None) n [] more = Some (n + 1)

@@ -32,9 +32,11 @@ pub record Written : Type 0 where
 
 -- ---- ITS LINES
 
+-- the first line
 abbrev pub header_text : List ℕ
 header_text = codes "kernel 1"
 
+-- the second line
 abbrev pub type_text : ElementType → List ℕ
 type_text U8 = codes "type u8"
 type_text S8 = codes "type s8"
@@ -43,6 +45,7 @@ type_text S16 = codes "type s16"
 type_text U32 = codes "type u32"
 type_text S32 = codes "type s32"
 
+-- the third line
 abbrev pub length_text : ℕ → List ℕ
 length_text n = codes "length " ++ decimal n
 
@@ -50,9 +53,11 @@ length_text n = codes "length " ++ decimal n
 abbrev pub array_text : WrittenArray → List ℕ
 array_text a = join_with_byte 32 (codes "array" ∷ a.name ∷ hex8 a.addr ∷ map decimal a.values)
 
+-- a name, an equals sign and an expression
 abbrev pub set_text : WrittenSet → List ℕ
 set_text s = join_with_byte 32 (codes "set" ∷ s.name ∷ codes "=" ∷ tree_text s.expr ∷ [])
 
+-- all lines in order
 abbrev pub kernel_lines : Written → List (List ℕ)
 kernel_lines w = header_text ∷ type_text w.element ∷ length_text w.count ∷ (map array_text w.arrays ++ map set_text w.sets)
 
