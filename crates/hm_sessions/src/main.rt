@@ -2,6 +2,7 @@
 #![tactic(auto)]
 
 mod content;
+mod cut;
 mod named;
 mod session;
 

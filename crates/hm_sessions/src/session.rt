@@ -1,6 +1,7 @@
 //! What the lines of a file give, do and say.
 
 use crate::content::{content, put};
+use crate::cut::{each_call_fails, host_of};
 use crate::named::{Named, find, number};
 use anyhow::{Context, Result, bail, ensure};
 use hm_commands::helium;
@@ -51,15 +52,6 @@ fn failing(alloc: Global, words: &mut SplitWhitespace<'_>) -> Result<FailList> {
         list.add(number(Some(word))? as u64)?;
     }
     Ok(list)
-}
-
-/// A host with copies of these files.
-fn host_of(alloc: Global, given: &[Named], failing: FailList) -> Result<MemHost> {
-    let mut files = Files::new(alloc);
-    for file in given {
-        files.add(&file.name, file.bytes.as_slice().to_vec(alloc)?)?;
-    }
-    Ok(MemHost::new(alloc, files, failing))
 }
 
 /// The word for an error of a host.
@@ -176,6 +168,16 @@ impl Session {
         Ok(ended.code() as usize == status)
     }
 
+    /// Whether each call of a command line fails as it should, and there are so many.
+    fn each_fails(&self, text: &str) -> Result<bool> {
+        let (head, line) = text.split_once(':').context("a command is wanted")?;
+        let mut head = head.split_whitespace();
+        let count = number(head.next())?;
+        let written = head.next().unwrap_or("");
+        let words = words_of(self.alloc, line)?;
+        each_call_fails(self.alloc, &self.files, &words, count, written)
+    }
+
     /// Whether a file is as the line says.
     fn holds_in_file(&self, fact: &str, text: &str) -> Result<bool> {
         let mut words = text.split_whitespace();
@@ -203,6 +205,7 @@ impl Session {
     fn holds(&mut self, fact: &str, text: &str) -> Result<bool> {
         match fact {
             "ends" => self.ends(text),
+            "each" => self.each_fails(text),
             "calls" => Ok(self.host.calls() == Some(number(Some(text))?)),
             "prints" => Ok(self.host.printed() == find(&self.named, text)?),
             "says" => Ok(self.host.printed().strip_suffix(b"\n") == Some(text.as_bytes())),
