@@ -42,6 +42,16 @@ fn other_bytes(alloc: Global, named: &[Named], text: &str) -> Result<Vec<u8>> {
     Ok(all.get(count..).context("too few bytes")?.to_vec(alloc)?)
 }
 
+/// The bytes of some that have a name, again and again, behind how often.
+fn repeated_bytes(alloc: Global, named: &[Named], text: &str) -> Result<Vec<u8>> {
+    let (count, all) = counted(named, text)?;
+    let mut bytes = Vec::new(alloc);
+    for _time in 0..count {
+        bytes.extend_from_slice(all)?;
+    }
+    Ok(bytes)
+}
+
 /// The bytes that a line says by its first word and the text behind it; None where it is no such line.
 pub fn content(
     alloc: Global,
@@ -57,6 +67,7 @@ pub fn content(
         "zeros" => vec![in alloc; 0; number(Some(text))?]?,
         "add" => find(named, text)?.to_vec(alloc)?,
         "front" => front_bytes(alloc, named, text)?,
+        "times" => repeated_bytes(alloc, named, text)?,
         "behind" => other_bytes(alloc, named, text)?,
         "written" => host.file(text).context("no such file")?.to_vec(alloc)?,
         "printed" => host.printed().to_vec(alloc)?,

@@ -6,43 +6,76 @@ use hm_commands::{Status, helium};
 use hm_host::{FailList, Files, MemHost};
 use std::alloc::Global;
 
-/// A host with copies of these files.
-pub fn host_of(alloc: Global, given: &[Named], failing: FailList) -> Result<MemHost> {
+/// Copies of these files.
+pub fn files_of(alloc: Global, given: &[Named]) -> Result<Files> {
     let mut files = Files::new(alloc);
     for file in given {
         files.add(&file.name, file.bytes.as_slice().to_vec(alloc)?)?;
     }
+    Ok(files)
+}
+
+/// A host with copies of these files.
+pub fn host_of(alloc: Global, given: &[Named], failing: FailList) -> Result<MemHost> {
+    let files = files_of(alloc, given)?;
     Ok(MemHost::new(alloc, files, failing))
+}
+
+/// The words of a command line.
+pub fn words_of(alloc: Global, line: &str) -> Result<Vec<String>> {
+    let mut words = Vec::new(alloc);
+    for word in line.split_whitespace() {
+        words.push(String::from_str(alloc, word)?)?;
+    }
+    Ok(words)
 }
 
 /// What a command line leaves: the status that it ends with, and its host.
 #[derive(Drop)]
-struct Left {
+struct Outcome {
     status: Status,
     host: MemHost,
 }
 
 /// Does a command line on a new host.
-fn left(alloc: Global, given: &[Named], words: &[String], failing: FailList) -> Result<Left> {
+fn outcome_of(
+    alloc: Global,
+    given: &[Named],
+    words: &[String],
+    failing: FailList,
+) -> Result<Outcome> {
     let mut host = host_of(alloc, given, failing)?;
     let status = helium(alloc, words, &mut host);
-    Ok(Left { status, host })
+    Ok(Outcome { status, host })
 }
 
 /// Does a command line on a new host, on which the call of this number fails.
-fn left_by(alloc: Global, given: &[Named], words: &[String], call: usize) -> Result<Left> {
+fn outcome_failing(
+    alloc: Global,
+    given: &[Named],
+    words: &[String],
+    call: usize,
+) -> Result<Outcome> {
     let mut failing = FailList::new(alloc);
     failing.add(call as u64)?;
-    left(alloc, given, words, failing)
+    outcome_of(alloc, given, words, failing)
 }
 
 /// Whether hosts have the same bytes for a file, or both none.
-fn same_file(one: &MemHost, other: &MemHost, name: &str) -> bool {
+pub fn same_file(one: &MemHost, other: &MemHost, name: &str) -> bool {
     match (one.file(name), other.file(name)) {
         (Some(bytes), Some(others)) => bytes == others,
         (None, None) => true,
         _ => false,
     }
+}
+
+/// Whether a command line ended at its call of this number, with the file as it is on another host.
+fn is_cut(cut: &Outcome, call: usize, expected: &MemHost, written: &str) -> bool {
+    cut.status == Status::HostFault
+        && cut.host.calls() == call.checked_add(1)
+        && cut.host.printed().is_empty()
+        && same_file(&cut.host, expected, written)
 }
 
 /// Whether a command line makes so many calls, of which each that fails ends it with status 4 and nothing printed.
@@ -57,25 +90,21 @@ pub fn each_call_fails(
     written: &str,
 ) -> Result<bool> {
     let before = host_of(alloc, given, FailList::new(alloc))?;
-    let whole = left(alloc, given, words, FailList::new(alloc))?;
+    let whole = outcome_of(alloc, given, words, FailList::new(alloc))?;
     let prints = !whole.host.printed().is_empty();
     for call in 0..count {
-        let cut = left_by(alloc, given, words, call)?;
+        let cut = outcome_failing(alloc, given, words, call)?;
         let is_behind_write = prints && call + 1 == count;
-        let expected = if is_behind_write {
-            &whole.host
+        let holds = if is_behind_write {
+            is_cut(&cut, call, &whole.host, written)
         } else {
-            &before
+            is_cut(&cut, call, &before, written)
         };
-        let holds = cut.status == Status::HostFault
-            && cut.host.calls() == Some(call + 1)
-            && cut.host.printed().is_empty()
-            && same_file(&cut.host, expected, written);
         if !holds {
             return Ok(false);
         }
     }
-    let next = left_by(alloc, given, words, count)?;
+    let next = outcome_failing(alloc, given, words, count)?;
     Ok(
         next.status == whole.status
             && next.host.calls() == Some(count)

@@ -5,6 +5,7 @@ mod content;
 mod cut;
 mod named;
 mod session;
+mod trial;
 
 use anyhow::{Context, Result};
 use hm_host::OsHost;

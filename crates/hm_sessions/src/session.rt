@@ -1,8 +1,9 @@
 //! What the lines of a file give, do and say.
 
 use crate::content::{content, put};
-use crate::cut::{each_call_fails, host_of};
+use crate::cut::{each_call_fails, host_of, words_of};
 use crate::named::{Named, find, number};
+use crate::trial::Trial;
 use anyhow::{Context, Result, bail, ensure};
 use hm_commands::helium;
 use hm_host::{FailList, Files, Host, HostErr, MemHost, OsHost};
@@ -28,18 +29,11 @@ pub struct Session {
     named: Vec<Named>,
     /// The files that a new host has.
     files: Vec<Named>,
+    /// The command line that is tried.
+    trial: Option<Trial>,
     /// The host in memory, as the last command or call left it.
     host: MemHost,
     system: OsHost,
-}
-
-/// The words of a command line.
-fn words_of(alloc: Global, line: &str) -> Result<Vec<String>> {
-    let mut words = Vec::new(alloc);
-    for word in line.split_whitespace() {
-        words.push(String::from_str(alloc, word)?)?;
-    }
-    Ok(words)
 }
 
 /// The calls that are to fail: none, or the numbers behind `failing`.
@@ -137,6 +131,7 @@ impl Session {
             alloc,
             named: Vec::new(alloc),
             files: Vec::new(alloc),
+            trial: None,
             host: MemHost::new(alloc, Files::new(alloc), FailList::new(alloc)),
             system,
         }
@@ -178,6 +173,17 @@ impl Session {
         each_call_fails(self.alloc, &self.files, &words, count, written)
     }
 
+    /// Whether the command line that is tried ends over each file of the line as it says.
+    fn tries(&self, fact: &str, text: &str) -> Result<bool> {
+        let trial = self.trial.as_ref().context("no command is tried")?;
+        let bytes = find(&self.named, &trial.name)?;
+        match fact {
+            "fronts" => trial.ends_on_fronts(self.alloc, &self.files, bytes, text),
+            "puts" => trial.ends_on_puts(self.alloc, &self.files, bytes, text),
+            _ => trial.ends_on_whole(self.alloc, &self.files, bytes, text),
+        }
+    }
+
     /// Whether a file is as the line says.
     fn holds_in_file(&self, fact: &str, text: &str) -> Result<bool> {
         let mut words = text.split_whitespace();
@@ -206,6 +212,7 @@ impl Session {
         match fact {
             "ends" => self.ends(text),
             "each" => self.each_fails(text),
+            "fronts" | "puts" | "whole" => self.tries(fact, text),
             "calls" => Ok(self.host.calls() == Some(number(Some(text))?)),
             "prints" => Ok(self.host.printed() == find(&self.named, text)?),
             "says" => Ok(self.host.printed().strip_suffix(b"\n") == Some(text.as_bytes())),
@@ -233,6 +240,7 @@ impl Session {
             "" | "#" => {}
             "case" => {
                 self.files.clear();
+                self.trial = None;
                 self.renew(&mut "".split_whitespace())?;
                 return Ok(Taken::Case);
             }
@@ -245,6 +253,7 @@ impl Session {
                 put(&mut last.bytes, text)?;
             }
             "file" => self.give(text)?,
+            "tries" => self.trial = Some(Trial::new(self.alloc, text)?),
             "host" => self.renew(&mut text.split_whitespace())?,
             _ => {
                 let holds = self.holds(word, text)?;
