@@ -102,11 +102,15 @@ Does-after : (listings : List Segment → Listing) (form : Form) (old mid new : 
 Does-after listings form old mid new s reading e of told files printed same calls h rest all = record {
   reading = reading;
   told = λ F is. sym (told F is);
-  begins = inl (e, of, record {
-    carries = Carries-after e old mid new s files printed same h;
-    calls = λ F is. made_after (read_calls F (reads_of form)) (calls_for e) old.calls mid.calls new.calls (way_of s) (calls F is) rest;
-    spent = λ F is wanted. spent_after (read_calls F (reads_of form)) (calls_for e) old mid new files (calls F is) (all wanted);
-  });
+  begins = inl (
+    e,
+    of,
+    record {
+      carries = Carries-after e old mid new s files printed same h;
+      calls = λ F is. made_after (read_calls F (reads_of form)) (calls_for e) old.calls mid.calls new.calls (way_of s) (calls F is) rest;
+      spent = λ F is wanted. spent_after (read_calls F (reads_of form)) (calls_for e) old mid new files (calls F is) (all wanted);
+    },
+  );
 }
 
 -- the reads gave these contents, memory was wanted, and no more was done

@@ -80,11 +80,15 @@ usage_is listings words F none = subst (λ (o : Option Form). IsEffectAfter list
 pub usage_begins : (listings : List Segment → Listing) (words : List (List ℕ)) (old new : HostState) (s : Status) (F : FileMap) → None ≡ form_of words
     → Carries usage_effect old new s → MakesCalls (calls_for usage_effect) old.calls new.calls (way_of s) → (s ≡ NoMemory → Stays old.files new.files)
     → BeginsOne (reads_for (form_of words)) (IsEffect listings words F) old new s
-usage_begins listings words old new s F none carries calls stays = inl (usage_effect, usage_is listings words F none, record {
-  carries = carries;
-  calls = λ G told. subst (λ (o : Option Form). MakesCalls (read_calls G (reads_for o) ++ calls_for usage_effect) old.calls new.calls (way_of s)) none calls;
-  spent = λ G told wanted. inl (stays wanted);
-})
+usage_begins listings words old new s F none carries calls stays = inl (
+  usage_effect,
+  usage_is listings words F none,
+  record {
+    carries = carries;
+    calls = λ G told. subst (λ (o : Option Form). MakesCalls (read_calls G (reads_for o) ++ calls_for usage_effect) old.calls new.calls (way_of s)) none calls;
+    spent = λ G told wanted. inl (stays wanted);
+  },
+)
 
 -- ---- what is complete
 

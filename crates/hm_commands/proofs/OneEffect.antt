@@ -85,32 +85,32 @@ abbrev IsNoKernel : Form → Type 0
 IsNoKernel form = (source out : List ℕ) → form ≢ kernel source out
 
 one_outcome : (listings : List Segment → Listing) (form : Form) (contents : List (List ℕ)) (o p : Outcome) → IsNoKernel form → ComesTo listings form contents o → ComesTo listings form contents p → o ≡ p
-one_outcome listings (run image schedule memory) contents o p no x y = x ∙ sym y
-one_outcome listings (seq image n) contents o p no x y = x ∙ sym y
-one_outcome listings (dis image lo hi) contents o p no x y = one_dis (image_of (get_or contents 0 [])) lo hi o p x y
-one_outcome listings (asm source out) contents o p no x y = one_asm (get_or contents 0 []) out o p x y
-one_outcome listings (soak number) contents o p no x y = one_soak number o p x y
-one_outcome listings (debug image schedule script) contents o p no x y =
+one_outcome listings (run image schedule memory) contents o p apart x y = x ∙ sym y
+one_outcome listings (seq image n) contents o p apart x y = x ∙ sym y
+one_outcome listings (dis image lo hi) contents o p apart x y = one_dis (image_of (get_or contents 0 [])) lo hi o p x y
+one_outcome listings (asm source out) contents o p apart x y = one_asm (get_or contents 0 []) out o p x y
+one_outcome listings (soak number) contents o p apart x y = one_soak number o p x y
+one_outcome listings (debug image schedule script) contents o p apart x y =
     one_of_run (image_of (get_or contents 0 [])) (schedule_in schedule (get_or contents 1 [])) (IsDebugOutcome listings (last_read schedule contents)) o p (λ i s u v. one_debug listings (last_read schedule contents) i s o p u v) x y
-one_outcome listings (journal image schedule every out) contents o p no x y =
+one_outcome listings (journal image schedule every out) contents o p apart x y =
     one_of_run (image_of (get_or contents 0 [])) (schedule_in schedule (get_or contents 1 [])) (IsJournalOutcome listings every out) o p (λ i s u v. u ∙ sym v) x y
-one_outcome listings (replay image schedule text tick) contents o p no x y =
+one_outcome listings (replay image schedule text tick) contents o p apart x y =
     one_of_run (image_of (get_or contents 0 [])) (schedule_in schedule (get_or contents 1 [])) (IsReplayOutcome listings (last_read schedule contents) tick) o p (λ i s u v. one_replay listings (last_read schedule contents) tick i s o p u v) x y
-one_outcome listings (plan image n out) contents o p no x y = x ∙ sym y
-one_outcome listings (hex image out) contents o p no x y = x ∙ sym y
-one_outcome listings (kernel source out) contents o p no x y = absurd (no source out refl)
+one_outcome listings (plan image n out) contents o p apart x y = x ∙ sym y
+one_outcome listings (hex image out) contents o p apart x y = x ∙ sym y
+one_outcome listings (kernel source out) contents o p apart x y = absurd (apart source out refl)
 
 one_after : (listings : List Segment → Listing) (form : Option Form) (reading : Reading) (d e : Effect) → ((source out : List ℕ) → form ≢ Some (kernel source out))
     → IsEffectAfter listings form reading d → IsEffectAfter listings form reading e → d ≡ e
-one_after listings None reading d e no x y = x ∙ sym y
-one_after listings (Some form) (whole contents) d e no x y =
-    x.2 ∙ ap effect_for (one_outcome listings form contents x.0 y.0 (λ source out is. no source out (ap (λ (f : Form). Some f) is)) x.1 y.1) ∙ sym y.2
-one_after listings (Some form) too_large d e no x y = x ∙ sym y
-one_after listings (Some form) missing d e no x y = x ∙ sym y
+one_after listings None reading d e apart x y = x ∙ sym y
+one_after listings (Some form) (whole contents) d e apart x y =
+    x.2 ∙ ap effect_for (one_outcome listings form contents x.0 y.0 (λ source out is. apart source out (ap (λ (f : Form). Some f) is)) x.1 y.1) ∙ sym y.2
+one_after listings (Some form) too_large d e apart x y = x ∙ sym y
+one_after listings (Some form) missing d e apart x y = x ∙ sym y
 
 pub one_effect : (listings : List Segment → Listing) (words : List (List ℕ)) (F : FileMap) (d e : Effect) → ((source out : List ℕ) → form_of words ≢ Some (kernel source out))
     → IsEffect listings words F d → IsEffect listings words F e → d ≡ e
-one_effect listings words F d e no x y = one_after listings (form_of words) (reading_of F (reads_for (form_of words))) d e no x y
+one_effect listings words F d e apart x y = one_after listings (form_of words) (reading_of F (reads_for (form_of words))) d e apart x y
 
 -- ---- texts of the array language: effects are alike but for the bytes of the file
 
@@ -142,11 +142,11 @@ kernel_or_not (kernel source out) = inl (source, out, refl)
 alike_outcomes : (listings : List Segment → Listing) (form : Form) (contents : List (List ℕ)) (o p : Outcome) → ComesTo listings form contents o → ComesTo listings form contents p → Alike (effect_for o) (effect_for p)
 alike_outcomes listings form contents o p x y = elim (kernel_or_not form) [
   | inl of ↦ (
-    let here = subst (λ (f : Form). ComesTo listings f contents o) of.2 x in
-    let there = subst (λ (f : Form). ComesTo listings f contents p) of.2 y in
-    alike_files (get_or contents 0 []) (kernel_in (get_or contents 0 [])) of.1 o p here there
-  )
-  | inr no ↦ alike_same (effect_for o) (effect_for p) (ap effect_for (one_outcome listings form contents o p no x y))
+      let here = subst (λ (f : Form). ComesTo listings f contents o) of.2 x in
+      let there = subst (λ (f : Form). ComesTo listings f contents p) of.2 y in
+      alike_files (get_or contents 0 []) (kernel_in (get_or contents 0 [])) of.1 o p here there
+      )
+  | inr apart ↦ alike_same (effect_for o) (effect_for p) (ap effect_for (one_outcome listings form contents o p apart x y))
 ]
 
 alike_after : (listings : List Segment → Listing) (form : Option Form) (reading : Reading) (d e : Effect) → IsEffectAfter listings form reading d → IsEffectAfter listings form reading e → Alike d e

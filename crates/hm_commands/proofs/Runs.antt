@@ -31,7 +31,7 @@ use Rattle.hm_commands.specs.Work.{Outcome, finishes, refuses, Gives, GivesOne, 
 
 -- ---- refusals
 
-gives_at : (Is : Outcome → Type 0) (stop stop' : Stop) → stop ≡ stop' → GivesOne Is (Err stop') → GivesOne Is (Err stop)
+pub gives_at : (Is : Outcome → Type 0) (stop stop' : Stop) → stop ≡ stop' → GivesOne Is (Err stop') → GivesOne Is (Err stop)
 gives_at Is stop stop' is g = rw is g
 
 -- what is wrong with an image, where the image's refusal is an outcome
