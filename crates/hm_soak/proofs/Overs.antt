@@ -1,5 +1,5 @@
 -- Runs that are over, and the line that they make.
-use Rattle.std.proofs.Common.{◌≡◌, ℕ, ◌%◌, Bool, true, Global, List, Some, Vec, refl, ap, ◌∙◌, subst, arith}
+use Rattle.std.proofs.Common.{◌≡◌, ℕ, ◌%◌, Bool, true, Global, List, Some, Vec, sym, ap, ◌∙◌, subst}
 use Rattle.std.specs.Prelude.{◌↔◌, IfOk, Result, Ok, Err}
 use Rattle.hm_base.specs.Image.{Segment, flash_byte}
 use Rattle.hm_base.specs.declared.errors.OutOfMemory.{OutOfMemory}
@@ -7,9 +7,6 @@ use Rattle.hm_codes.proofs.Exists.{exists}
 use Rattle.hm_codes.specs.Listing.{IsListing, Listing}
 use Rattle.hm_handlers.specs.Runs.{Run, run_out}
 use Rattle.hm_machine.specs.Shown.{Shown, timed_of}
-use Rattle.hm_machine.specs.Turns.{LoadRefuses}
-use Rattle.hm_machine.specs.declared.load.LoadErr.{LoadErr}
-use Rattle.hm_machine.specs.declared.load.LoadErr.TheVariants as err
 use Rattle.hm_run.specs.declared.Outcome.TheVariants as outcome
 use Rattle.hm_run.specs.declared.Reason.{Reason}
 use Rattle.hm_soak.specs.Runs.{CountsEntries, IsOver}
@@ -18,12 +15,17 @@ use Rattle.hm_soak_laws.proofs.Whole.{soak_reset}
 use Rattle.hm_soak_laws.specs.Image.{IsSoak}
 use Rattle.hm_soak_laws.specs.Schedule.{in_order_schedule, schedule}
 use Rattle.hm_soak_laws.specs.Summary.{IsSoakLine, SameShown, entered, scheduled, summary_text}
+use Rattle.hm_regs.specs.declared.Regs.{Regs}
 use Rattle.hm_state.specs.Start.{reset_pc}
+use Rattle.hm_state.specs.State.{regs_of}
 
--- an image whose reset address is odd is refused for want of memory alone
-pub only_memory : (image : List Segment) (e : LoadErr) → reset_pc image % 2 ≡ 1 → LoadRefuses image e → e ≡ err.OutOfMemory
-only_memory image (err.Reset value) odd h = let p = h.0 in let q = h.1 in absurd (omega arith)
-only_memory image err.OutOfMemory odd h = refl
+-- what two machines tell is what is shown of their states
+pub means_same : (x y : Regs) (a b : Shown) (out other : List ℕ) (same : Bool) → x ≡ regs_of (timed_of a).config.state → y ≡ regs_of (timed_of b).config.state → out ≡ (timed_of a).config.state.rest.output
+    → other ≡ (timed_of b).config.state.rest.output → (same ≡ true) ↔ ((x ≡ y) × (out ≡ other)) → (same ≡ true) ↔ SameShown (timed_of a).config.state (timed_of b).config.state
+means_same x y a b out other same e f g h means = (
+  λ t. let m = means.0 t in record { registers = sym e ∙ m.0 ∙ f; output = sym g ∙ m.1 ∙ h },
+  λ shown. means.1 (e ∙ shown.registers ∙ sym f, g ∙ shown.output ∙ sym h),
+)
 
 -- what the machines of the two runs show makes the line
 pub line_from : (number : ℕ) (image : List Segment) (a b : Shown) (e : ℕ) (same : Bool) (text : List ℕ) → IsSoak number image → IsOver image schedule a → CountsEntries image schedule e

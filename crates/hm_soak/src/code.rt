@@ -1,8 +1,8 @@
 //! The code of a soak, from its draws.
 
-ghost use Rattle.std.specs.Prelude.{◌≡◌, ◌++◌, ◌<◌, ◌∷◌, IfOk};
+ghost use Rattle.std.specs.Prelude.{◌≡◌, ◌++◌, ◌/◌, ◌%◌, ◌<◌, [], ◌∷◌, IfOk};
 ghost use Rattle.hm_soak.specs.Adding.{AddsCodes};
-ghost use Rattle.hm_soak_laws.specs.Soak.{Bkpt, code, draw, drawn, fill, filled, handler, head, many, operations};
+ghost use Rattle.hm_soak_laws.specs.Soak.{Bkpt, Movt, Movw, code, draw, drawn, fill, filled, handler, head, many, operations};
 
 use crate::bytes::add_code;
 use crate::rows::{
@@ -14,6 +14,9 @@ use hm_isa::HalfName;
 /// How many operations on lanes a soak has.
 pub const OPERATIONS: u32 = 4096;
 
+/// The device word of which a store of 1 enables interrupt 0.
+const INTERRUPT_ENABLES: u32 = 0xe000_e100;
+
 /// The draw after x.
 fn draw(x: u32) -> u32
     ensures next { result ≡ draw x }
@@ -21,12 +24,20 @@ fn draw(x: u32) -> u32
     ((1_664_525 * x as u64 + 1_013_904_223) % 0x1_0000_0000) as u32
 }
 
+/// Adds the instructions that put a word into a register below 13.
+fn add_constant(out: &mut Vec<u8>, d: u32, word: u32) -> Result<(), OutOfMemory>
+    requires register { d < 13 }
+    ensures codes { IfOk result (λ _. AddsCodes (Movw d (word % 65536) ∷ Movt d (word / 65536) ∷ []) out.old.items out.new.items) }
+{
+    add_code(out, &half_row(HalfName::Movw, d, word % 65536))?;
+    add_code(out, &half_row(HalfName::Movt, d, word / 65536))
+}
+
 /// Adds the instructions that enable interrupt 0.
 fn add_head(out: &mut Vec<u8>) -> Result<(), OutOfMemory>
     ensures codes { IfOk result (λ _. AddsCodes head out.old.items out.new.items) }
 {
-    add_code(out, &half_row(HalfName::Movw, 2, 0xe100))?;
-    add_code(out, &half_row(HalfName::Movt, 2, 0xe000))?;
+    add_constant(out, 2, INTERRUPT_ENABLES)?;
     add_code(out, &move_byte(3, 1))?;
     add_code(out, &store(3, 2))
 }
@@ -36,8 +47,7 @@ fn add_filled(out: &mut Vec<u8>, j: u32, v: u32) -> Result<(), OutOfMemory>
     requires vector { j < 4 }
     ensures codes { IfOk result (λ _. AddsCodes (filled j v) out.old.items out.new.items) }
 {
-    add_code(out, &half_row(HalfName::Movw, 1, v % 65536))?;
-    add_code(out, &half_row(HalfName::Movt, 1, v / 65536))?;
+    add_constant(out, 1, v)?;
     add_code(out, &duplicate(4 + j, 1))
 }
 

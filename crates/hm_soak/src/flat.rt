@@ -6,8 +6,7 @@ ghost use Rattle.hm_soak_laws.specs.Image.{IsSoak, vectors};
 
 use crate::bytes::add_word;
 use crate::code::{OPERATIONS, add_instructions};
-use crate::refusals::of_image;
-use hm_base::{Image, OutOfMemory};
+use hm_base::{Image, ImageErr, OutOfMemory};
 use std::alloc::Global;
 
 /// The stack pointer at the reset.
@@ -60,7 +59,8 @@ fn flat_image(alloc: Global, bytes: Vec<u8>) -> Result<Image, OutOfMemory>
     let mut image = Image::new(alloc);
     match image.add(0, bytes) {
         Ok(()) => Ok(image),
-        Err(e) => Err(of_image(e)),
+        Err(ImageErr::OutOfMemory) => Err(OutOfMemory),
+        Err(_) => unreachable!(),
     }
 }
 

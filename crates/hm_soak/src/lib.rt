@@ -5,7 +5,6 @@ mod bytes;
 mod code;
 mod flat;
 mod making;
-mod refusals;
 mod rows;
 mod runs;
 mod shown;

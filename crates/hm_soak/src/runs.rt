@@ -9,10 +9,9 @@ ghost use Rattle.hm_soak_laws.specs.Schedule.{in_order_schedule};
 ghost use Rattle.hm_state.specs.Start.{reset_pc};
 ghost use Rattle.hm_state.specs.State.{regs_of};
 
-use crate::refusals::of_load;
 use crate::ticks::plain_schedule;
 use hm_base::{Image, OutOfMemory};
-use hm_machine::Machine;
+use hm_machine::{LoadErr, Machine};
 use hm_sched::Schedule;
 use std::alloc::Global;
 
@@ -23,7 +22,8 @@ pub fn load(alloc: Global, image: &Image, s: Schedule) -> Result<Machine, OutOfM
 {
     match Machine::load(alloc, image, s) {
         Ok(machine) => Ok(machine),
-        Err(e) => Err(of_load(e)),
+        Err(LoadErr::OutOfMemory) => Err(OutOfMemory),
+        Err(LoadErr::Reset { .. }) => unreachable!(),
     }
 }
 

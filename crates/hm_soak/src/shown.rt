@@ -4,33 +4,24 @@ ghost use Rattle.std.specs.Prelude.{◌≡◌, ◌↔◌, ◌++◌, ℕ, true, L
 ghost use Rattle.std.specs.Fmt.{decimal};
 ghost use Rattle.hm_base.specs.Image.{Segment, flash_byte};
 ghost use Rattle.hm_codes.specs.Listing.{IsListing, Listing};
-ghost use Rattle.hm_machine.specs.Shown.{timed_of};
 ghost use Rattle.hm_run.specs.declared.Outcome.TheVariants.{Halted};
 ghost use Rattle.hm_run.specs.declared.Reason.{Reason};
 ghost use Rattle.hm_soak_laws.specs.Image.{IsSoak};
 ghost use Rattle.hm_soak_laws.specs.Schedule.{schedule};
-ghost use Rattle.hm_soak_laws.specs.Summary.{IsSoakLine, SameShown, entered, scheduled, summary_text};
+ghost use Rattle.hm_soak_laws.specs.Summary.{IsSoakLine, entered, scheduled, summary_text};
 
 use crate::making::make;
 use crate::runs::{load, run_counting, run_plainly};
 use hm_base::OutOfMemory;
-use hm_machine::Machine;
+use hm_regs::Regs;
 use hm_text_base::{decimal, text};
 use std::alloc::Global;
 
-/// Whether two machines show the same registers, vector registers, VPR and output.
-fn show_the_same(a: &Machine, b: &Machine) -> bool
-    ensures { IsTrue result ↔ SameShown (timed_of a.now).config.state (timed_of b.now).config.state }
+/// Whether these are the same registers, and the same output.
+fn same_shown(a: &Regs, b: &Regs, output: &[u8], other: &[u8]) -> bool
+    ensures same { IsTrue result ↔ ((a.now ≡ b.now) × (output.now ≡ other.now)) }
 {
-    let x = a.regs();
-    let y = b.regs();
-    x.r == y.r
-        && x.sp == y.sp
-        && x.lr == y.lr
-        && x.pc == y.pc
-        && x.qw == y.qw
-        && x.vpr == y.vpr
-        && a.output() == b.output()
+    a == b && output == other
 }
 
 /// Adds a word and a number.
@@ -64,7 +55,8 @@ fn line(
 }
 
 /// The line of the soak of a number: `soak N instructions n ticks t entries e equal`, or `differ` in place of `equal`. The run under the soak's schedule
-/// says n, t and e, and registers, vector registers, VPR and output are compared with those of its instructions in order.
+/// says n, t and e, and all its registers (the flags, IT, FPSCR, VPR and the vector registers are among them) and its output are compared with those of
+/// its instructions in order.
 pub fn summary(alloc: Global, number: u32) -> Result<Vec<u8>, OutOfMemory>
     ensures line { IfOk result (λ out. IsSoakLine number out.items) }
     // It never says `differ` where the run under the schedule halts.
@@ -76,7 +68,12 @@ pub fn summary(alloc: Global, number: u32) -> Result<Vec<u8>, OutOfMemory>
     let mut scheduled = load(alloc, &image, schedule)?;
     let entries = run_counting(&mut scheduled);
     let plainly = run_plainly(alloc, &image)?;
-    let same = show_the_same(&scheduled, &plainly);
+    let same = same_shown(
+        scheduled.regs(),
+        plainly.regs(),
+        scheduled.output(),
+        plainly.output(),
+    );
     line(
         alloc,
         number,

@@ -7,9 +7,8 @@ ghost use Rattle.hm_soak.specs.Lines.{with_lines};
 ghost use Rattle.hm_soak_laws.specs.Schedule.{both, in_order_schedule, pair_lines, pairs, schedule, twice, wholes};
 
 use crate::code::OPERATIONS;
-use crate::refusals::of_schedule;
 use hm_base::{OutOfMemory, SRAM_START};
-use hm_sched::{Schedule, plain};
+use hm_sched::{SchedErr, Schedule, plain};
 use std::alloc::Global;
 
 /// The lowest address to which the handler may store.
@@ -29,7 +28,8 @@ fn add(lines: &mut Schedule, count: u32, letters: &[u8], irq: u32) -> Result<(),
 {
     match lines.add(count, letters, irq) {
         Ok(()) => Ok(()),
-        Err(e) => Err(of_schedule(e)),
+        Err(SchedErr::OutOfMemory) => Err(OutOfMemory),
+        Err(_) => unreachable!(),
     }
 }
 
@@ -103,6 +103,7 @@ pub fn plain_schedule(alloc: Global) -> Result<Schedule, OutOfMemory>
 {
     match plain(alloc, LENGTH) {
         Ok(schedule) => Ok(schedule),
-        Err(e) => Err(of_schedule(e)),
+        Err(SchedErr::OutOfMemory) => Err(OutOfMemory),
+        Err(_) => unreachable!(),
     }
 }

@@ -14,7 +14,6 @@ use Rattle.hm_plain.proofs.Readings.{shown_alike}
 use Rattle.hm_plain.specs.Orders.{plain_end}
 use Rattle.hm_plain.specs.Overlap.{AgreesAfter, HaltsAfter}
 use Rattle.hm_plain.specs.Readings.{ShownAlike}
-use Rattle.hm_regs.specs.declared.Regs.{Regs}
 use Rattle.hm_run.specs.declared.Outcome.{Outcome}
 use Rattle.hm_run.specs.declared.Outcome.TheVariants as outcome
 use Rattle.hm_run.specs.declared.Reason.{Reason}
@@ -69,19 +68,13 @@ module _ (listing : Listing) (image : List Segment) where
       let y = at_halt (plain n) (Break 0) n f in
       let there : in_order listing image n ≡ Halted r n x.order = subst (λ (m : ℕ). in_order listing image m ≡ Halted r m x.order) same.number x.halts in
       let one : x.order ≡ y.order = same_state r (Break 0) n x.order y.order (sym there ∙ y.halts) in
-      let regs = x.alike.registers ∙ ap regs_of one ∙ sym y.alike.registers in
       record {
         reason = same.reason;
         number = same.number;
         retired = x.retired ∙ same.number;
         plain_halts = f;
         same = record {
-          r = ap (λ (q : Regs). q.r) regs;
-          sp = ap (λ (q : Regs). q.sp) regs;
-          lr = ap (λ (q : Regs). q.lr) regs;
-          pc = ap (λ (q : Regs). q.pc) regs;
-          qw = ap (λ (q : Regs). q.qw) regs;
-          vpr = ap (λ (q : Regs). q.vpr) regs;
+          registers = x.alike.registers ∙ ap regs_of one ∙ sym y.alike.registers;
           output = x.alike.output ∙ ap (λ (t : State). t.rest.output) one ∙ sym y.alike.output;
         };
       }

@@ -10,4 +10,5 @@ pub mod Handler
 pub mod Schedules
 pub mod Codes
 pub mod Given
+pub mod Comparing
 pub mod Line

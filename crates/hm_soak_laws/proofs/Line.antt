@@ -1,8 +1,8 @@
 -- A soak has a line, and one alone.
-use Rattle.std.proofs.Common.{◌≡◌, ℕ, Bool, true, ◌&&◌, List, Some, nat_eq, refl, sym, ap, ◌∙◌, subst}
+use Rattle.std.proofs.Common.{◌≡◌, ℕ, Bool, true, ◌&&◌, List, Some, refl, ap, ◌∙◌, subst, sym}
 use Rattle.std.specs.Bool.{Decides}
 use Rattle.std.specs.Str.{bytes_eq}
-use Rattle.std.proofs.lemmas.Bool.Decides.{Decides-and, Decides-eqb, Decides-like, same_from_decides}
+use Rattle.std.proofs.lemmas.Bool.Decides.{Decides-and, Decides-like, same_from_decides}
 use Rattle.std.proofs.lemmas.Slice.Eq.{bytes_eq-Decides}
 use Rattle.hm_base.specs.Image.{Segment, flash_byte}
 use Rattle.hm_codes.specs.Listing.{IsListing, Listing}
@@ -13,31 +13,21 @@ use Rattle.hm_soak_laws.specs.Summary.{IsSoakLine, IsSummary, SameShown, entered
 use Rattle.hm_soak_laws.specs.Image.{IsSoak}
 use Rattle.hm_soak_laws.specs.Schedule.{schedule}
 use Rattle.hm_soak_laws.proofs.Codes.{one_image}
+use Rattle.hm_soak_laws.proofs.Comparing.{same_regs, same_regs_decides}
 use Rattle.hm_soak_laws.proofs.Given.{some_image}
 use Rattle.hm_soak_laws.proofs.Whole.{soak_equal}
 use Rattle.hm_run.specs.declared.Outcome.TheVariants as outcome
 use Rattle.hm_run.specs.declared.Reason.{Reason}
 
 -- THE COMPARISON as a test
-pub same_test : State → State → Bool
-same_test s t =
-    let x = regs_of s in
-    let y = regs_of t in
-    bytes_eq x.r y.r && nat_eq x.sp y.sp && nat_eq x.lr y.lr && nat_eq x.pc y.pc && bytes_eq x.qw y.qw && nat_eq x.vpr y.vpr && bytes_eq s.rest.output t.rest.output
+same_test : State → State → Bool
+same_test s t = same_regs (regs_of s) (regs_of t) && bytes_eq s.rest.output t.rest.output
 
 same_decides : (s t : State) → Decides (same_test s t) (SameShown s t)
 unfolding same_test
 same_decides s t =
-    let x = regs_of s in
-    let y = regs_of t in
-    let a = Decides-and (bytes_eq x.r y.r) (nat_eq x.sp y.sp) (bytes_eq-Decides x.r y.r) (Decides-eqb x.sp y.sp) in
-    let b = Decides-and _ (nat_eq x.lr y.lr) a (Decides-eqb x.lr y.lr) in
-    let c = Decides-and _ (nat_eq x.pc y.pc) b (Decides-eqb x.pc y.pc) in
-    let d = Decides-and _ (bytes_eq x.qw y.qw) c (bytes_eq-Decides x.qw y.qw) in
-    let e = Decides-and _ (nat_eq x.vpr y.vpr) d (Decides-eqb x.vpr y.vpr) in
-    let f = Decides-and _ (bytes_eq s.rest.output t.rest.output) e (bytes_eq-Decides s.rest.output t.rest.output) in
-    Decides-like _ (λ h. record { r = h.0.0.0.0.0.0; sp = h.0.0.0.0.0.1; lr = h.0.0.0.0.1; pc = h.0.0.0.1; qw = h.0.0.1; vpr = h.0.1; output = h.1 })
-    (λ h. ((((((h.r, h.sp), h.lr), h.pc), h.qw), h.vpr), h.output)) f
+    Decides-like _ (λ h. record { registers = h.0; output = h.1 }) (λ h. (h.registers, h.output))
+    (Decides-and _ _ (same_regs_decides (regs_of s) (regs_of t)) (bytes_eq-Decides s.rest.output t.rest.output))
 
 -- ONE LINE
 module _ (number : ℕ) (listing : Listing) (image : List Segment) where

@@ -13,14 +13,9 @@ use Rattle.hm_state.specs.State.{State, regs_of}
 use Rattle.hm_soak_laws.specs.Image.{IsSoak}
 use Rattle.hm_soak_laws.specs.Schedule.{in_order_schedule, schedule}
 
--- the same registers, vector registers, VPR and output
+-- the same registers, among them the flags, IT, FPSCR, VPR and the vector registers, and the same output
 pub record SameShown (s t : State) : Type 0 where
-  pub r : (regs_of s).r ≡ (regs_of t).r
-  pub sp : (regs_of s).sp ≡ (regs_of t).sp
-  pub lr : (regs_of s).lr ≡ (regs_of t).lr
-  pub pc : (regs_of s).pc ≡ (regs_of t).pc
-  pub qw : (regs_of s).qw ≡ (regs_of t).qw
-  pub vpr : (regs_of s).vpr ≡ (regs_of t).vpr
+  pub registers : regs_of s ≡ regs_of t
   pub output : s.rest.output ≡ t.rest.output
 
 -- in thread mode the number of the exception that is handled is 0
