@@ -1,6 +1,5 @@
 pub mod Lines
-pub mod Words
-pub mod TwoNumbers
+pub mod Reading
 pub mod Deciding
 pub mod ScriptLaws
 pub mod Showing

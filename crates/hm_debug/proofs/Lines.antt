@@ -18,7 +18,7 @@ pub line_ended : (text front rest : List ℕ) → (front, rest) ≡ span 10 text
 line_ended text front [] e some = absurd (omega arith)
 line_ended text front (b ∷ rest) e some = rw (lines_span text, ← e, take_all (length (b ∷ rest) - 1) rest (omega arith)) refl
 
--- what stands at a line stands there whatever the lines before it
+-- no byte is left
 pub none_left : (text : List ℕ) → length text ≡ 0 → text ≡ []
 none_left [] e = refl
 none_left (b ∷ bs) e = absurd (omega arith)

@@ -1,6 +1,5 @@
 pub mod Commands
 pub mod Scripts
-pub mod Reading
 pub mod Films
 pub mod Lines
 pub mod Answers

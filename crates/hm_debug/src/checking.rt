@@ -10,6 +10,9 @@ use crate::command::read_command;
 use crate::errors::ScriptErr;
 use hm_text_base::span;
 
+/// The most lines of a script.
+const MOST_LINES: usize = 1_000;
+
 /// The first line, where it is ended, and what stands behind it.
 #[tactic(auto, using(hm_text_base::proofs::LineLaws::lines_span))]
 pub fn next_line(text: &[u8]) -> Option<(&[u8], &[u8])>
@@ -66,7 +69,7 @@ pub fn check_script(text: &[u8]) -> Result<(), ScriptErr>
     ensures fine { OnOk result ((cs : List Command) × IsScript text.now cs) }
     ensures refused { IfErr result (λ e. ScriptRefuses text.now e) }
 {
-    if line_count(text) > 1_000 {
+    if line_count(text) > MOST_LINES {
         return Err(ScriptErr::TooManyLines);
     }
     check_lines(text)

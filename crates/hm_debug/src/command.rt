@@ -1,15 +1,20 @@
 //! What a line of a script says.
 
-ghost use Rattle.std.specs.Prelude.{◌≡◌, ◌<◌, ◌++◌, ◌^◌, ℕ, codes, IfSome, Some};
-ghost use Rattle.std.specs.Fmt.{decimal};
-ghost use Rattle.hm_text_base.specs.Texts.{hex8};
-ghost use Rattle.hm_text_base.specs.Numbers.{hex8_in, number_in};
-ghost use Rattle.hm_debug.specs.Commands.{Fits, Says};
-ghost use Rattle.hm_debug.specs.Reading.{goto_in, listing_in, memory_in, two_in, until_in};
+ghost use Rattle.std.specs.Prelude.{◌≡◌, ◌<◌, ◌++◌, ◌^◌, ◌↔◌, ℕ, codes, IfSome, IsTrue, Some};
+ghost use Rattle.hm_debug.specs.Commands.{Fits, IsRead, Says, range_text};
 ghost use Rattle.hm_debug.specs.declared.command.Command.{Command};
 
 use hm_base::FLASH_SIZE;
 use hm_text_base::{read_hex8, read_number, span};
+
+/// The last tick that a run may have.
+const MOST_TICKS: u32 = 16_777_216;
+
+/// The most bytes of memory that one command shows.
+const MOST_BYTES: u32 = 4_096;
+
+/// The most lines of the listing that one command shows.
+const MOST_LISTED: u32 = 1_000;
 
 /// A command of a script. A tick is the number of ticks done, from 0 on; the place is the tick at which the script stands.
 #[derive(Clone, Copy, Debug, PartialEq, Eq)]
@@ -30,10 +35,26 @@ pub enum Command {
     Listing { addr: u32, count: u32 },
 }
 
-/// Two numbers in a row: eight hexadecimal digits, a space, and decimal digits.
-#[tactic(auto, using(crate::proofs::TwoNumbers::two_none, crate::proofs::TwoNumbers::two_is))]
-fn read_two(text: &[u8]) -> Option<(u32, u32)>
-    ensures { result ≡ two_in text.now }
+/// Whether the numbers of a command are some that it may have.
+fn fits(command: Command) -> bool
+    ensures judged { IsTrue result ↔ Fits command }
+{
+    match command {
+        Command::Goto { tick } => tick <= MOST_TICKS,
+        Command::Step | Command::Back | Command::Until { .. } | Command::Show => true,
+        Command::Memory { addr, len } => {
+            len != 0 && len <= MOST_BYTES && u64::from(addr) + u64::from(len) <= 1 << 32
+        }
+        Command::Listing { addr, count } => {
+            addr % 2 == 0 && addr < FLASH_SIZE && count != 0 && count <= MOST_LISTED
+        }
+    }
+}
+
+/// An address and how many are asked for from there on: eight hexadecimal digits, a space, and at most eight decimal digits.
+fn read_range(text: &[u8]) -> Option<(u32, u32)>
+    ensures reads { IfSome result (λ p. text.now ≡ range_text p.0 p.1) }
+    ensures finds { (a n : ℕ) → a < 2 ^ 32 → n < 10 ^ 8 → text.now ≡ range_text a n → result ≡ Some (a, n) }
 {
     let (first, from) = span(b' ', text);
     if from.is_empty() {
@@ -44,51 +65,41 @@ fn read_two(text: &[u8]) -> Option<(u32, u32)>
     Some((addr, n))
 }
 
+/// What stands behind `goto `.
 fn read_goto(text: &[u8]) -> Option<Command>
-    ensures value { result ≡ goto_in (number_in text.now) }
-    ensures fits { IfSome result Fits }
+    ensures read { IsRead (codes "goto " ++ text.now) result }
 {
-    let n = read_number(text)?;
-    if n > 16_777_216 {
-        return None;
-    }
-    Some(Command::Goto { tick: n })
+    let tick = read_number(text)?;
+    Some(Command::Goto { tick })
 }
 
+/// What stands behind `until `.
 fn read_until(text: &[u8]) -> Option<Command>
-    ensures value { result ≡ until_in (hex8_in text.now) }
-    ensures fits { IfSome result Fits }
+    ensures read { IsRead (codes "until " ++ text.now) result }
 {
     let addr = read_hex8(text)?;
     Some(Command::Until { addr })
 }
 
+/// What stands behind `mem `.
 fn read_memory(text: &[u8]) -> Option<Command>
-    ensures value { result ≡ memory_in (two_in text.now) }
-    ensures fits { IfSome result Fits }
+    ensures read { IsRead (codes "mem " ++ text.now) result }
 {
-    let (addr, len) = read_two(text)?;
-    if len == 0 || len > 4096 || addr as u64 + len as u64 > 0x1_0000_0000 {
-        return None;
-    }
+    let (addr, len) = read_range(text)?;
     Some(Command::Memory { addr, len })
 }
 
+/// What stands behind `dis `.
 fn read_listing(text: &[u8]) -> Option<Command>
-    ensures value { result ≡ listing_in (two_in text.now) }
-    ensures fits { IfSome result Fits }
+    ensures read { IsRead (codes "dis " ++ text.now) result }
 {
-    let (addr, count) = read_two(text)?;
-    if count == 0 || count > 1000 || addr % 2 != 0 || addr >= FLASH_SIZE {
-        return None;
-    }
+    let (addr, count) = read_range(text)?;
     Some(Command::Listing { addr, count })
 }
 
-/// What a line says, where it says a command.
-pub fn read_command(text: &[u8]) -> Option<Command>
-    ensures found { IfSome result (λ c. Says text.now c) }
-    ensures only { (c : Command) → Says text.now c → result ≡ Some c }
+/// What a line is read as by its first word.
+fn read_words(text: &[u8]) -> Option<Command>
+    ensures read { IsRead text.now result }
 {
     if text == b"step".as_slice() {
         return Some(Command::Step);
@@ -99,17 +110,29 @@ pub fn read_command(text: &[u8]) -> Option<Command>
     if text == b"show".as_slice() {
         return Some(Command::Show);
     }
-    if text.starts_with(b"goto ") {
-        return read_goto(&text[5..]);
+    if let Some(rest) = text.strip_prefix(b"goto ") {
+        return read_goto(rest);
     }
-    if text.starts_with(b"until ") {
-        return read_until(&text[6..]);
+    if let Some(rest) = text.strip_prefix(b"until ") {
+        return read_until(rest);
     }
-    if text.starts_with(b"mem ") {
-        return read_memory(&text[4..]);
+    if let Some(rest) = text.strip_prefix(b"mem ") {
+        return read_memory(rest);
     }
-    if text.starts_with(b"dis ") {
-        return read_listing(&text[4..]);
+    if let Some(rest) = text.strip_prefix(b"dis ") {
+        return read_listing(rest);
     }
     None
+}
+
+/// What a line says, where it says a command.
+pub fn read_command(text: &[u8]) -> Option<Command>
+    ensures found { IfSome result (λ c. Says text.now c) }
+    ensures only { (c : Command) → Says text.now c → result ≡ Some c }
+{
+    let command = read_words(text)?;
+    if !fits(command) {
+        return None;
+    }
+    Some(command)
 }

@@ -1,6 +1,7 @@
 //! Lines of memory.
 
 ghost use Rattle.std.specs.Prelude.{◌≡◌, ◌+◌, ◌/◌, ◌^◌, ◌≤◌, ◌++◌, IfOk, true};
+ghost use Rattle.hm_debug.specs.Commands.{most_bytes};
 ghost use Rattle.hm_debug.specs.Lines.{all_mapped, bytes_text, contents_text, memory_line, memory_lines};
 ghost use Rattle.hm_machine.specs.Shown.{timed_of};
 
@@ -73,7 +74,7 @@ pub fn add_memory(
     len: u32,
 ) -> Result<(), OutOfMemory>
     requires within { addr + len ≤ 2 ^ 32 }
-    requires few { len ≤ 4096 }
+    requires few { len ≤ most_bytes }
     ensures added { IfOk result (λ _. out.new.items ≡ out.old.items ++ memory_lines (timed_of machine.now).config.state addr len ((len + 15) / 16)) }
 {
     for row in 0..(len + 15) / 16 {
