@@ -3,19 +3,15 @@ use Rattle.std.proofs.Common.{◌≡◌, ℕ, ◌<◌, ◌-◌, ap, arith, refl,
 use Rattle.std.proofs.lemmas.Bool.Decides.{nat_tests}
 use Rattle.hm_base.specs.Image.{Segment, first_byte, flash_byte, flash_size, given, in_sram, sram_start}
 use Rattle.hm_codes.specs.Listing.{IsListing, Listing}
-use Rattle.hm_debug.specs.Films.{Film, IsFilm, TellsFlash}
+use Rattle.hm_debug.specs.Films.{Film, IsFilm, ShowsTick, TellsFlash}
 use Rattle.hm_handlers.specs.Runs.{Run, begin, closed, run}
 use Rattle.hm_machine.proofs.Ticks.{timed_is}
 use Rattle.hm_machine.specs.Shown.{Shown, Shows, run_of, timed_of}
-use Rattle.hm_machine.specs.Taped.{Taped, Tapes}
+use Rattle.hm_machine.specs.Taped.{Taped}
 use Rattle.hm_mem.specs.Memory.{Memory, byte_at, told_at}
 use Rattle.hm_sched.specs.Schedule.{Sched, TickLine, ticks_of}
 use Rattle.hm_state.specs.Start.{start_under}
 use Rattle.hm_state.specs.State.{Byte, state_of}
-
--- a machine of a tape that was asked for a tick
-abbrev pub ShowsTick : Taped → ℕ → Shown → Type 0
-ShowsTick w t m = (image : List Segment) (s : Sched) → Tapes image s w → Shows image s t m
 
 pub film_last : (f : Film) (w : Taped) → IsFilm f w → f.last ≡ w.last
 film_last f w film = ap (λ (x : Film). x.last) film.is ∙ film.holds.last film.listing film.listed
@@ -70,4 +66,4 @@ start_tells f w m film shows =
     subst
     (λ (x : Film). TellsFlash x.flash m)
     (sym film.is)
-    (record { bytes = start_bytes film.image film.schedule film.listing m film.listed s; stands = s.bytes })
+    (record { bytes = start_bytes film.image film.schedule film.listing m film.listed s; flash_is = s.bytes })

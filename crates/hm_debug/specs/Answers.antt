@@ -29,9 +29,9 @@ abbrev pub next_at : (ℕ → Bool) → ℕ → ℕ → Option ℕ
 next_at holds t zero = None
 next_at holds t (suc n) = if holds (t + 1) then Some (t + 1) else next_at holds (t + 1) n
 
--- the thread stands between two instructions, of which the next is at this address: thread mode, position 0 0, and pc
-abbrev pub stands_at : ℕ → Timed → Bool
-stands_at addr x = nat_eq x.config.state.rest.ipsr 0 && nat_eq x.config.a 0 && nat_eq x.config.b 0 && nat_eq x.config.state.pc addr
+-- the thread has come to an address, between two instructions: thread mode, position 0 0, and pc
+abbrev pub reaches : ℕ → Timed → Bool
+reaches addr x = nat_eq x.config.state.rest.ipsr 0 && nat_eq x.config.a 0 && nat_eq x.config.b 0 && nat_eq x.config.state.pc addr
 
 -- to the tick that was found, else to the last one
 abbrev pub found_or_end : ℕ → Option ℕ → Answer
@@ -47,7 +47,7 @@ abbrev pub answer : Film → Command → ℕ → Answer
 answer f (command.Goto tick) t = to_tick f.last tick
 answer f command.Step t = to_tick f.last (t + 1)
 answer f command.Back t = at_tick (t - 1)
-answer f (command.Until addr) t = found_or_end f.last (next_at (λ u. stands_at addr (f.at u)) t (f.last - t))
+answer f (command.Until addr) t = found_or_end f.last (next_at (λ u. reaches addr (f.at u)) t (f.last - t))
 answer f command.Show t = stay t (report_text (f.at t))
 answer f (command.Memory addr len) t = stay t (memory_lines (f.at t).config.state addr len ((len + 15) / 16))
 answer f (command.Listing addr count) t = stay t (listing_lines f.flash f.listing addr count)

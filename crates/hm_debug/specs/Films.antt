@@ -3,7 +3,7 @@ use Rattle.std.specs.Prelude.{◌≡◌, ◌<◌, ℕ, List, Some}
 use Rattle.hm_base.specs.Image.{Segment, flash_byte, flash_size}
 use Rattle.hm_codes.specs.Listing.{Listing, IsListing}
 use Rattle.hm_handlers.specs.Runs.{run, run_out, shown}
-use Rattle.hm_machine.specs.Shown.{Shown}
+use Rattle.hm_machine.specs.Shown.{Shown, Shows}
 use Rattle.hm_machine.specs.Taped.{Taped, Tapes}
 use Rattle.hm_mem.specs.Memory.{flash_at, told_at}
 use Rattle.hm_run.specs.Timed.{Timed}
@@ -34,7 +34,11 @@ pub record IsFilm (f : Film) (w : Taped) : Type 0 where
   pub holds : Tapes image schedule w
   pub is : f ≡ film_of listing image schedule
 
--- a machine tells of this flash: each of its bytes, and what stands in it
+-- a machine shows a tick of the run that a tape holds
+abbrev pub ShowsTick : Taped → ℕ → Shown → Type 0
+ShowsTick w t m = (image : List Segment) (s : Sched) → Tapes image s w → Shows image s t m
+
+-- a machine tells of this flash, and of each of its bytes
 pub record TellsFlash (flash : ℕ → ℕ) (m : Shown) : Type 0 where
   pub bytes : (a : ℕ) → a < flash_size → told_at m.memory a ≡ Some (flash a)
-  pub stands : flash_at m.memory ≡ flash
+  pub flash_is : flash_at m.memory ≡ flash

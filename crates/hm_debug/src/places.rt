@@ -1,10 +1,12 @@
 //! Going to a tick of the run, and the line that names it.
 
 ghost use Rattle.std.specs.Prelude.{◌≡◌, ◌+◌, ◌-◌, ◌≤◌, ◌++◌, ◌&&◌, nat_eq, IfOk, IfSome};
-ghost use Rattle.hm_debug.specs.Answers.{Gives, at_end, at_tick, found_or_end, next_at, stands_at, to_tick};
-ghost use Rattle.hm_debug.specs.Films.{Film, IsFilm};
+ghost use Rattle.hm_debug.specs.Answers.{Gives, at_end, at_tick, found_or_end, next_at, reaches, to_tick};
+ghost use Rattle.hm_debug.specs.Films.{Film, IsFilm, ShowsTick};
 ghost use Rattle.hm_debug.specs.Lines.{end_line, tick_line};
 ghost use Rattle.hm_machine.specs.Shown.{timed_of};
+ghost use Rattle.hm_machine.specs.TapeLending.{TapeStays};
+ghost use Rattle.std.specs.Borrow.{sem};
 
 use hm_base::OutOfMemory;
 use hm_machine::{Machine, Tape, Window};
@@ -12,8 +14,20 @@ use hm_regs::Regs;
 use hm_text_base::{decimal, text};
 use std::alloc::Global;
 
+/// The machine at a tick that the run begins.
+pub fn machine_at(tape: &mut Tape, tick: u32) -> &Machine
+    requires within { tick ≤ tape.old.last }
+    ensures* stays { sem 𝓛 (TapeStays tape.entry) }
+    ensures shows { ShowsTick tape.old tick result.now }
+{
+    match tape.at(tick) {
+        Ok(machine) => machine,
+        Err(_past) => unreachable!(),
+    }
+}
+
 /// Adds the line of a tick, and answers that tick.
-pub fn stand(alloc: Global, out: &mut Vec<u8>, tick: u32) -> Result<u32, OutOfMemory>
+pub fn tell_tick(alloc: Global, out: &mut Vec<u8>, tick: u32) -> Result<u32, OutOfMemory>
     ensures gives { IfOk result (λ place. Gives (at_tick tick) out.old.items out.new.items place) }
 {
     text(out, b"tick ")?;
@@ -23,7 +37,7 @@ pub fn stand(alloc: Global, out: &mut Vec<u8>, tick: u32) -> Result<u32, OutOfMe
 }
 
 /// Adds the line of the last tick, where none is as was asked for, and answers that tick.
-fn stand_at_end(alloc: Global, out: &mut Vec<u8>, last: u32) -> Result<u32, OutOfMemory>
+fn tell_end(alloc: Global, out: &mut Vec<u8>, last: u32) -> Result<u32, OutOfMemory>
     ensures gives { IfOk result (λ place. Gives (at_end last) out.old.items out.new.items place) }
 {
     text(out, b"end ")?;
@@ -37,9 +51,9 @@ pub fn go_to(alloc: Global, out: &mut Vec<u8>, last: u32, tick: u32) -> Result<u
     ensures gives { IfOk result (λ place. Gives (to_tick last tick) out.old.items out.new.items place) }
 {
     if tick <= last {
-        stand(alloc, out, tick)
+        tell_tick(alloc, out, tick)
     } else {
-        stand_at_end(alloc, out, last)
+        tell_end(alloc, out, last)
     }
 }
 
@@ -49,57 +63,54 @@ pub fn go_on(alloc: Global, out: &mut Vec<u8>, last: u32, place: u32) -> Result<
     ensures gives { IfOk result (λ next. Gives (to_tick last (place + 1)) out.old.items out.new.items next) }
 {
     if place < last {
-        stand(alloc, out, place + 1)
+        tell_tick(alloc, out, place + 1)
     } else {
-        stand_at_end(alloc, out, last)
+        tell_end(alloc, out, last)
     }
 }
 
-/// Whether these are registers and a position of the thread between two instructions, of which the next is at an address.
-fn stands(regs: &Regs, window: Window, addr: u32) -> bool
+/// Whether with these registers and at this position the thread is between two instructions, of which the next is at an address.
+fn is_at(regs: &Regs, window: Window, addr: u32) -> bool
     ensures value { result ≡ (nat_eq regs.now.ipsr 0 && nat_eq window.a 0 && nat_eq window.b 0 && nat_eq regs.now.pc addr) }
 {
     regs.ipsr == 0 && window.a == 0 && window.b == 0 && regs.pc == addr
 }
 
-/// Whether the thread stands between two instructions, of which the next is at an address.
+/// Whether the thread has come to an address.
 #[tactic(auto, unfolding(hm_state::specs::State::regs_of))]
-fn is_before(machine: &Machine, addr: u32) -> bool
-    ensures value { result ≡ stands_at addr (timed_of machine.now) }
+fn reaches(machine: &Machine, addr: u32) -> bool
+    ensures value { result ≡ reaches addr (timed_of machine.now) }
 {
-    stands(machine.regs(), machine.position(), addr)
+    is_at(machine.regs(), machine.position(), addr)
 }
 
-/// The same at a tick of a run.
-fn is_before_at(tape: &mut Tape, tick: u32, addr: u32) -> bool
+/// Whether it has at the end of a tick.
+fn reaches_at(tape: &mut Tape, tick: u32, addr: u32) -> bool
     requires within { tick ≤ tape.old.last }
     ensures stays { tape.new ≡ tape.old }
-    ensures value { (f : Film) → IsFilm f tape.old → result ≡ stands_at addr (f.at tick) }
+    ensures value { (f : Film) → IsFilm f tape.old → result ≡ reaches addr (f.at tick) }
 {
-    match tape.at(tick) {
-        Ok(machine) => is_before(machine, addr),
-        Err(_past) => unreachable!(),
-    }
+    reaches(machine_at(tape, tick), addr)
 }
 
-/// The next later tick at which the thread stands before an address. It goes through the run once.
-fn next_before(tape: &mut Tape, addr: u32, place: u32) -> Option<u32>
+/// The next later tick at whose end the thread has come to an address. It goes through the run once.
+fn next_reaching(tape: &mut Tape, addr: u32, place: u32) -> Option<u32>
     requires within { place ≤ tape.old.last }
     ensures stays { tape.new ≡ tape.old }
     ensures within { IfSome result (λ tick. tick ≤ tape.old.last) }
-    ensures next { (f : Film) → IsFilm f tape.old → result ≡ next_at (λ u. stands_at addr (f.at u)) place (tape.old.last - place) }
+    ensures next { (f : Film) → IsFilm f tape.old → result ≡ next_at (λ u. reaches addr (f.at u)) place (tape.old.last - place) }
 {
     let last = tape.last();
     for tick in place..last {
-        if is_before_at(tape, tick + 1, addr) {
+        if reaches_at(tape, tick + 1, addr) {
             return Some(tick + 1);
         }
     }
     None
 }
 
-/// Goes to the next later tick at which the thread stands before an address, or to the last one.
-pub fn go_before(
+/// Goes to the next later tick at whose end the thread has come to an address, or to the last one.
+pub fn go_until(
     alloc: Global,
     out: &mut Vec<u8>,
     tape: &mut Tape,
@@ -110,10 +121,10 @@ pub fn go_before(
     ensures stays { tape.new ≡ tape.old }
     ensures within { IfOk result (λ tick. tick ≤ tape.old.last) }
     ensures gives { (f : Film) → IsFilm f tape.old
-        → IfOk result (λ tick. Gives (found_or_end tape.old.last (next_at (λ u. stands_at addr (f.at u)) place (tape.old.last - place))) out.old.items out.new.items tick) }
+        → IfOk result (λ tick. Gives (found_or_end tape.old.last (next_at (λ u. reaches addr (f.at u)) place (tape.old.last - place))) out.old.items out.new.items tick) }
 {
-    match next_before(tape, addr, place) {
-        Some(tick) => stand(alloc, out, tick),
-        None => stand_at_end(alloc, out, tape.last()),
+    match next_reaching(tape, addr, place) {
+        Some(tick) => tell_tick(alloc, out, tick),
+        None => tell_end(alloc, out, tape.last()),
     }
 }

@@ -19,7 +19,7 @@ use crate::command::{Command, read_command};
 use crate::errors::ScriptErr;
 use crate::flash::add_listing;
 use crate::memory::add_memory;
-use crate::places::{go_before, go_on, go_to, stand};
+use crate::places::{go_on, go_to, go_until, machine_at, tell_tick};
 use hm_base::OutOfMemory;
 use hm_machine::Tape;
 use hm_text_base::text;
@@ -31,13 +31,8 @@ fn show(alloc: Global, out: &mut Vec<u8>, tape: &mut Tape, tick: u32) -> Result<
     ensures stays { tape.new ≡ tape.old }
     ensures added { (f : Film) → IsFilm f tape.old → IfOk result (λ _. out.new.items ≡ out.old.items ++ report_text (f.at tick)) }
 {
-    match tape.at(tick) {
-        Ok(machine) => {
-            let report = machine.report(alloc)?;
-            text(out, &report)
-        }
-        Err(_past) => unreachable!(),
-    }
+    let report = machine_at(tape, tick).report(alloc)?;
+    text(out, &report)
 }
 
 /// Adds bytes of memory at a tick.
@@ -54,10 +49,7 @@ fn show_memory(
     ensures added { (f : Film) → IsFilm f tape.old
         → IfOk result (λ _. out.new.items ≡ out.old.items ++ memory_lines (f.at tick).config.state addr len ((len + 15) / 16)) }
 {
-    match tape.at(tick) {
-        Ok(machine) => add_memory(out, machine, addr, len),
-        Err(_past) => unreachable!(),
-    }
+    add_memory(out, machine_at(tape, tick), addr, len)
 }
 
 /// Adds lines of the listing. No tick changes flash: it is told at the start of the run, where it is that of the image.
@@ -71,10 +63,7 @@ fn show_listing(
     ensures stays { tape.new ≡ tape.old }
     ensures added { (f : Film) → IsFilm f tape.old → IfOk result (λ _. out.new.items ≡ out.old.items ++ listing_lines f.flash f.listing addr count) }
 {
-    match tape.at(0) {
-        Ok(machine) => add_listing(out, machine, addr, count),
-        Err(_past) => unreachable!(),
-    }
+    add_listing(out, machine_at(tape, 0), addr, count)
 }
 
 /// Does a command at a place: adds its answer, and gives the place after it.
@@ -94,8 +83,8 @@ fn answer(
     match command {
         Command::Goto { tick } => go_to(alloc, out, tape.last(), tick),
         Command::Step => go_on(alloc, out, tape.last(), place),
-        Command::Back => stand(alloc, out, place.saturating_sub(1)),
-        Command::Until { addr } => go_before(alloc, out, tape, addr, place),
+        Command::Back => tell_tick(alloc, out, place.saturating_sub(1)),
+        Command::Until { addr } => go_until(alloc, out, tape, addr, place),
         Command::Show => {
             show(alloc, out, tape, place)?;
             Ok(place)

@@ -6,5 +6,5 @@ use Rattle.hm_debug.proofs.running.show.Goals as goal
 
 pub returns-clause-added : goal.returns-clause-added
 returns-clause-added c f film =
-    let is = c.deref.ensures.value ∙ c.in_ok-report-in-Ok.ensures ∙ ap report_text (shows_at f _ c.args.tick _ film c.in-Ok.ensures.shows) in
+    let is = c.deref.ensures.value ∙ c.in_ok-report.ensures ∙ ap report_text (shows_at f _ c.args.tick _ film c.machine_at.ensures.shows) in
     subst (λ (r : List ℕ). IfOk c.text.result (λ _. c.text.new.out.items ≡ c.args.out.now.items ++ r)) is c.text.ensures
