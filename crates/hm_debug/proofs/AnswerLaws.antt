@@ -3,6 +3,7 @@ use Rattle.std.proofs.Common.{◌≡◌, ℕ, zero, suc, ap, arith, refl, sym, �
 use Rattle.hm_base.specs.Image.{flash_size}
 use Rattle.hm_codes.specs.Listing.{IsListing, Listing}
 use Rattle.hm_debug.proofs.Flashes.{entry_half, entry_shown, halves_within, lines_end, lines_more}
+use Rattle.hm_debug.proofs.Longer.{goes_on}
 use Rattle.hm_debug.proofs.ScriptLaws.{one_script}
 use Rattle.hm_debug.specs.Answers.{IsAnswered, answer, answers}
 use Rattle.hm_debug.specs.Films.{Film}
@@ -19,11 +20,17 @@ some_answer f text cs script = (answers f cs 0, record { commands = cs; script =
 pub one_answer : (f : Film) (text x y : List ℕ) → IsAnswered f text x → IsAnswered f text y → x ≡ y
 one_answer f text x y p q = p.is ∙ ap (λ (cs : List Command). answers f cs 0) (one_script text p.commands q.commands p.script q.script) ∙ sym q.is
 
-pub answers_grow : (f : Film) (cs ds : List Command) (t : ℕ) → (more : List ℕ) × (answers f (cs ++ ds) t ≡ answers f cs t ++ more)
+answers_grow : (f : Film) (cs ds : List Command) (t : ℕ) → (more : List ℕ) × (answers f (cs ++ ds) t ≡ answers f cs t ++ more)
 answers_grow f [] ds t = (answers f ds t, refl)
 answers_grow f (c ∷ cs) ds t =
     let rest = answers_grow f cs ds (answer f c t).place in
     (rest.0, ap (λ (x : List ℕ). (answer f c t).text ++ x) rest.1 ∙ sym (append_assoc (answer f c t).text (answers f cs (answer f c t).place) rest.0))
+
+pub answers_begin : (f : Film) (text more x y : List ℕ) → IsAnswered f text x → IsAnswered f (text ++ more) y → (rest : List ℕ) × (y ≡ x ++ rest)
+answers_begin f text more x y p q =
+    let ds = goes_on text more p.commands q.commands p.script q.script in
+    let rest = answers_grow f p.commands ds.0 0 in
+    (rest.0, q.is ∙ ap (λ (cs : List Command). answers f cs 0) ds.1 ∙ rest.1 ∙ ap (λ (t : List ℕ). t ++ rest.0) (sym p.is))
 
 -- LINES
 -- what the listing shows at an address is what stands there: a code lies in flash

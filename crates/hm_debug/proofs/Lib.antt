@@ -2,6 +2,7 @@ pub mod Lines
 pub mod Reading
 pub mod Deciding
 pub mod ScriptLaws
+pub mod Longer
 pub mod Showing
 pub mod Bytes
 pub mod Going

@@ -1,9 +1,9 @@
 //! Laws of the definitions. The functions do nothing, and their clauses are what is proved.
 
-ghost use Rattle.std.specs.Prelude.{◌≡◌, ◌⊎◌, ◌↔◌, ◌++◌, List, [], ℕ, None, take};
+ghost use Rattle.std.specs.Prelude.{◌≡◌, ◌⊎◌, ◌↔◌, ◌++◌, List, [], ℕ, take};
 ghost use Rattle.hm_base.specs.Image.{Segment, flash_size};
 ghost use Rattle.hm_codes.specs.Listing.{IsListing, Listing};
-ghost use Rattle.hm_debug.specs.Answers.{IsAnswered, answers};
+ghost use Rattle.hm_debug.specs.Answers.{IsAnswered};
 ghost use Rattle.hm_debug.specs.Films.{Film};
 ghost use Rattle.hm_debug.specs.Lines.{listing_lines};
 ghost use Rattle.hm_debug.specs.Scripts.{IsScript, ScriptRefuses};
@@ -21,18 +21,19 @@ pub fn script_law()
     ensures not_both { (text : List ℕ) (cs : List Command) (e : ScriptErr) → IsScript text cs → ¬ (ScriptRefuses text e) }
 {}
 
-/// A script has one text of answers on each run. It begins with the text of each script that this one goes on with.
+/// A script has one text of answers on each run, and a longer script's answers begin with those of the shorter.
 pub fn answer_law()
     ensures some { (f : Film) (text : List ℕ) (cs : List Command) → IsScript text cs → (x : List ℕ) × IsAnswered f text x }
     ensures one { (f : Film) (text x y : List ℕ) → IsAnswered f text x → IsAnswered f text y → x ≡ y }
-    ensures grows { (f : Film) (cs ds : List Command) (t : ℕ) → (more : List ℕ) × (answers f (cs ++ ds) t ≡ answers f cs t ++ more) }
+    ensures grows { (f : Film) (text more x y : List ℕ) → IsAnswered f text x → IsAnswered f (text ++ more) y → (rest : List ℕ) × (y ≡ x ++ rest) }
     // Its lines of the listing are the first of those from the address up to the end of flash.
     ensures listing { (f : Film) (a n : ℕ) (es : List Entry) → IsListing f.flash f.listing → AreEntries f.flash a flash_size es
         → listing_lines f.flash f.listing a n ≡ lines_from a (take n es) }
 {}
 
-/// While a run goes on, the exception number is 0 exactly where no exception is active: `until` looks at thread mode as a report tells it.
+/// At each tick, also at one that ended the run, the exception number is 0 exactly where no exception is active: `until` looks at thread mode as a
+/// report tells it.
 pub fn thread_law()
-    ensures thread { (listing : Listing) (image : List Segment) (s : Sched) (t : ℕ) → let x = run listing image s t in x.outcome ≡ None
-        → ((x.machine.config.state.rest.ipsr ≡ 0) ↔ (x.machine.acts ≡ [])) }
+    ensures thread { (listing : Listing) (image : List Segment) (s : Sched) (t : ℕ) → let x = run listing image s t in
+        (x.machine.config.state.rest.ipsr ≡ 0) ↔ (x.machine.acts ≡ []) }
 {}

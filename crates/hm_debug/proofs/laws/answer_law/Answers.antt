@@ -1,4 +1,4 @@
-use Rattle.hm_debug.proofs.AnswerLaws.{answers_grow, lines_listed, one_answer, some_answer}
+use Rattle.hm_debug.proofs.AnswerLaws.{answers_begin, lines_listed, one_answer, some_answer}
 use Rattle.hm_debug.proofs.laws.answer_law.Goals as goal
 
 pub returns-clause-some : goal.returns-clause-some
@@ -8,7 +8,7 @@ pub returns-clause-one : goal.returns-clause-one
 returns-clause-one c = one_answer
 
 pub returns-clause-grows : goal.returns-clause-grows
-returns-clause-grows c = answers_grow
+returns-clause-grows c = answers_begin
 
 pub returns-clause-listing : goal.returns-clause-listing
 returns-clause-listing c f a n es = lines_listed f.flash f.listing n a es
