@@ -1,9 +1,12 @@
-//! Runs the soak's code as often as is asked, so that it can be timed: under its schedule, or one whole instruction a tick.
+//! Runs the soak's code as often as is asked, so that it can be timed: under its schedule, one whole instruction a tick, or under its plan, of which
+//! it tells how dense it is.
 #![tactic(auto)]
 
-use anyhow::{Context, Result, bail};
+use anyhow::{Context, Result, bail, ensure};
+use hm_base::Image;
 use hm_machine::Machine;
-use hm_sched::plain;
+use hm_plan::plan;
+use hm_sched::{Schedule, plain};
 use hm_soak::make;
 use std::alloc::Global;
 use std::io::{BufWriter, Write};
@@ -12,23 +15,69 @@ use std::{env, io};
 /// How many instructions a soak has.
 const INSTRUCTIONS: u32 = 4113;
 
+/// What the first word may be.
+const WANTED: &str = "overlapped, plain or planned is wanted";
+
 /// How the ticks of a run are given.
 #[derive(Clone, Copy)]
 enum Ticks {
     Overlapped,
     Plain,
+    Planned,
 }
 
-/// Runs the soak of a number to its end.
-fn run(alloc: Global, number: u32, ticks: Ticks) -> Result<Machine> {
+/// What the lines of a schedule do by beats, a beat a letter: how many beats, and in how many ticks.
+#[derive(Clone, Copy, Default)]
+struct Beats {
+    beats: u64,
+    ticks: u64,
+}
+
+/// The code of a soak, with its ticks.
+fn soak(alloc: Global, number: u32, ticks: Ticks) -> Result<(Image, Schedule)> {
     let (image, overlapped) = make(alloc, number)?;
     let schedule = match ticks {
         Ticks::Overlapped => overlapped,
         Ticks::Plain => plain(alloc, INSTRUCTIONS)?,
+        Ticks::Planned => plan(alloc, &image, INSTRUCTIONS)?,
     };
+    Ok((image, schedule))
+}
+
+/// Runs the soak of a number to its end.
+fn run(alloc: Global, number: u32, ticks: Ticks) -> Result<Machine> {
+    let (image, schedule) = soak(alloc, number, ticks)?;
     let mut machine = Machine::load(alloc, &image, schedule)?;
     let _outcome = machine.run();
     Ok(machine)
+}
+
+/// What a plan does by beats: the ticks of all lines but those of W.
+fn by_beats(planned: &Schedule) -> Beats {
+    let mut sum = Beats::default();
+    for k in 0..planned.lines() {
+        let line = planned.line(k);
+        if line.letters.as_slice() != b"W".as_slice() {
+            let (count, letters) = (u64::from(line.count), line.letters.len() as u64);
+            sum.ticks = sum.ticks.saturating_add(count);
+            sum.beats = sum.beats.saturating_add(count.saturating_mul(letters));
+        }
+    }
+    sum
+}
+
+/// Tells how dense the plan of a soak is: how many ticks an instruction takes that is done by beats, of which it has four. Alone it takes a tick
+/// for each, and no schedule of two beats a tick takes fewer than two.
+fn density_text(alloc: Global, number: u32) -> Result<String> {
+    let (_image, planned) = soak(alloc, number, Ticks::Planned)?;
+    let Beats { beats, ticks } = by_beats(&planned);
+    let instructions = beats / 4;
+    ensure!(instructions > 0, "no instruction is done by beats");
+    let hundredths = ticks.saturating_mul(100) / instructions;
+    let (whole, part) = (hundredths / 100, hundredths % 100);
+    Ok(format!(in alloc;
+        "by beats {instructions} in {ticks} ticks, {whole}.{part:02} each; plain 4.00, at best 2.00"
+    )?)
 }
 
 /// The number that a word gives.
@@ -37,21 +86,26 @@ fn number(word: Option<String>) -> Result<u32> {
     word.parse::<u32>().context("no number")
 }
 
-/// Does as many runs as are asked for, and prints what the last one did: overlapped or plain, the number, how many.
+/// Does as many runs as are asked for, and prints what the last one did: overlapped, plain or planned, the number, how many. Of a plan it prints first
+/// how dense it is.
 fn main(rt: HostRuntime) -> Result<()> {
     let alloc = rt.alloc();
     let mut words = env::args(&rt)?.skip(1);
-    let word = words.next().context("overlapped or plain is wanted")?;
+    let word = words.next().context(WANTED)?;
     let ticks = match word.as_str() {
         "overlapped" => Ticks::Overlapped,
         "plain" => Ticks::Plain,
-        _ => bail!("overlapped or plain is wanted"),
+        "planned" => Ticks::Planned,
+        _ => bail!("{WANTED}"),
     };
-    let soak = number(words.next())?;
+    let chosen = number(words.next())?;
     let times = number(words.next())?;
     let mut out = BufWriter::new(alloc, io::writer(&rt))?;
+    if let Ticks::Planned = ticks {
+        writeln!(out, "{}", density_text(alloc, chosen)?)?;
+    }
     for time in 1..=times {
-        let machine = run(alloc, soak, ticks)?;
+        let machine = run(alloc, chosen, ticks)?;
         if time == times {
             let (instructions, steps, done) = (
                 machine.retired(),

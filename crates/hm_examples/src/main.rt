@@ -1,10 +1,12 @@
-//! Assembles the shipped examples, runs each under its schedule, and prints what they come to.
+//! Assembles the shipped examples, runs each under its schedule, and prints what they come to, and the plan of the instructions that were run.
 #![tactic(auto)]
 
 use anyhow::{Context, Result, bail, ensure};
 use hm_asm::assemble;
+use hm_base::Image;
 use hm_machine::Machine;
-use hm_sched::parse;
+use hm_plan::plan;
+use hm_sched::{parse, print};
 use std::alloc::Global;
 use std::io::{BufWriter, Write};
 use std::ops::Range;
@@ -12,6 +14,12 @@ use std::{env, fs, io};
 
 /// The most bytes that a source may have.
 const LONGEST: usize = 16_777_216;
+
+/// The most instructions that a plan may have.
+const MOST: u64 = 262_144;
+
+/// How many lines of a schedule stand before its first ticks.
+const HEAD_LINES: usize = 4;
 
 /// How many lines of a report are printed: the outcome, the mode, and r0 to r4.
 const LINES: usize = 7;
@@ -21,17 +29,34 @@ const COPIED: Range<u32> = 0x2000_0000..0x2000_0018;
 
 const COUNTED: Range<u32> = 0x2000_1000..0x2000_1004;
 
-/// Assembles a source, and runs its image to the end under a schedule.
-fn run(alloc: Global, source: &[u8], schedule: &[u8]) -> Result<Machine> {
+/// The image of a source.
+fn image_of(alloc: Global, source: &[u8]) -> Result<Image> {
     ensure!(source.len() <= LONGEST, "the source is too long");
-    let image = match assemble(alloc, source) {
-        Ok(image) => image,
+    match assemble(alloc, source) {
+        Ok(image) => Ok(image),
         Err(e) => bail!("{e}: {e:?}"),
-    };
+    }
+}
+
+/// Runs an image to the end under a schedule.
+fn run(alloc: Global, image: &Image, schedule: &[u8]) -> Result<Machine> {
     let schedule = parse(alloc, schedule)?;
-    let mut machine = Machine::load(alloc, &image, schedule)?;
+    let mut machine = Machine::load(alloc, image, schedule)?;
     let _outcome = machine.run();
     Ok(machine)
+}
+
+/// The plan of so many instructions of an image, its lines one behind another.
+fn plan_text(alloc: Global, image: &Image, instructions: u64) -> Result<String> {
+    ensure!(instructions <= MOST, "too many instructions for a plan");
+    let planned = plan(alloc, image, instructions as u32)?;
+    let file = String::from_utf8(print(alloc, &planned)?)?;
+    let mut text = String::from_str(alloc, "plan")?;
+    for line in file.lines().skip(HEAD_LINES) {
+        text.push(' ')?;
+        text.push_str(line)?;
+    }
+    Ok(text)
 }
 
 /// The bytes at addresses, in hexadecimal.
@@ -69,8 +94,10 @@ fn main(rt: HostRuntime) -> Result<()> {
     for name in env::args(&rt)?.skip(1) {
         let source = fs::read(&rt, &format!(in alloc; "{name}.s")?)?;
         let schedule = fs::read(&rt, &format!(in alloc; "{name}.sched")?)?;
-        let machine = run(alloc, &source, &schedule).context(format_args!("{name}"))?;
+        let image = image_of(alloc, &source).context(format_args!("{name}"))?;
+        let machine = run(alloc, &image, &schedule).context(format_args!("{name}"))?;
         write_example(&mut out, alloc, &name, &machine)?;
+        writeln!(out, "{}", plan_text(alloc, &image, machine.retired())?)?;
     }
     out.flush()?;
     Ok(())
