@@ -9,6 +9,7 @@ use Rattle.hm_codes.specs.Listing.{Listing, IsListing}
 use Rattle.hm_codes.proofs.Unique.{fetched_one}
 use Rattle.hm_elf.specs.ReadImage.{image_in}
 use Rattle.hm_ihex.specs.Files.{hex_in}
+use Rattle.hm_ihex.proofs.HexFiles.{hex_only}
 use Rattle.hm_commands.specs.Images.{IsImageIn, IsImageOf, begins_as_hex, image_of}
 use Rattle.hm_elf.proofs.ReadLaws.{image_again}
 use Rattle.hm_handlers.proofs.Lying.{taint_lies}
@@ -47,7 +48,7 @@ listing_one flash x y h k = λ i. λ a. fetched_one flash a (x a) (y a) (h.at a)
 image_of_again : (bytes : List ℕ) (image : List Segment) → IsImageOf bytes image → image_of bytes ≡ Ok image
 image_of_again bytes image holds = by_form (begins_as_hex bytes) holds where
   by_form : (hex : Bool) → IsImageIn hex bytes image → (if hex then hex_in bytes else image_in bytes) ≡ Ok image
-  by_form true h = h
+  by_form true h = hex_only bytes image h
   by_form false h = image_again bytes image h
 
 then_read-whole : (bytes : List ℕ) (more : List (List ℕ)) → length bytes ≤ longest → then_read (Some bytes) (whole more) ≡ whole (bytes ∷ more)

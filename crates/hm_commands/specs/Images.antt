@@ -1,10 +1,11 @@
 -- The image of a file: of Intel HEX, ELF, or flat.
-use Rattle.std.specs.Prelude.{◌≡◌, ℕ, Bool, true, false, List, Result, Ok, get_or, nat_eq, if◌then◌else◌}
+use Rattle.std.specs.Prelude.{ℕ, Bool, true, false, List, Result, get_or, nat_eq, if◌then◌else◌}
 use Rattle.hm_base.specs.Image.{Segment}
 use Rattle.hm_base.specs.declared.errors.ImageErr.{ImageErr}
 use Rattle.hm_elf.specs.Elf.{IsImageFile}
 use Rattle.hm_elf.specs.ReadImage.{image_in}
 use Rattle.hm_ihex.specs.Files.{hex_in}
+use Rattle.hm_ihex.specs.HexFile.{IsHexFile}
 
 -- a file that begins with a colon is of Intel HEX
 abbrev pub begins_as_hex : List ℕ → Bool
@@ -16,7 +17,7 @@ image_of bytes = if begins_as_hex bytes then hex_in bytes else image_in bytes
 
 -- a file of this form, of Intel HEX or another, holds this image
 abbrev pub IsImageIn : Bool → List ℕ → List Segment → Type 0
-IsImageIn true bytes image = hex_in bytes ≡ Ok image
+IsImageIn true bytes image = IsHexFile bytes image
 IsImageIn false bytes image = IsImageFile bytes image
 
 -- a file holds this image
