@@ -117,8 +117,8 @@ some_half name d x l general m =
 
 some_sum : (i : Instr) × IsKind U8 Offset i
 some_sum =
-    let row : S6 = record { d = field 5 (omega arith); m = field 4 (omega arith); not_both_pc = refl } in
-    (instr.Scalar (scalar.S6 row), sum_made row 5 4 refl refl)
+    let sum : S6 = record { d = field 5 (omega arith); m = field 4 (omega arith); not_both_pc = refl } in
+    (instr.Scalar (scalar.S6 sum), sum_made sum 5 4 refl refl)
 
 some_splat : (t : ElementType) (q : ℕ) → q < 8 → (i : Instr) × IsKind t (Splat q) i
 some_splat t q l =
