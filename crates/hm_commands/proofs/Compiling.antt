@@ -1,19 +1,21 @@
 -- What comes of a text of the array language.
-use Rattle.std.proofs.Common.{◌≡◌, ◌≤◌, ℕ, List, length, Option, Some, None, Result, Ok, Err, true, refl, sym, ap, subst, ◌∙◌}
+use Rattle.std.proofs.Common.{◌≡◌, ℕ, List, Some, None, Result, Ok, Err, true, refl, sym, subst}
 use Rattle.hm_base.specs.Image.{Segment}
+use Rattle.hm_elf.proofs.ReadLaws.{image_again}
+use Rattle.hm_elf.proofs.WriteLaws.{file_again}
 use Rattle.hm_elf.specs.WriteImage.{elf_file}
 use Rattle.hm_kernel.specs.Compiled.{Compiles}
-use Rattle.hm_kernel_text.proofs.FoundFile.{kernel_found}
 use Rattle.hm_kernel_text.proofs.AgainFile.{kernel_again}
 use Rattle.hm_kernel_text.specs.ReadFile.{Fails, kernel_in}
 use Rattle.hm_kernel_text.specs.Written.{Written}
 use Rattle.hm_kernel_text.specs.declared.errors.KernelErr.{KernelErr}
 use Rattle.hm_kernel_text.specs.declared.errors.KernelErr.TheVariants as refusals
 use Rattle.hm_commands.specs.Commands.{IsCompiledFile, IsKernelOutcome}
-use Rattle.hm_commands.specs.Work.{GivesOne, Outcome, finishes, kernel_stop, refuses}
+use Rattle.hm_commands.specs.Images.{image_of}
+use Rattle.hm_commands.specs.Work.{GivesOne, finishes, kernel_stop, refuses}
 use Rattle.hm_commands.specs.declared.work.Refusal.TheVariants.{Kernel}
 use Rattle.hm_commands.specs.declared.work.Stop.{Stop}
-use Rattle.hm_commands.specs.declared.work.Stop.TheVariants.{NoMemory, Refused}
+use Rattle.hm_commands.specs.declared.work.Stop.TheVariants.{NoMemory}
 use Rattle.hm_commands.proofs.Runs.{gives_at}
 
 -- a text that is refused
@@ -27,3 +29,7 @@ kernel_refused source out (refusals.Line k kind) stop cause is =
 pub compiled_file : (source out : List ℕ) (image : List Segment) → Compiles source image → IsKernelOutcome source out (finishes true (Some (out, elf_file image)) None)
 compiled_file source out image h =
     subst (λ (r : Result Written KernelErr). IsCompiledFile source r out (finishes true (Some (out, elf_file image)) None)) (sym (kernel_again source _ h.says)) (image, h, refl)
+
+-- the file of a compiled text holds its image
+pub compiled_held : (source : List ℕ) (image : List Segment) → Compiles source image → image_of (elf_file image) ≡ Ok image
+compiled_held source image h = image_again (elf_file image) image (file_again image h.compiled.sound h.compiled.few)

@@ -8,7 +8,7 @@ use Rattle.hm_commands.specs.declared.status.Status.TheVariants.{Done, Ended, Us
 use Rattle.hm_words.specs.Words.{Form, form_of}
 use Rattle.hm_commands.specs.Calls.{MakesCalls, read_calls, way_of}
 use Rattle.hm_commands.specs.Work.{Outcome, finishes, refuses}
-use Rattle.hm_commands.specs.Effect.{Effect, Reading, whole, too_large, missing, reading_of, reads_for, usage_effect, IsEffectAfter, IsEffect, effect_for, calls_for, BeginsOne, IsBegun, IsDone, IsUntouched, Carries, Does, StaysOrMakesAll}
+use Rattle.hm_commands.specs.Effect.{Effect, Reading, whole, too_large, missing, reading_of, reads_for, usage_effect, IsEffectAfter, IsEffect, effect_for, calls_for, BeginsOne, IsDone, IsUntouched, Carries, Does}
 
 not_usage : (o : Outcome) → (effect_for o).status ≡ Usage → ⊥
 not_usage (finishes true file text) h = cc

@@ -3,8 +3,10 @@
 ghost use Rattle.std.specs.Prelude.{◌≡◌, ◌≢◌, ℕ, List, Some, Ok, Result, option_map};
 ghost use Rattle.hm_base.specs.Image.{IsImage, Segment};
 ghost use Rattle.hm_codes.specs.Listing.{Listing};
+ghost use Rattle.hm_elf.specs.WriteImage.{elf_file};
 ghost use Rattle.hm_host.specs.Host.{FileMap};
 ghost use Rattle.hm_ihex.specs.Written.{AreBytes, hex_file};
+ghost use Rattle.hm_kernel.specs.Compiled.{Compiles};
 ghost use Rattle.hm_sched.specs.Schedule.{Sched};
 ghost use Rattle.hm_sched.specs.declared.errors.SchedErr.{SchedErr};
 ghost use Rattle.hm_commands.specs.Commands.{AreListings, run_outcome};
@@ -36,4 +38,11 @@ pub fn effect_law()
 pub fn hex_run_law()
     ensures alike { (listings : List Segment → Listing) (image : List Segment) (schedule : Result Sched SchedErr) (memory : List ℕ) → AreListings listings → IsImage image → AreBytes image
         → run_outcome listings (image_of (hex_file image)) schedule memory ≡ run_outcome listings (Ok image) schedule memory }
+{}
+
+/// The file that a text of the array language is compiled to holds the image, so each command that reads a file takes it for that image.
+///
+/// It does nothing; its clause is a theorem about the definitions.
+pub fn kernel_file_law()
+    ensures holds { (source : List ℕ) (image : List Segment) → Compiles source image → image_of (elf_file image) ≡ Ok image }
 {}

@@ -12,6 +12,6 @@ mod top;
 mod work;
 
 pub use hm_words::words_of_commands;
-pub use laws::{effect_law, hex_run_law, listings_exist};
+pub use laws::{effect_law, hex_run_law, kernel_file_law, listings_exist};
 pub use status::Status;
 pub use top::helium;

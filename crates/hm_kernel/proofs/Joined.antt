@@ -1,21 +1,30 @@
 -- The image that is made of a text is a compiled one, and each text has one.
-use Rattle.std.proofs.Common.{◌≡◌, ℕ, ◌<◌, ◌^◌, List, length, subst, sym, ◌∙◌, arith}
-use Rattle.hm_base.specs.Image.{Segment}
+use Rattle.std.proofs.Common.{◌≡◌, ℕ, ◌<◌, ◌^◌, List, Some, length, refl, subst, sym, ◌∙◌, arith}
+use Rattle.hm_base.specs.Image.{Segment, flash_byte}
+use Rattle.hm_codes.specs.Listing.{IsListing, Listing}
+use Rattle.hm_handlers.proofs.Whole.{headline_every}
+use Rattle.hm_handlers.specs.Runs.{shown_out}
 use Rattle.hm_kernel.specs.Compiled.{Compiles, IsCompiled, Takes}
 use Rattle.hm_kernel.proofs.One.{one_number}
 use Rattle.hm_kernel_code.specs.Images.{IsMade}
 use Rattle.hm_kernel_code.proofs.Exists.{some_made}
-use Rattle.hm_kernel_code.proofs.Whole.{few_segments, first_word_is, is_image}
+use Rattle.hm_kernel_code.proofs.Whole.{few_segments, first_word_is, is_image, is_sound}
 use Rattle.hm_kernel_lang.specs.declared.text.Text.{Text}
 use Rattle.hm_kernel_lang.specs.Language.{steps}
 use Rattle.hm_kernel_lang.specs.Texts.{IsText}
-use Rattle.hm_kernel_rows.proofs.Theorem.{computes}
+use Rattle.hm_kernel_rows.proofs.Theorem.{computes, file_of}
+use Rattle.hm_kernel_rows.specs.Theorem.{IsFileOf}
 use Rattle.hm_kernel_text.proofs.Exists.{text_exists}
 use Rattle.hm_kernel_text.specs.Written.{IsKernel, Written}
+use Rattle.hm_run.specs.declared.Outcome.TheVariants.{Halted}
+use Rattle.hm_run.specs.declared.Reason.{Reason}
+use Rattle.hm_run.specs.Report.{memory_text, report_text}
+use Rattle.hm_sched.specs.Schedule.{Sched}
 
 pub is_compiled : (x : Text) (image : List Segment) → IsText x → IsMade x image → IsCompiled x image
 is_compiled x image text made = record {
   text = text;
+  sound = is_sound x image text made;
   holds = is_image x image text made;
   first = first_word_is x image text made;
   few = let n = few_segments x image text made in omega arith;
@@ -32,3 +41,11 @@ some_compiled bytes w short says =
 -- the bytes of its text take its steps
 pub same_steps : (bytes : List ℕ) (image : List Segment) (n : ℕ) (compiled : Compiles bytes image) → Takes bytes n → n ≡ steps compiled.text
 same_steps bytes image n compiled takes = takes.steps_are ∙ one_number bytes takes.text compiled.text takes.sound compiled.compiled.text takes.says compiled.says
+
+-- whatever run halts, has done the code of the text
+pub file_of_run : (x : Text) (image : List Segment) (listing : Listing) (s : Sched) (reason : Reason) (n : ℕ) → IsCompiled x image → IsListing (flash_byte image) listing
+    → (shown_out listing image s).outcome ≡ Some (Halted reason n) → IsFileOf x (memory_text (shown_out listing image s)) reason n
+file_of_run x image listing s reason n compiled lists halts =
+    let out = shown_out listing image s in
+    let in_order = (headline_every listing image s (report_text out) (memory_text out) refl refl).in_order reason n halts in
+    file_of x image listing (report_text out) (memory_text out) reason n compiled.text compiled.holds lists in_order

@@ -1,9 +1,10 @@
 //! The compiler of the array language: from the bytes of a text to its image, and to the number of its steps.
 #![tactic(auto)]
 
-ghost use Rattle.std.specs.Prelude.{◌≡◌, ◌<◌, ◌^◌, ℕ, List, length, IfOk, IfErr};
+ghost use Rattle.std.specs.Prelude.{◌≡◌, ◌<◌, ◌^◌, ℕ, List, Some, length, IfOk, IfErr};
 ghost use Rattle.hm_base.specs.Image.{Segment, flash_byte};
 ghost use Rattle.hm_codes.specs.Listing.{IsListing, Listing};
+ghost use Rattle.hm_handlers.specs.Runs.{shown_out};
 ghost use Rattle.hm_kernel.specs.Compiled.{Compiles, IsCompiled, Takes};
 ghost use Rattle.hm_kernel_lang.specs.declared.text.Text.{Text};
 ghost use Rattle.hm_kernel_lang.specs.Language.{steps};
@@ -11,7 +12,9 @@ ghost use Rattle.hm_kernel_rows.specs.Theorem.{IsFileOf};
 ghost use Rattle.hm_kernel_text.specs.ReadFile.{Fails, kernel_in};
 ghost use Rattle.hm_kernel_text.specs.Written.{IsKernel, Written};
 ghost use Rattle.hm_run.specs.declared.Reason.{Reason};
-ghost use Rattle.hm_run.specs.Headline.{HaltsInOrder};
+ghost use Rattle.hm_run.specs.declared.Outcome.TheVariants.{Halted};
+ghost use Rattle.hm_run.specs.Report.{memory_text};
+ghost use Rattle.hm_sched.specs.Schedule.{Sched};
 
 use hm_base::Image;
 use hm_kernel_code::{image_of, steps_of};
@@ -49,14 +52,13 @@ pub fn steps(alloc: Global, text: &[u8]) -> Result<u64, KernelErr>
     Ok(steps_of(&x))
 }
 
-/// The instructions of a compiled image in order halt after as many steps as the bytes of its text take. And every run of it that halts as
-/// they do, as each run does under any schedule that reports Halted, has halted at the end of the code, after its steps, and each byte of
-/// its file that is not tainted is what the text means. And what a file may hold that says a text is compiled to
-/// some image.
+/// The instructions of a compiled image in order halt after as many steps as the bytes of its text take. Every run of it that halts, under
+/// whatever schedule and with whatever handlers, has halted at the end of the code, after its steps, and each byte of its file that is not
+/// tainted is what the text means. What a file may hold that says a text is compiled to some image.
 pub fn compiled_law()
     ensures steps { (bytes : List ℕ) (image : List Segment) (n : ℕ) (compiled : Compiles bytes image) → Takes bytes n → n ≡ steps compiled.text }
-    ensures file { (x : Text) (image : List Segment) (listing : Listing) (report file : List ℕ) (reason : Reason) (n : ℕ)
+    ensures file { (x : Text) (image : List Segment) (listing : Listing) (s : Sched) (reason : Reason) (n : ℕ)
         → IsCompiled x image → IsListing (flash_byte image) listing
-        → HaltsInOrder listing image report file reason n → IsFileOf x file reason n }
+        → (shown_out listing image s).outcome ≡ Some (Halted reason n) → IsFileOf x (memory_text (shown_out listing image s)) reason n }
     ensures some { (bytes : List ℕ) (w : Written) → length bytes < 2 ^ 63 → IsKernel bytes w → (image : List Segment) × Compiles bytes image }
 {}

@@ -1,9 +1,11 @@
 -- The values of a text's arrays have their places, and overlap nothing.
-use Rattle.std.proofs.Common.{◌≡◌, ℕ, suc, ◌+◌, ◌*◌, ◌<◌, ◌≤◌, ◌⊎◌, inl, inr, Bool, true, false, length, nat_eq, nat_lt, List, [], ◌∷◌, subst, arith}
+use Rattle.std.proofs.Common.{◌≡◌, ℕ, suc, ◌+◌, ◌*◌, ◌<◌, ◌≤◌, ◌⊎◌, inl, inr, Bool, true, false, length, nat_eq, nat_lt, List, [], ◌∷◌, refl, subst, arith}
 use Rattle.std.specs.Prelude.{All, AllPairs, if◌then◌else◌, slice_index, slice_index_or}
-use Rattle.std.proofs.lemmas.List.Elements.{All-cons, All-head, All-tail}
+use Rattle.std.proofs.lemmas.Bool.Decides.{nat_tests}
+use Rattle.std.proofs.lemmas.List.Elements.{All-cons, All-head, All-nil, All-tail}
 use Rattle.hm_base.specs.Image as image
-use Rattle.hm_base.specs.Image.{Before, InFlash, IsApart, Segment, with_segment}
+use Rattle.hm_base.specs.Image.{Before, InFlash, IsApart, IsImage, Segment, flash_size, flat, segment, with_segment}
+use Rattle.hm_base.proofs.Images.{IsImage-with_segment}
 use Rattle.hm_kernel_lang.specs.declared.text.Array.{Array}
 use Rattle.hm_kernel_lang.specs.declared.text.ElementType.{ElementType}
 use Rattle.hm_kernel_lang.specs.declared.text.ElementType.TheVariants.{U8, S8, U16, S16, U32, S32}
@@ -87,3 +89,20 @@ others_placed t xs x ys e h = All-tail (λ (y : Array). 0 < length y.values.item
 
 pub others_apart : (t : ElementType) (xs : List Array) (x : Array) (ys : List Array) (ss : List Segment) → xs ≡ x ∷ ys → AllApart t xs ss → AllApart t ys ss
 others_apart t xs x ys ss e h = (subst (λ (zs : List Array). AllApart t zs ss) e h).1
+
+-- AN IMAGE stays one when the values of arrays are put in
+one_with : (t : ElementType) (x : Array) (ss : List Segment) → (0 < length x.values.items → image.IsPlaced (array_segment t x)) → IsApart (array_segment t x) ss → IsImage ss → IsImage (with_array t x ss)
+one_with t x ss placed apart i = go (nat_eq (length x.values.items) 0) refl
+  where
+    go : (b : Bool) → nat_eq (length x.values.items) 0 ≡ b → IsImage (if b then ss else with_segment (array_segment t x) ss)
+    go true e = i
+    go false e = IsImage-with_segment (array_segment t x) ss (placed (grind (arith, nat_tests))) apart i
+
+pub all_with_image : (t : ElementType) (xs : List Array) (ss : List Segment) → AllPlaced t xs → AllApart t xs ss → IsImage ss → IsImage (with_arrays t xs ss)
+all_with_image t [] ss placed apart i = i
+all_with_image t (x ∷ xs) ss placed apart i =
+    one_with t x (with_arrays t xs ss) (All-head (λ (y : Array). 0 < length y.values.items → image.IsPlaced (array_segment t y)) x xs placed) apart.0
+    (all_with_image t xs ss (All-tail (λ (y : Array). 0 < length y.values.items → image.IsPlaced (array_segment t y)) x xs placed) apart.1 i)
+
+pub flat_is_image : (bs : List ℕ) → 0 < length bs → length bs ≤ flash_size → IsImage (flat bs)
+flat_is_image bs some few = ((some, inl (omega arith)), All-nil (Before (segment 0 bs)), tt)

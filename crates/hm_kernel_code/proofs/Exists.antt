@@ -1,6 +1,6 @@
 -- Each item of a text's code has an instruction, and so each text has an image.
-use Rattle.std.proofs.Common.{◌≡◌, ◌≢◌, ℕ, zero, suc, length, ◌+◌, ◌*◌, ◌/◌, ◌%◌, ◌^◌, ◌<◌, ◌≤◌, cond, List, [], ◌∷◌, ◌++◌, map, refl, arith}
-use Rattle.std.specs.Prelude.{All, IsTrue, max}
+use Rattle.std.proofs.Common.{ℕ, zero, suc, length, ◌+◌, ◌/◌, ◌%◌, ◌^◌, ◌<◌, ◌≤◌, cond, List, [], ◌∷◌, ◌++◌, map, refl, arith}
+use Rattle.std.specs.Prelude.{All, IsTrue}
 use Rattle.std.proofs.lemmas.List.Elements.{All-head, All-tail}
 use Rattle.hm_isa.specs.declared.Branch.TheVariants as branch
 use Rattle.hm_isa.specs.declared.Instr.{Instr}
@@ -42,7 +42,7 @@ use Rattle.hm_kernel_lang.specs.Code.{body_code, code, constant_code, end_code, 
 use Rattle.hm_kernel_lang.specs.declared.text.Array.{Array}
 use Rattle.hm_kernel_lang.specs.declared.text.Line.{Line}
 use Rattle.hm_kernel_lang.specs.declared.text.Text.{Text}
-use Rattle.hm_kernel_lang.specs.Language.{address, is_signed, modulus, names, need, numbers, operations}
+use Rattle.hm_kernel_lang.specs.Language.{address, is_signed, modulus, need}
 use Rattle.hm_kernel_lang.specs.Machine.{Again, Begin, Clear, Do, Further, High, HighLength, Item, Kind, Load, Low, LowLength, Offset, Plain, Splat, Stop, Store, size_code}
 use Rattle.hm_kernel_lang.specs.Texts.{IsArray, IsOver, IsSet, IsText}
 use Rattle.hm_kernel_lang.proofs.Straight.{halves_append}

@@ -3,7 +3,7 @@ use Rattle.std.proofs.Common.{◌≡◌, ℕ, ◌+◌, ◌-◌, ◌*◌, ◌<◌
 use Rattle.std.specs.Prelude.{All, if◌then◌else◌, slice_index}
 use Rattle.std.proofs.lemmas.Bool.Decides.{nat_tests}
 use Rattle.std.proofs.lemmas.List.Elements.{All-cons, All-head, All-nil, All-tail}
-use Rattle.hm_base.specs.Image.{InFlash, Segment, covers, first_byte, flash_byte, flash_size, flat, given, segment, with_segment, word_at}
+use Rattle.hm_base.specs.Image.{InFlash, IsImage, Segment, covers, first_byte, flash_byte, flash_size, flat, given, segment, with_segment, word_at}
 use Rattle.hm_codes.specs.Listing.{HalvesStand}
 use Rattle.hm_code_bytes.specs.Bytes.{all_halves, word_bytes}
 use Rattle.hm_code_bytes.proofs.Standing.{flat_byte, held}
@@ -17,7 +17,7 @@ use Rattle.hm_kernel_lang.specs.Texts.{IsArray, IsText}
 use Rattle.hm_kernel_code.specs.Images.{IsImageOf, IsMade, flash_bytes}
 use Rattle.hm_kernel_code.specs.Instructions.{AreItems}
 use Rattle.hm_kernel_code.specs.Segments.{AllApart, array_segment, with_array, with_arrays}
-use Rattle.hm_kernel_code.proofs.Apart.{all_apart}
+use Rattle.hm_kernel_code.proofs.Apart.{all_apart, all_placed, all_with_image, flat_is_image}
 use Rattle.hm_kernel_code.proofs.Held.{items_stand, lines_stay, total}
 use Rattle.hm_kernel_code.proofs.Room.{flash_length, room_of}
 use Rattle.hm_kernel_code.proofs.Segments.{arrays_given, given_with}
@@ -132,10 +132,14 @@ module _ (x : Text) (image : List Segment) (text : IsText x) (made : IsMade x im
       let fits = room_of x made.instrs text made.kinds in
       let many = total t (code x) made.instrs made.kinds in
       record {
-        pc = let e = pc_is in omega arith;
+        pc = pc_is;
         code = items_stand t (flash_byte image) 8 (code x) made.instrs refl made.kinds stand (lines_stay (address x.arrays.items) x.count x.lines.items 8 (omega arith));
         sram = λ a h k. first_is image a h k ∙ ap (λ (ss : List Segment). given ss 0 a) made.is ∙ arrays_given t x.arrays.items (flat bytes) a apart (flat_none bytes a room h);
       }
+
+  pub is_sound : IsImage image
+  is_sound = subst IsImage (sym made.is)
+      (all_with_image t x.arrays.items (flat bytes) (all_placed t x.count x.arrays.items text.arrays) apart (flat_is_image bytes (fits_flash x made.instrs text made.kinds).0 room))
 
   pub few_segments : length image ≤ 17
   few_segments = let e = ap length made.is in let n = arrays_longer t x.arrays.items (flat bytes) in let few = text.few_arrays in omega arith

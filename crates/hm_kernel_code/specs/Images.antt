@@ -1,5 +1,5 @@
 -- The image of a text.
-use Rattle.std.specs.Prelude.{◌≡◌, ℕ, ◌+◌, ◌-◌, ◌*◌, ◌%◌, ◌<◌, ◌≤◌, List, ◌++◌}
+use Rattle.std.specs.Prelude.{◌≡◌, ℕ, ◌+◌, ◌*◌, ◌<◌, ◌≤◌, List, ◌++◌}
 use Rattle.hm_base.specs.Image.{Segment, first_byte, flash_byte, flat}
 use Rattle.hm_codes.specs.Listing as codes
 use Rattle.hm_isa.specs.declared.Instr.{Instr}
@@ -22,9 +22,10 @@ pub record StandsIn (t : ElementType) (flash : ℕ → ℕ) (a : ℕ) (x : Item)
   pub fits : a + 2 * item_halves x ≤ 0x100000
   pub reach : StaysIn a x
 
--- an image of a text: from 8 on its code, and in SRAM the memory before its first line
+-- an image of a text: its first instruction is at 8, with the bit of Thumb code; from there on it has the text's code, and in SRAM the memory
+-- before its first line
 pub record IsImageOf (x : Text) (image : List Segment) : Type 0 where
-  pub pc : reset_pc image - reset_pc image % 2 ≡ 8
+  pub pc : reset_pc image ≡ 9
   pub code : CodeStands (StandsIn x.element (flash_byte image)) 8 (code x)
   pub sram : (a : ℕ) → 0x20000000 ≤ a → a < 0x20040000 → first_byte image a ≡ first_memory x a
 

@@ -1,7 +1,7 @@
 //! The image of a text: one segment in flash, and one for each array that is given values.
 
 ghost use Rattle.std.specs.Prelude.{◌≡◌, ℕ, ◌<◌, ◌≤◌, All, List, length, IfOk};
-ghost use Rattle.hm_base.specs.Image.{Segment, IsApart, IsPlaced, flash_byte, flash_size, flat, word_at};
+ghost use Rattle.hm_base.specs.Image.{Segment, IsApart, IsImage, IsPlaced, flash_byte, flash_size, flat, word_at};
 ghost use Rattle.hm_base.specs.declared.errors.ImageErr.TheVariants as image_err;
 ghost use Rattle.hm_kernel_code.specs.Images.{IsImageOf, IsMade, flash_bytes};
 ghost use Rattle.hm_kernel_code.specs.Segments.{AllApart, AllPlaced, array_segment, with_array, with_arrays};
@@ -107,10 +107,11 @@ pub fn image_of(alloc: Global, text: &Text) -> Result<Image, OutOfMemory>
     Ok(image)
 }
 
-/// Every text has an image. It has the text's code and its first memory, it begins with the end of SRAM as the stack pointer, and it has at
-/// most 17 segments.
+/// Every text has an image. It has the text's code and its first memory, its segments lie in flash and SRAM and overlap nowhere, it begins
+/// with the end of SRAM as the stack pointer, and it has at most 17 segments.
 pub fn image_law()
     ensures image { (x : Text) (image : List Segment) → IsText x → IsMade x image → IsImageOf x image }
+    ensures sound { (x : Text) (image : List Segment) → IsText x → IsMade x image → IsImage image }
     ensures first { (x : Text) (image : List Segment) → IsText x → IsMade x image → word_at (flash_byte image) 0 ≡ 0x20040000 }
     ensures few { (x : Text) (image : List Segment) → IsText x → IsMade x image → length image ≤ 17 }
     ensures some { (x : Text) → IsText x → (image : List Segment) × IsMade x image }

@@ -99,7 +99,7 @@ first_lane S32 image q e = get_zero (list.lanes (size_of_type S32) (register_at 
 starts : (x : Text) (image : List Segment) → IsImageOf x image → Shows x.element (first_view x) (start image)
 unfolding start_under
 starts x image is = record {
-  pc = is.pc;
+  pc = let e = is.pc in omega arith;
   offset = refl;
   scratch = refl;
   length = refl;

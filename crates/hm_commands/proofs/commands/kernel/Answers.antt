@@ -1,4 +1,4 @@
-use Rattle.std.proofs.Common.{◌≡◌, ℕ, List, Some, None, true, sym, subst}
+use Rattle.std.proofs.Common.{ℕ, List, Some, None, true, sym, subst}
 use Rattle.std.proofs.lemmas.Result.{err_from_is_err_and}
 use Rattle.hm_commands.specs.Commands.{IsKernelOutcome}
 use Rattle.hm_commands.specs.Work.{finishes}

@@ -1,0 +1,5 @@
+use Rattle.hm_commands.proofs.Compiling.{compiled_held}
+use Rattle.hm_commands.proofs.laws.kernel_file_law.Goals as goal
+
+pub returns : goal.returns
+returns c = record { holds = compiled_held }
