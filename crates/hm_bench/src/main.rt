@@ -76,7 +76,7 @@ fn density_text(alloc: Global, number: u32) -> Result<String> {
     let hundredths = ticks.saturating_mul(100) / instructions;
     let (whole, part) = (hundredths / 100, hundredths % 100);
     Ok(format!(in alloc;
-        "by beats {instructions} in {ticks} ticks, {whole}.{part:02} each; plain 4.00, at best 2.00"
+        "by beats {instructions} in {ticks} ticks, {whole}.{part:02} each; alone 4.00, at best 2.00"
     )?)
 }
 

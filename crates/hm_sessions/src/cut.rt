@@ -70,12 +70,14 @@ pub fn same_file(one: &MemHost, other: &MemHost, name: &str) -> bool {
     }
 }
 
-/// Whether a command line ended at its call of this number, with the file as it is on another host.
-fn is_cut(cut: &Outcome, call: usize, expected: &MemHost, written: &str) -> bool {
+/// Whether a command line ended at its call of this number, with the file that it writes, and the given ones, as they are on another host.
+fn is_cut(cut: &Outcome, call: usize, expected: &MemHost, given: &[Named], written: &str) -> bool {
+    let mut files = given.iter();
     cut.status == Status::HostFault
         && cut.host.calls() == call.checked_add(1)
         && cut.host.printed().is_empty()
         && same_file(&cut.host, expected, written)
+        && files.all(|file| same_file(&cut.host, expected, &file.name))
 }
 
 /// Whether a command line makes so many calls, of which each that fails ends it with status 4 and nothing printed.
@@ -96,9 +98,9 @@ pub fn each_call_fails(
         let cut = outcome_failing(alloc, given, words, call)?;
         let is_behind_write = prints && call + 1 == count;
         let holds = if is_behind_write {
-            is_cut(&cut, call, &whole.host, written)
+            is_cut(&cut, call, &whole.host, given, written)
         } else {
-            is_cut(&cut, call, &before, written)
+            is_cut(&cut, call, &before, given, written)
         };
         if !holds {
             return Ok(false);
