@@ -5,12 +5,13 @@ use Rattle.hm_codes.specs.Listing.{IsListing, Listing}
 use Rattle.hm_handlers.proofs.Whole.{headline_every}
 use Rattle.hm_handlers.specs.Runs.{shown_out}
 use Rattle.hm_kernel.specs.Compiled.{Compiles, IsCompiled, Takes}
+use Rattle.hm_kernel.proofs.Meaning.{one_meaning}
 use Rattle.hm_kernel.proofs.One.{one_number}
 use Rattle.hm_kernel_code.specs.Images.{IsMade}
 use Rattle.hm_kernel_code.proofs.Exists.{some_made}
 use Rattle.hm_kernel_code.proofs.Whole.{few_segments, first_word_is, is_image, is_sound}
 use Rattle.hm_kernel_lang.specs.declared.text.Text.{Text}
-use Rattle.hm_kernel_lang.specs.Language.{steps}
+use Rattle.hm_kernel_lang.specs.Language.{meaning, steps}
 use Rattle.hm_kernel_lang.specs.Texts.{IsText}
 use Rattle.hm_kernel_rows.proofs.Theorem.{computes, file_of}
 use Rattle.hm_kernel_rows.specs.Theorem.{IsFileOf}
@@ -41,6 +42,10 @@ some_compiled bytes w short says =
 -- the bytes of its text take its steps
 pub same_steps : (bytes : List ℕ) (image : List Segment) (n : ℕ) (compiled : Compiles bytes image) → Takes bytes n → n ≡ steps compiled.text
 same_steps bytes image n compiled takes = takes.steps_are ∙ one_number bytes takes.text compiled.text takes.sound compiled.compiled.text takes.says compiled.says
+
+-- bytes say one meaning
+pub same_meanings : (bytes : List ℕ) (image other : List Segment) (one : Compiles bytes image) (two : Compiles bytes other) → meaning one.text ≡ meaning two.text
+same_meanings bytes image other one two = one_meaning bytes one.text two.text one.compiled.text two.compiled.text one.says two.says
 
 -- whatever run halts, has done the code of the text
 pub file_of_run : (x : Text) (image : List Segment) (listing : Listing) (s : Sched) (reason : Reason) (n : ℕ) → IsCompiled x image → IsListing (flash_byte image) listing

@@ -39,10 +39,10 @@ abbrev written_steps : Written → ℕ
 written_steps w = sets_steps w.element w.count w.sets + 1
 
 -- the names of arrays are names
-abbrev AllNames : List Array → Type 0
+abbrev pub AllNames : List Array → Type 0
 AllNames arrays = (i : ℕ) → i < length arrays → is_name (name_at arrays i) ≡ true
 
-all_names : (t : ElementType) (n : ℕ) (before : List WrittenArray) (arrays : List Array) → AreArrays t n before (map array_written arrays) → AllNames arrays
+pub all_names : (t : ElementType) (n : ℕ) (before : List WrittenArray) (arrays : List Array) → AreArrays t n before (map array_written arrays) → AllNames arrays
 all_names t n before [] h i l = absurd (omega arith)
 all_names t n before (a ∷ arrays) h zero l = h.0.name
 all_names t n before (a ∷ arrays) h (suc i) l = all_names t n (before ++ array_written a ∷ []) arrays h.1 i (omega arith)
@@ -52,7 +52,7 @@ not_true true h = absurd (h refl)
 not_true false h = refl
 
 module _ (t : ElementType) (arrays : List Array) (named : AllNames arrays) where
-  is_number : (k : ℕ) → IsOver t (length arrays) (Number k) → is_name (decimal k) ≡ false
+  pub is_number : (k : ℕ) → IsOver t (length arrays) (Number k) → is_name (decimal k) ≡ false
   is_number k h = not_true (is_name (decimal k)) (numeral_not_name (decimal k) (numeral_again k (number_fits t k h)))
 
   names_are : (e : Expr) → IsOver t (length arrays) e → names e ≡ tree_names (expr_written arrays e)
@@ -85,7 +85,7 @@ steps_are bytes x text is =
     let named = all_names x.element x.count [] x.arrays.items is.fits.arrays in
     ap (λ (n : ℕ). n + 1) (lines_are x.element x.arrays.items named x.count x.lines.items text.lines)
 
-one_written : (bytes : List ℕ) (w v : Written) → IsKernel bytes w → IsKernel bytes v → w ≡ v
+pub one_written : (bytes : List ℕ) (w v : Written) → IsKernel bytes w → IsKernel bytes v → w ≡ v
 one_written bytes w v h k = let e = kernel_again bytes w h in let f = kernel_again bytes v k in cc
 
 pub one_number : (bytes : List ℕ) (x y : Text) → IsText x → IsText y → IsKernel bytes (written x) → IsKernel bytes (written y) → steps x ≡ steps y

@@ -7,7 +7,7 @@ ghost use Rattle.hm_codes.specs.Listing.{IsListing, Listing};
 ghost use Rattle.hm_handlers.specs.Runs.{shown_out};
 ghost use Rattle.hm_kernel.specs.Compiled.{Compiles, IsCompiled, Takes};
 ghost use Rattle.hm_kernel_lang.specs.declared.text.Text.{Text};
-ghost use Rattle.hm_kernel_lang.specs.Language.{steps};
+ghost use Rattle.hm_kernel_lang.specs.Language.{meaning, steps};
 ghost use Rattle.hm_kernel_rows.specs.Theorem.{IsFileOf};
 ghost use Rattle.hm_kernel_text.specs.ReadFile.{Fails, kernel_in};
 ghost use Rattle.hm_kernel_text.specs.Written.{IsKernel, Written};
@@ -52,11 +52,13 @@ pub fn steps(alloc: Global, text: &[u8]) -> Result<u64, KernelErr>
     Ok(steps_of(&x))
 }
 
-/// The instructions of a compiled image in order halt after as many steps as the bytes of its text take. Every run of it that halts, under
-/// whatever schedule and with whatever handlers, has halted at the end of the code, after its steps, and each byte of its file that is not
-/// tainted is what the text means. What a file may hold that says a text is compiled to some image.
+/// The instructions of a compiled image in order halt after as many steps as the bytes of its text take, and the bytes fix what it means.
+/// Every run of the image that halts, under whatever schedule and with whatever handlers, has halted at the end of the code, after its
+/// steps, and each byte of its file that is not tainted is what the text means. What a file may hold that says a text is compiled to some
+/// image.
 pub fn compiled_law()
     ensures steps { (bytes : List ℕ) (image : List Segment) (n : ℕ) (compiled : Compiles bytes image) → Takes bytes n → n ≡ steps compiled.text }
+    ensures meaning { (bytes : List ℕ) (image other : List Segment) (one : Compiles bytes image) (two : Compiles bytes other) → meaning one.text ≡ meaning two.text }
     ensures file { (x : Text) (image : List Segment) (listing : Listing) (s : Sched) (reason : Reason) (n : ℕ)
         → IsCompiled x image → IsListing (flash_byte image) listing
         → (shown_out listing image s).outcome ≡ Some (Halted reason n) → IsFileOf x (memory_text (shown_out listing image s)) reason n }
