@@ -22,6 +22,7 @@ with_name m None a = m
 with_name m (Some name) a = insert m name a
 
 -- ONE LINE, which stands at a place, behind lines that gave labels
+-- a line is of the form, says this, gives no label that is there already, and has its place at a
 pub record IsFine (m : LabelMap) (a : ℕ) (line : List ℕ) (said : Said) : Type 0 where
   pub form : IsLine line
   pub says : Says (text_of line) said

@@ -24,6 +24,7 @@ closed m = m.whole ++ with_piece m.start m.bytes []
 abbrev pub moved : Made → ℕ → Made
 moved m a = if place_of m == a then m else record { whole = closed m; start = a; bytes = [] }
 
+-- bytes go on at the end of the segment that goes on
 abbrev pub with_bytes : Made → List ℕ → Made
 with_bytes m more = record m { bytes = m.bytes ++ more }
 

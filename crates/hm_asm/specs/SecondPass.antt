@@ -38,10 +38,12 @@ number_of labels s (literal false n) = Some n
 number_of labels s (named w) = labels w
 number_of labels s (beyond w n) = option_map (λ a. a + n) (labels w)
 
+-- these are the bytes of the values of a list, each with its low byte first; all names in it are defined
 abbrev pub AreValues : Naming → DatumSize → List Datum → List ℕ → Type 0
 AreValues labels s [] bs = bs ≡ []
 AreValues labels s (d ∷ ds) bs = (n : ℕ) × (rest : List ℕ) × (number_of labels s d ≡ Some n) × AreValues labels s ds rest × (bs ≡ low_bytes (bytes_each s) n ++ rest)
 
+-- these are the bytes of a directive at a: none of `.org`, zeros of `.align` and `.space`, and those of the values of a list
 abbrev pub AreAsked : Naming → ℕ → Directed → List ℕ → Type 0
 AreAsked labels a (org b) bs = bs ≡ []
 AreAsked labels a (align n) bs = bs ≡ replicate (padding n a) 0
@@ -65,6 +67,7 @@ IsFirstMissing labels s (d ∷ ds) (suc n) = (m : ℕ) × (number_of labels s d 
 abbrev pub IsOperandColumn : List ℕ → ℕ → ℕ → Type 0
 IsOperandColumn text n c = (here : List ℕ) × IsOperand text n here × (c ≡ column text (skip here))
 
+-- a directive is refused as this, at column c of its text: a list for its first name that is not defined, and no other for anything
 abbrev pub IsListRefused : AsmKind → Naming → List ℕ → Directed → ℕ → Type 0
 IsListRefused kinds.Missing labels text (values s d ds) c = (n : ℕ) × IsFirstMissing labels s (d ∷ ds) n × IsOperandColumn text n c
 IsListRefused kind labels text asked c = ⊥

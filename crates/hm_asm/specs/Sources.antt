@@ -29,14 +29,17 @@ abbrev pub IsRefusedSecond : AsmKind → List ℕ → ℕ → ℕ → Type 0
 IsRefusedSecond kind source n c =
     (labels : LabelMap) × AreFine empty 0 (source_lines source) labels × IsNextRefused kind (get labels) 0 (source_lines source) n c
 
+-- the line behind n others is refused first, at its column c: by the first pass, or else by the second
 abbrev pub IsSourceRefused : AsmKind → List ℕ → ℕ → ℕ → Type 0
 IsSourceRefused kind source n c = IsRefusedFirst kind source n c ⊎ IsRefusedSecond kind source n c
 
 -- THE OUTCOME of a source: its image, or its refusal, with the line counted from 1
+-- what is told is the refusal of a source: its line, column and cause; want of memory is not one
 abbrev pub IsRefusal : List ℕ → AsmErr → Type 0
 IsRefusal source (refusals.Line k c kind) = (n : ℕ) × (k ≡ n + 1) × IsSourceRefused kind source n c
 IsRefusal source refusals.OutOfMemory = ⊥
 
+-- a result is that of a source: its image, or its refusal
 abbrev pub IsOutcome : List ℕ → Result (List Segment) AsmErr → Type 0
 IsOutcome source (Ok image) = IsAssembled source image
 IsOutcome source (Err e) = IsRefusal source e

@@ -14,9 +14,11 @@ pub record Answer : Type 0 where
   pub place : ℕ
   pub text : List ℕ
 
+-- the place is tick t, and its line is printed
 abbrev pub at_tick : ℕ → Answer
 at_tick t = record { place = t; text = tick_line t }
 
+-- the place is the last tick, and the line of the end is printed
 abbrev pub at_end : ℕ → Answer
 at_end last = record { place = last; text = end_line last }
 

@@ -25,6 +25,7 @@ command_text (Listing addr count) = codes "dis " ++ range_text addr count
 abbrev pub most_bytes : ℕ
 most_bytes = 4096
 
+-- the most lines of the listing that one command shows
 abbrev pub most_listed : ℕ
 most_listed = 1000
 

@@ -22,10 +22,12 @@ end_line t = codes "end " ++ decimal t ++ codes "\n"
 abbrev pub is_mapped : ℕ → Bool
 is_mapped a = if nat_lt a flash_size then true else in_sram a
 
+-- whether n bytes from an address on are all there
 abbrev pub all_mapped : ℕ → ℕ → Bool
 all_mapped a zero = true
 all_mapped a (suc n) = is_mapped a && all_mapped (a + 1) n
 
+-- n bytes from an address on, two hexadecimal digits each
 abbrev pub bytes_text : State → ℕ → ℕ → List ℕ
 bytes_text s a zero = []
 bytes_text s a (suc n) = hex2 (s.cell (Byte a)).n ++ bytes_text s (a + 1) n
@@ -34,6 +36,7 @@ bytes_text s a (suc n) = hex2 (s.cell (Byte a)).n ++ bytes_text s (a + 1) n
 abbrev pub contents_text : State → ℕ → ℕ → List ℕ
 contents_text s a n = if all_mapped a n then bytes_text s a n else codes "unmapped"
 
+-- a line of an address and n bytes from there on
 abbrev pub memory_line : State → ℕ → ℕ → List ℕ
 memory_line s a n = hex8 a ++ codes " " ++ contents_text s a n ++ codes "\n"
 
@@ -48,6 +51,7 @@ abbrev pub entry_of : (ℕ → ℕ) → ℕ → Result Instr Fault → Entry
 entry_of flash a (Ok i) = shown i
 entry_of flash a (Err fault) = half (half_at flash a)
 
+-- what the line at an address shows, by the listing
 abbrev pub entry_at : (ℕ → ℕ) → Listing → ℕ → Entry
 entry_at flash listing a = entry_of flash a (listing a)
 

@@ -6,6 +6,7 @@ use Rattle.hm_debug.specs.declared.command.Command.{Command}
 use Rattle.hm_debug.specs.declared.errors.ScriptErr.{ScriptErr}
 use Rattle.hm_debug.specs.declared.errors.ScriptErr.TheVariants as err
 
+-- a script has no more lines than this
 abbrev pub most_lines : ℕ
 most_lines = 1000
 
@@ -31,6 +32,7 @@ pub record IsScript (text : List ℕ) (cs : List Command) : Type 0 where
   pub few : nat_lt most_lines (lines_in (lines_of text)) ≡ false
   pub says : SayAll (lines_of text) cs
 
+-- why a text is no script: it has too many lines, or a line of it says no command
 abbrev pub ScriptRefuses : List ℕ → ScriptErr → Type 0
 ScriptRefuses text err.TooManyLines = nat_lt most_lines (lines_in (lines_of text)) ≡ true
 ScriptRefuses text (err.Line line) = (nat_lt most_lines (lines_in (lines_of text)) ≡ false) × IsFirstBad line 1 (lines_of text)

@@ -8,6 +8,7 @@ use Rattle.hm_elf.specs.declared.reading.ProgramHeader.{ProgramHeader}
 abbrev pub half : List ℕ → ℕ → ℕ
 half bytes at = slice_index bytes at + 0x100 * slice_index bytes (at + 1)
 
+-- the number of four bytes that begin at a place, lowest byte first
 abbrev pub word : List ℕ → ℕ → ℕ
 word bytes at = word_at (slice_index bytes) at
 
@@ -15,6 +16,7 @@ word bytes at = word_at (slice_index bytes) at
 abbrev pub header_size : ℕ
 header_size = 52
 
+-- the bytes of a program header
 abbrev pub entry_size : ℕ
 entry_size = 32
 
@@ -26,29 +28,37 @@ most_headers = 64
 abbrev pub elf_magic : List ℕ
 elf_magic = 0x7f ∷ 0x45 ∷ 0x4c ∷ 0x46 ∷ []
 
+-- whether bytes begin as an ELF file does
 abbrev pub begins_as_elf : List ℕ → Bool
 begins_as_elf bytes = starts_with nat_eq bytes elf_magic
 
 -- ---- the file header (e_ident, e_type, e_machine, e_phoff, e_phentsize, e_phnum)
 
+-- the class of e_ident: whether the file is of 32 or of 64 bits
 abbrev pub class_of : List ℕ → ℕ
 class_of bytes = slice_index bytes 4
 
+-- the order of bytes of e_ident: which byte of a number comes first
 abbrev pub order_of : List ℕ → ℕ
 order_of bytes = slice_index bytes 5
 
+-- e_type: the kind of the file
 abbrev pub kind_of : List ℕ → ℕ
 kind_of bytes = half bytes 16
 
+-- e_machine: the machine that the file is for
 abbrev pub machine_of : List ℕ → ℕ
 machine_of bytes = half bytes 18
 
+-- e_phoff: where the program headers begin in the file
 abbrev pub table_start : List ℕ → ℕ
 table_start bytes = word bytes 28
 
+-- e_phentsize: how many bytes each program header has
 abbrev pub entry_size_of : List ℕ → ℕ
 entry_size_of bytes = half bytes 42
 
+-- e_phnum: how many program headers there are
 abbrev pub header_count : List ℕ → ℕ
 header_count bytes = half bytes 44
 
@@ -65,6 +75,7 @@ pub record IsHeader (bytes : List ℕ) : Type 0 where
 
 -- ---- program headers (p_type, p_offset, p_paddr, p_filesz, p_memsz)
 
+-- the program header at the front of a table
 abbrev pub header_at : List ℕ → ProgramHeader
 header_at table = record { kind = word table 0; offset = word table 4; address = word table 12; file_size = word table 16; memory_size = word table 20 }
 
@@ -73,6 +84,7 @@ abbrev pub headers_in : ℕ → List ℕ → List ProgramHeader
 headers_in zero table = []
 headers_in (suc n) table = header_at table ∷ headers_in n (drop 32 table)
 
+-- the program headers of a file
 abbrev pub headers_of : List ℕ → List ProgramHeader
 headers_of bytes = headers_in (header_count bytes) (drop (table_start bytes) bytes)
 

@@ -17,15 +17,18 @@ abbrev pub first_failing : List Check → Option ImageErr
 first_failing [] = None
 first_failing ((passes, refusal) ∷ checks) = if passes then first_failing checks else Some refusal
 
+-- the refusal, where there is one, else what is read
 abbrev pub unless : {Y : Type 0} → Option ImageErr → Result Y ImageErr → Result Y ImageErr
 unless None read = read
 unless (Some refusal) read = Err refusal
 
 -- ---- flat images
 
+-- the checks of a flat image: it has a vector table's first two words, and fits in flash
 abbrev pub flat_checks : List ℕ → List Check
 flat_checks bytes = (nat_le 8 (length bytes), refusals.Short) ∷ (nat_le (length bytes) flash_size, refusals.Long) ∷ []
 
+-- the flat image of the bytes, or the first refusal
 unfoldable pub flat_in : List ℕ → Result (List Segment) ImageErr
 flat_in bytes = unless (first_failing (flat_checks bytes)) (Ok (flat bytes))
 
@@ -70,6 +73,7 @@ unfoldable pub loads_in : List ℕ → ℕ → List ProgramHeader → List Segme
 loads_in bytes k [] image = Ok image
 loads_in bytes k (h ∷ hs) image = load_in bytes k h image >>= λ more. loads_in bytes (k + 1) hs more
 
+-- the image that an ELF file loads, or the first refusal
 unfoldable pub elf_in : List ℕ → Result (List Segment) ImageErr
 elf_in bytes = unless (first_failing (header_checks bytes)) (loads_in bytes 0 (headers_of bytes) [])
 
@@ -79,6 +83,7 @@ elf_in bytes = unless (first_failing (header_checks bytes)) (loads_in bytes 0 (h
 abbrev pub first_checks : List ℕ → List Check
 first_checks bytes = if begins_as_elf bytes then header_checks bytes else flat_checks bytes
 
+-- the image of a file, which is ELF where it begins so and else flat, or the first refusal
 unfoldable pub image_in : List ℕ → Result (List Segment) ImageErr
 image_in bytes = if begins_as_elf bytes then elf_in bytes else flat_in bytes
 

@@ -5,9 +5,11 @@ use Rattle.std.specs.List.{flat_map}
 use Rattle.hm_base.specs.Image.{Segment}
 use Rattle.hm_elf.specs.Elf.{elf_magic, header_size, entry_size}
 
+-- a number in two bytes, lowest byte first
 abbrev pub half_bytes : ℕ → List ℕ
 half_bytes n = to_le_bytes w16 n
 
+-- a number in four bytes, lowest byte first
 abbrev pub word_bytes : ℕ → List ℕ
 word_bytes n = to_le_bytes w32 n
 
@@ -29,8 +31,10 @@ abbrev pub program_headers : ℕ → List Segment → List ℕ
 program_headers offset [] = []
 program_headers offset (s ∷ ss) = program_header offset s ++ program_headers (offset + length s.bytes) ss
 
+-- the bytes of all segments, one after another
 abbrev pub all_bytes : List Segment → List ℕ
 all_bytes image = flat_map (λ s. s.bytes) image
 
+-- the ELF file of an image: its file header, a program header for each segment, and the bytes of them all
 abbrev pub elf_file : List Segment → List ℕ
 elf_file image = file_header (length image) ++ (program_headers (header_size + entry_size * length image) image ++ all_bytes image)

@@ -51,6 +51,7 @@ activation r w e = record {
 abbrev pub in_frame : Activation → ℕ → Bool
 in_frame x a = covers x.frame (frame_size x.long) a
 
+-- the bytes, the taint and the devices after the entry that put this activation away
 abbrev pub entered_memory : Activation → Seen → Seen
 entered_memory x s = record {
   byte = λ a. if in_frame x a then slice_index x.bytes (a - x.frame) else s.byte a;

@@ -15,6 +15,7 @@ use Rattle.hm_window.specs.declared.rule.Window.{Window}
 abbrev pub between : Window
 between = record { a = 0; b = 0 }
 
+-- whether a position is between two instructions
 abbrev pub is_between : Window → Bool
 is_between w = w.a == 0 && w.b == 0
 
@@ -39,6 +40,7 @@ xpsr r w = flags r * 2 ^ 27 + progress r.it w + 2 ^ 24 + r.sp / 4 % 2 * 2 ^ 9 + 
 abbrev pub basic_words : Regs → Window → List ℕ
 basic_words r w = slice_index r.r 0 ∷ slice_index r.r 1 ∷ slice_index r.r 2 ∷ slice_index r.r 3 ∷ slice_index r.r 12 ∷ r.lr ∷ r.pc ∷ xpsr r w ∷ []
 
+-- the words that a frame has besides where there is a context: S0 to S15, FPSCR and VPR
 abbrev pub context_words : Regs → List ℕ
 context_words r = take 16 r.qw ++ r.fpscr ∷ r.vpr ∷ []
 
@@ -51,6 +53,7 @@ abbrev pub bytes_of : List ℕ → List ℕ
 bytes_of [] = []
 bytes_of (x ∷ xs) = byte_of x 0 ∷ byte_of x 1 ∷ byte_of x 2 ∷ byte_of x 3 ∷ bytes_of xs
 
+-- the bytes of a frame, by rising address
 unfoldable pub frame_bytes : Regs → Window → List ℕ
 frame_bytes r w = bytes_of (frame_words r w)
 
@@ -75,6 +78,7 @@ abbrev pub or_between : Option Window → Window
 or_between None = between
 or_between (Some w) = w
 
+-- the position that a stacked xPSR tells
 abbrev pub psr_window : ℕ → Window
 psr_window x = if field 25 2 x == 0 && field 10 2 x == 0 then or_between (window_of (field 12 4 x)) else between
 

@@ -20,21 +20,27 @@ first_from f from (suc count) = option_or (f from) (first_from f (suc from) coun
 abbrev pub value_rule : ℕ → Activation → Option Broken
 value_rule value x = if value == x.value then None else Some (broken.ExcReturn value)
 
+-- a register or PRIMASK compared, as it was at the entry and as it is now
 abbrev pub differing : Slot → ℕ → ℕ → Option Broken
 differing name entry now = if entry == now then None else Some (broken.Register name entry now)
 
+-- the stack pointer compared with the address of the frame
 abbrev pub stack_rule : Regs → Activation → Option Broken
 stack_rule r x = differing (Reg (R 13)) x.frame r.sp
 
+-- byte k of the frame in memory compared with the one that the entry stacked
 abbrev pub frame_rule : (ℕ → ℕ) → Activation → ℕ → Option Broken
 frame_rule byte x k = if byte (x.frame + k) == slice_index x.bytes k then None else Some (broken.Frame (x.frame + k))
 
+-- core register k compared with what it was at the entry
 abbrev pub core_rule : Regs → Activation → ℕ → Option Broken
 core_rule r x k = differing (Reg (R k)) (slice_index x.regs.r k) (slice_index r.r k)
 
+-- word k of the vector registers compared with what it was at the entry
 abbrev pub vector_rule : Regs → Activation → ℕ → Option Broken
 vector_rule r x k = differing (Reg (QWord k)) (slice_index x.regs.qw k) (slice_index r.qw k)
 
+-- PRIMASK compared with what it was at the entry
 abbrev pub primask_rule : Regs → Activation → Option Broken
 primask_rule r x = differing Primask (bit x.regs.primask) (bit r.primask)
 

@@ -60,6 +60,7 @@ abbrev pub repeated : ℕ → ℕ → List ℕ
 repeated zero x = []
 repeated (suc n) x = x ∷ repeated n x
 
+-- the 16 bytes of a vector register with a number in each lane
 abbrev pub in_each_lane : Size → ℕ → List ℕ
 in_each_lane z x = unlanes z (repeated (4 * per_word z) x)
 
@@ -69,9 +70,11 @@ operand_register z (Vector q) s = register_at q.value s
 operand_register z (Scalar m) s = in_each_lane z (cond (nat_eq m.value 15) 0 (at (R m.value) s))
 operand_register z (Constant k) s = in_each_lane z k
 
+-- V1 to V5, V7, V10, V11, V13 and V18, as VADD and VDUP: the 16 new bytes, lane by lane (DDI0553, "VADD (vector)" and so on)
 abbrev pub lanes_result : Lanes → State → List ℕ
 lanes_result l s = lanewise3 l.z (lane_of l.f l.unsigned l.z) (register_at l.d.value s) (register_at l.n.value s) (operand_register l.z l.by s)
 
+-- where lanes saturate, at the lowest byte of each
 abbrev pub lanes_saturated : Lanes → State → List Bool
 lanes_saturated l s = lane_tests3 l.z (lane_saturates l.f l.unsigned l.z) (register_at l.d.value s) (register_at l.n.value s) (operand_register l.z l.by s)
 
@@ -106,19 +109,23 @@ halves_of l = flat_map (λ (x : ℕ). x % 2 ^ 16 ∷ x / 2 ^ 16 ∷ []) l
 abbrev pub narrowed_result : V16 → Size → Size → List ℕ → State → List ℕ
 narrowed_result r wide small xs s = unlanes small (placed (nat_eq r.t.value 1) (elements small r.d.value s) (map (narrowed r.name wide small) xs))
 
+-- V16: the 16 new bytes of VMOVN, VQMOVN and VQMOVUN (DDI0553, "VMOVN", "VQMOVN" and "VQMOVUN")
 abbrev pub narrow_result : V16 → State → List ℕ
 narrow_result r s =
     let xs = words_at r.m.value s in
     cond (nat_eq r.z.value 1) (narrowed_result r Word Half xs s) (narrowed_result r Half Byte (halves_of xs) s)
 
+-- V16: where wide elements are outside the range of narrow ones, at the lowest byte of each narrow one
 abbrev pub narrowed_tests : V16 → Size → Size → List ℕ → List Bool
 narrowed_tests r wide small xs = spread small (placed_tests (nat_eq r.t.value 1) (map (narrow_outside r.name wide small) xs))
 
+-- V16: where elements of the operand are outside the range of narrow ones, at the lowest byte of each narrow one
 abbrev pub narrow_saturated : V16 → State → List Bool
 narrow_saturated r s =
     let xs = words_at r.m.value s in
     cond (nat_eq r.z.value 1) (narrowed_tests r Word Half xs) (narrowed_tests r Half Byte (halves_of xs))
 
+-- V16: VMOVN, VQMOVN and VQMOVUN as a whole, with QC (DDI0553, "VMOVN", "VQMOVN" and "VQMOVUN")
 abbrev pub narrow_whole : V16 → State → State
 narrow_whole r s = saturating (narrow_saturates r.name && any_both (predicate_at s) (narrow_saturated r s)) (merges r.d.value (narrow_result r s) s) s
 
@@ -136,10 +143,12 @@ abbrev pub sums_from : CarryName → List Bool → List ℕ → List ℕ → ℕ
 sums_from name (p ∷ ps) (x ∷ xs) (y ∷ ys) flags = sum_with name flags x y % 2 ^ 32 ∷ sums_from name ps xs ys (flags_after name p flags x y)
 sums_from name _ _ _ flags = []
 
+-- V8: the flags after the sums of all words one after another
 abbrev pub flags_from : CarryName → List Bool → List ℕ → List ℕ → ℕ → ℕ
 flags_from name (p ∷ ps) (x ∷ xs) (y ∷ ys) flags = flags_from name ps xs ys (flags_after name p flags x y)
 flags_from name _ _ _ flags = flags
 
+-- V8: what VADC, VADCI, VSBC and VSBCI write: the flags and a vector register (DDI0553, "VADC" and "VSBC")
 abbrev pub carry_writes : V8 → State → List (Cell × Value)
 carry_writes r s =
     let start = cond (begins r.name) (cond (subtracts r.name) 2 0) (at Carry s) in
@@ -158,10 +167,12 @@ abbrev pub shifted_from : ℕ → List Bool → List ℕ → ℕ → List ℕ
 shifted_from n (p ∷ ps) (c ∷ cs) m = (c * 2 ^ n % 2 ^ 32 + m % 2 ^ n) ∷ shifted_from n ps cs (bits_after n p m c)
 shifted_from n _ _ m = []
 
+-- V17: the bits that come out after all words were shifted one after another
 abbrev pub bits_from : ℕ → List Bool → List ℕ → ℕ → ℕ
 bits_from n (p ∷ ps) (c ∷ cs) m = bits_from n ps cs (bits_after n p m c)
 bits_from n _ _ m = m
 
+-- V17: what VSHLC writes: a core register and a vector register (DDI0553, "VSHLC")
 abbrev pub shift_writes : V17 → State → List (Cell × Value)
 shift_writes r s =
     let place = R r.m.value in
@@ -181,9 +192,11 @@ turned_result r s =
 abbrev pub lengthened_result : Longer → Size → Size → State → List ℕ
 lengthened_result r z wide s = unlanes wide (map (lengthened r z) (every_second r.odd (elements z r.m.value s)))
 
+-- V12: the 16 new bytes of VSHLLB, VSHLLT, VMOVLB and VMOVLT (DDI0553, "VSHLL" and "VMOVL")
 abbrev pub longer_result : Longer → State → List ℕ
 longer_result r s = cond r.halves (lengthened_result r Half Word s) (lengthened_result r Byte Half s)
 
+-- V6: the products of the even elements of two lists for VMULLB, of the odd ones for VMULLT
 abbrev pub products_of : V6 → List ℕ → List ℕ → List ℕ
 products_of r xs ys = let odd = nat_eq r.t.value 1 in paired (product r) (every_second odd xs) (every_second odd ys)
 
@@ -202,6 +215,7 @@ abbrev pub fours : List ℕ → List ℕ
 fours (a ∷ b ∷ c ∷ d ∷ l) = d ∷ c ∷ b ∷ a ∷ fours l
 fours l = l
 
+-- each eight elements of a list in reverse
 abbrev pub eights : List ℕ → List ℕ
 eights (a ∷ b ∷ c ∷ d ∷ e ∷ f ∷ g ∷ h ∷ l) = h ∷ g ∷ f ∷ e ∷ d ∷ c ∷ b ∷ a ∷ eights l
 eights l = l
@@ -213,6 +227,7 @@ in_groups rev.Rev64 Half = fours
 in_groups rev.Rev32 Byte = fours
 in_groups name z = exchanged
 
+-- V14: the 16 new bytes of VREV64, VREV32 and VREV16 (DDI0553, "VREV64", "VREV32" and "VREV16")
 abbrev pub reversed_result : V14 → State → List ℕ
 reversed_result r s = let z = size_of r.z.value in unlanes z (in_groups r.name z (elements z r.m.value s))
 

@@ -25,21 +25,26 @@ abbrev pub least_active : Dev → List Interrupted → ℕ
 least_active d [] = 256
 least_active d (x ∷ acts) = min (priority_of d x.stacked.number) (least_active d acts)
 
+-- the priority of what runs, where PRIMASK is set or not
 abbrev pub running_priority : Dev → Bool → List Interrupted → ℕ
 running_priority d primask acts = if primask then 0 else least_active d acts
 
 -- THE ENTRY of an exception: it puts away the position and the registers, and its handler runs
+-- the position of the machine, as an entry stacks it
 abbrev pub position_of : Config State → Window
 position_of c = record { a = c.a; b = c.b }
 
+-- the state in which the handler of an activation begins
 abbrev pub entered_state : Sched → Activation → State → State
 entered_state s x t =
     state_with (entered_registers x.regs x.number (vector_of (seen_in t) x.number)) (entered_memory x (seen_in t))
     (record (thread_under s.lo s.hi s.floor) { actor = Handler x.frame }) t.rest.output
 
+-- what the entry of exception e puts away
 abbrev pub interrupted_by : ℕ → Config State → Interrupted
 interrupted_by e c = record { a = c.a; b = c.b; registers = registers_in c.state; stacked = activation (regs_of c.state) (position_of c) e }
 
+-- the machine after the entry of exception e: between two instructions, at the start of its handler
 abbrev pub entered : Sched → ℕ → Nested → Nested
 entered s e x = record {
   config = record x.config { a = 0; b = 0; state = entered_state s (interrupted_by e x.config).stacked x.config.state };

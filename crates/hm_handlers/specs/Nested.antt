@@ -45,6 +45,7 @@ pub data NestedEnd : Type 0 where
   Ended : End State Cause Rule → List Interrupted → NestedEnd
   Offends : Offence → Config State → List Interrupted → NestedEnd
 
+-- what a step comes to: the machine with its handlers, or why it does not go on
 abbrev pub NestedStep : Type 0
 NestedStep = Result Nested NestedEnd
 
@@ -52,9 +53,11 @@ NestedStep = Result Nested NestedEnd
 abbrev pub around_under : Sched → List Interrupted → Around
 around_under s acts = record (thread_under s.lo s.hi s.floor) { actor = actor_under (map (λ x. x.stacked) acts) }
 
+-- the machine of a program, under who runs
 abbrev pub program_under : Listing → Sched → List Interrupted → Program
 program_under listing s acts = core listing (around_under s acts)
 
+-- what a step comes to, with what the handlers interrupted, which stays
 abbrev pub with_acts : List Interrupted → Result (Config State) (End State Cause Rule) → NestedStep
 with_acts acts (Ok c) = Ok (record { config = c; acts = acts })
 with_acts acts (Err e) = Err (Ended e acts)
@@ -79,10 +82,12 @@ flows flow.Next c x acts t = Ok (record { config = record c { a = 0; b = 0; stat
 flows (flow.Break k) c x acts t = Err (Offends (offence.Call c.state.pc) (record c { state = t }) (x ∷ acts))
 flows (flow.Return value) c x acts t = returned (return_rule (regs_of t) (seen_in t).byte value x.stacked) c x acts t
 
+-- what a handler's instruction that is no vector row comes to, by the flow that it has or the stop
 abbrev pub went : Program → Config State → Interrupted → List Interrupted → Result Went Stop → NestedStep
 went M c x acts (Ok y) = flows y.flow c x acts y.state
 went M c x acts (Err e) = Err (Ended (Stopped (begun M c) (cause.Stop e)) (x ∷ acts))
 
+-- the older instruction's step in a handler, by what stands at pc: a beat of a vector row, or the whole of any other
 abbrev pub handles : Program → Around → Result Instr Fault → Config State → Interrupted → List Interrupted → NestedStep
 handles M around (Ok (instr.Scalar i)) c x acts = went M c x acts (scalar_in_machine around (instr.Scalar i) c.state)
 handles M around (Ok (instr.Branch i)) c x acts = went M c x acts (scalar_in_machine around (instr.Branch i) c.state)
@@ -94,10 +99,12 @@ abbrev pub handler_step : Listing → Sched → Turn → Config State → Interr
 handler_step listing s Older c x acts = handles (program_under listing s (x ∷ acts)) (around_under s (x ∷ acts)) (listing c.state.pc) c x acts
 handler_step listing s Younger c x acts = with_acts (x ∷ acts) (uncounted c (younger (program_under listing s (x ∷ acts)) c))
 
+-- a step of the thread, where nothing is interrupted, and else of a handler
 abbrev pub step_under : Listing → Sched → Turn → Config State → List Interrupted → NestedStep
 step_under listing s t c [] = with_acts [] (turn (program_under listing s []) t c)
 step_under listing s t c (x ∷ acts) = handler_step listing s t c x acts
 
+-- a step of the older instruction or of the younger, by who runs
 abbrev pub step : Listing → Sched → Turn → Nested → NestedStep
 step listing s t x = step_under listing s t x.config x.acts
 
@@ -122,6 +129,7 @@ pub record TickEnd : Type 0 where
   pub younger : Bool
   pub end : NestedEnd
 
+-- step k of a tick, and whether it is the younger's, named where it does not go on
 abbrev pub at_step : ℕ → Bool → NestedStep → Result Nested TickEnd
 at_step k younger (Ok x) = Ok x
 at_step k younger (Err e) = Err (record { step = k; younger = younger; end = e })

@@ -33,6 +33,7 @@ abbrev pub HaltsInThread : Option Outcome → List Interrupted → Type 0
 HaltsInThread (Some (outcome.Halted reason n)) acts = acts ≡ []
 HaltsInThread o acts = Unit {0}
 
+-- whole instructions in order agree with the thread, and a program that halts does so in its thread
 pub record AgreesInThread (M : Program) (first : State) (o : Option Outcome) (x : Nested) : Type 0 where
   pub thread : AgreesAfter M first o (thread_at o x.config x.acts)
   pub halts : HaltsInThread o x.acts

@@ -20,6 +20,7 @@ pub record Registers : Type 0 where
 abbrev pub bare : Rest → Rest
 bare r = record r { devices = first_devices; output = []; around = thread_under 0 0 0 }
 
+-- the registers of a state, as an entry puts them away
 abbrev pub registers_in : State → Registers
 registers_in s = record { place = λ p. s.cell (At p); sticky = s.sticky; pc = s.pc; beside = bare s.rest }
 
@@ -37,6 +38,7 @@ abbrev pub cell_back : Registers → State → Cell → Value
 cell_back r s (At p) = r.place p
 cell_back r s (Byte a) = s.cell (Byte a)
 
+-- the whole of that state, to which a return goes back
 abbrev pub restored : Registers → Actor → State → State
 restored r actor s = record {
   cell = cell_back r s;

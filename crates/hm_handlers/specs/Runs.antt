@@ -31,9 +31,11 @@ pub record Run : Type 0 where
 abbrev pub stacked_of : Interrupted → Activation
 stacked_of x = x.stacked
 
+-- what is shown of a run: its outcome, its machine, what was stacked, and its ticks
 abbrev pub shown : Run → Timed
 shown x = record { outcome = x.outcome; config = x.machine.config; acts = map stacked_of x.machine.acts; ticks = x.ticks }
 
+-- a run before its first tick: a reset to an image, under the region and the floor of a schedule
 abbrev pub begin : List Segment → Sched → Run
 begin image s = record { outcome = None; machine = record { config = at_start (start_under s.lo s.hi s.floor image); acts = [] }; ticks = 0; entries = [] }
 
@@ -46,6 +48,7 @@ abbrev pub stopped_under : List Interrupted → Config State → Stopping → Co
 stopped_under [] c e = at_stop c e
 stopped_under (x ∷ acts) c e = c
 
+-- the run that ends at step k of tick t, the younger's or not, by why it does not go on
 abbrev pub stops : ℕ → ℕ → Bool → NestedEnd → List ℕ → Run
 stops t k younger (Ended (Stopped c e) acts) entries =
     let stopping : Stopping = record { cause = e; younger = younger } in
@@ -59,19 +62,24 @@ abbrev pub enters_unless : Sched → ℕ → Option EnterErr → Run → Run
 enters_unless s e None x = record x { machine = entered s e x.machine; entries = (regs_of x.machine.config.state).sp ∷ x.entries }
 enters_unless s e (Some why) x = record x { outcome = Some (refused x.ticks x.machine.config why) }
 
+-- the exception that is picked, if there is one, enters, or the run ends where it may not
 abbrev pub enters : Sched → Option ℕ → Run → Run
 enters s None x = x
 enters s (Some e) x = let t = x.machine.config.state in enters_unless s e (entry_refusal s.floor (regs_of t) (seen_in t) e) x
 
+-- the exception that is picked: the most urgent that waits, if it is more urgent than what runs
 abbrev pub picks : Run → Option ℕ
 picks x = let t = x.machine.config.state in picked t.rest.devices (running_priority t.rest.devices t.rest.primask x.machine.acts)
 
+-- an exception may enter where the schedule has entries
 abbrev pub may_enter : Sched → Run → Run
 may_enter s x = cond s.entries (enters s (picks x) x) x
 
+-- the run after SysTick has counted and the interrupts of the tick have become pending
 abbrev pub after_count : TickLine → Run → Run
 after_count line x = record x { machine = record x.machine { config = record x.machine.config { state = with_devices (counted_with line.irq) x.machine.config.state } } }
 
+-- the end of a tick whose letters all went on; a position at which no tick may end breaks a rule
 abbrev pub tick_end : Sched → TickLine → Run → Run
 tick_end s line x =
     let c = x.machine.config in
@@ -88,6 +96,7 @@ abbrev pub tick_of : Listing → Sched → TickLine → Run → Option Outcome �
 tick_of listing s line x (Some o) = x
 tick_of listing s line x None = ended s line x (letters listing s 0 line.letters x.machine)
 
+-- a run that has no other outcome is out of ticks where no tick is left
 abbrev pub closed : List TickLine → Run → Run
 closed [] x = record x { outcome = or_out x.outcome }
 closed (line ∷ left) x = x
@@ -102,6 +111,7 @@ abbrev pub run : Listing → List Segment → Sched → ℕ → Run
 run listing image s zero = closed (ticks_of s.lines) (begin image s)
 run listing image s (suc t) = next listing s (drop t (ticks_of s.lines)) (run listing image s t)
 
+-- the machine after all ticks of a schedule
 abbrev pub run_out : Listing → List Segment → Sched → Run
 run_out listing image s = run listing image s (length (ticks_of s.lines))
 

@@ -38,6 +38,7 @@ pub record IsStacked (x : Interrupted) (acts : List Interrupted) : Type 0 where
   pub block : IsBlockByte x.stacked.regs.it
   pub context : is_between (interrupted_at x) ≡ false → x.stacked.regs.fpca ≡ true
 
+-- entries put all these away, each while those behind it were active
 abbrev pub AreStacked : List Interrupted → Type 0
 AreStacked [] = Unit {0}
 AreStacked (x ∷ acts) = IsStacked x acts × AreStacked acts

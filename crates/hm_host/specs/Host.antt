@@ -25,9 +25,11 @@ pub record Made : Type 0 where
   pub call : Call
   pub failed : Bool
 
+-- a call that was made and did not answer Failed
 abbrev pub answered : Call → Made
 answered call = record { call = call; failed = false }
 
+-- a call that was made and answered Failed
 abbrev pub failed : Call → Made
 failed call = record { call = call; failed = true }
 

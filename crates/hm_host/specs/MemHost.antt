@@ -29,6 +29,7 @@ pub record Planned : Type 0 where
   pub failing : List ℕ
   pub next : ℕ
 
+-- the numbers of a host's calls that are to fail, and of the one that comes next
 abbrev pub planned : MemHost → Planned
 planned h = record { failing = h.failing; next = h.next }
 

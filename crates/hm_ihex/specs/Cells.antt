@@ -12,6 +12,7 @@ pub record Cells : Type 0 where
 unfoldable pub no_cells : ℕ → List (Option ℕ)
 no_cells count = replicate count None
 
+-- the cells of flash and of SRAM, none of them given
 abbrev pub first_cells : Cells
 first_cells = record { flash = no_cells flash_size; sram = no_cells sram_size }
 

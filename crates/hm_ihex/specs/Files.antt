@@ -23,6 +23,7 @@ pub record Reading : Type 0 where
   pub cells : Cells
   pub count : ℕ
 
+-- what is known before the first line: the base is 0, no cell is given, and there was no data record
 abbrev pub first_reading : Reading
 first_reading = record { base = 0; cells = first_cells; count = 0 }
 

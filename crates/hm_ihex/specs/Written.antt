@@ -30,6 +30,7 @@ data_text offset bytes = record_text (length bytes ∷ offset / 256 ∷ offset %
 abbrev pub base_text : ℕ → List ℕ
 base_text upper = record_text (2 ∷ 0 ∷ 0 ∷ 4 ∷ upper / 256 ∷ upper % 256 ∷ [])
 
+-- the end record
 abbrev pub end_text : List ℕ
 end_text = codes ":00000001FF"
 

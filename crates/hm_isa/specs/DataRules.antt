@@ -24,6 +24,7 @@ may_test data_.Add = true
 may_test data_.Sub = true
 may_test name = false
 
+-- T1 and T2: whether an operation takes n as its first register: neither sp nor pc, sp where it may, or 15 for none where it may
 abbrev pub is_first : DataName → ℕ → Bool
 is_first name n = is_general n || (nat_eq n 13 && may_take_sp name) || (nat_eq n 15 && may_take_none name)
 
@@ -35,9 +36,11 @@ is_result name s n d = is_general d || (nat_eq d 13 && nat_eq n 13) || (nat_eq d
 abbrev pub is_constant : ℕ → ℕ → ℕ → Bool
 is_constant i i3 i8 = nat_eq i 1 || nat_eq i3 0 || nat_le 4 i3 || nat_lt 0 i8
 
+-- T1: whether the letters of an operation with a constant go together
 abbrev pub is_constant_row : DataName → ℕ → ℕ → ℕ → ℕ → ℕ → ℕ → Bool
 is_constant_row name s n d i i3 i8 = is_first name n && is_result name s n d && is_constant i i3 i8
 
+-- T2: whether an operation is MOV of a register or a shift of one by a constant, and leaves the flags
 abbrev pub is_move : DataName → ℕ → ℕ → Bool
 is_move data_.Orr s n = nat_eq s 0 && nat_eq n 15
 is_move name s n = false

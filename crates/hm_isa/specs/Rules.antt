@@ -44,12 +44,15 @@ keeps_it c mask = nat_lt 0 mask && (not (nat_eq c 14) || nat_eq mask 8 || nat_eq
 abbrev pub is_general : ℕ → Bool
 is_general n = not (nat_eq n 13) && not (nat_eq n 15)
 
+-- neither of two registers is sp or pc
 abbrev pub are_general : ℕ → ℕ → Bool
 are_general d m = is_general d && is_general m
 
+-- none of three registers is sp or pc
 abbrev pub is_operation : ℕ → ℕ → ℕ → Bool
 is_operation n d m = is_general n && is_general d && is_general m
 
+-- none of four registers is sp or pc
 abbrev pub is_accumulated : ℕ → ℕ → ℕ → ℕ → Bool
 is_accumulated n a d m = is_general n && is_general a && is_general d && is_general m
 
@@ -66,6 +69,7 @@ abbrev pub is_system_move : SystemMoveName → ℕ → Bool
 is_system_move move.ReadFpscr t = not (nat_eq t 13)
 is_system_move name t = is_general t
 
+-- whether an access is a load
 abbrev pub is_load : AccessName → Bool
 is_load access.Str = false
 is_load access.Strh = false
@@ -86,9 +90,11 @@ is_offset name n t = not (nat_eq n 15) && is_data name t
 abbrev pub is_indexed : AccessName → ℕ → ℕ → ℕ → ℕ → ℕ → Bool
 is_indexed name n t p u w = is_offset name n t && (if nat_eq w 1 then not (nat_eq n t) else nat_eq p 1 && nat_eq u 0)
 
+-- T12: an offset in a register is in neither sp nor pc, and the base is not pc
 abbrev pub is_shifted : AccessName → ℕ → ℕ → ℕ → Bool
 is_shifted name n t m = is_offset name n t && is_general m
 
+-- T12: a literal is only loaded, and to a register that the load may have
 abbrev pub is_literal : AccessName → ℕ → Bool
 is_literal name t = is_load name && is_data name t
 
@@ -145,6 +151,7 @@ has_sign by_scalar.Qrdmulh = false
 has_sign by_scalar.Mla = true
 has_sign by_scalar.Mlas = true
 
+-- V10: u is 0 where the name says nothing of signs
 abbrev pub is_signed_by : ScalarName → ℕ → Bool
 is_signed_by name u = has_sign name || nat_eq u 0
 
@@ -155,6 +162,7 @@ shift_has_sign by_constant.Rshr = true
 shift_has_sign by_constant.Qshl = true
 shift_has_sign name = false
 
+-- V11: u is 0 where the name says nothing of signs
 abbrev pub is_shifted_by : ConstantShiftName → ℕ → Bool
 is_shifted_by name u = shift_has_sign name || nat_eq u 0
 

@@ -23,6 +23,7 @@ pub record Journaled : Type 0 where
 abbrev pub checkpoint_data : ReportAt → Data
 checkpoint_data x = object (member (codes "report") (string x.report) (member (codes "tick") (number (unsigned x.tick)) no_members))
 
+-- a journal as a JSON value
 abbrev pub journal_data : Journaled → Data
 journal_data j =
     object (member (codes "checkpoints") (array (items_of (map checkpoint_data j.checkpoints)))
@@ -33,10 +34,12 @@ journal_data j =
 abbrev pub checkpoint_text : ReportAt → List ℕ
 checkpoint_text x = codes "{\"report\":" ++ quoted x.report ++ codes ",\"tick\":" ++ decimal x.tick ++ codes "}"
 
+-- the texts of checkpoints with commas between them, and one before the first where others stand before it
 abbrev pub checkpoints_text : Bool → List ReportAt → List ℕ
 checkpoints_text later [] = []
 checkpoints_text later (x ∷ xs) = comma_if later ++ checkpoint_text x ++ checkpoints_text true xs
 
+-- a journal as its compact JSON text
 abbrev pub journal_text : Journaled → List ℕ
 journal_text j =
     codes "{\"checkpoints\":[" ++ checkpoints_text false j.checkpoints ++ codes "],\"every\":" ++ decimal j.every ++ codes ",\"format\":" ++ decimal j.format ++ codes "}"
@@ -50,6 +53,7 @@ IsFormat n = n ≡ 1
 abbrev pub AreTicks : Journaled → Type 0
 AreTicks j = (k : ℕ) (x : ReportAt) → slice_get j.checkpoints k ≡ Some x → x.tick ≡ k * j.every
 
+-- which there are: of a known format, with 1 to 64 checkpoints, and 1 to 16777216 ticks from one to the next
 pub record IsJournal (j : Journaled) : Type 0 where
   pub format : IsFormat j.format
   pub some : 0 < length j.checkpoints
@@ -74,6 +78,7 @@ number_at key d = option_and_then as_u64 (option_and_then as_number (get key d))
 abbrev pub HasFormat : Data → ℕ → Type 0
 HasFormat d n = (number_at (codes "format") d ≡ Some n) × IsFormat n
 
+-- these bytes read as the JSON of this journal
 pub record IsJournalFile (bytes : List ℕ) (j : Journaled) : Type 0 where
   pub reads : Reads bytes (journal_data j)
   pub sound : IsJournal j

@@ -17,6 +17,7 @@ IsNoFormat bytes = (d : Data) × Reads bytes d × ((n : ℕ) → ¬ (HasFormat d
 abbrev pub IsNoShape : List ℕ → Type 0
 IsNoShape bytes = (d : Data) × Reads bytes d × ((n : ℕ) × HasFormat d n) × ((j : Journaled) → IsJournal j → ¬ (d ≡ journal_data j))
 
+-- what bytes come to, read as a journal: the journal, or why they are none
 abbrev pub IsReading : List ℕ → Result Journaled JournalErr → Type 0
 IsReading bytes (Ok j) = IsJournalFile bytes j
 IsReading bytes (Err err.Json) = IsNoJson bytes

@@ -100,6 +100,7 @@ pub record IsAddRow (t : ElementType) (name : AddName) (d n m : ℕ) (i : Instr)
   pub n_is : row.n.value ≡ n
   pub m_is : row.m.value ≡ m
 
+-- V2: VAND, VBIC, VORR, VORN or VEOR qd,qn,qm, as the name says
 pub record IsBitwiseRow (name : BitwiseName) (d n m : ℕ) (i : Instr) : Type 0 where
   pub row : V2
   pub is : i ≡ instr.Vector (vector.V2 row)
@@ -108,6 +109,7 @@ pub record IsBitwiseRow (name : BitwiseName) (d n m : ℕ) (i : Instr) : Type 0 
   pub n_is : row.n.value ≡ n
   pub m_is : row.m.value ≡ m
 
+-- V3: VMAX, VMIN or one of their kin, qd,qn,qm of elements of a type, with its sign
 pub record IsBestRow (t : ElementType) (name : SignedName) (d n m : ℕ) (i : Instr) : Type 0 where
   pub row : V3
   pub is : i ≡ instr.Vector (vector.V3 row)
@@ -118,6 +120,7 @@ pub record IsBestRow (t : ElementType) (name : SignedName) (d n m : ℕ) (i : In
   pub n_is : row.n.value ≡ n
   pub m_is : row.m.value ≡ m
 
+-- the instruction of an operation on registers q and q + 1 that leaves its result in q, of V1, V2 or V3
 abbrev pub IsOperation : ElementType → Op → ℕ → Instr → Type 0
 IsOperation t op.Add q i = IsAddRow t add.Add q q (q + 1) i
 IsOperation t op.Sub q i = IsAddRow t add.Sub q q (q + 1) i
@@ -163,6 +166,7 @@ IsKind t (Store q) i = IsMoveRow t 0 q 5 i
 IsKind t (Do o q) i = IsOperation t o q i
 IsKind t Further i = IsByteRow byte.Add 4 16 i
 
+-- an instruction is that of an item: of a kind, the begin or the end of a loop, or the stop
 abbrev pub IsItem : ElementType → Item → Instr → Type 0
 IsItem t (Plain k) i = IsKind t k i
 IsItem t (Begin h) i = IsBeginRow t h i

@@ -5,6 +5,7 @@ use Rattle.hm_kernel_lang.specs.declared.text.ElementType.{ElementType}
 use Rattle.hm_kernel_lang.specs.declared.text.Array.{Array}
 use Rattle.hm_kernel_lang.specs.Values.{element_bytes}
 
+-- the segment of an array: the bytes of its values, from its address on
 abbrev pub array_segment : ElementType → Array → Segment
 array_segment t x = segment x.addr (element_bytes t (length x.values.items) (λ j. slice_index x.values.items j))
 

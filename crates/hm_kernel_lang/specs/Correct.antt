@@ -8,6 +8,7 @@ use Rattle.hm_kernel_lang.specs.Language.{Bytes, bytes, modulus, need}
 use Rattle.hm_kernel_lang.specs.Machine.{View, Kind, Item, Plain, Begin, Again, Stop, Can, again, begun, exec, item_halves, size_code}
 
 -- ANY MACHINE
+-- what follows on a step that goes on
 abbrev pub and_then : {S E : Type 0} → (S → Result S E) → Result S E → Result S E
 and_then f (Ok s) = f s
 and_then f (Err e) = Err e
@@ -51,11 +52,13 @@ IsFine t at n a (Name i) = IsPlaced t n (at i) × AreApart t n (at i) a
 IsFine t at n a (Number k) = k < modulus t
 IsFine t at n a (Apply' o p l q r) = IsFine t at n a l × IsFine t at n a r
 
+-- a line is fine: its arrays are placed and apart, its numbers are of the type, and eight registers do for it
 pub record IsLine (t : ElementType) (at : ℕ → ℕ) (n : ℕ) (l : Line) : Type 0 where
   pub target : IsPlaced t n (at l.array)
   pub names : IsFine t at n (at l.array) l.expr
   pub shallow : need l.expr ≤ 8
 
+-- each of these lines is fine
 abbrev pub AreLines : ElementType → (ℕ → ℕ) → ℕ → List Line → Type 0
 AreLines t at n [] = Unit {0}
 AreLines t at n (l ∷ ls) = IsLine t at n l × AreLines t at n ls

@@ -21,6 +21,7 @@ bytes S16 = 2
 bytes U32 = 4
 bytes S32 = 4
 
+-- how many elements a vector register has
 abbrev pub lanes : ElementType → ℕ
 lanes U8 = 16
 lanes S8 = 16
@@ -29,6 +30,7 @@ lanes S16 = 8
 lanes U32 = 4
 lanes S32 = 4
 
+-- how many numbers an element holds
 abbrev pub modulus : ElementType → ℕ
 modulus U8 = 2 ^ 8
 modulus S8 = 2 ^ 8
@@ -37,6 +39,7 @@ modulus S16 = 2 ^ 16
 modulus U32 = 2 ^ 32
 modulus S32 = 2 ^ 32
 
+-- whether the numbers of a type have a sign
 abbrev pub is_signed : ElementType → Bool
 is_signed U8 = false
 is_signed S8 = true
@@ -54,6 +57,7 @@ abbrev pub little : ℕ → Bytes → ℕ → ℕ
 little zero m a = 0
 little (suc n) m a = m a + 256 * little n m (a + 1)
 
+-- byte k of a number, of which byte 0 is the lowest
 abbrev pub byte_of : ℕ → ℕ → ℕ
 byte_of x k = x / 2 ^ (8 * k) % 256
 
@@ -71,9 +75,11 @@ replaced t a (suc n) f m = with_number (bytes t) (a + bytes t * n) (f n) (replac
 abbrev pub ordered : ElementType → ℕ → ℕ
 ordered t x = cond (is_signed t) ((x + modulus t / 2) % modulus t) x
 
+-- whether a number is less than another, with the sign that the type has
 abbrev pub is_less : ElementType → ℕ → ℕ → Bool
 is_less t x y = nat_lt (ordered t x) (ordered t y)
 
+-- the value of an operation on two elements of a type, a sum, difference or product modulo what an element holds
 abbrev pub op_value : ElementType → Op → ℕ → ℕ → ℕ
 op_value t op.Add x y = (x + y) % modulus t
 op_value t op.Sub x y = (x + (modulus t - y)) % modulus t
@@ -103,6 +109,7 @@ abbrev pub given : ElementType → List Array → Bytes
 given t [] = λ a. 0
 given t (a ∷ more) = replaced t a.addr (length a.values.items) (λ j. slice_index a.values.items j) (given t more)
 
+-- the memory before the first line of a text
 abbrev pub first_memory : Text → Bytes
 first_memory x = given x.element x.arrays.items
 
@@ -110,24 +117,29 @@ first_memory x = given x.element x.arrays.items
 abbrev pub after_line : ElementType → (ℕ → ℕ) → ℕ → Line → Bytes → Bytes
 after_line t at n l m = replaced t (at l.array) n (λ j. value t at l.expr j m) m
 
+-- the memory after these lines, one after another
 abbrev pub after_lines : ElementType → (ℕ → ℕ) → ℕ → List Line → Bytes → Bytes
 after_lines t at n [] m = m
 after_lines t at n (l ∷ ls) m = after_lines t at n ls (after_line t at n l m)
 
+-- what a text means: the memory after all its lines
 abbrev pub meaning : Text → Bytes
 meaning x = after_lines x.element (address x.arrays.items) x.count x.lines.items (first_memory x)
 
 -- STEPS
+-- how many times an expression names an array
 abbrev pub names : Expr → ℕ
 names (Name i) = 1
 names (Number n) = 0
 names (Apply' o p l q r) = names l + names r
 
+-- how many numbers an expression has
 abbrev pub numbers : Expr → ℕ
 numbers (Name i) = 0
 numbers (Number n) = 1
 numbers (Apply' o p l q r) = numbers l + numbers r
 
+-- how many operations an expression has
 abbrev pub operations : Expr → ℕ
 operations (Name i) = 0
 operations (Number n) = 0
@@ -143,12 +155,15 @@ need (Apply' o p l q r) = max (need l) (1 + need r)
 abbrev pub turns : ElementType → ℕ → ℕ
 turns t n = (n * (8 * bytes t) + 127) / 128
 
+-- how many instructions the code of a line does, with n elements
 abbrev pub line_steps : ElementType → ℕ → Expr → ℕ
 line_steps t n e = 4 + turns t n * (4 * names e + 3 * numbers e + operations e + 6)
 
+-- how many instructions the code of these lines does, with n elements
 abbrev pub lines_steps : ElementType → ℕ → List Line → ℕ
 lines_steps t n [] = 0
 lines_steps t n (l ∷ ls) = line_steps t n l.expr + lines_steps t n ls
 
+-- how many instructions the code of a text does, the one that ends it counted
 abbrev pub steps : Text → ℕ
 steps x = lines_steps x.element x.count x.lines.items + 1

@@ -17,6 +17,7 @@ words _ = []
 abbrev pub word_of : List ℕ → ℕ
 word_of v = get_or (words v) 0 0
 
+-- the halfwords of a list of bytes, the lowest byte of each first
 abbrev pub halves : List ℕ → List ℕ
 halves (a ∷ b ∷ v) = (a + 256 * b) ∷ halves v
 halves _ = []
@@ -69,6 +70,7 @@ firsts Half _ = []
 firsts Word (p ∷ q ∷ r ∷ s ∷ l) = p ∷ firsts Word l
 firsts Word _ = []
 
+-- whether g holds, of each two elements of two lists
 abbrev pub paired_tests : (ℕ → ℕ → Bool) → List ℕ → List ℕ → List Bool
 paired_tests g (x ∷ xs) (y ∷ ys) = g x y ∷ paired_tests g xs ys
 paired_tests g _ _ = []

@@ -39,21 +39,27 @@ advance_of b mask slice =
     ++ cond (eqb (b % 2) 1 && not (eqb mask 0)) (write (mask_place b) (2 * mask) ∷ []) []
 
 -- THE SAME OF THE REGISTERS
+-- the mask of the half that word b is in: MASK01 or MASK23 of VPR
 abbrev pub mask_of : ℕ → Regs → ℕ
 mask_of b s = value_at (mask_place b) s
 
+-- whether VPR lets byte j of word b be written: its half has no mask, or its bit of P0 is set
 abbrev pub mask_bit : Regs → ℕ → ℕ → Bool
 mask_bit s b j = allowed (mask_of b s) (value_at (P0 b) s) j
 
+-- whether byte k of a vector register is within the elements that are left, by LTPSIZE and lr
 abbrev pub in_tail : Regs → ℕ → Bool
 in_tail s k = remains (value_at Ltp s) (value_at (R 14) s) k
 
+-- whether byte j of word b is active: VPR lets it be written, and it is within the elements that are left
 abbrev pub active : Regs → ℕ → ℕ → Bool
 active s b j = mask_bit s b j && in_tail s (4 * b + j)
 
+-- of each of the four bytes of word b whether it is active, as the registers stand
 abbrev pub active_word : Regs → ℕ → List Bool
 active_word s b = active_bytes b (mask_of b s) (value_at Ltp s) (value_at (R 14) s) (value_at (P0 b) s)
 
+-- what the advance after beat b writes, as the registers stand
 abbrev pub advance_writes : ℕ → Regs → List Write
 advance_writes b s = advance_of b (mask_of b s) (value_at (P0 b) s)
 
@@ -83,6 +89,7 @@ finish_writes d b new s = write (QWord (4 * d + b)) (word_of (merged (active_wor
 abbrev pub predicate_places : ℕ → Regs → List Place
 predicate_places b s = mask_place b ∷ Ltp ∷ (cond (ltb (value_at Ltp s) 4) (R 14 ∷ []) [] ++ cond (not (eqb (mask_of b s) 0)) (P0 b ∷ []) [])
 
+-- the places that the advance after beat b writes, as the registers stand
 abbrev pub advance_places : ℕ → Regs → List Place
 advance_places b s = cond (ltb 8 (mask_of b s)) (P0 b ∷ []) [] ++ cond (eqb (b % 2) 1 && not (eqb (mask_of b s) 0)) (mask_place b ∷ []) []
 

@@ -21,6 +21,7 @@ abbrev pub optional : Bool → Kind → List Kind
 optional true k = k ∷ []
 optional false k = []
 
+-- the tokens of an operand that begins with neither `[` nor `{`
 abbrev pub plain : Plain → List Kind
 plain single = word ∷ []
 plain written_back = word ∷ mark Bang ∷ []
@@ -35,6 +36,7 @@ pub data Item : Type 0 where
   one : Item
   range : Item
 
+-- the tokens of one item of a list
 abbrev pub item : Item → List Kind
 item one = word ∷ []
 item range = word ∷ mark Minus ∷ word ∷ []
@@ -50,6 +52,7 @@ pub data Operand : Type 0 where
   address : Plain → List Plain → Bool → Operand
   list : Item → List Item → Operand
 
+-- the tokens of an operand
 abbrev pub operand : Operand → List Kind
 operand (simple p) = plain p
 operand (address p ps back) = mark OpenBracket ∷ (plain p ++ (behind_commas plain ps ++ mark CloseBracket ∷ optional back (mark Bang)))
@@ -60,6 +63,7 @@ operand (list i is) = mark OpenBrace ∷ (item i ++ (behind_commas item is ++ ma
 abbrev pub Spaced : Type 0
 Spaced = Bool × Kind
 
+-- the kinds of tokens, without the spaces before them
 abbrev pub kinds : List Spaced → List Kind
 kinds ts = map (λ t. t.1) ts
 
@@ -73,6 +77,7 @@ abbrev pub IsInstruction : List Spaced → Type 0
 IsInstruction [] = ⊥
 IsInstruction (t ∷ ts) = (t.1 ≡ word) × AreOperands ts
 
+-- no token, or an instruction or directive
 abbrev pub IsOptional : List Spaced → Type 0
 IsOptional [] = Unit {0}
 IsOptional (t ∷ ts) = IsInstruction (t ∷ ts)
@@ -83,6 +88,7 @@ IsLabelled [] = ⊥
 IsLabelled (t ∷ []) = ⊥
 IsLabelled (t ∷ u ∷ ts) = (t.1 ≡ word) × (u.1 ≡ mark Colon) × IsOptional ts
 
+-- tokens are of a form: an instruction or directive alone, or a line of a source, which may be empty or have a label
 abbrev pub IsForm : Form → List Spaced → Type 0
 IsForm forms.Instruction ts = IsInstruction ts
 IsForm forms.Line ts = IsOptional ts ⊎ IsLabelled ts

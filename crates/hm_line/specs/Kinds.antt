@@ -18,6 +18,7 @@ mark_of c =
     else if c == 91 then OpenBracket else if c == 93 then CloseBracket else if c == 123 then OpenBrace
     else if c == 125 then CloseBrace else if c == 33 then Bang else if c == 45 then Minus else Plus
 
+-- the kind of a token
 abbrev pub kind : Tok → Kind
 kind (tokens.word w) = word
 kind (tokens.number n) = number

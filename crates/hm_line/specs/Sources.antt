@@ -16,6 +16,7 @@ word_with (word w) rest = Some (w, rest)
 word_with (number n) rest = None
 word_with (mark c) rest = None
 
+-- the word that is the first token of a text, and what stands behind it; None where no word is first
 abbrev pub word_at : List ℕ → Option (List ℕ × List ℕ)
 word_at text = option_and_then (λ x. word_with x.0 x.1) (token_at (skip text))
 
@@ -25,6 +26,7 @@ colon_with (word w) rest = None
 colon_with (number n) rest = None
 colon_with (mark c) rest = if c == 58 then Some rest else None
 
+-- what stands behind the first token of a text, where that is `:`
 abbrev pub behind_colon : List ℕ → Option (List ℕ)
 behind_colon text = option_and_then (λ x. colon_with x.0 x.1) (token_at (skip text))
 
@@ -37,6 +39,7 @@ abbrev pub is_bad : Option (List ℕ × List ℕ) → Bool
 is_bad None = false
 is_bad (Some x) = not (is_label_name x.0)
 
+-- whether a text begins with a word and `:`, and the word is no name for a label
 abbrev pub has_bad_label : List ℕ → Bool
 has_bad_label text = is_bad (label_of text)
 
@@ -49,6 +52,7 @@ behind_label text (Some x) = x.1
 abbrev pub instruction_of : List ℕ → List ℕ
 instruction_of text = skip (behind_label text (label_of text))
 
+-- a line, without its comment, is of the form of a line, and its label, where it has one, has a name for a label
 abbrev pub IsLine : List ℕ → Type 0
 IsLine line = (has_bad_label (before_comment line) ≡ false) × IsOfForm forms.Line (before_comment line)
 

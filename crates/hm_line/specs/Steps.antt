@@ -12,6 +12,7 @@ use Rattle.hm_line.specs.declared.form.State.TheVariants as states
 use Rattle.hm_line.specs.Kinds.{Kind, word, number, mark}
 
 -- OPERANDS
+-- what an operand's first token leads to
 abbrev pub first_operand : Depth → Kind → Option Operands
 first_operand d word = Some (ops.Word d)
 first_operand d number = Some (ops.Done d)
@@ -21,11 +22,13 @@ first_operand Outside (mark OpenBracket) = Some (ops.Operand Inside)
 first_operand Outside (mark OpenBrace) = Some ops.List
 first_operand d k = None
 
+-- what a token behind a whole operand leads to
 abbrev pub behind_operand : Depth → Kind → Option Operands
 behind_operand d (mark Comma) = Some (ops.Operand d)
 behind_operand Inside (mark CloseBracket) = Some ops.Address
 behind_operand d k = None
 
+-- what a token behind an operand's first word leads to
 abbrev pub behind_word : Depth → Kind → Option Operands
 behind_word d (mark Bang) = Some (ops.Done d)
 behind_word d (mark Hash) = Some (ops.Number d)
@@ -33,38 +36,46 @@ behind_word d (mark Plus) = Some (ops.Number d)
 behind_word d (mark OpenBracket) = Some (ops.LaneNumber d)
 behind_word d k = behind_operand d k
 
+-- what a token behind the `#` of an immediate leads to
 abbrev pub behind_hash : Depth → Kind → Option Operands
 behind_hash d number = Some (ops.Done d)
 behind_hash d (mark Minus) = Some (ops.Number d)
 behind_hash d k = None
 
+-- what a token behind the number of a lane leads to
 abbrev pub behind_lane : Depth → Kind → Option Operands
 behind_lane d (mark CloseBracket) = Some (ops.Done d)
 behind_lane d k = None
 
+-- what a token behind the `]` of an address leads to
 abbrev pub behind_address : Kind → Option Operands
 behind_address (mark Bang) = Some (ops.Done Outside)
 behind_address k = behind_operand Outside k
 
+-- what a token behind a whole item of a list leads to
 abbrev pub behind_item : Kind → Option Operands
 behind_item (mark Comma) = Some ops.List
 behind_item (mark CloseBrace) = Some (ops.Done Outside)
 behind_item k = None
 
+-- what a token behind the first word of an item of a list leads to
 abbrev pub behind_item_word : Kind → Option Operands
 behind_item_word (mark Minus) = Some ops.ListTo
 behind_item_word k = behind_item k
 
+-- whether a token is a word
 abbrev pub is_word : Kind → Bool
 is_word word = true
 is_word number = false
 is_word (mark m) = false
 
+-- whether a token is a number
 abbrev pub is_number : Kind → Bool
 is_number word = false
 is_number number = true
 is_number (mark m) = false
 
+-- what a token of the operands leads to, by what was read last of them; None where it may not stand there
 abbrev pub operand_step : Operands → Kind → Option Operands
 operand_step (ops.Operand d) k = first_operand d k
 operand_step (ops.Word d) k = behind_word d k
@@ -79,6 +90,7 @@ operand_step ops.ListWord k = behind_item_word k
 operand_step ops.ListTo k = if is_word k then Some ops.ListDone else None
 operand_step ops.ListDone k = behind_item k
 
+-- whether the operands may end behind what was read last of them
 abbrev pub is_operand_end : Operands → Bool
 is_operand_end (ops.Word Outside) = true
 is_operand_end (ops.Done Outside) = true
@@ -86,14 +98,17 @@ is_operand_end ops.Address = true
 is_operand_end s = false
 
 -- LINES, by tokens and whether a space stands before them
+-- what a token behind a mnemonic or directive leads to, which a space is to stand before
 abbrev pub behind_mnemonic : Bool → Kind → Option State
 behind_mnemonic true k = option_map states.Operands (first_operand Outside k)
 behind_mnemonic false k = None
 
+-- what a token behind the first word leads to: in a line, a `:` makes that word a label
 abbrev pub behind_first : Form → Bool → Kind → Option State
 behind_first forms.Line apart (mark Colon) = Some states.Label
 behind_first form apart k = behind_mnemonic apart k
 
+-- what a token of a line leads to, by what was read last of it; None where it may not stand there
 abbrev pub line_step : Form → State → Bool → Kind → Option State
 line_step form states.Start apart k = if is_word k then Some states.First else None
 line_step form states.First apart k = behind_first form apart k
@@ -106,6 +121,7 @@ abbrev pub may_be_empty : Form → Bool
 may_be_empty forms.Instruction = false
 may_be_empty forms.Line = true
 
+-- whether a text of the form may end behind what was read last of it
 abbrev pub is_line_end : Form → State → Bool
 is_line_end form states.Start = may_be_empty form
 is_line_end form states.First = true

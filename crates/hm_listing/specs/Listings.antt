@@ -26,14 +26,17 @@ abbrev pub halves_of : Entry → List ℕ
 halves_of (shown i) = halfwords i
 halves_of (half h) = h ∷ []
 
+-- the text of a line that shows an entry at a: an instruction as it is printed there, or `.half` and the halfword
 abbrev pub entry_text : ℕ → Entry → List ℕ
 entry_text a (shown i) = printed_text i a
 entry_text a (half h) = codes ".half 0x" ++ hex4 h
 
 -- A LINE: an address, halfwords and a text, with spaces between them
+-- one line with its end; the address has eight digits and each halfword four
 abbrev pub listing_line : ℕ → List ℕ → List ℕ → List ℕ
 listing_line a halves text = hex8 a ++ 32 ∷ (join_with_byte 32 (map hex4 halves) ++ 32 ∷ (text ++ 10 ∷ []))
 
+-- the line that shows an entry at a
 abbrev pub entry_line : ℕ → Entry → List ℕ
 entry_line a e = listing_line a (halves_of e) (entry_text a e)
 
@@ -47,6 +50,7 @@ abbrev pub AreEntries : (ℕ → ℕ) → ℕ → ℕ → List Entry → Type 0
 AreEntries flash a hi [] = a ≡ hi
 AreEntries flash a hi (e ∷ es) = (a < hi) × IsEntry flash a hi e × AreEntries flash (a + 2 * length (halves_of e)) hi es
 
+-- the lines of entries that stand one behind another, the first at a
 abbrev pub lines_from : ℕ → List Entry → List ℕ
 lines_from a [] = []
 lines_from a (e ∷ es) = entry_line a e ++ lines_from (a + 2 * length (halves_of e)) es

@@ -6,6 +6,7 @@ use Rattle.hm_handlers.specs.Runs.{run_out}
 use Rattle.hm_machine.specs.Shown.{Shown, Shows}
 use Rattle.hm_sched.specs.Schedule.{Sched}
 
+-- what callers see of a tape
 pub record Taped : Type 0 where
   pub start : Shown
   pub last : ℕ

@@ -17,6 +17,7 @@ abbrev pub first_of : List Checkpoint → List ℕ → Shown → Shown
 first_of [] output m = m
 first_of (c ∷ cs) output m = machine_at (fixed_of m) output c
 
+-- what callers see of a tape's fields
 abbrev pub tape_view : Inside → Taped
 tape_view w = record {
   start = first_of w.kept.items w.output.items w.machine;
@@ -37,6 +38,7 @@ AreKept f output cs = (k : ℕ) (c : Checkpoint) → slice_get cs k ≡ Some c �
 abbrev pub AreApart : Shown → Fixed → List ℕ → ℕ → List Checkpoint → Type 0
 AreApart start f output apart cs = (k : ℕ) (c : Checkpoint) → slice_get cs k ≡ Some c → ShowsTick start (k * apart) (machine_at f output c)
 
+-- what always holds of a tape's fields
 pub record IsTape (w : Inside) : Type 0 where
   pub apart : 0 < w.apart
   pub some : 0 < length w.kept.items

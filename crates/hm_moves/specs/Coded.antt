@@ -50,6 +50,7 @@ abbrev pub begun_in : Bool → ℕ → Regs → List Place
 begun_in true b r = looked_places false b r
 begun_in false b r = mask_place b ∷ cond (ltb 8 (mask_of b r)) (P0 b ∷ []) []
 
+-- what the code says is written, as writes in the same order
 abbrev pub puts_of : List Written → List Write
 puts_of [] = []
 puts_of (w ∷ ws) = write w.place w.value ∷ puts_of ws

@@ -52,6 +52,7 @@ pub record Moves : Type 0 where
   pub back : ℕ → List ℕ → List Write
 
 -- ELEMENTS
+-- those of a list of elements that are active, by the active bytes of a word
 abbrev pub active_ones : List Bool → List Element → List Element
 active_ones active [] = []
 active_ones active (e ∷ es) = cond (get_or active e.lane false) (e ∷ []) [] ++ active_ones active es
@@ -71,6 +72,7 @@ is_closed actor x store len a = false
 abbrev pub sure_stop : Around → Bool → ℕ → ℕ → Option Stop
 sure_stop x store len a = stop_after (fault_kind (is_thread x.actor) Vector store len a) (is_closed x.actor x store len a) store a
 
+-- a stop as a check that fails, and none where there is no stop
 abbrev pub fails : Option Stop → List (Check Cell Stop)
 fails None = []
 fails (Some e) = Fails e ∷ []
@@ -84,6 +86,7 @@ asks a (b ∷ bs) = Asks (Byte b) (stop.Tainted a) ∷ asks a bs
 abbrev pub element_checks : Around → Bool → ℕ → ℕ → List (Check Cell Stop)
 element_checks x store len a = fails (sure_stop x store len a) ++ cond (is_thread x.actor && not store) (asks a (span_bytes a len)) []
 
+-- the checks of a list of elements, one element after another
 abbrev pub checks_of : Around → Bool → ℕ → List Element → List (Check Cell Stop)
 checks_of x store len [] = []
 checks_of x store len (e ∷ es) = element_checks x store len e.addr ++ checks_of x store len es
@@ -119,6 +122,7 @@ abbrev pub store_bytes : Bool → Element → ℕ → List ℕ → List (Cell ×
 store_bytes tainted e k [] = []
 store_bytes tainted e k (a ∷ bs) = (Byte a, λ vs. record { n = byte_of (get_or (numbers vs) e.word 0) (e.lane + k); taint = tainted }) ∷ store_bytes tainted e (k + 1) bs
 
+-- the bytes of a list of elements are stored from words that were read
 abbrev pub store_all : Bool → Size → List Element → List (Cell × (List Value → Value))
 store_all tainted z [] = []
 store_all tainted z (e ∷ es) = store_bytes tainted e 0 (span_bytes e.addr (width z)) ++ store_all tainted z es
@@ -129,6 +133,7 @@ abbrev pub test_all : List Place → (List ℕ → Tree) → Tree
 test_all [] k = k []
 test_all (p ∷ ps) k = test p λ n. test_all ps λ ns. k (n ∷ ns)
 
+-- the four bytes of a word, all of them active
 abbrev pub every_byte : List Bool
 every_byte = true ∷ true ∷ true ∷ true ∷ []
 
@@ -141,12 +146,15 @@ begun false b k = test (mask_place b) λ mask. test_where (ltb 8 mask) (P0 b) λ
 abbrev pub words_read : Moves → ℕ → List Place
 words_read i b = cond (i.store || not i.predicated) (i.words b) []
 
+-- what beat b reads once its elements are known: the bytes that it loads, and the words that it reads
 abbrev pub reads_of : Moves → ℕ → List Element → List Cell
 reads_of i b es = cond i.store [] (map Byte (bytes_of i.memory es)) ++ map At (words_read i b)
 
+-- what the moved elements of beat b write: bytes of memory for a store, words of registers for a load
 abbrev pub moved_by : Moves → Around → ℕ → List Element → List (Cell × (List Value → Value))
 moved_by i x b es = cond i.store (store_all (marks x.actor) i.memory es) (fill i 0 es (i.words b))
 
+-- the leaf of beat b, by what its sources hold, the elements that it moves, and the advance
 abbrev pub moves_leaf : Moves → Around → ℕ → List ℕ → List Element → List Write → Leaf Cell Value Stop
 moves_leaf i x b ns es advance = record {
   checks = checks_of x i.store (width i.memory) es;
@@ -174,6 +182,7 @@ elements_at i b s = active_ones (cond i.predicated (active_at b s) every_byte) (
 abbrev pub values_at : Moves → ℕ → State → List ℕ
 values_at i b s = numbers (map s.cell (reads_of i b (elements_at i b s)))
 
+-- words from number j on as they are filled, by what was read
 abbrev pub words_from : Moves → ℕ → List Element → List ℕ → List Place → List (Cell × Value)
 words_from i j es xs [] = []
 words_from i j es xs (p ∷ ps) = into (write p (filled i j es xs)) ∷ words_from i (j + 1) es xs ps
@@ -182,10 +191,12 @@ words_from i j es xs (p ∷ ps) = into (write p (filled i j es xs)) ∷ words_fr
 abbrev pub loaded_at : Moves → ℕ → State → List (Cell × Value)
 loaded_at i b s = cond i.store [] (words_from i 0 (elements_at i b s) (values_at i b s) (i.words b))
 
+-- byte k of an element and those after it, as they are stored from words that were read
 abbrev pub bytes_from : Bool → Element → List ℕ → ℕ → List ℕ → List (Cell × Value)
 bytes_from tainted e xs k [] = []
 bytes_from tainted e xs k (a ∷ bs) = (Byte a, record { n = byte_of (get_or xs e.word 0) (e.lane + k); taint = tainted }) ∷ bytes_from tainted e xs (k + 1) bs
 
+-- the bytes of a list of elements, as they are stored from words that were read
 abbrev pub all_bytes_from : Bool → Size → List Element → List ℕ → List (Cell × Value)
 all_bytes_from tainted z [] xs = []
 all_bytes_from tainted z (e ∷ es) xs = bytes_from tainted e xs 0 (span_bytes e.addr (width z)) ++ all_bytes_from tainted z es xs
@@ -232,6 +243,7 @@ abbrev pub moves_by_words : Moves → State → Result State Fault
 moves_by_words i s = unless (first_fault i.store (width i.memory) (all_elements i s)) (Ok (moved i s))
 
 -- WHAT A ROW OWES
+-- whether a place is a word of a vector register
 abbrev pub is_word : Place → Bool
 is_word (QWord k) = true
 is_word p = false

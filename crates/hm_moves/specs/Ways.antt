@@ -20,6 +20,7 @@ each_from f j zero = []
 each_from f j (suc n) = f j ∷ each_from f (j + 1) n
 
 -- WHERE A ROW FINDS ITS ELEMENTS
+-- V24 to V28: how VLDRB, VSTRB and their kin, VLD2, VLD4, VST2 and VST4 find the elements that they load or store
 pub data Found : Type 0 where
   -- one behind another, for vector register d: from the base in register n, or from there with the offset; the base may get it too
   straight : (d n offset : ℕ) (before back : Bool) → Found
@@ -38,6 +39,7 @@ pub record Transfer : Type 0 where
   pub signed : Bool
   pub found : Found
 
+-- an element by its address modulo 2^32, the number of its word among those of the beat, and its lowest byte there
 abbrev pub element : ℕ → ℕ → ℕ → Element
 element a word lane = record { addr = a % 2 ^ 32; word = word; lane = lane }
 
@@ -112,15 +114,18 @@ moves_by t = record {
 }
 
 -- THE SAME OF WHAT THE CODE HOLDS
+-- V24 to V28: what the code holds of where a row finds its elements, as one of these ways
 abbrev pub way_of : Way → Found
 way_of (Straight w) = straight w.d w.n w.offset w.before w.back
 way_of (Offsets w) = at_offsets w.d w.n w.m w.scale
 way_of (Addresses w) = at_addresses w.d w.m w.offset w.back
 way_of (Interleaved w) = interleaved w.d w.n w.four w.part w.back
 
+-- what the code holds of a load or store, as what the row moves
 abbrev pub transfer_of : Move → Transfer
 transfer_of m = record { store = m.store; memory = m.memory; register = m.register; signed = m.signed; found = way_of m.way }
 
+-- what the code holds of a load or store, as what each beat moves
 abbrev pub moves_of : Move → Moves
 moves_of m = moves_by (transfer_of m)
 

@@ -44,6 +44,7 @@ fault_of store len _ _ = None
 abbrev pub part_word : Bool → ℕ → ℕ
 part_word four part = cond four part (2 * part)
 
+-- the bytes of a register that belong to a part: one word of each of four registers, two words of each of two
 abbrev pub part_at : Bool → ℕ → ℕ → State → List ℕ
 part_at four part q s =
     let b = part_word four part in
@@ -54,6 +55,7 @@ part_at four part q s =
 abbrev pub read_at : Size → State → ℕ → ℕ
 read_at y s a = number (width y) (numbers (map s.cell (map Byte (span_bytes a (width y)))))
 
+-- what the number at an address is loaded as, extended with its sign or without
 abbrev pub loaded : Transfer → State → ℕ → ℕ
 loaded t s a = extended (moves_by t) (read_at t.memory s a)
 

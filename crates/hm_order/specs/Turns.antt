@@ -2,6 +2,7 @@
 use Rattle.std.specs.Prelude.{Result}
 use Rattle.hm_order.specs.Machine.{Core, Config, End, older, younger}
 
+-- which instruction takes the next step: the older or the younger
 pub data Turn : Type 0 where
   Older : Turn
   Younger : Turn

@@ -51,5 +51,6 @@ AgreesAfter M first (Some (outcome.TaintedRead t pc addr)) c = Unit {0}
 AgreesAfter M first (Some (outcome.StackSpent t sp)) c = Unit {0}
 AgreesAfter M first (Some (outcome.OutputFull t)) c = StopsBetween M first c.n why.Full c
 
+-- a run of an image under a schedule agrees with whole instructions in order, from a reset to the image
 abbrev pub StaysInOrder : Listing → List Segment → Sched → Timed → Type 0
 StaysInOrder listing image s x = AgreesAfter (thread_program listing s) (start image) x.outcome x.config

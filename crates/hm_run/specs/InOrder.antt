@@ -29,6 +29,7 @@ after n s (Err (why.Halt reason)) = Halted reason (n + 1) s
 after n s (Err why.Full) = Full (n + 1) s
 after n s (Err (why.Faults f)) = Faulted f.kind s.pc f.addr n
 
+-- what one more instruction after n comes to; what has halted, is full or has a fault stays as it is
 abbrev pub one_more : Listing → ℕ → InOrder → InOrder
 one_more listing n (Running s) = after n s (alone listing s)
 one_more listing n (Halted reason k s) = Halted reason k s

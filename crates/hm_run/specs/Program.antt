@@ -40,13 +40,16 @@ abbrev pub unless_refused : Option Fault → State → Result State WholeStop
 unless_refused (Some f) s = Err (Faults f)
 unless_refused None s = Ok s
 
+-- the state with a context, in which a vector row begins, or the fault by which it is refused
 abbrev pub ready_state : Vector → State → Result State WholeStop
 ready_state v s = unless_refused (refuse v (with_context s)) (with_context s)
 
+-- what may have a fault, as the end of a whole instruction
 abbrev pub or_fault : {A : Type 0} → Result A Fault → Result A WholeStop
 or_fault (Ok x) = Ok x
 or_fault (Err f) = Err (Faults f)
 
+-- one whole vector row, alone: with a context, all its beats, where it is not refused
 abbrev pub vector_row : Vector → State → Result State WholeStop
 vector_row v s = then (ready_state v s) (λ t. or_fault (vector_whole v t))
 
@@ -62,13 +65,16 @@ most_output = 0x10000
 abbrev pub printed : List ℕ → State → State
 printed xs s = state_with (settled 2 way.On (regs_of s)) (seen_in s) s.rest.around (s.rest.output ++ xs)
 
+-- what the host does: it writes the bytes behind the output, if there is room, or ends the program
 abbrev pub answered : State → Asked → Result State WholeStop
 answered s (Writes xs) = cond (nat_lt most_output (length s.rest.output + length xs)) (Err Full) (Ok (printed xs s))
 answered s (Exits reason) = Err (Halt (Exit reason))
 
+-- BKPT 171, alone: what the program asks of the host is read and done
 abbrev pub served : State → Result State WholeStop
 served s = then (or_fault (asked runner.alone (regs_of s) (seen_in s))) (answered s)
 
+-- BKPT with number k, alone
 abbrev pub broken : ℕ → State → Result State WholeStop
 broken k s = cond (asks k) (served s) (Err (Halt (Break k)))
 
@@ -77,9 +83,11 @@ abbrev pub done_alone : Result Went Fault → Result State WholeStop
 done_alone (Ok x) = Ok x.state
 done_alone (Err f) = Err (Faults f)
 
+-- one whole instruction that is no vector row, alone
 abbrev pub other_row : Instr → State → Result State WholeStop
 other_row i s = at_break (λ k. broken k s) (break_of i) (done_alone (scalar_alone i s))
 
+-- one whole instruction, alone
 abbrev pub whole : Instr → State → Result State WholeStop
 whole (instr.Scalar i) s = other_row (instr.Scalar i) s
 whole (instr.Branch i) s = other_row (instr.Branch i) s
@@ -90,6 +98,7 @@ abbrev pub whole_here : Result Instr Fault → State → Result State WholeStop
 whole_here (Ok i) s = whole i s
 whole_here (Err f) s = Err (Faults f)
 
+-- the whole instruction that a listing has at the program counter, alone
 abbrev pub alone : Listing → State → Result State WholeStop
 alone listing s = whole_here (listing s.pc) s
 
@@ -99,6 +108,7 @@ cause_of (Halt reason) = cause.Halt reason
 cause_of Full = cause.Full
 cause_of (Faults f) = cause.Stop (stop.Fault f)
 
+-- what a whole instruction comes to alone, with the cause that the machine names where it does not go on
 abbrev pub in_machine : Result State WholeStop → Result State Cause
 in_machine (Ok s) = Ok s
 in_machine (Err w) = Err (cause_of w)
@@ -108,19 +118,24 @@ abbrev pub caused : {A : Type 0} → Result A Stop → Result A Cause
 caused (Ok x) = Ok x
 caused (Err e) = Err (cause.Stop e)
 
+-- BKPT 171 in the machine: what the program asks is read under who accesses the memory, and done
 abbrev pub served_by : Around → State → Result State Cause
 served_by around s = then (caused (asked (runner.in_machine around) (regs_of s) (seen_in s))) (λ x. in_machine (answered s x))
 
+-- BKPT with number k, in the machine
 abbrev pub broken_by : Around → ℕ → State → Result State Cause
 broken_by around k s = cond (asks k) (served_by around s) (Err (cause.Halt (Break k)))
 
+-- the state that an instruction leaves in the machine, or why it stops there
 abbrev pub done_in_machine : Result Went Stop → Result State Cause
 done_in_machine (Ok x) = Ok x.state
 done_in_machine (Err e) = Err (cause.Stop e)
 
+-- one whole instruction that is no vector row, in the machine
 abbrev pub other_by : Around → Instr → State → Result State Cause
 other_by around i s = at_break (λ k. broken_by around k s) (break_of i) (done_in_machine (scalar_in_machine around i s))
 
+-- what stands at the program counter, done whole in the machine, or the fault where nothing stands there
 abbrev pub other_here : Around → Result Instr Fault → State → Result State Cause
 other_here around (Ok (instr.Scalar i)) s = other_by around (instr.Scalar i) s
 other_here around (Ok (instr.Branch i)) s = other_by around (instr.Branch i) s
@@ -134,10 +149,12 @@ is_tainted_cause cause.Full = false
 is_tainted_cause (cause.Stop e) = is_tainted e
 
 -- THE BEATS OF VECTOR ROWS, as the machine sees them: they touch cells alone
+-- whether a watched cell is of a set of cells; what stands in no cell is not
 abbrev pub on_cell : (Cell → Bool) → Watched → Bool
 on_cell p (In c) = p c
 on_cell p Beside = false
 
+-- what a beat does to cells, as what it does to all that is watched
 abbrev pub lifted : Action State Cell Stop → Action State Watched Cause
 lifted x = record { run = λ s. caused (x.run s); uses = λ s w. on_cell (x.uses s) w; sets = λ s w. on_cell (x.sets s) w; marks = x.marks }
 
@@ -149,6 +166,7 @@ is_ready v s = s.rest.fpca && is_none (refuse v s)
 abbrev pub rows : Around → Beats State Vector Watched Held Cause
 rows around = record { view = view; act = λ v k. lifted (action cells (of_four (vector_tree v around) k)); ready = is_ready; tainted = is_tainted_cause }
 
+-- the vector row that an instruction is, if it is one
 abbrev pub vector_in : Instr → Option Vector
 vector_in (instr.Scalar i) = None
 vector_in (instr.Branch i) = None
@@ -185,6 +203,7 @@ makes_here (Ok (instr.Branch i)) r = makes_context (instr.Branch i) r
 makes_here (Ok (instr.Vector v)) r = true
 makes_here (Err f) r = false
 
+-- the state, with a context where the instruction makes one before anything of it may stop
 abbrev pub made_here : Result Instr Fault → State → State
 made_here x s = cond (makes_here x (regs_of s)) (with_context s) s
 
@@ -192,6 +211,7 @@ made_here x s = cond (makes_here x (regs_of s)) (with_context s) s
 abbrev pub Program : Type 0
 Program = Core State Vector Watched Held Cause WholeStop Rule
 
+-- the machine of the program that a listing has, under who accesses the memory
 abbrev pub core : Listing → Around → Program
 core listing around = record {
   rows = rows around;
@@ -209,6 +229,7 @@ core listing around = record {
 }
 
 -- WHAT A LETTER DOES. O is a step of the older instruction, Y one of the younger, and W does the older to its end.
+-- what a step or a letter comes to: where the machine stands, or why it does not go on
 abbrev pub Stepped : Type 0
 Stepped = Result (Config State) (End State Cause Rule)
 
@@ -226,6 +247,7 @@ older_steps M (suc k) c = then (older M c) (older_steps M k)
 abbrev pub to_end : Program → Config State → Stepped
 to_end M c = older_steps M (steps_left (M.code c.state.pc) c.a) c
 
+-- what one letter does: O, Y or W
 abbrev pub letter_step : Program → ℕ → Config State → Stepped
 letter_step M l c = cond (l == older_letter) (older M c) (cond (l == younger_letter) (younger M c) (to_end M c))
 
@@ -239,9 +261,11 @@ pub record Breach : Type 0 where
   pub step : ℕ
   pub rule : Rule
 
+-- what the letters of a tick come to: where the machine stands, or the instruction that stops, or the rule that is broken
 abbrev pub Ticked : Type 0
 Ticked = Result (Config State) (End State Stopping Breach)
 
+-- step k of a tick, and whether it is the younger's, named where it does not go on
 abbrev pub at_step : ℕ → Bool → Stepped → Ticked
 at_step k younger (Ok c) = Ok c
 at_step k younger (Err (Stopped c e)) = Err (Stopped c (record { cause = e; younger = younger }))

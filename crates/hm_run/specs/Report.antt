@@ -26,6 +26,7 @@ use Rattle.hm_state.specs.State.{regs_of, sram_bytes, taint_bytes}
 use Rattle.hm_text_base.specs.Texts.{hex2, hex8, bit}
 
 -- THE FIRST LINE
+-- the word for a kind of fault
 abbrev pub kind_text : FaultKind → List ℕ
 kind_text kind.Undefined = codes "undefined"
 kind_text kind.InvState = codes "invstate"
@@ -38,15 +39,18 @@ kind_text kind.TimedRead = codes "timedread"
 kind_text kind.Semihost = codes "semihost"
 kind_text kind.Vector = codes "vector"
 
+-- the word for whose fault it is
 abbrev pub who_text : Who → List ℕ
 who_text who.Thread = codes "thread"
 who_text who.Handler = codes "handler"
 who_text who.Entry = codes "entry"
 
+-- why a program halts: a breakpoint with its number, or an exit with its reason
 abbrev pub reason_text : Reason → List ℕ → List ℕ
 reason_text (reason.Break k) out = out ++ codes "break " ++ decimal k
 reason_text (reason.Exit r) out = out ++ codes "exit " ++ hex8 r
 
+-- the program counter and the address that was accessed
 abbrev pub address_text : ℕ → ℕ → List ℕ → List ℕ
 address_text pc addr out = out ++ codes " pc " ++ hex8 pc ++ codes " addr " ++ hex8 addr
 
@@ -58,6 +62,7 @@ register_text n out = if nat_eq n 13 then out ++ codes "sp" else (if nat_eq n 14
 abbrev pub word_text : ℕ → List ℕ → List ℕ
 word_text k out = out ++ codes "q" ++ decimal (k / 4) ++ codes "." ++ decimal (k % 4)
 
+-- the name of a place: a core register, a word of a vector register, or a part of VPR or FPSCR
 abbrev pub place_text : Place → List ℕ → List ℕ
 place_text (place.R n) out = register_text n out
 place_text (place.QWord k) out = word_text k out
@@ -68,10 +73,12 @@ place_text place.Carry out = out ++ codes "carry"
 place_text place.Ltp out = out ++ codes "ltpsize"
 place_text place.Sticky out = out ++ codes "qc"
 
+-- the name of what a handler has to leave as it was
 abbrev pub slot_text : Slot → List ℕ → List ℕ
 slot_text (slot.Reg p) out = place_text p out
 slot_text slot.Primask out = out ++ codes "primask"
 
+-- the rule of overlap that is broken
 abbrev pub rule_text : Rule → List ℕ → List ℕ
 rule_text rule.NotVector out = out ++ codes "notvector"
 rule_text rule.Order out = out ++ codes "order"
@@ -80,16 +87,19 @@ rule_text (rule.Memory addr) out = out ++ codes "memory " ++ hex8 addr
 rule_text rule.YoungerFault out = out ++ codes "youngerfault"
 rule_text (rule.Ending a b) out = out ++ codes "ending " ++ decimal a ++ codes " " ++ decimal b
 
+-- how a return differs from its entry
 abbrev pub broken_text : Broken → List ℕ → List ℕ
 broken_text (broken.ExcReturn value) out = out ++ codes "return " ++ hex8 value
 broken_text (broken.Register name entry now) out = slot_text name (out ++ codes "register ") ++ codes " entry " ++ hex8 entry ++ codes " now " ++ hex8 now
 broken_text (broken.Frame addr) out = out ++ codes "frame " ++ hex8 addr
 
+-- what a handler did that it may not do
 abbrev pub offence_text : Offence → List ℕ → List ℕ
 offence_text (offence.Left b) out = broken_text b out
 offence_text (offence.Store addr) out = out ++ codes "store " ++ hex8 addr
 offence_text (offence.Call pc) out = out ++ codes "call " ++ hex8 pc
 
+-- the outcome of a run that has ended
 abbrev pub ended_text : Outcome → List ℕ → List ℕ
 ended_text (outcome.Halted reason n) out = reason_text reason (out ++ codes "halted ") ++ codes " after " ++ decimal n
 ended_text (outcome.Fault who f pc n) out =
@@ -101,14 +111,17 @@ ended_text (outcome.StackSpent t sp) out = out ++ codes "stack tick " ++ decimal
 ended_text (outcome.OutputFull t) out = out ++ codes "output tick " ++ decimal t
 ended_text outcome.OutOfTicks out = out ++ codes "ticks"
 
+-- the outcome of a run, or that it still goes on
 abbrev pub outcome_text : Option Outcome → List ℕ → List ℕ
 outcome_text (Some o) out = ended_text o out
 outcome_text None out = out ++ codes "running"
 
+-- the first line of a report, which is the outcome
 abbrev pub outcome_line : Option Outcome → List ℕ
 outcome_line o = outcome_text o ([] ++ codes "outcome ") ++ codes "\n"
 
 -- THE FURTHER LINES
+-- the mode: the thread, or a handler with its exception number and the number of activations
 abbrev pub mode_line : ℕ → ℕ → List ℕ → List ℕ
 mode_line zero ipsr out = out ++ codes "mode thread\n"
 mode_line (suc k) ipsr out = out ++ codes "mode handler " ++ decimal ipsr ++ codes " depth " ++ decimal (suc k) ++ codes "\n"
@@ -118,21 +131,27 @@ abbrev pub low_lines : ℕ → List ℕ → List ℕ → List ℕ
 low_lines zero r out = out
 low_lines (suc k) r out = low_lines k r out ++ codes "r" ++ decimal k ++ codes " " ++ hex8 (slice_index r k) ++ codes "\n"
 
+-- a line of a name and a word
 abbrev pub word_line : List ℕ → ℕ → List ℕ → List ℕ
 word_line name x out = out ++ name ++ codes " " ++ hex8 x ++ codes "\n"
 
+-- the lines of sp, lr and pc
 abbrev pub pointer_lines : Regs → List ℕ → List ℕ
 pointer_lines g out = word_line (codes "pc") g.pc (word_line (codes "lr") g.lr (word_line (codes "sp") g.sp out))
 
+-- the line of the position: how many beats are done of the older instruction, and of the younger
 abbrev pub position_line : ℕ → ℕ → List ℕ → List ℕ
 position_line a b out = out ++ codes "position " ++ decimal a ++ codes " " ++ decimal b ++ codes "\n"
 
+-- the line of N, Z, C, V and Q
 abbrev pub flags_line : Regs → List ℕ → List ℕ
 flags_line g out = out ++ codes "flags " ++ bit g.n ++ bit g.z ++ bit g.c ++ bit g.v ++ bit g.q ++ codes "\n"
 
+-- a line of a name and a bit
 abbrev pub bit_line : List ℕ → Bool → List ℕ → List ℕ
 bit_line name b out = out ++ name ++ codes " " ++ bit b ++ codes "\n"
 
+-- the lines of the IT byte, FPSCR, VPR, FPCA and PRIMASK
 abbrev pub special_lines : Regs → List ℕ → List ℕ
 special_lines g out =
     bit_line (codes "primask") g.primask (bit_line (codes "fpca") g.fpca
@@ -144,6 +163,7 @@ vector_words k qw out =
     out ++ hex8 (slice_index qw (4 * k)) ++ codes " " ++ hex8 (slice_index qw (4 * k + 1)) ++ codes " "
     ++ hex8 (slice_index qw (4 * k + 2)) ++ codes " " ++ hex8 (slice_index qw (4 * k + 3))
 
+-- the line of vector register k: its four words, the lowest first
 abbrev pub vector_line : ℕ → List ℕ → List ℕ → List ℕ
 vector_line k qw out = vector_words k qw (out ++ codes "q" ++ decimal k ++ codes " ") ++ codes "\n"
 
@@ -152,9 +172,11 @@ abbrev pub vector_lines : ℕ → List ℕ → List ℕ → List ℕ
 vector_lines zero qw out = out
 vector_lines (suc k) qw out = vector_line k qw (vector_lines k qw out)
 
+-- the lines of the output: how many bytes it has, and the bytes
 abbrev pub output_lines : List ℕ → List ℕ → List ℕ
 output_lines bytes out = out ++ codes "output " ++ decimal (length bytes) ++ codes "\n" ++ encode_lower bytes ++ codes "\n"
 
+-- the lines of the core registers, the position, the flags, the special registers and the vector registers
 unfoldable pub register_lines : Regs → ℕ → ℕ → List ℕ → List ℕ
 register_lines g a b out = vector_lines 8 g.qw (special_lines g (flags_line g (position_line a b (pointer_lines g (low_lines 13 g.r out)))))
 
@@ -162,6 +184,7 @@ register_lines g a b out = vector_lines 8 g.qw (special_lines g (flags_line g (p
 unfoldable pub report_of : Option Outcome → ℕ → Regs → ℕ → ℕ → List ℕ → List ℕ
 report_of o depth g a b output = output_lines output (register_lines g a b (mode_line depth g.ipsr (outcome_line o)))
 
+-- the report of a run
 abbrev pub report_text : Timed → List ℕ
 report_text x =
     let s = x.config.state in

@@ -18,6 +18,7 @@ abbrev pub scalar_break : Scalar → Option ℕ
 scalar_break (scalar.S18 i) = Some i.i.value
 scalar_break i = None
 
+-- the number of a breakpoint, if an instruction is one
 abbrev pub break_of : Instr → Option ℕ
 break_of (instr.Scalar i) = scalar_break i
 break_of i = None

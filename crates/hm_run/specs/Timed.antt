@@ -31,6 +31,7 @@ pub record Timed : Type 0 where
   pub acts : List Activation
   pub ticks : ℕ
 
+-- a run before its first tick: a reset to an image, under the region and the floor of a schedule
 abbrev pub begin : List Segment → Sched → Timed
 begin image s = record { outcome = None; config = at_start (start_under s.lo s.hi s.floor image); acts = []; ticks = 0 }
 
@@ -49,11 +50,13 @@ outcome_of_stop t acts c pc (stop.Fault f) = outcome.Fault (who_runs acts) f pc 
 outcome_of_stop t acts c pc (stop.Tainted addr) = outcome.TaintedRead t pc addr
 outcome_of_stop t acts c pc (stop.Denied addr) = outcome.HandlerBroken t (offence.Store addr)
 
+-- the outcome of an instruction at pc that does not go on in tick t, by the cause
 abbrev pub outcome_of_cause : ℕ → List Activation → Config State → ℕ → Cause → Outcome
 outcome_of_cause t acts c pc (cause.Halt reason) = outcome.Halted reason (c.n + 1)
 outcome_of_cause t acts c pc cause.Full = outcome.OutputFull t
 outcome_of_cause t acts c pc (cause.Stop e) = outcome_of_stop t acts c pc e
 
+-- the outcome of an instruction that does not go on in tick t, the older or the younger
 abbrev pub outcome_of : ℕ → List Activation → Config State → Stopping → Outcome
 outcome_of t acts c e = outcome_of_cause t acts c (pc_of c e) e.cause
 
@@ -63,9 +66,11 @@ retired_by (cause.Halt reason) n = n + 1
 retired_by cause.Full n = n
 retired_by (cause.Stop e) n = n
 
+-- the machine where an instruction stops: one that halts is counted as retired, and a step of the older as a step
 abbrev pub at_stop : Config State → Stopping → Config State
 at_stop c e = record c { n = retired_by e.cause c.n; steps = if e.younger then c.steps else c.steps + 1 }
 
+-- the state with its devices changed
 abbrev pub with_devices : (Dev → Dev) → State → State
 with_devices f s = record s { rest = record s.rest { devices = f s.rest.devices } }
 
@@ -92,6 +97,7 @@ abbrev pub tick_of : Program → TickLine → Timed → Option Outcome → Timed
 tick_of M line x (Some o) = x
 tick_of M line x None = ended line x (letter_steps M 0 line.letters x.config)
 
+-- one tick of a run, by its line
 abbrev pub tick : Program → TickLine → Timed → Timed
 tick M line x = tick_of M line x x.outcome
 
@@ -100,6 +106,7 @@ abbrev pub or_out : Option Outcome → Option Outcome
 or_out None = Some outcome.OutOfTicks
 or_out (Some o) = Some o
 
+-- a run that has no other outcome is out of ticks where no tick is left
 abbrev pub closed : List TickLine → Timed → Timed
 closed [] x = record x { outcome = or_out x.outcome }
 closed (line ∷ left) x = x

@@ -14,5 +14,6 @@ ones_from (suc more) k bits = if bits % 2 == 1 then k ∷ ones_from more (k + 1)
 abbrev pub printed : TickLine → Written
 printed t = record { count = if t.count == 1 then None else Some t.count; letters = t.letters; numbers = ones_from 32 0 t.irq }
 
+-- the file that a schedule is printed as: the lines of its head, and its lines of ticks
 abbrev pub file_text : Sched → List ℕ
 file_text s = flat_map line (head_lines s ++ map (λ t. ticks_text (printed t)) s.lines)

@@ -23,18 +23,23 @@ line_at k kind ([], b ∷ rest) = Err (refusals.Line k Newline)
 unfoldable pub entries_in : List ℕ → Option Bool
 entries_in text = if bytes_eq text (codes "entries no") then Some false else if bytes_eq text (codes "entries yes") then Some true else None
 
+-- the region from lo to hi, where lo is not above hi and both lie in SRAM or at its end
 abbrev pub bounded_region : ℕ → ℕ → Option (ℕ × ℕ)
 bounded_region lo hi = if nat_lt lo sram_start || (nat_lt hi lo || nat_lt (sram_start + sram_size) hi) then None else Some (lo, hi)
 
+-- the region between two addresses of eight hexadecimal digits
 abbrev pub addresses_in : List ℕ → List ℕ → Option (ℕ × ℕ)
 addresses_in low high = option_and_then (λ lo. option_and_then (λ hi. bounded_region lo hi) (hex8_in high)) (hex8_in low)
 
+-- the region of a line: `region `, an address, a space, and an address
 unfoldable pub region_in : List ℕ → Option (ℕ × ℕ)
 region_in text = if starts_with nat_eq text (codes "region ") then (if length (span 32 (drop 7 text)).1 == 0 then None else addresses_in (span 32 (drop 7 text)).0 (drop 1 (span 32 (drop 7 text)).1)) else None
 
+-- an address as a floor, where it lies in SRAM or at its end
 abbrev pub bounded_floor : ℕ → Option ℕ
 bounded_floor a = if nat_lt a sram_start || nat_lt (sram_start + sram_size) a then None else Some a
 
+-- the floor of a line: `floor `, and an address
 unfoldable pub floor_in : List ℕ → Option ℕ
 floor_in text = if starts_with nat_eq text (codes "floor ") then option_and_then bounded_floor (hex8_in (drop 6 text)) else None
 

@@ -27,9 +27,11 @@ abbrev pub counted : List ℕ → List ℕ × List ℕ → Result (ℕ × List �
 counted text (front, []) = Ok (1, text)
 counted text (front, star ∷ rest) = after_count (number_in front) rest
 
+-- the count in front of the first star and what stands behind that, or 1 and the whole text where it has no star
 unfoldable pub count_in : List ℕ → Result (ℕ × List ℕ) LineKind
 count_in text = counted text (span 42 text)
 
+-- the letters of a tick: one to eight, or none where `-` is written
 unfoldable pub steps_in : List ℕ → Option (List ℕ)
 steps_in text = if bytes_eq text (codes "-") then Some [] else if (length text == 0) || (nat_lt 8 (length text) || not (list_all is_letter text)) then None else Some text
 
@@ -38,6 +40,7 @@ unfoldable pub numbers_in : ℕ → ℕ → List (List ℕ) → Option ℕ
 numbers_in least bits [] = Some bits
 numbers_in least bits (word ∷ words) = option_and_then (λ n. if nat_lt n least || nat_le 32 n then None else numbers_in (n + 1) (bits + 2 ^ n) words) (number_in word)
 
+-- a bit for each interrupt: none of an empty text, else those of the rising numbers behind ` irq `
 unfoldable pub irq_in : List ℕ → Option ℕ
 irq_in text = if length text == 0 then Some 0 else if starts_with nat_eq text (codes " irq ") then numbers_in 0 0 (slice_split (λ b. b == 32) (drop 5 text)) else None
 

@@ -56,6 +56,7 @@ ticks_of (line ∷ lines) = repeat line.count line (ticks_of lines)
 abbrev pub plain_line : ℕ → TickLine
 plain_line n = record { count = n; letters = whole_letter ∷ []; irq = 0 }
 
+-- the lines of n ticks of one whole instruction each: one line, or none where n is 0
 abbrev pub plain_lines : ℕ → List TickLine
 plain_lines zero = []
 plain_lines (suc n) = plain_line (suc n) ∷ []

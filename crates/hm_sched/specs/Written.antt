@@ -13,18 +13,22 @@ pub record Written : Type 0 where
   pub letters : List ℕ
   pub numbers : List ℕ
 
+-- a count and a star, or nothing where the count is left out
 abbrev pub count_text : Option ℕ → List ℕ
 count_text None = []
 count_text (Some n) = decimal n ++ codes "*"
 
+-- the letters of a tick, or `-` where there is none
 abbrev pub steps_text : List ℕ → List ℕ
 steps_text [] = codes "-"
 steps_text (c ∷ cs) = c ∷ cs
 
+-- ` irq ` and the numbers of interrupts with spaces between, or nothing where there is none
 abbrev pub irq_text : List ℕ → List ℕ
 irq_text [] = []
 irq_text (n ∷ ns) = codes " irq " ++ join_with_byte 32 (map decimal (n ∷ ns))
 
+-- a line of ticks: its count, its letters and its interrupts
 abbrev pub ticks_text : Written → List ℕ
 ticks_text w = count_text w.count ++ (steps_text w.letters ++ irq_text w.numbers)
 
@@ -45,24 +49,30 @@ abbrev pub bits_of : List ℕ → ℕ
 bits_of [] = 0
 bits_of (n ∷ ns) = 2 ^ n + bits_of ns
 
+-- what a written line of ticks says; a count that is left out is 1
 abbrev pub meaning : Written → TickLine
 meaning w = record { count = unwrap_or w.count 1; letters = w.letters; irq = bits_of w.numbers }
 
 -- ---- a file
 
+-- the first line, which names the format
 abbrev pub header_text : List ℕ
 header_text = codes "helium-schedule 1"
 
+-- the second line, which says whether exceptions are entered
 abbrev pub entries_text : Bool → List ℕ
 entries_text true = codes "entries yes"
 entries_text false = codes "entries no"
 
+-- the third line, the bytes in which handlers may store, from one address up to another
 abbrev pub region_text : ℕ → ℕ → List ℕ
 region_text lo hi = codes "region " ++ (hex8 lo ++ 32 ∷ hex8 hi)
 
+-- the fourth line, the lowest address to which handlers may store below their frame
 abbrev pub floor_text : ℕ → List ℕ
 floor_text a = codes "floor " ++ hex8 a
 
+-- the first four lines of a schedule's file
 abbrev pub head_lines : Sched → List (List ℕ)
 head_lines s = header_text ∷ entries_text s.entries ∷ region_text s.lo s.hi ∷ floor_text s.floor ∷ []
 

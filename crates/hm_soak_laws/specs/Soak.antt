@@ -18,9 +18,11 @@ pub data Operation : Type 0 where
   Eor : Operation
   Max : Operation
 
+-- the operation that a number from 0 to 4 stands for
 abbrev pub operation_of : ℕ → Operation
 operation_of k = if nat_eq k 0 then Add else (if nat_eq k 1 then Sub else (if nat_eq k 2 then Mul else (if nat_eq k 3 then Eor else Max)))
 
+-- an instruction of a soak, with its registers and its number
 pub data Item : Type 0 where
   Movw : ℕ → ℕ → Item  -- movw rd,#x
   Movt : ℕ → ℕ → Item  -- movt rd,#x
@@ -62,6 +64,7 @@ many = 4096
 abbrev pub middle : ℕ → List Item
 middle number = fill 4 0 number ++ operations many 0 (drawn 4 number)
 
+-- the handler of interrupt 0: movs r0,#7, nop, and bx lr
 abbrev pub handler : List Item
 handler = Movs 0 7 ∷ Nop ∷ Bx 14 ∷ []
 

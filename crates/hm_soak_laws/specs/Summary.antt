@@ -27,6 +27,7 @@ abbrev pub entered : Listing → List Segment → Sched → ℕ → ℕ
 entered listing image s zero = 0
 entered listing image s (suc t) = entered listing image s t + cond (in_thread (run listing image s t) && not (in_thread (run listing image s (suc t)))) 1 0
 
+-- the last word of a summary: whether both runs show the same
 abbrev pub verdict : Bool → List ℕ
 verdict same = cond same (codes "equal") (codes "differ")
 
@@ -39,6 +40,7 @@ summary_text number n t e same =
 abbrev pub scheduled : Listing → List Segment → Run
 scheduled listing image = run_out listing image schedule
 
+-- the plain run of the image, all its instructions in order
 abbrev pub plainly : Listing → List Segment → Run
 plainly listing image = run_out listing image in_order_schedule
 

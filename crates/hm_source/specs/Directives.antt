@@ -16,6 +16,7 @@ pub data Datum : Type 0 where
   named : List ℕ → Datum
   beyond : List ℕ → ℕ → Datum
 
+-- how a value of a list is written: a number, `-` and a number, a name, or a name, `+` and a number
 abbrev pub datum_tokens : Datum → List Tok
 datum_tokens (literal true n) = mark 45 ∷ number n ∷ []
 datum_tokens (literal false n) = number n ∷ []
@@ -55,17 +56,20 @@ multiple_of Two = 2
 multiple_of Four = 4
 multiple_of Eight = 8
 
+-- the directive that lists values of each size: .byte, .half and .word
 abbrev pub list_name : DatumSize → List ℕ
 list_name Byte = codes ".byte"
 list_name Half = codes ".half"
 list_name Word = codes ".word"
 
+-- how a directive is written: its name, and behind it a number or a list of values
 abbrev pub asked_tokens : Directed → List Tok
 asked_tokens (org a) = word (codes ".org") ∷ number a ∷ []
 asked_tokens (align n) = word (codes ".align") ∷ number n ∷ []
 asked_tokens (space n) = word (codes ".space") ∷ number n ∷ []
 asked_tokens (values s d ds) = word (list_name s) ∷ list_tokens d ds
 
+-- what a directive asks for is in its range: an address or a count of 32 bits, a multiple of `.align`, or values that fit
 abbrev pub IsInRange : Directed → Type 0
 IsInRange (org a) = a < 2 ^ 32
 IsInRange (align n) = (m : Multiple) × (n ≡ multiple_of m)

@@ -10,6 +10,7 @@ abbrev pub with_last : Lines → List (List ℕ)
 with_last (ls, []) = ls
 with_last (ls, b ∷ rest) = ls ++ (b ∷ rest) ∷ []
 
+-- the lines of a source, without the ends of lines; the last may have no end
 abbrev pub source_lines : List ℕ → List (List ℕ)
 source_lines source = with_last (lines_of source)
 
@@ -22,9 +23,11 @@ abbrev pub text_of : List ℕ → List ℕ
 text_of line = instruction_of (before_comment line)
 
 -- COLUMNS
+-- the column of a line's first token, which is its label where it has one
 abbrev pub name_column : List ℕ → ℕ
 name_column line = column (before_comment line) (skip (before_comment line))
 
+-- the column at which the instruction or directive of a line begins
 abbrev pub text_column : List ℕ → ℕ
 text_column line = column (before_comment line) (text_of line)
 

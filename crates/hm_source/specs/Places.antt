@@ -15,6 +15,7 @@ size_asked (align n) a = padding n a
 size_asked (space n) a = n
 size_asked (values s d ds) a = bytes_each s * length (d ∷ ds)
 
+-- how many bytes a line gives that says this and stands at an address; none where it says nothing
 abbrev pub size_of : Said → ℕ → ℕ
 size_of nothing a = 0
 size_of (instruction n) a = n

@@ -23,6 +23,7 @@ AreFront text (t ∷ ts) rest = (after : List ℕ) × (token_at (skip text) ≡ 
 abbrev pub EndsHere : List ℕ → Type 0
 EndsHere rest = (after : List ℕ) → token_at (skip rest) ≡ Some (mark 43, after) → ⊥
 
+-- the value of a list that the program's value stands for
 abbrev pub datum : Item → Datum
 datum (items.Literal minus n) = literal minus n
 datum (items.Name w) = named w.now
@@ -37,6 +38,7 @@ abbrev pub ShowsValues : List ℕ → Values → Directed → Type 0
 ShowsValues text v (values s d ds) = (v.size ≡ s) × (v.count ≡ length (d ∷ ds)) × AreFront text (word (list_name s) ∷ []) v.list.now × AreListed s v.list.now d ds
 ShowsValues text v asked = ⊥
 
+-- the program's directive stands for what is asked, where the text of the line is this
 abbrev pub ShowsDirected : List ℕ → Directive → Directed → Type 0
 ShowsDirected text (directives.Org b) asked = asked ≡ org b
 ShowsDirected text (directives.Align m) asked = asked ≡ align (multiple_of m)

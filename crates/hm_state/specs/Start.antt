@@ -10,6 +10,7 @@ use Rattle.hm_state.specs.State.{State, Cell, At, Byte, Value, word, Rest}
 abbrev pub reset_sp : List Segment → ℕ
 reset_sp image = word_at (flash_byte image) 0
 
+-- the word at 4 of an image: the address of the first instruction, with the T bit as its bit 0
 abbrev pub reset_pc : List Segment → ℕ
 reset_pc image = word_at (flash_byte image) 4
 
@@ -19,10 +20,12 @@ first_value image (R n) = if nat_eq n 13 then reset_sp image - reset_sp image % 
 first_value image Ltp = 4
 first_value image p = 0
 
+-- what each cell holds after a reset: a place its first value, and a byte what flash or SRAM begins with; none is tainted
 abbrev pub first_cell : List Segment → Cell → Value
 first_cell image (At p) = word (first_value image p)
 first_cell image (Byte a) = word (first_byte image a)
 
+-- what stands beside the cells after a reset: flags, IT, FPCA, PRIMASK and IPSR 0, the devices as they begin, and no output
 abbrev pub first_rest : Around → Rest
 first_rest around = record {
   n = false;

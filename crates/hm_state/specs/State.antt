@@ -23,18 +23,22 @@ pub record Value : Type 0 where
   pub n : ℕ
   pub taint : Bool
 
+-- a number without taint, as the value of a cell
 abbrev pub word : ℕ → Value
 word n = record { n = n; taint = false }
 
+-- whether two cells are one
 abbrev pub same_cell : Cell → Cell → Bool
 same_cell (At p) (At q) = same_place p q
 same_cell (Byte a) (Byte b) = eqb a b
 same_cell c d = false
 
+-- whether the value of a cell is dead, which is so of a tainted byte alone
 abbrev pub is_dead : Cell → Value → Bool
 is_dead (At p) v = false
 is_dead (Byte a) v = v.taint
 
+-- the cells of the machine: which two are one, and which values are dead
 abbrev pub cells : Cells Cell Value
 cells = record { same = same_cell; dead = is_dead }
 
@@ -57,6 +61,7 @@ pub record Rest : Type 0 where
   pub output : List ℕ
   pub around : Around
 
+-- the architectural state: what the cells hold, QC, the program counter and the rest
 abbrev pub State : Type 0
 State = Store Cell Value Rest
 
@@ -74,6 +79,7 @@ is_cell (P0 b) = ltb b 4
 is_cell Sticky = false
 is_cell p = true
 
+-- what a cell holds, as registers and a memory stand; a place that is no cell holds 0
 abbrev pub cell_of : Regs → Memory → Cell → Value
 cell_of r m (At p) = word (cond (is_cell p) (value_at p r) 0)
 cell_of r m (Byte a) = record { n = byte_at m a; taint = tainted_at m a }
@@ -98,6 +104,7 @@ rest_with r d around output = record {
   around = around;
 }
 
+-- what stands beside the places, as registers, a memory and an output stand
 abbrev pub rest_of : Regs → Memory → List ℕ → Rest
 rest_of r m output = rest_with r m.devices m.around output
 
@@ -118,6 +125,7 @@ AreCells (w ∷ ws) = IsPlace w.place × (is_cell w.place ≡ true) × AreCells 
 unfoldable pub listed : {A : Type 0} → ℕ → (ℕ → A) → List A
 listed n f = map f (range_with_len 0 n)
 
+-- a truth value as a bit, 1 where it is true
 abbrev pub bit : Bool → ℕ
 bit b = cond b 1 0
 

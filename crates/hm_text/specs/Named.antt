@@ -14,6 +14,7 @@ IsUnknown labels (word w) = labels w ≡ None
 IsUnknown labels (number n) = 2 ^ 32 ≤ n
 IsUnknown labels (mark c) = Unit {0}
 
+-- the label of a row, where it has one, names no address; a row without a label has none to miss
 abbrev pub IsUnknownGiven : (List ℕ → Option ℕ) → Option Tok → Type 0
 IsUnknownGiven labels (Some t) = IsUnknown labels t
 IsUnknownGiven labels None = ⊥

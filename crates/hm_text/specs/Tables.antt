@@ -73,6 +73,7 @@ abbrev pub width_of : Instr → ℕ
 width_of i = 2 * length (halfwords i)
 
 -- PRINTED
+-- the text of a row of two halfwords that stands at pc: of a vector row that of its own table
 abbrev pub long_text : Instr → ℕ → List ℕ
 long_text (Scalar i) pc = wide.text_of (Scalar i) (wide_targets.target (Scalar i) pc)
 long_text (Branch i) pc = wide.text_of (Branch i) (wide_targets.target (Branch i) pc)

@@ -50,6 +50,7 @@ shift_number shift.Lsl i = i
 shift_number shift.Lsr i = if nat_eq i 0 then 32 else i
 shift_number shift.Asr i = if nat_eq i 0 then 32 else i
 
+-- S9: the number of the register that is added to, 15 for pc and 13 for sp
 abbrev pub base_register : BaseName → ℕ
 base_register base.Pc = 15
 base_register base.Sp = 13
@@ -63,10 +64,12 @@ plain_size plain.Ldrb = 1
 plain_size plain.Strh = 2
 plain_size plain.Ldrh = 2
 
+-- S25: the tokens of B with a condition or with none, before the label
 abbrev pub jump_tokens : JumpRow → List Tok
 jump_tokens (s25.Conditional i) = word (branch_stem i.c.value) ∷ []
 jump_tokens (s25.Always i) = word (codes "b") ∷ []
 
+-- the tokens of rows S1 to S21, of S14 those before its label; none of other rows
 abbrev pub scalar_tokens : ScalarRow → List Tok
 scalar_tokens (S1 i) = and_constant (two (shift_stem i.name) (r i.d.value) (r i.m.value)) (shift_number i.name i.i.value)
 scalar_tokens (S2 i) = three (sum_stem i.name) (r i.d.value) (r i.n.value) (r i.m.value)
@@ -91,6 +94,7 @@ scalar_tokens (S20 i) = list_tokens i.name i.x.value i.n.value i.list.value
 scalar_tokens (S21 i) = one (block_stem i.c.value i.mask.value) (word (block_condition i.c.value))
 scalar_tokens i = []
 
+-- the tokens of rows S23 to S25, of S24 and S25 those before the label; none of other rows
 abbrev pub branch_tokens : BranchRow → List Tok
 branch_tokens (S23 i) = one (jump_stem i.name) (r i.m.value)
 branch_tokens (S24 i) = word (zero_stem i.name) ∷ r i.n.value ∷ comma ∷ []
@@ -103,10 +107,12 @@ row_tokens (Scalar i) = scalar_tokens i
 row_tokens (Branch i) = branch_tokens i
 row_tokens (Vector i) = []
 
+-- whether the last operand of a row of one halfword that is no branch is a label: S14 only
 abbrev pub has_label_scalar : ScalarRow → Bool
 has_label_scalar (S14 i) = true
 has_label_scalar i = false
 
+-- whether the last operand of a branch of one halfword is a label: S24 and S25
 abbrev pub has_label_branch : BranchRow → Bool
 has_label_branch (S24 i) = true
 has_label_branch (S25 i) = true

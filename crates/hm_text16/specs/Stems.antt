@@ -28,6 +28,7 @@ use Rattle.hm_isa.specs.declared.narrow.ZeroName.{ZeroName}
 use Rattle.hm_isa.specs.declared.narrow.ZeroName.TheVariants as zero_
 use Rattle.hm_tokens.specs.Names.{condition_name, condition_names}
 
+-- S1: the mnemonic of each name, LSLS, LSRS and ASRS
 abbrev pub shift_stem : ShiftName → List ℕ
 shift_stem shift.Lsl = codes "lsls"
 shift_stem shift.Lsr = codes "lsrs"
@@ -43,12 +44,14 @@ abbrev pub stack_sum_stem : SumName → List ℕ
 stack_sum_stem sum_.Add = codes "add"
 stack_sum_stem sum_.Sub = codes "sub"
 
+-- S4: the mnemonic of each name, MOVS, CMP, ADDS and SUBS
 abbrev pub byte_stem : ByteName → List ℕ
 byte_stem byte.Mov = codes "movs"
 byte_stem byte.Cmp = codes "cmp"
 byte_stem byte.Add = codes "adds"
 byte_stem byte.Sub = codes "subs"
 
+-- S5: the mnemonic of each name, ANDS to MVNS
 abbrev pub logic_stem : LogicName → List ℕ
 logic_stem logic.Ands = codes "ands"
 logic_stem logic.Eors = codes "eors"
@@ -67,21 +70,25 @@ logic_stem logic.Muls = codes "muls"
 logic_stem logic.Bics = codes "bics"
 logic_stem logic.Mvns = codes "mvns"
 
+-- S11: the mnemonic of each name, SXTH, SXTB, UXTH and UXTB
 abbrev pub extend_stem : ExtendName → List ℕ
 extend_stem extend.Sxth = codes "sxth"
 extend_stem extend.Sxtb = codes "sxtb"
 extend_stem extend.Uxth = codes "uxth"
 extend_stem extend.Uxtb = codes "uxtb"
 
+-- S12: the mnemonic of each name, REV, REV16 and REVSH
 abbrev pub swap_stem : SwapName → List ℕ
 swap_stem swap_.Rev = codes "rev"
 swap_stem swap_.Rev16 = codes "rev16"
 swap_stem swap_.Revsh = codes "revsh"
 
+-- S13: the mnemonic of each name, CPSIE and CPSID
 abbrev pub masking_stem : MaskingName → List ℕ
 masking_stem masking.Cpsie = codes "cpsie"
 masking_stem masking.Cpsid = codes "cpsid"
 
+-- S15: the mnemonic of each name, STR to LDRSH
 abbrev pub access_stem : AccessName → List ℕ
 access_stem access.Str = codes "str"
 access_stem access.Strh = codes "strh"
@@ -92,6 +99,7 @@ access_stem access.Ldrh = codes "ldrh"
 access_stem access.Ldrb = codes "ldrb"
 access_stem access.Ldrsh = codes "ldrsh"
 
+-- S16: the mnemonic of each name, STR, LDR, STRB, LDRB, STRH and LDRH
 abbrev pub plain_stem : PlainName → List ℕ
 plain_stem plain.Str = codes "str"
 plain_stem plain.Ldr = codes "ldr"
@@ -100,10 +108,12 @@ plain_stem plain.Ldrb = codes "ldrb"
 plain_stem plain.Strh = codes "strh"
 plain_stem plain.Ldrh = codes "ldrh"
 
+-- S17: the mnemonic of each name, STR and LDR
 abbrev pub word_stem : WordName → List ℕ
 word_stem word_.Str = codes "str"
 word_stem word_.Ldr = codes "ldr"
 
+-- S19: the mnemonic of each name, NOP, YIELD, WFE, WFI and SEV
 abbrev pub hint_stem : HintName → List ℕ
 hint_stem hint.Nop = codes "nop"
 hint_stem hint.Yield = codes "yield"
@@ -111,10 +121,12 @@ hint_stem hint.Wfe = codes "wfe"
 hint_stem hint.Wfi = codes "wfi"
 hint_stem hint.Sev = codes "sev"
 
+-- S23: the mnemonic of each name, BX and BLX
 abbrev pub jump_stem : JumpName → List ℕ
 jump_stem jump.Bx = codes "bx"
 jump_stem jump.Blx = codes "blx"
 
+-- S24: the mnemonic of each name, CBZ and CBNZ
 abbrev pub zero_stem : ZeroName → List ℕ
 zero_stem zero_.Cbz = codes "cbz"
 zero_stem zero_.Cbnz = codes "cbnz"

@@ -14,6 +14,7 @@ use Rattle.hm_text_rows.specs.Labels.{behind}
 abbrev pub twice_signed : ℕ → ℕ → ℕ
 twice_signed half i = if nat_lt i half then 2 * i else 2 ^ 32 - 4 * half + 2 * i
 
+-- S25: the address that the label of a branch at pc names, its offset signed and twice the number in the code
 abbrev pub jump_target : JumpRow → ℕ → ℕ
 jump_target (s25.Conditional i) pc = behind pc (twice_signed 128 i.i.value)
 jump_target (s25.Always i) pc = behind pc (twice_signed 1024 i.i.value)
@@ -23,6 +24,7 @@ abbrev pub scalar_target : ScalarRow → ℕ → Option ℕ
 scalar_target (S14 i) pc = Some (((pc + 4) / 4 * 4 + 4 * i.i.value) % 2 ^ 32)
 scalar_target i pc = None
 
+-- the address that the label of a branch of one halfword at pc names: S24 and S25; None of other rows
 abbrev pub branch_target : BranchRow → ℕ → Option ℕ
 branch_target (S24 i) pc = Some (behind pc (2 * i.i.value))
 branch_target (S25 i) pc = Some (jump_target i pc)

@@ -90,6 +90,7 @@ two_base s =
     else if bytes_eq s (codes "clz") then Some 0xfab0f080
     else None
 
+-- T9: the base code of SXTH, UXTH, SXTB and UXTB
 abbrev pub extend_base_in : List ℕ → Option ℕ
 extend_base_in s =
     if bytes_eq s (codes "sxth") then Some 0xfa0ff080

@@ -32,14 +32,17 @@ other_value w =
     else if bytes_eq w (codes "apsr_nzcv") then 15
     else 0
 
+-- the number that a word stands for: a register's, a vector's, a condition's, a half of a vector's, a shift's or another's
 unfoldable pub word_value : List ℕ → ℕ
 word_value w = given_or (register_in w) (given_or (vector_in w) (given_or (condition_in w) (given_or (double_in w) (given_or (shift_in w) (other_value w)))))
 
+-- the number that a token stands for: a word's, or a number itself, at most 2^32 - 1; 0 of a mark
 abbrev pub value : Tok → ℕ
 value (word w) = word_value w
 value (number n) = min n 0xffff_ffff
 value (mark c) = 0
 
+-- what stands behind a stem, as numbers: the element size, five operands, and which of them are numbers or vectors
 abbrev pub read_operands : List ℕ → List Tok → Operands
 read_operands suffix ts = record {
   is_bare = length ts == 0;
@@ -54,6 +57,7 @@ read_operands suffix ts = record {
   fifth = value (operand 4 ts);
 }
 
+-- what stands behind the mnemonic of a load or store, as numbers: its operands, and how the address is written
 abbrev pub read_places : List Tok → Places
 read_places ts = record {
   third_is_number = is_number (operand 2 ts);

@@ -58,6 +58,7 @@ shift_number ty k = if nat_eq k 0 then (if nat_eq ty 0 then 0 else 32) else k
 abbrev pub is_by_carry : ℕ → ℕ → Bool
 is_by_carry ty k = nat_eq ty 3 && nat_eq k 0
 
+-- whether a register is not shifted: lsl by 0
 abbrev pub is_unshifted : ℕ → ℕ → Bool
 is_unshifted ty k = nat_eq ty 0 && nat_eq k 0
 
@@ -94,6 +95,7 @@ saturated_bits saturate.Usat s = s
 abbrev pub and_turn : List Tok → List ℕ → ℕ → List Tok
 and_turn front kind n = front ++ comma ∷ word kind ∷ constant n
 
+-- T5: the tokens of SSAT and USAT
 abbrev pub saturate_tokens : SaturateRow → List Tok
 saturate_tokens i =
     and_turn (and_operand (and_constant (one (saturate_stem i.name) (r i.d.value)) (saturated_bits i.name i.s.value)) (r i.n.value))
@@ -106,6 +108,7 @@ insert_tokens i =
     (and_constant (cond (nat_eq i.n.value 15) (one (codes "bfc") (r i.d.value)) (two (codes "bfi") (r i.d.value) (r i.n.value))) (4 * i.i3.value + i.i2.value))
     (i.e.value + 1 - (4 * i.i3.value + i.i2.value))
 
+-- T11: the tokens of MUL, SDIV and UDIV, of MLA and MLS, and of SMULL, UMULL, SMLAL and UMLAL
 abbrev pub product_tokens : ProductRow → List Tok
 product_tokens (t11.Operation i) = three (operation_stem i.name) (r i.d.value) (r i.n.value) (r i.m.value)
 product_tokens (t11.Accumulate i) = four (accumulate_stem i.name) (r i.d.value) (r i.n.value) (r i.m.value) (r i.a.value)
@@ -127,10 +130,12 @@ list_start name w n = word name ∷ r n ∷ (back w ++ comma ∷ [])
 abbrev pub doubles : ℕ → ℕ → List Tok
 doubles v k = mark 123 ∷ word (double_name v) ∷ mark 45 ∷ word (double_name (v + k - 1)) ∷ mark 125 ∷ []
 
+-- T18: the tokens of MRS and MSR
 abbrev pub special_tokens : SpecialRow → List Tok
 special_tokens (t18.Read i) = two (codes "mrs") (r i.d.value) (word (read_name i.name))
 special_tokens (t18.Write i) = two (codes "msr") (word (written_name i.name)) (r i.n.value)
 
+-- T19: the tokens of NOP, DSB, DMB and ISB
 abbrev pub barrier_tokens : BarrierRow → List Tok
 barrier_tokens t19.Nop = word (codes "nop" ++ wide) ∷ []
 barrier_tokens (t19.Barrier i) = word (barrier_stem i.name) ∷ constant i.o.value
@@ -139,6 +144,7 @@ barrier_tokens (t19.Barrier i) = word (barrier_stem i.name) ∷ constant i.o.val
 abbrev pub flags_or : ℕ → Tok
 flags_or t = word (cond (nat_eq t 15) (codes "apsr_nzcv") (register_name t))
 
+-- T21: the tokens of VMRS and VMSR
 abbrev pub system_tokens : SystemMoveName → ℕ → List Tok
 system_tokens move.ReadFpscr t = two (codes "vmrs") (flags_or t) (word (codes "fpscr"))
 system_tokens move.ReadVpr t = two (codes "vmrs") (r t) (word (codes "vpr"))
@@ -151,6 +157,7 @@ system_tokens move.WriteP0 t = two (codes "vmsr") (word (codes "p0")) (r t)
 abbrev pub lane_of : ℕ → ℕ → List Tok
 lane_of d x = q d ∷ mark 91 ∷ number x ∷ mark 93 ∷ []
 
+-- T22: the tokens of VMOV between a core register and a word of a vector
 abbrev pub lane_tokens : LaneMoveName → ℕ → ℕ → ℕ → List Tok
 lane_tokens lane.ToLane d x t = word (codes "vmov" ++ codes ".32") ∷ (lane_of d x ++ comma ∷ r t ∷ [])
 lane_tokens lane.FromLane d x t = word (codes "vmov" ++ codes ".32") ∷ r t ∷ comma ∷ lane_of d x
@@ -197,6 +204,7 @@ loop_end_tokens loop_end.LeLr = word (codes "le") ∷ r 14 ∷ comma ∷ []
 loop_end_tokens loop_end.Letp = word (codes "letp") ∷ r 14 ∷ comma ∷ []
 loop_end_tokens loop_end.Le = word (codes "le") ∷ []
 
+-- T23: the tokens of DLS, WLS, DLSTP, WLSTP, LE, LETP and LCTP, before the label where there is one
 abbrev pub loop_tokens : LoopRow → List Tok
 loop_tokens (t23.Dls i) = two (codes "dls") (r 14) (r i.n.value)
 loop_tokens (t23.Wls i) = two (codes "wls") (r 14) (r i.n.value) ++ comma ∷ []
@@ -205,6 +213,7 @@ loop_tokens (t23.Wlstp i) = two (codes "wlstp" ++ element_suffix i.z.value) (r 1
 loop_tokens (t23.End i) = loop_end_tokens i.name
 loop_tokens t23.Lctp = word (codes "lctp") ∷ []
 
+-- the tokens of rows T16, T17 and T23, before the label where there is one; none of other rows
 abbrev pub branch_tokens : Branch → List Tok
 branch_tokens (T16 i) = wide_branch_tokens i
 branch_tokens (T17 i) = table_tokens i.name i.n.value i.m.value
@@ -217,6 +226,7 @@ row_tokens (instr.Scalar i) = scalar_tokens i
 row_tokens (instr.Branch i) = branch_tokens i
 row_tokens (instr.Vector i) = []
 
+-- whether the last operand of a row T23 is a label: of WLS, WLSTP, LE and LETP
 abbrev pub has_label_loop : LoopRow → Bool
 has_label_loop (t23.Dls i) = false
 has_label_loop (t23.Wls i) = true
@@ -225,6 +235,7 @@ has_label_loop (t23.Wlstp i) = true
 has_label_loop (t23.End i) = true
 has_label_loop t23.Lctp = false
 
+-- whether the last operand of a branch of two halfwords is a label: T16 and some of T23
 abbrev pub has_label_branch : Branch → Bool
 has_label_branch (T16 i) = true
 has_label_branch (T23 i) = has_label_loop i
@@ -245,10 +256,12 @@ abbrev pub other_barrier : BarrierRow → Option (List Tok)
 other_barrier t19.Nop = None
 other_barrier (t19.Barrier i) = if nat_eq i.o.value 15 then Some (word (barrier_stem i.name) ∷ []) else None
 
+-- the other text of a row that is no branch and no vector row: T19 alone has one
 abbrev pub other_scalar : Scalar → Option (List Tok)
 other_scalar (T19 i) = other_barrier i
 other_scalar i = None
 
+-- the other text of a row, where it has one
 abbrev pub other_tokens : Instr → Option (List Tok)
 other_tokens (instr.Scalar i) = other_scalar i
 other_tokens (instr.Branch i) = None

@@ -87,21 +87,26 @@ shift_stem ty = get_or (codes "lsl" ∷ codes "lsr" ∷ codes "asr" ∷ codes "r
 abbrev pub turn_stem : ℕ → ℕ → List ℕ
 turn_stem ty s = either s (shift_stem ty) (get_or (codes "lsls" ∷ codes "lsrs" ∷ codes "asrs" ∷ codes "rors" ∷ []) ty [])
 
+-- T2: RRX, or RRXS where the flags tell the result
 abbrev pub carry_stem : ℕ → List ℕ
 carry_stem s = either s (codes "rrx") (codes "rrxs")
 
+-- T3: the mnemonic of each name, ADDW and SUBW
 abbrev pub wide_sum_stem : SumName → List ℕ
 wide_sum_stem sum_.Add = codes "addw"
 wide_sum_stem sum_.Sub = codes "subw"
 
+-- T4: the mnemonic of each name, MOVW and MOVT
 abbrev pub half_stem : HalfName → List ℕ
 half_stem half.Movw = codes "movw"
 half_stem half.Movt = codes "movt"
 
+-- T5: the mnemonic of each name, SSAT and USAT
 abbrev pub saturate_stem : SaturateName → List ℕ
 saturate_stem saturate.Ssat = codes "ssat"
 saturate_stem saturate.Usat = codes "usat"
 
+-- T6: the mnemonic of each name, SBFX and UBFX
 abbrev pub extract_stem : ExtractName → List ℕ
 extract_stem extract.Sbfx = codes "sbfx"
 extract_stem extract.Ubfx = codes "ubfx"
@@ -113,12 +118,14 @@ wide_shift_stem wide_shift.Lsr s = either s (codes "lsr") (codes "lsrs")
 wide_shift_stem wide_shift.Asr s = either s (codes "asr") (codes "asrs")
 wide_shift_stem wide_shift.Ror s = either s (codes "ror") (codes "rors")
 
+-- T9: the stem of each name, SXTH, SXTB, UXTH and UXTB
 abbrev pub extend_stem : ExtendName → List ℕ
 extend_stem extend.Sxth = codes "sxth"
 extend_stem extend.Sxtb = codes "sxtb"
 extend_stem extend.Uxth = codes "uxth"
 extend_stem extend.Uxtb = codes "uxtb"
 
+-- T10: the stem of each name, REV, REV16, RBIT, REVSH and CLZ
 abbrev pub bits_stem : BitsName → List ℕ
 bits_stem bits.Rev = codes "rev"
 bits_stem bits.Rev16 = codes "rev16"
@@ -132,36 +139,43 @@ bits_suffix bits.Rbit = []
 bits_suffix bits.Clz = []
 bits_suffix name = wide
 
+-- T11: the mnemonic of each name, MUL, SDIV and UDIV
 abbrev pub operation_stem : OperationName → List ℕ
 operation_stem operation.Mul = codes "mul"
 operation_stem operation.Sdiv = codes "sdiv"
 operation_stem operation.Udiv = codes "udiv"
 
+-- T11: the mnemonic of each name, MLA and MLS
 abbrev pub accumulate_stem : AccumulateName → List ℕ
 accumulate_stem accumulate.Mla = codes "mla"
 accumulate_stem accumulate.Mls = codes "mls"
 
+-- T11: the mnemonic of each name, SMULL, UMULL, SMLAL and UMLAL
 abbrev pub long_stem : LongProductName → List ℕ
 long_stem long.Smull = codes "smull"
 long_stem long.Umull = codes "umull"
 long_stem long.Smlal = codes "smlal"
 long_stem long.Umlal = codes "umlal"
 
+-- T20: the mnemonic of each name, CSEL, CSINC, CSINV and CSNEG
 abbrev pub select_stem : SelectName → List ℕ
 select_stem select.Csel = codes "csel"
 select_stem select.Csinc = codes "csinc"
 select_stem select.Csinv = codes "csinv"
 select_stem select.Csneg = codes "csneg"
 
+-- T19: the mnemonic of each name, DSB, DMB and ISB
 abbrev pub barrier_stem : BarrierName → List ℕ
 barrier_stem barrier.Dsb = codes "dsb"
 barrier_stem barrier.Dmb = codes "dmb"
 barrier_stem barrier.Isb = codes "isb"
 
+-- T15: the mnemonic of each name, VPUSH and VPOP
 abbrev pub stack_stem : StackName → List ℕ
 stack_stem stack.Vpush = codes "vpush"
 stack_stem stack.Vpop = codes "vpop"
 
+-- T12: the stem of each name, STR, STRH, STRB, LDRSB, LDR, LDRH, LDRB and LDRSH
 abbrev pub access_stem : AccessName → List ℕ
 access_stem access.Str = codes "str"
 access_stem access.Strh = codes "strh"
@@ -172,10 +186,12 @@ access_stem access.Ldrh = codes "ldrh"
 access_stem access.Ldrb = codes "ldrb"
 access_stem access.Ldrsh = codes "ldrsh"
 
+-- T13: the mnemonic of each name, STRD and LDRD
 abbrev pub pair_stem : PairName → List ℕ
 pair_stem pair.Strd = codes "strd"
 pair_stem pair.Ldrd = codes "ldrd"
 
+-- T14: the stem of each name, STMIA, LDMIA, STMDB and LDMDB
 abbrev pub wide_list_stem : WideListName → List ℕ
 wide_list_stem wide_list.Stmia = codes "stmia"
 wide_list_stem wide_list.Ldmia = codes "ldmia"
@@ -199,18 +215,22 @@ abbrev pub saturate_shift : ℕ → List ℕ
 saturate_shift sh = either sh (codes "lsl") (codes "asr")
 
 -- HALVES OF VECTOR REGISTERS, in the order of their numbers
+-- the names of the halves, d0 to d15
 abbrev pub double_names : List (List ℕ)
 double_names =
     codes "d0" ∷ codes "d1" ∷ codes "d2" ∷ codes "d3" ∷ codes "d4" ∷ codes "d5" ∷ codes "d6" ∷ codes "d7"
     ∷ codes "d8" ∷ codes "d9" ∷ codes "d10" ∷ codes "d11" ∷ codes "d12" ∷ codes "d13" ∷ codes "d14" ∷ codes "d15" ∷ []
 
+-- the name of half n, counted from 0
 abbrev pub double_name : ℕ → List ℕ
 double_name n = get_or double_names n []
 
+-- the number of the half that a name names; None of another name
 abbrev pub double_in : List ℕ → Option ℕ
 double_in name = number_of 0 name double_names
 
 -- SPECIAL REGISTERS
+-- T18: the name of each special register that MRS reads
 abbrev pub read_name : ReadName → List ℕ
 read_name read.Apsr = codes "apsr"
 read_name read.Ipsr = codes "ipsr"
@@ -218,6 +238,7 @@ read_name read.Msp = codes "msp"
 read_name read.Primask = codes "primask"
 read_name read.Control = codes "control"
 
+-- T18: the name of each special register that MSR writes
 abbrev pub written_name : WrittenName → List ℕ
 written_name written.Apsr = codes "apsr"
 written_name written.Msp = codes "msp"

@@ -11,6 +11,7 @@ use Rattle.hm_isa.specs.declared.jumps.T23.TheVariants as t23
 use Rattle.hm_text_rows.specs.Labels.{behind}
 use Rattle.hm_thumb.specs.BranchRows.{always_distance, conditional_distance}
 
+-- T16: the address that the label of a wide branch at pc names
 abbrev pub wide_target : WideBranchRow → ℕ → ℕ
 wide_target (t16.Conditional i) pc = behind pc (conditional_distance i)
 wide_target (t16.Always i) pc = behind pc (always_distance i)
@@ -22,6 +23,7 @@ loop_target (t23.Wlstp i) pc = Some (behind pc (2 * i.v.value))
 loop_target (t23.End i) pc = Some (behind pc (2 ^ 32 - 2 * i.v.value))
 loop_target i pc = None
 
+-- the address that the label of a branch of two halfwords at pc names: T16 and T23; None of other rows
 abbrev pub branch_target : BranchRow → ℕ → Option ℕ
 branch_target (T16 i) pc = Some (wide_target i pc)
 branch_target (T23 i) pc = loop_target i pc

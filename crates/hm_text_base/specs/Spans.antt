@@ -24,6 +24,7 @@ abbrev pub onto_line : ℕ → Lines → Lines
 onto_line b ([], rest) = ([], b ∷ rest)
 onto_line b (l ∷ ls, rest) = ((b ∷ l) ∷ ls, rest)
 
+-- a text cut into its lines, at each byte 10, and what stands after the last one
 unfoldable pub lines_of : List ℕ → Lines
 lines_of [] = ([], [])
 lines_of (b ∷ bs) = if b == 10 then ([] ∷ (lines_of bs).0, (lines_of bs).1) else onto_line b (lines_of bs)

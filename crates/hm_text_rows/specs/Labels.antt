@@ -21,6 +21,7 @@ Names labels (word w) a = labels w ≡ Some a
 Names labels (number n) a = n ≡ a
 Names labels (mark c) a = ⊥
 
+-- where a row has an address to reach, it is the one that its label operand names
 abbrev pub NamesTarget : (List ℕ → Option ℕ) → Tok → Option ℕ → Type 0
 NamesTarget labels t (Some a) = Names labels t a
 NamesTarget labels t None = Unit {0}

@@ -4,6 +4,7 @@ use Rattle.hm_tokens.specs.Names.{condition_in, register_in, vector_in}
 use Rattle.hm_tokens.specs.Ranges.{is_the_mark}
 use Rattle.hm_tokens.specs.Tokens.{Tok, word, number, mark}
 
+-- the number, where there is one, else d
 abbrev pub given_or : Option ℕ → ℕ → ℕ
 given_or (Some n) d = n
 given_or None d = d
@@ -13,6 +14,7 @@ abbrev pub first : Option ℕ → Option ℕ → Option ℕ
 first (Some w) o = Some w
 first None o = o
 
+-- whether there is a number
 abbrev pub is_given : Option ℕ → Bool
 is_given (Some n) = true
 is_given None = false
@@ -23,6 +25,7 @@ abbrev pub branch_condition_in : List ℕ → Option ℕ
 branch_condition_in [] = None
 branch_condition_in (c ∷ name) = if c == 98 then condition_in name else None
 
+-- whether a word is the name of a vector register
 unfoldable pub is_vector_name : List ℕ → Bool
 is_vector_name w = is_given (vector_in w)
 
@@ -30,15 +33,18 @@ is_vector_name w = is_given (vector_in w)
 abbrev pub size_by : ℕ → ℕ
 size_by c = if c == 54 then 1 else if c == 50 then 2 else if c == 52 then 3 else 0
 
+-- the number of the element size that a suffix names: 0 to 3 for 8, 16, 32 and 64 bits
 unfoldable pub size_of : List ℕ → ℕ
 size_of suffix = size_by (get_or suffix (length suffix - 1) 0)
 
 -- TOKENS
+-- whether a token names a vector register
 abbrev pub is_vector : Tok → Bool
 is_vector (word w) = is_vector_name w
 is_vector (number n) = false
 is_vector (mark c) = false
 
+-- whether a token is a number
 abbrev pub is_number : Tok → Bool
 is_number (word w) = false
 is_number (number n) = true
@@ -52,6 +58,7 @@ operand k (number n ∷ ts) = if k == 0 then number n else operand (k - 1) ts
 operand k (mark c ∷ ts) = operand k ts
 
 -- ADDRESSES
+-- the first token; a number where there is none
 abbrev pub first_of : List Tok → Tok
 first_of [] = number 0
 first_of (t ∷ ts) = t
@@ -79,9 +86,11 @@ abbrev pub bit_or_none : Option ℕ → ℕ
 bit_or_none (Some n) = 2 ^ n
 bit_or_none None = 0
 
+-- the bit of the core register of this name in a list; 0 where none has it
 unfoldable pub bit_in : List ℕ → ℕ
 bit_in w = bit_or_none (register_in w)
 
+-- the bit of the core register that a token names in a list; 0 where it names none
 abbrev pub token_bit : Tok → ℕ
 token_bit (word w) = bit_in w
 token_bit (number n) = 0

@@ -5,9 +5,11 @@ use Rattle.hm_tokens.specs.Names.{register_name, vector_name}
 use Rattle.hm_tokens.specs.Tokens.{Tok, word, number, mark}
 
 -- OPERANDS
+-- the name of vector register d
 abbrev pub q : ℕ → Tok
 q d = word (vector_name d)
 
+-- the name of core register n
 abbrev pub r : ℕ → Tok
 r n = word (register_name n)
 
@@ -15,6 +17,7 @@ r n = word (register_name n)
 abbrev pub or_zero : ℕ → Tok
 or_zero n = word (cond (nat_eq n 15) (codes "zr") (register_name n))
 
+-- the mark between two operands
 abbrev pub comma : Tok
 comma = mark 44
 
@@ -27,15 +30,19 @@ abbrev pub either : ℕ → List ℕ → List ℕ → List ℕ
 either bit zero_ one_ = cond (nat_eq bit 0) zero_ one_
 
 -- SHAPES
+-- a mnemonic and one operand
 abbrev pub one : List ℕ → Tok → List Tok
 one name a = word name ∷ a ∷ []
 
+-- a mnemonic and two operands
 abbrev pub two : List ℕ → Tok → Tok → List Tok
 two name a b = word name ∷ a ∷ comma ∷ b ∷ []
 
+-- a mnemonic and three operands
 abbrev pub three : List ℕ → Tok → Tok → Tok → List Tok
 three name a b c = word name ∷ a ∷ comma ∷ b ∷ comma ∷ c ∷ []
 
+-- a mnemonic and four operands
 abbrev pub four : List ℕ → Tok → Tok → Tok → Tok → List Tok
 four name a b c d = word name ∷ a ∷ comma ∷ b ∷ comma ∷ c ∷ comma ∷ d ∷ []
 
@@ -68,9 +75,11 @@ offset a n = comma ∷ mark 35 ∷ (minus a ++ number n ∷ [])
 abbrev pub inside : ℕ → ℕ → Tok → ℕ → List Tok
 inside a w base n = mark 91 ∷ base ∷ (offset a n ++ mark 93 ∷ back w)
 
+-- `[base],#n`
 abbrev pub outside : ℕ → Tok → ℕ → List Tok
 outside a base n = mark 91 ∷ base ∷ mark 93 ∷ offset a n
 
+-- an address with an offset: behind the brackets where p is 0, as `[base],#n`, else within them
 abbrev pub indexed : ℕ → ℕ → ℕ → Tok → ℕ → List Tok
 indexed p a w base n = cond (nat_eq p 0) (outside a base n) (inside a w base n)
 

@@ -12,15 +12,19 @@ use Rattle.hm_textv.specs.Bases.{block_in, carry_base_in, compare_in, constant_i
 use Rattle.hm_textv.specs.Operands.{read_operands}
 
 -- FIELDS AT THEIR PLACES
+-- a base code with u at bit 28, z at bit 20, and the vectors n, d and m at bits 17, 13 and 1
 abbrev pub of_vectors : ℕ → ℕ → ℕ → ℕ → ℕ → ℕ → ℕ
 of_vectors base u z n d m = base + u ↑ 28 + z ↑ 20 + n ↑ 17 + d ↑ 13 + m ↑ 1
 
+-- a base code with u at bit 28, z at bit 20, the vectors n and d at bits 17 and 13, and the core register m at bit 0
 abbrev pub of_core : ℕ → ℕ → ℕ → ℕ → ℕ → ℕ → ℕ
 of_core base u z n d m = base + u ↑ 28 + z ↑ 20 + n ↑ 17 + d ↑ 13 + m
 
+-- a base code with u at bit 28, z at bit 18, and the vectors d and m at bits 13 and 1
 abbrev pub of_one : ℕ → ℕ → ℕ → ℕ → ℕ → ℕ
 of_one base u z d m = base + u ↑ 28 + z ↑ 18 + d ↑ 13 + m ↑ 1
 
+-- a base code of a load or store with l at bit 20, n at bit 16, the vector d at bit 13, z at bit 7, and i at bit 0
 abbrev pub of_access : ℕ → ℕ → ℕ → ℕ → ℕ → ℕ → ℕ
 of_access base l n d z i = base + l ↑ 20 + n ↑ 16 + d ↑ 13 + z ↑ 7 + i
 
@@ -28,6 +32,7 @@ of_access base l n d z i = base + l ↑ 20 + n ↑ 16 + d ↑ 13 + z ↑ 7 + i
 abbrev pub bits_in : ℕ → ℕ
 bits_in z = if z == 0 then 8 else if z == 1 then 16 else 32
 
+-- the element size of a number: bytes for 0, halfwords for 1, and words for others
 abbrev pub element_in : ℕ → Element
 element_in z = if z == 0 then element.Bytes else if z == 1 then element.Halves else element.Words
 
@@ -38,45 +43,55 @@ code_three s o =
     if o.is_vector then option_map (λ b. of_vectors b o.sign o.size o.second o.first o.third) (first (three_base s) (product_base s)) else None
 
 -- V4
+-- V4: the code of VSHL, VQSHL, VRSHL and VQRSHL by a vector (DDI0553, "VSHL" (vector) and its kin)
 abbrev pub code_vector_shift : List ℕ → Operands → Option ℕ
 code_vector_shift s o =
     if o.is_vector then option_map (λ b. of_vectors b o.sign o.size o.third o.first o.second) (vector_shift_base_in s) else None
 
 -- V8
+-- V8: the code of VADC, VADCI, VSBC and VSBCI (DDI0553, "VADC" and "VSBC")
 abbrev pub code_carry : List ℕ → Operands → Option ℕ
 code_carry s o = option_map (λ b. of_vectors b 0 0 o.second o.first o.third) (carry_base_in s)
 
 -- V9
+-- V9: the code of VCADD and VHCADD, whose angle is 90 or 270 (DDI0553, "VCADD" and "VHCADD")
 abbrev pub code_turn : List ℕ → Operands → Option ℕ
 code_turn s o =
     option_map (λ b. of_vectors (b + (if o.fourth == 270 then 1 else 0) ↑ 12) 0 o.size o.second o.first o.third) (turn_base_in s)
 
 -- V10
+-- V10: the code of VADD to VMLAS of a vector and a core register (DDI0553, their forms with a vector and a scalar)
 abbrev pub code_scalar : List ℕ → Operands → Option ℕ
 code_scalar s o =
     if o.is_vector then None else option_map (λ b. of_core b o.sign o.size o.second o.first o.third) (scalar_base_in s)
 
 -- V11
+-- V11: the code of VSHR, VRSHR and VSRI by a constant (DDI0553, "VSHR", "VRSHR" and "VSRI")
 abbrev pub code_right : List ℕ → Operands → Option ℕ
 code_right s o = option_map (λ b. of_one (b + (2 * bits_in o.size - o.third) ↑ 16) o.sign 0 o.first o.second) (right_base s)
 
+-- V11: the code of VQSHL, VQSHLU, VSHL and VSLI by a constant (DDI0553, "VQSHL, VQSHLU", "VSHL" (immediate) and "VSLI")
 abbrev pub code_left : List ℕ → Operands → Option ℕ
 code_left s o = option_map (λ b. of_one (b + (bits_in o.size + o.third) ↑ 16) o.sign 0 o.first o.second) (left_base s)
 
 -- V12
+-- V12: the code of VSHLL and VMOVL of part t; a shift by all bits of an element has an encoding of its own (DDI0553, "VSHLL")
 abbrev pub long_code : ℕ → Operands → ℕ
 long_code t o =
     if o.third == bits_in o.size then of_one (0xee310e01 + t ↑ 12) o.sign o.size o.first o.second
     else of_one (0xeea80f40 + t ↑ 12 + o.size ↑ 19 + o.third ↑ 16) o.sign 0 o.first o.second
 
+-- V12: the code of VSHLLB, VSHLLT, VMOVLB and VMOVLT (DDI0553, "VSHLL" and "VMOVL")
 abbrev pub code_long : List ℕ → Operands → Option ℕ
 code_long s o = option_map (λ t. long_code t o) (long_in s)
 
 -- V13, V14
+-- V13 and V14: the code of VCLS, VCLZ, VABS, VNEG, VQABS and VQNEG, and of VREV64, VREV32 and VREV16 (DDI0553, these instructions)
 abbrev pub code_single : List ℕ → Operands → Option ℕ
 code_single s o = option_map (λ b. of_one b 0 o.size o.first o.second) (single_base s)
 
 -- V15, and without a suffix `vmvn qd,qm` and `vmov qd,qm`
+-- V15: the field cmode, by the element size, the shift of the immediate, and whether the result is merged
 abbrev pub constant_mode : ℕ → Operands → ℕ
 constant_mode k o =
     if o.size == 0 then 14
@@ -84,22 +99,27 @@ constant_mode k o =
     else if o.third == 1 then 11 + o.fourth / 8
     else o.size % 2 * 8 + o.fourth / 8 * 2 + k / 2
 
+-- V15: the field op, 1 for VMVN and VBIC, and for elements of 64 bits
 abbrev pub constant_operation : ℕ → Operands → ℕ
 constant_operation k o = if o.size == 3 then 1 else k % 2
 
+-- V15: the code of an operation with an immediate of eight bits (DDI0553, "VMOV (immediate)" and its kin)
 abbrev pub constant_code : ℕ → Operands → ℕ
 constant_code k o =
     of_one
     (0xef800050 + (constant_mode k o) ↑ 8 + (constant_operation k o) ↑ 5 + (o.second / 16 % 8) ↑ 16 + o.second % 16)
     (o.second / 128) 0 o.first 0
 
+-- V2 and V13: the code of VMOV of a vector, which is VORR with itself, and of VMVN (DDI0553, "VORR" and "VMVN (register)")
 abbrev pub bare_code : ℕ → Operands → ℕ
 bare_code k o = if k == 0 then of_vectors 0xef200150 0 0 o.second o.first o.second else of_one 0xffb005c0 0 0 o.first o.second
 
+-- V15: the code of VMOV, VMVN, VORR and VBIC with an immediate, and of VMOV and VMVN of a vector (DDI0553, "VMOV (immediate)")
 abbrev pub code_constant : List ℕ → Operands → Option ℕ
 code_constant s o = option_map (λ k. if o.is_bare then bare_code k o else constant_code k o) (constant_in s)
 
 -- V16
+-- V16: the code of VMOVN, VQMOVN and VQMOVUN of either part (DDI0553, "VMOVN", "VQMOVN" and "VQMOVUN")
 abbrev pub code_narrow : List ℕ → Operands → Option ℕ
 code_narrow s o = option_map (λ b. of_one b o.sign (o.size - 1) o.first o.second) (narrow_base_in s)
 
@@ -108,40 +128,50 @@ abbrev pub step_in : ℕ → ℕ
 step_in n = if n == 2 then 1 else if n == 4 then 0x80 else if n == 8 then 0x81 else 0
 
 -- V19
+-- V19: the code of VIDUP and VDDUP (DDI0553, "VIDUP, VIWDUP" and "VDDUP, VDWDUP")
 abbrev pub code_offsets : List ℕ → Operands → Option ℕ
 code_offsets s o = option_map (λ b. of_core (b + 0xe + step_in o.third) 0 o.size (o.second / 2) o.first 0) (offsets_base_in s)
 
+-- V19: the code of VIWDUP and VDWDUP (DDI0553, "VIDUP, VIWDUP" and "VDDUP, VDWDUP")
 abbrev pub code_wrapped : List ℕ → Operands → Option ℕ
 code_wrapped s o = option_map (λ b. of_vectors (b + step_in o.fourth) 0 o.size (o.second / 2) o.first (o.third / 2)) (wrapped_base_in s)
 
 -- V20
+-- V20: the code of VCMP and VPT with mask k, of two vectors or of a vector and a core register (DDI0553, "VCMP" and "VPT")
 abbrev pub compare_code : ℕ → Operands → ℕ
 compare_code k o =
     if o.is_vector then of_vectors (0xfe010f00 + mask_code k + (o.first / 4) ↑ 12 + (o.first % 2) ↑ 7 + o.first / 2 % 2) 0 o.size o.second 0 o.third
     else of_core (0xfe010f40 + mask_code k + (o.first / 4) ↑ 12 + (o.first % 2) ↑ 7 + (o.first / 2 % 2) ↑ 5) 0 o.size o.second 0 o.third
 
+-- V20: the code of VCMP, and of VPT with the letters of its block (DDI0553, "VCMP" and "VPT")
 abbrev pub code_compare : List ℕ → Operands → Option ℕ
 code_compare s o = option_map (λ k. compare_code k o) (compare_in s)
 
 -- V21
+-- V21: the code of VPNOT, and of VPST with the letters of its block (DDI0553, "VPST" and "VPNOT")
 abbrev pub code_block : List ℕ → Option ℕ
 code_block s = option_map (λ k. 0xfe310f4d + mask_code k) (block_in s)
 
 -- V22
+-- V22: the code of VADDV and VADDVA (DDI0553, "VADDV")
 abbrev pub code_sum : List ℕ → Operands → Option ℕ
 code_sum s o = option_map (λ a. of_one (0xeef10f00 + a ↑ 5) o.sign o.size (o.first / 2) o.second) (sum_in s)
 
+-- V22: the code of VMLADAV and VMLADAVA, also named VMLAV and VMLAVA (DDI0553, "VMLADAV")
 abbrev pub code_dot : List ℕ → Operands → Option ℕ
 code_dot s o = option_map (λ a. of_vectors (dot_base (element_in o.size) + a ↑ 5) o.sign 0 o.second (o.first / 2) o.third) (dot_in s)
 
+-- V22: the code of VADDLV and VADDLVA (DDI0553, "VADDLV")
 abbrev pub code_long_sum : List ℕ → Operands → Option ℕ
 code_long_sum s o = option_map (λ a. of_vectors (0xee890f00 + a ↑ 5) o.sign (o.second / 2) 0 (o.first / 2) o.third) (long_sum_in s)
 
+-- V22: the code of VMLALDAV and VMLALDAVA (DDI0553, "VMLALDAV")
 abbrev pub code_long_dot : List ℕ → Operands → Option ℕ
 code_long_dot s o =
     option_map (λ a. of_vectors (0xee800e00 + a ↑ 5 + (o.size - 1) ↑ 16) o.sign (o.second / 2) o.third (o.first / 2) o.fourth) (long_dot_in s)
 
 -- V23
+-- V23: the code of VMAXV and VMINV (DDI0553, "VMAXV" and "VMINV")
 abbrev pub code_extreme : List ℕ → Operands → Option ℕ
 code_extreme s o = option_map (λ b. of_one (b + o.first ↑ 12) o.sign o.size 0 o.second) (extreme_base_in s)
 
@@ -154,64 +184,80 @@ code_alone s o =
     else None
 
 -- V24 to V27, of elements that have the size y in memory, which a store has where l is 0
+-- V24 and V25: the bits P, A and W: whether the offset goes before the access, whether it is added, whether the base is written back
 abbrev pub index_code : Operands → ℕ
 index_code o = o.before ↑ 24 + o.added ↑ 23 + o.back ↑ 21
 
+-- V27: the code of VLDRW and VSTRW at addresses in a vector (DDI0553, "VLDRB, VLDRH, VLDRW, VLDRD (vector)" and its stores)
 abbrev pub addresses_code : ℕ → Operands → ℕ
 addresses_code l o = of_access (0xfd001e00 + o.added ↑ 23 + o.back ↑ 21) l (2 * o.second) o.first 0 (o.third / 4)
 
+-- V26: the code of a load or store at offsets in a vector (DDI0553, "VLDRB, VLDRH, VLDRW, VLDRD (vector)" and its stores)
 abbrev pub offsets_code : ℕ → ℕ → Operands → ℕ
 offsets_code l y o =
     of_access (0xec800e00 + o.sign ↑ 28 + (y / 2) ↑ 6 + (y % 2) ↑ 4 + o.third ↑ 1) l o.second o.first o.size o.fourth
 
+-- V24 and V25: the code of a load or store of elements one after another (DDI0553, "VLDRB, VLDRH, VLDRW" and its stores)
 abbrev pub offset_code : ℕ → ℕ → Operands → ℕ
 offset_code l y o =
     if o.size == y then of_access (0xec001e00 + index_code o) l o.second o.first y (o.third / 2 ^ y)
     else of_access (0xec000e00 + o.sign ↑ 28 + index_code o + y ↑ 19) l o.second o.first o.size (o.third / 2 ^ y)
 
+-- V24 to V27: the code of a load or store, by its address: from a vector, a register and a vector, or a register
 abbrev pub access_code : ℕ → ℕ → Operands → ℕ
 access_code l y o =
     if o.is_at_vector then addresses_code l o
     else if o.is_vector then offsets_code l y o
     else offset_code l y o
 
+-- V24 to V27: the code of VSTRB, VSTRH and VSTRW (DDI0553, "VSTRB, VSTRH, VSTRW" and "VSTRB, VSTRH, VSTRW, VSTRD (vector)")
 abbrev pub code_store : List ℕ → Operands → Option ℕ
 code_store s o = option_map (λ y. access_code 0 y o) (store_in s)
 
+-- V24 to V27: the code of VLDRB, VLDRH and VLDRW (DDI0553, "VLDRB, VLDRH, VLDRW" and "VLDRB, VLDRH, VLDRW, VLDRD (vector)")
 abbrev pub code_load : List ℕ → Operands → Option ℕ
 code_load s o = option_map (λ y. access_code 1 y o) (load_in s)
 
 -- V28
+-- V28: the code of VLD20, VLD21, VST20 and VST21 (DDI0553, "VLD2" and "VST2")
 abbrev pub code_pair : List ℕ → Operands → Option ℕ
 code_pair s o = option_map (λ b. of_access (b + o.back ↑ 21) 0 o.third o.first o.size 0) (pair_base s)
 
+-- V28: the code of VLD40 to VLD43 and VST40 to VST43 (DDI0553, "VLD4" and "VST4")
 abbrev pub code_quad : List ℕ → Operands → Option ℕ
 code_quad s o = option_map (λ b. of_access (b + o.back ↑ 21) 0 o.fifth o.first o.size 0) (quad_base s)
 
 -- ALL ROWS
+-- the code of rows V1 to V10 and of VPSEL, by the stem
 abbrev pub code_of_pair : List ℕ → Operands → Option ℕ
 code_of_pair s o =
     first (code_three s o) (first (code_vector_shift s o) (first (code_carry s o) (first (code_turn s o) (code_scalar s o))))
 
+-- the code of rows V11 to V16, and of VMOV of a vector, by the stem
 abbrev pub code_of_one : List ℕ → Operands → Option ℕ
 code_of_one s o =
     first (code_right s o) (first (code_left s o) (first (code_long s o) (first (code_single s o) (first (code_constant s o) (code_narrow s o)))))
 
+-- the code of rows V22 and V23, by the stem
 abbrev pub code_of_sum : List ℕ → Operands → Option ℕ
 code_of_sum s o =
     first (code_sum s o) (first (code_dot s o) (first (code_long_sum s o) (first (code_long_dot s o) (code_extreme s o))))
 
+-- the code of rows V17 to V21 but for VPSEL, by the stem
 abbrev pub code_of_other : List ℕ → Operands → Option ℕ
 code_of_other s o =
     first (code_offsets s o) (first (code_wrapped s o) (first (code_compare s o) (first (code_block s) (code_alone s o))))
 
+-- the code of rows V24 to V28, by the stem
 abbrev pub code_of_memory : List ℕ → Operands → Option ℕ
 code_of_memory s o = first (code_store s o) (first (code_load s o) (first (code_pair s o) (code_quad s o)))
 
+-- the code of a stem and its operands; None where no row fits
 unfoldable pub code_of : List ℕ → Operands → Option ℕ
 code_of s o =
     first (code_of_pair s o) (first (code_of_one s o) (first (code_of_sum s o) (first (code_of_other s o) (code_of_memory s o))))
 
+-- the code of a mnemonic, cut into its stem and what begins at the point, and of the tokens behind it
 abbrev pub code_cut : List ℕ × List ℕ → List Tok → Option ℕ
 code_cut parts ts = code_of parts.0 (read_operands parts.1 ts)
 

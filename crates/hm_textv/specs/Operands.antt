@@ -20,9 +20,11 @@ other_value w =
     else if bytes_eq w (codes "uxtw") then 1
     else 0
 
+-- the number that a word stands for: of a vector, else of a core register, else of another word
 unfoldable pub word_value : List ℕ → ℕ
 word_value w = given_or (vector_in w) (given_or (register_in w) (other_value w))
 
+-- the number that a token stands for: a word's, or a number itself, at most 2^32 - 1; 0 of a mark
 abbrev pub value : Tok → ℕ
 value (word w) = word_value w
 value (number n) = min n 0xffff_ffff
@@ -32,6 +34,7 @@ value (mark c) = 0
 unfoldable pub sign_of : List ℕ → ℕ
 sign_of suffix = if get_or suffix 1 0 == 117 then 1 else 0
 
+-- what stands behind a stem, as numbers: the sign and the size of the elements, the operands, and how the address is written
 abbrev pub read_operands : List ℕ → List Tok → Operands
 read_operands suffix ts = record {
   is_bare = length suffix == 0;

@@ -30,12 +30,14 @@ use Rattle.hm_textv.specs.Stems.{access_stem, access_suffix, add_stem, bitwise_s
 abbrev pub size_in : ℕ → ℕ
 size_in x = cond (nat_lt x 16) 0 (cond (nat_lt x 32) 1 2)
 
+-- V11: how far elements are shifted, which the field x holds together with their size, one way for each direction
 abbrev pub shift_in : ConstantShiftName → ℕ → ℕ
 shift_in by_constant.Shr x = 2 * 2 ^ (3 + size_in x) - x
 shift_in by_constant.Rshr x = 2 * 2 ^ (3 + size_in x) - x
 shift_in by_constant.Sri x = 2 * 2 ^ (3 + size_in x) - x
 shift_in name x = x - 2 ^ (3 + size_in x)
 
+-- V11: the tokens of a shift by a constant, VSHR, VRSHR, VQSHL, VQSHLU, VSHL, VSRI and VSLI
 abbrev pub shift_tokens : ShiftRow → List Tok
 shift_tokens i = and_constant (two (constant_shift_stem i.name ++ constant_shift_suffix i.name i.u.value (size_in i.x.value)) (q i.d.value) (q i.m.value)) (shift_in i.name i.x.value)
 
@@ -46,18 +48,22 @@ long_part t suffix d m k =
     (two (either t (codes "vmovlb") (codes "vmovlt") ++ suffix) (q d) (q m))
     (and_constant (two (either t (codes "vshllb") (codes "vshllt") ++ suffix) (q d) (q m)) k)
 
+-- V12: the tokens of VSHLLB, VSHLLT, VMOVLB and VMOVLT
 abbrev pub long_tokens : LongRow → List Tok
 long_tokens (v12.Bytes i) = long_part i.t.value (by_sign i.u.value 0) i.d.value i.m.value i.k.value
 long_tokens (v12.Halves i) = long_part i.t.value (by_sign i.u.value 1) i.d.value i.m.value i.k.value
 long_tokens (v12.Full i) = and_constant (two (either i.t.value (codes "vshllb") (codes "vshllt") ++ by_sign i.u.value i.z.value) (q i.d.value) (q i.m.value)) (8 * 2 ^ i.z.value)
 
+-- V13: the tokens of VCLS, VCLZ, VABS, VNEG, VQABS and VQNEG, and of VMVN of a vector
 abbrev pub one_tokens : OneRow → List Tok
 one_tokens (v13.Elements i) = two (one_stem i.name ++ one_suffix i.name i.z.value) (q i.d.value) (q i.m.value)
 one_tokens (v13.Not i) = two (codes "vmvn") (q i.d.value) (q i.m.value)
 
+-- V15: VMOV, or VMVN where op is 1
 abbrev pub moved : ℕ → List ℕ
 moved op = either op (codes "vmov") (codes "vmvn")
 
+-- V15: VORR, or VBIC where op is 1
 abbrev pub merged : ℕ → List ℕ
 merged op = either op (codes "vorr") (codes "vbic")
 
@@ -65,6 +71,7 @@ merged op = either op (codes "vorr") (codes "vbic")
 abbrev pub shifted : List ℕ → List ℕ → ℕ → ℕ → ℕ → List Tok
 shifted name kind n d x = word name ∷ q d ∷ comma ∷ (constant x ++ comma ∷ word kind ∷ constant n)
 
+-- `#x`: the immediate with no shift
 abbrev pub unshifted : List ℕ → ℕ → ℕ → List Tok
 unshifted name d x = word name ∷ q d ∷ comma ∷ constant x
 
@@ -88,9 +95,11 @@ constant_forms op d x =
     ∷ unshifted (codes "vmov" ++ either op (codes ".i8") (codes ".i64")) d x
     ∷ []
 
+-- V15: the tokens of VMOV, VMVN, VORR and VBIC with an immediate
 abbrev pub constant_tokens : ConstantRow → List Tok
 constant_tokens i = get_or (constant_forms i.op.value i.d.value (128 * i.i.value + 16 * i.i3.value + i.i4.value)) i.cm.value []
 
+-- V19: the tokens of VIDUP, VDDUP, VIWDUP and VDWDUP
 abbrev pub offsets_tokens : OffsetsRow → List Tok
 offsets_tokens (v19.Free i) = and_constant (two (offsets_stem i.name ++ unsigned i.z.value) (q i.d.value) (r (2 * i.n.value))) (2 ^ i.k.value)
 offsets_tokens (v19.Wrapped i) =
@@ -100,10 +109,12 @@ offsets_tokens (v19.Wrapped i) =
 abbrev pub compare_name : ℕ → ℕ → ℕ → List ℕ
 compare_name k c z = cond (nat_eq k 0) (codes "vcmp") (codes "vpt") ++ (block_letters k ++ compare_suffix c z)
 
+-- V20: the tokens of VCMP and VPT, with a vector or a core register behind the first vector
 abbrev pub compare_tokens : CompareRow → List Tok
 compare_tokens (v20.Vectors i) = three (compare_name i.k.value i.c.value i.z.value) (word (compare_condition i.c.value)) (q i.n.value) (q i.m.value)
 compare_tokens (v20.Scalar i) = three (compare_name i.k.value i.c.value i.z.value) (word (compare_condition i.c.value)) (q i.n.value) (or_zero i.m.value)
 
+-- V21: the tokens of VPNOT, VPST with the letters of its block, VPSEL and VCTP
 abbrev pub predicate_tokens : PredicateRow → List Tok
 predicate_tokens (v21.Block i) = word (cond (nat_eq i.k.value 0) (codes "vpnot") (codes "vpst") ++ block_letters i.k.value) ∷ []
 predicate_tokens (v21.Select i) = three (codes "vpsel") (q i.d.value) (q i.n.value) (q i.m.value)
@@ -121,9 +132,11 @@ sum_tokens (v22.LongDot i) =
 
 -- LOADS AND STORES
 -- `[base,qm]`, and where the offsets are in elements `[base,qm,uxtw #y]`
+-- `,uxtw #y` where o is 1, and nothing where offsets are in bytes
 abbrev pub scale : ℕ → ℕ → List Tok
 scale o y = cond (nat_eq o 0) [] (comma ∷ word (codes "uxtw") ∷ constant y)
 
+-- V26: the address that has a base and offsets in the vector m
 abbrev pub at_offsets : Tok → ℕ → ℕ → ℕ → List Tok
 at_offsets base m o y = mark 91 ∷ base ∷ comma ∷ q m ∷ (scale o y ++ mark 93 ∷ [])
 
@@ -138,6 +151,7 @@ registers f d =
     (mark 123 ∷ q d ∷ comma ∷ q (d + 1) ∷ mark 125 ∷ [])
     (mark 123 ∷ q d ∷ comma ∷ q (d + 1) ∷ comma ∷ q (d + 2) ∷ comma ∷ q (d + 3) ∷ mark 125 ∷ [])
 
+-- V28: the tokens of a part of a load or store of two or four registers, with `!` where the base is written back
 abbrev pub turns : List ℕ → ℕ → ℕ → Tok → ℕ → List Tok
 turns name f d base w = word name ∷ (registers f d ++ comma ∷ mark 91 ∷ base ∷ mark 93 ∷ back w)
 

@@ -39,15 +39,19 @@ use Rattle.hm_text_rows.specs.Shapes.{either}
 abbrev pub bits : ℕ → List ℕ
 bits z = get_or (codes "8" ∷ codes "16" ∷ codes "32" ∷ codes "64" ∷ []) z []
 
+-- the bits of an element behind the point, with no type
 abbrev pub plain : ℕ → List ℕ
 plain z = codes "." ++ bits z
 
+-- the bits of an element behind the point, of an integer whose sign does not count
 abbrev pub integer : ℕ → List ℕ
 integer z = codes ".i" ++ bits z
 
+-- the bits of an element behind the point, of a signed integer
 abbrev pub signed : ℕ → List ℕ
 signed z = codes ".s" ++ bits z
 
+-- the bits of an element behind the point, of an unsigned integer
 abbrev pub unsigned : ℕ → List ℕ
 unsigned z = codes ".u" ++ bits z
 
@@ -62,11 +66,13 @@ size_number element.Halves = 1
 size_number element.Words = 2
 
 -- STEMS
+-- V1: the stem of each name, VADD, VSUB and VMUL
 abbrev pub add_stem : AddName → List ℕ
 add_stem add.Add = codes "vadd"
 add_stem add.Sub = codes "vsub"
 add_stem add.Mul = codes "vmul"
 
+-- V2: the stem of each name, VAND, VBIC, VORR, VORN and VEOR
 abbrev pub bitwise_stem : BitwiseName → List ℕ
 bitwise_stem bitwise.And = codes "vand"
 bitwise_stem bitwise.Bic = codes "vbic"
@@ -74,6 +80,7 @@ bitwise_stem bitwise.Orr = codes "vorr"
 bitwise_stem bitwise.Orn = codes "vorn"
 bitwise_stem bitwise.Eor = codes "veor"
 
+-- V3: the stem of each name, VMAX, VMIN, VABD, VHADD, VRHADD, VHSUB, VQADD and VQSUB
 abbrev pub signed_stem : SignedName → List ℕ
 signed_stem signed_.Max = codes "vmax"
 signed_stem signed_.Min = codes "vmin"
@@ -84,30 +91,36 @@ signed_stem signed_.Hsub = codes "vhsub"
 signed_stem signed_.Qadd = codes "vqadd"
 signed_stem signed_.Qsub = codes "vqsub"
 
+-- V4: the stem of each name, VSHL, VQSHL, VRSHL and VQRSHL
 abbrev pub vector_shift_stem : VectorShiftName → List ℕ
 vector_shift_stem by_vector.Shl = codes "vshl"
 vector_shift_stem by_vector.Qshl = codes "vqshl"
 vector_shift_stem by_vector.Rshl = codes "vrshl"
 vector_shift_stem by_vector.Qrshl = codes "vqrshl"
 
+-- V5: the stem of each name, VQDMULH and VQRDMULH
 abbrev pub doubling_stem : DoublingName → List ℕ
 doubling_stem doubling.Qdmulh = codes "vqdmulh"
 doubling_stem doubling.Qrdmulh = codes "vqrdmulh"
 
+-- V7: the stem of each name, VMULH and VRMULH
 abbrev pub high_stem : HighName → List ℕ
 high_stem high.Mulh = codes "vmulh"
 high_stem high.Rmulh = codes "vrmulh"
 
+-- V8: the stem of each name, VADC, VADCI, VSBC and VSBCI
 abbrev pub carry_stem : CarryName → List ℕ
 carry_stem carry.Adc = codes "vadc"
 carry_stem carry.Adci = codes "vadci"
 carry_stem carry.Sbc = codes "vsbc"
 carry_stem carry.Sbci = codes "vsbci"
 
+-- V9: the stem of each name, VCADD and VHCADD
 abbrev pub turn_stem : TurnName → List ℕ
 turn_stem turn.Cadd = codes "vcadd"
 turn_stem turn.Hcadd = codes "vhcadd"
 
+-- V10: the stem of each name, VADD to VMLAS
 abbrev pub scalar_stem : ScalarName → List ℕ
 scalar_stem by_scalar.Add = codes "vadd"
 scalar_stem by_scalar.Sub = codes "vsub"
@@ -121,6 +134,7 @@ scalar_stem by_scalar.Qrdmulh = codes "vqrdmulh"
 scalar_stem by_scalar.Mla = codes "vmla"
 scalar_stem by_scalar.Mlas = codes "vmlas"
 
+-- V11: the stem of each name, VSHR, VRSHR, VQSHL, VQSHLU, VSHL, VSRI and VSLI
 abbrev pub constant_shift_stem : ConstantShiftName → List ℕ
 constant_shift_stem by_constant.Shr = codes "vshr"
 constant_shift_stem by_constant.Rshr = codes "vrshr"
@@ -130,6 +144,7 @@ constant_shift_stem by_constant.Shl = codes "vshl"
 constant_shift_stem by_constant.Sri = codes "vsri"
 constant_shift_stem by_constant.Sli = codes "vsli"
 
+-- V13: the stem of each name, VCLS, VCLZ, VABS, VNEG, VQABS and VQNEG
 abbrev pub one_stem : OneName → List ℕ
 one_stem one.Cls = codes "vcls"
 one_stem one.Clz = codes "vclz"
@@ -138,6 +153,7 @@ one_stem one.Neg = codes "vneg"
 one_stem one.Qabs = codes "vqabs"
 one_stem one.Qneg = codes "vqneg"
 
+-- V14: the stem of each name, VREV64, VREV32 and VREV16
 abbrev pub reverse_stem : ReverseName → List ℕ
 reverse_stem reverse_.Rev64 = codes "vrev64"
 reverse_stem reverse_.Rev32 = codes "vrev32"
@@ -150,14 +166,17 @@ narrow_stem narrow_.ToUnsigned t = cond (nat_eq t 0) (codes "vqmovunb") (codes "
 narrow_stem narrow_.Signed t = cond (nat_eq t 0) (codes "vqmovnb") (codes "vqmovnt")
 narrow_stem narrow_.Unsigned t = cond (nat_eq t 0) (codes "vqmovnb") (codes "vqmovnt")
 
+-- V23: the stem of each name, VMAXV and VMINV
 abbrev pub extreme_stem : ExtremeName → List ℕ
 extreme_stem extreme.Max = codes "vmaxv"
 extreme_stem extreme.Min = codes "vminv"
 
+-- V19: the stem of each name from one register, VIDUP and VDDUP
 abbrev pub offsets_stem : OffsetsName → List ℕ
 offsets_stem offsets.Up = codes "vidup"
 offsets_stem offsets.Down = codes "vddup"
 
+-- V19: the stem of each name that goes round, VIWDUP and VDWDUP
 abbrev pub wrapped_stem : OffsetsName → List ℕ
 wrapped_stem offsets.Up = codes "viwdup"
 wrapped_stem offsets.Down = codes "vdwdup"
@@ -176,6 +195,7 @@ pair_stem l p =
     (get_or (codes "vst20" ∷ codes "vst21" ∷ []) p [])
     (get_or (codes "vld20" ∷ codes "vld21" ∷ []) p [])
 
+-- V28: the stem of part p of four registers, VST40 to VST43 where l is 0, or VLD40 to VLD43
 abbrev pub quad_stem : ℕ → ℕ → List ℕ
 quad_stem l p =
     either l
@@ -183,10 +203,12 @@ quad_stem l p =
     (get_or (codes "vld40" ∷ codes "vld41" ∷ codes "vld42" ∷ codes "vld43" ∷ []) p [])
 
 -- WHAT STANDS BEHIND THE POINT, BY NAME
+-- V9: VCADD is of integers, and VHCADD of signed ones
 abbrev pub turn_suffix : TurnName → ℕ → List ℕ
 turn_suffix turn.Cadd z = integer z
 turn_suffix turn.Hcadd z = signed z
 
+-- V10: VADD, VSUB and VMUL are of integers, VQDMULH and VQRDMULH of signed ones, and the others of either sign
 abbrev pub scalar_suffix : ScalarName → ℕ → ℕ → List ℕ
 scalar_suffix by_scalar.Add u z = integer z
 scalar_suffix by_scalar.Sub u z = integer z
@@ -195,6 +217,7 @@ scalar_suffix by_scalar.Qdmulh u z = signed z
 scalar_suffix by_scalar.Qrdmulh u z = signed z
 scalar_suffix name u z = by_sign u z
 
+-- V11: VQSHLU is of signed integers, VSHL of integers, VSRI and VSLI have no type, and the others are of either sign
 abbrev pub constant_shift_suffix : ConstantShiftName → ℕ → ℕ → List ℕ
 constant_shift_suffix by_constant.Qshlu u z = signed z
 constant_shift_suffix by_constant.Shl u z = integer z
@@ -202,6 +225,7 @@ constant_shift_suffix by_constant.Sri u z = plain z
 constant_shift_suffix by_constant.Sli u z = plain z
 constant_shift_suffix name u z = by_sign u z
 
+-- V13: VCLZ is of integers, and the others of signed ones
 abbrev pub one_suffix : OneName → ℕ → List ℕ
 one_suffix one.Clz z = integer z
 one_suffix name z = signed z

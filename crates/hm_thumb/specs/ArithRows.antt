@@ -32,6 +32,7 @@ use Rattle.hm_thumb.specs.declared.arithmetic.Shifted.{Shifted}
 use Rattle.hm_thumb.specs.declared.arithmetic.ShiftType.{ShiftType}
 use Rattle.hm_thumb.specs.declared.arithmetic.ShiftType.TheVariants as type
 
+-- T8: the type of shift of each name: LSL, LSR, ASR and ROR
 abbrev pub wide_shift_of : WideShiftName → ShiftType
 wide_shift_of wide_shift.Lsl = type.Lsl
 wide_shift_of wide_shift.Lsr = type.Lsr
@@ -42,12 +43,15 @@ wide_shift_of wide_shift.Ror = type.Ror
 abbrev pub put_told : ℕ → ℕ → Shifted → Regs → Regs
 put_told s d x r = let t = put d x.result r in cond (nat_eq s 1) (with_nzc x t) t
 
+-- T8: LSL, LSR, ASR and ROR by a register (DDI0553, "LSL (register)", "LSR (register)", "ASR (register)" and "ROR (register)")
 abbrev pub t8 : T8 → Regs → Regs
 t8 i r = put_told i.s.value i.d.value (shift_c (wide_shift_of i.name) (reg i.n.value r) (reg i.m.value r % 256) r.c) r
 
+-- T9: SXTH, UXTH, SXTB and UXTB of a register rotated by whole bytes (DDI0553, "SXTH", "UXTH", "SXTB" and "UXTB", encodings T2)
 abbrev pub t9 : T9 → Regs → Regs
 t9 i r = put i.d.value (extended_by i.name (rotated (reg i.m.value r) (8 * i.r.value))) r
 
+-- T10: what REV, REV16, RBIT, REVSH and CLZ make of a word
 abbrev pub bits_of : BitsName → ℕ → ℕ
 bits_of bits.Rev x = swapped swap_.Rev x
 bits_of bits.Rev16 x = swapped swap_.Rev16 x
@@ -55,6 +59,7 @@ bits_of bits.Rbit x = reverse_bits w32 x
 bits_of bits.Revsh x = swapped swap_.Revsh x
 bits_of bits.Clz x = leading_zeros w32 x
 
+-- T10: REV, REV16, RBIT, REVSH and CLZ (DDI0553, "REV", "REV16", "RBIT", "REVSH" and "CLZ")
 abbrev pub t10 : T10 → Regs → Regs
 t10 i r = put i.d.value (bits_of i.name (reg i.m.value r)) r
 
@@ -62,6 +67,7 @@ t10 i r = put i.d.value (bits_of i.name (reg i.m.value r)) r
 abbrev pub negated : ℕ → ℕ
 negated x = (2 ^ 32 - x) % 2 ^ 32
 
+-- the magnitude of a word as a number with its sign
 abbrev pub magnitude : ℕ → ℕ
 magnitude x = if negative x then 2 ^ 32 - x else x
 
@@ -76,13 +82,16 @@ operated operation.Mul x y = x * y % 2 ^ 32
 operated operation.Sdiv x y = if nat_eq y 0 then 0 else signed_quotient x y
 operated operation.Udiv x y = if nat_eq y 0 then 0 else x / y
 
+-- T11: MUL, SDIV and UDIV (DDI0553, "MUL", encoding T2, "SDIV" and "UDIV")
 abbrev pub operation_row : Operation → Regs → Regs
 operation_row i r = put i.d.value (operated i.name (reg i.n.value r) (reg i.m.value r)) r
 
+-- T11: a product added to a number by MLA, or taken from it by MLS, modulo 2 ^ 32
 abbrev pub accumulated : AccumulateName → ℕ → ℕ → ℕ
 accumulated accumulate.Mla a x = (a + x) % 2 ^ 32
 accumulated accumulate.Mls a x = (a + negated x) % 2 ^ 32
 
+-- T11: MLA and MLS (DDI0553, "MLA" and "MLS")
 abbrev pub accumulate_row : Accumulate → Regs → Regs
 accumulate_row i r =
     put i.d.value (accumulated i.name (reg i.a.value r) (reg i.n.value r * reg i.m.value r % 2 ^ 32)) r
@@ -102,21 +111,25 @@ long_result long.Umlal old x y = (old + x * y) % 2 ^ 64
 abbrev pub put_long : ℕ → ℕ → ℕ → Regs → Regs
 put_long l h x r = put h (x / 2 ^ 32) (put l (x % 2 ^ 32) r)
 
+-- T11: SMULL, UMULL, SMLAL and UMLAL (DDI0553, "SMULL", "UMULL", "SMLAL" and "UMLAL")
 abbrev pub long_row : LongProduct → Regs → Regs
 long_row i r =
     let old = reg i.h.value r * 2 ^ 32 + reg i.l.value r in
     put_long i.l.value i.h.value (long_result i.name old (reg i.n.value r) (reg i.m.value r)) r
 
+-- T11: MUL, SDIV, UDIV, MLA, MLS, SMULL, UMULL, SMLAL and UMLAL (DDI0553, "MUL" and the sections of these names)
 abbrev pub t11 : T11 → Regs → Regs
 t11 (t11_.Operation i) r = operation_row i r
 t11 (t11_.Accumulate i) r = accumulate_row i r
 t11 (t11_.Long i) r = long_row i r
 
+-- T20: what CSEL, CSINC, CSINV and CSNEG give of the second operand where the condition does not hold
 abbrev pub otherwise : SelectName → ℕ → ℕ
 otherwise select.Csel y = y
 otherwise select.Csinc y = (y + 1) % 2 ^ 32
 otherwise select.Csinv y = inverted y
 otherwise select.Csneg y = negated y
 
+-- T20: CSEL, CSINC, CSINV and CSNEG (DDI0553, "CSEL", "CSINC", "CSINV" and "CSNEG")
 abbrev pub t20 : T20 → Regs → Regs
 t20 i r = put i.d.value (cond (condition_holds i.c.value r) (reg_or_zero i.n.value r) (otherwise i.name (reg_or_zero i.m.value r))) r

@@ -31,10 +31,12 @@ use Rattle.hm_thumb.specs.declared.Way.TheVariants as way
 abbrev pub link : ℕ → ℕ
 link next = next - next % 2 + 1
 
+-- S23: what BX and BLX do with the value of a register; BLX leaves the address of the next instruction in lr
 abbrev pub jump_row : JumpName → ℕ → Regs → Does
 jump_row jump.Bx x r = bx_write x r
 jump_row jump.Blx x r = blx_write x (put 14 (link ((r.pc + 2) % 2 ^ 32)) r)
 
+-- S23: BX and BLX (DDI0553, "BX" and "BLX (register)")
 abbrev pub s23 : S23 → Regs → Does
 s23 i r = jump_row i.name (reg i.m.value r) r
 
@@ -42,19 +44,24 @@ s23 i r = jump_row i.name (reg i.m.value r) r
 abbrev pub branch_if : Bool → ℕ → Regs → Does
 branch_if taken bytes r = cond taken (Ends (way.To ((operand 15 r + bytes) % 2 ^ 32)) r) (goes r)
 
+-- S24: whether CBZ or CBNZ branches, by the value of its register
 abbrev pub is_taken : ZeroName → ℕ → Bool
 is_taken zero_.Cbz x = nat_eq x 0
 is_taken zero_.Cbnz x = not (nat_eq x 0)
 
+-- S24: CBZ and CBNZ (DDI0553, "CBZ, CBNZ")
 abbrev pub s24 : S24 → Regs → Does
 s24 i r = branch_if (is_taken i.name (reg i.n.value r)) (2 * i.i.value) r
 
+-- S25: B under a condition (DDI0553, "B", encoding T1)
 abbrev pub conditional : Conditional → Regs → Does
 conditional i r = branch_if (condition_holds i.c.value r) (sign_extended 9 (2 * i.i.value)) r
 
+-- S25: B with no condition of its own (DDI0553, "B", encoding T2)
 abbrev pub always : Always → Regs → Does
 always i r = branch_if true (sign_extended 12 (2 * i.i.value)) r
 
+-- S25: B with a condition or with none (DDI0553, "B", encodings T1 and T2)
 abbrev pub s25 : S25 → Regs → Does
 s25 (s25_.Conditional i) r = conditional i r
 s25 (s25_.Always i) r = always i r
@@ -65,6 +72,7 @@ abbrev pub conditional_distance : WideConditional → ℕ
 conditional_distance i =
     sign_extended 21 (i.s.value * 2 ^ 20 + i.j2.value * 2 ^ 19 + i.j1.value * 2 ^ 18 + i.i6.value * 2 ^ 12 + i.i11.value * 2)
 
+-- T16: B.W under a condition (DDI0553, "B", encoding T3)
 abbrev pub wide_conditional : WideConditional → Regs → Does
 wide_conditional i r = branch_if (condition_holds i.c.value r) (conditional_distance i) r
 
@@ -83,9 +91,11 @@ abbrev pub linked : WideBranchName → Regs → Regs
 linked wide_branch.B r = r
 linked wide_branch.Bl r = put 14 (link ((r.pc + 4) % 2 ^ 32)) r
 
+-- T16: B.W with no condition of its own, and BL (DDI0553, "B", encoding T4, and "BL")
 abbrev pub wide_always : WideAlways → Regs → Does
 wide_always i r = branch_if true (always_distance i) (linked i.name r)
 
+-- T16: B.W with a condition or with none, and BL (DDI0553, "B", encodings T3 and T4, and "BL")
 abbrev pub t16 : T16 → Regs → Does
 t16 (t16_.Conditional i) r = wide_conditional i r
 t16 (t16_.Always i) r = wide_always i r

@@ -55,6 +55,7 @@ put_if d x r = cond (nat_eq d 15) r (put d x r)
 abbrev pub put_bits : ℕ → ℕ → ℕ → Bool → Regs → Regs
 put_bits s d x carry r = let t = put_if d x r in cond (nat_eq s 1) (with_nzc (record { result = x; carry = carry }) t) t
 
+-- register d, if there is one, gets a sum; with s the flags N, Z, C and V tell it, in an IT block too
 abbrev pub put_data_sum : ℕ → ℕ → Sum → Regs → Regs
 put_data_sum s d x r = let t = put_if d x.result r in cond (nat_eq s 1) (with_nzcv x t) t
 
@@ -75,6 +76,7 @@ data_row data_.Rsb s d x y r = put_data_sum s d (add_with_carry (inverted x) y.r
 abbrev pub imm12 : ℕ → ℕ → ℕ → ℕ
 imm12 i i3 i8 = i * 2 ^ 11 + i3 * 2 ^ 8 + i8
 
+-- T1: AND, BIC, ORR, ORN, EOR, ADD, ADC, SBC, SUB and RSB with a constant (DDI0553, "Data-processing (modified immediate)")
 abbrev pub t1 : T1 → Regs → Regs
 t1 i r = data_row i.name i.s.value i.d.value (reg_or_zero i.n.value r) (expand_imm_c (imm12 i.i.value i.i3.value i.i8.value) r.c) r
 
@@ -82,10 +84,12 @@ t1 i r = data_row i.name i.s.value i.d.value (reg_or_zero i.n.value r) (expand_i
 abbrev pub imm5 : ℕ → ℕ → ℕ
 imm5 i3 i2 = i3 * 2 ^ 2 + i2
 
+-- T2: AND, BIC, ORR, ORN, EOR, ADD, ADC, SBC, SUB and RSB with a shifted register (DDI0553, "Data-processing (shifted register)")
 abbrev pub t2 : T2 → Regs → Regs
 t2 i r =
     data_row i.name i.s.value i.d.value (reg_or_zero i.n.value r) (imm_shift_c i.ty.value (imm5 i.i3.value i.i2.value) (reg i.m.value r) r.c) r
 
+-- T3: ADDW, SUBW and ADR (DDI0553, "ADD (immediate)" and "SUB (immediate)", encodings T4, and "ADR", encodings T2 and T3)
 abbrev pub t3 : T3 → Regs → Regs
 t3 i r = put i.d.value (sum_of i.name (base_of i.n.value r) (imm12 i.i.value i.i3.value i.i8.value)).result r
 
@@ -94,6 +98,7 @@ abbrev pub half_put : HalfName → ℕ → ℕ → ℕ
 half_put half.Movw x old = x
 half_put half.Movt x old = x * 2 ^ 16 + old % 2 ^ 16
 
+-- T4: MOVW and MOVT (DDI0553, "MOV (immediate)", encoding T3, and "MOVT")
 abbrev pub t4 : T4 → Regs → Regs
 t4 i r = put i.d.value (half_put i.name (i.i4.value * 2 ^ 12 + imm12 i.i.value i.i3.value i.i8.value) (reg i.d.value r)) r
 
@@ -106,6 +111,7 @@ saturated saturate.Usat s x = if negative x then 0 else min x (2 ^ s - 1)
 abbrev pub put_saturated : ℕ → ℕ → ℕ → Regs → Regs
 put_saturated d y x r = let t = put d y r in record t { q = t.q || not (nat_eq y x) }
 
+-- T5: SSAT and USAT (DDI0553, "SSAT" and "USAT")
 abbrev pub t5 : T5 → Regs → Regs
 t5 i r =
     let x = (imm_shift_c (2 * i.sh.value) (imm5 i.i3.value i.i2.value) (reg i.n.value r) r.c).result in
@@ -116,6 +122,7 @@ abbrev pub bits_with : ExtractName → ℕ → ℕ → ℕ
 bits_with bits.Sbfx width x = sign_extended width x
 bits_with bits.Ubfx width x = x
 
+-- T6: SBFX and UBFX (DDI0553, "SBFX" and "UBFX")
 abbrev pub t6 : T6 → Regs → Regs
 t6 i r = put i.d.value (bits_with i.name (i.w.value + 1) (field (imm5 i.i3.value i.i2.value) (i.w.value + 1) (reg i.n.value r))) r
 

@@ -5,6 +5,7 @@ use Rattle.hm_isa.specs.declared.Instr.TheVariants as instr
 use Rattle.hm_isa.specs.declared.Scalar.{Scalar}
 use Rattle.hm_isa.specs.declared.Scalar.TheVariants as scalar
 
+-- whether a scalar row loads or stores: S14 to S17, S20, and T12 to T15
 abbrev pub loads_or_stores : Scalar → Bool
 loads_or_stores (scalar.S14 i) = true
 loads_or_stores (scalar.S15 i) = true
@@ -17,18 +18,22 @@ loads_or_stores (scalar.T14 i) = true
 loads_or_stores (scalar.T15 i) = true
 loads_or_stores i = false
 
+-- whether an instruction is of a scalar row that loads or stores
 abbrev pub is_memory_row : Instr → Bool
 is_memory_row (instr.Scalar i) = loads_or_stores i
 is_memory_row i = false
 
+-- whether an instruction is of a scalar row that neither loads nor stores
 abbrev pub is_register_row : Instr → Bool
 is_register_row (instr.Scalar i) = not (loads_or_stores i)
 is_register_row i = false
 
+-- whether an instruction is of a branch row: S23 to S25, T16, T17 and T23
 abbrev pub is_branch_row : Instr → Bool
 is_branch_row (instr.Branch i) = true
 is_branch_row i = false
 
+-- whether an instruction is of a vector row
 abbrev pub is_vector_row : Instr → Bool
 is_vector_row (instr.Vector v) = true
 is_vector_row i = false

@@ -24,6 +24,7 @@ put_size z r = with_value Ltp z r
 abbrev pub back : ℕ → Regs → Does
 back v r = branch_if true (2 ^ 32 - 2 * v) r
 
+-- T23: DLS, which puts the count of iterations in lr (DDI0553, "WLS, DLS, WLSTP, DLSTP")
 abbrev pub dls : Dls → Regs → Does
 dls i r = goes (put 14 (reg i.n.value r) r)
 
@@ -31,12 +32,15 @@ dls i r = goes (put 14 (reg i.n.value r) r)
 abbrev pub enter : ℕ → ℕ → (Regs → Regs) → Regs → Does
 enter count v into r = cond (nat_eq count 0) (branch_if true (2 * v) r) (goes (into (put 14 count r)))
 
+-- T23: WLS, which branches past the loop where the count is 0 (DDI0553, "WLS, DLS, WLSTP, DLSTP")
 abbrev pub wls : Wls → Regs → Does
 wls i r = enter (reg i.n.value r) i.v.value (λ q. q) r
 
+-- T23: DLSTP, which puts the count of elements in lr, and sets LTPSIZE (DDI0553, "WLS, DLS, WLSTP, DLSTP")
 abbrev pub dlstp : Dlstp → Regs → Does
 dlstp i r = goes (put_size i.z.value (put 14 (reg i.n.value r) r))
 
+-- T23: WLSTP, which branches past the loop where there are no elements, else sets LTPSIZE (DDI0553, "WLS, DLS, WLSTP, DLSTP")
 abbrev pub wlstp : Wlstp → Regs → Does
 wlstp i r = enter (reg i.n.value r) i.v.value (put_size i.z.value) r
 
@@ -54,6 +58,7 @@ loop_end_row loop_end.LeLr v r = cond (r.fpca && not (nat_eq (value_at Ltp r) 4)
 loop_end_row loop_end.Letp v r = again (elements r) v (put_size 4) r
 loop_end_row loop_end.Le v r = back v r
 
+-- T23: DLS, WLS, DLSTP, WLSTP, LE, LETP and LCTP (DDI0553, "WLS, DLS, WLSTP, DLSTP", "LE, LETP" and "LCTP")
 abbrev pub t23 : T23 → Regs → Does
 t23 (t23_.Dls i) r = dls i r
 t23 (t23_.Wls i) r = wls i r
@@ -67,6 +72,7 @@ abbrev pub is_letp : LoopEndName → Bool
 is_letp loop_end.Letp = true
 is_letp name = false
 
+-- whether it begins or ends a loop over elements: DLSTP, WLSTP and LETP
 abbrev pub loops_over_elements : T23 → Bool
 loops_over_elements (t23_.Dlstp i) = true
 loops_over_elements (t23_.Wlstp i) = true

@@ -38,11 +38,13 @@ special read.Control r = flag_at 2 r.fpca
 abbrev pub with_flags : ℕ → Regs → Regs
 with_flags x r = record r { n = bit_is_set x 31; z = bit_is_set x 30; c = bit_is_set x 29; v = bit_is_set x 28 }
 
+-- T18: APSR, MSP or PRIMASK gets the bits of a word that it has
 abbrev pub with_special : WrittenName → ℕ → Regs → Regs
 with_special written.Apsr x r = record (with_flags x r) { q = bit_is_set x 27 }
 with_special written.Msp x r = put 13 x r
 with_special written.Primask x r = record r { primask = bit_is_set x 0 }
 
+-- T18: MRS and MSR (DDI0553, "MRS" and "MSR (register)")
 abbrev pub t18 : T18 → Regs → Regs
 t18 (t18_.Read i) r = put i.d.value (special i.name r) r
 t18 (t18_.Write i) r = with_special i.name (reg i.n.value r) r
@@ -60,6 +62,7 @@ system_move move.WriteFpscr t r = record r { fpscr = with_low 27 r.fpscr (reg t 
 system_move move.WriteVpr t r = record r { vpr = with_low 24 (reg t r) r.vpr }
 system_move move.WriteP0 t r = record r { vpr = with_low 16 (reg t r) r.vpr }
 
+-- T21: VMRS and VMSR (DDI0553, "VMRS" and "VMSR")
 abbrev pub t21 : T21 → Regs → Regs
 t21 i r = system_move i.name i.t.value r
 
@@ -68,5 +71,6 @@ abbrev pub lane_move : LaneMoveName → ℕ → ℕ → Regs → Regs
 lane_move lane.ToLane k t r = with_value (QWord k) (reg t r) r
 lane_move lane.FromLane k t r = put t (value_at (QWord k) r) r
 
+-- T22: VMOV between a core register and a lane (DDI0553, "VMOV (general-purpose register to vector lane)" and its converse)
 abbrev pub t22 : T22 → Regs → Regs
 t22 i r = lane_move i.name (4 * i.q.value + i.x.value) i.t.value r

@@ -19,11 +19,13 @@ IsLineOf text [] = ⊥
 IsLineOf text (t ∷ ts) = (rest : List ℕ) × (token_at (skip text) ≡ Some (t, rest)) × (is_gap rest ≡ true) × AreTokensOf rest ts
 
 -- PRINTING
+-- whether a token is a word
 abbrev pub is_word : Tok → Bool
 is_word (word w) = true
 is_word (number n) = false
 is_word (mark c) = false
 
+-- whether a token is the mark `#`
 abbrev pub is_hash : Tok → Bool
 is_hash (word w) = false
 is_hash (number n) = false
@@ -33,6 +35,7 @@ is_hash (mark c) = c == 35
 abbrev pub gap : Bool → Tok → List ℕ
 gap after_word t = if after_word && is_hash t then 32 ∷ [] else []
 
+-- tokens one behind another, behind a word or behind none
 abbrev pub spelled_behind : Bool → List Tok → List ℕ
 spelled_behind after_word [] = []
 spelled_behind after_word (t ∷ ts) = gap after_word t ++ (spell t ++ spelled_behind (is_word t) ts)

@@ -4,6 +4,7 @@ use Rattle.std.specs.List.{list_any}
 use Rattle.hm_tokens.specs.declared.marks.Mark.{Mark}
 use Rattle.hm_tokens.specs.declared.marks.Mark.TheVariants as marks
 
+-- the byte of each mark
 abbrev pub mark_byte : Mark → ℕ
 mark_byte marks.Colon = 58
 mark_byte marks.Comma = 44
@@ -16,5 +17,6 @@ mark_byte marks.Bang = 33
 mark_byte marks.Minus = 45
 mark_byte marks.Plus = 43
 
+-- whether a byte is one of the marks
 abbrev pub is_mark : ℕ → Bool
 is_mark c = list_any (λ m. c == m) (codes ":,#[]{}!-+")

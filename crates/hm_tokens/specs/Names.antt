@@ -1,14 +1,17 @@
 -- The names of registers and conditions, in the order of their numbers.
 use Rattle.std.specs.Prelude.{ℕ, ◌+◌, Bool, true, false, List, [], ◌∷◌, get_or, codes, Option, Some, None, bytes_eq, ◌==◌, nat_le, ◌&&◌, ◌||◌, not, if◌then◌else◌}
 
+-- the names of the core registers, from 0 to 15
 abbrev pub register_names : List (List ℕ)
 register_names =
     codes "r0" ∷ codes "r1" ∷ codes "r2" ∷ codes "r3" ∷ codes "r4" ∷ codes "r5" ∷ codes "r6" ∷ codes "r7"
     ∷ codes "r8" ∷ codes "r9" ∷ codes "r10" ∷ codes "r11" ∷ codes "r12" ∷ codes "sp" ∷ codes "lr" ∷ codes "pc" ∷ []
 
+-- the names of the vector registers, from 0 to 7
 abbrev pub vector_names : List (List ℕ)
 vector_names = codes "q0" ∷ codes "q1" ∷ codes "q2" ∷ codes "q3" ∷ codes "q4" ∷ codes "q5" ∷ codes "q6" ∷ codes "q7" ∷ []
 
+-- the names of the conditions, from 0 to 13, without `al`
 abbrev pub condition_names : List (List ℕ)
 condition_names =
     codes "eq" ∷ codes "ne" ∷ codes "cs" ∷ codes "cc" ∷ codes "mi" ∷ codes "pl" ∷ codes "vs" ∷ codes "vc"
@@ -18,9 +21,11 @@ condition_names =
 abbrev pub register_name : ℕ → List ℕ
 register_name n = get_or register_names n []
 
+-- the name of a vector register, by its number
 abbrev pub vector_name : ℕ → List ℕ
 vector_name n = get_or vector_names n []
 
+-- the name of a condition, by its number
 abbrev pub condition_name : ℕ → List ℕ
 condition_name n = get_or condition_names n []
 
@@ -29,16 +34,20 @@ abbrev pub number_of : ℕ → List ℕ → List (List ℕ) → Option ℕ
 number_of n name [] = None
 number_of n name (x ∷ xs) = if bytes_eq name x then Some n else number_of (n + 1) name xs
 
+-- the number of the core register that has this name, if there is one
 abbrev pub register_in : List ℕ → Option ℕ
 register_in name = number_of 0 name register_names
 
+-- the number of the vector register that has this name, if there is one
 abbrev pub vector_in : List ℕ → Option ℕ
 vector_in name = number_of 0 name vector_names
 
+-- the number of the condition that has this name, if there is one
 abbrev pub condition_in : List ℕ → Option ℕ
 condition_in name = number_of 0 name condition_names
 
 -- LABELS
+-- whether a byte is a letter in lower case or `_`
 abbrev pub is_letter : ℕ → Bool
 is_letter c = (nat_le 97 c && nat_le c 122) || (c == 95)
 
@@ -52,6 +61,7 @@ abbrev pub is_name : List ℕ → Bool
 is_name [] = false
 is_name (c ∷ cs) = is_letter c && are_name_bytes cs
 
+-- whether there is a number
 abbrev pub is_number_given : Option ℕ → Bool
 is_number_given (Some n) = true
 is_number_given None = false

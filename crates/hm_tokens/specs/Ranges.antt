@@ -9,6 +9,7 @@ is_the_mark m (word w) = false
 is_the_mark m (number n) = false
 is_the_mark m (mark c) = c == m
 
+-- the number of the core register that a token names, if it names one
 abbrev pub register_of : Tok → Option ℕ
 register_of (word w) = register_in w
 register_of (number n) = None
@@ -31,6 +32,7 @@ unfoldable pub rising : ℕ → ℕ → List Tok
 rising k zero = word (register_name k) ∷ []
 rising k (suc n) = word (register_name k) ∷ mark 44 ∷ rising (k + 1) n
 
+-- the registers from the first of a range to its last, with commas between; nothing where one of the two is not given
 abbrev pub range_tokens : Option ℕ → Option ℕ → List Tok
 range_tokens (Some k) (Some j) = rising k (j - k)
 range_tokens (Some k) None = []

@@ -7,11 +7,13 @@ use Rattle.hm_tokens.specs.declared.text.InstrText.{InstrText}
 use Rattle.hm_tokens.specs.Marks.{mark_byte}
 use Rattle.hm_tokens.specs.Tokens.{Tok, word, number, mark}
 
+-- the token that a part of an operand is printed as
 abbrev pub part_token : Part → Tok
 part_token (parts.Word w) = word w.now
 part_token (parts.Number n) = number n
 part_token (parts.Mark m) = mark (mark_byte m)
 
+-- the mnemonic: a stem, letters behind it, and a suffix
 abbrev pub mnemonic_of : InstrText → List ℕ
 mnemonic_of t = t.stem.now ++ (t.letters.now ++ t.suffix.now)
 
@@ -23,13 +25,16 @@ text_tokens t = word (mnemonic_of t) ∷ map part_token t.operands.items
 abbrev pub behind : List ℕ → List ℕ → Option (List ℕ)
 behind piece name = if starts_with nat_eq name piece then Some (drop (length piece) name) else None
 
+-- whether the rest of a word is there and is this piece
 abbrev pub is_last : List ℕ → Option (List ℕ) → Bool
 is_last piece (Some rest) = bytes_eq rest piece
 is_last piece None = false
 
+-- whether the rest of a word is there and is the pieces b and c, one behind the other
 abbrev pub is_rest : List ℕ → List ℕ → Option (List ℕ) → Bool
 is_rest b c (Some rest) = is_last c (behind b rest)
 is_rest b c None = false
 
+-- whether a word is the pieces a, b and c, one behind another
 abbrev pub is_pieces : List ℕ → List ℕ → List ℕ → List ℕ → Bool
 is_pieces a b c name = is_rest b c (behind a name)

@@ -12,15 +12,18 @@ pub data Tok : Type 0 where
   number : ℕ → Tok
   mark : ℕ → Tok
 
+-- a token of the program, as a token of these definitions
 abbrev pub tok : Token → Tok
 tok (tokens.Word w) = word w.now
 tok (tokens.Number n) = number n
 tok (tokens.Mark m) = mark (mark_byte m)
 
 -- BYTES
+-- whether a byte is one of 0 to 9
 abbrev pub is_digit : ℕ → Bool
 is_digit c = nat_le 48 c && nat_le c 57
 
+-- whether a byte is of a class: those of words, of decimal or of hexadecimal numbers, or the space
 abbrev pub is_in : Class → ℕ → Bool
 is_in classes.Word c = (nat_le 97 c && nat_le c 122) || (is_digit c || ((c == 95) || (c == 46)))
 is_in classes.Decimal c = is_digit c
@@ -37,6 +40,7 @@ abbrev pub skip : List ℕ → List ℕ
 skip text = (run classes.Space text).1
 
 -- NUMBERS
+-- the number that a digit stands for, up to 15
 abbrev pub digit : ℕ → ℕ
 digit c = if nat_le 97 c then c - 97 + 10 else c - 48
 
@@ -50,9 +54,11 @@ abbrev pub is_hex : List ℕ → Bool
 is_hex text = nat_lt 2 (length text) && ((slice_index text 0 == 48) && ((slice_index text 1 == 120) && is_in classes.Hex (slice_index text 2)))
 
 -- TOKENS
+-- the number that digits of this base write, and what stands behind them
 abbrev pub number_token : ℕ → List ℕ × List ℕ → Option (Tok × List ℕ)
 number_token base s = Some (number (value base 0 s.0), s.1)
 
+-- the word of these bytes, and what stands behind it
 abbrev pub word_token : List ℕ × List ℕ → Option (Tok × List ℕ)
 word_token s = Some (word s.0, s.1)
 

@@ -3,6 +3,7 @@ use Rattle.std.specs.Prelude.{Bool, true, false}
 use Rattle.hm_isa.specs.declared.Vector.{Vector}
 use Rattle.hm_isa.specs.declared.Vector.TheVariants.{V24, V25}
 
+-- V24 and V25: whether a row is of this family (VLDRB, VLDRH, VLDRW, VSTRB, VSTRH and VSTRW of elements one after another)
 abbrev pub is_straight : Vector → Bool
 is_straight (V24 i) = true
 is_straight (V25 i) = true

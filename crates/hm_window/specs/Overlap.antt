@@ -16,6 +16,7 @@ use Rattle.hm_window.specs.declared.rule.Rule.TheVariants.{NotVector, Order, Reg
 abbrev pub is_too_early : ℕ → ℕ → Bool
 is_too_early a b = nat_lt a 2 || not (nat_lt b 2)
 
+-- the rule of overlap that is broken where two beats meet: on a place, or on a byte of memory
 abbrev pub rule_of_clash : Clash → Rule
 rule_of_clash (clash.Register p) = Register p
 rule_of_clash (clash.Memory addr) = Memory addr
@@ -36,10 +37,12 @@ first_rule None younger a b s = Some NotVector
 abbrev pub rule_of_stop : Stop → Option Rule
 rule_of_stop e = cond (is_tainted e) None (Some YoungerFault)
 
+-- the last rule, by what the younger beat comes to: a beat that is done breaks none
 abbrev pub rule_of_end : {A : Type 0} → Result A Stop → Option Rule
 rule_of_end (Ok x) = None
 rule_of_end (Err e) = rule_of_stop e
 
+-- the last rule, of beat b of the younger row in a state; what is no vector row has no beats
 abbrev pub beat_rule : Option (ℕ → Tree) → ℕ → State → Option Rule
 beat_rule (Some younger) b s = rule_of_end ((action cells (younger b)).run s)
 beat_rule None b s = None
