@@ -328,6 +328,8 @@ impl Machine {
         ensures outcome { self.new.outcome ≡ Some result }
         ensures ended { IsSome self.old.outcome → self.new ≡ self.old }
         ensures turns { self.new.ticks ≤ self.old.ticks + length self.old.left }
+        // Under a schedule without lines, whose ticks were given one by one, the ticks are out.
+        ensures out { self.old.outcome ≡ None → length self.old.schedule.lines ≡ 0 → self.new ≡ record self.old { outcome = Some Outcome.OutOfTicks } }
         ensures fixed { fixed_of self.new ≡ fixed_of self.old }
         // Under a plain schedule the report is that of the instructions in order; of a fault the first line.
         ensures plain { (image : List Segment) (n t : ℕ) (listing : Listing) → IsListing (flash_byte image) listing → Shows image (plain n) t self.old
