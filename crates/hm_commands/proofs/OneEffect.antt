@@ -25,12 +25,12 @@ use Rattle.hm_sched.specs.declared.errors.SchedErr.{SchedErr}
 use Rattle.hm_soak_laws.proofs.Line.{one_line}
 use Rattle.std.specs.Prelude.{[], get_or}
 use Rattle.hm_asm.proofs.Outcomes.{one_outcome as one_assembled}
-use Rattle.hm_commands.specs.Commands.{ComesTo, IsAnswers, IsAsmOutcome, IsCompared, IsCompiledFile, IsDebugOutcome, IsDisOutcome, IsJournalOutcome, IsReplay, IsReplayOutcome, IsScriptRead, IsSoakOutcome, OfRun, UnlessRefused, asm_outcome, compared, last_read}
+use Rattle.hm_commands.specs.Commands.{ComesTo, IsAnswers, IsAsmOutcome, IsChecked, IsCheckedText, IsCompared, IsCompiledFile, IsDebugOutcome, IsDisOutcome, IsJournalOutcome, IsMigrateOutcome, IsReplayOutcome, IsScriptRead, IsSoakOutcome, OfRun, UnlessRefused, asm_outcome, compared, journal_written, last_read, tick_outcome}
 use Rattle.hm_commands.specs.Effect.{Effect, Reading, whole, too_large, missing, reading_of, reads_for, effect_for, IsEffect, IsEffectAfter}
 use Rattle.hm_commands.specs.Run.{reset_refusal, schedule_in}
 use Rattle.hm_commands.specs.Work.{Outcome, finishes}
 use Rattle.hm_commands.specs.declared.work.Refusal.{Refusal}
-use Rattle.hm_words.specs.Words.{Form, run, seq, dis, asm, soak, debug, journal, replay, plan, hex, kernel, form_of}
+use Rattle.hm_words.specs.Words.{Form, run, seq, dis, asm, soak, debug, journal, replay, migrate, plan, hex, kernel, form_of}
 
 one_dis : (image : Result (List Segment) ImageErr) (lo hi : ℕ) (o p : Outcome) → IsDisOutcome image lo hi o → IsDisOutcome image lo hi p → o ≡ p
 one_dis (Err e) lo hi o p x y = x ∙ sym y
@@ -69,16 +69,16 @@ one_debug : (listings : List Segment → Listing) (text : List ℕ) (image : Lis
 one_debug listings text image s o p x y =
     one_answers listings image s y.0 o p (subst (λ (r : Result (List Command) ScriptErr). IsAnswers listings image s r o) (one_read text x.0 y.0 x.1 y.1) x.2) y.2
 
-one_compared : (listings : List Segment → Listing) (image : List Segment) (s : Sched) (tick : ℕ) (j : Journaled) (o p : Outcome) → IsCompared listings image s tick j o → IsCompared listings image s tick j p → o ≡ p
-one_compared listings image s tick j o p x y = x.2 ∙ ap (compared listings image s tick) (one_comparison (listings image) image s j.checkpoints x.0 y.0 x.1 y.1) ∙ sym y.2
+one_compared : (listings : List Segment → Listing) (image : List Segment) (s : Sched) (next : Outcome) (j : Journaled) (o p : Outcome) → IsCompared listings image s next j o → IsCompared listings image s next j p → o ≡ p
+one_compared listings image s next j o p x y = x.2 ∙ ap (compared next) (one_comparison (listings image) image s j.format j.checkpoints x.0 y.0 x.1 y.1) ∙ sym y.2
 
-one_checked : (listings : List Segment → Listing) (image : List Segment) (s : Sched) (tick : ℕ) (read : Result Journaled JournalErr) (o p : Outcome) → IsReplay listings image s tick read o → IsReplay listings image s tick read p → o ≡ p
-one_checked listings image s tick (Err e) o p x y = x ∙ sym y
-one_checked listings image s tick (Ok j) o p x y = one_unless (reset_refusal image) (IsCompared listings image s tick j) o p (one_compared listings image s tick j o p) x y
+one_checked : (listings : List Segment → Listing) (image : List Segment) (s : Sched) (next : Journaled → Outcome) (read : Result Journaled JournalErr) (o p : Outcome) → IsChecked listings image s next read o → IsChecked listings image s next read p → o ≡ p
+one_checked listings image s next (Err e) o p x y = x ∙ sym y
+one_checked listings image s next (Ok j) o p x y = one_unless (reset_refusal image) (IsCompared listings image s (next j) j) o p (one_compared listings image s (next j) j o p) x y
 
-one_replay : (listings : List Segment → Listing) (text : List ℕ) (tick : ℕ) (image : List Segment) (s : Sched) (o p : Outcome) → IsReplayOutcome listings text tick image s o → IsReplayOutcome listings text tick image s p → o ≡ p
-one_replay listings text tick image s o p x y =
-    one_checked listings image s tick y.0 o p (subst (λ (r : Result Journaled JournalErr). IsReplay listings image s tick r o) (one_journal text x.0 y.0 x.1 y.1) x.2) y.2
+one_text : (listings : List Segment → Listing) (text : List ℕ) (image : List Segment) (s : Sched) (next : Journaled → Outcome) (o p : Outcome) → IsCheckedText listings text image s next o → IsCheckedText listings text image s next p → o ≡ p
+one_text listings text image s next o p x y =
+    one_checked listings image s next y.0 o p (subst (λ (r : Result Journaled JournalErr). IsChecked listings image s next r o) (one_journal text x.0 y.0 x.1 y.1) x.2) y.2
 
 -- the form is of no text of the array language
 abbrev IsNoKernel : Form → Type 0
@@ -95,7 +95,10 @@ one_outcome listings (debug image schedule script) contents o p apart x y =
 one_outcome listings (journal image schedule every out) contents o p apart x y =
     one_of_run (image_of (get_or contents 0 [])) (schedule_in schedule (get_or contents 1 [])) (IsJournalOutcome listings every out) o p (λ i s u v. u ∙ sym v) x y
 one_outcome listings (replay image schedule text tick) contents o p apart x y =
-    one_of_run (image_of (get_or contents 0 [])) (schedule_in schedule (get_or contents 1 [])) (IsReplayOutcome listings (last_read schedule contents) tick) o p (λ i s u v. one_replay listings (last_read schedule contents) tick i s o p u v) x y
+    one_of_run (image_of (get_or contents 0 [])) (schedule_in schedule (get_or contents 1 [])) (IsReplayOutcome listings (last_read schedule contents) tick) o p (λ i s u v. one_text listings (last_read schedule contents) i s (λ j. tick_outcome listings i s tick) o p u v) x y
+one_outcome listings (migrate image schedule text out) contents o p apart x y =
+    one_of_run (image_of (get_or contents 0 [])) (schedule_in schedule (get_or contents 1 [])) (IsMigrateOutcome listings (last_read schedule contents) out) o p
+    (λ i s u v. one_text listings (last_read schedule contents) i s (λ j. journal_written listings j.every out i s) o p u v) x y
 one_outcome listings (plan image n out) contents o p apart x y = x ∙ sym y
 one_outcome listings (hex image out) contents o p apart x y = x ∙ sym y
 one_outcome listings (kernel source out) contents o p apart x y = absurd (apart source out refl)
@@ -135,6 +138,7 @@ kernel_or_not (soak number) = inr (λ source out is. absurd cc)
 kernel_or_not (debug image schedule script) = inr (λ source out is. absurd cc)
 kernel_or_not (journal image schedule every out) = inr (λ source out is. absurd cc)
 kernel_or_not (replay image schedule text tick) = inr (λ source out is. absurd cc)
+kernel_or_not (migrate image schedule text out) = inr (λ source out is. absurd cc)
 kernel_or_not (plan image n out) = inr (λ source out is. absurd cc)
 kernel_or_not (hex image out) = inr (λ source out is. absurd cc)
 kernel_or_not (kernel source out) = inl (source, out, refl)

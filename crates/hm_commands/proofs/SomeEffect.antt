@@ -30,11 +30,11 @@ use Rattle.hm_soak_laws.proofs.Line.{some_line}
 use Rattle.hm_asm.proofs.Exists.{some_outcome as some_assembled}
 use Rattle.hm_commands.specs.declared.work.Refusal.TheVariants.{FileTooLarge, Image, Schedule, Script, Journal, Kernel}
 use Rattle.hm_commands.specs.declared.work.Refusal.{Refusal}
-use Rattle.hm_commands.specs.Commands.{ComesTo, IsAnswers, IsAsmOutcome, IsCompared, IsCompiledFile, IsDebugOutcome, IsDisOutcome, IsJournalOutcome, IsKernelOutcome, IsReplay, IsReplayOutcome, IsScriptRead, IsSoakOutcome, OfRun, UnlessRefused, asm_outcome, compared, hex_outcome, journal_outcome, last_read, plan_outcome, run_outcome, seq_outcome}
+use Rattle.hm_commands.specs.Commands.{ComesTo, IsAnswers, IsAsmOutcome, IsChecked, IsCheckedText, IsCompared, IsCompiledFile, IsDebugOutcome, IsDisOutcome, IsJournalOutcome, IsKernelOutcome, IsMigrateOutcome, IsReplayOutcome, IsScriptRead, IsSoakOutcome, OfRun, UnlessRefused, asm_outcome, compared, hex_outcome, journal_outcome, journal_written, last_read, plan_outcome, run_outcome, seq_outcome, tick_outcome}
 use Rattle.hm_commands.specs.Effect.{Effect, Reading, whole, too_large, missing, after_contents, then_read, reading_of, reads_for, effect_for, no_effect, usage_effect, IsEffect, IsEffectAfter}
 use Rattle.hm_commands.specs.Run.{reset_refusal, schedule_in}
 use Rattle.hm_commands.specs.Work.{Outcome, finishes, refuses}
-use Rattle.hm_words.specs.Words.{Form, run, seq, dis, asm, soak, debug, journal, replay, plan, hex, kernel, form_of, IsRange}
+use Rattle.hm_words.specs.Words.{Form, run, seq, dis, asm, soak, debug, journal, replay, migrate, plan, hex, kernel, form_of, IsRange}
 use Rattle.hm_words.proofs.Forms.{form_of-is_dis}
 
 some_dis : (image : Result (List Segment) ImageErr) (lo hi : ℕ) → IsRange lo hi → (o : Outcome) × IsDisOutcome image lo hi o
@@ -87,19 +87,19 @@ some_debug listings text image s =
     let x = some_answers listings image s read.0 in
     (x.0, (read.0, read.1, x.1))
 
-some_compared : (listings : List Segment → Listing) (image : List Segment) (s : Sched) (tick : ℕ) (j : Journaled) → (o : Outcome) × IsCompared listings image s tick j o
-some_compared listings image s tick j =
-    let x = some_comparison (listings image) image s j.checkpoints in
-    (compared listings image s tick x.0, (x.0, x.1, refl))
+some_compared : (listings : List Segment → Listing) (image : List Segment) (s : Sched) (next : Outcome) (j : Journaled) → (o : Outcome) × IsCompared listings image s next j o
+some_compared listings image s next j =
+    let x = some_comparison (listings image) image s j.format j.checkpoints in
+    (compared next x.0, (x.0, x.1, refl))
 
-some_checked : (listings : List Segment → Listing) (image : List Segment) (s : Sched) (tick : ℕ) (read : Result Journaled JournalErr) → (o : Outcome) × IsReplay listings image s tick read o
-some_checked listings image s tick (Err e) = (refuses (Journal e), refl)
-some_checked listings image s tick (Ok j) = some_unless (reset_refusal image) (IsCompared listings image s tick j) (some_compared listings image s tick j)
+some_checked : (listings : List Segment → Listing) (image : List Segment) (s : Sched) (next : Journaled → Outcome) (read : Result Journaled JournalErr) → (o : Outcome) × IsChecked listings image s next read o
+some_checked listings image s next (Err e) = (refuses (Journal e), refl)
+some_checked listings image s next (Ok j) = some_unless (reset_refusal image) (IsCompared listings image s (next j) j) (some_compared listings image s (next j) j)
 
-some_replay : (listings : List Segment → Listing) (text : List ℕ) (tick : ℕ) (image : List Segment) (s : Sched) → (o : Outcome) × IsReplayOutcome listings text tick image s o
-some_replay listings text tick image s =
+some_text : (listings : List Segment → Listing) (text : List ℕ) (image : List Segment) (s : Sched) (next : Journaled → Outcome) → (o : Outcome) × IsCheckedText listings text image s next o
+some_text listings text image s next =
     let read = some_journal text in
-    let x = some_checked listings image s tick read.0 in
+    let x = some_checked listings image s next read.0 in
     (x.0, (read.0, read.1, x.1))
 
 -- the form is no listing but of a range
@@ -117,7 +117,10 @@ some_comes listings (debug image schedule script) contents r fits =
 some_comes listings (journal image schedule every out) contents r fits =
     some_of_run (image_of (get_or contents 0 [])) (schedule_in schedule (get_or contents 1 [])) (IsJournalOutcome listings every out) (λ i s. (journal_outcome listings every out i s, refl))
 some_comes listings (replay image schedule text tick) contents r fits =
-    some_of_run (image_of (get_or contents 0 [])) (schedule_in schedule (get_or contents 1 [])) (IsReplayOutcome listings (last_read schedule contents) tick) (some_replay listings (last_read schedule contents) tick)
+    some_of_run (image_of (get_or contents 0 [])) (schedule_in schedule (get_or contents 1 [])) (IsReplayOutcome listings (last_read schedule contents) tick) (λ i s. some_text listings (last_read schedule contents) i s (λ j. tick_outcome listings i s tick))
+some_comes listings (migrate image schedule text out) contents r fits =
+    some_of_run (image_of (get_or contents 0 [])) (schedule_in schedule (get_or contents 1 [])) (IsMigrateOutcome listings (last_read schedule contents) out)
+    (λ i s. some_text listings (last_read schedule contents) i s (λ j. journal_written listings j.every out i s))
 some_comes listings (hex image out) contents r fits = (hex_outcome (image_of (get_or contents 0 [])) out, refl)
 some_comes listings (kernel source out) contents r fits = some_kernel (get_or contents 0 []) out fits
 some_comes listings (plan image n out) contents r fits = (plan_outcome listings (image_of (get_or contents 0 [])) n out, refl)

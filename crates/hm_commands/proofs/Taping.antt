@@ -22,7 +22,7 @@ use Rattle.hm_machine.specs.declared.load.LoadErr.{LoadErr}
 use Rattle.hm_machine.specs.declared.load.LoadErr.TheVariants as load
 use Rattle.hm_sched.specs.Schedule.{Sched, ticks_of}
 use Rattle.hm_state.specs.Start.{reset_pc}
-use Rattle.hm_commands.specs.Commands.{IsCompared, IsDebugOutcome, IsJournalOutcome, IsReplayOutcome, UnlessRefused, journal_outcome, unless_refused}
+use Rattle.hm_commands.specs.Commands.{IsCheckedText, IsCompared, IsDebugOutcome, IsJournalOutcome, UnlessRefused, journal_outcome, journal_written, tick_outcome, unless_refused}
 use Rattle.hm_commands.specs.Run.{load_stop, reset_refusal}
 use Rattle.hm_commands.specs.Work.{Outcome, GivesOne, finishes, journal_stop, refuses, script_stop}
 use Rattle.hm_commands.specs.declared.work.Finish.{Finish}
@@ -75,7 +75,7 @@ script_answered listings text image s out odd h = (
 
 -- ---- journals
 
--- the outcome of a journal, where the reset address is odd
+-- the outcome of a journal, by whether it would have too many checkpoints
 abbrev journal_at : (List Segment → Listing) → ℕ → List ℕ → List Segment → Sched → Bool → Outcome
 journal_at listings every out image s many = if many then refuses (Journal journal.TooMany) else finishes true (Some (out, journal_text (journal_of (listings image) image s every))) None
 
@@ -110,35 +110,42 @@ written_by_error image o load.OutOfMemory h = tt
 pub not_loaded : (image : List Segment) (o : Outcome) (e : LoadErr) (stop : Stop) → LoadRefuses image e → stop ≡ load_stop e → GivesOne (λ x. x ≡ unless_refused (reset_refusal image) o) (Err stop)
 not_loaded image o e stop h is = subst (λ (x : Stop). GivesOne (λ y. y ≡ unless_refused (reset_refusal image) o) (Err x)) (sym is) (written_by_error image o e h)
 
-pub journal_written : (listings : List Segment → Listing) (every : ℕ) (out : List ℕ) (image : List Segment) (s : Sched) (bytes : List ℕ) → reset_pc image % 2 ≡ 1 → length (ticks_of s.lines) / every + 1 ≤ 64
+pub journal_comes : (listings : List Segment → Listing) (every : ℕ) (out : List ℕ) (image : List Segment) (s : Sched) (bytes : List ℕ) → reset_pc image % 2 ≡ 1 → length (ticks_of s.lines) / every + 1 ≤ 64
     → bytes ≡ journal_text (journal_of (listings image) image s every) → finishes true (Some (out, bytes)) None ≡ journal_outcome listings every out image s
-journal_written listings every out image s bytes odd few is =
+journal_comes listings every out image s bytes odd few is =
     ap (λ (b : List ℕ). finishes true (Some (out, b)) None) is ∙ sym (journal_odd listings every out image s false odd (few_test (length (ticks_of s.lines) / every + 1) few))
 
 -- ---- journals that are checked
 
-journal_no_reading : (listings : List Segment → Listing) (text : List ℕ) (tick : ℕ) (image : List Segment) (s : Sched) (e : JournalErr) → IsReadErr text e → GivesOne (IsReplayOutcome listings text tick image s) (Err (journal_stop e))
-journal_no_reading listings text tick image s journal.OutOfMemory h = tt
-journal_no_reading listings text tick image s e h = (Err e, h, refl)
+text_by_error : (listings : List Segment → Listing) (text : List ℕ) (image : List Segment) (s : Sched) (next : Journaled → Outcome) (e : JournalErr) → IsReadErr text e → GivesOne (IsCheckedText listings text image s next) (Err (journal_stop e))
+text_by_error listings text image s next journal.OutOfMemory h = tt
+text_by_error listings text image s next e h = (Err e, h, refl)
 
-pub journal_not_read : (listings : List Segment → Listing) (text : List ℕ) (tick : ℕ) (image : List Segment) (s : Sched) (e : JournalErr) (stop : Stop) → IsReadErr text e → stop ≡ journal_stop e → GivesOne (IsReplayOutcome listings text tick image s) (Err stop)
-journal_not_read listings text tick image s e stop h is = subst (λ (x : Stop). GivesOne (IsReplayOutcome listings text tick image s) (Err x)) (sym is) (journal_no_reading listings text tick image s e h)
+pub journal_not_read : (listings : List Segment → Listing) (text : List ℕ) (image : List Segment) (s : Sched) (next : Journaled → Outcome) (e : JournalErr) (stop : Stop) → IsReadErr text e → stop ≡ journal_stop e
+    → GivesOne (IsCheckedText listings text image s next) (Err stop)
+journal_not_read listings text image s next e stop h is = subst (λ (x : Stop). GivesOne (IsCheckedText listings text image s next) (Err x)) (sym is) (text_by_error listings text image s next e h)
 
 -- a journal that was read, and what checking it comes to
-pub journal_checked : (listings : List Segment → Listing) (text : List ℕ) (tick : ℕ) (image : List Segment) (s : Sched) (j : Journaled) (answer : Result Finish Stop) → IsReading text (Ok j)
-    → GivesOne (UnlessRefused (reset_refusal image) (IsCompared listings image s tick j)) answer → GivesOne (IsReplayOutcome listings text tick image s) answer
-journal_checked listings text tick image s j (Ok finish) read h = (Ok j, read, h)
-journal_checked listings text tick image s j (Err (Refused why)) read h = (Ok j, read, h)
-journal_checked listings text tick image s j (Err NoMemory) read h = tt
+pub journal_checked : (listings : List Segment → Listing) (text : List ℕ) (image : List Segment) (s : Sched) (next : Journaled → Outcome) (j : Journaled) (answer : Result Finish Stop) → IsReading text (Ok j)
+    → GivesOne (UnlessRefused (reset_refusal image) (IsCompared listings image s (next j) j)) answer → GivesOne (IsCheckedText listings text image s next) answer
+journal_checked listings text image s next j (Ok finish) read h = (Ok j, read, h)
+journal_checked listings text image s next j (Err (Refused why)) read h = (Ok j, read, h)
+journal_checked listings text image s next j (Err NoMemory) read h = tt
 
-compared_by_error : (listings : List Segment → Listing) (image : List Segment) (s : Sched) (tick : ℕ) (j : Journaled) (e : JournalErr) → IsCompareErr (listings image) image s j.checkpoints e → GivesOne (IsCompared listings image s tick j) (Err (journal_stop e))
-compared_by_error listings image s tick j journal.OutOfMemory h = tt
-compared_by_error listings image s tick j e h = (Err e, h, refl)
+compared_by_error : (listings : List Segment → Listing) (image : List Segment) (s : Sched) (next : Outcome) (j : Journaled) (e : JournalErr) → IsCompareErr (listings image) image s j.format j.checkpoints e
+    → GivesOne (IsCompared listings image s next j) (Err (journal_stop e))
+compared_by_error listings image s next j journal.OutOfMemory h = tt
+compared_by_error listings image s next j e h = (Err e, h, refl)
 
-pub journal_differs : (listings : List Segment → Listing) (image : List Segment) (s : Sched) (tick : ℕ) (j : Journaled) (e : JournalErr) (stop : Stop) → reset_pc image % 2 ≡ 1 → IsCompareErr (listings image) image s j.checkpoints e → stop ≡ journal_stop e
-    → GivesOne (UnlessRefused (reset_refusal image) (IsCompared listings image s tick j)) (Err stop)
-journal_differs listings image s tick j e stop odd h is =
-    load_goes_on image (IsCompared listings image s tick j) (Err stop) odd (subst (λ (x : Stop). GivesOne (IsCompared listings image s tick j) (Err x)) (sym is) (compared_by_error listings image s tick j e h))
+pub journal_differs : (listings : List Segment → Listing) (image : List Segment) (s : Sched) (next : Outcome) (j : Journaled) (e : JournalErr) (stop : Stop) → reset_pc image % 2 ≡ 1
+    → IsCompareErr (listings image) image s j.format j.checkpoints e → stop ≡ journal_stop e → GivesOne (UnlessRefused (reset_refusal image) (IsCompared listings image s next j)) (Err stop)
+journal_differs listings image s next j e stop odd h is =
+    load_goes_on image (IsCompared listings image s next j) (Err stop) odd (subst (λ (x : Stop). GivesOne (IsCompared listings image s next j) (Err x)) (sym is) (compared_by_error listings image s next j e h))
+
+-- what comes next of a journal that is the run's
+next_comes : (listings : List Segment → Listing) (image : List Segment) (s : Sched) (next : Outcome) (j : Journaled) (o : Outcome) → reset_pc image % 2 ≡ 1 → AreOfRun (listings image) image s j.format j.checkpoints → o ≡ next
+    → UnlessRefused (reset_refusal image) (IsCompared listings image s next j) o
+next_comes listings image s next j o odd same is = unless_odd image (IsCompared listings image s next j) o odd (Ok tt, same, is)
 
 past_test : (tick last : ℕ) → last < tick → nat_le tick last ≡ false
 past_test tick last h = grind (arith, nat_tests)
@@ -150,14 +157,37 @@ begun_test tick last h = grind (arith, nat_tests)
 abbrev at_tick : (List Segment → Listing) → List Segment → Sched → ℕ → Bool → Outcome
 at_tick listings image s tick begun = if begun then finishes true None (Some (report_at (listings image) image s tick)) else refuses (Past (run_out (listings image) image s).ticks)
 
-pub tick_past : (listings : List Segment → Listing) (image : List Segment) (s : Sched) (tick last : ℕ) (j : Journaled) → reset_pc image % 2 ≡ 1 → AreOfRun (listings image) image s j.checkpoints → (run_out (listings image) image s).ticks ≡ last → last < tick
-    → UnlessRefused (reset_refusal image) (IsCompared listings image s tick j) (refuses (Past last))
+pub tick_past : (listings : List Segment → Listing) (image : List Segment) (s : Sched) (tick last : ℕ) (j : Journaled) → reset_pc image % 2 ≡ 1 → AreOfRun (listings image) image s j.format j.checkpoints
+    → (run_out (listings image) image s).ticks ≡ last → last < tick → UnlessRefused (reset_refusal image) (IsCompared listings image s (tick_outcome listings image s tick) j) (refuses (Past last))
 tick_past listings image s tick last j odd same is past =
     let test : nat_le tick (run_out (listings image) image s).ticks ≡ false = ap (nat_le tick) is ∙ past_test tick last past in
-    unless_odd image (IsCompared listings image s tick j) (refuses (Past last)) odd (Ok tt, same, ap (λ (k : ℕ). refuses (Past k)) (sym is) ∙ sym (ap (at_tick listings image s tick) test))
+    next_comes listings image s (tick_outcome listings image s tick) j (refuses (Past last)) odd same (ap (λ (k : ℕ). refuses (Past k)) (sym is) ∙ sym (ap (at_tick listings image s tick) test))
 
-pub tick_shown : (listings : List Segment → Listing) (image : List Segment) (s : Sched) (tick last : ℕ) (j : Journaled) (text : List ℕ) → reset_pc image % 2 ≡ 1 → AreOfRun (listings image) image s j.checkpoints → (run_out (listings image) image s).ticks ≡ last → tick ≤ last
-    → text ≡ report_at (listings image) image s tick → UnlessRefused (reset_refusal image) (IsCompared listings image s tick j) (finishes true None (Some text))
+pub tick_shown : (listings : List Segment → Listing) (image : List Segment) (s : Sched) (tick last : ℕ) (j : Journaled) (text : List ℕ) → reset_pc image % 2 ≡ 1 → AreOfRun (listings image) image s j.format j.checkpoints
+    → (run_out (listings image) image s).ticks ≡ last → tick ≤ last → text ≡ report_at (listings image) image s tick
+    → UnlessRefused (reset_refusal image) (IsCompared listings image s (tick_outcome listings image s tick) j) (finishes true None (Some text))
 tick_shown listings image s tick last j text odd same is begun report =
     let test : nat_le tick (run_out (listings image) image s).ticks ≡ true = ap (nat_le tick) is ∙ begun_test tick last begun in
-    unless_odd image (IsCompared listings image s tick j) (finishes true None (Some text)) odd (Ok tt, same, ap (λ (t : List ℕ). finishes true None (Some t)) report ∙ sym (ap (at_tick listings image s tick) test))
+    next_comes listings image s (tick_outcome listings image s tick) j (finishes true None (Some text)) odd same (ap (λ (t : List ℕ). finishes true None (Some t)) report ∙ sym (ap (at_tick listings image s tick) test))
+
+-- ---- journals that are written again
+
+again_by_error : (listings : List Segment → Listing) (image : List Segment) (s : Sched) (every : ℕ) (out : List ℕ) (j : Journaled) (e : JournalErr) → AreOfRun (listings image) image s j.format j.checkpoints → IsWriteErr s every e
+    → GivesOne (IsCompared listings image s (journal_written listings every out image s) j) (Err (journal_stop e))
+again_by_error listings image s every out j journal.TooMany same h = (Ok tt, same, sym (ap (journal_at listings every out image s) (too_many_test (length (ticks_of s.lines) / every + 1) h)))
+again_by_error listings image s every out j journal.OutOfMemory same h = tt
+again_by_error listings image s every out j e same h = absurd h
+
+pub again_refused : (listings : List Segment → Listing) (image : List Segment) (s : Sched) (every : ℕ) (out : List ℕ) (j : Journaled) (e : JournalErr) (stop : Stop) → reset_pc image % 2 ≡ 1
+    → AreOfRun (listings image) image s j.format j.checkpoints → IsWriteErr s every e → stop ≡ journal_stop e
+    → GivesOne (UnlessRefused (reset_refusal image) (IsCompared listings image s (journal_written listings every out image s) j)) (Err stop)
+again_refused listings image s every out j e stop odd same h is =
+    let Is = IsCompared listings image s (journal_written listings every out image s) j in
+    load_goes_on image Is (Err stop) odd (subst (λ (x : Stop). GivesOne Is (Err x)) (sym is) (again_by_error listings image s every out j e same h))
+
+pub again_written : (listings : List Segment → Listing) (image : List Segment) (s : Sched) (every : ℕ) (out : List ℕ) (j : Journaled) (bytes : List ℕ) → reset_pc image % 2 ≡ 1 → AreOfRun (listings image) image s j.format j.checkpoints
+    → length (ticks_of s.lines) / every + 1 ≤ 64 → bytes ≡ journal_text (journal_of (listings image) image s every)
+    → UnlessRefused (reset_refusal image) (IsCompared listings image s (journal_written listings every out image s) j) (finishes true (Some (out, bytes)) None)
+again_written listings image s every out j bytes odd same few is =
+    next_comes listings image s (journal_written listings every out image s) j (finishes true (Some (out, bytes)) None) odd same
+    (ap (λ (b : List ℕ). finishes true (Some (out, b)) None) is ∙ sym (ap (journal_at listings every out image s) (few_test (length (ticks_of s.lines) / every + 1) few)))

@@ -33,7 +33,7 @@ use Rattle.hm_sched.specs.Printed.{file_text}
 use Rattle.hm_sched.specs.Schedule.{Sched, plain, ticks_of}
 use Rattle.hm_sched.specs.declared.errors.SchedErr.{SchedErr}
 use Rattle.hm_soak_laws.specs.Summary.{IsSoakLine}
-use Rattle.hm_words.specs.Words.{Form, Source as Held, ticks, file, run, seq, dis, asm, soak, debug, journal, replay, plan, hex, kernel}
+use Rattle.hm_words.specs.Words.{Form, Source as Held, ticks, file, run, seq, dis, asm, soak, debug, journal, replay, migrate, plan, hex, kernel}
 use Rattle.hm_commands.specs.declared.work.Refusal.{Refusal}
 use Rattle.hm_commands.specs.declared.work.Refusal.TheVariants.{Image, Schedule, Source, Script, Journal, Kernel, Past}
 use Rattle.hm_commands.specs.Run.{is_halted, reset_refusal, schedule_in, short_report}
@@ -112,10 +112,14 @@ IsAnswers listings image s (Ok commands) = UnlessRefused (reset_refusal image) (
 abbrev pub IsDebugOutcome : (List Segment → Listing) → List ℕ → List Segment → Sched → Outcome → Type 0
 IsDebugOutcome listings text image s = λ o. (read : Result (List Command) ScriptErr) × IsScriptRead text read × IsAnswers listings image s read o
 
--- the journal of a run, which is written, unless it would have too many checkpoints
+-- the journal of a run is written, unless it would have too many checkpoints
+abbrev pub journal_written : (List Segment → Listing) → ℕ → List ℕ → List Segment → Sched → Outcome
+journal_written listings every out image s =
+    if nat_lt 64 (length (ticks_of s.lines) / every + 1) then refuses (Journal journal_err.TooMany) else finishes true (Some (out, journal_text (journal_of (listings image) image s every))) None
+
+-- the same of an image, unless it is refused by its reset address
 abbrev pub journal_outcome : (List Segment → Listing) → ℕ → List ℕ → List Segment → Sched → Outcome
-journal_outcome listings every out image s = unless_refused (reset_refusal image)
-    (if nat_lt 64 (length (ticks_of s.lines) / every + 1) then refuses (Journal journal_err.TooMany) else finishes true (Some (out, journal_text (journal_of (listings image) image s every))) None)
+journal_outcome listings every out image s = unless_refused (reset_refusal image) (journal_written listings every out image s)
 
 -- the journal of a run, and nothing else
 abbrev pub IsJournalOutcome : (List Segment → Listing) → ℕ → List ℕ → List Segment → Sched → Outcome → Type 0
@@ -126,23 +130,31 @@ abbrev pub tick_outcome : (List Segment → Listing) → List Segment → Sched 
 tick_outcome listings image s tick =
     if nat_le tick (run_out (listings image) image s).ticks then finishes true None (Some (report_at (listings image) image s tick)) else refuses (Past (run_out (listings image) image s).ticks)
 
--- what comes of a comparison of a journal with a run
-abbrev pub compared : (List Segment → Listing) → List Segment → Sched → ℕ → Result Unit JournalErr → Outcome
-compared listings image s tick (Ok same) = tick_outcome listings image s tick
-compared listings image s tick (Err e) = refuses (Journal e)
+-- what comes of a comparison of a journal with a run: this, where the journal is the run's
+abbrev pub compared : Outcome → Result Unit JournalErr → Outcome
+compared next (Ok same) = next
+compared next (Err e) = refuses (Journal e)
 
--- a journal that was read is compared with a run
-abbrev pub IsCompared : (List Segment → Listing) → List Segment → Sched → ℕ → Journaled → Outcome → Type 0
-IsCompared listings image s tick j = λ o. (r : Result Unit JournalErr) × IsComparison (listings image) image s j.checkpoints r × (o ≡ compared listings image s tick r)
+-- a journal that was read is compared with a run, and this comes next where it is the run's
+abbrev pub IsCompared : (List Segment → Listing) → List Segment → Sched → Outcome → Journaled → Outcome → Type 0
+IsCompared listings image s next j = λ o. (r : Result Unit JournalErr) × IsComparison (listings image) image s j.format j.checkpoints r × (o ≡ compared next r)
 
 -- a journal, as it was read, is checked against a run of an image whose reset address is odd
-abbrev pub IsReplay : (List Segment → Listing) → List Segment → Sched → ℕ → Result Journaled JournalErr → Outcome → Type 0
-IsReplay listings image s tick (Err e) = λ o. o ≡ refuses (Journal e)
-IsReplay listings image s tick (Ok j) = UnlessRefused (reset_refusal image) (IsCompared listings image s tick j)
+abbrev pub IsChecked : (List Segment → Listing) → List Segment → Sched → (Journaled → Outcome) → Result Journaled JournalErr → Outcome → Type 0
+IsChecked listings image s next (Err e) = λ o. o ≡ refuses (Journal e)
+IsChecked listings image s next (Ok j) = UnlessRefused (reset_refusal image) (IsCompared listings image s (next j) j)
+
+-- the journal that a text says is checked against a run, and what comes next goes by that journal
+abbrev pub IsCheckedText : (List Segment → Listing) → List ℕ → List Segment → Sched → (Journaled → Outcome) → Outcome → Type 0
+IsCheckedText listings text image s next = λ o. (read : Result Journaled JournalErr) × IsJournalRead text read × IsChecked listings image s next read o
 
 -- a journal is checked against a run, and the report at a tick is printed
 abbrev pub IsReplayOutcome : (List Segment → Listing) → List ℕ → ℕ → List Segment → Sched → Outcome → Type 0
-IsReplayOutcome listings text tick image s = λ o. (read : Result Journaled JournalErr) × IsJournalRead text read × IsReplay listings image s tick read o
+IsReplayOutcome listings text tick image s = IsCheckedText listings text image s (λ j. tick_outcome listings image s tick)
+
+-- a journal is checked against a run, and the run's journal with the same distance of checkpoints is written, in the format of today
+abbrev pub IsMigrateOutcome : (List Segment → Listing) → List ℕ → List ℕ → List Segment → Sched → Outcome → Type 0
+IsMigrateOutcome listings text out image s = IsCheckedText listings text image s (λ j. journal_written listings j.every out image s)
 
 -- the dense schedule of n instructions of an image, which is written
 abbrev pub plan_outcome : (List Segment → Listing) → Result (List Segment) ImageErr → ℕ → List ℕ → Outcome
@@ -184,6 +196,8 @@ ComesTo listings (journal image schedule every out) contents =
     OfRun (image_of (get_or contents 0 [])) (schedule_in schedule (get_or contents 1 [])) (IsJournalOutcome listings every out)
 ComesTo listings (replay image schedule text tick) contents =
     OfRun (image_of (get_or contents 0 [])) (schedule_in schedule (get_or contents 1 [])) (IsReplayOutcome listings (last_read schedule contents) tick)
+ComesTo listings (migrate image schedule text out) contents =
+    OfRun (image_of (get_or contents 0 [])) (schedule_in schedule (get_or contents 1 [])) (IsMigrateOutcome listings (last_read schedule contents) out)
 ComesTo listings (plan image n out) contents = λ o. o ≡ plan_outcome listings (image_of (get_or contents 0 [])) n out
 ComesTo listings (kernel source out) contents = IsKernelOutcome (get_or contents 0 []) out
 ComesTo listings (hex image out) contents = λ o. o ≡ hex_outcome (image_of (get_or contents 0 [])) out

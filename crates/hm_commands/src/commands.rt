@@ -14,7 +14,7 @@ ghost use Rattle.hm_commands.specs.Commands.{AreListings, ComesTo, IsAsmOutcome,
 
 use crate::images::read_any;
 use crate::machine::{is_halted, run_to_end, short_report};
-use crate::tapes::{debug, journal, read_schedule, replay};
+use crate::tapes::{debug, journal, migrate, read_schedule, replay};
 use crate::work::{Finish, Output, Stop};
 use hm_asm::{assemble, listing};
 use hm_elf::write_image;
@@ -209,6 +209,7 @@ pub fn perform<'a>(
             ..
         } => journal(alloc, schedule, *every, contents, out),
         Command::Replay { schedule, tick, .. } => replay(alloc, schedule, *tick, contents),
+        Command::Migrate { schedule, out, .. } => migrate(alloc, schedule, contents, out),
         Command::Plan { count, out, .. } => plan_to(alloc, &contents[0], *count, out),
         Command::Hex { out, .. } => hex_to(alloc, &contents[0], out),
         Command::Kernel { out, .. } => kernel(alloc, &contents[0], out),

@@ -8,7 +8,7 @@ ghost use Rattle.hm_host.specs.Host.{longest};
 ghost use Rattle.hm_sched.specs.Schedule.{Sched};
 ghost use Rattle.hm_sched.specs.ReadFile.{Gives as GivesSchedule};
 ghost use Rattle.hm_words.specs.Words.{source_meant, source_reads};
-ghost use Rattle.hm_commands.specs.Commands.{AreListings, IsCompared, IsDebugOutcome, IsJournalOutcome, IsReplayOutcome, OfRun, UnlessRefused, last_read};
+ghost use Rattle.hm_commands.specs.Commands.{AreListings, IsCompared, IsDebugOutcome, IsJournalOutcome, IsMigrateOutcome, IsReplayOutcome, OfRun, UnlessRefused, journal_written, last_read, tick_outcome};
 ghost use Rattle.hm_commands.specs.RunInputs.{GivesRun};
 ghost use Rattle.hm_commands.specs.Run.{reset_refusal, schedule_in};
 ghost use Rattle.hm_commands.specs.Work.{GivesOne};
@@ -141,7 +141,7 @@ fn check<'a>(
     journal: &Journal,
     tick: Ticks,
 ) -> Result<Finish<'a>, Stop>
-    ensures outcome { (listings : List Segment → Listing) → AreListings listings → GivesOne (UnlessRefused (reset_refusal input.image) (IsCompared listings input.image input.schedule tick.count journal.now)) result }
+    ensures outcome { (listings : List Segment → Listing) → AreListings listings → GivesOne (UnlessRefused (reset_refusal input.image) (IsCompared listings input.image input.schedule (tick_outcome listings input.image input.schedule tick.count) journal.now)) result }
 {
     let RunInput { image, schedule } = input;
     let mut tape = Tape::new(alloc, &image, schedule)?;
@@ -170,4 +170,41 @@ pub fn replay<'a>(
     let input = read_run(alloc, schedule, contents)?;
     let journal = read_journal(alloc, last_of(schedule, contents))?;
     check(alloc, input, &journal, tick)
+}
+
+/// Compares a journal with a run. The run's journal, with the same distance of checkpoints, is to be written.
+fn rewrite<'a>(
+    alloc: Global,
+    input: RunInput,
+    given: &Journal,
+    out: &'a str,
+) -> Result<Finish<'a>, Stop>
+    ensures outcome { (listings : List Segment → Listing) → AreListings listings → GivesOne (UnlessRefused (reset_refusal input.image) (IsCompared listings input.image input.schedule (journal_written listings given.now.every out.now input.image input.schedule) given.now)) result }
+{
+    let RunInput { image, schedule } = input;
+    let mut tape = Tape::new(alloc, &image, schedule)?;
+    compare(alloc, given, &mut tape)?;
+    let bytes = write_journal(alloc, &mut tape, given.every())?;
+    Ok(Finish {
+        done: true,
+        file: Some(Output { name: out, bytes }),
+        text: None,
+    })
+}
+
+/// Checks a journal of format 1 or 2 against a run, from the contents of the files, and writes the run's journal in format 2.
+pub fn migrate<'a>(
+    alloc: Global,
+    schedule: &Source<'_>,
+    contents: &[Vec<u8>],
+    out: &'a str,
+) -> Result<Finish<'a>, Stop>
+    requires each { length contents.now ≡ 2 + length (source_reads (source_meant schedule.now)) }
+    requires short { All (λ bytes. length bytes.items ≤ longest) contents.now }
+    ensures outcome { (listings : List Segment → Listing) → AreListings listings → let all = map (λ bytes. bytes.items) contents.now in
+        GivesOne (OfRun (image_of (get_or all 0 [])) (schedule_in (source_meant schedule.now) (get_or all 1 [])) (IsMigrateOutcome listings (last_read (source_meant schedule.now) all) out.now)) result }
+{
+    let input = read_run(alloc, schedule, contents)?;
+    let journal = read_journal(alloc, last_of(schedule, contents))?;
+    rewrite(alloc, input, &journal, out)
 }

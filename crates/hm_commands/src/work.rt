@@ -89,6 +89,7 @@ fn kind_text(kind: LineKind) -> &'static [u8]
         LineKind::Entries => b"entries",
         LineKind::Region => b"region",
         LineKind::Floor => b"floor",
+        LineKind::Process => b"process",
         LineKind::Count => b"count",
         LineKind::Steps => b"steps",
         LineKind::Irq => b"irq",

@@ -12,7 +12,7 @@ use Rattle.hm_exc.specs.declared.types.EnterErr.{EnterErr}
 use Rattle.hm_handlers.proofs.Leaving.{Leaves, scalar_leaves}
 use Rattle.hm_handlers.proofs.Soundness.{counted_sound, letters_sound, next_sound, run_sound, start_sound, step_sound}
 use Rattle.hm_handlers.specs.Nested.{Ended, Interrupted, Nested, NestedEnd, NestedStep, Offends, TickEnd, around_under, at_step, flows, handler_step, handles, letter, letters, program_under, returned, step, step_under, steps, uncounted, went, with_acts}
-use Rattle.hm_handlers.specs.Runs.{Run, after_count, begin, closed, ended, enters, enters_unless, may_enter, next, picks, run, stops, tick_of}
+use Rattle.hm_handlers.specs.Runs.{Pointers, Run, after_count, begin, closed, ended, enters, enters_unless, may_enter, next, picks, run, stops, tick_of}
 use Rattle.hm_handlers.specs.Sound.{AreStacked, IsSound, number_under}
 use Rattle.hm_isa.specs.declared.Flow.{Flow}
 use Rattle.hm_isa.specs.declared.Flow.TheVariants as flow
@@ -27,6 +27,7 @@ use Rattle.hm_rows.specs.Context.{with_context}
 use Rattle.hm_run.specs.declared.Cause.{Cause}
 use Rattle.hm_run.specs.declared.Outcome.{Outcome}
 use Rattle.hm_run.specs.Program.{Program, makes_here, steps_left, vector_of}
+use Rattle.hm_run.specs.Timed.{bounds_of}
 use Rattle.hm_sched.specs.Schedule.{Sched, TickLine, older_letter, ticks_of, younger_letter}
 use Rattle.hm_state.specs.State.{State, regs_of}
 use Rattle.hm_whole.specs.Whole.{Went, scalar_in_machine, seen_in}
@@ -187,7 +188,7 @@ module _ (listing : Listing) (s : Sched) where
   abbrev RunTells : Run → Type 0
   RunTells x = Tells x.machine.config.state x.machine.acts
 
-  stops_tell : (t k : ℕ) (younger : Bool) (e : NestedEnd) (sps : List ℕ) → NestedTells e → RunTells (stops t k younger e sps)
+  stops_tell : (t k : ℕ) (younger : Bool) (e : NestedEnd) (sps : List Pointers) → NestedTells e → RunTells (stops t k younger e sps)
   stops_tell t k younger (Ended (Stopped c e) []) sps h = h
   stops_tell t k younger (Ended (Stopped c e) (x ∷ acts)) sps h = h
   stops_tell t k younger (Ended (Broken c r) acts) sps h = h
@@ -202,7 +203,7 @@ module _ (listing : Listing) (s : Sched) where
 
   picks_tells : (x : Run) (p : Option ℕ) (q : Outcome) → x.outcome ≡ None → IsSound s x.machine → (enters s p x).outcome ≡ Some q → RunTells (enters s p x)
   picks_tells x None q none h is = running x.outcome q none is
-  picks_tells x (Some e) q none h is = enters_tells x e (entry_refusal s.floor (regs_of x.machine.config.state) (seen_in x.machine.config.state) e) q none h is
+  picks_tells x (Some e) q none h is = enters_tells x e (entry_refusal (bounds_of s) (regs_of x.machine.config.state) (seen_in x.machine.config.state) e) q none h is
 
   may_tell : (b : Bool) (x : Run) (q : Outcome) → x.outcome ≡ None → IsSound s x.machine → (cond b (enters s (picks x) x) x).outcome ≡ Some q → RunTells (cond b (enters s (picks x) x) x)
   may_tell true x q none h is = picks_tells x (picks x) q none h is

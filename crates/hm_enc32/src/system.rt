@@ -32,7 +32,9 @@ fn read_name(rest: u32) -> Option<ReadName>
         0xf3ef_8000 => Some(ReadName::Apsr),
         0xf3ef_8005 => Some(ReadName::Ipsr),
         0xf3ef_8008 => Some(ReadName::Msp),
+        0xf3ef_8009 => Some(ReadName::Psp),
         0xf3ef_8010 => Some(ReadName::Primask),
+        0xf3ef_8011 => Some(ReadName::Basepri),
         0xf3ef_8014 => Some(ReadName::Control),
         _ => None,
     }
@@ -65,7 +67,10 @@ fn written_name(rest: u32) -> Option<WrittenName>
     match rest {
         0xf380_8800 => Some(WrittenName::Apsr),
         0xf380_8808 => Some(WrittenName::Msp),
+        0xf380_8809 => Some(WrittenName::Psp),
         0xf380_8810 => Some(WrittenName::Primask),
+        0xf380_8811 => Some(WrittenName::Basepri),
+        0xf380_8814 => Some(WrittenName::Control),
         _ => None,
     }
 }
@@ -257,7 +262,9 @@ fn of_read(x: ReadName) -> u32
         ReadName::Apsr => 0xf3ef_8000,
         ReadName::Ipsr => 0xf3ef_8005,
         ReadName::Msp => 0xf3ef_8008,
+        ReadName::Psp => 0xf3ef_8009,
         ReadName::Primask => 0xf3ef_8010,
+        ReadName::Basepri => 0xf3ef_8011,
         ReadName::Control => 0xf3ef_8014,
     }
 }
@@ -275,7 +282,10 @@ fn of_written(x: WrittenName) -> u32
     match x {
         WrittenName::Apsr => 0xf380_8800,
         WrittenName::Msp => 0xf380_8808,
+        WrittenName::Psp => 0xf380_8809,
         WrittenName::Primask => 0xf380_8810,
+        WrittenName::Basepri => 0xf380_8811,
+        WrittenName::Control => 0xf380_8814,
     }
 }
 

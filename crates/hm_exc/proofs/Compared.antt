@@ -4,7 +4,7 @@ use Rattle.std.specs.Prelude.{Option, Some, None, if◌then◌else◌}
 use Rattle.std.proofs.lemmas.Bool.{eq-eqb, ne_eqb}
 use Rattle.hm_exc.specs.Frame.{frame_size}
 use Rattle.std.specs.Option.{option_or}
-use Rattle.hm_exc.specs.Return.{core_rule, differing, first_from, frame_rule, primask_rule, return_rule, stack_rule, value_rule, vector_rule}
+use Rattle.hm_exc.specs.Return.{core_rule, differing, first_from, frame_rule, mask_rule, return_rule, stack_rule, value_rule, vector_rule}
 use Rattle.hm_exc.specs.declared.types.Activation.{Activation}
 use Rattle.hm_exc.specs.declared.types.Broken.{Broken}
 use Rattle.hm_exc.specs.declared.types.Broken.TheVariants as broken
@@ -50,9 +50,9 @@ value_same value x e = ap (λ (t : Bool). if t then None else Some (broken.ExcRe
 module _ (r : Regs) (byte : ℕ → ℕ) (value : ℕ) (x : Activation) where
   pub by_parts : (a b c d e : Option Broken) → value_rule value x ≡ a → stack_rule r x ≡ b → first_from (frame_rule byte x) 0 (frame_size x.long) ≡ c
       → first_from (core_rule r x) 4 8 ≡ d → first_from (vector_rule r x) 16 16 ≡ e
-      → return_rule r byte value x ≡ option_or a (option_or b (option_or c (option_or d (option_or e (primask_rule r x)))))
+      → return_rule r byte value x ≡ option_or a (option_or b (option_or c (option_or d (option_or e (mask_rule r x)))))
   unfolding return_rule
-  by_parts a b c d e p q s t u = λ j. option_or (p j) (option_or (q j) (option_or (s j) (option_or (t j) (option_or (u j) (primask_rule r x)))))
+  by_parts a b c d e p q s t u = λ j. option_or (p j) (option_or (q j) (option_or (s j) (option_or (t j) (option_or (u j) (mask_rule r x)))))
 
 pub is_none : (o : Option Broken) → ((b : Broken) → o ≡ Some b → ⊥) → o ≡ None
 is_none (Some b) h = absurd (h b refl)

@@ -5,3 +5,4 @@ pub mod Stacked
 pub mod Writes
 pub mod Compared
 pub mod Listed
+pub mod Sides

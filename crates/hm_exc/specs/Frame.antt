@@ -1,11 +1,13 @@
 -- The frame of an entry: `xpsr`; `frame_words` and `frame_bytes`; `frame_size`, `frame_base` and `has_room`; the position in xPSR, `psr_window`; and the
 -- vector, `vector_address` and `is_vector`.
-use Rattle.std.specs.Prelude.{ℕ, ◌+◌, ◌-◌, ◌*◌, ◌/◌, ◌%◌, ◌^◌, Bool, ◌&&◌, ◌==◌, nat_le, if◌then◌else◌, cond, List, [], ◌∷◌, ◌++◌, take, slice_index, Option, Some, None}
+use Rattle.hm_mem.specs.Memory.{Bounds}
+use Rattle.std.specs.Prelude.{ℕ, ◌+◌, ◌-◌, ◌*◌, ◌/◌, ◌%◌, ◌^◌, Bool, ◌&&◌, ◌==◌, nat_le, if◌then◌else◌, List, [], ◌∷◌, ◌++◌, take, slice_index, Option, Some, None}
 use Rattle.hm_base.specs.Bits.{field}
 use Rattle.hm_base.specs.Image.{word_at}
 use Rattle.hm_mem.specs.Devices.{byte_of}
 use Rattle.hm_mem.specs.Seen.{lies_in_memory, lies_in_sram}
 use Rattle.hm_mem.specs.declared.Dev.{Dev}
+use Rattle.hm_regs.specs.Stacks.{uses_process}
 use Rattle.hm_regs.specs.declared.Regs.{Regs}
 use Rattle.hm_state.specs.State.{bit}
 use Rattle.hm_window.specs.Positions.{window_of}
@@ -69,9 +71,13 @@ without_bit_2 x = x - x / 4 % 2 * 4
 abbrev pub frame_base : Regs → ℕ
 frame_base r = without_bit_2 ((r.sp + 2 ^ 32 - frame_size r.fpca) % 2 ^ 32)
 
--- the frame lies in SRAM, from the floor on
-abbrev pub has_room : ℕ → Regs → Bool
-has_room floor r = nat_le floor (frame_base r) && lies_in_sram (frame_size r.fpca) (frame_base r)
+-- the lowest address of a frame on the stack in use
+abbrev pub floor_for : Bounds → Regs → ℕ
+floor_for bounds r = if uses_process r then bounds.process else bounds.floor
+
+-- the frame lies in SRAM, from the floor of its stack on
+abbrev pub has_room : Bounds → Regs → Bool
+has_room bounds r = nat_le (floor_for bounds r) (frame_base r) && lies_in_sram (frame_size r.fpca) (frame_base r)
 
 -- THE POSITION IN A STACKED xPSR: the one of its ECI, where bits 26:25 and 11:10 are 0; between two instructions where these are not, and where ECI names none
 abbrev pub or_between : Option Window → Window

@@ -2,14 +2,15 @@
 
 ghost use Rattle.std.specs.Prelude.{ℕ, ◌≡◌, ◌+◌, ◌-◌, ◌*◌, ◌/◌, ◌%◌, ◌^◌, ◌<◌, ◌≤◌, List, ◌∷◌, IsTrue, IfOk, OnOk, OnErr, slice_index, reverse, take};
 ghost use Rattle.arrayvec.specs.ArrayVec.{array_vec_len};
-ghost use Rattle.hm_exc.specs.Entry.{FitsEntry, actor_under, newest_first, window_in};
+ghost use Rattle.hm_exc.specs.Entry.{FitsEntry, actor_under, main_after, newest_first, process_after, window_in};
 ghost use Rattle.hm_exc.specs.Frame.{frame_size, frame_words};
 ghost use Rattle.hm_exc.specs.Return.{Unbroken, broken_in, return_rule};
 ghost use Rattle.hm_exc.specs.declared.types.Activation.{Activation};
 ghost use Rattle.hm_mem.specs.Memory.{byte_at, memory_of};
 ghost use Rattle.hm_mem.specs.Seen.{with_actor};
+ghost use Rattle.hm_regs.specs.Stacks.{uses_process};
 
-use crate::frame::{frame_size, is_set, psr_block, psr_window};
+use crate::frame::{frame_size, is_set, main_after, psr_block, psr_window};
 use crate::memory::word;
 use crate::rules::difference;
 use crate::types::{Activation, Acts, Broken};
@@ -106,20 +107,52 @@ fn vpr(m: &Mem, x: &Activation) -> u32
     }
 }
 
-/// SP above the frame, by the bit of xPSR that says whether bit 2 of it was set.
-fn stack_above(r: &Regs, x: &Activation, psr: u32) -> u32
+/// Whether a return to this value takes its frame from the process stack (DDI0553, "EXC_RETURN").
+fn is_process(value: u32, x: &Activation) -> bool
     requires fits { FitsEntry x.now }
-    requires stack { r.now.sp ≡ x.now.frame }
+    requires value { value ≡ x.now.value }
+    ensures used { result ≡ uses_process x.now.regs }
+    ensures selected { result ≡ x.now.regs.spsel }
+{
+    is_set(value, 2)
+}
+
+/// The pointer of the stack on which the frame lies.
+fn frame_pointer(r: &Regs, x: &Activation, process: bool) -> u32
+    requires used { process ≡ uses_process x.now.regs }
+    requires stack { r.now.sp ≡ main_after x.now }
+    requires process { r.now.other ≡ process_after x.now }
+    ensures value { result ≡ x.now.frame }
+{
+    if process { r.other } else { r.sp }
+}
+
+/// The pointer of the other stack.
+fn other_pointer(r: &Regs, x: &Activation, process: bool) -> u32
+    requires used { process ≡ uses_process x.now.regs }
+    requires stack { r.now.sp ≡ main_after x.now }
+    requires process { r.now.other ≡ process_after x.now }
+    ensures value { result ≡ x.now.regs.other }
+{
+    if process { r.sp } else { r.other }
+}
+
+/// The stack pointer above the frame, by the bit of xPSR that says whether bit 2 of it was set.
+fn stack_above(frame: u32, x: &Activation, psr: u32) -> u32
+    requires fits { FitsEntry x.now }
+    requires stack { frame ≡ x.now.frame }
     requires aligned { psr / 2 ^ 9 % 2 ≡ x.now.regs.sp / 4 % 2 }
     ensures value { result ≡ x.now.regs.sp }
 {
     let _sp = x.regs.sp;
-    r.sp + frame_size(x.long) + 4 * ((psr >> 9) % 2)
+    frame + frame_size(x.long) + 4 * ((psr >> 9) % 2)
 }
 
 /// The registers after a return in which nothing differs: from the frame, and where that has no context Q0 to Q3, FPSCR and VPR as they were.
-fn restored(r: &Regs, m: &Mem, x: &Activation, psr: u32, at: Window) -> Regs
+fn restored(r: &Regs, m: &Mem, x: &Activation, process: bool, psr: u32, at: Window) -> Regs
     requires fits { FitsEntry x.now }
+    requires used { process ≡ uses_process x.now.regs }
+    requires selected { process ≡ x.now.regs.spsel }
     requires same { (value : ℕ) × Unbroken r.now (byte_at (memory_of m.now)) value x.now }
     requires psr { psr ≡ slice_index (frame_words x.now.regs (window_in x.now)) 7 }
     requires position { at ≡ window_in x.now }
@@ -128,7 +161,8 @@ fn restored(r: &Regs, m: &Mem, x: &Activation, psr: u32, at: Window) -> Regs
     let _it = x.regs.it;
     Regs {
         r: core_registers(r, m, x),
-        sp: stack_above(r, x, psr),
+        sp: stack_above(frame_pointer(r, x, process), x, psr),
+        other: other_pointer(r, x, process),
         lr: stacked(m, x, 5),
         pc: stacked(m, x, 6),
         n: is_set(psr, 31),
@@ -142,6 +176,8 @@ fn restored(r: &Regs, m: &Mem, x: &Activation, psr: u32, at: Window) -> Regs
         qw: vectors(r, m, x),
         fpca: x.long,
         primask: r.primask,
+        spsel: process,
+        basepri: r.basepri,
         ipsr: (psr % 512) as u16,
     }
 }
@@ -181,7 +217,7 @@ fn actor_of(acts: &Acts) -> Actor
         Actor::Thread
     } else {
         Actor::Handler {
-            frame: newest(acts).frame,
+            frame: main_after(&newest(acts)),
         }
     }
 }
@@ -207,7 +243,8 @@ pub fn leave(r: &mut Regs, m: &mut Mem, value: u32, acts: &mut Acts) -> Result<W
     }
     let psr = stacked(m, &x, 7);
     let at = position(&x, psr);
-    *r = restored(r, m, &x, psr, at);
+    let process = is_process(value, &x);
+    *r = restored(r, m, &x, process, psr, at);
     drop_newest(acts);
     m.set_actor(actor_of(acts));
     Ok(at)

@@ -1,7 +1,7 @@
 //! The frame of an entry.
 
 ghost use Rattle.std.specs.Prelude.{ℕ, ◌≡◌, ◌+◌, ◌-◌, ◌*◌, ◌/◌, ◌%◌, ◌^◌, ◌<◌, ◌≤◌, ◌==◌, false, IsTrue, length, slice_index, if◌then◌else◌};
-ghost use Rattle.hm_exc.specs.Entry.{CanEnter, FitsEntry, activation, return_value, window_in};
+ghost use Rattle.hm_exc.specs.Entry.{CanEnter, FitsEntry, activation, main_after, process_after, return_value, window_in};
 ghost use Rattle.hm_exc.specs.Frame.{flags, frame_base, frame_bytes, frame_size, frame_words, is_between, progress, psr_window, xpsr};
 ghost use Rattle.hm_state.specs.State.{bit};
 ghost use Rattle.hm_mem.specs.Seen.{lies_in_sram};
@@ -122,10 +122,34 @@ fn frame_base(r: &Regs) -> u32
 fn return_value(r: &Regs) -> u32
     ensures value { result ≡ return_value r.now }
 {
-    if r.ipsr == 0 {
-        if r.fpca { 0xffff_ffa8 } else { 0xffff_ffb8 }
-    } else {
+    if r.ipsr != 0 {
         if r.fpca { 0xffff_ffa0 } else { 0xffff_ffb0 }
+    } else if r.spsel {
+        if r.fpca { 0xffff_ffac } else { 0xffff_ffbc }
+    } else {
+        if r.fpca { 0xffff_ffa8 } else { 0xffff_ffb8 }
+    }
+}
+
+/// The main stack pointer just after the entry of an activation.
+pub fn main_after(x: &Activation) -> u32
+    ensures value { result ≡ main_after x.now }
+{
+    if x.regs.uses_process() {
+        x.regs.other
+    } else {
+        x.frame
+    }
+}
+
+/// The process stack pointer just after the entry of an activation.
+pub fn process_after(x: &Activation) -> u32
+    ensures value { result ≡ process_after x.now }
+{
+    if x.regs.uses_process() {
+        x.frame
+    } else {
+        x.regs.other
     }
 }
 

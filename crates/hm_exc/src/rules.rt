@@ -1,13 +1,14 @@
 //! What a return compares with its entry.
 
 ghost use Rattle.std.specs.Prelude.{ℕ, ◌≡◌, ◌+◌, ◌-◌, ◌*◌, ◌<◌, ◌≤◌, IsTrue, None, slice_index};
+ghost use Rattle.hm_exc.specs.Entry.{main_after, process_after};
 ghost use Rattle.hm_exc.specs.Frame.{frame_size};
 ghost use Rattle.hm_state.specs.State.{bit};
-ghost use Rattle.hm_exc.specs.Return.{Unbroken, core_rule, differing, first_from, frame_rule, return_rule, vector_rule};
+ghost use Rattle.hm_exc.specs.Return.{Unbroken, core_rule, differing, first_from, frame_rule, mask_rule, return_rule, stack_rule, vector_rule};
 ghost use Rattle.hm_mem.specs.Memory.{byte_at, memory_of};
 ghost use Rattle.hm_mem.specs.Seen.{lies_in_sram};
 
-use crate::frame::{bit, frame_size};
+use crate::frame::{bit, frame_size, main_after, process_after};
 use crate::memory::byte;
 use crate::types::{Activation, Broken, Slot};
 use hm_base::Place;
@@ -71,8 +72,30 @@ fn vector_difference(r: &Regs, x: &Activation) -> Option<Broken>
     None
 }
 
-/// The first difference of a return to `value` from the entry that put `x` away: of the value, of SP, of the bytes of the frame from the
-/// lowest, of r4 to r11, of the words of Q4 to Q7, and of PRIMASK.
+/// The first of the two stack pointers that differs, the main one and then that of the process stack.
+fn stack_difference(r: &Regs, x: &Activation) -> Option<Broken>
+    ensures value { result ≡ stack_rule r.now x.now }
+    ensures same { result ≡ None → (r.now.sp ≡ main_after x.now) × (r.now.other ≡ process_after x.now) }
+{
+    if let Some(difference) = differing(Slot::Reg(Place::R(13)), main_after(x), r.sp) {
+        return Some(difference);
+    }
+    differing(Slot::Psp, process_after(x), r.other)
+}
+
+/// The first of PRIMASK and BASEPRI that differs.
+fn mask_difference(r: &Regs, x: &Activation) -> Option<Broken>
+    ensures value { result ≡ mask_rule r.now x.now }
+    ensures same { result ≡ None → (r.now.primask ≡ x.now.regs.primask) × (r.now.basepri ≡ x.now.regs.basepri) }
+{
+    if let Some(difference) = differing(Slot::Primask, bit(x.regs.primask), bit(r.primask)) {
+        return Some(difference);
+    }
+    differing(Slot::Basepri, x.regs.basepri as u32, r.basepri as u32)
+}
+
+/// The first difference of a return to `value` from the entry that put `x` away: of the value, of SP and PSP, of the bytes of the frame from the
+/// lowest, of r4 to r11, of the words of Q4 to Q7, and of PRIMASK and BASEPRI.
 pub fn difference(r: &Regs, m: &Mem, value: u32, x: &Activation) -> Option<Broken>
     requires in_sram { IsTrue (lies_in_sram (frame_size x.now.long) x.now.frame) }
     ensures value { result ≡ return_rule r.now (byte_at (memory_of m.now)) value x.now }
@@ -81,7 +104,7 @@ pub fn difference(r: &Regs, m: &Mem, value: u32, x: &Activation) -> Option<Broke
     if value != x.value {
         return Some(Broken::ExcReturn { value });
     }
-    if let Some(b) = differing(Slot::Reg(Place::R(13)), x.frame, r.sp) {
+    if let Some(b) = stack_difference(r, x) {
         return Some(b);
     }
     if let Some(b) = frame_difference(m, x) {
@@ -93,5 +116,5 @@ pub fn difference(r: &Regs, m: &Mem, value: u32, x: &Activation) -> Option<Broke
     if let Some(b) = vector_difference(r, x) {
         return Some(b);
     }
-    differing(Slot::Primask, bit(x.regs.primask), bit(r.primask))
+    mask_difference(r, x)
 }

@@ -9,6 +9,8 @@ use hm_regs::Regs;
 pub enum Slot {
     Reg(Place),
     Primask,
+    Psp,
+    Basepri,
 }
 
 /// How a return differs from its entry.

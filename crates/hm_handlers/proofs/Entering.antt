@@ -1,11 +1,12 @@
 -- What an entry puts away is what a return gives back.
+use Rattle.hm_mem.specs.Memory.{Bounds}
 use Rattle.std.proofs.Common.{◌≡◌, ℕ, ◌+◌, ◌-◌, ◌*◌, ◌/◌, ◌%◌, ◌^◌, ◌<◌, Bool, true, false, cond, not, nat_le, List, length, get_or, Option, Some, None, arith, refl, sym, ◌∙◌, ap, subst}
 use Rattle.std.specs.Prelude.{slice_index}
 use Rattle.std.proofs.Math.ListN.{replicate}
 use Rattle.std.proofs.lemmas.List.{get_or_append_left, take_at}
 use Rattle.hm_base.specs.Image.{word_at}
 use Rattle.hm_exc.specs.Entry.{CanEnter, FitsEntry, activation, entry_refusal, window_in}
-use Rattle.hm_exc.specs.Frame.{frame_base, frame_bytes, frame_size, frame_words, has_room, psr_window, xpsr}
+use Rattle.hm_exc.specs.Frame.{floor_for, frame_base, frame_bytes, frame_size, frame_words, has_room, psr_window, xpsr}
 use Rattle.hm_exc.specs.declared.types.EnterErr.{EnterErr}
 use Rattle.hm_exc.proofs.Psr.{psr-below, psr-window}
 use Rattle.hm_exc.proofs.Stacked.{frame_byte-is, in_room, length-frame_bytes}
@@ -20,10 +21,11 @@ use Rattle.hm_state.specs.State.{State, regs_of}
 use Rattle.hm_state.proofs.Lists.{length-listed}
 use Rattle.hm_whole.specs.Whole.{seen_in}
 use Rattle.hm_window.specs.declared.rule.Window.{Window}
+use Rattle.hm_sys.specs.Exceptions.{IsException}
 use Rattle.hm_handlers.specs.Entries.{interrupted_by, position_of}
 use Rattle.hm_handlers.specs.Nested.{Interrupted}
 use Rattle.hm_handlers.specs.Registers.{registers_in, restored}
-use Rattle.hm_handlers.specs.Sound.{FitsInside, IsException, IsStacked, number_under}
+use Rattle.hm_handlers.specs.Sound.{FitsInside, IsStacked, number_under}
 
 -- THE POSITION in a frame
 word_back : (f : ℕ → ℕ) (x : ℕ) → x < 2 ^ 32 → f 28 ≡ byte_of x 0 → f 29 ≡ byte_of x 1 → f 30 ≡ byte_of x 2 → f 31 ≡ byte_of x 3 → word_at f 28 ≡ x
@@ -64,15 +66,15 @@ module _ (r : Regs) (w : Window) (e : ℕ) (count : length r.qw ≡ 32) (can : C
   }
 
 -- WHAT IS NOT REFUSED has room
-room_of : (floor : ℕ) (r : Regs) (m : Seen) (e : ℕ) → entry_refusal floor r m e ≡ None → has_room floor r ≡ true
-room_of floor r m e h = by_room (has_room floor r) _ _ h
+room_of : (bounds : Bounds) (r : Regs) (m : Seen) (e : ℕ) → entry_refusal bounds r m e ≡ None → has_room bounds r ≡ true
+room_of bounds r m e h = by_room (has_room bounds r) _ _ h
   where
     by_room : (b : Bool) (why : EnterErr) (rest : Option EnterErr) → cond (not b) (Some why) rest ≡ None → b ≡ true
     by_room true why rest h = refl
     by_room false why rest h = absurd cc
 
-lies : (floor : ℕ) (r : Regs) (w : Window) (e : ℕ) → has_room floor r ≡ true → lies_in_sram (frame_size r.fpca) (frame_base r) ≡ true
-lies floor r w e h = in_room (activation r w e) (activation r w e) (nat_le floor (frame_base r)) (has_room floor r) refl refl h
+lies : (bounds : Bounds) (r : Regs) (w : Window) (e : ℕ) → has_room bounds r ≡ true → lies_in_sram (frame_size r.fpca) (frame_base r) ≡ true
+lies bounds r w e h = in_room (activation r w e) (activation r w e) (nat_le (floor_for bounds r) (frame_base r)) (has_room bounds r) refl refl h
 
 -- THE REGISTERS
 count_of : (s : State) → length (regs_of s).qw ≡ 32
@@ -87,6 +89,10 @@ pub number_in : (s : State) → (regs_of s).ipsr ≡ s.rest.ipsr
 unfolding regs_of
 number_in s = refl
 
+pub spsel_in : (s : State) → (regs_of s).spsel ≡ s.rest.spsel
+unfolding regs_of
+spsel_in s = refl
+
 context_in : (s : State) → (regs_of s).fpca ≡ s.rest.fpca
 unfolding regs_of
 context_in s = refl
@@ -95,15 +101,15 @@ registers_back : (s : State) (actor : Actor) (t : State) → regs_of (restored (
 unfolding regs_of
 registers_back s actor t = refl
 
-pub stacked_by : (floor e : ℕ) (c : Config State) (acts : List Interrupted) → IsException e → CanEnter (regs_of c.state) (position_of c) → IsBlockByte c.state.rest.it
-    → FitsInside c → c.state.rest.ipsr ≡ number_under acts → entry_refusal floor (regs_of c.state) (seen_in c.state) e ≡ None → IsStacked (interrupted_by e c) acts
-stacked_by floor e c acts exception can block inside number free =
+pub stacked_by : (bounds : Bounds) (e : ℕ) (c : Config State) (acts : List Interrupted) → IsException e → CanEnter (regs_of c.state) (position_of c) → IsBlockByte c.state.rest.it
+    → FitsInside c → c.state.rest.ipsr ≡ number_under acts → entry_refusal bounds (regs_of c.state) (seen_in c.state) e ≡ None → IsStacked (interrupted_by e c) acts
+stacked_by bounds e c acts exception can block inside number free =
     let r = regs_of c.state in
     let w = position_of c in
     let sound : IsBlockByte r.it = subst IsBlockByte (sym (byte_in c.state)) block in
     record {
       exception = exception;
-      fits = entry_fits r w e (count_of c.state) can sound.0 (lies floor r w e (room_of floor r (seen_in c.state) e free));
+      fits = entry_fits r w e (count_of c.state) can sound.0 (lies bounds r w e (room_of bounds r (seen_in c.state) e free));
       position = position_back r w e (count_of c.state) can sound.0;
       registers = registers_back c.state;
       number = number_in c.state ∙ number;

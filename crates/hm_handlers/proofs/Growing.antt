@@ -5,7 +5,7 @@ use Rattle.hm_base.specs.declared.FaultKind.{FaultKind}
 use Rattle.hm_base.specs.declared.Stop.{Stop}
 use Rattle.hm_isa.specs.declared.Instr.{Instr}
 use Rattle.hm_mem.specs.Devices.{IsLen, sets_pending, word_at}
-use Rattle.hm_mem.specs.Memory.{Around, thread_under}
+use Rattle.hm_mem.specs.Memory.{Around, thread_under, Bounds}
 use Rattle.hm_mem.specs.Seen.{Seen, after_load, after_store, covers, fault_kind, is_allowed, is_denied, lies_in_sram, marks, or_else, some_byte, stop_after, stop_of, unless}
 use Rattle.hm_mem.specs.declared.Access.{Access}
 use Rattle.hm_order.proofs.Results.{decide, ok_err, ok_same, true_not_false}
@@ -29,8 +29,8 @@ abbrev pub Nothing : ℕ → Type 0
 Nothing a = ⊥
 
 -- a byte to which a handler with this frame may store
-abbrev pub Allowed : ℕ → ℕ → ℕ → ℕ → ℕ → Type 0
-Allowed frame lo hi floor a = is_allowed (under_handler frame lo hi floor) frame a ≡ true
+abbrev pub Allowed : ℕ → Bounds → ℕ → Type 0
+Allowed frame bounds a = is_allowed bounds frame a ≡ true
 
 pub seen_none : (P : ℕ → Type 0) (s : Seen) → SeenGrows P s s
 seen_none P s a h = inl h
@@ -98,18 +98,18 @@ not_false false h = absurd cc
 
 -- ONE STORE
 -- of a handler, which may
-module _ (frame lo hi floor : ℕ) where
+module _ (frame : ℕ) (bounds : Bounds) where
   abbrev x : Around
-  x = under_handler frame lo hi floor
+  x = under_handler frame bounds
 
   -- the bytes of an access that is not denied, in SRAM
-  pub all_allowed : (len a : ℕ) → IsLen len → lies_in_sram len a ≡ true → is_denied x frame len a ≡ false → (k : ℕ) → k < len → Allowed frame lo hi floor (a + k)
+  pub all_allowed : (len a : ℕ) → IsLen len → lies_in_sram len a ≡ true → is_denied bounds frame len a ≡ false → (k : ℕ) → k < len → Allowed frame bounds (a + k)
   all_allowed len a is lies free k l =
-      let bytes : some_byte len (λ b. not (is_allowed x frame b)) a ≡ false
-      = sym (ap (λ (q : Bool). cond q (some_byte len (λ b. not (is_allowed x frame b)) a) (not (sets_pending (word_at a)))) lies) ∙ free in
-      not_false (is_allowed x frame (a + k)) (free_at (λ b. not (is_allowed x frame b)) a len is bytes k l)
+      let bytes : some_byte len (λ b. not (is_allowed bounds frame b)) a ≡ false
+      = sym (ap (λ (q : Bool). cond q (some_byte len (λ b. not (is_allowed bounds frame b)) a) (not (sets_pending (word_at a)))) lies) ∙ free in
+      not_false (is_allowed bounds frame (a + k)) (free_at (λ b. not (is_allowed bounds frame b)) a len is bytes k l)
 
-  store_grows : (how : Access) (len a v : ℕ) (s : Seen) → IsLen len → stop_of x how true len a s ≡ None → SeenGrows (Allowed frame lo hi floor) s (after_store true len a v s)
+  store_grows : (how : Access) (len a v : ℕ) (s : Seen) → IsLen len → stop_of x how true len a s ≡ None → SeenGrows (Allowed frame bounds) s (after_store true len a v s)
   store_grows how len a v s is free b tainted =
       decide (lies_in_sram len a && covers a len b)
       (λ there.
@@ -118,8 +118,8 @@ module _ (frame lo hi floor : ℕ) where
       let high : b < a + len = grind (arith, nat_tests) in
       let k : b - a < len = omega arith in
       let at : a + (b - a) ≡ b = omega arith in
-      inr (subst (Allowed frame lo hi floor) at
-      (all_allowed len a is (and_first (lies_in_sram len a) (covers a len b) there) (kept_none (fault_kind false how true len a) (is_denied x frame len a) a free) (b - a) k)))
+      inr (subst (Allowed frame bounds) at
+      (all_allowed len a is (and_first (lies_in_sram len a) (covers a len b) there) (kept_none (fault_kind false how true len a) (is_denied bounds frame len a) a free) (b - a) k)))
       (λ other. inl (sym (ap (λ (q : Bool). cond q true (s.taint b)) other) ∙ tainted))
 
 -- of the thread, which taints none
@@ -185,8 +185,8 @@ module _ (x : Around) (P : ℕ → Type 0)
       goes_grows s (step (in_machine x) i (regs_of s) (seen_in s))
       (λ z f. finish_grows (width i) (seen_in s) (run (in_machine x) (in_block i (regs_of s)) (seen_in s)) (run_grows (in_block i (regs_of s)) (stores_sized i (regs_of s)) (seen_in s)) z f) y e
 
-pub handler_scalar : (frame lo hi floor : ℕ) (i : Instr) (s : State) (y : Went) → scalar_in_machine (under_handler frame lo hi floor) i s ≡ Ok y → Grows (Allowed frame lo hi floor) s y.state
-handler_scalar frame lo hi floor = scalar_grows (under_handler frame lo hi floor) (Allowed frame lo hi floor) (store_grows frame lo hi floor) (λ how len a s t h. h)
+pub handler_scalar : (frame : ℕ) (bounds : Bounds) (i : Instr) (s : State) (y : Went) → scalar_in_machine (under_handler frame bounds) i s ≡ Ok y → Grows (Allowed frame bounds) s y.state
+handler_scalar frame bounds = scalar_grows (under_handler frame bounds) (Allowed frame bounds) (store_grows frame bounds) (λ how len a s t h. h)
 
-pub thread_scalar : (lo hi floor : ℕ) (i : Instr) (s : State) (y : Went) → scalar_in_machine (thread_under lo hi floor) i s ≡ Ok y → Grows Nothing s y.state
-thread_scalar lo hi floor = scalar_grows (thread_under lo hi floor) Nothing (λ how len a v s is h. thread_store len a v s) (λ how len a s t h. h)
+pub thread_scalar : (bounds : Bounds) (i : Instr) (s : State) (y : Went) → scalar_in_machine (thread_under bounds) i s ≡ Ok y → Grows Nothing s y.state
+thread_scalar bounds = scalar_grows (thread_under bounds) Nothing (λ how len a v s is h. thread_store len a v s) (λ how len a s t h. h)

@@ -6,7 +6,7 @@ use Rattle.hm_codes.specs.Listing.{Listing}
 use Rattle.hm_isa.specs.declared.Instr.{Instr}
 use Rattle.hm_isa.specs.declared.Instr.TheVariants as instr
 use Rattle.hm_isa.specs.declared.Vector.{Vector}
-use Rattle.hm_mem.specs.Memory.{Around, thread_under}
+use Rattle.hm_mem.specs.Memory.{Around, thread_under, Bounds}
 use Rattle.hm_order.specs.Beats.{then}
 use Rattle.hm_order.specs.Machine.{Config, End, Stopped, Broken, begin, begun, did, done, fault_end, older, older_of, settle, younger, younger_of}
 use Rattle.hm_order.proofs.Results.{ok_err, ok_same, then_ok}
@@ -122,9 +122,9 @@ answered_grows s t (Writes xs) e = by_room _ e
     by_room true h = absurd (ok_err (sym h))
     by_room false h = subst (Grows Nothing s) (ok_same h) (printed_grows xs s)
 
-module _ (lo hi floor : ℕ) where
+module _ (bounds : Bounds) where
   abbrev around : Around
-  around = thread_under lo hi floor
+  around = thread_under bounds
 
   served_grows : (s t : State) → served_by around s ≡ Ok t → Grows Nothing s t
   served_grows s t e =
@@ -139,7 +139,7 @@ module _ (lo hi floor : ℕ) where
       by_call false h = absurd (ok_err (sym h))
 
   went_grows : (i : Instr) (s t : State) (r : Result Went Stop) → scalar_in_machine around i s ≡ r → done_in_machine r ≡ Ok t → Grows Nothing s t
-  went_grows i s t (Ok y) e h = subst (Grows Nothing s) (ok_same h) (thread_scalar lo hi floor i s y e)
+  went_grows i s t (Ok y) e h = subst (Grows Nothing s) (ok_same h) (thread_scalar bounds i s y e)
   went_grows i s t (Err f) e h = absurd (ok_err (sym h))
 
   by_break : (i : Instr) (s t : State) (o : Option ℕ) → at_break (λ k. broken_by around k s) o (done_in_machine (scalar_in_machine around i s)) ≡ Ok t → Grows Nothing s t
@@ -157,11 +157,11 @@ module _ (lo hi floor : ℕ) where
 
   module _ (listing : Listing) where
     by_row : (c : Config State) (o : Option Vector) → vector_of (listing c.state.pc) ≡ o → StepGrows Nothing c (older (core listing around) c)
-    by_row c (Some v) e = vector_grows listing around Nothing (thread_beat lo hi floor) v c e
-    by_row c None e = other_grows listing around Nothing (thread_beat lo hi floor) c e (λ t h. other_clean (listing c.state.pc) c.state t e h)
+    by_row c (Some v) e = vector_grows listing around Nothing (thread_beat bounds) v c e
+    by_row c None e = other_grows listing around Nothing (thread_beat bounds) c e (λ t h. other_clean (listing c.state.pc) c.state t e h)
 
     pub thread_older : (c : Config State) → StepGrows Nothing c (older (core listing around) c)
     thread_older c = by_row c (vector_of (listing c.state.pc)) refl
 
     pub thread_younger : (c : Config State) → StepGrows Nothing c (younger (core listing around) c)
-    thread_younger c = younger_grows listing around Nothing (thread_beat lo hi floor) c
+    thread_younger c = younger_grows listing around Nothing (thread_beat bounds) c

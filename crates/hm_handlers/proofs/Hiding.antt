@@ -11,7 +11,7 @@ use Rattle.hm_exc.specs.declared.types.Activation.{Activation}
 use Rattle.hm_isa.specs.declared.Instr.{Instr}
 use Rattle.hm_isa.specs.declared.Vector.{Vector}
 use Rattle.hm_mem.specs.Devices.{open_devices}
-use Rattle.hm_mem.specs.Memory.{Around, thread_under}
+use Rattle.hm_mem.specs.Memory.{Around, Bounds, no_bounds, thread_under}
 use Rattle.hm_mem.specs.Seen.{marks}
 use Rattle.hm_mem.specs.declared.Actor.TheVariants.{Thread}
 use Rattle.hm_mem.specs.declared.Dev.{Dev}
@@ -55,7 +55,7 @@ hides_then s t u h k = record {
 
 -- UNDER REGISTERS THAT ARE GIVEN BACK
 abbrev given : Rest → Dev → List ℕ → Held
-given r d out = Besides (record r { devices = d; output = out; around = thread_under 0 0 0 })
+given r d out = Besides (record r { devices = d; output = out; around = thread_under no_bounds })
 
 pub restored_live : (r : _) (s t : State) → Hides s t → Live view (restored r Thread t) (restored r Thread s)
 restored_live r s t h = record { cells = same; sticky = refl }
@@ -75,7 +75,7 @@ own_live s t h = record { cells = same; sticky = refl }
     same Beside d = λ j. given s.rest (h.devices j) (h.output j)
 
 -- THE DEVICES AT THE END OF A TICK
-pub counted_hides : (irq : ℕ) (s : State) → Hides s (with_devices (counted_with irq) s)
+pub counted_hides : (irq : List ℕ) (s : State) → Hides s (with_devices (counted_with irq) s)
 counted_hides irq s = record { bytes = λ a live. refl; devices = open_arrived irq s.rest.devices; output = refl }
 
 -- AN ENTRY
@@ -111,16 +111,16 @@ goes_output s (Err f) y e = absurd (ok_err (sym e))
 hidden_by : (s : State) (y : Went) → GoesHidden s (Ok y) → y.state.rest.output ≡ s.rest.output → Hides s y.state
 unfolding state_with
 hidden_by s y h out =
-    let live = h (regs_of s) (thread_under 0 0 0) [] in
+    let live = h (regs_of s) (thread_under no_bounds) [] in
     record {
       bytes = λ a clean. ap (value_in (s.cell (Byte a))) (live.cells (In (Byte a)) clean);
       devices = ap (devices_in s.rest.devices) (live.cells Beside refl);
       output = out;
     }
 
-pub scalar_hides : (frame lo hi floor : ℕ) (i : Instr) (s : State) (y : Went) → scalar_in_machine (under_handler frame lo hi floor) i s ≡ Ok y → Hides s y.state
-scalar_hides frame lo hi floor i s y e =
-    hidden_by s y (subst (GoesHidden s) e (whole-hides frame lo hi floor i s)) (goes_output s _ y e)
+pub scalar_hides : (frame : ℕ) (bounds : Bounds) (i : Instr) (s : State) (y : Went) → scalar_in_machine (under_handler frame bounds) i s ≡ Ok y → Hides s y.state
+scalar_hides frame bounds i s y e =
+    hidden_by s y (subst (GoesHidden s) e (whole-hides frame bounds i s)) (goes_output s _ y e)
 
 -- A BEAT OF A HANDLER
 pub caused_ok : (r : Result State Stop) (t : State) → caused r ≡ Ok t → r ≡ Ok t

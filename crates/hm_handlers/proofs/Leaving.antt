@@ -1,5 +1,5 @@
 -- What a step leaves of what stands beside the cells: the exception number, who accesses the memory, a sound IT byte and priorities.
-use Rattle.std.proofs.Common.{◌≡◌, ℕ, zero, suc, ◌==◌, ◌+◌, ap, refl, sym, ◌∙◌, subst, Bool, true, false, cond, not, ◌&&◌, ◌||◌, nat_eq, nat_lt, eqb-true, List, length, Option, Some, None, Result, Ok, Err, arith}
+use Rattle.std.proofs.Common.{◌≡◌, ◌≢◌, ℕ, zero, suc, ◌==◌, ◌+◌, ap, refl, sym, ◌∙◌, subst, Bool, true, false, cond, not, ◌&&◌, ◌||◌, nat_eq, nat_lt, eqb-true, List, length, Option, Some, None, Result, Ok, Err, arith}
 use Rattle.std.specs.Prelude.{IfOk, is_none}
 use Rattle.hm_base.specs.declared.Fault.{Fault}
 use Rattle.hm_base.specs.declared.FaultKind.TheVariants.{InvState}
@@ -13,7 +13,7 @@ use Rattle.hm_isa.specs.declared.Instr.{Instr}
 use Rattle.hm_isa.specs.declared.Instr.TheVariants as instr
 use Rattle.hm_isa.specs.declared.Vector.{Vector}
 use Rattle.hm_kept.proofs.Priorities.{step-levels}
-use Rattle.hm_kept.proofs.Steps.{settled-sound, step-number, step-sound}
+use Rattle.hm_kept.proofs.Steps.{settled-sound, step-number, step-sound, step-main}
 use Rattle.hm_kept.specs.Blocks.{IsBlockByte}
 use Rattle.hm_kept.specs.Levels.{HasLevels}
 use Rattle.hm_mem.specs.Memory.{Around}
@@ -21,6 +21,7 @@ use Rattle.hm_order.specs.Beats.{then}
 use Rattle.hm_order.specs.Machine.{Config, End, begin, did, done, older, older_of, settle, younger, younger_of}
 use Rattle.hm_order.proofs.Results.{ok_err, ok_same, then_ok}
 use Rattle.hm_plain.proofs.Vectors.{beat_rest}
+use Rattle.hm_regs.specs.Stacks.{HandlerOnMain}
 use Rattle.hm_regs.specs.declared.Regs.{Regs}
 use Rattle.hm_rows.proofs.Context.{context_fresh, context_ready, fresh}
 use Rattle.hm_rows.specs.Context.{with_context}
@@ -41,7 +42,7 @@ use Rattle.hm_whole.specs.Whole.{Went, goes_from, scalar_in_machine, seen_in, st
 use Rattle.hm_window.specs.Overlap.{rule_or}
 use Rattle.hm_window.specs.declared.rule.Rule.{Rule}
 use Rattle.hm_window.specs.declared.rule.Rule.TheVariants as rule
-use Rattle.hm_handlers.proofs.Entering.{byte_in, number_in}
+use Rattle.hm_handlers.proofs.Entering.{byte_in, number_in, spsel_in}
 use Rattle.hm_handlers.proofs.Hiding.{begins_with, caused_ok}
 use Rattle.hm_handlers.specs.Sound.{FitsInside}
 
@@ -49,6 +50,7 @@ use Rattle.hm_handlers.specs.Sound.{FitsInside}
 pub record Leaves (r q : Rest) : Type 0 where
   pub number : q.ipsr ≡ r.ipsr
   pub around : q.around ≡ r.around
+  pub selects : (r.ipsr ≢ 0 → r.spsel ≡ false) → q.ipsr ≢ 0 → q.spsel ≡ false
   pub levels : HasLevels r.devices → HasLevels q.devices
   pub block : IsBlockByte r.it → IsBlockByte q.it
 
@@ -56,17 +58,18 @@ pub record Leaves (r q : Rest) : Type 0 where
 pub record Same (r q : Rest) : Type 0 where
   pub number : q.ipsr ≡ r.ipsr
   pub around : q.around ≡ r.around
+  pub spsel : q.spsel ≡ r.spsel
   pub devices : q.devices ≡ r.devices
   pub it : q.it ≡ r.it
 
 pub same_leaves : (r q : Rest) → Same r q → Leaves r q
-same_leaves r q h = record { number = h.number; around = h.around; levels = subst HasLevels (sym h.devices); block = subst IsBlockByte (sym h.it) }
+same_leaves r q h = record { number = h.number; around = h.around; selects = λ m n. h.spsel ∙ m (λ e. n (h.number ∙ e)); levels = subst HasLevels (sym h.devices); block = subst IsBlockByte (sym h.it) }
 
 same_none : (r : Rest) → Same r r
-same_none r = record { number = refl; around = refl; devices = refl; it = refl }
+same_none r = record { number = refl; around = refl; spsel = refl; devices = refl; it = refl }
 
 same_then : (r q p : Rest) → Same r q → Same q p → Same r p
-same_then r q p h k = record { number = k.number ∙ h.number; around = k.around ∙ h.around; devices = k.devices ∙ h.devices; it = k.it ∙ h.it }
+same_then r q p h k = record { number = k.number ∙ h.number; around = k.around ∙ h.around; spsel = k.spsel ∙ h.spsel; devices = k.devices ∙ h.devices; it = k.it ∙ h.it }
 
 same_of : (r q : Rest) → q ≡ r → Same r q
 same_of r q e = subst (Same r) (sym e) (same_none r)
@@ -76,7 +79,7 @@ context_same s = subst (λ (t : State). Same s.rest t.rest) (sym (context_fresh 
   where
     one_of : (b : Bool) → Same s.rest (cond b s (fresh s)).rest
     one_of true = same_none s.rest
-    one_of false = record { number = refl; around = refl; devices = refl; it = refl }
+    one_of false = record { number = refl; around = refl; spsel = refl; devices = refl; it = refl }
 
 -- A ROW THAT IS NOT REFUSED stands in no IT block
 free_it : (v : Vector) (s : State) → refuse v s ≡ None → s.rest.it ≡ 0
@@ -186,23 +189,24 @@ module _ (listing : Listing) (x : Around) where
       (λ h. last_rule _ (refusal_rule (machine.code (machine.rows.view.pc c.state + 4)) c.state) h)
 
 -- AN INSTRUCTION that is no vector row
-goes_leave : (s : State) (r : Regs) → r.ipsr ≡ s.rest.ipsr → r.it ≡ s.rest.it → (q : Result Stepped Stop) → IfOk q (λ y. y.regs.ipsr ≡ r.ipsr)
+goes_leave : (s : State) (r : Regs) → r.ipsr ≡ s.rest.ipsr → r.it ≡ s.rest.it → r.spsel ≡ s.rest.spsel → (q : Result Stepped Stop) → IfOk q (λ y. y.regs.ipsr ≡ r.ipsr)
+    → (HandlerOnMain r → IfOk q (λ y. HandlerOnMain y.regs))
     → (IsBlockByte r.it → IfOk q (λ y. IsBlockByte y.regs.it)) → (HasLevels s.rest.devices → IfOk q (λ y. HasLevels y.seen.devices)) → IfOk (goes_from s q) (λ y. Leaves s.rest y.state.rest)
 unfolding state_with
-goes_leave s r here there (Ok q) number block levels =
-    record { number = number ∙ here; around = refl; levels = levels; block = λ h. block (subst IsBlockByte (sym there) h) }
-goes_leave s r here there (Err f) number block levels = tt
+goes_leave s r here there stack (Ok q) number main block levels =
+    record { number = number ∙ here; around = refl; selects = λ m. main (λ n. stack ∙ m (λ e. n (here ∙ e))); levels = levels; block = λ h. block (subst IsBlockByte (sym there) h) }
+goes_leave s r here there stack (Err f) number main block levels = tt
 
 pub scalar_leaves : (x : Around) (i : Instr) (s : State) → IfOk (scalar_in_machine x i s) (λ y. Leaves s.rest y.state.rest)
 scalar_leaves x i s =
     let R = runner.in_machine x in
     let r = regs_of s in
-    goes_leave s r (number_in s) (byte_in s) (step R i r (seen_in s)) (step-number R i r (seen_in s)) (step-sound R i r (seen_in s)) (step-levels R i r (seen_in s))
+    goes_leave s r (number_in s) (byte_in s) (spsel_in s) (step R i r (seen_in s)) (step-number R i r (seen_in s)) (step-main R i r (seen_in s)) (step-sound R i r (seen_in s)) (step-levels R i r (seen_in s))
 
 -- a breakpoint
 printed_leaves : (xs : List ℕ) (s : State) → Leaves s.rest (printed xs s).rest
 unfolding state_with regs_of
-printed_leaves xs s = record { number = refl; around = refl; levels = λ h. h; block = λ h. settled-sound 2 way.On (regs_of s) (regs_of s) h (refl, refl) }
+printed_leaves xs s = record { number = refl; around = refl; selects = λ m n. m n; levels = λ h. h; block = λ h. settled-sound 2 way.On (regs_of s) (regs_of s) h (refl, refl, λ n. refl) }
 
 abbrev Kept : State → State → Type 0
 Kept s t = Leaves s.rest t.rest

@@ -1,12 +1,14 @@
 -- After each tick every tainted byte lies where an entry or a handler may write.
+use Rattle.hm_run.specs.Timed.{bounds_of, counted_with, with_devices}
+use Rattle.hm_mem.specs.Memory.{Bounds}
 use Rattle.std.proofs.Common.{◌≡◌, ◌⊎◌, ℕ, zero, suc, ◌==◌, ◌+◌, ◌-◌, ◌*◌, ◌/◌, ◌%◌, ◌^◌, ◌<◌, ◌≤◌, ap, refl, sym, ◌∙◌, Bool, true, false, cond, not, ◌&&◌, ◌||◌, nat_le, nat_lt, List, [], ◌∷◌, drop, Option, Some, None, Result, Ok, Err, inl, inr, ⊎_elim, arith}
 use Rattle.std.proofs.lemmas.Bool.Decides.{nat_tests}
 use Rattle.hm_base.specs.Image.{Segment}
 use Rattle.hm_base.specs.declared.Fault.{Fault}
 use Rattle.hm_base.specs.declared.Stop.{Stop}
 use Rattle.hm_codes.specs.Listing.{Listing}
-use Rattle.hm_exc.specs.Entry.{entry_refusal, in_frame}
-use Rattle.hm_exc.specs.Frame.{frame_base, frame_size, has_room}
+use Rattle.hm_exc.specs.Entry.{entry_refusal, in_frame, main_after}
+use Rattle.hm_exc.specs.Frame.{floor_for, frame_base, frame_size, has_room}
 use Rattle.hm_exc.specs.Return.{return_rule}
 use Rattle.hm_exc.specs.declared.types.Activation.{Activation}
 use Rattle.hm_exc.specs.declared.types.Broken.{Broken}
@@ -19,6 +21,7 @@ use Rattle.hm_order.specs.Beats.{then}
 use Rattle.hm_order.specs.Turns.{Turn, Older, Younger, turn}
 use Rattle.hm_order.specs.Machine.{Config, End, Stopped, Broken as Breaks, begun, older, younger}
 use Rattle.hm_order.proofs.Results.{decide}
+use Rattle.hm_regs.specs.Stacks.{uses_process}
 use Rattle.hm_regs.specs.declared.Regs.{Regs}
 use Rattle.hm_run.specs.declared.Cause.{Cause}
 use Rattle.hm_run.specs.declared.Outcome.{Outcome}
@@ -32,8 +35,8 @@ use Rattle.hm_window.specs.Positions.{may_end}
 use Rattle.hm_window.specs.declared.rule.Rule.{Rule}
 use Rattle.hm_handlers.specs.Entries.{entered, entered_state, interrupted_by}
 use Rattle.hm_handlers.specs.Nested.{Ended, Interrupted, Nested, NestedEnd, NestedStep, Offends, TickEnd, around_under, at_step, flows, handler_step, handles, letter, letters, program_under, returned, step, step_under, steps, uncounted, went, with_acts}
-use Rattle.hm_handlers.specs.Runs.{Run, after_count, begin, closed, ended, enters, enters_unless, may_enter, next, picks, run, stopped_under, stops, tick_of}
-use Rattle.hm_handlers.specs.Taint.{Below, MayBeTainted, TaintLies}
+use Rattle.hm_handlers.specs.Runs.{Pointers, Run, after_count, begin, closed, ended, enters, enters_unless, may_enter, next, picks, pointers_of, run, stopped_under, stops, tick_of}
+use Rattle.hm_handlers.specs.Taint.{BelowMain, BelowProcess, MayBeTainted, TaintLies}
 use Rattle.hm_handlers.proofs.Growing.{Allowed, Grows, Nothing, handler_scalar}
 use Rattle.hm_handlers.proofs.Growth.{StepGrows, begun_grows, fault_grows, thread_older, thread_younger, vector_grows, younger_grows}
 use Rattle.hm_handlers.proofs.Written.{handler_beat}
@@ -46,60 +49,72 @@ either_of false y h = inr h
 frame_fits : (sp size base q : ℕ) → q ≡ (sp + 2 ^ 32 - size) % 2 ^ 32 → base ≡ q - q / 4 % 2 * 4 → size ≤ 104 → base + size ≤ 0x20040000 → base + size ≤ sp
 frame_fits sp size base q e f small high = omega arith
 
+-- what lies below the main stack pointer just after an entry lies below the one at the entry
+main_below : (process : Bool) (other base size sp a : ℕ) → base + size ≤ sp → a < cond process other base → a < cond process other sp
+main_below true other base size sp a fits l = l
+main_below false other base size sp a fits l = omega arith
+
+-- the bytes of a frame lie between the floor and the pointer of its stack
+framed : (process : Bool) (other base size sp floor process_floor a : ℕ) (P Q : Type 0) → base + size ≤ sp → cond process process_floor floor ≤ base → base ≤ a → a < base + size
+    → ((floor ≤ a) × ((a < cond process other sp) ⊎ P)) ⊎ ((process_floor ≤ a) × (((process ≡ true) × (a < cond process sp other)) ⊎ Q))
+framed true other base size sp floor process_floor a P Q fits low start end = inr (omega arith, inl (refl, omega arith))
+framed false other base size sp floor process_floor a P Q fits low start end = inl (omega arith, inl (omega arith))
+
 small_frame : (long : Bool) → frame_size long ≤ 104
 small_frame true = omega arith
 small_frame false = omega arith
 
 module _ (listing : Listing) (s : Sched) where
   -- what may be tainted stays so with more entries
-  more : (sp : ℕ) (sps : List ℕ) (a : ℕ) → MayBeTainted s sps a → MayBeTainted s (sp ∷ sps) a
-  more sp sps a (inl h) = inl h
-  more sp sps a (inr h) = inr (h.0, inr h.1)
+  more : (p : Pointers) (sps : List Pointers) (a : ℕ) → MayBeTainted s sps a → MayBeTainted s (p ∷ sps) a
+  more p sps a (inl h) = inl h
+  more p sps a (inr (inl h)) = inr (inl (h.0, inr h.1))
+  more p sps a (inr (inr h)) = inr (inr (h.0, inr h.1))
 
-  -- each frame lies below an entry's stack pointer
-  abbrev FramesBelow : List ℕ → List Interrupted → Type 0
+  -- each main stack pointer just after an entry is at or below the one at an entry
+  abbrev FramesBelow : List Pointers → List Interrupted → Type 0
   FramesBelow sps [] = Unit {0}
-  FramesBelow sps (x ∷ acts) = ((a : ℕ) → a < x.stacked.frame → Below a sps) × FramesBelow sps acts
+  FramesBelow sps (x ∷ acts) = ((a : ℕ) → a < (main_after x.stacked) → BelowMain a sps) × FramesBelow sps acts
 
-  more_frames : (sp : ℕ) (sps : List ℕ) (acts : List Interrupted) → FramesBelow sps acts → FramesBelow (sp ∷ sps) acts
+  more_frames : (sp : Pointers) (sps : List Pointers) (acts : List Interrupted) → FramesBelow sps acts → FramesBelow (sp ∷ sps) acts
   more_frames sp sps [] h = tt
   more_frames sp sps (x ∷ acts) h = (λ a l. inr (h.0 a l), more_frames sp sps acts h.1)
 
-  record Lies (sps : List ℕ) (t : State) (acts : List Interrupted) : Type 0 where
+  record Lies (sps : List Pointers) (t : State) (acts : List Interrupted) : Type 0 where
     taint : TaintLies s sps t
     frames : FramesBelow sps acts
 
   -- WHAT A STEP LEAVES
-  clean_step : (sps : List ℕ) (t u : State) → Grows Nothing t u → TaintLies s sps t → TaintLies s sps u
+  clean_step : (sps : List Pointers) (t u : State) → Grows Nothing t u → TaintLies s sps t → TaintLies s sps u
   clean_step sps t u grows lies a live = ⊎_elim (λ h. lies a h) (λ (n : ⊥). absurd n) (grows a live)
 
-  allowed_lies : (frame : ℕ) (sps : List ℕ) (a : ℕ) → ((b : ℕ) → b < frame → Below b sps) → Allowed frame s.lo s.hi s.floor a → MayBeTainted s sps a
+  allowed_lies : (frame : ℕ) (sps : List Pointers) (a : ℕ) → ((b : ℕ) → b < frame → BelowMain b sps) → Allowed frame (bounds_of s) a → MayBeTainted s sps a
   allowed_lies frame sps a below h = ⊎_elim
       (λ (e : (nat_le s.lo a && nat_lt a s.hi) ≡ true). inl (grind (arith, nat_tests), grind (arith, nat_tests)))
-      (λ (e : (nat_le s.floor a && nat_lt a frame) ≡ true). let l : a < frame = grind (arith, nat_tests) in inr (grind (arith, nat_tests), below a l))
+      (λ (e : (nat_le s.floor a && nat_lt a frame) ≡ true). let l : a < frame = grind (arith, nat_tests) in inr (inl (grind (arith, nat_tests), below a l)))
       (either_of (nat_le s.lo a && nat_lt a s.hi) (nat_le s.floor a && nat_lt a frame) h)
 
-  handler_grown : (x : Interrupted) (acts : List Interrupted) (sps : List ℕ) (t u : State) → Grows (Allowed x.stacked.frame s.lo s.hi s.floor) t u → Lies sps t (x ∷ acts) → TaintLies s sps u
+  handler_grown : (x : Interrupted) (acts : List Interrupted) (sps : List Pointers) (t u : State) → Grows (Allowed (main_after x.stacked) (bounds_of s)) t u → Lies sps t (x ∷ acts) → TaintLies s sps u
   handler_grown x acts sps t u grows lies a live =
-      ⊎_elim (λ h. lies.taint a h) (λ p. allowed_lies x.stacked.frame sps a lies.frames.0 p) (grows a live)
+      ⊎_elim (λ h. lies.taint a h) (λ p. allowed_lies (main_after x.stacked) sps a lies.frames.0 p) (grows a live)
 
-  abbrev EndLies : List ℕ → NestedEnd → Type 0
+  abbrev EndLies : List Pointers → NestedEnd → Type 0
   EndLies sps (Ended (Stopped c e) acts) = TaintLies s sps c.state
   EndLies sps (Ended (Breaks c r) acts) = TaintLies s sps c.state
   EndLies sps (Offends what c acts) = TaintLies s sps c.state
 
-  abbrev StepLies : List ℕ → NestedStep → Type 0
+  abbrev StepLies : List Pointers → NestedStep → Type 0
   StepLies sps (Ok y) = Lies sps y.config.state y.acts
   StepLies sps (Err e) = EndLies sps e
 
-  thread_lies : (sps : List ℕ) (c : Config State) (r : Result (Config State) (End State Cause Rule)) → TaintLies s sps c.state → StepGrows Nothing c r → StepLies sps (with_acts [] r)
+  thread_lies : (sps : List Pointers) (c : Config State) (r : Result (Config State) (End State Cause Rule)) → TaintLies s sps c.state → StepGrows Nothing c r → StepLies sps (with_acts [] r)
   thread_lies sps c (Ok d) lies h = record { taint = clean_step sps c.state d.state h lies; frames = tt }
   thread_lies sps c (Err (Stopped d e)) lies h = clean_step sps c.state d.state h lies
   thread_lies sps c (Err (Breaks d r)) lies h = clean_step sps c.state d.state h lies
 
-  module _ (x : Interrupted) (acts : List Interrupted) (sps : List ℕ) where
+  module _ (x : Interrupted) (acts : List Interrupted) (sps : List Pointers) where
     abbrev May : ℕ → Type 0
-    May = Allowed x.stacked.frame s.lo s.hi s.floor
+    May = Allowed (main_after x.stacked) (bounds_of s)
 
     handler_lies : (c : Config State) (r : Result (Config State) (End State Cause Rule)) → Lies sps c.state (x ∷ acts) → StepGrows May c r
         → StepLies sps (with_acts (x ∷ acts) (uncounted c r))
@@ -121,69 +136,69 @@ module _ (listing : Listing) (s : Sched) where
     went_lies c (Ok y) old h = flows_lies y.flow c y.state old (handler_grown x acts sps c.state y.state (h y refl) old)
     went_lies c (Err e) old h =
         let M = program_under listing s (x ∷ acts) in
-        handler_grown x acts sps c.state (begun M c).state (begun_grows listing (around_under s (x ∷ acts)) May (handler_beat x.stacked.frame s.lo s.hi s.floor) c) old
+        handler_grown x acts sps c.state (begun M c).state (begun_grows listing (around_under s (x ∷ acts)) May (handler_beat (main_after x.stacked) (bounds_of s)) c) old
 
     handles_lie : (c : Config State) (r : Result Instr Fault) → listing c.state.pc ≡ r → Lies sps c.state (x ∷ acts)
         → StepLies sps (handles (program_under listing s (x ∷ acts)) (around_under s (x ∷ acts)) r c x acts)
     handles_lie c (Ok (instr.Scalar i)) e old =
-        went_lies c (scalar_in_machine (around_under s (x ∷ acts)) (instr.Scalar i) c.state) old (λ y k. handler_scalar x.stacked.frame s.lo s.hi s.floor (instr.Scalar i) c.state y k)
+        went_lies c (scalar_in_machine (around_under s (x ∷ acts)) (instr.Scalar i) c.state) old (λ y k. handler_scalar (main_after x.stacked) (bounds_of s) (instr.Scalar i) c.state y k)
     handles_lie c (Ok (instr.Branch i)) e old =
-        went_lies c (scalar_in_machine (around_under s (x ∷ acts)) (instr.Branch i) c.state) old (λ y k. handler_scalar x.stacked.frame s.lo s.hi s.floor (instr.Branch i) c.state y k)
+        went_lies c (scalar_in_machine (around_under s (x ∷ acts)) (instr.Branch i) c.state) old (λ y k. handler_scalar (main_after x.stacked) (bounds_of s) (instr.Branch i) c.state y k)
     handles_lie c (Ok (instr.Vector v)) e old =
         handler_lies c (older (program_under listing s (x ∷ acts)) c) old
-        (vector_grows listing (around_under s (x ∷ acts)) May (handler_beat x.stacked.frame s.lo s.hi s.floor) v c (ap vector_of e))
+        (vector_grows listing (around_under s (x ∷ acts)) May (handler_beat (main_after x.stacked) (bounds_of s)) v c (ap vector_of e))
     handles_lie c (Err f) e old =
         handler_lies c (older (program_under listing s (x ∷ acts)) c) old
-        (fault_grows listing (around_under s (x ∷ acts)) May (handler_beat x.stacked.frame s.lo s.hi s.floor) f c e)
+        (fault_grows listing (around_under s (x ∷ acts)) May (handler_beat (main_after x.stacked) (bounds_of s)) f c e)
 
     handler_step_lies : (t : Turn) (c : Config State) → Lies sps c.state (x ∷ acts) → StepLies sps (handler_step listing s t c x acts)
     handler_step_lies Older c old = handles_lie c (listing c.state.pc) refl old
     handler_step_lies Younger c old =
         handler_lies c (younger (program_under listing s (x ∷ acts)) c) old
-        (younger_grows listing (around_under s (x ∷ acts)) May (handler_beat x.stacked.frame s.lo s.hi s.floor) c)
+        (younger_grows listing (around_under s (x ∷ acts)) May (handler_beat (main_after x.stacked) (bounds_of s)) c)
 
   turn_grows : (t : Turn) (c : Config State) → StepGrows Nothing c (turn (program_under listing s []) t c)
-  turn_grows Older c = thread_older s.lo s.hi s.floor listing c
-  turn_grows Younger c = thread_younger s.lo s.hi s.floor listing c
+  turn_grows Older c = thread_older (bounds_of s) listing c
+  turn_grows Younger c = thread_younger (bounds_of s) listing c
 
-  under_lies : (sps : List ℕ) (t : Turn) (c : Config State) (acts : List Interrupted) → Lies sps c.state acts → StepLies sps (step_under listing s t c acts)
+  under_lies : (sps : List Pointers) (t : Turn) (c : Config State) (acts : List Interrupted) → Lies sps c.state acts → StepLies sps (step_under listing s t c acts)
   under_lies sps t c [] old = thread_lies sps c (turn (program_under listing s []) t c) old.taint (turn_grows t c)
   under_lies sps t c (x ∷ acts) old = handler_step_lies x acts sps t c old
 
-  step_lies : (sps : List ℕ) (t : Turn) (x : Nested) → Lies sps x.config.state x.acts → StepLies sps (step listing s t x)
+  step_lies : (sps : List Pointers) (t : Turn) (x : Nested) → Lies sps x.config.state x.acts → StepLies sps (step listing s t x)
   step_lies sps t x h = under_lies sps t x.config x.acts h
 
   -- LETTERS
-  then_lies : (sps : List ℕ) (r : NestedStep) (f : Nested → NestedStep) → StepLies sps r → ((y : Nested) → Lies sps y.config.state y.acts → StepLies sps (f y)) → StepLies sps (then r f)
+  then_lies : (sps : List Pointers) (r : NestedStep) (f : Nested → NestedStep) → StepLies sps r → ((y : Nested) → Lies sps y.config.state y.acts → StepLies sps (f y)) → StepLies sps (then r f)
   then_lies sps (Ok y) f h k = k y h
   then_lies sps (Err e) f h k = h
 
-  steps_lie : (sps : List ℕ) (k : ℕ) (x : Nested) → Lies sps x.config.state x.acts → StepLies sps (steps listing s k x)
+  steps_lie : (sps : List Pointers) (k : ℕ) (x : Nested) → Lies sps x.config.state x.acts → StepLies sps (steps listing s k x)
   steps_lie sps zero x h = h
   steps_lie sps (suc k) x h = then_lies sps (step listing s Older x) (steps listing s k) (step_lies sps Older x h) (steps_lie sps k)
 
-  either_lies : (sps : List ℕ) (b : Bool) (r q : NestedStep) → StepLies sps r → StepLies sps q → StepLies sps (cond b r q)
+  either_lies : (sps : List Pointers) (b : Bool) (r q : NestedStep) → StepLies sps r → StepLies sps q → StepLies sps (cond b r q)
   either_lies sps true r q h k = h
   either_lies sps false r q h k = k
 
-  letter_lies : (sps : List ℕ) (l : ℕ) (x : Nested) → Lies sps x.config.state x.acts → StepLies sps (letter listing s l x)
+  letter_lies : (sps : List Pointers) (l : ℕ) (x : Nested) → Lies sps x.config.state x.acts → StepLies sps (letter listing s l x)
   letter_lies sps l x h =
       either_lies sps (l == older_letter) _ _ (step_lies sps Older x h)
       (either_lies sps (l == younger_letter) _ _ (step_lies sps Younger x h) (steps_lie sps (steps_left (vector_of (listing x.config.state.pc)) x.config.a) x h))
 
-  abbrev TickLies : List ℕ → Result Nested TickEnd → Type 0
+  abbrev TickLies : List Pointers → Result Nested TickEnd → Type 0
   TickLies sps (Ok y) = Lies sps y.config.state y.acts
   TickLies sps (Err e) = EndLies sps e.end
 
-  at_step_lies : (sps : List ℕ) (k : ℕ) (younger : Bool) (r : NestedStep) → StepLies sps r → TickLies sps (at_step k younger r)
+  at_step_lies : (sps : List Pointers) (k : ℕ) (younger : Bool) (r : NestedStep) → StepLies sps r → TickLies sps (at_step k younger r)
   at_step_lies sps k younger (Ok y) h = h
   at_step_lies sps k younger (Err e) h = h
 
-  then_tick : (sps : List ℕ) (r : Result Nested TickEnd) (f : Nested → Result Nested TickEnd) → TickLies sps r → ((y : Nested) → Lies sps y.config.state y.acts → TickLies sps (f y)) → TickLies sps (then r f)
+  then_tick : (sps : List Pointers) (r : Result Nested TickEnd) (f : Nested → Result Nested TickEnd) → TickLies sps r → ((y : Nested) → Lies sps y.config.state y.acts → TickLies sps (f y)) → TickLies sps (then r f)
   then_tick sps (Ok y) f h k = k y h
   then_tick sps (Err e) f h k = h
 
-  letters_lie : (sps ls : List ℕ) (k : ℕ) (x : Nested) → Lies sps x.config.state x.acts → TickLies sps (letters listing s k ls x)
+  letters_lie : (sps : List Pointers) (ls : List ℕ) (k : ℕ) (x : Nested) → Lies sps x.config.state x.acts → TickLies sps (letters listing s k ls x)
   letters_lie sps [] k x h = h
   letters_lie sps (l ∷ ls) k x h =
       then_tick sps (at_step (k + 1) (l == younger_letter) (letter listing s l x)) (letters listing s (k + 1) ls)
@@ -194,38 +209,38 @@ module _ (listing : Listing) (s : Sched) where
     taint : TaintLies s x.entries x.machine.config.state
     frames : x.outcome ≡ None → FramesBelow x.entries x.machine.acts
 
-  ended_lies : (o : Outcome) (m : Nested) (t : ℕ) (sps : List ℕ) → TaintLies s sps m.config.state → RunLies (record { outcome = Some o; machine = m; ticks = t; entries = sps })
+  ended_lies : (o : Outcome) (m : Nested) (t : ℕ) (sps : List Pointers) → TaintLies s sps m.config.state → RunLies (record { outcome = Some o; machine = m; ticks = t; entries = sps })
   ended_lies o m t sps h = record { taint = h; frames = λ none. absurd cc }
 
-  going_lies : (m : Nested) (t : ℕ) (sps : List ℕ) → Lies sps m.config.state m.acts → RunLies (record { outcome = None; machine = m; ticks = t; entries = sps })
+  going_lies : (m : Nested) (t : ℕ) (sps : List Pointers) → Lies sps m.config.state m.acts → RunLies (record { outcome = None; machine = m; ticks = t; entries = sps })
   going_lies m t sps h = record { taint = h.taint; frames = λ none. h.frames }
 
-  stopped_state : (sps : List ℕ) (acts : List Interrupted) (c : Config State) (e : _) → TaintLies s sps c.state → TaintLies s sps (stopped_under acts c e).state
+  stopped_state : (sps : List Pointers) (acts : List Interrupted) (c : Config State) (e : _) → TaintLies s sps c.state → TaintLies s sps (stopped_under acts c e).state
   stopped_state sps [] c e h = h
   stopped_state sps (x ∷ acts) c e h = h
 
-  stops_lie : (t k : ℕ) (younger : Bool) (e : NestedEnd) (sps : List ℕ) → EndLies sps e → RunLies (stops t k younger e sps)
+  stops_lie : (t k : ℕ) (younger : Bool) (e : NestedEnd) (sps : List Pointers) → EndLies sps e → RunLies (stops t k younger e sps)
   stops_lie t k younger (Ended (Stopped c e) acts) sps h = ended_lies _ _ t sps (stopped_state sps acts c _ h)
   stops_lie t k younger (Ended (Breaks c r) acts) sps h = ended_lies _ _ t sps h
   stops_lie t k younger (Offends what c acts) sps h = ended_lies _ _ t sps h
 
   -- AN ENTRY
-  room_of : (floor : ℕ) (r : Regs) (m : _) (e : ℕ) → entry_refusal floor r m e ≡ None → has_room floor r ≡ true
-  room_of floor r m e h = by_room (has_room floor r) _ _ h
+  room_of : (bounds : Bounds) (r : Regs) (m : _) (e : ℕ) → entry_refusal bounds r m e ≡ None → has_room bounds r ≡ true
+  room_of bounds r m e h = by_room (has_room bounds r) _ _ h
     where
       by_room : (b : Bool) (why : EnterErr) (rest : Option EnterErr) → cond (not b) (Some why) rest ≡ None → b ≡ true
       by_room true why rest h = refl
       by_room false why rest h = absurd cc
 
-  module _ (e : ℕ) (x : Nested) (sps : List ℕ) (free : entry_refusal s.floor (regs_of x.config.state) (seen_in x.config.state) e ≡ None) (old : Lies sps x.config.state x.acts) where
+  module _ (e : ℕ) (x : Nested) (sps : List Pointers) (free : entry_refusal (bounds_of s) (regs_of x.config.state) (seen_in x.config.state) e ≡ None) (old : Lies sps x.config.state x.acts) where
     abbrev r : Regs
     r = regs_of x.config.state
 
     abbrev y : Activation
     y = (interrupted_by e x.config).stacked
 
-    room : has_room s.floor r ≡ true
-    room = room_of s.floor r (seen_in x.config.state) e free
+    room : has_room (bounds_of s) r ≡ true
+    room = room_of (bounds_of s) r (seen_in x.config.state) e free
 
     fits : frame_base r + frame_size r.fpca ≤ r.sp
     fits =
@@ -234,45 +249,42 @@ module _ (listing : Listing) (s : Sched) where
         let high : frame_base r + frame_size r.fpca ≤ 0x20040000 = grind (arith, nat_tests) in
         frame_fits r.sp (frame_size r.fpca) (frame_base r) ((r.sp + 2 ^ 32 - frame_size r.fpca) % 2 ^ 32) refl refl small high
 
-    low : s.floor ≤ frame_base r
+    low : floor_for (bounds_of s) r ≤ frame_base r
     low = let there = room in grind (arith, nat_tests)
 
-    below : (a : ℕ) → a < frame_base r → a < r.sp
-    below a l = let high = fits in omega arith
+    -- where the frame is on the process stack, the main stack pointer stays
+    below : (a : ℕ) → a < main_after y → BelowMain a (pointers_of r ∷ sps)
+    below a l = inl (main_below (uses_process r) r.other (frame_base r) (frame_size r.fpca) r.sp a fits l)
 
-    entry_taint : TaintLies s (r.sp ∷ sps) (entered_state s y x.config.state)
+    entry_taint : TaintLies s (pointers_of r ∷ sps) (entered_state s y x.config.state)
     unfolding state_with
     entry_taint a live = decide (in_frame y a)
         (λ is.
         let start : frame_base r ≤ a = grind (arith, nat_tests) in
         let end : a < frame_base r + frame_size r.fpca = grind (arith, nat_tests) in
-        let high = fits in
-        let floor = low in
-        let over : s.floor ≤ a = omega arith in
-        let under : a < r.sp = omega arith in
-        inr (over, inl under))
-        (λ isnt. more r.sp sps a (old.taint a (sym (ap (λ (b : Bool). cond b true (x.config.state.cell (Byte a)).taint) isnt) ∙ live)))
+        inr (framed (uses_process r) r.other (frame_base r) (frame_size r.fpca) r.sp s.floor s.process a _ _ fits low start end))
+        (λ isnt. more (pointers_of r) sps a (old.taint a (sym (ap (λ (b : Bool). cond b true (x.config.state.cell (Byte a)).taint) isnt) ∙ live)))
 
-    entry_lies : Lies (r.sp ∷ sps) (entered s e x).config.state (entered s e x).acts
-    entry_lies = record { taint = entry_taint; frames = (λ a l. inl (below a l), more_frames r.sp sps x.acts old.frames) }
+    entry_lies : Lies (pointers_of r ∷ sps) (entered s e x).config.state (entered s e x).acts
+    entry_lies = record { taint = entry_taint; frames = (below, more_frames (pointers_of r) sps x.acts old.frames) }
 
-  enters_lie : (e : ℕ) (o : Option EnterErr) (x : Nested) (t : ℕ) (sps : List ℕ) → entry_refusal s.floor (regs_of x.config.state) (seen_in x.config.state) e ≡ o → Lies sps x.config.state x.acts
+  enters_lie : (e : ℕ) (o : Option EnterErr) (x : Nested) (t : ℕ) (sps : List Pointers) → entry_refusal (bounds_of s) (regs_of x.config.state) (seen_in x.config.state) e ≡ o → Lies sps x.config.state x.acts
       → RunLies (enters_unless s e o (record { outcome = None; machine = x; ticks = t; entries = sps }))
-  enters_lie e None x t sps free old = going_lies (entered s e x) t ((regs_of x.config.state).sp ∷ sps) (entry_lies e x sps free old)
+  enters_lie e None x t sps free old = going_lies (entered s e x) t (pointers_of (regs_of x.config.state) ∷ sps) (entry_lies e x sps free old)
   enters_lie e (Some why) x t sps free old = ended_lies _ x t sps old.taint
 
-  picked_lies : (o : Option ℕ) (x : Nested) (t : ℕ) (sps : List ℕ) → Lies sps x.config.state x.acts → RunLies (enters s o (record { outcome = None; machine = x; ticks = t; entries = sps }))
+  picked_lies : (o : Option ℕ) (x : Nested) (t : ℕ) (sps : List Pointers) → Lies sps x.config.state x.acts → RunLies (enters s o (record { outcome = None; machine = x; ticks = t; entries = sps }))
   picked_lies None x t sps old = going_lies x t sps old
-  picked_lies (Some e) x t sps old = enters_lie e (entry_refusal s.floor (regs_of x.config.state) (seen_in x.config.state) e) x t sps refl old
+  picked_lies (Some e) x t sps old = enters_lie e (entry_refusal (bounds_of s) (regs_of x.config.state) (seen_in x.config.state) e) x t sps refl old
 
-  may_enter_lies : (b : Bool) (x : Nested) (t : ℕ) (sps : List ℕ) → Lies sps x.config.state x.acts
+  may_enter_lies : (b : Bool) (x : Nested) (t : ℕ) (sps : List Pointers) → Lies sps x.config.state x.acts
       → let y : Run = record { outcome = None; machine = x; ticks = t; entries = sps } in RunLies (cond b (enters s (picks y) y) y)
   may_enter_lies true x t sps old = picked_lies (picks (record { outcome = None; machine = x; ticks = t; entries = sps })) x t sps old
   may_enter_lies false x t sps old = going_lies x t sps old
 
-  judged_lies : (b : Bool) (line : TickLine) (x : Nested) (t : ℕ) (sps : List ℕ) (o : Outcome) → Lies sps x.config.state x.acts
+  judged_lies : (b : Bool) (line : TickLine) (x : Nested) (t : ℕ) (sps : List Pointers) (o : Outcome) → Lies sps x.config.state x.acts
       → let y : Run = record { outcome = None; machine = x; ticks = t; entries = sps } in RunLies (cond b (may_enter s (after_count line y)) (record y { outcome = Some o }))
-  judged_lies true line x t sps o old = may_enter_lies s.entries _ t sps (record { taint = old.taint; frames = old.frames })
+  judged_lies true line x t sps o old = may_enter_lies s.entries (record x { config = record x.config { state = with_devices (counted_with line.irq) x.config.state } }) t sps (record { taint = old.taint; frames = old.frames })
   judged_lies false line x t sps o old = ended_lies o x t sps old.taint
 
   tick_ends : (line : TickLine) (x : Run) (r : Result Nested TickEnd) → TickLies x.entries r → RunLies (ended s line x r)

@@ -1,7 +1,7 @@
 -- The priorities of active exceptions are eight and fall, so that at most eight are active.
 use Rattle.std.proofs.Common.{◌≡◌, ℕ, suc, ◌+◌, ◌-◌, ◌*◌, ◌%◌, ◌<◌, ◌≤◌, Bool, true, false, cond, ◌&&◌, ◌==◌, nat_lt, List, [], ◌∷◌, length, get_or, Option, Some, arith, refl, sym, ap, subst}
 use Rattle.std.specs.Prelude.{All, min}
-use Rattle.std.proofs.Math.Nat.{min-eq_left}
+use Rattle.std.proofs.Math.Nat.{min-eq_left, min-le_right}
 use Rattle.std.proofs.lemmas.Bool.Decides.{nat_tests}
 use Rattle.std.proofs.lemmas.List.{get_or_past}
 use Rattle.std.proofs.lemmas.List.Elements.{All-get_or}
@@ -11,10 +11,10 @@ use Rattle.hm_mem.specs.declared.Dev.{Dev}
 use Rattle.hm_order.proofs.Results.{decide}
 use Rattle.hm_sys.proofs.Picked.{best_below, waits}
 use Rattle.hm_sys.specs.Best.{IsBest, IsFirst}
-use Rattle.hm_sys.specs.Exceptions.{is_waiting, picked, priority_of, tick_number}
+use Rattle.hm_sys.specs.Exceptions.{IsException, end_number, is_waiting, picked, priority_of, tick_number}
 use Rattle.hm_handlers.specs.Entries.{least_active, running_priority}
 use Rattle.hm_handlers.specs.Nested.{Interrupted}
-use Rattle.hm_handlers.specs.Sound.{AreUrgent, IsException}
+use Rattle.hm_handlers.specs.Sound.{AreUrgent}
 
 -- DEVICES that agree on what a thread may read of them have the same priorities.
 module _ (d e : Dev) (same : open_devices e ≡ open_devices d) where
@@ -82,21 +82,20 @@ module _ (d : Dev) (levels : HasLevels d) where
       omega arith
 
 -- WHAT IS PICKED is an exception more urgent than all that are active
-module _ (d : Dev) (primask : Bool) (acts : List Interrupted) (e : ℕ) (h : picked d (running_priority d primask acts) ≡ Some e) where
-  first : IsFirst d (running_priority d primask acts) 48 e
-  first = subst (λ (o : Option ℕ). IsBest d (running_priority d primask acts) 48 o) h (best_below d (running_priority d primask acts) 48)
+module _ (d : Dev) (mask : ℕ) (acts : List Interrupted) (e : ℕ) (h : picked d (running_priority d mask acts) ≡ Some e) where
+  first : IsFirst d (running_priority d mask acts) end_number e
+  first = subst (λ (o : Option ℕ). IsBest d (running_priority d mask acts) end_number o) h (best_below d (running_priority d mask acts) end_number)
 
   pub picked_number : IsException e
-  picked_number = waits d (running_priority d primask acts) e first.eligible
+  picked_number = waits d (running_priority d mask acts) e first.eligible
 
   tested : (w : Bool) (p c : ℕ) → (w && nat_lt p c) ≡ true → p < c
   tested true p c t = grind (arith, nat_tests)
   tested false p c t = absurd cc
 
-  unmasked : (b : Bool) (p l : ℕ) → p < cond b 0 l → p < l
-  unmasked true p l t = absurd (omega arith)
-  unmasked false p l t = t
+  unmasked : (m p l : ℕ) → p < min m l → p < l
+  unmasked m p l t = let least : min m l ≤ l = min-le_right m l in omega arith
 
   pub picked_urgent : priority_of d e < least_active d acts
   picked_urgent =
-      unmasked primask (priority_of d e) (least_active d acts) (tested (is_waiting d e) (priority_of d e) (running_priority d primask acts) first.eligible)
+      unmasked mask (priority_of d e) (least_active d acts) (tested (is_waiting d e) (priority_of d e) (running_priority d mask acts) first.eligible)

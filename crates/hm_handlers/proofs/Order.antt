@@ -5,7 +5,7 @@ use Rattle.hm_base.specs.declared.Fault.{Fault}
 use Rattle.hm_base.specs.declared.Stop.{Stop}
 use Rattle.hm_base.specs.declared.Stop.TheVariants as stop
 use Rattle.hm_codes.specs.Listing.{Listing}
-use Rattle.hm_exc.specs.Entry.{actor_under}
+use Rattle.hm_exc.specs.Entry.{actor_under, main_after}
 use Rattle.hm_exc.specs.Return.{return_rule}
 use Rattle.hm_exc.specs.declared.types.Broken.{Broken}
 use Rattle.hm_exc.specs.declared.types.EnterErr.{EnterErr}
@@ -29,7 +29,7 @@ use Rattle.hm_run.specs.declared.Outcome.TheVariants as outcome
 use Rattle.hm_run.specs.Program.{Program, Stopping, is_tainted_cause, steps_left, vector_of}
 use Rattle.hm_run.specs.Timed as timed
 use Rattle.hm_exc.specs.declared.types.Activation.{Activation}
-use Rattle.hm_run.specs.Timed.{Timed, at_stop, counted_with, outcome_of, thread_program, with_devices}
+use Rattle.hm_run.specs.Timed.{Timed, at_stop, counted_with, outcome_of, thread_program, with_devices, bounds_of}
 use Rattle.hm_sched.specs.Schedule.{TickLine, Sched, older_letter, younger_letter, ticks_of}
 use Rattle.hm_state.specs.Start.{start}
 use Rattle.hm_state.specs.State.{State, regs_of}
@@ -42,7 +42,7 @@ use Rattle.hm_handlers.specs.Entries.{entered, interrupted_by, refused}
 use Rattle.hm_handlers.specs.Nested.{Ended, Interrupted, Nested, NestedEnd, NestedStep, Offends, TickEnd, around_under, at_step, flows, handler_step, handles, letter, letters, program_under, returned, step, step_under, steps, uncounted, went, with_acts}
 use Rattle.hm_handlers.specs.Order.{HaltsInThread, AgreesInThread, KeepsOrder, thread_at, thread_of}
 use Rattle.hm_handlers.specs.Registers.{registers_in, restored}
-use Rattle.hm_handlers.specs.Runs.{Run, begin, after_count, closed, ended, enters, enters_unless, may_enter, next, picks, run, stops, tick_of, stacked_of}
+use Rattle.hm_handlers.specs.Runs.{Pointers, Run, begin, after_count, closed, ended, enters, enters_unless, may_enter, next, picks, run, stops, tick_of, stacked_of}
 use Rattle.hm_handlers.proofs.Hiding.{Hides, counted_hides, entry_hides, own_live, restored_live, scalar_hides}
 use Rattle.hm_handlers.proofs.Steps.{IsStop, StepHides, fault_hides, row_hides, younger_hides}
 
@@ -59,7 +59,7 @@ module _ (listing : Listing) (s : Sched) (first : State) where
   hidden c d x [] n steps h holds =
       let t = restored x.registers Thread d.state in
       subst (Holds machine first) (λ j. record { a = x.a; b = x.b; n = sym n j; steps = sym steps j; state = t })
-      (interrupt_holds machine (laws listing (thread_under s.lo s.hi s.floor) refl) first (thread_of c (x ∷ [])) t (restored_live x.registers c.state d.state h, refl) holds)
+      (interrupt_holds machine (laws listing (thread_under (bounds_of s)) refl) first (thread_of c (x ∷ [])) t (restored_live x.registers c.state d.state h, refl) holds)
   hidden c d x (y ∷ acts) n steps h holds = hidden c d y acts n steps h holds
 
   -- AN ENTRY, which leaves the memory so
@@ -67,7 +67,7 @@ module _ (listing : Listing) (s : Sched) (first : State) where
   enters_thread e c d n steps h holds =
       let t = restored (registers_in c.state) Thread d.state in
       subst (Holds machine first) (λ j. record { a = c.a; b = c.b; n = sym n j; steps = sym steps j; state = t })
-      (interrupt_holds machine (laws listing (thread_under s.lo s.hi s.floor) refl) first c t (own_live c.state d.state h, refl) holds)
+      (interrupt_holds machine (laws listing (thread_under (bounds_of s)) refl) first c t (own_live c.state d.state h, refl) holds)
 
   enters_any : (e : ℕ) (c d : Config State) (acts : List Interrupted) → d.n ≡ c.n → d.steps ≡ c.steps → Hides c.state d.state → InOrder c acts
       → InOrder d (interrupted_by e c ∷ acts)
@@ -118,9 +118,9 @@ module _ (listing : Listing) (s : Sched) (first : State) where
   handles_agrees : (c : Config State) (x : Interrupted) (acts : List Interrupted) (r : Result Instr Fault) → listing c.state.pc ≡ r → InOrder c (x ∷ acts)
       → AgreesStep (handles (program_under listing s (x ∷ acts)) (around_under s (x ∷ acts)) r c x acts)
   handles_agrees c x acts (Ok (instr.Scalar i)) e holds =
-      went_agrees (program_under listing s (x ∷ acts)) c x acts (scalar_in_machine (around_under s (x ∷ acts)) (instr.Scalar i) c.state) holds (λ y k. scalar_hides x.stacked.frame s.lo s.hi s.floor (instr.Scalar i) c.state y k)
+      went_agrees (program_under listing s (x ∷ acts)) c x acts (scalar_in_machine (around_under s (x ∷ acts)) (instr.Scalar i) c.state) holds (λ y k. scalar_hides (main_after x.stacked) (bounds_of s) (instr.Scalar i) c.state y k)
   handles_agrees c x acts (Ok (instr.Branch i)) e holds =
-      went_agrees (program_under listing s (x ∷ acts)) c x acts (scalar_in_machine (around_under s (x ∷ acts)) (instr.Branch i) c.state) holds (λ y k. scalar_hides x.stacked.frame s.lo s.hi s.floor (instr.Branch i) c.state y k)
+      went_agrees (program_under listing s (x ∷ acts)) c x acts (scalar_in_machine (around_under s (x ∷ acts)) (instr.Branch i) c.state) holds (λ y k. scalar_hides (main_after x.stacked) (bounds_of s) (instr.Branch i) c.state y k)
   handles_agrees c x acts (Ok (instr.Vector v)) e holds = handler_agrees c x acts _ holds (row_hides listing (around_under s (x ∷ acts)) refl v c e)
   handles_agrees c x acts (Err f) e holds = handler_agrees c x acts _ holds (fault_hides listing (around_under s (x ∷ acts)) refl f c e)
 
@@ -129,8 +129,8 @@ module _ (listing : Listing) (s : Sched) (first : State) where
   handler_step_agrees Younger c x acts holds = handler_agrees c x acts _ holds (younger_hides listing (around_under s (x ∷ acts)) refl c)
 
   turn_agrees : (t : Turn) (c : Config State) → Holds machine first c → Agrees machine first (turn machine t c)
-  turn_agrees Older c h = older_agrees machine (laws listing (thread_under s.lo s.hi s.floor) refl) first c h
-  turn_agrees Younger c h = younger_agrees machine (laws listing (thread_under s.lo s.hi s.floor) refl) first c h
+  turn_agrees Older c h = older_agrees machine (laws listing (thread_under (bounds_of s)) refl) first c h
+  turn_agrees Younger c h = younger_agrees machine (laws listing (thread_under (bounds_of s)) refl) first c h
 
   under_agrees : (t : Turn) (c : Config State) (acts : List Interrupted) → InOrder c acts → AgreesStep (step_under listing s t c acts)
   under_agrees t c [] h = thread_agrees (turn machine t c) (turn_agrees t c h)
@@ -165,7 +165,7 @@ module _ (listing : Listing) (s : Sched) (first : State) where
   OnlyTainted (Err (Ended (Breaks c r) acts)) = Unit {0}
   OnlyTainted (Err (Offends what c acts)) = Unit {0}
 
-  only_thread : (r : Result (Config State) (End State Cause _)) → OnlyTaint listing (thread_under s.lo s.hi s.floor) refl first r → OnlyTainted (with_acts [] r)
+  only_thread : (r : Result (Config State) (End State Cause _)) → OnlyTaint listing (thread_under (bounds_of s)) refl first r → OnlyTainted (with_acts [] r)
   only_thread (Ok c) h = tt
   only_thread (Err (Stopped c e)) h = h
   only_thread (Err (Breaks c r)) h = tt
@@ -176,7 +176,7 @@ module _ (listing : Listing) (s : Sched) (first : State) where
   only_handler x acts (Err (Breaks c r)) = tt
 
   only_under : (c : Config State) (acts : List Interrupted) → OnlyTainted (step_under listing s Younger c acts)
-  only_under c [] = only_thread (younger machine c) (younger_only listing (thread_under s.lo s.hi s.floor) refl first c _ _)
+  only_under c [] = only_thread (younger machine c) (younger_only listing (thread_under (bounds_of s)) refl first c _ _)
   only_under c (x ∷ acts) = only_handler x acts _
 
   only_letter : (l : ℕ) (x : Nested) → (l == younger_letter) ≡ true → OnlyTainted (letter listing s l x)
@@ -246,10 +246,10 @@ module _ (listing : Listing) (s : Sched) (first : State) where
   handler_cause t x xs c pc cause.Full acts h = absurd h
   handler_cause t x xs c pc (cause.Stop e) acts h = handler_stop t x xs c pc e acts
 
-  stops_keep : (t k : ℕ) (younger : Bool) (e : NestedEnd) (es : List ℕ) → AgreesEnd e → (younger ≡ true → OnlyTainted (Err e)) → KeepsRun (stops t k younger e es)
+  stops_keep : (t k : ℕ) (younger : Bool) (e : NestedEnd) (es : List Pointers) → AgreesEnd e → (younger ≡ true → OnlyTainted (Err e)) → KeepsRun (stops t k younger e es)
   stops_keep t k younger (Ended (Stopped c e) []) es h only =
       let stopping : Stopping = record { cause = e; younger = younger } in
-      let around = thread_under s.lo s.hi s.floor in
+      let around = thread_under (bounds_of s) in
       thread_outcome (outcome_of t [] c stopping) (at_stop c stopping)
       (stop_keeps listing around refl first t no_timed c e younger h only (next_stops listing around refl first c.n e (explained machine first c e h)))
       (still_thread (Some (outcome_of t [] c stopping)) (at_stop c stopping))
@@ -258,9 +258,9 @@ module _ (listing : Listing) (s : Sched) (first : State) where
   stops_keep t k younger (Offends what c acts) es h only = record { thread = tt; halts = tt }
 
   -- THE END OF A TICK
-  counted_in_order : (irq : ℕ) (c : Config State) (acts : List Interrupted) → InOrder c acts → InOrder (record c { state = with_devices (counted_with irq) c.state }) acts
+  counted_in_order : (irq : List ℕ) (c : Config State) (acts : List Interrupted) → InOrder c acts → InOrder (record c { state = with_devices (counted_with irq) c.state }) acts
   counted_in_order irq c [] h =
-      interrupt_holds machine (laws listing (thread_under s.lo s.hi s.floor) refl) first c _ (devices_restore listing (thread_under s.lo s.hi s.floor) refl first irq c.state) h
+      interrupt_holds machine (laws listing (thread_under (bounds_of s)) refl) first c _ (devices_restore listing (thread_under (bounds_of s)) refl first irq c.state) h
   counted_in_order irq c (x ∷ acts) h = hidden c (record c { state = with_devices (counted_with irq) c.state }) x acts refl refl (counted_hides irq c.state) h
 
   going : (x : Nested) → InOrder x.config x.acts → AgreesInThread machine first None x
@@ -270,23 +270,23 @@ module _ (listing : Listing) (s : Sched) (first : State) where
   refused_keeps t x (err.StackSpent sp) = record { thread = tt; halts = tt }
   refused_keeps t x (err.Vector addr) = record { thread = tt; halts = tt }
 
-  enters_keep : (e : ℕ) (o : Option EnterErr) (x : Nested) (t : ℕ) (es : List ℕ) → InOrder x.config x.acts → KeepsRun (enters_unless s e o (record { outcome = None; machine = x; ticks = t; entries = es }))
+  enters_keep : (e : ℕ) (o : Option EnterErr) (x : Nested) (t : ℕ) (es : List Pointers) → InOrder x.config x.acts → KeepsRun (enters_unless s e o (record { outcome = None; machine = x; ticks = t; entries = es }))
   enters_keep e None x t es h =
       going (entered s e x) (enters_any e x.config (entered s e x).config x.acts refl refl (entry_hides s (interrupted_by e x.config).stacked x.config.state) h)
   enters_keep e (Some why) x t es h = refused_keeps t x why
 
-  picked_keeps : (o : Option ℕ) (x : Nested) (t : ℕ) (es : List ℕ) → InOrder x.config x.acts → KeepsRun (enters s o (record { outcome = None; machine = x; ticks = t; entries = es }))
+  picked_keeps : (o : Option ℕ) (x : Nested) (t : ℕ) (es : List Pointers) → InOrder x.config x.acts → KeepsRun (enters s o (record { outcome = None; machine = x; ticks = t; entries = es }))
   picked_keeps None x t es h = going x h
   picked_keeps (Some e) x t es h = enters_keep e _ x t es h
 
-  may_enter_keeps : (b : Bool) (x : Nested) (t : ℕ) (es : List ℕ) → InOrder x.config x.acts
+  may_enter_keeps : (b : Bool) (x : Nested) (t : ℕ) (es : List Pointers) → InOrder x.config x.acts
       → let y : Run = record { outcome = None; machine = x; ticks = t; entries = es } in KeepsRun (cond b (enters s (picks y) y) y)
   may_enter_keeps true x t es h = picked_keeps (picks (record { outcome = None; machine = x; ticks = t; entries = es })) x t es h
   may_enter_keeps false x t es h = going x h
 
-  judged : (b : Bool) (line : TickLine) (x : Nested) (t : ℕ) (es : List ℕ) (o : Outcome) → AgreesInThread machine first (Some o) x → InOrder x.config x.acts
+  judged : (b : Bool) (line : TickLine) (x : Nested) (t : ℕ) (es : List Pointers) (o : Outcome) → AgreesInThread machine first (Some o) x → InOrder x.config x.acts
       → let y : Run = record { outcome = None; machine = x; ticks = t; entries = es } in KeepsRun (cond b (may_enter s (after_count line y)) (record y { outcome = Some o }))
-  judged true line x t es o broken h = may_enter_keeps s.entries _ t es (counted_in_order line.irq x.config x.acts h)
+  judged true line x t es o broken h = may_enter_keeps s.entries (record x { config = record x.config { state = with_devices (counted_with line.irq) x.config.state } }) t es (counted_in_order line.irq x.config x.acts h)
   judged false line x t es o broken h = broken
 
   ended_keeps : (line : TickLine) (x : Run) (r : Result Nested TickEnd) → AgreesTick r → KeepsRun (ended s line x r)

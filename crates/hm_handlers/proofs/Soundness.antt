@@ -5,7 +5,7 @@ use Rattle.hm_base.specs.Image.{Segment}
 use Rattle.hm_base.specs.declared.Fault.{Fault}
 use Rattle.hm_base.specs.declared.Stop.{Stop}
 use Rattle.hm_codes.specs.Listing.{Listing}
-use Rattle.hm_exc.specs.Entry.{CanEnter, actor_under, entry_refusal}
+use Rattle.hm_exc.specs.Entry.{CanEnter, actor_under, entry_refusal, main_after}
 use Rattle.hm_exc.specs.Frame.{is_between}
 use Rattle.hm_exc.specs.Return.{return_rule}
 use Rattle.hm_exc.specs.declared.types.Broken.{Broken as Breach}
@@ -28,19 +28,19 @@ use Rattle.hm_run.specs.declared.Cause.{Cause}
 use Rattle.hm_run.specs.declared.Outcome.{Outcome}
 use Rattle.hm_run.specs.Program.{steps_left, vector_of}
 use Rattle.hm_run.specs.Timed as timed
-use Rattle.hm_run.specs.Timed.{counted_with, with_devices}
+use Rattle.hm_run.specs.Timed.{counted_with, with_devices, bounds_of}
 use Rattle.hm_sched.specs.Schedule.{TickLine, Sched, older_letter, younger_letter, ticks_of}
 use Rattle.hm_state.specs.Start.{start_under}
 use Rattle.hm_state.specs.State.{State, regs_of}
 use Rattle.hm_whole.specs.Whole.{Went, scalar_in_machine, seen_in, state_with}
 use Rattle.hm_window.specs.Positions.{may_end}
 use Rattle.hm_window.specs.declared.rule.Rule.{Rule}
-use Rattle.hm_sys.specs.Exceptions.{priority_of}
-use Rattle.hm_handlers.specs.Entries.{entered, entered_state, interrupted_by, least_active, position_of}
+use Rattle.hm_sys.specs.Exceptions.{IsException, end_number, priority_of}
+use Rattle.hm_handlers.specs.Entries.{entered, entered_state, interrupted_by, least_active, mask_of, position_of}
 use Rattle.hm_handlers.specs.Nested.{Ended, Interrupted, Nested, NestedEnd, NestedStep, Offends, TickEnd, around_under, at_step, flows, handler_step, handles, letter, letters, program_under, returned, step, step_under, steps, uncounted, went, with_acts}
 use Rattle.hm_handlers.specs.Registers.{restored}
-use Rattle.hm_handlers.specs.Runs.{Run, after_count, begin, closed, ended, enters, enters_unless, may_enter, next, picks, run, stops, tick_of}
-use Rattle.hm_handlers.specs.Sound.{AreStacked, AreUrgent, IsException, IsSound, FitsInside, number_under}
+use Rattle.hm_handlers.specs.Runs.{Pointers, Run, after_count, begin, closed, ended, enters, enters_unless, may_enter, next, picks, run, stops, tick_of}
+use Rattle.hm_handlers.specs.Sound.{AreStacked, AreUrgent, IsSound, FitsInside, number_under}
 use Rattle.hm_handlers.proofs.Entering.{stacked_by}
 use Rattle.hm_handlers.proofs.Hiding.{Hides, counted_hides, entry_hides, scalar_hides}
 use Rattle.hm_handlers.proofs.Leaving.{Leaves, RowLeaves, StepLeaves, fault_leaves, older_leaves, same_leaves, scalar_leaves, vector_leaves, younger_leaves, younger_steps}
@@ -57,6 +57,7 @@ start_sound image s = record {
   around = refl;
   levels = start-levels;
   number = refl;
+  selects = λ n. refl;
   block = (omega arith, λ h. refl);
   inside = not_inside;
   stacked = tt;
@@ -73,6 +74,7 @@ module _ (s : Sched) where
     around = left.around ∙ h.around;
     levels = left.levels h.levels;
     number = left.number ∙ h.number;
+    selects = left.selects h.selects;
     block = left.block h.block;
     inside = inside;
     stacked = h.stacked;
@@ -101,11 +103,13 @@ module _ (s : Sched) where
         let x_fits = h.stacked.0 in
         let byte : x.registers.beside.it ≡ x.stacked.regs.it = ap (λ (r : Regs). r.it) (x_fits.registers Thread t) in
         let context : x.registers.beside.fpca ≡ x.stacked.regs.fpca = ap (λ (r : Regs). r.fpca) (x_fits.registers Thread t) in
+        let spsel : x.registers.beside.spsel ≡ x.stacked.regs.spsel = ap (λ (r : Regs). r.spsel) (x_fits.registers Thread t) in
         let number : x.registers.beside.ipsr ≡ x.stacked.regs.ipsr = ap (λ (r : Regs). r.ipsr) (x_fits.registers Thread t) in
         record {
           around = ap (λ (around : Around). record around { actor = actor_under (map (λ y. y.stacked) acts) }) h.around;
           levels = h.levels;
           number = number ∙ x_fits.number;
+          selects = λ n. spsel ∙ x_fits.fits.enters.selects (λ e. n (number ∙ e));
           block = subst IsBlockByte (sym byte) x_fits.block;
           inside = λ e. (byte ∙ x_fits.fits.enters.inside (ap is_between x_fits.position ∙ e), context ∙ x_fits.context e);
           stacked = h.stacked.1;
@@ -134,7 +138,7 @@ module _ (s : Sched) where
           → StepSound (went (program_under listing s (x ∷ acts)) c x acts (scalar_in_machine (around_under s (x ∷ acts)) i c.state))
       scalar_sound i c h =
           went_sound c (scalar_in_machine (around_under s (x ∷ acts)) i c.state) h (scalar_leaves (around_under s (x ∷ acts)) i c.state)
-          (λ y e. scalar_hides x.stacked.frame s.lo s.hi s.floor i c.state y e)
+          (λ y e. scalar_hides (main_after x.stacked) (bounds_of s) i c.state y e)
 
       handles_sound : (c : Config State) (r : Result Instr Fault) → listing c.state.pc ≡ r → Sound c (x ∷ acts)
           → StepSound (handles (program_under listing s (x ∷ acts)) (around_under s (x ∷ acts)) r c x acts)
@@ -189,7 +193,7 @@ module _ (s : Sched) where
         (at_step_sound (k + 1) (l == younger_letter) (letter listing s l x) (letter_sound l x h)) (letters_sound (k + 1) ls)
 
   -- THE END OF A TICK
-  pub counted_sound : (irq : ℕ) (x : Nested) → IsSound s x → IsSound s (record x { config = record x.config { state = with_devices (counted_with irq) x.config.state } })
+  pub counted_sound : (irq : List ℕ) (x : Nested) → IsSound s x → IsSound s (record x { config = record x.config { state = with_devices (counted_with irq) x.config.state } })
   counted_sound irq x h =
       let d = x.config.state.rest.devices in
       let same : open_devices (counted_with irq d) ≡ open_devices d = (counted_hides irq x.config.state).devices in
@@ -197,6 +201,7 @@ module _ (s : Sched) where
         around = h.around;
         levels = levels_same d (counted_with irq d) same h.levels;
         number = h.number;
+        selects = h.selects;
         block = h.block;
         inside = h.inside;
         stacked = h.stacked;
@@ -205,11 +210,11 @@ module _ (s : Sched) where
 
   number_below : (acts : List Interrupted) → AreStacked acts → number_under acts < 512
   number_below [] h = omega arith
-  number_below (x ∷ acts) h = let high : x.stacked.number ≤ 47 = h.0.exception.1 in omega arith
+  number_below (x ∷ acts) h = let high : x.stacked.number < end_number = h.0.exception.1 in omega arith
 
   pub can_enter : (x : Nested) → IsSound s x → may_end x.config.a x.config.b ≡ true → CanEnter (regs_of x.config.state) (position_of x.config)
   unfolding regs_of
-  can_enter x h end = record { position = end; number = subst (λ (n : ℕ). n < 512) (sym h.number) (number_below x.acts h.stacked); block = h.block.1; inside = λ e. (h.inside e).0 }
+  can_enter x h end = record { position = end; number = subst (λ (n : ℕ). n < 512) (sym h.number) (number_below x.acts h.stacked); block = h.block.1; inside = λ e. (h.inside e).0; selects = h.selects }
 
   pub at_most_eight : (x : Nested) → IsSound s x → length x.acts ≤ 8
   at_most_eight x h = most_active x.config.state.rest.devices h.levels x.acts h.urgent
@@ -219,15 +224,15 @@ module _ (s : Sched) where
     t = x.machine.config.state
 
     exception : IsException e
-    exception = picked_number t.rest.devices t.rest.primask x.machine.acts e picks_it
+    exception = picked_number t.rest.devices (mask_of t.rest.primask t.rest.basepri) x.machine.acts e picks_it
 
     over : priority_of t.rest.devices e < least_active t.rest.devices x.machine.acts
-    over = picked_urgent t.rest.devices t.rest.primask x.machine.acts e picks_it
+    over = picked_urgent t.rest.devices (mask_of t.rest.primask t.rest.basepri) x.machine.acts e picks_it
 
     pub picked_sound : IsException e × (length x.machine.acts < 8)
     picked_sound = (exception, room_for t.rest.devices h.levels (priority_of t.rest.devices e) x.machine.acts over h.urgent)
 
-    pub entered_sound : may_end x.machine.config.a x.machine.config.b ≡ true → entry_refusal s.floor (regs_of t) (seen_in t) e ≡ None → IsSound s (entered s e x.machine)
+    pub entered_sound : may_end x.machine.config.a x.machine.config.b ≡ true → entry_refusal (bounds_of s) (regs_of t) (seen_in t) e ≡ None → IsSound s (entered s e x.machine)
     unfolding state_with
     entered_sound end free =
         let y = interrupted_by e x.machine.config in
@@ -238,9 +243,10 @@ module _ (s : Sched) where
           around = refl;
           levels = levels_same d now same h.levels;
           number = refl;
+          selects = λ n. refl;
           block = (omega arith, λ z. refl);
           inside = not_inside;
-          stacked = (stacked_by s.floor e x.machine.config x.machine.acts exception (can_enter x.machine h end) h.block h.inside h.number free, h.stacked);
+          stacked = (stacked_by (bounds_of s) e x.machine.config x.machine.acts exception (can_enter x.machine h end) h.block h.inside h.number free, h.stacked);
           urgent = (urgent_over d now same e x.machine.acts over, urgent_same d now same x.machine.acts h.urgent);
         }
 
@@ -249,13 +255,13 @@ module _ (s : Sched) where
   RunSound x = x.outcome ≡ None → IsSound s x.machine
 
   enters_sound : (x : Run) (e : ℕ) (o : Option EnterErr) → IsSound s x.machine → picks x ≡ Some e → may_end x.machine.config.a x.machine.config.b ≡ true
-      → entry_refusal s.floor (regs_of x.machine.config.state) (seen_in x.machine.config.state) e ≡ o → IsSound s (enters_unless s e o x).machine
+      → entry_refusal (bounds_of s) (regs_of x.machine.config.state) (seen_in x.machine.config.state) e ≡ o → IsSound s (enters_unless s e o x).machine
   enters_sound x e None h picks_it end free = entered_sound x e h picks_it end free
   enters_sound x e (Some why) h picks_it end free = h
 
   picks_sound : (x : Run) (o : Option ℕ) → IsSound s x.machine → picks x ≡ o → may_end x.machine.config.a x.machine.config.b ≡ true → IsSound s (enters s o x).machine
   picks_sound x None h picks_it end = h
-  picks_sound x (Some e) h picks_it end = enters_sound x e (entry_refusal s.floor (regs_of x.machine.config.state) (seen_in x.machine.config.state) e) h picks_it end refl
+  picks_sound x (Some e) h picks_it end = enters_sound x e (entry_refusal (bounds_of s) (regs_of x.machine.config.state) (seen_in x.machine.config.state) e) h picks_it end refl
 
   may_enter_sound : (b : Bool) (x : Run) → IsSound s x.machine → may_end x.machine.config.a x.machine.config.b ≡ true → IsSound s (cond b (enters s (picks x) x) x).machine
   may_enter_sound true x h end = picks_sound x (picks x) h refl end
@@ -270,7 +276,7 @@ module _ (s : Sched) where
   has_ended : {P : Type 0} (o : Outcome) → Some o ≡ None → P
   has_ended o e = absurd cc
 
-  stops_sound : (t k : ℕ) (younger : Bool) (e : NestedEnd) (sps : List ℕ) → RunSound (stops t k younger e sps)
+  stops_sound : (t k : ℕ) (younger : Bool) (e : NestedEnd) (sps : List Pointers) → RunSound (stops t k younger e sps)
   stops_sound t k younger (Ended (Stopped c e) acts) sps none = has_ended _ none
   stops_sound t k younger (Ended (Broken c r) acts) sps none = has_ended _ none
   stops_sound t k younger (Offends what c acts) sps none = has_ended _ none

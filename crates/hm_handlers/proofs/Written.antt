@@ -10,7 +10,7 @@ use Rattle.hm_beat.specs.Rows.{Tree, always}
 use Rattle.hm_beat.specs.Touches.{span_bytes}
 use Rattle.hm_beat.specs.Trees.{Check, Leaf, action, checked, finish, reach, written}
 use Rattle.hm_isa.specs.declared.Vector.{Vector}
-use Rattle.hm_mem.specs.Memory.{Around, thread_under}
+use Rattle.hm_mem.specs.Memory.{Around, thread_under, Bounds}
 use Rattle.hm_mem.specs.Seen.{fault_kind, is_denied, lies_in_sram, stop_after}
 use Rattle.hm_mem.specs.declared.Access.TheVariants.{Vector as VectorAccess}
 use Rattle.hm_moves.proofs.Accesses.{in_sram}
@@ -80,12 +80,12 @@ no_byte P ((At p, f) ∷ ws) h k = (tt, no_byte P ws h.1 k.1)
 no_byte P ((Byte a, f) ∷ ws) h k = absurd (true_not_false {P = ⊥} (f []).taint (h.0 []) (k.0 []))
 
 -- ROWS THAT STORE, of a handler
-module _ (frame lo hi floor : ℕ) where
+module _ (frame : ℕ) (bounds : Bounds) where
   abbrev x : Around
-  x = under_handler frame lo hi floor
+  x = under_handler frame bounds
 
   abbrev May : ℕ → Type 0
-  May = Allowed frame lo hi floor
+  May = Allowed frame bounds
 
   -- a store that has no sure stop
   free_store : (o : Option FaultKind) (denied : Bool) (a : ℕ) → stop_after o denied true a ≡ None → (o ≡ None) × (denied ≡ false)
@@ -105,14 +105,14 @@ module _ (frame lo hi floor : ℕ) where
   stored_at : (z : Size) (e : Element) → sure_stop x true (width z) e.addr ≡ None → WritesAt May (store_bytes true e 0 (span_bytes e.addr (width z)))
   stored_at z e free = by_size z refl
     where
-      both : (fault_kind false VectorAccess true (width z) e.addr ≡ None) × (is_denied x frame (width z) e.addr ≡ false)
-      both = free_store (fault_kind false VectorAccess true (width z) e.addr) (is_denied x frame (width z) e.addr) e.addr free
+      both : (fault_kind false VectorAccess true (width z) e.addr ≡ None) × (is_denied bounds frame (width z) e.addr ≡ false)
+      both = free_store (fault_kind false VectorAccess true (width z) e.addr) (is_denied bounds frame (width z) e.addr) e.addr free
 
       lies : lies_in_sram (width z) e.addr ≡ true
       lies = in_sram false (width z) e.addr both.0
 
       at : (k : ℕ) → k < width z → May (e.addr + k)
-      at k l = all_allowed frame lo hi floor (width z) e.addr (sized z) lies both.1 k l
+      at k l = all_allowed frame bounds (width z) e.addr (sized z) lies both.1 k l
 
       first : 0 < width z → May e.addr
       first l = subst May (add-zero e.addr) (at 0 l)
@@ -151,31 +151,31 @@ module _ (frame lo hi floor : ℕ) where
       by_store false e = fills May i 0 (elements_at i b s) (i.words b)
 
 -- ANY ROW
-module _ (frame lo hi floor : ℕ) where
-  kind_writes : (k : Kind) (b : ℕ) (s : State) → let t = tree_of k (under_handler frame lo hi floor) b in
-      checked cells (reach t s).checks s ≡ None → WritesAt (Allowed frame lo hi floor) (reach t s).writes
+module _ (frame : ℕ) (bounds : Bounds) where
+  kind_writes : (k : Kind) (b : ℕ) (s : State) → let t = tree_of k (under_handler frame bounds) b in
+      checked cells (reach t s).checks s ≡ None → WritesAt (Allowed frame bounds) (reach t s).writes
   kind_writes (Registers f) b s free =
-      no_byte (Allowed frame lo hi floor) (reach (tree_of (Registers f) (under_handler frame lo hi floor) b) s).writes
-      ((kind_laws (Registers f) tt).taints (under_handler frame lo hi floor) b s) ((kind_laws (Registers f) tt).taints (thread_under lo hi floor) b s)
+      no_byte (Allowed frame bounds) (reach (tree_of (Registers f) (under_handler frame bounds) b) s).writes
+      ((kind_laws (Registers f) tt).taints (under_handler frame bounds) b s) ((kind_laws (Registers f) tt).taints (thread_under bounds) b s)
   kind_writes (MovesKind t) b s free =
       let i = moves_by t in
-      let x = under_handler frame lo hi floor in
-      subst (λ (l : Leaf Cell Value Stop). WritesAt (Allowed frame lo hi floor) l.writes) (sym (reach_moves i x b s))
-      (moves_write frame lo hi floor i b s (ap (λ (l : Leaf Cell Value Stop). checked cells l.checks s) (sym (reach_moves i x b s)) ∙ free))
+      let x = under_handler frame bounds in
+      subst (λ (l : Leaf Cell Value Stop). WritesAt (Allowed frame bounds) l.writes) (sym (reach_moves i x b s))
+      (moves_write frame bounds i b s (ap (λ (l : Leaf Cell Value Stop). checked cells l.checks s) (sym (reach_moves i x b s)) ∙ free))
 
-  four_write : (v : Vector) (b : ℕ) (s : State) → let t = of_four (vector_tree v (under_handler frame lo hi floor)) b in
-      checked cells (reach t s).checks s ≡ None → WritesAt (Allowed frame lo hi floor) (reach t s).writes
+  four_write : (v : Vector) (b : ℕ) (s : State) → let t = of_four (vector_tree v (under_handler frame bounds)) b in
+      checked cells (reach t s).checks s ≡ None → WritesAt (Allowed frame bounds) (reach t s).writes
   four_write v b s = one_of (nat_lt b 4)
     where
-      one_of : (q : Bool) → let t = cond q (vector_tree v (under_handler frame lo hi floor) b) nothing in
-          checked cells (reach t s).checks s ≡ None → WritesAt (Allowed frame lo hi floor) (reach t s).writes
+      one_of : (q : Bool) → let t = cond q (vector_tree v (under_handler frame bounds) b) nothing in
+          checked cells (reach t s).checks s ≡ None → WritesAt (Allowed frame bounds) (reach t s).writes
       one_of true free = kind_writes (kind_of v) b s free
       one_of false free = tt
 
-  pub handler_beat : (v : Vector) (b : ℕ) (s t : State) → ((rows (under_handler frame lo hi floor)).act v b).run s ≡ Ok t → Grows (Allowed frame lo hi floor) s t
+  pub handler_beat : (v : Vector) (b : ℕ) (s t : State) → ((rows (under_handler frame bounds)).act v b).run s ≡ Ok t → Grows (Allowed frame bounds) s t
   handler_beat v b s t e =
-      let tree = of_four (vector_tree v (under_handler frame lo hi floor)) b in
-      beat_grows (Allowed frame lo hi floor) tree s t (four_write v b s) (caused_ok ((action cells tree).run s) t e)
+      let tree = of_four (vector_tree v (under_handler frame bounds)) b in
+      beat_grows (Allowed frame bounds) tree s t (four_write v b s) (caused_ok ((action cells tree).run s) t e)
 
 -- THE THREAD taints none
 put_clean : (c : Cell) (f : List Value → Value) (vs : List Value) (s : State) → Taints false c f → Grows Nothing s (put cells c (f vs) s)
@@ -194,14 +194,14 @@ finish_clean : (o : Option Stop) (l : Leaf Cell Value Stop) (s t : State) → Wr
 finish_clean (Some e) l s t taints h = absurd (ok_err (sym h))
 finish_clean None l s t taints h = subst (λ (u : State). Grows Nothing s u) (ok_same h) (λ a live. written_clean l.writes (map s.cell l.reads) s taints a live)
 
-four_clean : (lo hi floor : ℕ) (v : Vector) (b : ℕ) (s : State) → WritesTaint false (reach (of_four (vector_tree v (thread_under lo hi floor)) b) s).writes
-four_clean lo hi floor v b s = one_of (nat_lt b 4)
+four_clean : (bounds : Bounds) (v : Vector) (b : ℕ) (s : State) → WritesTaint false (reach (of_four (vector_tree v (thread_under bounds)) b) s).writes
+four_clean bounds v b s = one_of (nat_lt b 4)
   where
-    one_of : (q : Bool) → WritesTaint false (reach (cond q (vector_tree v (thread_under lo hi floor) b) nothing) s).writes
-    one_of true = (row_laws v).taints (thread_under lo hi floor) b s
+    one_of : (q : Bool) → WritesTaint false (reach (cond q (vector_tree v (thread_under bounds) b) nothing) s).writes
+    one_of true = (row_laws v).taints (thread_under bounds) b s
     one_of false = tt
 
-pub thread_beat : (lo hi floor : ℕ) (v : Vector) (b : ℕ) (s t : State) → ((rows (thread_under lo hi floor)).act v b).run s ≡ Ok t → Grows Nothing s t
-thread_beat lo hi floor v b s t e =
-    let tree = of_four (vector_tree v (thread_under lo hi floor)) b in
-    finish_clean (checked cells (reach tree s).checks s) (reach tree s) s t (four_clean lo hi floor v b s) (caused_ok ((action cells tree).run s) t e)
+pub thread_beat : (bounds : Bounds) (v : Vector) (b : ℕ) (s t : State) → ((rows (thread_under bounds)).act v b).run s ≡ Ok t → Grows Nothing s t
+thread_beat bounds v b s t e =
+    let tree = of_four (vector_tree v (thread_under bounds)) b in
+    finish_clean (checked cells (reach tree s).checks s) (reach tree s) s t (four_clean bounds v b s) (caused_ok ((action cells tree).run s) t e)

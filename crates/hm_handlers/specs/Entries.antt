@@ -1,7 +1,8 @@
 -- The exception that is picked at the end of a tick, and its entry.
-use Rattle.std.specs.Prelude.{ℕ, Bool, if◌then◌else◌, min, List, [], ◌∷◌}
+use Rattle.hm_run.specs.Timed.{bounds_of}
+use Rattle.std.specs.Prelude.{ℕ, Bool, ◌==◌, if◌then◌else◌, min, List, [], ◌∷◌}
 use Rattle.hm_base.specs.declared.FaultKind.TheVariants as kind
-use Rattle.hm_exc.specs.Entry.{activation, entered_memory, entered_registers, vector_of}
+use Rattle.hm_exc.specs.Entry.{activation, entered_memory, entered_registers, main_after, vector_of}
 use Rattle.hm_exc.specs.declared.types.Activation.{Activation}
 use Rattle.hm_exc.specs.declared.types.EnterErr.{EnterErr}
 use Rattle.hm_exc.specs.declared.types.EnterErr.TheVariants as err
@@ -20,14 +21,18 @@ use Rattle.hm_window.specs.declared.rule.Window.{Window}
 use Rattle.hm_handlers.specs.Nested.{Interrupted, Nested}
 use Rattle.hm_handlers.specs.Registers.{registers_in}
 
--- THE PRIORITY OF WHAT RUNS: 256 of the thread, the least of the active exceptions in a handler, and 0 where PRIMASK is set
+-- the priority of the active exceptions: the least of them, and 256 where there is none
 abbrev pub least_active : Dev → List Interrupted → ℕ
 least_active d [] = 256
 least_active d (x ∷ acts) = min (priority_of d x.stacked.number) (least_active d acts)
 
--- the priority of what runs, where PRIMASK is set or not
-abbrev pub running_priority : Dev → Bool → List Interrupted → ℕ
-running_priority d primask acts = if primask then 0 else least_active d acts
+-- what masks exceptions: 0 where PRIMASK is set, else BASEPRI where it is not 0; 256 where nothing does
+abbrev pub mask_of : Bool → ℕ → ℕ
+mask_of primask basepri = if primask then 0 else (if basepri == 0 then 256 else basepri)
+
+-- THE PRIORITY OF WHAT RUNS, which one that enters has to undercut: the least of what masks and of what is active
+abbrev pub running_priority : Dev → ℕ → List Interrupted → ℕ
+running_priority d mask acts = min mask (least_active d acts)
 
 -- THE ENTRY of an exception: it puts away the position and the registers, and its handler runs
 -- the position of the machine, as an entry stacks it
@@ -38,7 +43,7 @@ position_of c = record { a = c.a; b = c.b }
 abbrev pub entered_state : Sched → Activation → State → State
 entered_state s x t =
     state_with (entered_registers x.regs x.number (vector_of (seen_in t) x.number)) (entered_memory x (seen_in t))
-    (record (thread_under s.lo s.hi s.floor) { actor = Handler x.frame }) t.rest.output
+    (record (thread_under (bounds_of s)) { actor = Handler (main_after x) }) t.rest.output
 
 -- what the entry of exception e puts away
 abbrev pub interrupted_by : ℕ → Config State → Interrupted

@@ -1,5 +1,6 @@
 -- The machine with handlers: who runs, and what a step of it does. A handler runs by the same steps as the thread, with a handler's
 -- accesses; its steps are not counted, it may execute no breakpoint, and it returns.
+use Rattle.hm_run.specs.Timed.{bounds_of}
 use Rattle.std.specs.Prelude.{ℕ, zero, suc, ◌+◌, ◌==◌, Bool, cond, List, [], ◌∷◌, map, Option, Some, None, Result, Ok, Err}
 use Rattle.hm_base.specs.declared.Fault.{Fault}
 use Rattle.hm_base.specs.declared.Stop.{Stop}
@@ -51,7 +52,7 @@ NestedStep = Result Nested NestedEnd
 
 -- WHO RUNS: the thread, where nothing is interrupted, and else a handler
 abbrev pub around_under : Sched → List Interrupted → Around
-around_under s acts = record (thread_under s.lo s.hi s.floor) { actor = actor_under (map (λ x. x.stacked) acts) }
+around_under s acts = record (thread_under (bounds_of s)) { actor = actor_under (map (λ x. x.stacked) acts) }
 
 -- the machine of a program, under who runs
 abbrev pub program_under : Listing → Sched → List Interrupted → Program

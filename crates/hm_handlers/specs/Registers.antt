@@ -2,7 +2,7 @@
 use Rattle.std.specs.Prelude.{ℕ, Bool, cond, eqb, []}
 use Rattle.hm_base.specs.declared.Place.{Place}
 use Rattle.hm_base.specs.declared.Place.TheVariants.{Sticky}
-use Rattle.hm_mem.specs.Memory.{first_devices, thread_under}
+use Rattle.hm_mem.specs.Memory.{first_devices, no_bounds, thread_under}
 use Rattle.hm_mem.specs.declared.Actor.{Actor}
 use Rattle.hm_regs.specs.Place.{value_at}
 use Rattle.hm_regs.specs.declared.Regs.{Regs}
@@ -18,7 +18,7 @@ pub record Registers : Type 0 where
 
 -- without devices, output and who accesses the memory
 abbrev pub bare : Rest → Rest
-bare r = record r { devices = first_devices; output = []; around = thread_under 0 0 0 }
+bare r = record r { devices = first_devices; output = []; around = thread_under no_bounds }
 
 -- the registers of a state, as an entry puts them away
 abbrev pub registers_in : State → Registers
@@ -30,7 +30,7 @@ registers_of r = record {
   place = λ p. word (cond (is_cell p) (value_at p r) 0);
   sticky = eqb (value_at Sticky r) 1;
   pc = r.pc;
-  beside = rest_with r first_devices (thread_under 0 0 0) [];
+  beside = rest_with r first_devices (thread_under no_bounds) [];
 }
 
 -- The state with these registers, in which this actor accesses the memory: the bytes, the devices and the output stay.

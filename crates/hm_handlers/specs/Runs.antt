@@ -5,11 +5,13 @@ use Rattle.hm_codes.specs.Listing.{Listing}
 use Rattle.hm_exc.specs.Entry.{entry_refusal}
 use Rattle.hm_exc.specs.declared.types.EnterErr.{EnterErr}
 use Rattle.hm_order.specs.Machine.{Config, Stopped, Broken, at_start}
+use Rattle.hm_regs.specs.Stacks.{main_of, process_of, uses_process}
+use Rattle.hm_regs.specs.declared.Regs.{Regs}
 use Rattle.hm_run.specs.declared.Outcome.{Outcome}
 use Rattle.hm_run.specs.declared.Outcome.TheVariants as outcome
 use Rattle.hm_run.specs.Program.{Stopping}
 use Rattle.hm_exc.specs.declared.types.Activation.{Activation}
-use Rattle.hm_run.specs.Timed.{Timed, at_stop, counted_with, or_out, outcome_of, with_devices}
+use Rattle.hm_run.specs.Timed.{Timed, at_stop, counted_with, or_out, outcome_of, with_devices, bounds_of}
 use Rattle.hm_sched.specs.Schedule.{TickLine, Sched, ticks_of}
 use Rattle.hm_state.specs.Start.{start_under}
 use Rattle.hm_state.specs.State.{State, regs_of}
@@ -17,15 +19,25 @@ use Rattle.hm_whole.specs.Whole.{seen_in}
 use Rattle.hm_window.specs.Positions.{may_end}
 use Rattle.hm_window.specs.declared.rule.Rule.TheVariants as rule
 use Rattle.hm_sys.specs.Exceptions.{picked}
-use Rattle.hm_handlers.specs.Entries.{entered, refused, running_priority}
+use Rattle.hm_handlers.specs.Entries.{entered, mask_of, refused, running_priority}
 use Rattle.hm_handlers.specs.Nested.{Ended, Interrupted, Nested, NestedEnd, Offends, TickEnd, letters}
+
+-- the two stack pointers at an entry, and whether the process stack was in use
+pub record Pointers : Type 0 where
+  pub main : ℕ
+  pub process : ℕ
+  pub from_process : Bool
+
+-- those of these registers
+abbrev pub pointers_of : Regs → Pointers
+pointers_of r = record { main = main_of r; process = process_of r; from_process = uses_process r }
 
 -- the outcome, or None while it runs; the machine; the ticks that were begun; the stack pointers at the entries, the latest first
 pub record Run : Type 0 where
   pub outcome : Option Outcome
   pub machine : Nested
   pub ticks : ℕ
-  pub entries : List ℕ
+  pub entries : List Pointers
 
 -- what was stacked there
 abbrev pub stacked_of : Interrupted → Activation
@@ -35,12 +47,12 @@ stacked_of x = x.stacked
 abbrev pub shown : Run → Timed
 shown x = record { outcome = x.outcome; config = x.machine.config; acts = map stacked_of x.machine.acts; ticks = x.ticks }
 
--- a run before its first tick: a reset to an image, under the region and the floor of a schedule
+-- a run before its first tick: a reset to an image, under the region and the floors of a schedule
 abbrev pub begin : List Segment → Sched → Run
-begin image s = record { outcome = None; machine = record { config = at_start (start_under s.lo s.hi s.floor image); acts = [] }; ticks = 0; entries = [] }
+begin image s = record { outcome = None; machine = record { config = at_start (start_under (bounds_of s) image); acts = [] }; ticks = 0; entries = [] }
 
 -- THE END OF A TICK in which something did not go on
-abbrev pub run_at : Outcome → Config State → List Interrupted → ℕ → List ℕ → Run
+abbrev pub run_at : Outcome → Config State → List Interrupted → ℕ → List Pointers → Run
 run_at o c acts t entries = record { outcome = Some o; machine = record { config = c; acts = acts }; ticks = t; entries = entries }
 
 -- the thread's steps alone are counted
@@ -49,7 +61,7 @@ stopped_under [] c e = at_stop c e
 stopped_under (x ∷ acts) c e = c
 
 -- the run that ends at step k of tick t, the younger's or not, by why it does not go on
-abbrev pub stops : ℕ → ℕ → Bool → NestedEnd → List ℕ → Run
+abbrev pub stops : ℕ → ℕ → Bool → NestedEnd → List Pointers → Run
 stops t k younger (Ended (Stopped c e) acts) entries =
     let stopping : Stopping = record { cause = e; younger = younger } in
     run_at (outcome_of t (map stacked_of acts) c stopping) (stopped_under acts c stopping) acts t entries
@@ -59,17 +71,17 @@ stops t k younger (Offends what c acts) entries = run_at (outcome.HandlerBroken 
 -- THE END OF A TICK that did not end the run: the position is judged, SysTick counts, the tick's interrupts become pending, and then, where
 -- the schedule has entries, the exception that is picked enters
 abbrev pub enters_unless : Sched → ℕ → Option EnterErr → Run → Run
-enters_unless s e None x = record x { machine = entered s e x.machine; entries = (regs_of x.machine.config.state).sp ∷ x.entries }
+enters_unless s e None x = record x { machine = entered s e x.machine; entries = pointers_of (regs_of x.machine.config.state) ∷ x.entries }
 enters_unless s e (Some why) x = record x { outcome = Some (refused x.ticks x.machine.config why) }
 
 -- the exception that is picked, if there is one, enters, or the run ends where it may not
 abbrev pub enters : Sched → Option ℕ → Run → Run
 enters s None x = x
-enters s (Some e) x = let t = x.machine.config.state in enters_unless s e (entry_refusal s.floor (regs_of t) (seen_in t) e) x
+enters s (Some e) x = let t = x.machine.config.state in enters_unless s e (entry_refusal (bounds_of s) (regs_of t) (seen_in t) e) x
 
--- the exception that is picked: the most urgent that waits, if it is more urgent than what runs
+-- the exception that is picked: the most urgent that waits, if it is more urgent than what runs and nothing masks it
 abbrev pub picks : Run → Option ℕ
-picks x = let t = x.machine.config.state in picked t.rest.devices (running_priority t.rest.devices t.rest.primask x.machine.acts)
+picks x = let t = x.machine.config.state in picked t.rest.devices (running_priority t.rest.devices (mask_of t.rest.primask t.rest.basepri) x.machine.acts)
 
 -- an exception may enter where the schedule has entries
 abbrev pub may_enter : Sched → Run → Run

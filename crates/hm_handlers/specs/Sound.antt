@@ -1,5 +1,5 @@
 -- What always holds of the machine with handlers, so that an exception may enter and a handler return.
-use Rattle.std.specs.Prelude.{ℕ, ◌≡◌, ◌<◌, ◌≤◌, false, true, List, [], ◌∷◌}
+use Rattle.std.specs.Prelude.{ℕ, ◌≡◌, ◌≢◌, ◌<◌, false, true, List, [], ◌∷◌}
 use Rattle.hm_exc.specs.Entry.{FitsEntry, window_in}
 use Rattle.hm_exc.specs.Frame.{is_between}
 use Rattle.hm_kept.specs.Blocks.{IsBlockByte}
@@ -9,15 +9,11 @@ use Rattle.hm_mem.specs.declared.Dev.{Dev}
 use Rattle.hm_order.specs.Machine.{Config}
 use Rattle.hm_sched.specs.Schedule.{Sched}
 use Rattle.hm_state.specs.State.{State, regs_of}
-use Rattle.hm_sys.specs.Exceptions.{priority_of}
+use Rattle.hm_sys.specs.Exceptions.{IsException, priority_of}
 use Rattle.hm_window.specs.declared.rule.Window.{Window}
 use Rattle.hm_handlers.specs.Entries.{least_active, position_of}
 use Rattle.hm_handlers.specs.Nested.{Interrupted, Nested, around_under}
 use Rattle.hm_handlers.specs.Registers.{restored}
-
--- the number of SysTick or of an interrupt
-abbrev pub IsException : ℕ → Type 0
-IsException e = (15 ≤ e) × (e ≤ 47)
 
 -- THE EXCEPTION NUMBER: 0 in the thread, and in a handler the number of the newest activation
 abbrev pub number_under : List Interrupted → ℕ
@@ -57,6 +53,7 @@ pub record IsSound (s : Sched) (x : Nested) : Type 0 where
   pub around : x.config.state.rest.around ≡ around_under s x.acts
   pub levels : HasLevels x.config.state.rest.devices
   pub number : x.config.state.rest.ipsr ≡ number_under x.acts
+  pub selects : x.config.state.rest.ipsr ≢ 0 → x.config.state.rest.spsel ≡ false
   pub block : IsBlockByte x.config.state.rest.it
   pub inside : FitsInside x.config
   pub stacked : AreStacked x.acts

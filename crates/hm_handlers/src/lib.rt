@@ -13,7 +13,7 @@ ghost use Rattle.hm_run.specs.Headline.{Headline, Riders};
 ghost use Rattle.hm_run.specs.declared.Outcome.TheVariants.{Halted};
 ghost use Rattle.hm_run.specs.declared.Reason.{Reason};
 ghost use Rattle.hm_run.specs.Report.{memory_text, report_text};
-ghost use Rattle.hm_run.specs.Timed.{timed};
+ghost use Rattle.hm_run.specs.Timed.{timed, bounds_of};
 ghost use Rattle.hm_sched.specs.Schedule.{Sched, TickLine};
 ghost use Rattle.hm_state.specs.State.{regs_of};
 ghost use Rattle.hm_whole.specs.Whole.{seen_in};
@@ -23,7 +23,8 @@ ghost use Rattle.hm_handlers.specs.Entries.{entered, position_of};
 ghost use Rattle.hm_handlers.specs.Nested.{Nested, letters, step};
 ghost use Rattle.hm_handlers.specs.Order.{KeepsOrder, thread_of};
 ghost use Rattle.hm_handlers.specs.Runs.{Run, after_count, begin, next, picks, run, run_out, shown, shown_out};
-ghost use Rattle.hm_handlers.specs.Sound.{IsException, IsSound};
+ghost use Rattle.hm_handlers.specs.Sound.{IsSound};
+ghost use Rattle.hm_sys.specs.Exceptions.{IsException};
 ghost use Rattle.hm_handlers.specs.Taint.{TaintLies};
 
 /// After each tick of any schedule, with its entries and whatever its handlers do, whole instructions in order agree with the thread.
@@ -47,7 +48,7 @@ pub fn headline()
 /// ticks, where the instructions in order halt at the n-th, had fewer than 4n steps of the older.
 pub fn riders()
     ensures every { (listing : Listing) (image : List Segment) (s : Sched) → Riders listing image (shown_out listing image s) }
-    // After each tick every tainted byte lies in the region, or from the floor up and below the stack pointer at one of the entries.
+    // After each tick every tainted byte lies in the region, or from the floor up and below the main stack pointer at one of the entries, or from the process floor up and below the process stack pointer at one of those from that stack.
     ensures taint { (listing : Listing) (image : List Segment) (s : Sched) (t : ℕ) → let x = run listing image s t in TaintLies s x.entries x.machine.config.state }
 {}
 
@@ -64,7 +65,7 @@ pub fn without_entries()
     ensures same { (listing : Listing) (image : List Segment) (s : Sched) (t : ℕ) → s.entries ≡ false → shown (run listing image s t) ≡ timed listing image s t }
 {}
 
-/// What an entry and a return need to know holds always: who accesses the memory, priorities of three bits, the exception number, a sound IT byte that is 0
+/// What an entry and a return need to know holds always: who accesses the memory, priorities of three bits, the exception number, that a handler uses the main stack, a sound IT byte that is 0
 /// inside an instruction, where there is a context, activations that entries made, each more urgent than those that it interrupted. So whatever exception is picked may enter where a
 /// tick may end, at most eight are active, and the newest activation fits.
 pub fn sound()
@@ -77,7 +78,7 @@ pub fn sound()
     ensures picked { (s : Sched) (x : Run) (e : ℕ) → IsSound s x.machine → picks x ≡ Some e → IsException e × (length x.machine.acts < 8) }
     ensures few { (s : Sched) (x : Nested) → IsSound s x → length x.acts ≤ 8 }
     ensures entered { (s : Sched) (x : Run) (e : ℕ) → IsSound s x.machine → picks x ≡ Some e → may_end x.machine.config.a x.machine.config.b ≡ true
-        → entry_refusal s.floor (regs_of x.machine.config.state) (seen_in x.machine.config.state) e ≡ None → IsSound s (entered s e x.machine) }
+        → entry_refusal (bounds_of s) (regs_of x.machine.config.state) (seen_in x.machine.config.state) e ≡ None → IsSound s (entered s e x.machine) }
     // While a run goes on its machine is sound, after each tick and after the next.
     ensures next { (listing : Listing) (s : Sched) (left : List TickLine) (x : Run) → (x.outcome ≡ None → IsSound s x.machine)
         → (next listing s left x).outcome ≡ None → IsSound s (next listing s left x).machine }

@@ -1,4 +1,5 @@
 -- Images that give the same bytes run alike.
+use Rattle.hm_run.specs.Timed.{bounds_of}
 use Rattle.std.proofs.Common.{◌≡◌, ℕ, zero, suc, ◌-◌, ◌%◌, false, eqb, cond, List, [], drop, length, None, refl, ap, subst}
 use Rattle.hm_base.specs.Image.{Segment, first_byte, flash_byte, word_at}
 use Rattle.hm_base.specs.declared.Place.{Place}
@@ -6,7 +7,7 @@ use Rattle.hm_base.specs.declared.Place.TheVariants.{R, Ltp}
 use Rattle.hm_codes.specs.Listing.{Listing, IsListing}
 use Rattle.hm_handlers.specs.Runs.{begin, closed, next, run, run_out, shown, shown_out}
 use Rattle.hm_order.specs.Machine.{at_start}
-use Rattle.hm_mem.specs.Memory.{thread_under}
+use Rattle.hm_mem.specs.Memory.{thread_under, Bounds}
 use Rattle.hm_sched.specs.Schedule.{Sched, ticks_of}
 use Rattle.hm_state.specs.Start.{first_cell, first_rest, first_value, reset_pc, reset_sp, start_under}
 use Rattle.hm_state.specs.State.{At, Byte, Cell, word}
@@ -37,14 +38,14 @@ cell_alike : (i j : List Segment) (c : Cell) → SameBytes i j → first_cell i 
 cell_alike i j (At p) h = ap word (value_alike i j p (same_stack i j h))
 cell_alike i j (Byte a) h = ap word (h.at a).1
 
-pub same_start : (lo hi floor : ℕ) (i j : List Segment) → SameBytes i j → start_under lo hi floor i ≡ start_under lo hi floor j
+pub same_start : (bounds : Bounds) (i j : List Segment) → SameBytes i j → start_under bounds i ≡ start_under bounds j
 unfolding start_under
-same_start lo hi floor i j h =
+same_start bounds i j h =
     let pc = same_reset i j h in
-    λ k. record { cell = λ c. cell_alike i j c h k; sticky = false; pc = pc k - pc k % 2; rest = first_rest (thread_under lo hi floor) }
+    λ k. record { cell = λ c. cell_alike i j c h k; sticky = false; pc = pc k - pc k % 2; rest = first_rest (thread_under bounds) }
 
 same_begin : (i j : List Segment) (s : Sched) → SameBytes i j → begin i s ≡ begin j s
-same_begin i j s h = λ k. record { outcome = None; machine = record { config = at_start (same_start s.lo s.hi s.floor i j h k); acts = [] }; ticks = 0; entries = [] }
+same_begin i j s h = λ k. record { outcome = None; machine = record { config = at_start (same_start (bounds_of s) i j h k); acts = [] }; ticks = 0; entries = [] }
 
 same_run : (listing : Listing) (i j : List Segment) (s : Sched) (t : ℕ) → SameBytes i j → run listing i s t ≡ run listing j s t
 same_run listing i j s zero h = ap (closed (ticks_of s.lines)) (same_begin i j s h)

@@ -26,7 +26,9 @@ abbrev pub read_base : ReadName → ℕ
 read_base read.Apsr = 0xf3ef8000
 read_base read.Ipsr = 0xf3ef8005
 read_base read.Msp = 0xf3ef8008
+read_base read.Psp = 0xf3ef8009
 read_base read.Primask = 0xf3ef8010
+read_base read.Basepri = 0xf3ef8011
 read_base read.Control = 0xf3ef8014
 
 -- T18: MRS (DDI0553, "MRS")
@@ -37,7 +39,10 @@ code_mrs r = read_base r.name + r.d.value ↑ 8
 abbrev pub written_base : WrittenName → ℕ
 written_base written.Apsr = 0xf3808800
 written_base written.Msp = 0xf3808808
+written_base written.Psp = 0xf3808809
 written_base written.Primask = 0xf3808810
+written_base written.Basepri = 0xf3808811
+written_base written.Control = 0xf3808814
 
 -- T18: MSR (DDI0553, "MSR (register)")
 abbrev pub code_msr : Msr → ℕ

@@ -11,7 +11,9 @@ pub enum ReadName {
     Apsr,
     Ipsr,
     Msp,
+    Psp,
     Primask,
+    Basepri,
     Control,
 }
 
@@ -29,7 +31,10 @@ pub struct Mrs {
 pub enum WrittenName {
     Apsr,
     Msp,
+    Psp,
     Primask,
+    Basepri,
+    Control,
 }
 
 /// `msr NAME,rn`.

@@ -1,5 +1,5 @@
 -- The checkpoints of a run's journal.
-use Rattle.std.proofs.Common.{◌≡◌, ℕ, zero, suc, ◌+◌, ◌*◌, ◌/◌, ◌<◌, ◌≤◌, arith, ap, refl, subst, sym, ◌∙◌, List, [], ◌∷◌, ◌++◌, length, slice_get, Some}
+use Rattle.std.proofs.Common.{◌≡◌, ℕ, zero, suc, ◌+◌, ◌*◌, ◌/◌, ◌<◌, ◌≤◌, arith, ap, refl, inr, subst, sym, ◌∙◌, List, [], ◌∷◌, ◌++◌, length, slice_get, Some}
 use Rattle.std.proofs.Math.Nat.{div-lt_iff_lt-mul, div-mul-le_self, lt-div-mul-add, mul-le-mul}
 use Rattle.hm_base.specs.Image.{Segment}
 use Rattle.hm_codes.specs.Listing.{Listing}
@@ -62,7 +62,7 @@ reached last every k h =
 
 module _ (listing : Listing) (image : List Segment) (s : Sched) (every : ℕ) where
   -- A RUN'S JOURNAL IS THE RUN'S
-  pub own : AreOfRun listing image s (journal_of listing image s every).checkpoints
+  pub own : AreOfRun listing image s (journal_of listing image s every).format (journal_of listing image s every).checkpoints
   own k x there =
       let last = (run_out listing image s).ticks in
       let at = lies (report_at listing image s) every (last / every + 1) k x there in
@@ -78,7 +78,7 @@ module _ (listing : Listing) (image : List Segment) (s : Sched) (every : ℕ) wh
       let size = long (report_at listing image s) every n in
       let less : last / every ≤ length (ticks_of s.lines) / every = same_share last (length (ticks_of s.lines)) every (omega (arith, some)) (few_ticks listing image s) in
       record {
-        format = refl;
+        format = inr refl;
         some = omega (arith, size);
         few = omega (arith, size, less, few);
         every = omega (arith, some);

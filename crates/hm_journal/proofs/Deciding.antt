@@ -4,7 +4,7 @@ use Rattle.std.proofs.lemmas.Bool.{cases_eq, cases_lt}
 use Rattle.serde_json.specs.Data.{Data, Items, Members, array, boolean, float, item, member, negative, no_items, no_members, null, number, object, string, unsigned}
 use Rattle.serde_json.specs.View.{items_of}
 use Rattle.hm_journal.proofs.Pairs.{items_same}
-use Rattle.hm_journal.specs.Journals.{IsJournal, Journaled, ReportAt, checkpoint_data, journal_data}
+use Rattle.hm_journal.specs.Journals.{IsFormat, IsJournal, Journaled, ReportAt, checkpoint_data, journal_data}
 
 -- an x of which P holds, or that P holds of none
 abbrev pub OrNone : (A : Type 0) → (A → Type 0) → Type 0
@@ -136,9 +136,17 @@ ticks_or want (y ∷ ys) =
           ]
     ]
 
+-- a format that there is, or none
+pub format_or : (n : ℕ) → IsFormat n ⊎ (¬ (IsFormat n))
+format_or n =
+    elim (cases_eq n 1) [
+      | inl first ↦ inl (inl first)
+      | inr not_first ↦ elim (cases_eq n 2) [ inl second ↦ inl (inr second) | inr not_second ↦ inr (λ is. elim is [ inl first ↦ not_first first | inr second ↦ not_second second ]) ]
+    ]
+
 pub sound_or : (j : Journaled) → IsJournal j ⊎ (¬ (IsJournal j))
 sound_or j =
-    elim (cases_eq j.format 1) [
+    elim (format_or j.format) [
       | inr never ↦ inr (λ is. never is.format)
       | inl format ↦
           elim (cases_lt 0 (length j.checkpoints)) [

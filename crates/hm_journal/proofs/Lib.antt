@@ -1,3 +1,5 @@
+pub mod Cuts
+pub mod Lines
 pub mod Pairs
 pub mod Found
 pub mod Texts

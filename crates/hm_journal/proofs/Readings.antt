@@ -1,13 +1,12 @@
 -- Bytes come to one outcome, and to one alone.
 use Rattle.std.proofs.Common.{◌≡◌, ℕ, ap, refl, subst, sym, ◌∙◌, Bool, true, false, inl, inr, List, codes, Option, Some, None, Result, Ok, Err}
-use Rattle.std.proofs.lemmas.Bool.{cases_eq}
 use Rattle.std.proofs.lemmas.Str.{IsUtf8-from_is_utf8, is_utf8-from_IsUtf8}
 use Rattle.std.specs.Str.{IsUtf8, is_utf8}
 use Rattle.serde_json.specs.Data.{Data}
 use Rattle.serde_json.specs.Read.{read}
-use Rattle.hm_journal.proofs.Deciding.{OrNone, journal_or, one_journal, sound_or}
+use Rattle.hm_journal.proofs.Deciding.{OrNone, format_or, journal_or, one_journal, sound_or}
 use Rattle.hm_journal.proofs.Found.{format_in}
-use Rattle.hm_journal.specs.Journals.{HasFormat, IsJournal, IsJournalFile, Journaled, Reads, journal_data, number_at}
+use Rattle.hm_journal.specs.Journals.{HasFormat, IsFormat, IsJournal, IsJournalFile, Journaled, Reads, journal_data, number_at}
 use Rattle.hm_journal.specs.Outcomes.{IsNoFormat, IsNoShape, IsReading}
 use Rattle.hm_journal.specs.declared.journal.JournalErr.{JournalErr}
 use Rattle.hm_journal.specs.declared.journal.JournalErr.TheVariants as err
@@ -29,8 +28,8 @@ module _ (bytes : List ℕ) (d : Data) (reads : Reads bytes d) where
   with_format : (o : Option ℕ) → number_at (codes "format") d ≡ o → SomeOutcome bytes
   with_format None is = (Err err.Format, (d, reads, λ n has. let other : number_at (codes "format") d ≡ Some n = has.0 in cc))
   with_format (Some n) is =
-      elim (cases_eq n 1) [
-        | inl one ↦ with_shape n (is, one) (journal_or d)
+      elim (format_or n) [
+        | inl known ↦ with_shape n (is, known) (journal_or d)
         | inr never ↦ (
           Err err.Format,
           (
@@ -39,7 +38,7 @@ module _ (bytes : List ℕ) (d : Data) (reads : Reads bytes d) where
             λ m has.
                 let other : number_at (codes "format") d ≡ Some m = has.0 in
                 let same : n ≡ m = cc in
-                never (same ∙ has.1),
+                never (subst IsFormat (sym same) has.1),
           ),
         )
       ]

@@ -4,7 +4,7 @@ use Rattle.hm_base.specs.Image.{Segment}
 use Rattle.hm_codes.specs.Listing.{Listing}
 use Rattle.hm_exc.specs.declared.types.EnterErr.{EnterErr}
 use Rattle.hm_handlers.specs.Nested.{Ended, Nested, NestedEnd, Offends, TickEnd, letters}
-use Rattle.hm_handlers.specs.Runs.{Run, after_count, begin, closed, ended, enters, enters_unless, may_enter, next, picks, run, run_out, stops, tick_of}
+use Rattle.hm_handlers.specs.Runs.{Pointers, Run, after_count, begin, closed, ended, enters, enters_unless, may_enter, next, picks, run, run_out, stops, tick_of}
 use Rattle.hm_order.specs.Machine.{Broken, Stopped}
 use Rattle.hm_run.specs.declared.Outcome.{Outcome}
 use Rattle.hm_sched.specs.Schedule.{Sched, TickLine, ticks_of}
@@ -13,7 +13,7 @@ closed_ticks : (left : List TickLine) (x : Run) → (closed left x).ticks ≡ x.
 closed_ticks [] x = refl
 closed_ticks (line ∷ left) x = refl
 
-stops_ticks : (t k : ℕ) (younger : Bool) (e : NestedEnd) (entries : List ℕ) → (stops t k younger e entries).ticks ≡ t
+stops_ticks : (t k : ℕ) (younger : Bool) (e : NestedEnd) (entries : List Pointers) → (stops t k younger e entries).ticks ≡ t
 stops_ticks t k younger (Ended (Stopped c e) acts) entries = refl
 stops_ticks t k younger (Ended (Broken c r) acts) entries = refl
 stops_ticks t k younger (Offends what c acts) entries = refl

@@ -1,5 +1,5 @@
 -- JOURNALS, and their JSON: as a value, and as its compact text.
-use Rattle.std.specs.Prelude.{◌≡◌, ℕ, ◌*◌, ◌<◌, ◌≤◌, ◌^◌, Bool, true, false, List, [], ◌∷◌, ◌++◌, codes, decimal, length, map, slice_get, Option, Some, option_and_then}
+use Rattle.std.specs.Prelude.{◌≡◌, ℕ, ◌*◌, ◌<◌, ◌≤◌, ◌^◌, ◌⊎◌, Bool, true, false, List, [], ◌∷◌, ◌++◌, codes, decimal, length, map, slice_get, Option, Some, option_and_then}
 use Rattle.std.specs.Str.{IsUtf8}
 use Rattle.json.specs.Print.{quoted}
 use Rattle.serde_json.specs.Data.{Data, array, member, no_members, number, object, string, unsigned}
@@ -45,9 +45,9 @@ journal_text j =
     codes "{\"checkpoints\":[" ++ checkpoints_text false j.checkpoints ++ codes "],\"every\":" ++ decimal j.every ++ codes ",\"format\":" ++ decimal j.format ++ codes "}"
 
 -- WHICH JOURNALS THERE ARE
--- the formats that there are
+-- the formats that there are: 1, whose reports have no line of the system, and 2
 abbrev pub IsFormat : ℕ → Type 0
-IsFormat n = n ≡ 1
+IsFormat n = (n ≡ 1) ⊎ (n ≡ 2)
 
 -- the checkpoints lie at the ticks 0, every, 2 * every and so on
 abbrev pub AreTicks : Journaled → Type 0

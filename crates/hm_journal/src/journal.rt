@@ -1,6 +1,6 @@
 //! What a journal holds.
 
-ghost use Rattle.std.specs.Prelude.{◌≡◌};
+ghost use Rattle.std.specs.Prelude.{◌≡◌, ◌≤◌};
 
 use hm_base::OutOfMemory;
 use std::alloc::{AllocError, AllocFailed};
@@ -8,7 +8,10 @@ use std::marker::Model;
 use thiserror::Error;
 
 /// The format in which journals are written.
-pub const FORMAT: u32 = 1;
+pub const FORMAT: u32 = 2;
+
+/// The format whose reports have no line of the system.
+pub const FIRST_FORMAT: u32 = 1;
 
 /// A tick, and the report there.
 #[derive(Drop)]
@@ -41,7 +44,8 @@ impl Model for Journal {
 impl Journal {
     /// The ticks from one checkpoint to the next.
     pub fn every(&self) -> u32
-        ensures { result ≡ self.now.every }
+        ensures value { result ≡ self.now.every }
+        ensures some { 1 ≤ result }
     {
         self.every
     }
@@ -59,8 +63,8 @@ pub enum JournalErr {
     /// The JSON is not that of a journal.
     #[error("the JSON is not a journal's")]
     Shape,
-    /// The JSON does not say that its format is 1.
-    #[error("the journal's format is not 1")]
+    /// The JSON does not say that its format is 1 or 2.
+    #[error("the journal's format is neither 1 nor 2")]
     Format,
     /// The first checkpoint that is past the run, or whose report is not the run's.
     #[error("the journal differs from the run")]

@@ -1,6 +1,7 @@
 //! Journals of a run: the reports at tick 0 and from there on at each so many ticks, as JSON text.
 #![tactic(auto)]
 
+mod formats;
 mod journal;
 mod laws;
 mod reading;
@@ -8,6 +9,6 @@ mod running;
 mod writing;
 
 pub use journal::{Journal, JournalErr};
-pub use laws::{comparison_law, journal_law, own_journal_law};
+pub use laws::{comparison_law, first_format_law, journal_law, own_journal_law};
 pub use reading::read_journal;
 pub use running::{compare, write_journal};

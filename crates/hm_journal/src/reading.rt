@@ -120,11 +120,12 @@ fn format_in(value: &Value) -> Option<u32>
     let n = value.get("format").and_then(Value::as_u64)?;
     match n {
         1 => Some(1),
+        2 => Some(2),
         _ => None,
     }
 }
 
-/// Reads a journal. Json exactly where the bytes have no reading as JSON, else Format exactly where `format` is not the number 1, and else Shape exactly where
+/// Reads a journal. Json exactly where the bytes have no reading as JSON, else Format exactly where `format` is neither the number 1 nor the number 2, and else Shape exactly where
 /// no journal has this value.
 pub fn read_journal(alloc: Global, bytes: &[u8]) -> Result<Journal, JournalErr>
     ensures found { IfOk result (λ j. IsJournalFile bytes.now j) }

@@ -9,6 +9,7 @@ ghost use Rattle.hm_journal.specs.Views.{checkpoint_of};
 ghost use Rattle.hm_machine.specs.Taped.{Tapes};
 ghost use Rattle.hm_sched.specs.Schedule.{Sched, ticks_of};
 
+use crate::formats::report_in;
 use crate::journal::{Checkpoint, FORMAT, Journal, JournalErr};
 use crate::writing::journal_text;
 use hm_machine::Tape;
@@ -51,7 +52,7 @@ fn checkpoints(alloc: Global, tape: &mut Tape, every: u32) -> Result<Vec<Checkpo
     Ok(checkpoints)
 }
 
-/// Writes the journal of the run, with a checkpoint at tick 0 and from there on at each so many ticks. TooMany exactly where the ticks of the schedule, divided by
+/// Writes the journal of the run, of format 2, with a checkpoint at tick 0 and from there on at each so many ticks. TooMany exactly where the ticks of the schedule, divided by
 /// `every`, and one more are more than 64. The tape is as it was.
 pub fn write_journal(alloc: Global, tape: &mut Tape, every: u32) -> Result<Vec<u8>, JournalErr>
     requires some { 1 ≤ every }
@@ -72,44 +73,55 @@ pub fn write_journal(alloc: Global, tape: &mut Tape, every: u32) -> Result<Vec<u
     Ok(text.into_bytes())
 }
 
-// Whether a checkpoint is the run's.
-fn is_of_run(alloc: Global, x: &Checkpoint, tape: &mut Tape) -> Result<bool, JournalErr>
+// Whether a checkpoint of a journal of a format is the run's.
+fn is_of_run(
+    alloc: Global,
+    format: u32,
+    x: &Checkpoint,
+    tape: &mut Tape,
+) -> Result<bool, JournalErr>
     ensures stays { tape.new ≡ tape.old }
     ensures told { IfOk result (λ b. (image : List Segment) (s : Sched) (listing : Listing) → IsListing (flash_byte image) listing → Tapes image s tape.old
-        → (IsTrue b ↔ IsOfRun listing image s (checkpoint_of x.now))) }
+        → (IsTrue b ↔ IsOfRun listing image s format (checkpoint_of x.now))) }
     ensures memory { IfErr result (λ e. e ≡ JournalErr.OutOfMemory) }
 {
     let Ok(machine) = tape.at(x.tick) else {
         return Ok(false);
     };
     let report = machine.report(alloc)?;
-    Ok(report.as_slice() == x.report.as_bytes())
+    let text = report_in(alloc, format, report)?;
+    Ok(text.as_slice() == x.report.as_bytes())
 }
 
-// Whether checkpoints are the run's.
-fn compare_all(alloc: Global, checkpoints: &[Checkpoint], tape: &mut Tape) -> Result<(), JournalErr>
+// Whether checkpoints of a journal of a format are the run's.
+fn compare_all(
+    alloc: Global,
+    format: u32,
+    checkpoints: &[Checkpoint],
+    tape: &mut Tape,
+) -> Result<(), JournalErr>
     ensures stays { tape.new ≡ tape.old }
     ensures same { OnOk result ((image : List Segment) (s : Sched) (listing : Listing) → IsListing (flash_byte image) listing → Tapes image s tape.old
-        → AreOfRun listing image s (map checkpoint_of checkpoints.now)) }
+        → AreOfRun listing image s format (map checkpoint_of checkpoints.now)) }
     ensures refused { IfErr result (λ e. (image : List Segment) (s : Sched) (listing : Listing) → IsListing (flash_byte image) listing → Tapes image s tape.old
-        → IsCompareErr listing image s (map checkpoint_of checkpoints.now) e) }
+        → IsCompareErr listing image s format (map checkpoint_of checkpoints.now) e) }
 {
     for x in checkpoints {
-        if !is_of_run(alloc, x, tape)? {
+        if !is_of_run(alloc, format, x, tape)? {
             return Err(JournalErr::Differs { tick: x.tick });
         }
     }
     Ok(())
 }
 
-/// Compares a journal with the run. Ok exactly where the run begins each checkpoint's tick and has its report there, else Differs at the first that is not so.
-/// The journal may end before the run does. The tape is as it was.
+/// Compares a journal with the run. Ok exactly where the run begins each checkpoint's tick and has its report there, without the system's line for a journal of
+/// format 1, else Differs at the first that is not so. The journal may end before the run does. The tape is as it was.
 pub fn compare(alloc: Global, j: &Journal, tape: &mut Tape) -> Result<(), JournalErr>
     ensures stays { tape.new ≡ tape.old }
     ensures same { OnOk result ((image : List Segment) (s : Sched) (listing : Listing) → IsListing (flash_byte image) listing → Tapes image s tape.old
-        → AreOfRun listing image s j.now.checkpoints) }
+        → AreOfRun listing image s j.now.format j.now.checkpoints) }
     ensures refused { IfErr result (λ e. (image : List Segment) (s : Sched) (listing : Listing) → IsListing (flash_byte image) listing → Tapes image s tape.old
-        → IsCompareErr listing image s j.now.checkpoints e) }
+        → IsCompareErr listing image s j.now.format j.now.checkpoints e) }
 {
-    compare_all(alloc, &j.checkpoints, tape)
+    compare_all(alloc, j.format, &j.checkpoints, tape)
 }

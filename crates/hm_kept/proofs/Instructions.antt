@@ -1,4 +1,4 @@
--- Every instruction leaves the exception number and the IT byte, but where it opens a block.
+-- Every instruction leaves the exception number, the stack of a handler, and the IT byte, but where it opens a block.
 use Rattle.std.proofs.Common.{◌≡◌, ◌≢◌, ℕ, ◌+◌, ◌-◌, ◌*◌, ◌%◌, ◌<◌, Bool, true, false, refl, arith}
 use Rattle.std.specs.Prelude.{IsTrue, ◌&&◌, nat_eq, nat_lt, slice_index}
 use Rattle.std.proofs.lemmas.Bool.{ltb-true}
@@ -56,7 +56,7 @@ module _ (r : Regs) where
   scalar-keep (scalar.S18 i) q h = h
   scalar-keep (scalar.S19 i) q h = h
   scalar-keep (scalar.S20 i) q h = list-keep r i.name _ _ _ q h
-  scalar-keep (scalar.S21 i) q h = let opened = opens i.c.value i.mask.value i.c.in_range i.mask.in_range i.row in (h.0, opened.0, opened.1)
+  scalar-keep (scalar.S21 i) q h = let opened = opens i.c.value i.mask.value i.c.in_range i.mask.in_range i.row in (h.0, opened.0, opened.1, h.2)
   scalar-keep (scalar.T1 i) q h = data-same r i.name _ _ _ _ q h
   scalar-keep (scalar.T2 i) q h = data-same r i.name _ _ _ _ q h
   scalar-keep (scalar.T3 i) q h = h
@@ -92,11 +92,11 @@ module _ (r : Regs) where
   instr-keep (instr.Vector v) q h = h
 
 pub rows-keep : (i : Instr) (r : Regs) → EndsKeep r (instr_does i r)
-rows-keep i r = instr-keep r i r (refl, refl)
+rows-keep i r = instr-keep r i r (refl, refl, λ n. refl)
 
 -- in or out of an IT block, and with the context that it makes
 pub block-keep : (i : Instr) (r : Regs) → EndsKeep r (in_block i r)
 block-keep i r =
-    let same : Same r r = (refl, refl) in
+    let same : Same r r = (refl, refl, λ n. refl) in
     let begun : Same r (made i r) = either (Same r) (makes_context i r) (with_context r) r (context-same r r same) same in
     either (EndsKeep r) (runs i r) (instr_does i (made i r)) (goes r) (instr-keep r i (made i r) begun) same

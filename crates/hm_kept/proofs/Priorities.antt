@@ -1,6 +1,6 @@
 -- A step leaves priorities of three bits.
-use Rattle.std.proofs.Common.{ℕ, zero, suc, ◌+◌, ◌-◌, Bool, true, false, cond, List, [], ◌∷◌, length, set, arith, refl}
-use Rattle.std.specs.Prelude.{Option, Some, None, Result, Ok, Err, IfOk, All, nat_eq, nat_lt}
+use Rattle.std.proofs.Common.{ℕ, zero, suc, ◌+◌, ◌-◌, Bool, true, false, List, [], ◌∷◌, length, set, arith, refl}
+use Rattle.std.specs.Prelude.{Option, Some, None, Result, Ok, Err, IfOk, All, nat_lt}
 use Rattle.std.proofs.lemmas.List.Elements.{All-replicate, All-set}
 use Rattle.hm_isa.specs.declared.Instr.{Instr}
 use Rattle.hm_mem.specs.Devices.{after_read, byte_of, put_prios, top_three, word_at, write_devices}
@@ -20,7 +20,7 @@ top-level : (x : ℕ) → IsLevel (top_three x)
 top-level x = (omega arith, omega arith)
 
 pub start-levels : HasLevels first_devices
-start-levels = record { interrupts = All-replicate IsLevel 32 0 (refl, omega arith); tick = (refl, omega arith) }
+start-levels = record { interrupts = All-replicate IsLevel 240 0 (refl, omega arith); tick = (refl, omega arith) }
 
 set-levels : (ps : List ℕ) (k x : ℕ) → All IsLevel ps → All IsLevel (set ps k (top_three x))
 set-levels ps k x h = All-set IsLevel ps k (top_three x) (top-level x) h

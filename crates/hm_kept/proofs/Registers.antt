@@ -1,5 +1,7 @@
--- Rows on registers alone leave the exception number and the IT byte.
-use Rattle.std.proofs.Common.{◌≡◌, ℕ, ◌+◌, List, [], ◌∷◌, Bool}
+-- Rows on registers alone leave the exception number, the IT byte and the stack of a handler.
+use Rattle.std.proofs.Common.{◌≡◌, ◌≢◌, ℕ, ◌+◌, List, [], ◌∷◌, Bool, true, false, cond, refl, sym, ◌∙◌, eqb-true}
+use Rattle.std.specs.Prelude.{nat_eq}
+use Rattle.std.proofs.Math.Bool.{beq}
 use Rattle.hm_isa.specs.declared.narrow.ByteName.{ByteName}
 use Rattle.hm_isa.specs.declared.narrow.ByteName.TheVariants as byte
 use Rattle.hm_isa.specs.declared.narrow.LogicName.{LogicName}
@@ -17,19 +19,21 @@ use Rattle.hm_isa.specs.declared.system.SystemMoveName.TheVariants as move
 use Rattle.hm_isa.specs.declared.system.LaneMoveName.{LaneMoveName}
 use Rattle.hm_isa.specs.declared.system.LaneMoveName.TheVariants as lane
 use Rattle.hm_lane.specs.Predicate.{with_context}
+use Rattle.hm_regs.specs.Stacks.{uses_process}
 use Rattle.hm_regs.specs.declared.Regs.{Regs}
 use Rattle.hm_thumb.specs.ArithRows.{t11}
+use Rattle.hm_thumb.specs.Arithmetic.{bit_is_set}
 use Rattle.hm_thumb.specs.DataRows.{data_row, put_bits, put_data_sum, put_if}
 use Rattle.hm_thumb.specs.MemoryRows.{put_all, put_words}
 use Rattle.hm_thumb.specs.RegisterRows.{byte_row, logic_row, put}
-use Rattle.hm_thumb.specs.SystemRows.{lane_move, system_move, t18, with_special}
+use Rattle.hm_thumb.specs.SystemRows.{exchanged, lane_move, selected, system_move, t18, with_special}
 use Rattle.hm_thumb.specs.declared.arithmetic.Shifted.{Shifted}
 use Rattle.hm_thumb.specs.declared.arithmetic.Sum.{Sum}
 use Rattle.hm_kept.proofs.Choices.{either}
 
 -- from the registers r to q
 abbrev pub Same : Regs → Regs → Type 0
-Same r q = (q.ipsr ≡ r.ipsr) × (q.it ≡ r.it)
+Same r q = (q.ipsr ≡ r.ipsr) × (q.it ≡ r.it) × (r.ipsr ≢ 0 → q.spsel ≡ r.spsel)
 
 module _ (r : Regs) where
   pub context-same : (q : Regs) → Same r q → Same r (with_context q)
@@ -73,11 +77,21 @@ module _ (r : Regs) where
   product-same (t11_.Accumulate i) q h = h
   product-same (t11_.Long i) q h = h
 
+  -- a thread alone chooses its stack
+  control-same : (t b : Bool) (q : Regs) → nat_eq q.ipsr 0 ≡ t → Same r q → Same r (cond t (selected b q) q)
+  control-same false b q e h = h
+  control-same true b q e h =
+      let thread : r.ipsr ≡ 0 = sym h.0 ∙ eqb-true q.ipsr 0 e in
+      either (Same r) (beq b q.spsel) q (exchanged b q) h (h.0, h.1, λ n. absurd (n thread))
+
   -- special registers
   special-same : (name : WrittenName) (x : ℕ) (q : Regs) → Same r q → Same r (with_special name x q)
   special-same written.Apsr x q h = h
-  special-same written.Msp x q h = h
+  special-same written.Msp x q h = either (Same r) (uses_process q) _ _ h h
+  special-same written.Psp x q h = either (Same r) (uses_process q) _ _ h h
   special-same written.Primask x q h = h
+  special-same written.Basepri x q h = h
+  special-same written.Control x q h = control-same (nat_eq q.ipsr 0) (bit_is_set x 1) q refl h
 
   pub t18-same : (i : T18) (q : Regs) → Same r q → Same r (t18 i q)
   t18-same (t18_.Read i) q h = h

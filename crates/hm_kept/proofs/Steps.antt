@@ -1,9 +1,10 @@
--- A step leaves the exception number, and a sound IT byte.
-use Rattle.std.proofs.Common.{◌≡◌, ◌≢◌, ℕ, ◌+◌, ◌*◌, ◌/◌, ◌%◌, ◌<◌, Bool, true, false, length, refl, arith}
+-- A step leaves the exception number, a sound IT byte, and a handler on the main stack.
+use Rattle.std.proofs.Common.{◌≡◌, ◌≢◌, ℕ, ◌+◌, ◌*◌, ◌/◌, ◌%◌, ◌<◌, Bool, true, false, length, refl, ◌∙◌, arith}
 use Rattle.std.specs.Prelude.{Result, Ok, Err, IfOk, nat_eq, if◌then◌else◌}
 use Rattle.std.proofs.lemmas.Bool.{eqb-false}
 use Rattle.hm_isa.specs.declared.Instr.{Instr}
 use Rattle.hm_mem.specs.Seen.{Seen}
+use Rattle.hm_regs.specs.Stacks.{HandlerOnMain}
 use Rattle.hm_regs.specs.declared.Regs.{Regs}
 use Rattle.hm_thumb.specs.Blocks.{advanced_byte}
 use Rattle.hm_thumb.specs.Does.{Does, Ends, Faults, Loads, Stores, Done, Runner, after_loads, after_stores, first_stop, run, words}
@@ -29,6 +30,17 @@ settled-number bytes way.Opens r q h = h.0
 settled-number bytes (way.To a) r q h = h.0
 settled-number bytes (way.Break k) r q h = h.0
 settled-number bytes (way.Return x) r q h = h.0
+
+-- where a handler was on the main stack, it is so still
+kept-main : (r q : Regs) → HandlerOnMain r → q.ipsr ≡ r.ipsr → (r.ipsr ≢ 0 → q.spsel ≡ r.spsel) → HandlerOnMain q
+kept-main r q m e h n = let some : r.ipsr ≢ 0 = (λ z. n (e ∙ z)) in h some ∙ m some
+
+pub settled-main : (bytes : ℕ) (w : Way) (r q : Regs) → HandlerOnMain r → KeepsBlock w r q → HandlerOnMain (settled bytes w q)
+settled-main bytes way.On r q m h = kept-main r q m h.0 h.2
+settled-main bytes way.Opens r q m h = kept-main r q m h.0 h.3
+settled-main bytes (way.To a) r q m h = kept-main r q m h.0 h.2
+settled-main bytes (way.Break k) r q m h = kept-main r q m h.0 h.2
+settled-main bytes (way.Return x) r q m h = kept-main r q m h.0 h.2
 
 pub settled-sound : (bytes : ℕ) (w : Way) (r q : Regs) → IsBlockByte r.it → KeepsBlock w r q → IsBlockByte (settled bytes w q).it
 settled-sound bytes way.On r q s h = advanced-sound q.it (rw h.1 s)
@@ -61,8 +73,15 @@ module _ {E : Type 0} (R : Runner E) where
   finish-sound bytes r (Ok d) s h = settled-sound bytes d.way r d.regs s h
   finish-sound bytes r (Err e) s h = tt
 
+  finish-main : (bytes : ℕ) (r : Regs) (x : Result Done E) → HandlerOnMain r → IfOk x (Kept r) → IfOk (finish bytes x) (λ y. HandlerOnMain y.regs)
+  finish-main bytes r (Ok d) m h = settled-main bytes d.way r d.regs m h
+  finish-main bytes r (Err e) m h = tt
+
   pub step-number : (i : Instr) (r : Regs) (s : Seen) → IfOk (step R i r s) (λ x. x.regs.ipsr ≡ r.ipsr)
   step-number i r s = finish-number (width i) r (run R (in_block i r) s) (run-keep r (in_block i r) s (block-keep i r))
 
   pub step-sound : (i : Instr) (r : Regs) (s : Seen) → IsBlockByte r.it → IfOk (step R i r s) (λ x. IsBlockByte x.regs.it)
   step-sound i r s b = finish-sound (width i) r (run R (in_block i r) s) b (run-keep r (in_block i r) s (block-keep i r))
+
+  pub step-main : (i : Instr) (r : Regs) (s : Seen) → HandlerOnMain r → IfOk (step R i r s) (λ x. HandlerOnMain x.regs)
+  step-main i r s m = finish-main (width i) r (run R (in_block i r) s) m (run-keep r (in_block i r) s (block-keep i r))

@@ -1,4 +1,4 @@
--- The exception number and the IT byte: what they are at each end of an instruction.
+-- The exception number, the IT byte and the stack of a handler: what they are at each end of an instruction.
 use Rattle.std.specs.Prelude.{◌≡◌, ◌≢◌, ℕ, ◌%◌, ◌<◌, List}
 use Rattle.hm_regs.specs.declared.Regs.{Regs}
 use Rattle.hm_thumb.specs.Does.{Does, Ends, Faults, Loads, Stores}
@@ -10,10 +10,10 @@ abbrev pub IsBlockByte : ℕ → Type 0
 IsBlockByte it = (it < 256) × (it % 16 ≡ 0 → it ≡ 0)
 
 -- from the registers r to q: the exception number stays, and the IT byte too, but where the instruction opens a block:
--- then the new one is a byte, and has a bit among its lowest four
+-- then the new one is a byte, and has a bit among its lowest four. In a handler it stays which stack a thread uses
 abbrev pub KeepsBlock : Way → Regs → Regs → Type 0
-KeepsBlock way.Opens r q = (q.ipsr ≡ r.ipsr) × (q.it < 256) × (q.it % 16 ≢ 0)
-KeepsBlock w r q = (q.ipsr ≡ r.ipsr) × (q.it ≡ r.it)
+KeepsBlock way.Opens r q = (q.ipsr ≡ r.ipsr) × (q.it < 256) × (q.it % 16 ≢ 0) × (r.ipsr ≢ 0 → q.spsel ≡ r.spsel)
+KeepsBlock w r q = (q.ipsr ≡ r.ipsr) × (q.it ≡ r.it) × (r.ipsr ≢ 0 → q.spsel ≡ r.spsel)
 
 -- so it is at every end of a program of accesses, whatever numbers it loads
 abbrev pub EndsKeep : Regs → Does → Type 0

@@ -22,7 +22,7 @@ abbrev pub halves_of : List Kind → ℕ
 halves_of [] = 0
 halves_of (k ∷ ks) = halves k + halves_of ks
 
--- the body of a loop but for the branch at its end
+-- the end of a body: the result is stored, and the offset moves on
 abbrev pub end_code : ℕ → List Kind
 end_code a = constant_code a (Offset ∷ Store 0 ∷ Further ∷ [])
 

@@ -1,5 +1,5 @@
 -- Loads and stores of elements one behind another.
-use Rattle.std.proofs.Common.{◌≡◌, ◌≢◌, ℕ, zero, suc, ◌+◌, ◌-◌, ◌*◌, ◌%◌, ◌^◌, ◌<◌, ◌≤◌, Bool, true, false, cond, not, ◌&&◌, ◌||◌, eqb, ltb, nat_eq, nat_le, nat_lt, min, get_or, length, List, [], ◌++◌, refl, sym, ap, ◌∙◌, subst, arith, ltb-true, eq-eqb, append-nil, All, Option, Some, None}
+use Rattle.std.proofs.Common.{◌≡◌, ◌≢◌, ℕ, zero, suc, ◌+◌, ◌-◌, ◌*◌, ◌%◌, ◌^◌, ◌<◌, ◌≤◌, Bool, true, false, cond, not, ◌&&◌, ◌||◌, eqb, ltb, nat_eq, nat_le, min, get_or, length, List, [], ◌++◌, refl, sym, ap, ◌∙◌, subst, arith, ltb-true, eq-eqb, append-nil, All, Option, Some, None}
 use Rattle.std.specs.Prelude.{Result, Ok, if◌then◌else◌}
 use Rattle.std.proofs.lemmas.Bool.Decides.{nat_tests}
 use Rattle.std.proofs.lemmas.List.Elements.{All-cons, All-nil}
@@ -19,7 +19,6 @@ use Rattle.hm_lane.specs.Lanes.{bytes_of, firsts, unlanes}
 use Rattle.hm_lane.proofs.LaneLists.{lanes-unlanes}
 use Rattle.hm_lane_fns.specs.Words.{filled as spread_tests, size_of}
 use Rattle.hm_mem.specs.declared.Access.TheVariants.{Vector}
-use Rattle.hm_mem.specs.declared.Word.TheVariants as device_word
 use Rattle.hm_mem.specs.Devices.{has_width, tells_time, word_at}
 use Rattle.hm_mem.specs.Seen.{fault_kind, or_else, unless}
 use Rattle.hm_moves.specs.Moves.{fault_after, width}
@@ -49,31 +48,11 @@ le_no a b h = grind (arith, nat_tests)
 pub le_yes : (a b : ℕ) → a ≤ b → nat_le a b ≡ true
 le_yes a b h = grind (arith, nat_tests)
 
-eq_no : (w k : ℕ) → w < k → nat_eq w k ≡ false
-eq_no w k h = grind (arith, nat_tests)
-
 eq_yes : (w : ℕ) → w ≡ 0 → nat_eq w 0 ≡ true
 eq_yes w h = grind (arith, nat_tests)
 
 no_device : (a : ℕ) → a < 0x20040000 → word_at a ≡ None
-no_device a h =
-    let w = a - a % 4 in
-    let l : w < 0xe000e010 = omega arith in
-    λ j.
-    if le_no 0xe000e400 w (omega arith) j && nat_lt w 0xe000e420 then Some device_word.Ipr
-    else (if eq_no w 0xe000e010 (omega arith) j then Some device_word.Csr
-    else (if eq_no w 0xe000e014 (omega arith) j then Some device_word.Rvr
-    else (if eq_no w 0xe000e018 (omega arith) j then Some device_word.Cvr
-    else (if eq_no w 0xe000e100 (omega arith) j then Some device_word.Iser
-    else (if eq_no w 0xe000e180 (omega arith) j then Some device_word.Icer
-    else (if eq_no w 0xe000e200 (omega arith) j then Some device_word.Ispr
-    else (if eq_no w 0xe000e280 (omega arith) j then Some device_word.Icpr
-    else (if eq_no w 0xe000ed08 (omega arith) j then Some device_word.Vtor
-    else (if eq_no w 0xe000ed20 (omega arith) j then Some device_word.Shpr3
-    else (if eq_no w 0xe000ed14 (omega arith) j then Some (device_word.Fixed 0x00080200)
-    else (if eq_no w 0xe000ed88 (omega arith) j then Some (device_word.Fixed 0x00f00000)
-    else (if eq_no w 0xe000ef34 (omega arith) j then Some (device_word.Fixed 0x80000000)
-    else None))))))))))))
+no_device a h = grind (arith, nat_tests, h)
 
 no_fault : (store : Bool) (len a : ℕ) → a % len ≡ 0 → 0x20000000 ≤ a → 0 < len → a + len ≤ 0x20040000 → fault_kind true Vector store len a ≡ None
 no_fault store len a aligned low some high =

@@ -33,7 +33,7 @@ pub fn listing(alloc: Global, image: &Image, lo: u32, hi: u32) -> Result<Vec<u8>
     ensures own { (i : Instr) → Stands (flash_byte image.now) lo i → hi ≡ lo + width_of i → IfOk result (λ bytes. bytes.items ≡ entry_line lo (shown i)) }
 {
     // The listing reads flash alone: no handler stores.
-    let m = Mem::new(alloc, image, SRAM_START, SRAM_START, SRAM_START)?;
+    let m = Mem::new(alloc, image, SRAM_START, SRAM_START, SRAM_START, SRAM_START)?;
     // a line of one halfword has 48 bytes at most
     let mut out = Vec::with_capacity(alloc, (hi - lo) as usize / 2 * 48)?;
     add_lines(&mut out, &m, lo, hi)?;

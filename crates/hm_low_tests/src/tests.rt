@@ -5,7 +5,7 @@ ghost use Rattle.hm_base.specs.Place.{IsPlace};
 use hm_base::{Image, ImageErr, Place, Places, Span, Spans, bits, note, sign};
 use hm_beat::{Clash, Touch, meet};
 use hm_lane::{advance, context, finish, merge, predicate};
-use hm_mem::{Actor, Dev, Mem};
+use hm_mem::{Access, Actor, Dev, Mem};
 use hm_regs::Regs;
 use hm_sys::{accept, arrive, arrive_all, candidate, priority};
 use std::test::Fail;
@@ -121,7 +121,14 @@ fn holds_an_image(rt: HostRuntime) -> Result<(), Fail> {
     let mut image = Image::new(alloc);
     image.add(0, vec![in alloc; 0x05, 0x20, 0xc0]?)?;
     image.add(0x2000_0010, vec![in alloc; 0x77, 0x88]?)?;
-    let mem = Mem::new(alloc, &image, 0x2000_1000, 0x2000_1004, 0x2000_f000)?;
+    let mem = Mem::new(
+        alloc,
+        &image,
+        0x2000_1000,
+        0x2000_1004,
+        0x2000_f000,
+        0x2000_e000,
+    )?;
     assert_eq!(rt; mem.byte(1), Some(0x20));
     assert_eq!(rt; mem.byte(3), Some(0xff));
     assert_eq!(rt; mem.byte(0x000f_ffff), Some(0xff));
@@ -145,10 +152,10 @@ fn holds_an_image(rt: HostRuntime) -> Result<(), Fail> {
             csr: 0,
             rvr: 0,
             cvr: 0,
-            enabled: 0,
-            pending: 0,
+            enabled: [0; 8],
+            pending: [0; 8],
             tick_pending: false,
-            prio: [0; 32],
+            prio: [0; 240],
             tick_prio: 0,
             vtor: 0
         }
@@ -156,17 +163,50 @@ fn holds_an_image(rt: HostRuntime) -> Result<(), Fail> {
     Ok(())
 }
 
+#[test]
+fn keeps_interrupts_by_words(rt: HostRuntime) -> Result<(), Fail> {
+    let alloc = rt.alloc();
+    let image = Image::new(alloc);
+    let mut mem = Mem::new(
+        alloc,
+        &image,
+        0x2000_1000,
+        0x2000_1004,
+        0x2000_f000,
+        0x2000_f000,
+    )?;
+    assert_eq!(rt;
+        mem.store(0xe000_e21c, 4, 0xffff_ffff, Access::Scalar),
+        Ok(())
+    );
+    assert_eq!(rt;
+        mem.dev().pending,
+        [0, 0, 0, 0, 0, 0, 0, 0xffff],
+        "240 to 255 are no interrupts"
+    );
+    assert_eq!(rt;
+        mem.store(0xe000_e104, 4, 0x8000_0001, Access::Scalar),
+        Ok(())
+    );
+    assert_eq!(rt; mem.store(0xe000_e184, 4, 1, Access::Scalar), Ok(()));
+    assert_eq!(rt; mem.load(0xe000_e104, 4, Access::Scalar), Ok(0x8000_0000));
+    assert_eq!(rt; mem.store(0xe000_e4ef, 1, 0xff, Access::Scalar), Ok(()));
+    assert_eq!(rt; mem.load(0xe000_e4ec, 4, Access::Scalar), Ok(0xe000_0000));
+    assert!(rt; mem.load(0xe000_e4f0, 4, Access::Scalar).is_err());
+    Ok(())
+}
+
 /// Interrupts 0, 1 and 2 are enabled, with priorities 80, 80 and 00.
 fn three() -> Dev {
-    let mut prio = [0; 32];
+    let mut prio = [0; 240];
     prio[0] = 0x80;
     prio[1] = 0x80;
     Dev {
         csr: 0,
         rvr: 0,
         cvr: 0,
-        enabled: 7,
-        pending: 0,
+        enabled: [7, 0, 0, 0, 0, 0, 0, 0],
+        pending: [0; 8],
         tick_pending: false,
         prio,
         tick_prio: 0x80,
@@ -194,19 +234,60 @@ fn candidate_order(rt: HostRuntime) {
 fn ties_and_what_is_not_enabled(rt: HostRuntime) {
     let mut d = three();
     d.tick_pending = true;
-    arrive_all(&mut d, 0x8000_0003);
-    assert_eq!(rt; d.pending, 0x8000_0003);
+    arrive_all(&mut d, &[0x8000_0003, 0, 0, 0, 0, 0, 0, 0]);
+    assert_eq!(rt; d.pending, [0x8000_0003, 0, 0, 0, 0, 0, 0, 0]);
     assert_eq!(rt; candidate(&d, 256), Some(15));
     accept(&mut d, 15);
     assert_eq!(rt; candidate(&d, 256), Some(16));
     accept(&mut d, 16);
     accept(&mut d, 17);
-    assert_eq!(rt; d.pending, 0x8000_0000);
+    assert_eq!(rt; d.pending, [0x8000_0000, 0, 0, 0, 0, 0, 0, 0]);
     assert_eq!(rt; candidate(&d, 256), None);
-    d.enabled = 0x8000_0000;
+    d.enabled[0] = 0x8000_0000;
     assert_eq!(rt; candidate(&d, 256), Some(47));
     assert_eq!(rt; priority(&d, 15), 0x80);
     assert_eq!(rt; priority(&d, 18), 0);
+}
+
+#[test]
+fn interrupts_of_all_words(rt: HostRuntime) {
+    let mut d = three();
+    d.enabled = [0xffff_ffff; 8];
+    d.prio[64] = 0x40;
+    d.prio[200] = 0x40;
+    d.prio[239] = 0x20;
+    arrive(&mut d, 200);
+    arrive(&mut d, 64);
+    arrive(&mut d, 239);
+    assert_eq!(rt; d.pending, [0, 0, 1, 0, 0, 0, 0x100, 0x8000]);
+    assert_eq!(rt; candidate(&d, 256), Some(255));
+    assert_eq!(rt; priority(&d, 255), 0x20);
+    accept(&mut d, 255);
+    assert_eq!(rt; candidate(&d, 256), Some(80));
+    accept(&mut d, 80);
+    assert_eq!(rt; candidate(&d, 256), Some(216));
+    assert_eq!(rt; candidate(&d, 64), None);
+    accept(&mut d, 216);
+    assert_eq!(rt; d.pending, [0; 8]);
+    d.pending[7] = 0xffff_0000;
+    assert_eq!(rt; candidate(&d, 256), None, "240 to 255 are no interrupts");
+}
+
+#[test]
+fn last_interrupt_before_the_first(rt: HostRuntime) {
+    let mut d = three();
+    d.enabled = [3, 0, 0, 0, 0, 0, 0, 0x8000];
+    d.prio[0] = 0x40;
+    d.prio[1] = 0x40;
+    d.prio[239] = 0x20;
+    arrive(&mut d, 239);
+    arrive(&mut d, 1);
+    arrive(&mut d, 0);
+    assert_eq!(rt; candidate(&d, 256), Some(255));
+    accept(&mut d, 255);
+    assert_eq!(rt; candidate(&d, 256), Some(16));
+    assert_eq!(rt; candidate(&d, 65), Some(16));
+    assert_eq!(rt; candidate(&d, 64), None);
 }
 
 #[test]

@@ -2,7 +2,7 @@
 use Rattle.std.proofs.Common.{◌≡◌, ℕ, suc, ◌<◌, ◌≤◌, arith, ap, refl, sym, ◌∙◌, subst, Bool, cond, true, false, List, [], ◌∷◌, ◌++◌, drop, length, map, Option, Some, None, Ok, Err, inl, inr}
 use Rattle.std.proofs.Math.Seq.{drop-append_seam}
 use Rattle.std.specs.Option.{is_some}
-use Rattle.hm_base.specs.Image.{Segment, flash_byte, sram_start}
+use Rattle.hm_base.specs.Image.{Segment, flash_byte}
 use Rattle.hm_codes.proofs.Exists.{exists}
 use Rattle.hm_codes.specs.Listing.{Listing, IsListing}
 use Rattle.hm_exc.specs.declared.types.Activation.{Activation}
@@ -20,6 +20,7 @@ use Rattle.hm_machine.specs.Shown.{Shown, Shows, interrupted_of, run_of, run_wit
 use Rattle.hm_machine.specs.Cpus.{IsSoundUnder, nested_of}
 use Rattle.hm_machine.specs.declared.cpu.Cpu.{Cpu}
 use Rattle.hm_mem.specs.Memory.{flash_at, memory_of, thread_under}
+use Rattle.hm_state.specs.Start.{first_bounds}
 use Rattle.hm_state.specs.State.{state_of}
 use Rattle.hm_order.specs.Machine.{Stopped, Broken}
 use Rattle.hm_plan_laws.proofs.Folds.{one_line, same_tick}
@@ -196,6 +197,7 @@ sound_given given line x none h = record {
   around = h.around ∙ ap (around_under (bare [])) none ∙ sym (ap (around_under (given_then given line)) none);
   levels = h.levels;
   number = h.number;
+  selects = h.selects;
   block = h.block;
   inside = h.inside;
   stacked = h.stacked;
@@ -203,7 +205,7 @@ sound_given given line x none h = record {
 }
 
 -- one in which nothing is interrupted runs the thread under its schedule
-pub bare_around : (s : Sched) (x : Cpu) → IsSoundUnder s x → s ≡ bare [] → (nested_of x).acts ≡ [] → (memory_of x.mem).around ≡ thread_under sram_start sram_start sram_start
+pub bare_around : (s : Sched) (x : Cpu) → IsSoundUnder s x → s ≡ bare [] → (nested_of x).acts ≡ [] → (memory_of x.mem).around ≡ thread_under first_bounds
 unfolding state_of
 bare_around s x sound plan acts = sound.around ∙ (λ j. around_under (plan j) (acts j))
 

@@ -1,4 +1,5 @@
 -- How many ticks a run begins.
+use Rattle.hm_run.specs.Timed.{bounds_of}
 use Rattle.std.proofs.Common.{◌≡◌, ◌⊎◌, inl, inr, ℕ, zero, suc, ◌+◌, ◌≤◌, ◌<◌, arith, ap, refl, sym, ◌∙◌, subst, Bool, true, false, cond, List, [], ◌∷◌, drop, length, length-drop, ⊎_elim, Option, Some, None, Result, Ok, Err, add-zero, add-suc}
 use Rattle.std.proofs.lemmas.Bool.{cases_lt}
 use Rattle.std.specs.Prelude.{IsSome}
@@ -7,7 +8,7 @@ use Rattle.hm_codes.proofs.Exists.{exists}
 use Rattle.hm_codes.specs.Listing.{Listing}
 use Rattle.hm_exc.specs.declared.types.EnterErr.{EnterErr}
 use Rattle.hm_handlers.specs.Nested.{Ended, Nested, NestedEnd, Offends, TickEnd, letters}
-use Rattle.hm_handlers.specs.Runs.{Run, after_count, begin, closed, ended, enters, enters_unless, next, picks, run, stops, tick_of}
+use Rattle.hm_handlers.specs.Runs.{Pointers, Run, after_count, begin, closed, ended, enters, enters_unless, next, picks, run, stops, tick_of}
 use Rattle.hm_exc.specs.Entry.{entry_refusal}
 use Rattle.hm_machine.proofs.Runs.{all_ended, next_ended, run_past}
 use Rattle.hm_machine.specs.Shown.{Shown, Shows}
@@ -19,7 +20,7 @@ use Rattle.hm_whole.specs.Whole.{seen_in}
 use Rattle.hm_window.specs.Positions.{may_end}
 
 -- A TICK begins one
-stops_count : (t k : ℕ) (younger : Bool) (e : NestedEnd) (es : List ℕ) → (stops t k younger e es).ticks ≡ t
+stops_count : (t k : ℕ) (younger : Bool) (e : NestedEnd) (es : List Pointers) → (stops t k younger e es).ticks ≡ t
 stops_count t k younger (Ended (Stopped c w) acts) es = refl
 stops_count t k younger (Ended (Broken c r) acts) es = refl
 stops_count t k younger (Offends what c acts) es = refl
@@ -30,7 +31,7 @@ unless_count s e (Some why) x = refl
 
 enters_count : (s : Sched) (e : Option ℕ) (x : Run) → (enters s e x).ticks ≡ x.ticks
 enters_count s None x = refl
-enters_count s (Some e) x = let t = x.machine.config.state in unless_count s e (entry_refusal s.floor (regs_of t) (seen_in t) e) x
+enters_count s (Some e) x = let t = x.machine.config.state in unless_count s e (entry_refusal (bounds_of s) (regs_of t) (seen_in t) e) x
 
 either_count : (b : Bool) (x y : Run) (t : ℕ) → x.ticks ≡ t → y.ticks ≡ t → (cond b x y).ticks ≡ t
 either_count true x y t h k = h

@@ -46,10 +46,10 @@ left_new [] = refl
 left_new (x ∷ xs) = let e : x.count - 0 ≡ x.count = omega arith in ap (λ (n : ℕ). repeat n x (ticks_of xs)) e
 
 -- a line that has a tick begins with one
-pub begins : (lines : List TickLine) (k : ℕ) → k < length lines → All IsLine lines → HasTick (drop k lines) 0
-begins [] k h all = absurd (omega arith)
-begins (x ∷ xs) zero h all = let some = (All-head IsLine x xs all).some in omega (arith, some)
-begins (x ∷ xs) (suc k) h all = begins xs k (omega arith) (All-tail IsLine x xs all)
+pub begins : (most : ℕ) (lines : List TickLine) (k : ℕ) → k < length lines → All (IsLine most) lines → HasTick (drop k lines) 0
+begins most [] k h all = absurd (omega arith)
+begins most (x ∷ xs) zero h all = let some = (All-head (IsLine most) x xs all).some in omega (arith, some)
+begins most (x ∷ xs) (suc k) h all = begins most xs k (omega arith) (All-tail (IsLine most) x xs all)
 
 pub used_up : (lines : List TickLine) (k used : ℕ) (l : TickLine) → l.count ≤ used + 1
     → repeat (l.count - (used + 1)) l (ticks_of (drop (suc k) lines)) ≡ ticks_of (drop (suc k) lines)

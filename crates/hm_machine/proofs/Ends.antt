@@ -1,13 +1,12 @@
 -- How a tick ends.
 use Rattle.std.proofs.Common.{◌≡◌, ℕ, ◌<◌, arith, ap, refl, sym, ◌∙◌, subst, Bool, true, false, cond, List, [], ◌∷◌, length, map, Option, Some, None}
 use Rattle.std.specs.Prelude.{if◌then◌else◌}
-use Rattle.hm_exc.specs.Entry.{Passes, activation, entered_memory, entered_registers, newest_first, vector_of, window_in}
-use Rattle.hm_exc.specs.Frame.{frame_base}
+use Rattle.hm_exc.specs.Entry.{Passes, activation, entered_memory, entered_registers, main_after, newest_first, vector_of, window_in}
 use Rattle.hm_exc.specs.declared.types.Activation.{Activation}
 use Rattle.hm_exc.specs.declared.types.EnterErr.{EnterErr}
-use Rattle.hm_handlers.specs.Entries.{entered, least_active, refused, running_priority}
+use Rattle.hm_handlers.specs.Entries.{entered, least_active, refused}
 use Rattle.hm_handlers.specs.Nested.{Ended, Interrupted, Nested}
-use Rattle.hm_handlers.specs.Runs.{Run, after_count, enters, enters_unless, may_enter, picks, stopped_under, stops, tick_end, stacked_of}
+use Rattle.hm_handlers.specs.Runs.{Pointers, Run, after_count, enters, enters_unless, may_enter, picks, pointers_of, stopped_under, stops, tick_end, stacked_of}
 use Rattle.hm_handlers.specs.Sound.{AreUrgent}
 use Rattle.hm_machine.proofs.Nestings.{same_acts}
 use Rattle.hm_machine.proofs.Runs.{Comes}
@@ -21,7 +20,7 @@ use Rattle.hm_mem.specs.declared.Dev.{Dev}
 use Rattle.hm_order.specs.Machine.{Config, Stopped}
 use Rattle.hm_regs.specs.declared.Regs.{Regs}
 use Rattle.hm_run.specs.Program.{Stopping}
-use Rattle.hm_run.specs.Timed.{at_stop, counted_with, outcome_of, who_runs, with_devices}
+use Rattle.hm_run.specs.Timed.{at_stop, counted_with, outcome_of, who_runs, with_devices, bounds_of}
 use Rattle.hm_run.specs.declared.Cause.{Cause}
 use Rattle.hm_run.specs.declared.Outcome.{Outcome}
 use Rattle.hm_run.specs.declared.Outcome.TheVariants as outcome
@@ -50,13 +49,13 @@ stopped_above (x ∷ acts) c e some = refl
 pub stopped_in_thread : (acts : List Interrupted) (c : Config State) (e : Stopping) → acts ≡ [] → at_stop c e ≡ stopped_under acts c e
 stopped_in_thread acts c e none = ap (λ (l : List Interrupted). stopped_under l c e) (sym none)
 
-pub stops_so : (x y : Cpu) (t k : ℕ) (younger : Bool) (e : Cause) (o : Outcome) (es : List ℕ) → let stopping : Stopping = record { cause = e; younger = younger } in
+pub stops_so : (x y : Cpu) (t k : ℕ) (younger : Bool) (e : Cause) (o : Outcome) (es : List Pointers) → let stopping : Stopping = record { cause = e; younger = younger } in
     o ≡ outcome_of t (map stacked_of (nested_of x).acts) (config_of x) stopping → config_of y ≡ stopped_under (nested_of x).acts (config_of x) stopping → y.acts ≡ x.acts
     → run_with (Some o) (nested_of y) t es ≡ stops t k younger (Ended (Stopped (config_of x) e) (nested_of x).acts) es
 stops_so x y t k younger e o es is config same = λ j. run_with (Some (is j)) (record { config = config j; acts = same_acts x y same j }) t es
 
 -- THE END OF A TICK that did not end the run
-module _ (s : Sched) (line : TickLine) (m : Nested) (t : ℕ) (es : List ℕ) where
+module _ (s : Sched) (line : TickLine) (m : Nested) (t : ℕ) (es : List Pointers) where
   abbrev ran : Run
   ran = run_with None m t es
 
@@ -97,30 +96,30 @@ module _ (s : Sched) (line : TickLine) (m : Nested) (t : ℕ) (es : List ℕ) wh
       (chosen s.entries o y some (subst (λ (n : Nested). Comes o y t (enters s (picks (run_with None n t es)) (run_with None n t es))) is h))
 
 -- what was counted and became pending
-pub counted_nested : (x : Cpu) (m : Memory) (irq : ℕ) (line : TickLine) (t : ℕ) (es : List ℕ) → line.irq ≡ irq → m ≡ with_dev (counted_with irq (memory_of x.mem).devices) (memory_of x.mem)
+pub counted_nested : (x : Cpu) (m : Memory) (irq : List ℕ) (line : TickLine) (t : ℕ) (es : List Pointers) → line.irq ≡ irq → m ≡ with_dev (counted_with irq (memory_of x.mem).devices) (memory_of x.mem)
     → record (nested_of x) { config = record (config_of x) { state = state_of x.regs m x.output.items } } ≡ (after_count line (run_with None (nested_of x) t es)).machine
 unfolding state_of
 counted_nested x m irq line t es is e =
     let put : State → Nested = λ s. record (nested_of x) { config = record (config_of x) { state = s } } in
     ap (λ (n : Memory). put (state_of x.regs n x.output.items)) e
-    ∙ ap (λ (k : ℕ). put (with_devices (counted_with k) (state_in x))) (sym is)
+    ∙ ap (λ (k : List ℕ). put (with_devices (counted_with k) (state_in x))) (sym is)
 
 -- ENTRIES
 -- none is picked, and one is
-pub picks_none : (s : Sched) (o : Option ℕ) (m : Nested) (t : ℕ) (es : List ℕ) → o ≡ None → Comes None m t (enters s o (run_with None m t es))
+pub picks_none : (s : Sched) (o : Option ℕ) (m : Nested) (t : ℕ) (es : List Pointers) → o ≡ None → Comes None m t (enters s o (run_with None m t es))
 picks_none s o m t es e = subst (λ (q : Option ℕ). Comes None m t (enters s q (run_with None m t es))) (sym e) refl
 
-pub picks_one : (s : Sched) (o : Option ℕ) (e : ℕ) (m : Nested) (t : ℕ) (es : List ℕ) (q : Option Outcome) (y : Nested) → o ≡ Some e
+pub picks_one : (s : Sched) (o : Option ℕ) (e : ℕ) (m : Nested) (t : ℕ) (es : List Pointers) (q : Option Outcome) (y : Nested) → o ≡ Some e
     → Comes q y t (enters s (Some e) (run_with None m t es)) → Comes q y t (enters s o (run_with None m t es))
 picks_one s o e m t es q y is h = subst (λ (p : Option ℕ). Comes q y t (enters s p (run_with None m t es))) (sym is) h
 
 -- it enters, and it does not
-pub unless_on : (s : Sched) (e : ℕ) (o : Option EnterErr) (m y : Nested) (t : ℕ) (es : List ℕ) → o ≡ None → y ≡ entered s e m → Comes None y t (enters_unless s e o (run_with None m t es))
+pub unless_on : (s : Sched) (e : ℕ) (o : Option EnterErr) (m y : Nested) (t : ℕ) (es : List Pointers) → o ≡ None → y ≡ entered s e m → Comes None y t (enters_unless s e o (run_with None m t es))
 unless_on s e o m y t es free is =
     subst (λ (p : Option EnterErr). Comes None y t (enters_unless s e p (run_with None m t es))) (sym free)
-    (ap (λ (n : Nested). run_with None n t ((regs_of m.config.state).sp ∷ es)) is)
+    (ap (λ (n : Nested). run_with None n t (pointers_of (regs_of m.config.state) ∷ es)) is)
 
-pub unless_off : (s : Sched) (e : ℕ) (o : Option EnterErr) (why : EnterErr) (m y : Nested) (t : ℕ) (es : List ℕ) (q : Outcome) → o ≡ Some why → y ≡ m → q ≡ refused t m.config why
+pub unless_off : (s : Sched) (e : ℕ) (o : Option EnterErr) (why : EnterErr) (m y : Nested) (t : ℕ) (es : List Pointers) (q : Outcome) → o ≡ Some why → y ≡ m → q ≡ refused t m.config why
     → Comes (Some q) y t (enters_unless s e o (run_with None m t es))
 unless_off s e o why m y t es q is same refusal =
     subst (λ (p : Option EnterErr). Comes (Some q) y t (enters_unless s e p (run_with None m t es))) (sym is) (λ j. run_with (Some (refusal j)) (same j) t es)
@@ -134,7 +133,7 @@ module _ (s : Sched) (x y : Cpu) (e : ℕ) (under : IsUnder s x) (registers : re
   above r = activation r x.window e
 
   abbrev around_in : Regs → Around
-  around_in r = record (thread_under s.lo s.hi s.floor) { actor = Handler (frame_base r) }
+  around_in r = record (thread_under (bounds_of s)) { actor = Handler (main_after (above r)) }
 
   abbrev state_by : Regs → State
   state_by r = state_with (entered_registers r e (vector_of (seen m) e)) (entered_memory (above r) (seen m)) (around_in r) x.output.items
@@ -150,10 +149,10 @@ module _ (s : Sched) (x y : Cpu) (e : ℕ) (under : IsUnder s x) (registers : re
   entered_by = refl
 
   pub entered_is : y.regs ≡ entered_registers x.regs e (vector_of (seen m) e) → seen (memory_of y.mem) ≡ entered_memory (above x.regs) (seen m)
-      → Passes (Handler (frame_base x.regs)) m (memory_of y.mem) → newest_first y.acts ≡ above x.regs ∷ newest_first x.acts → window_in (above x.regs) ≡ x.window
+      → Passes (Handler (main_after (above x.regs))) m (memory_of y.mem) → newest_first y.acts ≡ above x.regs ∷ newest_first x.acts → window_in (above x.regs) ≡ x.window
       → y.window ≡ record { a = 0; b = 0 } → y.output ≡ x.output → y.retired ≡ x.retired → y.older_steps ≡ x.older_steps → nested_of y ≡ entered s e (nested_of x)
   entered_is regs memory passes acts position window output n steps =
-      let around : (memory_of y.mem).around ≡ around_in x.regs = passes.around ∙ ap (λ (a : Around). record a { actor = Handler (frame_base x.regs) }) under in
+      let around : (memory_of y.mem).around ≡ around_in x.regs = passes.around ∙ ap (λ (a : Around). record a { actor = Handler (main_after (above x.regs)) }) under in
       let state : state_in y ≡ state_by x.regs = made_of y.regs (memory_of y.mem) y.output.items ∙ (λ j. state_with (regs j) (memory j) (around j) (output j).items) in
       let put : interrupted_of (above x.regs) ≡ put_by x.regs = λ j. record (interrupted_of (above x.regs)) { a = (position j).a; b = (position j).b } in
       (λ j. record {
@@ -168,13 +167,8 @@ module _ (s : Sched) (x y : Cpu) (e : ℕ) (under : IsUnder s x) (registers : re
 pub first_least : (d : Dev) (x : Interrupted) (acts : List Interrupted) → AreUrgent d (x ∷ acts) → priority_of d x.stacked.number ≡ least_active d (x ∷ acts)
 first_least d x acts h = let over = h.0 in omega (arith, over)
 
-pub priority_thread : (d : Dev) (primask : Bool) (acts : List Interrupted) → primask ≡ false → acts ≡ [] → 256 ≡ running_priority d primask acts
-priority_thread d primask acts off none = sym ((λ j. running_priority d (off j) (none j)))
+pub priority_thread : (d : Dev) (acts : List Interrupted) → acts ≡ [] → 256 ≡ least_active d acts
+priority_thread d acts none = sym (ap (least_active d) none)
 
-pub priority_newest : (d : Dev) (primask : Bool) (x : Interrupted) (acts rest : List Interrupted) → primask ≡ false → acts ≡ x ∷ rest → AreUrgent d acts
-    → priority_of d x.stacked.number ≡ running_priority d primask acts
-priority_newest d primask x acts rest off is h =
-    first_least d x rest (subst (AreUrgent d) is h) ∙ sym ((λ j. running_priority d (off j) (is j)))
-
-pub priority_masked : (d : Dev) (primask : Bool) (acts : List Interrupted) → primask ≡ true → 0 ≡ running_priority d primask acts
-priority_masked d primask acts on = sym (ap (λ (b : Bool). running_priority d b acts) on)
+pub priority_newest : (d : Dev) (x : Interrupted) (acts rest : List Interrupted) → acts ≡ x ∷ rest → AreUrgent d acts → priority_of d x.stacked.number ≡ least_active d acts
+priority_newest d x acts rest is h = first_least d x rest (subst (AreUrgent d) is h) ∙ sym (ap (least_active d) is)

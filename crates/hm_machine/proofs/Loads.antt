@@ -1,4 +1,5 @@
 -- A machine at the start.
+use Rattle.hm_run.specs.Timed.{bounds_of}
 use Rattle.std.proofs.Common.{◌≡◌, ℕ, zero, suc, ◌+◌, ◌-◌, ◌%◌, ◌<◌, ◌≤◌, arith, ap, refl, sym, ◌∙◌, subst, List, [], ◌∷◌, drop, length, map, Option, Some, None, All, false}
 use Rattle.hm_base.specs.Image.{Segment, first_byte, flash_byte, word_at}
 use Rattle.hm_machine.proofs.Cursors.{begins, left_new}
@@ -21,20 +22,20 @@ use Rattle.hm_state.specs.Start.{reset_pc, reset_sp, start_under}
 use Rattle.hm_state.specs.State.{state_of}
 
 -- the first tick of lines that have one
-pub first_stands : (lines : List TickLine) → All IsLine lines → 0 < length (ticks_of lines) → HasTick (drop 0 lines) 0
-first_stands [] all some = absurd (omega arith)
-first_stands (x ∷ xs) all some = begins (x ∷ xs) 0 (omega arith) all
+pub first_stands : (most : ℕ) (lines : List TickLine) → All (IsLine most) lines → 0 < length (ticks_of lines) → HasTick (drop 0 lines) 0
+first_stands most [] all some = absurd (omega arith)
+first_stands most (x ∷ xs) all some = begins most (x ∷ xs) 0 (omega arith) all
 
 state_at_start : (image : List Segment) (s : Sched) (m : Memory) (sp pc : ℕ) (regs : Regs) (output : List ℕ)
     → flash_at m ≡ flash_byte image → ((a : ℕ) → byte_at m a ≡ first_byte image a) → ((a : ℕ) → tainted_at m a ≡ false)
-    → m.devices ≡ first_devices → m.around ≡ thread_under s.lo s.hi s.floor
+    → m.devices ≡ first_devices → m.around ≡ thread_under (bounds_of s)
     → sp ≡ word_at (flash_at m) 0 → pc ≡ word_at (flash_at m) 4 → regs ≡ start_regs (sp - sp % 4) (pc - pc % 2) → output ≡ []
-    → state_of regs m output ≡ start_under s.lo s.hi s.floor image
+    → state_of regs m output ≡ start_under (bounds_of s) image
 state_at_start image s m sp pc regs output flash bytes clean devices around esp epc eregs eout =
     let p : sp ≡ reset_sp image = esp ∙ ap (λ (f : ℕ → ℕ). word_at f 0) flash in
     let q : pc ≡ reset_pc image = epc ∙ ap (λ (f : ℕ → ℕ). word_at f 4) flash in
     (λ i. state_of (eregs i) m (eout i)) ∙ (λ i. state_of (start_regs (p i - p i % 4) (q i - q i % 2)) m [])
-    ∙ started image m s.lo s.hi s.floor bytes clean devices around
+    ∙ started image m (bounds_of s) bytes clean devices around
 
 -- before the first tick
 begun : (left : List TickLine) (x : Run) (o : Option Outcome) → x.outcome ≡ None
@@ -49,7 +50,7 @@ first_left lines o none = ap (λ (q : Option Outcome). left_while q (left_in lin
 
 pub shows_start : (image : List Segment) (s : Sched) (m : Memory) (sp pc : ℕ) (regs : Regs) (output : List ℕ) (acts : List Activation) (o : Option Outcome)
     → flash_at m ≡ flash_byte image → ((a : ℕ) → byte_at m a ≡ first_byte image a) → ((a : ℕ) → tainted_at m a ≡ false)
-    → m.devices ≡ first_devices → m.around ≡ thread_under s.lo s.hi s.floor
+    → m.devices ≡ first_devices → m.around ≡ thread_under (bounds_of s)
     → sp ≡ word_at (flash_at m) 0 → pc ≡ word_at (flash_at m) 4 → regs ≡ start_regs (sp - sp % 4) (pc - pc % 2) → output ≡ []
     → acts ≡ [] → (0 < length (ticks_of s.lines) → o ≡ None) → (length (ticks_of s.lines) ≡ 0 → o ≡ Some outcome.OutOfTicks)
     → Shows image s 0 (record {
@@ -81,7 +82,7 @@ shows_start image s m sp pc regs output acts o flash bytes clean devices around 
 -- what holds at the start
 pub sound_start : (image : List Segment) (s : Sched) (m : Memory) (sp pc : ℕ) (regs : Regs) (output : List ℕ) (acts : List Activation)
     → flash_at m ≡ flash_byte image → ((a : ℕ) → byte_at m a ≡ first_byte image a) → ((a : ℕ) → tainted_at m a ≡ false)
-    → m.devices ≡ first_devices → m.around ≡ thread_under s.lo s.hi s.floor
+    → m.devices ≡ first_devices → m.around ≡ thread_under (bounds_of s)
     → sp ≡ word_at (flash_at m) 0 → pc ≡ word_at (flash_at m) 4 → regs ≡ start_regs (sp - sp % 4) (pc - pc % 2) → output ≡ [] → acts ≡ []
     → IsSound s (record { config = at_start (state_of regs m output); acts = map interrupted_of acts })
 sound_start image s m sp pc regs output acts flash bytes clean devices around esp epc eregs eout eacts =

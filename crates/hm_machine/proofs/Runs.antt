@@ -6,7 +6,7 @@ use Rattle.hm_codes.specs.Listing.{Listing}
 use Rattle.hm_handlers.specs.Nested.{Nested}
 use Rattle.hm_handlers.proofs.Soundness.{next_sound}
 use Rattle.hm_handlers.specs.Sound.{IsSound}
-use Rattle.hm_handlers.specs.Runs.{Run, begin, closed, next, run, run_out, tick_of}
+use Rattle.hm_handlers.specs.Runs.{Pointers, Run, begin, closed, next, run, run_out, tick_of}
 use Rattle.hm_machine.specs.Shown.{run_with}
 use Rattle.hm_plain.specs.Ends.{HasEnded}
 use Rattle.hm_run.specs.declared.Outcome.{Outcome}
@@ -73,8 +73,8 @@ module _ (listing : Listing) (s : Sched) where
 abbrev pub Comes : Option Outcome → Nested → ℕ → Run → Type 0
 Comes o m t r = run_with o m t r.entries ≡ r
 
-pub comes : (o : Option Outcome) (m : Nested) (t : ℕ) (es : List ℕ) (r : Run) → run_with o m t es ≡ r → Comes o m t r
-comes o m t es r e = ap (λ (l : List ℕ). run_with o m t l) (sym (ap (λ (x : Run). x.entries) e)) ∙ e
+pub comes : (o : Option Outcome) (m : Nested) (t : ℕ) (es : List Pointers) (r : Run) → run_with o m t es ≡ r → Comes o m t r
+comes o m t es r e = ap (λ (l : List Pointers). run_with o m t l) (sym (ap (λ (x : Run). x.entries) e)) ∙ e
 
 -- while it goes on, what always holds does
 pub comes_sound : (listing : Listing) (s : Sched) (left : List TickLine) (x : Run) (m : Nested) (t : ℕ) → (x.outcome ≡ None → IsSound s x.machine) → Comes None m t (next listing s left x) → IsSound s m

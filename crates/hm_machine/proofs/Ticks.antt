@@ -3,7 +3,7 @@ use Rattle.std.proofs.Common.{◌≡◌, ℕ, suc, zero, ◌+◌, ◌-◌, ◌�
 use Rattle.hm_base.specs.Image.{Segment, flash_byte}
 use Rattle.hm_codes.proofs.Exists.{exists}
 use Rattle.hm_codes.specs.Listing.{Listing, IsListing}
-use Rattle.hm_handlers.specs.Runs.{Run, next, run, shown}
+use Rattle.hm_handlers.specs.Runs.{Pointers, Run, next, run, shown}
 use Rattle.hm_machine.proofs.Runs.{all_ended, next_ended, run_past}
 use Rattle.std.specs.Prelude.{IsSome}
 use Rattle.hm_machine.specs.Machines.{left_in, HasTick}
@@ -37,7 +37,7 @@ drop_next t xs = drop-drop 1 t xs ∙ ap (λ (k : ℕ). drop k xs) (add-one t)
 -- a machine after one more tick
 pub shows_on : (image : List Segment) (s : Sched) (t : ℕ) (old new : Shown) → Shows image s t old → old.outcome ≡ None
     → flash_at new.memory ≡ flash_at old.memory → new.schedule ≡ old.schedule → (new.outcome ≡ None → new.left ≡ drop 1 old.left)
-    → ((listing : Listing) (es : List ℕ) → IsListing (flash_at old.memory) listing → let r = next listing old.schedule old.left (run_of old es) in run_of new r.entries ≡ r)
+    → ((listing : Listing) (es : List Pointers) → IsListing (flash_at old.memory) listing → let r = next listing old.schedule old.left (run_of old es) in run_of new r.entries ≡ r)
     → Shows image s (suc t) new
 shows_on image s t old new h none flash schedule left now = record {
   bytes = flash ∙ h.bytes;

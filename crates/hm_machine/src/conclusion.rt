@@ -5,7 +5,7 @@ ghost use Rattle.std.specs.Vec.{vec_capacity};
 ghost use Rattle.hm_codes.specs.Listing.{Listing, IsListing};
 ghost use Rattle.hm_handlers.specs.Entries.{refused, running_priority};
 ghost use Rattle.hm_handlers.specs.Nested.{Ended, at_step, letter, letters};
-ghost use Rattle.hm_handlers.specs.Runs.{ended, enters, picks as picks_of, stopped_under, stops, tick_end, stacked_of};
+ghost use Rattle.hm_handlers.specs.Runs.{Pointers, ended, enters, picks as picks_of, stopped_under, stops, tick_end, stacked_of};
 ghost use Rattle.hm_machine.specs.Cpus.{config_of, step_ended, nested_of, picks, ticked, early_ended, CountsNone, CountsOne, IsPosition, IsSoundUnderSome, IsSoundUnder, KeepsFlash, Stays};
 ghost use Rattle.hm_machine.specs.Shown.{run_with};
 ghost use Rattle.hm_mem.specs.Memory.{memory_of, flash_at};
@@ -114,7 +114,7 @@ fn count_stop(cause: Cause, younger: bool, x: &mut Cpu)
 /// How a run ends by an instruction of what runs that stops.
 fn stopped(tick: u32, cause: Cause, younger: bool, x: &mut Cpu) -> Outcome
     requires count { (x.old.retired < 2 ^ 63) × (x.old.older_steps < 2 ^ 63) }
-    ensures ended { (k : ℕ) (es : List ℕ) → run_with (Some result) (nested_of x.new) tick es
+    ensures ended { (k : ℕ) (es : List Pointers) → run_with (Some result) (nested_of x.new) tick es
         ≡ stops tick k younger (Ended (Stopped (config_of x.old) cause) (nested_of x.old).acts) es }
     ensures kept { Stays x.old x.new }
     ensures count { CountsOne x.old x.new }
@@ -127,7 +127,7 @@ fn stopped(tick: u32, cause: Cause, younger: bool, x: &mut Cpu) -> Outcome
 /// How a run ends by a step that does not go on.
 fn conclude_step(tick: u32, step: u32, younger: bool, end: StepEnd, x: &mut Cpu) -> Outcome
     requires count { (x.old.retired < 2 ^ 63) × (x.old.older_steps < 2 ^ 63) }
-    ensures ended { (es : List ℕ) → run_with (Some result) (nested_of x.new) tick es
+    ensures ended { (es : List Pointers) → run_with (Some result) (nested_of x.new) tick es
         ≡ stops tick step younger (Ended (step_ended end (config_of x.old)) (nested_of x.old).acts) es }
     ensures kept { Stays x.old x.new }
     ensures count { CountsOne x.old x.new }
@@ -141,7 +141,7 @@ fn conclude_step(tick: u32, step: u32, younger: bool, end: StepEnd, x: &mut Cpu)
 /// How a run ends by a tick whose letters do not all go on.
 pub fn conclude(tick: u32, early: EarlyEnd, x: &mut Cpu) -> Outcome
     requires count { (x.old.retired < 2 ^ 63) × (x.old.older_steps < 2 ^ 63) }
-    ensures ended { (es : List ℕ) → let e = early_ended early (nested_of x.old) in run_with (Some result) (nested_of x.new) tick es ≡ stops tick e.step e.younger e.end es }
+    ensures ended { (es : List Pointers) → let e = early_ended early (nested_of x.old) in run_with (Some result) (nested_of x.new) tick es ≡ stops tick e.step e.younger e.end es }
     ensures kept { Stays x.old x.new }
     ensures count { CountsOne x.old x.new }
 {

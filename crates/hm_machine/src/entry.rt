@@ -3,9 +3,9 @@
 ghost use Rattle.std.specs.Prelude.{◌≡◌, ℕ, ◌+◌, ◌%◌, ◌^◌, ◌<◌, ◌≤◌, nat_eq, true, if◌then◌else◌, List, length, map, None, Some, OnOk};
 ghost use Rattle.std.specs.Vec.{vec_capacity};
 ghost use Rattle.hm_codes.specs.Listing.{Listing, IsListing};
-ghost use Rattle.hm_handlers.specs.Entries.{refused, running_priority};
+ghost use Rattle.hm_handlers.specs.Entries.{least_active, mask_of, refused, running_priority};
 ghost use Rattle.hm_handlers.specs.Nested.{Ended, at_step, letter, letters};
-ghost use Rattle.hm_handlers.specs.Runs.{ended, enters, picks as picks_of, stopped_under, stops, tick_end, stacked_of};
+ghost use Rattle.hm_handlers.specs.Runs.{Pointers, ended, enters, picks as picks_of, stopped_under, stops, tick_end, stacked_of};
 ghost use Rattle.hm_machine.specs.Cpus.{config_of, step_ended, nested_of, picks, ticked, early_ended, CountsNone, CountsOne, IsPosition, IsSoundUnderSome, IsSoundUnder, KeepsFlash, Stays};
 ghost use Rattle.hm_machine.specs.Shown.{run_with};
 ghost use Rattle.hm_mem.specs.Memory.{memory_of, flash_at};
@@ -20,6 +20,7 @@ ghost use Rattle.hm_window.specs.Positions.{may_end};
 use crate::cpu::Cpu;
 use hm_base::{Fault, FaultKind};
 use hm_exc::{EnterErr, enter, newest};
+use hm_regs::Regs;
 use hm_run::{Outcome, Who};
 use hm_sys::{candidate, priority};
 use hm_window::Window;
@@ -27,19 +28,38 @@ use hm_window::Window;
 /// The priority number of the thread, below all exceptions.
 const OF_THREAD: u16 = 256;
 
-/// The priority number of what runs: of the newest exception, which is more urgent than those that it interrupted. Where PRIMASK is set nothing is
-/// more urgent.
-fn running_priority(x: &Cpu) -> u16
-    requires sound { IsSoundUnderSome x.now }
-    ensures value { result ≡ running_priority (memory_of x.now.mem).devices x.now.regs.primask (nested_of x.now).acts }
+/// The priority number from which on exceptions are masked: 0 where PRIMASK is set, else BASEPRI where it is not 0.
+fn mask(r: &Regs) -> u16
+    ensures value { result ≡ mask_of r.now.primask r.now.basepri }
 {
-    if x.regs.primask {
-        return 0;
+    if r.primask {
+        0
+    } else if r.basepri == 0 {
+        OF_THREAD
+    } else {
+        r.basepri as u16
     }
+}
+
+/// The priority number of the newest exception, which is more urgent than those that it interrupted, or of the thread.
+fn active_priority(x: &Cpu) -> u16
+    requires sound { IsSoundUnderSome x.now }
+    ensures value { result ≡ least_active (memory_of x.now.mem).devices (nested_of x.now).acts }
+{
     if x.acts.is_empty() {
         return OF_THREAD;
     }
     priority(x.mem.dev(), newest(&x.acts).number)
+}
+
+/// The priority number of what runs, or that of what masks, where it is lower.
+fn running_priority(x: &Cpu) -> u16
+    requires sound { IsSoundUnderSome x.now }
+    ensures value { result ≡ running_priority (memory_of x.now.mem).devices (mask_of x.now.regs.primask x.now.regs.basepri) (nested_of x.now).acts }
+{
+    let mask = mask(&x.regs);
+    let active = active_priority(x);
+    if mask < active { mask } else { active }
 }
 
 /// How a run ends where an exception may not enter.
@@ -65,7 +85,7 @@ fn enter_exception(tick: u32, e: u16, x: &mut Cpu) -> Option<Outcome>
     requires sound { IsSoundUnderSome x.old }
     requires picked { picks x.old ≡ Some e }
     requires position { may_end x.old.window.a x.old.window.b ≡ true }
-    ensures value { (s : Sched) (es : List ℕ) → IsSoundUnder s x.old
+    ensures value { (s : Sched) (es : List Pointers) → IsSoundUnder s x.old
         → let r = enters s (Some e) (run_with None (nested_of x.old) tick es) in run_with result (nested_of x.new) tick r.entries ≡ r }
     ensures moves { KeepsFlash x.old x.new }
     ensures position { result ≡ None → IsPosition x.new }
@@ -86,7 +106,7 @@ fn enter_exception(tick: u32, e: u16, x: &mut Cpu) -> Option<Outcome>
 pub fn enter_picked(tick: u32, x: &mut Cpu) -> Option<Outcome>
     requires sound { IsSoundUnderSome x.old }
     requires position { may_end x.old.window.a x.old.window.b ≡ true }
-    ensures value { (s : Sched) (es : List ℕ) → IsSoundUnder s x.old
+    ensures value { (s : Sched) (es : List Pointers) → IsSoundUnder s x.old
         → let y = run_with None (nested_of x.old) tick es in let r = enters s (picks_of y) y in run_with result (nested_of x.new) tick r.entries ≡ r }
     ensures moves { KeepsFlash x.old x.new }
     ensures position { IsPosition x.old → result ≡ None → IsPosition x.new }

@@ -12,12 +12,12 @@ ghost use Rattle.hm_run.specs.Headline.{Headline, PlainReport, Riders};
 ghost use Rattle.hm_run.specs.InOrder.{in_order};
 ghost use Rattle.hm_run.specs.Report.{report_text, memory_text};
 ghost use Rattle.hm_handlers.specs.Order.{KeepsOrder};
-ghost use Rattle.hm_handlers.specs.Runs.{next, run, run_out};
+ghost use Rattle.hm_handlers.specs.Runs.{Pointers, next, run, run_out};
 ghost use Rattle.hm_handlers.specs.Taint.{TaintLies};
 ghost use Rattle.hm_plan_laws.specs.Planned.{bare, bare_program};
 ghost use Rattle.hm_position.specs.Position.{StandsInOrder};
 ghost use Rattle.hm_run.specs.Timed.{tick};
-ghost use Rattle.hm_sched.specs.Schedule.{Sched, TickLine, plain, ticks_of, most_ticks};
+ghost use Rattle.hm_sched.specs.Schedule.{Sched, TickLine, plain, ticks_of, most_ticks, no_irq};
 ghost use Rattle.hm_state.specs.Start.{reset_pc};
 ghost use Rattle.hm_state.specs.State.{Byte, regs_of};
 
@@ -94,7 +94,7 @@ impl Machine {
             → TaintLies s (run listing image.now s 0).entries (timed_of m).config.state) }
     {
         let (lo, hi) = s.region();
-        let mem = Mem::new(alloc, image, lo, hi, s.floor())?;
+        let mem = Mem::new(alloc, image, lo, hi, s.floor(), s.process())?;
         let output = Vec::with_capacity(alloc, OUTPUT)?;
         let sp = flash_word(&mem, 0);
         let pc = flash_word(&mem, 4);
@@ -214,7 +214,7 @@ impl Machine {
     fn advance(&mut self)
         requires running { self.old.outcome ≡ None }
         requires lines { 0 < length self.old.schedule.lines }
-        ensures next { (listing : Listing) (es : List ℕ) → IsListing (flash_at self.old.memory) listing
+        ensures next { (listing : Listing) (es : List Pointers) → IsListing (flash_at self.old.memory) listing
             → let r = next listing self.old.schedule self.old.left (run_of self.old es) in run_of self.new r.entries ≡ r }
         ensures left { self.new.outcome ≡ None → self.new.left ≡ drop 1 self.old.left }
         ensures fewer { length self.new.left < length self.old.left }
@@ -229,7 +229,7 @@ impl Machine {
         match tick(
             self.ticks,
             line.letters.as_slice(),
-            line.irq,
+            &line.irq,
             entries,
             &mut self.cpu,
         ) {
@@ -294,9 +294,9 @@ impl Machine {
         requires few { length letters.now ≤ 8 }
         requires ticks { self.old.ticks < most_ticks - 1 }
         // One tick more of the machine without handlers.
-        ensures next { (listing : Listing) (line : TickLine) → IsListing (flash_at self.old.memory) listing → line.letters ≡ letters.now → line.irq ≡ 0
+        ensures next { (listing : Listing) (line : TickLine) → IsListing (flash_at self.old.memory) listing → line.letters ≡ letters.now → line.irq ≡ no_irq
             → timed_of self.new ≡ tick (bare_program listing) line (timed_of self.old) }
-        ensures shows { (image : List Segment) (given : List TickLine) (line : TickLine) → line.letters ≡ letters.now → line.irq ≡ 0
+        ensures shows { (image : List Segment) (given : List TickLine) (line : TickLine) → line.letters ≡ letters.now → line.irq ≡ no_irq
             → ShowsGiven image given self.old → ShowsGiven image (given ++ line ∷ []) self.new }
         ensures bare { IsBare self.new }
         ensures flash { flash_at self.new.memory ≡ flash_at self.old.memory }
@@ -307,7 +307,7 @@ impl Machine {
             return Turn::Ended(outcome);
         }
         self.ticks += 1;
-        match tick(self.ticks, letters, 0, false, &mut self.cpu) {
+        match tick(self.ticks, letters, &[0; 8], false, &mut self.cpu) {
             Some(outcome) => {
                 self.outcome = Some(outcome);
                 Turn::Ended(outcome)
@@ -345,7 +345,7 @@ impl Machine {
         // Where the ticks are out: where the thread stands among whole instructions in order.
         ensures position { (image : List Segment) (s : Sched) (t : ℕ) (listing : Listing) → IsListing (flash_byte image) listing → Shows image s t self.old
             → StandsInOrder listing image s (run_of self.new (run_out listing image s).entries) }
-        // Every tainted byte lies in the region, or from the floor up and below the stack pointer at one of the run's entries.
+        // Every tainted byte lies in the region, or from the floor up and below the main stack pointer at one of the run's entries, or from the process floor up and below the process stack pointer at one of those from that stack.
         ensures taint { (image : List Segment) (s : Sched) (t : ℕ) (listing : Listing) → IsListing (flash_byte image) listing → Shows image s t self.old
             → TaintLies s (run_out listing image s).entries (timed_of self.new).config.state }
     {

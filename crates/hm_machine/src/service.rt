@@ -104,7 +104,7 @@ fn device_byte(addr: u32, dev: &Dev) -> u8
     requires width { IsTrue (has_width (word_at addr) 1) }
     ensures value { result ≡ read_devices dev.now (word_at addr) 1 addr }
 {
-    if addr >= 0xe000_e400 && addr < 0xe000_e420 {
+    if addr >= 0xe000_e400 && addr < 0xe000_e4f0 {
         dev.prio[(addr - 0xe000_e400) as usize]
     } else if addr == 0xe000_ed23 {
         dev.tick_prio

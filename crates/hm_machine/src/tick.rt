@@ -5,7 +5,7 @@ ghost use Rattle.std.specs.Vec.{vec_capacity};
 ghost use Rattle.hm_codes.specs.Listing.{Listing, IsListing};
 ghost use Rattle.hm_handlers.specs.Entries.{refused, running_priority};
 ghost use Rattle.hm_handlers.specs.Nested.{Ended, at_step, letter, letters};
-ghost use Rattle.hm_handlers.specs.Runs.{ended, enters, picks as picks_of, stopped_under, stops, tick_end, stacked_of};
+ghost use Rattle.hm_handlers.specs.Runs.{Pointers, ended, enters, picks as picks_of, stopped_under, stops, tick_end, stacked_of};
 ghost use Rattle.hm_machine.specs.Cpus.{config_of, step_ended, nested_of, picks, ticked, early_ended, CountsNone, CountsOne, IsPosition, IsSoundUnderSome, IsSoundUnder, KeepsFlash, Stays};
 ghost use Rattle.hm_machine.specs.Shown.{run_with};
 ghost use Rattle.hm_mem.specs.Memory.{memory_of, flash_at};
@@ -73,8 +73,8 @@ fn letters(steps: &[u8], x: &mut Cpu) -> Result<(), EarlyEnd>
 }
 
 /// What comes at the end of a tick that did not end the run: SysTick counts, and then interrupts become pending.
-fn count_and_arrive(irq: u32, mem: &mut Mem)
-    ensures value { memory_of mem.new ≡ with_dev (counted_with irq (memory_of mem.old).devices) (memory_of mem.old) }
+fn count_and_arrive(irq: &[u32; 8], mem: &mut Mem)
+    ensures value { memory_of mem.new ≡ with_dev (counted_with irq.now (memory_of mem.old).devices) (memory_of mem.old) }
 {
     let dev: &mut Dev = mem.dev_mut();
     count(dev);
@@ -83,10 +83,10 @@ fn count_and_arrive(irq: u32, mem: &mut Mem)
 
 /// The end of a tick, by its number, how many letters it has, its interrupts, and whether exceptions may enter: the position is judged, and what was counted and became
 /// pending may let an exception enter. The answer is how the run ends here, if it does.
-fn end_tick(tick: u32, steps: u32, irq: u32, entries: bool, x: &mut Cpu) -> Option<Outcome>
+fn end_tick(tick: u32, steps: u32, irq: &[u32; 8], entries: bool, x: &mut Cpu) -> Option<Outcome>
     requires sound { IsSoundUnderSome x.old }
     requires position { IsPosition x.old }
-    ensures value { (s : Sched) (line : TickLine) (es : List ℕ) → s.entries ≡ entries → line.irq ≡ irq → length line.letters ≡ steps → IsSoundUnder s x.old
+    ensures value { (s : Sched) (line : TickLine) (es : List Pointers) → s.entries ≡ entries → line.irq ≡ irq.now → length line.letters ≡ steps → IsSoundUnder s x.old
         → let r = tick_end s line (run_with None (nested_of x.old) tick es) in run_with result (nested_of x.new) tick r.entries ≡ r }
     ensures moves { KeepsFlash x.old x.new }
     ensures position { result ≡ None → IsPosition x.new }
@@ -107,14 +107,14 @@ fn end_tick(tick: u32, steps: u32, irq: u32, entries: bool, x: &mut Cpu) -> Opti
 }
 
 /// A tick, by its number, its letters, its interrupts, and whether exceptions may enter at its end. The answer is how the run ends in it, if it does.
-pub fn tick(tick: u32, steps: &[u8], irq: u32, entries: bool, x: &mut Cpu) -> Option<Outcome>
+pub fn tick(tick: u32, steps: &[u8], irq: &[u32; 8], entries: bool, x: &mut Cpu) -> Option<Outcome>
     requires few { length steps.now ≤ 8 }
     requires count { (x.old.retired < 2 ^ 60) × (x.old.older_steps < 2 ^ 60) }
     requires position { IsPosition x.old }
     requires room { vec_capacity x.old.output ≡ most_output }
     requires sound { IsSoundUnderSome x.old }
-    ensures value { (listing : Listing) (s : Sched) (line : TickLine) (t : ℕ) (es : List ℕ) → IsListing (flash_at (memory_of x.old.mem)) listing
-        → s.entries ≡ entries → line.letters ≡ steps.now → line.irq ≡ irq → t + 1 ≡ tick → IsSoundUnder s x.old
+    ensures value { (listing : Listing) (s : Sched) (line : TickLine) (t : ℕ) (es : List Pointers) → IsListing (flash_at (memory_of x.old.mem)) listing
+        → s.entries ≡ entries → line.letters ≡ steps.now → line.irq ≡ irq.now → t + 1 ≡ tick → IsSoundUnder s x.old
         → let r = ended s line (run_with None (nested_of x.old) t es) (letters listing s 0 line.letters (nested_of x.old)) in run_with result (nested_of x.new) tick r.entries ≡ r }
     ensures moves { KeepsFlash x.old x.new }
     ensures position { result ≡ None → IsPosition x.new }

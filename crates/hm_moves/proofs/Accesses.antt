@@ -1,5 +1,5 @@
 -- Accesses to the memory, and the bytes of the state.
-use Rattle.std.proofs.Common.{◌≡◌, ℕ, ◌+◌, ◌-◌, ◌*◌, ◌/◌, ◌%◌, ◌^◌, ◌<◌, ◌≤◌, Bool, true, false, not, ◌||◌, ◌&&◌, nat_eq, nat_le, nat_lt, Option, Some, None, refl, ◌∙◌, ap, arith, ne_eqb}
+use Rattle.std.proofs.Common.{◌≡◌, ℕ, ◌+◌, ◌-◌, ◌*◌, ◌/◌, ◌%◌, ◌^◌, ◌<◌, Bool, true, false, not, ◌||◌, ◌&&◌, Option, Some, None, refl, ◌∙◌, ap, arith}
 use Rattle.std.specs.Prelude.{if◌then◌else◌}
 use Rattle.std.proofs.lemmas.Bool.Decides.{nat_tests}
 use Rattle.std.proofs.lemmas.Nat.{shr-shr}
@@ -10,41 +10,13 @@ use Rattle.hm_mem.specs.declared.Access.TheVariants.{Vector}
 use Rattle.hm_mem.specs.declared.Actor.{Actor}
 use Rattle.hm_mem.specs.declared.Actor.TheVariants.{Thread, Handler, Entry}
 use Rattle.hm_mem.specs.Devices.{byte_of, has_width, in_devices, word_at}
-use Rattle.hm_mem.specs.Memory.{Around}
+use Rattle.hm_mem.specs.Memory.{Around, Bounds}
 use Rattle.hm_mem.specs.Seen.{Seen, fault_kind, is_kept, is_thread, is_unaligned, lies_in_flash, lies_in_memory, lies_in_sram, stop_after, stop_of}
-use Rattle.hm_order.proofs.Results.{decide, true_not_false}
 use Rattle.hm_moves.specs.Moves.{width}
 
 -- WHERE A VECTOR ACCESS LIES THAT HAS NO FAULT
--- a word that is no word of the devices
-off_word : (a c : ℕ) → in_devices a ≡ false → 0xe000e000 ≤ c → c + 3 ≤ 0xe000efff → nat_eq (a - a % 4) c ≡ false
-off_word a c out low high = ne_eqb (a - a % 4) c (λ e. true_not_false (in_devices a) (inside e) out)
-  where
-    inside : a - a % 4 ≡ c → in_devices a ≡ true
-    inside e = grind (arith, nat_tests)
-
 no_word : (a : ℕ) → in_devices a ≡ false → word_at a ≡ None
-no_word a out = rw (
-  off_prio,
-  off_word a 0xe000e010 out (omega arith) (omega arith),
-  off_word a 0xe000e014 out (omega arith) (omega arith),
-  off_word a 0xe000e018 out (omega arith) (omega arith),
-  off_word a 0xe000e100 out (omega arith) (omega arith),
-  off_word a 0xe000e180 out (omega arith) (omega arith),
-  off_word a 0xe000e200 out (omega arith) (omega arith),
-  off_word a 0xe000e280 out (omega arith) (omega arith),
-  off_word a 0xe000ed08 out (omega arith) (omega arith),
-  off_word a 0xe000ed20 out (omega arith) (omega arith),
-  off_word a 0xe000ed14 out (omega arith) (omega arith),
-  off_word a 0xe000ed88 out (omega arith) (omega arith),
-  off_word a 0xe000ef34 out (omega arith) (omega arith),
-) refl
-  where
-    off_prio : (nat_le 0xe000e400 (a - a % 4) && nat_lt (a - a % 4) 0xe000e420) ≡ false
-    off_prio = decide (nat_le 0xe000e400 (a - a % 4) && nat_lt (a - a % 4) 0xe000e420) (λ e. true_not_false (in_devices a) (inside e) out) (λ e. e)
-      where
-        inside : (nat_le 0xe000e400 (a - a % 4) && nat_lt (a - a % 4) 0xe000e420) ≡ true → in_devices a ≡ true
-        inside e = grind (arith, nat_tests)
+no_word a out = grind (arith, nat_tests, out)
 
 some_none : {A P : Type 0} {x : A} → Some x ≡ None → P
 some_none e = cc
@@ -80,7 +52,7 @@ no_fault None kept store a h = refl
 no_fault (Some k) kept store a h = some_none h
 
 pub fault_free : (x : Around) (store : Bool) (len a : ℕ) (s : Seen) → stop_of x Vector store len a s ≡ None → fault_kind (is_thread x.actor) Vector store len a ≡ None
-fault_free x store len a s h = no_fault (fault_kind (is_thread x.actor) Vector store len a) (is_kept x.actor x store len a s) store a h
+fault_free x store len a s h = no_fault (fault_kind (is_thread x.actor) Vector store len a) (is_kept x.actor x.bounds store len a s) store a h
 
 -- addresses within the memory do not go past the last
 pub within : (z : Size) (a k : ℕ) → lies_in_memory (width z) a ≡ true → k < width z → (a + k) % 2 ^ 32 ≡ a + k
@@ -88,7 +60,7 @@ within z a k h l = grind (arith, nat_tests)
 
 -- STORES
 -- what stops a store does not depend on what the memory holds
-kept_store : (x : Around) (who : Actor) (len a : ℕ) (s t : Seen) → is_kept who x true len a s ≡ is_kept who x true len a t
+kept_store : (x : Bounds) (who : Actor) (len a : ℕ) (s t : Seen) → is_kept who x true len a s ≡ is_kept who x true len a t
 kept_store x Thread len a s t = refl
 kept_store x (Handler f) len a s t = refl
 kept_store x Entry len a s t = refl
@@ -96,7 +68,7 @@ kept_store x Entry len a s t = refl
 pub stop_of-elsewhere : (x y : Around) (len a : ℕ) (s t : Seen) → x ≡ y → stop_of y Vector true len a t ≡ None → stop_of x Vector true len a s ≡ None
 stop_of-elsewhere x y len a s t e h =
     ap (λ (z : Around). stop_of z Vector true len a s) e
-    ∙ ap (λ b. stop_after (fault_kind (is_thread y.actor) Vector true len a) b true a) (kept_store y y.actor len a s t) ∙ h
+    ∙ ap (λ b. stop_after (fault_kind (is_thread y.actor) Vector true len a) b true a) (kept_store y.bounds y.actor len a s t) ∙ h
 
 -- a byte of a shifted word
 pub shifted_byte : (w lane k : ℕ) → byte_of (w / 2 ^ (8 * lane)) k ≡ byte_of w (lane + k)

@@ -76,11 +76,11 @@ module _ (m : Memory) (r : Regs) (output : List ℕ) (store : Bool) (z : Size) (
   tainted false = refl
 
   by_actor : (o : Option FaultKind) (who : Actor) → (o ≡ None → lies_in_memory (width z) a ≡ true)
-      → checked cells ((fails (stop_after o (is_closed who m.around store (width z) a) store a) ++ cond (is_thread who && not store) (asks a (span_bytes a (width z))) []) ++ cs) s
-      ≡ or_else (stop_after o (is_kept who m.around store (width z) a (seen m)) store a) rest
+      → checked cells ((fails (stop_after o (is_closed who m.around.bounds store (width z) a) store a) ++ cond (is_thread who && not store) (asks a (span_bytes a (width z))) []) ++ cs) s
+      ≡ or_else (stop_after o (is_kept who m.around.bounds store (width z) a (seen m)) store a) rest
   by_actor (Some k) who h = refl
   by_actor None Entry h = refl
-  by_actor None (Handler f) h = closed (stop_after None (store && is_denied m.around f (width z) a) store a)
+  by_actor None (Handler f) h = closed (stop_after None (store && is_denied m.around.bounds f (width z) a) store a)
   by_actor None Thread h = by_store store
     where
       by_store : (y : Bool) → checked cells ((fails (stop_after None false y a) ++ cond (true && not y) (asks a (span_bytes a (width z))) []) ++ cs) s

@@ -191,7 +191,7 @@ fault_stop None = None
 fault_stop (Some f) = Some (stop.Fault f)
 
 sure_thread : (x : Around) (store : Bool) (len a : ℕ) → x.actor ≡ Thread → sure_stop x store len a ≡ fault_stop (fault_after (fault_kind true Vector store len a) a)
-sure_thread x store len a thread = (λ j. stop_after (fault_kind (is_thread (thread j)) Vector store len a) (is_closed (thread j) x store len a) store a) ∙ go (fault_kind true Vector store len a)
+sure_thread x store len a thread = (λ j. stop_after (fault_kind (is_thread (thread j)) Vector store len a) (is_closed (thread j) x.bounds store len a) store a) ∙ go (fault_kind true Vector store len a)
   where
     go : (k : Option FaultKind) → stop_after k false store a ≡ fault_stop (fault_after k a)
     go None = refl

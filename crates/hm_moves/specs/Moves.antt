@@ -16,7 +16,7 @@ use Rattle.hm_mem.specs.declared.Access.TheVariants.{Vector}
 use Rattle.hm_mem.specs.declared.Actor.{Actor}
 use Rattle.hm_mem.specs.declared.Actor.TheVariants.{Handler}
 use Rattle.hm_mem.specs.Devices.{byte_of}
-use Rattle.hm_mem.specs.Memory.{Around}
+use Rattle.hm_mem.specs.Memory.{Around, Bounds}
 use Rattle.hm_mem.specs.Seen.{fault_kind, is_denied, is_thread, marks, or_else, stop_after, unless}
 use Rattle.hm_state.specs.Store.{put_all}
 use Rattle.hm_state.specs.State.{At, Byte, Cell, State, Value, at, cells, into, word}
@@ -64,13 +64,13 @@ bytes_of z (e ∷ es) = span_bytes e.addr (width z) ++ bytes_of z es
 
 -- CHECKS
 -- a handler stores where it may not
-abbrev pub is_closed : Actor → Around → Bool → ℕ → ℕ → Bool
+abbrev pub is_closed : Actor → Bounds → Bool → ℕ → ℕ → Bool
 is_closed (Handler frame) x store len a = store && is_denied x frame len a
 is_closed actor x store len a = false
 
 -- the stop of an access that no taint decides
 abbrev pub sure_stop : Around → Bool → ℕ → ℕ → Option Stop
-sure_stop x store len a = stop_after (fault_kind (is_thread x.actor) Vector store len a) (is_closed x.actor x store len a) store a
+sure_stop x store len a = stop_after (fault_kind (is_thread x.actor) Vector store len a) (is_closed x.actor x.bounds store len a) store a
 
 -- a stop as a check that fails, and none where there is no stop
 abbrev pub fails : Option Stop → List (Check Cell Stop)

@@ -88,7 +88,14 @@ pub fn memory_before(alloc: Global, blank: &[u8], case: &Case) -> Result<Mem> {
     let mut image = Image::new(alloc);
     image.add(0, flash_before(alloc, blank, case)?)?;
     image.add(SRAM_START, sram_before(alloc, case)?)?;
-    let mut mem = Mem::new(alloc, &image, REGION_START, REGION_END, STACK_FLOOR)?;
+    let mut mem = Mem::new(
+        alloc,
+        &image,
+        REGION_START,
+        REGION_END,
+        STACK_FLOOR,
+        STACK_FLOOR,
+    )?;
     taint(&mut mem, &case.tainted)?;
     mem.set_actor(case.actor);
     Ok(mem)

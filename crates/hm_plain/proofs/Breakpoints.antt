@@ -2,7 +2,7 @@
 use Rattle.std.proofs.Common.{◌≡◌, ℕ, ◌+◌, ◌++◌, ap, refl, subst, Bool, true, false, cond, length, nat_lt, List, Option, Some, None, Result, Ok, Err, inl, inr, ◌⊎◌, ◌∙◌}
 use Rattle.hm_base.specs.declared.Fault.{Fault}
 use Rattle.hm_base.specs.declared.Stop.{Stop}
-use Rattle.hm_mem.specs.Memory.{thread_under}
+use Rattle.hm_mem.specs.Memory.{thread_under, Bounds}
 use Rattle.hm_order.specs.Beats.{AlikeAs, Live, StopsBy, then}
 use Rattle.hm_regs.specs.declared.Regs.{Regs}
 use Rattle.hm_beat.specs.Laws.{NoTaint}
@@ -74,12 +74,12 @@ module _ (s t : State) (live : Live view s t) (at : s.pc ≡ t.pc) where
       )
   answered_alike (Exits reason) = refl
 
-  pub asked_alike : (lo hi floor k : ℕ) → TaintedOrAlike (broken_by (thread_under lo hi floor) k s) (broken k t)
-  asked_alike lo hi floor k =
+  pub asked_alike : (bounds : Bounds) (k : ℕ) → TaintedOrAlike (broken_by (thread_under bounds) k s) (broken k t)
+  asked_alike bounds k =
       broken_alike (asks k) (Break k) _ _
       (served_alike (λ x. in_machine (answered s x)) (answered t) _ _ answered_alike
-      (subst (λ (r : Regs). ReadsAlike (asked (runner.in_machine (thread_under lo hi floor)) (regs_of s) (seen_in s)) (asked runner.alone r (seen_in t))) (same_regs s t live at)
-      (asked-live lo hi floor (seen_in s) (seen_in t) (seen_live s t live) (regs_of s))))
+      (subst (λ (r : Regs). ReadsAlike (asked (runner.in_machine (thread_under bounds)) (regs_of s) (seen_in s)) (asked runner.alone r (seen_in t))) (same_regs s t live at)
+      (asked-live bounds (seen_in s) (seen_in t) (seen_live s t live) (regs_of s))))
 
 -- WHAT IT LEAVES: no taint
 abbrev pub Leaves : Result State WholeStop → Type 0
@@ -126,8 +126,8 @@ either_same : (b : Bool) (reason : Reason) (r : Result State Cause) (q : Result 
 either_same true reason r q h = h
 either_same false reason r q h = refl
 
-pub broken_same : (lo hi floor k : ℕ) (s : State) → NoTaint s → broken_by (thread_under lo hi floor) k s ≡ in_machine (broken k s)
-broken_same lo hi floor k s clean =
+pub broken_same : (bounds : Bounds) (k : ℕ) (s : State) → NoTaint s → broken_by (thread_under bounds) k s ≡ in_machine (broken k s)
+broken_same bounds k s clean =
     either_same (asks k) (Break k) _ _
-    (ap (λ q. then (caused q) (λ x. in_machine (answered s x))) (asked-same lo hi floor (seen_in s) clean (regs_of s))
+    (ap (λ q. then (caused q) (λ x. in_machine (answered s x))) (asked-same bounds (seen_in s) clean (regs_of s))
     ∙ served_same s (asked runner.alone (regs_of s) (seen_in s)))

@@ -17,7 +17,7 @@ use Rattle.hm_run.specs.InOrder.{Halted, Full, Faulted, in_order, report_between
 use Rattle.hm_run.specs.Program.{Program, Ticked, letter_steps}
 use Rattle.hm_run.specs.Report.{report_of, report_text, memory_text}
 use Rattle.hm_run.specs.Stops as why
-use Rattle.hm_run.specs.Timed.{Timed, begin, closed, ended, next, thread_program, tick_of, timed, timed_out}
+use Rattle.hm_run.specs.Timed.{Timed, begin, closed, ended, next, thread_program, tick_of, timed, timed_out, bounds_of}
 use Rattle.hm_sched.specs.Schedule.{TickLine, Sched, ticks_of}
 use Rattle.hm_state.specs.Start.{start}
 use Rattle.hm_state.specs.State.{State, Byte, bit, byte_of_bits, listed, sram_bytes, taint_bytes}
@@ -122,7 +122,7 @@ no_acts listing image s (suc t) = next_acts (thread_program listing s) (drop t (
 
 module _ (listing : Listing) (image : List Segment) (s : Sched) where
   abbrev around : Around
-  around = thread_under s.lo s.hi s.floor
+  around = thread_under (bounds_of s)
 
   abbrev machine : Program
   machine = thread_program listing s

@@ -126,8 +126,8 @@ module _ (x : Around) (thread : x.actor ≡ Thread) where
   by_thread : (i : Instr) (s t : State) → Live view s t → s.pc ≡ t.pc → TaintedOrAlike (other_by x i s) (other_row i t)
   by_thread i s t h e =
       subst (λ (y : Around). TaintedOrAlike (other_by y i s) (other_row i t)) (sym (under_thread x thread))
-      (break_alike _ _ (break_of i) _ _ (asked_alike s t h e x.lo x.hi x.floor)
-      (done_alike (scalar_in_machine (thread_under x.lo x.hi x.floor) i s) (scalar_alone i t) (whole-live x.lo x.hi x.floor i s t h e)))
+      (break_alike _ _ (break_of i) _ _ (asked_alike s t h e x.bounds)
+      (done_alike (scalar_in_machine (thread_under x.bounds) i s) (scalar_alone i t) (whole-live x.bounds i s t h e)))
 
   other_alike : (r : Result Instr Fault) (s t : State) → vector_of r ≡ None → Live view s t → s.pc ≡ t.pc → TaintedOrAlike (other_here x r s) (whole_here r t)
   other_alike (Ok (instr.Scalar i)) s t none h e = by_thread (instr.Scalar i) s t h e

@@ -2,7 +2,7 @@
 use Rattle.std.proofs.Common.{◌≡◌, ℕ, zero, suc, ◌+◌, ◌-◌, ◌≤◌, arith, ap, refl, sym, ◌∙◌, subst, ◌⊎◌, ⊎_elim, inl, inr, false, List, [], ◌∷◌, drop, length, Option, Some, None, Result, Ok, Err}
 use Rattle.hm_base.specs.Image.{Segment}
 use Rattle.hm_codes.specs.Listing.{Listing}
-use Rattle.hm_mem.specs.Memory.{Around, thread_under}
+use Rattle.hm_mem.specs.Memory.{Around, thread_under, Bounds}
 use Rattle.hm_order.specs.Beats.{then}
 use Rattle.hm_order.specs.Machine.{Config}
 use Rattle.hm_order.specs.Position.{Holds}
@@ -17,7 +17,7 @@ use Rattle.hm_run.specs.Report.{outcome_line}
 use Rattle.hm_run.specs.Stops as why
 use Rattle.hm_run.specs.Stops.{WholeStop}
 use Rattle.hm_exc.specs.declared.types.Activation.{Activation}
-use Rattle.hm_run.specs.Timed.{Timed, begin, closed, ended, next as next_tick, or_out, thread_program, timed, timed_out, who_runs}
+use Rattle.hm_run.specs.Timed.{Timed, begin, closed, ended, next as next_tick, or_out, thread_program, timed, timed_out, who_runs, bounds_of}
 use Rattle.hm_sched.specs.Schedule.{TickLine, whole_letter, plain_line, plain, plain_lines, repeat, ticks_of}
 use Rattle.hm_state.specs.Start.{start, start_under}
 use Rattle.hm_state.specs.State.{State}
@@ -82,7 +82,7 @@ module _ (listing : Listing) (n : ℕ) where
   machine = thread_program listing (plain n)
 
   abbrev around : Around
-  around = thread_under (plain n).lo (plain n).hi (plain n).floor
+  around = thread_under (bounds_of (plain n))
 
   -- the end of a plain tick, by what the letter comes to
   abbrev after_tick : Timed → Stepped → Timed
@@ -151,14 +151,14 @@ repeat_length (suc n) line = ap suc (repeat_length n line)
 pub plain_length : (n : ℕ) → length (ticks_of (plain n).lines) ≡ n
 plain_length n = ap length (ticks_plain n) ∙ repeat_length n (plain_line n)
 
-pub clean_start : (lo hi floor : ℕ) (image : List Segment) → NoTaint (start_under lo hi floor image)
+pub clean_start : (bounds : Bounds) (image : List Segment) → NoTaint (start_under bounds image)
 unfolding start_under
-clean_start lo hi floor image = λ a. refl
+clean_start bounds image = λ a. refl
 
 goes_first : (image : List Segment) (n left : ℕ) → n ≡ left → Goes left 0 (closed (ticks_of (plain_lines n)) (begin image (plain n)))
 goes_first image n left e =
     subst (λ (l : List TickLine). Goes left 0 (closed l (begin image (plain n)))) (sym (ticks_plain n ∙ ap (λ (k : ℕ). repeat k (plain_line n) []) e))
-    (closed_goes (plain_line n) left 0 (begin image (plain n)) refl 0 _ refl refl (clean_start (plain n).lo (plain n).hi (plain n).floor image))
+    (closed_goes (plain_line n) left 0 (begin image (plain n)) refl 0 _ refl refl (clean_start (bounds_of (plain n)) image))
 
 plainly : (listing : Listing) (image : List Segment) (n t left : ℕ) → t + left ≡ n → Plainly left t (timed listing image (plain n) t)
 plainly listing image n zero left e = let same : n ≡ left = omega arith in inl (goes_first image n left same)

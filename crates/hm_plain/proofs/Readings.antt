@@ -29,6 +29,9 @@ registers_alike s t h pc = λ j.
       qw = listed 32 (λ k. (p (QWord k)).n);
       fpca = r.fpca;
       primask = r.primask;
+      other = r.other;
+      spsel = r.spsel;
+      basepri = r.basepri;
       ipsr = r.ipsr;
     }
 

@@ -7,7 +7,7 @@ use Rattle.hm_codes.specs.Listing.{Listing}
 use Rattle.hm_isa.specs.declared.Instr.{Instr}
 use Rattle.hm_isa.specs.declared.Instr.TheVariants as instr
 use Rattle.hm_isa.specs.declared.Vector.{Vector}
-use Rattle.hm_mem.specs.Memory.{Around, thread_under}
+use Rattle.hm_mem.specs.Memory.{Around, thread_under, Bounds}
 use Rattle.hm_mem.specs.declared.Actor.TheVariants as actor
 use Rattle.hm_mem.specs.declared.Dev.{Dev}
 use Rattle.hm_order.specs.Beats.{Live, then}
@@ -33,7 +33,7 @@ use Rattle.hm_mem.specs.Devices.{open_devices}
 use Rattle.hm_run.specs.Stops as why
 use Rattle.hm_run.specs.Stops.{WholeStop, at_break, scalar_break}
 use Rattle.hm_run.proofs.Steps.{break_makes}
-use Rattle.hm_run.specs.Timed.{Timed, begin, who_runs, outcome_of, at_stop, counted_with, with_devices, ended, tick_of, closed, or_out, next, thread_program, timed}
+use Rattle.hm_run.specs.Timed.{Timed, begin, who_runs, outcome_of, at_stop, counted_with, with_devices, ended, tick_of, closed, or_out, next, thread_program, timed, bounds_of}
 use Rattle.hm_sys.specs.Ticks.{arrived, counted, expired}
 use Rattle.hm_sched.specs.Schedule.{TickLine, Sched, older_letter, younger_letter, ticks_of}
 use Rattle.hm_state.specs.Start.{start, start_under}
@@ -57,14 +57,14 @@ open_expired d = open_cond (d.cvr == 0) _ d d refl refl
 open_counted : (d : Dev) → open_devices (counted d) ≡ open_devices d
 open_counted d = open_cond (d.csr % 2 == 1) _ d d (open_cond (d.cvr == 0) _ _ d refl (open_expired (record d { cvr = d.cvr - 1 }))) refl
 
-pub open_arrived : (irq : ℕ) (d : Dev) → open_devices (arrived irq (counted d)) ≡ open_devices d
+pub open_arrived : (irq : List ℕ) (d : Dev) → open_devices (arrived irq (counted d)) ≡ open_devices d
 open_arrived irq d = open_counted d
 
 module _ (listing : Listing) (around : Around) (thread : around.actor ≡ actor.Thread) (first : State) where
   abbrev machine : Program
   machine = core listing around
 
-  pub devices_restore : (irq : ℕ) (s : State) → Restores machine s (with_devices (counted_with irq) s)
+  pub devices_restore : (irq : List ℕ) (s : State) → Restores machine s (with_devices (counted_with irq) s)
   devices_restore irq s = (record { cells = cells; sticky = refl }, refl)
     where
       cells : (c : Watched) → dead c (held (with_devices (counted_with irq) s) c) ≡ false → held (with_devices (counted_with irq) s) c ≡ held s c
@@ -292,17 +292,17 @@ module _ (listing : Listing) (around : Around) (thread : around.actor ≡ actor.
 
 -- THE START
 -- under whatever region and floor the machine starts, the instructions in order start alike
-pub first_alike : (image : List Segment) (lo hi floor : ℕ) → Live view (start_under lo hi floor image) (start image)
+pub first_alike : (image : List Segment) (bounds : Bounds) → Live view (start_under bounds image) (start image)
 unfolding start_under
-first_alike image lo hi floor = record { cells = cells; sticky = refl }
+first_alike image bounds = record { cells = cells; sticky = refl }
   where
-    cells : (c : Watched) → dead c (held (start_under lo hi floor image) c) ≡ false → held (start_under lo hi floor image) c ≡ held (start image) c
+    cells : (c : Watched) → dead c (held (start_under bounds image) c) ≡ false → held (start_under bounds image) c ≡ held (start image) c
     cells (In c) d = refl
     cells Beside d = refl
 
-first_pc : (image : List Segment) (lo hi floor : ℕ) → (start_under lo hi floor image).pc ≡ (start image).pc
+first_pc : (image : List Segment) (bounds : Bounds) → (start_under bounds image).pc ≡ (start image).pc
 unfolding start_under
-first_pc image lo hi floor = refl
+first_pc image bounds = refl
 
 clean_first : (image : List Segment) → NoTaint (start image)
 unfolding start_under
@@ -312,14 +312,14 @@ pub begun : (listing : Listing) (image : List Segment) (s : Sched) → Holds (th
 begun listing image s = record {
   order = start image;
   runs = refl;
-  clean = clean_of listing (thread_under s.lo s.hi s.floor) (start image) (clean_first image);
-  pc = first_pc image s.lo s.hi s.floor;
+  clean = clean_of listing (thread_under (bounds_of s)) (start image) (clean_first image);
+  pc = first_pc image (bounds_of s);
   count = omega arith;
-  place = inl (record { a = refl; b = refl; live = first_alike image s.lo s.hi s.floor });
+  place = inl (record { a = refl; b = refl; live = first_alike image (bounds_of s) });
 }
 
 pub keeps_order : (listing : Listing) (image : List Segment) (s : Sched) (t : ℕ) → StaysInOrder listing image s (timed listing image s t)
 keeps_order listing image s zero =
-    closed_keeps listing (thread_under s.lo s.hi s.floor) refl (start image) (ticks_of s.lines) (begin image s) (begun listing image s)
+    closed_keeps listing (thread_under (bounds_of s)) refl (start image) (ticks_of s.lines) (begin image s) (begun listing image s)
 keeps_order listing image s (suc t) =
-    next_keeps listing (thread_under s.lo s.hi s.floor) refl (start image) (drop t (ticks_of s.lines)) (timed listing image s t) (keeps_order listing image s t)
+    next_keeps listing (thread_under (bounds_of s)) refl (start image) (drop t (ticks_of s.lines)) (timed listing image s t) (keeps_order listing image s t)

@@ -64,15 +64,15 @@ done_same : (q : Result Went Fault) → done_in_machine (as_stops q) ≡ in_mach
 done_same (Ok x) = refl
 done_same (Err f) = refl
 
-pub under_thread : (x : Around) → x.actor ≡ Thread → x ≡ thread_under x.lo x.hi x.floor
-under_thread x e = λ j. record { actor = e j; lo = x.lo; hi = x.hi; floor = x.floor }
+pub under_thread : (x : Around) → x.actor ≡ Thread → x ≡ thread_under x.bounds
+under_thread x e = λ j. record { actor = e j; bounds = x.bounds }
 
 module _ (x : Around) (thread : x.actor ≡ Thread) where
   same_is : (i : Instr) (s : State) → NoTaint s → other_by x i s ≡ in_machine (other_row i s)
   same_is i s clean =
       ap (λ (y : Around). other_by y i s) (under_thread x thread)
-      ∙ break_same _ _ (break_of i) _ _ (λ k. broken_same x.lo x.hi x.floor k s clean)
-      (ap done_in_machine (whole-same x.lo x.hi x.floor i s (watched_clean s clean)) ∙ done_same (scalar_alone i s))
+      ∙ break_same _ _ (break_of i) _ _ (λ k. broken_same x.bounds k s clean)
+      (ap done_in_machine (whole-same x.bounds i s (watched_clean s clean)) ∙ done_same (scalar_alone i s))
 
   other_is : (r : Result Instr Fault) (s : State) → vector_of r ≡ None → NoTaint s → other_here x r s ≡ in_machine (whole_here r s)
   other_is (Ok (instr.Scalar i)) s none clean = same_is (instr.Scalar i) s clean

@@ -16,7 +16,7 @@ use Rattle.hm_run.specs.Timed.{Timed, begin as begin_run, closed, counted_with, 
 use Rattle.hm_run.specs.declared.Cause.{Cause}
 use Rattle.hm_run.specs.declared.Outcome.{Outcome}
 use Rattle.hm_run.specs.declared.Outcome.TheVariants as outcome
-use Rattle.hm_sched.specs.Schedule.{Sched, TickLine, ticks_of, younger_letter}
+use Rattle.hm_sched.specs.Schedule.{Sched, TickLine, no_irq, ticks_of, younger_letter}
 use Rattle.hm_state.specs.State.{State}
 use Rattle.hm_window.specs.Positions.{may_end}
 use Rattle.hm_window.specs.declared.rule.Rule.{Rule}
@@ -101,7 +101,7 @@ module _ (listing : Listing) where
   after x f = record { outcome = None; config = f; acts = x.acts; ticks = x.ticks + 1 }
 
   abbrev there : Timed → Config State → Timed
-  there x f = record (after x f) { config = record f { state = with_devices (counted_with 0) f.state } }
+  there x f = record (after x f) { config = record f { state = with_devices (counted_with no_irq) f.state } }
 
   abbrev broken : Timed → Config State → Timed
   broken x f = record (after x f) { outcome = Some (outcome.RuleBroken (x.ticks + 1) 2 (rule.Ending f.a f.b)) }

@@ -10,7 +10,7 @@ use Rattle.hm_plan_laws.proofs.Lines.{Does}
 use Rattle.hm_run.specs.Program.{Program, Ticked, letter_steps}
 use Rattle.hm_run.specs.Timed.{Timed, begin, closed, ended, next, thread_program, tick, tick_of, timed, timed_out}
 use Rattle.hm_run.specs.declared.Outcome.{Outcome}
-use Rattle.hm_sched.specs.Schedule.{TickLine, Sched, ticks_of}
+use Rattle.hm_sched.specs.Schedule.{TickLine, Sched, ticks_of, no_irq}
 
 -- a tick after another, and then the ticks are out
 abbrev pub all_ticks : Program → List TickLine → Timed → Timed
@@ -38,7 +38,7 @@ module _ (listing : Listing) (image : List Segment) (s : Sched) where
       ap (timed listing image s) (sym all) ∙ folds_from (ticks_of s.lines) 0 (begin image s) refl refl
 
 -- THE SAME TICKS: of a line its letters and its interrupts count
-abbrev pub one_line : List ℕ → ℕ → TickLine
+abbrev pub one_line : List ℕ → List ℕ → TickLine
 one_line letters irq = record { count = 1; letters = letters; irq = irq }
 
 module _ (M : Program) where
@@ -51,7 +51,7 @@ module _ (M : Program) where
   same_tick line x (Some o) = refl
   same_tick line x None = same_ended line x (letter_steps M 0 line.letters x.config)
 
-  pub tick_does : (line : TickLine) (g : Greedy) (x : Timed) → line.letters ≡ letters_of g → line.irq ≡ 0 → tick M line x ≡ tick M (plan_line 1 g) x
+  pub tick_does : (line : TickLine) (g : Greedy) (x : Timed) → line.letters ≡ letters_of g → line.irq ≡ no_irq → tick M line x ≡ tick M (plan_line 1 g) x
   tick_does line g x letters irq = same_tick line x x.outcome ∙ (λ j. tick M (one_line (letters j) (irq j)) x)
 
   -- the ticks of a plan

@@ -27,10 +27,10 @@ cond_count : (b : Bool) (xs ys : List ℕ) (n : ℕ) → length xs ≡ n → len
 cond_count b xs ys n p q = elim b as (λ v. length (cond v xs ys) ≡ n) [ true ↦ p | false ↦ q ]
 
 vpr_range : (s : Regs) (v : ℕ) → v < 2 ^ 32 → InRange s → InRange (record s { vpr = v })
-vpr_range s v h i = record { r_count = i.r_count; r_fits = i.r_fits; sp_fits = i.sp_fits; lr_fits = i.lr_fits; pc_fits = i.pc_fits; it_fits = i.it_fits; fpscr_fits = i.fpscr_fits; vpr_fits = h; qw_count = i.qw_count; qw_fits = i.qw_fits; ipsr_fits = i.ipsr_fits }
+vpr_range s v h i = record { r_count = i.r_count; r_fits = i.r_fits; sp_fits = i.sp_fits; other_fits = i.other_fits; lr_fits = i.lr_fits; pc_fits = i.pc_fits; it_fits = i.it_fits; fpscr_fits = i.fpscr_fits; vpr_fits = h; qw_count = i.qw_count; qw_fits = i.qw_fits; basepri_fits = i.basepri_fits; ipsr_fits = i.ipsr_fits }
 
 fpscr_range : (s : Regs) (v : ℕ) → v < 2 ^ 32 → InRange s → InRange (record s { fpscr = v })
-fpscr_range s v h i = record { r_count = i.r_count; r_fits = i.r_fits; sp_fits = i.sp_fits; lr_fits = i.lr_fits; pc_fits = i.pc_fits; it_fits = i.it_fits; fpscr_fits = h; vpr_fits = i.vpr_fits; qw_count = i.qw_count; qw_fits = i.qw_fits; ipsr_fits = i.ipsr_fits }
+fpscr_range s v h i = record { r_count = i.r_count; r_fits = i.r_fits; sp_fits = i.sp_fits; other_fits = i.other_fits; lr_fits = i.lr_fits; pc_fits = i.pc_fits; it_fits = i.it_fits; fpscr_fits = h; vpr_fits = i.vpr_fits; qw_count = i.qw_count; qw_fits = i.qw_fits; basepri_fits = i.basepri_fits; ipsr_fits = i.ipsr_fits }
 
 pub InRange-with_value : (p : Place) (x : ℕ) (s : Regs) → IsPlace p → x < 2 ^ 32 → InRange s → InRange (with_value p x s)
 InRange-with_value (R n) x s p h i = record {
@@ -45,6 +45,8 @@ InRange-with_value (R n) x s p h i = record {
   pc_fits = i.pc_fits;
   it_fits = i.it_fits;
   ipsr_fits = i.ipsr_fits;
+  other_fits = i.other_fits;
+  basepri_fits = i.basepri_fits;
 }
 InRange-with_value (QWord k) x s p h i = record {
   r_count = i.r_count;
@@ -58,6 +60,8 @@ InRange-with_value (QWord k) x s p h i = record {
   pc_fits = i.pc_fits;
   it_fits = i.it_fits;
   ipsr_fits = i.ipsr_fits;
+  other_fits = i.other_fits;
+  basepri_fits = i.basepri_fits;
 }
 InRange-with_value (P0 b) x s p h i = vpr_range s (put_field (4 * b) 4 x s.vpr) (put_field_below (4 * b) 4 x s.vpr 32 (omega arith) i.vpr_fits) i
 InRange-with_value Mask01 x s p h i = vpr_range s (put_field 16 4 x s.vpr) (put_field_below 16 4 x s.vpr 32 (omega arith) i.vpr_fits) i
@@ -71,14 +75,14 @@ InRange-apply [] s a i = i
 InRange-apply (w ∷ ws) s a i = InRange-apply ws (with_value w.place w.value s) a.2 (InRange-with_value w.place w.value s a.0 a.1 i)
 
 same_vpr : (s : Regs) (v : ℕ) → field 24 8 v ≡ field 24 8 s.vpr → SameElsewhere (record s { vpr = v }) s
-same_vpr s v e = record { pc = refl; n = refl; z = refl; c = refl; v = refl; q = refl; it = refl; fpca = refl; primask = refl; ipsr = refl; fpscr_low = refl; fpscr_middle = refl; vpr_top = e }
+same_vpr s v e = record { pc = refl; n = refl; z = refl; c = refl; v = refl; q = refl; it = refl; fpca = refl; primask = refl; other = refl; spsel = refl; basepri = refl; ipsr = refl; fpscr_low = refl; fpscr_middle = refl; vpr_top = e }
 
 same_fpscr : (s : Regs) (v : ℕ) → field 0 16 v ≡ field 0 16 s.fpscr → field 19 8 v ≡ field 19 8 s.fpscr → SameElsewhere (record s { fpscr = v }) s
-same_fpscr s v e f = record { pc = refl; n = refl; z = refl; c = refl; v = refl; q = refl; it = refl; fpca = refl; primask = refl; ipsr = refl; fpscr_low = e; fpscr_middle = f; vpr_top = refl }
+same_fpscr s v e f = record { pc = refl; n = refl; z = refl; c = refl; v = refl; q = refl; it = refl; fpca = refl; primask = refl; other = refl; spsel = refl; basepri = refl; ipsr = refl; fpscr_low = e; fpscr_middle = f; vpr_top = refl }
 
 pub SameElsewhere-with_value : (p : Place) (x : ℕ) (s : Regs) → IsPlace p → SameElsewhere (with_value p x s) s
-SameElsewhere-with_value (R n) x s i = record { pc = refl; n = refl; z = refl; c = refl; v = refl; q = refl; it = refl; fpca = refl; primask = refl; ipsr = refl; fpscr_low = refl; fpscr_middle = refl; vpr_top = refl }
-SameElsewhere-with_value (QWord k) x s i = record { pc = refl; n = refl; z = refl; c = refl; v = refl; q = refl; it = refl; fpca = refl; primask = refl; ipsr = refl; fpscr_low = refl; fpscr_middle = refl; vpr_top = refl }
+SameElsewhere-with_value (R n) x s i = record { pc = refl; n = refl; z = refl; c = refl; v = refl; q = refl; it = refl; fpca = refl; primask = refl; other = refl; spsel = refl; basepri = refl; ipsr = refl; fpscr_low = refl; fpscr_middle = refl; vpr_top = refl }
+SameElsewhere-with_value (QWord k) x s i = record { pc = refl; n = refl; z = refl; c = refl; v = refl; q = refl; it = refl; fpca = refl; primask = refl; other = refl; spsel = refl; basepri = refl; ipsr = refl; fpscr_low = refl; fpscr_middle = refl; vpr_top = refl }
 SameElsewhere-with_value (P0 b) x s i = same_vpr s _ (field-put_field_above 24 8 (4 * b) 4 x s.vpr (omega arith))
 SameElsewhere-with_value Mask01 x s i = same_vpr s _ (field-put_field_above 24 8 16 4 x s.vpr (omega arith))
 SameElsewhere-with_value Mask23 x s i = same_vpr s _ (field-put_field_above 24 8 20 4 x s.vpr (omega arith))
@@ -97,10 +101,10 @@ counted Ltp x s i = record { r_count = i.r_count; qw_count = i.qw_count }
 counted Sticky x s i = record { r_count = i.r_count; qw_count = i.qw_count }
 
 pub SameElsewhere-trans : (s t u : Regs) → SameElsewhere s t → SameElsewhere t u → SameElsewhere s u
-SameElsewhere-trans s t u h k = record { pc = h.pc ∙ k.pc; n = h.n ∙ k.n; z = h.z ∙ k.z; c = h.c ∙ k.c; v = h.v ∙ k.v; q = h.q ∙ k.q; it = h.it ∙ k.it; fpca = h.fpca ∙ k.fpca; primask = h.primask ∙ k.primask; ipsr = h.ipsr ∙ k.ipsr; fpscr_low = h.fpscr_low ∙ k.fpscr_low; fpscr_middle = h.fpscr_middle ∙ k.fpscr_middle; vpr_top = h.vpr_top ∙ k.vpr_top }
+SameElsewhere-trans s t u h k = record { pc = h.pc ∙ k.pc; n = h.n ∙ k.n; z = h.z ∙ k.z; c = h.c ∙ k.c; v = h.v ∙ k.v; q = h.q ∙ k.q; it = h.it ∙ k.it; fpca = h.fpca ∙ k.fpca; primask = h.primask ∙ k.primask; other = h.other ∙ k.other; spsel = h.spsel ∙ k.spsel; basepri = h.basepri ∙ k.basepri; ipsr = h.ipsr ∙ k.ipsr; fpscr_low = h.fpscr_low ∙ k.fpscr_low; fpscr_middle = h.fpscr_middle ∙ k.fpscr_middle; vpr_top = h.vpr_top ∙ k.vpr_top }
 
 pub SameElsewhere-refl : (s : Regs) → SameElsewhere s s
-SameElsewhere-refl s = record { pc = refl; n = refl; z = refl; c = refl; v = refl; q = refl; it = refl; fpca = refl; primask = refl; ipsr = refl; fpscr_low = refl; fpscr_middle = refl; vpr_top = refl }
+SameElsewhere-refl s = record { pc = refl; n = refl; z = refl; c = refl; v = refl; q = refl; it = refl; fpca = refl; primask = refl; other = refl; spsel = refl; basepri = refl; ipsr = refl; fpscr_low = refl; fpscr_middle = refl; vpr_top = refl }
 
 -- nothing outside the places is changed
 pub SameElsewhere-apply : (ws : List Write) (s : Regs) → AreWrites ws → SameElsewhere (apply ws s) s

@@ -6,6 +6,7 @@ ghost use Rattle.hm_base.specs.declared.Place.{Place};
 ghost use Rattle.hm_base.specs.Bits.{put_field};
 ghost use Rattle.hm_base.specs.Place.{IsPlace, fit, range_of};
 ghost use Rattle.hm_regs.specs.Place.{Counted, InRange, SameElsewhere, value_at, with_value};
+ghost use Rattle.hm_regs.specs.Stacks.{main_of, process_of, uses_process};
 ghost use Rattle.hm_regs.specs.Start.{start_regs};
 
 use hm_base::{Place, bits};
@@ -15,8 +16,10 @@ use hm_base::{Place, bits};
 pub struct Regs {
     /// r0 to r12.
     pub r: [u32; 13],
-    /// The main stack pointer. Its bits 1:0 are always 0.
+    /// The stack pointer in use. Its bits 1:0 are always 0.
     pub sp: u32,
+    /// The stack pointer that is not in use. Its bits 1:0 are always 0.
+    pub other: u32,
     /// The link register, r14.
     pub lr: u32,
     /// The address of the instruction that is next. Bit 0 is always 0.
@@ -43,6 +46,10 @@ pub struct Regs {
     pub fpca: bool,
     /// PRIMASK: no exception of a configurable priority may enter.
     pub primask: bool,
+    /// CONTROL.SPSEL: thread mode uses the process stack.
+    pub spsel: bool,
+    /// BASEPRI, in bits 7:5: only exceptions more urgent than it may enter; 0 is none.
+    pub basepri: u8,
     /// IPSR, the number of the exception that is handled; 0 in thread mode.
     pub ipsr: u16,
 }
@@ -74,6 +81,7 @@ impl Regs {
         Regs {
             r: [0; 13],
             sp,
+            other: 0,
             lr: 0xffff_ffff,
             pc,
             n: false,
@@ -87,7 +95,38 @@ impl Regs {
             qw: [0; 32],
             fpca: false,
             primask: false,
+            spsel: false,
+            basepri: 0,
             ipsr: 0,
+        }
+    }
+
+    /// Whether the stack in use is the process stack: in thread mode, where it was chosen (DDI0553, "CONTROL").
+    pub fn uses_process(&self) -> bool
+        ensures value { result ≡ uses_process self.now }
+    {
+        self.ipsr == 0 && self.spsel
+    }
+
+    /// The main stack pointer, in use or not.
+    pub fn main_pointer(&self) -> u32
+        ensures value { result ≡ main_of self.now }
+    {
+        if self.uses_process() {
+            self.other
+        } else {
+            self.sp
+        }
+    }
+
+    /// The process stack pointer, in use or not.
+    pub fn process_pointer(&self) -> u32
+        ensures value { result ≡ process_of self.now }
+    {
+        if self.uses_process() {
+            self.sp
+        } else {
+            self.other
         }
     }
 
@@ -97,14 +136,25 @@ impl Regs {
         ensures counted { Counted self.now }
     {
         let _sp = self.sp;
+        let _other = self.other;
         let _lr = self.lr;
         let _pc = self.pc;
-        let _it = self.it;
-        let _ipsr = self.ipsr;
         let _fpscr = self.fpscr;
         let _vpr = self.vpr;
+        self.short_numbers_fit();
         words_fit(&self.r);
         words_fit(&self.qw);
+    }
+
+    /// The numbers of fewer than 32 bits.
+    fn short_numbers_fit(&self)
+        ensures it { self.now.it < 2 ^ 8 }
+        ensures basepri { self.now.basepri < 2 ^ 8 }
+        ensures ipsr { self.now.ipsr < 2 ^ 16 }
+    {
+        let _it = self.it;
+        let _basepri = self.basepri;
+        let _ipsr = self.ipsr;
     }
 
     /// What stands in a place: a word of a register, four bits of P0, of a mask or of the flags of FPSCR,

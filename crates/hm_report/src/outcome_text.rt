@@ -113,6 +113,8 @@ fn slot_text(alloc: Global, out: &mut Vec<u8>, slot: Slot) -> Result<(), OutOfMe
     match slot {
         Slot::Reg(place) => place_text(alloc, out, place),
         Slot::Primask => text(out, b"primask"),
+        Slot::Psp => text(out, b"psp"),
+        Slot::Basepri => text(out, b"basepri"),
     }
 }
 

@@ -1,7 +1,7 @@
 //! The lines of the registers.
 
 ghost use Rattle.std.specs.Prelude.{◌≡◌, ◌++◌, ◌+◌, ◌*◌, ◌<◌, ◌≤◌, length, codes, IfOk};
-ghost use Rattle.hm_run.specs.Report.{low_lines, word_line, pointer_lines, position_line, flags_line, bit_line, special_lines, vector_words, vector_line, vector_lines, register_lines};
+ghost use Rattle.hm_run.specs.Report.{low_lines, word_line, pointer_lines, position_line, flags_line, bit_line, system_line, state_lines, special_lines, vector_words, vector_line, vector_lines, register_lines};
 
 use hm_base::OutOfMemory;
 use hm_regs::Regs;
@@ -71,8 +71,23 @@ fn flags_line(out: &mut Vec<u8>, regs: &Regs) -> Result<(), OutOfMemory>
     text(out, b"\n")
 }
 
-fn special_lines(out: &mut Vec<u8>, regs: &Regs) -> Result<(), OutOfMemory>
-    ensures { IfOk result (λ _. out.new.items ≡ special_lines regs.now out.old.items) }
+// The line of both stack pointers, SPSEL and BASEPRI.
+fn system_line(out: &mut Vec<u8>, regs: &Regs) -> Result<(), OutOfMemory>
+    ensures { IfOk result (λ _. out.new.items ≡ system_line regs.now out.old.items) }
+{
+    text(out, b"system ")?;
+    hex8(out, regs.main_pointer())?;
+    text(out, b" ")?;
+    hex8(out, regs.process_pointer())?;
+    text(out, b" ")?;
+    bit(out, regs.spsel)?;
+    text(out, b" ")?;
+    hex2(out, regs.basepri)?;
+    text(out, b"\n")
+}
+
+fn state_lines(out: &mut Vec<u8>, regs: &Regs) -> Result<(), OutOfMemory>
+    ensures { IfOk result (λ _. out.new.items ≡ state_lines regs.now out.old.items) }
 {
     text(out, b"it ")?;
     hex2(out, regs.it)?;
@@ -81,6 +96,13 @@ fn special_lines(out: &mut Vec<u8>, regs: &Regs) -> Result<(), OutOfMemory>
     word_line(out, b"vpr", regs.vpr)?;
     bit_line(out, b"fpca", regs.fpca)?;
     bit_line(out, b"primask", regs.primask)
+}
+
+fn special_lines(out: &mut Vec<u8>, regs: &Regs) -> Result<(), OutOfMemory>
+    ensures { IfOk result (λ _. out.new.items ≡ special_lines regs.now out.old.items) }
+{
+    state_lines(out, regs)?;
+    system_line(out, regs)
 }
 
 // The words of vector register k.

@@ -6,6 +6,7 @@ use Rattle.hm_base.specs.declared.FaultKind.{FaultKind}
 use Rattle.hm_base.specs.declared.FaultKind.TheVariants as kind
 use Rattle.hm_base.specs.declared.Place.{Place}
 use Rattle.hm_base.specs.declared.Place.TheVariants as place
+use Rattle.hm_regs.specs.Stacks.{main_of, process_of}
 use Rattle.hm_regs.specs.declared.Regs.{Regs}
 use Rattle.hm_exc.specs.declared.types.Broken.{Broken}
 use Rattle.hm_exc.specs.declared.types.Broken.TheVariants as broken
@@ -50,7 +51,7 @@ abbrev pub reason_text : Reason → List ℕ → List ℕ
 reason_text (reason.Break k) out = out ++ codes "break " ++ decimal k
 reason_text (reason.Exit r) out = out ++ codes "exit " ++ hex8 r
 
--- the program counter and the address that was accessed
+-- the program counter and the address of a fault
 abbrev pub address_text : ℕ → ℕ → List ℕ → List ℕ
 address_text pc addr out = out ++ codes " pc " ++ hex8 pc ++ codes " addr " ++ hex8 addr
 
@@ -77,6 +78,8 @@ place_text place.Sticky out = out ++ codes "qc"
 abbrev pub slot_text : Slot → List ℕ → List ℕ
 slot_text (slot.Reg p) out = place_text p out
 slot_text slot.Primask out = out ++ codes "primask"
+slot_text slot.Psp out = out ++ codes "psp"
+slot_text slot.Basepri out = out ++ codes "basepri"
 
 -- the rule of overlap that is broken
 abbrev pub rule_text : Rule → List ℕ → List ℕ
@@ -151,11 +154,19 @@ flags_line g out = out ++ codes "flags " ++ bit g.n ++ bit g.z ++ bit g.c ++ bit
 abbrev pub bit_line : List ℕ → Bool → List ℕ → List ℕ
 bit_line name b out = out ++ name ++ codes " " ++ bit b ++ codes "\n"
 
+-- the line of the main and the process stack pointer, SPSEL and BASEPRI
+abbrev pub system_line : Regs → List ℕ → List ℕ
+system_line g out = out ++ codes "system " ++ hex8 (main_of g) ++ codes " " ++ hex8 (process_of g) ++ codes " " ++ bit g.spsel ++ codes " " ++ hex2 g.basepri ++ codes "\n"
+
 -- the lines of the IT byte, FPSCR, VPR, FPCA and PRIMASK
-abbrev pub special_lines : Regs → List ℕ → List ℕ
-special_lines g out =
+abbrev pub state_lines : Regs → List ℕ → List ℕ
+state_lines g out =
     bit_line (codes "primask") g.primask (bit_line (codes "fpca") g.fpca
     (word_line (codes "vpr") g.vpr (word_line (codes "fpscr") g.fpscr (out ++ codes "it " ++ hex2 g.it ++ codes "\n"))))
+
+-- the lines of the special registers
+abbrev pub special_lines : Regs → List ℕ → List ℕ
+special_lines g out = system_line g (state_lines g out)
 
 -- vector register k
 abbrev pub vector_words : ℕ → List ℕ → List ℕ → List ℕ

@@ -5,7 +5,7 @@ use Rattle.hm_base.specs.declared.Stop.{Stop}
 use Rattle.hm_base.specs.declared.Stop.TheVariants as stop
 use Rattle.hm_codes.specs.Listing.{Listing}
 use Rattle.hm_exc.specs.declared.types.Activation.{Activation}
-use Rattle.hm_mem.specs.Memory.{thread_under}
+use Rattle.hm_mem.specs.Memory.{Bounds, thread_under}
 use Rattle.hm_mem.specs.declared.Dev.{Dev}
 use Rattle.hm_order.specs.Machine.{Config, Stopped, Broken, at_start}
 use Rattle.hm_run.specs.declared.Cause.{Cause}
@@ -23,6 +23,10 @@ use Rattle.hm_sys.specs.Ticks.{arrived, counted}
 use Rattle.hm_state.specs.State.{State}
 use Rattle.hm_window.specs.Positions.{may_end}
 
+-- the bounds of handlers and of stacks that a schedule gives
+abbrev pub bounds_of : Sched → Bounds
+bounds_of s = record { lo = s.lo; hi = s.hi; floor = s.floor; process = s.process }
+
 -- the outcome, or None while it runs; the position, the numbers of retired instructions and of older steps, and the
 -- state; the activations, the newest first; the ticks that were begun
 pub record Timed : Type 0 where
@@ -31,9 +35,9 @@ pub record Timed : Type 0 where
   pub acts : List Activation
   pub ticks : ℕ
 
--- a run before its first tick: a reset to an image, under the region and the floor of a schedule
+-- a run before its first tick: a reset to an image, under the region and the floors of a schedule
 abbrev pub begin : List Segment → Sched → Timed
-begin image s = record { outcome = None; config = at_start (start_under s.lo s.hi s.floor image); acts = []; ticks = 0 }
+begin image s = record { outcome = None; config = at_start (start_under (bounds_of s) image); acts = []; ticks = 0 }
 
 -- who runs: the thread, where there is no activation
 abbrev pub who_runs : List Activation → Who
@@ -75,7 +79,7 @@ abbrev pub with_devices : (Dev → Dev) → State → State
 with_devices f s = record s { rest = record s.rest { devices = f s.rest.devices } }
 
 -- what SysTick and the interrupts of a tick leave
-abbrev pub counted_with : ℕ → Dev → Dev
+abbrev pub counted_with : List ℕ → Dev → Dev
 counted_with irq d = arrived irq (counted d)
 
 -- At the end of a tick that did not end the run the position is judged, SysTick counts, and the tick's interrupts
@@ -118,7 +122,7 @@ next M (line ∷ left) x = closed left (tick M line x)
 
 -- the thread of a program under a schedule
 abbrev pub thread_program : Listing → Sched → Program
-thread_program listing s = core listing (thread_under s.lo s.hi s.floor)
+thread_program listing s = core listing (thread_under (bounds_of s))
 
 -- the machine after t ticks of a schedule
 abbrev pub timed : Listing → List Segment → Sched → ℕ → Timed

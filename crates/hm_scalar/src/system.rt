@@ -2,7 +2,8 @@
 
 ghost use Rattle.std.specs.Prelude.{◌≡◌, ℕ, ◌<◌, ◌≤◌, ◌^◌};
 ghost use Rattle.hm_thumb.specs.Arithmetic.{bit_is_set};
-ghost use Rattle.hm_thumb.specs.SystemRows.{apsr, flag_at, special, system_move, t18, t21, t22, with_flags, with_special};
+ghost use Rattle.hm_isa.specs.declared.system.WrittenName.{WrittenName};
+ghost use Rattle.hm_thumb.specs.SystemRows.{apsr, flag_at, selected, special, system_move, t18, t21, t22, with_flags, with_main, with_process, with_special};
 
 use hm_base::Place;
 use hm_isa::{LaneMoveName, ReadName, SystemMoveName, T18, T21, T22, WrittenName};
@@ -35,9 +36,11 @@ fn special(name: ReadName, regs: &Regs) -> u32
     match name {
         ReadName::Apsr => apsr(regs),
         ReadName::Ipsr => regs.ipsr as u32,
-        ReadName::Msp => regs.get(Place::R(13)),
+        ReadName::Msp => regs.main_pointer(),
+        ReadName::Psp => regs.process_pointer(),
         ReadName::Primask => flag_at(0, regs.primask),
-        ReadName::Control => flag_at(2, regs.fpca),
+        ReadName::Basepri => regs.basepri as u32,
+        ReadName::Control => flag_at(1, regs.uses_process()) + flag_at(2, regs.fpca),
     }
 }
 
@@ -59,6 +62,51 @@ fn set_flags(x: u32, regs: &mut Regs)
     regs.v = bit_is_set(x, 28);
 }
 
+/// Writes the main stack pointer.
+fn set_main(x: u32, regs: &mut Regs)
+    ensures regs { regs.new ≡ with_main x regs.old }
+{
+    if regs.uses_process() {
+        regs.other = x - x % 4;
+    } else {
+        regs.set(Place::R(13), x);
+    }
+}
+
+/// Writes the process stack pointer.
+fn set_process(x: u32, regs: &mut Regs)
+    ensures regs { regs.new ≡ with_process x regs.old }
+{
+    if regs.uses_process() {
+        regs.set(Place::R(13), x);
+    } else {
+        regs.other = x - x % 4;
+    }
+}
+
+/// A thread chooses its stack: where it is another one, the two pointers change places.
+fn select(process: bool, regs: &mut Regs)
+    ensures regs { regs.new ≡ selected process regs.old }
+{
+    if process == regs.spsel {
+        return;
+    }
+    let sp = regs.sp;
+    regs.sp = regs.other;
+    regs.other = sp;
+    regs.spsel = process;
+}
+
+/// Writes CONTROL: a thread chooses its stack, and a handler changes nothing.
+fn set_control(x: u32, regs: &mut Regs)
+    ensures regs { regs.new ≡ with_special WrittenName.Control x regs.old }
+{
+    if regs.ipsr != 0 {
+        return;
+    }
+    select(bit_is_set(x, 1), regs);
+}
+
 /// Writes a special register.
 fn set_special(name: WrittenName, x: u32, regs: &mut Regs)
     ensures regs { regs.new ≡ with_special name x regs.old }
@@ -68,8 +116,11 @@ fn set_special(name: WrittenName, x: u32, regs: &mut Regs)
             set_flags(x, regs);
             regs.q = bit_is_set(x, 27);
         }
-        WrittenName::Msp => regs.set(Place::R(13), x),
+        WrittenName::Msp => set_main(x, regs),
+        WrittenName::Psp => set_process(x, regs),
         WrittenName::Primask => regs.primask = bit_is_set(x, 0),
+        WrittenName::Basepri => regs.basepri = ((x - x % 32) % 256) as u8,
+        WrittenName::Control => set_control(x, regs),
     }
 }
 

@@ -1,3 +1,4 @@
+pub mod WordLaws
 pub mod Ticks
 pub mod TickSteps
 pub mod TickLaws

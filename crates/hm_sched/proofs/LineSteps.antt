@@ -1,10 +1,10 @@
 -- Taking lines of a file one after another, as a loop does.
-use Rattle.std.proofs.Common.{◌≡◌, ℕ, suc, ◌+◌, ◌-◌, ◌<◌, ◌≤◌, Bool, true, false, cond, ltb, eqb, inl, inr, List, [], ◌∷◌, ◌++◌, take, drop, length, Result, Ok, Err, refl, sym, ap, subst, ◌∙◌, append_assoc, arith}
+use Rattle.std.proofs.Common.{◌≡◌, ℕ, ◌+◌, ◌-◌, ◌<◌, ◌≤◌, true, false, ltb, inl, inr, List, [], ◌∷◌, ◌++◌, take, drop, length, Result, Ok, Err, refl, sym, ap, subst, ◌∙◌, append_assoc, arith}
 use Rattle.std.proofs.lemmas.Bool.{le-ltb, lt-ltb, cases_lt}
 use Rattle.std.proofs.lemmas.List.{append-nil, take_all}
 use Rattle.hm_text_base.specs.Reading.{◌>>=◌}
 use Rattle.hm_text_base.specs.Spans.{span, Lines, lines_of}
-use Rattle.hm_text_base.proofs.LineLaws.{lines_span, lines_from}
+use Rattle.hm_text_base.proofs.LineLaws.{lines_span}
 use Rattle.hm_text_base.proofs.SpanLaws.{span_parts}
 use Rattle.hm_text_base.proofs.Steps.{ok_is, refused, err_is}
 use Rattle.hm_sched.specs.declared.errors.LineKind.{LineKind}
@@ -37,57 +37,58 @@ regroup : (front : List TickLine) (t : TickLine) (read : Result (List TickLine) 
 regroup front t (Ok ts) = ap (λ (x : List TickLine). Ok x) (simp append_assoc)
 regroup front t (Err e) = refl
 
-abbrev pub all_lines : ℕ → ℕ → Lines → Result (List TickLine) SchedErr
-all_lines k total ls = lines_in k total ls.0 ls.1
+-- the lines of ticks that are still read
+abbrev pub all_lines : ℕ → ℕ → ℕ → Lines → Result (List TickLine) SchedErr
+all_lines most k total ls = lines_in most k total ls.0 ls.1
 
-pub goes_on : (front : List TickLine) (k total : ℕ) (ls : Lines) (text : List ℕ) (after : Lines) (t : TickLine) (whole : Result (List TickLine) SchedErr)
-    → line_at k Newline ls ≡ Ok (text, after) → on_line k (ticks_in text) ≡ Ok t → total + t.count ≤ most_ticks
-    → with_front front (all_lines k total ls) ≡ whole → with_front (front ++ t ∷ []) (all_lines (k + 1) (total + t.count) after) ≡ whole
+pub goes_on : (most : ℕ) (front : List TickLine) (k total : ℕ) (ls : Lines) (text : List ℕ) (after : Lines) (t : TickLine) (whole : Result (List TickLine) SchedErr)
+    → line_at k Newline ls ≡ Ok (text, after) → on_line k (ticks_in most text) ≡ Ok t → total + t.count ≤ most_ticks
+    → with_front front (all_lines most k total ls) ≡ whole → with_front (front ++ t ∷ []) (all_lines most (k + 1) (total + t.count) after) ≡ whole
 unfolding lines_in
-goes_on front k total ([], []) text after t whole line tick room so_far = absurd cc
-goes_on front k total ([], b ∷ rest) text after t whole line tick room so_far = absurd cc
-goes_on front k total (l ∷ ls, rest) text after t whole line tick room so_far =
+goes_on most front k total ([], []) text after t whole line tick room so_far = absurd cc
+goes_on most front k total ([], b ∷ rest) text after t whole line tick room so_far = absurd cc
+goes_on most front k total (l ∷ ls, rest) text after t whole line tick room so_far =
     let both : (l, (ls, rest)) ≡ (text, after) = ok_is (l, (ls, rest)) (text, after) line in
     let text-is : l ≡ text = ap (λ (p : List ℕ × Lines). p.0) both in
     let after-is : (ls, rest) ≡ after = ap (λ (p : List ℕ × Lines). p.1) both in
     let room-is : ltb most_ticks (total + t.count) ≡ false = le-ltb _ _ room in
-    let one : with_front front (all_lines k total (l ∷ ls, rest)) ≡ with_front (front ++ t ∷ []) (all_lines (k + 1) (total + t.count) (ls, rest)) = rw (text-is, tick, room-is) (regroup front t (all_lines (k + 1) (total + t.count) (ls, rest))) in
-    ap (λ (a : Lines). with_front (front ++ t ∷ []) (all_lines (k + 1) (total + t.count) a)) (sym after-is) ∙ sym one ∙ so_far
+    let one : with_front front (all_lines most k total (l ∷ ls, rest)) ≡ with_front (front ++ t ∷ []) (all_lines most (k + 1) (total + t.count) (ls, rest)) = rw (text-is, tick, room-is) (regroup front t (all_lines most (k + 1) (total + t.count) (ls, rest))) in
+    ap (λ (a : Lines). with_front (front ++ t ∷ []) (all_lines most (k + 1) (total + t.count) a)) (sym after-is) ∙ sym one ∙ so_far
 
 -- the next line is none
-pub ends_line : (e : SchedErr) (front : List TickLine) (k total : ℕ) (ls : Lines) (whole : Result (List TickLine) SchedErr)
-    → line_at k Newline ls ≡ Err e → 0 < length ls.0 + length ls.1 → with_front front (all_lines k total ls) ≡ whole → whole ≡ Err e
+pub ends_line : (most : ℕ) (e : SchedErr) (front : List TickLine) (k total : ℕ) (ls : Lines) (whole : Result (List TickLine) SchedErr)
+    → line_at k Newline ls ≡ Err e → 0 < length ls.0 + length ls.1 → with_front front (all_lines most k total ls) ≡ whole → whole ≡ Err e
 unfolding lines_in
-ends_line e front k total ([], []) whole line some so_far = absurd (omega arith)
-ends_line e front k total ([], b ∷ rest) whole line some so_far = sym so_far ∙ ap (λ (x : SchedErr). Err x) (err_is {A = List ℕ × Lines} (refusals.Line k Newline) e line)
-ends_line e front k total (l ∷ ls, rest) whole line some so_far = absurd cc
+ends_line most e front k total ([], []) whole line some so_far = absurd (omega arith)
+ends_line most e front k total ([], b ∷ rest) whole line some so_far = sym so_far ∙ ap (λ (x : SchedErr). Err x) (err_is {A = List ℕ × Lines} (refusals.Line k Newline) e line)
+ends_line most e front k total (l ∷ ls, rest) whole line some so_far = absurd cc
 
 -- the line is no line of ticks
-pub ends_tick : (e : SchedErr) (front : List TickLine) (k total : ℕ) (ls : Lines) (text : List ℕ) (after : Lines) (whole : Result (List TickLine) SchedErr)
-    → line_at k Newline ls ≡ Ok (text, after) → on_line k (ticks_in text) ≡ Err e → with_front front (all_lines k total ls) ≡ whole → whole ≡ Err e
+pub ends_tick : (most : ℕ) (e : SchedErr) (front : List TickLine) (k total : ℕ) (ls : Lines) (text : List ℕ) (after : Lines) (whole : Result (List TickLine) SchedErr)
+    → line_at k Newline ls ≡ Ok (text, after) → on_line k (ticks_in most text) ≡ Err e → with_front front (all_lines most k total ls) ≡ whole → whole ≡ Err e
 unfolding lines_in
-ends_tick e front k total ([], []) text after whole line tick so_far = absurd cc
-ends_tick e front k total ([], b ∷ rest) text after whole line tick so_far = absurd cc
-ends_tick e front k total (l ∷ ls, rest) text after whole line tick so_far =
+ends_tick most e front k total ([], []) text after whole line tick so_far = absurd cc
+ends_tick most e front k total ([], b ∷ rest) text after whole line tick so_far = absurd cc
+ends_tick most e front k total (l ∷ ls, rest) text after whole line tick so_far =
     let text-is : l ≡ text = ap (λ (p : List ℕ × Lines). p.0) (ok_is (l, (ls, rest)) (text, after) line) in
-    let one : with_front front (all_lines k total (l ∷ ls, rest)) ≡ Err e = rw (text-is, tick) refl in
+    let one : with_front front (all_lines most k total (l ∷ ls, rest)) ≡ Err e = rw (text-is, tick) refl in
     sym so_far ∙ one
 
-pub ends_total : (front : List TickLine) (k total : ℕ) (ls : Lines) (text : List ℕ) (after : Lines) (t : TickLine) (whole : Result (List TickLine) SchedErr)
-    → line_at k Newline ls ≡ Ok (text, after) → on_line k (ticks_in text) ≡ Ok t → most_ticks < total + t.count → with_front front (all_lines k total ls) ≡ whole → whole ≡ Err (refusals.TooManyTicks k)
+pub ends_total : (most : ℕ) (front : List TickLine) (k total : ℕ) (ls : Lines) (text : List ℕ) (after : Lines) (t : TickLine) (whole : Result (List TickLine) SchedErr)
+    → line_at k Newline ls ≡ Ok (text, after) → on_line k (ticks_in most text) ≡ Ok t → most_ticks < total + t.count → with_front front (all_lines most k total ls) ≡ whole → whole ≡ Err (refusals.TooManyTicks k)
 unfolding lines_in
-ends_total front k total ([], []) text after t whole line tick past so_far = absurd cc
-ends_total front k total ([], b ∷ rest) text after t whole line tick past so_far = absurd cc
-ends_total front k total (l ∷ ls, rest) text after t whole line tick past so_far =
+ends_total most front k total ([], []) text after t whole line tick past so_far = absurd cc
+ends_total most front k total ([], b ∷ rest) text after t whole line tick past so_far = absurd cc
+ends_total most front k total (l ∷ ls, rest) text after t whole line tick past so_far =
     let text-is : l ≡ text = ap (λ (p : List ℕ × Lines). p.0) (ok_is (l, (ls, rest)) (text, after) line) in
     let past-is : ltb most_ticks (total + t.count) ≡ true = lt-ltb _ _ past in
-    let one : with_front front (all_lines k total (l ∷ ls, rest)) ≡ Err (refusals.TooManyTicks k) = rw (text-is, tick, past-is) refl in
+    let one : with_front front (all_lines most k total (l ∷ ls, rest)) ≡ Err (refusals.TooManyTicks k) = rw (text-is, tick, past-is) refl in
     sym so_far ∙ one
 
-pub is_done : (front : List TickLine) (k total : ℕ) (bytes : List ℕ) (whole : Result (List TickLine) SchedErr) → length bytes ≡ 0 → with_front front (all_lines k total (lines_of bytes)) ≡ whole → whole ≡ Ok front
+pub is_done : (most : ℕ) (front : List TickLine) (k total : ℕ) (bytes : List ℕ) (whole : Result (List TickLine) SchedErr) → length bytes ≡ 0 → with_front front (all_lines most k total (lines_of bytes)) ≡ whole → whole ≡ Ok front
 unfolding lines_in lines_of
-is_done front k total [] whole none so_far = sym so_far ∙ ap (λ (x : List TickLine). Ok x) (append-nil front)
-is_done front k total (b ∷ bytes) whole none so_far = absurd (omega arith)
+is_done most front k total [] whole none so_far = sym so_far ∙ ap (λ (x : List TickLine). Ok x) (append-nil front)
+is_done most front k total (b ∷ bytes) whole none so_far = absurd (omega arith)
 
 -- a refusal that the code passes on
 pub fails : {A : Type 0} (e : SchedErr) (read : Result A SchedErr) → read ≡ Err e → Fails e read

@@ -1,27 +1,26 @@
 -- A line of ticks that is read is written so, and what is written so is read.
-use Rattle.std.proofs.Common.{◌≡◌, ◌≢◌, ℕ, zero, suc, ◌+◌, ◌-◌, ◌*◌, ◌^◌, ◌<◌, ◌≤◌, Bool, true, false, cond, eqb, ltb, leb, List, [], ◌∷◌, ◌++◌, map, take, drop, length, Option, Some, None, Result, Ok, Err, refl, sym, ap, subst, ◌∙◌, arith, append_assoc, add-one, inl, inr}
-use Rattle.std.specs.Prelude.{option_and_then, ok_or, unwrap_or, decimal, codes, IfSome, ◌⊎◌, ◌==◌, ◌&&◌, ◌||◌, not, bytes_eq, nat_eq}
+use Rattle.std.proofs.Common.{◌≡◌, ◌≢◌, ℕ, zero, suc, ◌+◌, ◌*◌, ◌^◌, ◌<◌, ◌≤◌, Bool, true, false, cond, eqb, ltb, leb, List, [], ◌∷◌, ◌++◌, map, drop, length, Option, Some, None, Ok, refl, sym, ap, subst, ◌∙◌, arith, append_assoc, add-one}
+use Rattle.std.specs.Prelude.{ok_or, unwrap_or, decimal, codes, IfSome, ◌==◌, ◌||◌, not, bytes_eq, nat_eq}
 use Rattle.std.proofs.Math.Nat.{pow-le-pow_right, pow-suc}
 use Rattle.std.proofs.lemmas.List.Elements.{All-nil, All-cons, All-head, All-tail}
 use Rattle.std.specs.List.{All, AllByRecursion, list_all, slice_split, join_with_byte, starts_with}
-use Rattle.std.specs.Str.{all_ascii_digits}
-use Rattle.std.specs.Char.{is_ascii_digit}
-use Rattle.std.proofs.lemmas.Bool.{cases_Bool, eqb-true, eqb-false, ltb-false, leb-false, le-ltb, lt-leb, ne_eqb, eq-eqb, or_parts, and_parts, not-false, not-true, not_from_true}
+use Rattle.std.proofs.lemmas.Bool.{ltb-false, leb-false, le-ltb, lt-leb, ne_eqb, or_parts, and_parts, not-false}
 use Rattle.std.proofs.lemmas.Bool.Decides.{nat_tests, Decides-eqb}
 use Rattle.std.proofs.lemmas.Slice.Eq.{bytes_eq-Decides, starts_is}
-use Rattle.std.proofs.lemmas.List.{append-nil, nil_from_length}
+use Rattle.std.proofs.lemmas.List.{append-nil}
 use Rattle.std.proofs.lemmas.List.Splits.{join_with_byte-slice_split}
-use Rattle.hm_sched.specs.declared.errors.LineKind.{LineKind}
-use Rattle.hm_sched.specs.declared.errors.LineKind.TheVariants.{Count, Steps, Irq}
+use Rattle.hm_sched.specs.declared.errors.LineKind.TheVariants.{Steps, Irq}
 use Rattle.hm_text_base.specs.Reading.{◌>>=◌}
 use Rattle.hm_text_base.specs.Spans.{span, Lacks}
 use Rattle.hm_text_base.specs.Numbers.{number_in}
+use Rattle.hm_sched.specs.Words.{words_of}
 use Rattle.hm_sched.specs.Schedule.{TickLine, IsLetter, IsLine}
 use Rattle.hm_sched.specs.Written.{Written, IsWritten, IsRising, count_text, steps_text, irq_text, ticks_text, bits_of, meaning}
 use Rattle.hm_sched.specs.ReadLine.{is_letter, after_count, counted, count_in, steps_in, numbers_in, irq_in, ticks_in}
+use Rattle.hm_sched.proofs.WordLaws.{length-words_of, words_fit, number-back}
 use Rattle.hm_text_base.proofs.Steps.{bind_ok, ok_or_found, ok_is, some_is, and_then_some, guard_some, test_some}
 use Rattle.hm_text_base.proofs.NumberLaws.{number_found, number_again, decimal_lacks}
-use Rattle.hm_text_base.proofs.SpanLaws.{BeginsWith, span_parts, span_first, span_at, span_all, split_span, parts_from, split_join, Lacks_append, Lacks_from_test}
+use Rattle.hm_text_base.proofs.SpanLaws.{BeginsWith, span_parts, span_first, span_at, span_all, split_span, split_join, Lacks_append}
 
 -- ---- letters
 
@@ -54,21 +53,21 @@ steps_lack : (mark : ℕ) (letters : List ℕ) → mark < 45 → list_all is_let
 steps_lack mark [] lt e = ((λ is. omega arith), tt)
 steps_lack mark (c ∷ letters) lt e = letters_lack mark (c ∷ letters) (omega arith) e
 
-words_lack : (mark least : ℕ) (ns : List ℕ) → mark < 48 → IsRising least ns → AllByRecursion (Lacks mark) (map decimal ns)
-words_lack mark least [] lt rising = tt
-words_lack mark least (n ∷ ns) lt rising = (decimal_lacks mark n lt (omega (arith, rising.1)), words_lack mark (n + 1) ns lt rising.2)
+words_lack : (most mark least : ℕ) (ns : List ℕ) → most ≤ 256 → mark < 48 → IsRising most least ns → AllByRecursion (Lacks mark) (map decimal ns)
+words_lack most mark least [] few lt rising = tt
+words_lack most mark least (n ∷ ns) few lt rising = (decimal_lacks mark n lt (omega (arith, rising.1)), words_lack most mark (n + 1) ns few lt rising.2)
 
 join_lacks : (mark : ℕ) (words : List (List ℕ)) → 32 ≢ mark → AllByRecursion (Lacks mark) words → Lacks mark (join_with_byte 32 words)
 join_lacks mark [] ne all = tt
 join_lacks mark (w ∷ []) ne all = all.0
 join_lacks mark (w ∷ v ∷ words) ne all = Lacks_append mark w (32 ∷ join_with_byte 32 (v ∷ words)) all.0 (ne, join_lacks mark (v ∷ words) ne all.1)
 
-pub irq_lacks : (mark : ℕ) (ns : List ℕ) → mark < 48 → 32 ≢ mark → IsRising 0 ns → Lacks mark (irq_text ns)
-irq_lacks mark [] lt ne rising = tt
-irq_lacks mark (n ∷ ns) lt ne rising =
+pub irq_lacks : (most mark : ℕ) (ns : List ℕ) → most ≤ 256 → mark < 48 → 32 ≢ mark → IsRising most 0 ns → Lacks mark (irq_text ns)
+irq_lacks most mark [] few lt ne rising = tt
+irq_lacks most mark (n ∷ ns) few lt ne rising =
     Lacks_append mark (codes " irq ") (join_with_byte 32 (map decimal (n ∷ ns)))
     (ne, ((λ is. omega arith), ((λ is. omega arith), ((λ is. omega arith), (ne, tt)))))
-    (join_lacks mark (map decimal (n ∷ ns)) ne (words_lack mark 0 (n ∷ ns) lt rising))
+    (join_lacks mark (map decimal (n ∷ ns)) ne (words_lack most mark 0 (n ∷ ns) few lt rising))
 
 -- ---- the count
 
@@ -146,52 +145,52 @@ steps_again (c ∷ letters) short all =
 
 -- ---- the interrupts
 
-numbers_made : (word : List ℕ) (words : List (List ℕ)) (least bits total n : ℕ) (ns : List ℕ) → word ≡ decimal n → least ≤ n → n < 32 → IsRising (n + 1) ns → words ≡ map decimal ns → total ≡ bits + 2 ^ n + bits_of ns
-    → (ms : List ℕ) × IsRising least ms × (word ∷ words ≡ map decimal ms) × (total ≡ bits + bits_of ms)
-numbers_made word words least bits total n ns is low high rising are value = (n ∷ ns, (low, high, rising), rw (is, are) refl, omega (arith, value))
+numbers_made : (word : List ℕ) (words : List (List ℕ)) (most least bits total n : ℕ) (ns : List ℕ) → word ≡ decimal n → least ≤ n → n < most → IsRising most (n + 1) ns → words ≡ map decimal ns → total ≡ bits + 2 ^ n + bits_of ns
+    → (ms : List ℕ) × IsRising most least ms × (word ∷ words ≡ map decimal ms) × (total ≡ bits + bits_of ms)
+numbers_made word words most least bits total n ns is low high rising are value = (n ∷ ns, (low, high, rising), rw (is, are) refl, omega (arith, value))
 
-numbers_found : (words : List (List ℕ)) (least bits total : ℕ) → numbers_in least bits words ≡ Some total → (ns : List ℕ) × IsRising least ns × (words ≡ map decimal ns) × (total ≡ bits + bits_of ns)
+numbers_found : (words : List (List ℕ)) (most least bits total : ℕ) → numbers_in most least bits words ≡ Some total → (ns : List ℕ) × IsRising most least ns × (words ≡ map decimal ns) × (total ≡ bits + bits_of ns)
 unfolding numbers_in
-numbers_found [] least bits total e = ([], tt, refl, omega (arith, some_is bits total e))
-numbers_found (word ∷ words) least bits total e =
-    let a = and_then_some (number_in word) (λ n. cond (ltb n least || leb 32 n) None (numbers_in (n + 1) (bits + 2 ^ n) words)) total e in
-    let g = guard_some (ltb a.0 least || leb 32 a.0) (numbers_in (a.0 + 1) (bits + 2 ^ a.0) words) total a.2 in
-    let t = or_parts (ltb a.0 least) (leb 32 a.0) g.0 in
+numbers_found [] most least bits total e = ([], tt, refl, omega (arith, some_is bits total e))
+numbers_found (word ∷ words) most least bits total e =
+    let a = and_then_some (number_in word) (λ n. cond (ltb n least || leb most n) None (numbers_in most (n + 1) (bits + 2 ^ n) words)) total e in
+    let g = guard_some (ltb a.0 least || leb most a.0) (numbers_in most (a.0 + 1) (bits + 2 ^ a.0) words) total a.2 in
+    let t = or_parts (ltb a.0 least) (leb most a.0) g.0 in
     let n = number_found word a.0 a.1 in
-    let more = numbers_found words (a.0 + 1) (bits + 2 ^ a.0) total g.1 in
-    numbers_made word words least bits total a.0 more.0 n.0 (ltb-false a.0 least t.0) (leb-false 32 a.0 t.1) more.1 more.2 more.3
+    let more = numbers_found words most (a.0 + 1) (bits + 2 ^ a.0) total g.1 in
+    numbers_made word words most least bits total a.0 more.0 n.0 (ltb-false a.0 least t.0) (leb-false most a.0 t.1) more.1 more.2 more.3
 
-numbers_again : (ns : List ℕ) (least bits : ℕ) → IsRising least ns → numbers_in least bits (map decimal ns) ≡ Some (bits + bits_of ns)
+numbers_again : (ns : List ℕ) (most least bits : ℕ) → most ≤ 256 → IsRising most least ns → numbers_in most least bits (map decimal ns) ≡ Some (bits + bits_of ns)
 unfolding numbers_in
-numbers_again [] least bits rising = ap (λ (x : ℕ). Some x) (omega arith)
-numbers_again (n ∷ ns) least bits rising =
+numbers_again [] most least bits few rising = ap (λ (x : ℕ). Some x) (omega arith)
+numbers_again (n ∷ ns) most least bits few rising =
     let low : ltb n least ≡ false = le-ltb _ _ rising.0 in
-    let high : leb 32 n ≡ false = lt-leb _ _ rising.1 in
+    let high : leb most n ≡ false = lt-leb _ _ rising.1 in
     let sum : bits + 2 ^ n + bits_of ns ≡ bits + (2 ^ n + bits_of ns) = omega arith in
-    rw (number_again n (omega (arith, rising.1)), low, high) (numbers_again ns (n + 1) (bits + 2 ^ n) rising.2 ∙ ap (λ (x : ℕ). Some x) sum)
+    rw (number_again n (omega (arith, rising.1)), low, high) (numbers_again ns most (n + 1) (bits + 2 ^ n) few rising.2 ∙ ap (λ (x : ℕ). Some x) sum)
 
-irq_made : (text : List ℕ) (bits : ℕ) (rest ns : List ℕ) → IsRising 0 ns → text ≡ codes " irq " ++ rest → rest ≡ join_with_byte 32 (map decimal ns) → (ns ≡ [] → ⊥) → bits ≡ 0 + bits_of ns → (ns : List ℕ) × IsRising 0 ns × (text ≡ irq_text ns) × (bits ≡ bits_of ns)
-irq_made text bits rest [] rising front joined some value = absurd (some refl)
-irq_made text bits rest (n ∷ ns) rising front joined some value = (n ∷ ns, rising, front ∙ ap (λ (x : List ℕ). codes " irq " ++ x) joined, omega (arith, value))
+irq_made : (most : ℕ) (text : List ℕ) (bits : ℕ) (rest ns : List ℕ) → IsRising most 0 ns → text ≡ codes " irq " ++ rest → rest ≡ join_with_byte 32 (map decimal ns) → (ns ≡ [] → ⊥) → bits ≡ 0 + bits_of ns → (ns : List ℕ) × IsRising most 0 ns × (text ≡ irq_text ns) × (bits ≡ bits_of ns)
+irq_made most text bits rest [] rising front joined some value = absurd (some refl)
+irq_made most text bits rest (n ∷ ns) rising front joined some value = (n ∷ ns, rising, front ∙ ap (λ (x : List ℕ). codes " irq " ++ x) joined, omega (arith, value))
 
-irq_found : (text : List ℕ) (bits : ℕ) → irq_in text ≡ Some bits → (ns : List ℕ) × IsRising 0 ns × (text ≡ irq_text ns) × (bits ≡ bits_of ns)
+irq_found : (most : ℕ) (text : List ℕ) (bits : ℕ) → irq_in most text ≡ Some bits → (ns : List ℕ) × IsRising most 0 ns × (text ≡ irq_text ns) × (bits ≡ bits_of ns)
 unfolding irq_in
-irq_found [] bits e = ([], tt, refl, sym (some_is 0 bits e))
-irq_found (b ∷ text) bits e =
+irq_found most [] bits e = ([], tt, refl, sym (some_is 0 bits e))
+irq_found most (b ∷ text) bits e =
     let some : eqb (length (b ∷ text)) 0 ≡ false = ne_eqb _ _ (λ is. omega arith) in
-    let a = test_some (starts_with nat_eq (b ∷ text) (codes " irq ")) (numbers_in 0 0 (slice_split (λ x. x == 32) (drop 4 text))) bits (rw some at e) in
+    let a = test_some (starts_with nat_eq (b ∷ text) (codes " irq ")) (numbers_in most 0 0 (slice_split (λ x. x == 32) (drop 4 text))) bits (rw some at e) in
     let front = (starts_is Decides-eqb (b ∷ text) (codes " irq ") (starts_with nat_eq (b ∷ text) (codes " irq ")) refl).0 a.0 in
-    let n = numbers_found (slice_split (λ x. x == 32) (drop 4 text)) 0 0 bits a.1 in
+    let n = numbers_found (slice_split (λ x. x == 32) (drop 4 text)) most 0 0 bits a.1 in
     let joined = join_with_byte-slice_split 32 (drop 4 text) in
     let first = split_span 32 (drop 4 text) in
-    irq_made (b ∷ text) bits (drop 4 text) n.0 n.1 front (sym joined ∙ ap (λ (x : List (List ℕ)). join_with_byte 32 x) n.2) (λ none. absurd (omega (arith, ap length (sym first ∙ n.2 ∙ ap (λ (x : List ℕ). map decimal x) none)))) n.3
+    irq_made most (b ∷ text) bits (drop 4 text) n.0 n.1 front (sym joined ∙ ap (λ (x : List (List ℕ)). join_with_byte 32 x) n.2) (λ none. absurd (omega (arith, ap length (sym first ∙ n.2 ∙ ap (λ (x : List ℕ). map decimal x) none)))) n.3
 
-irq_again : (ns : List ℕ) → IsRising 0 ns → irq_in (irq_text ns) ≡ Some (bits_of ns)
+irq_again : (most : ℕ) (ns : List ℕ) → most ≤ 256 → IsRising most 0 ns → irq_in most (irq_text ns) ≡ Some (bits_of ns)
 unfolding irq_in
-irq_again [] rising = refl
-irq_again (n ∷ ns) rising =
+irq_again most [] few rising = refl
+irq_again most (n ∷ ns) few rising =
     let some : eqb (length (irq_text (n ∷ ns))) 0 ≡ false = ne_eqb _ _ (λ is. omega arith) in
-    rw (some, split_join 32 (decimal n) (map decimal ns) (words_lack 32 0 (n ∷ ns) (omega arith) rising)) (numbers_again (n ∷ ns) 0 0 rising ∙ ap (λ (x : ℕ). Some x) (omega arith))
+    rw (some, split_join 32 (decimal n) (map decimal ns) (words_lack most 32 0 (n ∷ ns) few (omega arith) rising)) (numbers_again (n ∷ ns) most 0 0 few rising ∙ ap (λ (x : ℕ). Some x) (omega arith))
 
 -- ---- the line
 
@@ -200,33 +199,33 @@ cut_steps letters [] all = ap (span 32) (append-nil (steps_text letters)) ∙ sp
 cut_steps letters (n ∷ ns) all = span_at 32 (steps_text letters) (drop 1 (irq_text (n ∷ ns))) (steps_lack 32 letters (omega arith) all)
 
 -- the text writes the line
-abbrev pub IsTicks : List ℕ → TickLine → Type 0
-IsTicks text t = (w : Written) × IsWritten w × (text ≡ ticks_text w) × (t ≡ meaning w)
+abbrev pub IsTicks : ℕ → List ℕ → TickLine → Type 0
+IsTicks most text t = (w : Written) × IsWritten most w × (text ≡ ticks_text w) × (t ≡ meaning w)
 
-tick_made : (text : List ℕ) (x : ℕ × List ℕ) (steps irqs letters : List ℕ) (bits : ℕ) (t : TickLine) → Counts text x → length letters ≤ 8 → list_all is_letter letters ≡ true → steps ≡ steps_text letters
-    → (ns : List ℕ) × IsRising 0 ns × (irqs ≡ irq_text ns) × (bits ≡ bits_of ns) → steps ++ irqs ≡ x.1 → record { count = x.0; letters = letters; irq = bits } ≡ t → IsTicks text t
-tick_made text x steps irqs letters bits t c short all is i cut made =
+tick_made : (most : ℕ) (text : List ℕ) (x : ℕ × List ℕ) (steps irqs letters : List ℕ) (bits : ℕ) (t : TickLine) → Counts text x → length letters ≤ 8 → list_all is_letter letters ≡ true → steps ≡ steps_text letters
+    → (ns : List ℕ) × IsRising most 0 ns × (irqs ≡ irq_text ns) × (bits ≡ bits_of ns) → steps ++ irqs ≡ x.1 → record { count = x.0; letters = letters; irq = words_of 8 bits } ≡ t → IsTicks most text t
+tick_made most text x steps irqs letters bits t c short all is i cut made =
     let w : Written = record { count = c.count; letters = letters; numbers = i.0 } in
     let parts : x.1 ≡ steps_text letters ++ irq_text i.0 = sym cut ∙ rw (is, i.2) refl in
     (w, record { count = c.fits; few = short; each_letter = letters_are letters all; numbers = i.1 }, c.parts ∙ ap (λ (r : List ℕ). count_text c.count ++ r) parts, sym made ∙ rw (c.value, i.3) refl)
 
-pub ticks_found : (text : List ℕ) (t : TickLine) → ticks_in text ≡ Ok t → IsTicks text t
+pub ticks_found : (most : ℕ) (text : List ℕ) (t : TickLine) → ticks_in most text ≡ Ok t → IsTicks most text t
 unfolding ticks_in
-ticks_found text t e =
-    let a = bind_ok (count_in text) (λ c. ok_or (steps_in (span 32 c.1).0) Steps >>= λ s. ok_or (irq_in (span 32 c.1).1) Irq >>= λ i. Ok (record { count = c.0; letters = s; irq = i })) t e in
-    let b = bind_ok (ok_or (steps_in (span 32 a.0.1).0) Steps) (λ s. ok_or (irq_in (span 32 a.0.1).1) Irq >>= λ i. Ok (record { count = a.0.0; letters = s; irq = i })) t a.2 in
-    let d = bind_ok (ok_or (irq_in (span 32 a.0.1).1) Irq) (λ i. Ok (record { count = a.0.0; letters = b.0; irq = i })) t b.2 in
+ticks_found most text t e =
+    let a = bind_ok (count_in text) (λ c. ok_or (steps_in (span 32 c.1).0) Steps >>= λ s. ok_or (irq_in most (span 32 c.1).1) Irq >>= λ i. Ok (record { count = c.0; letters = s; irq = words_of 8 i })) t e in
+    let b = bind_ok (ok_or (steps_in (span 32 a.0.1).0) Steps) (λ s. ok_or (irq_in most (span 32 a.0.1).1) Irq >>= λ i. Ok (record { count = a.0.0; letters = s; irq = words_of 8 i })) t a.2 in
+    let d = bind_ok (ok_or (irq_in most (span 32 a.0.1).1) Irq) (λ i. Ok (record { count = a.0.0; letters = b.0; irq = words_of 8 i })) t b.2 in
     let c = count_found text a.0 a.1 in
     let s = steps_found (span 32 a.0.1).0 b.0 (ok_or_found (steps_in (span 32 a.0.1).0) Steps b.0 b.1) in
-    let i = irq_found (span 32 a.0.1).1 d.0 (ok_or_found (irq_in (span 32 a.0.1).1) Irq d.0 d.1) in
-    tick_made text a.0 (span 32 a.0.1).0 (span 32 a.0.1).1 b.0 d.0 t c s.0 s.1 s.2 i (span_parts 32 a.0.1) (ok_is (record { count = a.0.0; letters = b.0; irq = d.0 }) t d.2)
+    let i = irq_found most (span 32 a.0.1).1 d.0 (ok_or_found (irq_in most (span 32 a.0.1).1) Irq d.0 d.1) in
+    tick_made most text a.0 (span 32 a.0.1).0 (span 32 a.0.1).1 b.0 d.0 t c s.0 s.1 s.2 i (span_parts 32 a.0.1) (ok_is (record { count = a.0.0; letters = b.0; irq = words_of 8 d.0 }) t d.2)
 
-pub ticks_again : (w : Written) → IsWritten w → ticks_in (ticks_text w) ≡ Ok (meaning w)
+pub ticks_again : (most : ℕ) (w : Written) → most ≤ 256 → IsWritten most w → ticks_in most (ticks_text w) ≡ Ok (meaning w)
 unfolding ticks_in
-ticks_again w fits =
+ticks_again most w few fits =
     let rest = steps_text w.letters ++ irq_text w.numbers in
-    let lacks : Lacks 42 (steps_text w.letters ++ irq_text w.numbers) = Lacks_append 42 (steps_text w.letters) (irq_text w.numbers) (steps_lack 42 w.letters (omega arith) (letters_again w.letters fits.each_letter)) (irq_lacks 42 w.numbers (omega arith) (λ is. omega arith) fits.numbers) in
-    rw (count_again w.count (steps_text w.letters ++ irq_text w.numbers) fits.count lacks, cut_steps w.letters w.numbers (letters_again w.letters fits.each_letter), steps_again w.letters fits.few (letters_again w.letters fits.each_letter), irq_again w.numbers fits.numbers) refl
+    let lacks : Lacks 42 (steps_text w.letters ++ irq_text w.numbers) = Lacks_append 42 (steps_text w.letters) (irq_text w.numbers) (steps_lack 42 w.letters (omega arith) (letters_again w.letters fits.each_letter)) (irq_lacks most 42 w.numbers few (omega arith) (λ is. omega arith) fits.numbers) in
+    rw (count_again w.count (steps_text w.letters ++ irq_text w.numbers) fits.count lacks, cut_steps w.letters w.numbers (letters_again w.letters fits.each_letter), steps_again w.letters fits.few (letters_again w.letters fits.each_letter), irq_again most w.numbers few fits.numbers) refl
 
 -- ---- what a line of ticks is
 
@@ -235,40 +234,51 @@ count_lacks None fits = tt
 count_lacks (Some n) fits = Lacks_append 10 (decimal n) (42 ∷ []) (decimal_lacks 10 n (omega arith) fits.1) ((λ is. omega arith), tt)
 
 -- it has no end of a line within
-pub ticks_lack : (w : Written) → IsWritten w → Lacks 10 (ticks_text w)
-ticks_lack w fits =
+pub ticks_lack : (most : ℕ) (w : Written) → most ≤ 256 → IsWritten most w → Lacks 10 (ticks_text w)
+ticks_lack most w few fits =
     let steps = steps_lack 10 w.letters (omega arith) (letters_again w.letters fits.each_letter) in
-    let numbers = irq_lacks 10 w.numbers (omega arith) (λ is. omega arith) fits.numbers in
+    let numbers = irq_lacks most 10 w.numbers few (omega arith) (λ is. omega arith) fits.numbers in
     Lacks_append 10 (count_text w.count) (steps_text w.letters ++ irq_text w.numbers) (count_lacks w.count fits.count) (Lacks_append 10 (steps_text w.letters) (irq_text w.numbers) steps numbers)
 
-rising_below : (least : ℕ) (ns : List ℕ) → least ≤ 32 → IsRising least ns → bits_of ns + 2 ^ least ≤ 2 ^ 32
-rising_below least [] le rising =
-    let p : 2 ^ least ≤ 2 ^ 32 = pow-le-pow_right {n = 2} (omega arith) {i = least} {j = 32} le in
+rising_below : (most least : ℕ) (ns : List ℕ) → least ≤ most → IsRising most least ns → bits_of ns + 2 ^ least ≤ 2 ^ most
+rising_below most least [] le rising =
+    let p : 2 ^ least ≤ 2 ^ most = pow-le-pow_right {n = 2} (omega arith) {i = least} {j = most} le in
     omega (arith, p)
-rising_below least (n ∷ ns) le rising =
+rising_below most least (n ∷ ns) le rising =
     let p : 2 ^ least ≤ 2 ^ n = pow-le-pow_right {n = 2} (omega arith) {i = least} {j = n} rising.0 in
     let q : 2 ^ (n + 1) ≡ 2 ^ n * 2 = rw (add-one, pow-suc) refl in
-    let more = rising_below (n + 1) ns (omega (arith, rising.1)) rising.2 in
+    let more = rising_below most (n + 1) ns (omega (arith, rising.1)) rising.2 in
     omega (arith, p, q, more)
+
+-- rising numbers are a number that the words hold
+pub bits_fit : (most : ℕ) (ns : List ℕ) → most ≤ 256 → IsRising most 0 ns → bits_of ns < 2 ^ (32 * 8)
+bits_fit most ns few rising =
+    let p : 2 ^ most ≤ 2 ^ (32 * 8) = pow-le-pow_right {n = 2} (omega arith) {i = most} {j = 32 * 8} (omega (arith, few)) in
+    let q = rising_below most 0 ns (omega arith) rising in
+    omega (arith, p, q)
 
 counts : (o : Option ℕ) → IfSome o (λ n. (1 ≤ n) × (n < 10 ^ 8)) → (1 ≤ unwrap_or o 1) × (unwrap_or o 1 < 10 ^ 8)
 counts None fits = (omega arith, omega arith)
 counts (Some n) fits = fits
 
-pub IsLine-meaning : (w : Written) → IsWritten w → IsLine (meaning w)
-IsLine-meaning w fits = record {
-  some = (counts w.count fits.count).0;
-  few = fits.few;
-  each_letter = fits.each_letter;
-  interrupts = omega (arith, rising_below 0 w.numbers (omega arith) fits.numbers);
-}
+pub IsLine-meaning : (most : ℕ) (w : Written) → most ≤ 256 → IsWritten most w → IsLine most (meaning w)
+IsLine-meaning most w few fits =
+    let below = rising_below most 0 w.numbers (omega arith) fits.numbers in
+    record {
+      some = (counts w.count fits.count).0;
+      few = fits.few;
+      each_letter = fits.each_letter;
+      eight = length-words_of 8 (bits_of w.numbers);
+      each_word = words_fit 8 (bits_of w.numbers);
+      interrupts = rw (number-back 8 (bits_of w.numbers) (bits_fit most w.numbers few fits.numbers)) (omega (arith, below));
+    }
 
 -- what is read may be added to a schedule
-pub record MayAdd (t : TickLine) : Type 0 where
-  pub line : IsLine t
+pub record MayAdd (most : ℕ) (t : TickLine) : Type 0 where
+  pub line : IsLine most t
   pub eight_digits : t.count ≤ 99999999
 
-pub MayAdd-ticks : (text : List ℕ) (t : TickLine) → ticks_in text ≡ Ok t → MayAdd t
-MayAdd-ticks text t e =
-    let found = ticks_found text t e in
-    subst MayAdd (sym found.3) record { line = IsLine-meaning found.0 found.1; eight_digits = omega (arith, (counts found.0.count found.1.count).1) }
+pub MayAdd-ticks : (most : ℕ) (text : List ℕ) (t : TickLine) → most ≤ 256 → ticks_in most text ≡ Ok t → MayAdd most t
+MayAdd-ticks most text t few e =
+    let found = ticks_found most text t e in
+    subst (MayAdd most) (sym found.3) record { line = IsLine-meaning most found.0 few found.1; eight_digits = omega (arith, (counts found.0.count found.1.count).1) }

@@ -1,3 +1,4 @@
+pub mod Words
 pub mod Schedule
 pub mod Held
 pub mod Written

@@ -2,6 +2,7 @@
 use Rattle.std.specs.Prelude.{ℕ, zero, suc, ◌+◌, ◌/◌, ◌%◌, List, [], ◌∷◌, ◌++◌, map, Some, None, ◌==◌, if◌then◌else◌}
 use Rattle.std.specs.List.{flat_map}
 use Rattle.hm_text_base.specs.Spans.{line}
+use Rattle.hm_sched.specs.Words.{number_of}
 use Rattle.hm_sched.specs.Schedule.{TickLine, Sched}
 use Rattle.hm_sched.specs.Written.{Written, ticks_text, head_lines}
 
@@ -12,8 +13,8 @@ ones_from (suc more) k bits = if bits % 2 == 1 then k ∷ ones_from more (k + 1)
 
 -- a count of 1 is left out
 abbrev pub printed : TickLine → Written
-printed t = record { count = if t.count == 1 then None else Some t.count; letters = t.letters; numbers = ones_from 32 0 t.irq }
+printed t = record { count = if t.count == 1 then None else Some t.count; letters = t.letters; numbers = ones_from 256 0 (number_of t.irq) }
 
--- the file that a schedule is printed as: the lines of its head, and its lines of ticks
+-- the head, and a line of ticks for each line
 abbrev pub file_text : Sched → List ℕ
 file_text s = flat_map line (head_lines s ++ map (λ t. ticks_text (printed t)) s.lines)

@@ -6,10 +6,10 @@ use Rattle.hm_text_base.specs.Reading.{◌>>=◌}
 use Rattle.hm_text_base.specs.Spans.{span, Lines, lines_of}
 use Rattle.hm_text_base.specs.Numbers.{hex8_in}
 use Rattle.hm_sched.specs.declared.errors.LineKind.{LineKind}
-use Rattle.hm_sched.specs.declared.errors.LineKind.TheVariants.{Header, Entries, Region, Floor, Newline}
+use Rattle.hm_sched.specs.declared.errors.LineKind.TheVariants.{Header, Entries, Region, Floor, Process, Newline}
 use Rattle.hm_sched.specs.declared.errors.SchedErr.{SchedErr}
 use Rattle.hm_sched.specs.declared.errors.SchedErr.TheVariants as refusals
-use Rattle.hm_sched.specs.Schedule.{TickLine, Sched, most_ticks}
+use Rattle.hm_sched.specs.Schedule.{TickLine, Sched, most_irq, first_line, most_ticks}
 use Rattle.hm_sched.specs.Written.{header_text}
 use Rattle.hm_sched.specs.ReadLine.{ticks_in}
 
@@ -19,43 +19,58 @@ line_at k kind (l ∷ ls, rest) = Ok (l, (ls, rest))
 line_at k kind ([], []) = Err (refusals.Line k kind)
 line_at k kind ([], b ∷ rest) = Err (refusals.Line k Newline)
 
+-- the format
+unfoldable pub header_in : List ℕ → Option ℕ
+header_in text = if bytes_eq text (header_text 1) then Some 1 else if bytes_eq text (header_text 2) then Some 2 else None
+
 -- whether exceptions enter
 unfoldable pub entries_in : List ℕ → Option Bool
 entries_in text = if bytes_eq text (codes "entries no") then Some false else if bytes_eq text (codes "entries yes") then Some true else None
 
--- the region from lo to hi, where lo is not above hi and both lie in SRAM or at its end
+-- the two addresses, where they are ends of a region
 abbrev pub bounded_region : ℕ → ℕ → Option (ℕ × ℕ)
 bounded_region lo hi = if nat_lt lo sram_start || (nat_lt hi lo || nat_lt (sram_start + sram_size) hi) then None else Some (lo, hi)
 
--- the region between two addresses of eight hexadecimal digits
+-- two addresses of eight digits that are ends of a region
 abbrev pub addresses_in : List ℕ → List ℕ → Option (ℕ × ℕ)
 addresses_in low high = option_and_then (λ lo. option_and_then (λ hi. bounded_region lo hi) (hex8_in high)) (hex8_in low)
 
--- the region of a line: `region `, an address, a space, and an address
+-- the ends of the region
 unfoldable pub region_in : List ℕ → Option (ℕ × ℕ)
 region_in text = if starts_with nat_eq text (codes "region ") then (if length (span 32 (drop 7 text)).1 == 0 then None else addresses_in (span 32 (drop 7 text)).0 (drop 1 (span 32 (drop 7 text)).1)) else None
 
--- an address as a floor, where it lies in SRAM or at its end
+-- the address, where it is that of a floor
 abbrev pub bounded_floor : ℕ → Option ℕ
 bounded_floor a = if nat_lt a sram_start || nat_lt (sram_start + sram_size) a then None else Some a
 
--- the floor of a line: `floor `, and an address
+-- the floor of the main stack
 unfoldable pub floor_in : List ℕ → Option ℕ
 floor_in text = if starts_with nat_eq text (codes "floor ") then option_and_then bounded_floor (hex8_in (drop 6 text)) else None
+
+-- the floor of the process stack
+unfoldable pub process_in : List ℕ → Option ℕ
+process_in text = if starts_with nat_eq text (codes "process ") then option_and_then bounded_floor (hex8_in (drop 8 text)) else None
+
+-- the floor of the process stack, and the lines behind its own: in format 1 it has none and is the floor of the main stack
+unfoldable pub process_from : ℕ → ℕ → Lines → Result (ℕ × Lines) SchedErr
+process_from format floor ls = if format == 1 then Ok (floor, ls) else do
+  fifth ← line_at 5 Process ls
+  process ← ok_or (process_in fifth.0) (refusals.Line 5 Process)
+  Ok (process, fifth.1)
 
 -- a refusal of the k-th line
 abbrev pub on_line : {A : Type 0} → ℕ → Result A LineKind → Result A SchedErr
 on_line k (Ok x) = Ok x
 on_line k (Err kind) = Err (refusals.Line k kind)
 
--- the lines of ticks from the k-th line on, after lines with so many ticks
-unfoldable pub lines_in : ℕ → ℕ → List (List ℕ) → List ℕ → Result (List TickLine) SchedErr
-lines_in k before [] [] = Ok []
-lines_in k before [] (b ∷ rest) = Err (refusals.Line k Newline)
-lines_in k before (l ∷ ls) rest = do
-  t ← on_line k (ticks_in l)
+-- the lines of ticks from the k-th line on, with interrupts below most, after lines with so many ticks
+unfoldable pub lines_in : ℕ → ℕ → ℕ → List (List ℕ) → List ℕ → Result (List TickLine) SchedErr
+lines_in most k before [] [] = Ok []
+lines_in most k before [] (b ∷ rest) = Err (refusals.Line k Newline)
+lines_in most k before (l ∷ ls) rest = do
+  t ← on_line k (ticks_in most l)
   sum ← if nat_lt most_ticks (before + t.count) then Err (refusals.TooManyTicks k) else Ok (before + t.count)
-  ts ← lines_in (k + 1) sum ls rest
+  ts ← lines_in most (k + 1) sum ls rest
   Ok (t ∷ ts)
 
 -- the schedule with the lines that were read
@@ -66,15 +81,16 @@ with_lines s read = read >>= λ lines. Ok (record s { lines = lines })
 unfoldable pub file_in : List ℕ → Result Sched SchedErr
 file_in bytes = do
   first ← line_at 1 Header (lines_of bytes)
-  header ← if bytes_eq first.0 header_text then Ok first.1 else Err (refusals.Line 1 Header)
-  second ← line_at 2 Entries header
+  format ← ok_or (header_in first.0) (refusals.Line 1 Header)
+  second ← line_at 2 Entries first.1
   entries ← ok_or (entries_in second.0) (refusals.Line 2 Entries)
   third ← line_at 3 Region second.1
   region ← ok_or (region_in third.0) (refusals.Line 3 Region)
   fourth ← line_at 4 Floor third.1
   floor ← ok_or (floor_in fourth.0) (refusals.Line 4 Floor)
-  lines ← lines_in 5 0 fourth.1.0 fourth.1.1
-  Ok (record { entries = entries; lo = region.0; hi = region.1; floor = floor; lines = lines })
+  process ← process_from format floor fourth.1
+  lines ← lines_in (most_irq format) (first_line format) 0 process.1.0 process.1.1
+  Ok (record { format = format; entries = entries; lo = region.0; hi = region.1; floor = floor; process = process.0; lines = lines })
 
 -- a refusal is that of reading, and want of memory says nothing
 abbrev pub Fails : {Y : Type 0} → SchedErr → Result Y SchedErr → Type 0

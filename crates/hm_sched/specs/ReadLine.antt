@@ -7,6 +7,7 @@ use Rattle.hm_text_base.specs.Numbers.{number_in}
 use Rattle.hm_sched.specs.declared.errors.LineKind.{LineKind}
 use Rattle.hm_sched.specs.declared.errors.LineKind.TheVariants.{Count, Steps, Irq}
 use Rattle.hm_sched.specs.declared.tick_text.Ticks.{Ticks}
+use Rattle.hm_sched.specs.Words.{words_of}
 use Rattle.hm_sched.specs.Schedule.{TickLine, older_letter, younger_letter, whole_letter}
 
 -- what the program reads in a line of ticks
@@ -27,27 +28,27 @@ abbrev pub counted : List ℕ → List ℕ × List ℕ → Result (ℕ × List �
 counted text (front, []) = Ok (1, text)
 counted text (front, star ∷ rest) = after_count (number_in front) rest
 
--- the count in front of the first star and what stands behind that, or 1 and the whole text where it has no star
+-- the count of a line, and the text behind it
 unfoldable pub count_in : List ℕ → Result (ℕ × List ℕ) LineKind
 count_in text = counted text (span 42 text)
 
--- the letters of a tick: one to eight, or none where `-` is written
+-- the letters of a dash or of one to eight letters
 unfoldable pub steps_in : List ℕ → Option (List ℕ)
 steps_in text = if bytes_eq text (codes "-") then Some [] else if (length text == 0) || (nat_lt 8 (length text) || not (list_all is_letter text)) then None else Some text
 
--- a bit for each number, which is to be least or more, after those that gave these bits
-unfoldable pub numbers_in : ℕ → ℕ → List (List ℕ) → Option ℕ
-numbers_in least bits [] = Some bits
-numbers_in least bits (word ∷ words) = option_and_then (λ n. if nat_lt n least || nat_le 32 n then None else numbers_in (n + 1) (bits + 2 ^ n) words) (number_in word)
+-- a bit for each number, which is to be least or more and below most, after those that gave these bits
+unfoldable pub numbers_in : ℕ → ℕ → ℕ → List (List ℕ) → Option ℕ
+numbers_in most least bits [] = Some bits
+numbers_in most least bits (word ∷ words) = option_and_then (λ n. if nat_lt n least || nat_le most n then None else numbers_in most (n + 1) (bits + 2 ^ n) words) (number_in word)
 
--- a bit for each interrupt: none of an empty text, else those of the rising numbers behind ` irq `
-unfoldable pub irq_in : List ℕ → Option ℕ
-irq_in text = if length text == 0 then Some 0 else if starts_with nat_eq text (codes " irq ") then numbers_in 0 0 (slice_split (λ b. b == 32) (drop 5 text)) else None
+-- the bits of the interrupts, which are none where the text is empty
+unfoldable pub irq_in : ℕ → List ℕ → Option ℕ
+irq_in most text = if length text == 0 then Some 0 else if starts_with nat_eq text (codes " irq ") then numbers_in most 0 0 (slice_split (λ b. b == 32) (drop 5 text)) else None
 
 -- the count, the steps up to the first space, and the interrupts from there on
-unfoldable pub ticks_in : List ℕ → Result TickLine LineKind
-ticks_in text = do
+unfoldable pub ticks_in : ℕ → List ℕ → Result TickLine LineKind
+ticks_in most text = do
   c ← count_in text
   s ← ok_or (steps_in (span 32 c.1).0) Steps
-  i ← ok_or (irq_in (span 32 c.1).1) Irq
-  Ok (record { count = c.0; letters = s; irq = i })
+  i ← ok_or (irq_in most (span 32 c.1).1) Irq
+  Ok (record { count = c.0; letters = s; irq = words_of 8 i })

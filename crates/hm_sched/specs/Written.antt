@@ -1,9 +1,10 @@
 -- The text of a schedule.
-use Rattle.std.specs.Prelude.{◌≡◌, ℕ, Bool, true, false, ◌+◌, ◌^◌, ◌<◌, ◌≤◌, List, [], ◌∷◌, ◌++◌, length, map, codes, decimal, Option, Some, None, unwrap_or, IfSome}
+use Rattle.std.specs.Prelude.{◌≡◌, ℕ, Bool, true, false, ◌+◌, ◌^◌, ◌<◌, ◌≤◌, List, [], ◌∷◌, ◌++◌, length, map, codes, decimal, Option, Some, None, unwrap_or, IfSome, ◌==◌, if◌then◌else◌}
 use Rattle.std.specs.List.{All, AllByRecursion, join_with_byte, flat_map}
 use Rattle.hm_text_base.specs.Texts.{hex8}
 use Rattle.hm_text_base.specs.Spans.{line}
-use Rattle.hm_sched.specs.Schedule.{TickLine, Sched, IsLetter, IsSched}
+use Rattle.hm_sched.specs.Words.{words_of}
+use Rattle.hm_sched.specs.Schedule.{TickLine, Sched, most_irq, IsLetter, IsSched}
 
 -- ---- a line of ticks
 
@@ -13,73 +14,81 @@ pub record Written : Type 0 where
   pub letters : List ℕ
   pub numbers : List ℕ
 
--- a count and a star, or nothing where the count is left out
+-- a count has a star behind it
 abbrev pub count_text : Option ℕ → List ℕ
 count_text None = []
 count_text (Some n) = decimal n ++ codes "*"
 
--- the letters of a tick, or `-` where there is none
+-- the letters, or a dash where there are none
 abbrev pub steps_text : List ℕ → List ℕ
 steps_text [] = codes "-"
 steps_text (c ∷ cs) = c ∷ cs
 
--- ` irq ` and the numbers of interrupts with spaces between, or nothing where there is none
+-- the numbers of interrupts, where there are some
 abbrev pub irq_text : List ℕ → List ℕ
 irq_text [] = []
 irq_text (n ∷ ns) = codes " irq " ++ join_with_byte 32 (map decimal (n ∷ ns))
 
--- a line of ticks: its count, its letters and its interrupts
+-- the line: count, steps and interrupts
 abbrev pub ticks_text : Written → List ℕ
 ticks_text w = count_text w.count ++ (steps_text w.letters ++ irq_text w.numbers)
 
--- rising numbers from least on, below 32
-abbrev pub IsRising : ℕ → List ℕ → Type 0
-IsRising least [] = Unit {0}
-IsRising least (n ∷ ns) = (least ≤ n) × (n < 32) × IsRising (n + 1) ns
+-- rising numbers from least on, all below most
+abbrev pub IsRising : ℕ → ℕ → List ℕ → Type 0
+IsRising most least [] = Unit {0}
+IsRising most least (n ∷ ns) = (least ≤ n) × (n < most) × IsRising most (n + 1) ns
 
--- a count has one to eight digits and is not 0, there are at most eight letters, and the interrupts rise
-pub record IsWritten (w : Written) : Type 0 where
+-- a count has one to eight digits and is not 0, there are at most eight letters, and the interrupts rise and are below most
+pub record IsWritten (most : ℕ) (w : Written) : Type 0 where
   pub count : IfSome w.count (λ n. (1 ≤ n) × (n < 10 ^ 8))
   pub few : length w.letters ≤ 8
   pub each_letter : All IsLetter w.letters
-  pub numbers : IsRising 0 w.numbers
+  pub numbers : IsRising most 0 w.numbers
 
 -- a bit for each of the numbers
 abbrev pub bits_of : List ℕ → ℕ
 bits_of [] = 0
 bits_of (n ∷ ns) = 2 ^ n + bits_of ns
 
--- what a written line of ticks says; a count that is left out is 1
+-- what the line says
 abbrev pub meaning : Written → TickLine
-meaning w = record { count = unwrap_or w.count 1; letters = w.letters; irq = bits_of w.numbers }
+meaning w = record { count = unwrap_or w.count 1; letters = w.letters; irq = words_of 8 (bits_of w.numbers) }
 
 -- ---- a file
 
--- the first line, which names the format
-abbrev pub header_text : List ℕ
-header_text = codes "helium-schedule 1"
+-- the first line names the format
+abbrev pub header_text : ℕ → List ℕ
+header_text format = if format == 1 then codes "helium-schedule 1" else codes "helium-schedule 2"
 
--- the second line, which says whether exceptions are entered
+-- the second line says whether exceptions are entered
 abbrev pub entries_text : Bool → List ℕ
 entries_text true = codes "entries yes"
 entries_text false = codes "entries no"
 
--- the third line, the bytes in which handlers may store, from one address up to another
+-- the third line has the two ends of the region
 abbrev pub region_text : ℕ → ℕ → List ℕ
 region_text lo hi = codes "region " ++ (hex8 lo ++ 32 ∷ hex8 hi)
 
--- the fourth line, the lowest address to which handlers may store below their frame
+-- the fourth line has the floor of the main stack
 abbrev pub floor_text : ℕ → List ℕ
 floor_text a = codes "floor " ++ hex8 a
 
--- the first four lines of a schedule's file
+-- the fifth line of format 2 has the floor of the process stack
+abbrev pub process_text : ℕ → List ℕ
+process_text a = codes "process " ++ hex8 a
+
+-- that line, which format 1 lacks
+abbrev pub process_lines : ℕ → ℕ → List (List ℕ)
+process_lines format a = if format == 1 then [] else process_text a ∷ []
+
+-- the lines before the lines of ticks
 abbrev pub head_lines : Sched → List (List ℕ)
-head_lines s = header_text ∷ entries_text s.entries ∷ region_text s.lo s.hi ∷ floor_text s.floor ∷ []
+head_lines s = header_text s.format ∷ entries_text s.entries ∷ region_text s.lo s.hi ∷ floor_text s.floor ∷ process_lines s.format s.process
 
 -- the bytes are a file of the schedule s, whose lines of ticks are written so
 pub record Writes (bytes : List ℕ) (written : List Written) (s : Sched) : Type 0 where
   pub bytes_are : bytes ≡ flat_map line (head_lines s ++ map ticks_text written)
-  pub each_fits : AllByRecursion IsWritten written
+  pub each_fits : AllByRecursion (IsWritten (most_irq s.format)) written
   pub lines_are : s.lines ≡ map meaning written
   pub sound : IsSched s
 

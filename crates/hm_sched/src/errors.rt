@@ -6,7 +6,8 @@ ghost use Rattle.hm_sched.specs.declared.errors.SchedErr.TheVariants.{OutOfMemor
 use std::alloc::AllocFailed;
 use thiserror::Error;
 
-/// What is bad in a line of a schedule's text. The first four lines are its head; each other one has a count, steps and interrupts.
+/// What is bad in a line of a schedule's text. The first four lines are its head, and in format 2 the fifth; each other one has a count, steps
+/// and interrupts.
 #[derive(Clone, Copy, Debug, PartialEq, Eq)]
 pub enum LineKind {
     /// The first line, which names the format.
@@ -15,8 +16,10 @@ pub enum LineKind {
     Entries,
     /// The third line, the bytes in which handlers may store.
     Region,
-    /// The fourth line, the lowest address to which handlers may store below their frame.
+    /// The fourth line, the lowest address of the main stack.
     Floor,
+    /// The fifth line of format 2, the lowest address of the process stack.
+    Process,
     /// How many ticks are alike.
     Count,
     /// The letters of a tick.
@@ -27,7 +30,7 @@ pub enum LineKind {
     Newline,
 }
 
-/// Why a schedule is refused. Lines are numbered from 1, and the first four are the head.
+/// Why a schedule is refused. Lines are numbered from 1, and the first are the head.
 #[derive(Clone, Copy, Debug, PartialEq, Eq, Error)]
 pub enum SchedErr {
     /// A line is bad in itself.

@@ -3,14 +3,14 @@
 ghost use Rattle.std.specs.Prelude.{◌≡◌, ◌+◌, ◌≤◌, [], length, Ok, IfOk};
 ghost use Rattle.hm_text_base.specs.Reading.{Reads};
 ghost use Rattle.hm_text_base.specs.Spans.{lines_of};
-ghost use Rattle.hm_sched.specs.Schedule.{Sched};
+ghost use Rattle.hm_sched.specs.Schedule.{Sched, most_irq, first_line};
 ghost use Rattle.hm_sched.specs.Written.{IsFile};
 ghost use Rattle.hm_sched.specs.ReadLine.{said, ticks_in};
-ghost use Rattle.hm_sched.specs.ReadFile.{line_at, entries_in, region_in, floor_in, on_line, lines_in, with_lines, file_in, Gives};
+ghost use Rattle.hm_sched.specs.ReadFile.{line_at, header_in, entries_in, region_in, floor_in, process_in, process_from, on_line, lines_in, with_lines, file_in, Gives};
 
 use crate::errors::{LineKind, SchedErr};
 use crate::tick_text::{Ticks, read_ticks};
-use crate::{HEAD_LINES, Schedule};
+use crate::{Schedule, first_line, most_irq};
 use hm_base::{SRAM_SIZE, SRAM_START};
 use hm_text_base::{read_hex8, span};
 use std::alloc::Global;
@@ -33,6 +33,20 @@ fn next_line(bytes: &[u8], line: u32, kind: LineKind) -> Result<(&[u8], &[u8]), 
         return Err(SchedErr::Line { line, kind });
     }
     Ok((text, &from[1..]))
+}
+
+/// The format that a first line names.
+#[tactic(auto, unfolding(crate::specs::ReadFile::header_in))]
+fn read_header(text: &[u8]) -> Option<u32>
+    ensures { result ≡ header_in text.now }
+{
+    if text == b"helium-schedule 1".as_slice() {
+        return Some(1);
+    }
+    if text == b"helium-schedule 2".as_slice() {
+        return Some(2);
+    }
+    None
 }
 
 /// Whether exceptions enter.
@@ -82,11 +96,43 @@ fn read_floor(text: &[u8]) -> Option<u32>
     Some(floor)
 }
 
-/// What a line of ticks says, or its refusal.
-fn tick_line(text: &[u8], line: u32) -> Result<Ticks<'_>, SchedErr>
-    ensures { Reads said result (on_line line (ticks_in text.now)) }
+/// The floor of the process stack, which a fifth line says.
+#[tactic(auto, unfolding(crate::specs::ReadFile::process_in))]
+fn read_process(text: &[u8]) -> Option<u32>
+    ensures { result ≡ process_in text.now }
 {
-    match read_ticks(text) {
+    if !text.starts_with(b"process ") {
+        return None;
+    }
+    let process = read_hex8(&text[8..])?;
+    if process < SRAM_START || process > SRAM_END {
+        return None;
+    }
+    Some(process)
+}
+
+/// The floor of the process stack, and what follows its line: in format 1 it has none and is the floor of the main stack.
+#[tactic(auto, unfolding(crate::specs::ReadFile::process_from))]
+fn process_line(format: u32, floor: u32, bytes: &[u8]) -> Result<(u32, &[u8]), SchedErr>
+    ensures { Reads (λ x. (x.0, lines_of x.1.now)) result (process_from format floor (lines_of bytes.now)) }
+{
+    if format == 1 {
+        return Ok((floor, bytes));
+    }
+    let (fifth, rest) = next_line(bytes, 5, LineKind::Process)?;
+    let process = read_process(fifth).ok_or(SchedErr::Line {
+        line: 5,
+        kind: LineKind::Process,
+    })?;
+    Ok((process, rest))
+}
+
+/// What a line of ticks says, where interrupts are below `most`, or its refusal.
+fn tick_line(most: u32, text: &[u8], line: u32) -> Result<Ticks<'_>, SchedErr>
+    requires eight { most ≤ 256 }
+    ensures { Reads said result (on_line line (ticks_in most text.now)) }
+{
+    match read_ticks(most, text) {
         Ok(ticks) => Ok(ticks),
         Err(kind) => Err(SchedErr::Line { line, kind }),
     }
@@ -95,15 +141,17 @@ fn tick_line(text: &[u8], line: u32) -> Result<Ticks<'_>, SchedErr>
 /// A schedule that has no lines, with the lines of ticks that the bytes write.
 fn with_lines(schedule: Schedule, bytes: &[u8]) -> Result<Schedule, SchedErr>
     requires fresh { schedule.lines ≡ [] }
-    ensures { Gives (λ s. s) result (with_lines schedule (lines_in 5 0 (lines_of bytes.now).0 (lines_of bytes.now).1)) }
+    ensures { Gives (λ s. s) result (with_lines schedule (lines_in (most_irq schedule.format) (first_line schedule.format) 0 (lines_of bytes.now).0 (lines_of bytes.now).1)) }
 {
     let mut schedule = schedule;
     let mut rest = bytes;
-    let mut line = HEAD_LINES + 1;
+    let format = schedule.format();
+    let most = most_irq(format);
+    let mut line = first_line(format);
     while !rest.is_empty() {
         let (text, after) = next_line(rest, line, LineKind::Newline)?;
-        let ticks = tick_line(text, line)?;
-        schedule.add(ticks.count, ticks.letters, ticks.irq)?;
+        let ticks = tick_line(most, text, line)?;
+        schedule.add(ticks.count, ticks.letters, &ticks.irq)?;
         line += 1;
         rest = after;
     }
@@ -115,10 +163,10 @@ fn read_file(alloc: Global, bytes: &[u8]) -> Result<Schedule, SchedErr>
     ensures { Gives (λ s. s) result (file_in bytes.now) }
 {
     let (first, rest) = next_line(bytes, 1, LineKind::Header)?;
-    if first != b"helium-schedule 1".as_slice() {
-        let kind = LineKind::Header;
-        return Err(SchedErr::Line { line: 1, kind });
-    }
+    let format = read_header(first).ok_or(SchedErr::Line {
+        line: 1,
+        kind: LineKind::Header,
+    })?;
     let (second, rest) = next_line(rest, 2, LineKind::Entries)?;
     let entries = read_entries(second).ok_or(SchedErr::Line {
         line: 2,
@@ -134,7 +182,11 @@ fn read_file(alloc: Global, bytes: &[u8]) -> Result<Schedule, SchedErr>
         line: 4,
         kind: LineKind::Floor,
     })?;
-    with_lines(Schedule::begin(alloc, entries, lo, hi, floor), rest)
+    let (process, rest) = process_line(format, floor, rest)?;
+    with_lines(
+        Schedule::of_format(alloc, format, entries, lo, hi, floor, process),
+        rest,
+    )
 }
 
 /// The schedule that the bytes of a file write, in time that is linear in them.

@@ -1,8 +1,9 @@
 //! Reading a line of ticks.
 
-ghost use Rattle.std.specs.Prelude.{◌≡◌, ◌<◌, ◌≤◌, ◌^◌, ◌==◌};
+ghost use Rattle.std.specs.Prelude.{◌≡◌, ◌+◌, ◌<◌, ◌≤◌, ◌^◌, ◌==◌};
 ghost use Rattle.std.specs.List.{list_all, slice_split};
 ghost use Rattle.hm_text_base.specs.Reading.{Reads, ReadsSome};
+ghost use Rattle.hm_sched.specs.Words.{number_of};
 ghost use Rattle.hm_sched.specs.ReadLine.{said, is_letter, count_in, steps_in, numbers_in, irq_in, ticks_in};
 
 use crate::errors::LineKind;
@@ -13,7 +14,7 @@ use hm_text_base::{read_number, span};
 pub struct Ticks<'a> {
     pub count: u32,
     pub letters: &'a [u8],
-    pub irq: u32,
+    pub irq: [u32; 8],
 }
 
 /// The count before the first star, or 1 where there is no star, and what follows.
@@ -57,47 +58,62 @@ fn read_steps(text: &[u8]) -> Option<&[u8]>
     Some(text)
 }
 
-/// A bit for each number, which is to be `least` or more, beside those that are set already.
-#[tactic(auto, unfolding(crate::specs::ReadLine::numbers_in), using(crate::proofs::TickSteps::numbers_split, std::proofs::lemmas::Nat::one_shl))]
-fn read_numbers(least: u32, bits: u32, words: &[u8]) -> Option<u32>
-    requires rising { least ≤ 32 }
-    requires earlier { bits < 2 ^ least }
-    ensures { result ≡ numbers_in least bits (slice_split (λ b. b == 32) words.now) }
+/// The words with bit n too, where each bit that they have is below it.
+fn with_bit(bits: &[u32; 8], n: u32) -> [u32; 8]
+    requires there { n < 256 }
+    requires above { number_of bits.now < 2 ^ n }
+    ensures value { number_of result ≡ number_of bits.now + 2 ^ n }
+{
+    let mut all = *bits;
+    all[n as usize / 32] += 1 << (n % 32);
+    all
+}
+
+/// A bit for each number, which is to be `least` or more and below `most`, beside those that are set already.
+#[tactic(auto, unfolding(crate::specs::ReadLine::numbers_in), using(crate::proofs::TickSteps::numbers_split))]
+fn read_numbers(most: u32, least: u32, bits: &[u32; 8], words: &[u8]) -> Option<[u32; 8]>
+    requires eight { most ≤ 256 }
+    requires rising { least ≤ most }
+    requires earlier { number_of bits.now < 2 ^ least }
+    ensures { ReadsSome number_of result (numbers_in most least (number_of bits.now) (slice_split (λ b. b == 32) words.now)) }
 {
     let (word, from) = span(b' ', words);
     let n = read_number(word)?;
-    if n < least || n >= 32 {
+    if n < least || n >= most {
         return None;
     }
-    let bits = bits + (1 << n);
+    let bits = with_bit(bits, n);
     match from {
         [] => Some(bits),
-        [_, after @ ..] => read_numbers(n + 1, bits, after),
+        [_, after @ ..] => read_numbers(most, n + 1, &bits, after),
     }
 }
 
+/// The interrupts that arrive, each of which is to be below `most`.
 #[tactic(auto, unfolding(crate::specs::ReadLine::irq_in))]
-fn read_irq(text: &[u8]) -> Option<u32>
-    ensures { result ≡ irq_in text.now }
+fn read_irq(most: u32, text: &[u8]) -> Option<[u32; 8]>
+    requires eight { most ≤ 256 }
+    ensures { ReadsSome number_of result (irq_in most text.now) }
 {
     if text.is_empty() {
-        return Some(0);
+        return Some([0; 8]);
     }
     if !text.starts_with(b" irq ") {
         return None;
     }
-    read_numbers(0, 0, &text[5..])
+    read_numbers(most, 0, &[0; 8], &text[5..])
 }
 
-/// What the text of a line of ticks says, or what of it is bad first: the count, the steps or the interrupts.
+/// What the text of a line of ticks says, where interrupts are below `most`, or what of it is bad first: the count, the steps or the interrupts.
 #[tactic(auto, unfolding(crate::specs::ReadLine::ticks_in))]
-pub fn read_ticks(text: &[u8]) -> Result<Ticks<'_>, LineKind>
-    ensures reads { Reads said result (ticks_in text.now) }
+pub fn read_ticks(most: u32, text: &[u8]) -> Result<Ticks<'_>, LineKind>
+    requires eight { most ≤ 256 }
+    ensures reads { Reads said result (ticks_in most text.now) }
 {
     let (count, rest) = read_count(text)?;
     let (steps, rest) = span(b' ', rest);
     let letters = read_steps(steps).ok_or(LineKind::Steps)?;
-    let irq = read_irq(rest).ok_or(LineKind::Irq)?;
+    let irq = read_irq(most, rest).ok_or(LineKind::Irq)?;
     Ok(Ticks {
         count,
         letters,

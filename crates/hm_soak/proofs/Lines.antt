@@ -95,7 +95,7 @@ paired_next old n new newer h e =
     }
 
 -- THE WHOLE, behind no lines
-pub all_lines : (a b c d e : Sched) → a ≡ record { entries = true; lo = sram_start; hi = sram_start; floor = 0x2000f000; lines = [] } → b ≡ with_lines (wholes 16 ∷ []) a → c ≡ with_lines (pairs 4095 1) b
+pub all_lines : (a b c d e : Sched) → a ≡ record { format = 1; entries = true; lo = sram_start; hi = sram_start; floor = 0x2000f000; process = 0x2000f000; lines = [] } → b ≡ with_lines (wholes 16 ∷ []) a → c ≡ with_lines (pairs 4095 1) b
     → d ≡ with_lines (twice 2 ∷ []) c → e ≡ with_lines (wholes 1 ∷ []) d → e ≡ schedule
 unfolding schedule
 all_lines a b c d e h i j k l =

@@ -2,7 +2,7 @@
 
 ghost use Rattle.std.specs.Prelude.{◌≡◌, ◌+◌, ◌<◌, ◌≤◌, [], ◌∷◌, length, IfOk};
 ghost use Rattle.std.specs.List.{All};
-ghost use Rattle.hm_sched.specs.Schedule.{IsLetter, TickLine, most_ticks, total};
+ghost use Rattle.hm_sched.specs.Schedule.{IsLetter, TickLine, low_irq, most_ticks, total};
 ghost use Rattle.hm_soak.specs.Lines.{with_lines};
 ghost use Rattle.hm_soak_laws.specs.Schedule.{both, in_order_schedule, pair_lines, pairs, schedule, twice, wholes};
 
@@ -17,16 +17,16 @@ const FLOOR: u32 = 0x2000_f000;
 /// How many instructions come before the handler's: the head, those that fill four registers, the operations, the breakpoint.
 const LENGTH: u32 = 4 + 3 * 4 + OPERATIONS + 1;
 
-/// Adds a line that there is room for.
+/// Adds a line that there is room for: ticks in which these of interrupts 0 to 31 arrive.
 fn add(lines: &mut Schedule, count: u32, letters: &[u8], irq: u32) -> Result<(), OutOfMemory>
     requires some { 1 ≤ count }
     requires few { length letters.now ≤ 8 }
     requires each_letter { All IsLetter letters.now }
     requires room { total lines.old.lines + count ≤ most_ticks }
-    ensures added { let line : TickLine = record { count = count; letters = letters.now; irq = irq } in
+    ensures added { let line : TickLine = record { count = count; letters = letters.now; irq = low_irq irq } in
         IfOk result (λ _. lines.new ≡ with_lines (line ∷ []) lines.old) }
 {
-    match lines.add(count, letters, irq) {
+    match lines.add(count, letters, &[irq, 0, 0, 0, 0, 0, 0, 0]) {
         Ok(()) => Ok(()),
         Err(SchedErr::OutOfMemory) => Err(OutOfMemory),
         Err(_) => unreachable!(),
@@ -51,7 +51,7 @@ fn add_twice(lines: &mut Schedule, count: u32) -> Result<(), OutOfMemory>
     add(lines, count, b"OO", 0)
 }
 
-/// Adds a tick of a step of the older instruction and one of the younger, in which these interrupts arrive.
+/// Adds a tick of a step of the older instruction and one of the younger, in which these of interrupts 0 to 31 arrive.
 fn add_both(lines: &mut Schedule, irq: u32) -> Result<(), OutOfMemory>
     requires room { total lines.old.lines + 1 ≤ most_ticks }
     ensures added { IfOk result (λ _. lines.new ≡ with_lines (both irq ∷ []) lines.old) }

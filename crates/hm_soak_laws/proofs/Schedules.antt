@@ -4,38 +4,50 @@ use Rattle.std.specs.List.{All}
 use Rattle.std.proofs.lemmas.Bool.Decides.{nat_tests}
 use Rattle.std.proofs.lemmas.List.Elements.{All-append, All-cons, All-nil}
 use Rattle.std.proofs.lemmas.List.Sums.{sum_by-append, sum_by-cons}
+use Rattle.hm_sched.proofs.WordLaws.{low_fits, low_words, none_fits}
 use Rattle.hm_sched.specs.Schedule.{IsLetter, IsLine, IsSched, TickLine, older_letter, total, whole_letter, younger_letter}
 use Rattle.hm_soak_laws.specs.Schedule.{both, pair_lines, pairs, schedule, twice, wholes}
 
 -- LINES
-is_wholes : (n : ℕ) → 1 ≤ n → IsLine (wholes n)
-is_wholes n h = record { some = h; few = omega arith; each_letter = All-cons IsLetter whole_letter [] (inr (inr refl)) (All-nil IsLetter); interrupts = omega arith }
+is_wholes : (n : ℕ) → 1 ≤ n → IsLine 32 (wholes n)
+is_wholes n h = record {
+  some = h;
+  few = omega arith;
+  each_letter = All-cons IsLetter whole_letter [] (inr (inr refl)) (All-nil IsLetter);
+  eight = refl;
+  each_word = low_words 0 (omega arith);
+  interrupts = none_fits 32;
+}
 
-is_twice : (n : ℕ) → 1 ≤ n → IsLine (twice n)
+is_twice : (n : ℕ) → 1 ≤ n → IsLine 32 (twice n)
 is_twice n h = record {
   some = h;
   few = omega arith;
   each_letter = All-cons IsLetter older_letter (older_letter ∷ []) (inl refl) (All-cons IsLetter older_letter [] (inl refl) (All-nil IsLetter));
-  interrupts = omega arith;
+  eight = refl;
+  each_word = low_words 0 (omega arith);
+  interrupts = none_fits 32;
 }
 
-is_both : (irq : ℕ) → irq < 2 ^ 32 → IsLine (both irq)
+is_both : (irq : ℕ) → irq < 2 ^ 32 → IsLine 32 (both irq)
 is_both irq h = record {
   some = omega arith;
   few = omega arith;
   each_letter = All-cons IsLetter older_letter (younger_letter ∷ []) (inl refl) (All-cons IsLetter younger_letter [] (inr (inl refl)) (All-nil IsLetter));
-  interrupts = h;
+  eight = refl;
+  each_word = low_words irq h;
+  interrupts = low_fits 32 irq h;
 }
 
-either_lines : (b : Bool) → All IsLine (cond b (twice 1 ∷ both 1 ∷ wholes 3 ∷ []) (twice 1 ∷ both 0 ∷ []))
-either_lines true = All-cons IsLine (twice 1) (both 1 ∷ wholes 3 ∷ []) (is_twice 1 (omega arith))
-    (All-cons IsLine (both 1) (wholes 3 ∷ []) (is_both 1 (omega arith)) (All-cons IsLine (wholes 3) [] (is_wholes 3 (omega arith)) (All-nil IsLine)))
-either_lines false = All-cons IsLine (twice 1) (both 0 ∷ []) (is_twice 1 (omega arith)) (All-cons IsLine (both 0) [] (is_both 0 (omega arith)) (All-nil IsLine))
+either_lines : (b : Bool) → All (IsLine 32) (cond b (twice 1 ∷ both 1 ∷ wholes 3 ∷ []) (twice 1 ∷ both 0 ∷ []))
+either_lines true = All-cons (IsLine 32) (twice 1) (both 1 ∷ wholes 3 ∷ []) (is_twice 1 (omega arith))
+    (All-cons (IsLine 32) (both 1) (wholes 3 ∷ []) (is_both 1 (omega arith)) (All-cons (IsLine 32) (wholes 3) [] (is_wholes 3 (omega arith)) (All-nil (IsLine 32))))
+either_lines false = All-cons (IsLine 32) (twice 1) (both 0 ∷ []) (is_twice 1 (omega arith)) (All-cons (IsLine 32) (both 0) [] (is_both 0 (omega arith)) (All-nil (IsLine 32)))
 
-pairs_lines : (n p : ℕ) → All IsLine (pairs n p)
+pairs_lines : (n p : ℕ) → All (IsLine 32) (pairs n p)
 unfolding pairs
-pairs_lines zero p = All-nil IsLine
-pairs_lines (suc n) p = All-append IsLine (pair_lines p) (pairs n (p + 1)) (either_lines (nat_eq (p % 64) 0)) (pairs_lines n (p + 1))
+pairs_lines zero p = All-nil (IsLine 32)
+pairs_lines (suc n) p = All-append (IsLine 32) (pair_lines p) (pairs n (p + 1)) (either_lines (nat_eq (p % 64) 0)) (pairs_lines n (p + 1))
 
 -- TICKS
 either_total : (b : Bool) → total (cond b (twice 1 ∷ both 1 ∷ wholes 3 ∷ []) (twice 1 ∷ both 0 ∷ [])) ≡ 2 + 3 * cond b 1 0
@@ -68,13 +80,17 @@ total_is = let a = with_ends 4095 in let b = pairs_total 4095 0 in omega arith
 pub lawful : IsSched schedule
 unfolding schedule
 lawful = record {
+  known = inl refl;
   region_start = omega arith;
   region_order = omega arith;
   region_end = omega arith;
   floor_start = omega arith;
   floor_end = omega arith;
-  each_line = All-cons IsLine (wholes 16) (pairs 4095 1 ++ (twice 2 ∷ wholes 1 ∷ [])) (is_wholes 16 (omega arith))
-      (All-append IsLine (pairs 4095 1) (twice 2 ∷ wholes 1 ∷ []) (pairs_lines 4095 1)
-      (All-cons IsLine (twice 2) (wholes 1 ∷ []) (is_twice 2 (omega arith)) (All-cons IsLine (wholes 1) [] (is_wholes 1 (omega arith)) (All-nil IsLine))));
+  process_start = omega arith;
+  process_end = omega arith;
+  one_floor = λ one. refl;
+  each_line = All-cons (IsLine 32) (wholes 16) (pairs 4095 1 ++ (twice 2 ∷ wholes 1 ∷ [])) (is_wholes 16 (omega arith))
+      (All-append (IsLine 32) (pairs 4095 1) (twice 2 ∷ wholes 1 ∷ []) (pairs_lines 4095 1)
+      (All-cons (IsLine 32) (twice 2) (wholes 1 ∷ []) (is_twice 2 (omega arith)) (All-cons (IsLine 32) (wholes 1) [] (is_wholes 1 (omega arith)) (All-nil (IsLine 32)))));
   not_too_many = let e = total_is in omega arith;
 }

@@ -8,7 +8,7 @@ use Rattle.hm_base.specs.declared.Place.{Place}
 use Rattle.hm_base.specs.declared.Place.TheVariants.{R, QWord, P0, Mask01, Mask23, Carry, Ltp, Sticky}
 use Rattle.hm_regs.specs.Place.{value_at}
 use Rattle.hm_regs.specs.Start.{start_regs}
-use Rattle.hm_mem.specs.Memory.{Memory, byte_at, tainted_at, first_devices, thread_under}
+use Rattle.hm_mem.specs.Memory.{Bounds, Memory, byte_at, tainted_at, first_devices, thread_under}
 use Rattle.hm_state.specs.State.{Cell, At, Byte, word, is_cell, cell_of, state_of}
 use Rattle.hm_state.specs.Start.{reset_sp, reset_pc, first_value, first_cell, first_rest, start_under}
 
@@ -38,11 +38,11 @@ first_place image Carry = refl
 first_place image Ltp = refl
 first_place image Sticky = refl
 
-pub started : (image : List Segment) (m : Memory) (lo hi floor : ℕ)
-    → ((a : ℕ) → byte_at m a ≡ first_byte image a) → ((a : ℕ) → tainted_at m a ≡ false) → m.devices ≡ first_devices → m.around ≡ thread_under lo hi floor
-    → state_of (start_regs (reset_sp image - reset_sp image % 4) (reset_pc image - reset_pc image % 2)) m [] ≡ start_under lo hi floor image
+pub started : (image : List Segment) (m : Memory) (bounds : Bounds)
+    → ((a : ℕ) → byte_at m a ≡ first_byte image a) → ((a : ℕ) → tainted_at m a ≡ false) → m.devices ≡ first_devices → m.around ≡ thread_under bounds
+    → state_of (start_regs (reset_sp image - reset_sp image % 4) (reset_pc image - reset_pc image % 2)) m [] ≡ start_under bounds image
 unfolding state_of start_under field
-started image m lo hi floor bytes clean devices around = λ j. record {
+started image m bounds bytes clean devices around = λ j. record {
   cell = λ c. each c j;
   sticky = false;
   pc = reset_pc image - reset_pc image % 2;

@@ -3,7 +3,7 @@ use Rattle.std.specs.Prelude.{ℕ, ◌-◌, ◌%◌, false, nat_eq, if◌then◌
 use Rattle.hm_base.specs.Image.{Segment, flash_byte, first_byte, sram_start, word_at}
 use Rattle.hm_base.specs.declared.Place.{Place}
 use Rattle.hm_base.specs.declared.Place.TheVariants.{R, Ltp}
-use Rattle.hm_mem.specs.Memory.{Around, first_devices, thread_under}
+use Rattle.hm_mem.specs.Memory.{Around, Bounds, first_devices, thread_under}
 use Rattle.hm_state.specs.State.{State, Cell, At, Byte, Value, word, Rest}
 
 -- the words at 0 and at 4 of an image: the stack pointer, and the address of the first instruction with bit 0 set
@@ -25,7 +25,7 @@ abbrev pub first_cell : List Segment → Cell → Value
 first_cell image (At p) = word (first_value image p)
 first_cell image (Byte a) = word (first_byte image a)
 
--- what stands beside the cells after a reset: flags, IT, FPCA, PRIMASK and IPSR 0, the devices as they begin, and no output
+-- what stands beside the cells after a reset: flags, IT, FPCA, PRIMASK, the other stack pointer, SPSEL, BASEPRI and IPSR 0, the devices as they begin, and no output
 abbrev pub first_rest : Around → Rest
 first_rest around = record {
   n = false;
@@ -36,6 +36,9 @@ first_rest around = record {
   it = 0;
   fpca = false;
   primask = false;
+  other = 0;
+  spsel = false;
+  basepri = 0;
   ipsr = 0;
   fpscr_low = 0;
   fpscr_middle = 0;
@@ -45,15 +48,19 @@ first_rest around = record {
   around = around;
 }
 
--- after a reset to an image, the thread running under this region and this floor
-unfoldable pub start_under : ℕ → ℕ → ℕ → List Segment → State
-start_under lo hi floor image = record {
+-- after a reset to an image, the thread running under these bounds of handlers
+unfoldable pub start_under : Bounds → List Segment → State
+start_under bounds image = record {
   cell = first_cell image;
   sticky = false;
   pc = reset_pc image - reset_pc image % 2;
-  rest = first_rest (thread_under lo hi floor);
+  rest = first_rest (thread_under bounds);
 }
+
+-- an empty region, and the lowest floors
+abbrev pub first_bounds : Bounds
+first_bounds = record { lo = sram_start; hi = sram_start; floor = sram_start; process = sram_start }
 
 -- the same where no handler may store anywhere below its frame but from the first byte of SRAM on
 abbrev pub start : List Segment → State
-start image = start_under sram_start sram_start sram_start image
+start image = start_under first_bounds image

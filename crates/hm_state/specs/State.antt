@@ -42,8 +42,8 @@ is_dead (Byte a) v = v.taint
 abbrev pub cells : Cells Cell Value
 cells = record { same = same_cell; dead = is_dead }
 
--- what stands in no place and in no byte: the flags of APSR, IT, FPCA, PRIMASK, the exception number, the bits of
--- FPSCR and VPR that have no place, the devices, the output, and who accesses the memory
+-- what stands in no place and in no byte: the flags of APSR, IT, FPCA, PRIMASK, the stack pointer that is not in use and
+-- which one that is, BASEPRI, the exception number, the bits of FPSCR and VPR that have no place, the devices, the output, and who accesses the memory
 pub record Rest : Type 0 where
   pub n : Bool
   pub z : Bool
@@ -53,6 +53,9 @@ pub record Rest : Type 0 where
   pub it : ℕ
   pub fpca : Bool
   pub primask : Bool
+  pub other : ℕ
+  pub spsel : Bool
+  pub basepri : ℕ
   pub ipsr : ℕ
   pub fpscr_low : ℕ
   pub fpscr_middle : ℕ
@@ -95,6 +98,9 @@ rest_with r d around output = record {
   it = r.it;
   fpca = r.fpca;
   primask = r.primask;
+  other = r.other;
+  spsel = r.spsel;
+  basepri = r.basepri;
   ipsr = r.ipsr;
   fpscr_low = field 0 16 r.fpscr;
   fpscr_middle = field 19 8 r.fpscr;
@@ -147,6 +153,9 @@ regs_of s = record {
   qw = listed 32 (λ k. at (QWord k) s);
   fpca = s.rest.fpca;
   primask = s.rest.primask;
+  other = s.rest.other;
+  spsel = s.rest.spsel;
+  basepri = s.rest.basepri;
   ipsr = s.rest.ipsr;
 }
 

@@ -12,7 +12,7 @@ ghost use Rattle.hm_regs.specs.Place.{Counted, value_at, with_value};
 ghost use Rattle.hm_regs.specs.Start.{start_regs};
 ghost use Rattle.hm_regs.specs.Writes.{Write, apply};
 ghost use Rattle.hm_regs.specs.declared.Regs.{Regs};
-ghost use Rattle.hm_mem.specs.Memory.{Memory, byte_at, first_devices, tainted_at, thread_under};
+ghost use Rattle.hm_mem.specs.Memory.{Bounds, Memory, byte_at, first_devices, tainted_at, thread_under};
 ghost use Rattle.hm_state.specs.Start.{reset_pc, reset_sp, start_under};
 ghost use Rattle.hm_state.specs.State.{AreCells, Byte, Cell, State, at, byte_of_bits, cells, into, is_cell, listed, put_at, regs_of, rest_of, sram_bytes, state_of, taint_bytes};
 ghost use Rattle.hm_state.specs.Store.{CellLaws, flagged, put_all};
@@ -79,6 +79,18 @@ pub fn beside_law()
         → let s = state_of r m output in
         state_of (record r { primask = primask }) m output
         ≡ record s { rest = record s.rest { primask = primask } } }
+    ensures other { (r : Regs) (m : Memory) (output : List ℕ) (other : ℕ)
+        → let s = state_of r m output in
+        state_of (record r { other = other }) m output
+        ≡ record s { rest = record s.rest { other = other } } }
+    ensures spsel { (r : Regs) (m : Memory) (output : List ℕ) (spsel : Bool)
+        → let s = state_of r m output in
+        state_of (record r { spsel = spsel }) m output
+        ≡ record s { rest = record s.rest { spsel = spsel } } }
+    ensures basepri { (r : Regs) (m : Memory) (output : List ℕ) (basepri : ℕ)
+        → let s = state_of r m output in
+        state_of (record r { basepri = basepri }) m output
+        ≡ record s { rest = record s.rest { basepri = basepri } } }
     ensures ipsr { (r : Regs) (m : Memory) (output : List ℕ) (ipsr : ℕ)
         → let s = state_of r m output in
         state_of (record r { ipsr = ipsr }) m output
@@ -107,9 +119,9 @@ pub fn first_values_law()
 
 /// The registers after a reset and a memory that holds the image make the state at the start.
 pub fn start_law()
-    ensures started { (image : List Segment) (m : Memory) (lo hi floor : ℕ)
+    ensures started { (image : List Segment) (m : Memory) (bounds : Bounds)
         → ((a : ℕ) → byte_at m a ≡ first_byte image a) → ((a : ℕ) → tainted_at m a ≡ false)
-        → m.devices ≡ first_devices → m.around ≡ thread_under lo hi floor
+        → m.devices ≡ first_devices → m.around ≡ thread_under bounds
         → let sp = reset_sp image in let pc = reset_pc image in
-        state_of (start_regs (sp - sp % 4) (pc - pc % 2)) m [] ≡ start_under lo hi floor image }
+        state_of (start_regs (sp - sp % 4) (pc - pc % 2)) m [] ≡ start_under bounds image }
 {}

@@ -1,10 +1,13 @@
 -- The most urgent exception, found from the lowest number up.
-use Rattle.std.proofs.Common.{◌≡◌, ℕ, zero, suc, ◌+◌, ◌-◌, ◌<◌, ◌≤◌, ◌⊎◌, Bool, true, false, cond, arith, refl, sym, ◌∙◌, ap, subst, inl, inr}
-use Rattle.std.specs.Prelude.{Option, Some, None, ◌&&◌, ◌||◌, ◌==◌, nat_lt, if◌then◌else◌}
+use Rattle.std.proofs.Common.{◌≡◌, ℕ, zero, suc, ◌+◌, ◌-◌, ◌/◌, ◌%◌, ◌^◌, ◌<◌, ◌≤◌, get_or, ◌⊎◌, Bool, true, false, cond, arith, refl, sym, ◌∙◌, ap, subst, inl, inr}
+use Rattle.std.specs.Prelude.{IfSome, Option, Some, None, ◌&&◌, ◌||◌, ◌==◌, nat_lt, min, bit_and, if◌then◌else◌}
+use Rattle.std.proofs.lemmas.Bool.{cases_lt}
 use Rattle.std.proofs.lemmas.Bool.Decides.{nat_tests}
+use Rattle.std.proofs.lemmas.Nat.Bits.{bit_at_and, bit_at-zero}
+use Rattle.std.specs.Int.{bit_at}
 use Rattle.hm_mem.specs.declared.Dev.{Dev}
-use Rattle.hm_sys.specs.Best.{IsBest, IsFirst}
-use Rattle.hm_sys.specs.Exceptions.{IsPicked, is_eligible, is_external, is_set, is_waiting, or_later, picked_below, priority_of}
+use Rattle.hm_sys.specs.Best.{IsBest, IsFirst, end_of}
+use Rattle.hm_sys.specs.Exceptions.{IsException, IsPicked, end_number, is_eligible, is_enabled, is_external, is_pending, is_set, is_waiting, or_later, picked_below, priority_of}
 
 no : (b : Bool) → b ≡ true → b ≡ false → ⊥
 no true e f = cc
@@ -24,11 +27,11 @@ missed true p b c h g = grind (arith, nat_tests)
 missed false p b c h g = cc
 
 -- numbers of exceptions
-in_range : (t w : Bool) (e : ℕ) (x : Bool) → (if e == 15 then t else is_external e && x && w) ≡ true → (15 ≤ e) × (e ≤ 47)
+in_range : (t w : Bool) (e : ℕ) (x : Bool) → (if e == 15 then t else is_external e && x && w) ≡ true → IsException e
 in_range t w e x h = grind (arith, nat_tests)
 
-pub waits : (d : Dev) (c e : ℕ) → is_eligible d c e ≡ true → (15 ≤ e) × (e ≤ 47)
-waits d c e h = in_range d.tick_pending (is_set (e - 16) d.enabled) e (is_set (e - 16) d.pending) ((tested (is_waiting d e) (priority_of d e) c h).0)
+pub waits : (d : Dev) (c e : ℕ) → is_eligible d c e ≡ true → IsException e
+waits d c e h = in_range d.tick_pending (is_enabled d (e - 16)) e (is_pending d (e - 16)) ((tested (is_waiting d e) (priority_of d e) c h).0)
 
 last_or_before : (f e : ℕ) → f < e + 1 → (f < e) ⊎ (f ≡ e)
 last_or_before f e h = elim (nat_lt f e) as (λ t. nat_lt f e ≡ t → (f < e) ⊎ (f ≡ e)) [ true ↦ (λ t. inl (grind (arith, nat_tests))) | false ↦ (λ t. inr (grind (arith, nat_tests))) ] refl
@@ -97,12 +100,44 @@ module _ (d : Dev) (c e : ℕ) where
       ];
     }
 
--- the whole: no exception has a number of 48 or more
-pub none_at_all : (d : Dev) (c : ℕ) → IsBest d c 48 None → (f : ℕ) → is_eligible d c f ≡ false
-none_at_all d c h f = elim (either (is_eligible d c f)) [ inl t ↦ let w : (15 ≤ f) × (f ≤ 47) = waits d c f t in h f (omega arith) | inr s ↦ s ]
+-- A WORD OF INTERRUPTS none of which is both pending and enabled
+none_of : (p q : ℕ) (i : ℕ) → bit_and p q ≡ 0 → ((p / 2 ^ i % 2 == 1) && (q / 2 ^ i % 2 == 1)) ≡ false
+none_of p q i h =
+    let m : min (bit_at p i) (bit_at q i) ≡ 0 = sym (bit_at_and p q i) ∙ ap (λ (x : ℕ). bit_at x i) h ∙ bit_at-zero i in
+    grind (arith, nat_tests)
 
-pub whole_picked : (d : Dev) (c e : ℕ) → IsFirst d c 48 e → IsPicked d c e
-whole_picked d c e h = record { eligible = h.eligible; first = λ f t. let w : (15 ≤ f) × (f ≤ 47) = waits d c f t in h.first f (omega arith) t }
+not_waiting : (t x w : Bool) (e c p : ℕ) → 16 ≤ e → (x && w) ≡ false → ((if e == 15 then t else is_external e && x && w) && nat_lt p c) ≡ false
+not_waiting t x w e c p h n = grind (arith, nat_tests)
+
+idle : (d : Dev) (c k f : ℕ) → bit_and (get_or d.pending k 0) (get_or d.enabled k 0) ≡ 0 → (f - 16) / 32 ≡ k → 16 ≤ f → is_eligible d c f ≡ false
+idle d c k f h w l =
+    not_waiting d.tick_pending (is_pending d (f - 16)) (is_enabled d (f - 16)) f c (priority_of d f) l
+    (ap (λ (j : ℕ). is_set (f - 16) d.pending && is_set (f - 16) d.enabled) w ∙ none_of (get_or d.pending ((f - 16) / 32) 0) (get_or d.enabled ((f - 16) / 32) 0) ((f - 16) % 32) (ap (λ (j : ℕ). bit_and (get_or d.pending j 0) (get_or d.enabled j 0)) w ∙ h))
+
+-- where none of those between two ends is eligible, the best below the one is the best below the other
+none_between : (d : Dev) (c e n : ℕ) (r : Option ℕ) → e ≤ n → ((f : ℕ) → e ≤ f → f < n → is_eligible d c f ≡ false) → IsBest d c e r → IsBest d c n r
+none_between d c e n None l none h = λ f m. elim (cases_lt f e) [ inl b ↦ h f b | inr s ↦ none f s m ]
+none_between d c e n (Some b) l none h = record {
+  below = let m : b < e = h.below in omega arith;
+  eligible = h.eligible;
+  first = λ f m s. elim (cases_lt f e) [ inl before ↦ h.first f before s | inr past ↦ absurd (no (is_eligible d c f) s (none f past m)) ];
+}
+
+pub word_passed : (d : Dev) (c k : ℕ) (r : Option ℕ) → k < 8 → bit_and (get_or d.pending k 0) (get_or d.enabled k 0) ≡ 0 → IsBest d c (end_of k) r → IsBest d c (end_of (k + 1)) r
+word_passed d c k r l h best =
+    none_between d c (end_of k) (end_of (k + 1)) r (omega arith)
+    (λ f from below. idle d c k f h (omega arith) (omega arith)) best
+
+-- the whole: no exception has a number from the end on
+pub none_at_all : (d : Dev) (c : ℕ) → IsBest d c end_number None → (f : ℕ) → is_eligible d c f ≡ false
+none_at_all d c h f = elim (either (is_eligible d c f)) [ inl t ↦ let w : IsException f = waits d c f t in h f (omega arith) | inr s ↦ s ]
+
+pub whole_picked : (d : Dev) (c e : ℕ) → IsFirst d c end_number e → IsPicked d c e
+whole_picked d c e h = record { eligible = h.eligible; first = λ f t. let w : IsException f = waits d c f t in h.first f (omega arith) t }
+
+pub picked-found : (d : Dev) (c : ℕ) (r : Option ℕ) → IsBest d c end_number r → IfSome r (λ e. IsPicked d c e)
+picked-found d c (Some e) h = whole_picked d c e h
+picked-found d c None h = tt
 
 -- two exceptions than each of which the other is not more urgent are one
 one : (p q e f : ℕ) → (nat_lt p q || (p == q && nat_lt e f)) ≡ false → (nat_lt q p || (q == p && nat_lt f e)) ≡ false → e ≡ f
@@ -111,12 +146,12 @@ one p q e f a b = grind (arith, nat_tests)
 pub picked-one : (d : Dev) (c e f : ℕ) → IsPicked d c e → IsPicked d c f → e ≡ f
 picked-one d c e f p q = one (priority_of d e) (priority_of d f) e f (q.first e p.eligible) (p.first f q.eligible)
 
-pub picked-some : (d : Dev) (c e : ℕ) (r : Option ℕ) → IsBest d c 48 r → IsPicked d c e → r ≡ Some e
+pub picked-some : (d : Dev) (c e : ℕ) (r : Option ℕ) → IsBest d c end_number r → IsPicked d c e → r ≡ Some e
 picked-some d c e (Some f) h p = ap Some (picked-one d c f e (whole_picked d c f h) p)
 picked-some d c e None h p = absurd (no (is_eligible d c e) p.eligible (none_at_all d c h e))
 
 -- what is best among so many is one
-pub best-one : (d : Dev) (c : ℕ) (r q : Option ℕ) → IsBest d c 48 r → IsBest d c 48 q → r ≡ q
+pub best-one : (d : Dev) (c : ℕ) (r q : Option ℕ) → IsBest d c end_number r → IsBest d c end_number q → r ≡ q
 best-one d c (Some e) (Some f) h k = picked-some d c f (Some e) h (whole_picked d c f k)
 best-one d c (Some e) None h k = sym (picked-some d c e None k (whole_picked d c e h))
 best-one d c None (Some f) h k = picked-some d c f None h (whole_picked d c f k)

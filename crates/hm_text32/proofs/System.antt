@@ -149,7 +149,9 @@ abbrev read_number : ReadName → ℕ
 read_number read.Apsr = 0
 read_number read.Ipsr = 5
 read_number read.Msp = 8
+read_number read.Psp = 9
 read_number read.Primask = 16
+read_number read.Basepri = 17
 read_number read.Control = 20
 
 a_read : (name : ReadName) → Operand (read_name name) (read_number name) false
@@ -157,7 +159,9 @@ unfolding word_value is_vector_name
 a_read read.Apsr = record { value = refl; vector = refl; is = refl }
 a_read read.Ipsr = record { value = refl; vector = refl; is = refl }
 a_read read.Msp = record { value = refl; vector = refl; is = refl }
+a_read read.Psp = record { value = refl; vector = refl; is = refl }
 a_read read.Primask = record { value = refl; vector = refl; is = refl }
+a_read read.Basepri = record { value = refl; vector = refl; is = refl }
 a_read read.Control = record { value = refl; vector = refl; is = refl }
 
 asks_mrs : (name : ReadName) (d : ℕ) → code_of (codes "mrs") (given false 0 false d (read_number name) 0 0 0) ≡ Some (read_base name + d ↑ 8)
@@ -165,25 +169,36 @@ unfolding code_of
 asks_mrs read.Apsr d = ap (λ (w : ℕ). Some w) (omega arith)
 asks_mrs read.Ipsr d = ap (λ (w : ℕ). Some w) (omega arith)
 asks_mrs read.Msp d = ap (λ (w : ℕ). Some w) (omega arith)
+asks_mrs read.Psp d = ap (λ (w : ℕ). Some w) (omega arith)
 asks_mrs read.Primask d = ap (λ (w : ℕ). Some w) (omega arith)
+asks_mrs read.Basepri d = ap (λ (w : ℕ). Some w) (omega arith)
 asks_mrs read.Control d = ap (λ (w : ℕ). Some w) (omega arith)
 
 abbrev written_number : WrittenName → ℕ
 written_number written.Apsr = 0
 written_number written.Msp = 8
+written_number written.Psp = 9
 written_number written.Primask = 16
+written_number written.Basepri = 17
+written_number written.Control = 20
 
 a_written : (name : WrittenName) → Operand (written_name name) (written_number name) false
 unfolding word_value is_vector_name
 a_written written.Apsr = record { value = refl; vector = refl; is = refl }
 a_written written.Msp = record { value = refl; vector = refl; is = refl }
+a_written written.Psp = record { value = refl; vector = refl; is = refl }
 a_written written.Primask = record { value = refl; vector = refl; is = refl }
+a_written written.Basepri = record { value = refl; vector = refl; is = refl }
+a_written written.Control = record { value = refl; vector = refl; is = refl }
 
 asks_msr : (name : WrittenName) (n : ℕ) → code_of (codes "msr") (given false 0 false (written_number name) n 0 0 0) ≡ Some (written_base name + n ↑ 16)
 unfolding code_of
 asks_msr written.Apsr n = ap (λ (w : ℕ). Some w) (omega arith)
 asks_msr written.Msp n = ap (λ (w : ℕ). Some w) (omega arith)
+asks_msr written.Psp n = ap (λ (w : ℕ). Some w) (omega arith)
 asks_msr written.Primask n = ap (λ (w : ℕ). Some w) (omega arith)
+asks_msr written.Basepri n = ap (λ (w : ℕ). Some w) (omega arith)
+asks_msr written.Control n = ap (λ (w : ℕ). Some w) (omega arith)
 
 pub row_t18 : (i : T18) → Answers (instr.Scalar (scalar.T18 i)) (special_tokens i)
 row_t18 (t18.Read i) =

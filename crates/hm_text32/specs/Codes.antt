@@ -84,22 +84,18 @@ code_turn s o = where_ o.third_is_number (λ b. shifted_code b 15 o.first o.seco
 abbrev pub code_shifted : List ℕ → Operands → Option ℕ
 code_shifted s o = first (code_constant s o) (first (code_turn s o) (first (code_data s o) (first (code_test s o) (code_move s o))))
 
--- T8, T11
 -- T8 and T11: the code of LSL to ROR by a register, and of MUL, SDIV and UDIV (DDI0553, "LSL (register)", "MUL" and their kin)
 abbrev pub code_three : List ℕ → Operands → Option ℕ
 code_three s o = option_map (λ b. of_three b o.second 0 o.first o.third) (three_base s)
 
--- T10
 -- T10: the code of REV, REV16, RBIT, REVSH and CLZ (DDI0553, "REV", "REV16", "RBIT", "REVSH" and "CLZ")
 abbrev pub code_two : List ℕ → Operands → Option ℕ
 code_two s o = option_map (λ b. of_three b o.second 0 o.first o.second) (two_base s)
 
--- T9
 -- T9: the code of SXTH, UXTH, SXTB and UXTB (DDI0553, "SXTH", "UXTH", "SXTB" and "UXTB")
 abbrev pub code_extend : List ℕ → Operands → Option ℕ
 code_extend s o = option_map (λ b. of_three (b + (o.fourth / 8) ↑ 4) 0 0 o.first o.second) (extend_base_in s)
 
--- T11
 -- T11: the code of MLA and MLS (DDI0553, "MLA" and "MLS")
 abbrev pub code_accumulate : List ℕ → Operands → Option ℕ
 code_accumulate s o = option_map (λ b. of_three b o.second o.fourth o.first o.third) (accumulate_base_in s)
@@ -108,18 +104,15 @@ code_accumulate s o = option_map (λ b. of_three b o.second o.fourth o.first o.t
 abbrev pub code_long : List ℕ → Operands → Option ℕ
 code_long s o = option_map (λ b. of_three b o.third o.first o.second o.fourth) (long_base_in s)
 
--- T20
 -- T20: the code of CSEL, CSINC, CSINV and CSNEG (DDI0553, "CSEL", "CSINC", "CSINV" and "CSNEG")
 abbrev pub code_select : List ℕ → Operands → Option ℕ
 code_select s o = option_map (λ b. of_three (b + o.fourth ↑ 4) o.second 0 o.first o.third) (select_base_in s)
 
--- T3
 -- T3: the code of ADDW and SUBW (DDI0553, "ADD (immediate)", "SUB (immediate)" and "ADR")
 abbrev pub code_wide_sum : List ℕ → Operands → Option ℕ
 code_wide_sum s o =
     option_map (λ b. of_three (b + (o.third / 2048) ↑ 26) o.second (o.third / 256 % 8) o.first (o.third % 256)) (wide_sum_base_in s)
 
--- T4
 -- T4: the code of MOVW and MOVT (DDI0553, "MOV (immediate)" and "MOVT")
 abbrev pub code_half : List ℕ → Operands → Option ℕ
 code_half s o =
@@ -136,7 +129,6 @@ code_saturate s o =
     else if bytes_eq s (codes "usat") then Some (saturate_code 0xf3800000 o.second o)
     else None
 
--- T6
 -- T6: the code of SBFX and UBFX (DDI0553, "SBFX" and "UBFX")
 abbrev pub code_extract : List ℕ → Operands → Option ℕ
 code_extract s o =
@@ -158,17 +150,14 @@ code_insert s o =
 abbrev pub code_stack : List ℕ → Operands → Option ℕ
 code_stack s o = option_map (λ b. b + o.first ↑ 12 + (o.second + 1 - o.first) ↑ 1) (stack_base_in s)
 
--- T17
 -- T17: the code of TBB and TBH (DDI0553, "TBB, TBH")
 abbrev pub code_table : List ℕ → Operands → Option ℕ
 code_table s o = option_map (λ b. of_three b o.first 0 0 o.second) (table_base_in s)
 
--- T19
 -- T19: the code of DSB, DMB and ISB, whose option is 15 where none is written (DDI0553, "DSB", "DMB" and "ISB")
 abbrev pub code_barrier : List ℕ → Operands → Option ℕ
 code_barrier s o = option_map (λ b. if o.is_bare then b + 15 else b + o.first) (barrier_base_in s)
 
--- T18 and T21
 -- T18 and T21: the code of MRS, MSR, VMRS and VMSR (DDI0553, "MRS", "MSR (register)", "VMRS" and "VMSR")
 abbrev pub code_special : List ℕ → Operands → Option ℕ
 code_special s o =
@@ -249,7 +238,6 @@ access_code base o = if o.third_is_number then offset_code base o else base + o.
 abbrev pub code_access : List ℕ → Places → Option ℕ
 code_access s o = option_map (λ b. access_code b o) (access_base_in s)
 
--- T13
 -- T13: a base code with P, U and W at bits 24, 23 and 21, the three registers, and the offset in words
 abbrev pub pair_code : ℕ → Places → ℕ
 pair_code base o = base + o.before ↑ 24 + o.added ↑ 23 + o.back ↑ 21 + o.third ↑ 16 + o.first ↑ 12 + o.second ↑ 8 + o.fourth / 4
@@ -258,7 +246,6 @@ pair_code base o = base + o.before ↑ 24 + o.added ↑ 23 + o.back ↑ 21 + o.t
 abbrev pub code_pair : List ℕ → Places → Option ℕ
 code_pair s o = option_map (λ b. pair_code b o) (pair_base_in s)
 
--- T14
 -- T14: the code of STMIA, LDMIA, STMDB and LDMDB (DDI0553, "STM, STMIA, STMEA", "LDM, LDMIA, LDMFD" and their kin)
 abbrev pub code_list : List ℕ → List Tok → Option ℕ
 code_list s ts = option_map (λ b. b + second_bang ts ↑ 21 + value (operand 0 ts) ↑ 16 + bits_of (braced ts)) (list_base_in s)

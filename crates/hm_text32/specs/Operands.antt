@@ -24,7 +24,9 @@ other_value w =
     if bytes_eq w (codes "zr") then 15
     else if bytes_eq w (codes "ipsr") then 5
     else if bytes_eq w (codes "msp") then 8
+    else if bytes_eq w (codes "psp") then 9
     else if bytes_eq w (codes "primask") then 16
+    else if bytes_eq w (codes "basepri") then 17
     else if bytes_eq w (codes "control") then 20
     else if bytes_eq w (codes "fpscr") then 1
     else if bytes_eq w (codes "vpr") then 12

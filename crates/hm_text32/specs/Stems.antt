@@ -235,11 +235,16 @@ abbrev pub read_name : ReadName → List ℕ
 read_name read.Apsr = codes "apsr"
 read_name read.Ipsr = codes "ipsr"
 read_name read.Msp = codes "msp"
+read_name read.Psp = codes "psp"
 read_name read.Primask = codes "primask"
+read_name read.Basepri = codes "basepri"
 read_name read.Control = codes "control"
 
 -- T18: the name of each special register that MSR writes
 abbrev pub written_name : WrittenName → List ℕ
 written_name written.Apsr = codes "apsr"
 written_name written.Msp = codes "msp"
+written_name written.Psp = codes "psp"
 written_name written.Primask = codes "primask"
+written_name written.Basepri = codes "basepri"
+written_name written.Control = codes "control"

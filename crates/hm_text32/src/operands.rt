@@ -56,8 +56,14 @@ fn other_value(name: &[u8]) -> u32
     if is(name, "msp") {
         return 8;
     }
+    if is(name, "psp") {
+        return 9;
+    }
     if is(name, "primask") {
         return 16;
+    }
+    if is(name, "basepri") {
+        return 17;
     }
     if is(name, "control") {
         return 20;

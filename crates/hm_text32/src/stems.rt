@@ -138,7 +138,9 @@ pub fn read_name(name: ReadName) -> &'static str
         ReadName::Apsr => "apsr",
         ReadName::Ipsr => "ipsr",
         ReadName::Msp => "msp",
+        ReadName::Psp => "psp",
         ReadName::Primask => "primask",
+        ReadName::Basepri => "basepri",
         ReadName::Control => "control",
     }
 }
@@ -150,7 +152,10 @@ pub fn written_name(name: WrittenName) -> &'static str
     match name {
         WrittenName::Apsr => "apsr",
         WrittenName::Msp => "msp",
+        WrittenName::Psp => "psp",
         WrittenName::Primask => "primask",
+        WrittenName::Basepri => "basepri",
+        WrittenName::Control => "control",
     }
 }
 

@@ -63,7 +63,14 @@ impl Setting {
 
     /// A memory with the bytes.
     fn memory(&self) -> Result<Mem> {
-        Ok(Mem::new(self.alloc, &self.image, SRAM_START, SRAM_START, SRAM_START)?)
+        Ok(Mem::new(
+            self.alloc,
+            &self.image,
+            SRAM_START,
+            SRAM_START,
+            SRAM_START,
+            SRAM_START,
+        )?)
     }
 
     /// Checks which instruction stands at an address.

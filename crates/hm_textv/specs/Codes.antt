@@ -42,30 +42,25 @@ abbrev pub code_three : List ℕ → Operands → Option ℕ
 code_three s o =
     if o.is_vector then option_map (λ b. of_vectors b o.sign o.size o.second o.first o.third) (first (three_base s) (product_base s)) else None
 
--- V4
 -- V4: the code of VSHL, VQSHL, VRSHL and VQRSHL by a vector (DDI0553, "VSHL" (vector) and its kin)
 abbrev pub code_vector_shift : List ℕ → Operands → Option ℕ
 code_vector_shift s o =
     if o.is_vector then option_map (λ b. of_vectors b o.sign o.size o.third o.first o.second) (vector_shift_base_in s) else None
 
--- V8
 -- V8: the code of VADC, VADCI, VSBC and VSBCI (DDI0553, "VADC" and "VSBC")
 abbrev pub code_carry : List ℕ → Operands → Option ℕ
 code_carry s o = option_map (λ b. of_vectors b 0 0 o.second o.first o.third) (carry_base_in s)
 
--- V9
 -- V9: the code of VCADD and VHCADD, whose angle is 90 or 270 (DDI0553, "VCADD" and "VHCADD")
 abbrev pub code_turn : List ℕ → Operands → Option ℕ
 code_turn s o =
     option_map (λ b. of_vectors (b + (if o.fourth == 270 then 1 else 0) ↑ 12) 0 o.size o.second o.first o.third) (turn_base_in s)
 
--- V10
 -- V10: the code of VADD to VMLAS of a vector and a core register (DDI0553, their forms with a vector and a scalar)
 abbrev pub code_scalar : List ℕ → Operands → Option ℕ
 code_scalar s o =
     if o.is_vector then None else option_map (λ b. of_core b o.sign o.size o.second o.first o.third) (scalar_base_in s)
 
--- V11
 -- V11: the code of VSHR, VRSHR and VSRI by a constant (DDI0553, "VSHR", "VRSHR" and "VSRI")
 abbrev pub code_right : List ℕ → Operands → Option ℕ
 code_right s o = option_map (λ b. of_one (b + (2 * bits_in o.size - o.third) ↑ 16) o.sign 0 o.first o.second) (right_base s)
@@ -74,7 +69,6 @@ code_right s o = option_map (λ b. of_one (b + (2 * bits_in o.size - o.third) �
 abbrev pub code_left : List ℕ → Operands → Option ℕ
 code_left s o = option_map (λ b. of_one (b + (bits_in o.size + o.third) ↑ 16) o.sign 0 o.first o.second) (left_base s)
 
--- V12
 -- V12: the code of VSHLL and VMOVL of part t; a shift by all bits of an element has an encoding of its own (DDI0553, "VSHLL")
 abbrev pub long_code : ℕ → Operands → ℕ
 long_code t o =
@@ -85,7 +79,6 @@ long_code t o =
 abbrev pub code_long : List ℕ → Operands → Option ℕ
 code_long s o = option_map (λ t. long_code t o) (long_in s)
 
--- V13, V14
 -- V13 and V14: the code of VCLS, VCLZ, VABS, VNEG, VQABS and VQNEG, and of VREV64, VREV32 and VREV16 (DDI0553, these instructions)
 abbrev pub code_single : List ℕ → Operands → Option ℕ
 code_single s o = option_map (λ b. of_one b 0 o.size o.first o.second) (single_base s)
@@ -118,7 +111,6 @@ bare_code k o = if k == 0 then of_vectors 0xef200150 0 0 o.second o.first o.seco
 abbrev pub code_constant : List ℕ → Operands → Option ℕ
 code_constant s o = option_map (λ k. if o.is_bare then bare_code k o else constant_code k o) (constant_in s)
 
--- V16
 -- V16: the code of VMOVN, VQMOVN and VQMOVUN of either part (DDI0553, "VMOVN", "VQMOVN" and "VQMOVUN")
 abbrev pub code_narrow : List ℕ → Operands → Option ℕ
 code_narrow s o = option_map (λ b. of_one b o.sign (o.size - 1) o.first o.second) (narrow_base_in s)
@@ -127,7 +119,6 @@ code_narrow s o = option_map (λ b. of_one b o.sign (o.size - 1) o.first o.secon
 abbrev pub step_in : ℕ → ℕ
 step_in n = if n == 2 then 1 else if n == 4 then 0x80 else if n == 8 then 0x81 else 0
 
--- V19
 -- V19: the code of VIDUP and VDDUP (DDI0553, "VIDUP, VIWDUP" and "VDDUP, VDWDUP")
 abbrev pub code_offsets : List ℕ → Operands → Option ℕ
 code_offsets s o = option_map (λ b. of_core (b + 0xe + step_in o.third) 0 o.size (o.second / 2) o.first 0) (offsets_base_in s)
@@ -136,7 +127,6 @@ code_offsets s o = option_map (λ b. of_core (b + 0xe + step_in o.third) 0 o.siz
 abbrev pub code_wrapped : List ℕ → Operands → Option ℕ
 code_wrapped s o = option_map (λ b. of_vectors (b + step_in o.fourth) 0 o.size (o.second / 2) o.first (o.third / 2)) (wrapped_base_in s)
 
--- V20
 -- V20: the code of VCMP and VPT with mask k, of two vectors or of a vector and a core register (DDI0553, "VCMP" and "VPT")
 abbrev pub compare_code : ℕ → Operands → ℕ
 compare_code k o =
@@ -147,12 +137,10 @@ compare_code k o =
 abbrev pub code_compare : List ℕ → Operands → Option ℕ
 code_compare s o = option_map (λ k. compare_code k o) (compare_in s)
 
--- V21
 -- V21: the code of VPNOT, and of VPST with the letters of its block (DDI0553, "VPST" and "VPNOT")
 abbrev pub code_block : List ℕ → Option ℕ
 code_block s = option_map (λ k. 0xfe310f4d + mask_code k) (block_in s)
 
--- V22
 -- V22: the code of VADDV and VADDVA (DDI0553, "VADDV")
 abbrev pub code_sum : List ℕ → Operands → Option ℕ
 code_sum s o = option_map (λ a. of_one (0xeef10f00 + a ↑ 5) o.sign o.size (o.first / 2) o.second) (sum_in s)
@@ -170,7 +158,6 @@ abbrev pub code_long_dot : List ℕ → Operands → Option ℕ
 code_long_dot s o =
     option_map (λ a. of_vectors (0xee800e00 + a ↑ 5 + (o.size - 1) ↑ 16) o.sign (o.second / 2) o.third (o.first / 2) o.fourth) (long_dot_in s)
 
--- V23
 -- V23: the code of VMAXV and VMINV (DDI0553, "VMAXV" and "VMINV")
 abbrev pub code_extreme : List ℕ → Operands → Option ℕ
 code_extreme s o = option_map (λ b. of_one (b + o.first ↑ 12) o.sign o.size 0 o.second) (extreme_base_in s)
@@ -218,7 +205,6 @@ code_store s o = option_map (λ y. access_code 0 y o) (store_in s)
 abbrev pub code_load : List ℕ → Operands → Option ℕ
 code_load s o = option_map (λ y. access_code 1 y o) (load_in s)
 
--- V28
 -- V28: the code of VLD20, VLD21, VST20 and VST21 (DDI0553, "VLD2" and "VST2")
 abbrev pub code_pair : List ℕ → Operands → Option ℕ
 code_pair s o = option_map (λ b. of_access (b + o.back ↑ 21) 0 o.third o.first o.size 0) (pair_base s)

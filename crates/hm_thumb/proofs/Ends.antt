@@ -6,7 +6,7 @@ use native.Mathlib.Nat.{mod-eq_of_lt}
 use Rattle.hm_base.specs.declared.FaultKind.{FaultKind}
 use Rattle.hm_base.specs.declared.FaultKind.TheVariants.{Bus}
 use Rattle.hm_mem.specs.Devices.{has_width, word_at}
-use Rattle.hm_mem.specs.Memory.{thread_under}
+use Rattle.hm_mem.specs.Memory.{thread_under, Bounds}
 use Rattle.hm_mem.specs.Seen.{Seen, fault_kind, is_kept, read, stop_after, unless}
 use Rattle.hm_mem.specs.declared.Actor.TheVariants.{Thread}
 use Rattle.hm_mem.specs.declared.Access.TheVariants.{Scalar}
@@ -18,8 +18,8 @@ abbrev pub IsBad : ℕ → Type 0
 IsBad a = (k : FaultKind) × (fault_kind true Scalar false 1 a ≡ Some k)
 
 -- the widths of devices: the words of priorities alone are read by bytes
-narrow : (a : ℕ) → has_width (word_at a) 1 ≡ true → ((0xe000e400 ≤ a) × (a < 0xe000e420)) ⊎ ((0xe000ed20 ≤ a) × (a < 0xe000ed24))
-narrow a h = grind arith
+narrow : (a : ℕ) → has_width (word_at a) 1 ≡ true → ((0xe000e400 ≤ a) × (a < 0xe000e4f0)) ⊎ ((0xe000ed20 ≤ a) × (a < 0xe000ed24))
+narrow a h = grind (arith, nat_tests, h)
 
 -- where no byte is flash, SRAM or a priority, it is bad
 bad : (a : ℕ) → 0x100000 ≤ a → (a < 0x20000000) ⊎ (0x20040000 ≤ a) → has_width (word_at a) 1 ≡ false → IsBad a
@@ -70,8 +70,8 @@ module _ {E : Type 0} (R : Runner E) (s : Seen) where
   by_priority ended m a up fits past outside false e = enough_here ended m a up fits (bad a past outside e)
   by_priority ended m a up fits past outside true e = at_priority (narrow a e)
     where
-      at_priority : ((0xe000e400 ≤ a) × (a < 0xe000e420)) ⊎ ((0xe000ed20 ≤ a) × (a < 0xe000ed24)) → text R m a s ≡ text R most_text a s
-      at_priority (inl h) = enough_to ended m a 0xe000e420 up (Bus, refl) (omega (arith, h.1)) (omega arith) (omega (arith, most_is, h.0))
+      at_priority : ((0xe000e400 ≤ a) × (a < 0xe000e4f0)) ⊎ ((0xe000ed20 ≤ a) × (a < 0xe000ed24)) → text R m a s ≡ text R most_text a s
+      at_priority (inl h) = enough_to ended m a 0xe000e4f0 up (Bus, refl) (omega (arith, h.1)) (omega arith) (omega (arith, most_is, h.0))
       at_priority (inr h) = enough_to ended m a 0xe000ed24 up (Bus, refl) (omega (arith, h.1)) (omega arith) (omega (arith, most_is, h.0))
 
   by_sram : IsEnded → (m a : ℕ) → most_text ≤ m → a < 2 ^ 32 → 0x100000 ≤ a → (b c : Bool) → nat_lt a 0x20000000 ≡ b → nat_le 0x20040000 a ≡ c → text R m a s ≡ text R most_text a s
@@ -94,5 +94,5 @@ module _ {E : Type 0} (R : Runner E) (s : Seen) where
 pub enough-alone : (s : Seen) (m a : ℕ) → most_text ≤ m → a < 2 ^ 32 → text alone m a s ≡ text alone most_text a s
 enough-alone s = enough alone s (λ a is. (_, λ j. fault_at (is.1 j) a))
 
-pub enough-machine : (lo hi floor : ℕ) (s : Seen) (m a : ℕ) → most_text ≤ m → a < 2 ^ 32 → text (in_machine (thread_under lo hi floor)) m a s ≡ text (in_machine (thread_under lo hi floor)) most_text a s
-enough-machine lo hi floor s = enough (in_machine (thread_under lo hi floor)) s (λ a is. (_, λ j. stop_after (is.1 j) (is_kept Thread (thread_under lo hi floor) false 1 a s) false a))
+pub enough-machine : (bounds : Bounds) (s : Seen) (m a : ℕ) → most_text ≤ m → a < 2 ^ 32 → text (in_machine (thread_under bounds)) m a s ≡ text (in_machine (thread_under bounds)) most_text a s
+enough-machine bounds s = enough (in_machine (thread_under bounds)) s (λ a is. (_, λ j. stop_after (is.1 j) (is_kept Thread bounds false 1 a s) false a))

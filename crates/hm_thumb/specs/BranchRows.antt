@@ -31,7 +31,7 @@ use Rattle.hm_thumb.specs.declared.Way.TheVariants as way
 abbrev pub link : ℕ → ℕ
 link next = next - next % 2 + 1
 
--- S23: what BX and BLX do with the value of a register; BLX leaves the address of the next instruction in lr
+-- S23: what BX and BLX do with the value of a register; BLX leaves the address of the next instruction in lr, its bit 0 set
 abbrev pub jump_row : JumpName → ℕ → Regs → Does
 jump_row jump.Bx x r = bx_write x r
 jump_row jump.Blx x r = blx_write x (put 14 (link ((r.pc + 2) % 2 ^ 32)) r)

@@ -76,7 +76,7 @@ data_row data_.Rsb s d x y r = put_data_sum s d (add_with_carry (inverted x) y.r
 abbrev pub imm12 : ℕ → ℕ → ℕ → ℕ
 imm12 i i3 i8 = i * 2 ^ 11 + i3 * 2 ^ 8 + i8
 
--- T1: AND, BIC, ORR, ORN, EOR, ADD, ADC, SBC, SUB and RSB with a constant (DDI0553, "Data-processing (modified immediate)")
+-- T1: AND, BIC, ORR, ORN, EOR, ADD, ADC, SBC, SUB, RSB, MOV, MVN, TST, TEQ, CMN and CMP with a constant (DDI0553, "Data-processing (modified immediate)")
 abbrev pub t1 : T1 → Regs → Regs
 t1 i r = data_row i.name i.s.value i.d.value (reg_or_zero i.n.value r) (expand_imm_c (imm12 i.i.value i.i3.value i.i8.value) r.c) r
 
@@ -84,7 +84,7 @@ t1 i r = data_row i.name i.s.value i.d.value (reg_or_zero i.n.value r) (expand_i
 abbrev pub imm5 : ℕ → ℕ → ℕ
 imm5 i3 i2 = i3 * 2 ^ 2 + i2
 
--- T2: AND, BIC, ORR, ORN, EOR, ADD, ADC, SBC, SUB and RSB with a shifted register (DDI0553, "Data-processing (shifted register)")
+-- T2: AND, BIC, ORR, ORN, EOR, ADD, ADC, SBC, SUB, RSB, MOV, MVN, TST, TEQ, CMN, CMP and the shifts with a shifted register (DDI0553, "Data-processing (shifted register)")
 abbrev pub t2 : T2 → Regs → Regs
 t2 i r =
     data_row i.name i.s.value i.d.value (reg_or_zero i.n.value r) (imm_shift_c i.ty.value (imm5 i.i3.value i.i2.value) (reg i.m.value r) r.c) r

@@ -1,5 +1,6 @@
 -- What moves of special registers and scalar instructions on vector registers do.
-use Rattle.std.specs.Prelude.{ℕ, ◌+◌, ◌*◌, ◌/◌, ◌%◌, ◌^◌, Bool, cond, nat_eq}
+use Rattle.std.specs.Prelude.{ℕ, ◌+◌, ◌-◌, ◌*◌, ◌/◌, ◌%◌, ◌^◌, Bool, cond, nat_eq}
+use Rattle.std.proofs.Math.Bool.{beq}
 use Rattle.hm_base.specs.declared.Place.TheVariants.{QWord}
 use Rattle.hm_isa.specs.declared.system.ReadName.{ReadName}
 use Rattle.hm_isa.specs.declared.system.ReadName.TheVariants as read
@@ -13,7 +14,9 @@ use Rattle.hm_isa.specs.declared.system.T21.{T21}
 use Rattle.hm_isa.specs.declared.system.LaneMoveName.{LaneMoveName}
 use Rattle.hm_isa.specs.declared.system.LaneMoveName.TheVariants as lane
 use Rattle.hm_isa.specs.declared.system.T22.{T22}
+use Rattle.hm_mem.specs.Devices.{top_three}
 use Rattle.hm_regs.specs.Place.{value_at, with_value}
+use Rattle.hm_regs.specs.Stacks.{main_of, process_of, uses_process}
 use Rattle.hm_regs.specs.declared.Regs.{Regs}
 use Rattle.hm_thumb.specs.Arithmetic.{bit_is_set}
 use Rattle.hm_thumb.specs.RegisterRows.{put, reg}
@@ -26,23 +29,44 @@ flag_at k b = cond b (2 ^ k) 0
 abbrev pub apsr : Regs → ℕ
 apsr r = flag_at 31 r.n + flag_at 30 r.z + flag_at 29 r.c + flag_at 28 r.v + flag_at 27 r.q
 
--- CONTROL has FPCA in bit 2
+-- T18: what each special register reads as; CONTROL has in bit 1 whether the process stack is in use, and FPCA in bit 2
 abbrev pub special : ReadName → Regs → ℕ
 special read.Apsr r = apsr r
 special read.Ipsr r = r.ipsr
-special read.Msp r = reg 13 r
+special read.Msp r = main_of r
+special read.Psp r = process_of r
 special read.Primask r = flag_at 0 r.primask
-special read.Control r = flag_at 2 r.fpca
+special read.Basepri r = r.basepri
+special read.Control r = flag_at 1 (uses_process r) + flag_at 2 r.fpca
 
 -- the four flags of a word
 abbrev pub with_flags : ℕ → Regs → Regs
 with_flags x r = record r { n = bit_is_set x 31; z = bit_is_set x 30; c = bit_is_set x 29; v = bit_is_set x 28 }
 
--- T18: APSR, MSP or PRIMASK gets the bits of a word that it has
+-- with another main stack pointer, in use or not: its bits 1:0 stay 0
+abbrev pub with_main : ℕ → Regs → Regs
+with_main x r = cond (uses_process r) (record r { other = x - x % 4 }) (put 13 x r)
+
+-- with another process stack pointer, in use or not: its bits 1:0 stay 0
+abbrev pub with_process : ℕ → Regs → Regs
+with_process x r = cond (uses_process r) (put 13 x r) (record r { other = x - x % 4 })
+
+-- with the other stack in use: the two pointers change places
+abbrev pub exchanged : Bool → Regs → Regs
+exchanged b r = record r { sp = r.other; other = r.sp; spsel = b }
+
+-- with the process stack in use where b holds, and else the main one
+abbrev pub selected : Bool → Regs → Regs
+selected b r = cond (beq b r.spsel) r (exchanged b r)
+
+-- T18: a special register gets the bits of a word that it has: BASEPRI bits 7:5, and CONTROL of a thread bit 1; a handler leaves CONTROL
 abbrev pub with_special : WrittenName → ℕ → Regs → Regs
 with_special written.Apsr x r = record (with_flags x r) { q = bit_is_set x 27 }
-with_special written.Msp x r = put 13 x r
+with_special written.Msp x r = with_main x r
+with_special written.Psp x r = with_process x r
 with_special written.Primask x r = record r { primask = bit_is_set x 0 }
+with_special written.Basepri x r = record r { basepri = top_three x }
+with_special written.Control x r = cond (nat_eq r.ipsr 0) (selected (bit_is_set x 1) r) r
 
 -- T18: MRS and MSR (DDI0553, "MRS" and "MSR (register)")
 abbrev pub t18 : T18 → Regs → Regs

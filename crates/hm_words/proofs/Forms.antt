@@ -8,7 +8,7 @@ use Rattle.hm_text_base.specs.Numbers.{word_in}
 use Rattle.hm_text_base.specs.Texts.{hex8}
 use Rattle.hm_text_base.proofs.NumberLaws.{word_found, word_again}
 use Rattle.hm_text_base.proofs.Steps.{and_then_some, some_is}
-use Rattle.hm_words.specs.Words.{most, most_planned, number_of, every_of, range_in, Source, source_of, Form, run, seq, dis, asm, soak, debug, journal, replay, plan, hex, kernel, two_names, run_form, seq_form, dis_form, asm_form, soak_form, debug_form, journal_form, replay_form, plan_form, hex_form, kernel_form, commands, form_in, form_of, IsRange, IsRun, IsSeq, IsDis, IsAsm, IsSoak, IsDebug, IsJournal, IsReplay, IsPlan, IsHex, IsKernel}
+use Rattle.hm_words.specs.Words.{most, most_planned, number_of, every_of, range_in, Source, source_of, Form, run, seq, dis, asm, soak, debug, journal, replay, migrate, plan, hex, kernel, two_names, run_form, seq_form, dis_form, asm_form, soak_form, debug_form, journal_form, replay_form, migrate_form, plan_form, hex_form, kernel_form, commands, form_in, form_of, IsRange, IsRun, IsSeq, IsDis, IsAsm, IsSoak, IsDebug, IsJournal, IsReplay, IsMigrate, IsPlan, IsHex, IsKernel}
 use Rattle.hm_words.proofs.Decimals.{map_some, number_of-is, number_of-decimal, every_of-is, every_of-decimal, source_of-word, source_of-is, range_in-is, range_in-again}
 
 -- ---- the command of a name
@@ -23,6 +23,7 @@ name_of (soak number) = codes "soak"
 name_of (debug image schedule script) = codes "debug"
 name_of (journal image schedule every out) = codes "journal"
 name_of (replay image schedule text tick) = codes "replay"
+name_of (migrate image schedule text out) = codes "migrate"
 name_of (plan image n out) = codes "plan"
 name_of (hex image out) = codes "hex"
 name_of (kernel source out) = codes "kernel"
@@ -103,6 +104,14 @@ asks_replay (x ∷ y ∷ z ∷ []) form h = absurd cc
 asks_replay (x ∷ y ∷ z ∷ w ∷ []) form h = (let s = and_then_some (source_of y) (λ s. option_map (replay x s z) (number_of most w)) form h in mapped (replay x s.0 z) (number_of most w) (codes "replay") form (λ n. refl) s.2)
 asks_replay (x ∷ y ∷ z ∷ w ∷ v ∷ words) form h = absurd cc
 
+asks_migrate : Asks (codes "migrate") migrate_form
+asks_migrate [] form h = absurd cc
+asks_migrate (x ∷ []) form h = absurd cc
+asks_migrate (x ∷ y ∷ []) form h = absurd cc
+asks_migrate (x ∷ y ∷ z ∷ []) form h = absurd cc
+asks_migrate (x ∷ y ∷ z ∷ w ∷ []) form h = mapped (λ s. migrate x s z w) (source_of y) (codes "migrate") form (λ s. refl) h
+asks_migrate (x ∷ y ∷ z ∷ w ∷ v ∷ words) form h = absurd cc
+
 asks_plan : Asks (codes "plan") plan_form
 asks_plan [] form h = absurd cc
 asks_plan (x ∷ []) form h = absurd cc
@@ -117,7 +126,7 @@ asks_kernel : Asks (codes "kernel") kernel_form
 asks_kernel = asks_two (codes "kernel") kernel (λ x y. refl)
 
 all_ask : AllAsk commands
-all_ask = (asks_run, (asks_seq, (asks_dis, (asks_asm, (asks_soak, (asks_debug, (asks_journal, (asks_replay, (asks_plan, (asks_hex, (asks_kernel, tt)))))))))))
+all_ask = (asks_run, (asks_seq, (asks_dis, (asks_asm, (asks_soak, (asks_debug, (asks_journal, (asks_replay, (asks_migrate, (asks_plan, (asks_hex, (asks_kernel, tt))))))))))))
 
 -- four words and no other number of them
 pub no_journal : {A : Type 0} (f : A → List ℕ) (words : List A) → length words ≢ 4 → journal_form (map f words) ≡ None
@@ -135,6 +144,14 @@ no_replay f (x ∷ y ∷ []) other = refl
 no_replay f (x ∷ y ∷ z ∷ []) other = refl
 no_replay f (x ∷ y ∷ z ∷ w ∷ []) other = absurd (other refl)
 no_replay f (x ∷ y ∷ z ∷ w ∷ v ∷ words) other = refl
+
+pub no_migrate : {A : Type 0} (f : A → List ℕ) (words : List A) → length words ≢ 4 → migrate_form (map f words) ≡ None
+no_migrate f [] other = refl
+no_migrate f (x ∷ []) other = refl
+no_migrate f (x ∷ y ∷ []) other = refl
+no_migrate f (x ∷ y ∷ z ∷ []) other = refl
+no_migrate f (x ∷ y ∷ z ∷ w ∷ []) other = absurd (other refl)
+no_migrate f (x ∷ y ∷ z ∷ w ∷ v ∷ words) other = refl
 
 -- words that ask for a form have its name in front, and the rest is read by its command
 record Asked (words : List (List ℕ)) (form : Form) : Type 0 where
@@ -330,6 +347,29 @@ pub form_of-is_replay : (words : List (List ℕ)) (image : List ℕ) (schedule :
 form_of-is_replay words image schedule text tick h =
     let found = asked words (replay image schedule text tick) h in
     subst (λ (w : List (List ℕ)). IsReplay w image schedule text tick) (sym found.words_are) (replay_words found.others image schedule text tick found.rest)
+
+-- ---- migrate
+
+pub form_of-migrate : (words : List (List ℕ)) (image : List ℕ) (schedule : Source) (text out : List ℕ) → IsMigrate words image schedule text out → form_of words ≡ Some (migrate image schedule text out)
+form_of-migrate words image schedule text out h = ap form_of h.words_are ∙ ap (option_map (λ s. migrate image s text out)) (source_of-word h.word schedule h.source)
+
+migrate_words : (words : List (List ℕ)) (image : List ℕ) (schedule : Source) (text out : List ℕ) → migrate_form words ≡ Some (migrate image schedule text out) → IsMigrate (codes "migrate" ∷ words) image schedule text out
+migrate_words [] image schedule text out h = absurd cc
+migrate_words (x ∷ []) image schedule text out h = absurd cc
+migrate_words (x ∷ y ∷ []) image schedule text out h = absurd cc
+migrate_words (x ∷ y ∷ z ∷ []) image schedule text out h = absurd cc
+migrate_words (x ∷ y ∷ z ∷ w ∷ []) image schedule text out h = (let s = map_some (λ s. migrate x s z w) (source_of y) (migrate image schedule text out) h in
+    let first : x ≡ image = cc in
+    let third : z ≡ text = cc in
+    let last : w ≡ out = cc in
+    let same : s.0 ≡ schedule = cc in
+    record { word = y; words_are = cc; source = source_of-is y schedule (s.1 ∙ ap (λ (q : Source). Some q) same) })
+migrate_words (x ∷ y ∷ z ∷ w ∷ v ∷ words) image schedule text out h = absurd cc
+
+pub form_of-is_migrate : (words : List (List ℕ)) (image : List ℕ) (schedule : Source) (text out : List ℕ) → form_of words ≡ Some (migrate image schedule text out) → IsMigrate words image schedule text out
+form_of-is_migrate words image schedule text out h =
+    let found = asked words (migrate image schedule text out) h in
+    subst (λ (w : List (List ℕ)). IsMigrate w image schedule text out) (sym found.words_are) (migrate_words found.others image schedule text out found.rest)
 
 -- ---- plan
 

@@ -5,7 +5,7 @@ use Rattle.hm_base.specs.Image.{flash_size}
 use Rattle.hm_text_base.specs.Numbers.{hex8_in, number_in, word_in}
 use Rattle.hm_text_base.specs.Texts.{hex8}
 use Rattle.hm_words.specs.declared.command.Command.{Command}
-use Rattle.hm_words.specs.declared.command.Command.TheVariants.{Run, Seq, Dis, Asm, Soak, Debug, Journal, Replay, Plan, Hex, Kernel}
+use Rattle.hm_words.specs.declared.command.Command.TheVariants.{Run, Seq, Dis, Asm, Soak, Debug, Journal, Replay, Migrate, Plan, Hex, Kernel}
 use Rattle.hm_words.specs.declared.command.Source.{Source as HeldSource}
 use Rattle.hm_words.specs.declared.command.Source.TheVariants.{Plain, File}
 
@@ -64,6 +64,7 @@ pub data Form : Type 0 where
   debug : (image : List ℕ) (schedule : Source) (script : List ℕ) → Form
   journal : (image : List ℕ) (schedule : Source) (every : ℕ) (out : List ℕ) → Form
   replay : (image : List ℕ) (schedule : Source) (journal : List ℕ) (tick : ℕ) → Form
+  migrate : (image : List ℕ) (schedule : Source) (journal out : List ℕ) → Form
   plan : (image : List ℕ) (count : ℕ) (out : List ℕ) → Form
   hex : (image out : List ℕ) → Form
   kernel : (source out : List ℕ) → Form
@@ -112,6 +113,11 @@ abbrev pub replay_form : List (List ℕ) → Option Form
 replay_form (image ∷ schedule ∷ text ∷ tick ∷ []) = option_and_then (λ s. option_map (replay image s text) (number_of most tick)) (source_of schedule)
 replay_form _ = None
 
+-- an image, a schedule, a journal and a file for the journal that is written
+abbrev pub migrate_form : List (List ℕ) → Option Form
+migrate_form (image ∷ schedule ∷ text ∷ out ∷ []) = option_map (λ s. migrate image s text out) (source_of schedule)
+migrate_form _ = None
+
 -- an image, a number of instructions and a file for the schedule
 abbrev pub plan_form : List (List ℕ) → Option Form
 plan_form (image ∷ count ∷ out ∷ []) = option_map (λ n. plan image n out) (number_of most_planned count)
@@ -129,8 +135,8 @@ kernel_form = two_names kernel
 abbrev pub commands : List (List ℕ × (List (List ℕ) → Option Form))
 commands =
     (codes "run", run_form) ∷ (codes "seq", seq_form) ∷ (codes "dis", dis_form) ∷ (codes "asm", asm_form) ∷ (codes "soak", soak_form)
-    ∷ (codes "debug", debug_form) ∷ (codes "journal", journal_form) ∷ (codes "replay", replay_form) ∷ (codes "plan", plan_form) ∷ (codes "hex", hex_form)
-    ∷ (codes "kernel", kernel_form) ∷ []
+    ∷ (codes "debug", debug_form) ∷ (codes "journal", journal_form) ∷ (codes "replay", replay_form) ∷ (codes "migrate", migrate_form) ∷ (codes "plan", plan_form)
+    ∷ (codes "hex", hex_form) ∷ (codes "kernel", kernel_form) ∷ []
 
 -- the command of a name among these
 abbrev pub form_in : List (List ℕ × (List (List ℕ) → Option Form)) → List ℕ → List (List ℕ) → Option Form
@@ -157,6 +163,7 @@ meant (Soak number) = soak number
 meant (Debug image schedule script) = debug image.now (source_meant schedule) script.now
 meant (Journal image schedule every out) = journal image.now (source_meant schedule) every.ticks out.now
 meant (Replay image schedule text tick) = replay image.now (source_meant schedule) text.now tick.count
+meant (Migrate image schedule text out) = migrate image.now (source_meant schedule) text.now out.now
 meant (Plan image n out) = plan image.now n.count out.now
 meant (Hex image out) = hex image.now out.now
 meant (Kernel source out) = kernel source.now out.now
@@ -176,6 +183,7 @@ reads_of (soak number) = []
 reads_of (debug image schedule script) = image ∷ (source_reads schedule ++ script ∷ [])
 reads_of (journal image schedule every out) = image ∷ source_reads schedule
 reads_of (replay image schedule text tick) = image ∷ (source_reads schedule ++ text ∷ [])
+reads_of (migrate image schedule text out) = image ∷ (source_reads schedule ++ text ∷ [])
 reads_of (plan image n out) = image ∷ []
 reads_of (hex image out) = image ∷ []
 reads_of (kernel source out) = source ∷ []
@@ -236,6 +244,12 @@ pub record IsReplay (words : List (List ℕ)) (image : List ℕ) (schedule : Sou
   pub words_are : words ≡ codes "replay" ∷ image ∷ word ∷ text ∷ decimal tick ∷ []
   pub source : IsSource word schedule
   pub few : tick ≤ most
+
+-- words that ask to check a journal against a run, and for the run's journal in the format of today, with a file for it
+pub record IsMigrate (words : List (List ℕ)) (image : List ℕ) (schedule : Source) (text out : List ℕ) : Type 0 where
+  pub word : List ℕ
+  pub words_are : words ≡ codes "migrate" ∷ image ∷ word ∷ text ∷ out ∷ []
+  pub source : IsSource word schedule
 
 -- words that ask for the dense schedule of n instructions, with a file for it
 pub record IsPlan (words : List (List ℕ)) (image : List ℕ) (n : ℕ) (out : List ℕ) : Type 0 where

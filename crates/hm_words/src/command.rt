@@ -63,6 +63,13 @@ pub enum Command<'a> {
         journal: &'a str,
         tick: Ticks,
     },
+    /// To check a journal against a run, and to write the run's journal, in the format of today, to a file.
+    Migrate {
+        image: &'a str,
+        schedule: Source<'a>,
+        journal: &'a str,
+        out: &'a str,
+    },
     /// To write the dense schedule of so many instructions to a file.
     Plan {
         image: &'a str,
@@ -157,6 +164,12 @@ impl<'a> Command<'a> {
                 ..
             } => run_reads(alloc, image, schedule),
             Command::Replay {
+                image,
+                schedule,
+                journal,
+                ..
+            } => run_reads_and(alloc, image, schedule, journal),
+            Command::Migrate {
                 image,
                 schedule,
                 journal,

@@ -1,7 +1,7 @@
 //! The words of a command, by position.
 
 ghost use Rattle.std.specs.Prelude.{◌≡◌, ℕ, List, option_map, map, string_bytes};
-ghost use Rattle.hm_words.specs.Words.{number_of, every_of, range_in, range_of, source_of, source_meant, run_form, seq_form, dis_form, asm_form, soak_form, debug_form, journal_form, replay_form, plan_form, hex_form, kernel_form, form_of, meant, most, most_planned};
+ghost use Rattle.hm_words.specs.Words.{number_of, every_of, range_in, range_of, source_of, source_meant, run_form, seq_form, dis_form, asm_form, soak_form, debug_form, journal_form, replay_form, migrate_form, plan_form, hex_form, kernel_form, form_of, meant, most, most_planned};
 
 use crate::command::{Command, Source};
 use crate::numbers::{Every, Planned, Range, Ticks};
@@ -196,6 +196,23 @@ fn replay_command<'a>(words: &'a [String]) -> Option<Command<'a>>
     }
 }
 
+fn migrate_command<'a>(words: &'a [String]) -> Option<Command<'a>>
+    ensures value { option_map meant result ≡ migrate_form (map string_bytes words.now) }
+{
+    match words {
+        [image, schedule, journal, out] => {
+            let schedule = read_source(schedule)?;
+            Some(Command::Migrate {
+                image,
+                schedule,
+                journal,
+                out,
+            })
+        }
+        _ => None,
+    }
+}
+
 fn plan_command<'a>(words: &'a [String]) -> Option<Command<'a>>
     ensures value { option_map meant result ≡ plan_form (map string_bytes words.now) }
 {
@@ -255,6 +272,9 @@ pub fn parse<'a>(words: &'a [String]) -> Option<Command<'a>>
     }
     if name == b"replay".as_slice() {
         return replay_command(others);
+    }
+    if name == b"migrate".as_slice() {
+        return migrate_command(others);
     }
     if name == b"plan".as_slice() {
         return plan_command(others);

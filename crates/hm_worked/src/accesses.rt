@@ -19,7 +19,7 @@ pub fn blank(alloc: Global, words: &mut SplitWhitespace<'_>) -> Result<Mem> {
         "no region"
     );
     ensure!(0x2000_0000 <= floor && floor <= 0x2004_0000, "no floor");
-    Ok(Mem::new(alloc, &Image::new(alloc), lo, hi, floor)?)
+    Ok(Mem::new(alloc, &Image::new(alloc), lo, hi, floor, floor)?)
 }
 
 /// Who accesses from now on: the thread, or a handler with its frame.

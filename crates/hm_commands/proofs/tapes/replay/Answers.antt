@@ -2,7 +2,7 @@ use Rattle.std.proofs.Common.{ℕ, [], List, Vec, Global, Err, get_or, map, subs
 use Rattle.std.proofs.lemmas.Result.{err_from_is_err_and}
 use Rattle.hm_journal.specs.Outcomes.{IsReadErr}
 use Rattle.hm_words.specs.Words.{source_meant}
-use Rattle.hm_commands.specs.Commands.{IsReplayOutcome, last_read}
+use Rattle.hm_commands.specs.Commands.{IsReplayOutcome, last_read, tick_outcome}
 use Rattle.hm_commands.specs.Images.{image_of}
 use Rattle.hm_commands.specs.Run.{schedule_in}
 use Rattle.hm_commands.proofs.RunInputs.{run_goes_on}
@@ -22,5 +22,5 @@ returns-in_err-journal c =
     record {
       outcome = λ listings are.
           rw p.1 (run_goes_on (image_of (get_or all 0 [])) (schedule_in source (get_or all 1 [])) input.image input.schedule (IsReplayOutcome listings text c.args.tick.count) (Err p.0) read.0 read.1
-          (journal_not_read listings text c.args.tick.count input.image input.schedule e p.0 fails p.2));
+          (journal_not_read listings text input.image input.schedule (λ j. tick_outcome listings input.image input.schedule c.args.tick.count) e p.0 fails p.2));
     }

@@ -1,5 +1,5 @@
 use Rattle.std.proofs.lemmas.Result.{err_from_is_err_and}
-use Rattle.hm_commands.proofs.Taping.{journal_refused, journal_written}
+use Rattle.hm_commands.proofs.Taping.{journal_refused, journal_comes}
 use Rattle.hm_commands.proofs.tapes.write.Goals as goal
 
 pub returns-in_err-bytes : goal.returns-in_err-bytes
@@ -19,5 +19,5 @@ returns c =
     let journal = c.in_ok-bytes.ensures in
     record {
       outcome = λ listings are.
-          journal_written listings c.args.every.ticks c.args.out.now image s c.in_ok-bytes.bytes.items tape.odd (journal.few image s tape.tapes) (journal.text image s (listings image) (are.at image) tape.tapes);
+          journal_comes listings c.args.every.ticks c.args.out.now image s c.in_ok-bytes.bytes.items tape.odd (journal.few image s tape.tapes) (journal.text image s (listings image) (are.at image) tape.tapes);
     }

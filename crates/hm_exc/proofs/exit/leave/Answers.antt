@@ -6,5 +6,8 @@ stacked-psr-requires-clause-fits c = c.requires.fits c.newest-x.result _ c.newes
 pub position-at-requires-clause-fits : goal.position-at-requires-clause-fits
 position-at-requires-clause-fits c = c.requires.fits c.newest-x.result _ c.newest-x.ensures.listed
 
+pub is_process-process-requires-clause-fits : goal.is_process-process-requires-clause-fits
+is_process-process-requires-clause-fits c = c.requires.fits c.newest-x.result _ c.newest-x.ensures.listed
+
 pub restored-requires-clause-fits : goal.restored-requires-clause-fits
 restored-requires-clause-fits c = c.requires.fits c.newest-x.result _ c.newest-x.ensures.listed

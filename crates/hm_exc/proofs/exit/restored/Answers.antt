@@ -35,6 +35,7 @@ returns c =
       value = λ i. record {
         r = c.core_registers.ensures.value i;
         sp = c.stack_above.ensures.value i;
+        other = c.other_pointer.ensures.value i;
         lr = lr i;
         pc = pc i;
         n = n i;
@@ -48,6 +49,8 @@ returns c =
         qw = c.vectors.ensures.value i;
         fpca = c.requires.fits.form i;
         primask = c.requires.same.1.primask i;
+        spsel = c.requires.selected i;
+        basepri = c.requires.same.1.basepri i;
         ipsr = number i;
       };
     }

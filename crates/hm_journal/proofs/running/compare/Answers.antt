@@ -1,4 +1,4 @@
-use Rattle.std.proofs.Common.{ap, subst, ◌∙◌, List, map, IfErr, OnOk}
+use Rattle.std.proofs.Common.{ap, subst, List, map, IfErr, OnOk}
 use Rattle.hm_base.specs.Image.{Segment, flash_byte}
 use Rattle.hm_codes.specs.Listing.{Listing, IsListing}
 use Rattle.hm_machine.specs.Taped.{Tapes}
@@ -10,10 +10,14 @@ use Rattle.hm_journal.proofs.running.compare.Goals as goal
 
 pub returns-clause-same : goal.returns-clause-same
 returns-clause-same c =
-    subst (λ (xs : List ReportAt). OnOk c.compare_all.result ((image : List Segment) (s : Sched) (listing : Listing) → IsListing (flash_byte image) listing → Tapes image s c.args.tape.now → AreOfRun listing image s xs))
-    (ap (map checkpoint_of) c.deref.ensures.value ∙ ap (λ (j : Journaled). j.checkpoints) c.j.view_is) c.compare_all.ensures.same
+    subst (λ (j : Journaled). OnOk c.compare_all.result ((image : List Segment) (s : Sched) (listing : Listing) → IsListing (flash_byte image) listing → Tapes image s c.args.tape.now → AreOfRun listing image s j.format j.checkpoints))
+    c.j.view_is
+    (subst (λ (xs : List ReportAt). OnOk c.compare_all.result ((image : List Segment) (s : Sched) (listing : Listing) → IsListing (flash_byte image) listing → Tapes image s c.args.tape.now → AreOfRun listing image s c.j.inside.format xs))
+    (ap (map checkpoint_of) c.deref.ensures.value) c.compare_all.ensures.same)
 
 pub returns-clause-refused : goal.returns-clause-refused
 returns-clause-refused c =
-    subst (λ (xs : List ReportAt). IfErr c.compare_all.result (λ e. (image : List Segment) (s : Sched) (listing : Listing) → IsListing (flash_byte image) listing → Tapes image s c.args.tape.now → IsCompareErr listing image s xs e))
-    (ap (map checkpoint_of) c.deref.ensures.value ∙ ap (λ (j : Journaled). j.checkpoints) c.j.view_is) c.compare_all.ensures.refused
+    subst (λ (j : Journaled). IfErr c.compare_all.result (λ e. (image : List Segment) (s : Sched) (listing : Listing) → IsListing (flash_byte image) listing → Tapes image s c.args.tape.now → IsCompareErr listing image s j.format j.checkpoints e))
+    c.j.view_is
+    (subst (λ (xs : List ReportAt). IfErr c.compare_all.result (λ e. (image : List Segment) (s : Sched) (listing : Listing) → IsListing (flash_byte image) listing → Tapes image s c.args.tape.now → IsCompareErr listing image s c.j.inside.format xs e))
+    (ap (map checkpoint_of) c.deref.ensures.value) c.compare_all.ensures.refused)

@@ -29,12 +29,12 @@ loop-x-preserved c = record {
       let then_tapes = subst (λ (w : Taped). Tapes image s w) (sym c.loop-x.invariant.stays) tapes in
       let told = c.in_ok-is_of_run.ensures.told image s listing is then_tapes in
       let here = item_at checkpoint_of xs xs c.loop-x.x-index c.x-item.result c.loop-x-test.true refl c.x-item.is in
-      below_more (λ (k : ℕ). (x : ReportAt) → slice_get (map checkpoint_of xs) k ≡ Some x → IsOfRun listing image s x) c.loop-x.x-index
+      below_more (λ (k : ℕ). (x : ReportAt) → slice_get (map checkpoint_of xs) k ≡ Some x → IsOfRun listing image s c.args.format x) c.loop-x.x-index
       (λ k less x at. c.loop-x.invariant.before image s listing is tapes k x less at)
       (λ x at.
       let same : Some x ≡ Some (checkpoint_of c.x-item.result) = sym at ∙ here in
       let one : x ≡ checkpoint_of c.x-item.result = cc in
-      subst (IsOfRun listing image s) (sym one) (told.0 c.if-not-branch.false)) k less x at;
+      subst (IsOfRun listing image s c.args.format) (sym one) (told.0 c.if-not-branch.false)) k less x at;
 }
 
 pub returns-clause-same : goal.returns-clause-same

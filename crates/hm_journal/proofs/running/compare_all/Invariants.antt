@@ -12,5 +12,5 @@ abbrev pub invariant-loop-x : goal.invariant-loop-x
 invariant-loop-x l = record {
   stays : l.tape ≡ l.fn.tape;
   before : (image : List Segment) (s : Sched) (listing : Listing) → IsListing (flash_byte image) listing → Tapes image s l.fn.tape
-      → (k : ℕ) (x : ReportAt) → k < l.x-index → slice_get (map checkpoint_of l.checkpoints) k ≡ Some x → IsOfRun listing image s x;
+      → (k : ℕ) (x : ReportAt) → k < l.x-index → slice_get (map checkpoint_of l.checkpoints) k ≡ Some x → IsOfRun listing image s l.format x;
 }

@@ -1,7 +1,7 @@
 use Rattle.std.proofs.Common.{◌∙◌, ℕ, suc, ◌+◌, ◌<◌, ◌≤◌, drop, length, ap, sym, arith, add-one}
 use Rattle.hm_machine.specs.Machines.{left_in}
 use Rattle.hm_machine.proofs.Cursors.{begins, left_new, still_here, used_up, none_left}
-use Rattle.hm_sched.specs.Schedule.{line_of, ticks_of}
+use Rattle.hm_sched.specs.Schedule.{line_of, ticks_of, most_irq}
 use Rattle.hm_machine.proofs.cursor.after_tick.Goals as goal
 
 pub returns-then-cursor-count-clause-left : goal.returns-then-cursor-count-clause-left
@@ -18,7 +18,7 @@ returns-then-cursor-lines-clause-left c =
 pub returns-then-cursor-lines-clause-stands : goal.returns-then-cursor-lines-clause-stands
 returns-then-cursor-lines-clause-stands c =
     let inside : c.args.cursor.line + 1 < length c.args.schedule.now.lines = omega (arith, c.if-cursor-lines.true, c.lines-lines.ensures.count) in
-    begins c.args.schedule.now.lines (c.args.cursor.line + 1) inside c.lines-lines.ensures.sound.each_line
+    begins (most_irq c.args.schedule.now.format) c.args.schedule.now.lines (c.args.cursor.line + 1) inside c.lines-lines.ensures.sound.each_line
 
 pub returns-clause-none : goal.returns-clause-none
 returns-clause-none c =

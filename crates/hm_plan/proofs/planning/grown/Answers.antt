@@ -5,7 +5,7 @@ use Rattle.hm_codes.specs.Listing.{Listing, IsListing}
 use Rattle.hm_machine.specs.Bares.{IsBare}
 use Rattle.hm_machine.specs.Shown.{Shown, timed_of}
 use Rattle.hm_mem.specs.Memory.{flash_at}
-use Rattle.hm_plan.proofs.Growing.{all_lined, first_stands, next_stands, next_ticks}
+use Rattle.hm_plan.proofs.Growing.{all_lined, first_stands, next_stands, next_ticks, nothing_lined}
 use Rattle.hm_plan_laws.proofs.Loops.{few}
 use Rattle.hm_plan_laws.proofs.Plans.{is_below}
 use Rattle.hm_plan_laws.specs.Planned.{bare, bare_program, is_over, plan_line}
@@ -142,7 +142,13 @@ finish-requires-clause-room c =
     let small = c.requires.few in
     omega (arith, count, most, small)
 
--- THE END
+-- THE END, at once
+pub returns-then-is_over-clause-planned : goal.returns-then-is_over-clause-planned
+returns-then-is_over-clause-planned c = λ listing is.
+    let over : is_over c.args.n (timed_of c.in_ok-machine.machine) ≡ true = sym c.is_over.ensures.value ∙ c.if-is_over.true in
+    nothing_lined listing c.args.image.now c.args.n c.begin-schedule.result (timed_of c.in_ok-machine.machine) (c.in_ok-machine.ensures.shows.now listing is) over c.begin-schedule.ensures.made
+
+-- or behind the last tick
 pub returns-clause-planned : goal.returns-clause-planned
 returns-clause-planned c = λ listing is.
     let lines = c.loop-machine.lines in

@@ -1,4 +1,4 @@
-use Rattle.std.proofs.Common.{arith, rules}
+use Rattle.std.proofs.Common.{rules}
 use Rattle.hm_sched.proofs.LineSteps.{next_none, next_unended, next_some}
 use Rattle.hm_sched.proofs.reading.next_line.Goals as goal
 

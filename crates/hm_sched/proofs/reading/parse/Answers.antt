@@ -1,4 +1,4 @@
-use Rattle.std.proofs.Common.{Ok, Result, subst}
+use Rattle.std.proofs.Common.{Result, subst}
 use Rattle.hm_sched.specs.declared.errors.SchedErr.{SchedErr}
 use Rattle.hm_sched.specs.Schedule.{Sched}
 use Rattle.hm_sched.specs.ReadFile.{Gives}

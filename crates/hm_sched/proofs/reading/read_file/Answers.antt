@@ -1,29 +1,53 @@
-use Rattle.std.proofs.Common.{◌≡◌, Some, arith, rules}
-use Rattle.hm_sched.specs.ReadFile.{region_in, floor_in}
-use Rattle.hm_sched.proofs.FileLaws.{region_found, floor_found}
+use Rattle.std.proofs.Common.{◌≡◌, Some, rules}
+use Rattle.hm_text_base.specs.Spans.{lines_of}
+use Rattle.hm_sched.specs.Schedule.{IsFormat}
+use Rattle.hm_sched.specs.ReadFile.{header_in, region_in, floor_in}
+use Rattle.hm_sched.proofs.FileLaws.{Within, IsFloor, ProcessFound, header_found, region_found, floor_found, process_from_found}
 use Rattle.hm_sched.proofs.reading.read_file.Goals as goal
 
-pub begin-requires-clause-region_start : goal.begin-requires-clause-region_start
-begin-requires-clause-region_start c =
-    let e : region_in c.in_ok-third.third.now ≡ Some (c.in_ok-lo.lo, c.in_ok-lo.hi) = search rules in
-    (region_found c.in_ok-third.third.now (c.in_ok-lo.lo, c.in_ok-lo.hi) e).1.low
+-- what the lines of the head say
+module _ (c : goal.After-rest-5-1) where
+  known : IsFormat c.in_ok-format.format
+  known =
+      let e : header_in c.in_ok-first.first.now ≡ Some c.in_ok-format.format = search rules in
+      (header_found c.in_ok-first.first.now c.in_ok-format.format e).1
 
-pub begin-requires-clause-region_order : goal.begin-requires-clause-region_order
-begin-requires-clause-region_order c =
-    let e : region_in c.in_ok-third.third.now ≡ Some (c.in_ok-lo.lo, c.in_ok-lo.hi) = search rules in
-    (region_found c.in_ok-third.third.now (c.in_ok-lo.lo, c.in_ok-lo.hi) e).1.order
+  region : Within c.in_ok-lo.lo c.in_ok-lo.hi
+  region =
+      let e : region_in c.in_ok-third.third.now ≡ Some (c.in_ok-lo.lo, c.in_ok-lo.hi) = search rules in
+      (region_found c.in_ok-third.third.now (c.in_ok-lo.lo, c.in_ok-lo.hi) e).1
 
-pub begin-requires-clause-region_end : goal.begin-requires-clause-region_end
-begin-requires-clause-region_end c =
-    let e : region_in c.in_ok-third.third.now ≡ Some (c.in_ok-lo.lo, c.in_ok-lo.hi) = search rules in
-    (region_found c.in_ok-third.third.now (c.in_ok-lo.lo, c.in_ok-lo.hi) e).1.high
+  floor : IsFloor c.in_ok-floor.floor
+  floor =
+      let e : floor_in c.in_ok-fourth.fourth.now ≡ Some c.in_ok-floor.floor = search rules in
+      (floor_found c.in_ok-fourth.fourth.now c.in_ok-floor.floor e).1
 
-pub begin-requires-clause-floor_start : goal.begin-requires-clause-floor_start
-begin-requires-clause-floor_start c =
-    let e : floor_in c.in_ok-fourth.fourth.now ≡ Some c.in_ok-floor.floor = search rules in
-    (floor_found c.in_ok-fourth.fourth.now c.in_ok-floor.floor e).1
+  process : ProcessFound c.in_ok-format.format c.in_ok-floor.floor (lines_of c.in_ok-fourth.rest.now) (c.in_ok-process.process, lines_of c.in_ok-process.rest.now)
+  process = process_from_found c.in_ok-format.format c.in_ok-floor.floor (lines_of c.in_ok-fourth.rest.now) (c.in_ok-process.process, lines_of c.in_ok-process.rest.now) known floor c.in_ok-process.ensures
 
-pub begin-requires-clause-floor_end : goal.begin-requires-clause-floor_end
-begin-requires-clause-floor_end c =
-    let e : floor_in c.in_ok-fourth.fourth.now ≡ Some c.in_ok-floor.floor = search rules in
-    (floor_found c.in_ok-fourth.fourth.now c.in_ok-floor.floor e).2
+pub of_format-requires-clause-known : goal.of_format-requires-clause-known
+of_format-requires-clause-known c = known c
+
+pub of_format-requires-clause-region_start : goal.of_format-requires-clause-region_start
+of_format-requires-clause-region_start c = (region c).low
+
+pub of_format-requires-clause-region_order : goal.of_format-requires-clause-region_order
+of_format-requires-clause-region_order c = (region c).order
+
+pub of_format-requires-clause-region_end : goal.of_format-requires-clause-region_end
+of_format-requires-clause-region_end c = (region c).high
+
+pub of_format-requires-clause-floor_start : goal.of_format-requires-clause-floor_start
+of_format-requires-clause-floor_start c = (floor c).low
+
+pub of_format-requires-clause-floor_end : goal.of_format-requires-clause-floor_end
+of_format-requires-clause-floor_end c = (floor c).high
+
+pub of_format-requires-clause-process_start : goal.of_format-requires-clause-process_start
+of_format-requires-clause-process_start c = (process c).fits.low
+
+pub of_format-requires-clause-process_end : goal.of_format-requires-clause-process_end
+of_format-requires-clause-process_end c = (process c).fits.high
+
+pub of_format-requires-clause-one_floor : goal.of_format-requires-clause-one_floor
+of_format-requires-clause-one_floor c = (process c).one_floor

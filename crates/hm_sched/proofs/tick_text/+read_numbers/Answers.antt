@@ -1,23 +1,19 @@
-use Rattle.std.proofs.Common.{◌≡◌, ◌^◌, ◌*◌, ◌%◌, sym, rules, arith}
-use Rattle.std.proofs.lemmas.Nat.{one_shl}
-use Rattle.hm_sched.proofs.TickSteps.{numbers_split, bits_below, no_parts, more_parts}
-use Rattle.hm_sched.specs.ReadLine.{numbers_in}
+use Rattle.std.proofs.Common.{rules, arith}
+use Rattle.hm_sched.specs.Words.{number_of}
+use Rattle.hm_sched.proofs.TickSteps.{numbers_end, numbers_step, bits_under, bits_below}
 use Rattle.hm_sched.proofs.tick_text.+read_numbers.Goals as goal
 
+pub with_bit-bits-requires-clause-above : goal.with_bit-bits-requires-clause-above
+with_bit-bits-requires-clause-above t c = bits_under c.args.least (number_of c.args.bits.now) c.in_ok-n.n c.requires.earlier c.if-n-least.false
+
 pub read_numbers-requires : goal.read_numbers-requires
-read_numbers-requires t c =
-    let e = one_shl c.in_ok-n.n 32 c.if-n-ge32.false in
-    (search rules, (omega arith, rw e (bits_below c.args.least c.args.bits c.in_ok-n.n c.requires.earlier c.if-n-least.false)))
+read_numbers-requires t c = (search rules, (c.requires.eight, (omega arith, rw c.with_bit-bits.ensures.value (bits_below c.args.least (number_of c.args.bits.now) c.in_ok-n.n c.requires.earlier c.if-n-least.false))))
 
 pub returns-in-empty : goal.returns-in-empty
-unfolding numbers_in
 returns-in-empty t c =
-    let e = one_shl c.in_ok-n.n 32 c.if-n-ge32.false in
-    rw e (grind (arith, numbers_split c.args.least c.args.bits c.args.words.now, no_parts))
+    rw c.with_bit-bits.ensures.value (numbers_end c.args.most c.args.least (number_of c.args.bits.now) c.in_ok-n.n c.args.words.now c.span.result.0.now c.span.result.1.now c.span.ensures.parts (search rules) c.if-n-least.false c.if-n-most.false c.in-empty.len_below)
 
 pub returns-in-len1-up : goal.returns-in-len1-up
-unfolding numbers_in
 returns-in-len1-up t c =
-    let e = one_shl c.in_ok-n.n 32 c.if-n-ge32.false in
-    let n = c.read_numbers.ensures in
-    grind (arith, e, n, numbers_split c.args.least c.args.bits c.args.words.now, more_parts)
+    rw (numbers_step c.args.most c.args.least (number_of c.args.bits.now) c.in_ok-n.n c.args.words.now c.span.result.0.now c.span.result.1.now c.span.ensures.parts (search rules) c.if-n-least.false c.if-n-most.false c.in-len1-up.len_at_least, ← c.with_bit-bits.ensures.value)
+    c.read_numbers.ensures

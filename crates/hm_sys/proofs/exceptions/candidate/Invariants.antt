@@ -1,5 +1,5 @@
-use Rattle.hm_sys.specs.Best.{IsBest}
+use Rattle.hm_sys.specs.Best.{IsBest, end_of}
 use Rattle.hm_sys.proofs.exceptions.candidate.Given as goal
 
-abbrev pub invariant-loop-e : goal.invariant-loop-e
-invariant-loop-e l = IsBest l.d l.current l.e l.best
+abbrev pub invariant-loop-k : goal.invariant-loop-k
+invariant-loop-k l = IsBest l.d l.current (end_of l.k) l.best

@@ -1,4 +1,4 @@
-use Rattle.hm_words.proofs.Forms.{form_of-run, form_of-is_run, form_of-seq, form_of-is_seq, form_of-dis, form_of-is_dis, form_of-asm, form_of-is_asm, form_of-soak, form_of-is_soak, form_of-debug, form_of-is_debug, form_of-journal, form_of-is_journal, form_of-replay, form_of-is_replay, form_of-plan, form_of-is_plan, form_of-hex, form_of-is_hex, form_of-kernel, form_of-is_kernel}
+use Rattle.hm_words.proofs.Forms.{form_of-run, form_of-is_run, form_of-seq, form_of-is_seq, form_of-dis, form_of-is_dis, form_of-asm, form_of-is_asm, form_of-soak, form_of-is_soak, form_of-debug, form_of-is_debug, form_of-journal, form_of-is_journal, form_of-replay, form_of-is_replay, form_of-migrate, form_of-is_migrate, form_of-plan, form_of-is_plan, form_of-hex, form_of-is_hex, form_of-kernel, form_of-is_kernel}
 use Rattle.hm_words.proofs.laws.words_of_commands.Goals as goal
 
 pub returns-clause-runs : goal.returns-clause-runs
@@ -24,6 +24,9 @@ returns-clause-journals c = λ words image out schedule every. (form_of-is_journ
 
 pub returns-clause-replays : goal.returns-clause-replays
 returns-clause-replays c = λ words image text schedule tick. (form_of-is_replay words image schedule text tick, form_of-replay words image schedule text tick)
+
+pub returns-clause-migrations : goal.returns-clause-migrations
+returns-clause-migrations c = λ words image text out schedule. (form_of-is_migrate words image schedule text out, form_of-migrate words image schedule text out)
 
 pub returns-clause-plans : goal.returns-clause-plans
 returns-clause-plans c = λ words image out n. (form_of-is_plan words image n out, form_of-plan words image n out)

@@ -17,7 +17,7 @@ use Rattle.hm_mem.specs.Memory.{flash_at, memory_of}
 use Rattle.hm_plan_laws.specs.Planned.{bare, bare_program}
 use Rattle.hm_run.specs.declared.Outcome.{Outcome}
 use Rattle.hm_run.specs.Timed.{Timed, tick}
-use Rattle.hm_sched.specs.Schedule.{TickLine, Sched}
+use Rattle.hm_sched.specs.Schedule.{TickLine, Sched, no_irq}
 use Rattle.hm_machine.proofs.machine.Machine.extend.Goals as goal
 
 -- a machine that has ended
@@ -31,7 +31,7 @@ invariant_of-self-in-None c =
     let inside = c.self.inside in
     let running : inside.outcome ≡ None = c.in_default.is in
     let s = inside.schedule in
-    let line : TickLine = record { count = 1; letters = c.args.letters.now; irq = 0 } in
+    let line : TickLine = record { count = 1; letters = c.args.letters.now; irq = no_irq } in
     let before = run_with None (nested_of inside.cpu) inside.ticks [] in
     let there = exists (flash_at (memory_of inside.cpu.mem)) in
     let plan : s ≡ bare [] = ap (λ (v : Shown). v.schedule) c.self.view_is ∙ c.requires.bare.plan in
@@ -94,7 +94,7 @@ returns-in-None-clause-shows c image given line letters irq h =
 pub returns-in-None-clause-bare : goal.returns-in-None-clause-bare
 returns-in-None-clause-bare c =
     let there = exists (flash_at c.args.self.now.memory) in
-    let line : TickLine = record { count = 1; letters = c.args.letters.now; irq = 0 } in
+    let line : TickLine = record { count = 1; letters = c.args.letters.now; irq = no_irq } in
     let made = c.requires.bare.made in
     record {
       plan = ap (λ (v : Shown). v.schedule) c.self.view_is ∙ c.requires.bare.plan;
@@ -122,7 +122,7 @@ returns-in-Some-tick-clause-shows c image given line letters irq h =
 pub returns-in-Some-tick-clause-bare : goal.returns-in-Some-tick-clause-bare
 returns-in-Some-tick-clause-bare c =
     let there = exists (flash_at c.args.self.now.memory) in
-    let line : TickLine = record { count = 1; letters = c.args.letters.now; irq = 0 } in
+    let line : TickLine = record { count = 1; letters = c.args.letters.now; irq = no_irq } in
     let made = c.requires.bare.made in
     record {
       plan = ap (λ (v : Shown). v.schedule) c.self.view_is ∙ c.requires.bare.plan;

@@ -1,0 +1,39 @@
+-- A text without the first of its lines that is the system's, as a loop finds it.
+use Rattle.std.proofs.Common.{◌≡◌, ℕ, zero, suc, ◌+◌, ◌-◌, ◌<◌, ◌==◌, Bool, true, false, ◌&&◌, nat_eq, arith, ap, refl, sym, ◌∙◌, List, [], ◌∷◌, ◌++◌, drop, get_or, length, take, add-one}
+use Rattle.std.proofs.lemmas.List.{take_rest}
+use Rattle.hm_text_base.specs.Spans.{span}
+use Rattle.hm_journal.specs.Formats.{behind_line, is_system, without}
+
+-- where none begins, the byte there stays
+pub goes_on : (begins : Bool) (xs : List ℕ) (at : ℕ) → at < length xs → (begins && is_system (drop at xs)) ≡ false
+    → take at xs ++ without begins (drop at xs) ≡ take (at + 1) xs ++ without (nat_eq (get_or xs at 0) 10) (drop (at + 1) xs)
+goes_on begins xs at less none = rw (add-one at) (next begins xs at less none)
+  where
+    next : (begins : Bool) (xs : List ℕ) (at : ℕ) → at < length xs → (begins && is_system (drop at xs)) ≡ false
+        → take at xs ++ without begins (drop at xs) ≡ take (suc at) xs ++ without (nat_eq (get_or xs at 0) 10) (drop (suc at) xs)
+    next begins [] at less none = absurd (omega (arith, less))
+    next begins (x ∷ xs) zero less none = rw none refl
+    next begins (x ∷ xs) (suc at) less none = ap (λ l. x ∷ l) (next begins xs at (omega (arith, less)) none)
+
+-- where one begins, what stands behind it is left
+pub stops : (begins : Bool) (ys : List ℕ) → (begins && is_system ys) ≡ true → without begins ys ≡ behind_line ys
+stops begins [] here = refl
+stops begins (y ∷ ys) here = rw here refl
+
+-- the first end of a line is the first byte 10
+pub behind_is : (bs : List ℕ) → behind_line bs ≡ drop 1 (span 10 bs).1
+unfolding span
+behind_is [] = refl
+behind_is (b ∷ bs) = by_byte (b == 10) refl (behind_is bs)
+  where
+    by_byte : (t : Bool) → (b == 10) ≡ t → behind_line bs ≡ drop 1 (span 10 bs).1 → behind_line (b ∷ bs) ≡ drop 1 (span 10 (b ∷ bs)).1
+    by_byte true is more = rw is refl
+    by_byte false is more = rw is more
+
+-- the same of what was cut there, with a first byte or with none
+pub behind_all : (bs rest : List ℕ) → rest ≡ (span 10 bs).1 → length rest ≡ 0 → rest ≡ behind_line bs
+behind_all bs [] is none = ap (drop 1) is ∙ sym (behind_is bs)
+behind_all bs (b ∷ rest) is none = absurd (omega (arith, none))
+
+pub behind_first : (bs rest : List ℕ) → rest ≡ (span 10 bs).1 → take (length rest - 1) (drop 1 rest) ≡ behind_line bs
+behind_first bs rest is = take_rest rest 1 ∙ ap (drop 1) is ∙ sym (behind_is bs)
