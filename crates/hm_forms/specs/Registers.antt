@@ -101,29 +101,21 @@ abbrev pub placed_tests : Bool → List Bool → List Bool
 placed_tests odd (t ∷ ts) = cond odd false t ∷ cond odd t false ∷ placed_tests odd ts
 placed_tests odd [] = []
 
--- the halves of words, the lower one first
-abbrev pub halves_of : List ℕ → List ℕ
-halves_of l = flat_map (λ (x : ℕ). x % 2 ^ 16 ∷ x / 2 ^ 16 ∷ []) l
-
--- wide elements, each narrowed to one of half the size, and those that saturate
-abbrev pub narrowed_result : V16 → Size → Size → List ℕ → State → List ℕ
-narrowed_result r wide small xs s = unlanes small (placed (nat_eq r.t.value 1) (elements small r.d.value s) (map (narrowed r.name wide small) xs))
+-- the wide elements of the operand, each narrowed to one of half the size
+abbrev pub narrowed_result : V16 → Size → Size → State → List ℕ
+narrowed_result r wide small s = unlanes small (placed (nat_eq r.t.value 1) (elements small r.d.value s) (map (narrowed r.name wide small) (elements wide r.m.value s)))
 
 -- V16: the 16 new bytes of VMOVN, VQMOVN and VQMOVUN (DDI0553, "VMOVN", "VQMOVN" and "VQMOVUN")
 abbrev pub narrow_result : V16 → State → List ℕ
-narrow_result r s =
-    let xs = words_at r.m.value s in
-    cond (nat_eq r.z.value 1) (narrowed_result r Word Half xs s) (narrowed_result r Half Byte (halves_of xs) s)
+narrow_result r s = cond (nat_eq r.z.value 1) (narrowed_result r Word Half s) (narrowed_result r Half Byte s)
 
--- V16: where wide elements are outside the range of narrow ones, at the lowest byte of each narrow one
-abbrev pub narrowed_tests : V16 → Size → Size → List ℕ → List Bool
-narrowed_tests r wide small xs = spread small (placed_tests (nat_eq r.t.value 1) (map (narrow_outside r.name wide small) xs))
+-- where wide elements of the operand are outside the range of narrow ones, at the lowest byte of each narrow one
+abbrev pub narrowed_tests : V16 → Size → Size → State → List Bool
+narrowed_tests r wide small s = spread small (placed_tests (nat_eq r.t.value 1) (map (narrow_outside r.name wide small) (elements wide r.m.value s)))
 
--- V16: where elements of the operand are outside the range of narrow ones, at the lowest byte of each narrow one
+-- V16: where elements saturate, at the lowest byte of each narrow one
 abbrev pub narrow_saturated : V16 → State → List Bool
-narrow_saturated r s =
-    let xs = words_at r.m.value s in
-    cond (nat_eq r.z.value 1) (narrowed_tests r Word Half xs) (narrowed_tests r Half Byte (halves_of xs))
+narrow_saturated r s = cond (nat_eq r.z.value 1) (narrowed_tests r Word Half s) (narrowed_tests r Half Byte s)
 
 -- V16: VMOVN, VQMOVN and VQMOVUN as a whole, with QC (DDI0553, "VMOVN", "VQMOVN" and "VQMOVUN")
 abbrev pub narrow_whole : V16 → State → State
@@ -220,12 +212,17 @@ abbrev pub eights : List ℕ → List ℕ
 eights (a ∷ b ∷ c ∷ d ∷ e ∷ f ∷ g ∷ h ∷ l) = h ∷ g ∷ f ∷ e ∷ d ∷ c ∷ b ∷ a ∷ eights l
 eights l = l
 
--- elements in reverse within groups of 64, 32 or 16 bits
+-- elements in reverse within groups of 64, 32 or 16 bits; a group of one element stays, and no row has elements that are longer than a group
 abbrev pub in_groups : ReverseName → Size → List ℕ → List ℕ
-in_groups rev.Rev64 Byte = eights
-in_groups rev.Rev64 Half = fours
-in_groups rev.Rev32 Byte = fours
-in_groups name z = exchanged
+in_groups rev.Rev64 Byte l = eights l
+in_groups rev.Rev64 Half l = fours l
+in_groups rev.Rev64 Word l = exchanged l
+in_groups rev.Rev32 Byte l = fours l
+in_groups rev.Rev32 Half l = exchanged l
+in_groups rev.Rev32 Word l = l
+in_groups rev.Rev16 Byte l = exchanged l
+in_groups rev.Rev16 Half l = l
+in_groups rev.Rev16 Word l = l
 
 -- V14: the 16 new bytes of VREV64, VREV32 and VREV16 (DDI0553, "VREV64", "VREV32" and "VREV16")
 abbrev pub reversed_result : V14 → State → List ℕ
