@@ -10,6 +10,9 @@ returns-clause-rows c = moves_laws
 pub returns-clause-keeps_lr : goal.returns-clause-keeps_lr
 returns-clause-keeps_lr c = λ i x is spares. moves_keep_lr i is x spares
 
+pub returns-clause-words : goal.returns-clause-words
+returns-clause-words c = λ t. moves_laws (moves_by t) (move_is t)
+
 pub returns-clause-ways : goal.returns-clause-ways
 returns-clause-ways c = transfer_laws
 
