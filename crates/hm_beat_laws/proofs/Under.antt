@@ -1,0 +1,121 @@
+-- The whole of a form under 16 truth values in place of the predicate, by what it writes and whether it marks QC.
+use Rattle.std.proofs.Common.{ℕ, ◌+◌, ◌*◌, ◌/◌, ◌%◌, ◌^◌, Bool, false, ◌&&◌, cond, eqb, nat_eq, List, [], ◌∷◌, ◌++◌, map}
+use Rattle.hm_base.specs.declared.Place.TheVariants.{R, Carry}
+use Rattle.hm_isa.specs.declared.vectors.V8.{V8}
+use Rattle.hm_isa.specs.declared.vectors.V17.{V17}
+use Rattle.hm_isa.specs.declared.vectors.V23.{V23}
+use Rattle.hm_lane.specs.declared.lanes.Size.TheVariants.{Word}
+use Rattle.hm_lane.specs.Lanes.{firsts, merged, modulus, per_word, unlanes}
+use Rattle.hm_regs.specs.Writes.{write}
+use Rattle.hm_state.specs.State.{Cell, State, Value, at, into}
+use Rattle.hm_beat.specs.Rows.{predicate_at, register_at, write_register}
+use Rattle.hm_lane_fns.specs.LaneFns.{cut, number, saturates}
+use Rattle.hm_lane_fns.specs.Words.{any_both, size_of}
+use Rattle.hm_forms.specs.declared.long_sums.LongSums.{LongSums}
+use Rattle.hm_forms.specs.declared.offsets.Steps.{Steps}
+use Rattle.hm_forms.specs.declared.sums.Sums.{Sums}
+use Rattle.hm_forms.specs.declared.form.Form.{Form}
+use Rattle.hm_forms.specs.declared.form.Form.TheVariants as form
+use Rattle.hm_forms.specs.Forms.{added, begins, best, long_term, narrow_saturates, offset_after, offsets_from, shift_of, subtracts, term_of}
+use Rattle.hm_forms.specs.Registers.{bits_from, constant_result, elements, flags_from, lanes_result, lanes_saturated, longer_result, narrow_result, narrow_saturated, reversed_result, round_at, saturating, shifted_from, sums_from, turned_result, wide_result, words_at}
+use Rattle.hm_rows.specs.Rows.{Registers}
+use Rattle.hm_beat_laws.specs.Exceptions.{from_beat, gives_registers}
+use Rattle.hm_beat_laws.specs.Parts.{belongs, part_of}
+
+-- THE WHOLE UNDER ANY PREDICATE: 16 truth values in place of those of the state
+-- a register merges 16 bytes under these truth values
+abbrev pub merges_under : List Bool → ℕ → List ℕ → State → List (Cell × Value)
+merges_under ps d result s = write_register d (merged ps (register_at d s) result)
+
+-- V8: what VADC, VADCI, VSBC and VSBCI write under these truth values (DDI0553, "VADC" and "VSBC")
+abbrev pub carry_under : List Bool → V8 → State → List (Cell × Value)
+carry_under ps r s =
+    let start = cond (begins r.name) (cond (subtracts r.name) 2 0) (at Carry s) in
+    let active = firsts Word ps in
+    let result = unlanes Word (sums_from r.name active (words_at r.n.value s) (words_at r.m.value s) start) in
+    let flags = flags_from r.name active (words_at r.n.value s) (words_at r.m.value s) start in
+    into (write Carry flags) ∷ merges_under ps r.d.value result s
+
+-- V17: what VSHLC writes under these truth values (DDI0553, "VSHLC")
+abbrev pub shift_under : List Bool → V17 → State → List (Cell × Value)
+shift_under ps r s =
+    let place = R r.m.value in
+    let active = firsts Word ps in
+    let result = unlanes Word (shifted_from (shift_of r) active (words_at r.d.value s) (at place s)) in
+    let bits = bits_from (shift_of r) active (words_at r.d.value s) (at place s) in
+    into (write place bits) ∷ merges_under ps r.d.value result s
+
+-- V19: what VIDUP, VIWDUP, VDDUP and VDWDUP write under these truth values (DDI0553, "VIDUP, VIWDUP" and "VDDUP, VDWDUP")
+abbrev pub offsets_under : List Bool → Steps → State → List (Cell × Value)
+offsets_under ps r s =
+    let place = R (2 * r.n.value) in
+    let count = 4 * per_word r.z in
+    let result = unlanes r.z (offsets_from r (round_at r.round s) count (at place s)) in
+    let next = offset_after r (round_at r.round s) count (at place s) in
+    merges_under ps r.d.value result s ++ (into (write place next) ∷ [])
+
+-- V22: what VADDV and VMLADAV write under these truth values (DDI0553, "VADDV" and "VMLADAV")
+abbrev pub sum_under : List Bool → Sums → State → List (Cell × Value)
+sum_under ps r s =
+    let place = R (2 * r.l.value) in
+    let start = cond r.goes_on (at place s) 0 in
+    let sum = added (2 ^ 32) (term_of r) (firsts r.z ps) (elements r.z r.n.value s) (elements r.z r.m.value s) start in
+    into (write place sum) ∷ []
+
+-- V22: what VADDLV and VMLALDAV write under these truth values (DDI0553, "VADDLV" and "VMLALDAV")
+abbrev pub long_under : List Bool → LongSums → State → List (Cell × Value)
+long_under ps r s =
+    let low = R (2 * r.l.value) in
+    let high = R (2 * r.h.value + 1) in
+    let start = cond r.goes_on (at low s + 2 ^ 32 * at high s) 0 in
+    let sum = added (2 ^ 64) (long_term r) (firsts r.z ps) (elements r.z r.n.value s) (elements r.z r.m.value s) start in
+    into (write low (sum % 2 ^ 32)) ∷ into (write high (sum / 2 ^ 32)) ∷ []
+
+-- V23: what VMAXV and VMINV write under these truth values (DDI0553, "VMAXV" and "VMINV")
+abbrev pub extreme_under : List Bool → V23 → State → List (Cell × Value)
+extreme_under ps r s =
+    let z = size_of r.z.value in
+    let u = nat_eq r.u.value 1 in
+    let place = R r.t.value in
+    let extreme = best r.name (firsts z ps) (map (number u z) (elements z r.m.value s)) (number u z (at place s % modulus z)) in
+    into (write place (cut Word extreme)) ∷ []
+
+-- what a form writes under these truth values, beside P0 and the masks
+abbrev pub writes_under : List Bool → Form → State → List (Cell × Value)
+writes_under ps (form.Lanes l) s = merges_under ps l.d.value (lanes_result l s) s
+writes_under ps (form.Constant r) s = merges_under ps r.d.value (constant_result r s) s
+writes_under ps (form.Narrow r) s = merges_under ps r.d.value (narrow_result r s) s
+writes_under ps (form.Carry r) s = carry_under ps r s
+writes_under ps (form.Shift r) s = shift_under ps r s
+writes_under ps (form.Offsets r) s = offsets_under ps r s
+writes_under ps (form.Sum r) s = sum_under ps r s
+writes_under ps (form.Long r) s = long_under ps r s
+writes_under ps (form.Extreme r) s = extreme_under ps r s
+writes_under ps (form.Wide r) s = merges_under ps r.d.value (wide_result r (size_of r.z.value) s) s
+writes_under ps (form.Longer r) s = merges_under ps r.d.value (longer_result r s) s
+writes_under ps (form.Turned r) s = merges_under ps r.d.value (turned_result r s) s
+writes_under ps (form.Reversed r) s = merges_under ps r.d.value (reversed_result r s) s
+writes_under ps f s = []
+
+-- whether it sets QC
+abbrev pub marks_under : List Bool → Form → State → Bool
+marks_under ps (form.Lanes l) s = saturates l.f && any_both ps (lanes_saturated l s)
+marks_under ps (form.Narrow r) s = narrow_saturates r.name && any_both ps (narrow_saturated r s)
+marks_under ps f s = false
+
+abbrev pub whole_under : List Bool → Form → State → State
+whole_under ps f s = saturating (marks_under ps f s) (writes_under ps f s) s
+
+-- ONE WORD
+-- of truth values for the bytes from number k on those of word b, and false for the others
+abbrev pub alone_from : ℕ → ℕ → List Bool → List Bool
+alone_from b k [] = []
+alone_from b k (p ∷ ps) = (eqb (k / 4) b && p) ∷ alone_from b (k + 1) ps
+
+-- the predicate of word b alone
+abbrev pub alone : ℕ → State → List Bool
+alone b s = alone_from b 0 (predicate_at s)
+
+-- the part of word b alone
+abbrev pub part_under : Form → ℕ → State → State
+part_under f b s = part_of (belongs (gives_registers (Registers f) b) b) (whole_under (alone b s) (from_beat b f) s) s
