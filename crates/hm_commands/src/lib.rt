@@ -13,5 +13,8 @@ mod work;
 
 pub use hm_words::words_of_commands;
 pub use laws::{effect_law, hex_run_law, kernel_file_law, listings_exist};
+pub use outside::read_all;
 pub use status::Status;
-pub use top::helium;
+pub use tapes::{RunInput, read_run};
+pub use top::{carry_out, conclude, helium, refuse};
+pub use work::{Finish, Output, Refusal, Stop};

@@ -58,7 +58,11 @@ fn last_of<'a>(schedule: &Source<'_>, contents: &'a [Vec<u8>]) -> &'a [u8]
 }
 
 /// An image and a schedule, from the contents of the files that were read.
-fn read_run(alloc: Global, schedule: &Source<'_>, contents: &[Vec<u8>]) -> Result<RunInput, Stop>
+pub fn read_run(
+    alloc: Global,
+    schedule: &Source<'_>,
+    contents: &[Vec<u8>],
+) -> Result<RunInput, Stop>
     requires each { 1 + length (source_reads (source_meant schedule.now)) ≤ length contents.now }
     requires short { All (λ bytes. length bytes.items ≤ longest) contents.now }
     ensures input { let all = map (λ bytes. bytes.items) contents.now in GivesRun (image_of (get_or all 0 [])) (schedule_in (source_meant schedule.now) (get_or all 1 [])) result }

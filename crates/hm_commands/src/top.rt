@@ -32,7 +32,7 @@ fn failure(e: HostErr) -> Status
 }
 
 /// Writes the file, prints the text, and ends with the status.
-fn carry_out<H: Host>(
+pub fn carry_out<H: Host>(
     alloc: Global,
     status: Status,
     file: &Option<Output<'_>>,
@@ -81,7 +81,7 @@ fn say_usage<H: Host>(alloc: Global, host: &mut H) -> Status
 }
 
 /// Says why a command is refused.
-fn refuse<H: Host>(alloc: Global, why: Refusal, host: &mut H) -> Status
+pub fn refuse<H: Host>(alloc: Global, why: Refusal, host: &mut H) -> Status
     ensures effect { Carries (effect_for (refuses why)) (H.state host.old) (H.state host.new) result }
     ensures calls { MakesCalls (calls_for (effect_for (refuses why))) (H.state host.old).calls (H.state host.new).calls (way_of result) }
 {
@@ -92,7 +92,7 @@ fn refuse<H: Host>(alloc: Global, why: Refusal, host: &mut H) -> Status
 }
 
 /// Does what a command comes to.
-fn conclude<H: Host>(alloc: Global, outcome: Result<Finish<'_>, Stop>, host: &mut H) -> Status
+pub fn conclude<H: Host>(alloc: Global, outcome: Result<Finish<'_>, Stop>, host: &mut H) -> Status
     ensures effect { (o : Outcome) → Gives o outcome.entry → Carries (effect_for o) (H.state host.old) (H.state host.new) result }
     ensures calls { (o : Outcome) → Gives o outcome.entry → MakesCalls (calls_for (effect_for o)) (H.state host.old).calls (H.state host.new).calls (way_of result) }
     ensures spent { (o : Outcome) → Gives o outcome.entry → result ≡ Status.NoMemory → StaysOrMakesAll (calls_for (effect_for o)) (H.state host.old) (H.state host.new) }

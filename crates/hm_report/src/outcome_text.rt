@@ -11,7 +11,8 @@ use hm_text_base::{decimal, hex8, text};
 use hm_window::Rule;
 use std::alloc::Global;
 
-fn kind_text(kind: FaultKind) -> &'static [u8]
+/// The word for a kind of fault.
+pub fn kind_text(kind: FaultKind) -> &'static [u8]
     ensures { result.now ≡ kind_text kind }
 {
     match kind {
@@ -28,7 +29,8 @@ fn kind_text(kind: FaultKind) -> &'static [u8]
     }
 }
 
-fn who_text(who: Who) -> &'static [u8]
+/// The word for whose fault it is.
+pub fn who_text(who: Who) -> &'static [u8]
     ensures { result.now ≡ who_text who }
 {
     match who {
@@ -38,7 +40,8 @@ fn who_text(who: Who) -> &'static [u8]
     }
 }
 
-fn reason_text(alloc: Global, out: &mut Vec<u8>, reason: Reason) -> Result<(), OutOfMemory>
+/// Adds why a program halts.
+pub fn reason_text(alloc: Global, out: &mut Vec<u8>, reason: Reason) -> Result<(), OutOfMemory>
     ensures { IfOk result (λ _. out.new.items ≡ reason_text reason out.old.items) }
 {
     match reason {
@@ -107,7 +110,8 @@ fn place_text(alloc: Global, out: &mut Vec<u8>, place: Place) -> Result<(), OutO
     }
 }
 
-fn slot_text(alloc: Global, out: &mut Vec<u8>, slot: Slot) -> Result<(), OutOfMemory>
+/// Adds the name of what a handler has to leave as it was.
+pub fn slot_text(alloc: Global, out: &mut Vec<u8>, slot: Slot) -> Result<(), OutOfMemory>
     ensures { IfOk result (λ _. out.new.items ≡ slot_text slot out.old.items) }
 {
     match slot {

@@ -17,7 +17,7 @@ use arrayvec::ArrayVec;
 pub use errors::{LineKind, SchedErr};
 use hm_base::SRAM_START;
 pub use laws::file_law;
-pub use printing::print;
+pub use printing::{print, print_tick};
 pub use reading::parse;
 use std::alloc::Global;
 use std::marker::Model;

@@ -6,7 +6,7 @@ ghost use Rattle.hm_text_base.specs.Spans.{line};
 ghost use Rattle.hm_sched.specs.Words.{number_of};
 ghost use Rattle.hm_sched.specs.Schedule.{line_of};
 ghost use Rattle.hm_sched.specs.Written.{ticks_text, irq_text, header_text, entries_text, region_text, floor_text, process_lines, head_lines, IsFile};
-ghost use Rattle.hm_sched.specs.Printed.{ones_from, printed, file_text};
+ghost use Rattle.hm_sched.specs.Printed.{ones_from, printed, tick_text, file_text};
 
 use crate::{Line, Schedule};
 use hm_base::OutOfMemory;
@@ -45,6 +45,18 @@ fn add_irq(alloc: Global, out: &mut Vec<u8>, irq: &[u32; 8]) -> Result<(), OutOf
     Ok(())
 }
 
+/// Adds what each tick of a line does: its letters, or `-` where there is none, and its interrupts.
+pub fn print_tick(alloc: Global, out: &mut Vec<u8>, ticks: &Line) -> Result<(), OutOfMemory>
+    ensures added { IfOk result (λ _. out.new.items ≡ out.old.items ++ tick_text (line_of ticks.now)) }
+{
+    if ticks.letters.is_empty() {
+        text(out, b"-")?;
+    } else {
+        text(out, ticks.letters.as_slice())?;
+    }
+    add_irq(alloc, out, &ticks.irq)
+}
+
 /// Adds a line of ticks.
 fn add_line(alloc: Global, out: &mut Vec<u8>, ticks: &Line) -> Result<(), OutOfMemory>
     ensures { IfOk result (λ _. out.new.items ≡ out.old.items ++ line (ticks_text (printed (line_of ticks.now)))) }
@@ -53,12 +65,7 @@ fn add_line(alloc: Global, out: &mut Vec<u8>, ticks: &Line) -> Result<(), OutOfM
         decimal(alloc, out, ticks.count as u64)?;
         text(out, b"*")?;
     }
-    if ticks.letters.is_empty() {
-        text(out, b"-")?;
-    } else {
-        text(out, ticks.letters.as_slice())?;
-    }
-    add_irq(alloc, out, &ticks.irq)?;
+    print_tick(alloc, out, ticks)?;
     text(out, b"\n")
 }
 

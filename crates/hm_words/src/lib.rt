@@ -9,4 +9,4 @@ mod words;
 pub use command::{Command, Source};
 pub use laws::words_of_commands;
 pub use numbers::{Every, Planned, Range, Ticks};
-pub use words::parse;
+pub use words::{parse, read_source};

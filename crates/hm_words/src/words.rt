@@ -51,7 +51,7 @@ fn read_planned(word: &[u8]) -> Option<Planned>
 }
 
 /// The schedule of a run: `plain:N`, or the name of a file.
-fn read_source(word: &str) -> Option<Source<'_>>
+pub fn read_source(word: &str) -> Option<Source<'_>>
     ensures value { option_map source_meant result ≡ source_of word.now }
 {
     match word.as_bytes().strip_prefix(b"plain:") {
