@@ -38,14 +38,14 @@ state_at_start image s m sp pc regs output flash bytes clean devices around esp 
     ∙ started image m (bounds_of s) bytes clean devices around
 
 -- before the first tick
-begun : (left : List TickLine) (x : Run) (o : Option Outcome) → x.outcome ≡ None
+pub begun : (left : List TickLine) (x : Run) (o : Option Outcome) → x.outcome ≡ None
     → (0 < length left → o ≡ None) → (length left ≡ 0 → o ≡ Some outcome.OutOfTicks)
     → Comes o x.machine x.ticks (closed left x)
 begun [] x o none some out =
     subst (λ (r : Run). Comes o x.machine x.ticks r) (sym (closed_out [] x none refl)) (ap (λ (q : Option Outcome). run_with q x.machine x.ticks x.entries) (out refl))
 begun (l ∷ left) x o none some out = let e = some (omega arith) in ap (λ (q : Option Outcome). record x { outcome = q }) (e ∙ sym none)
 
-first_left : (lines : List TickLine) (o : Option Outcome) → o ≡ None → left_while o (left_in (drop 0 lines) 0) ≡ drop 0 (ticks_of lines)
+pub first_left : (lines : List TickLine) (o : Option Outcome) → o ≡ None → left_while o (left_in (drop 0 lines) 0) ≡ drop 0 (ticks_of lines)
 first_left lines o none = ap (λ (q : Option Outcome). left_while q (left_in lines 0)) none ∙ left_new lines
 
 pub shows_start : (image : List Segment) (s : Sched) (m : Memory) (sp pc : ℕ) (regs : Regs) (output : List ℕ) (acts : List Activation) (o : Option Outcome)

@@ -9,3 +9,5 @@ pub mod Tapes
 pub mod TapeLending
 pub mod Bares
 pub mod Trials
+pub mod Starts
+pub mod Halves

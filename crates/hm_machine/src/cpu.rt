@@ -16,10 +16,10 @@ ghost use Rattle.hm_thumb.specs.Families.{is_vector_row};
 ghost use Rattle.hm_thumb.specs.Rows.{made};
 ghost use Rattle.hm_whole.specs.Whole.{executed as executed_by, scalar_in_machine};
 
+use crate::recent::Recent;
 use crate::service::breakpoint;
 use hm_base::Stop;
 use hm_beat::BeatWise;
-use hm_decode::fetch;
 use hm_exc::Acts;
 use hm_exec::{any, refuse};
 use hm_isa::{Flow, Instr, Scalar, Vector};
@@ -40,6 +40,8 @@ pub struct Cpu {
     pub acts: Acts,
     pub retired: u64,
     pub older_steps: u64,
+    /// What was decoded of late; no run depends on it.
+    pub recent: Recent,
 }
 
 /// What comes before the next beat of a vector instruction of which some are done: before the first the context is made
@@ -230,7 +232,7 @@ pub fn older(x: &mut Cpu) -> Result<(), Cause>
     ensures kept { Keeps x.old x.new }
     ensures count { CountsOne x.old x.new }
 {
-    match fetch(&x.mem, x.regs.pc) {
+    match x.recent.fetch(&x.mem, x.regs.pc) {
         Ok(i) => step(&i, x),
         Err(fault) => Err(Cause::Stop(Stop::Fault(fault))),
     }
@@ -247,11 +249,11 @@ fn as_vector(i: &Instr) -> Option<Vector>
 }
 
 /// The vector instruction that stands at an address, where one does.
-pub fn vector_at(mem: &Mem, addr: u32) -> Option<Vector>
+pub fn vector_at(recent: &Recent, mem: &Mem, addr: u32) -> Option<Vector>
     ensures row { (listing : Listing) → IsListing (flash_at (memory_of mem.now)) listing → result ≡ vector_of (listing addr) }
     ensures room { IsSome result → addr + 4 < 2 ^ 32 }
 {
-    match fetch(mem, addr) {
+    match recent.fetched(mem, addr) {
         Ok(i) => as_vector(&i),
         Err(_) => None,
     }

@@ -1,6 +1,6 @@
 //! The machine.
 
-ghost use Rattle.std.specs.Prelude.{◌≡◌, ℕ, suc, ◌+◌, ◌-◌, ◌<◌, ◌≤◌, ◌↔◌, ◌%◌, List, [], ◌∷◌, ◌++◌, length, drop, None, Some, IsSome, IfOk, IfErr, IfNone, IfSome, IsTrue};
+ghost use Rattle.std.specs.Prelude.{◌≡◌, ℕ, suc, ◌+◌, ◌-◌, ◌<◌, ◌≤◌, ◌↔◌, ◌%◌, List, [], ◌∷◌, ◌++◌, length, drop, reverse, None, Some, IsSome, IfOk, IfErr, IfNone, IfSome, OnSome, IsTrue};
 ghost use Rattle.hm_base.specs.Image.{Segment, flash_byte};
 ghost use Rattle.hm_codes.specs.Listing.{Listing, IsListing, Stands};
 ghost use Rattle.hm_isa.specs.declared.Instr.{Instr};
@@ -17,7 +17,7 @@ ghost use Rattle.hm_handlers.specs.Taint.{TaintLies};
 ghost use Rattle.hm_plan_laws.specs.Planned.{bare, bare_program};
 ghost use Rattle.hm_position.specs.Position.{StandsInOrder};
 ghost use Rattle.hm_run.specs.Timed.{tick};
-ghost use Rattle.hm_sched.specs.Schedule.{Sched, TickLine, plain, ticks_of, most_ticks, no_irq};
+ghost use Rattle.hm_sched.specs.Schedule.{Sched, TickLine, line_of, plain, ticks_of, most_ticks, no_irq, IsSched};
 ghost use Rattle.hm_state.specs.Start.{reset_pc};
 ghost use Rattle.hm_state.specs.State.{Byte, regs_of};
 
@@ -27,16 +27,18 @@ use crate::cursor::{Cursor, after_tick, line_at};
 use crate::load::{LoadErr, flash_word};
 use crate::memory_text::memory_text;
 use crate::ready::ready;
+use crate::recent::Recent;
 use crate::service::OUTPUT;
+use crate::start::Start;
 use crate::tick::tick;
 use hm_base::{Image, OutOfMemory, SRAM_START};
 use hm_decode::fetch;
-use hm_exc::Acts;
+use hm_exc::{Activation, Acts};
 use hm_isa::Instr;
 use hm_mem::{Mem, Still};
 use hm_regs::Regs;
 use hm_run::{Outcome, Turn};
-use hm_sched::Schedule;
+use hm_sched::{Line, Schedule};
 use hm_window::Window;
 use std::alloc::Global;
 use std::marker::Model;
@@ -68,7 +70,9 @@ fn first_outcome(schedule: &Schedule) -> Option<Outcome>
     ensures none { 0 < length (ticks_of schedule.now.lines) → result ≡ None }
     ensures out { length (ticks_of schedule.now.lines) ≡ 0 → result ≡ Some Outcome.OutOfTicks }
     ensures most { length (ticks_of schedule.now.lines) ≤ most_ticks }
+    ensures sound { IsSched schedule.now }
 {
+    let _known = schedule.lines();
     if schedule.ticks() == 0 {
         Some(Outcome::OutOfTicks)
     } else {
@@ -78,6 +82,7 @@ fn first_outcome(schedule: &Schedule) -> Option<Outcome>
 
 impl Machine {
     ghost use Rattle.hm_machine.specs.Checkpoints.{IsKept, at_checkpoint};
+    ghost use Rattle.hm_machine.specs.Starts.{IsStart, SameHead};
 
     /// The machine after a reset to this image, at the start of this schedule. It takes all the memory that the run needs.
     /// LoadErr::Reset exactly where bit 0 of the word at 4 is 0 (DDI0553, "Reset": the address of the first instruction).
@@ -111,6 +116,7 @@ impl Machine {
                 acts: Acts::new(),
                 retired: 0,
                 older_steps: 0,
+                recent: Recent::new(alloc)?,
             },
             schedule: s,
             cursor: Cursor { line: 0, used: 0 },
@@ -285,7 +291,8 @@ impl Machine {
         if self.outcome.is_some() {
             return false;
         }
-        ready(&self.cpu.regs, self.cpu.window, &mut self.cpu.mem)
+        let at = self.cpu.window;
+        ready(&self.cpu.recent, &self.cpu.regs, at, &mut self.cpu.mem)
     }
 
     /// Does one tick of these letters, of a machine that `bare` made. An ended machine answers as by `tick`. It takes no memory.
@@ -418,11 +425,56 @@ impl Machine {
         self.outcome = c.outcome;
     }
 
+    /// Its start, where it is. OutOfMemory where memory for it was refused.
+    pub fn start(&self, alloc: Global) -> Result<Start, OutOfMemory>
+        ensures start { IfOk result (λ x. (image : List Segment) (s : Sched) → Shows image s 0 self.now → IsStart image s x) }
+    {
+        let mut checkpoint = self.checkpoint(alloc)?;
+        // kept as over, so that it says nothing of the ticks that are left
+        checkpoint.outcome = Some(Outcome::OutOfTicks);
+        Ok(Start { checkpoint })
+    }
+
+    /// Puts it back to the start of a run of its image, under another schedule that says the same beside its ticks. It takes no memory.
+    pub fn again(&mut self, start: &Start, s: Schedule)
+        requires start { (image : List Segment) × (t u : Sched) × (k : ℕ) × IsStart image t start.now × Shows image u k self.old × SameHead t s × SameHead u s }
+        ensures shows { (image : List Segment) (t u : Sched) (k : ℕ) → IsStart image t start.now → Shows image u k self.old → SameHead t s → SameHead u s
+            → Shows image s 0 self.new }
+    {
+        self.back(&start.checkpoint, &[]);
+        self.cursor = Cursor { line: 0, used: 0 };
+        self.outcome = first_outcome(&s);
+        self.schedule = s;
+    }
+
     /// A copy of what the program wrote. OutOfMemory where memory for it was refused.
     pub(crate) fn copied_output(&self, alloc: Global) -> Result<Vec<u8>, OutOfMemory>
         ensures value { IfOk result (λ v. v.items ≡ self.now.output) }
     {
         copied(alloc, &self.cpu.output)
+    }
+
+    /// What the next tick does; None where this one is the last, or no ticks are given.
+    pub fn next_line(&self) -> Option<&Line>
+        ensures runs { OnSome result (self.now.outcome ≡ None) }
+        ensures first { IfSome result (λ line. self.now.left ≡ line_of line.now ∷ drop 1 self.now.left) }
+        ensures none { IfNone result (self.now.outcome ≡ None → self.now.schedule.lines ≡ []) }
+    {
+        if let Some(_outcome) = self.outcome {
+            return None;
+        }
+        if self.schedule.lines() == 0 {
+            return None;
+        }
+        Some(line_at(&self.schedule, self.cursor))
+    }
+
+    /// What the entries of the exceptions that are active put away, the oldest first.
+    pub fn active(&self) -> &[Activation]
+        ensures value { reverse result.now ≡ (timed_of self.now).acts }
+        ensures count { length result.now ≡ length (timed_of self.now).acts }
+    {
+        self.cpu.acts.as_slice()
     }
 
     // How many exceptions are active.

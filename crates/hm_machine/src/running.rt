@@ -19,7 +19,6 @@ use crate::cpu::{Cpu, execute, older, vector_at, vector_step};
 use crate::step_ends::{LetterEnd, StepEnd};
 use crate::younger::younger;
 use hm_base::Stop;
-use hm_decode::fetch;
 use hm_exc::leave;
 use hm_isa::{Flow, Instr, Vector};
 use hm_run::{Cause, Offence};
@@ -143,7 +142,7 @@ fn handler_older(x: &mut Cpu) -> Result<(), LetterEnd>
     ensures position { OnOk result (IsPosition x.new) }
     ensures count { CountsOne x.old x.new }
 {
-    match fetch(&x.mem, x.regs.pc) {
+    match x.recent.fetch(&x.mem, x.regs.pc) {
         Ok(i) => handler_step(&i, x),
         Err(fault) => Err(stop_of(Cause::Stop(Stop::Fault(fault)))),
     }
@@ -194,7 +193,7 @@ fn steps_left(x: &Cpu) -> u8
         → result ≡ steps_left (vector_of (listing x.now.regs.pc)) x.now.window.a }
     ensures few { result ≤ 4 }
 {
-    match vector_at(&x.mem, x.regs.pc) {
+    match vector_at(&x.recent, &x.mem, x.regs.pc) {
         Some(_) => 4 - x.window.a,
         None => 1,
     }

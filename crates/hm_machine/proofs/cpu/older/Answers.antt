@@ -13,3 +13,6 @@ pub returns-in-Err-clause-value : goal.returns-in-Err-clause-value
 returns-in-Err-clause-value c listing is =
     let x = c.args.x.now in
     none_stands listing x c.in-Err.fault (listed_here listing (flash_at (memory_of x.mem)) x.regs.pc (Err c.in-Err.fault) is c.in-Err.ensures)
+
+pub returns-in-Ok-clause-kept : goal.returns-in-Ok-clause-kept
+returns-in-Ok-clause-kept c = let kept = c.step.ensures.kept in record { memory = kept.memory; position = kept.position; room = kept.room; acts = kept.acts }

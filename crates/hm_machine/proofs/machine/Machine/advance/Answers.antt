@@ -2,6 +2,7 @@ use Rattle.std.proofs.Common.{◌≡◌, ◌<◌, suc, arith, ap, refl, sym, ◌
 use Rattle.hm_codes.proofs.Exists.{exists}
 use Rattle.hm_machine.proofs.Bares.{stands_there}
 use Rattle.hm_handlers.specs.Runs.{Run, next}
+use Rattle.hm_machine.proofs.Keeping.{moved_bounds}
 use Rattle.hm_machine.proofs.Runs.{comes_ended, comes_on, comes_out, comes_sound}
 use Rattle.hm_machine.proofs.Ticks.{some_left}
 use Rattle.hm_machine.specs.Cpus.{nested_of}
@@ -91,6 +92,7 @@ invariant_of-self-in-Some-after_tick c =
     let steps = c.self.invariant.steps in
     record {
       capacity = c.in-None.ensures.moves.room ∙ c.self.invariant.capacity;
+      bounds = moved_bounds c.in-None.ensures.moves ∙ c.self.invariant.bounds;
       sound = λ none. comes_sound there.0 s (line ∷ drop 1 left) before (nested_of c.tick.new.x) (inside.ticks + 1) (λ on. c.self.invariant.sound running)
           (comes_on there.0 s line (drop 1 left) before refl (nested_of c.tick.new.x) (inside.ticks + 1) more did);
       position = λ none. c.in-None.ensures.position refl;

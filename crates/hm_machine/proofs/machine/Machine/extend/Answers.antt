@@ -5,7 +5,7 @@ use Rattle.hm_exc.specs.Entry.{newest_first}
 use Rattle.hm_handlers.specs.Runs.{Run, run, shown, tick_of}
 use Rattle.hm_handlers.specs.Sound.{IsSound}
 use Rattle.hm_machine.proofs.Bares.{ended_still, given_more, given_on, given_then, no_left, one_of, sound_given, still_none}
-use Rattle.hm_machine.proofs.Keeping.{moved_flash}
+use Rattle.hm_machine.proofs.Keeping.{moved_bounds, moved_flash}
 use Rattle.hm_machine.proofs.Runs.{comes_on, comes_sound}
 use Rattle.hm_machine.specs.Bares.{IsBare}
 use Rattle.hm_machine.specs.Cpus.{IsSoundUnder, nested_of}
@@ -44,6 +44,7 @@ invariant_of-self-in-None c =
     let steps = c.self.invariant.steps in
     record {
       capacity = c.in-None.ensures.moves.room ∙ c.self.invariant.capacity;
+      bounds = moved_bounds c.in-None.ensures.moves ∙ c.self.invariant.bounds;
       sound = λ on. comes_sound there.0 s (line ∷ line ∷ []) before (nested_of c.tick.new.x) (inside.ticks + 1) (λ still. c.self.invariant.sound running)
           (comes_on there.0 s line (line ∷ []) before refl (nested_of c.tick.new.x) (inside.ticks + 1) (omega arith) did);
       position = λ on. c.in-None.ensures.position refl;

@@ -1,14 +1,19 @@
-use Rattle.std.proofs.Common.{arith, ap, inl}
+use Rattle.std.proofs.Common.{◌≡◌, arith, ap, inl}
 use Rattle.std.specs.Prelude.{reverse}
 use Rattle.hm_machine.proofs.Loads.{first_stands, first_length, running_ticks, shows_start, sound_start, odd_pc}
 use Rattle.hm_machine.proofs.Plain.{shown_order, shown_position, shown_taint}
-use Rattle.hm_mem.specs.Memory.{memory_of}
+use Rattle.hm_mem.specs.Memory.{Around, memory_of, thread_under}
+use Rattle.hm_run.specs.Timed.{bounds_of}
 use Rattle.hm_sched.specs.Schedule.{most_irq}
 use Rattle.hm_machine.proofs.machine.Machine.load.Goals as goal
 
 pub invariant_of-result : goal.invariant_of-result
 invariant_of-result c = record {
   capacity = c.in_ok-output.ensures.exact;
+  bounds =
+      let around : (memory_of c.in_ok-mem.mem).around ≡ thread_under (bounds_of c.args.s) =
+      rw (← c.region-lo.ensures.start, ← c.region-lo.ensures.end, ← c.floor.ensures.value, ← c.process.ensures.value) c.in_ok-mem.ensures.around in
+      ap (λ (x : Around). x.bounds) around;
   sound = λ none. sound_start c.args.image.now c.args.s (memory_of c.in_ok-mem.mem) c.flash_word-sp.result c.flash_word-pc.result c.start.result c.in_ok-output.output.items _
       c.in_ok-mem.ensures.flash c.in_ok-mem.ensures.bytes c.in_ok-mem.ensures.clean c.in_ok-mem.ensures.devices (rw (← c.region-lo.ensures.start, ← c.region-lo.ensures.end, ← c.floor.ensures.value, ← c.process.ensures.value) c.in_ok-mem.ensures.around)
       c.flash_word-sp.ensures c.flash_word-pc.ensures c.start.ensures c.in_ok-output.ensures.items (ap reverse c.new-2.ensures);

@@ -19,6 +19,7 @@ invariant_of-self c =
     let few = c.self.invariant.few in
     record {
       capacity = c.self.invariant.capacity;
+      bounds = c.self.invariant.bounds;
       position = λ on. (omega arith, omega arith, λ some. absurd (omega arith));
       sound = λ on. subst (λ (v : Shown). IsSound v.schedule (run_of v []).machine) (sym c.self.view_is)
           (subst (λ (s : Sched). IsSound s (run_of c.args.self.now []).machine) (sym shows.plan) (first_sound image c.args.self.now shows));
