@@ -1,0 +1,6 @@
+pub mod Words
+pub mod Room
+pub mod Turns
+pub mod Counting
+pub mod Letters
+pub mod Cutting

@@ -1,0 +1,5 @@
+use Rattle.hm_shake_runs.proofs.Cutting.{cut_same}
+use Rattle.hm_shake_runs.proofs.laws.cut_law.Goals as goal
+
+pub returns : goal.returns
+returns c = record { same = λ image listing h xs. cut_same listing image h xs }

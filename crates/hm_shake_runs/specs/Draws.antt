@@ -1,0 +1,19 @@
+-- NUMBERS THAT ARE DRAWN, each from the one before.
+use Rattle.std.specs.Prelude.{ℕ, zero, suc, ◌+◌, ◌*◌, ◌/◌, ◌%◌, ◌^◌}
+
+-- the draw behind a draw
+abbrev pub draw : ℕ → ℕ
+draw x = (1664525 * x + 1013904223) % 2 ^ 32
+
+-- what stands after n draws
+abbrev pub drawn : ℕ → ℕ → ℕ
+drawn zero x = x
+drawn (suc n) x = drawn n (draw x)
+
+-- what is drawn from in a run, by the seed and its number
+abbrev pub first : ℕ → ℕ → ℕ
+first seed run = draw ((draw seed + 2654435769 * run) % 2 ^ 32)
+
+-- a number below n, by a draw
+abbrev pub part : ℕ → ℕ → ℕ
+part x n = x * n / 2 ^ 32

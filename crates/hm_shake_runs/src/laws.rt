@@ -1,0 +1,39 @@
+//! Laws of the definitions. The functions do nothing, and their clauses are what is proved.
+
+ghost use Rattle.std.specs.Prelude.{◌≡◌, ◌≢◌, ℕ, List, Some};
+ghost use Rattle.hm_base.specs.Image.{Segment};
+ghost use Rattle.hm_codes.specs.Listing.{Listing};
+ghost use Rattle.hm_handlers.specs.Runs.{run_out, shown_out};
+ghost use Rattle.hm_run.specs.Report.{report_text};
+ghost use Rattle.hm_run.specs.declared.Outcome.TheVariants.{Halted, RuleBroken};
+ghost use Rattle.hm_run.specs.declared.Reason.{Reason};
+ghost use Rattle.hm_sched.specs.Schedule.{Sched};
+ghost use Rattle.hm_shake_runs.specs.Heads.{bare};
+ghost use Rattle.hm_shake_runs.specs.Runs.{AreOlder};
+ghost use Rattle.hm_shake_runs.specs.Shaken.{shaken_schedule};
+ghost use Rattle.hm_shake_runs.specs.Stretches.{cut, with_stretches};
+ghost use Rattle.hm_shake_runs.specs.declared.head.Head.{Head};
+ghost use Rattle.hm_shake_runs.specs.declared.plan.Plan.{Plan};
+ghost use Rattle.hm_shake_runs.specs.declared.stretches.Stretch.{Stretch};
+ghost use Rattle.hm_window.specs.declared.rule.Rule.{Rule};
+
+/// Schedules of letters O alone break no rule of overlap, whatever the image, and each run's schedule is one.
+pub fn letters_law()
+    ensures letters { (p : Plan) (h : Head) (irqs : List ℕ) (run : ℕ) → AreOlder (shaken_schedule p h irqs run) }
+    ensures no_rule { (image : List Segment) (listing : Listing) (s : Sched) (t step : ℕ) (r : Rule) → AreOlder s → (run_out listing image s).outcome ≢ Some (RuleBroken t step r) }
+{}
+
+/// All runs of an image that halt show one report, and halt alike.
+pub fn reports_law()
+    ensures report { (image : List Segment) (listing : Listing) (s t : Sched) (r q : Reason) (n m : ℕ)
+        → (run_out listing image s).outcome ≡ Some (Halted r n) → (run_out listing image t).outcome ≡ Some (Halted q m)
+        → report_text (shown_out listing image s) ≡ report_text (shown_out listing image t) }
+    ensures alike { (image : List Segment) (listing : Listing) (s t : Sched) (r q : Reason) (n m : ℕ)
+        → (run_out listing image s).outcome ≡ Some (Halted r n) → (run_out listing image t).outcome ≡ Some (Halted q m) → (r ≡ q) × (n ≡ m) }
+{}
+
+/// A run under the ticks that it began, and no more, is the same run.
+pub fn cut_law()
+    ensures same { (image : List Segment) (listing : Listing) (h : Head) (xs : List Stretch) → let x = run_out listing image (with_stretches xs (bare h)) in
+        run_out listing image (with_stretches (cut x.ticks xs) (bare h)) ≡ x }
+{}
