@@ -3,6 +3,7 @@
 use crate::accesses::{actor, blank, checked, loaded, stored};
 use crate::codes::{overlapped, refused, touched};
 use crate::runs::{bytes_text, has_line, schedule_text, shown, started, taint_text};
+use crate::tapes::taped;
 use crate::words::{lines_of, number};
 use anyhow::{Context, Result, bail};
 use hm_isa::{Below, Instr, S18, Scalar, width};
@@ -20,6 +21,8 @@ pub struct Bench {
     source: Vec<u8>,
     /// The first lines of schedules.
     head: Vec<u8>,
+    /// The schedule of the machine.
+    schedule: Vec<u8>,
     machine: Option<Machine>,
     /// What a machine showed that others are compared with.
     kept: Vec<u8>,
@@ -101,6 +104,7 @@ impl Bench {
             run: String::new(alloc),
             source: Vec::new(alloc),
             head: Vec::new(alloc),
+            schedule: Vec::new(alloc),
             machine: None,
             kept: Vec::new(alloc),
             memory: None,
@@ -122,7 +126,9 @@ impl Bench {
     fn schedule(&self, alloc: Global, ticks: &str) -> Result<Vec<u8>> {
         let mut text = Vec::new(alloc);
         text.extend_from_slice(&self.head)?;
-        text.extend_from_slice(&lines_of(alloc, ticks)?)?;
+        if !ticks.is_empty() {
+            text.extend_from_slice(&lines_of(alloc, ticks)?)?;
+        }
         Ok(text)
     }
 
@@ -133,8 +139,8 @@ impl Bench {
             "asm" => self.source.extend_from_slice(&lines_of(alloc, text)?)?,
             "head" => self.head = lines_of(alloc, text)?,
             _ => {
-                let schedule = self.schedule(alloc, text)?;
-                self.machine = Some(started(alloc, &self.source, &schedule)?);
+                self.schedule = self.schedule(alloc, text)?;
+                self.machine = Some(started(alloc, &self.source, &self.schedule)?);
             }
         }
         Ok(())
@@ -214,6 +220,7 @@ impl Bench {
                 memory_answer(alloc, ask, &mut text.split_whitespace(), memory)
             }
             "schedule" => schedule_text(alloc, &self.schedule(alloc, text)?),
+            "tape" => taped(alloc, text, &self.source, &self.schedule),
             _ => code_answer(alloc, ask, &mut text.split_whitespace()),
         }
     }

@@ -5,6 +5,7 @@ mod accesses;
 mod bench;
 mod codes;
 mod runs;
+mod tapes;
 mod words;
 
 use anyhow::{Context, Result};

@@ -3,6 +3,7 @@
 use crate::words::number;
 use anyhow::{Context, Result, bail, ensure};
 use hm_asm::assemble;
+use hm_base::Image;
 use hm_machine::Machine;
 use hm_sched::{parse, print};
 use std::alloc::Global;
@@ -11,13 +12,18 @@ use std::str::SplitWhitespace;
 /// The most bytes that a source may have.
 const LONGEST: usize = 16_777_216;
 
+/// The image of a source.
+pub fn image_of(alloc: Global, source: &[u8]) -> Result<Image> {
+    ensure!(source.len() <= LONGEST, "the source is too long");
+    match assemble(alloc, source) {
+        Ok(image) => Ok(image),
+        Err(e) => bail!("{e}: {e:?}"),
+    }
+}
+
 /// The machine at the start of a run.
 pub fn started(alloc: Global, source: &[u8], schedule: &[u8]) -> Result<Machine> {
-    ensure!(source.len() <= LONGEST, "the source is too long");
-    let image = match assemble(alloc, source) {
-        Ok(image) => image,
-        Err(e) => bail!("{e}: {e:?}"),
-    };
+    let image = image_of(alloc, source)?;
     Ok(Machine::load(alloc, &image, parse(alloc, schedule)?)?)
 }
 
