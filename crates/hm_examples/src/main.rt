@@ -1,4 +1,5 @@
-//! Assembles the shipped examples, runs each under its schedule, and prints what they come to, and the plan of the instructions that were run.
+//! Assembles the shipped examples, runs each under its schedule, and prints what they come to, the plan of the instructions that were run, and the
+//! rows of a page of two ticks.
 #![tactic(auto)]
 
 use anyhow::{Context, Result, bail, ensure};
@@ -7,6 +8,7 @@ use hm_base::Image;
 use hm_machine::Machine;
 use hm_plan::plan;
 use hm_sched::{parse, print};
+use hm_trace::{Form, Ticks, trace};
 use std::alloc::Global;
 use std::io::{BufWriter, Write};
 use std::ops::Range;
@@ -59,6 +61,19 @@ fn plan_text(alloc: Global, image: &Image, instructions: u64) -> Result<String> 
     Ok(text)
 }
 
+/// The rows of a page of ticks 8 and 9, one behind another.
+fn page_rows(alloc: Global, image: &Image, schedule: &[u8]) -> Result<String> {
+    let ticks = Ticks { first: 8, last: 9 };
+    let page = trace(alloc, Form::Page, image, parse(alloc, schedule)?, ticks)?;
+    let page = String::from_utf8(page)?;
+    let mut text = String::new(alloc);
+    for row in page.lines().filter(|line| line.starts_with("<tr class=")) {
+        text.push_str(row)?;
+        text.push('\n')?;
+    }
+    Ok(text)
+}
+
 /// The bytes at addresses, in hexadecimal.
 fn memory_text(alloc: Global, machine: &Machine, addresses: Range<u32>) -> Result<String> {
     let mut bytes = Vec::new(alloc);
@@ -98,6 +113,7 @@ fn main(rt: HostRuntime) -> Result<()> {
         let machine = run(alloc, &image, &schedule).context(format_args!("{name}"))?;
         write_example(&mut out, alloc, &name, &machine)?;
         writeln!(out, "{}", plan_text(alloc, &image, machine.retired())?)?;
+        write!(out, "{}", page_rows(alloc, &image, &schedule)?)?;
     }
     out.flush()?;
     Ok(())
