@@ -34,9 +34,10 @@ use Rattle.hm_isa.specs.Rules.{listed_in}
 use Rattle.hm_mem.specs.Devices.{IsLen}
 use Rattle.hm_regs.specs.declared.Regs.{Regs}
 use Rattle.hm_regs.specs.Place.{value_at}
-use Rattle.hm_thumb.specs.Arithmetic.{sign_extended}
+use Rattle.hm_isa.specs.Words.{sign_extended}
 use Rattle.hm_thumb.specs.Blocks.{condition_holds}
-use Rattle.hm_thumb.specs.BranchRows.{always_distance, branch_if, conditional_distance, is_taken, jump_row, link, linked, s25, t16}
+use Rattle.hm_isa.specs.Distances.{always_distance, conditional_distance}
+use Rattle.hm_thumb.specs.BranchRows.{branch_if, is_taken, jump_row, link, linked, s25, t16}
 use Rattle.hm_thumb.specs.Does.{Does, Ends, Faults, Loads, Stores, goes}
 use Rattle.hm_thumb.specs.LoopRows.{again, back, elements, enter, loop_end_row, put_size, t23}
 use Rattle.hm_thumb.specs.MemoryRows.{access_row, down, list_row, load_list, loaded, moved, other_end, pair_row, plain_name, put_all, registers, scale, stack_row, store_list, t12, up, wide_list_row, word_name}

@@ -166,7 +166,7 @@ use Rattle.hm_isa.specs.MemoryCodes.{code_v24, code_v25, code_v26, code_v27, cod
 
 -- CODES OF ONE HALFWORD
 
--- S1: the code of each name, its registers and shift 0
+-- S1: the code of LSLS, LSRS and ASRS, their registers and shift 0 (DDI0553, "LSL (immediate)", "LSR (immediate)" and "ASR (immediate)")
 abbrev pub shift_base : ShiftName → ℕ
 shift_base shift.Lsl = 0x0000
 shift_base shift.Lsr = 0x0800
@@ -176,7 +176,7 @@ shift_base shift.Asr = 0x1000
 abbrev pub code_s1 : S1 → ℕ
 code_s1 r = shift_base r.name + r.i.value ↑ 6 + r.m.value ↑ 3 + r.d.value
 
--- S2 and S3: the code of each name with a register as its second operand, its registers 0
+-- S2 and S3: the code of ADDS and SUBS of two registers, their registers 0 (DDI0553, "ADD (register)" and "SUB (register)")
 abbrev pub sum_base : SumName → ℕ
 sum_base sum_.Add = 0x1800
 sum_base sum_.Sub = 0x1a00
@@ -189,18 +189,19 @@ code_s2 r = sum_base r.name + r.m.value ↑ 6 + r.n.value ↑ 3 + r.d.value
 abbrev pub code_s3 : S3 → ℕ
 code_s3 r = sum_base r.name + 0x0400 + r.i.value ↑ 6 + r.n.value ↑ 3 + r.d.value
 
--- S4: the code of each name, its register and constant 0
+-- S4: the code of MOVS, CMP, ADDS, SUBS, register and constant 0 (DDI0553, "MOV (immediate)", "CMP (immediate)", "ADD (immediate)", "SUB (immediate)")
 abbrev pub byte_base : ByteName → ℕ
 byte_base byte.Mov = 0x2000
 byte_base byte.Cmp = 0x2800
 byte_base byte.Add = 0x3000
 byte_base byte.Sub = 0x3800
 
--- S4: MOVS, CMP, ADDS and SUBS with a constant of eight bits (DDI0553, "MOV (immediate)", "CMP (immediate)" and their kin)
+-- S4: MOVS, CMP, ADDS and SUBS of eight bits (DDI0553, "MOV (immediate)", "CMP (immediate)", "ADD (immediate)" and "SUB (immediate)")
 abbrev pub code_s4 : S4 → ℕ
 code_s4 r = byte_base r.name + r.d.value ↑ 8 + r.i.value
 
--- S5: the code of each name, its registers 0
+-- S5: the code of ANDS, EORS, LSLS, LSRS, ASRS, ADCS, SBCS, RORS, TST, RSBS, CMP, CMN, ORRS, MULS, BICS and MVNS, their registers 0
+-- (DDI0553, their register forms, "RSB (immediate)" and "MUL")
 abbrev pub logic_base : LogicName → ℕ
 logic_base logic.Ands = 0x4000
 logic_base logic.Eors = 0x4040
@@ -219,7 +220,8 @@ logic_base logic.Muls = 0x4340
 logic_base logic.Bics = 0x4380
 logic_base logic.Mvns = 0x43c0
 
--- S5: ANDS, EORS and so on of two low registers (DDI0553, the register forms of these instructions)
+-- S5: ANDS, EORS, LSLS, LSRS, ASRS, ADCS, SBCS, RORS, TST, RSBS, CMP, CMN, ORRS, MULS, BICS and MVNS of two low registers
+-- (DDI0553, their register forms, "RSB (immediate)" and "MUL")
 abbrev pub code_s5 : S5 → ℕ
 code_s5 r = logic_base r.name + r.m.value ↑ 3 + r.d.value
 
@@ -235,7 +237,7 @@ code_s7 r = 0x4500 + (r.d.value / 8) ↑ 7 + r.m.value ↑ 3 + r.d.value % 8
 abbrev pub code_s8 : S8 → ℕ
 code_s8 r = 0x4600 + (r.d.value / 8) ↑ 7 + r.m.value ↑ 3 + r.d.value % 8
 
--- S9: the code of each base, its register and constant 0
+-- S9: the code of ADR, and of ADD of sp and a constant, their register and constant 0 (DDI0553, "ADR" and "ADD (SP plus immediate)")
 abbrev pub base_base : BaseName → ℕ
 base_base base.Pc = 0xa000
 base_base base.Sp = 0xa800
@@ -244,7 +246,7 @@ base_base base.Sp = 0xa800
 abbrev pub code_s9 : S9 → ℕ
 code_s9 r = base_base r.name + r.d.value ↑ 8 + r.i.value
 
--- S10: the code of each name, its constant 0
+-- S10: the code of ADD and SUB into sp, their constant 0 (DDI0553, "ADD (SP plus immediate)" and "SUB (SP minus immediate)")
 abbrev pub stack_sum_base : SumName → ℕ
 stack_sum_base sum_.Add = 0xb000
 stack_sum_base sum_.Sub = 0xb080
@@ -253,7 +255,7 @@ stack_sum_base sum_.Sub = 0xb080
 abbrev pub code_s10 : S10 → ℕ
 code_s10 r = stack_sum_base r.name + r.i.value
 
--- S11: the code of each name, its registers 0
+-- S11: the code of SXTH, SXTB, UXTH and UXTB, their registers 0 (DDI0553, "SXTH", "SXTB", "UXTH" and "UXTB")
 abbrev pub extend_base : ExtendName → ℕ
 extend_base extend.Sxth = 0xb200
 extend_base extend.Sxtb = 0xb240
@@ -264,7 +266,7 @@ extend_base extend.Uxtb = 0xb2c0
 abbrev pub code_s11 : S11 → ℕ
 code_s11 r = extend_base r.name + r.m.value ↑ 3 + r.d.value
 
--- S12: the code of each name, its registers 0
+-- S12: the code of REV, REV16 and REVSH, their registers 0 (DDI0553, "REV", "REV16" and "REVSH")
 abbrev pub swap_base : SwapName → ℕ
 swap_base swap_.Rev = 0xba00
 swap_base swap_.Rev16 = 0xba40
@@ -274,7 +276,7 @@ swap_base swap_.Revsh = 0xbac0
 abbrev pub code_s12 : S12 → ℕ
 code_s12 r = swap_base r.name + r.m.value ↑ 3 + r.d.value
 
--- S13: the code of each name
+-- S13: the code of CPSIE and CPSID of PRIMASK (DDI0553, "CPS")
 abbrev pub masking_base : MaskingName → ℕ
 masking_base masking.Cpsie = 0xb662
 masking_base masking.Cpsid = 0xb672
@@ -287,7 +289,7 @@ code_s13 r = masking_base r.name
 abbrev pub code_s14 : S14 → ℕ
 code_s14 r = 0x4800 + r.t.value ↑ 8 + r.i.value
 
--- S15: the code of each name, its registers 0
+-- S15: the code of STR, STRH, STRB, LDRSB, LDR, LDRH, LDRB, LDRSH, their registers 0 (DDI0553, the register form of each, as "STR (register)")
 abbrev pub access_base : AccessName → ℕ
 access_base access.Str = 0x5000
 access_base access.Strh = 0x5200
@@ -298,11 +300,11 @@ access_base access.Ldrh = 0x5a00
 access_base access.Ldrb = 0x5c00
 access_base access.Ldrsh = 0x5e00
 
--- S15: STR, STRH, STRB, LDRSB, LDR, LDRH, LDRB, LDRSH at the sum of registers (DDI0553, the register forms of these instructions)
+-- S15: STR, STRH, STRB, LDRSB, LDR, LDRH, LDRB, LDRSH at the sum of two registers (DDI0553, the register form of each, as "STR (register)")
 abbrev pub code_s15 : S15 → ℕ
 code_s15 r = access_base r.name + r.m.value ↑ 6 + r.n.value ↑ 3 + r.t.value
 
--- S16: the code of each name, its registers and offset 0
+-- S16: the code of STR, LDR, STRB, LDRB, STRH, LDRH, registers and offset 0 (DDI0553, the immediate form of each, as "STR (immediate)")
 abbrev pub plain_base : PlainName → ℕ
 plain_base plain.Str = 0x6000
 plain_base plain.Ldr = 0x6800
@@ -311,11 +313,11 @@ plain_base plain.Ldrb = 0x7800
 plain_base plain.Strh = 0x8000
 plain_base plain.Ldrh = 0x8800
 
--- S16: STR, LDR, STRB, LDRB, STRH and LDRH at an offset from a register (DDI0553, the immediate forms of these instructions)
+-- S16: STR, LDR, STRB, LDRB, STRH, LDRH at an offset from a register (DDI0553, the immediate form of each, as "STR (immediate)")
 abbrev pub code_s16 : S16 → ℕ
 code_s16 r = plain_base r.name + r.i.value ↑ 6 + r.n.value ↑ 3 + r.t.value
 
--- S17: the code of each name, its register and offset 0
+-- S17: the code of STR and LDR at an offset from sp, their register and offset 0 (DDI0553, "STR (immediate)" and "LDR (immediate)")
 abbrev pub word_base : WordName → ℕ
 word_base word.Str = 0x9000
 word_base word.Ldr = 0x9800
@@ -328,7 +330,7 @@ code_s17 r = word_base r.name + r.t.value ↑ 8 + r.i.value
 abbrev pub code_s18 : S18 → ℕ
 code_s18 r = 0xbe00 + r.i.value
 
--- S19: the code of each name
+-- S19: the code of NOP, YIELD, WFE, WFI and SEV (DDI0553, "NOP", "YIELD", "WFE", "WFI" and "SEV")
 abbrev pub hint_base : HintName → ℕ
 hint_base hint.Nop = 0xbf00
 hint_base hint.Yield = 0xbf10
@@ -340,14 +342,15 @@ hint_base hint.Sev = 0xbf40
 abbrev pub code_s19 : S19 → ℕ
 code_s19 r = hint_base r.name
 
--- S20: the code of each name, its base and list 0
+-- S20: the code of PUSH, POP, STM and LDM, their base and list 0 (DDI0553, "STMDB, STMFD", "LDM, LDMIA, LDMFD" and "STM, STMIA, STMEA")
 abbrev pub list_base : ListName → ℕ
 list_base list.Push = 0xb400
 list_base list.Pop = 0xbc00
 list_base list.Stm = 0xc000
 list_base list.Ldm = 0xc800
 
--- x is 0 where n is not, and n is 0 where x is not
+-- S20: PUSH, encoding T2 of "STMDB, STMFD"; POP and LDM, encodings T3 and T1 of "LDM, LDMIA, LDMFD"; STM, encoding T1 of "STM, STMIA, STMEA"
+-- (DDI0553); x is 0 where n is not, and n is 0 where x is not
 abbrev pub code_s20 : S20 → ℕ
 code_s20 r = list_base r.name + r.x.value ↑ 8 + r.n.value ↑ 8 + r.list.value
 
@@ -355,7 +358,7 @@ code_s20 r = list_base r.name + r.x.value ↑ 8 + r.n.value ↑ 8 + r.list.value
 abbrev pub code_s21 : S21 → ℕ
 code_s21 r = 0xbf00 + r.c.value ↑ 4 + r.mask.value
 
--- S23: the code of each name, its register 0
+-- S23: the code of BX and BLX, their register 0 (DDI0553, "BX" and "BLX (register)")
 abbrev pub jump_base : JumpName → ℕ
 jump_base jump.Bx = 0x4700
 jump_base jump.Blx = 0x4780
@@ -364,7 +367,7 @@ jump_base jump.Blx = 0x4780
 abbrev pub code_s23 : S23 → ℕ
 code_s23 r = jump_base r.name + r.m.value ↑ 3
 
--- S24: the code of each name, its register and distance 0
+-- S24: the code of CBZ and CBNZ, their register and distance 0 (DDI0553, "CBZ, CBNZ")
 abbrev pub zero_base : ZeroName → ℕ
 zero_base zero_.Cbz = 0xb100
 zero_base zero_.Cbnz = 0xb900
@@ -388,7 +391,7 @@ code_s25 (s25.Always r) = code_always r
 
 -- CODES OF TWO HALFWORDS, the first in bits 31 to 16
 
--- T12: the code of each name with a shifted register as its offset, its registers and shift 0
+-- T12: the code of STRB, STRH, STR, LDRB, LDRH, LDR, LDRSB, LDRSH, registers and shift 0 (DDI0553, the register form of each, as "STR (register)")
 abbrev pub wide_access_base : AccessName → ℕ
 wide_access_base access.Strb = 0xf8000000
 wide_access_base access.Strh = 0xf8200000
@@ -399,30 +402,31 @@ wide_access_base access.Ldr = 0xf8500000
 wide_access_base access.Ldrsb = 0xf9100000
 wide_access_base access.Ldrsh = 0xf9300000
 
--- T12: a load or store at a register plus a constant of twelve bits (DDI0553, "LDR (immediate)" and its kin)
+-- T12: STR, STRH, STRB, LDR, LDRH, LDRB, LDRSH, LDRSB at a register plus twelve bits (DDI0553, the immediate form of each, as "LDR (immediate)")
 abbrev pub code_offset : Offset → ℕ
 code_offset r = wide_access_base r.name + 0x00800000 + r.n.value ↑ 16 + r.t.value ↑ 12 + r.i.value
 
--- T12: a load or store at a register and a constant of eight bits that is added or taken off (DDI0553, "LDR (immediate)" and its kin)
+-- T12: STR, STRH, STRB, LDR, LDRH, LDRB, LDRSH, LDRSB at a register and eight bits that are added or taken off
+-- (DDI0553, the immediate form of each, as "LDR (immediate)")
 abbrev pub code_indexed : Indexed → ℕ
 code_indexed r = wide_access_base r.name + 0x0800 + r.n.value ↑ 16 + r.t.value ↑ 12 + r.p.value ↑ 10 + r.u.value ↑ 9 + r.w.value ↑ 8 + r.i.value
 
--- T12: a load or store at a register plus a shifted register (DDI0553, "LDR (register)" and its kin)
+-- T12: STR, STRH, STRB, LDR, LDRH, LDRB, LDRSH, LDRSB at a register plus a shifted one (DDI0553, the register form of each, as "LDR (register)")
 abbrev pub code_shifted : Shifted → ℕ
 code_shifted r = wide_access_base r.name + r.n.value ↑ 16 + r.t.value ↑ 12 + r.i.value ↑ 4 + r.m.value
 
--- T12: a load at a constant distance from pc (DDI0553, "LDR (literal)" and its kin)
+-- T12: LDR, LDRH, LDRB, LDRSH and LDRSB at a constant distance from pc (DDI0553, the literal form of each, as "LDR (literal)")
 abbrev pub code_literal : Literal → ℕ
 code_literal r = wide_access_base r.name + 0x000f0000 + r.u.value ↑ 23 + r.t.value ↑ 12 + r.i.value
 
--- T12: STR, STRH, STRB, LDR, LDRH, LDRB, LDRSH, LDRSB (DDI0553, "LDR (immediate)", "LDR (literal)", "LDR (register)" and their kin)
+-- T12: STR, STRH, STRB, LDR, LDRH, LDRB, LDRSH, LDRSB (DDI0553, the immediate, literal and register form of each, as "LDR (immediate)")
 abbrev pub code_t12 : T12 → ℕ
 code_t12 (t12.Offset r) = code_offset r
 code_t12 (t12.Indexed r) = code_indexed r
 code_t12 (t12.Shifted r) = code_shifted r
 code_t12 (t12.Literal r) = code_literal r
 
--- T13: the code of each name, its registers, offset and bits of the form of address 0
+-- T13: the code of STRD and LDRD, all else 0 (DDI0553, "STRD (immediate)", "LDRD (immediate)" and "LDRD (literal)")
 abbrev pub pair_base : PairName → ℕ
 pair_base pair.Strd = 0xe8400000
 pair_base pair.Ldrd = 0xe8500000
@@ -431,7 +435,7 @@ pair_base pair.Ldrd = 0xe8500000
 abbrev pub code_t13 : T13 → ℕ
 code_t13 r = pair_base r.name + r.p.value ↑ 24 + r.add.value ↑ 23 + r.w.value ↑ 21 + r.n.value ↑ 16 + r.t.value ↑ 12 + r.u.value ↑ 8 + r.i.value
 
--- T14: the code of each name, its base, writeback and list 0
+-- T14: the code of STMIA, LDMIA, STMDB, LDMDB, all else 0 (DDI0553, "STM, STMIA, STMEA", "LDM, LDMIA, LDMFD", "STMDB, STMFD", "LDMDB, LDMEA")
 abbrev pub wide_list_base : WideListName → ℕ
 wide_list_base wide_list.Stmia = 0xe8800000
 wide_list_base wide_list.Ldmia = 0xe8900000
@@ -442,7 +446,7 @@ wide_list_base wide_list.Ldmdb = 0xe9100000
 abbrev pub code_t14 : T14 → ℕ
 code_t14 r = wide_list_base r.name + r.w.value ↑ 21 + r.n.value ↑ 16 + r.list.value
 
--- T15: the code of each name, its first register and count 0
+-- T15: the code of VPUSH and VPOP, their first register and count 0 (DDI0553, "VPUSH" and "VPOP")
 abbrev pub stack_base : StackName → ℕ
 stack_base stack.Vpush = 0xed2d0b00
 stack_base stack.Vpop = 0xecbd0b00
@@ -453,7 +457,7 @@ code_t15 r = stack_base r.name + r.v.value ↑ 12 + r.k.value ↑ 1
 
 -- CODES OF THE VECTOR ROWS
 
--- V1: the code of each name, its size and registers 0
+-- V1: the code of VADD, VSUB and VMUL, their size and registers 0 (DDI0553, "VADD (vector)", "VSUB (vector)" and "VMUL (vector)")
 abbrev pub add_base : AddName → ℕ
 add_base add.Add = 0xef000840
 add_base add.Sub = 0xff000840
@@ -463,7 +467,7 @@ add_base add.Mul = 0xef000950
 abbrev pub code_v1 : V1 → ℕ
 code_v1 r = add_base r.name + r.z.value ↑ 20 + r.n.value ↑ 17 + r.d.value ↑ 13 + r.m.value ↑ 1
 
--- V2: the code of each name, its registers 0
+-- V2: the code of VAND, VBIC, VORR, VORN and VEOR, their registers 0 (DDI0553, "VAND", "VBIC (register)", "VORR", "VORN" and "VEOR")
 abbrev pub bitwise_base : BitwiseName → ℕ
 bitwise_base bitwise.And = 0xef000150
 bitwise_base bitwise.Bic = 0xef100150
@@ -475,7 +479,7 @@ bitwise_base bitwise.Eor = 0xff000150
 abbrev pub code_v2 : V2 → ℕ
 code_v2 r = bitwise_base r.name + r.n.value ↑ 17 + r.d.value ↑ 13 + r.m.value ↑ 1
 
--- V3: the code of each name for signed elements, its size and registers 0
+-- V3: the code of VMAX, VMIN, VABD, VHADD, VRHADD, VHSUB, VQADD, VQSUB of signed elements, all else 0 (DDI0553, the vector form of each)
 abbrev pub signed_base : SignedName → ℕ
 signed_base signed.Max = 0xef000640
 signed_base signed.Min = 0xef000650
@@ -486,11 +490,11 @@ signed_base signed.Hsub = 0xef000240
 signed_base signed.Qadd = 0xef000050
 signed_base signed.Qsub = 0xef000250
 
--- V3: VMAX, VMIN, VABD, VHADD, VRHADD, VHSUB, VQADD and VQSUB of vectors (DDI0553, these instructions' vector forms)
+-- V3: VMAX, VMIN, VABD, VHADD, VRHADD, VHSUB, VQADD and VQSUB of vectors (DDI0553, the vector form of each)
 abbrev pub code_v3 : V3 → ℕ
 code_v3 r = signed_base r.name + r.u.value ↑ 28 + r.z.value ↑ 20 + r.n.value ↑ 17 + r.d.value ↑ 13 + r.m.value ↑ 1
 
--- V4: the code of each name for signed elements, its size and registers 0
+-- V4: the code of VSHL, VQSHL, VRSHL and VQRSHL of signed elements, all else 0 (DDI0553, "VSHL", "VQSHL", "VRSHL" and "VQRSHL")
 abbrev pub vector_shift_base : VectorShiftName → ℕ
 vector_shift_base by_vector.Shl = 0xef000440
 vector_shift_base by_vector.Qshl = 0xef000450
@@ -501,7 +505,7 @@ vector_shift_base by_vector.Qrshl = 0xef000550
 abbrev pub code_v4 : V4 → ℕ
 code_v4 r = vector_shift_base r.name + r.u.value ↑ 28 + r.z.value ↑ 20 + r.n.value ↑ 17 + r.d.value ↑ 13 + r.m.value ↑ 1
 
--- V5: the code of each name, its size and registers 0
+-- V5: the code of VQDMULH and VQRDMULH, their size and registers 0 (DDI0553, "VQDMULH, VQRDMULH (vector)")
 abbrev pub doubling_base : DoublingName → ℕ
 doubling_base doubling.Qdmulh = 0xef000b40
 doubling_base doubling.Qrdmulh = 0xff000b40
@@ -514,7 +518,7 @@ code_v5 r = doubling_base r.name + r.z.value ↑ 20 + r.n.value ↑ 17 + r.d.val
 abbrev pub code_v6 : V6 → ℕ
 code_v6 r = 0xee010e00 + r.u.value ↑ 28 + r.z.value ↑ 20 + r.t.value ↑ 12 + r.n.value ↑ 17 + r.d.value ↑ 13 + r.m.value ↑ 1
 
--- V7: the code of each name for signed elements, its size and registers 0
+-- V7: the code of VMULH and VRMULH of signed elements, their size and registers 0 (DDI0553, "VMULH, VRMULH")
 abbrev pub high_base : HighName → ℕ
 high_base high.Mulh = 0xee010e01
 high_base high.Rmulh = 0xee011e01
@@ -523,7 +527,7 @@ high_base high.Rmulh = 0xee011e01
 abbrev pub code_v7 : V7 → ℕ
 code_v7 r = high_base r.name + r.u.value ↑ 28 + r.z.value ↑ 20 + r.n.value ↑ 17 + r.d.value ↑ 13 + r.m.value ↑ 1
 
--- V8: the code of each name, its registers 0
+-- V8: the code of VADC, VADCI, VSBC and VSBCI, their registers 0 (DDI0553, "VADC" and "VSBC")
 abbrev pub carry_base : CarryName → ℕ
 carry_base carry.Adc = 0xee300f00
 carry_base carry.Adci = 0xee301f00
@@ -534,7 +538,7 @@ carry_base carry.Sbci = 0xfe301f00
 abbrev pub code_v8 : V8 → ℕ
 code_v8 r = carry_base r.name + r.n.value ↑ 17 + r.d.value ↑ 13 + r.m.value ↑ 1
 
--- V9: the code of each name with a rotation by 90 degrees, its size and registers 0
+-- V9: the code of VCADD and VHCADD with a rotation by 90 degrees, their size and registers 0 (DDI0553, "VCADD" and "VHCADD")
 abbrev pub turn_base : TurnName → ℕ
 turn_base turn.Cadd = 0xfe000f00
 turn_base turn.Hcadd = 0xee000f00
@@ -543,7 +547,8 @@ turn_base turn.Hcadd = 0xee000f00
 abbrev pub code_v9 : V9 → ℕ
 code_v9 r = turn_base r.name + r.z.value ↑ 20 + r.t.value ↑ 12 + r.n.value ↑ 17 + r.d.value ↑ 13 + r.m.value ↑ 1
 
--- V10: the code of each name with a sign bit of 0, its size and registers 0
+-- V10: the code of VADD, VSUB, VMUL, VHADD, VHSUB, VQADD, VQSUB, VQDMULH, VQRDMULH, VMLA and VMLAS with a sign bit of 0, size and registers 0
+-- (DDI0553, the form of each with a vector and a scalar)
 abbrev pub scalar_base : ScalarName → ℕ
 scalar_base by_scalar.Add = 0xee010f40
 scalar_base by_scalar.Sub = 0xee011f40
@@ -557,11 +562,13 @@ scalar_base by_scalar.Qrdmulh = 0xfe010e60
 scalar_base by_scalar.Mla = 0xee010e40
 scalar_base by_scalar.Mlas = 0xee011e40
 
--- V10: VADD, VSUB, VMUL, VMLA and so on of a vector and a core register (DDI0553, these instructions' forms with a vector and a scalar)
+-- V10: VADD, VSUB, VMUL, VHADD, VHSUB, VQADD, VQSUB, VQDMULH, VQRDMULH, VMLA and VMLAS of a vector and a core register
+-- (DDI0553, the form of each with a vector and a scalar)
 abbrev pub code_v10 : V10 → ℕ
 code_v10 r = scalar_base r.name + r.u.value ↑ 28 + r.z.value ↑ 20 + r.n.value ↑ 17 + r.d.value ↑ 13 + r.m.value
 
--- V11: the code of each name with a sign bit of 0, its size, shift and registers 0
+-- V11: the code of VSHR, VRSHR, VQSHL, VQSHLU, VSHL, VSRI and VSLI with a sign bit of 0, all else 0
+-- (DDI0553, "VSHR", "VRSHR", "VQSHL, VQSHLU", "VSHL", "VSRI" and "VSLI")
 abbrev pub constant_shift_base : ConstantShiftName → ℕ
 constant_shift_base by_constant.Shr = 0xef800050
 constant_shift_base by_constant.Rshr = 0xef800250
@@ -571,15 +578,17 @@ constant_shift_base by_constant.Shl = 0xef800550
 constant_shift_base by_constant.Sri = 0xff800450
 constant_shift_base by_constant.Sli = 0xff800550
 
--- V11: VSHR, VRSHR, VQSHL, VQSHLU, VSHL, VSRI and VSLI by a constant (DDI0553, "VSHR", "VQSHL, VQSHLU", "VSHL", "VSLI" and their kin)
+-- V11: VSHR, VRSHR, VQSHL, VQSHLU, VSHL, VSRI, VSLI by a constant (DDI0553, "VSHR", "VRSHR", "VQSHL, VQSHLU", "VSHL", "VSRI" and "VSLI")
 abbrev pub code_v11 : V11 → ℕ
 code_v11 r = constant_shift_base r.name + r.u.value ↑ 28 + r.x.value ↑ 16 + r.d.value ↑ 13 + r.m.value ↑ 1
 
--- the shift stands behind 101 in bits 21 to 16, or behind 11
+-- V12: VSHLLB and VSHLLT of bytes by less than 8, which stands behind 101 in bits 21 to 16, and VMOVLB and VMOVLT of bytes
+-- (DDI0553, "VSHLL" and "VMOVL")
 abbrev pub code_long_bytes : LongBytes → ℕ
 code_long_bytes r = 0xeea80f40 + r.u.value ↑ 28 + r.k.value ↑ 16 + r.t.value ↑ 12 + r.d.value ↑ 13 + r.m.value ↑ 1
 
--- V12: VSHLLB and VSHLLT of halfwords by less than 16, and VMOVLB and VMOVLT of halfwords (DDI0553, "VSHLL" and "VMOVL")
+-- V12: VSHLLB and VSHLLT of halfwords by less than 16, which stands behind 11 in bits 21 to 16, and VMOVLB and VMOVLT of halfwords
+-- (DDI0553, "VSHLL" and "VMOVL")
 abbrev pub code_long_halves : LongHalves → ℕ
 code_long_halves r = 0xeeb00f40 + r.u.value ↑ 28 + r.k.value ↑ 16 + r.t.value ↑ 12 + r.d.value ↑ 13 + r.m.value ↑ 1
 
@@ -593,7 +602,7 @@ code_v12 (v12.Bytes r) = code_long_bytes r
 code_v12 (v12.Halves r) = code_long_halves r
 code_v12 (v12.Full r) = code_long_full r
 
--- V13: the code of each name, its size and registers 0
+-- V13: the code of VCLS, VCLZ, VABS, VNEG, VQABS, VQNEG, size and registers 0 (DDI0553, "VCLS", "VCLZ", "VABS", "VNEG", "VQABS" and "VQNEG")
 abbrev pub one_base : OneName → ℕ
 one_base one.Cls = 0xffb00440
 one_base one.Clz = 0xffb004c0
@@ -610,18 +619,18 @@ code_one_element r = one_base r.name + r.z.value ↑ 18 + r.d.value ↑ 13 + r.m
 abbrev pub code_invert : Invert → ℕ
 code_invert r = 0xffb005c0 + r.d.value ↑ 13 + r.m.value ↑ 1
 
--- V13: VCLS, VCLZ, VABS, VNEG, VQABS, VQNEG and VMVN (DDI0553, "VCLS", "VABS", "VQABS", "VMVN (register)" and their kin)
+-- V13: VCLS, VCLZ, VABS, VNEG, VQABS, VQNEG and VMVN (DDI0553, "VCLS", "VCLZ", "VABS", "VNEG", "VQABS", "VQNEG" and "VMVN (register)")
 abbrev pub code_v13 : V13 → ℕ
 code_v13 (v13.Elements r) = code_one_element r
 code_v13 (v13.Not r) = code_invert r
 
--- V14: the code of each name, its size and registers 0
+-- V14: the code of VREV64, VREV32 and VREV16, their size and registers 0 (DDI0553, "VREV64", "VREV32" and "VREV16")
 abbrev pub reverse_base : ReverseName → ℕ
 reverse_base reverse_.Rev64 = 0xffb00040
 reverse_base reverse_.Rev32 = 0xffb000c0
 reverse_base reverse_.Rev16 = 0xffb00140
 
--- V14: VREV64, VREV32 and VREV16 (DDI0553, these instructions)
+-- V14: VREV64, VREV32 and VREV16 (DDI0553, "VREV64", "VREV32" and "VREV16")
 abbrev pub code_v14 : V14 → ℕ
 code_v14 r = reverse_base r.name + r.z.value ↑ 18 + r.d.value ↑ 13 + r.m.value ↑ 1
 
@@ -629,14 +638,14 @@ code_v14 r = reverse_base r.name + r.z.value ↑ 18 + r.d.value ↑ 13 + r.m.val
 abbrev pub code_v15 : V15 → ℕ
 code_v15 r = 0xef800050 + r.i.value ↑ 28 + r.i3.value ↑ 16 + r.d.value ↑ 13 + r.cm.value ↑ 8 + r.op.value ↑ 5 + r.i4.value
 
--- V16: the code of each name, its size, half and registers 0
+-- V16: the code of VMOVN, VQMOVUN, and VQMOVN of signed and of unsigned elements, all else 0 (DDI0553, "VMOVN", "VQMOVUN" and "VQMOVN")
 abbrev pub narrow_base : NarrowName → ℕ
 narrow_base narrow_.Plain = 0xfe310e81
 narrow_base narrow_.ToUnsigned = 0xee310e81
 narrow_base narrow_.Signed = 0xee330e01
 narrow_base narrow_.Unsigned = 0xfe330e01
 
--- V16: VMOVN, VQMOVN and VQMOVUN, bottom or top (DDI0553, "VMOVN", "VQMOVN" and "VQMOVUN")
+-- V16: VMOVNB, VMOVNT, VQMOVUNB, VQMOVUNT, VQMOVNB and VQMOVNT (DDI0553, "VMOVN", "VQMOVUN" and "VQMOVN")
 abbrev pub code_v16 : V16 → ℕ
 code_v16 r = narrow_base r.name + r.z.value ↑ 18 + r.t.value ↑ 12 + r.d.value ↑ 13 + r.m.value ↑ 1
 
@@ -644,7 +653,7 @@ code_v16 r = narrow_base r.name + r.z.value ↑ 18 + r.t.value ↑ 12 + r.d.valu
 abbrev pub code_v17 : V17 → ℕ
 code_v17 r = 0xeea00fc0 + r.k.value ↑ 16 + r.d.value ↑ 13 + r.m.value
 
--- V18: the code for each size of elements, its registers 0
+-- V18: the code of VDUP for each size of elements, its registers 0 (DDI0553, "VDUP")
 abbrev pub dup_base : Element → ℕ
 dup_base element.Bytes = 0xeee00b10
 dup_base element.Halves = 0xeea00b30
@@ -654,12 +663,12 @@ dup_base element.Words = 0xeea00b10
 abbrev pub code_v18 : V18 → ℕ
 code_v18 r = dup_base r.size + r.d.value ↑ 17 + r.t.value ↑ 12
 
--- V19: the code of each direction, its size, step and registers 0
+-- V19: the code of VIWDUP, which goes up, and VDWDUP, which goes down, all else 0 (DDI0553, "VIDUP, VIWDUP" and "VDDUP, VDWDUP")
 abbrev pub offsets_base : OffsetsName → ℕ
 offsets_base offsets.Up = 0xee010f60
 offsets_base offsets.Down = 0xee011f60
 
--- bit 1 of the step stands in bit 7, and bit 0 in bit 0
+-- V19: the step of VIDUP, VDDUP, VIWDUP, VDWDUP, bit 1 in bit 7 and bit 0 in bit 0 (DDI0553, "VIDUP, VIWDUP" and "VDDUP, VDWDUP")
 abbrev pub step_code : ℕ → ℕ
 step_code k = (k / 2) ↑ 7 + k % 2
 
@@ -676,17 +685,21 @@ abbrev pub code_v19 : V19 → ℕ
 code_v19 (v19.Free r) = code_offsets r
 code_v19 (v19.Wrapped r) = code_wrapped_offsets r
 
--- k stands in bit 22, which is its bit 3, and bits 15 to 13
+-- V20 and V21: the mask of VPT and VPST, its bit 3 in bit 22 and the others in bits 15 to 13 (DDI0553, "VPT" and "VPST")
 abbrev pub mask_code : ℕ → ℕ
 mask_code k = (k / 8) ↑ 22 + (k % 8) ↑ 13
 
 -- V20: VCMP and VPT of two vectors (DDI0553, "VCMP" and "VPT")
 abbrev pub code_compare_vectors : CompareVectors → ℕ
-code_compare_vectors r = 0xfe010f00 + mask_code r.k.value + r.z.value ↑ 20 + r.n.value ↑ 17 + (r.c.value / 4) ↑ 12 + (r.c.value % 2) ↑ 7 + r.m.value ↑ 1 + r.c.value / 2 % 2
+code_compare_vectors r =
+    0xfe010f00 + mask_code r.k.value + r.z.value ↑ 20 + r.n.value ↑ 17 + (r.c.value / 4) ↑ 12 + (r.c.value % 2) ↑ 7 + r.m.value ↑ 1
+    + r.c.value / 2 % 2
 
 -- V20: VCMP and VPT of a vector and a core register or zero (DDI0553, "VCMP" and "VPT")
 abbrev pub code_compare_scalar : CompareScalar → ℕ
-code_compare_scalar r = 0xfe010f40 + mask_code r.k.value + r.z.value ↑ 20 + r.n.value ↑ 17 + (r.c.value / 4) ↑ 12 + (r.c.value % 2) ↑ 7 + (r.c.value / 2 % 2) ↑ 5 + r.m.value
+code_compare_scalar r =
+    0xfe010f40 + mask_code r.k.value + r.z.value ↑ 20 + r.n.value ↑ 17 + (r.c.value / 4) ↑ 12 + (r.c.value % 2) ↑ 7
+    + (r.c.value / 2 % 2) ↑ 5 + r.m.value
 
 -- V20: VCMP and VPT (DDI0553, "VCMP" and "VPT")
 abbrev pub code_v20 : V20 → ℕ
@@ -715,7 +728,7 @@ code_v21 (v21.Tail r) = code_tail r
 abbrev pub code_sum : Sum → ℕ
 code_sum r = 0xeef10f00 + r.u.value ↑ 28 + r.z.value ↑ 18 + r.l.value ↑ 13 + r.a.value ↑ 5 + r.m.value ↑ 1
 
--- V22: the code of VMLADAV for each size of signed elements, its registers and accumulate bit 0
+-- V22: the code of VMLADAV for each size of signed elements, its registers and accumulate bit 0 (DDI0553, "VMLADAV")
 abbrev pub dot_base : Element → ℕ
 dot_base element.Bytes = 0xeef00f00
 dot_base element.Halves = 0xeef00e00
@@ -740,7 +753,7 @@ code_v22 (v22.Dot r) = code_dot r
 code_v22 (v22.LongSum r) = code_long_sum r
 code_v22 (v22.LongDot r) = code_long_dot r
 
--- V23: the code of each name for signed elements, its size and registers 0
+-- V23: the code of VMAXV and VMINV of signed elements, their size and registers 0 (DDI0553, "VMAXV" and "VMINV")
 abbrev pub extreme_base : ExtremeName → ℕ
 extreme_base extreme.Max = 0xeee20f00
 extreme_base extreme.Min = 0xeee20f80

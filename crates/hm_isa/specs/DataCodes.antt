@@ -19,7 +19,8 @@ use Rattle.hm_isa.specs.declared.data.ExtractName.TheVariants as bits
 use Rattle.hm_isa.specs.declared.data.T6.{T6}
 use Rattle.hm_isa.specs.declared.data.T7.{T7}
 
--- the number of an operation
+-- T1 and T2: the number of AND, BIC, ORR, ORN, EOR, ADD, ADC, SBC, SUB and RSB
+-- (DDI0553, "Data-processing (modified immediate)" and "Data-processing (shifted register)")
 abbrev pub operation : DataName → ℕ
 operation data_.And = 0
 operation data_.Bic = 1
@@ -32,16 +33,17 @@ operation data_.Sbc = 11
 operation data_.Sub = 13
 operation data_.Rsb = 14
 
--- T1: AND, BIC, ORR, ORN, EOR, ADD, ADC, SBC, SUB and RSB of a constant (DDI0553, "Data-processing (modified immediate)")
+-- T1: AND, TST, BIC, ORR, MOV, ORN, MVN, EOR, TEQ, ADD, CMN, ADC, SBC, SUB, CMP, RSB of a constant (DDI0553, "Data-processing (modified immediate)")
 abbrev pub code_t1 : T1 → ℕ
 code_t1 r = 0xf0000000 + r.i.value ↑ 26 + operation r.name ↑ 21 + r.s.value ↑ 20 + r.n.value ↑ 16 + r.i3.value ↑ 12 + r.d.value ↑ 8 + r.i8.value
 
--- T2: AND, BIC, ORR, ORN, EOR, ADD, ADC, SBC, SUB and RSB of a shifted register (DDI0553, "Data-processing (shifted register)")
+-- T2: AND, TST, BIC, ORR, MOV, LSL, LSR, ASR, ROR, RRX, ORN, MVN, EOR, TEQ, ADD, CMN, ADC, SBC, SUB, CMP and RSB of a shifted register
+-- (DDI0553, "Data-processing (shifted register)")
 abbrev pub code_t2 : T2 → ℕ
 code_t2 r =
     0xea000000 + operation r.name ↑ 21 + r.s.value ↑ 20 + r.n.value ↑ 16 + r.i3.value ↑ 12 + r.d.value ↑ 8 + r.i2.value ↑ 6 + r.ty.value ↑ 4 + r.m.value
 
--- T3: the code of each name, its registers and constant 0
+-- T3: the code of ADDW and SUBW, their registers and constant 0 (DDI0553, "ADD (immediate)" and "SUB (immediate)", encodings T4)
 abbrev pub wide_sum_base : SumName → ℕ
 wide_sum_base sum_.Add = 0xf2000000
 wide_sum_base sum_.Sub = 0xf2a00000
@@ -50,7 +52,7 @@ wide_sum_base sum_.Sub = 0xf2a00000
 abbrev pub code_t3 : T3 → ℕ
 code_t3 r = wide_sum_base r.name + r.i.value ↑ 26 + r.n.value ↑ 16 + r.i3.value ↑ 12 + r.d.value ↑ 8 + r.i8.value
 
--- T4: the code of each name, its register and constant 0
+-- T4: the code of MOVW and MOVT, their register and constant 0 (DDI0553, "MOV (immediate)" and "MOVT")
 abbrev pub half_base : HalfName → ℕ
 half_base half.Movw = 0xf2400000
 half_base half.Movt = 0xf2c00000
@@ -59,7 +61,7 @@ half_base half.Movt = 0xf2c00000
 abbrev pub code_t4 : T4 → ℕ
 code_t4 r = half_base r.name + r.i4.value ↑ 16 + r.i.value ↑ 26 + r.i3.value ↑ 12 + r.d.value ↑ 8 + r.i8.value
 
--- T5: the code of each name, its registers, shift and width 0
+-- T5: the code of SSAT and USAT, their registers, shift and width 0 (DDI0553, "SSAT" and "USAT")
 abbrev pub saturate_base : SaturateName → ℕ
 saturate_base saturate.Ssat = 0xf3000000
 saturate_base saturate.Usat = 0xf3800000
@@ -68,7 +70,7 @@ saturate_base saturate.Usat = 0xf3800000
 abbrev pub code_t5 : T5 → ℕ
 code_t5 r = saturate_base r.name + r.sh.value ↑ 21 + r.n.value ↑ 16 + r.i3.value ↑ 12 + r.d.value ↑ 8 + r.i2.value ↑ 6 + r.s.value
 
--- T6: the code of each name, its registers, lowest bit and width 0
+-- T6: the code of SBFX and UBFX, their registers, lowest bit and width 0 (DDI0553, "SBFX" and "UBFX")
 abbrev pub extract_base : ExtractName → ℕ
 extract_base bits.Sbfx = 0xf3400000
 extract_base bits.Ubfx = 0xf3c00000

@@ -24,7 +24,7 @@ use Rattle.hm_isa.specs.Standing.{◌↑◌}
 abbrev pub code_wide_conditional : WideConditional → ℕ
 code_wide_conditional r = 0xf0008000 + r.s.value ↑ 26 + r.c.value ↑ 22 + r.i6.value ↑ 16 + r.j1.value ↑ 13 + r.j2.value ↑ 11 + r.i11.value
 
--- T16: the code of each name, the bits of its distance 0
+-- T16: the code of B under no condition, and of BL, the bits of their distance 0 (DDI0553, "B", encoding T4, and "BL", encoding T1)
 abbrev pub wide_branch_base : WideBranchName → ℕ
 wide_branch_base wide_branch.B = 0xf0009000
 wide_branch_base wide_branch.Bl = 0xf000d000
@@ -38,7 +38,7 @@ abbrev pub code_t16 : T16 → ℕ
 code_t16 (t16.Conditional r) = code_wide_conditional r
 code_t16 (t16.Always r) = code_wide_always r
 
--- T17: the code of each name, its registers 0
+-- T17: the code of TBB and TBH, their registers 0 (DDI0553, "TBB, TBH")
 abbrev pub table_base : TableName → ℕ
 table_base table.Tbb = 0xe8d0f000
 table_base table.Tbh = 0xe8d0f010
@@ -47,7 +47,7 @@ table_base table.Tbh = 0xe8d0f010
 abbrev pub code_t17 : T17 → ℕ
 code_t17 r = table_base r.name + r.n.value ↑ 16 + r.m.value
 
--- half the distance to the label, whose lowest bit stands highest
+-- T23: half the distance of WLS, WLSTP, LE and LETP, its lowest bit highest (DDI0553, "WLS, DLS, WLSTP, DLSTP" and "LE, LETP")
 abbrev pub label_field : ℕ → ℕ
 label_field v = (v / 2) ↑ 1 + (v % 2) ↑ 11
 
@@ -67,7 +67,7 @@ code_dlstp r = 0xf000e001 + r.z.value ↑ 20 + r.n.value ↑ 16
 abbrev pub code_wlstp : Wlstp → ℕ
 code_wlstp r = 0xf000c001 + r.z.value ↑ 20 + r.n.value ↑ 16 + label_field r.v.value
 
--- T23: the code of each form of LE and LETP, its distance 0
+-- T23: the code of each form of LE and LETP, its distance 0 (DDI0553, "LE, LETP")
 abbrev pub loop_end_base : LoopEndName → ℕ
 loop_end_base loop_end.LeLr = 0xf00fc001
 loop_end_base loop_end.Letp = 0xf01fc001

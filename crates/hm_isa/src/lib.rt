@@ -6,6 +6,7 @@ ghost use Rattle.hm_isa.specs.Code.{branch_halves, halfwords, scalar_halves};
 
 mod arith;
 mod data;
+pub mod distances;
 mod fields;
 mod jumps;
 mod memory;
@@ -13,6 +14,7 @@ mod narrow;
 mod system;
 mod vectors;
 mod wide;
+pub mod words;
 
 pub use arith::Accumulate;
 pub use arith::AccumulateName;

@@ -22,12 +22,12 @@ use Rattle.hm_lane.specs.Predicate.{with_context}
 use Rattle.hm_regs.specs.Stacks.{uses_process}
 use Rattle.hm_regs.specs.declared.Regs.{Regs}
 use Rattle.hm_thumb.specs.ArithRows.{t11}
-use Rattle.hm_thumb.specs.Arithmetic.{bit_is_set}
+use Rattle.hm_isa.specs.Words.{bit_is_set}
 use Rattle.hm_thumb.specs.DataRows.{data_row, put_bits, put_data_sum, put_if}
 use Rattle.hm_thumb.specs.MemoryRows.{put_all, put_words}
 use Rattle.hm_thumb.specs.RegisterRows.{byte_row, logic_row, put}
 use Rattle.hm_thumb.specs.SystemRows.{exchanged, lane_move, selected, system_move, t18, with_special}
-use Rattle.hm_thumb.specs.declared.arithmetic.Shifted.{Shifted}
+use Rattle.hm_isa.specs.declared.words.Shifted.{Shifted}
 use Rattle.hm_thumb.specs.declared.arithmetic.Sum.{Sum}
 use Rattle.hm_kept.proofs.Choices.{either}
 

@@ -19,10 +19,11 @@ use Rattle.hm_regs.proofs.Places.{value_at-other, value_at-same}
 use Rattle.hm_regs.proofs.Writes.{counted}
 use Rattle.hm_regs.specs.declared.Regs.{Regs}
 use Rattle.hm_state.specs.State.{State, regs_of}
-use Rattle.hm_thumb.specs.Arithmetic.{add_with_carry, negative}
+use Rattle.hm_isa.specs.Words.{imm12, negative}
+use Rattle.hm_thumb.specs.Arithmetic.{add_with_carry}
 use Rattle.hm_thumb.specs.Blocks.{advanced, advanced_byte, condition_holds, condition_passed, in_it_block}
 use Rattle.hm_thumb.specs.Does.{Does, Ends, alone, goes, run}
-use Rattle.hm_thumb.specs.DataRows.{half_put, imm12, t4}
+use Rattle.hm_thumb.specs.DataRows.{half_put, t4}
 use Rattle.hm_thumb.specs.RegisterRows.{byte_row, operand, put, put_any, reg, s4, s6, with_nz, with_nzcv}
 use Rattle.hm_thumb.specs.Rows.{instr_does, is_breakpoint, needs_context, runs, width}
 use Rattle.hm_thumb.specs.Steps.{Stepped, finish, flow_of, go_on, settled, step}

@@ -1,15 +1,17 @@
 //! `bx`, `blx`, `cbz`, `cbnz`, `b` and `bl`.
 
 ghost use Rattle.std.specs.Prelude.{◌≡◌, ℕ, ◌+◌, ◌%◌, ◌^◌, ◌≤◌, ◌<◌, OnErr};
-ghost use Rattle.hm_thumb.specs.BranchRows.{alike, always, always_distance, branch_if, conditional, conditional_distance, is_taken, link, linked, s23, s24, s25, t16, wide_always, wide_conditional};
+ghost use Rattle.hm_thumb.specs.BranchRows.{always, branch_if, conditional, is_taken, link, linked, s23, s24, s25, t16, wide_always, wide_conditional};
 ghost use Rattle.hm_thumb.specs.Does.{Ends};
 ghost use Rattle.hm_thumb.specs.RegisterRows.{put};
 ghost use Rattle.hm_thumb.specs.Steps.{ended};
 
 use hm_base::{Fault, Place};
-use hm_isa::{JumpName, S23, S24, S25, T16, WideAlways, WideBranchName, WideConditional, ZeroName};
+use hm_isa::distances::{always_distance, conditional_distance};
+use hm_isa::words::sign_extended;
+use hm_isa::{JumpName, S23, S24, S25, T16, WideAlways, WideBranchName, ZeroName};
 use hm_regs::Regs;
-use hm_thumb::{Way, blx_write, bx_write, condition_holds, sign_extended};
+use hm_thumb::{Way, blx_write, bx_write, condition_holds};
 
 /// Leaves the address of the next instruction in lr, with bit 0 set.
 fn set_link(bytes: u32, regs: &mut Regs)
@@ -72,43 +74,6 @@ pub fn branch(i: &S25, regs: &Regs) -> Way
         ),
         S25::Always(i) => branch_if(true, sign_extended(12, 2 * i.i.get()), regs),
     }
-}
-
-/// 1 where two bits are the same, and else 0.
-fn alike(j: u32, s: u32) -> u32
-    ensures value { result ≡ alike j s }
-    ensures bit { result ≤ 1 }
-{
-    if j == s { 1 } else { 0 }
-}
-
-/// `s:j2:j1:i6:i11:0`, in bytes
-fn conditional_distance(i: &WideConditional) -> u32
-    ensures value { result ≡ conditional_distance i.now }
-{
-    sign_extended(
-        21,
-        (i.s.get() << 20)
-            + (i.j2.get() << 19)
-            + (i.j1.get() << 18)
-            + (i.i6.get() << 12)
-            + i.i11.get() * 2,
-    )
-}
-
-/// `s:I1:I2:i10:i11:0`, in bytes
-fn always_distance(i: &WideAlways) -> u32
-    ensures value { result ≡ always_distance i.now }
-{
-    let s = i.s.get();
-    sign_extended(
-        25,
-        (s << 24)
-            + (alike(i.j1.get(), s) << 23)
-            + (alike(i.j2.get(), s) << 22)
-            + (i.i10.get() << 12)
-            + i.i11.get() * 2,
-    )
 }
 
 /// `b.w`, `bl label`

@@ -4,19 +4,20 @@ ghost use Rattle.std.specs.Prelude.{◌≡◌, ◌≤◌, ◌<◌, ◌+◌, ◌-
 ghost use Rattle.hm_base.specs.Bits.{put_field};
 ghost use Rattle.hm_thumb.specs.DataRows.{bits_with, half_put, put_saturated, saturated, t3, t4, t5, t6, t7};
 
-use crate::operands::{imm_shift_c, imm5, imm12, reg_or_zero};
+use crate::operands::{imm_shift_c, imm5, reg_or_zero};
 use crate::sums::sum_of;
 use hm_base::{Place, bits};
+use hm_isa::words::{SIGN, imm12, sign_extended};
 use hm_isa::{ExtractName, HalfName, SaturateName, T3, T4, T5, T6, T7};
 use hm_regs::Regs;
-use hm_thumb::{SIGN, base_of, sign_extended};
+use hm_thumb::base_of;
 
 /// `addw`, `subw rd,rn,#i12`
 pub fn add(i: &T3, regs: &mut Regs)
     ensures regs { regs.new ≡ t3 i.now regs.old }
 {
     let x = base_of(i.n.get(), regs);
-    let y = imm12(i.i.get(), i.i3.get(), i.i8.get());
+    let y = imm12(i.i, i.i3, i.i8);
     regs.set(Place::R(i.d.get() as u8), sum_of(i.name, x, y).result);
 }
 
@@ -36,7 +37,7 @@ pub fn move_half(i: &T4, regs: &mut Regs)
     ensures regs { regs.new ≡ t4 i.now regs.old }
 {
     let d = Place::R(i.d.get() as u8);
-    let x = (i.i4.get() << 12) + imm12(i.i.get(), i.i3.get(), i.i8.get());
+    let x = (i.i4.get() << 12) + imm12(i.i, i.i3, i.i8);
     regs.set(d, half_put(i.name, x, regs.get(d)));
 }
 

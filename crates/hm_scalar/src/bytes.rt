@@ -4,9 +4,9 @@ ghost use Rattle.std.specs.Prelude.{◌≡◌, ℕ, ◌<◌, ◌^◌};
 ghost use Rattle.hm_thumb.specs.RegisterRows.{byte_at, extended_by, half_of, s11, s12, swapped};
 
 use hm_base::Place;
+use hm_isa::words::sign_extended;
 use hm_isa::{ExtendName, S11, S12, SwapName};
 use hm_regs::Regs;
-use hm_thumb::sign_extended;
 
 /// The low halfword or byte of a word, with its sign or with zeros.
 pub fn extended_by(name: ExtendName, x: u32) -> u32

@@ -3,11 +3,12 @@
 ghost use Rattle.std.specs.Prelude.{◌≡◌, ◌<◌};
 ghost use Rattle.hm_thumb.specs.DataRows.{data_row, put_bits, put_data_sum, put_if, t1, t2};
 
-use crate::operands::{expand_imm_c, imm_shift_c, imm5, imm12, reg_or_zero};
+use crate::operands::{imm_shift_c, imm5, reg_or_zero};
 use hm_base::Place;
+use hm_isa::words::{Shifted, expand_imm_c, imm12};
 use hm_isa::{DataName, T1, T2};
 use hm_regs::Regs;
-use hm_thumb::{Shifted, Sum, add_with_carry, set_nzc, set_nzcv};
+use hm_thumb::{Sum, add_with_carry, set_nzc, set_nzcv};
 
 /// Puts a result into register `d`, if there is one.
 fn put_if(d: u32, x: u32, regs: &mut Regs)
@@ -68,7 +69,7 @@ pub fn with_constant(i: &T1, regs: &mut Regs)
     ensures regs { regs.new ≡ t1 i.now regs.old }
 {
     let x = reg_or_zero(i.n.get(), regs);
-    let y = expand_imm_c(imm12(i.i.get(), i.i3.get(), i.i8.get()), regs.c);
+    let y = expand_imm_c(imm12(i.i, i.i3, i.i8), regs.c);
     operate(i.name, i.s.get(), i.d.get(), x, y, regs);
 }
 

@@ -1,14 +1,14 @@
-//! Operands of 32-bit codes: registers, constants, and registers that are shifted.
+//! Operands of 32-bit codes: registers, and registers that are shifted.
 
-ghost use Rattle.std.specs.Prelude.{◌≡◌, ◌*◌, ◌<◌};
-ghost use Rattle.hm_thumb.specs.DataRows.{expand_imm_c, imm5, imm12, imm_shift_c, repeats, rrx_c};
+ghost use Rattle.std.specs.Prelude.{◌≡◌, ◌<◌};
+ghost use Rattle.hm_thumb.specs.DataRows.{imm5, imm_shift_c, rrx_c};
 ghost use Rattle.hm_thumb.specs.RegisterRows.{reg_or_zero};
 
 use crate::moves::amount;
 use hm_base::Place;
 use hm_isa::ShiftName;
+use hm_isa::words::{SIGN, ShiftType, Shifted, shift_c};
 use hm_regs::Regs;
-use hm_thumb::{SIGN, ShiftType, Shifted, shift_c};
 
 /// A register, where 15 stands for 0.
 pub fn reg_or_zero(n: u32, regs: &Regs) -> u32
@@ -22,17 +22,6 @@ pub fn reg_or_zero(n: u32, regs: &Regs) -> u32
     }
 }
 
-/// The bits `i`, `i3` and `i8` one behind another.
-pub fn imm12(i: u32, i3: u32, byte: u32) -> u32
-    requires i { i < 2 }
-    requires i3 { i3 < 8 }
-    requires byte { byte < 256 }
-    ensures value { result ≡ imm12 i i3 byte }
-    ensures below { result < 4096 }
-{
-    (i << 11) + (i3 << 8) + byte
-}
-
 /// The bits `i3` and `i2` one behind another.
 pub fn imm5(i3: u32, i2: u32) -> u32
     requires i3 { i3 < 8 }
@@ -41,33 +30,6 @@ pub fn imm5(i3: u32, i2: u32) -> u32
     ensures below { result < 32 }
 {
     (i3 << 2) + i2
-}
-
-/// A byte at one, two or all places of a word.
-fn repeated(byte: u32, k: u32) -> u32
-    requires { byte < 256 }
-    ensures value { result ≡ byte * repeats k }
-{
-    match k {
-        0 => byte,
-        1 => byte * 0x0001_0001,
-        2 => byte * 0x0100_0100,
-        _ => byte * 0x0101_0101,
-    }
-}
-
-/// The word that twelve bits stand for, and the carry: bit 31 of a byte that is rotated, or the one given.
-pub fn expand_imm_c(x: u32, carry: bool) -> Shifted
-    requires { x < 4096 }
-    ensures value { result ≡ expand_imm_c x carry }
-{
-    if x < 0x400 {
-        return Shifted {
-            result: repeated(x % 0x100, x / 0x100),
-            carry,
-        };
-    }
-    shift_c(ShiftType::Ror, 0x80 + x % 0x80, x / 0x80, carry)
 }
 
 /// A word shifted right by one bit, with the carry in front, and the bit that was shifted out.

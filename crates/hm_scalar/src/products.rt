@@ -4,11 +4,11 @@ ghost use Rattle.std.specs.Prelude.{◌≡◌, ℕ, ◌<◌, ◌≤◌, ◌^◌}
 ghost use Rattle.hm_thumb.specs.ArithRows.{accumulate_row, accumulated, long_result, long_row, magnitude, operated, operation_row, put_long, signed_product, signed_quotient, t11};
 
 use hm_base::Place;
+use hm_isa::words::{SIGN, extended};
 use hm_isa::{
     Accumulate, AccumulateName, LongProduct, LongProductName, Operation, OperationName, T11,
 };
 use hm_regs::Regs;
-use hm_thumb::{SIGN, extended};
 
 /// The magnitude of a word with its sign.
 fn magnitude(x: u32) -> u32

@@ -1,7 +1,7 @@
 //! Special registers, and scalar instructions on vector registers.
 
 ghost use Rattle.std.specs.Prelude.{◌≡◌, ℕ, ◌<◌, ◌≤◌, ◌^◌};
-ghost use Rattle.hm_thumb.specs.Arithmetic.{bit_is_set};
+ghost use Rattle.hm_isa.specs.Words.{bit_is_set};
 ghost use Rattle.hm_isa.specs.declared.system.WrittenName.{WrittenName};
 ghost use Rattle.hm_thumb.specs.SystemRows.{apsr, flag_at, selected, special, system_move, t18, t21, t22, with_flags, with_main, with_process, with_special};
 

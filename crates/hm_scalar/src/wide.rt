@@ -6,9 +6,10 @@ ghost use Rattle.hm_thumb.specs.ArithRows.{bits_of, otherwise, put_told, t8, t9,
 use crate::bytes::{extended_by, swapped};
 use crate::operands::reg_or_zero;
 use hm_base::Place;
+use hm_isa::words::{ShiftType, Shifted, rotated, shift_c};
 use hm_isa::{BitsName, SelectName, SwapName, T8, T9, T10, T20, WideShiftName};
 use hm_regs::Regs;
-use hm_thumb::{ShiftType, Shifted, condition_holds, rotated, set_nzc, shift_c};
+use hm_thumb::{condition_holds, set_nzc};
 
 /// How the row shifts.
 fn shift_of(name: WideShiftName) -> ShiftType

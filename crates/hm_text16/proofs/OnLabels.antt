@@ -14,13 +14,13 @@ use Rattle.hm_isa.specs.declared.narrow.ZeroName.{ZeroName}
 use Rattle.hm_isa.specs.declared.narrow.ZeroName.TheVariants as zero_
 use Rattle.hm_isa.specs.Code.{zero_base}
 use Rattle.hm_isa.specs.Standing.{◌↑◌}
+use Rattle.hm_isa.specs.Words.{sign_extended}
 use Rattle.hm_text16.specs.declared.operands.Kind.{Kind}
 use Rattle.hm_text16.specs.declared.operands.Kind.TheVariants as kinds
 use Rattle.hm_text16.specs.Codes.{code_of}
 use Rattle.hm_text_rows.specs.Labels.{behind, distance}
 use Rattle.hm_text_rows.proofs.Words.{at_below, below_holds, is_stem}
 use Rattle.hm_text16.specs.Stems.{branch_stem, zero_stem}
-use Rattle.hm_text16.specs.Targets.{twice_signed}
 use Rattle.hm_text16.proofs.Words.{a_low}
 use Rattle.hm_text16.proofs.Forms.{given, reads_label, reads_register_label}
 use Rattle.hm_text16.proofs.Asked.{Row, label_row}
@@ -89,19 +89,23 @@ record Field (half d i : ℕ) : Type 0 where
   small : d < 2 ^ 32
   back : d / 2 % (2 * half) ≡ i
 
-near_field : (i : ℕ) → i < 256 → Field 128 (twice_signed 128 i) i
-near_field i lt =
-    elim (cases_Bool (nat_lt i 128)) [
-      | inl e ↦ let h : i < 128 = grind (arith, nat_tests, e) in rw e (record { small = omega arith; back = omega arith })
-      | inr e ↦ let h : 128 ≤ i = grind (arith, nat_tests, e) in rw e (record { small = omega arith; back = omega arith })
-    ]
+near_field : (x i : ℕ) → x ≡ 2 * i → i < 256 → Field 128 (sign_extended 9 x) i
+near_field x i e lt =
+    let same : x % 2 ^ 9 ≡ x = omega arith in
+    rw same
+    (elim (cases_Bool (nat_lt x (2 ^ 8))) [
+      | inl f ↦ let low : x < 2 ^ 8 = grind (arith, nat_tests, f) in rw f (record { small = omega arith; back = omega arith })
+      | inr f ↦ let high : 2 ^ 8 ≤ x = grind (arith, nat_tests, f) in rw f (record { small = omega arith; back = omega arith })
+    ])
 
-far_field : (i : ℕ) → i < 2048 → Field 1024 (twice_signed 1024 i) i
-far_field i lt =
-    elim (cases_Bool (nat_lt i 1024)) [
-      | inl e ↦ let h : i < 1024 = grind (arith, nat_tests, e) in rw e (record { small = omega arith; back = omega arith })
-      | inr e ↦ let h : 1024 ≤ i = grind (arith, nat_tests, e) in rw e (record { small = omega arith; back = omega arith })
-    ]
+far_field : (x i : ℕ) → x ≡ 2 * i → i < 2048 → Field 1024 (sign_extended 12 x) i
+far_field x i e lt =
+    let same : x % 2 ^ 12 ≡ x = omega arith in
+    rw same
+    (elim (cases_Bool (nat_lt x (2 ^ 11))) [
+      | inl f ↦ let low : x < 2 ^ 11 = grind (arith, nat_tests, f) in rw f (record { small = omega arith; back = omega arith })
+      | inr f ↦ let high : 2 ^ 11 ≤ x = grind (arith, nat_tests, f) in rw f (record { small = omega arith; back = omega arith })
+    ])
 
 branch_field : (half i d pc a : ℕ) → pc < 2 ^ 32 → Field half d i → behind pc d ≡ a → distance (pc + 4) a / 2 % (2 * half) ≡ i
 branch_field half i d pc a hp f e =
@@ -111,7 +115,9 @@ branch_field half i d pc a hp f e =
 pub row_s25 : (i : S25) → Row (instr.Branch (branch.S25 i))
 row_s25 (s25.Conditional i) =
     label_row (instr.Branch (branch.S25 (s25.Conditional i))) (branch_stem i.c.value) _ _ refl refl (reads_label (branch_stem i.c.value) (stem_branch i.c.value i.c.in_range))
-    (λ t pc a hp re. asks_conditional i.c.value i.c.in_range _ i.i.value pc a (branch_field 128 i.i.value (twice_signed 128 i.i.value) pc a hp (near_field i.i.value i.i.in_range) re))
+    (λ t pc a hp re. asks_conditional i.c.value i.c.in_range _ i.i.value pc a
+    (branch_field 128 i.i.value (sign_extended 9 (2 * i.i.value)) pc a hp (near_field (2 * i.i.value) i.i.value refl i.i.in_range) re))
 row_s25 (s25.Always i) =
     label_row (instr.Branch (branch.S25 (s25.Always i))) (codes "b") _ _ refl refl (reads_label (codes "b") refl)
-    (λ t pc a hp re. asks_always _ i.i.value pc a (branch_field 1024 i.i.value (twice_signed 1024 i.i.value) pc a hp (far_field i.i.value i.i.in_range) re))
+    (λ t pc a hp re. asks_always _ i.i.value pc a
+    (branch_field 1024 i.i.value (sign_extended 12 (2 * i.i.value)) pc a hp (far_field (2 * i.i.value) i.i.value refl i.i.in_range) re))

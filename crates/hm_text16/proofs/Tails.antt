@@ -4,7 +4,7 @@ use Rattle.std.specs.Prelude.{◌↔◌, IsTrue}
 use Rattle.std.proofs.lemmas.Bool.{false≢true}
 use Rattle.hm_isa.specs.declared.Instr.{Instr}
 use Rattle.hm_tokens.specs.Tokens.{Tok, number}
-use Rattle.hm_text_rows.proofs.Tails.{last_one}
+use Rattle.hm_text_rows.proofs.Tails.{last_one, nothing_not}
 use Rattle.hm_text16.specs.Rows.{has_label, row_tokens, tokens_of}
 use Rattle.hm_text16.specs.Targets.{target}
 use Rattle.hm_text16.specs.Texts.{HasTokens, IsNarrow, IsRowAt, label_of}
@@ -37,9 +37,6 @@ labelled_no i ts front last e split not = (
   λ true_. absurd (false≢true true_),
   λ h. absurd (not (subst (λ (x : Tok). IsLabel x) (last_one (row_tokens i) front h.0 last (sym (with_label i h.0 e) ∙ h.1.tokens ∙ split)).1 h.1.label)),
 )
-
-nothing_not : (row ts : List Tok) (t : Tok) → row ++ t ∷ [] ≡ ts → ts ≡ [] → ⊥
-nothing_not row ts t e f = let n = ap length (e ∙ f) in omega (arith, n, length-append row (t ∷ []))
 
 pub labelled_none : (i : Instr) (ts : List Tok) → has_label i ≡ true → ts ≡ [] → IsTrue false ↔ Has i ts
 labelled_none i ts e f = (

@@ -24,7 +24,7 @@ use Rattle.hm_text16.specs.declared.operands.Operands.{Operands}
 use Rattle.hm_text16.specs.Operands.{read_operands}
 
 -- BASES, by the mnemonics
--- S1: the base code of LSLS, LSRS and ASRS by a constant, its fields 0
+-- S1: the base code of LSLS, LSRS and ASRS by a constant, its fields 0 (DDI0553, "LSL (immediate)", "LSR (immediate)" and "ASR (immediate)")
 abbrev pub shift_base_in : List ℕ → Option ℕ
 shift_base_in s =
     if bytes_eq s (codes "lsls") then Some (shift_base shift.Lsl)
@@ -32,14 +32,14 @@ shift_base_in s =
     else if bytes_eq s (codes "asrs") then Some (shift_base shift.Asr)
     else None
 
--- S2 and S3: the base code of ADDS and SUBS, as S2 has it
+-- S2 and S3: the base code of ADDS and SUBS, as S2 has it (DDI0553, "ADD (register)" and "SUB (register)")
 abbrev pub sum_base_in : List ℕ → Option ℕ
 sum_base_in s =
     if bytes_eq s (codes "adds") then Some (sum_base sum_.Add)
     else if bytes_eq s (codes "subs") then Some (sum_base sum_.Sub)
     else None
 
--- S10: the base code of ADD and SUB with sp and a constant
+-- S10: the base code of ADD and SUB with sp and a constant (DDI0553, "ADD (SP plus immediate)" and "SUB (SP minus immediate)")
 abbrev pub stack_sum_base_in : List ℕ → Option ℕ
 stack_sum_base_in s =
     if bytes_eq s (codes "add") then Some (stack_sum_base sum_.Add)
@@ -47,6 +47,7 @@ stack_sum_base_in s =
     else None
 
 -- S4: the base code of MOVS, CMP, ADDS and SUBS with a constant of eight bits
+-- (DDI0553, "MOV (immediate)", "CMP (immediate)", "ADD (immediate)" and "SUB (immediate)")
 abbrev pub byte_base_in : List ℕ → Option ℕ
 byte_base_in s =
     if bytes_eq s (codes "movs") then Some (byte_base byte.Mov)
@@ -55,7 +56,7 @@ byte_base_in s =
     else if bytes_eq s (codes "subs") then Some (byte_base byte.Sub)
     else None
 
--- of S5 from `ands` to `rors`
+-- S5: the base code of ANDS, EORS, LSLS, LSRS, ASRS, ADCS, SBCS and RORS, by the mnemonic (DDI0553, the register form of each)
 abbrev pub front_base_in : List ℕ → Option ℕ
 front_base_in s =
     if bytes_eq s (codes "ands") then Some (logic_base logic.Ands)
@@ -68,7 +69,8 @@ front_base_in s =
     else if bytes_eq s (codes "rors") then Some (logic_base logic.Rors)
     else None
 
--- of S5 from `tst` to `mvns`
+-- S5: the base code of TST, RSBS, CMN, ORRS, MULS, BICS and MVNS, by the mnemonic; CMP is told by its registers
+-- (DDI0553, the register form of each, "RSB (immediate)" and "MUL")
 abbrev pub rear_base_in : List ℕ → Option ℕ
 rear_base_in s =
     if bytes_eq s (codes "tst") then Some (logic_base logic.Tst)
@@ -80,12 +82,11 @@ rear_base_in s =
     else if bytes_eq s (codes "mvns") then Some (logic_base logic.Mvns)
     else None
 
--- of two lower registers, S5, S11 and S12; `cmp` is told by its registers
--- S5: the base code of each mnemonic but CMP
+-- S5: the base code of ANDS to MVNS but CMP, by the mnemonic (DDI0553, the register form of each, "RSB (immediate)" and "MUL")
 abbrev pub low_base_in : List ℕ → Option ℕ
 low_base_in s = first (front_base_in s) (rear_base_in s)
 
--- S11 and S12: the base code of SXTH, SXTB, UXTH, UXTB, REV, REV16 and REVSH
+-- S11 and S12: the base code of SXTH, SXTB, UXTH, UXTB, REV, REV16 and REVSH (DDI0553, "SXTH", "SXTB", "UXTH", "UXTB", "REV", "REV16" and "REVSH")
 abbrev pub move_base_in : List ℕ → Option ℕ
 move_base_in s =
     if bytes_eq s (codes "sxth") then Some (extend_base extend.Sxth)
@@ -97,14 +98,14 @@ move_base_in s =
     else if bytes_eq s (codes "revsh") then Some (swap_base swap_.Revsh)
     else None
 
--- of two registers of any number, S6 and S8
+-- S6 and S8: the base code of ADD and MOV of two registers of any number, by the mnemonic (DDI0553, "ADD (register)" and "MOV (register)")
 abbrev pub high_base_in : List ℕ → Option ℕ
 high_base_in s =
     if bytes_eq s (codes "add") then Some 0x4400
     else if bytes_eq s (codes "mov") then Some 0x4600
     else None
 
--- of accesses by register, S15
+-- S15: the base code of STR, STRH, STRB, LDRSB, LDR, LDRH, LDRB and LDRSH by a register (DDI0553, the register form of each, as "STR (register)")
 abbrev pub access_base_in : List ℕ → Option ℕ
 access_base_in s =
     if bytes_eq s (codes "str") then Some (access_base access.Str)
@@ -117,36 +118,35 @@ access_base_in s =
     else if bytes_eq s (codes "ldrsh") then Some (access_base access.Ldrsh)
     else None
 
--- of accesses of words, bytes and halfwords by an offset, S16, and of words by one from sp, S17
--- S16: the base code of STR and LDR
+-- S16: the base code of STR and LDR (DDI0553, the immediate form of each, as "STR (immediate)")
 abbrev pub word_base_in : List ℕ → Option ℕ
 word_base_in s =
     if bytes_eq s (codes "str") then Some (plain_base plain.Str)
     else if bytes_eq s (codes "ldr") then Some (plain_base plain.Ldr)
     else None
 
--- S16: the base code of STRB and LDRB
+-- S16: the base code of STRB and LDRB (DDI0553, the immediate form of each, as "STR (immediate)")
 abbrev pub byte_access_base_in : List ℕ → Option ℕ
 byte_access_base_in s =
     if bytes_eq s (codes "strb") then Some (plain_base plain.Strb)
     else if bytes_eq s (codes "ldrb") then Some (plain_base plain.Ldrb)
     else None
 
--- S16: the base code of STRH and LDRH
+-- S16: the base code of STRH and LDRH (DDI0553, the immediate form of each, as "STR (immediate)")
 abbrev pub half_base_in : List ℕ → Option ℕ
 half_base_in s =
     if bytes_eq s (codes "strh") then Some (plain_base plain.Strh)
     else if bytes_eq s (codes "ldrh") then Some (plain_base plain.Ldrh)
     else None
 
--- S17: the base code of STR and LDR from sp
+-- S17: the base code of STR and LDR from sp (DDI0553, "STR (immediate)" and "LDR (immediate)")
 abbrev pub stack_base_in : List ℕ → Option ℕ
 stack_base_in s =
     if bytes_eq s (codes "str") then Some (word_base word_.Str)
     else if bytes_eq s (codes "ldr") then Some (word_base word_.Ldr)
     else None
 
--- of what has no letters, S13 and S19
+-- S13 and S19: the code of CPSIE, CPSID, NOP, YIELD, WFE, WFI and SEV, which have no letters (DDI0553, "CPS", "NOP", "YIELD", "WFE", "WFI" and "SEV")
 abbrev pub fixed_code_in : List ℕ → Option ℕ
 fixed_code_in s =
     if bytes_eq s (codes "nop") then Some (hint_base hint.Nop)
@@ -158,21 +158,21 @@ fixed_code_in s =
     else if bytes_eq s (codes "cpsid") then Some (masking_base masking.Cpsid)
     else None
 
--- S23: the base code of BX and BLX
+-- S23: the base code of BX and BLX (DDI0553, "BX" and "BLX (register)")
 abbrev pub jump_base_in : List ℕ → Option ℕ
 jump_base_in s =
     if bytes_eq s (codes "bx") then Some (jump_base jump.Bx)
     else if bytes_eq s (codes "blx") then Some (jump_base jump.Blx)
     else None
 
--- S24: the base code of CBZ and CBNZ
+-- S24: the base code of CBZ and CBNZ (DDI0553, "CBZ, CBNZ")
 abbrev pub zero_base_in : List ℕ → Option ℕ
 zero_base_in s =
     if bytes_eq s (codes "cbz") then Some (zero_base zero_.Cbz)
     else if bytes_eq s (codes "cbnz") then Some (zero_base zero_.Cbnz)
     else None
 
--- of a block of at most three
+-- S21: the mask of IT with at most two letters more, whose block is of at most three (DDI0553, "IT")
 abbrev pub short_block_in : List ℕ → Option ℕ
 short_block_in s =
     if bytes_eq s (codes "it") then Some 8
@@ -184,7 +184,7 @@ short_block_in s =
     else if bytes_eq s (codes "itee") then Some 14
     else None
 
--- of a block of four
+-- S21: the mask of IT with three letters more, whose block is of four (DDI0553, "IT")
 abbrev pub long_block_in : List ℕ → Option ℕ
 long_block_in s =
     if bytes_eq s (codes "itttt") then Some 1
@@ -197,7 +197,7 @@ long_block_in s =
     else if bytes_eq s (codes "iteee") then Some 15
     else None
 
--- the mask of a block under a condition with the low bit 0; under another it is 16 less this
+-- S21: the mask of a block under a condition with the low bit 0; under another it is 16 less this (DDI0553, "IT")
 abbrev pub block_in : List ℕ → Option ℕ
 block_in s = first (short_block_in s) (long_block_in s)
 
@@ -296,7 +296,7 @@ code_jump s o = option_map (λ b. b + o.first ↑ 3) (jump_base_in s)
 abbrev pub code_break : List ℕ → Operands → Option ℕ
 code_break s o = if bytes_eq s (codes "bkpt") then Some (0xbe00 + o.first) else None
 
--- the mask of an IT block under condition c, made of the one under a condition with the low bit 0
+-- S21: the mask of a block under condition c, made of the one under a condition with the low bit 0 (DDI0553, "IT")
 abbrev pub block_mask : ℕ → ℕ → ℕ
 block_mask c even = if c % 2 == 0 then even else 16 - even
 
@@ -308,7 +308,7 @@ code_block s o = option_map (λ m. 0xbf00 + o.first ↑ 4 + block_mask o.first m
 abbrev pub code_single : List ℕ → Operands → Option ℕ
 code_single s o = first (fixed_code_in s) (first (code_jump s o) (first (code_break s o) (code_block s o)))
 
--- lists: S20
+-- S20: the code of PUSH, POP, STM and LDM with a list (DDI0553, "STMDB, STMFD", "LDM, LDMIA, LDMFD" and "STM, STMIA, STMEA")
 abbrev pub code_list : List ℕ → Operands → Option ℕ
 code_list s o =
     if bytes_eq s (codes "push") then Some (0xb400 + (o.registers / 2 ^ 14 % 2) ↑ 8 + o.registers % 256)
@@ -322,7 +322,7 @@ code_list s o =
 abbrev pub code_literal : List ℕ → Operands → ℕ → ℕ → Option ℕ
 code_literal s o pc a = if bytes_eq s (codes "ldr") then Some (of_byte 0x4800 o.first (distance ((pc + 4) / 4 * 4) a / 4 % 256)) else None
 
--- S24: a base code with the register n at bit 0, the lower five bits of i at bit 3, and its bit 5 at bit 9
+-- S24: a base code with the register n at bit 0, the lower five bits of i at bit 3, and its bit 5 at bit 9 (DDI0553, "CBZ, CBNZ")
 abbrev pub zero_code : ℕ → ℕ → ℕ → ℕ
 zero_code base n i = base + (i / 32) ↑ 9 + (i % 32) ↑ 3 + n
 

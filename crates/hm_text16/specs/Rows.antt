@@ -23,20 +23,20 @@ use Rattle.hm_text_rows.specs.Shapes.{and_constant, braces, comma, constant, ins
 use Rattle.hm_text16.specs.Stems.{access_stem, block_condition, block_stem, branch_stem, byte_stem, extend_stem, hint_stem, jump_stem, logic_stem, masking_stem, plain_stem, shift_stem, stack_sum_stem, sum_stem, swap_stem, word_stem, zero_stem}
 
 -- SHAPES
--- `rt,[rn,rm]`
+-- S15: the tokens of an access at two registers, `rt,[rn,rm]` (DDI0553, the register form of each, as "STR (register)")
 abbrev pub by_register : List ℕ → ℕ → ℕ → ℕ → List Tok
 by_register name t n m = word name ∷ r t ∷ comma ∷ mark 91 ∷ r n ∷ comma ∷ r m ∷ mark 93 ∷ []
 
--- `rt,[rn,#k]`
+-- S16: the tokens of an access at a number, `rt,[rn,#k]` (DDI0553, the immediate form of each, as "STR (immediate)")
 abbrev pub by_number : List ℕ → ℕ → ℕ → ℕ → List Tok
 by_number name t n k = word name ∷ r t ∷ comma ∷ inside 1 0 (r n) k
 
 -- LISTS
--- `ldm rn!,`, or `ldm rn,` where rn is listed and there is no writeback
+-- S20: the beginning of LDM, `ldm rn!,`, or `ldm rn,` where rn is listed and there is no writeback (DDI0553, "LDM, LDMIA, LDMFD")
 abbrev pub load_start : ℕ → ℕ → List Tok
 load_start n list = if listed_in list n then word (codes "ldm") ∷ r n ∷ comma ∷ [] else word (codes "ldm") ∷ r n ∷ mark 33 ∷ comma ∷ []
 
--- lr is register 14 and pc is register 15
+-- S20: the tokens of PUSH, POP, STM and LDM; lr is register 14 and pc is register 15 (DDI0553, "STMDB, STMFD", "LDM, LDMIA, LDMFD" and "STM, STMIA, STMEA")
 abbrev pub list_tokens : ListName → ℕ → ℕ → ℕ → List Tok
 list_tokens list.Push x n regs = word (codes "push") ∷ braces (regs + x ↑ 14)
 list_tokens list.Pop x n regs = word (codes "pop") ∷ braces (regs + x ↑ 15)
@@ -44,18 +44,18 @@ list_tokens list.Stm x n regs = word (codes "stm") ∷ r n ∷ mark 33 ∷ comma
 list_tokens list.Ldm x n regs = load_start n regs ++ braces regs
 
 -- ROWS
--- 0 stands for 32 in shifts to the right
+-- S1: the number of a shift as it is written: 0 stands for 32 in shifts to the right (DDI0553, "LSL (immediate)", "LSR (immediate)" and "ASR (immediate)")
 abbrev pub shift_number : ShiftName → ℕ → ℕ
 shift_number shift.Lsl i = i
 shift_number shift.Lsr i = if nat_eq i 0 then 32 else i
 shift_number shift.Asr i = if nat_eq i 0 then 32 else i
 
--- S9: the number of the register that is added to, 15 for pc and 13 for sp
+-- S9: the number of the register that is added to, 15 for pc and 13 for sp (DDI0553, "ADR" and "ADD (SP plus immediate)")
 abbrev pub base_register : BaseName → ℕ
 base_register base.Pc = 15
 base_register base.Sp = 13
 
--- how many bytes an access has
+-- S16: how many bytes an access has (DDI0553, the immediate form of each, as "STR (immediate)")
 abbrev pub plain_size : PlainName → ℕ
 plain_size plain.Str = 4
 plain_size plain.Ldr = 4
@@ -64,7 +64,7 @@ plain_size plain.Ldrb = 1
 plain_size plain.Strh = 2
 plain_size plain.Ldrh = 2
 
--- S25: the tokens of B with a condition or with none, before the label
+-- S25: the tokens of B with a condition or with none, before the label (DDI0553, "B", encodings T1 and T2)
 abbrev pub jump_tokens : JumpRow → List Tok
 jump_tokens (s25.Conditional i) = word (branch_stem i.c.value) ∷ []
 jump_tokens (s25.Always i) = word (codes "b") ∷ []

@@ -1,5 +1,5 @@
 -- The address that the label of a row names.
-use Rattle.std.specs.Prelude.{ℕ, ◌+◌, ◌-◌, ◌*◌, ◌/◌, ◌%◌, ◌^◌, Option, Some, None, nat_lt, if◌then◌else◌}
+use Rattle.std.specs.Prelude.{ℕ, ◌+◌, ◌*◌, ◌/◌, ◌%◌, ◌^◌, Option, Some, None}
 use Rattle.hm_isa.specs.declared.Instr.{Instr}
 use Rattle.hm_isa.specs.declared.Instr.TheVariants.{Scalar, Branch, Vector}
 use Rattle.hm_isa.specs.declared.Scalar.{Scalar as ScalarRow}
@@ -8,18 +8,15 @@ use Rattle.hm_isa.specs.declared.Branch.{Branch as BranchRow}
 use Rattle.hm_isa.specs.declared.Branch.TheVariants.{S24, S25}
 use Rattle.hm_isa.specs.declared.narrow.S25.{S25 as JumpRow}
 use Rattle.hm_isa.specs.declared.narrow.S25.TheVariants as s25
+use Rattle.hm_isa.specs.Words.{sign_extended}
 use Rattle.hm_text_rows.specs.Labels.{behind}
 
--- twice a number of which the upper half counts from below, modulo 2^32
-abbrev pub twice_signed : ℕ → ℕ → ℕ
-twice_signed half i = if nat_lt i half then 2 * i else 2 ^ 32 - 4 * half + 2 * i
-
--- S25: the address that the label of a branch at pc names, its offset signed and twice the number in the code
+-- S25: the address that the label of a branch at pc names, its offset signed and twice the number in the code (DDI0553, "B", encodings T1 and T2)
 abbrev pub jump_target : JumpRow → ℕ → ℕ
-jump_target (s25.Conditional i) pc = behind pc (twice_signed 128 i.i.value)
-jump_target (s25.Always i) pc = behind pc (twice_signed 1024 i.i.value)
+jump_target (s25.Conditional i) pc = behind pc (sign_extended 9 (2 * i.i.value))
+jump_target (s25.Always i) pc = behind pc (sign_extended 12 (2 * i.i.value))
 
--- for S14 the address plus 4 is rounded down to a word
+-- S14: the address that the label of LDR at pc names: from pc plus 4, rounded down to a word (DDI0553, "LDR (literal)")
 abbrev pub scalar_target : ScalarRow → ℕ → Option ℕ
 scalar_target (S14 i) pc = Some (((pc + 4) / 4 * 4 + 4 * i.i.value) % 2 ^ 32)
 scalar_target i pc = None

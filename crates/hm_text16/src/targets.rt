@@ -1,32 +1,19 @@
 //! The address that the label of a row names.
 
 ghost use Rattle.std.specs.Prelude.{◌≡◌, ◌<◌, ◌+◌, ◌*◌, ◌/◌, ◌%◌, ◌^◌};
-ghost use Rattle.hm_text16.specs.Targets.{branch_target, jump_target, scalar_target, target, twice_signed};
+ghost use Rattle.hm_text16.specs.Targets.{branch_target, jump_target, scalar_target, target};
 
+use hm_isa::words::sign_extended;
 use hm_isa::{Branch, Instr, S25, Scalar};
 use hm_text_rows::behind;
-
-/// Twice a number of which the upper half counts from below, modulo 2^32.
-fn twice_signed(half: u64, i: u32) -> u64
-    requires { (half < 4096) × (i < 4096) }
-    ensures value { result ≡ twice_signed half i }
-    ensures small { result < 2 ^ 33 }
-{
-    let i = u64::from(i);
-    if i < half {
-        2 * i
-    } else {
-        0x1_0000_0000 - 4 * half + 2 * i
-    }
-}
 
 /// The target of a branch S25.
 fn jump_target(i: &S25, pc: u32) -> u32
     ensures { result ≡ jump_target i.now pc }
 {
     match i {
-        S25::Conditional(i) => behind(pc, twice_signed(128, i.i.get())),
-        S25::Always(i) => behind(pc, twice_signed(1024, i.i.get())),
+        S25::Conditional(i) => behind(pc, u64::from(sign_extended(9, 2 * i.i.get()))),
+        S25::Always(i) => behind(pc, u64::from(sign_extended(12, 2 * i.i.get()))),
     }
 }
 

@@ -14,7 +14,7 @@ use Rattle.hm_isa.specs.DataRules.{is_constant, is_first, is_result, may_test}
 use Rattle.hm_isa.specs.Standing.{◌↑◌}
 use Rattle.hm_enc32.specs.Table.{HasWord}
 use Rattle.hm_tokens.proofs.Again.{or_true}
-use Rattle.hm_thumb.specs.DataRows.{expand_imm_c, imm12, repeats}
+use Rattle.hm_isa.specs.Words.{expand_imm_c, imm12, repeats}
 use Rattle.hm_text32.specs.Codes.{code_of, constant_code, constant_field, shift_of}
 use Rattle.hm_text32.specs.Rows.{constant_in, constant_tokens}
 use Rattle.hm_text32.specs.Stems.{data_stem, move_stem, test_stem, wide}

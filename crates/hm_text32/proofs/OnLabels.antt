@@ -19,8 +19,8 @@ use Rattle.hm_isa.specs.declared.jumps.Wls.{Wls}
 use Rattle.hm_isa.specs.declared.jumps.Wlstp.{Wlstp}
 use Rattle.hm_isa.specs.JumpCodes.{code_loop_end, code_wide_always, code_wide_conditional, code_wls, code_wlstp, loop_end_base, wide_branch_base}
 use Rattle.hm_isa.specs.Standing.{◌↑◌}
-use Rattle.hm_thumb.specs.Arithmetic.{sign_extended}
-use Rattle.hm_thumb.specs.BranchRows.{alike, always_distance, conditional_distance}
+use Rattle.hm_isa.specs.Words.{sign_extended}
+use Rattle.hm_isa.specs.Distances.{alike, always_distance, conditional_distance}
 use Rattle.hm_tokens.specs.Names.{condition_name, register_name}
 use Rattle.hm_tokens.specs.Tokens.{Tok, word}
 use Rattle.hm_text_rows.specs.Labels.{behind, distance}

@@ -7,7 +7,7 @@ use Rattle.hm_isa.specs.declared.Instr.TheVariants as instr
 use Rattle.hm_enc32.specs.Table.{IsWide}
 use Rattle.hm_tokens.specs.Tokens.{Tok, number}
 use Rattle.hm_text_rows.specs.Labels.{IsLabel, Reaches}
-use Rattle.hm_text_rows.proofs.Tails.{last_one}
+use Rattle.hm_text_rows.proofs.Tails.{last_one, nothing_not}
 use Rattle.hm_text32.specs.Rows.{has_label, other_tokens, row_tokens, tokens_of}
 use Rattle.hm_text32.specs.Targets.{target}
 use Rattle.hm_text32.specs.Texts.{AreTokens, HasTokens, IsRowAt, label_of}
@@ -50,9 +50,6 @@ labelled_no i ts front last e split not = (
   λ true_. absurd (false≢true true_),
   λ h. absurd (not (subst (λ (x : Tok). IsLabel x) (last_one (row_tokens i) front h.0 last (printed_ones i h.0 ts e h.1.tokens ∙ split)).1 h.1.label)),
 )
-
-nothing_not : (row ts : List Tok) (t : Tok) → row ++ t ∷ [] ≡ ts → ts ≡ [] → ⊥
-nothing_not row ts t e f = let n = ap length (e ∙ f) in omega (arith, n, length-append row (t ∷ []))
 
 pub labelled_none : (i : Instr) (ts : List Tok) → has_label i ≡ true → ts ≡ [] → IsTrue false ↔ Has i ts
 labelled_none i ts e f = (

@@ -22,16 +22,16 @@ where_ b code (Some base) = if b then Some (code base) else None
 where_ b code None = None
 
 -- CONSTANTS of T1
--- how far a byte is shifted left that has its highest bit, by at most n
+-- T1: how far a byte of a constant is shifted left that has its highest bit, by at most n (DDI0553, "Data-processing (modified immediate)")
 unfoldable pub shift_of : ℕ → ℕ → ℕ
 shift_of zero c = 0
 shift_of (suc n) c = if nat_lt c 256 then 0 else 1 + shift_of n (c / 2)
 
--- T1: the twelve bits of a constant that is a byte with its highest bit 1, shifted left by k
+-- T1: the twelve bits of a constant that is a byte with its highest bit 1, shifted left by k (DDI0553, "Data-processing (modified immediate)")
 abbrev pub rotated_field : ℕ → ℕ → ℕ
 rotated_field c k = (32 - k) * 128 + c / 2 ^ k % 128
 
--- the twelve bits that stand for a constant: a byte at one, two or four places, or one that is rotated
+-- T1: the twelve bits that stand for a constant: a byte at one, two or four places, or one that is rotated (DDI0553, "Data-processing (modified immediate)")
 unfoldable pub constant_field : ℕ → ℕ
 constant_field c =
     if nat_lt c 256 then c
@@ -40,7 +40,7 @@ constant_field c =
     else if c == c % 256 * 0x01010101 then 0x300 + c % 256
     else rotated_field c (shift_of 24 c)
 
--- T1: the code of an operation with the twelve bits x of a constant, made of its base code of T2
+-- T1: the code of an operation with the twelve bits x of a constant, made of its base code of T2 (DDI0553, "Data-processing (modified immediate)")
 abbrev pub constant_code : ℕ → ℕ → ℕ → ℕ → ℕ
 constant_code base n d x = of_three (base + 0x06000000 + (x / 2048) ↑ 26) n (x / 256 % 8) d (x % 256)
 
@@ -56,11 +56,11 @@ code_constant_test s o = where_ o.second_is_number (λ b. constant_code b o.firs
 abbrev pub code_constant_move : List ℕ → Operands → Option ℕ
 code_constant_move s o = where_ o.second_is_number (λ b. constant_code b 15 o.first (constant_field o.second)) (move_base_in s)
 
--- T1: the code of an operation with a constant, by the stem; None where a register stands in its place
+-- T1: the code of an operation with a constant, by the stem; None where a register stands in its place (DDI0553, "Data-processing (modified immediate)")
 abbrev pub code_constant : List ℕ → Operands → Option ℕ
 code_constant s o = first (code_constant_data s o) (first (code_constant_test s o) (code_constant_move s o))
 
--- T2, of a register shifted by k, where 32 is 0
+-- T2: the code of an operation with a register shifted by k, where 32 is 0, made of its base code (DDI0553, "Data-processing (shifted register)")
 abbrev pub shifted_code : ℕ → ℕ → ℕ → ℕ → ℕ → ℕ → ℕ
 shifted_code base n d m ty k = of_three (base + (k % 4) ↑ 6 + ty ↑ 4) n (k % 32 / 4) d m
 
@@ -81,6 +81,7 @@ abbrev pub code_turn : List ℕ → Operands → Option ℕ
 code_turn s o = where_ o.third_is_number (λ b. shifted_code b 15 o.first o.second 0 o.third) (turn_base_in s)
 
 -- T1 and T2: the code of an operation with a constant or a shifted register, by the stem
+-- (DDI0553, "Data-processing (modified immediate)" and "Data-processing (shifted register)")
 abbrev pub code_shifted : List ℕ → Operands → Option ℕ
 code_shifted s o = first (code_constant s o) (first (code_turn s o) (first (code_data s o) (first (code_test s o) (code_move s o))))
 
@@ -118,7 +119,7 @@ abbrev pub code_half : List ℕ → Operands → Option ℕ
 code_half s o =
     option_map (λ b. of_three (b + (o.second / 2048 % 2) ↑ 26) (o.second / 4096) (o.second / 256 % 8) o.first (o.second % 256)) (half_base_in s)
 
--- T5, of this many bits
+-- T5: the code of SSAT and USAT to so many bits, made of the base code (DDI0553, "SSAT" and "USAT")
 abbrev pub saturate_code : ℕ → ℕ → Operands → ℕ
 saturate_code base s o = of_three (base + (o.fourth / 2) ↑ 21 + (o.fifth % 4) ↑ 6 + s) o.third (o.fifth / 4) o.first 0
 
@@ -134,7 +135,7 @@ abbrev pub code_extract : List ℕ → Operands → Option ℕ
 code_extract s o =
     option_map (λ b. of_three (b + (o.third % 4) ↑ 6 + (o.fourth - 1)) o.second (o.third / 4) o.first 0) (extract_base_in s)
 
--- T7, of a register or of none, at this bit and of this width
+-- T7: the code of BFI of a register and of BFC, whose n is 15, at this bit and of this width (DDI0553, "BFI" and "BFC")
 abbrev pub insert_code : ℕ → ℕ → ℕ → Operands → ℕ
 insert_code n low width o = of_three (0xf3600000 + (low % 4) ↑ 6 + (low + width - 1)) n (low / 4) o.first 0
 
@@ -145,8 +146,7 @@ code_insert s o =
     else if bytes_eq s (codes "bfc") then Some (insert_code 15 o.second o.third o)
     else None
 
--- T15, of the first register and the last
--- T15: the code of VPUSH and VPOP (DDI0553, "VPUSH" and "VPOP")
+-- T15: the code of VPUSH and VPOP of the first register and the last (DDI0553, "VPUSH" and "VPOP")
 abbrev pub code_stack : List ℕ → Operands → Option ℕ
 code_stack s o = option_map (λ b. b + o.first ↑ 12 + (o.second + 1 - o.first) ↑ 1) (stack_base_in s)
 
@@ -167,18 +167,18 @@ code_special s o =
     else if bytes_eq s (codes "vmsr") then Some (of_three 0xeee00a10 o.first o.second 0 0)
     else None
 
--- T22: register q, lane x, register t
+-- T22: register q, lane x, register t (DDI0553, "VMOV (general-purpose register to vector lane)" and "VMOV (vector lane to general-purpose register)")
 abbrev pub lane_code : ℕ → ℕ → ℕ → ℕ → ℕ
 lane_code base d x t = base + (x % 2) ↑ 21 + d ↑ 17 + (x / 2) ↑ 16 + t ↑ 12
 
--- T22: the code of VMOV between a core register and a word of a vector (DDI0553, "VMOV (general-purpose register to vector lane)")
+-- T22: the code of VMOV between a core register and a word of a vector
+-- (DDI0553, "VMOV (general-purpose register to vector lane)" and "VMOV (vector lane to general-purpose register)")
 abbrev pub code_lane : List ℕ → Operands → Option ℕ
 code_lane s o =
     if bytes_eq s (codes "vmov") then Some (if o.is_vector then lane_code 0xee000b10 o.first o.second o.third else lane_code 0xee100b10 o.second o.third o.first)
     else None
 
--- `nop.w`, T23
--- T19 and T23: the code of NOP, DLS, DLSTP and LCTP (DDI0553, "NOP", "WLS, DLS, WLSTP, DLSTP" and "LCTP")
+-- T19 and T23: the code of NOP, which is wide, and of DLS, DLSTP and LCTP (DDI0553, "NOP", "WLS, DLS, WLSTP, DLSTP" and "LCTP")
 abbrev pub code_alone : List ℕ → Operands → Option ℕ
 code_alone s o =
     if bytes_eq s (codes "nop") then Some 0xf3af8000
@@ -220,10 +220,12 @@ plain_code_in (mark c ∷ ts) = None
 
 -- LOADS AND STORES
 -- T12: the code of a load or store with an index, where P, U and W say how, at bits 10, 9 and 8
+-- (DDI0553, "LDR (immediate)", "LDR (literal)", "LDR (register)" and the like of each)
 abbrev pub indexed_code : ℕ → Places → ℕ
 indexed_code base o = base + 0x0800 + o.second ↑ 16 + o.first ↑ 12 + o.before ↑ 10 + o.added ↑ 9 + o.back ↑ 8 + o.third
 
--- T12, with an offset: at pc, added alone, and else with an index
+-- T12: the code of a load or store with an offset: at pc, added alone, and else with an index
+-- (DDI0553, "LDR (immediate)", "LDR (literal)", "LDR (register)" and the like of each)
 abbrev pub offset_code : ℕ → Places → ℕ
 offset_code base o =
     if o.back == 0 && o.second == 15 then base + 0x000f0000 + o.added ↑ 23 + o.first ↑ 12 + o.third
@@ -231,14 +233,16 @@ offset_code base o =
     else indexed_code base o
 
 -- T12: the code of a load or store with an offset, or with a register that is shifted left
+-- (DDI0553, "LDR (immediate)", "LDR (literal)", "LDR (register)" and the like of each)
 abbrev pub access_code : ℕ → Places → ℕ
 access_code base o = if o.third_is_number then offset_code base o else base + o.second ↑ 16 + o.first ↑ 12 + o.fifth ↑ 4 + o.third
 
--- T12: the code of STR, LDR and their kin (DDI0553, "LDR (immediate)", "LDR (literal)", "LDR (register)" and their kin)
+-- T12: the code of STR, STRH, STRB, LDR, LDRH, LDRB, LDRSH and LDRSB (DDI0553, "LDR (immediate)", "LDR (literal)", "LDR (register)" and the like of each)
 abbrev pub code_access : List ℕ → Places → Option ℕ
 code_access s o = option_map (λ b. access_code b o) (access_base_in s)
 
 -- T13: a base code with P, U and W at bits 24, 23 and 21, the three registers, and the offset in words
+-- (DDI0553, "STRD (immediate)", "LDRD (immediate)" and "LDRD (literal)")
 abbrev pub pair_code : ℕ → Places → ℕ
 pair_code base o = base + o.before ↑ 24 + o.added ↑ 23 + o.back ↑ 21 + o.third ↑ 16 + o.first ↑ 12 + o.second ↑ 8 + o.fourth / 4
 
@@ -246,7 +250,7 @@ pair_code base o = base + o.before ↑ 24 + o.added ↑ 23 + o.back ↑ 21 + o.t
 abbrev pub code_pair : List ℕ → Places → Option ℕ
 code_pair s o = option_map (λ b. pair_code b o) (pair_base_in s)
 
--- T14: the code of STMIA, LDMIA, STMDB and LDMDB (DDI0553, "STM, STMIA, STMEA", "LDM, LDMIA, LDMFD" and their kin)
+-- T14: the code of STMIA, LDMIA, STMDB and LDMDB (DDI0553, "STM, STMIA, STMEA", "LDM, LDMIA, LDMFD", "STMDB, STMFD" and "LDMDB, LDMEA")
 abbrev pub code_list : List ℕ → List Tok → Option ℕ
 code_list s ts = option_map (λ b. b + second_bang ts ↑ 21 + value (operand 0 ts) ↑ 16 + bits_of (braced ts)) (list_base_in s)
 
@@ -262,36 +266,36 @@ memory_code_in (number n ∷ ts) = None
 memory_code_in (mark c ∷ ts) = None
 
 -- LABELS: by how far the target is, modulo 2^32
--- T16, s:j2:j1:i6:i11 and s:I1:I2:i10:i11
+-- T16: the code of B under the condition c, where f is half the distance, s:j2:j1:i6:i11 (DDI0553, "B", encoding T3)
 abbrev pub conditional_code : ℕ → ℕ → ℕ
 conditional_code c f = 0xf0008000 + (f / 2 ^ 19 % 2) ↑ 26 + c ↑ 22 + (f / 2 ^ 11 % 64) ↑ 16 + (f / 2 ^ 17 % 2) ↑ 13 + (f / 2 ^ 18 % 2) ↑ 11 + f % 2 ^ 11
 
--- a bit is coded as 1 where it is the same as another
+-- T16: the bit that is coded as 1 where it is the same as another (DDI0553, "B", encoding T4, and "BL", encoding T1)
 abbrev pub same_bit : ℕ → ℕ → ℕ
 same_bit x s = (x + s + 1) % 2
 
--- T16: the code of B without a condition or BL, where f is half the distance
+-- T16: the code of B under no condition or BL, where f is half the distance, s:I1:I2:i10:i11 (DDI0553, "B", encoding T4, and "BL", encoding T1)
 abbrev pub always_code : ℕ → ℕ → ℕ
 always_code base f =
     base + (f / 2 ^ 23 % 2) ↑ 26 + (f / 2 ^ 11 % 1024) ↑ 16 + same_bit (f / 2 ^ 22 % 2) (f / 2 ^ 23 % 2) ↑ 13 + same_bit (f / 2 ^ 21 % 2) (f / 2 ^ 23 % 2) ↑ 11 + f % 2 ^ 11
 
--- T16: the code of B with a condition that stands at pc and goes to the address a (DDI0553, "B")
+-- T16: the code of B with a condition that stands at pc and goes to the address a (DDI0553, "B", encoding T3)
 abbrev pub code_conditional : List ℕ → ℕ → ℕ → Option ℕ
 code_conditional s pc a = option_map (λ c. conditional_code c (distance (pc + 4) a / 2)) (branch_condition_in s)
 
--- T16: the code of B without a condition or BL that stands at pc and goes to the address a (DDI0553, "B" and "BL")
+-- T16: the code of B without a condition or BL that stands at pc and goes to the address a (DDI0553, "B", encoding T4, and "BL", encoding T1)
 abbrev pub code_always : List ℕ → ℕ → ℕ → Option ℕ
 code_always s pc a = option_map (λ b. always_code b (distance (pc + 4) a / 2)) (branch_base_in s)
 
--- T23, whose lowest bit stands highest
+-- T23: a base code with half the distance, whose lowest bit stands highest (DDI0553, "WLS, DLS, WLSTP, DLSTP" and "LE, LETP")
 abbrev pub with_field : ℕ → ℕ → ℕ
 with_field base v = base + (v / 2) ↑ 1 + (v % 2) ↑ 11
 
--- T23: half the distance forward to the address a from pc plus 4
+-- T23: half the distance forward to the address a from pc plus 4 (DDI0553, "WLS, DLS, WLSTP, DLSTP" and "LE, LETP")
 abbrev pub ahead : ℕ → ℕ → ℕ
 ahead pc a = distance (pc + 4) a / 2 % 2048
 
--- T23: half the distance back to the address a from pc plus 4
+-- T23: half the distance back to the address a from pc plus 4 (DDI0553, "LE, LETP")
 abbrev pub behind_it : ℕ → ℕ → ℕ
 behind_it pc a = (0x1_0000_0000 - distance (pc + 4) a) / 2 % 2048
 

@@ -35,116 +35,120 @@ use Rattle.hm_isa.specs.declared.system.LaneMoveName.TheVariants as lane
 use Rattle.hm_tokens.specs.Names.{condition_name, register_name}
 use Rattle.hm_tokens.specs.Tokens.{Tok, word, number, mark}
 use Rattle.hm_text_rows.specs.Shapes.{and_constant, and_operand, and_shift, back, braces, comma, constant, four, indexed, inside, one, or_zero, q, r, scaled, three, two}
-use Rattle.hm_thumb.specs.DataRows.{expand_imm_c, imm12}
+use Rattle.hm_isa.specs.Words.{expand_imm_c, imm12}
 use Rattle.hm_text32.specs.Stems.{access_stem, accumulate_stem, barrier_stem, bits_stem, bits_suffix, carry_stem, data_stem, double_name, element_suffix, extend_stem, extract_stem, half_stem, long_stem, move_stem, operation_stem, pair_stem, read_name, saturate_shift, saturate_stem, select_stem, shift_stem, stack_stem, test_stem, turn_stem, wide, wide_branch_stem, wide_list_stem, wide_list_suffix, wide_shift_stem, wide_sum_stem, written_name}
 
 -- DATA
--- the constant of a row T1
+-- T1: the constant that the fields i, i3 and i8 stand for (DDI0553, "Data-processing (modified immediate)")
 abbrev pub constant_in : ℕ → ℕ → ℕ → ℕ
 constant_in i i3 i8 = (expand_imm_c (imm12 i i3 i8) false).result
 
--- `and.w rd,rn,#c`; 15 for the result is a test, and for the first register there is none
+-- T1: the tokens of AND, BIC, ORR, ORN, EOR, ADD, ADC, SBC, SUB and RSB with a constant; with 15 for the result TST, TEQ, CMN and CMP,
+-- and with 15 for the first register MOV and MVN (DDI0553, "Data-processing (modified immediate)")
 abbrev pub constant_tokens : DataName → ℕ → ℕ → ℕ → ℕ → List Tok
 constant_tokens name s n d c =
     if nat_eq d 15 then and_constant (one (test_stem name ++ wide) (r n)) c
     else if nat_eq n 15 then and_constant (one (move_stem name s ++ wide) (r d)) c
     else and_constant (two (data_stem name s ++ wide) (r d) (r n)) c
 
--- 0 stands for 32 in shifts to the right
+-- T2: the number of a shift as it is written: 0 stands for 32 in shifts to the right (DDI0553, "Data-processing (shifted register)")
 abbrev pub shift_number : ℕ → ℕ → ℕ
 shift_number ty k = if nat_eq k 0 then (if nat_eq ty 0 then 0 else 32) else k
 
--- ror by 0 goes through the carry, and lsl by 0 is no shift
+-- T2: whether a register is shifted through the carry: ROR by 0 is RRX (DDI0553, "Data-processing (shifted register)")
 abbrev pub is_by_carry : ℕ → ℕ → Bool
 is_by_carry ty k = nat_eq ty 3 && nat_eq k 0
 
--- whether a register is not shifted: lsl by 0
+-- T2: whether a register is not shifted: LSL by 0 (DDI0553, "Data-processing (shifted register)")
 abbrev pub is_unshifted : ℕ → ℕ → Bool
 is_unshifted ty k = nat_eq ty 0 && nat_eq k 0
 
--- and a shift of the last register, where there is one
+-- T2: and a shift of the last register, where there is one (DDI0553, "Data-processing (shifted register)")
 abbrev pub and_shifted : List Tok → ℕ → ℕ → List Tok
 and_shifted front ty k =
     if is_by_carry ty k then and_operand front (word (codes "rrx")) else and_shift front (shift_stem ty) (shift_number ty k)
 
--- `mov.w rd,rm`, `lsl.w rd,rm,#k` and so on, `rrx rd,rm`
+-- T2: the tokens of MOV, `mov.w rd,rm`, of LSL, LSR, ASR and ROR, `lsl.w rd,rm,#k`, and of RRX, `rrx rd,rm` (DDI0553, "Data-processing (shifted register)")
 abbrev pub moved_tokens : ℕ → ℕ → ℕ → ℕ → ℕ → List Tok
 moved_tokens s d m ty k =
     if is_by_carry ty k then two (carry_stem s) (r d) (r m)
     else if is_unshifted ty k then two (move_stem data_.Orr s ++ wide) (r d) (r m)
     else and_constant (two (turn_stem ty s ++ wide) (r d) (r m)) (shift_number ty k)
 
--- with no first register
+-- T2: the tokens of the operations with no first register: MOV and the shifts, and MVN (DDI0553, "Data-processing (shifted register)")
 abbrev pub single_tokens : DataName → ℕ → ℕ → ℕ → ℕ → ℕ → List Tok
 single_tokens data_.Orr s d m ty k = moved_tokens s d m ty k
 single_tokens name s d m ty k = and_shifted (two (move_stem name s ++ wide) (r d) (r m)) ty k
 
--- 15 for the result is a test, and for the first register there is none
+-- T2: the tokens of AND, BIC, ORR, ORN, EOR, ADD, ADC, SBC, SUB and RSB with a shifted register; with 15 for the result TST, TEQ, CMN and CMP
+-- (DDI0553, "Data-processing (shifted register)")
 abbrev pub data_tokens : DataName → ℕ → ℕ → ℕ → ℕ → ℕ → ℕ → List Tok
 data_tokens name s n d m ty k =
     if nat_eq d 15 then and_shifted (two (test_stem name ++ wide) (r n) (r m)) ty k
     else if nat_eq n 15 then single_tokens name s d m ty k
     else and_shifted (three (data_stem name s ++ wide) (r d) (r n) (r m)) ty k
 
--- the number of bits that a value is made to fit in
+-- T5: the number of bits that SSAT and USAT make a value fit in (DDI0553, "SSAT" and "USAT")
 abbrev pub saturated_bits : SaturateName → ℕ → ℕ
 saturated_bits saturate.Ssat s = s + 1
 saturated_bits saturate.Usat s = s
 
--- and a shift, which is written by 0 too
+-- T5: and a shift, which is written by 0 too (DDI0553, "SSAT" and "USAT")
 abbrev pub and_turn : List Tok → List ℕ → ℕ → List Tok
 and_turn front kind n = front ++ comma ∷ word kind ∷ constant n
 
--- T5: the tokens of SSAT and USAT
+-- T5: the tokens of SSAT and USAT (DDI0553, "SSAT" and "USAT")
 abbrev pub saturate_tokens : SaturateRow → List Tok
 saturate_tokens i =
     and_turn (and_operand (and_constant (one (saturate_stem i.name) (r i.d.value)) (saturated_bits i.name i.s.value)) (r i.n.value))
     (saturate_shift i.sh.value) (4 * i.i3.value + i.i2.value)
 
--- `rd,rn,#lsb,#width`, and `rd,#lsb,#width` where zeros are put in
+-- T7: the tokens of BFI, `rd,rn,#lsb,#width`, and of BFC, `rd,#lsb,#width`, which puts zeros in (DDI0553, "BFI" and "BFC")
 abbrev pub insert_tokens : InsertRow → List Tok
 insert_tokens i =
     and_constant
     (and_constant (cond (nat_eq i.n.value 15) (one (codes "bfc") (r i.d.value)) (two (codes "bfi") (r i.d.value) (r i.n.value))) (4 * i.i3.value + i.i2.value))
     (i.e.value + 1 - (4 * i.i3.value + i.i2.value))
 
--- T11: the tokens of MUL, SDIV and UDIV, of MLA and MLS, and of SMULL, UMULL, SMLAL and UMLAL
+-- T11: the tokens of MUL, SDIV and UDIV, of MLA and MLS, and of SMULL, UMULL, SMLAL and UMLAL (DDI0553, the section of each, as "MUL")
 abbrev pub product_tokens : ProductRow → List Tok
 product_tokens (t11.Operation i) = three (operation_stem i.name) (r i.d.value) (r i.n.value) (r i.m.value)
 product_tokens (t11.Accumulate i) = four (accumulate_stem i.name) (r i.d.value) (r i.n.value) (r i.m.value) (r i.a.value)
 product_tokens (t11.Long i) = four (long_stem i.name) (r i.l.value) (r i.h.value) (r i.n.value) (r i.m.value)
 
 -- MEMORY
--- `[rn,#i]`; with an index by P, U and W; `[rn,rm,lsl #i]`; `[pc,#i]`
+-- T12: the tokens of an access: `[rn,#i]`; with an index by P, U and W; `[rn,rm,lsl #i]`; `[pc,#i]`
+-- (DDI0553, "LDR (immediate)", "LDR (literal)", "LDR (register)" and the like of each)
 abbrev pub access_tokens : AccessRow → List Tok
 access_tokens (t12.Offset i) = word (access_stem i.name ++ wide) ∷ r i.t.value ∷ comma ∷ inside 1 0 (r i.n.value) i.i.value
 access_tokens (t12.Indexed i) = word (access_stem i.name ++ wide) ∷ r i.t.value ∷ comma ∷ indexed i.p.value i.u.value i.w.value (r i.n.value) i.i.value
 access_tokens (t12.Shifted i) = word (access_stem i.name ++ wide) ∷ r i.t.value ∷ comma ∷ scaled i.n.value i.m.value i.i.value
 access_tokens (t12.Literal i) = word (access_stem i.name ++ wide) ∷ r i.t.value ∷ comma ∷ inside i.u.value 0 (r 15) i.i.value
 
--- `rn`, and `!` where it is written back
+-- T14: the base of STMIA, LDMIA, STMDB and LDMDB, `rn`, and `!` where it is written back
+-- (DDI0553, "STM, STMIA, STMEA", "LDM, LDMIA, LDMFD", "STMDB, STMFD" and "LDMDB, LDMEA")
 abbrev pub list_start : List ℕ → ℕ → ℕ → List Tok
 list_start name w n = word name ∷ r n ∷ (back w ++ comma ∷ [])
 
--- `{dv-dw}` of k registers
+-- T15: the registers of VPUSH and VPOP, `{dv-dw}` of k registers (DDI0553, "VPUSH" and "VPOP")
 abbrev pub doubles : ℕ → ℕ → List Tok
 doubles v k = mark 123 ∷ word (double_name v) ∷ mark 45 ∷ word (double_name (v + k - 1)) ∷ mark 125 ∷ []
 
--- T18: the tokens of MRS and MSR
+-- T18: the tokens of MRS and MSR (DDI0553, "MRS" and "MSR (register)")
 abbrev pub special_tokens : SpecialRow → List Tok
 special_tokens (t18.Read i) = two (codes "mrs") (r i.d.value) (word (read_name i.name))
 special_tokens (t18.Write i) = two (codes "msr") (word (written_name i.name)) (r i.n.value)
 
--- T19: the tokens of NOP, DSB, DMB and ISB
+-- T19: the tokens of NOP, DSB, DMB and ISB (DDI0553, "NOP", "DSB", "DMB" and "ISB")
 abbrev pub barrier_tokens : BarrierRow → List Tok
 barrier_tokens t19.Nop = word (codes "nop" ++ wide) ∷ []
 barrier_tokens (t19.Barrier i) = word (barrier_stem i.name) ∷ constant i.o.value
 
--- read from FPSCR 15 is the four flags
+-- T21: the register of VMRS; of FPSCR 15 is the four flags (DDI0553, "VMRS" and "VMSR")
 abbrev pub flags_or : ℕ → Tok
 flags_or t = word (cond (nat_eq t 15) (codes "apsr_nzcv") (register_name t))
 
--- T21: the tokens of VMRS and VMSR
+-- T21: the tokens of VMRS and VMSR (DDI0553, "VMRS" and "VMSR")
 abbrev pub system_tokens : SystemMoveName → ℕ → List Tok
 system_tokens move.ReadFpscr t = two (codes "vmrs") (flags_or t) (word (codes "fpscr"))
 system_tokens move.ReadVpr t = two (codes "vmrs") (r t) (word (codes "vpr"))
@@ -153,11 +157,12 @@ system_tokens move.WriteFpscr t = two (codes "vmsr") (word (codes "fpscr")) (r t
 system_tokens move.WriteVpr t = two (codes "vmsr") (word (codes "vpr")) (r t)
 system_tokens move.WriteP0 t = two (codes "vmsr") (word (codes "p0")) (r t)
 
--- `qd[x]`
+-- T22: a word of a vector register, `qd[x]` (DDI0553, "VMOV (general-purpose register to vector lane)" and "VMOV (vector lane to general-purpose register)")
 abbrev pub lane_of : ℕ → ℕ → List Tok
 lane_of d x = q d ∷ mark 91 ∷ number x ∷ mark 93 ∷ []
 
 -- T22: the tokens of VMOV between a core register and a word of a vector
+-- (DDI0553, "VMOV (general-purpose register to vector lane)" and "VMOV (vector lane to general-purpose register)")
 abbrev pub lane_tokens : LaneMoveName → ℕ → ℕ → ℕ → List Tok
 lane_tokens lane.ToLane d x t = word (codes "vmov" ++ codes ".32") ∷ (lane_of d x ++ comma ∷ r t ∷ [])
 lane_tokens lane.FromLane d x t = word (codes "vmov" ++ codes ".32") ∷ r t ∷ comma ∷ lane_of d x
@@ -187,24 +192,24 @@ scalar_tokens (T21 i) = system_tokens i.name i.t.value
 scalar_tokens (T22 i) = lane_tokens i.name i.q.value i.x.value i.t.value
 scalar_tokens i = []
 
--- `tbb [rn,rm]`, `tbh [rn,rm,lsl #1]`
+-- T17: the tokens of TBB and TBH, `tbb [rn,rm]`, `tbh [rn,rm,lsl #1]` (DDI0553, "TBB, TBH")
 abbrev pub table_tokens : TableName → ℕ → ℕ → List Tok
 table_tokens table.Tbb n m = word (codes "tbb") ∷ mark 91 ∷ r n ∷ comma ∷ r m ∷ mark 93 ∷ []
 table_tokens table.Tbh n m = word (codes "tbh") ∷ mark 91 ∷ r n ∷ comma ∷ r m ∷ comma ∷ word (codes "lsl") ∷ (constant 1 ++ mark 93 ∷ [])
 
 -- LABELS: what stands before them
--- `beq.w label` and so on, `b.w label`, `bl label`
+-- T16: the tokens of B and BL before the label, `beq.w label` and so on, `b.w label`, `bl label` (DDI0553, "B", encodings T3 and T4, and "BL")
 abbrev pub wide_branch_tokens : WideBranchRow → List Tok
 wide_branch_tokens (t16.Conditional i) = word (codes "b" ++ (condition_name i.c.value ++ wide)) ∷ []
 wide_branch_tokens (t16.Always i) = word (wide_branch_stem i.name) ∷ []
 
--- `le lr,label`, `letp lr,label`, `le label`
+-- T23: the tokens of LE and LETP before the label, `le lr,label`, `letp lr,label`, `le label` (DDI0553, "LE, LETP")
 abbrev pub loop_end_tokens : LoopEndName → List Tok
 loop_end_tokens loop_end.LeLr = word (codes "le") ∷ r 14 ∷ comma ∷ []
 loop_end_tokens loop_end.Letp = word (codes "letp") ∷ r 14 ∷ comma ∷ []
 loop_end_tokens loop_end.Le = word (codes "le") ∷ []
 
--- T23: the tokens of DLS, WLS, DLSTP, WLSTP, LE, LETP and LCTP, before the label where there is one
+-- T23: the tokens of DLS, WLS, DLSTP, WLSTP, LE, LETP and LCTP, before the label where there is one (DDI0553, "WLS, DLS, WLSTP, DLSTP", "LE, LETP" and "LCTP")
 abbrev pub loop_tokens : LoopRow → List Tok
 loop_tokens (t23.Dls i) = two (codes "dls") (r 14) (r i.n.value)
 loop_tokens (t23.Wls i) = two (codes "wls") (r 14) (r i.n.value) ++ comma ∷ []
@@ -226,7 +231,7 @@ row_tokens (instr.Scalar i) = scalar_tokens i
 row_tokens (instr.Branch i) = branch_tokens i
 row_tokens (instr.Vector i) = []
 
--- whether the last operand of a row T23 is a label: of WLS, WLSTP, LE and LETP
+-- T23: whether the last operand is a label: of WLS, WLSTP, LE and LETP (DDI0553, "WLS, DLS, WLSTP, DLSTP" and "LE, LETP")
 abbrev pub has_label_loop : LoopRow → Bool
 has_label_loop (t23.Dls i) = false
 has_label_loop (t23.Wls i) = true
@@ -251,7 +256,7 @@ has_label (instr.Vector i) = false
 abbrev pub tokens_of : Instr → Tok → List Tok
 tokens_of i t = if has_label i then row_tokens i ++ t ∷ [] else row_tokens i
 
--- the other text that is read as a row: `dsb`, `dmb` and `isb` alone as those of 15
+-- T19: the other text that is read as a row: DSB, DMB and ISB alone as those of 15 (DDI0553, "DSB", "DMB" and "ISB")
 abbrev pub other_barrier : BarrierRow → Option (List Tok)
 other_barrier t19.Nop = None
 other_barrier (t19.Barrier i) = if nat_eq i.o.value 15 then Some (word (barrier_stem i.name) ∷ []) else None

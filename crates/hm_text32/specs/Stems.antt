@@ -52,7 +52,8 @@ abbrev pub element_suffix : ℕ → List ℕ
 element_suffix z = get_or (codes ".8" ∷ codes ".16" ∷ codes ".32" ∷ codes ".64" ∷ []) z []
 
 -- STEMS
--- with s where the flags tell the result
+-- T1 and T2: the stem of AND, BIC, ORR, ORN, EOR, ADD, ADC, SBC, SUB and RSB, with s where the flags tell the result
+-- (DDI0553, "Data-processing (modified immediate)" and "Data-processing (shifted register)")
 abbrev pub data_stem : DataName → ℕ → List ℕ
 data_stem data_.And s = either s (codes "and") (codes "ands")
 data_stem data_.Bic s = either s (codes "bic") (codes "bics")
@@ -65,7 +66,8 @@ data_stem data_.Sbc s = either s (codes "sbc") (codes "sbcs")
 data_stem data_.Sub s = either s (codes "sub") (codes "subs")
 data_stem data_.Rsb s = either s (codes "rsb") (codes "rsbs")
 
--- with no register for the result; the others are no tests
+-- T1 and T2: the stem of TST, TEQ, CMN and CMP, which have no register for the result; the others are no tests
+-- (DDI0553, "Data-processing (modified immediate)" and "Data-processing (shifted register)")
 abbrev pub test_stem : DataName → List ℕ
 test_stem data_.And = codes "tst"
 test_stem data_.Eor = codes "teq"
@@ -73,59 +75,61 @@ test_stem data_.Add = codes "cmn"
 test_stem data_.Sub = codes "cmp"
 test_stem name = []
 
--- with no first register; the others have one
+-- T1 and T2: the stem of MOV and MVN, which have no first register, with s where the flags tell the result; the others have one
+-- (DDI0553, "Data-processing (modified immediate)" and "Data-processing (shifted register)")
 abbrev pub move_stem : DataName → ℕ → List ℕ
 move_stem data_.Orr s = either s (codes "mov") (codes "movs")
 move_stem data_.Orn s = either s (codes "mvn") (codes "mvns")
 move_stem name s = []
 
--- shifts by their numbers
+-- T2: the stem of LSL, LSR, ASR and ROR, by the number of the shift (DDI0553, "Data-processing (shifted register)")
 abbrev pub shift_stem : ℕ → List ℕ
 shift_stem ty = get_or (codes "lsl" ∷ codes "lsr" ∷ codes "asr" ∷ codes "ror" ∷ []) ty []
 
--- as mnemonics
+-- T2: the stem of LSL, LSR, ASR and ROR as mnemonics, with s where the flags tell the result (DDI0553, "Data-processing (shifted register)")
 abbrev pub turn_stem : ℕ → ℕ → List ℕ
 turn_stem ty s = either s (shift_stem ty) (get_or (codes "lsls" ∷ codes "lsrs" ∷ codes "asrs" ∷ codes "rors" ∷ []) ty [])
 
--- T2: RRX, or RRXS where the flags tell the result
+-- T2: RRX, or RRXS where the flags tell the result (DDI0553, "Data-processing (shifted register)")
 abbrev pub carry_stem : ℕ → List ℕ
 carry_stem s = either s (codes "rrx") (codes "rrxs")
 
--- T3: the mnemonic of each name, ADDW and SUBW
+-- T3: the mnemonic of each name, ADDW and SUBW (DDI0553, "ADD (immediate)" and "SUB (immediate)", encodings T4)
 abbrev pub wide_sum_stem : SumName → List ℕ
 wide_sum_stem sum_.Add = codes "addw"
 wide_sum_stem sum_.Sub = codes "subw"
 
--- T4: the mnemonic of each name, MOVW and MOVT
+-- T4: the mnemonic of each name, MOVW and MOVT (DDI0553, "MOV (immediate)" and "MOVT")
 abbrev pub half_stem : HalfName → List ℕ
 half_stem half.Movw = codes "movw"
 half_stem half.Movt = codes "movt"
 
--- T5: the mnemonic of each name, SSAT and USAT
+-- T5: the mnemonic of each name, SSAT and USAT (DDI0553, "SSAT" and "USAT")
 abbrev pub saturate_stem : SaturateName → List ℕ
 saturate_stem saturate.Ssat = codes "ssat"
 saturate_stem saturate.Usat = codes "usat"
 
--- T6: the mnemonic of each name, SBFX and UBFX
+-- T6: the mnemonic of each name, SBFX and UBFX (DDI0553, "SBFX" and "UBFX")
 abbrev pub extract_stem : ExtractName → List ℕ
 extract_stem extract.Sbfx = codes "sbfx"
 extract_stem extract.Ubfx = codes "ubfx"
 
--- with s where the flags tell the result
+-- T8: the stem of each name, LSL, LSR, ASR and ROR, with s where the flags tell the result
+-- (DDI0553, "LSL (register)", "LSR (register)", "ASR (register)" and "ROR (register)")
 abbrev pub wide_shift_stem : WideShiftName → ℕ → List ℕ
 wide_shift_stem wide_shift.Lsl s = either s (codes "lsl") (codes "lsls")
 wide_shift_stem wide_shift.Lsr s = either s (codes "lsr") (codes "lsrs")
 wide_shift_stem wide_shift.Asr s = either s (codes "asr") (codes "asrs")
 wide_shift_stem wide_shift.Ror s = either s (codes "ror") (codes "rors")
 
--- T9: the stem of each name, SXTH, SXTB, UXTH and UXTB
+-- T9: the stem of each name, SXTH, SXTB, UXTH and UXTB (DDI0553, "SXTH", "UXTH", "SXTB" and "UXTB")
 abbrev pub extend_stem : ExtendName → List ℕ
 extend_stem extend.Sxth = codes "sxth"
 extend_stem extend.Sxtb = codes "sxtb"
 extend_stem extend.Uxth = codes "uxth"
 extend_stem extend.Uxtb = codes "uxtb"
 
--- T10: the stem of each name, REV, REV16, RBIT, REVSH and CLZ
+-- T10: the stem of each name, REV, REV16, RBIT, REVSH and CLZ (DDI0553, "REV", "REV16", "RBIT", "REVSH" and "CLZ")
 abbrev pub bits_stem : BitsName → List ℕ
 bits_stem bits.Rev = codes "rev"
 bits_stem bits.Rev16 = codes "rev16"
@@ -133,49 +137,50 @@ bits_stem bits.Rbit = codes "rbit"
 bits_stem bits.Revsh = codes "revsh"
 bits_stem bits.Clz = codes "clz"
 
--- those that a row of one halfword has too are wide
+-- T10: what stands behind the stem: REV, REV16 and REVSH, which a row of one halfword has too, are wide (DDI0553, "REV", "REV16", "RBIT", "REVSH" and "CLZ")
 abbrev pub bits_suffix : BitsName → List ℕ
 bits_suffix bits.Rbit = []
 bits_suffix bits.Clz = []
 bits_suffix name = wide
 
--- T11: the mnemonic of each name, MUL, SDIV and UDIV
+-- T11: the mnemonic of each name, MUL, SDIV and UDIV (DDI0553, "MUL", "SDIV" and "UDIV")
 abbrev pub operation_stem : OperationName → List ℕ
 operation_stem operation.Mul = codes "mul"
 operation_stem operation.Sdiv = codes "sdiv"
 operation_stem operation.Udiv = codes "udiv"
 
--- T11: the mnemonic of each name, MLA and MLS
+-- T11: the mnemonic of each name, MLA and MLS (DDI0553, "MLA" and "MLS")
 abbrev pub accumulate_stem : AccumulateName → List ℕ
 accumulate_stem accumulate.Mla = codes "mla"
 accumulate_stem accumulate.Mls = codes "mls"
 
--- T11: the mnemonic of each name, SMULL, UMULL, SMLAL and UMLAL
+-- T11: the mnemonic of each name, SMULL, UMULL, SMLAL and UMLAL (DDI0553, "SMULL", "UMULL", "SMLAL" and "UMLAL")
 abbrev pub long_stem : LongProductName → List ℕ
 long_stem long.Smull = codes "smull"
 long_stem long.Umull = codes "umull"
 long_stem long.Smlal = codes "smlal"
 long_stem long.Umlal = codes "umlal"
 
--- T20: the mnemonic of each name, CSEL, CSINC, CSINV and CSNEG
+-- T20: the mnemonic of each name, CSEL, CSINC, CSINV and CSNEG (DDI0553, "CSEL", "CSINC", "CSINV" and "CSNEG")
 abbrev pub select_stem : SelectName → List ℕ
 select_stem select.Csel = codes "csel"
 select_stem select.Csinc = codes "csinc"
 select_stem select.Csinv = codes "csinv"
 select_stem select.Csneg = codes "csneg"
 
--- T19: the mnemonic of each name, DSB, DMB and ISB
+-- T19: the mnemonic of each name, DSB, DMB and ISB (DDI0553, "DSB", "DMB" and "ISB")
 abbrev pub barrier_stem : BarrierName → List ℕ
 barrier_stem barrier.Dsb = codes "dsb"
 barrier_stem barrier.Dmb = codes "dmb"
 barrier_stem barrier.Isb = codes "isb"
 
--- T15: the mnemonic of each name, VPUSH and VPOP
+-- T15: the mnemonic of each name, VPUSH and VPOP (DDI0553, "VPUSH" and "VPOP")
 abbrev pub stack_stem : StackName → List ℕ
 stack_stem stack.Vpush = codes "vpush"
 stack_stem stack.Vpop = codes "vpop"
 
 -- T12: the stem of each name, STR, STRH, STRB, LDRSB, LDR, LDRH, LDRB and LDRSH
+-- (DDI0553, "LDR (immediate)", "LDR (literal)", "LDR (register)" and the like of each)
 abbrev pub access_stem : AccessName → List ℕ
 access_stem access.Str = codes "str"
 access_stem access.Strh = codes "strh"
@@ -186,31 +191,32 @@ access_stem access.Ldrh = codes "ldrh"
 access_stem access.Ldrb = codes "ldrb"
 access_stem access.Ldrsh = codes "ldrsh"
 
--- T13: the mnemonic of each name, STRD and LDRD
+-- T13: the mnemonic of each name, STRD and LDRD (DDI0553, "STRD (immediate)", "LDRD (immediate)" and "LDRD (literal)")
 abbrev pub pair_stem : PairName → List ℕ
 pair_stem pair.Strd = codes "strd"
 pair_stem pair.Ldrd = codes "ldrd"
 
--- T14: the stem of each name, STMIA, LDMIA, STMDB and LDMDB
+-- T14: the stem of each name, STMIA, LDMIA, STMDB and LDMDB (DDI0553, "STM, STMIA, STMEA", "LDM, LDMIA, LDMFD", "STMDB, STMFD" and "LDMDB, LDMEA")
 abbrev pub wide_list_stem : WideListName → List ℕ
 wide_list_stem wide_list.Stmia = codes "stmia"
 wide_list_stem wide_list.Ldmia = codes "ldmia"
 wide_list_stem wide_list.Stmdb = codes "stmdb"
 wide_list_stem wide_list.Ldmdb = codes "ldmdb"
 
--- those that a row of one halfword has too are wide
+-- T14: what stands behind the stem: STMIA and LDMIA, which a row of one halfword has too, are wide
+-- (DDI0553, "STM, STMIA, STMEA", "LDM, LDMIA, LDMFD", "STMDB, STMFD" and "LDMDB, LDMEA")
 abbrev pub wide_list_suffix : WideListName → List ℕ
 wide_list_suffix wide_list.Stmia = wide
 wide_list_suffix wide_list.Ldmia = wide
 wide_list_suffix wide_list.Stmdb = []
 wide_list_suffix wide_list.Ldmdb = []
 
--- with its suffix
+-- T16: the mnemonic of each name, B.W and BL (DDI0553, "B", encoding T4, and "BL", encoding T1)
 abbrev pub wide_branch_stem : WideBranchName → List ℕ
 wide_branch_stem wide_branch.B = codes "b.w"
 wide_branch_stem wide_branch.Bl = codes "bl"
 
--- how a row T5 shifts
+-- T5: how SSAT and USAT shift, LSL or ASR (DDI0553, "SSAT" and "USAT")
 abbrev pub saturate_shift : ℕ → List ℕ
 saturate_shift sh = either sh (codes "lsl") (codes "asr")
 
@@ -230,7 +236,7 @@ abbrev pub double_in : List ℕ → Option ℕ
 double_in name = number_of 0 name double_names
 
 -- SPECIAL REGISTERS
--- T18: the name of each special register that MRS reads
+-- T18: the name of each special register that MRS reads (DDI0553, "MRS")
 abbrev pub read_name : ReadName → List ℕ
 read_name read.Apsr = codes "apsr"
 read_name read.Ipsr = codes "ipsr"
@@ -240,7 +246,7 @@ read_name read.Primask = codes "primask"
 read_name read.Basepri = codes "basepri"
 read_name read.Control = codes "control"
 
--- T18: the name of each special register that MSR writes
+-- T18: the name of each special register that MSR writes (DDI0553, "MSR (register)")
 abbrev pub written_name : WrittenName → List ℕ
 written_name written.Apsr = codes "apsr"
 written_name written.Msp = codes "msp"

@@ -1,35 +1,17 @@
 //! The constants of rows T1.
 
-ghost use Rattle.std.specs.Prelude.{◌≡◌, ◌≤◌, ◌<◌, ◌*◌};
+ghost use Rattle.std.specs.Prelude.{◌≡◌, ◌≤◌};
 ghost use Rattle.hm_text32.specs.Codes.{constant_field, rotated_field, shift_of};
 ghost use Rattle.hm_text32.specs.Rows.{constant_in};
-ghost use Rattle.hm_thumb.specs.DataRows.{repeats};
 
+use hm_isa::words::{expand_imm_c, imm12};
 use hm_isa::{Below, Bit, Byte};
-use hm_thumb::{ShiftType, shift_c};
-
-/// A byte at one, two or all places of a word.
-fn repeated(byte: u32, k: u32) -> u32
-    requires { byte < 256 }
-    ensures { result ≡ byte * repeats k }
-{
-    match k {
-        0 => byte,
-        1 => byte * 0x0001_0001,
-        2 => byte * 0x0100_0100,
-        _ => byte * 0x0101_0101,
-    }
-}
 
 /// The constant of a row T1.
 pub fn constant_in(i: Bit, i3: Below<8>, i8: Byte) -> u32
     ensures { result ≡ constant_in i.value i3.value i8.value }
 {
-    let x = i.get() * 0x800 + i3.get() * 0x100 + i8.get();
-    if x < 0x400 {
-        return repeated(x % 0x100, x / 0x100);
-    }
-    shift_c(ShiftType::Ror, 0x80 + x % 0x80, x / 0x80, false).result
+    expand_imm_c(imm12(i, i3, i8), false).result
 }
 
 /// How far a byte is shifted left that has its highest bit, by at most n.

@@ -2,35 +2,10 @@
 
 ghost use Rattle.std.specs.Prelude.{◌≡◌, ◌<◌, ◌^◌};
 ghost use Rattle.hm_text32.specs.Targets.{branch_target, loop_target, target, wide_target};
-ghost use Rattle.hm_thumb.specs.BranchRows.{alike, always_distance, conditional_distance};
 
-use hm_isa::{Bit, Branch, Instr, T16, T23, WideAlways, WideConditional};
+use hm_isa::distances::{always_distance, conditional_distance};
+use hm_isa::{Branch, Instr, T16, T23};
 use hm_text_rows::behind;
-use hm_thumb::sign_extended;
-
-/// How far a conditional branch goes, modulo 2^32.
-fn conditional_distance(i: &WideConditional) -> u32
-    ensures { result ≡ conditional_distance i.now }
-{
-    let high = i.s.get() * 0x10_0000 + i.j2.get() * 0x8_0000 + i.j1.get() * 0x4_0000;
-    sign_extended(21, high + i.i6.get() * 0x1000 + i.i11.get() * 2)
-}
-
-/// The bit that two bits are coded by: 1 where they are the same.
-fn alike(j: Bit, s: Bit) -> u32
-    ensures value { result ≡ alike j.value s.value }
-    ensures below { result < 2 }
-{
-    if j.get() == s.get() { 1 } else { 0 }
-}
-
-/// How far a branch goes, modulo 2^32.
-fn always_distance(i: &WideAlways) -> u32
-    ensures { result ≡ always_distance i.now }
-{
-    let high = i.s.get() * 0x100_0000 + alike(i.j1, i.s) * 0x80_0000 + alike(i.j2, i.s) * 0x40_0000;
-    sign_extended(25, high + i.i10.get() * 0x1000 + i.i11.get() * 2)
-}
 
 /// The target of a row T16.
 fn wide_target(i: &T16, pc: u32) -> u32

@@ -37,7 +37,7 @@ abbrev pub element_in : ℕ → Element
 element_in z = if z == 0 then element.Bytes else if z == 1 then element.Halves else element.Words
 
 -- ROWS, by their stems
--- V1 to V3, V5 to V7, `vpsel`
+-- V1 to V3, V5 to V7 and VPSEL of V21: the code of what has three vectors, by the stem (DDI0553, the section of each, as "VADD (vector)")
 abbrev pub code_three : List ℕ → Operands → Option ℕ
 code_three s o =
     if o.is_vector then option_map (λ b. of_vectors b o.sign o.size o.second o.first o.third) (first (three_base s) (product_base s)) else None
@@ -83,8 +83,8 @@ code_long s o = option_map (λ t. long_code t o) (long_in s)
 abbrev pub code_single : List ℕ → Operands → Option ℕ
 code_single s o = option_map (λ b. of_one b 0 o.size o.first o.second) (single_base s)
 
--- V15, and without a suffix `vmvn qd,qm` and `vmov qd,qm`
--- V15: the field cmode, by the element size, the shift of the immediate, and whether the result is merged
+-- V15: the field cmode of VMOV, VMVN, VORR and VBIC, by the element size, the shift of the immediate, and whether it is merged
+-- (DDI0553, "VMOV (immediate)", "VMVN (immediate)", "VORR (immediate)" and "VBIC (immediate)")
 abbrev pub constant_mode : ℕ → Operands → ℕ
 constant_mode k o =
     if o.size == 0 then 14
@@ -93,6 +93,7 @@ constant_mode k o =
     else o.size % 2 * 8 + o.fourth / 8 * 2 + k / 2
 
 -- V15: the field op, 1 for VMVN and VBIC, and for elements of 64 bits
+-- (DDI0553, "VMOV (immediate)", "VMVN (immediate)", "VORR (immediate)" and "VBIC (immediate)")
 abbrev pub constant_operation : ℕ → Operands → ℕ
 constant_operation k o = if o.size == 3 then 1 else k % 2
 
@@ -115,7 +116,7 @@ code_constant s o = option_map (λ k. if o.is_bare then bare_code k o else const
 abbrev pub code_narrow : List ℕ → Operands → Option ℕ
 code_narrow s o = option_map (λ b. of_one b o.sign (o.size - 1) o.first o.second) (narrow_base_in s)
 
--- the power of a step, where it stands
+-- V19: the power of the step of VIDUP, VDDUP, VIWDUP and VDWDUP, where it stands (DDI0553, "VIDUP, VIWDUP" and "VDDUP, VDWDUP")
 abbrev pub step_in : ℕ → ℕ
 step_in n = if n == 2 then 1 else if n == 4 then 0x80 else if n == 8 then 0x81 else 0
 
@@ -162,7 +163,7 @@ code_long_dot s o =
 abbrev pub code_extreme : List ℕ → Operands → Option ℕ
 code_extreme s o = option_map (λ b. of_one (b + o.first ↑ 12) o.sign o.size 0 o.second) (extreme_base_in s)
 
--- V17, V18, `vctp`: stems of their own
+-- V17, V18 and V21: the code of VSHLC, VDUP and VCTP, by the stem (DDI0553, "VSHLC", "VDUP" and "VCTP")
 abbrev pub code_alone : List ℕ → Operands → Option ℕ
 code_alone s o =
     if bytes_eq s (codes "vshlc") then Some (of_core (0xeea00fc0 + (o.third % 32) ↑ 16) 0 0 0 o.first o.second)
@@ -170,8 +171,8 @@ code_alone s o =
     else if bytes_eq s (codes "vctp") then Some (of_core (0xf000e801 + o.first ↑ 16) 0 o.size 0 0 0)
     else None
 
--- V24 to V27, of elements that have the size y in memory, which a store has where l is 0
 -- V24 and V25: the bits P, A and W: whether the offset goes before the access, whether it is added, whether the base is written back
+-- (DDI0553, "VLDRB, VLDRH, VLDRW" and "VSTRB, VSTRH, VSTRW")
 abbrev pub index_code : Operands → ℕ
 index_code o = o.before ↑ 24 + o.added ↑ 23 + o.back ↑ 21
 
@@ -191,6 +192,7 @@ offset_code l y o =
     else of_access (0xec000e00 + o.sign ↑ 28 + index_code o + y ↑ 19) l o.second o.first o.size (o.third / 2 ^ y)
 
 -- V24 to V27: the code of a load or store, by its address: from a vector, a register and a vector, or a register
+-- (DDI0553, "VLDRB, VLDRH, VLDRW", "VSTRB, VSTRH, VSTRW", "VLDRB, VLDRH, VLDRW, VLDRD (vector)" and "VSTRB, VSTRH, VSTRW, VSTRD (vector)")
 abbrev pub access_code : ℕ → ℕ → Operands → ℕ
 access_code l y o =
     if o.is_at_vector then addresses_code l o

@@ -26,11 +26,12 @@ use Rattle.hm_text_rows.specs.Shapes.{and_constant, back, comma, constant, eithe
 use Rattle.hm_textv.specs.Stems.{access_stem, access_suffix, add_stem, bitwise_stem, block_letters, by_sign, carry_stem, compare_condition, compare_suffix, constant_shift_stem, constant_shift_suffix, doubling_stem, extreme_stem, high_stem, integer, narrow_stem, narrow_suffix, offsets_stem, one_stem, one_suffix, pair_stem, plain, quad_stem, reverse_stem, scalar_stem, scalar_suffix, signed, signed_stem, size_number, turn_stem, turn_suffix, unsigned, vector_shift_stem, wrapped_stem}
 
 -- ROWS
--- the size of elements that the highest bit of x tells, and how many bits they have
+-- V11: the size of elements that the highest bit of the field x tells (DDI0553, "VSHR", "VRSHR", "VQSHL, VQSHLU", "VSHL", "VSRI" and "VSLI")
 abbrev pub size_in : ℕ → ℕ
 size_in x = cond (nat_lt x 16) 0 (cond (nat_lt x 32) 1 2)
 
 -- V11: how far elements are shifted, which the field x holds together with their size, one way for each direction
+-- (DDI0553, "VSHR", "VRSHR", "VQSHL, VQSHLU", "VSHL", "VSRI" and "VSLI")
 abbrev pub shift_in : ConstantShiftName → ℕ → ℕ
 shift_in by_constant.Shr x = 2 * 2 ^ (3 + size_in x) - x
 shift_in by_constant.Rshr x = 2 * 2 ^ (3 + size_in x) - x
@@ -38,44 +39,48 @@ shift_in by_constant.Sri x = 2 * 2 ^ (3 + size_in x) - x
 shift_in name x = x - 2 ^ (3 + size_in x)
 
 -- V11: the tokens of a shift by a constant, VSHR, VRSHR, VQSHL, VQSHLU, VSHL, VSRI and VSLI
+-- (DDI0553, "VSHR", "VRSHR", "VQSHL, VQSHLU", "VSHL", "VSRI" and "VSLI")
 abbrev pub shift_tokens : ShiftRow → List Tok
 shift_tokens i = and_constant (two (constant_shift_stem i.name ++ constant_shift_suffix i.name i.u.value (size_in i.x.value)) (q i.d.value) (q i.m.value)) (shift_in i.name i.x.value)
 
--- a shift by 0 is written as a move
+-- V12: the tokens of VSHLLB or VSHLLT by k; a shift by 0 is written as a move, VMOVLB or VMOVLT (DDI0553, "VSHLL" and "VMOVL")
 abbrev pub long_part : ℕ → List ℕ → ℕ → ℕ → ℕ → List Tok
 long_part t suffix d m k =
     cond (nat_eq k 0)
     (two (either t (codes "vmovlb") (codes "vmovlt") ++ suffix) (q d) (q m))
     (and_constant (two (either t (codes "vshllb") (codes "vshllt") ++ suffix) (q d) (q m)) k)
 
--- V12: the tokens of VSHLLB, VSHLLT, VMOVLB and VMOVLT
+-- V12: the tokens of VSHLLB, VSHLLT, VMOVLB and VMOVLT (DDI0553, "VSHLL" and "VMOVL")
 abbrev pub long_tokens : LongRow → List Tok
 long_tokens (v12.Bytes i) = long_part i.t.value (by_sign i.u.value 0) i.d.value i.m.value i.k.value
 long_tokens (v12.Halves i) = long_part i.t.value (by_sign i.u.value 1) i.d.value i.m.value i.k.value
 long_tokens (v12.Full i) = and_constant (two (either i.t.value (codes "vshllb") (codes "vshllt") ++ by_sign i.u.value i.z.value) (q i.d.value) (q i.m.value)) (8 * 2 ^ i.z.value)
 
 -- V13: the tokens of VCLS, VCLZ, VABS, VNEG, VQABS and VQNEG, and of VMVN of a vector
+-- (DDI0553, "VCLS", "VCLZ", "VABS", "VNEG", "VQABS", "VQNEG" and "VMVN (register)")
 abbrev pub one_tokens : OneRow → List Tok
 one_tokens (v13.Elements i) = two (one_stem i.name ++ one_suffix i.name i.z.value) (q i.d.value) (q i.m.value)
 one_tokens (v13.Not i) = two (codes "vmvn") (q i.d.value) (q i.m.value)
 
--- V15: VMOV, or VMVN where op is 1
+-- V15: VMOV, or VMVN where op is 1 (DDI0553, "VMOV (immediate)" and "VMVN (immediate)")
 abbrev pub moved : ℕ → List ℕ
 moved op = either op (codes "vmov") (codes "vmvn")
 
--- V15: VORR, or VBIC where op is 1
+-- V15: VORR, or VBIC where op is 1 (DDI0553, "VORR (immediate)" and "VBIC (immediate)")
 abbrev pub merged : ℕ → List ℕ
 merged op = either op (codes "vorr") (codes "vbic")
 
--- `#x,lsl #n`: the immediate and how far it is shifted
+-- V15: the tokens of an immediate and how far it is shifted, `#x,lsl #n`
+-- (DDI0553, "VMOV (immediate)", "VMVN (immediate)", "VORR (immediate)" and "VBIC (immediate)")
 abbrev pub shifted : List ℕ → List ℕ → ℕ → ℕ → ℕ → List Tok
 shifted name kind n d x = word name ∷ q d ∷ comma ∷ (constant x ++ comma ∷ word kind ∷ constant n)
 
--- `#x`: the immediate with no shift
+-- V15: the tokens of an immediate with no shift, `#x` (DDI0553, "VMOV (immediate)", "VMVN (immediate)", "VORR (immediate)" and "VBIC (immediate)")
 abbrev pub unshifted : List ℕ → ℕ → ℕ → List Tok
 unshifted name d x = word name ∷ q d ∷ comma ∷ constant x
 
--- by cm: the element, where the immediate stands in it, and by op one of two operations
+-- V15: the tokens by cm: the element, where the immediate stands in it, and by op one of two operations
+-- (DDI0553, "VMOV (immediate)", "VMVN (immediate)", "VORR (immediate)" and "VBIC (immediate)")
 abbrev pub constant_forms : ℕ → ℕ → ℕ → List (List Tok)
 constant_forms op d x =
     shifted (moved op ++ codes ".i32") (codes "lsl") 0 d x
@@ -95,32 +100,33 @@ constant_forms op d x =
     ∷ unshifted (codes "vmov" ++ either op (codes ".i8") (codes ".i64")) d x
     ∷ []
 
--- V15: the tokens of VMOV, VMVN, VORR and VBIC with an immediate
+-- V15: the tokens of VMOV, VMVN, VORR and VBIC with an immediate (DDI0553, "VMOV (immediate)", "VMVN (immediate)", "VORR (immediate)" and "VBIC (immediate)")
 abbrev pub constant_tokens : ConstantRow → List Tok
 constant_tokens i = get_or (constant_forms i.op.value i.d.value (128 * i.i.value + 16 * i.i3.value + i.i4.value)) i.cm.value []
 
--- V19: the tokens of VIDUP, VDDUP, VIWDUP and VDWDUP
+-- V19: the tokens of VIDUP, VDDUP, VIWDUP and VDWDUP (DDI0553, "VIDUP, VIWDUP" and "VDDUP, VDWDUP")
 abbrev pub offsets_tokens : OffsetsRow → List Tok
 offsets_tokens (v19.Free i) = and_constant (two (offsets_stem i.name ++ unsigned i.z.value) (q i.d.value) (r (2 * i.n.value))) (2 ^ i.k.value)
 offsets_tokens (v19.Wrapped i) =
     and_constant (three (wrapped_stem i.name ++ unsigned i.z.value) (q i.d.value) (r (2 * i.n.value)) (r (2 * i.r.value + 1))) (2 ^ i.k.value)
 
--- `vcmp`, or `vpt` and the letters of its block
+-- V20: the mnemonic: VCMP, or VPT and the letters of its block (DDI0553, "VCMP" and "VPT")
 abbrev pub compare_name : ℕ → ℕ → ℕ → List ℕ
 compare_name k c z = cond (nat_eq k 0) (codes "vcmp") (codes "vpt") ++ (block_letters k ++ compare_suffix c z)
 
--- V20: the tokens of VCMP and VPT, with a vector or a core register behind the first vector
+-- V20: the tokens of VCMP and VPT, with a vector or a core register behind the first vector (DDI0553, "VCMP" and "VPT")
 abbrev pub compare_tokens : CompareRow → List Tok
 compare_tokens (v20.Vectors i) = three (compare_name i.k.value i.c.value i.z.value) (word (compare_condition i.c.value)) (q i.n.value) (q i.m.value)
 compare_tokens (v20.Scalar i) = three (compare_name i.k.value i.c.value i.z.value) (word (compare_condition i.c.value)) (q i.n.value) (or_zero i.m.value)
 
--- V21: the tokens of VPNOT, VPST with the letters of its block, VPSEL and VCTP
+-- V21: the tokens of VPNOT, VPST with the letters of its block, VPSEL and VCTP (DDI0553, "VPST", "VPNOT", "VPSEL" and "VCTP")
 abbrev pub predicate_tokens : PredicateRow → List Tok
 predicate_tokens (v21.Block i) = word (cond (nat_eq i.k.value 0) (codes "vpnot") (codes "vpst") ++ block_letters i.k.value) ∷ []
 predicate_tokens (v21.Select i) = three (codes "vpsel") (q i.d.value) (q i.n.value) (q i.m.value)
 predicate_tokens (v21.Tail i) = word (codes "vctp" ++ plain i.z.value) ∷ r i.n.value ∷ []
 
--- the sum goes on from the old value where a is 1
+-- V22: the tokens of VADDV, VMLADAV, VADDLV and VMLALDAV, with a where the sum goes on from the old value
+-- (DDI0553, "VADDV", "VMLADAV", "VADDLV" and "VMLALDAV")
 abbrev pub sum_tokens : SumRow → List Tok
 sum_tokens (v22.Sum i) = two (either i.a.value (codes "vaddv") (codes "vaddva") ++ by_sign i.u.value i.z.value) (r (2 * i.l.value)) (q i.m.value)
 sum_tokens (v22.Dot i) =
@@ -131,27 +137,28 @@ sum_tokens (v22.LongDot i) =
     four (either i.a.value (codes "vmlaldav") (codes "vmlaldava") ++ by_sign i.u.value (i.s.value + 1)) (r (2 * i.l.value)) (r (2 * i.h.value + 1)) (q i.n.value) (q i.m.value)
 
 -- LOADS AND STORES
--- `[base,qm]`, and where the offsets are in elements `[base,qm,uxtw #y]`
--- `,uxtw #y` where o is 1, and nothing where offsets are in bytes
+-- V26: the scale of offsets, `,uxtw #y` where they are in elements of memory, and nothing where they are in bytes
+-- (DDI0553, "VLDRB, VLDRH, VLDRW, VLDRD (vector)" and "VSTRB, VSTRH, VSTRW, VSTRD (vector)")
 abbrev pub scale : ℕ → ℕ → List Tok
 scale o y = cond (nat_eq o 0) [] (comma ∷ word (codes "uxtw") ∷ constant y)
 
--- V26: the address that has a base and offsets in the vector m
+-- V26: the address that has a base and offsets in the vector m (DDI0553, "VLDRB, VLDRH, VLDRW, VLDRD (vector)" and "VSTRB, VSTRH, VSTRW, VSTRD (vector)")
 abbrev pub at_offsets : Tok → ℕ → ℕ → ℕ → List Tok
 at_offsets base m o y = mark 91 ∷ base ∷ comma ∷ q m ∷ (scale o y ++ mark 93 ∷ [])
 
--- a register and an address
+-- V24 to V27: the tokens of VLDRB, VLDRH, VLDRW, VSTRB, VSTRH and VSTRW: a register and an address
+-- (DDI0553, "VLDRB, VLDRH, VLDRW", "VSTRB, VSTRH, VSTRW", "VLDRB, VLDRH, VLDRW, VLDRD (vector)" and "VSTRB, VSTRH, VSTRW, VSTRD (vector)")
 abbrev pub access : List ℕ → ℕ → List Tok → List Tok
 access name d address = word name ∷ q d ∷ comma ∷ address
 
--- `{qd,qe}`, and `{qd,qe,qf,qg}` where f is 1
+-- V28: the registers, `{qd,qe}`, and `{qd,qe,qf,qg}` where f is 1 (DDI0553, "VLD2", "VLD4", "VST2" and "VST4")
 abbrev pub registers : ℕ → ℕ → List Tok
 registers f d =
     cond (nat_eq f 0)
     (mark 123 ∷ q d ∷ comma ∷ q (d + 1) ∷ mark 125 ∷ [])
     (mark 123 ∷ q d ∷ comma ∷ q (d + 1) ∷ comma ∷ q (d + 2) ∷ comma ∷ q (d + 3) ∷ mark 125 ∷ [])
 
--- V28: the tokens of a part of a load or store of two or four registers, with `!` where the base is written back
+-- V28: the tokens of a part of VLD2, VLD4, VST2 and VST4, with `!` where the base is written back (DDI0553, "VLD2", "VLD4", "VST2" and "VST4")
 abbrev pub turns : List ℕ → ℕ → ℕ → Tok → ℕ → List Tok
 turns name f d base w = word name ∷ (registers f d ++ comma ∷ mark 91 ∷ base ∷ mark 93 ∷ back w)
 
@@ -194,7 +201,7 @@ tokens_of (V27 i) =
 tokens_of (V28 i) =
     turns (either i.f.value (pair_stem i.l.value i.p.value) (quad_stem i.l.value i.p.value) ++ plain i.z.value) i.f.value i.d.value (r i.n.value) i.w.value
 
--- a register is moved by `vorr` with itself
+-- V2: the other text of VORR of a register with itself, VMOV (DDI0553, "VORR")
 abbrev pub other_bitwise : BitwiseName → Bool → ℕ → ℕ → Option (List Tok)
 other_bitwise bitwise.Orr same d m = if same then Some (two (codes "vmov") (q d) (q m)) else None
 other_bitwise name same d m = None

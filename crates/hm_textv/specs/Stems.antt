@@ -66,13 +66,13 @@ size_number element.Halves = 1
 size_number element.Words = 2
 
 -- STEMS
--- V1: the stem of each name, VADD, VSUB and VMUL
+-- V1: the stem of each name, VADD, VSUB and VMUL (DDI0553, "VADD (vector)", "VSUB (vector)" and "VMUL (vector)")
 abbrev pub add_stem : AddName → List ℕ
 add_stem add.Add = codes "vadd"
 add_stem add.Sub = codes "vsub"
 add_stem add.Mul = codes "vmul"
 
--- V2: the stem of each name, VAND, VBIC, VORR, VORN and VEOR
+-- V2: the stem of each name, VAND, VBIC, VORR, VORN and VEOR (DDI0553, "VAND", "VBIC (register)", "VORR", "VORN" and "VEOR")
 abbrev pub bitwise_stem : BitwiseName → List ℕ
 bitwise_stem bitwise.And = codes "vand"
 bitwise_stem bitwise.Bic = codes "vbic"
@@ -80,7 +80,7 @@ bitwise_stem bitwise.Orr = codes "vorr"
 bitwise_stem bitwise.Orn = codes "vorn"
 bitwise_stem bitwise.Eor = codes "veor"
 
--- V3: the stem of each name, VMAX, VMIN, VABD, VHADD, VRHADD, VHSUB, VQADD and VQSUB
+-- V3: the stem of each name, VMAX, VMIN, VABD, VHADD, VRHADD, VHSUB, VQADD and VQSUB (DDI0553, the vector form of each)
 abbrev pub signed_stem : SignedName → List ℕ
 signed_stem signed_.Max = codes "vmax"
 signed_stem signed_.Min = codes "vmin"
@@ -91,36 +91,37 @@ signed_stem signed_.Hsub = codes "vhsub"
 signed_stem signed_.Qadd = codes "vqadd"
 signed_stem signed_.Qsub = codes "vqsub"
 
--- V4: the stem of each name, VSHL, VQSHL, VRSHL and VQRSHL
+-- V4: the stem of each name, VSHL, VQSHL, VRSHL and VQRSHL (DDI0553, "VSHL", "VQSHL", "VRSHL" and "VQRSHL")
 abbrev pub vector_shift_stem : VectorShiftName → List ℕ
 vector_shift_stem by_vector.Shl = codes "vshl"
 vector_shift_stem by_vector.Qshl = codes "vqshl"
 vector_shift_stem by_vector.Rshl = codes "vrshl"
 vector_shift_stem by_vector.Qrshl = codes "vqrshl"
 
--- V5: the stem of each name, VQDMULH and VQRDMULH
+-- V5: the stem of each name, VQDMULH and VQRDMULH (DDI0553, "VQDMULH, VQRDMULH (vector)")
 abbrev pub doubling_stem : DoublingName → List ℕ
 doubling_stem doubling.Qdmulh = codes "vqdmulh"
 doubling_stem doubling.Qrdmulh = codes "vqrdmulh"
 
--- V7: the stem of each name, VMULH and VRMULH
+-- V7: the stem of each name, VMULH and VRMULH (DDI0553, "VMULH, VRMULH")
 abbrev pub high_stem : HighName → List ℕ
 high_stem high.Mulh = codes "vmulh"
 high_stem high.Rmulh = codes "vrmulh"
 
--- V8: the stem of each name, VADC, VADCI, VSBC and VSBCI
+-- V8: the stem of each name, VADC, VADCI, VSBC and VSBCI (DDI0553, "VADC" and "VSBC")
 abbrev pub carry_stem : CarryName → List ℕ
 carry_stem carry.Adc = codes "vadc"
 carry_stem carry.Adci = codes "vadci"
 carry_stem carry.Sbc = codes "vsbc"
 carry_stem carry.Sbci = codes "vsbci"
 
--- V9: the stem of each name, VCADD and VHCADD
+-- V9: the stem of each name, VCADD and VHCADD (DDI0553, "VCADD" and "VHCADD")
 abbrev pub turn_stem : TurnName → List ℕ
 turn_stem turn.Cadd = codes "vcadd"
 turn_stem turn.Hcadd = codes "vhcadd"
 
--- V10: the stem of each name, VADD to VMLAS
+-- V10: the stem of each name, VADD, VSUB, VMUL, VHADD, VHSUB, VQADD, VQSUB, VQDMULH, VQRDMULH, VMLA and VMLAS
+-- (DDI0553, the form of each with a vector and a scalar)
 abbrev pub scalar_stem : ScalarName → List ℕ
 scalar_stem by_scalar.Add = codes "vadd"
 scalar_stem by_scalar.Sub = codes "vsub"
@@ -134,7 +135,7 @@ scalar_stem by_scalar.Qrdmulh = codes "vqrdmulh"
 scalar_stem by_scalar.Mla = codes "vmla"
 scalar_stem by_scalar.Mlas = codes "vmlas"
 
--- V11: the stem of each name, VSHR, VRSHR, VQSHL, VQSHLU, VSHL, VSRI and VSLI
+-- V11: the stem of each name, VSHR, VRSHR, VQSHL, VQSHLU, VSHL, VSRI and VSLI (DDI0553, "VSHR", "VRSHR", "VQSHL, VQSHLU", "VSHL", "VSRI" and "VSLI")
 abbrev pub constant_shift_stem : ConstantShiftName → List ℕ
 constant_shift_stem by_constant.Shr = codes "vshr"
 constant_shift_stem by_constant.Rshr = codes "vrshr"
@@ -144,7 +145,7 @@ constant_shift_stem by_constant.Shl = codes "vshl"
 constant_shift_stem by_constant.Sri = codes "vsri"
 constant_shift_stem by_constant.Sli = codes "vsli"
 
--- V13: the stem of each name, VCLS, VCLZ, VABS, VNEG, VQABS and VQNEG
+-- V13: the stem of each name, VCLS, VCLZ, VABS, VNEG, VQABS and VQNEG (DDI0553, "VCLS", "VCLZ", "VABS", "VNEG", "VQABS" and "VQNEG")
 abbrev pub one_stem : OneName → List ℕ
 one_stem one.Cls = codes "vcls"
 one_stem one.Clz = codes "vclz"
@@ -153,49 +154,51 @@ one_stem one.Neg = codes "vneg"
 one_stem one.Qabs = codes "vqabs"
 one_stem one.Qneg = codes "vqneg"
 
--- V14: the stem of each name, VREV64, VREV32 and VREV16
+-- V14: the stem of each name, VREV64, VREV32 and VREV16 (DDI0553, "VREV64", "VREV32" and "VREV16")
 abbrev pub reverse_stem : ReverseName → List ℕ
 reverse_stem reverse_.Rev64 = codes "vrev64"
 reverse_stem reverse_.Rev32 = codes "vrev32"
 reverse_stem reverse_.Rev16 = codes "vrev16"
 
--- with b for the lower part of each wide element, or t for the upper
+-- V16: the stem of each name, VMOVN, VQMOVUN and VQMOVN, with b for the lower part of each wide element, or t for the upper
+-- (DDI0553, "VMOVN", "VQMOVN" and "VQMOVUN")
 abbrev pub narrow_stem : NarrowName → ℕ → List ℕ
 narrow_stem narrow_.Plain t = cond (nat_eq t 0) (codes "vmovnb") (codes "vmovnt")
 narrow_stem narrow_.ToUnsigned t = cond (nat_eq t 0) (codes "vqmovunb") (codes "vqmovunt")
 narrow_stem narrow_.Signed t = cond (nat_eq t 0) (codes "vqmovnb") (codes "vqmovnt")
 narrow_stem narrow_.Unsigned t = cond (nat_eq t 0) (codes "vqmovnb") (codes "vqmovnt")
 
--- V23: the stem of each name, VMAXV and VMINV
+-- V23: the stem of each name, VMAXV and VMINV (DDI0553, "VMAXV" and "VMINV")
 abbrev pub extreme_stem : ExtremeName → List ℕ
 extreme_stem extreme.Max = codes "vmaxv"
 extreme_stem extreme.Min = codes "vminv"
 
--- V19: the stem of each name from one register, VIDUP and VDDUP
+-- V19: the stem of each name from one register, VIDUP and VDDUP (DDI0553, "VIDUP, VIWDUP" and "VDDUP, VDWDUP")
 abbrev pub offsets_stem : OffsetsName → List ℕ
 offsets_stem offsets.Up = codes "vidup"
 offsets_stem offsets.Down = codes "vddup"
 
--- V19: the stem of each name that goes round, VIWDUP and VDWDUP
+-- V19: the stem of each name that goes round, VIWDUP and VDWDUP (DDI0553, "VIDUP, VIWDUP" and "VDDUP, VDWDUP")
 abbrev pub wrapped_stem : OffsetsName → List ℕ
 wrapped_stem offsets.Up = codes "viwdup"
 wrapped_stem offsets.Down = codes "vdwdup"
 
--- of a store where l is 0, or a load of elements that have the size y in memory
+-- V24 to V27: the stem of VSTRB, VSTRH and VSTRW where l is 0, or VLDRB, VLDRH and VLDRW, of elements that have the size y in memory
+-- (DDI0553, "VLDRB, VLDRH, VLDRW", "VSTRB, VSTRH, VSTRW", "VLDRB, VLDRH, VLDRW, VLDRD (vector)" and "VSTRB, VSTRH, VSTRW, VSTRD (vector)")
 abbrev pub access_stem : ℕ → ℕ → List ℕ
 access_stem l y =
     either l
     (get_or (codes "vstrb" ∷ codes "vstrh" ∷ codes "vstrw" ∷ []) y [])
     (get_or (codes "vldrb" ∷ codes "vldrh" ∷ codes "vldrw" ∷ []) y [])
 
--- of part p of two registers, or of four, that are stored where l is 0, or loaded
+-- V28: the stem of part p of two registers, VST20 and VST21 where l is 0, or VLD20 and VLD21 (DDI0553, "VLD2" and "VST2")
 abbrev pub pair_stem : ℕ → ℕ → List ℕ
 pair_stem l p =
     either l
     (get_or (codes "vst20" ∷ codes "vst21" ∷ []) p [])
     (get_or (codes "vld20" ∷ codes "vld21" ∷ []) p [])
 
--- V28: the stem of part p of four registers, VST40 to VST43 where l is 0, or VLD40 to VLD43
+-- V28: the stem of part p of four registers, VST40 to VST43 where l is 0, or VLD40 to VLD43 (DDI0553, "VLD4" and "VST4")
 abbrev pub quad_stem : ℕ → ℕ → List ℕ
 quad_stem l p =
     either l
@@ -203,12 +206,13 @@ quad_stem l p =
     (get_or (codes "vld40" ∷ codes "vld41" ∷ codes "vld42" ∷ codes "vld43" ∷ []) p [])
 
 -- WHAT STANDS BEHIND THE POINT, BY NAME
--- V9: VCADD is of integers, and VHCADD of signed ones
+-- V9: VCADD is of integers, and VHCADD of signed ones (DDI0553, "VCADD" and "VHCADD")
 abbrev pub turn_suffix : TurnName → ℕ → List ℕ
 turn_suffix turn.Cadd z = integer z
 turn_suffix turn.Hcadd z = signed z
 
 -- V10: VADD, VSUB and VMUL are of integers, VQDMULH and VQRDMULH of signed ones, and the others of either sign
+-- (DDI0553, the form of each with a vector and a scalar)
 abbrev pub scalar_suffix : ScalarName → ℕ → ℕ → List ℕ
 scalar_suffix by_scalar.Add u z = integer z
 scalar_suffix by_scalar.Sub u z = integer z
@@ -218,6 +222,7 @@ scalar_suffix by_scalar.Qrdmulh u z = signed z
 scalar_suffix name u z = by_sign u z
 
 -- V11: VQSHLU is of signed integers, VSHL of integers, VSRI and VSLI have no type, and the others are of either sign
+-- (DDI0553, "VSHR", "VRSHR", "VQSHL, VQSHLU", "VSHL", "VSRI" and "VSLI")
 abbrev pub constant_shift_suffix : ConstantShiftName → ℕ → ℕ → List ℕ
 constant_shift_suffix by_constant.Qshlu u z = signed z
 constant_shift_suffix by_constant.Shl u z = integer z
@@ -225,31 +230,33 @@ constant_shift_suffix by_constant.Sri u z = plain z
 constant_shift_suffix by_constant.Sli u z = plain z
 constant_shift_suffix name u z = by_sign u z
 
--- V13: VCLZ is of integers, and the others of signed ones
+-- V13: VCLZ is of integers, and the others of signed ones (DDI0553, "VCLS", "VCLZ", "VABS", "VNEG", "VQABS" and "VQNEG")
 abbrev pub one_suffix : OneName → ℕ → List ℕ
 one_suffix one.Clz z = integer z
 one_suffix name z = signed z
 
--- the size of the wide elements, by the bit that is 0 where they have 16 bits
+-- V16: the size of the wide elements, by the bit that is 0 where they have 16 bits, and their type (DDI0553, "VMOVN", "VQMOVN" and "VQMOVUN")
 abbrev pub narrow_suffix : NarrowName → ℕ → List ℕ
 narrow_suffix narrow_.Plain z = integer (z + 1)
 narrow_suffix narrow_.ToUnsigned z = signed (z + 1)
 narrow_suffix narrow_.Signed z = signed (z + 1)
 narrow_suffix narrow_.Unsigned z = unsigned (z + 1)
 
--- a store has no sign
+-- V24 to V27: the size and the sign of elements; a store has no sign
+-- (DDI0553, "VLDRB, VLDRH, VLDRW", "VSTRB, VSTRH, VSTRW", "VLDRB, VLDRH, VLDRW, VLDRD (vector)" and "VSTRB, VSTRH, VSTRW, VSTRD (vector)")
 abbrev pub access_suffix : ℕ → ℕ → ℕ → List ℕ
 access_suffix l u z = either l (plain z) (by_sign u z)
 
--- by the condition: eq and ne are of integers, cs and hi of unsigned numbers, and ge, lt, gt and le of signed ones
+-- V20: by the condition, eq and ne are of integers, cs and hi of unsigned numbers, and ge, lt, gt and le of signed ones (DDI0553, "VCMP" and "VPT")
 abbrev pub compare_suffix : ℕ → ℕ → List ℕ
 compare_suffix c z = get_or (integer z ∷ integer z ∷ unsigned z ∷ unsigned z ∷ signed z ∷ signed z ∷ signed z ∷ signed z ∷ []) c []
 
--- the condition of a comparison
+-- V20: the condition of VCMP and VPT (DDI0553, "VCMP" and "VPT")
 abbrev pub compare_condition : ℕ → List ℕ
 compare_condition c = get_or (codes "eq" ∷ codes "ne" ∷ codes "cs" ∷ codes "hi" ∷ codes "ge" ∷ codes "lt" ∷ codes "gt" ∷ codes "le" ∷ []) c []
 
--- the letters of a block, by its mask: t where an instruction has the sense of the first, e where it has the other
+-- V20 and V21: the letters of a block, by its mask: t where an instruction has the sense of the first, e where it has the other
+-- (DDI0553, "VPT" and "VPST")
 abbrev pub block_letters : ℕ → List ℕ
 block_letters mask = get_or
     (codes "" ∷ codes "ttt" ∷ codes "tt" ∷ codes "tte" ∷ codes "t" ∷ codes "tee" ∷ codes "te" ∷ codes "tet"

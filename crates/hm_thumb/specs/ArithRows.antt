@@ -25,12 +25,13 @@ use Rattle.hm_isa.specs.declared.arith.T11.{T11}
 use Rattle.hm_isa.specs.declared.arith.T11.TheVariants as t11_
 use Rattle.hm_isa.specs.declared.arith.T20.{T20}
 use Rattle.hm_regs.specs.declared.Regs.{Regs}
-use Rattle.hm_thumb.specs.Arithmetic.{extended, inverted, negative, rotated, shift_c}
+use Rattle.hm_isa.specs.Words.{extended, negative, rotated, shift_c}
+use Rattle.hm_thumb.specs.Arithmetic.{inverted}
 use Rattle.hm_thumb.specs.Blocks.{condition_holds}
 use Rattle.hm_thumb.specs.RegisterRows.{extended_by, put, reg, reg_or_zero, swapped, with_nzc}
-use Rattle.hm_thumb.specs.declared.arithmetic.Shifted.{Shifted}
-use Rattle.hm_thumb.specs.declared.arithmetic.ShiftType.{ShiftType}
-use Rattle.hm_thumb.specs.declared.arithmetic.ShiftType.TheVariants as type
+use Rattle.hm_isa.specs.declared.words.Shifted.{Shifted}
+use Rattle.hm_isa.specs.declared.words.ShiftType.{ShiftType}
+use Rattle.hm_isa.specs.declared.words.ShiftType.TheVariants as type
 
 -- T8: the type of shift of each name: LSL, LSR, ASR and ROR
 abbrev pub wide_shift_of : WideShiftName → ShiftType

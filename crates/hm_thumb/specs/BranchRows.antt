@@ -21,7 +21,8 @@ use Rattle.hm_isa.specs.declared.jumps.TableName.TheVariants as table
 use Rattle.hm_isa.specs.declared.jumps.T17.{T17}
 use Rattle.hm_mem.specs.declared.Access.TheVariants.{Scalar}
 use Rattle.hm_regs.specs.declared.Regs.{Regs}
-use Rattle.hm_thumb.specs.Arithmetic.{sign_extended}
+use Rattle.hm_isa.specs.Distances.{always_distance, conditional_distance}
+use Rattle.hm_isa.specs.Words.{sign_extended}
 use Rattle.hm_thumb.specs.Blocks.{condition_holds}
 use Rattle.hm_thumb.specs.Does.{Does, Ends, goes, loads}
 use Rattle.hm_thumb.specs.RegisterRows.{reg, operand, put, bx_write, blx_write}
@@ -67,24 +68,9 @@ s25 (s25_.Conditional i) r = conditional i r
 s25 (s25_.Always i) r = always i r
 
 -- WIDE BRANCHES
--- s:j2:j1:i6:i11:0, so many bytes
-abbrev pub conditional_distance : WideConditional → ℕ
-conditional_distance i =
-    sign_extended 21 (i.s.value * 2 ^ 20 + i.j2.value * 2 ^ 19 + i.j1.value * 2 ^ 18 + i.i6.value * 2 ^ 12 + i.i11.value * 2)
-
 -- T16: B.W under a condition (DDI0553, "B", encoding T3)
 abbrev pub wide_conditional : WideConditional → Regs → Does
 wide_conditional i r = branch_if (condition_holds i.c.value r) (conditional_distance i) r
-
--- NOT(j EOR s), of bits
-abbrev pub alike : ℕ → ℕ → ℕ
-alike j s = cond (nat_eq j s) 1 0
-
--- s:I1:I2:i10:i11:0, so many bytes
-abbrev pub always_distance : WideAlways → ℕ
-always_distance i =
-    sign_extended 25
-    (i.s.value * 2 ^ 24 + alike i.j1.value i.s.value * 2 ^ 23 + alike i.j2.value i.s.value * 2 ^ 22 + i.i10.value * 2 ^ 12 + i.i11.value * 2)
 
 -- a call leaves the address of the next instruction in lr
 abbrev pub linked : WideBranchName → Regs → Regs

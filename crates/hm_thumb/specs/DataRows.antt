@@ -1,5 +1,5 @@
 -- What the rows T1 to T7 do.
-use Rattle.std.specs.Prelude.{ℕ, ◌+◌, ◌-◌, ◌*◌, ◌/◌, ◌%◌, ◌^◌, Bool, true, false, cond, not, ◌||◌, nat_eq, nat_lt, min, max, bit_and, bit_or, bit_xor, if◌then◌else◌}
+use Rattle.std.specs.Prelude.{ℕ, ◌+◌, ◌-◌, ◌*◌, ◌/◌, ◌%◌, ◌^◌, Bool, true, false, cond, not, ◌||◌, nat_eq, min, max, bit_and, bit_or, bit_xor, if◌then◌else◌}
 use Rattle.hm_base.specs.Bits.{field, put_field}
 use Rattle.hm_isa.specs.declared.narrow.ShiftName.TheVariants as shift
 use Rattle.hm_isa.specs.declared.data.DataName.{DataName}
@@ -18,21 +18,14 @@ use Rattle.hm_isa.specs.declared.data.T5.{T5}
 use Rattle.hm_isa.specs.declared.data.T6.{T6}
 use Rattle.hm_isa.specs.declared.data.T7.{T7}
 use Rattle.hm_regs.specs.declared.Regs.{Regs}
-use Rattle.hm_thumb.specs.Arithmetic.{negative, inverted, bit_is_set, add_with_carry, ror_c, shift_c, sign_extended}
+use Rattle.hm_isa.specs.Words.{bit_is_set, expand_imm_c, imm12, negative, shift_c, sign_extended}
+use Rattle.hm_thumb.specs.Arithmetic.{inverted, add_with_carry}
 use Rattle.hm_thumb.specs.RegisterRows.{reg, reg_or_zero, base_of, put, with_nzc, with_nzcv, amount, sum_of}
 use Rattle.hm_thumb.specs.declared.arithmetic.Sum.{Sum}
-use Rattle.hm_thumb.specs.declared.arithmetic.Shifted.{Shifted}
-use Rattle.hm_thumb.specs.declared.arithmetic.ShiftType.TheVariants as type
+use Rattle.hm_isa.specs.declared.words.Shifted.{Shifted}
+use Rattle.hm_isa.specs.declared.words.ShiftType.TheVariants as type
 
 -- THE SECOND OPERAND
--- the places of a word where a byte stands that is not rotated: the lowest, the first and third, the second and fourth, all four
-abbrev pub repeats : ℕ → ℕ
-repeats k = if nat_eq k 0 then 0x00000001 else (if nat_eq k 1 then 0x00010001 else (if nat_eq k 2 then 0x01000100 else 0x01010101))
-
--- ThumbExpandImm_C(x, carry), x of twelve bits
-abbrev pub expand_imm_c : ℕ → Bool → Shifted
-expand_imm_c x carry = if nat_lt x 0x400 then record { result = x % 0x100 * repeats (x / 0x100); carry = carry } else ror_c (0x80 + x % 0x80) (x / 0x80)
-
 -- RRX_C(x, carry)
 abbrev pub rrx_c : ℕ → Bool → Shifted
 rrx_c x carry = record { result = x / 2 + cond carry (2 ^ 31) 0; carry = bit_is_set x 0 }
@@ -71,10 +64,6 @@ data_row data_.Adc s d x y r = put_data_sum s d (add_with_carry x y.result r.c) 
 data_row data_.Sbc s d x y r = put_data_sum s d (add_with_carry x (inverted y.result) r.c) r
 data_row data_.Sub s d x y r = put_data_sum s d (add_with_carry x (inverted y.result) true) r
 data_row data_.Rsb s d x y r = put_data_sum s d (add_with_carry (inverted x) y.result true) r
-
--- the bits i, i3 and i8 one behind another
-abbrev pub imm12 : ℕ → ℕ → ℕ → ℕ
-imm12 i i3 i8 = i * 2 ^ 11 + i3 * 2 ^ 8 + i8
 
 -- T1: AND, BIC, ORR, ORN, EOR, ADD, ADC, SBC, SUB, RSB, MOV, MVN, TST, TEQ, CMN and CMP with a constant (DDI0553, "Data-processing (modified immediate)")
 abbrev pub t1 : T1 → Regs → Regs

@@ -18,7 +18,7 @@ use Rattle.hm_mem.specs.Devices.{top_three}
 use Rattle.hm_regs.specs.Place.{value_at, with_value}
 use Rattle.hm_regs.specs.Stacks.{main_of, process_of, uses_process}
 use Rattle.hm_regs.specs.declared.Regs.{Regs}
-use Rattle.hm_thumb.specs.Arithmetic.{bit_is_set}
+use Rattle.hm_isa.specs.Words.{bit_is_set}
 use Rattle.hm_thumb.specs.RegisterRows.{put, reg}
 
 -- a flag as bit k

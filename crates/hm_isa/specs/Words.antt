@@ -1,0 +1,69 @@
+-- Words as instructions make them: shifts, signs, and the constants of T1, T3 and T4.
+use Rattle.std.specs.Prelude.{ℕ, ◌+◌, ◌-◌, ◌*◌, ◌/◌, ◌%◌, ◌^◌, Bool, nat_le, nat_lt, nat_eq, if◌then◌else◌}
+use Rattle.hm_isa.specs.declared.words.Shifted.{Shifted}
+use Rattle.hm_isa.specs.declared.words.ShiftType.{ShiftType}
+use Rattle.hm_isa.specs.declared.words.ShiftType.TheVariants.{Lsl, Lsr, Asr, Ror}
+
+-- bit 31
+abbrev pub negative : ℕ → Bool
+negative x = nat_le (2 ^ 31) x
+
+-- whether bit k is set
+abbrev pub bit_is_set : ℕ → ℕ → Bool
+bit_is_set x k = nat_eq (x / 2 ^ k % 2) 1
+
+-- LSL_C(x, n): a shift to the left by n, which is not 0, and the last bit that is shifted out (DDI0553, "LSL_C")
+abbrev pub lsl_c : ℕ → ℕ → Shifted
+lsl_c x n = record { result = x * 2 ^ n % 2 ^ 32; carry = bit_is_set (x * 2 ^ n) 32 }
+
+-- LSR_C(x, n): a shift to the right with zeros from above, and the last bit that is shifted out (DDI0553, "LSR_C")
+abbrev pub lsr_c : ℕ → ℕ → Shifted
+lsr_c x n = record { result = x / 2 ^ n; carry = bit_is_set x (n - 1) }
+
+-- SignExtend(x, 64), of which a shift by more than 32 gives what one by 32 gives
+abbrev pub extended : ℕ → ℕ
+extended x = if negative x then x + 0xffffffff00000000 else x
+
+-- a number of places to shift by, 32 where it is more
+abbrev pub at_most_32 : ℕ → ℕ
+at_most_32 n = if nat_lt n 32 then n else 32
+
+-- ASR_C(x, n): a shift to the right that keeps the sign, and the last bit that is shifted out (DDI0553, "ASR_C")
+abbrev pub asr_c : ℕ → ℕ → Shifted
+asr_c x n = let m = at_most_32 n in record { result = extended x / 2 ^ m % 2 ^ 32; carry = bit_is_set (extended x) (m - 1) }
+
+-- ROR(x, m): a word rotated to the right by m places, m being less than 32 (DDI0553, "ROR")
+abbrev pub rotated : ℕ → ℕ → ℕ
+rotated x m = (x / 2 ^ m + x * 2 ^ (32 - m)) % 2 ^ 32
+
+-- ROR_C(x, n): a rotation to the right, and bit 31 of its result (DDI0553, "ROR_C")
+abbrev pub ror_c : ℕ → ℕ → Shifted
+ror_c x n = let result = rotated x (n % 32) in record { result = result; carry = negative result }
+
+-- the shift of each type by a number that is not 0, and its carry
+abbrev pub shift_by : ShiftType → ℕ → ℕ → Shifted
+shift_by Lsl = lsl_c
+shift_by Lsr = lsr_c
+shift_by Asr = asr_c
+shift_by Ror = ror_c
+
+-- Shift_C(x, type, n, carry): x itself and the carry that is given where n is 0 (DDI0553, "Shift_C")
+abbrev pub shift_c : ShiftType → ℕ → ℕ → Bool → Shifted
+shift_c type x n carry = if nat_eq n 0 then record { result = x; carry = carry } else shift_by type x n
+
+-- SignExtend(x, 32) of the low bits of x (DDI0553, "SignExtend")
+abbrev pub sign_extended : ℕ → ℕ → ℕ
+sign_extended bits x = let y = x % 2 ^ bits in if nat_lt y (2 ^ (bits - 1)) then y else y + (2 ^ 32 - 2 ^ bits)
+
+-- CONSTANTS
+-- T1, T3 and T4: the bits i, i3 and i8 one behind another (DDI0553, "Data-processing (modified immediate)", "ADD (immediate)" and "MOV (immediate)")
+abbrev pub imm12 : ℕ → ℕ → ℕ → ℕ
+imm12 i i3 i8 = i * 2 ^ 11 + i3 * 2 ^ 8 + i8
+
+-- the places of a word where a byte stands that is not rotated: the lowest, the first and third, the second and fourth, all four
+abbrev pub repeats : ℕ → ℕ
+repeats k = if nat_eq k 0 then 0x00000001 else (if nat_eq k 1 then 0x00010001 else (if nat_eq k 2 then 0x01000100 else 0x01010101))
+
+-- T1: ThumbExpandImm_C(x, carry), x of twelve bits (DDI0553, "T32ExpandImm_C")
+abbrev pub expand_imm_c : ℕ → Bool → Shifted
+expand_imm_c x carry = if nat_lt x 0x400 then record { result = x % 0x100 * repeats (x / 0x100); carry = carry } else ror_c (0x80 + x % 0x80) (x / 0x80)

@@ -1,0 +1,173 @@
+//! Words as instructions make them: shifts, signs, and constants of twelve bits.
+
+ghost use Rattle.std.specs.Prelude.{◌≡◌, ℕ, ◌+◌, ◌-◌, ◌*◌, ◌/◌, ◌%◌, ◌^◌, ◌<◌, ◌≤◌, Bool};
+ghost use Rattle.hm_isa.specs.Words.{asr_c, expand_imm_c, extended, imm12, lsl_c, lsr_c, repeats, ror_c, rotated, shift_c, sign_extended};
+
+use crate::fields::{Below, Bit, Byte};
+
+/// The sign bit of a word.
+pub const SIGN: u32 = 0x8000_0000;
+
+/// A word that was shifted, and the last bit that was shifted out.
+#[derive(Clone, Copy)]
+pub struct Shifted {
+    pub result: u32,
+    pub carry: bool,
+}
+
+/// How to shift: DDI0553, "SRType".
+#[derive(Clone, Copy)]
+pub enum ShiftType {
+    Lsl,
+    Lsr,
+    Asr,
+    Ror,
+}
+
+/// A word shifted left by `n`, which is not 0.
+#[tactic(auto, using(crate::proofs::FarShifts::far_left, crate::proofs::FarShifts::far_left_bit))]
+fn lsl_c(x: u32, n: u32) -> Shifted
+    requires { 0 < n }
+    ensures value { result ≡ lsl_c x n }
+{
+    if n > 32 {
+        return Shifted {
+            result: 0,
+            carry: false,
+        };
+    }
+    let wide = (x as u64) << n;
+    Shifted {
+        result: (wide % 0x1_0000_0000) as u32,
+        carry: (wide >> 32) % 2 == 1,
+    }
+}
+
+/// A word shifted right by `n`, which is not 0.
+#[tactic(auto, using(crate::proofs::FarShifts::far_right))]
+fn lsr_c(x: u32, n: u32) -> Shifted
+    requires { 0 < n }
+    ensures value { result ≡ lsr_c x n }
+{
+    if n > 32 {
+        return Shifted {
+            result: 0,
+            carry: false,
+        };
+    }
+    Shifted {
+        result: (x as u64 >> n) as u32,
+        carry: (x >> (n - 1)) % 2 == 1,
+    }
+}
+
+/// A word as the low half of a double word that has its sign.
+pub fn extended(x: u32) -> u64
+    ensures value { result ≡ extended x }
+    ensures below { result < 2 ^ 64 }
+{
+    if x >= SIGN {
+        x as u64 + 0xffff_ffff_0000_0000
+    } else {
+        x as u64
+    }
+}
+
+/// A word with its sign shifted right by `n`, which is not 0.
+fn asr_c(x: u32, n: u32) -> Shifted
+    requires { 0 < n }
+    ensures value { result ≡ asr_c x n }
+{
+    let m = if n < 32 { n } else { 32 };
+    let wide = extended(x);
+    Shifted {
+        result: ((wide >> m) % 0x1_0000_0000) as u32,
+        carry: (wide >> (m - 1)) % 2 == 1,
+    }
+}
+
+/// A word rotated right by `m`, below 32: DDI0553, "ROR".
+pub fn rotated(x: u32, m: u32) -> u32
+    requires { m < 32 }
+    ensures value { result ≡ rotated x m }
+{
+    let right = (x >> m) as u64;
+    let left = (x as u64) << (32 - m);
+    ((right + left) % 0x1_0000_0000) as u32
+}
+
+/// A word rotated right by `n`, which is not 0.
+fn ror_c(x: u32, n: u32) -> Shifted
+    requires { 0 < n }
+    ensures value { result ≡ ror_c x n }
+{
+    let result = rotated(x, n % 32);
+    Shifted {
+        result,
+        carry: result >= SIGN,
+    }
+}
+
+/// A word shifted, and the carry: the bit that was shifted out last, or the one given where `n` is 0 (DDI0553, "Shift_C").
+pub fn shift_c(kind: ShiftType, x: u32, n: u32, carry: bool) -> Shifted
+    ensures value { result ≡ shift_c kind x n carry }
+{
+    if n == 0 {
+        return Shifted { result: x, carry };
+    }
+    match kind {
+        ShiftType::Lsl => lsl_c(x, n),
+        ShiftType::Lsr => lsr_c(x, n),
+        ShiftType::Asr => asr_c(x, n),
+        ShiftType::Ror => ror_c(x, n),
+    }
+}
+
+/// The low `bits` bits of a number with their sign: DDI0553, "SignExtend".
+pub fn sign_extended(bits: u32, x: u32) -> u32
+    requires some { 1 ≤ bits }
+    requires few { bits < 32 }
+    ensures value { result ≡ sign_extended bits x }
+{
+    let y = x % (1 << bits);
+    if y < 1 << (bits - 1) {
+        y
+    } else {
+        y.wrapping_sub(1 << bits)
+    }
+}
+
+/// The bits `i`, `i3` and `i8` of a code, one behind another: a number of twelve bits.
+pub fn imm12(i: Bit, i3: Below<8>, i8: Byte) -> u32
+    ensures value { result ≡ imm12 i.value i3.value i8.value }
+    ensures below { result < 4096 }
+{
+    (i.get() << 11) + (i3.get() << 8) + i8.get()
+}
+
+/// A byte at one, two or all places of a word.
+fn repeated(byte: u32, k: u32) -> u32
+    requires { byte < 256 }
+    ensures value { result ≡ byte * repeats k }
+{
+    match k {
+        0 => byte,
+        1 => byte * 0x0001_0001,
+        2 => byte * 0x0100_0100,
+        _ => byte * 0x0101_0101,
+    }
+}
+
+/// The word that twelve bits stand for, and the carry: bit 31 of a byte that is rotated, or the one given (DDI0553, "T32ExpandImm_C").
+pub fn expand_imm_c(x: u32, carry: bool) -> Shifted
+    requires { x < 4096 }
+    ensures value { result ≡ expand_imm_c x carry }
+{
+    if x < 0x400 {
+        return Shifted {
+            result: repeated(x % 0x100, x / 0x100),
+            carry,
+        };
+    }
+    shift_c(ShiftType::Ror, 0x80 + x % 0x80, x / 0x80, carry)
+}
