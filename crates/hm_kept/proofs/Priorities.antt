@@ -1,7 +1,8 @@
 -- A step leaves priorities of three bits.
-use Rattle.std.proofs.Common.{ℕ, zero, suc, ◌+◌, ◌-◌, Bool, true, false, List, [], ◌∷◌, length, set, arith, refl}
+use Rattle.std.proofs.Common.{ℕ, zero, suc, ◌+◌, ◌-◌, Bool, true, false, List, [], ◌∷◌, length, take, map, arith, refl}
 use Rattle.std.specs.Prelude.{Option, Some, None, Result, Ok, Err, IfOk, All, nat_lt}
-use Rattle.std.proofs.lemmas.List.Elements.{All-replicate, All-set}
+use Rattle.std.proofs.lemmas.List.Elements.{All-append, All-drop, All-map, All-replicate, All-take}
+use Rattle.std.specs.List.{range_with_len}
 use Rattle.hm_isa.specs.declared.Instr.{Instr}
 use Rattle.hm_mem.specs.Devices.{after_read, byte_of, put_prios, top_three, word_at, write_devices}
 use Rattle.hm_mem.specs.Memory.{first_devices}
@@ -22,12 +23,11 @@ top-level x = (omega arith, omega arith)
 pub start-levels : HasLevels first_devices
 start-levels = record { interrupts = All-replicate IsLevel 240 0 (refl, omega arith); tick = (refl, omega arith) }
 
-set-levels : (ps : List ℕ) (k x : ℕ) → All IsLevel ps → All IsLevel (set ps k (top_three x))
-set-levels ps k x h = All-set IsLevel ps k (top_three x) (top-level x) h
-
 prios-levels : (len k x : ℕ) (ps : List ℕ) → All IsLevel ps → All IsLevel (put_prios len k x ps)
-prios-levels zero k x ps h = h
-prios-levels (suc n) k x ps h = set-levels (put_prios n k x ps) (k + n) (byte_of x n) (prios-levels n k x ps h)
+prios-levels len k x ps h =
+    let f : ℕ → ℕ = λ b. top_three (byte_of x b) in
+    let put : All IsLevel (map f (range_with_len 0 len)) = All-map IsLevel f (range_with_len 0 len) (λ i d lt. top-level _) in
+    All-append IsLevel (take k ps) _ (All-take IsLevel k ps h) (All-append IsLevel (map f (range_with_len 0 len)) _ put (All-drop IsLevel (k + len) ps h))
 
 read-levels : (d : Dev) (w : Option Word) → HasLevels d → HasLevels (after_read d w)
 read-levels d (Some Csr) h = record { interrupts = h.interrupts; tick = h.tick }
