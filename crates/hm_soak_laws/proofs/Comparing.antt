@@ -1,5 +1,5 @@
 -- Registers, compared field by field.
-use Rattle.std.proofs.Common.{◌≡◌, Bool, ◌&&◌, ap, nat_eq}
+use Rattle.std.proofs.Common.{◌≡◌, ℕ, Bool, ◌&&◌, List, ap, nat_eq}
 use Rattle.std.specs.Bool.{Decides, beq}
 use Rattle.std.specs.Cmp.{booleans_Decides}
 use Rattle.std.specs.Str.{bytes_eq}
@@ -7,28 +7,53 @@ use Rattle.std.proofs.lemmas.Bool.Decides.{Decides-and, Decides-eqb, Decides-lik
 use Rattle.std.proofs.lemmas.Slice.Eq.{bytes_eq-Decides}
 use Rattle.hm_regs.specs.declared.Regs.{Regs}
 
--- as `==` of the struct does it
+-- a test of parts of registers: it decides that these are the same, as they are where the registers are
+pub record Compared (x y : Regs) : Type 1 where
+  pub test : Bool
+  pub Same : Type 0
+  pub decides : Decides test Same
+  pub same : x ≡ y → Same
+
+abbrev pub by : {A : Type 0} (test : A → A → Bool) → ((u v : A) → Decides (test u v) (u ≡ v)) → (Regs → A) → (x y : Regs) → Compared x y
+by test decides f x y = record { test = test (f x) (f y); Same = f x ≡ f y; decides = decides (f x) (f y); same = λ e. ap f e }
+
+abbrev pub flag : (Regs → Bool) → (x y : Regs) → Compared x y
+flag = by beq booleans_Decides
+
+abbrev pub number : (Regs → ℕ) → (x y : Regs) → Compared x y
+number = by nat_eq Decides-eqb
+
+abbrev pub words : (Regs → List ℕ) → (x y : Regs) → Compared x y
+words = by bytes_eq bytes_eq-Decides
+
+-- one test and then another
+abbrev pub both : {x y : Regs} → Compared x y → Compared x y → Compared x y
+both h k = record { test = h.test && k.test; Same = h.Same × k.Same; decides = Decides-and h.test k.test h.decides k.decides; same = λ e. (h.same e, k.same e) }
+
+-- the fields in their order, as `==` of the struct tests them
+abbrev pub compared : (x y : Regs) → Compared x y
+compared x y =
+    both (words (λ g. g.r) x y)
+    (both (number (λ g. g.sp) x y)
+    (both (number (λ g. g.other) x y)
+    (both (number (λ g. g.lr) x y)
+    (both (number (λ g. g.pc) x y)
+    (both (flag (λ g. g.n) x y)
+    (both (flag (λ g. g.z) x y)
+    (both (flag (λ g. g.c) x y)
+    (both (flag (λ g. g.v) x y)
+    (both (flag (λ g. g.q) x y)
+    (both (number (λ g. g.it) x y)
+    (both (number (λ g. g.fpscr) x y)
+    (both (number (λ g. g.vpr) x y)
+    (both (words (λ g. g.qw) x y)
+    (both (flag (λ g. g.fpca) x y)
+    (both (flag (λ g. g.primask) x y)
+    (both (flag (λ g. g.spsel) x y)
+    (both (number (λ g. g.basepri) x y) (number (λ g. g.ipsr) x y))))))))))))))))))
+
 abbrev pub same_regs : Regs → Regs → Bool
-same_regs x y =
-    bytes_eq x.r y.r
-    && (nat_eq x.sp y.sp
-    && (nat_eq x.other y.other
-    && (nat_eq x.lr y.lr
-    && (nat_eq x.pc y.pc
-    && (beq x.n y.n
-    && (beq x.z y.z
-    && (beq x.c y.c
-    && (beq x.v y.v
-    && (beq x.q y.q
-    && (nat_eq x.it y.it
-    && (nat_eq x.fpscr y.fpscr
-    && (nat_eq x.vpr y.vpr
-    && (bytes_eq x.qw y.qw
-    && (beq x.fpca y.fpca
-    && (beq x.primask y.primask
-    && (beq x.spsel y.spsel
-    && (nat_eq x.basepri y.basepri
-    && nat_eq x.ipsr y.ipsr)))))))))))))))))
+same_regs x y = (compared x y).test
 
 pub same_regs_decides : (x y : Regs) → Decides (same_regs x y) (x ≡ y)
 same_regs_decides x y =
@@ -56,73 +81,5 @@ same_regs_decides x y =
       basepri = h.1.1.1.1.1.1.1.1.1.1.1.1.1.1.1.1.1.0 i;
       ipsr = h.1.1.1.1.1.1.1.1.1.1.1.1.1.1.1.1.1.1 i;
     })
-    (λ e. (
-      ap (λ (g : Regs). g.r) e,
-      (
-        ap (λ (g : Regs). g.sp) e,
-        (
-          ap (λ (g : Regs). g.other) e,
-          (
-            ap (λ (g : Regs). g.lr) e,
-            (
-              ap (λ (g : Regs). g.pc) e,
-              (
-                ap (λ (g : Regs). g.n) e,
-                (
-                  ap (λ (g : Regs). g.z) e,
-                  (
-                    ap (λ (g : Regs). g.c) e,
-                    (
-                      ap (λ (g : Regs). g.v) e,
-                      (
-                        ap (λ (g : Regs). g.q) e,
-                        (
-                          ap (λ (g : Regs). g.it) e,
-                          (
-                            ap (λ (g : Regs). g.fpscr) e,
-                            (
-                              ap (λ (g : Regs). g.vpr) e,
-                              (
-                                ap (λ (g : Regs). g.qw) e,
-                                (
-                                  ap (λ (g : Regs). g.fpca) e,
-                                  (
-                                    ap (λ (g : Regs). g.primask) e,
-                                    (
-                                      ap (λ (g : Regs). g.spsel) e,
-                                      (ap (λ (g : Regs). g.basepri) e, ap (λ (g : Regs). g.ipsr) e),
-                                    ),
-                                  ),
-                                ),
-                              ),
-                            ),
-                          ),
-                        ),
-                      ),
-                    ),
-                  ),
-                ),
-              ),
-            ),
-          ),
-        ),
-      ),
-    ))
-    (Decides-and _ _ (bytes_eq-Decides x.r y.r)
-    (Decides-and _ _ (Decides-eqb x.sp y.sp)
-    (Decides-and _ _ (Decides-eqb x.other y.other)
-    (Decides-and _ _ (Decides-eqb x.lr y.lr)
-    (Decides-and _ _ (Decides-eqb x.pc y.pc)
-    (Decides-and _ _ (booleans_Decides x.n y.n)
-    (Decides-and _ _ (booleans_Decides x.z y.z)
-    (Decides-and _ _ (booleans_Decides x.c y.c)
-    (Decides-and _ _ (booleans_Decides x.v y.v)
-    (Decides-and _ _ (booleans_Decides x.q y.q)
-    (Decides-and _ _ (Decides-eqb x.it y.it)
-    (Decides-and _ _ (Decides-eqb x.fpscr y.fpscr)
-    (Decides-and _ _ (Decides-eqb x.vpr y.vpr)
-    (Decides-and _ _ (bytes_eq-Decides x.qw y.qw)
-    (Decides-and _ _ (booleans_Decides x.fpca y.fpca)
-    (Decides-and _ _ (booleans_Decides x.primask y.primask)
-    (Decides-and _ _ (booleans_Decides x.spsel y.spsel)
-    (Decides-and _ _ (Decides-eqb x.basepri y.basepri) (Decides-eqb x.ipsr y.ipsr)))))))))))))))))))
+    (compared x y).same
+    (compared x y).decides

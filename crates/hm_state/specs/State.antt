@@ -135,29 +135,33 @@ listed n f = map f (range_with_len 0 n)
 abbrev pub bit : Bool → ℕ
 bit b = cond b 1 0
 
--- the registers of a state, FPSCR and VPR put together
-unfoldable pub regs_of : State → Regs
-regs_of s = record {
-  r = listed 13 (λ k. at (R k) s);
-  sp = at (R 13) s;
-  lr = at (R 14) s;
-  pc = s.pc;
-  n = s.rest.n;
-  z = s.rest.z;
-  c = s.rest.c;
-  v = s.rest.v;
-  q = s.rest.q;
-  it = s.rest.it;
-  fpscr = at Carry s * 2 ^ 28 + bit s.sticky * 2 ^ 27 + s.rest.fpscr_middle * 2 ^ 19 + at Ltp s * 2 ^ 16 + s.rest.fpscr_low;
-  vpr = s.rest.vpr_top * 2 ^ 24 + at Mask23 s * 2 ^ 20 + at Mask01 s * 2 ^ 16 + at (P0 3) s * 2 ^ 12 + at (P0 2) s * 2 ^ 8 + at (P0 1) s * 2 ^ 4 + at (P0 0) s;
-  qw = listed 32 (λ k. at (QWord k) s);
-  fpca = s.rest.fpca;
-  primask = s.rest.primask;
-  other = s.rest.other;
-  spsel = s.rest.spsel;
-  basepri = s.rest.basepri;
-  ipsr = s.rest.ipsr;
+-- the registers by what stands in each place, QC, the program counter and what stands beside them; FPSCR and VPR are put together
+abbrev pub regs_from : (Place → ℕ) → Bool → ℕ → Rest → Regs
+regs_from f sticky pc x = record {
+  r = listed 13 (λ k. f (R k));
+  sp = f (R 13);
+  lr = f (R 14);
+  pc = pc;
+  n = x.n;
+  z = x.z;
+  c = x.c;
+  v = x.v;
+  q = x.q;
+  it = x.it;
+  fpscr = f Carry * 2 ^ 28 + bit sticky * 2 ^ 27 + x.fpscr_middle * 2 ^ 19 + f Ltp * 2 ^ 16 + x.fpscr_low;
+  vpr = x.vpr_top * 2 ^ 24 + f Mask23 * 2 ^ 20 + f Mask01 * 2 ^ 16 + f (P0 3) * 2 ^ 12 + f (P0 2) * 2 ^ 8 + f (P0 1) * 2 ^ 4 + f (P0 0);
+  qw = listed 32 (λ k. f (QWord k));
+  fpca = x.fpca;
+  primask = x.primask;
+  other = x.other;
+  spsel = x.spsel;
+  basepri = x.basepri;
+  ipsr = x.ipsr;
 }
+
+-- the registers of a state
+unfoldable pub regs_of : State → Regs
+regs_of s = regs_from (λ p. at p s) s.sticky s.pc s.rest
 
 -- the bytes of SRAM
 abbrev pub sram_bytes : State → List ℕ
