@@ -7,7 +7,7 @@ pub returns-clause-listed : goal.returns-clause-listed
 returns-clause-listed c = λ v x b s. listed_law (vector_tree v x b) s ((row_laws v).asks x b s)
 
 pub returns-clause-same_lists : goal.returns-clause-same_lists
-returns-clause-same_lists c = λ v x b s u. same_lists (vector_tree v x b) s u ((row_laws v).asks x b s)
+returns-clause-same_lists c = λ v x b s u. same_lists (vector_tree v x b) s u
 
 pub returns-clause-same_done : goal.returns-clause-same_done
 returns-clause-same_done c = λ v x b s u. same_done (vector_tree v x b) s u ((row_laws v).asks x b s)
