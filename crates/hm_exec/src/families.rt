@@ -1,9 +1,14 @@
 //! A vector instruction of any family.
 
+ghost use Rattle.std.specs.Prelude.{◌≡◌};
+ghost use Rattle.hm_exec.specs.Families.{row_of};
+
 use hm_base::Stop;
 use hm_beat::{BeatWise, Touch};
+use hm_isa::Vector;
 use hm_mem::Mem;
 use hm_regs::Regs;
+use hm_rows::kind;
 use hm_varith::Arith;
 use hm_vcmp::Compare;
 use hm_vgather::Gather;
@@ -34,8 +39,25 @@ pub enum Any {
     Inter(Inter),
 }
 
+impl Any {
+    /// The vector row that it is.
+    fn row(&self) -> Vector
+        ensures value { result ≡ row_of self.now }
+    {
+        match self {
+            Any::Arith(x) => x.row,
+            Any::Wide(x) => x.row,
+            Any::Reduce(x) => x.row,
+            Any::Perm(x) => x.row,
+            Any::Compare(x) => x.row,
+            Any::Straight(x) => x.row,
+            Any::Gather(x) => x.row,
+            Any::Inter(x) => x.row,
+        }
+    }
+}
+
 impl BeatWise for Any {
-    ghost use Rattle.hm_exec.specs.Families.{row_of};
     ghost use Rattle.hm_rows.specs.Rows.{vector_tree, vector_whole};
     ghost use Rattle.hm_rows.proofs.Rows.{row_laws};
 
@@ -46,41 +68,17 @@ impl BeatWise for Any {
     ghost laws = { λ x. row_laws (row_of x) };
 
     fn touch(&self, b: u8, r: &Regs) -> Touch {
-        match self {
-            Any::Arith(row) => row.touch(b, r),
-            Any::Wide(row) => row.touch(b, r),
-            Any::Reduce(row) => row.touch(b, r),
-            Any::Perm(row) => row.touch(b, r),
-            Any::Compare(row) => row.touch(b, r),
-            Any::Straight(row) => row.touch(b, r),
-            Any::Gather(row) => row.touch(b, r),
-            Any::Inter(row) => row.touch(b, r),
-        }
+        let kind = kind(&self.row());
+        kind.touch(b, r)
     }
 
     fn check(&self, b: u8, r: &Regs, m: &Mem) -> Result<(), Stop> {
-        match self {
-            Any::Arith(row) => row.check(b, r, m),
-            Any::Wide(row) => row.check(b, r, m),
-            Any::Reduce(row) => row.check(b, r, m),
-            Any::Perm(row) => row.check(b, r, m),
-            Any::Compare(row) => row.check(b, r, m),
-            Any::Straight(row) => row.check(b, r, m),
-            Any::Gather(row) => row.check(b, r, m),
-            Any::Inter(row) => row.check(b, r, m),
-        }
+        let kind = kind(&self.row());
+        kind.check(b, r, m)
     }
 
     fn beat(&self, b: u8, r: &mut Regs, m: &mut Mem) -> Result<(), Stop> {
-        match self {
-            Any::Arith(row) => row.beat(b, r, m),
-            Any::Wide(row) => row.beat(b, r, m),
-            Any::Reduce(row) => row.beat(b, r, m),
-            Any::Perm(row) => row.beat(b, r, m),
-            Any::Compare(row) => row.beat(b, r, m),
-            Any::Straight(row) => row.beat(b, r, m),
-            Any::Gather(row) => row.beat(b, r, m),
-            Any::Inter(row) => row.beat(b, r, m),
-        }
+        let kind = kind(&self.row());
+        kind.beat(b, r, m)
     }
 }

@@ -1,69 +1,25 @@
 //! Loads and stores of elements that registers take in turn, by beats.
 #![tactic(auto)]
 
-ghost use Rattle.std.specs.Prelude.{◌≡◌, IfSome, IsTrue, is_some};
 ghost use Rattle.hm_vil.specs.Inter.{is_inter};
 
-use hm_base::Stop;
-use hm_beat::{BeatWise, Touch};
+use hm_families::{Family, RowOf};
 use hm_isa::Vector;
-use hm_mem::Mem;
-use hm_regs::Regs;
-use hm_rows::kind;
 
-/// An instruction that loads or stores elements that two or four vector registers take in turn: a row V28.
+/// The family of a row V28.
 #[derive(Clone, Copy)]
-pub struct Inter {
-    pub row: Vector,
-    pub ghost family: { IsTrue (is_inter row) },
-}
+pub struct Interleaved;
 
-/// Whether a row is of this family.
-fn is_inter(v: &Vector) -> bool
-    ensures { result ≡ is_inter v.now }
-{
-    match v {
-        Vector::V28(_) => true,
-        _ => false,
-    }
-}
+impl Family for Interleaved {
+    ghost rows = { is_inter };
 
-impl Inter {
-    /// The instruction as one of this family; None exactly where it is of another.
-    pub fn of(v: &Vector) -> Option<Self>
-        ensures family { is_some result ≡ is_inter v.now }
-        ensures row { IfSome result (λ x. x.row ≡ v.now) }
-    {
-        if is_inter(v) {
-            Some(Inter { row: *v })
-        } else {
-            None
+    fn has(v: &Vector) -> bool {
+        match v {
+            Vector::V28(_) => true,
+            _ => false,
         }
     }
 }
 
-impl BeatWise for Inter {
-    ghost use Rattle.hm_rows.specs.Rows.{vector_tree, vector_whole};
-    ghost use Rattle.hm_rows.proofs.Rows.{row_laws};
-
-    ghost tree = { λ x. vector_tree x.row };
-
-    ghost whole = { λ x. vector_whole x.row };
-
-    ghost laws = { λ x. row_laws x.row };
-
-    fn touch(&self, b: u8, r: &Regs) -> Touch {
-        let kind = kind(&self.row);
-        kind.touch(b, r)
-    }
-
-    fn check(&self, b: u8, r: &Regs, m: &Mem) -> Result<(), Stop> {
-        let kind = kind(&self.row);
-        kind.check(b, r, m)
-    }
-
-    fn beat(&self, b: u8, r: &mut Regs, m: &mut Mem) -> Result<(), Stop> {
-        let kind = kind(&self.row);
-        kind.beat(b, r, m)
-    }
-}
+/// An instruction that loads or stores elements that two or four vector registers take in turn: a row V28.
+pub type Inter = RowOf<Interleaved>;
