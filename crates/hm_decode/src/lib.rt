@@ -1,30 +1,52 @@
 //! What there is to execute at an address: the instruction that stands there, or a fault.
 #![tactic(auto)]
 
-ghost use Rattle.std.specs.Prelude.{◌≡◌, ◌+◌, ◌≤◌, ◌<◌, IsTrue, IfSome, IfNone, [], ◌∷◌};
+ghost use Rattle.std.specs.Prelude.{◌≡◌, ◌+◌, ◌≤◌, ◌<◌, false, IsTrue, IfSome, IfNone, [], ◌∷◌};
 ghost use Rattle.hm_base.specs.Image.{flash_size};
 ghost use Rattle.hm_isa.specs.declared.Instr.{Instr};
-ghost use Rattle.hm_isa.specs.Code.{halfwords, two_halves};
+ghost use Rattle.hm_isa.specs.declared.Vector.{Vector};
+ghost use Rattle.hm_isa.specs.Code.{halfwords, two_halves, vector_code};
 ghost use Rattle.hm_mem.specs.Memory.{memory_of, flash_at};
 ghost use Rattle.hm_codes.specs.Listing.{half_at, is_long, missing, Stands, IsFetched};
 
-use hm_base::{FLASH_SIZE, Fault, FaultKind};
+use hm_base::{FLASH_SIZE, Fault, FaultKind, bits};
 use hm_enc16::decode16;
 use hm_enc32::decode32;
 use hm_encv::decodev;
-use hm_isa::Instr;
+use hm_isa::{Instr, Vector};
 use hm_mem::Mem;
+
+/// Whether a vector instruction may have the code w. Bits 27 and 26 of all their codes are set (DDI0553, "T32 instruction set encoding": the
+/// coprocessor, floating-point and vector instructions), but of those of VCTP, which has a second halfword of its own.
+fn may_be_vector(w: u32) -> bool
+    ensures refused { result ≡ false → (v : Vector) → vector_code v ≡ w → ⊥ }
+{
+    let class = bits(w, 27, 26);
+    let second = bits(w, 15, 0);
+    class == 3 || second == 0xe801
+}
+
+/// The vector instruction whose code is w. Most other codes are told from all of theirs by a few bits.
+fn find_vector(w: u32) -> Option<Vector>
+    ensures found { IfSome result (λ v. vector_code v ≡ w) }
+    ensures none { IfNone result ((v : Vector) → vector_code v ≡ w → ⊥) }
+{
+    if may_be_vector(w) {
+        return decodev(w);
+    }
+    None
+}
 
 /// The instruction whose code is two halfwords, the first in bits 31 to 16 of w.
 fn find_word(w: u32) -> Option<Instr>
     ensures found { IfSome result (λ i. halfwords i ≡ two_halves w) }
     ensures none { IfNone result ((i : Instr) → halfwords i ≡ two_halves w → ⊥) }
 {
+    if let Some(v) = find_vector(w) {
+        return Some(Instr::Vector(v));
+    }
     if let Some(i) = decode32(w) {
         return Some(i);
-    }
-    if let Some(v) = decodev(w) {
-        return Some(Instr::Vector(v));
     }
     None
 }
