@@ -1,5 +1,5 @@
 -- How a tick ends.
-use Rattle.std.proofs.Common.{◌≡◌, ℕ, ◌<◌, arith, ap, refl, sym, ◌∙◌, subst, Bool, true, false, cond, List, [], ◌∷◌, length, map, Option, Some, None}
+use Rattle.std.proofs.Common.{◌≡◌, ℕ, ◌<◌, arith, ap, refl, sym, ◌∙◌, subst, Bool, true, false, cond, List, [], ◌∷◌, length, map, Option, Some, None, Result, Ok, Err}
 use Rattle.std.specs.Prelude.{if◌then◌else◌}
 use Rattle.hm_exc.specs.Entry.{Passes, activation, entered_memory, entered_registers, main_after, newest_first, vector_of, window_in}
 use Rattle.hm_exc.specs.declared.types.Activation.{Activation}
@@ -9,8 +9,7 @@ use Rattle.hm_handlers.specs.Nested.{Ended, Interrupted, Nested}
 use Rattle.hm_handlers.specs.Runs.{Pointers, Run, after_count, enters, enters_unless, may_enter, picks, pointers_of, stopped_under, stops, tick_end, stacked_of}
 use Rattle.hm_handlers.specs.Sound.{AreUrgent}
 use Rattle.hm_machine.proofs.Nestings.{same_acts}
-use Rattle.hm_machine.proofs.Runs.{Comes}
-use Rattle.hm_machine.specs.Cpus.{IsUnder, config_of, nested_of, state_in}
+use Rattle.hm_machine.specs.Cpus.{Came, IsUnder, config_of, nested_of, state_in}
 use Rattle.hm_machine.specs.Shown.{interrupted_of, run_with}
 use Rattle.hm_machine.specs.declared.cpu.Cpu.{Cpu}
 use Rattle.hm_mem.specs.Memory.{Around, Memory, memory_of, thread_under}
@@ -63,37 +62,38 @@ module _ (s : Sched) (line : TickLine) (m : Nested) (t : ℕ) (es : List Pointer
   judged_by b = if b then may_enter s (after_count line ran) else record ran { outcome = Some (outcome.RuleBroken t (length line.letters) (rule.Ending m.config.a m.config.b)) }
 
   -- at a position where it may not end
-  badly : (b : Bool) (steps : ℕ) (q : Rule) → b ≡ false → q ≡ rule.Ending m.config.a m.config.b → length line.letters ≡ steps → Comes (Some (outcome.RuleBroken t steps q)) m t (judged_by b)
+  badly : (b : Bool) (steps : ℕ) (q : Rule) → b ≡ false → q ≡ rule.Ending m.config.a m.config.b → length line.letters ≡ steps → Came (Err (outcome.RuleBroken t steps q)) m t es (judged_by b)
   badly true steps q e is n = absurd cc
-  badly false steps q e is n = λ j. run_with (Some (outcome.RuleBroken t (sym n j) (is j))) m t es
+  badly false steps q e is n = (λ j. run_with (Some (outcome.RuleBroken t (sym n j) (is j))) m t es, omega arith)
 
   pub ends_badly : (steps : ℕ) (q : Rule) → may_end m.config.a m.config.b ≡ false → q ≡ rule.Ending m.config.a m.config.b → length line.letters ≡ steps
-      → Comes (Some (outcome.RuleBroken t steps q)) m t (tick_end s line ran)
+      → Came (Err (outcome.RuleBroken t steps q)) m t es (tick_end s line ran)
   ends_badly steps q e is n = badly (may_end m.config.a m.config.b) steps q e is n
 
   -- and where it may
-  well : (b : Bool) (o : Option Outcome) (y : Nested) → b ≡ true → Comes o y t (may_enter s (after_count line ran)) → Comes o y t (judged_by b)
+  well : (b : Bool) (o : Result Bool Outcome) (y : Nested) → b ≡ true → Came o y t es (may_enter s (after_count line ran)) → Came o y t es (judged_by b)
   well true o y e h = h
   well false o y e h = absurd cc
 
-  chosen : (b : Bool) (o : Option Outcome) (y : Nested) → b ≡ true → Comes o y t (enters s (picks (after_count line ran)) (after_count line ran))
-      → Comes o y t (cond b (enters s (picks (after_count line ran)) (after_count line ran)) (after_count line ran))
+  chosen : (b : Bool) (o : Result Bool Outcome) (y : Nested) → b ≡ true → Came o y t es (enters s (picks (after_count line ran)) (after_count line ran))
+      → Came o y t es (cond b (enters s (picks (after_count line ran)) (after_count line ran)) (after_count line ran))
   chosen true o y e h = h
   chosen false o y e h = absurd cc
 
-  quiet : (b : Bool) (y : Nested) → b ≡ false → y ≡ (after_count line ran).machine → Comes None y t (cond b (enters s (picks (after_count line ran)) (after_count line ran)) (after_count line ran))
+  quiet : (b : Bool) (y : Nested) → b ≡ false → y ≡ (after_count line ran).machine
+      → Came (Ok false) y t es (cond b (enters s (picks (after_count line ran)) (after_count line ran)) (after_count line ran))
   quiet true y e is = absurd cc
-  quiet false y e is = ap (λ (n : Nested). run_with None n t es) is
+  quiet false y e is = (ap (λ (n : Nested). run_with None n t es) is, omega arith)
 
   -- without entries, and with them
-  pub ends_quiet : (y : Nested) → may_end m.config.a m.config.b ≡ true → s.entries ≡ false → y ≡ (after_count line ran).machine → Comes None y t (tick_end s line ran)
-  ends_quiet y e none is = well (may_end m.config.a m.config.b) None y e (quiet s.entries y none is)
+  pub ends_quiet : (y : Nested) → may_end m.config.a m.config.b ≡ true → s.entries ≡ false → y ≡ (after_count line ran).machine → Came (Ok false) y t es (tick_end s line ran)
+  ends_quiet y e none is = well (may_end m.config.a m.config.b) (Ok false) y e (quiet s.entries y none is)
 
-  pub ends_picked : (x : Nested) (o : Option Outcome) (y : Nested) → may_end m.config.a m.config.b ≡ true → s.entries ≡ true → x ≡ (after_count line ran).machine
-      → Comes o y t (enters s (picks (run_with None x t es)) (run_with None x t es)) → Comes o y t (tick_end s line ran)
+  pub ends_picked : (x : Nested) (o : Result Bool Outcome) (y : Nested) → may_end m.config.a m.config.b ≡ true → s.entries ≡ true → x ≡ (after_count line ran).machine
+      → Came o y t es (enters s (picks (run_with None x t es)) (run_with None x t es)) → Came o y t es (tick_end s line ran)
   ends_picked x o y e some is h =
       well (may_end m.config.a m.config.b) o y e
-      (chosen s.entries o y some (subst (λ (n : Nested). Comes o y t (enters s (picks (run_with None n t es)) (run_with None n t es))) is h))
+      (chosen s.entries o y some (subst (λ (n : Nested). Came o y t es (enters s (picks (run_with None n t es)) (run_with None n t es))) is h))
 
 -- what was counted and became pending
 pub counted_nested : (x : Cpu) (m : Memory) (irq : List ℕ) (line : TickLine) (t : ℕ) (es : List Pointers) → line.irq ≡ irq → m ≡ with_dev (counted_with irq (memory_of x.mem).devices) (memory_of x.mem)
@@ -106,23 +106,24 @@ counted_nested x m irq line t es is e =
 
 -- ENTRIES
 -- none is picked, and one is
-pub picks_none : (s : Sched) (o : Option ℕ) (m : Nested) (t : ℕ) (es : List Pointers) → o ≡ None → Comes None m t (enters s o (run_with None m t es))
-picks_none s o m t es e = subst (λ (q : Option ℕ). Comes None m t (enters s q (run_with None m t es))) (sym e) refl
+pub picks_none : (s : Sched) (o : Option ℕ) (m : Nested) (t : ℕ) (es : List Pointers) → o ≡ None → Came (Ok false) m t es (enters s o (run_with None m t es))
+picks_none s o m t es e = subst (λ (q : Option ℕ). Came (Ok false) m t es (enters s q (run_with None m t es))) (sym e) (refl, omega arith)
 
-pub picks_one : (s : Sched) (o : Option ℕ) (e : ℕ) (m : Nested) (t : ℕ) (es : List Pointers) (q : Option Outcome) (y : Nested) → o ≡ Some e
-    → Comes q y t (enters s (Some e) (run_with None m t es)) → Comes q y t (enters s o (run_with None m t es))
-picks_one s o e m t es q y is h = subst (λ (p : Option ℕ). Comes q y t (enters s p (run_with None m t es))) (sym is) h
+pub picks_one : (s : Sched) (o : Option ℕ) (e : ℕ) (m : Nested) (t : ℕ) (es : List Pointers) (q : Result Bool Outcome) (y : Nested) → o ≡ Some e
+    → Came q y t es (enters s (Some e) (run_with None m t es)) → Came q y t es (enters s o (run_with None m t es))
+picks_one s o e m t es q y is h = subst (λ (p : Option ℕ). Came q y t es (enters s p (run_with None m t es))) (sym is) h
 
 -- it enters, and it does not
-pub unless_on : (s : Sched) (e : ℕ) (o : Option EnterErr) (m y : Nested) (t : ℕ) (es : List Pointers) → o ≡ None → y ≡ entered s e m → Comes None y t (enters_unless s e o (run_with None m t es))
+pub unless_on : (s : Sched) (e : ℕ) (o : Option EnterErr) (m y : Nested) (t : ℕ) (es : List Pointers) → o ≡ None → y ≡ entered s e m
+    → Came (Ok true) y t es (enters_unless s e o (run_with None m t es))
 unless_on s e o m y t es free is =
-    subst (λ (p : Option EnterErr). Comes None y t (enters_unless s e p (run_with None m t es))) (sym free)
-    (ap (λ (n : Nested). run_with None n t (pointers_of (regs_of m.config.state) ∷ es)) is)
+    subst (λ (p : Option EnterErr). Came (Ok true) y t es (enters_unless s e p (run_with None m t es))) (sym free)
+    (ap (λ (n : Nested). run_with None n t (pointers_of (regs_of m.config.state) ∷ es)) is, omega arith)
 
 pub unless_off : (s : Sched) (e : ℕ) (o : Option EnterErr) (why : EnterErr) (m y : Nested) (t : ℕ) (es : List Pointers) (q : Outcome) → o ≡ Some why → y ≡ m → q ≡ refused t m.config why
-    → Comes (Some q) y t (enters_unless s e o (run_with None m t es))
+    → Came (Err q) y t es (enters_unless s e o (run_with None m t es))
 unless_off s e o why m y t es q is same refusal =
-    subst (λ (p : Option EnterErr). Comes (Some q) y t (enters_unless s e p (run_with None m t es))) (sym is) (λ j. run_with (Some (refusal j)) (same j) t es)
+    subst (λ (p : Option EnterErr). Came (Err q) y t es (enters_unless s e p (run_with None m t es))) (sym is) (λ j. run_with (Some (refusal j)) (same j) t es, omega arith)
 
 -- THE MACHINE after an entry
 module _ (s : Sched) (x y : Cpu) (e : ℕ) (under : IsUnder s x) (registers : regs_of (state_in x) ≡ x.regs) where

@@ -15,7 +15,7 @@ use Rattle.hm_exc.specs.declared.types.Activation.{Activation}
 use Rattle.hm_handlers.proofs.Soundness.{start_sound}
 use Rattle.hm_handlers.specs.Runs.{Run, begin, closed, run}
 use Rattle.hm_handlers.specs.Sound.{IsSound}
-use Rattle.hm_machine.proofs.Runs.{Comes, closed_out}
+use Rattle.hm_machine.proofs.Runs.{Comes, closed_entries, closed_out}
 use Rattle.hm_sched.specs.Schedule.{TickLine, Sched, IsLine, most_ticks, ticks_of}
 use Rattle.hm_state.proofs.Started.{started}
 use Rattle.hm_state.specs.Start.{reset_pc, reset_sp, start_under}
@@ -64,6 +64,7 @@ pub shows_start : (image : List Segment) (s : Sched) (m : Memory) (sp pc : ℕ) 
       outcome = o;
       acts = acts;
       ticks = 0;
+      entries = 0;
       schedule = s;
       left = left_while o (left_in (drop 0 s.lines) 0);
     })
@@ -77,6 +78,7 @@ shows_start image s m sp pc regs output acts o flash bytes clean devices around 
         acts = map interrupted_of (eacts j);
       }) 0 (run listing image s 0).entries)
       ∙ begun (ticks_of s.lines) (begin image s) o refl some out;
+  count = λ listing is. sym (ap length (closed_entries (ticks_of s.lines) (begin image s)));
 }
 
 -- what holds at the start

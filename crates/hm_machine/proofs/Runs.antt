@@ -1,5 +1,5 @@
 -- A run with handlers to the end of its ticks, and beyond.
-use Rattle.std.proofs.Common.{◌≡◌, ℕ, zero, suc, ◌+◌, ◌-◌, ◌≤◌, ◌<◌, arith, ap, refl, sym, ◌∙◌, subst, List, [], ◌∷◌, drop, length, Option, Some, None, add-zero, add-suc}
+use Rattle.std.proofs.Common.{◌≡◌, ℕ, zero, suc, ◌+◌, ◌-◌, ◌≤◌, ◌<◌, arith, ap, refl, sym, ◌∙◌, subst, List, [], ◌∷◌, drop, length, Bool, Option, Some, None, Result, Err, add-zero, add-suc}
 use Rattle.std.proofs.lemmas.List.{length-drop, nil_from_length}
 use Rattle.hm_base.specs.Image.{Segment}
 use Rattle.hm_codes.specs.Listing.{Listing}
@@ -7,6 +7,7 @@ use Rattle.hm_handlers.specs.Nested.{Nested}
 use Rattle.hm_handlers.proofs.Soundness.{next_sound}
 use Rattle.hm_handlers.specs.Sound.{IsSound}
 use Rattle.hm_handlers.specs.Runs.{Pointers, Run, begin, closed, next, run, run_out, tick_of}
+use Rattle.hm_machine.specs.Cpus.{Came, entered_in}
 use Rattle.hm_machine.specs.Shown.{run_with}
 use Rattle.hm_plain.specs.Ends.{HasEnded}
 use Rattle.hm_run.specs.declared.Outcome.{Outcome}
@@ -76,6 +77,17 @@ Comes o m t r = run_with o m t r.entries ≡ r
 pub comes : (o : Option Outcome) (m : Nested) (t : ℕ) (es : List Pointers) (r : Run) → run_with o m t es ≡ r → Comes o m t r
 comes o m t es r e = ap (λ (l : List Pointers). run_with o m t l) (sym (ap (λ (x : Run). x.entries) e)) ∙ e
 
+-- the stack pointers at its entries, where none entered
+pub came_over : (o : Outcome) (m : Nested) (t : ℕ) (es : List Pointers) (r : Run) → run_with (Some o) m t es ≡ r → Came (Err o) m t es r
+came_over o m t es r e =
+    let same : length es ≡ length r.entries = ap (λ (x : Run). length x.entries) e in
+    (comes (Some o) m t es r e, omega (arith, same))
+
+-- no tick's end changes them
+pub closed_entries : (left : List TickLine) (x : Run) → (closed left x).entries ≡ x.entries
+closed_entries [] x = refl
+closed_entries (line ∷ left) x = refl
+
 -- while it goes on, what always holds does
 pub comes_sound : (listing : Listing) (s : Sched) (left : List TickLine) (x : Run) (m : Nested) (t : ℕ) → (x.outcome ≡ None → IsSound s x.machine) → Comes None m t (next listing s left x) → IsSound s m
 comes_sound listing s left x m t h e =
@@ -87,6 +99,14 @@ module _ (listing : Listing) (s : Sched) (line : TickLine) (rest : List TickLine
 
   ticked_is : next listing s (line ∷ rest) x ≡ closed rest ticked
   ticked_is = ap (λ (o : Option Outcome). closed rest (tick_of listing s line x o)) going
+
+  -- how many entered, by what the tick answered
+  pub comes_counted : (a : Result Bool Outcome) (m : Nested) (t : ℕ) (es : List Pointers) (old new : ℕ) → Came a m t es ticked → new ≡ old + entered_in a
+      → new + length es ≡ old + length (next listing s (line ∷ rest) x).entries
+  comes_counted a m t es old new h e =
+      let same : length (next listing s (line ∷ rest) x).entries ≡ length ticked.entries = ap (λ (r : Run). length r.entries) ticked_is ∙ ap length (closed_entries rest ticked) in
+      let count : length ticked.entries ≡ length es + entered_in a = h.1 in
+      omega (arith, same, count, e)
 
   kept : (o : Option Outcome) (m : Nested) (t : ℕ) → Comes o m t ticked → next listing s (line ∷ rest) x ≡ ticked → Comes o m t (next listing s (line ∷ rest) x)
   kept o m t h e = subst (Comes o m t) (sym e) h

@@ -9,6 +9,7 @@ use Rattle.hm_handlers.specs.Nested.{Nested}
 use Rattle.hm_handlers.specs.Runs.{Run, begin, closed, run}
 use Rattle.hm_handlers.specs.Sound.{IsSound}
 use Rattle.hm_machine.proofs.Loads.{begun, first_left}
+use Rattle.hm_machine.proofs.Runs.{closed_entries}
 use Rattle.hm_machine.specs.Checkpoints.{IsKept, at_checkpoint}
 use Rattle.hm_machine.specs.Machines.{left_in, left_while}
 use Rattle.hm_machine.specs.Shown.{Fixed, Shown, Shows, fixed_of, run_of, run_with}
@@ -92,6 +93,11 @@ module _ (image : List Segment) (t : Sched) (x : Start) (from : IsStart image t 
       let there = exists (flash_byte image) in
       ap (λ (r : Run). r.ticks) (shown.now there.0 there.1) ∙ closed_ticks (ticks_of t.lines) (begin image t)
 
+  first_entries : x.checkpoint.entries ≡ 0
+  first_entries =
+      let there = exists (flash_byte image) in
+      shown.count there.0 there.1 ∙ ap length (closed_entries (ticks_of t.lines) (begin image t))
+
   pub first_older : x.checkpoint.window.a ≡ 0
   first_older = ap (λ (m : Nested). m.config.a) first_machine
 
@@ -111,6 +117,7 @@ module _ (image : List Segment) (t : Sched) (x : Start) (from : IsStart image t 
   pub kept_start : (f : Fixed) → IsKept x.checkpoint f []
   kept_start f =
       let ticks = first_ticks in
+      let entries = first_entries in
       let retired = first_retired in
       let steps = first_steps in
       record {
@@ -120,6 +127,7 @@ module _ (image : List Segment) (t : Sched) (x : Start) (from : IsStart image t 
         running = λ none. not_none none;
         begun = λ none. not_none none;
         few = omega (arith, ticks);
+        entries = omega (arith, entries);
         retired = omega (arith, retired);
         steps = omega (arith, steps);
       }
@@ -155,6 +163,7 @@ module _ (image : List Segment) (t : Sched) (x : Start) (from : IsStart image t 
       plan = refl;
       left = first_left s.lines o;
       now = λ listing is. (λ j. run_with o (machine_again j) (first_ticks j) (run listing image s 0).entries) ∙ begun (ticks_of s.lines) (begin image s) o refl some out;
+      count = λ listing is. first_entries ∙ sym (ap length (closed_entries (ticks_of s.lines) (begin image s)));
     }
 
 -- IT IS KEPT. Before its first tick nothing is written.

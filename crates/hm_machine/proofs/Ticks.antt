@@ -38,8 +38,10 @@ drop_next t xs = drop-drop 1 t xs ∙ ap (λ (k : ℕ). drop k xs) (add-one t)
 pub shows_on : (image : List Segment) (s : Sched) (t : ℕ) (old new : Shown) → Shows image s t old → old.outcome ≡ None
     → flash_at new.memory ≡ flash_at old.memory → new.schedule ≡ old.schedule → (new.outcome ≡ None → new.left ≡ drop 1 old.left)
     → ((listing : Listing) (es : List Pointers) → IsListing (flash_at old.memory) listing → let r = next listing old.schedule old.left (run_of old es) in run_of new r.entries ≡ r)
+    → ((listing : Listing) (es : List Pointers) → IsListing (flash_at old.memory) listing
+    → new.entries + length es ≡ old.entries + length (next listing old.schedule old.left (run_of old es)).entries)
     → Shows image s (suc t) new
-shows_on image s t old new h none flash schedule left now = record {
+shows_on image s t old new h none flash schedule left now counted = record {
   bytes = flash ∙ h.bytes;
   plan = schedule ∙ h.plan;
   left = λ on. left on ∙ ap (drop 1) (h.left none) ∙ drop_next t (ticks_of s.lines);
@@ -47,6 +49,13 @@ shows_on image s t old new h none flash schedule left now = record {
       let es = (run listing image s t).entries in
       let same : next listing old.schedule old.left (run_of old es) ≡ run listing image s (suc t) = λ j. next listing (h.plan j) (h.left none j) (h.now listing is j) in
       subst (λ (r : Run). run_of new r.entries ≡ r) same (now listing es (subst (λ (f : ℕ → ℕ). IsListing f listing) (sym h.bytes) is));
+  count = λ listing is.
+      let es = (run listing image s t).entries in
+      let same : next listing old.schedule old.left (run_of old es) ≡ run listing image s (suc t) = λ j. next listing (h.plan j) (h.left none j) (h.now listing is j) in
+      let more : new.entries + length es ≡ old.entries + length (run listing image s (suc t)).entries
+      = subst (λ (r : Run). new.entries + length es ≡ old.entries + length r.entries) same (counted listing es (subst (λ (f : ℕ → ℕ). IsListing f listing) (sym h.bytes) is)) in
+      let before : old.entries ≡ length es = h.count listing is in
+      omega (arith, more, before);
 }
 
 shows_ended : (image : List Segment) (s : Sched) (t : ℕ) (m : Shown) (o : Outcome) → Shows image s t m → m.outcome ≡ Some o → Shows image s (suc t) m
@@ -58,6 +67,9 @@ shows_ended image s t m o h e = record {
       let over : (run listing image s t).outcome ≡ Some o = ap (λ (x : Run). x.outcome) (sym (h.now listing is)) ∙ e in
       let still : run listing image s t ≡ run listing image s (suc t) = sym (next_ended listing s (drop t (ticks_of s.lines)) (run listing image s t) o over) in
       subst (λ (r : Run). run_of m r.entries ≡ r) still (h.now listing is);
+  count = λ listing is.
+      let over : (run listing image s t).outcome ≡ Some o = ap (λ (x : Run). x.outcome) (sym (h.now listing is)) ∙ e in
+      h.count listing is ∙ ap (λ (r : Run). length r.entries) (sym (next_ended listing s (drop t (ticks_of s.lines)) (run listing image s t) o over));
 }
 
 shows_later : (image : List Segment) (s : Sched) (t k : ℕ) (m : Shown) (o : Outcome) → m.outcome ≡ Some o → Shows image s t m → Shows image s (t + k) m
@@ -93,6 +105,7 @@ shows_past image s t m le h =
         plan = h.plan;
         left = λ none. let no : None ≡ Some end.0 = sym none ∙ over in absurd cc;
         now = λ listing is. subst (λ (r : Run). run_of m r.entries ≡ r) (run_past listing s image t le) (h.now listing is);
+        count = λ listing is. h.count listing is ∙ ap (λ (r : Run). length r.entries) (run_past listing s image t le);
       },
     )
 

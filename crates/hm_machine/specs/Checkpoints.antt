@@ -28,6 +28,7 @@ at_checkpoint c f output = record {
   outcome = c.outcome;
   acts = newest_first c.acts;
   ticks = c.ticks;
+  entries = c.entries;
   schedule = f.schedule;
   left = left_while c.outcome (left_at f.schedule.lines c.cursor);
 }
@@ -40,5 +41,6 @@ pub record IsKept (c : Checkpoint) (f : Fixed) (output : List ℕ) : Type 0 wher
   pub running : c.outcome ≡ None → GoesOn f.schedule.lines c.cursor
   pub begun : c.outcome ≡ None → c.ticks + length (left_at f.schedule.lines c.cursor) ≤ most_ticks
   pub few : c.ticks ≤ most_ticks
+  pub entries : c.entries ≤ c.ticks
   pub retired : c.retired ≤ 33 * c.ticks
   pub steps : c.older_steps ≤ 33 * c.ticks

@@ -25,6 +25,7 @@ pub struct Checkpoint {
     pub older_steps: u64,
     pub cursor: Cursor,
     pub ticks: u32,
+    pub entries: u32,
     pub outcome: Option<Outcome>,
 }
 

@@ -249,11 +249,11 @@ fn as_vector(i: &Instr) -> Option<Vector>
 }
 
 /// The vector instruction that stands at an address, where one does.
-pub fn vector_at(recent: &Recent, mem: &Mem, addr: u32) -> Option<Vector>
+pub fn vector_at(recent: &mut Recent, mem: &Mem, addr: u32) -> Option<Vector>
     ensures row { (listing : Listing) → IsListing (flash_at (memory_of mem.now)) listing → result ≡ vector_of (listing addr) }
     ensures room { IsSome result → addr + 4 < 2 ^ 32 }
 {
-    match recent.fetched(mem, addr) {
+    match recent.fetch(mem, addr) {
         Ok(i) => as_vector(&i),
         Err(_) => None,
     }

@@ -6,7 +6,7 @@ ghost use Rattle.hm_codes.specs.Listing.{Listing, IsListing};
 ghost use Rattle.hm_handlers.specs.Entries.{least_active, mask_of, refused, running_priority};
 ghost use Rattle.hm_handlers.specs.Nested.{Ended, at_step, letter, letters};
 ghost use Rattle.hm_handlers.specs.Runs.{Pointers, ended, enters, picks as picks_of, stopped_under, stops, tick_end, stacked_of};
-ghost use Rattle.hm_machine.specs.Cpus.{config_of, step_ended, nested_of, picks, ticked, early_ended, CountsNone, CountsOne, IsPosition, IsSoundUnderSome, IsSoundUnder, KeepsFlash, Stays};
+ghost use Rattle.hm_machine.specs.Cpus.{config_of, step_ended, nested_of, picks, ticked, early_ended, Came, CountsNone, CountsOne, IsPosition, IsSoundUnderSome, IsSoundUnder, KeepsFlash, Stays};
 ghost use Rattle.hm_machine.specs.Shown.{run_with};
 ghost use Rattle.hm_mem.specs.Memory.{memory_of, flash_at};
 ghost use Rattle.hm_mem.specs.Seen.{with_dev};
@@ -81,14 +81,14 @@ fn refused(tick: u32, why: EnterErr, x: &Cpu) -> Outcome
 }
 
 /// Exception `e`, which was picked, enters; or the answer is how the run ends, and nothing is changed.
-fn enter_exception(tick: u32, e: u16, x: &mut Cpu) -> Option<Outcome>
+fn enter_exception(tick: u32, e: u16, x: &mut Cpu) -> Result<bool, Outcome>
     requires sound { IsSoundUnderSome x.old }
     requires picked { picks x.old ≡ Some e }
     requires position { may_end x.old.window.a x.old.window.b ≡ true }
     ensures value { (s : Sched) (es : List Pointers) → IsSoundUnder s x.old
-        → let r = enters s (Some e) (run_with None (nested_of x.old) tick es) in run_with result (nested_of x.new) tick r.entries ≡ r }
+        → Came result (nested_of x.new) tick es (enters s (Some e) (run_with None (nested_of x.old) tick es)) }
     ensures moves { KeepsFlash x.old x.new }
-    ensures position { result ≡ None → IsPosition x.new }
+    ensures position { OnOk result (IsPosition x.new) }
     ensures count { CountsNone x.old x.new }
 {
     // the packed words are put together again, since each number fits its type
@@ -96,25 +96,25 @@ fn enter_exception(tick: u32, e: u16, x: &mut Cpu) -> Option<Outcome>
     match enter(&mut x.regs, &mut x.mem, x.window, e, &mut x.acts) {
         Ok(()) => {
             x.window = Window { a: 0, b: 0 };
-            None
+            Ok(true)
         }
-        Err(why) => Some(refused(tick, why, x)),
+        Err(why) => Err(refused(tick, why, x)),
     }
 }
 
-/// The exception that is picked enters, where there is one; or the answer is how the run ends.
-pub fn enter_picked(tick: u32, x: &mut Cpu) -> Option<Outcome>
+/// The exception that is picked enters, where there is one. The answer is whether one did, or how the run ends.
+pub fn enter_picked(tick: u32, x: &mut Cpu) -> Result<bool, Outcome>
     requires sound { IsSoundUnderSome x.old }
     requires position { may_end x.old.window.a x.old.window.b ≡ true }
     ensures value { (s : Sched) (es : List Pointers) → IsSoundUnder s x.old
-        → let y = run_with None (nested_of x.old) tick es in let r = enters s (picks_of y) y in run_with result (nested_of x.new) tick r.entries ≡ r }
+        → let y = run_with None (nested_of x.old) tick es in Came result (nested_of x.new) tick es (enters s (picks_of y) y) }
     ensures moves { KeepsFlash x.old x.new }
-    ensures position { IsPosition x.old → result ≡ None → IsPosition x.new }
+    ensures position { IsPosition x.old → OnOk result (IsPosition x.new) }
     ensures count { CountsNone x.old x.new }
 {
     let current = running_priority(x);
     match candidate(x.mem.dev(), current) {
         Some(e) => enter_exception(tick, e, x),
-        None => None,
+        None => Ok(false),
     }
 }

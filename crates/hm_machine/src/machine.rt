@@ -1,10 +1,11 @@
 //! The machine.
 
-ghost use Rattle.std.specs.Prelude.{◌≡◌, ℕ, suc, ◌+◌, ◌-◌, ◌<◌, ◌≤◌, ◌↔◌, ◌%◌, List, [], ◌∷◌, ◌++◌, length, drop, reverse, None, Some, IsSome, IfOk, IfErr, IfNone, IfSome, OnSome, IsTrue};
+ghost use Rattle.std.specs.Prelude.{◌≡◌, ℕ, suc, ◌+◌, ◌-◌, ◌<◌, ◌≤◌, ◌↔◌, ◌%◌, List, [], ◌∷◌, ◌++◌, length, drop, reverse, None, Some, Ok, IsSome, IfOk, IfErr, IfNone, IfSome, OnSome, IsTrue};
 ghost use Rattle.hm_base.specs.Image.{Segment, flash_byte};
 ghost use Rattle.hm_codes.specs.Listing.{Listing, IsListing, Stands};
 ghost use Rattle.hm_isa.specs.declared.Instr.{Instr};
 ghost use Rattle.hm_machine.specs.Bares.{IsBare, ShowsGiven, may_pair};
+ghost use Rattle.hm_machine.specs.Cpus.{entered_in};
 ghost use Rattle.hm_machine.specs.Shown.{Shows, fixed_of, run_of, timed_of};
 ghost use Rattle.hm_machine.specs.Turns.{turned, LoadRefuses};
 ghost use Rattle.hm_mem.specs.Memory.{flash_at, told_at, tainted_at};
@@ -50,6 +51,7 @@ pub struct Machine {
     schedule: Schedule,
     cursor: Cursor,
     ticks: u32,
+    entries: u32,
     outcome: Option<Outcome>,
 }
 
@@ -78,6 +80,13 @@ fn first_outcome(schedule: &Schedule) -> Option<Outcome>
     } else {
         None
     }
+}
+
+/// How many exceptions entered at the end of a tick, of which one may.
+fn entered_once(entered: bool) -> u32
+    ensures { result ≡ entered_in (Ok entered) }
+{
+    if entered { 1 } else { 0 }
 }
 
 impl Machine {
@@ -121,6 +130,7 @@ impl Machine {
             schedule: s,
             cursor: Cursor { line: 0, used: 0 },
             ticks: 0,
+            entries: 0,
             outcome,
         })
     }
@@ -179,6 +189,14 @@ impl Machine {
         self.ticks
     }
 
+    /// The exceptions that entered.
+    pub fn entries(&self) -> u32
+        ensures value { result ≡ self.now.entries }
+        ensures most { result ≤ self.now.ticks }
+    {
+        self.entries
+    }
+
     /// The instructions of the thread that were retired.
     pub fn retired(&self) -> u64
         ensures { result ≡ (timed_of self.now).config.n }
@@ -222,6 +240,8 @@ impl Machine {
         requires lines { 0 < length self.old.schedule.lines }
         ensures next { (listing : Listing) (es : List Pointers) → IsListing (flash_at self.old.memory) listing
             → let r = next listing self.old.schedule self.old.left (run_of self.old es) in run_of self.new r.entries ≡ r }
+        ensures entries { (listing : Listing) (es : List Pointers) → IsListing (flash_at self.old.memory) listing
+            → self.new.entries + length es ≡ self.old.entries + length (next listing self.old.schedule self.old.left (run_of self.old es)).entries }
         ensures left { self.new.outcome ≡ None → self.new.left ≡ drop 1 self.old.left }
         ensures fewer { length self.new.left < length self.old.left }
         ensures once { self.new.ticks ≡ self.old.ticks + 1 }
@@ -239,11 +259,14 @@ impl Machine {
             entries,
             &mut self.cpu,
         ) {
-            Some(outcome) => self.outcome = Some(outcome),
-            None => match after_tick(&self.schedule, self.cursor) {
-                Some(cursor) => self.cursor = cursor,
-                None => self.outcome = Some(Outcome::OutOfTicks),
-            },
+            Err(outcome) => self.outcome = Some(outcome),
+            Ok(entered) => {
+                self.entries += entered_once(entered);
+                match after_tick(&self.schedule, self.cursor) {
+                    Some(cursor) => self.cursor = cursor,
+                    None => self.outcome = Some(Outcome::OutOfTicks),
+                }
+            }
         }
     }
 
@@ -292,7 +315,7 @@ impl Machine {
             return false;
         }
         let at = self.cpu.window;
-        ready(&self.cpu.recent, &self.cpu.regs, at, &mut self.cpu.mem)
+        ready(&mut self.cpu.recent, &self.cpu.regs, at, &mut self.cpu.mem)
     }
 
     /// Does one tick of these letters, of a machine that `bare` made. An ended machine answers as by `tick`. It takes no memory.
@@ -315,11 +338,12 @@ impl Machine {
         }
         self.ticks += 1;
         match tick(self.ticks, letters, &[0; 8], false, &mut self.cpu) {
-            Some(outcome) => {
+            Err(outcome) => {
                 self.outcome = Some(outcome);
                 Turn::Ended(outcome)
             }
-            None => Turn::Running,
+            // under a schedule without entries none entered
+            Ok(_entered) => Turn::Running,
         }
     }
 
@@ -404,6 +428,7 @@ impl Machine {
             older_steps: self.cpu.older_steps,
             cursor: self.cursor,
             ticks: self.ticks,
+            entries: self.entries,
             outcome: self.outcome,
         })
     }
@@ -422,6 +447,7 @@ impl Machine {
         self.cpu.older_steps = c.older_steps;
         self.cursor = c.cursor;
         self.ticks = c.ticks;
+        self.entries = c.entries;
         self.outcome = c.outcome;
     }
 

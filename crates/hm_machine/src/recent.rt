@@ -13,7 +13,7 @@ use hm_mem::Mem;
 use std::alloc::Global;
 
 /// So many are kept at most.
-const PLACES: usize = 256;
+const PLACES: usize = 4096;
 
 /// An instruction, by the halfword at its address and the next one: its code is both, or the first alone.
 #[derive(Clone, Copy)]
@@ -28,12 +28,12 @@ struct Entry {
 #[derive(Drop)]
 pub struct Recent {
     entries: Vec<Option<Entry>>,
-    pub ghost whole: { length entries.items ≡ 256 },
+    pub ghost whole: { length entries.items ≡ 4096 },
 }
 
 /// The place of an address.
 fn place_of(addr: u32) -> usize
-    ensures below { result < 256 }
+    ensures below { result < 4096 }
 {
     (addr / 2) as usize % PLACES
 }
@@ -58,7 +58,7 @@ impl Recent {
 
     /// The instruction that is kept at a place, where it is that of these halfwords.
     fn find(&self, place: usize, first: u16, second: u16) -> Option<Instr>
-        requires below { place < 256 }
+        requires below { place < 4096 }
         ensures code { IfSome result (λ i. halfwords i ≡ code_of first second) }
     {
         match self.entries[place] {
@@ -73,20 +73,7 @@ impl Recent {
         }
     }
 
-    /// What there is to execute at an address, as `fetch` tells it, but that what is kept is not decoded.
-    pub fn fetched(&self, m: &Mem, addr: u32) -> Result<Instr, Fault>
-        ensures { IsFetched (flash_at (memory_of m.now)) addr result }
-    {
-        let Some((first, second)) = halves_at(m, addr) else {
-            return fetch(m, addr);
-        };
-        match self.find(place_of(addr), first, second) {
-            Some(i) => Ok(i),
-            None => fetch(m, addr),
-        }
-    }
-
-    /// The same; what is decoded is kept.
+    /// What there is to execute at an address, as `fetch` tells it. What is decoded is kept, and what is kept is not decoded.
     pub fn fetch(&mut self, m: &Mem, addr: u32) -> Result<Instr, Fault>
         ensures { IsFetched (flash_at (memory_of m.now)) addr result }
     {

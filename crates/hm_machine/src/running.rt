@@ -10,17 +10,19 @@ ghost use Rattle.hm_machine.specs.Shown.{interrupted_of};
 ghost use Rattle.hm_machine.specs.Cpus.{config_of, nested_of, returns, state_in, stepped, AreEntered, CountsOne, IsHandler, IsPosition, IsSoundUnderSome, IsSoundUnder, IsUnder, KeepsFlash};
 ghost use Rattle.hm_mem.specs.Memory.{memory_of, flash_at};
 ghost use Rattle.hm_order.specs.Turns.{Older, Younger};
-ghost use Rattle.hm_run.specs.Program.{most_output, steps_left, vector_of};
+ghost use Rattle.hm_run.specs.Program.{most_output, steps_left, vector_in, vector_of};
 ghost use Rattle.hm_sched.specs.Schedule.{Sched};
 ghost use Rattle.hm_state.specs.State.{State};
 ghost use Rattle.hm_thumb.specs.Families.{is_vector_row};
 
-use crate::cpu::{Cpu, execute, older, vector_at, vector_step};
+use crate::cpu::{Cpu, execute, older, vector_step};
+use crate::recent::Recent;
 use crate::step_ends::{LetterEnd, StepEnd};
 use crate::younger::younger;
 use hm_base::Stop;
 use hm_exc::leave;
 use hm_isa::{Flow, Instr, Vector};
+use hm_mem::Mem;
 use hm_run::{Cause, Offence};
 use hm_window::Window;
 
@@ -186,16 +188,27 @@ fn younger_step(x: &mut Cpu) -> Result<(), LetterEnd>
     }
 }
 
-/// How many steps the older instruction has left: its beats that are left, or one where it has no beats.
-fn steps_left(x: &Cpu) -> u8
-    requires position { IsPosition x.now }
-    ensures value { (listing : Listing) → IsListing (flash_at (memory_of x.now.mem)) listing
-        → result ≡ steps_left (vector_of (listing x.now.regs.pc)) x.now.window.a }
+/// How many steps this instruction has left as the older: its beats that are left, or one where it has no beats.
+fn steps_of(i: &Instr, at: Window) -> u8
+    requires position { at.a < 4 }
+    ensures value { result ≡ steps_left (vector_in i.now) at.a }
     ensures few { result ≤ 4 }
 {
-    match vector_at(&x.recent, &x.mem, x.regs.pc) {
-        Some(_) => 4 - x.window.a,
-        None => 1,
+    match i {
+        Instr::Scalar(_) | Instr::Branch(_) => 1,
+        Instr::Vector(_) => 4 - at.a,
+    }
+}
+
+/// How many steps the older instruction, which stands at an address, has left; one where none stands there.
+fn steps_left(recent: &mut Recent, mem: &Mem, addr: u32, at: Window) -> u8
+    requires position { at.a < 4 }
+    ensures value { (listing : Listing) → IsListing (flash_at (memory_of mem.now)) listing → result ≡ steps_left (vector_of (listing addr)) at.a }
+    ensures few { result ≤ 4 }
+{
+    match recent.fetch(mem, addr) {
+        Ok(i) => steps_of(&i, at),
+        Err(_fault) => 1,
     }
 }
 
@@ -212,7 +225,7 @@ fn whole(x: &mut Cpu) -> Result<(), LetterEnd>
     ensures position { OnOk result (IsPosition x.new) }
     ensures count { (x.new.retired ≤ x.old.retired + 4) × (x.new.older_steps ≤ x.old.older_steps + 4) }
 {
-    let left = steps_left(x);
+    let left = steps_left(&mut x.recent, &x.mem, x.regs.pc, x.window);
     for _k in 0..left {
         older_step(x)?;
     }

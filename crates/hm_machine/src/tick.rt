@@ -6,7 +6,7 @@ ghost use Rattle.hm_codes.specs.Listing.{Listing, IsListing};
 ghost use Rattle.hm_handlers.specs.Entries.{refused, running_priority};
 ghost use Rattle.hm_handlers.specs.Nested.{Ended, at_step, letter, letters};
 ghost use Rattle.hm_handlers.specs.Runs.{Pointers, ended, enters, picks as picks_of, stopped_under, stops, tick_end, stacked_of};
-ghost use Rattle.hm_machine.specs.Cpus.{config_of, step_ended, nested_of, picks, ticked, early_ended, CountsNone, CountsOne, IsPosition, IsSoundUnderSome, IsSoundUnder, KeepsFlash, Stays};
+ghost use Rattle.hm_machine.specs.Cpus.{config_of, step_ended, nested_of, picks, ticked, early_ended, Came, CountsNone, CountsOne, IsPosition, IsSoundUnderSome, IsSoundUnder, KeepsFlash, Stays};
 ghost use Rattle.hm_machine.specs.Shown.{run_with};
 ghost use Rattle.hm_mem.specs.Memory.{memory_of, flash_at};
 ghost use Rattle.hm_mem.specs.Seen.{with_dev};
@@ -82,18 +82,24 @@ fn count_and_arrive(irq: &[u32; 8], mem: &mut Mem)
 }
 
 /// The end of a tick, by its number, how many letters it has, its interrupts, and whether exceptions may enter: the position is judged, and what was counted and became
-/// pending may let an exception enter. The answer is how the run ends here, if it does.
-fn end_tick(tick: u32, steps: u32, irq: &[u32; 8], entries: bool, x: &mut Cpu) -> Option<Outcome>
+/// pending may let an exception enter. The answer is whether one did, or how the run ends here.
+fn end_tick(
+    tick: u32,
+    steps: u32,
+    irq: &[u32; 8],
+    entries: bool,
+    x: &mut Cpu,
+) -> Result<bool, Outcome>
     requires sound { IsSoundUnderSome x.old }
     requires position { IsPosition x.old }
     ensures value { (s : Sched) (line : TickLine) (es : List Pointers) → s.entries ≡ entries → line.irq ≡ irq.now → length line.letters ≡ steps → IsSoundUnder s x.old
-        → let r = tick_end s line (run_with None (nested_of x.old) tick es) in run_with result (nested_of x.new) tick r.entries ≡ r }
+        → Came result (nested_of x.new) tick es (tick_end s line (run_with None (nested_of x.old) tick es)) }
     ensures moves { KeepsFlash x.old x.new }
-    ensures position { result ≡ None → IsPosition x.new }
+    ensures position { OnOk result (IsPosition x.new) }
     ensures count { CountsNone x.old x.new }
 {
     if let Err(rule) = ending(x.window) {
-        return Some(Outcome::RuleBroken {
+        return Err(Outcome::RuleBroken {
             tick,
             step: steps,
             rule,
@@ -101,13 +107,20 @@ fn end_tick(tick: u32, steps: u32, irq: &[u32; 8], entries: bool, x: &mut Cpu) -
     }
     count_and_arrive(irq, &mut x.mem);
     if !entries {
-        return None;
+        return Ok(false);
     }
     enter_picked(tick, x)
 }
 
-/// A tick, by its number, its letters, its interrupts, and whether exceptions may enter at its end. The answer is how the run ends in it, if it does.
-pub fn tick(tick: u32, steps: &[u8], irq: &[u32; 8], entries: bool, x: &mut Cpu) -> Option<Outcome>
+/// A tick, by its number, its letters, its interrupts, and whether exceptions may enter at its end. The answer is whether one did, or how the run ends
+/// in the tick.
+pub fn tick(
+    tick: u32,
+    steps: &[u8],
+    irq: &[u32; 8],
+    entries: bool,
+    x: &mut Cpu,
+) -> Result<bool, Outcome>
     requires few { length steps.now ≤ 8 }
     requires count { (x.old.retired < 2 ^ 60) × (x.old.older_steps < 2 ^ 60) }
     requires position { IsPosition x.old }
@@ -115,13 +128,13 @@ pub fn tick(tick: u32, steps: &[u8], irq: &[u32; 8], entries: bool, x: &mut Cpu)
     requires sound { IsSoundUnderSome x.old }
     ensures value { (listing : Listing) (s : Sched) (line : TickLine) (t : ℕ) (es : List Pointers) → IsListing (flash_at (memory_of x.old.mem)) listing
         → s.entries ≡ entries → line.letters ≡ steps.now → line.irq ≡ irq.now → t + 1 ≡ tick → IsSoundUnder s x.old
-        → let r = ended s line (run_with None (nested_of x.old) t es) (letters listing s 0 line.letters (nested_of x.old)) in run_with result (nested_of x.new) tick r.entries ≡ r }
+        → Came result (nested_of x.new) tick es (ended s line (run_with None (nested_of x.old) t es) (letters listing s 0 line.letters (nested_of x.old))) }
     ensures moves { KeepsFlash x.old x.new }
-    ensures position { result ≡ None → IsPosition x.new }
+    ensures position { OnOk result (IsPosition x.new) }
     ensures count { (x.new.retired ≤ x.old.retired + 33) × (x.new.older_steps ≤ x.old.older_steps + 33) }
 {
     match letters(steps, x) {
         Ok(()) => end_tick(tick, steps.len() as u32, irq, entries, x),
-        Err(early) => Some(conclude(tick, early, x)),
+        Err(early) => Err(conclude(tick, early, x)),
     }
 }

@@ -26,7 +26,9 @@ returns-in_err-older_step-clause-value c listing s is sound =
     ∙ ap (λ (k : ℕ). steps listing s k (nested_of c.args.x.now)) (c.steps_left-left.ensures.value listing is)
 
 pub returns-in_err-older_step-clause-moves : goal.returns-in_err-older_step-clause-moves
-returns-in_err-older_step-clause-moves c = moves_then c.loop-k.invariant.moves c.in_err-older_step.ensures.moves
+returns-in_err-older_step-clause-moves c =
+    let moves = moves_then c.loop-k.invariant.moves c.in_err-older_step.ensures.moves in
+    record { flash = moves.flash; places = moves.places; room = moves.room }
 
 pub loop-k-preserved : goal.loop-k-preserved
 loop-k-preserved c = record {

@@ -1,8 +1,8 @@
-use Rattle.std.proofs.Common.{◌≡◌, ℕ, List, length, ap, sym, ◌∙◌, subst, None, Some, Result, Ok, Err}
+use Rattle.std.proofs.Common.{◌≡◌, ℕ, List, length, ap, sym, ◌∙◌, subst, None, Result, Ok, Err}
 use Rattle.hm_handlers.specs.Nested.{Nested, TickEnd, letters}
 use Rattle.hm_handlers.specs.Runs.{ended, stops, tick_end}
-use Rattle.hm_machine.proofs.Runs.{Comes, comes}
-use Rattle.hm_machine.specs.Cpus.{nested_of, early_ended}
+use Rattle.hm_machine.proofs.Runs.{came_over}
+use Rattle.hm_machine.specs.Cpus.{Came, nested_of, early_ended}
 use Rattle.hm_machine.specs.Shown.{run_with}
 use Rattle.hm_machine.proofs.tick.tick.Goals as goal
 
@@ -16,8 +16,8 @@ returns-in-Ok-clause-value c listing s line t es is entries steps irq number sou
     let new = nested_of c.end_tick.new.x in
     let went : Ok m ≡ letters listing s 0 line.letters (nested_of x) = c.in-Ok.ensures.value listing s is sound ∙ ap (λ (ls : List ℕ). letters listing s 0 ls (nested_of x)) (sym steps) in
     let end = c.end_tick.ensures.value s line es entries irq (ap length steps) (c.in-Ok.ensures.sound s sound) in
-    subst (λ (r : Result Nested TickEnd). Comes c.end_tick.result new c.args.tick (ended s line (run_with None (nested_of x) t es) r)) went
-    (subst (λ (k : ℕ). Comes c.end_tick.result new c.args.tick (tick_end s line (run_with None m k es))) (sym number) end)
+    subst (λ (r : Result Nested TickEnd). Came c.end_tick.result new c.args.tick es (ended s line (run_with None (nested_of x) t es) r)) went
+    (subst (λ (k : ℕ). Came c.end_tick.result new c.args.tick es (tick_end s line (run_with None m k es))) (sym number) end)
 
 pub returns-in-Err-clause-value : goal.returns-in-Err-clause-value
 returns-in-Err-clause-value c listing s line t es is entries steps irq number sound =
@@ -25,5 +25,5 @@ returns-in-Err-clause-value c listing s line t es is entries steps irq number so
     let e = early_ended c.in-Err.early (nested_of c.letters.new.x) in
     let new = nested_of c.conclude.new.x in
     let went : Err e ≡ letters listing s 0 line.letters (nested_of x) = c.in-Err.ensures.value listing s is sound ∙ ap (λ (ls : List ℕ). letters listing s 0 ls (nested_of x)) (sym steps) in
-    subst (λ (r : Result Nested TickEnd). Comes (Some c.conclude.result) new c.args.tick (ended s line (run_with None (nested_of x) t es) r)) went
-    (comes (Some c.conclude.result) new c.args.tick es _ (c.conclude.ensures.ended es ∙ ap (λ (k : ℕ). stops k e.step e.younger e.end es) (sym number)))
+    subst (λ (r : Result Nested TickEnd). Came (Err c.conclude.result) new c.args.tick es (ended s line (run_with None (nested_of x) t es) r)) went
+    (came_over c.conclude.result new c.args.tick es _ (c.conclude.ensures.ended es ∙ ap (λ (k : ℕ). stops k e.step e.younger e.end es) (sym number)))

@@ -58,6 +58,7 @@ invariant_of-self c =
       running = λ none. inl (first_stands (most_irq s.format) s.lines did.sound.each_line (running_ticks _ c.first_outcome-self-inside.result none did.out));
       begun = λ none. subst (λ (n : ℕ). n + length (left_in (drop 0 s.lines) 0) ≤ most_ticks) (sym ticks) (first_length s.lines did.most);
       few = c.self.invariant.few;
+      entries = c.self.invariant.entries;
       retired = c.self.invariant.retired;
       steps = c.self.invariant.steps;
     }

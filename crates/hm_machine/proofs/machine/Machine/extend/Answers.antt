@@ -26,8 +26,8 @@ returns-in-Some-clause-shows c image given line letters irq h =
     given_more image given line c.args.self.now c.args.self.now h refl
     (λ listing is. ended_still (bare_program listing) line (timed_of c.args.self.now) c.in-Some.outcome (ap (λ (v : Shown). v.outcome) (sym c.self.view_is) ∙ c.in-Some.is))
 
-pub invariant_of-self-in-None : goal.invariant_of-self-in-None
-invariant_of-self-in-None c =
+pub invariant_of-self-in-Ok : goal.invariant_of-self-in-Ok
+invariant_of-self-in-Ok c =
     let inside = c.self.inside in
     let running : inside.outcome ≡ None = c.in_default.is in
     let s = inside.schedule in
@@ -35,22 +35,24 @@ invariant_of-self-in-None c =
     let before = run_with None (nested_of inside.cpu) inside.ticks [] in
     let there = exists (flash_at (memory_of inside.cpu.mem)) in
     let plan : s ≡ bare [] = ap (λ (v : Shown). v.schedule) c.self.view_is ∙ c.requires.bare.plan in
-    let did = c.in-None.ensures.value there.0 s line inside.ticks [] there.1 (ap (λ (u : Sched). u.entries) plan) refl refl refl (c.self.invariant.sound running) in
+    let did = c.in-Ok.ensures.value there.0 s line inside.ticks [] there.1 (ap (λ (u : Sched). u.entries) plan) refl refl refl (c.self.invariant.sound running) in
     let empty : s.lines ≡ [] = ap (λ (u : Sched). u.lines) plan in
     let none : length (left_at s.lines inside.cursor) ≡ 0 = ap length (no_left s.lines inside.cursor empty) in
     let few : inside.ticks < 16777215 = subst (λ (v : Shown). v.ticks < 16777215) (sym c.self.view_is) c.requires.ticks in
-    let count = c.in-None.ensures.count in
+    let count = c.in-Ok.ensures.count in
     let retired = c.self.invariant.retired in
     let steps = c.self.invariant.steps in
+    let entries = c.self.invariant.entries in
     record {
-      capacity = c.in-None.ensures.moves.room ∙ c.self.invariant.capacity;
-      bounds = moved_bounds c.in-None.ensures.moves ∙ c.self.invariant.bounds;
+      capacity = c.in-Ok.ensures.moves.room ∙ c.self.invariant.capacity;
+      bounds = moved_bounds c.in-Ok.ensures.moves ∙ c.self.invariant.bounds;
       sound = λ on. comes_sound there.0 s (line ∷ line ∷ []) before (nested_of c.tick.new.x) (inside.ticks + 1) (λ still. c.self.invariant.sound running)
-          (comes_on there.0 s line (line ∷ []) before refl (nested_of c.tick.new.x) (inside.ticks + 1) (omega arith) did);
-      position = λ on. c.in-None.ensures.position refl;
+          (comes_on there.0 s line (line ∷ []) before refl (nested_of c.tick.new.x) (inside.ticks + 1) (omega arith) did.0);
+      position = λ on. c.in-Ok.ensures.position;
       running = λ on. inr empty;
       begun = λ on. omega (arith, none, few);
       few = omega (arith, few);
+      entries = omega (arith, entries);
       retired = omega (arith, count.0, retired);
       steps = omega (arith, count.1, steps);
     }
@@ -75,58 +77,58 @@ module _ (inside : Inside) (running : inside.outcome ≡ None) (bared : IsBare (
       given_on listing bared.made.0 given line (machine_view inside) (subst (λ (f : ℕ → ℕ). IsListing f listing) h.bytes is) h bared.acts running o (nested_of x) (inside.ticks + 1) e
 
 -- one that goes on
-pub returns-in-None-clause-next : goal.returns-in-None-clause-next
-returns-in-None-clause-next c listing line is letters irq =
+pub returns-in-Ok-clause-next : goal.returns-in-Ok-clause-next
+returns-in-Ok-clause-next c listing line is letters irq =
     let inside = c.self.inside in
     let running : inside.outcome ≡ None = c.in_default.is in
     let bared : IsBare (machine_view inside) = subst IsBare (sym c.self.view_is) c.requires.bare in
     let listed = subst (λ (v : Shown). IsListing (flash_at v.memory) listing) (sym c.self.view_is) is in
     let s = given_then (given inside running bared listing line) line in
-    let did = c.in-None.ensures.value listing s (one_of line) inside.ticks (before inside running bared listing line).entries listed refl letters irq refl
+    let did = c.in-Ok.ensures.value listing s (one_of line) inside.ticks (before inside running bared listing line).entries listed refl letters irq refl
     (sound inside running bared listing line (c.self.invariant.sound running)) in
     subst (λ (o : Option Outcome). shown (run_with o (nested_of c.tick.new.x) (inside.ticks + 1) []) ≡ tick (bare_program listing) line (timed_of c.args.self.now)) (sym running)
-    (next_shown inside running bared listing line None c.tick.new.x listed did ∙ ap (λ (v : Shown). tick (bare_program listing) line (timed_of v)) c.self.view_is)
+    (next_shown inside running bared listing line None c.tick.new.x listed did.0 ∙ ap (λ (v : Shown). tick (bare_program listing) line (timed_of v)) c.self.view_is)
 
-pub returns-in-None-clause-shows : goal.returns-in-None-clause-shows
-returns-in-None-clause-shows c image given line letters irq h =
-    given_more image given line c.args.self.now _ h (moved_flash c.in-None.ensures.moves ∙ ap (λ (v : Shown). flash_at v.memory) c.self.view_is)
-    (λ listing is. returns-in-None-clause-next c listing line is letters irq)
+pub returns-in-Ok-clause-shows : goal.returns-in-Ok-clause-shows
+returns-in-Ok-clause-shows c image given line letters irq h =
+    given_more image given line c.args.self.now _ h (moved_flash c.in-Ok.ensures.moves ∙ ap (λ (v : Shown). flash_at v.memory) c.self.view_is)
+    (λ listing is. returns-in-Ok-clause-next c listing line is letters irq)
 
-pub returns-in-None-clause-bare : goal.returns-in-None-clause-bare
-returns-in-None-clause-bare c =
+pub returns-in-Ok-clause-bare : goal.returns-in-Ok-clause-bare
+returns-in-Ok-clause-bare c =
     let there = exists (flash_at c.args.self.now.memory) in
     let line : TickLine = record { count = 1; letters = c.args.letters.now; irq = no_irq } in
     let made = c.requires.bare.made in
     record {
       plan = ap (λ (v : Shown). v.schedule) c.self.view_is ∙ c.requires.bare.plan;
-      acts = still_none there.0 line c.args.self.now (newest_first c.tick.new.x.acts) c.requires.bare (ap (λ (x : Timed). x.acts) (returns-in-None-clause-next c there.0 line there.1 refl refl));
-      made = (made.0, made.1 ++ line ∷ [], returns-in-None-clause-shows c made.0 made.1 line refl refl made.2);
+      acts = still_none there.0 line c.args.self.now (newest_first c.tick.new.x.acts) c.requires.bare (ap (λ (x : Timed). x.acts) (returns-in-Ok-clause-next c there.0 line there.1 refl refl));
+      made = (made.0, made.1 ++ line ∷ [], returns-in-Ok-clause-shows c made.0 made.1 line refl refl made.2);
     }
 
 -- and one that ends the run
-pub returns-in-Some-tick-clause-next : goal.returns-in-Some-tick-clause-next
-returns-in-Some-tick-clause-next c listing line is letters irq =
+pub returns-in-Err-clause-next : goal.returns-in-Err-clause-next
+returns-in-Err-clause-next c listing line is letters irq =
     let inside = c.self.inside in
     let running : inside.outcome ≡ None = c.in_default.is in
     let bared : IsBare (machine_view inside) = subst IsBare (sym c.self.view_is) c.requires.bare in
     let listed = subst (λ (v : Shown). IsListing (flash_at v.memory) listing) (sym c.self.view_is) is in
     let s = given_then (given inside running bared listing line) line in
-    let did = c.in-Some-tick.ensures.value listing s (one_of line) inside.ticks (before inside running bared listing line).entries listed refl letters irq refl
+    let did = c.in-Err.ensures.value listing s (one_of line) inside.ticks (before inside running bared listing line).entries listed refl letters irq refl
     (sound inside running bared listing line (c.self.invariant.sound running)) in
-    next_shown inside running bared listing line (Some c.in-Some-tick.outcome) c.tick.new.x listed did ∙ ap (λ (v : Shown). tick (bare_program listing) line (timed_of v)) c.self.view_is
+    next_shown inside running bared listing line (Some c.in-Err.outcome) c.tick.new.x listed did.0 ∙ ap (λ (v : Shown). tick (bare_program listing) line (timed_of v)) c.self.view_is
 
-pub returns-in-Some-tick-clause-shows : goal.returns-in-Some-tick-clause-shows
-returns-in-Some-tick-clause-shows c image given line letters irq h =
-    given_more image given line c.args.self.now _ h (moved_flash c.in-Some-tick.ensures.moves ∙ ap (λ (v : Shown). flash_at v.memory) c.self.view_is)
-    (λ listing is. returns-in-Some-tick-clause-next c listing line is letters irq)
+pub returns-in-Err-clause-shows : goal.returns-in-Err-clause-shows
+returns-in-Err-clause-shows c image given line letters irq h =
+    given_more image given line c.args.self.now _ h (moved_flash c.in-Err.ensures.moves ∙ ap (λ (v : Shown). flash_at v.memory) c.self.view_is)
+    (λ listing is. returns-in-Err-clause-next c listing line is letters irq)
 
-pub returns-in-Some-tick-clause-bare : goal.returns-in-Some-tick-clause-bare
-returns-in-Some-tick-clause-bare c =
+pub returns-in-Err-clause-bare : goal.returns-in-Err-clause-bare
+returns-in-Err-clause-bare c =
     let there = exists (flash_at c.args.self.now.memory) in
     let line : TickLine = record { count = 1; letters = c.args.letters.now; irq = no_irq } in
     let made = c.requires.bare.made in
     record {
       plan = ap (λ (v : Shown). v.schedule) c.self.view_is ∙ c.requires.bare.plan;
-      acts = still_none there.0 line c.args.self.now (newest_first c.tick.new.x.acts) c.requires.bare (ap (λ (x : Timed). x.acts) (returns-in-Some-tick-clause-next c there.0 line there.1 refl refl));
-      made = (made.0, made.1 ++ line ∷ [], returns-in-Some-tick-clause-shows c made.0 made.1 line refl refl made.2);
+      acts = still_none there.0 line c.args.self.now (newest_first c.tick.new.x.acts) c.requires.bare (ap (λ (x : Timed). x.acts) (returns-in-Err-clause-next c there.0 line there.1 refl refl));
+      made = (made.0, made.1 ++ line ∷ [], returns-in-Err-clause-shows c made.0 made.1 line refl refl made.2);
     }

@@ -22,6 +22,7 @@ invariant_of-result c = record {
       (running_ticks _ c.first_outcome-outcome.result none c.first_outcome-outcome.ensures.out));
   begun = λ none. first_length c.args.s.lines c.first_outcome-outcome.ensures.most;
   few = omega arith;
+  entries = omega arith;
   retired = omega arith;
   steps = omega arith;
 }

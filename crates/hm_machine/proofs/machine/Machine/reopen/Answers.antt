@@ -26,6 +26,7 @@ invariant_of-self c =
       running = λ on. inr empty;
       begun = λ on. omega (arith, none, few);
       few = few;
+      entries = c.self.invariant.entries;
       retired = c.self.invariant.retired;
       steps = c.self.invariant.steps;
     }

@@ -11,7 +11,7 @@ use Rattle.hm_machine.proofs.machine.Machine.tick.Goals as goal
 pub returns-clause-shows : goal.returns-clause-shows
 returns-clause-shows c image s t h =
     let running : c.args.self.now.outcome ≡ None = ap (λ (v : Shown). v.outcome) (sym c.self.view_is) ∙ c.in_default.is in
-    shows_on image s t _ _ h running c.advance.ensures.flash c.advance.ensures.plan c.advance.ensures.left c.advance.ensures.next
+    shows_on image s t _ _ h running c.advance.ensures.flash c.advance.ensures.plan c.advance.ensures.left c.advance.ensures.next c.advance.ensures.entries
 
 pub returns-clause-order : goal.returns-clause-order
 returns-clause-order c image s t listing is h = shown_order image s (suc t) _ (returns-clause-shows c image s t h) listing is
