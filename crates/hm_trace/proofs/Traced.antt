@@ -1,5 +1,5 @@
 -- The ticks of a run, as a machine goes through them.
-use Rattle.std.proofs.Common.{◌≡◌, ℕ, zero, suc, ◌+◌, ◌-◌, ◌<◌, ◌≤◌, ap, arith, refl, sym, ◌∙◌, subst, Bool, true, false, cond, is_some, List, [], ◌++◌, append-nil, append_assoc, drop, Option, Some, None}
+use Rattle.std.proofs.Common.{◌≡◌, ℕ, zero, suc, ◌+◌, ◌-◌, ◌<◌, ◌≤◌, ap, arith, refl, sym, ◌∙◌, subst, Bool, true, false, cond, is_some, List, [], ◌++◌, append-nil, append_assoc, drop, length, nat_lt, Option, Some, None}
 use Rattle.hm_base.specs.Image.{Segment, flash_byte}
 use Rattle.hm_codes.specs.Listing.{IsListing, Listing}
 use Rattle.hm_handlers.specs.Runs.{run, shown}
@@ -10,8 +10,10 @@ use Rattle.hm_mem.specs.Memory.{flash_at}
 use Rattle.hm_run.specs.Timed.{Timed}
 use Rattle.hm_run.specs.declared.Outcome.{Outcome}
 use Rattle.hm_sched.specs.Schedule.{Sched, ticks_of}
+use Rattle.hm_trace.specs.Marks.{mark_between, mark_of, mark_seen}
 use Rattle.hm_trace.specs.Stands.{Past, first_line, past_at}
 use Rattle.hm_trace.specs.Traces.{head_in, tail_in, tick_in, tick_part, ticks_from, trace_text}
+use Rattle.hm_trace.specs.declared.marks.Mark.{Mark}
 use Rattle.hm_trace.specs.declared.running.Form.{Form}
 
 -- WHAT A MACHINE SHOWS of a run
@@ -64,23 +66,27 @@ ticks_more form listing image s t count k below on = more (count - k) (count - (
         ∙ ap (λ (u : ℕ). tick_part form listing image s (t + k) ++ ticks_from form listing image s u j) next
 
 -- a tick as a machine did it
-part_is : (form : Form) (listing : Listing) (image : List Segment) (s : Sched) (t : ℕ) (before : Past) (m new : Shown) → IsListing (flash_byte image) listing → Shows image s t m → Shows image s (suc t) new → m.outcome ≡ None
-    → before ≡ past_at (first_line m.left) (timed_of m) → tick_in form listing before (timed_of new) ≡ tick_part form listing image s t
-part_is form listing image s t before m new listed h there on is =
-    let first : first_line m.left ≡ first_line (drop t (ticks_of s.lines)) = ap first_line (h.left on) in
-    let now = timed_at image s t listing m listed h in
-    let past : before ≡ past_at (first_line (drop t (ticks_of s.lines))) (shown (run listing image s t))
-    = is ∙ ap (λ l. past_at l (timed_of m)) first ∙ ap (past_at (first_line (drop t (ticks_of s.lines)))) now in
-    ap (λ (p : Past). tick_in form listing p (timed_of new)) past
-    ∙ ap (tick_in form listing (past_at (first_line (drop t (ticks_of s.lines))) (shown (run listing image s t)))) (timed_at image s (suc t) listing new listed there)
+module _ (form : Form) (listing : Listing) (image : List Segment) (s : Sched) (t : ℕ) (m new : Shown) (listed : IsListing (flash_byte image) listing) (h : Shows image s t m) (there : Shows image s (suc t) new) where
+  mark_is : mark_seen m new ≡ mark_between (run listing image s t) (run listing image s (suc t))
+  mark_is = λ j.
+      mark_of (length (timed_at image s t listing m listed h j).acts) (length (timed_at image s (suc t) listing new listed there j).acts)
+      (nat_lt (h.count listing listed j) (there.count listing listed j))
+
+  past_is : (before : Past) → m.outcome ≡ None → before ≡ past_at (first_line m.left) (timed_of m) → before ≡ past_at (first_line (drop t (ticks_of s.lines))) (shown (run listing image s t))
+  past_is before on is = is ∙ (λ j. past_at (first_line (h.left on j)) (timed_at image s t listing m listed h j))
+
+  pub part_is : (before : Past) (mark : Mark) → m.outcome ≡ None → before ≡ past_at (first_line m.left) (timed_of m) → mark ≡ mark_seen m new
+      → tick_in form listing before mark (timed_of new) ≡ tick_part form listing image s t
+  part_is before mark on is marked = λ j. tick_in form listing (past_is before on is j) ((marked ∙ mark_is) j) (timed_at image s (suc t) listing new listed there j)
 
 -- it is added, and the others are left
-pub ticks_on : (form : Form) (listing : Listing) (image : List Segment) (s : Sched) (t count k : ℕ) (before : Past) (m new : Shown) (out after all : List ℕ) → k < count → IsListing (flash_byte image) listing
-    → Shows image s (t + k) m → Shows image s (suc (t + k)) new → m.outcome ≡ None → before ≡ past_at (first_line m.left) (timed_of m) → after ≡ out ++ tick_in form listing before (timed_of new)
+pub ticks_on : (form : Form) (listing : Listing) (image : List Segment) (s : Sched) (t count k : ℕ) (before : Past) (mark : Mark) (m new : Shown) (out after all : List ℕ) → k < count → IsListing (flash_byte image) listing
+    → Shows image s (t + k) m → Shows image s (suc (t + k)) new → m.outcome ≡ None → before ≡ past_at (first_line m.left) (timed_of m) → mark ≡ mark_seen m new
+    → after ≡ out ++ tick_in form listing before mark (timed_of new)
     → out ++ ticks_from form listing image s (t + k) (count - k) ≡ all → after ++ ticks_from form listing image s (t + (k + 1)) (count - (k + 1)) ≡ all
-ticks_on form listing image s t count k before m new out after all below listed h there on is added left =
+ticks_on form listing image s t count k before mark m new out after all below listed h there on is marked added left =
     let going : is_some (run listing image s (t + k)).outcome ≡ false = ap (λ (x : Option Outcome). is_some x) (sym (outcome_at image s (t + k) listing m listed h) ∙ on) in
-    let part = part_is form listing image s (t + k) before m new listed h there on is in
+    let part = part_is form listing image s (t + k) m new listed h there before mark on is marked in
     let rest = ticks_from form listing image s (t + (k + 1)) (count - (k + 1)) in
     ap (λ (x : List ℕ). x ++ rest) (added ∙ ap (λ (x : List ℕ). out ++ x) part)
     ∙ append_assoc out (tick_part form listing image s (t + k)) rest

@@ -4,22 +4,30 @@ use Rattle.std.proofs.Math.Bool.{beq}
 use Rattle.std.specs.Fmt.{decimal}
 use Rattle.hm_regs.specs.declared.Regs.{Regs}
 use Rattle.hm_text_base.specs.Texts.{bit, hex2, hex8}
+use Rattle.hm_trace.specs.declared.changes.Word.{Word}
+use Rattle.hm_trace.specs.declared.changes.Word.TheVariants.{Core, Vector, Sp, Other, Lr, Fpscr, Vpr}
+
+-- the name of word k of all vector registers: four are a register
+abbrev pub vector_name : ℕ → List ℕ
+vector_name k = codes "q" ++ decimal (k / 4) ++ codes "." ++ decimal (k % 4)
+
+-- the name of a word
+abbrev pub word_name : Word → List ℕ
+word_name (Core n) = codes "r" ++ decimal n
+word_name (Vector k) = vector_name k
+word_name Sp = codes "sp"
+word_name Other = codes "other"
+word_name Lr = codes "lr"
+word_name Fpscr = codes "fpscr"
+word_name Vpr = codes "vpr"
 
 -- a word under its name, where it changed
-abbrev pub word_change : List ℕ → ℕ → ℕ → List ℕ
-word_change name old new = if nat_eq old new then [] else codes " " ++ name ++ codes " " ++ hex8 new
+abbrev pub word_change : Word → ℕ → ℕ → List ℕ
+word_change word old new = if nat_eq old new then [] else codes " " ++ word_name word ++ codes " " ++ hex8 new
 
 -- a truth value under its name, where it changed
 abbrev pub bit_change : List ℕ → Bool → Bool → List ℕ
 bit_change name old new = if beq old new then [] else codes " " ++ name ++ codes " " ++ bit new
-
--- register n of r0 to r12, where it changed
-abbrev pub core_change : ℕ → ℕ → ℕ → List ℕ
-core_change n old new = if nat_eq old new then [] else codes " r" ++ decimal n ++ codes " " ++ hex8 new
-
--- word k of all vector registers, where it changed
-abbrev pub vector_change : ℕ → ℕ → ℕ → List ℕ
-vector_change k old new = if nat_eq old new then [] else codes " q" ++ decimal (k / 4) ++ codes "." ++ decimal (k % 4) ++ codes " " ++ hex8 new
 
 -- the texts of so many numbers from k on, one behind another
 unfoldable pub texts_from : (ℕ → List ℕ) → ℕ → ℕ → List ℕ
@@ -28,11 +36,11 @@ texts_from text k (suc n) = text k ++ texts_from text (k + 1) n
 
 -- those of r0 to r12 that changed
 abbrev pub core_changes : List ℕ → List ℕ → List ℕ
-core_changes old new = texts_from (λ k. core_change k (slice_index old k) (slice_index new k)) 0 13
+core_changes old new = texts_from (λ k. word_change (Core k) (slice_index old k) (slice_index new k)) 0 13
 
 -- the words of vector registers that changed
 abbrev pub vector_changes : List ℕ → List ℕ → List ℕ
-vector_changes old new = texts_from (λ k. vector_change k (slice_index old k) (slice_index new k)) 0 32
+vector_changes old new = texts_from (λ k. word_change (Vector k) (slice_index old k) (slice_index new k)) 0 32
 
 -- whether N, Z, C, V and Q are the same
 unfoldable pub same_flags : Regs → Regs → Bool
@@ -52,12 +60,12 @@ byte_change name old new = if nat_eq old new then [] else codes " " ++ name ++ c
 
 -- the stack pointer in use and the other one, and the link register
 unfoldable pub pointer_changes : Regs → Regs → List ℕ
-pointer_changes old new = word_change (codes "sp") old.sp new.sp ++ (word_change (codes "other") old.other new.other ++ word_change (codes "lr") old.lr new.lr)
+pointer_changes old new = word_change Sp old.sp new.sp ++ (word_change Other old.other new.other ++ word_change Lr old.lr new.lr)
 
 -- the flags, the IT byte, FPSCR and VPR
 unfoldable pub status_changes : Regs → Regs → List ℕ
 status_changes old new =
-    flags_change old new ++ (byte_change (codes "it") old.it new.it ++ (word_change (codes "fpscr") old.fpscr new.fpscr ++ word_change (codes "vpr") old.vpr new.vpr))
+    flags_change old new ++ (byte_change (codes "it") old.it new.it ++ (word_change Fpscr old.fpscr new.fpscr ++ word_change Vpr old.vpr new.vpr))
 
 -- whether there is a context, PRIMASK, whether thread mode uses the process stack, and BASEPRI
 unfoldable pub control_changes : Regs → Regs → List ℕ

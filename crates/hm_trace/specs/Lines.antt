@@ -14,7 +14,6 @@ use Rattle.hm_state.specs.State.{regs_of}
 use Rattle.hm_text.specs.Tables.{printed_text}
 use Rattle.hm_text_base.specs.Texts.{hex8}
 use Rattle.hm_trace.specs.Changes.{changes}
-use Rattle.hm_trace.specs.Marks.{mark_in}
 use Rattle.hm_trace.specs.Progresses.{progresses}
 use Rattle.hm_trace.specs.Stands.{Past}
 use Rattle.hm_trace.specs.declared.marks.Mark.{Mark}
@@ -48,9 +47,9 @@ mark_text Return n = codes " return"
 mark_text Both n = codes " return entry " ++ decimal n
 
 -- the tick, its letters and interrupts, and what entered or returned in it
-abbrev pub steps_part : Past → Timed → List ℕ
-steps_part p y =
-    codes "tick " ++ (decimal y.ticks ++ (codes " " ++ (tick_text p.line ++ mark_text (mark_in p y) (regs_of y.config.state).ipsr)))
+abbrev pub steps_part : Past → Mark → Timed → List ℕ
+steps_part p mark y =
+    codes "tick " ++ (decimal y.ticks ++ (codes " " ++ (tick_text p.line ++ mark_text mark (regs_of y.config.state).ipsr)))
 
 -- pc
 unfoldable pub pc_part : Timed → List ℕ
@@ -65,8 +64,8 @@ unfoldable pub where_part : Timed → List ℕ
 where_part y = codes " " ++ (mode_text y.acts ++ (pc_part y ++ retired_part y))
 
 -- what a line begins with: what the tick did, and where the run stands after it
-abbrev pub head_part : Past → Timed → List ℕ
-head_part p y = steps_part p y ++ where_part y
+abbrev pub head_part : Past → Mark → Timed → List ℕ
+head_part p mark y = steps_part p mark y ++ where_part y
 
 -- a beat, by how many are done
 abbrev pub beat_mark : ℕ → ℕ → List ℕ
@@ -91,6 +90,6 @@ end_part None = codes "\n"
 end_part (Some o) = codes " | " ++ outcome_line (Some o)
 
 -- THE LINE OF A TICK
-unfoldable pub tick_line : Listing → Past → Timed → List ℕ
-tick_line listing p y =
-    head_part p y ++ (flat_map (progress_part listing) (progresses p y) ++ (changes_part (changes p.regs (regs_of y.config.state)) ++ end_part y.outcome))
+unfoldable pub tick_line : Listing → Past → Mark → Timed → List ℕ
+tick_line listing p mark y =
+    head_part p mark y ++ (flat_map (progress_part listing) (progresses p mark y) ++ (changes_part (changes p.regs (regs_of y.config.state)) ++ end_part y.outcome))

@@ -1,9 +1,7 @@
 -- WHAT ENTERED OR RETURNED IN A TICK.
-use Rattle.std.specs.Prelude.{ℕ, ◌-◌, Bool, true, false, nat_eq, nat_lt, if◌then◌else◌, List, length, slice_get}
-use Rattle.hm_exc.specs.declared.types.Activation.{Activation}
-use Rattle.hm_run.specs.Timed.{Timed}
-use Rattle.hm_state.specs.State.{regs_of}
-use Rattle.hm_trace.specs.Stands.{Past, number_or_none}
+use Rattle.std.specs.Prelude.{ℕ, Bool, true, false, nat_lt, if◌then◌else◌, length}
+use Rattle.hm_handlers.specs.Runs.{Run, shown}
+use Rattle.hm_machine.specs.Shown.{Shown, timed_of}
 use Rattle.hm_trace.specs.declared.marks.Mark.{Mark}
 use Rattle.hm_trace.specs.declared.marks.Mark.TheVariants.{Nothing, Entry, Return, Both}
 
@@ -21,16 +19,16 @@ returns Entry = false
 returns Return = true
 returns Both = true
 
--- more handlers are active after a tick than before; or no more, and the newest is of another exception than the one that ran with so many of them before, or of
--- the same one
-abbrev pub mark_of : ℕ → ℕ → ℕ → ℕ → Mark
-mark_of old new before after =
-    if nat_lt old new then Entry else (if nat_eq before after then (if nat_lt new old then Return else Nothing) else Both)
+-- what entered or returned, by how many handlers were active before a tick and after it, and whether an exception entered at its end: a handler returned where,
+-- without the one that entered, fewer are active than before
+abbrev pub mark_of : ℕ → ℕ → Bool → Mark
+mark_of old new true = if nat_lt old new then Entry else Both
+mark_of old new false = if nat_lt new old then Return else Nothing
 
--- the exception of the newest of the n oldest handlers; of none, 0
-abbrev pub number_with : List Activation → ℕ → ℕ
-number_with active n = if nat_eq n 0 then 0 else number_or_none (slice_get active (n - 1))
+-- what entered or returned between two runs, the second a tick after the first
+abbrev pub mark_between : Run → Run → Mark
+mark_between x y = mark_of (length (shown x).acts) (length (shown y).acts) (nat_lt (length x.entries) (length y.entries))
 
--- what entered or returned in a tick
-abbrev pub mark_in : Past → Timed → Mark
-mark_in p y = mark_of (length p.active) (length y.acts) (number_with p.active (length y.acts)) (regs_of y.config.state).ipsr
+-- the same by what machines show
+abbrev pub mark_seen : Shown → Shown → Mark
+mark_seen m n = mark_of (length (timed_of m).acts) (length (timed_of n).acts) (nat_lt m.entries n.entries)

@@ -11,7 +11,6 @@ use Rattle.hm_state.specs.State.{regs_of}
 use Rattle.hm_text_base.specs.Texts.{hex8}
 use Rattle.hm_trace.specs.Changes.{changes}
 use Rattle.hm_trace.specs.Lines.{instr_text, mode_text}
-use Rattle.hm_trace.specs.Marks.{mark_in}
 use Rattle.hm_trace.specs.Progresses.{progresses}
 use Rattle.hm_trace.specs.Stands.{Past}
 use Rattle.hm_trace.specs.declared.marks.Mark.{Mark}
@@ -111,12 +110,12 @@ unfoldable pub row_end : Past → Timed → List ℕ
 row_end p y = where_cells y ++ changes_cell p y
 
 -- the row of a tick: what it did, its instructions, and what it left
-unfoldable pub tick_row : Listing → Past → Timed → List ℕ
-tick_row listing p y = row_start p y ++ (flat_map (progress_group listing) (progresses p y) ++ row_end p y)
+unfoldable pub tick_row : Listing → Past → Mark → Timed → List ℕ
+tick_row listing p mark y = row_start p y ++ (flat_map (progress_group listing) (progresses p mark y) ++ row_end p y)
 
 -- THE ROWS OF A TICK
-abbrev pub tick_rows : Listing → Past → Timed → List ℕ
-tick_rows listing p y = tick_row listing p y ++ (mark_rows (mark_in p y) (regs_of y.config.state).ipsr ++ ended_row y.outcome)
+abbrev pub tick_rows : Listing → Past → Mark → Timed → List ℕ
+tick_rows listing p mark y = tick_row listing p mark y ++ (mark_rows mark (regs_of y.config.state).ipsr ++ ended_row y.outcome)
 
 -- how the page looks: a box of 12 pixels a beat, filled in the instruction's colour where the tick did it, and pale where it was done before; two columns of
 -- instructions in each row

@@ -6,7 +6,7 @@ use Rattle.hm_run.specs.declared.Outcome.{Outcome}
 use Rattle.hm_run.specs.declared.Outcome.TheVariants as outcome
 use Rattle.hm_run.specs.declared.Who.TheVariants as who
 use Rattle.hm_sched.specs.Schedule.{older_letter, whole_letter}
-use Rattle.hm_trace.specs.Marks.{enters, mark_in, returns}
+use Rattle.hm_trace.specs.Marks.{enters, returns}
 use Rattle.hm_trace.specs.Stands.{Past, interrupted_or, newest_or, stand_of}
 use Rattle.hm_trace.specs.declared.marks.Mark.{Mark}
 use Rattle.hm_trace.specs.declared.progress.Progress.{Progress}
@@ -93,8 +93,7 @@ progresses_to p mark to base left o =
     progresses_at left (is_cut o) p.stand (older_progress same base to) (younger_progress same base to)
 
 -- THE INSTRUCTIONS OF A TICK, each with its beats
-abbrev pub progresses : Past → Timed → List Progress
-progresses p y =
-    let mark = mark_in p y in
+abbrev pub progresses : Past → Mark → Timed → List Progress
+progresses p mark y =
     let to = end_of mark y in
     progresses_to p mark to (base_of p mark (length y.acts)) (is_left p mark to y.outcome) y.outcome

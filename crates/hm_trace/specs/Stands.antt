@@ -40,11 +40,6 @@ abbrev pub interrupted_or : Option Activation → Stand → Stand
 interrupted_or None s = s
 interrupted_or (Some z) s = stand_in z
 
--- the exception that entered; with none, 0
-abbrev pub number_or_none : Option Activation → ℕ
-number_or_none None = 0
-number_or_none (Some z) = z.number
-
 -- what is known of a run before a tick of this line
 abbrev pub past_at : TickLine → Timed → Past
 past_at line x = record { line = line; stand = stand_of x; active = reverse x.acts; regs = regs_of x.config.state }

@@ -3,25 +3,30 @@ use Rattle.std.specs.Prelude.{ℕ, zero, suc, ◌+◌, ◌-◌, is_some, if◌th
 use Rattle.std.specs.Fmt.{decimal}
 use Rattle.hm_base.specs.Image.{Segment}
 use Rattle.hm_codes.specs.Listing.{Listing}
-use Rattle.hm_handlers.specs.Runs.{run, shown}
+use Rattle.hm_handlers.specs.Runs.{Run, run, shown}
 use Rattle.hm_run.specs.Timed.{Timed}
 use Rattle.hm_run.specs.declared.Outcome.{Outcome}
-use Rattle.hm_sched.specs.Schedule.{Sched, ticks_of}
+use Rattle.hm_sched.specs.Schedule.{Sched, TickLine, ticks_of}
 use Rattle.hm_trace.specs.Lines.{tick_line}
+use Rattle.hm_trace.specs.Marks.{mark_between}
 use Rattle.hm_trace.specs.Pages.{page_head, page_tail, tick_rows}
 use Rattle.hm_trace.specs.Stands.{Past, first_line, past_at}
+use Rattle.hm_trace.specs.declared.marks.Mark.{Mark}
 use Rattle.hm_trace.specs.declared.running.Form.{Form}
 use Rattle.hm_trace.specs.declared.running.Form.TheVariants.{Lines, Page}
 
--- a tick in a form, from what is known of the run before it and from the run after it
-abbrev pub tick_in : Form → Listing → Past → Timed → List ℕ
-tick_in Lines listing p y = tick_line listing p y
-tick_in Page listing p y = tick_rows listing p y
+-- a tick in a form, from what is known of the run before it, from what entered or returned, and from the run after it
+abbrev pub tick_in : Form → Listing → Past → Mark → Timed → List ℕ
+tick_in Lines listing p mark y = tick_line listing p mark y
+tick_in Page listing p mark y = tick_rows listing p mark y
+
+-- the tick between two runs, the first of those that are left, in a form
+abbrev pub tick_between : Form → Listing → List TickLine → Run → Run → List ℕ
+tick_between form listing left x y = tick_in form listing (past_at (first_line left) (shown x)) (mark_between x y) (shown y)
 
 -- tick t + 1 of a run
 abbrev pub tick_part : Form → Listing → List Segment → Sched → ℕ → List ℕ
-tick_part form listing image s t =
-    tick_in form listing (past_at (first_line (drop t (ticks_of s.lines))) (shown (run listing image s t))) (shown (run listing image s (suc t)))
+tick_part form listing image s t = tick_between form listing (drop t (ticks_of s.lines)) (run listing image s t) (run listing image s (suc t))
 
 -- n ticks behind the first t, as far as the run goes
 abbrev pub ticks_from : Form → Listing → List Segment → Sched → ℕ → ℕ → List ℕ

@@ -1,22 +1,70 @@
 //! The registers that changed, each with its new value.
 
 ghost use Rattle.std.specs.Prelude.{◌≡◌, ◌++◌, IfOk};
-ghost use Rattle.hm_trace.specs.Changes.{bit_change, byte_change, changes, control_changes, core_change, core_changes, flags_change, flags_text, pointer_changes, same_flags, status_changes, vector_change, vector_changes, word_change};
+ghost use Rattle.hm_trace.specs.Changes.{bit_change, byte_change, changes, control_changes, core_changes, flags_change, flags_text, pointer_changes, same_flags, status_changes, vector_changes, vector_name, word_change, word_name};
 
 use hm_base::OutOfMemory;
 use hm_regs::Regs;
 use hm_text_base::{bit, decimal, hex2, hex8, text};
 use std::alloc::Global;
 
+/// A word of the registers.
+#[derive(Clone, Copy, Debug, PartialEq, Eq)]
+enum Word {
+    /// A register of r0 to r12.
+    Core(usize),
+    /// A word of all vector registers, of which four are a register.
+    Vector(usize),
+    Sp,
+    Other,
+    Lr,
+    Fpscr,
+    Vpr,
+}
+
+/// Adds the name of a word of a vector register.
+fn add_vector_name(alloc: Global, out: &mut Vec<u8>, k: usize) -> Result<(), OutOfMemory>
+    ensures added { IfOk result (λ _. out.new.items ≡ out.old.items ++ vector_name k) }
+{
+    text(out, b"q")?;
+    decimal(alloc, out, (k / 4) as u64)?;
+    text(out, b".")?;
+    decimal(alloc, out, (k % 4) as u64)
+}
+
+/// Adds the name of a word.
+fn add_name(alloc: Global, out: &mut Vec<u8>, word: Word) -> Result<(), OutOfMemory>
+    ensures added { IfOk result (λ _. out.new.items ≡ out.old.items ++ word_name word) }
+{
+    match word {
+        Word::Core(n) => {
+            text(out, b"r")?;
+            decimal(alloc, out, n as u64)
+        }
+        Word::Vector(k) => add_vector_name(alloc, out, k),
+        Word::Sp => text(out, b"sp"),
+        Word::Other => text(out, b"other"),
+        Word::Lr => text(out, b"lr"),
+        Word::Fpscr => text(out, b"fpscr"),
+        Word::Vpr => text(out, b"vpr"),
+    }
+}
+
 /// Adds a word under its name, where it changed.
-fn add_word(out: &mut Vec<u8>, name: &[u8], before: u32, after: u32) -> Result<(), OutOfMemory>
-    ensures added { IfOk result (λ _. out.new.items ≡ out.old.items ++ word_change name.now before after) }
+fn add_word(
+    alloc: Global,
+    out: &mut Vec<u8>,
+    word: Word,
+    before: u32,
+    after: u32,
+) -> Result<(), OutOfMemory>
+    ensures added { IfOk result (λ _. out.new.items ≡ out.old.items ++ word_change word before after) }
 {
     if before == after {
         return Ok(());
     }
     text(out, b" ")?;
-    text(out, name)?;
+    add_name(alloc, out, word)?;
     text(out, b" ")?;
     hex8(out, after)
 }
@@ -34,46 +82,6 @@ fn add_bit(out: &mut Vec<u8>, name: &[u8], before: bool, after: bool) -> Result<
     bit(out, after)
 }
 
-/// Adds register n of r0 to r12, where it changed.
-fn add_core(
-    alloc: Global,
-    out: &mut Vec<u8>,
-    n: usize,
-    before: u32,
-    after: u32,
-) -> Result<(), OutOfMemory>
-    ensures added { IfOk result (λ _. out.new.items ≡ out.old.items ++ core_change n before after) }
-{
-    if before == after {
-        return Ok(());
-    }
-    text(out, b" r")?;
-    decimal(alloc, out, n as u64)?;
-    text(out, b" ")?;
-    hex8(out, after)
-}
-
-/// Adds word k of all vector registers, where it changed.
-fn add_vector(
-    alloc: Global,
-    out: &mut Vec<u8>,
-    k: usize,
-    before: u32,
-    after: u32,
-) -> Result<(), OutOfMemory>
-    ensures added { IfOk result (λ _. out.new.items ≡ out.old.items ++ vector_change k before after) }
-{
-    if before == after {
-        return Ok(());
-    }
-    text(out, b" q")?;
-    decimal(alloc, out, (k / 4) as u64)?;
-    text(out, b".")?;
-    decimal(alloc, out, (k % 4) as u64)?;
-    text(out, b" ")?;
-    hex8(out, after)
-}
-
 /// Adds those of r0 to r12 that changed.
 fn add_cores(
     alloc: Global,
@@ -84,7 +92,7 @@ fn add_cores(
     ensures added { IfOk result (λ _. out.new.items ≡ out.old.items ++ core_changes before.now.r after.now.r) }
 {
     for k in 0..13_usize {
-        add_core(alloc, out, k, before.r[k], after.r[k])?;
+        add_word(alloc, out, Word::Core(k), before.r[k], after.r[k])?;
     }
     Ok(())
 }
@@ -99,7 +107,7 @@ fn add_vectors(
     ensures added { IfOk result (λ _. out.new.items ≡ out.old.items ++ vector_changes before.now.qw after.now.qw) }
 {
     for k in 0..32_usize {
-        add_vector(alloc, out, k, before.qw[k], after.qw[k])?;
+        add_word(alloc, out, Word::Vector(k), before.qw[k], after.qw[k])?;
     }
     Ok(())
 }
@@ -154,23 +162,33 @@ fn add_byte(out: &mut Vec<u8>, name: &[u8], before: u8, after: u8) -> Result<(),
 
 /// Adds the stack pointers and the link register, where they changed.
 #[tactic(auto, unfolding(crate::specs::Changes::pointer_changes))]
-fn add_pointers(out: &mut Vec<u8>, before: &Regs, after: &Regs) -> Result<(), OutOfMemory>
+fn add_pointers(
+    alloc: Global,
+    out: &mut Vec<u8>,
+    before: &Regs,
+    after: &Regs,
+) -> Result<(), OutOfMemory>
     ensures added { IfOk result (λ _. out.new.items ≡ out.old.items ++ pointer_changes before.now after.now) }
 {
-    add_word(out, b"sp", before.sp, after.sp)?;
-    add_word(out, b"other", before.other, after.other)?;
-    add_word(out, b"lr", before.lr, after.lr)
+    add_word(alloc, out, Word::Sp, before.sp, after.sp)?;
+    add_word(alloc, out, Word::Other, before.other, after.other)?;
+    add_word(alloc, out, Word::Lr, before.lr, after.lr)
 }
 
 /// Adds the flags, the IT byte, FPSCR and VPR, where they changed.
 #[tactic(auto, unfolding(crate::specs::Changes::status_changes))]
-fn add_status(out: &mut Vec<u8>, before: &Regs, after: &Regs) -> Result<(), OutOfMemory>
+fn add_status(
+    alloc: Global,
+    out: &mut Vec<u8>,
+    before: &Regs,
+    after: &Regs,
+) -> Result<(), OutOfMemory>
     ensures added { IfOk result (λ _. out.new.items ≡ out.old.items ++ status_changes before.now after.now) }
 {
     add_flags(out, before, after)?;
     add_byte(out, b"it", before.it, after.it)?;
-    add_word(out, b"fpscr", before.fpscr, after.fpscr)?;
-    add_word(out, b"vpr", before.vpr, after.vpr)
+    add_word(alloc, out, Word::Fpscr, before.fpscr, after.fpscr)?;
+    add_word(alloc, out, Word::Vpr, before.vpr, after.vpr)
 }
 
 /// Adds what controls the context, the stacks and the priority, where it changed.
@@ -195,8 +213,8 @@ pub fn add_changes(
     ensures added { IfOk result (λ _. out.new.items ≡ out.old.items ++ changes before.now after.now) }
 {
     add_cores(alloc, out, before, after)?;
-    add_pointers(out, before, after)?;
-    add_status(out, before, after)?;
+    add_pointers(alloc, out, before, after)?;
+    add_status(alloc, out, before, after)?;
     add_control(out, before, after)?;
     add_vectors(alloc, out, before, after)
 }

@@ -11,7 +11,7 @@ ghost use Rattle.hm_trace.specs.Stands.{past_of};
 
 use crate::changes::add_changes;
 use crate::instrs::add_instr;
-use crate::marks::{Mark, mark_in};
+use crate::marks::Mark;
 use crate::modes::add_mode;
 use crate::progress::{Progress, progresses};
 use crate::stands::{Before, pc_of};
@@ -46,15 +46,16 @@ fn add_tick_part(
     alloc: Global,
     out: &mut Vec<u8>,
     before: &Before,
+    mark: Mark,
     machine: &Machine,
 ) -> Result<(), OutOfMemory>
-    ensures added { IfOk result (λ _. out.new.items ≡ out.old.items ++ steps_part (past_of before.now) (timed_of machine.now)) }
+    ensures added { IfOk result (λ _. out.new.items ≡ out.old.items ++ steps_part (past_of before.now) mark (timed_of machine.now)) }
 {
     text(out, b"tick ")?;
     decimal(alloc, out, u64::from(machine.ticks()))?;
     text(out, b" ")?;
     print_tick(alloc, out, &before.line)?;
-    add_mark(alloc, out, mark_in(before, machine), machine.regs().ipsr)
+    add_mark(alloc, out, mark, machine.regs().ipsr)
 }
 
 /// Adds pc.
@@ -90,11 +91,12 @@ fn add_head(
     alloc: Global,
     out: &mut Vec<u8>,
     before: &Before,
+    mark: Mark,
     machine: &Machine,
 ) -> Result<(), OutOfMemory>
-    ensures added { IfOk result (λ _. out.new.items ≡ out.old.items ++ head_part (past_of before.now) (timed_of machine.now)) }
+    ensures added { IfOk result (λ _. out.new.items ≡ out.old.items ++ head_part (past_of before.now) mark (timed_of machine.now)) }
 {
-    add_tick_part(alloc, out, before, machine)?;
+    add_tick_part(alloc, out, before, mark, machine)?;
     add_where(alloc, out, machine)
 }
 
@@ -179,19 +181,20 @@ fn add_end(alloc: Global, out: &mut Vec<u8>, outcome: Option<Outcome>) -> Result
     text(out, &line)
 }
 
-/// Adds the line of a tick, of which this is what was before it and where the machine stands after it.
+/// Adds the line of a tick, of which this is what was before it, what entered or returned, and where the machine stands after it.
 #[tactic(auto, unfolding(crate::specs::Lines::tick_line))]
 pub fn add_line(
     alloc: Global,
     out: &mut Vec<u8>,
     before: &Before,
+    mark: Mark,
     machine: &Machine,
 ) -> Result<(), OutOfMemory>
     ensures added { (listing : Listing) → IsListing (flash_at machine.now.memory) listing
-        → IfOk result (λ _. out.new.items ≡ out.old.items ++ tick_line listing (past_of before.now) (timed_of machine.now)) }
+        → IfOk result (λ _. out.new.items ≡ out.old.items ++ tick_line listing (past_of before.now) mark (timed_of machine.now)) }
 {
-    let shown = progresses(before, machine);
-    add_head(alloc, out, before, machine)?;
+    let shown = progresses(before, mark, machine);
+    add_head(alloc, out, before, mark, machine)?;
     add_progresses(out, machine, shown.as_slice())?;
     add_changes_part(alloc, out, &before.regs, machine.regs())?;
     add_end(alloc, out, machine.outcome())

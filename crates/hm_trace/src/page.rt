@@ -10,7 +10,7 @@ ghost use Rattle.hm_trace.specs.Stands.{past_of};
 
 use crate::changes::add_changes;
 use crate::instrs::add_instr;
-use crate::marks::{Mark, mark_in};
+use crate::marks::Mark;
 use crate::modes::add_mode;
 use crate::progress::{Progress, progresses};
 use crate::stands::{Before, pc_of};
@@ -309,29 +309,31 @@ fn add_row(
     alloc: Global,
     out: &mut Vec<u8>,
     before: &Before,
+    mark: Mark,
     machine: &Machine,
 ) -> Result<(), OutOfMemory>
     ensures added { (listing : Listing) → IsListing (flash_at machine.now.memory) listing
-        → IfOk result (λ _. out.new.items ≡ out.old.items ++ tick_row listing (past_of before.now) (timed_of machine.now)) }
+        → IfOk result (λ _. out.new.items ≡ out.old.items ++ tick_row listing (past_of before.now) mark (timed_of machine.now)) }
 {
-    let shown = progresses(before, machine);
+    let shown = progresses(before, mark, machine);
     add_row_start(alloc, out, before, machine)?;
     add_groups(alloc, out, machine, shown.as_slice())?;
     add_row_end(alloc, out, before, machine)
 }
 
-/// Adds the rows of a tick, of which this is what was before it and where the machine stands after it.
+/// Adds the rows of a tick, of which this is what was before it, what entered or returned, and where the machine stands after it.
 pub fn add_rows(
     alloc: Global,
     out: &mut Vec<u8>,
     before: &Before,
+    mark: Mark,
     machine: &Machine,
 ) -> Result<(), OutOfMemory>
     ensures added { (listing : Listing) → IsListing (flash_at machine.now.memory) listing
-        → IfOk result (λ _. out.new.items ≡ out.old.items ++ tick_rows listing (past_of before.now) (timed_of machine.now)) }
+        → IfOk result (λ _. out.new.items ≡ out.old.items ++ tick_rows listing (past_of before.now) mark (timed_of machine.now)) }
 {
-    add_row(alloc, out, before, machine)?;
-    add_mark_rows(alloc, out, mark_in(before, machine), machine.regs().ipsr)?;
+    add_row(alloc, out, before, mark, machine)?;
+    add_mark_rows(alloc, out, mark, machine.regs().ipsr)?;
     add_ended(alloc, out, machine.outcome())
 }
 

@@ -3,11 +3,10 @@
 ghost use Rattle.std.specs.Prelude.{◌≡◌, ◌+◌, ◌≤◌, ◌<◌, ◌++◌, cond, length, nat_eq};
 ghost use Rattle.arrayvec.specs.ArrayVec.{array_vec_len};
 ghost use Rattle.hm_machine.specs.Shown.{timed_of};
-ghost use Rattle.hm_trace.specs.Marks.{mark_in};
 ghost use Rattle.hm_trace.specs.Progresses.{base_of, count_of, done_progress, end_of, goes_on, is_cut, is_left, is_refused_entry, left_of, older_before, older_progress, progresses, progresses_at, shown_if, stays_at, younger_before, younger_progress};
 ghost use Rattle.hm_trace.specs.Stands.{past_of};
 
-use crate::marks::{Mark, mark_in};
+use crate::marks::Mark;
 use crate::stands::{Before, Stand, interrupted, interrupted_by, stand_of};
 use arrayvec::ArrayVec;
 use hm_machine::{Machine, Outcome, Who};
@@ -218,10 +217,9 @@ fn progresses_at(
 }
 
 /// The instructions that are shown of a tick.
-pub fn progresses(before: &Before, machine: &Machine) -> ArrayVec<Progress, MOST_SHOWN>
-    ensures value { result.items ≡ progresses (past_of before.now) (timed_of machine.now) }
+pub fn progresses(before: &Before, mark: Mark, machine: &Machine) -> ArrayVec<Progress, MOST_SHOWN>
+    ensures value { result.items ≡ progresses (past_of before.now) mark (timed_of machine.now) }
 {
-    let mark = mark_in(before, machine);
     let to = end_of(mark, machine);
     let outcome = machine.outcome();
     let left = is_left(before, mark, to, outcome);

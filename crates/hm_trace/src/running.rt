@@ -1,6 +1,6 @@
 //! The ticks of a run, each as it is shown.
 
-ghost use Rattle.std.specs.Prelude.{◌≡◌, ℕ, ◌+◌, ◌-◌, ◌≤◌, ◌<◌, ◌%◌, List, ◌++◌, IfOk, IfErr};
+ghost use Rattle.std.specs.Prelude.{◌≡◌, ℕ, suc, ◌+◌, ◌-◌, ◌≤◌, ◌<◌, ◌%◌, List, ◌++◌, IfOk, IfErr};
 ghost use Rattle.hm_base.specs.Image.{Segment, flash_byte};
 ghost use Rattle.hm_codes.specs.Listing.{IsListing, Listing};
 ghost use Rattle.hm_machine.specs.Shown.{Shows, timed_of};
@@ -8,10 +8,12 @@ ghost use Rattle.hm_machine.specs.Turns.{LoadRefuses};
 ghost use Rattle.hm_mem.specs.Memory.{flash_at};
 ghost use Rattle.hm_sched.specs.Schedule.{Sched};
 ghost use Rattle.hm_state.specs.Start.{reset_pc};
+ghost use Rattle.hm_trace.specs.Marks.{mark_seen};
 ghost use Rattle.hm_trace.specs.Stands.{past_of};
 ghost use Rattle.hm_trace.specs.Traces.{end_line, head_in, tail_in, tick_in, ticks_from, trace_text};
 
 use crate::lines::add_line;
+use crate::marks::{Mark, mark_of};
 use crate::page::{add_page_head, add_page_tail, add_rows};
 use crate::stands::{Before, copied_active, kept_before};
 use hm_base::{Image, OutOfMemory};
@@ -55,15 +57,27 @@ fn add_tick(
     out: &mut Vec<u8>,
     form: Form,
     before: &Before,
+    mark: Mark,
     machine: &Machine,
 ) -> Result<(), OutOfMemory>
     ensures added { (listing : Listing) → IsListing (flash_at machine.now.memory) listing
-        → IfOk result (λ _. out.new.items ≡ out.old.items ++ tick_in form listing (past_of before.now) (timed_of machine.now)) }
+        → IfOk result (λ _. out.new.items ≡ out.old.items ++ tick_in form listing (past_of before.now) mark (timed_of machine.now)) }
 {
     match form {
-        Form::Lines => add_line(alloc, out, before, machine),
-        Form::Page => add_rows(alloc, out, before, machine),
+        Form::Lines => add_line(alloc, out, before, mark, machine),
+        Form::Page => add_rows(alloc, out, before, mark, machine),
     }
+}
+
+/// Does a tick. The answer is what entered or returned in it.
+fn tick(machine: &mut Machine) -> Mark
+    ensures shows { (image : List Segment) (s : Sched) (t : ℕ) → Shows image s t machine.old → Shows image s (suc t) machine.new }
+    ensures mark { result ≡ mark_seen machine.old machine.new }
+{
+    let depth = machine.active().len();
+    let entries = machine.entries();
+    let _turn = machine.tick();
+    mark_of(depth, machine.active().len(), entries < machine.entries())
 }
 
 /// Does so many ticks, as far as the run goes, and adds each.
@@ -83,8 +97,8 @@ fn add_ticks(
         let Some(before) = kept_before(machine, active) else {
             return Ok(());
         };
-        let _turn = machine.tick();
-        add_tick(alloc, out, form, &before, machine)?;
+        let mark = tick(machine);
+        add_tick(alloc, out, form, &before, mark, machine)?;
     }
     Ok(())
 }

@@ -5,7 +5,7 @@ ghost use Rattle.hm_base.specs.Image.{word_at};
 ghost use Rattle.hm_exc.specs.Frame.{psr_window};
 ghost use Rattle.hm_machine.specs.Shown.{timed_of};
 ghost use Rattle.hm_sched.specs.Schedule.{line_of};
-ghost use Rattle.hm_trace.specs.Stands.{first_line, interrupted_or, newest_or, number_or_none, past_at, past_of, stand_in, stand_of};
+ghost use Rattle.hm_trace.specs.Stands.{first_line, interrupted_or, newest_or, past_at, past_of, stand_in, stand_of};
 
 use arrayvec::ArrayVec;
 use hm_base::{OutOfMemory, bits};
@@ -126,16 +126,6 @@ pub fn interrupted_by(active: &[Activation], k: usize, with_none: Stand) -> Stan
     match active.get(k) {
         Some(x) => stand_in(x),
         None => with_none,
-    }
-}
-
-/// The exception of handler k, the oldest first; with none, 0.
-pub fn number_of(active: &[Activation], k: usize) -> u16
-    ensures value { result ≡ number_or_none (slice_get active.now k) }
-{
-    match active.get(k) {
-        Some(x) => x.number,
-        None => 0,
     }
 }
 

@@ -11,12 +11,12 @@ loop-k-preserved c =
     record {
       shows = λ image s t h.
           let next : suc (t + k) ≡ t + (k + 1) = omega arith in
-          subst (λ (u : ℕ). Shows image s u c.tick-turn.new.self) next (c.tick-turn.ensures.shows image s (t + k) (c.loop-k.invariant.shows image s t h));
+          subst (λ (u : ℕ). Shows image s u c.tick-mark.new.machine) next (c.tick-mark.ensures.shows image s (t + k) (c.loop-k.invariant.shows image s t h));
       left = λ image s t listing listed h.
           let here = c.loop-k.invariant.shows image s t h in
-          let there = c.tick-turn.ensures.shows image s (t + k) here in
-          ticks_on c.args.form listing image s t c.args.count k (past_of c.in-Some.before) c.loop-k.machine c.tick-turn.new.self c.loop-k.out.items c.add_tick.new.out.items _ c.loop-k-test.true listed
-          here there c.in-Some.ensures.runs.0 c.in-Some.ensures.runs.1 (c.in_ok-add_tick.ensures.added listing (listed_in image s (suc (t + k)) listing c.tick-turn.new.self listed there))
+          let there = c.tick-mark.ensures.shows image s (t + k) here in
+          ticks_on c.args.form listing image s t c.args.count k (past_of c.in-Some.before) c.tick-mark.result c.loop-k.machine c.tick-mark.new.machine c.loop-k.out.items c.add_tick.new.out.items _ c.loop-k-test.true listed
+          here there c.in-Some.ensures.runs.0 c.in-Some.ensures.runs.1 c.tick-mark.ensures.mark (c.in_ok-add_tick.ensures.added listing (listed_in image s (suc (t + k)) listing c.tick-mark.new.machine listed there))
           (c.loop-k.invariant.left image s t listing listed h);
     }
 
