@@ -1,0 +1,84 @@
+-- How a run ended, by the machine that shows it.
+use Rattle.std.proofs.Common.{◌≡◌, ℕ, List, length, ap, refl, sym, subst, ◌∙◌, Bool, true, false, Option, Some, None}
+use Rattle.std.specs.Prelude.{IfSome}
+use Rattle.hm_base.specs.Image.{Segment, flash_byte}
+use Rattle.hm_codes.specs.Listing.{IsListing, Listing}
+use Rattle.hm_handlers.proofs.Alike.{alike_every}
+use Rattle.hm_handlers.specs.Runs.{Run, run_out, shown, shown_out}
+use Rattle.hm_machine.specs.Shown.{Shown, Shows, timed_of}
+use Rattle.hm_run.specs.Report.{report_text}
+use Rattle.hm_run.specs.declared.Outcome.{Outcome}
+use Rattle.hm_run.specs.declared.Outcome.TheVariants as outcome
+use Rattle.hm_run.specs.declared.Offence.TheVariants as offence
+use Rattle.hm_exc.specs.declared.types.Broken.TheVariants as broken
+use Rattle.hm_run.specs.declared.Reason.{Reason}
+use Rattle.hm_sched.specs.Schedule.{Sched, ticks_of}
+use Rattle.hm_shake.specs.Ends.{EndsAs, Halts, ended_under, kind_or}
+use Rattle.hm_shake.specs.Kinds.{is_halt}
+use Rattle.hm_shake_runs.proofs.Cutting.{cut_same}
+use Rattle.hm_shake_runs.specs.Heads.{bare}
+use Rattle.hm_shake_runs.specs.Kinds.{kind_of}
+use Rattle.hm_shake_runs.specs.Stretches.{cut, with_stretches}
+use Rattle.hm_shake_runs.specs.declared.head.Head.{Head}
+use Rattle.hm_shake_runs.specs.declared.stretches.Stretch.{Stretch}
+use Rattle.hm_shake_runs.specs.declared.kinds.Ended.{Ended}
+use Rattle.hm_shake_runs.specs.declared.kinds.Kind.{Kind}
+
+abbrev ended_in : Run → Ended
+ended_in x = record { kind = kind_or x.outcome; ticks = x.ticks }
+
+module _ (listing : Listing) (image : List Segment) (s : Sched) (m : Shown) (shows : Shows image s (length (ticks_of s.lines)) m) (is : IsListing (flash_byte image) listing) where
+  pub ends_so : (o : Outcome) (k : Kind) (t : ℕ) → m.outcome ≡ Some o → k ≡ kind_of o → t ≡ (timed_of m).ticks → record { kind = k; ticks = t } ≡ ended_under listing image s
+  unfolding ended_under
+  ends_so o k t e f g =
+      (λ j. record { kind = (f ∙ ap kind_or (sym e)) j; ticks = g j }) ∙ ap ended_in (shows.now listing is)
+
+  pub reports_so : report_text (timed_of m) ≡ report_text (shown_out listing image s)
+  reports_so = ap (λ (x : Run). report_text (shown x)) (shows.now listing is)
+
+-- cut off behind the tick that ends it a run ends as it did
+cut_ends : (listing : Listing) (image : List Segment) (h : Head) (xs : List Stretch)
+    → ended_under listing image (with_stretches (cut (ended_under listing image (with_stretches xs (bare h))).ticks xs) (bare h)) ≡ ended_under listing image (with_stretches xs (bare h))
+unfolding ended_under
+cut_ends listing image h xs = ap ended_in (cut_same listing image h xs)
+
+-- and so it has the same kind
+pub cut_so : (listing : Listing) (image : List Segment) (h : Head) (xs ys : List Stretch) (e : Ended) (k : Kind) → e ≡ ended_under listing image (with_stretches xs (bare h)) → e.kind ≡ k
+    → ys ≡ cut e.ticks xs → EndsAs listing image k (with_stretches ys (bare h))
+cut_so listing image h xs ys e k ends kind is =
+    ap (λ (zs : List Stretch). (ended_under listing image (with_stretches zs (bare h))).kind) is
+    ∙ ap (λ (n : ℕ). (ended_under listing image (with_stretches (cut n xs) (bare h))).kind) (ap (λ (x : Ended). x.ticks) ends)
+    ∙ ap (λ (x : Ended). x.kind) (cut_ends listing image h xs ∙ sym ends) ∙ kind
+
+-- a run whose kind is a halt halted
+record HaltedSo (o : Option Outcome) : Type 0 where
+  reason : Reason
+  n : ℕ
+  is : o ≡ Some (outcome.Halted reason n)
+
+halted_so : (o : Option Outcome) → is_halt (kind_or o) ≡ true → HaltedSo o
+halted_so None h = absurd cc
+halted_so (Some (outcome.Halted reason n)) h = record { reason = reason; n = n; is = refl }
+halted_so (Some (outcome.Fault who f pc n)) h = absurd cc
+halted_so (Some (outcome.RuleBroken t step r)) h = absurd cc
+halted_so (Some (outcome.HandlerBroken t (offence.Left (broken.ExcReturn value)))) h = absurd cc
+halted_so (Some (outcome.HandlerBroken t (offence.Left (broken.Register name entry now)))) h = absurd cc
+halted_so (Some (outcome.HandlerBroken t (offence.Left (broken.Frame addr)))) h = absurd cc
+halted_so (Some (outcome.HandlerBroken t (offence.Store addr))) h = absurd cc
+halted_so (Some (outcome.HandlerBroken t (offence.Call pc))) h = absurd cc
+halted_so (Some (outcome.TaintedRead t pc addr)) h = absurd cc
+halted_so (Some (outcome.StackSpent t sp)) h = absurd cc
+halted_so (Some (outcome.OutputFull t)) h = absurd cc
+halted_so (Some outcome.OutOfTicks) h = absurd cc
+
+-- an image shows one report under all schedules under which it halts
+pub one_report : (listing : Listing) (image : List Segment) (s t : Sched) → Halts listing image s → Halts listing image t → report_text (shown_out listing image s) ≡ report_text (shown_out listing image t)
+unfolding ended_under
+one_report listing image s t h k =
+    let a = halted_so (run_out listing image s).outcome h in
+    let b = halted_so (run_out listing image t).outcome k in
+    (alike_every listing image s t a.reason b.reason a.n b.n a.is b.is).report
+
+-- what holds of a value, if there is one, holds of the value that is there
+pub some_at : {A : Type 0} (o : Option A) (x y : A) (P : A → Type 0) → o ≡ Some x → y ≡ x → IfSome o P → P y
+some_at {A} o x y P e f h = subst P (sym f) (subst (λ (o : Option A). IfSome o P) e h)

@@ -1,0 +1,97 @@
+-- Stretches that are cut off, and from which interrupts are taken out: sound, and no more ticks.
+use Rattle.std.proofs.Common.{◌≡◌, ℕ, zero, suc, ◌+◌, ◌-◌, ◌≤◌, Bool, true, false, cond, List, [], ◌∷◌, ◌++◌, map, arith, refl, sym, ap, ◌∙◌, Option, Some, None, nat_le}
+use Rattle.std.specs.List.{All}
+use Rattle.std.proofs.lemmas.Bool.{leb-false, leb-true}
+use Rattle.std.proofs.lemmas.List.Elements.{All-append, All-cons, All-head, All-nil, All-tail}
+use Rattle.hm_sched.proofs.Ticks.{total-cons}
+use Rattle.hm_shake_runs.proofs.Room.{ticks, ticks-append}
+use Rattle.hm_shake_runs.specs.Stretches.{IsStretch, cut, first_of, one_if, quiet, quieted, stretch_line, without}
+use Rattle.hm_shake_runs.specs.declared.stretches.Stretch.{Stretch}
+
+ticks-cons : (x : Stretch) (xs : List Stretch) → ticks (x ∷ xs) ≡ x.count + ticks xs
+ticks-cons x xs = total-cons (stretch_line x) (map stretch_line xs)
+
+-- ---- interrupts taken out
+
+quieted_ticks : (n : ℕ) (xs : List Stretch) → ticks (quieted n xs) ≡ ticks xs
+quieted_ticks zero xs = refl
+quieted_ticks (suc n) [] = refl
+quieted_ticks (suc n) (x ∷ xs) =
+    ticks-cons (quiet x) (quieted (suc n - one_if x.irq) xs) ∙ ap (λ (j : ℕ). x.count + j) (quieted_ticks (suc n - one_if x.irq) xs) ∙ sym (ticks-cons x xs)
+
+pub without_ticks : (k n : ℕ) (xs : List Stretch) → ticks (without k n xs) ≡ ticks xs
+without_ticks zero n xs = quieted_ticks n xs
+without_ticks (suc k) n [] = refl
+without_ticks (suc k) n (x ∷ xs) =
+    ticks-cons x (without (suc k - one_if x.irq) n xs) ∙ ap (λ (j : ℕ). x.count + j) (without_ticks (suc k - one_if x.irq) n xs) ∙ sym (ticks-cons x xs)
+
+quiet_sound : (most : ℕ) (x : Stretch) → IsStretch most x → IsStretch most (quiet x)
+quiet_sound most x h = record { some = h.some; eight_digits = h.eight_digits; some_letters = h.some_letters; few_letters = h.few_letters; named = tt }
+
+quieted_sound : (most n : ℕ) (xs : List Stretch) → All (IsStretch most) xs → All (IsStretch most) (quieted n xs)
+quieted_sound most zero xs all = all
+quieted_sound most (suc n) [] all = All-nil (IsStretch most)
+quieted_sound most (suc n) (x ∷ xs) all =
+    All-cons (IsStretch most) (quiet x) (quieted (suc n - one_if x.irq) xs) (quiet_sound most x (All-head (IsStretch most) x xs all))
+    (quieted_sound most (suc n - one_if x.irq) xs (All-tail (IsStretch most) x xs all))
+
+pub without_sound : (most k n : ℕ) (xs : List Stretch) → All (IsStretch most) xs → All (IsStretch most) (without k n xs)
+without_sound most zero n xs all = quieted_sound most n xs all
+without_sound most (suc k) n [] all = All-nil (IsStretch most)
+without_sound most (suc k) n (x ∷ xs) all =
+    All-cons (IsStretch most) x (without (suc k - one_if x.irq) n xs) (All-head (IsStretch most) x xs all)
+    (without_sound most (suc k - one_if x.irq) n xs (All-tail (IsStretch most) x xs all))
+
+-- ---- cut off
+
+least : (b : Bool) (c n : ℕ) → (b ≡ true → c ≤ n) → 1 ≤ c → 1 ≤ n → (cond b c n ≤ n) × (1 ≤ cond b c n)
+least true c n f g h = (f refl, g)
+least false c n f g h = (omega arith, h)
+
+least_few : (b : Bool) (c n : ℕ) → (b ≡ false → n ≤ c) → cond b c n ≤ c
+least_few true c n f = omega arith
+least_few false c n f = f refl
+
+first_sound : (most n : ℕ) (x : Stretch) → IsStretch most x → All (IsStretch most) (first_of n x)
+first_sound most zero x h = All-nil (IsStretch most)
+first_sound most (suc n) x h =
+    let k = cond (nat_le x.count (suc n)) x.count (suc n) in
+    let some = least (nat_le x.count (suc n)) x.count (suc n) (λ e. leb-true x.count (suc n) e) h.some (omega arith) in
+    let few : k ≤ x.count = least_few (nat_le x.count (suc n)) x.count (suc n) (λ e. omega (arith, leb-false x.count (suc n) e)) in
+    let many : x.count ≤ 99999999 = h.eight_digits in
+    All-cons (IsStretch most) (record x { count = k }) []
+    (record { some = some.1; eight_digits = omega arith; some_letters = h.some_letters; few_letters = h.few_letters; named = h.named }) (All-nil (IsStretch most))
+
+pub cut_sound : (most n : ℕ) (xs : List Stretch) → All (IsStretch most) xs → All (IsStretch most) (cut n xs)
+cut_sound most n [] all = All-nil (IsStretch most)
+cut_sound most n (x ∷ xs) all =
+    All-append (IsStretch most) (first_of n x) (cut (n - x.count) xs) (first_sound most n x (All-head (IsStretch most) x xs all))
+    (cut_sound most (n - x.count) xs (All-tail (IsStretch most) x xs all))
+
+first_ticks : (n : ℕ) (x : Stretch) → 1 ≤ x.count → (ticks (first_of n x) ≤ n) × (ticks (first_of n x) ≤ x.count) × (ticks (first_of n x) + (n - x.count) ≤ n)
+first_ticks zero x h = (omega arith, omega arith, omega arith)
+first_ticks (suc n) x h =
+    let k = cond (nat_le x.count (suc n)) x.count (suc n) in
+    let some = least (nat_le x.count (suc n)) x.count (suc n) (λ e. leb-true x.count (suc n) e) h (omega arith) in
+    let few : k ≤ x.count = least_few (nat_le x.count (suc n)) x.count (suc n) (λ e. omega (arith, leb-false x.count (suc n) e)) in
+    let below : k ≤ suc n = some.0 in
+    (omega arith, omega arith, omega arith)
+
+pub cut_ticks_few : (most n : ℕ) (xs : List Stretch) → All (IsStretch most) xs → ticks (cut n xs) ≤ n
+cut_ticks_few most n [] all = omega arith
+cut_ticks_few most n (x ∷ xs) all =
+    let first = first_ticks n x (All-head (IsStretch most) x xs all).some in
+    let both = ticks-append (first_of n x) (cut (n - x.count) xs) in
+    let rest = cut_ticks_few most (n - x.count) xs (All-tail (IsStretch most) x xs all) in
+    let third = first.2 in
+    omega arith
+
+pub cut_ticks_fewer : (most n : ℕ) (xs : List Stretch) → All (IsStretch most) xs → ticks (cut n xs) ≤ ticks xs
+cut_ticks_fewer most n [] all = omega arith
+cut_ticks_fewer most n (x ∷ xs) all =
+    let first = first_ticks n x (All-head (IsStretch most) x xs all).some in
+    let both = ticks-append (first_of n x) (cut (n - x.count) xs) in
+    let rest = cut_ticks_fewer most (n - x.count) xs (All-tail (IsStretch most) x xs all) in
+    let whole = ticks-cons x xs in
+    let second = first.1 in
+    omega arith

@@ -1,0 +1,27 @@
+use Rattle.std.proofs.Common.{◌∙◌, List, ap, arith, refl, subst, sym}
+use Rattle.std.proofs.lemmas.List.Elements.{All-same}
+use Rattle.hm_sched.specs.Schedule.{most_irq}
+use Rattle.hm_shake.proofs.Ends.{cut_so}
+use Rattle.hm_shake.proofs.Fewer.{cut_sound, cut_ticks_few, cut_ticks_fewer}
+use Rattle.hm_shake_runs.proofs.Room.{ticks}
+use Rattle.hm_shake_runs.specs.Stretches.{IsStretch, cut}
+use Rattle.hm_shake.proofs.shrinking.shrink.Goals as goal
+
+pub loop-size-init : goal.loop-size-init
+loop-size-init c =
+    let most = most_irq c.args.head.format in
+    let xs = c.args.stretches.now in
+    let n = c.args.ended.ticks in
+    let is = ap ticks c.in_ok-best.ensures.value in
+    let few = cut_ticks_few most n xs c.requires.sound in
+    let fewer = cut_ticks_fewer most n xs c.requires.sound in
+    record {
+      again = λ image repeats. repeats;
+      sound = All-same (IsStretch most) c.in_ok-best.best.items (cut n xs) c.in_ok-best.ensures.value (cut_sound most n xs c.requires.sound);
+      few = omega arith;
+      fewer = omega arith;
+      kind = λ image listing is repeats ends. cut_so listing image c.args.head xs c.in_ok-best.best.items c.args.ended c.args.ended.kind ends refl c.in_ok-best.ensures.value;
+    }
+
+pub thinned-requires-clause-repeats : goal.thinned-requires-clause-repeats
+thinned-requires-clause-repeats c = (c.requires.repeats.0, c.loop-size.invariant.again c.requires.repeats.0 c.requires.repeats.1)

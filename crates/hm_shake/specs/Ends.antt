@@ -1,0 +1,47 @@
+-- HOW RUNS END, and how often each kind of outcome came.
+use Rattle.std.specs.Prelude.{◌≡◌, ℕ, zero, suc, List, [], Option, Some, None, true}
+use Rattle.hm_base.specs.Image.{Segment}
+use Rattle.hm_codes.specs.Listing.{Listing}
+use Rattle.hm_handlers.specs.Runs.{run_out}
+use Rattle.hm_run.specs.declared.Outcome.{Outcome}
+use Rattle.hm_sched.specs.Schedule.{Sched, most_ticks, plain}
+use Rattle.hm_shake.specs.Kinds.{is_halt}
+use Rattle.hm_shake_runs.specs.Found.{IsNoted}
+use Rattle.hm_shake_runs.specs.Kinds.{kind_of}
+use Rattle.hm_shake_runs.specs.Shaken.{shaken_schedule}
+use Rattle.hm_shake_runs.specs.declared.found.Found.{Found}
+use Rattle.hm_shake_runs.specs.declared.head.Head.{Head}
+use Rattle.hm_shake_runs.specs.declared.kinds.Ended.{Ended}
+use Rattle.hm_shake_runs.specs.declared.kinds.Kind.{Kind}
+use Rattle.hm_shake_runs.specs.declared.kinds.Kind.TheVariants as kind
+use Rattle.hm_shake_runs.specs.declared.plan.Plan.{Plan}
+
+-- the kind of the outcome of a run to its end
+abbrev pub kind_or : Option Outcome → Kind
+kind_or None = kind.Ticks
+kind_or (Some o) = kind_of o
+
+-- HOW A RUN ENDS under all ticks of a schedule: the kind of its outcome, and the ticks that it began
+unfoldable pub ended_under : Listing → List Segment → Sched → Ended
+ended_under listing image s = let x = run_out listing image s in record { kind = kind_or x.outcome; ticks = x.ticks }
+
+-- a schedule gives a kind of outcome
+abbrev pub EndsAs : Listing → List Segment → Kind → Sched → Type 0
+EndsAs listing image k s = (ended_under listing image s).kind ≡ k
+
+-- an image halts under a schedule
+abbrev pub Halts : Listing → List Segment → Sched → Type 0
+Halts listing image s = is_halt (ended_under listing image s).kind ≡ true
+
+-- how a run of n whole instructions ends, one a tick
+unfoldable pub ended_plain : Listing → List Segment → ℕ → Ended
+ended_plain listing image n = ended_under listing image (plain n)
+
+-- THE PLAIN RUN, up to the limit of ticks
+abbrev pub plain_end : Listing → List Segment → Ended
+plain_end listing image = ended_plain listing image most_ticks
+
+-- THE KINDS OF THE FIRST n RUNS: those of the runs before the last, and the last one counted
+abbrev pub IsTallied : Listing → List Segment → Plan → Head → List ℕ → ℕ → List Found → Type 0
+IsTallied listing image p h irqs zero xs = xs ≡ []
+IsTallied listing image p h irqs (suc n) xs = (before : List Found) × IsTallied listing image p h irqs n before × IsNoted (ended_under listing image (shaken_schedule p h irqs n)) n before xs

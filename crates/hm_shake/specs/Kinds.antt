@@ -1,0 +1,30 @@
+-- TEXTS OF KINDS of outcomes, and which kinds have a file.
+use Rattle.std.specs.Prelude.{◌≢◌, Bool, false, true, ℕ, List, ◌++◌, codes}
+use Rattle.std.specs.Fmt.{decimal}
+use Rattle.hm_run.specs.Report.{kind_text as fault_text, reason_text, slot_text, who_text}
+use Rattle.hm_shake_runs.specs.declared.kinds.Kind.{Kind}
+use Rattle.hm_shake_runs.specs.declared.kinds.Kind.TheVariants as kind
+
+-- THE TEXT OF A KIND, behind what stands before it
+abbrev pub kind_text : Kind → List ℕ → List ℕ
+kind_text (kind.Halted reason n) out = reason_text reason (out ++ codes "halted ") ++ codes " after " ++ decimal n
+kind_text (kind.Fault who k) out = out ++ codes "fault " ++ who_text who ++ codes " " ++ fault_text k
+kind_text kind.Rule out = out ++ codes "rule"
+kind_text (kind.Register name) out = slot_text name (out ++ codes "handler register ")
+kind_text kind.Frame out = out ++ codes "handler frame"
+kind_text kind.Return out = out ++ codes "handler return"
+kind_text kind.Store out = out ++ codes "handler store"
+kind_text kind.Call out = out ++ codes "handler call"
+kind_text kind.Tainted out = out ++ codes "tainted"
+kind_text kind.Stack out = out ++ codes "stack"
+kind_text kind.Output out = out ++ codes "output"
+kind_text kind.Ticks out = out ++ codes "ticks"
+
+-- it is that of runs that halt
+abbrev pub is_halt : Kind → Bool
+is_halt (kind.Halted reason n) = true
+is_halt k = false
+
+-- a kind has a file where it is not the plain run's, and not that of runs whose ticks are out, which a schedule of no ticks gives too
+abbrev pub HasFile : Kind → Kind → Type 0
+HasFile k plain = (k ≢ plain) × (k ≢ kind.Ticks)

@@ -1,0 +1,5 @@
+pub mod Kinds
+pub mod Ends
+pub mod Texts
+pub mod Repeats
+pub mod Findings

@@ -1,0 +1,18 @@
+//! A shake: runs of one image under many schedules that are made from a seed, counted, and a short schedule for each kind of outcome.
+#![tactic(auto)]
+
+mod counting;
+mod ended;
+mod filing;
+mod repeats;
+mod shaking;
+mod shrinking;
+mod texts;
+
+pub use counting::Progress;
+pub use ended::end_of;
+pub use filing::Written;
+pub use repeats::Repeater;
+pub use shaking::{Findings, shake};
+pub use shrinking::shrink;
+pub use texts::{add_kind, counts_text};
