@@ -1,6 +1,8 @@
 //! Assembles the shipped examples, runs each under its schedule, and prints what they come to, the plan of the instructions that were run, and the
-//! rows of a page of two ticks.
+//! rows of a page of two ticks; or shakes them.
 #![tactic(auto)]
+
+mod shakes;
 
 use anyhow::{Context, Result, bail, ensure};
 use hm_asm::assemble;
@@ -9,6 +11,7 @@ use hm_machine::Machine;
 use hm_plan::plan;
 use hm_sched::{parse, print};
 use hm_trace::{Form, Ticks, trace};
+use shakes::write_shake;
 use std::alloc::Global;
 use std::io::{BufWriter, Write};
 use std::ops::Range;
@@ -102,18 +105,37 @@ fn write_example<W: Write>(
     Ok(())
 }
 
-/// Runs the examples that are named.
+/// Runs an example, and writes what it comes to, its plan and rows of its page.
+fn write_run<W: Write>(
+    out: &mut W,
+    alloc: Global,
+    name: &str,
+    image: &Image,
+    schedule: &[u8],
+) -> Result<()> {
+    let machine = run(alloc, image, schedule).context(format_args!("{name}"))?;
+    write_example(out, alloc, name, &machine)?;
+    writeln!(out, "{}", plan_text(alloc, image, machine.retired())?)?;
+    write!(out, "{}", page_rows(alloc, image, schedule)?)?;
+    Ok(())
+}
+
+/// Takes the examples that are named: one is run, and one behind `shake:` is shaken.
 fn main(rt: HostRuntime) -> Result<()> {
     let alloc = rt.alloc();
     let mut out = BufWriter::new(alloc, io::writer(&rt))?;
-    for name in env::args(&rt)?.skip(1) {
+    for word in env::args(&rt)?.skip(1) {
+        let shaken = word.strip_prefix("shake:");
+        let name = shaken.unwrap_or(&word);
         let source = fs::read(&rt, &format!(in alloc; "{name}.s")?)?;
         let schedule = fs::read(&rt, &format!(in alloc; "{name}.sched")?)?;
         let image = image_of(alloc, &source).context(format_args!("{name}"))?;
-        let machine = run(alloc, &image, &schedule).context(format_args!("{name}"))?;
-        write_example(&mut out, alloc, &name, &machine)?;
-        writeln!(out, "{}", plan_text(alloc, &image, machine.retired())?)?;
-        write!(out, "{}", page_rows(alloc, &image, &schedule)?)?;
+        if shaken.is_some() {
+            let schedule = parse(alloc, &schedule)?;
+            write_shake(&mut out, alloc, name, &image, &schedule)?;
+        } else {
+            write_run(&mut out, alloc, name, &image, &schedule)?;
+        }
     }
     out.flush()?;
     Ok(())
