@@ -122,8 +122,8 @@ plain ps (form.Count r) s = tt
 plain ps form.Invert s = tt
 plain ps (form.Select r) s = tt
 plain ps (form.Wide r) s = plain_words r.d.value 0 _
-plain ps (form.Longer r) s = plain_words r.d.value 0 _
-plain ps (form.Turned r) s = plain_words r.d.value 0 _
+plain ps (form.Widening r) s = plain_words r.d.value 0 _
+plain ps (form.ComplexSum r) s = plain_words r.d.value 0 _
 plain ps (form.Reversed r) s = plain_words r.d.value 0 _
 plain ps (form.Block r) s = tt
 
@@ -221,8 +221,8 @@ same_writes ps (form.Count r) b s = refl
 same_writes ps form.Invert b s = refl
 same_writes ps (form.Select r) b s = refl
 same_writes ps (form.Wide r) b s = λ j. merges_under ps r.d.value (same_wide r (size_of r.z.value) b s j) s
-same_writes ps (form.Longer r) b s = refl
-same_writes ps (form.Turned r) b s = refl
+same_writes ps (form.Widening r) b s = refl
+same_writes ps (form.ComplexSum r) b s = refl
 same_writes ps (form.Reversed r) b s = refl
 same_writes ps (form.Block r) b s = refl
 
@@ -241,8 +241,8 @@ same_marks ps (form.Count r) b s = refl
 same_marks ps form.Invert b s = refl
 same_marks ps (form.Select r) b s = refl
 same_marks ps (form.Wide r) b s = refl
-same_marks ps (form.Longer r) b s = refl
-same_marks ps (form.Turned r) b s = refl
+same_marks ps (form.Widening r) b s = refl
+same_marks ps (form.ComplexSum r) b s = refl
 same_marks ps (form.Reversed r) b s = refl
 same_marks ps (form.Block r) b s = refl
 

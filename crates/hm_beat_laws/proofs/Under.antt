@@ -17,7 +17,7 @@ use Rattle.hm_forms.specs.declared.sums.Sums.{Sums}
 use Rattle.hm_forms.specs.declared.form.Form.{Form}
 use Rattle.hm_forms.specs.declared.form.Form.TheVariants as form
 use Rattle.hm_forms.specs.Forms.{added, begins, best, long_term, narrow_saturates, offset_after, offsets_from, shift_of, subtracts, term_of}
-use Rattle.hm_forms.specs.Registers.{bits_from, constant_result, elements, flags_from, lanes_result, lanes_saturated, longer_result, narrow_result, narrow_saturated, reversed_result, round_at, saturating, shifted_from, sums_from, turned_result, wide_result, words_at}
+use Rattle.hm_forms.specs.Registers.{bits_from, constant_result, elements, flags_from, lanes_result, lanes_saturated, widening_result, narrow_result, narrow_saturated, reversed_result, round_at, saturating, shifted_from, sums_from, complex_sum_result, wide_result, words_at}
 use Rattle.hm_rows.specs.Rows.{Registers}
 use Rattle.hm_beat_laws.specs.Exceptions.{from_beat, gives_registers}
 use Rattle.hm_beat_laws.specs.Parts.{belongs, part_of}
@@ -71,7 +71,7 @@ long_under ps r s =
     let sum = added (2 ^ 64) (long_term r) (firsts r.z ps) (elements r.z r.n.value s) (elements r.z r.m.value s) start in
     into (write low (sum % 2 ^ 32)) ∷ into (write high (sum / 2 ^ 32)) ∷ []
 
--- V23: what VMAXV and VMINV write under these truth values (DDI0553, "VMAXV" and "VMINV")
+-- V23: what VMAXV and VMINV write under these truth values (DDI0553, "VMAXV, VMAXAV" and "VMINV, VMINAV")
 abbrev pub extreme_under : List Bool → V23 → State → List (Cell × Value)
 extreme_under ps r s =
     let z = size_of r.z.value in
@@ -92,8 +92,8 @@ writes_under ps (form.Sum r) s = sum_under ps r s
 writes_under ps (form.Long r) s = long_under ps r s
 writes_under ps (form.Extreme r) s = extreme_under ps r s
 writes_under ps (form.Wide r) s = merges_under ps r.d.value (wide_result r (size_of r.z.value) s) s
-writes_under ps (form.Longer r) s = merges_under ps r.d.value (longer_result r s) s
-writes_under ps (form.Turned r) s = merges_under ps r.d.value (turned_result r s) s
+writes_under ps (form.Widening r) s = merges_under ps r.d.value (widening_result r s) s
+writes_under ps (form.ComplexSum r) s = merges_under ps r.d.value (complex_sum_result r s) s
 writes_under ps (form.Reversed r) s = merges_under ps r.d.value (reversed_result r s) s
 writes_under ps f s = []
 

@@ -29,7 +29,7 @@ use Rattle.hm_isa.specs.contracts.vectors.VectorShiftName as by_vector_
 use Rattle.hm_isa.specs.contracts.vectors.DoublingName as doubling_
 use Rattle.hm_isa.specs.contracts.vectors.HighName as high_
 use Rattle.hm_isa.specs.contracts.vectors.CarryName as carry_
-use Rattle.hm_isa.specs.contracts.vectors.TurnName as turn_
+use Rattle.hm_isa.specs.contracts.vectors.ComplexSumName as turn_
 use Rattle.hm_isa.specs.contracts.vectors.ScalarName as by_scalar_
 use Rattle.hm_isa.specs.contracts.vectors.ConstantShiftName as by_constant_
 use Rattle.hm_isa.specs.contracts.vectors.OneName as one_
@@ -78,7 +78,7 @@ use Rattle.hm_isa.specs.contracts.vectors.LongDot as long_dot_
 use Rattle.hm_isa.specs.contracts.vectors.V22 as v22_
 use Rattle.hm_isa.specs.contracts.vectors.V23 as v23_
 use Rattle.hm_isa.specs.Rules.{has_sign, has_size, is_shifted_by, is_signed_by, shift_has_sign}
-use Rattle.hm_isa.specs.Code.{add_base, bitwise_base, signed_base, vector_shift_base, constant_shift_base, doubling_base, high_base, carry_base, turn_base, scalar_base, one_base, reverse_base, narrow_base, dup_base, offsets_base, dot_base, extreme_base}
+use Rattle.hm_isa.specs.Code.{add_base, bitwise_base, signed_base, vector_shift_base, constant_shift_base, doubling_base, high_base, carry_base, complex_sum_base, scalar_base, one_base, reverse_base, narrow_base, dup_base, offsets_base, dot_base, extreme_base}
 use Rattle.hm_isa.specs.Code.{code_v1, code_v2, code_v3, code_v4, code_v5, code_v6, code_v7, code_v8, code_v9, code_v10, code_v11, code_long_bytes, code_long_halves, code_long_full, code_v12, code_one_element, code_invert, code_v13, code_v14, code_v15, code_v16, code_v17, code_v18}
 use Rattle.hm_isa.specs.Code.{code_offsets, code_wrapped_offsets, code_v19, code_compare_vectors, code_compare_scalar, code_v20, code_block, code_select, code_tail, code_v21, code_sum, code_dot, code_long_sum, code_long_dot, code_v22, code_v23, vector_code}
 use Rattle.hm_layout.proofs.Places.{head_or, rest_of, Place, place}
@@ -145,7 +145,7 @@ row_v8 = record {
   rules = λ v. no_rule;
 }
 
-abbrev pub row_v9 : Named v9_.the_type turn_.enum code_v9 turn_base
+abbrev pub row_v9 : Named v9_.the_type turn_.enum code_v9 complex_sum_base
 row_v9 = record {
   layout = (the_name tt, (at 20 2 3, (at 12 1 2, (at 17 3 8, (at 13 3 8, (at 1 3 8, tt))))));
   is_code = λ r. omega arith;

@@ -8,7 +8,7 @@ ghost use Rattle.hm_isa.specs.declared.vectors.VectorShiftName.{VectorShiftName}
 ghost use Rattle.hm_isa.specs.declared.vectors.DoublingName.{DoublingName};
 ghost use Rattle.hm_isa.specs.declared.vectors.HighName.{HighName};
 ghost use Rattle.hm_isa.specs.declared.vectors.CarryName.{CarryName};
-ghost use Rattle.hm_isa.specs.declared.vectors.TurnName.{TurnName};
+ghost use Rattle.hm_isa.specs.declared.vectors.ComplexSumName.{ComplexSumName};
 ghost use Rattle.hm_isa.specs.declared.vectors.V1.{V1};
 ghost use Rattle.hm_isa.specs.declared.vectors.V2.{V2};
 ghost use Rattle.hm_isa.specs.declared.vectors.V3.{V3};
@@ -18,14 +18,14 @@ ghost use Rattle.hm_isa.specs.declared.vectors.V6.{V6};
 ghost use Rattle.hm_isa.specs.declared.vectors.V7.{V7};
 ghost use Rattle.hm_isa.specs.declared.vectors.V8.{V8};
 ghost use Rattle.hm_isa.specs.declared.vectors.V9.{V9};
-ghost use Rattle.hm_isa.specs.Code.{add_base, bitwise_base, signed_base, vector_shift_base, doubling_base, high_base, carry_base, turn_base};
+ghost use Rattle.hm_isa.specs.Code.{add_base, bitwise_base, signed_base, vector_shift_base, doubling_base, high_base, carry_base, complex_sum_base};
 ghost use Rattle.hm_isa.specs.Code.{code_v1, code_v2, code_v3, code_v4, code_v5, code_v6, code_v7, code_v8, code_v9, vector_code};
-ghost use Rattle.hm_isa.specs.Rules.{is_turned, is_widened};
+ghost use Rattle.hm_isa.specs.Rules.{is_complex_sum, is_widened};
 
 use crate::fields::{bit, q_register, size_at};
 use hm_isa::{
-    AddName, BitwiseName, CarryName, DoublingName, ElementSize, HighName, QRegister, SignedName,
-    TurnName, V1, V2, V3, V4, V5, V6, V7, V8, V9, Vector, VectorShiftName,
+    AddName, BitwiseName, CarryName, ComplexSumName, DoublingName, ElementSize, HighName,
+    QRegister, SignedName, V1, V2, V3, V4, V5, V6, V7, V8, V9, Vector, VectorShiftName,
 };
 
 /// The operation of the row V1 whose code without its fields is this.
@@ -448,30 +448,30 @@ pub fn encode_v8(r: &V8) -> u32
 }
 
 /// The operation of the row V9 whose code without its fields is this.
-fn turn_name(base: u32) -> Option<TurnName>
-    ensures found { IfSome result (λ x. turn_base x ≡ base) }
-    ensures none { IfNone result ((x : TurnName) → turn_base x ≡ base → ⊥) }
+fn complex_sum_name(base: u32) -> Option<ComplexSumName>
+    ensures found { IfSome result (λ x. complex_sum_base x ≡ base) }
+    ensures none { IfNone result ((x : ComplexSumName) → complex_sum_base x ≡ base → ⊥) }
 {
     match base {
-        0xfe00_0f00 => Some(TurnName::Cadd),
-        0xee00_0f00 => Some(TurnName::Hcadd),
+        0xfe00_0f00 => Some(ComplexSumName::Cadd),
+        0xee00_0f00 => Some(ComplexSumName::Hcadd),
         _ => None,
     }
 }
 
 /// The code of the operation of the row V9 without its fields.
-pub fn base_of_turn(x: TurnName) -> u32
-    ensures value { result ≡ turn_base x }
+pub fn base_of_turn(x: ComplexSumName) -> u32
+    ensures value { result ≡ complex_sum_base x }
 {
     match x {
-        TurnName::Cadd => 0xfe00_0f00,
-        TurnName::Hcadd => 0xee00_0f00,
+        ComplexSumName::Cadd => 0xfe00_0f00,
+        ComplexSumName::Hcadd => 0xee00_0f00,
     }
 }
 
 /// Whether results overwrite no neighbour that is still to be read.
 fn may_turn(z: ElementSize, d: QRegister, m: QRegister) -> bool
-    ensures value { result ≡ is_turned z.value d.value m.value }
+    ensures value { result ≡ is_complex_sum z.value d.value m.value }
 {
     z.get() != 2 || d.get() != m.get()
 }
@@ -486,7 +486,7 @@ fn decode_v9(w: u32) -> Option<V9>
     let n = q_register(w, 17);
     let d = q_register(w, 13);
     let m = q_register(w, 1);
-    let name = turn_name(
+    let name = complex_sum_name(
         w - (z.get() << 20) - (t.get() << 12) - (n.get() << 17) - (d.get() << 13) - (m.get() << 1),
     )?;
     if !may_turn(z, d, m) {

@@ -27,12 +27,12 @@ use Rattle.hm_lane_fns.specs.LaneFns.{cut, lane_of, lane_saturates, number, satu
 use Rattle.hm_lane_fns.specs.Words.{any_both, lane_tests3, lanewise3, size_of, truths}
 use Rattle.hm_forms.specs.declared.lanes.Lanes.{Lanes}
 use Rattle.hm_forms.specs.declared.long_sums.LongSums.{LongSums}
-use Rattle.hm_forms.specs.declared.longer.Longer.{Longer}
+use Rattle.hm_forms.specs.declared.widening.Widening.{Widening}
 use Rattle.hm_forms.specs.declared.offsets.Steps.{Steps}
 use Rattle.hm_forms.specs.declared.sums.Sums.{Sums}
 use Rattle.hm_isa.specs.declared.fields.Below.{Below}
 use Rattle.hm_forms.specs.Constants.{constant_op, imm_word}
-use Rattle.hm_forms.specs.Forms.{added, begins, best, every_second, exchanged, in_turn, lengthened, long_term, narrow_outside, narrow_saturates, narrowed, offset_after, offsets_from, product, shift_of, subtracts, term_of, turned_lane}
+use Rattle.hm_forms.specs.Forms.{added, begins, best, every_second, exchanged, in_turn, widened, long_term, narrow_outside, narrow_saturates, narrowed, offset_after, offsets_from, product, shift_of, subtracts, term_of, complex_sum_lane}
 
 -- registers get these values, the masks advance, and the next instruction stands behind it
 abbrev pub advancing : List (Cell × Value) → State → State
@@ -175,18 +175,18 @@ shift_writes r s =
 
 -- NEIGHBOURS
 -- to each element its neighbour is added, or it is taken away
-abbrev pub turned_result : V9 → State → List ℕ
-turned_result r s =
+abbrev pub complex_sum_result : V9 → State → List ℕ
+complex_sum_result r s =
     let z = size_of r.z.value in
-    unlanes z (in_turn (turned_lane r z) true (elements z r.n.value s) (exchanged (elements z r.m.value s)))
+    unlanes z (in_turn (complex_sum_lane r z) true (elements z r.n.value s) (exchanged (elements z r.m.value s)))
 
 -- every second element of one size becomes one of the other
-abbrev pub lengthened_result : Longer → Size → Size → State → List ℕ
-lengthened_result r z wide s = unlanes wide (map (lengthened r z) (every_second r.odd (elements z r.m.value s)))
+abbrev pub widened_result : Widening → Size → Size → State → List ℕ
+widened_result r z wide s = unlanes wide (map (widened r z) (every_second r.odd (elements z r.m.value s)))
 
 -- V12: the 16 new bytes of VSHLLB, VSHLLT, VMOVLB and VMOVLT (DDI0553, "VSHLL" and "VMOVL")
-abbrev pub longer_result : Longer → State → List ℕ
-longer_result r s = cond r.halves (lengthened_result r Half Word s) (lengthened_result r Byte Half s)
+abbrev pub widening_result : Widening → State → List ℕ
+widening_result r s = cond r.halves (widened_result r Half Word s) (widened_result r Byte Half s)
 
 -- V6: the products of the even elements of two lists for VMULLB, of the odd ones for VMULLT
 abbrev pub products_of : V6 → List ℕ → List ℕ → List ℕ

@@ -94,8 +94,8 @@ use Rattle.hm_isa.specs.declared.vectors.V7.{V7}
 use Rattle.hm_isa.specs.declared.vectors.CarryName.{CarryName}
 use Rattle.hm_isa.specs.declared.vectors.CarryName.TheVariants as carry
 use Rattle.hm_isa.specs.declared.vectors.V8.{V8}
-use Rattle.hm_isa.specs.declared.vectors.TurnName.{TurnName}
-use Rattle.hm_isa.specs.declared.vectors.TurnName.TheVariants as turn
+use Rattle.hm_isa.specs.declared.vectors.ComplexSumName.{ComplexSumName}
+use Rattle.hm_isa.specs.declared.vectors.ComplexSumName.TheVariants as turn
 use Rattle.hm_isa.specs.declared.vectors.V9.{V9}
 use Rattle.hm_isa.specs.declared.vectors.ScalarName.{ScalarName}
 use Rattle.hm_isa.specs.declared.vectors.ScalarName.TheVariants as by_scalar
@@ -358,21 +358,21 @@ code_s20 r = list_base r.name + r.x.value ↑ 8 + r.n.value ↑ 8 + r.list.value
 abbrev pub code_s21 : S21 → ℕ
 code_s21 r = 0xbf00 + r.c.value ↑ 4 + r.mask.value
 
--- S23: the code of BX and BLX, their register 0 (DDI0553, "BX" and "BLX (register)")
+-- S23: the code of BX and BLX, their register 0 (DDI0553, "BX, BXNS" and "BLX, BLXNS")
 abbrev pub jump_base : JumpName → ℕ
 jump_base jump.Bx = 0x4700
 jump_base jump.Blx = 0x4780
 
--- S23: BX and BLX (DDI0553, "BX" and "BLX (register)")
+-- S23: BX and BLX (DDI0553, "BX, BXNS" and "BLX, BLXNS")
 abbrev pub code_s23 : S23 → ℕ
 code_s23 r = jump_base r.name + r.m.value ↑ 3
 
--- S24: the code of CBZ and CBNZ, their register and distance 0 (DDI0553, "CBZ, CBNZ")
+-- S24: the code of CBZ and CBNZ, their register and distance 0 (DDI0553, "CBNZ, CBZ")
 abbrev pub zero_base : ZeroName → ℕ
 zero_base zero_.Cbz = 0xb100
 zero_base zero_.Cbnz = 0xb900
 
--- S24: CBZ and CBNZ (DDI0553, "CBZ, CBNZ")
+-- S24: CBZ and CBNZ (DDI0553, "CBNZ, CBZ")
 abbrev pub code_s24 : S24 → ℕ
 code_s24 r = zero_base r.name + (r.i.value / 32) ↑ 9 + (r.i.value % 32) ↑ 3 + r.n.value
 
@@ -539,13 +539,13 @@ abbrev pub code_v8 : V8 → ℕ
 code_v8 r = carry_base r.name + r.n.value ↑ 17 + r.d.value ↑ 13 + r.m.value ↑ 1
 
 -- V9: the code of VCADD and VHCADD with a rotation by 90 degrees, their size and registers 0 (DDI0553, "VCADD" and "VHCADD")
-abbrev pub turn_base : TurnName → ℕ
-turn_base turn.Cadd = 0xfe000f00
-turn_base turn.Hcadd = 0xee000f00
+abbrev pub complex_sum_base : ComplexSumName → ℕ
+complex_sum_base turn.Cadd = 0xfe000f00
+complex_sum_base turn.Hcadd = 0xee000f00
 
 -- V9: VCADD and VHCADD (DDI0553, "VCADD" and "VHCADD")
 abbrev pub code_v9 : V9 → ℕ
-code_v9 r = turn_base r.name + r.z.value ↑ 20 + r.t.value ↑ 12 + r.n.value ↑ 17 + r.d.value ↑ 13 + r.m.value ↑ 1
+code_v9 r = complex_sum_base r.name + r.z.value ↑ 20 + r.t.value ↑ 12 + r.n.value ↑ 17 + r.d.value ↑ 13 + r.m.value ↑ 1
 
 -- V10: the code of VADD, VSUB, VMUL, VHADD, VHSUB, VQADD, VQSUB, VQDMULH, VQRDMULH, VMLA and VMLAS with a sign bit of 0, size and registers 0
 -- (DDI0553, the form of each with a vector and a scalar)
@@ -753,12 +753,12 @@ code_v22 (v22.Dot r) = code_dot r
 code_v22 (v22.LongSum r) = code_long_sum r
 code_v22 (v22.LongDot r) = code_long_dot r
 
--- V23: the code of VMAXV and VMINV of signed elements, their size and registers 0 (DDI0553, "VMAXV" and "VMINV")
+-- V23: the code of VMAXV and VMINV of signed elements, their size and registers 0 (DDI0553, "VMAXV, VMAXAV" and "VMINV, VMINAV")
 abbrev pub extreme_base : ExtremeName → ℕ
 extreme_base extreme.Max = 0xeee20f00
 extreme_base extreme.Min = 0xeee20f80
 
--- V23: VMAXV and VMINV (DDI0553, "VMAXV" and "VMINV")
+-- V23: VMAXV and VMINV (DDI0553, "VMAXV, VMAXAV" and "VMINV, VMINAV")
 abbrev pub code_v23 : V23 → ℕ
 code_v23 r = extreme_base r.name + r.u.value ↑ 28 + r.z.value ↑ 18 + r.t.value ↑ 12 + r.m.value ↑ 1
 

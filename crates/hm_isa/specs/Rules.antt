@@ -109,7 +109,8 @@ is_pair Ldrd p w n t u =
     nat_lt 0 (p + w) && is_general t && is_general u && not (nat_eq t u) && (not (nat_eq n 15) || (nat_eq p 1 && nat_eq w 0))
     && (nat_eq w 0 || (not (nat_eq n t) && not (nat_eq n u)))
 
--- T14: STMIA and STMDB never store pc; LDMIA and LDMDB do not load lr and pc together (DDI0553, "STM, STMIA, STMEA", "LDM, LDMIA, LDMFD")
+-- T14: STMIA and STMDB never store pc; LDMIA and LDMDB do not load lr and pc together
+-- (DDI0553, "STM, STMIA, STMEA", "LDM, LDMIA, LDMFD", "STMDB, STMFD" and "LDMDB, LDMEA")
 abbrev pub may_list : WideListName → ℕ → Bool
 may_list Stmia list = not (listed_in list 15)
 may_list Stmdb list = not (listed_in list 15)
@@ -130,9 +131,9 @@ is_stacked v k = nat_lt 0 k && nat_lt (v + k) 17
 abbrev pub is_widened : ℕ → ℕ → ℕ → ℕ → Bool
 is_widened z d n m = not (nat_eq z 2) || (not (nat_eq d n) && not (nat_eq d m))
 
--- V9: nor do words of VCADD and VHCADD with their neighbours (DDI0553, "VCADD" and "VHCADD")
-abbrev pub is_turned : ℕ → ℕ → ℕ → Bool
-is_turned z d m = not (nat_eq z 2) || not (nat_eq d m)
+-- V9: results of VCADD and VHCADD on words do not overwrite a word that is still to be read (DDI0553, "VCADD" and "VHCADD")
+abbrev pub is_complex_sum : ℕ → ℕ → ℕ → Bool
+is_complex_sum z d m = not (nat_eq z 2) || not (nat_eq d m)
 
 -- V14: elements are smaller than the groups in which VREV64, VREV32 and VREV16 reverse them, and groups of two words do not overwrite one
 -- still to be read (DDI0553, "VREV64", "VREV32" and "VREV16")
@@ -160,14 +161,14 @@ has_sign by_scalar.Mlas = true
 abbrev pub is_signed_by : ScalarName → ℕ → Bool
 is_signed_by name u = has_sign name || nat_eq u 0
 
--- V11: whether the name of a shift says so: VSHR, VRSHR and VQSHL (DDI0553, "VSHR", "VRSHR" and "VQSHL, VQSHLU")
+-- V11: whether the name of a shift by a constant says whether elements are signed: VSHR, VRSHR and VQSHL (DDI0553, "VSHR", "VRSHR" and "VQSHL, VQSHLU")
 abbrev pub shift_has_sign : ConstantShiftName → Bool
 shift_has_sign by_constant.Shr = true
 shift_has_sign by_constant.Rshr = true
 shift_has_sign by_constant.Qshl = true
 shift_has_sign name = false
 
--- V11: u is 0 where the name says nothing of signs (DDI0553, "VSHR", "VRSHR", "VQSHL, VQSHLU", "VSHL", "VSRI" and "VSLI")
+-- V11: u is 0 where the name of a shift by a constant says nothing of signs (DDI0553, "VSHR", "VRSHR", "VQSHL, VQSHLU", "VSHL", "VSRI" and "VSLI")
 abbrev pub is_shifted_by : ConstantShiftName → ℕ → Bool
 is_shifted_by name u = shift_has_sign name || nat_eq u 0
 

@@ -64,6 +64,6 @@ imm12 i i3 i8 = i * 2 ^ 11 + i3 * 2 ^ 8 + i8
 abbrev pub repeats : ℕ → ℕ
 repeats k = if nat_eq k 0 then 0x00000001 else (if nat_eq k 1 then 0x00010001 else (if nat_eq k 2 then 0x01000100 else 0x01010101))
 
--- T1: ThumbExpandImm_C(x, carry), x of twelve bits (DDI0553, "T32ExpandImm_C")
+-- T1: T32ExpandImm_C(x, carry), x of twelve bits (DDI0553, "T32ExpandImm_C")
 abbrev pub expand_imm_c : ℕ → Bool → Shifted
 expand_imm_c x carry = if nat_lt x 0x400 then record { result = x % 0x100 * repeats (x / 0x100); carry = carry } else ror_c (0x80 + x % 0x80) (x / 0x80)

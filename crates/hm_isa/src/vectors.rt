@@ -1,7 +1,7 @@
 //! The rows of the vector codes: DDI0553, "M-profile Vector Extension".
 
 ghost use Rattle.std.specs.Prelude.{◌≡◌, ◌≢◌, IsTrue};
-ghost use Rattle.hm_isa.specs.Rules.{has_size, is_reversed, is_shifted_by, is_signed_by, is_turned, is_widened};
+ghost use Rattle.hm_isa.specs.Rules.{has_size, is_reversed, is_shifted_by, is_signed_by, is_complex_sum, is_widened};
 
 use crate::fields::{Below, Bit, ElementSize, QRegister, Register};
 
@@ -229,7 +229,7 @@ pub struct V8 {
 
 /// The operation of the row V9.
 #[derive(Clone, Copy)]
-pub enum TurnName {
+pub enum ComplexSumName {
     /// `vcadd`
     Cadd,
     /// `vhcadd`
@@ -239,7 +239,7 @@ pub enum TurnName {
 /// `vcadd`, `vhcadd`, as `vcadd.i8 qd,qn,qm,#90`: DDI0553, "VCADD" and "VHCADD".
 #[derive(Clone, Copy)]
 pub struct V9 {
-    pub name: TurnName,
+    pub name: ComplexSumName,
     /// The size of the elements.
     pub z: ElementSize,
     /// 1 for a rotation by 270 degrees, 0 for one by 90.
@@ -250,7 +250,7 @@ pub struct V9 {
     pub d: QRegister,
     /// The register of the second operands.
     pub m: QRegister,
-    pub ghost rule: { IsTrue (is_turned z.value d.value m.value) },
+    pub ghost rule: { IsTrue (is_complex_sum z.value d.value m.value) },
 }
 
 /// The operation of the row V10.
@@ -740,7 +740,7 @@ pub enum ExtremeName {
     Min,
 }
 
-/// `vmaxv`, `vminv`, as `vmaxv.s8 rt,qm`: DDI0553, "VMAXV" and "VMINV".
+/// `vmaxv`, `vminv`, as `vmaxv.s8 rt,qm`: DDI0553, "VMAXV, VMAXAV" and "VMINV, VMINAV".
 #[derive(Clone, Copy)]
 pub struct V23 {
     pub name: ExtremeName,

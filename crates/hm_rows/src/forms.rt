@@ -6,7 +6,7 @@ ghost use Rattle.hm_isa.specs.declared.Vector.TheVariants as vector;
 ghost use Rattle.hm_isa.specs.declared.vectors.V22.TheVariants as v22;
 ghost use Rattle.hm_rows.specs.Rows.{Registers, add_fn, bitwise_fn, compare_form, constant_shift_fn, doubling_fn, high_fn, kind_of, long_form, offsets_form, one_fn, one_form, predicate_form, scalar_fn, shift_operand, shift_size, shift_unsigned, signed_fn, sum_form, vector_shift_fn};
 
-use hm_forms::{Comparison, Form, Lanes, LongSums, Longer, Steps, Sums};
+use hm_forms::{Comparison, Form, Lanes, LongSums, Steps, Sums, Widening};
 use hm_isa::{
     AddName, BitwiseName, ConstantShiftName, DoublingName, HighName, LongDot, LongSum, OneName,
     QRegister, ScalarName, SignedName, V1, V2, V3, V4, V5, V7, V10, V11, V12, V13, V18, V19, V20,
@@ -191,7 +191,7 @@ pub fn long_form(row: &V12) -> Form
     ensures { result ≡ long_form row.now }
 {
     match row {
-        V12::Bytes(row) => Form::Longer(Longer {
+        V12::Bytes(row) => Form::Widening(Widening {
             halves: false,
             unsigned: row.u.get() == 1,
             odd: row.t.get() == 1,
@@ -199,7 +199,7 @@ pub fn long_form(row: &V12) -> Form
             d: row.d,
             m: row.m,
         }),
-        V12::Halves(row) => Form::Longer(Longer {
+        V12::Halves(row) => Form::Widening(Widening {
             halves: true,
             unsigned: row.u.get() == 1,
             odd: row.t.get() == 1,
@@ -207,7 +207,7 @@ pub fn long_form(row: &V12) -> Form
             d: row.d,
             m: row.m,
         }),
-        V12::Full(row) => Form::Longer(Longer {
+        V12::Full(row) => Form::Widening(Widening {
             halves: row.z.get() == 1,
             unsigned: row.u.get() == 1,
             odd: row.t.get() == 1,

@@ -26,7 +26,7 @@ pub fn kind(v: &Vector) -> Kind
         Vector::V6(row) => Kind::Registers(Form::Wide(*row)),
         Vector::V7(row) => Kind::Registers(high_form(row)),
         Vector::V8(row) => Kind::Registers(Form::Carry(*row)),
-        Vector::V9(row) => Kind::Registers(Form::Turned(*row)),
+        Vector::V9(row) => Kind::Registers(Form::ComplexSum(*row)),
         Vector::V10(row) => Kind::Registers(scalar_form(row)),
         Vector::V11(row) => Kind::Registers(constant_shift_form(row)),
         Vector::V12(row) => Kind::Registers(long_form(row)),

@@ -158,14 +158,14 @@ fixed_code_in s =
     else if bytes_eq s (codes "cpsid") then Some (masking_base masking.Cpsid)
     else None
 
--- S23: the base code of BX and BLX (DDI0553, "BX" and "BLX (register)")
+-- S23: the base code of BX and BLX (DDI0553, "BX, BXNS" and "BLX, BLXNS")
 abbrev pub jump_base_in : List ℕ → Option ℕ
 jump_base_in s =
     if bytes_eq s (codes "bx") then Some (jump_base jump.Bx)
     else if bytes_eq s (codes "blx") then Some (jump_base jump.Blx)
     else None
 
--- S24: the base code of CBZ and CBNZ (DDI0553, "CBZ, CBNZ")
+-- S24: the base code of CBZ and CBNZ (DDI0553, "CBNZ, CBZ")
 abbrev pub zero_base_in : List ℕ → Option ℕ
 zero_base_in s =
     if bytes_eq s (codes "cbz") then Some (zero_base zero_.Cbz)
@@ -288,7 +288,7 @@ abbrev pub code_registers : List ℕ → Operands → Option ℕ
 code_registers s o = first (code_compare s o) (first (code_low s o) (code_high s o))
 
 -- at most one operand: S13, S18, S19, S21, S23
--- S23: the code of BX and BLX (DDI0553, "BX" and "BLX (register)")
+-- S23: the code of BX and BLX (DDI0553, "BX, BXNS" and "BLX, BLXNS")
 abbrev pub code_jump : List ℕ → Operands → Option ℕ
 code_jump s o = option_map (λ b. b + o.first ↑ 3) (jump_base_in s)
 
@@ -322,11 +322,11 @@ code_list s o =
 abbrev pub code_literal : List ℕ → Operands → ℕ → ℕ → Option ℕ
 code_literal s o pc a = if bytes_eq s (codes "ldr") then Some (of_byte 0x4800 o.first (distance ((pc + 4) / 4 * 4) a / 4 % 256)) else None
 
--- S24: a base code with the register n at bit 0, the lower five bits of i at bit 3, and its bit 5 at bit 9 (DDI0553, "CBZ, CBNZ")
+-- S24: a base code with the register n at bit 0, the lower five bits of i at bit 3, and its bit 5 at bit 9 (DDI0553, "CBNZ, CBZ")
 abbrev pub zero_code : ℕ → ℕ → ℕ → ℕ
 zero_code base n i = base + (i / 32) ↑ 9 + (i % 32) ↑ 3 + n
 
--- S24: the code of CBZ and CBNZ that stand at pc and go to the address a (DDI0553, "CBZ, CBNZ")
+-- S24: the code of CBZ and CBNZ that stand at pc and go to the address a (DDI0553, "CBNZ, CBZ")
 abbrev pub code_zero : List ℕ → Operands → ℕ → ℕ → Option ℕ
 code_zero s o pc a = option_map (λ b. zero_code b o.first (distance (pc + 4) a / 2 % 64)) (zero_base_in s)
 

@@ -122,12 +122,12 @@ hint_stem hint.Wfe = codes "wfe"
 hint_stem hint.Wfi = codes "wfi"
 hint_stem hint.Sev = codes "sev"
 
--- S23: the mnemonic of each name, BX and BLX (DDI0553, "BX" and "BLX (register)")
+-- S23: the mnemonic of each name, BX and BLX (DDI0553, "BX, BXNS" and "BLX, BLXNS")
 abbrev pub jump_stem : JumpName → List ℕ
 jump_stem jump.Bx = codes "bx"
 jump_stem jump.Blx = codes "blx"
 
--- S24: the mnemonic of each name, CBZ and CBNZ (DDI0553, "CBZ, CBNZ")
+-- S24: the mnemonic of each name, CBZ and CBNZ (DDI0553, "CBNZ, CBZ")
 abbrev pub zero_stem : ZeroName → List ℕ
 zero_stem zero_.Cbz = codes "cbz"
 zero_stem zero_.Cbnz = codes "cbnz"

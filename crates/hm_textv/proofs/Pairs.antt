@@ -17,8 +17,8 @@ use Rattle.hm_isa.specs.declared.vectors.HighName.{HighName}
 use Rattle.hm_isa.specs.declared.vectors.HighName.TheVariants as high
 use Rattle.hm_isa.specs.declared.vectors.CarryName.{CarryName}
 use Rattle.hm_isa.specs.declared.vectors.CarryName.TheVariants as carry
-use Rattle.hm_isa.specs.declared.vectors.TurnName.{TurnName}
-use Rattle.hm_isa.specs.declared.vectors.TurnName.TheVariants as turn
+use Rattle.hm_isa.specs.declared.vectors.ComplexSumName.{ComplexSumName}
+use Rattle.hm_isa.specs.declared.vectors.ComplexSumName.TheVariants as turn
 use Rattle.hm_isa.specs.declared.vectors.ScalarName.{ScalarName}
 use Rattle.hm_isa.specs.declared.vectors.ScalarName.TheVariants as by_scalar
 use Rattle.hm_isa.specs.declared.vectors.V1.{V1}
@@ -31,11 +31,11 @@ use Rattle.hm_isa.specs.declared.vectors.V7.{V7}
 use Rattle.hm_isa.specs.declared.vectors.V8.{V8}
 use Rattle.hm_isa.specs.declared.vectors.V9.{V9}
 use Rattle.hm_isa.specs.declared.vectors.V10.{V10}
-use Rattle.hm_isa.specs.Code.{add_base, bitwise_base, carry_base, doubling_base, high_base, scalar_base, signed_base, turn_base, vector_shift_base}
+use Rattle.hm_isa.specs.Code.{add_base, bitwise_base, carry_base, doubling_base, high_base, scalar_base, signed_base, complex_sum_base, vector_shift_base}
 use Rattle.hm_isa.specs.Rules.{is_signed_by}
 use Rattle.hm_isa.specs.Standing.{◌↑◌}
 use Rattle.hm_textv.specs.Codes.{code_of}
-use Rattle.hm_textv.specs.Stems.{add_stem, bitwise_stem, carry_stem, doubling_stem, high_stem, integer, scalar_stem, scalar_suffix, signed, signed_stem, turn_stem, turn_suffix, vector_shift_stem}
+use Rattle.hm_textv.specs.Stems.{add_stem, bitwise_stem, carry_stem, doubling_stem, high_stem, integer, scalar_stem, scalar_suffix, signed, signed_stem, complex_sum_stem, complex_sum_suffix, vector_shift_stem}
 use Rattle.hm_text_rows.specs.Shapes.{either}
 use Rattle.hm_text_rows.proofs.Words.{is_stem}
 use Rattle.hm_textv.proofs.Endings.{Suffix, no_suffix, suffix_by_sign, suffix_integer, suffix_signed}
@@ -177,11 +177,11 @@ pub row_v8 : (i : V8) → Row (vector.V8 i)
 row_v8 i = row_of (vector.V8 i) _ _ (reads_three _ _ _ _ _ _ _ _ _ _ _ _ _ _ (stem_carry i.name) (suffix_integer 2 (omega arith)) (a_vector i.d.value i.d.in_range) (a_vector i.n.value i.n.in_range) (a_vector i.m.value i.m.in_range)) (asks_carry i.name _ _ _)
 
 -- V9
-stem_turn : (name : TurnName) → is_stem (turn_stem name) ≡ true
+stem_turn : (name : ComplexSumName) → is_stem (complex_sum_stem name) ≡ true
 stem_turn turn.Cadd = refl
 stem_turn turn.Hcadd = refl
 
-suffix_turn : (name : TurnName) (z : ℕ) → z < 3 → Suffix (turn_suffix name z) false 0 z
+suffix_turn : (name : ComplexSumName) (z : ℕ) → z < 3 → Suffix (complex_sum_suffix name z) false 0 z
 suffix_turn turn.Cadd z lt = suffix_integer z lt
 suffix_turn turn.Hcadd z lt = suffix_signed z lt
 
@@ -190,8 +190,8 @@ angle_small zero lt = omega arith
 angle_small (suc zero) lt = omega arith
 angle_small (suc (suc t)) lt = absurd (omega arith)
 
-asks_turn : (name : TurnName) (t z n d m : ℕ) → t < 2
-    → code_of (turn_stem name) (given false 0 z true d n m (cond (nat_eq t 0) 90 270)) ≡ Some (turn_base name + z ↑ 20 + t ↑ 12 + n ↑ 17 + d ↑ 13 + m ↑ 1)
+asks_turn : (name : ComplexSumName) (t z n d m : ℕ) → t < 2
+    → code_of (complex_sum_stem name) (given false 0 z true d n m (cond (nat_eq t 0) 90 270)) ≡ Some (complex_sum_base name + z ↑ 20 + t ↑ 12 + n ↑ 17 + d ↑ 13 + m ↑ 1)
 unfolding code_of
 asks_turn turn.Cadd zero z n d m lt = ap (λ (w : ℕ). Some w) (omega arith)
 asks_turn turn.Cadd (suc zero) z n d m lt = ap (λ (w : ℕ). Some w) (omega arith)

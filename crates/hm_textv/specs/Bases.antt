@@ -7,7 +7,7 @@ use Rattle.hm_isa.specs.declared.vectors.VectorShiftName.TheVariants as by_vecto
 use Rattle.hm_isa.specs.declared.vectors.DoublingName.TheVariants as doubling
 use Rattle.hm_isa.specs.declared.vectors.HighName.TheVariants as high
 use Rattle.hm_isa.specs.declared.vectors.CarryName.TheVariants as carry
-use Rattle.hm_isa.specs.declared.vectors.TurnName.TheVariants as turn
+use Rattle.hm_isa.specs.declared.vectors.ComplexSumName.TheVariants as turn
 use Rattle.hm_isa.specs.declared.vectors.ScalarName.TheVariants as by_scalar
 use Rattle.hm_isa.specs.declared.vectors.ConstantShiftName.TheVariants as by_constant
 use Rattle.hm_isa.specs.declared.vectors.OneName.TheVariants as one
@@ -15,7 +15,7 @@ use Rattle.hm_isa.specs.declared.vectors.ReverseName.TheVariants as reverse_
 use Rattle.hm_isa.specs.declared.vectors.NarrowName.TheVariants as narrow_
 use Rattle.hm_isa.specs.declared.vectors.OffsetsName.TheVariants as offsets
 use Rattle.hm_isa.specs.declared.vectors.ExtremeName.TheVariants as extreme
-use Rattle.hm_isa.specs.Code.{add_base, bitwise_base, carry_base, constant_shift_base, doubling_base, extreme_base, high_base, narrow_base, offsets_base, one_base, reverse_base, scalar_base, signed_base, turn_base, vector_shift_base}
+use Rattle.hm_isa.specs.Code.{add_base, bitwise_base, carry_base, constant_shift_base, doubling_base, extreme_base, high_base, narrow_base, offsets_base, one_base, reverse_base, scalar_base, signed_base, complex_sum_base, vector_shift_base}
 use Rattle.hm_text_rows.specs.Operands.{first}
 
 -- V1 and V2: the base code of VADD, VSUB, VMUL, VAND, VBIC, VORR, VORN and VEOR, by the stem
@@ -72,10 +72,10 @@ carry_base_in s =
     else None
 
 -- V9: the base code of VCADD and VHCADD, by the stem (DDI0553, "VCADD" and "VHCADD")
-abbrev pub turn_base_in : List ℕ → Option ℕ
-turn_base_in s =
-    if bytes_eq s (codes "vcadd") then Some (turn_base turn.Cadd)
-    else if bytes_eq s (codes "vhcadd") then Some (turn_base turn.Hcadd)
+abbrev pub complex_sum_base_in : List ℕ → Option ℕ
+complex_sum_base_in s =
+    if bytes_eq s (codes "vcadd") then Some (complex_sum_base turn.Cadd)
+    else if bytes_eq s (codes "vhcadd") then Some (complex_sum_base turn.Hcadd)
     else None
 
 -- V4: the base code of VSHL, VQSHL, VRSHL and VQRSHL by a vector, by the stem (DDI0553, "VSHL", "VQSHL", "VRSHL" and "VQRSHL")
@@ -161,7 +161,7 @@ wrapped_base_in s =
     else if bytes_eq s (codes "vdwdup") then Some (offsets_base offsets.Down)
     else None
 
--- V23: the base code of VMAXV and VMINV, by the stem (DDI0553, "VMAXV" and "VMINV")
+-- V23: the base code of VMAXV and VMINV, by the stem (DDI0553, "VMAXV, VMAXAV" and "VMINV, VMINAV")
 abbrev pub extreme_base_in : List ℕ → Option ℕ
 extreme_base_in s =
     if bytes_eq s (codes "vmaxv") then Some (extreme_base extreme.Max)

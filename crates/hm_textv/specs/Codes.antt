@@ -8,7 +8,7 @@ use Rattle.hm_text_base.specs.Spans.{span}
 use Rattle.hm_tokens.specs.Tokens.{Tok, word, number, mark}
 use Rattle.hm_text_rows.specs.Operands.{first}
 use Rattle.hm_textv.specs.declared.operands.Operands.{Operands}
-use Rattle.hm_textv.specs.Bases.{block_in, carry_base_in, compare_in, constant_in, dot_in, extreme_base_in, left_base, long_dot_in, load_in, long_in, long_sum_in, narrow_base_in, offsets_base_in, pair_base, product_base, quad_base, right_base, scalar_base_in, single_base, store_in, sum_in, three_base, turn_base_in, vector_shift_base_in, wrapped_base_in}
+use Rattle.hm_textv.specs.Bases.{block_in, carry_base_in, compare_in, constant_in, dot_in, extreme_base_in, left_base, long_dot_in, load_in, long_in, long_sum_in, narrow_base_in, offsets_base_in, pair_base, product_base, quad_base, right_base, scalar_base_in, single_base, store_in, sum_in, three_base, complex_sum_base_in, vector_shift_base_in, wrapped_base_in}
 use Rattle.hm_textv.specs.Operands.{read_operands}
 
 -- FIELDS AT THEIR PLACES
@@ -54,7 +54,7 @@ code_carry s o = option_map (λ b. of_vectors b 0 0 o.second o.first o.third) (c
 -- V9: the code of VCADD and VHCADD, whose angle is 90 or 270 (DDI0553, "VCADD" and "VHCADD")
 abbrev pub code_turn : List ℕ → Operands → Option ℕ
 code_turn s o =
-    option_map (λ b. of_vectors (b + (if o.fourth == 270 then 1 else 0) ↑ 12) 0 o.size o.second o.first o.third) (turn_base_in s)
+    option_map (λ b. of_vectors (b + (if o.fourth == 270 then 1 else 0) ↑ 12) 0 o.size o.second o.first o.third) (complex_sum_base_in s)
 
 -- V10: the code of VADD to VMLAS of a vector and a core register (DDI0553, their forms with a vector and a scalar)
 abbrev pub code_scalar : List ℕ → Operands → Option ℕ
@@ -159,7 +159,7 @@ abbrev pub code_long_dot : List ℕ → Operands → Option ℕ
 code_long_dot s o =
     option_map (λ a. of_vectors (0xee800e00 + a ↑ 5 + (o.size - 1) ↑ 16) o.sign (o.second / 2) o.third (o.first / 2) o.fourth) (long_dot_in s)
 
--- V23: the code of VMAXV and VMINV (DDI0553, "VMAXV" and "VMINV")
+-- V23: the code of VMAXV and VMINV (DDI0553, "VMAXV, VMAXAV" and "VMINV, VMINAV")
 abbrev pub code_extreme : List ℕ → Operands → Option ℕ
 code_extreme s o = option_map (λ b. of_one (b + o.first ↑ 12) o.sign o.size 0 o.second) (extreme_base_in s)
 

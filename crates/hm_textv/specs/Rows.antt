@@ -23,7 +23,7 @@ use Rattle.hm_isa.specs.declared.vectors.ConstantShiftName.TheVariants as by_con
 use Rattle.hm_tokens.specs.Lines.{IsLineOf}
 use Rattle.hm_tokens.specs.Tokens.{Tok, word, mark}
 use Rattle.hm_text_rows.specs.Shapes.{and_constant, back, comma, constant, either, four, indexed, inside, or_zero, q, r, three, two}
-use Rattle.hm_textv.specs.Stems.{access_stem, access_suffix, add_stem, bitwise_stem, block_letters, by_sign, carry_stem, compare_condition, compare_suffix, constant_shift_stem, constant_shift_suffix, doubling_stem, extreme_stem, high_stem, integer, narrow_stem, narrow_suffix, offsets_stem, one_stem, one_suffix, pair_stem, plain, quad_stem, reverse_stem, scalar_stem, scalar_suffix, signed, signed_stem, size_number, turn_stem, turn_suffix, unsigned, vector_shift_stem, wrapped_stem}
+use Rattle.hm_textv.specs.Stems.{access_stem, access_suffix, add_stem, bitwise_stem, block_letters, by_sign, carry_stem, compare_condition, compare_suffix, constant_shift_stem, constant_shift_suffix, doubling_stem, extreme_stem, high_stem, integer, narrow_stem, narrow_suffix, offsets_stem, one_stem, one_suffix, pair_stem, plain, quad_stem, reverse_stem, scalar_stem, scalar_suffix, signed, signed_stem, size_number, complex_sum_stem, complex_sum_suffix, unsigned, vector_shift_stem, wrapped_stem}
 
 -- ROWS
 -- V11: the size of elements that the highest bit of the field x tells (DDI0553, "VSHR", "VRSHR", "VQSHL, VQSHLU", "VSHL", "VSRI" and "VSLI")
@@ -172,7 +172,7 @@ tokens_of (V5 i) = three (doubling_stem i.name ++ signed i.z.value) (q i.d.value
 tokens_of (V6 i) = three (either i.t.value (codes "vmullb") (codes "vmullt") ++ by_sign i.u.value i.z.value) (q i.d.value) (q i.n.value) (q i.m.value)
 tokens_of (V7 i) = three (high_stem i.name ++ by_sign i.u.value i.z.value) (q i.d.value) (q i.n.value) (q i.m.value)
 tokens_of (V8 i) = three (carry_stem i.name ++ codes ".i32") (q i.d.value) (q i.n.value) (q i.m.value)
-tokens_of (V9 i) = and_constant (three (turn_stem i.name ++ turn_suffix i.name i.z.value) (q i.d.value) (q i.n.value) (q i.m.value)) (cond (nat_eq i.t.value 0) 90 270)
+tokens_of (V9 i) = and_constant (three (complex_sum_stem i.name ++ complex_sum_suffix i.name i.z.value) (q i.d.value) (q i.n.value) (q i.m.value)) (cond (nat_eq i.t.value 0) 90 270)
 tokens_of (V10 i) = three (scalar_stem i.name ++ scalar_suffix i.name i.u.value i.z.value) (q i.d.value) (q i.n.value) (r i.m.value)
 tokens_of (V11 i) = shift_tokens i
 tokens_of (V12 i) = long_tokens i

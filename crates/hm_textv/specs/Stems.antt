@@ -14,8 +14,8 @@ use Rattle.hm_isa.specs.declared.vectors.HighName.{HighName}
 use Rattle.hm_isa.specs.declared.vectors.HighName.TheVariants as high
 use Rattle.hm_isa.specs.declared.vectors.CarryName.{CarryName}
 use Rattle.hm_isa.specs.declared.vectors.CarryName.TheVariants as carry
-use Rattle.hm_isa.specs.declared.vectors.TurnName.{TurnName}
-use Rattle.hm_isa.specs.declared.vectors.TurnName.TheVariants as turn
+use Rattle.hm_isa.specs.declared.vectors.ComplexSumName.{ComplexSumName}
+use Rattle.hm_isa.specs.declared.vectors.ComplexSumName.TheVariants as turn
 use Rattle.hm_isa.specs.declared.vectors.ScalarName.{ScalarName}
 use Rattle.hm_isa.specs.declared.vectors.ScalarName.TheVariants as by_scalar
 use Rattle.hm_isa.specs.declared.vectors.ConstantShiftName.{ConstantShiftName}
@@ -116,9 +116,9 @@ carry_stem carry.Sbc = codes "vsbc"
 carry_stem carry.Sbci = codes "vsbci"
 
 -- V9: the stem of each name, VCADD and VHCADD (DDI0553, "VCADD" and "VHCADD")
-abbrev pub turn_stem : TurnName → List ℕ
-turn_stem turn.Cadd = codes "vcadd"
-turn_stem turn.Hcadd = codes "vhcadd"
+abbrev pub complex_sum_stem : ComplexSumName → List ℕ
+complex_sum_stem turn.Cadd = codes "vcadd"
+complex_sum_stem turn.Hcadd = codes "vhcadd"
 
 -- V10: the stem of each name, VADD, VSUB, VMUL, VHADD, VHSUB, VQADD, VQSUB, VQDMULH, VQRDMULH, VMLA and VMLAS
 -- (DDI0553, the form of each with a vector and a scalar)
@@ -168,7 +168,7 @@ narrow_stem narrow_.ToUnsigned t = cond (nat_eq t 0) (codes "vqmovunb") (codes "
 narrow_stem narrow_.Signed t = cond (nat_eq t 0) (codes "vqmovnb") (codes "vqmovnt")
 narrow_stem narrow_.Unsigned t = cond (nat_eq t 0) (codes "vqmovnb") (codes "vqmovnt")
 
--- V23: the stem of each name, VMAXV and VMINV (DDI0553, "VMAXV" and "VMINV")
+-- V23: the stem of each name, VMAXV and VMINV (DDI0553, "VMAXV, VMAXAV" and "VMINV, VMINAV")
 abbrev pub extreme_stem : ExtremeName → List ℕ
 extreme_stem extreme.Max = codes "vmaxv"
 extreme_stem extreme.Min = codes "vminv"
@@ -207,9 +207,9 @@ quad_stem l p =
 
 -- WHAT STANDS BEHIND THE POINT, BY NAME
 -- V9: VCADD is of integers, and VHCADD of signed ones (DDI0553, "VCADD" and "VHCADD")
-abbrev pub turn_suffix : TurnName → ℕ → List ℕ
-turn_suffix turn.Cadd z = integer z
-turn_suffix turn.Hcadd z = signed z
+abbrev pub complex_sum_suffix : ComplexSumName → ℕ → List ℕ
+complex_sum_suffix turn.Cadd z = integer z
+complex_sum_suffix turn.Hcadd z = signed z
 
 -- V10: VADD, VSUB and VMUL are of integers, VQDMULH and VQRDMULH of signed ones, and the others of either sign
 -- (DDI0553, the form of each with a vector and a scalar)

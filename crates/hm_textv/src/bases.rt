@@ -1,7 +1,7 @@
 //! Stems of mnemonics: the codes that their rows begin from, and what else they tell.
 
 ghost use Rattle.std.specs.Prelude.{◌≡◌, ◌<◌, IfSome};
-ghost use Rattle.hm_textv.specs.Bases.{block_in, carry_base_in, compare_in, constant_in, dot_in, extreme_base_in, left_base, load_in, long_block_in, long_compare_in, long_dot_in, long_in, long_sum_in, narrow_base_in, offsets_base_in, pair_base, plain_base, product_base, quad_base, right_base, scalar_base_in, short_block_in, short_compare_in, signed_base_in, single_base, store_in, sum_in, three_base, turn_base_in, vector_shift_base_in, wrapped_base_in};
+ghost use Rattle.hm_textv.specs.Bases.{block_in, carry_base_in, compare_in, constant_in, dot_in, extreme_base_in, left_base, load_in, long_block_in, long_compare_in, long_dot_in, long_in, long_sum_in, narrow_base_in, offsets_base_in, pair_base, plain_base, product_base, quad_base, right_base, scalar_base_in, short_block_in, short_compare_in, signed_base_in, single_base, store_in, sum_in, three_base, complex_sum_base_in, vector_shift_base_in, wrapped_base_in};
 ghost use Rattle.hm_text_rows.specs.Operands.{first};
 
 use hm_encv::{
@@ -10,8 +10,8 @@ use hm_encv::{
     base_of_signed, base_of_turn, base_of_vector_shift,
 };
 use hm_isa::{
-    AddName, BitwiseName, CarryName, ConstantShiftName, DoublingName, ExtremeName, HighName,
-    NarrowName, OffsetsName, OneName, ReverseName, ScalarName, SignedName, TurnName,
+    AddName, BitwiseName, CarryName, ComplexSumName, ConstantShiftName, DoublingName, ExtremeName,
+    HighName, NarrowName, OffsetsName, OneName, ReverseName, ScalarName, SignedName,
     VectorShiftName,
 };
 use hm_text_rows::is;
@@ -136,14 +136,14 @@ pub fn carry_base_in(stem: &[u8]) -> Option<u32>
 }
 
 /// Of a row V9.
-pub fn turn_base_in(stem: &[u8]) -> Option<u32>
-    ensures { result ≡ turn_base_in stem.now }
+pub fn complex_sum_base_in(stem: &[u8]) -> Option<u32>
+    ensures { result ≡ complex_sum_base_in stem.now }
 {
     if is(stem, "vcadd") {
-        return Some(base_of_turn(TurnName::Cadd));
+        return Some(base_of_turn(ComplexSumName::Cadd));
     }
     if is(stem, "vhcadd") {
-        return Some(base_of_turn(TurnName::Hcadd));
+        return Some(base_of_turn(ComplexSumName::Hcadd));
     }
     None
 }

@@ -10,9 +10,9 @@ ghost use Rattle.hm_tokens.specs.Tokens.{tok};
 
 use crate::access::code_of_memory;
 use crate::bases::{
-    block_in, carry_base_in, compare_in, constant_in, dot_in, extreme_base_in, left_base,
-    long_dot_in, long_in, long_sum_in, narrow_base_in, offsets_base_in, product_base, right_base,
-    scalar_base_in, single_base, sum_in, three_base, turn_base_in, vector_shift_base_in,
+    block_in, carry_base_in, compare_in, complex_sum_base_in, constant_in, dot_in, extreme_base_in,
+    left_base, long_dot_in, long_in, long_sum_in, narrow_base_in, offsets_base_in, product_base,
+    right_base, scalar_base_in, single_base, sum_in, three_base, vector_shift_base_in,
     wrapped_base_in,
 };
 use crate::operands::{Operands, read_operands};
@@ -128,7 +128,7 @@ fn code_carry(stem: &[u8], o: &Operands) -> Option<u64>
 fn code_turn(stem: &[u8], o: &Operands) -> Option<u64>
     ensures { result ≡ code_turn stem.now o.now }
 {
-    let base = u64::from(turn_base_in(stem)?);
+    let base = u64::from(complex_sum_base_in(stem)?);
     if o.fourth == 270 {
         Some(of_vectors(base + 0x1000, 0, o.size, o.second, o.first, o.third))
     } else {

@@ -10,13 +10,13 @@ ghost use Rattle.hm_tokens.specs.Tokens.{word};
 
 use crate::memory::{text_v24, text_v25, text_v26, text_v27, text_v28};
 use crate::stems::{
-    add_stem, bitwise_stem, block_letters, carry_stem, compare_condition, constant_shift_stem,
-    doubling_stem, extreme_stem, high_stem, narrow_stem, offsets_stem, one_stem, reverse_stem,
-    scalar_stem, signed_stem, turn_stem, vector_shift_stem, wrapped_stem,
+    add_stem, bitwise_stem, block_letters, carry_stem, compare_condition, complex_sum_stem,
+    constant_shift_stem, doubling_stem, extreme_stem, high_stem, narrow_stem, offsets_stem,
+    one_stem, reverse_stem, scalar_stem, signed_stem, vector_shift_stem, wrapped_stem,
 };
 use crate::suffixes::{
-    by_sign, compare_suffix, constant_shift_suffix, integer, narrow_suffix, one_suffix, plain,
-    scalar_suffix, signed, size_number, turn_suffix, unsigned,
+    by_sign, compare_suffix, complex_sum_suffix, constant_shift_suffix, integer, narrow_suffix,
+    one_suffix, plain, scalar_suffix, signed, size_number, unsigned,
 };
 use hm_isa::{
     Below, Bit, ConstantShiftName, ElementSize, QRegister, V1, V2, V3, V4, V5, V6, V7, V8, V9, V10,
@@ -113,8 +113,8 @@ fn text_v9(i: &V9) -> InstrText
     let angle = if i.t.get() == 0 { 90 } else { 270 };
     and_constant(
         three(
-            turn_stem(i.name),
-            turn_suffix(i.name, i.z),
+            complex_sum_stem(i.name),
+            complex_sum_suffix(i.name, i.z),
             q(i.d),
             q(i.n),
             q(i.m),

@@ -1,11 +1,11 @@
 //! The stems of the mnemonics of vector rows.
 
 ghost use Rattle.std.specs.Prelude.{◌≡◌, ◌<◌};
-ghost use Rattle.hm_textv.specs.Stems.{add_stem, bitwise_stem, carry_stem, constant_shift_stem, doubling_stem, extreme_stem, high_stem, offsets_stem, one_stem, reverse_stem, scalar_stem, signed_stem, turn_stem, vector_shift_stem, wrapped_stem, narrow_stem, block_letters, compare_condition, access_stem, pair_stem, quad_stem};
+ghost use Rattle.hm_textv.specs.Stems.{add_stem, bitwise_stem, carry_stem, constant_shift_stem, doubling_stem, extreme_stem, high_stem, offsets_stem, one_stem, reverse_stem, scalar_stem, signed_stem, complex_sum_stem, vector_shift_stem, wrapped_stem, narrow_stem, block_letters, compare_condition, access_stem, pair_stem, quad_stem};
 
 use hm_isa::{
-    AddName, Below, Bit, BitwiseName, CarryName, ConstantShiftName, DoublingName, ExtremeName,
-    HighName, NarrowName, OffsetsName, OneName, ReverseName, ScalarName, SignedName, TurnName,
+    AddName, Below, Bit, BitwiseName, CarryName, ComplexSumName, ConstantShiftName, DoublingName,
+    ExtremeName, HighName, NarrowName, OffsetsName, OneName, ReverseName, ScalarName, SignedName,
     VectorShiftName,
 };
 
@@ -94,12 +94,12 @@ pub fn carry_stem(name: CarryName) -> &'static str
 }
 
 /// The stem of a row V9.
-pub fn turn_stem(name: TurnName) -> &'static str
-    ensures { result.now ≡ turn_stem name }
+pub fn complex_sum_stem(name: ComplexSumName) -> &'static str
+    ensures { result.now ≡ complex_sum_stem name }
 {
     match name {
-        TurnName::Cadd => "vcadd",
-        TurnName::Hcadd => "vhcadd",
+        ComplexSumName::Cadd => "vcadd",
+        ComplexSumName::Hcadd => "vhcadd",
     }
 }
 

@@ -1,10 +1,11 @@
 //! What stands behind the point of a mnemonic: the kind of the elements and their size, where 0, 1, 2 and 3 are 8, 16, 32 and 64 bits.
 
 ghost use Rattle.std.specs.Prelude.{◌≡◌, ◌<◌};
-ghost use Rattle.hm_textv.specs.Stems.{access_suffix, by_sign, compare_suffix, constant_shift_suffix, integer, narrow_suffix, one_suffix, plain, scalar_suffix, signed, size_number, turn_suffix, unsigned};
+ghost use Rattle.hm_textv.specs.Stems.{access_suffix, by_sign, compare_suffix, constant_shift_suffix, integer, narrow_suffix, one_suffix, plain, scalar_suffix, signed, size_number, complex_sum_suffix, unsigned};
 
 use hm_isa::{
-    Below, Bit, ConstantShiftName, Element, ElementSize, NarrowName, OneName, ScalarName, TurnName,
+    Below, Bit, ComplexSumName, ConstantShiftName, Element, ElementSize, NarrowName, OneName,
+    ScalarName,
 };
 
 /// Elements of any kind.
@@ -77,12 +78,12 @@ pub fn size_number(size: Element) -> u32
 }
 
 /// Of a row V9.
-pub fn turn_suffix(name: TurnName, z: ElementSize) -> &'static str
-    ensures { result.now ≡ turn_suffix name z.value }
+pub fn complex_sum_suffix(name: ComplexSumName, z: ElementSize) -> &'static str
+    ensures { result.now ≡ complex_sum_suffix name z.value }
 {
     match name {
-        TurnName::Cadd => integer(z.get()),
-        TurnName::Hcadd => signed(z.get()),
+        ComplexSumName::Cadd => integer(z.get()),
+        ComplexSumName::Hcadd => signed(z.get()),
     }
 }
 

@@ -33,14 +33,14 @@ use Rattle.hm_isa.specs.declared.words.Shifted.{Shifted}
 use Rattle.hm_isa.specs.declared.words.ShiftType.{ShiftType}
 use Rattle.hm_isa.specs.declared.words.ShiftType.TheVariants as type
 
--- T8: the type of shift of each name: LSL, LSR, ASR and ROR
+-- T8: the type of shift of LSL, LSR, ASR and ROR (DDI0553, "LSL (register)", "LSR (register)", "ASR (register)" and "ROR (register)")
 abbrev pub wide_shift_of : WideShiftName → ShiftType
 wide_shift_of wide_shift.Lsl = type.Lsl
 wide_shift_of wide_shift.Lsr = type.Lsr
 wide_shift_of wide_shift.Asr = type.Asr
 wide_shift_of wide_shift.Ror = type.Ror
 
--- register d gets what was shifted, and the flags tell it where s is 1, in an IT block too
+-- T8: register d gets what was shifted, and the flags tell it where s is 1, in an IT block too (DDI0553, "LSL (register)" and its kin)
 abbrev pub put_told : ℕ → ℕ → Shifted → Regs → Regs
 put_told s d x r = let t = put d x.result r in cond (nat_eq s 1) (with_nzc x t) t
 
@@ -52,7 +52,7 @@ t8 i r = put_told i.s.value i.d.value (shift_c (wide_shift_of i.name) (reg i.n.v
 abbrev pub t9 : T9 → Regs → Regs
 t9 i r = put i.d.value (extended_by i.name (rotated (reg i.m.value r) (8 * i.r.value))) r
 
--- T10: what REV, REV16, RBIT, REVSH and CLZ make of a word
+-- T10: what REV, REV16, RBIT, REVSH and CLZ make of a word (DDI0553, "REV", "REV16", "RBIT", "REVSH" and "CLZ")
 abbrev pub bits_of : BitsName → ℕ → ℕ
 bits_of bits.Rev x = swapped swap_.Rev x
 bits_of bits.Rev16 x = swapped swap_.Rev16 x
@@ -72,12 +72,12 @@ negated x = (2 ^ 32 - x) % 2 ^ 32
 abbrev pub magnitude : ℕ → ℕ
 magnitude x = if negative x then 2 ^ 32 - x else x
 
--- the quotient of numbers with their signs, rounded towards 0, of which -2 ^ 31 by -1 gives -2 ^ 31
+-- T11: the quotient of SDIV, of numbers with their signs, rounded towards 0, of which -2 ^ 31 by -1 gives -2 ^ 31 (DDI0553, "SDIV")
 abbrev pub signed_quotient : ℕ → ℕ → ℕ
 signed_quotient x y =
     let q = magnitude x / magnitude y in if beq (negative x) (negative y) then q else negated q
 
--- a quotient by 0 is 0
+-- T11: the product of MUL and the quotients of SDIV and UDIV, of which one by 0 is 0 (DDI0553, "MUL", "SDIV" and "UDIV")
 abbrev pub operated : OperationName → ℕ → ℕ → ℕ
 operated operation.Mul x y = x * y % 2 ^ 32
 operated operation.Sdiv x y = if nat_eq y 0 then 0 else signed_quotient x y
@@ -87,7 +87,7 @@ operated operation.Udiv x y = if nat_eq y 0 then 0 else x / y
 abbrev pub operation_row : Operation → Regs → Regs
 operation_row i r = put i.d.value (operated i.name (reg i.n.value r) (reg i.m.value r)) r
 
--- T11: a product added to a number by MLA, or taken from it by MLS, modulo 2 ^ 32
+-- T11: a product added to a number by MLA, or taken from it by MLS, modulo 2 ^ 32 (DDI0553, "MLA" and "MLS")
 abbrev pub accumulated : AccumulateName → ℕ → ℕ → ℕ
 accumulated accumulate.Mla a x = (a + x) % 2 ^ 32
 accumulated accumulate.Mls a x = (a + negated x) % 2 ^ 32
@@ -97,18 +97,18 @@ abbrev pub accumulate_row : Accumulate → Regs → Regs
 accumulate_row i r =
     put i.d.value (accumulated i.name (reg i.a.value r) (reg i.n.value r * reg i.m.value r % 2 ^ 32)) r
 
--- the product of numbers with their signs, modulo 2 ^ 64
+-- T11: the product of SMULL and SMLAL, of numbers with their signs, modulo 2 ^ 64 (DDI0553, "SMULL" and "SMLAL")
 abbrev pub signed_product : ℕ → ℕ → ℕ
 signed_product x y = extended x * extended y % 2 ^ 64
 
--- a product of 64 bits, alone or added
+-- T11: the product of SMULL and UMULL of 64 bits, and added by SMLAL and UMLAL (DDI0553, "SMULL", "UMULL", "SMLAL" and "UMLAL")
 abbrev pub long_result : LongProductName → ℕ → ℕ → ℕ → ℕ
 long_result long.Smull old x y = signed_product x y
 long_result long.Umull old x y = x * y
 long_result long.Smlal old x y = (old + signed_product x y) % 2 ^ 64
 long_result long.Umlal old x y = (old + x * y) % 2 ^ 64
 
--- the low word into register l, and the high one into register h
+-- T11: the low word of a long product into register l, and the high one into register h (DDI0553, "SMULL", "UMULL", "SMLAL" and "UMLAL")
 abbrev pub put_long : ℕ → ℕ → ℕ → Regs → Regs
 put_long l h x r = put h (x / 2 ^ 32) (put l (x % 2 ^ 32) r)
 
@@ -124,7 +124,7 @@ t11 (t11_.Operation i) r = operation_row i r
 t11 (t11_.Accumulate i) r = accumulate_row i r
 t11 (t11_.Long i) r = long_row i r
 
--- T20: what CSEL, CSINC, CSINV and CSNEG give of the second operand where the condition does not hold
+-- T20: what CSEL, CSINC, CSINV, CSNEG give of the second operand where the condition does not hold (DDI0553, "CSEL", "CSINC", "CSINV" and "CSNEG")
 abbrev pub otherwise : SelectName → ℕ → ℕ
 otherwise select.Csel y = y
 otherwise select.Csinc y = (y + 1) % 2 ^ 32

@@ -33,11 +33,12 @@ abbrev pub link : ℕ → ℕ
 link next = next - next % 2 + 1
 
 -- S23: what BX and BLX do with the value of a register; BLX leaves the address of the next instruction in lr, its bit 0 set
+-- (DDI0553, "BX, BXNS" and "BLX, BLXNS")
 abbrev pub jump_row : JumpName → ℕ → Regs → Does
 jump_row jump.Bx x r = bx_write x r
 jump_row jump.Blx x r = blx_write x (put 14 (link ((r.pc + 2) % 2 ^ 32)) r)
 
--- S23: BX and BLX (DDI0553, "BX" and "BLX (register)")
+-- S23: BX and BLX (DDI0553, "BX, BXNS" and "BLX, BLXNS")
 abbrev pub s23 : S23 → Regs → Does
 s23 i r = jump_row i.name (reg i.m.value r) r
 
@@ -45,12 +46,12 @@ s23 i r = jump_row i.name (reg i.m.value r) r
 abbrev pub branch_if : Bool → ℕ → Regs → Does
 branch_if taken bytes r = cond taken (Ends (way.To ((operand 15 r + bytes) % 2 ^ 32)) r) (goes r)
 
--- S24: whether CBZ or CBNZ branches, by the value of its register
+-- S24: whether CBZ or CBNZ branches, by the value of its register (DDI0553, "CBNZ, CBZ")
 abbrev pub is_taken : ZeroName → ℕ → Bool
 is_taken zero_.Cbz x = nat_eq x 0
 is_taken zero_.Cbnz x = not (nat_eq x 0)
 
--- S24: CBZ and CBNZ (DDI0553, "CBZ, CBNZ")
+-- S24: CBZ and CBNZ (DDI0553, "CBNZ, CBZ")
 abbrev pub s24 : S24 → Regs → Does
 s24 i r = branch_if (is_taken i.name (reg i.n.value r)) (2 * i.i.value) r
 
@@ -72,7 +73,7 @@ s25 (s25_.Always i) r = always i r
 abbrev pub wide_conditional : WideConditional → Regs → Does
 wide_conditional i r = branch_if (condition_holds i.c.value r) (conditional_distance i) r
 
--- a call leaves the address of the next instruction in lr
+-- T16: BL, a call, leaves the address of the next instruction in lr (DDI0553, "BL")
 abbrev pub linked : WideBranchName → Regs → Regs
 linked wide_branch.B r = r
 linked wide_branch.Bl r = put 14 (link ((r.pc + 4) % 2 ^ 32)) r
@@ -87,12 +88,12 @@ t16 (t16_.Conditional i) r = wide_conditional i r
 t16 (t16_.Always i) r = wide_always i r
 
 -- TABLES
--- how many bytes a number of the table has
+-- T17: how many bytes a number of the table of TBB and TBH has (DDI0553, "TBB, TBH")
 abbrev pub table_width : TableName → ℕ
 table_width table.Tbb = 1
 table_width table.Tbh = 2
 
--- forward by twice the number that stands in the table
+-- T17: TBB and TBH, forward by twice the number that stands in the table (DDI0553, "TBB, TBH")
 abbrev pub t17 : T17 → Regs → Does
 t17 i r =
     let len = table_width i.name in

@@ -26,11 +26,11 @@ use Rattle.hm_isa.specs.declared.words.Shifted.{Shifted}
 use Rattle.hm_isa.specs.declared.words.ShiftType.TheVariants as type
 
 -- THE SECOND OPERAND
--- RRX_C(x, carry)
+-- RRX_C(x, carry) (DDI0553, "RRX_C")
 abbrev pub rrx_c : ℕ → Bool → Shifted
 rrx_c x carry = record { result = x / 2 + cond carry (2 ^ 31) 0; carry = bit_is_set x 0 }
 
--- Shift_C(x, type, n, carry) with the type and the number of DecodeImmShift(ty, k)
+-- T2 and T5: Shift_C(x, type, n, carry) with the type and the number of DecodeImmShift(ty, k) (DDI0553, "Shift_C" and "DecodeImmShift")
 abbrev pub imm_shift_c : ℕ → ℕ → ℕ → Bool → Shifted
 imm_shift_c ty k x carry =
     if nat_eq ty 0 then shift_c type.Lsl x (amount shift.Lsl k) carry
@@ -52,7 +52,8 @@ put_bits s d x carry r = let t = put_if d x r in cond (nat_eq s 1) (with_nzc (re
 abbrev pub put_data_sum : ℕ → ℕ → Sum → Regs → Regs
 put_data_sum s d x r = let t = put_if d x.result r in cond (nat_eq s 1) (with_nzcv x t) t
 
--- with s, d, the first operand and the second, whose carry is what the flags of bits get
+-- T1 and T2: AND to RSB with s, d, the first operand and the second, whose carry is what the flags of bits get
+-- (DDI0553, "Data-processing (modified immediate)" and "Data-processing (shifted register)")
 abbrev pub data_row : DataName → ℕ → ℕ → ℕ → Shifted → Regs → Regs
 data_row data_.And s d x y r = put_bits s d (bit_and x y.result) y.carry r
 data_row data_.Bic s d x y r = put_bits s d (bit_and x (inverted y.result)) y.carry r
@@ -69,11 +70,12 @@ data_row data_.Rsb s d x y r = put_data_sum s d (add_with_carry (inverted x) y.r
 abbrev pub t1 : T1 → Regs → Regs
 t1 i r = data_row i.name i.s.value i.d.value (reg_or_zero i.n.value r) (expand_imm_c (imm12 i.i.value i.i3.value i.i8.value) r.c) r
 
--- the bits i3 and i2 one behind another
+-- T2, T5, T6 and T7: the bits i3 and i2 one behind another (DDI0553, "Data-processing (shifted register)", "SSAT", "SBFX" and "BFI")
 abbrev pub imm5 : ℕ → ℕ → ℕ
 imm5 i3 i2 = i3 * 2 ^ 2 + i2
 
--- T2: AND, BIC, ORR, ORN, EOR, ADD, ADC, SBC, SUB, RSB, MOV, MVN, TST, TEQ, CMN, CMP and the shifts with a shifted register (DDI0553, "Data-processing (shifted register)")
+-- T2: AND, BIC, ORR, ORN, EOR, ADD, ADC, SBC, SUB, RSB, MOV, MVN, TST, TEQ, CMN, CMP and the shifts with a shifted register
+-- (DDI0553, "Data-processing (shifted register)")
 abbrev pub t2 : T2 → Regs → Regs
 t2 i r =
     data_row i.name i.s.value i.d.value (reg_or_zero i.n.value r) (imm_shift_c i.ty.value (imm5 i.i3.value i.i2.value) (reg i.m.value r) r.c) r
@@ -82,7 +84,7 @@ t2 i r =
 abbrev pub t3 : T3 → Regs → Regs
 t3 i r = put i.d.value (sum_of i.name (base_of i.n.value r) (imm12 i.i.value i.i3.value i.i8.value)).result r
 
--- the low halfword with zeros above it, or the high halfword
+-- T4: MOVW, the low halfword with zeros above it, or MOVT, the high halfword (DDI0553, "MOV (immediate)" and "MOVT")
 abbrev pub half_put : HalfName → ℕ → ℕ → ℕ
 half_put half.Movw x old = x
 half_put half.Movt x old = x * 2 ^ 16 + old % 2 ^ 16
@@ -91,12 +93,13 @@ half_put half.Movt x old = x * 2 ^ 16 + old % 2 ^ 16
 abbrev pub t4 : T4 → Regs → Regs
 t4 i r = put i.d.value (half_put i.name (i.i4.value * 2 ^ 12 + imm12 i.i.value i.i3.value i.i8.value) (reg i.d.value r)) r
 
--- SignedSatQ(SInt(x), s + 1) and UnsignedSatQ(SInt(x), s), as words: the nearest number from -2 ^ s, or from 0, to 2 ^ s - 1
+-- T5: SignedSatQ(SInt(x), s + 1) of SSAT and UnsignedSatQ(SInt(x), s) of USAT, as words: the nearest number from -2 ^ s, or from 0,
+-- to 2 ^ s - 1 (DDI0553, "SSAT" and "USAT")
 abbrev pub saturated : SaturateName → ℕ → ℕ → ℕ
 saturated saturate.Ssat s x = if negative x then max x (2 ^ 32 - 2 ^ s) else min x (2 ^ s - 1)
 saturated saturate.Usat s x = if negative x then 0 else min x (2 ^ s - 1)
 
--- where another number than x is the nearest, Q is set
+-- T5: where another number than x is the nearest, SSAT and USAT set Q (DDI0553, "SSAT" and "USAT")
 abbrev pub put_saturated : ℕ → ℕ → ℕ → Regs → Regs
 put_saturated d y x r = let t = put d y r in record t { q = t.q || not (nat_eq y x) }
 
@@ -106,7 +109,7 @@ t5 i r =
     let x = (imm_shift_c (2 * i.sh.value) (imm5 i.i3.value i.i2.value) (reg i.n.value r) r.c).result in
     put_saturated i.d.value (saturated i.name i.s.value x) x r
 
--- so many bits, with their sign or with zeros
+-- T6: so many bits, with their sign by SBFX or with zeros by UBFX (DDI0553, "SBFX" and "UBFX")
 abbrev pub bits_with : ExtractName → ℕ → ℕ → ℕ
 bits_with bits.Sbfx width x = sign_extended width x
 bits_with bits.Ubfx width x = x
@@ -115,7 +118,7 @@ bits_with bits.Ubfx width x = x
 abbrev pub t6 : T6 → Regs → Regs
 t6 i r = put i.d.value (bits_with i.name (i.w.value + 1) (field (imm5 i.i3.value i.i2.value) (i.w.value + 1) (reg i.n.value r))) r
 
--- the bits from lsb to e get the lowest ones of the first operand
+-- T7: BFI and BFC: the bits from lsb to e get the lowest ones of the first operand, which is 0 of BFC (DDI0553, "BFI" and "BFC")
 abbrev pub t7 : T7 → Regs → Regs
 t7 i r =
     let lsb = imm5 i.i3.value i.i2.value in

@@ -20,7 +20,7 @@ use Rattle.hm_thumb.specs.RegisterRows.{reg, put}
 abbrev pub put_size : ℕ → Regs → Regs
 put_size z r = with_value Ltp z r
 
--- so many halfwords backward
+-- T23: LE and LETP go so many halfwords backward (DDI0553, "LE, LETP")
 abbrev pub back : ℕ → Regs → Does
 back v r = branch_if true (2 ^ 32 - 2 * v) r
 
@@ -28,7 +28,7 @@ back v r = branch_if true (2 ^ 32 - 2 * v) r
 abbrev pub dls : Dls → Regs → Does
 dls i r = goes (put 14 (reg i.n.value r) r)
 
--- past a loop that has nothing to do, or into it
+-- T23: WLS and WLSTP go past a loop that has nothing to do, or into it (DDI0553, "WLS, DLS, WLSTP, DLSTP")
 abbrev pub enter : ℕ → ℕ → (Regs → Regs) → Regs → Does
 enter count v into r = cond (nat_eq count 0) (branch_if true (2 * v) r) (goes (into (put 14 count r)))
 
@@ -44,15 +44,15 @@ dlstp i r = goes (put_size i.z.value (put 14 (reg i.n.value r) r))
 abbrev pub wlstp : Wlstp → Regs → Does
 wlstp i r = enter (reg i.n.value r) i.v.value (put_size i.z.value) r
 
--- no more than a step is left: it falls through and leaves lr. Else lr is lowered, and it branches backward.
+-- T23: where no more than a step is left, LE and LETP fall through and leave lr; else lr is lowered, and they branch backward (DDI0553, "LE, LETP")
 abbrev pub again : ℕ → ℕ → (Regs → Regs) → Regs → Does
 again step v out r = let left = reg 14 r in cond (nat_le left step) (goes (out r)) (back v (put 14 (left - step) r))
 
--- how much an iteration takes off: the elements of a vector, of the size that LTPSIZE says, or one where it says none
+-- T23: how much an iteration takes off: the elements of a vector, of the size that LTPSIZE says, or one where it says none (DDI0553, "LE, LETP")
 abbrev pub elements : Regs → ℕ
 elements r = let size = value_at Ltp r in cond (nat_lt size 4) (2 ^ (4 - size)) 1
 
--- le lr is no end for a loop over elements
+-- T23: LE and LETP; LE with lr is no end for a loop over elements (DDI0553, "LE, LETP")
 abbrev pub loop_end_row : LoopEndName → ℕ → Regs → Does
 loop_end_row loop_end.LeLr v r = cond (r.fpca && not (nat_eq (value_at Ltp r) 4)) (Faults InvState r.pc) (again 1 v (λ q. q) r)
 loop_end_row loop_end.Letp v r = again (elements r) v (put_size 4) r
@@ -67,12 +67,12 @@ t23 (t23_.Wlstp i) r = wlstp i r
 t23 (t23_.End i) r = loop_end_row i.name i.v.value r
 t23 t23_.Lctp r = goes (put_size 4 r)
 
--- which of them begin or end a loop over elements
+-- T23: whether an end of a loop is LETP (DDI0553, "LE, LETP")
 abbrev pub is_letp : LoopEndName → Bool
 is_letp loop_end.Letp = true
 is_letp name = false
 
--- whether it begins or ends a loop over elements: DLSTP, WLSTP and LETP
+-- T23: whether it begins or ends a loop over elements: DLSTP, WLSTP and LETP (DDI0553, "WLS, DLS, WLSTP, DLSTP" and "LE, LETP")
 abbrev pub loops_over_elements : T23 → Bool
 loops_over_elements (t23_.Dlstp i) = true
 loops_over_elements (t23_.Wlstp i) = true

@@ -29,7 +29,7 @@ flag_at k b = cond b (2 ^ k) 0
 abbrev pub apsr : Regs → ℕ
 apsr r = flag_at 31 r.n + flag_at 30 r.z + flag_at 29 r.c + flag_at 28 r.v + flag_at 27 r.q
 
--- T18: what each special register reads as; CONTROL has in bit 1 whether the process stack is in use, and FPCA in bit 2
+-- T18: what each special register reads as by MRS; CONTROL has in bit 1 whether the process stack is in use, and FPCA in bit 2 (DDI0553, "MRS")
 abbrev pub special : ReadName → Regs → ℕ
 special read.Apsr r = apsr r
 special read.Ipsr r = r.ipsr
@@ -59,7 +59,8 @@ exchanged b r = record r { sp = r.other; other = r.sp; spsel = b }
 abbrev pub selected : Bool → Regs → Regs
 selected b r = cond (beq b r.spsel) r (exchanged b r)
 
--- T18: a special register gets the bits of a word that it has: BASEPRI bits 7:5, and CONTROL of a thread bit 1; a handler leaves CONTROL
+-- T18: a special register gets by MSR the bits of a word that it has: BASEPRI bits 7:5, and CONTROL of a thread bit 1; a handler leaves
+-- CONTROL (DDI0553, "MSR (register)")
 abbrev pub with_special : WrittenName → ℕ → Regs → Regs
 with_special written.Apsr x r = record (with_flags x r) { q = bit_is_set x 27 }
 with_special written.Msp x r = with_main x r
@@ -77,7 +78,7 @@ t18 (t18_.Write i) r = with_special i.name (reg i.n.value r) r
 abbrev pub with_low : ℕ → ℕ → ℕ → ℕ
 with_low k x w = w / 2 ^ k * 2 ^ k + x % 2 ^ k
 
--- of FPSCR bits 31 to 27 are written, of VPR bits 23 to 0. FPSCR is read to 15 as flags
+-- T21: VMRS and VMSR: of FPSCR bits 31 to 27 are written, of VPR bits 23 to 0; FPSCR is read to 15 as flags (DDI0553, "VMRS" and "VMSR")
 abbrev pub system_move : SystemMoveName → ℕ → Regs → Regs
 system_move move.ReadFpscr t r = cond (nat_eq t 15) (with_flags r.fpscr r) (put t r.fpscr r)
 system_move move.ReadVpr t r = put t r.vpr r
@@ -90,7 +91,8 @@ system_move move.WriteP0 t r = record r { vpr = with_low 16 (reg t r) r.vpr }
 abbrev pub t21 : T21 → Regs → Regs
 t21 i r = system_move i.name i.t.value r
 
--- word k of the vector registers
+-- T22: VMOV to word k of the vector registers and from it
+-- (DDI0553, "VMOV (general-purpose register to vector lane)" and "VMOV (vector lane to general-purpose register)")
 abbrev pub lane_move : LaneMoveName → ℕ → ℕ → Regs → Regs
 lane_move lane.ToLane k t r = with_value (QWord k) (reg t r) r
 lane_move lane.FromLane k t r = put t (value_at (QWord k) r) r
