@@ -91,6 +91,11 @@ first_none image m h =
     let there = exists (flash_byte image) in
     no_acts m.acts (ap (λ (r : Run). map stacked_of r.machine.acts) (h.now there.0 there.1))
 
+pub first_entered : (image : List Segment) (m : Shown) → Shows image (bare []) 0 m → m.entries ≡ 0
+first_entered image m h =
+    let there = exists (flash_byte image) in
+    h.count there.0 there.1
+
 pub first_sound : (image : List Segment) (m : Shown) → Shows image (bare []) 0 m → IsSound (bare []) (run_of m []).machine
 first_sound image m h =
     let there = exists (flash_byte image) in

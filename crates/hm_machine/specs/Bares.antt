@@ -16,11 +16,12 @@ pub record ShowsGiven (image : List Segment) (given : List TickLine) (m : Shown)
   pub bytes : flash_at m.memory ≡ flash_byte image
   pub now : (listing : Listing) → IsListing (flash_byte image) listing → timed_of m ≡ after_ticks (bare_program listing) given (begin image (bare []))
 
--- Its schedule has no entries, an empty region, the lowest floor, and no lines; nothing is interrupted in it; and it shows an image after some
--- given ticks.
+-- Its schedule has no entries, an empty region, the lowest floor, and no lines; nothing is interrupted in it, and no exception entered; and it
+-- shows an image after some given ticks.
 pub record IsBare (m : Shown) : Type 0 where
   pub plan : m.schedule ≡ bare []
   pub acts : m.acts ≡ []
+  pub none : m.entries ≡ 0
   pub made : (image : List Segment) × (given : List TickLine) × ShowsGiven image given m
 
 -- whether a run that goes on stands where O and then Y go on too

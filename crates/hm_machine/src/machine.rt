@@ -182,14 +182,15 @@ impl Machine {
         self.cpu.window
     }
 
-    /// The ticks that were begun.
+    /// How many ticks were begun, at most 16,777,216.
     pub fn ticks(&self) -> u32
-        ensures { result ≡ (timed_of self.now).ticks }
+        ensures value { result ≡ (timed_of self.now).ticks }
+        ensures most { result ≤ most_ticks }
     {
         self.ticks
     }
 
-    /// The exceptions that entered.
+    /// How many exceptions entered.
     pub fn entries(&self) -> u32
         ensures value { result ≡ self.now.entries }
         ensures most { result ≤ self.now.ticks }
@@ -251,12 +252,12 @@ impl Machine {
     {
         self.ticks += 1;
         let line = line_at(&self.schedule, self.cursor);
-        let entries = self.schedule.entries();
+        let may_enter = self.schedule.entries();
         match tick(
             self.ticks,
             line.letters.as_slice(),
             &line.irq,
-            entries,
+            may_enter,
             &mut self.cpu,
         ) {
             Err(outcome) => self.outcome = Some(outcome),

@@ -20,7 +20,7 @@ abbrev pub tick_in : Form → Listing → Past → Mark → Timed → List ℕ
 tick_in Lines listing p mark y = tick_line listing p mark y
 tick_in Page listing p mark y = tick_rows listing p mark y
 
--- the tick between two runs, the first of those that are left, in a form
+-- in a form, the tick that leads from one run to the next; its line is the first of those that are left
 abbrev pub tick_between : Form → Listing → List TickLine → Run → Run → List ℕ
 tick_between form listing left x y = tick_in form listing (past_at (first_line left) (shown x)) (mark_between x y) (shown y)
 

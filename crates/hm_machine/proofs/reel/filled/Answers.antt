@@ -68,7 +68,7 @@ loop-k-preserved c =
       fixed = same ∙ before.fixed;
       reached = more_apart c.loop-k.reached c.args.apart c.loop-k._k before.reached;
       small = let less = c.requires.small in omega (arith, small, less);
-      begun = let ticks = c.if-ticks-reached.false in let are = c.ticks.ensures in omega (arith, ticks, are);
+      begun = let ticks = c.if-ticks-reached.false in let are = c.ticks.ensures.value in omega (arith, ticks, are);
     }
 
 pub returns-clause-goes_on : goal.returns-clause-goes_on
@@ -135,7 +135,7 @@ returns-then-ticks-reached-clause-all c =
     let image = c.requires.start.0 in
     let s = c.requires.start.1 in
     let ticks = c.if-ticks-reached.true in
-    let are = c.ticks.ensures in
+    let are = c.ticks.ensures.value in
     let less : c.pass.new.machine.ticks < c.loop-k.reached + c.args.apart = omega (arith, ticks, are) in
     let is : c.loop-k.reached + c.args.apart ≡ length c.loop-k.kept.items * c.args.apart = before.reached ∙ ap (λ (k : ℕ). k * c.args.apart) (sym many) in
     let on = c.pass.ensures.shows image s c.loop-k.reached (before.shows image s c.requires.start.2) in

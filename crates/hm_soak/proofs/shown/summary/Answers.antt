@@ -28,7 +28,7 @@ returns-clause-line c =
     line_ok c.args.number c.in_ok-image.image c.run_counting-entries.new.machine c.in_ok-plainly.plainly c.retired.result c.ticks.result c.run_counting-entries.result c.same_shown-same.result c.line.result
     c.in_ok-image.ensures.image (c.run_counting-entries.ensures.over c.in_ok-image.image schedule begins) (c.run_counting-entries.ensures.entered c.in_ok-image.image schedule begins) c.in_ok-plainly.ensures.over
     (means_same _ _ c.run_counting-entries.new.machine c.in_ok-plainly.plainly _ _ c.same_shown-same.result c.regs.ensures c.regs-2.ensures c.output.ensures c.output-2.ensures c.same_shown-same.ensures.same)
-    c.retired.ensures c.ticks.ensures c.line.ensures.value
+    c.retired.ensures c.ticks.ensures.value c.line.ensures.value
 
 pub returns-clause-equal : goal.returns-clause-equal
 returns-clause-equal c = equal_ok c.args.number c.line.result (returns-clause-line c)

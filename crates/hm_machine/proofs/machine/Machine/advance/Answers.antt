@@ -56,7 +56,7 @@ returns-in-Err-clause-next c =
     let running : inside.outcome ≡ None = ap (λ (v : Shown). v.outcome) c.self.view_is ∙ c.requires.running in
     let s = inside.schedule in
     let line = line_of c.line_at-line.result.now in
-    let did = c.in-Err.ensures.value listing s line inside.ticks es is (sym c.entries-entries.ensures.value) (sym c.as_slice.ensures.value) refl refl (c.self.invariant.sound running) in
+    let did = c.in-Err.ensures.value listing s line inside.ticks es is (sym c.entries-may_enter.ensures.value) (sym c.as_slice.ensures.value) refl refl (c.self.invariant.sound running) in
     subst (λ (r : Run). run_with (Some c.in-Err.outcome) (nested_of c.tick.new.x) (inside.ticks + 1) r.entries ≡ r) (next_is listing inside running line es c.line_at-line.ensures.first)
     (comes_ended listing s line (drop 1 (left_at s.lines inside.cursor)) (run_with None (nested_of inside.cpu) inside.ticks es) refl c.in-Err.outcome (nested_of c.tick.new.x) (inside.ticks + 1) did.0))
 
@@ -66,7 +66,7 @@ returns-in-Err-clause-entries c =
     let inside = c.self.inside in
     let running : inside.outcome ≡ None = ap (λ (v : Shown). v.outcome) c.self.view_is ∙ c.requires.running in
     let line = line_of c.line_at-line.result.now in
-    let did = c.in-Err.ensures.value listing inside.schedule line inside.ticks es is (sym c.entries-entries.ensures.value) (sym c.as_slice.ensures.value) refl refl (c.self.invariant.sound running) in
+    let did = c.in-Err.ensures.value listing inside.schedule line inside.ticks es is (sym c.entries-may_enter.ensures.value) (sym c.as_slice.ensures.value) refl refl (c.self.invariant.sound running) in
     counted listing inside running line es c.line_at-line.ensures.first (Err c.in-Err.outcome) (nested_of c.tick.new.x) (inside.ticks + 1) inside.entries did (omega arith))
 
 pub returns-in-Some-clause-next : goal.returns-in-Some-clause-next
@@ -78,7 +78,7 @@ returns-in-Some-clause-next c =
     let left = left_at s.lines inside.cursor in
     let line = line_of c.line_at-line.result.now in
     let before = run_with None (nested_of inside.cpu) inside.ticks es in
-    let did = c.in-Ok.ensures.value listing s line inside.ticks es is (sym c.entries-entries.ensures.value) (sym c.as_slice.ensures.value) refl refl (c.self.invariant.sound running) in
+    let did = c.in-Ok.ensures.value listing s line inside.ticks es is (sym c.entries-may_enter.ensures.value) (sym c.as_slice.ensures.value) refl refl (c.self.invariant.sound running) in
     subst (λ (r : Run). run_with inside.outcome (nested_of c.tick.new.x) (inside.ticks + 1) r.entries ≡ r) (next_is listing inside running line es c.line_at-line.ensures.first)
     (subst (λ (o : _). run_with o (nested_of c.tick.new.x) (inside.ticks + 1) (next listing s (line ∷ drop 1 left) before).entries ≡ next listing s (line ∷ drop 1 left) before) (sym running)
     (comes_on listing s line (drop 1 left) before refl (nested_of c.tick.new.x) (inside.ticks + 1)
@@ -91,7 +91,7 @@ returns-in-Some-clause-entries c =
     let inside = c.self.inside in
     let running : inside.outcome ≡ None = ap (λ (v : Shown). v.outcome) c.self.view_is ∙ c.requires.running in
     let line = line_of c.line_at-line.result.now in
-    let did = c.in-Ok.ensures.value listing inside.schedule line inside.ticks es is (sym c.entries-entries.ensures.value) (sym c.as_slice.ensures.value) refl refl (c.self.invariant.sound running) in
+    let did = c.in-Ok.ensures.value listing inside.schedule line inside.ticks es is (sym c.entries-may_enter.ensures.value) (sym c.as_slice.ensures.value) refl refl (c.self.invariant.sound running) in
     counted listing inside running line es c.line_at-line.ensures.first (Ok c.in-Ok.entered) (nested_of c.tick.new.x) (inside.ticks + 1) _ did (ap (λ (n : ℕ). inside.entries + n) c.entered_once.ensures))
 
 pub returns-in-None-clause-next : goal.returns-in-None-clause-next
@@ -101,7 +101,7 @@ returns-in-None-clause-next c =
     let running : inside.outcome ≡ None = ap (λ (v : Shown). v.outcome) c.self.view_is ∙ c.requires.running in
     let s = inside.schedule in
     let line = line_of c.line_at-line.result.now in
-    let did = c.in-Ok.ensures.value listing s line inside.ticks es is (sym c.entries-entries.ensures.value) (sym c.as_slice.ensures.value) refl refl (c.self.invariant.sound running) in
+    let did = c.in-Ok.ensures.value listing s line inside.ticks es is (sym c.entries-may_enter.ensures.value) (sym c.as_slice.ensures.value) refl refl (c.self.invariant.sound running) in
     subst (λ (r : Run). run_with (Some outcome.OutOfTicks) (nested_of c.tick.new.x) (inside.ticks + 1) r.entries ≡ r) (next_is listing inside running line es c.line_at-line.ensures.first)
     (comes_out listing s line (drop 1 (left_at s.lines inside.cursor)) (run_with None (nested_of inside.cpu) inside.ticks es) refl (nested_of c.tick.new.x) (inside.ticks + 1) c.in-None.ensures.none did.0))
 
@@ -111,7 +111,7 @@ returns-in-None-clause-entries c =
     let inside = c.self.inside in
     let running : inside.outcome ≡ None = ap (λ (v : Shown). v.outcome) c.self.view_is ∙ c.requires.running in
     let line = line_of c.line_at-line.result.now in
-    let did = c.in-Ok.ensures.value listing inside.schedule line inside.ticks es is (sym c.entries-entries.ensures.value) (sym c.as_slice.ensures.value) refl refl (c.self.invariant.sound running) in
+    let did = c.in-Ok.ensures.value listing inside.schedule line inside.ticks es is (sym c.entries-may_enter.ensures.value) (sym c.as_slice.ensures.value) refl refl (c.self.invariant.sound running) in
     counted listing inside running line es c.line_at-line.ensures.first (Ok c.in-Ok.entered) (nested_of c.tick.new.x) (inside.ticks + 1) _ did (ap (λ (n : ℕ). inside.entries + n) c.entered_once.ensures))
 
 -- at most one enters
@@ -128,7 +128,7 @@ invariant_of-self-in-Some c =
     let line = line_of c.line_at-line.result.now in
     let before = run_with None (nested_of inside.cpu) inside.ticks [] in
     let there = exists (flash_at (memory_of inside.cpu.mem)) in
-    let did = c.in-Ok.ensures.value there.0 s line inside.ticks [] there.1 (sym c.entries-entries.ensures.value) (sym c.as_slice.ensures.value) refl refl (c.self.invariant.sound running) in
+    let did = c.in-Ok.ensures.value there.0 s line inside.ticks [] there.1 (sym c.entries-may_enter.ensures.value) (sym c.as_slice.ensures.value) refl refl (c.self.invariant.sound running) in
     let more = subst (λ (l : List TickLine). 0 < length l) c.in-Some.ensures.left
     (some_left (drop c.in-Some.cursor.line s.lines) c.in-Some.cursor.used c.in-Some.ensures.stands) in
     let first : length left ≡ suc (length (drop 1 left)) = ap length c.line_at-line.ensures.first in

@@ -1,5 +1,5 @@
 use Rattle.std.proofs.Common.{sym, subst, []}
-use Rattle.hm_machine.proofs.Bares.{first_given, first_none}
+use Rattle.hm_machine.proofs.Bares.{first_entered, first_given, first_none}
 use Rattle.hm_machine.specs.Bares.{IsBare, ShowsGiven}
 use Rattle.hm_machine.specs.Shown.{Shows}
 use Rattle.hm_sched.specs.Schedule.{Sched}
@@ -19,6 +19,7 @@ returns-clause-bare c =
     subst IsBare (sym is) (record {
       plan = shows.plan;
       acts = first_none image c.in_ok-machine.machine shows;
+      none = first_entered image c.in_ok-machine.machine shows;
       made = (image, [], subst (ShowsGiven image []) is given);
     })
 

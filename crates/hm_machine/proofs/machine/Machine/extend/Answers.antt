@@ -102,6 +102,7 @@ returns-in-Ok-clause-bare c =
     record {
       plan = ap (λ (v : Shown). v.schedule) c.self.view_is ∙ c.requires.bare.plan;
       acts = still_none there.0 line c.args.self.now (newest_first c.tick.new.x.acts) c.requires.bare (ap (λ (x : Timed). x.acts) (returns-in-Ok-clause-next c there.0 line there.1 refl refl));
+      none = ap (λ (v : Shown). v.entries) c.self.view_is ∙ c.requires.bare.none;
       made = (made.0, made.1 ++ line ∷ [], returns-in-Ok-clause-shows c made.0 made.1 line refl refl made.2);
     }
 
@@ -130,5 +131,6 @@ returns-in-Err-clause-bare c =
     record {
       plan = ap (λ (v : Shown). v.schedule) c.self.view_is ∙ c.requires.bare.plan;
       acts = still_none there.0 line c.args.self.now (newest_first c.tick.new.x.acts) c.requires.bare (ap (λ (x : Timed). x.acts) (returns-in-Err-clause-next c there.0 line there.1 refl refl));
+      none = ap (λ (v : Shown). v.entries) c.self.view_is ∙ c.requires.bare.none;
       made = (made.0, made.1 ++ line ∷ [], returns-in-Err-clause-shows c made.0 made.1 line refl refl made.2);
     }

@@ -58,7 +58,7 @@ invariant_of-result c = record {
 pub returns-clause-tapes : goal.returns-clause-tapes
 returns-clause-tapes c = record {
   start = subst (Shows c.args.image.now c.args.s 0) (sym (first c)) c.in_ok-machine.ensures.shows;
-  last = λ listing is. sym (ap (λ (r : Run). r.ticks) ((ends c).now listing is)) ∙ sym c.ticks-last.ensures;
+  last = λ listing is. sym (ap (λ (r : Run). r.ticks) ((ends c).now listing is)) ∙ sym c.ticks-last.ensures.value;
 }
 
 pub returns-clause-apart : goal.returns-clause-apart
@@ -75,7 +75,7 @@ returns-clause-reached c =
     let some = did.some in
     let low = did.reached in
     let more = (grown c).1 in
-    let last = c.ticks-last.ensures in
+    let last = c.ticks-last.ensures.value in
     let apart = returns-clause-apart c in
     let most = ticks_most c.args.image.now c.args.s (length (ticks_of c.args.s.lines)) (end c) (ends c) in
     long_mapped (machine_at (fixed_of (end c)) c.in_ok-output.output.items) (checkpoints c)
