@@ -1,0 +1,100 @@
+//! What a vector instruction answers, by its text.
+
+use crate::words::{Broken, Named, Stopped, number};
+use anyhow::{Context, Result, bail, ensure};
+use hm_base::{Places, Stop};
+use hm_beat::BeatWise;
+use hm_exec::{Any, any, refuse};
+use hm_isa::{Instr, Vector};
+use hm_mem::Mem;
+use hm_regs::Regs;
+use hm_text::{Labels, parse_instr};
+use hm_window::{Window, lawful};
+use std::alloc::Global;
+use std::str::SplitWhitespace;
+
+/// The vector instruction of a text; none where the instruction is no vector one.
+fn vector(alloc: Global, text: &str) -> Result<Option<Vector>> {
+    match parse_instr(text.as_bytes(), 8, &Labels::new(alloc)) {
+        Ok(Instr::Vector(vector)) => Ok(Some(vector)),
+        Ok(_) => Ok(None),
+        Err(e) => bail!("{text}: {e:?}"),
+    }
+}
+
+/// The vector instruction of a text, to be done by beats; none where the instruction is no vector one.
+fn row(alloc: Global, text: &str) -> Result<Option<Any>> {
+    match vector(alloc, text)? {
+        Some(vector) => Ok(Some(any(&vector))),
+        None => Ok(None),
+    }
+}
+
+/// Adds the names of places.
+fn push_places(alloc: Global, text: &mut String, places: &Places) -> Result<()> {
+    for k in 0..places.len() {
+        text.push_str(&format!(in alloc; " {}", Named(places.at(k)))?)?;
+    }
+    Ok(())
+}
+
+/// The places that a beat of an instruction reads and writes: VPR, FPSCR and beat.
+pub fn touched(alloc: Global, text: &str, words: &mut SplitWhitespace<'_>) -> Result<String> {
+    let row = row(alloc, text)?.context("no vector instruction")?;
+    let vpr = number(words)?;
+    let fpscr = number(words)?;
+    let beat = number(words)?;
+    ensure!(beat < 4, "no beat");
+    let mut regs = Regs::start(0, 8);
+    regs.fpca = true;
+    regs.vpr = vpr;
+    regs.fpscr = fpscr;
+    let touch = row.touch(beat as u8, &regs);
+    let mut text = String::from_str(alloc, "reads")?;
+    push_places(alloc, &mut text, &touch.reads)?;
+    text.push_str(" writes")?;
+    push_places(alloc, &mut text, &touch.writes)?;
+    Ok(text)
+}
+
+/// Whether the next beat of the younger of two instructions, with `|` between them, may be done: the beats done of each, r0 and r1.
+pub fn overlapped(
+    alloc: Global,
+    texts: &str,
+    words: &mut SplitWhitespace<'_>,
+    mem: &Mem,
+) -> Result<String> {
+    let (older, younger) = texts.split_once(" | ").context("no two instructions")?;
+    let older = row(alloc, older)?;
+    let younger = row(alloc, younger)?;
+    let a = number(words)?;
+    let b = number(words)?;
+    let r0 = number(words)?;
+    let r1 = number(words)?;
+    ensure!(a < 4 && b < 4, "no position");
+    let at = Window {
+        a: a as u8,
+        b: b as u8,
+    };
+    let mut regs = Regs::start(0, 8);
+    regs.fpca = true;
+    regs.r[0] = r0;
+    regs.r[1] = r1;
+    match lawful(at, older.as_ref(), younger.as_ref(), &regs, mem) {
+        Ok(()) => Ok(String::from_str(alloc, "lawful")?),
+        Err(rule) => Ok(format!(in alloc; "{}", Broken(rule))?),
+    }
+}
+
+/// Whether an instruction is refused before its first beat: FPSCR and lr.
+pub fn refused(alloc: Global, text: &str, words: &mut SplitWhitespace<'_>) -> Result<String> {
+    let vector = vector(alloc, text)?.context("no vector instruction")?;
+    let mut regs = Regs::start(0, 8);
+    regs.fpca = true;
+    regs.fpscr = number(words)?;
+    regs.lr = number(words)?;
+    match refuse(&vector, &regs) {
+        Some(fault) => Ok(format!(in alloc; "{}", Stopped(Stop::Fault(fault)))?),
+        None => Ok(String::from_str(alloc, "none")?),
+    }
+}
