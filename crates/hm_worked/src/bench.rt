@@ -1,9 +1,9 @@
 //! What lines of a file are done on.
 
 use crate::accesses::{actor, blank, checked, loaded, stored};
-use crate::codes::{overlapped, refused, touched};
 use crate::runs::{bytes_text, has_line, schedule_text, shown, started, taint_text};
 use crate::tapes::taped;
+use crate::vectors::{overlapped, refused, touched};
 use crate::words::{lines_of, number};
 use anyhow::{Context, Result, bail};
 use hm_isa::{Below, Instr, S18, Scalar, width};
@@ -49,14 +49,28 @@ fn below_eight(alloc: Global, words: &mut SplitWhitespace<'_>) -> Result<String>
     }
 }
 
-/// What a code answers, of a vector instruction that needs no memory.
-fn code_answer(alloc: Global, ask: &str, words: &mut SplitWhitespace<'_>) -> Result<String> {
+/// What a number answers.
+fn number_answer(alloc: Global, ask: &str, words: &mut SplitWhitespace<'_>) -> Result<String> {
     match ask {
-        "touch" => touched(alloc, words),
-        "refused" => refused(alloc, words),
         "breakpoint_width" => breakpoint_width(alloc, words),
         "below_8" => below_eight(alloc, words),
         _ => bail!("no question"),
+    }
+}
+
+/// What instructions answer, whose texts stand before numbers.
+fn instruction_answer(
+    alloc: Global,
+    ask: &str,
+    text: &str,
+    memory: Option<&Mem>,
+) -> Result<String> {
+    let (instructions, numbers) = text.split_once(": ").context("no numbers")?;
+    let words = &mut numbers.split_whitespace();
+    match ask {
+        "touch" => touched(alloc, instructions, words),
+        "refused" => refused(alloc, instructions, words),
+        _ => overlapped(alloc, instructions, words, memory.context("no memory")?),
     }
 }
 
@@ -71,8 +85,7 @@ fn memory_answer(
         "check_load" => checked(alloc, words, memory, false),
         "check_store" => checked(alloc, words, memory, true),
         "load" => loaded(alloc, words, memory),
-        "store" => stored(alloc, words, memory),
-        _ => overlapped(alloc, words, memory),
+        _ => stored(alloc, words, memory),
     }
 }
 
@@ -215,13 +228,16 @@ impl Bench {
             | "older_steps"
             | "output"
             | "memory_file" => { self.report_answer(alloc, ask, text) }
-            "check_load" | "check_store" | "load" | "store" | "overlap" => {
+            "touch" | "refused" | "overlap" => {
+                instruction_answer(alloc, ask, text, self.memory.as_ref())
+            }
+            "check_load" | "check_store" | "load" | "store" => {
                 let memory = self.memory.as_mut().context("no memory")?;
                 memory_answer(alloc, ask, &mut text.split_whitespace(), memory)
             }
             "schedule" => schedule_text(alloc, &self.schedule(alloc, text)?),
             "tape" => taped(alloc, text, &self.source, &self.schedule),
-            _ => code_answer(alloc, ask, &mut text.split_whitespace()),
+            _ => number_answer(alloc, ask, &mut text.split_whitespace()),
         }
     }
 }

@@ -3,9 +3,9 @@
 
 mod accesses;
 mod bench;
-mod codes;
 mod runs;
 mod tapes;
+mod vectors;
 mod words;
 
 use anyhow::{Context, Result};

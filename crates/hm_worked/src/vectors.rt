@@ -13,11 +13,18 @@ use hm_window::{Window, lawful};
 use std::alloc::Global;
 use std::str::SplitWhitespace;
 
+/// An instruction that is a vector one.
+fn vector_of(i: Instr) -> Option<Vector> {
+    match i {
+        Instr::Vector(vector) => Some(vector),
+        Instr::Scalar(_) | Instr::Branch(_) => None,
+    }
+}
+
 /// The vector instruction of a text; none where the instruction is no vector one.
 fn vector(alloc: Global, text: &str) -> Result<Option<Vector>> {
     match parse_instr(text.as_bytes(), 8, &Labels::new(alloc)) {
-        Ok(Instr::Vector(vector)) => Ok(Some(vector)),
-        Ok(_) => Ok(None),
+        Ok(i) => Ok(vector_of(i)),
         Err(e) => bail!("{text}: {e:?}"),
     }
 }
