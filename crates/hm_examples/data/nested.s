@@ -1,5 +1,5 @@
 @ Two handlers of two priorities, the less urgent one with vector code. The schedule's floor leaves room for the thread's frame and for one without a
-@ context of vector registers above it: where the second interrupts the first inside its vector code, the frame does not fit.
+@ context of vector registers stacked on it: where the second interrupts the first inside its vector code, the frame does not fit.
 .word 0x20010000, start+1
 .org 0x40
 .word slow+1, quick+1

@@ -21,6 +21,8 @@ struct Quiet;
 
 impl Progress for Quiet {
     fn done(&mut self, _runs: u32) {}
+
+    fn shortening(&mut self, _kind: Kind, _interrupts: usize) {}
 }
 
 /// Whether two shakes wrote the same files.
@@ -71,8 +73,12 @@ pub fn write_shake<W: Write>(
     let mut quiet = Quiet;
     let found = shake(alloc, image, schedule, RUNS, SEED, &mut quiet)?;
     let again = shake(alloc, image, schedule, RUNS, SEED, &mut quiet)?;
-    ensure!(same_files(&found, &again), "a seed gives two answers");
-    out.write_all(&counts_text(alloc, found.plain, &found.kinds)?)?;
+    let counts = counts_text(alloc, found.plain, &found.kinds)?;
+    ensure!(
+        counts == counts_text(alloc, again.plain, &again.kinds)? && same_files(&found, &again),
+        "a seed gives two answers"
+    );
+    out.write_all(&counts)?;
     for written in &found.files {
         write_found(out, alloc, image, written)?;
     }

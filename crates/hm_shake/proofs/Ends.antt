@@ -1,5 +1,5 @@
 -- How a run ended, by the machine that shows it.
-use Rattle.std.proofs.Common.{◌≡◌, ℕ, List, length, ap, refl, sym, subst, ◌∙◌, Bool, true, false, Option, Some, None}
+use Rattle.std.proofs.Common.{◌≡◌, ◌≢◌, ℕ, List, length, ap, refl, sym, subst, ◌∙◌, true, Option, Some, None}
 use Rattle.std.specs.Prelude.{IfSome}
 use Rattle.hm_base.specs.Image.{Segment, flash_byte}
 use Rattle.hm_codes.specs.Listing.{IsListing, Listing}
@@ -13,9 +13,10 @@ use Rattle.hm_run.specs.declared.Offence.TheVariants as offence
 use Rattle.hm_exc.specs.declared.types.Broken.TheVariants as broken
 use Rattle.hm_run.specs.declared.Reason.{Reason}
 use Rattle.hm_sched.specs.Schedule.{Sched, ticks_of}
-use Rattle.hm_shake.specs.Ends.{EndsAs, Halts, ended_under, kind_or}
+use Rattle.hm_shake.specs.Ends.{EndsAs, Halts, ended_under, ends_in, kind_or}
 use Rattle.hm_shake.specs.Kinds.{is_halt}
 use Rattle.hm_shake_runs.proofs.Cutting.{cut_same}
+use Rattle.hm_shake_runs.proofs.Letters.{breaks_no_rule, shaken_older}
 use Rattle.hm_shake_runs.specs.Heads.{bare}
 use Rattle.hm_shake_runs.specs.Kinds.{kind_of}
 use Rattle.hm_shake_runs.specs.Stretches.{cut, with_stretches}
@@ -23,6 +24,10 @@ use Rattle.hm_shake_runs.specs.declared.head.Head.{Head}
 use Rattle.hm_shake_runs.specs.declared.stretches.Stretch.{Stretch}
 use Rattle.hm_shake_runs.specs.declared.kinds.Ended.{Ended}
 use Rattle.hm_shake_runs.specs.declared.kinds.Kind.{Kind}
+use Rattle.hm_shake_runs.specs.declared.kinds.Kind.TheVariants as kind
+use Rattle.hm_shake_runs.specs.declared.plan.Plan.{Plan}
+use Rattle.hm_shake_runs.specs.Shaken.{shaken_schedule}
+use Rattle.hm_window.specs.declared.rule.Rule.{Rule}
 
 abbrev ended_in : Run → Ended
 ended_in x = record { kind = kind_or x.outcome; ticks = x.ticks }
@@ -70,6 +75,31 @@ halted_so (Some (outcome.TaintedRead t pc addr)) h = absurd cc
 halted_so (Some (outcome.StackSpent t sp)) h = absurd cc
 halted_so (Some (outcome.OutputFull t)) h = absurd cc
 halted_so (Some outcome.OutOfTicks) h = absurd cc
+
+-- the kind of an outcome that is no broken rule is another
+no_rule : (o : Outcome) → ((t step : ℕ) (r : Rule) → o ≢ outcome.RuleBroken t step r) → kind_of o ≢ kind.Rule
+no_rule (outcome.Halted reason n) none e = absurd cc
+no_rule (outcome.Fault who f pc n) none e = absurd cc
+no_rule (outcome.RuleBroken t step r) none e = none t step r refl
+no_rule (outcome.HandlerBroken t (offence.Left (broken.ExcReturn value))) none e = absurd cc
+no_rule (outcome.HandlerBroken t (offence.Left (broken.Register name entry now))) none e = absurd cc
+no_rule (outcome.HandlerBroken t (offence.Left (broken.Frame addr))) none e = absurd cc
+no_rule (outcome.HandlerBroken t (offence.Store addr)) none e = absurd cc
+no_rule (outcome.HandlerBroken t (offence.Call pc)) none e = absurd cc
+no_rule (outcome.TaintedRead t pc addr) none e = absurd cc
+no_rule (outcome.StackSpent t sp) none e = absurd cc
+no_rule (outcome.OutputFull t) none e = absurd cc
+no_rule outcome.OutOfTicks none e = absurd cc
+
+-- so is that of each run of a shake
+pub never_rule : (listing : Listing) (image : List Segment) (p : Plan) (h : Head) (irqs : List ℕ) (run : ℕ) → (ends_in listing image p h irqs run).kind ≢ kind.Rule
+unfolding ended_under
+never_rule listing image p h irqs run = go (run_out listing image (shaken_schedule p h irqs run)).outcome refl
+  where
+    go : (o : Option Outcome) → (run_out listing image (shaken_schedule p h irqs run)).outcome ≡ o → kind_or o ≢ kind.Rule
+    go None is e = absurd cc
+    go (Some o) is e =
+        no_rule o (λ t step r same. breaks_no_rule listing (shaken_schedule p h irqs run) image t step r (shaken_older p h irqs run) (is ∙ ap Some same)) e
 
 -- an image shows one report under all schedules under which it halts
 pub one_report : (listing : Listing) (image : List Segment) (s t : Sched) → Halts listing image s → Halts listing image t → report_text (shown_out listing image s) ≡ report_text (shown_out listing image t)

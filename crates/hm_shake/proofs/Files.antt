@@ -1,8 +1,8 @@
 -- Files of kinds, one more.
-use Rattle.std.proofs.Common.{◌≡◌, ℕ, zero, suc, ◌+◌, ◌<◌, ◌≤◌, ◌∙◌, List, [], ◌∷◌, ◌++◌, append_assoc, ap, arith, drop, inl, inr, length, refl, slice_index_or, subst, sym}
+use Rattle.std.proofs.Common.{◌≡◌, ◌≢◌, ℕ, zero, suc, ◌+◌, ◌<◌, ◌≤◌, ◌∙◌, List, [], ◌∷◌, ◌++◌, append_assoc, ap, arith, drop, inl, inr, length}
+use Rattle.std.proofs.Common.{refl, slice_index_or, subst, sym}
 use Rattle.std.proofs.lemmas.List.{append-nil}
 use Rattle.hm_shake.specs.Findings.{AreFiled}
-use Rattle.hm_shake.specs.Kinds.{HasFile}
 use Rattle.hm_shake.specs.declared.filing.Written.{Written}
 use Rattle.hm_shake_runs.specs.declared.found.Found.{Found}
 use Rattle.hm_shake_runs.specs.declared.kinds.Kind.{Kind}
@@ -23,24 +23,27 @@ drop_all [] (suc i) h = refl
 drop_all (x ∷ xs) zero h = absurd (omega arith)
 drop_all (x ∷ xs) (suc i) h = drop_all xs i (omega arith)
 
--- what holds of the files so far: with files of the kinds that are left behind them they are files of all
-abbrev AreSoFar : Kind → List Found → ℕ → List Written → Type 0
-AreSoFar plain kinds i files = (rest : List Written) → AreFiled plain (drop i kinds) rest → AreFiled plain kinds (files ++ rest)
+module _ (Is : Found → Written → Type 0) (plain : Kind) (kinds : List Found) where
+  -- what holds of the files so far: with files of the kinds that are left behind them they are files of all
+  abbrev AreSoFar : ℕ → List Written → Type 0
+  AreSoFar i files = (rest : List Written) → AreFiled Is plain (drop i kinds) rest → AreFiled Is plain kinds (files ++ rest)
 
-pub file_added : (plain : Kind) (kinds : List Found) (i : ℕ) (d : Found) (old new : List Written) (file : Written) → i < length kinds → HasFile (slice_index_or kinds i d).kind plain
-    → file.kind ≡ (slice_index_or kinds i d).kind → new ≡ old ++ file ∷ [] → AreSoFar plain kinds i old → AreSoFar plain kinds (i + 1) new
-file_added plain kinds i d old new file lt has kind is before rest filed =
-    let here : AreFiled plain (drop i kinds) (file ∷ rest) =
-    subst (λ (ks : List Found). AreFiled plain ks (file ∷ rest)) (sym (drop_next kinds i d lt)) (inl (has, file, rest, refl, kind, filed)) in
-    subst (λ (ws : List Written). AreFiled plain kinds ws) (sym (ap (λ (ws : List Written). ws ++ rest) is ∙ append_assoc old (file ∷ []) rest)) (before (file ∷ rest) here)
+  pub file_added : (i : ℕ) (d : Found) (old new : List Written) (file : Written) → i < length kinds → (slice_index_or kinds i d).kind ≢ plain
+      → Is (slice_index_or kinds i d) file → new ≡ old ++ file ∷ [] → AreSoFar i old → AreSoFar (i + 1) new
+  file_added i d old new file lt has filed is before rest more =
+      let here : AreFiled Is plain (drop i kinds) (file ∷ rest) =
+      subst (λ (ks : List Found). AreFiled Is plain ks (file ∷ rest)) (sym (drop_next kinds i d lt)) (inl (has, file, rest, refl, filed, more)) in
+      let all : new ++ rest ≡ old ++ file ∷ rest = ap (λ (ws : List Written). ws ++ rest) is ∙ append_assoc old (file ∷ []) rest in
+      subst (λ (ws : List Written). AreFiled Is plain kinds ws) (sym all) (before (file ∷ rest) here)
 
-pub no_file : (plain : Kind) (kinds : List Found) (i : ℕ) (d : Found) (old new : List Written) → i < length kinds → (HasFile (slice_index_or kinds i d).kind plain → ⊥) → new ≡ old
-    → AreSoFar plain kinds i old → AreSoFar plain kinds (i + 1) new
-no_file plain kinds i d old new lt has_not is before rest filed =
-    let here : AreFiled plain (drop i kinds) rest = subst (λ (ks : List Found). AreFiled plain ks rest) (sym (drop_next kinds i d lt)) (inr (has_not, filed)) in
-    subst (λ (ws : List Written). AreFiled plain kinds (ws ++ rest)) (sym is) (before rest here)
+  pub no_file : (i : ℕ) (d : Found) (old new : List Written) → i < length kinds → (slice_index_or kinds i d).kind ≡ plain → new ≡ old
+      → AreSoFar i old → AreSoFar (i + 1) new
+  no_file i d old new lt same is before rest filed =
+      let here : AreFiled Is plain (drop i kinds) rest =
+      subst (λ (ks : List Found). AreFiled Is plain ks rest) (sym (drop_next kinds i d lt)) (inr (same, filed)) in
+      subst (λ (ws : List Written). AreFiled Is plain kinds (ws ++ rest)) (sym is) (before rest here)
 
-pub all_filed : (plain : Kind) (kinds : List Found) (i : ℕ) (files : List Written) → length kinds ≤ i → AreSoFar plain kinds i files → AreFiled plain kinds files
-all_filed plain kinds i files end so_far =
-    let none : AreFiled plain (drop i kinds) [] = subst (λ (ks : List Found). AreFiled plain ks []) (sym (drop_all kinds i end)) refl in
-    subst (λ (ws : List Written). AreFiled plain kinds ws) (append-nil files) (so_far [] none)
+  pub all_filed : (i : ℕ) (files : List Written) → length kinds ≤ i → AreSoFar i files → AreFiled Is plain kinds files
+  all_filed i files end so_far =
+      let none : AreFiled Is plain (drop i kinds) [] = subst (λ (ks : List Found). AreFiled Is plain ks []) (sym (drop_all kinds i end)) refl in
+      subst (λ (ws : List Written). AreFiled Is plain kinds ws) (append-nil files) (so_far [] none)

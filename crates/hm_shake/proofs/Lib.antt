@@ -1,6 +1,7 @@
 pub mod Ends
 pub mod Fewer
+pub mod Leaving
 pub mod Names
-pub mod Tallies
 pub mod Finding
 pub mod Files
+pub mod Counts

@@ -1,15 +1,13 @@
--- HOW RUNS END, and how often each kind of outcome came.
-use Rattle.std.specs.Prelude.{◌≡◌, ℕ, zero, suc, List, [], Option, Some, None, true}
+-- HOW RUNS END.
+use Rattle.std.specs.Prelude.{◌≡◌, ℕ, List, Option, Some, None, true}
 use Rattle.hm_base.specs.Image.{Segment}
 use Rattle.hm_codes.specs.Listing.{Listing}
 use Rattle.hm_handlers.specs.Runs.{run_out}
 use Rattle.hm_run.specs.declared.Outcome.{Outcome}
 use Rattle.hm_sched.specs.Schedule.{Sched, most_ticks, plain}
 use Rattle.hm_shake.specs.Kinds.{is_halt}
-use Rattle.hm_shake_runs.specs.Found.{IsNoted}
 use Rattle.hm_shake_runs.specs.Kinds.{kind_of}
 use Rattle.hm_shake_runs.specs.Shaken.{shaken_schedule}
-use Rattle.hm_shake_runs.specs.declared.found.Found.{Found}
 use Rattle.hm_shake_runs.specs.declared.head.Head.{Head}
 use Rattle.hm_shake_runs.specs.declared.kinds.Ended.{Ended}
 use Rattle.hm_shake_runs.specs.declared.kinds.Kind.{Kind}
@@ -41,7 +39,6 @@ ended_plain listing image n = ended_under listing image (plain n)
 abbrev pub plain_end : Listing → List Segment → Ended
 plain_end listing image = ended_plain listing image most_ticks
 
--- THE KINDS OF THE FIRST n RUNS: those of the runs before the last, and the last one counted
-abbrev pub IsTallied : Listing → List Segment → Plan → Head → List ℕ → ℕ → List Found → Type 0
-IsTallied listing image p h irqs zero xs = xs ≡ []
-IsTallied listing image p h irqs (suc n) xs = (before : List Found) × IsTallied listing image p h irqs n before × IsNoted (ended_under listing image (shaken_schedule p h irqs n)) n before xs
+-- how the runs of a shake end
+abbrev pub ends_in : Listing → List Segment → Plan → Head → List ℕ → ℕ → Ended
+ends_in listing image p h irqs run = ended_under listing image (shaken_schedule p h irqs run)

@@ -1,5 +1,5 @@
--- TEXTS OF KINDS of outcomes, and which kinds have a file.
-use Rattle.std.specs.Prelude.{◌≢◌, Bool, false, true, ℕ, List, ◌++◌, codes}
+-- TEXTS OF KINDS of outcomes, and which of them halt.
+use Rattle.std.specs.Prelude.{Bool, false, true, ℕ, List, ◌++◌, codes}
 use Rattle.std.specs.Fmt.{decimal}
 use Rattle.hm_run.specs.Report.{kind_text as fault_text, reason_text, slot_text, who_text}
 use Rattle.hm_shake_runs.specs.declared.kinds.Kind.{Kind}
@@ -24,7 +24,3 @@ kind_text kind.Ticks out = out ++ codes "ticks"
 abbrev pub is_halt : Kind → Bool
 is_halt (kind.Halted reason n) = true
 is_halt k = false
-
--- a kind has a file where it is not the plain run's, and not that of runs whose ticks are out, which a schedule of no ticks gives too
-abbrev pub HasFile : Kind → Kind → Type 0
-HasFile k plain = (k ≢ plain) × (k ≢ kind.Ticks)

@@ -2,4 +2,6 @@ pub mod Kinds
 pub mod Ends
 pub mod Texts
 pub mod Repeats
+pub mod Shorter
 pub mod Findings
+pub mod Counts

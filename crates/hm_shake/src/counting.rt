@@ -6,7 +6,8 @@ ghost use Rattle.hm_base.specs.Image.{Segment, flash_byte};
 ghost use Rattle.hm_codes.specs.Listing.{IsListing, Listing};
 ghost use Rattle.hm_handlers.specs.Runs.{shown_out};
 ghost use Rattle.hm_run.specs.Report.{report_text};
-ghost use Rattle.hm_shake.specs.Ends.{IsTallied, ended_under};
+ghost use Rattle.hm_shake.specs.Counts.{AreCounted};
+ghost use Rattle.hm_shake.specs.Ends.{ended_under, ends_in};
 ghost use Rattle.hm_shake.specs.Findings.{CanShake, IsFoundIn, IsReport};
 ghost use Rattle.hm_shake.specs.Kinds.{is_halt};
 ghost use Rattle.hm_shake.specs.Repeats.{Repeats, StandsOver};
@@ -15,13 +16,16 @@ ghost use Rattle.hm_shake_runs.specs.Shaken.{shaken_schedule};
 use crate::ended::is_halted;
 use crate::repeats::Repeater;
 use hm_base::OutOfMemory;
-use hm_shake_runs::{Ended, Found, Head, Plan, Tally, shaken};
+use hm_shake_runs::{Ended, Found, Head, Kind, Plan, Tally, shaken};
 use std::alloc::Global;
 
 /// Who is told how far a shake is.
 pub trait Progress {
     /// So many runs are done.
     fn done(&mut self, runs: u32);
+
+    /// A schedule of this kind of outcome is made shorter, and has so many interrupts left; it is told before each try.
+    fn shortening(&mut self, kind: Kind, interrupts: usize);
 }
 
 /// What is shaken: the head of all schedules, the interrupts that are drawn from, and from what the schedules are made.
@@ -62,7 +66,7 @@ pub fn do_runs<P: Progress>(
     requires repeats { (image : List Segment) × Repeats image given.now.head repeater.old }
     requires sound { CanShake given.now }
     ensures kinds { (image : List Segment) (listing : Listing) → IsListing (flash_byte image) listing → Repeats image given.now.head repeater.old
-        → IfOk result (λ v. IsTallied listing image given.now.plan given.now.head given.now.irqs.items given.now.plan.runs v.items) }
+        → IfOk result (λ v. AreCounted (ends_in listing image given.now.plan given.now.head given.now.irqs.items) given.now.plan.runs v.items) }
     ensures runs { IfOk result (λ v. All (λ x. x.run < given.now.plan.runs) v.items) }
     ensures again { (image : List Segment) → Repeats image given.now.head repeater.old → Repeats image given.now.head repeater.new }
 {

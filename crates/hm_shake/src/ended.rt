@@ -17,13 +17,14 @@ use hm_shake_runs::{Ended, Kind, kind_of};
 use std::alloc::Global;
 
 /// The most ticks that a schedule has.
-pub const MOST_TICKS: u32 = 16_777_216;
+const MOST_TICKS: u32 = 16_777_216;
 
 /// Runs a machine to its end.
 pub fn end_of(machine: &mut Machine) -> Ended
     ensures ended { (image : List Segment) (s : Sched) (listing : Listing) → Shows image s 0 machine.old → IsListing (flash_byte image) listing
         → result ≡ ended_under listing image s }
     ensures shows { (image : List Segment) (s : Sched) → Shows image s 0 machine.old → Shows image s (length (ticks_of s.lines)) machine.new }
+    ensures most { result.ticks ≤ most_ticks }
 {
     let outcome = machine.run();
     Ended {
@@ -63,6 +64,7 @@ fn plain_schedule(alloc: Global, ticks: u32) -> Result<Schedule, OutOfMemory>
 fn ended_plain(alloc: Global, image: &Image, ticks: u32) -> Result<Ended, LoadErr>
     requires few { ticks ≤ most_ticks }
     ensures ended { (listing : Listing) → IsListing (flash_byte image.now) listing → IfOk result (λ e. e ≡ ended_plain listing image.now ticks) }
+    ensures most { IfOk result (λ e. e.ticks ≤ most_ticks) }
     ensures odd { IfOk result (λ _. reset_pc image.now % 2 ≡ 1) }
     ensures refused { IfErr result (λ e. LoadRefuses image.now e) }
 {
@@ -74,6 +76,7 @@ fn ended_plain(alloc: Global, image: &Image, ticks: u32) -> Result<Ended, LoadEr
 /// How the plain run of an image ends. It is refused as by `Machine::load`.
 pub fn plain_end(alloc: Global, image: &Image) -> Result<Ended, LoadErr>
     ensures ended { (listing : Listing) → IsListing (flash_byte image.now) listing → IfOk result (λ e. e ≡ plain_end listing image.now) }
+    ensures most { IfOk result (λ e. e.ticks ≤ most_ticks) }
     ensures odd { IfOk result (λ _. reset_pc image.now % 2 ≡ 1) }
     ensures refused { IfErr result (λ e. LoadRefuses image.now e) }
 {

@@ -1,14 +1,13 @@
 //! The files of a shake: a short schedule for each kind of outcome that is not the plain run's.
 
-ghost use Rattle.std.specs.Prelude.{◌≡◌, ◌<◌, [], ◌∷◌, ◌++◌, List, IfOk, false, true};
+ghost use Rattle.std.specs.Prelude.{◌≡◌, ◌<◌, [], ◌∷◌, ◌++◌, List, IfOk};
 ghost use Rattle.std.specs.List.{All};
 ghost use Rattle.hm_base.specs.Image.{Segment, flash_byte};
 ghost use Rattle.hm_codes.specs.Listing.{IsListing, Listing};
-ghost use Rattle.hm_shake.specs.Findings.{AreFiled, CanShake, HoldsSchedule, IsFoundIn};
-ghost use Rattle.hm_shake.specs.Kinds.{HasFile};
+ghost use Rattle.hm_shake.specs.Findings.{AreFiled, CanShake, IsFiled, IsFoundIn};
 ghost use Rattle.hm_shake.specs.Repeats.{Repeats};
 
-use crate::counting::Given;
+use crate::counting::{Given, Progress};
 use crate::ended::same_kind;
 use crate::repeats::Repeater;
 use crate::shrinking::shrink;
@@ -27,18 +26,19 @@ pub struct Written {
 }
 
 /// The file of a kind that came: the schedule of its run of the fewest ticks, made shorter.
-fn shortest(
+fn shortest<P: Progress>(
     alloc: Global,
     given: &Given,
     repeater: &mut Repeater,
     found: Found,
+    progress: &mut P,
 ) -> Result<Written, OutOfMemory>
     requires repeats { (image : List Segment) × Repeats image given.now.head repeater.old }
     requires sound { CanShake given.now }
     requires one { found.run < given.now.plan.runs }
-    ensures holds { (image : List Segment) (listing : Listing) → IsListing (flash_byte image) listing → Repeats image given.now.head repeater.old
-        → IsFoundIn listing image given.now.plan given.now.head given.now.irqs.items found → IfOk result (λ w. HoldsSchedule listing image given.now.head w) }
-    ensures kind { IfOk result (λ w. w.kind ≡ found.kind) }
+    ensures filed { (image : List Segment) (listing : Listing) → IsListing (flash_byte image) listing → Repeats image given.now.head repeater.old
+        → IsFoundIn listing image given.now.plan given.now.head given.now.irqs.items found
+        → IfOk result (λ w. IsFiled listing image given.now.plan given.now.head given.now.irqs.items found w) }
     ensures again { (image : List Segment) → Repeats image given.now.head repeater.old → Repeats image given.now.head repeater.new }
 {
     let stretches = shaken(alloc, given.plan, &given.irqs, found.run)?;
@@ -46,7 +46,7 @@ fn shortest(
         kind: found.kind,
         ticks: found.ticks,
     };
-    let best = shrink(alloc, repeater, given.head, ended, &stretches)?;
+    let best = shrink(alloc, repeater, given.head, ended, &stretches, progress)?;
     let schedule = schedule_of(alloc, &given.head, &best)?;
     Ok(Written {
         kind: found.kind,
@@ -54,14 +54,6 @@ fn shortest(
         interrupts: interrupts_in(&best),
         bytes: print(alloc, &schedule)?,
     })
-}
-
-/// Whether a kind has a file: it is not the plain run's, and not that of a run whose ticks are out, which a schedule of no ticks gives too.
-fn has_file(kind: Kind, plain: Kind) -> bool
-    ensures yes { result ≡ true → HasFile kind plain }
-    ensures no { result ≡ false → HasFile kind plain → ⊥ }
-{
-    !same_kind(kind, plain) && !same_kind(kind, Kind::Ticks)
 }
 
 /// Adds a file.
@@ -72,25 +64,26 @@ fn add_file(files: &mut Vec<Written>, file: Written) -> Result<(), OutOfMemory>
     Ok(())
 }
 
-/// The files of the kinds that have one.
-pub fn files_of(
+/// The files of the kinds that are not the plain run's.
+pub fn files_of<P: Progress>(
     alloc: Global,
     given: &Given,
     repeater: &mut Repeater,
     plain: Kind,
     kinds: &[Found],
+    progress: &mut P,
 ) -> Result<Vec<Written>, OutOfMemory>
     requires repeats { (image : List Segment) × Repeats image given.now.head repeater.old }
     requires sound { CanShake given.now }
     requires runs { All (λ x. x.run < given.now.plan.runs) kinds.now }
     ensures files { (image : List Segment) (listing : Listing) → IsListing (flash_byte image) listing → Repeats image given.now.head repeater.old
-        → All (IsFoundIn listing image given.now.plan given.now.head given.now.irqs.items) kinds.now → IfOk result (λ v. All (HoldsSchedule listing image given.now.head) v.items) }
-    ensures each { IfOk result (λ v. AreFiled plain kinds.now v.items) }
+        → All (IsFoundIn listing image given.now.plan given.now.head given.now.irqs.items) kinds.now
+        → IfOk result (λ v. AreFiled (IsFiled listing image given.now.plan given.now.head given.now.irqs.items) plain kinds.now v.items) }
 {
     let mut files = Vec::new(alloc);
     for found in kinds {
-        if has_file(found.kind, plain) {
-            let file = shortest(alloc, given, repeater, *found)?;
+        if !same_kind(found.kind, plain) {
+            let file = shortest(alloc, given, repeater, *found, progress)?;
             add_file(&mut files, file)?;
         }
     }

@@ -8,7 +8,7 @@ ghost use Rattle.hm_shake.specs.Findings.{FindsFor};
 ghost use Rattle.hm_state.specs.Start.{reset_pc};
 
 use crate::counting::{Given, Progress, do_runs, report_of};
-use crate::ended::{MOST_TICKS, plain_end};
+use crate::ended::plain_end;
 use crate::filing::{Written, files_of};
 use crate::repeats::Repeater;
 use hm_base::Image;
@@ -52,12 +52,12 @@ pub fn shake<P: Progress>(
         plan: Plan {
             seed,
             runs,
-            ticks: plainly.ticks.min(MOST_TICKS),
+            ticks: plainly.ticks,
         },
     };
     let kinds = do_runs(alloc, &given, &mut repeater, progress)?;
     let report = report_of(alloc, &given, &mut repeater, &kinds)?;
-    let files = files_of(alloc, &given, &mut repeater, plainly.kind, &kinds)?;
+    let files = files_of(alloc, &given, &mut repeater, plainly.kind, &kinds, progress)?;
     Ok(Findings {
         plain: plainly.kind,
         kinds,

@@ -6,10 +6,12 @@ ghost use Rattle.hm_base.specs.Image.{Segment, flash_byte};
 ghost use Rattle.hm_codes.specs.Listing.{IsListing, Listing};
 ghost use Rattle.hm_sched.specs.Schedule.{most_irq, most_ticks, total};
 ghost use Rattle.hm_shake.specs.Repeats.{Repeats};
+ghost use Rattle.hm_shake.specs.Shorter.{LeavesOut};
 ghost use Rattle.hm_shake_runs.specs.Heads.{bare};
 ghost use Rattle.hm_shake.specs.Ends.{EndsAs, ended_under};
 ghost use Rattle.hm_shake_runs.specs.Stretches.{IsStretch, stretch_line, with_stretches};
 
+use crate::counting::Progress;
 use crate::ended::same_kind;
 use crate::repeats::Repeater;
 use hm_base::OutOfMemory;
@@ -33,6 +35,7 @@ fn shorter(
     ensures kind { (image : List Segment) (listing : Listing) → IsListing (flash_byte image) listing → Repeats image head repeater.old
         → IfOk result (λ o. IfSome o (λ xs. EndsAs listing image kind (with_stretches xs.items (bare head)))) }
     ensures fewer { IfOk result (λ o. IfSome o (λ xs. total (map stretch_line xs.items) ≤ total (map stretch_line stretches.now))) }
+    ensures leaves { IfOk result (λ o. IfSome o (λ xs. LeavesOut xs.items stretches.now)) }
     ensures sound { IfOk result (λ o. IfSome o (λ xs. All (IsStretch (most_irq head.format)) xs.items)) }
     ensures again { (image : List Segment) → Repeats image head repeater.old → Repeats image head repeater.new }
 {
@@ -45,29 +48,37 @@ fn shorter(
 }
 
 /// Takes out so many interrupts at a time, from the first on, wherever the outcome stays without them; cut off behind the tick that ends it.
-fn thinned(
+fn thinned<P: Progress>(
     alloc: Global,
     repeater: &mut Repeater,
     head: Head,
     kind: Kind,
     stretches: Vec<Stretch>,
     size: usize,
+    progress: &mut P,
 ) -> Result<Vec<Stretch>, OutOfMemory>
     requires repeats { (image : List Segment) × Repeats image head repeater.old }
     requires sound { All (IsStretch (most_irq head.format)) stretches.items }
     requires room { total (map stretch_line stretches.items) ≤ most_ticks }
     ensures kind { (image : List Segment) (listing : Listing) → IsListing (flash_byte image) listing → Repeats image head repeater.old
-        → EndsAs listing image kind (with_stretches stretches.items (bare head)) → IfOk result (λ xs. EndsAs listing image kind (with_stretches xs.items (bare head))) }
+        → EndsAs listing image kind (with_stretches stretches.items (bare head))
+        → IfOk result (λ xs. EndsAs listing image kind (with_stretches xs.items (bare head))) }
     ensures fewer { IfOk result (λ xs. total (map stretch_line xs.items) ≤ total (map stretch_line stretches.items)) }
+    ensures leaves { IfOk result (λ xs. LeavesOut xs.items stretches.items) }
     ensures sound { IfOk result (λ xs. All (IsStretch (most_irq head.format)) xs.items) }
     ensures again { (image : List Segment) → Repeats image head repeater.old → Repeats image head repeater.new }
 {
     let mut best = stretches;
+    let mut left = interrupts_in(&best);
     let mut kept = 0;
-    for _k in 0..interrupts_in(&best) {
-        if kept < interrupts_in(&best) {
+    for _k in 0..left {
+        if kept < left {
+            progress.shortening(kind, left);
             match shorter(alloc, repeater, head, kind, &best, kept, size)? {
-                Some(fewer) => best = fewer,
+                Some(fewer) => {
+                    left = interrupts_in(&fewer);
+                    best = fewer;
+                }
                 None => kept = kept.saturating_add(size),
             }
         }
@@ -77,12 +88,13 @@ fn thinned(
 
 /// Stretches under which an image has the same kind of outcome, made shorter: cut off behind the tick that ended the run, and then with interrupts taken out
 /// as long as the outcome stays, first all, then half of them at a time, and so on down to each alone.
-pub fn shrink(
+pub fn shrink<P: Progress>(
     alloc: Global,
     repeater: &mut Repeater,
     head: Head,
     ended: Ended,
     stretches: &[Stretch],
+    progress: &mut P,
 ) -> Result<Vec<Stretch>, OutOfMemory>
     requires repeats { (image : List Segment) × Repeats image head repeater.old }
     requires sound { All (IsStretch (most_irq head.format)) stretches.now }
@@ -92,13 +104,14 @@ pub fn shrink(
         → IfOk result (λ xs. EndsAs listing image ended.kind (with_stretches xs.items (bare head))) }
     ensures few { IfOk result (λ xs. total (map stretch_line xs.items) ≤ ended.ticks) }
     ensures fewer { IfOk result (λ xs. total (map stretch_line xs.items) ≤ total (map stretch_line stretches.now)) }
+    ensures leaves { IfOk result (λ xs. LeavesOut xs.items stretches.now) }
     ensures sound { IfOk result (λ xs. All (IsStretch (most_irq head.format)) xs.items) }
     ensures again { (image : List Segment) → Repeats image head repeater.old → Repeats image head repeater.new }
 {
     let mut best = cut(alloc, stretches, ended.ticks)?;
     let mut size = interrupts_in(&best);
     while size > 0 {
-        best = thinned(alloc, repeater, head, ended.kind, best, size)?;
+        best = thinned(alloc, repeater, head, ended.kind, best, size, progress)?;
         size /= 2;
     }
     Ok(best)

@@ -2,7 +2,8 @@ use Rattle.std.proofs.Common.{◌<◌, ◌≤◌, List}
 use Rattle.std.specs.List.{All}
 use Rattle.hm_base.specs.Image.{Segment, flash_byte}
 use Rattle.hm_codes.specs.Listing.{IsListing, Listing}
-use Rattle.hm_shake.specs.Ends.{IsTallied}
+use Rattle.hm_shake.specs.Counts.{AreCounted}
+use Rattle.hm_shake.specs.Ends.{ends_in}
 use Rattle.hm_shake.specs.Repeats.{Repeats}
 use Rattle.hm_shake.proofs.counting.do_runs.Given as goal
 
@@ -12,6 +13,6 @@ invariant-loop-run g l = record {
   again : (image : List Segment) → Repeats image l.given.head l.fn.repeater → Repeats image l.given.head l.repeater;
   before : All (λ x. x.count ≤ l.run) l.tally.kinds.items;
   runs : All (λ x. x.run < l.run) l.tally.kinds.items;
-  tallied : (image : List Segment) (listing : Listing) → IsListing (flash_byte image) listing → Repeats image l.given.head l.fn.repeater
-      → IsTallied listing image l.given.plan l.given.head l.given.irqs.items l.run l.tally.kinds.items;
+  counted : (image : List Segment) (listing : Listing) → IsListing (flash_byte image) listing → Repeats image l.given.head l.fn.repeater
+      → AreCounted (ends_in listing image l.given.plan l.given.head l.given.irqs.items) l.run l.tally.kinds.items;
 }

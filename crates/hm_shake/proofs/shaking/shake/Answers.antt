@@ -1,6 +1,4 @@
-use Rattle.std.proofs.Common.{◌∙◌, ap}
-use Rattle.std.specs.Prelude.{min}
-use Rattle.hm_sched.specs.Schedule.{most_ticks}
+use Rattle.std.proofs.Common.{ap}
 use Rattle.hm_shake.proofs.Finding.{found_so}
 use Rattle.hm_shake_runs.specs.declared.kinds.Ended.{Ended}
 use Rattle.hm_shake.proofs.shaking.shake.Goals as goal
@@ -14,5 +12,5 @@ returns-clause-finds g c = λ listing is.
     let plain = c.in_ok-plainly.ensures.ended listing is in
     found_so listing image c.args.schedule.now _ _ c.of-head.result c.in_ok-interrupts_of.field-0.items c.deref.result.now c.deref-2.result.now (c.in_ok-kinds.ensures.kinds image listing is repeats)
     c.deref.ensures.value c.deref-2.ensures.value c.in_ok-interrupts_of.ensures.value c.of-head.ensures.value (ap (λ (e : Ended). e.kind) plain)
-    (c.min.ensures ∙ ap (λ (e : Ended). min e.ticks most_ticks) plain) (c.in_ok-report.ensures.report image listing is counted) c.in_ok-report.ensures.none
-    (c.in_ok-files.ensures.files image listing is reported) c.in_ok-files.ensures.each
+    (ap (λ (e : Ended). e.ticks) plain) (c.in_ok-report.ensures.report image listing is counted) c.in_ok-report.ensures.none
+    (c.in_ok-files.ensures.files image listing is reported)

@@ -1,13 +1,12 @@
-use Rattle.std.proofs.Common.{◌≡◌, ◌≤◌, ◌∙◌, List, ap, arith, rules, sym}
+use Rattle.std.proofs.Common.{◌≡◌, ◌∙◌, ap, arith, sym}
 use Rattle.std.specs.List.{All}
 use Rattle.std.proofs.lemmas.List.Elements.{All-same}
 use Rattle.hm_sched.specs.Schedule.{most_irq}
 use Rattle.hm_shake.proofs.Ends.{cut_so}
 use Rattle.hm_shake.proofs.Fewer.{cut_sound, cut_ticks_fewer, without_sound, without_ticks}
+use Rattle.hm_shake.proofs.Leaving.{shorter_left}
 use Rattle.hm_shake_runs.proofs.Room.{ticks}
 use Rattle.hm_shake_runs.specs.Stretches.{IsStretch, cut, without}
-use Rattle.hm_shake_runs.specs.declared.kinds.Kind.{Kind}
-use Rattle.hm_shake_runs.specs.declared.stretches.Stretch.{Stretch}
 use Rattle.hm_shake.proofs.shrinking.shorter.Goals as goal
 
 pub run-requires-clause-sound : goal.run-requires-clause-sound
@@ -59,6 +58,11 @@ returns-then-same_kind-clause-fewer c =
     let whole = ap ticks (c.deref-then-same_kind.ensures.value ∙ c.in_ok-fewer.ensures.value) in
     let all = without_ticks c.args.kept c.args.size c.args.stretches.now in
     omega arith
+
+pub returns-then-same_kind-clause-leaves : goal.returns-then-same_kind-clause-leaves
+returns-then-same_kind-clause-leaves c =
+    shorter_left c.in_ok-ended.ended.ticks c.args.kept c.args.size c.args.stretches.now c.deref-then-same_kind.result.now c.in_ok-cut.field-0.items
+    (c.deref-then-same_kind.ensures.value ∙ c.in_ok-fewer.ensures.value) c.in_ok-cut.ensures.value
 
 pub returns-then-same_kind-clause-sound : goal.returns-then-same_kind-clause-sound
 returns-then-same_kind-clause-sound c =

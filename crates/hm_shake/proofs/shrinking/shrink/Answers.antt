@@ -1,14 +1,17 @@
-use Rattle.std.proofs.Common.{◌∙◌, List, ap, arith, refl, subst, sym}
+use Rattle.std.proofs.Common.{List, ap, arith, refl, subst, sym}
 use Rattle.std.proofs.lemmas.List.Elements.{All-same}
 use Rattle.hm_sched.specs.Schedule.{most_irq}
 use Rattle.hm_shake.proofs.Ends.{cut_so}
 use Rattle.hm_shake.proofs.Fewer.{cut_sound, cut_ticks_few, cut_ticks_fewer}
+use Rattle.hm_shake.proofs.Leaving.{cut_left, left_twice}
+use Rattle.hm_shake.specs.Shorter.{LeavesOut}
 use Rattle.hm_shake_runs.proofs.Room.{ticks}
 use Rattle.hm_shake_runs.specs.Stretches.{IsStretch, cut}
+use Rattle.hm_shake_runs.specs.declared.stretches.Stretch.{Stretch}
 use Rattle.hm_shake.proofs.shrinking.shrink.Goals as goal
 
 pub loop-size-init : goal.loop-size-init
-loop-size-init c =
+loop-size-init g c =
     let most = most_irq c.args.head.format in
     let xs = c.args.stretches.now in
     let n = c.args.ended.ticks in
@@ -20,8 +23,24 @@ loop-size-init c =
       sound = All-same (IsStretch most) c.in_ok-best.best.items (cut n xs) c.in_ok-best.ensures.value (cut_sound most n xs c.requires.sound);
       few = omega arith;
       fewer = omega arith;
-      kind = λ image listing is repeats ends. cut_so listing image c.args.head xs c.in_ok-best.best.items c.args.ended c.args.ended.kind ends refl c.in_ok-best.ensures.value;
+      leaves = subst (λ (ys : List Stretch). LeavesOut ys xs) (sym c.in_ok-best.ensures.value) (cut_left n xs);
+      kind = λ image listing is repeats ends.
+          cut_so listing image c.args.head xs c.in_ok-best.best.items c.args.ended c.args.ended.kind ends refl c.in_ok-best.ensures.value;
+    }
+
+pub loop-size-preserved : goal.loop-size-preserved
+loop-size-preserved g c =
+    let before = c.loop-size.invariant in
+    let few = c.in_ok-best-2.ensures.fewer in
+    record {
+      again = λ image repeats. c.thinned.ensures.again image (before.again image repeats);
+      sound = c.in_ok-best-2.ensures.sound;
+      few = omega arith;
+      fewer = omega arith;
+      leaves = left_twice c.in_ok-best-2.best.items c.loop-size.best.items c.args.stretches.now c.in_ok-best-2.ensures.leaves before.leaves;
+      kind = λ image listing is repeats ends.
+          c.in_ok-best-2.ensures.kind image listing is (before.again image repeats) (before.kind image listing is repeats ends);
     }
 
 pub thinned-requires-clause-repeats : goal.thinned-requires-clause-repeats
-thinned-requires-clause-repeats c = (c.requires.repeats.0, c.loop-size.invariant.again c.requires.repeats.0 c.requires.repeats.1)
+thinned-requires-clause-repeats g c = (c.requires.repeats.0, c.loop-size.invariant.again c.requires.repeats.0 c.requires.repeats.1)

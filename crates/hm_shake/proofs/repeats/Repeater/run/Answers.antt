@@ -1,4 +1,4 @@
-use Rattle.std.proofs.Common.{◌≡◌, ◌∙◌, List, length, refl, subst, sym}
+use Rattle.std.proofs.Common.{◌∙◌, List, length, refl, subst, sym}
 use Rattle.hm_base.specs.Image.{Segment}
 use Rattle.hm_machine.specs.Shown.{Shows}
 use Rattle.hm_machine.specs.Starts.{SameHead}
