@@ -1,0 +1,5 @@
+pub mod Names
+pub mod Asking
+pub mod Writing
+pub mod Shaking
+pub mod Performing

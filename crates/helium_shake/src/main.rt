@@ -1,0 +1,85 @@
+//! The program that runs an image under many schedules, as its words ask for, and finds the interrupts that break it.
+#![tactic(auto)]
+
+mod command;
+mod texts;
+mod top;
+mod words;
+
+use hm_commands::Status;
+use hm_host::OsHost;
+use hm_shake::Progress;
+use hm_shake_runs::Kind;
+use std::env;
+use std::env::Env;
+use std::io::ErrorKind;
+use std::process::ExitCode;
+use top::helium_shake;
+
+/// After so many runs, or tries to make a schedule shorter, it is told how far a shake is.
+const APART: u32 = 100;
+
+/// Tells on standard error how far a shake is.
+#[derive(Drop)]
+struct Told {
+    rt: HostRuntime,
+    /// The tries so far to make a schedule shorter.
+    tries: u32,
+}
+
+impl Progress for Told {
+    fn done(&mut self, runs: u32) {
+        if runs % APART == 0 {
+            // where it can't be told, the shake goes on
+            let _told = eprintln!(self.rt; "helium-shake: {runs} runs");
+        }
+    }
+
+    fn shortening(&mut self, _kind: Kind, interrupts: usize) {
+        if self.tries % APART == 0 {
+            let _told = eprintln!(self.rt;
+                "helium-shake: a schedule of {interrupts} interrupts is made shorter"
+            );
+        }
+        self.tries = self.tries.wrapping_add(1);
+    }
+}
+
+/// The words of the command line, but for the program's name. Where they cannot be had, but not for want of memory, there are none.
+fn words_of(rt: &(impl Env + AllocGlobal)) -> Result<Vec<String>, Status> {
+    let mut words = Vec::new(rt.alloc());
+    match env::args(rt) {
+        Ok(args) => {
+            for word in args.skip(1) {
+                if words.push(word).is_err() {
+                    return Err(Status::NoMemory);
+                }
+            }
+        }
+        Err(e) if e.kind() == ErrorKind::OutOfMemory => return Err(Status::NoMemory),
+        Err(_) => {}
+    }
+    Ok(words)
+}
+
+/// Does what the words ask for.
+fn status_of(rt: HostRuntime) -> Status {
+    let alloc = rt.alloc();
+    let words = match words_of(&rt) {
+        Ok(words) => words,
+        Err(status) => return status,
+    };
+    let Ok(told) = rt.clone() else {
+        return Status::NoMemory;
+    };
+    helium_shake(
+        alloc,
+        &words,
+        &mut OsHost::new(rt),
+        &mut Told { rt: told, tries: 0 },
+    )
+}
+
+fn main(rt: HostRuntime) -> ExitCode {
+    ExitCode::from(status_of(rt).code())
+}
