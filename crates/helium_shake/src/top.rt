@@ -5,7 +5,6 @@ ghost use Rattle.hm_base.specs.Image.{Segment};
 ghost use Rattle.hm_codes.specs.Listing.{Listing};
 ghost use Rattle.hm_commands.specs.Calls.{MakesCalls, answer_way, way_of};
 ghost use Rattle.hm_commands.specs.Commands.{AreListings};
-ghost use Rattle.hm_commands.specs.Effect.{failure_of};
 ghost use Rattle.hm_commands.specs.Run.{reset_refusal};
 ghost use Rattle.hm_host.specs.Host.{Counts, Stays, Writes, longest};
 ghost use Rattle.helium_shake.specs.Effects.{Carries, Effect, GivesEffect, IsEffectFor, IsFoundEffect, Shakes, UnlessRefused, WritesFiles, calls_for, file_of, found_effect, refused_effect, status_for, usage_effect, usage_line, write_call};
@@ -16,7 +15,9 @@ use crate::command::Command;
 use crate::texts::{file_name, findings_text};
 use crate::words::parse;
 use hm_base::OutOfMemory;
-use hm_commands::{Refusal, RunInput, Status, Stop, carry_out, read_all, read_run, refuse};
+use hm_commands::{
+    Refusal, RunInput, Status, Stop, carry_out, failure, read_all, read_run, refuse,
+};
 use hm_host::{Host, HostErr};
 use hm_shake::{Findings, Progress, Written, shake};
 use hm_text_base::text;
@@ -59,16 +60,6 @@ fn perform<P: Progress>(
 {
     let input = read_run(alloc, &Source::File(command.schedule), contents)?;
     found(alloc, command, &input, progress)
-}
-
-/// The status of a host's error.
-fn failure(e: HostErr) -> Status
-    ensures value { result ≡ failure_of e }
-{
-    match e {
-        HostErr::Failed | HostErr::TooLarge => Status::HostFault,
-        HostErr::OutOfMemory => Status::NoMemory,
-    }
 }
 
 /// Writes the file of a kind.

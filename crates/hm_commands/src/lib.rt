@@ -1,6 +1,7 @@
 //! The commands of the program: words, what they come to from the bytes of files, and the top call on a host.
 #![tactic(auto)]
 
+mod arguments;
 mod commands;
 mod images;
 mod laws;
@@ -11,10 +12,11 @@ mod tapes;
 mod top;
 mod work;
 
+pub use arguments::words_of;
 pub use hm_words::words_of_commands;
 pub use laws::{effect_law, hex_run_law, kernel_file_law, listings_exist};
 pub use outside::read_all;
 pub use status::Status;
 pub use tapes::{RunInput, read_run};
-pub use top::{carry_out, conclude, helium, refuse};
+pub use top::{carry_out, conclude, failure, helium, refuse};
 pub use work::{Finish, Output, Refusal, Stop};

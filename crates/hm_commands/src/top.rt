@@ -22,8 +22,8 @@ use hm_words::{Command, parse};
 use std::alloc::Global;
 
 /// The status of a host's error.
-fn failure(e: HostErr) -> Status
-    ensures { result ≡ failure_of e }
+pub fn failure(e: HostErr) -> Status
+    ensures value { result ≡ failure_of e }
 {
     match e {
         HostErr::Failed | HostErr::TooLarge => Status::HostFault,
