@@ -13,7 +13,8 @@ use Rattle.hm_commands.specs.declared.work.Stop.{Stop}
 use Rattle.hm_commands.specs.declared.work.Stop.TheVariants as stop
 use Rattle.hm_host.specs.Host.{Becomes, Call, FileMap, HostState, Made, Rose, Stays}
 use Rattle.hm_shake.specs.declared.shaking.Findings.{Findings}
-use Rattle.helium_shake.specs.Effects.{Carries, Effect, GivesEffect, IsDone, IsEffect, IsEffectFor, Shakes, calls_for, found_effect, refused_effect, usage_effect}
+use Rattle.helium_shake.specs.Effects.{Carries, Effect, GivesEffect, IsDone, IsEffect, IsEffectFor, Shakes, calls_for, found_effect, refused_effect}
+use Rattle.helium_shake.specs.Effects.{usage_effect}
 use Rattle.helium_shake.specs.Words.{Asked, reads_of}
 
 -- an effect is carried out behind reads, which left the files, what was printed and the count of faults

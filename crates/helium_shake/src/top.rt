@@ -7,7 +7,8 @@ ghost use Rattle.hm_commands.specs.Calls.{MakesCalls, answer_way, way_of};
 ghost use Rattle.hm_commands.specs.Commands.{AreListings};
 ghost use Rattle.hm_commands.specs.Run.{reset_refusal};
 ghost use Rattle.hm_host.specs.Host.{Counts, Stays, Writes, longest};
-ghost use Rattle.helium_shake.specs.Effects.{Carries, Effect, GivesEffect, IsEffectFor, IsFoundEffect, Shakes, UnlessRefused, WritesFiles, calls_for, file_of, found_effect, refused_effect, status_for, usage_effect, usage_line, write_call};
+ghost use Rattle.helium_shake.specs.Effects.{Carries, Effect, GivesEffect, IsEffectFor, IsFoundEffect, Shakes, UnlessRefused, WritesFiles, calls_for, file_of};
+ghost use Rattle.helium_shake.specs.Effects.{found_effect, refused_effect, status_for, usage_effect, usage_line, write_call};
 ghost use Rattle.helium_shake.specs.Texts.{file_name};
 ghost use Rattle.helium_shake.specs.Words.{asked_of, meant};
 

@@ -28,7 +28,8 @@ unfolding told_reading
 told_reading-told files names F is = ap (λ o. told_reading o names) is
 
 -- words that ask for nothing: the line of usage was printed
-pub usage_said : (listings : List Segment → Listing) (old new : HostState) (s : Status) → Carries usage_effect old new s → MakesCalls (calls_for usage_effect) old.calls new.calls (way_of s)
+pub usage_said : (listings : List Segment → Listing) (old new : HostState) (s : Status) → Carries usage_effect old new s
+    → MakesCalls (calls_for usage_effect) old.calls new.calls (way_of s)
     → Traces listings None old new s
 usage_said listings old new s h calls = record {
   reading = told_reading old.files [];
@@ -41,7 +42,8 @@ usage_said listings old new s h calls = record {
 }
 
 -- memory ran out before the effect
-pub lost : (listings : List Segment → Listing) (a : Asked) (old new : HostState) → Stays old.files new.files → Stays old.printed new.printed → new.faults ≡ old.faults
+pub lost : (listings : List Segment → Listing) (a : Asked) (old new : HostState) → Stays old.files new.files → Stays old.printed new.printed
+    → new.faults ≡ old.faults
     → ((F : FileMap) → old.files ≡ Some F → MakesCalls (read_calls F (reads_of a)) old.calls new.calls to_memory) → Traces listings (Some a) old new NoMemory
 lost listings a old new files printed same calls = record {
   reading = told_reading old.files (reads_of a);
@@ -50,7 +52,8 @@ lost listings a old new files printed same calls = record {
 }
 
 -- a read failed
-pub failed : (listings : List Segment → Listing) (a : Asked) (old new : HostState) → Stays old.files new.files → Stays old.printed new.printed → Rose old.faults new.faults
+pub failed : (listings : List Segment → Listing) (a : Asked) (old new : HostState) → Stays old.files new.files → Stays old.printed new.printed
+    → Rose old.faults new.faults
     → ((F : FileMap) → old.files ≡ Some F → MakesCalls (read_calls F (reads_of a)) old.calls new.calls to_fault) → Traces listings (Some a) old new HostFault
 failed listings a old new files printed rose calls = record {
   reading = told_reading old.files (reads_of a);
@@ -67,8 +70,10 @@ record AreRead (a : Asked) (reading : Reading) (old mid : HostState) : Type 0 wh
   calls : (F : FileMap) → old.files ≡ Some F → Becomes (with_calls (read_calls F (reads_of a))) old.calls mid.calls
 
 -- the reads gave this, and then an effect of it was carried out
-reached : (listings : List Segment → Listing) (a : Asked) (old mid new : HostState) (s : Status) (reading : Reading) (e : Effect) → IsEffect listings (Some a) reading e → AreRead a reading old mid
-    → Carries e mid new s → MakesCalls (calls_for e) mid.calls new.calls (way_of s) → (s ≡ NoMemory → StaysOrMakesAll (calls_for e) mid new) → Traces listings (Some a) old new s
+reached : (listings : List Segment → Listing) (a : Asked) (old mid new : HostState) (s : Status) (reading : Reading) (e : Effect)
+    → IsEffect listings (Some a) reading e → AreRead a reading old mid
+    → Carries e mid new s → MakesCalls (calls_for e) mid.calls new.calls (way_of s) → (s ≡ NoMemory → StaysOrMakesAll (calls_for e) mid new)
+    → Traces listings (Some a) old new s
 reached listings a old mid new s reading e of are h rest all = record {
   reading = reading;
   told = λ F is. sym (are.told F is);
@@ -84,23 +89,32 @@ reached listings a old mid new s reading e of are h rest all = record {
 }
 
 -- a file was too large
-pub reached_large : (listings : List Segment → Listing) (a : Asked) (old mid new : HostState) (s : Status) → ((F : FileMap) → old.files ≡ Some F → reading_of F (reads_of a) ≡ too_large)
-    → Stays old.files mid.files → Stays old.printed mid.printed → mid.faults ≡ old.faults → ((F : FileMap) → old.files ≡ Some F → Becomes (with_calls (read_calls F (reads_of a))) old.calls mid.calls)
-    → Carries (effect_for (refuses FileTooLarge)) mid new s → MakesCalls (calls_for (effect_for (refuses FileTooLarge))) mid.calls new.calls (way_of s) → Traces listings (Some a) old new s
+pub reached_large : (listings : List Segment → Listing) (a : Asked) (old mid new : HostState) (s : Status)
+    → ((F : FileMap) → old.files ≡ Some F → reading_of F (reads_of a) ≡ too_large)
+    → Stays old.files mid.files → Stays old.printed mid.printed → mid.faults ≡ old.faults
+    → ((F : FileMap) → old.files ≡ Some F → Becomes (with_calls (read_calls F (reads_of a))) old.calls mid.calls)
+    → Carries (effect_for (refuses FileTooLarge)) mid new s → MakesCalls (calls_for (effect_for (refuses FileTooLarge))) mid.calls new.calls (way_of s)
+    → Traces listings (Some a) old new s
 reached_large listings a old mid new s told files printed same calls h rest =
     let are : AreRead a too_large old mid = record { told = told; files = files; printed = printed; faults = same; calls = calls } in
-    reached listings a old mid new s too_large (effect_for (refuses FileTooLarge)) refl are h rest (λ wanted. inl (stays_spent Refused (Some (refused_line FileTooLarge)) mid new s h wanted))
+    reached listings a old mid new s too_large (effect_for (refuses FileTooLarge)) refl are h rest
+    (λ wanted. inl (stays_spent Refused (Some (refused_line FileTooLarge)) mid new s h wanted))
 
 -- all calls were made, and memory ran out behind them
 spent_reads : (calls : List Call) (old mid : Option (List Made)) → Becomes (with_calls calls) old mid → MakesCalls calls old mid to_memory
-spent_reads calls old mid all = inr (λ made is. (with_calls calls made, all made is, record { done = calls; left = []; parts_are = sym (append-nil calls); made_are = refl }))
+spent_reads calls old mid all =
+    inr (λ made is. (with_calls calls made, all made is, record { done = calls; left = []; parts_are = sym (append-nil calls); made_are = refl }))
 
 -- the reads gave these contents, and then what was made of them was carried out
-pub reached_whole : (listings : List Segment → Listing) (a : Asked) (old mid new : HostState) (s : Status) (contents : List (List ℕ)) (answer : Result Finish Stop) → GivesOne (ComesTo listings a contents) answer
-    → ((F : FileMap) → old.files ≡ Some F → reading_of F (reads_of a) ≡ whole contents) → Stays old.files mid.files → Stays old.printed mid.printed → mid.faults ≡ old.faults
+pub reached_whole : (listings : List Segment → Listing) (a : Asked) (old mid new : HostState) (s : Status) (contents : List (List ℕ))
+    (answer : Result Finish Stop) → GivesOne (ComesTo listings a contents) answer
+    → ((F : FileMap) → old.files ≡ Some F → reading_of F (reads_of a) ≡ whole contents) → Stays old.files mid.files → Stays old.printed mid.printed
+    → mid.faults ≡ old.faults
     → ((F : FileMap) → old.files ≡ Some F → Becomes (with_calls (read_calls F (reads_of a))) old.calls mid.calls)
-    → ((o : Outcome) → Gives o answer → Carries (effect_for o) mid new s) → ((o : Outcome) → Gives o answer → MakesCalls (calls_for (effect_for o)) mid.calls new.calls (way_of s))
-    → ((o : Outcome) → Gives o answer → s ≡ NoMemory → StaysOrMakesAll (calls_for (effect_for o)) mid new) → (answer ≡ Err stop.NoMemory → (s ≡ NoMemory) × (new ≡ mid))
+    → ((o : Outcome) → Gives o answer → Carries (effect_for o) mid new s)
+    → ((o : Outcome) → Gives o answer → MakesCalls (calls_for (effect_for o)) mid.calls new.calls (way_of s))
+    → ((o : Outcome) → Gives o answer → s ≡ NoMemory → StaysOrMakesAll (calls_for (effect_for o)) mid new)
+    → (answer ≡ Err stop.NoMemory → (s ≡ NoMemory) × (new ≡ mid))
     → Traces listings (Some a) old new s
 reached_whole listings a old mid new s contents (Ok finish) comes told files printed same calls h rest all wanted =
     let o = finish_of finish in

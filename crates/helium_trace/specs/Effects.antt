@@ -64,9 +64,10 @@ abbrev pub IsEffect : (List Segment → Listing) → Option Asked → Reading �
 IsEffect listings None reading = λ e. e ≡ usage_effect
 IsEffect listings (Some a) reading = IsEffectAfter listings a reading
 
--- WHAT A CALL DOES, by what comes of the reads, which is what the files hold where the host tells them: an effect of the words is begun behind the reads, and done
--- whole or cut by a fault of the host or for want of memory; or a read failed or memory was wanted before the effect, and no file was touched and nothing was
--- printed. Where the host tells its files, the calls are those reads, a write of the file and a print of the text, all of them or up to the first that failed.
+-- WHAT A CALL DOES, by what comes of the reads, which is what the files hold where the host tells them: an effect of the words is begun behind the
+-- reads, and done whole or cut by a fault of the host or for want of memory; or a read failed or memory was wanted before the effect, and no file was
+-- touched and nothing was printed. Where the host tells its files, the calls are those reads, a write of the file and a print of the text, all of
+-- them or up to the first that failed.
 pub record Traces (listings : List Segment → Listing) (asked : Option Asked) (old new : HostState) (status : Status) : Type 0 where
   pub reading : Reading
   pub told : (F : FileMap) → old.files ≡ Some F → reading ≡ reading_of F (reads_for asked)

@@ -1,5 +1,6 @@
 -- THE WORDS OF THE PROGRAM: an image, a schedule, two ticks, and where a page is wanted `--html` and a file.
-use Rattle.std.specs.Prelude.{ℕ, ◌-◌, ◌||◌, List, [], ◌∷◌, Option, Some, None, nat_eq, nat_le, nat_lt, if◌then◌else◌, option_map, option_and_then, codes, bytes_eq}
+use Rattle.std.specs.Prelude.{ℕ, ◌-◌, ◌||◌, List, [], ◌∷◌, Option, Some, None, nat_eq, nat_le, nat_lt, if◌then◌else◌, option_map, option_and_then, codes}
+use Rattle.std.specs.Prelude.{bytes_eq}
 use Rattle.hm_text_base.specs.Numbers.{number_in}
 use Rattle.hm_trace.specs.declared.running.Ticks.{Ticks}
 use Rattle.hm_words.specs.Words.{Source, source_meant, source_of, source_reads}
@@ -25,7 +26,8 @@ range_in first last = option_and_then (λ a. option_and_then (range_of a) (numbe
 -- what an image, a schedule and two ticks ask for, with a file for the page where there is one
 abbrev pub asked_in : List ℕ → List ℕ → List ℕ → List ℕ → Option (List ℕ) → Option Asked
 asked_in image schedule first last page =
-    option_and_then (λ s. option_map (λ r. record { image = image; schedule = s; first = r.0; last = r.1; page = page }) (range_in first last)) (source_of schedule)
+    option_and_then (λ s. option_map (λ r. record { image = image; schedule = s; first = r.0; last = r.1; page = page }) (range_in first last))
+    (source_of schedule)
 
 -- WHAT THE WORDS ASK FOR
 abbrev pub asked_of : List (List ℕ) → Option Asked

@@ -53,7 +53,8 @@ fn form_of(page: Option<&str>) -> Form
 
 /// The trace of a run, which is to be printed or written.
 fn traced<'a>(alloc: Global, input: RunInput, command: &Command<'a>) -> Result<Finish<'a>, Stop>
-    ensures outcome { (listings : List Segment → Listing) → AreListings listings → GivesOne (IsTraceOutcome listings (meant command.now) input.image input.schedule) result }
+    ensures outcome { (listings : List Segment → Listing) → AreListings listings
+        → GivesOne (IsTraceOutcome listings (meant command.now) input.image input.schedule) result }
 {
     let RunInput { image, schedule } = input;
     let bytes = trace(
@@ -74,7 +75,8 @@ fn perform<'a>(
 ) -> Result<Finish<'a>, Stop>
     requires each { length contents.now ≡ length (reads_of (meant command.now)) }
     requires short { All (λ bytes. length bytes.items ≤ longest) contents.now }
-    ensures outcome { (listings : List Segment → Listing) → AreListings listings → GivesOne (ComesTo listings (meant command.now) (map (λ bytes. bytes.items) contents.now)) result }
+    ensures outcome { (listings : List Segment → Listing) → AreListings listings
+        → GivesOne (ComesTo listings (meant command.now) (map (λ bytes. bytes.items) contents.now)) result }
 {
     let input = read_run(alloc, &command.schedule, contents)?;
     traced(alloc, input, command)
@@ -82,7 +84,8 @@ fn perform<'a>(
 
 /// Does what the words ask for.
 fn obey<H: Host>(alloc: Global, command: &Command<'_>, host: &mut H) -> Status
-    ensures effect { (listings : List Segment → Listing) → AreListings listings → Traces listings (Some (meant command.now)) (H.state host.old) (H.state host.new) result }
+    ensures effect { (listings : List Segment → Listing) → AreListings listings
+        → Traces listings (Some (meant command.now)) (H.state host.old) (H.state host.new) result }
 {
     let Ok(names) = command.reads(alloc) else {
         return Status::NoMemory;
@@ -118,7 +121,8 @@ fn say_usage<H: Host>(alloc: Global, host: &mut H) -> Status
 ///
 /// The text is made before the first byte of it is written or printed, by one call of the host. Want of memory prints nothing.
 pub fn helium_trace<H: Host>(alloc: Global, words: &[String], host: &mut H) -> Status
-    ensures effect { (listings : List Segment → Listing) → AreListings listings → Traces listings (asked_of (map string_bytes words.now)) (H.state host.old) (H.state host.new) result }
+    ensures effect { (listings : List Segment → Listing) → AreListings listings
+        → Traces listings (asked_of (map string_bytes words.now)) (H.state host.old) (H.state host.new) result }
 {
     match parse(words) {
         Some(command) => obey(alloc, &command, host),

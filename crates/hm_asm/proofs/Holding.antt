@@ -1,5 +1,6 @@
 -- An image that is joined from pieces is an image, and holds each byte of the pieces at its address.
-use Rattle.std.proofs.Common.{◌≡◌, ◌⊎◌, ℕ, ◌+◌, ◌-◌, ◌<◌, ◌≤◌, true, false, cond, eqb, leb, ltb, List, [], ◌∷◌, ◌++◌, length, get_or, All, refl, ap, ◌∙◌, inl, inr, arith}
+use Rattle.std.proofs.Common.{◌≡◌, ◌⊎◌, ℕ, ◌+◌, ◌-◌, ◌<◌, ◌≤◌, true, false, cond, eqb, leb, ltb, List, [], ◌∷◌, ◌++◌, length, get_or, All, refl, ap, ◌∙◌, inl}
+use Rattle.std.proofs.Common.{inr, arith}
 use Rattle.std.specs.Prelude.{◌&&◌}
 use Rattle.std.specs.List.{AllByRecursion}
 use Rattle.std.proofs.lemmas.Bool.{cases_Bool, eqb-true, eqb-false}
@@ -27,7 +28,8 @@ order x a = grind arith
 
 -- bytes, and those that follow them
 both_given : (a c x r : ℕ) (bs cs : List ℕ) → a + length bs ≡ c
-    → cond (leb a x && ltb x (a + length (bs ++ cs))) (get_or (bs ++ cs) (x - a) 0) r ≡ cond (leb a x && ltb x (a + length bs)) (get_or bs (x - a) 0) (cond (leb c x && ltb x (c + length cs)) (get_or cs (x - c) 0) r)
+    → cond (leb a x && ltb x (a + length (bs ++ cs))) (get_or (bs ++ cs) (x - a) 0) r
+    ≡ cond (leb a x && ltb x (a + length bs)) (get_or bs (x - a) 0) (cond (leb c x && ltb x (c + length cs)) (get_or cs (x - c) 0) r)
 both_given a c x r bs cs e =
     let lengths = length-append bs cs in
     elim (order x a) [
@@ -36,8 +38,13 @@ both_given a c x r bs cs e =
         | inl l ↦ rw (within a (length (bs ++ cs)) x h (omega (arith, l, e, lengths)), within a (length bs) x h (omega (arith, l, e)))
             (get_or_append_left bs cs 0 (x - a) (omega (arith, l, h, e)))
         | inr g ↦ elim (order x (c + length cs)) [
-          | inl l ↦ rw (within a (length (bs ++ cs)) x h (omega (arith, l, e, lengths)), above a (length bs) x (omega (arith, g, e)), within c (length cs) x g l)
-              (get_or-append_right bs cs (length bs) (x - a) 0 refl (omega (arith, g, e)) ∙ ap (λ (n : ℕ). get_or cs n 0) (let f : x - a - length bs ≡ x - c = omega (arith, e, g) in f))
+          | inl l ↦ rw (
+            within a (length (bs ++ cs)) x h (omega (arith, l, e, lengths)),
+            above a (length bs) x (omega (arith, g, e)),
+            within c (length cs) x g l,
+          )
+              (get_or-append_right bs cs (length bs) (x - a) 0 refl (omega (arith, g, e))
+              ∙ ap (λ (n : ℕ). get_or cs n 0) (let f : x - a - length bs ≡ x - c = omega (arith, e, g) in f))
           | inr o ↦ rw (above a (length (bs ++ cs)) x (omega (arith, o, e, lengths)), above a (length bs) x (omega (arith, g, e)), above c (length cs) x o) refl
         ]
       ]
@@ -50,7 +57,8 @@ piece_given a [] ss blank x = rw (none_covered a x) refl
     none_covered b y = grind (arith, nat_tests)
 piece_given a (b ∷ bs) [] blank x = refl
 piece_given a (b ∷ bs) (s ∷ ss) blank x = elim (cases_Bool (eqb (a + length (b ∷ bs)) s.addr)) [
-  | inl e ↦ ap (λ (is : List Segment). given is blank x) (onto_next a b bs s ss (eqb-true _ _ e)) ∙ both_given a s.addr x (given ss blank x) (b ∷ bs) s.bytes (eqb-true _ _ e)
+  | inl e ↦ ap (λ (is : List Segment). given is blank x) (onto_next a b bs s ss (eqb-true _ _ e))
+      ∙ both_given a s.addr x (given ss blank x) (b ∷ bs) s.bytes (eqb-true _ _ e)
   | inr e ↦ ap (λ (is : List Segment). given is blank x) (onto_apart a b bs s ss (eqb-false _ _ e))
 ]
 
@@ -92,7 +100,8 @@ holds a ps rising = record {
 }
 
 -- IMAGES
-placed_both : (a : ℕ) (b : ℕ) (bs : List ℕ) (s : Segment) → a + length (b ∷ bs) ≡ s.addr → HasRoom a (length (b ∷ bs)) → IsPlaced s → IsPlaced (segment a ((b ∷ bs) ++ s.bytes))
+placed_both : (a : ℕ) (b : ℕ) (bs : List ℕ) (s : Segment) → a + length (b ∷ bs) ≡ s.addr → HasRoom a (length (b ∷ bs)) → IsPlaced s
+    → IsPlaced (segment a ((b ∷ bs) ++ s.bytes))
 placed_both a b bs s e room placed = go room placed.1
   where
     lengths : length ((b ∷ bs) ++ s.bytes) ≡ length (b ∷ bs) + length s.bytes
@@ -101,14 +110,16 @@ placed_both a b bs s e room placed = go room placed.1
     some : 0 < length ((b ∷ bs) ++ s.bytes)
     some = omega (arith, lengths)
 
-    go : HasRoom a (length (b ∷ bs)) → (s.addr + length s.bytes ≤ 0x100000) ⊎ ((0x20000000 ≤ s.addr) × (s.addr + length s.bytes ≤ 0x20040000)) → IsPlaced (segment a ((b ∷ bs) ++ s.bytes))
+    go : HasRoom a (length (b ∷ bs)) → (s.addr + length s.bytes ≤ 0x100000) ⊎ ((0x20000000 ≤ s.addr) × (s.addr + length s.bytes ≤ 0x20040000))
+        → IsPlaced (segment a ((b ∷ bs) ++ s.bytes))
     go (inl z) p = absurd (omega (arith, z))
     go (inr (inl f)) (inl g) = (some, inl (omega (arith, lengths, e, g)))
     go (inr (inl f)) (inr g) = absurd (omega (arith, e, f, g.0))
     go (inr (inr r)) (inl g) = absurd (omega (arith, e, r.0, g))
     go (inr (inr r)) (inr g) = (some, inr (r.0, omega (arith, lengths, e, g.1)))
 
-pub image_piece : (a : ℕ) (bs : List ℕ) (ss : List Segment) → HasRoom a (length bs) → AllByRecursion (λ s. a + length bs ≤ s.addr) ss → IsImage ss → IsImage (with_piece a bs ss)
+pub image_piece : (a : ℕ) (bs : List ℕ) (ss : List Segment) → HasRoom a (length bs) → AllByRecursion (λ s. a + length bs ≤ s.addr) ss → IsImage ss
+    → IsImage (with_piece a bs ss)
 image_piece a [] ss room all image = image
 image_piece a (b ∷ bs) [] room all image = (room_placed a (b ∷ bs) (omega arith) room, All-nil (Before (segment a (b ∷ bs))), tt)
 image_piece a (b ∷ bs) (s ∷ ss) room all image = elim (cases_Bool (eqb (a + length (b ∷ bs)) s.addr)) [

@@ -45,7 +45,8 @@ pub joined_both : (a : ℕ) (bs cs : List ℕ) (ps : List Segment) → joined (s
 joined_both a bs cs ps = with_both a bs cs (joined ps)
 
 -- bytes that end before all segments
-pub with_piece-apart : (a : ℕ) (bs : List ℕ) (ss : List Segment) → AllByRecursion (λ s. a + length bs < s.addr) ss → with_piece a bs ss ≡ with_piece a bs [] ++ ss
+pub with_piece-apart : (a : ℕ) (bs : List ℕ) (ss : List Segment) → AllByRecursion (λ s. a + length bs < s.addr) ss
+    → with_piece a bs ss ≡ with_piece a bs [] ++ ss
 with_piece-apart a [] ss all = refl
 with_piece-apart a (b ∷ bs) [] all = refl
 with_piece-apart a (b ∷ bs) (s ∷ ss) all = onto_apart a b bs s ss (λ e. omega (arith, e, all.0))
@@ -59,7 +60,8 @@ pub from_lower : (a b : ℕ) (ss : List Segment) → a ≤ b → AllByRecursion 
 from_lower a b [] h all = tt
 from_lower a b (s ∷ ss) h all = (omega (arith, h, all.0), from_lower a b ss h all.1)
 
-onto_from : (a b : ℕ) (bs : List ℕ) (ss : List Segment) → AllByRecursion (λ s. a + length (b ∷ bs) ≤ s.addr) ss → AllByRecursion (λ s. a ≤ s.addr) (onto (segment a (b ∷ bs)) ss)
+onto_from : (a b : ℕ) (bs : List ℕ) (ss : List Segment) → AllByRecursion (λ s. a + length (b ∷ bs) ≤ s.addr) ss
+    → AllByRecursion (λ s. a ≤ s.addr) (onto (segment a (b ∷ bs)) ss)
 onto_from a b bs [] all = (omega arith, tt)
 onto_from a b bs (s ∷ ss) all =
     let rest = from_lower a (a + length (b ∷ bs)) ss (omega arith) all.1 in
@@ -68,7 +70,8 @@ onto_from a b bs (s ∷ ss) all =
       | inr e ↦ rw (onto_apart a b bs s ss (eqb-false _ _ e)) (omega arith, (omega (arith, all.0), rest))
     ]
 
-piece_from : (a b : ℕ) (bs : List ℕ) (ss : List Segment) → a ≤ b → AllByRecursion (λ s. b + length bs ≤ s.addr) ss → AllByRecursion (λ s. a ≤ s.addr) (with_piece b bs ss)
+piece_from : (a b : ℕ) (bs : List ℕ) (ss : List Segment) → a ≤ b → AllByRecursion (λ s. b + length bs ≤ s.addr) ss
+    → AllByRecursion (λ s. a ≤ s.addr) (with_piece b bs ss)
 piece_from a b [] ss h all = from_lower a (b + 0) ss (omega (arith, h)) all
 piece_from a b (c ∷ bs) ss h all = from_lower a b (onto (segment b (c ∷ bs)) ss) h (onto_from b c bs ss all)
 

@@ -22,10 +22,12 @@ first_meets source refusals.OutOfMemory r = tt
 abbrev pub IsGivenImage : List ℕ → LabelMap → List Segment → Type 0
 IsGivenImage source labels image = (pieces : List Segment) × AreGiven (get labels) 0 (source_lines source) pieces × (image ≡ joined pieces)
 
-assembled : (source : List ℕ) (labels : LabelMap) (image : List Segment) → AreFine empty 0 (source_lines source) labels → IsGivenImage source labels image → IsAssembled source image
+assembled : (source : List ℕ) (labels : LabelMap) (image : List Segment) → AreFine empty 0 (source_lines source) labels → IsGivenImage source labels image
+    → IsAssembled source image
 assembled source labels image fine (pieces, given, is) = record { labels = labels; fine = fine; pieces = pieces; given = given; image_is = is }
 
-pub second_found : (source : List ℕ) (labels : LabelMap) (r : Outcome) → AreFine empty 0 (source_lines source) labels → IfOk r (IsGivenImage source labels) → IfOk r (λ image. IsAssembled source image)
+pub second_found : (source : List ℕ) (labels : LabelMap) (r : Outcome) → AreFine empty 0 (source_lines source) labels → IfOk r (IsGivenImage source labels)
+    → IfOk r (λ image. IsAssembled source image)
 second_found source labels (Ok image) fine given = assembled source labels image fine given
 second_found source labels (Err e) fine given = tt
 

@@ -1,10 +1,11 @@
 -- Operands of a text, one behind another.
-use Rattle.std.proofs.Common.{◌≡◌, ℕ, zero, suc, ◌+◌, ◌≤◌, Bool, true, false, cond, List, [], ◌∷◌, ◌++◌, length, map, Option, Some, None, refl, sym, ap, subst, ◌∙◌, arith}
+use Rattle.std.proofs.Common.{◌≡◌, ℕ, zero, suc, ◌+◌, ◌≤◌, Bool, true, false, cond, List, [], ◌∷◌, ◌++◌, length, map, Option, Some, None, refl, sym, ap, subst}
+use Rattle.std.proofs.Common.{◌∙◌, arith}
 use Rattle.std.proofs.lemmas.Bool.{false≢true}
 use Rattle.hm_text_base.proofs.Steps.{some_is}
 use Rattle.hm_tokens.specs.declared.token.Class.TheVariants as classes
 use Rattle.hm_tokens.specs.declared.marks.Mark.TheVariants as marks
-use Rattle.hm_tokens.specs.Tokens.{Tok, mark, skip, token_at}
+use Rattle.hm_tokens.specs.Tokens.{Tok, mark, skip, token_at, comma}
 use Rattle.hm_line.specs.Columns.{ArePassed, IsOperand, is_between, is_inside}
 use Rattle.hm_line.specs.Forms.{Spaced, kinds}
 use Rattle.hm_line.specs.Kinds.{Kind, kind}
@@ -31,13 +32,15 @@ outside false (kinds_of.mark marks.Bang) e = absurd (false≢true e)
 outside false (kinds_of.mark marks.Minus) e = absurd (false≢true e)
 outside false (kinds_of.mark marks.Plus) e = absurd (false≢true e)
 
-step_passed : (n m : ℕ) (b inside : Bool) (ks js : List Kind) → (b ≡ true → inside ≡ false) → ((i : ℕ) → ArePassed (suc i) inside ks → ArePassed (suc (i + m)) inside (ks ++ js))
+step_passed : (n m : ℕ) (b inside : Bool) (ks js : List Kind) → (b ≡ true → inside ≡ false)
+    → ((i : ℕ) → ArePassed (suc i) inside ks → ArePassed (suc (i + m)) inside (ks ++ js))
     → ArePassed (cond b n (suc n)) inside ks → ArePassed m false js → ArePassed (cond b (n + m) (suc (n + m))) inside (ks ++ js)
 step_passed zero m true inside ks js out more p q =
     let count : m ≡ 0 + m = omega arith in
     let mine : ArePassed m inside ([] ++ js) = subst (λ (x : Bool). ArePassed m x js) (sym (out refl)) q in
     subst (λ (i : ℕ). ArePassed i inside (ks ++ js)) count (subst (λ (x : List Kind). ArePassed m inside (x ++ js)) (sym p) mine)
-step_passed (suc n) m true inside ks js out more p q = let count : suc (n + m) ≡ suc n + m = omega arith in subst (λ (i : ℕ). ArePassed i inside (ks ++ js)) count (more n p)
+step_passed (suc n) m true inside ks js out more p q =
+    let count : suc (n + m) ≡ suc n + m = omega arith in subst (λ (i : ℕ). ArePassed i inside (ks ++ js)) count (more n p)
 step_passed n m false inside ks js out more p q = more n p
 
 passed_more : (n m : ℕ) (inside : Bool) (ks js : List Kind) → ArePassed (suc n) inside ks → ArePassed m false js → ArePassed (suc (n + m)) inside (ks ++ js)
@@ -72,13 +75,14 @@ front_more text mid there [] us e more = subst (λ (x : List ℕ). AreFront x us
 front_more text mid there (t ∷ ts) us (after, is, front) more = (after, is, front_more after mid there ts us front more)
 
 -- a value has no comma
-one_comma : (d : Datum) → ArePassed 1 false (map kind (datum_tokens d ++ mark 44 ∷ []))
+one_comma : (d : Datum) → ArePassed 1 false (map kind (datum_tokens d ++ comma ∷ []))
 one_comma (literal true n) = refl
 one_comma (literal false n) = refl
 one_comma (named w) = refl
 one_comma (beyond w n) = refl
 
-operand_more : (text here there : List ℕ) (n : ℕ) (js : List Spaced) → IsOperand text n here → AreTokens here js there → ArePassed 1 false (kinds js) → IsOperand text (n + 1) there
+operand_more : (text here there : List ℕ) (n : ℕ) (js : List Spaced) → IsOperand text n here → AreTokens here js there → ArePassed 1 false (kinds js)
+    → IsOperand text (n + 1) there
 operand_more text here there zero js (t, [], are, p) more one = (t, js, tokens_more text here there (t ∷ []) js are more, one)
 operand_more text here there zero js (t, u ∷ ts, are, p) more one = absurd cc
 operand_more text here there (suc n) js (t, ts, are, p) more one =
@@ -86,18 +90,21 @@ operand_more text here there (suc n) js (t, ts, are, p) more one =
       t,
       ts ++ js,
       tokens_more text here there (t ∷ ts) js are more,
-      subst (λ (i : ℕ). ArePassed i false (kinds (ts ++ js))) count (subst (λ (x : List Kind). ArePassed (suc (n + 1)) false x) (sym (kinds_more ts js)) (passed_more n 1 false (kinds ts) (kinds js) p one)),
+      subst (λ (i : ℕ). ArePassed i false (kinds (ts ++ js))) count
+          (subst (λ (x : List Kind). ArePassed (suc (n + 1)) false x) (sym (kinds_more ts js)) (passed_more n 1 false (kinds ts) (kinds js) p one)),
     )
 
 -- the operand behind a value and its comma
-pub next_operand : (text here mid there : List ℕ) (n : ℕ) (d : Datum) → IsOperand text n here → AreFront here (datum_tokens d) mid → AreFront mid (mark 44 ∷ []) there → IsOperand text (n + 1) there
-next_operand text here mid there n d is front comma =
-    let all = front_of here (datum_tokens d ++ mark 44 ∷ []) there (front_more here mid there (datum_tokens d) (mark 44 ∷ []) front comma) in
+pub next_operand : (text here mid there : List ℕ) (n : ℕ) (d : Datum) → IsOperand text n here → AreFront here (datum_tokens d) mid
+    → AreFront mid (comma ∷ []) there → IsOperand text (n + 1) there
+next_operand text here mid there n d is front separator =
+    let all = front_of here (datum_tokens d ++ comma ∷ []) there (front_more here mid there (datum_tokens d) (comma ∷ []) front separator) in
     operand_more text here there n all.spaced is all.are (subst (λ (x : List Kind). ArePassed 1 false x) (sym all.kinds_are) (one_comma d))
 
 -- the first operand stands behind the first token
 pub first_operand : (text rest : List ℕ) (t : Tok) → AreFront text (t ∷ []) rest → IsOperand text 0 rest
-first_operand text rest t (after, is, e) = let here : next text ≡ Some ((is_spaced text, kind t), after) = rw is refl in ((is_spaced text, kind t), [], (after, here, e), refl)
+first_operand text rest t (after, is, e) =
+    let here : next text ≡ Some ((is_spaced text, kind t), after) = rw is refl in ((is_spaced text, kind t), [], (after, here, e), refl)
 
 -- what is left of a text is no longer than the text
 next_le : (text after : List ℕ) (s : Spaced) → next text ≡ Some (s, after) → length after ≤ length text

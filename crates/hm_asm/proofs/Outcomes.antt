@@ -67,23 +67,27 @@ one_fine : (m : LabelMap) (a : ℕ) (ls : List (List ℕ)) (x y : LabelMap) → 
 one_fine m a [] x y e f = sym e ∙ f
 one_fine m a (l ∷ ls) x y (said, is, more) (told, also, others) =
     let same : told ≡ said = one_said (text_of l) told said also.says is.says in
-    one_fine (with_name m (name_of l) a) (next_place said a) ls x y more (subst (λ (s : Said). AreFine (with_name m (name_of l) a) (next_place s a) ls y) same others)
+    one_fine (with_name m (name_of l) a) (next_place said a) ls x y more
+    (subst (λ (s : Said). AreFine (with_name m (name_of l) a) (next_place s a) ls y) same others)
 
 fine_refused : (m : LabelMap) (a : ℕ) (ls : List (List ℕ)) (all : LabelMap) (k : AsmKind) (n c : ℕ) → AreFine m a ls all → IsFirstRefused k m a ls n c → ⊥
 fine_refused m a [] all k n c fine r = r
 fine_refused m a (l ∷ ls) all k zero c (said, is, more) r = fine_not_refused m a l said k c is r
 fine_refused m a (l ∷ ls) all k (suc n) c (said, is, more) (told, also, r) =
     let same : told ≡ said = one_said (text_of l) told said also.says is.says in
-    fine_refused (with_name m (name_of l) a) (next_place said a) ls all k n c more (subst (λ (s : Said). IsFirstRefused k (with_name m (name_of l) a) (next_place s a) ls n c) same r)
+    fine_refused (with_name m (name_of l) a) (next_place said a) ls all k n c more
+    (subst (λ (s : Said). IsFirstRefused k (with_name m (name_of l) a) (next_place s a) ls n c) same r)
 
-one_first : (m : LabelMap) (a : ℕ) (ls : List (List ℕ)) (k j : AsmKind) (n i c d : ℕ) → IsFirstRefused k m a ls n c → IsFirstRefused j m a ls i d → (k ≡ j) × (n ≡ i) × (c ≡ d)
+one_first : (m : LabelMap) (a : ℕ) (ls : List (List ℕ)) (k j : AsmKind) (n i c d : ℕ) → IsFirstRefused k m a ls n c → IsFirstRefused j m a ls i d
+    → (k ≡ j) × (n ≡ i) × (c ≡ d)
 one_first m a [] k j n i c d r s = absurd r
 one_first m a (l ∷ ls) k j zero zero c d r s = let one = one_line_refusal m a l k j c d r s in (one.0, refl, one.1)
 one_first m a (l ∷ ls) k j zero (suc i) c d r (told, also, s) = absurd (fine_not_refused m a l told k c also r)
 one_first m a (l ∷ ls) k j (suc n) zero c d (said, is, r) s = absurd (fine_not_refused m a l said j d is s)
 one_first m a (l ∷ ls) k j (suc n) (suc i) c d (said, is, r) (told, also, s) =
     let same : told ≡ said = one_said (text_of l) told said also.says is.says in
-    let one = one_first (with_name m (name_of l) a) (next_place said a) ls k j n i c d r (subst (λ (t : Said). IsFirstRefused j (with_name m (name_of l) a) (next_place t a) ls i d) same s) in
+    let one = one_first (with_name m (name_of l) a) (next_place said a) ls k j n i c d r
+    (subst (λ (t : Said). IsFirstRefused j (with_name m (name_of l) a) (next_place t a) ls i d) same s) in
     (one.0, ap suc one.1, one.2)
 
 -- SOURCES
@@ -102,7 +106,8 @@ image_not_refused : (source : List ℕ) (x : List Segment) (k : AsmKind) (n c : 
 image_not_refused source x k n c a (inl r) = fine_refused empty 0 (source_lines source) a.labels k n c a.fine r
 image_not_refused source x k n c a (inr (labels, fine, r)) =
     let same : labels ≡ a.labels = one_fine empty 0 (source_lines source) labels a.labels fine a.fine in
-    given_refused (get a.labels) 0 (source_lines source) a.pieces k n c a.given (subst (λ (m : LabelMap). IsNextRefused k (get m) 0 (source_lines source) n c) same r)
+    given_refused (get a.labels) 0 (source_lines source) a.pieces k n c a.given
+    (subst (λ (m : LabelMap). IsNextRefused k (get m) 0 (source_lines source) n c) same r)
 
 one_refusal : (source : List ℕ) (k j : AsmKind) (n i c d : ℕ) → IsSourceRefused k source n c → IsSourceRefused j source i d → (k ≡ j) × (n ≡ i) × (c ≡ d)
 one_refusal source k j n i c d (inl r) (inl s) = one_first empty 0 (source_lines source) k j n i c d r s

@@ -1,5 +1,6 @@
 -- What a line adds to what is known of the lines behind it.
-use Rattle.std.proofs.Common.{◌≡◌, ℕ, suc, ◌+◌, ◌-◌, ◌<◌, ◌≤◌, List, [], ◌∷◌, ◌++◌, eqb, length, replicate, false, Result, Ok, Err, refl, sym, ap, subst, append_assoc, ◌∙◌, inl, inr, arith}
+use Rattle.std.proofs.Common.{◌≡◌, ℕ, suc, ◌+◌, ◌-◌, ◌<◌, ◌≤◌, List, [], ◌∷◌, ◌++◌, eqb, length, replicate, false, Result, Ok, Err, refl, sym, ap, subst}
+use Rattle.std.proofs.Common.{append_assoc, ◌∙◌, inl, inr, arith}
 use Rattle.std.specs.Prelude.{OnOk, is_err}
 use Rattle.std.specs.FinMap.{get, empty}
 use Rattle.std.specs.List.{AllByRecursion}
@@ -40,21 +41,28 @@ no_lines [] e = refl
 no_lines (b ∷ rest) e = absurd (omega (arith, e))
 
 -- THE FIRST PASS
-pub fine_step : (m n : LabelMap) (a b : ℕ) (l : List ℕ) (ls lines : List (List ℕ)) (said : Said) (all : LabelMap) → lines ≡ l ∷ ls → IsFine m a l said → b ≡ next_place said a → n ≡ with_name m (name_of l) a → AreFine n b ls all
+pub fine_step : (m n : LabelMap) (a b : ℕ) (l : List ℕ) (ls lines : List (List ℕ)) (said : Said) (all : LabelMap) → lines ≡ l ∷ ls → IsFine m a l said
+    → b ≡ next_place said a → n ≡ with_name m (name_of l) a → AreFine n b ls all
     → AreFine m a lines all
 fine_step m n a b l ls lines said all e is next named more =
     subst (λ (x : List (List ℕ)). AreFine m a x all) (sym e)
     (said, is, subst (λ (c : ℕ). AreFine (with_name m (name_of l) a) c ls all) next (subst (λ (x : LabelMap). AreFine x b ls all) named more))
 
-pub refused_step : (kind : AsmKind) (m n : LabelMap) (a b : ℕ) (l : List ℕ) (ls lines : List (List ℕ)) (said : Said) (i c : ℕ) → lines ≡ l ∷ ls → IsFine m a l said → b ≡ next_place said a → n ≡ with_name m (name_of l) a
+pub refused_step : (kind : AsmKind) (m n : LabelMap) (a b : ℕ) (l : List ℕ) (ls lines : List (List ℕ)) (said : Said) (i c : ℕ) → lines ≡ l ∷ ls
+    → IsFine m a l said → b ≡ next_place said a → n ≡ with_name m (name_of l) a
     → IsFirstRefused kind n b ls i c → IsFirstRefused kind m a lines (suc i) c
 refused_step kind m n a b l ls lines said i c e is next named more =
-    subst (λ (x : List (List ℕ)). IsFirstRefused kind m a x (suc i) c) (sym e)
-    (said, is, subst (λ (p : ℕ). IsFirstRefused kind (with_name m (name_of l) a) p ls i c) next (subst (λ (x : LabelMap). IsFirstRefused kind x b ls i c) named more))
+    subst (λ (x : List (List ℕ)). IsFirstRefused kind m a x (suc i) c) (sym e) (
+      said,
+      is,
+      subst (λ (p : ℕ). IsFirstRefused kind (with_name m (name_of l) a) p ls i c) next
+          (subst (λ (x : LabelMap). IsFirstRefused kind x b ls i c) named more),
+    )
 
 -- lines that are left begin with a line that is refused
 pub first_err : (source : List ℕ) (m : LabelMap) (a number : ℕ) (l : List ℕ) (ls lines : List (List ℕ)) (e : AsmErr) → 1 ≤ number → lines ≡ l ∷ ls
-    → ((kind : AsmKind) (n c : ℕ) → IsFirstRefused kind m a lines n c → IsFirstRefused kind empty 0 (source_lines source) (number - 1 + n) c) → IsLineErr m a l number e → IsFirstErr source e
+    → ((kind : AsmKind) (n c : ℕ) → IsFirstRefused kind m a lines n c → IsFirstRefused kind empty 0 (source_lines source) (number - 1 + n) c)
+    → IsLineErr m a l number e → IsFirstErr source e
 first_err source m a number l ls lines (refusals.Line k c kind) counted at whole (same, r) = (
   number - 1 + 0,
   same ∙ (let f : number ≡ number - 1 + 0 + 1 = omega (arith, counted) in f),
@@ -64,13 +72,15 @@ first_err source m a number l ls lines refusals.OutOfMemory counted at whole r =
 
 -- THE SECOND PASS
 -- a refusal of a text, with its number
-pub said_err : (labels : Naming) (a : ℕ) (text : List ℕ) (begin number : ℕ) (said : Said) (r : AsmErr) (x y : TextErr) → r ≡ refusals.Line number y.column y.kind → y.kind ≡ x.kind → y.column ≡ shifted begin x.column
+pub said_err : (labels : Naming) (a : ℕ) (text : List ℕ) (begin number : ℕ) (said : Said) (r : AsmErr) (x y : TextErr)
+    → r ≡ refusals.Line number y.column y.kind → y.kind ≡ x.kind → y.column ≡ shifted begin x.column
     → IsSaidRefused x.kind labels a text said x.column → IsSaidErr labels a text begin number said r
 said_err labels a text begin number said r x y told kind column is =
     subst (λ (e : AsmErr). IsSaidErr labels a text begin number said e) (sym told)
     (refl, x.column, subst (λ (k : AsmKind). IsSaidRefused k labels a text said x.column) (sym kind) is, column)
 
-pub given_align : (labels : Naming) (old new : Made) (n count : ℕ) (a : Directed) → a ≡ align n → count ≡ padding n (place_of old) → new ≡ with_bytes old (replicate count 0)
+pub given_align : (labels : Naming) (old new : Made) (n count : ℕ) (a : Directed) → a ≡ align n → count ≡ padding n (place_of old)
+    → new ≡ with_bytes old (replicate count 0)
     → (bs : List ℕ) × AreAsked labels (place_of old) a bs × (new ≡ after_line old (directive a) bs)
 given_align labels old new n count a e many added =
     subst (λ (x : Directed). (bs : List ℕ) × AreAsked labels (place_of old) x bs × (new ≡ after_line old (directive x) bs)) (sym e)
@@ -88,7 +98,8 @@ no_error (Ok x) P e p = p
 no_error (Err x) P e p = absurd (false≢true (sym e))
 
 -- what holds of what a directive asks for holds of what its text says
-pub of_directive : (text : List ℕ) (d : Directive) (said told : Said) (P : Said → Type 0) → Says text said → Says text told → ShowsSaid text (statements.Directive d) told → ((a : Directed) → ShowsDirected text d a → P (directive a)) → P said
+pub of_directive : (text : List ℕ) (d : Directive) (said told : Said) (P : Said → Type 0) → Says text said → Says text told
+    → ShowsSaid text (statements.Directive d) told → ((a : Directed) → ShowsDirected text d a → P (directive a)) → P said
 of_directive text d said told P says tells shows each =
     subst (λ (s : Said). P s) (one_said text told said tells says) (go told shows)
   where
@@ -98,10 +109,12 @@ of_directive text d said told P says tells shows each =
     go (directive a) sh = each a sh
 
 -- the same of an instruction, for which there is room
-pub of_instruction : (text : List ℕ) (w : ℕ) (said told : Said) (P : Said → Type 0) → Says text said → Says text told → ShowsSaid text (statements.Instruction w) told → P (instruction w) → P said
+pub of_instruction : (text : List ℕ) (w : ℕ) (said told : Said) (P : Said → Type 0) → Says text said → Says text told
+    → ShowsSaid text (statements.Instruction w) told → P (instruction w) → P said
 of_instruction text w said told P says tells shows here = subst (λ (s : Said). P s) (sym shows ∙ one_said text told said tells says) here
 
-pub room_here : (text : List ℕ) (a w n : ℕ) (told : Said) → Says text told → ShowsSaid text (statements.Instruction w) told → HasPlace told a → HasWidth text n → HasRoom a n
+pub room_here : (text : List ℕ) (a w n : ℕ) (told : Said) → Says text told → ShowsSaid text (statements.Instruction w) told → HasPlace told a → HasWidth text n
+    → HasRoom a n
 room_here text a w n told tells shows place width =
     let read : HasWidth text w = says_width text w (subst (λ (s : Said). Says text s) shows tells) in
     let room : HasPlace (instruction w) a = subst (λ (s : Said). HasPlace s a) shows place in
@@ -150,17 +163,20 @@ higher : (a b : ℕ) (ss : List Segment) → a < b → AllByRecursion (λ s. b �
 higher a b [] l all = tt
 higher a b (s ∷ ss) l all = (omega (arith, l, all.0), higher a b ss l all.1)
 
-moved_joined : (m : Made) (b : ℕ) (ps : List Segment) → place_of m ≤ b → AreRising b ps → whole_with (moved m b) ps ≡ whole_with m (segment (place_of m) [] ∷ ps)
+moved_joined : (m : Made) (b : ℕ) (ps : List Segment) → place_of m ≤ b → AreRising b ps
+    → whole_with (moved m b) ps ≡ whole_with m (segment (place_of m) [] ∷ ps)
 moved_joined m b ps l rising = elim (cases_Bool (eqb (place_of m) b)) [
   | inl e ↦ rw e refl
   | inr e ↦
       (let apart = eqb-false _ _ e in
       let behind = higher (place_of m) b (joined ps) (omega (arith, l, apart)) (joined_from b ps rising) in
-      rw e (append_assoc m.whole (with_piece m.start m.bytes []) (joined ps) ∙ ap (λ (x : List Segment). m.whole ++ x) (sym (with_piece-apart m.start m.bytes (joined ps) behind))))
+      rw e (append_assoc m.whole (with_piece m.start m.bytes []) (joined ps)
+      ∙ ap (λ (x : List Segment). m.whole ++ x) (sym (with_piece-apart m.start m.bytes (joined ps) behind))))
 ]
 
 -- what a line makes, with the pieces behind it
-after_joined : (labels : Naming) (m : Made) (text : List ℕ) (said : Said) (bs : List ℕ) (ps : List Segment) → AreBytes labels (place_of m) text said bs → HasPlace said (place_of m) → AreRising (next_place said (place_of m)) ps
+after_joined : (labels : Naming) (m : Made) (text : List ℕ) (said : Said) (bs : List ℕ) (ps : List Segment) → AreBytes labels (place_of m) text said bs
+    → HasPlace said (place_of m) → AreRising (next_place said (place_of m)) ps
     → whole_with (after_line m said bs) ps ≡ whole_with m (segment (place_of m) bs ∷ ps)
 after_joined labels m text nothing bs ps are place rising = bytes_joined m bs ps
 after_joined labels m text (instruction n) bs ps are place rising = bytes_joined m bs ps
@@ -171,8 +187,10 @@ after_joined labels m text (directive (space n)) bs ps are place rising = bytes_
 after_joined labels m text (directive (values s d ds)) bs ps are place rising = bytes_joined m bs ps
 
 -- A LINE of the second pass, in front of others
-module _ (labels : LabelMap) (m : LabelMap) (old new : Made) (l : List ℕ) (ls lines : List (List ℕ)) (said : Said) (bs : List ℕ) (at : lines ≡ l ∷ ls) (fine : IsFine m (place_of old) l said)
-    (others : AreFine (with_name m (name_of l) (place_of old)) (next_place said (place_of old)) ls labels) (are : AreBytes (get labels) (place_of old) (text_of l) said bs) (made : new ≡ after_line old said bs) where
+module _ (labels : LabelMap) (m : LabelMap) (old new : Made) (l : List ℕ) (ls lines : List (List ℕ)) (said : Said) (bs : List ℕ) (at : lines ≡ l ∷ ls)
+    (fine : IsFine m (place_of old) l said)
+    (others : AreFine (with_name m (name_of l) (place_of old)) (next_place said (place_of old)) ls labels)
+    (are : AreBytes (get labels) (place_of old) (text_of l) said bs) (made : new ≡ after_line old said bs) where
   place_is : place_of new ≡ next_place said (place_of old)
   place_is = ap place_of made ∙ after_place old said bs (bytes_length (get labels) (place_of old) (text_of l) said bs fine.says are)
 
@@ -188,13 +206,15 @@ module _ (labels : LabelMap) (m : LabelMap) (old new : Made) (l : List ℕ) (ls 
         ap (λ (x : Made). whole_with x ps) made ∙ after_joined (get labels) old (text_of l) said bs ps are fine.place rising,
       )
 
-  pub next_step : (kind : AsmKind) (n c : ℕ) → IsNextRefused kind (get labels) (place_of new) ls n c → IsNextRefused kind (get labels) (place_of old) lines (suc n) c
+  pub next_step : (kind : AsmKind) (n c : ℕ) → IsNextRefused kind (get labels) (place_of new) ls n c
+      → IsNextRefused kind (get labels) (place_of old) lines (suc n) c
   next_step kind n c r =
       subst (λ (x : List (List ℕ)). IsNextRefused kind (get labels) (place_of old) x (suc n) c) (sym at)
       (said, bs, fine.says, are, subst (λ (a : ℕ). IsNextRefused kind (get labels) a ls n c) place_is r)
 
 -- lines that are left begin with a line that is refused
-pub second_err : (labels : Naming) (source : List (List ℕ)) (a number : ℕ) (l : List ℕ) (ls lines : List (List ℕ)) (said : Said) (e : AsmErr) → 1 ≤ number → lines ≡ l ∷ ls → Says (text_of l) said
+pub second_err : (labels : Naming) (source : List (List ℕ)) (a number : ℕ) (l : List ℕ) (ls lines : List (List ℕ)) (said : Said) (e : AsmErr) → 1 ≤ number
+    → lines ≡ l ∷ ls → Says (text_of l) said
     → ((kind : AsmKind) (n c : ℕ) → IsNextRefused kind labels a lines n c → IsNextRefused kind labels 0 source (number - 1 + n) c)
     → IsSaidErr labels a (text_of l) (text_column l) number said e → IsSecondErr labels source e
 second_err labels source a number l ls lines said (refusals.Line k c kind) counted at says whole (same, t, is, column) = (

@@ -41,7 +41,8 @@ number_of labels s (beyond w n) = option_map (λ a. a + n) (labels w)
 -- these are the bytes of the values of a list, each with its low byte first; all names in it are defined
 abbrev pub AreValues : Naming → DatumSize → List Datum → List ℕ → Type 0
 AreValues labels s [] bs = bs ≡ []
-AreValues labels s (d ∷ ds) bs = (n : ℕ) × (rest : List ℕ) × (number_of labels s d ≡ Some n) × AreValues labels s ds rest × (bs ≡ low_bytes (bytes_each s) n ++ rest)
+AreValues labels s (d ∷ ds) bs = (n : ℕ) × (rest : List ℕ) × (number_of labels s d ≡ Some n) × AreValues labels s ds rest
+    × (bs ≡ low_bytes (bytes_each s) n ++ rest)
 
 -- these are the bytes of a directive at a: none of `.org`, zeros of `.align` and `.space`, and those of the values of a list
 abbrev pub AreAsked : Naming → ℕ → Directed → List ℕ → Type 0

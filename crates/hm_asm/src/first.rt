@@ -28,7 +28,9 @@ fn define(labels: &mut Labels, label: Option<&[u8]>, at: u32) -> Result<bool, Ou
 
 /// Where the next line stands behind one that was read, if this has its place.
 fn place(line: &Line<'_>, at: u32) -> Result<u32, TextErr>
-    ensures place { (text : List ℕ) (said : Said) → ShowsSaid text line.now.statement said → MatchResult result (λ b. HasPlace said at × (b ≡ next_place said at)) (λ e. (HasPlace said at → ⊥) × (e.kind ≡ AsmKind.Place) × (e.column ≡ line.now.parts.column)) }
+    ensures place { (text : List ℕ) (said : Said) → ShowsSaid text line.now.statement said
+        → MatchResult result (λ b. HasPlace said at × (b ≡ next_place said at))
+        (λ e. (HasPlace said at → ⊥) × (e.kind ≡ AsmKind.Place) × (e.column ≡ line.now.parts.column)) }
 {
     match behind_statement(line.statement, at) {
         Some(next) => Ok(next),

@@ -82,8 +82,10 @@ fn add_values(
 ) -> Result<(), AsmErr>
     requires counted { 0 < line.now.parts.column }
     requires ready { IsReadyList line.now.parts.instruction.now values.now (place_of out.old) }
-    ensures given { (a : Directed) → ShowsValues line.now.parts.instruction.now values.now a → IfOk result (λ _. (bs : List ℕ) × AreAsked (get labels.now) (place_of out.old) a bs × (out.new ≡ with_bytes out.old bs)) }
-    ensures refused { (a : Directed) → ShowsValues line.now.parts.instruction.now values.now a → IfErr result (λ e. IsSaidErr (get labels.now) (place_of out.old) line.now.parts.instruction.now line.now.parts.column number (directive a) e) }
+    ensures given { (a : Directed) → ShowsValues line.now.parts.instruction.now values.now a
+        → IfOk result (λ _. (bs : List ℕ) × AreAsked (get labels.now) (place_of out.old) a bs × (out.new ≡ with_bytes out.old bs)) }
+    ensures refused { (a : Directed) → ShowsValues line.now.parts.instruction.now values.now a
+        → IfErr result (λ e. IsSaidErr (get labels.now) (place_of out.old) line.now.parts.instruction.now line.now.parts.column number (directive a) e) }
 {
     let mut rest = values.list;
     while let Some((item, behind)) = item_at(rest) {
@@ -111,8 +113,11 @@ fn add_instruction(
     requires counted { 0 < line.now.parts.column }
     requires even { place_of out.old % 2 ≡ 0 }
     requires room { (n : ℕ) → HasWidth line.now.parts.instruction.now n → HasRoom (place_of out.old) n }
-    ensures given { (n : ℕ) → IfOk result (λ _. (bs : List ℕ) × AreBytes (get labels.now) (place_of out.old) line.now.parts.instruction.now (instruction n) bs × (out.new ≡ with_bytes out.old bs)) }
-    ensures refused { (n : ℕ) → IfErr result (λ e. IsSaidErr (get labels.now) (place_of out.old) line.now.parts.instruction.now line.now.parts.column number (instruction n) e) }
+    ensures given { (n : ℕ) → IfOk result
+        (λ _. (bs : List ℕ) × AreBytes (get labels.now) (place_of out.old) line.now.parts.instruction.now (instruction n) bs
+        × (out.new ≡ with_bytes out.old bs)) }
+    ensures refused { (n : ℕ) → IfErr result
+        (λ e. IsSaidErr (get labels.now) (place_of out.old) line.now.parts.instruction.now line.now.parts.column number (instruction n) e) }
 {
     match parse_instr(line.parts.instruction, out.place(), labels) {
         Ok(i) => {
@@ -134,8 +139,10 @@ fn add_asked(
 ) -> Result<(), AsmErr>
     requires counted { 0 < line.now.parts.column }
     requires ready { IsReadyAsked line.now.parts.instruction.now asked.now (place_of out.old) }
-    ensures given { (a : Directed) → ShowsDirected line.now.parts.instruction.now asked.now a → IfOk result (λ _. (bs : List ℕ) × AreAsked (get labels.now) (place_of out.old) a bs × (out.new ≡ after_line out.old (directive a) bs)) }
-    ensures refused { (a : Directed) → ShowsDirected line.now.parts.instruction.now asked.now a → IfErr result (λ e. IsSaidErr (get labels.now) (place_of out.old) line.now.parts.instruction.now line.now.parts.column number (directive a) e) }
+    ensures given { (a : Directed) → ShowsDirected line.now.parts.instruction.now asked.now a
+        → IfOk result (λ _. (bs : List ℕ) × AreAsked (get labels.now) (place_of out.old) a bs × (out.new ≡ after_line out.old (directive a) bs)) }
+    ensures refused { (a : Directed) → ShowsDirected line.now.parts.instruction.now asked.now a
+        → IfErr result (λ e. IsSaidErr (get labels.now) (place_of out.old) line.now.parts.instruction.now line.now.parts.column number (directive a) e) }
 {
     match asked {
         Directive::Org(to) => {
@@ -163,8 +170,11 @@ fn add_statement(
     out: &mut Making,
 ) -> Result<(), AsmErr>
     requires ready { IsReady line.now (place_of out.old) }
-    ensures given { (said : Said) → Says line.now.parts.instruction.now said → IfOk result (λ _. (bs : List ℕ) × AreBytes (get labels.now) (place_of out.old) line.now.parts.instruction.now said bs × (out.new ≡ after_line out.old said bs)) }
-    ensures refused { (said : Said) → Says line.now.parts.instruction.now said → IfErr result (λ e. IsSaidErr (get labels.now) (place_of out.old) line.now.parts.instruction.now line.now.parts.column number said e) }
+    ensures given { (said : Said) → Says line.now.parts.instruction.now said
+        → IfOk result (λ _. (bs : List ℕ) × AreBytes (get labels.now) (place_of out.old) line.now.parts.instruction.now said bs
+        × (out.new ≡ after_line out.old said bs)) }
+    ensures refused { (said : Said) → Says line.now.parts.instruction.now said
+        → IfErr result (λ e. IsSaidErr (get labels.now) (place_of out.old) line.now.parts.instruction.now line.now.parts.column number said e) }
 {
     match &line.statement {
         Statement::Nothing => Ok(()),
@@ -177,8 +187,10 @@ fn add_statement(
 fn add_line(line: &[u8], number: u32, labels: &Labels, out: &mut Making) -> Result<(), AsmErr>
     requires small { length line.now < 2 ^ 31 }
     requires fine { (m : LabelMap) × (said : Said) × IsFine m (place_of out.old) line.now said }
-    ensures given { (said : Said) → Says (text_of line.now) said → IfOk result (λ _. (bs : List ℕ) × AreBytes (get labels.now) (place_of out.old) (text_of line.now) said bs × (out.new ≡ after_line out.old said bs)) }
-    ensures refused { (said : Said) → Says (text_of line.now) said → IfErr result (λ e. IsSaidErr (get labels.now) (place_of out.old) (text_of line.now) (text_column line.now) number said e) }
+    ensures given { (said : Said) → Says (text_of line.now) said
+        → IfOk result (λ _. (bs : List ℕ) × AreBytes (get labels.now) (place_of out.old) (text_of line.now) said bs × (out.new ≡ after_line out.old said bs)) }
+    ensures refused { (said : Said) → Says (text_of line.now) said
+        → IfErr result (λ e. IsSaidErr (get labels.now) (place_of out.old) (text_of line.now) (text_column line.now) number said e) }
 {
     match read_source_line(line) {
         Ok(read) => add_statement(&read, number, labels, out),

@@ -1,5 +1,6 @@
 -- The part of word b alone, as of the whole of a state in which that word alone is active.
-use Rattle.std.proofs.Common.{◌≡◌, ℕ, ◌+◌, ◌-◌, ◌*◌, ◌%◌, ◌^◌, ◌<◌, Bool, true, false, not, cond, ◌||◌, ◌&&◌, ltb, eqb, List, [], ◌∷◌, ◌++◌, Option, Some, None, refl, sym, ◌∙◌, ap, arith, append_assoc, take, drop}
+use Rattle.std.proofs.Common.{◌≡◌, ℕ, ◌+◌, ◌-◌, ◌*◌, ◌%◌, ◌^◌, ◌<◌, Bool, true, false, not, cond, ◌||◌, ◌&&◌, ltb, eqb, List, [], ◌∷◌, ◌++◌, Option, Some, None}
+use Rattle.std.proofs.Common.{refl, sym, ◌∙◌, ap, arith, append_assoc, take, drop}
 use Rattle.std.specs.Int.{bit_at}
 use Rattle.hm_base.specs.declared.Place.{Place}
 use Rattle.hm_base.specs.declared.Place.TheVariants.{P0, Mask01, Mask23, Ltp, R}
@@ -32,7 +33,8 @@ use Rattle.hm_beat_laws.proofs.Kept.{apart, apart_too, by_beat, rest_put, sticky
 use Rattle.hm_beat_laws.proofs.Under.{alone, marks_under, merges_under, part_under, whole_under, writes_under}
 
 -- WORD b ALONE IS ACTIVE
-bits_back : (p q r t : Bool) → (let n = nibble (p ∷ q ∷ r ∷ t ∷ []) % 2 ^ 4 in (eqb (bit_at n 0) 1 ≡ p) × (eqb (bit_at n 1) 1 ≡ q) × (eqb (bit_at n 2) 1 ≡ r) × (eqb (bit_at n 3) 1 ≡ t))
+bits_back : (p q r t : Bool) → (let n = nibble (p ∷ q ∷ r ∷ t ∷ []) % 2 ^ 4 in
+    (eqb (bit_at n 0) 1 ≡ p) × (eqb (bit_at n 1) 1 ≡ q) × (eqb (bit_at n 2) 1 ≡ r) × (eqb (bit_at n 3) 1 ≡ t))
 bits_back true true true true = (refl, refl, refl, refl)
 bits_back true true true false = (refl, refl, refl, refl)
 bits_back true true false true = (refl, refl, refl, refl)
@@ -61,11 +63,13 @@ slice_back : (a b c d e f g h : Bool) → (let n = nibble ((a && e) ∷ (b && f)
     ((a && e) ∷ (b && f) ∷ (c && g) ∷ (d && h) ∷ []))
 slice_back a b c d e f g h =
     let back = bits_back (a && e) (b && f) (c && g) (d && h) in
-    (λ j. (back.0 j && e) ∷ (back.1 j && f) ∷ (back.2 j && g) ∷ (back.3 j && h) ∷ []) ∙ (λ j. and_again a e j ∷ and_again b f j ∷ and_again c g j ∷ and_again d h j ∷ [])
+    (λ j. (back.0 j && e) ∷ (back.1 j && f) ∷ (back.2 j && g) ∷ (back.3 j && h) ∷ [])
+    ∙ (λ j. and_again a e j ∷ and_again b f j ∷ and_again c g j ∷ and_again d h j ∷ [])
 
 word_back : (b : ℕ) (s : State) → (let p = allowed (at (mask_place b) s) (at (P0 b) s) in let r = λ (j : ℕ). remains (at Ltp s) (at (R 14) s) (4 * b + j) in
     let n = nibble (active_at b s) % 2 ^ 4 in
-    ◌≡◌ {A = List Bool} ((eqb (bit_at n 0) 1 && r 0) ∷ (eqb (bit_at n 1) 1 && r 1) ∷ (eqb (bit_at n 2) 1 && r 2) ∷ (eqb (bit_at n 3) 1 && r 3) ∷ []) (active_at b s))
+    ◌≡◌ {A = List Bool} ((eqb (bit_at n 0) 1 && r 0) ∷ (eqb (bit_at n 1) 1 && r 1) ∷ (eqb (bit_at n 2) 1 && r 2) ∷ (eqb (bit_at n 3) 1 && r 3) ∷ [])
+    (active_at b s))
 word_back b s =
     let p = allowed (at (mask_place b) s) (at (P0 b) s) in
     let r : ℕ → Bool = λ j. remains (at Ltp s) (at (R 14) s) (4 * b + j) in
@@ -77,7 +81,8 @@ IsActive s b k = active_at k (only b s) ≡ cond (eqb k b) (active_at b s) (fals
 
 pub active_alone : (s : State) (b k : ℕ) → b < 4 → k < 4 → IsActive s b k
 active_alone s b k low high = by_beat (λ c. (k : ℕ) → k < 4 → IsActive s c k)
-    (by_beat (IsActive s 0) (word_back 0 s) refl refl refl) (by_beat (IsActive s 1) refl (word_back 1 s) refl refl) (by_beat (IsActive s 2) refl refl (word_back 2 s) refl)
+    (by_beat (IsActive s 0) (word_back 0 s) refl refl refl) (by_beat (IsActive s 1) refl (word_back 1 s) refl refl)
+    (by_beat (IsActive s 2) refl refl (word_back 2 s) refl)
     (by_beat (IsActive s 3) refl refl refl (word_back 3 s)) b low k high
 
 abbrev pub IsAlone : State → ℕ → Type 0
@@ -89,7 +94,8 @@ alone_is s = by_beat (IsAlone s) (words 0 (omega arith)) (words 1 (omega arith))
     words : (b : ℕ) → b < 4 → predicate_at (only b s)
         ≡ cond (eqb 0 b) (active_at b s) (false ∷ false ∷ false ∷ false ∷ []) ++ cond (eqb 1 b) (active_at b s) (false ∷ false ∷ false ∷ false ∷ [])
         ++ cond (eqb 2 b) (active_at b s) (false ∷ false ∷ false ∷ false ∷ []) ++ cond (eqb 3 b) (active_at b s) (false ∷ false ∷ false ∷ false ∷ [])
-    words b low = λ j. active_alone s b 0 low (omega arith) j ++ active_alone s b 1 low (omega arith) j ++ active_alone s b 2 low (omega arith) j ++ active_alone s b 3 low (omega arith) j
+    words b low = λ j. active_alone s b 0 low (omega arith) j ++ active_alone s b 1 low (omega arith) j ++ active_alone s b 2 low (omega arith) j
+        ++ active_alone s b 3 low (omega arith) j
 
 -- WRITES BESIDE P0 AND THE MASKS
 abbrev pub Plain : List (Cell × Value) → Type 0
@@ -130,10 +136,12 @@ plain ps (form.Block r) s = tt
 -- the advance writes P0 and the masks alone
 advance_off : (s : State) (c : Cell) → is_predicate c ≡ false → Off c (advance_half 0 s ++ advance_half 2 s)
 advance_off s c e =
-    off-append c (advance_half 0 s) (advance_half 2 s) (half 0 Mask01 (ltb 8 (at Mask01 s)) (not (eqb (at Mask01 s) 0)) refl) (half 2 Mask23 (ltb 8 (at Mask23 s)) (not (eqb (at Mask23 s) 0)) refl)
+    off-append c (advance_half 0 s) (advance_half 2 s) (half 0 Mask01 (ltb 8 (at Mask01 s)) (not (eqb (at Mask01 s) 0)) refl)
+    (half 2 Mask23 (ltb 8 (at Mask23 s)) (not (eqb (at Mask23 s) 0)) refl)
   where
     half : (k : ℕ) (p : Place) (x y : Bool) → is_predicate (At p) ≡ true
-        → Off c (cond x (into (write (P0 k) (15 - at (P0 k) s)) ∷ into (write (P0 (k + 1)) (15 - at (P0 (k + 1)) s)) ∷ []) [] ++ cond y (into (write p (2 * at p s)) ∷ []) [])
+        → Off c (cond x (into (write (P0 k) (15 - at (P0 k) s)) ∷ into (write (P0 (k + 1)) (15 - at (P0 (k + 1)) s)) ∷ []) []
+        ++ cond y (into (write p (2 * at p s)) ∷ []) [])
     half k p true true h = (apart is_predicate (At (P0 k)) c refl e, (apart is_predicate (At (P0 (k + 1))) c refl e, (apart is_predicate (At p) c h e, tt)))
     half k p true false h = (apart is_predicate (At (P0 k)) c refl e, (apart is_predicate (At (P0 (k + 1))) c refl e, tt))
     half k p false true h = (apart is_predicate (At p) c h e, tt)
@@ -204,7 +212,9 @@ same_round None b s = refl
 same_round (Some q) b s = refl
 
 same_writes : (ps : List Bool) (f : Form) (b : ℕ) (s : State) → writes_under ps f (only b s) ≡ writes_under ps f s
-same_writes ps (form.Lanes l) b s = λ j. merges_under ps l.d.value (lanewise3 l.z (lane_of l.f l.unsigned l.z) (register_at l.d.value s) (register_at l.n.value s) (same_operand l.z l.by b s j)) s
+same_writes ps (form.Lanes l) b s =
+    λ j. merges_under ps l.d.value
+    (lanewise3 l.z (lane_of l.f l.unsigned l.z) (register_at l.d.value s) (register_at l.n.value s) (same_operand l.z l.by b s j)) s
 same_writes ps (form.Constant r) b s = refl
 same_writes ps (form.Narrow r) b s = refl
 same_writes ps (form.Carry r) b s = refl
@@ -212,7 +222,8 @@ same_writes ps (form.Shift r) b s = refl
 same_writes ps (form.Offsets r) b s = λ j.
     let place = R (2 * r.n.value) in
     let count = 4 * per_word r.z in
-    merges_under ps r.d.value (unlanes r.z (offsets_from r (same_round r.round b s j) count (at place s))) s ++ (into (write place (offset_after r (same_round r.round b s j) count (at place s))) ∷ [])
+    merges_under ps r.d.value (unlanes r.z (offsets_from r (same_round r.round b s j) count (at place s))) s
+    ++ (into (write place (offset_after r (same_round r.round b s j) count (at place s))) ∷ [])
 same_writes ps (form.Sum r) b s = refl
 same_writes ps (form.Long r) b s = refl
 same_writes ps (form.Extreme r) b s = refl
@@ -227,7 +238,8 @@ same_writes ps (form.Reversed r) b s = refl
 same_writes ps (form.Block r) b s = refl
 
 same_marks : (ps : List Bool) (f : Form) (b : ℕ) (s : State) → marks_under ps f (only b s) ≡ marks_under ps f s
-same_marks ps (form.Lanes l) b s = λ j. saturates l.f && any_both ps (lane_tests3 l.z (lane_saturates l.f l.unsigned l.z) (register_at l.d.value s) (register_at l.n.value s) (same_operand l.z l.by b s j))
+same_marks ps (form.Lanes l) b s = λ j. saturates l.f
+    && any_both ps (lane_tests3 l.z (lane_saturates l.f l.unsigned l.z) (register_at l.d.value s) (register_at l.n.value s) (same_operand l.z l.by b s j))
 same_marks ps (form.Constant r) b s = refl
 same_marks ps (form.Narrow r) b s = refl
 same_marks ps (form.Carry r) b s = refl
@@ -253,7 +265,8 @@ alone_part f b s low heeds whole later =
     let k = belongs (gives_registers (Registers f) b) b in
     let g = from_beat b f in
     let u = only b s in
-    same_part b s k (marks_under (alone b s) g s) (marks_under (predicate_at s) f s) (writes_under (alone b s) g s) (writes_under (predicate_at s) f s) (plain (alone b s) g s) (plain (predicate_at s) f s)
+    same_part b s k (marks_under (alone b s) g s) (marks_under (predicate_at s) f s) (writes_under (alone b s) g s) (writes_under (predicate_at s) f s)
+    (plain (alone b s) g s) (plain (predicate_at s) f s)
     ∙ (λ j. part_of k (with_predicate (whole j) (saturating (sym (same_marks (alone b s) g b s) j) (sym (same_writes (alone b s) g b s) j) u)) s)
     ∙ (λ j. part_of k (with_predicate (form_whole f s) (whole_under (sym (alone_is s b low) j) g u)) s)
     ∙ (λ j. part_of k (with_predicate (form_whole f s) (later j)) s)
@@ -267,9 +280,12 @@ one_state v = λ j. record { cell = λ c. either (is_predicate c) (v.cell c) j; 
     either true x = refl
     either false x = refl
 
-pub whole_part : (f : Form) (b : ℕ) (s : State) → gives_registers (Registers f) b ≡ true → from_beat b f ≡ f → chooses_by_predicate f ≡ true → part_of (belongs true b) (form_whole f s) s ≡ form_part f b s
+pub whole_part : (f : Form) (b : ℕ) (s : State) → gives_registers (Registers f) b ≡ true → from_beat b f ≡ f → chooses_by_predicate f ≡ true
+    → part_of (belongs true b) (form_whole f s) s ≡ form_part f b s
 whole_part f b s gives same heeds =
-    (λ j. part_of (belongs (sym gives j) b) (one_state (form_whole f s) j) s) ∙ (λ j. part_of (belongs (gives_registers (Registers f) b) b) (with_predicate (form_whole f s) (form_whole (sym same j) (cond (sym heeds j) s (only b s)))) s)
+    (λ j. part_of (belongs (sym gives j) b) (one_state (form_whole f s) j) s)
+    ∙ (λ j. part_of (belongs (gives_registers (Registers f) b) b)
+    (with_predicate (form_whole f s) (form_whole (sym same j) (cond (sym heeds j) s (only b s)))) s)
 
 -- A FORM THAT WRITES P0 AND THE MASKS ALONE
 mask_off : (p : Place) (m : ℕ) (new : Option ℕ) (c : Cell) → is_predicate (At p) ≡ true → is_predicate c ≡ false → Off c (mask_after p m new)
@@ -280,19 +296,23 @@ mask_off p m None c h e = go (not (eqb m 0))
     go true = (apart is_predicate (At p) c h e, tt)
     go false = tt
 
-slices_off : (l : List Bool) (new : Option ℕ) (s : State) (c : Cell) → is_predicate c ≡ false → Off c (half_writes 0 (take 8 l) new s ++ half_writes 2 (drop 8 l) new s)
+slices_off : (l : List Bool) (new : Option ℕ) (s : State) (c : Cell) → is_predicate c ≡ false
+    → Off c (half_writes 0 (take 8 l) new s ++ half_writes 2 (drop 8 l) new s)
 slices_off l new s c e =
     off-append c (half_writes 0 (take 8 l) new s) (half_writes 2 (drop 8 l) new s)
     (apart is_predicate (At (P0 0)) c refl e, (apart is_predicate (At (P0 1)) c refl e, mask_off Mask01 (at Mask01 s) new c refl e))
     (apart is_predicate (At (P0 2)) c refl e, (apart is_predicate (At (P0 3)) c refl e, mask_off Mask23 (at Mask23 s) new c refl e))
 
 -- no matter which slices and masks it makes of another P0: those of the state count
-module _ (b : ℕ) (s : State) (ws us : List (Cell × Value)) (beside : (c : Cell) → is_predicate c ≡ false → Off c ws) (beside_too : (c : Cell) → is_predicate c ≡ false → Off c us) where
-  one_cell : (c : Cell) (y : Bool) → is_predicate c ≡ y → (put_all cells ws s).cell c ≡ cond y ((put_all cells ws s).cell c) ((put_all cells us (only b s)).cell c)
+module _ (b : ℕ) (s : State) (ws us : List (Cell × Value)) (beside : (c : Cell) → is_predicate c ≡ false → Off c ws)
+    (beside_too : (c : Cell) → is_predicate c ≡ false → Off c us) where
+  one_cell : (c : Cell) (y : Bool) → is_predicate c ≡ y
+      → (put_all cells ws s).cell c ≡ cond y ((put_all cells ws s).cell c) ((put_all cells us (only b s)).cell c)
   one_cell c true e = refl
   one_cell c false e = put_other ws c s (beside c e) ∙ sym (put_other us c (only b s) (beside_too c e) ∙ only_same b s c e)
 
-  predicate_part : (f : Cell → Bool) → part_of f (retired (put_all cells ws s)) s ≡ part_of f (with_predicate (retired (put_all cells ws s)) (retired (put_all cells us (only b s)))) s
+  predicate_part : (f : Cell → Bool)
+      → part_of f (retired (put_all cells ws s)) s ≡ part_of f (with_predicate (retired (put_all cells ws s)) (retired (put_all cells us (only b s)))) s
   predicate_part f = λ j. record {
     cell = λ c. cond (f c) (one_cell c (is_predicate c) refl j) (s.cell c);
     sticky = (sticky_put ws s ∙ sym (sticky_put us (only b s))) j;
@@ -301,13 +321,15 @@ module _ (b : ℕ) (s : State) (ws us : List (Cell × Value)) (beside : (c : Cel
   }
 
 pub slices_part : (l m : List Bool) (new : Option ℕ) (b : ℕ) (s : State)
-    → part_of (belongs true b) (predicate_whole l new s) s ≡ part_of (belongs true b) (with_predicate (predicate_whole l new s) (predicate_whole m new (only b s))) s
+    → part_of (belongs true b) (predicate_whole l new s) s
+    ≡ part_of (belongs true b) (with_predicate (predicate_whole l new s) (predicate_whole m new (only b s))) s
 slices_part l m new b s =
     let u = only b s in
     predicate_part b s (half_writes 0 (take 8 l) new s ++ half_writes 2 (drop 8 l) new s) (half_writes 0 (take 8 m) new u ++ half_writes 2 (drop 8 m) new u)
     (slices_off l new s) (slices_off m new u) (belongs true b)
 
-pub block_part : (k : ℕ) (b : ℕ) (s : State) → part_of (belongs true b) (block_whole k s) s ≡ part_of (belongs true b) (with_predicate (block_whole k s) (block_whole k (only b s))) s
+pub block_part : (k : ℕ) (b : ℕ) (s : State)
+    → part_of (belongs true b) (block_whole k s) s ≡ part_of (belongs true b) (with_predicate (block_whole k s) (block_whole k (only b s))) s
 block_part k b s = predicate_part b s ws ws both both (belongs true b)
   where
     ws : List (Cell × Value)

@@ -1,5 +1,6 @@
 -- A beat that loads or stores under the predicate is the part of the whole of the state in which its word alone is active.
-use Rattle.std.proofs.Common.{◌≡◌, ℕ, ◌+◌, ◌%◌, ◌^◌, ◌<◌, Bool, true, false, cond, eqb, List, [], ◌∷◌, ◌++◌, map, Option, Some, None, Result, Ok, Err, refl, sym, ◌∙◌, ap}
+use Rattle.std.proofs.Common.{◌≡◌, ℕ, ◌+◌, ◌%◌, ◌^◌, ◌<◌, Bool, true, false, cond, eqb, List, [], ◌∷◌, ◌++◌, map, Option, Some, None, Result, Ok, Err, refl}
+use Rattle.std.proofs.Common.{sym, ◌∙◌, ap}
 use Rattle.hm_base.specs.declared.Fault.{Fault}
 use Rattle.hm_base.specs.declared.Stop.{Stop}
 use Rattle.hm_lane.specs.Lanes.{firsts, lanes, unlanes, words}
@@ -15,7 +16,8 @@ use Rattle.hm_beat.specs.Touches.{span_bytes}
 use Rattle.hm_forms.specs.Registers.{advancing, saturating}
 use Rattle.hm_moves.specs.Moves.{extended, width}
 use Rattle.hm_moves.specs.Ways.{Found, Transfer, at_addresses, at_offsets, interleaved, moves_by, straight, way_predicated}
-use Rattle.hm_moves.specs.Wholes.{addresses, are_moved, element_bytes, filled_registers, loaded, loaded_elements, number_bytes, read_at, stored_elements, transfer_whole, written_back}
+use Rattle.hm_moves.specs.Wholes.{addresses, are_moved, element_bytes, filled_registers, loaded, loaded_elements, number_bytes, read_at, stored_elements}
+use Rattle.hm_moves.specs.Wholes.{transfer_whole, written_back}
 use Rattle.hm_beat_laws.specs.Exceptions.{element_stop, keeps_others, marked, with_predicate}
 use Rattle.hm_beat_laws.specs.MovedParts.{first_among, loaded_among, move_part, moved_among, moved_ones, moves_belong, transfer_among}
 use Rattle.hm_beat_laws.specs.Parts.{belongs, only, part_of}
@@ -58,7 +60,8 @@ same_read size.Word b s a = refl
 agrees : (b : ℕ) (s : State) (f : Cell → Bool) (o p : Option Stop) (ws us : List (Cell × Value)) → o ≡ p → ws ≡ us → Plain ws
     → ◌≡◌ {A = Result State Stop} (then (unless o (Ok (saturating false ws s))) (λ v. Ok (part_of f v s)))
     (then (unless p (Ok (saturating false us (only b s)))) (λ v. Ok (part_of f (with_predicate (saturating false [] s) v) s)))
-agrees b s f o p ws us stops same plain = go o ∙ (λ j. then (unless (stops j) (Ok (saturating false (same j) (only b s)))) (λ v. Ok (part_of f (with_predicate (saturating false [] s) v) s)))
+agrees b s f o p ws us stops same plain = go o
+    ∙ (λ j. then (unless (stops j) (Ok (saturating false (same j) (only b s)))) (λ v. Ok (part_of f (with_predicate (saturating false [] s) v) s)))
   where
     go : (q : Option Stop) → ◌≡◌ {A = Result State Stop} (then (unless q (Ok (saturating false ws s))) (λ v. Ok (part_of f v s)))
         (then (unless q (Ok (saturating false ws (only b s)))) (λ v. Ok (part_of f (with_predicate (saturating false [] s) v) s)))
@@ -90,17 +93,20 @@ module _ (x : Around) (store : Bool) (y z : Size) (sign : Bool) (b : ℕ) (low :
 
   -- a register gets elements, or bytes do
   plain_all : (w : Found) (d : ℕ) (back : List (Cell × Value)) → Plain back
-      → (let ps = moved_ones z w b s in let addrs = addresses y z w s in let ys = stored_elements z w s in let xs = unlanes z (loaded_elements (loaded (moves w) s) ps addrs) in
+      → (let ps = moved_ones z w b s in let addrs = addresses y z w s in let ys = stored_elements z w s in
+      let xs = unlanes z (loaded_elements (loaded (moves w) s) ps addrs) in
       Plain (marked (marks x.actor) (cond store (element_bytes y ps addrs ys) (write_register d xs)) ++ back))
   plain_all w d back h =
       let ps = moved_ones z w b s in
       let ws = element_bytes y ps (addresses y z w s) (stored_elements z w s) in
       let xs = unlanes z (loaded_elements (loaded (moves w) s) ps (addresses y z w s)) in
       plain-append (marked (marks x.actor) (cond store ws (write_register d xs))) back
-      (plain_marked (marks x.actor) (cond store ws (write_register d xs)) (plain_either store ws (write_register d xs) (plain_bytes y ps (addresses y z w s) (stored_elements z w s)) (plain_words d 0 (words xs)))) h
+      (plain_marked (marks x.actor) (cond store ws (write_register d xs))
+      (plain_either store ws (write_register d xs) (plain_bytes y ps (addresses y z w s) (stored_elements z w s)) (plain_words d 0 (words xs)))) h
 
   -- a way whose elements, addresses and bases are the same where other words are not active
-  by_ones : (w : Found) → moved_ones z w b s ≡ are_moved z w u → addresses y z w s ≡ addresses y z w u → stored_elements z w s ≡ stored_elements z w u → written_back w s ≡ written_back w u
+  by_ones : (w : Found) → moved_ones z w b s ≡ are_moved z w u → addresses y z w s ≡ addresses y z w u → stored_elements z w s ≡ stored_elements z w u
+      → written_back w s ≡ written_back w u
       → moves_belong z w (eqb b 3) b ≡ f → Plain (writes_at w (moved_ones z w b s) s) → IsAloneMove w
   by_ones w same found stored back belong plain =
       (λ j. then (transfer_among x (moved_ones z w b s) (moves w) s) (λ v. Ok (part_of (belong j) v s)))
@@ -125,7 +131,8 @@ module _ (x : Around) (store : Bool) (y z : Size) (sign : Bool) (b : ℕ) (low :
   alone_move (interleaved d n four part back) h = cc
 
 pub alone_moves : (x : Around) (t : Transfer) (b : ℕ) (s : State) → way_predicated t.found ≡ true → b < 4
-    → move_part x t b s ≡ then (transfer_among x (are_moved t.register t.found (only b s)) t (only b s)) (λ v. Ok (part_of (belongs (eqb b 3) b) (with_predicate (advancing [] s) v) s))
+    → move_part x t b s ≡ then (transfer_among x (are_moved t.register t.found (only b s)) t (only b s))
+    (λ v. Ok (part_of (belongs (eqb b 3) b) (with_predicate (advancing [] s) v) s))
 alone_moves x t b s under low = alone_move x t.store t.memory t.register t.signed b low s t.found under
 
 -- and where it runs, in the thread, that whole is hm_moves'
@@ -138,5 +145,6 @@ pub alone_live : (x : Around) (t : Transfer) (b : ℕ) (s u : State) → x.actor
     → ◌≡◌ {A = Result State Fault} (then (transfer_whole t (only b s)) (λ w. Ok (part_of (belongs (eqb b 3) b) (with_predicate (advancing [] s) w) s))) (Ok u)
 alone_live x t b s u thread under low h =
     let v = only b s in
-    ran_too (transfer_among x (are_moved t.register t.found v) t v) (transfer_whole t v) (λ w. part_of (belongs (eqb b 3) b) (with_predicate (advancing [] s) w) s) u
+    ran_too (transfer_among x (are_moved t.register t.found v) t v) (transfer_whole t v)
+    (λ w. part_of (belongs (eqb b 3) b) (with_predicate (advancing [] s) w) s) u
     (λ w e. moved_live x t v w e thread) (sym (alone_moves x t b s under low) ∙ h)

@@ -1,6 +1,7 @@
 -- Where the elements that are active in the state are moved by the thread, and nothing is tainted, it is the whole instruction.
 use Rattle.std.specs.List.{flat_map}
-use Rattle.std.proofs.Common.{◌≡◌, ℕ, zero, suc, ◌+◌, ◌++◌, Bool, true, false, cond, List, [], ◌∷◌, Option, Some, None, Result, Ok, refl, sym, ◌∙◌, ap, append_assoc}
+use Rattle.std.proofs.Common.{◌≡◌, ℕ, zero, suc, ◌+◌, ◌++◌, Bool, true, false, cond, List, [], ◌∷◌, Option, Some, None, Result, Ok, refl, sym, ◌∙◌, ap}
+use Rattle.std.proofs.Common.{append_assoc}
 use Rattle.hm_base.specs.declared.Fault.{Fault}
 use Rattle.hm_base.specs.declared.Stop.{Stop}
 use Rattle.hm_lane.specs.Lanes.{unlanes, words}
@@ -21,7 +22,8 @@ use Rattle.hm_kinds.proofs.Row.{pc-put_all}
 use Rattle.hm_moves.specs.declared.elements.Element.{Element}
 use Rattle.hm_moves.specs.Moves.{fault_after, width}
 use Rattle.hm_moves.specs.Ways.{Found, Transfer, at_addresses, at_offsets, each_from, interleaved, registers, straight}
-use Rattle.hm_moves.specs.Wholes.{addresses, are_moved, count, element_bytes, fault_of, filled_registers, loaded, loaded_elements, number_bytes, part_word, stored_elements, taken_by, transfer_whole, transferred, written_back}
+use Rattle.hm_moves.specs.Wholes.{addresses, are_moved, count, element_bytes, fault_of, filled_registers, loaded, loaded_elements, number_bytes, part_word}
+use Rattle.hm_moves.specs.Wholes.{stored_elements, taken_by, transfer_whole, transferred, written_back}
 use Rattle.hm_moves.proofs.Trees.{checked_clean, fault_stop}
 use Rattle.hm_beat_laws.specs.Exceptions.{element_stop, mark, marked}
 use Rattle.hm_beat_laws.specs.MovedParts.{first_among, loaded_among, moved_among, transfer_among, untainted}
@@ -71,7 +73,9 @@ clean_bytes y (p ∷ ps) (a ∷ addrs) (x ∷ xs) =
     go false bs = refl
 
 -- registers get no taint
-clean_turns : (d k : ℕ) (parts : ℕ → List ℕ) (i n : ℕ) → marked false (flat_map (λ j. write_words (d + j) k (parts j)) (each_from (λ j. j) i n)) ≡ flat_map (λ j. write_words (d + j) k (parts j)) (each_from (λ j. j) i n)
+clean_turns : (d k : ℕ) (parts : ℕ → List ℕ) (i n : ℕ)
+    → marked false (flat_map (λ j. write_words (d + j) k (parts j)) (each_from (λ j. j) i n))
+    ≡ flat_map (λ j. write_words (d + j) k (parts j)) (each_from (λ j. j) i n)
 clean_turns d k parts i zero = refl
 clean_turns d k parts i (suc n) =
     marked-append false (write_words (d + i) k (parts i)) (flat_map (λ j. write_words (d + j) k (parts j)) (each_from (λ j. j) (i + 1) n))
@@ -81,24 +85,28 @@ clean_registers : (z : Size) (w : Found) (xs : List ℕ) → marked false (fille
 clean_registers z (straight d n offset before back) xs = marked_words false d 0 (words (unlanes z xs))
 clean_registers z (at_offsets d n m scale) xs = marked_words false d 0 (words (unlanes z xs))
 clean_registers z (at_addresses d m offset back) xs = marked_words false d 0 (words (unlanes z xs))
-clean_registers z (interleaved d n four part back) xs = clean_turns d (part_word four part) (λ i. words (unlanes z (taken_by (count z) (registers four) i xs))) 0 (registers four)
+clean_registers z (interleaved d n four part back) xs =
+    clean_turns d (part_word four part) (λ i. words (unlanes z (taken_by (count z) (registers four) i xs))) 0 (registers four)
 
 clean_transferred : (t : Transfer) (ps : List Bool) (addrs : List ℕ) (s : State) → marked false (transferred t ps addrs s) ≡ transferred t ps addrs s
 clean_transferred t ps addrs s = go t.store
   where
-    go : (y : Bool) → (let ws = cond y (element_bytes t.memory ps addrs (stored_elements t.register t.found s)) (filled_registers t.register t.found (loaded_elements (loaded t s) ps addrs)) in marked false ws ≡ ws)
+    go : (y : Bool) → (let ws = cond y (element_bytes t.memory ps addrs (stored_elements t.register t.found s))
+        (filled_registers t.register t.found (loaded_elements (loaded t s) ps addrs)) in marked false ws ≡ ws)
     go true = clean_bytes t.memory ps addrs (stored_elements t.register t.found s)
     go false = clean_registers t.register t.found (loaded_elements (loaded t s) ps addrs)
 
 -- where all are moved nothing stays
 all_loaded : (y z : Size) (d n : ℕ) (four : Bool) (part : ℕ) (back : Bool) (v : ℕ → ℕ) (s : State)
-    → (let w = interleaved d n four part back in loaded_among v (are_moved z w s) (addresses y z w s) (stored_elements z w s) ≡ loaded_elements v (are_moved z w s) (addresses y z w s))
+    → (let w = interleaved d n four part back in
+    loaded_among v (are_moved z w s) (addresses y z w s) (stored_elements z w s) ≡ loaded_elements v (are_moved z w s) (addresses y z w s))
 all_loaded y size.Byte d n four part back v s = refl
 all_loaded y size.Half d n four part back v s = refl
 all_loaded y size.Word d n four part back v s = refl
 
 all_moved : (store : Bool) (y z : Size) (sign : Bool) (w : Found) (s : State)
-    → (let t : Transfer = record { store = store; memory = y; register = z; signed = sign; found = w } in moved_among t (are_moved z w s) (addresses y z w s) s ≡ transferred t (are_moved z w s) (addresses y z w s) s)
+    → (let t : Transfer = record { store = store; memory = y; register = z; signed = sign; found = w } in
+    moved_among t (are_moved z w s) (addresses y z w s) s ≡ transferred t (are_moved z w s) (addresses y z w s) s)
 all_moved store y z sign (straight d n offset before back) s = refl
 all_moved store y z sign (at_offsets d n m scale) s = refl
 all_moved store y z sign (at_addresses d m offset back) s = refl
@@ -109,11 +117,13 @@ all_moved false y z sign (interleaved d n four part back) s =
     ap (filled_registers z w) (all_loaded y z d n four part back (loaded t s) s)
 
 -- of the active elements as much is moved as of the whole
-moved_all : (t : Transfer) (s : State) → (let ps = are_moved t.register t.found s in let addrs = addresses t.memory t.register t.found s in moved_among t ps addrs s ≡ transferred t ps addrs s)
+moved_all : (t : Transfer) (s : State)
+    → (let ps = are_moved t.register t.found s in let addrs = addresses t.memory t.register t.found s in moved_among t ps addrs s ≡ transferred t ps addrs s)
 moved_all t s = all_moved t.store t.memory t.register t.signed t.found s
 
 moved_is : (x : Around) (t : Transfer) (s : State) → x.actor ≡ Thread
-    → (let ps = are_moved t.register t.found s in let addrs = addresses t.memory t.register t.found s in marked (marks x.actor) (moved_among t ps addrs s) ≡ transferred t ps addrs s)
+    → (let ps = are_moved t.register t.found s in let addrs = addresses t.memory t.register t.found s in
+    marked (marks x.actor) (moved_among t ps addrs s) ≡ transferred t ps addrs s)
 moved_is x t s thread =
     let ps = are_moved t.register t.found s in
     let addrs = addresses t.memory t.register t.found s in
@@ -127,7 +137,8 @@ as_stop (Some f) u = refl
 abbrev after : Transfer → State → List (Cell × Value) → State
 after t s ws = retired (put_all cells (ws ++ written_back t.found s ++ advance_half 0 s ++ advance_half 2 s) s)
 
-pub moved_whole : (x : Around) (t : Transfer) (s : State) → x.actor ≡ Thread → NoTaint s → transfer_among x (are_moved t.register t.found s) t s ≡ as_stops (transfer_whole t s)
+pub moved_whole : (x : Around) (t : Transfer) (s : State) → x.actor ≡ Thread → NoTaint s
+    → transfer_among x (are_moved t.register t.found s) t s ≡ as_stops (transfer_whole t s)
 moved_whole x t s thread clean =
     let ps = are_moved t.register t.found s in
     let addrs = addresses t.memory t.register t.found s in
@@ -162,7 +173,8 @@ module _ (x : Around) (t : Transfer) (s u : State) (h : transfer_among x (are_mo
 abbrev AreLike : State → State → Type 0
 AreLike s v = (c : Cell) → mark false c (s.cell c) ≡ mark false c (v.cell c)
 
-like_put : (m : Bool) (d c : Cell) (v y z : Value) → mark false c y ≡ mark false c z → mark false c (cond (same_cell d c) (mark m d v) y) ≡ mark false c (cond (same_cell d c) v z)
+like_put : (m : Bool) (d c : Cell) (v y z : Value) → mark false c y ≡ mark false c z
+    → mark false c (cond (same_cell d c) (mark m d v) y) ≡ mark false c (cond (same_cell d c) v z)
 like_put m (At p) (At q) v y z h = ap (λ e. cond (same_cell (At p) (At q)) v e) h
 like_put m (At p) (Byte b) v y z h = h
 like_put m (Byte a) (At q) v y z h = h

@@ -18,7 +18,8 @@ use Rattle.hm_beat_laws.proofs.MovedParts.{IsMovedPart, addresses_part, offsets_
 abbrev transfer : Bool → Size → Size → Bool → Found → Transfer
 transfer store y z sign w = record { store = store; memory = y; register = z; signed = sign; found = w }
 
-by_way : (store : Bool) (y z : Size) (sign : Bool) (w : Found) (x : Around) (s : State) (b : ℕ) → b < 4 → (store ≡ true → width y ≤ width z) → IsMovedPart (transfer store y z sign w) x b s
+by_way : (store : Bool) (y z : Size) (sign : Bool) (w : Found) (x : Around) (s : State) (b : ℕ) → b < 4 → (store ≡ true → width y ≤ width z)
+    → IsMovedPart (transfer store y z sign w) x b s
 by_way store y z sign (straight d n offset before back) x s b low narrow = straight_part y z sign x s b low store d n offset before back narrow
 by_way store y z sign (at_offsets d n m scale) x s b low narrow = offsets_part y z sign x s b low store d n m scale narrow
 by_way store y z sign (at_addresses d m offset back) x s b low narrow = addresses_part y z sign x s b low store d m offset back narrow
@@ -27,7 +28,8 @@ by_way store y z sign (interleaved d n four part back) x s b low narrow = interl
 pub moved_parts : (t : Transfer) (x : Around) (b : ℕ) (s : State) → IsNarrow t → b < 4 → IsMovedPart t x b s
 moved_parts t x b s narrow low = by_way t.store t.memory t.register t.signed t.found x s b low narrow
 
-pub kind_parts : (k : Kind) (x : Around) (b : ℕ) (s : State) → ((t : Transfer) → k ≡ Moves t → IsNarrow t) → b < 4 → (action cells (tree_of k x b)).run s ≡ kind_part k x b s
+pub kind_parts : (k : Kind) (x : Around) (b : ℕ) (s : State) → ((t : Transfer) → k ≡ Moves t → IsNarrow t) → b < 4
+    → (action cells (tree_of k x b)).run s ≡ kind_part k x b s
 kind_parts (Registers f) x b s narrow low = form_beat f b s low
 kind_parts (Moves t) x b s narrow low = moved_parts t x b s (narrow t refl) low
 

@@ -1,5 +1,6 @@
 -- The first stop of a beat that loads or stores: its checks, element by element.
-use Rattle.std.proofs.Common.{◌≡◌, ℕ, zero, suc, ◌+◌, Bool, true, false, not, cond, ◌||◌, ◌&&◌, List, [], ◌∷◌, ◌++◌, get_or, if◌then◌else◌, Option, Some, None, refl, ◌∙◌, ap, arith, append_assoc}
+use Rattle.std.proofs.Common.{◌≡◌, ℕ, zero, suc, ◌+◌, Bool, true, false, not, cond, ◌||◌, ◌&&◌, List, [], ◌∷◌, ◌++◌, get_or, if◌then◌else◌, Option, Some, None}
+use Rattle.std.proofs.Common.{refl, ◌∙◌, ap, arith, append_assoc}
 use Rattle.std.proofs.lemmas.Bool.Decides.{nat_tests}
 use Rattle.hm_base.specs.declared.Fault.{Fault}
 use Rattle.hm_base.specs.declared.Stop.{Stop}
@@ -53,7 +54,8 @@ one_tainted true q e o = refl
 one_tainted false q e o = refl
 
 -- bytes that are asked for, one after another
-checked_asks : (a : ℕ) (bs : List ℕ) (cs : List (Check Cell Stop)) (s : State) → checked cells (asks a bs ++ cs) s ≡ cond (any_tainted bs s) (Some (stop.Tainted a)) (checked cells cs s)
+checked_asks : (a : ℕ) (bs : List ℕ) (cs : List (Check Cell Stop)) (s : State)
+    → checked cells (asks a bs ++ cs) s ≡ cond (any_tainted bs s) (Some (stop.Tainted a)) (checked cells cs s)
 checked_asks a [] cs s = refl
 checked_asks a (b ∷ bs) cs s = ap (λ o. cond (s.cell (Byte b)).taint (Some (stop.Tainted a)) o) (checked_asks a bs cs s)
     ∙ one_tainted (s.cell (Byte b)).taint (any_tainted bs s) (stop.Tainted a) (checked cells cs s)
@@ -88,11 +90,13 @@ module _ (x : Around) (store : Bool) (y : Size) (s : State) (a : ℕ) where
   any_byte size.Byte h = one_byte (taint a)
   any_byte size.Half h = ap (λ b. taint a || (taint b || false)) (within size.Half a 1 h (omega arith)) ∙ two_bytes (taint a) (taint (a + 1))
   any_byte size.Word h =
-      (λ j. taint a || (taint (within size.Word a 1 h (omega arith) j) || (taint (within size.Word a 2 h (omega arith) j) || (taint (within size.Word a 3 h (omega arith) j) || false))))
+      (λ j. taint a || (taint (within size.Word a 1 h (omega arith) j)
+      || (taint (within size.Word a 2 h (omega arith) j) || (taint (within size.Word a 3 h (omega arith) j) || false))))
       ∙ four_bytes (taint a) (taint (a + 1)) (taint (a + 2)) (taint (a + 3))
 
   by_actor : (o : Option FaultKind) (who : Actor) → (o ≡ None → lies_in_memory (width y) a ≡ true)
-      → or_else (stop_after o (is_closed who x.bounds store (width y) a) store a) (cond (is_thread who && not store && any_tainted (span_bytes a (width y)) s) (Some (stop.Tainted a)) None)
+      → or_else (stop_after o (is_closed who x.bounds store (width y) a) store a)
+      (cond (is_thread who && not store && any_tainted (span_bytes a (width y)) s) (Some (stop.Tainted a)) None)
       ≡ stop_after o (is_kept who x.bounds store (width y) a (seen_in s)) store a
   by_actor (Some k) who h = refl
   by_actor None Entry h = refl
@@ -107,12 +111,15 @@ module _ (x : Around) (store : Bool) (y : Size) (s : State) (a : ℕ) where
       by_store : (w : Bool) → or_else (stop_after None false w a) (cond (true && not w && any_tainted (span_bytes a (width y)) s) (Some (stop.Tainted a)) None)
           ≡ stop_after None (not w && lies_in_memory (width y) a && some_byte (width y) taint a) w a
       by_store true = refl
-      by_store false = (λ j. cond (any_byte y (h refl) j) (Some (stop.Tainted a)) None) ∙ tainted (lies_in_memory (width y) a) (some_byte (width y) taint a) (h refl)
+      by_store false = (λ j. cond (any_byte y (h refl) j) (Some (stop.Tainted a)) None)
+          ∙ tainted (lies_in_memory (width y) a) (some_byte (width y) taint a) (h refl)
 
-  stop_is : or_else (sure_stop x store (width y) a) (cond (is_thread x.actor && not store && any_tainted (span_bytes a (width y)) s) (Some (stop.Tainted a)) None) ≡ element_stop x store y s a
+  stop_is : or_else (sure_stop x store (width y) a)
+      (cond (is_thread x.actor && not store && any_tainted (span_bytes a (width y)) s) (Some (stop.Tainted a)) None) ≡ element_stop x store y s a
   stop_is = by_actor (fault_kind (is_thread x.actor) Vector store (width y) a) x.actor (λ e. (in_memory (is_thread x.actor) store (width y) a e).0)
 
-pub all_checked : (x : Around) (store : Bool) (y : Size) (es : List Element) (s : State) → checked cells (checks_of x store (width y) es) s ≡ first_of (element_stop x store y s) es
+pub all_checked : (x : Around) (store : Bool) (y : Size) (es : List Element) (s : State)
+    → checked cells (checks_of x store (width y) es) s ≡ first_of (element_stop x store y s) es
 all_checked x store y [] s = refl
 all_checked x store y (e ∷ es) s =
     let o = sure_stop x store (width y) e.addr in
@@ -126,7 +133,8 @@ all_checked x store y (e ∷ es) s =
     ∙ (λ j. or_else (stop_is x store y s e.addr j) (all_checked x store y es s j))
 
 -- of the elements of a word the active ones
-one_stop : (f : ℕ → Option Stop) (p : Bool) (e : Element) (es : List Element) → first_of f (cond p (e ∷ []) [] ++ es) ≡ or_else (cond p (f e.addr) None) (first_of f es)
+one_stop : (f : ℕ → Option Stop) (p : Bool) (e : Element) (es : List Element)
+    → first_of f (cond p (e ∷ []) [] ++ es) ≡ or_else (cond p (f e.addr) None) (first_of f es)
 one_stop f true e es = refl
 one_stop f false e es = refl
 
@@ -153,7 +161,8 @@ timed false false false false false t y e f g k l out h = ap (λ v. if v then So
 
 thread_free : (thread store : Bool) (len a : ℕ) → fault_kind thread Vector store len a ≡ None → fault_kind true Vector store len a ≡ None
 thread_free thread store len a h =
-    timed (is_unaligned Vector len a) (in_devices a) (not (lies_in_memory len a || has_width (word_at a) len)) (store && lies_in_flash len a) store (tells_time (word_at a)) thread _ _ _ _ _
+    timed (is_unaligned Vector len a) (in_devices a) (not (lies_in_memory len a || has_width (word_at a) len)) (store && lies_in_flash len a) store
+    (tells_time (word_at a)) thread _ _ _ _ _
     (λ out. ap tells_time (no_word a out)) h
 
 both_none : (o q : Option Stop) → or_else o q ≡ None → (o ≡ None) × (q ≡ None)
@@ -172,4 +181,5 @@ no_fault x store y s (p ∷ ps) (a ∷ addrs) h =
     let none = both_none (cond p (element_stop x store y s a) None) (first_among (element_stop x store y s) ps addrs) h in
     let free : element_stop x store y s a ≡ None → fault_after (fault_kind true Vector store (width y) a) a ≡ None
     = λ e. ap (λ k. fault_after k a) (thread_free (is_thread x.actor) store (width y) a (fault_free x store (width y) a (seen_in s) e)) in
-    λ j. or_else (where_none p (element_stop x store y s a) (fault_after (fault_kind true Vector store (width y) a) a) free none.0 j) (no_fault x store y s ps addrs none.1 j)
+    λ j. or_else (where_none p (element_stop x store y s a) (fault_after (fault_kind true Vector store (width y) a) a) free none.0 j)
+    (no_fault x store y s ps addrs none.1 j)

@@ -21,7 +21,8 @@ use Rattle.hm_isa.specs.contracts.arith.Accumulate as accumulate_
 use Rattle.hm_isa.specs.contracts.arith.LongProduct as long_product_
 use Rattle.hm_isa.specs.contracts.arith.T20 as t20_
 use Rattle.hm_isa.specs.Rules.{is_accumulated}
-use Rattle.hm_isa.specs.ArithCodes.{wide_shift_base, code_t8, wide_extend_base, code_t9, bits_base, code_t10, operation_base, code_operation, accumulate_base, code_accumulate, long_product_base, code_long_product, code_t11, select_base, code_t20}
+use Rattle.hm_isa.specs.ArithCodes.{wide_shift_base, code_t8, wide_extend_base, code_t9, bits_base, code_t10, operation_base, code_operation, accumulate_base}
+use Rattle.hm_isa.specs.ArithCodes.{code_accumulate, long_product_base, code_long_product, code_t11, select_base, code_t20}
 use Rattle.hm_layout.proofs.Same.{same_below, same_struct}
 use Rattle.hm_layout.proofs.Places.{place, head_or, rest_of}
 use Rattle.hm_layout.proofs.Search.{one_rule, try_below, try_names, try_pair, try_unit}

@@ -12,7 +12,8 @@ use Rattle.hm_isa.specs.contracts.data.T4 as t4_
 use Rattle.hm_isa.specs.contracts.data.T5 as t5_
 use Rattle.hm_isa.specs.contracts.data.T6 as t6_
 use Rattle.hm_isa.specs.contracts.data.T7 as t7_
-use Rattle.hm_isa.specs.DataCodes.{operation, code_t1, code_t2, wide_sum_base, code_t3, half_base, code_t4, saturate_base, code_t5, extract_base, code_t6, code_t7}
+use Rattle.hm_isa.specs.DataCodes.{operation, code_t1, code_t2, wide_sum_base, code_t3, half_base, code_t4, saturate_base, code_t5, extract_base, code_t6}
+use Rattle.hm_isa.specs.DataCodes.{code_t7}
 use Rattle.hm_layout.proofs.Search.{one_rule}
 use Rattle.hm_layout.proofs.Rows.{at, the_name, Named, Plain}
 

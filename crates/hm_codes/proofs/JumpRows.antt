@@ -20,7 +20,8 @@ use Rattle.hm_isa.specs.contracts.jumps.Wlstp as wlstp_
 use Rattle.hm_isa.specs.contracts.jumps.LoopEndName as loop_end_name_
 use Rattle.hm_isa.specs.contracts.jumps.LoopEnd as loop_end_
 use Rattle.hm_isa.specs.contracts.jumps.T23 as t23_
-use Rattle.hm_isa.specs.JumpCodes.{code_wide_conditional, wide_branch_base, code_wide_always, code_t16, table_base, code_t17, code_dls, code_wls, code_dlstp, code_wlstp, loop_end_base, code_loop_end, code_t23}
+use Rattle.hm_isa.specs.JumpCodes.{code_wide_conditional, wide_branch_base, code_wide_always, code_t16, table_base, code_t17, code_dls, code_wls, code_dlstp}
+use Rattle.hm_isa.specs.JumpCodes.{code_wlstp, loop_end_base, code_loop_end, code_t23}
 use Rattle.hm_layout.proofs.Places.{place, head_or, rest_of}
 use Rattle.hm_layout.proofs.Search.{Decided, no_rule, decided_both, decided_differ, try_unit}
 use Rattle.hm_layout.proofs.Coded.{Coded, Digit, digit}

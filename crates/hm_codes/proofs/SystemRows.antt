@@ -16,7 +16,8 @@ use Rattle.hm_isa.specs.contracts.system.Barrier as barrier_
 use Rattle.hm_isa.specs.contracts.system.T19 as t19_
 use Rattle.hm_isa.specs.contracts.system.T21 as t21_
 use Rattle.hm_isa.specs.contracts.system.T22 as t22_
-use Rattle.hm_isa.specs.SystemCodes.{read_base, code_mrs, written_base, code_msr, code_t18, barrier_base, code_barrier, code_t19, system_move_base, code_t21, lane_move_base, code_t22}
+use Rattle.hm_isa.specs.SystemCodes.{read_base, code_mrs, written_base, code_msr, code_t18, barrier_base, code_barrier, code_t19, system_move_base, code_t21}
+use Rattle.hm_isa.specs.SystemCodes.{lane_move_base, code_t22}
 use Rattle.hm_layout.proofs.Places.{place}
 use Rattle.hm_layout.proofs.Search.{no_rule, one_rule, decided_both, decided_differ, try_unit}
 use Rattle.hm_layout.proofs.Coded.{Coded}

@@ -17,7 +17,8 @@ use Rattle.hm_layout.proofs.Rows.{plain, named, split, varied, coded}
 use Rattle.hm_layout.proofs.Tables.{of_table, ◌▹◌}
 use Rattle.hm_layout.proofs.Lengths.{short_code, long_code}
 use Rattle.hm_codes.specs.Listing.{half_at, HalvesStand, Stands, is_long, IsFetched}
-use Rattle.hm_codes.proofs.Scalars.{row_s1, row_s2, row_s3, row_s4, row_s5, row_s6, row_s7, row_s8, row_s9, row_s10, row_s11, row_s12, row_s13, row_s14, row_s15, row_s16, row_s17, row_s18, row_s19, row_s20, spared_s21}
+use Rattle.hm_codes.proofs.Scalars.{row_s1, row_s2, row_s3, row_s4, row_s5, row_s6, row_s7, row_s8, row_s9, row_s10, row_s11, row_s12, row_s13, row_s14}
+use Rattle.hm_codes.proofs.Scalars.{row_s15, row_s16, row_s17, row_s18, row_s19, row_s20, spared_s21}
 use Rattle.hm_codes.proofs.Wides.{coded_t12, spared_t13, row_t14, row_t15}
 use Rattle.hm_codes.proofs.ArithRows.{row_t8, row_t9, row_t10, coded_t11, row_t20}
 use Rattle.hm_codes.proofs.SystemRows.{coded_t18, coded_t19, row_t21, row_t22}
@@ -111,7 +112,8 @@ length_instr (instr.Branch b) = length_branch b
 length_instr (instr.Vector v) = long_length _ (long_code coded_vector refl refl v)
 
 -- the first of halves that stand at an address, and how many there are
-first_stands : (flash : ℕ → ℕ) (hs : List ℕ) (a : ℕ) → HalvesStand flash hs a → length hs ≡ code_length (first_of hs) → length hs ≡ code_length (half_at flash a)
+first_stands : (flash : ℕ → ℕ) (hs : List ℕ) (a : ℕ) → HalvesStand flash hs a → length hs ≡ code_length (first_of hs)
+    → length hs ≡ code_length (half_at flash a)
 first_stands flash [] a h e = absurd (let z : 0 ≡ 1 = e in omega arith)
 first_stands flash (k ∷ hs) a h e = e ∙ ap code_length (sym h.1)
 

@@ -78,9 +78,13 @@ use Rattle.hm_isa.specs.contracts.vectors.LongDot as long_dot_
 use Rattle.hm_isa.specs.contracts.vectors.V22 as v22_
 use Rattle.hm_isa.specs.contracts.vectors.V23 as v23_
 use Rattle.hm_isa.specs.Rules.{has_sign, has_size, is_shifted_by, is_signed_by, shift_has_sign}
-use Rattle.hm_isa.specs.Code.{add_base, bitwise_base, signed_base, vector_shift_base, constant_shift_base, doubling_base, high_base, carry_base, complex_sum_base, scalar_base, one_base, reverse_base, narrow_base, dup_base, offsets_base, dot_base, extreme_base}
-use Rattle.hm_isa.specs.Code.{code_v1, code_v2, code_v3, code_v4, code_v5, code_v6, code_v7, code_v8, code_v9, code_v10, code_v11, code_long_bytes, code_long_halves, code_long_full, code_v12, code_one_element, code_invert, code_v13, code_v14, code_v15, code_v16, code_v17, code_v18}
-use Rattle.hm_isa.specs.Code.{code_offsets, code_wrapped_offsets, code_v19, code_compare_vectors, code_compare_scalar, code_v20, code_block, code_select, code_tail, code_v21, code_sum, code_dot, code_long_sum, code_long_dot, code_v22, code_v23, vector_code}
+use Rattle.hm_isa.specs.Code.{add_base, bitwise_base, signed_base, vector_shift_base, constant_shift_base, doubling_base, high_base, carry_base}
+use Rattle.hm_isa.specs.Code.{complex_sum_base, scalar_base, one_base, reverse_base, narrow_base, dup_base, offsets_base, dot_base, extreme_base}
+use Rattle.hm_isa.specs.Code.{code_v1, code_v2, code_v3, code_v4, code_v5, code_v6, code_v7, code_v8, code_v9, code_v10, code_v11, code_long_bytes}
+use Rattle.hm_isa.specs.Code.{code_long_halves, code_long_full, code_v12, code_one_element, code_invert, code_v13, code_v14, code_v15, code_v16, code_v17}
+use Rattle.hm_isa.specs.Code.{code_v18}
+use Rattle.hm_isa.specs.Code.{code_offsets, code_wrapped_offsets, code_v19, code_compare_vectors, code_compare_scalar, code_v20, code_block, code_select}
+use Rattle.hm_isa.specs.Code.{code_tail, code_v21, code_sum, code_dot, code_long_sum, code_long_dot, code_v22, code_v23, vector_code}
 use Rattle.hm_layout.proofs.Places.{head_or, rest_of, Place, place}
 use Rattle.hm_layout.proofs.Search.{no_rule, one_rule, decided_both, decided_test, decided_differ}
 use Rattle.hm_layout.proofs.Coded.{Coded, digit}

@@ -19,7 +19,8 @@ use Rattle.hm_isa.specs.contracts.wide.T13 as t13_
 use Rattle.hm_isa.specs.contracts.wide.T14 as t14_
 use Rattle.hm_isa.specs.contracts.wide.T15 as t15_
 use Rattle.hm_isa.specs.Rules.{is_offset, is_pair}
-use Rattle.hm_isa.specs.Code.{wide_access_base, code_offset, code_indexed, code_shifted, code_literal, code_t12, pair_base, code_t13, wide_list_base, code_t14, stack_base, code_t15}
+use Rattle.hm_isa.specs.Code.{wide_access_base, code_offset, code_indexed, code_shifted, code_literal, code_t12, pair_base, code_t13, wide_list_base, code_t14}
+use Rattle.hm_isa.specs.Code.{stack_base, code_t15}
 use Rattle.hm_layout.proofs.Bits.{both_left}
 use Rattle.hm_layout.proofs.Places.{head_or, rest_of}
 use Rattle.hm_layout.proofs.Search.{one_rule}

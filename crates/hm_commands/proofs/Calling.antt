@@ -14,9 +14,15 @@ pub none_made : (calls : List Call) (told : Option (List Made)) → MakesCalls c
 none_made calls told = inr (λ made is. (made, is, record { done = []; left = calls; parts_are = refl; made_are = sym (append-nil made) }))
 
 -- one call
-pub one_made : {T : Type 0} (call : Call) (old new : Option (List Made)) (result : Result T HostErr) → Makes call old new result → MakesCalls (call ∷ []) old new (answer_way result)
+pub one_made : {T : Type 0} (call : Call) (old new : Option (List Made)) (result : Result T HostErr) → Makes call old new result
+    → MakesCalls (call ∷ []) old new (answer_way result)
 one_made call old new (Ok x) h = h
-one_made call old new (Err Failed) h = λ made is. (made ++ failed call ∷ [], h made is, record { done = []; last = call; left = []; parts_are = refl; made_are = ap (λ (m : List Made). m ++ failed call ∷ []) (sym (append-nil made)) })
+one_made call old new (Err Failed) h =
+    λ made is. (
+      made ++ failed call ∷ [],
+      h made is,
+      record { done = []; last = call; left = []; parts_are = refl; made_are = ap (λ (m : List Made). m ++ failed call ∷ []) (sym (append-nil made)) },
+    )
 one_made call old new (Err TooLarge) h = h
 one_made call old new (Err OutOfMemory) h = elim h [
   | inl untold ↦ inl untold
@@ -24,18 +30,22 @@ one_made call old new (Err OutOfMemory) h = elim h [
 ]
 
 -- one call, in which memory ran out
-pub one_spent : {T : Type 0} (call : Call) (old new : Option (List Made)) (result : Result T HostErr) → Makes call old new result → result ≡ Err OutOfMemory → MakesAll (call ∷ []) old new
+pub one_spent : {T : Type 0} (call : Call) (old new : Option (List Made)) (result : Result T HostErr) → Makes call old new result → result ≡ Err OutOfMemory
+    → MakesAll (call ∷ []) old new
 one_spent call old new (Ok x) h is = absurd cc
 one_spent call old new (Err Failed) h is = absurd cc
 one_spent call old new (Err TooLarge) h is = absurd cc
 one_spent call old new (Err OutOfMemory) h is = λ made all told still. elim h [
   | inl untold ↦ (let no : None ≡ Some all = sym untold ∙ still in absurd cc)
-  | inr becomes ↦ (let same : Some all ≡ Some (made ++ answered call ∷ []) = sym still ∙ becomes made told in let one : all ≡ made ++ answered call ∷ [] = cc in one)
+  | inr becomes ↦ (let same : Some all ≡ Some (made ++ answered call ∷ []) = sym still ∙ becomes made told in let one : all ≡ made ++ answered call ∷ [] = cc in
+      one)
 ]
 
 -- all the first calls were made, and all the rest
-pub all_after : (first rest : List Call) (old mid new : Option (List Made)) → Becomes (with_calls first) old mid → MakesAll rest mid new → MakesAll (first ++ rest) old new
-all_after first rest old mid new before h = λ made all told still. h (with_calls first made) all (before made told) still ∙ sym (with_calls-append first rest made)
+pub all_after : (first rest : List Call) (old mid new : Option (List Made)) → Becomes (with_calls first) old mid → MakesAll rest mid new
+    → MakesAll (first ++ rest) old new
+all_after first rest old mid new before h = λ made all told still. h (with_calls first made) all (before made told) still
+    ∙ sym (with_calls-append first rest made)
 
 some_after : (first rest : List Call) (old mid new : List Made) → mid ≡ with_calls first old → MadeSome rest mid new → MadeSome (first ++ rest) old new
 some_after first rest old mid new is h = record {
@@ -55,24 +65,46 @@ fault_after first rest old mid new is h = record {
 }
 
 -- the first calls were made to the end, and then the rest
-pub made_after : (first rest : List Call) (old mid new : Option (List Made)) (way : Way) → Becomes (with_calls first) old mid → MakesCalls rest mid new way → MakesCalls (first ++ rest) old new way
+pub made_after : (first rest : List Call) (old mid new : Option (List Made)) (way : Way) → Becomes (with_calls first) old mid → MakesCalls rest mid new way
+    → MakesCalls (first ++ rest) old new way
 made_after first rest old mid new to_end before h = λ made is. h (with_calls first made) (before made is) ∙ ap Some (sym (with_calls-append first rest made))
 made_after first rest old mid new to_fault before h = λ made is.
     let t = h (with_calls first made) (before made is) in
     (t.0, t.1, fault_after first rest made (with_calls first made) t.0 refl t.2)
 made_after first rest old mid new to_memory before h = elim h [
   | inl untold ↦ inl untold
-  | inr told ↦ inr (λ made is. let t = told (with_calls first made) (before made is) in (t.0, t.1, some_after first rest made (with_calls first made) t.0 refl t.2))
+  | inr told ↦ inr (λ made is. let t = told (with_calls first made) (before made is) in
+      (t.0, t.1, some_after first rest made (with_calls first made) t.0 refl t.2))
 ]
 
 -- the first calls were cut short
 pub fault_before : (first rest : List Call) (old new : Option (List Made)) → MakesCalls first old new to_fault → MakesCalls (first ++ rest) old new to_fault
 fault_before first rest old new h = λ made is.
-    let t = h made is in
-    (t.0, t.1, record { done = t.2.done; last = t.2.last; left = t.2.left ++ rest; parts_are = ap (λ (c : List Call). c ++ rest) t.2.parts_are ∙ append_assoc t.2.done (t.2.last ∷ t.2.left) rest; made_are = t.2.made_are })
+    let t = h made is in (
+      t.0,
+      t.1,
+      record {
+        done = t.2.done;
+        last = t.2.last;
+        left = t.2.left ++ rest;
+        parts_are = ap (λ (c : List Call). c ++ rest) t.2.parts_are
+            ∙ append_assoc t.2.done (t.2.last ∷ t.2.left) rest;
+        made_are = t.2.made_are;
+      },
+    )
 
 pub memory_before : (first rest : List Call) (old new : Option (List Made)) → MakesCalls first old new to_memory → MakesCalls (first ++ rest) old new to_memory
 memory_before first rest old new h = elim h [
   | inl untold ↦ inl untold
-  | inr told ↦ inr (λ made is. let t = told made is in (t.0, t.1, record { done = t.2.done; left = t.2.left ++ rest; parts_are = ap (λ (c : List Call). c ++ rest) t.2.parts_are ∙ append_assoc t.2.done t.2.left rest; made_are = t.2.made_are }))
+  | inr told ↦ inr (λ made is. let t = told made is in (
+    t.0,
+    t.1,
+    record {
+      done = t.2.done;
+      left = t.2.left ++ rest;
+      parts_are = ap (λ (c : List Call). c ++ rest) t.2.parts_are
+          ∙ append_assoc t.2.done t.2.left rest;
+      made_are = t.2.made_are;
+    },
+  ))
 ]

@@ -19,16 +19,19 @@ use Rattle.hm_commands.specs.declared.work.Stop.TheVariants.{NoMemory}
 use Rattle.hm_commands.proofs.Runs.{gives_at}
 
 -- a text that is refused
-pub kernel_refused : (source out : List ℕ) (e : KernelErr) (stop : Stop) → Fails e (kernel_in source) → stop ≡ kernel_stop e → GivesOne (IsKernelOutcome source out) (Err stop)
+pub kernel_refused : (source out : List ℕ) (e : KernelErr) (stop : Stop) → Fails e (kernel_in source) → stop ≡ kernel_stop e
+    → GivesOne (IsKernelOutcome source out) (Err stop)
 kernel_refused source out refusals.OutOfMemory stop cause is = gives_at (IsKernelOutcome source out) stop NoMemory is tt
 kernel_refused source out (refusals.Line k kind) stop cause is =
     gives_at (IsKernelOutcome source out) stop (kernel_stop (refusals.Line k kind)) is
     (subst (λ (r : Result Written KernelErr). IsCompiledFile source r out (refuses (Kernel (refusals.Line k kind)))) (sym cause) refl)
 
 -- a text that is compiled
-pub compiled_file : (source out : List ℕ) (image : List Segment) → Compiles source image → IsKernelOutcome source out (finishes true (Some (out, elf_file image)) None)
+pub compiled_file : (source out : List ℕ) (image : List Segment) → Compiles source image
+    → IsKernelOutcome source out (finishes true (Some (out, elf_file image)) None)
 compiled_file source out image h =
-    subst (λ (r : Result Written KernelErr). IsCompiledFile source r out (finishes true (Some (out, elf_file image)) None)) (sym (kernel_again source _ h.says)) (image, h, refl)
+    subst (λ (r : Result Written KernelErr). IsCompiledFile source r out (finishes true (Some (out, elf_file image)) None)) (sym (kernel_again source _ h.says))
+    (image, h, refl)
 
 -- the file of a compiled text holds its image
 pub compiled_held : (source : List ℕ) (image : List Segment) → Compiles source image → image_of (elf_file image) ≡ Ok image

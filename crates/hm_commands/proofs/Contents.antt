@@ -3,7 +3,8 @@ use Rattle.std.proofs.Common.{◌≡◌, ℕ, ◌+◌, ◌<◌, ◌≤◌, arith
 use Rattle.std.proofs.lemmas.List.{get_or-map}
 
 -- those of file k are the bytes of vector k
-pub content_is : (contents : List (Vec ℕ Global)) (k : ℕ) (v : Vec ℕ Global) (bytes : List ℕ) → k < length contents → get_or contents k v ≡ v → bytes ≡ v.items → get_or (map (λ (v : Vec ℕ Global). v.items) contents) k [] ≡ bytes
+pub content_is : (contents : List (Vec ℕ Global)) (k : ℕ) (v : Vec ℕ Global) (bytes : List ℕ) → k < length contents → get_or contents k v ≡ v → bytes ≡ v.items
+    → get_or (map (λ (v : Vec ℕ Global). v.items) contents) k [] ≡ bytes
 content_is contents k v bytes some is same = get_or-map (λ (v : Vec ℕ Global). v.items) contents k v [] some ∙ ap (λ (v : Vec ℕ Global). v.items) is ∙ sym same
 
 -- there is a first file

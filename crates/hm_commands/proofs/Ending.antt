@@ -8,7 +8,8 @@ use Rattle.hm_commands.specs.declared.status.Status.TheVariants.{Done, Ended, Us
 use Rattle.hm_words.specs.Words.{Form, form_of}
 use Rattle.hm_commands.specs.Calls.{MakesCalls, read_calls, way_of}
 use Rattle.hm_commands.specs.Work.{Outcome, finishes, refuses}
-use Rattle.hm_commands.specs.Effect.{Effect, Reading, whole, too_large, missing, reading_of, reads_for, usage_effect, IsEffectAfter, IsEffect, effect_for, calls_for, BeginsOne, IsDone, IsUntouched, Carries, Does}
+use Rattle.hm_commands.specs.Effect.{Effect, Reading, whole, too_large, missing, reading_of, reads_for, usage_effect, IsEffectAfter, IsEffect, effect_for}
+use Rattle.hm_commands.specs.Effect.{calls_for, BeginsOne, IsDone, IsUntouched, Carries, Does}
 
 not_usage : (o : Outcome) → (effect_for o).status ≡ Usage → ⊥
 not_usage (finishes true file text) h = cc
@@ -26,7 +27,8 @@ Does-usage listings form old new s h is = elim h.begins [
   | inr none ↦ subst (IsUntouched old new) is none.untouched
 ]
 
-pub Does-host_fault : (listings : List Segment → Listing) (form : Option Form) (old new : HostState) (s : Status) → Does listings form old new s → s ≡ HostFault → Rose old.faults new.faults
+pub Does-host_fault : (listings : List Segment → Listing) (form : Option Form) (old new : HostState) (s : Status) → Does listings form old new s → s ≡ HostFault
+    → Rose old.faults new.faults
 Does-host_fault listings form old new s h is = elim h.begins [
   | inl one ↦ (subst (Carries one.0 old new) is one.2.carries).0
   | inr none ↦ (subst (IsUntouched old new) is none.untouched).0
@@ -48,13 +50,15 @@ untouched_risen old new Refused h rose = absurd h
 untouched_risen old new HostFault h rose = refl
 untouched_risen old new NoMemory h rose = absurd (let same : new.faults ≡ old.faults = h.0 in omega arith)
 
-pub Does-risen : (listings : List Segment → Listing) (form : Option Form) (old new : HostState) (s : Status) → Does listings form old new s → old.faults < new.faults → s ≡ HostFault
+pub Does-risen : (listings : List Segment → Listing) (form : Option Form) (old new : HostState) (s : Status) → Does listings form old new s
+    → old.faults < new.faults → s ≡ HostFault
 Does-risen listings form old new s h rose = elim h.begins [
   | inl one ↦ risen one.0 old new s one.2.carries rose
   | inr none ↦ untouched_risen old new s none.untouched rose
 ]
 
-pub Does-quiet : (listings : List Segment → Listing) (form : Option Form) (old new : HostState) (s : Status) → Does listings form old new s → s ≡ NoMemory → Stays old.printed new.printed
+pub Does-quiet : (listings : List Segment → Listing) (form : Option Form) (old new : HostState) (s : Status) → Does listings form old new s → s ≡ NoMemory
+    → Stays old.printed new.printed
 Does-quiet listings form old new s h is = elim h.begins [
   | inl one ↦ (subst (Carries one.0 old new) is one.2.carries).printed
   | inr none ↦ (subst (IsUntouched old new) is none.untouched).2
@@ -70,7 +74,8 @@ read_for_words form words F reading read is = read ∙ ap (λ (o : Option Form).
 pub Does-begins : (listings : List Segment → Listing) (form : Option Form) (words : List (List ℕ)) (old new : HostState) (s : Status) (F : FileMap)
     → Does listings form old new s → form ≡ form_of words → old.files ≡ Some F → BeginsOne (reads_for (form_of words)) (IsEffect listings words F) old new s
 Does-begins listings form words old new s F h is told =
-    subst (λ (r : Reading). BeginsOne (reads_for (form_of words)) (IsEffectAfter listings (form_of words) r) old new s) (read_for_words form words F h.reading (h.told F told) is)
+    subst (λ (r : Reading). BeginsOne (reads_for (form_of words)) (IsEffectAfter listings (form_of words) r) old new s)
+    (read_for_words form words F h.reading (h.told F told) is)
     (subst (λ (o : Option Form). BeginsOne (reads_for o) (IsEffectAfter listings o h.reading) old new s) is h.begins)
 
 -- words that are no form have the effect of the usage line

@@ -1,5 +1,6 @@
 -- The headline of a run, by what the top call carries out.
-use Rattle.std.proofs.Common.{◌≡◌, ◌≢◌, ◌⊎◌, ◌≤◌, ◌%◌, ℕ, Bool, true, false, List, [], ◌∷◌, ◌++◌, length, get_or, Option, Some, None, Result, Ok, refl, sym, ap, subst, ◌∙◌, inl, inr, arith}
+use Rattle.std.proofs.Common.{◌≡◌, ◌≢◌, ◌⊎◌, ◌≤◌, ◌%◌, ℕ, Bool, true, false, List, [], ◌∷◌, ◌++◌, length, get_or, Option, Some, None, Result, Ok, refl, sym, ap}
+use Rattle.std.proofs.Common.{subst, ◌∙◌, inl, inr, arith}
 use Rattle.std.specs.Prelude.{if◌then◌else◌}
 use Rattle.std.proofs.lemmas.Bool.Decides.{nat_tests}
 use Rattle.std.specs.FinMap.{get}
@@ -28,7 +29,8 @@ use Rattle.hm_state.specs.Start.{reset_pc}
 use Rattle.hm_commands.specs.declared.status.Status.{Status}
 use Rattle.hm_commands.specs.declared.status.Status.TheVariants.{Done, Ended, Usage, Refused, HostFault, NoMemory}
 use Rattle.hm_commands.specs.Commands.{AreListings, reported, told, run_outcome, seq_outcome, unless_refused}
-use Rattle.hm_commands.specs.Effect.{Effect, Reading, whole, then_read, reading_of, reads_for, IsEffect, IsEffectAfter, effect_for, with_file, with_text, BeginsOne, Carries, Does}
+use Rattle.hm_commands.specs.Effect.{Effect, Reading, whole, then_read, reading_of, reads_for, IsEffect, IsEffectAfter, effect_for, with_file, with_text}
+use Rattle.hm_commands.specs.Effect.{BeginsOne, Carries, Does}
 use Rattle.hm_sched.specs.Schedule.{Sched, plain, ticks_of}
 use Rattle.hm_sched.specs.declared.errors.SchedErr.{SchedErr}
 use Rattle.hm_sched.proofs.FileLaws.{file_again}
@@ -63,7 +65,8 @@ record ReadFor (F : FileMap) (name bytes memory : List ℕ) (source : Source) (s
   reading : reading_of F (reads_of (run name source memory)) ≡ whole (bytes ∷ more)
   schedule : schedule_in source (get_or (bytes ∷ more) 1 []) ≡ Ok s
 
-read_for : (F : FileMap) (name bytes memory : List ℕ) (source : Source) (s : Sched) → get F name ≡ Some bytes → length bytes ≤ longest → IsGiven F source s → ReadFor F name bytes memory source s
+read_for : (F : FileMap) (name bytes memory : List ℕ) (source : Source) (s : Sched) → get F name ≡ Some bytes → length bytes ≤ longest → IsGiven F source s
+    → ReadFor F name bytes memory source s
 read_for F name bytes memory (ticks n) s image fits given = record {
   more = [];
   reading = read_one F name bytes image fits;
@@ -79,7 +82,8 @@ read_for F name bytes memory (file other) s image fits given = record {
 }
 
 -- what a sound run is to do
-effect-run : (listings : List Segment → Listing) (words : List (List ℕ)) (F : FileMap) (name bytes memory : List ℕ) (source : Source) (image : List Segment) (s : Sched) (e : Effect)
+effect-run : (listings : List Segment → Listing) (words : List (List ℕ)) (F : FileMap) (name bytes memory : List ℕ) (source : Source) (image : List Segment)
+    (s : Sched) (e : Effect)
     → form_of words ≡ Some (run name source memory) → ReadFor F name bytes memory source s → IsImageOf bytes image → reset_pc image % 2 ≡ 1
     → IsEffect listings words F e → e ≡ effect_for (reported (shown_out (listings image) image s) memory)
 effect-run listings words F name bytes memory source image s e asked read holds odd is =
@@ -106,14 +110,16 @@ left e F P old new HostFault h files printed ne = absurd (ne refl)
 left e F P old new NoMemory h files printed ne = inl refl
 
 -- the effect that was carried out is this one
-left_one : (names : List (List ℕ)) (Is : Effect → Type 0) (d : Effect) (F : FileMap) (P : List ℕ) (old new : HostState) (s : Status) → ((e : Effect) → Is e → e ≡ d) → BeginsOne names Is old new s
+left_one : (names : List (List ℕ)) (Is : Effect → Type 0) (d : Effect) (F : FileMap) (P : List ℕ) (old new : HostState) (s : Status)
+    → ((e : Effect) → Is e → e ≡ d) → BeginsOne names Is old new s
     → old.files ≡ Some F → old.printed ≡ Some P → s ≢ HostFault → (s ≡ NoMemory) ⊎ Left d F P new s
 left_one names Is d F P old new s only h files printed ne = elim h [
   | inl one ↦ left d F P old new s (subst (λ (e : Effect). Carries e old new s) (only one.0 one.1) one.2.carries) files printed ne
   | inr none ↦ inl (untouched_wanted old new s none.untouched ne)
 ]
 
-reported_by : (listing : Listing) (F : FileMap) (P memory : List ℕ) (image : List Segment) (s : Sched) (new : HostState) (status : Status) → IsListing (flash_byte image) listing
+reported_by : (listing : Listing) (F : FileMap) (P memory : List ℕ) (image : List Segment) (s : Sched) (new : HostState) (status : Status)
+    → IsListing (flash_byte image) listing
     → Left (effect_for (reported (shown_out listing image s) memory)) F P new status → IsReported F P memory image s new status
 reported_by listing F P memory image s new status is h = record {
   report = report_text (shown_out listing image s);
@@ -137,9 +143,11 @@ headline_of words form old new status same does = λ F P name memory image s h n
     let x = shown_out (listings image) image s in
     let sound = h.sound in
     let read = read_for F name sound.bytes memory h.source s sound.there sound.short h.given in
-    let only = λ (e : Effect). effect-run listings words F name sound.bytes memory h.source image s e (form_of-run words name h.source memory h.asked) read sound.holds sound.odd in
+    let only = λ (e : Effect). effect-run listings words F name sound.bytes memory h.source image s e (form_of-run words name h.source memory h.asked) read
+    sound.holds sound.odd in
     let done = Does-begins listings form words old new status F (does listings some_listings.1) same sound.files in
-    elim (left_one (reads_for (form_of words)) (IsEffect listings words F) (effect_for (reported x memory)) F P old new status only done sound.files sound.printed ne) [
+    elim (left_one (reads_for (form_of words)) (IsEffect listings words F) (effect_for (reported x memory)) F P old new status only done sound.files
+    sound.printed ne) [
       | inl wanted ↦ inl wanted
       | inr left ↦ inr (reported_by (listings image) F P memory image s new status (some_listings.1.at image) left)
     ]
@@ -169,13 +177,17 @@ halted_in_order x (Halted reason k s) ends = ap is_halted ends
 halted_in_order x (Full k s) ends = ap is_halted ends
 halted_in_order x (Faulted kind pc addr k) ends = ap is_halted ends
 
-plainly_shown : (listing : Listing) (image : List Segment) (n : ℕ) → short_report (shown_out listing image (plain n)) ≡ in_order_report (in_order listing image n)
+plainly_shown : (listing : Listing) (image : List Segment) (n : ℕ)
+    → short_report (shown_out listing image (plain n)) ≡ in_order_report (in_order listing image n)
 plainly_shown listing image n =
-    sym (ap short_report (plain_shown listing image n)) ∙ shown_in_order (timed_out listing image (plain n)) (in_order listing image n) (reports listing image n) (plain_ends listing image n)
+    sym (ap short_report (plain_shown listing image n))
+    ∙ shown_in_order (timed_out listing image (plain n)) (in_order listing image n) (reports listing image n) (plain_ends listing image n)
 
-plainly_halted : (listing : Listing) (image : List Segment) (n : ℕ) → is_halted (shown_out listing image (plain n)).outcome ≡ has_halted (in_order listing image n)
+plainly_halted : (listing : Listing) (image : List Segment) (n : ℕ)
+    → is_halted (shown_out listing image (plain n)).outcome ≡ has_halted (in_order listing image n)
 plainly_halted listing image n =
-    sym (ap (λ (x : Timed). is_halted x.outcome) (plain_shown listing image n)) ∙ halted_in_order (timed_out listing image (plain n)) (in_order listing image n) (plain_ends listing image n)
+    sym (ap (λ (x : Timed). is_halted x.outcome) (plain_shown listing image n))
+    ∙ halted_in_order (timed_out listing image (plain n)) (in_order listing image n) (plain_ends listing image n)
 
 effect-seq : (listings : List Segment → Listing) (words : List (List ℕ)) (F : FileMap) (name bytes : List ℕ) (image : List Segment) (n : ℕ) (e : Effect)
     → form_of words ≡ Some (seq name n) → get F name ≡ Some bytes → length bytes ≤ longest → IsImageOf bytes image → reset_pc image % 2 ≡ 1
@@ -187,7 +199,8 @@ effect-seq listings words F name bytes image n e asked there short holds odd is 
     ∙ ap (λ (i : Result (List Segment) ImageErr). effect_for (seq_outcome listings i n)) (image_of_again bytes image holds)
     ∙ ap (λ o. effect_for (unless_refused o (told (shown_out (listings image) image (plain n))))) (reset_refusal-odd image odd)
 
-shown_by : (listing : Listing) (F : FileMap) (P : List ℕ) (image : List Segment) (n : ℕ) (new : HostState) (status : Status) → IsListing (flash_byte image) listing
+shown_by : (listing : Listing) (F : FileMap) (P : List ℕ) (image : List Segment) (n : ℕ) (new : HostState) (status : Status)
+    → IsListing (flash_byte image) listing
     → Left (effect_for (told (shown_out listing image (plain n)))) F P new status → IsShownInOrder F P image n new status
 shown_by listing F P image n new status is h = record {
   printed = λ other are.
@@ -207,7 +220,8 @@ order_of words form old new status same does = λ F P name image n h ne.
     let listings = some_listings.0 in
     let x = shown_out (listings image) image (plain n) in
     let sound = h.sound in
-    let only = λ (e : Effect). effect-seq listings words F name sound.bytes image n e (form_of-seq words name n h.asked) sound.there sound.short sound.holds sound.odd in
+    let only = λ (e : Effect). effect-seq listings words F name sound.bytes image n e (form_of-seq words name n h.asked) sound.there sound.short sound.holds
+    sound.odd in
     let done = Does-begins listings form words old new status F (does listings some_listings.1) same sound.files in
     elim (left_one (reads_for (form_of words)) (IsEffect listings words F) (effect_for (told x)) F P old new status only done sound.files sound.printed ne) [
       | inl wanted ↦ inl wanted

@@ -25,9 +25,11 @@ hex_is_read image is all =
     let begins : begins_as_hex (hex_file image) ≡ true = ap (λ (b : ℕ). nat_eq b 58) (hex_colon image) in
     ap (λ (hex : Bool). if hex then hex_in (hex_file image) else image_in (hex_file image)) begins ∙ read_back_is image is all
 
-shown_alike : (listings : List Segment → Listing) (image : List Segment) (s : Sched) → AreListings listings → IsImage image → shown_out (listings (joined image)) (joined image) s ≡ shown_out (listings image) image s
+shown_alike : (listings : List Segment → Listing) (image : List Segment) (s : Sched) → AreListings listings → IsImage image
+    → shown_out (listings (joined image)) (joined image) s ≡ shown_out (listings image) image s
 shown_alike listings image s are is =
-    let one = listing_one (flash_byte (joined image)) (listings (joined image)) (listings image) (are.at (joined image)) (joined_listing image (listings image) is (are.at image)) in
+    let one = listing_one (flash_byte (joined image)) (listings (joined image)) (listings image) (are.at (joined image))
+    (joined_listing image (listings image) is (are.at image)) in
     ap (λ (l : Listing). shown_out l (joined image) s) one ∙ joined_shown (listings image) image s is
 
 refused_alike : (image : List Segment) → IsImage image → reset_refusal (joined image) ≡ reset_refusal image
@@ -35,13 +37,16 @@ refused_alike image is = ap refused_at (joined_reset image is) where
   refused_at : ℕ → Option Refusal
   refused_at pc = if nat_eq (pc % 2) 0 then Some (Reset pc) else None
 
-outcome_alike : (listings : List Segment → Listing) (image : List Segment) (read : Result Sched SchedErr) (memory : List ℕ) → AreListings listings → IsImage image
+outcome_alike : (listings : List Segment → Listing) (image : List Segment) (read : Result Sched SchedErr) (memory : List ℕ) → AreListings listings
+    → IsImage image
     → run_outcome listings (Ok (joined image)) read memory ≡ run_outcome listings (Ok image) read memory
 outcome_alike listings image (Err e) memory are is = refl
 outcome_alike listings image (Ok s) memory are is =
     ap (λ (why : Option Refusal). unless_refused why (reported (shown_out (listings (joined image)) (joined image) s) memory)) (refused_alike image is)
     ∙ ap (λ (x : Timed). unless_refused (reset_refusal image) (reported x memory)) (shown_alike listings image s are is)
 
-pub hex_runs_alike : (listings : List Segment → Listing) (image : List Segment) (read : Result Sched SchedErr) (memory : List ℕ) → AreListings listings → IsImage image → AreBytes image
+pub hex_runs_alike : (listings : List Segment → Listing) (image : List Segment) (read : Result Sched SchedErr) (memory : List ℕ) → AreListings listings
+    → IsImage image → AreBytes image
     → run_outcome listings (image_of (hex_file image)) read memory ≡ run_outcome listings (Ok image) read memory
-hex_runs_alike listings image read memory are is all = ap (λ (i : Result (List Segment) ImageErr). run_outcome listings i read memory) (hex_is_read image is all) ∙ outcome_alike listings image read memory are is
+hex_runs_alike listings image read memory are is all =
+    ap (λ (i : Result (List Segment) ImageErr). run_outcome listings i read memory) (hex_is_read image is all) ∙ outcome_alike listings image read memory are is

@@ -25,7 +25,9 @@ use Rattle.hm_sched.specs.declared.errors.SchedErr.{SchedErr}
 use Rattle.hm_soak_laws.proofs.Line.{one_line}
 use Rattle.std.specs.Prelude.{[], get_or}
 use Rattle.hm_asm.proofs.Outcomes.{one_outcome as one_assembled}
-use Rattle.hm_commands.specs.Commands.{ComesTo, IsAnswers, IsAsmOutcome, IsChecked, IsCheckedText, IsCompared, IsCompiledFile, IsDebugOutcome, IsDisOutcome, IsJournalOutcome, IsMigrateOutcome, IsReplayOutcome, IsScriptRead, IsSoakOutcome, OfRun, UnlessRefused, asm_outcome, compared, journal_written, last_read, tick_outcome}
+use Rattle.hm_commands.specs.Commands.{ComesTo, IsAnswers, IsAsmOutcome, IsChecked, IsCheckedText, IsCompared, IsCompiledFile, IsDebugOutcome, IsDisOutcome}
+use Rattle.hm_commands.specs.Commands.{IsJournalOutcome, IsMigrateOutcome, IsReplayOutcome, IsScriptRead, IsSoakOutcome, OfRun, UnlessRefused, asm_outcome}
+use Rattle.hm_commands.specs.Commands.{compared, journal_written, last_read, tick_outcome}
 use Rattle.hm_commands.specs.Effect.{Effect, Reading, whole, too_large, missing, reading_of, reads_for, effect_for, IsEffect, IsEffectAfter}
 use Rattle.hm_commands.specs.Run.{reset_refusal, schedule_in}
 use Rattle.hm_commands.specs.Work.{Outcome, finishes}
@@ -48,7 +50,8 @@ one_unless : (why : Option Refusal) (Is : Outcome → Type 0) (o p : Outcome) �
 one_unless (Some why) Is o p one x y = x ∙ sym y
 one_unless None Is o p one x y = one x y
 
-one_of_run : (image : Result (List Segment) ImageErr) (schedule : Result Sched SchedErr) (Is : List Segment → Sched → Outcome → Type 0) (o p : Outcome) → ((i : List Segment) (s : Sched) → Is i s o → Is i s p → o ≡ p)
+one_of_run : (image : Result (List Segment) ImageErr) (schedule : Result Sched SchedErr) (Is : List Segment → Sched → Outcome → Type 0) (o p : Outcome)
+    → ((i : List Segment) (s : Sched) → Is i s o → Is i s p → o ≡ p)
     → OfRun image schedule Is o → OfRun image schedule Is p → o ≡ p
 one_of_run (Err e) schedule Is o p one x y = x ∙ sym y
 one_of_run (Ok image) (Err e) Is o p one x y = x ∙ sym y
@@ -61,41 +64,55 @@ one_read text (Err d) (Err e) x y = ap (λ (k : ScriptErr). Err k) (one_refusal 
 one_read text (Ok cs) (Err e) x y = absurd (not_both text cs e x y)
 one_read text (Err e) (Ok cs) x y = absurd (not_both text cs e y x)
 
-one_answers : (listings : List Segment → Listing) (image : List Segment) (s : Sched) (read : Result (List Command) ScriptErr) (o p : Outcome) → IsAnswers listings image s read o → IsAnswers listings image s read p → o ≡ p
+one_answers : (listings : List Segment → Listing) (image : List Segment) (s : Sched) (read : Result (List Command) ScriptErr) (o p : Outcome)
+    → IsAnswers listings image s read o → IsAnswers listings image s read p → o ≡ p
 one_answers listings image s (Err e) o p x y = x ∙ sym y
-one_answers listings image s (Ok cs) o p x y = one_unless (reset_refusal image) (λ o. o ≡ finishes true None (Some (answers (film_of (listings image) image s) cs 0))) o p (λ u v. u ∙ sym v) x y
+one_answers listings image s (Ok cs) o p x y =
+    one_unless (reset_refusal image) (λ o. o ≡ finishes true None (Some (answers (film_of (listings image) image s) cs 0))) o p (λ u v. u ∙ sym v) x y
 
-one_debug : (listings : List Segment → Listing) (text : List ℕ) (image : List Segment) (s : Sched) (o p : Outcome) → IsDebugOutcome listings text image s o → IsDebugOutcome listings text image s p → o ≡ p
+one_debug : (listings : List Segment → Listing) (text : List ℕ) (image : List Segment) (s : Sched) (o p : Outcome) → IsDebugOutcome listings text image s o
+    → IsDebugOutcome listings text image s p → o ≡ p
 one_debug listings text image s o p x y =
-    one_answers listings image s y.0 o p (subst (λ (r : Result (List Command) ScriptErr). IsAnswers listings image s r o) (one_read text x.0 y.0 x.1 y.1) x.2) y.2
+    one_answers listings image s y.0 o p (subst (λ (r : Result (List Command) ScriptErr). IsAnswers listings image s r o) (one_read text x.0 y.0 x.1 y.1) x.2)
+    y.2
 
-one_compared : (listings : List Segment → Listing) (image : List Segment) (s : Sched) (next : Outcome) (j : Journaled) (o p : Outcome) → IsCompared listings image s next j o → IsCompared listings image s next j p → o ≡ p
-one_compared listings image s next j o p x y = x.2 ∙ ap (compared next) (one_comparison (listings image) image s j.format j.checkpoints x.0 y.0 x.1 y.1) ∙ sym y.2
+one_compared : (listings : List Segment → Listing) (image : List Segment) (s : Sched) (next : Outcome) (j : Journaled) (o p : Outcome)
+    → IsCompared listings image s next j o → IsCompared listings image s next j p → o ≡ p
+one_compared listings image s next j o p x y = x.2 ∙ ap (compared next) (one_comparison (listings image) image s j.format j.checkpoints x.0 y.0 x.1 y.1)
+    ∙ sym y.2
 
-one_checked : (listings : List Segment → Listing) (image : List Segment) (s : Sched) (next : Journaled → Outcome) (read : Result Journaled JournalErr) (o p : Outcome) → IsChecked listings image s next read o → IsChecked listings image s next read p → o ≡ p
+one_checked : (listings : List Segment → Listing) (image : List Segment) (s : Sched) (next : Journaled → Outcome) (read : Result Journaled JournalErr)
+    (o p : Outcome) → IsChecked listings image s next read o → IsChecked listings image s next read p → o ≡ p
 one_checked listings image s next (Err e) o p x y = x ∙ sym y
-one_checked listings image s next (Ok j) o p x y = one_unless (reset_refusal image) (IsCompared listings image s (next j) j) o p (one_compared listings image s (next j) j o p) x y
+one_checked listings image s next (Ok j) o p x y =
+    one_unless (reset_refusal image) (IsCompared listings image s (next j) j) o p (one_compared listings image s (next j) j o p) x y
 
-one_text : (listings : List Segment → Listing) (text : List ℕ) (image : List Segment) (s : Sched) (next : Journaled → Outcome) (o p : Outcome) → IsCheckedText listings text image s next o → IsCheckedText listings text image s next p → o ≡ p
+one_text : (listings : List Segment → Listing) (text : List ℕ) (image : List Segment) (s : Sched) (next : Journaled → Outcome) (o p : Outcome)
+    → IsCheckedText listings text image s next o → IsCheckedText listings text image s next p → o ≡ p
 one_text listings text image s next o p x y =
-    one_checked listings image s next y.0 o p (subst (λ (r : Result Journaled JournalErr). IsChecked listings image s next r o) (one_journal text x.0 y.0 x.1 y.1) x.2) y.2
+    one_checked listings image s next y.0 o p
+    (subst (λ (r : Result Journaled JournalErr). IsChecked listings image s next r o) (one_journal text x.0 y.0 x.1 y.1) x.2) y.2
 
 -- the form is of no text of the array language
 abbrev IsNoKernel : Form → Type 0
 IsNoKernel form = (source out : List ℕ) → form ≢ kernel source out
 
-one_outcome : (listings : List Segment → Listing) (form : Form) (contents : List (List ℕ)) (o p : Outcome) → IsNoKernel form → ComesTo listings form contents o → ComesTo listings form contents p → o ≡ p
+one_outcome : (listings : List Segment → Listing) (form : Form) (contents : List (List ℕ)) (o p : Outcome) → IsNoKernel form → ComesTo listings form contents o
+    → ComesTo listings form contents p → o ≡ p
 one_outcome listings (run image schedule memory) contents o p apart x y = x ∙ sym y
 one_outcome listings (seq image n) contents o p apart x y = x ∙ sym y
 one_outcome listings (dis image lo hi) contents o p apart x y = one_dis (image_of (get_or contents 0 [])) lo hi o p x y
 one_outcome listings (asm source out) contents o p apart x y = one_asm (get_or contents 0 []) out o p x y
 one_outcome listings (soak number) contents o p apart x y = one_soak number o p x y
 one_outcome listings (debug image schedule script) contents o p apart x y =
-    one_of_run (image_of (get_or contents 0 [])) (schedule_in schedule (get_or contents 1 [])) (IsDebugOutcome listings (last_read schedule contents)) o p (λ i s u v. one_debug listings (last_read schedule contents) i s o p u v) x y
+    one_of_run (image_of (get_or contents 0 [])) (schedule_in schedule (get_or contents 1 [])) (IsDebugOutcome listings (last_read schedule contents)) o p
+    (λ i s u v. one_debug listings (last_read schedule contents) i s o p u v) x y
 one_outcome listings (journal image schedule every out) contents o p apart x y =
-    one_of_run (image_of (get_or contents 0 [])) (schedule_in schedule (get_or contents 1 [])) (IsJournalOutcome listings every out) o p (λ i s u v. u ∙ sym v) x y
+    one_of_run (image_of (get_or contents 0 [])) (schedule_in schedule (get_or contents 1 [])) (IsJournalOutcome listings every out) o p (λ i s u v. u ∙ sym v)
+    x y
 one_outcome listings (replay image schedule text tick) contents o p apart x y =
-    one_of_run (image_of (get_or contents 0 [])) (schedule_in schedule (get_or contents 1 [])) (IsReplayOutcome listings (last_read schedule contents) tick) o p (λ i s u v. one_text listings (last_read schedule contents) i s (λ j. tick_outcome listings i s tick) o p u v) x y
+    one_of_run (image_of (get_or contents 0 [])) (schedule_in schedule (get_or contents 1 [])) (IsReplayOutcome listings (last_read schedule contents) tick) o p
+    (λ i s u v. one_text listings (last_read schedule contents) i s (λ j. tick_outcome listings i s tick) o p u v) x y
 one_outcome listings (migrate image schedule text out) contents o p apart x y =
     one_of_run (image_of (get_or contents 0 [])) (schedule_in schedule (get_or contents 1 [])) (IsMigrateOutcome listings (last_read schedule contents) out) o p
     (λ i s u v. one_text listings (last_read schedule contents) i s (λ j. journal_written listings j.every out i s) o p u v) x y
@@ -103,7 +120,8 @@ one_outcome listings (plan image n out) contents o p apart x y = x ∙ sym y
 one_outcome listings (hex image out) contents o p apart x y = x ∙ sym y
 one_outcome listings (kernel source out) contents o p apart x y = absurd (apart source out refl)
 
-one_after : (listings : List Segment → Listing) (form : Option Form) (reading : Reading) (d e : Effect) → ((source out : List ℕ) → form ≢ Some (kernel source out))
+one_after : (listings : List Segment → Listing) (form : Option Form) (reading : Reading) (d e : Effect)
+    → ((source out : List ℕ) → form ≢ Some (kernel source out))
     → IsEffectAfter listings form reading d → IsEffectAfter listings form reading e → d ≡ e
 one_after listings None reading d e apart x y = x ∙ sym y
 one_after listings (Some form) (whole contents) d e apart x y =
@@ -111,7 +129,8 @@ one_after listings (Some form) (whole contents) d e apart x y =
 one_after listings (Some form) too_large d e apart x y = x ∙ sym y
 one_after listings (Some form) missing d e apart x y = x ∙ sym y
 
-pub one_effect : (listings : List Segment → Listing) (words : List (List ℕ)) (F : FileMap) (d e : Effect) → ((source out : List ℕ) → form_of words ≢ Some (kernel source out))
+pub one_effect : (listings : List Segment → Listing) (words : List (List ℕ)) (F : FileMap) (d e : Effect)
+    → ((source out : List ℕ) → form_of words ≢ Some (kernel source out))
     → IsEffect listings words F d → IsEffect listings words F e → d ≡ e
 one_effect listings words F d e apart x y = one_after listings (form_of words) (reading_of F (reads_for (form_of words))) d e apart x y
 
@@ -123,11 +142,13 @@ Alike d e = (d.status ≡ e.status) × (d.text ≡ e.text) × (option_map (λ fi
 alike_same : (d e : Effect) → d ≡ e → Alike d e
 alike_same d e is = subst (Alike d) is (refl, refl, refl)
 
-alike_files : (source : List ℕ) (read : Result Written KernelErr) (out : List ℕ) (o p : Outcome) → IsCompiledFile source read out o → IsCompiledFile source read out p → Alike (effect_for o) (effect_for p)
+alike_files : (source : List ℕ) (read : Result Written KernelErr) (out : List ℕ) (o p : Outcome) → IsCompiledFile source read out o
+    → IsCompiledFile source read out p → Alike (effect_for o) (effect_for p)
 alike_files source (Err e) out o p x y = alike_same (effect_for o) (effect_for p) (ap effect_for (x ∙ sym y))
 alike_files source (Ok w) out o p x y =
     let first = finishes true (Some (out, elf_file x.0)) None in
-    subst (λ (a : Outcome). Alike (effect_for a) (effect_for p)) (sym x.2) (subst (λ (b : Outcome). Alike (effect_for first) (effect_for b)) (sym y.2) (refl, refl, refl))
+    subst (λ (a : Outcome). Alike (effect_for a) (effect_for p)) (sym x.2)
+    (subst (λ (b : Outcome). Alike (effect_for first) (effect_for b)) (sym y.2) (refl, refl, refl))
 
 kernel_or_not : (form : Form) → ((source : List ℕ) × (out : List ℕ) × (form ≡ kernel source out)) ⊎ IsNoKernel form
 kernel_or_not (run image schedule memory) = inr (λ source out is. absurd cc)
@@ -143,7 +164,8 @@ kernel_or_not (plan image n out) = inr (λ source out is. absurd cc)
 kernel_or_not (hex image out) = inr (λ source out is. absurd cc)
 kernel_or_not (kernel source out) = inl (source, out, refl)
 
-alike_outcomes : (listings : List Segment → Listing) (form : Form) (contents : List (List ℕ)) (o p : Outcome) → ComesTo listings form contents o → ComesTo listings form contents p → Alike (effect_for o) (effect_for p)
+alike_outcomes : (listings : List Segment → Listing) (form : Form) (contents : List (List ℕ)) (o p : Outcome) → ComesTo listings form contents o
+    → ComesTo listings form contents p → Alike (effect_for o) (effect_for p)
 alike_outcomes listings form contents o p x y = elim (kernel_or_not form) [
   | inl of ↦ (
       let here = subst (λ (f : Form). ComesTo listings f contents o) of.2 x in
@@ -153,7 +175,8 @@ alike_outcomes listings form contents o p x y = elim (kernel_or_not form) [
   | inr apart ↦ alike_same (effect_for o) (effect_for p) (ap effect_for (one_outcome listings form contents o p apart x y))
 ]
 
-alike_after : (listings : List Segment → Listing) (form : Option Form) (reading : Reading) (d e : Effect) → IsEffectAfter listings form reading d → IsEffectAfter listings form reading e → Alike d e
+alike_after : (listings : List Segment → Listing) (form : Option Form) (reading : Reading) (d e : Effect) → IsEffectAfter listings form reading d
+    → IsEffectAfter listings form reading e → Alike d e
 alike_after listings None reading d e x y = alike_same d e (x ∙ sym y)
 alike_after listings (Some form) (whole contents) d e x y =
     let outcomes = alike_outcomes listings form contents x.0 y.0 x.1 y.1 in
@@ -161,6 +184,7 @@ alike_after listings (Some form) (whole contents) d e x y =
 alike_after listings (Some form) too_large d e x y = alike_same d e (x ∙ sym y)
 alike_after listings (Some form) missing d e x y = alike_same d e (x ∙ sym y)
 
-pub alike_effects : (listings : List Segment → Listing) (words : List (List ℕ)) (F : FileMap) (d e : Effect) → IsEffect listings words F d → IsEffect listings words F e
+pub alike_effects : (listings : List Segment → Listing) (words : List (List ℕ)) (F : FileMap) (d e : Effect) → IsEffect listings words F d
+    → IsEffect listings words F e
     → (d.status ≡ e.status) × (d.text ≡ e.text) × (option_map (λ file. file.0) d.file ≡ option_map (λ file. file.0) e.file)
 alike_effects listings words F d e x y = alike_after listings (form_of words) (reading_of F (reads_for (form_of words))) d e x y

@@ -1,5 +1,6 @@
 -- Reads in order.
-use Rattle.std.proofs.Common.{◌≡◌, ℕ, ◌<◌, ◌≤◌, List, [], ◌∷◌, ◌++◌, length, Some, Option, Err, refl, ap, sym, ◌∙◌, append_assoc, arith, map, take, drop, get_or, suc, subst, ◌+◌, inr, Bor}
+use Rattle.std.proofs.Common.{◌≡◌, ℕ, ◌<◌, ◌≤◌, List, [], ◌∷◌, ◌++◌, length, Some, Option, Err, refl, ap, sym, ◌∙◌, append_assoc, arith, map, take, drop}
+use Rattle.std.proofs.Common.{get_or, suc, subst, ◌+◌, inr, Bor}
 use Rattle.std.proofs.Math.Seq.{drop-cons}
 use Rattle.std.proofs.lemmas.Bool.Decides.{nat_tests}
 use Rattle.std.specs.FinMap.{get}
@@ -16,7 +17,8 @@ after_contents-nil (whole contents) = refl
 after_contents-nil too_large = refl
 after_contents-nil missing = refl
 
-pub after_contents-push : (before : List (List ℕ)) (bytes : List ℕ) (r : Reading) → after_contents before (after_contents (bytes ∷ []) r) ≡ after_contents (before ++ bytes ∷ []) r
+pub after_contents-push : (before : List (List ℕ)) (bytes : List ℕ) (r : Reading)
+    → after_contents before (after_contents (bytes ∷ []) r) ≡ after_contents (before ++ bytes ∷ []) r
 after_contents-push before bytes (whole contents) = ap whole (sym (append_assoc before (bytes ∷ []) contents))
 after_contents-push before bytes too_large = refl
 after_contents-push before bytes missing = refl
@@ -36,7 +38,8 @@ reading_of-read F before name bytes names is fits =
     ∙ after_contents-push before bytes (reading_of F names)
 
 -- a read of a file that is too large
-pub reading_of-too_large : (F : FileMap) (before : List (List ℕ)) (name bytes : List ℕ) (names : List (List ℕ)) → get F name ≡ Some bytes → longest < length bytes
+pub reading_of-too_large : (F : FileMap) (before : List (List ℕ)) (name bytes : List ℕ) (names : List (List ℕ)) → get F name ≡ Some bytes
+    → longest < length bytes
     → after_contents before (reading_of F (name ∷ names)) ≡ too_large
 reading_of-too_large F before name bytes names is long =
     ap (λ o. after_contents before (then_read o (reading_of F names))) is
@@ -57,7 +60,8 @@ ReadsAll-err old mid all before names i Failed told lt stays read = tt
 ReadsAll-err old mid all before names i TooLarge told lt stays read = λ F is.
     let here = get_or names i (record { ref_ptr = (0, 0); now = [] }) in
     told F is ∙ ap (λ left. after_contents before (reading_of F (map (λ name. name.now) left))) (drop-cons names i (record { ref_ptr = (0, 0); now = [] }) lt)
-    ∙ reading_of-too_large F before here.now (read F (stays F is)).0 (map (λ name. name.now) (drop (suc i) names)) (read F (stays F is)).1 (read F (stays F is)).2
+    ∙ reading_of-too_large F before here.now (read F (stays F is)).0 (map (λ name. name.now) (drop (suc i) names)) (read F (stays F is)).1
+    (read F (stays F is)).2
 ReadsAll-err old mid all before names i OutOfMemory told lt stays read = tt
 
 -- ---- the calls
@@ -79,66 +83,86 @@ after_read-too_large : (bytes : List ℕ) (others : List Call) → longest < len
 after_read-too_large bytes others long = grind (arith, nat_tests)
 
 left_at : (F : FileMap) (names : List (Bor (List ℕ))) (i : ℕ) → i < length names
-    → read_calls F (map (λ name. name.now) (drop i names)) ≡ read_call (get_or names i no_name).now ∷ after_read (get F (get_or names i no_name).now) (read_calls F (map (λ name. name.now) (drop (suc i) names)))
+    → read_calls F (map (λ name. name.now) (drop i names))
+    ≡ read_call (get_or names i no_name).now ∷ after_read (get F (get_or names i no_name).now) (read_calls F (map (λ name. name.now) (drop (suc i) names)))
 left_at F names i lt = ap (λ (left : List (Bor (List ℕ))). read_calls F (map (λ name. name.now) left)) (drop-cons names i no_name lt)
 
-reads-more : (names : List (Bor (List ℕ))) (i : ℕ) → i < length names → reads (take (i + 1) names) ≡ reads (take i names) ++ read_call (get_or names i no_name).now ∷ []
+reads-more : (names : List (Bor (List ℕ))) (i : ℕ) → i < length names
+    → reads (take (i + 1) names) ≡ reads (take i names) ++ read_call (get_or names i no_name).now ∷ []
 reads-more names i lt = ap reads (take_more names i no_name lt) ∙ map-append (λ name. read_call name.now) (take i names) (get_or names i no_name ∷ [])
 
-pub next_calls : (names : List (Bor (List ℕ))) (i : ℕ) (old mid new : Option (List Made)) → i < length names → Becomes (with_calls (reads (take i names))) old mid
+pub next_calls : (names : List (Bor (List ℕ))) (i : ℕ) (old mid new : Option (List Made)) → i < length names
+    → Becomes (with_calls (reads (take i names))) old mid
     → Becomes (λ made. made ++ answered (read_call (get_or names i no_name).now) ∷ []) mid new → Becomes (with_calls (reads (take (i + 1) names))) old new
 next_calls names i old mid new lt before one =
     let both = made_after (reads (take i names)) (read_call (get_or names i no_name).now ∷ []) old mid new to_end before one in
     subst (λ (calls : List Call). Becomes (with_calls calls) old new) (sym (reads-more names i lt)) both
 
-pub next_splits : (F : FileMap) (names : List (Bor (List ℕ))) (i : ℕ) (bytes : List ℕ) → i < length names → get F (get_or names i no_name).now ≡ Some bytes → length bytes ≤ longest → SplitsAt F names i → SplitsAt F names (i + 1)
+pub next_splits : (F : FileMap) (names : List (Bor (List ℕ))) (i : ℕ) (bytes : List ℕ) → i < length names → get F (get_or names i no_name).now ≡ Some bytes
+    → length bytes ≤ longest → SplitsAt F names i → SplitsAt F names (i + 1)
 next_splits F names i bytes lt is fits splits =
     let here = read_call (get_or names i no_name).now in
     let more = read_calls F (map (λ name. name.now) (drop (suc i) names)) in
-    let left : read_calls F (map (λ name. name.now) (drop i names)) ≡ here ∷ more = left_at F names i lt ∙ ap (λ (o : Option (List ℕ)). here ∷ after_read o more) is ∙ ap (λ (c : List Call). here ∷ c) (after_read-fits bytes more fits) in
+    let left : read_calls F (map (λ name. name.now) (drop i names)) ≡ here ∷ more = left_at F names i lt
+    ∙ ap (λ (o : Option (List ℕ)). here ∷ after_read o more) is ∙ ap (λ (c : List Call). here ∷ c) (after_read-fits bytes more fits) in
     let one : i + 1 ≡ suc i = omega arith in
     splits ∙ ap (λ (c : List Call). reads (take i names) ++ c) left ∙ sym (append_assoc (reads (take i names)) (here ∷ []) more)
     ∙ ap (λ (c : List Call). c ++ more) (sym (reads-more names i lt))
     ∙ ap (λ (k : ℕ). reads (take (i + 1) names) ++ read_calls F (map (λ name. name.now) (drop k names))) (sym one)
 
 -- all reads were made
-pub reads_done : (F : FileMap) (names : List (Bor (List ℕ))) (i : ℕ) (old new : Option (List Made)) → length names ≤ i → SplitsAt F names i → Becomes (with_calls (reads (take i names))) old new
+pub reads_done : (F : FileMap) (names : List (Bor (List ℕ))) (i : ℕ) (old new : Option (List Made)) → length names ≤ i → SplitsAt F names i
+    → Becomes (with_calls (reads (take i names))) old new
     → Becomes (with_calls (read_calls F (map (λ name. name.now) names))) old new
 reads_done F names i old new le splits before =
-    let none : read_calls F (map (λ name. name.now) (drop i names)) ≡ [] = ap (λ (left : List (Bor (List ℕ))). read_calls F (map (λ name. name.now) left)) (drop_all i names le) in
-    let all : read_calls F (map (λ name. name.now) names) ≡ reads (take i names) = splits ∙ ap (λ (c : List Call). reads (take i names) ++ c) none ∙ append-nil (reads (take i names)) in
+    let none : read_calls F (map (λ name. name.now) (drop i names)) ≡ [] =
+    ap (λ (left : List (Bor (List ℕ))). read_calls F (map (λ name. name.now) left)) (drop_all i names le) in
+    let all : read_calls F (map (λ name. name.now) names) ≡ reads (take i names) = splits ∙ ap (λ (c : List Call). reads (take i names) ++ c) none
+    ∙ append-nil (reads (take i names)) in
     subst (λ (calls : List Call). Becomes (with_calls calls) old new) (sym all) before
 
 -- a read that gives no bytes, after those that did
-pub calls_cut : (F : FileMap) (files : Option FileMap) (names : List (Bor (List ℕ))) (i : ℕ) (e : HostErr) (old mid new : Option (List Made)) → i < length names → SplitsAt F names i → Becomes (with_calls (reads (take i names))) old mid
+pub calls_cut : (F : FileMap) (files : Option FileMap) (names : List (Bor (List ℕ))) (i : ℕ) (e : HostErr) (old mid new : Option (List Made)) → i < length names
+    → SplitsAt F names i → Becomes (with_calls (reads (take i names))) old mid
     → Makes {T = ℕ} (read_call (get_or names i no_name).now) mid new (Err e) → files ≡ Some F → ReadErr files (get_or names i no_name).now e
     → MakesCalls (read_calls F (map (λ name. name.now) names)) old new (answer_way {T = ℕ} (Err e))
 calls_cut F files names i Failed old mid new lt splits before one told answer =
     let here = read_call (get_or names i no_name).now in
     let others = after_read (get F (get_or names i no_name).now) (read_calls F (map (λ name. name.now) (drop (suc i) names))) in
     subst (λ (calls : List Call). MakesCalls calls old new to_fault) (sym (splits ∙ ap (λ (c : List Call). reads (take i names) ++ c) (left_at F names i lt)))
-    (made_after (reads (take i names)) (here ∷ others) old mid new to_fault before (fault_before (here ∷ []) others mid new (one_made {T = ℕ} here mid new (Err Failed) one)))
+    (made_after (reads (take i names)) (here ∷ others) old mid new to_fault before
+    (fault_before (here ∷ []) others mid new (one_made {T = ℕ} here mid new (Err Failed) one)))
 calls_cut F files names i TooLarge old mid new lt splits before one told answer =
     let here = read_call (get_or names i no_name).now in
     let more = read_calls F (map (λ name. name.now) (drop (suc i) names)) in
     let long = answer F told in
-    let last : read_calls F (map (λ name. name.now) (drop i names)) ≡ here ∷ [] = left_at F names i lt ∙ ap (λ (o : Option (List ℕ)). here ∷ after_read o more) long.1 ∙ ap (λ (c : List Call). here ∷ c) (after_read-too_large long.0 more long.2) in
+    let last : read_calls F (map (λ name. name.now) (drop i names)) ≡ here ∷ [] = left_at F names i lt
+    ∙ ap (λ (o : Option (List ℕ)). here ∷ after_read o more) long.1 ∙ ap (λ (c : List Call). here ∷ c) (after_read-too_large long.0 more long.2) in
     subst (λ (calls : List Call). MakesCalls calls old new to_end) (sym (splits ∙ ap (λ (c : List Call). reads (take i names) ++ c) last))
     (made_after (reads (take i names)) (here ∷ []) old mid new to_end before one)
 calls_cut F files names i OutOfMemory old mid new lt splits before one told answer =
     let here = read_call (get_or names i no_name).now in
     let others = after_read (get F (get_or names i no_name).now) (read_calls F (map (λ name. name.now) (drop (suc i) names))) in
     subst (λ (calls : List Call). MakesCalls calls old new to_memory) (sym (splits ∙ ap (λ (c : List Call). reads (take i names) ++ c) (left_at F names i lt)))
-    (made_after (reads (take i names)) (here ∷ others) old mid new to_memory before (memory_before (here ∷ []) others mid new (one_made {T = ℕ} here mid new (Err OutOfMemory) one)))
+    (made_after (reads (take i names)) (here ∷ others) old mid new to_memory before
+    (memory_before (here ∷ []) others mid new (one_made {T = ℕ} here mid new (Err OutOfMemory) one)))
 
 -- memory ran out after these reads
-pub calls_lost : (F : FileMap) (names : List (Bor (List ℕ))) (i : ℕ) (old new : Option (List Made)) → SplitsAt F names i → Becomes (with_calls (reads (take i names))) old new
+pub calls_lost : (F : FileMap) (names : List (Bor (List ℕ))) (i : ℕ) (old new : Option (List Made)) → SplitsAt F names i
+    → Becomes (with_calls (reads (take i names))) old new
     → MakesCalls (read_calls F (map (λ name. name.now) names)) old new to_memory
-calls_lost F names i old new splits before = inr (λ made is. (with_calls (reads (take i names)) made, before made is, record { done = reads (take i names); left = read_calls F (map (λ name. name.now) (drop i names)); parts_are = splits; made_are = refl }))
+calls_lost F names i old new splits before =
+    inr (λ made is. (
+      with_calls (reads (take i names)) made,
+      before made is,
+      record { done = reads (take i names); left = read_calls F (map (λ name. name.now) (drop i names)); parts_are = splits; made_are = refl },
+    ))
 
 -- what the reads gave goes on with one more
-pub next_told : (F : FileMap) (before : List (List ℕ)) (names : List (Bor (List ℕ))) (i : ℕ) (bytes : List ℕ) → i < length names → get F (get_or names i no_name).now ≡ Some bytes → length bytes ≤ longest
-    → after_contents before (reading_of F (map (λ name. name.now) (drop i names))) ≡ after_contents (before ++ bytes ∷ []) (reading_of F (map (λ name. name.now) (drop (i + 1) names)))
+pub next_told : (F : FileMap) (before : List (List ℕ)) (names : List (Bor (List ℕ))) (i : ℕ) (bytes : List ℕ) → i < length names
+    → get F (get_or names i no_name).now ≡ Some bytes → length bytes ≤ longest
+    → after_contents before (reading_of F (map (λ name. name.now) (drop i names)))
+    ≡ after_contents (before ++ bytes ∷ []) (reading_of F (map (λ name. name.now) (drop (i + 1) names)))
 next_told F before names i bytes lt is fits =
     let one : i + 1 ≡ suc i = omega arith in
     ap (λ (left : List (Bor (List ℕ))). after_contents before (reading_of F (map (λ name. name.now) left))) (drop-cons names i no_name lt)

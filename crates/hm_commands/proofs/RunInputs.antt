@@ -25,45 +25,57 @@ use Rattle.hm_commands.proofs.Runs.{reset_refusal-even, reset_refusal-odd}
 
 -- ---- reading
 
-image_by_error : (e : ImageErr) (image : Result (List Segment) ImageErr) (schedule : Result Sched SchedErr) → FailsImage e image → GivesRun image schedule (Err (image_stop e))
+image_by_error : (e : ImageErr) (image : Result (List Segment) ImageErr) (schedule : Result Sched SchedErr) → FailsImage e image
+    → GivesRun image schedule (Err (image_stop e))
 image_by_error refusals.OutOfMemory image schedule fails = tt
 image_by_error e image schedule fails = ap (λ (i : Result (List Segment) ImageErr). run_refusal i schedule) fails
 
-pub image_refused : (e : ImageErr) (image : Result (List Segment) ImageErr) (schedule : Result Sched SchedErr) (stop : Stop) → FailsImage e image → stop ≡ image_stop e → GivesRun image schedule (Err stop)
+pub image_refused : (e : ImageErr) (image : Result (List Segment) ImageErr) (schedule : Result Sched SchedErr) (stop : Stop) → FailsImage e image
+    → stop ≡ image_stop e → GivesRun image schedule (Err stop)
 image_refused e image schedule stop fails is = subst (λ (s : Stop). GivesRun image schedule (Err s)) (sym is) (image_by_error e image schedule fails)
 
-schedule_by_error : (e : SchedErr) (i : List Segment) (image : Result (List Segment) ImageErr) (schedule : Result Sched SchedErr) → image ≡ Ok i → Fails e schedule → GivesRun image schedule (Err (schedule_stop e))
+schedule_by_error : (e : SchedErr) (i : List Segment) (image : Result (List Segment) ImageErr) (schedule : Result Sched SchedErr) → image ≡ Ok i
+    → Fails e schedule → GivesRun image schedule (Err (schedule_stop e))
 schedule_by_error sched.OutOfMemory i image schedule at fails = tt
 schedule_by_error e i image schedule at fails = ap (λ (x : Result (List Segment) ImageErr). run_refusal x schedule) at ∙ ap (run_refusal (Ok i)) fails
 
-pub schedule_refused : (e : SchedErr) (i : List Segment) (image : Result (List Segment) ImageErr) (schedule : Result Sched SchedErr) (stop : Stop) → image ≡ Ok i → Fails e schedule → stop ≡ schedule_stop e → GivesRun image schedule (Err stop)
-schedule_refused e i image schedule stop at fails is = subst (λ (s : Stop). GivesRun image schedule (Err s)) (sym is) (schedule_by_error e i image schedule at fails)
+pub schedule_refused : (e : SchedErr) (i : List Segment) (image : Result (List Segment) ImageErr) (schedule : Result Sched SchedErr) (stop : Stop)
+    → image ≡ Ok i → Fails e schedule → stop ≡ schedule_stop e → GivesRun image schedule (Err stop)
+schedule_refused e i image schedule stop at fails is =
+    subst (λ (s : Stop). GivesRun image schedule (Err s)) (sym is) (schedule_by_error e i image schedule at fails)
 
 -- ---- what comes of both
 
-refused_of : (image : Result (List Segment) ImageErr) (schedule : Result Sched SchedErr) (Is : List Segment → Sched → Outcome → Type 0) (why : Refusal) → run_refusal image schedule ≡ Some why → OfRun image schedule Is (refuses why)
+refused_of : (image : Result (List Segment) ImageErr) (schedule : Result Sched SchedErr) (Is : List Segment → Sched → Outcome → Type 0) (why : Refusal)
+    → run_refusal image schedule ≡ Some why → OfRun image schedule Is (refuses why)
 refused_of (Err e) schedule Is why is = (let same : Image e ≡ why = cc in ap refuses (sym same))
 refused_of (Ok image) (Err e) Is why is = (let same : Schedule e ≡ why = cc in ap refuses (sym same))
 refused_of (Ok image) (Ok s) Is why is = absurd cc
 
-pub run_stops : (image : Result (List Segment) ImageErr) (schedule : Result Sched SchedErr) (Is : List Segment → Sched → Outcome → Type 0) (stop : Stop) → GivesRun image schedule (Err stop) → GivesOne (OfRun image schedule Is) (Err stop)
+pub run_stops : (image : Result (List Segment) ImageErr) (schedule : Result Sched SchedErr) (Is : List Segment → Sched → Outcome → Type 0) (stop : Stop)
+    → GivesRun image schedule (Err stop) → GivesOne (OfRun image schedule Is) (Err stop)
 run_stops image schedule Is (Refused why) given = refused_of image schedule Is why given
 run_stops image schedule Is NoMemory given = tt
 
-pub run_goes_on : (image : Result (List Segment) ImageErr) (schedule : Result Sched SchedErr) (i : List Segment) (s : Sched) (Is : List Segment → Sched → Outcome → Type 0) (answer : Result Finish Stop) → image ≡ Ok i → schedule ≡ Ok s
+pub run_goes_on : (image : Result (List Segment) ImageErr) (schedule : Result Sched SchedErr) (i : List Segment) (s : Sched)
+    (Is : List Segment → Sched → Outcome → Type 0) (answer : Result Finish Stop) → image ≡ Ok i → schedule ≡ Ok s
     → GivesOne (Is i s) answer → GivesOne (OfRun image schedule Is) answer
 run_goes_on image schedule i s Is answer at is h =
-    subst (λ (x : Result (List Segment) ImageErr). GivesOne (OfRun x schedule Is) answer) (sym at) (subst (λ (x : Result Sched SchedErr). GivesOne (OfRun (Ok i) x Is) answer) (sym is) h)
+    subst (λ (x : Result (List Segment) ImageErr). GivesOne (OfRun x schedule Is) answer) (sym at)
+    (subst (λ (x : Result Sched SchedErr). GivesOne (OfRun (Ok i) x Is) answer) (sym is) h)
 
 -- ---- loading
 
-load_by_error : (image : List Segment) (Is : Outcome → Type 0) (e : LoadErr) → LoadRefuses image e → GivesOne (UnlessRefused (reset_refusal image) Is) (Err (load_stop e))
+load_by_error : (image : List Segment) (Is : Outcome → Type 0) (e : LoadErr) → LoadRefuses image e
+    → GivesOne (UnlessRefused (reset_refusal image) Is) (Err (load_stop e))
 load_by_error image Is (load.Reset value) h =
     subst (λ (why : Option Refusal). UnlessRefused why Is (refuses (Reset value))) (sym (reset_refusal-even image value h.0 h.1)) refl
 load_by_error image Is load.OutOfMemory h = tt
 
-pub load_stops : (image : List Segment) (Is : Outcome → Type 0) (e : LoadErr) (stop : Stop) → LoadRefuses image e → stop ≡ load_stop e → GivesOne (UnlessRefused (reset_refusal image) Is) (Err stop)
+pub load_stops : (image : List Segment) (Is : Outcome → Type 0) (e : LoadErr) (stop : Stop) → LoadRefuses image e → stop ≡ load_stop e
+    → GivesOne (UnlessRefused (reset_refusal image) Is) (Err stop)
 load_stops image Is e stop h is = subst (λ (s : Stop). GivesOne (UnlessRefused (reset_refusal image) Is) (Err s)) (sym is) (load_by_error image Is e h)
 
-pub load_goes_on : (image : List Segment) (Is : Outcome → Type 0) (answer : Result Finish Stop) → reset_pc image % 2 ≡ 1 → GivesOne Is answer → GivesOne (UnlessRefused (reset_refusal image) Is) answer
+pub load_goes_on : (image : List Segment) (Is : Outcome → Type 0) (answer : Result Finish Stop) → reset_pc image % 2 ≡ 1 → GivesOne Is answer
+    → GivesOne (UnlessRefused (reset_refusal image) Is) answer
 load_goes_on image Is answer odd h = subst (λ (why : Option Refusal). GivesOne (UnlessRefused why Is) answer) (sym (reset_refusal-odd image odd)) h

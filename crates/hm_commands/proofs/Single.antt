@@ -53,16 +53,25 @@ untouched_files : (old new : HostState) (s : Status) → IsUntouched old new s �
 untouched_files old new s h is = (subst (IsUntouched old new) is h).1
 
 -- ONE EFFECT: what is told of an effect is told of one and the same
-all_of : (names : List (List ℕ)) (e : Effect) (F : FileMap) (old new : HostState) (s : Status) → old.files ≡ Some F → IsBegun names e old new s → DoesEffect (read_calls F names) e old new s
-all_of names e F old new s told h = record { carries = h.carries; complete = carried_done e old new s h.carries; calls = h.calls F told; spent = h.spent F told }
+all_of : (names : List (List ℕ)) (e : Effect) (F : FileMap) (old new : HostState) (s : Status) → old.files ≡ Some F → IsBegun names e old new s
+    → DoesEffect (read_calls F names) e old new s
+all_of names e F old new s told h =
+    record { carries = h.carries; complete = carried_done e old new s h.carries; calls = h.calls F told; spent = h.spent F told }
 
 -- any effect may have been cut where none was reached
-none_of : (names : List (List ℕ)) (e : Effect) (F : FileMap) (old new : HostState) (s : Status) → old.files ≡ Some F → IsNotReached names old new s → DoesEffect (read_calls F names) e old new s
+none_of : (names : List (List ℕ)) (e : Effect) (F : FileMap) (old new : HostState) (s : Status) → old.files ≡ Some F → IsNotReached names old new s
+    → DoesEffect (read_calls F names) e old new s
 none_of names e F old new s told h =
     let carries = untouched_carries e old new s h.untouched in
-    record { carries = carries; complete = carried_done e old new s carries; calls = cut_more (read_calls F names) (calls_for e) old.calls new.calls (way_of s) (h.calls F told); spent = λ wanted. inl (untouched_files old new s h.untouched wanted) }
+    record {
+      carries = carries;
+      complete = carried_done e old new s carries;
+      calls = cut_more (read_calls F names) (calls_for e) old.calls new.calls (way_of s) (h.calls F told);
+      spent = λ wanted. inl (untouched_files old new s h.untouched wanted);
+    }
 
-pub does_one : (names : List (List ℕ)) (Is : Effect → Type 0) (F : FileMap) (old new : HostState) (s : Status) → old.files ≡ Some F → (e : Effect) × Is e → BeginsOne names Is old new s
+pub does_one : (names : List (List ℕ)) (Is : Effect → Type 0) (F : FileMap) (old new : HostState) (s : Status) → old.files ≡ Some F → (e : Effect) × Is e
+    → BeginsOne names Is old new s
     → (e : Effect) × Is e × DoesEffect (read_calls F names) e old new s
 does_one names Is F old new s told some (inl one) = (one.0, one.1, all_of names one.0 F old new s told one.2)
 does_one names Is F old new s told some (inr none) = (some.0, some.1, none_of names some.0 F old new s told none)

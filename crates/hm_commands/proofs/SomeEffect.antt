@@ -30,8 +30,12 @@ use Rattle.hm_soak_laws.proofs.Line.{some_line}
 use Rattle.hm_asm.proofs.Exists.{some_outcome as some_assembled}
 use Rattle.hm_commands.specs.declared.work.Refusal.TheVariants.{FileTooLarge, Image, Schedule, Script, Journal, Kernel}
 use Rattle.hm_commands.specs.declared.work.Refusal.{Refusal}
-use Rattle.hm_commands.specs.Commands.{ComesTo, IsAnswers, IsAsmOutcome, IsChecked, IsCheckedText, IsCompared, IsCompiledFile, IsDebugOutcome, IsDisOutcome, IsJournalOutcome, IsKernelOutcome, IsMigrateOutcome, IsReplayOutcome, IsScriptRead, IsSoakOutcome, OfRun, UnlessRefused, asm_outcome, compared, hex_outcome, journal_outcome, journal_written, last_read, plan_outcome, run_outcome, seq_outcome, tick_outcome}
-use Rattle.hm_commands.specs.Effect.{Effect, Reading, whole, too_large, missing, after_contents, then_read, reading_of, reads_for, effect_for, no_effect, usage_effect, IsEffect, IsEffectAfter}
+use Rattle.hm_commands.specs.Commands.{ComesTo, IsAnswers, IsAsmOutcome, IsChecked, IsCheckedText, IsCompared, IsCompiledFile, IsDebugOutcome, IsDisOutcome}
+use Rattle.hm_commands.specs.Commands.{IsJournalOutcome, IsKernelOutcome, IsMigrateOutcome, IsReplayOutcome, IsScriptRead, IsSoakOutcome, OfRun, UnlessRefused}
+use Rattle.hm_commands.specs.Commands.{asm_outcome, compared, hex_outcome, journal_outcome, journal_written, last_read, plan_outcome, run_outcome, seq_outcome}
+use Rattle.hm_commands.specs.Commands.{tick_outcome}
+use Rattle.hm_commands.specs.Effect.{Effect, Reading, whole, too_large, missing, after_contents, then_read, reading_of, reads_for, effect_for, no_effect}
+use Rattle.hm_commands.specs.Effect.{usage_effect, IsEffect, IsEffectAfter}
 use Rattle.hm_commands.specs.Run.{reset_refusal, schedule_in}
 use Rattle.hm_commands.specs.Work.{Outcome, finishes, refuses}
 use Rattle.hm_words.specs.Words.{Form, run, seq, dis, asm, soak, debug, journal, replay, migrate, plan, hex, kernel, form_of, IsRange}
@@ -53,7 +57,8 @@ some_soak number =
     let x = some_line number in
     (finishes true None (Some x.0), (x.0, x.1, refl))
 
-some_file : (source : List ℕ) (read : Result Written KernelErr) (out : List ℕ) → length source ≤ longest → kernel_in source ≡ read → (o : Outcome) × IsCompiledFile source read out o
+some_file : (source : List ℕ) (read : Result Written KernelErr) (out : List ℕ) → length source ≤ longest → kernel_in source ≡ read
+    → (o : Outcome) × IsCompiledFile source read out o
 some_file source (Err e) out fits is = (refuses (Kernel e), refl)
 some_file source (Ok w) out fits is =
     let image = some_compiled source w (omega arith) (kernel_found source w is) in
@@ -68,7 +73,8 @@ some_unless : (why : Option Refusal) (Is : Outcome → Type 0) → ((o : Outcome
 some_unless (Some why) Is x = (refuses why, refl)
 some_unless None Is x = x
 
-some_of_run : (image : Result (List Segment) ImageErr) (schedule : Result Sched SchedErr) (Is : List Segment → Sched → Outcome → Type 0) → ((i : List Segment) (s : Sched) → (o : Outcome) × Is i s o) → (o : Outcome) × OfRun image schedule Is o
+some_of_run : (image : Result (List Segment) ImageErr) (schedule : Result Sched SchedErr) (Is : List Segment → Sched → Outcome → Type 0)
+    → ((i : List Segment) (s : Sched) → (o : Outcome) × Is i s o) → (o : Outcome) × OfRun image schedule Is o
 some_of_run (Err e) schedule Is some = (refuses (Image e), refl)
 some_of_run (Ok image) (Err e) Is some = (refuses (Schedule e), refl)
 some_of_run (Ok image) (Ok s) Is some = some image s
@@ -76,10 +82,12 @@ some_of_run (Ok image) (Ok s) Is some = some image s
 some_read : (text : List ℕ) → (read : Result (List Command) ScriptErr) × IsScriptRead text read
 some_read text = elim (read_or_refused text) [ inl script ↦ (Ok script.0, script.1) | inr refused ↦ (Err refused.0, refused.1) ]
 
-some_answers : (listings : List Segment → Listing) (image : List Segment) (s : Sched) (read : Result (List Command) ScriptErr) → (o : Outcome) × IsAnswers listings image s read o
+some_answers : (listings : List Segment → Listing) (image : List Segment) (s : Sched) (read : Result (List Command) ScriptErr)
+    → (o : Outcome) × IsAnswers listings image s read o
 some_answers listings image s (Err e) = (refuses (Script e), refl)
 some_answers listings image s (Ok cs) =
-    some_unless (reset_refusal image) (λ o. o ≡ finishes true None (Some (answers (film_of (listings image) image s) cs 0))) (finishes true None (Some (answers (film_of (listings image) image s) cs 0)), refl)
+    some_unless (reset_refusal image) (λ o. o ≡ finishes true None (Some (answers (film_of (listings image) image s) cs 0)))
+    (finishes true None (Some (answers (film_of (listings image) image s) cs 0)), refl)
 
 some_debug : (listings : List Segment → Listing) (text : List ℕ) (image : List Segment) (s : Sched) → (o : Outcome) × IsDebugOutcome listings text image s o
 some_debug listings text image s =
@@ -87,16 +95,20 @@ some_debug listings text image s =
     let x = some_answers listings image s read.0 in
     (x.0, (read.0, read.1, x.1))
 
-some_compared : (listings : List Segment → Listing) (image : List Segment) (s : Sched) (next : Outcome) (j : Journaled) → (o : Outcome) × IsCompared listings image s next j o
+some_compared : (listings : List Segment → Listing) (image : List Segment) (s : Sched) (next : Outcome) (j : Journaled)
+    → (o : Outcome) × IsCompared listings image s next j o
 some_compared listings image s next j =
     let x = some_comparison (listings image) image s j.format j.checkpoints in
     (compared next x.0, (x.0, x.1, refl))
 
-some_checked : (listings : List Segment → Listing) (image : List Segment) (s : Sched) (next : Journaled → Outcome) (read : Result Journaled JournalErr) → (o : Outcome) × IsChecked listings image s next read o
+some_checked : (listings : List Segment → Listing) (image : List Segment) (s : Sched) (next : Journaled → Outcome) (read : Result Journaled JournalErr)
+    → (o : Outcome) × IsChecked listings image s next read o
 some_checked listings image s next (Err e) = (refuses (Journal e), refl)
-some_checked listings image s next (Ok j) = some_unless (reset_refusal image) (IsCompared listings image s (next j) j) (some_compared listings image s (next j) j)
+some_checked listings image s next (Ok j) =
+    some_unless (reset_refusal image) (IsCompared listings image s (next j) j) (some_compared listings image s (next j) j)
 
-some_text : (listings : List Segment → Listing) (text : List ℕ) (image : List Segment) (s : Sched) (next : Journaled → Outcome) → (o : Outcome) × IsCheckedText listings text image s next o
+some_text : (listings : List Segment → Listing) (text : List ℕ) (image : List Segment) (s : Sched) (next : Journaled → Outcome)
+    → (o : Outcome) × IsCheckedText listings text image s next o
 some_text listings text image s next =
     let read = some_journal text in
     let x = some_checked listings image s next read.0 in
@@ -106,18 +118,23 @@ some_text listings text image s next =
 abbrev HasRange : Form → Type 0
 HasRange form = (image : List ℕ) (lo hi : ℕ) → form ≡ dis image lo hi → IsRange lo hi
 
-some_comes : (listings : List Segment → Listing) (form : Form) (contents : List (List ℕ)) → HasRange form → length (get_or contents 0 []) ≤ longest → (o : Outcome) × ComesTo listings form contents o
-some_comes listings (run image schedule memory) contents r fits = (run_outcome listings (image_of (get_or contents 0 [])) (schedule_in schedule (get_or contents 1 [])) memory, refl)
+some_comes : (listings : List Segment → Listing) (form : Form) (contents : List (List ℕ)) → HasRange form → length (get_or contents 0 []) ≤ longest
+    → (o : Outcome) × ComesTo listings form contents o
+some_comes listings (run image schedule memory) contents r fits =
+    (run_outcome listings (image_of (get_or contents 0 [])) (schedule_in schedule (get_or contents 1 [])) memory, refl)
 some_comes listings (seq image n) contents r fits = (seq_outcome listings (image_of (get_or contents 0 [])) n, refl)
 some_comes listings (dis image lo hi) contents r fits = some_dis (image_of (get_or contents 0 [])) lo hi (r image lo hi refl)
 some_comes listings (asm source out) contents r fits = some_asm (get_or contents 0 []) out
 some_comes listings (soak number) contents r fits = some_soak number
 some_comes listings (debug image schedule script) contents r fits =
-    some_of_run (image_of (get_or contents 0 [])) (schedule_in schedule (get_or contents 1 [])) (IsDebugOutcome listings (last_read schedule contents)) (some_debug listings (last_read schedule contents))
+    some_of_run (image_of (get_or contents 0 [])) (schedule_in schedule (get_or contents 1 [])) (IsDebugOutcome listings (last_read schedule contents))
+    (some_debug listings (last_read schedule contents))
 some_comes listings (journal image schedule every out) contents r fits =
-    some_of_run (image_of (get_or contents 0 [])) (schedule_in schedule (get_or contents 1 [])) (IsJournalOutcome listings every out) (λ i s. (journal_outcome listings every out i s, refl))
+    some_of_run (image_of (get_or contents 0 [])) (schedule_in schedule (get_or contents 1 [])) (IsJournalOutcome listings every out)
+    (λ i s. (journal_outcome listings every out i s, refl))
 some_comes listings (replay image schedule text tick) contents r fits =
-    some_of_run (image_of (get_or contents 0 [])) (schedule_in schedule (get_or contents 1 [])) (IsReplayOutcome listings (last_read schedule contents) tick) (λ i s. some_text listings (last_read schedule contents) i s (λ j. tick_outcome listings i s tick))
+    some_of_run (image_of (get_or contents 0 [])) (schedule_in schedule (get_or contents 1 [])) (IsReplayOutcome listings (last_read schedule contents) tick)
+    (λ i s. some_text listings (last_read schedule contents) i s (λ j. tick_outcome listings i s tick))
 some_comes listings (migrate image schedule text out) contents r fits =
     some_of_run (image_of (get_or contents 0 [])) (schedule_in schedule (get_or contents 1 [])) (IsMigrateOutcome listings (last_read schedule contents) out)
     (λ i s. some_text listings (last_read schedule contents) i s (λ j. journal_written listings j.every out i s))
@@ -126,7 +143,8 @@ some_comes listings (kernel source out) contents r fits = some_kernel (get_or co
 some_comes listings (plan image n out) contents r fits = (plan_outcome listings (image_of (get_or contents 0 [])) n out, refl)
 
 -- what is read is no longer than a file may be
-after_fits : (bytes : List ℕ) (others : Reading) (contents : List (List ℕ)) → after_contents (bytes ∷ []) others ≡ whole contents → length bytes ≤ longest → length (get_or contents 0 []) ≤ longest
+after_fits : (bytes : List ℕ) (others : Reading) (contents : List (List ℕ)) → after_contents (bytes ∷ []) others ≡ whole contents → length bytes ≤ longest
+    → length (get_or contents 0 []) ≤ longest
 after_fits bytes (whole more) contents is fits = subst (λ (c : List (List ℕ)). length (get_or c 0 []) ≤ longest) (whole_is (bytes ∷ more) contents is) fits
   where
     whole_is : (x y : List (List ℕ)) → whole x ≡ whole y → x ≡ y
@@ -134,20 +152,24 @@ after_fits bytes (whole more) contents is fits = subst (λ (c : List (List ℕ))
 after_fits bytes too_large contents is fits = absurd cc
 after_fits bytes missing contents is fits = absurd cc
 
-read_fits : (t : Bool) (bytes : List ℕ) (others : Reading) (contents : List (List ℕ)) → nat_lt longest (length bytes) ≡ t → (if t then too_large else after_contents (bytes ∷ []) others) ≡ whole contents
+read_fits : (t : Bool) (bytes : List ℕ) (others : Reading) (contents : List (List ℕ)) → nat_lt longest (length bytes) ≡ t
+    → (if t then too_large else after_contents (bytes ∷ []) others) ≡ whole contents
     → length (get_or contents 0 []) ≤ longest
 read_fits true bytes others contents test is = absurd cc
 read_fits false bytes others contents test is = after_fits bytes others contents is (grind (arith, nat_tests))
 
 first_fits : (F : FileMap) (names : List (List ℕ)) (contents : List (List ℕ)) → reading_of F names ≡ whole contents → length (get_or contents 0 []) ≤ longest
-first_fits F [] contents is = subst (λ (c : List (List ℕ)). length (get_or c 0 []) ≤ longest) (let e : [] ≡ contents = cc in e) (let none : 0 ≤ longest = omega arith in none)
+first_fits F [] contents is = subst (λ (c : List (List ℕ)). length (get_or c 0 []) ≤ longest) (let e : [] ≡ contents = cc in e)
+    (let none : 0 ≤ longest = omega arith in none)
 first_fits F (name ∷ names) contents is = by_file (get F name) is
   where
     by_file : (file : Option (List ℕ)) → then_read file (reading_of F names) ≡ whole contents → length (get_or contents 0 []) ≤ longest
     by_file None e = absurd cc
     by_file (Some bytes) e = read_fits (nat_lt longest (length bytes)) bytes (reading_of F names) contents refl e
 
-some_after : (listings : List Segment → Listing) (form : Option Form) (reading : Reading) → ((contents : List (List ℕ)) → reading ≡ whole contents → length (get_or contents 0 []) ≤ longest) → ((image : List ℕ) (lo hi : ℕ) → form ≡ Some (dis image lo hi) → IsRange lo hi) → (e : Effect) × IsEffectAfter listings form reading e
+some_after : (listings : List Segment → Listing) (form : Option Form) (reading : Reading)
+    → ((contents : List (List ℕ)) → reading ≡ whole contents → length (get_or contents 0 []) ≤ longest)
+    → ((image : List ℕ) (lo hi : ℕ) → form ≡ Some (dis image lo hi) → IsRange lo hi) → (e : Effect) × IsEffectAfter listings form reading e
 some_after listings None reading fits r = (usage_effect, refl)
 some_after listings (Some form) (whole contents) fits r =
     let x = some_comes listings form contents (λ image lo hi e. r image lo hi (ap (λ (f : Form). Some f) e)) (fits contents refl) in
@@ -156,4 +178,6 @@ some_after listings (Some form) too_large fits r = (effect_for (refuses FileTooL
 some_after listings (Some form) missing fits r = (no_effect, refl)
 
 pub some_effect : (listings : List Segment → Listing) (words : List (List ℕ)) (F : FileMap) → (e : Effect) × IsEffect listings words F e
-some_effect listings words F = some_after listings (form_of words) (reading_of F (reads_for (form_of words))) (first_fits F (reads_for (form_of words))) (λ image lo hi e. (form_of-is_dis words image lo hi e).range)
+some_effect listings words F =
+    some_after listings (form_of words) (reading_of F (reads_for (form_of words))) (first_fits F (reads_for (form_of words)))
+    (λ image lo hi e. (form_of-is_dis words image lo hi e).range)

@@ -1,5 +1,6 @@
 -- What comes of a script, and of a journal, over the tape of a run.
-use Rattle.std.proofs.Common.{◌≡◌, ◌≤◌, ◌<◌, ◌%◌, ℕ, ◌+◌, ◌/◌, Bool, true, false, List, length, nat_lt, Option, Some, None, Result, Ok, Err, nat_le, refl, sym, ap, subst, ◌∙◌, arith}
+use Rattle.std.proofs.Common.{◌≡◌, ◌≤◌, ◌<◌, ◌%◌, ℕ, ◌+◌, ◌/◌, Bool, true, false, List, length, nat_lt, Option, Some, None, Result, Ok, Err, nat_le, refl, sym}
+use Rattle.std.proofs.Common.{ap, subst, ◌∙◌, arith}
 use Rattle.std.specs.Prelude.{if◌then◌else◌}
 use Rattle.std.proofs.lemmas.Bool.Decides.{nat_tests}
 use Rattle.hm_base.specs.Image.{Segment}
@@ -22,7 +23,8 @@ use Rattle.hm_machine.specs.declared.load.LoadErr.{LoadErr}
 use Rattle.hm_machine.specs.declared.load.LoadErr.TheVariants as load
 use Rattle.hm_sched.specs.Schedule.{Sched, ticks_of}
 use Rattle.hm_state.specs.Start.{reset_pc}
-use Rattle.hm_commands.specs.Commands.{IsCheckedText, IsCompared, IsDebugOutcome, IsJournalOutcome, UnlessRefused, journal_outcome, journal_written, tick_outcome, unless_refused}
+use Rattle.hm_commands.specs.Commands.{IsCheckedText, IsCompared, IsDebugOutcome, IsJournalOutcome, UnlessRefused, journal_outcome, journal_written}
+use Rattle.hm_commands.specs.Commands.{tick_outcome, unless_refused}
 use Rattle.hm_commands.specs.Run.{load_stop, reset_refusal}
 use Rattle.hm_commands.specs.Work.{Outcome, GivesOne, finishes, journal_stop, refuses, script_stop}
 use Rattle.hm_commands.specs.declared.work.Finish.{Finish}
@@ -38,51 +40,65 @@ unless_odd image Is o odd h = subst (λ (why : Option Refusal). UnlessRefused wh
 
 -- ---- scripts
 
-script_by_error : (listings : List Segment → Listing) (text : List ℕ) (image : List Segment) (s : Sched) (e : ScriptErr) → ScriptRefuses text e → GivesOne (IsDebugOutcome listings text image s) (Err (script_stop e))
+script_by_error : (listings : List Segment → Listing) (text : List ℕ) (image : List Segment) (s : Sched) (e : ScriptErr) → ScriptRefuses text e
+    → GivesOne (IsDebugOutcome listings text image s) (Err (script_stop e))
 script_by_error listings text image s script.OutOfMemory h = tt
 script_by_error listings text image s e h = (Err e, h, refl)
 
-pub script_refused : (listings : List Segment → Listing) (text : List ℕ) (image : List Segment) (s : Sched) (e : ScriptErr) (stop : Stop) → ScriptRefuses text e → stop ≡ script_stop e → GivesOne (IsDebugOutcome listings text image s) (Err stop)
-script_refused listings text image s e stop h is = subst (λ (x : Stop). GivesOne (IsDebugOutcome listings text image s) (Err x)) (sym is) (script_by_error listings text image s e h)
+pub script_refused : (listings : List Segment → Listing) (text : List ℕ) (image : List Segment) (s : Sched) (e : ScriptErr) (stop : Stop) → ScriptRefuses text e
+    → stop ≡ script_stop e → GivesOne (IsDebugOutcome listings text image s) (Err stop)
+script_refused listings text image s e stop h is =
+    subst (λ (x : Stop). GivesOne (IsDebugOutcome listings text image s) (Err x)) (sym is) (script_by_error listings text image s e h)
 
 -- a script that was read, where it is not done for the reset address
 read_stops : (listings : List Segment → Listing) (text : List ℕ) (image : List Segment) (s : Sched) (cs : List Command) (stop : Stop) → IsScript text cs
-    → GivesOne (UnlessRefused (reset_refusal image) (λ o. o ≡ finishes true None (Some (answers (film_of (listings image) image s) cs 0)))) (Err stop) → GivesOne (IsDebugOutcome listings text image s) (Err stop)
+    → GivesOne (UnlessRefused (reset_refusal image) (λ o. o ≡ finishes true None (Some (answers (film_of (listings image) image s) cs 0)))) (Err stop)
+    → GivesOne (IsDebugOutcome listings text image s) (Err stop)
 read_stops listings text image s cs (Refused why) is h = (Ok cs, is, h)
 read_stops listings text image s cs NoMemory is h = tt
 
-pub script_not_loaded : (listings : List Segment → Listing) (text : List ℕ) (image : List Segment) (s : Sched) (cs : List Command) (e : LoadErr) (stop : Stop) → IsScript text cs → LoadRefuses image e → stop ≡ load_stop e
+pub script_not_loaded : (listings : List Segment → Listing) (text : List ℕ) (image : List Segment) (s : Sched) (cs : List Command) (e : LoadErr) (stop : Stop)
+    → IsScript text cs → LoadRefuses image e → stop ≡ load_stop e
     → GivesOne (IsDebugOutcome listings text image s) (Err stop)
 script_not_loaded listings text image s cs e stop is h at =
-    read_stops listings text image s cs stop is (load_stops image (λ o. o ≡ finishes true None (Some (answers (film_of (listings image) image s) cs 0))) e stop h at)
+    read_stops listings text image s cs stop is
+    (load_stops image (λ o. o ≡ finishes true None (Some (answers (film_of (listings image) image s) cs 0))) e stop h at)
 
 -- of a text that is a script memory alone may be wanted
-lost_by_error : (listings : List Segment → Listing) (text : List ℕ) (image : List Segment) (s : Sched) (cs : List Command) (e : ScriptErr) → IsScript text cs → ScriptStops text e → GivesOne (IsDebugOutcome listings text image s) (Err (script_stop e))
+lost_by_error : (listings : List Segment → Listing) (text : List ℕ) (image : List Segment) (s : Sched) (cs : List Command) (e : ScriptErr) → IsScript text cs
+    → ScriptStops text e → GivesOne (IsDebugOutcome listings text image s) (Err (script_stop e))
 lost_by_error listings text image s cs script.TooManyLines is h = absurd (not_both text cs script.TooManyLines is h)
 lost_by_error listings text image s cs (script.Line line) is h = absurd (not_both text cs (script.Line line) is h)
 lost_by_error listings text image s cs script.OutOfMemory is h = tt
 
-pub script_lost : (listings : List Segment → Listing) (text : List ℕ) (image : List Segment) (s : Sched) (cs : List Command) (e : ScriptErr) (stop : Stop) → IsScript text cs → ScriptStops text e → stop ≡ script_stop e → GivesOne (IsDebugOutcome listings text image s) (Err stop)
-script_lost listings text image s cs e stop is h at = subst (λ (x : Stop). GivesOne (IsDebugOutcome listings text image s) (Err x)) (sym at) (lost_by_error listings text image s cs e is h)
+pub script_lost : (listings : List Segment → Listing) (text : List ℕ) (image : List Segment) (s : Sched) (cs : List Command) (e : ScriptErr) (stop : Stop)
+    → IsScript text cs → ScriptStops text e → stop ≡ script_stop e → GivesOne (IsDebugOutcome listings text image s) (Err stop)
+script_lost listings text image s cs e stop is h at =
+    subst (λ (x : Stop). GivesOne (IsDebugOutcome listings text image s) (Err x)) (sym at) (lost_by_error listings text image s cs e is h)
 
-pub script_answered : (listings : List Segment → Listing) (text : List ℕ) (image : List Segment) (s : Sched) (out : List ℕ) → reset_pc image % 2 ≡ 1 → IsAnswered (film_of (listings image) image s) text out
+pub script_answered : (listings : List Segment → Listing) (text : List ℕ) (image : List Segment) (s : Sched) (out : List ℕ) → reset_pc image % 2 ≡ 1
+    → IsAnswered (film_of (listings image) image s) text out
     → IsDebugOutcome listings text image s (finishes true None (Some out))
 script_answered listings text image s out odd h = (
   Ok h.commands,
   h.script,
-  unless_odd image (λ o. o ≡ finishes true None (Some (answers (film_of (listings image) image s) h.commands 0))) (finishes true None (Some out)) odd (ap (λ (t : List ℕ). finishes true None (Some t)) h.is),
+  unless_odd image (λ o. o ≡ finishes true None (Some (answers (film_of (listings image) image s) h.commands 0))) (finishes true None (Some out)) odd
+      (ap (λ (t : List ℕ). finishes true None (Some t)) h.is),
 )
 
 -- ---- journals
 
 -- the outcome of a journal, by whether it would have too many checkpoints
 abbrev journal_at : (List Segment → Listing) → ℕ → List ℕ → List Segment → Sched → Bool → Outcome
-journal_at listings every out image s many = if many then refuses (Journal journal.TooMany) else finishes true (Some (out, journal_text (journal_of (listings image) image s every))) None
+journal_at listings every out image s many = if many then refuses (Journal journal.TooMany)
+    else finishes true (Some (out, journal_text (journal_of (listings image) image s every))) None
 
-journal_odd : (listings : List Segment → Listing) (every : ℕ) (out : List ℕ) (image : List Segment) (s : Sched) (many : Bool) → reset_pc image % 2 ≡ 1 → nat_lt 64 (length (ticks_of s.lines) / every + 1) ≡ many
+journal_odd : (listings : List Segment → Listing) (every : ℕ) (out : List ℕ) (image : List Segment) (s : Sched) (many : Bool) → reset_pc image % 2 ≡ 1
+    → nat_lt 64 (length (ticks_of s.lines) / every + 1) ≡ many
     → journal_outcome listings every out image s ≡ journal_at listings every out image s many
 journal_odd listings every out image s many odd is =
-    ap (λ (why : Option Refusal). unless_refused why (journal_at listings every out image s (nat_lt 64 (length (ticks_of s.lines) / every + 1)))) (reset_refusal-odd image odd) ∙ ap (journal_at listings every out image s) is
+    ap (λ (why : Option Refusal). unless_refused why (journal_at listings every out image s (nat_lt 64 (length (ticks_of s.lines) / every + 1))))
+    (reset_refusal-odd image odd) ∙ ap (journal_at listings every out image s) is
 
 too_many_test : (n : ℕ) → 64 < n → nat_lt 64 n ≡ true
 too_many_test n h = grind (arith, nat_tests)
@@ -90,60 +106,80 @@ too_many_test n h = grind (arith, nat_tests)
 few_test : (n : ℕ) → n ≤ 64 → nat_lt 64 n ≡ false
 few_test n h = grind (arith, nat_tests)
 
-journal_by_error : (listings : List Segment → Listing) (every : ℕ) (out : List ℕ) (image : List Segment) (s : Sched) (e : JournalErr) → reset_pc image % 2 ≡ 1 → IsWriteErr s every e → GivesOne (IsJournalOutcome listings every out image s) (Err (journal_stop e))
-journal_by_error listings every out image s journal.TooMany odd h = sym (journal_odd listings every out image s true odd (too_many_test (length (ticks_of s.lines) / every + 1) h))
+journal_by_error : (listings : List Segment → Listing) (every : ℕ) (out : List ℕ) (image : List Segment) (s : Sched) (e : JournalErr) → reset_pc image % 2 ≡ 1
+    → IsWriteErr s every e → GivesOne (IsJournalOutcome listings every out image s) (Err (journal_stop e))
+journal_by_error listings every out image s journal.TooMany odd h =
+    sym (journal_odd listings every out image s true odd (too_many_test (length (ticks_of s.lines) / every + 1) h))
 journal_by_error listings every out image s journal.OutOfMemory odd h = tt
 journal_by_error listings every out image s e odd h = absurd h
 
-pub journal_refused : (listings : List Segment → Listing) (every : ℕ) (out : List ℕ) (image : List Segment) (s : Sched) (e : JournalErr) (stop : Stop) → reset_pc image % 2 ≡ 1 → IsWriteErr s every e → stop ≡ journal_stop e
+pub journal_refused : (listings : List Segment → Listing) (every : ℕ) (out : List ℕ) (image : List Segment) (s : Sched) (e : JournalErr) (stop : Stop)
+    → reset_pc image % 2 ≡ 1 → IsWriteErr s every e → stop ≡ journal_stop e
     → GivesOne (IsJournalOutcome listings every out image s) (Err stop)
-journal_refused listings every out image s e stop odd h is = subst (λ (x : Stop). GivesOne (IsJournalOutcome listings every out image s) (Err x)) (sym is) (journal_by_error listings every out image s e odd h)
+journal_refused listings every out image s e stop odd h is =
+    subst (λ (x : Stop). GivesOne (IsJournalOutcome listings every out image s) (Err x)) (sym is) (journal_by_error listings every out image s e odd h)
 
-unless_even : (image : List Segment) (value : ℕ) (o : Outcome) → value ≡ reset_pc image → value % 2 ≡ 0 → refuses (Reset value) ≡ unless_refused (reset_refusal image) o
+unless_even : (image : List Segment) (value : ℕ) (o : Outcome) → value ≡ reset_pc image → value % 2 ≡ 0
+    → refuses (Reset value) ≡ unless_refused (reset_refusal image) o
 unless_even image value o is even = sym (ap (λ (why : Option Refusal). unless_refused why o) (reset_refusal-even image value is even))
 
-written_by_error : (image : List Segment) (o : Outcome) (e : LoadErr) → LoadRefuses image e → GivesOne (λ x. x ≡ unless_refused (reset_refusal image) o) (Err (load_stop e))
+written_by_error : (image : List Segment) (o : Outcome) (e : LoadErr) → LoadRefuses image e
+    → GivesOne (λ x. x ≡ unless_refused (reset_refusal image) o) (Err (load_stop e))
 written_by_error image o (load.Reset value) h = unless_even image value o h.0 h.1
 written_by_error image o load.OutOfMemory h = tt
 
 -- what is written of an image, where it is not for the reset address
-pub not_loaded : (image : List Segment) (o : Outcome) (e : LoadErr) (stop : Stop) → LoadRefuses image e → stop ≡ load_stop e → GivesOne (λ x. x ≡ unless_refused (reset_refusal image) o) (Err stop)
-not_loaded image o e stop h is = subst (λ (x : Stop). GivesOne (λ y. y ≡ unless_refused (reset_refusal image) o) (Err x)) (sym is) (written_by_error image o e h)
+pub not_loaded : (image : List Segment) (o : Outcome) (e : LoadErr) (stop : Stop) → LoadRefuses image e → stop ≡ load_stop e
+    → GivesOne (λ x. x ≡ unless_refused (reset_refusal image) o) (Err stop)
+not_loaded image o e stop h is =
+    subst (λ (x : Stop). GivesOne (λ y. y ≡ unless_refused (reset_refusal image) o) (Err x)) (sym is) (written_by_error image o e h)
 
-pub journal_comes : (listings : List Segment → Listing) (every : ℕ) (out : List ℕ) (image : List Segment) (s : Sched) (bytes : List ℕ) → reset_pc image % 2 ≡ 1 → length (ticks_of s.lines) / every + 1 ≤ 64
+pub journal_comes : (listings : List Segment → Listing) (every : ℕ) (out : List ℕ) (image : List Segment) (s : Sched) (bytes : List ℕ) → reset_pc image % 2 ≡ 1
+    → length (ticks_of s.lines) / every + 1 ≤ 64
     → bytes ≡ journal_text (journal_of (listings image) image s every) → finishes true (Some (out, bytes)) None ≡ journal_outcome listings every out image s
 journal_comes listings every out image s bytes odd few is =
-    ap (λ (b : List ℕ). finishes true (Some (out, b)) None) is ∙ sym (journal_odd listings every out image s false odd (few_test (length (ticks_of s.lines) / every + 1) few))
+    ap (λ (b : List ℕ). finishes true (Some (out, b)) None) is
+    ∙ sym (journal_odd listings every out image s false odd (few_test (length (ticks_of s.lines) / every + 1) few))
 
 -- ---- journals that are checked
 
-text_by_error : (listings : List Segment → Listing) (text : List ℕ) (image : List Segment) (s : Sched) (next : Journaled → Outcome) (e : JournalErr) → IsReadErr text e → GivesOne (IsCheckedText listings text image s next) (Err (journal_stop e))
+text_by_error : (listings : List Segment → Listing) (text : List ℕ) (image : List Segment) (s : Sched) (next : Journaled → Outcome) (e : JournalErr)
+    → IsReadErr text e → GivesOne (IsCheckedText listings text image s next) (Err (journal_stop e))
 text_by_error listings text image s next journal.OutOfMemory h = tt
 text_by_error listings text image s next e h = (Err e, h, refl)
 
-pub journal_not_read : (listings : List Segment → Listing) (text : List ℕ) (image : List Segment) (s : Sched) (next : Journaled → Outcome) (e : JournalErr) (stop : Stop) → IsReadErr text e → stop ≡ journal_stop e
+pub journal_not_read : (listings : List Segment → Listing) (text : List ℕ) (image : List Segment) (s : Sched) (next : Journaled → Outcome) (e : JournalErr)
+    (stop : Stop) → IsReadErr text e → stop ≡ journal_stop e
     → GivesOne (IsCheckedText listings text image s next) (Err stop)
-journal_not_read listings text image s next e stop h is = subst (λ (x : Stop). GivesOne (IsCheckedText listings text image s next) (Err x)) (sym is) (text_by_error listings text image s next e h)
+journal_not_read listings text image s next e stop h is =
+    subst (λ (x : Stop). GivesOne (IsCheckedText listings text image s next) (Err x)) (sym is) (text_by_error listings text image s next e h)
 
 -- a journal that was read, and what checking it comes to
-pub journal_checked : (listings : List Segment → Listing) (text : List ℕ) (image : List Segment) (s : Sched) (next : Journaled → Outcome) (j : Journaled) (answer : Result Finish Stop) → IsReading text (Ok j)
-    → GivesOne (UnlessRefused (reset_refusal image) (IsCompared listings image s (next j) j)) answer → GivesOne (IsCheckedText listings text image s next) answer
+pub journal_checked : (listings : List Segment → Listing) (text : List ℕ) (image : List Segment) (s : Sched) (next : Journaled → Outcome) (j : Journaled)
+    (answer : Result Finish Stop) → IsReading text (Ok j)
+    → GivesOne (UnlessRefused (reset_refusal image) (IsCompared listings image s (next j) j)) answer
+    → GivesOne (IsCheckedText listings text image s next) answer
 journal_checked listings text image s next j (Ok finish) read h = (Ok j, read, h)
 journal_checked listings text image s next j (Err (Refused why)) read h = (Ok j, read, h)
 journal_checked listings text image s next j (Err NoMemory) read h = tt
 
-compared_by_error : (listings : List Segment → Listing) (image : List Segment) (s : Sched) (next : Outcome) (j : Journaled) (e : JournalErr) → IsCompareErr (listings image) image s j.format j.checkpoints e
+compared_by_error : (listings : List Segment → Listing) (image : List Segment) (s : Sched) (next : Outcome) (j : Journaled) (e : JournalErr)
+    → IsCompareErr (listings image) image s j.format j.checkpoints e
     → GivesOne (IsCompared listings image s next j) (Err (journal_stop e))
 compared_by_error listings image s next j journal.OutOfMemory h = tt
 compared_by_error listings image s next j e h = (Err e, h, refl)
 
-pub journal_differs : (listings : List Segment → Listing) (image : List Segment) (s : Sched) (next : Outcome) (j : Journaled) (e : JournalErr) (stop : Stop) → reset_pc image % 2 ≡ 1
-    → IsCompareErr (listings image) image s j.format j.checkpoints e → stop ≡ journal_stop e → GivesOne (UnlessRefused (reset_refusal image) (IsCompared listings image s next j)) (Err stop)
+pub journal_differs : (listings : List Segment → Listing) (image : List Segment) (s : Sched) (next : Outcome) (j : Journaled) (e : JournalErr) (stop : Stop)
+    → reset_pc image % 2 ≡ 1
+    → IsCompareErr (listings image) image s j.format j.checkpoints e → stop ≡ journal_stop e
+    → GivesOne (UnlessRefused (reset_refusal image) (IsCompared listings image s next j)) (Err stop)
 journal_differs listings image s next j e stop odd h is =
-    load_goes_on image (IsCompared listings image s next j) (Err stop) odd (subst (λ (x : Stop). GivesOne (IsCompared listings image s next j) (Err x)) (sym is) (compared_by_error listings image s next j e h))
+    load_goes_on image (IsCompared listings image s next j) (Err stop) odd
+    (subst (λ (x : Stop). GivesOne (IsCompared listings image s next j) (Err x)) (sym is) (compared_by_error listings image s next j e h))
 
 -- what comes next of a journal that is the run's
-next_comes : (listings : List Segment → Listing) (image : List Segment) (s : Sched) (next : Outcome) (j : Journaled) (o : Outcome) → reset_pc image % 2 ≡ 1 → AreOfRun (listings image) image s j.format j.checkpoints → o ≡ next
+next_comes : (listings : List Segment → Listing) (image : List Segment) (s : Sched) (next : Outcome) (j : Journaled) (o : Outcome) → reset_pc image % 2 ≡ 1
+    → AreOfRun (listings image) image s j.format j.checkpoints → o ≡ next
     → UnlessRefused (reset_refusal image) (IsCompared listings image s next j) o
 next_comes listings image s next j o odd same is = unless_odd image (IsCompared listings image s next j) o odd (Ok tt, same, is)
 
@@ -155,39 +191,50 @@ begun_test tick last h = grind (arith, nat_tests)
 
 -- the outcome at a tick, by whether the run begins it
 abbrev at_tick : (List Segment → Listing) → List Segment → Sched → ℕ → Bool → Outcome
-at_tick listings image s tick begun = if begun then finishes true None (Some (report_at (listings image) image s tick)) else refuses (Past (run_out (listings image) image s).ticks)
+at_tick listings image s tick begun = if begun then finishes true None (Some (report_at (listings image) image s tick))
+    else refuses (Past (run_out (listings image) image s).ticks)
 
-pub tick_past : (listings : List Segment → Listing) (image : List Segment) (s : Sched) (tick last : ℕ) (j : Journaled) → reset_pc image % 2 ≡ 1 → AreOfRun (listings image) image s j.format j.checkpoints
-    → (run_out (listings image) image s).ticks ≡ last → last < tick → UnlessRefused (reset_refusal image) (IsCompared listings image s (tick_outcome listings image s tick) j) (refuses (Past last))
+pub tick_past : (listings : List Segment → Listing) (image : List Segment) (s : Sched) (tick last : ℕ) (j : Journaled) → reset_pc image % 2 ≡ 1
+    → AreOfRun (listings image) image s j.format j.checkpoints
+    → (run_out (listings image) image s).ticks ≡ last → last < tick
+    → UnlessRefused (reset_refusal image) (IsCompared listings image s (tick_outcome listings image s tick) j) (refuses (Past last))
 tick_past listings image s tick last j odd same is past =
     let test : nat_le tick (run_out (listings image) image s).ticks ≡ false = ap (nat_le tick) is ∙ past_test tick last past in
-    next_comes listings image s (tick_outcome listings image s tick) j (refuses (Past last)) odd same (ap (λ (k : ℕ). refuses (Past k)) (sym is) ∙ sym (ap (at_tick listings image s tick) test))
+    next_comes listings image s (tick_outcome listings image s tick) j (refuses (Past last)) odd same
+    (ap (λ (k : ℕ). refuses (Past k)) (sym is) ∙ sym (ap (at_tick listings image s tick) test))
 
-pub tick_shown : (listings : List Segment → Listing) (image : List Segment) (s : Sched) (tick last : ℕ) (j : Journaled) (text : List ℕ) → reset_pc image % 2 ≡ 1 → AreOfRun (listings image) image s j.format j.checkpoints
+pub tick_shown : (listings : List Segment → Listing) (image : List Segment) (s : Sched) (tick last : ℕ) (j : Journaled) (text : List ℕ) → reset_pc image % 2 ≡ 1
+    → AreOfRun (listings image) image s j.format j.checkpoints
     → (run_out (listings image) image s).ticks ≡ last → tick ≤ last → text ≡ report_at (listings image) image s tick
     → UnlessRefused (reset_refusal image) (IsCompared listings image s (tick_outcome listings image s tick) j) (finishes true None (Some text))
 tick_shown listings image s tick last j text odd same is begun report =
     let test : nat_le tick (run_out (listings image) image s).ticks ≡ true = ap (nat_le tick) is ∙ begun_test tick last begun in
-    next_comes listings image s (tick_outcome listings image s tick) j (finishes true None (Some text)) odd same (ap (λ (t : List ℕ). finishes true None (Some t)) report ∙ sym (ap (at_tick listings image s tick) test))
+    next_comes listings image s (tick_outcome listings image s tick) j (finishes true None (Some text)) odd same
+    (ap (λ (t : List ℕ). finishes true None (Some t)) report ∙ sym (ap (at_tick listings image s tick) test))
 
 -- ---- journals that are written again
 
-again_by_error : (listings : List Segment → Listing) (image : List Segment) (s : Sched) (every : ℕ) (out : List ℕ) (j : Journaled) (e : JournalErr) → AreOfRun (listings image) image s j.format j.checkpoints → IsWriteErr s every e
+again_by_error : (listings : List Segment → Listing) (image : List Segment) (s : Sched) (every : ℕ) (out : List ℕ) (j : Journaled) (e : JournalErr)
+    → AreOfRun (listings image) image s j.format j.checkpoints → IsWriteErr s every e
     → GivesOne (IsCompared listings image s (journal_written listings every out image s) j) (Err (journal_stop e))
-again_by_error listings image s every out j journal.TooMany same h = (Ok tt, same, sym (ap (journal_at listings every out image s) (too_many_test (length (ticks_of s.lines) / every + 1) h)))
+again_by_error listings image s every out j journal.TooMany same h =
+    (Ok tt, same, sym (ap (journal_at listings every out image s) (too_many_test (length (ticks_of s.lines) / every + 1) h)))
 again_by_error listings image s every out j journal.OutOfMemory same h = tt
 again_by_error listings image s every out j e same h = absurd h
 
-pub again_refused : (listings : List Segment → Listing) (image : List Segment) (s : Sched) (every : ℕ) (out : List ℕ) (j : Journaled) (e : JournalErr) (stop : Stop) → reset_pc image % 2 ≡ 1
+pub again_refused : (listings : List Segment → Listing) (image : List Segment) (s : Sched) (every : ℕ) (out : List ℕ) (j : Journaled) (e : JournalErr)
+    (stop : Stop) → reset_pc image % 2 ≡ 1
     → AreOfRun (listings image) image s j.format j.checkpoints → IsWriteErr s every e → stop ≡ journal_stop e
     → GivesOne (UnlessRefused (reset_refusal image) (IsCompared listings image s (journal_written listings every out image s) j)) (Err stop)
 again_refused listings image s every out j e stop odd same h is =
     let Is = IsCompared listings image s (journal_written listings every out image s) j in
     load_goes_on image Is (Err stop) odd (subst (λ (x : Stop). GivesOne Is (Err x)) (sym is) (again_by_error listings image s every out j e same h))
 
-pub again_written : (listings : List Segment → Listing) (image : List Segment) (s : Sched) (every : ℕ) (out : List ℕ) (j : Journaled) (bytes : List ℕ) → reset_pc image % 2 ≡ 1 → AreOfRun (listings image) image s j.format j.checkpoints
+pub again_written : (listings : List Segment → Listing) (image : List Segment) (s : Sched) (every : ℕ) (out : List ℕ) (j : Journaled) (bytes : List ℕ)
+    → reset_pc image % 2 ≡ 1 → AreOfRun (listings image) image s j.format j.checkpoints
     → length (ticks_of s.lines) / every + 1 ≤ 64 → bytes ≡ journal_text (journal_of (listings image) image s every)
     → UnlessRefused (reset_refusal image) (IsCompared listings image s (journal_written listings every out image s) j) (finishes true (Some (out, bytes)) None)
 again_written listings image s every out j bytes odd same few is =
     next_comes listings image s (journal_written listings every out image s) j (finishes true (Some (out, bytes)) None) odd same
-    (ap (λ (b : List ℕ). finishes true (Some (out, b)) None) is ∙ sym (ap (journal_at listings every out image s) (few_test (length (ticks_of s.lines) / every + 1) few)))
+    (ap (λ (b : List ℕ). finishes true (Some (out, b)) None) is
+    ∙ sym (ap (journal_at listings every out image s) (few_test (length (ticks_of s.lines) / every + 1) few)))

@@ -106,7 +106,8 @@ IsScriptRead text (Err e) = ScriptRefuses text e
 -- the answers of a script that was read, which are printed
 abbrev pub IsAnswers : (List Segment → Listing) → List Segment → Sched → Result (List Command) ScriptErr → Outcome → Type 0
 IsAnswers listings image s (Err e) = λ o. o ≡ refuses (Script e)
-IsAnswers listings image s (Ok commands) = UnlessRefused (reset_refusal image) (λ o. o ≡ finishes true None (Some (answers (film_of (listings image) image s) commands 0)))
+IsAnswers listings image s (Ok commands) =
+    UnlessRefused (reset_refusal image) (λ o. o ≡ finishes true None (Some (answers (film_of (listings image) image s) commands 0)))
 
 -- a script over a run
 abbrev pub IsDebugOutcome : (List Segment → Listing) → List ℕ → List Segment → Sched → Outcome → Type 0
@@ -115,7 +116,8 @@ IsDebugOutcome listings text image s = λ o. (read : Result (List Command) Scrip
 -- the journal of a run is written, unless it would have too many checkpoints
 abbrev pub journal_written : (List Segment → Listing) → ℕ → List ℕ → List Segment → Sched → Outcome
 journal_written listings every out image s =
-    if nat_lt 64 (length (ticks_of s.lines) / every + 1) then refuses (Journal journal_err.TooMany) else finishes true (Some (out, journal_text (journal_of (listings image) image s every))) None
+    if nat_lt 64 (length (ticks_of s.lines) / every + 1) then refuses (Journal journal_err.TooMany)
+    else finishes true (Some (out, journal_text (journal_of (listings image) image s every))) None
 
 -- the same of an image, unless it is refused by its reset address
 abbrev pub journal_outcome : (List Segment → Listing) → ℕ → List ℕ → List Segment → Sched → Outcome
@@ -128,7 +130,8 @@ IsJournalOutcome listings every out image s = λ o. o ≡ journal_outcome listin
 -- the report at a tick, which is printed, where the run begins that tick
 abbrev pub tick_outcome : (List Segment → Listing) → List Segment → Sched → ℕ → Outcome
 tick_outcome listings image s tick =
-    if nat_le tick (run_out (listings image) image s).ticks then finishes true None (Some (report_at (listings image) image s tick)) else refuses (Past (run_out (listings image) image s).ticks)
+    if nat_le tick (run_out (listings image) image s).ticks then finishes true None (Some (report_at (listings image) image s tick))
+    else refuses (Past (run_out (listings image) image s).ticks)
 
 -- what comes of a comparison of a journal with a run: this, where the journal is the run's
 abbrev pub compared : Outcome → Result Unit JournalErr → Outcome
@@ -186,7 +189,8 @@ last_read (file name) contents = get_or contents 2 []
 
 -- what a form comes to, by the contents of the files that are read, in order
 abbrev pub ComesTo : (List Segment → Listing) → Form → List (List ℕ) → Outcome → Type 0
-ComesTo listings (run image schedule memory) contents = λ o. o ≡ run_outcome listings (image_of (get_or contents 0 [])) (schedule_in schedule (get_or contents 1 [])) memory
+ComesTo listings (run image schedule memory) contents =
+    λ o. o ≡ run_outcome listings (image_of (get_or contents 0 [])) (schedule_in schedule (get_or contents 1 [])) memory
 ComesTo listings (seq image n) contents = λ o. o ≡ seq_outcome listings (image_of (get_or contents 0 [])) n
 ComesTo listings (dis image lo hi) contents = IsDisOutcome (image_of (get_or contents 0 [])) lo hi
 ComesTo listings (asm source out) contents = IsAsmOutcome (get_or contents 0 []) out

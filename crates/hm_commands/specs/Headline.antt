@@ -48,8 +48,10 @@ pub record IsReported (F : FileMap) (P memory : List ℕ) (image : List Segment)
   pub files : new.files ≡ Some (insert F memory file)
   pub headline : (listing : Listing) → IsListing (flash_byte image) listing → Headline listing image (shown_out listing image s) report file
   pub riders : (listing : Listing) → IsListing (flash_byte image) listing → Riders listing image (shown_out listing image s)
-  -- after the run every tainted byte lies in the region, or from the floor up and below the main stack pointer at one of the entries, or from the process floor up and below the process stack pointer at one of those from that stack
-  pub taint : (listing : Listing) → IsListing (flash_byte image) listing → TaintLies s (run_out listing image s).entries (shown_out listing image s).config.state
+  -- after the run every tainted byte lies in the region, or from the floor up and below the main stack pointer at one of the entries, or from the
+  -- process floor up and below the process stack pointer at one of those from that stack
+  pub taint : (listing : Listing) → IsListing (flash_byte image) listing
+      → TaintLies s (run_out listing image s).entries (shown_out listing image s).config.state
   pub ends : (listing : Listing) → IsListing (flash_byte image) listing → status ≡ (if is_halted (shown_out listing image s).outcome then Done else Ended)
 
 -- each such run is reported, unless the status is the host's fault or memory was wanted

@@ -10,7 +10,8 @@ ghost use Rattle.hm_sched.specs.ReadFile.{Gives as GivesSchedule};
 ghost use Rattle.hm_sched.specs.declared.errors.SchedErr.{SchedErr};
 ghost use Rattle.hm_words.specs.Words.{run, source_meant, meant, reads_of};
 ghost use Rattle.hm_commands.specs.Work.{Gives, GivesOne};
-ghost use Rattle.hm_commands.specs.Commands.{AreListings, ComesTo, IsAsmOutcome, IsDisOutcome, IsKernelOutcome, IsSoakOutcome, hex_outcome, plan_outcome, run_outcome, seq_outcome};
+ghost use Rattle.hm_commands.specs.Commands.{AreListings, ComesTo, IsAsmOutcome, IsDisOutcome, IsKernelOutcome, IsSoakOutcome, hex_outcome, plan_outcome};
+ghost use Rattle.hm_commands.specs.Commands.{run_outcome, seq_outcome};
 
 use crate::images::read_any;
 use crate::machine::{is_halted, run_to_end, short_report};

@@ -25,9 +25,11 @@ pub fn listings_exist()
 ///
 /// It does nothing; its clauses are theorems about the definitions.
 pub fn effect_law()
-    ensures one { (listings : List Segment → Listing) (words : List (List ℕ)) (F : FileMap) (d e : Effect) → ((source out : List ℕ) → form_of words ≢ Some (kernel source out))
+    ensures one { (listings : List Segment → Listing) (words : List (List ℕ)) (F : FileMap) (d e : Effect)
+        → ((source out : List ℕ) → form_of words ≢ Some (kernel source out))
         → IsEffect listings words F d → IsEffect listings words F e → d ≡ e }
-    ensures alike { (listings : List Segment → Listing) (words : List (List ℕ)) (F : FileMap) (d e : Effect) → IsEffect listings words F d → IsEffect listings words F e
+    ensures alike { (listings : List Segment → Listing) (words : List (List ℕ)) (F : FileMap) (d e : Effect) → IsEffect listings words F d
+        → IsEffect listings words F e
         → (d.status ≡ e.status) × (d.text ≡ e.text) × (option_map (λ file. file.0) d.file ≡ option_map (λ file. file.0) e.file) }
     ensures some { (listings : List Segment → Listing) (words : List (List ℕ)) (F : FileMap) → (e : Effect) × IsEffect listings words F e }
 {}
@@ -36,7 +38,8 @@ pub fn effect_law()
 ///
 /// It does nothing; its clause is a theorem about the definitions.
 pub fn hex_run_law()
-    ensures alike { (listings : List Segment → Listing) (image : List Segment) (schedule : Result Sched SchedErr) (memory : List ℕ) → AreListings listings → IsImage image → AreBytes image
+    ensures alike { (listings : List Segment → Listing) (image : List Segment) (schedule : Result Sched SchedErr) (memory : List ℕ) → AreListings listings
+        → IsImage image → AreBytes image
         → run_outcome listings (image_of (hex_file image)) schedule memory ≡ run_outcome listings (Ok image) schedule memory }
 {}
 

@@ -21,7 +21,8 @@ pub fn read_all<H: Host>(
     ensures short { IfOk result (λ contents. All (λ bytes. length bytes.items ≤ longest) contents.items) }
     ensures files { Stays (H.state host.old).files (H.state host.new).files }
     ensures printed { Stays (H.state host.old).printed (H.state host.new).printed }
-    ensures calls { (F : FileMap) → (H.state host.old).files ≡ Some F → MakesCalls (read_calls F (map (λ name. name.now) names.now)) (H.state host.old).calls (H.state host.new).calls (answer_way result) }
+    ensures calls { (F : FileMap) → (H.state host.old).files ≡ Some F
+        → MakesCalls (read_calls F (map (λ name. name.now) names.now)) (H.state host.old).calls (H.state host.new).calls (answer_way result) }
     ensures count { Counts (H.state host.old).faults (H.state host.new).faults result }
 {
     let mut contents = Vec::new(alloc);
@@ -64,7 +65,8 @@ pub fn print_text<H: Host>(
     ensures printed { PrintsText (option_map (λ text. text.items) text.now) (H.state host.old) (H.state host.new) result }
     ensures files { Stays (H.state host.old).files (H.state host.new).files }
     ensures calls { MakesCalls (print_calls (option_map (λ text. text.items) text.now)) (H.state host.old).calls (H.state host.new).calls (answer_way result) }
-    ensures spent { result ≡ Err HostErr.OutOfMemory → MakesAll (print_calls (option_map (λ text. text.items) text.now)) (H.state host.old).calls (H.state host.new).calls }
+    ensures spent { result ≡ Err HostErr.OutOfMemory
+        → MakesAll (print_calls (option_map (λ text. text.items) text.now)) (H.state host.old).calls (H.state host.new).calls }
     ensures count { Counts (H.state host.old).faults (H.state host.new).faults result }
 {
     match text {

@@ -8,7 +8,8 @@ ghost use Rattle.hm_host.specs.Host.{longest};
 ghost use Rattle.hm_sched.specs.Schedule.{Sched};
 ghost use Rattle.hm_sched.specs.ReadFile.{Gives as GivesSchedule};
 ghost use Rattle.hm_words.specs.Words.{source_meant, source_reads};
-ghost use Rattle.hm_commands.specs.Commands.{AreListings, IsCompared, IsDebugOutcome, IsJournalOutcome, IsMigrateOutcome, IsReplayOutcome, OfRun, UnlessRefused, journal_written, last_read, tick_outcome};
+ghost use Rattle.hm_commands.specs.Commands.{AreListings, IsCompared, IsDebugOutcome, IsJournalOutcome, IsMigrateOutcome, IsReplayOutcome, OfRun};
+ghost use Rattle.hm_commands.specs.Commands.{UnlessRefused, journal_written, last_read, tick_outcome};
 ghost use Rattle.hm_commands.specs.RunInputs.{GivesRun};
 ghost use Rattle.hm_commands.specs.Run.{reset_refusal, schedule_in};
 ghost use Rattle.hm_commands.specs.Work.{GivesOne};
@@ -65,7 +66,8 @@ pub fn read_run(
 ) -> Result<RunInput, Stop>
     requires each { 1 + length (source_reads (source_meant schedule.now)) ≤ length contents.now }
     requires short { All (λ bytes. length bytes.items ≤ longest) contents.now }
-    ensures input { let all = map (λ bytes. bytes.items) contents.now in GivesRun (image_of (get_or all 0 [])) (schedule_in (source_meant schedule.now) (get_or all 1 [])) result }
+    ensures input { let all = map (λ bytes. bytes.items) contents.now in
+        GivesRun (image_of (get_or all 0 [])) (schedule_in (source_meant schedule.now) (get_or all 1 [])) result }
 {
     let image = read_any(alloc, &contents[0])?;
     let schedule = read_schedule(alloc, schedule, contents)?;
@@ -74,7 +76,8 @@ pub fn read_run(
 
 /// The answers of a script over a run, which are to be printed.
 fn answers<'a>(alloc: Global, input: RunInput, text: &[u8]) -> Result<Finish<'a>, Stop>
-    ensures outcome { (listings : List Segment → Listing) → AreListings listings → GivesOne (IsDebugOutcome listings text.now input.image input.schedule) result }
+    ensures outcome { (listings : List Segment → Listing) → AreListings listings
+        → GivesOne (IsDebugOutcome listings text.now input.image input.schedule) result }
 {
     check_script(text)?;
     let RunInput { image, schedule } = input;
@@ -96,7 +99,8 @@ pub fn debug<'a>(
     requires each { length contents.now ≡ 2 + length (source_reads (source_meant schedule.now)) }
     requires short { All (λ bytes. length bytes.items ≤ longest) contents.now }
     ensures outcome { (listings : List Segment → Listing) → AreListings listings → let all = map (λ bytes. bytes.items) contents.now in
-        GivesOne (OfRun (image_of (get_or all 0 [])) (schedule_in (source_meant schedule.now) (get_or all 1 [])) (IsDebugOutcome listings (last_read (source_meant schedule.now) all))) result }
+        GivesOne (OfRun (image_of (get_or all 0 [])) (schedule_in (source_meant schedule.now) (get_or all 1 []))
+        (IsDebugOutcome listings (last_read (source_meant schedule.now) all))) result }
 {
     let input = read_run(alloc, schedule, contents)?;
     answers(alloc, input, last_of(schedule, contents))
@@ -104,7 +108,8 @@ pub fn debug<'a>(
 
 /// The journal of a run, which is to be written.
 fn write<'a>(alloc: Global, input: RunInput, every: Every, out: &'a str) -> Result<Finish<'a>, Stop>
-    ensures outcome { (listings : List Segment → Listing) → AreListings listings → GivesOne (IsJournalOutcome listings every.ticks out.now input.image input.schedule) result }
+    ensures outcome { (listings : List Segment → Listing) → AreListings listings
+        → GivesOne (IsJournalOutcome listings every.ticks out.now input.image input.schedule) result }
 {
     let RunInput { image, schedule } = input;
     // One with too many checkpoints is refused before the run, but behind the reset address.
@@ -132,7 +137,8 @@ pub fn journal<'a>(
     requires each { length contents.now ≡ 1 + length (source_reads (source_meant schedule.now)) }
     requires short { All (λ bytes. length bytes.items ≤ longest) contents.now }
     ensures outcome { (listings : List Segment → Listing) → AreListings listings → let all = map (λ bytes. bytes.items) contents.now in
-        GivesOne (OfRun (image_of (get_or all 0 [])) (schedule_in (source_meant schedule.now) (get_or all 1 [])) (IsJournalOutcome listings every.ticks out.now)) result }
+        GivesOne (OfRun (image_of (get_or all 0 [])) (schedule_in (source_meant schedule.now) (get_or all 1 []))
+        (IsJournalOutcome listings every.ticks out.now)) result }
 {
     let input = read_run(alloc, schedule, contents)?;
     write(alloc, input, every, out)
@@ -145,7 +151,9 @@ fn check<'a>(
     journal: &Journal,
     tick: Ticks,
 ) -> Result<Finish<'a>, Stop>
-    ensures outcome { (listings : List Segment → Listing) → AreListings listings → GivesOne (UnlessRefused (reset_refusal input.image) (IsCompared listings input.image input.schedule (tick_outcome listings input.image input.schedule tick.count) journal.now)) result }
+    ensures outcome { (listings : List Segment → Listing) → AreListings listings
+        → GivesOne (UnlessRefused (reset_refusal input.image)
+        (IsCompared listings input.image input.schedule (tick_outcome listings input.image input.schedule tick.count) journal.now)) result }
 {
     let RunInput { image, schedule } = input;
     let mut tape = Tape::new(alloc, &image, schedule)?;
@@ -169,7 +177,8 @@ pub fn replay<'a>(
     requires each { length contents.now ≡ 2 + length (source_reads (source_meant schedule.now)) }
     requires short { All (λ bytes. length bytes.items ≤ longest) contents.now }
     ensures outcome { (listings : List Segment → Listing) → AreListings listings → let all = map (λ bytes. bytes.items) contents.now in
-        GivesOne (OfRun (image_of (get_or all 0 [])) (schedule_in (source_meant schedule.now) (get_or all 1 [])) (IsReplayOutcome listings (last_read (source_meant schedule.now) all) tick.count)) result }
+        GivesOne (OfRun (image_of (get_or all 0 [])) (schedule_in (source_meant schedule.now) (get_or all 1 []))
+        (IsReplayOutcome listings (last_read (source_meant schedule.now) all) tick.count)) result }
 {
     let input = read_run(alloc, schedule, contents)?;
     let journal = read_journal(alloc, last_of(schedule, contents))?;
@@ -183,7 +192,9 @@ fn rewrite<'a>(
     given: &Journal,
     out: &'a str,
 ) -> Result<Finish<'a>, Stop>
-    ensures outcome { (listings : List Segment → Listing) → AreListings listings → GivesOne (UnlessRefused (reset_refusal input.image) (IsCompared listings input.image input.schedule (journal_written listings given.now.every out.now input.image input.schedule) given.now)) result }
+    ensures outcome { (listings : List Segment → Listing) → AreListings listings
+        → GivesOne (UnlessRefused (reset_refusal input.image)
+        (IsCompared listings input.image input.schedule (journal_written listings given.now.every out.now input.image input.schedule) given.now)) result }
 {
     let RunInput { image, schedule } = input;
     let mut tape = Tape::new(alloc, &image, schedule)?;
@@ -206,7 +217,8 @@ pub fn migrate<'a>(
     requires each { length contents.now ≡ 2 + length (source_reads (source_meant schedule.now)) }
     requires short { All (λ bytes. length bytes.items ≤ longest) contents.now }
     ensures outcome { (listings : List Segment → Listing) → AreListings listings → let all = map (λ bytes. bytes.items) contents.now in
-        GivesOne (OfRun (image_of (get_or all 0 [])) (schedule_in (source_meant schedule.now) (get_or all 1 [])) (IsMigrateOutcome listings (last_read (source_meant schedule.now) all) out.now)) result }
+        GivesOne (OfRun (image_of (get_or all 0 [])) (schedule_in (source_meant schedule.now) (get_or all 1 []))
+        (IsMigrateOutcome listings (last_read (source_meant schedule.now) all) out.now)) result }
 {
     let input = read_run(alloc, schedule, contents)?;
     let journal = read_journal(alloc, last_of(schedule, contents))?;

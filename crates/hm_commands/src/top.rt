@@ -8,7 +8,8 @@ ghost use Rattle.hm_commands.specs.Headline.{RunsInOrder, RunsToHeadline};
 ghost use Rattle.hm_host.specs.Host.{FileMap, Rose, Stays};
 ghost use Rattle.hm_words.specs.Words.{form_of, meant};
 ghost use Rattle.hm_commands.specs.Work.{Outcome, Gives, output_pair, refuses};
-ghost use Rattle.hm_commands.specs.Effect.{Carries, Does, DoesEffect, Effect, IsComplete, IsEffect, StaysOrMakesAll, calls_for, effect_for, reads_for, usage_effect, usage_line, refused_line, failure_of};
+ghost use Rattle.hm_commands.specs.Effect.{Carries, Does, DoesEffect, Effect, IsComplete, IsEffect, StaysOrMakesAll, calls_for, effect_for, reads_for};
+ghost use Rattle.hm_commands.specs.Effect.{usage_effect, usage_line, refused_line, failure_of};
 ghost use Rattle.hm_commands.specs.Calls.{MakesCalls, print_calls, read_calls, way_of, write_calls};
 
 use crate::commands::perform;
@@ -40,9 +41,13 @@ pub fn carry_out<H: Host>(
     host: &mut H,
 ) -> Status
     requires { IsComplete status }
-    ensures effect { Carries (record { status = status; file = option_map output_pair file.now; text = option_map (λ text. text.items) text.now }) (H.state host.old) (H.state host.new) result }
-    ensures calls { MakesCalls (write_calls (option_map output_pair file.now) ++ print_calls (option_map (λ text. text.items) text.now)) (H.state host.old).calls (H.state host.new).calls (way_of result) }
-    ensures spent { result ≡ Status.NoMemory → StaysOrMakesAll (write_calls (option_map output_pair file.now) ++ print_calls (option_map (λ text. text.items) text.now)) (H.state host.old) (H.state host.new) }
+    ensures effect { Carries (record { status = status; file = option_map output_pair file.now; text = option_map (λ text. text.items) text.now })
+        (H.state host.old) (H.state host.new) result }
+    ensures calls { MakesCalls (write_calls (option_map output_pair file.now) ++ print_calls (option_map (λ text. text.items) text.now))
+        (H.state host.old).calls (H.state host.new).calls (way_of result) }
+    ensures spent { result ≡ Status.NoMemory
+        → StaysOrMakesAll (write_calls (option_map output_pair file.now) ++ print_calls (option_map (λ text. text.items) text.now)) (H.state host.old)
+        (H.state host.new) }
 {
     match write_file(alloc, file, host) {
         Err(e) => failure(e),
@@ -94,8 +99,10 @@ pub fn refuse<H: Host>(alloc: Global, why: Refusal, host: &mut H) -> Status
 /// Does what a command comes to.
 pub fn conclude<H: Host>(alloc: Global, outcome: Result<Finish<'_>, Stop>, host: &mut H) -> Status
     ensures effect { (o : Outcome) → Gives o outcome.entry → Carries (effect_for o) (H.state host.old) (H.state host.new) result }
-    ensures calls { (o : Outcome) → Gives o outcome.entry → MakesCalls (calls_for (effect_for o)) (H.state host.old).calls (H.state host.new).calls (way_of result) }
-    ensures spent { (o : Outcome) → Gives o outcome.entry → result ≡ Status.NoMemory → StaysOrMakesAll (calls_for (effect_for o)) (H.state host.old) (H.state host.new) }
+    ensures calls { (o : Outcome) → Gives o outcome.entry
+        → MakesCalls (calls_for (effect_for o)) (H.state host.old).calls (H.state host.new).calls (way_of result) }
+    ensures spent { (o : Outcome) → Gives o outcome.entry → result ≡ Status.NoMemory
+        → StaysOrMakesAll (calls_for (effect_for o)) (H.state host.old) (H.state host.new) }
     ensures wanted { outcome.entry ≡ Err Stop.NoMemory → (result ≡ Status.NoMemory) × (H.state host.new ≡ H.state host.old) }
 {
     match outcome {
@@ -116,7 +123,8 @@ pub fn conclude<H: Host>(alloc: Global, outcome: Result<Finish<'_>, Stop>, host:
 
 /// Does a command.
 fn obey<H: Host>(alloc: Global, command: &Command<'_>, host: &mut H) -> Status
-    ensures effect { (listings : List Segment → Listing) → AreListings listings → Does listings (Some (meant command.now)) (H.state host.old) (H.state host.new) result }
+    ensures effect { (listings : List Segment → Listing) → AreListings listings
+        → Does listings (Some (meant command.now)) (H.state host.old) (H.state host.new) result }
 {
     let Ok(names) = command.reads(alloc) else {
         return Status::NoMemory;
@@ -136,7 +144,8 @@ fn obey<H: Host>(alloc: Global, command: &Command<'_>, host: &mut H) -> Status
 pub fn helium<H: Host>(alloc: Global, words: &[String], host: &mut H) -> Status
     // Where the host tells its files, one effect of the words is what the call does: its status, its file, its text and its calls.
     ensures effect { (listings : List Segment → Listing) → AreListings listings → (F : FileMap) → (H.state host.old).files ≡ Some F
-        → (e : Effect) × IsEffect listings (map string_bytes words.now) F e × DoesEffect (read_calls F (reads_for (form_of (map string_bytes words.now)))) e (H.state host.old) (H.state host.new) result }
+        → (e : Effect) × IsEffect listings (map string_bytes words.now) F e
+        × DoesEffect (read_calls F (reads_for (form_of (map string_bytes words.now)))) e (H.state host.old) (H.state host.new) result }
     // Of a run that is reported the headline and its riders hold.
     ensures headline { RunsToHeadline (map string_bytes words.now) (H.state host.old) (H.state host.new) result }
     // What `seq` shows is what so many instructions in order come to.

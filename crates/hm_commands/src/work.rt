@@ -1,7 +1,8 @@
 //! What a command comes to, once its files are read: what is to be written and printed, or a refusal.
 
 ghost use Rattle.std.specs.Prelude.{◌≡◌, IfOk};
-ghost use Rattle.hm_commands.specs.Work.{asm_kind_text, image_text, kind_text, schedule_text, journal_refusal_text, kernel_kind_text, kernel_text, script_text, source_text, refusal_text};
+ghost use Rattle.hm_commands.specs.Work.{asm_kind_text, image_text, kind_text, schedule_text, journal_refusal_text, kernel_kind_text, kernel_text, script_text};
+ghost use Rattle.hm_commands.specs.Work.{source_text, refusal_text};
 
 use hm_asm::{AsmErr, AsmKind};
 use hm_base::{ImageErr, OutOfMemory};

@@ -37,9 +37,12 @@ answers_begin f text more x y p q =
 entry_is : (flash : ℕ → ℕ) (listing : Listing) (a : ℕ) (e : Entry) → IsListing flash listing → IsEntry flash a flash_size e → entry_at flash listing a ≡ e
 entry_is flash listing a (shown i) listed is = entry_shown flash listing a i listed is.0
 entry_is flash listing a (half h) listed is =
-    entry_half flash listing a listed (λ i stands. let past = is.0 i stands in let within = halves_within flash (halfwords i) a stands.code (some_half i) in omega (arith, past, within)) ∙ ap (λ (x : ℕ). half x) (sym is.1)
+    entry_half flash listing a listed
+    (λ i stands. let past = is.0 i stands in let within = halves_within flash (halfwords i) a stands.code (some_half i) in omega (arith, past, within))
+    ∙ ap (λ (x : ℕ). half x) (sym is.1)
 
-pub lines_listed : (flash : ℕ → ℕ) (listing : Listing) (n a : ℕ) (es : List Entry) → IsListing flash listing → AreEntries flash a flash_size es → listing_lines flash listing a n ≡ lines_from a (take n es)
+pub lines_listed : (flash : ℕ → ℕ) (listing : Listing) (n a : ℕ) (es : List Entry) → IsListing flash listing → AreEntries flash a flash_size es
+    → listing_lines flash listing a n ≡ lines_from a (take n es)
 lines_listed flash listing zero a es listed are = refl
 lines_listed flash listing (suc n) a [] listed are = lines_end flash listing a (suc n) (let is : a ≡ flash_size = are in omega (arith, is))
 lines_listed flash listing (suc n) a (e ∷ es) listed are =

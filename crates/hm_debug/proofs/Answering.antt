@@ -12,7 +12,8 @@ abbrev pub IsLeft : Film → Lines → List ℕ → ℕ → List ℕ → Type 0
 IsLeft f lines out place all = (ds : List Command) × SayAll lines ds × (out ++ answers f ds place ≡ all)
 
 -- a script begins with a line, which says its first command
-pub first_says : (line : List ℕ) (ls : List (List ℕ)) (r : List ℕ) (cs : List Command) → SayAll (line ∷ ls, r) cs → (c : Command) × (ds : List Command) × (cs ≡ c ∷ ds) × Says line c × SayAll (ls, r) ds
+pub first_says : (line : List ℕ) (ls : List (List ℕ)) (r : List ℕ) (cs : List Command) → SayAll (line ∷ ls, r) cs
+    → (c : Command) × (ds : List Command) × (cs ≡ c ∷ ds) × Says line c × SayAll (ls, r) ds
 first_says line ls r [] say = absurd say
 first_says line ls r (c ∷ cs) say = (c, cs, refl, say.0, say.1)
 

@@ -1,5 +1,6 @@
 -- Bytes of memory as a machine tells them, and lines of them.
-use Rattle.std.proofs.Common.{◌≡◌, ℕ, suc, ◌+◌, ◌-◌, ◌*◌, ◌/◌, ◌<◌, ap, arith, refl, sym, ◌∙◌, Bool, true, false, ◌&&◌, cond, List, ◌++◌, append_assoc, min, nat_lt, slice_index, Option, Some, None, is_some, is_none}
+use Rattle.std.proofs.Common.{◌≡◌, ℕ, suc, ◌+◌, ◌-◌, ◌*◌, ◌/◌, ◌<◌, ap, arith, refl, sym, ◌∙◌, Bool, true, false, ◌&&◌, cond, List, ◌++◌, append_assoc, min}
+use Rattle.std.proofs.Common.{nat_lt, slice_index, Option, Some, None, is_some, is_none}
 use Rattle.std.proofs.lemmas.Bool.{and_parts}
 use Rattle.hm_base.specs.Image.{flash_size, in_sram, sram_start}
 use Rattle.hm_debug.specs.Lines.{all_mapped, bytes_text, is_mapped, memory_line, memory_lines}
@@ -36,7 +37,8 @@ mapped_more at count k below = more (count - k) (count - (k + 1)) (omega arith)
         let next : (at + k) + 1 ≡ at + (k + 1) = omega arith in
         ap (all_mapped (at + k)) e ∙ ap (λ (a : ℕ). is_mapped (at + k) && all_mapped a j) next
 
-pub bytes_more : (s : State) (at count k : ℕ) → k < count → bytes_text s (at + k) (count - k) ≡ hex2 (s.cell (Byte (at + k))).n ++ bytes_text s (at + (k + 1)) (count - (k + 1))
+pub bytes_more : (s : State) (at count k : ℕ) → k < count
+    → bytes_text s (at + k) (count - k) ≡ hex2 (s.cell (Byte (at + k))).n ++ bytes_text s (at + (k + 1)) (count - (k + 1))
 bytes_more s at count k below = more (count - k) (count - (k + 1)) (omega arith)
   where
     more : (n j : ℕ) → n ≡ suc j → bytes_text s (at + k) n ≡ hex2 (s.cell (Byte (at + k))).n ++ bytes_text s (at + (k + 1)) j
@@ -45,21 +47,25 @@ bytes_more s at count k below = more (count - k) (count - (k + 1)) (omega arith)
         ap (bytes_text s (at + k)) e ∙ ap (λ (a : ℕ). hex2 (s.cell (Byte (at + k))).n ++ bytes_text s a j) next
 
 -- a byte that is there, and the others
-pub mapped_on : (m : Memory) (at count k : ℕ) → k < count → is_none (told_at m (at + k)) ≡ false → all_mapped (at + k) (count - k) ≡ all_mapped (at + (k + 1)) (count - (k + 1))
-mapped_on m at count k below there = mapped_more at count k below ∙ ap (λ (b : Bool). b && all_mapped (at + (k + 1)) (count - (k + 1))) (sym (told_mapped m (at + k)) ∙ some_there (told_at m (at + k)) there)
+pub mapped_on : (m : Memory) (at count k : ℕ) → k < count → is_none (told_at m (at + k)) ≡ false
+    → all_mapped (at + k) (count - k) ≡ all_mapped (at + (k + 1)) (count - (k + 1))
+mapped_on m at count k below there = mapped_more at count k below
+    ∙ ap (λ (b : Bool). b && all_mapped (at + (k + 1)) (count - (k + 1))) (sym (told_mapped m (at + k)) ∙ some_there (told_at m (at + k)) there)
   where
     some_there : (o : Option ℕ) → is_none o ≡ false → is_some o ≡ true
     some_there (Some x) e = refl
     some_there None e = absurd cc
 
 pub mapped_off : (m : Memory) (at count k : ℕ) → k < count → is_none (told_at m (at + k)) ≡ true → all_mapped (at + k) (count - k) ≡ false
-mapped_off m at count k below gone = mapped_more at count k below ∙ ap (λ (b : Bool). b && all_mapped (at + (k + 1)) (count - (k + 1))) (sym (told_mapped m (at + k)) ∙ none_there (told_at m (at + k)) gone)
+mapped_off m at count k below gone = mapped_more at count k below
+    ∙ ap (λ (b : Bool). b && all_mapped (at + (k + 1)) (count - (k + 1))) (sym (told_mapped m (at + k)) ∙ none_there (told_at m (at + k)) gone)
   where
     none_there : (o : Option ℕ) → is_none o ≡ true → is_some o ≡ false
     none_there (Some x) e = absurd cc
     none_there None e = refl
 
-pub mapped_here : (m : Memory) (at count k : ℕ) → k < count → all_mapped (at + k) (count - k) ≡ true → (is_some (told_at m (at + k)) ≡ true) × (all_mapped (at + (k + 1)) (count - (k + 1)) ≡ true)
+pub mapped_here : (m : Memory) (at count k : ℕ) → k < count → all_mapped (at + k) (count - k) ≡ true
+    → (is_some (told_at m (at + k)) ≡ true) × (all_mapped (at + (k + 1)) (count - (k + 1)) ≡ true)
 mapped_here m at count k below all =
     let parts = and_parts (is_mapped (at + k)) (all_mapped (at + (k + 1)) (count - (k + 1))) (sym (mapped_more at count k below) ∙ all) in
     (told_mapped m (at + k) ∙ parts.0, parts.1)
@@ -87,7 +93,8 @@ rows_on s addr len row count out new all below is added left =
     ∙ ap (λ (t : List ℕ). out ++ t) (sym (more (rows - row) (rows - (row + 1)) (omega arith)))
     ∙ left
   where
-    more : (n j : ℕ) → n ≡ suc j → memory_lines s (addr + row * 16) (len - row * 16) n ≡ memory_line s (addr + row * 16) count ++ memory_lines s (addr + (row + 1) * 16) (len - (row + 1) * 16) j
+    more : (n j : ℕ) → n ≡ suc j → memory_lines s (addr + row * 16) (len - row * 16) n
+        ≡ memory_line s (addr + row * 16) count ++ memory_lines s (addr + (row + 1) * 16) (len - (row + 1) * 16) j
     more n j e =
         let a : (addr + row * 16) + 16 ≡ addr + (row + 1) * 16 = omega arith in
         let l : (len - row * 16) - 16 ≡ len - (row + 1) * 16 = omega arith in

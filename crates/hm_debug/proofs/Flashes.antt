@@ -1,5 +1,6 @@
 -- What stands in flash, as a machine tells it, and lines of the listing.
-use Rattle.std.proofs.Common.{◌≡◌, ℕ, zero, suc, ◌+◌, ◌-◌, ◌*◌, ◌<◌, ◌≤◌, ap, arith, refl, sym, ◌∙◌, Bool, true, false, cond, List, [], ◌∷◌, ◌++◌, append-nil, append_assoc, length, nat_lt, Some, Result, Ok, Err}
+use Rattle.std.proofs.Common.{◌≡◌, ℕ, zero, suc, ◌+◌, ◌-◌, ◌*◌, ◌<◌, ◌≤◌, ap, arith, refl, sym, ◌∙◌, Bool, true, false, cond, List, [], ◌∷◌, ◌++◌, append-nil}
+use Rattle.std.proofs.Common.{append_assoc, length, nat_lt, Some, Result, Ok, Err}
 use Rattle.std.proofs.lemmas.Bool.Decides.{nat_tests}
 use Rattle.hm_base.specs.Image.{flash_size}
 use Rattle.hm_base.specs.declared.Fault.{Fault}
@@ -14,7 +15,8 @@ use Rattle.hm_mem.specs.Memory.{told_at}
 use Rattle.hm_text_base.proofs.Steps.{some_is}
 
 -- HALFWORDS
-pub half_told : (m : Shown) (flash : ℕ → ℕ) (a low high : ℕ) → TellsFlash flash m → a + 2 ≤ flash_size → told_at m.memory a ≡ Some low → told_at m.memory (a + 1) ≡ Some high
+pub half_told : (m : Shown) (flash : ℕ → ℕ) (a low high : ℕ) → TellsFlash flash m → a + 2 ≤ flash_size → told_at m.memory a ≡ Some low
+    → told_at m.memory (a + 1) ≡ Some high
     → low + 256 * high ≡ half_at flash a
 half_told m flash a low high tells within first second =
     let one = some_is low (flash a) (sym first ∙ tells.bytes a (omega arith)) in
@@ -35,11 +37,13 @@ entry_fetched flash a (Err e) i fetched stands = absurd (fetched.0 i stands)
 pub entry_shown : (flash : ℕ → ℕ) (listing : Listing) (a : ℕ) (i : Instr) → IsListing flash listing → Stands flash a i → entry_at flash listing a ≡ shown i
 entry_shown flash listing a i listed stands = entry_fetched flash a (listing a) i (listed.at a) stands
 
-entry_missing : (flash : ℕ → ℕ) (a : ℕ) (x : Result Instr Fault) → IsFetched flash a x → ((i : Instr) → Stands flash a i → ⊥) → entry_of flash a x ≡ half (half_at flash a)
+entry_missing : (flash : ℕ → ℕ) (a : ℕ) (x : Result Instr Fault) → IsFetched flash a x → ((i : Instr) → Stands flash a i → ⊥)
+    → entry_of flash a x ≡ half (half_at flash a)
 entry_missing flash a (Ok j) fetched none = absurd (none j fetched)
 entry_missing flash a (Err e) fetched none = refl
 
-pub entry_half : (flash : ℕ → ℕ) (listing : Listing) (a : ℕ) → IsListing flash listing → ((i : Instr) → Stands flash a i → ⊥) → entry_at flash listing a ≡ half (half_at flash a)
+pub entry_half : (flash : ℕ → ℕ) (listing : Listing) (a : ℕ) → IsListing flash listing → ((i : Instr) → Stands flash a i → ⊥)
+    → entry_at flash listing a ≡ half (half_at flash a)
 entry_half flash listing a listed none = entry_missing flash a (listing a) (listed.at a) none
 
 -- LINES
@@ -53,15 +57,19 @@ past_flash a past = grind (arith, nat_tests)
 pub lines_end : (flash : ℕ → ℕ) (listing : Listing) (a n : ℕ) → flash_size ≤ a → listing_lines flash listing a n ≡ []
 lines_end flash listing a zero past = refl
 lines_end flash listing a (suc n) past =
-    ap (λ (b : Bool). cond b (entry_line a (entry_at flash listing a) ++ listing_lines flash listing (after_entry a (entry_at flash listing a)) n) []) (past_flash a past)
+    ap (λ (b : Bool). cond b (entry_line a (entry_at flash listing a) ++ listing_lines flash listing (after_entry a (entry_at flash listing a)) n) [])
+    (past_flash a past)
 
 -- one line of those that are left
 pub lines_more : (flash : ℕ → ℕ) (listing : Listing) (a n : ℕ) → a < flash_size
-    → listing_lines flash listing a (suc n) ≡ entry_line a (entry_at flash listing a) ++ listing_lines flash listing (after_entry a (entry_at flash listing a)) n
+    → listing_lines flash listing a (suc n)
+    ≡ entry_line a (entry_at flash listing a) ++ listing_lines flash listing (after_entry a (entry_at flash listing a)) n
 lines_more flash listing a n below =
-    ap (λ (b : Bool). cond b (entry_line a (entry_at flash listing a) ++ listing_lines flash listing (after_entry a (entry_at flash listing a)) n) []) (in_flash a below)
+    ap (λ (b : Bool). cond b (entry_line a (entry_at flash listing a) ++ listing_lines flash listing (after_entry a (entry_at flash listing a)) n) [])
+    (in_flash a below)
 
-pub lines_on : (flash : ℕ → ℕ) (listing : Listing) (a count k next : ℕ) (out new all : List ℕ) → a < flash_size → k < count → IsLineAt a (entry_at flash listing a) out new next
+pub lines_on : (flash : ℕ → ℕ) (listing : Listing) (a count k next : ℕ) (out new all : List ℕ) → a < flash_size → k < count
+    → IsLineAt a (entry_at flash listing a) out new next
     → out ++ listing_lines flash listing a (count - k) ≡ all → new ++ listing_lines flash listing next (count - (k + 1)) ≡ all
 lines_on flash listing a count k next out new all below few line left =
     let e = entry_at flash listing a in

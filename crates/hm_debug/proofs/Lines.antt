@@ -1,5 +1,6 @@
 -- The first line of a text, and the lines behind it.
-use Rattle.std.proofs.Common.{◌≡◌, ℕ, ◌+◌, ◌-◌, ◌<◌, ◌≤◌, ap, arith, refl, sym, ◌∙◌, List, [], ◌∷◌, ◌++◌, append-nil, drop, length, take, true, Option, Some, None, is_some, IfSome}
+use Rattle.std.proofs.Common.{◌≡◌, ℕ, ◌+◌, ◌-◌, ◌<◌, ◌≤◌, ap, arith, refl, sym, ◌∙◌, List, [], ◌∷◌, ◌++◌, append-nil, drop, length, take, true, Option, Some}
+use Rattle.std.proofs.Common.{None, is_some, IfSome}
 use Rattle.std.proofs.lemmas.List.{take_all}
 use Rattle.hm_text_base.proofs.LineLaws.{lines_from, lines_span}
 use Rattle.hm_text_base.proofs.SpanLaws.{span_parts}

@@ -28,7 +28,8 @@ all_ended (l ∷ ls, rest) [] say = absurd say
 all_ended (l ∷ ls, rest) (c ∷ cs) say = all_ended (ls, rest) cs say.1
 
 -- what the first lines say, the longer script begins with
-begins : (ls : List (List ℕ)) (rest : List ℕ) (m : Lines) (cs es : List Command) → SayAll (ls, rest) cs → SayAll (then_lines ls m) es → (ds : List Command) × (es ≡ cs ++ ds)
+begins : (ls : List (List ℕ)) (rest : List ℕ) (m : Lines) (cs es : List Command) → SayAll (ls, rest) cs → SayAll (then_lines ls m) es
+    → (ds : List Command) × (es ≡ cs ++ ds)
 begins [] rest m [] es say all = (es, refl)
 begins [] [] m (c ∷ cs) es say all = absurd say
 begins [] (b ∷ bs) m (c ∷ cs) es say all = absurd say
@@ -41,4 +42,5 @@ begins (l ∷ ls) rest m (c ∷ cs) (e ∷ es) say all =
 pub goes_on : (text more : List ℕ) (cs es : List Command) → IsScript text cs → IsScript (text ++ more) es → (ds : List Command) × (es ≡ cs ++ ds)
 goes_on text more cs es script longer =
     let lines = lines_of text in
-    begins lines.0 lines.1 (lines_of more) cs es script.says (subst (λ (ls : Lines). SayAll ls es) (lines_then text more (all_ended lines cs script.says)) longer.says)
+    begins lines.0 lines.1 (lines_of more) cs es script.says
+    (subst (λ (ls : Lines). SayAll ls es) (lines_then text more (all_ended lines cs script.says)) longer.says)

@@ -1,5 +1,6 @@
 -- Thread mode: at each tick the exception number is 0 exactly where no exception is active, also at one that ended the run.
-use Rattle.std.proofs.Common.{◌≡◌, ℕ, zero, suc, ◌+◌, ◌==◌, refl, sym, ap, ◌∙◌, arith, Bool, true, false, cond, drop, List, [], ◌∷◌, Option, Some, None, Result, Ok, Err}
+use Rattle.std.proofs.Common.{◌≡◌, ℕ, zero, suc, ◌+◌, ◌==◌, refl, sym, ap, ◌∙◌, arith, Bool, true, false, cond, drop, List, [], ◌∷◌, Option, Some, None, Result}
+use Rattle.std.proofs.Common.{Ok, Err}
 use Rattle.std.specs.Prelude.{◌↔◌, IfOk}
 use Rattle.hm_base.specs.Image.{Segment}
 use Rattle.hm_base.specs.declared.Fault.{Fault}
@@ -11,7 +12,8 @@ use Rattle.hm_exc.specs.declared.types.Broken.{Broken as Breach}
 use Rattle.hm_exc.specs.declared.types.EnterErr.{EnterErr}
 use Rattle.hm_handlers.proofs.Leaving.{Leaves, scalar_leaves}
 use Rattle.hm_handlers.proofs.Soundness.{counted_sound, letters_sound, next_sound, run_sound, start_sound, step_sound}
-use Rattle.hm_handlers.specs.Nested.{Ended, Interrupted, Nested, NestedEnd, NestedStep, Offends, TickEnd, around_under, at_step, flows, handler_step, handles, letter, letters, program_under, returned, step, step_under, steps, uncounted, went, with_acts}
+use Rattle.hm_handlers.specs.Nested.{Ended, Interrupted, Nested, NestedEnd, NestedStep, Offends, TickEnd, around_under, at_step, flows, handler_step, handles}
+use Rattle.hm_handlers.specs.Nested.{letter, letters, program_under, returned, step, step_under, steps, uncounted, went, with_acts}
 use Rattle.hm_handlers.specs.Runs.{Pointers, Run, after_count, begin, closed, ended, enters, enters_unless, may_enter, next, picks, run, stops, tick_of}
 use Rattle.hm_handlers.specs.Sound.{AreStacked, IsSound, number_under}
 use Rattle.hm_isa.specs.declared.Flow.{Flow}
@@ -114,7 +116,8 @@ module _ (listing : Listing) (s : Sched) (acts : List Interrupted) where
   uncounted_tells c (Err e) h = h
 
 -- a handler's
-returned_tells : (b : Option Breach) (c : Config State) (x : Interrupted) (acts : List Interrupted) (t : State) → Tells t (x ∷ acts) → StepTells (returned b c x acts t)
+returned_tells : (b : Option Breach) (c : Config State) (x : Interrupted) (acts : List Interrupted) (t : State) → Tells t (x ∷ acts)
+    → StepTells (returned b c x acts t)
 returned_tells None c x acts t h = tt
 returned_tells (Some b) c x acts t h = h
 
@@ -124,7 +127,8 @@ flows_tells (flow.Break k) c x acts t h = h
 flows_tells (flow.Return value) c x acts t h = returned_tells (return_rule (regs_of t) (seen_in t).byte value x.stacked) c x acts t h
 
 module _ (listing : Listing) (s : Sched) where
-  went_tells : (c : Config State) (x : Interrupted) (acts : List Interrupted) (r : Result Went Stop) → Tells c.state (x ∷ acts) → IfOk r (λ y. Leaves c.state.rest y.state.rest)
+  went_tells : (c : Config State) (x : Interrupted) (acts : List Interrupted) (r : Result Went Stop) → Tells c.state (x ∷ acts)
+      → IfOk r (λ y. Leaves c.state.rest y.state.rest)
       → StepTells (went (program_under listing s (x ∷ acts)) c x acts r)
   went_tells c x acts (Ok y) h left = flows_tells y.flow c x acts y.state (left.number ∙ h.0, h.1)
   went_tells c x acts (Err e) h none = (begun_number listing s (x ∷ acts) c ∙ h.0, h.1)
@@ -137,12 +141,16 @@ module _ (listing : Listing) (s : Sched) where
   handles_tells (Ok (instr.Branch i)) c x acts h =
       let around = around_under s (x ∷ acts) in
       went_tells c x acts (scalar_in_machine around (instr.Branch i) c.state) h (scalar_leaves around (instr.Branch i) c.state)
-  handles_tells (Ok (instr.Vector v)) c x acts h = uncounted_tells listing s (x ∷ acts) c (older (program_under listing s (x ∷ acts)) c) (turn_tells listing s (x ∷ acts) Older c h)
-  handles_tells (Err f) c x acts h = uncounted_tells listing s (x ∷ acts) c (older (program_under listing s (x ∷ acts)) c) (turn_tells listing s (x ∷ acts) Older c h)
+  handles_tells (Ok (instr.Vector v)) c x acts h =
+      uncounted_tells listing s (x ∷ acts) c (older (program_under listing s (x ∷ acts)) c) (turn_tells listing s (x ∷ acts) Older c h)
+  handles_tells (Err f) c x acts h =
+      uncounted_tells listing s (x ∷ acts) c (older (program_under listing s (x ∷ acts)) c) (turn_tells listing s (x ∷ acts) Older c h)
 
-  handler_tells : (t : Turn) (c : Config State) (x : Interrupted) (acts : List Interrupted) → Tells c.state (x ∷ acts) → StepTells (handler_step listing s t c x acts)
+  handler_tells : (t : Turn) (c : Config State) (x : Interrupted) (acts : List Interrupted) → Tells c.state (x ∷ acts)
+      → StepTells (handler_step listing s t c x acts)
   handler_tells Older c x acts h = handles_tells (listing c.state.pc) c x acts h
-  handler_tells Younger c x acts h = uncounted_tells listing s (x ∷ acts) c (younger (program_under listing s (x ∷ acts)) c) (turn_tells listing s (x ∷ acts) Younger c h)
+  handler_tells Younger c x acts h =
+      uncounted_tells listing s (x ∷ acts) c (younger (program_under listing s (x ∷ acts)) c) (turn_tells listing s (x ∷ acts) Younger c h)
 
   under_tells : (t : Turn) (c : Config State) (acts : List Interrupted) → Tells c.state acts → StepTells (step_under listing s t c acts)
   under_tells t c [] h = with_tells listing s [] (turn (program_under listing s []) t c) (turn_tells listing s [] t c h)
@@ -176,13 +184,15 @@ module _ (listing : Listing) (s : Sched) where
   LettersTell (Ok x) = Unit {0}
   LettersTell (Err e) = NestedTells e.end
 
-  then_letters : (k : ℕ) (younger : Bool) (r : NestedStep) (f : Nested → Result Nested TickEnd) → Steps r → ((y : Nested) → IsSound s y → LettersTell (f y)) → LettersTell (then (at_step k younger r) f)
+  then_letters : (k : ℕ) (younger : Bool) (r : NestedStep) (f : Nested → Result Nested TickEnd) → Steps r → ((y : Nested) → IsSound s y → LettersTell (f y))
+      → LettersTell (then (at_step k younger r) f)
   then_letters k younger (Ok y) f h rest = rest y h.0
   then_letters k younger (Err e) f h rest = h.1
 
   letters_tell : (k : ℕ) (ls : List ℕ) (x : Nested) → IsSound s x → LettersTell (letters listing s k ls x)
   letters_tell k [] x h = tt
-  letters_tell k (l ∷ ls) x h = then_letters (k + 1) (l == younger_letter) (letter listing s l x) (letters listing s (k + 1) ls) (letter_steps l x h) (letters_tell (k + 1) ls)
+  letters_tell k (l ∷ ls) x h = then_letters (k + 1) (l == younger_letter) (letter listing s l x) (letters listing s (k + 1) ls) (letter_steps l x h)
+      (letters_tell (k + 1) ls)
 
   -- TICKS
   abbrev RunTells : Run → Type 0
@@ -197,36 +207,44 @@ module _ (listing : Listing) (s : Sched) where
   running : {P : Type 0} (o : Option Outcome) (q : Outcome) → o ≡ None → o ≡ Some q → P
   running o q none some = absurd (let no : None ≡ Some q = sym none ∙ some in cc)
 
-  enters_tells : (x : Run) (e : ℕ) (r : Option EnterErr) (q : Outcome) → x.outcome ≡ None → IsSound s x.machine → (enters_unless s e r x).outcome ≡ Some q → RunTells (enters_unless s e r x)
+  enters_tells : (x : Run) (e : ℕ) (r : Option EnterErr) (q : Outcome) → x.outcome ≡ None → IsSound s x.machine → (enters_unless s e r x).outcome ≡ Some q
+      → RunTells (enters_unless s e r x)
   enters_tells x e None q none h is = running x.outcome q none is
   enters_tells x e (Some why) q none h is = (h.number, h.stacked)
 
   picks_tells : (x : Run) (p : Option ℕ) (q : Outcome) → x.outcome ≡ None → IsSound s x.machine → (enters s p x).outcome ≡ Some q → RunTells (enters s p x)
   picks_tells x None q none h is = running x.outcome q none is
-  picks_tells x (Some e) q none h is = enters_tells x e (entry_refusal (bounds_of s) (regs_of x.machine.config.state) (seen_in x.machine.config.state) e) q none h is
+  picks_tells x (Some e) q none h is =
+      enters_tells x e (entry_refusal (bounds_of s) (regs_of x.machine.config.state) (seen_in x.machine.config.state) e) q none h is
 
-  may_tell : (b : Bool) (x : Run) (q : Outcome) → x.outcome ≡ None → IsSound s x.machine → (cond b (enters s (picks x) x) x).outcome ≡ Some q → RunTells (cond b (enters s (picks x) x) x)
+  may_tell : (b : Bool) (x : Run) (q : Outcome) → x.outcome ≡ None → IsSound s x.machine → (cond b (enters s (picks x) x) x).outcome ≡ Some q
+      → RunTells (cond b (enters s (picks x) x) x)
   may_tell true x q none h is = picks_tells x (picks x) q none h is
   may_tell false x q none h is = running x.outcome q none is
 
-  judged_tells : (b : Bool) (line : TickLine) (x : Run) (o q : Outcome) → x.outcome ≡ None → IsSound s x.machine → (cond b (may_enter s (after_count line x)) (record x { outcome = Some o })).outcome ≡ Some q
+  judged_tells : (b : Bool) (line : TickLine) (x : Run) (o q : Outcome) → x.outcome ≡ None → IsSound s x.machine
+      → (cond b (may_enter s (after_count line x)) (record x { outcome = Some o })).outcome ≡ Some q
       → RunTells (cond b (may_enter s (after_count line x)) (record x { outcome = Some o }))
   judged_tells true line x o q none h is = may_tell s.entries (after_count line x) q none (counted_sound s line.irq x.machine h) is
   judged_tells false line x o q none h is = (h.number, h.stacked)
 
-  ended_tells : (line : TickLine) (x : Run) (r : Result Nested TickEnd) (q : Outcome) → IfOk r (IsSound s) → LettersTell r → (ended s line x r).outcome ≡ Some q → RunTells (ended s line x r)
+  ended_tells : (line : TickLine) (x : Run) (r : Result Nested TickEnd) (q : Outcome) → IfOk r (IsSound s) → LettersTell r → (ended s line x r).outcome ≡ Some q
+      → RunTells (ended s line x r)
   ended_tells line x (Ok m) q h tells is =
       judged_tells (may_end m.config.a m.config.b) line (record { outcome = None; machine = m; ticks = x.ticks + 1; entries = x.entries }) _ q refl h is
   ended_tells line x (Err e) q h tells is = stops_tell (x.ticks + 1) e.step e.younger e.end x.entries tells
 
   -- a tick that ended the run
-  last_tells : (line : TickLine) (x : Run) (o : Option Outcome) (q : Outcome) → x.outcome ≡ o → (x.outcome ≡ None → IsSound s x.machine) → RunTells x → (tick_of listing s line x o).outcome ≡ Some q
+  last_tells : (line : TickLine) (x : Run) (o : Option Outcome) (q : Outcome) → x.outcome ≡ o → (x.outcome ≡ None → IsSound s x.machine) → RunTells x
+      → (tick_of listing s line x o).outcome ≡ Some q
       → RunTells (tick_of listing s line x o)
   last_tells line x (Some o) q e sound tells is = tells
   last_tells line x None q e sound tells is =
-      ended_tells line x (letters listing s 0 line.letters x.machine) q (letters_sound s listing 0 line.letters x.machine (sound e)) (letters_tell 0 line.letters x.machine (sound e)) is
+      ended_tells line x (letters listing s 0 line.letters x.machine) q (letters_sound s listing 0 line.letters x.machine (sound e))
+      (letters_tell 0 line.letters x.machine (sound e)) is
 
-  tick_tells : (line : TickLine) (x : Run) (o : Option Outcome) → (tick_of listing s line x x.outcome).outcome ≡ o → (x.outcome ≡ None → IsSound s x.machine) → RunTells x
+  tick_tells : (line : TickLine) (x : Run) (o : Option Outcome) → (tick_of listing s line x x.outcome).outcome ≡ o → (x.outcome ≡ None → IsSound s x.machine)
+      → RunTells x
       → RunTells (tick_of listing s line x x.outcome)
   tick_tells line x None e sound tells = let h = next_sound s listing (line ∷ line ∷ []) x sound e in (h.number, h.stacked)
   tick_tells line x (Some q) e sound tells = last_tells line x x.outcome q refl sound tells e
@@ -237,13 +255,15 @@ module _ (listing : Listing) (s : Sched) where
 
   next_tells : (left : List TickLine) (x : Run) → (x.outcome ≡ None → IsSound s x.machine) → RunTells x → RunTells (next listing s left x)
   next_tells [] x sound tells = tells
-  next_tells (line ∷ left) x sound tells = closed_tells left (tick_of listing s line x x.outcome) (tick_tells line x (tick_of listing s line x x.outcome).outcome refl sound tells)
+  next_tells (line ∷ left) x sound tells =
+      closed_tells left (tick_of listing s line x x.outcome) (tick_tells line x (tick_of listing s line x x.outcome).outcome refl sound tells)
 
   run_tells : (image : List Segment) (t : ℕ) → RunTells (run listing image s t)
   run_tells image zero = closed_tells (ticks_of s.lines) (begin image s) (let h = start_sound image s in (h.number, h.stacked))
   run_tells image (suc t) = next_tells (drop t (ticks_of s.lines)) (run listing image s t) (run_sound s listing image t) (run_tells image t)
 
-pub thread_mode : (listing : Listing) (image : List Segment) (s : Sched) (t : ℕ) → ((run listing image s t).machine.config.state.rest.ipsr ≡ 0) ↔ ((run listing image s t).machine.acts ≡ [])
+pub thread_mode : (listing : Listing) (image : List Segment) (s : Sched) (t : ℕ)
+    → ((run listing image s t).machine.config.state.rest.ipsr ≡ 0) ↔ ((run listing image s t).machine.acts ≡ [])
 thread_mode listing image s t =
     let tells = run_tells listing s image t in
     none_active (run listing image s t).machine.config.state.rest.ipsr (run listing image s t).machine.acts tells.0 tells.1

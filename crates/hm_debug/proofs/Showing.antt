@@ -21,7 +21,8 @@ film_listed f w film = subst (λ (x : Film). IsListing x.flash x.listing) (sym f
 
 pub shows_at : (f : Film) (w : Taped) (t : ℕ) (m : Shown) → IsFilm f w → ShowsTick w t m → timed_of m ≡ f.at t
 shows_at f w t m film shows =
-    timed_is m (run film.listing film.image film.schedule t) ((shows film.image film.schedule film.holds).now film.listing film.listed) ∙ ap (λ (x : Film). x.at t) (sym film.is)
+    timed_is m (run film.listing film.image film.schedule t) ((shows film.image film.schedule film.holds).now film.listing film.listed)
+    ∙ ap (λ (x : Film). x.at t) (sym film.is)
 
 -- FLASH, at the start of a run
 -- the bytes that a machine shows, by the state of its run
@@ -54,10 +55,12 @@ first_low image a low = first_of_two (nat_lt a flash_size) (given image 255 a) (
 low_test : (a : ℕ) → a < flash_size → nat_lt a flash_size ≡ true
 low_test a below = grind (arith, nat_tests)
 
-start_bytes : (image : List Segment) (s : Sched) (listing : Listing) (m : Shown) → IsListing (flash_byte image) listing → Shows image s 0 m → (a : ℕ) → a < flash_size → told_at m.memory a ≡ Some (flash_byte image a)
+start_bytes : (image : List Segment) (s : Sched) (listing : Listing) (m : Shown) → IsListing (flash_byte image) listing → Shows image s 0 m → (a : ℕ)
+    → a < flash_size → told_at m.memory a ≡ Some (flash_byte image a)
 start_bytes image s listing m listed shows a below =
     let low = low_test a below in
-    let is = shown_byte m (run listing image s 0) a (shows.now listing listed) ∙ closed_byte (ticks_of s.lines) (begin image s) a ∙ begin_byte image s a ∙ first_low image a low in
+    let is = shown_byte m (run listing image s 0) a (shows.now listing listed) ∙ closed_byte (ticks_of s.lines) (begin image s) a ∙ begin_byte image s a
+    ∙ first_low image a low in
     told_low m.memory a low ∙ ap (λ (x : ℕ). Some x) is
 
 pub start_tells : (f : Film) (w : Taped) (m : Shown) → IsFilm f w → ShowsTick w 0 m → TellsFlash f.flash m

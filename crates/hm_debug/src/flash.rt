@@ -57,7 +57,8 @@ fn add_instr(out: &mut Vec<u8>, machine: &Machine, at: u32, i: &Instr) -> Result
 fn add_half(out: &mut Vec<u8>, machine: &Machine, at: u32) -> Result<u32, OutOfMemory>
     requires even { at % 2 ≡ 0 }
     requires within { at < flash_size }
-    ensures added { (flash : ℕ → ℕ) → TellsFlash flash machine.now → IfOk result (λ next. IsLineAt at (half (half_at flash at)) out.old.items out.new.items next) }
+    ensures added { (flash : ℕ → ℕ) → TellsFlash flash machine.now
+        → IfOk result (λ next. IsLineAt at (half (half_at flash at)) out.old.items out.new.items next) }
     ensures goes_on { IfOk result (λ next. (next % 2 ≡ 0) × (next ≤ flash_size)) }
 {
     half_line(out, at, half_of(machine, at))?;

@@ -121,7 +121,8 @@ pub fn go_until(
     ensures stays { tape.new ≡ tape.old }
     ensures within { IfOk result (λ tick. tick ≤ tape.old.last) }
     ensures gives { (f : Film) → IsFilm f tape.old
-        → IfOk result (λ tick. Gives (found_or_end tape.old.last (next_at (λ u. reaches addr (f.at u)) place (tape.old.last - place))) out.old.items out.new.items tick) }
+        → IfOk result (λ tick. Gives (found_or_end tape.old.last (next_at (λ u. reaches addr (f.at u)) place (tape.old.last - place))) out.old.items
+        out.new.items tick) }
 {
     match next_reaching(tape, addr, place) {
         Some(tick) => tell_tick(alloc, out, tick),

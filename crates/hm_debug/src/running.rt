@@ -112,7 +112,8 @@ fn do_line(
     requires within { place ≤ tape.old.last }
     ensures stays { tape.new ≡ tape.old }
     ensures within { IfOk result (λ next. next ≤ tape.old.last) }
-    ensures gives { (f : Film) (c : Command) → IsFilm f tape.old → Says line.now c → IfOk result (λ next. Gives (answer f c place) out.old.items out.new.items next) }
+    ensures gives { (f : Film) (c : Command) → IsFilm f tape.old → Says line.now c
+        → IfOk result (λ next. Gives (answer f c place) out.old.items out.new.items next) }
 {
     match read_command(line) {
         Some(command) => answer(alloc, out, tape, command, place),

@@ -1,5 +1,6 @@
 -- Steps of the code that reads what program headers load.
-use Rattle.std.proofs.Common.{◌≡◌, ℕ, suc, ◌+◌, ◌-◌, ◌*◌, ◌<◌, ◌≤◌, true, false, List, ◌∷◌, drop, length, Result, Ok, Err, refl, sym, ap, subst, ◌∙◌, arith, ◌⊎◌, inl, inr}
+use Rattle.std.proofs.Common.{◌≡◌, ℕ, suc, ◌+◌, ◌-◌, ◌*◌, ◌<◌, ◌≤◌, true, false, List, ◌∷◌, drop, length, Result, Ok, Err, refl, sym, ap, subst, ◌∙◌, arith}
+use Rattle.std.proofs.Common.{◌⊎◌, inl, inr}
 use Rattle.std.proofs.lemmas.Bool.{le-leb, lt-leb}
 use Rattle.std.proofs.lemmas.List.{drop-drop}
 use Rattle.hm_base.specs.Image.{Segment, segment, IsPlaced, IsApart}
@@ -24,15 +25,18 @@ pub skipped : (bytes : List ℕ) (k : ℕ) (h : ProgramHeader) (image : List Seg
 unfolding load_in
 skipped bytes k h image e = rw e refl
 
-pub past_end : (bytes : List ℕ) (k : ℕ) (h : ProgramHeader) (image : List Segment) → loads h ≡ true → length bytes < h.offset + h.file_size → load_in bytes k h image ≡ Err (refusals.Truncated (length bytes))
+pub past_end : (bytes : List ℕ) (k : ℕ) (h : ProgramHeader) (image : List Segment) → loads h ≡ true → length bytes < h.offset + h.file_size
+    → load_in bytes k h image ≡ Err (refusals.Truncated (length bytes))
 unfolding load_in
 past_end bytes k h image e l = rw (e, lt-leb (h.offset + h.file_size) (length bytes) l) refl
 
-pub no_room : (bytes : List ℕ) (k : ℕ) (h : ProgramHeader) (image : List Segment) → loads h ≡ true → h.offset + h.file_size ≤ length bytes → h.memory_size < h.file_size → load_in bytes k h image ≡ Err (refusals.Segment k)
+pub no_room : (bytes : List ℕ) (k : ℕ) (h : ProgramHeader) (image : List Segment) → loads h ≡ true → h.offset + h.file_size ≤ length bytes
+    → h.memory_size < h.file_size → load_in bytes k h image ≡ Err (refusals.Segment k)
 unfolding load_in
 no_room bytes k h image e l r = rw (e, le-leb (h.offset + h.file_size) (length bytes) l, lt-leb h.file_size h.memory_size r) refl
 
-pub to_place : (bytes : List ℕ) (k : ℕ) (h : ProgramHeader) (image : List Segment) → loads h ≡ true → h.offset + h.file_size ≤ length bytes → h.file_size ≤ h.memory_size → load_in bytes k h image ≡ place_in k (loaded bytes h) image
+pub to_place : (bytes : List ℕ) (k : ℕ) (h : ProgramHeader) (image : List Segment) → loads h ≡ true → h.offset + h.file_size ≤ length bytes
+    → h.file_size ≤ h.memory_size → load_in bytes k h image ≡ place_in k (loaded bytes h) image
 unfolding load_in
 to_place bytes k h image e l r = rw (e, le-leb (h.offset + h.file_size) (length bytes) l, le-leb h.file_size h.memory_size r) refl
 
@@ -60,7 +64,8 @@ pub goes_on : (bytes : List ℕ) (k count : ℕ) (table : List ℕ) (image more 
     → k < count → h ≡ header_at (drop (32 * k) table) → load_in bytes k h image ≡ Ok more → loads_in bytes k (left k count table) image ≡ read
     → loads_in bytes (k + 1) (left (k + 1) count table) more ≡ read
 goes_on bytes k count table image more read h l is e so_far =
-    sym (loads_next bytes k count table image h l is ∙ ap (λ (r : Result (List Segment) ImageErr). r >>= λ m. loads_in bytes (k + 1) (left (k + 1) count table) m) e) ∙ so_far
+    sym (loads_next bytes k count table image h l is
+    ∙ ap (λ (r : Result (List Segment) ImageErr). r >>= λ m. loads_in bytes (k + 1) (left (k + 1) count table) m) e) ∙ so_far
 
 pub ends : (bytes : List ℕ) (k count : ℕ) (table : List ℕ) (image : List Segment) (read : Result (List Segment) ImageErr) (e : ImageErr) (h : ProgramHeader)
     → k < count → h ≡ header_at (drop (32 * k) table) → loads_in bytes k (left k count table) image ≡ read → Fails e (load_in bytes k h image) → Fails e read
@@ -78,7 +83,8 @@ is_done bytes k count table image read l so_far =
 -- ---- a segment read by the code
 
 pub seen_at : (bytes : List ℕ) (k : ℕ) (h : ProgramHeader) (image : List Segment) (items : List ℕ) (result : Result (List Segment) ImageErr)
-    → load_in bytes k h image ≡ place_in k (loaded bytes h) image → segment h.address items ≡ loaded bytes h → Gives result (place_in k (segment h.address items) image) → Gives result (load_in bytes k h image)
+    → load_in bytes k h image ≡ place_in k (loaded bytes h) image → segment h.address items ≡ loaded bytes h
+    → Gives result (place_in k (segment h.address items) image) → Gives result (load_in bytes k h image)
 seen_at bytes k h image items result is same g =
     subst (λ (r : Result (List Segment) ImageErr). Gives result r) (ap (λ (s : Segment). place_in k s image) same ∙ sym is) g
 
@@ -87,7 +93,8 @@ abbrev stopped : ImageErr → Result (Unit {0}) ImageErr
 stopped e = Err e
 
 pub refused_by : (k : ℕ) (s : Segment) (image : List Segment) (e : ImageErr) (index : ℕ) → e ≡ refusals.Segment index
-    → (e ≡ refusals.Segment (length image)) ⊎ (e ≡ refusals.OutOfMemory) → (stopped e ≡ stopped (refusals.Segment (length image)) → ¬ (IsPlaced s × IsApart s image))
+    → (e ≡ refusals.Segment (length image)) ⊎ (e ≡ refusals.OutOfMemory)
+    → (stopped e ≡ stopped (refusals.Segment (length image)) → ¬ (IsPlaced s × IsApart s image))
     → place_in k s image ≡ Err (refusals.Segment k)
 refused_by k s image e index is (inl same) no_fit = refused k s image (no_fit (ap stopped same))
 refused_by k s image e index is (inr memory) no_fit = absurd cc

@@ -1,5 +1,6 @@
 -- Segments put in their places by address, and the tests of that.
-use Rattle.std.proofs.Common.{◌≡◌, ◌⊎◌, ℕ, ◌+◌, ◌≤◌, Bool, true, false, ltb, leb, cond, ◌&&◌, List, [], ◌∷◌, ◌++◌, length, All, Ok, Err, inl, inr, refl, sym, ap, subst, ◌∙◌, arith, append_assoc}
+use Rattle.std.proofs.Common.{◌≡◌, ◌⊎◌, ℕ, ◌+◌, ◌≤◌, Bool, true, false, ltb, leb, cond, ◌&&◌, List, [], ◌∷◌, ◌++◌, length, All, Ok, Err, inl, inr, refl, sym}
+use Rattle.std.proofs.Common.{ap, subst, ◌∙◌, arith, append_assoc}
 use Rattle.std.specs.Bool.{Decides}
 use Rattle.std.specs.List.{list_all}
 use Rattle.std.proofs.lemmas.Bool.{leb-true, le-leb, le-ltb, cases_Bool}
@@ -19,11 +20,14 @@ Decides-leb a b = (leb-true a b, le-leb a b)
 
 Decides-is_placed : (s : Segment) → Decides (is_placed s) (IsPlaced s)
 Decides-is_placed s =
-    Decides-and _ _ (Decides-ltb 0 (length s.bytes)) (Decides-or _ _ (Decides-leb (s.addr + length s.bytes) flash_size) (Decides-and _ _ (Decides-leb sram_start s.addr) (Decides-leb (s.addr + length s.bytes) (sram_start + sram_size))))
+    Decides-and _ _ (Decides-ltb 0 (length s.bytes))
+    (Decides-or _ _ (Decides-leb (s.addr + length s.bytes) flash_size)
+    (Decides-and _ _ (Decides-leb sram_start s.addr) (Decides-leb (s.addr + length s.bytes) (sram_start + sram_size))))
 
 Decides-is_apart : (s : Segment) (image : List Segment) → Decides (list_all (is_clear s) image) (IsApart s image)
 Decides-is_apart s image =
-    Decides-by_and (is_clear s) (λ t. Before s t ⊎ Before t s) (list_all (is_clear s)) (λ t. Decides-or _ _ (Decides-leb (s.addr + length s.bytes) t.addr) (Decides-leb (t.addr + length t.bytes) s.addr)) refl (λ _ _. refl) image
+    Decides-by_and (is_clear s) (λ t. Before s t ⊎ Before t s) (list_all (is_clear s))
+    (λ t. Decides-or _ _ (Decides-leb (s.addr + length s.bytes) t.addr) (Decides-leb (t.addr + length t.bytes) s.addr)) refl (λ _ _. refl) image
 
 Decides-fits : (s : Segment) (image : List Segment) → Decides (is_placed s && list_all (is_clear s) image) (IsPlaced s × IsApart s image)
 Decides-fits s image = Decides-and _ _ (Decides-is_placed s) (Decides-is_apart s image)
@@ -45,7 +49,8 @@ test_found : (b : Bool) (d : ImageErr) (x y : List Segment) → cond b (Ok x) (E
 test_found true d x y e = (refl, cc)
 test_found false d x y e = absurd cc
 
-pub placed_found : (k : ℕ) (s : Segment) (image more : List Segment) → place_in k s image ≡ Ok more → (IsPlaced s × IsApart s image) × (more ≡ with_segment s image)
+pub placed_found : (k : ℕ) (s : Segment) (image more : List Segment) → place_in k s image ≡ Ok more
+    → (IsPlaced s × IsApart s image) × (more ≡ with_segment s image)
 unfolding place_in
 placed_found k s image more e =
     let t = test_found (is_placed s && list_all (is_clear s) image) (refusals.Segment k) (with_segment s image) more e in
@@ -77,7 +82,11 @@ image_parts s (t ∷ ts) i = go (ltb s.addr t.addr) i (image_parts s ts)
     go false i r =
         let rest = r i.2 in
         let all = All-without (Before t) s ts i.1 in
-        record { is_placed = rest.is_placed; is_apart = All-cons (λ u. Before s u ⊎ Before u s) t ts (inr all.0) rest.is_apart; image = (i.0, all.1, rest.image) }
+        record {
+          is_placed = rest.is_placed;
+          is_apart = All-cons (λ u. Before s u ⊎ Before u s) t ts (inr all.0) rest.is_apart;
+          image = (i.0, all.1, rest.image);
+        }
 
 -- an image was one before more segments were put in
 pub IsImage-before : (image ss : List Segment) → IsImage (with_segments image ss) → IsImage image

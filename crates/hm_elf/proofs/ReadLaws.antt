@@ -1,5 +1,6 @@
 -- What is read of bytes is the image that they hold, and an image that they hold is read.
-use Rattle.std.proofs.Common.{◌≡◌, ◌⊎◌, ℕ, ◌+◌, ◌*◌, ◌≤◌, Bool, true, false, leb, eqb, cond, ◌||◌, List, [], ◌∷◌, length, map, drop, Option, Some, None, Result, Ok, Err, inl, inr, refl, sym, ap, subst, ◌∙◌}
+use Rattle.std.proofs.Common.{◌≡◌, ◌⊎◌, ℕ, ◌+◌, ◌*◌, ◌≤◌, Bool, true, false, leb, eqb, cond, ◌||◌, List, [], ◌∷◌, length, map, drop, Option, Some, None, Result}
+use Rattle.std.proofs.Common.{Ok, Err, inl, inr, refl, sym, ap, subst, ◌∙◌}
 use Rattle.std.specs.Prelude.{IfOk}
 use Rattle.std.specs.List.{AllByRecursion}
 use Rattle.std.proofs.lemmas.Bool.{leb-true, le-leb, eqb-true, eq-eqb, or_cases, or_left, or_right, cond-true, cases_Bool}
@@ -9,7 +10,9 @@ use Rattle.hm_base.proofs.Images.{IsImage-with_segment}
 use Rattle.hm_text_base.specs.Reading.{◌>>=◌}
 use Rattle.hm_text_base.proofs.Steps.{bind_ok, ok_is}
 use Rattle.hm_elf.specs.declared.reading.ProgramHeader.{ProgramHeader}
-use Rattle.hm_elf.specs.Elf.{half, word, begins_as_elf, header_size, entry_size, most_headers, class_of, order_of, kind_of, machine_of, table_start, entry_size_of, header_count, IsHeader, headers_in, headers_of, loads, loading, loaded, IsLoaded, with_segments, IsElf, IsFlat, IsImageFile}
+use Rattle.hm_elf.specs.Elf.{half, word, begins_as_elf, header_size, entry_size, most_headers, class_of, order_of, kind_of, machine_of, table_start}
+use Rattle.hm_elf.specs.Elf.{entry_size_of, header_count, IsHeader, headers_in, headers_of, loads, loading, loaded, IsLoaded, with_segments, IsElf, IsFlat}
+use Rattle.hm_elf.specs.Elf.{IsImageFile}
 use Rattle.hm_elf.specs.ReadImage.{first_failing, unless, flat_in, header_checks, size_checks, place_in, load_in, loads_in, elf_in, image_in, Gives}
 use Rattle.hm_elf.proofs.Placing.{placed, placed_found, image_parts, IsImage-before}
 use Rattle.hm_elf.proofs.LoadSteps.{skipped, to_place}
@@ -53,7 +56,8 @@ header_found bytes e =
       table = leb-true _ _ i.0;
     }
 
-entries_again : (bytes : List ℕ) → (header_count bytes ≡ 0) ⊎ (entry_size_of bytes ≡ entry_size) → (eqb (header_count bytes) 0 || eqb (entry_size_of bytes) entry_size) ≡ true
+entries_again : (bytes : List ℕ) → (header_count bytes ≡ 0) ⊎ (entry_size_of bytes ≡ entry_size)
+    → (eqb (header_count bytes) 0 || eqb (entry_size_of bytes) entry_size) ≡ true
 entries_again bytes (inl none) = or_left _ _ (eq-eqb _ _ none)
 entries_again bytes (inr same) = or_right _ _ (eq-eqb _ _ same)
 
@@ -72,7 +76,8 @@ pub header_refused : (bytes : List ℕ) (e : ImageErr) → first_failing (header
 unfolding elf_in
 header_refused bytes e is = ap (λ (o : Option ImageErr). unless o (loads_in bytes 0 (headers_of bytes) [])) is
 
-pub header_passed : (bytes : List ℕ) (count start : ℕ) → first_failing (header_checks bytes) ≡ None → count ≡ half bytes 44 → start ≡ word bytes 28 → elf_in bytes ≡ loads_in bytes 0 (headers_in count (drop start bytes)) []
+pub header_passed : (bytes : List ℕ) (count start : ℕ) → first_failing (header_checks bytes) ≡ None → count ≡ half bytes 44 → start ≡ word bytes 28
+    → elf_in bytes ≡ loads_in bytes 0 (headers_in count (drop start bytes)) []
 unfolding elf_in
 header_passed bytes count start is c s =
     ap (λ (o : Option ImageErr). unless o (loads_in bytes 0 (headers_of bytes) [])) is
@@ -81,7 +86,8 @@ header_passed bytes count start is c s =
 
 -- ---- one program header
 
-load_true : (bytes : List ℕ) (k : ℕ) (h : ProgramHeader) (image : List Segment) → loads h ≡ true → load_in bytes k h image ≡ unless (first_failing (size_checks bytes k h)) (place_in k (loaded bytes h) image)
+load_true : (bytes : List ℕ) (k : ℕ) (h : ProgramHeader) (image : List Segment) → loads h ≡ true
+    → load_in bytes k h image ≡ unless (first_failing (size_checks bytes k h)) (place_in k (loaded bytes h) image)
 unfolding load_in
 load_true bytes k h image e = cond-true (loads h) (unless (first_failing (size_checks bytes k h)) (place_in k (loaded bytes h) image)) (Ok image) e
 
@@ -92,7 +98,8 @@ record Loaded (bytes : List ℕ) (h : ProgramHeader) (image more : List Segment)
   pub is_apart : IsApart (loaded bytes h) image
   pub is_put : more ≡ with_segment (loaded bytes h) image
 
-load_found : (bytes : List ℕ) (k : ℕ) (h : ProgramHeader) (image more : List Segment) → loads h ≡ true → load_in bytes k h image ≡ Ok more → Loaded bytes h image more
+load_found : (bytes : List ℕ) (k : ℕ) (h : ProgramHeader) (image more : List Segment) → loads h ≡ true → load_in bytes k h image ≡ Ok more
+    → Loaded bytes h image more
 load_found bytes k h image more t e =
     let u = unless_ok (first_failing (size_checks bytes k h)) (place_in k (loaded bytes h) image) more (sym (load_true bytes k h image t) ∙ e) in
     let a = passing (leb (h.offset + h.file_size) (length bytes)) _ _ u.0 in
@@ -108,7 +115,8 @@ record Loads (bytes : List ℕ) (hs : List ProgramHeader) (image final : List Se
   pub segments : final ≡ with_segments image (map (loaded bytes) hs)
   pub sound : IsImage final
 
-loads_found : (bytes : List ℕ) (k : ℕ) (hs : List ProgramHeader) (image final : List Segment) → IsImage image → loads_in bytes k hs image ≡ Ok final → Loads bytes (loading hs) image final
+loads_found : (bytes : List ℕ) (k : ℕ) (hs : List ProgramHeader) (image final : List Segment) → IsImage image → loads_in bytes k hs image ≡ Ok final
+    → Loads bytes (loading hs) image final
 unfolding loads_in
 loads_found bytes k [] image final i e =
     let same : image ≡ final = ok_is image final e in
@@ -133,18 +141,22 @@ loads_found bytes k (h ∷ hs) image final i e =
           subst (λ (x : Bool). Loads bytes (cond x (h ∷ loading hs) (loading hs)) image final) (sym n) (loads_found bytes (k + 1) hs image final i rest))
     ]
 
-then_loads : (bytes : List ℕ) (k : ℕ) (h : ProgramHeader) (hs : List ProgramHeader) (image more : List Segment) → load_in bytes k h image ≡ Ok more → loads_in bytes k (h ∷ hs) image ≡ loads_in bytes (k + 1) hs more
+then_loads : (bytes : List ℕ) (k : ℕ) (h : ProgramHeader) (hs : List ProgramHeader) (image more : List Segment) → load_in bytes k h image ≡ Ok more
+    → loads_in bytes k (h ∷ hs) image ≡ loads_in bytes (k + 1) hs more
 unfolding loads_in
 then_loads bytes k h hs image more e = ap (λ (r : Result (List Segment) ImageErr). r >>= λ m. loads_in bytes (k + 1) hs m) e
 
-loads_again : (bytes : List ℕ) (k : ℕ) (hs : List ProgramHeader) (image : List Segment) → AllByRecursion (IsLoaded bytes) (loading hs) → IsImage (with_segments image (map (loaded bytes) (loading hs)))
+loads_again : (bytes : List ℕ) (k : ℕ) (hs : List ProgramHeader) (image : List Segment) → AllByRecursion (IsLoaded bytes) (loading hs)
+    → IsImage (with_segments image (map (loaded bytes) (loading hs)))
     → loads_in bytes k hs image ≡ Ok (with_segments image (map (loaded bytes) (loading hs)))
 unfolding loads_in
 loads_again bytes k [] image a i = refl
 loads_again bytes k (h ∷ hs) image a i = go (loads h) refl a i (loads_again bytes (k + 1) hs)
   where
-    go : (x : Bool) → loads h ≡ x → AllByRecursion (IsLoaded bytes) (cond x (h ∷ loading hs) (loading hs)) → IsImage (with_segments image (map (loaded bytes) (cond x (h ∷ loading hs) (loading hs))))
-        → ((more : List Segment) → AllByRecursion (IsLoaded bytes) (loading hs) → IsImage (with_segments more (map (loaded bytes) (loading hs))) → loads_in bytes (k + 1) hs more ≡ Ok (with_segments more (map (loaded bytes) (loading hs))))
+    go : (x : Bool) → loads h ≡ x → AllByRecursion (IsLoaded bytes) (cond x (h ∷ loading hs) (loading hs))
+        → IsImage (with_segments image (map (loaded bytes) (cond x (h ∷ loading hs) (loading hs))))
+        → ((more : List Segment) → AllByRecursion (IsLoaded bytes) (loading hs) → IsImage (with_segments more (map (loaded bytes) (loading hs)))
+        → loads_in bytes (k + 1) hs more ≡ Ok (with_segments more (map (loaded bytes) (loading hs))))
         → loads_in bytes k (h ∷ hs) image ≡ Ok (with_segments image (map (loaded bytes) (cond x (h ∷ loading hs) (loading hs))))
     go true t a i r =
         let more = with_segment (loaded bytes h) image in
@@ -166,7 +178,8 @@ elf_again : (bytes : List ℕ) (image : List Segment) → IsElf bytes image → 
 unfolding elf_in
 elf_again bytes image f =
     let all = loads_again bytes 0 (headers_of bytes) [] f.each_loaded (subst IsImage f.segments f.sound) in
-    ap (λ (o : Option ImageErr). unless o (loads_in bytes 0 (headers_of bytes) [])) (header_again bytes f.header) ∙ all ∙ ap (λ (x : List Segment). Ok x) (sym f.segments)
+    ap (λ (o : Option ImageErr). unless o (loads_in bytes 0 (headers_of bytes) [])) (header_again bytes f.header) ∙ all
+    ∙ ap (λ (x : List Segment). Ok x) (sym f.segments)
 
 flat_found : (bytes : List ℕ) (image : List Segment) → flat_in bytes ≡ Ok image → IsFlat bytes image
 unfolding flat_in

@@ -1,5 +1,6 @@
 -- The file that an image is written as holds that image.
-use Rattle.std.proofs.Common.{◌≡◌, ℕ, zero, suc, ◌+◌, ◌*◌, ◌/◌, ◌%◌, ◌^◌, ◌<◌, ◌≤◌, Bool, cond, List, [], ◌∷◌, ◌++◌, length, map, take, drop, inl, inr, refl, sym, ap, subst, ◌∙◌, arith, append_assoc, add-one, length-append}
+use Rattle.std.proofs.Common.{◌≡◌, ℕ, zero, suc, ◌+◌, ◌*◌, ◌/◌, ◌%◌, ◌^◌, ◌<◌, ◌≤◌, Bool, cond, List, [], ◌∷◌, ◌++◌, length, map, take, drop, inl, inr, refl}
+use Rattle.std.proofs.Common.{sym, ap, subst, ◌∙◌, arith, append_assoc, add-one, length-append}
 use Rattle.std.specs.List.{AllByRecursion}
 use Rattle.std.proofs.lemmas.Bool.{lt-ltb}
 use Rattle.std.proofs.lemmas.List.{take_at, drop_at, append-nil}
@@ -7,7 +8,8 @@ use Rattle.std.proofs.lemmas.Nat.{from_le_bytes-to_le_bytes_2, from_le_bytes-to_
 use Rattle.hm_base.specs.Image.{Segment, segment, segment_at, IsPlaced, IsImage}
 use Rattle.hm_base.proofs.Images.{placed_below}
 use Rattle.hm_elf.specs.declared.reading.ProgramHeader.{ProgramHeader}
-use Rattle.hm_elf.specs.Elf.{half, word, header_size, entry_size, IsHeader, header_at, headers_in, headers_of, loading, loaded, IsLoaded, with_segments, IsImageFile}
+use Rattle.hm_elf.specs.Elf.{half, word, header_size, entry_size, IsHeader, header_at, headers_in, headers_of, loading, loaded, IsLoaded, with_segments}
+use Rattle.hm_elf.specs.Elf.{IsImageFile}
 use Rattle.hm_elf.specs.WriteImage.{half_bytes, word_bytes, file_header, program_header, program_headers, all_bytes, elf_file}
 use Rattle.hm_elf.proofs.Placing.{with_segments-image}
 
@@ -88,11 +90,14 @@ header_of offset address size = record { kind = 1; offset = offset; address = ad
 header_is : (o p a b m n : ℕ) → o ≡ p → a ≡ b → m ≡ n → header_of o a m ≡ header_of p b n
 header_is o p a b m n e f g = ap (λ (x : ℕ). header_of x a m) e ∙ ap (λ (x : ℕ). header_of p x m) f ∙ ap (λ (x : ℕ). header_of p b x) g
 
-header_told : (offset : ℕ) (s : Segment) (rest : List ℕ) → offset < 2 ^ 32 → s.addr < 2 ^ 32 → length s.bytes < 2 ^ 32 → header_at (program_header offset s ++ rest) ≡ told_header offset s
+header_told : (offset : ℕ) (s : Segment) (rest : List ℕ) → offset < 2 ^ 32 → s.addr < 2 ^ 32 → length s.bytes < 2 ^ 32
+    → header_at (program_header offset s ++ rest) ≡ told_header offset s
 header_told offset s rest o a n =
-    header_is (word (word_bytes offset) 0) offset (word (word_bytes s.addr) 0) s.addr (word (word_bytes (length s.bytes)) 0) (length s.bytes) (word_again offset o) (word_again s.addr a) (word_again (length s.bytes) n)
+    header_is (word (word_bytes offset) 0) offset (word (word_bytes s.addr) 0) s.addr (word (word_bytes (length s.bytes)) 0) (length s.bytes)
+    (word_again offset o) (word_again s.addr a) (word_again (length s.bytes) n)
 
-headers_told : (offset : ℕ) (ss : List Segment) (rest : List ℕ) → IsImage ss → offset + 0x100000 * length ss < 2 ^ 32 → headers_in (length ss) (program_headers offset ss ++ rest) ≡ told offset ss
+headers_told : (offset : ℕ) (ss : List Segment) (rest : List ℕ) → IsImage ss → offset + 0x100000 * length ss < 2 ^ 32
+    → headers_in (length ss) (program_headers offset ss ++ rest) ≡ told offset ss
 headers_told offset [] rest i small = refl
 headers_told offset (s ∷ ss) rest i small =
     let short = placed_short s i.0 in
@@ -111,7 +116,8 @@ loading_told offset (s ∷ ss) i =
 
 -- ---- the bytes
 
-told_loaded : (bytes front : List ℕ) (offset : ℕ) (ss : List Segment) → bytes ≡ front ++ all_bytes ss → offset ≡ length front → AllByRecursion (IsLoaded bytes) (told offset ss) × (map (loaded bytes) (told offset ss) ≡ ss)
+told_loaded : (bytes front : List ℕ) (offset : ℕ) (ss : List Segment) → bytes ≡ front ++ all_bytes ss → offset ≡ length front
+    → AllByRecursion (IsLoaded bytes) (told offset ss) × (map (loaded bytes) (told offset ss) ≡ ss)
 told_loaded bytes front offset [] b o = (tt, refl)
 told_loaded bytes front offset (s ∷ ss) b o =
     let grown = length-append front s.bytes in
@@ -125,8 +131,11 @@ told_loaded bytes front offset (s ∷ ss) b o =
     let part : take (length s.bytes) (drop offset bytes) ≡ s.bytes
     = ap (λ (x : List ℕ). take (length s.bytes) (drop offset x)) b
     ∙ ap (λ (x : List ℕ). take (length s.bytes) x) (drop_at front (s.bytes ++ all_bytes ss) offset (sym o))
-    ∙ take_at s.bytes (all_bytes ss) (length s.bytes) refl in
-    ((first, rest.0), ap (λ (x : List ℕ). segment s.addr x ∷ map (loaded bytes) (told (offset + length s.bytes) ss)) part ∙ ap (λ (x : List Segment). s ∷ x) rest.1)
+    ∙ take_at s.bytes (all_bytes ss) (length s.bytes) refl in (
+      (first, rest.0),
+      ap (λ (x : List ℕ). segment s.addr x ∷ map (loaded bytes) (told (offset + length s.bytes) ss)) part
+          ∙ ap (λ (x : List Segment). s ∷ x) rest.1,
+    )
 
 -- ---- the file
 
@@ -139,7 +148,8 @@ file_again image i few =
     let both = length-append headers (all_bytes image) in
     let header : IsHeader bytes = header_again (length image) (headers ++ all_bytes image) few (omega arith) in
     let told_is : headers_of bytes ≡ told start image
-    = ap (λ (n : ℕ). headers_in n (headers ++ all_bytes image)) (half_again (length image) (omega arith)) ∙ headers_told start image (all_bytes image) i (omega arith) in
+    = ap (λ (n : ℕ). headers_in n (headers ++ all_bytes image)) (half_again (length image) (omega arith))
+    ∙ headers_told start image (all_bytes image) i (omega arith) in
     let are : loading (headers_of bytes) ≡ told start image = ap loading told_is ∙ loading_told start image i in
     let front = file_header (length image) ++ headers in
     let regrouped : bytes ≡ front ++ all_bytes image = sym (append_assoc (file_header (length image)) headers (all_bytes image)) in
@@ -150,7 +160,8 @@ file_again image i few =
       record {
         header = header;
         each_loaded = subst (λ (hs : List ProgramHeader). AllByRecursion (IsLoaded bytes) hs) (sym are) l.0;
-        segments = sym (ap (λ (hs : List ProgramHeader). with_segments [] (map (loaded bytes) hs)) are ∙ ap (λ (ss : List Segment). with_segments [] ss) l.1 ∙ with_segments-image image i);
+        segments = sym (ap (λ (hs : List ProgramHeader). with_segments [] (map (loaded bytes) hs)) are ∙ ap (λ (ss : List Segment). with_segments [] ss) l.1
+            ∙ with_segments-image image i);
         sound = i;
       },
     )
@@ -162,15 +173,18 @@ next_segment [] k l = absurd (omega arith)
 next_segment (s ∷ ss) zero l = refl
 next_segment (s ∷ ss) (suc k) l = next_segment ss k (omega arith)
 
-pub headers_step : (out : List ℕ) (offset k address : ℕ) (bytes : List ℕ) (image : List Segment) (whole : List ℕ) → k < length image → segment_at image k ≡ segment address bytes
-    → out ++ program_headers offset (drop k image) ≡ whole → (out ++ program_header offset (segment address bytes)) ++ program_headers (offset + length bytes) (drop (k + 1) image) ≡ whole
+pub headers_step : (out : List ℕ) (offset k address : ℕ) (bytes : List ℕ) (image : List Segment) (whole : List ℕ) → k < length image
+    → segment_at image k ≡ segment address bytes
+    → out ++ program_headers offset (drop k image) ≡ whole
+    → (out ++ program_header offset (segment address bytes)) ++ program_headers (offset + length bytes) (drop (k + 1) image) ≡ whole
 headers_step out offset k address bytes image whole l is so_far =
     let next : drop k image ≡ segment address bytes ∷ drop (k + 1) image
     = next_segment image k l ∙ ap (λ (s : Segment). s ∷ drop (suc k) image) is ∙ ap (λ (n : ℕ). segment address bytes ∷ drop n image) (sym (add-one k)) in
     append_assoc out (program_header offset (segment address bytes)) (program_headers (offset + length bytes) (drop (k + 1) image))
     ∙ sym (ap (λ (ss : List Segment). out ++ program_headers offset ss) next) ∙ so_far
 
-pub bytes_step : (out : List ℕ) (k address : ℕ) (bytes : List ℕ) (image : List Segment) (whole : List ℕ) → k < length image → segment_at image k ≡ segment address bytes
+pub bytes_step : (out : List ℕ) (k address : ℕ) (bytes : List ℕ) (image : List Segment) (whole : List ℕ) → k < length image
+    → segment_at image k ≡ segment address bytes
     → out ++ all_bytes (drop k image) ≡ whole → (out ++ bytes) ++ all_bytes (drop (k + 1) image) ≡ whole
 bytes_step out k address bytes image whole l is so_far =
     let next : drop k image ≡ segment address bytes ∷ drop (k + 1) image
@@ -183,8 +197,10 @@ none_left [] (suc k) l = refl
 none_left (s ∷ ss) zero l = absurd (omega arith)
 none_left (s ∷ ss) (suc k) l = none_left ss k (omega arith)
 
-pub headers_done : (out : List ℕ) (offset k : ℕ) (image : List Segment) (whole : List ℕ) → length image ≤ k → out ++ program_headers offset (drop k image) ≡ whole → out ≡ whole
-headers_done out offset k image whole l so_far = sym (append-nil out) ∙ sym (ap (λ (ss : List Segment). out ++ program_headers offset ss) (none_left image k l)) ∙ so_far
+pub headers_done : (out : List ℕ) (offset k : ℕ) (image : List Segment) (whole : List ℕ) → length image ≤ k
+    → out ++ program_headers offset (drop k image) ≡ whole → out ≡ whole
+headers_done out offset k image whole l so_far = sym (append-nil out) ∙ sym (ap (λ (ss : List Segment). out ++ program_headers offset ss) (none_left image k l))
+    ∙ so_far
 
 pub bytes_done : (out : List ℕ) (k : ℕ) (image : List Segment) (whole : List ℕ) → length image ≤ k → out ++ all_bytes (drop k image) ≡ whole → out ≡ whole
 bytes_done out k image whole l so_far = sym (append-nil out) ∙ sym (ap (λ (ss : List Segment). out ++ all_bytes ss) (none_left image k l)) ∙ so_far

@@ -1,5 +1,6 @@
 -- An ELF file of 32 bits, the least significant byte first: what it says, and the image that it loads.
-use Rattle.std.specs.Prelude.{◌≡◌, ◌⊎◌, ℕ, zero, suc, ◌+◌, ◌*◌, ◌≤◌, Bool, true, false, nat_lt, nat_eq, ◌==◌, ◌&&◌, List, [], ◌∷◌, length, take, drop, map, slice_index, if◌then◌else◌}
+use Rattle.std.specs.Prelude.{◌≡◌, ◌⊎◌, ℕ, zero, suc, ◌+◌, ◌*◌, ◌≤◌, Bool, true, false, nat_lt, nat_eq, ◌==◌, ◌&&◌, List, [], ◌∷◌, length, take, drop, map}
+use Rattle.std.specs.Prelude.{slice_index, if◌then◌else◌}
 use Rattle.std.specs.List.{AllByRecursion, starts_with}
 use Rattle.hm_base.specs.Image.{Segment, segment, with_segment, word_at, flash_size, flat, IsImage}
 use Rattle.hm_elf.specs.declared.reading.ProgramHeader.{ProgramHeader}

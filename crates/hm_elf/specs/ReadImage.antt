@@ -1,12 +1,14 @@
 -- Reading the file of an image: the image, or the first refusal.
-use Rattle.std.specs.Prelude.{◌≡◌, ℕ, ◌+◌, ◌*◌, Bool, nat_lt, nat_le, ◌==◌, ◌&&◌, ◌||◌, List, [], ◌∷◌, length, Option, Some, None, Result, Ok, Err, if◌then◌else◌}
+use Rattle.std.specs.Prelude.{◌≡◌, ℕ, ◌+◌, ◌*◌, Bool, nat_lt, nat_le, ◌==◌, ◌&&◌, ◌||◌, List, [], ◌∷◌, length, Option, Some, None, Result, Ok, Err}
+use Rattle.std.specs.Prelude.{if◌then◌else◌}
 use Rattle.std.specs.List.{list_all}
 use Rattle.hm_base.specs.Image.{Segment, with_segment, flash_size, sram_start, sram_size, flat}
 use Rattle.hm_base.specs.declared.errors.ImageErr.{ImageErr}
 use Rattle.hm_base.specs.declared.errors.ImageErr.TheVariants as refusals
 use Rattle.hm_text_base.specs.Reading.{◌>>=◌}
 use Rattle.hm_elf.specs.declared.reading.ProgramHeader.{ProgramHeader}
-use Rattle.hm_elf.specs.Elf.{begins_as_elf, header_size, entry_size, most_headers, class_of, order_of, kind_of, machine_of, table_start, entry_size_of, header_count, headers_of, loads, loaded}
+use Rattle.hm_elf.specs.Elf.{begins_as_elf, header_size, entry_size, most_headers, class_of, order_of, kind_of, machine_of, table_start, entry_size_of}
+use Rattle.hm_elf.specs.Elf.{header_count, headers_of, loads, loaded}
 
 -- a check, and the refusal where it fails
 abbrev pub Check : Type 0
@@ -50,7 +52,8 @@ header_checks bytes =
 -- whether a segment has a byte, and lies whole in flash or whole in SRAM
 abbrev pub is_placed : Segment → Bool
 is_placed s =
-    nat_lt 0 (length s.bytes) && (nat_le (s.addr + length s.bytes) flash_size || (nat_le sram_start s.addr && nat_le (s.addr + length s.bytes) (sram_start + sram_size)))
+    nat_lt 0 (length s.bytes) && (nat_le (s.addr + length s.bytes) flash_size
+    || (nat_le sram_start s.addr && nat_le (s.addr + length s.bytes) (sram_start + sram_size)))
 
 -- whether one of two segments ends before the other begins
 abbrev pub is_clear : Segment → Segment → Bool
@@ -62,7 +65,8 @@ place_in k s image = if is_placed s && list_all (is_clear s) image then Ok (with
 
 -- the checks of the sizes of program header k
 abbrev pub size_checks : List ℕ → ℕ → ProgramHeader → List Check
-size_checks bytes k h = (nat_le (h.offset + h.file_size) (length bytes), refusals.Truncated (length bytes)) ∷ (nat_le h.file_size h.memory_size, refusals.Segment k) ∷ []
+size_checks bytes k h = (nat_le (h.offset + h.file_size) (length bytes), refusals.Truncated (length bytes))
+    ∷ (nat_le h.file_size h.memory_size, refusals.Segment k) ∷ []
 
 -- the image with what program header k loads
 unfoldable pub load_in : List ℕ → ℕ → ProgramHeader → List Segment → Result (List Segment) ImageErr

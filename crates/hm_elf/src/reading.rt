@@ -3,7 +3,8 @@
 ghost use Rattle.std.specs.Prelude.{◌≡◌, ◌+◌, ◌*◌, ◌^◌, ◌<◌, ◌≤◌, List, [], length, take, drop, Some, Ok, Err, IfOk};
 ghost use Rattle.hm_base.specs.Image.{Segment, segment};
 ghost use Rattle.hm_elf.specs.Elf.{half, word, header_at, headers_in, loads, IsImageFile};
-ghost use Rattle.hm_elf.specs.ReadImage.{first_checks, first_failing, flat_checks, header_checks, place_in, load_in, loads_in, elf_in, flat_in, image_in, Gives};
+ghost use Rattle.hm_elf.specs.ReadImage.{first_checks, first_failing, flat_checks, header_checks, place_in, load_in, loads_in, elf_in, flat_in, image_in};
+ghost use Rattle.hm_elf.specs.ReadImage.{Gives};
 
 use hm_base::{FLASH_SIZE, Image, ImageErr};
 use std::alloc::{AllocError, Global};

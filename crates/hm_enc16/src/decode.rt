@@ -31,7 +31,9 @@ ghost use Rattle.hm_isa.specs.declared.narrow.S25.{S25};
 ghost use Rattle.hm_isa.specs.declared.Scalar.{Scalar};
 ghost use Rattle.hm_isa.specs.declared.Branch.{Branch};
 ghost use Rattle.hm_isa.specs.Rules.{listed_in, keeps_list, keeps_it};
-ghost use Rattle.hm_isa.specs.Code.{code_s1, code_s2, code_s3, code_s4, logic_base, code_s5, code_s6, code_s7, code_s8, code_s9, code_s10, code_s11, code_s12, code_s13, code_s14, access_base, code_s15, code_s16, code_s17, code_s18, code_s19, code_s20, code_s21, code_s23, code_s24, code_s25, scalar_halves, branch_halves};
+ghost use Rattle.hm_isa.specs.Code.{code_s1, code_s2, code_s3, code_s4, logic_base, code_s5, code_s6, code_s7, code_s8, code_s9, code_s10, code_s11, code_s12};
+ghost use Rattle.hm_isa.specs.Code.{code_s13, code_s14, access_base, code_s15, code_s16, code_s17, code_s18, code_s19, code_s20, code_s21, code_s23, code_s24};
+ghost use Rattle.hm_isa.specs.Code.{code_s25, scalar_halves, branch_halves};
 
 use hm_isa::{
     AccessName, Always, BaseName, Below, Branch, ByteName, Conditional, ExtendName, HintName,

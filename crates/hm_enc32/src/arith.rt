@@ -17,7 +17,8 @@ ghost use Rattle.hm_isa.specs.declared.arith.LongProduct.{LongProduct};
 ghost use Rattle.hm_isa.specs.declared.arith.T11.{T11};
 ghost use Rattle.hm_isa.specs.declared.arith.T20.{T20};
 ghost use Rattle.hm_isa.specs.Rules.{is_accumulated};
-ghost use Rattle.hm_isa.specs.ArithCodes.{wide_shift_base, code_t8, wide_extend_base, code_t9, bits_base, code_t10, operation_base, code_operation, accumulate_base, code_accumulate, long_product_base, code_long_product, code_t11, select_base, code_t20};
+ghost use Rattle.hm_isa.specs.ArithCodes.{wide_shift_base, code_t8, wide_extend_base, code_t9, bits_base, code_t10, operation_base, code_operation};
+ghost use Rattle.hm_isa.specs.ArithCodes.{accumulate_base, code_accumulate, long_product_base, code_long_product, code_t11, select_base, code_t20};
 ghost use Rattle.hm_isa.specs.Code.{scalar_halves, two_halves};
 
 use crate::decode::general;

@@ -12,7 +12,8 @@ ghost use Rattle.hm_isa.specs.declared.wide.T13.{T13};
 ghost use Rattle.hm_isa.specs.declared.wide.T15.{T15};
 ghost use Rattle.hm_isa.specs.declared.Scalar.{Scalar};
 ghost use Rattle.hm_isa.specs.Rules.{is_general, is_load, is_data, is_indexed, is_pair};
-ghost use Rattle.hm_isa.specs.Code.{wide_access_base, pair_base, code_offset, code_indexed, code_shifted, code_literal, code_t12, code_t13, code_t15, scalar_halves, two_halves};
+ghost use Rattle.hm_isa.specs.Code.{wide_access_base, pair_base, code_offset, code_indexed, code_shifted, code_literal, code_t12, code_t13, code_t15};
+ghost use Rattle.hm_isa.specs.Code.{scalar_halves, two_halves};
 
 use crate::arith::find_arith;
 use crate::decode_data::find_data;

@@ -1,7 +1,8 @@
 //! The rows of 32-bit codes, written.
 
 ghost use Rattle.std.specs.Prelude.{◌≡◌, length};
-ghost use Rattle.hm_isa.specs.Code.{wide_access_base, pair_base, stack_base, code_offset, code_indexed, code_shifted, code_literal, code_t12, code_t13, code_t15, scalar_halves, two_halves};
+ghost use Rattle.hm_isa.specs.Code.{wide_access_base, pair_base, stack_base, code_offset, code_indexed, code_shifted, code_literal, code_t12, code_t13};
+ghost use Rattle.hm_isa.specs.Code.{code_t15, scalar_halves, two_halves};
 
 use crate::arith::{encode_t8, encode_t9, encode_t10, encode_t11, encode_t20};
 use crate::encode_data::{

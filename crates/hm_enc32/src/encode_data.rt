@@ -1,7 +1,8 @@
 //! The rows T1 to T7, written.
 
 ghost use Rattle.std.specs.Prelude.{◌≡◌, ◌<◌};
-ghost use Rattle.hm_isa.specs.DataCodes.{operation, wide_sum_base, half_base, saturate_base, extract_base, code_t1, code_t2, code_t3, code_t4, code_t5, code_t6, code_t7};
+ghost use Rattle.hm_isa.specs.DataCodes.{operation, wide_sum_base, half_base, saturate_base, extract_base, code_t1, code_t2, code_t3, code_t4, code_t5};
+ghost use Rattle.hm_isa.specs.DataCodes.{code_t6, code_t7};
 
 use hm_isa::{DataName, ExtractName, HalfName, SaturateName, SumName, T1, T2, T3, T4, T5, T6, T7};
 

@@ -12,7 +12,8 @@ ghost use Rattle.hm_isa.specs.declared.jumps.Wlstp.{Wlstp};
 ghost use Rattle.hm_isa.specs.declared.jumps.LoopEnd.{LoopEnd};
 ghost use Rattle.hm_isa.specs.declared.jumps.T23.{T23};
 ghost use Rattle.hm_isa.specs.declared.Branch.{Branch};
-ghost use Rattle.hm_isa.specs.JumpCodes.{code_wide_conditional, wide_branch_base, code_wide_always, code_t16, table_base, code_t17, label_field, code_dls, code_wls, code_dlstp, code_wlstp, loop_end_base, code_loop_end, code_t23};
+ghost use Rattle.hm_isa.specs.JumpCodes.{code_wide_conditional, wide_branch_base, code_wide_always, code_t16, table_base, code_t17, label_field, code_dls};
+ghost use Rattle.hm_isa.specs.JumpCodes.{code_wls, code_dlstp, code_wlstp, loop_end_base, code_loop_end, code_t23};
 ghost use Rattle.hm_isa.specs.Code.{branch_halves, two_halves};
 
 use hm_isa::{

@@ -14,7 +14,8 @@ ghost use Rattle.hm_isa.specs.declared.system.T19.{T19};
 ghost use Rattle.hm_isa.specs.declared.system.T21.{T21};
 ghost use Rattle.hm_isa.specs.declared.system.T22.{T22};
 ghost use Rattle.hm_isa.specs.Rules.{is_system_move};
-ghost use Rattle.hm_isa.specs.SystemCodes.{read_base, code_mrs, written_base, code_msr, code_t18, barrier_base, code_barrier, code_t19, system_move_base, code_t21, lane_move_base, code_t22};
+ghost use Rattle.hm_isa.specs.SystemCodes.{read_base, code_mrs, written_base, code_msr, code_t18, barrier_base, code_barrier, code_t19, system_move_base};
+ghost use Rattle.hm_isa.specs.SystemCodes.{code_t21, lane_move_base, code_t22};
 ghost use Rattle.hm_isa.specs.Code.{scalar_halves, two_halves};
 
 use crate::decode::general;

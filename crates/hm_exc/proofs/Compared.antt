@@ -19,7 +19,8 @@ none_from f from (suc count) h =
     ap (λ (o : Option Broken). option_or o (first_from f (suc from) count)) here
     ∙ none_from f (suc from) count (λ j l. ap f (let e : suc from + j ≡ from + suc j = omega arith in e) ∙ h (suc j) (omega arith))
 
-pub some_from : (f : ℕ → Option Broken) (from count k : ℕ) (b : Broken) → k < count → ((j : ℕ) → j < k → f (from + j) ≡ None) → f (from + k) ≡ Some b → first_from f from count ≡ Some b
+pub some_from : (f : ℕ → Option Broken) (from count k : ℕ) (b : Broken) → k < count → ((j : ℕ) → j < k → f (from + j) ≡ None) → f (from + k) ≡ Some b
+    → first_from f from count ≡ Some b
 unfolding first_from
 some_from f from zero k b l h g = absurd (omega arith)
 some_from f from (suc count) zero b l h g =
@@ -37,7 +38,8 @@ not_differing name entry now e = ap (λ (t : Bool). if t then None else Some (br
 pub frame_same : (byte : ℕ → ℕ) (x : Activation) (k : ℕ) → byte (x.frame + k) ≡ get_or x.bytes k 0 → frame_rule byte x k ≡ None
 frame_same byte x k e = ap (λ (t : Bool). if t then None else Some (broken.Frame (x.frame + k))) (eq-eqb (byte (x.frame + k)) (get_or x.bytes k 0) e)
 
-pub frame_differs : (byte : ℕ → ℕ) (x : Activation) (k : ℕ) → (byte (x.frame + k) ≡ get_or x.bytes k 0 → ⊥) → frame_rule byte x k ≡ Some (broken.Frame (x.frame + k))
+pub frame_differs : (byte : ℕ → ℕ) (x : Activation) (k : ℕ) → (byte (x.frame + k) ≡ get_or x.bytes k 0 → ⊥)
+    → frame_rule byte x k ≡ Some (broken.Frame (x.frame + k))
 frame_differs byte x k e = ap (λ (t : Bool). if t then None else Some (broken.Frame (x.frame + k))) (ne_eqb (byte (x.frame + k)) (get_or x.bytes k 0) e)
 
 pub value_differs : (value : ℕ) (x : Activation) → (value ≡ x.value → ⊥) → value_rule value x ≡ Some (broken.ExcReturn value)

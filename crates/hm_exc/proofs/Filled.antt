@@ -4,7 +4,8 @@ use Rattle.std.specs.Prelude.{nat_lt, nat_eq}
 use Rattle.std.proofs.Math.ListN.{replicate}
 use Rattle.std.proofs.lemmas.Bool.Decides.{nat_tests}
 use Rattle.std.proofs.lemmas.Grind.{same_number_lists}
-use Rattle.std.proofs.lemmas.List.{get_or-set_same, get_or-set_other, length-set, length-append, length-replicate, get_or-replicate, get_or_append_left, get_or-append_right, get_or_past}
+use Rattle.std.proofs.lemmas.List.{get_or-set_same, get_or-set_other, length-set, length-append, length-replicate, get_or-replicate, get_or_append_left}
+use Rattle.std.proofs.lemmas.List.{get_or-append_right, get_or_past}
 
 -- the first k elements are those of `new`, and the others those of `old`
 pub record Filled (new old : List ℕ) (k : ℕ) (xs : List ℕ) : Type 0 where
@@ -44,7 +45,8 @@ either_way : (a b : ℕ) → (a < b) ⊎ (b ≤ a)
 either_way a b = grind arith
 
 -- the first n are filled, and the others were the same before
-pub all_filled : (new old xs : List ℕ) (k n : ℕ) → length xs ≡ n → length new ≡ n → Filled new old k xs → ((j : ℕ) → k ≤ j → j < n → get_or old j 0 ≡ get_or new j 0) → xs ≡ new
+pub all_filled : (new old xs : List ℕ) (k n : ℕ) → length xs ≡ n → length new ≡ n → Filled new old k xs
+    → ((j : ℕ) → k ≤ j → j < n → get_or old j 0 ≡ get_or new j 0) → xs ≡ new
 all_filled new old xs k n a b h g = same_number_lists xs new (a ∙ sym b) (λ j l. at j l (either_way j k))
   where
     at : (j : ℕ) → j < length xs → (j < k) ⊎ (k ≤ j) → get_or xs j 0 ≡ get_or new j 0

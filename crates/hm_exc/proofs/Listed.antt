@@ -14,7 +14,8 @@ module _ {A : Type 0} (xs : List A) (some : 0 < length xs) where
 
   pub dropped : (ys : List A) (x : A) (rest : List A) → ys ≡ take (length xs - 1) xs → reverse xs ≡ x ∷ rest → reverse ys ≡ rest
   dropped ys x rest e h =
-      let l : get_or xs (length xs - 1) x ≡ get_or xs (length xs - 1) (get_or xs (length xs - 1) x) = get_or_default xs (length xs - 1) x (get_or xs (length xs - 1) x) (omega arith) in
+      let l : get_or xs (length xs - 1) x ≡ get_or xs (length xs - 1) (get_or xs (length xs - 1) x) =
+      get_or_default xs (length xs - 1) x (get_or xs (length xs - 1) x) (omega arith) in
       let f = last_first (get_or xs (length xs - 1) x) l in
       let g : reverse (take (length xs - 1) xs) ≡ rest = cc in
       ap reverse e ∙ g

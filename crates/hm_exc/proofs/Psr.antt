@@ -21,7 +21,9 @@ eci-is x w = go (x == 0) (x == 1) (x == 2) (x == 4) (x == 5) refl refl refl refl
     at k a b t e h = eqb-true x k t ∙ e ∙ ap eci_of (inner (record { a = a; b = b }) w h)
 
     go : (p q r s t : Bool) → (x == 0) ≡ p → (x == 1) ≡ q → (x == 2) ≡ r → (x == 4) ≡ s → (x == 5) ≡ t
-        → cond p (Some (record { a = 0; b = 0 })) (cond q (Some (record { a = 1; b = 0 })) (cond r (Some (record { a = 2; b = 0 })) (cond s (Some (record { a = 3; b = 0 })) (cond t (Some (record { a = 3; b = 1 })) None)))) ≡ Some w
+        → cond p (Some (record { a = 0; b = 0 }))
+        (cond q (Some (record { a = 1; b = 0 }))
+        (cond r (Some (record { a = 2; b = 0 })) (cond s (Some (record { a = 3; b = 0 })) (cond t (Some (record { a = 3; b = 1 })) None)))) ≡ Some w
         → x ≡ eci_of w
     go true q r s t a b c d e h = at 0 0 0 a refl h
     go false true r s t a b c d e h = at 1 1 0 b refl h
@@ -104,7 +106,8 @@ lower it w = if is_between w then it / 4 else eci_of w * 4
 pub progress_is : (it : ℕ) (w : Window) → progress it w ≡ upper it w * 2 ^ 25 + lower it w * 2 ^ 10
 progress_is it w = go (is_between w)
   where
-    go : (t : Bool) → (if t then it % 4 * 2 ^ 25 + it / 4 * 2 ^ 10 else eci_of w * 2 ^ 12) ≡ (if t then it % 4 else 0) * 2 ^ 25 + (if t then it / 4 else eci_of w * 4) * 2 ^ 10
+    go : (t : Bool) → (if t then it % 4 * 2 ^ 25 + it / 4 * 2 ^ 10 else eci_of w * 2 ^ 12)
+        ≡ (if t then it % 4 else 0) * 2 ^ 25 + (if t then it / 4 else eci_of w * 4) * 2 ^ 10
     go true = refl
     go false = omega arith
 
@@ -161,34 +164,44 @@ module _ (r : Regs) (w : Window) (k : CanEnter r w) (bit8 : r.it < 256) where
   bs = omega arith
 
   pub psr-n : xpsr r w / 2 ^ 31 % 2 ≡ bit r.n
-  psr-n = ap (λ (x : ℕ). x / 2 ^ 31 % 2) psr_is ∙ at_31 (bit r.n) (bit r.z) (bit r.c) (bit r.v) (bit r.q) (upper r.it w) (lower r.it w) (r.sp / 4 % 2) r.ipsr ba bb bc bd be bi bh bs k.number
+  psr-n = ap (λ (x : ℕ). x / 2 ^ 31 % 2) psr_is
+      ∙ at_31 (bit r.n) (bit r.z) (bit r.c) (bit r.v) (bit r.q) (upper r.it w) (lower r.it w) (r.sp / 4 % 2) r.ipsr ba bb bc bd be bi bh bs k.number
 
   pub psr-z : xpsr r w / 2 ^ 30 % 2 ≡ bit r.z
-  psr-z = ap (λ (x : ℕ). x / 2 ^ 30 % 2) psr_is ∙ at_30 (bit r.n) (bit r.z) (bit r.c) (bit r.v) (bit r.q) (upper r.it w) (lower r.it w) (r.sp / 4 % 2) r.ipsr ba bb bc bd be bi bh bs k.number
+  psr-z = ap (λ (x : ℕ). x / 2 ^ 30 % 2) psr_is
+      ∙ at_30 (bit r.n) (bit r.z) (bit r.c) (bit r.v) (bit r.q) (upper r.it w) (lower r.it w) (r.sp / 4 % 2) r.ipsr ba bb bc bd be bi bh bs k.number
 
   pub psr-c : xpsr r w / 2 ^ 29 % 2 ≡ bit r.c
-  psr-c = ap (λ (x : ℕ). x / 2 ^ 29 % 2) psr_is ∙ at_29 (bit r.n) (bit r.z) (bit r.c) (bit r.v) (bit r.q) (upper r.it w) (lower r.it w) (r.sp / 4 % 2) r.ipsr ba bb bc bd be bi bh bs k.number
+  psr-c = ap (λ (x : ℕ). x / 2 ^ 29 % 2) psr_is
+      ∙ at_29 (bit r.n) (bit r.z) (bit r.c) (bit r.v) (bit r.q) (upper r.it w) (lower r.it w) (r.sp / 4 % 2) r.ipsr ba bb bc bd be bi bh bs k.number
 
   pub psr-v : xpsr r w / 2 ^ 28 % 2 ≡ bit r.v
-  psr-v = ap (λ (x : ℕ). x / 2 ^ 28 % 2) psr_is ∙ at_28 (bit r.n) (bit r.z) (bit r.c) (bit r.v) (bit r.q) (upper r.it w) (lower r.it w) (r.sp / 4 % 2) r.ipsr ba bb bc bd be bi bh bs k.number
+  psr-v = ap (λ (x : ℕ). x / 2 ^ 28 % 2) psr_is
+      ∙ at_28 (bit r.n) (bit r.z) (bit r.c) (bit r.v) (bit r.q) (upper r.it w) (lower r.it w) (r.sp / 4 % 2) r.ipsr ba bb bc bd be bi bh bs k.number
 
   pub psr-q : xpsr r w / 2 ^ 27 % 2 ≡ bit r.q
-  psr-q = ap (λ (x : ℕ). x / 2 ^ 27 % 2) psr_is ∙ at_27 (bit r.n) (bit r.z) (bit r.c) (bit r.v) (bit r.q) (upper r.it w) (lower r.it w) (r.sp / 4 % 2) r.ipsr ba bb bc bd be bi bh bs k.number
+  psr-q = ap (λ (x : ℕ). x / 2 ^ 27 % 2) psr_is
+      ∙ at_27 (bit r.n) (bit r.z) (bit r.c) (bit r.v) (bit r.q) (upper r.it w) (lower r.it w) (r.sp / 4 % 2) r.ipsr ba bb bc bd be bi bh bs k.number
 
   pub psr-upper : xpsr r w / 2 ^ 25 % 4 ≡ upper r.it w
-  psr-upper = ap (λ (x : ℕ). x / 2 ^ 25 % 4) psr_is ∙ at_25 (bit r.n) (bit r.z) (bit r.c) (bit r.v) (bit r.q) (upper r.it w) (lower r.it w) (r.sp / 4 % 2) r.ipsr ba bb bc bd be bi bh bs k.number
+  psr-upper = ap (λ (x : ℕ). x / 2 ^ 25 % 4) psr_is
+      ∙ at_25 (bit r.n) (bit r.z) (bit r.c) (bit r.v) (bit r.q) (upper r.it w) (lower r.it w) (r.sp / 4 % 2) r.ipsr ba bb bc bd be bi bh bs k.number
 
   pub psr-lower : xpsr r w / 2 ^ 10 % 64 ≡ lower r.it w
-  psr-lower = ap (λ (x : ℕ). x / 2 ^ 10 % 64) psr_is ∙ at_10 (bit r.n) (bit r.z) (bit r.c) (bit r.v) (bit r.q) (upper r.it w) (lower r.it w) (r.sp / 4 % 2) r.ipsr ba bb bc bd be bi bh bs k.number
+  psr-lower = ap (λ (x : ℕ). x / 2 ^ 10 % 64) psr_is
+      ∙ at_10 (bit r.n) (bit r.z) (bit r.c) (bit r.v) (bit r.q) (upper r.it w) (lower r.it w) (r.sp / 4 % 2) r.ipsr ba bb bc bd be bi bh bs k.number
 
   pub psr-aligned : xpsr r w / 2 ^ 9 % 2 ≡ r.sp / 4 % 2
-  psr-aligned = ap (λ (x : ℕ). x / 2 ^ 9 % 2) psr_is ∙ at_9 (bit r.n) (bit r.z) (bit r.c) (bit r.v) (bit r.q) (upper r.it w) (lower r.it w) (r.sp / 4 % 2) r.ipsr ba bb bc bd be bi bh bs k.number
+  psr-aligned = ap (λ (x : ℕ). x / 2 ^ 9 % 2) psr_is
+      ∙ at_9 (bit r.n) (bit r.z) (bit r.c) (bit r.v) (bit r.q) (upper r.it w) (lower r.it w) (r.sp / 4 % 2) r.ipsr ba bb bc bd be bi bh bs k.number
 
   pub psr-number : xpsr r w % 512 ≡ r.ipsr
-  psr-number = ap (λ (x : ℕ). x % 512) psr_is ∙ at_0 (bit r.n) (bit r.z) (bit r.c) (bit r.v) (bit r.q) (upper r.it w) (lower r.it w) (r.sp / 4 % 2) r.ipsr ba bb bc bd be bi bh bs k.number
+  psr-number = ap (λ (x : ℕ). x % 512) psr_is
+      ∙ at_0 (bit r.n) (bit r.z) (bit r.c) (bit r.v) (bit r.q) (upper r.it w) (lower r.it w) (r.sp / 4 % 2) r.ipsr ba bb bc bd be bi bh bs k.number
 
   pub psr-below : xpsr r w < 2 ^ 32
-  psr-below = subst (λ (x : ℕ). x < 2 ^ 32) (sym psr_is) (total_below (bit r.n) (bit r.z) (bit r.c) (bit r.v) (bit r.q) (upper r.it w) (lower r.it w) (r.sp / 4 % 2) r.ipsr ba bb bc bd be bi bh bs k.number)
+  psr-below = subst (λ (x : ℕ). x < 2 ^ 32) (sym psr_is)
+      (total_below (bit r.n) (bit r.z) (bit r.c) (bit r.v) (bit r.q) (upper r.it w) (lower r.it w) (r.sp / 4 % 2) r.ipsr ba bb bc bd be bi bh bs k.number)
 
   -- the position, and the IT byte
   low_two : field 10 2 (xpsr r w) ≡ lower r.it w % 4

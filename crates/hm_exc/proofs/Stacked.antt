@@ -1,5 +1,6 @@
 -- The words of a frame read back from memory, and the registers that they give.
-use Rattle.std.proofs.Common.{◌≡◌, ℕ, zero, suc, ◌+◌, ◌-◌, ◌*◌, ◌/◌, ◌%◌, ◌^◌, ◌<◌, ◌≤◌, Bool, true, false, List, [], ◌∷◌, ◌++◌, length, get_or, take, arith, refl, sym, ◌∙◌, ap, subst}
+use Rattle.std.proofs.Common.{◌≡◌, ℕ, zero, suc, ◌+◌, ◌-◌, ◌*◌, ◌/◌, ◌%◌, ◌^◌, ◌<◌, ◌≤◌, Bool, true, false, List, [], ◌∷◌, ◌++◌, length, get_or, take, arith}
+use Rattle.std.proofs.Common.{refl, sym, ◌∙◌, ap, subst}
 use Rattle.std.specs.Prelude.{if◌then◌else◌, slice_index, ◌==◌, ◌&&◌}
 use Rattle.std.proofs.Math.ListN.{replicate}
 use Rattle.std.proofs.lemmas.List.{get_or-take, get_or_append_left, take_at}
@@ -63,14 +64,16 @@ pub length-frame_bytes : (r : Regs) (w : Window) → length r.qw ≡ 32 → leng
 unfolding frame_bytes
 length-frame_bytes r w q = length-bytes_of (frame_words r w) ∙ length-words r w q
 
-pub frame_byte-is : (r : Regs) (w : Window) (k : ℕ) → length r.qw ≡ 32 → k < frame_size r.fpca → get_or (frame_bytes r w) k 0 ≡ byte_of (get_or (frame_words r w) (k / 4) 0) (k % 4)
+pub frame_byte-is : (r : Regs) (w : Window) (k : ℕ) → length r.qw ≡ 32 → k < frame_size r.fpca
+    → get_or (frame_bytes r w) k 0 ≡ byte_of (get_or (frame_words r w) (k / 4) 0) (k % 4)
 unfolding frame_bytes
 frame_byte-is r w k q l = let e : 4 * length (frame_words r w) ≡ frame_size r.fpca = length-words r w q in get_or-bytes_of (frame_words r w) k (omega arith)
 
 frame_word-back : (r : Regs) (w : Window) (k : ℕ) → length r.qw ≡ 32 → 4 * k < frame_size r.fpca → get_or (frame_words r w) k 0 < 2 ^ 32
     → word_at (slice_index (frame_bytes r w)) (4 * k) ≡ get_or (frame_words r w) k 0
 unfolding frame_bytes
-frame_word-back r w k q l fits = let e : 4 * length (frame_words r w) ≡ frame_size r.fpca = length-words r w q in word-bytes_of (frame_words r w) k (omega arith) fits
+frame_word-back r w k q l fits =
+    let e : 4 * length (frame_words r w) ≡ frame_size r.fpca = length-words r w q in word-bytes_of (frame_words r w) k (omega arith) fits
 
 -- a word of four bytes that are alike
 same_word : (f g : ℕ → ℕ) (a b : ℕ) → f a ≡ g b → f (a + 1) ≡ g (b + 1) → f (a + 2) ≡ g (b + 2) → f (a + 3) ≡ g (b + 3) → word_at f a ≡ word_at g b
@@ -90,7 +93,8 @@ module _ (x : Activation) (h : FitsEntry x) (range : InRange x.regs) (pc_fits : 
   pub psr_fits : xpsr x.regs (window_in x) < 2 ^ 32
   psr_fits = psr-below x.regs (window_in x) h.enters it_fits
 
-  pub stacked-word : (byte : ℕ → ℕ) (k : ℕ) → ((j : ℕ) → j < frame_size x.long → byte (x.frame + j) ≡ get_or x.bytes j 0) → 4 * k < frame_size x.long → 4 * k + 3 < frame_size x.long
+  pub stacked-word : (byte : ℕ → ℕ) (k : ℕ) → ((j : ℕ) → j < frame_size x.long → byte (x.frame + j) ≡ get_or x.bytes j 0) → 4 * k < frame_size x.long
+      → 4 * k + 3 < frame_size x.long
       → word_at byte (x.frame + 4 * k) ≡ get_or (frame_words x.regs (window_in x)) k 0
   stacked-word byte k f l m =
       let e : frame_size x.long ≡ frame_size x.regs.fpca = size_is in
@@ -119,7 +123,8 @@ pub flag_back : (result : Bool) (psr p n : ℕ) (b : Bool) → result ≡ (psr /
 flag_back result psr p n b h e g = h ∙ ap (λ (y : ℕ). y / 2 ^ n % 2 == 1) e ∙ bit_told b (p / 2 ^ n % 2) g
 
 -- a frame that has room lies in SRAM
-pub in_room : (x y : Activation) (p t : Bool) → x ≡ y → t ≡ (p && lies_in_sram (frame_size x.long) x.frame) → t ≡ true → lies_in_sram (frame_size y.long) y.frame ≡ true
+pub in_room : (x y : Activation) (p t : Bool) → x ≡ y → t ≡ (p && lies_in_sram (frame_size x.long) x.frame) → t ≡ true
+    → lies_in_sram (frame_size y.long) y.frame ≡ true
 in_room x y p t e h g = ap (λ (v : Activation). lies_in_sram (frame_size v.long) v.frame) (sym e) ∙ go p (lies_in_sram (frame_size x.long) x.frame) (sym h ∙ g)
   where
     go : (a b : Bool) → (a && b) ≡ true → b ≡ true
@@ -132,7 +137,8 @@ module _ (r : Regs) (w : Window) (e : ℕ) (q : length r.qw ≡ 32) (k : CanEnte
   size = length-frame_bytes r w q
 
   left_byte : (j : ℕ) → j < frame_size r.fpca → get_or (activation r w e).bytes j 0 ≡ get_or (frame_bytes r w) j 0
-  left_byte j l = get_or_append_left (frame_bytes r w) (replicate (104 - frame_size r.fpca) 0) 0 j (let s : length (frame_bytes r w) ≡ frame_size r.fpca = size in omega arith)
+  left_byte j l = get_or_append_left (frame_bytes r w) (replicate (104 - frame_size r.fpca) 0) 0 j
+      (let s : length (frame_bytes r w) ≡ frame_size r.fpca = size in omega arith)
 
   long_enough : (t : Bool) → 31 < frame_size t
   long_enough true = omega arith
@@ -141,7 +147,8 @@ module _ (r : Regs) (w : Window) (e : ℕ) (q : length r.qw ≡ 32) (k : CanEnte
   psr_in : word_at (slice_index (activation r w e).bytes) 28 ≡ xpsr r w
   psr_in =
       let n : 31 < frame_size r.fpca = long_enough r.fpca in
-      same_word (slice_index (activation r w e).bytes) (slice_index (frame_bytes r w)) 28 28 (left_byte 28 (omega arith)) (left_byte 29 (omega arith)) (left_byte 30 (omega arith)) (left_byte 31 (omega arith))
+      same_word (slice_index (activation r w e).bytes) (slice_index (frame_bytes r w)) 28 28 (left_byte 28 (omega arith)) (left_byte 29 (omega arith))
+      (left_byte 30 (omega arith)) (left_byte 31 (omega arith))
       ∙ frame_word-back r w 7 q (omega arith) (words-fit r w range pc_fits (psr-below r w k it_fits) 7) ∙ word-psr r w
 
   pub entered-window : window_in (activation r w e) ≡ w

@@ -1,5 +1,6 @@
 -- The words of a frame by their numbers, and their bytes.
-use Rattle.std.proofs.Common.{◌≡◌, ℕ, zero, suc, ◌+◌, ◌-◌, ◌*◌, ◌/◌, ◌%◌, ◌^◌, ◌<◌, ◌≤◌, Bool, true, false, List, [], ◌∷◌, ◌++◌, length, get_or, take, arith, refl, sym, ◌∙◌, ap}
+use Rattle.std.proofs.Common.{◌≡◌, ℕ, zero, suc, ◌+◌, ◌-◌, ◌*◌, ◌/◌, ◌%◌, ◌^◌, ◌<◌, ◌≤◌, Bool, true, false, List, [], ◌∷◌, ◌++◌, length, get_or, take, arith}
+use Rattle.std.proofs.Common.{refl, sym, ◌∙◌, ap}
 use Rattle.std.specs.Prelude.{if◌then◌else◌, slice_index}
 use Rattle.std.proofs.lemmas.List.{get_or-take, get_or_append_left, get_or-append_right, length-take, length-append}
 use Rattle.hm_base.specs.Image.{word_at}
@@ -34,7 +35,8 @@ word-bytes_of xs k l fits =
     let d : (4 * k + i) / 4 ≡ k = omega arith in
     let m : (4 * k + i) % 4 ≡ i = omega arith in
     get_or-bytes_of xs (4 * k + i) (omega arith) ∙ (λ j. byte_of (get_or xs (d j) 0) (m j))) in
-    let first : get_or (bytes_of xs) (4 * k) 0 ≡ byte_of (get_or xs k 0) 0 = ap (λ (i : ℕ). get_or (bytes_of xs) i 0) (let e : 4 * k ≡ 4 * k + 0 = omega arith in e) ∙ at 0 (omega arith) in
+    let first : get_or (bytes_of xs) (4 * k) 0 ≡ byte_of (get_or xs k 0) 0 =
+    ap (λ (i : ℕ). get_or (bytes_of xs) i 0) (let e : 4 * k ≡ 4 * k + 0 = omega arith in e) ∙ at 0 (omega arith) in
     (λ j. first j + 0x100 * at 1 (omega arith) j + 0x10000 * at 2 (omega arith) j + 0x1000000 * at 3 (omega arith) j)
     ∙ four_bytes (get_or xs k 0) fits
 
@@ -47,7 +49,8 @@ first_four xs ys (suc (suc (suc zero))) h = refl
 first_four xs ys (suc (suc (suc (suc k)))) h = absurd (omega arith)
 
 length-context : (r : Regs) → length r.qw ≡ 32 → length (context_words r) ≡ 18
-length-context r q = length-append (take 16 r.qw) (r.fpscr ∷ r.vpr ∷ []) ∙ (let e : length (take 16 r.qw) ≡ 16 = length-take 16 r.qw ∙ omega arith in omega arith)
+length-context r q = length-append (take 16 r.qw) (r.fpscr ∷ r.vpr ∷ [])
+    ∙ (let e : length (take 16 r.qw) ≡ 16 = length-take 16 r.qw ∙ omega arith in omega arith)
 
 module _ (r : Regs) (w : Window) where
   unfolding-words : (t : Bool) → r.fpca ≡ t → frame_words r w ≡ basic_words r w ++ (if t then context_words r else [])

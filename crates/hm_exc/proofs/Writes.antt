@@ -33,7 +33,8 @@ devices_of false y z e = absurd (cc)
 here : {A : Type 0} (f k b : ℕ) (y z u v : A) → b ≡ f + k → y ≡ u → (if true && covers (f + k) 1 b then y else z) ≡ (if covers f (k + 1) b then u else v)
 here f k b y z u v e h = grind (arith, nat_tests)
 
-elsewhere : {A : Type 0} (f k b : ℕ) (y u v : A) → b ≢ f + k → (if true && covers (f + k) 1 b then y else (if covers f k b then u else v)) ≡ (if covers f (k + 1) b then u else v)
+elsewhere : {A : Type 0} (f k b : ℕ) (y u v : A) → b ≢ f + k
+    → (if true && covers (f + k) 1 b then y else (if covers f k b then u else v)) ≡ (if covers f (k + 1) b then u else v)
 elsewhere f k b y u v e = grind (arith, nat_tests)
 
 lies : (n f k : ℕ) → lies_in_sram n f ≡ true → k < n → lies_in_sram 1 (f + k) ≡ true
@@ -42,7 +43,8 @@ lies n f k h l = grind (arith, nat_tests)
 byte_zero : (v k : ℕ) → v < 256 → k ≡ 0 → byte_of v k ≡ v
 byte_zero v k l e = ap (byte_of v) e ∙ omega arith
 
-module _ (x : Activation) (k v : ℕ) (s t first : Seen) (h : lies_in_sram (frame_size x.long) x.frame ≡ true) (l : k < frame_size x.long) (small : v < 256) (is : v ≡ get_or x.bytes k 0) where
+module _ (x : Activation) (k v : ℕ) (s t first : Seen) (h : lies_in_sram (frame_size x.long) x.frame ≡ true) (l : k < frame_size x.long) (small : v < 256)
+    (is : v ≡ get_or x.bytes k 0) where
   byte_at_one : (b : ℕ) (e : Bool) → nat_eq b (x.frame + k) ≡ e
       → (if true && covers (x.frame + k) 1 b then byte_of v (b - (x.frame + k)) else (written x k first).byte b) ≡ (written x (k + 1) first).byte b
   byte_at_one b true e =
@@ -64,7 +66,8 @@ module _ (x : Activation) (k v : ℕ) (s t first : Seen) (h : lies_in_sram (fram
   stored_one =
       let z : lies_in_sram 1 (x.frame + k) ≡ true = lies (frame_size x.long) x.frame k h l in
       one_seen (after_store true 1 (x.frame + k) v (written x k first)) (written x (k + 1) first)
-      (λ b. ap (λ (q : Bool). if q && covers (x.frame + k) 1 b then byte_of v (b - (x.frame + k)) else (written x k first).byte b) z ∙ byte_at_one b (nat_eq b (x.frame + k)) refl)
+      (λ b. ap (λ (q : Bool). if q && covers (x.frame + k) 1 b then byte_of v (b - (x.frame + k)) else (written x k first).byte b) z
+      ∙ byte_at_one b (nat_eq b (x.frame + k)) refl)
       (λ b. ap (λ (q : Bool). if q && covers (x.frame + k) 1 b then true else (written x k first).taint b) z ∙ taint_at_one b (nat_eq b (x.frame + k)) refl)
       (devices_of (lies_in_sram 1 (x.frame + k)) first.devices _ z)
 

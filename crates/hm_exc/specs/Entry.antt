@@ -1,7 +1,8 @@
--- What an entry does: `entry_refusal`; `entered_registers`, to the vector `vector_of`; the `activation` that it puts away, and the position that is seen in one,
--- `window_in`; `entered_memory`. When it may be done, `CanEnter`, and what an activation is that an entry made, `FitsEntry`. The list of activations, `newest_first`,
--- and who accesses the memory under it, `actor_under`.
-use Rattle.std.specs.Prelude.{ℕ, ◌≡◌, ◌-◌, ◌%◌, ◌<◌, Bool, true, false, not, ◌==◌, if◌then◌else◌, List, [], ◌∷◌, ◌++◌, reverse, take, slice_index, Option, Some, None, Result, Ok, Err}
+-- What an entry does: `entry_refusal`; `entered_registers`, to the vector `vector_of`; the `activation` that it puts away, and the position that is
+-- seen in one, `window_in`; `entered_memory`. When it may be done, `CanEnter`, and what an activation is that an entry made, `FitsEntry`. The list of
+-- activations, `newest_first`, and who accesses the memory under it, `actor_under`.
+use Rattle.std.specs.Prelude.{ℕ, ◌≡◌, ◌-◌, ◌%◌, ◌<◌, Bool, true, false, not, ◌==◌, if◌then◌else◌, List, [], ◌∷◌, ◌++◌, reverse, take, slice_index, Option, Some}
+use Rattle.std.specs.Prelude.{None, Result, Ok, Err}
 use Rattle.std.proofs.Math.ListN.{replicate}
 use Rattle.arrayvec.specs.ArrayVec.{ArrayVec}
 use Rattle.hm_base.specs.Image.{word_at}
@@ -19,7 +20,8 @@ use Rattle.hm_sys.specs.Exceptions.{accepted}
 use Rattle.hm_window.specs.Positions.{may_end}
 use Rattle.hm_window.specs.declared.rule.Window.{Window}
 
--- EXC_RETURN (DDI0553, "EXC_RETURN"): bits 2, 3 and 4 say that the frame lies on the process stack, that a thread was interrupted, and that the frame has no context
+-- EXC_RETURN (DDI0553, "EXC_RETURN"): bits 2, 3 and 4 say that the frame lies on the process stack, that a thread was interrupted, and that the frame
+-- has no context
 abbrev pub return_value : Regs → ℕ
 return_value r =
     if r.ipsr == 0 then (if r.spsel then (if r.fpca then 0xffffffac else 0xffffffbc) else (if r.fpca then 0xffffffa8 else 0xffffffb8))

@@ -1,7 +1,8 @@
 -- The frame of an entry: `xpsr`; `frame_words` and `frame_bytes`; `frame_size`, `frame_base` and `has_room`; the position in xPSR, `psr_window`; and the
 -- vector, `vector_address` and `is_vector`.
 use Rattle.hm_mem.specs.Memory.{Bounds}
-use Rattle.std.specs.Prelude.{ℕ, ◌+◌, ◌-◌, ◌*◌, ◌/◌, ◌%◌, ◌^◌, Bool, ◌&&◌, ◌==◌, nat_le, if◌then◌else◌, List, [], ◌∷◌, ◌++◌, take, slice_index, Option, Some, None}
+use Rattle.std.specs.Prelude.{ℕ, ◌+◌, ◌-◌, ◌*◌, ◌/◌, ◌%◌, ◌^◌, Bool, ◌&&◌, ◌==◌, nat_le, if◌then◌else◌, List, [], ◌∷◌, ◌++◌, take, slice_index, Option, Some}
+use Rattle.std.specs.Prelude.{None}
 use Rattle.hm_base.specs.Bits.{field}
 use Rattle.hm_base.specs.Image.{word_at}
 use Rattle.hm_mem.specs.Devices.{byte_of}

@@ -2,7 +2,8 @@
 
 ghost use Rattle.std.specs.Prelude.{ℕ, ◌≡◌, ◌+◌, ◌-◌, ◌*◌, ◌%◌, ◌^◌, ◌<◌, ◌≤◌, ◌&&◌, nat_le, IsTrue, OnOk, OnErr, ◌∷◌, slice_index, if◌then◌else◌};
 ghost use Rattle.arrayvec.specs.ArrayVec.{array_vec_len};
-ghost use Rattle.hm_exc.specs.Entry.{CanEnter, FitsEntry, Passes, activation, entered_memory, entered_registers, entry_refusal, main_after, newest_first, refused_by, vector_of, window_in};
+ghost use Rattle.hm_exc.specs.Entry.{CanEnter, FitsEntry, Passes, activation, entered_memory, entered_registers, entry_refusal, main_after, newest_first};
+ghost use Rattle.hm_exc.specs.Entry.{refused_by, vector_of, window_in};
 ghost use Rattle.hm_exc.specs.Frame.{floor_for, frame_size, vector_address};
 ghost use Rattle.hm_exc.specs.Written.{written};
 ghost use Rattle.hm_mem.specs.Memory.{memory_of};
@@ -104,8 +105,8 @@ fn has_room(m: &Mem, x: &Activation) -> bool
 /// A tick may end at `w`, the exception number is below 512, the IT byte is 0 or has a bit among its lowest four, and it is 0 inside an instruction; SPSEL is
 /// false in a handler. `acts` is not full.
 ///
-/// Refused are, and then nothing is changed, StackSpent with SP exactly where the frame does not lie in SRAM from the floor of its stack on, and else Vector with the
-/// address in the vector table exactly where no word of memory with bit 0 set stands there.
+/// Refused are, and then nothing is changed, StackSpent with SP exactly where the frame does not lie in SRAM from the floor of its stack on, and else
+/// Vector with the address in the vector table exactly where no word of memory with bit 0 set stands there.
 pub fn enter(r: &mut Regs, m: &mut Mem, w: Window, e: u16, acts: &mut Acts) -> Result<(), EnterErr>
     requires state { CanEnter r.old w }
     requires exception { IsException e }

@@ -228,10 +228,12 @@ fn actor_of(acts: &Acts) -> Actor
 pub fn leave(r: &mut Regs, m: &mut Mem, value: u32, acts: &mut Acts) -> Result<Window, Broken>
     requires some { 0 < array_vec_len acts.old }
     requires fits { (x : Activation) (rest : List Activation) → newest_first acts.old ≡ x ∷ rest → FitsEntry x }
-    ensures broken { (x : Activation) (rest : List Activation) → newest_first acts.old ≡ x ∷ rest → broken_in result ≡ return_rule r.old (byte_at (memory_of m.old)) value x }
+    ensures broken { (x : Activation) (rest : List Activation) → newest_first acts.old ≡ x ∷ rest
+        → broken_in result ≡ return_rule r.old (byte_at (memory_of m.old)) value x }
     ensures registers { (x : Activation) (rest : List Activation) → newest_first acts.old ≡ x ∷ rest → OnOk result (r.new ≡ x.regs) }
     ensures position { (x : Activation) (rest : List Activation) → newest_first acts.old ≡ x ∷ rest → IfOk result (λ w. w ≡ window_in x) }
-    ensures memory { (x : Activation) (rest : List Activation) → newest_first acts.old ≡ x ∷ rest → OnOk result (memory_of m.new ≡ with_actor (actor_under rest) (memory_of m.old)) }
+    ensures memory { (x : Activation) (rest : List Activation) → newest_first acts.old ≡ x ∷ rest
+        → OnOk result (memory_of m.new ≡ with_actor (actor_under rest) (memory_of m.old)) }
     ensures acts { (x : Activation) (rest : List Activation) → newest_first acts.old ≡ x ∷ rest → OnOk result (newest_first acts.new ≡ rest) }
     ensures same_registers { OnErr result (r.new ≡ r.old) }
     ensures same_memory { OnErr result (memory_of m.new ≡ memory_of m.old) }

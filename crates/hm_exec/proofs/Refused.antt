@@ -17,4 +17,5 @@ pub refused_is : (v : Vector) (r : Regs) (m : Memory) (output : List ℕ) (q : B
 unfolding state_of
 refused_is v r m output q e =
     ap (λ (y : Bool). cond y (Some (record { kind = InvState; addr = r.pc })) None) e
-    ∙ ap (λ (n : ℕ). cond (not (nat_eq r.it 0) || (writes_lr v && nat_lt n 4 && r.fpca)) (Some (record { kind = InvState; addr = r.pc })) None) (sym (at_is Ltp r m output tt refl))
+    ∙ ap (λ (n : ℕ). cond (not (nat_eq r.it 0) || (writes_lr v && nat_lt n 4 && r.fpca)) (Some (record { kind = InvState; addr = r.pc })) None)
+    (sym (at_is Ltp r m output tt refl))

@@ -1,5 +1,6 @@
 -- The best of a whole register is that of its words, one after another.
-use Rattle.std.proofs.Common.{◌≡◌, ℕ, ◌+◌, ◌-◌, ◌%◌, ◌^◌, ◌<◌, ◌≤◌, Bool, true, false, ◌||◌, ◌⊎◌, inl, inr, cond, eqb, ltb, nat_eq, length, List, [], ◌∷◌, ◌++◌, map, refl, sym, ◌∙◌, ap, arith, ne_eqb, eq-eqb, ℤ, pos, ◌-ℤ◌, int_lt, unsigned_abs}
+use Rattle.std.proofs.Common.{◌≡◌, ℕ, ◌+◌, ◌-◌, ◌%◌, ◌^◌, ◌<◌, ◌≤◌, Bool, true, false, ◌||◌, ◌⊎◌, inl, inr, cond, eqb, ltb, nat_eq, length, List, [], ◌∷◌, ◌++◌}
+use Rattle.std.proofs.Common.{map, refl, sym, ◌∙◌, ap, arith, ne_eqb, eq-eqb, ℤ, pos, ◌-ℤ◌, int_lt, unsigned_abs}
 use Rattle.std.proofs.lemmas.Int.{int_rem_euclid_is, ints}
 use Rattle.std.specs.Int.{int_rem_euclid}
 use Rattle.hm_base.specs.Place.{fit}
@@ -29,9 +30,12 @@ back : (z : Size) (b : Bool) (x : ℕ) → x < modulus z → cut Word (cond b (p
 back Byte true x h = omega arith
 back Half true x h = omega arith
 back Word true x h = omega arith
-back Byte false x h = ap (λ v. unsigned_abs v % 2 ^ 8) (negative (2 ^ 8) x h (omega arith)) ∙ (let e : (x + (2 ^ 32 - 2 ^ 8)) % 2 ^ 32 % 2 ^ 8 ≡ x = omega arith in e)
-back Half false x h = ap (λ v. unsigned_abs v % 2 ^ 16) (negative (2 ^ 16) x h (omega arith)) ∙ (let e : (x + (2 ^ 32 - 2 ^ 16)) % 2 ^ 32 % 2 ^ 16 ≡ x = omega arith in e)
-back Word false x h = ap (λ v. unsigned_abs v % 2 ^ 32) (negative (2 ^ 32) x h (omega arith)) ∙ (let e : (x + (2 ^ 32 - 2 ^ 32)) % 2 ^ 32 % 2 ^ 32 ≡ x = omega arith in e)
+back Byte false x h = ap (λ v. unsigned_abs v % 2 ^ 8) (negative (2 ^ 8) x h (omega arith))
+    ∙ (let e : (x + (2 ^ 32 - 2 ^ 8)) % 2 ^ 32 % 2 ^ 8 ≡ x = omega arith in e)
+back Half false x h = ap (λ v. unsigned_abs v % 2 ^ 16) (negative (2 ^ 16) x h (omega arith))
+    ∙ (let e : (x + (2 ^ 32 - 2 ^ 16)) % 2 ^ 32 % 2 ^ 16 ≡ x = omega arith in e)
+back Word false x h = ap (λ v. unsigned_abs v % 2 ^ 32) (negative (2 ^ 32) x h (omega arith))
+    ∙ (let e : (x + (2 ^ 32 - 2 ^ 32)) % 2 ^ 32 % 2 ^ 32 ≡ x = omega arith in e)
 
 -- a number that a lane holds
 record Held (u : Bool) (z : Size) (v : ℤ) : Type 0 where
@@ -75,24 +79,28 @@ module _ (name : ExtremeName) (u : Bool) (s : State) (x : ℕ → ℕ) where
   abbrev word_best : Size → ℕ → ℤ → ℤ
   word_best z b v = best name (firsts z (active_at b s)) (map (number u z) (lanes z (bytes_of (x b)))) v
 
-  whole_best : (z : Size) (v : ℤ) → (let B = word_best z in best name (firsts z (predicate_at s)) (map (number u z) (lanes z (four x))) v ≡ B 3 (B 2 (B 1 (B 0 v))))
+  whole_best : (z : Size) (v : ℤ)
+      → (let B = word_best z in best name (firsts z (predicate_at s)) (map (number u z) (lanes z (four x))) v ≡ B 3 (B 2 (B 1 (B 0 v))))
   whole_best Byte v =
       let B = word_best Byte in
       let F : ℕ → List Bool = λ b. firsts Byte (active_at b s) in
       let L : ℕ → List ℤ = λ b. map (number u Byte) (lanes Byte (bytes_of (x b))) in
-      best-append name u Byte (F 0) (F 1 ++ F 2 ++ F 3) (L 0) (L 1 ++ L 2 ++ L 3) v refl ∙ best-append name u Byte (F 1) (F 2 ++ F 3) (L 1) (L 2 ++ L 3) (B 0 v) refl
+      best-append name u Byte (F 0) (F 1 ++ F 2 ++ F 3) (L 0) (L 1 ++ L 2 ++ L 3) v refl
+      ∙ best-append name u Byte (F 1) (F 2 ++ F 3) (L 1) (L 2 ++ L 3) (B 0 v) refl
       ∙ best-append name u Byte (F 2) (F 3) (L 2) (L 3) (B 1 (B 0 v)) refl
   whole_best Half v =
       let B = word_best Half in
       let F : ℕ → List Bool = λ b. firsts Half (active_at b s) in
       let L : ℕ → List ℤ = λ b. map (number u Half) (lanes Half (bytes_of (x b))) in
-      best-append name u Half (F 0) (F 1 ++ F 2 ++ F 3) (L 0) (L 1 ++ L 2 ++ L 3) v refl ∙ best-append name u Half (F 1) (F 2 ++ F 3) (L 1) (L 2 ++ L 3) (B 0 v) refl
+      best-append name u Half (F 0) (F 1 ++ F 2 ++ F 3) (L 0) (L 1 ++ L 2 ++ L 3) v refl
+      ∙ best-append name u Half (F 1) (F 2 ++ F 3) (L 1) (L 2 ++ L 3) (B 0 v) refl
       ∙ best-append name u Half (F 2) (F 3) (L 2) (L 3) (B 1 (B 0 v)) refl
   whole_best Word v =
       let B = word_best Word in
       let F : ℕ → List Bool = λ b. firsts Word (active_at b s) in
       let L : ℕ → List ℤ = λ b. map (number u Word) (lanes Word (bytes_of (x b))) in
-      best-append name u Word (F 0) (F 1 ++ F 2 ++ F 3) (L 0) (L 1 ++ L 2 ++ L 3) v refl ∙ best-append name u Word (F 1) (F 2 ++ F 3) (L 1) (L 2 ++ L 3) (B 0 v) refl
+      best-append name u Word (F 0) (F 1 ++ F 2 ++ F 3) (L 0) (L 1 ++ L 2 ++ L 3) v refl
+      ∙ best-append name u Word (F 1) (F 2 ++ F 3) (L 1) (L 2 ++ L 3) (B 0 v) refl
       ∙ best-append name u Word (F 2) (F 3) (L 2) (L 3) (B 1 (B 0 v)) refl
 
   lanes_below : (z : Size) (y : ℕ) → Each (λ l. l < modulus z) (lanes z (bytes_of y))
@@ -204,4 +212,5 @@ module _ (r : V23) (s : State) (runs : (ltb (at Ltp s) 4 ≡ false) ⊎ (eqb r.t
   extreme_is = (λ j. over (after_0 j) (after_1 j) (after_2 j) (after_3 j))
       ∙ ap retired (advances form_row s (with_value v3) refl refl)
       ∙ (λ j. retired (put_all cells (advance_half 0 s ++ advance_half 2 s) (put cells place (word (sym (fit_is (cut Word v3)) j)) s)))
-      ∙ (λ j. retired (put_all cells (advance_half 0 s ++ advance_half 2 s) (put cells place (word (fit (R r.t.value) (cut Word (sym (whole_best r.name u s x z start) j)))) s)))
+      ∙ (λ j. retired (put_all cells (advance_half 0 s ++ advance_half 2 s)
+      (put cells place (word (fit (R r.t.value) (cut Word (sym (whole_best r.name u s x z start) j)))) s)))

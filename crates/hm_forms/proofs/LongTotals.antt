@@ -1,5 +1,6 @@
 -- Sums of whole registers in two registers are those of their words, one after another.
-use Rattle.std.proofs.Common.{◌≡◌, ℕ, ◌+◌, ◌-◌, ◌*◌, ◌/◌, ◌%◌, ◌^◌, Bool, true, false, not, ◌&&◌, ◌⊎◌, inl, inr, cond, eqb, ltb, List, ◌++◌, refl, sym, ◌∙◌, ap, arith, ne_eqb, eq-eqb}
+use Rattle.std.proofs.Common.{◌≡◌, ℕ, ◌+◌, ◌-◌, ◌*◌, ◌/◌, ◌%◌, ◌^◌, Bool, true, false, not, ◌&&◌, ◌⊎◌, inl, inr, cond, eqb, ltb, List, ◌++◌, refl, sym, ◌∙◌, ap}
+use Rattle.std.proofs.Common.{arith, ne_eqb, eq-eqb}
 use Rattle.hm_base.specs.Place.{fit}
 use Rattle.hm_base.specs.declared.Place.TheVariants.{R, Mask01, Mask23, P0, Ltp}
 use Rattle.hm_lane.specs.Lanes.{bytes_of, firsts, lanes}
@@ -76,7 +77,8 @@ module _ (r : LongSums) (s : State) (runs : (ltb (at Ltp s) 4 ≡ false) ⊎ (eq
   held_low v = λ j. (cond (apart j) (word (v / 2 ^ 32)) (cond (eq-eqb (2 * r.l.value) (2 * r.l.value) refl j) (word (v % 2 ^ 32)) (s.cell low))).n
 
   held_high : (v : ℕ) → at (R (2 * r.h.value + 1)) (with_sum v) ≡ v / 2 ^ 32
-  held_high v = ap (λ q. (cond q (word (v / 2 ^ 32)) (cond (same_cell low high) (word (v % 2 ^ 32)) (s.cell high))).n) (eq-eqb (2 * r.h.value + 1) (2 * r.h.value + 1) refl)
+  held_high v = ap (λ q. (cond q (word (v / 2 ^ 32)) (cond (same_cell low high) (word (v % 2 ^ 32)) (s.cell high))).n)
+      (eq-eqb (2 * r.h.value + 1) (2 * r.h.value + 1) refl)
 
   held : (v : ℕ) → at (R (2 * r.l.value)) (with_sum v) + 2 ^ 32 * at (R (2 * r.h.value + 1)) (with_sum v) ≡ v
   held v = (λ j. held_low v j + 2 ^ 32 * held_high v j) ∙ joined v
@@ -93,7 +95,8 @@ module _ (r : LongSums) (s : State) (runs : (ltb (at Ltp s) 4 ≡ false) ⊎ (eq
 
   -- the sum after word b, from one in two parts
   abbrev sum_after : ℕ → List Bool → ℕ → ℕ
-  sum_after b active v = added (2 ^ 64) (long_term r) (firsts r.z active) (lanes r.z (bytes_of (x b))) (lanes r.z (bytes_of (y b))) (cond (not r.goes_on && eqb b 0) 0 v)
+  sum_after b active v = added (2 ^ 64) (long_term r) (firsts r.z active) (lanes r.z (bytes_of (x b))) (lanes r.z (bytes_of (y b)))
+      (cond (not r.goes_on && eqb b 0) 0 v)
 
   abbrev put_fit : ℕ → State → State
   put_fit v t = put cells high (word (fit (R (2 * r.h.value + 1)) (v / 2 ^ 32))) (put cells low (word (fit (R (2 * r.l.value)) (v % 2 ^ 32))) t)

@@ -1,5 +1,6 @@
 -- Sums of whole registers are those of their words, one after another.
-use Rattle.std.proofs.Common.{◌≡◌, ℕ, ◌+◌, ◌-◌, ◌*◌, ◌%◌, ◌^◌, Bool, true, false, not, ◌&&◌, ◌⊎◌, inl, inr, cond, eqb, ltb, leb, length, List, [], ◌∷◌, ◌++◌, refl, sym, ◌∙◌, ap, arith, ne_eqb, eq-eqb}
+use Rattle.std.proofs.Common.{◌≡◌, ℕ, ◌+◌, ◌-◌, ◌*◌, ◌%◌, ◌^◌, Bool, true, false, not, ◌&&◌, ◌⊎◌, inl, inr, cond, eqb, ltb, leb, length, List, [], ◌∷◌, ◌++◌}
+use Rattle.std.proofs.Common.{refl, sym, ◌∙◌, ap, arith, ne_eqb, eq-eqb}
 use Rattle.hm_base.specs.Place.{fit}
 use Rattle.hm_base.specs.declared.Place.TheVariants.{R, Mask01, Mask23, P0, Ltp}
 use Rattle.hm_lane.specs.declared.lanes.Size.{Size}
@@ -35,7 +36,8 @@ module _ (m : ℕ) (f : ℕ → ℕ → ℕ) where
   whole_added Byte s x y sum =
       let A = word_added Byte s x y in
       let L : ℕ → List ℕ = λ k. bytes_of k in
-      added-append (active_at 0 s) (active_at 1 s ++ active_at 2 s ++ active_at 3 s) (L (x 0)) (L (x 1) ++ L (x 2) ++ L (x 3)) (L (y 0)) (L (y 1) ++ L (y 2) ++ L (y 3)) sum refl refl
+      added-append (active_at 0 s) (active_at 1 s ++ active_at 2 s ++ active_at 3 s) (L (x 0)) (L (x 1) ++ L (x 2) ++ L (x 3)) (L (y 0))
+      (L (y 1) ++ L (y 2) ++ L (y 3)) sum refl refl
       ∙ added-append (active_at 1 s) (active_at 2 s ++ active_at 3 s) (L (x 1)) (L (x 2) ++ L (x 3)) (L (y 1)) (L (y 2) ++ L (y 3)) (A 0 sum) refl refl
       ∙ added-append (active_at 2 s) (active_at 3 s) (L (x 2)) (L (x 3)) (L (y 2)) (L (y 3)) (A 1 (A 0 sum)) refl refl
   whole_added Half s x y sum =
@@ -55,7 +57,8 @@ module _ (m : ℕ) (f : ℕ → ℕ → ℕ) where
 
 -- ACTIVE BYTES WHERE LR CHANGES
 remains_any : (size x y k : ℕ) → ltb size 4 ≡ false → remains size x k ≡ remains size y k
-remains_any size x y k e = (λ j. cond (e j && leb x (2 ^ (4 - size))) (ltb k (x * 2 ^ size)) true) ∙ (λ j. cond (sym e j && leb y (2 ^ (4 - size))) (ltb k (y * 2 ^ size)) true)
+remains_any size x y k e = (λ j. cond (e j && leb x (2 ^ (4 - size))) (ltb k (x * 2 ^ size)) true)
+    ∙ (λ j. cond (sym e j && leb y (2 ^ (4 - size))) (ltb k (y * 2 ^ size)) true)
 
 pub active_any : (b mask size x y slice : ℕ) → (ltb size 4 ≡ false) ⊎ (x ≡ y) → active_bytes b mask size x slice ≡ active_bytes b mask size y slice
 active_any b mask size x y slice (inl e) = λ j.
@@ -123,7 +126,9 @@ module _ (r : Sums) (s : State) (runs : (ltb (at Ltp s) 4 ≡ false) ⊎ (eqb (2
   sum_after b active v = sum_next r b active (v ∷ x b ∷ y b ∷ [])
 
   -- one more word
-  next : (b v : ℕ) → linked form_row b (with_sum v) ≡ put cells (At (R (2 * r.l.value))) (word (fit (R (2 * r.l.value)) (sum_after b (active_at b (with_sum v)) (at (R (2 * r.l.value)) (with_sum v))))) (with_sum v)
+  next : (b v : ℕ) → linked form_row b (with_sum v)
+      ≡ put cells (At (R (2 * r.l.value))) (word (fit (R (2 * r.l.value)) (sum_after b (active_at b (with_sum v)) (at (R (2 * r.l.value)) (with_sum v)))))
+      (with_sum v)
   next b v = refl
 
   step : (b v w : ℕ) → active_at b (with_sum v) ≡ active_at b s → sum_after b (active_at b s) v ≡ w → linked form_row b (with_sum v) ≡ with_sum w

@@ -36,11 +36,13 @@ predicate_whole l new s = retired (put_all cells (half_writes 0 (take 8 l) new s
 
 -- where a comparison of elements holds, of active bytes
 abbrev pub compare_result : Comparison → State → List Bool
-compare_result r s = both (filled r.z (paired_tests (compares r.c.value r.z) (elements r.z r.n.value s) (lanes r.z (operand_register r.z r.by s)))) (predicate_at s)
+compare_result r s = both (filled r.z (paired_tests (compares r.c.value r.z) (elements r.z r.n.value s) (lanes r.z (operand_register r.z r.by s))))
+    (predicate_at s)
 
 -- the bytes of the first elements, of active bytes
 abbrev pub count_result : Tail → State → List Bool
-count_result r s = both (map (λ k. ltb k (at (R r.n.value) s * 2 ^ r.z.value)) (0 ∷ 1 ∷ 2 ∷ 3 ∷ 4 ∷ 5 ∷ 6 ∷ 7 ∷ 8 ∷ 9 ∷ 10 ∷ 11 ∷ 12 ∷ 13 ∷ 14 ∷ 15 ∷ [])) (predicate_at s)
+count_result r s = both (map (λ k. ltb k (at (R r.n.value) s * 2 ^ r.z.value)) (0 ∷ 1 ∷ 2 ∷ 3 ∷ 4 ∷ 5 ∷ 6 ∷ 7 ∷ 8 ∷ 9 ∷ 10 ∷ 11 ∷ 12 ∷ 13 ∷ 14 ∷ 15 ∷ []))
+    (predicate_at s)
 
 -- P0 inverted, of active bytes
 abbrev pub invert_result : State → List Bool

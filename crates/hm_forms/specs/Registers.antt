@@ -32,7 +32,8 @@ use Rattle.hm_forms.specs.declared.offsets.Steps.{Steps}
 use Rattle.hm_forms.specs.declared.sums.Sums.{Sums}
 use Rattle.hm_isa.specs.declared.fields.Below.{Below}
 use Rattle.hm_forms.specs.Constants.{constant_op, imm_word}
-use Rattle.hm_forms.specs.Forms.{added, begins, best, every_second, exchanged, in_turn, widened, long_term, narrow_outside, narrow_saturates, narrowed, offset_after, offsets_from, product, shift_of, subtracts, term_of, complex_sum_lane}
+use Rattle.hm_forms.specs.Forms.{added, begins, best, every_second, exchanged, in_turn, widened, long_term, narrow_outside, narrow_saturates, narrowed}
+use Rattle.hm_forms.specs.Forms.{offset_after, offsets_from, product, shift_of, subtracts, term_of, complex_sum_lane}
 
 -- registers get these values, the masks advance, and the next instruction stands behind it
 abbrev pub advancing : List (Cell × Value) → State → State
@@ -89,7 +90,8 @@ constant_result r s = unlanes Word (paired (constant_op r) (words_at r.d.value s
 
 -- the bytes of one register where P0 has a bit, and those of the other elsewhere
 abbrev pub select_result : Select → State → List ℕ
-select_result r s = merged (truths (at (P0 0) s) ++ truths (at (P0 1) s) ++ truths (at (P0 2) s) ++ truths (at (P0 3) s)) (register_at r.m.value s) (register_at r.n.value s)
+select_result r s = merged (truths (at (P0 0) s) ++ truths (at (P0 1) s) ++ truths (at (P0 2) s) ++ truths (at (P0 3) s)) (register_at r.m.value s)
+    (register_at r.n.value s)
 
 -- new elements in the even places or in the odd ones, beside the old ones that stand in the others
 abbrev pub placed : Bool → List ℕ → List ℕ → List ℕ
@@ -103,7 +105,8 @@ placed_tests odd [] = []
 
 -- the wide elements of the operand, each narrowed to one of half the size
 abbrev pub narrowed_result : V16 → Size → Size → State → List ℕ
-narrowed_result r wide small s = unlanes small (placed (nat_eq r.t.value 1) (elements small r.d.value s) (map (narrowed r.name wide small) (elements wide r.m.value s)))
+narrowed_result r wide small s =
+    unlanes small (placed (nat_eq r.t.value 1) (elements small r.d.value s) (map (narrowed r.name wide small) (elements wide r.m.value s)))
 
 -- V16: the 16 new bytes of VMOVN, VQMOVN and VQMOVUN (DDI0553, "VMOVN", "VQMOVN" and "VQMOVUN")
 abbrev pub narrow_result : V16 → State → List ℕ

@@ -34,16 +34,19 @@ same_halt : (r q : Reason) (n m : ℕ) (s t : State) → halted r n s ≡ halted
 same_halt r q n m s t e = record { reason = cc; number = cc; state = cc }
 
 module _ (listing : Listing) (image : List Segment) where
-  later : (r q : Reason) (n m : ℕ) (s t : State) → in_order listing image n ≡ Halted r n s → in_order listing image m ≡ Halted q m t → n ≤ m → SameHalt r q n m s t
+  later : (r q : Reason) (n m : ℕ) (s t : State) → in_order listing image n ≡ Halted r n s → in_order listing image m ≡ Halted q m t → n ≤ m
+      → SameHalt r q n m s t
   later r q n m s t e f le =
       let stopped : HasStopped (in_order listing image n) = subst HasStopped (sym e) tt in
       same_halt r q n m s t (sym e ∙ sym (stopped_later listing image n m le stopped) ∙ f)
 
   one_halt : (r q : Reason) (n m : ℕ) (s t : State) → in_order listing image n ≡ Halted r n s → in_order listing image m ≡ Halted q m t → SameHalt r q n m s t
   one_halt r q n m s t e f =
-      ⊎_elim (λ le. later r q n m s t e f le) (λ le. let h = later q r m n t s f e le in record { reason = sym h.reason; number = sym h.number; state = sym h.state }) (either_way n m)
+      ⊎_elim (λ le. later r q n m s t e f le)
+      (λ le. let h = later q r m n t s f e le in record { reason = sym h.reason; number = sym h.number; state = sym h.state }) (either_way n m)
 
-  alike : (x y : Timed) (r q : Reason) (n m : ℕ) → HaltsInOrder listing image (report_text x) (memory_text x) r n → HaltsInOrder listing image (report_text y) (memory_text y) q m
+  alike : (x y : Timed) (r q : Reason) (n m : ℕ) → HaltsInOrder listing image (report_text x) (memory_text x) r n
+      → HaltsInOrder listing image (report_text y) (memory_text y) q m
       → HaltAlike x y r q n m
   alike x y r q n m h k =
       let same = one_halt r q n m h.state k.state h.halts k.halts in
@@ -54,7 +57,8 @@ module _ (listing : Listing) (image : List Segment) where
         bytes = λ j lt clean clear. h.bytes j lt clean ∙ ap (λ (s : State). (s.cell (Byte (sram_start + j))).n) same.state ∙ sym (k.bytes j lt clear);
       }
 
-  pub alike_every : (s u : Sched) (r q : Reason) (n m : ℕ) → (run_out listing image s).outcome ≡ Some (outcome.Halted r n) → (run_out listing image u).outcome ≡ Some (outcome.Halted q m)
+  pub alike_every : (s u : Sched) (r q : Reason) (n m : ℕ) → (run_out listing image s).outcome ≡ Some (outcome.Halted r n)
+      → (run_out listing image u).outcome ≡ Some (outcome.Halted q m)
       → HaltAlike (shown (run_out listing image s)) (shown (run_out listing image u)) r q n m
   alike_every s u r q n m e f =
       alike (shown (run_out listing image s)) (shown (run_out listing image u)) r q n m

@@ -1,6 +1,7 @@
 -- What an entry puts away is what a return gives back.
 use Rattle.hm_mem.specs.Memory.{Bounds}
-use Rattle.std.proofs.Common.{◌≡◌, ℕ, ◌+◌, ◌-◌, ◌*◌, ◌/◌, ◌%◌, ◌^◌, ◌<◌, Bool, true, false, cond, not, nat_le, List, length, get_or, Option, Some, None, arith, refl, sym, ◌∙◌, ap, subst}
+use Rattle.std.proofs.Common.{◌≡◌, ℕ, ◌+◌, ◌-◌, ◌*◌, ◌/◌, ◌%◌, ◌^◌, ◌<◌, Bool, true, false, cond, not, nat_le, List, length, get_or, Option, Some, None, arith}
+use Rattle.std.proofs.Common.{refl, sym, ◌∙◌, ap, subst}
 use Rattle.std.specs.Prelude.{slice_index}
 use Rattle.std.proofs.Math.ListN.{replicate}
 use Rattle.std.proofs.lemmas.List.{get_or_append_left, take_at}
@@ -50,7 +51,8 @@ module _ (r : Regs) (w : Window) (e : ℕ) (count : length r.qw ≡ 32) (can : C
 
   psr_in : word_at (slice_index (activation r w e).bytes) 28 ≡ xpsr r w
   psr_in = word_back (slice_index (activation r w e).bytes) (xpsr r w) (psr-below r w can fits)
-      (psr_byte 28 0 (omega arith) refl refl) (psr_byte 29 1 (omega arith) refl refl) (psr_byte 30 2 (omega arith) refl refl) (psr_byte 31 3 (omega arith) refl refl)
+      (psr_byte 28 0 (omega arith) refl refl) (psr_byte 29 1 (omega arith) refl refl) (psr_byte 30 2 (omega arith) refl refl)
+      (psr_byte 31 3 (omega arith) refl refl)
 
   pub position_back : window_in (activation r w e) ≡ w
   position_back = ap psr_window psr_in ∙ psr-window r w can fits
@@ -101,8 +103,10 @@ registers_back : (s : State) (actor : Actor) (t : State) → regs_of (restored (
 unfolding regs_of
 registers_back s actor t = refl
 
-pub stacked_by : (bounds : Bounds) (e : ℕ) (c : Config State) (acts : List Interrupted) → IsException e → CanEnter (regs_of c.state) (position_of c) → IsBlockByte c.state.rest.it
-    → FitsInside c → c.state.rest.ipsr ≡ number_under acts → entry_refusal bounds (regs_of c.state) (seen_in c.state) e ≡ None → IsStacked (interrupted_by e c) acts
+pub stacked_by : (bounds : Bounds) (e : ℕ) (c : Config State) (acts : List Interrupted) → IsException e → CanEnter (regs_of c.state) (position_of c)
+    → IsBlockByte c.state.rest.it
+    → FitsInside c → c.state.rest.ipsr ≡ number_under acts → entry_refusal bounds (regs_of c.state) (seen_in c.state) e ≡ None
+    → IsStacked (interrupted_by e c) acts
 stacked_by bounds e c acts exception can block inside number free =
     let r = regs_of c.state in
     let w = position_of c in

@@ -1,12 +1,14 @@
 -- Which bytes an instruction that is no vector row taints.
-use Rattle.std.proofs.Common.{◌≡◌, ◌⊎◌, ℕ, zero, suc, ◌+◌, ◌-◌, ◌<◌, ◌≤◌, Bool, true, false, cond, not, ◌&&◌, ◌||◌, List, [], ◌∷◌, length, Option, Some, None, Result, Ok, Err, inl, inr, ⊎_elim, refl, sym, ◌∙◌, ap, subst, arith, add-zero}
+use Rattle.std.proofs.Common.{◌≡◌, ◌⊎◌, ℕ, zero, suc, ◌+◌, ◌-◌, ◌<◌, ◌≤◌, Bool, true, false, cond, not, ◌&&◌, ◌||◌, List, [], ◌∷◌, length, Option, Some, None}
+use Rattle.std.proofs.Common.{Result, Ok, Err, inl, inr, ⊎_elim, refl, sym, ◌∙◌, ap, subst, arith, add-zero}
 use Rattle.std.proofs.lemmas.Bool.Decides.{nat_tests}
 use Rattle.hm_base.specs.declared.FaultKind.{FaultKind}
 use Rattle.hm_base.specs.declared.Stop.{Stop}
 use Rattle.hm_isa.specs.declared.Instr.{Instr}
 use Rattle.hm_mem.specs.Devices.{IsLen, sets_pending, word_at}
 use Rattle.hm_mem.specs.Memory.{Around, thread_under, Bounds}
-use Rattle.hm_mem.specs.Seen.{Seen, after_load, after_store, covers, fault_kind, is_allowed, is_denied, lies_in_sram, marks, or_else, some_byte, stop_after, stop_of, unless}
+use Rattle.hm_mem.specs.Seen.{Seen, after_load, after_store, covers, fault_kind, is_allowed, is_denied, lies_in_sram, marks, or_else, some_byte, stop_after}
+use Rattle.hm_mem.specs.Seen.{stop_of, unless}
 use Rattle.hm_mem.specs.declared.Access.{Access}
 use Rattle.hm_order.proofs.Results.{decide, ok_err, ok_same, true_not_false}
 use Rattle.hm_state.specs.State.{State, Byte, regs_of}
@@ -103,13 +105,15 @@ module _ (frame : ℕ) (bounds : Bounds) where
   x = under_handler frame bounds
 
   -- the bytes of an access that is not denied, in SRAM
-  pub all_allowed : (len a : ℕ) → IsLen len → lies_in_sram len a ≡ true → is_denied bounds frame len a ≡ false → (k : ℕ) → k < len → Allowed frame bounds (a + k)
+  pub all_allowed : (len a : ℕ) → IsLen len → lies_in_sram len a ≡ true → is_denied bounds frame len a ≡ false → (k : ℕ) → k < len
+      → Allowed frame bounds (a + k)
   all_allowed len a is lies free k l =
       let bytes : some_byte len (λ b. not (is_allowed bounds frame b)) a ≡ false
       = sym (ap (λ (q : Bool). cond q (some_byte len (λ b. not (is_allowed bounds frame b)) a) (not (sets_pending (word_at a)))) lies) ∙ free in
       not_false (is_allowed bounds frame (a + k)) (free_at (λ b. not (is_allowed bounds frame b)) a len is bytes k l)
 
-  store_grows : (how : Access) (len a v : ℕ) (s : Seen) → IsLen len → stop_of x how true len a s ≡ None → SeenGrows (Allowed frame bounds) s (after_store true len a v s)
+  store_grows : (how : Access) (len a v : ℕ) (s : Seen) → IsLen len → stop_of x how true len a s ≡ None
+      → SeenGrows (Allowed frame bounds) s (after_store true len a v s)
   store_grows how len a v s is free b tainted =
       decide (lies_in_sram len a && covers a len b)
       (λ there.
@@ -119,7 +123,8 @@ module _ (frame : ℕ) (bounds : Bounds) where
       let k : b - a < len = omega arith in
       let at : a + (b - a) ≡ b = omega arith in
       inr (subst (Allowed frame bounds) at
-      (all_allowed len a is (and_first (lies_in_sram len a) (covers a len b) there) (kept_none (fault_kind false how true len a) (is_denied bounds frame len a) a free) (b - a) k)))
+      (all_allowed len a is (and_first (lies_in_sram len a) (covers a len b) there)
+      (kept_none (fault_kind false how true len a) (is_denied bounds frame len a) a free) (b - a) k)))
       (λ other. inl (sym (ap (λ (q : Bool). cond q true (s.taint b)) other) ∙ tainted))
 
 -- of the thread, which taints none
@@ -167,15 +172,18 @@ module _ (x : Around) (P : ℕ → Type 0)
   run_grows (Ends w r) is s = seen_none P s
   run_grows (Faults k a) is s = tt
   run_grows (Loads how len n a f) is s =
-      unless_grows s _ _ (λ e. later s (after_loads len n a s) _ (λ b h. inl (sym (loads_taint len n a s b) ∙ h)) (run_grows (f (words len n a s)) (is (words len n a s)) (after_loads len n a s)))
+      unless_grows s _ _ (λ e. later s (after_loads len n a s) _ (λ b h. inl (sym (loads_taint len n a s b) ∙ h))
+      (run_grows (f (words len n a s)) (is (words len n a s)) (after_loads len n a s)))
   run_grows (Stores how len a xs d) is s =
-      unless_grows s _ _ (λ e. later s (after_stores (marks x.actor) len a xs s) _ (stores_grow how len a xs s s is.0 e) (run_grows d is.1 (after_stores (marks x.actor) len a xs s)))
+      unless_grows s _ _ (λ e. later s (after_stores (marks x.actor) len a xs s) _ (stores_grow how len a xs s s is.0 e)
+      (run_grows d is.1 (after_stores (marks x.actor) len a xs s)))
 
   finish_grows : (n : ℕ) (s : Seen) (r : Result Done Stop) → DoneGrows s r → (y : Stepped) → finish n r ≡ Ok y → SeenGrows P s y.seen
   finish_grows n s (Ok d) h y e = subst (λ (z : Stepped). SeenGrows P s z.seen) (ok_same e) h
   finish_grows n s (Err f) h y e = absurd (ok_err (sym e))
 
-  goes_grows : (s : State) (q : Result Stepped Stop) → ((y : Stepped) → q ≡ Ok y → SeenGrows P (seen_in s) y.seen) → (y : Went) → goes_from s q ≡ Ok y → Grows P s y.state
+  goes_grows : (s : State) (q : Result Stepped Stop) → ((y : Stepped) → q ≡ Ok y → SeenGrows P (seen_in s) y.seen) → (y : Went) → goes_from s q ≡ Ok y
+      → Grows P s y.state
   unfolding state_with
   goes_grows s (Ok q) h y e = subst (λ (z : Went). Grows P s z.state) (ok_same e) (h q refl)
   goes_grows s (Err f) h y e = absurd (ok_err (sym e))
@@ -183,9 +191,11 @@ module _ (x : Around) (P : ℕ → Type 0)
   pub scalar_grows : (i : Instr) (s : State) (y : Went) → scalar_in_machine x i s ≡ Ok y → Grows P s y.state
   scalar_grows i s y e =
       goes_grows s (step (in_machine x) i (regs_of s) (seen_in s))
-      (λ z f. finish_grows (width i) (seen_in s) (run (in_machine x) (in_block i (regs_of s)) (seen_in s)) (run_grows (in_block i (regs_of s)) (stores_sized i (regs_of s)) (seen_in s)) z f) y e
+      (λ z f. finish_grows (width i) (seen_in s) (run (in_machine x) (in_block i (regs_of s)) (seen_in s))
+      (run_grows (in_block i (regs_of s)) (stores_sized i (regs_of s)) (seen_in s)) z f) y e
 
-pub handler_scalar : (frame : ℕ) (bounds : Bounds) (i : Instr) (s : State) (y : Went) → scalar_in_machine (under_handler frame bounds) i s ≡ Ok y → Grows (Allowed frame bounds) s y.state
+pub handler_scalar : (frame : ℕ) (bounds : Bounds) (i : Instr) (s : State) (y : Went) → scalar_in_machine (under_handler frame bounds) i s ≡ Ok y
+    → Grows (Allowed frame bounds) s y.state
 handler_scalar frame bounds = scalar_grows (under_handler frame bounds) (Allowed frame bounds) (store_grows frame bounds) (λ how len a s t h. h)
 
 pub thread_scalar : (bounds : Bounds) (i : Instr) (s : State) (y : Went) → scalar_in_machine (thread_under bounds) i s ≡ Ok y → Grows Nothing s y.state

@@ -14,7 +14,8 @@ use Rattle.hm_run.proofs.Steps.{past}
 use Rattle.hm_run.specs.declared.Cause.{Cause}
 use Rattle.hm_run.specs.declared.Cause.TheVariants as cause
 use Rattle.hm_run.specs.declared.Reason.TheVariants.{Break}
-use Rattle.hm_run.specs.Program.{Program, answered, asks, broken_by, caused, core, done_in_machine, in_machine, makes_here, other_here, printed, rows, served_by, vector_of}
+use Rattle.hm_run.specs.Program.{Program, answered, asks, broken_by, caused, core, done_in_machine, in_machine, makes_here, other_here, printed, rows}
+use Rattle.hm_run.specs.Program.{served_by, vector_of}
 use Rattle.hm_run.specs.Stops as why
 use Rattle.hm_run.specs.Stops.{at_break, break_of}
 use Rattle.hm_rows.proofs.Context.{context_bytes}
@@ -77,14 +78,16 @@ module _ (listing : Listing) (x : Around) (P : ℕ → Type 0) (beat : (v : Vect
 
   pub vector_grows : (v : Vector) (c : Config State) → vector_of (listing c.state.pc) ≡ Some v → StepGrows P c (older machine c)
   vector_grows v c here =
-      subst (λ (o : Option Vector). StepGrows P c (older_of machine o c)) (sym here) (row_grows v c (then (begin machine v c.a c.state) ((machine.rows.act v c.a).run)) refl)
+      subst (λ (o : Option Vector). StepGrows P c (older_of machine o c)) (sym here)
+      (row_grows v c (then (begin machine v c.a c.state) ((machine.rows.act v c.a).run)) refl)
 
   done_grows : (c : Config State) (r : Result State Cause) → ((t : State) → r ≡ Ok t → Grows P c.state t) → StepGrows P c (done machine c r (past c))
   done_grows c (Ok t) h = h t refl
   done_grows c (Err e) h = begun_grows c
 
   -- what is no vector row, by what it comes to
-  pub other_grows : (c : Config State) → vector_of (listing c.state.pc) ≡ None → ((t : State) → other_here x (listing c.state.pc) c.state ≡ Ok t → Grows P c.state t)
+  pub other_grows : (c : Config State) → vector_of (listing c.state.pc) ≡ None
+      → ((t : State) → other_here x (listing c.state.pc) c.state ≡ Ok t → Grows P c.state t)
       → StepGrows P c (older machine c)
   other_grows c here h =
       subst (λ (o : Option Vector). StepGrows P c (older_of machine o c)) (sym here) (done_grows c (other_here x (listing c.state.pc) c.state) h)
@@ -142,7 +145,8 @@ module _ (bounds : Bounds) where
   went_grows i s t (Ok y) e h = subst (Grows Nothing s) (ok_same h) (thread_scalar bounds i s y e)
   went_grows i s t (Err f) e h = absurd (ok_err (sym h))
 
-  by_break : (i : Instr) (s t : State) (o : Option ℕ) → at_break (λ k. broken_by around k s) o (done_in_machine (scalar_in_machine around i s)) ≡ Ok t → Grows Nothing s t
+  by_break : (i : Instr) (s t : State) (o : Option ℕ) → at_break (λ k. broken_by around k s) o (done_in_machine (scalar_in_machine around i s)) ≡ Ok t
+      → Grows Nothing s t
   by_break i s t (Some k) e = broken_grows k s t e
   by_break i s t None e = went_grows i s t (scalar_in_machine around i s) refl e
 

@@ -1,5 +1,6 @@
 -- What handlers and entries change of the memory is hidden from the thread.
-use Rattle.std.proofs.Common.{◌≡◌, ℕ, zero, suc, ◌-◌, ◌==◌, slice_index, ap, refl, sym, ◌∙◌, subst, Bool, true, false, cond, nat_lt, List, [], Option, Some, None, Result, Ok, Err}
+use Rattle.std.proofs.Common.{◌≡◌, ℕ, zero, suc, ◌-◌, ◌==◌, slice_index, ap, refl, sym, ◌∙◌, subst, Bool, true, false, cond, nat_lt, List, [], Option, Some}
+use Rattle.std.proofs.Common.{None, Result, Ok, Err}
 use Rattle.hm_base.specs.declared.Fault.{Fault}
 use Rattle.hm_base.specs.declared.Stop.{Stop}
 use Rattle.hm_beat.specs.Laws.{WritesTaint}
@@ -118,7 +119,8 @@ hidden_by s y h out =
       output = out;
     }
 
-pub scalar_hides : (frame : ℕ) (bounds : Bounds) (i : Instr) (s : State) (y : Went) → scalar_in_machine (under_handler frame bounds) i s ≡ Ok y → Hides s y.state
+pub scalar_hides : (frame : ℕ) (bounds : Bounds) (i : Instr) (s : State) (y : Went) → scalar_in_machine (under_handler frame bounds) i s ≡ Ok y
+    → Hides s y.state
 scalar_hides frame bounds i s y e =
     hidden_by s y (subst (GoesHidden s) e (whole-hides frame bounds i s)) (goes_output s _ y e)
 

@@ -1,5 +1,6 @@
 -- What a step leaves of what stands beside the cells: the exception number, who accesses the memory, a sound IT byte and priorities.
-use Rattle.std.proofs.Common.{◌≡◌, ◌≢◌, ℕ, zero, suc, ◌==◌, ◌+◌, ap, refl, sym, ◌∙◌, subst, Bool, true, false, cond, not, ◌&&◌, ◌||◌, nat_eq, nat_lt, eqb-true, List, length, Option, Some, None, Result, Ok, Err, arith}
+use Rattle.std.proofs.Common.{◌≡◌, ◌≢◌, ℕ, zero, suc, ◌==◌, ◌+◌, ap, refl, sym, ◌∙◌, subst, Bool, true, false, cond, not, ◌&&◌, ◌||◌, nat_eq, nat_lt, eqb-true}
+use Rattle.std.proofs.Common.{List, length, Option, Some, None, Result, Ok, Err, arith}
 use Rattle.std.specs.Prelude.{IfOk, is_none}
 use Rattle.hm_base.specs.declared.Fault.{Fault}
 use Rattle.hm_base.specs.declared.FaultKind.TheVariants.{InvState}
@@ -30,7 +31,8 @@ use Rattle.hm_run.proofs.Steps.{past}
 use Rattle.hm_run.specs.declared.Cause.{Cause}
 use Rattle.hm_run.specs.declared.Cause.TheVariants as cause
 use Rattle.hm_run.specs.declared.Reason.TheVariants.{Break}
-use Rattle.hm_run.specs.Program.{Program, answered, asks, broken_by, caused, core, done_in_machine, in_machine, is_ready, most_output, other_here, printed, refusal_rule, rows, served_by, unless_refused, vector_of}
+use Rattle.hm_run.specs.Program.{Program, answered, asks, broken_by, caused, core, done_in_machine, in_machine, is_ready, most_output, other_here, printed}
+use Rattle.hm_run.specs.Program.{refusal_rule, rows, served_by, unless_refused, vector_of}
 use Rattle.hm_run.specs.Stops as why
 use Rattle.hm_run.specs.Stops.{at_break, break_of}
 use Rattle.hm_state.specs.State.{State, Rest, at, cells, regs_of}
@@ -63,13 +65,26 @@ pub record Same (r q : Rest) : Type 0 where
   pub it : q.it ≡ r.it
 
 pub same_leaves : (r q : Rest) → Same r q → Leaves r q
-same_leaves r q h = record { number = h.number; around = h.around; selects = λ m n. h.spsel ∙ m (λ e. n (h.number ∙ e)); levels = subst HasLevels (sym h.devices); block = subst IsBlockByte (sym h.it) }
+same_leaves r q h = record {
+  number = h.number;
+  around = h.around;
+  selects = λ m n. h.spsel ∙ m (λ e. n (h.number ∙ e));
+  levels = subst HasLevels (sym h.devices);
+  block = subst IsBlockByte (sym h.it);
+}
 
 same_none : (r : Rest) → Same r r
 same_none r = record { number = refl; around = refl; spsel = refl; devices = refl; it = refl }
 
 same_then : (r q p : Rest) → Same r q → Same q p → Same r p
-same_then r q p h k = record { number = k.number ∙ h.number; around = k.around ∙ h.around; spsel = k.spsel ∙ h.spsel; devices = k.devices ∙ h.devices; it = k.it ∙ h.it }
+same_then r q p h k = record {
+  number = k.number ∙ h.number;
+  around = k.around ∙ h.around;
+  spsel = k.spsel ∙ h.spsel;
+  devices = k.devices ∙ h.devices;
+  it = k.it
+      ∙ h.it;
+}
 
 same_of : (r q : Rest) → q ≡ r → Same r q
 same_of r q e = subst (Same r) (sym e) (same_none r)
@@ -83,7 +98,8 @@ context_same s = subst (λ (t : State). Same s.rest t.rest) (sym (context_fresh 
 
 -- A ROW THAT IS NOT REFUSED stands in no IT block
 free_it : (v : Vector) (s : State) → refuse v s ≡ None → s.rest.it ≡ 0
-free_it v s h = eqb-true s.rest.it 0 (by_test (nat_eq s.rest.it 0) (writes_lr v && nat_lt (at Ltp s) 4 && s.rest.fpca) (record { kind = InvState; addr = s.pc }) h)
+free_it v s h = eqb-true s.rest.it 0
+    (by_test (nat_eq s.rest.it 0) (writes_lr v && nat_lt (at Ltp s) 4 && s.rest.fpca) (record { kind = InvState; addr = s.pc }) h)
   where
     by_test : (b y : Bool) (f : Fault) → cond (not b || y) (Some f) None ≡ None → b ≡ true
     by_test true y f e = refl
@@ -141,7 +157,8 @@ module _ (listing : Listing) (x : Around) where
   beat_stays : (v : Vector) (b : ℕ) (s t : State) → ((rows x).act v b).run s ≡ Ok t → t.rest ≡ s.rest
   beat_stays v b s t e = let tree = of_four (vector_tree v x) b in beat_rest tree s t (caused_ok ((action cells tree).run s) t e)
 
-  row_begins : (v : Vector) (a b : ℕ) (s t : State) → (is_between (record { a = a; b = b }) ≡ false → Ready s.rest) → begin machine v a s ≡ Ok t → Same s.rest t.rest × Ready t.rest
+  row_begins : (v : Vector) (a b : ℕ) (s t : State) → (is_between (record { a = a; b = b }) ≡ false → Ready s.rest) → begin machine v a s ≡ Ok t
+      → Same s.rest t.rest × Ready t.rest
   row_begins v zero b s t inside e =
       let u = with_context s in
       let there : t ≡ u = begins_with (refuse v u) u t e in
@@ -173,40 +190,58 @@ module _ (listing : Listing) (x : Around) where
       (row_leaves v c (then (begin machine v c.a c.state) ((machine.rows.act v c.a).run)) inside refl)
 
   -- THE YOUNGER
-  did_leaves : (j : Vector) (c : Config State) (r : Result State Cause) → Ready c.state.rest → (machine.rows.act j c.b).run c.state ≡ r → IfOk (did machine c r) (RowLeaves c)
+  did_leaves : (j : Vector) (c : Config State) (r : Result State Cause) → Ready c.state.rest → (machine.rows.act j c.b).run c.state ≡ r
+      → IfOk (did machine c r) (RowLeaves c)
   did_leaves j c (Ok t) z e =
       let stays : t.rest ≡ c.state.rest = beat_stays j c.b c.state t e in
       record { same = same_of c.state.rest t.rest stays; inside = λ h. ready_same c.state.rest t.rest stays z }
   did_leaves j c (Err f) z e = tt
 
-  younger_by : (b : Option Rule) (o : Option Vector) (c : Config State) → FitsInside c → (b ≡ None → refusal_rule o c.state ≡ None) → IfOk (younger_of machine b o c) (RowLeaves c)
+  younger_by : (b : Option Rule) (o : Option Vector) (c : Config State) → FitsInside c → (b ≡ None → refusal_rule o c.state ≡ None)
+      → IfOk (younger_of machine b o c) (RowLeaves c)
   younger_by (Some b) o c inside ready = tt
   younger_by None (Some j) c inside ready = did_leaves j c ((machine.rows.act j c.b).run c.state) (ready_younger j c.state (ready refl)) refl
   younger_by None None c inside ready = record { same = same_none c.state.rest; inside = inside }
 
   pub younger_leaves : (c : Config State) → FitsInside c → IfOk (younger machine c) (RowLeaves c)
-  younger_leaves c inside = younger_by (machine.rule (machine.code (machine.rows.view.pc c.state)) (machine.code (machine.rows.view.pc c.state + 4)) c) (machine.code (machine.rows.view.pc c.state + 4)) c inside
+  younger_leaves c inside = younger_by (machine.rule (machine.code (machine.rows.view.pc c.state)) (machine.code (machine.rows.view.pc c.state + 4)) c)
+      (machine.code (machine.rows.view.pc c.state + 4)) c inside
       (λ h. last_rule _ (refusal_rule (machine.code (machine.rows.view.pc c.state + 4)) c.state) h)
 
 -- AN INSTRUCTION that is no vector row
-goes_leave : (s : State) (r : Regs) → r.ipsr ≡ s.rest.ipsr → r.it ≡ s.rest.it → r.spsel ≡ s.rest.spsel → (q : Result Stepped Stop) → IfOk q (λ y. y.regs.ipsr ≡ r.ipsr)
+goes_leave : (s : State) (r : Regs) → r.ipsr ≡ s.rest.ipsr → r.it ≡ s.rest.it → r.spsel ≡ s.rest.spsel → (q : Result Stepped Stop)
+    → IfOk q (λ y. y.regs.ipsr ≡ r.ipsr)
     → (HandlerOnMain r → IfOk q (λ y. HandlerOnMain y.regs))
-    → (IsBlockByte r.it → IfOk q (λ y. IsBlockByte y.regs.it)) → (HasLevels s.rest.devices → IfOk q (λ y. HasLevels y.seen.devices)) → IfOk (goes_from s q) (λ y. Leaves s.rest y.state.rest)
+    → (IsBlockByte r.it → IfOk q (λ y. IsBlockByte y.regs.it)) → (HasLevels s.rest.devices → IfOk q (λ y. HasLevels y.seen.devices))
+    → IfOk (goes_from s q) (λ y. Leaves s.rest y.state.rest)
 unfolding state_with
 goes_leave s r here there stack (Ok q) number main block levels =
-    record { number = number ∙ here; around = refl; selects = λ m. main (λ n. stack ∙ m (λ e. n (here ∙ e))); levels = levels; block = λ h. block (subst IsBlockByte (sym there) h) }
+    record {
+      number = number ∙ here;
+      around = refl;
+      selects = λ m. main (λ n. stack ∙ m (λ e. n (here ∙ e)));
+      levels = levels;
+      block = λ h. block (subst IsBlockByte (sym there) h);
+    }
 goes_leave s r here there stack (Err f) number main block levels = tt
 
 pub scalar_leaves : (x : Around) (i : Instr) (s : State) → IfOk (scalar_in_machine x i s) (λ y. Leaves s.rest y.state.rest)
 scalar_leaves x i s =
     let R = runner.in_machine x in
     let r = regs_of s in
-    goes_leave s r (number_in s) (byte_in s) (spsel_in s) (step R i r (seen_in s)) (step-number R i r (seen_in s)) (step-main R i r (seen_in s)) (step-sound R i r (seen_in s)) (step-levels R i r (seen_in s))
+    goes_leave s r (number_in s) (byte_in s) (spsel_in s) (step R i r (seen_in s)) (step-number R i r (seen_in s)) (step-main R i r (seen_in s))
+    (step-sound R i r (seen_in s)) (step-levels R i r (seen_in s))
 
 -- a breakpoint
 printed_leaves : (xs : List ℕ) (s : State) → Leaves s.rest (printed xs s).rest
 unfolding state_with regs_of
-printed_leaves xs s = record { number = refl; around = refl; selects = λ m n. m n; levels = λ h. h; block = λ h. settled-sound 2 way.On (regs_of s) (regs_of s) h (refl, refl, λ n. refl) }
+printed_leaves xs s = record {
+  number = refl;
+  around = refl;
+  selects = λ m n. m n;
+  levels = λ h. h;
+  block = λ h. settled-sound 2 way.On (regs_of s) (regs_of s) h (refl, refl, λ n. refl);
+}
 
 abbrev Kept : State → State → Type 0
 Kept s t = Leaves s.rest t.rest

@@ -1,7 +1,8 @@
 -- After each tick every tainted byte lies where an entry or a handler may write.
 use Rattle.hm_run.specs.Timed.{bounds_of, counted_with, with_devices}
 use Rattle.hm_mem.specs.Memory.{Bounds}
-use Rattle.std.proofs.Common.{◌≡◌, ◌⊎◌, ℕ, zero, suc, ◌==◌, ◌+◌, ◌-◌, ◌*◌, ◌/◌, ◌%◌, ◌^◌, ◌<◌, ◌≤◌, ap, refl, sym, ◌∙◌, Bool, true, false, cond, not, ◌&&◌, ◌||◌, nat_le, nat_lt, List, [], ◌∷◌, drop, Option, Some, None, Result, Ok, Err, inl, inr, ⊎_elim, arith}
+use Rattle.std.proofs.Common.{◌≡◌, ◌⊎◌, ℕ, zero, suc, ◌==◌, ◌+◌, ◌-◌, ◌*◌, ◌/◌, ◌%◌, ◌^◌, ◌<◌, ◌≤◌, ap, refl, sym, ◌∙◌, Bool, true, false, cond, not, ◌&&◌}
+use Rattle.std.proofs.Common.{◌||◌, nat_le, nat_lt, List, [], ◌∷◌, drop, Option, Some, None, Result, Ok, Err, inl, inr, ⊎_elim, arith}
 use Rattle.std.proofs.lemmas.Bool.Decides.{nat_tests}
 use Rattle.hm_base.specs.Image.{Segment}
 use Rattle.hm_base.specs.declared.Fault.{Fault}
@@ -34,8 +35,10 @@ use Rattle.hm_whole.specs.Whole.{Went, scalar_in_machine, seen_in, state_with}
 use Rattle.hm_window.specs.Positions.{may_end}
 use Rattle.hm_window.specs.declared.rule.Rule.{Rule}
 use Rattle.hm_handlers.specs.Entries.{entered, entered_state, interrupted_by}
-use Rattle.hm_handlers.specs.Nested.{Ended, Interrupted, Nested, NestedEnd, NestedStep, Offends, TickEnd, around_under, at_step, flows, handler_step, handles, letter, letters, program_under, returned, step, step_under, steps, uncounted, went, with_acts}
-use Rattle.hm_handlers.specs.Runs.{Pointers, Run, after_count, begin, closed, ended, enters, enters_unless, may_enter, next, picks, pointers_of, run, stopped_under, stops, tick_of}
+use Rattle.hm_handlers.specs.Nested.{Ended, Interrupted, Nested, NestedEnd, NestedStep, Offends, TickEnd, around_under, at_step, flows, handler_step, handles}
+use Rattle.hm_handlers.specs.Nested.{letter, letters, program_under, returned, step, step_under, steps, uncounted, went, with_acts}
+use Rattle.hm_handlers.specs.Runs.{Pointers, Run, after_count, begin, closed, ended, enters, enters_unless, may_enter, next, picks, pointers_of, run}
+use Rattle.hm_handlers.specs.Runs.{stopped_under, stops, tick_of}
 use Rattle.hm_handlers.specs.Taint.{BelowMain, BelowProcess, MayBeTainted, TaintLies}
 use Rattle.hm_handlers.proofs.Growing.{Allowed, Grows, Nothing, handler_scalar}
 use Rattle.hm_handlers.proofs.Growth.{StepGrows, begun_grows, fault_grows, thread_older, thread_younger, vector_grows, younger_grows}
@@ -55,7 +58,8 @@ main_below true other base size sp a fits l = l
 main_below false other base size sp a fits l = omega arith
 
 -- the bytes of a frame lie between the floor and the pointer of its stack
-framed : (process : Bool) (other base size sp floor process_floor a : ℕ) (P Q : Type 0) → base + size ≤ sp → cond process process_floor floor ≤ base → base ≤ a → a < base + size
+framed : (process : Bool) (other base size sp floor process_floor a : ℕ) (P Q : Type 0) → base + size ≤ sp → cond process process_floor floor ≤ base → base ≤ a
+    → a < base + size
     → ((floor ≤ a) × ((a < cond process other sp) ⊎ P)) ⊎ ((process_floor ≤ a) × (((process ≡ true) × (a < cond process sp other)) ⊎ Q))
 framed true other base size sp floor process_floor a P Q fits low start end = inr (omega arith, inl (refl, omega arith))
 framed false other base size sp floor process_floor a P Q fits low start end = inl (omega arith, inl (omega arith))
@@ -94,7 +98,8 @@ module _ (listing : Listing) (s : Sched) where
       (λ (e : (nat_le s.floor a && nat_lt a frame) ≡ true). let l : a < frame = grind (arith, nat_tests) in inr (inl (grind (arith, nat_tests), below a l)))
       (either_of (nat_le s.lo a && nat_lt a s.hi) (nat_le s.floor a && nat_lt a frame) h)
 
-  handler_grown : (x : Interrupted) (acts : List Interrupted) (sps : List Pointers) (t u : State) → Grows (Allowed (main_after x.stacked) (bounds_of s)) t u → Lies sps t (x ∷ acts) → TaintLies s sps u
+  handler_grown : (x : Interrupted) (acts : List Interrupted) (sps : List Pointers) (t u : State) → Grows (Allowed (main_after x.stacked) (bounds_of s)) t u
+      → Lies sps t (x ∷ acts) → TaintLies s sps u
   handler_grown x acts sps t u grows lies a live =
       ⊎_elim (λ h. lies.taint a h) (λ p. allowed_lies (main_after x.stacked) sps a lies.frames.0 p) (grows a live)
 
@@ -107,7 +112,8 @@ module _ (listing : Listing) (s : Sched) where
   StepLies sps (Ok y) = Lies sps y.config.state y.acts
   StepLies sps (Err e) = EndLies sps e
 
-  thread_lies : (sps : List Pointers) (c : Config State) (r : Result (Config State) (End State Cause Rule)) → TaintLies s sps c.state → StepGrows Nothing c r → StepLies sps (with_acts [] r)
+  thread_lies : (sps : List Pointers) (c : Config State) (r : Result (Config State) (End State Cause Rule)) → TaintLies s sps c.state → StepGrows Nothing c r
+      → StepLies sps (with_acts [] r)
   thread_lies sps c (Ok d) lies h = record { taint = clean_step sps c.state d.state h lies; frames = tt }
   thread_lies sps c (Err (Stopped d e)) lies h = clean_step sps c.state d.state h lies
   thread_lies sps c (Err (Breaks d r)) lies h = clean_step sps c.state d.state h lies
@@ -136,14 +142,17 @@ module _ (listing : Listing) (s : Sched) where
     went_lies c (Ok y) old h = flows_lies y.flow c y.state old (handler_grown x acts sps c.state y.state (h y refl) old)
     went_lies c (Err e) old h =
         let M = program_under listing s (x ∷ acts) in
-        handler_grown x acts sps c.state (begun M c).state (begun_grows listing (around_under s (x ∷ acts)) May (handler_beat (main_after x.stacked) (bounds_of s)) c) old
+        handler_grown x acts sps c.state (begun M c).state
+        (begun_grows listing (around_under s (x ∷ acts)) May (handler_beat (main_after x.stacked) (bounds_of s)) c) old
 
     handles_lie : (c : Config State) (r : Result Instr Fault) → listing c.state.pc ≡ r → Lies sps c.state (x ∷ acts)
         → StepLies sps (handles (program_under listing s (x ∷ acts)) (around_under s (x ∷ acts)) r c x acts)
     handles_lie c (Ok (instr.Scalar i)) e old =
-        went_lies c (scalar_in_machine (around_under s (x ∷ acts)) (instr.Scalar i) c.state) old (λ y k. handler_scalar (main_after x.stacked) (bounds_of s) (instr.Scalar i) c.state y k)
+        went_lies c (scalar_in_machine (around_under s (x ∷ acts)) (instr.Scalar i) c.state) old
+        (λ y k. handler_scalar (main_after x.stacked) (bounds_of s) (instr.Scalar i) c.state y k)
     handles_lie c (Ok (instr.Branch i)) e old =
-        went_lies c (scalar_in_machine (around_under s (x ∷ acts)) (instr.Branch i) c.state) old (λ y k. handler_scalar (main_after x.stacked) (bounds_of s) (instr.Branch i) c.state y k)
+        went_lies c (scalar_in_machine (around_under s (x ∷ acts)) (instr.Branch i) c.state) old
+        (λ y k. handler_scalar (main_after x.stacked) (bounds_of s) (instr.Branch i) c.state y k)
     handles_lie c (Ok (instr.Vector v)) e old =
         handler_lies c (older (program_under listing s (x ∷ acts)) c) old
         (vector_grows listing (around_under s (x ∷ acts)) May (handler_beat (main_after x.stacked) (bounds_of s)) v c (ap vector_of e))
@@ -161,7 +170,8 @@ module _ (listing : Listing) (s : Sched) where
   turn_grows Older c = thread_older (bounds_of s) listing c
   turn_grows Younger c = thread_younger (bounds_of s) listing c
 
-  under_lies : (sps : List Pointers) (t : Turn) (c : Config State) (acts : List Interrupted) → Lies sps c.state acts → StepLies sps (step_under listing s t c acts)
+  under_lies : (sps : List Pointers) (t : Turn) (c : Config State) (acts : List Interrupted) → Lies sps c.state acts
+      → StepLies sps (step_under listing s t c acts)
   under_lies sps t c [] old = thread_lies sps c (turn (program_under listing s []) t c) old.taint (turn_grows t c)
   under_lies sps t c (x ∷ acts) old = handler_step_lies x acts sps t c old
 
@@ -169,7 +179,8 @@ module _ (listing : Listing) (s : Sched) where
   step_lies sps t x h = under_lies sps t x.config x.acts h
 
   -- LETTERS
-  then_lies : (sps : List Pointers) (r : NestedStep) (f : Nested → NestedStep) → StepLies sps r → ((y : Nested) → Lies sps y.config.state y.acts → StepLies sps (f y)) → StepLies sps (then r f)
+  then_lies : (sps : List Pointers) (r : NestedStep) (f : Nested → NestedStep) → StepLies sps r
+      → ((y : Nested) → Lies sps y.config.state y.acts → StepLies sps (f y)) → StepLies sps (then r f)
   then_lies sps (Ok y) f h k = k y h
   then_lies sps (Err e) f h k = h
 
@@ -184,7 +195,8 @@ module _ (listing : Listing) (s : Sched) where
   letter_lies : (sps : List Pointers) (l : ℕ) (x : Nested) → Lies sps x.config.state x.acts → StepLies sps (letter listing s l x)
   letter_lies sps l x h =
       either_lies sps (l == older_letter) _ _ (step_lies sps Older x h)
-      (either_lies sps (l == younger_letter) _ _ (step_lies sps Younger x h) (steps_lie sps (steps_left (vector_of (listing x.config.state.pc)) x.config.a) x h))
+      (either_lies sps (l == younger_letter) _ _ (step_lies sps Younger x h)
+      (steps_lie sps (steps_left (vector_of (listing x.config.state.pc)) x.config.a) x h))
 
   abbrev TickLies : List Pointers → Result Nested TickEnd → Type 0
   TickLies sps (Ok y) = Lies sps y.config.state y.acts
@@ -194,7 +206,8 @@ module _ (listing : Listing) (s : Sched) where
   at_step_lies sps k younger (Ok y) h = h
   at_step_lies sps k younger (Err e) h = h
 
-  then_tick : (sps : List Pointers) (r : Result Nested TickEnd) (f : Nested → Result Nested TickEnd) → TickLies sps r → ((y : Nested) → Lies sps y.config.state y.acts → TickLies sps (f y)) → TickLies sps (then r f)
+  then_tick : (sps : List Pointers) (r : Result Nested TickEnd) (f : Nested → Result Nested TickEnd) → TickLies sps r
+      → ((y : Nested) → Lies sps y.config.state y.acts → TickLies sps (f y)) → TickLies sps (then r f)
   then_tick sps (Ok y) f h k = k y h
   then_tick sps (Err e) f h k = h
 
@@ -209,13 +222,16 @@ module _ (listing : Listing) (s : Sched) where
     taint : TaintLies s x.entries x.machine.config.state
     frames : x.outcome ≡ None → FramesBelow x.entries x.machine.acts
 
-  ended_lies : (o : Outcome) (m : Nested) (t : ℕ) (sps : List Pointers) → TaintLies s sps m.config.state → RunLies (record { outcome = Some o; machine = m; ticks = t; entries = sps })
+  ended_lies : (o : Outcome) (m : Nested) (t : ℕ) (sps : List Pointers) → TaintLies s sps m.config.state
+      → RunLies (record { outcome = Some o; machine = m; ticks = t; entries = sps })
   ended_lies o m t sps h = record { taint = h; frames = λ none. absurd cc }
 
-  going_lies : (m : Nested) (t : ℕ) (sps : List Pointers) → Lies sps m.config.state m.acts → RunLies (record { outcome = None; machine = m; ticks = t; entries = sps })
+  going_lies : (m : Nested) (t : ℕ) (sps : List Pointers) → Lies sps m.config.state m.acts
+      → RunLies (record { outcome = None; machine = m; ticks = t; entries = sps })
   going_lies m t sps h = record { taint = h.taint; frames = λ none. h.frames }
 
-  stopped_state : (sps : List Pointers) (acts : List Interrupted) (c : Config State) (e : _) → TaintLies s sps c.state → TaintLies s sps (stopped_under acts c e).state
+  stopped_state : (sps : List Pointers) (acts : List Interrupted) (c : Config State) (e : _) → TaintLies s sps c.state
+      → TaintLies s sps (stopped_under acts c e).state
   stopped_state sps [] c e h = h
   stopped_state sps (x ∷ acts) c e h = h
 
@@ -232,7 +248,8 @@ module _ (listing : Listing) (s : Sched) where
       by_room true why rest h = refl
       by_room false why rest h = absurd cc
 
-  module _ (e : ℕ) (x : Nested) (sps : List Pointers) (free : entry_refusal (bounds_of s) (regs_of x.config.state) (seen_in x.config.state) e ≡ None) (old : Lies sps x.config.state x.acts) where
+  module _ (e : ℕ) (x : Nested) (sps : List Pointers) (free : entry_refusal (bounds_of s) (regs_of x.config.state) (seen_in x.config.state) e ≡ None)
+      (old : Lies sps x.config.state x.acts) where
     abbrev r : Regs
     r = regs_of x.config.state
 
@@ -268,12 +285,14 @@ module _ (listing : Listing) (s : Sched) where
     entry_lies : Lies (pointers_of r ∷ sps) (entered s e x).config.state (entered s e x).acts
     entry_lies = record { taint = entry_taint; frames = (below, more_frames (pointers_of r) sps x.acts old.frames) }
 
-  enters_lie : (e : ℕ) (o : Option EnterErr) (x : Nested) (t : ℕ) (sps : List Pointers) → entry_refusal (bounds_of s) (regs_of x.config.state) (seen_in x.config.state) e ≡ o → Lies sps x.config.state x.acts
+  enters_lie : (e : ℕ) (o : Option EnterErr) (x : Nested) (t : ℕ) (sps : List Pointers)
+      → entry_refusal (bounds_of s) (regs_of x.config.state) (seen_in x.config.state) e ≡ o → Lies sps x.config.state x.acts
       → RunLies (enters_unless s e o (record { outcome = None; machine = x; ticks = t; entries = sps }))
   enters_lie e None x t sps free old = going_lies (entered s e x) t (pointers_of (regs_of x.config.state) ∷ sps) (entry_lies e x sps free old)
   enters_lie e (Some why) x t sps free old = ended_lies _ x t sps old.taint
 
-  picked_lies : (o : Option ℕ) (x : Nested) (t : ℕ) (sps : List Pointers) → Lies sps x.config.state x.acts → RunLies (enters s o (record { outcome = None; machine = x; ticks = t; entries = sps }))
+  picked_lies : (o : Option ℕ) (x : Nested) (t : ℕ) (sps : List Pointers) → Lies sps x.config.state x.acts
+      → RunLies (enters s o (record { outcome = None; machine = x; ticks = t; entries = sps }))
   picked_lies None x t sps old = going_lies x t sps old
   picked_lies (Some e) x t sps old = enters_lie e (entry_refusal (bounds_of s) (regs_of x.config.state) (seen_in x.config.state) e) x t sps refl old
 
@@ -283,8 +302,11 @@ module _ (listing : Listing) (s : Sched) where
   may_enter_lies false x t sps old = going_lies x t sps old
 
   judged_lies : (b : Bool) (line : TickLine) (x : Nested) (t : ℕ) (sps : List Pointers) (o : Outcome) → Lies sps x.config.state x.acts
-      → let y : Run = record { outcome = None; machine = x; ticks = t; entries = sps } in RunLies (cond b (may_enter s (after_count line y)) (record y { outcome = Some o }))
-  judged_lies true line x t sps o old = may_enter_lies s.entries (record x { config = record x.config { state = with_devices (counted_with line.irq) x.config.state } }) t sps (record { taint = old.taint; frames = old.frames })
+      → let y : Run = record { outcome = None; machine = x; ticks = t; entries = sps } in
+      RunLies (cond b (may_enter s (after_count line y)) (record y { outcome = Some o }))
+  judged_lies true line x t sps o old =
+      may_enter_lies s.entries (record x { config = record x.config { state = with_devices (counted_with line.irq) x.config.state } }) t sps
+      (record { taint = old.taint; frames = old.frames })
   judged_lies false line x t sps o old = ended_lies o x t sps old.taint
 
   tick_ends : (line : TickLine) (x : Run) (r : Result Nested TickEnd) → TickLies x.entries r → RunLies (ended s line x r)
@@ -294,7 +316,8 @@ module _ (listing : Listing) (s : Sched) where
   tick_lies : (line : TickLine) (x : Run) (o : Option Outcome) → x.outcome ≡ o → RunLies x → RunLies (tick_of listing s line x o)
   tick_lies line x (Some o) e h = h
   tick_lies line x None e h =
-      tick_ends line x (letters listing s 0 line.letters x.machine) (letters_lie x.entries line.letters 0 x.machine (record { taint = h.taint; frames = h.frames e }))
+      tick_ends line x (letters listing s 0 line.letters x.machine)
+      (letters_lie x.entries line.letters 0 x.machine (record { taint = h.taint; frames = h.frames e }))
 
   closed_lies : (left : List TickLine) (x : Run) → RunLies x → RunLies (closed left x)
   closed_lies [] x h = record { taint = h.taint; frames = λ none. absurd (or_out_ends x.outcome none) }
@@ -316,5 +339,6 @@ module _ (listing : Listing) (s : Sched) where
   run_lies image zero = closed_lies (ticks_of s.lines) (begin image s) (first_lies image)
   run_lies image (suc t) = next_lies (drop t (ticks_of s.lines)) (run listing image s t) (run_lies image t)
 
-pub taint_lies : (listing : Listing) (image : List Segment) (s : Sched) (t : ℕ) → TaintLies s (run listing image s t).entries (run listing image s t).machine.config.state
+pub taint_lies : (listing : Listing) (image : List Segment) (s : Sched) (t : ℕ)
+    → TaintLies s (run listing image s t).entries (run listing image s t).machine.config.state
 taint_lies listing image s t = (run_lies listing s image t).taint

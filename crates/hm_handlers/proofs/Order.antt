@@ -1,5 +1,6 @@
 -- After each tick whole instructions in order agree with the thread, whatever enters and whatever handlers do.
-use Rattle.std.proofs.Common.{◌≡◌, ℕ, zero, suc, ◌==◌, ◌+◌, refl, sym, subst, eqb-true, Bool, true, false, cond, List, [], ◌∷◌, map, drop, Option, Some, None, Result, Ok, Err}
+use Rattle.std.proofs.Common.{◌≡◌, ℕ, zero, suc, ◌==◌, ◌+◌, refl, sym, subst, eqb-true, Bool, true, false, cond, List, [], ◌∷◌, map, drop, Option, Some, None}
+use Rattle.std.proofs.Common.{Result, Ok, Err}
 use Rattle.hm_base.specs.Image.{Segment}
 use Rattle.hm_base.specs.declared.Fault.{Fault}
 use Rattle.hm_base.specs.declared.Stop.{Stop}
@@ -39,10 +40,12 @@ use Rattle.hm_plain.proofs.Laws.{laws}
 use Rattle.hm_plain.proofs.Ticks.{OnlyTaint, begun, devices_restore, next_stops, stop_keeps, younger_only}
 use Rattle.hm_window.specs.Positions.{may_end}
 use Rattle.hm_handlers.specs.Entries.{entered, interrupted_by, refused}
-use Rattle.hm_handlers.specs.Nested.{Ended, Interrupted, Nested, NestedEnd, NestedStep, Offends, TickEnd, around_under, at_step, flows, handler_step, handles, letter, letters, program_under, returned, step, step_under, steps, uncounted, went, with_acts}
+use Rattle.hm_handlers.specs.Nested.{Ended, Interrupted, Nested, NestedEnd, NestedStep, Offends, TickEnd, around_under, at_step, flows, handler_step, handles}
+use Rattle.hm_handlers.specs.Nested.{letter, letters, program_under, returned, step, step_under, steps, uncounted, went, with_acts}
 use Rattle.hm_handlers.specs.Order.{HaltsInThread, AgreesInThread, KeepsOrder, thread_at, thread_of}
 use Rattle.hm_handlers.specs.Registers.{registers_in, restored}
-use Rattle.hm_handlers.specs.Runs.{Pointers, Run, begin, after_count, closed, ended, enters, enters_unless, may_enter, next, picks, run, stops, tick_of, stacked_of}
+use Rattle.hm_handlers.specs.Runs.{Pointers, Run, begin, after_count, closed, ended, enters, enters_unless, may_enter, next, picks, run, stops, tick_of}
+use Rattle.hm_handlers.specs.Runs.{stacked_of}
 use Rattle.hm_handlers.proofs.Hiding.{Hides, counted_hides, entry_hides, own_live, restored_live, scalar_hides}
 use Rattle.hm_handlers.proofs.Steps.{IsStop, StepHides, fault_hides, row_hides, younger_hides}
 
@@ -59,11 +62,13 @@ module _ (listing : Listing) (s : Sched) (first : State) where
   hidden c d x [] n steps h holds =
       let t = restored x.registers Thread d.state in
       subst (Holds machine first) (λ j. record { a = x.a; b = x.b; n = sym n j; steps = sym steps j; state = t })
-      (interrupt_holds machine (laws listing (thread_under (bounds_of s)) refl) first (thread_of c (x ∷ [])) t (restored_live x.registers c.state d.state h, refl) holds)
+      (interrupt_holds machine (laws listing (thread_under (bounds_of s)) refl) first (thread_of c (x ∷ [])) t
+      (restored_live x.registers c.state d.state h, refl) holds)
   hidden c d x (y ∷ acts) n steps h holds = hidden c d y acts n steps h holds
 
   -- AN ENTRY, which leaves the memory so
-  enters_thread : (e : ℕ) (c d : Config State) → d.n ≡ c.n → d.steps ≡ c.steps → Hides c.state d.state → Holds machine first c → InOrder d (interrupted_by e c ∷ [])
+  enters_thread : (e : ℕ) (c d : Config State) → d.n ≡ c.n → d.steps ≡ c.steps → Hides c.state d.state → Holds machine first c
+      → InOrder d (interrupted_by e c ∷ [])
   enters_thread e c d n steps h holds =
       let t = restored (registers_in c.state) Thread d.state in
       subst (Holds machine first) (λ j. record { a = c.a; b = c.b; n = sym n j; steps = sym steps j; state = t })
@@ -90,7 +95,8 @@ module _ (listing : Listing) (s : Sched) (first : State) where
   thread_agrees (Err (Stopped c e)) h = h
   thread_agrees (Err (Breaks c r)) h = tt
 
-  handler_agrees : (c : Config State) (x : Interrupted) (acts : List Interrupted) (r : Result (Config State) (End State Cause _)) → InOrder c (x ∷ acts) → StepHides c r
+  handler_agrees : (c : Config State) (x : Interrupted) (acts : List Interrupted) (r : Result (Config State) (End State Cause _)) → InOrder c (x ∷ acts)
+      → StepHides c r
       → AgreesStep (with_acts (x ∷ acts) (uncounted c r))
   handler_agrees c x acts (Ok d) holds h = hidden c (record d { n = c.n; steps = c.steps }) x acts refl refl h holds
   handler_agrees c x acts (Err (Stopped d e)) holds h = h
@@ -103,9 +109,11 @@ module _ (listing : Listing) (s : Sched) (first : State) where
   return_agrees None c x [] t holds h = hidden c (record c { state = t }) x [] refl refl h holds
   return_agrees None c x (y ∷ acts) t holds h =
       let back = restored x.registers (actor_under (map (λ (z : Interrupted). z.stacked) (y ∷ acts))) t in
-      hidden c (record { a = x.a; b = x.b; n = c.n; steps = c.steps; state = back }) y acts refl refl (record { bytes = h.bytes; devices = h.devices; output = h.output }) holds
+      hidden c (record { a = x.a; b = x.b; n = c.n; steps = c.steps; state = back }) y acts refl refl
+      (record { bytes = h.bytes; devices = h.devices; output = h.output }) holds
 
-  flow_agrees : (f : Flow) (c : Config State) (x : Interrupted) (acts : List Interrupted) (t : State) → InOrder c (x ∷ acts) → Hides c.state t → AgreesStep (flows f c x acts t)
+  flow_agrees : (f : Flow) (c : Config State) (x : Interrupted) (acts : List Interrupted) (t : State) → InOrder c (x ∷ acts) → Hides c.state t
+      → AgreesStep (flows f c x acts t)
   flow_agrees flow.Next c x acts t holds h = hidden c (record c { a = 0; b = 0; state = t }) x acts refl refl h holds
   flow_agrees (flow.Break k) c x acts t holds h = tt
   flow_agrees (flow.Return value) c x acts t holds h = return_agrees (return_rule (regs_of t) (seen_in t).byte value x.stacked) c x acts t holds h
@@ -118,13 +126,16 @@ module _ (listing : Listing) (s : Sched) (first : State) where
   handles_agrees : (c : Config State) (x : Interrupted) (acts : List Interrupted) (r : Result Instr Fault) → listing c.state.pc ≡ r → InOrder c (x ∷ acts)
       → AgreesStep (handles (program_under listing s (x ∷ acts)) (around_under s (x ∷ acts)) r c x acts)
   handles_agrees c x acts (Ok (instr.Scalar i)) e holds =
-      went_agrees (program_under listing s (x ∷ acts)) c x acts (scalar_in_machine (around_under s (x ∷ acts)) (instr.Scalar i) c.state) holds (λ y k. scalar_hides (main_after x.stacked) (bounds_of s) (instr.Scalar i) c.state y k)
+      went_agrees (program_under listing s (x ∷ acts)) c x acts (scalar_in_machine (around_under s (x ∷ acts)) (instr.Scalar i) c.state) holds
+      (λ y k. scalar_hides (main_after x.stacked) (bounds_of s) (instr.Scalar i) c.state y k)
   handles_agrees c x acts (Ok (instr.Branch i)) e holds =
-      went_agrees (program_under listing s (x ∷ acts)) c x acts (scalar_in_machine (around_under s (x ∷ acts)) (instr.Branch i) c.state) holds (λ y k. scalar_hides (main_after x.stacked) (bounds_of s) (instr.Branch i) c.state y k)
+      went_agrees (program_under listing s (x ∷ acts)) c x acts (scalar_in_machine (around_under s (x ∷ acts)) (instr.Branch i) c.state) holds
+      (λ y k. scalar_hides (main_after x.stacked) (bounds_of s) (instr.Branch i) c.state y k)
   handles_agrees c x acts (Ok (instr.Vector v)) e holds = handler_agrees c x acts _ holds (row_hides listing (around_under s (x ∷ acts)) refl v c e)
   handles_agrees c x acts (Err f) e holds = handler_agrees c x acts _ holds (fault_hides listing (around_under s (x ∷ acts)) refl f c e)
 
-  handler_step_agrees : (t : Turn) (c : Config State) (x : Interrupted) (acts : List Interrupted) → InOrder c (x ∷ acts) → AgreesStep (handler_step listing s t c x acts)
+  handler_step_agrees : (t : Turn) (c : Config State) (x : Interrupted) (acts : List Interrupted) → InOrder c (x ∷ acts)
+      → AgreesStep (handler_step listing s t c x acts)
   handler_step_agrees Older c x acts holds = handles_agrees c x acts (listing c.state.pc) refl holds
   handler_step_agrees Younger c x acts holds = handler_agrees c x acts _ holds (younger_hides listing (around_under s (x ∷ acts)) refl c)
 
@@ -191,7 +202,8 @@ module _ (listing : Listing) (s : Sched) (first : State) where
   at_step_agrees k younger (Ok y) h only = h
   at_step_agrees k younger (Err e) h only = (h, only)
 
-  then_tick : (r : Result Nested TickEnd) (f : Nested → Result Nested TickEnd) → AgreesTick r → ((y : Nested) → InOrder y.config y.acts → AgreesTick (f y)) → AgreesTick (then r f)
+  then_tick : (r : Result Nested TickEnd) (f : Nested → Result Nested TickEnd) → AgreesTick r → ((y : Nested) → InOrder y.config y.acts → AgreesTick (f y))
+      → AgreesTick (then r f)
   then_tick (Ok y) f h k = k y h
   then_tick (Err e) f h k = h
 
@@ -209,7 +221,8 @@ module _ (listing : Listing) (s : Sched) (first : State) where
   no_timed = record { outcome = None; config = record { a = 0; b = 0; n = 0; steps = 0; state = first }; acts = []; ticks = 0 }
 
   -- a stop of the thread
-  thread_outcome : (o : Outcome) (c : Config State) → AgreesAfter machine first (Some o) c → thread_at (Some o) c [] ≡ c → AgreesInThread machine first (Some o) (record { config = c; acts = [] })
+  thread_outcome : (o : Outcome) (c : Config State) → AgreesAfter machine first (Some o) c → thread_at (Some o) c [] ≡ c
+      → AgreesInThread machine first (Some o) (record { config = c; acts = [] })
   thread_outcome o c h same = record { thread = subst (AgreesAfter machine first (Some o)) (sym same) h; halts = in_thread o }
     where
       in_thread : (o : Outcome) → HaltsInThread (Some o) []
@@ -246,7 +259,8 @@ module _ (listing : Listing) (s : Sched) (first : State) where
   handler_cause t x xs c pc cause.Full acts h = absurd h
   handler_cause t x xs c pc (cause.Stop e) acts h = handler_stop t x xs c pc e acts
 
-  stops_keep : (t k : ℕ) (younger : Bool) (e : NestedEnd) (es : List Pointers) → AgreesEnd e → (younger ≡ true → OnlyTainted (Err e)) → KeepsRun (stops t k younger e es)
+  stops_keep : (t k : ℕ) (younger : Bool) (e : NestedEnd) (es : List Pointers) → AgreesEnd e → (younger ≡ true → OnlyTainted (Err e))
+      → KeepsRun (stops t k younger e es)
   stops_keep t k younger (Ended (Stopped c e) []) es h only =
       let stopping : Stopping = record { cause = e; younger = younger } in
       let around = thread_under (bounds_of s) in
@@ -258,9 +272,11 @@ module _ (listing : Listing) (s : Sched) (first : State) where
   stops_keep t k younger (Offends what c acts) es h only = record { thread = tt; halts = tt }
 
   -- THE END OF A TICK
-  counted_in_order : (irq : List ℕ) (c : Config State) (acts : List Interrupted) → InOrder c acts → InOrder (record c { state = with_devices (counted_with irq) c.state }) acts
+  counted_in_order : (irq : List ℕ) (c : Config State) (acts : List Interrupted) → InOrder c acts
+      → InOrder (record c { state = with_devices (counted_with irq) c.state }) acts
   counted_in_order irq c [] h =
-      interrupt_holds machine (laws listing (thread_under (bounds_of s)) refl) first c _ (devices_restore listing (thread_under (bounds_of s)) refl first irq c.state) h
+      interrupt_holds machine (laws listing (thread_under (bounds_of s)) refl) first c _
+      (devices_restore listing (thread_under (bounds_of s)) refl first irq c.state) h
   counted_in_order irq c (x ∷ acts) h = hidden c (record c { state = with_devices (counted_with irq) c.state }) x acts refl refl (counted_hides irq c.state) h
 
   going : (x : Nested) → InOrder x.config x.acts → AgreesInThread machine first None x
@@ -270,12 +286,14 @@ module _ (listing : Listing) (s : Sched) (first : State) where
   refused_keeps t x (err.StackSpent sp) = record { thread = tt; halts = tt }
   refused_keeps t x (err.Vector addr) = record { thread = tt; halts = tt }
 
-  enters_keep : (e : ℕ) (o : Option EnterErr) (x : Nested) (t : ℕ) (es : List Pointers) → InOrder x.config x.acts → KeepsRun (enters_unless s e o (record { outcome = None; machine = x; ticks = t; entries = es }))
+  enters_keep : (e : ℕ) (o : Option EnterErr) (x : Nested) (t : ℕ) (es : List Pointers) → InOrder x.config x.acts
+      → KeepsRun (enters_unless s e o (record { outcome = None; machine = x; ticks = t; entries = es }))
   enters_keep e None x t es h =
       going (entered s e x) (enters_any e x.config (entered s e x).config x.acts refl refl (entry_hides s (interrupted_by e x.config).stacked x.config.state) h)
   enters_keep e (Some why) x t es h = refused_keeps t x why
 
-  picked_keeps : (o : Option ℕ) (x : Nested) (t : ℕ) (es : List Pointers) → InOrder x.config x.acts → KeepsRun (enters s o (record { outcome = None; machine = x; ticks = t; entries = es }))
+  picked_keeps : (o : Option ℕ) (x : Nested) (t : ℕ) (es : List Pointers) → InOrder x.config x.acts
+      → KeepsRun (enters s o (record { outcome = None; machine = x; ticks = t; entries = es }))
   picked_keeps None x t es h = going x h
   picked_keeps (Some e) x t es h = enters_keep e _ x t es h
 
@@ -284,9 +302,13 @@ module _ (listing : Listing) (s : Sched) (first : State) where
   may_enter_keeps true x t es h = picked_keeps (picks (record { outcome = None; machine = x; ticks = t; entries = es })) x t es h
   may_enter_keeps false x t es h = going x h
 
-  judged : (b : Bool) (line : TickLine) (x : Nested) (t : ℕ) (es : List Pointers) (o : Outcome) → AgreesInThread machine first (Some o) x → InOrder x.config x.acts
-      → let y : Run = record { outcome = None; machine = x; ticks = t; entries = es } in KeepsRun (cond b (may_enter s (after_count line y)) (record y { outcome = Some o }))
-  judged true line x t es o broken h = may_enter_keeps s.entries (record x { config = record x.config { state = with_devices (counted_with line.irq) x.config.state } }) t es (counted_in_order line.irq x.config x.acts h)
+  judged : (b : Bool) (line : TickLine) (x : Nested) (t : ℕ) (es : List Pointers) (o : Outcome) → AgreesInThread machine first (Some o) x
+      → InOrder x.config x.acts
+      → let y : Run = record { outcome = None; machine = x; ticks = t; entries = es } in
+      KeepsRun (cond b (may_enter s (after_count line y)) (record y { outcome = Some o }))
+  judged true line x t es o broken h =
+      may_enter_keeps s.entries (record x { config = record x.config { state = with_devices (counted_with line.irq) x.config.state } }) t es
+      (counted_in_order line.irq x.config x.acts h)
   judged false line x t es o broken h = broken
 
   ended_keeps : (line : TickLine) (x : Run) (r : Result Nested TickEnd) → AgreesTick r → KeepsRun (ended s line x r)

@@ -1,5 +1,6 @@
 -- Under a schedule without entries a run is that of the machine without handlers.
-use Rattle.std.proofs.Common.{◌≡◌, ℕ, zero, suc, ◌==◌, ◌+◌, ap, refl, sym, ◌∙◌, subst, Bool, true, false, cond, List, [], ◌∷◌, drop, length, Option, Some, None, Result, Ok, Err}
+use Rattle.std.proofs.Common.{◌≡◌, ℕ, zero, suc, ◌==◌, ◌+◌, ap, refl, sym, ◌∙◌, subst, Bool, true, false, cond, List, [], ◌∷◌, drop, length, Option, Some, None}
+use Rattle.std.proofs.Common.{Result, Ok, Err}
 use Rattle.hm_base.specs.Image.{Segment}
 use Rattle.hm_codes.specs.Listing.{Listing}
 use Rattle.hm_order.specs.Beats.{then}
@@ -70,7 +71,8 @@ module _ (listing : Listing) (s : Sched) (none : s.entries ≡ false) where
   at_step_like k younger (Err (Stopped c e)) = refl
   at_step_like k younger (Err (Broken c r)) = refl
 
-  then_like : (a : Result Nested TickEnd) (b : Ticked) (f : Nested → Result Nested TickEnd) (g : Config State → Ticked) → Like a b → ((c : Config State) → Like (f (alone c)) (g c))
+  then_like : (a : Result Nested TickEnd) (b : Ticked) (f : Nested → Result Nested TickEnd) (g : Config State → Ticked) → Like a b
+      → ((c : Config State) → Like (f (alone c)) (g c))
       → Like (then a f) (then b g)
   then_like (Ok m) (Ok c) f g h k = subst (λ (x : Nested). Like (f x) (g c)) (sym h) (k c)
   then_like (Ok m) (Err (Stopped c w)) f g h k = absurd h
@@ -84,14 +86,16 @@ module _ (listing : Listing) (s : Sched) (none : s.entries ≡ false) where
   letters_like (l ∷ ls) k c =
       then_like (at_step (k + 1) (l == younger_letter) (letter listing s l (alone c))) (program.at_step (k + 1) (l == younger_letter) (letter_step machine l c))
       (letters listing s (k + 1) ls) (letter_steps machine (k + 1) ls)
-      (subst (λ (r : NestedStep). Like (at_step (k + 1) (l == younger_letter) r) (program.at_step (k + 1) (l == younger_letter) (letter_step machine l c))) (sym (letter_alone l c))
+      (subst (λ (r : NestedStep). Like (at_step (k + 1) (l == younger_letter) r) (program.at_step (k + 1) (l == younger_letter) (letter_step machine l c)))
+      (sym (letter_alone l c))
       (at_step_like (k + 1) (l == younger_letter) (letter_step machine l c)))
       (letters_like ls (k + 1))
 
   -- TICKS
   counts_alone : (b : Bool) → b ≡ false → (line : TickLine) (c : Config State) (t : ℕ) (acts : List Activation) → acts ≡ []
       → let x = after_count line (quiet None c t) in
-      Same (cond b (enters s (picks x) x) x) (record { outcome = None; config = record c { state = with_devices (counted_with line.irq) c.state }; acts = acts; ticks = t })
+      Same (cond b (enters s (picks x) x) x)
+      (record { outcome = None; config = record c { state = with_devices (counted_with line.irq) c.state }; acts = acts; ticks = t })
   counts_alone true e line c t acts h = let no : true ≡ false = e in absurd cc
   counts_alone false e line c t acts h = record { run = refl; acts = h }
 
@@ -107,7 +111,8 @@ module _ (listing : Listing) (s : Sched) (none : s.entries ≡ false) where
   ended_alone : (line : TickLine) (o : Option Outcome) (y : Timed) (r : Result Nested TickEnd) (q : Ticked) → y.acts ≡ [] → Like r q
       → Same (ended s line (quiet o y.config y.ticks) r) (timed.ended line y q)
   ended_alone line o y (Ok m) (Ok c) h e =
-      subst (λ (x : Nested). Same (tick_end s line (record { outcome = None; machine = x; ticks = y.ticks + 1; entries = [] })) (timed.ended line y (Ok c))) (sym e)
+      subst (λ (x : Nested). Same (tick_end s line (record { outcome = None; machine = x; ticks = y.ticks + 1; entries = [] })) (timed.ended line y (Ok c)))
+      (sym e)
       (judged_alone (may_end c.a c.b) line c (y.ticks + 1) y.acts h)
   ended_alone line o y (Ok m) (Err (Stopped c w)) h e = absurd e
   ended_alone line o y (Ok m) (Err (Broken c b)) h e = absurd e
@@ -123,7 +128,8 @@ module _ (listing : Listing) (s : Sched) (none : s.entries ≡ false) where
       → Same (tick_of listing s line (quiet y.outcome y.config y.ticks) o) (timed.tick_of machine line y o)
   tick_alone line (Some o) y e h = record { run = refl; acts = h }
   tick_alone line None y e h =
-      ended_alone line y.outcome y (letters listing s 0 line.letters (alone y.config)) (letter_steps machine 0 line.letters y.config) h (letters_like line.letters 0 y.config)
+      ended_alone line y.outcome y (letters listing s 0 line.letters (alone y.config)) (letter_steps machine 0 line.letters y.config) h
+      (letters_like line.letters 0 y.config)
 
   closed_alone : (left : List TickLine) (x : Run) (y : Timed) → Same x y → Same (closed left x) (timed.closed left y)
   closed_alone [] x y h = record { run = ap (λ (z : Run). record z { outcome = timed.or_out z.outcome }) h.run; acts = h.acts }
@@ -133,11 +139,13 @@ module _ (listing : Listing) (s : Sched) (none : s.entries ≡ false) where
   next_alone [] x y h = h
   next_alone (line ∷ left) x y h =
       closed_alone left (tick_of listing s line x x.outcome) (timed.tick_of machine line y y.outcome)
-      (subst (λ (z : Run). Same (tick_of listing s line z z.outcome) (timed.tick_of machine line y y.outcome)) (sym h.run) (tick_alone line y.outcome y refl h.acts))
+      (subst (λ (z : Run). Same (tick_of listing s line z z.outcome) (timed.tick_of machine line y y.outcome)) (sym h.run)
+      (tick_alone line y.outcome y refl h.acts))
 
   run_alone : (image : List Segment) (t : ℕ) → Same (run listing image s t) (timed.timed listing image s t)
   run_alone image zero = closed_alone (ticks_of s.lines) (begin image s) (timed.begin image s) (record { run = refl; acts = refl })
   run_alone image (suc t) = next_alone (drop t (ticks_of s.lines)) (run listing image s t) (timed.timed listing image s t) (run_alone image t)
 
-pub run_quiet : (listing : Listing) (image : List Segment) (s : Sched) (t : ℕ) → s.entries ≡ false → shown (run listing image s t) ≡ timed.timed listing image s t
+pub run_quiet : (listing : Listing) (image : List Segment) (s : Sched) (t : ℕ) → s.entries ≡ false
+    → shown (run listing image s t) ≡ timed.timed listing image s t
 run_quiet listing image s t none = same_shown (run listing image s t) (timed.timed listing image s t) (run_alone listing s none image t)

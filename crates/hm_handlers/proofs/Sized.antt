@@ -40,7 +40,8 @@ use Rattle.hm_isa.specs.Distances.{always_distance, conditional_distance}
 use Rattle.hm_thumb.specs.BranchRows.{branch_if, is_taken, jump_row, link, linked, s25, t16}
 use Rattle.hm_thumb.specs.Does.{Does, Ends, Faults, Loads, Stores, goes}
 use Rattle.hm_thumb.specs.LoopRows.{again, back, elements, enter, loop_end_row, put_size, t23}
-use Rattle.hm_thumb.specs.MemoryRows.{access_row, down, list_row, load_list, loaded, moved, other_end, pair_row, plain_name, put_all, registers, scale, stack_row, store_list, t12, up, wide_list_row, word_name}
+use Rattle.hm_thumb.specs.MemoryRows.{access_row, down, list_row, load_list, loaded, moved, other_end, pair_row, plain_name, put_all, registers, scale}
+use Rattle.hm_thumb.specs.MemoryRows.{stack_row, store_list, t12, up, wide_list_row, word_name}
 use Rattle.hm_thumb.specs.RegisterRows.{base_of, blx_write, bx_write, operand, put, put_any, reg}
 use Rattle.hm_thumb.specs.declared.Way.TheVariants as way
 use Rattle.hm_thumb.specs.Rows.{branch_does, in_block, instr_does, made, runs, scalar_does}

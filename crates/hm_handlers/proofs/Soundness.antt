@@ -1,5 +1,6 @@
 -- The machine with handlers is always sound.
-use Rattle.std.proofs.Common.{◌≡◌, ℕ, zero, suc, ◌==◌, ◌+◌, ◌<◌, ◌≤◌, ap, refl, sym, ◌∙◌, subst, Bool, true, false, cond, List, [], ◌∷◌, map, drop, length, Option, Some, None, Result, Ok, Err, arith}
+use Rattle.std.proofs.Common.{◌≡◌, ℕ, zero, suc, ◌==◌, ◌+◌, ◌<◌, ◌≤◌, ap, refl, sym, ◌∙◌, subst, Bool, true, false, cond, List, [], ◌∷◌, map, drop, length}
+use Rattle.std.proofs.Common.{Option, Some, None, Result, Ok, Err, arith}
 use Rattle.std.specs.Prelude.{IfOk}
 use Rattle.hm_base.specs.Image.{Segment}
 use Rattle.hm_base.specs.declared.Fault.{Fault}
@@ -37,13 +38,15 @@ use Rattle.hm_window.specs.Positions.{may_end}
 use Rattle.hm_window.specs.declared.rule.Rule.{Rule}
 use Rattle.hm_sys.specs.Exceptions.{IsException, end_number, priority_of}
 use Rattle.hm_handlers.specs.Entries.{entered, entered_state, interrupted_by, least_active, mask_of, position_of}
-use Rattle.hm_handlers.specs.Nested.{Ended, Interrupted, Nested, NestedEnd, NestedStep, Offends, TickEnd, around_under, at_step, flows, handler_step, handles, letter, letters, program_under, returned, step, step_under, steps, uncounted, went, with_acts}
+use Rattle.hm_handlers.specs.Nested.{Ended, Interrupted, Nested, NestedEnd, NestedStep, Offends, TickEnd, around_under, at_step, flows, handler_step, handles}
+use Rattle.hm_handlers.specs.Nested.{letter, letters, program_under, returned, step, step_under, steps, uncounted, went, with_acts}
 use Rattle.hm_handlers.specs.Registers.{restored}
 use Rattle.hm_handlers.specs.Runs.{Pointers, Run, after_count, begin, closed, ended, enters, enters_unless, may_enter, next, picks, run, stops, tick_of}
 use Rattle.hm_handlers.specs.Sound.{AreStacked, AreUrgent, IsSound, FitsInside, number_under}
 use Rattle.hm_handlers.proofs.Entering.{stacked_by}
 use Rattle.hm_handlers.proofs.Hiding.{Hides, counted_hides, entry_hides, scalar_hides}
-use Rattle.hm_handlers.proofs.Leaving.{Leaves, RowLeaves, StepLeaves, fault_leaves, older_leaves, same_leaves, scalar_leaves, vector_leaves, younger_leaves, younger_steps}
+use Rattle.hm_handlers.proofs.Leaving.{Leaves, RowLeaves, StepLeaves, fault_leaves, older_leaves, same_leaves, scalar_leaves, vector_leaves, younger_leaves}
+use Rattle.hm_handlers.proofs.Leaving.{younger_steps}
 use Rattle.hm_handlers.proofs.Nesting.{levels_same, most_active, picked_number, picked_urgent, room_for, urgent_over, urgent_same}
 
 -- a position between two instructions
@@ -69,7 +72,8 @@ module _ (s : Sched) where
   Sound c acts = IsSound s (record { config = c; acts = acts })
 
   -- WHAT AN INSTRUCTION LEAVES
-  left_sound : (c d : Config State) (acts : List Interrupted) → Sound c acts → Leaves c.state.rest d.state.rest → FitsInside d → AreUrgent d.state.rest.devices acts → Sound d acts
+  left_sound : (c d : Config State) (acts : List Interrupted) → Sound c acts → Leaves c.state.rest d.state.rest → FitsInside d
+      → AreUrgent d.state.rest.devices acts → Sound d acts
   left_sound c d acts h left inside urgent = record {
     around = left.around ∙ h.around;
     levels = left.levels h.levels;
@@ -89,7 +93,8 @@ module _ (s : Sched) where
   thread_sound c (Err e) h k = tt
 
   module _ (x : Interrupted) (acts : List Interrupted) where
-    row_sound : (c : Config State) (r : Result (Config State) (End State Cause Rule)) → Sound c (x ∷ acts) → IfOk r (RowLeaves c) → StepSound (with_acts (x ∷ acts) (uncounted c r))
+    row_sound : (c : Config State) (r : Result (Config State) (End State Cause Rule)) → Sound c (x ∷ acts) → IfOk r (RowLeaves c)
+        → StepSound (with_acts (x ∷ acts) (uncounted c r))
     row_sound c (Ok d) h k =
         left_sound c (record d { n = c.n; steps = c.steps }) (x ∷ acts) h (same_leaves c.state.rest d.state.rest k.same) k.inside
         (subst (λ (v : Dev). AreUrgent v (x ∷ acts)) (sym k.same.devices) h.urgent)
@@ -116,7 +121,8 @@ module _ (s : Sched) where
           urgent = h.urgent.1;
         }
 
-    returned_sound : (b : Option Breach) (c : Config State) (t : State) → Sound (record c { a = 0; b = 0; state = t }) (x ∷ acts) → StepSound (returned b c x acts t)
+    returned_sound : (b : Option Breach) (c : Config State) (t : State) → Sound (record c { a = 0; b = 0; state = t }) (x ∷ acts)
+        → StepSound (returned b c x acts t)
     returned_sound None c t h = back_sound c t h
     returned_sound (Some b) c t h = tt
 
@@ -126,7 +132,8 @@ module _ (s : Sched) where
     flows_sound (flow.Return value) c t h = returned_sound (return_rule (regs_of t) (seen_in t).byte value x.stacked) c t h
 
     module _ (listing : Listing) where
-      went_sound : (c : Config State) (r : Result Went Stop) → Sound c (x ∷ acts) → IfOk r (λ y. Leaves c.state.rest y.state.rest) → ((y : Went) → r ≡ Ok y → Hides c.state y.state)
+      went_sound : (c : Config State) (r : Result Went Stop) → Sound c (x ∷ acts) → IfOk r (λ y. Leaves c.state.rest y.state.rest)
+          → ((y : Went) → r ≡ Ok y → Hides c.state y.state)
           → StepSound (went (program_under listing s (x ∷ acts)) c x acts r)
       went_sound c (Ok y) h left hides =
           flows_sound y.flow c y.state
@@ -165,7 +172,8 @@ module _ (s : Sched) where
     step_sound t x h = under_sound t x.config x.acts h
 
     -- LETTERS
-    then_sound : {E : Type 0} (r : Result Nested E) (f : Nested → Result Nested E) → IfOk r (IsSound s) → ((y : Nested) → IsSound s y → IfOk (f y) (IsSound s)) → IfOk (then r f) (IsSound s)
+    then_sound : {E : Type 0} (r : Result Nested E) (f : Nested → Result Nested E) → IfOk r (IsSound s) → ((y : Nested) → IsSound s y → IfOk (f y) (IsSound s))
+        → IfOk (then r f) (IsSound s)
     then_sound (Ok y) f h k = k y h
     then_sound (Err e) f h k = tt
 
@@ -193,7 +201,8 @@ module _ (s : Sched) where
         (at_step_sound (k + 1) (l == younger_letter) (letter listing s l x) (letter_sound l x h)) (letters_sound (k + 1) ls)
 
   -- THE END OF A TICK
-  pub counted_sound : (irq : List ℕ) (x : Nested) → IsSound s x → IsSound s (record x { config = record x.config { state = with_devices (counted_with irq) x.config.state } })
+  pub counted_sound : (irq : List ℕ) (x : Nested) → IsSound s x
+      → IsSound s (record x { config = record x.config { state = with_devices (counted_with irq) x.config.state } })
   counted_sound irq x h =
       let d = x.config.state.rest.devices in
       let same : open_devices (counted_with irq d) ≡ open_devices d = (counted_hides irq x.config.state).devices in
@@ -214,7 +223,13 @@ module _ (s : Sched) where
 
   pub can_enter : (x : Nested) → IsSound s x → may_end x.config.a x.config.b ≡ true → CanEnter (regs_of x.config.state) (position_of x.config)
   unfolding regs_of
-  can_enter x h end = record { position = end; number = subst (λ (n : ℕ). n < 512) (sym h.number) (number_below x.acts h.stacked); block = h.block.1; inside = λ e. (h.inside e).0; selects = h.selects }
+  can_enter x h end = record {
+    position = end;
+    number = subst (λ (n : ℕ). n < 512) (sym h.number) (number_below x.acts h.stacked);
+    block = h.block.1;
+    inside = λ e. (h.inside e).0;
+    selects = h.selects;
+  }
 
   pub at_most_eight : (x : Nested) → IsSound s x → length x.acts ≤ 8
   at_most_eight x h = most_active x.config.state.rest.devices h.levels x.acts h.urgent
@@ -232,7 +247,8 @@ module _ (s : Sched) where
     pub picked_sound : IsException e × (length x.machine.acts < 8)
     picked_sound = (exception, room_for t.rest.devices h.levels (priority_of t.rest.devices e) x.machine.acts over h.urgent)
 
-    pub entered_sound : may_end x.machine.config.a x.machine.config.b ≡ true → entry_refusal (bounds_of s) (regs_of t) (seen_in t) e ≡ None → IsSound s (entered s e x.machine)
+    pub entered_sound : may_end x.machine.config.a x.machine.config.b ≡ true → entry_refusal (bounds_of s) (regs_of t) (seen_in t) e ≡ None
+        → IsSound s (entered s e x.machine)
     unfolding state_with
     entered_sound end free =
         let y = interrupted_by e x.machine.config in
@@ -246,7 +262,10 @@ module _ (s : Sched) where
           selects = λ n. refl;
           block = (omega arith, λ z. refl);
           inside = not_inside;
-          stacked = (stacked_by (bounds_of s) e x.machine.config x.machine.acts exception (can_enter x.machine h end) h.block h.inside h.number free, h.stacked);
+          stacked = (
+            stacked_by (bounds_of s) e x.machine.config x.machine.acts exception (can_enter x.machine h end) h.block h.inside h.number free,
+            h.stacked,
+          );
           urgent = (urgent_over d now same e x.machine.acts over, urgent_same d now same x.machine.acts h.urgent);
         }
 
@@ -259,11 +278,14 @@ module _ (s : Sched) where
   enters_sound x e None h picks_it end free = entered_sound x e h picks_it end free
   enters_sound x e (Some why) h picks_it end free = h
 
-  picks_sound : (x : Run) (o : Option ℕ) → IsSound s x.machine → picks x ≡ o → may_end x.machine.config.a x.machine.config.b ≡ true → IsSound s (enters s o x).machine
+  picks_sound : (x : Run) (o : Option ℕ) → IsSound s x.machine → picks x ≡ o → may_end x.machine.config.a x.machine.config.b ≡ true
+      → IsSound s (enters s o x).machine
   picks_sound x None h picks_it end = h
-  picks_sound x (Some e) h picks_it end = enters_sound x e (entry_refusal (bounds_of s) (regs_of x.machine.config.state) (seen_in x.machine.config.state) e) h picks_it end refl
+  picks_sound x (Some e) h picks_it end =
+      enters_sound x e (entry_refusal (bounds_of s) (regs_of x.machine.config.state) (seen_in x.machine.config.state) e) h picks_it end refl
 
-  may_enter_sound : (b : Bool) (x : Run) → IsSound s x.machine → may_end x.machine.config.a x.machine.config.b ≡ true → IsSound s (cond b (enters s (picks x) x) x).machine
+  may_enter_sound : (b : Bool) (x : Run) → IsSound s x.machine → may_end x.machine.config.a x.machine.config.b ≡ true
+      → IsSound s (cond b (enters s (picks x) x) x).machine
   may_enter_sound true x h end = picks_sound x (picks x) h refl end
   may_enter_sound false x h end = h
 

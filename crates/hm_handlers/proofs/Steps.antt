@@ -81,7 +81,8 @@ module _ (listing : Listing) (x : Around) (handler : marks x.actor ≡ true) whe
   pub fault_hides : (f : Fault) (c : Config State) → listing c.state.pc ≡ Err f → StepHides c (older machine c)
   fault_hides f c e =
       subst (λ (o : Option Vector). StepHides c (older_of machine o c)) (sym (ap vector_of e))
-      (subst (λ (r : Result Instr Fault). StepHides c (done machine c (other_here x r c.state) (λ t. record { a = 0; b = 0; n = suc c.n; steps = suc c.steps; state = t }))) (sym e) tt)
+      (subst (λ (r : Result Instr Fault). StepHides c
+      (done machine c (other_here x r c.state) (λ t. record { a = 0; b = 0; n = suc c.n; steps = suc c.steps; state = t }))) (sym e) tt)
 
   -- THE YOUNGER
   fault_ends : (b : Option Rule) (c : Config State) (e : Cause) → IsStop e → StepHides c (Err (fault_end machine b c e))

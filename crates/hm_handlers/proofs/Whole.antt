@@ -49,14 +49,16 @@ module _ (listing : Listing) (image : List Segment) (s : Sched) where
       → ShownInOrder listing image x.machine.config.n (thread_of x.machine.config x.machine.acts).state
   between_at x keeps on none =
       let c = thread_of x.machine.config x.machine.acts in
-      subst (λ (n : ℕ). ShownInOrder listing image n c.state) (counted_n x.machine.config x.machine.acts) (shown_between listing image s c (going_on x keeps on) none)
+      subst (λ (n : ℕ). ShownInOrder listing image n c.state) (counted_n x.machine.config x.machine.acts)
+      (shown_between listing image s c (going_on x keeps on) none)
 
   pub between_every : (t : ℕ) → let x = run listing image s t in GoesOn x.outcome → (thread_of x.machine.config x.machine.acts).a ≡ 0
       → ShownInOrder listing image x.machine.config.n (thread_of x.machine.config x.machine.acts).state
   between_every t on none = between_at (run listing image s t) (keeps_order listing image s t) on none
 
   -- where it has halted the thread stands as it is
-  halted_at : (o : Option Outcome) (reason : Reason) (n : ℕ) (x : Nested) → o ≡ Some (outcome.Halted reason n) → AgreesAfter machine (start image) o (thread_at o x.config x.acts)
+  halted_at : (o : Option Outcome) (reason : Reason) (n : ℕ) (x : Nested) → o ≡ Some (outcome.Halted reason n)
+      → AgreesAfter machine (start image) o (thread_at o x.config x.acts)
       → AgreesAfter machine (start image) o x.config
   halted_at o reason n x e h =
       subst (λ (q : Option Outcome). AgreesAfter machine (start image) q x.config) (sym e)
@@ -93,7 +95,8 @@ module _ (listing : Listing) (image : List Segment) (s : Sched) where
       let c = x.machine.config in
       record {
         fault = rides.fault;
-        full = λ t e. subst (λ (n : ℕ). (u : State) × (in_order listing image (n + 1) ≡ Full (n + 1) u)) (full_n x.outcome t c x.machine.acts e) (rides.full t e);
+        full = λ t e. subst (λ (n : ℕ). (u : State) × (in_order listing image (n + 1) ≡ Full (n + 1) u)) (full_n x.outcome t c x.machine.acts e)
+            (rides.full t e);
         few = λ reason n u h e. subst (λ (k : ℕ). k < 4 * n) (out_steps x.outcome c x.machine.acts e) (rides.few reason n u h e);
       }
 

@@ -1,5 +1,6 @@
 -- Which bytes a beat taints.
-use Rattle.std.proofs.Common.{◌≡◌, ℕ, ◌+◌, ◌%◌, ◌^◌, ◌<◌, ◌≤◌, Bool, true, false, cond, eqb-true, nat_lt, List, [], ◌∷◌, ◌++◌, map, Option, Some, None, Ok, inl, inr, refl, sym, ◌∙◌, ap, subst, arith, add-zero}
+use Rattle.std.proofs.Common.{◌≡◌, ℕ, ◌+◌, ◌%◌, ◌^◌, ◌<◌, ◌≤◌, Bool, true, false, cond, eqb-true, nat_lt, List, [], ◌∷◌, ◌++◌, map, Option, Some, None, Ok, inl}
+use Rattle.std.proofs.Common.{inr, refl, sym, ◌∙◌, ap, subst, arith, add-zero}
 use Rattle.std.proofs.lemmas.Bool.Decides.{nat_tests}
 use Rattle.hm_base.specs.declared.FaultKind.{FaultKind}
 use Rattle.hm_base.specs.declared.Place.{Place}
@@ -52,13 +53,15 @@ module _ (P : ℕ → Type 0) where
   written_grows : (ws : List (Cell × (List Value → Value))) (vs : List Value) (s : State) → WritesAt P ws → Grows P s (put_all cells (written ws vs) s)
   written_grows [] vs s h = grows_none P s
   written_grows (w ∷ ws) vs s h =
-      grows_then P s (put cells w.0 (w.1 vs) s) (put_all cells (written ws vs) (put cells w.0 (w.1 vs) s)) (put_grows w.0 (w.1 vs) s h.0) (written_grows ws vs (put cells w.0 (w.1 vs) s) h.1)
+      grows_then P s (put cells w.0 (w.1 vs) s) (put_all cells (written ws vs) (put cells w.0 (w.1 vs) s)) (put_grows w.0 (w.1 vs) s h.0)
+      (written_grows ws vs (put cells w.0 (w.1 vs) s) h.1)
 
   finish_grows : (o : Option Stop) (l : Leaf Cell Value Stop) (s t : State) → (o ≡ None → WritesAt P l.writes) → finish cells o l s ≡ Ok t → Grows P s t
   finish_grows (Some e) l s t may h = absurd (ok_err (sym h))
   finish_grows None l s t may h = subst (λ (u : State). Grows P s u) (ok_same h) (λ a live. written_grows l.writes (map s.cell l.reads) s (may refl) a live)
 
-  beat_grows : (b : Tree) (s t : State) → (checked cells (reach b s).checks s ≡ None → WritesAt P (reach b s).writes) → (action cells b).run s ≡ Ok t → Grows P s t
+  beat_grows : (b : Tree) (s t : State) → (checked cells (reach b s).checks s ≡ None → WritesAt P (reach b s).writes) → (action cells b).run s ≡ Ok t
+      → Grows P s t
   beat_grows b s t may h = finish_grows (checked cells (reach b s).checks s) (reach b s) s t may h
 
   places_only : (ws : List Write) → WritesAt P (map always ws)
@@ -133,7 +136,8 @@ module _ (frame : ℕ) (bounds : Bounds) where
           (first (omega arith), (behind 1 (omega arith), (behind 2 (omega arith), (behind 3 (omega arith), tt))))
 
   -- the first of its elements has no sure stop, nor have the others
-  first_free : (o : Option Stop) (cs : List (Check Cell Stop)) (s : State) → checked cells ((fails o ++ []) ++ cs) s ≡ None → (o ≡ None) × (checked cells cs s ≡ None)
+  first_free : (o : Option Stop) (cs : List (Check Cell Stop)) (s : State) → checked cells ((fails o ++ []) ++ cs) s ≡ None
+      → (o ≡ None) × (checked cells cs s ≡ None)
   first_free (Some e) cs s h = absurd cc
   first_free None cs s h = (refl, h)
 
@@ -147,7 +151,8 @@ module _ (frame : ℕ) (bounds : Bounds) where
   moves_write i b s free = writes-append May (moved_by i x b (elements_at i b s)) _ (by_store i.store refl) (places_only May _)
     where
       by_store : (y : Bool) → i.store ≡ y → WritesAt May (cond y (store_all true i.memory (elements_at i b s)) (fill i 0 (elements_at i b s) (i.words b)))
-      by_store true e = all_stored i.memory (elements_at i b s) s (ap (λ (y : Bool). checked cells (checks_of x y (width i.memory) (elements_at i b s)) s) (sym e) ∙ free)
+      by_store true e = all_stored i.memory (elements_at i b s) s
+          (ap (λ (y : Bool). checked cells (checks_of x y (width i.memory) (elements_at i b s)) s) (sym e) ∙ free)
       by_store false e = fills May i 0 (elements_at i b s) (i.words b)
 
 -- ANY ROW
@@ -182,13 +187,16 @@ put_clean : (c : Cell) (f : List Value → Value) (vs : List Value) (s : State) 
 put_clean (At p) f vs s h a live = inl live
 put_clean (Byte b) f vs s h a live =
     decide (same_cell (Byte b) (Byte a))
-    (λ same. true_not_false (cond (same_cell (Byte b) (Byte a)) (f vs) (s.cell (Byte a))).taint live (ap (λ (q : Bool). (cond q (f vs) (s.cell (Byte a))).taint) same ∙ h vs))
+    (λ same. true_not_false (cond (same_cell (Byte b) (Byte a)) (f vs) (s.cell (Byte a))).taint live
+    (ap (λ (q : Bool). (cond q (f vs) (s.cell (Byte a))).taint) same ∙ h vs))
     (λ other. inl (sym (ap (λ (q : Bool). (cond q (f vs) (s.cell (Byte a))).taint) other) ∙ live))
 
-written_clean : (ws : List (Cell × (List Value → Value))) (vs : List Value) (s : State) → WritesTaint false ws → Grows Nothing s (put_all cells (written ws vs) s)
+written_clean : (ws : List (Cell × (List Value → Value))) (vs : List Value) (s : State) → WritesTaint false ws
+    → Grows Nothing s (put_all cells (written ws vs) s)
 written_clean [] vs s h = grows_none Nothing s
 written_clean (w ∷ ws) vs s h =
-    grows_then Nothing s (put cells w.0 (w.1 vs) s) (put_all cells (written ws vs) (put cells w.0 (w.1 vs) s)) (put_clean w.0 w.1 vs s h.0) (written_clean ws vs (put cells w.0 (w.1 vs) s) h.1)
+    grows_then Nothing s (put cells w.0 (w.1 vs) s) (put_all cells (written ws vs) (put cells w.0 (w.1 vs) s)) (put_clean w.0 w.1 vs s h.0)
+    (written_clean ws vs (put cells w.0 (w.1 vs) s) h.1)
 
 finish_clean : (o : Option Stop) (l : Leaf Cell Value Stop) (s t : State) → WritesTaint false l.writes → finish cells o l s ≡ Ok t → Grows Nothing s t
 finish_clean (Some e) l s t taints h = absurd (ok_err (sym h))

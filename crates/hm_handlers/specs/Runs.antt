@@ -89,7 +89,10 @@ may_enter s x = cond s.entries (enters s (picks x) x) x
 
 -- the run after SysTick has counted and the interrupts of the tick have become pending
 abbrev pub after_count : TickLine → Run → Run
-after_count line x = record x { machine = record x.machine { config = record x.machine.config { state = with_devices (counted_with line.irq) x.machine.config.state } } }
+after_count line x = record x {
+  machine =
+      record x.machine { config = record x.machine.config { state = with_devices (counted_with line.irq) x.machine.config.state } };
+}
 
 -- the end of a tick whose letters all went on; a position at which no tick may end breaks a rule
 abbrev pub tick_end : Sched → TickLine → Run → Run

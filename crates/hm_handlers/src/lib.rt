@@ -32,7 +32,8 @@ pub fn thread_in_order()
     ensures order { (listing : Listing) (image : List Segment) (s : Sched) (t : ℕ) → KeepsOrder listing image s (run listing image s t) }
     // Where the thread stands between two instructions, its registers, the output, the device words that it may read and the bytes without
     // taint are those of the instructions in order.
-    ensures between { (listing : Listing) (image : List Segment) (s : Sched) (t : ℕ) → let x = run listing image s t in let c = thread_of x.machine.config x.machine.acts in
+    ensures between { (listing : Listing) (image : List Segment) (s : Sched) (t : ℕ) → let x = run listing image s t in
+        let c = thread_of x.machine.config x.machine.acts in
         GoesOn x.outcome → c.a ≡ 0 → ShownInOrder listing image x.machine.config.n c.state }
 {}
 
@@ -48,8 +49,10 @@ pub fn headline()
 /// ticks, where the instructions in order halt at the n-th, had fewer than 4n steps of the older.
 pub fn riders()
     ensures every { (listing : Listing) (image : List Segment) (s : Sched) → Riders listing image (shown_out listing image s) }
-    // After each tick every tainted byte lies in the region, or from the floor up and below the main stack pointer at one of the entries, or from the process floor up and below the process stack pointer at one of those from that stack.
-    ensures taint { (listing : Listing) (image : List Segment) (s : Sched) (t : ℕ) → let x = run listing image s t in TaintLies s x.entries x.machine.config.state }
+    // After each tick every tainted byte lies in the region, or from the floor up and below the main stack pointer at one of the entries, or from the
+    // process floor up and below the process stack pointer at one of those from that stack.
+    ensures taint { (listing : Listing) (image : List Segment) (s : Sched) (t : ℕ) → let x = run listing image s t in
+        TaintLies s x.entries x.machine.config.state }
 {}
 
 /// Two runs of one image that halt, under any two schedules and with whatever handlers, halt for one reason after as many instructions, with one
@@ -62,19 +65,22 @@ pub fn halts_alike()
 
 /// Under a schedule without entries a run is that of the machine without handlers.
 pub fn without_entries()
-    ensures same { (listing : Listing) (image : List Segment) (s : Sched) (t : ℕ) → s.entries ≡ false → shown (run listing image s t) ≡ timed listing image s t }
+    ensures same { (listing : Listing) (image : List Segment) (s : Sched) (t : ℕ) → s.entries ≡ false
+        → shown (run listing image s t) ≡ timed listing image s t }
 {}
 
-/// What an entry and a return need to know holds always: who accesses the memory, priorities of three bits, the exception number, that a handler uses the main stack, a sound IT byte that is 0
-/// inside an instruction, where there is a context, activations that entries made, each more urgent than those that it interrupted. So whatever exception is picked may enter where a
-/// tick may end, at most eight are active, and the newest activation fits.
+/// What an entry and a return need to know holds always: who accesses the memory, priorities of three bits, the exception number, that a handler uses
+/// the main stack, a sound IT byte that is 0 inside an instruction, where there is a context, activations that entries made, each more urgent than
+/// those that it interrupted. So whatever exception is picked may enter where a tick may end, at most eight are active, and the newest activation
+/// fits.
 pub fn sound()
     ensures start { (image : List Segment) (s : Sched) → IsSound s (begin image s).machine }
     ensures step { (listing : Listing) (s : Sched) (t : Turn) (x : Nested) → IsSound s x → IfOk (step listing s t x) (IsSound s) }
     ensures letters { (listing : Listing) (s : Sched) (k : ℕ) (ls : List ℕ) (x : Nested) → IsSound s x → IfOk (letters listing s k ls x) (IsSound s) }
     ensures counted { (s : Sched) (line : TickLine) (x : Run) → IsSound s x.machine → IsSound s (after_count line x).machine }
     // The registers and the position that an exception may enter at, its number, and room for its activation.
-    ensures can_enter { (s : Sched) (x : Nested) → IsSound s x → may_end x.config.a x.config.b ≡ true → CanEnter (regs_of x.config.state) (position_of x.config) }
+    ensures can_enter { (s : Sched) (x : Nested) → IsSound s x → may_end x.config.a x.config.b ≡ true
+        → CanEnter (regs_of x.config.state) (position_of x.config) }
     ensures picked { (s : Sched) (x : Run) (e : ℕ) → IsSound s x.machine → picks x ≡ Some e → IsException e × (length x.machine.acts < 8) }
     ensures few { (s : Sched) (x : Nested) → IsSound s x → length x.acts ≤ 8 }
     ensures entered { (s : Sched) (x : Run) (e : ℕ) → IsSound s x.machine → picks x ≡ Some e → may_end x.machine.config.a x.machine.config.b ≡ true

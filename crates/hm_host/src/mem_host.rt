@@ -3,7 +3,8 @@
 ghost use Rattle.std.specs.Prelude.{◌≡◌, ◌⊎◌, ◌↔◌, ◌<◌, ◌≤◌, [], length, Some, None, IfOk, IfErr, IsErrOf, IsTrue, option_map};
 ghost use Rattle.std.specs.FinMap as map_of;
 ghost use Rattle.hm_host.specs.Host.{Stays, EndsForGood, Counts, Makes, Reads, Writes, Prints, longest, read, write, print};
-ghost use Rattle.hm_host.specs.MemHost.{mem_state, mem_files, mem_printed, mem_calls, mem_faults, planned, IsNextToFail, FailsAtRead, IsTooLong, counted, after_call};
+ghost use Rattle.hm_host.specs.MemHost.{mem_state, mem_files, mem_printed, mem_calls, mem_faults, planned, IsNextToFail, FailsAtRead, IsTooLong, counted};
+ghost use Rattle.hm_host.specs.MemHost.{after_call};
 
 use crate::calls::Calls;
 use crate::host::LONGEST;
@@ -114,7 +115,8 @@ impl Host for MemHost {
         ensures count { Counts (mem_state self.old).faults (mem_state self.new).faults result }
         ensures plan { planned self.new ≡ after_call (planned self.old) }
         ensures failed { ¬ IsErrOf result HostErr.OutOfMemory → (IsErrOf result HostErr.Failed ↔ FailsAtRead self.old name.now) }
-        ensures large { ¬ IsErrOf result HostErr.OutOfMemory → (IsErrOf result HostErr.TooLarge ↔ (¬ IsNextToFail self.old × IsTooLong (mem_files self.old) name.now)) }
+        ensures large { ¬ IsErrOf result HostErr.OutOfMemory
+            → (IsErrOf result HostErr.TooLarge ↔ (¬ IsNextToFail self.old × IsTooLong (mem_files self.old) name.now)) }
     {
         let listed = self.begin();
         let failed = listed || self.files.file(name).is_none();

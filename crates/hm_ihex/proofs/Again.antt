@@ -1,5 +1,6 @@
 -- Written records read again.
-use Rattle.std.proofs.Common.{◌≡◌, ◌≢◌, ℕ, zero, suc, ◌+◌, ◌-◌, ◌*◌, ◌/◌, ◌%◌, ◌<◌, ◌≤◌, Bool, true, false, eqb, ltb, cond, List, [], ◌∷◌, ◌++◌, length, length-append, get_or, map, Option, Some, option_map, refl, ap, ◌∙◌, inl, inr, arith}
+use Rattle.std.proofs.Common.{◌≡◌, ◌≢◌, ℕ, zero, suc, ◌+◌, ◌-◌, ◌*◌, ◌/◌, ◌%◌, ◌<◌, ◌≤◌, Bool, true, false, eqb, ltb, cond, List, [], ◌∷◌, ◌++◌, length}
+use Rattle.std.proofs.Common.{length-append, get_or, map, Option, Some, option_map, refl, ap, ◌∙◌, inl, inr, arith}
 use Rattle.std.specs.Prelude.{option_and_then}
 use Rattle.std.specs.List.{AllByRecursion, flat_map}
 use Rattle.std.proofs.Math.Seq.{take-append_seam}
@@ -32,14 +33,21 @@ record_shown : (bytes : List ℕ) → Shown (record_text bytes)
 record_shown bytes = (omega arith, digits_shown (bytes ++ check_of bytes ∷ []))
 
 end_shown : Shown end_text
-end_shown = (omega arith, (omega arith, (omega arith, (omega arith, (omega arith, (omega arith, (omega arith, (omega arith, (omega arith, (omega arith, (omega arith, tt)))))))))))
+end_shown = (
+  omega arith,
+  (
+    omega arith,
+    (omega arith, (omega arith, (omega arith, (omega arith, (omega arith, (omega arith, (omega arith, (omega arith, (omega arith, tt))))))))),
+  ),
+)
 
 pub lines_shown : (upper : ℕ) (ps : List Segment) → AllByRecursion Shown (lines_of_pieces upper ps)
 lines_shown upper [] = (end_shown, tt)
 lines_shown upper (p ∷ ps) =
     let rest : AllByRecursion Shown (data_text (p.addr % 65536) p.bytes ∷ lines_of_pieces (p.addr / 65536) ps)
     = (record_shown (length p.bytes ∷ p.addr % 65536 / 256 ∷ p.addr % 65536 % 256 ∷ 0 ∷ p.bytes), lines_shown (p.addr / 65536) ps) in
-    elim (eqb (p.addr / 65536) upper) as (λ t. AllByRecursion Shown (cond t [] (base_text (p.addr / 65536) ∷ []) ++ data_text (p.addr % 65536) p.bytes ∷ lines_of_pieces (p.addr / 65536) ps)) [
+    elim (eqb (p.addr / 65536) upper) as (λ t. AllByRecursion Shown
+    (cond t [] (base_text (p.addr / 65536) ∷ []) ++ data_text (p.addr % 65536) p.bytes ∷ lines_of_pieces (p.addr / 65536) ps)) [
       | true ↦ rest
       | false ↦ (record_shown (2 ∷ 0 ∷ 0 ∷ 4 ∷ p.addr / 65536 / 256 ∷ p.addr / 65536 % 256 ∷ []), rest)
     ]
@@ -76,7 +84,8 @@ low_again : (d : ℕ) → d < 10 → digit_in (48 + d) ≡ Some d
 low_again d lt = rw (le-leb 48 (48 + d) (omega arith), le-leb (48 + d) 57 (omega arith)) (ap (λ (k : ℕ). Some k) (omega arith))
 
 high_again : (d : ℕ) → 10 ≤ d → d < 16 → digit_in (55 + d) ≡ Some d
-high_again d le lt = rw (le-leb 48 (55 + d) (omega arith), lt-leb (55 + d) 57 (omega arith), le-leb 65 (55 + d) (omega arith), le-leb (55 + d) 70 (omega arith)) (ap (λ (k : ℕ). Some k) (omega arith))
+high_again d le lt = rw (le-leb 48 (55 + d) (omega arith), lt-leb (55 + d) 57 (omega arith), le-leb 65 (55 + d) (omega arith), le-leb (55 + d) 70 (omega arith))
+    (ap (λ (k : ℕ). Some k) (omega arith))
 
 digit_again : (d : ℕ) → d < 16 → digit_in (digit d) ≡ Some d
 digit_again d lt = elim (cases_Bool (ltb d 10)) [
@@ -119,7 +128,8 @@ check_below : (bytes : List ℕ) → check_of bytes < 256
 check_below bytes = omega arith
 
 record_again : (bytes : List ℕ) → Bytes bytes → line_in (record_text bytes) ≡ record_in (bytes ++ check_of bytes ∷ [])
-record_again bytes h = ap (option_and_then record_in) (bytes_again (bytes ++ check_of bytes ∷ []) (bytes_and bytes (check_of bytes ∷ []) h (check_below bytes, tt)))
+record_again bytes h = ap (option_and_then record_in)
+    (bytes_again (bytes ++ check_of bytes ∷ []) (bytes_and bytes (check_of bytes ∷ []) h (check_below bytes, tt)))
 
 sum_one : (b : ℕ) → sum_of (b ∷ []) ≡ b
 unfolding sum_of
@@ -136,13 +146,16 @@ pub record_is : (high low kind check : ℕ) (bytes : List ℕ) → sum_of (lengt
     → record_in (length bytes ∷ high ∷ low ∷ kind ∷ (bytes ++ check ∷ [])) ≡ record_of kind (256 * high + low) bytes
 record_is high low kind check bytes zero_sum =
     let count : length (bytes ++ check ∷ []) ≡ length bytes + 1 = length-append bytes (check ∷ []) in
-    let test = and_from (eqb (length (bytes ++ check ∷ [])) (length bytes + 1)) (eqb (sum_of (length bytes ∷ high ∷ low ∷ kind ∷ (bytes ++ check ∷ [])) % 256) 0) (eq-eqb (length (bytes ++ check ∷ [])) (length bytes + 1) count) (eq-eqb (sum_of (length bytes ∷ high ∷ low ∷ kind ∷ (bytes ++ check ∷ [])) % 256) 0 zero_sum) in
+    let test = and_from (eqb (length (bytes ++ check ∷ [])) (length bytes + 1))
+    (eqb (sum_of (length bytes ∷ high ∷ low ∷ kind ∷ (bytes ++ check ∷ [])) % 256) 0) (eq-eqb (length (bytes ++ check ∷ [])) (length bytes + 1) count)
+    (eq-eqb (sum_of (length bytes ∷ high ∷ low ∷ kind ∷ (bytes ++ check ∷ [])) % 256) 0 zero_sum) in
     rw (test, take-append_seam bytes (check ∷ [])) refl
 
 data_is : (offset : ℕ) (bytes : List ℕ) → offset + length bytes ≤ 65536 → record_of 0 offset bytes ≡ Some (data_at offset bytes)
 data_is offset bytes le = rw (le-leb (offset + length bytes) 65536 le) refl
 
-pub data_again : (offset : ℕ) (bytes : List ℕ) → Bytes bytes → length bytes < 256 → offset < 65536 → offset + length bytes ≤ 65536 → line_in (data_text offset bytes) ≡ Some (data_at offset bytes)
+pub data_again : (offset : ℕ) (bytes : List ℕ) → Bytes bytes → length bytes < 256 → offset < 65536 → offset + length bytes ≤ 65536
+    → line_in (data_text offset bytes) ≡ Some (data_at offset bytes)
 data_again offset bytes h few lt le =
     let head = length bytes ∷ offset / 256 ∷ offset % 256 ∷ 0 ∷ bytes in
     record_again head (few, (omega arith, (omega arith, (omega arith, h))))

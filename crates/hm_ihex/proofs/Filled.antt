@@ -1,5 +1,6 @@
 -- Cells that rising segments fill, and the runs of them.
-use Rattle.std.proofs.Common.{◌≡◌, ℕ, zero, suc, ◌+◌, ◌-◌, ◌<◌, ◌≤◌, true, false, eqb, ltb, leb, List, [], ◌∷◌, ◌++◌, append_assoc, append-nil, length, length-append, get_or, is_none, Option, Some, None, refl, sym, ap, subst, ◌∙◌, inl, inr, arith}
+use Rattle.std.proofs.Common.{◌≡◌, ℕ, zero, suc, ◌+◌, ◌-◌, ◌<◌, ◌≤◌, true, false, eqb, ltb, leb, List, [], ◌∷◌, ◌++◌, append_assoc, append-nil, length}
+use Rattle.std.proofs.Common.{length-append, get_or, is_none, Option, Some, None, refl, sym, ap, subst, ◌∙◌, inl, inr, arith}
 use Rattle.std.proofs.Math.Seq.{get_or-append_seam, set-append_seam}
 use Rattle.std.proofs.lemmas.Bool.{and_from, cases_Bool, eq-eqb, lt-ltb, le-leb, lt-leb}
 use Rattle.hm_base.specs.Image.{Segment, segment, flash_size, sram_start}
@@ -64,16 +65,19 @@ unfolding put_in
 put_one xs more b bs =
     let count : length (xs ++ None ∷ more) ≡ length xs + length (None ∷ more) = length-append xs (None ∷ more) in
     let free : is_free (length xs) (xs ++ None ∷ more) ≡ true
-    = and_from (ltb (length xs) (length (xs ++ None ∷ more))) (is_none (get_or (xs ++ None ∷ more) (length xs) None)) (lt-ltb (length xs) (length (xs ++ None ∷ more)) (omega arith)) (ap is_none (get_or-append_seam xs None more None)) in
+    = and_from (ltb (length xs) (length (xs ++ None ∷ more))) (is_none (get_or (xs ++ None ∷ more) (length xs) None))
+    (lt-ltb (length xs) (length (xs ++ None ∷ more)) (omega arith)) (ap is_none (get_or-append_seam xs None more None)) in
     rw (free, set-append_seam xs None more (Some b)) refl
 
 pub put_none : (k : ℕ) (xs : List (Option ℕ)) → put_in k [] xs ≡ Some xs
 unfolding put_in
 put_none k xs = refl
 
-put_next : (xs : List (Option ℕ)) (n a : ℕ) (bytes : List ℕ) → a ≡ length xs → put_in a bytes (xs ++ no_cells (length bytes + n)) ≡ Some ((xs ++ given bytes) ++ no_cells n)
+put_next : (xs : List (Option ℕ)) (n a : ℕ) (bytes : List ℕ) → a ≡ length xs
+    → put_in a bytes (xs ++ no_cells (length bytes + n)) ≡ Some ((xs ++ given bytes) ++ no_cells n)
 put_next xs n a [] is =
-    put_none a (xs ++ no_cells (0 + n)) ∙ ap (λ (k : ℕ). Some (xs ++ no_cells k)) (let e : 0 + n ≡ n = omega arith in e) ∙ ap (λ (ys : List (Option ℕ)). Some (ys ++ no_cells n)) (sym (append-nil xs))
+    put_none a (xs ++ no_cells (0 + n)) ∙ ap (λ (k : ℕ). Some (xs ++ no_cells k)) (let e : 0 + n ≡ n = omega arith in e)
+    ∙ ap (λ (ys : List (Option ℕ)). Some (ys ++ no_cells n)) (sym (append-nil xs))
 put_next xs n a (b ∷ bs) is =
     let count : length (b ∷ bs) + n ≡ suc (length bs + n) = omega arith in
     let next : length xs + 1 ≡ length (xs ++ Some b ∷ []) = sym (length-append xs (Some b ∷ [])) in
@@ -88,7 +92,8 @@ put_next xs n a (b ∷ bs) is =
 abbrev filled : List (Option ℕ) → ℕ → Segment → List (Option ℕ)
 filled xs p s = (xs ++ no_cells (s.addr - p)) ++ given s.bytes
 
-put_segment : (xs : List (Option ℕ)) (start at p end : ℕ) (s : Segment) → p ≡ start + length xs → start + at ≡ s.addr → p ≤ s.addr → s.addr + length s.bytes ≤ end
+put_segment : (xs : List (Option ℕ)) (start at p end : ℕ) (s : Segment) → p ≡ start + length xs → start + at ≡ s.addr → p ≤ s.addr
+    → s.addr + length s.bytes ≤ end
     → put_in at s.bytes (xs ++ no_cells (end - p)) ≡ Some (filled xs p s ++ no_cells (end - (s.addr + length s.bytes)))
 put_segment xs start at p end s is from low high =
     let gap = s.addr - p in
@@ -101,7 +106,8 @@ put_segment xs start at p end s is from low high =
     ∙ ap (put_in at s.bytes) (sym (append_assoc xs (no_cells gap) (no_cells (length s.bytes + n))))
     ∙ put_next (xs ++ no_cells gap) n at s.bytes (omega arith)
 
-regrouped : (xs : List (Option ℕ)) (p : ℕ) (s : Segment) (more : List (Option ℕ)) → filled xs p s ++ more ≡ xs ++ (no_cells (s.addr - p) ++ (given s.bytes ++ more))
+regrouped : (xs : List (Option ℕ)) (p : ℕ) (s : Segment) (more : List (Option ℕ))
+    → filled xs p s ++ more ≡ xs ++ (no_cells (s.addr - p) ++ (given s.bytes ++ more))
 regrouped xs p s more = append_assoc (xs ++ no_cells (s.addr - p)) (given s.bytes) more ∙ append_assoc xs (no_cells (s.addr - p)) (given s.bytes ++ more)
 
 length_given : (bytes : List ℕ) → length (given bytes) ≡ length bytes
@@ -127,8 +133,12 @@ puts_flash P xs sram p end (s ∷ ss) few is h =
     let put = put_segment xs 0 s.addr p end s is (omega arith) h.0 high in
     let test : leb sram_start s.addr ≡ false = lt-leb sram_start s.addr (omega arith) in
     let next = cells (filled xs p s ++ no_cells (end - q)) sram in
-    let one : with_data s.addr s.bytes (cells (xs ++ no_cells (end - p)) sram) ≡ Some next = rw (test, put) refl in
-    (next, one, subst (λ (f : List (Option ℕ)). Puts next ss (cells f sram)) (regrouped xs p s (spread q ss end)) (puts_flash P (filled xs p s) sram q end ss few (ends_at xs 0 p s is h.0) h.2))
+    let one : with_data s.addr s.bytes (cells (xs ++ no_cells (end - p)) sram) ≡ Some next = rw (test, put) refl in (
+      next,
+      one,
+      subst (λ (f : List (Option ℕ)). Puts next ss (cells f sram)) (regrouped xs p s (spread q ss end))
+          (puts_flash P (filled xs p s) sram q end ss few (ends_at xs 0 p s is h.0) h.2),
+    )
 
 -- and those of SRAM
 pub puts_sram : (P : Segment → Type 0) (xs flash : List (Option ℕ)) (p end : ℕ) (ss : List Segment) → p ≡ sram_start + length xs → Rises P p end ss
@@ -140,13 +150,18 @@ puts_sram P xs flash p end (s ∷ ss) is h =
     let put = put_segment xs sram_start (s.addr - sram_start) p end s is (omega (arith, h.0)) h.0 high in
     let test : leb sram_start s.addr ≡ true = le-leb sram_start s.addr (omega (arith, h.0)) in
     let next = cells flash (filled xs p s ++ no_cells (end - q)) in
-    let one : with_data s.addr s.bytes (cells flash (xs ++ no_cells (end - p))) ≡ Some next = rw (test, put) refl in
-    (next, one, subst (λ (f : List (Option ℕ)). Puts next ss (cells flash f)) (regrouped xs p s (spread q ss end)) (puts_sram P (filled xs p s) flash q end ss (ends_at xs sram_start p s is h.0) h.2))
+    let one : with_data s.addr s.bytes (cells flash (xs ++ no_cells (end - p))) ≡ Some next = rw (test, put) refl in (
+      next,
+      one,
+      subst (λ (f : List (Option ℕ)). Puts next ss (cells flash f)) (regrouped xs p s (spread q ss end))
+          (puts_sram P (filled xs p s) flash q end ss (ends_at xs sram_start p s is h.0) h.2),
+    )
 
 -- ---- the runs of such cells
 
 -- a segment in front of one that it touches
-pub fuse : (a b : ℕ) (xs ys : List ℕ) (r : List Segment) → b ≡ a + length xs → joined_to (segment a xs) (joined_to (segment b ys) r) ≡ joined_to (segment a (xs ++ ys)) r
+pub fuse : (a b : ℕ) (xs ys : List ℕ) (r : List Segment) → b ≡ a + length xs
+    → joined_to (segment a xs) (joined_to (segment b ys) r) ≡ joined_to (segment a (xs ++ ys)) r
 fuse a b xs ys [] is = rw (eq-eqb b (a + length xs) is) refl
 fuse a b xs ys (t ∷ ts) is =
     let count : length (xs ++ ys) ≡ length xs + length ys = length-append xs ys in
@@ -160,7 +175,8 @@ fuse a b xs ys (t ∷ ts) is =
 runs_gap : (n a : ℕ) (cs : List (Option ℕ)) → runs a (no_cells n ++ cs) ≡ runs (a + n) cs
 runs_gap zero a cs = ap (λ (x : List (Option ℕ)). runs a (x ++ cs)) no_cells_zero ∙ ap (λ (k : ℕ). runs k cs) (let e : a ≡ a + 0 = omega arith in e)
 runs_gap (suc n) a cs =
-    ap (λ (x : List (Option ℕ)). runs a (x ++ cs)) (no_cells_suc n) ∙ runs_none a (no_cells n ++ cs) ∙ runs_gap n (a + 1) cs ∙ ap (λ (k : ℕ). runs k cs) (let e : a + 1 + n ≡ a + suc n = omega arith in e)
+    ap (λ (x : List (Option ℕ)). runs a (x ++ cs)) (no_cells_suc n) ∙ runs_none a (no_cells n ++ cs) ∙ runs_gap n (a + 1) cs
+    ∙ ap (λ (k : ℕ). runs k cs) (let e : a + 1 + n ≡ a + suc n = omega arith in e)
 
 runs_empty : (n a : ℕ) → runs a (no_cells n) ≡ []
 runs_empty n a = ap (runs a) (sym (append-nil (no_cells n))) ∙ runs_gap n a [] ∙ runs_nil (a + n)
@@ -173,16 +189,19 @@ onto_one : (a b : ℕ) (ss : List Segment) → onto_runs a (Some b) ss ≡ joine
 onto_one a b [] = refl
 onto_one a b (s ∷ ss) = refl
 
-runs_given : (a : ℕ) (bytes : List ℕ) (cs : List (Option ℕ)) → 0 < length bytes → runs a (given bytes ++ cs) ≡ joined_to (segment a bytes) (runs (a + length bytes) cs)
+runs_given : (a : ℕ) (bytes : List ℕ) (cs : List (Option ℕ)) → 0 < length bytes
+    → runs a (given bytes ++ cs) ≡ joined_to (segment a bytes) (runs (a + length bytes) cs)
 runs_given a [] cs some = absurd (omega arith)
 runs_given a (b ∷ []) cs some = runs_one a b cs ∙ onto_one a b (runs (a + 1) cs)
 runs_given a (b ∷ c ∷ bs) cs some =
-    runs_one a b (given (c ∷ bs) ++ cs) ∙ ap (onto_runs a (Some b)) (runs_given (a + 1) (c ∷ bs) cs (omega arith)) ∙ onto_one a b (joined_to (segment (a + 1) (c ∷ bs)) (runs (a + 1 + length (c ∷ bs)) cs))
+    runs_one a b (given (c ∷ bs) ++ cs) ∙ ap (onto_runs a (Some b)) (runs_given (a + 1) (c ∷ bs) cs (omega arith))
+    ∙ onto_one a b (joined_to (segment (a + 1) (c ∷ bs)) (runs (a + 1 + length (c ∷ bs)) cs))
     ∙ fuse a (a + 1) (b ∷ []) (c ∷ bs) (runs (a + 1 + length (c ∷ bs)) cs) refl
     ∙ ap (λ (k : ℕ). joined_to (segment a (b ∷ c ∷ bs)) (runs k cs)) (let e : a + 1 + length (c ∷ bs) ≡ a + length (b ∷ c ∷ bs) = omega arith in e)
 
 -- the runs of what rising segments fill are the segments, those that touch made one
-pub runs_spread : (P : Segment → Type 0) (p end : ℕ) (ss : List Segment) → ((s : Segment) → P s → 0 < length s.bytes) → Rises P p end ss → runs p (spread p ss end) ≡ joined ss
+pub runs_spread : (P : Segment → Type 0) (p end : ℕ) (ss : List Segment) → ((s : Segment) → P s → 0 < length s.bytes) → Rises P p end ss
+    → runs p (spread p ss end) ≡ joined ss
 runs_spread P p end [] some h = runs_empty (end - p) p
 runs_spread P p end (s ∷ ss) some h =
     let q = s.addr + length s.bytes in

@@ -1,5 +1,6 @@
 -- What is read is just what the form of a file says.
-use Rattle.std.proofs.Common.{◌≡◌, ◌⊎◌, ℕ, ◌+◌, ◌-◌, leb, List, [], ◌∷◌, ◌++◌, append_assoc, append-nil, Option, Some, None, Result, Ok, Err, IfOk, refl, sym, ap, subst, ◌∙◌, inl, inr, arith}
+use Rattle.std.proofs.Common.{◌≡◌, ◌⊎◌, ℕ, ◌+◌, ◌-◌, leb, List, [], ◌∷◌, ◌++◌, append_assoc, append-nil, Option, Some, None, Result, Ok, Err, IfOk, refl, sym}
+use Rattle.std.proofs.Common.{ap, subst, ◌∙◌, inl, inr, arith}
 use Rattle.std.specs.List.{AllByRecursion}
 use Rattle.std.proofs.lemmas.Bool.{cases_Bool}
 use Rattle.std.proofs.lemmas.List.Elements.{All-cons, All-head, All-nil, All-push, All-tail}
@@ -78,7 +79,8 @@ read_on k r q l ls all e read = record { cells = read.cells; is = e ∙ read.is;
 by_data : (k : ℕ) (r : Reading) (l : List ℕ) (ls : List (List ℕ)) (offset : ℕ) (bytes : List ℕ) (next : Cells) → IsRecordLine l (data_at offset bytes)
     → with_data (r.base + offset) bytes r.cells ≡ Some next
     → lines_in k r (l ∷ ls) ≡ lines_in (k + 1) (more_data r next) ls
-by_data k r l ls offset bytes next h put = by_line k r l ls (data_at offset bytes) h ∙ ap (λ (o : Option Cells). behind_data r o >>= (λ q. lines_in (k + 1) q ls)) put
+by_data k r l ls offset bytes next h put = by_line k r l ls (data_at offset bytes) h
+    ∙ ap (λ (o : Option Cells). behind_data r o >>= (λ q. lines_in (k + 1) q ls)) put
 
 reads : (k : ℕ) (r : Reading) (done : List Segment) (ls : List (List ℕ)) (rs : List Record) → AreRecordLines ls rs → EndsOnce rs → Holds r.cells done
     → AllByRecursion IsPlaced done → AllByRecursion IsPlaced (data_behind r.base rs)
@@ -91,11 +93,13 @@ reads k r done (l ∷ ls) (end ∷ rs) lines ended holds all placed apart =
     let nothing : done ++ data_behind r.base rs ≡ done = ap (λ (x : List Record). done ++ data_behind r.base x) ended ∙ append-nil done in
     record { cells = r.cells; is = by_line k r l ls end lines.0 ∙ ap (ended_by k r.cells) none; holds = subst (Holds r.cells) (sym nothing) holds }
 reads k r done (l ∷ ls) (new_base base ∷ rs) lines ended holds all placed apart =
-    read_on k r (based r base) l ls (done ++ data_behind base rs) (by_line k r l ls (new_base base) lines.0) (reads (k + 1) (based r base) done ls rs lines.1 ended holds all placed apart)
+    read_on k r (based r base) l ls (done ++ data_behind base rs) (by_line k r l ls (new_base base) lines.0)
+    (reads (k + 1) (based r base) done ls rs lines.1 ended holds all placed apart)
 reads k r done (l ∷ ls) (start ∷ rs) lines ended holds all placed apart =
     read_on k r r l ls (done ++ data_behind r.base rs) (by_line k r l ls start lines.0) (reads (k + 1) r done ls rs lines.1 ended holds all placed apart)
 reads k r done (l ∷ ls) (data_at offset [] ∷ rs) lines ended holds all placed apart =
-    read_on k r (more_data r r.cells) l ls (done ++ data_behind r.base rs) (by_data k r l ls offset [] r.cells lines.0 (no_data (r.base + offset) r.cells)) (reads (k + 1) (more_data r r.cells) done ls rs lines.1 ended holds all placed apart)
+    read_on k r (more_data r r.cells) l ls (done ++ data_behind r.base rs) (by_data k r l ls offset [] r.cells lines.0 (no_data (r.base + offset) r.cells))
+    (reads (k + 1) (more_data r r.cells) done ls rs lines.1 ended holds all placed apart)
 reads k r done (l ∷ ls) (data_at offset (b ∷ bs) ∷ rs) lines ended holds all placed apart =
     let s = segment (r.base + offset) (b ∷ bs) in
     let rest = data_behind r.base rs in
@@ -104,7 +108,8 @@ reads k r done (l ∷ ls) (data_at offset (b ∷ bs) ∷ rs) lines ended holds a
     let regroup : (done ++ s ∷ []) ++ rest ≡ done ++ s ∷ rest = append_assoc done (s ∷ []) rest in
     subst (Read k r (l ∷ ls)) regroup
     (read_on k r next l ls ((done ++ s ∷ []) ++ rest) (by_data k r l ls offset (b ∷ bs) put.0 lines.0 put.1)
-    (reads (k + 1) next (done ++ s ∷ []) ls rs lines.1 ended put.2 (all_both IsPlaced done (s ∷ []) all (placed.0, tt)) placed.1 (subst AreApart (sym regroup) apart)))
+    (reads (k + 1) next (done ++ s ∷ []) ls rs lines.1 ended put.2 (all_both IsPlaced done (s ∷ []) all (placed.0, tt)) placed.1
+    (subst AreApart (sym regroup) apart)))
 
 -- a file of the form is read as its image
 pub hex_only : (bytes : List ℕ) (image : List Segment) → IsHexFile bytes image → hex_in bytes ≡ Ok image
@@ -112,7 +117,10 @@ hex_only bytes image h =
     let lines = lines_read h.lines bytes (records_low h.lines h.records h.each_record) h.text in
     let read = reads 1 first_reading [] h.lines h.records h.each_record h.ended first_holds tt h.placed h.once in
     let runs = image_runs read.cells (data_of h.records) h.placed read.holds in
-    ap (lines_in 1 first_reading) lines ∙ read.is ∙ ap (λ (i : List Segment). Ok i) (one_image (image_of read.cells) image runs.sound h.sound runs.longest h.longest (λ a. runs.same a ∙ sym (same_bytes image (data_of h.records) (image_apart image h.sound) h.once h.same a)))
+    ap (lines_in 1 first_reading) lines ∙ read.is
+    ∙ ap (λ (i : List Segment). Ok i)
+    (one_image (image_of read.cells) image runs.sound h.sound runs.longest h.longest
+    (λ a. runs.same a ∙ sym (same_bytes image (data_of h.records) (image_apart image h.sound) h.once h.same a)))
 
 -- ---- and what is read is of the form
 
@@ -127,7 +135,8 @@ record IsTold (base : ℕ) (ls : List (List ℕ)) (done image : List Segment) : 
   holds : Holds cells (done ++ data_behind base records)
 
 abbrev Tells : List (List ℕ) → Type 0
-Tells ls = (k : ℕ) (r : Reading) (done image : List Segment) → Holds r.cells done → AllByRecursion IsPlaced done → AreApart done → lines_in k r ls ≡ Ok image → IsTold r.base ls done image
+Tells ls = (k : ℕ) (r : Reading) (done image : List Segment) → Holds r.cells done → AllByRecursion IsPlaced done → AreApart done → lines_in k r ls ≡ Ok image
+    → IsTold r.base ls done image
 
 abbrev image_or : List Segment → Result (List Segment) ImageErr → List Segment
 image_or other (Ok image) = image
@@ -171,7 +180,8 @@ told_data : (base offset b : ℕ) (bs l : List ℕ) (ls : List (List ℕ)) (done
     → IsTold base ls (done ++ segment (base + offset) (b ∷ bs) ∷ []) image → IsTold base (l ∷ ls) done image
 told_data base offset b bs l ls done image line t =
     let s = segment (base + offset) (b ∷ bs) in
-    let all : (done ++ segment (base + offset) (b ∷ bs) ∷ []) ++ data_behind base t.records ≡ done ++ segment (base + offset) (b ∷ bs) ∷ data_behind base t.records = append_assoc done (s ∷ []) (data_behind base t.records) in
+    let all : (done ++ segment (base + offset) (b ∷ bs) ∷ []) ++ data_behind base t.records
+    ≡ done ++ segment (base + offset) (b ∷ bs) ∷ data_behind base t.records = append_assoc done (s ∷ []) (data_behind base t.records) in
     record {
       records = data_at offset (b ∷ bs) ∷ t.records;
       cells = t.cells;
@@ -189,7 +199,8 @@ put_on : (k : ℕ) (r : Reading) (l : List ℕ) (ls : List (List ℕ)) (offset :
 put_on k r l ls offset bytes done image None was tells line holds all apart e = absurd cc
 put_on k r l ls offset [] done image (Some next) was tells line holds all apart e =
     let same : r.cells ≡ next = cells_same r.cells next (sym (no_data (r.base + offset) r.cells) ∙ was) in
-    told_more r.base r.base (data_at offset []) l ls done image line (λ rs h. h) (λ rs. refl) (tells (k + 1) (more_data r next) done image (subst (λ (c : Cells). Holds c done) same holds) all apart e)
+    told_more r.base r.base (data_at offset []) l ls done image line (λ rs h. h) (λ rs. refl)
+    (tells (k + 1) (more_data r next) done image (subst (λ (c : Cells). Holds c done) same holds) all apart e)
   where
     cells_same : (c d : Cells) → Some c ≡ Some d → c ≡ d
     cells_same c d e = cc
@@ -197,7 +208,8 @@ put_on k r l ls offset (b ∷ bs) done image (Some next) was tells line holds al
     let s = segment (r.base + offset) (b ∷ bs) in
     let added = step_told r.cells next done s holds all (omega arith) was in
     told_data r.base offset b bs l ls done image line
-    (tells (k + 1) (more_data r next) (done ++ s ∷ []) image added.holds (all_both IsPlaced done (s ∷ []) all (added.placed, tt)) (apart_push s done apart added.apart) e)
+    (tells (k + 1) (more_data r next) (done ++ s ∷ []) image added.holds (all_both IsPlaced done (s ∷ []) all (added.placed, tt))
+    (apart_push s done apart added.apart) e)
 
 by_said : (k : ℕ) (r : Reading) (l : List ℕ) (ls : List (List ℕ)) (done image : List Segment) (said : Option Record) → line_in l ≡ said → Tells ls
     → Holds r.cells done → AllByRecursion IsPlaced done → AreApart done
@@ -205,7 +217,8 @@ by_said : (k : ℕ) (r : Reading) (l : List ℕ) (ls : List (List ℕ)) (done im
 by_said k r l ls done image None is tells holds all apart e = absurd cc
 by_said k r l ls done image (Some end) is tells holds all apart e = told_end k r l ls done image (line_told l end is) holds all apart e
 by_said k r l ls done image (Some (new_base base)) is tells holds all apart e =
-    told_more r.base base (new_base base) l ls done image (line_told l (new_base base) is) (λ rs h. h) (λ rs. refl) (tells (k + 1) (based r base) done image holds all apart e)
+    told_more r.base base (new_base base) l ls done image (line_told l (new_base base) is) (λ rs h. h) (λ rs. refl)
+    (tells (k + 1) (based r base) done image holds all apart e)
 by_said k r l ls done image (Some start) is tells holds all apart e =
     told_more r.base r.base start l ls done image (line_told l start is) (λ rs h. h) (λ rs. refl) (tells (k + 1) r done image holds all apart e)
 by_said k r l ls done image (Some (data_at offset bytes)) is tells holds all apart e =

@@ -1,5 +1,7 @@
 -- Cells that hold the bytes of segments, as data is given to them.
-use Rattle.std.proofs.Common.{◌≡◌, ◌≢◌, ◌⊎◌, ◌↔◌, ℕ, zero, suc, ◌+◌, ◌-◌, ◌<◌, ◌≤◌, Bool, true, false, ltb, leb, cond, List, [], ◌∷◌, ◌++◌, get_or, is_none, length, set, Option, Some, None, option_map, refl, sym, ap, subst, ◌∙◌, inl, inr, arith, get_or-set_same, get_or-set_other, length-set}
+use Rattle.std.proofs.Common.{◌≡◌, ◌≢◌, ◌⊎◌, ◌↔◌, ℕ, zero, suc, ◌+◌, ◌-◌, ◌<◌, ◌≤◌, Bool, true, false, ltb, leb, cond, List, [], ◌∷◌, ◌++◌, get_or, is_none}
+use Rattle.std.proofs.Common.{length, set, Option, Some, None, option_map, refl, sym, ap, subst, ◌∙◌, inl, inr, arith, get_or-set_same, get_or-set_other}
+use Rattle.std.proofs.Common.{length-set}
 use Rattle.std.specs.Prelude.{slice_index}
 use Rattle.std.specs.List.{AllByRecursion}
 use Rattle.std.proofs.lemmas.Bool.{and_from, and_parts, cases_Bool, le-leb, leb-true, lt-leb, lt-ltb, ltb-true}
@@ -76,7 +78,12 @@ pub put_told : (bytes : List ℕ) (k : ℕ) (cells new : List (Option ℕ)) → 
 put_told [] k cells new e =
     let same = some_is cells new (sym (put_none k cells) ∙ e) in (
       (λ j lt. absurd (omega arith)),
-      record { size = ap length (sym same); within = λ j le lt. absurd (omega arith); below = λ j lt. ap (λ (c : List (Option ℕ)). get_or c j None) (sym same); above = λ j le. ap (λ (c : List (Option ℕ)). get_or c j None) (sym same) },
+      record {
+        size = ap length (sym same);
+        within = λ j le lt. absurd (omega arith);
+        below = λ j lt. ap (λ (c : List (Option ℕ)). get_or c j None) (sym same);
+        above = λ j le. ap (λ (c : List (Option ℕ)). get_or c j None) (sym same);
+      },
     )
 put_told (b ∷ bs) k cells new e =
     let next = set cells k (Some b) in
@@ -107,7 +114,8 @@ put_told (b ∷ bs) k cells new e =
     put_here wrote there j le lt = elim (order j k le) [
       | inl e ↦
           let at : j - k ≡ 0 = omega arith in
-          let now : get_or (set cells k (Some b)) j None ≡ Some b = ap (λ (i : ℕ). get_or (set cells k (Some b)) i None) e ∙ get_or-set_same cells k (Some b) None there in
+          let now : get_or (set cells k (Some b)) j None ≡ Some b = ap (λ (i : ℕ). get_or (set cells k (Some b)) i None) e
+          ∙ get_or-set_same cells k (Some b) None there in
           wrote.below j (omega arith) ∙ now ∙ ap (λ (i : ℕ). Some (get_or (b ∷ bs) i 0)) (sym at)
       | inr more ↦
           let at : j - k ≡ suc (j - (k + 1)) = omega arith in
@@ -176,7 +184,8 @@ alike None (Some b) f g = g b refl
 alike (Some b) p f g = sym (f b refl)
 
 pub same_bytes : (xs ys : List Segment) → AreApart xs → AreApart ys → ((a b : ℕ) → HasByte xs a b ↔ HasByte ys a b) → (a : ℕ) → byte_at xs a ≡ byte_at ys a
-same_bytes xs ys x y h a = alike (byte_at xs a) (byte_at ys a) (λ b e. byte_is ys a b y ((h a b).0 (has_byte xs a b e))) (λ b e. byte_is xs a b x ((h a b).1 (has_byte ys a b e)))
+same_bytes xs ys x y h a = alike (byte_at xs a) (byte_at ys a) (λ b e. byte_is ys a b y ((h a b).0 (has_byte xs a b e)))
+    (λ b e. byte_is xs a b x ((h a b).1 (has_byte ys a b e)))
 
 pub bytes_same : (xs ys : List Segment) → AreApart xs → AreApart ys → ((a : ℕ) → byte_at xs a ≡ byte_at ys a) → (a b : ℕ) → HasByte xs a b ↔ HasByte ys a b
 bytes_same xs ys x y h a b = ((λ has. has_byte ys a b (sym (h a) ∙ byte_is xs a b x has)), (λ has. has_byte xs a b (h a ∙ byte_is ys a b y has)))
@@ -189,10 +198,11 @@ image_apart (s ∷ ss) is = (All-weaker (Before s) (λ (t : Segment). Before s t
 -- a segment that is apart from others has none of their bytes
 apart_none : (s : Segment) (done : List Segment) → IsApart s done → (x : ℕ) → s.addr ≤ x → x < s.addr + length s.bytes → byte_at done x ≡ None
 apart_none s [] h x low high = refl
-apart_none s (t ∷ ts) h x low high = byte_past t ts x (out (All-head (λ (t : Segment). Before s t ⊎ Before t s) t ts h)) ∙ apart_none s ts (All-tail (λ (t : Segment). Before s t ⊎ Before t s) t ts h) x low high where
-  out : Before s t ⊎ Before t s → covers t x ≡ false
-  out (inl before) = early t x (omega arith)
-  out (inr behind) = late t x (omega arith)
+apart_none s (t ∷ ts) h x low high = byte_past t ts x (out (All-head (λ (t : Segment). Before s t ⊎ Before t s) t ts h))
+    ∙ apart_none s ts (All-tail (λ (t : Segment). Before s t ⊎ Before t s) t ts h) x low high where
+      out : Before s t ⊎ Before t s → covers t x ≡ false
+      out (inl before) = early t x (omega arith)
+      out (inr behind) = late t x (omega arith)
 
 -- two segments with a byte that share no address are apart
 meets : (s t : Segment) (x : ℕ) → ((x : ℕ) → s.addr ≤ x → x < s.addr + length s.bytes → covers t x ≡ false) → s.addr ≤ x → x < s.addr + length s.bytes
@@ -224,7 +234,8 @@ none_apart : (s : Segment) (done : List Segment) → 0 < length s.bytes → AllB
     → ((x : ℕ) → s.addr ≤ x → x < s.addr + length s.bytes → byte_at done x ≡ None) → IsApart s done
 none_apart s [] some all h = All-nil (λ (t : Segment). Before s t ⊎ Before t s)
 none_apart s (t ∷ ts) some all h =
-    All-cons (λ (t : Segment). Before s t ⊎ Before t s) t ts (one_apart s t some all.0.0 (λ x low high. (covers_none t ts x (h x low high)).0)) (none_apart s ts some all.1 (λ x low high. (covers_none t ts x (h x low high)).1))
+    All-cons (λ (t : Segment). Before s t ⊎ Before t s) t ts (one_apart s t some all.0.0 (λ x low high. (covers_none t ts x (h x low high)).0))
+    (none_apart s ts some all.1 (λ x low high. (covers_none t ts x (h x low high)).1))
 
 -- ---- what cells hold
 
@@ -253,8 +264,11 @@ module _ (from size at : ℕ) (cells : List (Option ℕ)) (done : List Segment) 
   free_of : at + length s.bytes ≤ size → ((x : ℕ) → s.addr ≤ x → x < s.addr + length s.bytes → byte_at done x ≡ None) → AreFree at (length s.bytes) cells
   free_of fits none j lt =
       let whole = h.whole in
-      let back : from + (at + j) - from ≡ at + j = omega arith in
-      (omega arith, ap (λ (k : ℕ). get_or cells k None) (sym back) ∙ h.at (from + (at + j)) (omega arith) (omega arith) ∙ none (from + (at + j)) (omega arith) (omega arith))
+      let back : from + (at + j) - from ≡ at + j = omega arith in (
+        omega arith,
+        ap (λ (k : ℕ). get_or cells k None) (sym back) ∙ h.at (from + (at + j)) (omega arith) (omega arith)
+            ∙ none (from + (at + j)) (omega arith) (omega arith),
+      )
 
   none_of : AreFree at (length s.bytes) cells → (x : ℕ) → s.addr ≤ x → x < s.addr + length s.bytes → byte_at done x ≡ None
   none_of free x low high =
@@ -287,10 +301,11 @@ module _ (from size at : ℕ) (cells : List (Option ℕ)) (done : List Segment) 
 
 beside_holds : (from size : ℕ) (cells : List (Option ℕ)) (done : List Segment) (s : Segment) → HoldsFrom from size cells done
     → (from + size ≤ s.addr) ⊎ (s.addr + length s.bytes ≤ from) → HoldsFrom from size cells (done ++ s ∷ [])
-beside_holds from size cells done s h far = record { whole = h.whole; at = λ a low high. h.at a low high ∙ sym (byte_front done (s ∷ []) a (byte_past s [] a (out far a low high))) } where
-  out : (from + size ≤ s.addr) ⊎ (s.addr + length s.bytes ≤ from) → (a : ℕ) → from ≤ a → a < from + size → covers s a ≡ false
-  out (inl above) a low high = early s a (omega arith)
-  out (inr below) a low high = late s a (omega arith)
+beside_holds from size cells done s h far =
+    record { whole = h.whole; at = λ a low high. h.at a low high ∙ sym (byte_front done (s ∷ []) a (byte_past s [] a (out far a low high))) } where
+      out : (from + size ≤ s.addr) ⊎ (s.addr + length s.bytes ≤ from) → (a : ℕ) → from ≤ a → a < from + size → covers s a ≡ false
+      out (inl above) a low high = early s a (omega arith)
+      out (inr below) a low high = late s a (omega arith)
 
 -- ---- one more record of data
 
@@ -382,7 +397,8 @@ step_read m done s h all placed apart = elim placed.1 [
       let fits : s.addr + length s.bytes ≤ sram_start + sram_size = sram.1 in
       let test : leb sram_start s.addr ≡ true = le-leb sram_start s.addr low in
       let is : s.addr ≡ sram_start + (s.addr - sram_start) = omega arith in
-      let put = put_free s.bytes (s.addr - sram_start) m.sram (free_of sram_start sram_size (s.addr - sram_start) m.sram done s h.sram is (omega arith) (apart_none s done apart)) in (
+      let put = put_free s.bytes (s.addr - sram_start) m.sram
+      (free_of sram_start sram_size (s.addr - sram_start) m.sram done s h.sram is (omega arith) (apart_none s done apart)) in (
         record m { sram = put.0 },
         in_sram_is s.addr s.bytes m test ∙ ap (onto_sram m) put.1,
         (added_sram m done s put.0 h all placed.0 low put.1).holds,

@@ -1,5 +1,6 @@
 -- Texts as lines, each ended by LF or CR LF, the last maybe by nothing.
-use Rattle.std.proofs.Common.{◌≡◌, ℕ, ◌+◌, ◌-◌, ◌/◌, ◌%◌, ◌<◌, ◌≤◌, eqb, List, [], ◌∷◌, ◌++◌, get_or, length, length-append, map, take, append_assoc, append-nil, refl, sym, ap, subst, ◌∙◌, inl, inr, arith}
+use Rattle.std.proofs.Common.{◌≡◌, ℕ, ◌+◌, ◌-◌, ◌/◌, ◌%◌, ◌<◌, ◌≤◌, eqb, List, [], ◌∷◌, ◌++◌, get_or, length, length-append, map, take, append_assoc}
+use Rattle.std.proofs.Common.{append-nil, refl, sym, ap, subst, ◌∙◌, inl, inr, arith}
 use Rattle.std.specs.List.{AllByRecursion, flat_map}
 use Rattle.std.proofs.Math.Seq.{get_or-append_seam, take-append_seam}
 use Rattle.std.proofs.lemmas.Bool.{cases_Bool, eqb-true, eq-eqb, ne_eqb}
@@ -32,7 +33,12 @@ return_of l = elim (cases_Bool (eqb (get_or l (length l - 1) 0) 13)) [
       let front = take (length l - 1) l in
       let whole : l ≡ take (length l - 1) l ++ 13 ∷ [] = last_is (length l - 1) l (some_if l last) ∙ ap (λ (b : ℕ). take (length l - 1) l ++ b ∷ []) last in
       let stripped : without_return l ≡ take (length l - 1) l = rw e refl in
-      record { mark = 13 ∷ 10 ∷ []; is_end = inr refl; whole = ap (λ (x : List ℕ). x ++ 10 ∷ []) whole ∙ append_assoc front (13 ∷ []) (10 ∷ []) ∙ ap (λ (x : List ℕ). x ++ 13 ∷ 10 ∷ []) (sym stripped) }
+      record {
+        mark = 13 ∷ 10 ∷ [];
+        is_end = inr refl;
+        whole = ap (λ (x : List ℕ). x ++ 10 ∷ []) whole ∙ append_assoc front (13 ∷ []) (10 ∷ [])
+            ∙ ap (λ (x : List ℕ). x ++ 13 ∷ 10 ∷ []) (sym stripped);
+      }
 ]
 
 -- the last line, where it has no end
@@ -61,7 +67,8 @@ told (l ∷ ls) last =
 pub lines_told : (text : List ℕ) → AreLines (all_lines (lines_of text)) text
 lines_told text =
     let ls = lines_of text in
-    subst (λ (t : List ℕ). AreLines (all_lines ls) t) (lines_whole text) (subst (λ (x : List (List ℕ)). AreLines x (flat_map line ls.0 ++ ls.1)) (sym (all_are ls.0 ls.1)) (told ls.0 ls.1))
+    subst (λ (t : List ℕ). AreLines (all_lines ls) t) (lines_whole text)
+    (subst (λ (x : List (List ℕ)). AreLines x (flat_map line ls.0 ++ ls.1)) (sym (all_are ls.0 ls.1)) (told ls.0 ls.1))
 
 -- ---- and what text they are read from
 
@@ -82,8 +89,10 @@ lacks_return (b ∷ text) h = (h.0, lacks_return text h.1)
 return_off : (text : List ℕ) → without_return (text ++ 13 ∷ []) ≡ text
 return_off text =
     let count : length (text ++ 13 ∷ []) - 1 ≡ length text = omega (arith, length-append text (13 ∷ [])) in
-    let last : get_or (text ++ 13 ∷ []) (length (text ++ 13 ∷ []) - 1) 0 ≡ 13 = ap (λ (k : ℕ). get_or (text ++ 13 ∷ []) k 0) count ∙ get_or-append_seam text 13 [] 0 in
-    rw (eq-eqb (get_or (text ++ 13 ∷ []) (length (text ++ 13 ∷ []) - 1) 0) 13 last) (ap (λ (k : ℕ). take k (text ++ 13 ∷ [])) count ∙ take-append_seam text (13 ∷ []))
+    let last : get_or (text ++ 13 ∷ []) (length (text ++ 13 ∷ []) - 1) 0 ≡ 13 = ap (λ (k : ℕ). get_or (text ++ 13 ∷ []) k 0) count
+    ∙ get_or-append_seam text 13 [] 0 in
+    rw (eq-eqb (get_or (text ++ 13 ∷ []) (length (text ++ 13 ∷ []) - 1) 0) 13 last)
+    (ap (λ (k : ℕ). take k (text ++ 13 ∷ [])) count ∙ take-append_seam text (13 ∷ []))
 
 -- a line of nothing below a digit, that is some
 abbrev pub IsShown : List ℕ → Type 0
@@ -92,16 +101,19 @@ IsShown l = (0 < length l) × Shown l
 ended_line : (l mark rest : List ℕ) → IsShown l → IsLineEnd mark → all_lines (lines_of (l ++ (mark ++ rest))) ≡ l ∷ all_lines (lines_of rest)
 ended_line l mark rest h (inl is) =
     ap (λ (m : List ℕ). all_lines (lines_of (l ++ (m ++ rest)))) is
-    ∙ ap all_lines (line_ahead l rest (shown_lacks l h.1)) ∙ more_lines l (lines_of rest) ∙ ap (λ (x : List ℕ). x ∷ all_lines (lines_of rest)) (shown_whole l h.1)
+    ∙ ap all_lines (line_ahead l rest (shown_lacks l h.1)) ∙ more_lines l (lines_of rest)
+    ∙ ap (λ (x : List ℕ). x ∷ all_lines (lines_of rest)) (shown_whole l h.1)
 ended_line l mark rest h (inr is) =
     ap (λ (m : List ℕ). all_lines (lines_of (l ++ (m ++ rest)))) is
     ∙ ap (λ (t : List ℕ). all_lines (lines_of t)) (sym (append_assoc l (13 ∷ []) (10 ∷ rest)))
-    ∙ ap all_lines (line_ahead (l ++ 13 ∷ []) rest (lacks_return l (shown_lacks l h.1))) ∙ more_lines (l ++ 13 ∷ []) (lines_of rest) ∙ ap (λ (x : List ℕ). x ∷ all_lines (lines_of rest)) (return_off l)
+    ∙ ap all_lines (line_ahead (l ++ 13 ∷ []) rest (lacks_return l (shown_lacks l h.1))) ∙ more_lines (l ++ 13 ∷ []) (lines_of rest)
+    ∙ ap (λ (x : List ℕ). x ∷ all_lines (lines_of rest)) (return_off l)
 
 pub lines_read : (ls : List (List ℕ)) (text : List ℕ) → AllByRecursion IsShown ls → AreLines ls text → all_lines (lines_of text) ≡ ls
 lines_read [] text all h = ap (λ (t : List ℕ). all_lines (lines_of t)) h ∙ no_lines
 lines_read (l ∷ ls) text all (inl h) =
-    ap (λ (t : List ℕ). all_lines (lines_of t)) h.1 ∙ ap all_lines (no_end l (shown_lacks l all.0.1)) ∙ one_line l all.0.0 ∙ ap (λ (x : List (List ℕ)). l ∷ x) (sym h.0)
+    ap (λ (t : List ℕ). all_lines (lines_of t)) h.1 ∙ ap all_lines (no_end l (shown_lacks l all.0.1)) ∙ one_line l all.0.0
+    ∙ ap (λ (x : List (List ℕ)). l ∷ x) (sym h.0)
 lines_read (l ∷ ls) text all (inr h) =
     ap (λ (t : List ℕ). all_lines (lines_of t)) h.3 ∙ ended_line l h.0 h.1 all.0 h.2 ∙ ap (λ (x : List (List ℕ)). l ∷ x) (lines_read ls h.1 all.1 h.4)
 

@@ -26,10 +26,12 @@ more_lines l (ended, []) = refl
 more_lines l (ended, c ∷ cs) = refl
 
 -- a line without an end is the last
-pub line_unended : (text front rest : List ℕ) → 0 < length text → (front, rest) ≡ span 10 text → length rest ≡ 0 → all_lines (lines_of text) ≡ front ∷ all_lines (lines_of rest)
+pub line_unended : (text front rest : List ℕ) → 0 < length text → (front, rest) ≡ span 10 text → length rest ≡ 0
+    → all_lines (lines_of text) ≡ front ∷ all_lines (lines_of rest)
 line_unended text front [] some e none =
     let same : front ≡ text = sym (append-nil front) ∙ ap (λ (p : List ℕ × List ℕ). p.0 ++ p.1) e ∙ span_parts 10 text in
-    ap all_lines (lines_span text ∙ ap lines_from (sym e) ∙ ap (λ (l : List ℕ). ([], l)) same) ∙ one_line text some ∙ ap (λ (l : List ℕ). l ∷ []) (sym same) ∙ ap (λ (ls : List (List ℕ)). front ∷ ls) (sym no_lines)
+    ap all_lines (lines_span text ∙ ap lines_from (sym e) ∙ ap (λ (l : List ℕ). ([], l)) same) ∙ one_line text some ∙ ap (λ (l : List ℕ). l ∷ []) (sym same)
+    ∙ ap (λ (ls : List (List ℕ)). front ∷ ls) (sym no_lines)
 line_unended text front (b ∷ rest) some e none = absurd (omega arith)
 
 pub line_ended : (text front rest : List ℕ) → (front, rest) ≡ span 10 text → 1 ≤ length rest
@@ -37,7 +39,8 @@ pub line_ended : (text front rest : List ℕ) → (front, rest) ≡ span 10 text
 line_ended text front [] e some = absurd (omega arith)
 line_ended text front (b ∷ rest) e some =
     let same : take (length (b ∷ rest) - 1) rest ≡ rest = take_all (length (b ∷ rest) - 1) rest (omega arith) in
-    ap all_lines (lines_span text ∙ ap lines_from (sym e)) ∙ more_lines front (lines_of rest) ∙ ap (λ (r : List ℕ). without_return front ∷ all_lines (lines_of r)) (sym same)
+    ap all_lines (lines_span text ∙ ap lines_from (sym e)) ∙ more_lines front (lines_of rest)
+    ∙ ap (λ (r : List ℕ). without_return front ∷ all_lines (lines_of r)) (sym same)
 
 -- behind the end record
 followed : (k : ℕ) (cells : Cells) (ls : Lines) → 0 < length ls.0 + length ls.1 → ended_by k cells (all_lines ls) ≡ Err (refusals.Hex (k + 1))

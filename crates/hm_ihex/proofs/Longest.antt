@@ -1,5 +1,6 @@
 -- The runs of cells are the longest runs of their bytes, and there is one image of such runs.
-use Rattle.std.proofs.Common.{◌≡◌, ◌⊎◌, ℕ, suc, ◌+◌, ◌-◌, ◌<◌, ◌≤◌, true, false, eqb, leb, ltb, cond, List, [], ◌∷◌, ◌++◌, All, get_or, length, Option, Some, None, refl, sym, ap, subst, ◌∙◌, inl, inr, arith}
+use Rattle.std.proofs.Common.{◌≡◌, ◌⊎◌, ℕ, suc, ◌+◌, ◌-◌, ◌<◌, ◌≤◌, true, false, eqb, leb, ltb, cond, List, [], ◌∷◌, ◌++◌, All, get_or, length, Option, Some}
+use Rattle.std.proofs.Common.{None, refl, sym, ap, subst, ◌∙◌, inl, inr, arith}
 use Rattle.std.specs.List.{AllByRecursion}
 use Rattle.std.proofs.lemmas.Bool.{and_parts, cases_Bool, eqb-true, ltb-true, eqb-false, ne_eqb}
 use Rattle.std.proofs.lemmas.List.{ext_get_or}
@@ -54,7 +55,8 @@ grown p a b s ss ne is = elim (place s a) [
       let low : s.addr ≤ a = mid.0 in
       let high : a < s.addr + length s.bytes = mid.1 in
       let at : a - p ≡ suc (a - s.addr) = omega arith in
-      byte_here (segment p (b ∷ s.bytes)) ss a (omega arith) (omega arith) ∙ ap (λ (k : ℕ). Some (get_or (b ∷ s.bytes) k 0)) at ∙ sym (byte_here s ss a low high)
+      byte_here (segment p (b ∷ s.bytes)) ss a (omega arith) (omega arith) ∙ ap (λ (k : ℕ). Some (get_or (b ∷ s.bytes) k 0)) at
+      ∙ sym (byte_here s ss a low high)
   | inr (inr past) ↦ byte_past (segment p (b ∷ s.bytes)) ss a (late (segment p (b ∷ s.bytes)) a (omega arith)) ∙ sym (byte_past s ss a (late s a past))
 ] where
   below : a < s.addr → a < p
@@ -144,7 +146,8 @@ onto_strung p end (Some b) (s ∷ ss) lt h = elim (cases_Bool (eqb s.addr (p + 1
 
 runs_strung : (p end : ℕ) (cs : List (Option ℕ)) → p + length cs ≤ end → Strung p end (runs p cs)
 runs_strung p end [] le = subst (Strung p end) (sym (runs_nil p)) (omega arith)
-runs_strung p end (c ∷ cs) le = subst (Strung p end) (sym (runs_step p c cs)) (onto_strung p end c (runs (p + 1) cs) (omega arith) (runs_strung (p + 1) end cs (omega arith)))
+runs_strung p end (c ∷ cs) le =
+    subst (Strung p end) (sym (runs_step p c cs)) (onto_strung p end c (runs (p + 1) cs) (omega arith) (runs_strung (p + 1) end cs (omega arith)))
 
 strung_both : (p end q last : ℕ) (xs ys : List Segment) → Strung p end xs → end + 1 ≤ q → Strung q last ys → Strung p last (xs ++ ys)
 strung_both p end q last [] ys h le more = strung_later p q last ys (omega arith) more
@@ -152,12 +155,14 @@ strung_both p end q last (x ∷ xs) ys h le more = (h.0, h.1, strung_both (x.add
 
 strung_far : (p q end : ℕ) (ss : List Segment) → p ≤ q → Strung q end ss → All (λ t. p ≤ t.addr) ss
 strung_far p q end [] le h = All-nil (λ (t : Segment). p ≤ t.addr)
-strung_far p q end (s ∷ ss) le h = All-cons (λ (t : Segment). p ≤ t.addr) s ss (omega (arith, h.0)) (strung_far p (s.addr + length s.bytes + 1) end ss (omega (arith, h.0)) h.2)
+strung_far p q end (s ∷ ss) le h =
+    All-cons (λ (t : Segment). p ≤ t.addr) s ss (omega (arith, h.0)) (strung_far p (s.addr + length s.bytes + 1) end ss (omega (arith, h.0)) h.2)
 
 strung_parted : (p end : ℕ) (ss : List Segment) → Strung p end ss → AreParted ss
 strung_parted p end [] h = tt
 strung_parted p end (s ∷ ss) h = (
-  All-weaker (λ (t : Segment). s.addr + length s.bytes + 1 ≤ t.addr) (λ (t : Segment). s.addr + length s.bytes < t.addr) (λ t far. omega arith) ss (strung_far (s.addr + length s.bytes + 1) (s.addr + length s.bytes + 1) end ss (omega arith) h.2),
+  All-weaker (λ (t : Segment). s.addr + length s.bytes + 1 ≤ t.addr) (λ (t : Segment). s.addr + length s.bytes < t.addr) (λ t far. omega arith) ss
+      (strung_far (s.addr + length s.bytes + 1) (s.addr + length s.bytes + 1) end ss (omega arith) h.2),
   strung_parted (s.addr + length s.bytes + 1) end ss h.2,
 )
 
@@ -165,7 +170,8 @@ strung_image : (p end : ℕ) (ss : List Segment) → Strung p end ss → AllByRe
 strung_image p end [] h all = tt
 strung_image p end (s ∷ ss) h all = (
   all.0,
-  All-weaker (λ (t : Segment). s.addr + length s.bytes + 1 ≤ t.addr) (Before s) (λ t far. omega arith) ss (strung_far (s.addr + length s.bytes + 1) (s.addr + length s.bytes + 1) end ss (omega arith) h.2),
+  All-weaker (λ (t : Segment). s.addr + length s.bytes + 1 ≤ t.addr) (Before s) (λ t far. omega arith) ss
+      (strung_far (s.addr + length s.bytes + 1) (s.addr + length s.bytes + 1) end ss (omega arith) h.2),
   strung_image (s.addr + length s.bytes + 1) end ss h.2 all.1,
 )
 
@@ -227,11 +233,13 @@ image_runs m ss all h =
       longest = strung_parted 0 (sram_start + sram_size) (flash ++ sram) both;
       same = λ a. elim (area a) [
         | inl low ↦
-            byte_front flash sram a (out_of_sram a (inl (omega arith))) ∙ runs_byte 0 a m.flash ∙ cell_at 0 a m.flash (omega arith) (omega arith) ∙ h.flash.at a (omega arith) (omega arith)
+            byte_front flash sram a (out_of_sram a (inl (omega arith))) ∙ runs_byte 0 a m.flash ∙ cell_at 0 a m.flash (omega arith) (omega arith)
+            ∙ h.flash.at a (omega arith) (omega arith)
         | inr (inl mid) ↦
             byte_front flash sram a (out_of_sram a (inl mid.1)) ∙ out_of_flash a mid.0 ∙ sym (none_placed ss a all (inl mid))
         | inr (inr (inl high)) ↦
-            byte_behind flash sram a (out_of_flash a (omega (arith, high.0))) ∙ runs_byte sram_start a m.sram ∙ cell_at sram_start a m.sram high.0 (omega (arith, high.1)) ∙ h.sram.at a high.0 high.1
+            byte_behind flash sram a (out_of_flash a (omega (arith, high.0))) ∙ runs_byte sram_start a m.sram
+            ∙ cell_at sram_start a m.sram high.0 (omega (arith, high.1)) ∙ h.sram.at a high.0 high.1
         | inr (inr (inr top)) ↦
             byte_front flash sram a (out_of_sram a (inr top)) ∙ out_of_flash a (omega arith) ∙ sym (none_placed ss a all (inr top))
       ];
@@ -242,9 +250,11 @@ image_runs m ss all h =
 -- no byte in front of segments
 far_none : (p a : ℕ) (ss : List Segment) → a ≤ p → All (λ t. p < t.addr) ss → byte_at ss a ≡ None
 far_none p a [] le h = refl
-far_none p a (s ∷ ss) le h = byte_past s ss a (early s a (omega (arith, All-head (λ (t : Segment). p < t.addr) s ss h))) ∙ far_none p a ss le (All-tail (λ (t : Segment). p < t.addr) s ss h)
+far_none p a (s ∷ ss) le h = byte_past s ss a (early s a (omega (arith, All-head (λ (t : Segment). p < t.addr) s ss h)))
+    ∙ far_none p a ss le (All-tail (λ (t : Segment). p < t.addr) s ss h)
 
-module _ (s t : Segment) (ss ts : List Segment) (some : 0 < length s.bytes) (s_far : All (λ u. s.addr + length s.bytes < u.addr) ss) (t_far : All (λ u. t.addr + length t.bytes < u.addr) ts) (same : (a : ℕ) → byte_at (s ∷ ss) a ≡ byte_at (t ∷ ts) a) where
+module _ (s t : Segment) (ss ts : List Segment) (some : 0 < length s.bytes) (s_far : All (λ u. s.addr + length s.bytes < u.addr) ss)
+    (t_far : All (λ u. t.addr + length t.bytes < u.addr) ts) (same : (a : ℕ) → byte_at (s ∷ ss) a ≡ byte_at (t ∷ ts) a) where
   -- the second does not begin behind the first
   not_later : s.addr < t.addr → ⊥
   not_later lt =
@@ -270,7 +280,8 @@ module _ (s t : Segment) (ss ts : List Segment) (some : 0 < length s.bytes) (s_f
       let second : s.addr + k - t.addr ≡ k = omega arith in
       let here = byte_here s ss a (omega arith) (omega arith) in
       let there = byte_here t ts a (omega arith) (omega arith) in
-      ap (λ (i : ℕ). get_or s.bytes i 0) (sym first) ∙ some_same (get_or s.bytes (a - s.addr) 0) (get_or t.bytes (a - t.addr) 0) (sym here ∙ same a ∙ there) ∙ ap (λ (i : ℕ). get_or t.bytes i 0) second
+      ap (λ (i : ℕ). get_or s.bytes i 0) (sym first) ∙ some_same (get_or s.bytes (a - s.addr) 0) (get_or t.bytes (a - t.addr) 0) (sym here ∙ same a ∙ there)
+      ∙ ap (λ (i : ℕ). get_or t.bytes i 0) second
 
   rest_same : s ≡ t → (a : ℕ) → byte_at ss a ≡ byte_at ts a
   rest_same is a = elim (cases_Bool (covers s a)) [
@@ -292,7 +303,8 @@ nat_same a b f g = elim (both a b) [ inl lt ↦ absurd (f lt) | inr (inl gt) ↦
   both a b = grind arith
 
 head_none : (s : Segment) (ss : List Segment) → 0 < length s.bytes → ((a : ℕ) → byte_at (s ∷ ss) a ≡ None) → ⊥
-head_none s ss some none = some_none (get_or s.bytes (s.addr - s.addr) 0) (byte_at (s ∷ ss) s.addr) (byte_here s ss s.addr (omega arith) (omega arith)) (none s.addr)
+head_none s ss some none = some_none (get_or s.bytes (s.addr - s.addr) 0) (byte_at (s ∷ ss) s.addr) (byte_here s ss s.addr (omega arith) (omega arith))
+    (none s.addr)
 
 -- THERE IS ONE IMAGE of the longest runs of some bytes
 pub one_image : (xs ys : List Segment) → IsImage xs → IsImage ys → AreParted xs → AreParted ys → ((a : ℕ) → byte_at xs a ≡ byte_at ys a) → xs ≡ ys

@@ -1,10 +1,12 @@
 -- Reading records and filling cells one after the other, as loops do.
-use Rattle.std.proofs.Common.{◌≡◌, ℕ, ◌+◌, ◌%◌, ◌<◌, ◌≤◌, cond, List, [], ◌∷◌, ◌++◌, append_assoc, drop, length, get_or, set, Option, Some, None, option_map, refl, sym, ap, arith}
+use Rattle.std.proofs.Common.{◌≡◌, ℕ, ◌+◌, ◌%◌, ◌<◌, ◌≤◌, cond, List, [], ◌∷◌, ◌++◌, append_assoc, drop, length, get_or, set, Option, Some, None, option_map}
+use Rattle.std.proofs.Common.{refl, sym, ap, arith}
 use Rattle.std.proofs.lemmas.List.{append-nil, drop_more, drop_all}
 use Rattle.hm_ihex.specs.Cells.{front_of, is_free, put_in}
 use Rattle.hm_ihex.specs.Records.{byte_in, bytes_in, sum_of}
 
-pub sum_more : (bytes : List ℕ) (k total : ℕ) → k < length bytes → ((total + get_or bytes k 0) % 256 + sum_of (drop (k + 1) bytes)) % 256 ≡ (total + sum_of (drop k bytes)) % 256
+pub sum_more : (bytes : List ℕ) (k total : ℕ) → k < length bytes
+    → ((total + get_or bytes k 0) % 256 + sum_of (drop (k + 1) bytes)) % 256 ≡ (total + sum_of (drop k bytes)) % 256
 unfolding sum_of
 sum_more bytes k total lt = rw (drop_more bytes k 0 lt) (omega arith)
 
@@ -21,7 +23,8 @@ joined before b None = refl
 joined before b (Some bs) = ap (λ (x : List ℕ). Some x) (sym (append_assoc before (b ∷ []) bs))
 
 -- one more byte of two digits
-pub bytes_more : (before rest : List ℕ) (b : ℕ) → 2 ≤ length rest → Some b ≡ byte_in (get_or rest 0 0) (get_or rest 1 0) → behind before (bytes_in rest) ≡ behind (before ++ b ∷ []) (bytes_in (drop 2 rest))
+pub bytes_more : (before rest : List ℕ) (b : ℕ) → 2 ≤ length rest → Some b ≡ byte_in (get_or rest 0 0) (get_or rest 1 0)
+    → behind before (bytes_in rest) ≡ behind (before ++ b ∷ []) (bytes_in (drop 2 rest))
 unfolding bytes_in
 bytes_more before [] b two is = absurd (omega arith)
 bytes_more before (c ∷ []) b two is = absurd (omega arith)
@@ -45,7 +48,8 @@ bytes_alone before [] one = absurd (omega arith)
 bytes_alone before (c ∷ []) one = refl
 bytes_alone before (c ∷ d ∷ rest) one = absurd (omega arith)
 
-pub put_more : (bytes : List ℕ) (cells : List (Option ℕ)) (k at : ℕ) → k < length bytes → put_in at (drop k bytes) cells ≡ cond (is_free at cells) (put_in (at + 1) (drop (k + 1) bytes) (set cells at (Some (get_or bytes k 0)))) None
+pub put_more : (bytes : List ℕ) (cells : List (Option ℕ)) (k at : ℕ) → k < length bytes
+    → put_in at (drop k bytes) cells ≡ cond (is_free at cells) (put_in (at + 1) (drop (k + 1) bytes) (set cells at (Some (get_or bytes k 0)))) None
 unfolding put_in
 put_more bytes cells k at lt = rw (drop_more bytes k 0 lt) refl
 
@@ -53,7 +57,8 @@ pub put_all : (bytes : List ℕ) (cells : List (Option ℕ)) (k at : ℕ) → le
 unfolding put_in
 put_all bytes cells k at le = rw (drop_all k bytes le) refl
 
-pub front_more : (cells : List (Option ℕ)) (k b : ℕ) → k < length cells → get_or cells k None ≡ Some b → front_of (drop k cells) ≡ b ∷ front_of (drop (k + 1) cells)
+pub front_more : (cells : List (Option ℕ)) (k b : ℕ) → k < length cells → get_or cells k None ≡ Some b
+    → front_of (drop k cells) ≡ b ∷ front_of (drop (k + 1) cells)
 unfolding front_of
 front_more cells k b lt is = rw (drop_more cells k None lt, is) refl
 

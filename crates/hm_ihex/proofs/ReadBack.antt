@@ -1,5 +1,6 @@
 -- An image is read back from its file.
-use Rattle.std.proofs.Common.{◌≡◌, ◌⊎◌, ℕ, zero, suc, ◌+◌, ◌-◌, ◌*◌, ◌/◌, ◌%◌, ◌<◌, ◌≤◌, Bool, eqb, cond, List, [], ◌∷◌, ◌++◌, All, append_assoc, drop, take, get_or, length, length-drop, Some, Ok, refl, sym, ap, subst, ◌∙◌, inl, inr, arith}
+use Rattle.std.proofs.Common.{◌≡◌, ◌⊎◌, ℕ, zero, suc, ◌+◌, ◌-◌, ◌*◌, ◌/◌, ◌%◌, ◌<◌, ◌≤◌, Bool, eqb, cond, List, [], ◌∷◌, ◌++◌, All, append_assoc, drop, take}
+use Rattle.std.proofs.Common.{get_or, length, length-drop, Some, Ok, refl, sym, ap, subst, ◌∙◌, inl, inr, arith}
 use Rattle.std.specs.List.{AllByRecursion}
 use Rattle.std.proofs.lemmas.Bool.{cases_Bool, eqb-true, ne_eqb}
 use Rattle.std.proofs.lemmas.Bool.Decides.{nat_tests}
@@ -30,13 +31,15 @@ pub record OneRecord (s : Segment) : Type 0 where
 abbrev pub rebased : Reading → ℕ → Reading
 rebased r base = record { base = base; cells = r.cells; count = r.count }
 
-base_step : (k upper : ℕ) (r : Reading) (ls : List (List ℕ)) → upper < 65536 → lines_in k r (base_text upper ∷ ls) ≡ lines_in (k + 1) (rebased r (65536 * upper)) ls
+base_step : (k upper : ℕ) (r : Reading) (ls : List (List ℕ)) → upper < 65536
+    → lines_in k r (base_text upper ∷ ls) ≡ lines_in (k + 1) (rebased r (65536 * upper)) ls
 base_step k upper r ls lt = step k r (base_text upper) ls ∙ ap (by_record k r ls (λ q. lines_in (k + 1) q ls)) (base_again upper lt)
 
 abbrev pub after : Reading → Cells → Reading
 after r next = record { base = r.base; cells = next; count = r.count + 1 }
 
-data_step : (k : ℕ) (r : Reading) (p : Segment) (next : Cells) (ls : List (List ℕ)) → r.base ≡ 65536 * (p.addr / 65536) → OneRecord p → with_data p.addr p.bytes r.cells ≡ Some next
+data_step : (k : ℕ) (r : Reading) (p : Segment) (next : Cells) (ls : List (List ℕ)) → r.base ≡ 65536 * (p.addr / 65536) → OneRecord p
+    → with_data p.addr p.bytes r.cells ≡ Some next
     → lines_in k r (data_text (p.addr % 65536) p.bytes ∷ ls) ≡ lines_in (k + 1) (after r next) ls
 data_step k r p next ls base h put =
     let few = h.few in
@@ -48,17 +51,21 @@ data_step k r p next ls base h put =
 -- the lines of pieces give what the pieces give
 pub read_pieces : (ps : List Segment) (k upper : ℕ) (r : Reading) (all : Cells) → AllByRecursion OneRecord ps → r.base ≡ 65536 * upper → Puts r.cells ps all
     → lines_in k r (lines_of_pieces upper ps) ≡ Ok (image_of all)
-read_pieces [] k upper r all rise base put = step k r end_text [] ∙ ap (by_record k r [] (λ q. lines_in (k + 1) q [])) end_again ∙ ap (λ (c : Cells). Ok (image_of c)) put
+read_pieces [] k upper r all rise base put = step k r end_text [] ∙ ap (by_record k r [] (λ q. lines_in (k + 1) q [])) end_again
+    ∙ ap (λ (c : Cells). Ok (image_of c)) put
 read_pieces (p ∷ ps) k upper r all rise base put =
     let h = rise.0 in
     let low = h.low in
     let top = p.addr / 65536 in
     let ls = data_text (p.addr % 65536) p.bytes ∷ lines_of_pieces top ps in
     let rest : (j : ℕ) (q : Reading) → q.base ≡ 65536 * top → q.cells ≡ r.cells → lines_in j q ls ≡ Ok (image_of all)
-    = λ j q is same. data_step j q p put.0 (lines_of_pieces top ps) is h (ap (with_data p.addr p.bytes) same ∙ put.1) ∙ read_pieces ps (j + 1) top (after q put.0) all rise.1 is put.2 in
+    = λ j q is same. data_step j q p put.0 (lines_of_pieces top ps) is h (ap (with_data p.addr p.bytes) same ∙ put.1)
+    ∙ read_pieces ps (j + 1) top (after q put.0) all rise.1 is put.2 in
     elim (cases_Bool (eqb top upper)) [
-      | inl e ↦ ap (λ (t : Bool). lines_in k r (cond t [] (base_text top ∷ []) ++ ls)) e ∙ rest k r (base ∙ ap (λ (u : ℕ). 65536 * u) (sym (eqb-true top upper e))) refl
-      | inr e ↦ ap (λ (t : Bool). lines_in k r (cond t [] (base_text top ∷ []) ++ ls)) e ∙ base_step k top r ls (omega arith) ∙ rest (k + 1) (rebased r (65536 * top)) refl refl
+      | inl e ↦ ap (λ (t : Bool). lines_in k r (cond t [] (base_text top ∷ []) ++ ls)) e
+          ∙ rest k r (base ∙ ap (λ (u : ℕ). 65536 * u) (sym (eqb-true top upper e))) refl
+      | inr e ↦ ap (λ (t : Bool). lines_in k r (cond t [] (base_text top ∷ []) ++ ls)) e ∙ base_step k top r ls (omega arith)
+          ∙ rest (k + 1) (rebased r (65536 * top)) refl refl
     ]
 
 -- ---- the pieces of segments
@@ -92,7 +99,8 @@ order : (n m : ℕ) → (n ≤ m) ⊎ (m < n)
 order n m = grind arith
 
 -- the pieces of a segment rise as it does, and joined they are the segment
-pub rises_piece : (n a p end : ℕ) (bytes : List ℕ) (rest : List Segment) → length bytes ≤ n → 0 < length bytes → p ≤ a → end ≤ 4294967296 → Bytes bytes → Rises OneRecord (a + length bytes) end rest → Rises OneRecord p end (pieces n a bytes ++ rest)
+pub rises_piece : (n a p end : ℕ) (bytes : List ℕ) (rest : List Segment) → length bytes ≤ n → 0 < length bytes → p ≤ a → end ≤ 4294967296 → Bytes bytes
+    → Rises OneRecord (a + length bytes) end rest → Rises OneRecord p end (pieces n a bytes ++ rest)
 rises_piece zero a p end bytes rest le some from few all h = absurd (omega arith)
 rises_piece (suc n) a p end bytes rest le some from few all h =
     let room = room_at a in
@@ -104,7 +112,8 @@ rises_piece (suc n) a p end bytes rest le some from few all h =
           let whole : take room bytes ≡ bytes = take_all room bytes short in
           let none : pieces n (a + room) (drop room bytes) ≡ [] = ap (pieces n (a + room)) (drop_all room bytes short) ∙ pieces_none n (a + room) in
           subst (λ (ps : List Segment). Rises OneRecord p end (segment a (take room bytes) ∷ ps ++ rest)) (sym none)
-          (subst (λ (bs : List ℕ). Rises OneRecord p end (segment a bs ∷ rest)) (sym whole) (from, a_piece a (length bytes) bytes some refl short (omega arith) all, h))
+          (subst (λ (bs : List ℕ). Rises OneRecord p end (segment a bs ∷ rest)) (sym whole)
+          (from, a_piece a (length bytes) bytes some refl short (omega arith) all, h))
       | inr long ↦
           let count : length (take room bytes) ≡ room_at a = length_taken room bytes (omega arith) in
           let left : length (drop room bytes) ≡ length bytes - room_at a = length-drop room bytes in
@@ -112,16 +121,19 @@ rises_piece (suc n) a p end bytes rest le some from few all h =
           let later = subst (λ (k : ℕ). Rises OneRecord k end rest) same h in (
             from,
             a_piece a (room_at a) (take room bytes) (omega arith) count (omega arith) (omega arith) (bytes_take room bytes all),
-            rises_piece n (a + room) (a + length (take room bytes)) end (drop room bytes) rest (omega arith) (omega arith) (omega arith) few (bytes_drop room bytes all) later,
+            rises_piece n (a + room) (a + length (take room bytes)) end (drop room bytes) rest (omega arith) (omega arith) (omega arith) few
+                (bytes_drop room bytes all) later,
           )
     ])
 
 pub rises_pieces : (p end : ℕ) (ss : List Segment) → end ≤ 4294967296 → Rises Sound p end ss → Rises OneRecord p end (all_pieces ss)
 rises_pieces p end [] few h = h
 rises_pieces p end (s ∷ ss) few h =
-    rises_piece (length s.bytes) s.addr p end s.bytes (all_pieces ss) (omega arith) h.1.some h.0 few h.1.all (rises_pieces (s.addr + length s.bytes) end ss few h.2)
+    rises_piece (length s.bytes) s.addr p end s.bytes (all_pieces ss) (omega arith) h.1.some h.0 few h.1.all
+    (rises_pieces (s.addr + length s.bytes) end ss few h.2)
 
-pub joined_piece : (n a : ℕ) (bytes : List ℕ) (rest : List Segment) → length bytes ≤ n → 0 < length bytes → joined (pieces n a bytes ++ rest) ≡ joined_to (segment a bytes) (joined rest)
+pub joined_piece : (n a : ℕ) (bytes : List ℕ) (rest : List Segment) → length bytes ≤ n → 0 < length bytes
+    → joined (pieces n a bytes ++ rest) ≡ joined_to (segment a bytes) (joined rest)
 joined_piece zero a bytes rest le some = absurd (omega arith)
 joined_piece (suc n) a bytes rest le some =
     let room = room_at a in
@@ -129,7 +141,8 @@ joined_piece (suc n) a bytes rest le some =
     ap (λ (ps : List Segment). joined (ps ++ rest)) (pieces_some n a bytes some)
     ∙ (elim (order (length bytes) (room_at a)) [
       | inl short ↦
-          ap (λ (ps : List Segment). joined_to (segment a (take room bytes)) (joined (ps ++ rest))) (ap (pieces n (a + room)) (drop_all room bytes short) ∙ pieces_none n (a + room))
+          ap (λ (ps : List Segment). joined_to (segment a (take room bytes)) (joined (ps ++ rest)))
+          (ap (pieces n (a + room)) (drop_all room bytes short) ∙ pieces_none n (a + room))
           ∙ ap (λ (bs : List ℕ). joined_to (segment a bs) (joined rest)) (take_all room bytes short)
       | inr long ↦
           let count : length (take room bytes) ≡ room_at a = length_taken room bytes (omega arith) in
@@ -162,7 +175,8 @@ begins : (s : Segment) (ss : List Segment) → All (Before s) ss → Begins (s.a
 begins s [] h = tt
 begins s (t ∷ ts) h = All-head (Before s) t ts h
 
-sram_rises : (p : ℕ) (ss : List Segment) → sram_start ≤ p → p ≤ sram_start + sram_size → Begins p ss → IsImage ss → AreBytes ss → Rises Sound p (sram_start + sram_size) ss
+sram_rises : (p : ℕ) (ss : List Segment) → sram_start ≤ p → p ≤ sram_start + sram_size → Begins p ss → IsImage ss → AreBytes ss
+    → Rises Sound p (sram_start + sram_size) ss
 sram_rises p [] low high begin image all = high
 sram_rises p (s ∷ ss) low high begin image all =
     let some : 0 < length s.bytes = image.0.0 in
@@ -180,13 +194,26 @@ halves p (s ∷ ss) high begin image all =
     elim image.0.1 [
       | inl flash ↦
           let rest = halves (s.addr + length s.bytes) ss flash (begins s ss image.1) image.2 all.1 in
-          record { flash = s ∷ rest.flash; sram = rest.sram; whole = ap (λ (xs : List Segment). s ∷ xs) rest.whole; in_flash = (begin, record { some = some; all = all.0 }, rest.in_flash); in_sram = rest.in_sram }
-      | inr sram ↦ record { flash = []; sram = s ∷ ss; whole = refl; in_flash = high; in_sram = sram_rises sram_start (s ∷ ss) (omega arith) (omega arith) sram.0 image all }
+          record {
+            flash = s ∷ rest.flash;
+            sram = rest.sram;
+            whole = ap (λ (xs : List Segment). s ∷ xs) rest.whole;
+            in_flash = (begin, record { some = some; all = all.0 }, rest.in_flash);
+            in_sram = rest.in_sram;
+          }
+      | inr sram ↦ record {
+        flash = [];
+        sram = s ∷ ss;
+        whole = refl;
+        in_flash = high;
+        in_sram = sram_rises sram_start (s ∷ ss) (omega arith) (omega arith) sram.0 image all;
+      }
     ]
 
 pieces_append : (xs ys : List Segment) → all_pieces (xs ++ ys) ≡ all_pieces xs ++ all_pieces ys
 pieces_append [] ys = refl
-pieces_append (x ∷ xs) ys = ap (λ (ps : List Segment). pieces (length x.bytes) x.addr x.bytes ++ ps) (pieces_append xs ys) ∙ sym (append_assoc (pieces (length x.bytes) x.addr x.bytes) (all_pieces xs) (all_pieces ys))
+pieces_append (x ∷ xs) ys = ap (λ (ps : List Segment). pieces (length x.bytes) x.addr x.bytes ++ ps) (pieces_append xs ys)
+    ∙ sym (append_assoc (pieces (length x.bytes) x.addr x.bytes) (all_pieces xs) (all_pieces ys))
 
 -- a segment that ends in flash touches none of SRAM
 apart : (s : Segment) (ts more : List Segment) → s.addr + length s.bytes ≤ flash_size → From sram_start more → joined_to s (ts ++ more) ≡ joined_to s ts ++ more
@@ -200,7 +227,8 @@ apart s (t ∷ ts) more end h = elim (cases_Bool (eqb t.addr (s.addr + length s.
 joined_halves : (p : ℕ) (xs ys : List Segment) → Rises Sound p flash_size xs → From sram_start (joined ys) → joined (xs ++ ys) ≡ joined xs ++ joined ys
 joined_halves p [] ys h more = refl
 joined_halves p (x ∷ xs) ys h more =
-    ap (joined_to x) (joined_halves (x.addr + length x.bytes) xs ys h.2 more) ∙ apart x (joined xs) (joined ys) (rises_end Sound (x.addr + length x.bytes) flash_size xs h.2) more
+    ap (joined_to x) (joined_halves (x.addr + length x.bytes) xs ys h.2 more)
+    ∙ apart x (joined xs) (joined ys) (rises_end Sound (x.addr + length x.bytes) flash_size xs h.2) more
 
 rises_all : (P : Segment → Type 0) (p end : ℕ) (ss : List Segment) → Rises P p end ss → AllByRecursion P ss
 rises_all P p end [] h = tt
@@ -213,7 +241,8 @@ first_puts P xs ys start size is flash sram =
     let end : flash_size - 0 ≡ flash_size = omega arith in
     let one = puts_flash P [] (no_cells size) 0 flash_size xs (omega arith) refl flash in
     let two = puts_sram P [] (spread 0 xs flash_size) sram_start start ys refl sram in
-    puts_append (cells (no_cells flash_size) (no_cells size)) (cells (spread 0 xs flash_size) (no_cells size)) (cells (spread 0 xs flash_size) (spread sram_start ys start)) xs ys
+    puts_append (cells (no_cells flash_size) (no_cells size)) (cells (spread 0 xs flash_size) (no_cells size))
+    (cells (spread 0 xs flash_size) (spread sram_start ys start)) xs ys
     one
     (subst (λ (n : ℕ). Puts (cells (spread 0 xs flash_size) (no_cells n)) ys (cells (spread 0 xs flash_size) (spread sram_start ys start))) (sym is) two)
 
@@ -229,8 +258,10 @@ read_halves image h =
     let sram = rises_pieces sram_start end h.sram (omega arith) h.in_sram in
     let whole : all_pieces image ≡ xs ++ ys = ap all_pieces h.whole ∙ pieces_append h.flash h.sram in
     let put = first_puts OneRecord xs ys end sram_size (omega arith) flash sram in
-    let runs_flash : runs 0 (spread 0 xs flash_size) ≡ joined h.flash = runs_spread OneRecord 0 flash_size xs some_of flash ∙ joined_pieces 0 flash_size h.flash h.in_flash in
-    let runs_sram : runs sram_start (spread sram_start ys end) ≡ joined h.sram = runs_spread OneRecord sram_start end ys some_of sram ∙ joined_pieces sram_start end h.sram h.in_sram in
+    let runs_flash : runs 0 (spread 0 xs flash_size) ≡ joined h.flash = runs_spread OneRecord 0 flash_size xs some_of flash
+    ∙ joined_pieces 0 flash_size h.flash h.in_flash in
+    let runs_sram : runs sram_start (spread sram_start ys end) ≡ joined h.sram = runs_spread OneRecord sram_start end ys some_of sram
+    ∙ joined_pieces sram_start end h.sram h.in_sram in
     let behind : From sram_start (joined h.sram) = subst (From sram_start) runs_sram (runs_from sram_start (spread sram_start ys end)) in
     ap (lines_in 1 first_reading) (shown_again (lines_of_pieces 0 (all_pieces image)) (lines_shown 0 (all_pieces image)))
     ∙ ap (λ (ps : List Segment). lines_in 1 first_reading (lines_of_pieces 0 ps)) whole
@@ -253,7 +284,8 @@ bytes_from [] h = tt
 bytes_from (b ∷ bs) h = (h 0 (omega arith), bytes_from bs (λ k lt. h (suc k) (omega arith)))
 
 -- one more segment
-pub bytes_below : (image : List Segment) (k : ℕ) (s : Segment) → segment_at image k ≡ s → Bytes s.bytes → ((j : ℕ) → j < k → Bytes (segment_at image j).bytes) → (j : ℕ) → j < k + 1 → Bytes (segment_at image j).bytes
+pub bytes_below : (image : List Segment) (k : ℕ) (s : Segment) → segment_at image k ≡ s → Bytes s.bytes → ((j : ℕ) → j < k → Bytes (segment_at image j).bytes)
+    → (j : ℕ) → j < k + 1 → Bytes (segment_at image j).bytes
 bytes_below image k s is h below j lt = elim (order k j) [
   | inl e ↦ let same : j ≡ k = omega arith in subst (λ (n : ℕ). Bytes (segment_at image n).bytes) (sym same) (subst (λ (t : Segment). Bytes t.bytes) (sym is) h)
   | inr e ↦ below j e

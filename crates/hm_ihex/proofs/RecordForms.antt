@@ -1,5 +1,6 @@
 -- Lines of records: what reading makes of them, and what it tells of them.
-use Rattle.std.proofs.Common.{◌≡◌, ◌⊎◌, ℕ, ◌+◌, ◌*◌, ◌/◌, ◌%◌, ◌<◌, ◌≤◌, Bool, true, false, eqb, leb, cond, List, [], ◌∷◌, ◌++◌, get_or, length, length-take, take, Option, Some, None, option_map, refl, sym, ap, subst, ◌∙◌, inl, inr, arith}
+use Rattle.std.proofs.Common.{◌≡◌, ◌⊎◌, ℕ, ◌+◌, ◌*◌, ◌/◌, ◌%◌, ◌<◌, ◌≤◌, Bool, true, false, eqb, leb, cond, List, [], ◌∷◌, ◌++◌, get_or, length, length-take}
+use Rattle.std.proofs.Common.{take, Option, Some, None, option_map, refl, sym, ap, subst, ◌∙◌, inl, inr, arith}
 use Rattle.std.specs.Prelude.{◌&&◌, option_and_then}
 use Rattle.std.proofs.lemmas.Bool.{and_parts, cases_Bool, eqb-true, eq-eqb, leb-true, le-leb}
 use Rattle.std.proofs.lemmas.Bool.Decides.{nat_tests}
@@ -160,7 +161,9 @@ length_taken n bytes le = simp length-take (omega arith)
 -- the content and the check byte
 pub last_is : (len : ℕ) (rest : List ℕ) → length rest ≡ len + 1 → rest ≡ take len rest ++ get_or rest len 0 ∷ []
 last_is len rest is =
-    sym (take-append-drop len rest) ∙ ap (λ (x : List ℕ). take len rest ++ x) (drop_more rest len 0 (omega arith) ∙ ap (λ (x : List ℕ). get_or rest len 0 ∷ x) (drop_all (len + 1) rest (omega arith)))
+    sym (take-append-drop len rest)
+    ∙ ap (λ (x : List ℕ). take len rest ++ x)
+    (drop_more rest len 0 (omega arith) ∙ ap (λ (x : List ℕ). get_or rest len 0 ∷ x) (drop_all (len + 1) rest (omega arith)))
 
 record_told : (bytes : List ℕ) (said : Record) → record_in bytes ≡ Some said → IsRecord bytes said
 record_told [] said e = absurd cc

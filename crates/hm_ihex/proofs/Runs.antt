@@ -1,5 +1,6 @@
 -- Runs of given cells, from the front.
-use Rattle.std.proofs.Common.{◌≡◌, ◌⊎◌, ℕ, suc, ◌+◌, ◌-◌, ◌<◌, ◌≤◌, eqb, true, false, cond, List, [], ◌∷◌, ◌++◌, All, append_assoc, subst, drop, length, get_or, is_none, Option, Some, None, refl, sym, ap, ◌∙◌, inl, inr, arith, drop-drop, length-drop}
+use Rattle.std.proofs.Common.{◌≡◌, ◌⊎◌, ℕ, suc, ◌+◌, ◌-◌, ◌<◌, ◌≤◌, eqb, true, false, cond, List, [], ◌∷◌, ◌++◌, All, append_assoc, subst, drop, length, get_or}
+use Rattle.std.proofs.Common.{is_none, Option, Some, None, refl, sym, ap, ◌∙◌, inl, inr, arith, drop-drop, length-drop}
 use Rattle.std.proofs.lemmas.Bool.{ne_eqb, eq-eqb}
 use Rattle.std.proofs.lemmas.List.{drop_more}
 use Rattle.std.proofs.lemmas.List.Elements.{All-push, All-weaker}
@@ -37,7 +38,8 @@ onto_far a b [] h = refl
 onto_far a b (s ∷ ss) h = rw (ne_eqb s.addr (a + 1) (omega (arith, h.0))) refl
 
 -- THE RUN IN FRONT is the given cells in front, and the other runs are those behind it
-pub runs_front : (a b : ℕ) (cs : List (Option ℕ)) → runs a (Some b ∷ cs) ≡ segment a (b ∷ front_of cs) ∷ runs (a + 1 + length (front_of cs)) (drop (length (front_of cs)) cs)
+pub runs_front : (a b : ℕ) (cs : List (Option ℕ))
+    → runs a (Some b ∷ cs) ≡ segment a (b ∷ front_of cs) ∷ runs (a + 1 + length (front_of cs)) (drop (length (front_of cs)) cs)
 unfolding runs front_of
 runs_front a b [] = refl
 runs_front a b (None ∷ cs) =
@@ -45,7 +47,8 @@ runs_front a b (None ∷ cs) =
     ∙ ap (λ (k : ℕ). segment a (b ∷ []) ∷ runs k cs) (omega arith)
 runs_front a b (Some c ∷ cs) =
     let sum : a + 1 + 1 + length (front_of cs) ≡ a + 1 + suc (length (front_of cs)) = omega arith in
-    ap (onto_runs a (Some b)) (runs_front (a + 1) c cs) ∙ onto_next a b (c ∷ front_of cs) (runs (a + 1 + 1 + length (front_of cs)) (drop (length (front_of cs)) cs))
+    ap (onto_runs a (Some b)) (runs_front (a + 1) c cs)
+    ∙ onto_next a b (c ∷ front_of cs) (runs (a + 1 + 1 + length (front_of cs)) (drop (length (front_of cs)) cs))
     ∙ ap (λ (k : ℕ). segment a (b ∷ c ∷ front_of cs) ∷ runs k (drop (length (front_of cs)) cs)) sum
 
 -- a cell that is not given begins no run
@@ -65,7 +68,8 @@ front_short (Some b ∷ cs) = omega (arith, front_short cs)
 
 -- ---- at cell k of cells that begin at an address
 
-pub runs_skip : (s k : ℕ) (cells : List (Option ℕ)) → k < length cells → is_none (get_or cells k None) ≡ true → runs (s + k) (drop k cells) ≡ runs (s + (k + 1)) (drop (k + 1) cells)
+pub runs_skip : (s k : ℕ) (cells : List (Option ℕ)) → k < length cells → is_none (get_or cells k None) ≡ true
+    → runs (s + k) (drop k cells) ≡ runs (s + (k + 1)) (drop (k + 1) cells)
 runs_skip s k cells lt none = ap (runs (s + k)) (drop_more cells k None lt) ∙ at (get_or cells k None) none where
   at : (c : Option ℕ) → is_none c ≡ true → runs (s + k) (c ∷ drop (k + 1) cells) ≡ runs (s + (k + 1)) (drop (k + 1) cells)
   at None is = runs_none (s + k) (drop (k + 1) cells) ∙ ap (λ (a : ℕ). runs a (drop (k + 1) cells)) (omega arith)
@@ -75,7 +79,8 @@ runs_skip s k cells lt none = ap (runs (s + k)) (drop_more cells k None lt) ∙ 
 pub record RunAt (s k : ℕ) (cells : List (Option ℕ)) : Type 0 where
   pub some : 0 < length (front_of (drop k cells))
   pub within : k + length (front_of (drop k cells)) ≤ length cells
-  pub first : runs (s + k) (drop k cells) ≡ segment (s + k) (front_of (drop k cells)) ∷ runs (s + (k + length (front_of (drop k cells)))) (drop (k + length (front_of (drop k cells))) cells)
+  pub first : runs (s + k) (drop k cells)
+      ≡ segment (s + k) (front_of (drop k cells)) ∷ runs (s + (k + length (front_of (drop k cells)))) (drop (k + length (front_of (drop k cells))) cells)
 
 run_of : (s k b : ℕ) (cells more : List (Option ℕ)) → drop k cells ≡ Some b ∷ more → RunAt s k cells
 unfolding front_of
@@ -103,7 +108,8 @@ run_at s k cells lt some = at (get_or cells k None) some (drop_more cells k None
   at (Some b) is whole = run_of s k b cells (drop (k + 1) cells) whole
 
 -- a segment of an area is placed
-pub in_area : (start a n end : ℕ) (bytes : List ℕ) → (end ≤ flash_size) ⊎ ((sram_start ≤ start) × (end ≤ sram_start + sram_size)) → start ≤ a → a + n ≤ end → length bytes ≡ n → 0 < n → IsPlaced (segment a bytes)
+pub in_area : (start a n end : ℕ) (bytes : List ℕ) → (end ≤ flash_size) ⊎ ((sram_start ≤ start) × (end ≤ sram_start + sram_size)) → start ≤ a → a + n ≤ end
+    → length bytes ≡ n → 0 < n → IsPlaced (segment a bytes)
 in_area start a n end bytes (inl h) from le len some = (omega arith, inl (omega arith))
 in_area start a n end bytes (inr h) from le len some = (omega arith, inr (omega (arith, h.0), omega (arith, h.1)))
 
@@ -113,11 +119,16 @@ pub record At (s at : ℕ) (cells : List (Option ℕ)) (image all : List Segment
   pub added : image ++ runs (s + at) (drop at cells) ≡ all
   pub behind : All (λ t. t.addr + length t.bytes ≤ s + at) image
 
-pub at_next : (s at n m : ℕ) (cells : List (Option ℕ)) (image next all : List Segment) (bytes : List ℕ) → m ≡ n → next ≡ image ++ segment (s + at) bytes ∷ [] → length bytes ≡ n → at + n ≤ length cells
-    → runs (s + at) (drop at cells) ≡ segment (s + at) bytes ∷ runs (s + (at + n)) (drop (at + n) cells) → At s at cells image all → At s (at + m) cells next all
-at_next s at n m cells image next all bytes same is len le first h = subst (λ (j : ℕ). At s (at + j) cells next all) (sym same) (subst (λ (i : List Segment). At s (at + n) cells i all) (sym is) (record {
-  within = le;
-  added = append_assoc image (segment (s + at) bytes ∷ []) (runs (s + (at + n)) (drop (at + n) cells)) ∙ ap (λ (ss : List Segment). image ++ ss) (sym first) ∙ h.added;
-  behind = All-push (λ (t : Segment). t.addr + length t.bytes ≤ s + (at + n)) image (segment (s + at) bytes)
-      (All-weaker (λ (t : Segment). t.addr + length t.bytes ≤ s + at) (λ (t : Segment). t.addr + length t.bytes ≤ s + (at + n)) (λ t b. omega arith) image h.behind) (omega arith);
-}))
+pub at_next : (s at n m : ℕ) (cells : List (Option ℕ)) (image next all : List Segment) (bytes : List ℕ) → m ≡ n → next ≡ image ++ segment (s + at) bytes ∷ []
+    → length bytes ≡ n → at + n ≤ length cells
+    → runs (s + at) (drop at cells) ≡ segment (s + at) bytes ∷ runs (s + (at + n)) (drop (at + n) cells) → At s at cells image all
+    → At s (at + m) cells next all
+at_next s at n m cells image next all bytes same is len le first h =
+    subst (λ (j : ℕ). At s (at + j) cells next all) (sym same) (subst (λ (i : List Segment). At s (at + n) cells i all) (sym is) (record {
+      within = le;
+      added = append_assoc image (segment (s + at) bytes ∷ []) (runs (s + (at + n)) (drop (at + n) cells)) ∙ ap (λ (ss : List Segment). image ++ ss) (sym first)
+          ∙ h.added;
+      behind = All-push (λ (t : Segment). t.addr + length t.bytes ≤ s + (at + n)) image (segment (s + at) bytes)
+          (All-weaker (λ (t : Segment). t.addr + length t.bytes ≤ s + at) (λ (t : Segment). t.addr + length t.bytes ≤ s + (at + n)) (λ t b. omega arith) image
+          h.behind) (omega arith);
+    }))

@@ -1,5 +1,6 @@
 -- Segments that touch made one are an image of the same bytes.
-use Rattle.std.proofs.Common.{◌≡◌, ◌⊎◌, ℕ, ◌+◌, ◌-◌, ◌<◌, ◌≤◌, Bool, true, false, eqb, ltb, leb, cond, List, [], ◌∷◌, ◌++◌, All, length, length-append, get_or, refl, sym, ap, ◌∙◌, inl, inr, arith}
+use Rattle.std.proofs.Common.{◌≡◌, ◌⊎◌, ℕ, ◌+◌, ◌-◌, ◌<◌, ◌≤◌, Bool, true, false, eqb, ltb, leb, cond, List, [], ◌∷◌, ◌++◌, All, length, length-append, get_or}
+use Rattle.std.proofs.Common.{refl, sym, ap, ◌∙◌, inl, inr, arith}
 use Rattle.std.specs.Prelude.{slice_index}
 use Rattle.std.proofs.lemmas.List.{get_or-append-add, get_or_append_left}
 use Rattle.std.proofs.lemmas.Bool.{and_from, and_left, and_right, cases_Bool, eqb-true, le-leb, lt-leb, lt-ltb, le-ltb}
@@ -23,7 +24,8 @@ late s a high = and_right (leb s.addr a) (ltb a (s.addr + length s.bytes)) (le-l
 pub place : (s : Segment) (a : ℕ) → (a < s.addr) ⊎ ((s.addr ≤ a) × (a < s.addr + length s.bytes)) ⊎ (s.addr + length s.bytes ≤ a)
 place s a = grind arith
 
-given_in : (s : Segment) (ss : List Segment) (blank a : ℕ) → s.addr ≤ a → a < s.addr + length s.bytes → given (s ∷ ss) blank a ≡ slice_index s.bytes (a - s.addr)
+given_in : (s : Segment) (ss : List Segment) (blank a : ℕ) → s.addr ≤ a → a < s.addr + length s.bytes
+    → given (s ∷ ss) blank a ≡ slice_index s.bytes (a - s.addr)
 given_in s ss blank a low high = rw (covered s a low high) refl
 
 given_out : (s : Segment) (ss : List Segment) (blank a : ℕ) → covers s a ≡ false → given (s ∷ ss) blank a ≡ given ss blank a
@@ -33,15 +35,18 @@ index_is : (bytes : List ℕ) (k : ℕ) → slice_index bytes k ≡ get_or bytes
 index_is bytes k = refl
 
 -- two segments that touch, and the one that they make
-touching : (b c : ℕ) (xs ys : List ℕ) (ts : List Segment) (blank a : ℕ) → c ≡ b + length xs → given (segment b (xs ++ ys) ∷ ts) blank a ≡ given (segment b xs ∷ segment c ys ∷ ts) blank a
+touching : (b c : ℕ) (xs ys : List ℕ) (ts : List Segment) (blank a : ℕ) → c ≡ b + length xs
+    → given (segment b (xs ++ ys) ∷ ts) blank a ≡ given (segment b xs ∷ segment c ys ∷ ts) blank a
 touching b c xs ys ts blank a is = elim (place (segment b xs) a) [
   | inl low ↦ given_out (segment b (xs ++ ys)) ts blank a (early (segment b (xs ++ ys)) a low)
-      ∙ sym (given_out (segment b xs) (segment c ys ∷ ts) blank a (early (segment b xs) a low) ∙ given_out (segment c ys) ts blank a (early (segment c ys) a (omega arith)))
+      ∙ sym (given_out (segment b xs) (segment c ys ∷ ts) blank a (early (segment b xs) a low)
+      ∙ given_out (segment c ys) ts blank a (early (segment c ys) a (omega arith)))
   | inr (inl mid) ↦
       let low : b ≤ a = mid.0 in
       let high : a < b + length xs = mid.1 in
       let count : length (xs ++ ys) ≡ length xs + length ys = length-append xs ys in
-      given_in (segment b (xs ++ ys)) ts blank a low (omega arith) ∙ get_or_append_left xs ys 0 (a - b) (omega arith) ∙ sym (given_in (segment b xs) (segment c ys ∷ ts) blank a low high)
+      given_in (segment b (xs ++ ys)) ts blank a low (omega arith) ∙ get_or_append_left xs ys 0 (a - b) (omega arith)
+      ∙ sym (given_in (segment b xs) (segment c ys ∷ ts) blank a low high)
   | inr (inr past) ↦
       let front = given_out (segment b xs) (segment c ys ∷ ts) blank a (late (segment b xs) a past) in
       let count : length (xs ++ ys) ≡ length xs + length ys = length-append xs ys in
@@ -51,26 +56,31 @@ touching b c xs ys ts blank a is = elim (place (segment b xs) a) [
             let low : c ≤ a = mid.0 in
             let high : a < c + length ys = mid.1 in
             let from : a - b ≡ length xs + (a - c) = omega arith in
-            given_in (segment b (xs ++ ys)) ts blank a (omega arith) (omega arith) ∙ ap (λ (k : ℕ). get_or (xs ++ ys) k 0) from ∙ get_or-append-add xs ys (a - c) 0
+            given_in (segment b (xs ++ ys)) ts blank a (omega arith) (omega arith) ∙ ap (λ (k : ℕ). get_or (xs ++ ys) k 0) from
+            ∙ get_or-append-add xs ys (a - c) 0
             ∙ sym (front ∙ given_in (segment c ys) ts blank a low high)
         | inr (inr end) ↦
             let last : c + length ys ≤ a = end in
-            given_out (segment b (xs ++ ys)) ts blank a (late (segment b (xs ++ ys)) a (omega arith)) ∙ sym (front ∙ given_out (segment c ys) ts blank a (late (segment c ys) a last))
+            given_out (segment b (xs ++ ys)) ts blank a (late (segment b (xs ++ ys)) a (omega arith))
+            ∙ sym (front ∙ given_out (segment c ys) ts blank a (late (segment c ys) a last))
       ]
 ]
 
 given_to : (s : Segment) (ss : List Segment) (blank a : ℕ) → given (joined_to s ss) blank a ≡ given (s ∷ ss) blank a
 given_to s [] blank a = refl
 given_to s (t ∷ ts) blank a = elim (cases_Bool (eqb t.addr (s.addr + length s.bytes))) [
-  | inl e ↦ ap (λ (x : Bool). given (cond x (segment s.addr (s.bytes ++ t.bytes) ∷ ts) (s ∷ t ∷ ts)) blank a) e ∙ touching s.addr t.addr s.bytes t.bytes ts blank a (eqb-true t.addr (s.addr + length s.bytes) e)
+  | inl e ↦ ap (λ (x : Bool). given (cond x (segment s.addr (s.bytes ++ t.bytes) ∷ ts) (s ∷ t ∷ ts)) blank a) e
+      ∙ touching s.addr t.addr s.bytes t.bytes ts blank a (eqb-true t.addr (s.addr + length s.bytes) e)
   | inr e ↦ ap (λ (x : Bool). given (cond x (segment s.addr (s.bytes ++ t.bytes) ∷ ts) (s ∷ t ∷ ts)) blank a) e
 ]
 
 pub given_joined : (image : List Segment) (blank a : ℕ) → given (joined image) blank a ≡ given image blank a
 given_joined [] blank a = refl
-given_joined (s ∷ ss) blank a = given_to s (joined ss) blank a ∙ ap (λ (n : ℕ). cond (covers s a) (slice_index s.bytes (a - s.addr)) n) (given_joined ss blank a)
+given_joined (s ∷ ss) blank a = given_to s (joined ss) blank a
+    ∙ ap (λ (n : ℕ). cond (covers s a) (slice_index s.bytes (a - s.addr)) n) (given_joined ss blank a)
 
-pub same_bytes_is : (image : List Segment) → IsImage image → (a : ℕ) → (flash_byte (joined image) a ≡ flash_byte image a) × (first_byte (joined image) a ≡ first_byte image a)
+pub same_bytes_is : (image : List Segment) → IsImage image → (a : ℕ)
+    → (flash_byte (joined image) a ≡ flash_byte image a) × (first_byte (joined image) a ≡ first_byte image a)
 same_bytes_is image is a = (
   ap (λ (n : ℕ). cond (ltb a flash_size) n 255) (given_joined image 255 a),
   (λ i. cond (ltb a flash_size) (given_joined image 255 a i) (cond (in_sram a) (given_joined image 0 a i) 0)),
@@ -96,10 +106,11 @@ Behind p t = p ≤ t.addr
 
 behind_to : (p : ℕ) (s : Segment) (ss : List Segment) → p ≤ s.addr → All (Behind p) ss → All (Behind p) (joined_to s ss)
 behind_to p s [] low h = All-cons (Behind p) s [] low h
-behind_to p s (t ∷ ts) low h = elim (eqb t.addr (s.addr + length s.bytes)) as (λ x. All (Behind p) (cond x (segment s.addr (s.bytes ++ t.bytes) ∷ ts) (s ∷ t ∷ ts))) [
-  | true ↦ All-cons (Behind p) (segment s.addr (s.bytes ++ t.bytes)) ts low (All-tail (Behind p) t ts h)
-  | false ↦ All-cons (Behind p) s (t ∷ ts) low h
-]
+behind_to p s (t ∷ ts) low h =
+    elim (eqb t.addr (s.addr + length s.bytes)) as (λ x. All (Behind p) (cond x (segment s.addr (s.bytes ++ t.bytes) ∷ ts) (s ∷ t ∷ ts))) [
+      | true ↦ All-cons (Behind p) (segment s.addr (s.bytes ++ t.bytes)) ts low (All-tail (Behind p) t ts h)
+      | false ↦ All-cons (Behind p) s (t ∷ ts) low h
+    ]
 
 behind_joined : (p : ℕ) (ss : List Segment) → All (Behind p) ss → All (Behind p) (joined ss)
 behind_joined p [] h = h

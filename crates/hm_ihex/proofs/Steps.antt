@@ -15,17 +15,21 @@ pub step : (k : ℕ) (r : Reading) (l : List ℕ) (ls : List (List ℕ)) → lin
 unfolding lines_in
 step k r l ls = refl
 
-pub by_more : (k : ℕ) (old new : Reading) (l : List ℕ) (ls : List (List ℕ)) (result : Result Next ImageErr) → IsNext k old new (line_in l) result → result ≡ Ok More → lines_in k old (l ∷ ls) ≡ lines_in (k + 1) new ls
+pub by_more : (k : ℕ) (old new : Reading) (l : List ℕ) (ls : List (List ℕ)) (result : Result Next ImageErr) → IsNext k old new (line_in l) result
+    → result ≡ Ok More → lines_in k old (l ∷ ls) ≡ lines_in (k + 1) new ls
 by_more k old new l ls result h is = step k old l ls ∙ subst (λ (r : Result Next ImageErr). IsNext k old new (line_in l) r) is h ls (λ q. lines_in (k + 1) q ls)
 
-pub by_end : (k : ℕ) (old new : Reading) (l : List ℕ) (ls : List (List ℕ)) (result : Result Next ImageErr) → IsNext k old new (line_in l) result → result ≡ Ok End → lines_in k old (l ∷ ls) ≡ ended_by k new.cells ls
+pub by_end : (k : ℕ) (old new : Reading) (l : List ℕ) (ls : List (List ℕ)) (result : Result Next ImageErr) → IsNext k old new (line_in l) result
+    → result ≡ Ok End → lines_in k old (l ∷ ls) ≡ ended_by k new.cells ls
 by_end k old new l ls result h is = step k old l ls ∙ subst (λ (r : Result Next ImageErr). IsNext k old new (line_in l) r) is h ls (λ q. lines_in (k + 1) q ls)
 
-fails_by : (k : ℕ) (old new : Reading) (l : List ℕ) (ls : List (List ℕ)) (e : ImageErr) → IsNext k old new (line_in l) (Err e) → Fails e (lines_in k old (l ∷ ls))
+fails_by : (k : ℕ) (old new : Reading) (l : List ℕ) (ls : List (List ℕ)) (e : ImageErr) → IsNext k old new (line_in l) (Err e)
+    → Fails e (lines_in k old (l ∷ ls))
 fails_by k old new l ls refusals.OutOfMemory h = tt
 fails_by k old new l ls e h = step k old l ls ∙ h ls (λ q. lines_in (k + 1) q ls)
 
-pub by_err : (k : ℕ) (old new : Reading) (l : List ℕ) (ls : List (List ℕ)) (e : ImageErr) (result : Result Next ImageErr) → IsNext k old new (line_in l) result → result ≡ Err e → Fails e (lines_in k old (l ∷ ls))
+pub by_err : (k : ℕ) (old new : Reading) (l : List ℕ) (ls : List (List ℕ)) (e : ImageErr) (result : Result Next ImageErr) → IsNext k old new (line_in l) result
+    → result ≡ Err e → Fails e (lines_in k old (l ∷ ls))
 by_err k old new l ls e result h is = fails_by k old new l ls e (subst (λ (r : Result Next ImageErr). IsNext k old new (line_in l) r) is h)
 
 -- no line is left, and none was the end record
@@ -34,5 +38,6 @@ unfolding lines_in
 by_none k r text none = ap (λ (t : List ℕ). lines_in k r (all_lines (lines_of t))) (none_left text none) ∙ ap (lines_in k r) no_lines
 
 -- the record of a line, by its digits and their bytes
-pub line_of : (line digits bytes : List ℕ) (said : Record) → line ≡ 58 ∷ digits → Some bytes ≡ bytes_in digits → Some said ≡ record_in bytes → line_in line ≡ Some said
+pub line_of : (line digits bytes : List ℕ) (said : Record) → line ≡ 58 ∷ digits → Some bytes ≡ bytes_in digits → Some said ≡ record_in bytes
+    → line_in line ≡ Some said
 line_of line digits bytes said is b r = ap line_in is ∙ ap (option_and_then record_in) (sym b) ∙ sym r

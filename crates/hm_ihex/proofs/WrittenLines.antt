@@ -5,7 +5,8 @@ use Rattle.hm_ihex.specs.Records.{sum_of}
 use Rattle.hm_text_base.specs.Spans.{line}
 use Rattle.hm_ihex.specs.Written.{check_of, digit, digits_of, record_text}
 
-pub digits_more : (bytes : List ℕ) (k : ℕ) → k < length bytes → digits_of (drop k bytes) ≡ digit (get_or bytes k 0 / 16) ∷ digit (get_or bytes k 0 % 16) ∷ digits_of (drop (k + 1) bytes)
+pub digits_more : (bytes : List ℕ) (k : ℕ) → k < length bytes
+    → digits_of (drop k bytes) ≡ digit (get_or bytes k 0 / 16) ∷ digit (get_or bytes k 0 % 16) ∷ digits_of (drop (k + 1) bytes)
 digits_more bytes k lt = ap digits_of (drop_more bytes k 0 lt)
 
 pub digits_all : (bytes : List ℕ) (k : ℕ) → length bytes ≤ k → digits_of (drop k bytes) ≡ []
@@ -28,15 +29,19 @@ check_is head bytes a b first second =
 
 in_row : (o x h b c n : List ℕ) → ((((o ++ x) ++ h) ++ b) ++ c) ++ n ≡ o ++ (x ++ (((h ++ b) ++ c) ++ n))
 in_row o x h b c n =
-    append_assoc (((o ++ x) ++ h) ++ b) c n ∙ append_assoc ((o ++ x) ++ h) b (c ++ n) ∙ append_assoc (o ++ x) h (b ++ (c ++ n)) ∙ append_assoc o x (h ++ (b ++ (c ++ n)))
+    append_assoc (((o ++ x) ++ h) ++ b) c n ∙ append_assoc ((o ++ x) ++ h) b (c ++ n) ∙ append_assoc (o ++ x) h (b ++ (c ++ n))
+    ∙ append_assoc o x (h ++ (b ++ (c ++ n)))
     ∙ ap (λ (r : List ℕ). o ++ (x ++ r)) (sym (append_assoc (h ++ b) c n ∙ append_assoc h b (c ++ n)))
 
 -- a record in its parts
-pub record_line : (o p q r s t head bytes : List ℕ) (k : ℕ) → p ≡ o ++ 58 ∷ [] → q ≡ p ++ digits_of head → r ≡ q ++ digits_of bytes → s ≡ r ++ digits_of (k ∷ []) → t ≡ s ++ 10 ∷ [] → k ≡ check_of (head ++ bytes)
+pub record_line : (o p q r s t head bytes : List ℕ) (k : ℕ) → p ≡ o ++ 58 ∷ [] → q ≡ p ++ digits_of head → r ≡ q ++ digits_of bytes
+    → s ≡ r ++ digits_of (k ∷ []) → t ≡ s ++ 10 ∷ [] → k ≡ check_of (head ++ bytes)
     → t ≡ o ++ line (record_text (head ++ bytes))
 record_line o p q r s t head bytes k a b c d e f =
-    let kept : digits_of ((head ++ bytes) ++ k ∷ []) ≡ (digits_of head ++ digits_of bytes) ++ digits_of (k ∷ []) = digits_append (head ++ bytes) (k ∷ []) ∙ ap (λ (x : List ℕ). x ++ digits_of (k ∷ [])) (digits_append head bytes) in
-    e ∙ ap (λ (x : List ℕ). x ++ 10 ∷ []) (d ∙ ap (λ (x : List ℕ). x ++ digits_of (k ∷ [])) (c ∙ ap (λ (x : List ℕ). x ++ digits_of bytes) (b ∙ ap (λ (x : List ℕ). x ++ digits_of head) a)))
+    let kept : digits_of ((head ++ bytes) ++ k ∷ []) ≡ (digits_of head ++ digits_of bytes) ++ digits_of (k ∷ []) = digits_append (head ++ bytes) (k ∷ [])
+    ∙ ap (λ (x : List ℕ). x ++ digits_of (k ∷ [])) (digits_append head bytes) in
+    e ∙ ap (λ (x : List ℕ). x ++ 10 ∷ [])
+    (d ∙ ap (λ (x : List ℕ). x ++ digits_of (k ∷ [])) (c ∙ ap (λ (x : List ℕ). x ++ digits_of bytes) (b ∙ ap (λ (x : List ℕ). x ++ digits_of head) a)))
     ∙ in_row o (58 ∷ []) (digits_of head) (digits_of bytes) (digits_of (k ∷ [])) (10 ∷ [])
     ∙ ap (λ (x : List ℕ). o ++ ((58 ∷ []) ++ (x ++ 10 ∷ []))) (sym kept)
     ∙ ap (λ (j : ℕ). o ++ line (58 ∷ digits_of ((head ++ bytes) ++ j ∷ []))) f

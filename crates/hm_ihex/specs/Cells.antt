@@ -1,5 +1,6 @@
 -- Flash and SRAM as cells, each given a byte or not, and the segments that given cells make.
-use Rattle.std.specs.Prelude.{ℕ, ◌+◌, ◌-◌, Bool, ◌&&◌, List, [], ◌∷◌, ◌++◌, set, get_or, length, Option, Some, None, is_none, nat_eq, nat_le, nat_lt, if◌then◌else◌, option_map}
+use Rattle.std.specs.Prelude.{ℕ, ◌+◌, ◌-◌, Bool, ◌&&◌, List, [], ◌∷◌, ◌++◌, set, get_or, length, Option, Some, None, is_none, nat_eq, nat_le, nat_lt}
+use Rattle.std.specs.Prelude.{if◌then◌else◌, option_map}
 use Rattle.std.proofs.Math.ListN.{replicate}
 use Rattle.hm_base.specs.Image.{Segment, segment, flash_size, sram_size, sram_start}
 

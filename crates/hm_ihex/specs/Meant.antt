@@ -38,6 +38,7 @@ IfData P start = Unit {0}
 -- what follows a line of this record, whatever lines stand behind it and whatever is done with them
 abbrev pub IsNext : ℕ → Reading → Reading → Option Record → Result Next ImageErr → Type 0
 IsNext k old new said (Ok More) = (others : List (List ℕ)) (more : Reading → Result (List Segment) ImageErr) → by_record k old others more said ≡ more new
-IsNext k old new said (Ok Ends) = (others : List (List ℕ)) (more : Reading → Result (List Segment) ImageErr) → by_record k old others more said ≡ ended_by k new.cells others
+IsNext k old new said (Ok Ends) = (others : List (List ℕ)) (more : Reading → Result (List Segment) ImageErr)
+    → by_record k old others more said ≡ ended_by k new.cells others
 IsNext k old new said (Err refusals.OutOfMemory) = Unit {0}
 IsNext k old new said (Err e) = (others : List (List ℕ)) (more : Reading → Result (List Segment) ImageErr) → by_record k old others more said ≡ Err e

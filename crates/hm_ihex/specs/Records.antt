@@ -1,5 +1,6 @@
 -- Records of Intel HEX: a line each.
-use Rattle.std.specs.Prelude.{ℕ, ◌+◌, ◌-◌, ◌*◌, ◌%◌, ◌&&◌, List, [], ◌∷◌, length, take, Option, Some, None, nat_eq, nat_le, if◌then◌else◌, option_map, option_and_then}
+use Rattle.std.specs.Prelude.{ℕ, ◌+◌, ◌-◌, ◌*◌, ◌%◌, ◌&&◌, List, [], ◌∷◌, length, take, Option, Some, None, nat_eq, nat_le, if◌then◌else◌, option_map}
+use Rattle.std.specs.Prelude.{option_and_then}
 
 -- the number below 16 of a hexadecimal digit, of either case
 abbrev pub digit_in : ℕ → Option ℕ
@@ -48,7 +49,8 @@ record_of kind offset bytes =
 -- the bytes of a record: its length, the offset, high byte first, the kind, so many bytes, and a check byte by which the sum of all is 0 modulo 256
 abbrev pub record_in : List ℕ → Option Record
 record_in (len ∷ high ∷ low ∷ kind ∷ rest) =
-    if nat_eq (length rest) (len + 1) && nat_eq (sum_of (len ∷ high ∷ low ∷ kind ∷ rest) % 256) 0 then record_of kind (256 * high + low) (take len rest) else None
+    if nat_eq (length rest) (len + 1) && nat_eq (sum_of (len ∷ high ∷ low ∷ kind ∷ rest) % 256) 0 then record_of kind (256 * high + low) (take len rest)
+    else None
 record_in bytes = None
 
 -- a line of a record: a colon, and the digits of its bytes

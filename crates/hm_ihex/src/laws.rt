@@ -15,5 +15,6 @@ pub fn hex_law()
     ensures longest { (bytes : List ℕ) (image : List Segment) → hex_in bytes ≡ Ok image → joined image ≡ image }
     ensures read_back { (image : List Segment) → IsImage image → AreBytes image → hex_in (hex_file image) ≡ Ok (joined image) }
     ensures is_image { (image : List Segment) → IsImage image → IsImage (joined image) }
-    ensures same_bytes { (image : List Segment) → IsImage image → (a : ℕ) → (flash_byte (joined image) a ≡ flash_byte image a) × (first_byte (joined image) a ≡ first_byte image a) }
+    ensures same_bytes { (image : List Segment) → IsImage image → (a : ℕ)
+        → (flash_byte (joined image) a ≡ flash_byte image a) × (first_byte (joined image) a ≡ first_byte image a) }
 {}

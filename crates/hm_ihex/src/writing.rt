@@ -105,7 +105,8 @@ fn piece_end(count: usize, at: usize, room: usize) -> usize
 /// Adds the lines of the pieces of a segment, behind a base with this upper half. The answer is the upper half behind them.
 fn add_segment(out: &mut Vec<u8>, last: u32, address: u32, bytes: &[u8]) -> Result<u32, OutOfMemory>
     requires within { address + length bytes.now ≤ 4294967296 }
-    ensures added { IfOk result (λ upper. (rest : List Segment) → out.new.items ++ text_of upper rest ≡ out.old.items ++ text_of last (pieces (length bytes.now) address bytes.now ++ rest)) }
+    ensures added { IfOk result (λ upper. (rest : List Segment)
+        → out.new.items ++ text_of upper rest ≡ out.old.items ++ text_of last (pieces (length bytes.now) address bytes.now ++ rest)) }
     ensures bytes { IfOk result (λ _. AllByRecursion (λ b. b < 256) bytes.now) }
 {
     let mut upper = last;

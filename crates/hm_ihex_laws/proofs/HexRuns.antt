@@ -17,10 +17,11 @@ use Rattle.hm_ihex_laws.proofs.SameImage.{SameBytes, same_listing, same_reset, s
 -- a file of Intel HEX begins with a colon
 colon : (ps : List Segment) → get_or (text_of 0 ps) 0 0 ≡ 58
 colon [] = refl
-colon (p ∷ ps) = elim (eqb (p.addr / 65536) 0) as (λ t. get_or (flat_map line (cond t [] (base_text (p.addr / 65536) ∷ []) ++ data_text (p.addr % 65536) p.bytes ∷ lines_of_pieces (p.addr / 65536) ps)) 0 0 ≡ 58) [
-  | true ↦ refl
-  | false ↦ refl
-]
+colon (p ∷ ps) = elim (eqb (p.addr / 65536) 0) as (λ t. get_or
+    (flat_map line (cond t [] (base_text (p.addr / 65536) ∷ []) ++ data_text (p.addr % 65536) p.bytes ∷ lines_of_pieces (p.addr / 65536) ps)) 0 0 ≡ 58) [
+      | true ↦ refl
+      | false ↦ refl
+    ]
 
 pub hex_colon : (image : List Segment) → get_or (hex_file image) 0 0 ≡ 58
 hex_colon image = colon (all_pieces image)
@@ -32,7 +33,8 @@ other : (i j : List Segment) → SameBytes i j → SameBytes j i
 other i j h = record { at = λ a. (sym (h.at a).0, sym (h.at a).1) }
 
 -- an image, its segments that touch made one, runs as it does
-pub joined_listing : (image : List Segment) (listing : Listing) → IsImage image → IsListing (flash_byte image) listing → IsListing (flash_byte (joined image)) listing
+pub joined_listing : (image : List Segment) (listing : Listing) → IsImage image → IsListing (flash_byte image) listing
+    → IsListing (flash_byte (joined image)) listing
 joined_listing image listing is h = same_listing image (joined image) listing (other (joined image) image (joined_same image is)) h
 
 pub joined_reset : (image : List Segment) → IsImage image → reset_pc (joined image) ≡ reset_pc image
@@ -49,8 +51,10 @@ back_is : (image back : List Segment) → IsImage image → AreBytes image → h
 back_is image back is all read = ap image_or (sym (read_back_is image is all) ∙ read)
 
 -- THE IMAGE OF AN IMAGE'S FILE has the same listings and the same reset address, and runs alike
-pub hex_runs : (listing : Listing) (image back : List Segment) (s : Sched) → IsImage image → AreBytes image → IsListing (flash_byte image) listing → hex_in (hex_file image) ≡ Ok back
+pub hex_runs : (listing : Listing) (image back : List Segment) (s : Sched) → IsImage image → AreBytes image → IsListing (flash_byte image) listing
+    → hex_in (hex_file image) ≡ Ok back
     → IsListing (flash_byte back) listing × (reset_pc back ≡ reset_pc image) × (shown_out listing back s ≡ shown_out listing image s)
 hex_runs listing image back s is all listed read =
-    subst (λ (i : List Segment). IsListing (flash_byte i) listing × (reset_pc i ≡ reset_pc image) × (shown_out listing i s ≡ shown_out listing image s)) (back_is image back is all read)
+    subst (λ (i : List Segment). IsListing (flash_byte i) listing × (reset_pc i ≡ reset_pc image) × (shown_out listing i s ≡ shown_out listing image s))
+    (back_is image back is all read)
     (joined_listing image listing is listed, joined_reset image is, joined_shown listing image s is)

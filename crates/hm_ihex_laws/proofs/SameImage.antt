@@ -45,7 +45,8 @@ same_start bounds i j h =
     λ k. record { cell = λ c. cell_alike i j c h k; sticky = false; pc = pc k - pc k % 2; rest = first_rest (thread_under bounds) }
 
 same_begin : (i j : List Segment) (s : Sched) → SameBytes i j → begin i s ≡ begin j s
-same_begin i j s h = λ k. record { outcome = None; machine = record { config = at_start (same_start (bounds_of s) i j h k); acts = [] }; ticks = 0; entries = [] }
+same_begin i j s h = λ k. record
+    { outcome = None; machine = record { config = at_start (same_start (bounds_of s) i j h k); acts = [] }; ticks = 0; entries = [] }
 
 same_run : (listing : Listing) (i j : List Segment) (s : Sched) (t : ℕ) → SameBytes i j → run listing i s t ≡ run listing j s t
 same_run listing i j s zero h = ap (closed (ticks_of s.lines)) (same_begin i j s h)

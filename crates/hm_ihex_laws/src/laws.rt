@@ -12,9 +12,11 @@ ghost use Rattle.hm_state.specs.Start.{reset_pc};
 /// The image of an image's file of Intel HEX has the same listings and the same reset address, and shows the same run under each schedule: the
 /// same report and the same memory. So does an image whose segments that touch were made one. Such a file begins with a colon.
 pub fn same_run_law()
-    ensures file { (listing : Listing) (image back : List Segment) (s : Sched) → IsImage image → AreBytes image → IsListing (flash_byte image) listing → hex_in (hex_file image) ≡ Ok back
+    ensures file { (listing : Listing) (image back : List Segment) (s : Sched) → IsImage image → AreBytes image → IsListing (flash_byte image) listing
+        → hex_in (hex_file image) ≡ Ok back
         → IsListing (flash_byte back) listing × (reset_pc back ≡ reset_pc image) × (shown_out listing back s ≡ shown_out listing image s) }
     ensures joined { (listing : Listing) (image : List Segment) (s : Sched) → IsImage image → IsListing (flash_byte image) listing
-        → IsListing (flash_byte (joined image)) listing × (reset_pc (joined image) ≡ reset_pc image) × (shown_out listing (joined image) s ≡ shown_out listing image s) }
+        → IsListing (flash_byte (joined image)) listing × (reset_pc (joined image) ≡ reset_pc image)
+        × (shown_out listing (joined image) s ≡ shown_out listing image s) }
     ensures colon { (image : List Segment) → get_or (hex_file image) 0 0 ≡ 58 }
 {}

@@ -41,8 +41,10 @@ module _ (report : ℕ → List ℕ) (every : ℕ) where
   lies zero k x e = none_there k x e
   lies (suc n) k x e =
       pushed (Lies (suc n)) (first_checkpoints report every n) (record { tick = n * every; report = report (n * every) })
-      (λ j y there. let before = lies n j y there in let low = before.below in record { below = omega (arith, low); tick = before.tick; report_is = before.report_is })
-      (subst (λ j. Lies (suc n) j (record { tick = n * every; report = report (n * every) })) (sym (long n)) (record { below = omega arith; tick = refl; report_is = refl }))
+      (λ j y there. let before = lies n j y there in let low = before.below in
+      record { below = omega (arith, low); tick = before.tick; report_is = before.report_is })
+      (subst (λ j. Lies (suc n) j (record { tick = n * every; report = report (n * every) })) (sym (long n))
+      (record { below = omega arith; tick = refl; report_is = refl }))
       k x e
 
 same_share : (m n k : ℕ) → 0 < k → m ≤ n → m / k ≤ n / k
@@ -76,7 +78,8 @@ module _ (listing : Listing) (image : List Segment) (s : Sched) (every : ℕ) wh
       let last = (run_out listing image s).ticks in
       let n = last / every + 1 in
       let size = long (report_at listing image s) every n in
-      let less : last / every ≤ length (ticks_of s.lines) / every = same_share last (length (ticks_of s.lines)) every (omega (arith, some)) (few_ticks listing image s) in
+      let less : last / every ≤ length (ticks_of s.lines) / every =
+      same_share last (length (ticks_of s.lines)) every (omega (arith, some)) (few_ticks listing image s) in
       record {
         format = inr refl;
         some = omega (arith, size);

@@ -17,18 +17,24 @@ module _ (listing : Listing) (image : List Segment) (s : Sched) (format : ℕ) w
   of_run_or x =
       elim (cases_lt (run_out listing image s).ticks x.tick) [
         | inl past ↦ inr (λ is. let begun = is.begun in omega (arith, past, begun))
-        | inr begun ↦ elim (same_or x.report (report_in format (report_at listing image s x.tick))) [ inl same ↦ inl (record { begun = begun; report = same }) | inr never ↦ inr (λ is. never is.report) ]
+        | inr begun ↦ elim (same_or x.report (report_in format (report_at listing image s x.tick))) [
+          | inl same ↦
+              inl (record { begun = begun; report = same })
+          | inr never ↦ inr (λ is. never is.report)
+        ]
       ]
 
   none_there : AreOfRun listing image s format []
   none_there zero x e = absurd cc
   none_there (suc k) x e = absurd cc
 
-  more_there : (y : ReportAt) (ys : List ReportAt) → IsOfRun listing image s format y → AreOfRun listing image s format ys → AreOfRun listing image s format (y ∷ ys)
+  more_there : (y : ReportAt) (ys : List ReportAt) → IsOfRun listing image s format y → AreOfRun listing image s format ys
+      → AreOfRun listing image s format (y ∷ ys)
   more_there y ys first rest zero x e = let same : y ≡ x = cc in subst (IsOfRun listing image s format) same first
   more_there y ys first rest (suc k) x e = rest k x e
 
-  before_later : (y : ReportAt) (ys : List ReportAt) (n : ℕ) → IsOfRun listing image s format y → ((k : ℕ) (x : ReportAt) → k < n → slice_get ys k ≡ Some x → IsOfRun listing image s format x)
+  before_later : (y : ReportAt) (ys : List ReportAt) (n : ℕ) → IsOfRun listing image s format y
+      → ((k : ℕ) (x : ReportAt) → k < n → slice_get ys k ≡ Some x → IsOfRun listing image s format x)
       → (k : ℕ) (x : ReportAt) → k < suc n → slice_get (y ∷ ys) k ≡ Some x → IsOfRun listing image s format x
   before_later y ys n first rest zero x less e = let same : y ≡ x = cc in subst (IsOfRun listing image s format) same first
   before_later y ys n first rest (suc k) x less e = rest k x (omega (arith, less)) e
@@ -46,7 +52,17 @@ module _ (listing : Listing) (image : List Segment) (s : Sched) (format : ℕ) w
               | inl rest ↦ inl (more_there y ys first rest)
               | inr later ↦
                   let d = later.1 in
-                  inr (later.0, record { place = suc d.place; checkpoint = d.checkpoint; there = d.there; lies = d.lies; differs = d.differs; before = before_later y ys d.place first d.before })
+                  inr (
+                    later.0,
+                    record {
+                      place = suc d.place;
+                      checkpoint = d.checkpoint;
+                      there = d.there;
+                      lies = d.lies;
+                      differs = d.differs;
+                      before = before_later y ys d.place first d.before;
+                    },
+                  )
             ]
       ]
 
@@ -73,7 +89,8 @@ module _ (listing : Listing) (image : List Segment) (s : Sched) (format : ℕ) w
             ]
       ]
 
-  pub one_comparison : (xs : List ReportAt) (q r : Result Unit JournalErr) → IsComparison listing image s format xs q → IsComparison listing image s format xs r → q ≡ r
+  pub one_comparison : (xs : List ReportAt) (q r : Result Unit JournalErr) → IsComparison listing image s format xs q → IsComparison listing image s format xs r
+      → q ≡ r
   one_comparison xs (Ok u) (Ok v) a b = refl
   one_comparison xs (Ok u) (Err (err.Differs t)) a b = absurd (never_both xs t a b)
   one_comparison xs (Ok u) (Err e) a b = absurd b

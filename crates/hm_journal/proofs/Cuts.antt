@@ -1,5 +1,6 @@
 -- A text without the first of its lines that is the system's, as a loop finds it.
-use Rattle.std.proofs.Common.{◌≡◌, ℕ, zero, suc, ◌+◌, ◌-◌, ◌<◌, ◌==◌, Bool, true, false, ◌&&◌, nat_eq, arith, ap, refl, sym, ◌∙◌, List, [], ◌∷◌, ◌++◌, drop, get_or, length, take, add-one}
+use Rattle.std.proofs.Common.{◌≡◌, ℕ, zero, suc, ◌+◌, ◌-◌, ◌<◌, ◌==◌, Bool, true, false, ◌&&◌, nat_eq, arith, ap, refl, sym, ◌∙◌, List, [], ◌∷◌, ◌++◌, drop}
+use Rattle.std.proofs.Common.{get_or, length, take, add-one}
 use Rattle.std.proofs.lemmas.List.{take_rest}
 use Rattle.hm_text_base.specs.Spans.{span}
 use Rattle.hm_journal.specs.Formats.{behind_line, is_system, without}

@@ -1,7 +1,8 @@
 -- Whether a value is a journal's, and whose.
 use Rattle.std.proofs.Common.{◌≡◌, ℕ, zero, suc, ◌*◌, arith, ap, refl, sym, ◌∙◌, ◌⊎◌, inl, inr, List, [], ◌∷◌, codes, length, map, slice_get, Some}
 use Rattle.std.proofs.lemmas.Bool.{cases_eq, cases_lt}
-use Rattle.serde_json.specs.Data.{Data, Items, Members, array, boolean, float, item, member, negative, no_items, no_members, null, number, object, string, unsigned}
+use Rattle.serde_json.specs.Data.{Data, Items, Members, array, boolean, float, item, member, negative, no_items, no_members, null, number, object, string}
+use Rattle.serde_json.specs.Data.{unsigned}
 use Rattle.serde_json.specs.View.{items_of}
 use Rattle.hm_journal.proofs.Pairs.{items_same}
 use Rattle.hm_journal.specs.Journals.{IsFormat, IsJournal, Journaled, ReportAt, checkpoint_data, journal_data}
@@ -78,7 +79,8 @@ end_or : (ms : Members) → OrNone (Unit {0}) (λ u. ms ≡ no_members)
 end_or no_members = inl (tt, refl)
 end_or (member k d ms) = inr (λ u e. cc)
 
-module _ {A B : Type 0} (k : List ℕ) (Q : A → Data) (R : B → Members) (one : (d : Data) → OrNone A (λ a. d ≡ Q a)) (others : (ms : Members) → OrNone B (λ b. ms ≡ R b)) where
+module _ {A B : Type 0} (k : List ℕ) (Q : A → Data) (R : B → Members) (one : (d : Data) → OrNone A (λ a. d ≡ Q a))
+    (others : (ms : Members) → OrNone B (λ b. ms ≡ R b)) where
   member_or : (ms : Members) → OrNone (A × B) (λ p. ms ≡ member k (Q p.0) (R p.1))
   member_or no_members = inr (λ p e. cc)
   member_or (member l d ms) =
@@ -103,7 +105,8 @@ checkpoint_or d =
 pub journal_or : (d : Data) → OrNone Journaled (λ j. d ≡ journal_data j)
 journal_or d =
     let formatted = member_or (codes "format") (λ n. number (unsigned n)) (λ (u : Unit {0}). no_members) number_or end_or in
-    let every = member_or (codes "every") (λ n. number (unsigned n)) (λ (p : ℕ × Unit {0}). member (codes "format") (number (unsigned p.0)) no_members) number_or formatted in
+    let every = member_or (codes "every") (λ n. number (unsigned n)) (λ (p : ℕ × Unit {0}). member (codes "format") (number (unsigned p.0)) no_members)
+    number_or formatted in
     let listed = array_or (λ xs. items_of (map checkpoint_data xs)) (items_or checkpoint_data checkpoint_or) in
     let all = member_or (codes "checkpoints") (λ xs. array (items_of (map checkpoint_data xs)))
     (λ (p : ℕ × (ℕ × Unit {0})). member (codes "every") (number (unsigned p.0)) (member (codes "format") (number (unsigned p.1.0)) no_members)) listed every in
@@ -141,7 +144,11 @@ pub format_or : (n : ℕ) → IsFormat n ⊎ (¬ (IsFormat n))
 format_or n =
     elim (cases_eq n 1) [
       | inl first ↦ inl (inl first)
-      | inr not_first ↦ elim (cases_eq n 2) [ inl second ↦ inl (inr second) | inr not_second ↦ inr (λ is. elim is [ inl first ↦ not_first first | inr second ↦ not_second second ]) ]
+      | inr not_first ↦ elim (cases_eq n 2) [
+        | inl second ↦ inl (inr second)
+        | inr not_second ↦
+            inr (λ is. elim is [ inl first ↦ not_first first | inr second ↦ not_second second ])
+      ]
     ]
 
 pub sound_or : (j : Journaled) → IsJournal j ⊎ (¬ (IsJournal j))

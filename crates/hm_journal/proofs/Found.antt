@@ -11,7 +11,8 @@ use Rattle.hm_journal.specs.Journals.{AreSmall, IsJournal, IsJournalFile, Journa
 pub every_in : (j : Journaled) → number_at (codes "every") (journal_data j) ≡ Some j.every
 every_in j = refl
 
-pub checkpoints_in : (j : Journaled) → option_and_then as_array (get (codes "checkpoints") (journal_data j)) ≡ Some (items_of (map checkpoint_data j.checkpoints))
+pub checkpoints_in : (j : Journaled)
+    → option_and_then as_array (get (codes "checkpoints") (journal_data j)) ≡ Some (items_of (map checkpoint_data j.checkpoints))
 checkpoints_in j = refl
 
 pub ticks_fit : (j : Journaled) → IsJournal j → AreSmall j.checkpoints
@@ -28,5 +29,7 @@ pub format_in : (j : Journaled) → number_at (codes "format") (journal_data j) 
 format_in j = refl
 
 -- bytes that read as a journal, under other names
-pub file_of : (out bytes : List ℕ) (j k : Journaled) → out ≡ bytes → IsUtf8 bytes → read bytes ≡ Some (journal_data j) → j ≡ k → IsJournal k → IsJournalFile out k
-file_of out bytes j k e text reads same sound = record { reads = (subst IsUtf8 (sym e) text, ap read e ∙ reads ∙ ap (λ (x : Journaled). Some (journal_data x)) same); sound = sound }
+pub file_of : (out bytes : List ℕ) (j k : Journaled) → out ≡ bytes → IsUtf8 bytes → read bytes ≡ Some (journal_data j) → j ≡ k → IsJournal k
+    → IsJournalFile out k
+file_of out bytes j k e text reads same sound =
+    record { reads = (subst IsUtf8 (sym e) text, ap read e ∙ reads ∙ ap (λ (x : Journaled). Some (journal_data x)) same); sound = sound }

@@ -1,5 +1,6 @@
 -- THE LINES OF A REPORT up to the system's: none of them is the system's, so this one is the first, and it alone is left out.
-use Rattle.std.proofs.Common.{◌≡◌, ℕ, zero, suc, Bool, true, false, nat_eq, List, [], ◌∷◌, ◌++◌, codes, decimal, length, Option, ap, refl, sym, ◌∙◌, append_assoc, arith, slice_index}
+use Rattle.std.proofs.Common.{◌≡◌, ℕ, zero, suc, Bool, true, false, nat_eq, List, [], ◌∷◌, ◌++◌, codes, decimal, length, Option, ap, refl, sym, ◌∙◌}
+use Rattle.std.proofs.Common.{append_assoc, arith, slice_index}
 use Rattle.std.proofs.lemmas.Bool.{and_parts}
 use Rattle.std.proofs.lemmas.List.{append-nil}
 use Rattle.std.proofs.lemmas.Bool.Decides.{nat_tests}
@@ -7,7 +8,8 @@ use Rattle.hm_regs.specs.Stacks.{main_of, process_of}
 use Rattle.hm_regs.specs.declared.Regs.{Regs}
 use Rattle.hm_report.proofs.Ascii.{outcome_keeps}
 use Rattle.hm_report.proofs.Bytes.{AreAll, adds, appended, bit_plain, decimal_plain, hex2_plain, hex8_plain, is_plain, is_shown}
-use Rattle.hm_run.specs.Report.{bit_line, flags_line, low_lines, mode_line, outcome_line, outcome_text, output_lines, pointer_lines, position_line, register_lines, report_of, state_lines, system_line, vector_line, vector_lines, word_line}
+use Rattle.hm_run.specs.Report.{bit_line, flags_line, low_lines, mode_line, outcome_line, outcome_text, output_lines, pointer_lines, position_line}
+use Rattle.hm_run.specs.Report.{register_lines, report_of, state_lines, system_line, vector_line, vector_lines, word_line}
 use Rattle.hm_run.specs.Timed.{Timed}
 use Rattle.hm_run.specs.declared.Outcome.{Outcome}
 use Rattle.hm_state.specs.State.{regs_of}
@@ -45,18 +47,22 @@ ended : (out : List ℕ) → Stays true false out → Stays true true (out ++ co
 ended out begun = chain true false true out (codes "\n") begun (λ rest. refl)
 
 -- a line behind whole lines: its first word, its other parts and its end
-line_stays : (out name : List ℕ) (parts : List (List ℕ)) → Stays true true out → Stays true false name → AreAll is_shown parts → Stays true true (appended (out ++ name) parts ++ codes "\n")
+line_stays : (out name : List ℕ) (parts : List (List ℕ)) → Stays true true out → Stays true false name → AreAll is_shown parts
+    → Stays true true (appended (out ++ name) parts ++ codes "\n")
 line_stays out name parts h begins all = ended (appended (out ++ name) parts) (parts_stay (out ++ name) parts (chain true true false out name h begins) all)
 
 -- THE LINES
 outcome_stays : (o : Option Outcome) → Stays true true (outcome_line o)
 outcome_stays o =
-    ended (outcome_text o (codes "outcome ")) (outcome_keeps (Stays true false) (λ out part begun plain. chain true false false out part begun (plain_stays part plain)) o (codes "outcome ") (λ rest. refl))
+    ended (outcome_text o (codes "outcome "))
+    (outcome_keeps (Stays true false) (λ out part begun plain. chain true false false out part begun (plain_stays part plain)) o (codes "outcome ")
+    (λ rest. refl))
 
 mode_stays : (depth ipsr : ℕ) (out : List ℕ) → Stays true true out → Stays true true (mode_line depth ipsr out)
 mode_stays zero ipsr out h = chain true true true out (codes "mode thread\n") h (λ rest. refl)
 mode_stays (suc k) ipsr out h =
-    line_stays out (codes "mode handler ") (decimal ipsr ∷ codes " depth " ∷ decimal (suc k) ∷ []) h (λ rest. refl) (decimal_plain ipsr, (refl, (decimal_plain (suc k), tt)))
+    line_stays out (codes "mode handler ") (decimal ipsr ∷ codes " depth " ∷ decimal (suc k) ∷ []) h (λ rest. refl)
+    (decimal_plain ipsr, (refl, (decimal_plain (suc k), tt)))
 
 low_stay : (k : ℕ) (r out : List ℕ) → Stays true true out → Stays true true (low_lines k r out)
 low_stay zero r out h = h
@@ -77,7 +83,8 @@ pointers_stay g out h =
     word_stays (codes "pc") g.pc lr (λ rest. refl) (word_stays (codes "lr") g.lr sp (λ rest. refl) (word_stays (codes "sp") g.sp out (λ rest. refl) h))
 
 position_stays : (a b : ℕ) (out : List ℕ) → Stays true true out → Stays true true (position_line a b out)
-position_stays a b out h = line_stays out (codes "position ") (decimal a ∷ codes " " ∷ decimal b ∷ []) h (λ rest. refl) (decimal_plain a, (refl, (decimal_plain b, tt)))
+position_stays a b out h = line_stays out (codes "position ") (decimal a ∷ codes " " ∷ decimal b ∷ []) h (λ rest. refl)
+    (decimal_plain a, (refl, (decimal_plain b, tt)))
 
 flags_stay : (g : Regs) (out : List ℕ) → Stays true true out → Stays true true (flags_line g out)
 flags_stay g out h =
@@ -106,7 +113,8 @@ before_stays o depth g a b =
     let pointers = pointer_lines g low in
     let position = position_line a b pointers in
     let flags = flags_line g position in
-    states_stay g flags (flags_stay g position (position_stays a b pointers (pointers_stay g low (low_stay 13 g.r mode (mode_stays depth g.ipsr (outcome_line o) (outcome_stays o))))))
+    states_stay g flags (flags_stay g position
+    (position_stays a b pointers (pointers_stay g low (low_stay 13 g.r mode (mode_stays depth g.ipsr (outcome_line o) (outcome_stays o))))))
 
 -- BEHIND IT
 behind_plain : (xs rest : List ℕ) → is_plain xs ≡ true → behind_line (xs ++ 10 ∷ rest) ≡ rest
@@ -141,7 +149,8 @@ vector_behind k qw out = simp append_assoc
 vectors_behind : (k : ℕ) (qw out : List ℕ) → vector_lines k qw out ≡ out ++ vector_lines k qw []
 vectors_behind zero qw out = sym (append-nil out)
 vectors_behind (suc k) qw out =
-    ap (vector_line k qw) (vectors_behind k qw out) ∙ vector_behind k qw (out ++ vector_lines k qw []) ∙ append_assoc out (vector_lines k qw []) (vector_line k qw [])
+    ap (vector_line k qw) (vectors_behind k qw out) ∙ vector_behind k qw (out ++ vector_lines k qw [])
+    ∙ append_assoc out (vector_lines k qw []) (vector_line k qw [])
     ∙ ap (λ l. out ++ l) (sym (vector_behind k qw (vector_lines k qw [])))
 
 output_behind : (bytes out : List ℕ) → output_lines bytes out ≡ out ++ output_lines bytes []
@@ -171,5 +180,6 @@ without_line x =
       before = before;
       behind = behind;
       whole = parts ∙ sym (append_assoc before (system_line g []) behind);
-      rest = ap without_system parts ∙ before_stays x.outcome depth g x.config.a x.config.b (system_line g [] ++ behind) ∙ ap (λ l. before ++ l) (left_out g behind);
+      rest = ap without_system parts ∙ before_stays x.outcome depth g x.config.a x.config.b (system_line g [] ++ behind)
+          ∙ ap (λ l. before ++ l) (left_out g behind);
     }

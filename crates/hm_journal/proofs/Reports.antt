@@ -15,13 +15,16 @@ use Rattle.hm_journal.specs.Runs.{IsOfRun, report_at}
 use Rattle.hm_journal.specs.Views.{checkpoint_of}
 use Rattle.hm_journal.specs.declared.journal.Checkpoint.{Checkpoint}
 
-pub reported : (listing : Listing) (image : List Segment) (s : Sched) (t : ℕ) (m : Shown) (bytes : List ℕ) → IsListing (flash_byte image) listing → Shows image s t m
+pub reported : (listing : Listing) (image : List Segment) (s : Sched) (t : ℕ) (m : Shown) (bytes : List ℕ) → IsListing (flash_byte image) listing
+    → Shows image s t m
     → bytes ≡ report_text (timed_of m) → bytes ≡ report_at listing image s t
 reported listing image s t m bytes is shows e = e ∙ ap report_text (timed_is m (run listing image s t) (shows.now listing is))
 
 -- a checkpoint is the run's where its tick is begun and its report is these bytes, which are the run's as the format has them
-pub of_run : (listing : Listing) (image : List Segment) (s : Sched) (format : ℕ) (x : Checkpoint) (bytes : List ℕ) (b : Bool) → x.tick ≤ (run_out listing image s).ticks
-    → bytes ≡ report_in format (report_at listing image s x.tick) → Decides b (bytes ≡ string_bytes x.report) → IsTrue b ↔ IsOfRun listing image s format (checkpoint_of x)
+pub of_run : (listing : Listing) (image : List Segment) (s : Sched) (format : ℕ) (x : Checkpoint) (bytes : List ℕ) (b : Bool)
+    → x.tick ≤ (run_out listing image s).ticks
+    → bytes ≡ report_in format (report_at listing image s x.tick) → Decides b (bytes ≡ string_bytes x.report)
+    → IsTrue b ↔ IsOfRun listing image s format (checkpoint_of x)
 of_run listing image s format x bytes b begun is tells = (
   λ same. record { begun = begun; report = sym (tells.0 same) ∙ is },
   λ of. tells.1 (is ∙ sym of.report),

@@ -28,7 +28,8 @@ tail_is : (n f : ℕ) → members_text true (member (codes "every") (number (uns
 unfolding serde_json_on_literals
 tail_is n f = refl
 
-front_is : (is : Items) (t : Members) → compact_text (object (member (codes "checkpoints") (array is) t)) ≡ codes "{\"checkpoints\":[" ++ (items_text false is ++ members_text true t)
+front_is : (is : Items) (t : Members)
+    → compact_text (object (member (codes "checkpoints") (array is) t)) ≡ codes "{\"checkpoints\":[" ++ (items_text false is ++ members_text true t)
 unfolding serde_json_on_literals
 front_is is t = refl
 
@@ -39,7 +40,8 @@ pub text_is : (j : Journaled) → compact_text (journal_data j) ≡ journal_text
 text_is j =
     let front : List ℕ = codes "{\"checkpoints\":[" in
     let m = checkpoints_text false j.checkpoints in
-    front_is (items_of (map checkpoint_data j.checkpoints)) (member (codes "every") (number (unsigned j.every)) (member (codes "format") (number (unsigned j.format)) no_members))
+    front_is (items_of (map checkpoint_data j.checkpoints))
+    (member (codes "every") (number (unsigned j.every)) (member (codes "format") (number (unsigned j.format)) no_members))
     ∙ (λ i. front ++ (items_are false j.checkpoints i ++ tail_is j.every j.format i))
     ∙ joined front m (93 ∷ []) (codes ",\"every\":") (decimal j.every) (codes ",\"format\":") (decimal j.format) (codes "}")
 

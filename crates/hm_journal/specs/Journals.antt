@@ -1,5 +1,6 @@
 -- JOURNALS, and their JSON: as a value, and as its compact text.
-use Rattle.std.specs.Prelude.{◌≡◌, ℕ, ◌*◌, ◌<◌, ◌≤◌, ◌^◌, ◌⊎◌, Bool, true, false, List, [], ◌∷◌, ◌++◌, codes, decimal, length, map, slice_get, Option, Some, option_and_then}
+use Rattle.std.specs.Prelude.{◌≡◌, ℕ, ◌*◌, ◌<◌, ◌≤◌, ◌^◌, ◌⊎◌, Bool, true, false, List, [], ◌∷◌, ◌++◌, codes, decimal, length, map, slice_get, Option, Some}
+use Rattle.std.specs.Prelude.{option_and_then}
 use Rattle.std.specs.Str.{IsUtf8}
 use Rattle.json.specs.Print.{quoted}
 use Rattle.serde_json.specs.Data.{Data, array, member, no_members, number, object, string, unsigned}
@@ -42,7 +43,8 @@ checkpoints_text later (x ∷ xs) = comma_if later ++ checkpoint_text x ++ check
 -- a journal as its compact JSON text
 abbrev pub journal_text : Journaled → List ℕ
 journal_text j =
-    codes "{\"checkpoints\":[" ++ checkpoints_text false j.checkpoints ++ codes "],\"every\":" ++ decimal j.every ++ codes ",\"format\":" ++ decimal j.format ++ codes "}"
+    codes "{\"checkpoints\":[" ++ checkpoints_text false j.checkpoints ++ codes "],\"every\":" ++ decimal j.every ++ codes ",\"format\":" ++ decimal j.format
+    ++ codes "}"
 
 -- WHICH JOURNALS THERE ARE
 -- the formats that there are: 1, whose reports have no line of the system, and 2

@@ -20,12 +20,14 @@ pub fn journal_law()
 pub fn comparison_law()
     ensures one { (listing : Listing) (image : List Segment) (s : Sched) (format : ℕ) (xs : List ReportAt) (q r : Result Unit JournalErr)
         → IsComparison listing image s format xs q → IsComparison listing image s format xs r → q ≡ r }
-    ensures some { (listing : Listing) (image : List Segment) (s : Sched) (format : ℕ) (xs : List ReportAt) → (r : Result Unit JournalErr) × IsComparison listing image s format xs r }
+    ensures some { (listing : Listing) (image : List Segment) (s : Sched) (format : ℕ) (xs : List ReportAt)
+        → (r : Result Unit JournalErr) × IsComparison listing image s format xs r }
 {}
 
 /// The journal of a run is the run's, and where the schedule's ticks allow no more than 64 checkpoints there is such a journal.
 pub fn own_journal_law()
-    ensures own { (listing : Listing) (image : List Segment) (s : Sched) (every : ℕ) → AreOfRun listing image s (journal_of listing image s every).format (journal_of listing image s every).checkpoints }
+    ensures own { (listing : Listing) (image : List Segment) (s : Sched) (every : ℕ)
+        → AreOfRun listing image s (journal_of listing image s every).format (journal_of listing image s every).checkpoints }
     ensures sound { (listing : Listing) (image : List Segment) (s : Sched) (every : ℕ) → 1 ≤ every → every ≤ 16777216
         → length (ticks_of s.lines) / every + 1 ≤ 64 → IsJournal (journal_of listing image s every) }
 {}

@@ -1,10 +1,12 @@
 //! A journal read from text.
 
-ghost use Rattle.std.specs.Prelude.{◌≡◌, ◌↔◌, ℕ, ◌*◌, ◌<◌, ◌≤◌, ◌^◌, codes, length, List, map, None, Some, IfOk, IfErr, IfNone, IfSome, IsTrue, option_map, option_and_then, slice_get};
+ghost use Rattle.std.specs.Prelude.{◌≡◌, ◌↔◌, ℕ, ◌*◌, ◌<◌, ◌≤◌, ◌^◌, codes, length, List, map, None, Some, IfOk, IfErr, IfNone, IfSome, IsTrue, option_map};
+ghost use Rattle.std.specs.Prelude.{option_and_then, slice_get};
 ghost use Rattle.serde_json.specs.Find.{as_array, get};
 ghost use Rattle.serde_json.specs.Errors.{IsMemory};
 ghost use Rattle.serde_json.specs.View.{items_view, view};
-ghost use Rattle.hm_journal.specs.Journals.{AreSmall, AreTicks, HasFormat, IsFormat, IsJournal, IsJournalFile, number_at, ReportAt, Journaled, journal_data, checkpoint_data};
+ghost use Rattle.hm_journal.specs.Journals.{AreSmall, AreTicks, HasFormat, IsFormat, IsJournal, IsJournalFile, number_at, ReportAt, Journaled, journal_data};
+ghost use Rattle.hm_journal.specs.Journals.{checkpoint_data};
 ghost use Rattle.hm_journal.specs.Outcomes.{IsReadErr};
 ghost use Rattle.hm_journal.specs.Views.{checkpoint_of, journal_with, drafted};
 
@@ -45,7 +47,8 @@ fn checkpoint_in(alloc: Global, value: &Value) -> Result<Option<Checkpoint>, All
 
 // Ticks and their reports, where the values are theirs.
 fn checkpoints_in(alloc: Global, values: &[Value]) -> Result<Option<Vec<Checkpoint>>, AllocError>
-    ensures { IfOk result (λ o. (xs : List ReportAt) → AreSmall xs → map view values.now ≡ map checkpoint_data xs → option_map (λ v. map checkpoint_of v.items) o ≡ Some xs) }
+    ensures { IfOk result (λ o. (xs : List ReportAt) → AreSmall xs → map view values.now ≡ map checkpoint_data xs
+        → option_map (λ v. map checkpoint_of v.items) o ≡ Some xs) }
 {
     let mut checkpoints = Vec::new(alloc);
     for value in values {
@@ -125,8 +128,8 @@ fn format_in(value: &Value) -> Option<u32>
     }
 }
 
-/// Reads a journal. Json exactly where the bytes have no reading as JSON, else Format exactly where `format` is neither the number 1 nor the number 2, and else Shape exactly where
-/// no journal has this value.
+/// Reads a journal. Json exactly where the bytes have no reading as JSON, else Format exactly where `format` is neither the number 1 nor the number
+/// 2, and else Shape exactly where no journal has this value.
 pub fn read_journal(alloc: Global, bytes: &[u8]) -> Result<Journal, JournalErr>
     ensures found { IfOk result (λ j. IsJournalFile bytes.now j) }
     ensures refused { IfErr result (λ e. IsReadErr bytes.now e) }

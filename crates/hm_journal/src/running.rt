@@ -37,7 +37,8 @@ fn report_at(alloc: Global, tape: &mut Tape, tick: u32) -> Result<String, Journa
 fn checkpoints(alloc: Global, tape: &mut Tape, every: u32) -> Result<Vec<Checkpoint>, JournalErr>
     requires { 1 ≤ every }
     ensures stays { tape.new ≡ tape.old }
-    ensures checkpoints { IfOk result (λ v. (image : List Segment) (s : Sched) (listing : Listing) → IsListing (flash_byte image) listing → Tapes image s tape.old
+    ensures checkpoints { IfOk result
+        (λ v. (image : List Segment) (s : Sched) (listing : Listing) → IsListing (flash_byte image) listing → Tapes image s tape.old
         → map checkpoint_of v.items ≡ (journal_of listing image s every).checkpoints) }
     ensures memory { IfErr result (λ e. e ≡ JournalErr.OutOfMemory) }
 {
@@ -52,8 +53,8 @@ fn checkpoints(alloc: Global, tape: &mut Tape, every: u32) -> Result<Vec<Checkpo
     Ok(checkpoints)
 }
 
-/// Writes the journal of the run, of format 2, with a checkpoint at tick 0 and from there on at each so many ticks. TooMany exactly where the ticks of the schedule, divided by
-/// `every`, and one more are more than 64. The tape is as it was.
+/// Writes the journal of the run, of format 2, with a checkpoint at tick 0 and from there on at each so many ticks. TooMany exactly where the ticks
+/// of the schedule, divided by `every`, and one more are more than 64. The tape is as it was.
 pub fn write_journal(alloc: Global, tape: &mut Tape, every: u32) -> Result<Vec<u8>, JournalErr>
     requires some { 1 ≤ every }
     ensures stays { tape.new ≡ tape.old }
@@ -62,7 +63,8 @@ pub fn write_journal(alloc: Global, tape: &mut Tape, every: u32) -> Result<Vec<u
     ensures few { OnOk result ((image : List Segment) (s : Sched) → Tapes image s tape.old → length (ticks_of s.lines) / every + 1 ≤ 64) }
     ensures refused { IfErr result (λ e. (image : List Segment) (s : Sched) → Tapes image s tape.old → IsWriteErr s every e) }
     // It is read back, where it is read at all.
-    ensures reads_back { IfOk result (λ out. (image : List Segment) (s : Sched) (listing : Listing) → IsListing (flash_byte image) listing → Tapes image s tape.old
+    ensures reads_back { IfOk result
+        (λ out. (image : List Segment) (s : Sched) (listing : Listing) → IsListing (flash_byte image) listing → Tapes image s tape.old
         → every ≤ 16777216 → IsJournalFile out.items (journal_of listing image s every)) }
 {
     if tape.scheduled() / every + 1 > 64 {

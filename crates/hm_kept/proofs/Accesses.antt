@@ -16,7 +16,8 @@ use Rattle.hm_isa.specs.declared.wide.StackName.TheVariants as stack
 use Rattle.hm_isa.specs.declared.wide.T12.{T12}
 use Rattle.hm_isa.specs.declared.wide.T12.TheVariants as t12_
 use Rattle.hm_regs.specs.declared.Regs.{Regs}
-use Rattle.hm_thumb.specs.MemoryRows.{access_row, list_row, load_list, loaded, other_end, pair_row, put_all, registers, stack_row, store_list, t12, wide_list_row}
+use Rattle.hm_thumb.specs.MemoryRows.{access_row, list_row, load_list, loaded, other_end, pair_row, put_all, registers, stack_row, store_list, t12}
+use Rattle.hm_thumb.specs.MemoryRows.{wide_list_row}
 use Rattle.hm_isa.specs.Words.{sign_extended}
 use Rattle.hm_thumb.specs.Does.{Ends, Faults, goes}
 use Rattle.hm_thumb.specs.RegisterRows.{blx_write, bx_write, put, reg}

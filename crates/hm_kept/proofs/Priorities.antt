@@ -36,7 +36,11 @@ read-levels d w h = h
 -- of a store among the devices those to IPR and SHPR3 put priorities
 write-levels : (d : Dev) (w : Option Word) (len a x : ℕ) → HasLevels d → HasLevels (write_devices d w len a x)
 write-levels d (Some Ipr) len a x h = record { interrupts = prios-levels len (a - 0xe000e400) x d.prio h.interrupts; tick = h.tick }
-write-levels d (Some Shpr3) len a x h = record { interrupts = h.interrupts; tick = either IsLevel (nat_lt 0xe000ed23 (a + len)) (top_three (byte_of x (0xe000ed23 - a))) d.tick_prio (top-level _) h.tick }
+write-levels d (Some Shpr3) len a x h =
+    record {
+      interrupts = h.interrupts;
+      tick = either IsLevel (nat_lt 0xe000ed23 (a + len)) (top_three (byte_of x (0xe000ed23 - a))) d.tick_prio (top-level _) h.tick;
+    }
 write-levels d (Some (Fixed y)) len a x h = h
 write-levels d (Some w) len a x h = record { interrupts = h.interrupts; tick = h.tick }
 write-levels d None len a x h = h

@@ -41,14 +41,17 @@ some_compiled bytes w short says =
 
 -- the bytes of its text take its steps
 pub same_steps : (bytes : List ℕ) (image : List Segment) (n : ℕ) (compiled : Compiles bytes image) → Takes bytes n → n ≡ steps compiled.text
-same_steps bytes image n compiled takes = takes.steps_are ∙ one_number bytes takes.text compiled.text takes.sound compiled.compiled.text takes.says compiled.says
+same_steps bytes image n compiled takes = takes.steps_are
+    ∙ one_number bytes takes.text compiled.text takes.sound compiled.compiled.text takes.says compiled.says
 
 -- bytes say one meaning
-pub same_meanings : (bytes : List ℕ) (image other : List Segment) (one : Compiles bytes image) (two : Compiles bytes other) → meaning one.text ≡ meaning two.text
+pub same_meanings : (bytes : List ℕ) (image other : List Segment) (one : Compiles bytes image) (two : Compiles bytes other)
+    → meaning one.text ≡ meaning two.text
 same_meanings bytes image other one two = one_meaning bytes one.text two.text one.compiled.text two.compiled.text one.says two.says
 
 -- whatever run halts, has done the code of the text
-pub file_of_run : (x : Text) (image : List Segment) (listing : Listing) (s : Sched) (reason : Reason) (n : ℕ) → IsCompiled x image → IsListing (flash_byte image) listing
+pub file_of_run : (x : Text) (image : List Segment) (listing : Listing) (s : Sched) (reason : Reason) (n : ℕ) → IsCompiled x image
+    → IsListing (flash_byte image) listing
     → (shown_out listing image s).outcome ≡ Some (Halted reason n) → IsFileOf x (memory_text (shown_out listing image s)) reason n
 file_of_run x image listing s reason n compiled lists halts =
     let out = shown_out listing image s in

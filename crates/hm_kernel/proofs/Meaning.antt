@@ -56,7 +56,8 @@ given_written t [] = refl
 given_written t (a ∷ xs) = ap (λ (m : Bytes). replaced t a.addr (length a.values.items) (λ j. slice_index a.values.items j) m) (given_written t xs)
 
 -- what all of a list have, has one in its middle
-all_middle : (P : WrittenArray → Type 0) (before : List WrittenArray) (b : WrittenArray) (after : List WrittenArray) → AllByRecursion P (before ++ b ∷ after) → P b
+all_middle : (P : WrittenArray → Type 0) (before : List WrittenArray) (b : WrittenArray) (after : List WrittenArray) → AllByRecursion P (before ++ b ∷ after)
+    → P b
 all_middle P [] b after h = h.0
 all_middle P (a ∷ before) b after h = all_middle P before b after h.1
 
@@ -111,92 +112,93 @@ same_number t k c i j hk hc e =
     decimal_injective k c (omega arith) (omega arith) e
 
 -- two lists of arrays that are written alike
-module _ (t : ElementType) (n : ℕ) (xs ys : List Array) (same : map array_written xs ≡ map array_written ys) (are : AreArrays t n [] (map array_written xs)) where
-  -- each array has one address in both
-  same_address : (i : ℕ) → address xs i ≡ address ys i
-  same_address i = addresses_written xs i ∙ ap (λ (ws : List WrittenArray). written_address ws i) same ∙ sym (addresses_written ys i)
+module _ (t : ElementType) (n : ℕ) (xs ys : List Array) (same : map array_written xs ≡ map array_written ys) (are : AreArrays t n [] (map array_written xs))
+  where
+    -- each array has one address in both
+    same_address : (i : ℕ) → address xs i ≡ address ys i
+    same_address i = addresses_written xs i ∙ ap (λ (ws : List WrittenArray). written_address ws i) same ∙ sym (addresses_written ys i)
 
-  -- both are given the same memory
-  same_given : given t xs ≡ given t ys
-  same_given = given_written t xs ∙ ap (written_given t) same ∙ sym (given_written t ys)
+    -- both are given the same memory
+    same_given : given t xs ≡ given t ys
+    same_given = given_written t xs ∙ ap (written_given t) same ∙ sym (given_written t ys)
 
-  -- both have as many arrays
-  same_length : length xs ≡ length ys
-  same_length = sym (length-map xs array_written) ∙ ap length same ∙ length-map ys array_written
+    -- both have as many arrays
+    same_length : length xs ≡ length ys
+    same_length = sym (length-map xs array_written) ∙ ap length same ∙ length-map ys array_written
 
-  -- the names of the first are names
-  named_left : AllNames xs
-  named_left = all_names t n [] xs are
+    -- the names of the first are names
+    named_left : AllNames xs
+    named_left = all_names t n [] xs are
 
-  -- the names of the other are names
-  named_right : AllNames ys
-  named_right = all_names t n [] ys (subst (AreArrays t n []) same are)
+    -- the names of the other are names
+    named_right : AllNames ys
+    named_right = all_names t n [] ys (subst (AreArrays t n []) same are)
 
-  -- arrays of one name have one address
-  same_place : (i k : ℕ) → i < length xs → k < length ys → name_at xs i ≡ name_at ys k → address xs i ≡ address ys k
-  same_place i k li lk e =
-      let long = length-map xs array_written in
-      let longs = same_length in
-      let names = sym (names_written xs i) ∙ e ∙ names_written ys k ∙ ap (λ (ws : List WrittenArray). written_name ws k) (sym same) in
-      let place : i ≡ k = one_place t n [] (map array_written xs) are i k (omega arith) (omega arith) names in
-      same_address i ∙ ap (address ys) place
+    -- arrays of one name have one address
+    same_place : (i k : ℕ) → i < length xs → k < length ys → name_at xs i ≡ name_at ys k → address xs i ≡ address ys k
+    same_place i k li lk e =
+        let long = length-map xs array_written in
+        let longs = same_length in
+        let names = sym (names_written xs i) ∙ e ∙ names_written ys k ∙ ap (λ (ws : List WrittenArray). written_name ws k) (sym same) in
+        let place : i ≡ k = one_place t n [] (map array_written xs) are i k (omega arith) (omega arith) names in
+        same_address i ∙ ap (address ys) place
 
-  -- expressions that are written alike have one value
-  same_value : (e f : Expr) → IsOver t (length xs) e → IsOver t (length ys) f → expr_written xs e ≡ expr_written ys f
-      → (j : ℕ) (m : Bytes) → value t (address xs) e j m ≡ value t (address ys) f j m
-  same_value (Name i) (Name k) he hf w j m =
-      let place = same_place i k he hf (same_word (name_at xs i) (name_at ys k) w) in
-      ap (λ (a : ℕ). little (bytes t) m (a + bytes t * j)) place
-  same_value (Name i) (Number c) he hf w j m =
-      let words = ap is_name (same_word (name_at xs i) (decimal c) w) in
-      let name = named_left i he in
-      let none = is_number t ys named_right c hf in
-      absurd cc
-  same_value (Number c) (Name k) he hf w j m =
-      let words = ap is_name (same_word (decimal c) (name_at ys k) w) in
-      let name = named_right k hf in
-      let none = is_number t xs named_left c he in
-      absurd cc
-  same_value (Number k) (Number c) he hf w j m = same_number t k c (length xs) (length ys) he hf (same_word (decimal k) (decimal c) w)
-  same_value (Apply' o p l q r) (Apply' o' p' l' q' r') he hf w j m =
-      let el = expr_written xs l in
-      let er = expr_written xs r in
-      let fl = expr_written ys l' in
-      let fr = expr_written ys r' in
-      let op = same_op o o' el er fl fr w in
-      let left = same_value l l' he.0 hf.0 (same_left o o' el er fl fr w) j m in
-      let right = same_value r r' he.1 hf.1 (same_right o o' el er fl fr w) j m in
-      λ d. op_value t (op d) (left d) (right d)
-  same_value (Name i) (Apply' o p l q r) he hf w j m = absurd cc
-  same_value (Number k) (Apply' o p l q r) he hf w j m = absurd cc
-  same_value (Apply' o p l q r) (Name i) he hf w j m = absurd cc
-  same_value (Apply' o p l q r) (Number k) he hf w j m = absurd cc
+    -- expressions that are written alike have one value
+    same_value : (e f : Expr) → IsOver t (length xs) e → IsOver t (length ys) f → expr_written xs e ≡ expr_written ys f
+        → (j : ℕ) (m : Bytes) → value t (address xs) e j m ≡ value t (address ys) f j m
+    same_value (Name i) (Name k) he hf w j m =
+        let place = same_place i k he hf (same_word (name_at xs i) (name_at ys k) w) in
+        ap (λ (a : ℕ). little (bytes t) m (a + bytes t * j)) place
+    same_value (Name i) (Number c) he hf w j m =
+        let words = ap is_name (same_word (name_at xs i) (decimal c) w) in
+        let name = named_left i he in
+        let none = is_number t ys named_right c hf in
+        absurd cc
+    same_value (Number c) (Name k) he hf w j m =
+        let words = ap is_name (same_word (decimal c) (name_at ys k) w) in
+        let name = named_right k hf in
+        let none = is_number t xs named_left c he in
+        absurd cc
+    same_value (Number k) (Number c) he hf w j m = same_number t k c (length xs) (length ys) he hf (same_word (decimal k) (decimal c) w)
+    same_value (Apply' o p l q r) (Apply' o' p' l' q' r') he hf w j m =
+        let el = expr_written xs l in
+        let er = expr_written xs r in
+        let fl = expr_written ys l' in
+        let fr = expr_written ys r' in
+        let op = same_op o o' el er fl fr w in
+        let left = same_value l l' he.0 hf.0 (same_left o o' el er fl fr w) j m in
+        let right = same_value r r' he.1 hf.1 (same_right o o' el er fl fr w) j m in
+        λ d. op_value t (op d) (left d) (right d)
+    same_value (Name i) (Apply' o p l q r) he hf w j m = absurd cc
+    same_value (Number k) (Apply' o p l q r) he hf w j m = absurd cc
+    same_value (Apply' o p l q r) (Name i) he hf w j m = absurd cc
+    same_value (Apply' o p l q r) (Number k) he hf w j m = absurd cc
 
-  -- a line does what another does that is written alike
-  same_line : (l k : Line) → IsSet t (length xs) l → IsSet t (length ys) k → set_written xs l ≡ set_written ys k
-      → (m : Bytes) → after_line t (address xs) n l m ≡ after_line t (address ys) n k m
-  same_line l k hl hk w m =
-      let name = ap (λ (s : WrittenSet). s.name) w in
-      let expr = ap (λ (s : WrittenSet). s.expr) w in
-      let place = same_place l.array k.array hl.target hk.target name in
-      let values = same_value l.expr k.expr hl.over hk.over expr in
-      λ d. replaced t (place d) n (λ j. values j m d) m
+    -- a line does what another does that is written alike
+    same_line : (l k : Line) → IsSet t (length xs) l → IsSet t (length ys) k → set_written xs l ≡ set_written ys k
+        → (m : Bytes) → after_line t (address xs) n l m ≡ after_line t (address ys) n k m
+    same_line l k hl hk w m =
+        let name = ap (λ (s : WrittenSet). s.name) w in
+        let expr = ap (λ (s : WrittenSet). s.expr) w in
+        let place = same_place l.array k.array hl.target hk.target name in
+        let values = same_value l.expr k.expr hl.over hk.over expr in
+        λ d. replaced t (place d) n (λ j. values j m d) m
 
-  -- lines that are written alike do the same
-  same_lines : (ls ks : List Line) → All (IsSet t (length xs)) ls → All (IsSet t (length ys)) ks → map (set_written xs) ls ≡ map (set_written ys) ks
-      → (m : Bytes) → after_lines t (address xs) n ls m ≡ after_lines t (address ys) n ks m
-  same_lines [] [] hl hk w m = refl
-  same_lines [] (k ∷ ks) hl hk w m = absurd cc
-  same_lines (l ∷ ls) [] hl hk w m = absurd cc
-  same_lines (l ∷ ls) (k ∷ ks) hl hk w m =
-      let a = set_written xs l in
-      let b = set_written ys k in
-      let ps = map (set_written xs) ls in
-      let qs = map (set_written ys) ks in
-      let first = same_line l k (All-head (IsSet t (length xs)) l ls hl) (All-head (IsSet t (length ys)) k ks hk) (same_head a b ps qs w) m in
-      let m' = after_line t (address ys) n k m in
-      ap (after_lines t (address xs) n ls) first
-      ∙ same_lines ls ks (All-tail (IsSet t (length xs)) l ls hl) (All-tail (IsSet t (length ys)) k ks hk) (same_tail a b ps qs w) m'
+    -- lines that are written alike do the same
+    same_lines : (ls ks : List Line) → All (IsSet t (length xs)) ls → All (IsSet t (length ys)) ks → map (set_written xs) ls ≡ map (set_written ys) ks
+        → (m : Bytes) → after_lines t (address xs) n ls m ≡ after_lines t (address ys) n ks m
+    same_lines [] [] hl hk w m = refl
+    same_lines [] (k ∷ ks) hl hk w m = absurd cc
+    same_lines (l ∷ ls) [] hl hk w m = absurd cc
+    same_lines (l ∷ ls) (k ∷ ks) hl hk w m =
+        let a = set_written xs l in
+        let b = set_written ys k in
+        let ps = map (set_written xs) ls in
+        let qs = map (set_written ys) ks in
+        let first = same_line l k (All-head (IsSet t (length xs)) l ls hl) (All-head (IsSet t (length ys)) k ks hk) (same_head a b ps qs w) m in
+        let m' = after_line t (address ys) n k m in
+        ap (after_lines t (address xs) n ls) first
+        ∙ same_lines ls ks (All-tail (IsSet t (length xs)) l ls hl) (All-tail (IsSet t (length ys)) k ks hk) (same_tail a b ps qs w) m'
 
 -- texts that are written alike mean the same
 same_meaning : (bytes : List ℕ) (x y : Text) → IsText x → IsText y → IsKernel bytes (written x) → written x ≡ written y → meaning x ≡ meaning y

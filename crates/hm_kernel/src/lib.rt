@@ -58,7 +58,8 @@ pub fn steps(alloc: Global, text: &[u8]) -> Result<u64, KernelErr>
 /// image.
 pub fn compiled_law()
     ensures steps { (bytes : List ℕ) (image : List Segment) (n : ℕ) (compiled : Compiles bytes image) → Takes bytes n → n ≡ steps compiled.text }
-    ensures meaning { (bytes : List ℕ) (image other : List Segment) (one : Compiles bytes image) (two : Compiles bytes other) → meaning one.text ≡ meaning two.text }
+    ensures meaning { (bytes : List ℕ) (image other : List Segment) (one : Compiles bytes image) (two : Compiles bytes other)
+        → meaning one.text ≡ meaning two.text }
     ensures file { (x : Text) (image : List Segment) (listing : Listing) (s : Sched) (reason : Reason) (n : ℕ)
         → IsCompiled x image → IsListing (flash_byte image) listing
         → (shown_out listing image s).outcome ≡ Some (Halted reason n) → IsFileOf x (memory_text (shown_out listing image s)) reason n }

@@ -43,7 +43,8 @@ array_placed t n x h some =
 pub all_placed : (t : ElementType) (n : ℕ) (xs : List Array) → All (IsArray t n) xs → AllPlaced t xs
 all_placed t n xs h k d l = array_placed t n (slice_index_or xs k d) (h k d l)
 
-two_apart : (t : ElementType) (n : ℕ) (x y : Array) → IsArray t n x → IsArray t n y → ShareNone t n x y → Before (array_segment t x) (array_segment t y) ⊎ Before (array_segment t y) (array_segment t x)
+two_apart : (t : ElementType) (n : ℕ) (x y : Array) → IsArray t n x → IsArray t n y → ShareNone t n x y
+    → Before (array_segment t x) (array_segment t y) ⊎ Before (array_segment t y) (array_segment t x)
 two_apart t n x y h k (inl below) = let e = long t x in let w = within t n x h in inl (omega arith)
 two_apart t n x y h k (inr above) = let e = long t y in let w = within t n y k in inr (omega arith)
 
@@ -66,12 +67,15 @@ all_array P t x ss p h = go (nat_eq (length x.values.items) 0)
     go true = h
     go false = all_with P (array_segment t x) ss p h
 
-all_arrays : (P : Segment → Type 0) (t : ElementType) (xs : List Array) (ss : List Segment) → All (λ x. P (array_segment t x)) xs → All P ss → All P (with_arrays t xs ss)
+all_arrays : (P : Segment → Type 0) (t : ElementType) (xs : List Array) (ss : List Segment) → All (λ x. P (array_segment t x)) xs → All P ss
+    → All P (with_arrays t xs ss)
 all_arrays P t [] ss p h = h
 all_arrays P t (x ∷ xs) ss p h =
-    all_array P t x (with_arrays t xs ss) (All-head (λ (y : Array). P (array_segment t y)) x xs p) (all_arrays P t xs ss (All-tail (λ (y : Array). P (array_segment t y)) x xs p) h)
+    all_array P t x (with_arrays t xs ss) (All-head (λ (y : Array). P (array_segment t y)) x xs p)
+    (all_arrays P t xs ss (All-tail (λ (y : Array). P (array_segment t y)) x xs p) h)
 
-pub all_apart : (t : ElementType) (n : ℕ) (xs : List Array) (ss : List Segment) → All (IsArray t n) xs → AllPairs (ShareNone t n) xs → All InFlash ss → AllApart t xs ss
+pub all_apart : (t : ElementType) (n : ℕ) (xs : List Array) (ss : List Segment) → All (IsArray t n) xs → AllPairs (ShareNone t n) xs → All InFlash ss
+    → AllApart t xs ss
 all_apart t n [] ss arrays pairs flash = tt
 all_apart t n (x ∷ xs) ss arrays pairs flash =
     let here = All-head (IsArray t n) x xs arrays in
@@ -91,7 +95,8 @@ pub others_apart : (t : ElementType) (xs : List Array) (x : Array) (ys : List Ar
 others_apart t xs x ys ss e h = (subst (λ (zs : List Array). AllApart t zs ss) e h).1
 
 -- AN IMAGE stays one when the values of arrays are put in
-one_with : (t : ElementType) (x : Array) (ss : List Segment) → (0 < length x.values.items → image.IsPlaced (array_segment t x)) → IsApart (array_segment t x) ss → IsImage ss → IsImage (with_array t x ss)
+one_with : (t : ElementType) (x : Array) (ss : List Segment) → (0 < length x.values.items → image.IsPlaced (array_segment t x)) → IsApart (array_segment t x) ss
+    → IsImage ss → IsImage (with_array t x ss)
 one_with t x ss placed apart i = go (nat_eq (length x.values.items) 0) refl
   where
     go : (b : Bool) → nat_eq (length x.values.items) 0 ≡ b → IsImage (if b then ss else with_segment (array_segment t x) ss)

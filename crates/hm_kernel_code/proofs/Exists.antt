@@ -43,16 +43,19 @@ use Rattle.hm_kernel_lang.specs.declared.text.Array.{Array}
 use Rattle.hm_kernel_lang.specs.declared.text.Line.{Line}
 use Rattle.hm_kernel_lang.specs.declared.text.Text.{Text}
 use Rattle.hm_kernel_lang.specs.Language.{address, is_signed, modulus, need}
-use Rattle.hm_kernel_lang.specs.Machine.{Again, Begin, Clear, Do, Further, High, HighLength, Item, Kind, Load, Low, LowLength, Offset, Plain, Splat, Stop, Store, size_code}
+use Rattle.hm_kernel_lang.specs.Machine.{Again, Begin, Clear, Do, Further, High, HighLength, Item, Kind, Load, Low, LowLength, Offset, Plain, Splat, Stop}
+use Rattle.hm_kernel_lang.specs.Machine.{Store, size_code}
 use Rattle.hm_kernel_lang.specs.Texts.{IsArray, IsOver, IsSet, IsText}
 use Rattle.hm_kernel_lang.proofs.Straight.{halves_append}
 use Rattle.hm_base.specs.Image.{Segment, flat}
 use Rattle.hm_kernel_code.specs.Images.{IsMade, flash_bytes}
 use Rattle.hm_kernel_code.specs.Segments.{with_arrays}
-use Rattle.hm_kernel_code.specs.Instructions.{AreItems, IsBestRow, IsBitwiseRow, IsByteRow, IsHalfRow, IsItem, IsKind, IsAddRow, IsMoveRow, IsOperation, element_name}
+use Rattle.hm_kernel_code.specs.Instructions.{AreItems, IsBestRow, IsBitwiseRow, IsByteRow, IsHalfRow, IsItem, IsKind, IsAddRow, IsMoveRow, IsOperation}
+use Rattle.hm_kernel_code.specs.Instructions.{element_name}
 use Rattle.hm_kernel_code.proofs.Appending.{expr_halves}
 use Rattle.hm_kernel_code.proofs.Room.{one_fewer}
-use Rattle.hm_kernel_code.proofs.Made.{add_made, again_made, begin_made, best_made, bitwise_made, byte_made, half_made, move_made, splat_made, stop_made, sum_made}
+use Rattle.hm_kernel_code.proofs.Made.{add_made, again_made, begin_made, best_made, bitwise_made, byte_made, half_made, move_made, splat_made, stop_made}
+use Rattle.hm_kernel_code.proofs.Made.{sum_made}
 
 -- ---- ranges
 
@@ -112,7 +115,15 @@ some_byte name d x l m =
 
 some_half : (name : HalfName) (d x : ℕ) → d < 16 → IsTrue (is_general d) → x < 2 ^ 16 → (i : Instr) × IsHalfRow name d x i
 some_half name d x l general m =
-    let row : T4 = record { name = name; d = field d l; i4 = field (x / 4096) (omega arith); i = field (x / 2048 % 2) (omega arith); i3 = field (x / 256 % 8) (omega arith); i8 = field (x % 256) (omega arith); rules = general } in
+    let row : T4 = record {
+      name = name;
+      d = field d l;
+      i4 = field (x / 4096) (omega arith);
+      i = field (x / 2048 % 2) (omega arith);
+      i3 = field (x / 256 % 8) (omega arith);
+      i8 = field (x % 256) (omega arith);
+      rules = general;
+    } in
     (instr.Scalar (scalar.T4 row), half_made row name d x refl refl refl refl refl refl)
 
 some_sum : (i : Instr) × IsKind U8 Offset i
@@ -128,7 +139,17 @@ some_splat t q l =
 some_move : (t : ElementType) (load q : ℕ) → load < 2 → q < 8 → (i : Instr) × IsMoveRow t load q 5 i
 some_move t load q m l =
     let row : V24
-    = record { p = field 1 (omega arith); a = field 1 (omega arith); w = field 0 (omega arith); l = field load m; n = field 5 (omega arith); d = field q l; z = field (size_code t) (size_fits t); i = field 0 (omega arith); rule = refl } in
+    = record {
+      p = field 1 (omega arith);
+      a = field 1 (omega arith);
+      w = field 0 (omega arith);
+      l = field load m;
+      n = field 5 (omega arith);
+      d = field q l;
+      z = field (size_code t) (size_fits t);
+      i = field 0 (omega arith);
+      rule = refl;
+    } in
     (instr.Vector (vector.V24 row), move_made row t load q 5 refl refl refl refl refl refl refl refl)
 
 some_add : (t : ElementType) (name : AddName) (q : ℕ) → q + 1 < 8 → (i : Instr) × IsAddRow t name q q (q + 1) i
@@ -143,7 +164,14 @@ some_bitwise name q l =
 
 some_best : (t : ElementType) (name : SignedName) (q : ℕ) → q + 1 < 8 → (i : Instr) × IsBestRow t name q q (q + 1) i
 some_best t name q l =
-    let row : V3 = record { name = name; u = field (cond (is_signed t) 0 1) (sign_fits t); z = field (size_code t) (size_fits t); n = field q (omega arith); d = field q (omega arith); m = field (q + 1) l } in
+    let row : V3 = record {
+      name = name;
+      u = field (cond (is_signed t) 0 1) (sign_fits t);
+      z = field (size_code t) (size_fits t);
+      n = field q (omega arith);
+      d = field q (omega arith);
+      m = field (q + 1) l;
+    } in
     (instr.Vector (vector.V3 row), best_made row t name q q (q + 1) refl refl refl refl refl refl)
 
 some_operation : (t : ElementType) (o : Op) (q : ℕ) → q + 1 < 8 → (i : Instr) × IsOperation t o q i
@@ -172,7 +200,13 @@ some_kind t Further h = some_byte byte.Add 4 16 (omega arith) (omega arith)
 some_begin : (t : ElementType) (h : ℕ) → h < 2048 → (i : Instr) × IsItem t (Begin h) i
 some_begin t h l =
     let fits = size_fits t in
-    let row : Wlstp = record { z = field (size_code t) (omega (arith, fits)); n = field 6 (omega arith); v = field h l; not_sp = (λ e. omega arith); not_pc = (λ e. omega arith) } in
+    let row : Wlstp = record {
+      z = field (size_code t) (omega (arith, fits));
+      n = field 6 (omega arith);
+      v = field h l;
+      not_sp = (λ e. omega arith);
+      not_pc = (λ e. omega arith);
+    } in
     (instr.Branch (branch.T23 (t23.Wlstp row)), begin_made row t h refl refl refl)
 
 some_again : (t : ElementType) (h : ℕ) → h < 2048 → (i : Instr) × IsItem t (Again h) i
@@ -257,14 +291,16 @@ module _ (t : ElementType) (at : ℕ → ℕ) (low : (i : ℕ) → at i < 2 ^ 32
   line_fits n l count set =
       let h = halves_of (body_code at l) + 2 in
       let close = near l set in
-      items_both (map Plain (head_code n)) (Begin h ∷ (map Plain (body_code at l) ++ Again h ∷ [])) (items_of (head_code n) (tt, (omega arith, (omega arith, tt))))
+      items_both (map Plain (head_code n)) (Begin h ∷ (map Plain (body_code at l) ++ Again h ∷ []))
+      (items_of (head_code n) (tt, (omega arith, (omega arith, tt))))
       (close, items_both (map Plain (body_code at l)) (Again h ∷ []) (items_of (body_code at l) (body_fits l set)) (close, tt))
 
   -- so have the items of a text's code, where its arrays lie below 2^32
   pub lines_fit : (n : ℕ) (ls : List Line) → n < 2 ^ 32 → All (IsSet t k) ls → ItemsFit (lines_code at n ls)
   lines_fit n [] count sets = (tt, tt)
   lines_fit n (l ∷ ls) count sets =
-      items_both (line_code at n l) (lines_code at n ls) (line_fits n l count (All-head (IsSet t k) l ls sets)) (lines_fit n ls count (All-tail (IsSet t k) l ls sets))
+      items_both (line_code at n l) (lines_code at n ls) (line_fits n l count (All-head (IsSet t k) l ls sets))
+      (lines_fit n ls count (All-tail (IsSet t k) l ls sets))
 
 -- ---- images
 
@@ -279,5 +315,6 @@ some_made x text =
     let t = x.element in
     let xs = x.arrays.items in
     let count = text.count in
-    let is = some_items t (code x) (lines_fit t (address xs) (address_low t x.count xs text.arrays) (length xs) x.count x.lines.items (omega arith) text.lines) in
+    let is = some_items t (code x)
+    (lines_fit t (address xs) (address_low t x.count xs text.arrays) (length xs) x.count x.lines.items (omega arith) text.lines) in
     (with_arrays t xs (flat (flash_bytes is.0)), record { instrs = is.0; kinds = is.1; is = refl })

@@ -8,7 +8,8 @@ use Rattle.hm_kernel_lang.specs.declared.text.ElementType.{ElementType}
 use Rattle.hm_kernel_lang.specs.declared.text.Op.{Op}
 use Rattle.hm_kernel_lang.specs.declared.text.Op.TheVariants as op
 use Rattle.hm_kernel_lang.specs.declared.text.Line.{Line}
-use Rattle.hm_kernel_lang.specs.Machine.{Again, Begin, Clear, Do, Further, High, HighLength, Item, Kind, Load, Low, LowLength, Offset, Plain, Splat, Stop, Store, halves, item_halves}
+use Rattle.hm_kernel_lang.specs.Machine.{Again, Begin, Clear, Do, Further, High, HighLength, Item, Kind, Load, Low, LowLength, Offset, Plain, Splat, Stop}
+use Rattle.hm_kernel_lang.specs.Machine.{Store, halves, item_halves}
 use Rattle.hm_kernel_lang.specs.Code.{body_code, halves_of, head_code, line_code, lines_code}
 use Rattle.hm_kernel_lang.specs.Correct.{CodeStands}
 use Rattle.hm_kernel_lang.proofs.Lines.{items_append}
@@ -113,10 +114,12 @@ pub lines_stay : (at : ℕ → ℕ) (n : ℕ) (ls : List Line) (a : ℕ) → a +
 lines_stay at n [] a fits = (tt, tt)
 lines_stay at n (l ∷ ls) a fits =
     let all = items_append (line_code at n l) (lines_code at n ls) in
-    stay_append a (line_code at n l) (lines_code at n ls) (line_stays at n a l (omega arith)) (lines_stay at n ls (a + 2 * items_halves (line_code at n l)) (omega arith))
+    stay_append a (line_code at n l) (lines_code at n ls) (line_stays at n a l (omega arith))
+    (lines_stay at n ls (a + 2 * items_halves (line_code at n l)) (omega arith))
 
 -- ITEMS STAND
-pub items_stand : (t : ElementType) (flash : ℕ → ℕ) (a : ℕ) (xs : List Item) (is : List Instr) → a % 2 ≡ 0 → AreItems t xs is → HalvesStand flash (all_halves is) a → AllStay a xs → CodeStands (StandsIn t flash) a xs
+pub items_stand : (t : ElementType) (flash : ℕ → ℕ) (a : ℕ) (xs : List Item) (is : List Instr) → a % 2 ≡ 0 → AreItems t xs is
+    → HalvesStand flash (all_halves is) a → AllStay a xs → CodeStands (StandsIn t flash) a xs
 items_stand t flash a [] is even k h s = tt
 items_stand t flash a (x ∷ xs) [] even k h s = absurd k
 items_stand t flash a (x ∷ xs) (i ∷ is) even k h s =
@@ -126,7 +129,8 @@ items_stand t flash a (x ∷ xs) (i ∷ is) even k h s =
     let fits = room flash (halfwords i) a here (omega arith) in
     let next : a + 2 * length (halfwords i) ≡ a + 2 * item_halves x = omega arith in (
       record { instr = i; here = record { even = even; code = here }; is = k.0; fits = omega arith; reach = s.0 },
-      items_stand t flash (a + 2 * item_halves x) xs is (omega arith) k.1 (subst (HalvesStand flash (all_halves is)) next (behind flash (halfwords i) (all_halves is) a h)) s.1,
+      items_stand t flash (a + 2 * item_halves x) xs is (omega arith) k.1
+          (subst (HalvesStand flash (all_halves is)) next (behind flash (halfwords i) (all_halves is) a h)) s.1,
     )
 
 pub total : (t : ElementType) (xs : List Item) (is : List Instr) → AreItems t xs is → length (all_halves is) ≡ items_halves xs

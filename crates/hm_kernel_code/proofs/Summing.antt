@@ -10,8 +10,10 @@ steps_append : (t : ElementType) (n : ℕ) (ls : List Line) (l : Line) → lines
 steps_append t n [] l = omega arith
 steps_append t n (x ∷ ls) l = omega (arith, steps_append t n ls l)
 
-pub steps_next : (t : ElementType) (n : ℕ) (ls : List Line) (k : ℕ) (l : Line) (a b : ℕ) → k < length ls → l ≡ slice_index_or ls k l → a ≡ lines_steps t n (take k ls) + 1 → b ≡ line_steps t n l.expr
+pub steps_next : (t : ElementType) (n : ℕ) (ls : List Line) (k : ℕ) (l : Line) (a b : ℕ) → k < length ls → l ≡ slice_index_or ls k l
+    → a ≡ lines_steps t n (take k ls) + 1 → b ≡ line_steps t n l.expr
     → a + b ≡ lines_steps t n (take (k + 1) ls) + 1
 steps_next t n ls k l a b h is e f =
-    let more = ap (lines_steps t n) (take_more ls k l h) ∙ steps_append t n (take k ls) (slice_index_or ls k l) ∙ ap (λ (x : Line). lines_steps t n (take k ls) + line_steps t n x.expr) (sym is) in
+    let more = ap (lines_steps t n) (take_more ls k l h) ∙ steps_append t n (take k ls) (slice_index_or ls k l)
+    ∙ ap (λ (x : Line). lines_steps t n (take k ls) + line_steps t n x.expr) (sym is) in
     omega arith

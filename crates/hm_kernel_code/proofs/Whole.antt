@@ -33,12 +33,14 @@ one_kept t n x xs ss a h l apart = go (nat_eq (length x.values.items) 0)
     rest : List Segment
     rest = with_arrays t xs ss
 
-    go : (b : Bool) → given (if b then with_arrays t xs ss else with_segment (array_segment t x) (with_arrays t xs ss)) 255 a ≡ given (with_arrays t xs ss) 255 a
+    go : (b : Bool) → given (if b then with_arrays t xs ss else with_segment (array_segment t x) (with_arrays t xs ss)) 255 a
+        ≡ given (with_arrays t xs ss) 255 a
     go true = refl
     go false = given_with (array_segment t x) (with_arrays t xs ss) 255 a apart.0
         ∙ ap (λ (b : Bool). if b then slice_index (array_segment t x).bytes (a - x.addr) else given (with_arrays t xs ss) 255 a) (not_covered t n x a h l)
 
-arrays_kept : (t : ElementType) (n : ℕ) (xs : List Array) (ss : List Segment) (a : ℕ) → All (IsArray t n) xs → a < flash_size → AllApart t xs ss → given (with_arrays t xs ss) 255 a ≡ given ss 255 a
+arrays_kept : (t : ElementType) (n : ℕ) (xs : List Array) (ss : List Segment) (a : ℕ) → All (IsArray t n) xs → a < flash_size → AllApart t xs ss
+    → given (with_arrays t xs ss) 255 a ≡ given ss 255 a
 arrays_kept t n [] ss a arrays l apart = refl
 arrays_kept t n (x ∷ xs) ss a arrays l apart =
     one_kept t n x xs ss a (All-head (IsArray t n) x xs arrays) l apart ∙ arrays_kept t n xs ss a (All-tail (IsArray t n) x xs arrays) l apart.1
@@ -47,9 +49,11 @@ where_flash : (b : Bool) (x y z : ℕ) → (b ≡ true → x ≡ y) → (if b th
 where_flash true x y z h = h refl
 where_flash false x y z h = refl
 
-flash_kept : (t : ElementType) (n : ℕ) (xs : List Array) (ss : List Segment) → All (IsArray t n) xs → AllApart t xs ss → (a : ℕ) → flash_byte (with_arrays t xs ss) a ≡ flash_byte ss a
+flash_kept : (t : ElementType) (n : ℕ) (xs : List Array) (ss : List Segment) → All (IsArray t n) xs → AllApart t xs ss → (a : ℕ)
+    → flash_byte (with_arrays t xs ss) a ≡ flash_byte ss a
 flash_kept t n xs ss arrays apart a =
-    where_flash (nat_lt a flash_size) (given (with_arrays t xs ss) 255 a) (given ss 255 a) 255 (λ e. arrays_kept t n xs ss a arrays (grind (arith, nat_tests)) apart)
+    where_flash (nat_lt a flash_size) (given (with_arrays t xs ss) 255 a) (given ss 255 a) 255
+    (λ e. arrays_kept t n xs ss a arrays (grind (arith, nat_tests)) apart)
 
 -- THE FIRST TWO WORDS
 module _ (is : List Instr) (fits : length (flash_bytes is) ≤ flash_size) where
@@ -95,11 +99,13 @@ arrays_longer t (x ∷ xs) ss = let one = array_longer t x (with_arrays t xs ss)
 pub in_flash : (bs : List ℕ) → length bs ≤ flash_size → All InFlash (flat bs)
 in_flash bs h = All-cons InFlash (segment 0 bs) [] (omega arith) (All-nil InFlash)
 
-pub fits_flash : (x : Text) (is : List Instr) → IsText x → AreItems x.element (code x) is → (0 < length (flash_bytes is)) × (length (flash_bytes is) ≤ flash_size)
+pub fits_flash : (x : Text) (is : List Instr) → IsText x → AreItems x.element (code x) is
+    → (0 < length (flash_bytes is)) × (length (flash_bytes is) ≤ flash_size)
 fits_flash x is text kinds = let n = flash_length is in let room = room_of x is text kinds in (omega arith, omega arith)
 
 pub text_apart : (x : Text) (is : List Instr) → IsText x → AreItems x.element (code x) is → AllApart x.element x.arrays.items (flat (flash_bytes is))
-text_apart x is text kinds = all_apart x.element x.count x.arrays.items (flat (flash_bytes is)) text.arrays text.apart (in_flash (flash_bytes is) (fits_flash x is text kinds).1)
+text_apart x is text kinds = all_apart x.element x.count x.arrays.items (flat (flash_bytes is)) text.arrays text.apart
+    (in_flash (flash_bytes is) (fits_flash x is text kinds).1)
 
 module _ (x : Text) (image : List Segment) (text : IsText x) (made : IsMade x image) where
   abbrev t : ElementType
@@ -133,13 +139,16 @@ module _ (x : Text) (image : List Segment) (text : IsText x) (made : IsMade x im
       let many = total t (code x) made.instrs made.kinds in
       record {
         pc = pc_is;
-        code = items_stand t (flash_byte image) 8 (code x) made.instrs refl made.kinds stand (lines_stay (address x.arrays.items) x.count x.lines.items 8 (omega arith));
-        sram = λ a h k. first_is image a h k ∙ ap (λ (ss : List Segment). given ss 0 a) made.is ∙ arrays_given t x.arrays.items (flat bytes) a apart (flat_none bytes a room h);
+        code = items_stand t (flash_byte image) 8 (code x) made.instrs refl made.kinds stand
+            (lines_stay (address x.arrays.items) x.count x.lines.items 8 (omega arith));
+        sram = λ a h k. first_is image a h k ∙ ap (λ (ss : List Segment). given ss 0 a) made.is
+            ∙ arrays_given t x.arrays.items (flat bytes) a apart (flat_none bytes a room h);
       }
 
   pub is_sound : IsImage image
   is_sound = subst IsImage (sym made.is)
-      (all_with_image t x.arrays.items (flat bytes) (all_placed t x.count x.arrays.items text.arrays) apart (flat_is_image bytes (fits_flash x made.instrs text made.kinds).0 room))
+      (all_with_image t x.arrays.items (flat bytes) (all_placed t x.count x.arrays.items text.arrays) apart
+      (flat_is_image bytes (fits_flash x made.instrs text made.kinds).0 room))
 
   pub few_segments : length image ≤ 17
   few_segments = let e = ap length made.is in let n = arrays_longer t x.arrays.items (flat bytes) in let few = text.few_arrays in omega arith

@@ -35,7 +35,8 @@ use Rattle.hm_kernel_lang.specs.declared.text.ElementType.TheVariants.{U8, S8, U
 use Rattle.hm_kernel_lang.specs.declared.text.Op.{Op}
 use Rattle.hm_kernel_lang.specs.declared.text.Op.TheVariants as op
 use Rattle.hm_kernel_lang.specs.Language.{is_signed}
-use Rattle.hm_kernel_lang.specs.Machine.{Kind, Clear, Low, High, LowLength, HighLength, Offset, Splat, Load, Store, Do, Further, Item, Plain, Begin, Again, Stop, size_code}
+use Rattle.hm_kernel_lang.specs.Machine.{Kind, Clear, Low, High, LowLength, HighLength, Offset, Splat, Load, Store, Do, Further, Item, Plain, Begin, Again}
+use Rattle.hm_kernel_lang.specs.Machine.{Stop, size_code}
 
 -- movs rd,#i and adds rd,#i
 pub record IsByteRow (name : ByteName) (d x : ℕ) (i : Instr) : Type 0 where

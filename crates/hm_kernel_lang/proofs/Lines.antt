@@ -1,12 +1,14 @@
 -- The loop of a line, by induction over its turns; and all lines.
-use Rattle.std.proofs.Common.{◌≡◌, ℕ, zero, suc, ◌+◌, ◌-◌, ◌*◌, ◌/◌, ◌%◌, ◌^◌, ◌<◌, ◌≤◌, Bool, true, false, cond, nat_eq, nat_le, min, List, [], ◌∷◌, ◌++◌, length, map, refl, sym, ap, ◌∙◌, subst, ⊎_elim, arith, length-append, Result}
+use Rattle.std.proofs.Common.{◌≡◌, ℕ, zero, suc, ◌+◌, ◌-◌, ◌*◌, ◌/◌, ◌%◌, ◌^◌, ◌<◌, ◌≤◌, Bool, true, false, cond, nat_eq, nat_le, min, List, [], ◌∷◌, ◌++◌}
+use Rattle.std.proofs.Common.{length, map, refl, sym, ap, ◌∙◌, subst, ⊎_elim, arith, length-append, Result}
 use Rattle.std.proofs.lemmas.Bool.{cases_lt}
 use Rattle.std.proofs.lemmas.Bool.Decides.{nat_tests}
 use Rattle.std.proofs.Math.Nat.{suc-mul}
 use Rattle.hm_kernel_lang.specs.declared.text.ElementType.{ElementType}
 use Rattle.hm_kernel_lang.specs.declared.text.ElementType.TheVariants.{U8, S8, U16, S16, U32, S32}
 use Rattle.hm_kernel_lang.specs.declared.text.Line.{Line}
-use Rattle.hm_kernel_lang.specs.Language.{Bytes, after_line, after_lines, bytes, lanes, line_steps, lines_steps, names, need, numbers, operations, replaced, turns, value}
+use Rattle.hm_kernel_lang.specs.Language.{Bytes, after_line, after_lines, bytes, lanes, line_steps, lines_steps, names, need, numbers, operations, replaced}
+use Rattle.hm_kernel_lang.specs.Language.{turns, value}
 use Rattle.hm_kernel_lang.specs.Machine.{View, Item, Plain, Begin, Again, Low, High, Offset, again, begun, exec, size_code}
 use Rattle.hm_kernel_lang.specs.Code.{body_code, end_code, expr_code, halves_of, head_code, line_code, lines_code}
 use Rattle.hm_kernel_lang.specs.Correct.{AreLines, CodeStands, Ends, IsLine, Reaches, Rows}
@@ -44,7 +46,8 @@ eq_false : (a : ℕ) → 0 < a → nat_eq a 0 ≡ false
 eq_false a h = grind (arith, nat_tests)
 
 some_turn : (t : ElementType) (r : ℕ) → 0 < r → 0 ≡ turns t r → ⊥
-some_turn t r h e = ⊎_elim (λ lt. let g = one_turn t r lt in absurd (omega arith)) (λ le. let g = last_turn t r h le in absurd (omega arith)) (cases_lt (lanes t) r)
+some_turn t r h e = ⊎_elim (λ lt. let g = one_turn t r lt in absurd (omega arith)) (λ le. let g = last_turn t r h le in absurd (omega arith))
+    (cases_lt (lanes t) r)
 
 -- ONE TURN
 module _ (t : ElementType) (at : ℕ → ℕ) (n : ℕ) (l : Line) (fine : IsLine t at n l) (m : Bytes) where
@@ -68,7 +71,8 @@ module _ (t : ElementType) (at : ℕ → ℕ) (n : ℕ) (l : Line) (fine : IsLin
     pub left : w.left ≡ v.left
     pub byte : w.byte ≡ replaced t (at l.array) (j + min v.left (lanes t)) f m
 
-  stored : (j : ℕ) (v x : View) → AtTurn j v → x.left ≡ v.left → x.byte ≡ v.byte → ((k : ℕ) → k < v.left → x.lane 0 k ≡ value t at l.expr (j + k) v.byte) → (y : ℕ) → y ≡ at l.array + bytes t * j
+  stored : (j : ℕ) (v x : View) → AtTurn j v → x.left ≡ v.left → x.byte ≡ v.byte → ((k : ℕ) → k < v.left → x.lane 0 k ≡ value t at l.expr (j + k) v.byte)
+      → (y : ℕ) → y ≡ at l.array + bytes t * j
       → replaced t y (min x.left (lanes t)) (x.lane 0) x.byte ≡ replaced t (at l.array) (j + min v.left (lanes t)) f m
   stored j v x turn left byte is y there =
       let a = at l.array in
@@ -78,7 +82,9 @@ module _ (t : ElementType) (at : ℕ → ℕ) (n : ℕ) (l : Line) (fine : IsLin
       ap (λ (z : ℕ). replaced t z (min x.left (lanes t)) (x.lane 0) x.byte) there
       ∙ ap (λ (z : ℕ). replaced t b (min z (lanes t)) (x.lane 0) x.byte) left
       ∙ ap (replaced t b c (x.lane 0)) (byte ∙ turn.byte)
-      ∙ replaced_same t b c (x.lane 0) (λ e. f (j + e)) (replaced t a j f m) (λ e h. is e (omega arith) ∙ ap (value t at l.expr (j + e)) turn.byte ∙ value_outside t at n a j (j + e) f m l.expr fine.names (omega arith) (omega arith))
+      ∙ replaced_same t b c (x.lane 0) (λ e. f (j + e)) (replaced t a j f m)
+      (λ e h. is e (omega arith) ∙ ap (value t at l.expr (j + e)) turn.byte
+      ∙ value_outside t at n a j (j + e) f m l.expr fine.names (omega arith) (omega arith))
       ∙ replaced_on t a j c f m
 
   ready_at : (j : ℕ) (v : View) → AtTurn j v → IsReady t n j v
@@ -103,7 +109,14 @@ module _ (t : ElementType) (at : ℕ → ℕ) (n : ℕ) (l : Line) (fine : IsLin
       let there : y.scratch ≡ a + bytes t * j = addressed t n j a x ready_x fine.target in
       let is : execs t (body_code at l) v ≡ execs t (end_code a) x = execs_append t (expr_code at l.expr 0) (end_code a) v in
       record {
-        cans = cans_append t (expr_code at l.expr 0) (end_code a) v e.cans ((low_half a, (placed_high t n a fine.target, (tt, ((omega arith, ready_x.size, is_within t n j a x y ready_x fine.target there refl), (tt, tt))))));
+        cans = cans_append t (expr_code at l.expr 0) (end_code a) v e.cans
+            ((
+              low_half a,
+              (
+                placed_high t n a fine.target,
+                (tt, ((omega arith, ready_x.size, is_within t n j a x y ready_x fine.target there refl), (tt, tt))),
+              ),
+            ));
         size = ap (λ (w : View). w.size) is ∙ ready_x.size;
         offset = ap (λ (w : View). w.offset) is ∙ further j x.offset x ready_x ready_x.offset;
         left = ap (λ (w : View). w.left) is ∙ e.leaves.left;
@@ -132,7 +145,8 @@ module _ (t : ElementType) (at : ℕ → ℕ) (n : ℕ) (l : Line) (fine : IsLin
           let b = body_code at l in
           let w = execs t b v in
           let d = turned j v turn in
-          let r = straight next Shows t Stands rows b v s shows (subst (λ (x : ℕ). CodeStands Stands x (map Plain b)) (sym pc) (stands_front Stands p (map Plain b) (Again h ∷ []) stands)) d.cans in
+          let r = straight next Shows t Stands rows b v s shows
+          (subst (λ (x : ℕ). CodeStands Stands x (map Plain b)) (sym pc) (stands_front Stands p (map Plain b) (Again h ∷ []) stands)) d.cans in
           let here : p + 2 * items_halves (map Plain b) ≡ w.pc = omega (arith, plain_halves b, pc_execs t b v) in
           let there = subst (λ (x : ℕ). Stands x (Again h)) here (stands_back Stands p (map Plain b) (Again h ∷ []) stands).0 in
           joined next Shows (length b) 1 s w (again t h w) r (rows.again h w r.to r.shows there d.size)
@@ -142,7 +156,9 @@ module _ (t : ElementType) (at : ℕ → ℕ) (n : ℕ) (l : Line) (fine : IsLin
           let b = body_code at l in
           let w = execs t b v in
           let d = turned j v turn in
-          let leaves : again t h w ≡ record w { pc = w.pc + 4; size = 4 } = ap (λ (u : Bool). cond u (record w { pc = w.pc + 4; size = 4 }) (record w { pc = w.pc + 4 - 2 * h; left = w.left - lanes t })) (le_true w.left (lanes t) (let same = d.left in omega arith)) in
+          let leaves : again t h w ≡ record w { pc = w.pc + 4; size = 4 } =
+          ap (λ (u : Bool). cond u (record w { pc = w.pc + 4; size = 4 }) (record w { pc = w.pc + 4 - 2 * h; left = w.left - lanes t }))
+          (le_true w.left (lanes t) (let same = d.left in omega arith)) in
           let one : suc k ≡ 1 = is ∙ last_turn t v.left turn.some le in
           let many : long ≡ suc k * long = sym (ap (λ (x : ℕ). x * long) one ∙ (let q : 1 * long ≡ long = omega arith in q)) in
           let all : j + min v.left (lanes t) ≡ n = let whole = turn.left in omega arith in
@@ -160,13 +176,23 @@ module _ (t : ElementType) (at : ℕ → ℕ) (n : ℕ) (l : Line) (fine : IsLin
           let w = execs t b v in
           let d = turned j v turn in
           let x = record w { pc = w.pc + 4 - 2 * h; left = w.left - lanes t } in
-          let leaves : again t h w ≡ x = ap (λ (u : Bool). cond u (record w { pc = w.pc + 4; size = 4 }) x) (le_false w.left (lanes t) (let same = d.left in omega arith)) in
+          let leaves : again t h w ≡ x =
+          ap (λ (u : Bool). cond u (record w { pc = w.pc + 4; size = 4 }) x) (le_false w.left (lanes t) (let same = d.left in omega arith)) in
           let r = subst (λ (y : View). Reaches next Shows long s y) leaves (around j v s pc turn shows) in
           let whole = turn.left in
           let same = d.left in
           let full : j + min v.left (lanes t) ≡ j + lanes t = omega arith in
-          let fewer : k ≡ turns t (w.left - lanes t) = let e : suc k ≡ suc (turns t (v.left - lanes t)) = is ∙ one_turn t v.left lt in (let g : k ≡ turns t (v.left - lanes t) = omega arith in g ∙ ap (λ (y : ℕ). turns t (y - lanes t)) (sym d.left)) in
-          let q = rest x r.to (omega (arith, pc_execs t b v)) (record { size = d.size; offset = d.offset; left = omega arith; some = omega arith; byte = d.byte ∙ ap (λ (y : ℕ). replaced t (at l.array) y f m) full }) fewer r.shows in
+          let fewer : k ≡ turns t (w.left - lanes t) = let e : suc k ≡ suc (turns t (v.left - lanes t)) = is ∙ one_turn t v.left lt in
+          (let g : k ≡ turns t (v.left - lanes t) = omega arith in g ∙ ap (λ (y : ℕ). turns t (y - lanes t)) (sym d.left)) in
+          let q = rest x r.to (omega (arith, pc_execs t b v))
+          (record {
+            size = d.size;
+            offset = d.offset;
+            left = omega arith;
+            some = omega arith;
+            byte = d.byte
+                ∙ ap (λ (y : ℕ). replaced t (at l.array) y f m) full;
+          }) fewer r.shows in
           let many : long + k * long ≡ suc k * long = omega (arith, suc-mul k long) in
           record {
             view = q.view;
@@ -177,7 +203,9 @@ module _ (t : ElementType) (at : ℕ → ℕ) (n : ℕ) (l : Line) (fine : IsLin
 
       pub looped : (k j : ℕ) (v : View) (s : S) → v.pc ≡ p → AtTurn j v → k ≡ turns t v.left → Shows v s → Looped p (k * long) s
       looped zero j v s pc turn is shows = absurd (some_turn t v.left turn.some is)
-      looped (suc k) j v s pc turn is shows = ⊎_elim (λ lt. before_last k j v s pc turn is shows lt (λ w u pc_w turn_w is_w shows_w. looped k (j + lanes t) w u pc_w turn_w is_w shows_w)) (λ le. after_last k j v s pc turn is shows le) (cases_lt (lanes t) v.left)
+      looped (suc k) j v s pc turn is shows =
+          ⊎_elim (λ lt. before_last k j v s pc turn is shows lt (λ w u pc_w turn_w is_w shows_w. looped k (j + lanes t) w u pc_w turn_w is_w shows_w))
+          (λ le. after_last k j v s pc turn is shows le) (cases_lt (lanes t) v.left)
 
 -- A LINE: its head, the entry of its loop, and its turns
 pub items_append : (is js : List Item) → items_halves (is ++ js) ≡ items_halves is + items_halves js
@@ -191,7 +219,8 @@ turn_length at l = omega (arith, expr_length at l.expr 0, length-append (expr_co
 line_halves : (at : ℕ → ℕ) (n : ℕ) (l : Line) → items_halves (line_code at n l) ≡ 7 + (halves_of (body_code at l) + 2)
 line_halves at n l = omega (arith, items_append (map Plain (body_code at l)) (Again (halves_of (body_code at l) + 2) ∷ []), plain_halves (body_code at l))
 
-module _ {S E : Type 0} (t : ElementType) (next : S → Result S E) (Shows : View → S → Type 0) (Stands : ℕ → Item → Type 0) (rows : Rows t next Shows Stands) (at : ℕ → ℕ) (n : ℕ) (fits : n < 2 ^ 32) where
+module _ {S E : Type 0} (t : ElementType) (next : S → Result S E) (Shows : View → S → Type 0) (Stands : ℕ → Item → Type 0) (rows : Rows t next Shows Stands)
+    (at : ℕ → ℕ) (n : ℕ) (fits : n < 2 ^ 32) where
   -- a line's steps lead behind it, and it is done
   pub record LineDone (l : Line) (p k : ℕ) (s : S) (m : Bytes) : Type 0 where
     pub view : View
@@ -207,11 +236,16 @@ module _ {S E : Type 0} (t : ElementType) (next : S → Result S E) (Shows : Vie
     abbrev headed : View → View
     headed v = execs t (head_code n) v
 
-    entered : (v : View) (s : S) → Shows v s → CodeStands Stands v.pc (line_code at n l) → Reaches next Shows 4 s (begun t (halves_of (body_code at l) + 2) (headed v))
+    entered : (v : View) (s : S) → Shows v s → CodeStands Stands v.pc (line_code at n l)
+        → Reaches next Shows 4 s (begun t (halves_of (body_code at l) + 2) (headed v))
     entered v s shows stands =
-        let r = straight next Shows t Stands rows (head_code n) v s shows (stands_front Stands v.pc (map Plain (head_code n)) behind_head stands) (tt, (low_half n, (high_half n fits, tt))) in
+        let r = straight next Shows t Stands rows (head_code n) v s shows (stands_front Stands v.pc (map Plain (head_code n)) behind_head stands)
+        (tt, (low_half n, (high_half n fits, tt))) in
         let here : v.pc + 2 * 5 ≡ (headed v).pc = omega arith in
-        joined next Shows 3 1 s (headed v) _ r (rows.begin (halves_of (body_code at l) + 2) (headed v) r.to r.shows (subst (λ (x : ℕ). Stands x (Begin (halves_of (body_code at l) + 2))) here (stands_back Stands v.pc (map Plain (head_code n)) behind_head stands).0))
+        joined next Shows 3 1 s (headed v) _ r
+        (rows.begin (halves_of (body_code at l) + 2) (headed v) r.to r.shows
+        (subst (λ (x : ℕ). Stands x (Begin (halves_of (body_code at l) + 2))) here
+        (stands_back Stands v.pc (map Plain (head_code n)) behind_head stands).0))
 
     -- nothing to do
     empty : (v : View) (s : S) → Shows v s → CodeStands Stands v.pc (line_code at n l) → n ≡ 0 → LineDone l v.pc (line_steps t n l.expr) s v.byte
@@ -219,9 +253,12 @@ module _ {S E : Type 0} (t : ElementType) (next : S → Result S E) (Shows : Vie
         let hv = headed v in
         let h = halves_of (body_code at l) + 2 in
         let w = record hv { pc = hv.pc + 4 + 2 * h } in
-        let leaves : begun t h hv ≡ w = ap (λ (u : Bool). cond u w (record hv { pc = hv.pc + 4; left = hv.length; size = size_code t })) (eq_true hv.length (two_halves n ∙ none)) in
+        let leaves : begun t h hv ≡ w =
+        ap (λ (u : Bool). cond u w (record hv { pc = hv.pc + 4; left = hv.length; size = size_code t })) (eq_true hv.length (two_halves n ∙ none)) in
         let no_turn : turns t n ≡ 0 = ap (turns t) none ∙ none_turn t in
-        let many : 4 ≡ line_steps t n l.expr = sym (ap (λ (x : ℕ). 4 + x * (4 * names l.expr + 3 * numbers l.expr + operations l.expr + 6)) no_turn ∙ (let z : 4 + 0 * (4 * names l.expr + 3 * numbers l.expr + operations l.expr + 6) ≡ 4 = omega arith in z)) in
+        let many : 4 ≡ line_steps t n l.expr =
+        sym (ap (λ (x : ℕ). 4 + x * (4 * names l.expr + 3 * numbers l.expr + operations l.expr + 6)) no_turn
+        ∙ (let z : 4 + 0 * (4 * names l.expr + 3 * numbers l.expr + operations l.expr + 6) ≡ 4 = omega arith in z)) in
         record {
           view = w;
           reaches = so_many next Shows 4 (line_steps t n l.expr) s w many (subst (λ (x : View). Reaches next Shows 4 s x) leaves (entered v s shows stands));
@@ -239,12 +276,14 @@ module _ {S E : Type 0} (t : ElementType) (next : S → Result S E) (Shows : Vie
         let r = subst (λ (x : View). Reaches next Shows 4 s x) leaves (entered v s shows stands) in
         let p = v.pc + 2 * 5 + 2 * 2 in
         let inner = (stands_back Stands v.pc (map Plain (head_code n)) behind_head stands).1 in
-        let q = looped t at n l fine v.byte next Shows Stands rows p inner (turns t n) 0 w r.to (omega arith) (record { size = refl; offset = no_bytes t; left = omega arith; some = omega arith; byte = refl }) (ap (turns t) (sym is)) r.shows in
+        let q = looped t at n l fine v.byte next Shows Stands rows p inner (turns t n) 0 w r.to (omega arith)
+        (record { size = refl; offset = no_bytes t; left = omega arith; some = omega arith; byte = refl }) (ap (turns t) (sym is)) r.shows in
         let step = turn_length at l in
         let many : 4 + turns t n * (length (body_code at l) + 1) ≡ line_steps t n l.expr = ap (λ (x : ℕ). 4 + turns t n * x) step in
         record {
           view = q.view;
-          reaches = so_many next Shows (4 + turns t n * (length (body_code at l) + 1)) (line_steps t n l.expr) s q.view many (joined next Shows 4 (turns t n * (length (body_code at l) + 1)) s w q.view r q.reaches);
+          reaches = so_many next Shows (4 + turns t n * (length (body_code at l) + 1)) (line_steps t n l.expr) s q.view many
+              (joined next Shows 4 (turns t n * (length (body_code at l) + 1)) s w q.view r q.reaches);
           pc = q.pc ∙ (let z : p + 2 * h ≡ v.pc + 2 * items_halves (line_code at n l) = omega (arith, line_halves at n l) in z);
           byte = q.byte;
         }
@@ -259,7 +298,8 @@ module _ {S E : Type 0} (t : ElementType) (next : S → Result S E) (Shows : Vie
   lines_end (l ∷ ls) fine v s shows stands =
       let d = line_done l fine.0 v s shows (stands_front Stands v.pc (line_code at n l) (lines_code at n ls) stands) in
       let r = d.reaches in
-      let q = lines_end ls fine.1 d.view r.to r.shows (subst (λ (x : ℕ). CodeStands Stands x (lines_code at n ls)) (sym d.pc) (stands_back Stands v.pc (line_code at n l) (lines_code at n ls) stands)) in
+      let q = lines_end ls fine.1 d.view r.to r.shows
+      (subst (λ (x : ℕ). CodeStands Stands x (lines_code at n ls)) (sym d.pc) (stands_back Stands v.pc (line_code at n l) (lines_code at n ls) stands)) in
       record {
         view = q.view;
         reaches = joined next Shows (line_steps t n l.expr) (lines_steps t n ls) s d.view q.view r q.reaches;

@@ -24,7 +24,8 @@ module _ (t : ElementType) (n : ℕ) where
   placed_at (x ∷ xs) i h l = subst (IsPlaced t n) (sym (address_at (x ∷ xs) i x l)) (h i x l).placed
 
   -- two arrays, by their numbers
-  in_order : (x : Array) (xs : List Array) (i j : ℕ) → AllPairs (ShareNone t n) (x ∷ xs) → i < j → j < length (x ∷ xs) → ShareNone t n (slice_index_or (x ∷ xs) i x) (slice_index_or (x ∷ xs) j x)
+  in_order : (x : Array) (xs : List Array) (i j : ℕ) → AllPairs (ShareNone t n) (x ∷ xs) → i < j → j < length (x ∷ xs)
+      → ShareNone t n (slice_index_or (x ∷ xs) i x) (slice_index_or (x ∷ xs) j x)
   in_order x xs i j h l k = h i j x l k
 
   turned : (x y : Array) → ShareNone t n x y → ShareNone t n y x
@@ -32,7 +33,8 @@ module _ (t : ElementType) (n : ℕ) where
   turned x y (inr h) = inl h
 
   apart_by : (a b : ℕ) (x y : Array) → a ≡ x.addr → b ≡ y.addr → ShareNone t n x y → AreApart t n a b
-  apart_by a b x y e f h = inr (subst (λ (c : ℕ). (c + bytes t * n ≤ b) ⊎ (b + bytes t * n ≤ c)) (sym e) (subst (λ (c : ℕ). (x.addr + bytes t * n ≤ c) ⊎ (c + bytes t * n ≤ x.addr)) (sym f) h))
+  apart_by a b x y e f h = inr (subst (λ (c : ℕ). (c + bytes t * n ≤ b) ⊎ (b + bytes t * n ≤ c)) (sym e)
+      (subst (λ (c : ℕ). (x.addr + bytes t * n ≤ c) ⊎ (c + bytes t * n ≤ x.addr)) (sym f) h))
 
   apart_at : (xs : List Array) (i j : ℕ) → AllPairs (ShareNone t n) xs → i < length xs → j < length xs → AreApart t n (address xs i) (address xs j)
   apart_at [] i j h k l = absurd (omega arith)

@@ -1,5 +1,6 @@
 -- The eight operations.
-use Rattle.std.proofs.Common.{◌≡◌, ℕ, ◌+◌, ◌*◌, ◌%◌, ◌^◌, ◌<◌, false, cond, ◌&&◌, nat_eq, get_or, length, List, refl, sym, ap, ◌∙◌, subst, arith, bit_and, bit_or, bit_xor}
+use Rattle.std.proofs.Common.{◌≡◌, ℕ, ◌+◌, ◌*◌, ◌%◌, ◌^◌, ◌<◌, false, cond, ◌&&◌, nat_eq, get_or, length, List, refl, sym, ap, ◌∙◌, subst, arith, bit_and}
+use Rattle.std.proofs.Common.{bit_or, bit_xor}
 use Rattle.std.specs.Prelude.{Ok}
 use Rattle.hm_beat.specs.Rows.{predicate_at, register_at}
 use Rattle.hm_codes.specs.Listing.{Listing}
@@ -48,7 +49,8 @@ sign_bit S32 = refl
 
 module _ (t : ElementType) (listing : Listing) where
   -- the lesser or the greater
-  best_row : (name : SignedName) (q : ℕ) (v : View) (s : State) → Shows t v s → (i : Instr) → listing v.pc ≡ Ok i → IsBestRow t name q q (q + 1) i → q + 1 < 8 → v.size ≡ size_code t → (f : ℕ → ℕ)
+  best_row : (name : SignedName) (q : ℕ) (v : View) (s : State) → Shows t v s → (i : Instr) → listing v.pc ≡ Ok i → IsBestRow t name q q (q + 1) i → q + 1 < 8
+      → v.size ≡ size_code t → (f : ℕ → ℕ)
       → ((e : ℕ) → e < lanes t → lane_of (signed_fn name) (unsigned_of t) (size_of_type t) (v.lane q e) (v.lane q e) (v.lane (q + 1) e) ≡ f e)
       → Reaches (program.alone listing) (Shows t) 1 s (record v { pc = v.pc + 4; lane = merged q f v })
   best_row name q v s shows i here k room size f is =
@@ -58,12 +60,15 @@ module _ (t : ElementType) (listing : Listing) where
       let u_is : nat_eq r.u.value 1 ≡ unsigned_of t = ap (λ (x : ℕ). nat_eq x 1) k.u_is ∙ sign_bit t in
       reached t listing (instr.Vector (vector.V3 r)) w s (lanes_whole l s) (ap listing shows.pc ∙ here ∙ ap Ok k.is)
       (comes_to (vector.V3 r) s (lanes_whole l s) (in_loop t v s shows size) shows.block refl refl)
-      (lane_row t l v s shows size (ap size_of k.z_is ∙ size_is t) q q k.d_is k.n_is (omega arith) (omega arith) (register_at (q + 1) s) (ap (λ (x : ℕ). register_at x s) k.m_is) (length_lanes t (register_at (q + 1) s) refl)
+      (lane_row t l v s shows size (ap size_of k.z_is ∙ size_is t) q q k.d_is k.n_is (omega arith) (omega arith) (register_at (q + 1) s)
+      (ap (λ (x : ℕ). register_at x s) k.m_is) (length_lanes t (register_at (q + 1) s) refl)
       f (λ e m. (λ j. lane_of (signed_fn (k.name_is j)) (u_is j) (size_of_type t) (v.lane q e) (v.lane q e) (shows.lane (q + 1) e room m j)) ∙ is e m))
 
   -- bits
-  bit_row : (name : BitwiseName) (f : ℕ → ℕ → ℕ) → IsBitwise f → ((c a b : ℕ) → lane_of (bitwise_fn name) false Word c a b ≡ f a b % 2 ^ 32) → (q : ℕ) (v : View) (s : State) → Shows t v s → (i : Instr) → listing v.pc ≡ Ok i
-      → IsBitwiseRow name q q (q + 1) i → q + 1 < 8 → v.size ≡ size_code t → Reaches (program.alone listing) (Shows t) 1 s (record v { pc = v.pc + 4; lane = merged q (λ e. f (v.lane q e) (v.lane (q + 1) e)) v })
+  bit_row : (name : BitwiseName) (f : ℕ → ℕ → ℕ) → IsBitwise f → ((c a b : ℕ) → lane_of (bitwise_fn name) false Word c a b ≡ f a b % 2 ^ 32)
+      → (q : ℕ) (v : View) (s : State) → Shows t v s → (i : Instr) → listing v.pc ≡ Ok i
+      → IsBitwiseRow name q q (q + 1) i → q + 1 < 8 → v.size ≡ size_code t
+      → Reaches (program.alone listing) (Shows t) 1 s (record v { pc = v.pc + 4; lane = merged q (λ e. f (v.lane q e) (v.lane (q + 1) e)) v })
   bit_row name f bits word_is q v s shows i here k room size =
       let r = k.row in
       let l : Lanes = record { f = bitwise_fn r.name; unsigned = false; z = Word; d = r.d; n = r.n; by = by.Vector r.m } in
@@ -77,17 +82,20 @@ module _ (t : ElementType) (listing : Listing) where
       reached t listing (instr.Vector (vector.V2 r)) w s (lanes_whole l s) (ap listing shows.pc ∙ here ∙ ap Ok k.is)
       (comes_to (vector.V2 r) s (lanes_whole l s) (in_loop t v s shows size) shows.block refl refl)
       (after_merge t v s shows size r.d.value q k.d_is room_q (lanes_result l s) (ap length is) (subst AllBytes (sym is) (bytes_both f bits q (q + 1) s)) g
-      (λ e m. ap (λ (x : List ℕ). get_or (list.lanes (size_of_type t) x) e 0) is ∙ both_lanes f bits t q (q + 1) e s m ∙ (λ j. f (shows.lane q e room_q m j) (shows.lane (q + 1) e room m j)))
+      (λ e m. ap (λ (x : List ℕ). get_or (list.lanes (size_of_type t) x) e 0) is ∙ both_lanes f bits t q (q + 1) e s m
+      ∙ (λ j. f (shows.lane q e room_q m j) (shows.lane (q + 1) e room m j)))
       (saturates l.f && any_both (predicate_at s) (lanes_saturated l s)))
 
-  pub operation : (o : Op) (q : ℕ) (v : View) (s : State) → Shows t v s → Stands t listing v.pc (Plain (Do o q)) → (q + 1 < 8) × (v.size ≡ size_code t) → Reaches (program.alone listing) (Shows t) 1 s (exec t (Do o q) v)
+  pub operation : (o : Op) (q : ℕ) (v : View) (s : State) → Shows t v s → Stands t listing v.pc (Plain (Do o q)) → (q + 1 < 8) × (v.size ≡ size_code t)
+      → Reaches (program.alone listing) (Shows t) 1 s (exec t (Do o q) v)
   operation op.Add q v s h st can = addition t listing q v s h st can
   operation op.Sub q v s h st can = subtraction t listing q v s h st can
   operation op.Mul q v s h st can =
       let z = size_of_type t in
       let room_q : q < 8 = let k = can.0 in omega arith in
       add_row t listing add.Mul q v s h st.instr st.here st.is can.0 can.1 (λ e. op_value t op.Mul (v.lane q e) (v.lane (q + 1) e))
-      (λ e m. mul_is z (v.lane q e) (v.lane q e) (v.lane (q + 1) e) (subst (λ (x : ℕ). v.lane q e < x) (sym (modulus_is t)) (lane_fits t v s h q e room_q m)) (subst (λ (x : ℕ). v.lane (q + 1) e < x) (sym (modulus_is t)) (lane_fits t v s h (q + 1) e can.0 m))
+      (λ e m. mul_is z (v.lane q e) (v.lane q e) (v.lane (q + 1) e) (subst (λ (x : ℕ). v.lane q e < x) (sym (modulus_is t)) (lane_fits t v s h q e room_q m))
+      (subst (λ (x : ℕ). v.lane (q + 1) e < x) (sym (modulus_is t)) (lane_fits t v s h (q + 1) e can.0 m))
       ∙ ap (λ (x : ℕ). v.lane q e * v.lane (q + 1) e % x) (modulus_is t))
   operation op.Min q v s h st can =
       let room_q : q < 8 = let k = can.0 in omega arith in

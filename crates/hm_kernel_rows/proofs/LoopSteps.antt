@@ -51,7 +51,8 @@ fresh_mask23 : (r : Regs) → value_at Mask23 (record r { fpca = true; vpr = 0; 
 unfolding field
 fresh_mask23 r = refl
 
-in_fresh : (t : ElementType) (v : View) (r : Regs) (m : Seen) → InRegs t v r m → v.size ≡ 4 → InRegs t v (record r { fpca = true; vpr = 0; fpscr = 0x00040000 }) m
+in_fresh : (t : ElementType) (v : View) (r : Regs) (m : Seen) → InRegs t v r m → v.size ≡ 4
+    → InRegs t v (record r { fpca = true; vpr = 0; fpscr = 0x00040000 }) m
 in_fresh t v r m h e = record {
   r_count = h.r_count;
   qw_count = h.qw_count;
@@ -116,18 +117,24 @@ module _ (t : ElementType) (listing : Listing) where
       let e : reg k.row.n.value r ≡ v.length = ap (λ (n : ℕ). reg n r) k.n_is ∙ in_regs.length_is in
       let past = branch_if true (2 * h) r in
       let into = goes (sized (size_code t) (put 14 v.length r)) in
-      let does : wlstp k.row r ≡ cond (nat_eq v.length 0) past into = (λ j. cond (nat_eq (e j) 0) (branch_if true (2 * k.v_is j) r) (goes (sized (k.z_is j) (put 14 (e j) r)))) in
+      let does : wlstp k.row r ≡ cond (nat_eq v.length 0) past into =
+      (λ j. cond (nat_eq (e j) 0) (branch_if true (2 * k.v_is j) r) (goes (sized (k.z_is j) (put 14 (e j) r)))) in
       let there : ((r.pc + 4) % 2 ^ 32 + 2 * h) % 2 ^ 32 ≡ v.pc + 4 + 2 * h = (let p = in_regs.pc in let f = stands.reach in omega arith) in
       let runs_it = branch_runs (branch.T23 (t23_.Wlstp k.row)) (regs_of s) (from_state t v s shows).block in
       let w = record v { left = v.length } in
-      choose (λ b. Reaches (program.alone listing) (Shows t) 1 s (cond b (record v { pc = v.pc + 4 + 2 * h }) (record v { pc = v.pc + 4; left = v.length; size = size_code t }))) (nat_eq v.length 0)
-      (λ b. ended t listing i v (record v { pc = v.pc + 4 + 2 * h }) s (way.To (((r.pc + 4) % 2 ^ 32 + 2 * h) % 2 ^ 32)) r (record (advanced r) { pc = v.pc + 4 + 2 * h }) shows (stands.here ∙ ap Ok k.is) refl runs_it
+      choose (λ b. Reaches (program.alone listing) (Shows t) 1 s
+      (cond b (record v { pc = v.pc + 4 + 2 * h }) (record v { pc = v.pc + 4; left = v.length; size = size_code t }))) (nat_eq v.length 0)
+      (λ b. ended t listing i v (record v { pc = v.pc + 4 + 2 * h }) s (way.To (((r.pc + 4) % 2 ^ 32 + 2 * h) % 2 ^ 32)) r
+      (record (advanced r) { pc = v.pc + 4 + 2 * h }) shows (stands.here ∙ ap Ok k.is) refl runs_it
       (does ∙ ap (λ (x : Bool). cond x past into) b) (ap (λ (x : ℕ). record (advanced r) { pc = x }) there) (at_address t v r m in_regs (v.pc + 4 + 2 * h)))
-      (λ b. went_on t listing i v (record v { left = v.length; size = size_code t }) s (sized (size_code t) (put 14 v.length r)) shows (stands.here ∙ ap Ok k.is) refl runs_it
+      (λ b. went_on t listing i v (record v { left = v.length; size = size_code t }) s (sized (size_code t) (put 14 v.length r)) shows
+      (stands.here ∙ ap Ok k.is) refl runs_it
       (does ∙ ap (λ (x : Bool). cond x past into) b)
-      (put_size t w (put 14 v.length r) m (put_left t v r m in_regs v.length) (size_code t) (code_fits t) (λ c. let full = has_context (regs_of s) in absurd cc)) (let f = stands.fits in omega arith))
+      (put_size t w (put 14 v.length r) m (put_left t v r m in_regs v.length) (size_code t) (code_fits t)
+      (λ c. let full = has_context (regs_of s) in absurd cc)) (let f = stands.fits in omega arith))
 
-  pub back : (h : ℕ) (v : View) (s : State) → Shows t v s → Stands t listing v.pc (Again h) → v.size ≡ size_code t → Reaches (program.alone listing) (Shows t) 1 s (again t h v)
+  pub back : (h : ℕ) (v : View) (s : State) → Shows t v s → Stands t listing v.pc (Again h) → v.size ≡ size_code t
+      → Reaches (program.alone listing) (Shows t) 1 s (again t h v)
   back h v s shows stands sized_is =
       let k = stands.is in
       let i = instr.Branch (branch.T23 (t23_.End k.row)) in
@@ -140,17 +147,22 @@ module _ (t : ElementType) (listing : Listing) where
       let on = goes (sized 4 r) in
       let again_ = loops.back h (put 14 (v.left - lanes t) r) in
       let does : loop_end_row k.row.name k.row.v.value (cond (is_letp k.row.name) r old) ≡ cond (nat_le v.left (lanes t)) on again_ =
-      (λ j. loop_end_row (k.name_is j) (k.v_is j) (cond (is_letp (k.name_is j)) r old)) ∙ (λ j. cond (nat_le (l j) (e j)) on (loops.back h (put 14 (l j - e j) r))) in
-      let there : ((r.pc + 4) % 2 ^ 32 + (2 ^ 32 - 2 * h)) % 2 ^ 32 ≡ v.pc + 4 - 2 * h = (let p = in_regs.pc in let f = stands.fits in let g = stands.reach in omega arith) in
+      (λ j. loop_end_row (k.name_is j) (k.v_is j) (cond (is_letp (k.name_is j)) r old))
+      ∙ (λ j. cond (nat_le (l j) (e j)) on (loops.back h (put 14 (l j - e j) r))) in
+      let there : ((r.pc + 4) % 2 ^ 32 + (2 ^ 32 - 2 * h)) % 2 ^ 32 ≡ v.pc + 4 - 2 * h =
+      (let p = in_regs.pc in let f = stands.fits in let g = stands.reach in omega arith) in
       let runs_it = branch_runs (branch.T23 (t23_.End k.row)) old (from_state t v s shows).block in
       let w = record v { left = v.left - lanes t } in
       let q = put 14 (v.left - lanes t) r in
-      choose (λ b. Reaches (program.alone listing) (Shows t) 1 s (cond b (record v { pc = v.pc + 4; size = 4 }) (record v { pc = v.pc + 4 - 2 * h; left = v.left - lanes t }))) (nat_le v.left (lanes t))
+      choose (λ b. Reaches (program.alone listing) (Shows t) 1 s
+      (cond b (record v { pc = v.pc + 4; size = 4 }) (record v { pc = v.pc + 4 - 2 * h; left = v.left - lanes t }))) (nat_le v.left (lanes t))
       (λ b. went_on t listing i v (record v { size = 4 }) s (sized 4 r) shows (stands.here ∙ ap Ok k.is) refl runs_it
       (does ∙ ap (λ (x : Bool). cond x on again_) b)
       (put_size t v r m in_regs 4 (omega arith) (λ c. refl)) (let f = stands.fits in omega arith))
-      (λ b. ended t listing i v (record w { pc = v.pc + 4 - 2 * h }) s (way.To (((r.pc + 4) % 2 ^ 32 + (2 ^ 32 - 2 * h)) % 2 ^ 32)) q (record (advanced q) { pc = v.pc + 4 - 2 * h }) shows (stands.here ∙ ap Ok k.is) refl runs_it
-      (does ∙ ap (λ (x : Bool). cond x on again_) b) (ap (λ (x : ℕ). record (advanced q) { pc = x }) there) (at_address t w q m (put_left t v r m in_regs (v.left - lanes t)) (v.pc + 4 - 2 * h)))
+      (λ b. ended t listing i v (record w { pc = v.pc + 4 - 2 * h }) s (way.To (((r.pc + 4) % 2 ^ 32 + (2 ^ 32 - 2 * h)) % 2 ^ 32)) q
+      (record (advanced q) { pc = v.pc + 4 - 2 * h }) shows (stands.here ∙ ap Ok k.is) refl runs_it
+      (does ∙ ap (λ (x : Bool). cond x on again_) b) (ap (λ (x : ℕ). record (advanced q) { pc = x }) there)
+      (at_address t w q m (put_left t v r m in_regs (v.left - lanes t)) (v.pc + 4 - 2 * h)))
 
   -- the breakpoint halts
   pub stop : (v : View) (s : State) → Shows t v s → Stands t listing v.pc Stop → program.alone listing s ≡ Err (Halt (Break 0))

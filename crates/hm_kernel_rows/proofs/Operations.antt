@@ -1,5 +1,6 @@
 -- Operations on elements, and numbers in each of them.
-use Rattle.std.proofs.Common.{◌≡◌, ℕ, zero, suc, ◌+◌, ◌-◌, ◌*◌, ◌/◌, ◌%◌, ◌^◌, ◌<◌, ◌≤◌, true, false, cond, ◌&&◌, ltb, nat_eq, get_or, length, List, [], ◌∷◌, refl, sym, ap, ◌∙◌, subst, arith}
+use Rattle.std.proofs.Common.{◌≡◌, ℕ, zero, suc, ◌+◌, ◌-◌, ◌*◌, ◌/◌, ◌%◌, ◌^◌, ◌<◌, ◌≤◌, true, false, cond, ◌&&◌, ltb, nat_eq, get_or, length, List, [], ◌∷◌}
+use Rattle.std.proofs.Common.{refl, sym, ap, ◌∙◌, subst, arith}
 use Rattle.std.specs.Prelude.{ℤ, pos, ◌+ℤ◌, ◌-ℤ◌, unsigned_abs, Ok}
 use Rattle.std.proofs.lemmas.Int.{ints}
 use Rattle.std.proofs.lemmas.Int.{int_rem_euclid_is}
@@ -74,7 +75,8 @@ length_unlanes S32 l h = let e = length_fours l in omega arith
 module _ (t : ElementType) (l : Lanes) (v : View) (s : State) (h : Shows t v s) (size : v.size ≡ size_code t) (z_is : l.z ≡ size_of_type t)
     (q n : ℕ) (d_is : l.d.value ≡ q) (n_is : l.n.value ≡ n) (room : q < 8) (room_n : n < 8)
     (ys : List ℕ) (y_is : operand_register l.z l.by s ≡ ys) (y_count : length (list.lanes (size_of_type t) ys) ≡ lanes t)
-    (f : ℕ → ℕ) (is : (e : ℕ) → e < lanes t → lane_of l.f l.unsigned (size_of_type t) (v.lane q e) (v.lane n e) (get_or (list.lanes (size_of_type t) ys) e 0) ≡ f e) where
+    (f : ℕ → ℕ) (is : (e : ℕ) → e < lanes t
+    → lane_of l.f l.unsigned (size_of_type t) (v.lane q e) (v.lane n e) (get_or (list.lanes (size_of_type t) ys) e 0) ≡ f e) where
   abbrev g : ℕ → ℕ → ℕ → ℕ
   g = lane_of l.f l.unsigned (size_of_type t)
 
@@ -89,7 +91,9 @@ module _ (t : ElementType) (l : Lanes) (v : View) (s : State) (h : Shows t v s) 
 
   element_is : (e : ℕ) → e < lanes t → get_or (list.lanes (size_of_type t) (unlanes (size_of_type t) given)) e 0 ≡ f e
   element_is e k =
-      ap (λ (x : List ℕ). get_or x e 0) (lanes-unlanes (size_of_type t) given (tripled_below (list.modulus (size_of_type t)) g (λ c a b. lane_below l.f l.unsigned (size_of_type t) c a b) _ _ _))
+      ap (λ (x : List ℕ). get_or x e 0)
+      (lanes-unlanes (size_of_type t) given
+      (tripled_below (list.modulus (size_of_type t)) g (λ c a b. lane_below l.f l.unsigned (size_of_type t) c a b) _ _ _))
       ∙ get_tripled g (lanes t) _ _ _ e k (length_lanes t (register_at q s) refl) (length_lanes t (register_at n s) refl) y_count
       ∙ (λ j. g (h.lane q e room k j) (h.lane n e room_n k j) (get_or (list.lanes (size_of_type t) ys) e 0))
       ∙ is e k
@@ -108,9 +112,45 @@ pub record IsNumber (z : Size) (x : ℕ) : Type 0 where
   pub is : number false z x +ℤ pos (times * list.modulus z) ≡ pos x
 
 pub as_number : (z : Size) (x : ℕ) → IsNumber z x
-as_number OneByte x = decide (ltb x (2 ^ 7)) (λ e. record { times = 0; few = omega arith; is = (λ j. cond (e j) (pos x) (pos x -ℤ pos (2 ^ 8)) +ℤ pos 0) ∙ (let g : pos x +ℤ pos 0 ≡ pos x = omega (arith, ints) in g) }) (λ e. record { times = 1; few = omega arith; is = (λ j. cond (e j) (pos x) (pos x -ℤ pos (2 ^ 8)) +ℤ pos (2 ^ 8)) ∙ (let g : (pos x -ℤ pos (2 ^ 8)) +ℤ pos (2 ^ 8) ≡ pos x = omega (arith, ints) in g) })
-as_number Half x = decide (ltb x (2 ^ 15)) (λ e. record { times = 0; few = omega arith; is = (λ j. cond (e j) (pos x) (pos x -ℤ pos (2 ^ 16)) +ℤ pos 0) ∙ (let g : pos x +ℤ pos 0 ≡ pos x = omega (arith, ints) in g) }) (λ e. record { times = 1; few = omega arith; is = (λ j. cond (e j) (pos x) (pos x -ℤ pos (2 ^ 16)) +ℤ pos (2 ^ 16)) ∙ (let g : (pos x -ℤ pos (2 ^ 16)) +ℤ pos (2 ^ 16) ≡ pos x = omega (arith, ints) in g) })
-as_number Word x = decide (ltb x (2 ^ 31)) (λ e. record { times = 0; few = omega arith; is = (λ j. cond (e j) (pos x) (pos x -ℤ pos (2 ^ 32)) +ℤ pos 0) ∙ (let g : pos x +ℤ pos 0 ≡ pos x = omega (arith, ints) in g) }) (λ e. record { times = 1; few = omega arith; is = (λ j. cond (e j) (pos x) (pos x -ℤ pos (2 ^ 32)) +ℤ pos (2 ^ 32)) ∙ (let g : (pos x -ℤ pos (2 ^ 32)) +ℤ pos (2 ^ 32) ≡ pos x = omega (arith, ints) in g) })
+as_number OneByte x = decide (ltb x (2 ^ 7))
+    (λ e. record {
+      times = 0;
+      few = omega arith;
+      is = (λ j. cond (e j) (pos x) (pos x -ℤ pos (2 ^ 8)) +ℤ pos 0)
+          ∙ (let g : pos x +ℤ pos 0 ≡ pos x = omega (arith, ints) in g);
+    })
+    (λ e. record {
+      times = 1;
+      few = omega arith;
+      is = (λ j. cond (e j) (pos x) (pos x -ℤ pos (2 ^ 8)) +ℤ pos (2 ^ 8))
+          ∙ (let g : (pos x -ℤ pos (2 ^ 8)) +ℤ pos (2 ^ 8) ≡ pos x = omega (arith, ints) in g);
+    })
+as_number Half x = decide (ltb x (2 ^ 15))
+    (λ e. record {
+      times = 0;
+      few = omega arith;
+      is = (λ j. cond (e j) (pos x) (pos x -ℤ pos (2 ^ 16)) +ℤ pos 0)
+          ∙ (let g : pos x +ℤ pos 0 ≡ pos x = omega (arith, ints) in g);
+    })
+    (λ e. record {
+      times = 1;
+      few = omega arith;
+      is = (λ j. cond (e j) (pos x) (pos x -ℤ pos (2 ^ 16)) +ℤ pos (2 ^ 16))
+          ∙ (let g : (pos x -ℤ pos (2 ^ 16)) +ℤ pos (2 ^ 16) ≡ pos x = omega (arith, ints) in g);
+    })
+as_number Word x = decide (ltb x (2 ^ 31))
+    (λ e. record {
+      times = 0;
+      few = omega arith;
+      is = (λ j. cond (e j) (pos x) (pos x -ℤ pos (2 ^ 32)) +ℤ pos 0)
+          ∙ (let g : pos x +ℤ pos 0 ≡ pos x = omega (arith, ints) in g);
+    })
+    (λ e. record {
+      times = 1;
+      few = omega arith;
+      is = (λ j. cond (e j) (pos x) (pos x -ℤ pos (2 ^ 32)) +ℤ pos (2 ^ 32))
+          ∙ (let g : (pos x -ℤ pos (2 ^ 32)) +ℤ pos (2 ^ 32) ≡ pos x = omega (arith, ints) in g);
+    })
 
 sum_numbers : (x y : ℤ) (m k l a b : ℕ) → x +ℤ pos (k * m) ≡ pos a → y +ℤ pos (l * m) ≡ pos b → (x +ℤ y) +ℤ pos ((k + l) * m) ≡ pos (a + b)
 sum_numbers x y m k l a b h i = let e : (k + l) * m ≡ k * m + l * m = grind arith in omega (arith, ints)
@@ -124,7 +164,8 @@ pub add_is : (z : Size) (c a b : ℕ) → lane_of fn.Add false z c a b ≡ (a + 
 add_is z c a b =
     let x = as_number z a in
     let y = as_number z b in
-    ap unsigned_abs (int_rem_euclid_is (number false z a +ℤ number false z b) (pos (list.modulus z)) (list.modulus z) (x.times + y.times) (a + b) (some_modulus z) refl (sum_numbers (number false z a) (number false z b) (list.modulus z) x.times y.times a b x.is y.is))
+    ap unsigned_abs (int_rem_euclid_is (number false z a +ℤ number false z b) (pos (list.modulus z)) (list.modulus z) (x.times + y.times) (a + b)
+    (some_modulus z) refl (sum_numbers (number false z a) (number false z b) (list.modulus z) x.times y.times a b x.is y.is))
 
 pub modulus_is : (t : ElementType) → list.modulus (size_of_type t) ≡ modulus t
 modulus_is U8 = refl
@@ -135,7 +176,8 @@ modulus_is U32 = refl
 modulus_is S32 = refl
 
 -- DIFFERENCES
-diff_numbers : (x y : ℤ) (m k l a b : ℕ) → l ≤ 1 → b < m → x +ℤ pos (k * m) ≡ pos a → y +ℤ pos (l * m) ≡ pos b → (x -ℤ y) +ℤ pos ((k + (1 - l)) * m) ≡ pos (a + (m - b))
+diff_numbers : (x y : ℤ) (m k l a b : ℕ) → l ≤ 1 → b < m → x +ℤ pos (k * m) ≡ pos a → y +ℤ pos (l * m) ≡ pos b
+    → (x -ℤ y) +ℤ pos ((k + (1 - l)) * m) ≡ pos (a + (m - b))
 diff_numbers x y m k zero a b few fits h i =
     let e : (k + 1) * m ≡ k * m + m = grind arith in
     let f : (x -ℤ y) +ℤ pos ((k + 1) * m) ≡ pos (a + (m - b)) = omega (arith, ints) in f
@@ -149,7 +191,9 @@ pub sub_is : (z : Size) (c a b : ℕ) → b < list.modulus z → lane_of fn.Sub 
 sub_is z c a b fits =
     let x = as_number z a in
     let y = as_number z b in
-    ap unsigned_abs (int_rem_euclid_is (number false z a -ℤ number false z b) (pos (list.modulus z)) (list.modulus z) (x.times + (1 - y.times)) (a + (list.modulus z - b)) (some_modulus z) refl (diff_numbers (number false z a) (number false z b) (list.modulus z) x.times y.times a b y.few fits x.is y.is))
+    ap unsigned_abs (int_rem_euclid_is (number false z a -ℤ number false z b) (pos (list.modulus z)) (list.modulus z) (x.times + (1 - y.times))
+    (a + (list.modulus z - b)) (some_modulus z) refl
+    (diff_numbers (number false z a) (number false z b) (list.modulus z) x.times y.times a b y.few fits x.is y.is))
 
 -- ELEMENTS FIT
 all_get : (n : ℕ) (xs : List ℕ) (e : ℕ) → 0 < n → AllBelow n xs → get_or xs e 0 < n
@@ -158,7 +202,31 @@ all_get n (x ∷ xs) zero h a = a.0
 all_get n (x ∷ xs) (suc e) h a = all_get n xs e h a.1
 
 one_fits : (s : State) (q : ℕ) → AllBelow (2 ^ 8) (list.lanes OneByte (register_at q s))
-one_fits s q = (omega arith, (omega arith, (omega arith, (omega arith, (omega arith, (omega arith, (omega arith, (omega arith, (omega arith, (omega arith, (omega arith, (omega arith, (omega arith, (omega arith, (omega arith, (omega arith, tt))))))))))))))))
+one_fits s q = (
+  omega arith,
+  (
+    omega arith,
+    (
+      omega arith,
+      (
+        omega arith,
+        (
+          omega arith,
+          (
+            omega arith,
+            (
+              omega arith,
+              (
+                omega arith,
+                (omega arith, (omega arith, (omega arith, (omega arith, (omega arith, (omega arith, (omega arith, (omega arith, tt)))))))),
+              ),
+            ),
+          ),
+        ),
+      ),
+    ),
+  ),
+)
 
 half_fits : (s : State) (q : ℕ) → AllBelow (2 ^ 16) (list.lanes Half (register_at q s))
 half_fits s q = (omega arith, (omega arith, (omega arith, (omega arith, (omega arith, (omega arith, (omega arith, (omega arith, tt))))))))
@@ -229,7 +297,8 @@ name_size S32 = refl
 
 module _ (t : ElementType) (listing : Listing) where
   -- an addition, a subtraction or a product
-  pub add_row : (name : AddName) (q : ℕ) (v : View) (s : State) → Shows t v s → (i : Instr) → listing v.pc ≡ Ok i → IsAddRow t name q q (q + 1) i → q + 1 < 8 → v.size ≡ size_code t → (f : ℕ → ℕ)
+  pub add_row : (name : AddName) (q : ℕ) (v : View) (s : State) → Shows t v s → (i : Instr) → listing v.pc ≡ Ok i → IsAddRow t name q q (q + 1) i → q + 1 < 8
+      → v.size ≡ size_code t → (f : ℕ → ℕ)
       → ((e : ℕ) → e < lanes t → lane_of (add_fn name) false (size_of_type t) (v.lane q e) (v.lane q e) (v.lane (q + 1) e) ≡ f e)
       → Reaches (program.alone listing) (Shows t) 1 s (record v { pc = v.pc + 4; lane = merged q f v })
   add_row name q v s shows i here k room size f is =
@@ -238,20 +307,26 @@ module _ (t : ElementType) (listing : Listing) where
       let w = record v { pc = v.pc + 4; lane = merged q f v } in
       reached t listing (instr.Vector (vector.V1 r)) w s (lanes_whole l s) (ap listing shows.pc ∙ here ∙ ap Ok k.is)
       (comes_to (vector.V1 r) s (lanes_whole l s) (in_loop t v s shows size) shows.block refl refl)
-      (lane_row t l v s shows size (ap size_of k.z_is ∙ size_is t) q q k.d_is k.n_is (omega arith) (omega arith) (register_at (q + 1) s) (ap (λ (x : ℕ). register_at x s) k.m_is) (length_lanes t (register_at (q + 1) s) refl)
+      (lane_row t l v s shows size (ap size_of k.z_is ∙ size_is t) q q k.d_is k.n_is (omega arith) (omega arith) (register_at (q + 1) s)
+      (ap (λ (x : ℕ). register_at x s) k.m_is) (length_lanes t (register_at (q + 1) s) refl)
       f (λ e m. (λ j. lane_of (add_fn (k.name_is j)) false (size_of_type t) (v.lane q e) (v.lane q e) (shows.lane (q + 1) e room m j)) ∙ is e m))
 
-  pub addition : (q : ℕ) (v : View) (s : State) → Shows t v s → Stands t listing v.pc (Plain (Do op.Add q)) → (q + 1 < 8) × (v.size ≡ size_code t) → Reaches (program.alone listing) (Shows t) 1 s (exec t (Do op.Add q) v)
+  pub addition : (q : ℕ) (v : View) (s : State) → Shows t v s → Stands t listing v.pc (Plain (Do op.Add q)) → (q + 1 < 8) × (v.size ≡ size_code t)
+      → Reaches (program.alone listing) (Shows t) 1 s (exec t (Do op.Add q) v)
   addition q v s shows stands can =
       add_row add.Add q v s shows stands.instr stands.here stands.is can.0 can.1 (λ e. op_value t op.Add (v.lane q e) (v.lane (q + 1) e))
       (λ e m. add_is (size_of_type t) (v.lane q e) (v.lane q e) (v.lane (q + 1) e) ∙ ap (λ (x : ℕ). (v.lane q e + v.lane (q + 1) e) % x) (modulus_is t))
 
-  pub subtraction : (q : ℕ) (v : View) (s : State) → Shows t v s → Stands t listing v.pc (Plain (Do op.Sub q)) → (q + 1 < 8) × (v.size ≡ size_code t) → Reaches (program.alone listing) (Shows t) 1 s (exec t (Do op.Sub q) v)
+  pub subtraction : (q : ℕ) (v : View) (s : State) → Shows t v s → Stands t listing v.pc (Plain (Do op.Sub q)) → (q + 1 < 8) × (v.size ≡ size_code t)
+      → Reaches (program.alone listing) (Shows t) 1 s (exec t (Do op.Sub q) v)
   subtraction q v s shows stands can =
       add_row add.Sub q v s shows stands.instr stands.here stands.is can.0 can.1 (λ e. op_value t op.Sub (v.lane q e) (v.lane (q + 1) e))
-      (λ e m. sub_is (size_of_type t) (v.lane q e) (v.lane q e) (v.lane (q + 1) e) (subst (λ (x : ℕ). v.lane (q + 1) e < x) (sym (modulus_is t)) (lane_fits t v s shows (q + 1) e can.0 m)) ∙ ap (λ (x : ℕ). (v.lane q e + (x - v.lane (q + 1) e)) % x) (modulus_is t))
+      (λ e m. sub_is (size_of_type t) (v.lane q e) (v.lane q e) (v.lane (q + 1) e)
+      (subst (λ (x : ℕ). v.lane (q + 1) e < x) (sym (modulus_is t)) (lane_fits t v s shows (q + 1) e can.0 m))
+      ∙ ap (λ (x : ℕ). (v.lane q e + (x - v.lane (q + 1) e)) % x) (modulus_is t))
 
-  pub splat : (q : ℕ) (v : View) (s : State) → Shows t v s → Stands t listing v.pc (Plain (Splat q)) → (q < 8) × (v.size ≡ size_code t) → Reaches (program.alone listing) (Shows t) 1 s (exec t (Splat q) v)
+  pub splat : (q : ℕ) (v : View) (s : State) → Shows t v s → Stands t listing v.pc (Plain (Splat q)) → (q < 8) × (v.size ≡ size_code t)
+      → Reaches (program.alone listing) (Shows t) 1 s (exec t (Splat q) v)
   splat q v s shows stands can =
       let k = stands.is in
       let r = k.row in
@@ -261,9 +336,11 @@ module _ (t : ElementType) (listing : Listing) where
       let w = record v { pc = v.pc + 4; lane = merged q f v } in
       let z_is : element_size r.size ≡ z = ap element_size k.size_is ∙ name_size t in
       let ys = in_each_lane z v.scratch in
-      let y_is : operand_register l.z l.by s ≡ ys = (λ j. in_each_lane (z_is j) (cond (nat_eq (k.t_is j) 15) 0 (at (R (k.t_is j)) s))) ∙ ap (in_each_lane z) shows.scratch in
+      let y_is : operand_register l.z l.by s ≡ ys = (λ j. in_each_lane (z_is j) (cond (nat_eq (k.t_is j) 15) 0 (at (R (k.t_is j)) s)))
+      ∙ ap (in_each_lane z) shows.scratch in
       let spread = splat_lanes t v.scratch in
       reached t listing (instr.Vector (vector.V18 r)) w s (lanes_whole l s) (ap listing shows.pc ∙ stands.here ∙ ap Ok k.is)
       (comes_to (vector.V18 r) s (lanes_whole l s) (in_loop t v s shows can.1) shows.block refl refl)
       (lane_row t l v s shows can.1 z_is q q k.d_is k.d_is can.0 can.0 ys y_is (ap length spread ∙ length_repeated (lanes t) (v.scratch % modulus t))
-      f (λ e m. ap (lane_of fn.Dup true z (v.lane q e) (v.lane q e)) (ap (λ (x : List ℕ). get_or x e 0) spread ∙ get_repeated (lanes t) (v.scratch % modulus t) e m) ∙ dup_is t (v.lane q e) (v.lane q e) v.scratch))
+      f (λ e m. ap (lane_of fn.Dup true z (v.lane q e) (v.lane q e))
+      (ap (λ (x : List ℕ). get_or x e 0) spread ∙ get_repeated (lanes t) (v.scratch % modulus t) e m) ∙ dup_is t (v.lane q e) (v.lane q e) v.scratch))

@@ -1,5 +1,6 @@
 -- A step of an instruction on core registers, and what it leaves.
-use Rattle.std.proofs.Common.{◌≡◌, ◌≢◌, ℕ, ◌+◌, ◌-◌, ◌*◌, ◌/◌, ◌%◌, ◌^◌, ◌<◌, ◌≤◌, Bool, true, false, cond, not, ◌||◌, ◌&&◌, refl, sym, ap, ◌∙◌, subst, arith, nat_eq}
+use Rattle.std.proofs.Common.{◌≡◌, ◌≢◌, ℕ, ◌+◌, ◌-◌, ◌*◌, ◌/◌, ◌%◌, ◌^◌, ◌<◌, ◌≤◌, Bool, true, false, cond, not, ◌||◌, ◌&&◌, refl, sym, ap, ◌∙◌, subst, arith}
+use Rattle.std.proofs.Common.{nat_eq}
 use Rattle.std.specs.Prelude.{Result, Ok}
 use Rattle.std.proofs.lemmas.Bool.Decides.{nat_tests}
 use Rattle.hm_base.specs.declared.Fault.{Fault}
@@ -209,7 +210,8 @@ passed : (r : Regs) → r.it ≡ 0 → condition_passed r ≡ true
 passed r e = ap (λ (b : Bool). not b || condition_holds (r.it / 16) r) (outside_block r e)
 
 -- what an instruction that runs does
-step_is : (i : Instr) (r : Regs) (m : Seen) → runs i r ≡ true → step alone i r m ≡ finish (width i) (run alone (instr_does i (cond (needs_context i) (with_context r) r)) m)
+step_is : (i : Instr) (r : Regs) (m : Seen) → runs i r ≡ true
+    → step alone i r m ≡ finish (width i) (run alone (instr_does i (cond (needs_context i) (with_context r) r)) m)
 step_is i r m e = ap (λ (b : Bool). finish (width i) (run alone (cond b (instr_does i (cond (b && needs_context i) (with_context r) r)) (goes r)) m)) e
 
 -- an instruction runs where no block holds
@@ -225,25 +227,39 @@ branch_runs x r e = passed r e
 
 module _ (t : ElementType) (listing : Listing) where
   -- a step that comes to a state
-  pub reached : (i : Instr) (v : View) (s u : State) → listing s.pc ≡ Ok i → program.whole i s ≡ Ok u → Shows t v u → Reaches (program.alone listing) (Shows t) 1 s v
-  reached i v s u here e shows = record { to = u; comes = ap (λ (x : Result State WholeStop). and_then (λ (y : State). Ok y) x) (ap (λ (x : Result Instr Fault). program.whole_here x s) here ∙ e); shows = shows }
+  pub reached : (i : Instr) (v : View) (s u : State) → listing s.pc ≡ Ok i → program.whole i s ≡ Ok u → Shows t v u
+      → Reaches (program.alone listing) (Shows t) 1 s v
+  reached i v s u here e shows =
+      record {
+        to = u;
+        comes = ap (λ (x : Result State WholeStop). and_then (λ (y : State). Ok y) x)
+            (ap (λ (x : Result Instr Fault). program.whole_here x s) here ∙ e);
+        shows = shows;
+      }
 
   -- an instruction that ends with registers, in one of the ways that go on
-  pub ended : (i : Instr) (v w : View) (s : State) (go : Way) (r' q : Regs) → Shows t v s → listing v.pc ≡ Ok i → program.whole i s ≡ program.done_alone (scalar_alone i s)
-      → runs i (regs_of s) ≡ true → instr_does i (cond (needs_context i) (with_context (regs_of s)) (regs_of s)) ≡ Ends go r' → settled (width i) go r' ≡ q → InRegs t w q (seen_in s)
+  pub ended : (i : Instr) (v w : View) (s : State) (go : Way) (r' q : Regs) → Shows t v s → listing v.pc ≡ Ok i
+      → program.whole i s ≡ program.done_alone (scalar_alone i s)
+      → runs i (regs_of s) ≡ true → instr_does i (cond (needs_context i) (with_context (regs_of s)) (regs_of s)) ≡ Ends go r' → settled (width i) go r' ≡ q
+      → InRegs t w q (seen_in s)
       → Reaches (program.alone listing) (Shows t) 1 s w
   ended i v w s go r' q shows here other runs does leaves in_regs =
       let r = regs_of s in
       let m = seen_in s in
-      let step_comes : step alone i r m ≡ Ok (record { flow = flow_of go; regs = q; seen = m }) = step_is i r m runs ∙ ap (λ (d : Does). finish (width i) (run alone d m)) does ∙ ap (λ (x : Regs). Ok (record { flow = flow_of go; regs = x; seen = m })) leaves in
+      let step_comes : step alone i r m ≡ Ok (record { flow = flow_of go; regs = q; seen = m }) = step_is i r m runs
+      ∙ ap (λ (d : Does). finish (width i) (run alone d m)) does ∙ ap (λ (x : Regs). Ok (record { flow = flow_of go; regs = x; seen = m })) leaves in
       let u = state_with q m s.rest.around s.rest.output in
-      reached i w s u (ap listing shows.pc ∙ here) (other ∙ ap (λ (x : Result Stepped Fault). program.done_alone (goes_from s x)) step_comes) (to_state t w q m s.rest.around s.rest.output in_regs)
+      reached i w s u (ap listing shows.pc ∙ here) (other ∙ ap (λ (x : Result Stepped Fault). program.done_alone (goes_from s x)) step_comes)
+      (to_state t w q m s.rest.around s.rest.output in_regs)
 
   -- an instruction that goes on to the next
   pub went_on : (i : Instr) (v w : View) (s : State) (r' : Regs) → Shows t v s → listing v.pc ≡ Ok i → program.whole i s ≡ program.done_alone (scalar_alone i s)
-      → runs i (regs_of s) ≡ true → instr_does i (cond (needs_context i) (with_context (regs_of s)) (regs_of s)) ≡ goes r' → InRegs t w r' (seen_in s) → w.pc + width i < 2 ^ 32
+      → runs i (regs_of s) ≡ true → instr_does i (cond (needs_context i) (with_context (regs_of s)) (regs_of s)) ≡ goes r' → InRegs t w r' (seen_in s)
+      → w.pc + width i < 2 ^ 32
       → Reaches (program.alone listing) (Shows t) 1 s (record w { pc = w.pc + width i })
-  went_on i v w s r' shows here other runs does in_regs fits = ended i v (record w { pc = w.pc + width i }) s way.On r' (go_on (width i) (advanced r')) shows here other runs does refl (gone_on t w r' (seen_in s) in_regs (width i) fits)
+  went_on i v w s r' shows here other runs does in_regs fits =
+      ended i v (record w { pc = w.pc + width i }) s way.On r' (go_on (width i) (advanced r')) shows here other runs does refl
+      (gone_on t w r' (seen_in s) in_regs (width i) fits)
 
   -- THE ROWS
   pub clear : (v : View) (s : State) → Shows t v s → Stands t listing v.pc (Plain Clear) → Reaches (program.alone listing) (Shows t) 1 s (exec t Clear v)
@@ -252,51 +268,66 @@ module _ (t : ElementType) (listing : Listing) where
       let r = regs_of s in
       let h = from_state t v s shows in
       let q = with_value (R 4) 0 r in
-      let does : s4 k.row r ≡ with_nz 0 q = (λ j. byte_row (k.name_is j) (k.d_is j) (reg (k.d_is j) r) (k.x_is j) r) ∙ ap (λ (b : Bool). cond b q (with_nz 0 q)) (outside_block r h.block) in
-      went_on (instr.Scalar (scalar.S4 k.row)) v (record v { offset = 0 }) s (with_nz 0 q) shows (stands.here ∙ ap Ok k.is) refl (scalar_runs (scalar.S4 k.row) r h.block) (ap goes does)
-      (with_any_flags t (record v { offset = 0 }) q (seen_in s) (put_offset t v r (seen_in s) h 0) (negative 0) (nat_eq 0 0) q.c q.v) (let f = stands.fits in omega arith)
+      let does : s4 k.row r ≡ with_nz 0 q = (λ j. byte_row (k.name_is j) (k.d_is j) (reg (k.d_is j) r) (k.x_is j) r)
+      ∙ ap (λ (b : Bool). cond b q (with_nz 0 q)) (outside_block r h.block) in
+      went_on (instr.Scalar (scalar.S4 k.row)) v (record v { offset = 0 }) s (with_nz 0 q) shows (stands.here ∙ ap Ok k.is) refl
+      (scalar_runs (scalar.S4 k.row) r h.block) (ap goes does)
+      (with_any_flags t (record v { offset = 0 }) q (seen_in s) (put_offset t v r (seen_in s) h 0) (negative 0) (nat_eq 0 0) q.c q.v)
+      (let f = stands.fits in omega arith)
 
-  low_put : (d n : ℕ) (r : Regs) (row : T4) → row.name ≡ half.Movw → row.d.value ≡ d → row.i4.value * 2 ^ 12 + imm12 row.i.value row.i3.value row.i8.value ≡ n → t4 row r ≡ with_value (R d) n r
+  low_put : (d n : ℕ) (r : Regs) (row : T4) → row.name ≡ half.Movw → row.d.value ≡ d → row.i4.value * 2 ^ 12 + imm12 row.i.value row.i3.value row.i8.value ≡ n
+      → t4 row r ≡ with_value (R d) n r
   low_put d n r row a b c = λ j. put (b j) (half_put (a j) (c j) (reg (b j) r)) r
 
-  high_put : (d n : ℕ) (r : Regs) (row : T4) → row.name ≡ half.Movt → row.d.value ≡ d → row.i4.value * 2 ^ 12 + imm12 row.i.value row.i3.value row.i8.value ≡ n → t4 row r ≡ with_value (R d) (n * 2 ^ 16 + value_at (R d) r % 2 ^ 16) r
+  high_put : (d n : ℕ) (r : Regs) (row : T4) → row.name ≡ half.Movt → row.d.value ≡ d → row.i4.value * 2 ^ 12 + imm12 row.i.value row.i3.value row.i8.value ≡ n
+      → t4 row r ≡ with_value (R d) (n * 2 ^ 16 + value_at (R d) r % 2 ^ 16) r
   high_put d n r row a b c = λ j. put (b j) (half_put (a j) (c j) (reg (b j) r)) r
 
-  pub low : (n : ℕ) (v : View) (s : State) → Shows t v s → Stands t listing v.pc (Plain (Low n)) → Reaches (program.alone listing) (Shows t) 1 s (exec t (Low n) v)
+  pub low : (n : ℕ) (v : View) (s : State) → Shows t v s → Stands t listing v.pc (Plain (Low n))
+      → Reaches (program.alone listing) (Shows t) 1 s (exec t (Low n) v)
   low n v s shows stands =
       let k = stands.is in
       let r = regs_of s in
       let h = from_state t v s shows in
-      went_on (instr.Scalar (scalar.T4 k.row)) v (record v { scratch = n }) s (with_value (R 5) n r) shows (stands.here ∙ ap Ok k.is) refl (scalar_runs (scalar.T4 k.row) r h.block) (ap goes (low_put 5 n r k.row k.name_is k.d_is k.x_is))
+      went_on (instr.Scalar (scalar.T4 k.row)) v (record v { scratch = n }) s (with_value (R 5) n r) shows (stands.here ∙ ap Ok k.is) refl
+      (scalar_runs (scalar.T4 k.row) r h.block) (ap goes (low_put 5 n r k.row k.name_is k.d_is k.x_is))
       (put_scratch t v r (seen_in s) h n) (let f = stands.fits in omega arith)
 
-  pub low_length : (n : ℕ) (v : View) (s : State) → Shows t v s → Stands t listing v.pc (Plain (LowLength n)) → Reaches (program.alone listing) (Shows t) 1 s (exec t (LowLength n) v)
+  pub low_length : (n : ℕ) (v : View) (s : State) → Shows t v s → Stands t listing v.pc (Plain (LowLength n))
+      → Reaches (program.alone listing) (Shows t) 1 s (exec t (LowLength n) v)
   low_length n v s shows stands =
       let k = stands.is in
       let r = regs_of s in
       let h = from_state t v s shows in
-      went_on (instr.Scalar (scalar.T4 k.row)) v (record v { length = n }) s (with_value (R 6) n r) shows (stands.here ∙ ap Ok k.is) refl (scalar_runs (scalar.T4 k.row) r h.block) (ap goes (low_put 6 n r k.row k.name_is k.d_is k.x_is))
+      went_on (instr.Scalar (scalar.T4 k.row)) v (record v { length = n }) s (with_value (R 6) n r) shows (stands.here ∙ ap Ok k.is) refl
+      (scalar_runs (scalar.T4 k.row) r h.block) (ap goes (low_put 6 n r k.row k.name_is k.d_is k.x_is))
       (put_length t v r (seen_in s) h n) (let f = stands.fits in omega arith)
 
-  pub high : (n : ℕ) (v : View) (s : State) → Shows t v s → Stands t listing v.pc (Plain (High n)) → Reaches (program.alone listing) (Shows t) 1 s (exec t (High n) v)
+  pub high : (n : ℕ) (v : View) (s : State) → Shows t v s → Stands t listing v.pc (Plain (High n))
+      → Reaches (program.alone listing) (Shows t) 1 s (exec t (High n) v)
   high n v s shows stands =
       let k = stands.is in
       let r = regs_of s in
       let h = from_state t v s shows in
       let x = n * 2 ^ 16 + value_at (R 5) r % 2 ^ 16 in
       let e : x ≡ with_high n v.scratch = ap (λ (y : ℕ). n * 2 ^ 16 + y % 2 ^ 16) h.scratch in
-      went_on (instr.Scalar (scalar.T4 k.row)) v (record v { scratch = with_high n v.scratch }) s (with_value (R 5) x r) shows (stands.here ∙ ap Ok k.is) refl (scalar_runs (scalar.T4 k.row) r h.block) (ap goes (high_put 5 n r k.row k.name_is k.d_is k.x_is))
-      (subst (λ (y : ℕ). InRegs t (record v { scratch = y }) (with_value (R 5) x r) (seen_in s)) e (put_scratch t v r (seen_in s) h x)) (let f = stands.fits in omega arith)
+      went_on (instr.Scalar (scalar.T4 k.row)) v (record v { scratch = with_high n v.scratch }) s (with_value (R 5) x r) shows (stands.here ∙ ap Ok k.is) refl
+      (scalar_runs (scalar.T4 k.row) r h.block) (ap goes (high_put 5 n r k.row k.name_is k.d_is k.x_is))
+      (subst (λ (y : ℕ). InRegs t (record v { scratch = y }) (with_value (R 5) x r) (seen_in s)) e (put_scratch t v r (seen_in s) h x))
+      (let f = stands.fits in omega arith)
 
-  pub high_length : (n : ℕ) (v : View) (s : State) → Shows t v s → Stands t listing v.pc (Plain (HighLength n)) → Reaches (program.alone listing) (Shows t) 1 s (exec t (HighLength n) v)
+  pub high_length : (n : ℕ) (v : View) (s : State) → Shows t v s → Stands t listing v.pc (Plain (HighLength n))
+      → Reaches (program.alone listing) (Shows t) 1 s (exec t (HighLength n) v)
   high_length n v s shows stands =
       let k = stands.is in
       let r = regs_of s in
       let h = from_state t v s shows in
       let x = n * 2 ^ 16 + value_at (R 6) r % 2 ^ 16 in
       let e : x ≡ with_high n v.length = ap (λ (y : ℕ). n * 2 ^ 16 + y % 2 ^ 16) h.length_is in
-      went_on (instr.Scalar (scalar.T4 k.row)) v (record v { length = with_high n v.length }) s (with_value (R 6) x r) shows (stands.here ∙ ap Ok k.is) refl (scalar_runs (scalar.T4 k.row) r h.block) (ap goes (high_put 6 n r k.row k.name_is k.d_is k.x_is))
-      (subst (λ (y : ℕ). InRegs t (record v { length = y }) (with_value (R 6) x r) (seen_in s)) e (put_length t v r (seen_in s) h x)) (let f = stands.fits in omega arith)
+      went_on (instr.Scalar (scalar.T4 k.row)) v (record v { length = with_high n v.length }) s (with_value (R 6) x r) shows (stands.here ∙ ap Ok k.is) refl
+      (scalar_runs (scalar.T4 k.row) r h.block) (ap goes (high_put 6 n r k.row k.name_is k.d_is k.x_is))
+      (subst (λ (y : ℕ). InRegs t (record v { length = y }) (with_value (R 6) x r) (seen_in s)) e (put_length t v r (seen_in s) h x))
+      (let f = stands.fits in omega arith)
 
   pub offset : (v : View) (s : State) → Shows t v s → Stands t listing v.pc (Plain Offset) → Reaches (program.alone listing) (Shows t) 1 s (exec t Offset v)
   offset v s shows stands =
@@ -306,8 +337,10 @@ module _ (t : ElementType) (listing : Listing) where
       let x = (value_at (R 5) r + value_at (R 4) r) % 2 ^ 32 in
       let e : x ≡ (v.scratch + v.offset) % 2 ^ 32 = (λ j. (h.scratch j + h.offset j) % 2 ^ 32) in
       let does : s6 k.row r ≡ goes (with_value (R 5) x r) = (λ j. put_any (k.d_is j) ((operand (k.d_is j) r + operand (k.m_is j) r) % 2 ^ 32) r) in
-      went_on (instr.Scalar (scalar.S6 k.row)) v (record v { scratch = (v.scratch + v.offset) % 2 ^ 32 }) s (with_value (R 5) x r) shows (stands.here ∙ ap Ok k.is) refl (scalar_runs (scalar.S6 k.row) r h.block) does
-      (subst (λ (y : ℕ). InRegs t (record v { scratch = y }) (with_value (R 5) x r) (seen_in s)) e (put_scratch t v r (seen_in s) h x)) (let f = stands.fits in omega arith)
+      went_on (instr.Scalar (scalar.S6 k.row)) v (record v { scratch = (v.scratch + v.offset) % 2 ^ 32 }) s (with_value (R 5) x r) shows
+      (stands.here ∙ ap Ok k.is) refl (scalar_runs (scalar.S6 k.row) r h.block) does
+      (subst (λ (y : ℕ). InRegs t (record v { scratch = y }) (with_value (R 5) x r) (seen_in s)) e (put_scratch t v r (seen_in s) h x))
+      (let f = stands.fits in omega arith)
 
   pub further : (v : View) (s : State) → Shows t v s → Stands t listing v.pc (Plain Further) → Reaches (program.alone listing) (Shows t) 1 s (exec t Further v)
   further v s shows stands =
@@ -318,7 +351,10 @@ module _ (t : ElementType) (listing : Listing) where
       let q = with_value (R 4) sum.result r in
       let same : value_at (R 4) r + 16 + 0 ≡ v.offset + 16 = let o = h.offset in omega arith in
       let e : sum.result ≡ (v.offset + 16) % 2 ^ 32 = ap (λ (x : ℕ). x % 2 ^ 32) same in
-      let does : s4 k.row r ≡ with_nzcv sum q = (λ j. byte_row (k.name_is j) (k.d_is j) (reg (k.d_is j) r) (k.x_is j) r) ∙ ap (λ (b : Bool). cond b q (with_nzcv sum q)) (outside_block r h.block) in
+      let does : s4 k.row r ≡ with_nzcv sum q = (λ j. byte_row (k.name_is j) (k.d_is j) (reg (k.d_is j) r) (k.x_is j) r)
+      ∙ ap (λ (b : Bool). cond b q (with_nzcv sum q)) (outside_block r h.block) in
       let w = record v { offset = (v.offset + 16) % 2 ^ 32 } in
-      went_on (instr.Scalar (scalar.S4 k.row)) v w s (with_nzcv sum q) shows (stands.here ∙ ap Ok k.is) refl (scalar_runs (scalar.S4 k.row) r h.block) (ap goes does)
-      (with_any_flags t w q (seen_in s) (subst (λ (y : ℕ). InRegs t (record v { offset = y }) q (seen_in s)) e (put_offset t v r (seen_in s) h sum.result)) (negative sum.result) (nat_eq sum.result 0) sum.carry sum.overflow) (let f = stands.fits in omega arith)
+      went_on (instr.Scalar (scalar.S4 k.row)) v w s (with_nzcv sum q) shows (stands.here ∙ ap Ok k.is) refl (scalar_runs (scalar.S4 k.row) r h.block)
+      (ap goes does)
+      (with_any_flags t w q (seen_in s) (subst (λ (y : ℕ). InRegs t (record v { offset = y }) q (seen_in s)) e (put_offset t v r (seen_in s) h sum.result))
+      (negative sum.result) (nat_eq sum.result 0) sum.carry sum.overflow) (let f = stands.fits in omega arith)

@@ -1,5 +1,6 @@
 -- What a store of elements leaves in memory.
-use Rattle.std.proofs.Common.{◌≡◌, ◌≢◌, ℕ, zero, suc, ◌+◌, ◌-◌, ◌*◌, ◌%◌, ◌^◌, ◌<◌, ◌≤◌, Bool, true, false, cond, ◌&&◌, eqb, ltb, nat_le, nat_lt, min, get_or, length, List, [], ◌∷◌, ◌++◌, refl, sym, ap, ◌∙◌, subst, arith, ltb-true, ltb-false, eq-eqb, eqb-true}
+use Rattle.std.proofs.Common.{◌≡◌, ◌≢◌, ℕ, zero, suc, ◌+◌, ◌-◌, ◌*◌, ◌%◌, ◌^◌, ◌<◌, ◌≤◌, Bool, true, false, cond, ◌&&◌, eqb, ltb, nat_le, nat_lt, min, get_or}
+use Rattle.std.proofs.Common.{length, List, [], ◌∷◌, ◌++◌, refl, sym, ap, ◌∙◌, subst, arith, ltb-true, ltb-false, eq-eqb, eqb-true}
 use Rattle.std.proofs.lemmas.Bool.Decides.{nat_tests}
 use Rattle.hm_base.specs.declared.Place.{Place}
 use Rattle.hm_base.specs.declared.Place.TheVariants.{R, P0, Mask01, Mask23, Ltp}
@@ -37,7 +38,8 @@ test_first c b top e h = (grind (arith, nat_tests), grind (arith, nat_tests))
 test_rest : (c b top : ℕ) → c ≢ b → nat_le (c + 1) b && nat_lt b top ≡ (nat_le c b && nat_lt b top)
 test_rest c b top e = grind (arith, nat_tests)
 
-combined : (a k c top b y x : ℕ) → c ≡ a + k → c < top → cond (nat_le (c + 1) b && nat_lt b top) (byte_of x (b - a)) (cond (eqb c b) (byte_of x k) y) ≡ cond (nat_le c b && nat_lt b top) (byte_of x (b - a)) y
+combined : (a k c top b y x : ℕ) → c ≡ a + k → c < top
+    → cond (nat_le (c + 1) b && nat_lt b top) (byte_of x (b - a)) (cond (eqb c b) (byte_of x k) y) ≡ cond (nat_le c b && nat_lt b top) (byte_of x (b - a)) y
 combined a k c top b y x e h = decide (eqb c b)
     (λ is.
     let same = eqb-true c b is in
@@ -52,7 +54,8 @@ no_room : (a b : ℕ) → nat_le a b && nat_lt b a ≡ false
 no_room a b = grind (arith, nat_tests)
 
 -- what one byte that is put leaves
-put_here : (a k c b x y : ℕ) (s : State) → c ≡ a + k → (s.cell (Byte b)).n ≡ y → ((put cells (Byte c) (record { n = byte_of x k; taint = false }) s).cell (Byte b)).n ≡ cond (eqb c b) (byte_of x k) y
+put_here : (a k c b x y : ℕ) (s : State) → c ≡ a + k → (s.cell (Byte b)).n ≡ y
+    → ((put cells (Byte c) (record { n = byte_of x k; taint = false }) s).cell (Byte b)).n ≡ cond (eqb c b) (byte_of x k) y
 put_here a k c b x y s e h = go (eqb c b)
   where
     go : (u : Bool) → (cond u (record { n = byte_of x k; taint = false }) (s.cell (Byte b))).n ≡ cond u (byte_of x k) y
@@ -63,7 +66,8 @@ put_rest : (x a k n b y : ℕ) (s : State) → a + k + n ≤ 2 ^ 32 → (s.cell 
     → ((put_all cells (number_bytes x k (span_rest a k n)) s).cell (Byte b)).n ≡ cond (nat_le (a + k) b && nat_lt b (a + k + n)) (byte_of x (b - a)) y
 put_rest x a k zero b y s fits h =
     let e : a + k + 0 ≡ a + k = omega arith in
-    h ∙ sym (ap (λ (top : ℕ). cond (nat_le (a + k) b && nat_lt b top) (byte_of x (b - a)) y) e ∙ ap (λ (u : Bool). cond u (byte_of x (b - a)) y) (no_room (a + k) b))
+    h ∙ sym (ap (λ (top : ℕ). cond (nat_le (a + k) b && nat_lt b top) (byte_of x (b - a)) y) e
+    ∙ ap (λ (u : Bool). cond u (byte_of x (b - a)) y) (no_room (a + k) b))
 put_rest x a k (suc n) b y s fits h =
     let c = (a + k) % 2 ^ 32 in
     let c_is : c ≡ a + k = omega arith in
@@ -87,7 +91,8 @@ put_number x a n b y s fits h =
     ∙ combined a 0 a (a + suc n) b y x zero_is (omega arith)
 
 put_element : (t : ElementType) (x a b y : ℕ) (s : State) → a + bytes t ≤ 2 ^ 32 → (s.cell (Byte b)).n ≡ y
-    → ((put_all cells (number_bytes x 0 (span_bytes a (width (size_of_type t)))) s).cell (Byte b)).n ≡ cond (nat_le a b && nat_lt b (a + bytes t)) (byte_of x (b - a)) y
+    → ((put_all cells (number_bytes x 0 (span_bytes a (width (size_of_type t)))) s).cell (Byte b)).n
+    ≡ cond (nat_le a b && nat_lt b (a + bytes t)) (byte_of x (b - a)) y
 put_element U8 x a b y s fits h = put_number x a 0 b y s fits h
 put_element S8 x a b y s fits h = put_number x a 0 b y s fits h
 put_element U16 x a b y s fits h = put_number x a 1 b y s fits h
@@ -112,7 +117,8 @@ module _ (t : ElementType) (base left : ℕ) (A g : ℕ → ℕ) (m : Bytes) (b 
   elements_put (suc n) j (x ∷ xs) s count is inside h =
       let ws = number_bytes x 0 (span_bytes (A j) w) in
       let more = element_bytes (size_of_type t) (tails left (j + 1) n) (each_from A (j + 1) n) xs in
-      let rest = λ (u : State) (e : (u.cell (Byte b)).n ≡ so_far (j + 1)). elements_put n (j + 1) xs u (omega arith) (λ i k. is (suc i) (omega arith) ∙ (let p : j + suc i ≡ j + 1 + i = omega arith in ap g p)) (λ i c d f. inside i (omega arith) (omega arith) f) e in
+      let rest = λ (u : State) (e : (u.cell (Byte b)).n ≡ so_far (j + 1)). elements_put n (j + 1) xs u (omega arith)
+      (λ i k. is (suc i) (omega arith) ∙ (let p : j + suc i ≡ j + 1 + i = omega arith in ap g p)) (λ i c d f. inside i (omega arith) (omega arith) f) e in
       let last : so_far (j + 1 + n) ≡ so_far (j + suc n) = (let p : j + 1 + n ≡ j + suc n = omega arith in ap so_far p) in
       decide (ltb j left)
       (λ e.
@@ -125,7 +131,8 @@ module _ (t : ElementType) (base left : ℕ) (A g : ℕ → ℕ) (m : Bytes) (b 
       let stored : (u.cell (Byte b)).n ≡ so_far (j + 1) =
       ap (λ (a : ℕ). ((put_all cells (number_bytes x 0 (span_bytes a w)) s).cell (Byte b)).n) here.0
       ∙ put_element t x (base + bytes t * j) b (so_far j) s here.1 h
-      ∙ (λ i. cond (nat_le (base + bytes t * j) b && nat_lt b (base + bytes t * j + bytes t)) (byte_of (value i) (b - (base + bytes t * j))) (replaced t base (now i) g m b))
+      ∙ (λ i. cond (nat_le (base + bytes t * j) b && nat_lt b (base + bytes t * j + bytes t)) (byte_of (value i) (b - (base + bytes t * j)))
+      (replaced t base (now i) g m b))
       ∙ ap (λ (c : ℕ). replaced t base c g m b) then_ in
       ap (λ (u : Bool). ((put_all cells (cond u ws [] ++ more) s).cell (Byte b)).n) e
       ∙ ap (λ (y : State). (y.cell (Byte b)).n) (put_all-append ws more s)
@@ -149,7 +156,9 @@ elements_off : (p : Place) (z : Size) (ps : List Bool) (addrs xs : List ℕ) →
 elements_off p z [] addrs xs = tt
 elements_off p z (u ∷ ps) [] xs = tt
 elements_off p z (u ∷ ps) (a ∷ addrs) [] = tt
-elements_off p z (u ∷ ps) (a ∷ addrs) (x ∷ xs) = off-append (At p) (cond u (number_bytes x 0 (span_bytes a (width z))) []) (element_bytes z ps addrs xs) (chosen_off p u (number_bytes x 0 (span_bytes a (width z))) (numbers_off p x 0 (span_bytes a (width z)))) (elements_off p z ps addrs xs)
+elements_off p z (u ∷ ps) (a ∷ addrs) (x ∷ xs) =
+    off-append (At p) (cond u (number_bytes x 0 (span_bytes a (width z))) []) (element_bytes z ps addrs xs)
+    (chosen_off p u (number_bytes x 0 (span_bytes a (width z))) (numbers_off p x 0 (span_bytes a (width z)))) (elements_off p z ps addrs xs)
 
 with_fits : (n a x : ℕ) (m : Bytes) (b : ℕ) → m b < 256 → with_number n a x m b < 256
 with_fits n a x m b h = go (nat_le a b && nat_lt b (a + n))
@@ -173,10 +182,12 @@ module _ (t : ElementType) (v : View) (s : State) (h : Shows t v s) (q : ℕ) (r
   after = put_all cells ws s
 
   place_kept : (p : Place) → at p after ≡ at p s
-  place_kept p = ap (λ (y : Value). y.n) (put_other ws (At p) s (elements_off p (size_of_type t) (tails v.left 0 (lanes t)) (each_from (stands_at t v.scratch) 0 (lanes t)) xs))
+  place_kept p = ap (λ (y : Value). y.n)
+      (put_other ws (At p) s (elements_off p (size_of_type t) (tails v.left 0 (lanes t)) (each_from (stands_at t v.scratch) 0 (lanes t)) xs))
 
   register_stays : (p : ℕ) → register_at p after ≡ register_at p s
-  register_stays p = λ j. bytes_of (place_kept (word_place p 0) j) ++ bytes_of (place_kept (word_place p 1) j) ++ bytes_of (place_kept (word_place p 2) j) ++ bytes_of (place_kept (word_place p 3) j)
+  register_stays p = λ j. bytes_of (place_kept (word_place p 0) j) ++ bytes_of (place_kept (word_place p 1) j) ++ bytes_of (place_kept (word_place p 2) j)
+      ++ bytes_of (place_kept (word_place p 3) j)
 
   -- the bytes are those of the elements that are left
   stored_byte : (a : ℕ) → 0x20000000 ≤ a → a < 0x20040000 → (after.cell (Byte a)).n ≡ replaced t v.scratch (min v.left (lanes t)) (v.lane q) v.byte a
@@ -185,9 +196,11 @@ module _ (t : ElementType) (v : View) (s : State) (h : Shows t v s) (q : ℕ) (r
       let c = min v.left (lanes t) in
       let swapped : min (lanes t) v.left ≡ c = omega arith in
       let none : min 0 v.left ≡ 0 = omega arith in
-      let begun : (s.cell (Byte a)).n ≡ replaced t v.scratch (min 0 v.left) g v.byte a = h.byte a low high ∙ ap (λ (k : ℕ). replaced t v.scratch k g v.byte a) (sym none) in
+      let begun : (s.cell (Byte a)).n ≡ replaced t v.scratch (min 0 v.left) g v.byte a = h.byte a low high
+      ∙ ap (λ (k : ℕ). replaced t v.scratch k g v.byte a) (sym none) in
       let all : 0 + lanes t ≡ lanes t = omega arith in
-      elements_put t v.scratch v.left (stands_at t v.scratch) g v.byte a (lanes t) 0 xs s (length_lanes t (register_at q s) refl) (λ i k. let e : i ≡ 0 + i = omega arith in ap g e)
+      elements_put t v.scratch v.left (stands_at t v.scratch) g v.byte a (lanes t) 0 xs s (length_lanes t (register_at q s) refl)
+      (λ i k. let e : i ≡ 0 + i = omega arith in ap g e)
       (λ i b d e. let p = inside_of t v.scratch v.left i within.aligned within.low within.high e (omega arith) in let top = p.high in (p.is, omega arith)) begun
       ∙ ap (λ (k : ℕ). replaced t v.scratch (min k v.left) g v.byte a) all
       ∙ ap (λ (k : ℕ). replaced t v.scratch k g v.byte a) swapped
@@ -215,6 +228,8 @@ module _ (t : ElementType) (v : View) (s : State) (h : Shows t v s) (q : ℕ) (r
         fits = λ a k l. replaced_fits t v.scratch (min v.left (lanes t)) (v.lane q) v.byte a (h.fits a k l);
       }
 
-pub store : (t : ElementType) (listing : Listing) (q : ℕ) (v : View) (s : State) → Shows t v s → Stands t listing v.pc (Plain (Store q)) → (q < 8) × (v.size ≡ size_code t) × IsWithin t v → Reaches (program.alone listing) (Shows t) 1 s (exec t (Store q) v)
+pub store : (t : ElementType) (listing : Listing) (q : ℕ) (v : View) (s : State) → Shows t v s → Stands t listing v.pc (Plain (Store q))
+    → (q < 8) × (v.size ≡ size_code t) × IsWithin t v → Reaches (program.alone listing) (Shows t) 1 s (exec t (Store q) v)
 store t listing q v s h stands can =
-    moved_row t listing true 0 q refl v (record v { byte = replaced t v.scratch (min v.left (lanes t)) (v.lane q) v.byte }) s h stands.instr stands.here stands.is can.1 can.2 (stored_shows t v s h q can.0 can.2)
+    moved_row t listing true 0 q refl v (record v { byte = replaced t v.scratch (min v.left (lanes t)) (v.lane q) v.byte }) s h stands.instr stands.here
+    stands.is can.1 can.2 (stored_shows t v s h q can.0 can.2)

@@ -22,7 +22,8 @@ use Rattle.hm_kernel_lang.specs.declared.text.ElementType.TheVariants.{U8, S8, U
 use Rattle.hm_kernel_lang.specs.declared.text.Array.{Array}
 use Rattle.hm_kernel_lang.specs.declared.text.Text.{Text}
 use Rattle.hm_kernel_lang.specs.Language.{Bytes, address, first_memory, given, lines_steps, steps}
-use Rattle.hm_kernel_lang.specs.Machine.{Can, Clear, Do, Further, High, HighLength, Item, Kind, Load, Low, LowLength, Offset, Plain, Splat, Store, View, exec, item_halves}
+use Rattle.hm_kernel_lang.specs.Machine.{Can, Clear, Do, Further, High, HighLength, Item, Kind, Load, Low, LowLength, Offset, Plain, Splat, Store, View, exec}
+use Rattle.hm_kernel_lang.specs.Machine.{item_halves}
 use Rattle.hm_kernel_lang.specs.Code.{code}
 use Rattle.hm_kernel_lang.specs.Correct.{CodeStands, Reaches, Rows, and_then, goes}
 use Rattle.hm_kernel_lang.proofs.Lines.{lines_end}
@@ -40,7 +41,8 @@ use Rattle.hm_kernel_rows.proofs.AllOperations.{operation}
 use Rattle.hm_kernel_rows.proofs.Operations.{splat}
 
 -- THE ROWS
-plain_row : (t : ElementType) (listing : Listing) (k : Kind) (v : View) (s : State) → Shows t v s → Stands t listing v.pc (Plain k) → Can t k v → Reaches (program.alone listing) (Shows t) 1 s (exec t k v)
+plain_row : (t : ElementType) (listing : Listing) (k : Kind) (v : View) (s : State) → Shows t v s → Stands t listing v.pc (Plain k) → Can t k v
+    → Reaches (program.alone listing) (Shows t) 1 s (exec t k v)
 plain_row t listing Clear v s h st can = clear t listing v s h st
 plain_row t listing (Low n) v s h st can = low t listing n v s h st
 plain_row t listing (High n) v s h st can = high t listing n v s h st
@@ -64,11 +66,14 @@ rows_of t listing = record {
 listed_here : (flash : ℕ → ℕ) (listing : Listing) → IsListing flash listing → (a : ℕ) (i : Instr) → codes.Stands flash a i → listing a ≡ Ok i
 listed_here flash listing is a i here = fetched_one flash a (listing a) (Ok i) (is.at a) here
 
-code_listed : (t : ElementType) (flash : ℕ → ℕ) (listing : Listing) → IsListing flash listing → (a : ℕ) (is : List Item) → CodeStands (StandsIn t flash) a is → CodeStands (Stands t listing) a is
+code_listed : (t : ElementType) (flash : ℕ → ℕ) (listing : Listing) → IsListing flash listing → (a : ℕ) (is : List Item) → CodeStands (StandsIn t flash) a is
+    → CodeStands (Stands t listing) a is
 code_listed t flash listing lists a [] h = tt
 code_listed t flash listing lists a (x ∷ xs) h =
-    let s = h.0 in
-    (record { instr = s.instr; here = listed_here flash listing lists a s.instr s.here; is = s.is; fits = s.fits; reach = s.reach }, code_listed t flash listing lists (a + 2 * item_halves x) xs h.1)
+    let s = h.0 in (
+      record { instr = s.instr; here = listed_here flash listing lists a s.instr s.here; is = s.is; fits = s.fits; reach = s.reach },
+      code_listed t flash listing lists (a + 2 * item_halves x) xs h.1,
+    )
 
 -- THE START
 abbrev AllZero : List ℕ → Type 0
@@ -89,10 +94,14 @@ given_fits t (x ∷ xs) a = replaced_fits t x.addr (length x.values.items) (λ j
 
 first_lane : (t : ElementType) (image : List Segment) (q e : ℕ) → get_or (list.lanes (size_of_type t) (register_at q (start image))) e 0 ≡ 0
 unfolding start_under
-first_lane U8 image q e = get_zero (list.lanes (size_of_type U8) (register_at q (start image))) e (refl, (refl, (refl, (refl, (refl, (refl, (refl, (refl, (refl, (refl, (refl, (refl, (refl, (refl, (refl, (refl, tt))))))))))))))))
-first_lane S8 image q e = get_zero (list.lanes (size_of_type S8) (register_at q (start image))) e (refl, (refl, (refl, (refl, (refl, (refl, (refl, (refl, (refl, (refl, (refl, (refl, (refl, (refl, (refl, (refl, tt))))))))))))))))
-first_lane U16 image q e = get_zero (list.lanes (size_of_type U16) (register_at q (start image))) e (refl, (refl, (refl, (refl, (refl, (refl, (refl, (refl, tt))))))))
-first_lane S16 image q e = get_zero (list.lanes (size_of_type S16) (register_at q (start image))) e (refl, (refl, (refl, (refl, (refl, (refl, (refl, (refl, tt))))))))
+first_lane U8 image q e = get_zero (list.lanes (size_of_type U8) (register_at q (start image))) e
+    (refl, (refl, (refl, (refl, (refl, (refl, (refl, (refl, (refl, (refl, (refl, (refl, (refl, (refl, (refl, (refl, tt))))))))))))))))
+first_lane S8 image q e = get_zero (list.lanes (size_of_type S8) (register_at q (start image))) e
+    (refl, (refl, (refl, (refl, (refl, (refl, (refl, (refl, (refl, (refl, (refl, (refl, (refl, (refl, (refl, (refl, tt))))))))))))))))
+first_lane U16 image q e = get_zero (list.lanes (size_of_type U16) (register_at q (start image))) e
+    (refl, (refl, (refl, (refl, (refl, (refl, (refl, (refl, tt))))))))
+first_lane S16 image q e = get_zero (list.lanes (size_of_type S16) (register_at q (start image))) e
+    (refl, (refl, (refl, (refl, (refl, (refl, (refl, (refl, tt))))))))
 first_lane U32 image q e = get_zero (list.lanes (size_of_type U32) (register_at q (start image))) e (refl, (refl, (refl, (refl, tt))))
 first_lane S32 image q e = get_zero (list.lanes (size_of_type S32) (register_at q (start image))) e (refl, (refl, (refl, (refl, tt))))
 
@@ -119,18 +128,22 @@ starts x image is = record {
 
 -- STEPS are instructions in order
 module _ (listing : Listing) (image : List Segment) where
-  one_step : (n m : ℕ) (s u : State) → in_order listing image m ≡ Running s → ((t : State) → in_order listing image (suc m) ≡ Running t → goes (program.alone listing) n t ≡ Ok u → in_order listing image (n + suc m) ≡ Running u)
-      → (r : Result State WholeStop) → program.alone listing s ≡ r → and_then (goes (program.alone listing) n) r ≡ Ok u → in_order listing image (suc n + m) ≡ Running u
+  one_step : (n m : ℕ) (s u : State) → in_order listing image m ≡ Running s
+      → ((t : State) → in_order listing image (suc m) ≡ Running t → goes (program.alone listing) n t ≡ Ok u → in_order listing image (n + suc m) ≡ Running u)
+      → (r : Result State WholeStop) → program.alone listing s ≡ r → and_then (goes (program.alone listing) n) r ≡ Ok u
+      → in_order listing image (suc n + m) ≡ Running u
   one_step n m s u h rest (Ok t) is f =
       let next : in_order listing image (suc m) ≡ Running t = ap (one_more listing m) h ∙ ap (after m s) is in
       (let z : suc n + m ≡ n + suc m = omega arith in ap (in_order listing image) z) ∙ rest t next f
   one_step n m s u h rest (Err w) is f = absurd cc
 
-  running : (n m : ℕ) (s u : State) → in_order listing image m ≡ Running s → goes (program.alone listing) n s ≡ Ok u → in_order listing image (n + m) ≡ Running u
+  running : (n m : ℕ) (s u : State) → in_order listing image m ≡ Running s → goes (program.alone listing) n s ≡ Ok u
+      → in_order listing image (n + m) ≡ Running u
   running zero m s u h e = (let z : 0 + m ≡ m = omega arith in ap (in_order listing image) z) ∙ h ∙ ap Running (let q : s ≡ u = cc in q)
   running (suc n) m s u h e = one_step n m s u h (λ t next f. running n (suc m) t u next f) (program.alone listing s) refl e
 
-pub computes : (x : Text) (image : List Segment) (listing : Listing) → IsText x → IsImageOf x image → IsListing (flash_byte image) listing → Computes x image listing
+pub computes : (x : Text) (image : List Segment) (listing : Listing) → IsText x → IsImageOf x image → IsListing (flash_byte image) listing
+    → Computes x image listing
 unfolding start_under
 computes x image listing fine is lists =
     let t = x.element in
@@ -139,7 +152,8 @@ computes x image listing fine is lists =
     let shows = starts x image is in
     let stands = code_listed t (flash_byte image) listing lists 8 (code x) is.code in
     let fits : x.count < 2 ^ 32 = let c = fine.count in omega arith in
-    let d = lines_end t (program.alone listing) (Shows t) (Stands t listing) (rows_of t listing) (address x.arrays.items) x.count fits x.lines.items (lines_fine x fine) v0 s0 shows stands in
+    let d = lines_end t (program.alone listing) (Shows t) (Stands t listing) (rows_of t listing) (address x.arrays.items) x.count fits x.lines.items
+    (lines_fine x fine) v0 s0 shows stands in
     let n = lines_steps t x.count x.lines.items in
     let u = d.reaches.to in
     let same : n + 0 ≡ n = omega arith in
@@ -155,11 +169,14 @@ computes x image listing fine is lists =
     }
 
 -- AN END of the instructions in order stays, and is one
-halted_later : (listing : Listing) (image : List Segment) (r : Reason) (n : ℕ) (s : State) (k : ℕ) → in_order listing image n ≡ Halted r n s → in_order listing image (k + n) ≡ Halted r n s
+halted_later : (listing : Listing) (image : List Segment) (r : Reason) (n : ℕ) (s : State) (k : ℕ) → in_order listing image n ≡ Halted r n s
+    → in_order listing image (k + n) ≡ Halted r n s
 halted_later listing image r n s zero h = (let z : 0 + n ≡ n = omega arith in ap (in_order listing image) z) ∙ h
-halted_later listing image r n s (suc k) h = (let z : suc k + n ≡ suc (k + n) = omega arith in ap (in_order listing image) z) ∙ ap (one_more listing (k + n)) (halted_later listing image r n s k h)
+halted_later listing image r n s (suc k) h = (let z : suc k + n ≡ suc (k + n) = omega arith in ap (in_order listing image) z)
+    ∙ ap (one_more listing (k + n)) (halted_later listing image r n s k h)
 
-halted_by : (listing : Listing) (image : List Segment) (r : Reason) (n m : ℕ) (s : State) → n ≤ m → in_order listing image n ≡ Halted r n s → in_order listing image m ≡ Halted r n s
+halted_by : (listing : Listing) (image : List Segment) (r : Reason) (n m : ℕ) (s : State) → n ≤ m → in_order listing image n ≡ Halted r n s
+    → in_order listing image m ≡ Halted r n s
 halted_by listing image r n m s le h = (let z : m ≡ m - n + n = omega arith in ap (in_order listing image) z) ∙ halted_later listing image r n s (m - n) h
 
 record SameEnd (r q : Reason) (n m : ℕ) (s u : State) : Type 0 where
@@ -170,13 +187,15 @@ record SameEnd (r q : Reason) (n m : ℕ) (s u : State) : Type 0 where
 same_of : (r q : Reason) (n m : ℕ) (s u : State) → Halted r n s ≡ Halted q m u → SameEnd r q n m s u
 same_of r q n m s u e = record { reason = cc; count = cc; state = cc }
 
-one_end : (listing : Listing) (image : List Segment) (r q : Reason) (n m : ℕ) (s u : State) → in_order listing image n ≡ Halted r n s → in_order listing image m ≡ Halted q m u → SameEnd r q n m s u
+one_end : (listing : Listing) (image : List Segment) (r q : Reason) (n m : ℕ) (s u : State) → in_order listing image n ≡ Halted r n s
+    → in_order listing image m ≡ Halted q m u → SameEnd r q n m s u
 one_end listing image r q n m s u h k = ⊎_elim
     (λ lt. same_of r q n m s u (sym (halted_by listing image r n m s (omega arith) h) ∙ k))
     (λ le. same_of r q n m s u (sym h ∙ halted_by listing image q m n u le k))
     (cases_lt n m)
 
-pub file_of : (x : Text) (image : List Segment) (listing : Listing) (report file : List ℕ) (reason : Reason) (n : ℕ) → IsText x → IsImageOf x image → IsListing (flash_byte image) listing
+pub file_of : (x : Text) (image : List Segment) (listing : Listing) (report file : List ℕ) (reason : Reason) (n : ℕ) → IsText x → IsImageOf x image
+    → IsListing (flash_byte image) listing
     → HaltsInOrder listing image report file reason n → IsFileOf x file reason n
 file_of x image listing report file reason n fine is lists h =
     let c = computes x image listing fine is lists in

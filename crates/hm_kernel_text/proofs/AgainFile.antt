@@ -134,7 +134,8 @@ decimal_word n lt = leaf_word (decimal n) (rw (numeral_again n lt) (numeral_leaf
 decimals_lack : (mark : ℕ) (t : ElementType) (values : List ℕ) → is_ascii_alphanumeric mark ≡ false → AllByRecursion (λ v. v < modulus t) values
     → AllByRecursion (Lacks mark) (map decimal values)
 decimals_lack mark t [] fails small = tt
-decimals_lack mark t (v ∷ values) fails small = (word_lacks mark (decimal v) fails (decimal_word v (below_modulus t v small.0)), decimals_lack mark t values fails small.1)
+decimals_lack mark t (v ∷ values) fails small =
+    (word_lacks mark (decimal v) fails (decimal_word v (below_modulus t v small.0)), decimals_lack mark t values fails small.1)
 
 join_lacks : (ws : List (List ℕ)) → AllByRecursion (Lacks 10) ws → Lacks 10 (joined ws)
 join_lacks [] all = tt
@@ -173,7 +174,8 @@ placed_small t n a is = omega (arith, is.high)
 array_words_lack : (mark : ℕ) (t : ElementType) (n : ℕ) (front : List WrittenArray) (a : WrittenArray) → is_ascii_alphanumeric mark ≡ false
     → mark < 48 → Lacks mark (codes "array") → IsNewArray t n front a
     → AllByRecursion (Lacks mark) (codes "array" ∷ a.name ∷ hex8 a.addr ∷ map decimal a.values)
-array_words_lack mark t n front a fails lt word_lack is = (word_lack, (word_lacks mark a.name fails (name_leaf a.name is.name), (hex8_lacks mark a.addr lt, decimals_lack mark t a.values fails is.small)))
+array_words_lack mark t n front a fails lt word_lack is =
+    (word_lack, (word_lacks mark a.name fails (name_leaf a.name is.name), (hex8_lacks mark a.addr lt, decimals_lack mark t a.values fails is.small)))
 
 numerals_again : (t : ElementType) (values : List ℕ) → AllByRecursion (λ v. v < modulus t) values → list_all is_numeral (map decimal values) ≡ true
 numerals_again t [] small = refl
@@ -189,7 +191,8 @@ array_form_again : (t : ElementType) (n : ℕ) (front : List WrittenArray) (a : 
     → form_in (array_text a) ≡ Some (an_array a.name a.addr (map decimal a.values))
 unfolding form_in
 array_form_again t n front a is =
-    let words = split_join 32 (codes "array") (a.name ∷ hex8 a.addr ∷ map decimal a.values) (array_words_lack 32 t n front a refl (omega arith) (Lacks_from_test 32 (codes "array") refl) is) in
+    let words = split_join 32 (codes "array") (a.name ∷ hex8 a.addr ∷ map decimal a.values)
+    (array_words_lack 32 t n front a refl (omega arith) (Lacks_from_test 32 (codes "array") refl) is) in
     ap form_from words ∙ rw (is.name, numerals_again t a.values is.small, hex8_again a.addr (placed_small t n a.addr is.placed)) refl
 
 not_same : (b : Bool) (v name : List ℕ) → (b ≡ true → v ≡ name) → v ≢ name → b ≡ false
@@ -231,7 +234,15 @@ with_array_again : (k : Written) (a : WrittenArray) → length k.sets ≡ 0 → 
     → with_array k a.name a.addr (map decimal a.values) ≡ Ok (with_written_array k a)
 unfolding with_array
 with_array_again k a none room is =
-    rw (none, not_full (length k.arrays) room, others_again a.name k.arrays is.other, placed_again k.element k.count a.addr is.placed, few_again k.count a.values is.few, values_again k.element a.values is.small, apart_again k.element k.count a.addr k.arrays is.apart) refl
+    rw (
+      none,
+      not_full (length k.arrays) room,
+      others_again a.name k.arrays is.other,
+      placed_again k.element k.count a.addr is.placed,
+      few_again k.count a.values is.few,
+      values_again k.element a.values is.small,
+      apart_again k.element k.count a.addr k.arrays is.apart,
+    ) refl
 
 array_again : (k : Written) (a : WrittenArray) → length k.sets ≡ 0 → length k.arrays < 16 → IsNewArray k.element k.count k.arrays a
     → line_in k (array_text a) ≡ Ok (with_written_array k a)
@@ -256,7 +267,15 @@ with_set_again : (k : Written) (s : WrittenSet) → 1 ≤ length k.arrays → le
     → IsWrittenSet k.element k.arrays s → with_set k s.name s.expr ≡ Ok (with_written_set k s)
 unfolding with_set
 with_set_again k s some room pass is =
-    rw (some_test (length k.arrays) some, not_full (length k.sets) room, le-ltb 64 (leaves s.expr) is.few, there_again k.arrays s.name is.target, pass.known, pass.small, le-ltb 8 (tree_need s.expr) is.shallow) refl
+    rw (
+      some_test (length k.arrays) some,
+      not_full (length k.sets) room,
+      le-ltb 64 (leaves s.expr) is.few,
+      there_again k.arrays s.name is.target,
+      pass.known,
+      pass.small,
+      le-ltb 8 (tree_need s.expr) is.shallow,
+    ) refl
 
 set_again : (k : Written) (s : WrittenSet) → AreNamed k.arrays → 1 ≤ length k.arrays → length k.sets < 16 → IsWrittenSet k.element k.arrays s
     → line_in k (set_text s) ≡ Ok (with_written_set k s)
@@ -278,7 +297,8 @@ no_line n k some = rw (some_test (length k.sets) some) refl
 sets_again : (ss : List WrittenSet) (n : ℕ) (k : Written) → AreNamed k.arrays → 1 ≤ length k.arrays → length k.sets + length ss ≤ 16
     → 1 ≤ length k.sets + length ss → AllByRecursion (IsWrittenSet k.element k.arrays) ss
     → lines_in n k (map set_text ss) [] ≡ Ok (record k { sets = k.sets ++ ss })
-sets_again [] n k named some room any good = no_line n k (omega (arith, any)) ∙ ap (λ (x : List WrittenSet). let r : Result Written KernelErr = Ok (record k { sets = x }) in r) (sym (append-nil k.sets))
+sets_again [] n k named some room any good = no_line n k (omega (arith, any))
+    ∙ ap (λ (x : List WrittenSet). let r : Result Written KernelErr = Ok (record k { sets = x }) in r) (sym (append-nil k.sets))
 sets_again (s ∷ ss) n k named some room any good =
     let pushed = length_push k.sets s in
     next_line n k (with_written_set k s) (set_text s) (map set_text ss) (set_again k s named some (omega (arith, room)) good.0)
@@ -291,13 +311,15 @@ arrays_again : (xs : List WrittenArray) (ss : List WrittenSet) (n : ℕ) (k : Wr
     → lines_in n k (map array_text xs ++ map set_text ss) [] ≡ Ok (record k { arrays = k.arrays ++ xs; sets = k.sets ++ ss })
 arrays_again [] ss n k none room new named some few any good =
     let same = append-nil k.arrays in
-    sets_again ss n k (subst AreNamed same named) (subst (λ (x : List WrittenArray). 1 ≤ length x) same some) (omega (arith, none, few)) (omega (arith, none, any)) (subst (λ (x : List WrittenArray). AllByRecursion (IsWrittenSet k.element x) ss) same good)
+    sets_again ss n k (subst AreNamed same named) (subst (λ (x : List WrittenArray). 1 ≤ length x) same some) (omega (arith, none, few))
+    (omega (arith, none, any)) (subst (λ (x : List WrittenArray). AllByRecursion (IsWrittenSet k.element x) ss) same good)
     ∙ ap (λ (x : List WrittenArray). let r : Result Written KernelErr = Ok (record k { arrays = x; sets = k.sets ++ ss }) in r) (sym same)
 arrays_again (a ∷ xs) ss n k none room new named some few any good =
     let same = append_assoc k.arrays (a ∷ []) xs in
     let pushed = length_push k.arrays a in
     next_line n k (with_written_array k a) (array_text a) (map array_text xs ++ map set_text ss) (array_again k a none (omega (arith, room)) new.0)
-    ∙ arrays_again xs ss (n + 1) (with_written_array k a) none (omega (arith, pushed, room)) new.1 (subst AreNamed (sym same) named) (subst (λ (x : List WrittenArray). 1 ≤ length x) (sym same) some) few any
+    ∙ arrays_again xs ss (n + 1) (with_written_array k a) none (omega (arith, pushed, room)) new.1 (subst AreNamed (sym same) named)
+    (subst (λ (x : List WrittenArray). 1 ≤ length x) (sym same) some) few any
     (subst (λ (x : List WrittenArray). AllByRecursion (IsWrittenSet k.element x) ss) (sym same) good)
     ∙ ap (λ (x : List WrittenArray). let r : Result Written KernelErr = Ok (record k { arrays = x; sets = k.sets ++ ss }) in r) same
 
@@ -325,12 +347,18 @@ type_lacks U32 = Lacks_from_test 10 (codes "type u32") refl
 type_lacks S32 = Lacks_from_test 10 (codes "type s32") refl
 
 length_lacks : (n : ℕ) → n ≤ 65536 → Lacks 10 (length_text n)
-length_lacks n le = Lacks_append 10 (codes "length ") (decimal n) (Lacks_from_test 10 (codes "length ") refl) (word_lacks 10 (decimal n) refl (decimal_word n (omega (arith, le))))
+length_lacks n le = Lacks_append 10 (codes "length ") (decimal n) (Lacks_from_test 10 (codes "length ") refl)
+    (word_lacks 10 (decimal n) refl (decimal_word n (omega (arith, le))))
 
 set_lacks : (t : ElementType) (arrays : List WrittenArray) (s : WrittenSet) → AreNamed arrays → IsWrittenSet t arrays s → Lacks 10 (set_text s)
 set_lacks t arrays s named is =
-    join_lacks (codes "set" ∷ s.name ∷ codes "=" ∷ tree_text s.expr ∷ [])
-    (Lacks_from_test 10 (codes "set") refl, (word_lacks 10 s.name refl (name_leaf s.name (there_named arrays s.name named is.target)), (Lacks_from_test 10 (codes "=") refl, (tree_lacks s.expr (passes t arrays s.expr named is.over).leafy, tt))))
+    join_lacks (codes "set" ∷ s.name ∷ codes "=" ∷ tree_text s.expr ∷ []) (
+      Lacks_from_test 10 (codes "set") refl,
+      (
+        word_lacks 10 s.name refl (name_leaf s.name (there_named arrays s.name named is.target)),
+        (Lacks_from_test 10 (codes "=") refl, (tree_lacks s.expr (passes t arrays s.expr named is.over).leafy, tt)),
+      ),
+    )
 
 sets_lack : (t : ElementType) (arrays : List WrittenArray) (ss : List WrittenSet) → AreNamed arrays → AllByRecursion (IsWrittenSet t arrays) ss
     → AllByRecursion (Lacks 10) (map set_text ss)
@@ -340,8 +368,11 @@ sets_lack t arrays (s ∷ ss) named good = (set_lacks t arrays s named good.0, s
 lines_lack : (t : ElementType) (n : ℕ) (front xs : List WrittenArray) (rest : List (List ℕ)) → AreArrays t n front xs
     → AllByRecursion (Lacks 10) rest → AllByRecursion (Lacks 10) (map array_text xs ++ rest)
 lines_lack t n front [] rest new all = all
-lines_lack t n front (a ∷ xs) rest new all =
-    (join_lacks (codes "array" ∷ a.name ∷ hex8 a.addr ∷ map decimal a.values) (array_words_lack 10 t n front a refl (omega arith) (Lacks_from_test 10 (codes "array") refl) new.0), lines_lack t n (front ++ a ∷ []) xs rest new.1 all)
+lines_lack t n front (a ∷ xs) rest new all = (
+  join_lacks (codes "array" ∷ a.name ∷ hex8 a.addr ∷ map decimal a.values)
+      (array_words_lack 10 t n front a refl (omega arith) (Lacks_from_test 10 (codes "array") refl) new.0),
+  lines_lack t n (front ++ a ∷ []) xs rest new.1 all,
+)
 
 lines_cut : (w : Written) → IsWritten w → lines_of (kernel_text w) ≡ (kernel_lines w, [])
 lines_cut w fits =
@@ -351,7 +382,8 @@ lines_cut w fits =
         type_lacks w.element,
         (
           length_lacks w.count fits.count,
-          lines_lack w.element w.count [] w.arrays (map set_text w.sets) fits.arrays (sets_lack w.element w.arrays w.sets (are_named w.element w.count [] w.arrays fits.arrays) fits.sets),
+          lines_lack w.element w.count [] w.arrays (map set_text w.sets) fits.arrays
+              (sets_lack w.element w.arrays w.sets (are_named w.element w.count [] w.arrays fits.arrays) fits.sets),
         ),
       ),
     )
@@ -365,4 +397,5 @@ pub kernel_again : (text : List ℕ) (w : Written) → IsKernel text w → kerne
 kernel_again text w is =
     let fits = is.fits in
     head_again text w fits.count (ap lines_of is.bytes_are ∙ lines_cut w fits)
-    ∙ arrays_again w.arrays w.sets 4 (first_written w.element w.count) refl (omega (arith, fits.few_arrays)) fits.arrays (are_named w.element w.count [] w.arrays fits.arrays) fits.some_arrays fits.few_sets fits.some_sets fits.sets
+    ∙ arrays_again w.arrays w.sets 4 (first_written w.element w.count) refl (omega (arith, fits.few_arrays)) fits.arrays
+    (are_named w.element w.count [] w.arrays fits.arrays) fits.some_arrays fits.few_sets fits.some_sets fits.sets

@@ -90,7 +90,8 @@ numeral_again n lt =
     let g = guard_some (eqb (length w) 0 || (ltb 10 (length w) || (ltb 1 (length w) && eqb (get_or w 0 0) 48))) (digits_in 0 w) x.0 x.1 in
     let t = or_parts (eqb (length w) 0) (ltb 10 (length w) || (ltb 1 (length w) && eqb (get_or w 0 0) 48)) g.0 in
     let u = or_parts (ltb 10 (length w)) (ltb 1 (length w) && eqb (get_or w 0 0) 48) t.1 in
-    numeral_made (not (eqb (length w) 0)) (list_all is_ascii_digit w) (eqb (length w) 1 || not (eqb (get_or w 0 0) 48)) (plain_test (length w) (get_or w 0 0) t.0 u.1) (digits_all w 0 x.0 g.1)
+    numeral_made (not (eqb (length w) 0)) (list_all is_ascii_digit w) (eqb (length w) 1 || not (eqb (get_or w 0 0) 48))
+    (plain_test (length w) (get_or w 0 0) t.0 u.1) (digits_all w 0 x.0 g.1)
 
 -- ---- words of texts
 
@@ -124,7 +125,8 @@ brackets_lack (c ∷ cs) are = (λ is. absurd (omega (arith, are.0, is)), bracke
 
 span_word : (w cs : List ℕ) → Lacks 41 w → AreBrackets cs → span 41 (w ++ cs) ≡ (w, cs)
 span_word w [] lacks are = ap (span 41) (append-nil w) ∙ span_all 41 w lacks
-span_word w (c ∷ cs) lacks are = ap (λ (x : ℕ). span 41 (w ++ x ∷ cs)) are.0 ∙ span_at 41 w cs lacks ∙ ap (λ (x : ℕ). let s : List ℕ × List ℕ = (w, x ∷ cs) in s) (sym are.0)
+span_word w (c ∷ cs) lacks are = ap (λ (x : ℕ). span 41 (w ++ x ∷ cs)) are.0 ∙ span_at 41 w cs lacks
+    ∙ ap (λ (x : ℕ). let s : List ℕ × List ℕ = (w, x ∷ cs) in s) (sym are.0)
 
 letter_first : (b : ℕ) → is_ascii_alphanumeric b ≡ true → eqb b 40 ≡ false
 letter_first b e = grind (arith, nat_tests)
@@ -199,11 +201,14 @@ tree_again_at : (t : Tree) (fs : List Frame) (cs : List ℕ) (tail : Tail) → I
 tree_again_at (word w) fs cs tail leafy are =
     let is = leaf_word w leafy in
     let lacks = Lacks_append 32 w cs (lacks_all 32 is_ascii_alphanumeric w refl is.letters) (brackets_lack cs are) in
-    tree_from_cons fs _ (w ++ cs) (tail_words tail) _ (ap words_of (regroup_leaf w cs (tail_text tail)) ∙ words_front (w ++ cs) tail lacks) (leaf_step_again fs w cs leafy are)
+    tree_from_cons fs _ (w ++ cs) (tail_words tail) _ (ap words_of (regroup_leaf w cs (tail_text tail)) ∙ words_front (w ++ cs) tail lacks)
+    (leaf_step_again fs w cs leafy are)
 tree_again_at (apply o l r) fs cs tail leafy are =
     let right = tree_text r ++ ((41 ∷ cs) ++ tail_text tail) in
     let left = tree_text l ++ ([] ++ tail_text (goes right)) in
-    tree_from_cons fs _ (40 ∷ op_text o) (words_of left) _ (ap words_of (regroup_apply (op_text o) (tree_text l) (tree_text r) cs (tail_text tail)) ∙ words_front (40 ∷ op_text o) (goes left) (op_lacks o)) (open_step_again fs o)
+    tree_from_cons fs _ (40 ∷ op_text o) (words_of left) _
+    (ap words_of (regroup_apply (op_text o) (tree_text l) (tree_text r) cs (tail_text tail)) ∙ words_front (40 ∷ op_text o) (goes left) (op_lacks o))
+    (open_step_again fs o)
     ∙ tree_again_at l (first o ∷ fs) [] (goes right) leafy.0 tt
     ∙ first_again fs o l (words_of right)
     ∙ tree_again_at r (second o l ∷ fs) (41 ∷ cs) tail leafy.1 (refl, are)

@@ -1,5 +1,6 @@
 -- What a text says is said by a value.
-use Rattle.std.proofs.Common.{◌≡◌, ℕ, zero, suc, ◌+◌, ◌<◌, ◌≤◌, ◌^◌, List, [], ◌∷◌, ◌++◌, length, map, max, refl, sym, ap, subst, ◌∙◌, arith, inl, inr, Box, Global, Vec}
+use Rattle.std.proofs.Common.{◌≡◌, ℕ, zero, suc, ◌+◌, ◌<◌, ◌≤◌, ◌^◌, List, [], ◌∷◌, ◌++◌, length, map, max, refl, sym, ap, subst, ◌∙◌, arith, inl, inr, Box}
+use Rattle.std.proofs.Common.{Global, Vec}
 use Rattle.std.specs.Prelude.{All, codes, decimal}
 use Rattle.std.specs.List.{AllByRecursion, flat_map, join_with_byte}
 use Rattle.std.proofs.lemmas.List.{length-append, length-map}
@@ -17,7 +18,8 @@ use Rattle.hm_kernel_lang.specs.Language.{names, need, numbers}
 use Rattle.hm_kernel_lang.specs.Texts.{IsOver, IsSet, IsText}
 use Rattle.hm_kernel_text.specs.Held.{array_written, expr_written, name_at, set_written, written}
 use Rattle.hm_kernel_text.specs.Trees.{Tree, word, apply, leaves, tree_need}
-use Rattle.hm_kernel_text.specs.Written.{AreArrays, IsKernel, IsOverArrays, IsThere, IsWritten, IsWrittenSet, Written, WrittenArray, WrittenSet, array_text, header_text, kernel_lines, length_text, set_text, type_text}
+use Rattle.hm_kernel_text.specs.Written.{AreArrays, IsKernel, IsOverArrays, IsThere, IsWritten, IsWrittenSet, Written, WrittenArray, WrittenSet, array_text}
+use Rattle.hm_kernel_text.specs.Written.{header_text, kernel_lines, length_text, set_text, type_text}
 use Rattle.hm_kernel_text.proofs.TextLaws.{text_sound}
 
 -- ---- values of lists
@@ -89,7 +91,8 @@ sets_exist t xs (s ∷ ss) h =
     let e = expr_exists t xs s.expr h.0.over in
     let l : Line = record { array = at.0; expr = e.expr } in
     let one : set_written xs l ≡ s = (λ j. record { name = at.2 j; expr = e.is j }) in
-    let set : IsSet t (length xs) l = record { target = at.1; over = e.over; few = omega (arith, e.count, h.0.few); shallow = omega (arith, e.registers, h.0.shallow) } in
+    let set : IsSet t (length xs) l =
+    record { target = at.1; over = e.over; few = omega (arith, e.count, h.0.few); shallow = omega (arith, e.registers, h.0.shallow) } in
     record { lines = l ∷ rest.lines; are = (λ j. one j ∷ rest.are j); sets = All-cons (IsSet t (length xs)) l rest.lines set rest.sets }
 
 -- ---- names and values are no longer than the text
@@ -103,7 +106,8 @@ array_long a =
     let whole = length-append (array_text a) (10 ∷ []) in
     omega (arith, first, second, whole)
 
-names_in : (ws : List WrittenArray) (rest : List (List ℕ)) (n : ℕ) → length (flat_map line (map array_text ws ++ rest)) ≤ n → AllByRecursion (λ a. length a.name ≤ n) ws
+names_in : (ws : List WrittenArray) (rest : List (List ℕ)) (n : ℕ) → length (flat_map line (map array_text ws ++ rest)) ≤ n
+    → AllByRecursion (λ a. length a.name ≤ n) ws
 names_in [] rest n h = tt
 names_in (a ∷ ws) rest n h =
     let parts = length-append (line (array_text a)) (flat_map line (map array_text ws ++ rest)) in
@@ -113,7 +117,8 @@ few_values : (t : ElementType) (n : ℕ) (front ws : List WrittenArray) → n �
 few_values t n front [] le h = tt
 few_values t n front (a ∷ ws) le h = (omega (arith, h.0.few), few_values t n (front ++ a ∷ []) ws le h.1)
 
-short : (ws : List WrittenArray) (n : ℕ) → n < 2 ^ 63 → AllByRecursion (λ a. length a.name ≤ n) ws → AllByRecursion (λ a. length a.values ≤ 65536) ws → AllByRecursion IsShort ws
+short : (ws : List WrittenArray) (n : ℕ) → n < 2 ^ 63 → AllByRecursion (λ a. length a.name ≤ n) ws → AllByRecursion (λ a. length a.values ≤ 65536) ws
+    → AllByRecursion IsShort ws
 short [] n lt h k = tt
 short (a ∷ ws) n lt h k = ((omega (arith, h.0), omega (arith, k.0)), short ws n lt h.1 k.1)
 
@@ -128,7 +133,8 @@ names_short text w h =
     let e = ap length h.bytes_are in
     let whole : length (flat_map line (kernel_lines w)) ≤ n = omega arith in
     names_in w.arrays (map set_text w.sets) n
-    (behind (length_text w.count) others n (behind (type_text w.element) (length_text w.count ∷ others) n (behind header_text (type_text w.element ∷ length_text w.count ∷ others) n whole)))
+    (behind (length_text w.count) others n
+    (behind (type_text w.element) (length_text w.count ∷ others) n (behind header_text (type_text w.element ∷ length_text w.count ∷ others) n whole)))
 
 -- ---- texts
 

@@ -33,7 +33,8 @@ pub ends_line : (e : KernelErr) (line : ℕ) (k : Written) (ls : Lines) (whole :
     → 0 < length ls.0 + length ls.1 → all_lines line k ls ≡ whole → whole ≡ Err e
 unfolding lines_in
 ends_line e line k ([], []) whole at some so_far = absurd (omega arith)
-ends_line e line k ([], b ∷ rest) whole at some so_far = sym so_far ∙ ap (λ (x : KernelErr). let r : Result Written KernelErr = Err x in r) (err_is {A = List ℕ × Lines} (refusals.Line line Syntax) e at)
+ends_line e line k ([], b ∷ rest) whole at some so_far = sym so_far
+    ∙ ap (λ (x : KernelErr). let r : Result Written KernelErr = Err x in r) (err_is {A = List ℕ × Lines} (refusals.Line line Syntax) e at)
 ends_line e line k (l ∷ ls, rest) whole at some so_far = absurd cc
 
 -- the line is bad
@@ -85,11 +86,13 @@ pub record Grows (k next : Written) : Type 0 where
 
 grows_array : (k next : Written) (text : List ℕ) → length k.sets ≤ 16 → SaysArray k text next → Grows k next
 grows_array k next text few says =
-    subst (Grows k) says.next_is (let pushed = length_push k.arrays says.array in record { one = omega (arith, pushed); few_arrays = omega (arith, pushed, says.room); few_sets = few })
+    subst (Grows k) says.next_is (let pushed = length_push k.arrays says.array in
+    record { one = omega (arith, pushed); few_arrays = omega (arith, pushed, says.room); few_sets = few })
 
 grows_set : (k next : Written) (text : List ℕ) → length k.arrays ≤ 16 → SaysSet k text next → Grows k next
 grows_set k next text few says =
-    subst (Grows k) says.next_is (let pushed = length_push k.sets says.set in record { one = omega (arith, pushed); few_arrays = few; few_sets = omega (arith, pushed, says.room) })
+    subst (Grows k) says.next_is (let pushed = length_push k.sets says.set in
+    record { one = omega (arith, pushed); few_arrays = few; few_sets = omega (arith, pushed, says.room) })
 
 pub on_line_found : {A : Type 0} (line : ℕ) (r : Result A KernelKind) (x : A) → on_line line r ≡ Ok x → r ≡ Ok x
 on_line_found line (Ok y) x e = cc

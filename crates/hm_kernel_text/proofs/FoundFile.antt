@@ -84,7 +84,8 @@ ended_found k w rest none s some is = subst (LinesFound [] rest k) is (record {
   ended = none;
   arrays = [];
   sets = [];
-  is = ap (λ (x : List WrittenArray). record k { arrays = x; sets = k.sets ++ [] }) (append-nil k.arrays) ∙ ap (λ (x : List WrittenSet). record k { sets = x }) (append-nil k.sets);
+  is = ap (λ (x : List WrittenArray). record k { arrays = x; sets = k.sets ++ [] }) (append-nil k.arrays)
+      ∙ ap (λ (x : List WrittenSet). record k { sets = x }) (append-nil k.sets);
   texts = refl;
   new = tt;
   good = tt;
@@ -101,7 +102,8 @@ array_behind k w l ls rest next says more = record {
   ended = more.ended;
   arrays = says.array ∷ more.arrays;
   sets = more.sets;
-  is = ap (λ (x : List WrittenArray). record k { arrays = x; sets = k.sets ++ more.sets }) (sym (append_assoc k.arrays (says.array ∷ []) more.arrays)) ∙ more.is;
+  is = ap (λ (x : List WrittenArray). record k { arrays = x; sets = k.sets ++ more.sets }) (sym (append_assoc k.arrays (says.array ∷ []) more.arrays))
+      ∙ more.is;
   texts = rw (says.text_is, more.texts) refl;
   new = (says.is, more.new);
   good = subst (λ (x : List WrittenArray). AllByRecursion (IsWrittenSet k.element x) more.sets) (append_assoc k.arrays (says.array ∷ []) more.arrays) more.good;
@@ -112,17 +114,24 @@ array_behind k w l ls rest next says more = record {
   few_sets = more.few_sets;
 }
 
-set_behind : (k w : Written) (l : List ℕ) (ls : List (List ℕ)) (rest : List ℕ) (next : Written) (says : SaysSet k l next) (more : LinesFound ls rest (with_written_set k says.set) w) → more.arrays ≡ [] → LinesFound (l ∷ ls) rest k w
+set_behind : (k w : Written) (l : List ℕ) (ls : List (List ℕ)) (rest : List ℕ) (next : Written) (says : SaysSet k l next)
+    (more : LinesFound ls rest (with_written_set k says.set) w) → more.arrays ≡ [] → LinesFound (l ∷ ls) rest k w
 set_behind k w l ls rest next says more none =
     let same : k.arrays ++ more.arrays ≡ k.arrays ++ [] = ap (λ (x : List WrittenArray). k.arrays ++ x) none in
     record {
       ended = more.ended;
       arrays = [];
       sets = says.set ∷ more.sets;
-      is = ap (λ (x : List WrittenArray). record k { arrays = x; sets = k.sets ++ (says.set ∷ more.sets) }) (sym same) ∙ ap (λ (x : List WrittenSet). record k { arrays = k.arrays ++ more.arrays; sets = x }) (sym (append_assoc k.sets (says.set ∷ []) more.sets)) ∙ more.is;
-      texts = ap (λ (x : List ℕ). x ∷ ls) says.text_is ∙ ap (λ (x : List (List ℕ)). set_text says.set ∷ x) (more.texts ∙ ap (λ (x : List WrittenArray). map array_text x ++ map set_text more.sets) none);
+      is = ap (λ (x : List WrittenArray). record k { arrays = x; sets = k.sets ++ (says.set ∷ more.sets) }) (sym same)
+          ∙ ap (λ (x : List WrittenSet). record k { arrays = k.arrays ++ more.arrays; sets = x }) (sym (append_assoc k.sets (says.set ∷ []) more.sets))
+          ∙ more.is;
+      texts = ap (λ (x : List ℕ). x ∷ ls) says.text_is
+          ∙ ap (λ (x : List (List ℕ)). set_text says.set ∷ x) (more.texts ∙ ap (λ (x : List WrittenArray). map array_text x ++ map set_text more.sets) none);
       new = tt;
-      good = (subst (λ (x : List WrittenArray). IsWrittenSet k.element x says.set) (sym (append-nil k.arrays)) says.is, subst (λ (x : List WrittenArray). AllByRecursion (IsWrittenSet k.element x) more.sets) same more.good);
+      good = (
+        subst (λ (x : List WrittenArray). IsWrittenSet k.element x says.set) (sym (append-nil k.arrays)) says.is,
+        subst (λ (x : List WrittenArray). AllByRecursion (IsWrittenSet k.element x) more.sets) same more.good,
+      );
       late = λ _. refl;
       some_arrays = more.some_arrays;
       few_arrays = more.few_arrays;
@@ -133,7 +142,11 @@ set_behind k w l ls rest next says more none =
 sound_array : (k : Written) (l : List ℕ) (next : Written) (says : SaysArray k l next) → Sound k → Sound (with_written_array k says.array)
 sound_array k l next says s =
     let pushed = length_push k.arrays says.array in
-    record { few_arrays = omega (arith, pushed, says.room); few_sets = s.few_sets; some = λ (some : 1 ≤ length k.sets). absurd (omega (arith, says.first, some)) }
+    record {
+      few_arrays = omega (arith, pushed, says.room);
+      few_sets = s.few_sets;
+      some = λ (some : 1 ≤ length k.sets). absurd (omega (arith, says.first, some));
+    }
 
 sound_set : (k : Written) (l : List ℕ) (next : Written) (says : SaysSet k l next) → Sound k → Sound (with_written_set k says.set)
 sound_set k l next says s =
@@ -159,7 +172,8 @@ lines_found [] [] n k w s e =
 lines_found [] (b ∷ rest) n k w s e = absurd cc
 lines_found (l ∷ ls) rest n k w s e =
     let next = bind_ok (on_line n (line_in k l)) (λ next. lines_in (n + 1) next ls rest) w e in
-    behind k w l ls rest next.0 s (line_found k l next.0 (on_line_found n (line_in k l) next.0 next.1)) (λ sound. lines_found ls rest (n + 1) next.0 w sound next.2)
+    behind k w l ls rest next.0 s (line_found k l next.0 (on_line_found n (line_in k l) next.0 next.1))
+    (λ sound. lines_found ls rest (n + 1) next.0 w sound next.2)
 
 -- ---- all of a text
 
@@ -186,7 +200,15 @@ kernel_made text l1 l2 l3 ls rest t n w cut is1 is2 is3 le found =
     let P : Written → Type 0 = λ x. (1 ≤ length x.arrays) × (length x.arrays ≤ 16) × (1 ≤ length x.sets) × (length x.sets ≤ 16) in
     let bounds = subst P (sym found.is) (found.some_arrays, found.few_arrays, found.some_sets, found.few_sets) in
     subst (IsKernel text) found.is (record {
-      fits = record { count = le; some_arrays = bounds.0; few_arrays = bounds.1; some_sets = bounds.2; few_sets = bounds.3; arrays = found.new; sets = found.good };
+      fits = record {
+        count = le;
+        some_arrays = bounds.0;
+        few_arrays = bounds.1;
+        some_sets = bounds.2;
+        few_sets = bounds.3;
+        arrays = found.new;
+        sets = found.good;
+      };
       bytes_are = all ∙ texts;
     })
 

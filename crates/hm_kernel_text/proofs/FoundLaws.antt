@@ -70,7 +70,8 @@ closed_found : (cs : List ℕ) (fs : List Frame) (t : Tree) (s : List Frame × T
     → Stands fs (tree_text t ++ cs) s.0 s.1
 unfolding closed
 closed_found [] fs t s leafy leaf e =
-    subst (λ (x : List Frame × Tree). Stands fs (tree_text t ++ []) x.0 x.1) (some_is (fs, t) s e) (record { texts = ap (λ (x : List ℕ). before fs ++ x) (append-nil (tree_text t)); frames = leafy; tree = leaf })
+    subst (λ (x : List Frame × Tree). Stands fs (tree_text t ++ []) x.0 x.1) (some_is (fs, t) s e)
+    (record { texts = ap (λ (x : List ℕ). before fs ++ x) (append-nil (tree_text t)); frames = leafy; tree = leaf })
 closed_found (c ∷ cs) [] t s leafy leaf e = let x = test_some (eqb c 41) None s e in absurd cc
 closed_found (c ∷ cs) (first o ∷ fs) t s leafy leaf e = let x = test_some (eqb c 41) None s e in absurd cc
 closed_found (c ∷ cs) (second o l ∷ fs) t s leafy leaf e =
@@ -93,7 +94,8 @@ opened_text front op t = simp append_assoc
 stands_found : (fs : List Frame) (w : List ℕ) (s : List Frame × Tree) (u : Step) → Stands fs w s.0 s.1 → stands s ≡ Some u → StepStands fs w u
 stands_found fs w ([], t) u h e = subst (StepStands fs w) (some_is (whole t) u e) (h.texts, h.tree)
 stands_found fs w (first o ∷ gs, t) u h e =
-    subst (StepStands fs w) (some_is (part (second o t ∷ gs)) u e) (spaced (before fs) w (before (first o ∷ gs)) (tree_text t) h.texts ∙ opened_text (before gs) (op_text o) (tree_text t), (h.tree, h.frames))
+    subst (StepStands fs w) (some_is (part (second o t ∷ gs)) u e)
+    (spaced (before fs) w (before (first o ∷ gs)) (tree_text t) h.texts ∙ opened_text (before gs) (op_text o) (tree_text t), (h.tree, h.frames))
 stands_found fs w (second o l ∷ gs, t) u h e = absurd cc
 
 first_byte : (w : List ℕ) → get_or w 0 0 ≡ 40 → w ≡ 40 ∷ drop 1 w
@@ -110,7 +112,8 @@ step_of false fs w u is leafy e =
     let t = test_some (is_leaf (span 41 w).0) (option_and_then stands (closed fs (word (span 41 w).0) (span 41 w).1)) u e in
     let s = and_then_some (closed fs (word (span 41 w).0) (span 41 w).1) stands u t.1 in
     let cut = closed_found (span 41 w).1 fs (word (span 41 w).0) s.0 leafy t.0 s.1 in
-    stands_found fs w s.0 u (record { texts = ap (λ (x : List ℕ). before fs ++ x) (sym (span_parts 41 w)) ∙ cut.texts; frames = cut.frames; tree = cut.tree }) s.2
+    stands_found fs w s.0 u (record { texts = ap (λ (x : List ℕ). before fs ++ x) (sym (span_parts 41 w)) ∙ cut.texts; frames = cut.frames; tree = cut.tree })
+    s.2
 
 step_found : (fs : List Frame) (w : List ℕ) (u : Step) → AreLeafy fs → step_in fs w ≡ Some u → StepStands fs w u
 unfolding step_in
@@ -150,7 +153,8 @@ after_found (Some (part gs)) fs w (v ∷ ws) u h more e =
 tree_of_words : (ws : List (List ℕ)) (fs : List Frame) (u : Tree) → AreLeafy fs → tree_from fs ws ≡ Some u → IsTree fs ws u
 unfolding tree_from
 tree_of_words [] fs u leafy e = absurd cc
-tree_of_words (w ∷ ws) fs u leafy e = after_found (step_in fs w) fs w ws u (steps_stand fs w (step_in fs w) (λ s is. step_found fs w s leafy is)) (λ gs more is. tree_of_words ws gs u more is) e
+tree_of_words (w ∷ ws) fs u leafy e =
+    after_found (step_in fs w) fs w ws u (steps_stand fs w (step_in fs w) (λ s is. step_found fs w s leafy is)) (λ gs more is. tree_of_words ws gs u more is) e
 
 -- the words of an expression are its text
 pub tree_found : (ws : List (List ℕ)) (u : Tree) → tree_in ws ≡ Some u → IsTree [] ws u

@@ -72,7 +72,12 @@ array_made text kind name third more f is kind-is e made =
     by_addr (hex8_in third) refl numerals.1 where
       by_addr : (a : Option ℕ) → hex8_in third ≡ a → option_map (λ addr. an_array name addr more) a ≡ Some f → IsForm text f
       by_addr None at given = absurd cc
-      by_addr (Some addr) at given = subst (IsForm text) (some_is (an_array name addr more) f given) (is, e ∙ ap (λ (k : List ℕ). joined (k ∷ name ∷ third ∷ more)) kind-is ∙ ap (λ (x : List ℕ). joined (codes "array" ∷ name ∷ x ∷ more)) (hex8_found third addr at))
+      by_addr (Some addr) at given =
+          subst (IsForm text) (some_is (an_array name addr more) f given) (
+            is,
+            e ∙ ap (λ (k : List ℕ). joined (k ∷ name ∷ third ∷ more)) kind-is
+                ∙ ap (λ (x : List ℕ). joined (codes "array" ∷ name ∷ x ∷ more)) (hex8_found third addr at),
+          )
 
 set_made : (text kind name third : List ℕ) (more : List (List ℕ)) (f : Form) → is_name name ≡ true → kind ≡ codes "set"
     → text ≡ joined (kind ∷ name ∷ third ∷ more) → set_form name third more ≡ Some f → IsForm text f
@@ -81,7 +86,10 @@ set_made text kind name third more f is kind-is e made =
     by_tree (tree_in more) refl ((bytes_eq-Decides third (codes "=")).0 equals.0) equals.1 where
       by_tree : (t : Option Tree) → tree_in more ≡ t → third ≡ codes "=" → option_map (λ t. a_set name t) t ≡ Some f → IsForm text f
       by_tree None at third-is given = absurd cc
-      by_tree (Some t) at third-is given = subst (IsForm text) (some_is (a_set name t) f given) (set_words text name more t is (e ∙ ap (λ (k : List ℕ). joined (k ∷ name ∷ third ∷ more)) kind-is ∙ ap (λ (x : List ℕ). joined (codes "set" ∷ name ∷ x ∷ more)) third-is) at)
+      by_tree (Some t) at third-is given =
+          subst (IsForm text) (some_is (a_set name t) f given)
+          (set_words text name more t is
+          (e ∙ ap (λ (k : List ℕ). joined (k ∷ name ∷ third ∷ more)) kind-is ∙ ap (λ (x : List ℕ). joined (codes "set" ∷ name ∷ x ∷ more)) third-is) at)
 
 kind_made : (a s : Bool) (text kind name third : List ℕ) (more : List (List ℕ)) (f : Form) → (a ≡ true → kind ≡ codes "array")
     → (s ≡ true → kind ≡ codes "set") → is_name name ≡ true → text ≡ joined (kind ∷ name ∷ third ∷ more)
@@ -96,7 +104,8 @@ form_made text (kind ∷ []) f e made = absurd cc
 form_made text (kind ∷ name ∷ []) f e made = absurd cc
 form_made text (kind ∷ name ∷ third ∷ more) f e made =
     let named = test_some (is_name name) (form_of kind name third more) f made in
-    kind_made (bytes_eq kind (codes "array")) (bytes_eq kind (codes "set")) text kind name third more f (bytes_eq-Decides kind (codes "array")).0 (bytes_eq-Decides kind (codes "set")).0 named.0 e named.1
+    kind_made (bytes_eq kind (codes "array")) (bytes_eq kind (codes "set")) text kind name third more f (bytes_eq-Decides kind (codes "array")).0
+    (bytes_eq-Decides kind (codes "set")).0 named.0 e named.1
 
 pub form_found : (text : List ℕ) (f : Form) → form_in text ≡ Some f → IsForm text f
 unfolding form_in
@@ -123,7 +132,8 @@ pub record AreValues (limit : ℕ) (words : List (List ℕ)) (values : List ℕ)
 
 more_values : (limit : ℕ) (w : List ℕ) (ws : List (List ℕ)) (n : ℕ) (vs values : List ℕ) → (w ≡ decimal n) × (n < limit) → AreValues limit ws vs
     → n ∷ vs ≡ values → AreValues limit (w ∷ ws) values
-more_values limit w ws n vs values one more is = subst (AreValues limit (w ∷ ws)) is (record { texts = rw (one.0, more.texts) refl; small = (one.1, more.small) })
+more_values limit w ws n vs values one more is =
+    subst (AreValues limit (w ∷ ws)) is (record { texts = rw (one.0, more.texts) refl; small = (one.1, more.small) })
 
 map_some : {A B : Type 0} (f : A → B) (o : Option A) (y : B) → option_map f o ≡ Some y → (x : A) × (o ≡ Some x) × (f x ≡ y)
 map_some f None y e = absurd cc
@@ -140,7 +150,8 @@ values_found limit (w ∷ ws) values e =
 one_apart : (a b s : ℕ) → (ltb a (b + s) && ltb b (a + s)) ≡ false → (b + s ≤ a) ⊎ (a + s ≤ b)
 one_apart a b s e = elim (cases_lt a (b + s)) [
   | inl first ↦ elim (cases_lt b (a + s)) [
-    | inl second ↦ (let x = lt-ltb a (b + s) first in let y = lt-ltb b (a + s) second in let both : (ltb a (b + s) && ltb b (a + s)) ≡ true = rw (x, y) refl in absurd cc)
+    | inl second ↦ (let x = lt-ltb a (b + s) first in let y = lt-ltb b (a + s) second in let both : (ltb a (b + s) && ltb b (a + s)) ≡ true = rw (x, y) refl in
+        absurd cc)
     | inr second ↦ inr second
   ]
   | inr first ↦ inl first
@@ -188,10 +199,12 @@ array_says k text name addr words values next form none room new placed few are 
 }
 
 behind_found : (k : Written) (name : List ℕ) (addr : ℕ) (o : Option (List ℕ)) (next : Written) → behind_array k name addr o ≡ Ok next
-    → (values : List ℕ) × (o ≡ Some values) × (list_any (λ a. share k.element k.count a.addr addr) k.arrays ≡ false) × (with_written_array k (record { name = name; addr = addr; values = values }) ≡ next)
+    → (values : List ℕ) × (o ≡ Some values) × (list_any (λ a. share k.element k.count a.addr addr) k.arrays ≡ false)
+    × (with_written_array k (record { name = name; addr = addr; values = values }) ≡ next)
 behind_found k name addr None next e = absurd cc
 behind_found k name addr (Some values) next e =
-    let g = guard_ok (list_any (λ a. share k.element k.count a.addr addr) k.arrays) Overlap (with_written_array k (record { name = name; addr = addr; values = values })) next e in
+    let g = guard_ok (list_any (λ a. share k.element k.count a.addr addr) k.arrays) Overlap
+    (with_written_array k (record { name = name; addr = addr; values = values })) next e in
     (values, refl, g.0, g.1)
 
 array_found : (k : Written) (text name : List ℕ) (addr : ℕ) (words : List (List ℕ)) (next : Written) → IsForm text (an_array name addr words)
@@ -204,7 +217,8 @@ array_found k text name addr words next form e =
     let f = behind_found k name addr (bounded_values k.element k.count addr words) next d.1 in
     let t = test_some (is_placed k.element k.count addr && leb (length words) k.count) (values_in (modulus k.element) words) f.0 f.1 in
     let p = and_parts (is_placed k.element k.count addr) (leb (length words) k.count) t.0 in
-    array_says k text name addr words f.0 next form (omega (arith, ltb-false 0 (length k.sets) a.0)) (leb_not 16 (length k.arrays) b.0) d.0 p.0 (leb-true _ _ p.1) (values_found (modulus k.element) words f.0 t.1) f.2 f.3
+    array_says k text name addr words f.0 next form (omega (arith, ltb-false 0 (length k.sets) a.0)) (leb_not 16 (length k.arrays) b.0) d.0 p.0
+    (leb-true _ _ p.1) (values_found (modulus k.element) words f.0 t.1) f.2 f.3
 
 -- ---- a line that sets an array
 
@@ -259,7 +273,12 @@ set_found k text name t next form e =
     let g = guard_ok (ltb 8 (tree_need t)) Deep (with_written_set k (record { name = name; expr = t })) next f.1 in
     record {
       set = record { name = name; expr = t };
-      is = record { target = there_found name k.arrays known.0; over = over_found k.element k.arrays t known.1 (not_false _ f.0); few = ltb-false _ _ large.1; shallow = ltb-false _ _ g.0 };
+      is = record {
+        target = there_found name k.arrays known.0;
+        over = over_found k.element k.arrays t known.1 (not_false _ f.0);
+        few = ltb-false _ _ large.1;
+        shallow = ltb-false _ _ g.0;
+      };
       text_is = form.1;
       next_is = g.1;
       room = leb_not 16 (length k.sets) large.0;

@@ -21,7 +21,8 @@ behind_pop None ss = ss
 behind_pop (Some s) ss = s ∷ ss
 
 closed_more : (ss : List Side) (brackets : List ℕ) (i : ℕ) → i < length brackets
-    → closed_sides ss (drop i brackets) ≡ cond (eqb (get_or brackets i 0) 41) (option_and_then (λ more. closed_sides more (drop (i + 1) brackets)) (close_side ss)) None
+    → closed_sides ss (drop i brackets)
+    ≡ cond (eqb (get_or brackets i 0) 41) (option_and_then (λ more. closed_sides more (drop (i + 1) brackets)) (close_side ss)) None
 unfolding closed_sides
 closed_more ss brackets i lt = rw (drop_more brackets i 0 lt) refl
 
@@ -87,7 +88,9 @@ too_many n (w ∷ ws) more some = refl
 pub words_left : (ss : List Side) (n : ℕ) (text words : List (List ℕ)) (w : List ℕ) (ws : List (List ℕ)) → words ≡ w ∷ ws
     → shape_in ss w ≡ Some None → HasWords ws → leaves_from ss n words ≡ leaves_from [] 0 text
     → None ≡ option_map leaves (tree_in text)
-words_left ss n text words w ws is ends some so_far = sym (leaves_more ss n words w ws is ∙ rw ends (too_many (operations_behind n w) ws (λ more. leaves_from more (operations_behind n w) ws) some)) ∙ so_far ∙ leaves_are text
+words_left ss n text words w ws is ends some so_far =
+    sym (leaves_more ss n words w ws is ∙ rw ends (too_many (operations_behind n w) ws (λ more. leaves_from more (operations_behind n w) ws) some)) ∙ so_far
+    ∙ leaves_are text
 
 -- a word inside
 pub word_inside : (ss more : List Side) (n : ℕ) (text words : List (List ℕ)) (w : List ℕ) (ws : List (List ℕ)) → words ≡ w ∷ ws

@@ -33,7 +33,8 @@ apart_behind t n front a rest [] are = All-nil (ShareNone t n a)
 apart_behind t n front a rest (b ∷ xs) are =
     let one = turned t n a b (picked (IsApart t n b.addr) front (array_written a) rest are.0.apart) in
     let grown = append_assoc front (array_written a ∷ rest) (array_written b ∷ []) in
-    All-cons (ShareNone t n a) b xs one (apart_behind t n front a (rest ++ array_written b ∷ []) xs (subst (λ (x : List WrittenArray). AreArrays t n x (map array_written xs)) grown are.1))
+    All-cons (ShareNone t n a) b xs one
+    (apart_behind t n front a (rest ++ array_written b ∷ []) xs (subst (λ (x : List WrittenArray). AreArrays t n x (map array_written xs)) grown are.1))
 
 pairs_apart : (t : ElementType) (n : ℕ) (front : List WrittenArray) (xs : List Array) → AreArrays t n front (map array_written xs)
     → AllPairs (ShareNone t n) xs
@@ -45,7 +46,8 @@ each_array : (t : ElementType) (n : ℕ) (front : List WrittenArray) (xs : List 
     → All (IsArray t n) xs
 each_array t n front [] are = All-nil (IsArray t n)
 each_array t n front (a ∷ xs) are =
-    All-cons (IsArray t n) a xs (record { placed = are.0.placed; few = are.0.few; small = All-from_recursion _ a.values.items are.0.small }) (each_array t n (front ++ array_written a ∷ []) xs are.1)
+    All-cons (IsArray t n) a xs (record { placed = are.0.placed; few = are.0.few; small = All-from_recursion _ a.values.items are.0.small })
+    (each_array t n (front ++ array_written a ∷ []) xs are.1)
 
 pub text_sound : (x : Text) → IsWritten (written x) → All (IsSet x.element (length x.arrays.items)) x.lines.items → IsText x
 text_sound x fits sets =

@@ -47,7 +47,8 @@ unfolding closed closed_sides
 closed_shape [] fs t = refl
 closed_shape (c ∷ cs) [] t = test_map (eqb c 41) (λ (s : List Frame × Tree). sides s.0) None None refl
 closed_shape (c ∷ cs) (first o ∷ fs) t = test_map (eqb c 41) (λ (s : List Frame × Tree). sides s.0) None None refl
-closed_shape (c ∷ cs) (second o l ∷ fs) t = test_map (eqb c 41) (λ (s : List Frame × Tree). sides s.0) (closed fs (apply o l t) cs) (closed_sides (sides fs) cs) (closed_shape cs fs (apply o l t))
+closed_shape (c ∷ cs) (second o l ∷ fs) t =
+    test_map (eqb c 41) (λ (s : List Frame × Tree). sides s.0) (closed fs (apply o l t) cs) (closed_sides (sides fs) cs) (closed_shape cs fs (apply o l t))
 
 stands_shape : (s : List Frame × Tree) → option_map shape (stands s) ≡ stands_side (sides s.0)
 stands_shape ([], t) = refl
@@ -73,7 +74,8 @@ step_shape : (fs : List Frame) (w : List ℕ) → option_map shape (step_in fs w
 unfolding step_in shape_in
 step_shape fs w =
     cond_shape (opens w) (open_step fs (drop 1 w)) (leaf_step fs (span 41 w)) _ _ (opened_shape fs (op_in (drop 1 w)))
-    (test_map (is_leaf (span 41 w).0) shape _ _ (both_shape (closed fs (word (span 41 w).0) (span 41 w).1) _ (closed_shape (span 41 w).1 fs (word (span 41 w).0))))
+    (test_map (is_leaf (span 41 w).0) shape _ _
+    (both_shape (closed fs (word (span 41 w).0) (span 41 w).1) _ (closed_shape (span 41 w).1 fs (word (span 41 w).0))))
 
 -- ---- how many operations there are
 
@@ -131,8 +133,10 @@ leaves_of : (ws : List (List ℕ)) (fs : List Frame) → leaves_from (sides fs) 
 unfolding leaves_from tree_from
 leaves_of [] fs = refl
 leaves_of (w ∷ ws) fs =
-    ap (λ (s : Option (Option (List Side))). leaves_after s (operations_behind (room fs) w) ws (λ ss. leaves_from ss (operations_behind (room fs) w) ws)) (sym (step_shape fs w))
-    ∙ after_step (step_in fs w) (operations_behind (room fs) w) ws (leaves_of ws) (counts_some (operations_behind (room fs) w) (step_in fs w) (step_counts fs w))
+    ap (λ (s : Option (Option (List Side))). leaves_after s (operations_behind (room fs) w) ws (λ ss. leaves_from ss (operations_behind (room fs) w) ws))
+    (sym (step_shape fs w))
+    ∙ after_step (step_in fs w) (operations_behind (room fs) w) ws (leaves_of ws)
+    (counts_some (operations_behind (room fs) w) (step_in fs w) (step_counts fs w))
 
 pub leaves_are : (ws : List (List ℕ)) → leaves_from [] 0 ws ≡ option_map leaves (tree_in ws)
 leaves_are ws = leaves_of ws []
@@ -170,7 +174,8 @@ tree_room : (ws : List (List ℕ)) (fs : List Frame) (u : Tree) → tree_from fs
 unfolding tree_from
 tree_room [] fs u e = absurd cc
 tree_room (w ∷ ws) fs u e =
-    let more = after_room (step_in fs w) (operations_behind (room fs) w) ws u (λ gs. tree_room ws gs u) (counts_some (operations_behind (room fs) w) (step_in fs w) (step_counts fs w)) e in
+    let more = after_room (step_in fs w) (operations_behind (room fs) w) ws u (λ gs. tree_room ws gs u)
+    (counts_some (operations_behind (room fs) w) (step_in fs w) (step_counts fs w)) e in
     omega (arith, operations_more (room fs) w)
 
 -- the words begin with a tree behind which the expression goes on
@@ -218,7 +223,8 @@ second_resumes : (fs : List Frame) (o : Op) (l r : Tree) (cs : List ℕ) (ws : L
     → Closes fs (apply o l r) ws u
 unfolding closed
 second_resumes fs o l r [] ws u e = absurd cc
-second_resumes fs o l r (c ∷ cs) ws u e = record { brackets = cs; resumes = bracket_some (eqb c 41) (closed fs (apply o l r) cs) ws (λ gs. tree_from gs ws) u e }
+second_resumes fs o l r (c ∷ cs) ws u e =
+    record { brackets = cs; resumes = bracket_some (eqb c 41) (closed fs (apply o l r) cs) ws (λ gs. tree_from gs ws) u e }
 
 begins_leaf : (n : ℕ) (fs : List Frame) (w : List ℕ) (ws : List (List ℕ)) (u : Tree) → opens w ≡ false
     → tree_after (leaf_step fs (span 41 w)) ws (λ gs. tree_from gs ws) ≡ Some u → Begins (suc n) fs (w ∷ ws) u

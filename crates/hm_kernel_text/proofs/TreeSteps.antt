@@ -37,7 +37,9 @@ at_end (suc n) (b ∷ text) none = absurd (omega arith)
 
 -- one word
 at_word : (n : ℕ) (ws : Words) (w : List ℕ) (more : Words) → 0 < n → ws ≡ w ∷ more
-    → tree_at n ws ≡ cond (opens w) (option_and_then (λ o. option_and_then (λ l. option_and_then (λ r. Some (apply o l.0 r.0, r.1)) (tree_at (n - 1) l.1)) (tree_at (n - 1) more)) (op_in (drop 1 w))) (Some (word (span 41 w).0, more))
+    → tree_at n ws ≡ cond (opens w)
+    (option_and_then (λ o. option_and_then (λ l. option_and_then (λ r. Some (apply o l.0 r.0, r.1)) (tree_at (n - 1) l.1)) (tree_at (n - 1) more))
+    (op_in (drop 1 w))) (Some (word (span 41 w).0, more))
 unfolding tree_at
 at_word zero ws w more some is = absurd (omega arith)
 at_word (suc n) ws w more some is = let one : suc n - 1 ≡ n = omega arith in rw (is, one) refl
@@ -68,7 +70,8 @@ pub at_apply : (n : ℕ) (ws : Words) (w : List ℕ) (more : Words) (o : Op) (l 
     → opens w ≡ true → Some o ≡ op_in (take (length w - 1) (drop 1 w))
     → tree_at (n - 1) more ≡ Some (l, behind_left) → tree_at (n - 1) behind_left ≡ Some (r, behind_right)
     → read (Some (apply o l r, behind_right)) ≡ tree_at n ws
-at_apply n ws w more o l r behind_left behind_right some is opened op left right = sym (at_word n ws w more some is ∙ rw (opened, op_cut w (Some o) op, left, right) refl)
+at_apply n ws w more o l r behind_left behind_right some is opened op left right =
+    sym (at_word n ws w more some is ∙ rw (opened, op_cut w (Some o) op, left, right) refl)
 
 -- an expression of at most n words is read
 known : (n : ℕ) (ws : Words) (x : Option Tree) → tree_in ws ≡ x → IsSomeAnd x (λ t. leaves t ≤ n)

@@ -22,7 +22,8 @@ pub value_more : (limit v : ℕ) (front : List ℕ) (words : List (List ℕ)) (w
     → Some v ≡ number_below limit w → with_front front (values_in limit words) ≡ text
     → with_front (front ++ v ∷ []) (values_in limit ws) ≡ text
 unfolding values_in
-value_more limit v front words w ws text is one so_far = sym (ap (λ (u : List (List ℕ)). with_front front (values_in limit u)) is ∙ rw (← one) (regroup front v (values_in limit ws))) ∙ so_far
+value_more limit v front words w ws text is one so_far =
+    sym (ap (λ (u : List (List ℕ)). with_front front (values_in limit u)) is ∙ rw (← one) (regroup front v (values_in limit ws))) ∙ so_far
 
 either : (b : Bool) → nothing ≡ cond b nothing nothing
 either true = refl
@@ -39,4 +40,6 @@ value_none limit front words w ws text most n is none so_far =
 pub value_end : (limit : ℕ) (front : List ℕ) (words : List (List ℕ)) (text : Option (List ℕ)) (most n : ℕ) → words ≡ [] → n ≤ most
     → with_front front (values_in limit words) ≡ text → Some front ≡ cond (leb n most) text None
 unfolding values_in
-value_end limit front words text most n is le so_far = rw (le-leb n most le) (ap (λ (r : List ℕ). let o : Option (List ℕ) = Some r in o) (sym (append-nil front)) ∙ sym (ap (λ (u : List (List ℕ)). with_front front (values_in limit u)) is) ∙ so_far)
+value_end limit front words text most n is le so_far =
+    rw (le-leb n most le) (ap (λ (r : List ℕ). let o : Option (List ℕ) = Some r in o) (sym (append-nil front))
+    ∙ sym (ap (λ (u : List (List ℕ)). with_front front (values_in limit u)) is) ∙ so_far)

@@ -1,5 +1,6 @@
 -- The predicate word by word, and what the end of a beat leaves.
-use Rattle.std.proofs.Common.{◌≡◌, ◌≢◌, ℕ, ◌+◌, ◌*◌, ◌-◌, ◌%◌, ◌<◌, Bool, true, false, ◌&&◌, ◌||◌, not, eqb, ltb, cond, List, [], ◌∷◌, ◌++◌, arith, refl, ap, sym, ◌∙◌, subst}
+use Rattle.std.proofs.Common.{◌≡◌, ◌≢◌, ℕ, ◌+◌, ◌*◌, ◌-◌, ◌%◌, ◌<◌, Bool, true, false, ◌&&◌, ◌||◌, not, eqb, ltb, cond, List, [], ◌∷◌, ◌++◌, arith, refl, ap}
+use Rattle.std.proofs.Common.{sym, ◌∙◌, subst}
 use Rattle.hm_base.specs.Bits.{field}
 use Rattle.hm_base.specs.Place.{IsPlace, same_place, has_place}
 use Rattle.hm_base.specs.declared.Place.{Place}
@@ -54,7 +55,8 @@ others_stay (w ∷ ws) s q p i h =
     let off = neither (same_place w.place q) (has_place (places_of ws) q) h in
     others_stay ws (with_value w.place w.value s) q p.1 i off.1 ∙ value_at-others w.place w.value s p.0 q (differs w.place q off.0) i
 
-advance_placed : (x y : Bool) (p q : Place) (u v : ℕ) → IsPlace p → IsPlace q → Each IsPlace (places_of (cond x (write p u ∷ []) [] ++ cond y (write q v ∷ []) []))
+advance_placed : (x y : Bool) (p q : Place) (u v : ℕ) → IsPlace p → IsPlace q
+    → Each IsPlace (places_of (cond x (write p u ∷ []) [] ++ cond y (write q v ∷ []) []))
 advance_placed true true p q u v i j = (i, (j, tt))
 advance_placed true false p q u v i j = (i, tt)
 advance_placed false true p q u v i j = (j, tt)
@@ -67,7 +69,8 @@ mask_placed b = go (ltb b 2)
     go true = tt
     go false = tt
 
-advance_is : (x y : Bool) (p q : Place) (u v : ℕ) → places_of (cond x (write p u ∷ []) [] ++ cond y (write q v ∷ []) []) ≡ cond x (p ∷ []) [] ++ cond y (q ∷ []) []
+advance_is : (x y : Bool) (p q : Place) (u v : ℕ)
+    → places_of (cond x (write p u ∷ []) [] ++ cond y (write q v ∷ []) []) ≡ cond x (p ∷ []) [] ++ cond y (q ∷ []) []
 advance_is true true p q u v = refl
 advance_is true false p q u v = refl
 advance_is false true p q u v = refl
@@ -75,12 +78,16 @@ advance_is false false p q u v = refl
 
 -- the places that the advance writes
 pub places_of-advance_writes : (b : ℕ) (r : Regs) → places_of (advance_writes b r) ≡ advance_places b r
-places_of-advance_writes b r = advance_is (ltb 8 (mask_of b r)) (eqb (b % 2) 1 && not (eqb (mask_of b r) 0)) (P0 b) (mask_place b) (15 - value_at (P0 b) r) (2 * mask_of b r)
+places_of-advance_writes b r =
+    advance_is (ltb 8 (mask_of b r)) (eqb (b % 2) 1 && not (eqb (mask_of b r) 0)) (P0 b) (mask_place b) (15 - value_at (P0 b) r) (2 * mask_of b r)
 
 pub finish_others : (d b new : ℕ) (r : Regs) (q : Place) → d < 8 → b < 4 → IsPlace q → has_place (QWord (4 * d + b) ∷ advance_places b r) q ≡ false
     → value_at q (apply (finish_writes d b new r) r) ≡ value_at q r
 finish_others d b new r q low high i h =
     let word : IsPlace (QWord (4 * d + b)) = omega arith in
-    others_stay (finish_writes d b new r) r q
-    (word, advance_placed (ltb 8 (mask_of b r)) (eqb (b % 2) 1 && not (eqb (mask_of b r) 0)) (P0 b) (mask_place b) (15 - value_at (P0 b) r) (2 * mask_of b r) high (mask_placed b))
+    others_stay (finish_writes d b new r) r q (
+      word,
+      advance_placed (ltb 8 (mask_of b r)) (eqb (b % 2) 1 && not (eqb (mask_of b r) 0)) (P0 b) (mask_place b) (15 - value_at (P0 b) r) (2 * mask_of b r)
+          high (mask_placed b),
+    )
     i (ap (λ ps. has_place (QWord (4 * d + b) ∷ ps) q) (places_of-advance_writes b r) ∙ h)

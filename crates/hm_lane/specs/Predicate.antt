@@ -83,7 +83,8 @@ predicate_of s = map (byte_active s) (0 ∷ 1 ∷ 2 ∷ 3 ∷ 4 ∷ 5 ∷ 6 ∷ 
 -- WHAT THE END OF A BEAT WRITES
 -- word b of vector register d merged with new bytes, and then the advance
 abbrev pub finish_writes : ℕ → ℕ → ℕ → Regs → List Write
-finish_writes d b new s = write (QWord (4 * d + b)) (word_of (merged (active_word s b) (bytes_of (value_at (QWord (4 * d + b)) s)) (bytes_of new))) ∷ advance_writes b s
+finish_writes d b new s = write (QWord (4 * d + b)) (word_of (merged (active_word s b) (bytes_of (value_at (QWord (4 * d + b)) s)) (bytes_of new)))
+    ∷ advance_writes b s
 
 -- the places that the predicate of word b is read from, and those that the advance after it writes
 abbrev pub predicate_places : ℕ → Regs → List Place

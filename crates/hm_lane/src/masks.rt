@@ -5,7 +5,8 @@ ghost use Rattle.std.specs.Int.{bit_at};
 ghost use Rattle.hm_base.specs.Place.{IsPlace, range_of};
 ghost use Rattle.hm_regs.specs.Writes.{apply};
 ghost use Rattle.hm_lane.specs.Lanes.{bytes_of, word_of, merged};
-ghost use Rattle.hm_lane.specs.Predicate.{active_word, advance_writes, bits_of_word, finish_writes, in_tail, mask_bit, mask_place, predicate_of, truths_of, with_context};
+ghost use Rattle.hm_lane.specs.Predicate.{active_word, advance_writes, bits_of_word, finish_writes, in_tail, mask_bit, mask_place, predicate_of, truths_of};
+ghost use Rattle.hm_lane.specs.Predicate.{with_context};
 
 use crate::lanes::{bytes, word};
 use hm_base::{Place, bits};

@@ -1,5 +1,6 @@
 -- What may stand for a shift by more than a lane has bits.
-use Rattle.std.proofs.Common.{◌≡◌, ◌≤◌, ◌<◌, ◌-◌, ◌*◌, ◌%◌, ◌^◌, ℕ, zero, suc, ℤ, pos, negsuc, ◌≤ℤ◌, ◌<ℤ◌, ◌+ℤ◌, ◌-ℤ◌, ◌*ℤ◌, Bool, true, false, not, ◌&&◌, ◌||◌, cond, FitsSigned, w64, to_z, of_z, unsigned_abs, subst, arith, ap, refl, sym, ◌∙◌}
+use Rattle.std.proofs.Common.{◌≡◌, ◌≤◌, ◌<◌, ◌-◌, ◌*◌, ◌%◌, ◌^◌, ℕ, zero, suc, ℤ, pos, negsuc, ◌≤ℤ◌, ◌<ℤ◌, ◌+ℤ◌, ◌-ℤ◌, ◌*ℤ◌, Bool, true, false, not, ◌&&◌, ◌||◌}
+use Rattle.std.proofs.Common.{cond, FitsSigned, w64, to_z, of_z, unsigned_abs, subst, arith, ap, refl, sym, ◌∙◌}
 use Rattle.std.specs.Prelude.{int_lt}
 use Rattle.std.specs.Int.{int_div_euclid}
 use Rattle.std.proofs.Math.IntN.{neg_ℤ}
@@ -12,11 +13,13 @@ use Rattle.hm_lane.specs.declared.lanes.Size.{Size}
 use Rattle.hm_lane.specs.declared.lanes.Size.TheVariants.{Byte, Half, Word}
 use Rattle.hm_lane.specs.Lanes.{modulus}
 use Rattle.hm_lane_fns.specs.declared.functions.LaneFn.{LaneFn}
-use Rattle.hm_lane_fns.specs.LaneFns.{StandsFor, clamped, cut, exact, exact_lane, highest, is_outside, lowest, number, shift_count, shifted, shifted_rounded, takes_signed}
+use Rattle.hm_lane_fns.specs.LaneFns.{StandsFor, clamped, cut, exact, exact_lane, highest, is_outside, lowest, number, shift_count, shifted, shifted_rounded}
+use Rattle.hm_lane_fns.specs.LaneFns.{takes_signed}
 
 -- numbers above a range are outside it alike, and so are numbers below it
 both_above : (lo hi v w : ℤ) → lo ≤ℤ hi → hi <ℤ v → hi <ℤ w
-    → ((int_lt v lo || int_lt hi v) ≡ (int_lt w lo || int_lt hi w)) × (cond (int_lt v lo) lo (cond (int_lt hi v) hi v) ≡ cond (int_lt w lo) lo (cond (int_lt hi w) hi w))
+    → ((int_lt v lo || int_lt hi v) ≡ (int_lt w lo || int_lt hi w))
+    × (cond (int_lt v lo) lo (cond (int_lt hi v) hi v) ≡ cond (int_lt w lo) lo (cond (int_lt hi w) hi w))
 both_above lo hi v w l h k =
     let a : int_lt v lo ≡ false = grind (arith, ints) in
     let b : int_lt hi v ≡ true = grind (arith, ints) in
@@ -25,11 +28,15 @@ both_above lo hi v w l h k =
     ((λ j. a j || b j) ∙ sym (λ j. c j || d j), (λ j. cond (a j) lo (cond (b j) hi v)) ∙ sym (λ j. cond (c j) lo (cond (d j) hi w)))
 
 both_below : (lo hi v w : ℤ) → v <ℤ lo → w <ℤ lo
-    → ((int_lt v lo || int_lt hi v) ≡ (int_lt w lo || int_lt hi w)) × (cond (int_lt v lo) lo (cond (int_lt hi v) hi v) ≡ cond (int_lt w lo) lo (cond (int_lt hi w) hi w))
+    → ((int_lt v lo || int_lt hi v) ≡ (int_lt w lo || int_lt hi w))
+    × (cond (int_lt v lo) lo (cond (int_lt hi v) hi v) ≡ cond (int_lt w lo) lo (cond (int_lt hi w) hi w))
 both_below lo hi v w h k =
     let a : int_lt v lo ≡ true = grind (arith, ints) in
-    let c : int_lt w lo ≡ true = grind (arith, ints) in
-    ((λ j. a j || int_lt hi v) ∙ sym (λ j. c j || int_lt hi w), (λ j. cond (a j) lo (cond (int_lt hi v) hi v)) ∙ sym (λ j. cond (c j) lo (cond (int_lt hi w) hi w)))
+    let c : int_lt w lo ≡ true = grind (arith, ints) in (
+      (λ j. a j || int_lt hi v) ∙ sym (λ j. c j || int_lt hi w),
+      (λ j. cond (a j) lo (cond (int_lt hi v) hi v))
+          ∙ sym (λ j. cond (c j) lo (cond (int_lt hi w) hi w)),
+    )
 
 in_order : (u : Bool) (z : Size) → lowest u z ≤ℤ highest u z
 in_order true Byte = omega (arith, ints)
@@ -109,7 +116,8 @@ far a k h l =
 pub far_up : (v : ℤ) → pos 0 <ℤ v → (u : Bool) (z : Size) (k : ℕ) → 32 ≤ k → StandsFor u z (pos 4294967296) (v *ℤ pos (2 ^ k))
 far_up (pos a) l u z k h =
     let much : 4294967296 ≤ a * 2 ^ k = far a k h (omega (arith, ints)) in
-    stands_above u z (pos 4294967296) (pos (a * 2 ^ k)) (omega (arith, ints)) (omega (arith, ints)) (whole_cut z ∙ sym (cut_pos z (a * 2 ^ k) (no_bits z a k h)))
+    stands_above u z (pos 4294967296) (pos (a * 2 ^ k)) (omega (arith, ints)) (omega (arith, ints))
+    (whole_cut z ∙ sym (cut_pos z (a * 2 ^ k) (no_bits z a k h)))
 far_up (negsuc a) l u z k h = absurd (omega (arith, ints))
 
 negative : (m : ℕ) → 4294967296 ≤ m → neg_ℤ (pos m) ≤ℤ (pos 0 -ℤ pos 4294967296)
@@ -158,31 +166,37 @@ shift_up_rounded : (v s : ℤ) → int_lt s (pos 0) ≡ false → v *ℤ pos (2 
 shift_up_rounded v s e = sym (λ j. cond (e j) (int_div_euclid (v +ℤ pos (2 ^ (unsigned_abs s - 1))) (pos (2 ^ unsigned_abs s))) (v *ℤ pos (2 ^ unsigned_abs s)))
 
 -- a shift to the left by k of v, both of which were passed on
-up_passed : (u : Bool) (z : Size) (r v s x : ℤ) (k : ℕ) → FitsSigned w64 r → FitsSigned w64 v → FitsSigned w64 s → k ≡ unsigned_abs (to_z w64 (of_z w64 s)) → v *ℤ pos (2 ^ unsigned_abs s) ≡ x
+up_passed : (u : Bool) (z : Size) (r v s x : ℤ) (k : ℕ) → FitsSigned w64 r → FitsSigned w64 v → FitsSigned w64 s → k ≡ unsigned_abs (to_z w64 (of_z w64 s))
+    → v *ℤ pos (2 ^ unsigned_abs s) ≡ x
     → StandsFor u z r (to_z w64 (of_z w64 v) *ℤ pos (2 ^ k)) → StandsFor u z (to_z w64 (of_z w64 r)) x
 up_passed u z r v s x k fr fv fs e is h =
     let count : k ≡ unsigned_abs s = e ∙ ap unsigned_abs (to_z-of_z w64 s fs) in
     let value : to_z w64 (of_z w64 v) *ℤ pos (2 ^ k) ≡ v *ℤ pos (2 ^ unsigned_abs s) = λ j. to_z-of_z w64 v fv j *ℤ pos (2 ^ count j) in
     passed u z r x fr (subst (λ w. StandsFor u z r w) (value ∙ is) h)
 
-pub shifted_up : (u : Bool) (z : Size) (r v s : ℤ) (k : ℕ) → FitsSigned w64 r → FitsSigned w64 v → FitsSigned w64 s → k ≡ unsigned_abs (to_z w64 (of_z w64 s)) → int_lt s (pos 0) ≡ false
+pub shifted_up : (u : Bool) (z : Size) (r v s : ℤ) (k : ℕ) → FitsSigned w64 r → FitsSigned w64 v → FitsSigned w64 s → k ≡ unsigned_abs (to_z w64 (of_z w64 s))
+    → int_lt s (pos 0) ≡ false
     → StandsFor u z r (to_z w64 (of_z w64 v) *ℤ pos (2 ^ k)) → StandsFor u z (to_z w64 (of_z w64 r)) (shifted v s)
 shifted_up u z r v s k fr fv fs e up h = up_passed u z r v s (shifted v s) k fr fv fs e (shift_up v s up) h
 
-pub shifted_rounded_up : (u : Bool) (z : Size) (r v s : ℤ) (k : ℕ) → FitsSigned w64 r → FitsSigned w64 v → FitsSigned w64 s → k ≡ unsigned_abs (to_z w64 (of_z w64 s)) → int_lt s (pos 0) ≡ false
+pub shifted_rounded_up : (u : Bool) (z : Size) (r v s : ℤ) (k : ℕ) → FitsSigned w64 r → FitsSigned w64 v → FitsSigned w64 s
+    → k ≡ unsigned_abs (to_z w64 (of_z w64 s)) → int_lt s (pos 0) ≡ false
     → StandsFor u z r (to_z w64 (of_z w64 v) *ℤ pos (2 ^ k)) → StandsFor u z (to_z w64 (of_z w64 r)) (shifted_rounded v s)
 shifted_rounded_up u z r v s k fr fv fs e up h = up_passed u z r v s (shifted_rounded v s) k fr fv fs e (shift_up_rounded v s up) h
 
 -- a shift of a by the count in b, where a and the count s were passed on
-pub by_count : (shift : ℤ → ℤ → ℤ) (u : Bool) (z : Size) (r a b s : ℤ) → FitsSigned w64 r → FitsSigned w64 a → FitsSigned w64 b → FitsSigned w64 s → s ≡ shift_count (to_z w64 (of_z w64 b))
+pub by_count : (shift : ℤ → ℤ → ℤ) (u : Bool) (z : Size) (r a b s : ℤ) → FitsSigned w64 r → FitsSigned w64 a → FitsSigned w64 b → FitsSigned w64 s
+    → s ≡ shift_count (to_z w64 (of_z w64 b))
     → StandsFor u z r (shift (to_z w64 (of_z w64 a)) (to_z w64 (of_z w64 s))) → StandsFor u z (to_z w64 (of_z w64 r)) (shift a (shift_count b))
 by_count shift u z r a b s fr fa fb fs e h =
     let count : to_z w64 (of_z w64 s) ≡ shift_count b = to_z-of_z w64 s fs ∙ e ∙ ap shift_count (to_z-of_z w64 b fb) in
     passed u z r (shift a (shift_count b)) fr (subst (λ w. StandsFor u z r w) (λ j. shift (to_z-of_z w64 a fa j) (count j)) h)
 
 -- a function of numbers that were passed on
-pub of_numbers : (f : LaneFn) (u s : Bool) (z : Size) (r x y : ℤ) (c a b : ℕ) → FitsSigned w64 r → FitsSigned w64 x → FitsSigned w64 y → s ≡ (u && not (takes_signed f)) → x ≡ number s z a → y ≡ number s z b
-    → StandsFor u z r (exact f z (number s z c) (to_z w64 (of_z w64 x)) (to_z w64 (of_z w64 y))) → StandsFor u z (to_z w64 (of_z w64 r)) (exact_lane f u z c a b)
+pub of_numbers : (f : LaneFn) (u s : Bool) (z : Size) (r x y : ℤ) (c a b : ℕ) → FitsSigned w64 r → FitsSigned w64 x → FitsSigned w64 y
+    → s ≡ (u && not (takes_signed f)) → x ≡ number s z a → y ≡ number s z b
+    → StandsFor u z r (exact f z (number s z c) (to_z w64 (of_z w64 x)) (to_z w64 (of_z w64 y)))
+    → StandsFor u z (to_z w64 (of_z w64 r)) (exact_lane f u z c a b)
 of_numbers f u s z r x y c a b fr fx fy es ex ey h =
     let first : to_z w64 (of_z w64 x) ≡ number (u && not (takes_signed f)) z a = to_z-of_z w64 x fx ∙ ex ∙ ap (λ s. number s z a) es in
     let second : to_z w64 (of_z w64 y) ≡ number (u && not (takes_signed f)) z b = to_z-of_z w64 y fy ∙ ey ∙ ap (λ s. number s z b) es in

@@ -1,5 +1,6 @@
 -- Rows of a table: the fields of a struct at their places, and a base for each name.
-use Rattle.std.proofs.Common.{zero, suc, ◌-◌, ◌/◌, ◌%◌, ◌≡◌, ◌<◌, ◌+◌, ◌^◌, ℕ, Bool, true, ◌&&◌, nat_le, nat_lt, List, [], ◌∷◌, ◌++◌, map, arith, refl, sym, ◌∙◌, ap, subst, inl, inr}
+use Rattle.std.proofs.Common.{zero, suc, ◌-◌, ◌/◌, ◌%◌, ◌≡◌, ◌<◌, ◌+◌, ◌^◌, ℕ, Bool, true, ◌&&◌, nat_le, nat_lt, List, [], ◌∷◌, ◌++◌, map, arith, refl, sym}
+use Rattle.std.proofs.Common.{◌∙◌, ap, subst, inl, inr}
 use Rattle.std.proofs.lemmas.Bool.Decides.{nat_tests}
 use denote.Struct.Field as data_field
 use denote.Struct.Values.{Values}
@@ -10,7 +11,8 @@ use Rattle.hm_layout.proofs.Same.{same_below, same_struct}
 use Rattle.hm_isa.specs.declared.fields.Below.{Below}
 use Rattle.hm_layout.proofs.Bits.{Matches, bits_of, bits_of_lem, both_left, both_right}
 use Rattle.hm_layout.proofs.Search.{Decided, Tried, try_below, try_unit, try_pair, try_names, try_struct}
-use Rattle.hm_layout.proofs.Places.{Place, place, Fits, placed, are_disjoint, fills, are_clear, fills_lem, digits, digits_lem, pieces, total_width, pieces_fit, pieces_one, cut, cut_digits, head_or, fits_both}
+use Rattle.hm_layout.proofs.Places.{Place, place, Fits, placed, are_disjoint, fills, are_clear, fills_lem, digits, digits_lem, pieces, total_width, pieces_fit}
+use Rattle.hm_layout.proofs.Places.{pieces_one, cut, cut_digits, head_or, fits_both}
 use Rattle.hm_layout.proofs.Coded.{Digit, digit, Spared, Kind, Has, Member, member_map, pairwise, one_name, Coded}
 
 -- how the values of a field's type stand in a code: a number below a limit, from its lowest bits up

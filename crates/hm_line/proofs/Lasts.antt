@@ -22,7 +22,8 @@ none_last rest none h ([], t, after, are, is, end) = differs (next rest) (t, aft
 none_last rest none h (u ∷ ts, t, after, are, is, end) = differs (next rest) (u, are.0) none are.1
 
 -- what stands behind the next token
-behind_next : (rest here after : List ℕ) (t : Tok) → here ≡ skip rest → token_at here ≡ Some (t, after) → (u : Spaced) (other : List ℕ) → next rest ≡ Some (u, other) → other ≡ after
+behind_next : (rest here after : List ℕ) (t : Tok) → here ≡ skip rest → token_at here ≡ Some (t, after) → (u : Spaced) (other : List ℕ)
+    → next rest ≡ Some (u, other) → other ≡ after
 behind_next rest here after t is e u other f =
     let mine : next rest ≡ Some ((is_spaced rest, kind t), after) = rw (ap token_at (sym is) ∙ e) refl in
     ap (λ (p : Spaced × List ℕ). p.1) (some_is (u, other) ((is_spaced rest, kind t), after) (sym f ∙ mine))
@@ -36,14 +37,16 @@ empty_text [] e = refl
 empty_text (b ∷ bs) e = absurd (omega arith)
 
 -- the next token is the last one, where nothing is left behind it
-pub last_here : (rest here after : List ℕ) (t : Tok) → here ≡ skip rest → token_at here ≡ Some (t, after) → length (skip after) ≡ 0 → (h : List ℕ) → IsLast rest h → here ≡ skip h
+pub last_here : (rest here after : List ℕ) (t : Tok) → here ≡ skip rest → token_at here ≡ Some (t, after) → length (skip after) ≡ 0 → (h : List ℕ)
+    → IsLast rest h → here ≡ skip h
 last_here rest here after t is e end h ([], u, other, are, next_is, left) = is ∙ ap skip are
 last_here rest here after t is e end h (v ∷ ts, u, other, are, next_is, left) =
     let same = behind_next rest here after t is e v are.0 are.1 in
     absurd (none_last are.0 (ended are.0 (ap skip same ∙ empty_text (skip after) end)) h (ts, u, other, are.2, next_is, left))
 
 -- and else the last one stands behind it
-pub last_behind : (rest here after : List ℕ) (t : Tok) → here ≡ skip rest → token_at here ≡ Some (t, after) → 0 < length (skip after) → (h : List ℕ) → IsLast rest h → IsLast after h
+pub last_behind : (rest here after : List ℕ) (t : Tok) → here ≡ skip rest → token_at here ≡ Some (t, after) → 0 < length (skip after) → (h : List ℕ)
+    → IsLast rest h → IsLast after h
 last_behind rest here after t is e some h ([], u, other, are, next_is, left) =
     let same = behind_next rest here after t is e u other (subst (λ (x : List ℕ). next x ≡ Some (u, other)) (sym are) next_is) in
     let none : length (skip after) ≡ 0 = ap (λ (x : List ℕ). length (skip x)) (sym same) ∙ ap length left in

@@ -38,7 +38,8 @@ operands_accepted : (form : Form) (ts : List Spaced) (n : Operands) → accepts 
 operands_accepted form [] n = refl
 operands_accepted form (t ∷ ts) n = mapped form ts (operand_step n t.1) (λ m. operands_accepted form ts m)
 
-begun : (form : Form) (k : Kind) (ts : List Spaced) → after (option_map states.Operands (first_operand Outside k)) (λ n. accepts form n ts) ≡ takes (ops.Operand Outside) (k ∷ kinds ts)
+begun : (form : Form) (k : Kind) (ts : List Spaced)
+    → after (option_map states.Operands (first_operand Outside k)) (λ n. accepts form n ts) ≡ takes (ops.Operand Outside) (k ∷ kinds ts)
 begun form k ts = mapped form ts (first_operand Outside k) (λ n. operands_accepted form ts n)
 
 -- ---- what is accepted is of the form
@@ -108,7 +109,8 @@ complete forms.Line ts x =
 
 -- ---- tokens one behind another
 
-one_more : (form : Form) (s next last : State) (t : Spaced) (ts : List Spaced) → line_step form s t.0 t.1 ≡ Some next → run form next ts ≡ Some last → run form s (t ∷ ts) ≡ Some last
+one_more : (form : Form) (s next last : State) (t : Spaced) (ts : List Spaced) → line_step form s t.0 t.1 ≡ Some next → run form next ts ≡ Some last
+    → run form s (t ∷ ts) ≡ Some last
 one_more form s next last t ts e f = rw e f
 
 join : (form : Form) (ts : List Spaced) (s n : State) (more : List Spaced) → run form s ts ≡ Some n → accepts form s (ts ++ more) ≡ accepts form n more
@@ -169,7 +171,10 @@ pub begins_run : (form : Form) (ts : List Spaced) → Begins form ts → (n : St
 begins_run form ts x = split form ts states.Start x.0 (complete form (ts ++ x.0) x.1)
 
 pub run_begins : (form : Form) (ts : List Spaced) (n : State) → run form states.Start ts ≡ Some n → Begins form ts
-run_begins form ts n e = (state_completion n, start_accepted form (ts ++ state_completion n) (join form ts states.Start n (state_completion n) e ∙ state_completed form n))
+run_begins form ts n e = (
+  state_completion n,
+  start_accepted form (ts ++ state_completion n) (join form ts states.Start n (state_completion n) e ∙ state_completed form n),
+)
 
 pub is_form : (form : Form) (ts : List Spaced) (n : State) → run form states.Start ts ≡ Some n → is_line_end form n ≡ true → IsForm form ts
 is_form form ts n e end =

@@ -39,19 +39,22 @@ no_more_passed (suc j) inside rest here there lt is e ([], are, p) = p
 no_more_passed (suc j) inside rest here there lt is e (u ∷ ts, are, p) = differs (next rest) (u, are.0) (nothing_at rest here is e) are.1
 
 -- a token, and what is left behind it
-pub then_passed : (n left : ℕ) (inside : Bool) (rest here after there : List ℕ) (t : Tok) → 0 < n → left ≡ cond (is_between inside (kind t)) (n - 1) n → here ≡ skip rest → token_at here ≡ Some (t, after)
+pub then_passed : (n left : ℕ) (inside : Bool) (rest here after there : List ℕ) (t : Tok) → 0 < n → left ≡ cond (is_between inside (kind t)) (n - 1) n
+    → here ≡ skip rest → token_at here ≡ Some (t, after)
     → Passes n inside rest there → Passes left (is_inside inside (kind t)) after there
 then_passed zero left inside rest here after there t lt e is f p = absurd (omega arith)
 then_passed (suc j) left inside rest here after there t lt e is f ([], are, p) = absurd p
 then_passed (suc j) left inside rest here after there t lt e is f (u ∷ ts, are, p) =
     let same = some_is (u, are.0) ((is_spaced rest, kind t), after) (sym are.1 ∙ next_at rest here after t is f) in
-    let mine = subst (λ (x : Spaced). ArePassed (cond (is_between inside x.1) j (suc j)) (is_inside inside x.1) (kinds ts)) (ap (λ (x : Spaced × List ℕ). x.0) same) p in (
+    let mine = subst (λ (x : Spaced). ArePassed (cond (is_between inside x.1) j (suc j)) (is_inside inside x.1) (kinds ts))
+    (ap (λ (x : Spaced × List ℕ). x.0) same) p in (
       ts,
       subst (λ (x : List ℕ). AreTokens x ts there) (ap (λ (x : Spaced × List ℕ). x.1) same) are.2,
       subst (λ (m : ℕ). ArePassed m (is_inside inside (kind t)) (kinds ts)) (left_is (is_between inside (kind t)) j left e) mine,
     )
 
-pub before_passed : (n left : ℕ) (inside : Bool) (rest here after there : List ℕ) (t : Tok) → 0 < n → left ≡ cond (is_between inside (kind t)) (n - 1) n → here ≡ skip rest → token_at here ≡ Some (t, after)
+pub before_passed : (n left : ℕ) (inside : Bool) (rest here after there : List ℕ) (t : Tok) → 0 < n → left ≡ cond (is_between inside (kind t)) (n - 1) n
+    → here ≡ skip rest → token_at here ≡ Some (t, after)
     → Passes left (is_inside inside (kind t)) after there → Passes n inside rest there
 before_passed zero left inside rest here after there t lt e is f p = absurd (omega arith)
 before_passed (suc j) left inside rest here after there t lt e is f p = (
@@ -61,12 +64,14 @@ before_passed (suc j) left inside rest here after there t lt e is f p = (
 )
 
 -- the mnemonic
-pub operand_passes : (text here behind there : List ℕ) (n : ℕ) (t : Tok) → here ≡ skip text → token_at here ≡ Some (t, behind) → IsOperand text n there → Passes n false behind there
+pub operand_passes : (text here behind there : List ℕ) (n : ℕ) (t : Tok) → here ≡ skip text → token_at here ≡ Some (t, behind) → IsOperand text n there
+    → Passes n false behind there
 operand_passes text here behind there n t is e o =
     let same = some_is (o.0, o.2.0) ((is_spaced text, kind t), behind) (sym o.2.1 ∙ next_at text here behind t is e) in
     (o.1, subst (λ (x : List ℕ). AreTokens x o.1 there) (ap (λ (x : Spaced × List ℕ). x.1) same) o.2.2, o.3)
 
-pub passes_operand : (text here behind there : List ℕ) (n : ℕ) (t : Tok) → here ≡ skip text → token_at here ≡ Some (t, behind) → Passes n false behind there → IsOperand text n there
+pub passes_operand : (text here behind there : List ℕ) (n : ℕ) (t : Tok) → here ≡ skip text → token_at here ≡ Some (t, behind) → Passes n false behind there
+    → IsOperand text n there
 passes_operand text here behind there n t is e p = ((is_spaced text, kind t), p.0, (behind, next_at text here behind t is e, p.1), p.2)
 
 pub no_operand : (text here there : List ℕ) (n : ℕ) → here ≡ skip text → token_at here ≡ None → IsOperand text n there → ⊥

@@ -7,8 +7,10 @@ use Rattle.hm_line.specs.declared.form.Depth.TheVariants.{Outside, Inside}
 use Rattle.hm_line.specs.declared.form.Operands.{Operands}
 use Rattle.hm_line.specs.declared.form.Operands.TheVariants as ops
 use Rattle.hm_line.specs.Kinds.{Kind, word, number, mark}
-use Rattle.hm_line.specs.Forms.{Plain, single, written_back, shift, lane, immediate, literal, sum, Item, one, range, Operand, simple, address, list, optional, plain, item, operand, behind_commas}
-use Rattle.hm_line.specs.Steps.{first_operand, behind_operand, behind_word, behind_hash, behind_address, behind_item, behind_item_word, operand_step, is_operand_end}
+use Rattle.hm_line.specs.Forms.{Plain, single, written_back, shift, lane, immediate, literal, sum, Item, one, range, Operand, simple, address, list, optional}
+use Rattle.hm_line.specs.Forms.{plain, item, operand, behind_commas}
+use Rattle.hm_line.specs.Steps.{first_operand, behind_operand, behind_word, behind_hash, behind_address, behind_item, behind_item_word, operand_step}
+use Rattle.hm_line.specs.Steps.{is_operand_end}
 
 abbrev pub after : {A : Type 0} → Option A → (A → Bool) → Bool
 after None holds = false
@@ -67,7 +69,8 @@ as_operand : (d : Depth) (ks : List Kind) → FromPlain d ks → FromOperand d k
 as_operand Outside ks f = (simple f.0, f.1, f.2, f.3)
 as_operand Inside ks f = f
 
-joined : {A : Type 0} (tokens : A → List Kind) (x : A) (xs : List A) (ks rest behind : List Kind) → ks ≡ tokens x ++ rest → rest ≡ behind_commas tokens xs ++ behind → mark Comma ∷ ks ≡ behind_commas tokens (x ∷ xs) ++ behind
+joined : {A : Type 0} (tokens : A → List Kind) (x : A) (xs : List A) (ks rest behind : List Kind) → ks ≡ tokens x ++ rest
+    → rest ≡ behind_commas tokens xs ++ behind → mark Comma ∷ ks ≡ behind_commas tokens (x ∷ xs) ++ behind
 joined tokens x xs ks rest behind e f =
     ap (λ (r : List Kind). mark Comma ∷ r) (e ∙ ap (λ (r : List Kind). tokens x ++ r) f ∙ sym (append_assoc (tokens x) (behind_commas tokens xs) behind))
 
@@ -105,15 +108,19 @@ item_word_behind : (k : Kind) (ks : List Kind) → Sound ks → after (behind_it
 item_word_behind (mark Minus) ks h e = let r = h ops.ListTo e in (range, r.0, ap (λ (x : List Kind). word ∷ mark Minus ∷ x) r.1, r.2)
 item_word_behind k ks h e = (one, k ∷ ks, refl, item_behind k ks h e)
 
-around : (first last : Kind) (a b c d ks rest behind : List Kind) → ks ≡ a ++ rest → rest ≡ b ++ last ∷ behind → behind ≡ c ++ d → first ∷ ks ≡ (first ∷ (a ++ (b ++ last ∷ c))) ++ d
+around : (first last : Kind) (a b c d ks rest behind : List Kind) → ks ≡ a ++ rest → rest ≡ b ++ last ∷ behind → behind ≡ c ++ d
+    → first ∷ ks ≡ (first ∷ (a ++ (b ++ last ∷ c))) ++ d
 around first last a b c d ks rest behind e f g =
-    ap (λ (x : List Kind). first ∷ x) (e ∙ ap (λ (x : List Kind). a ++ x) (f ∙ ap (λ (x : List Kind). b ++ last ∷ x) g ∙ sym (append_assoc b (last ∷ c) d)) ∙ sym (append_assoc a (b ++ last ∷ c) d))
+    ap (λ (x : List Kind). first ∷ x)
+    (e ∙ ap (λ (x : List Kind). a ++ x) (f ∙ ap (λ (x : List Kind). b ++ last ∷ x) g ∙ sym (append_assoc b (last ∷ c) d))
+    ∙ sym (append_assoc a (b ++ last ∷ c) d))
 
 address_made : (ks : List Kind) → FromPlain Inside ks → FromOperand Outside (mark OpenBracket ∷ ks)
 address_made ks f = (
   address f.0 f.3.0 f.3.3.0,
   behind_commas operand f.3.3.1,
-  around (mark OpenBracket) (mark CloseBracket) (plain f.0) (behind_commas plain f.3.0) (optional f.3.3.0 (mark Bang)) (behind_commas operand f.3.3.1) ks f.1 f.3.1 f.2 f.3.2 f.3.3.2,
+  around (mark OpenBracket) (mark CloseBracket) (plain f.0) (behind_commas plain f.3.0) (optional f.3.3.0 (mark Bang)) (behind_commas operand f.3.3.1) ks f.1
+      f.3.1 f.2 f.3.2 f.3.3.2,
   (f.3.3.1, refl),
 )
 
@@ -159,7 +166,8 @@ taken : (ks : List Kind) (s : Operands) → takes s ks ≡ true → Follows s ks
 taken [] s e = ended s e
 taken (k ∷ ks) s e = stepped s k ks (λ t f. taken ks t f) e
 
-pub operands_taken : (ks : List Kind) → takes (ops.Operand Outside) ks ≡ true → (x : Operand) × (os : List Operand) × (ks ≡ operand x ++ behind_commas operand os)
+pub operands_taken : (ks : List Kind) → takes (ops.Operand Outside) ks ≡ true
+    → (x : Operand) × (os : List Operand) × (ks ≡ operand x ++ behind_commas operand os)
 operands_taken ks e = let f = taken ks (ops.Operand Outside) e in (f.0, f.3.0, f.2 ∙ ap (λ (r : List Kind). operand f.0 ++ r) f.3.1)
 
 -- ---- what is of the form is taken
@@ -194,7 +202,8 @@ plain_read (literal true) d rest e = e
 plain_read (literal false) d rest e = e
 plain_read sum d rest e = e
 
-plains_read : (ps : List Plain) (rest : List Kind) → takes ops.Address rest ≡ true → takes (ops.Done Inside) (behind_commas plain ps ++ mark CloseBracket ∷ rest) ≡ true
+plains_read : (ps : List Plain) (rest : List Kind) → takes ops.Address rest ≡ true
+    → takes (ops.Done Inside) (behind_commas plain ps ++ mark CloseBracket ∷ rest) ≡ true
 plains_read [] rest e = e
 plains_read (p ∷ ps) rest e =
     subst (λ (x : List Kind). takes (ops.Operand Inside) x ≡ true) (sym (append_assoc (plain p) (behind_commas plain ps) (mark CloseBracket ∷ rest)))
@@ -204,7 +213,8 @@ item_read : (i : Item) (rest : List Kind) → takes ops.ListDone rest ≡ true �
 item_read one rest e = item_done rest e
 item_read range rest e = e
 
-items_read : (is : List Item) (rest : List Kind) → takes (ops.Done Outside) rest ≡ true → takes ops.ListDone (behind_commas item is ++ mark CloseBrace ∷ rest) ≡ true
+items_read : (is : List Item) (rest : List Kind) → takes (ops.Done Outside) rest ≡ true
+    → takes ops.ListDone (behind_commas item is ++ mark CloseBrace ∷ rest) ≡ true
 items_read [] rest e = e
 items_read (i ∷ is) rest e =
     subst (λ (x : List Kind). takes ops.List x ≡ true) (sym (append_assoc (item i) (behind_commas item is) (mark CloseBrace ∷ rest)))
@@ -220,8 +230,10 @@ back_read false rest e = address_done rest e
 operand_read : (x : Operand) (rest : List Kind) → takes (ops.Done Outside) rest ≡ true → takes (ops.Operand Outside) (operand x ++ rest) ≡ true
 operand_read (simple p) rest e = plain_read p Outside rest e
 operand_read (address p ps back) rest e =
-    subst (λ (x : List Kind). takes (ops.Operand Inside) x ≡ true) (sym (opened (mark CloseBracket) (plain p) (behind_commas plain ps) (optional back (mark Bang)) rest))
-    (plain_read p Inside (behind_commas plain ps ++ mark CloseBracket ∷ (optional back (mark Bang) ++ rest)) (plains_read ps (optional back (mark Bang) ++ rest) (back_read back rest e)))
+    subst (λ (x : List Kind). takes (ops.Operand Inside) x ≡ true)
+    (sym (opened (mark CloseBracket) (plain p) (behind_commas plain ps) (optional back (mark Bang)) rest))
+    (plain_read p Inside (behind_commas plain ps ++ mark CloseBracket ∷ (optional back (mark Bang) ++ rest))
+    (plains_read ps (optional back (mark Bang) ++ rest) (back_read back rest e)))
 operand_read (list i is) rest e =
     subst (λ (x : List Kind). takes ops.List x ≡ true) (sym (opened (mark CloseBrace) (item i) (behind_commas item is) [] rest))
     (item_read i (behind_commas item is ++ mark CloseBrace ∷ rest) (items_read is rest e))

@@ -2,7 +2,8 @@
 
 ghost use Rattle.std.specs.Prelude.{◌≡◌, if◌then◌else◌};
 ghost use Rattle.hm_line.specs.Kinds.{kind};
-ghost use Rattle.hm_line.specs.Steps.{behind_address, behind_first, behind_hash, behind_item, behind_item_word, behind_lane, behind_mnemonic, behind_operand, behind_word, first_operand, is_line_end, is_number, is_word, line_step, operand_step};
+ghost use Rattle.hm_line.specs.Steps.{behind_address, behind_first, behind_hash, behind_item, behind_item_word, behind_lane, behind_mnemonic, behind_operand};
+ghost use Rattle.hm_line.specs.Steps.{behind_word, first_operand, is_line_end, is_number, is_word, line_step, operand_step};
 ghost use Rattle.hm_tokens.specs.Tokens.{tok};
 
 use hm_tokens::{Mark, Token};

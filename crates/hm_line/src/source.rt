@@ -92,7 +92,8 @@ pub fn read_line(line: &[u8]) -> Result<SourceLine<'_>, u32>
     ensures refused { (c : ℕ) → (IsLineRefused line.now c ↔ (result ≡ Err c)) }
     ensures label { IfOk result (λ l. option_map (λ n. n.now) l.label ≡ option_map (λ x. x.0) (label_of (before_comment line.now))) }
     ensures instruction { IfOk result (λ l. l.instruction.now ≡ instruction_of (before_comment line.now)) }
-    ensures columns { IfOk result (λ l. (l.label_column ≡ column (before_comment line.now) (skip (before_comment line.now))) × (l.column ≡ column (before_comment line.now) l.instruction.now)) }
+    ensures columns { IfOk result (λ l. (l.label_column ≡ column (before_comment line.now) (skip (before_comment line.now)))
+        × (l.column ≡ column (before_comment line.now) l.instruction.now)) }
 {
     let (text, _comment) = span(b'@', line);
     match label_of(text) {

@@ -21,7 +21,8 @@ one_list flash a hi [] (e ∷ es) x y = absurd (let less : a < hi = y.0 in omega
 one_list flash a hi (d ∷ ds) [] x y = absurd (let less : a < hi = x.0 in omega (arith, y, less))
 one_list flash a hi (d ∷ ds) (e ∷ es) x y =
     let same : d ≡ e = one_entry flash a hi d e x.1 y.1 in
-    let rest : AreEntries flash (a + 2 * length (halves_of d)) hi es = subst (λ (k : Entry). AreEntries flash (a + 2 * length (halves_of k)) hi es) (sym same) y.2 in
+    let rest : AreEntries flash (a + 2 * length (halves_of d)) hi es =
+    subst (λ (k : Entry). AreEntries flash (a + 2 * length (halves_of k)) hi es) (sym same) y.2 in
     ap (λ (k : List Entry). d ∷ k) (one_list flash (a + 2 * length (halves_of d)) hi ds es x.2 rest) ∙ ap (λ (k : Entry). k ∷ es) same
 
 pub one_listing : (flash : ℕ → ℕ) (lo hi : ℕ) (x y : List ℕ) → IsListed flash lo hi x → IsListed flash lo hi y → x ≡ y
@@ -33,5 +34,6 @@ own_line flash lo hi i stands is =
     let some : 1 ≤ length (halfwords i) = some_half i in
     (shown i ∷ [], (omega (arith, is, some), (stands, omega (arith, is)), sym is), sym (append-nil (entry_line lo (shown i))))
 
-pub own_is : (flash : ℕ → ℕ) (lo hi : ℕ) (i : Instr) (x : List ℕ) → Stands flash lo i → hi ≡ lo + width_of i → IsListed flash lo hi x → x ≡ entry_line lo (shown i)
+pub own_is : (flash : ℕ → ℕ) (lo hi : ℕ) (i : Instr) (x : List ℕ) → Stands flash lo i → hi ≡ lo + width_of i → IsListed flash lo hi x
+    → x ≡ entry_line lo (shown i)
 own_is flash lo hi i x stands is listed = one_listing flash lo hi x (entry_line lo (shown i)) listed (own_line flash lo hi i stands is)

@@ -60,7 +60,8 @@ fn add_line(out: &mut Vec<u8>, m: &Mem, at: u32, hi: u32) -> Result<u32, OutOfMe
     requires even { (at % 2 ≡ 0) × (hi % 2 ≡ 0) }
     requires before { at < hi }
     requires within { hi ≤ flash_size }
-    ensures added { IfOk result (λ next. (e : Entry) × IsEntry (flash_at (memory_of m.now)) at hi e × (out.new.items ≡ out.old.items ++ entry_line at e) × (next ≡ at + 2 * length (halves_of e))) }
+    ensures added { IfOk result (λ next. (e : Entry) × IsEntry (flash_at (memory_of m.now)) at hi e × (out.new.items ≡ out.old.items ++ entry_line at e)
+        × (next ≡ at + 2 * length (halves_of e))) }
     ensures goes_on { IfOk result (λ next. (at < next) × (next ≤ hi) × (next % 2 ≡ 0)) }
 {
     match whole_at(m, at, hi) {

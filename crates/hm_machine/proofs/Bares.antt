@@ -1,5 +1,6 @@
 -- Machines to which ticks are given one by one.
-use Rattle.std.proofs.Common.{◌≡◌, ℕ, suc, ◌<◌, ◌≤◌, arith, ap, refl, sym, ◌∙◌, subst, Bool, cond, true, false, List, [], ◌∷◌, ◌++◌, drop, length, map, Option, Some, None, Ok, Err, inl, inr}
+use Rattle.std.proofs.Common.{◌≡◌, ℕ, suc, ◌<◌, ◌≤◌, arith, ap, refl, sym, ◌∙◌, subst, Bool, cond, true, false, List, [], ◌∷◌, ◌++◌, drop, length, map, Option}
+use Rattle.std.proofs.Common.{Some, None, Ok, Err, inl, inr}
 use Rattle.std.proofs.Math.Seq.{drop-append_seam}
 use Rattle.std.specs.Option.{is_some}
 use Rattle.hm_base.specs.Image.{Segment, flash_byte}
@@ -63,15 +64,18 @@ no_acts (x ∷ xs) h = absurd cc
 pub still_none : (listing : Listing) (line : TickLine) (old : Shown) (acts : List Activation) → IsBare old
     → map stacked_of (map interrupted_of acts) ≡ (tick (bare_program listing) line (timed_of old)).acts → acts ≡ []
 still_none listing line old acts is h =
-    no_acts acts (h ∙ tick_acts (bare_program listing) line (timed_of old) old.outcome (ap (λ (a : List Activation). map stacked_of (map interrupted_of a)) is.acts))
+    no_acts acts (h ∙ tick_acts (bare_program listing) line (timed_of old) old.outcome
+    (ap (λ (a : List Activation). map stacked_of (map interrupted_of a)) is.acts))
 
 -- after one more tick
 after_more : (M : Program) (given : List TickLine) (line : TickLine) (x : Timed) → after_ticks M (given ++ line ∷ []) x ≡ tick M line (after_ticks M given x)
 after_more M [] line x = refl
 after_more M (g ∷ gs) line x = after_more M gs line (tick M g x)
 
-pub given_more : (image : List Segment) (given : List TickLine) (line : TickLine) (old new : Shown) → ShowsGiven image given old → flash_at new.memory ≡ flash_at old.memory
-    → ((listing : Listing) → IsListing (flash_at old.memory) listing → timed_of new ≡ tick (bare_program listing) line (timed_of old)) → ShowsGiven image (given ++ line ∷ []) new
+pub given_more : (image : List Segment) (given : List TickLine) (line : TickLine) (old new : Shown) → ShowsGiven image given old
+    → flash_at new.memory ≡ flash_at old.memory
+    → ((listing : Listing) → IsListing (flash_at old.memory) listing → timed_of new ≡ tick (bare_program listing) line (timed_of old))
+    → ShowsGiven image (given ++ line ∷ []) new
 given_more image given line old new h flash next = record {
   bytes = flash ∙ h.bytes;
   now = λ listing is.
@@ -80,7 +84,8 @@ given_more image given line old new h flash next = record {
 }
 
 -- THE START: a machine under a schedule without ticks, but for its outcome
-pub first_given : (image : List Segment) (m : Shown) → Shows image (bare []) 0 m → (o : Shown) → o ≡ record m { outcome = None; left = [] } → ShowsGiven image [] o
+pub first_given : (image : List Segment) (m : Shown) → Shows image (bare []) 0 m → (o : Shown) → o ≡ record m { outcome = None; left = [] }
+    → ShowsGiven image [] o
 first_given image m h o is = record {
   bytes = ap (λ (x : Shown). flash_at x.memory) is ∙ h.bytes;
   now = λ listing listed. ap timed_of is ∙ ap (λ (r : Run). record (shown r) { outcome = None }) (h.now listing listed);
@@ -159,7 +164,8 @@ module _ (listing : Listing) (image : List Segment) (given : List TickLine) (lin
   shown_so_far = run_quiet listing image s t refl ∙ timed_so_far
 
   none_so_far : so_far.machine.acts ≡ []
-  none_so_far = none_stacked so_far.machine.acts (ap (λ (x : Timed). x.acts) shown_so_far ∙ ap (λ (a : List Activation). map stacked_of (map interrupted_of a)) acts)
+  none_so_far = none_stacked so_far.machine.acts
+      (ap (λ (x : Timed). x.acts) shown_so_far ∙ ap (λ (a : List Activation). map stacked_of (map interrupted_of a)) acts)
 
   same_so_far : run_with None (run_of m []).machine m.ticks so_far.entries ≡ so_far
   same_so_far = λ j. record {
@@ -189,7 +195,8 @@ module _ (listing : Listing) (image : List Segment) (given : List TickLine) (lin
       ap shown ticked_is ∙ run_quiet listing image s (suc t) refl
       ∙ (λ j. next_timed (bare_program listing) (left j) (timed_so_far j)) ∙ sym (same_tick (bare_program listing) line (timed_of m) m.outcome)
 
-  pub given_on : (o : Option Outcome) (x : Nested) (k : ℕ) → run_with o x k ticked.entries ≡ ticked → shown (run_with o x k []) ≡ tick (bare_program listing) line (timed_of m)
+  pub given_on : (o : Option Outcome) (x : Nested) (k : ℕ) → run_with o x k ticked.entries ≡ ticked
+      → shown (run_with o x k []) ≡ tick (bare_program listing) line (timed_of m)
   given_on o x k e = ap shown e ∙ shown_ticked
 
 -- and one of a machine that has ended

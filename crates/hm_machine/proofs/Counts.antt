@@ -1,6 +1,7 @@
 -- How many ticks a run begins.
 use Rattle.hm_run.specs.Timed.{bounds_of}
-use Rattle.std.proofs.Common.{◌≡◌, ◌⊎◌, inl, inr, ℕ, zero, suc, ◌+◌, ◌≤◌, ◌<◌, arith, ap, refl, sym, ◌∙◌, subst, Bool, true, false, cond, List, [], ◌∷◌, drop, length, length-drop, ⊎_elim, Option, Some, None, Result, Ok, Err, add-zero, add-suc}
+use Rattle.std.proofs.Common.{◌≡◌, ◌⊎◌, inl, inr, ℕ, zero, suc, ◌+◌, ◌≤◌, ◌<◌, arith, ap, refl, sym, ◌∙◌, subst, Bool, true, false, cond, List, [], ◌∷◌, drop}
+use Rattle.std.proofs.Common.{length, length-drop, ⊎_elim, Option, Some, None, Result, Ok, Err, add-zero, add-suc}
 use Rattle.std.proofs.lemmas.Bool.{cases_lt}
 use Rattle.std.specs.Prelude.{IsSome}
 use Rattle.hm_base.specs.Image.{Segment, flash_byte}
@@ -41,7 +42,8 @@ ended_count : (s : Sched) (line : TickLine) (x : Run) (r : Result Nested TickEnd
 ended_count s line x (Ok m) =
     let y : Run = record { outcome = None; machine = m; ticks = x.ticks + 1; entries = x.entries } in
     let z = after_count line y in
-    either_count (may_end m.config.a m.config.b) _ _ (x.ticks + 1) (either_count s.entries (enters s (picks z) z) z (x.ticks + 1) (enters_count s (picks z) z) refl) refl
+    either_count (may_end m.config.a m.config.b) _ _ (x.ticks + 1)
+    (either_count s.entries (enters s (picks z) z) z (x.ticks + 1) (enters_count s (picks z) z) refl) refl
 ended_count s line x (Err e) = stops_count (x.ticks + 1) e.step e.younger e.end x.entries
 
 closed_count : (left : List TickLine) (x : Run) → (closed left x).ticks ≡ x.ticks
@@ -76,7 +78,8 @@ module _ (listing : Listing) (image : List Segment) (s : Sched) where
       let size = length-drop t (ticks_of s.lines) in
       ⊎_elim (λ below. omega (arith, size, below)) (λ past. absurd (out_past t none past)) (cases_lt t (length (ticks_of s.lines)))
 
-  next_begun : (t : ℕ) (o : Option Outcome) → (run listing image s t).outcome ≡ o → HasBegun t (run listing image s t) → HasBegun (suc t) (run listing image s (suc t))
+  next_begun : (t : ℕ) (o : Option Outcome) → (run listing image s t).outcome ≡ o → HasBegun t (run listing image s t)
+      → HasBegun (suc t) (run listing image s (suc t))
   next_begun t (Some o) e h =
       let same : run listing image s (suc t) ≡ run listing image s t = next_ended listing s (drop t (ticks_of s.lines)) (run listing image s t) o e in
       subst (HasBegun (suc t)) (sym same) (inr (fewer t (run listing image s t) h, subst IsSome (sym e) refl))

@@ -1,5 +1,6 @@
 -- How a tick ends.
-use Rattle.std.proofs.Common.{◌≡◌, ℕ, ◌<◌, arith, ap, refl, sym, ◌∙◌, subst, Bool, true, false, cond, List, [], ◌∷◌, length, map, Option, Some, None, Result, Ok, Err}
+use Rattle.std.proofs.Common.{◌≡◌, ℕ, ◌<◌, arith, ap, refl, sym, ◌∙◌, subst, Bool, true, false, cond, List, [], ◌∷◌, length, map, Option, Some, None, Result}
+use Rattle.std.proofs.Common.{Ok, Err}
 use Rattle.std.specs.Prelude.{if◌then◌else◌}
 use Rattle.hm_exc.specs.Entry.{Passes, activation, entered_memory, entered_registers, main_after, newest_first, vector_of, window_in}
 use Rattle.hm_exc.specs.declared.types.Activation.{Activation}
@@ -48,8 +49,10 @@ stopped_above (x ∷ acts) c e some = refl
 pub stopped_in_thread : (acts : List Interrupted) (c : Config State) (e : Stopping) → acts ≡ [] → at_stop c e ≡ stopped_under acts c e
 stopped_in_thread acts c e none = ap (λ (l : List Interrupted). stopped_under l c e) (sym none)
 
-pub stops_so : (x y : Cpu) (t k : ℕ) (younger : Bool) (e : Cause) (o : Outcome) (es : List Pointers) → let stopping : Stopping = record { cause = e; younger = younger } in
-    o ≡ outcome_of t (map stacked_of (nested_of x).acts) (config_of x) stopping → config_of y ≡ stopped_under (nested_of x).acts (config_of x) stopping → y.acts ≡ x.acts
+pub stops_so : (x y : Cpu) (t k : ℕ) (younger : Bool) (e : Cause) (o : Outcome) (es : List Pointers)
+    → let stopping : Stopping = record { cause = e; younger = younger } in
+    o ≡ outcome_of t (map stacked_of (nested_of x).acts) (config_of x) stopping → config_of y ≡ stopped_under (nested_of x).acts (config_of x) stopping
+    → y.acts ≡ x.acts
     → run_with (Some o) (nested_of y) t es ≡ stops t k younger (Ended (Stopped (config_of x) e) (nested_of x).acts) es
 stops_so x y t k younger e o es is config same = λ j. run_with (Some (is j)) (record { config = config j; acts = same_acts x y same j }) t es
 
@@ -59,10 +62,12 @@ module _ (s : Sched) (line : TickLine) (m : Nested) (t : ℕ) (es : List Pointer
   ran = run_with None m t es
 
   abbrev judged_by : Bool → Run
-  judged_by b = if b then may_enter s (after_count line ran) else record ran { outcome = Some (outcome.RuleBroken t (length line.letters) (rule.Ending m.config.a m.config.b)) }
+  judged_by b = if b then may_enter s (after_count line ran)
+      else record ran { outcome = Some (outcome.RuleBroken t (length line.letters) (rule.Ending m.config.a m.config.b)) }
 
   -- at a position where it may not end
-  badly : (b : Bool) (steps : ℕ) (q : Rule) → b ≡ false → q ≡ rule.Ending m.config.a m.config.b → length line.letters ≡ steps → Came (Err (outcome.RuleBroken t steps q)) m t es (judged_by b)
+  badly : (b : Bool) (steps : ℕ) (q : Rule) → b ≡ false → q ≡ rule.Ending m.config.a m.config.b → length line.letters ≡ steps
+      → Came (Err (outcome.RuleBroken t steps q)) m t es (judged_by b)
   badly true steps q e is n = absurd cc
   badly false steps q e is n = (λ j. run_with (Some (outcome.RuleBroken t (sym n j) (is j))) m t es, omega arith)
 
@@ -86,18 +91,22 @@ module _ (s : Sched) (line : TickLine) (m : Nested) (t : ℕ) (es : List Pointer
   quiet false y e is = (ap (λ (n : Nested). run_with None n t es) is, omega arith)
 
   -- without entries, and with them
-  pub ends_quiet : (y : Nested) → may_end m.config.a m.config.b ≡ true → s.entries ≡ false → y ≡ (after_count line ran).machine → Came (Ok false) y t es (tick_end s line ran)
+  pub ends_quiet : (y : Nested) → may_end m.config.a m.config.b ≡ true → s.entries ≡ false → y ≡ (after_count line ran).machine
+      → Came (Ok false) y t es (tick_end s line ran)
   ends_quiet y e none is = well (may_end m.config.a m.config.b) (Ok false) y e (quiet s.entries y none is)
 
-  pub ends_picked : (x : Nested) (o : Result Bool Outcome) (y : Nested) → may_end m.config.a m.config.b ≡ true → s.entries ≡ true → x ≡ (after_count line ran).machine
+  pub ends_picked : (x : Nested) (o : Result Bool Outcome) (y : Nested) → may_end m.config.a m.config.b ≡ true → s.entries ≡ true
+      → x ≡ (after_count line ran).machine
       → Came o y t es (enters s (picks (run_with None x t es)) (run_with None x t es)) → Came o y t es (tick_end s line ran)
   ends_picked x o y e some is h =
       well (may_end m.config.a m.config.b) o y e
       (chosen s.entries o y some (subst (λ (n : Nested). Came o y t es (enters s (picks (run_with None n t es)) (run_with None n t es))) is h))
 
 -- what was counted and became pending
-pub counted_nested : (x : Cpu) (m : Memory) (irq : List ℕ) (line : TickLine) (t : ℕ) (es : List Pointers) → line.irq ≡ irq → m ≡ with_dev (counted_with irq (memory_of x.mem).devices) (memory_of x.mem)
-    → record (nested_of x) { config = record (config_of x) { state = state_of x.regs m x.output.items } } ≡ (after_count line (run_with None (nested_of x) t es)).machine
+pub counted_nested : (x : Cpu) (m : Memory) (irq : List ℕ) (line : TickLine) (t : ℕ) (es : List Pointers) → line.irq ≡ irq
+    → m ≡ with_dev (counted_with irq (memory_of x.mem).devices) (memory_of x.mem)
+    → record (nested_of x) { config = record (config_of x) { state = state_of x.regs m x.output.items } }
+    ≡ (after_count line (run_with None (nested_of x) t es)).machine
 unfolding state_of
 counted_nested x m irq line t es is e =
     let put : State → Nested = λ s. record (nested_of x) { config = record (config_of x) { state = s } } in
@@ -120,10 +129,12 @@ unless_on s e o m y t es free is =
     subst (λ (p : Option EnterErr). Came (Ok true) y t es (enters_unless s e p (run_with None m t es))) (sym free)
     (ap (λ (n : Nested). run_with None n t (pointers_of (regs_of m.config.state) ∷ es)) is, omega arith)
 
-pub unless_off : (s : Sched) (e : ℕ) (o : Option EnterErr) (why : EnterErr) (m y : Nested) (t : ℕ) (es : List Pointers) (q : Outcome) → o ≡ Some why → y ≡ m → q ≡ refused t m.config why
+pub unless_off : (s : Sched) (e : ℕ) (o : Option EnterErr) (why : EnterErr) (m y : Nested) (t : ℕ) (es : List Pointers) (q : Outcome) → o ≡ Some why → y ≡ m
+    → q ≡ refused t m.config why
     → Came (Err q) y t es (enters_unless s e o (run_with None m t es))
 unless_off s e o why m y t es q is same refusal =
-    subst (λ (p : Option EnterErr). Came (Err q) y t es (enters_unless s e p (run_with None m t es))) (sym is) (λ j. run_with (Some (refusal j)) (same j) t es, omega arith)
+    subst (λ (p : Option EnterErr). Came (Err q) y t es (enters_unless s e p (run_with None m t es))) (sym is)
+    (λ j. run_with (Some (refusal j)) (same j) t es, omega arith)
 
 -- THE MACHINE after an entry
 module _ (s : Sched) (x y : Cpu) (e : ℕ) (under : IsUnder s x) (registers : regs_of (state_in x) ≡ x.regs) where
@@ -150,11 +161,15 @@ module _ (s : Sched) (x y : Cpu) (e : ℕ) (under : IsUnder s x) (registers : re
   entered_by = refl
 
   pub entered_is : y.regs ≡ entered_registers x.regs e (vector_of (seen m) e) → seen (memory_of y.mem) ≡ entered_memory (above x.regs) (seen m)
-      → Passes (Handler (main_after (above x.regs))) m (memory_of y.mem) → newest_first y.acts ≡ above x.regs ∷ newest_first x.acts → window_in (above x.regs) ≡ x.window
-      → y.window ≡ record { a = 0; b = 0 } → y.output ≡ x.output → y.retired ≡ x.retired → y.older_steps ≡ x.older_steps → nested_of y ≡ entered s e (nested_of x)
+      → Passes (Handler (main_after (above x.regs))) m (memory_of y.mem) → newest_first y.acts ≡ above x.regs ∷ newest_first x.acts
+      → window_in (above x.regs) ≡ x.window
+      → y.window ≡ record { a = 0; b = 0 } → y.output ≡ x.output → y.retired ≡ x.retired → y.older_steps ≡ x.older_steps
+      → nested_of y ≡ entered s e (nested_of x)
   entered_is regs memory passes acts position window output n steps =
-      let around : (memory_of y.mem).around ≡ around_in x.regs = passes.around ∙ ap (λ (a : Around). record a { actor = Handler (main_after (above x.regs)) }) under in
-      let state : state_in y ≡ state_by x.regs = made_of y.regs (memory_of y.mem) y.output.items ∙ (λ j. state_with (regs j) (memory j) (around j) (output j).items) in
+      let around : (memory_of y.mem).around ≡ around_in x.regs = passes.around
+      ∙ ap (λ (a : Around). record a { actor = Handler (main_after (above x.regs)) }) under in
+      let state : state_in y ≡ state_by x.regs = made_of y.regs (memory_of y.mem) y.output.items
+      ∙ (λ j. state_with (regs j) (memory j) (around j) (output j).items) in
       let put : interrupted_of (above x.regs) ≡ put_by x.regs = λ j. record (interrupted_of (above x.regs)) { a = (position j).a; b = (position j).b } in
       (λ j. record {
         config = record { a = (window j).a; b = (window j).b; n = n j; steps = steps j; state = state j };
@@ -171,5 +186,6 @@ first_least d x acts h = let over = h.0 in omega (arith, over)
 pub priority_thread : (d : Dev) (acts : List Interrupted) → acts ≡ [] → 256 ≡ least_active d acts
 priority_thread d acts none = sym (ap (least_active d) none)
 
-pub priority_newest : (d : Dev) (x : Interrupted) (acts rest : List Interrupted) → acts ≡ x ∷ rest → AreUrgent d acts → priority_of d x.stacked.number ≡ least_active d acts
+pub priority_newest : (d : Dev) (x : Interrupted) (acts rest : List Interrupted) → acts ≡ x ∷ rest → AreUrgent d acts
+    → priority_of d x.stacked.number ≡ least_active d acts
 priority_newest d x acts rest is h = first_least d x rest (subst (AreUrgent d) is h) ∙ sym (ap (least_active d) is)

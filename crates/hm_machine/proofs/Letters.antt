@@ -1,5 +1,6 @@
 -- Steps and letters, one after another.
-use Rattle.std.proofs.Common.{◌≡◌, ℕ, suc, ◌+◌, ◌-◌, ◌<◌, arith, ap, sym, ◌∙◌, ◌==◌, List, drop, length, slice_index, nat_eq, Bool, false, cond, Result, Ok, Err}
+use Rattle.std.proofs.Common.{◌≡◌, ℕ, suc, ◌+◌, ◌-◌, ◌<◌, arith, ap, sym, ◌∙◌, ◌==◌, List, drop, length, slice_index, nat_eq, Bool, false, cond, Result, Ok}
+use Rattle.std.proofs.Common.{Err}
 use Rattle.std.proofs.lemmas.Bool.Decides.{nat_tests}
 use Rattle.std.proofs.lemmas.List.{drop_more}
 use Rattle.hm_codes.specs.Listing.{Listing}
@@ -43,7 +44,8 @@ module _ (listing : Listing) (s : Sched) where
     letters_are : letters listing s i (drop i ls) x ≡ then answer (letters listing s (i + 1) (drop (i + 1) ls))
     letters_are =
         ap (λ (l : List ℕ). letters listing s i l x) (drop_more ls i 0 few)
-        ∙ (λ j. then (at_step (sym number j + 1) (nat_eq (slice_index ls i) younger_letter) (letter listing s (slice_index ls i) x)) (letters listing s (i + 1) (drop (i + 1) ls)))
+        ∙ (λ j. then (at_step (sym number j + 1) (nat_eq (slice_index ls i) younger_letter) (letter listing s (slice_index ls i) x))
+        (letters listing s (i + 1) (drop (i + 1) ls)))
 
     pub letters_stop : (e : TickEnd) → Err e ≡ answer → Err e ≡ letters listing s i (drop i ls) x
     letters_stop e stop = ap (λ (r : Result Nested TickEnd). then r (letters listing s (i + 1) (drop (i + 1) ls))) stop ∙ sym letters_are

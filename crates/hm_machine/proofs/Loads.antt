@@ -1,6 +1,7 @@
 -- A machine at the start.
 use Rattle.hm_run.specs.Timed.{bounds_of}
-use Rattle.std.proofs.Common.{◌≡◌, ℕ, zero, suc, ◌+◌, ◌-◌, ◌%◌, ◌<◌, ◌≤◌, arith, ap, refl, sym, ◌∙◌, subst, List, [], ◌∷◌, drop, length, map, Option, Some, None, All, false}
+use Rattle.std.proofs.Common.{◌≡◌, ℕ, zero, suc, ◌+◌, ◌-◌, ◌%◌, ◌<◌, ◌≤◌, arith, ap, refl, sym, ◌∙◌, subst, List, [], ◌∷◌, drop, length, map, Option, Some}
+use Rattle.std.proofs.Common.{None, All, false}
 use Rattle.hm_base.specs.Image.{Segment, first_byte, flash_byte, word_at}
 use Rattle.hm_machine.proofs.Cursors.{begins, left_new}
 use Rattle.hm_machine.specs.Machines.{left_in, left_while, HasTick}
@@ -42,7 +43,8 @@ pub begun : (left : List TickLine) (x : Run) (o : Option Outcome) → x.outcome 
     → (0 < length left → o ≡ None) → (length left ≡ 0 → o ≡ Some outcome.OutOfTicks)
     → Comes o x.machine x.ticks (closed left x)
 begun [] x o none some out =
-    subst (λ (r : Run). Comes o x.machine x.ticks r) (sym (closed_out [] x none refl)) (ap (λ (q : Option Outcome). run_with q x.machine x.ticks x.entries) (out refl))
+    subst (λ (r : Run). Comes o x.machine x.ticks r) (sym (closed_out [] x none refl))
+    (ap (λ (q : Option Outcome). run_with q x.machine x.ticks x.entries) (out refl))
 begun (l ∷ left) x o none some out = let e = some (omega arith) in ap (λ (q : Option Outcome). record x { outcome = q }) (e ∙ sym none)
 
 pub first_left : (lines : List TickLine) (o : Option Outcome) → o ≡ None → left_while o (left_in (drop 0 lines) 0) ≡ drop 0 (ticks_of lines)
@@ -95,7 +97,8 @@ sound_start image s m sp pc regs output acts flash bytes clean devices around es
     subst (IsSound s) (sym first) (start_sound image s)
 
 -- the address of the first instruction is odd
-pub odd_pc : (image : List Segment) (m : Memory) (pc : ℕ) → flash_at m ≡ flash_byte image → pc ≡ word_at (flash_at m) 4 → (pc % 2 ≡ 0 → ⊥) → reset_pc image % 2 ≡ 1
+pub odd_pc : (image : List Segment) (m : Memory) (pc : ℕ) → flash_at m ≡ flash_byte image → pc ≡ word_at (flash_at m) 4 → (pc % 2 ≡ 0 → ⊥)
+    → reset_pc image % 2 ≡ 1
 odd_pc image m pc flash e odd =
     let q : pc ≡ reset_pc image = e ∙ ap (λ (f : ℕ → ℕ). word_at f 4) flash in
     subst (λ (n : ℕ). n % 2 ≡ 1) q (omega arith)

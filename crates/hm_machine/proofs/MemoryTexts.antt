@@ -1,5 +1,6 @@
 -- Texts that grow by the values of a function, the taint of SRAM as bytes, and what readers are told.
-use Rattle.std.proofs.Common.{◌≡◌, ℕ, zero, suc, ◌+◌, ◌*◌, ◌/◌, ◌%◌, ◌^◌, ◌<◌, ◌≤◌, Bool, true, false, List, [], ◌∷◌, ◌++◌, ap, arith, sym, ◌∙◌, refl, add-one, add-zero, append_assoc, append-nil, get_or, length}
+use Rattle.std.proofs.Common.{◌≡◌, ℕ, zero, suc, ◌+◌, ◌*◌, ◌/◌, ◌%◌, ◌^◌, ◌<◌, ◌≤◌, Bool, true, false, List, [], ◌∷◌, ◌++◌, ap, arith, sym, ◌∙◌, refl, add-one}
+use Rattle.std.proofs.Common.{add-zero, append_assoc, append-nil, get_or, length}
 use Rattle.std.specs.Prelude.{◌-◌, IfSome, None, Some, if◌then◌else◌, nat_eq, nat_lt, slice_index}
 use Rattle.hm_base.specs.Image.{flash_size, in_sram, sram_size, sram_start}
 use Rattle.hm_mem.proofs.Truths.{length-truths, truth-at}
@@ -65,7 +66,8 @@ byte_told : (m : Memory) (bs : List ℕ) (k : ℕ) → truths bs ≡ m.taint →
     → get_or bs k 0 ≡ byte_of_bits (λ (j : ℕ). tainted_at m (sram_start + j)) k
 byte_told m bs k are le small =
     sym (whole_byte bs k small) ∙ ap (λ (ts : List Bool). byte_of_bits (λ (j : ℕ). get_or ts j false) k) are
-    ∙ sym (byte_of_bits-same (λ (a : ℕ). tainted_at m (sram_start + a)) (λ (a : ℕ). get_or m.taint a false) k (λ a low high. tainted_at-sram m a (omega (arith, le, high))))
+    ∙ sym (byte_of_bits-same (λ (a : ℕ). tainted_at m (sram_start + a)) (λ (a : ℕ). get_or m.taint a false) k
+    (λ a low high. tainted_at-sram m a (omega (arith, le, high))))
 
 -- the marks are the taint, eight bytes a byte
 pub marks_told : (m : Memory) (bs : List ℕ) → truths bs ≡ m.taint → length m.taint ≡ sram_size → ((k : ℕ) → k < length bs → get_or bs k 0 < 256)

@@ -1,5 +1,6 @@
 -- The steps of what runs, by the parts of the machine.
-use Rattle.std.proofs.Common.{◌≡◌, ℕ, ◌<◌, ◌≤◌, ◌==◌, arith, refl, ap, sym, ◌∙◌, subst, Bool, true, false, not, ◌&&◌, IsTrue, List, [], ◌∷◌, length, map, Option, Some, None, Result, Ok, Err}
+use Rattle.std.proofs.Common.{◌≡◌, ℕ, ◌<◌, ◌≤◌, ◌==◌, arith, refl, ap, sym, ◌∙◌, subst, Bool, true, false, not, ◌&&◌, IsTrue, List, [], ◌∷◌, length, map}
+use Rattle.std.proofs.Common.{Option, Some, None, Result, Ok, Err}
 use Rattle.std.proofs.lemmas.Bool.Decides.{nat_tests}
 use Rattle.std.proofs.lemmas.List.{length-map, length-reverse}
 use Rattle.std.specs.Prelude.{reverse, OnOk, IfOk}
@@ -50,12 +51,14 @@ pub registers_are : (r : Regs) (m : Memory) (output : List ℕ) → registers_in
 unfolding state_of
 registers_are r m output = refl
 
-cell_is : (r q : Regs) (actor : Actor) (m : Memory) (output : List ℕ) (c : Cell) → cell_back (registers_of r) (state_of q m output) c ≡ cell_of r (with_actor actor m) c
+cell_is : (r q : Regs) (actor : Actor) (m : Memory) (output : List ℕ) (c : Cell)
+    → cell_back (registers_of r) (state_of q m output) c ≡ cell_of r (with_actor actor m) c
 unfolding state_of
 cell_is r q actor m output (At p) = refl
 cell_is r q actor m output (Byte a) = refl
 
-restored_is : (r q : Regs) (actor : Actor) (m : Memory) (output : List ℕ) → restored (registers_of r) actor (state_of q m output) ≡ state_of r (with_actor actor m) output
+restored_is : (r q : Regs) (actor : Actor) (m : Memory) (output : List ℕ)
+    → restored (registers_of r) actor (state_of q m output) ≡ state_of r (with_actor actor m) output
 unfolding state_of
 restored_is r q actor m output =
     let whole = restored (registers_of r) actor (state_of q m output) in
@@ -101,8 +104,10 @@ pub is_some : (n : ℕ) (b : Bool) → b ≡ (n == 0) → b ≡ false → 0 < n
 is_some n b e h = grind (arith, nat_tests)
 
 -- what is known of the newest, and of those under it
-pub newest_stacked : (x : Cpu) (y : Activation) (rest : List Activation) → newest_first x.acts ≡ y ∷ rest → AreStacked (nested_of x).acts → IsStacked (interrupted_of y) (map interrupted_of rest)
-newest_stacked x y rest newest h = let all : AreStacked (map interrupted_of (y ∷ rest)) = subst (λ (l : List Activation). AreStacked (map interrupted_of l)) newest h in all.0
+pub newest_stacked : (x : Cpu) (y : Activation) (rest : List Activation) → newest_first x.acts ≡ y ∷ rest → AreStacked (nested_of x).acts
+    → IsStacked (interrupted_of y) (map interrupted_of rest)
+newest_stacked x y rest newest h =
+    let all : AreStacked (map interrupted_of (y ∷ rest)) = subst (λ (l : List Activation). AreStacked (map interrupted_of l)) newest h in all.0
 
 -- A POSITION that was put away
 positions : (a b : ℕ) → may_end a b ≡ true → (a < 4) × (b ≤ 2)
@@ -118,7 +123,8 @@ position_back x acts h w e r q =
       at.0,
       at.1,
       λ some.
-          let context : r.fpca ≡ true = ap (λ (r : Regs). r.fpca) q ∙ h.context (ap (λ (v : Window). v.a == 0 && v.b == 0) (sym (e ∙ h.position)) ∙ inside w some) in
+          let context : r.fpca ≡ true = ap (λ (r : Regs). r.fpca) q
+          ∙ h.context (ap (λ (v : Window). v.a == 0 && v.b == 0) (sym (e ∙ h.position)) ∙ inside w some) in
           subst IsTrue (sym context) refl,
     )
 
@@ -133,7 +139,8 @@ if_ok s y (Ok u) h = h
 if_ok s y (Err e) h = tt
 
 pub step_stays : (s : Sched) (t : Turn) (x y : Cpu) (r : Result Unit LetterEnd)
-    → ((listing : Listing) (s : Sched) → IsListing (flash_at (memory_of x.mem)) listing → IsSoundUnder s x → stepped r y ≡ step listing s t (nested_of x)) → IsSoundUnder s x → OnOk r (IsSoundUnder s y)
+    → ((listing : Listing) (s : Sched) → IsListing (flash_at (memory_of x.mem)) listing → IsSoundUnder s x → stepped r y ≡ step listing s t (nested_of x))
+    → IsSoundUnder s x → OnOk r (IsSoundUnder s y)
 step_stays s t x y r value h =
     let there = exists (flash_at (memory_of x.mem)) in
     if_ok s y r (subst (λ (q : NestedStep). IfOk q (IsSound s)) (sym (value there.0 s there.1 h)) (step_sound s there.0 t (nested_of x) h))
@@ -173,7 +180,8 @@ module _ (listing : Listing) (s : Sched) (x : Cpu) (under : IsUnder s x) where
   nothing_counted y (Ok u) count = λ j. Ok (record (config_of y) { n = sym count.0 j; steps = sym count.1 j })
   nothing_counted y (Err h) count = refl
 
-  by_acts : (acts : List Interrupted) (q : Stepped) → q ≡ younger (core listing (around_under s acts)) (config_of x) → uncounted (config_of x) q ≡ q → with_acts acts q ≡ step_under listing s Younger (config_of x) acts
+  by_acts : (acts : List Interrupted) (q : Stepped) → q ≡ younger (core listing (around_under s acts)) (config_of x) → uncounted (config_of x) q ≡ q
+      → with_acts acts q ≡ step_under listing s Younger (config_of x) acts
   by_acts [] q e same = ap (with_acts []) e
   by_acts (y ∷ acts) q e same = ap (with_acts (y ∷ acts)) (sym same ∙ ap (uncounted (config_of x)) e)
 
@@ -203,7 +211,8 @@ module _ (listing : Listing) (s : Sched) (x : Cpu) (under : IsUnder s x) where
 
     -- an instruction that is no vector row
     by_row : (i : Instr) → IsTrue (not (is_vector_row i))
-        → went (core listing around) (config_of x) (interrupted_of z) below (scalar_in_machine around i (state_in x)) ≡ handles (core listing around) around (Ok i) (config_of x) (interrupted_of z) below
+        → went (core listing around) (config_of x) (interrupted_of z) below (scalar_in_machine around i (state_in x))
+        ≡ handles (core listing around) around (Ok i) (config_of x) (interrupted_of z) below
     by_row (instr.Scalar i) other = refl
     by_row (instr.Branch i) other = refl
     by_row (instr.Vector v) other = absurd cc
@@ -216,8 +225,10 @@ module _ (listing : Listing) (s : Sched) (x : Cpu) (under : IsUnder s x) where
         ∙ handler_is
 
     -- one that stops
-    pub other_stops : (y : Cpu) (o : LetterEnd) (e : Stop) (i : Instr) → listing x.regs.pc ≡ Ok i → IsTrue (not (is_vector_row i)) → o ≡ letter_end.Step (step_end.Stopped (cause.Stop e))
-        → config_of y ≡ begun (core listing around) (config_of x) → y.acts ≡ x.acts → Err e ≡ scalar_in_machine around i (state_in x) → stepped (Err o) y ≡ step listing s Older (nested_of x)
+    pub other_stops : (y : Cpu) (o : LetterEnd) (e : Stop) (i : Instr) → listing x.regs.pc ≡ Ok i → IsTrue (not (is_vector_row i))
+        → o ≡ letter_end.Step (step_end.Stopped (cause.Stop e))
+        → config_of y ≡ begun (core listing around) (config_of x) → y.acts ≡ x.acts → Err e ≡ scalar_in_machine around i (state_in x)
+        → stepped (Err o) y ≡ step listing s Older (nested_of x)
     other_stops y o e i here other is config same stop =
         ap (λ (q : LetterEnd). stepped (Err q) y) is
         ∙ (λ j. Err (Ended (order.Stopped (config j) (cause.Stop e)) ((same_acts x y same ∙ acts_are) j)))
@@ -245,28 +256,34 @@ module _ (x : Cpu) (z : Activation) (rest : List Activation) where
   abbrev as_ruled : Option Broken → NestedStep
   as_ruled o = returned o (config_of x) (interrupted_of z) (map interrupted_of rest) (state_in x)
 
-  pub rule_is : (value : ℕ) (o : Option Broken) → regs_of (state_in x) ≡ x.regs → o ≡ return_rule x.regs (byte_at (memory_of x.mem)) value z → as_ruled o ≡ returns value z rest x
+  pub rule_is : (value : ℕ) (o : Option Broken) → regs_of (state_in x) ≡ x.regs → o ≡ return_rule x.regs (byte_at (memory_of x.mem)) value z
+      → as_ruled o ≡ returns value z rest x
   unfolding state_of
   rule_is value o same e = ap as_ruled (e ∙ ap (λ (r : Regs). return_rule r (byte_at (memory_of x.mem)) value z) (sym same))
 
   -- the position and the state before an instruction that returns are forgotten
-  pub returned_from : (o : Option Broken) (before : State) → as_ruled o ≡ returned o (record (config_of x) { state = before }) (interrupted_of z) (map interrupted_of rest) (state_in x)
+  pub returned_from : (o : Option Broken) (before : State)
+      → as_ruled o ≡ returned o (record (config_of x) { state = before }) (interrupted_of z) (map interrupted_of rest) (state_in x)
   returned_from None before = refl
   returned_from (Some b) before = refl
 
-  pub returned_ok : (y : Cpu) → y.regs ≡ z.regs → memory_of y.mem ≡ with_actor (actor_under rest) (memory_of x.mem) → newest_first y.acts ≡ rest → y.window ≡ window_in z
+  pub returned_ok : (y : Cpu) → y.regs ≡ z.regs → memory_of y.mem ≡ with_actor (actor_under rest) (memory_of x.mem) → newest_first y.acts ≡ rest
+      → y.window ≡ window_in z
       → y.output ≡ x.output → y.retired ≡ x.retired → y.older_steps ≡ x.older_steps → Ok (nested_of y) ≡ as_ruled None
   returned_ok y regs memory acts window output n steps =
       (λ j. Ok (record {
         config = record { a = (window j).a; b = (window j).b; n = n j; steps = steps j; state = state_of (regs j) (memory j) (output j).items };
         acts = map interrupted_of (acts j);
       }))
-      ∙ ap (λ (t : State). Ok (record { config = record { a = (window_in z).a; b = (window_in z).b; n = x.retired; steps = x.older_steps; state = t }; acts = map interrupted_of rest }))
+      ∙ ap (λ (t : State). Ok (record
+      { config = record { a = (window_in z).a; b = (window_in z).b; n = x.retired; steps = x.older_steps; state = t }; acts = map interrupted_of rest }))
       (ap (λ (l : List Activation). state_of z.regs (with_actor (actor_under l) (memory_of x.mem)) x.output.items) (sym (stacked_are rest))
       ∙ sym (restored_is z.regs x.regs (actor_under (map (λ (y : Interrupted). y.stacked) (map interrupted_of rest))) (memory_of x.mem) x.output.items))
 
-  pub returned_err : (b : Broken) (y : Cpu) → newest_first x.acts ≡ z ∷ rest → y.regs ≡ x.regs → memory_of y.mem ≡ memory_of x.mem → y.acts ≡ x.acts → y.window ≡ x.window
-      → y.output ≡ x.output → y.retired ≡ x.retired → y.older_steps ≡ x.older_steps → Err (Offends (offence.Left b) (config_of y) (nested_of y).acts) ≡ as_ruled (Some b)
+  pub returned_err : (b : Broken) (y : Cpu) → newest_first x.acts ≡ z ∷ rest → y.regs ≡ x.regs → memory_of y.mem ≡ memory_of x.mem → y.acts ≡ x.acts
+      → y.window ≡ x.window
+      → y.output ≡ x.output → y.retired ≡ x.retired → y.older_steps ≡ x.older_steps
+      → Err (Offends (offence.Left b) (config_of y) (nested_of y).acts) ≡ as_ruled (Some b)
   returned_err b y newest regs memory same window output n steps =
       λ j. Err (Offends (offence.Left b)
       (record { a = (window j).a; b = (window j).b; n = n j; steps = steps j; state = state_of (regs j) (memory j) (output j).items })

@@ -20,30 +20,34 @@ use Rattle.hm_run.specs.Report.{report_text, memory_text}
 use Rattle.hm_run.specs.Timed.{Timed}
 use Rattle.hm_sched.specs.Schedule.{Sched, plain, ticks_of}
 
-module _ (image : List Segment) (s : Sched) (t : ℕ) (m : Shown) (shows : Shows image s t m) (listing : Listing) (is : IsListing (flash_byte image) listing) where
-  pub shown_at : timed_of m ≡ shown (run listing image s t)
-  shown_at = timed_is m (run listing image s t) (shows.now listing is)
+module _ (image : List Segment) (s : Sched) (t : ℕ) (m : Shown) (shows : Shows image s t m) (listing : Listing) (is : IsListing (flash_byte image) listing)
+  where
+    pub shown_at : timed_of m ≡ shown (run listing image s t)
+    shown_at = timed_is m (run listing image s t) (shows.now listing is)
 
-  pub shown_order : KeepsOrder listing image s (run_of m (run listing image s t).entries)
-  shown_order = subst (KeepsOrder listing image s) (sym (shows.now listing is)) (keeps_order listing image s t)
+    pub shown_order : KeepsOrder listing image s (run_of m (run listing image s t).entries)
+    shown_order = subst (KeepsOrder listing image s) (sym (shows.now listing is)) (keeps_order listing image s t)
 
-  pub shown_position : StandsInOrder listing image s (run_of m (run listing image s t).entries)
-  shown_position = subst (StandsInOrder listing image s) (sym (shows.now listing is)) (stands_in_order listing image s t)
+    pub shown_position : StandsInOrder listing image s (run_of m (run listing image s t).entries)
+    shown_position = subst (StandsInOrder listing image s) (sym (shows.now listing is)) (stands_in_order listing image s t)
 
-  pub shown_taint : TaintLies s (run listing image s t).entries (timed_of m).config.state
-  shown_taint = subst (λ (x : Timed). TaintLies s (run listing image s t).entries x.config.state) (sym shown_at) (taint_lies listing image s t)
+    pub shown_taint : TaintLies s (run listing image s t).entries (timed_of m).config.state
+    shown_taint = subst (λ (x : Timed). TaintLies s (run listing image s t).entries x.config.state) (sym shown_at) (taint_lies listing image s t)
 
-module _ (image : List Segment) (s : Sched) (m : Shown) (end : Shows image s (length (ticks_of s.lines)) m) (listing : Listing) (is : IsListing (flash_byte image) listing) where
+module _ (image : List Segment) (s : Sched) (m : Shown) (end : Shows image s (length (ticks_of s.lines)) m) (listing : Listing)
+    (is : IsListing (flash_byte image) listing) where
   shown_out : timed_of m ≡ shown (run_out listing image s)
   shown_out = shown_at image s (length (ticks_of s.lines)) m end listing is
 
   pub shown_headline : Headline listing image (timed_of m) (report_text (timed_of m)) (memory_text (timed_of m))
-  shown_headline = subst (λ (x : Timed). Headline listing image x (report_text x) (memory_text x)) (sym shown_out) (headline_every listing image s _ _ refl refl)
+  shown_headline = subst (λ (x : Timed). Headline listing image x (report_text x) (memory_text x)) (sym shown_out)
+      (headline_every listing image s _ _ refl refl)
 
   pub shown_riders : Riders listing image (timed_of m)
   shown_riders = subst (Riders listing image) (sym shown_out) (riders_every listing image s)
 
-module _ (image : List Segment) (n : ℕ) (m : Shown) (end : Shows image (plain n) (length (ticks_of (plain n).lines)) m) (listing : Listing) (is : IsListing (flash_byte image) listing) where
+module _ (image : List Segment) (n : ℕ) (m : Shown) (end : Shows image (plain n) (length (ticks_of (plain n).lines)) m) (listing : Listing)
+    (is : IsListing (flash_byte image) listing) where
   pub plain_report : PlainReport (timed_of m) (in_order listing image n)
   plain_report =
       subst (λ (x : Timed). PlainReport x (in_order listing image n))

@@ -1,5 +1,6 @@
 -- Checkpoints in a list, and machines that are put back to them.
-use Rattle.std.proofs.Common.{◌≡◌, ℕ, zero, suc, ◌+◌, ◌-◌, ◌*◌, ◌/◌, ◌<◌, ◌≤◌, arith, ap, refl, sym, ◌∙◌, subst, List, [], ◌∷◌, ◌++◌, get_or, length, map, take, slice_get, ⊎_elim, Some}
+use Rattle.std.proofs.Common.{◌≡◌, ℕ, zero, suc, ◌+◌, ◌-◌, ◌*◌, ◌/◌, ◌<◌, ◌≤◌, arith, ap, refl, sym, ◌∙◌, subst, List, [], ◌∷◌, ◌++◌, get_or, length, map, take}
+use Rattle.std.proofs.Common.{slice_get, ⊎_elim, Some}
 use Rattle.std.specs.Prelude.{IsSome}
 use Rattle.std.proofs.lemmas.Bool.{cases_lt}
 use Rattle.std.proofs.Math.Nat.{div-eq_of_lt-le}
@@ -80,8 +81,10 @@ module _ (f g : Fixed) (o p : List ℕ) (same : g ≡ f) (more : Begins o p) whe
 
   pub kept_still : (cs : List Checkpoint) → AreKept f o cs → AreKept g p cs
   kept_still cs h k c e =
-      let old = h k c e in
-      (longer o p c.written more old.0, subst (λ (x : Fixed). IsKept c x (take c.written p)) (sym same) (subst (IsKept c f) (sym (same_start o p c.written more old.0)) old.1))
+      let old = h k c e in (
+        longer o p c.written more old.0,
+        subst (λ (x : Fixed). IsKept c x (take c.written p)) (sym same) (subst (IsKept c f) (sym (same_start o p c.written more old.0)) old.1),
+      )
 
   pub lie_still : (start : Shown) (apart : ℕ) (cs : List Checkpoint) → AreKept f o cs → AreApart start f o apart cs → AreApart start g p apart cs
   lie_still start apart cs kept h k c e image s shows =
@@ -136,7 +139,8 @@ one_less reached apart (suc k) some e =
     ap (λ (n : ℕ). n * apart) less ∙ is
 
 -- THE END of the run, from any tick: the output has grown, and the ticks
-pub at_end : (image : List Segment) (s : Sched) (t : ℕ) (m n : Shown) → Shows image s t m → Shows image s (length (ticks_of s.lines)) n → (IsSome m.outcome → n ≡ m)
+pub at_end : (image : List Segment) (s : Sched) (t : ℕ) (m n : Shown) → Shows image s t m → Shows image s (length (ticks_of s.lines)) n
+    → (IsSome m.outcome → n ≡ m)
     → Begins m.output n.output × (m.ticks ≤ n.ticks)
 at_end image s t m n h end ended = ⊎_elim
     (λ past.

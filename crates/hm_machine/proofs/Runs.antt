@@ -1,5 +1,6 @@
 -- A run with handlers to the end of its ticks, and beyond.
-use Rattle.std.proofs.Common.{◌≡◌, ℕ, zero, suc, ◌+◌, ◌-◌, ◌≤◌, ◌<◌, arith, ap, refl, sym, ◌∙◌, subst, List, [], ◌∷◌, drop, length, Bool, Option, Some, None, Result, Err, add-zero, add-suc}
+use Rattle.std.proofs.Common.{◌≡◌, ℕ, zero, suc, ◌+◌, ◌-◌, ◌≤◌, ◌<◌, arith, ap, refl, sym, ◌∙◌, subst, List, [], ◌∷◌, drop, length, Bool, Option, Some, None}
+use Rattle.std.proofs.Common.{Result, Err, add-zero, add-suc}
 use Rattle.std.proofs.lemmas.List.{length-drop, nil_from_length}
 use Rattle.hm_base.specs.Image.{Segment}
 use Rattle.hm_codes.specs.Listing.{Listing}
@@ -89,7 +90,8 @@ closed_entries [] x = refl
 closed_entries (line ∷ left) x = refl
 
 -- while it goes on, what always holds does
-pub comes_sound : (listing : Listing) (s : Sched) (left : List TickLine) (x : Run) (m : Nested) (t : ℕ) → (x.outcome ≡ None → IsSound s x.machine) → Comes None m t (next listing s left x) → IsSound s m
+pub comes_sound : (listing : Listing) (s : Sched) (left : List TickLine) (x : Run) (m : Nested) (t : ℕ) → (x.outcome ≡ None → IsSound s x.machine)
+    → Comes None m t (next listing s left x) → IsSound s m
 comes_sound listing s left x m t h e =
     subst (IsSound s) (ap (λ (r : Run). r.machine) (sym e)) (next_sound s listing left x h (ap (λ (r : Run). r.outcome) (sym e)))
 
@@ -104,7 +106,8 @@ module _ (listing : Listing) (s : Sched) (line : TickLine) (rest : List TickLine
   pub comes_counted : (a : Result Bool Outcome) (m : Nested) (t : ℕ) (es : List Pointers) (old new : ℕ) → Came a m t es ticked → new ≡ old + entered_in a
       → new + length es ≡ old + length (next listing s (line ∷ rest) x).entries
   comes_counted a m t es old new h e =
-      let same : length (next listing s (line ∷ rest) x).entries ≡ length ticked.entries = ap (λ (r : Run). length r.entries) ticked_is ∙ ap length (closed_entries rest ticked) in
+      let same : length (next listing s (line ∷ rest) x).entries ≡ length ticked.entries = ap (λ (r : Run). length r.entries) ticked_is
+      ∙ ap length (closed_entries rest ticked) in
       let count : length ticked.entries ≡ length es + entered_in a = h.1 in
       omega (arith, same, count, e)
 

@@ -1,5 +1,6 @@
 -- What a breakpoint asks, and how it is answered.
-use Rattle.std.proofs.Common.{◌≡◌, ℕ, zero, suc, ◌+◌, ◌<◌, ◌≤◌, ◌^◌, ◌++◌, arith, refl, ap, sym, ◌∙◌, true, false, cond, List, [], ◌∷◌, length, append_assoc, append-nil, Some, None, Result, Ok, Err}
+use Rattle.std.proofs.Common.{◌≡◌, ℕ, zero, suc, ◌+◌, ◌<◌, ◌≤◌, ◌^◌, ◌++◌, arith, refl, ap, sym, ◌∙◌, true, false, cond, List, [], ◌∷◌, length, append_assoc}
+use Rattle.std.proofs.Common.{append-nil, Some, None, Result, Ok, Err}
 use Rattle.std.specs.Prelude.{nat_eq, nat_lt}
 use Rattle.std.proofs.lemmas.Bool.Decides.{nat_tests}
 use Rattle.hm_base.specs.declared.Stop.{Stop}
@@ -78,7 +79,8 @@ module _ (R : Runner Stop) (s : Seen) where
 
     pub text_goes : (n m : ℕ) → n ≡ suc m → R.stop Scalar false 1 b s ≡ None → nat_eq (read 1 b s) 0 ≡ false
         → behind_these (words 1 k a s) (text R n b s) ≡ behind_these (words 1 (k + 1) a s) (text R m (behind 1 b) s)
-    text_goes n m left none going = rw left (rw none (rw going (onto (words 1 k a s) (read 1 b s) _ ∙ ap (λ xs. behind_these xs (text R m (behind 1 b) s)) (sym next_bytes))))
+    text_goes n m left none going =
+        rw left (rw none (rw going (onto (words 1 k a s) (read 1 b s) _ ∙ ap (λ xs. behind_these xs (text R m (behind 1 b) s)) (sym next_bytes))))
 
     pub text_is_long : (n : ℕ) → n ≡ 0 → behind_these (words 1 k a s) (text R n b s) ≡ Ok (words 1 k a s)
     text_is_long n none = rw none (ap Ok (append-nil (words 1 k a s)))

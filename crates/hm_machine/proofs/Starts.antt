@@ -1,5 +1,6 @@
 -- A machine that is put back to the start of its runs, under another schedule.
-use Rattle.std.proofs.Common.{◌≡◌, ℕ, ◌<◌, arith, ap, refl, sym, ◌∙◌, subst, Bool, cond, ltb, true, false, List, [], ◌∷◌, drop, length, slice_index, slice_index_or, Option, Some, None}
+use Rattle.std.proofs.Common.{◌≡◌, ℕ, ◌<◌, arith, ap, refl, sym, ◌∙◌, subst, Bool, cond, ltb, true, false, List, [], ◌∷◌, drop, length, slice_index}
+use Rattle.std.proofs.Common.{slice_index_or, Option, Some, None}
 use Rattle.std.proofs.lemmas.Bool.{ltb-true}
 use Rattle.std.proofs.lemmas.List.{get_or_default}
 use Rattle.hm_base.specs.Image.{Segment, first_byte, flash_byte, flash_size, given}
@@ -133,7 +134,8 @@ module _ (image : List Segment) (t : Sched) (x : Start) (from : IsStart image t 
       }
 
   -- AGAIN, under a schedule with these bounds
-  module _ (s : Sched) (f : Fixed) (whole : length f.flash ≡ flash_size) (bytes : (a : ℕ) → slice_index_or f.flash a 255 ≡ flash_byte image a) (bounds : f.places.bounds ≡ bounds_of s) where
+  module _ (s : Sched) (f : Fixed) (whole : length f.flash ≡ flash_size) (bytes : (a : ℕ) → slice_index_or f.flash a 255 ≡ flash_byte image a)
+      (bounds : f.places.bounds ≡ bounds_of s) where
     abbrev again : Shown
     again = at_checkpoint x.checkpoint f []
 
@@ -148,7 +150,8 @@ module _ (image : List Segment) (t : Sched) (x : Start) (from : IsStart image t 
         b = first_younger j;
         n = first_retired j;
         steps = first_steps j;
-        state = state_again image x.checkpoint.regs kept.memory (bounds_of t) (bounds_of s) [] (ap (λ (m : Nested). m.config.state) first_machine) f.flash whole bytes again.memory.around around_again j;
+        state = state_again image x.checkpoint.regs kept.memory (bounds_of t) (bounds_of s) [] (ap (λ (m : Nested). m.config.state) first_machine) f.flash whole
+            bytes again.memory.around around_again j;
       };
       acts = ap (λ (m : Nested). m.acts) first_machine j;
     }
@@ -162,7 +165,8 @@ module _ (image : List Segment) (t : Sched) (x : Start) (from : IsStart image t 
       bytes = λ j. λ (a : ℕ). bytes a j;
       plan = refl;
       left = first_left s.lines o;
-      now = λ listing is. (λ j. run_with o (machine_again j) (first_ticks j) (run listing image s 0).entries) ∙ begun (ticks_of s.lines) (begin image s) o refl some out;
+      now = λ listing is. (λ j. run_with o (machine_again j) (first_ticks j) (run listing image s 0).entries)
+          ∙ begun (ticks_of s.lines) (begin image s) o refl some out;
       count = λ listing is. first_entries ∙ sym (ap length (closed_entries (ticks_of s.lines) (begin image s)));
     }
 
@@ -171,13 +175,15 @@ written_none : (image : List Segment) (s : Sched) (m : Shown) → Shows image s 
 unfolding state_of start_under
 written_none image s m h =
     let there = exists (flash_byte image) in
-    ap (λ (r : Run). r.machine.config.state.rest.output) (h.now there.0 there.1) ∙ ap (λ (x : Nested). x.config.state.rest.output) (closed_machine (ticks_of s.lines) (begin image s))
+    ap (λ (r : Run). r.machine.config.state.rest.output) (h.now there.0 there.1)
+    ∙ ap (λ (x : Nested). x.config.state.rest.output) (closed_machine (ticks_of s.lines) (begin image s))
 
 pub is_start : (image : List Segment) (s : Sched) (m : Shown) (c : Checkpoint) → Shows image s 0 m → at_checkpoint c (fixed_of m) m.output ≡ m
     → IsStart image s (record { checkpoint = record c { outcome = Some outcome.OutOfTicks } })
 is_start image s m c h is = record {
   machine = m;
   shows = h;
-  is = (λ j. record (at_checkpoint c (fixed_of m) (sym (written_none image s m h) j)) { outcome = m.outcome; left = m.left }) ∙ ap (λ (v : Shown). record v { outcome = m.outcome; left = m.left }) is;
+  is = (λ j. record (at_checkpoint c (fixed_of m) (sym (written_none image s m h) j)) { outcome = m.outcome; left = m.left })
+      ∙ ap (λ (v : Shown). record v { outcome = m.outcome; left = m.left }) is;
   over = refl;
 }

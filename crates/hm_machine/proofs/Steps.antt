@@ -1,6 +1,7 @@
 -- The steps of the older instruction.
 use Rattle.std.specs.Prelude.{IsOk}
-use Rattle.std.proofs.Common.{subst, ◌≡◌, ℕ, zero, suc, ◌+◌, ◌==◌, ◌<◌, arith, ap, refl, sym, ◌∙◌, add-one, Bool, true, false, not, IsTrue, cond, List, Option, Some, None, Result, Ok, Err}
+use Rattle.std.proofs.Common.{subst, ◌≡◌, ℕ, zero, suc, ◌+◌, ◌==◌, ◌<◌, arith, ap, refl, sym, ◌∙◌, add-one, Bool, true, false, not, IsTrue, cond, List, Option}
+use Rattle.std.proofs.Common.{Some, None, Result, Ok, Err}
 use Rattle.std.proofs.lemmas.Bool.Decides.{nat_tests}
 use Rattle.hm_base.specs.declared.Fault.{Fault}
 use Rattle.hm_base.specs.declared.Stop.{Stop}
@@ -27,7 +28,8 @@ use Rattle.hm_rows.specs.Rows.{refuse, vector_tree}
 use Rattle.hm_run.proofs.Steps.{break_makes, makes_other, makes_row, no_row, older_vector, older_other, other_is, past}
 use Rattle.hm_run.specs.declared.Cause.{Cause}
 use Rattle.hm_run.specs.declared.Cause.TheVariants as cause
-use Rattle.hm_run.specs.Program.{Program, broken_by, caused, core, done_in_machine, in_machine, made_here, makes_here, other_by, other_here, rows, unless_refused, vector_of}
+use Rattle.hm_run.specs.Program.{Program, broken_by, caused, core, done_in_machine, in_machine, made_here, makes_here, other_by, other_here, rows}
+use Rattle.hm_run.specs.Program.{unless_refused, vector_of}
 use Rattle.hm_run.specs.Stops.{at_break, break_of}
 use Rattle.hm_state.proofs.Beside.{pc_is}
 use Rattle.hm_state.proofs.Registers.{registers_are}
@@ -55,7 +57,8 @@ begins_later listing around v (suc done) s h = refl
 
 -- what a beat answered
 pub beat_is : (q : Result State Stop) (x : Result Unit Stop) (y : Result Unit Cause) (r t : Regs) (m n : Memory) (output : List ℕ)
-    → AnswersBeat q x r m t n output → ((u : Unit) → x ≡ Ok u → y ≡ Ok u) → ((e : Stop) → x ≡ Err e → y ≡ Err (cause.Stop e)) → executed y (state_of t n output) ≡ caused q
+    → AnswersBeat q x r m t n output → ((u : Unit) → x ≡ Ok u → y ≡ Ok u) → ((e : Stop) → x ≡ Err e → y ≡ Err (cause.Stop e))
+    → executed y (state_of t n output) ≡ caused q
 beat_is (Ok s) (Ok u) y r t m n output h goes stops = ap (λ (z : Result Unit Cause). executed z (state_of t n output)) (goes u refl) ∙ ap Ok h.1
 beat_is (Ok s) (Err e) y r t m n output h goes stops = absurd (let no = h.0 in cc)
 beat_is (Err e) x y r t m n output h goes stops = ap (λ (z : Result Unit Cause). executed z (state_of t n output)) (stops e h.0)
@@ -70,7 +73,9 @@ beat_still (Err f) x e r t m n output stop h = (h.1, h.2)
 pub beat_stays : (v : Vector) (b : ℕ) (old new : Regs) (m n : Memory) (output : List ℕ)
     → Ok (state_of new n output) ≡ ((rows m.around).act v b).run (state_of old m output) → new.pc ≡ old.pc
 unfolding state_of
-beat_stays v b old new m n output e = beat_pc (of_four (vector_tree v m.around) b) (state_of old m output) (state_of new n output) (uncaused ((action cells (of_four (vector_tree v m.around) b)).run (state_of old m output)) (state_of new n output) (sym e))
+beat_stays v b old new m n output e =
+    beat_pc (of_four (vector_tree v m.around) b) (state_of old m output) (state_of new n output)
+    (uncaused ((action cells (of_four (vector_tree v m.around) b)).run (state_of old m output)) (state_of new n output) (sym e))
   where
     uncaused : (x : Result State Stop) (t : State) → caused x ≡ Ok t → x ≡ Ok t
     uncaused (Ok s) t e = let same : s ≡ t = cc in ap Ok same
@@ -78,7 +83,8 @@ beat_stays v b old new m n output e = beat_pc (of_four (vector_tree v m.around) 
 
 -- a row that has its four beats
 pub settled : (listing : Listing) (around : Around) (r : Regs) (m : Memory) (output : List ℕ) (a b n steps : ℕ) → a ≡ 4
-    → record { a = b; b = 0; n = n + 1; steps = steps; state = state_of (record r { pc = r.pc + 4 }) m output } ≡ settle (core listing around) a b n steps (state_of r m output)
+    → record { a = b; b = 0; n = n + 1; steps = steps; state = state_of (record r { pc = r.pc + 4 }) m output }
+    ≡ settle (core listing around) a b n steps (state_of r m output)
 unfolding state_of
 settled listing around r m output a b n steps four =
     let s : State = state_of r m output in
@@ -92,7 +98,8 @@ module _ (listing : Listing) (x : Cpu) where
   M = core listing (memory_of x.mem).around
 
   -- the context that a row makes before its first beat
-  row_begun : (v : Vector) (t : State) → vector_of (listing x.regs.pc) ≡ Some v → (x.window.a ≡ 0 → t ≡ with_context (state_in x)) → (0 < x.window.a → t ≡ state_in x)
+  row_begun : (v : Vector) (t : State) → vector_of (listing x.regs.pc) ≡ Some v → (x.window.a ≡ 0 → t ≡ with_context (state_in x))
+      → (0 < x.window.a → t ≡ state_in x)
       → begun M (config_of x) ≡ record (config_of x) { state = t }
   unfolding state_of
   row_begun v t row first later = either x.window.a refl
@@ -131,7 +138,8 @@ module _ (listing : Listing) (x : Cpu) where
   row_stops v s e row first later ready stop =
       let c : Config State = config_of x in
       sym (older_vector listing (memory_of x.mem).around c v row
-      ∙ ap (λ (r : Result State Cause). done M c (then r ((rows (memory_of x.mem).around).act v c.a).run) (settle M (suc c.a) c.b c.n (suc c.steps))) (sym ready)
+      ∙ ap (λ (r : Result State Cause). done M c (then r ((rows (memory_of x.mem).around).act v c.a).run) (settle M (suc c.a) c.b c.n (suc c.steps)))
+      (sym ready)
       ∙ ap (λ (r : Result State Cause). done M c r (settle M (suc c.a) c.b c.n (suc c.steps))) (sym stop)
       ∙ ap (λ (d : Config State). Err (order.Stopped d e)) (row_begun v s row first later))
 
@@ -145,7 +153,8 @@ module _ (listing : Listing) (x : Cpu) where
       ap Ok there
       ∙ (λ j. Ok (settle M (add-one x.window.a j) x.window.b x.retired (add-one x.older_steps j) t))
       ∙ sym (older_vector listing (memory_of x.mem).around c v row
-      ∙ ap (λ (r : Result State Cause). done M c (then r ((rows (memory_of x.mem).around).act v c.a).run) (settle M (suc c.a) c.b c.n (suc c.steps))) (sym ready)
+      ∙ ap (λ (r : Result State Cause). done M c (then r ((rows (memory_of x.mem).around).act v c.a).run) (settle M (suc c.a) c.b c.n (suc c.steps)))
+      (sym ready)
       ∙ ap (λ (r : Result State Cause). done M c r (settle M (suc c.a) c.b c.n (suc c.steps))) (sym e))
 
   -- no context is made
@@ -169,7 +178,8 @@ module _ (listing : Listing) (x : Cpu) where
     row_none = ap vector_of here ∙ no_row i other
 
     -- what a step of it comes to
-    other_comes : (r : Result State Cause) → other_by (memory_of x.mem).around i (state_in x) ≡ r → older M (config_of x) ≡ done M (config_of x) r (past (config_of x))
+    other_comes : (r : Result State Cause) → other_by (memory_of x.mem).around i (state_in x) ≡ r
+        → older M (config_of x) ≡ done M (config_of x) r (past (config_of x))
     unfolding state_of
     other_comes r e =
         older_other listing (memory_of x.mem).around (config_of x) row_none
@@ -181,10 +191,13 @@ module _ (listing : Listing) (x : Cpu) where
 
     -- a breakpoint, and any other
     pub by_break : (k : ℕ) → Some k ≡ break_of i → other_by (memory_of x.mem).around i (state_in x) ≡ broken_by (memory_of x.mem).around k (state_in x)
-    by_break k is = ap (λ (o : Option ℕ). at_break (λ k. broken_by (memory_of x.mem).around k (state_in x)) o (done_in_machine (scalar_in_machine (memory_of x.mem).around i (state_in x)))) (sym is)
+    by_break k is = ap (λ (o : Option ℕ). at_break (λ k. broken_by (memory_of x.mem).around k (state_in x)) o
+        (done_in_machine (scalar_in_machine (memory_of x.mem).around i (state_in x)))) (sym is)
 
-    pub by_none : None ≡ break_of i → other_by (memory_of x.mem).around i (state_in x) ≡ done_in_machine (scalar_in_machine (memory_of x.mem).around i (state_in x))
-    by_none is = ap (λ (o : Option ℕ). at_break (λ k. broken_by (memory_of x.mem).around k (state_in x)) o (done_in_machine (scalar_in_machine (memory_of x.mem).around i (state_in x)))) (sym is)
+    pub by_none : None ≡ break_of i
+        → other_by (memory_of x.mem).around i (state_in x) ≡ done_in_machine (scalar_in_machine (memory_of x.mem).around i (state_in x))
+    by_none is = ap (λ (o : Option ℕ). at_break (λ k. broken_by (memory_of x.mem).around k (state_in x)) o
+        (done_in_machine (scalar_in_machine (memory_of x.mem).around i (state_in x)))) (sym is)
 
     -- one that is done
     pub other_done : (t : State) → other_by (memory_of x.mem).around i (state_in x) ≡ Ok t
@@ -214,7 +227,8 @@ module _ (listing : Listing) (x : Cpu) where
     either_still true e = sym e
     either_still false e = refl
 
-    by_position : (a : ℕ) → x.window.a ≡ a → (0 < x.window.a → IsTrue x.regs.fpca) → (s : State) → s ≡ cond (makes_context i x.regs) (with_context (state_in x)) (state_in x)
+    by_position : (a : ℕ) → x.window.a ≡ a → (0 < x.window.a → IsTrue x.regs.fpca) → (s : State)
+        → s ≡ cond (makes_context i x.regs) (with_context (state_in x)) (state_in x)
         → cond (a == 0) s (state_in x) ≡ cond (makes_context i x.regs) (with_context (state_in x)) (state_in x)
     by_position zero e context s h = h
     by_position (suc a) e context s h =
@@ -226,7 +240,8 @@ module _ (listing : Listing) (x : Cpu) where
     chosen true = sym (context_is x.regs (memory_of x.mem) x.output.items)
     chosen false = refl
 
-    made_is : InRange x.regs → Counted x.regs → made_here (listing x.regs.pc) (state_in x) ≡ cond (makes_context i x.regs) (with_context (state_in x)) (state_in x)
+    made_is : InRange x.regs → Counted x.regs
+        → made_here (listing x.regs.pc) (state_in x) ≡ cond (makes_context i x.regs) (with_context (state_in x)) (state_in x)
     made_is range counted =
         ap (λ (b : Bool). cond b (with_context (state_in x)) (state_in x))
         (makes_is (regs_of (state_in x)) ∙ ap (makes_context i) (registers_are x.regs (memory_of x.mem) x.output.items counted range.fpscr_fits range.vpr_fits))
@@ -241,7 +256,8 @@ module _ (listing : Listing) (x : Cpu) where
     -- one that stops
     pub other_stops : (e : Cause) (t : Regs) (n : Memory) → InRange x.regs → Counted x.regs → (0 < x.window.a → IsTrue x.regs.fpca) → None ≡ break_of i
         → Err e ≡ done_in_machine (scalar_in_machine (memory_of x.mem).around i (state_in x)) → t ≡ made i x.regs → n ≡ memory_of x.mem
-        → Err (order.Stopped (record { a = x.window.a; b = x.window.b; n = x.retired; steps = x.older_steps; state = state_of t n x.output.items }) e) ≡ older M (config_of x)
+        → Err (order.Stopped (record { a = x.window.a; b = x.window.b; n = x.retired; steps = x.older_steps; state = state_of t n x.output.items }) e)
+        ≡ older M (config_of x)
     other_stops e t n range counted context none stop registers memory =
         (λ j. Err (order.Stopped (record (config_of x) { state = state_of (registers j) (memory j) x.output.items }) e))
         ∙ ap (λ (c : Config State). Err (order.Stopped c e)) (sym (begun_is range counted context))

@@ -1,5 +1,6 @@
 -- One tick of the machine.
-use Rattle.std.proofs.Common.{◌≡◌, ℕ, suc, zero, ◌+◌, ◌-◌, ◌≤◌, ◌<◌, arith, ap, refl, sym, ◌∙◌, subst, Bool, cond, true, false, List, [], ◌∷◌, drop, drop-drop, length, length-drop, Ok, Err, Some, None, add-one, add-zero, add-suc}
+use Rattle.std.proofs.Common.{◌≡◌, ℕ, suc, zero, ◌+◌, ◌-◌, ◌≤◌, ◌<◌, arith, ap, refl, sym, ◌∙◌, subst, Bool, cond, true, false, List, [], ◌∷◌, drop, drop-drop}
+use Rattle.std.proofs.Common.{length, length-drop, Ok, Err, Some, None, add-one, add-zero, add-suc}
 use Rattle.hm_base.specs.Image.{Segment, flash_byte}
 use Rattle.hm_codes.proofs.Exists.{exists}
 use Rattle.hm_codes.specs.Listing.{Listing, IsListing}
@@ -37,7 +38,8 @@ drop_next t xs = drop-drop 1 t xs ∙ ap (λ (k : ℕ). drop k xs) (add-one t)
 -- a machine after one more tick
 pub shows_on : (image : List Segment) (s : Sched) (t : ℕ) (old new : Shown) → Shows image s t old → old.outcome ≡ None
     → flash_at new.memory ≡ flash_at old.memory → new.schedule ≡ old.schedule → (new.outcome ≡ None → new.left ≡ drop 1 old.left)
-    → ((listing : Listing) (es : List Pointers) → IsListing (flash_at old.memory) listing → let r = next listing old.schedule old.left (run_of old es) in run_of new r.entries ≡ r)
+    → ((listing : Listing) (es : List Pointers) → IsListing (flash_at old.memory) listing → let r = next listing old.schedule old.left (run_of old es) in
+    run_of new r.entries ≡ r)
     → ((listing : Listing) (es : List Pointers) → IsListing (flash_at old.memory) listing
     → new.entries + length es ≡ old.entries + length (next listing old.schedule old.left (run_of old es)).entries)
     → Shows image s (suc t) new
@@ -47,13 +49,16 @@ shows_on image s t old new h none flash schedule left now counted = record {
   left = λ on. left on ∙ ap (drop 1) (h.left none) ∙ drop_next t (ticks_of s.lines);
   now = λ listing is.
       let es = (run listing image s t).entries in
-      let same : next listing old.schedule old.left (run_of old es) ≡ run listing image s (suc t) = λ j. next listing (h.plan j) (h.left none j) (h.now listing is j) in
+      let same : next listing old.schedule old.left (run_of old es) ≡ run listing image s (suc t) =
+      λ j. next listing (h.plan j) (h.left none j) (h.now listing is j) in
       subst (λ (r : Run). run_of new r.entries ≡ r) same (now listing es (subst (λ (f : ℕ → ℕ). IsListing f listing) (sym h.bytes) is));
   count = λ listing is.
       let es = (run listing image s t).entries in
-      let same : next listing old.schedule old.left (run_of old es) ≡ run listing image s (suc t) = λ j. next listing (h.plan j) (h.left none j) (h.now listing is j) in
+      let same : next listing old.schedule old.left (run_of old es) ≡ run listing image s (suc t) =
+      λ j. next listing (h.plan j) (h.left none j) (h.now listing is j) in
       let more : new.entries + length es ≡ old.entries + length (run listing image s (suc t)).entries
-      = subst (λ (r : Run). new.entries + length es ≡ old.entries + length r.entries) same (counted listing es (subst (λ (f : ℕ → ℕ). IsListing f listing) (sym h.bytes) is)) in
+      = subst (λ (r : Run). new.entries + length es ≡ old.entries + length r.entries) same
+      (counted listing es (subst (λ (f : ℕ → ℕ). IsListing f listing) (sym h.bytes) is)) in
       let before : old.entries ≡ length es = h.count listing is in
       omega (arith, more, before);
 }
@@ -86,7 +91,8 @@ shows_end image s t u m o e le h =
     subst (λ (v : ℕ). Shows image s v m) sum (shows_later image s t (u - t) m o e h)
 
 -- a machine that runs has a tick left
-pub left_below : (image : List Segment) (s : Sched) (t : ℕ) (m : Shown) → Shows image s t m → m.outcome ≡ None → 0 < length m.left → suc t ≤ length (ticks_of s.lines)
+pub left_below : (image : List Segment) (s : Sched) (t : ℕ) (m : Shown) → Shows image s t m → m.outcome ≡ None → 0 < length m.left
+    → suc t ≤ length (ticks_of s.lines)
 left_below image s t m h none some =
     let left : length m.left ≡ length (ticks_of s.lines) - t = ap length (h.left none) ∙ length-drop t (ticks_of s.lines) in
     omega arith

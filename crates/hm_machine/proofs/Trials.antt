@@ -1,7 +1,8 @@
 -- What is tried of a machine, and undone.
 use Rattle.std.specs.Prelude.{eqb}
 use Rattle.std.specs.Result.{is_ok}
-use Rattle.std.proofs.Common.{◌≡◌, ℕ, zero, suc, ◌+◌, ◌-◌, ◌<◌, ◌≤◌, ◌%◌, ◌^◌, ◌==◌, ◌&&◌, ◌||◌, arith, ap, refl, sym, ◌∙◌, subst, Bool, true, false, List, [], ◌∷◌, ◌++◌, drop, take, slice_index_or, length, Option, Some, None, Result, Ok, Err}
+use Rattle.std.proofs.Common.{◌≡◌, ℕ, zero, suc, ◌+◌, ◌-◌, ◌<◌, ◌≤◌, ◌%◌, ◌^◌, ◌==◌, ◌&&◌, ◌||◌, arith, ap, refl, sym, ◌∙◌, subst, Bool, true, false, List, []}
+use Rattle.std.proofs.Common.{◌∷◌, ◌++◌, drop, take, slice_index_or, length, Option, Some, None, Result, Ok, Err}
 use Rattle.std.proofs.lemmas.List.{append-nil, take_rest}
 use Rattle.hm_base.specs.declared.Span.{Span}
 use Rattle.hm_base.specs.declared.Stop.{Stop}
@@ -120,7 +121,8 @@ module _ (listing : Listing) (v : Vector) (r : Regs) (m : Memory) (output : List
   three = standing 3 0 n steps (state_of r m output)
 
   -- the first of the younger, by the rule that it breaks
-  by_rule : (o : Option Vector) (q : Option Rule) → vector_of (listing r.pc) ≡ Some v → o ≡ vector_of (listing (r.pc + 4)) → q ≡ step_rule m.around (Some v) o three
+  by_rule : (o : Option Vector) (q : Option Rule) → vector_of (listing r.pc) ≡ Some v → o ≡ vector_of (listing (r.pc + 4))
+      → q ≡ step_rule m.around (Some v) o three
       → younger_of M q o three ≡ younger M three
   unfolding state_of
   by_rule o q row there e =
@@ -129,7 +131,8 @@ module _ (listing : Listing) (v : Vector) (r : Regs) (m : Memory) (output : List
   pub follows_none : vector_of (listing r.pc) ≡ Some v → None ≡ vector_of (listing (r.pc + 4)) → false ≡ goes_on (younger M three)
   follows_none row none = ap goes_on (by_rule None (Some rule.NotVector) row none refl)
 
-  pub follows_broken : (w : Vector) (q : Rule) → vector_of (listing r.pc) ≡ Some v → Some w ≡ vector_of (listing (r.pc + 4)) → Some q ≡ step_rule m.around (Some v) (Some w) three
+  pub follows_broken : (w : Vector) (q : Rule) → vector_of (listing r.pc) ≡ Some v → Some w ≡ vector_of (listing (r.pc + 4))
+      → Some q ≡ step_rule m.around (Some v) (Some w) three
       → false ≡ goes_on (younger M three)
   follows_broken w q row there e = ap goes_on (by_rule (Some w) (Some q) row there e)
 
@@ -149,7 +152,8 @@ module _ (listing : Listing) (v : Vector) (r : Regs) (m : Memory) (output : List
       ap (λ (x : Result State Cause). goes_on (then (done M two x (settle M 3 0 n (suc steps))) (younger M))) stop
       ∙ sym (ap (λ (y : Stepped). goes_on (then y (younger M))) (older_vector listing m.around two v row))
 
-  pub goes_further : (t : Regs) (p : Memory) (b : Bool) → vector_of (listing r.pc) ≡ Some v → Ok (state_of t p output) ≡ ((rows m.around).act v 2).run (state_of r m output)
+  pub goes_further : (t : Regs) (p : Memory) (b : Bool) → vector_of (listing r.pc) ≡ Some v
+      → Ok (state_of t p output) ≡ ((rows m.around).act v 2).run (state_of r m output)
       → p.around ≡ m.around → b ≡ goes_on (younger (core listing p.around) (standing 3 0 n (suc steps) (state_of t p output))) → b ≡ is_ready M two
   unfolding state_of
   goes_further t p b row beat around e =
@@ -176,15 +180,18 @@ module _ (listing : Listing) (r : Regs) (m : Memory) (output : List ℕ) (n step
 
   pub ready_alone : None ≡ vector_of (listing r.pc) → false ≡ is_ready alone at_two
   unfolding state_of
-  ready_alone none = sym (other_early (alone.other (state_of r m output))) ∙ ap (λ (o : Option Vector). goes_on (then (older_of alone o at_two) (younger alone))) none
+  ready_alone none = sym (other_early (alone.other (state_of r m output)))
+      ∙ ap (λ (o : Option Vector). goes_on (then (older_of alone o at_two) (younger alone))) none
 
 -- what the third beat of the older leaves
-pub stored : (v : Vector) (r : Regs) (m : Memory) (output : List ℕ) (t : Regs) (p : Memory) → Ok (state_of t p output) ≡ ((rows m.around).act v 2).run (state_of r m output) → IsSameElsewhere m p
+pub stored : (v : Vector) (r : Regs) (m : Memory) (output : List ℕ) (t : Regs) (p : Memory)
+    → Ok (state_of t p output) ≡ ((rows m.around).act v 2).run (state_of r m output) → IsSameElsewhere m p
     → IsSameBut (stores_in (vector_tree v m.around 2) r m output) m p
 unfolding state_of
 stored v r m output t p beat same =
     let s : State = state_of r m output in
-    let did : (action cells (vector_tree v m.around 2)).run s ≡ Ok (state_of t p output) = uncaused ((action cells (vector_tree v m.around 2)).run s) (state_of t p output) (sym beat) in
+    let did : (action cells (vector_tree v m.around 2)).run s ≡ Ok (state_of t p output) =
+    uncaused ((action cells (vector_tree v m.around 2)).run s) (state_of t p output) (sym beat) in
     let kept = kept_law (vector_tree v m.around 2) s (state_of t p output) did in
     record {
       bytes = λ a h. ap (λ (x : Value). x.n) (kept.bytes a h);

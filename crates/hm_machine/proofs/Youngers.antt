@@ -40,7 +40,8 @@ module _ (v w : Vector) (a b n steps : ℕ) (r : Regs) (m : Memory) (output : Li
       let made : r.fpca ≡ true = cc in
       sym (λ j. cond (made j && is_none ((sym is ∙ free) j)) None (Some rule.YoungerFault)) ∙ rule_then e
 
-  pub rule_refused : (f : Option Fault) (g : Fault) → IsTrue r.fpca → o ≡ None → f ≡ refuse w s → f ≡ Some g → Some rule.YoungerFault ≡ step_rule m.around (Some v) (Some w) at_step
+  pub rule_refused : (f : Option Fault) (g : Fault) → IsTrue r.fpca → o ≡ None → f ≡ refuse w s → f ≡ Some g
+      → Some rule.YoungerFault ≡ step_rule m.around (Some v) (Some w) at_step
   unfolding state_of
   rule_refused f g context e is refused =
       let made : r.fpca ≡ true = cc in
@@ -53,7 +54,8 @@ module _ (listing : Listing) (x : Cpu) where
   -- no row stands at the one address, or at the other
   pub younger_alone : None ≡ vector_of (listing x.regs.pc) → Err (order.Broken (config_of x) rule.NotVector) ≡ younger M (config_of x)
   unfolding state_of
-  younger_alone none = ap (λ (o : Option Vector). younger_of M (step_rule (memory_of x.mem).around o (vector_of (listing (x.regs.pc + 4))) (config_of x)) (vector_of (listing (x.regs.pc + 4))) (config_of x)) none
+  younger_alone none = ap (λ (o : Option Vector). younger_of M (step_rule (memory_of x.mem).around o (vector_of (listing (x.regs.pc + 4))) (config_of x))
+      (vector_of (listing (x.regs.pc + 4))) (config_of x)) none
 
   pub younger_absent : (v : Vector) → Some v ≡ vector_of (listing x.regs.pc) → None ≡ vector_of (listing (x.regs.pc + 4))
       → Err (order.Broken (config_of x) rule.NotVector) ≡ younger M (config_of x)
@@ -80,5 +82,6 @@ module _ (listing : Listing) (x : Cpu) where
 
 -- a beat that stops
 pub step_ended_is : (e : Cause) (q : Bool) (h : StepEnd) (c : Config State) (listing : Listing) (around : Around) → is_tainted_cause e ≡ q
-    → step_ended h c ≡ fault_end (core listing around) (cond q None (Some rule.YoungerFault)) c e → step_ended h c ≡ fault_end (core listing around) (fault_rule e) c e
+    → step_ended h c ≡ fault_end (core listing around) (cond q None (Some rule.YoungerFault)) c e
+    → step_ended h c ≡ fault_end (core listing around) (fault_rule e) c e
 step_ended_is e q h c listing around is here = here ∙ (λ j. fault_end (core listing around) (cond (sym is j) None (Some rule.YoungerFault)) c e)

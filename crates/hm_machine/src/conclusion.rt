@@ -6,7 +6,8 @@ ghost use Rattle.hm_codes.specs.Listing.{Listing, IsListing};
 ghost use Rattle.hm_handlers.specs.Entries.{refused, running_priority};
 ghost use Rattle.hm_handlers.specs.Nested.{Ended, at_step, letter, letters};
 ghost use Rattle.hm_handlers.specs.Runs.{Pointers, ended, enters, picks as picks_of, stopped_under, stops, tick_end, stacked_of};
-ghost use Rattle.hm_machine.specs.Cpus.{config_of, step_ended, nested_of, picks, ticked, early_ended, CountsNone, CountsOne, IsPosition, IsSoundUnderSome, IsSoundUnder, KeepsFlash, Stays};
+ghost use Rattle.hm_machine.specs.Cpus.{config_of, step_ended, nested_of, picks, ticked, early_ended, CountsNone, CountsOne, IsPosition, IsSoundUnderSome};
+ghost use Rattle.hm_machine.specs.Cpus.{IsSoundUnder, KeepsFlash, Stays};
 ghost use Rattle.hm_machine.specs.Shown.{run_with};
 ghost use Rattle.hm_mem.specs.Memory.{memory_of, flash_at};
 ghost use Rattle.hm_mem.specs.Seen.{with_dev};
@@ -141,7 +142,8 @@ fn conclude_step(tick: u32, step: u32, younger: bool, end: StepEnd, x: &mut Cpu)
 /// How a run ends by a tick whose letters do not all go on.
 pub fn conclude(tick: u32, early: EarlyEnd, x: &mut Cpu) -> Outcome
     requires count { (x.old.retired < 2 ^ 63) × (x.old.older_steps < 2 ^ 63) }
-    ensures ended { (es : List Pointers) → let e = early_ended early (nested_of x.old) in run_with (Some result) (nested_of x.new) tick es ≡ stops tick e.step e.younger e.end es }
+    ensures ended { (es : List Pointers) → let e = early_ended early (nested_of x.old) in
+        run_with (Some result) (nested_of x.new) tick es ≡ stops tick e.step e.younger e.end es }
     ensures kept { Stays x.old x.new }
     ensures count { CountsOne x.old x.new }
 {

@@ -17,7 +17,8 @@ pub struct Cursor {
 pub fn line_at<'a>(schedule: &'a Schedule, cursor: Cursor) -> &'a Line
     requires { StandsIn schedule.now.lines cursor }
     ensures first { left_at schedule.now.lines cursor ≡ line_of result.now ∷ drop 1 (left_at schedule.now.lines cursor) }
-    ensures others { drop 1 (left_at schedule.now.lines cursor) ≡ repeat (result.now.count - (cursor.used + 1)) (line_of result.now) (ticks_of (drop (suc cursor.line) schedule.now.lines)) }
+    ensures others { drop 1 (left_at schedule.now.lines cursor)
+        ≡ repeat (result.now.count - (cursor.used + 1)) (line_of result.now) (ticks_of (drop (suc cursor.line) schedule.now.lines)) }
     ensures here { slice_get schedule.now.lines cursor.line ≡ Some (line_of result.now) }
     ensures some { cursor.used < result.now.count }
     ensures few { length result.now.letters.items ≤ 8 }

@@ -1,6 +1,7 @@
 //! The machine.
 
-ghost use Rattle.std.specs.Prelude.{◌≡◌, ℕ, suc, ◌+◌, ◌-◌, ◌<◌, ◌≤◌, ◌↔◌, ◌%◌, List, [], ◌∷◌, ◌++◌, length, drop, reverse, None, Some, Ok, IsSome, IfOk, IfErr, IfNone, IfSome, OnSome, IsTrue};
+ghost use Rattle.std.specs.Prelude.{◌≡◌, ℕ, suc, ◌+◌, ◌-◌, ◌<◌, ◌≤◌, ◌↔◌, ◌%◌, List, [], ◌∷◌, ◌++◌, length, drop, reverse, None, Some, Ok, IsSome, IfOk, IfErr};
+ghost use Rattle.std.specs.Prelude.{IfNone, IfSome, OnSome, IsTrue};
 ghost use Rattle.hm_base.specs.Image.{Segment, flash_byte};
 ghost use Rattle.hm_codes.specs.Listing.{Listing, IsListing, Stands};
 ghost use Rattle.hm_isa.specs.declared.Instr.{Instr};
@@ -377,7 +378,8 @@ impl Machine {
         // Where the ticks are out: where the thread stands among whole instructions in order.
         ensures position { (image : List Segment) (s : Sched) (t : ℕ) (listing : Listing) → IsListing (flash_byte image) listing → Shows image s t self.old
             → StandsInOrder listing image s (run_of self.new (run_out listing image s).entries) }
-        // Every tainted byte lies in the region, or from the floor up and below the main stack pointer at one of the run's entries, or from the process floor up and below the process stack pointer at one of those from that stack.
+        // Every tainted byte lies in the region, or from the floor up and below the main stack pointer at one of the run's entries, or from the
+        // process floor up and below the process stack pointer at one of those from that stack.
         ensures taint { (image : List Segment) (s : Sched) (t : ℕ) (listing : Listing) → IsListing (flash_byte image) listing → Shows image s t self.old
             → TaintLies s (run_out listing image s).entries (timed_of self.new).config.state }
     {

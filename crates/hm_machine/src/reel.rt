@@ -40,7 +40,8 @@ pub fn filled(
     ensures fixed { OnOk result (fixed_of machine.new ≡ fixed_of machine.old) }
     // The last of them was reached, and there are 64 of them, or the run ended before the next.
     ensures reached { IfOk result (λ v. (length v.items - 1) * apart ≤ machine.new.ticks) }
-    ensures all { IfOk result (λ v. (length v.items ≡ 64) ⊎ ((length v.items ≤ 64) × (machine.new.ticks < length v.items * apart) × IsSome machine.new.outcome)) }
+    ensures all { IfOk result (λ v. (length v.items ≡ 64)
+        ⊎ ((length v.items ≤ 64) × (machine.new.ticks < length v.items * apart) × IsSome machine.new.outcome)) }
 {
     let mut kept = Vec::new(alloc);
     kept.push(machine.checkpoint(alloc)?)?;

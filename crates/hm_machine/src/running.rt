@@ -7,7 +7,8 @@ ghost use Rattle.hm_exc.specs.Entry.{newest_first};
 ghost use Rattle.hm_exc.specs.declared.types.Activation.{Activation};
 ghost use Rattle.hm_handlers.specs.Nested.{flows, letter, step, to_end};
 ghost use Rattle.hm_machine.specs.Shown.{interrupted_of};
-ghost use Rattle.hm_machine.specs.Cpus.{config_of, nested_of, returns, state_in, stepped, AreEntered, CountsOne, IsHandler, IsPosition, IsSoundUnderSome, IsSoundUnder, IsUnder, KeepsFlash};
+ghost use Rattle.hm_machine.specs.Cpus.{config_of, nested_of, returns, state_in, stepped, AreEntered, CountsOne, IsHandler, IsPosition, IsSoundUnderSome};
+ghost use Rattle.hm_machine.specs.Cpus.{IsSoundUnder, IsUnder, KeepsFlash};
 ghost use Rattle.hm_mem.specs.Memory.{memory_of, flash_at};
 ghost use Rattle.hm_order.specs.Turns.{Older, Younger};
 ghost use Rattle.hm_run.specs.Program.{most_output, steps_left, vector_in, vector_of};
@@ -79,7 +80,8 @@ fn handler_other(i: &Instr, x: &mut Cpu) -> Result<(), LetterEnd>
     requires position { IsPosition x.old }
     requires handler { IsHandler x.old }
     requires entered { AreEntered x.old }
-    ensures value { (listing : Listing) (s : Sched) → listing x.old.regs.pc ≡ Ok i.now → IsUnder s x.old → stepped result x.new ≡ step listing s Older (nested_of x.old) }
+    ensures value { (listing : Listing) (s : Sched) → listing x.old.regs.pc ≡ Ok i.now → IsUnder s x.old
+        → stepped result x.new ≡ step listing s Older (nested_of x.old) }
     ensures moves { KeepsFlash x.old x.new }
     ensures position { OnOk result (IsPosition x.new) }
     ensures count { CountsOne x.old x.new }
@@ -121,7 +123,8 @@ fn handler_step(i: &Instr, x: &mut Cpu) -> Result<(), LetterEnd>
     requires handler { IsHandler x.old }
     requires entered { AreEntered x.old }
     requires pc { x.old.regs.pc + 4 < 2 ^ 32 }
-    ensures value { (listing : Listing) (s : Sched) → listing x.old.regs.pc ≡ Ok i.now → IsUnder s x.old → stepped result x.new ≡ step listing s Older (nested_of x.old) }
+    ensures value { (listing : Listing) (s : Sched) → listing x.old.regs.pc ≡ Ok i.now → IsUnder s x.old
+        → stepped result x.new ≡ step listing s Older (nested_of x.old) }
     ensures moves { KeepsFlash x.old x.new }
     ensures position { OnOk result (IsPosition x.new) }
     ensures count { CountsOne x.old x.new }

@@ -6,7 +6,8 @@ ghost use Rattle.hm_codes.specs.Listing.{Listing, IsListing};
 ghost use Rattle.hm_handlers.specs.Entries.{refused, running_priority};
 ghost use Rattle.hm_handlers.specs.Nested.{Ended, at_step, letter, letters};
 ghost use Rattle.hm_handlers.specs.Runs.{Pointers, ended, enters, picks as picks_of, stopped_under, stops, tick_end, stacked_of};
-ghost use Rattle.hm_machine.specs.Cpus.{config_of, step_ended, nested_of, picks, ticked, early_ended, Came, CountsNone, CountsOne, IsPosition, IsSoundUnderSome, IsSoundUnder, KeepsFlash, Stays};
+ghost use Rattle.hm_machine.specs.Cpus.{config_of, step_ended, nested_of, picks, ticked, early_ended, Came, CountsNone, CountsOne, IsPosition};
+ghost use Rattle.hm_machine.specs.Cpus.{IsSoundUnderSome, IsSoundUnder, KeepsFlash, Stays};
 ghost use Rattle.hm_machine.specs.Shown.{run_with};
 ghost use Rattle.hm_mem.specs.Memory.{memory_of, flash_at};
 ghost use Rattle.hm_mem.specs.Seen.{with_dev};
@@ -81,8 +82,8 @@ fn count_and_arrive(irq: &[u32; 8], mem: &mut Mem)
     arrive_all(dev, irq);
 }
 
-/// The end of a tick, by its number, how many letters it has, its interrupts, and whether exceptions may enter: the position is judged, and what was counted and became
-/// pending may let an exception enter. The answer is whether one did, or how the run ends here.
+/// The end of a tick, by its number, how many letters it has, its interrupts, and whether exceptions may enter: the position is judged, and what was
+/// counted and became pending may let an exception enter. The answer is whether one did, or how the run ends here.
 fn end_tick(
     tick: u32,
     steps: u32,
@@ -92,7 +93,8 @@ fn end_tick(
 ) -> Result<bool, Outcome>
     requires sound { IsSoundUnderSome x.old }
     requires position { IsPosition x.old }
-    ensures value { (s : Sched) (line : TickLine) (es : List Pointers) → s.entries ≡ entries → line.irq ≡ irq.now → length line.letters ≡ steps → IsSoundUnder s x.old
+    ensures value { (s : Sched) (line : TickLine) (es : List Pointers) → s.entries ≡ entries → line.irq ≡ irq.now → length line.letters ≡ steps
+        → IsSoundUnder s x.old
         → Came result (nested_of x.new) tick es (tick_end s line (run_with None (nested_of x.old) tick es)) }
     ensures moves { KeepsFlash x.old x.new }
     ensures position { OnOk result (IsPosition x.new) }

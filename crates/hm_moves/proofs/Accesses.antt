@@ -26,7 +26,8 @@ not_taken : (b : Bool) (k : FaultKind) (o : Option FaultKind) → (if b then Som
 not_taken true k o e = some_none e
 not_taken false k o e = (refl, e)
 
-pub in_memory : (thread store : Bool) (len a : ℕ) → fault_kind thread Vector store len a ≡ None → (lies_in_memory len a ≡ true) × ((store && lies_in_flash len a) ≡ false)
+pub in_memory : (thread store : Bool) (len a : ℕ) → fault_kind thread Vector store len a ≡ None
+    → (lies_in_memory len a ≡ true) × ((store && lies_in_flash len a) ≡ false)
 in_memory thread store len a h =
     let one = not_taken (is_unaligned Vector len a) kind.Unaligned _ h in
     let two = not_taken (true && in_devices a) kind.DeviceVector _ one.1 in
@@ -51,7 +52,8 @@ pub no_fault : (o : Option FaultKind) (kept store : Bool) (a : ℕ) → stop_aft
 no_fault None kept store a h = refl
 no_fault (Some k) kept store a h = some_none h
 
-pub fault_free : (x : Around) (store : Bool) (len a : ℕ) (s : Seen) → stop_of x Vector store len a s ≡ None → fault_kind (is_thread x.actor) Vector store len a ≡ None
+pub fault_free : (x : Around) (store : Bool) (len a : ℕ) (s : Seen) → stop_of x Vector store len a s ≡ None
+    → fault_kind (is_thread x.actor) Vector store len a ≡ None
 fault_free x store len a s h = no_fault (fault_kind (is_thread x.actor) Vector store len a) (is_kept x.actor x.bounds store len a s) store a h
 
 -- addresses within the memory do not go past the last

@@ -1,5 +1,6 @@
 -- The checks of the code are those of the tree.
-use Rattle.std.proofs.Common.{◌≡◌, ℕ, ◌+◌, Bool, true, false, not, cond, ◌||◌, ◌&&◌, List, [], ◌∷◌, ◌++◌, Option, Some, None, Result, Ok, Err, refl, sym, ◌∙◌, ap, subst, arith}
+use Rattle.std.proofs.Common.{◌≡◌, ℕ, ◌+◌, Bool, true, false, not, cond, ◌||◌, ◌&&◌, List, [], ◌∷◌, ◌++◌, Option, Some, None, Result, Ok, Err, refl, sym, ◌∙◌}
+use Rattle.std.proofs.Common.{ap, subst, arith}
 use Rattle.hm_base.specs.declared.FaultKind.{FaultKind}
 use Rattle.hm_base.specs.declared.Stop.{Stop}
 use Rattle.hm_base.specs.declared.Stop.TheVariants as stop
@@ -29,9 +30,11 @@ checked_asks : (m : Memory) (r : Regs) (output : List ℕ) (a : ℕ) (bs : List 
     → checked cells (asks a bs ++ cs) (state_of r m output) ≡ cond (any_tainted m bs) (Some (stop.Tainted a)) (checked cells cs (state_of r m output))
 unfolding state_of
 checked_asks m r output a [] cs = refl
-checked_asks m r output a (b ∷ bs) cs = ap (λ o. cond (tainted_at m b) (Some (stop.Tainted a)) o) (checked_asks m r output a bs cs) ∙ twice (tainted_at m b) (any_tainted m bs)
+checked_asks m r output a (b ∷ bs) cs = ap (λ o. cond (tainted_at m b) (Some (stop.Tainted a)) o) (checked_asks m r output a bs cs)
+    ∙ twice (tainted_at m b) (any_tainted m bs)
   where
-    twice : (p q : Bool) → cond p (Some (stop.Tainted a)) (cond q (Some (stop.Tainted a)) (checked cells cs (state_of r m output))) ≡ cond (p || q) (Some (stop.Tainted a)) (checked cells cs (state_of r m output))
+    twice : (p q : Bool) → cond p (Some (stop.Tainted a)) (cond q (Some (stop.Tainted a)) (checked cells cs (state_of r m output)))
+        ≡ cond (p || q) (Some (stop.Tainted a)) (checked cells cs (state_of r m output))
     twice true q = refl
     twice false q = refl
 
@@ -57,7 +60,8 @@ any_byte m size.Half a h =
     ap (λ b. tainted_at m a || (tainted_at m b || false)) (within size.Half a 1 h (omega arith))
     ∙ two_bytes (tainted_at m a) (tainted_at m (a + 1))
 any_byte m size.Word a h =
-    (λ j. tainted_at m a || (tainted_at m (within size.Word a 1 h (omega arith) j) || (tainted_at m (within size.Word a 2 h (omega arith) j) || (tainted_at m (within size.Word a 3 h (omega arith) j) || false))))
+    (λ j. tainted_at m a || (tainted_at m (within size.Word a 1 h (omega arith) j)
+    || (tainted_at m (within size.Word a 2 h (omega arith) j) || (tainted_at m (within size.Word a 3 h (omega arith) j) || false))))
     ∙ four_bytes (tainted_at m a) (tainted_at m (a + 1)) (tainted_at m (a + 2)) (tainted_at m (a + 3))
 
 module _ (m : Memory) (r : Regs) (output : List ℕ) (store : Bool) (z : Size) (a : ℕ) (cs : List (Check Cell Stop)) where
@@ -76,7 +80,8 @@ module _ (m : Memory) (r : Regs) (output : List ℕ) (store : Bool) (z : Size) (
   tainted false = refl
 
   by_actor : (o : Option FaultKind) (who : Actor) → (o ≡ None → lies_in_memory (width z) a ≡ true)
-      → checked cells ((fails (stop_after o (is_closed who m.around.bounds store (width z) a) store a) ++ cond (is_thread who && not store) (asks a (span_bytes a (width z))) []) ++ cs) s
+      → checked cells ((fails (stop_after o (is_closed who m.around.bounds store (width z) a) store a)
+      ++ cond (is_thread who && not store) (asks a (span_bytes a (width z))) []) ++ cs) s
       ≡ or_else (stop_after o (is_kept who m.around.bounds store (width z) a (seen m)) store a) rest
   by_actor (Some k) who h = refl
   by_actor None Entry h = refl
@@ -93,7 +98,8 @@ module _ (m : Memory) (r : Regs) (output : List ℕ) (store : Bool) (z : Size) (
           ∙ ap (λ y. or_else (stop_after None (y && some_byte (width z) (tainted_at m) a) false a) rest) (sym (h refl))
 
   pub element_checked : checked cells (element_checks m.around store (width z) a ++ cs) s ≡ or_else (stop_of m.around Vector store (width z) a (seen m)) rest
-  element_checked = by_actor (fault_kind (is_thread m.around.actor) Vector store (width z) a) m.around.actor (λ e. (in_memory (is_thread m.around.actor) store (width z) a e).0)
+  element_checked = by_actor (fault_kind (is_thread m.around.actor) Vector store (width z) a) m.around.actor
+      (λ e. (in_memory (is_thread m.around.actor) store (width z) a e).0)
 
 pub all_checked : (m : Memory) (r : Regs) (output : List ℕ) (store : Bool) (z : Size) (es : List Element)
     → checked cells (checks_of m.around store (width z) es) (state_of r m output) ≡ first_stop m.around store (width z) es (seen m)
@@ -104,11 +110,13 @@ all_checked m r output store z (e ∷ es) =
 
 -- the run of a beat, by the stop of the code
 pub run_checked : (i : Moves) (b : ℕ) (m : Memory) (r : Regs) (output : List ℕ) (es : List Element) → es ≡ elements_at i b (state_of r m output)
-    → run (moves_tree i m.around b) r m output ≡ finish cells (first_stop m.around i.store (width i.memory) es (seen m)) (leaf_at i m.around b (state_of r m output)) (state_of r m output)
+    → run (moves_tree i m.around b) r m output
+    ≡ finish cells (first_stop m.around i.store (width i.memory) es (seen m)) (leaf_at i m.around b (state_of r m output)) (state_of r m output)
 run_checked i b m r output es h =
     let s = state_of r m output in
     ap (λ (l : Leaf Cell Value Stop). finish cells (checked cells l.checks s) l s) (reach_moves i m.around b s)
-    ∙ ap (λ o. finish cells o (leaf_at i m.around b s) s) (all_checked m r output i.store i.memory (elements_at i b s) ∙ ap (λ xs. first_stop m.around i.store (width i.memory) xs (seen m)) (sym h))
+    ∙ ap (λ o. finish cells o (leaf_at i m.around b s) s)
+    (all_checked m r output i.store i.memory (elements_at i b s) ∙ ap (λ xs. first_stop m.around i.store (width i.memory) xs (seen m)) (sym h))
 
 -- a beat that stops
 pub run_stopped : (i : Moves) (b : ℕ) (m : Memory) (r : Regs) (output : List ℕ) (es : List Element) (e : Stop) → es ≡ elements_at i b (state_of r m output)
@@ -126,8 +134,10 @@ checks_as (Some f) l s (Err e) h = ap Err (some_same h)
     some_same : {e f : Stop} → Some e ≡ Some f → e ≡ f
     some_same h = cc
 
-pub check_exact : {A : Type 0} (i : Moves) (b : ℕ) (m : Memory) (r : Regs) (output : List ℕ) (es : List Element) (x : Result A Stop) → es ≡ elements_at i b (state_of r m output)
+pub check_exact : {A : Type 0} (i : Moves) (b : ℕ) (m : Memory) (r : Regs) (output : List ℕ) (es : List Element) (x : Result A Stop)
+    → es ≡ elements_at i b (state_of r m output)
     → stop_in x ≡ first_stop m.around i.store (width i.memory) es (seen m) → Checks (run (moves_tree i m.around b) r m output) x
 check_exact i b m r output es x h e =
     let s = state_of r m output in
-    subst (λ y. Checks y x) (sym (run_checked i b m r output es h)) (checks_as (first_stop m.around i.store (width i.memory) es (seen m)) (leaf_at i m.around b s) s x e)
+    subst (λ y. Checks y x) (sym (run_checked i b m r output es h))
+    (checks_as (first_stop m.around i.store (width i.memory) es (seen m)) (leaf_at i m.around b s) s x e)

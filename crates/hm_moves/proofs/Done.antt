@@ -1,5 +1,6 @@
 -- What the code of a row that loads or stores does is what its tree does.
-use Rattle.std.proofs.Common.{◌≡◌, ℕ, ◌+◌, ◌-◌, ◌*◌, ◌%◌, ◌<◌, Bool, true, false, not, cond, ◌&&◌, ltb, eqb, List, [], ◌∷◌, ◌++◌, map, Option, None, Ok, drop, length, get_or, refl, sym, ◌∙◌, ap, append_assoc}
+use Rattle.std.proofs.Common.{◌≡◌, ℕ, ◌+◌, ◌-◌, ◌*◌, ◌%◌, ◌<◌, Bool, true, false, not, cond, ◌&&◌, ltb, eqb, List, [], ◌∷◌, ◌++◌, map, Option, None, Ok, drop}
+use Rattle.std.proofs.Common.{length, get_or, refl, sym, ◌∙◌, ap, append_assoc}
 use Rattle.std.proofs.lemmas.List.{map-append}
 use Rattle.hm_base.specs.declared.Place.TheVariants.{P0, R}
 use Rattle.hm_base.specs.declared.Place.{Place}
@@ -45,7 +46,8 @@ puts-more [] w = refl
 puts-more (v ∷ ws) w = ap (λ us. write v.place v.value ∷ us) (puts-more ws w)
 
 -- one word more is filled
-pub words_more : (i : Moves) (es : List Element) (list : List Place) (j v : ℕ) (old : Place → ℕ) (s : Seen) (ws vs : List Written) (t : List Write) → j < length list
+pub words_more : (i : Moves) (es : List Element) (list : List Place) (j v : ℕ) (old : Place → ℕ) (s : Seen) (ws vs : List Written) (t : List Write)
+    → j < length list
     → vs ≡ ws ++ (record { place = get_or list j (R 0); value = v }) ∷ [] → v ≡ filled_in i j es (old (get_or list j (R 0))) s
     → puts_of ws ++ word_puts i j es (drop j list) old s ≡ t → puts_of vs ++ word_puts i (j + 1) es (drop (j + 1) list) old s ≡ t
 words_more i es list j v old s ws vs t low e h k =
@@ -56,7 +58,8 @@ words_more i es list j v old s ws vs t low e h k =
     ∙ sym (ap (λ ps. puts_of ws ++ word_puts i j es ps old s) (drop_at (R 0) list j low)) ∙ k
 
 -- a beat fills words or stores bytes, so it does not matter which are written first
-either_first : (y : Bool) (ws vs us : List (Cell × Value)) (s : State) → put_all cells (cond y [] ws ++ us) (put_all cells (cond y vs []) s) ≡ put_all cells (cond y [] ws ++ (cond y vs [] ++ us)) s
+either_first : (y : Bool) (ws vs us : List (Cell × Value)) (s : State)
+    → put_all cells (cond y [] ws ++ us) (put_all cells (cond y vs []) s) ≡ put_all cells (cond y [] ws ++ (cond y vs [] ++ us)) s
 either_first true ws vs us s = sym (put_all-append vs us s)
 either_first false ws vs us s = refl
 

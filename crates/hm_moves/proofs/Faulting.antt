@@ -28,7 +28,8 @@ then_first (Some f) u g = refl
 abbrev pub effect_after : Option Fault → List (Cell × Value) → Result (Effect Cell Value) Stop
 effect_after o ws = stop_first o (Ok (false, ws))
 
-after_step : (o : Option Fault) (ws : List (Cell × Value)) (u v : State) → put_all cells ws u ≡ v → then (effect_after o ws) (λ e. Ok (done cells e u)) ≡ stop_first o (Ok v)
+after_step : (o : Option Fault) (ws : List (Cell × Value)) (u v : State) → put_all cells ws u ≡ v
+    → then (effect_after o ws) (λ e. Ok (done cells e u)) ≡ stop_first o (Ok v)
 after_step None ws u v h = ap Ok h
 after_step (Some f) ws u v h = refl
 
@@ -74,12 +75,17 @@ module _ (t : ℕ → Tree) (fault : ℕ → State → Option Fault) (links othe
       let f2 : State → Result _ Stop = λ v. then ((action cells (t 2)).run v) f3 in
       let f1 : State → Result _ Stop = λ u. then ((action cells (t 1)).run u) f2 in
       ap (λ x. then x f1) (step 0 s [] clean (λ c h. tt) (apart_each [] (links 0 s) (λ v. tt))) ∙ then_first (fault 0 s) _ f1
-      ∙ ap (stop_first (fault 0 s)) (ap (λ x. then x f2) (step 1 s1 w1 clean1 (λ c h. uses 1 0 (omega arith) (omega arith) s1 s c h) (free 1 0 (omega arith) (omega arith) s1 s)) ∙ then_first (fault 1 s1) _ f2
+      ∙ ap (stop_first (fault 0 s)) (ap (λ x. then x f2)
+      (step 1 s1 w1 clean1 (λ c h. uses 1 0 (omega arith) (omega arith) s1 s c h) (free 1 0 (omega arith) (omega arith) s1 s))
+      ∙ then_first (fault 1 s1) _ f2
       ∙ ap (stop_first (fault 1 s1)) (ap (λ x. then x f3) (step 2 s2 w2 clean2
       (λ c h. off-append c w1 (others 1 s1) (uses 2 0 (omega arith) (omega arith) s2 s c h) (uses 2 1 (omega arith) (omega arith) s2 s1 c h))
-      (apart-append w1 (others 1 s1) (links 2 s2) (free 2 0 (omega arith) (omega arith) s2 s) (free 2 1 (omega arith) (omega arith) s2 s1))) ∙ then_first (fault 2 s2) _ f3
+      (apart-append w1 (others 1 s1) (links 2 s2) (free 2 0 (omega arith) (omega arith) s2 s) (free 2 1 (omega arith) (omega arith) s2 s1)))
+      ∙ then_first (fault 2 s2) _ f3
       ∙ ap (stop_first (fault 2 s2)) (ap (λ x. then x f) (step 3 s3 w3 clean3
-      (λ c h. off-append c w2 (others 2 s2) (off-append c w1 (others 1 s1) (uses 3 0 (omega arith) (omega arith) s3 s c h) (uses 3 1 (omega arith) (omega arith) s3 s1 c h))
+      (λ c h. off-append c w2 (others 2 s2)
+      (off-append c w1 (others 1 s1) (uses 3 0 (omega arith) (omega arith) s3 s c h) (uses 3 1 (omega arith) (omega arith) s3 s1 c h))
       (uses 3 2 (omega arith) (omega arith) s3 s2 c h))
-      (apart-append w2 (others 2 s2) (links 3 s3) (apart-append w1 (others 1 s1) (links 3 s3) (free 3 0 (omega arith) (omega arith) s3 s) (free 3 1 (omega arith) (omega arith) s3 s1))
+      (apart-append w2 (others 2 s2) (links 3 s3)
+      (apart-append w1 (others 1 s1) (links 3 s3) (free 3 0 (omega arith) (omega arith) s3 s) (free 3 1 (omega arith) (omega arith) s3 s1))
       (free 3 2 (omega arith) (omega arith) s3 s2))) ∙ then_first (fault 3 s3) _ f)))

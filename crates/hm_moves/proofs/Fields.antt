@@ -57,7 +57,8 @@ high_half : (x w : ℕ) → put_field 16 16 x (w % 2 ^ 32) ≡ w % 65536 + 65536
 unfolding put_field
 high_half x w = omega arith
 
-pub two_halves : (a b w : ℕ) → put_field 16 16 b (put_field 0 16 a (w % 2 ^ 32) % 2 ^ 32) ≡ a % 256 + 256 * (a / 256 % 256) + 65536 * (b % 256) + 16777216 * (b / 256 % 256)
+pub two_halves : (a b w : ℕ) → put_field 16 16 b (put_field 0 16 a (w % 2 ^ 32) % 2 ^ 32)
+    ≡ a % 256 + 256 * (a / 256 % 256) + 65536 * (b % 256) + 16777216 * (b / 256 % 256)
 two_halves a b w =
     let v = put_field 0 16 a (w % 2 ^ 32) in
     let low : v % 65536 ≡ a % 65536 = low_half a (w % 2 ^ 32) in

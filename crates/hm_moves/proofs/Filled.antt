@@ -1,5 +1,6 @@
 -- What the code fills words with, and what a beat then has done.
-use Rattle.std.proofs.Common.{◌≡◌, ℕ, suc, ◌+◌, ◌*◌, ◌%◌, ◌^◌, ◌<◌, Bool, true, false, not, cond, ◌||◌, List, [], ◌∷◌, ◌++◌, drop, get_or, length, map, None, refl, sym, ◌∙◌, ap, subst, arith}
+use Rattle.std.proofs.Common.{◌≡◌, ℕ, suc, ◌+◌, ◌*◌, ◌%◌, ◌^◌, ◌<◌, Bool, true, false, not, cond, ◌||◌, List, [], ◌∷◌, ◌++◌, drop, get_or, length, map, None}
+use Rattle.std.proofs.Common.{refl, sym, ◌∙◌, ap, subst, arith}
 use Rattle.std.specs.Prelude.{All, if◌then◌else◌}
 use Rattle.std.proofs.lemmas.List.{append_assoc, get_or-map, map-append}
 use Rattle.std.proofs.lemmas.List.Elements.{All-head, All-tail}
@@ -43,13 +44,15 @@ four_bytes : (p q r s : ℕ) → p + 256 * (q + 256 * (r + 256 * (s + 256 * 0)))
 four_bytes p q r s = omega arith
 
 -- the number of the bytes of an element is what is read there
-number_read : (m : Memory) (z : Size) (a : ℕ) (xs : List ℕ) → lies_in_memory (width z) a ≡ true → number (width z) (map (byte_at m) (span_bytes a (width z)) ++ xs) ≡ read (width z) a (seen m)
+number_read : (m : Memory) (z : Size) (a : ℕ) (xs : List ℕ) → lies_in_memory (width z) a ≡ true
+    → number (width z) (map (byte_at m) (span_bytes a (width z)) ++ xs) ≡ read (width z) a (seen m)
 number_read m size.Byte a xs h = one_byte (byte_at m a) ∙ taken (lies_in_memory 1 a) (byte_at m a) _ h
 number_read m size.Half a xs h =
     ap (λ b. byte_at m a + 256 * (byte_at m b + 256 * 0)) (within size.Half a 1 h (omega arith))
     ∙ two_bytes (byte_at m a) (byte_at m (a + 1)) ∙ taken (lies_in_memory 2 a) (little 2 (byte_at m) a) _ h
 number_read m size.Word a xs h =
-    (λ j. byte_at m a + 256 * (byte_at m (within size.Word a 1 h (omega arith) j) + 256 * (byte_at m (within size.Word a 2 h (omega arith) j) + 256 * (byte_at m (within size.Word a 3 h (omega arith) j) + 256 * 0))))
+    (λ j. byte_at m a + 256 * (byte_at m (within size.Word a 1 h (omega arith) j) + 256 *
+    (byte_at m (within size.Word a 2 h (omega arith) j) + 256 * (byte_at m (within size.Word a 3 h (omega arith) j) + 256 * 0))))
     ∙ four_bytes (byte_at m a) (byte_at m (a + 1)) (byte_at m (a + 2)) (byte_at m (a + 3)) ∙ taken (lies_in_memory 4 a) (little 4 (byte_at m) a) _ h
 
 drop_bytes : (m : Memory) (z : Size) (a : ℕ) (xs : List ℕ) → drop (width z) (map (byte_at m) (span_bytes a (width z)) ++ xs) ≡ xs
@@ -99,7 +102,8 @@ module _ (m : Memory) (r : Regs) (output : List ℕ) where
       let rest = map Byte (bytes_of z es) ++ cs in
       let xs = numbers (map s.cell rest) in
       let split : numbers (map s.cell (map Byte (bs ++ bytes_of z es) ++ cs)) ≡ map (byte_at m) bs ++ xs
-      = ap (λ ds. numbers (map s.cell ds)) (ap (λ ds. ds ++ cs) (map-append Byte bs (bytes_of z es)) ∙ append_assoc (map Byte bs) (map Byte (bytes_of z es)) cs) ∙ bytes_read m r output bs rest in
+      = ap (λ ds. numbers (map s.cell ds)) (ap (λ ds. ds ++ cs) (map-append Byte bs (bytes_of z es)) ∙ append_assoc (map Byte bs) (map Byte (bytes_of z es)) cs)
+      ∙ bytes_read m r output bs rest in
       (λ t. laid i k e (number (width z) (split t)) (filled i k es (drop (width z) (split t))))
       ∙ (λ t. laid i k e (number_read m z e.addr xs lies t) (filled i k es (drop_bytes m z e.addr xs t)))
       ∙ ap (laid i k e (read (width z) e.addr (seen m))) (filled_read i k es cs both.1)
@@ -127,32 +131,47 @@ module _ (m : Memory) (r : Regs) (output : List ℕ) where
       next k low = subst (λ (n : ℕ). filled i n es vs ≡ filled_in i n es (old_word i r (get_or ws k (R 0))) (seen m)) (omega arith) (same (suc k) (omega arith))
 
   -- the words of a beat that loads
-  pub words_filled : (i : Moves) (es : List Element) (ws : List Place) → All IsPlace ws → Words ws → first_stop m.around false (width i.memory) es (seen m) ≡ None
-      → map into (word_puts i 0 es ws (old_word i r) (seen m)) ≡ words_from i 0 es (numbers (map s.cell (map Byte (bytes_of i.memory es) ++ map At (cond (not i.predicated) ws [])))) ws
+  pub words_filled : (i : Moves) (es : List Element) (ws : List Place) → All IsPlace ws → Words ws
+      → first_stop m.around false (width i.memory) es (seen m) ≡ None
+      → map into (word_puts i 0 es ws (old_word i r) (seen m))
+      ≡ words_from i 0 es (numbers (map s.cell (map Byte (bytes_of i.memory es) ++ map At (cond (not i.predicated) ws [])))) ws
   words_filled i es ws placed are free =
       puts_words i 0 es ws _ (λ k low. filled_read i (0 + k) es (map At (cond (not i.predicated) ws [])) free
       ∙ ap (λ o. filled_in i (0 + k) es o (seen m)) (shifted k low))
     where
-      shifted : (k : ℕ) → k < length ws → get_or (numbers (map s.cell (map At (cond (not i.predicated) ws [])))) (0 + k) 0 % 2 ^ 32 ≡ old_word i r (get_or ws k (R 0))
-      shifted k low = subst (λ (n : ℕ). get_or (numbers (map s.cell (map At (cond (not i.predicated) ws [])))) n 0 % 2 ^ 32 ≡ old_word i r (get_or ws k (R 0))) (omega arith) (begins i ws k placed are low)
+      shifted : (k : ℕ) → k < length ws
+          → get_or (numbers (map s.cell (map At (cond (not i.predicated) ws [])))) (0 + k) 0 % 2 ^ 32 ≡ old_word i r (get_or ws k (R 0))
+      shifted k low = subst (λ (n : ℕ). get_or (numbers (map s.cell (map At (cond (not i.predicated) ws [])))) n 0 % 2 ^ 32 ≡ old_word i r (get_or ws k (R 0)))
+          (omega arith) (begins i ws k placed are low)
 
   -- where the row loads, the words that the code fills are those that the beat fills
-  pub loads_filled : (i : Moves) (b : ℕ) (es : List Element) (ws : List Place) → i.store ≡ false → es ≡ elements_at i b s → ws ≡ i.words b → All IsPlace ws → Words ws
+  pub loads_filled : (i : Moves) (b : ℕ) (es : List Element) (ws : List Place) → i.store ≡ false → es ≡ elements_at i b s → ws ≡ i.words b → All IsPlace ws
+      → Words ws
       → first_stop m.around false (width i.memory) es (seen m) ≡ None → map into (word_puts i 0 es ws (old_word i r) (seen m)) ≡ loaded_at i b s
   loads_filled i b es ws loads same words placed are free =
       words_filled i es ws placed are free
       ∙ (λ t. words_from i 0 (same t) (numbers (map s.cell (map Byte (bytes_of i.memory (same t)) ++ map At (cond (not i.predicated) (words t) [])))) (words t))
-      ∙ (λ t. cond (sym loads t) [] (words_from i 0 (elements_at i b s) (numbers (map s.cell (cond (sym loads t) [] (map Byte (bytes_of i.memory (elements_at i b s))) ++ map At (cond (sym loads t || not i.predicated) (i.words b) [])))) (i.words b)))
+      ∙ (λ t. cond (sym loads t) [] (words_from i 0 (elements_at i b s)
+      (numbers (map s.cell (cond (sym loads t) [] (map Byte (bytes_of i.memory (elements_at i b s)))
+      ++ map At (cond (sym loads t || not i.predicated) (i.words b) [])))) (i.words b)))
 
   -- where the row stores, the bytes that the code stores are those that the beat stores
-  pub bytes_stored : (i : Moves) (b : ℕ) (t : Bool) (es : List Element) (ws : List Place) (xs : List ℕ) → i.store ≡ true → es ≡ elements_at i b s → ws ≡ i.words b → All IsPlace ws → Words ws
+  pub bytes_stored : (i : Moves) (b : ℕ) (t : Bool) (es : List Element) (ws : List Place) (xs : List ℕ) → i.store ≡ true → es ≡ elements_at i b s
+      → ws ≡ i.words b → All IsPlace ws → Words ws
       → xs ≡ map (λ p. value_at p r) ws → all_bytes_from t i.memory es xs ≡ stored_at i t b s
   bytes_stored i b t es ws xs stores same words placed are values =
-      let values_read : xs ≡ numbers (map s.cell (map At (i.words b))) = values ∙ sym (words_hold ws placed are) ∙ ap (λ ps. numbers (map s.cell (map At ps))) words in
+      let values_read : xs ≡ numbers (map s.cell (map At (i.words b))) = values ∙ sym (words_hold ws placed are)
+      ∙ ap (λ ps. numbers (map s.cell (map At ps))) words in
       (λ u. all_bytes_from t i.memory (same u) (values_read u))
-      ∙ (λ u. cond (sym stores u) (all_bytes_from t i.memory (elements_at i b s) (numbers (map s.cell (cond (sym stores u) [] (map Byte (bytes_of i.memory (elements_at i b s))) ++ map At (cond (sym stores u || not i.predicated) (i.words b) []))))) [])
+      ∙ (λ u. cond (sym stores u) (all_bytes_from t i.memory (elements_at i b s)
+      (numbers (map s.cell (cond (sym stores u) [] (map Byte (bytes_of i.memory (elements_at i b s)))
+      ++ map At (cond (sym stores u || not i.predicated) (i.words b) []))))) [])
 
-pub cells_filled : (i : Moves) (j : ℕ) (es : List Element) (ws : List Place) (old : Place → ℕ) (s : Seen) → All IsPlace ws → Words ws → AreCells (word_puts i j es ws old s)
+pub cells_filled : (i : Moves) (j : ℕ) (es : List Element) (ws : List Place) (old : Place → ℕ) (s : Seen) → All IsPlace ws → Words ws
+    → AreCells (word_puts i j es ws old s)
 cells_filled i j es [] old s placed are = tt
-cells_filled i j es (p ∷ ws) old s placed are =
-    (All-head IsPlace p ws placed, proper_cell p (All-head IsPlace p ws placed) (word_plain p are.0), cells_filled i (j + 1) es ws old s (All-tail IsPlace p ws placed) are.1)
+cells_filled i j es (p ∷ ws) old s placed are = (
+  All-head IsPlace p ws placed,
+  proper_cell p (All-head IsPlace p ws placed) (word_plain p are.0),
+  cells_filled i (j + 1) es ws old s (All-tail IsPlace p ws placed) are.1,
+)

@@ -1,5 +1,6 @@
 -- Which elements and words a beat of an interleaved row moves, by their numbers within a part.
-use Rattle.std.proofs.Common.{◌≡◌, ℕ, zero, suc, ◌+◌, ◌*◌, ◌/◌, ◌%◌, ◌^◌, ◌<◌, Bool, true, false, cond, eqb, ltb, List, [], ◌∷◌, ◌++◌, get_or, refl, sym, ◌∙◌, ap, arith, eq-eqb, ne_eqb, eqb-true}
+use Rattle.std.proofs.Common.{◌≡◌, ℕ, zero, suc, ◌+◌, ◌*◌, ◌/◌, ◌%◌, ◌^◌, ◌<◌, Bool, true, false, cond, eqb, ltb, List, [], ◌∷◌, ◌++◌, get_or, refl, sym, ◌∙◌}
+use Rattle.std.proofs.Common.{ap, arith, eq-eqb, ne_eqb, eqb-true}
 use Rattle.hm_base.specs.Place.{same_place}
 use Rattle.hm_base.specs.declared.Place.{Place}
 use Rattle.hm_base.specs.declared.Place.TheVariants.{R}
@@ -74,7 +75,8 @@ beat_words z four = cond (ltb (per_word z) (registers four)) (per_word z) (regis
 
 abbrev pub part_places : Size → Bool → ℕ → ℕ → ℕ → List Place
 part_places z four d part b =
-    each_from (λ j. let k = per_word z * b + j in word_place (d + k % registers four) (and_more (part_word four part) (turn_word z four k))) 0 (beat_words z four)
+    each_from (λ j. let k = per_word z * b + j in word_place (d + k % registers four) (and_more (part_word four part) (turn_word z four k))) 0
+    (beat_words z four)
 
 -- where element k of the part stands
 abbrev pub part_address : Size → Size → ℕ → ℕ → State → ℕ → ℕ
@@ -111,12 +113,15 @@ module _ (y z : Size) (d n : ℕ) (four : Bool) (part : ℕ) (back : Bool) where
       λ t. each_from (λ j. word_place (d + register_is z four part b j t) (which j t)) 0 (beat_words z four)
 
   pub elements_are : (store sign : Bool) (b : ℕ) (u : State)
-      → (let t : Transfer = record { store = store; memory = y; register = z; signed = sign; found = interleaved d n four part back } in elements_at (moves_by t) b u)
+      → (let t : Transfer = record { store = store; memory = y; register = z; signed = sign; found = interleaved d n four part back } in
+      elements_at (moves_by t) b u)
       ≡ part_elements z four (part_address y z n part u) b
   elements_are store sign b u =
       let address : ℕ → ℕ = λ k. (at (R n) u + width y * k) % 2 ^ 32 in
-      (λ t. active_ones every_byte (each_from (λ j. record { addr = address (stream_is z part b j t); word = j % registers four; lane = lane_is z four part b j t }) 0 (per_word z)))
-      ∙ all_active (λ j. part_address y z n part u (per_word z * b + j)) (λ j. j % registers four) (λ j. width z * ((per_word z * b + j) / registers four)) 0 (per_word z)
+      (λ t. active_ones every_byte (each_from
+      (λ j. record { addr = address (stream_is z part b j t); word = j % registers four; lane = lane_is z four part b j t }) 0 (per_word z)))
+      ∙ all_active (λ j. part_address y z n part u (per_word z * b + j)) (λ j. j % registers four) (λ j. width z * ((per_word z * b + j) / registers four)) 0
+      (per_word z)
 
   pub addresses_are : (s : State) → addresses y z (interleaved d n four part back) s ≡ each_from (part_address y z n part s) 0 (count z)
   addresses_are s =

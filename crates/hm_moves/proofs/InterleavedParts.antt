@@ -48,7 +48,8 @@ module _ (d part : ℕ) (f v : ℕ → ℕ) (s : State) where
   m = of_two d part
 
   abbrev parts : Size → Bool → ℕ → Bool → State
-  parts z four n back = put_all cells (filled_registers z (interleaved d n four part back) (loaded_elements v (each_from (λ j. true) 0 (count z)) (each_from f 0 (count z)))) s
+  parts z four n back = put_all cells
+      (filled_registers z (interleaved d n four part back) (loaded_elements v (each_from (λ j. true) 0 (count z)) (each_from f 0 (count z)))) s
 
   bytes_of_four : (n : ℕ) (back : Bool) → beats size.Byte true ≡ parts size.Byte true n back
   bytes_of_four n back =
@@ -59,7 +60,8 @@ module _ (d part : ℕ) (f v : ℕ → ℕ) (s : State) where
   halves_of_four : (n : ℕ) (back : Bool) → beats size.Half true ≡ parts size.Half true n back
   halves_of_four n back =
       twos_in_turn l (four_apart d part) (half 0 0) (half 0 1) (half 0 2) (half 0 3) (half 1 4) (half 1 5) (half 1 6) (half 1 7) s
-      ∙ (λ t. with_four l (two_halves (x 0) (x 4) (at (l 0) s) t) (two_halves (x 1) (x 5) (at (l 1) s) t) (two_halves (x 2) (x 6) (at (l 2) s) t) (two_halves (x 3) (x 7) (at (l 3) s) t))
+      ∙ (λ t. with_four l (two_halves (x 0) (x 4) (at (l 0) s) t) (two_halves (x 1) (x 5) (at (l 1) s) t) (two_halves (x 2) (x 6) (at (l 2) s) t)
+      (two_halves (x 3) (x 7) (at (l 3) s) t))
 
   words_of_four : (n : ℕ) (back : Bool) → beats size.Word true ≡ parts size.Word true n back
   words_of_four n back =
@@ -76,7 +78,8 @@ module _ (d part : ℕ) (f v : ℕ → ℕ) (s : State) where
   halves_of_two : (n : ℕ) (back : Bool) → beats size.Half false ≡ parts size.Half false n back
   halves_of_two n back =
       twos_twice m (two_apart d part) (half 0 0) (half 0 1) (half 0 4) (half 0 5) (half 1 2) (half 1 3) (half 1 6) (half 1 7) s
-      ∙ (λ t. with_four m (two_halves (x 0) (x 2) (at (m 0) s) t) (two_halves (x 1) (x 3) (at (m 1) s) t) (two_halves (x 4) (x 6) (at (m 2) s) t) (two_halves (x 5) (x 7) (at (m 3) s) t))
+      ∙ (λ t. with_four m (two_halves (x 0) (x 2) (at (m 0) s) t) (two_halves (x 1) (x 3) (at (m 1) s) t) (two_halves (x 4) (x 6) (at (m 2) s) t)
+      (two_halves (x 5) (x 7) (at (m 3) s) t))
       ∙ turned_middle m (two_apart d part) _ _ _ _ s
 
   words_of_two : (n : ℕ) (back : Bool) → beats size.Word false ≡ parts size.Word false n back

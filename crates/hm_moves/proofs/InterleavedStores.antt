@@ -1,5 +1,6 @@
 -- Four beats of an interleaved row that stores give bytes a part of each register.
-use Rattle.std.proofs.Common.{◌≡◌, ℕ, ◌+◌, ◌*◌, ◌/◌, ◌%◌, ◌<◌, ◌≤◌, Bool, true, false, List, [], ◌∷◌, ◌++◌, get_or, length, map, refl, sym, ◌∙◌, ap, arith, append_assoc}
+use Rattle.std.proofs.Common.{◌≡◌, ℕ, ◌+◌, ◌*◌, ◌/◌, ◌%◌, ◌<◌, ◌≤◌, Bool, true, false, List, [], ◌∷◌, ◌++◌, get_or, length, map, refl, sym, ◌∙◌, ap, arith}
+use Rattle.std.proofs.Common.{append_assoc}
 use Rattle.std.proofs.lemmas.List.{append-nil}
 use Rattle.hm_lane.specs.declared.lanes.Size.{Size}
 use Rattle.hm_lane.specs.declared.lanes.Size.TheVariants as size
@@ -31,12 +32,14 @@ AreStored len xs (e ∷ es) (v ∷ vs) = SameBytes len (get_or xs e.word 0) e.la
 AreStored len xs [] (v ∷ vs) = ⊥
 AreStored len xs (e ∷ es) [] = ⊥
 
-bytes_same : (e : Element) (xs : List ℕ) (v len k : ℕ) (bs : List ℕ) → SameBytes len (get_or xs e.word 0) e.lane v → k + length bs ≤ len → bytes_from false e xs k bs ≡ number_bytes v k bs
+bytes_same : (e : Element) (xs : List ℕ) (v len k : ℕ) (bs : List ℕ) → SameBytes len (get_or xs e.word 0) e.lane v → k + length bs ≤ len
+    → bytes_from false e xs k bs ≡ number_bytes v k bs
 bytes_same e xs v len k [] h low = refl
 bytes_same e xs v len k (a ∷ bs) h low = λ j. (Byte a, record { n = h k (omega arith) j; taint = false }) ∷ bytes_same e xs v len (k + 1) bs h (omega arith) j
 
 stored_first : (y : Size) (es : List Element) (xs vs : List ℕ) (ps : List Bool) (addrs zs : List ℕ) → AreStored (width y) xs es vs
-    → all_bytes_from false y es xs ++ element_bytes y ps addrs zs ≡ element_bytes y (map (λ e. true) es ++ ps) (map (λ (e : Element). e.addr) es ++ addrs) (vs ++ zs)
+    → all_bytes_from false y es xs ++ element_bytes y ps addrs zs
+    ≡ element_bytes y (map (λ e. true) es ++ ps) (map (λ (e : Element). e.addr) es ++ addrs) (vs ++ zs)
 stored_first y [] xs [] ps addrs zs h = refl
 stored_first y [] xs (v ∷ vs) ps addrs zs h = absurd h
 stored_first y (e ∷ es) xs [] ps addrs zs h = absurd h
@@ -52,7 +55,8 @@ regrouped a b c e = append_assoc (a ++ b) c e ∙ append_assoc a b (c ++ e) ∙ 
 -- BEATS
 -- the elements of beat b, as they stand in a part of each register
 abbrev pub part_values : Size → Bool → ℕ → ℕ → State → ℕ → List ℕ
-part_values z four d part s b = each_from (λ j. let k = per_word z * b + j in get_or (lanes z (part_at four part (d + k % registers four) s)) (k / registers four) 0) 0 (per_word z)
+part_values z four d part s b =
+    each_from (λ j. let k = per_word z * b + j in get_or (lanes z (part_at four part (d + k % registers four) s)) (k / registers four) 0) 0 (per_word z)
 
 -- what stands in the words of beat b
 abbrev pub part_words : Size → Bool → ℕ → ℕ → State → ℕ → List ℕ
@@ -62,7 +66,8 @@ abbrev pub BeatStored : Size → Size → Bool → ℕ → ℕ → (ℕ → ℕ)
 BeatStored y z four d part f s b = AreStored (width y) (part_words z four d part s b) (part_elements z four f b) (part_values z four d part s b)
 
 abbrev pub FourStored : Size → Size → Bool → ℕ → ℕ → (ℕ → ℕ) → State → Type 0
-FourStored y z four d part f s = BeatStored y z four d part f s 0 × BeatStored y z four d part f s 1 × BeatStored y z four d part f s 2 × BeatStored y z four d part f s 3
+FourStored y z four d part f s = BeatStored y z four d part f s 0 × BeatStored y z four d part f s 1 × BeatStored y z four d part f s 2
+    × BeatStored y z four d part f s 3
 
 module _ (y : Size) (d part : ℕ) (f : ℕ → ℕ) (s : State) where
   abbrev len : ℕ
@@ -70,23 +75,65 @@ module _ (y : Size) (d part : ℕ) (f : ℕ → ℕ) (s : State) where
 
   beats_stored : (z : Size) (four : Bool) → width y ≤ width z → FourStored y z four d part f s
   beats_stored size.Byte true h = (
-    (in_lane size.Byte _ 0 len (omega arith) h, (in_lane size.Byte _ 0 len (omega arith) h, (in_lane size.Byte _ 0 len (omega arith) h, (in_lane size.Byte _ 0 len (omega arith) h, tt)))),
-    (in_lane size.Byte _ 1 len (omega arith) h, (in_lane size.Byte _ 1 len (omega arith) h, (in_lane size.Byte _ 1 len (omega arith) h, (in_lane size.Byte _ 1 len (omega arith) h, tt)))),
-    (in_lane size.Byte _ 2 len (omega arith) h, (in_lane size.Byte _ 2 len (omega arith) h, (in_lane size.Byte _ 2 len (omega arith) h, (in_lane size.Byte _ 2 len (omega arith) h, tt)))),
-    (in_lane size.Byte _ 3 len (omega arith) h, (in_lane size.Byte _ 3 len (omega arith) h, (in_lane size.Byte _ 3 len (omega arith) h, (in_lane size.Byte _ 3 len (omega arith) h, tt)))),
+    (
+      in_lane size.Byte _ 0 len (omega arith) h,
+      (in_lane size.Byte _ 0 len (omega arith) h, (in_lane size.Byte _ 0 len (omega arith) h, (in_lane size.Byte _ 0 len (omega arith) h, tt))),
+    ),
+    (
+      in_lane size.Byte _ 1 len (omega arith) h,
+      (in_lane size.Byte _ 1 len (omega arith) h, (in_lane size.Byte _ 1 len (omega arith) h, (in_lane size.Byte _ 1 len (omega arith) h, tt))),
+    ),
+    (
+      in_lane size.Byte _ 2 len (omega arith) h,
+      (in_lane size.Byte _ 2 len (omega arith) h, (in_lane size.Byte _ 2 len (omega arith) h, (in_lane size.Byte _ 2 len (omega arith) h, tt))),
+    ),
+    (
+      in_lane size.Byte _ 3 len (omega arith) h,
+      (in_lane size.Byte _ 3 len (omega arith) h, (in_lane size.Byte _ 3 len (omega arith) h, (in_lane size.Byte _ 3 len (omega arith) h, tt))),
+    ),
   )
   beats_stored size.Byte false h = (
-    (in_lane size.Byte _ 0 len (omega arith) h, (in_lane size.Byte _ 0 len (omega arith) h, (in_lane size.Byte _ 1 len (omega arith) h, (in_lane size.Byte _ 1 len (omega arith) h, tt)))),
-    (in_lane size.Byte _ 2 len (omega arith) h, (in_lane size.Byte _ 2 len (omega arith) h, (in_lane size.Byte _ 3 len (omega arith) h, (in_lane size.Byte _ 3 len (omega arith) h, tt)))),
-    (in_lane size.Byte _ 0 len (omega arith) h, (in_lane size.Byte _ 0 len (omega arith) h, (in_lane size.Byte _ 1 len (omega arith) h, (in_lane size.Byte _ 1 len (omega arith) h, tt)))),
-    (in_lane size.Byte _ 2 len (omega arith) h, (in_lane size.Byte _ 2 len (omega arith) h, (in_lane size.Byte _ 3 len (omega arith) h, (in_lane size.Byte _ 3 len (omega arith) h, tt)))),
+    (
+      in_lane size.Byte _ 0 len (omega arith) h,
+      (in_lane size.Byte _ 0 len (omega arith) h, (in_lane size.Byte _ 1 len (omega arith) h, (in_lane size.Byte _ 1 len (omega arith) h, tt))),
+    ),
+    (
+      in_lane size.Byte _ 2 len (omega arith) h,
+      (in_lane size.Byte _ 2 len (omega arith) h, (in_lane size.Byte _ 3 len (omega arith) h, (in_lane size.Byte _ 3 len (omega arith) h, tt))),
+    ),
+    (
+      in_lane size.Byte _ 0 len (omega arith) h,
+      (in_lane size.Byte _ 0 len (omega arith) h, (in_lane size.Byte _ 1 len (omega arith) h, (in_lane size.Byte _ 1 len (omega arith) h, tt))),
+    ),
+    (
+      in_lane size.Byte _ 2 len (omega arith) h,
+      (in_lane size.Byte _ 2 len (omega arith) h, (in_lane size.Byte _ 3 len (omega arith) h, (in_lane size.Byte _ 3 len (omega arith) h, tt))),
+    ),
   )
-  beats_stored size.Half true h =
-      ((in_lane size.Half _ 0 len (omega arith) h, (in_lane size.Half _ 0 len (omega arith) h, tt)), (in_lane size.Half _ 0 len (omega arith) h, (in_lane size.Half _ 0 len (omega arith) h, tt)), (in_lane size.Half _ 1 len (omega arith) h, (in_lane size.Half _ 1 len (omega arith) h, tt)), (in_lane size.Half _ 1 len (omega arith) h, (in_lane size.Half _ 1 len (omega arith) h, tt)))
-  beats_stored size.Half false h =
-      ((in_lane size.Half _ 0 len (omega arith) h, (in_lane size.Half _ 0 len (omega arith) h, tt)), (in_lane size.Half _ 1 len (omega arith) h, (in_lane size.Half _ 1 len (omega arith) h, tt)), (in_lane size.Half _ 0 len (omega arith) h, (in_lane size.Half _ 0 len (omega arith) h, tt)), (in_lane size.Half _ 1 len (omega arith) h, (in_lane size.Half _ 1 len (omega arith) h, tt)))
-  beats_stored size.Word true h = ((in_lane size.Word _ 0 len (omega arith) h, tt), (in_lane size.Word _ 0 len (omega arith) h, tt), (in_lane size.Word _ 0 len (omega arith) h, tt), (in_lane size.Word _ 0 len (omega arith) h, tt))
-  beats_stored size.Word false h = ((in_lane size.Word _ 0 len (omega arith) h, tt), (in_lane size.Word _ 0 len (omega arith) h, tt), (in_lane size.Word _ 0 len (omega arith) h, tt), (in_lane size.Word _ 0 len (omega arith) h, tt))
+  beats_stored size.Half true h = (
+    (in_lane size.Half _ 0 len (omega arith) h, (in_lane size.Half _ 0 len (omega arith) h, tt)),
+    (in_lane size.Half _ 0 len (omega arith) h, (in_lane size.Half _ 0 len (omega arith) h, tt)),
+    (in_lane size.Half _ 1 len (omega arith) h, (in_lane size.Half _ 1 len (omega arith) h, tt)),
+    (in_lane size.Half _ 1 len (omega arith) h, (in_lane size.Half _ 1 len (omega arith) h, tt)),
+  )
+  beats_stored size.Half false h = (
+    (in_lane size.Half _ 0 len (omega arith) h, (in_lane size.Half _ 0 len (omega arith) h, tt)),
+    (in_lane size.Half _ 1 len (omega arith) h, (in_lane size.Half _ 1 len (omega arith) h, tt)),
+    (in_lane size.Half _ 0 len (omega arith) h, (in_lane size.Half _ 0 len (omega arith) h, tt)),
+    (in_lane size.Half _ 1 len (omega arith) h, (in_lane size.Half _ 1 len (omega arith) h, tt)),
+  )
+  beats_stored size.Word true h = (
+    (in_lane size.Word _ 0 len (omega arith) h, tt),
+    (in_lane size.Word _ 0 len (omega arith) h, tt),
+    (in_lane size.Word _ 0 len (omega arith) h, tt),
+    (in_lane size.Word _ 0 len (omega arith) h, tt),
+  )
+  beats_stored size.Word false h = (
+    (in_lane size.Word _ 0 len (omega arith) h, tt),
+    (in_lane size.Word _ 0 len (omega arith) h, tt),
+    (in_lane size.Word _ 0 len (omega arith) h, tt),
+    (in_lane size.Word _ 0 len (omega arith) h, tt),
+  )
 
   abbrev beat_bytes : Size → Bool → ℕ → List (Cell × Value)
   beat_bytes z four b = all_bytes_from false y (part_elements z four f b) (part_words z four d part s b)
@@ -95,8 +142,10 @@ module _ (y : Size) (d part : ℕ) (f : ℕ → ℕ) (s : State) where
   joined : (z : Size) (four : Bool) (n : ℕ) (back : Bool)
       → (let E = part_elements z four f in let V = part_values z four d part s in
       element_bytes y (map (λ e. true) (E 0) ++ (map (λ e. true) (E 1) ++ (map (λ e. true) (E 2) ++ (map (λ e. true) (E 3) ++ []))))
-      (map (λ (e : Element). e.addr) (E 0) ++ (map (λ (e : Element). e.addr) (E 1) ++ (map (λ (e : Element). e.addr) (E 2) ++ (map (λ (e : Element). e.addr) (E 3) ++ []))))
-      (V 0 ++ (V 1 ++ (V 2 ++ (V 3 ++ []))))) ≡ element_bytes y (each_from (λ j. true) 0 (count z)) (each_from f 0 (count z)) (stored_elements z (interleaved d n four part back) s)
+      (map (λ (e : Element). e.addr) (E 0)
+      ++ (map (λ (e : Element). e.addr) (E 1) ++ (map (λ (e : Element). e.addr) (E 2) ++ (map (λ (e : Element). e.addr) (E 3) ++ []))))
+      (V 0 ++ (V 1 ++ (V 2 ++ (V 3 ++ [])))))
+      ≡ element_bytes y (each_from (λ j. true) 0 (count z)) (each_from f 0 (count z)) (stored_elements z (interleaved d n four part back) s)
   joined size.Byte true n back = refl
   joined size.Byte false n back = refl
   joined size.Half true n back = refl

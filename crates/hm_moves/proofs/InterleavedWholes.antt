@@ -8,7 +8,8 @@ use Rattle.hm_kinds.specs.Row.{numbers}
 use Rattle.hm_mem.specs.Seen.{unless}
 use Rattle.hm_moves.specs.Moves.{Moves, all_bytes_from, all_elements, back_at, first_fault, handed, moved, moves_by_words, stored_at, width}
 use Rattle.hm_moves.specs.Ways.{Found, Transfer, each_from, interleaved, moves_by}
-use Rattle.hm_moves.specs.Wholes.{addresses, are_moved, count, fault_of, filled_registers, loaded, loaded_elements, element_bytes, stored_elements, transfer_whole, transferred, written_back}
+use Rattle.hm_moves.specs.Wholes.{addresses, are_moved, count, fault_of, filled_registers, loaded, loaded_elements, element_bytes, stored_elements}
+use Rattle.hm_moves.specs.Wholes.{transfer_whole, transferred, written_back}
 use Rattle.hm_moves.proofs.FourWords.{writes_joined}
 use Rattle.hm_moves.proofs.InterleavedElements.{addresses_are, elements_are, part_address, part_elements, part_fault, part_places, places_are}
 use Rattle.hm_moves.proofs.InterleavedLoads.{four_next}
@@ -60,14 +61,16 @@ module _ (y z : Size) (sign : Bool) (d n : ℕ) (four : Bool) (part : ℕ) (back
       let last = handed (by false) 3 (handed (by false) 2 (handed (by false) 1 (handed (by false) 0 s))) in
       let filled : List ℕ → State = λ xs. put_all cells (filled_registers z found (loaded_elements (loaded (row false) s) ps xs)) s in
       let filled_is : last ≡ filled addrs
-      = four_next y z sign d n four part back s ∙ parts_filled d part f (loaded (row false) s) s z four n back ∙ ap filled (sym (addresses_are y z d n four part back s)) in
+      = four_next y z sign d n four part back s ∙ parts_filled d part f (loaded (row false) s) s z four n back
+      ∙ ap filled (sym (addresses_are y z d n four part back s)) in
       (λ j. retired (put_all cells (advance_half 0 s ++ advance_half 2 s) (put_all cells (backs_are false j) (filled_is j))))
       ∙ ap retired (writes_joined (transferred (row false) ps addrs s) (written_back found s) (advance_half 0 s) (advance_half 2 s) s)
 
   -- a row that stores
   stored_is : (b : ℕ)
       → stored_at (by true) false b s ≡ all_bytes_from false y (part_elements z four f b) (numbers (map s.cell (map At (part_places z four d part b))))
-  stored_is b = λ j. all_bytes_from false y (elements_are y z d n four part back true sign b s j) (numbers (map s.cell (map At (places_are y z d n four part back b j))))
+  stored_is b = λ j. all_bytes_from false y (elements_are y z d n four part back true sign b s j)
+      (numbers (map s.cell (map At (places_are y z d n four part back b j))))
 
   stores_are : width y ≤ width z → moved (by true) s ≡ over true
   stores_are narrow =
@@ -85,5 +88,7 @@ module _ (y z : Size) (sign : Bool) (d n : ℕ) (four : Bool) (part : ℕ) (back
 
 -- the whole of an interleaved row
 pub interleaved_is : (store : Bool) (y z : Size) (sign : Bool) (d n : ℕ) (four : Bool) (part : ℕ) (back : Bool) (s : State) → (store ≡ true → width y ≤ width z)
-    → (let t : Transfer = record { store = store; memory = y; register = z; signed = sign; found = interleaved d n four part back } in moves_by_words (moves_by t) s ≡ transfer_whole t s)
-interleaved_is store y z sign d n four part back s narrow = λ j. unless (faults_are y z sign d n four part back s store j) (Ok (states_are y z sign d n four part back s store narrow j))
+    → (let t : Transfer = record { store = store; memory = y; register = z; signed = sign; found = interleaved d n four part back } in
+    moves_by_words (moves_by t) s ≡ transfer_whole t s)
+interleaved_is store y z sign d n four part back s narrow =
+    λ j. unless (faults_are y z sign d n four part back s store j) (Ok (states_are y z sign d n four part back s store narrow j))

@@ -1,5 +1,6 @@
 -- What a beat that loads fills words with, by what stands in a state.
-use Rattle.std.proofs.Common.{◌≡◌, ℕ, zero, suc, ◌+◌, ◌*◌, ◌%◌, ◌^◌, ◌<◌, false, cond, eqb, List, [], ◌∷◌, ◌++◌, drop, get_or, length, map, refl, ◌∙◌, ap, subst, arith}
+use Rattle.std.proofs.Common.{◌≡◌, ℕ, zero, suc, ◌+◌, ◌*◌, ◌%◌, ◌^◌, ◌<◌, false, cond, eqb, List, [], ◌∷◌, ◌++◌, drop, get_or, length, map, refl, ◌∙◌, ap}
+use Rattle.std.proofs.Common.{subst, arith}
 use Rattle.std.proofs.lemmas.List.{get_or-map}
 use Rattle.hm_base.specs.Bits.{put_field}
 use Rattle.hm_base.specs.declared.Place.{Place}
@@ -64,10 +65,12 @@ stands u ps k low = ap (λ xs. get_or xs k 0) (stand u ps) ∙ get_or-map (λ p.
 
 words_laid : (i : Moves) (j : ℕ) (es : List Element) (u : State) (cs : List Cell) (ps : List Place)
     → ((k : ℕ) → k < length ps → get_or (numbers (map u.cell cs)) (j + k) 0 ≡ at (get_or ps k (R 0)) u)
-    → words_from i j es (numbers (map u.cell (map Byte (bytes_of i.memory es) ++ cs))) ps ≡ laid_words i.register j es (λ a. extended i (read_at i.memory u a)) u ps
+    → words_from i j es (numbers (map u.cell (map Byte (bytes_of i.memory es) ++ cs))) ps
+    ≡ laid_words i.register j es (λ a. extended i (read_at i.memory u a)) u ps
 words_laid i j es u cs [] h = refl
 words_laid i j es u cs (p ∷ ps) h =
-    let old : get_or (numbers (map u.cell cs)) j 0 ≡ at p u = subst (λ (k : ℕ). get_or (numbers (map u.cell cs)) k 0 ≡ at p u) (omega arith) (h 0 (omega arith)) in
+    let old : get_or (numbers (map u.cell cs)) j 0 ≡ at p u =
+    subst (λ (k : ℕ). get_or (numbers (map u.cell cs)) k 0 ≡ at p u) (omega arith) (h 0 (omega arith)) in
     let lay : ℕ → ℕ = λ x. laid_all i.register j es (λ a. extended i (read_at i.memory u a)) (x % 2 ^ 32) in
     λ t. into (write p ((filled_got i j es u cs ∙ ap lay old) t)) ∷ words_laid i (j + 1) es u cs ps next t
   where
@@ -76,9 +79,11 @@ words_laid i j es u cs (p ∷ ps) h =
 
 -- the words of a beat that reads them
 pub words_got : (i : Moves) (es : List Element) (u : State) (ps : List Place)
-    → words_from i 0 es (numbers (map u.cell (map Byte (bytes_of i.memory es) ++ map At ps))) ps ≡ laid_words i.register 0 es (λ a. extended i (read_at i.memory u a)) u ps
+    → words_from i 0 es (numbers (map u.cell (map Byte (bytes_of i.memory es) ++ map At ps))) ps
+    ≡ laid_words i.register 0 es (λ a. extended i (read_at i.memory u a)) u ps
 words_got i es u ps =
-    words_laid i 0 es u (map At ps) ps (λ k low. subst (λ (m : ℕ). get_or (numbers (map u.cell (map At ps))) m 0 ≡ at (get_or ps k (R 0)) u) (omega arith) (stands u ps k low))
+    words_laid i 0 es u (map At ps) ps
+    (λ k low. subst (λ (m : ℕ). get_or (numbers (map u.cell (map At ps))) m 0 ≡ at (get_or ps k (R 0)) u) (omega arith) (stands u ps k low))
 
 -- the same bytes are read alike
 pub same_got : (y : Size) (s u : State) → ((a : ℕ) → u.cell (Byte a) ≡ s.cell (Byte a)) → (a : ℕ) → read_at y u a ≡ read_at y s a

@@ -1,5 +1,6 @@
 -- Elements one after another, for the loops of the code.
-use Rattle.std.proofs.Common.{◌≡◌, ℕ, zero, suc, ◌+◌, ◌<◌, Bool, List, [], ◌∷◌, ◌++◌, drop, length, get_or, Option, Some, None, refl, sym, ◌∙◌, ap, arith, append_assoc}
+use Rattle.std.proofs.Common.{◌≡◌, ℕ, zero, suc, ◌+◌, ◌<◌, Bool, List, [], ◌∷◌, ◌++◌, drop, length, get_or, Option, Some, None, refl, sym, ◌∙◌, ap, arith}
+use Rattle.std.proofs.Common.{append_assoc}
 use Rattle.std.proofs.Math.Seq.{drop-cons}
 use Rattle.std.proofs.lemmas.List.{append-nil}
 use Rattle.hm_base.specs.declared.Span.{Span}
@@ -31,18 +32,21 @@ module _ (x : Around) (store : Bool) (len : ℕ) (es : List Element) (k : ℕ) (
   stop_step = ap (λ xs. first_stop x store len xs s) (drop_at none es k low)
 
   -- an element that does not stop, and one that does
-  pub stop_next : stop_of x Vector store len (get_or es k none).addr s ≡ None → first_stop x store len (drop k es) s ≡ first_stop x store len (drop (k + 1) es) s
+  pub stop_next : stop_of x Vector store len (get_or es k none).addr s ≡ None
+      → first_stop x store len (drop k es) s ≡ first_stop x store len (drop (k + 1) es) s
   stop_next e = stop_step ∙ ap (λ o. or_else o (first_stop x store len (drop (k + 1) es) s)) e
 
   pub stop_here : (e : Stop) → stop_of x Vector store len (get_or es k none).addr s ≡ Some e → first_stop x store len (drop k es) s ≡ Some e
   stop_here e h = stop_step ∙ ap (λ o. or_else o (first_stop x store len (drop (k + 1) es) s)) h
 
   -- where none stops, this one does not, nor any behind it
-  pub stop_none : first_stop x store len (drop k es) s ≡ None → (stop_of x Vector store len (get_or es k none).addr s ≡ None) × (first_stop x store len (drop (k + 1) es) s ≡ None)
+  pub stop_none : first_stop x store len (drop k es) s ≡ None
+      → (stop_of x Vector store len (get_or es k none).addr s ≡ None) × (first_stop x store len (drop (k + 1) es) s ≡ None)
   stop_none h = both_none _ _ (sym stop_step ∙ h)
 
 -- none stops of those from one on
-pub drop_none : (x : Around) (store : Bool) (len : ℕ) (es : List Element) (k : ℕ) (s : Seen) → first_stop x store len es s ≡ None → first_stop x store len (drop k es) s ≡ None
+pub drop_none : (x : Around) (store : Bool) (len : ℕ) (es : List Element) (k : ℕ) (s : Seen) → first_stop x store len es s ≡ None
+    → first_stop x store len (drop k es) s ≡ None
 drop_none x store len es zero s h = h
 drop_none x store len [] (suc k) s h = refl
 drop_none x store len (e ∷ es) (suc k) s h = drop_none x store len es k s (both_none _ _ h).1
@@ -50,9 +54,11 @@ drop_none x store len (e ∷ es) (suc k) s h = drop_none x store len es k s (bot
 -- SPANS
 spanned-more : (xs : List Span) (x : Span) → spanned (xs ++ x ∷ []) ≡ spanned xs ++ span_bytes x.addr x.len
 spanned-more [] x = append-nil (span_bytes x.addr x.len)
-spanned-more (y ∷ xs) x = ap (λ bs. span_bytes y.addr y.len ++ bs) (spanned-more xs x) ∙ sym (append_assoc (span_bytes y.addr y.len) (spanned xs) (span_bytes x.addr x.len))
+spanned-more (y ∷ xs) x = ap (λ bs. span_bytes y.addr y.len ++ bs) (spanned-more xs x)
+    ∙ sym (append_assoc (span_bytes y.addr y.len) (spanned xs) (span_bytes x.addr x.len))
 
-pub spans_more : (z : Size) (es : List Element) (k : ℕ) (xs ys : List Span) (w : ℕ) → k < length es → ys ≡ xs ++ (record { addr = (get_or es k none).addr; len = w }) ∷ [] → w ≡ width z
+pub spans_more : (z : Size) (es : List Element) (k : ℕ) (xs ys : List Span) (w : ℕ) → k < length es
+    → ys ≡ xs ++ (record { addr = (get_or es k none).addr; len = w }) ∷ [] → w ≡ width z
     → spanned xs ++ bytes_of z (drop k es) ≡ bytes_of z es → spanned ys ++ bytes_of z (drop (k + 1) es) ≡ bytes_of z es
 spans_more z es k xs ys w low e f h =
     let bs = span_bytes (get_or es k none).addr (width z) in

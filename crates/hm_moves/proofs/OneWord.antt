@@ -1,5 +1,6 @@
 -- The elements of one word of one register: their faults, the word that they are loaded to, and the bytes that they are stored to.
-use Rattle.std.proofs.Common.{◌≡◌, ℕ, zero, suc, ◌+◌, ◌*◌, ◌/◌, ◌%◌, ◌^◌, ◌<◌, ◌≤◌, Bool, true, false, cond, List, [], ◌∷◌, ◌++◌, get_or, length, map, None, refl, sym, ◌∙◌, ap, arith}
+use Rattle.std.proofs.Common.{◌≡◌, ℕ, zero, suc, ◌+◌, ◌*◌, ◌/◌, ◌%◌, ◌^◌, ◌<◌, ◌≤◌, Bool, true, false, cond, List, [], ◌∷◌, ◌++◌, get_or, length, map, None}
+use Rattle.std.proofs.Common.{refl, sym, ◌∙◌, ap, arith}
 use Rattle.std.proofs.Math.Nat.{mod-eq_of_lt}
 use Rattle.std.proofs.lemmas.Nat.{mod_low, pow-add, pow_pos, shl-shr, shr-shr}
 use Rattle.hm_base.specs.Bits.{field, put_field}
@@ -35,13 +36,15 @@ word_active z q = each_from (λ j. get_or q (width z * j) false) 0 (per_word z)
 -- FAULTS
 -- an element has its fault where it is active
 one_fault : (store : Bool) (len : ℕ) (p : Bool) (e : Element) (es : List Element)
-    → first_fault store len (cond p (e ∷ []) [] ++ es) ≡ or_else (cond p (fault_after (fault_kind true Vector store len e.addr) e.addr) None) (first_fault store len es)
+    → first_fault store len (cond p (e ∷ []) [] ++ es)
+    ≡ or_else (cond p (fault_after (fault_kind true Vector store len e.addr) e.addr) None) (first_fault store len es)
 one_fault store len true e es = refl
 one_fault store len false e es = refl
 
 -- the first fault of active elements
 pub active_faults : (store : Bool) (len : ℕ) (q : List Bool) (f : ℕ → Element) (j n : ℕ)
-    → first_fault store len (active_ones q (each_from f j n)) ≡ fault_of store len (each_from (λ k. get_or q (f k).lane false) j n) (each_from (λ k. (f k).addr) j n)
+    → first_fault store len (active_ones q (each_from f j n))
+    ≡ fault_of store len (each_from (λ k. get_or q (f k).lane false) j n) (each_from (λ k. (f k).addr) j n)
 active_faults store len q f j zero = refl
 active_faults store len q f j (suc n) =
     let p = get_or q (f j).lane false in
@@ -49,7 +52,8 @@ active_faults store len q f j (suc n) =
     ∙ ap (or_else (cond p (fault_after (fault_kind true Vector store len (f j).addr) (f j).addr) None)) (active_faults store len q f (j + 1) n)
 
 -- LANES AS FIELDS
-lane_bytes : (x : ℕ) → (x / 2 ^ 0 % 2 ^ 8 ≡ x % 256) × (x / 2 ^ 0 % 2 ^ 16 ≡ x % 256 + 256 * (x / 256 % 256)) × (x / 2 ^ 16 % 2 ^ 16 ≡ x / 65536 % 256 + 256 * (x / 16777216 % 256))
+lane_bytes : (x : ℕ) → (x / 2 ^ 0 % 2 ^ 8 ≡ x % 256) × (x / 2 ^ 0 % 2 ^ 16 ≡ x % 256 + 256 * (x / 256 % 256))
+    × (x / 2 ^ 16 % 2 ^ 16 ≡ x / 65536 % 256 + 256 * (x / 16777216 % 256))
     × (x / 2 ^ 0 % 2 ^ 32 ≡ x % 256 + 256 * (x / 256 % 256) + 65536 * (x / 65536 % 256) + 16777216 * (x / 16777216 % 256))
 lane_bytes x = (omega arith, omega arith, omega arith, omega arith)
 
@@ -87,7 +91,8 @@ laid_from z p g j zero = 0
 laid_from z p g j (suc n) = cond (p j) (put_field (8 * (width z * j)) (8 * width z) (g j) (laid_from z p g (j + 1) n)) (laid_from z p g (j + 1) n)
 
 -- the word of four lanes, of two and of one
-four_laid : (p : ℕ → Bool) (g : ℕ → ℕ) → (let v : ℕ → ℕ = λ j. cond (p j) (g j) 0 in laid_from size.Byte p g 0 4 ≡ v 0 % 256 + 256 * (v 1 % 256) + 65536 * (v 2 % 256) + 16777216 * (v 3 % 256))
+four_laid : (p : ℕ → Bool) (g : ℕ → ℕ)
+    → (let v : ℕ → ℕ = λ j. cond (p j) (g j) 0 in laid_from size.Byte p g 0 4 ≡ v 0 % 256 + 256 * (v 1 % 256) + 65536 * (v 2 % 256) + 16777216 * (v 3 % 256))
 four_laid p g =
     let v : ℕ → ℕ = λ j. cond (p j) (g j) 0 in
     let one : ℕ → ℕ → ℕ → ℕ = λ j lo w. cond (p j) (put_field lo 8 (g j) w) w in
@@ -112,7 +117,8 @@ one_laid : (p : ℕ → Bool) (g : ℕ → ℕ) → (let v : ℕ → ℕ = λ j.
 one_laid p g = put_low (p 0) 0 32 (g 0) 0 ∙ omega arith
 
 -- the word of the elements that are loaded, or of zeros
-word_laid : (z : Size) (p : ℕ → Bool) (f g : ℕ → ℕ) → laid_from z p (λ j. g (f j)) 0 (per_word z) ≡ word_of (unlanes z (loaded_elements g (each_from p 0 (per_word z)) (each_from f 0 (per_word z))))
+word_laid : (z : Size) (p : ℕ → Bool) (f g : ℕ → ℕ)
+    → laid_from z p (λ j. g (f j)) 0 (per_word z) ≡ word_of (unlanes z (loaded_elements g (each_from p 0 (per_word z)) (each_from f 0 (per_word z))))
 word_laid size.Byte p f g = four_laid p (λ j. g (f j))
 word_laid size.Half p f g = two_laid p (λ j. g (f j))
 word_laid size.Word p f g = one_laid p (λ j. g (f j))
@@ -145,7 +151,8 @@ filled_word i s q f =
 -- byte k of an element is one of its word
 byte_field : (lo n x k : ℕ) → k + 1 ≤ n → byte_of (field (8 * lo) (8 * n) x) k ≡ byte_of x (lo + k)
 unfolding field
-byte_field lo n x k h = field_of_low (8 * k) 8 (8 * n) (x / 2 ^ (8 * lo)) (omega arith) ∙ ap (λ m. m % 256) (shr-shr x (8 * lo) (8 * k) ∙ ap (λ m. x / 2 ^ m) (omega arith))
+byte_field lo n x k h = field_of_low (8 * k) 8 (8 * n) (x / 2 ^ (8 * lo)) (omega arith)
+    ∙ ap (λ m. m % 256) (shr-shr x (8 * lo) (8 * k) ∙ ap (λ m. x / 2 ^ m) (omega arith))
 
 -- and so is byte k of a lane
 pub lane_byte : (z : Size) (x j k : ℕ) → j < per_word z → k < width z → byte_of (get_or (lanes z (bytes_of x)) j 0) k ≡ byte_of x (width z * j + k)
@@ -183,5 +190,6 @@ stored_active y z q f x j (suc n) narrow low =
 
 -- the bytes that a word is stored to are those of its elements
 pub stored_word : (y z : Size) (q : List Bool) (f : ℕ → ℕ) (x : ℕ) → width y ≤ width z
-    → all_bytes_from false y (word_elements z f q) (x ∷ []) ≡ element_bytes y (word_active z q) (each_from f 0 (per_word z)) (each_from (λ k. get_or (lanes z (bytes_of x)) k 0) 0 (per_word z))
+    → all_bytes_from false y (word_elements z f q) (x ∷ [])
+    ≡ element_bytes y (word_active z q) (each_from f 0 (per_word z)) (each_from (λ k. get_or (lanes z (bytes_of x)) k 0) 0 (per_word z))
 stored_word y z q f x narrow = stored_active y z q f x 0 (per_word z) narrow (omega arith)

@@ -10,7 +10,8 @@ use Rattle.hm_order.proofs.Results.{true_not_false}
 use Rattle.hm_kinds.specs.Row.{is_body}
 use Rattle.hm_moves.specs.Moves.{IsMoves, SparesLr, Unwritten, is_word, width}
 use Rattle.hm_lane.specs.Lanes.{per_word}
-use Rattle.hm_moves.specs.Ways.{Found, Transfer, at_addresses, at_offsets, each_from, interleaved, moves_by, registers, stream, way_back, way_sources, way_words, way_writes_lr, straight}
+use Rattle.hm_moves.specs.Ways.{Found, Transfer, at_addresses, at_offsets, each_from, interleaved, moves_by, registers, stream, way_back, way_sources}
+use Rattle.hm_moves.specs.Ways.{way_words, way_writes_lr, straight}
 
 -- word k of a register is no later word of it or of another
 word_off : (d n b k : ℕ) → k < b → b < 4 → same_place (word_place d k) (word_place n b) ≡ false
@@ -31,7 +32,8 @@ are_words z (straight d n offset before back) b = (refl, tt)
 are_words z (at_offsets d n m scale) b = (refl, tt)
 are_words z (at_addresses d m offset back) b = (refl, tt)
 are_words z (interleaved d n four part back) b =
-    each_word (λ i. d + (stream part z b + i) % registers four) (λ i. width z * ((stream part z b + i) / registers four) / 4) 0 (cond (ltb (per_word z) (registers four)) (per_word z) (registers four))
+    each_word (λ i. d + (stream part z b + i) % registers four) (λ i. width z * ((stream part z b + i) / registers four) / 4) 0
+    (cond (ltb (per_word z) (registers four)) (per_word z) (registers four))
 
 body_where : (y : Bool) (p : Place) (x : ℕ) → is_body p ≡ true → Each (λ (v : Write). is_body v.place ≡ true) (cond y (write p x ∷ []) [])
 body_where true p x h = (h, tt)
@@ -61,27 +63,39 @@ word_unwritten true m n b k x low high = (word_off m n b k low high, tt)
 word_unwritten false m n b k x low high = tt
 
 unsourced : (w : Found) (b k : ℕ) (ns : List ℕ) → k < b → b < 4 → Each (λ (p : Place). Unwritten p (way_back w k ns)) (way_sources w b)
-unsourced (straight d n offset before back) b k ns low high = every (λ p. Unwritten p (way_back (straight d n offset before back) k ns)) (way_sources (straight d n offset before back) b) (λ p. not_last k back p (R n) _ (omega arith))
+unsourced (straight d n offset before back) b k ns low high =
+    every (λ p. Unwritten p (way_back (straight d n offset before back) k ns)) (way_sources (straight d n offset before back) b)
+    (λ p. not_last k back p (R n) _ (omega arith))
 unsourced (at_offsets d n m scale) b k ns low high = (tt, (tt, tt))
 unsourced (at_addresses d m offset back) b k ns low high = (word_unwritten back m m b k _ low high, tt)
-unsourced (interleaved d n four part back) b k ns low high = every (λ p. Unwritten p (way_back (interleaved d n four part back) k ns)) (way_sources (interleaved d n four part back) b) (λ p. not_last k back p (R n) _ (omega arith))
+unsourced (interleaved d n four part back) b k ns low high =
+    every (λ p. Unwritten p (way_back (interleaved d n four part back) k ns)) (way_sources (interleaved d n four part back) b)
+    (λ p. not_last k back p (R n) _ (omega arith))
 
 unread : (z : Size) (w : Found) (b k : ℕ) (ns : List ℕ) → k < b → b < 4 → Each (λ (p : Place). Unwritten p (way_back w k ns)) (way_words z w b)
-unread z (straight d n offset before back) b k ns low high = every (λ p. Unwritten p (way_back (straight d n offset before back) k ns)) (way_words z (straight d n offset before back) b) (λ p. not_last k back p (R n) _ (omega arith))
+unread z (straight d n offset before back) b k ns low high =
+    every (λ p. Unwritten p (way_back (straight d n offset before back) k ns)) (way_words z (straight d n offset before back) b)
+    (λ p. not_last k back p (R n) _ (omega arith))
 unread z (at_offsets d n m scale) b k ns low high = (tt, tt)
 unread z (at_addresses d m offset back) b k ns low high = (word_unwritten back m d b k _ low high, tt)
-unread z (interleaved d n four part back) b k ns low high = every (λ p. Unwritten p (way_back (interleaved d n four part back) k ns)) (way_words z (interleaved d n four part back) b) (λ p. not_last k back p (R n) _ (omega arith))
+unread z (interleaved d n four part back) b k ns low high =
+    every (λ p. Unwritten p (way_back (interleaved d n four part back) k ns)) (way_words z (interleaved d n four part back) b)
+    (λ p. not_last k back p (R n) _ (omega arith))
 
 no_register : (f g : ℕ → ℕ) (r j n : ℕ) → Each (λ (q : Place). same_place q (R r) ≡ false) (each_from (λ i. word_place (f i) (g i)) j n)
 no_register f g r j zero = tt
 no_register f g r j (suc n) = (refl, no_register f g r (j + 1) n)
 
-unfilled : (z : Size) (w : Found) (b k : ℕ) → k < b → b < 4 → Each (λ (p : Place). Each (λ (q : Place). same_place q p ≡ false) (way_words z w k)) (way_sources w b)
+unfilled : (z : Size) (w : Found) (b k : ℕ) → k < b → b < 4
+    → Each (λ (p : Place). Each (λ (q : Place). same_place q p ≡ false) (way_words z w k)) (way_sources w b)
 unfilled z (straight d n offset before back) b k low high = ((refl, tt), tt)
 unfilled z (at_offsets d n m scale) b k low high = ((refl, tt), ((word_off d m b k low high, tt), tt))
 unfilled z (at_addresses d m offset back) b k low high = ((word_off d m b k low high, tt), tt)
-unfilled z (interleaved d n four part back) b k low high =
-    (no_register (λ i. d + (stream part z k + i) % registers four) (λ i. width z * ((stream part z k + i) / registers four) / 4) n 0 (cond (ltb (per_word z) (registers four)) (per_word z) (registers four)), tt)
+unfilled z (interleaved d n four part back) b k low high = (
+  no_register (λ i. d + (stream part z k + i) % registers four) (λ i. width z * ((stream part z k + i) / registers four) / 4) n 0
+      (cond (ltb (per_word z) (registers four)) (per_word z) (registers four)),
+  tt,
+)
 
 word_spares : (y : Bool) (m k x : ℕ) → Unwritten (R 14) (cond y (write (word_place m k) x ∷ []) [])
 word_spares true m k x = (refl, tt)

@@ -30,13 +30,20 @@ last4 a true false false v w x y v' w' x' y' o = refl
 last4 true false false false v w x y v' w' x' y' o = refl
 last4 false false false false v w x y v' w' x' y' o = refl
 
-put2_twice : (c d : Cell) (v w x y : Value) (s : State) → put_all cells ((c, x) ∷ (d, y) ∷ []) (put_all cells ((c, v) ∷ (d, w) ∷ []) s) ≡ put_all cells ((c, x) ∷ (d, y) ∷ []) s
+put2_twice : (c d : Cell) (v w x y : Value) (s : State)
+    → put_all cells ((c, x) ∷ (d, y) ∷ []) (put_all cells ((c, v) ∷ (d, w) ∷ []) s) ≡ put_all cells ((c, x) ∷ (d, y) ∷ []) s
 put2_twice c d v w x y s = λ j. record { cell = λ e. last2 (same_cell c e) (same_cell d e) v w x y (s.cell e) j; sticky = s.sticky; pc = s.pc; rest = s.rest }
 
 put4_twice : (c d e f : Cell) (v w x y v' w' x' y' : Value) (s : State)
-    → put_all cells ((c, v') ∷ (d, w') ∷ (e, x') ∷ (f, y') ∷ []) (put_all cells ((c, v) ∷ (d, w) ∷ (e, x) ∷ (f, y) ∷ []) s) ≡ put_all cells ((c, v') ∷ (d, w') ∷ (e, x') ∷ (f, y') ∷ []) s
+    → put_all cells ((c, v') ∷ (d, w') ∷ (e, x') ∷ (f, y') ∷ []) (put_all cells ((c, v) ∷ (d, w) ∷ (e, x) ∷ (f, y) ∷ []) s)
+    ≡ put_all cells ((c, v') ∷ (d, w') ∷ (e, x') ∷ (f, y') ∷ []) s
 put4_twice c d e f v w x y v' w' x' y' s = λ j.
-    record { cell = λ o. last4 (same_cell c o) (same_cell d o) (same_cell e o) (same_cell f o) v w x y v' w' x' y' (s.cell o) j; sticky = s.sticky; pc = s.pc; rest = s.rest }
+    record {
+      cell = λ o. last4 (same_cell c o) (same_cell d o) (same_cell e o) (same_cell f o) v w x y v' w' x' y' (s.cell o) j;
+      sticky = s.sticky;
+      pc = s.pc;
+      rest = s.rest;
+    }
 
 -- one place after another
 one_by_one : (p q : Place) → same_place p q ≡ false → (f g : ℕ → ℕ) (u : State) → fill1 q g (fill1 p f u) ≡ fill2 p q f g u
@@ -77,7 +84,8 @@ module _ (l : ℕ → Place) (apart : (a b : ℕ) → a < 4 → b < 4 → same_p
       → (put_all cells ((At (l 0), v) ∷ (At (l 1), w) ∷ (At (l 2), x) ∷ (At (l 3), y) ∷ []) u).cell (At (l b))
       ≡ cond (eqb 3 b) y (cond (eqb 2 b) x (cond (eqb 1 b) w (cond (eqb 0 b) v (u.cell (At (l b))))))
   held4 v w x y u b high = λ j.
-      cond (apart 3 b (omega arith) high j) y (cond (apart 2 b (omega arith) high j) x (cond (apart 1 b (omega arith) high j) w (cond (apart 0 b (omega arith) high j) v (u.cell (At (l b))))))
+      cond (apart 3 b (omega arith) high j) y
+      (cond (apart 2 b (omega arith) high j) x (cond (apart 1 b (omega arith) high j) w (cond (apart 0 b (omega arith) high j) v (u.cell (At (l b))))))
 
   -- each is filled twice
   fill4_twice : (f g h k f' g' h' k' : ℕ → ℕ) (u : State) → fill4 (l 0) (l 1) (l 2) (l 3) f' g' h' k' (fill4 (l 0) (l 1) (l 2) (l 3) f g h k u)
@@ -90,7 +98,8 @@ module _ (l : ℕ → Place) (apart : (a b : ℕ) → a < 4 → b < 4 → same_p
       let held = held4 v w x y u in
       (λ j. put_all cells ((At (l 0), word (f' (held 0 (omega arith) j).n)) ∷ (At (l 1), word (g' (held 1 (omega arith) j).n))
       ∷ (At (l 2), word (h' (held 2 (omega arith) j).n)) ∷ (At (l 3), word (k' (held 3 (omega arith) j).n)) ∷ []) (fill4 (l 0) (l 1) (l 2) (l 3) f g h k u))
-      ∙ put4_twice (At (l 0)) (At (l 1)) (At (l 2)) (At (l 3)) v w x y (word (f' (f (at (l 0) u)))) (word (g' (g (at (l 1) u)))) (word (h' (h (at (l 2) u)))) (word (k' (k (at (l 3) u)))) u
+      ∙ put4_twice (At (l 0)) (At (l 1)) (At (l 2)) (At (l 3)) v w x y (word (f' (f (at (l 0) u)))) (word (g' (g (at (l 1) u)))) (word (h' (h (at (l 2) u))))
+      (word (k' (k (at (l 3) u)))) u
 
   -- each is filled four times
   pub fill4_four : (f : ℕ → ℕ → ℕ → ℕ) (u : State)
@@ -112,7 +121,8 @@ module _ (l : ℕ → Place) (apart : (a b : ℕ) → a < 4 → b < 4 → same_p
       ∙ two_by_two f g h k u
 
   -- two twice, and then the two others twice
-  pub twos_twice : (f g h k f' g' h' k' : ℕ → ℕ) (u : State) → fill2 (l 2) (l 3) h' k' (fill2 (l 2) (l 3) h k (fill2 (l 0) (l 1) f' g' (fill2 (l 0) (l 1) f g u)))
+  pub twos_twice : (f g h k f' g' h' k' : ℕ → ℕ) (u : State)
+      → fill2 (l 2) (l 3) h' k' (fill2 (l 2) (l 3) h k (fill2 (l 0) (l 1) f' g' (fill2 (l 0) (l 1) f g u)))
       ≡ fill4 (l 0) (l 1) (l 2) (l 3) (λ x. f' (f x)) (λ x. g' (g x)) (λ x. h' (h x)) (λ x. k' (k x)) u
   twos_twice f g h k f' g' h' k' u =
       ap (λ v. fill2 (l 2) (l 3) h' k' (fill2 (l 2) (l 3) h k v)) (fill2_twice 0 1 (omega arith) (omega arith) refl refl f g f' g' u)
@@ -120,7 +130,8 @@ module _ (l : ℕ → Place) (apart : (a b : ℕ) → a < 4 → b < 4 → same_p
       ∙ two_by_two (λ x. f' (f x)) (λ x. g' (g x)) (λ x. h' (h x)) (λ x. k' (k x)) u
 
   -- two, the two others, and both again
-  pub twos_in_turn : (f g h k f' g' h' k' : ℕ → ℕ) (u : State) → fill2 (l 2) (l 3) h' k' (fill2 (l 0) (l 1) f' g' (fill2 (l 2) (l 3) h k (fill2 (l 0) (l 1) f g u)))
+  pub twos_in_turn : (f g h k f' g' h' k' : ℕ → ℕ) (u : State)
+      → fill2 (l 2) (l 3) h' k' (fill2 (l 0) (l 1) f' g' (fill2 (l 2) (l 3) h k (fill2 (l 0) (l 1) f g u)))
       ≡ fill4 (l 0) (l 1) (l 2) (l 3) (λ x. f' (f x)) (λ x. g' (g x)) (λ x. h' (h x)) (λ x. k' (k x)) u
   twos_in_turn f g h k f' g' h' k' u =
       ap (λ v. fill2 (l 2) (l 3) h' k' (fill2 (l 0) (l 1) f' g' v)) (two_by_two f g h k u)
@@ -130,4 +141,5 @@ module _ (l : ℕ → Place) (apart : (a b : ℕ) → a < 4 → b < 4 → same_p
   -- the two in the middle change places
   pub turned_middle : (v w x y : Value) (u : State) → put_all cells ((At (l 0), v) ∷ (At (l 1), w) ∷ (At (l 2), x) ∷ (At (l 3), y) ∷ []) u
       ≡ put_all cells ((At (l 0), v) ∷ (At (l 2), x) ∷ (At (l 1), w) ∷ (At (l 3), y) ∷ []) u
-  turned_middle v w x y u = ap (put cells (At (l 3)) y) (past ((At (l 2), x) ∷ []) (At (l 1)) w (put cells (At (l 0)) v u) (apart 2 1 (omega arith) (omega arith), tt))
+  turned_middle v w x y u = ap (put cells (At (l 3)) y)
+      (past ((At (l 2), x) ∷ []) (At (l 1)) w (put cells (At (l 0)) v u) (apart 2 1 (omega arith) (omega arith), tt))

@@ -1,5 +1,6 @@
 -- A store to memory is a store to the bytes of the state.
-use Rattle.std.proofs.Common.{◌≡◌, ℕ, zero, suc, ◌+◌, ◌-◌, ◌*◌, ◌/◌, ◌%◌, ◌^◌, ◌<◌, ◌≤◌, Bool, true, false, cond, ◌||◌, ◌&&◌, eqb, nat_le, nat_lt, List, [], ◌∷◌, drop, length, get_or, refl, sym, ◌∙◌, ap, arith, eqb-true}
+use Rattle.std.proofs.Common.{◌≡◌, ℕ, zero, suc, ◌+◌, ◌-◌, ◌*◌, ◌/◌, ◌%◌, ◌^◌, ◌<◌, ◌≤◌, Bool, true, false, cond, ◌||◌, ◌&&◌, eqb, nat_le, nat_lt, List, []}
+use Rattle.std.proofs.Common.{◌∷◌, drop, length, get_or, refl, sym, ◌∙◌, ap, arith, eqb-true}
 use Rattle.std.specs.Prelude.{if◌then◌else◌}
 use Rattle.std.proofs.lemmas.Bool.Decides.{nat_tests}
 use Rattle.std.proofs.Math.Nat.{mod-eq_of_lt}
@@ -39,7 +40,8 @@ nothing : (x b : ℕ) → (nat_le x b && nat_lt b (x + 0)) ≡ false
 nothing x b = grind (arith, nat_tests)
 
 put_rest : (t : Bool) (e : Element) (ws : List ℕ) (a k n b : ℕ) (s : State) → a + k + n ≤ 2 ^ 32
-    → (put_all cells (bytes_from t e ws k (span_rest a k n)) s).cell (Byte b) ≡ cond (nat_le (a + k) b && nat_lt b (a + k + n)) (given t e ws a b) (s.cell (Byte b))
+    → (put_all cells (bytes_from t e ws k (span_rest a k n)) s).cell (Byte b)
+    ≡ cond (nat_le (a + k) b && nat_lt b (a + k + n)) (given t e ws a b) (s.cell (Byte b))
 put_rest t e ws a k zero b s h = sym (ap (λ y. cond y (given t e ws a b) (s.cell (Byte b))) (nothing (a + k) b))
 put_rest t e ws a k (suc n) b s h =
     let here : (a + k) % 2 ^ 32 ≡ a + k = mod-eq_of_lt (omega arith) in
@@ -53,7 +55,9 @@ put_rest t e ws a k (suc n) b s h =
     next = omega arith
 
     same : eqb (a + k) b ≡ true → (record { n = byte_of (get_or ws e.word 0) (e.lane + k); taint = t }) ≡ given t e ws a b
-    same y = let f = eqb-true (a + k) b y in let g : k ≡ b - a = omega arith in ap (λ (j : ℕ). (record { n = byte_of (get_or ws e.word 0) (e.lane + j); taint = t })) g
+    same y =
+        let f = eqb-true (a + k) b y in
+        let g : k ≡ b - a = omega arith in ap (λ (j : ℕ). (record { n = byte_of (get_or ws e.word 0) (e.lane + j); taint = t })) g
 
 put_span : (t : Bool) (e : Element) (ws : List ℕ) (a n b : ℕ) (s : State) → a + n ≤ 2 ^ 32
     → (put_all cells (bytes_from t e ws 0 (span_bytes a n)) s).cell (Byte b) ≡ cond (nat_le a b && nat_lt b (a + n)) (given t e ws a b) (s.cell (Byte b))
@@ -65,7 +69,8 @@ put_span t e ws a (suc n) b s h =
     ∙ ap (λ y. cond y (given t e ws a b) (s.cell (Byte b))) (one_more a n b)
   where
     same : eqb a b ≡ true → (record { n = byte_of (get_or ws e.word 0) (e.lane + 0); taint = t }) ≡ given t e ws a b
-    same y = let f = eqb-true a b y in let g : 0 ≡ b - a = omega arith in ap (λ (j : ℕ). (record { n = byte_of (get_or ws e.word 0) (e.lane + j); taint = t })) g
+    same y =
+        let f = eqb-true a b y in let g : 0 ≡ b - a = omega arith in ap (λ (j : ℕ). (record { n = byte_of (get_or ws e.word 0) (e.lane + j); taint = t })) g
 
 sticky-put_all : (ws : List (Cell × Value)) (s : State) → (put_all cells ws s).sticky ≡ s.sticky
 sticky-put_all [] s = refl
@@ -75,7 +80,8 @@ rest-put_all : (ws : List (Cell × Value)) (s : State) → (put_all cells ws s).
 rest-put_all [] s = refl
 rest-put_all (w ∷ ws) s = rest-put_all ws (put cells w.0 w.1 s)
 
-together : (y t u : Bool) (p q : ℕ) → ◌≡◌ {A = Value} (record { n = if y then p else q; taint = if y then t else u }) (cond y (record { n = p; taint = t }) (record { n = q; taint = u }))
+together : (y t u : Bool) (p q : ℕ)
+    → ◌≡◌ {A = Value} (record { n = if y then p else q; taint = if y then t else u }) (cond y (record { n = p; taint = t }) (record { n = q; taint = u }))
 together true t u p q = refl
 together false t u p q = refl
 
@@ -102,7 +108,8 @@ put_state m n r output t z e ws lies same around =
     x = get_or ws e.word 0 / 2 ^ (8 * e.lane)
 
     devices : n.devices ≡ m.devices
-    devices = ap (λ (s : Seen). s.devices) same ∙ first_kept (lies_in_sram (width z) e.addr) m.devices (write_devices m.devices (word_at e.addr) (width z) e.addr x) lies
+    devices = ap (λ (s : Seen). s.devices) same
+        ∙ first_kept (lies_in_sram (width z) e.addr) m.devices (write_devices m.devices (word_at e.addr) (width z) e.addr x) lies
 
     each : (c : Cell) → (state_of r n output).cell c ≡ (put_all cells vs (state_of r m output)).cell c
     each (At p) = sym (put_other vs (At p) (state_of r m output) (off_bytes t e ws 0 (span_bytes e.addr (width z)) p))

@@ -1,5 +1,6 @@
 -- What the code of a row that loads or stores touches is what its tree touches.
-use Rattle.std.proofs.Common.{◌≡◌, ℕ, ◌+◌, ◌<◌, Bool, true, false, not, cond, ltb, List, [], ◌∷◌, ◌++◌, map, drop, length, get_or, refl, sym, ◌∙◌, ap, append_assoc}
+use Rattle.std.proofs.Common.{◌≡◌, ℕ, ◌+◌, ◌<◌, Bool, true, false, not, cond, ltb, List, [], ◌∷◌, ◌++◌, map, drop, length, get_or, refl, sym, ◌∙◌, ap}
+use Rattle.std.proofs.Common.{append_assoc}
 use Rattle.std.proofs.lemmas.List.{append-nil, map-append}
 use Rattle.hm_base.specs.Place.{listed, noted, noted_all}
 use Rattle.hm_base.specs.declared.Place.{Place}
@@ -29,7 +30,8 @@ begun_is true b r m output = tested_is false b r m output
 begun_is false b r m output = ap (λ n. mask_place b ∷ cond (ltb 8 n) (P0 b ∷ []) []) (mask_is b r m output)
 
 -- one place more is noted, from the last one on
-pub note_next : (ps : List Place) (k : ℕ) (d : Place) (qs rs us : List Place) → k < length ps → qs ≡ noted_all (drop (k + 1) ps) us → rs ≡ noted (get_or ps k d) qs → rs ≡ noted_all (drop k ps) us
+pub note_next : (ps : List Place) (k : ℕ) (d : Place) (qs rs us : List Place) → k < length ps → qs ≡ noted_all (drop (k + 1) ps) us
+    → rs ≡ noted (get_or ps k d) qs → rs ≡ noted_all (drop k ps) us
 note_next ps k d qs rs us low h e = e ∙ ap (noted (get_or ps k d)) h ∙ sym (ap (λ xs. noted_all xs us) (drop_at d ps k low))
 
 places_bytes : (bs : List ℕ) (cs : List Cell) → places_in (map Byte bs ++ cs) ≡ places_in cs
@@ -54,19 +56,24 @@ pub reads_are : (i : Moves) (b : ℕ) (r : Regs) (m : Memory) (output : List ℕ
 reads_are i b r m output =
     let s = state_of r m output in
     let rest = cond i.store [] (map Byte (bytes_of i.memory (elements_at i b s))) ++ map At (words_read i b) in
-    ap (λ cs. listed (places_in cs)) ((λ j. tests_moves i m.around b s j ++ (reach_moves i m.around b s j).reads) ∙ append_assoc (map At (begun_places i.predicated b s)) (map At (i.sources b)) rest)
+    ap (λ cs. listed (places_in cs))
+    ((λ j. tests_moves i m.around b s j ++ (reach_moves i m.around b s j).reads)
+    ∙ append_assoc (map At (begun_places i.predicated b s)) (map At (i.sources b)) rest)
     ∙ ap listed (places_at-append (begun_places i.predicated b s) (map At (i.sources b) ++ rest)
-    ∙ ap (λ ps. begun_places i.predicated b s ++ ps) (places_at-append (i.sources b) rest ∙ ap (λ ps. i.sources b ++ ps) (places_where i.store (bytes_of i.memory (elements_at i b s)) (words_read i b)))
+    ∙ ap (λ ps. begun_places i.predicated b s ++ ps)
+    (places_at-append (i.sources b) rest ∙ ap (λ ps. i.sources b ++ ps) (places_where i.store (bytes_of i.memory (elements_at i b s)) (words_read i b)))
     ∙ ap (λ ps. ps ++ (i.sources b ++ words_read i b)) (begun_is i.predicated b r m output))
     ∙ listed-append (begun_in i.predicated b r) (i.sources b ++ words_read i b)
-    ∙ ap (noted_all (begun_in i.predicated b r)) (listed-append (i.sources b) (words_read i b) ∙ ap (noted_all (i.sources b)) (sym (all_listed (words_read i b))))
+    ∙ ap (noted_all (begun_in i.predicated b r))
+    (listed-append (i.sources b) (words_read i b) ∙ ap (noted_all (i.sources b)) (sym (all_listed (words_read i b))))
 
 pub loads_are : (i : Moves) (b : ℕ) (r : Regs) (m : Memory) (output : List ℕ)
     → loads_in (moves_tree i m.around b) r m output ≡ cond (not i.store) (bytes_of i.memory (elements_at i b (state_of r m output))) []
 loads_are i b r m output =
     let s = state_of r m output in
     let rest = cond i.store [] (map Byte (bytes_of i.memory (elements_at i b s))) ++ map At (words_read i b) in
-    ap bytes_in ((λ j. tests_moves i m.around b s j ++ (reach_moves i m.around b s j).reads) ∙ append_assoc (map At (begun_places i.predicated b s)) (map At (i.sources b)) rest)
+    ap bytes_in ((λ j. tests_moves i m.around b s j ++ (reach_moves i m.around b s j).reads)
+    ∙ append_assoc (map At (begun_places i.predicated b s)) (map At (i.sources b)) rest)
     ∙ bytes_at-append (begun_places i.predicated b s) (map At (i.sources b) ++ rest) ∙ bytes_at-append (i.sources b) rest
     ∙ bytes_where i.store (bytes_of i.memory (elements_at i b s)) (words_read i b)
 
@@ -82,7 +89,8 @@ targets_bytes t e k (b ∷ bs) = ap (λ cs. Byte b ∷ cs) (targets_bytes t e (k
 targets_stores : (t : Bool) (z : Size) (es : List Element) → targets (store_all t z es) ≡ map Byte (bytes_of z es)
 targets_stores t z [] = refl
 targets_stores t z (e ∷ es) = targets-append (store_bytes t e 0 (span_bytes e.addr (width z))) (store_all t z es)
-    ∙ (λ j. targets_bytes t e 0 (span_bytes e.addr (width z)) j ++ targets_stores t z es j) ∙ sym (map-append Byte (span_bytes e.addr (width z)) (bytes_of z es))
+    ∙ (λ j. targets_bytes t e 0 (span_bytes e.addr (width z)) j ++ targets_stores t z es j)
+    ∙ sym (map-append Byte (span_bytes e.addr (width z)) (bytes_of z es))
 
 targets_moved : (i : Moves) (t : Bool) (b : ℕ) (es : List Element) (y : Bool)
     → targets (cond y (store_all t i.memory es) (fill i 0 es (i.words b))) ≡ cond y (map Byte (bytes_of i.memory es)) [] ++ map At (cond (not y) (i.words b) [])
@@ -91,14 +99,17 @@ targets_moved i t b es false = targets_fill i 0 es (i.words b)
 
 leaf_targets : (i : Moves) (b : ℕ) (r : Regs) (m : Memory) (output : List ℕ) → let s = state_of r m output in b < 4
     → targets (leaf_at i m.around b s).writes
-    ≡ cond i.store (map Byte (bytes_of i.memory (elements_at i b s))) [] ++ map At (cond (not i.store) (i.words b) [] ++ (places_of (i.back b (sources_at i b s)) ++ advance_places b r))
+    ≡ cond i.store (map Byte (bytes_of i.memory (elements_at i b s))) []
+    ++ map At (cond (not i.store) (i.words b) [] ++ (places_of (i.back b (sources_at i b s)) ++ advance_places b r))
 leaf_targets i b r m output low =
     let s = state_of r m output in
     let es = elements_at i b s in
     let ws = i.back b (sources_at i b s) in
     let bytes = cond i.store (map Byte (bytes_of i.memory es)) [] in
     targets-append (moved_by i m.around b es) (map always (ws ++ advance_at b s))
-    ∙ (λ j. targets_moved i (marks m.around.actor) b es i.store j ++ (targets_always (ws ++ advance_at b s) ∙ ap (map At) (map-append (λ (w : Write). w.place) ws (advance_at b s) ∙ ap (λ ps. places_of ws ++ ps) (advance_places_is b r m output low))) j)
+    ∙ (λ j. targets_moved i (marks m.around.actor) b es i.store j
+    ++ (targets_always (ws ++ advance_at b s)
+    ∙ ap (map At) (map-append (λ (w : Write). w.place) ws (advance_at b s) ∙ ap (λ ps. places_of ws ++ ps) (advance_places_is b r m output low))) j)
     ∙ append_assoc bytes (map At (cond (not i.store) (i.words b) [])) (map At (places_of ws ++ advance_places b r))
     ∙ ap (λ cs. bytes ++ cs) (sym (map-append At (cond (not i.store) (i.words b) []) (places_of ws ++ advance_places b r)))
 
@@ -111,7 +122,9 @@ bytes_after true bs ps = bytes_bytes bs (map At ps) ∙ ap (λ xs. bs ++ xs) (by
 bytes_after false bs ps = bytes_at ps
 
 pub writes_are : (i : Moves) (b : ℕ) (r : Regs) (m : Memory) (output : List ℕ) → b < 4
-    → writes_in (moves_tree i m.around b) r m output ≡ noted_all (cond (not i.store) (i.words b) []) (noted_all (places_of (i.back b (sources_at i b (state_of r m output)))) (noted_all (advance_places b r) []))
+    → writes_in (moves_tree i m.around b) r m output
+    ≡ noted_all (cond (not i.store) (i.words b) [])
+    (noted_all (places_of (i.back b (sources_at i b (state_of r m output)))) (noted_all (advance_places b r) []))
 writes_are i b r m output low =
     let s = state_of r m output in
     let ws = places_of (i.back b (sources_at i b s)) in
@@ -126,4 +139,5 @@ pub stores_are : (i : Moves) (b : ℕ) (r : Regs) (m : Memory) (output : List �
 stores_are i b r m output low =
     let s = state_of r m output in
     ap (λ (l : Leaf Cell Value Stop). bytes_in (targets l.writes)) (reach_moves i m.around b s) ∙ ap bytes_in (leaf_targets i b r m output low)
-    ∙ bytes_after i.store (bytes_of i.memory (elements_at i b s)) (cond (not i.store) (i.words b) [] ++ (places_of (i.back b (sources_at i b s)) ++ advance_places b r))
+    ∙ bytes_after i.store (bytes_of i.memory (elements_at i b s))
+    (cond (not i.store) (i.words b) [] ++ (places_of (i.back b (sources_at i b s)) ++ advance_places b r))

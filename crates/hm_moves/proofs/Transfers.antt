@@ -21,4 +21,5 @@ transfer_is t narrow s = go t.found
     go (interleaved d n four part back) = interleaved_is t.store t.memory t.register t.signed d n four part back s narrow
 
 pub transfer_laws : (t : Transfer) → IsNarrow t → RowLaws (moves_tree (moves_by t)) (transfer_whole t)
-transfer_laws t narrow = subst (λ (w : State → Result State Fault). RowLaws (moves_tree (moves_by t)) w) (λ j s. transfer_is t narrow s j) (moves_laws (moves_by t) (move_is t))
+transfer_laws t narrow = subst (λ (w : State → Result State Fault). RowLaws (moves_tree (moves_by t)) w) (λ j s. transfer_is t narrow s j)
+    (moves_laws (moves_by t) (move_is t))

@@ -1,5 +1,6 @@
 -- What a beat of a row that loads or stores tests, and the leaf that it comes to; what its leaf asks for and writes.
-use Rattle.std.proofs.Common.{◌≡◌, ℕ, ◌+◌, ◌-◌, ◌*◌, ◌%◌, Bool, true, false, not, cond, ◌||◌, ◌&&◌, ltb, eqb, List, [], ◌∷◌, ◌++◌, map, get_or, Option, Some, None, refl, sym, ◌∙◌, ap}
+use Rattle.std.proofs.Common.{◌≡◌, ℕ, ◌+◌, ◌-◌, ◌*◌, ◌%◌, Bool, true, false, not, cond, ◌||◌, ◌&&◌, ltb, eqb, List, [], ◌∷◌, ◌++◌, map, get_or, Option, Some}
+use Rattle.std.proofs.Common.{None, refl, sym, ◌∙◌, ap}
 use Rattle.std.proofs.lemmas.List.{append-nil, append_assoc, map-append}
 use Rattle.hm_base.specs.declared.Fault.{Fault}
 use Rattle.hm_base.specs.declared.FaultKind.{FaultKind}
@@ -28,7 +29,9 @@ use Rattle.hm_beat.proofs.Whole.{advance_taints, no_byte}
 use Rattle.hm_beat.proofs.Footprint.{no_tests}
 use Rattle.hm_kinds.specs.Row.{numbers}
 use Rattle.hm_moves.specs.declared.elements.Element.{Element}
-use Rattle.hm_moves.specs.Moves.{Moves, all_bytes_from, asks, back_at, begun, bytes_from, bytes_of, checks_of, element_checks, elements_at, active_ones, every_byte, fails, fault_after, fill, filled, first_fault, is_closed, loaded_at, moved_by, moves_leaf, moves_tree, reads_of, sources_at, store_all, store_bytes, stored_at, sure_stop, test_all, width, words_from}
+use Rattle.hm_moves.specs.Moves.{Moves, all_bytes_from, asks, back_at, begun, bytes_from, bytes_of, checks_of, element_checks, elements_at, active_ones}
+use Rattle.hm_moves.specs.Moves.{every_byte, fails, fault_after, fill, filled, first_fault, is_closed, loaded_at, moved_by, moves_leaf, moves_tree, reads_of}
+use Rattle.hm_moves.specs.Moves.{sources_at, store_all, store_bytes, stored_at, sure_stop, test_all, width, words_from}
 
 -- TESTS
 reach_all : (ps : List Place) (k : List ℕ → Tree) (s : State) → reach (test_all ps k) s ≡ reach (k (map (λ p. at p s) ps)) s
@@ -58,16 +61,20 @@ module _ (b : ℕ) (f : List Bool → List Write → Tree) (s : State) where
   reach_unlooked true = refl
   reach_unlooked false = refl
 
-  tests_unlooked : (y : Bool) → tests (test_where y (P0 b) λ slice. f every_byte (inverted y slice)) s ≡ map At (cond y (P0 b ∷ []) []) ++ tests (f every_byte (inverted y (at (P0 b) s))) s
+  tests_unlooked : (y : Bool) → tests (test_where y (P0 b) λ slice. f every_byte (inverted y slice)) s
+      ≡ map At (cond y (P0 b ∷ []) []) ++ tests (f every_byte (inverted y (at (P0 b) s))) s
   tests_unlooked true = refl
   tests_unlooked false = refl
 
-  pub reach_begun : (w : Bool) → reach (begun w b λ mask slice active. f active (advance_of b mask slice)) s ≡ reach (f (cond w (active_at b s) every_byte) (advance_at b s)) s
-  reach_begun true = reach_looked false b (λ mask slice active. f active (advance_of b mask slice)) s ∙ ap (λ xs. reach (f (active_at b s) (xs ++ rest)) s) (kept_tested false b mask (at (P0 b) s))
+  pub reach_begun : (w : Bool) → reach (begun w b λ mask slice active. f active (advance_of b mask slice)) s
+      ≡ reach (f (cond w (active_at b s) every_byte) (advance_at b s)) s
+  reach_begun true = reach_looked false b (λ mask slice active. f active (advance_of b mask slice)) s
+      ∙ ap (λ xs. reach (f (active_at b s) (xs ++ rest)) s) (kept_tested false b mask (at (P0 b) s))
   reach_begun false = reach_unlooked (ltb 8 mask)
 
   pub tests_begun : (w : Bool)
-      → tests (begun w b λ mask slice active. f active (advance_of b mask slice)) s ≡ map At (begun_places w b s) ++ tests (f (cond w (active_at b s) every_byte) (advance_at b s)) s
+      → tests (begun w b λ mask slice active. f active (advance_of b mask slice)) s
+      ≡ map At (begun_places w b s) ++ tests (f (cond w (active_at b s) every_byte) (advance_at b s)) s
   tests_begun true =
       tests_looked false b (λ mask slice active. f active (advance_of b mask slice)) s
       ∙ ap (λ xs. map At (tested_places false b s) ++ tests (f (active_at b s) (xs ++ rest)) s) (kept_tested false b mask (at (P0 b) s))
@@ -95,7 +102,8 @@ written_fill i j es (p ∷ ps) vs = ap (λ ws. into (write p (filled i j es (num
 
 written_bytes : (t : Bool) (e : Element) (k : ℕ) (bs : List ℕ) (vs : List Value) → written (store_bytes t e k bs) vs ≡ bytes_from t e (numbers vs) k bs
 written_bytes t e k [] vs = refl
-written_bytes t e k (a ∷ bs) vs = ap (λ ws. (Byte a, record { n = byte_of (get_or (numbers vs) e.word 0) (e.lane + k); taint = t }) ∷ ws) (written_bytes t e (k + 1) bs vs)
+written_bytes t e k (a ∷ bs) vs =
+    ap (λ ws. (Byte a, record { n = byte_of (get_or (numbers vs) e.word 0) (e.lane + k); taint = t }) ∷ ws) (written_bytes t e (k + 1) bs vs)
 
 written_all : (t : Bool) (z : Size) (es : List Element) (vs : List Value) → written (store_all t z es) vs ≡ all_bytes_from t z es (numbers vs)
 written_all t z [] vs = refl
@@ -103,7 +111,8 @@ written_all t z (e ∷ es) vs = written-append (store_bytes t e 0 (span_bytes e.
     ∙ (λ j. written_bytes t e 0 (span_bytes e.addr (width z)) vs j ++ written_all t z es vs j)
 
 written_moved : (i : Moves) (x : Around) (b : ℕ) (es : List Element) (vs : List Value)
-    → written (moved_by i x b es) vs ≡ cond i.store [] (words_from i 0 es (numbers vs) (i.words b)) ++ cond i.store (all_bytes_from (marks x.actor) i.memory es (numbers vs)) []
+    → written (moved_by i x b es) vs
+    ≡ cond i.store [] (words_from i 0 es (numbers vs) (i.words b)) ++ cond i.store (all_bytes_from (marks x.actor) i.memory es (numbers vs)) []
 written_moved i x b es vs = go i.store
   where
     go : (y : Bool) → written (cond y (store_all (marks x.actor) i.memory es) (fill i 0 es (i.words b))) vs
@@ -146,7 +155,8 @@ asked_where : (y : Bool) (a : ℕ) (bs : List ℕ) (cs : List ℕ) → asked (co
 asked_where true a bs cs = ap (λ xs. xs ++ map Byte cs) (asked_asks a bs) ∙ sym (map-append Byte bs cs)
 asked_where false a bs cs = refl
 
-pub asked_is : (x : Around) (store : Bool) (z : Size) (es : List Element) → asked (checks_of x store (width z) es) ≡ cond (is_thread x.actor && not store) (map Byte (bytes_of z es)) []
+pub asked_is : (x : Around) (store : Bool) (z : Size) (es : List Element)
+    → asked (checks_of x store (width z) es) ≡ cond (is_thread x.actor && not store) (map Byte (bytes_of z es)) []
 asked_is x store z [] = sym (go (is_thread x.actor && not store))
   where
     go : (y : Bool) → cond y (map Byte []) [] ≡ []
@@ -160,29 +170,35 @@ asked_is x store z (e ∷ es) =
     ∙ asked_where y e.addr bs (bytes_of z es)
 
 -- what is asked for is read
-asked_read : (p store : Bool) (bs : List ℕ) (ws : List Cell) (c : Cell) → holds cells (cond (p && not store) (map Byte bs) []) c ≡ true → holds cells (cond store [] (map Byte bs) ++ ws) c ≡ true
+asked_read : (p store : Bool) (bs : List ℕ) (ws : List Cell) (c : Cell) → holds cells (cond (p && not store) (map Byte bs) []) c ≡ true
+    → holds cells (cond store [] (map Byte bs) ++ ws) c ≡ true
 asked_read true true bs ws c h = cc
 asked_read true false bs ws c h = holds-append (map Byte bs) ws c ∙ one_of (holds cells (map Byte bs) c) (holds cells ws c) h
 asked_read false store bs ws c h = cc
 
-pub leaf_asks : (i : Moves) (x : Around) (b : ℕ) (s : State) (c : Cell) → holds cells (asked (leaf_at i x b s).checks) c ≡ true → holds cells (leaf_at i x b s).reads c ≡ true
+pub leaf_asks : (i : Moves) (x : Around) (b : ℕ) (s : State) (c : Cell) → holds cells (asked (leaf_at i x b s).checks) c ≡ true
+    → holds cells (leaf_at i x b s).reads c ≡ true
 leaf_asks i x b s c h =
     let es = elements_at i b s in
     asked_read (is_thread x.actor) i.store (bytes_of i.memory es) _ c (sym (ap (λ cs. holds cells cs c) (asked_is x i.store i.memory es)) ∙ h)
 
 -- the thread asks for each byte that it reads
-read_asked : (store : Bool) (bs : List ℕ) (ps : List Place) (a : ℕ) → holds cells (cond store [] (map Byte bs) ++ map At ps) (Byte a) ≡ true → holds cells (cond (true && not store) (map Byte bs) []) (Byte a) ≡ true
+read_asked : (store : Bool) (bs : List ℕ) (ps : List Place) (a : ℕ) → holds cells (cond store [] (map Byte bs) ++ map At ps) (Byte a) ≡ true
+    → holds cells (cond (true && not store) (map Byte bs) []) (Byte a) ≡ true
 read_asked true bs ps a h = true_not_false (holds cells (map At ps) (Byte a)) h (no_byte ps a)
-read_asked false bs ps a h = left (holds cells (map Byte bs) (Byte a)) (holds cells (map At ps) (Byte a)) (sym (holds-append (map Byte bs) (map At ps) (Byte a)) ∙ h) (no_byte ps a)
+read_asked false bs ps a h = left (holds cells (map Byte bs) (Byte a)) (holds cells (map At ps) (Byte a))
+    (sym (holds-append (map Byte bs) (map At ps) (Byte a)) ∙ h) (no_byte ps a)
   where
     left : (p q : Bool) → (p || q) ≡ true → q ≡ false → p ≡ true
     left true q e f = refl
     left false q e f = cc
 
-pub leaf_read_asked : (i : Moves) (x : Around) (b : ℕ) (s : State) (a : ℕ) → x.actor ≡ Thread → holds cells (leaf_at i x b s).reads (Byte a) ≡ true → holds cells (asked (leaf_at i x b s).checks) (Byte a) ≡ true
+pub leaf_read_asked : (i : Moves) (x : Around) (b : ℕ) (s : State) (a : ℕ) → x.actor ≡ Thread → holds cells (leaf_at i x b s).reads (Byte a) ≡ true
+    → holds cells (asked (leaf_at i x b s).checks) (Byte a) ≡ true
 leaf_read_asked i x b s a thread h =
     let es = elements_at i b s in
-    ap (λ cs. holds cells cs (Byte a)) (asked_is x i.store i.memory es) ∙ ap (λ t. holds cells (cond (is_thread t && not i.store) (map Byte (bytes_of i.memory es)) []) (Byte a)) thread
+    ap (λ cs. holds cells cs (Byte a)) (asked_is x i.store i.memory es)
+    ∙ ap (λ t. holds cells (cond (is_thread t && not i.store) (map Byte (bytes_of i.memory es)) []) (Byte a)) thread
     ∙ read_asked i.store (bytes_of i.memory es) _ a h
 
 -- CHECKS OF THE THREAD
@@ -190,8 +206,10 @@ abbrev pub fault_stop : Option Fault → Option Stop
 fault_stop None = None
 fault_stop (Some f) = Some (stop.Fault f)
 
-sure_thread : (x : Around) (store : Bool) (len a : ℕ) → x.actor ≡ Thread → sure_stop x store len a ≡ fault_stop (fault_after (fault_kind true Vector store len a) a)
-sure_thread x store len a thread = (λ j. stop_after (fault_kind (is_thread (thread j)) Vector store len a) (is_closed (thread j) x.bounds store len a) store a) ∙ go (fault_kind true Vector store len a)
+sure_thread : (x : Around) (store : Bool) (len a : ℕ) → x.actor ≡ Thread
+    → sure_stop x store len a ≡ fault_stop (fault_after (fault_kind true Vector store len a) a)
+sure_thread x store len a thread = (λ j. stop_after (fault_kind (is_thread (thread j)) Vector store len a) (is_closed (thread j) x.bounds store len a) store a)
+    ∙ go (fault_kind true Vector store len a)
   where
     go : (k : Option FaultKind) → stop_after k false store a ≡ fault_stop (fault_after k a)
     go None = refl
@@ -205,7 +223,8 @@ checked_asks : (a : ℕ) (bs : List ℕ) (cs : List (Check Cell Stop)) (s : Stat
 checked_asks a [] cs s clean = refl
 checked_asks a (b ∷ bs) cs s clean = ap (λ d. cond d (Some (stop.Tainted a)) (checked cells (asks a bs ++ cs) s)) (clean b) ∙ checked_asks a bs cs s clean
 
-checked_where : (y : Bool) (a : ℕ) (bs : List ℕ) (cs : List (Check Cell Stop)) (s : State) → NoTaint s → checked cells (cond y (asks a bs) [] ++ cs) s ≡ checked cells cs s
+checked_where : (y : Bool) (a : ℕ) (bs : List ℕ) (cs : List (Check Cell Stop)) (s : State) → NoTaint s
+    → checked cells (cond y (asks a bs) [] ++ cs) s ≡ checked cells cs s
 checked_where true a bs cs s clean = checked_asks a bs cs s clean
 checked_where false a bs cs s clean = refl
 
@@ -213,7 +232,8 @@ or_faults : (f g : Option Fault) → or_else (fault_stop f) (fault_stop g) ≡ f
 or_faults None g = refl
 or_faults (Some f) g = refl
 
-pub checked_clean : (x : Around) (store : Bool) (len : ℕ) (es : List Element) (s : State) → x.actor ≡ Thread → NoTaint s → checked cells (checks_of x store len es) s ≡ fault_stop (first_fault store len es)
+pub checked_clean : (x : Around) (store : Bool) (len : ℕ) (es : List Element) (s : State) → x.actor ≡ Thread → NoTaint s
+    → checked cells (checks_of x store len es) s ≡ fault_stop (first_fault store len es)
 checked_clean x store len [] s thread clean = refl
 checked_clean x store len (e ∷ es) s thread clean =
     let o = sure_stop x store len e.addr in
@@ -238,7 +258,8 @@ fails-append (Asks c e ∷ cs) ds h k = fails-append cs ds h k
 pub checks_stop : (x : Around) (store : Bool) (len : ℕ) (es : List Element) → StopsAs is_tainted (checks_of x store len es)
 checks_stop x store len [] = tt
 checks_stop x store len (e ∷ es) = stops-append (element_checks x store len e.addr) (checks_of x store len es)
-    (stops-append (fails (sure_stop x store len e.addr)) _ (of_fails (sure_stop x store len e.addr)) (of_where (is_thread x.actor && not store) (span_bytes e.addr len))) (checks_stop x store len es)
+    (stops-append (fails (sure_stop x store len e.addr)) _ (of_fails (sure_stop x store len e.addr))
+    (of_where (is_thread x.actor && not store) (span_bytes e.addr len))) (checks_stop x store len es)
   where
     of_fails : (o : Option Stop) → StopsAs is_tainted (fails o)
     of_fails None = tt
@@ -255,7 +276,8 @@ checks_stop x store len (e ∷ es) = stops-append (element_checks x store len e.
 pub checks_fail : (x : Around) (store : Bool) (len : ℕ) (es : List Element) → x.actor ≡ Thread → FailsElse is_tainted (checks_of x store len es)
 checks_fail x store len [] thread = tt
 checks_fail x store len (e ∷ es) thread = fails-append (element_checks x store len e.addr) (checks_of x store len es)
-    (fails-append (fails (sure_stop x store len e.addr)) _ (of_fails (sure_stop x store len e.addr) (fault_after (fault_kind true Vector store len e.addr) e.addr) (sure_thread x store len e.addr thread))
+    (fails-append (fails (sure_stop x store len e.addr)) _
+    (of_fails (sure_stop x store len e.addr) (fault_after (fault_kind true Vector store len e.addr) e.addr) (sure_thread x store len e.addr thread))
     (of_where (is_thread x.actor && not store) (span_bytes e.addr len))) (checks_fail x store len es thread)
   where
     of_fails : (o : Option Stop) (f : Option Fault) → o ≡ fault_stop f → FailsElse is_tainted (fails o)
@@ -290,7 +312,8 @@ bytes_live t e k (a ∷ bs) h = (λ vs. h, bytes_live t e (k + 1) bs h)
 
 stores_live : (t : Bool) (z : Size) (es : List Element) → t ≡ false → WritesLive cells (store_all t z es)
 stores_live t z [] h = tt
-stores_live t z (e ∷ es) h = lives-append (store_bytes t e 0 (span_bytes e.addr (width z))) (store_all t z es) (bytes_live t e 0 (span_bytes e.addr (width z)) h) (stores_live t z es h)
+stores_live t z (e ∷ es) h = lives-append (store_bytes t e 0 (span_bytes e.addr (width z))) (store_all t z es)
+    (bytes_live t e 0 (span_bytes e.addr (width z)) h) (stores_live t z es h)
 
 -- AND WHAT IS WRITTEN TO BYTES IS TAINTED, OR NONE OF IT IS
 taint-append : (tainted : Bool) (ws us : List (Cell × (List Value → Value))) → WritesTaint tainted ws → WritesTaint tainted us → WritesTaint tainted (ws ++ us)
@@ -308,11 +331,13 @@ bytes_taint tainted e k (a ∷ bs) = (λ vs. refl, bytes_taint tainted e (k + 1)
 stores_taint : (tainted : Bool) (z : Size) (es : List Element) → WritesTaint tainted (store_all tainted z es)
 stores_taint tainted z [] = tt
 stores_taint tainted z (e ∷ es) =
-    taint-append tainted (store_bytes tainted e 0 (span_bytes e.addr (width z))) (store_all tainted z es) (bytes_taint tainted e 0 (span_bytes e.addr (width z))) (stores_taint tainted z es)
+    taint-append tainted (store_bytes tainted e 0 (span_bytes e.addr (width z))) (store_all tainted z es)
+    (bytes_taint tainted e 0 (span_bytes e.addr (width z))) (stores_taint tainted z es)
 
 pub leaf_taints : (i : Moves) (x : Around) (b : ℕ) (s : State) → WritesTaint (marks x.actor) (leaf_at i x b s).writes
 leaf_taints i x b s =
-    taint-append (marks x.actor) (moved_by i x b (elements_at i b s)) _ (go i.store) (advance_taints (marks x.actor) (i.back b (sources_at i b s) ++ advance_at b s))
+    taint-append (marks x.actor) (moved_by i x b (elements_at i b s)) _ (go i.store)
+    (advance_taints (marks x.actor) (i.back b (sources_at i b s) ++ advance_at b s))
   where
     go : (y : Bool) → WritesTaint (marks x.actor) (cond y (store_all (marks x.actor) i.memory (elements_at i b s)) (fill i 0 (elements_at i b s) (i.words b)))
     go true = stores_taint (marks x.actor) i.memory (elements_at i b s)

@@ -1,5 +1,6 @@
 -- Rows that load or store elements of vector registers: one form for all of them.
-use Rattle.std.specs.Prelude.{ℕ, zero, suc, ◌≡◌, ◌+◌, ◌-◌, ◌*◌, ◌%◌, ◌^◌, ◌<◌, Bool, true, false, not, ◌&&◌, ◌||◌, cond, eqb, leb, ltb, List, [], ◌∷◌, ◌++◌, map, drop, get_or, Option, Some, None, Result, Ok}
+use Rattle.std.specs.Prelude.{ℕ, zero, suc, ◌≡◌, ◌+◌, ◌-◌, ◌*◌, ◌%◌, ◌^◌, ◌<◌, Bool, true, false, not, ◌&&◌, ◌||◌, cond, eqb, leb, ltb, List, [], ◌∷◌, ◌++◌}
+use Rattle.std.specs.Prelude.{map, drop, get_or, Option, Some, None, Result, Ok}
 use Rattle.hm_base.specs.Bits.{put_field}
 use Rattle.hm_base.specs.Place.{fit, same_place}
 use Rattle.hm_base.specs.declared.Fault.{Fault}
@@ -120,7 +121,8 @@ fill i j es (p ∷ ps) = (At p, λ vs. word (fit p (filled i j es (numbers vs)))
 -- byte k of an element and those after it are stored from words that were read
 abbrev pub store_bytes : Bool → Element → ℕ → List ℕ → List (Cell × (List Value → Value))
 store_bytes tainted e k [] = []
-store_bytes tainted e k (a ∷ bs) = (Byte a, λ vs. record { n = byte_of (get_or (numbers vs) e.word 0) (e.lane + k); taint = tainted }) ∷ store_bytes tainted e (k + 1) bs
+store_bytes tainted e k (a ∷ bs) =
+    (Byte a, λ vs. record { n = byte_of (get_or (numbers vs) e.word 0) (e.lane + k); taint = tainted }) ∷ store_bytes tainted e (k + 1) bs
 
 -- the bytes of a list of elements are stored from words that were read
 abbrev pub store_all : Bool → Size → List Element → List (Cell × (List Value → Value))

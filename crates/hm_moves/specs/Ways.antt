@@ -78,7 +78,8 @@ way_words z (straight d n offset before back) b = word_place d b ∷ []
 way_words z (at_offsets d n m scale) b = word_place d b ∷ []
 way_words z (at_addresses d m offset back) b = word_place d b ∷ []
 way_words z (interleaved d n four part back) b =
-    each_from (λ i. let k = stream part z b + i in word_place (d + k % registers four) (width z * (k / registers four) / 4)) 0 (cond (ltb (per_word z) (registers four)) (per_word z) (registers four))
+    each_from (λ i. let k = stream part z b + i in word_place (d + k % registers four) (width z * (k / registers four) / 4)) 0
+    (cond (ltb (per_word z) (registers four)) (per_word z) (registers four))
 
 -- what is written back: the base on the last beat, or each address on its beat
 abbrev pub way_back : Found → ℕ → List ℕ → List Write

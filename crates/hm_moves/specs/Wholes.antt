@@ -74,7 +74,8 @@ filled_registers z (straight d n offset before back) xs = write_register d (unla
 filled_registers z (at_offsets d n m scale) xs = write_register d (unlanes z xs)
 filled_registers z (at_addresses d m offset back) xs = write_register d (unlanes z xs)
 filled_registers z (interleaved d n four part back) xs =
-    flat_map (λ i. write_words (d + i) (part_word four part) (words (unlanes z (taken_by (count z) (registers four) i xs)))) (each_from (λ i. i) 0 (registers four))
+    flat_map (λ i. write_words (d + i) (part_word four part) (words (unlanes z (taken_by (count z) (registers four) i xs))))
+    (each_from (λ i. i) 0 (registers four))
 
 -- STORES
 -- the elements as they stand in their register, or in a part of each register by turns
@@ -105,14 +106,16 @@ written_back (interleaved d n four part back) s = cond back (into (write (R n) (
 
 -- what registers and bytes get, by which elements are moved and where they stand
 abbrev pub transferred : Transfer → List Bool → List ℕ → State → List (Cell × Value)
-transferred t ps addrs s = cond t.store (element_bytes t.memory ps addrs (stored_elements t.register t.found s)) (filled_registers t.register t.found (loaded_elements (loaded t s) ps addrs))
+transferred t ps addrs s = cond t.store (element_bytes t.memory ps addrs (stored_elements t.register t.found s))
+    (filled_registers t.register t.found (loaded_elements (loaded t s) ps addrs))
 
 -- The first element that has a fault gives it. Else all elements are moved, the base or the addresses are written back, and the masks advance.
 abbrev pub transfer_whole : Transfer → State → Result State Fault
 transfer_whole t s =
     let ps = are_moved t.register t.found s in
     let addrs = addresses t.memory t.register t.found s in
-    unless (fault_of t.store (width t.memory) ps addrs) (Ok (retired (put_all cells (transferred t ps addrs s ++ written_back t.found s ++ advance_half 0 s ++ advance_half 2 s) s)))
+    unless (fault_of t.store (width t.memory) ps addrs)
+    (Ok (retired (put_all cells (transferred t ps addrs s ++ written_back t.found s ++ advance_half 0 s ++ advance_half 2 s) s)))
 
 -- an element that is stored is not longer in memory than in its register
 abbrev pub IsNarrow : Transfer → Type 0

@@ -1,6 +1,7 @@
 //! What a beat of a row that loads or stores does.
 
-ghost use Rattle.std.specs.Prelude.{◌≡◌, ℕ, ◌+◌, ◌-◌, ◌*◌, ◌%◌, ◌<◌, ◌≤◌, ◌&&◌, not, eqb, ltb, cond, true, false, List, [], ◌∷◌, ◌++◌, length, map, None, Ok, All, IfSome, IsOk};
+ghost use Rattle.std.specs.Prelude.{◌≡◌, ℕ, ◌+◌, ◌-◌, ◌*◌, ◌%◌, ◌<◌, ◌≤◌, ◌&&◌, not, eqb, ltb, cond, true, false, List, [], ◌∷◌, ◌++◌, length, map, None, Ok};
+ghost use Rattle.std.specs.Prelude.{All, IfSome, IsOk};
 ghost use Rattle.hm_base.specs.Place.{IsPlace};
 ghost use Rattle.hm_base.specs.declared.Place.TheVariants.{P0};
 ghost use Rattle.hm_lane.specs.Predicate.{advance_writes, mask_place};

@@ -239,7 +239,8 @@ fn push_active(es: &mut Elements, e: Element, active: bool)
 /// The active ones of the elements of beat `b`, by the two numbers that stand in the sources. `b` is below 4.
 fn active_elements(row: &Move, b: u8, first: u32, second: u32, active: [bool; 4]) -> Elements
     requires { b < 4 }
-    ensures value { result.items ≡ active_ones active (each_from (way_element row.now.memory row.now.register (way_of row.now.way) b (first ∷ second ∷ [])) 0 (per_word row.now.register)) }
+    ensures value { result.items ≡ active_ones active
+        (each_from (way_element row.now.memory row.now.register (way_of row.now.way) b (first ∷ second ∷ [])) 0 (per_word row.now.register)) }
     ensures few { length result.items ≤ 4 }
     ensures fit { Fit row.now.register result.items }
 {

@@ -136,7 +136,8 @@ fn writes(row: &Move, b: u8, r: &Regs) -> Places
 /// The bytes that beat `b` loads or stores, where it does. `b` is below 4.
 fn moved_spans(row: &Move, b: u8, r: &Regs, touched: bool) -> Spans
     requires { b < 4 }
-    ensures { (m : Memory) (output : List ℕ) → spanned result.items ≡ cond touched (bytes_of row.now.memory (elements_at (moves_of row.now) b (state_of r.now m output))) [] }
+    ensures { (m : Memory) (output : List ℕ)
+        → spanned result.items ≡ cond touched (bytes_of row.now.memory (elements_at (moves_of row.now) b (state_of r.now m output))) [] }
 {
     if touched {
         let es = elements(row, b, r);

@@ -73,7 +73,8 @@ fn least(x: u32, y: u32) -> u32
 /// The words of interleaved elements. `b` is below 4.
 fn interleaved_words(w: &Interleaved, z: Size, b: u8) -> Words
     requires { b < 4 }
-    ensures value { result.items ≡ each_from (λ i. let k = stream w.now.part z b + i in word_place (w.now.d + k % registers w.now.four) (width z * (k / registers w.now.four) / 4)) 0
+    ensures value { result.items ≡ each_from
+        (λ i. let k = stream w.now.part z b + i in word_place (w.now.d + k % registers w.now.four) (width z * (k / registers w.now.four) / 4)) 0
         (cond (ltb (per_word z) (registers w.now.four)) (per_word z) (registers w.now.four)) }
     ensures placed { All IsPlace result.items }
     ensures few { length result.items ≤ 4 }

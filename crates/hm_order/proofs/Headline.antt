@@ -1,5 +1,6 @@
 -- What follows where the machine stops, and where it goes on.
-use Rattle.std.proofs.Common.{◌≡◌, ℕ, zero, suc, ◌+◌, ◌-◌, ◌*◌, ◌<◌, ◌≤◌, Ok, Err, Bool, true, false, cond, ◌==◌, refl, sym, ap, ◌∙◌, subst, arith, ⊎_elim, add-suc, add-zero}
+use Rattle.std.proofs.Common.{◌≡◌, ℕ, zero, suc, ◌+◌, ◌-◌, ◌*◌, ◌<◌, ◌≤◌, Ok, Err, Bool, true, false, cond, ◌==◌, refl, sym, ap, ◌∙◌, subst, arith, ⊎_elim}
+use Rattle.std.proofs.Common.{add-suc, add-zero}
 use Rattle.std.proofs.Math.Decide.{dec_le}
 use Rattle.hm_order.specs.Machine.{Core, CoreLaws, Config, StopsInOrder, InOrder, seq, next}
 use Rattle.hm_order.specs.Position.{Holds, Explains, StopsAt, SamePosition}

@@ -1,5 +1,6 @@
 -- A step of the older instruction, from between two instructions and from inside one.
-use Rattle.std.proofs.Common.{◌≡◌, ℕ, zero, suc, ◌+◌, ◌-◌, ◌*◌, ◌<◌, ◌≤◌, Result, Ok, Err, Option, Some, None, true, ◌⊎◌, inl, inr, refl, sym, ◌∙◌, ap, subst, arith, ⊎_elim}
+use Rattle.std.proofs.Common.{◌≡◌, ℕ, zero, suc, ◌+◌, ◌-◌, ◌*◌, ◌<◌, ◌≤◌, Result, Ok, Err, Option, Some, None, true, ◌⊎◌, inl, inr, refl, sym, ◌∙◌, ap, subst}
+use Rattle.std.proofs.Common.{arith, ⊎_elim}
 use Rattle.hm_order.specs.Beats.{Same, Live, Alike, AlikeAs, StopsBy, then, beats}
 use Rattle.hm_order.specs.Machine.{Clean, Core, CoreLaws, Config, seq, next, next_of, settle, begin, done, older_of}
 use Rattle.hm_order.specs.Position.{Reaches, Second, Between, Inside, Holds, Explains, Agrees}
@@ -30,7 +31,8 @@ module _ {S I C V E W B : Type 0} (M : Core S I C V E W B) (laws : CoreLaws M) w
   first_beat : (first y : S) (c : Config S) (i : I) → Holds M first c → seq M c.n first ≡ Ok y → Clean M y → M.rows.view.pc c.state ≡ M.rows.view.pc y
       → M.code (M.rows.view.pc y) ≡ Some i → Live M.rows.view c.state y → c.a ≡ 0
       → Agrees M first (done M c (then (M.start i c.state) ((M.rows.act i 0).run)) (settle M 1 0 c.n (suc c.steps)))
-  first_beat first y c i h runs clean pc here live none = done_agrees M first c (then (M.start i c.state) ((M.rows.act i 0).run)) (settle M 1 0 c.n (suc c.steps)) h ok err
+  first_beat first y c i h runs clean pc here live none =
+      done_agrees M first c (then (M.start i c.state) ((M.rows.act i 0).run)) (settle M 1 0 c.n (suc c.steps)) h ok err
     where
       o : Option I
       o = M.code (M.rows.view.pc y + 4)
@@ -46,7 +48,8 @@ module _ {S I C V E W B : Type 0} (M : Core S I C V E W B) (laws : CoreLaws M) w
           let begun = alike_ok (Live M.rows.view) (M.start i c.state) (M.start i y) s alike e in
           reaches M laws (beats M.rows i 0 4 s) (beats M.rows i 0 4 begun.0) (M.whole i y) o
           (beats_live M.rows laws.rows i 0 4 s begun.0 (laws.start_ready i c.state s e) begun.2)
-          (subst (λ r. AlikeAs M.stop_of (Same M.rows.view) r (M.whole i y)) (then_ok_at (M.start i y) (beats M.rows i 0 4) begun.0 begun.1) (laws.whole i y clean))
+          (subst (λ r. AlikeAs M.stop_of (Same M.rows.view) r (M.whole i y)) (then_ok_at (M.start i y) (beats M.rows i 0 4) begun.0 begun.1)
+          (laws.whole i y clean))
 
       ok : (t : S) → then (M.start i c.state) ((M.rows.act i 0).run) ≡ Ok t → Holds M first (settle M 1 0 c.n (suc c.steps) t)
       ok t e =
@@ -59,7 +62,8 @@ module _ {S I C V E W B : Type 0} (M : Core S I C V E W B) (laws : CoreLaws M) w
 
       err : (e : E) → then (M.start i c.state) ((M.rows.act i 0).run) ≡ Err e → Explains M first c.n e
       err e h = then_err (M.start i c.state) ((M.rows.act i 0).run) e h
-          (λ none. stops M first y c.n i e runs here (inr (alike_as_err M.stop_of (Same M.rows.view) (then (M.start i y) (beats M.rows i 0 4)) (M.whole i y) e (laws.whole i y clean)
+          (λ none. stops M first y c.n i e runs here
+          (inr (alike_as_err M.stop_of (Same M.rows.view) (then (M.start i y) (beats M.rows i 0 4)) (M.whole i y) e (laws.whole i y clean)
           (then_err_at (M.start i y) (beats M.rows i 0 4) e (alike_err (Live M.rows.view) (M.start i c.state) (M.start i y) e alike none)))))
           (λ s begun none. stops M first y c.n i e runs here
           (subst (λ r. Reaches M r (M.whole i y) o 0) (then_err_at ((M.rows.act i 0).run s) (beats M.rows i 1 3) e none) (four s begun)))
@@ -87,12 +91,14 @@ module _ {S I C V E W B : Type 0} (M : Core S I C V E W B) (laws : CoreLaws M) w
           (subst (λ r. Reaches M r (M.whole i y) o c.b) (then_ok_at ((M.rows.act i c.a).run c.state) (beats M.rows i (suc c.a) (4 - suc c.a)) t e) ends)
 
       err : (e : E) → (M.rows.act i c.a).run c.state ≡ Err e → Explains M first c.n e
-      err e h = stops M first y c.n i e runs p.here (subst (λ r. Reaches M r (M.whole i y) o c.b) (then_err_at ((M.rows.act i c.a).run c.state) (beats M.rows i (suc c.a) (4 - suc c.a)) e h) ends)
+      err e h = stops M first y c.n i e runs p.here
+          (subst (λ r. Reaches M r (M.whole i y) o c.b) (then_err_at ((M.rows.act i c.a).run c.state) (beats M.rows i (suc c.a) (4 - suc c.a)) e h) ends)
 
   -- an instruction that is no vector row
   other_agrees : (first y : S) (c : Config S) → Holds M first c → seq M c.n first ≡ Ok y → Clean M y → M.rows.view.pc c.state ≡ M.rows.view.pc y
       → M.code (M.rows.view.pc y) ≡ None → Live M.rows.view c.state y → c.a ≡ 0 → Agrees M first (older_of M None c)
-  other_agrees first y c h runs clean pc here live none = done_agrees M first c (M.other c.state) (λ t. record { a = 0; b = 0; n = suc c.n; steps = suc c.steps; state = t }) h ok err
+  other_agrees first y c h runs clean pc here live none =
+      done_agrees M first c (M.other c.state) (λ t. record { a = 0; b = 0; n = suc c.n; steps = suc c.steps; state = t }) h ok err
     where
       Ends : S → S → Type 0
       Ends u v = Live M.rows.view u v × (M.rows.view.pc u ≡ M.rows.view.pc v)
@@ -103,7 +109,8 @@ module _ {S I C V E W B : Type 0} (M : Core S I C V E W B) (laws : CoreLaws M) w
       follows : next M y ≡ M.alone y
       follows = ap (λ o. next_of M o y) here
 
-      to : (t z : S) → M.alone y ≡ Ok z → Live M.rows.view t z → M.rows.view.pc t ≡ M.rows.view.pc z → Holds M first (record { a = 0; b = 0; n = suc c.n; steps = suc c.steps; state = t })
+      to : (t z : S) → M.alone y ≡ Ok z → Live M.rows.view t z → M.rows.view.pc t ≡ M.rows.view.pc z
+          → Holds M first (record { a = 0; b = 0; n = suc c.n; steps = suc c.steps; state = t })
       to t z e alive at = record {
         order = z;
         runs = then_ok_at (seq M c.n first) (next M) y runs ∙ follows ∙ e;
@@ -133,5 +140,6 @@ module _ {S I C V E W B : Type 0} (M : Core S I C V E W B) (laws : CoreLaws M) w
   pub inside : (first y : S) (c : Config S) → Holds M first c → seq M c.n first ≡ Ok y → Clean M y → M.rows.view.pc c.state ≡ M.rows.view.pc y
       → (p : Inside M c y) → Agrees M first (older_of M (Some p.row) c)
   inside first y c h runs clean pc p =
-      subst (λ r. Agrees M first (done M c (then r ((M.rows.act p.row c.a).run)) (settle M (suc c.a) c.b c.n (suc c.steps)))) (sym (begins M p.row c.a c.state p.begun))
+      subst (λ r. Agrees M first (done M c (then r ((M.rows.act p.row c.a).run)) (settle M (suc c.a) c.b c.n (suc c.steps))))
+      (sym (begins M p.row c.a c.state p.begun))
       (later_beat first y c h runs clean pc p)

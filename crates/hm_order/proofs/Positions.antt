@@ -1,5 +1,6 @@
 -- The machine at its positions.
-use Rattle.std.proofs.Common.{◌≡◌, ℕ, suc, ◌+◌, ◌-◌, ◌*◌, ◌<◌, ◌≤◌, Result, Ok, Err, Option, Some, None, Bool, true, false, cond, ◌==◌, ◌⊎◌, inl, inr, refl, sym, ◌∙◌, ap, subst, arith, eq-zero-or-pos, eqb-true}
+use Rattle.std.proofs.Common.{◌≡◌, ℕ, suc, ◌+◌, ◌-◌, ◌*◌, ◌<◌, ◌≤◌, Result, Ok, Err, Option, Some, None, Bool, true, false, cond, ◌==◌, ◌⊎◌, inl, inr, refl}
+use Rattle.std.proofs.Common.{sym, ◌∙◌, ap, subst, arith, eq-zero-or-pos, eqb-true}
 use Rattle.std.proofs.lemmas.Bool.{eqb-false}
 use Rattle.std.proofs.lemmas.Bool.Decides.{nat_tests}
 use Rattle.hm_order.specs.Beats.{Same, Live, Alike, AlikeAs, StopsBy, beats}
@@ -29,7 +30,8 @@ module _ {S I C V E W B : Type 0} (M : Core S I C V E W B) where
 
 module _ {S I C V E W B : Type 0} (M : Core S I C V E W B) (laws : CoreLaws M) where
   -- what agrees with q, which ends as w does, reaches w
-  pub reaches : (r q : Result S E) (w : Result S W) (o : Option I) → StopsBy M.rows.tainted r ⊎ Alike (Live M.rows.view) r q → AlikeAs M.stop_of (Same M.rows.view) q w
+  pub reaches : (r q : Result S E) (w : Result S W) (o : Option I) → StopsBy M.rows.tainted r ⊎ Alike (Live M.rows.view) r q
+      → AlikeAs M.stop_of (Same M.rows.view) q w
       → Reaches M r w o 0
   reaches (Ok u) q w o (inl h) k = absurd h
   reaches (Ok u) (Ok v) (Ok z) None (inr h) k = (z, z, refl, refl, live_trans M.rows.view u v z h (same_live M.rows.view v z k))
@@ -128,12 +130,14 @@ module _ {S I C V E W B : Type 0} (M : Core S I C V E W B) (laws : CoreLaws M) w
       same : Same M.rows.view u t
       same = laws.jump_same (M.rows.view.pc t + 4) t
 
-      place : (b ≡ 0) ⊎ (0 < b) → Between M (record { a = b; b = 0; n = suc n; steps = k; state = u }) z ⊎ Inside M (record { a = b; b = 0; n = suc n; steps = k; state = u }) z
+      place : (b ≡ 0) ⊎ (0 < b) → Between M (record { a = b; b = 0; n = suc n; steps = k; state = u }) z
+          ⊎ Inside M (record { a = b; b = 0; n = suc n; steps = k; state = u }) z
       place (inl none) = inl (record {
         a = none;
         b = refl;
         live = live_trans M.rows.view u t z (same_live M.rows.view u t same)
-            (subst (λ x. Live M.rows.view t x) (sym (at_first (M.code (M.rows.view.pc y + 4)) z v (subst (λ k. ahead M (M.code (M.rows.view.pc y + 4)) k z ≡ Ok v) none run))) live);
+            (subst (λ x. Live M.rows.view t x)
+            (sym (at_first (M.code (M.rows.view.pc y + 4)) z v (subst (λ k. ahead M (M.code (M.rows.view.pc y + 4)) k z ≡ Ok v) none run))) live);
       })
       place (inr more) = inr (goes_on y z t u v b (suc n) k more few clean_z same live
           (has_begun (M.code (M.rows.view.pc y + 4)) b y z t v more (ap M.code (sym onward)) second run))
@@ -144,13 +148,35 @@ module _ {S I C V E W B : Type 0} (M : Core S I C V E W B) (laws : CoreLaws M) w
       → Reaches M (beats M.rows i a (4 - a) t) (M.whole i y) (M.code (M.rows.view.pc y + 4)) b
       → Holds M first (settle M a b n k t)
   advanced first y t i a b n k count runs clean here pc ready more most few second ends = decide (a == 4)
-      (λ is. subst (λ x. Holds M first (cond x (record { a = b; b = 0; n = suc n; steps = k; state = M.jump (M.rows.view.pc t + 4) t }) (record { a = a; b = b; n = n; steps = k; state = t }))) (sym is)
-      (last (subst (λ m. k ≤ 4 * n + m) (eqb-true a 4 is) count) (subst (λ m. Reaches M (beats M.rows i m (4 - m) t) (M.whole i y) (M.code (M.rows.view.pc y + 4)) b) (eqb-true a 4 is) ends)))
-      (λ isnt. subst (λ x. Holds M first (cond x (record { a = b; b = 0; n = suc n; steps = k; state = M.jump (M.rows.view.pc t + 4) t }) (record { a = a; b = b; n = n; steps = k; state = t }))) (sym isnt)
-      (record { order = y; runs = runs; clean = clean; pc = pc; count = count; place = inr (record { row = i; here = here; begun = more; below = below (eqb-false a 4 isnt); few = few; ready = ready; second = second; ends = ends }) }))
+      (λ is. subst (λ x. Holds M first
+      (cond x (record { a = b; b = 0; n = suc n; steps = k; state = M.jump (M.rows.view.pc t + 4) t })
+      (record { a = a; b = b; n = n; steps = k; state = t }))) (sym is)
+      (last (subst (λ m. k ≤ 4 * n + m) (eqb-true a 4 is) count)
+      (subst (λ m. Reaches M (beats M.rows i m (4 - m) t) (M.whole i y) (M.code (M.rows.view.pc y + 4)) b) (eqb-true a 4 is) ends)))
+      (λ isnt. subst (λ x. Holds M first
+      (cond x (record { a = b; b = 0; n = suc n; steps = k; state = M.jump (M.rows.view.pc t + 4) t })
+      (record { a = a; b = b; n = n; steps = k; state = t }))) (sym isnt)
+      (record {
+        order = y;
+        runs = runs;
+        clean = clean;
+        pc = pc;
+        count = count;
+        place = inr (record {
+          row = i;
+          here = here;
+          begun = more;
+          below = below (eqb-false a 4 isnt);
+          few = few;
+          ready = ready;
+          second = second;
+          ends = ends;
+        });
+      }))
     where
       below : ¬ (a ≡ 4) → a < 4
       below differs = omega arith
 
-      last : k ≤ 4 * n + 4 → Reaches M (Ok t) (M.whole i y) (M.code (M.rows.view.pc y + 4)) b → Holds M first (record { a = b; b = 0; n = suc n; steps = k; state = M.jump (M.rows.view.pc t + 4) t })
+      last : k ≤ 4 * n + 4 → Reaches M (Ok t) (M.whole i y) (M.code (M.rows.view.pc y + 4)) b
+          → Holds M first (record { a = b; b = 0; n = suc n; steps = k; state = M.jump (M.rows.view.pc t + 4) t })
       last most r = retired first y r.0 t r.1 i b n k most runs clean here pc few second r.2 r.3 r.4

@@ -50,7 +50,8 @@ module _ {A B E : Type 0} (R : A → B → Type 0) where
   alike_err (Err f) (Ok b) x h e = absurd h
   alike_err (Err f) (Err g) x h e = cc
 
-  pub alike_map : (R' : A → B → Type 0) (r : Result A E) (q : Result B E) → ((x : A) (y : B) → r ≡ Ok x → q ≡ Ok y → R x y → R' x y) → Alike R r q → Alike R' r q
+  pub alike_map : (R' : A → B → Type 0) (r : Result A E) (q : Result B E) → ((x : A) (y : B) → r ≡ Ok x → q ≡ Ok y → R x y → R' x y) → Alike R r q
+      → Alike R' r q
   alike_map R' (Ok a) (Ok b) f h = f a b refl refl h
   alike_map R' (Ok a) (Err g) f h = h
   alike_map R' (Err g) (Ok b) f h = h
@@ -103,7 +104,8 @@ then_ok (Ok x) f y e = (x, refl, e)
 then_ok (Err g) f y e = absurd (ok_err (sym e))
 
 -- a stop of the first or of what follows it
-pub then_err : {A B E P : Type 0} (r : Result A E) (f : A → Result B E) (e : E) → then r f ≡ Err e → (r ≡ Err e → P) → ((x : A) → r ≡ Ok x → f x ≡ Err e → P) → P
+pub then_err : {A B E P : Type 0} (r : Result A E) (f : A → Result B E) (e : E) → then r f ≡ Err e → (r ≡ Err e → P) → ((x : A) → r ≡ Ok x → f x ≡ Err e → P)
+    → P
 then_err (Ok x) f e h one two = two x refl h
 then_err (Err g) f e h one two = one (ap Err (err_same h))
 

@@ -32,7 +32,8 @@ module _ {S I C V E W B : Type 0} (M : Core S I C V E W B) where
   cond_agrees first true r q h k = h
   cond_agrees first false r q h k = k
 
-  reaches_more : (r q : Result S E) (w : Result S W) (o : Option I) (b : ℕ) → StopsBy M.rows.tainted r ⊎ Alike (Live M.rows.view) r q → Reaches M q w o b → Reaches M r w o b
+  reaches_more : (r q : Result S E) (w : Result S W) (o : Option I) (b : ℕ) → StopsBy M.rows.tainted r ⊎ Alike (Live M.rows.view) r q → Reaches M q w o b
+      → Reaches M r w o b
   reaches_more (Ok u) q w o b (inl h) k = absurd h
   reaches_more (Ok u) (Ok v) w o b (inr h) k = (k.0, k.1, k.2, k.3, live_trans M.rows.view u v k.1 h k.4)
   reaches_more (Ok u) (Err e) w o b (inr h) k = absurd h
@@ -43,12 +44,14 @@ module _ {S I C V E W B : Type 0} (M : Core S I C V E W B) where
 module _ {S I C V E W B : Type 0} (M : Core S I C V E W B) (laws : CoreLaws M) where
   pub older_agrees : (first : S) (c : Config S) → Holds M first c → Agrees M first (older M c)
   older_agrees first c h = ⊎_elim
-      (λ p. subst (λ k. Agrees M first (older_of M (M.code k) c)) (sym h.pc) (between M laws first h.order c (M.code (M.rows.view.pc h.order)) h h.runs h.clean h.pc refl p))
+      (λ p. subst (λ k. Agrees M first (older_of M (M.code k) c)) (sym h.pc)
+      (between M laws first h.order c (M.code (M.rows.view.pc h.order)) h h.runs h.clean h.pc refl p))
       (λ p. subst (λ o. Agrees M first (older_of M o c)) (sym (ap M.code h.pc ∙ p.here)) (inside M laws first h.order c h h.runs h.clean h.pc p))
       h.place
 
   pub younger_agrees : (first : S) (c : Config S) → Holds M first c → Agrees M first (younger M c)
-  younger_agrees first c h = under M laws first c h (M.rule (M.code (M.rows.view.pc c.state)) (M.code (M.rows.view.pc c.state + 4)) c) (M.code (M.rows.view.pc c.state + 4)) refl refl
+  younger_agrees first c h = under M laws first c h (M.rule (M.code (M.rows.view.pc c.state)) (M.code (M.rows.view.pc c.state + 4)) c)
+      (M.code (M.rows.view.pc c.state + 4)) refl refl
 
   pub interrupt_holds : (first : S) (c : Config S) (t : S) → Restores M c.state t → Holds M first c → Holds M first (interrupted M c t)
   interrupt_holds first c t d h = record { order = h.order; runs = h.runs; clean = h.clean; pc = d.1 ∙ h.pc; count = h.count; place = place h.place }
@@ -63,6 +66,7 @@ module _ {S I C V E W B : Type 0} (M : Core S I C V E W B) (laws : CoreLaws M) w
         few = p.few;
         ready = laws.rows.ready_live p.row t c.state d.0 ∙ p.ready;
         second = second_kept M (M.code (M.rows.view.pc h.order + 4)) c.b c.state t (λ j. laws.rows.ready_live j t c.state d.0) p.second;
-        ends = reaches_more M (beats M.rows p.row c.a (4 - c.a) t) (beats M.rows p.row c.a (4 - c.a) c.state) (M.whole p.row h.order) (M.code (M.rows.view.pc h.order + 4)) c.b
+        ends = reaches_more M (beats M.rows p.row c.a (4 - c.a) t) (beats M.rows p.row c.a (4 - c.a) c.state) (M.whole p.row h.order)
+            (M.code (M.rows.view.pc h.order + 4)) c.b
             (beats_live M.rows laws.rows p.row c.a (4 - c.a) t c.state (laws.rows.ready_live p.row t c.state d.0 ∙ p.ready) d.0) p.ends;
       })

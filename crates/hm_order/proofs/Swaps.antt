@@ -5,7 +5,8 @@ use Rattle.hm_order.proofs.Results.{ok_same, alike_ok, alike_back, alike_err, de
 
 module _ {S C V E : Type 0} (view : View S C V) where
   -- an action leaves what it does not set
-  untouched : (x : Action S C E) (s t : S) (p : C → Bool) → ActionLaws view x → x.run s ≡ Ok t → ((c : C) → x.sets s c ≡ true → p c ≡ false) → AgreeOn view p s t
+  untouched : (x : Action S C E) (s t : S) (p : C → Bool) → ActionLaws view x → x.run s ≡ Ok t → ((c : C) → x.sets s c ≡ true → p c ≡ false)
+      → AgreeOn view p s t
   untouched x s t p laws e off c h = decide (x.sets s c) (λ set. true_not_false (p c) h (off c set)) (λ unset. sym (laws.frame s t e c unset))
 
 module _ {S C V E : Type 0} (view : View S C V) (x y : Action S C E) (laws_x : ActionLaws view x) (laws_y : ActionLaws view y) where
@@ -34,9 +35,11 @@ module _ {S C V E : Type 0} (view : View S C V) (x y : Action S C E) (laws_x : A
         (λ by_y. laws_x.frame u w last_x c (sym (same_x.touch.sets c) ∙ not_x) ∙ agree_y c by_y)
         (λ not_y. laws_x.frame u w last_x c (sym (same_x.touch.sets c) ∙ not_x) ∙ laws_y.frame s u second c not_y
         ∙ sym (laws_x.frame s t first c not_x) ∙ sym (laws_y.frame t v last_y c (sym (same_y.touch.sets c) ∙ not_y))));
-    sticky = laws_x.flag u w last_x ∙ ap (λ b. b || x.marks u) (laws_y.flag s u second) ∙ ap (λ b. (view.sticky s || y.marks s) || b) (sym (same_x.marks t first))
+    sticky = laws_x.flag u w last_x ∙ ap (λ b. b || x.marks u) (laws_y.flag s u second)
+        ∙ ap (λ b. (view.sticky s || y.marks s) || b) (sym (same_x.marks t first))
         ∙ or_swap (view.sticky s) (y.marks s) (x.marks s)
-        ∙ ap (λ b. (view.sticky s || x.marks s) || b) (same_y.marks u second) ∙ ap (λ b. b || y.marks t) (sym (laws_x.flag s t first)) ∙ sym (laws_y.flag t v last_y);
+        ∙ ap (λ b. (view.sticky s || x.marks s) || b) (same_y.marks u second) ∙ ap (λ b. b || y.marks t) (sym (laws_x.flag s t first))
+        ∙ sym (laws_y.flag t v last_y);
   }
 
   -- Where both can go first, each can go second, and they leave the same.

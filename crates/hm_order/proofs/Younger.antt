@@ -1,5 +1,6 @@
 -- A step of the younger instruction: its beat goes past those that the older has left.
-use Rattle.std.proofs.Common.{◌≡◌, ℕ, suc, ◌+◌, ◌-◌, ◌<◌, ◌≤◌, Result, Ok, Err, Option, Some, None, true, ◌⊎◌, inl, inr, refl, sym, ◌∙◌, ap, subst, arith, ⊎_elim}
+use Rattle.std.proofs.Common.{◌≡◌, ℕ, suc, ◌+◌, ◌-◌, ◌<◌, ◌≤◌, Result, Ok, Err, Option, Some, None, true, ◌⊎◌, inl, inr, refl, sym, ◌∙◌, ap, subst, arith}
+use Rattle.std.proofs.Common.{⊎_elim}
 use Rattle.hm_order.specs.Beats.{Apart, Live, beats}
 use Rattle.hm_order.specs.Machine.{Core, CoreLaws, Config, Lawful, did, fault_end, younger_of}
 use Rattle.hm_order.specs.Position.{ahead, Reaches, Second, Between, Inside, Holds, Agrees}
@@ -47,8 +48,10 @@ module _ {S I C V E W B : Type 0} (M : Core S I C V E W B) (laws : CoreLaws M) w
 
   module _ (first : S) (c : Config S) (h : Holds M first c) where
     -- a lawful beat of the younger that is done
-    goes : (i j : I) (t : S) → M.code (M.rows.view.pc h.order) ≡ Some i → M.code (M.rows.view.pc h.order + 4) ≡ Some j → 2 ≤ c.a → c.b < 2 → M.rows.ready j c.state ≡ true
-        → ((k : ℕ) → c.a ≤ k → k < 4 → Apart (M.rows.act i k) (M.rows.act j c.b) c.state) → (M.rows.act j c.b).run c.state ≡ Ok t → Between M c h.order ⊎ Inside M c h.order
+    goes : (i j : I) (t : S) → M.code (M.rows.view.pc h.order) ≡ Some i → M.code (M.rows.view.pc h.order + 4) ≡ Some j → 2 ≤ c.a → c.b < 2
+        → M.rows.ready j c.state ≡ true
+        → ((k : ℕ) → c.a ≤ k → k < 4 → Apart (M.rows.act i k) (M.rows.act j c.b) c.state) → (M.rows.act j c.b).run c.state ≡ Ok t
+        → Between M c h.order ⊎ Inside M c h.order
         → Inside M (record { a = c.a; b = suc c.b; n = c.n; steps = c.steps; state = t }) h.order
     goes i j t here there late few ready apart e (inl p) = let none = p.a in absurd (omega arith)
     goes i j t here there late few ready apart e (inr p) = record {
@@ -59,9 +62,11 @@ module _ {S I C V E W B : Type 0} (M : Core S I C V E W B) (laws : CoreLaws M) w
       few = omega arith;
       ready = laws.rows.valid j p.row c.b c.state t e ∙ p.ready;
       second = subst (λ o. Second M o (suc c.b) t) (sym there) (λ _. laws.rows.valid j j c.b c.state t e ∙ ready);
-      ends = reaches_past p.row j c.a c.b h.order c.state t (M.code (M.rows.view.pc h.order + 4)) there p.ready ready e (beats M.rows p.row c.a (4 - c.a) c.state) refl
+      ends = reaches_past p.row j c.a c.b h.order c.state t (M.code (M.rows.view.pc h.order + 4)) there p.ready ready e
+          (beats M.rows p.row c.a (4 - c.a) c.state) refl
           (past M.rows laws.rows p.row c.a (4 - c.a) j c.b c.state t p.ready
-          (all_apart M p.row j c.a c.b c.state p.below (subst (λ x. (k : ℕ) → c.a ≤ k → k < 4 → Apart (M.rows.act x k) (M.rows.act j c.b) c.state) (some_same (sym here ∙ p.here)) apart)) e) p.ends;
+          (all_apart M p.row j c.a c.b c.state p.below
+          (subst (λ x. (k : ℕ) → c.a ≤ k → k < 4 → Apart (M.rows.act x k) (M.rows.act j c.b) c.state) (some_same (sym here ∙ p.here)) apart)) e) p.ends;
     }
 
     -- a lawful beat of the younger
@@ -81,7 +86,12 @@ module _ {S I C V E W B : Type 0} (M : Core S I C V E W B) (laws : CoreLaws M) w
       where
         faulted : (q : Option B) → M.fault_rule e ≡ q → Agrees M first (Err (fault_end M q c e))
         faulted (Some b) none = tt
-        faulted None none = record { before = c; holds = h; left = sym (begun_later M c (let late = l.late in omega arith)); explains = inl (laws.faults e none) }
+        faulted None none = record {
+          before = c;
+          holds = h;
+          left = sym (begun_later M c (let late = l.late in omega arith));
+          explains = inl (laws.faults e none);
+        }
 
     -- under the rule that the step breaks, if there is one
     pub under : (q : Option B) (o : Option I) → M.rule (M.code (M.rows.view.pc c.state)) (M.code (M.rows.view.pc c.state + 4)) c ≡ q

@@ -67,7 +67,8 @@ module _ {S I C V E W B : Type 0} (M : Core S I C V E W B) where
   -- OVERLAPPED
   -- after a beats of the older: behind it, once it has four
   abbrev pub settle : ℕ → ℕ → ℕ → ℕ → S → Config S
-  settle a b n steps s = cond (a == 4) (record { a = b; b = 0; n = suc n; steps = steps; state = M.jump (M.rows.view.pc s + 4) s }) (record { a = a; b = b; n = n; steps = steps; state = s })
+  settle a b n steps s = cond (a == 4) (record { a = b; b = 0; n = suc n; steps = steps; state = M.jump (M.rows.view.pc s + 4) s })
+      (record { a = a; b = b; n = n; steps = steps; state = s })
 
   abbrev pub begin : I → ℕ → S → Result S E
   begin i zero s = M.start i s

@@ -1,5 +1,6 @@
 -- Breakpoints: in the machine and alone.
-use Rattle.std.proofs.Common.{◌≡◌, ℕ, ◌+◌, ◌++◌, ap, refl, subst, Bool, true, false, cond, length, nat_lt, List, Option, Some, None, Result, Ok, Err, inl, inr, ◌⊎◌, ◌∙◌}
+use Rattle.std.proofs.Common.{◌≡◌, ℕ, ◌+◌, ◌++◌, ap, refl, subst, Bool, true, false, cond, length, nat_lt, List, Option, Some, None, Result, Ok, Err, inl, inr}
+use Rattle.std.proofs.Common.{◌⊎◌, ◌∙◌}
 use Rattle.hm_base.specs.declared.Fault.{Fault}
 use Rattle.hm_base.specs.declared.Stop.{Stop}
 use Rattle.hm_mem.specs.Memory.{thread_under, Bounds}
@@ -38,7 +39,8 @@ break_alike f g (Some k) r q h l = h k
 break_alike f g None r q h l = l
 
 -- what a breakpoint asks: from states that agree where the first is live
-printed_alike : (b c : Bool) (u v : State) → b ≡ c → Live view u v × (u.pc ≡ v.pc) → AlikeBoth (in_machine (cond b (Err why.Full) (Ok u))) (cond c (Err why.Full) (Ok v))
+printed_alike : (b c : Bool) (u v : State) → b ≡ c → Live view u v × (u.pc ≡ v.pc)
+    → AlikeBoth (in_machine (cond b (Err why.Full) (Ok u))) (cond c (Err why.Full) (Ok v))
 printed_alike true true u v e h = refl
 printed_alike true false u v e h = absurd cc
 printed_alike false true u v e h = absurd cc
@@ -78,7 +80,8 @@ module _ (s t : State) (live : Live view s t) (at : s.pc ≡ t.pc) where
   asked_alike bounds k =
       broken_alike (asks k) (Break k) _ _
       (served_alike (λ x. in_machine (answered s x)) (answered t) _ _ answered_alike
-      (subst (λ (r : Regs). ReadsAlike (asked (runner.in_machine (thread_under bounds)) (regs_of s) (seen_in s)) (asked runner.alone r (seen_in t))) (same_regs s t live at)
+      (subst (λ (r : Regs). ReadsAlike (asked (runner.in_machine (thread_under bounds)) (regs_of s) (seen_in s)) (asked runner.alone r (seen_in t)))
+      (same_regs s t live at)
       (asked-live bounds (seen_in s) (seen_in t) (seen_live s t live) (regs_of s))))
 
 -- WHAT IT LEAVES: no taint

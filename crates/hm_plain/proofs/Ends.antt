@@ -1,5 +1,6 @@
 -- A run to the end of its ticks, and beyond.
-use Rattle.std.proofs.Common.{◌≡◌, ℕ, zero, suc, ◌+◌, ◌-◌, ◌≤◌, arith, ap, refl, sym, ◌∙◌, subst, List, [], ◌∷◌, drop, length, Option, Some, None, add-zero, add-suc}
+use Rattle.std.proofs.Common.{◌≡◌, ℕ, zero, suc, ◌+◌, ◌-◌, ◌≤◌, arith, ap, refl, sym, ◌∙◌, subst, List, [], ◌∷◌, drop, length, Option, Some, None, add-zero}
+use Rattle.std.proofs.Common.{add-suc}
 use Rattle.std.proofs.lemmas.List.{length-drop, nil_from_length}
 use Rattle.hm_base.specs.Image.{Segment}
 use Rattle.hm_codes.specs.Listing.{Listing}
@@ -17,7 +18,8 @@ module _ (listing : Listing) (image : List Segment) (s : Sched) where
   ended_more o t (suc k) e =
       let same = ended_more o t k e in
       let still : (timed listing image s (t + k)).outcome ≡ Some o = ap (λ (x : Timed). x.outcome) same ∙ e in
-      ap (timed listing image s) (add-suc t k) ∙ next_ended (thread_program listing s) (drop (t + k) (ticks_of s.lines)) (timed listing image s (t + k)) o still ∙ same
+      ap (timed listing image s) (add-suc t k) ∙ next_ended (thread_program listing s) (drop (t + k) (ticks_of s.lines)) (timed listing image s (t + k)) o still
+      ∙ same
 
   pub ended_stays : (o : Outcome) (t u : ℕ) → t ≤ u → (timed listing image s t).outcome ≡ Some o → timed listing image s u ≡ timed listing image s t
   ended_stays o t u le e =

@@ -1,5 +1,6 @@
 -- The headline and its riders, for any schedule: from what holds after each tick.
-use Rattle.std.proofs.Common.{◌≡◌, ℕ, zero, suc, ◌+◌, ◌-◌, ◌*◌, ◌/◌, ◌%◌, ◌^◌, ◌<◌, ◌≤◌, arith, ap, refl, sym, ◌∙◌, subst, ⊎_elim, Bool, true, false, cond, List, [], ◌∷◌, ◌++◌, drop, length, slice_index, Option, Some, None, Ok, Err}
+use Rattle.std.proofs.Common.{◌≡◌, ℕ, zero, suc, ◌+◌, ◌-◌, ◌*◌, ◌/◌, ◌%◌, ◌^◌, ◌<◌, ◌≤◌, arith, ap, refl, sym, ◌∙◌, subst, ⊎_elim, Bool, true, false, cond}
+use Rattle.std.proofs.Common.{List, [], ◌∷◌, ◌++◌, drop, length, slice_index, Option, Some, None, Ok, Err}
 use Rattle.std.proofs.lemmas.List.{get_or_append_left, get_or-append_right}
 use Rattle.hm_base.specs.Image.{Segment, sram_size, sram_start}
 use Rattle.hm_base.specs.declared.Fault.{Fault}
@@ -62,14 +63,23 @@ bit_in f k r lt = at r lt
     here = let e : 8 * k ≡ 8 * k + 0 = omega arith in ap (λ (i : ℕ). bit (f i)) e
 
     at : (r : ℕ) → r < 8 → byte_of_bits f k / 2 ^ r % 2 ≡ bit (f (8 * k + r))
-    at zero l = let a = first in let b = low 1 in let c = low 2 in let d = low 3 in let e = low 4 in let g = low 5 in let h = low 6 in let i = low 7 in let same = here in omega arith
-    at (suc zero) l = let a = first in let b = low 1 in let c = low 2 in let d = low 3 in let e = low 4 in let g = low 5 in let h = low 6 in let i = low 7 in omega arith
-    at (suc (suc zero)) l = let a = first in let b = low 1 in let c = low 2 in let d = low 3 in let e = low 4 in let g = low 5 in let h = low 6 in let i = low 7 in omega arith
-    at (suc (suc (suc zero))) l = let a = first in let b = low 1 in let c = low 2 in let d = low 3 in let e = low 4 in let g = low 5 in let h = low 6 in let i = low 7 in omega arith
-    at (suc (suc (suc (suc zero)))) l = let a = first in let b = low 1 in let c = low 2 in let d = low 3 in let e = low 4 in let g = low 5 in let h = low 6 in let i = low 7 in omega arith
-    at (suc (suc (suc (suc (suc zero))))) l = let a = first in let b = low 1 in let c = low 2 in let d = low 3 in let e = low 4 in let g = low 5 in let h = low 6 in let i = low 7 in omega arith
-    at (suc (suc (suc (suc (suc (suc zero)))))) l = let a = first in let b = low 1 in let c = low 2 in let d = low 3 in let e = low 4 in let g = low 5 in let h = low 6 in let i = low 7 in omega arith
-    at (suc (suc (suc (suc (suc (suc (suc zero))))))) l = let a = first in let b = low 1 in let c = low 2 in let d = low 3 in let e = low 4 in let g = low 5 in let h = low 6 in let i = low 7 in omega arith
+    at zero l =
+        let a = first in
+        let b = low 1 in let c = low 2 in let d = low 3 in let e = low 4 in let g = low 5 in let h = low 6 in let i = low 7 in let same = here in omega arith
+    at (suc zero) l =
+        let a = first in let b = low 1 in let c = low 2 in let d = low 3 in let e = low 4 in let g = low 5 in let h = low 6 in let i = low 7 in omega arith
+    at (suc (suc zero)) l =
+        let a = first in let b = low 1 in let c = low 2 in let d = low 3 in let e = low 4 in let g = low 5 in let h = low 6 in let i = low 7 in omega arith
+    at (suc (suc (suc zero))) l =
+        let a = first in let b = low 1 in let c = low 2 in let d = low 3 in let e = low 4 in let g = low 5 in let h = low 6 in let i = low 7 in omega arith
+    at (suc (suc (suc (suc zero)))) l =
+        let a = first in let b = low 1 in let c = low 2 in let d = low 3 in let e = low 4 in let g = low 5 in let h = low 6 in let i = low 7 in omega arith
+    at (suc (suc (suc (suc (suc zero))))) l =
+        let a = first in let b = low 1 in let c = low 2 in let d = low 3 in let e = low 4 in let g = low 5 in let h = low 6 in let i = low 7 in omega arith
+    at (suc (suc (suc (suc (suc (suc zero)))))) l =
+        let a = first in let b = low 1 in let c = low 2 in let d = low 3 in let e = low 4 in let g = low 5 in let h = low 6 in let i = low 7 in omega arith
+    at (suc (suc (suc (suc (suc (suc (suc zero))))))) l =
+        let a = first in let b = low 1 in let c = low 2 in let d = low 3 in let e = low 4 in let g = low 5 in let h = low 6 in let i = low 7 in omega arith
     at (suc (suc (suc (suc (suc (suc (suc (suc r)))))))) l = absurd (omega arith)
 
 -- the taint bit of byte j
@@ -158,7 +168,8 @@ module _ (listing : Listing) (image : List Segment) (s : Sched) where
       → report_text x ≡ report_between o t
   report_is x o t e none a b h = λ i. report_of (e i) (length (none i)) (h.registers i) (a i) (b i) (h.output i)
 
-  pub reports_stop : (x : Timed) (o : Outcome) (n : ℕ) (w : why.WholeStop) → x.outcome ≡ Some o → x.acts ≡ [] → (h : StopsBetween machine (start image) n w x.config)
+  pub reports_stop : (x : Timed) (o : Outcome) (n : ℕ) (w : why.WholeStop) → x.outcome ≡ Some o → x.acts ≡ []
+      → (h : StopsBetween machine (start image) n w x.config)
       → report_text x ≡ report_between o h.order
   reports_stop x o n w e none h = report_is x o h.order e none h.a h.b (shown_alike x.config.state h.order h.live h.pc)
 
@@ -167,7 +178,8 @@ module _ (listing : Listing) (image : List Segment) (s : Sched) where
   reports_going x e thread h none = report_is x outcome.OutOfTicks _ e thread none (b_between x.config h none) (shown_between x.config h none).alike
 
   -- THE STOPS
-  pub halted_as : (reason : Reason) (n : ℕ) (c : Config State) (h : HaltsAfter machine (start image) reason n c) → in_order listing image n ≡ Halted reason n h.between.order
+  pub halted_as : (reason : Reason) (n : ℕ) (c : Config State) (h : HaltsAfter machine (start image) reason n c)
+      → in_order listing image n ≡ Halted reason n h.between.order
   halted_as reason n c h = subst (λ (k : ℕ). in_order listing image k ≡ Halted reason k h.between.order) (sym h.number)
       ((sequence.halted listing image around h.before reason h.between.order).0 h.between.stops)
 
@@ -193,7 +205,11 @@ module _ (listing : Listing) (image : List Segment) (s : Sched) where
       → Headline listing image (timed_out listing image s) report file
   headline_all report file r f =
       let t = length (ticks_of s.lines) in
-      record { report_is = r; file_is = f; in_order = halts (timed_out listing image s) report file (keeps_order listing image s t) (no_acts listing image s t) r f }
+      record {
+        report_is = r;
+        file_is = f;
+        in_order = halts (timed_out listing image s) report file (keeps_order listing image s t) (no_acts listing image s t) r f;
+      }
 
   -- THE RIDERS
   few : (x : Timed) → StaysInOrder listing image s x → (reason : Reason) (n : ℕ) (u : State) → in_order listing image n ≡ Halted reason n u
@@ -209,7 +225,8 @@ module _ (listing : Listing) (image : List Segment) (s : Sched) where
   pub riders_of : (x : Timed) → StaysInOrder listing image s x → Riders listing image x
   riders_of x keeps = record {
     fault = λ f pc n e. fault_as f pc n (kept x (Some (outcome.Fault Thread f pc n)) keeps e);
-    full = λ t e. let h : StopsBetween machine (start image) x.config.n why.Full x.config = kept x (Some (outcome.OutputFull t)) keeps e in (h.order, full_as x.config h);
+    full = λ t e. let h : StopsBetween machine (start image) x.config.n why.Full x.config = kept x (Some (outcome.OutputFull t)) keeps e in
+        (h.order, full_as x.config h);
     few = few x keeps;
   }
 

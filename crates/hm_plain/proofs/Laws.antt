@@ -1,5 +1,6 @@
 -- The machine of a program keeps the laws of the machine that overlaps beats.
-use Rattle.std.proofs.Common.{◌≡◌, ℕ, zero, suc, ◌<◌, ◌≤◌, arith, ◌&&◌, ◌||◌, ap, refl, sym, ◌∙◌, subst, Bool, true, false, not, ltb, nat_lt, cond, Option, Some, None, Result, Ok, Err, inl, inr, ⊎_elim}
+use Rattle.std.proofs.Common.{◌≡◌, ℕ, zero, suc, ◌<◌, ◌≤◌, arith, ◌&&◌, ◌||◌, ap, refl, sym, ◌∙◌, subst, Bool, true, false, not, ltb, nat_lt, cond, Option}
+use Rattle.std.proofs.Common.{Some, None, Result, Ok, Err, inl, inr, ⊎_elim}
 use Rattle.std.proofs.lemmas.Bool.Decides.{nat_tests}
 use Rattle.std.specs.Option.{is_none}
 use Rattle.std.specs.Prelude.{option_map}
@@ -37,7 +38,9 @@ use Rattle.hm_beat.specs.declared.clash.Clash.{Clash}
 use Rattle.hm_beat.specs.Meeting.{clash_with}
 use Rattle.hm_beat.proofs.Remaining.{left_apart}
 use Rattle.hm_window.specs.Overlap.{first_rule, is_too_early, rule_of_clash, rule_or}
-use Rattle.hm_run.specs.Program.{rows, core, alone, begins, caused, cause_of, done_alone, done_in_machine, in_machine, is_ready, is_tainted_cause, lifted, makes_here, on_cell, or_fault, other_by, other_here, other_row, ready_state, refusal_rule, step_rule, unless_refused, vector_of, whole_here}
+use Rattle.hm_run.specs.Program.{rows, core, alone, begins, caused, cause_of, done_alone, done_in_machine, in_machine, is_ready, is_tainted_cause, lifted}
+use Rattle.hm_run.specs.Program.{makes_here, on_cell, or_fault, other_by, other_here, other_row, ready_state, refusal_rule, step_rule, unless_refused}
+use Rattle.hm_run.specs.Program.{vector_of, whole_here}
 use Rattle.hm_whole.specs.Watched.{GoesAlike, Watched, In, Beside, Held, InCell, Besides, open_rest, held, dead, view}
 use Rattle.hm_run.specs.Stops as why
 use Rattle.hm_run.specs.Stops.{WholeStop, break_of}
@@ -184,7 +187,8 @@ stops_caused (Err (stop.Fault f)) h = h
 stops_caused (Err (stop.Tainted a)) h = h
 stops_caused (Err (stop.Denied a)) h = h
 
-alike_caused : (p : Cell → Bool) (r q : Result State Stop) → Alike (AgreeOn (cell_view Rest cells) p) r q → Alike (AgreeOn view (on_cell p)) (caused r) (caused q)
+alike_caused : (p : Cell → Bool) (r q : Result State Stop) → Alike (AgreeOn (cell_view Rest cells) p) r q
+    → Alike (AgreeOn view (on_cell p)) (caused r) (caused q)
 alike_caused p (Ok s) (Ok t) h = agree_on
   where
     agree_on : (w : Watched) → on_cell p w ≡ true → held s w ≡ held t w
@@ -249,7 +253,8 @@ module _ (x : Around) (thread : x.actor ≡ Thread) where
       let b = of_four (vector_tree v x) k in
       let run : (action cells b).run s ≡ Ok t = caused_ok ((action cells b).run s) t e in
       let rest : t.rest ≡ s.rest = beat_rest b s t run in
-      ready_same j t s (ap (λ (r : Rest). r.it) rest) (ap (λ (y : Value). y.n) ((keeps_laws cells cell_laws b).frame s t run (At Ltp) (size_kept v k s))) (ap (λ (r : Rest). r.fpca) rest)
+      ready_same j t s (ap (λ (r : Rest). r.it) rest) (ap (λ (y : Value). y.n) ((keeps_laws cells cell_laws b).frame s t run (At Ltp) (size_kept v k s)))
+      (ap (λ (r : Rest). r.fpca) rest)
 
   ready_live : (j : Vector) (s t : State) → Live view s t → is_ready j s ≡ is_ready j t
   ready_live j s t h =
@@ -336,13 +341,15 @@ module _ (x : Around) (thread : x.actor ≡ Thread) where
       late_of c e = (grind (arith, nat_tests), grind (arith, nat_tests))
 
   -- WHOLE ROWS
-  caused_then : (q : Result State Stop) (f : State → Result State Cause) (g : State → Result State Stop) → ((t : State) → f t ≡ caused (g t)) → then (caused q) f ≡ caused (then q g)
+  caused_then : (q : Result State Stop) (f : State → Result State Cause) (g : State → Result State Stop) → ((t : State) → f t ≡ caused (g t))
+      → then (caused q) f ≡ caused (then q g)
   caused_then (Ok t) f g h = h t
   caused_then (Err e) f g h = refl
 
   beats_caused : (v : Vector) (n k : ℕ) (s : State) → beats (rows x) v k n s ≡ caused (row_beats x v k n s)
   beats_caused v zero k s = refl
-  beats_caused v (suc n) k s = caused_then ((action cells (of_four (vector_tree v x) k)).run s) (beats (rows x) v (suc k) n) (row_beats x v (suc k) n) (beats_caused v n (suc k))
+  beats_caused v (suc n) k s = caused_then ((action cells (of_four (vector_tree v x) k)).run s) (beats (rows x) v (suc k) n) (row_beats x v (suc k) n)
+      (beats_caused v n (suc k))
 
   same_over : (s : State) → Same view s (retired s)
   same_over s = record { cells = λ w. elim w as (λ w. held s w ≡ held (retired s) w) [ In c ↦ refl | Beside ↦ refl ]; sticky = refl }
@@ -394,7 +401,8 @@ none_of (Some f) e = absurd cc
 started : (v : Vector) (s : State) → is_ready v s ≡ true → begins v s ≡ Ok s
 started v s ready =
     let h = both_true s.rest.fpca (is_none (refuse v s)) ready in
-    ap (λ (t : State). in_machine (unless_refused (refuse v t) t)) (context_there s h.0) ∙ ap (λ (o : Option Fault). in_machine (unless_refused o s)) (none_of (refuse v s) h.1)
+    ap (λ (t : State). in_machine (unless_refused (refuse v t) t)) (context_there s h.0)
+    ∙ ap (λ (o : Option Fault). in_machine (unless_refused o s)) (none_of (refuse v s) h.1)
 
 begin_alike : (o : Option Fault) (s t : State) → Live view s t → Alike (Live view) (in_machine (unless_refused o s)) (in_machine (unless_refused o t))
 begin_alike (Some f) s t h = refl
@@ -404,7 +412,8 @@ start_live : (v : Vector) (s t : State) → Live view s t → s.pc ≡ t.pc → 
 start_live v s t h pc =
     let a = context_agree s t (agree s t h) in
     let same : refuse v (with_context s) ≡ refuse v (with_context t)
-    = refuse_same v (with_context s) (with_context t) (ap (λ (r : Rest). r.it) a.rest) (ap (λ (y : Value). y.n) (a.places Ltp)) (ap (λ (r : Rest). r.fpca) a.rest)
+    = refuse_same v (with_context s) (with_context t) (ap (λ (r : Rest). r.it) a.rest) (ap (λ (y : Value). y.n) (a.places Ltp))
+    (ap (λ (r : Rest). r.fpca) a.rest)
     (context_pc s ∙ pc ∙ sym (context_pc t)) in
     subst (λ (o : Option Fault). Alike (Live view) (begins v s) (in_machine (unless_refused o (with_context t)))) same
     (begin_alike (refuse v (with_context s)) (with_context s) (with_context t) (live (with_context s) (with_context t) a))

@@ -1,5 +1,6 @@
 -- A plain schedule: each tick does one whole instruction, or ends the run at it. All else is what holds for any schedule.
-use Rattle.std.proofs.Common.{◌≡◌, ℕ, zero, suc, ◌+◌, ◌-◌, ◌≤◌, arith, ap, refl, sym, ◌∙◌, subst, ◌⊎◌, ⊎_elim, inl, inr, false, List, [], ◌∷◌, drop, length, Option, Some, None, Result, Ok, Err}
+use Rattle.std.proofs.Common.{◌≡◌, ℕ, zero, suc, ◌+◌, ◌-◌, ◌≤◌, arith, ap, refl, sym, ◌∙◌, subst, ◌⊎◌, ⊎_elim, inl, inr, false, List, [], ◌∷◌, drop, length}
+use Rattle.std.proofs.Common.{Option, Some, None, Result, Ok, Err}
 use Rattle.hm_base.specs.Image.{Segment}
 use Rattle.hm_codes.specs.Listing.{Listing}
 use Rattle.hm_mem.specs.Memory.{Around, thread_under, Bounds}
@@ -164,7 +165,8 @@ plainly : (listing : Listing) (image : List Segment) (n t left : ℕ) → t + le
 plainly listing image n zero left e = let same : n ≡ left = omega arith in inl (goes_first image n left same)
 plainly listing image n (suc t) left e =
     let more : t + suc left ≡ n = omega arith in
-    subst (λ (l : List TickLine). Plainly left (suc t) (next_tick (thread_program listing (plain n)) l (timed listing image (plain n) t))) (sym (left_at t left n more))
+    subst (λ (l : List TickLine). Plainly left (suc t) (next_tick (thread_program listing (plain n)) l (timed listing image (plain n) t)))
+    (sym (left_at t left n more))
     (tick_plainly listing n left t (timed listing image (plain n) t) (no_acts listing image (plain n) t) (plainly listing image n t (suc left) more))
 
 plainly_out : (listing : Listing) (image : List Segment) (n : ℕ) → Plainly 0 n (timed_out listing image (plain n))
@@ -175,7 +177,9 @@ plainly_out listing image n =
 -- while a plain run goes on, each tick retires one instruction
 on_retired : (left t : ℕ) (x : Timed) → Plainly left t x → GoesOn x.outcome → (x.config.n ≡ t) × (x.config.a ≡ 0)
 on_retired left t x (inl h) on = (ap (λ (c : Config State). c.n) h.config, ap (λ (c : Config State). c.a) h.config)
-on_retired left t x (inr h) on = absurd (⊎_elim (λ e. let no : None ≡ Some h.end = sym e ∙ h.outcome in absurd cc) (λ e. over h.end (let same : Some outcome.OutOfTicks ≡ Some h.end = sym e ∙ h.outcome in cc) h.plainly) on)
+on_retired left t x (inr h) on =
+    absurd (⊎_elim (λ e. let no : None ≡ Some h.end = sym e ∙ h.outcome in absurd cc)
+    (λ e. over h.end (let same : Some outcome.OutOfTicks ≡ Some h.end = sym e ∙ h.outcome in cc) h.plainly) on)
   where
     over : (o : Outcome) → outcome.OutOfTicks ≡ o → PlainlyEnds t x.config o → ⊥
     over o e p = subst (PlainlyEnds t x.config) (sym e) p
@@ -199,7 +203,8 @@ module _ (listing : Listing) (image : List Segment) (n : ℕ) where
       let between : x.config.a ≡ 0 = ap (λ (c : Config State). c.a) h.config in
       let done : x.config.n ≡ n = ap (λ (c : Config State). c.n) h.config in
       let shown = shown_between listing image (plain n) x.config holds between in
-      subst (Tells x) (sym shown.runs ∙ ap (in_order listing image) done) (record { report = reports_going listing image (plain n) x h.outcome none holds between; ends = h.outcome })
+      subst (Tells x) (sym shown.runs ∙ ap (in_order listing image) done)
+      (record { report = reports_going listing image (plain n) x h.outcome none holds between; ends = h.outcome })
 
   -- what stopped the instructions in order within n
   within : (x : Timed) (k : ℕ) (y : InOrder) → k ≤ n → in_order listing image k ≡ y → HasStopped y → Tells x y → Tells x (in_order listing image n)
@@ -209,12 +214,14 @@ module _ (listing : Listing) (image : List Segment) (n : ℕ) where
       → Tells x (in_order listing image n)
   ends_reports x keeps none outcome.OutOfTicks e p = absurd p
   ends_reports x keeps none (outcome.Halted reason k) e p =
-      let h : HaltsAfter (thread_program listing (plain n)) (start image) reason k x.config = kept listing image (plain n) x (Some (outcome.Halted reason k)) keeps e in
+      let h : HaltsAfter (thread_program listing (plain n)) (start image) reason k x.config =
+      kept listing image (plain n) x (Some (outcome.Halted reason k)) keeps e in
       within x k (Halted reason k h.between.order) p (halted_as listing image (plain n) reason k x.config h) tt
       (record { report = reports_stop listing image (plain n) x (outcome.Halted reason k) h.before (why.Halt reason) e none h.between; ends = e })
   ends_reports x keeps none (outcome.Fault Thread f pc k) e p =
       let h : FaultsAt (thread_program listing (plain n)) (start image) k f pc = kept listing image (plain n) x (Some (outcome.Fault Thread f pc k)) keeps e in
-      within x (k + 1) (Faulted f.kind pc f.addr k) (omega arith) (fault_as listing image (plain n) f pc k h) tt (record { report = ap outcome_line e; ends = e })
+      within x (k + 1) (Faulted f.kind pc f.addr k) (omega arith) (fault_as listing image (plain n) f pc k h) tt
+      (record { report = ap outcome_line e; ends = e })
   ends_reports x keeps none (outcome.Fault Handler f pc k) e p = absurd p
   ends_reports x keeps none (outcome.Fault Entry f pc k) e p = absurd p
   ends_reports x keeps none (outcome.RuleBroken i j r) e p = absurd p
@@ -222,7 +229,8 @@ module _ (listing : Listing) (image : List Segment) (n : ℕ) where
   ends_reports x keeps none (outcome.TaintedRead i pc addr) e p = absurd p
   ends_reports x keeps none (outcome.StackSpent i sp) e p = absurd p
   ends_reports x keeps none (outcome.OutputFull k) e p =
-      let h : StopsBetween (thread_program listing (plain n)) (start image) x.config.n why.Full x.config = kept listing image (plain n) x (Some (outcome.OutputFull k)) keeps e in
+      let h : StopsBetween (thread_program listing (plain n)) (start image) x.config.n why.Full x.config =
+      kept listing image (plain n) x (Some (outcome.OutputFull k)) keeps e in
       let same : k ≡ x.config.n + 1 = p.1 in
       let ends = e ∙ ap (λ (i : ℕ). Some (outcome.OutputFull i)) same in
       within x (x.config.n + 1) (Full (x.config.n + 1) h.order) (subst (λ (i : ℕ). i ≤ n) same p.0) (full_as listing image (plain n) x.config h) tt
@@ -235,7 +243,8 @@ module _ (listing : Listing) (image : List Segment) (n : ℕ) where
   tells : Tells (timed_out listing image (plain n)) (in_order listing image n)
   tells =
       let t = length (ticks_of (plain n).lines) in
-      plain_reports (timed_out listing image (plain n)) (keeps_order listing image (plain n) t) (no_acts listing image (plain n) t) (plainly_out listing image n)
+      plain_reports (timed_out listing image (plain n)) (keeps_order listing image (plain n) t) (no_acts listing image (plain n) t)
+      (plainly_out listing image n)
 
   -- a plain run reports what the instructions in order come to
   pub reports : PlainReport (timed_out listing image (plain n)) (in_order listing image n)

@@ -157,7 +157,8 @@ module _ (listing : Listing) (image : List Segment) (around : Around) where
       let addr : g.addr ≡ f.addr = cc in
       (cc, λ i. Err (why.Faults (record { kind = kind i; addr = addr i })))
 
-  stops_from : (n : ℕ) (u s : State) (w : WholeStop) → in_order listing image n ≡ Running u → u ≡ s → alone listing u ≡ Err w → StopsFrom machine (start image) n s w
+  stops_from : (n : ℕ) (u s : State) (w : WholeStop) → in_order listing image n ≡ Running u → u ≡ s → alone listing u ≡ Err w
+      → StopsFrom machine (start image) n s w
   stops_from n u s w runs same stop = subst (λ (x : State). StopsFrom machine (start image) n x w) same
       (record { runs = runs_from n u runs; stop = next_is listing around u ∙ stop })
 

@@ -1,5 +1,6 @@
 -- After each tick the machine agrees with the instructions in order.
-use Rattle.std.proofs.Common.{◌≡◌, ℕ, zero, suc, ◌==◌, ◌+◌, ◌-◌, ◌%◌, arith, ap, refl, sym, ◌∙◌, subst, inl, ⊎_elim, eqb-true, Bool, true, false, cond, List, [], ◌∷◌, drop, length, Option, Some, None, Result, Ok, Err}
+use Rattle.std.proofs.Common.{◌≡◌, ℕ, zero, suc, ◌==◌, ◌+◌, ◌-◌, ◌%◌, arith, ap, refl, sym, ◌∙◌, subst, inl, ⊎_elim, eqb-true, Bool, true, false, cond, List}
+use Rattle.std.proofs.Common.{[], ◌∷◌, drop, length, Option, Some, None, Result, Ok, Err}
 use Rattle.hm_base.specs.Image.{Segment}
 use Rattle.hm_base.specs.declared.Stop.TheVariants as stop
 use Rattle.hm_base.specs.declared.Fault.{Fault}
@@ -11,7 +12,8 @@ use Rattle.hm_mem.specs.Memory.{Around, thread_under, Bounds}
 use Rattle.hm_mem.specs.declared.Actor.TheVariants as actor
 use Rattle.hm_mem.specs.declared.Dev.{Dev}
 use Rattle.hm_order.specs.Beats.{Live, then}
-use Rattle.hm_order.specs.Machine.{Config, Stopped, Broken, Restores, StopsInOrder, did, fault_end, next as next_in_order, next_of, older, seq, younger, younger_of}
+use Rattle.hm_order.specs.Machine.{Config, Stopped, Broken, Restores, StopsInOrder, did, fault_end, next as next_in_order, next_of, older, seq, younger}
+use Rattle.hm_order.specs.Machine.{younger_of}
 use Rattle.hm_order.specs.Position.{Holds, Agrees, Explains, StopsAt}
 use Rattle.hm_order.proofs.Headline.{explained, stop_n, stop_position, unmade}
 use Rattle.hm_order.proofs.Results.{err_same, ok_err, ok_same, true_not_false}
@@ -27,13 +29,15 @@ use Rattle.hm_window.specs.declared.rule.Rule.{Rule}
 use Rattle.hm_window.specs.declared.rule.Rule.TheVariants as rule
 use Rattle.hm_run.specs.declared.Who.{Who}
 use Rattle.hm_run.specs.declared.Who.TheVariants.{Thread, Handler, Entry}
-use Rattle.hm_run.specs.Program.{Program, Stepped, Stopping, Ticked, alone, broken, core, cause_of, done_alone, is_tainted_cause, letter_step, makes_here, at_step, letter_steps, or_fault, older_steps, steps_left, unless_refused, vector_of, whole_here}
+use Rattle.hm_run.specs.Program.{Program, Stepped, Stopping, Ticked, alone, broken, core, cause_of, done_alone, is_tainted_cause, letter_step, makes_here}
+use Rattle.hm_run.specs.Program.{at_step, letter_steps, or_fault, older_steps, steps_left, unless_refused, vector_of, whole_here}
 use Rattle.hm_whole.specs.Watched.{Watched, In, Beside, view, held, dead}
 use Rattle.hm_mem.specs.Devices.{open_devices}
 use Rattle.hm_run.specs.Stops as why
 use Rattle.hm_run.specs.Stops.{WholeStop, at_break, scalar_break}
 use Rattle.hm_run.proofs.Steps.{break_makes}
-use Rattle.hm_run.specs.Timed.{Timed, begin, who_runs, outcome_of, at_stop, counted_with, with_devices, ended, tick_of, closed, or_out, next, thread_program, timed, bounds_of}
+use Rattle.hm_run.specs.Timed.{Timed, begin, who_runs, outcome_of, at_stop, counted_with, with_devices, ended, tick_of, closed, or_out, next, thread_program}
+use Rattle.hm_run.specs.Timed.{timed, bounds_of}
 use Rattle.hm_sys.specs.Ticks.{arrived, counted, expired}
 use Rattle.hm_sched.specs.Schedule.{TickLine, Sched, older_letter, younger_letter, ticks_of}
 use Rattle.hm_state.specs.Start.{start, start_under}
@@ -74,7 +78,8 @@ module _ (listing : Listing) (around : Around) (thread : around.actor ≡ actor.
   -- LETTERS
   steps_agree : (k : ℕ) (c : Config State) → Holds machine first c → Agrees machine first (older_steps machine k c)
   steps_agree zero c h = h
-  steps_agree (suc k) c h = then_agrees machine first (older machine c) (older_steps machine k) (older_agrees machine (laws listing around thread) first c h) (steps_agree k)
+  steps_agree (suc k) c h = then_agrees machine first (older machine c) (older_steps machine k) (older_agrees machine (laws listing around thread) first c h)
+      (steps_agree k)
 
   letter_agrees : (l : ℕ) (c : Config State) → Holds machine first c → Agrees machine first (letter_step machine l c)
   letter_agrees l c h =
@@ -89,7 +94,8 @@ module _ (listing : Listing) (around : Around) (thread : around.actor ≡ actor.
   OnlyTaint (Err (Stopped c e)) = is_tainted_cause e ≡ true
   OnlyTaint (Err (Broken c r)) = Unit {0}
 
-  fault_only : (c : Config State) (e : Cause) (b : Bool) → is_tainted_cause e ≡ b → OnlyTaint (Err (fault_end machine (cond b None (Some rule.YoungerFault)) c e))
+  fault_only : (c : Config State) (e : Cause) (b : Bool) → is_tainted_cause e ≡ b
+      → OnlyTaint (Err (fault_end machine (cond b None (Some rule.YoungerFault)) c e))
   fault_only c e true h = h
   fault_only c e false h = tt
 
@@ -138,11 +144,13 @@ module _ (listing : Listing) (around : Around) (thread : around.actor ≡ actor.
   or_fault_faults (Ok t) w e = absurd (ok_err e)
   or_fault_faults (Err f) w e = ap is_fault (sym (err_same e))
 
-  row_faults : (v : Vector) (o : Option Fault) (s : State) (w : WholeStop) → then (unless_refused o s) (λ u. or_fault (vector_whole v u)) ≡ Err w → is_fault w ≡ true
+  row_faults : (v : Vector) (o : Option Fault) (s : State) (w : WholeStop) → then (unless_refused o s) (λ u. or_fault (vector_whole v u)) ≡ Err w
+      → is_fault w ≡ true
   row_faults v (Some f) s w e = ap is_fault (sym (err_same e))
   row_faults v None s w e = or_fault_faults (vector_whole v s) w e
 
-  no_row_stops : (s : State) (w : WholeStop) → is_fault w ≡ false → next_in_order machine s ≡ Err w → (o : Option Vector) → vector_of (listing s.pc) ≡ o → o ≡ None
+  no_row_stops : (s : State) (w : WholeStop) → is_fault w ≡ false → next_in_order machine s ≡ Err w → (o : Option Vector) → vector_of (listing s.pc) ≡ o
+      → o ≡ None
   no_row_stops s w other e None here = refl
   no_row_stops s w other e (Some v) here =
       true_not_false (is_fault w)
@@ -153,12 +161,15 @@ module _ (listing : Listing) (around : Around) (thread : around.actor ≡ actor.
   done_faults (Ok x) w e = absurd (ok_err e)
   done_faults (Err f) w e = ap is_fault (sym (err_same e))
 
-  breaks_first : (f : ℕ → Result State WholeStop) (o : Option ℕ) (q : Result Went Fault) (w : WholeStop) → is_fault w ≡ false → at_break f o (done_alone q) ≡ Err w → o ≡ None → ⊥
+  breaks_first : (f : ℕ → Result State WholeStop) (o : Option ℕ) (q : Result Went Fault) (w : WholeStop) → is_fault w ≡ false
+      → at_break f o (done_alone q) ≡ Err w → o ≡ None → ⊥
   breaks_first f (Some k) q w other e none = cc
   breaks_first f None q w other e none = true_not_false (is_fault w) (done_faults q w e) other
 
-  makes_none : (x : Result Instr Fault) (s : State) (w : WholeStop) → is_fault w ≡ false → vector_of x ≡ None → whole_here x s ≡ Err w → makes_here x (regs_of s) ≡ false
-  makes_none (Ok (instr.Scalar i)) s w other none e = break_makes (instr.Scalar i) (regs_of s) (breaks_first (λ k. broken k s) (scalar_break i) (scalar_alone (instr.Scalar i) s) w other e)
+  makes_none : (x : Result Instr Fault) (s : State) (w : WholeStop) → is_fault w ≡ false → vector_of x ≡ None → whole_here x s ≡ Err w
+      → makes_here x (regs_of s) ≡ false
+  makes_none (Ok (instr.Scalar i)) s w other none e =
+      break_makes (instr.Scalar i) (regs_of s) (breaks_first (λ k. broken k s) (scalar_break i) (scalar_alone (instr.Scalar i) s) w other e)
   makes_none (Ok (instr.Branch i)) s w other none e = absurd (true_not_false (is_fault w) (done_faults (scalar_alone (instr.Branch i) s) w e) other)
   makes_none (Ok (instr.Vector v)) s w other none e = absurd cc
   makes_none (Err f) s w other none e = refl
@@ -175,7 +186,8 @@ module _ (listing : Listing) (around : Around) (thread : around.actor ≡ actor.
       let same : k.state ≡ y = one_order d.n k.state y k.runs (ap (λ (n : ℕ). seq machine n first) (stop_n machine first d (cause_of w) h) ∙ h.holds.runs) in
       let none : vector_of (listing y.pc) ≡ None
       = no_row_stops y w other (ap (λ (s : State). next_in_order machine s) (sym same) ∙ k.stop) (vector_of (listing y.pc)) refl in
-      let place : (h.before.a ≡ 0) × (h.before.b ≡ 0) = ⊎_elim (λ p. (p.a, p.b)) (λ p. let no : None ≡ Some p.row = sym none ∙ p.here in absurd cc) h.holds.place in
+      let place : (h.before.a ≡ 0) × (h.before.b ≡ 0) =
+      ⊎_elim (λ p. (p.a, p.b)) (λ p. let no : None ≡ Some p.row = sym none ∙ p.here in absurd cc) h.holds.place in
       let at : d.a ≡ 0 = ap (λ (c : Config State). c.a) h.left ∙ place.0 in
       let before : State = h.before.state in
       let live : Live view before y = ⊎_elim (λ p. p.live) (λ p. let no : None ≡ Some p.row = sym none ∙ p.here in absurd cc) h.holds.place in
@@ -221,19 +233,22 @@ module _ (listing : Listing) (around : Around) (thread : around.actor ≡ actor.
       → FaultsAt machine first c.n f c.state.pc
   faults_at c f h k =
       let e : Cause = cause.Stop (stop.Fault f) in
-      let same : k.state ≡ h.holds.order = one_order c.n k.state h.holds.order k.runs (ap (λ (n : ℕ). seq machine n first) (stop_n machine first c e h) ∙ h.holds.runs) in
+      let same : k.state ≡ h.holds.order =
+      one_order c.n k.state h.holds.order k.runs (ap (λ (n : ℕ). seq machine n first) (stop_n machine first c e h) ∙ h.holds.runs) in
       record {
         state = k.state;
         stops = record { runs = k.runs; stop = k.stop };
         at = ap (λ (s : State). s.pc) same ∙ sym h.holds.pc ∙ sym (stop_position machine (laws listing around thread) first c e h).pc;
       }
 
-  fault_keeps : (who : Who) (f : Fault) (pc n : ℕ) (d : Config State) → FaultsAt machine first n f pc → AgreesAfter machine first (Some (outcome.Fault who f pc n)) d
+  fault_keeps : (who : Who) (f : Fault) (pc n : ℕ) (d : Config State) → FaultsAt machine first n f pc
+      → AgreesAfter machine first (Some (outcome.Fault who f pc n)) d
   fault_keeps Thread f pc n d h = h
   fault_keeps Handler f pc n d h = tt
   fault_keeps Entry f pc n d h = tt
 
-  pub stop_keeps : (t : ℕ) (x : Timed) (c : Config State) (e : Cause) (younger : Bool) → StopsAt machine first c e → (younger ≡ true → is_tainted_cause e ≡ true) → NextStops c.n e
+  pub stop_keeps : (t : ℕ) (x : Timed) (c : Config State) (e : Cause) (younger : Bool) → StopsAt machine first c e
+      → (younger ≡ true → is_tainted_cause e ≡ true) → NextStops c.n e
       → let stopping : Stopping = record { cause = e; younger = younger } in
       AgreesAfter machine first (Some (outcome_of t x.acts c stopping)) (at_stop c stopping)
   stop_keeps t x c (cause.Halt reason) younger h only k =
@@ -268,7 +283,8 @@ module _ (listing : Listing) (around : Around) (thread : around.actor ≡ actor.
   ended_keeps line x (Ok c) h =
       let y : Timed = record { outcome = None; config = c; acts = x.acts; ticks = x.ticks + 1 } in
       judged (may_end c.a c.b) line y h refl
-  ended_keeps line x (Err (Stopped c e)) h = stop_keeps (x.ticks + 1) x c e.cause e.younger h.0 h.1 (next_stops c.n e.cause (explained machine first c e.cause h.0))
+  ended_keeps line x (Err (Stopped c e)) h =
+      stop_keeps (x.ticks + 1) x c e.cause e.younger h.0 h.1 (next_stops c.n e.cause (explained machine first c e.cause h.0))
   ended_keeps line x (Err (Broken c r)) h = tt
 
   tick_keeps : (line : TickLine) (x : Timed) (o : Option Outcome) → x.outcome ≡ o → AgreesAfter machine first x.outcome x.config
@@ -282,11 +298,13 @@ module _ (listing : Listing) (around : Around) (thread : around.actor ≡ actor.
   out_keeps (Some o) c h = h
   out_keeps None c h = h
 
-  closed_keeps : (left : List TickLine) (x : Timed) → AgreesAfter machine first x.outcome x.config → AgreesAfter machine first (closed left x).outcome (closed left x).config
+  closed_keeps : (left : List TickLine) (x : Timed) → AgreesAfter machine first x.outcome x.config
+      → AgreesAfter machine first (closed left x).outcome (closed left x).config
   closed_keeps [] x h = out_keeps x.outcome x.config h
   closed_keeps (line ∷ left) x h = h
 
-  next_keeps : (left : List TickLine) (x : Timed) → AgreesAfter machine first x.outcome x.config → AgreesAfter machine first (next machine left x).outcome (next machine left x).config
+  next_keeps : (left : List TickLine) (x : Timed) → AgreesAfter machine first x.outcome x.config
+      → AgreesAfter machine first (next machine left x).outcome (next machine left x).config
   next_keeps [] x h = h
   next_keeps (line ∷ left) x h = closed_keeps left (tick_of machine line x x.outcome) (tick_keeps line x x.outcome refl h)
 

@@ -1,5 +1,6 @@
 -- A vector row, alone: the context that it makes, its refusal, and its four beats.
-use Rattle.std.proofs.Common.{◌≡◌, ℕ, ◌+◌, Bool, true, false, not, ◌&&◌, ◌||◌, cond, ltb, nat_eq, nat_lt, map, Option, Some, None, Result, Ok, Err, refl, sym, ◌∙◌, ap, subst}
+use Rattle.std.proofs.Common.{◌≡◌, ℕ, ◌+◌, Bool, true, false, not, ◌&&◌, ◌||◌, cond, ltb, nat_eq, nat_lt, map, Option, Some, None, Result, Ok, Err, refl, sym}
+use Rattle.std.proofs.Common.{◌∙◌, ap, subst}
 use Rattle.std.specs.Option.{is_none}
 use Rattle.hm_base.specs.declared.Fault.{Fault}
 use Rattle.hm_base.specs.declared.FaultKind.TheVariants.{InvState}
@@ -56,7 +57,8 @@ ready_counts v s ready writes counts = both s.rest.fpca refl
     (ready_is ∙ (λ j. s.rest.fpca && not (not (nat_eq s.rest.it 0) || (writes j && counts j && s.rest.fpca))))
   where
     ready_is : true ≡ (s.rest.fpca && not (is_refused v s.rest.it (at Ltp s) s.rest.fpca))
-    ready_is = sym ready ∙ ap (λ (b : Bool). s.rest.fpca && b) (refuse_none (is_refused v s.rest.it (at Ltp s) s.rest.fpca) (record { kind = InvState; addr = s.pc }))
+    ready_is = sym ready ∙ ap (λ (b : Bool). s.rest.fpca && b)
+        (refuse_none (is_refused v s.rest.it (at Ltp s) s.rest.fpca) (record { kind = InvState; addr = s.pc }))
 
     counted : (a : Bool) → true ≡ not (a || (true && true && true)) → ⊥
     counted true e = cc

@@ -19,7 +19,8 @@ use Rattle.hm_rows.specs.Rows.{refuse, vector_tree, vector_whole}
 use Rattle.hm_rows.proofs.Context.{context_pc, context_ready}
 use Rattle.hm_run.specs.declared.Cause.{Cause}
 use Rattle.hm_run.specs.declared.Cause.TheVariants as cause
-use Rattle.hm_run.specs.Program.{Program, Stepped, core, rows, alone, caused, cause_of, done_alone, done_in_machine, in_machine, letter_step, older_steps, or_fault, other_by, other_here, other_row, ready_state, steps_left, vector_of, vector_row, whole_here}
+use Rattle.hm_run.specs.Program.{Program, Stepped, core, rows, alone, caused, cause_of, done_alone, done_in_machine, in_machine, letter_step, older_steps}
+use Rattle.hm_run.specs.Program.{or_fault, other_by, other_here, other_row, ready_state, steps_left, vector_of, vector_row, whole_here}
 use Rattle.hm_run.specs.Stops.{WholeStop, break_of}
 use Rattle.hm_run.proofs.Steps.{older_other, older_vector, past}
 use Rattle.hm_sched.specs.Schedule.{whole_letter}
@@ -46,7 +47,8 @@ done_leaves (Ok x) h = λ a. h (In (Byte a))
 done_leaves (Err f) h = tt
 
 other_leaves : (i : Instr) (s : State) → NoTaint s → Leaves (other_row i s)
-other_leaves i s h = break_leaves _ (break_of i) (done_alone (scalar_alone i s)) (broken_leaves s h) (done_leaves (scalar_alone i s) (whole-clean i s (watched_clean s h)))
+other_leaves i s h = break_leaves _ (break_of i) (done_alone (scalar_alone i s)) (broken_leaves s h)
+    (done_leaves (scalar_alone i s) (whole-clean i s (watched_clean s h)))
 
 module _ (around : Around) (thread : around.actor ≡ Thread) where
   row_kept : (v : Vector) (s : State) → NoTaint s → (r : Result State WholeStop) → vector_row v s ≡ r → Leaves r
@@ -105,7 +107,8 @@ module _ (listing : Listing) (around : Around) (thread : around.actor ≡ Thread
   -- a beat, where it is known what comes behind it
   beat_comes : (v : Vector) (a j n k : ℕ) (c : Config State) (q : Result State Stop) → c.n ≡ n
       → ((t : State) → q ≡ Ok t → BeatsCome n (then (row_beats around v (suc a) j t) retire) (older_steps machine j (settle machine (suc a) 0 n (suc k) t)))
-      → BeatsCome n (then (then q (row_beats around v (suc a) j)) retire) (then (done machine c (caused q) (settle machine (suc a) 0 n (suc k))) (older_steps machine j))
+      → BeatsCome n (then (then q (row_beats around v (suc a) j)) retire)
+      (then (done machine c (caused q) (settle machine (suc a) 0 n (suc k))) (older_steps machine j))
   beat_comes v a j n k c (Ok t) same next = next t refl
   beat_comes v a j n k c (Err e) same next = (begun machine c, same, refl)
 
@@ -117,11 +120,13 @@ module _ (listing : Listing) (around : Around) (thread : around.actor ≡ Thread
 
   -- a beat past the first
   later_beat : (v : Vector) (a j n k : ℕ) (s : State) → Here v s
-      → ((t : State) → Here v t → BeatsCome n (then (row_beats around v (suc (suc a)) j t) retire) (older_steps machine j (settle machine (suc (suc a)) 0 n (suc k) t)))
+      → ((t : State) → Here v t → BeatsCome n (then (row_beats around v (suc (suc a)) j t) retire)
+      (older_steps machine j (settle machine (suc (suc a)) 0 n (suc k) t)))
       → BeatsCome n (then (row_beats around v (suc a) (suc j) s) retire) (older_steps machine (suc j) (inside (suc a) n k s))
   later_beat v a j n k s here next =
       let b = of_four (vector_tree v around) (suc a) in
-      subst (λ (r : Stepped). BeatsCome n (then (row_beats around v (suc a) (suc j) s) retire) (then r (older_steps machine j))) (sym (older_vector listing around (inside (suc a) n k s) v here))
+      subst (λ (r : Stepped). BeatsCome n (then (row_beats around v (suc a) (suc j) s) retire) (then r (older_steps machine j)))
+      (sym (older_vector listing around (inside (suc a) n k s) v here))
       (beat_comes v (suc a) j n k (inside (suc a) n k s) ((action cells b).run s) refl (λ t e. next t (here_still v s t here (beat_pc b s t e))))
 
   from_third : (v : Vector) (n k : ℕ) (s : State) → Here v s → BeatsCome n (then (row_beats around v 3 1 s) retire) (older_steps machine 1 (inside 3 n k s))
@@ -145,11 +150,14 @@ module _ (listing : Listing) (around : Around) (thread : around.actor ≡ Thread
       let here_too : Here v t = here_still v s t here (ap (λ (u : State). u.pc) (sym is) ∙ context_pc s) in
       let ready : refuse v t ≡ None = ap (refuse v) (sym is) ∙ free.0 in
       let b = of_four (vector_tree v around) 0 in
-      whole_comes n (vector_whole v t) _ (subst (λ (r : Result State Stop). BeatsCome n r (then (done machine (between n k s) (caused ((action cells b).run t)) (settle machine 1 0 n (suc k))) (older_steps machine 3)))
+      whole_comes n (vector_whole v t) _
+      (subst (λ (r : Result State Stop). BeatsCome n r
+      (then (done machine (between n k s) (caused ((action cells b).run t)) (settle machine 1 0 n (suc k))) (older_steps machine 3)))
       (four_are around thread v t there ready (subst NoTaint is (context_clean s clean)))
       (beat_comes v 0 3 n k (between n k s) ((action cells b).run t) refl (λ u e. from_first v n (suc k) u (here_still v t u here_too (beat_pc b t u e)))))
 
-  row_step : (v : Vector) (n k : ℕ) (s : State) → NoTaint s → listing s.pc ≡ Ok (instr.Vector v) → Comes n (alone listing s) (letter_step machine whole_letter (between n k s))
+  row_step : (v : Vector) (n k : ℕ) (s : State) → NoTaint s → listing s.pc ≡ Ok (instr.Vector v)
+      → Comes n (alone listing s) (letter_step machine whole_letter (between n k s))
   row_step v n k s clean e =
       let here : Here v s = ap vector_of e in
       subst (λ (r : Result Instr Fault). Comes n (whole_here r s) (letter_step machine whole_letter (between n k s))) (sym e)
@@ -158,11 +166,13 @@ module _ (listing : Listing) (around : Around) (thread : around.actor ≡ Thread
       (row_comes v n k s clean here (ready_state v s) refl)))
 
   -- an instruction that is no vector row
-  other_comes : (n k : ℕ) (s : State) (q : Result State WholeStop) → Comes n q (then (done machine (between n k s) (in_machine q) (past (between n k s))) (older_steps machine 0))
+  other_comes : (n k : ℕ) (s : State) (q : Result State WholeStop)
+      → Comes n q (then (done machine (between n k s) (in_machine q) (past (between n k s))) (older_steps machine 0))
   other_comes n k s (Ok t) = (suc k, refl)
   other_comes n k s (Err w) = (begun machine (between n k s), refl, refl)
 
-  other_step : (n k : ℕ) (s : State) → NoTaint s → vector_of (listing s.pc) ≡ None → Comes n (alone listing s) (letter_step machine whole_letter (between n k s))
+  other_step : (n k : ℕ) (s : State) → NoTaint s → vector_of (listing s.pc) ≡ None
+      → Comes n (alone listing s) (letter_step machine whole_letter (between n k s))
   other_step n k s clean none =
       subst (λ (o : Option Vector). Comes n (alone listing s) (older_steps machine (steps_left o 0) (between n k s))) (sym none)
       (subst (λ (r : Stepped). Comes n (alone listing s) (then r (older_steps machine 0)))
@@ -170,7 +180,8 @@ module _ (listing : Listing) (around : Around) (thread : around.actor ≡ Thread
       ∙ ap (λ (r : Result State Cause). done machine (between n k s) r (past (between n k s))) (other_is around thread (listing s.pc) s none clean)))
       (other_comes n k s (alone listing s)))
 
-  step_of : (n k : ℕ) (s : State) → NoTaint s → (r : Result Instr Fault) → listing s.pc ≡ r → Comes n (alone listing s) (letter_step machine whole_letter (between n k s))
+  step_of : (n k : ℕ) (s : State) → NoTaint s → (r : Result Instr Fault) → listing s.pc ≡ r
+      → Comes n (alone listing s) (letter_step machine whole_letter (between n k s))
   step_of n k s clean (Ok (instr.Scalar i)) e = other_step n k s clean (ap vector_of e)
   step_of n k s clean (Ok (instr.Branch i)) e = other_step n k s clean (ap vector_of e)
   step_of n k s clean (Ok (instr.Vector v)) e = row_step v n k s clean e

@@ -31,7 +31,8 @@ ghost use Rattle.hm_plain.specs.Overlap.{StaysInOrder};
 /// A run of n plain ticks ends as the first n instructions in order come to, and reports that; of a fault the first line.
 pub fn plain_in_order()
     ensures report { (listing : Listing) (image : List Segment) (n : ℕ) → PlainReport (timed_out listing image (plain n)) (in_order listing image n) }
-    ensures ends { (listing : Listing) (image : List Segment) (n : ℕ) → (timed_out listing image (plain n)).outcome ≡ Some (plain_end (in_order listing image n)) }
+    ensures ends { (listing : Listing) (image : List Segment) (n : ℕ)
+        → (timed_out listing image (plain n)).outcome ≡ Some (plain_end (in_order listing image n)) }
     // While it goes on each tick retires one instruction.
     ensures retired { (listing : Listing) (image : List Segment) (n t : ℕ) → t ≤ n → GoesOn (timed listing image (plain n) t).outcome
         → ((timed listing image (plain n) t).config.n ≡ t) × ((timed listing image (plain n) t).config.a ≡ 0) }

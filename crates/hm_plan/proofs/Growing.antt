@@ -21,7 +21,8 @@ module _ (listing : Listing) (image : List Segment) (n : ℕ) where
   abbrev M : Program
   M = bare_program listing
 
-  pub first_stands : (lines : List TickLine) (g : Greedy) (x y : Timed) → x ≡ begin image (bare []) → is_over n x ≡ false → lines ≡ [] → g ≡ greedy_at M n x.config
+  pub first_stands : (lines : List TickLine) (g : Greedy) (x y : Timed) → x ≡ begin image (bare []) → is_over n x ≡ false → lines ≡ []
+      → g ≡ greedy_at M n x.config
       → y ≡ tick M (plan_line 1 g) x → Stands listing image n lines 1 g y
   first_stands lines g x y first on none kind next =
       let z : Timed = begin image (bare []) in
@@ -32,8 +33,10 @@ module _ (listing : Listing) (image : List Segment) (n : ℕ) where
       (subst (λ (w : Timed). Stands listing image n [] 1 (greedy_at M n z.config) w) (sym there)
       (stands_first listing image n (ap (is_over n) (sym first) ∙ on))))
 
-  pub next_stands : (lines : List TickLine) (k : ℕ) (g : Greedy) (x y : Timed) (after : List TickLine) (j : ℕ) (f kind : Greedy) → Stands listing image n lines k g x → is_over n x ≡ false
-      → kind ≡ greedy_at M n x.config → ((rest : List Greedy) → after ++ lines_from j f rest ≡ lines ++ lines_from k g (kind ∷ rest)) → y ≡ tick M (plan_line 1 kind) x
+  pub next_stands : (lines : List TickLine) (k : ℕ) (g : Greedy) (x y : Timed) (after : List TickLine) (j : ℕ) (f kind : Greedy)
+      → Stands listing image n lines k g x → is_over n x ≡ false
+      → kind ≡ greedy_at M n x.config → ((rest : List Greedy) → after ++ lines_from j f rest ≡ lines ++ lines_from k g (kind ∷ rest))
+      → y ≡ tick M (plan_line 1 kind) x
       → Stands listing image n after j f y
   next_stands lines k g x y after j f kind h on is lined next =
       let there : y ≡ grown M n x = next ∙ ap (λ (q : Greedy). tick M (plan_line 1 q) x) is in
@@ -54,7 +57,8 @@ module _ (listing : Listing) (image : List Segment) (n : ℕ) where
       is ∙ sym (none_first listing image n (sym none))
 
 -- WHAT HOLDS OF THE PLAN holds of what is planned
-pub of_planned : (image : List Segment) (n : ℕ) (P : Listing → Sched → Type 0) → ((listing : Listing) → P listing (planned listing image n)) → (r : Result Sched LoadErr)
+pub of_planned : (image : List Segment) (n : ℕ) (P : Listing → Sched → Type 0) → ((listing : Listing) → P listing (planned listing image n))
+    → (r : Result Sched LoadErr)
     → IfOk r (λ s. (listing : Listing) → IsListing (flash_byte image) listing → s ≡ planned listing image n)
     → IfOk r (λ s. (listing : Listing) → IsListing (flash_byte image) listing → P listing s)
 of_planned image n P h (Ok s) is = λ listing listed. subst (P listing) (sym (is listing listed)) (h listing)

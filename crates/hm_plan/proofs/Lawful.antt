@@ -1,5 +1,6 @@
 -- A tick of a beat of the older and one of the younger goes on only where two may overlap.
-use Rattle.std.proofs.Common.{◌≡◌, ◌⊎◌, ℕ, zero, suc, ◌+◌, ◌==◌, ◌||◌, ◌<◌, arith, Bool, true, false, cond, not, nat_lt, List, [], ◌∷◌, drop, length, is_some, Option, Some, None, Result, Ok, Err, inl, inr, refl, sym, ◌∙◌, ap, subst}
+use Rattle.std.proofs.Common.{◌≡◌, ◌⊎◌, ℕ, zero, suc, ◌+◌, ◌==◌, ◌||◌, ◌<◌, arith, Bool, true, false, cond, not, nat_lt, List, [], ◌∷◌, drop, length, is_some}
+use Rattle.std.proofs.Common.{Option, Some, None, Result, Ok, Err, inl, inr, refl, sym, ◌∙◌, ap, subst}
 use Rattle.std.proofs.lemmas.Bool.Decides.{nat_tests}
 use Rattle.hm_base.specs.Image.{Segment}
 use Rattle.hm_codes.specs.Listing.{Listing}
@@ -66,10 +67,12 @@ module _ (listing : Listing) where
   First c d = ((d.a ≡ 0) × (d.b ≡ 0)) ⊎ ((c.a ≡ 3) × (d.a ≡ c.b) × (d.b ≡ 0)) ⊎ ((d.a ≡ suc c.a) × (d.b ≡ c.b))
 
   settled : (c : Config State) (t : State) → First c (settle M (suc c.a) c.b c.n (suc c.steps) t)
-  settled c t = elim (suc c.a == 4) as (λ b. (suc c.a == 4) ≡ b → First c (cond b (record { a = c.b; b = 0; n = suc c.n; steps = suc c.steps; state = M.jump (t.pc + 4) t }) (record { a = suc c.a; b = c.b; n = c.n; steps = suc c.steps; state = t }))) [
-    | true ↦ λ e. inr (inl (grind (arith, nat_tests), refl, refl))
-    | false ↦ λ e. inr (inr (refl, refl))
-  ] refl
+  settled c t = elim (suc c.a == 4) as (λ b. (suc c.a == 4) ≡ b
+      → First c (cond b (record { a = c.b; b = 0; n = suc c.n; steps = suc c.steps; state = M.jump (t.pc + 4) t })
+      (record { a = suc c.a; b = c.b; n = c.n; steps = suc c.steps; state = t }))) [
+        | true ↦ λ e. inr (inl (grind (arith, nat_tests), refl, refl))
+        | false ↦ λ e. inr (inr (refl, refl))
+      ] refl
 
   done_at : (c d : Config State) (r : Result State Cause) (f : State → Config State) → ((t : State) → First c (f t)) → done M c r f ≡ Ok d → First c d
   done_at c d (Ok t) f h e = subst (First c) (ok_same e) (h t)
@@ -91,7 +94,8 @@ module _ (listing : Listing) where
   second_goes d f (Err (Stopped g w)) e = absurd (ok_err (sym e))
   second_goes d f (Err (Broken g r)) e = absurd (ok_err (sym e))
 
-  both_go : (f : Config State) (q : Stepped) → then (at_step 1 false q) (letter_steps M 1 (younger_letter ∷ [])) ≡ Ok f → (d : Config State) × (q ≡ Ok d) × (younger M d ≡ Ok f)
+  both_go : (f : Config State) (q : Stepped) → then (at_step 1 false q) (letter_steps M 1 (younger_letter ∷ [])) ≡ Ok f
+      → (d : Config State) × (q ≡ Ok d) × (younger M d ≡ Ok f)
   both_go f (Ok d) e = (d, refl, second_goes d f (younger M d) e)
   both_go f (Err (Stopped d w)) e = absurd (ok_err (sym e))
   both_go f (Err (Broken d r)) e = absurd (ok_err (sym e))
@@ -123,7 +127,8 @@ module _ (listing : Listing) where
     at p (inr q) (inl o) = let three = q.0 in let same = two.a in let zero_a = o.0 in absurd (omega arith)
     at (inl p) (inr q) (inr (inl o)) = let three = q.0 in let same = two.a in let back = o.1 in let none = p.0 in absurd (omega arith)
     at (inr p) (inr q) (inr (inl o)) = let three = q.0 in let same = two.a in let back = o.1 in let some = p.1 in absurd (omega arith)
-    at p (inr q) (inr (inr o)) = let three = q.0 in let one_more = q.1 in let same = two.a in let next = two.b in let a = o.0 in let b = o.1 in (omega arith, omega arith)
+    at p (inr q) (inr (inr o)) =
+        let three = q.0 in let one_more = q.1 in let same = two.a in let next = two.b in let a = o.0 in let b = o.1 in (omega arith, omega arith)
 
   goes_ready : (x : Timed) → x.outcome ≡ None → may_end x.config.a x.config.b ≡ true → (tick M both x).outcome ≡ None → IsReady M x.config
   goes_ready x none from out =
@@ -137,7 +142,8 @@ module _ (listing : Listing) where
         b = at.1;
         third = g.0;
         goes = g.1;
-        no_rule = rule_none (M.rule (M.code (M.rows.view.pc g.0.state)) (M.code (M.rows.view.pc g.0.state + 4)) g.0) (M.code (M.rows.view.pc g.0.state + 4)) g.0 e.0 g.2;
+        no_rule = rule_none (M.rule (M.code (M.rows.view.pc g.0.state)) (M.code (M.rows.view.pc g.0.state + 4)) g.0) (M.code (M.rows.view.pc g.0.state + 4)) g.0
+            e.0 g.2;
         first = e.0;
         follows = g.2;
       }
@@ -148,7 +154,8 @@ abbrev Stands : Timed → Type 0
 Stands x = x.outcome ≡ None → may_end x.config.a x.config.b ≡ true
 
 end_stands : (line : TickLine) (x : Timed) (b : Bool) → may_end x.config.a x.config.b ≡ b
-    → Stands (cond b (record x { config = record x.config { state = with_devices (counted_with line.irq) x.config.state } }) (record x { outcome = Some (outcome.RuleBroken x.ticks (length line.letters) (rule.Ending x.config.a x.config.b)) }))
+    → Stands (cond b (record x { config = record x.config { state = with_devices (counted_with line.irq) x.config.state } })
+    (record x { outcome = Some (outcome.RuleBroken x.ticks (length line.letters) (rule.Ending x.config.a x.config.b)) }))
 end_stands line x true e = λ out. e
 end_stands line x false e = λ out. absurd cc
 
@@ -175,7 +182,8 @@ next_stands M (line ∷ left) x h = closed_stands left (tick M line x) (tick_sta
 
 timed_stands : (listing : Listing) (image : List Segment) (s : Sched) (t : ℕ) → Stands (timed listing image s t)
 timed_stands listing image s zero = closed_stands (ticks_of s.lines) (begin_run image s) (λ out. refl)
-timed_stands listing image s (suc t) = next_stands (thread_program listing s) (drop t (ticks_of s.lines)) (timed listing image s t) (timed_stands listing image s t)
+timed_stands listing image s (suc t) =
+    next_stands (thread_program listing s) (drop t (ticks_of s.lines)) (timed listing image s t) (timed_stands listing image s t)
 
 not_over : (o : Option Outcome) (b : Bool) → (is_some o || b) ≡ false → o ≡ None
 not_over None b e = refl

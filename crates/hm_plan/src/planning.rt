@@ -34,7 +34,8 @@ fn is_vector(i: &Instr) -> bool
 
 /// Whether a vector instruction stands at the program counter.
 fn has_row(machine: &Machine) -> bool
-    ensures value { (listing : Listing) → IsListing (flash_at machine.now.memory) listing → result ≡ is_some (vector_of (listing (timed_of machine.now).config.state.pc)) }
+    ensures value { (listing : Listing) → IsListing (flash_at machine.now.memory) listing
+        → result ≡ is_some (vector_of (listing (timed_of machine.now).config.state.pc)) }
 {
     match machine.instr(machine.regs().pc) {
         Some(i) => is_vector(&i),
@@ -46,7 +47,8 @@ fn has_row(machine: &Machine) -> bool
 fn greedy(machine: &mut Machine, n: u32) -> Greedy
     requires bare { IsBare machine.old }
     requires goes { is_over n (timed_of machine.old) ≡ false }
-    ensures value { (listing : Listing) → IsListing (flash_at machine.old.memory) listing → result ≡ greedy_at (bare_program listing) n (timed_of machine.old).config }
+    ensures value { (listing : Listing) → IsListing (flash_at machine.old.memory) listing
+        → result ≡ greedy_at (bare_program listing) n (timed_of machine.old).config }
     ensures same { machine.new ≡ machine.old }
 {
     if !has_row(machine) {
@@ -75,7 +77,8 @@ pub fn plan(alloc: Global, image: &Image, n: u32) -> Result<Schedule, LoadErr>
     requires few { n ≤ 262144 }
     ensures planned { IfOk result (λ s. (listing : Listing) → IsListing (flash_byte image.now) listing → s ≡ planned listing image.now n) }
     // Its run ends as the n instructions in order do, exactly, within 4n ticks, and no rule is broken.
-    ensures ends { IfOk result (λ s. (listing : Listing) → IsListing (flash_byte image.now) listing → EndsAs n (timed_out listing image.now s) (in_order listing image.now n)) }
+    ensures ends { IfOk result (λ s. (listing : Listing) → IsListing (flash_byte image.now) listing
+        → EndsAs n (timed_out listing image.now s) (in_order listing image.now n)) }
     ensures exactly { IfOk result (λ s. (listing : Listing) → IsListing (flash_byte image.now) listing
         → DecidedBy n (timed_out listing image.now s) (in_order listing image.now n)) }
     ensures only { IfOk result (λ s. (listing : Listing) → IsListing (flash_byte image.now) listing → IsPlanEnd (timed_out listing image.now s).outcome) }

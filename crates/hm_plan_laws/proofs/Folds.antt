@@ -1,5 +1,6 @@
 -- A run to the end of its ticks is a fold over them.
-use Rattle.std.proofs.Common.{◌≡◌, ℕ, suc, ◌+◌, arith, List, [], ◌∷◌, drop, drop-drop, length, Option, Some, None, Ok, Err, refl, sym, ◌∙◌, ap, add-zero, add-one}
+use Rattle.std.proofs.Common.{◌≡◌, ℕ, suc, ◌+◌, arith, List, [], ◌∷◌, drop, drop-drop, length, Option, Some, None, Ok, Err, refl, sym, ◌∙◌, ap, add-zero}
+use Rattle.std.proofs.Common.{add-one}
 use Rattle.hm_base.specs.Image.{Segment}
 use Rattle.hm_codes.specs.Listing.{Listing}
 use Rattle.hm_order.specs.Machine.{Stopped, Broken}

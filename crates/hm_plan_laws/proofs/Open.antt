@@ -1,5 +1,6 @@
 -- Readiness in so many words, and runs to which more ticks may be added.
-use Rattle.std.proofs.Common.{◌≡◌, ◌↔◌, ℕ, suc, ◌+◌, ◌==◌, ◌&&◌, ◌<◌, arith, Bool, true, false, List, [], ◌∷◌, ◌++◌, drop, length, Option, Some, None, Ok, Err, refl, sym, ◌∙◌, ap, add-zero}
+use Rattle.std.proofs.Common.{◌≡◌, ◌↔◌, ℕ, suc, ◌+◌, ◌==◌, ◌&&◌, ◌<◌, arith, Bool, true, false, List, [], ◌∷◌, ◌++◌, drop, length, Option, Some, None, Ok, Err}
+use Rattle.std.proofs.Common.{refl, sym, ◌∙◌, ap, add-zero}
 use Rattle.std.proofs.lemmas.Bool.Decides.{nat_tests}
 use Rattle.hm_base.specs.Image.{Segment}
 use Rattle.hm_codes.specs.Listing.{Listing}
@@ -76,8 +77,10 @@ module _ (listing : Listing) (image : List Segment) (s : Sched) (line : TickLine
       let one : timed listing image s (suc t) ≡ tick M g x = (λ j. next M (e j) (h j)) ∙ closed_on (gs ++ (line ∷ left)) (tick M g x) (some gs) in
       ap (timed listing image s) sum ∙ open_from gs (suc t) (tick M g x) (next_left listing image s t g (gs ++ (line ∷ left)) e) one
 
-  pub open_run : (given : List TickLine) → ticks_of s.lines ≡ given ++ (line ∷ left) → timed listing image s (length given) ≡ after_ticks M given (begin image s)
+  pub open_run : (given : List TickLine) → ticks_of s.lines ≡ given ++ (line ∷ left)
+      → timed listing image s (length given) ≡ after_ticks M given (begin image s)
   open_run given e =
       let all : 0 + length given ≡ length given = omega arith in
-      let begun : timed listing image s 0 ≡ begin image s = ap (λ (l : List TickLine). closed l (begin image s)) e ∙ closed_on (given ++ (line ∷ left)) (begin image s) (some given) in
+      let begun : timed listing image s 0 ≡ begin image s = ap (λ (l : List TickLine). closed l (begin image s)) e
+      ∙ closed_on (given ++ (line ∷ left)) (begin image s) (some given) in
       ap (timed listing image s) (sym all) ∙ open_from given 0 (begin image s) e begun

@@ -28,9 +28,11 @@ pub enum Greedy {
 
 /// Under the plan of n instructions a run ends as the n instructions in order do, within 4n ticks. So no rule is broken.
 pub fn plan_in_order()
-    ensures ends { (listing : Listing) (image : List Segment) (n : ℕ) → EndsAs n (timed_out listing image (planned listing image n)) (in_order listing image n) }
+    ensures ends { (listing : Listing) (image : List Segment) (n : ℕ)
+        → EndsAs n (timed_out listing image (planned listing image n)) (in_order listing image n) }
     ensures only { (listing : Listing) (image : List Segment) (n : ℕ) → IsPlanEnd (timed_out listing image (planned listing image n)).outcome }
-    ensures exactly { (listing : Listing) (image : List Segment) (n : ℕ) → DecidedBy n (timed_out listing image (planned listing image n)) (in_order listing image n) }
+    ensures exactly { (listing : Listing) (image : List Segment) (n : ℕ)
+        → DecidedBy n (timed_out listing image (planned listing image n)) (in_order listing image n) }
     // Its ticks are greedy, each in the state before it.
     ensures greedy { (listing : Listing) (image : List Segment) (n t : ℕ) (line : TickLine) (left : List TickLine) → let s = planned listing image n in
         drop t (ticks_of s.lines) ≡ line ∷ left → IsGreedyAt listing image n s t line }

@@ -1,5 +1,6 @@
 -- A place after a list of writes.
-use Rattle.std.proofs.Common.{◌≡◌, ℕ, zero, suc, ◌-◌, ◌*◌, ◌%◌, ◌^◌, ◌<◌, Bool, true, false, eqb, ltb, cond, List, [], ◌∷◌, length, get_or, set, arith, refl, sym, subst, ◌∙◌}
+use Rattle.std.proofs.Common.{◌≡◌, ℕ, zero, suc, ◌-◌, ◌*◌, ◌%◌, ◌^◌, ◌<◌, Bool, true, false, eqb, ltb, cond, List, [], ◌∷◌, length, get_or, set, arith, refl}
+use Rattle.std.proofs.Common.{sym, subst, ◌∙◌}
 use Rattle.std.proofs.lemmas.List.{length-set}
 use Rattle.hm_base.specs.Bits.{field}
 use Rattle.hm_base.specs.Place.{IsPlace}
@@ -44,12 +45,22 @@ SameElsewhere-with_value (QWord k) x s i = record { registers = refl; fpscr_low 
 SameElsewhere-with_value (P0 b) x s i = same_vpr s _ (field-put_field_above 24 8 (4 * b) 4 x s.vpr (omega arith))
 SameElsewhere-with_value Mask01 x s i = same_vpr s _ (field-put_field_above 24 8 16 4 x s.vpr (omega arith))
 SameElsewhere-with_value Mask23 x s i = same_vpr s _ (field-put_field_above 24 8 20 4 x s.vpr (omega arith))
-SameElsewhere-with_value Carry x s i = same_fpscr s _ (field-put_field_below 0 16 28 4 x s.fpscr (omega arith)) (field-put_field_below 19 8 28 4 x s.fpscr (omega arith))
-SameElsewhere-with_value Ltp x s i = same_fpscr s _ (field-put_field_below 0 16 16 3 x s.fpscr (omega arith)) (field-put_field_above 19 8 16 3 x s.fpscr (omega arith))
-SameElsewhere-with_value Sticky x s i = same_fpscr s _ (field-put_field_below 0 16 27 1 x s.fpscr (omega arith)) (field-put_field_below 19 8 27 1 x s.fpscr (omega arith))
+SameElsewhere-with_value Carry x s i =
+    same_fpscr s _ (field-put_field_below 0 16 28 4 x s.fpscr (omega arith)) (field-put_field_below 19 8 28 4 x s.fpscr (omega arith))
+SameElsewhere-with_value Ltp x s i =
+    same_fpscr s _ (field-put_field_below 0 16 16 3 x s.fpscr (omega arith)) (field-put_field_above 19 8 16 3 x s.fpscr (omega arith))
+SameElsewhere-with_value Sticky x s i =
+    same_fpscr s _ (field-put_field_below 0 16 27 1 x s.fpscr (omega arith)) (field-put_field_below 19 8 27 1 x s.fpscr (omega arith))
 
 pub SameElsewhere-trans : (s t u : Regs) → SameElsewhere s t → SameElsewhere t u → SameElsewhere s u
-SameElsewhere-trans s t u h k = record { registers = h.registers ∙ k.registers; fpscr_low = h.fpscr_low ∙ k.fpscr_low; fpscr_middle = h.fpscr_middle ∙ k.fpscr_middle; vpr_top = h.vpr_top ∙ k.vpr_top }
+SameElsewhere-trans s t u h k =
+    record {
+      registers = h.registers ∙ k.registers;
+      fpscr_low = h.fpscr_low ∙ k.fpscr_low;
+      fpscr_middle = h.fpscr_middle ∙ k.fpscr_middle;
+      vpr_top = h.vpr_top
+          ∙ k.vpr_top;
+    }
 
 pub SameElsewhere-refl : (s : Regs) → SameElsewhere s s
 SameElsewhere-refl s = record { registers = refl; fpscr_low = refl; fpscr_middle = refl; vpr_top = refl }

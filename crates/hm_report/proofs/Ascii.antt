@@ -1,5 +1,6 @@
 -- A REPORT IS ASCII, line by line, whatever it tells.
-use Rattle.std.proofs.Common.{◌≡◌, ℕ, zero, suc, ◌+◌, ◌*◌, ◌/◌, ◌%◌, Bool, true, false, cond, nat_eq, List, [], ◌∷◌, ◌++◌, codes, decimal, length, Option, Some, None, refl, slice_index}
+use Rattle.std.proofs.Common.{◌≡◌, ℕ, zero, suc, ◌+◌, ◌*◌, ◌/◌, ◌%◌, Bool, true, false, cond, nat_eq, List, [], ◌∷◌, ◌++◌, codes, decimal, length, Option, Some}
+use Rattle.std.proofs.Common.{None, refl, slice_index}
 use Rattle.std.specs.Str.{IsAscii}
 use Rattle.hex.specs.Hex.{encode_lower}
 use Rattle.hm_base.specs.declared.FaultKind.{FaultKind}
@@ -22,11 +23,15 @@ use Rattle.hm_run.specs.declared.Who.{Who}
 use Rattle.hm_run.specs.declared.Who.TheVariants as who
 use Rattle.hm_window.specs.declared.rule.Rule.{Rule}
 use Rattle.hm_window.specs.declared.rule.Rule.TheVariants as rule
-use Rattle.hm_run.specs.Report.{kind_text, who_text, reason_text, address_text, register_text, place_text, slot_text, rule_text, broken_text, offence_text, ended_text, outcome_text, outcome_line, mode_line, low_lines, word_line, pointer_lines, position_line, flags_line, bit_line, system_line, state_lines, special_lines, vector_words, vector_line, vector_lines, output_lines, register_lines, report_of, report_text}
+use Rattle.hm_run.specs.Report.{kind_text, who_text, reason_text, address_text, register_text, place_text, slot_text, rule_text, broken_text, offence_text}
+use Rattle.hm_run.specs.Report.{ended_text, outcome_text, outcome_line, mode_line, low_lines, word_line, pointer_lines, position_line, flags_line, bit_line}
+use Rattle.hm_run.specs.Report.{system_line, state_lines, special_lines, vector_words, vector_line, vector_lines, output_lines, register_lines, report_of}
+use Rattle.hm_run.specs.Report.{report_text}
 use Rattle.hm_run.specs.Timed.{Timed}
 use Rattle.hm_state.specs.State.{regs_of}
 use Rattle.hm_text_base.specs.Texts.{bit, hex2, hex8}
-use Rattle.hm_report.proofs.Bytes.{AreAll, adds, appended, bit_is, bytes_are, decimal_is, decimal_plain, hex2_is, hex8_is, hex8_plain, is_ascii, is_low, is_plain, is_shown, joined, plain_is, told}
+use Rattle.hm_report.proofs.Bytes.{AreAll, adds, appended, bit_is, bytes_are, decimal_is, decimal_plain, hex2_is, hex8_is, hex8_plain, is_ascii, is_low}
+use Rattle.hm_report.proofs.Bytes.{is_plain, is_shown, joined, plain_is, told}
 
 -- THE FIRST LINE
 kind_is : (k : FaultKind) → is_plain (kind_text k) ≡ true
@@ -70,7 +75,8 @@ module _ (P : List ℕ → Type 0) (more : (out part : List ℕ) → P out → i
 
   place_is : (p : Place) (out : List ℕ) → P out → P (place_text p out)
   place_is (place.R n) out h = register_is n out h
-  place_is (place.QWord k) out h = with_parts out (codes "q" ∷ decimal (k / 4) ∷ codes "." ∷ decimal (k % 4) ∷ []) h (refl, (decimal_plain (k / 4), (refl, (decimal_plain (k % 4), tt))))
+  place_is (place.QWord k) out h =
+      with_parts out (codes "q" ∷ decimal (k / 4) ∷ codes "." ∷ decimal (k % 4) ∷ []) h (refl, (decimal_plain (k / 4), (refl, (decimal_plain (k % 4), tt))))
   place_is (place.P0 b) out h = with_parts out (codes "p0." ∷ decimal b ∷ []) h (refl, (decimal_plain b, tt))
   place_is place.Mask01 out h = with_parts out (codes "mask01" ∷ []) h (refl, tt)
   place_is place.Mask23 out h = with_parts out (codes "mask23" ∷ []) h (refl, tt)
@@ -90,7 +96,8 @@ module _ (P : List ℕ → Type 0) (more : (out part : List ℕ) → P out → i
   rule_is (rule.Register p) out h = place_is p (out ++ codes "register ") (with_parts out (codes "register " ∷ []) h (refl, tt))
   rule_is (rule.Memory addr) out h = with_parts out (codes "memory " ∷ hex8 addr ∷ []) h (refl, (hex8_plain addr, tt))
   rule_is rule.YoungerFault out h = with_parts out (codes "youngerfault" ∷ []) h (refl, tt)
-  rule_is (rule.Ending a b) out h = with_parts out (codes "ending " ∷ decimal a ∷ codes " " ∷ decimal b ∷ []) h (refl, (decimal_plain a, (refl, (decimal_plain b, tt))))
+  rule_is (rule.Ending a b) out h =
+      with_parts out (codes "ending " ∷ decimal a ∷ codes " " ∷ decimal b ∷ []) h (refl, (decimal_plain a, (refl, (decimal_plain b, tt))))
 
   broken_is : (b : Broken) (out : List ℕ) → P out → P (broken_text b out)
   broken_is (broken.ExcReturn value) out h = with_parts out (codes "return " ∷ hex8 value ∷ []) h (refl, (hex8_plain value, tt))
@@ -111,16 +118,20 @@ module _ (P : List ℕ → Type 0) (more : (out part : List ℕ) → P out → i
   ended_is (outcome.Fault w f pc n) out h =
       let begun = out ++ codes "fault " ++ who_text w ++ codes " " ++ kind_text f.kind in
       with_parts (address_text pc f.addr begun) (codes " after " ∷ decimal n ∷ [])
-      (address_is pc f.addr begun (with_parts out (codes "fault " ∷ who_text w ∷ codes " " ∷ kind_text f.kind ∷ []) h (refl, (who_is w, (refl, (kind_is f.kind, tt))))))
+      (address_is pc f.addr begun (with_parts out (codes "fault " ∷ who_text w ∷ codes " " ∷ kind_text f.kind ∷ []) h
+      (refl, (who_is w, (refl, (kind_is f.kind, tt))))))
       (refl, (decimal_plain n, tt))
   ended_is (outcome.RuleBroken t step r) out h =
       rule_is r (out ++ codes "rule tick " ++ decimal t ++ codes " step " ++ decimal step ++ codes " ")
-      (with_parts out (codes "rule tick " ∷ decimal t ∷ codes " step " ∷ decimal step ∷ codes " " ∷ []) h (refl, (decimal_plain t, (refl, (decimal_plain step, (refl, tt))))))
+      (with_parts out (codes "rule tick " ∷ decimal t ∷ codes " step " ∷ decimal step ∷ codes " " ∷ []) h
+      (refl, (decimal_plain t, (refl, (decimal_plain step, (refl, tt))))))
   ended_is (outcome.HandlerBroken t what) out h =
       offence_is what (out ++ codes "handler tick " ++ decimal t ++ codes " ")
       (with_parts out (codes "handler tick " ∷ decimal t ∷ codes " " ∷ []) h (refl, (decimal_plain t, (refl, tt))))
-  ended_is (outcome.TaintedRead t pc addr) out h = address_is pc addr (out ++ codes "tainted tick " ++ decimal t) (with_parts out (codes "tainted tick " ∷ decimal t ∷ []) h (refl, (decimal_plain t, tt)))
-  ended_is (outcome.StackSpent t sp) out h = with_parts out (codes "stack tick " ∷ decimal t ∷ codes " sp " ∷ hex8 sp ∷ []) h (refl, (decimal_plain t, (refl, (hex8_plain sp, tt))))
+  ended_is (outcome.TaintedRead t pc addr) out h =
+      address_is pc addr (out ++ codes "tainted tick " ++ decimal t) (with_parts out (codes "tainted tick " ∷ decimal t ∷ []) h (refl, (decimal_plain t, tt)))
+  ended_is (outcome.StackSpent t sp) out h =
+      with_parts out (codes "stack tick " ∷ decimal t ∷ codes " sp " ∷ hex8 sp ∷ []) h (refl, (decimal_plain t, (refl, (hex8_plain sp, tt))))
   ended_is (outcome.OutputFull t) out h = with_parts out (codes "output tick " ∷ decimal t ∷ []) h (refl, (decimal_plain t, tt))
   ended_is outcome.OutOfTicks out h = with_parts out (codes "ticks" ∷ []) h (refl, tt)
 
@@ -129,13 +140,15 @@ module _ (P : List ℕ → Type 0) (more : (out part : List ℕ) → P out → i
   outcome_keeps None out h = with_parts out (codes "running" ∷ []) h (refl, tt)
 
 first_line : (o : Option Outcome) → is_ascii (outcome_line o) ≡ true
-first_line o = adds is_low (outcome_text o (codes "outcome ")) (codes "\n" ∷ []) (plain_is (outcome_text o (codes "outcome ")) (outcome_keeps (λ out. is_plain out ≡ true) (joined is_shown) o (codes "outcome ") refl)) (refl, tt)
+first_line o = adds is_low (outcome_text o (codes "outcome ")) (codes "\n" ∷ [])
+    (plain_is (outcome_text o (codes "outcome ")) (outcome_keeps (λ out. is_plain out ≡ true) (joined is_shown) o (codes "outcome ") refl)) (refl, tt)
 
 -- THE FURTHER LINES
 mode_is : (depth ipsr : ℕ) (out : List ℕ) → is_ascii out ≡ true → is_ascii (mode_line depth ipsr out) ≡ true
 mode_is zero ipsr out h = adds is_low out (codes "mode thread\n" ∷ []) h (refl, tt)
 mode_is (suc k) ipsr out h =
-    adds is_low out (codes "mode handler " ∷ decimal ipsr ∷ codes " depth " ∷ decimal (suc k) ∷ codes "\n" ∷ []) h (refl, (decimal_is ipsr, (refl, (decimal_is (suc k), (refl, tt)))))
+    adds is_low out (codes "mode handler " ∷ decimal ipsr ∷ codes " depth " ∷ decimal (suc k) ∷ codes "\n" ∷ []) h
+    (refl, (decimal_is ipsr, (refl, (decimal_is (suc k), (refl, tt)))))
 
 low_are : (k : ℕ) (r out : List ℕ) → is_ascii out ≡ true → is_ascii (low_lines k r out) ≡ true
 low_are zero r out h = h
@@ -156,7 +169,8 @@ pointers_are g out h =
     word_is (codes "pc") g.pc lr refl (word_is (codes "lr") g.lr sp refl (word_is (codes "sp") g.sp out refl h))
 
 position_is : (a b : ℕ) (out : List ℕ) → is_ascii out ≡ true → is_ascii (position_line a b out) ≡ true
-position_is a b out h = adds is_low out (codes "position " ∷ decimal a ∷ codes " " ∷ decimal b ∷ codes "\n" ∷ []) h (refl, (decimal_is a, (refl, (decimal_is b, (refl, tt)))))
+position_is a b out h = adds is_low out (codes "position " ∷ decimal a ∷ codes " " ∷ decimal b ∷ codes "\n" ∷ []) h
+    (refl, (decimal_is a, (refl, (decimal_is b, (refl, tt)))))
 
 flags_are : (g : Regs) (out : List ℕ) → is_ascii out ≡ true → is_ascii (flags_line g out) ≡ true
 flags_are g out h =
@@ -165,7 +179,8 @@ flags_are g out h =
 
 system_is : (g : Regs) (out : List ℕ) → is_ascii out ≡ true → is_ascii (system_line g out) ≡ true
 system_is g out h =
-    adds is_low out (codes "system " ∷ hex8 (main_of g) ∷ codes " " ∷ hex8 (process_of g) ∷ codes " " ∷ bit g.spsel ∷ codes " " ∷ hex2 g.basepri ∷ codes "\n" ∷ []) h
+    adds is_low out (codes "system " ∷ hex8 (main_of g) ∷ codes " " ∷ hex8 (process_of g) ∷ codes " " ∷ bit g.spsel ∷ codes " " ∷ hex2 g.basepri ∷ codes "\n"
+    ∷ []) h
     (refl, (hex8_is (main_of g), (refl, (hex8_is (process_of g), (refl, (bit_is g.spsel, (refl, (hex2_is g.basepri, (refl, tt)))))))))
 
 states_are : (g : Regs) (out : List ℕ) → is_ascii out ≡ true → is_ascii (state_lines g out) ≡ true
@@ -193,7 +208,8 @@ words_are k qw out h =
 vector_is : (k : ℕ) (qw out : List ℕ) → is_ascii out ≡ true → is_ascii (vector_line k qw out) ≡ true
 vector_is k qw out h =
     let name = out ++ codes "q" ++ decimal k ++ codes " " in
-    adds is_low (vector_words k qw name) (codes "\n" ∷ []) (words_are k qw name (adds is_low out (codes "q" ∷ decimal k ∷ codes " " ∷ []) h (refl, (decimal_is k, (refl, tt))))) (refl, tt)
+    adds is_low (vector_words k qw name) (codes "\n" ∷ [])
+    (words_are k qw name (adds is_low out (codes "q" ∷ decimal k ∷ codes " " ∷ []) h (refl, (decimal_is k, (refl, tt))))) (refl, tt)
 
 vectors_are : (k : ℕ) (qw out : List ℕ) → is_ascii out ≡ true → is_ascii (vector_lines k qw out) ≡ true
 vectors_are zero qw out h = h

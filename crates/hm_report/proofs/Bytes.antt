@@ -1,5 +1,6 @@
 -- Texts that are ASCII, or parts of one line, by a test of each byte: it computes over the words of a text, and leaves the numbers in it.
-use Rattle.std.proofs.Common.{◌≡◌, ℕ, zero, suc, ◌+◌, ◌/◌, ◌%◌, ◌<◌, ◌==◌, Bool, true, false, ◌&&◌, cond, nat_lt, List, [], ◌∷◌, ◌++◌, decimal, refl, arith, ◌^◌}
+use Rattle.std.proofs.Common.{◌≡◌, ℕ, zero, suc, ◌+◌, ◌/◌, ◌%◌, ◌<◌, ◌==◌, Bool, true, false, ◌&&◌, cond, nat_lt, List, [], ◌∷◌, ◌++◌, decimal, refl, arith}
+use Rattle.std.proofs.Common.{◌^◌}
 use Rattle.std.proofs.lemmas.Bool.{and_parts}
 use Rattle.std.proofs.lemmas.Bool.Decides.{nat_tests}
 use Rattle.std.proofs.lemmas.Str.Ascii.{IsAscii-cons, IsAscii-nil}
@@ -66,7 +67,16 @@ pub hex2_plain : (x : ℕ) → is_plain (hex2 x) ≡ true
 hex2_plain x = rw (figure (x / 16), figure x) refl
 
 pub hex8_plain : (x : ℕ) → is_plain (hex8 x) ≡ true
-hex8_plain x = rw (figure (x / 2 ^ 28), figure (x / 2 ^ 24), figure (x / 2 ^ 20), figure (x / 2 ^ 16), figure (x / 2 ^ 12), figure (x / 2 ^ 8), figure (x / 2 ^ 4), figure x) refl
+hex8_plain x = rw (
+  figure (x / 2 ^ 28),
+  figure (x / 2 ^ 24),
+  figure (x / 2 ^ 20),
+  figure (x / 2 ^ 16),
+  figure (x / 2 ^ 12),
+  figure (x / 2 ^ 8),
+  figure (x / 2 ^ 4),
+  figure x,
+) refl
 
 pub bit_plain : (b : Bool) → is_plain (bit b) ≡ true
 bit_plain true = refl

@@ -2,7 +2,8 @@
 
 ghost use Rattle.std.specs.Prelude.{◌≡◌, ◌++◌, IfOk};
 ghost use Rattle.hm_text_base.specs.Texts.{hex8};
-ghost use Rattle.hm_run.specs.Report.{kind_text, who_text, address_text, reason_text, register_text, word_text, place_text, slot_text, rule_text, broken_text, offence_text, ended_text, outcome_text, outcome_line};
+ghost use Rattle.hm_run.specs.Report.{kind_text, who_text, address_text, reason_text, register_text, word_text, place_text, slot_text, rule_text, broken_text};
+ghost use Rattle.hm_run.specs.Report.{offence_text, ended_text, outcome_text, outcome_line};
 
 use hm_base::{Fault, FaultKind, OutOfMemory, Place};
 use hm_exc::{Broken, Slot};

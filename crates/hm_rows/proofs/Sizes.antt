@@ -1,7 +1,8 @@
 -- No row stores elements that are longer in memory than in their register.
 use Rattle.std.proofs.Common.{◌≡◌, ℕ, zero, suc, ◌<◌, ◌≤◌, Bool, true, false, cond, ◌&&◌, nat_eq, nat_le, nat_lt, refl, arith, leb-true, ltb-true}
 use Rattle.hm_isa.specs.declared.Vector.{Vector}
-use Rattle.hm_isa.specs.declared.Vector.TheVariants.{V1, V2, V3, V4, V5, V6, V7, V8, V9, V10, V11, V12, V13, V14, V15, V16, V17, V18, V19, V20, V21, V22, V23, V24, V25, V26, V27, V28}
+use Rattle.hm_isa.specs.declared.Vector.TheVariants.{V1, V2, V3, V4, V5, V6, V7, V8, V9, V10, V11, V12, V13, V14, V15, V16, V17, V18, V19, V20, V21, V22, V23}
+use Rattle.hm_isa.specs.declared.Vector.TheVariants.{V24, V25, V26, V27, V28}
 use Rattle.hm_lane.specs.declared.lanes.Size.{Size}
 use Rattle.hm_lane.specs.declared.lanes.Size.TheVariants.{Byte, Half, Word}
 use Rattle.hm_lane_fns.specs.Words.{size_of}
@@ -67,7 +68,9 @@ are_sized (V21 r) = tt
 are_sized (V22 r) = tt
 are_sized (V23 r) = tt
 are_sized (V24 r) = λ stores. omega arith
-are_sized (V25 r) = λ stores. shorter r.h.value r.z.value r.h.in_range r.z.in_range (ltb-true r.h.value r.z.value (second _ (nat_lt r.h.value r.z.value) _ r.rule))
-are_sized (V26 r) = λ stores. size_rises r.y.value r.z.value r.y.in_range r.z.in_range (leb-true r.y.value r.z.value (second _ (nat_le r.y.value r.z.value) _ r.offsets))
+are_sized (V25 r) = λ stores. shorter r.h.value r.z.value r.h.in_range r.z.in_range
+    (ltb-true r.h.value r.z.value (second _ (nat_lt r.h.value r.z.value) _ r.rule))
+are_sized (V26 r) = λ stores. size_rises r.y.value r.z.value r.y.in_range r.z.in_range
+    (leb-true r.y.value r.z.value (second _ (nat_le r.y.value r.z.value) _ r.offsets))
 are_sized (V27 r) = λ stores. omega arith
 are_sized (V28 r) = λ stores. omega arith

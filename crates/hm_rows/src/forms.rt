@@ -4,7 +4,9 @@ ghost use Rattle.std.specs.Prelude.{◌≡◌, ◌<◌};
 ghost use Rattle.hm_forms.specs.declared.form.Form.TheVariants as form;
 ghost use Rattle.hm_isa.specs.declared.Vector.TheVariants as vector;
 ghost use Rattle.hm_isa.specs.declared.vectors.V22.TheVariants as v22;
-ghost use Rattle.hm_rows.specs.Rows.{Registers, add_fn, bitwise_fn, compare_form, constant_shift_fn, doubling_fn, high_fn, kind_of, long_form, offsets_form, one_fn, one_form, predicate_form, scalar_fn, shift_operand, shift_size, shift_unsigned, signed_fn, sum_form, vector_shift_fn};
+ghost use Rattle.hm_rows.specs.Rows.{Registers, add_fn, bitwise_fn, compare_form, constant_shift_fn, doubling_fn, high_fn, kind_of, long_form, offsets_form};
+ghost use Rattle.hm_rows.specs.Rows.{one_fn, one_form, predicate_form, scalar_fn, shift_operand, shift_size, shift_unsigned, signed_fn, sum_form};
+ghost use Rattle.hm_rows.specs.Rows.{vector_shift_fn};
 
 use hm_forms::{Comparison, Form, Lanes, LongSums, Steps, Sums, Widening};
 use hm_isa::{

@@ -1,5 +1,6 @@
 -- One step, and one tick, of a run.
-use Rattle.std.proofs.Common.{◌≡◌, suc, ◌+◌, ◌<◌, arith, ap, refl, sym, ◌∙◌, Bool, true, false, not, IsTrue, cond, List, [], ◌∷◌, length, Option, Some, None, Result, Ok, Err}
+use Rattle.std.proofs.Common.{◌≡◌, suc, ◌+◌, ◌<◌, arith, ap, refl, sym, ◌∙◌, Bool, true, false, not, IsTrue, cond, List, [], ◌∷◌, length, Option, Some, None}
+use Rattle.std.proofs.Common.{Result, Ok, Err}
 use Rattle.hm_codes.specs.Listing.{Listing}
 use Rattle.hm_base.specs.declared.Fault.{Fault}
 use Rattle.hm_isa.specs.declared.Instr.{Instr}
@@ -35,7 +36,9 @@ older_other listing around c other = ap (λ (o : Option Vector). older_of (core 
 
 -- the next beat of one that is
 pub older_vector : (listing : Listing) (around : Around) (c : Config State) (v : Vector) → vector_of (listing c.state.pc) ≡ Some v
-    → older (core listing around) c ≡ done (core listing around) c (then (begin (core listing around) v c.a c.state) ((rows around).act v c.a).run) (settle (core listing around) (suc c.a) c.b c.n (suc c.steps))
+    → older (core listing around) c
+    ≡ done (core listing around) c (then (begin (core listing around) v c.a c.state) ((rows around).act v c.a).run)
+    (settle (core listing around) (suc c.a) c.b c.n (suc c.steps))
 older_vector listing around c v row = ap (λ (o : Option Vector). older_of (core listing around) o c) row
 
 -- INSTRUCTIONS THAT ARE NO VECTOR ROWS
@@ -93,7 +96,8 @@ next_ended M (line ∷ left) x o e = ap (λ (q : Option Outcome). closed left (t
 -- a tick whose letters are done, at a position where it may end
 pub ends_well : (M : Program) (line : TickLine) (left : List TickLine) (x : Timed) (c : Config State)
     → x.outcome ≡ None → letter_steps M 0 line.letters x.config ≡ Ok c → may_end c.a c.b ≡ true
-    → next M (line ∷ left) x ≡ closed left (record { outcome = None; config = record c { state = with_devices (counted_with line.irq) c.state }; acts = x.acts; ticks = x.ticks + 1 })
+    → next M (line ∷ left) x ≡ closed left
+    (record { outcome = None; config = record c { state = with_devices (counted_with line.irq) c.state }; acts = x.acts; ticks = x.ticks + 1 })
 ends_well M line left x c none e judged =
     let y : Timed = record { outcome = None; config = c; acts = x.acts; ticks = x.ticks + 1 } in
     let there : Timed = record y { config = record c { state = with_devices (counted_with line.irq) c.state } } in
@@ -103,7 +107,8 @@ ends_well M line left x c none e judged =
 -- and at one where it may not
 pub ends_badly : (M : Program) (line : TickLine) (left : List TickLine) (x : Timed) (c : Config State)
     → x.outcome ≡ None → letter_steps M 0 line.letters x.config ≡ Ok c → may_end c.a c.b ≡ false
-    → record { outcome = Some (outcome.RuleBroken (x.ticks + 1) (length line.letters) (rule.Ending c.a c.b)); config = c; acts = x.acts; ticks = x.ticks + 1 } ≡ next M (line ∷ left) x
+    → record { outcome = Some (outcome.RuleBroken (x.ticks + 1) (length line.letters) (rule.Ending c.a c.b)); config = c; acts = x.acts; ticks = x.ticks + 1 }
+    ≡ next M (line ∷ left) x
 ends_badly M line left x c none e judged =
     let y : Timed = record { outcome = None; config = c; acts = x.acts; ticks = x.ticks + 1 } in
     let there : Timed = record y { config = record c { state = with_devices (counted_with line.irq) c.state } } in

@@ -156,7 +156,8 @@ bit_line name b out = out ++ name ++ codes " " ++ bit b ++ codes "\n"
 
 -- the line of the main and the process stack pointer, SPSEL and BASEPRI
 abbrev pub system_line : Regs → List ℕ → List ℕ
-system_line g out = out ++ codes "system " ++ hex8 (main_of g) ++ codes " " ++ hex8 (process_of g) ++ codes " " ++ bit g.spsel ++ codes " " ++ hex2 g.basepri ++ codes "\n"
+system_line g out = out ++ codes "system " ++ hex8 (main_of g) ++ codes " " ++ hex8 (process_of g) ++ codes " " ++ bit g.spsel ++ codes " " ++ hex2 g.basepri
+    ++ codes "\n"
 
 -- the lines of the IT byte, FPSCR, VPR, FPCA and PRIMASK
 abbrev pub state_lines : Regs → List ℕ → List ℕ

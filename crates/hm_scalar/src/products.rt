@@ -1,7 +1,8 @@
 //! Products and quotients.
 
 ghost use Rattle.std.specs.Prelude.{◌≡◌, ℕ, ◌<◌, ◌≤◌, ◌^◌};
-ghost use Rattle.hm_thumb.specs.ArithRows.{accumulate_row, accumulated, long_result, long_row, magnitude, operated, operation_row, put_long, signed_product, signed_quotient, t11};
+ghost use Rattle.hm_thumb.specs.ArithRows.{accumulate_row, accumulated, long_result, long_row, magnitude, operated, operation_row, put_long, signed_product};
+ghost use Rattle.hm_thumb.specs.ArithRows.{signed_quotient, t11};
 
 use hm_base::Place;
 use hm_isa::words::{SIGN, extended};

@@ -1,5 +1,6 @@
 -- What is printed is a schedule file of the schedule.
-use Rattle.std.proofs.Common.{◌≡◌, ℕ, zero, suc, ◌+◌, ◌-◌, ◌*◌, ◌/◌, ◌%◌, ◌^◌, ◌<◌, ◌≤◌, ◌≢◌, true, false, cond, eqb, List, [], ◌∷◌, ◌++◌, map, Some, None, refl, sym, ap, ◌∙◌, arith, append_assoc, add-one, inl, inr}
+use Rattle.std.proofs.Common.{◌≡◌, ℕ, zero, suc, ◌+◌, ◌-◌, ◌*◌, ◌/◌, ◌%◌, ◌^◌, ◌<◌, ◌≤◌, ◌≢◌, true, false, cond, eqb, List, [], ◌∷◌, ◌++◌, map, Some, None}
+use Rattle.std.proofs.Common.{refl, sym, ap, ◌∙◌, arith, append_assoc, add-one, inl, inr}
 use Rattle.std.specs.Prelude.{codes, decimal, IfSome, unwrap_or}
 use Rattle.std.proofs.lemmas.List.Elements.{All-head, All-tail}
 use Rattle.std.specs.List.{All, AllByRecursion, flat_map, join_with_byte}
@@ -75,7 +76,8 @@ ones_rise (suc f) most k least bits le fits =
 
 -- ---- a line
 
-printed_count : (count : ℕ) → 1 ≤ count → count < 10 ^ 8 → IfSome (cond (eqb count 1) None (Some count)) (λ n. (1 ≤ n) × (n < 10 ^ 8)) × (count ≡ unwrap_or (cond (eqb count 1) None (Some count)) 1)
+printed_count : (count : ℕ) → 1 ≤ count → count < 10 ^ 8
+    → IfSome (cond (eqb count 1) None (Some count)) (λ n. (1 ≤ n) × (n < 10 ^ 8)) × (count ≡ unwrap_or (cond (eqb count 1) None (Some count)) 1)
 printed_count count le lt =
     elim (cases_Bool (eqb count 1)) [
       | inl e ↦ rw e (tt, eqb-true _ _ e)
@@ -97,13 +99,20 @@ words_below t most few fits =
 pub printed_fits : (most : ℕ) (t : TickLine) → most ≤ 256 → IsLine most t → t.count < 10 ^ 8 → IsWritten most (printed t) × (t ≡ meaning (printed t))
 printed_fits most t few fits lt =
     let c = printed_count t.count fits.some lt in
-    let n : bits_of (ones_from 256 0 (number_of t.irq)) ≡ number_of t.irq = bits_of-ones 256 0 (number_of t.irq) (words_below t most few fits) ∙ (omega arith) in
+    let n : bits_of (ones_from 256 0 (number_of t.irq)) ≡ number_of t.irq = bits_of-ones 256 0 (number_of t.irq) (words_below t most few fits)
+    ∙ (omega arith) in
     let b : t.irq ≡ words_of 8 (bits_of (ones_from 256 0 (number_of t.irq))) = sym (words-back 8 t.irq fits.eight fits.each_word) ∙ ap (words_of 8) (sym n) in (
-      record { count = c.0; few = fits.few; each_letter = fits.each_letter; numbers = ones_rise 256 most 0 0 (number_of t.irq) (omega arith) (omega (arith, fits.interrupts)) },
+      record {
+        count = c.0;
+        few = fits.few;
+        each_letter = fits.each_letter;
+        numbers = ones_rise 256 most 0 0 (number_of t.irq) (omega arith) (omega (arith, fits.interrupts));
+      },
       same_tick t (unwrap_or (printed t).count 1) (words_of 8 (bits_of (ones_from 256 0 (number_of t.irq)))) c.1 b,
     )
 
-all_fit : (most : ℕ) (ts : List TickLine) → most ≤ 256 → All (IsLine most) ts → total ts ≤ most_ticks → AllByRecursion (IsWritten most) (map printed ts) × (ts ≡ map meaning (map printed ts))
+all_fit : (most : ℕ) (ts : List TickLine) → most ≤ 256 → All (IsLine most) ts → total ts ≤ most_ticks
+    → AllByRecursion (IsWritten most) (map printed ts) × (ts ≡ map meaning (map printed ts))
 all_fit most [] few fits le = (tt, refl)
 all_fit most (t ∷ ts) few fits le =
     let sum = total-cons t ts in
@@ -117,8 +126,15 @@ texts_same (t ∷ ts) = ap (λ (x : List (List ℕ)). ticks_text (printed t) ∷
 
 pub IsFile-file_text : (s : Sched) → IsSched s → IsFile (file_text s) s
 IsFile-file_text s sound =
-    let all = all_fit (most_irq s.format) s.lines (most_irq_few s.format) sound.each_line sound.not_too_many in
-    (map printed s.lines, record { bytes_are = ap (λ (x : List (List ℕ)). flat_map line (head_lines s ++ x)) (texts_same s.lines); each_fits = all.0; lines_are = all.1; sound = sound })
+    let all = all_fit (most_irq s.format) s.lines (most_irq_few s.format) sound.each_line sound.not_too_many in (
+      map printed s.lines,
+      record {
+        bytes_are = ap (λ (x : List (List ℕ)). flat_map line (head_lines s ++ x)) (texts_same s.lines);
+        each_fits = all.0;
+        lines_are = all.1;
+        sound = sound;
+      },
+    )
 
 -- ---- the head
 
@@ -149,32 +165,39 @@ none_printed number = div-one number
 rest_of : (number k : ℕ) → number / 2 ^ (k + 1) ≡ number / 2 ^ k / 2
 rest_of number k = ap (λ (x : ℕ). number / x) (rw (add-one, pow-suc) refl) ∙ sym (div-div-eq-div-mul number (2 ^ k) 2)
 
-pub ones_step : (out : List ℕ) (k number : ℕ) (whole : List ℕ) → k < 256 → eqb (number / 2 ^ k % 2) 1 ≡ true → out ++ flat_map spaced (ones_from (256 - k) k (number / 2 ^ k)) ≡ whole
+pub ones_step : (out : List ℕ) (k number : ℕ) (whole : List ℕ) → k < 256 → eqb (number / 2 ^ k % 2) 1 ≡ true
+    → out ++ flat_map spaced (ones_from (256 - k) k (number / 2 ^ k)) ≡ whole
     → ((out ++ 32 ∷ []) ++ decimal k) ++ flat_map spaced (ones_from (256 - (k + 1)) (k + 1) (number / 2 ^ (k + 1))) ≡ whole
 unfolding ones_from
 ones_step out k number whole lt e so_far =
     let f : 256 - k ≡ suc (256 - (k + 1)) = omega arith in
-    let one : out ++ flat_map spaced (ones_from (256 - k) k (number / 2 ^ k)) ≡ out ++ flat_map spaced (k ∷ ones_from (256 - (k + 1)) (k + 1) (number / 2 ^ k / 2)) = rw (f, e) refl in
+    let one : out ++ flat_map spaced (ones_from (256 - k) k (number / 2 ^ k))
+    ≡ out ++ flat_map spaced (k ∷ ones_from (256 - (k + 1)) (k + 1) (number / 2 ^ k / 2)) = rw (f, e) refl in
     rw (rest_of number k) (grouped out k (flat_map spaced (ones_from (256 - (k + 1)) (k + 1) (number / 2 ^ k / 2))) ∙ sym one ∙ so_far)
 
-pub zeros_step : (out : List ℕ) (k number : ℕ) (whole : List ℕ) → k < 256 → eqb (number / 2 ^ k % 2) 1 ≡ false → out ++ flat_map spaced (ones_from (256 - k) k (number / 2 ^ k)) ≡ whole
+pub zeros_step : (out : List ℕ) (k number : ℕ) (whole : List ℕ) → k < 256 → eqb (number / 2 ^ k % 2) 1 ≡ false
+    → out ++ flat_map spaced (ones_from (256 - k) k (number / 2 ^ k)) ≡ whole
     → out ++ flat_map spaced (ones_from (256 - (k + 1)) (k + 1) (number / 2 ^ (k + 1))) ≡ whole
 unfolding ones_from
 zeros_step out k number whole lt e so_far =
     let f : 256 - k ≡ suc (256 - (k + 1)) = omega arith in
-    let one : out ++ flat_map spaced (ones_from (256 - k) k (number / 2 ^ k)) ≡ out ++ flat_map spaced (ones_from (256 - (k + 1)) (k + 1) (number / 2 ^ k / 2)) = rw (f, e) refl in
+    let one : out ++ flat_map spaced (ones_from (256 - k) k (number / 2 ^ k))
+    ≡ out ++ flat_map spaced (ones_from (256 - (k + 1)) (k + 1) (number / 2 ^ k / 2)) = rw (f, e) refl in
     rw (rest_of number k) (sym one ∙ so_far)
 
 spaced_some : (irq : ℕ) (ns : List ℕ) → ones_from 256 0 irq ≡ ns → irq ≢ 0 → irq < 2 ^ 256 → irq_text ns ≡ codes " irq" ++ flat_map spaced ns
 spaced_some irq [] e some lt = absurd (some (omega (arith, bits_of-ones 256 0 irq lt, ap bits_of e)))
 spaced_some irq (n ∷ ns) e some lt = irq_spaced n ns
 
-pub irq_done : (out out_then : List ℕ) (irq bits k : ℕ) → irq ≢ 0 → irq < 2 ^ 256 → 256 ≤ k → out_then ++ flat_map spaced (ones_from (256 - k) k bits) ≡ (out ++ codes " irq") ++ flat_map spaced (ones_from 256 0 irq) → out_then ≡ out ++ irq_text (ones_from 256 0 irq)
+pub irq_done : (out out_then : List ℕ) (irq bits k : ℕ) → irq ≢ 0 → irq < 2 ^ 256 → 256 ≤ k
+    → out_then ++ flat_map spaced (ones_from (256 - k) k bits) ≡ (out ++ codes " irq") ++ flat_map spaced (ones_from 256 0 irq)
+    → out_then ≡ out ++ irq_text (ones_from 256 0 irq)
 unfolding ones_from
 irq_done out out_then irq bits k some lt le so_far =
     let f : 256 - k ≡ 0 = omega arith in
     let e : out_then ++ flat_map spaced (ones_from (256 - k) k bits) ≡ out_then = rw f (append-nil out_then) in
-    sym e ∙ so_far ∙ append_assoc out (codes " irq") (flat_map spaced (ones_from 256 0 irq)) ∙ ap (λ (x : List ℕ). out ++ x) (sym (spaced_some irq (ones_from 256 0 irq) refl some lt))
+    sym e ∙ so_far ∙ append_assoc out (codes " irq") (flat_map spaced (ones_from 256 0 irq))
+    ∙ ap (λ (x : List ℕ). out ++ x) (sym (spaced_some irq (ones_from 256 0 irq) refl some lt))
 
 pub no_irq : (out : List ℕ) (irq : ℕ) → irq ≡ 0 → out ≡ out ++ irq_text (ones_from 256 0 irq)
 unfolding ones_from

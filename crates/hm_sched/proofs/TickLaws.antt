@@ -1,5 +1,6 @@
 -- A line of ticks that is read is written so, and what is written so is read.
-use Rattle.std.proofs.Common.{◌≡◌, ◌≢◌, ℕ, zero, suc, ◌+◌, ◌*◌, ◌^◌, ◌<◌, ◌≤◌, Bool, true, false, cond, eqb, ltb, leb, List, [], ◌∷◌, ◌++◌, map, drop, length, Option, Some, None, Ok, refl, sym, ap, subst, ◌∙◌, arith, append_assoc, add-one}
+use Rattle.std.proofs.Common.{◌≡◌, ◌≢◌, ℕ, zero, suc, ◌+◌, ◌*◌, ◌^◌, ◌<◌, ◌≤◌, Bool, true, false, cond, eqb, ltb, leb, List, [], ◌∷◌, ◌++◌, map, drop, length}
+use Rattle.std.proofs.Common.{Option, Some, None, Ok, refl, sym, ap, subst, ◌∙◌, arith, append_assoc, add-one}
 use Rattle.std.specs.Prelude.{ok_or, unwrap_or, decimal, codes, IfSome, ◌==◌, ◌||◌, not, bytes_eq, nat_eq}
 use Rattle.std.proofs.Math.Nat.{pow-le-pow_right, pow-suc}
 use Rattle.std.proofs.lemmas.List.Elements.{All-nil, All-cons, All-head, All-tail}
@@ -104,7 +105,8 @@ count_found : (text : List ℕ) (x : ℕ × List ℕ) → count_in text ≡ Ok x
 unfolding count_in
 count_found text x e = counted_found text (span 42 text) x (span_parts 42 text) (span_first 42 text) e
 
-count_again : (count : Option ℕ) (rest : List ℕ) → IfSome count (λ n. (1 ≤ n) × (n < 10 ^ 8)) → Lacks 42 rest → count_in (count_text count ++ rest) ≡ Ok (unwrap_or count 1, rest)
+count_again : (count : Option ℕ) (rest : List ℕ) → IfSome count (λ n. (1 ≤ n) × (n < 10 ^ 8)) → Lacks 42 rest
+    → count_in (count_text count ++ rest) ≡ Ok (unwrap_or count 1, rest)
 unfolding count_in
 count_again None rest fits lacks = rw (span_all 42 rest lacks) refl
 count_again (Some n) rest fits lacks =
@@ -115,16 +117,20 @@ count_again (Some n) rest fits lacks =
 
 -- ---- the steps
 
-steps_plain : (text letters : List ℕ) → cond (eqb (length text) 0 || (ltb 8 (length text) || not (list_all is_letter text))) None (Some text) ≡ Some letters → (length letters ≤ 8) × (list_all is_letter letters ≡ true) × (text ≡ steps_text letters)
+steps_plain : (text letters : List ℕ) → cond (eqb (length text) 0 || (ltb 8 (length text) || not (list_all is_letter text))) None (Some text) ≡ Some letters
+    → (length letters ≤ 8) × (list_all is_letter letters ≡ true) × (text ≡ steps_text letters)
 steps_plain [] letters e = absurd cc
 steps_plain (c ∷ text) letters e =
     let g = guard_some (eqb (length (c ∷ text)) 0 || (ltb 8 (length (c ∷ text)) || not (list_all is_letter (c ∷ text)))) (Some (c ∷ text)) letters e in
     let t = or_parts (eqb (length (c ∷ text)) 0) (ltb 8 (length (c ∷ text)) || not (list_all is_letter (c ∷ text))) g.0 in
     let u = or_parts (ltb 8 (length (c ∷ text))) (not (list_all is_letter (c ∷ text))) t.1 in
     let same : c ∷ text ≡ letters = some_is (c ∷ text) letters g.1 in
-    subst (λ (x : List ℕ). (length x ≤ 8) × (list_all is_letter x ≡ true) × (c ∷ text ≡ steps_text x)) same (ltb-false 8 (length (c ∷ text)) u.0, not-false (list_all is_letter (c ∷ text)) u.1, refl)
+    subst (λ (x : List ℕ). (length x ≤ 8) × (list_all is_letter x ≡ true) × (c ∷ text ≡ steps_text x)) same
+    (ltb-false 8 (length (c ∷ text)) u.0, not-false (list_all is_letter (c ∷ text)) u.1, refl)
 
-steps_cases : (text letters : List ℕ) (dash : Bool) → (dash ≡ true → text ≡ codes "-") → cond dash (Some []) (cond (eqb (length text) 0 || (ltb 8 (length text) || not (list_all is_letter text))) None (Some text)) ≡ Some letters → (length letters ≤ 8) × (list_all is_letter letters ≡ true) × (text ≡ steps_text letters)
+steps_cases : (text letters : List ℕ) (dash : Bool) → (dash ≡ true → text ≡ codes "-")
+    → cond dash (Some []) (cond (eqb (length text) 0 || (ltb 8 (length text) || not (list_all is_letter text))) None (Some text)) ≡ Some letters
+    → (length letters ≤ 8) × (list_all is_letter letters ≡ true) × (text ≡ steps_text letters)
 steps_cases text letters true is e =
     subst (λ (x : List ℕ). (length x ≤ 8) × (list_all is_letter x ≡ true) × (text ≡ steps_text x)) (some_is [] letters e) (omega arith, refl, is refl)
 steps_cases text letters false is e = steps_plain text letters e
@@ -145,11 +151,13 @@ steps_again (c ∷ letters) short all =
 
 -- ---- the interrupts
 
-numbers_made : (word : List ℕ) (words : List (List ℕ)) (most least bits total n : ℕ) (ns : List ℕ) → word ≡ decimal n → least ≤ n → n < most → IsRising most (n + 1) ns → words ≡ map decimal ns → total ≡ bits + 2 ^ n + bits_of ns
+numbers_made : (word : List ℕ) (words : List (List ℕ)) (most least bits total n : ℕ) (ns : List ℕ) → word ≡ decimal n → least ≤ n → n < most
+    → IsRising most (n + 1) ns → words ≡ map decimal ns → total ≡ bits + 2 ^ n + bits_of ns
     → (ms : List ℕ) × IsRising most least ms × (word ∷ words ≡ map decimal ms) × (total ≡ bits + bits_of ms)
 numbers_made word words most least bits total n ns is low high rising are value = (n ∷ ns, (low, high, rising), rw (is, are) refl, omega (arith, value))
 
-numbers_found : (words : List (List ℕ)) (most least bits total : ℕ) → numbers_in most least bits words ≡ Some total → (ns : List ℕ) × IsRising most least ns × (words ≡ map decimal ns) × (total ≡ bits + bits_of ns)
+numbers_found : (words : List (List ℕ)) (most least bits total : ℕ) → numbers_in most least bits words ≡ Some total
+    → (ns : List ℕ) × IsRising most least ns × (words ≡ map decimal ns) × (total ≡ bits + bits_of ns)
 unfolding numbers_in
 numbers_found [] most least bits total e = ([], tt, refl, omega (arith, some_is bits total e))
 numbers_found (word ∷ words) most least bits total e =
@@ -160,7 +168,8 @@ numbers_found (word ∷ words) most least bits total e =
     let more = numbers_found words most (a.0 + 1) (bits + 2 ^ a.0) total g.1 in
     numbers_made word words most least bits total a.0 more.0 n.0 (ltb-false a.0 least t.0) (leb-false most a.0 t.1) more.1 more.2 more.3
 
-numbers_again : (ns : List ℕ) (most least bits : ℕ) → most ≤ 256 → IsRising most least ns → numbers_in most least bits (map decimal ns) ≡ Some (bits + bits_of ns)
+numbers_again : (ns : List ℕ) (most least bits : ℕ) → most ≤ 256 → IsRising most least ns
+    → numbers_in most least bits (map decimal ns) ≡ Some (bits + bits_of ns)
 unfolding numbers_in
 numbers_again [] most least bits few rising = ap (λ (x : ℕ). Some x) (omega arith)
 numbers_again (n ∷ ns) most least bits few rising =
@@ -169,11 +178,15 @@ numbers_again (n ∷ ns) most least bits few rising =
     let sum : bits + 2 ^ n + bits_of ns ≡ bits + (2 ^ n + bits_of ns) = omega arith in
     rw (number_again n (omega (arith, rising.1)), low, high) (numbers_again ns most (n + 1) (bits + 2 ^ n) few rising.2 ∙ ap (λ (x : ℕ). Some x) sum)
 
-irq_made : (most : ℕ) (text : List ℕ) (bits : ℕ) (rest ns : List ℕ) → IsRising most 0 ns → text ≡ codes " irq " ++ rest → rest ≡ join_with_byte 32 (map decimal ns) → (ns ≡ [] → ⊥) → bits ≡ 0 + bits_of ns → (ns : List ℕ) × IsRising most 0 ns × (text ≡ irq_text ns) × (bits ≡ bits_of ns)
+irq_made : (most : ℕ) (text : List ℕ) (bits : ℕ) (rest ns : List ℕ) → IsRising most 0 ns → text ≡ codes " irq " ++ rest
+    → rest ≡ join_with_byte 32 (map decimal ns) → (ns ≡ [] → ⊥) → bits ≡ 0 + bits_of ns
+    → (ns : List ℕ) × IsRising most 0 ns × (text ≡ irq_text ns) × (bits ≡ bits_of ns)
 irq_made most text bits rest [] rising front joined some value = absurd (some refl)
-irq_made most text bits rest (n ∷ ns) rising front joined some value = (n ∷ ns, rising, front ∙ ap (λ (x : List ℕ). codes " irq " ++ x) joined, omega (arith, value))
+irq_made most text bits rest (n ∷ ns) rising front joined some value =
+    (n ∷ ns, rising, front ∙ ap (λ (x : List ℕ). codes " irq " ++ x) joined, omega (arith, value))
 
-irq_found : (most : ℕ) (text : List ℕ) (bits : ℕ) → irq_in most text ≡ Some bits → (ns : List ℕ) × IsRising most 0 ns × (text ≡ irq_text ns) × (bits ≡ bits_of ns)
+irq_found : (most : ℕ) (text : List ℕ) (bits : ℕ) → irq_in most text ≡ Some bits
+    → (ns : List ℕ) × IsRising most 0 ns × (text ≡ irq_text ns) × (bits ≡ bits_of ns)
 unfolding irq_in
 irq_found most [] bits e = ([], tt, refl, sym (some_is 0 bits e))
 irq_found most (b ∷ text) bits e =
@@ -183,14 +196,16 @@ irq_found most (b ∷ text) bits e =
     let n = numbers_found (slice_split (λ x. x == 32) (drop 4 text)) most 0 0 bits a.1 in
     let joined = join_with_byte-slice_split 32 (drop 4 text) in
     let first = split_span 32 (drop 4 text) in
-    irq_made most (b ∷ text) bits (drop 4 text) n.0 n.1 front (sym joined ∙ ap (λ (x : List (List ℕ)). join_with_byte 32 x) n.2) (λ none. absurd (omega (arith, ap length (sym first ∙ n.2 ∙ ap (λ (x : List ℕ). map decimal x) none)))) n.3
+    irq_made most (b ∷ text) bits (drop 4 text) n.0 n.1 front (sym joined ∙ ap (λ (x : List (List ℕ)). join_with_byte 32 x) n.2)
+    (λ none. absurd (omega (arith, ap length (sym first ∙ n.2 ∙ ap (λ (x : List ℕ). map decimal x) none)))) n.3
 
 irq_again : (most : ℕ) (ns : List ℕ) → most ≤ 256 → IsRising most 0 ns → irq_in most (irq_text ns) ≡ Some (bits_of ns)
 unfolding irq_in
 irq_again most [] few rising = refl
 irq_again most (n ∷ ns) few rising =
     let some : eqb (length (irq_text (n ∷ ns))) 0 ≡ false = ne_eqb _ _ (λ is. omega arith) in
-    rw (some, split_join 32 (decimal n) (map decimal ns) (words_lack most 32 0 (n ∷ ns) few (omega arith) rising)) (numbers_again (n ∷ ns) most 0 0 few rising ∙ ap (λ (x : ℕ). Some x) (omega arith))
+    rw (some, split_join 32 (decimal n) (map decimal ns) (words_lack most 32 0 (n ∷ ns) few (omega arith) rising))
+    (numbers_again (n ∷ ns) most 0 0 few rising ∙ ap (λ (x : ℕ). Some x) (omega arith))
 
 -- ---- the line
 
@@ -202,30 +217,48 @@ cut_steps letters (n ∷ ns) all = span_at 32 (steps_text letters) (drop 1 (irq_
 abbrev pub IsTicks : ℕ → List ℕ → TickLine → Type 0
 IsTicks most text t = (w : Written) × IsWritten most w × (text ≡ ticks_text w) × (t ≡ meaning w)
 
-tick_made : (most : ℕ) (text : List ℕ) (x : ℕ × List ℕ) (steps irqs letters : List ℕ) (bits : ℕ) (t : TickLine) → Counts text x → length letters ≤ 8 → list_all is_letter letters ≡ true → steps ≡ steps_text letters
-    → (ns : List ℕ) × IsRising most 0 ns × (irqs ≡ irq_text ns) × (bits ≡ bits_of ns) → steps ++ irqs ≡ x.1 → record { count = x.0; letters = letters; irq = words_of 8 bits } ≡ t → IsTicks most text t
+tick_made : (most : ℕ) (text : List ℕ) (x : ℕ × List ℕ) (steps irqs letters : List ℕ) (bits : ℕ) (t : TickLine) → Counts text x → length letters ≤ 8
+    → list_all is_letter letters ≡ true → steps ≡ steps_text letters
+    → (ns : List ℕ) × IsRising most 0 ns × (irqs ≡ irq_text ns) × (bits ≡ bits_of ns) → steps ++ irqs ≡ x.1
+    → record { count = x.0; letters = letters; irq = words_of 8 bits } ≡ t → IsTicks most text t
 tick_made most text x steps irqs letters bits t c short all is i cut made =
     let w : Written = record { count = c.count; letters = letters; numbers = i.0 } in
-    let parts : x.1 ≡ steps_text letters ++ irq_text i.0 = sym cut ∙ rw (is, i.2) refl in
-    (w, record { count = c.fits; few = short; each_letter = letters_are letters all; numbers = i.1 }, c.parts ∙ ap (λ (r : List ℕ). count_text c.count ++ r) parts, sym made ∙ rw (c.value, i.3) refl)
+    let parts : x.1 ≡ steps_text letters ++ irq_text i.0 = sym cut ∙ rw (is, i.2) refl in (
+      w,
+      record { count = c.fits; few = short; each_letter = letters_are letters all; numbers = i.1 },
+      c.parts
+          ∙ ap (λ (r : List ℕ). count_text c.count ++ r) parts,
+      sym made ∙ rw (c.value, i.3) refl,
+    )
 
 pub ticks_found : (most : ℕ) (text : List ℕ) (t : TickLine) → ticks_in most text ≡ Ok t → IsTicks most text t
 unfolding ticks_in
 ticks_found most text t e =
-    let a = bind_ok (count_in text) (λ c. ok_or (steps_in (span 32 c.1).0) Steps >>= λ s. ok_or (irq_in most (span 32 c.1).1) Irq >>= λ i. Ok (record { count = c.0; letters = s; irq = words_of 8 i })) t e in
-    let b = bind_ok (ok_or (steps_in (span 32 a.0.1).0) Steps) (λ s. ok_or (irq_in most (span 32 a.0.1).1) Irq >>= λ i. Ok (record { count = a.0.0; letters = s; irq = words_of 8 i })) t a.2 in
+    let a = bind_ok (count_in text)
+    (λ c. ok_or (steps_in (span 32 c.1).0) Steps >>= λ s. ok_or (irq_in most (span 32 c.1).1) Irq >>= λ i. Ok
+    (record { count = c.0; letters = s; irq = words_of 8 i })) t e in
+    let b = bind_ok (ok_or (steps_in (span 32 a.0.1).0) Steps)
+    (λ s. ok_or (irq_in most (span 32 a.0.1).1) Irq >>= λ i. Ok (record { count = a.0.0; letters = s; irq = words_of 8 i })) t a.2 in
     let d = bind_ok (ok_or (irq_in most (span 32 a.0.1).1) Irq) (λ i. Ok (record { count = a.0.0; letters = b.0; irq = words_of 8 i })) t b.2 in
     let c = count_found text a.0 a.1 in
     let s = steps_found (span 32 a.0.1).0 b.0 (ok_or_found (steps_in (span 32 a.0.1).0) Steps b.0 b.1) in
     let i = irq_found most (span 32 a.0.1).1 d.0 (ok_or_found (irq_in most (span 32 a.0.1).1) Irq d.0 d.1) in
-    tick_made most text a.0 (span 32 a.0.1).0 (span 32 a.0.1).1 b.0 d.0 t c s.0 s.1 s.2 i (span_parts 32 a.0.1) (ok_is (record { count = a.0.0; letters = b.0; irq = words_of 8 d.0 }) t d.2)
+    tick_made most text a.0 (span 32 a.0.1).0 (span 32 a.0.1).1 b.0 d.0 t c s.0 s.1 s.2 i (span_parts 32 a.0.1)
+    (ok_is (record { count = a.0.0; letters = b.0; irq = words_of 8 d.0 }) t d.2)
 
 pub ticks_again : (most : ℕ) (w : Written) → most ≤ 256 → IsWritten most w → ticks_in most (ticks_text w) ≡ Ok (meaning w)
 unfolding ticks_in
 ticks_again most w few fits =
     let rest = steps_text w.letters ++ irq_text w.numbers in
-    let lacks : Lacks 42 (steps_text w.letters ++ irq_text w.numbers) = Lacks_append 42 (steps_text w.letters) (irq_text w.numbers) (steps_lack 42 w.letters (omega arith) (letters_again w.letters fits.each_letter)) (irq_lacks most 42 w.numbers few (omega arith) (λ is. omega arith) fits.numbers) in
-    rw (count_again w.count (steps_text w.letters ++ irq_text w.numbers) fits.count lacks, cut_steps w.letters w.numbers (letters_again w.letters fits.each_letter), steps_again w.letters fits.few (letters_again w.letters fits.each_letter), irq_again most w.numbers few fits.numbers) refl
+    let lacks : Lacks 42 (steps_text w.letters ++ irq_text w.numbers) =
+    Lacks_append 42 (steps_text w.letters) (irq_text w.numbers) (steps_lack 42 w.letters (omega arith) (letters_again w.letters fits.each_letter))
+    (irq_lacks most 42 w.numbers few (omega arith) (λ is. omega arith) fits.numbers) in
+    rw (
+      count_again w.count (steps_text w.letters ++ irq_text w.numbers) fits.count lacks,
+      cut_steps w.letters w.numbers (letters_again w.letters fits.each_letter),
+      steps_again w.letters fits.few (letters_again w.letters fits.each_letter),
+      irq_again most w.numbers few fits.numbers,
+    ) refl
 
 -- ---- what a line of ticks is
 
@@ -238,7 +271,8 @@ pub ticks_lack : (most : ℕ) (w : Written) → most ≤ 256 → IsWritten most 
 ticks_lack most w few fits =
     let steps = steps_lack 10 w.letters (omega arith) (letters_again w.letters fits.each_letter) in
     let numbers = irq_lacks most 10 w.numbers few (omega arith) (λ is. omega arith) fits.numbers in
-    Lacks_append 10 (count_text w.count) (steps_text w.letters ++ irq_text w.numbers) (count_lacks w.count fits.count) (Lacks_append 10 (steps_text w.letters) (irq_text w.numbers) steps numbers)
+    Lacks_append 10 (count_text w.count) (steps_text w.letters ++ irq_text w.numbers) (count_lacks w.count fits.count)
+    (Lacks_append 10 (steps_text w.letters) (irq_text w.numbers) steps numbers)
 
 rising_below : (most least : ℕ) (ns : List ℕ) → least ≤ most → IsRising most least ns → bits_of ns + 2 ^ least ≤ 2 ^ most
 rising_below most least [] le rising =
@@ -281,4 +315,5 @@ pub record MayAdd (most : ℕ) (t : TickLine) : Type 0 where
 pub MayAdd-ticks : (most : ℕ) (text : List ℕ) (t : TickLine) → most ≤ 256 → ticks_in most text ≡ Ok t → MayAdd most t
 MayAdd-ticks most text t few e =
     let found = ticks_found most text t e in
-    subst (MayAdd most) (sym found.3) record { line = IsLine-meaning most found.0 few found.1; eight_digits = omega (arith, (counts found.0.count found.1.count).1) }
+    subst (MayAdd most) (sym found.3) record
+    { line = IsLine-meaning most found.0 few found.1; eight_digits = omega (arith, (counts found.0.count found.1.count).1) }

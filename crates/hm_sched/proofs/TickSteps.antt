@@ -1,5 +1,6 @@
 -- Reading the numbers of interrupts one after the other.
-use Rattle.std.proofs.Common.{◌≡◌, ℕ, ◌+◌, ◌^◌, ◌<◌, ◌≤◌, false, ltb, leb, List, [], ◌∷◌, length, take, drop, ◌-◌, Some, None, refl, sym, ap, ◌∙◌, arith, add-one}
+use Rattle.std.proofs.Common.{◌≡◌, ℕ, ◌+◌, ◌^◌, ◌<◌, ◌≤◌, false, ltb, leb, List, [], ◌∷◌, length, take, drop, ◌-◌, Some, None, refl, sym, ap, ◌∙◌, arith}
+use Rattle.std.proofs.Common.{add-one}
 use Rattle.std.specs.Prelude.{◌==◌, ◌||◌, nat_lt, nat_le, if◌then◌else◌, option_and_then}
 use Rattle.std.specs.List.{slice_split}
 use Rattle.std.proofs.Math.Nat.{pow-le-pow_right, pow-suc}
@@ -11,7 +12,8 @@ use Rattle.hm_sched.specs.ReadLine.{numbers_in}
 use Rattle.hm_text_base.proofs.SpanLaws.{split_span, parts_from}
 
 pub numbers_split : (most least bits : ℕ) (words : List ℕ) → numbers_in most least bits (slice_split (λ b. b == 32) words)
-    ≡ option_and_then (λ n. if nat_lt n least || nat_le most n then None else numbers_in most (n + 1) (bits + 2 ^ n) (parts_from 32 (span 32 words).1)) (number_in (span 32 words).0)
+    ≡ option_and_then (λ n. if nat_lt n least || nat_le most n then None else numbers_in most (n + 1) (bits + 2 ^ n) (parts_from 32 (span 32 words).1))
+    (number_in (span 32 words).0)
 unfolding numbers_in
 numbers_split most least bits words = rw (split_span 32 words) refl
 
@@ -42,11 +44,16 @@ numbers_next most least bits n words word from parts is low high =
     let h : leb most n ≡ false = lt-leb _ _ high in
     rw (numbers_split most least bits words, ← parts, is, l, h) refl
 
-pub numbers_end : (most least bits n : ℕ) (words word from : List ℕ) → (word, from) ≡ span 32 words → number_in word ≡ Some n → least ≤ n → n < most → length from < 1
+pub numbers_end : (most least bits n : ℕ) (words word from : List ℕ) → (word, from) ≡ span 32 words → number_in word ≡ Some n → least ≤ n → n < most
+    → length from < 1
     → numbers_in most least bits (slice_split (λ b. b == 32) words) ≡ Some (bits + 2 ^ n)
 unfolding numbers_in
-numbers_end most least bits n words word from parts is low high none = numbers_next most least bits n words word from parts is low high ∙ rw (no_parts 32 from none) refl
+numbers_end most least bits n words word from parts is low high none = numbers_next most least bits n words word from parts is low high
+    ∙ rw (no_parts 32 from none) refl
 
-pub numbers_step : (most least bits n : ℕ) (words word from : List ℕ) → (word, from) ≡ span 32 words → number_in word ≡ Some n → least ≤ n → n < most → 1 ≤ length from
-    → numbers_in most least bits (slice_split (λ b. b == 32) words) ≡ numbers_in most (n + 1) (bits + 2 ^ n) (slice_split (λ b. b == 32) (take (length from - 1) (drop 1 from)))
-numbers_step most least bits n words word from parts is low high some = numbers_next most least bits n words word from parts is low high ∙ ap (numbers_in most (n + 1) (bits + 2 ^ n)) (more_parts 32 from some)
+pub numbers_step : (most least bits n : ℕ) (words word from : List ℕ) → (word, from) ≡ span 32 words → number_in word ≡ Some n → least ≤ n → n < most
+    → 1 ≤ length from
+    → numbers_in most least bits (slice_split (λ b. b == 32) words)
+    ≡ numbers_in most (n + 1) (bits + 2 ^ n) (slice_split (λ b. b == 32) (take (length from - 1) (drop 1 from)))
+numbers_step most least bits n words word from parts is low high some = numbers_next most least bits n words word from parts is low high
+    ∙ ap (numbers_in most (n + 1) (bits + 2 ^ n)) (more_parts 32 from some)

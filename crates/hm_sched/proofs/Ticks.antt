@@ -49,7 +49,8 @@ most_irq_few format = elim (cases_Bool (eqb format 1)) [
 abbrev pub with_line : Sched → TickLine → Sched
 with_line s line = record s { lines = s.lines ++ line ∷ [] }
 
-pub IsSched-with_line : (s : Sched) (line : TickLine) → IsSched s → IsLine (most_irq s.format) line → total s.lines + line.count ≤ most_ticks → IsSched (with_line s line)
+pub IsSched-with_line : (s : Sched) (line : TickLine) → IsSched s → IsLine (most_irq s.format) line → total s.lines + line.count ≤ most_ticks
+    → IsSched (with_line s line)
 IsSched-with_line s line sound one room = record {
   known = sound.known;
   region_start = sound.region_start;

@@ -5,7 +5,15 @@ use Rattle.hm_sched.specs.Schedule.{Sched, line_of, total, IsSched}
 
 -- what the fields of a schedule say
 abbrev pub schedule_view : Inside → Sched
-schedule_view a = record { format = a.format; entries = a.entries; lo = a.lo; hi = a.hi; floor = a.floor; process = a.process; lines = map line_of a.lines.items }
+schedule_view a = record {
+  format = a.format;
+  entries = a.entries;
+  lo = a.lo;
+  hi = a.hi;
+  floor = a.floor;
+  process = a.process;
+  lines = map line_of a.lines.items;
+}
 
 -- they say a schedule, and the number of its ticks
 pub record IsSchedule (a : Inside) : Type 0 where

@@ -1,5 +1,6 @@
 -- Reading the file of a schedule: the schedule, or the first refusal.
-use Rattle.std.specs.Prelude.{◌≡◌, ℕ, Bool, true, false, ◌+◌, List, [], ◌∷◌, length, drop, codes, Option, Some, None, ok_or, option_and_then, Result, Ok, Err, ◌==◌, nat_eq, nat_lt, ◌||◌, if◌then◌else◌, bytes_eq}
+use Rattle.std.specs.Prelude.{◌≡◌, ℕ, Bool, true, false, ◌+◌, List, [], ◌∷◌, length, drop, codes, Option, Some, None, ok_or, option_and_then, Result, Ok, Err}
+use Rattle.std.specs.Prelude.{◌==◌, nat_eq, nat_lt, ◌||◌, if◌then◌else◌, bytes_eq}
 use Rattle.std.specs.List.{starts_with}
 use Rattle.hm_base.specs.Image.{sram_start, sram_size}
 use Rattle.hm_text_base.specs.Reading.{◌>>=◌}
@@ -37,7 +38,8 @@ addresses_in low high = option_and_then (λ lo. option_and_then (λ hi. bounded_
 
 -- the ends of the region
 unfoldable pub region_in : List ℕ → Option (ℕ × ℕ)
-region_in text = if starts_with nat_eq text (codes "region ") then (if length (span 32 (drop 7 text)).1 == 0 then None else addresses_in (span 32 (drop 7 text)).0 (drop 1 (span 32 (drop 7 text)).1)) else None
+region_in text = if starts_with nat_eq text (codes "region ")
+    then (if length (span 32 (drop 7 text)).1 == 0 then None else addresses_in (span 32 (drop 7 text)).0 (drop 1 (span 32 (drop 7 text)).1)) else None
 
 -- the address, where it is that of a floor
 abbrev pub bounded_floor : ℕ → Option ℕ

@@ -1,5 +1,6 @@
 -- Reading a line of ticks: what it says, or what of it is bad first.
-use Rattle.std.specs.Prelude.{ℕ, Bool, not, ◌+◌, ◌^◌, List, [], ◌∷◌, length, drop, codes, Option, Some, None, ok_or, option_and_then, Result, Ok, Err, ◌==◌, nat_eq, nat_lt, nat_le, ◌||◌, if◌then◌else◌, bytes_eq}
+use Rattle.std.specs.Prelude.{ℕ, Bool, not, ◌+◌, ◌^◌, List, [], ◌∷◌, length, drop, codes, Option, Some, None, ok_or, option_and_then, Result, Ok, Err, ◌==◌}
+use Rattle.std.specs.Prelude.{nat_eq, nat_lt, nat_le, ◌||◌, if◌then◌else◌, bytes_eq}
 use Rattle.std.specs.List.{list_all, slice_split, starts_with}
 use Rattle.hm_text_base.specs.Reading.{◌>>=◌}
 use Rattle.hm_text_base.specs.Spans.{span}
@@ -34,16 +35,19 @@ count_in text = counted text (span 42 text)
 
 -- the letters of a dash or of one to eight letters
 unfoldable pub steps_in : List ℕ → Option (List ℕ)
-steps_in text = if bytes_eq text (codes "-") then Some [] else if (length text == 0) || (nat_lt 8 (length text) || not (list_all is_letter text)) then None else Some text
+steps_in text = if bytes_eq text (codes "-") then Some [] else if (length text == 0) || (nat_lt 8 (length text) || not (list_all is_letter text)) then None
+    else Some text
 
 -- a bit for each number, which is to be least or more and below most, after those that gave these bits
 unfoldable pub numbers_in : ℕ → ℕ → ℕ → List (List ℕ) → Option ℕ
 numbers_in most least bits [] = Some bits
-numbers_in most least bits (word ∷ words) = option_and_then (λ n. if nat_lt n least || nat_le most n then None else numbers_in most (n + 1) (bits + 2 ^ n) words) (number_in word)
+numbers_in most least bits (word ∷ words) =
+    option_and_then (λ n. if nat_lt n least || nat_le most n then None else numbers_in most (n + 1) (bits + 2 ^ n) words) (number_in word)
 
 -- the bits of the interrupts, which are none where the text is empty
 unfoldable pub irq_in : ℕ → List ℕ → Option ℕ
-irq_in most text = if length text == 0 then Some 0 else if starts_with nat_eq text (codes " irq ") then numbers_in most 0 0 (slice_split (λ b. b == 32) (drop 5 text)) else None
+irq_in most text = if length text == 0 then Some 0
+    else if starts_with nat_eq text (codes " irq ") then numbers_in most 0 0 (slice_split (λ b. b == 32) (drop 5 text)) else None
 
 -- the count, the steps up to the first space, and the interrupts from there on
 unfoldable pub ticks_in : ℕ → List ℕ → Result TickLine LineKind

@@ -11,7 +11,8 @@ pub record TickLine : Type 0 where
   pub letters : List ℕ
   pub irq : List ℕ
 
--- the format, whether exceptions are entered, the region from lo to hi that handlers may store to, the floors of the main and of the process stack, and the lines
+-- the format, whether exceptions are entered, the region from lo to hi that handlers may store to, the floors of the main and of the process stack,
+-- and the lines
 pub record Sched : Type 0 where
   pub format : ℕ
   pub entries : Bool

@@ -161,7 +161,8 @@ impl Schedule {
         requires named { number_of irq.now < 2 ^ most_irq self.now.format }
         ensures ok { let line : TickLine = record { count = count; letters = letters.now; irq = irq.now } in
             OnOk result (self.new ≡ record self.old { lines = self.old.lines ++ line ∷ [] }) }
-        ensures too_many { (result ≡ Err (SchedErr.TooManyTicks (first_line self.old.format + length self.old.lines))) ↔ (most_ticks < total self.old.lines + count) }
+        ensures too_many { (result ≡ Err (SchedErr.TooManyTicks (first_line self.old.format + length self.old.lines)))
+            ↔ (most_ticks < total self.old.lines + count) }
         ensures else_memory { total self.old.lines + count ≤ most_ticks → IsOkUnless result SchedErr.OutOfMemory }
         ensures err { OnErr result (self.new ≡ self.old) }
     {

@@ -6,7 +6,8 @@ ghost use Rattle.hm_text_base.specs.Spans.{lines_of};
 ghost use Rattle.hm_sched.specs.Schedule.{Sched, most_irq, first_line};
 ghost use Rattle.hm_sched.specs.Written.{IsFile};
 ghost use Rattle.hm_sched.specs.ReadLine.{said, ticks_in};
-ghost use Rattle.hm_sched.specs.ReadFile.{line_at, header_in, entries_in, region_in, floor_in, process_in, process_from, on_line, lines_in, with_lines, file_in, Gives};
+ghost use Rattle.hm_sched.specs.ReadFile.{line_at, header_in, entries_in, region_in, floor_in, process_in, process_from, on_line, lines_in, with_lines};
+ghost use Rattle.hm_sched.specs.ReadFile.{file_in, Gives};
 
 use crate::errors::{LineKind, SchedErr};
 use crate::tick_text::{Ticks, read_ticks};
@@ -141,7 +142,8 @@ fn tick_line(most: u32, text: &[u8], line: u32) -> Result<Ticks<'_>, SchedErr>
 /// A schedule that has no lines, with the lines of ticks that the bytes write.
 fn with_lines(schedule: Schedule, bytes: &[u8]) -> Result<Schedule, SchedErr>
     requires fresh { schedule.lines ≡ [] }
-    ensures { Gives (λ s. s) result (with_lines schedule (lines_in (most_irq schedule.format) (first_line schedule.format) 0 (lines_of bytes.now).0 (lines_of bytes.now).1)) }
+    ensures { Gives (λ s. s) result
+        (with_lines schedule (lines_in (most_irq schedule.format) (first_line schedule.format) 0 (lines_of bytes.now).0 (lines_of bytes.now).1)) }
 {
     let mut schedule = schedule;
     let mut rest = bytes;

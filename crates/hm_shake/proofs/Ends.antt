@@ -32,8 +32,10 @@ use Rattle.hm_window.specs.declared.rule.Rule.{Rule}
 abbrev ended_in : Run → Ended
 ended_in x = record { kind = kind_or x.outcome; ticks = x.ticks }
 
-module _ (listing : Listing) (image : List Segment) (s : Sched) (m : Shown) (shows : Shows image s (length (ticks_of s.lines)) m) (is : IsListing (flash_byte image) listing) where
-  pub ends_so : (o : Outcome) (k : Kind) (t : ℕ) → m.outcome ≡ Some o → k ≡ kind_of o → t ≡ (timed_of m).ticks → record { kind = k; ticks = t } ≡ ended_under listing image s
+module _ (listing : Listing) (image : List Segment) (s : Sched) (m : Shown) (shows : Shows image s (length (ticks_of s.lines)) m)
+    (is : IsListing (flash_byte image) listing) where
+  pub ends_so : (o : Outcome) (k : Kind) (t : ℕ) → m.outcome ≡ Some o → k ≡ kind_of o → t ≡ (timed_of m).ticks
+      → record { kind = k; ticks = t } ≡ ended_under listing image s
   unfolding ended_under
   ends_so o k t e f g =
       (λ j. record { kind = (f ∙ ap kind_or (sym e)) j; ticks = g j }) ∙ ap ended_in (shows.now listing is)
@@ -43,12 +45,14 @@ module _ (listing : Listing) (image : List Segment) (s : Sched) (m : Shown) (sho
 
 -- cut off behind the tick that ends it a run ends as it did
 cut_ends : (listing : Listing) (image : List Segment) (h : Head) (xs : List Stretch)
-    → ended_under listing image (with_stretches (cut (ended_under listing image (with_stretches xs (bare h))).ticks xs) (bare h)) ≡ ended_under listing image (with_stretches xs (bare h))
+    → ended_under listing image (with_stretches (cut (ended_under listing image (with_stretches xs (bare h))).ticks xs) (bare h))
+    ≡ ended_under listing image (with_stretches xs (bare h))
 unfolding ended_under
 cut_ends listing image h xs = ap ended_in (cut_same listing image h xs)
 
 -- and so it has the same kind
-pub cut_so : (listing : Listing) (image : List Segment) (h : Head) (xs ys : List Stretch) (e : Ended) (k : Kind) → e ≡ ended_under listing image (with_stretches xs (bare h)) → e.kind ≡ k
+pub cut_so : (listing : Listing) (image : List Segment) (h : Head) (xs ys : List Stretch) (e : Ended) (k : Kind)
+    → e ≡ ended_under listing image (with_stretches xs (bare h)) → e.kind ≡ k
     → ys ≡ cut e.ticks xs → EndsAs listing image k (with_stretches ys (bare h))
 cut_so listing image h xs ys e k ends kind is =
     ap (λ (zs : List Stretch). (ended_under listing image (with_stretches zs (bare h))).kind) is
@@ -92,7 +96,8 @@ no_rule (outcome.OutputFull t) none e = absurd cc
 no_rule outcome.OutOfTicks none e = absurd cc
 
 -- so is that of each run of a shake
-pub never_rule : (listing : Listing) (image : List Segment) (p : Plan) (h : Head) (irqs : List ℕ) (run : ℕ) → (ends_in listing image p h irqs run).kind ≢ kind.Rule
+pub never_rule : (listing : Listing) (image : List Segment) (p : Plan) (h : Head) (irqs : List ℕ) (run : ℕ)
+    → (ends_in listing image p h irqs run).kind ≢ kind.Rule
 unfolding ended_under
 never_rule listing image p h irqs run = go (run_out listing image (shaken_schedule p h irqs run)).outcome refl
   where
@@ -102,7 +107,8 @@ never_rule listing image p h irqs run = go (run_out listing image (shaken_schedu
         no_rule o (λ t step r same. breaks_no_rule listing (shaken_schedule p h irqs run) image t step r (shaken_older p h irqs run) (is ∙ ap Some same)) e
 
 -- an image shows one report under all schedules under which it halts
-pub one_report : (listing : Listing) (image : List Segment) (s t : Sched) → Halts listing image s → Halts listing image t → report_text (shown_out listing image s) ≡ report_text (shown_out listing image t)
+pub one_report : (listing : Listing) (image : List Segment) (s t : Sched) → Halts listing image s → Halts listing image t
+    → report_text (shown_out listing image s) ≡ report_text (shown_out listing image t)
 unfolding ended_under
 one_report listing image s t h k =
     let a = halted_so (run_out listing image s).outcome h in

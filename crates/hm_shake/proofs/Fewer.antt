@@ -60,7 +60,8 @@ first_sound most (suc n) x h =
     let few : k ≤ x.count = least_few (nat_le x.count (suc n)) x.count (suc n) (λ e. omega (arith, leb-false x.count (suc n) e)) in
     let many : x.count ≤ 99999999 = h.eight_digits in
     All-cons (IsStretch most) (record x { count = k }) []
-    (record { some = some.1; eight_digits = omega arith; some_letters = h.some_letters; few_letters = h.few_letters; named = h.named }) (All-nil (IsStretch most))
+    (record { some = some.1; eight_digits = omega arith; some_letters = h.some_letters; few_letters = h.few_letters; named = h.named })
+    (All-nil (IsStretch most))
 
 pub cut_sound : (most n : ℕ) (xs : List Stretch) → All (IsStretch most) xs → All (IsStretch most) (cut n xs)
 cut_sound most n [] all = All-nil (IsStretch most)

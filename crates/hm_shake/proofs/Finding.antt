@@ -24,7 +24,8 @@ use Rattle.hm_shake_runs.specs.declared.plan.Plan.{Plan}
 
 -- the report of a run that halts is that of all
 pub report_so : (listing : Listing) (image : List Segment) (p : Plan) (h : Head) (irqs : List ℕ) (found : Found) (report : List ℕ) → is_halt found.kind ≡ true
-    → IsFoundIn listing image p h irqs found → report ≡ report_text (shown_out listing image (shaken_schedule p h irqs found.run)) → IsReport listing image p h irqs report
+    → IsFoundIn listing image p h irqs found → report ≡ report_text (shown_out listing image (shaken_schedule p h irqs found.run))
+    → IsReport listing image p h irqs report
 report_so listing image p h irqs found report halt found_in is =
     let s = shaken_schedule p h irqs found.run in
     let halts : Halts listing image s = ap (λ (e : Ended). is_halt e.kind) found_in.ends ∙ halt in
@@ -32,11 +33,13 @@ report_so listing image p h irqs found report halt found_in is =
 
 -- all that is found
 pub found_so : (listing : Listing) (image : List Segment) (s : Sched) (f : Findings) (p : Plan) (h : Head) (irqs : List ℕ) (xs ys : List Found)
-    → AreCounted (ends_in listing image p h irqs) p.runs f.kinds.items → xs ≡ f.kinds.items → ys ≡ f.kinds.items → irqs ≡ interrupts_of s → bare h ≡ record s { lines = [] }
+    → AreCounted (ends_in listing image p h irqs) p.runs f.kinds.items → xs ≡ f.kinds.items → ys ≡ f.kinds.items → irqs ≡ interrupts_of s
+    → bare h ≡ record s { lines = [] }
     → f.plain ≡ (plain_end listing image).kind → p.ticks ≡ (plain_end listing image).ticks
     → (All (IsFoundIn listing image p h irqs) xs → IfSome f.report (λ bytes. IsReport listing image p h irqs bytes.items))
     → (f.report ≡ None → All (λ x. is_halt x.kind ≡ false) xs)
-    → (All (IsFoundIn listing image p h irqs) ys → AreFiled (IsFiled listing image p h irqs) f.plain ys f.files.items) → FindsFor listing image p.seed p.runs s f
+    → (All (IsFoundIn listing image p h irqs) ys → AreFiled (IsFiled listing image p h irqs) f.plain ys f.files.items)
+    → FindsFor listing image p.seed p.runs s f
 found_so listing image s f p h irqs xs ys counted xs_are ys_are irqs_are same plain ticks report none files =
     let all : All (IsFoundIn listing image p h irqs) f.kinds.items =
     All-weaker (IsCounted (ends_in listing image p h irqs) p.runs) (IsFoundIn listing image p h irqs) (λ x is. record { one = is.one; ends = is.came })

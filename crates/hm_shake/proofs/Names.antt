@@ -49,7 +49,8 @@ register_is n out h =
 
 place_is : (p : Place) (out : List ℕ) → is_plain out ≡ true → is_plain (place_text p out) ≡ true
 place_is (place.R n) out h = register_is n out h
-place_is (place.QWord k) out h = with_parts out (codes "q" ∷ decimal (k / 4) ∷ codes "." ∷ decimal (k % 4) ∷ []) h (refl, (decimal_plain (k / 4), (refl, (decimal_plain (k % 4), tt))))
+place_is (place.QWord k) out h =
+    with_parts out (codes "q" ∷ decimal (k / 4) ∷ codes "." ∷ decimal (k % 4) ∷ []) h (refl, (decimal_plain (k / 4), (refl, (decimal_plain (k % 4), tt))))
 place_is (place.P0 b) out h = with_parts out (codes "p0." ∷ decimal b ∷ []) h (refl, (decimal_plain b, tt))
 place_is place.Mask01 out h = with_parts out (codes "mask01" ∷ []) h (refl, tt)
 place_is place.Mask23 out h = with_parts out (codes "mask23" ∷ []) h (refl, tt)

@@ -51,7 +51,8 @@ impl Repeater {
         requires room { total (map stretch_line stretches.now) ≤ most_ticks }
         ensures ended { (image : List Segment) (listing : Listing) → IsListing (flash_byte image) listing → Repeats image head self.old
             → IfOk result (λ e. e ≡ ended_under listing image (with_stretches stretches.now (bare head))) }
-        ensures over { (image : List Segment) → Repeats image head self.old → IfOk result (λ _. StandsOver image (with_stretches stretches.now (bare head)) self.new) }
+        ensures over { (image : List Segment) → Repeats image head self.old
+            → IfOk result (λ _. StandsOver image (with_stretches stretches.now (bare head)) self.new) }
         ensures again { (image : List Segment) → Repeats image head self.old → Repeats image head self.new }
     {
         let schedule = schedule_of(alloc, &head, stretches)?;

@@ -1,5 +1,6 @@
 -- A run under the ticks that it began, and no more, ends as it did.
-use Rattle.std.proofs.Common.{◌≡◌, ℕ, zero, suc, ◌+◌, ◌-◌, ◌≤◌, Bool, true, false, cond, List, [], ◌∷◌, ◌++◌, length, take, map, arith, refl, sym, ap, ◌∙◌, Option, Some, None, Result, Ok, Err, nat_le}
+use Rattle.std.proofs.Common.{◌≡◌, ℕ, zero, suc, ◌+◌, ◌-◌, ◌≤◌, Bool, true, false, cond, List, [], ◌∷◌, ◌++◌, length, take, map, arith, refl, sym, ap, ◌∙◌}
+use Rattle.std.proofs.Common.{Option, Some, None, Result, Ok, Err, nat_le}
 use Rattle.std.proofs.lemmas.Bool.{leb-false, leb-true}
 use Rattle.std.proofs.Math.Seq.{drop-length, take-length}
 use Rattle.hm_base.specs.Image.{Segment}
@@ -133,7 +134,8 @@ module _ (listing : Listing) (s : Sched) where
       record { more = 0; ticks = ap (λ (y : Run). y.ticks) is ∙ omega arith; same = sym is }
   begun_by (line ∷ lines) x None e =
       let y = tick_of listing s line x x.outcome in
-      let one_more : y.ticks ≡ x.ticks + 1 = ap (λ (o : Option Outcome). (tick_of listing s line x o).ticks) e ∙ ended_ticks line x (letters listing s 0 line.letters x.machine) in
+      let one_more : y.ticks ≡ x.ticks + 1 = ap (λ (o : Option Outcome). (tick_of listing s line x o).ticks) e
+      ∙ ended_ticks line x (letters listing s 0 line.letters x.machine) in
       let rest = begun_by lines y y.outcome refl in
       record { more = suc rest.more; ticks = rest.ticks ∙ omega arith; same = rest.same }
 
@@ -156,7 +158,8 @@ module _ (listing : Listing) (image : List Segment) (h : Head) (xs : List Stretc
   first n = with_stretches (cut n xs) (bare h)
 
   -- the ticks of those that are cut off leave what the first ticks of all do
-  first_leave : (n : ℕ) → after_ticks listing (first n) (ticks_of (first n).lines) (begin image (first n)) ≡ after_ticks listing all (take n (ticks_of all.lines)) (begin image all)
+  first_leave : (n : ℕ) → after_ticks listing (first n) (ticks_of (first n).lines) (begin image (first n))
+      ≡ after_ticks listing all (take n (ticks_of all.lines)) (begin image all)
   first_leave n =
       after_one listing (first n) (ticks_of (first n).lines) (begin image all)
       ∙ ap (λ (lines : List TickLine). after_ticks listing (first n) lines (begin image all)) (cut_ticks n xs ∙ sym (take_one n (ticks_of all.lines)))

@@ -1,5 +1,6 @@
 -- Under letters O alone the younger of two instructions never has a beat, so no rule of overlap is broken.
-use Rattle.std.proofs.Common.{◌≡◌, ◌≢◌, ℕ, zero, suc, ◌+◌, ◌<◌, arith, refl, sym, subst, Bool, true, false, cond, List, [], ◌∷◌, drop, length, map, Option, Some, None, Result, Ok, Err}
+use Rattle.std.proofs.Common.{◌≡◌, ◌≢◌, ℕ, zero, suc, ◌+◌, ◌<◌, arith, refl, sym, subst, Bool, true, false, cond, List, [], ◌∷◌, drop, length, map, Option}
+use Rattle.std.proofs.Common.{Some, None, Result, Ok, Err}
 use Rattle.std.specs.List.{All}
 use Rattle.std.proofs.lemmas.List.Elements.{All-cons, All-drop, All-head, All-map, All-nil, All-tail}
 use Rattle.hm_base.specs.Image.{Segment}
@@ -34,8 +35,10 @@ use Rattle.hm_whole.specs.Whole.{Went, scalar_in_machine, seen_in}
 use Rattle.hm_window.specs.Positions.{may_end}
 use Rattle.hm_window.specs.declared.rule.Rule.{Rule}
 use Rattle.hm_handlers.specs.Entries.{refused}
-use Rattle.hm_handlers.specs.Nested.{Ended, Interrupted, Nested, NestedEnd, NestedStep, Offends, TickEnd, around_under, at_step, flows, handles, letters, program_under, returned, step, step_under, uncounted, went, with_acts}
-use Rattle.hm_handlers.specs.Runs.{Pointers, Run, after_count, closed, ended, enters, enters_unless, may_enter, next, picks, run, run_out, stacked_of, stops, tick_end, tick_of}
+use Rattle.hm_handlers.specs.Nested.{Ended, Interrupted, Nested, NestedEnd, NestedStep, Offends, TickEnd, around_under, at_step, flows, handles, letters}
+use Rattle.hm_handlers.specs.Nested.{program_under, returned, step, step_under, uncounted, went, with_acts}
+use Rattle.hm_handlers.specs.Runs.{Pointers, Run, after_count, closed, ended, enters, enters_unless, may_enter, next, picks, run, run_out, stacked_of, stops}
+use Rattle.hm_handlers.specs.Runs.{tick_end, tick_of}
 use Rattle.hm_handlers.specs.Runs as runs
 use Rattle.hm_shake_runs.specs.Runs.{AreOlder, IsOlder}
 use Rattle.hm_shake_runs.specs.Shaken.{shaken, shaken_schedule}
@@ -62,7 +65,8 @@ repeat_older (suc n) line rest h all = All-cons IsOlder line (repeat n line rest
 
 ticks_older : (lines : List TickLine) → All IsOlder lines → All IsOlder (ticks_of lines)
 ticks_older [] all = All-nil IsOlder
-ticks_older (line ∷ lines) all = repeat_older line.count line (ticks_of lines) (All-head IsOlder line lines all) (ticks_older lines (All-tail IsOlder line lines all))
+ticks_older (line ∷ lines) all =
+    repeat_older line.count line (ticks_of lines) (All-head IsOlder line lines all) (ticks_older lines (All-tail IsOlder line lines all))
 
 -- ---- positions
 
@@ -145,7 +149,8 @@ uncounted_alone c (Ok d) h = h
 uncounted_alone c (Err (Stopped d e)) h = tt
 uncounted_alone c (Err (Broken d r)) h = absurd h
 
-returned_alone : (o : Option Difference) (c : Config State) (x : Interrupted) (acts : List Interrupted) (t : State) → AllAlone (x ∷ acts) → GoesAlone (returned o c x acts t)
+returned_alone : (o : Option Difference) (c : Config State) (x : Interrupted) (acts : List Interrupted) (t : State) → AllAlone (x ∷ acts)
+    → GoesAlone (returned o c x acts t)
 returned_alone None c x acts t all = record { here = all.0; acts = all.1 }
 returned_alone (Some b) c x acts t all = tt
 
@@ -154,15 +159,18 @@ flows_alone flow.Next c x acts t all = record { here = at_zero; acts = all }
 flows_alone (flow.Break k) c x acts t all = tt
 flows_alone (flow.Return value) c x acts t all = returned_alone (return_rule (regs_of t) (seen_in t).byte value x.stacked) c x acts t all
 
-went_alone : (M : Program) (c : Config State) (x : Interrupted) (acts : List Interrupted) (r : Result Went Stop) → AllAlone (x ∷ acts) → GoesAlone (went M c x acts r)
+went_alone : (M : Program) (c : Config State) (x : Interrupted) (acts : List Interrupted) (r : Result Went Stop) → AllAlone (x ∷ acts)
+    → GoesAlone (went M c x acts r)
 went_alone M c x acts (Ok y) all = flows_alone y.flow c x acts y.state all
 went_alone M c x acts (Err e) all = tt
 
-handles_alone : (M : Program) (around : Around) (r : Result Instr Fault) (c : Config State) (x : Interrupted) (acts : List Interrupted) → Alone c.a c.b → AllAlone (x ∷ acts)
+handles_alone : (M : Program) (around : Around) (r : Result Instr Fault) (c : Config State) (x : Interrupted) (acts : List Interrupted) → Alone c.a c.b
+    → AllAlone (x ∷ acts)
     → GoesAlone (handles M around r c x acts)
 handles_alone M around (Ok (instr.Scalar i)) c x acts h all = went_alone M c x acts (scalar_in_machine around (instr.Scalar i) c.state) all
 handles_alone M around (Ok (instr.Branch i)) c x acts h all = went_alone M c x acts (scalar_in_machine around (instr.Branch i) c.state) all
-handles_alone M around (Ok (instr.Vector v)) c x acts h all = acts_alone (x ∷ acts) (uncounted c (older M c)) all (uncounted_alone c (older M c) (older_alone M c h))
+handles_alone M around (Ok (instr.Vector v)) c x acts h all =
+    acts_alone (x ∷ acts) (uncounted c (older M c)) all (uncounted_alone c (older M c) (older_alone M c h))
 handles_alone M around (Err f) c x acts h all = acts_alone (x ∷ acts) (uncounted c (older M c)) all (uncounted_alone c (older M c) (older_alone M c h))
 
 module _ (listing : Listing) (s : Sched) where
@@ -184,7 +192,8 @@ module _ (listing : Listing) (s : Sched) where
   at_step_alone k younger (Ok x) h = h
   at_step_alone k younger (Err e) h = h
 
-  then_alone : (r : Result Nested TickEnd) (f : Nested → Result Nested TickEnd) → LettersAlone r → ((x : Nested) → IsAlone x → LettersAlone (f x)) → LettersAlone (then r f)
+  then_alone : (r : Result Nested TickEnd) (f : Nested → Result Nested TickEnd) → LettersAlone r → ((x : Nested) → IsAlone x → LettersAlone (f x))
+      → LettersAlone (then r f)
   then_alone (Ok x) f h g = g x h
   then_alone (Err e) f h g = h
 
@@ -258,7 +267,8 @@ module _ (listing : Listing) (s : Sched) where
   first_alone false x y e h = let no : false ≡ true = e in absurd cc
 
   entry_alone : (m : Nested) (t : ℕ) (entries : List Pointers) → IsAlone m → RunAlone (may_enter s (going m t entries))
-  entry_alone m t entries h = either_alone s.entries (enters s (picks (going m t entries)) (going m t entries)) (going m t entries) (enters_alone (picks (going m t entries)) m t entries h) h
+  entry_alone m t entries h = either_alone s.entries (enters s (picks (going m t entries)) (going m t entries)) (going m t entries)
+      (enters_alone (picks (going m t entries)) m t entries h) h
 
   end_alone : (line : TickLine) (m : Nested) (t : ℕ) (entries : List Pointers) → IsAlone m → RunAlone (tick_end s line (going m t entries))
   end_alone line m t entries h =

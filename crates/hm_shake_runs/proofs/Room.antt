@@ -97,14 +97,16 @@ sound_interrupt most irqs x some each =
     })
     (All-nil (IsStretch most))
 
-sound_pairs : (most n gap : ℕ) (irqs : List ℕ) (x : ℕ) → gap ≤ most_ticks → 0 < length irqs → All (λ n. n < most) irqs → All (IsStretch most) (pairs n gap irqs x)
+sound_pairs : (most n gap : ℕ) (irqs : List ℕ) (x : ℕ) → gap ≤ most_ticks → 0 < length irqs → All (λ n. n < most) irqs
+    → All (IsStretch most) (pairs n gap irqs x)
 sound_pairs most zero gap irqs x few some each = All-nil (IsStretch most)
 sound_pairs most (suc n) gap irqs x few some each =
     All-append (IsStretch most) (gap_part gap x) (interrupt_part irqs (drawn 2 x) ++ pairs n gap irqs (drawn 4 x)) (sound_gap_part most gap x few)
     (All-append (IsStretch most) (interrupt_part irqs (drawn 2 x)) (pairs n gap irqs (drawn 4 x)) (sound_interrupt most irqs (drawn 2 x) some each)
     (sound_pairs most n gap irqs (drawn 4 x) few some each))
 
-pub sound_shaken : (most n gap : ℕ) (irqs : List ℕ) (x : ℕ) → gap ≤ most_ticks → 0 < length irqs → All (λ n. n < most) irqs → All (IsStretch most) (with_tail (pairs n gap irqs x))
+pub sound_shaken : (most n gap : ℕ) (irqs : List ℕ) (x : ℕ) → gap ≤ most_ticks → 0 < length irqs → All (λ n. n < most) irqs
+    → All (IsStretch most) (with_tail (pairs n gap irqs x))
 sound_shaken most n gap irqs x few some each =
     All-append (IsStretch most) (pairs n gap irqs x) (tail_part (ticks (pairs n gap irqs x))) (sound_pairs most n gap irqs x few some each)
     (sound_gap most (most_ticks - ticks (pairs n gap irqs x)) 4 (omega arith) (omega arith) (omega arith))

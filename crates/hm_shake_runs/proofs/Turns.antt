@@ -1,5 +1,6 @@
 -- A turn of each loop over lists: what is done and what is left to do.
-use Rattle.std.proofs.Common.{◌≡◌, ℕ, zero, suc, ◌+◌, ◌-◌, ◌<◌, ◌≤◌, Bool, true, false, eqb, inl, inr, Option, Some, None, List, [], ◌∷◌, ◌++◌, length, get_or, take, drop, map, arith, refl, sym, ap, ◌∙◌, append_assoc, add-one, cond}
+use Rattle.std.proofs.Common.{◌≡◌, ℕ, zero, suc, ◌+◌, ◌-◌, ◌<◌, ◌≤◌, Bool, true, false, eqb, inl, inr, Option, Some, None, List, [], ◌∷◌, ◌++◌, length, get_or}
+use Rattle.std.proofs.Common.{take, drop, map, arith, refl, sym, ap, ◌∙◌, append_assoc, add-one, cond}
 use Rattle.std.proofs.Math.Seq.{drop-cons}
 use Rattle.std.proofs.lemmas.Bool.{cases_Bool}
 use Rattle.std.specs.List.{All}
@@ -101,12 +102,14 @@ passes_one (suc k) n x xs e = rw (less_none (suc k) (one_if x.irq) (counts_none 
 
 -- ---- interrupts that are named
 
-pub named_turn : (lines : List TickLine) (most n : ℕ) → n < most → is_named lines n ≡ true → named_from lines (most - n) n ≡ n ∷ named_from lines (most - (n + 1)) (n + 1)
+pub named_turn : (lines : List TickLine) (most n : ℕ) → n < most → is_named lines n ≡ true
+    → named_from lines (most - n) n ≡ n ∷ named_from lines (most - (n + 1)) (n + 1)
 named_turn lines most n lt e =
     let more : most - n ≡ suc (most - (n + 1)) = omega arith in
     rw (more, e) refl
 
-pub unnamed_turn : (lines : List TickLine) (most n : ℕ) → n < most → is_named lines n ≡ false → named_from lines (most - n) n ≡ named_from lines (most - (n + 1)) (n + 1)
+pub unnamed_turn : (lines : List TickLine) (most n : ℕ) → n < most → is_named lines n ≡ false
+    → named_from lines (most - n) n ≡ named_from lines (most - (n + 1)) (n + 1)
 unnamed_turn lines most n lt e =
     let more : most - n ≡ suc (most - (n + 1)) = omega arith in
     rw (more, e) refl
@@ -126,7 +129,8 @@ maybe_below false k most xs h all = all
 
 pub named_below : (lines : List TickLine) (n k most : ℕ) → n + k ≤ most → All (λ (x : ℕ). x < most) (named_from lines n k)
 named_below lines zero k most h = All-nil (λ (x : ℕ). x < most)
-named_below lines (suc n) k most h = maybe_below (is_named lines k) k most (named_from lines n (k + 1)) (omega arith) (named_below lines n (k + 1) most (omega arith))
+named_below lines (suc n) k most h =
+    maybe_below (is_named lines k) k most (named_from lines n (k + 1)) (omega arith) (named_below lines n (k + 1) most (omega arith))
 
 pub length-numbers_from : (n k : ℕ) → length (numbers_from n k) ≡ n
 length-numbers_from zero k = refl
@@ -154,8 +158,10 @@ some_named format (x ∷ xs) h = refl
 pub left_lines : (lines : List TickLine) (i : ℕ) (line : TickLine) → i < length lines → get_or lines i line ≡ line → drop i lines ≡ line ∷ drop (i + 1) lines
 left_lines lines i line h e = rw add-one (drop-cons lines i line h ∙ ap (λ (x : TickLine). x ∷ drop (suc i) lines) e)
 
-pub names_it : (lines : List TickLine) (i n : ℕ) (line : TickLine) → i < length lines → get_or lines i line ≡ line → words_name n line.irq ≡ true → is_named (drop i lines) n ≡ true
+pub names_it : (lines : List TickLine) (i n : ℕ) (line : TickLine) → i < length lines → get_or lines i line ≡ line → words_name n line.irq ≡ true
+    → is_named (drop i lines) n ≡ true
 names_it lines i n line h e f = rw (left_lines lines i line h e, f) refl
 
-pub names_not : (lines : List TickLine) (i n : ℕ) (line : TickLine) → i < length lines → get_or lines i line ≡ line → words_name n line.irq ≡ false → is_named (drop i lines) n ≡ is_named (drop (i + 1) lines) n
+pub names_not : (lines : List TickLine) (i n : ℕ) (line : TickLine) → i < length lines → get_or lines i line ≡ line → words_name n line.irq ≡ false
+    → is_named (drop i lines) n ≡ is_named (drop (i + 1) lines) n
 names_not lines i n line h e f = rw (left_lines lines i line h e, f) refl

@@ -20,7 +20,8 @@ ghost use Rattle.hm_window.specs.declared.rule.Rule.{Rule};
 /// Schedules of letters O alone break no rule of overlap, whatever the image, and each run's schedule is one.
 pub fn letters_law()
     ensures letters { (p : Plan) (h : Head) (irqs : List ℕ) (run : ℕ) → AreOlder (shaken_schedule p h irqs run) }
-    ensures no_rule { (image : List Segment) (listing : Listing) (s : Sched) (t step : ℕ) (r : Rule) → AreOlder s → (run_out listing image s).outcome ≢ Some (RuleBroken t step r) }
+    ensures no_rule { (image : List Segment) (listing : Listing) (s : Sched) (t step : ℕ) (r : Rule) → AreOlder s
+        → (run_out listing image s).outcome ≢ Some (RuleBroken t step r) }
 {}
 
 /// All runs of an image that halt show one report, and halt alike.

@@ -1,5 +1,6 @@
 -- Codes that are added behind bytes, item by item and draw by draw.
-use Rattle.std.proofs.Common.{◌≡◌, ℕ, zero, suc, ◌+◌, ◌/◌, ◌%◌, ◌<◌, ◌≤◌, length, List, [], ◌∷◌, ◌++◌, refl, sym, ap, ◌∙◌, subst, arith, take, get_or, append-nil}
+use Rattle.std.proofs.Common.{◌≡◌, ℕ, zero, suc, ◌+◌, ◌/◌, ◌%◌, ◌<◌, ◌≤◌, length, List, [], ◌∷◌, ◌++◌, refl, sym, ap, ◌∙◌, subst, arith, take, get_or}
+use Rattle.std.proofs.Common.{append-nil}
 use Rattle.std.proofs.lemmas.Grind.{flat_map-append}
 use Rattle.std.proofs.lemmas.List.{append_assoc, length-append, take_more}
 use Rattle.std.specs.List.{flat_map}
@@ -36,10 +37,12 @@ vector_words = 0x20010000 ∷ 0x45 ∷ 0 ∷ 0 ∷ 0 ∷ 0 ∷ 0 ∷ 0 ∷ 0 ∷
 pub words_all : (k : ℕ) (bytes : List ℕ) → k ≡ 17 → bytes ≡ flat_map word_bytes (take k vector_words) → bytes ≡ vectors
 words_all k bytes e h = h ∙ ap (λ (n : ℕ). flat_map word_bytes (take n vector_words)) e
 
-pub words_next : (ws : List ℕ) (i : ℕ) (bytes newer : List ℕ) → i < length ws → bytes ≡ flat_map word_bytes (take i ws) → newer ≡ bytes ++ word_bytes (get_or ws i 0)
+pub words_next : (ws : List ℕ) (i : ℕ) (bytes newer : List ℕ) → i < length ws → bytes ≡ flat_map word_bytes (take i ws)
+    → newer ≡ bytes ++ word_bytes (get_or ws i 0)
     → newer ≡ flat_map word_bytes (take (i + 1) ws)
 words_next ws i bytes newer l h e =
-    e ∙ ap (λ (b : List ℕ). b ++ word_bytes (get_or ws i 0)) h ∙ ap (λ (b : List ℕ). flat_map word_bytes (take i ws) ++ b) (sym (append-nil (word_bytes (get_or ws i 0))))
+    e ∙ ap (λ (b : List ℕ). b ++ word_bytes (get_or ws i 0)) h
+    ∙ ap (λ (b : List ℕ). flat_map word_bytes (take i ws) ++ b) (sym (append-nil (word_bytes (get_or ws i 0))))
     ∙ sym (flat_map-append word_bytes (take i ws) (get_or ws i 0 ∷ [])) ∙ ap (flat_map word_bytes) (sym (take_more ws i 0 l))
 
 -- WHAT IS ADDED
@@ -60,11 +63,13 @@ adds_more xs ys a b c h k = record {
       ∙ ap (λ (bs : List ℕ). a ++ bs) (sym (halves_append hs ks)) ∙ ap (λ (ls : List ℕ). a ++ half_bytes ls) (sym (all_append h.instrs k.instrs));
 }
 
-pub adds_next : (xs : List Item) (x : Item) (i : Instr) (a b c : List ℕ) → AddsCodes xs a b → IsItem x i → c ≡ b ++ half_bytes (halfwords i) → AddsCodes (xs ++ (x ∷ [])) a c
+pub adds_next : (xs : List Item) (x : Item) (i : Instr) (a b c : List ℕ) → AddsCodes xs a b → IsItem x i → c ≡ b ++ half_bytes (halfwords i)
+    → AddsCodes (xs ++ (x ∷ [])) a c
 adds_next xs x i a b c h is e = adds_more xs (x ∷ []) a b c h (adds_one x i b c is e)
 
 -- the last of them, by a call that may find no memory
-pub adds_last : (xs : List Item) (x : Item) (i : Instr) (a b c : List ℕ) (r : Result (Unit {0}) OutOfMemory) → AddsCodes xs a b → IsItem x i → IfOk r (λ u. c ≡ b ++ half_bytes (halfwords i))
+pub adds_last : (xs : List Item) (x : Item) (i : Instr) (a b c : List ℕ) (r : Result (Unit {0}) OutOfMemory) → AddsCodes xs a b → IsItem x i
+    → IfOk r (λ u. c ≡ b ++ half_bytes (halfwords i))
     → IfOk r (λ u. AddsCodes (xs ++ (x ∷ [])) a c)
 adds_last xs x i a b c (Ok u) h is e = adds_next xs x i a b c h is e
 adds_last xs x i a b c (Err e) h is none = tt
@@ -79,14 +84,16 @@ unfolding fill
 fill_more zero j x = let e : j ≡ j + 0 = omega arith in ap (λ (k : ℕ). filled k (draw x)) e
 fill_more (suc n) j x =
     let e : j + 1 + n ≡ j + suc n = omega arith in
-    ap (λ (l : List Item). filled j (draw x) ++ l) (fill_more n (j + 1) (draw x) ∙ ap (λ (k : ℕ). fill n (j + 1) (draw x) ++ filled k (draw (drawn n (draw x)))) e)
+    ap (λ (l : List Item). filled j (draw x) ++ l)
+    (fill_more n (j + 1) (draw x) ∙ ap (λ (k : ℕ). fill n (j + 1) (draw x) ++ filled k (draw (drawn n (draw x)))) e)
 
 operations_more : (n k x : ℕ) → operations (suc n) k x ≡ operations n k x ++ (operation (k + n) (draw (drawn n x)) ∷ [])
 unfolding operations
 operations_more zero k x = let e : k ≡ k + 0 = omega arith in ap (λ (l : ℕ). operation l (draw x) ∷ []) e
 operations_more (suc n) k x =
     let e : k + 1 + n ≡ k + suc n = omega arith in
-    ap (λ (l : List Item). operation k (draw x) ∷ l) (operations_more n (k + 1) (draw x) ∙ ap (λ (m : ℕ). operations n (k + 1) (draw x) ++ (operation m (draw (drawn n (draw x))) ∷ [])) e)
+    ap (λ (l : List Item). operation k (draw x) ∷ l)
+    (operations_more n (k + 1) (draw x) ∙ ap (λ (m : ℕ). operations n (k + 1) (draw x) ++ (operation m (draw (drawn n (draw x))) ∷ [])) e)
 
 operations_none : (k x : ℕ) → operations 0 k x ≡ []
 unfolding operations
@@ -104,15 +111,18 @@ fill_none j x = refl
 pub fills_none : (number : ℕ) (old : List ℕ) → Fills number old 0 number old
 fills_none number old = record { last = refl; codes = subst (λ (l : List Item). AddsCodes l old old) (sym (fill_none 0 number)) (adds_none old) }
 
-pub fills_next : (number : ℕ) (old : List ℕ) (n x y : ℕ) (new newer : List ℕ) → Fills number old n x new → y ≡ draw x → AddsCodes (filled n y) new newer → Fills number old (n + 1) y newer
+pub fills_next : (number : ℕ) (old : List ℕ) (n x y : ℕ) (new newer : List ℕ) → Fills number old n x new → y ≡ draw x → AddsCodes (filled n y) new newer
+    → Fills number old (n + 1) y newer
 fills_next number old n x y new newer h e k =
     let s : suc n ≡ n + 1 = omega arith in
     let drew : y ≡ draw (drawn n number) = e ∙ ap draw h.last in
     let z : n ≡ 0 + n = omega arith in
-    let here : AddsCodes (filled (0 + n) (draw (drawn n number))) new newer = subst (λ (j : ℕ). AddsCodes (filled j (draw (drawn n number))) new newer) z (subst (λ (v : ℕ). AddsCodes (filled n v) new newer) drew k) in
+    let here : AddsCodes (filled (0 + n) (draw (drawn n number))) new newer =
+    subst (λ (j : ℕ). AddsCodes (filled j (draw (drawn n number))) new newer) z (subst (λ (v : ℕ). AddsCodes (filled n v) new newer) drew k) in
     subst (λ (m : ℕ). Fills number old m y newer) s (record {
       last = drew ∙ sym (drawn_more n number);
-      codes = subst (λ (l : List Item). AddsCodes l old newer) (sym (fill_more n 0 number)) (adds_more (fill n 0 number) (filled (0 + n) (draw (drawn n number))) old new newer h.codes here);
+      codes = subst (λ (l : List Item). AddsCodes l old newer) (sym (fill_more n 0 number))
+          (adds_more (fill n 0 number) (filled (0 + n) (draw (drawn n number))) old new newer h.codes here);
     })
 
 pub record Operates (first : ℕ) (old : List ℕ) (n x : ℕ) (new : List ℕ) : Type 0 where
@@ -122,21 +132,25 @@ pub record Operates (first : ℕ) (old : List ℕ) (n x : ℕ) (new : List ℕ) 
 pub operates_none : (first : ℕ) (old : List ℕ) → Operates first old 0 first old
 operates_none first old = record { last = refl; codes = subst (λ (l : List Item). AddsCodes l old old) (sym (operations_none 0 first)) (adds_none old) }
 
-pub operates_next : (first : ℕ) (old : List ℕ) (n x y : ℕ) (i : Instr) (new newer : List ℕ) → Operates first old n x new → y ≡ draw x → IsItem (operation n y) i → newer ≡ new ++ half_bytes (halfwords i)
+pub operates_next : (first : ℕ) (old : List ℕ) (n x y : ℕ) (i : Instr) (new newer : List ℕ) → Operates first old n x new → y ≡ draw x → IsItem (operation n y) i
+    → newer ≡ new ++ half_bytes (halfwords i)
     → Operates first old (n + 1) y newer
 operates_next first old n x y i new newer h e is k =
     let s : suc n ≡ n + 1 = omega arith in
     let drew : y ≡ draw (drawn n first) = e ∙ ap draw h.last in
     let z : n ≡ 0 + n = omega arith in
-    let item : IsItem (operation (0 + n) (draw (drawn n first))) i = subst (λ (j : ℕ). IsItem (operation j (draw (drawn n first))) i) z (subst (λ (v : ℕ). IsItem (operation n v) i) drew is) in
+    let item : IsItem (operation (0 + n) (draw (drawn n first))) i =
+    subst (λ (j : ℕ). IsItem (operation j (draw (drawn n first))) i) z (subst (λ (v : ℕ). IsItem (operation n v) i) drew is) in
     let here = adds_one (operation (0 + n) (draw (drawn n first))) i new newer item k in
     subst (λ (m : ℕ). Operates first old m y newer) s (record {
       last = drew ∙ sym (drawn_more n first);
-      codes = subst (λ (l : List Item). AddsCodes l old newer) (sym (operations_more n 0 first)) (adds_more (operations n 0 first) (operation (0 + n) (draw (drawn n first)) ∷ []) old new newer h.codes here);
+      codes = subst (λ (l : List Item). AddsCodes l old newer) (sym (operations_more n 0 first))
+          (adds_more (operations n 0 first) (operation (0 + n) (draw (drawn n first)) ∷ []) old new newer h.codes here);
     })
 
 -- THE WHOLE
-pub adds_all : (number : ℕ) (a b c d e : List ℕ) → AddsCodes head a b → AddsCodes (fill 4 0 number) b c → AddsCodes (operations many 0 (drawn 4 number)) c d → AddsCodes (Bkpt 0 ∷ handler) d e
+pub adds_all : (number : ℕ) (a b c d e : List ℕ) → AddsCodes head a b → AddsCodes (fill 4 0 number) b c → AddsCodes (operations many 0 (drawn 4 number)) c d
+    → AddsCodes (Bkpt 0 ∷ handler) d e
     → AddsCodes (code number) a e
 unfolding code
 adds_all number a b c d e h f o t =
@@ -145,7 +159,8 @@ adds_all number a b c d e h f o t =
     adds_more head ((fill 4 0 number ++ operations many 0 (drawn 4 number)) ++ (Bkpt 0 ∷ handler)) a b e h back
 
 -- by a last call that may find no memory
-pub all_added : (number last : ℕ) (a b c d e : List ℕ) (r : Result (Unit {0}) OutOfMemory) → AddsCodes head a b → AddsCodes (fill 4 0 number) b c → last ≡ drawn 4 number
+pub all_added : (number last : ℕ) (a b c d e : List ℕ) (r : Result (Unit {0}) OutOfMemory) → AddsCodes head a b → AddsCodes (fill 4 0 number) b c
+    → last ≡ drawn 4 number
     → AddsCodes (operations many 0 last) c d → IfOk r (λ u. AddsCodes (Bkpt 0 ∷ handler) d e) → IfOk r (λ u. AddsCodes (code number) a e)
 all_added number last a b c d e (Ok u) h f l o t = adds_all number a b c d e h f (subst (λ (x : ℕ). AddsCodes (operations many 0 x) c d) l o) t
 all_added number last a b c d e (Err x) h f l o none = tt
@@ -162,6 +177,7 @@ fits_flash number new h =
 pub is_soak : (number : ℕ) (new : List ℕ) (image : List Segment) → AddsCodes (code number) vectors new → image ≡ flat new → IsSoak number image
 is_soak number new image h e = record { instrs = h.instrs; items = h.items; is = e ∙ ap flat h.is }
 
-pub soak_ok : (number : ℕ) (new : List ℕ) (r : Result (List Segment) OutOfMemory) → AddsCodes (code number) vectors new → IfOk r (λ image. image ≡ flat new) → IfOk r (λ image. IsSoak number image)
+pub soak_ok : (number : ℕ) (new : List ℕ) (r : Result (List Segment) OutOfMemory) → AddsCodes (code number) vectors new → IfOk r (λ image. image ≡ flat new)
+    → IfOk r (λ image. IsSoak number image)
 soak_ok number new (Ok image) h e = is_soak number new image h e
 soak_ok number new (Err x) h e = tt

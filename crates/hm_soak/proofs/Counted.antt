@@ -1,5 +1,6 @@
 -- Entries that are counted along a run.
-use Rattle.std.proofs.Common.{◌≡◌, ℕ, suc, ◌+◌, ◌^◌, ◌<◌, ◌≤◌, Bool, true, false, cond, not, ◌&&◌, List, [], ◌∷◌, length, nat_eq, nat_le, refl, sym, ap, ◌∙◌, subst, arith, Option, Some, None}
+use Rattle.std.proofs.Common.{◌≡◌, ℕ, suc, ◌+◌, ◌^◌, ◌<◌, ◌≤◌, Bool, true, false, cond, not, ◌&&◌, List, [], ◌∷◌, length, nat_eq, nat_le, refl, sym, ap, ◌∙◌}
+use Rattle.std.proofs.Common.{subst, arith, Option, Some, None}
 use Rattle.std.proofs.lemmas.Bool.Decides.{nat_tests}
 use Rattle.hm_base.specs.Image.{Segment, flash_byte}
 use Rattle.hm_codes.proofs.Exists.{exists}
@@ -38,10 +39,12 @@ module _ (image : List Segment) (s : Sched) where
       let e = at_start m h in
       record { shows = subst (λ (t : ℕ). Shows image s t m) (sym e) h; counts = λ listing is. ap (entered listing image s) (sym e) }
 
-  thread_is : (t : ℕ) (m : Shown) (listing : Listing) → Shows image s t m → IsListing (flash_byte image) listing → nat_eq (regs_of (timed_of m).config.state).ipsr 0 ≡ in_thread (run listing image s t)
+  thread_is : (t : ℕ) (m : Shown) (listing : Listing) → Shows image s t m → IsListing (flash_byte image) listing
+      → nat_eq (regs_of (timed_of m).config.state).ipsr 0 ≡ in_thread (run listing image s t)
   thread_is t m listing h is = ap in_thread (h.now listing is)
 
-  pub counted_next : (m n : Shown) (e f : ℕ) (begins ends : Bool) → CountedTo image s m e → Shows image s (suc m.ticks) n → n.ticks ≡ m.ticks + 1 → begins ≡ nat_eq (regs_of (timed_of m).config.state).ipsr 0
+  pub counted_next : (m n : Shown) (e f : ℕ) (begins ends : Bool) → CountedTo image s m e → Shows image s (suc m.ticks) n → n.ticks ≡ m.ticks + 1
+      → begins ≡ nat_eq (regs_of (timed_of m).config.state).ipsr 0
       → ends ≡ nat_eq (regs_of (timed_of n).config.state).ipsr 0 → f ≡ e + cond (begins && not ends) 1 0 → CountedTo image s n f
   counted_next m n e f begins ends c h once before after sum =
       let t : n.ticks ≡ suc m.ticks = omega arith in
@@ -56,7 +59,8 @@ module _ (image : List Segment) (s : Sched) where
 
   over : (m : Shown) (o : Outcome) → Shows image s m.ticks m → m.outcome ≡ Some o → Shows image s (length (ticks_of s.lines)) m
   over m o h out = decide (nat_le m.ticks (length (ticks_of s.lines)))
-      (λ within. let le : m.ticks ≤ length (ticks_of s.lines) = grind (arith, nat_tests, within) in shows_end image s m.ticks (length (ticks_of s.lines)) m o out le h)
+      (λ within. let le : m.ticks ≤ length (ticks_of s.lines) = grind (arith, nat_tests, within) in
+      shows_end image s m.ticks (length (ticks_of s.lines)) m o out le h)
       (λ past. let le : length (ticks_of s.lines) ≤ m.ticks = grind (arith, nat_tests, past) in (shows_past image s m.ticks m le h).1)
 
   pub counted_over : (m : Shown) (e : ℕ) (o : Outcome) → CountedTo image s m e → m.outcome ≡ Some o → IsOver image s m × CountsEntries image s e

@@ -1,5 +1,6 @@
 -- Lines that are added to a schedule, pair by pair.
-use Rattle.std.proofs.Common.{◌≡◌, ◌≢◌, ℕ, zero, suc, ◌+◌, ◌*◌, ◌%◌, ◌≤◌, Bool, true, false, cond, nat_eq, List, [], ◌∷◌, ◌++◌, refl, sym, ap, ◌∙◌, arith, inl, inr}
+use Rattle.std.proofs.Common.{◌≡◌, ◌≢◌, ℕ, zero, suc, ◌+◌, ◌*◌, ◌%◌, ◌≤◌, Bool, true, false, cond, nat_eq, List, [], ◌∷◌, ◌++◌, refl, sym, ap, ◌∙◌, arith, inl}
+use Rattle.std.proofs.Common.{inr}
 use Rattle.std.specs.List.{All}
 use Rattle.std.specs.Prelude.{IfOk, Result, Ok, Err}
 use Rattle.std.proofs.lemmas.Bool.Decides.{nat_tests}
@@ -33,7 +34,8 @@ pub with_more : (xs ys : List TickLine) (a b c : Sched) → b ≡ with_lines xs 
 with_more xs ys a b c h k = k ∙ ap (with_lines ys) h ∙ twice_with xs ys a
 
 -- by a last call that may find no memory
-pub with_last : (xs ys : List TickLine) (a b c : Sched) (r : Result (Unit {0}) OutOfMemory) → b ≡ with_lines xs a → IfOk r (λ u. c ≡ with_lines ys b) → IfOk r (λ u. c ≡ with_lines (xs ++ ys) a)
+pub with_last : (xs ys : List TickLine) (a b c : Sched) (r : Result (Unit {0}) OutOfMemory) → b ≡ with_lines xs a → IfOk r (λ u. c ≡ with_lines ys b)
+    → IfOk r (λ u. c ≡ with_lines (xs ++ ys) a)
 with_last xs ys a b c (Ok u) h k = with_more xs ys a b c h k
 with_last xs ys a b c (Err e) h none = tt
 
@@ -46,10 +48,12 @@ append_none (x ∷ xs) = ap (λ (l : List TickLine). x ∷ l) (append_none xs)
 
 -- PAIRS
 pub pair_entered : (p : ℕ) → p % 64 ≡ 0 → pair_lines p ≡ twice 1 ∷ both 1 ∷ wholes 3 ∷ []
-pair_entered p e = let t : nat_eq (p % 64) 0 ≡ true = grind (arith, nat_tests) in ap (λ (b : Bool). cond b (twice 1 ∷ both 1 ∷ wholes 3 ∷ []) (twice 1 ∷ both 0 ∷ [])) t
+pair_entered p e =
+    let t : nat_eq (p % 64) 0 ≡ true = grind (arith, nat_tests) in ap (λ (b : Bool). cond b (twice 1 ∷ both 1 ∷ wholes 3 ∷ []) (twice 1 ∷ both 0 ∷ [])) t
 
 pub pair_alone : (p : ℕ) → p % 64 ≢ 0 → pair_lines p ≡ twice 1 ∷ both 0 ∷ []
-pair_alone p e = let t : nat_eq (p % 64) 0 ≡ false = grind (arith, nat_tests) in ap (λ (b : Bool). cond b (twice 1 ∷ both 1 ∷ wholes 3 ∷ []) (twice 1 ∷ both 0 ∷ [])) t
+pair_alone p e =
+    let t : nat_eq (p % 64) 0 ≡ false = grind (arith, nat_tests) in ap (λ (b : Bool). cond b (twice 1 ∷ both 1 ∷ wholes 3 ∷ []) (twice 1 ∷ both 0 ∷ [])) t
 
 either_few : (b : Bool) → total (cond b (twice 1 ∷ both 1 ∷ wholes 3 ∷ []) (twice 1 ∷ both 0 ∷ [])) ≤ 5
 either_few true = let e : total (twice 1 ∷ both 1 ∷ wholes 3 ∷ []) ≡ 5 = refl in omega arith
@@ -77,7 +81,8 @@ pub record Paired (old : Sched) (n : ℕ) (new : Sched) : Type 0 where
 
 pub paired_none : (old : Sched) → Paired old 0 old
 paired_none old = record {
-  lines = ap (λ (ls : List TickLine). record old { lines = ls }) (sym (append_none old.lines) ∙ ap (λ (l : List TickLine). old.lines ++ l) (sym (pairs_none 1)));
+  lines = ap (λ (ls : List TickLine). record old { lines = ls })
+      (sym (append_none old.lines) ∙ ap (λ (l : List TickLine). old.lines ++ l) (sym (pairs_none 1)));
   few = omega arith;
 }
 
@@ -90,15 +95,19 @@ paired_next old n new newer h e =
     let sum = total_more (pair_lines (n + 1)) new newer e in
     let before = h.few in
     record {
-      lines = with_more (pairs n 1) (pair_lines (1 + n)) old new newer h.lines here ∙ ap (λ (l : List TickLine). with_lines l old) (sym (pairs_more n 1) ∙ ap (λ (k : ℕ). pairs k 1) s);
+      lines = with_more (pairs n 1) (pair_lines (1 + n)) old new newer h.lines here
+          ∙ ap (λ (l : List TickLine). with_lines l old) (sym (pairs_more n 1) ∙ ap (λ (k : ℕ). pairs k 1) s);
       few = omega arith;
     }
 
 -- THE WHOLE, behind no lines
-pub all_lines : (a b c d e : Sched) → a ≡ record { format = 1; entries = true; lo = sram_start; hi = sram_start; floor = 0x2000f000; process = 0x2000f000; lines = [] } → b ≡ with_lines (wholes 16 ∷ []) a → c ≡ with_lines (pairs 4095 1) b
+pub all_lines : (a b c d e : Sched)
+    → a ≡ record { format = 1; entries = true; lo = sram_start; hi = sram_start; floor = 0x2000f000; process = 0x2000f000; lines = [] }
+    → b ≡ with_lines (wholes 16 ∷ []) a → c ≡ with_lines (pairs 4095 1) b
     → d ≡ with_lines (twice 2 ∷ []) c → e ≡ with_lines (wholes 1 ∷ []) d → e ≡ schedule
 unfolding schedule
 all_lines a b c d e h i j k l =
     let back = with_more (twice 2 ∷ []) (wholes 1 ∷ []) c d e k l in
     let middle = with_more (pairs 4095 1) (twice 2 ∷ wholes 1 ∷ []) b c e j back in
-    with_more (wholes 16 ∷ []) (pairs 4095 1 ++ (twice 2 ∷ wholes 1 ∷ [])) a b e i middle ∙ ap (with_lines (wholes 16 ∷ (pairs 4095 1 ++ (twice 2 ∷ wholes 1 ∷ [])))) h
+    with_more (wholes 16 ∷ []) (pairs 4095 1 ++ (twice 2 ∷ wholes 1 ∷ [])) a b e i middle
+    ∙ ap (with_lines (wholes 16 ∷ (pairs 4095 1 ++ (twice 2 ∷ wholes 1 ∷ [])))) h

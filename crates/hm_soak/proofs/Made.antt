@@ -28,7 +28,8 @@ use Rattle.hm_soak_laws.specs.Image.{IsBkpt, IsBx, IsEor, IsHalfRow, IsItem, IsM
 use Rattle.hm_soak_laws.specs.Soak as soak
 use Rattle.hm_soak_laws.specs.Soak.{Operation, operation, operation_of}
 
-pub half_made : (row : T4) (name : HalfName) (d x : ℕ) → row.name ≡ name → row.d.value ≡ d → row.i4.value ≡ x / 4096 → row.i.value ≡ x / 2048 % 2 → row.i3.value ≡ x / 256 % 8 → row.i8.value ≡ x % 256
+pub half_made : (row : T4) (name : HalfName) (d x : ℕ) → row.name ≡ name → row.d.value ≡ d → row.i4.value ≡ x / 4096 → row.i.value ≡ x / 2048 % 2
+    → row.i3.value ≡ x / 256 % 8 → row.i8.value ≡ x % 256
     → IsHalfRow name d x (instr.Scalar (scalar.T4 row))
 half_made row name d x n e f g h k = record { row = row; is = refl; name_is = n; d_is = e; x_is = omega arith }
 
@@ -67,7 +68,8 @@ apart q k h = grind (arith, nat_tests)
 pub the_last : (q : ℕ) → q ≢ 0 → q ≢ 1 → q ≢ 2 → q ≢ 3 → operation_of q ≡ soak.Max
 the_last q a b c d = the_last_of (nat_eq q 0) (nat_eq q 1) (nat_eq q 2) (nat_eq q 3) (apart q 0 a) (apart q 1 b) (apart q 2 c) (apart q 3 d)
 
-pub operation_made : (k v : ℕ) (o : Operation) (d n m : ℕ) (i : Instr) → operation_of (v / 256 % 5) ≡ o → d ≡ k % 4 → n ≡ 4 + v / 65536 % 4 → m ≡ 4 + v / 262144 % 4 → IsOperation o d n m i → IsItem (operation k v) i
+pub operation_made : (k v : ℕ) (o : Operation) (d n m : ℕ) (i : Instr) → operation_of (v / 256 % 5) ≡ o → d ≡ k % 4 → n ≡ 4 + v / 65536 % 4
+    → m ≡ 4 + v / 262144 % 4 → IsOperation o d n m i → IsItem (operation k v) i
 operation_made k v o d n m i e f g h is =
     subst (λ (x : Operation). IsOperation x (k % 4) (4 + v / 65536 % 4) (4 + v / 262144 % 4) i) (sym e)
     (subst (λ (x : ℕ). IsOperation o x (4 + v / 65536 % 4) (4 + v / 262144 % 4) i) f

@@ -20,16 +20,20 @@ use Rattle.hm_state.specs.Start.{reset_pc}
 use Rattle.hm_state.specs.State.{regs_of}
 
 -- what two machines tell is what is shown of their states
-pub means_same : (x y : Regs) (a b : Shown) (out other : List ℕ) (same : Bool) → x ≡ regs_of (timed_of a).config.state → y ≡ regs_of (timed_of b).config.state → out ≡ (timed_of a).config.state.rest.output
-    → other ≡ (timed_of b).config.state.rest.output → (same ≡ true) ↔ ((x ≡ y) × (out ≡ other)) → (same ≡ true) ↔ SameShown (timed_of a).config.state (timed_of b).config.state
+pub means_same : (x y : Regs) (a b : Shown) (out other : List ℕ) (same : Bool) → x ≡ regs_of (timed_of a).config.state → y ≡ regs_of (timed_of b).config.state
+    → out ≡ (timed_of a).config.state.rest.output
+    → other ≡ (timed_of b).config.state.rest.output → (same ≡ true) ↔ ((x ≡ y) × (out ≡ other))
+    → (same ≡ true) ↔ SameShown (timed_of a).config.state (timed_of b).config.state
 means_same x y a b out other same e f g h means = (
   λ t. let m = means.0 t in record { registers = sym e ∙ m.0 ∙ f; output = sym g ∙ m.1 ∙ h },
   λ shown. means.1 (e ∙ shown.registers ∙ sym f, g ∙ shown.output ∙ sym h),
 )
 
 -- what the machines of the two runs show makes the line
-pub line_from : (number : ℕ) (image : List Segment) (a b : Shown) (e : ℕ) (same : Bool) (text : List ℕ) → IsSoak number image → IsOver image schedule a → CountsEntries image schedule e
-    → IsOver image in_order_schedule b → (same ≡ true) ↔ SameShown (timed_of a).config.state (timed_of b).config.state → text ≡ summary_text number (timed_of a).config.n (timed_of a).ticks e same
+pub line_from : (number : ℕ) (image : List Segment) (a b : Shown) (e : ℕ) (same : Bool) (text : List ℕ) → IsSoak number image → IsOver image schedule a
+    → CountsEntries image schedule e
+    → IsOver image in_order_schedule b → (same ≡ true) ↔ SameShown (timed_of a).config.state (timed_of b).config.state
+    → text ≡ summary_text number (timed_of a).config.n (timed_of a).ticks e same
     → IsSoakLine number text
 line_from number image a b e same text soak over counted plainly alike is =
     let there = exists (flash_byte image) in
@@ -50,8 +54,10 @@ line_from number image a b e same text soak over counted plainly alike is =
       };
     }
 
-pub line_ok : (number : ℕ) (image : List Segment) (a b : Shown) (n t e : ℕ) (same : Bool) (r : Result (Vec ℕ Global) OutOfMemory) → IsSoak number image → IsOver image schedule a → CountsEntries image schedule e
-    → IsOver image in_order_schedule b → (same ≡ true) ↔ SameShown (timed_of a).config.state (timed_of b).config.state → n ≡ (timed_of a).config.n → t ≡ (timed_of a).ticks
+pub line_ok : (number : ℕ) (image : List Segment) (a b : Shown) (n t e : ℕ) (same : Bool) (r : Result (Vec ℕ Global) OutOfMemory) → IsSoak number image
+    → IsOver image schedule a → CountsEntries image schedule e
+    → IsOver image in_order_schedule b → (same ≡ true) ↔ SameShown (timed_of a).config.state (timed_of b).config.state → n ≡ (timed_of a).config.n
+    → t ≡ (timed_of a).ticks
     → IfOk r (λ out. out.items ≡ summary_text number n t e same) → IfOk r (λ out. IsSoakLine number out.items)
 line_ok number image a b n t e same (Ok out) soak over counted plainly alike retired ticks is =
     line_from number image a b e same out.items soak over counted plainly alike (is ∙ (λ j. summary_text number (retired j) (ticks j) e same))
@@ -59,7 +65,8 @@ line_ok number image a b n t e same (Err x) soak over counted plainly alike reti
 
 -- so it never says differ where the run under the schedule halts
 pub equal_ok : (number : ℕ) (q : Result (Vec ℕ Global) OutOfMemory) → IfOk q (λ out. IsSoakLine number out.items)
-    → IfOk q (λ out. (image : List Segment) (listing : Listing) (r : Reason) (n : ℕ) → IsSoak number image → IsListing (flash_byte image) listing → (scheduled listing image).outcome ≡ Some (outcome.Halted r n)
+    → IfOk q (λ out. (image : List Segment) (listing : Listing) (r : Reason) (n : ℕ) → IsSoak number image → IsListing (flash_byte image) listing
+    → (scheduled listing image).outcome ≡ Some (outcome.Halted r n)
     → out.items ≡ (let x = scheduled listing image in summary_text number 4113 x.ticks (entered listing image schedule x.ticks) true))
 equal_ok number (Ok out) h = λ image listing r n soak lists halts. line_equal number image listing r n out.items soak lists halts h
 equal_ok number (Err x) none = tt

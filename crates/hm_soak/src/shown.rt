@@ -60,7 +60,8 @@ fn line(
 pub fn summary(alloc: Global, number: u32) -> Result<Vec<u8>, OutOfMemory>
     ensures line { IfOk result (λ out. IsSoakLine number out.items) }
     // It never says `differ` where the run under the schedule halts.
-    ensures equal { IfOk result (λ out. (image : List Segment) (listing : Listing) (r : Reason) (n : ℕ) → IsSoak number image → IsListing (flash_byte image) listing
+    ensures equal { IfOk result (λ out. (image : List Segment) (listing : Listing) (r : Reason) (n : ℕ) → IsSoak number image
+        → IsListing (flash_byte image) listing
         → (scheduled listing image).outcome ≡ Some (Halted r n)
         → out.items ≡ (let x = scheduled listing image in summary_text number 4113 x.ticks (entered listing image schedule x.ticks) true)) }
 {

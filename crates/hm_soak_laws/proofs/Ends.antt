@@ -37,10 +37,12 @@ same_state : (r q : Reason) (n : ℕ) (s t : State) → Halted r n s ≡ Halted 
 same_state r q n s t e = cc
 
 module _ (listing : Listing) (image : List Segment) where
-  at_halt : (s : Sched) (r : Reason) (n : ℕ) → (run_out listing image s).outcome ≡ Some (outcome.Halted r n) → AtHalt listing image (run_out listing image s).machine r n
+  at_halt : (s : Sched) (r : Reason) (n : ℕ) → (run_out listing image s).outcome ≡ Some (outcome.Halted r n)
+      → AtHalt listing image (run_out listing image s).machine r n
   at_halt s r n e =
       let x = run_out listing image s in
-      let alone : x.machine.acts ≡ [] = subst (λ (q : Option Outcome). HaltsInThread q x.machine.acts) e (keeps_order listing image s (length (ticks_of s.lines))).halts in
+      let alone : x.machine.acts ≡ [] =
+      subst (λ (q : Option Outcome). HaltsInThread q x.machine.acts) e (keeps_order listing image s (length (ticks_of s.lines))).halts in
       let counts : Counts (Some (outcome.Halted r n)) x.machine.acts x.machine.config.n =
       subst (λ (q : Option Outcome). Counts q x.machine.acts x.machine.config.n) e (run_counts s listing image (length (ticks_of s.lines))) in
       let keeps = keeps_order listing image s (length (ticks_of s.lines)) in
@@ -53,14 +55,17 @@ module _ (listing : Listing) (image : List Segment) where
         alike = shown_alike x.machine.config.state h.between.order h.between.live h.between.pc;
       }
 
-  pub halted_retired : (s : Sched) (r : Reason) (n : ℕ) → (run_out listing image s).outcome ≡ Some (outcome.Halted r n) → (run_out listing image s).machine.config.n ≡ n
+  pub halted_retired : (s : Sched) (r : Reason) (n : ℕ) → (run_out listing image s).outcome ≡ Some (outcome.Halted r n)
+      → (run_out listing image s).machine.config.n ≡ n
   halted_retired s r n e = (at_halt s r n e).retired
 
   pub plain_halts : (n : ℕ) → HaltsInOrder listing image n → (run_out listing image (plain n)).outcome ≡ Some (outcome.Halted (Break 0) n)
   plain_halts n h =
-      ap (λ (x : Timed). x.outcome) (run_quiet listing image (plain n) (length (ticks_of (plain n).lines)) refl) ∙ plain_ends listing image n ∙ ap (λ (y : InOrder). Some (plain_end y)) h.halts
+      ap (λ (x : Timed). x.outcome) (run_quiet listing image (plain n) (length (ticks_of (plain n).lines)) refl) ∙ plain_ends listing image n
+      ∙ ap (λ (y : InOrder). Some (plain_end y)) h.halts
 
-  pub ends_alike : (n : ℕ) (s : Sched) (r : Reason) (k : ℕ) → HaltsInOrder listing image n → (run_out listing image s).outcome ≡ Some (outcome.Halted r k) → EndsAlike listing image n s r k
+  pub ends_alike : (n : ℕ) (s : Sched) (r : Reason) (k : ℕ) → HaltsInOrder listing image n → (run_out listing image s).outcome ≡ Some (outcome.Halted r k)
+      → EndsAlike listing image n s r k
   ends_alike n s r k h e =
       let f = plain_halts n h in
       let same = alike_every listing image s (plain n) r (Break 0) k n e f in

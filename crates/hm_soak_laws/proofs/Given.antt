@@ -32,7 +32,8 @@ use Rattle.hm_isa.specs.declared.vectors.V18.{V18}
 use Rattle.hm_isa.specs.Rules.{is_general}
 use Rattle.hm_soak_laws.specs.Image.{AreItems, IsHalfRow, IsItem, IsOperation, IsSoak, IsSum, all_halves, half_bytes, vectors}
 use Rattle.hm_soak_laws.specs.Soak as soak
-use Rattle.hm_soak_laws.specs.Soak.{Item, Operation, Movw, Movt, Movs, Str, Vdup, Lanes, Bkpt, Nop, Bx, code, draw, drawn, fill, filled, handler, head, many, middle, operation, operations}
+use Rattle.hm_soak_laws.specs.Soak.{Item, Operation, Movw, Movt, Movs, Str, Vdup, Lanes, Bkpt, Nop, Bx, code, draw, drawn, fill, filled, handler, head, many}
+use Rattle.hm_soak_laws.specs.Soak.{middle, operation, operations}
 
 -- its numbers fit their fields
 abbrev IsGiven : Item → Type 0
@@ -107,7 +108,12 @@ some_movs d x h k =
 
 some_store : (t n : ℕ) → t < 8 → n < 8 → (i : Instr) × IsItem (Str t n) i
 some_store t n h k =
-    let row : S16 = record { name = plain.Str; i = record { value = 0; in_range = omega arith }; n = record { value = n; in_range = k }; t = record { value = t; in_range = h } } in
+    let row : S16 = record {
+      name = plain.Str;
+      i = record { value = 0; in_range = omega arith };
+      n = record { value = n; in_range = k };
+      t = record { value = t; in_range = h };
+    } in
     (instr.Scalar (scalar.S16 row), record { row = row; is = refl; name_is = refl; i_is = refl; n_is = refl; t_is = refl })
 
 some_dup : (d t : ℕ) → d < 8 → t < 13 → (i : Instr) × IsItem (Vdup d t) i
@@ -168,7 +174,8 @@ filled_given j v h k = ((omega arith, omega arith), ((omega arith, omega arith),
 fill_given : (n j x : ℕ) → j + n ≤ 4 → AreGiven (fill n j x)
 unfolding fill
 fill_given zero j x h = tt
-fill_given (suc n) j x h = given_append (filled j (draw x)) (fill n (j + 1) (draw x)) (filled_given j (draw x) (omega arith) (below_word x)) (fill_given n (j + 1) (draw x) (omega arith))
+fill_given (suc n) j x h = given_append (filled j (draw x)) (fill n (j + 1) (draw x)) (filled_given j (draw x) (omega arith) (below_word x))
+    (fill_given n (j + 1) (draw x) (omega arith))
 
 operation_given : (k v : ℕ) → IsGiven (operation k v)
 operation_given k v = (omega arith, omega arith, omega arith)

@@ -34,7 +34,8 @@ unfolding operations
 operations_halves zero k x = refl
 operations_halves (suc n) k x = let e = operations_halves n (k + 1) (draw x) in omega arith
 
-after_breakpoint : (listing : Listing) (a b : ℕ) (is : List Instr) → AreItems (Bkpt 0 ∷ handler) is → StandFrom listing a is → a + 2 ≡ b → HandlerStands listing b
+after_breakpoint : (listing : Listing) (a b : ℕ) (is : List Instr) → AreItems (Bkpt 0 ∷ handler) is → StandFrom listing a is → a + 2 ≡ b
+    → HandlerStands listing b
 after_breakpoint listing a b [] items stand e = absurd items
 after_breakpoint listing a b (i ∷ is) items stand e =
     let w = item_width (Bkpt 0) i items.0 in
@@ -42,14 +43,16 @@ after_breakpoint listing a b (i ∷ is) items stand e =
     let there = subst (λ (k : ℕ). StandFrom listing (a + 2 * k) is) w stand.2 in
     record { instrs = is; items = items.1; stand = subst (λ (k : ℕ). StandFrom listing k is) f there }
 
-behind_all : (n x y : ℕ) (is : List Instr) (listing : Listing) → AreItems (head ++ ((fill 4 0 x ++ operations n 0 y) ++ (Bkpt 0 ∷ handler))) is → StandFrom listing 68 is
+behind_all : (n x y : ℕ) (is : List Instr) (listing : Listing) → AreItems (head ++ ((fill 4 0 x ++ operations n 0 y) ++ (Bkpt 0 ∷ handler))) is
+    → StandFrom listing 68 is
     → HandlerStands listing (68 + 12 + 4 * 12 + n * 4 + 2)
 behind_all n x y is listing items stand =
     let xs = fill 4 0 x ++ operations n 0 y in
     let p = split head (xs ++ (Bkpt 0 ∷ handler)) is items in
     let q = split xs (Bkpt 0 ∷ handler) p.back p.second in
     let b = 68 + widths p.front in
-    let after : StandFrom listing b (q.front ++ q.back) = subst (StandFrom listing b) q.both (stand_back listing p.front p.back 68 (subst (StandFrom listing 68) p.both stand)) in
+    let after : StandFrom listing b (q.front ++ q.back) =
+    subst (StandFrom listing b) q.both (stand_back listing p.front p.back 68 (subst (StandFrom listing 68) p.both stand)) in
     let w = widths_are head p.front p.first in
     let v = widths_are xs q.front q.first in
     let l = halves_append (fill 4 0 x) (operations n 0 y) in
@@ -58,9 +61,11 @@ behind_all n x y is listing items stand =
     let e : b + widths q.front + 2 ≡ 68 + 12 + 4 * 12 + n * 4 + 2 = omega arith in
     after_breakpoint listing (b + widths q.front) (68 + 12 + 4 * 12 + n * 4 + 2) q.back q.second (stand_back listing q.front q.back b after) e
 
-pub handler_stands : (number : ℕ) (image : List Segment) (listing : Listing) → IsSoak number image → IsListing (flash_byte image) listing → HandlerStands listing handler_address
+pub handler_stands : (number : ℕ) (image : List Segment) (listing : Listing) → IsSoak number image → IsListing (flash_byte image) listing
+    → HandlerStands listing handler_address
 unfolding code
 handler_stands number image listing soak lists =
     let made = flat (vectors ++ half_bytes (all_halves soak.instrs)) in
     let listed : IsListing (flash_byte made) listing = subst (λ (i : List Segment). IsListing (flash_byte i) listing) soak.is lists in
-    behind_all many number (drawn 4 number) soak.instrs listing soak.items (soak_stands many number (drawn 4 number) soak.instrs listing (omega arith) soak.items listed)
+    behind_all many number (drawn 4 number) soak.instrs listing soak.items
+    (soak_stands many number (drawn 4 number) soak.instrs listing (omega arith) soak.items listed)

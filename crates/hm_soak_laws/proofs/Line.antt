@@ -41,14 +41,17 @@ module _ (number : ℕ) (listing : Listing) (image : List Segment) where
   some_summary =
       let s = (scheduled listing image).machine.config.state in
       let t = (plainly listing image).machine.config.state in
-      let x = scheduled listing image in
-      (summary_text number x.machine.config.n x.ticks (entered listing image schedule x.ticks) (same_test s t), record { same = same_test s t; means = same_decides s t; is = refl })
+      let x = scheduled listing image in (
+        summary_text number x.machine.config.n x.ticks (entered listing image schedule x.ticks) (same_test s t),
+        record { same = same_test s t; means = same_decides s t; is = refl },
+      )
 
 one_listing : (flash : ℕ → ℕ) (a b : Listing) → IsListing flash a → IsListing flash b → a ≡ b
 one_listing flash a b h k = λ j x. fetched_one flash x (a x) (b x) (h.at x) (k.at x) j
 
 -- the text that the line is, of any image and listing that are the soak's
-pub line_of : (number : ℕ) (image : List Segment) (listing : Listing) (text : List ℕ) → IsSoak number image → IsListing (flash_byte image) listing → IsSoakLine number text → IsSummary number listing image text
+pub line_of : (number : ℕ) (image : List Segment) (listing : Listing) (text : List ℕ) → IsSoak number image → IsListing (flash_byte image) listing
+    → IsSoakLine number text → IsSummary number listing image text
 line_of number image listing text soak lists h =
     let same : h.image ≡ image = one_image number h.image image h.soak soak in
     let there : IsListing (flash_byte image) h.listing = subst (λ (i : List Segment). IsListing (flash_byte i) h.listing) same h.lists in
@@ -65,7 +68,8 @@ some_line number =
     let text = some_summary number there.0 made.0 in
     (text.0, record { image = made.0; listing = there.0; soak = made.1; lists = there.1; summary = text.1 })
 
-pub line_equal : (number : ℕ) (image : List Segment) (listing : Listing) (r : Reason) (n : ℕ) (text : List ℕ) → IsSoak number image → IsListing (flash_byte image) listing
+pub line_equal : (number : ℕ) (image : List Segment) (listing : Listing) (r : Reason) (n : ℕ) (text : List ℕ) → IsSoak number image
+    → IsListing (flash_byte image) listing
     → (scheduled listing image).outcome ≡ Some (outcome.Halted r n) → IsSoakLine number text
     → text ≡ (let x = scheduled listing image in summary_text number 4113 x.ticks (entered listing image schedule x.ticks) true)
 line_equal number image listing r n text soak lists e h = soak_equal number image listing r n text soak lists e (line_of number image listing text soak lists h)

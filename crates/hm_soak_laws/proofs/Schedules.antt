@@ -1,5 +1,6 @@
 -- The schedule of a soak is one, and how many ticks it has.
-use Rattle.std.proofs.Common.{◌≡◌, ℕ, zero, suc, ◌+◌, ◌*◌, ◌/◌, ◌%◌, ◌^◌, ◌<◌, ◌≤◌, Bool, true, false, cond, nat_eq, [], ◌∷◌, ◌++◌, refl, ap, ◌∙◌, arith, inl, inr}
+use Rattle.std.proofs.Common.{◌≡◌, ℕ, zero, suc, ◌+◌, ◌*◌, ◌/◌, ◌%◌, ◌^◌, ◌<◌, ◌≤◌, Bool, true, false, cond, nat_eq, [], ◌∷◌, ◌++◌, refl, ap, ◌∙◌, arith, inl}
+use Rattle.std.proofs.Common.{inr}
 use Rattle.std.specs.List.{All}
 use Rattle.std.proofs.lemmas.Bool.Decides.{nat_tests}
 use Rattle.std.proofs.lemmas.List.Elements.{All-append, All-cons, All-nil}
@@ -41,8 +42,10 @@ is_both irq h = record {
 
 either_lines : (b : Bool) → All (IsLine 32) (cond b (twice 1 ∷ both 1 ∷ wholes 3 ∷ []) (twice 1 ∷ both 0 ∷ []))
 either_lines true = All-cons (IsLine 32) (twice 1) (both 1 ∷ wholes 3 ∷ []) (is_twice 1 (omega arith))
-    (All-cons (IsLine 32) (both 1) (wholes 3 ∷ []) (is_both 1 (omega arith)) (All-cons (IsLine 32) (wholes 3) [] (is_wholes 3 (omega arith)) (All-nil (IsLine 32))))
-either_lines false = All-cons (IsLine 32) (twice 1) (both 0 ∷ []) (is_twice 1 (omega arith)) (All-cons (IsLine 32) (both 0) [] (is_both 0 (omega arith)) (All-nil (IsLine 32)))
+    (All-cons (IsLine 32) (both 1) (wholes 3 ∷ []) (is_both 1 (omega arith))
+    (All-cons (IsLine 32) (wholes 3) [] (is_wholes 3 (omega arith)) (All-nil (IsLine 32))))
+either_lines false = All-cons (IsLine 32) (twice 1) (both 0 ∷ []) (is_twice 1 (omega arith))
+    (All-cons (IsLine 32) (both 0) [] (is_both 0 (omega arith)) (All-nil (IsLine 32)))
 
 pairs_lines : (n p : ℕ) → All (IsLine 32) (pairs n p)
 unfolding pairs
@@ -62,7 +65,8 @@ unfolding pairs
 pairs_total zero q = let e : 0 + 3 * (q / 64) ≡ 2 * 0 + 3 * ((q + 0) / 64) = omega arith in e
 pairs_total (suc n) q =
     let b : ℕ = cond (nat_eq ((q + 1) % 64) 0) 1 0 in
-    let sum : total (pairs (suc n) (q + 1)) ≡ total (pair_lines (q + 1)) + total (pairs n (q + 1 + 1)) = sum_by-append (λ (line : TickLine). line.count) (pair_lines (q + 1)) (pairs n (q + 1 + 1)) in
+    let sum : total (pairs (suc n) (q + 1)) ≡ total (pair_lines (q + 1)) + total (pairs n (q + 1 + 1)) =
+    sum_by-append (λ (line : TickLine). line.count) (pair_lines (q + 1)) (pairs n (q + 1 + 1)) in
     let here : total (pair_lines (q + 1)) ≡ 2 + 3 * b = either_total (nat_eq ((q + 1) % 64) 0) in
     let step : (q + 1) / 64 ≡ q / 64 + b = next_64 q in
     let more : total (pairs n (q + 1 + 1)) + 3 * ((q + 1) / 64) ≡ 2 * n + 3 * ((q + 1 + n) / 64) = pairs_total n (q + 1) in
@@ -91,6 +95,7 @@ lawful = record {
   one_floor = λ one. refl;
   each_line = All-cons (IsLine 32) (wholes 16) (pairs 4095 1 ++ (twice 2 ∷ wholes 1 ∷ [])) (is_wholes 16 (omega arith))
       (All-append (IsLine 32) (pairs 4095 1) (twice 2 ∷ wholes 1 ∷ []) (pairs_lines 4095 1)
-      (All-cons (IsLine 32) (twice 2) (wholes 1 ∷ []) (is_twice 2 (omega arith)) (All-cons (IsLine 32) (wholes 1) [] (is_wholes 1 (omega arith)) (All-nil (IsLine 32)))));
+      (All-cons (IsLine 32) (twice 2) (wholes 1 ∷ []) (is_twice 2 (omega arith))
+      (All-cons (IsLine 32) (wholes 1) [] (is_wholes 1 (omega arith)) (All-nil (IsLine 32)))));
   not_too_many = let e = total_is in omega arith;
 }

@@ -38,13 +38,15 @@ split (x ∷ xs) ys (i ∷ is) h =
 
 -- STRAIGHT CODE behind a head, and a breakpoint
 module _ (listing : Listing) (image : List Segment) where
-  at_breakpoint : (n a : ℕ) (rest : List Item) (is : List Instr) → ComesTo listing image n a → AreItems (Bkpt 0 ∷ rest) is → StandFrom listing a is → HaltsInOrder listing image (n + 1)
+  at_breakpoint : (n a : ℕ) (rest : List Item) (is : List Instr) → ComesTo listing image n a → AreItems (Bkpt 0 ∷ rest) is → StandFrom listing a is
+      → HaltsInOrder listing image (n + 1)
   at_breakpoint n a rest [] h items stand = absurd items
   at_breakpoint n a rest (i ∷ is) h items stand =
       let b = items.0 in
       record { state = h.state; halts = halts listing image b.row 0 n a h (stand.0 ∙ ap Ok b.is) b.x_is refl }
 
-  halts_behind : (a : ℕ) (xs rest : List Item) (is : List Instr) → a + 12 < 2 ^ 32 → ComesTo listing image 0 a → AreFree xs → AreItems (head ++ (xs ++ (Bkpt 0 ∷ rest))) is → StandFrom listing a is
+  halts_behind : (a : ℕ) (xs rest : List Item) (is : List Instr) → a + 12 < 2 ^ 32 → ComesTo listing image 0 a → AreFree xs
+      → AreItems (head ++ (xs ++ (Bkpt 0 ∷ rest))) is → StandFrom listing a is
       → HaltsInOrder listing image (4 + length xs + 1)
   halts_behind a xs rest is fits h free items stand =
       let p = split head (xs ++ (Bkpt 0 ∷ rest)) is items in
@@ -60,7 +62,8 @@ module _ (listing : Listing) (image : List Segment) where
 
 -- THE IMAGE
 -- with any number of operations
-pub size_is : (n x y : ℕ) (is : List Instr) → AreItems (head ++ ((fill 4 0 x ++ operations n 0 y) ++ (Bkpt 0 ∷ handler))) is → length (all_halves is) ≤ 2 * (20 + n)
+pub size_is : (n x y : ℕ) (is : List Instr) → AreItems (head ++ ((fill 4 0 x ++ operations n 0 y) ++ (Bkpt 0 ∷ handler))) is
+    → length (all_halves is) ≤ 2 * (20 + n)
 size_is n x y is h =
     let few = few_halves (head ++ ((fill 4 0 x ++ operations n 0 y) ++ (Bkpt 0 ∷ handler))) is h in
     let m = middle_length n x y in
@@ -72,14 +75,16 @@ pub first_pc : (bytes : List ℕ) → 68 + length bytes ≤ flash_size → reset
 first_pc bytes fits =
     let size = length-append vectors bytes in
     let total : length (vectors ++ bytes) ≤ flash_size = omega arith in
-    let b : (k : ℕ) → k < 8 → flash_byte (flat (vectors ++ bytes)) k ≡ slice_index (vectors ++ bytes) k = λ k l. flat_byte (vectors ++ bytes) k (omega arith) total in
+    let b : (k : ℕ) → k < 8 → flash_byte (flat (vectors ++ bytes)) k ≡ slice_index (vectors ++ bytes) k =
+    λ k l. flat_byte (vectors ++ bytes) k (omega arith) total in
     (λ j. b 4 (omega arith) j + 0x100 * b 5 (omega arith) j + 0x10000 * b 6 (omega arith) j + 0x1000000 * b 7 (omega arith) j)
 
 begins : (image : List Segment) → reset_pc image ≡ 0x45 → (listing : Listing) → ComesTo listing image 0 0x44
 unfolding start_under
 begins image e listing = record { state = start image; runs = refl; pc = ap (λ (x : ℕ). x - x % 2) e; block = refl }
 
-pub soak_stands : (n x y : ℕ) (is : List Instr) (listing : Listing) → n ≤ 100000 → AreItems (head ++ ((fill 4 0 x ++ operations n 0 y) ++ (Bkpt 0 ∷ handler))) is
+pub soak_stands : (n x y : ℕ) (is : List Instr) (listing : Listing) → n ≤ 100000
+    → AreItems (head ++ ((fill 4 0 x ++ operations n 0 y) ++ (Bkpt 0 ∷ handler))) is
     → IsListing (flash_byte (flat (vectors ++ half_bytes (all_halves is)))) listing → StandFrom listing 68 is
 soak_stands n x y is listing few items lists =
     let image = flat (vectors ++ half_bytes (all_halves is)) in
@@ -95,10 +100,12 @@ halts_with n x y is listing few items lists =
     let bytes = length_halves (all_halves is) in
     let pc = first_pc (half_bytes (all_halves is)) (omega arith) in
     let from = soak_stands n x y is listing few items lists in
-    let ends = halts_behind listing image 68 (fill 4 0 x ++ operations n 0 y) handler is (omega arith) (begins image pc listing) (middle_free n x y) items from in
+    let ends = halts_behind listing image 68 (fill 4 0 x ++ operations n 0 y) handler is (omega arith) (begins image pc listing) (middle_free n x y) items
+    from in
     subst (λ (k : ℕ). HaltsInOrder listing image (4 + k + 1)) (middle_length n x y) ends
 
-pub soak_halts : (number : ℕ) (image : List Segment) (listing : Listing) → IsSoak number image → IsListing (flash_byte image) listing → HaltsInOrder listing image 4113
+pub soak_halts : (number : ℕ) (image : List Segment) (listing : Listing) → IsSoak number image → IsListing (flash_byte image) listing
+    → HaltsInOrder listing image 4113
 unfolding code
 soak_halts number image listing soak lists =
     let made = flat (vectors ++ half_bytes (all_halves soak.instrs)) in
@@ -114,12 +121,14 @@ in_order_is : in_order_schedule ≡ plain 4113
 unfolding in_order_schedule
 in_order_is = refl
 
-pub soak_equal : (number : ℕ) (image : List Segment) (listing : Listing) (r : Reason) (n : ℕ) (text : List ℕ) → IsSoak number image → IsListing (flash_byte image) listing
+pub soak_equal : (number : ℕ) (image : List Segment) (listing : Listing) (r : Reason) (n : ℕ) (text : List ℕ) → IsSoak number image
+    → IsListing (flash_byte image) listing
     → (scheduled listing image).outcome ≡ Some (outcome.Halted r n) → IsSummary number listing image text
     → text ≡ (let x = scheduled listing image in summary_text number 4113 x.ticks (entered listing image schedule x.ticks) true)
 soak_equal number image listing r n text soak lists e h =
     let alike = soak_alike number image listing r n soak lists e in
-    let shown = subst (λ (s : Sched). SameShown (run_out listing image schedule).machine.config.state (run_out listing image s).machine.config.state) (sym in_order_is) alike.same in
+    let shown = subst (λ (s : Sched). SameShown (run_out listing image schedule).machine.config.state (run_out listing image s).machine.config.state)
+    (sym in_order_is) alike.same in
     let same : h.same ≡ true = h.means.1 shown in
     let x = scheduled listing image in
     h.is ∙ (λ j. summary_text number (alike.retired j) x.ticks (entered listing image schedule x.ticks) (same j))

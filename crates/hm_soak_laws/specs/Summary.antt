@@ -34,7 +34,8 @@ verdict same = cond same (codes "equal") (codes "differ")
 -- soak NUMBER instructions N ticks T entries E equal, or differ in place of equal
 abbrev pub summary_text : ℕ → ℕ → ℕ → ℕ → Bool → List ℕ
 summary_text number n t e same =
-    codes "soak " ++ decimal number ++ codes " instructions " ++ decimal n ++ codes " ticks " ++ decimal t ++ codes " entries " ++ decimal e ++ codes " " ++ verdict same ++ codes "\n"
+    codes "soak " ++ decimal number ++ codes " instructions " ++ decimal n ++ codes " ticks " ++ decimal t ++ codes " entries " ++ decimal e ++ codes " "
+    ++ verdict same ++ codes "\n"
 
 -- the runs of the image: under the schedule of the soak, and plain
 abbrev pub scheduled : Listing → List Segment → Run

@@ -32,7 +32,8 @@ ghost use Rattle.hm_soak_laws.specs.Straight.{AllGoOn, AlwaysGoesOn, ComesTo, St
 pub fn straight_law()
     ensures passes { (listing : Listing) (image : List Segment) (is : List Instr) (n a : ℕ) → ComesTo listing image n a → StandFrom listing a is → AllGoOn is
         → ComesTo listing image (n + length is) (a + widths is) }
-    ensures halts { (listing : Listing) (image : List Segment) (r : S18) (k n a : ℕ) (h : ComesTo listing image n a) → listing a ≡ Ok (instr.Scalar (scalar.S18 r)) → r.i.value ≡ k
+    ensures halts { (listing : Listing) (image : List Segment) (r : S18) (k n a : ℕ) (h : ComesTo listing image n a)
+        → listing a ≡ Ok (instr.Scalar (scalar.S18 r)) → r.i.value ≡ k
         → asks k ≡ false → in_order listing image (n + 1) ≡ Halted (Break k) (n + 1) h.state }
     ensures vector { (v : Vector) (f : Form) → kind_of v ≡ Registers f → writes_lr v ≡ false → AlwaysGoesOn (instr.Vector v) }
     ensures half { (r : T4) → AlwaysGoesOn (instr.Scalar (scalar.T4 r)) }
@@ -42,14 +43,17 @@ pub fn straight_law()
 /// The image of a soak halts by its breakpoint, as instruction 4113 in order, whatever is drawn. So every run of it that halts, under the
 /// schedule of the soak or any other, shows what the plain run of 4113 ticks does, and its summary says `equal`.
 pub fn soak_law()
-    ensures halts { (number : ℕ) (image : List Segment) (listing : Listing) → IsSoak number image → IsListing (flash_byte image) listing → HaltsInOrder listing image 4113 }
+    ensures halts { (number : ℕ) (image : List Segment) (listing : Listing) → IsSoak number image → IsListing (flash_byte image) listing
+        → HaltsInOrder listing image 4113 }
     ensures alike { (number : ℕ) (image : List Segment) (listing : Listing) (r : Reason) (n : ℕ) → IsSoak number image → IsListing (flash_byte image) listing
         → (scheduled listing image).outcome ≡ Some (outcome.Halted r n) → EndsAlike listing image 4113 schedule r n }
-    ensures equal { (number : ℕ) (image : List Segment) (listing : Listing) (r : Reason) (n : ℕ) (text : List ℕ) → IsSoak number image → IsListing (flash_byte image) listing
+    ensures equal { (number : ℕ) (image : List Segment) (listing : Listing) (r : Reason) (n : ℕ) (text : List ℕ) → IsSoak number image
+        → IsListing (flash_byte image) listing
         → (scheduled listing image).outcome ≡ Some (outcome.Halted r n) → IsSummary number listing image text
         → text ≡ (let x = scheduled listing image in summary_text number 4113 x.ticks (entered listing image schedule x.ticks) true) }
     // The handler's instructions stand where the vector of interrupt 0 says.
-    ensures handler { (number : ℕ) (image : List Segment) (listing : Listing) → IsSoak number image → IsListing (flash_byte image) listing → HandlerStands listing handler_address }
+    ensures handler { (number : ℕ) (image : List Segment) (listing : Listing) → IsSoak number image → IsListing (flash_byte image) listing
+        → HandlerStands listing handler_address }
     // The schedule is one, of 8398 ticks.
     ensures lawful { IsSched schedule }
     ensures ticks { total schedule.lines ≡ 8398 }
@@ -75,7 +79,8 @@ pub fn line_law()
     ensures every { (number : ℕ) (image : List Segment) (listing : Listing) (text : List ℕ) → IsSoak number image → IsListing (flash_byte image) listing
         → IsSoakLine number text → IsSummary number listing image text }
     // It never says `differ` where the run under the schedule halts.
-    ensures equal { (number : ℕ) (image : List Segment) (listing : Listing) (r : Reason) (n : ℕ) (text : List ℕ) → IsSoak number image → IsListing (flash_byte image) listing
+    ensures equal { (number : ℕ) (image : List Segment) (listing : Listing) (r : Reason) (n : ℕ) (text : List ℕ) → IsSoak number image
+        → IsListing (flash_byte image) listing
         → (scheduled listing image).outcome ≡ Some (outcome.Halted r n) → IsSoakLine number text
         → text ≡ (let x = scheduled listing image in summary_text number 4113 x.ticks (entered listing image schedule x.ticks) true) }
 {}

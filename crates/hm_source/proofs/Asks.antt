@@ -48,10 +48,14 @@ behind_name text name behind asked f d =
       range = d.1;
     }
 
-pub with_name : (text name behind : List ℕ) (asked : Directed) → AreFront text (word name ∷ []) behind → name ≡ name_asked asked → AreTokensOf behind (tokens_behind asked) → IsInRange asked → IsDirective text asked
+pub with_name : (text name behind : List ℕ) (asked : Directed) → AreFront text (word name ∷ []) behind → name ≡ name_asked asked
+    → AreTokensOf behind (tokens_behind asked) → IsInRange asked → IsDirective text asked
 with_name text name behind asked f e t r =
-    let front = subst (λ (x : List ℕ). AreFront text (word x ∷ []) behind) e f in
-    (subst (λ (ts : List Tok). AreTokensOf text ts) (sym (in_parts asked)) (front_and_rest text behind (word (name_asked asked) ∷ []) (tokens_behind asked) front t), r)
+    let front = subst (λ (x : List ℕ). AreFront text (word x ∷ []) behind) e f in (
+      subst (λ (ts : List Tok). AreTokensOf text ts) (sym (in_parts asked))
+          (front_and_rest text behind (word (name_asked asked) ∷ []) (tokens_behind asked) front t),
+      r,
+    )
 
 -- ---- names differ
 
@@ -99,19 +103,22 @@ first_word text asked d =
     let all = subst (λ (ts : List Tok). AreTokensOf text ts) (in_parts asked) d.0 in
     (all.0, (all.0, all.1, refl))
 
-pub asks_org : (text name behind : List ℕ) (asked : Directed) → AreFront text (word name ∷ []) behind → IsDirective text asked → name ≡ codes ".org" → (a : ℕ) × AreTokensOf behind (number a ∷ []) × (a < 2 ^ 32)
+pub asks_org : (text name behind : List ℕ) (asked : Directed) → AreFront text (word name ∷ []) behind → IsDirective text asked → name ≡ codes ".org"
+    → (a : ℕ) × AreTokensOf behind (number a ∷ []) × (a < 2 ^ 32)
 asks_org text name behind asked f d e =
     let b = behind_name text name behind asked f d in
     let o = is_org asked (sym b.name_is ∙ e) in
     (o.0, subst (λ (x : Directed). AreTokensOf behind (tokens_behind x)) o.1 b.tokens, subst (λ (x : Directed). IsInRange x) o.1 b.range)
 
-pub asks_space : (text name behind : List ℕ) (asked : Directed) → AreFront text (word name ∷ []) behind → IsDirective text asked → name ≡ codes ".space" → (n : ℕ) × AreTokensOf behind (number n ∷ []) × (n < 2 ^ 32)
+pub asks_space : (text name behind : List ℕ) (asked : Directed) → AreFront text (word name ∷ []) behind → IsDirective text asked → name ≡ codes ".space"
+    → (n : ℕ) × AreTokensOf behind (number n ∷ []) × (n < 2 ^ 32)
 asks_space text name behind asked f d e =
     let b = behind_name text name behind asked f d in
     let o = is_space asked (sym b.name_is ∙ e) in
     (o.0, subst (λ (x : Directed). AreTokensOf behind (tokens_behind x)) o.1 b.tokens, subst (λ (x : Directed). IsInRange x) o.1 b.range)
 
-pub asks_align : (text name behind : List ℕ) (asked : Directed) → AreFront text (word name ∷ []) behind → IsDirective text asked → name ≡ codes ".align" → (m : Multiple) × AreTokensOf behind (number (multiple_of m) ∷ [])
+pub asks_align : (text name behind : List ℕ) (asked : Directed) → AreFront text (word name ∷ []) behind → IsDirective text asked → name ≡ codes ".align"
+    → (m : Multiple) × AreTokensOf behind (number (multiple_of m) ∷ [])
 asks_align text name behind asked f d e =
     let b = behind_name text name behind asked f d in
     let o = is_align asked (sym b.name_is ∙ e) in
@@ -123,13 +130,16 @@ asks_align text name behind asked f d e =
 abbrev pub IsRead : DatumSize → List ℕ → Values → Type 0
 IsRead s behind v = (v.size ≡ s) × (v.list.now ≡ behind)
 
-pub values_found : (text name behind : List ℕ) (s : DatumSize) (v : Values) (d : Datum) (ds : List Datum) → AreFront text (word name ∷ []) behind → name ≡ list_name s → IsRead s behind v → AreListed s behind d ds → v.count ≡ length (d ∷ ds)
+pub values_found : (text name behind : List ℕ) (s : DatumSize) (v : Values) (d : Datum) (ds : List Datum) → AreFront text (word name ∷ []) behind
+    → name ≡ list_name s → IsRead s behind v → AreListed s behind d ds → v.count ≡ length (d ∷ ds)
     → IsDirective text (values s d ds) × ShowsValues text v (values s d ds)
 values_found text name behind s v d ds f e r l n =
-    let front : AreFront text (word (list_name s) ∷ []) v.list.now = subst (λ (x : List ℕ). AreFront text (word (list_name s) ∷ []) x) (sym r.1) (subst (λ (x : List ℕ). AreFront text (word x ∷ []) behind) e f) in
+    let front : AreFront text (word (list_name s) ∷ []) v.list.now =
+    subst (λ (x : List ℕ). AreFront text (word (list_name s) ∷ []) x) (sym r.1) (subst (λ (x : List ℕ). AreFront text (word x ∷ []) behind) e f) in
     (with_name text name behind (values s d ds) f e l.0 l.1, (r.0, n, front, subst (λ (x : List ℕ). AreListed s x d ds) (sym r.1) l))
 
-pub values_only : (text name behind : List ℕ) (s : DatumSize) (v : Values) (asked : Directed) → AreFront text (word name ∷ []) behind → name ≡ list_name s → IsRead s behind v → IsDirective text asked
+pub values_only : (text name behind : List ℕ) (s : DatumSize) (v : Values) (asked : Directed) → AreFront text (word name ∷ []) behind → name ≡ list_name s
+    → IsRead s behind v → IsDirective text asked
     → ((d : Datum) (ds : List Datum) → AreListed s behind d ds → v.count ≡ length (d ∷ ds)) → ShowsValues text v asked
 values_only text name behind s v (org a) f e r d n = absurd ((no_list s).0 (sym e ∙ (behind_name text name behind (org a) f d).name_is))
 values_only text name behind s v (align a) f e r d n = absurd ((no_list s).1 (sym e ∙ (behind_name text name behind (align a) f d).name_is))

@@ -5,7 +5,7 @@ use Rattle.hm_line.proofs.Fronts.{token_shorter}
 use Rattle.hm_text_base.proofs.Steps.{some_is}
 use Rattle.hm_text_base.specs.Reading.{ReadsSome}
 use Rattle.hm_tokens.specs.Lines.{AreTokensOf}
-use Rattle.hm_tokens.specs.Tokens.{Tok, word, mark, skip, token_at}
+use Rattle.hm_tokens.specs.Tokens.{Tok, word, mark, skip, token_at, comma, plus_mark}
 use Rattle.hm_source.specs.Shown.{AreFront, EndsHere}
 
 -- a token and a rest
@@ -75,11 +75,11 @@ all_is_front text (t ∷ ts) a =
 
 -- where nothing or a comma stands, no `+` does
 pub ends_at : (mid : List ℕ) → skip mid ≡ [] → EndsHere mid
-ends_at mid e after f = no_token (mark 43, after) (ap token_at (sym e) ∙ f)
+ends_at mid e after f = no_token (plus_mark, after) (ap token_at (sym e) ∙ f)
 
-pub ends_before : (mid rest : List ℕ) → AreFront mid (mark 44 ∷ []) rest → EndsHere mid
+pub ends_before : (mid rest : List ℕ) → AreFront mid (comma ∷ []) rest → EndsHere mid
 ends_before mid rest c after f =
-    let same = front_one mid (mark 43) (mark 44) after rest f c in
+    let same = front_one mid plus_mark comma after rest f c in
     absurd (omega (arith, mark_is 43 44 same.0))
 
 -- nothing stands where a token does
@@ -87,7 +87,8 @@ pub nothing_there : (mid rest : List ℕ) (t : Tok) → skip mid ≡ [] → AreF
 nothing_there mid rest t e f = no_token (t, f.0) (ap token_at (sym e) ∙ f.1)
 
 -- what a reader of the next token leaves is shorter
-pub shorter_next : {X : Type 0} (t : X → Tok) (r : X → List ℕ) (o : Option X) (text : List ℕ) (n : ℕ) → ReadsSome (λ x. (t x, r x)) o (token_at text) → length text ≤ n → IfSome o (λ x. length (r x) < n)
+pub shorter_next : {X : Type 0} (t : X → Tok) (r : X → List ℕ) (o : Option X) (text : List ℕ) (n : ℕ) → ReadsSome (λ x. (t x, r x)) o (token_at text)
+    → length text ≤ n → IfSome o (λ x. length (r x) < n)
 shorter_next t r (Some x) text n e le = omega (arith, token_shorter text (t x, r x) e)
 shorter_next t r None text n e le = tt
 

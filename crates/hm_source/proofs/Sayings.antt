@@ -22,13 +22,15 @@ is_nothing (b ∷ bs) e = absurd (omega arith)
 
 -- ---- and back
 
-pub is_directive : (text : List ℕ) (said : Said) → 0 < length text → get_or text 0 0 ≡ 46 → Says text said → (asked : Directed) × (said ≡ directive asked) × IsDirective text asked
+pub is_directive : (text : List ℕ) (said : Said) → 0 < length text → get_or text 0 0 ≡ 46 → Says text said
+    → (asked : Directed) × (said ≡ directive asked) × IsDirective text asked
 is_directive [] said some e s = absurd (omega arith)
 is_directive (b ∷ bs) nothing some e s = absurd s
 is_directive (b ∷ bs) (instruction n) some e s = absurd (s.0 e)
 is_directive (b ∷ bs) (directive asked) some e s = (asked, refl, s.1)
 
-pub is_instruction : (text : List ℕ) (said : Said) → 0 < length text → (get_or text 0 0 ≡ 46 → ⊥) → Says text said → (n : ℕ) × (said ≡ instruction n) × HasWidth text n
+pub is_instruction : (text : List ℕ) (said : Said) → 0 < length text → (get_or text 0 0 ≡ 46 → ⊥) → Says text said
+    → (n : ℕ) × (said ≡ instruction n) × HasWidth text n
 is_instruction [] said some e s = absurd (omega arith)
 is_instruction (b ∷ bs) nothing some e s = absurd s
 is_instruction (b ∷ bs) (instruction n) some e s = (n, refl, s.1)
@@ -42,16 +44,20 @@ says_nothing (b ∷ bs) said e s = absurd (omega arith)
 
 -- ---- as the code reads
 
-pub said_of : (text : List ℕ) (o : Option Statement) → 0 < length text → (get_or text 0 0 ≡ 46 → ⊥) → IfSome o (λ s. (n : ℕ) × HasWidth text n × (s ≡ statements.Instruction n)) → IfSome o (λ s. (said : Said) × Says text said × ShowsSaid text s said)
+pub said_of : (text : List ℕ) (o : Option Statement) → 0 < length text → (get_or text 0 0 ≡ 46 → ⊥)
+    → IfSome o (λ s. (n : ℕ) × HasWidth text n × (s ≡ statements.Instruction n)) → IfSome o (λ s. (said : Said) × Says text said × ShowsSaid text s said)
 said_of text None some e h = tt
-said_of text (Some s) some e h = (instruction h.0, without_dot text h.0 some e h.1, subst (λ (x : Statement). ShowsSaid text x (instruction h.0)) (sym h.2) refl)
+said_of text (Some s) some e h =
+    (instruction h.0, without_dot text h.0 some e h.1, subst (λ (x : Statement). ShowsSaid text x (instruction h.0)) (sym h.2) refl)
 
-pub only_said : (text : List ℕ) (o : Option Statement) (said : Said) → 0 < length text → (get_or text 0 0 ≡ 46 → ⊥) → ((n : ℕ) → HasWidth text n → IsSomeAnd o (λ s. s ≡ statements.Instruction n)) → Says text said → IsSomeAnd o (λ s. ShowsSaid text s said)
+pub only_said : (text : List ℕ) (o : Option Statement) (said : Said) → 0 < length text → (get_or text 0 0 ≡ 46 → ⊥)
+    → ((n : ℕ) → HasWidth text n → IsSomeAnd o (λ s. s ≡ statements.Instruction n)) → Says text said → IsSomeAnd o (λ s. ShowsSaid text s said)
 only_said text None said some e h s = let x = is_instruction text said some e s in h x.0 x.2
 only_said text (Some t) said some e h s =
     let x = is_instruction text said some e s in
     subst (λ (y : Statement). ShowsSaid text y said) (sym (h x.0 x.2)) x.1
 
-pub none_said : (text : List ℕ) (o : Option Statement) → 0 < length text → (get_or text 0 0 ≡ 46 → ⊥) → IfNone o ((n : ℕ) → HasWidth text n → ⊥) → IfNone o ((said : Said) → Says text said → ⊥)
+pub none_said : (text : List ℕ) (o : Option Statement) → 0 < length text → (get_or text 0 0 ≡ 46 → ⊥) → IfNone o ((n : ℕ) → HasWidth text n → ⊥)
+    → IfNone o ((said : Said) → Says text said → ⊥)
 none_said text (Some t) some e h = tt
 none_said text None some e h = λ said s. let x = is_instruction text said some e s in h x.0 x.2

@@ -19,7 +19,8 @@ last_line text (b ∷ front) [] e none some = ap with_last (lines_span text ∙ 
 last_line text front (b ∷ rest) e none some = absurd (omega (arith, none))
 
 -- a line and its end
-pub next_line : (text front rest : List ℕ) → (front, rest) ≡ span 10 text → 1 ≤ length rest → source_lines text ≡ front ∷ source_lines (take (length rest - 1) (drop 1 rest))
+pub next_line : (text front rest : List ℕ) → (front, rest) ≡ span 10 text → 1 ≤ length rest
+    → source_lines text ≡ front ∷ source_lines (take (length rest - 1) (drop 1 rest))
 next_line text front [] e some = absurd (omega (arith, some))
 next_line text front (b ∷ rest) e some =
     ap with_last (lines_span text ∙ ap lines_from (sym e)) ∙ onto_others front (lines_of rest)

@@ -18,7 +18,8 @@ skip_le text = run_le classes.Space text
 
 cut_le : (line : List ℕ) → length (before_comment line) ≤ length line
 cut_le line =
-    let whole : length (before_comment line) + length (span 64 line).1 ≡ length line = sym (length-append (before_comment line) (span 64 line).1) ∙ ap length (span_parts 64 line) in
+    let whole : length (before_comment line) + length (span 64 line).1 ≡ length line = sym (length-append (before_comment line) (span 64 line).1)
+    ∙ ap length (span_parts 64 line) in
     omega (arith, whole)
 
 word_rest : (t : Tok) (r : List ℕ) (x : List ℕ × List ℕ) → word_with t r ≡ Some x → length r ≡ length x.1
@@ -56,4 +57,9 @@ label_le text (Some x) e =
 pub text_le : (line : List ℕ) → length (text_of line) ≤ length line
 text_le line =
     let text : List ℕ = before_comment line in
-    omega (arith, cut_le line, label_le (before_comment line) (label_of (before_comment line)) refl, skip_le (behind_label (before_comment line) (label_of (before_comment line))))
+    omega (
+      arith,
+      cut_le line,
+      label_le (before_comment line) (label_of (before_comment line)) refl,
+      skip_le (behind_label (before_comment line) (label_of (before_comment line))),
+    )

@@ -3,7 +3,7 @@ use Rattle.std.specs.Prelude.{◌≡◌, ◌<◌, ◌≤◌, ℕ, ◌-◌, ◌*�
 use Rattle.std.specs.List.{AllByRecursion}
 use Rattle.hm_tokens.specs.Lines.{AreTokensOf}
 use Rattle.hm_tokens.specs.Names.{is_label_name}
-use Rattle.hm_tokens.specs.Tokens.{Tok, word, number, mark}
+use Rattle.hm_tokens.specs.Tokens.{Tok, word, number, comma, minus_mark, plus_mark}
 use Rattle.hm_source.specs.declared.directives.Multiple.{Multiple}
 use Rattle.hm_source.specs.declared.directives.Multiple.TheVariants.{Two, Four, Eight}
 use Rattle.hm_source.specs.declared.values.DatumSize.{DatumSize}
@@ -18,15 +18,15 @@ pub data Datum : Type 0 where
 
 -- how a value of a list is written: a number, `-` and a number, a name, or a name, `+` and a number
 abbrev pub datum_tokens : Datum → List Tok
-datum_tokens (literal true n) = mark 45 ∷ number n ∷ []
+datum_tokens (literal true n) = minus_mark ∷ number n ∷ []
 datum_tokens (literal false n) = number n ∷ []
 datum_tokens (named w) = word w ∷ []
-datum_tokens (beyond w n) = word w ∷ mark 43 ∷ number n ∷ []
+datum_tokens (beyond w n) = word w ∷ plus_mark ∷ number n ∷ []
 
 -- a first one and others, with commas between them
 abbrev pub list_tokens : Datum → List Datum → List Tok
 list_tokens d [] = datum_tokens d
-list_tokens d (e ∷ es) = datum_tokens d ++ mark 44 ∷ list_tokens e es
+list_tokens d (e ∷ es) = datum_tokens d ++ comma ∷ list_tokens e es
 
 -- how many bytes each value of a list has
 abbrev pub bytes_each : DatumSize → ℕ

@@ -2,7 +2,7 @@
 use Rattle.std.specs.Prelude.{◌≡◌, ℕ, List, [], ◌∷◌, length, Some}
 use Rattle.std.specs.List.{AllByRecursion}
 use Rattle.hm_tokens.specs.Lines.{AreTokensOf}
-use Rattle.hm_tokens.specs.Tokens.{Tok, word, mark, skip, token_at}
+use Rattle.hm_tokens.specs.Tokens.{Tok, word, skip, token_at, plus_mark}
 use Rattle.hm_source.specs.declared.values.DatumSize.{DatumSize}
 use Rattle.hm_source.specs.declared.values.Item.{Item}
 use Rattle.hm_source.specs.declared.values.Item.TheVariants as items
@@ -21,7 +21,7 @@ AreFront text (t ∷ ts) rest = (after : List ℕ) × (token_at (skip text) ≡ 
 
 -- no `+` goes on with what stands before
 abbrev pub EndsHere : List ℕ → Type 0
-EndsHere rest = (after : List ℕ) → token_at (skip rest) ≡ Some (mark 43, after) → ⊥
+EndsHere rest = (after : List ℕ) → token_at (skip rest) ≡ Some (plus_mark, after) → ⊥
 
 -- the value of a list that the program's value stands for
 abbrev pub datum : Item → Datum
@@ -35,7 +35,8 @@ AreListed s text d ds = AreTokensOf text (list_tokens d ds) × AllByRecursion (F
 
 -- behind the name of its directive the text goes on with the list
 abbrev pub ShowsValues : List ℕ → Values → Directed → Type 0
-ShowsValues text v (values s d ds) = (v.size ≡ s) × (v.count ≡ length (d ∷ ds)) × AreFront text (word (list_name s) ∷ []) v.list.now × AreListed s v.list.now d ds
+ShowsValues text v (values s d ds) = (v.size ≡ s) × (v.count ≡ length (d ∷ ds)) × AreFront text (word (list_name s) ∷ []) v.list.now
+    × AreListed s v.list.now d ds
 ShowsValues text v asked = ⊥
 
 -- the program's directive stands for what is asked, where the text of the line is this

@@ -90,9 +90,12 @@ fn list_size(name: &[u8]) -> Option<DatumSize>
 /// What a directive asks for, by its name and what stands behind that.
 fn asked_of<'a>(name: &'a [u8], behind: &'a [u8]) -> Option<Directive<'a>>
     requires small { length behind.now < 2 ^ 31 }
-    ensures found { (text : List ℕ) → AreFront text (word name.entry.now ∷ []) behind.entry.now → IfSome result (λ d. (asked : Directed) × IsDirective text asked × ShowsDirected text d asked) }
-    ensures none { (text : List ℕ) → AreFront text (word name.entry.now ∷ []) behind.entry.now → IfNone result ((asked : Directed) → IsDirective text asked → ⊥) }
-    ensures only { (text : List ℕ) (asked : Directed) → AreFront text (word name.entry.now ∷ []) behind.entry.now → IsDirective text asked → IsSomeAnd result (λ d. ShowsDirected text d asked) }
+    ensures found { (text : List ℕ) → AreFront text (word name.entry.now ∷ []) behind.entry.now
+        → IfSome result (λ d. (asked : Directed) × IsDirective text asked × ShowsDirected text d asked) }
+    ensures none { (text : List ℕ) → AreFront text (word name.entry.now ∷ []) behind.entry.now
+        → IfNone result ((asked : Directed) → IsDirective text asked → ⊥) }
+    ensures only { (text : List ℕ) (asked : Directed) → AreFront text (word name.entry.now ∷ []) behind.entry.now → IsDirective text asked
+        → IsSomeAnd result (λ d. ShowsDirected text d asked) }
 {
     if let Some(size) = list_size(name) {
         let values = read_values(size, behind)?;

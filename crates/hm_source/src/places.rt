@@ -47,7 +47,8 @@ fn behind(at: u32, count: u64) -> Option<u32>
 
 /// Where the line behind a directive stands, if the directive has its place.
 fn behind_directive(asked: Directive<'_>, at: u32) -> Option<u32>
-    ensures place { (text : List ℕ) (a : Directed) → ShowsDirected text asked.entry a → MatchOption result (HasPlace (directive a) at → ⊥) (λ b. HasPlace (directive a) at × (b ≡ next_place (directive a) at)) }
+    ensures place { (text : List ℕ) (a : Directed) → ShowsDirected text asked.entry a
+        → MatchOption result (HasPlace (directive a) at → ⊥) (λ b. HasPlace (directive a) at × (b ≡ next_place (directive a) at)) }
 {
     match asked {
         Directive::Org(to) => { if at <= to { Some(to) } else { None } }
@@ -62,7 +63,8 @@ fn behind_directive(asked: Directive<'_>, at: u32) -> Option<u32>
 
 /// Where the next line stands behind one at an address, if this has its place there.
 pub fn behind_statement(statement: Statement<'_>, at: u32) -> Option<u32>
-    ensures place { (text : List ℕ) (said : Said) → ShowsSaid text statement.entry said → MatchOption result (HasPlace said at → ⊥) (λ b. HasPlace said at × (b ≡ next_place said at)) }
+    ensures place { (text : List ℕ) (said : Said) → ShowsSaid text statement.entry said
+        → MatchOption result (HasPlace said at → ⊥) (λ b. HasPlace said at × (b ≡ next_place said at)) }
 {
     match statement {
         Statement::Nothing => Some(at),

@@ -63,8 +63,10 @@ pub struct Values<'a> {
 
 /// The item that begins with a name, and what stands behind it.
 fn named_at<'a>(name: &'a [u8], behind: &'a [u8]) -> Option<(Item<'a>, &'a [u8])>
-    ensures found { (text : List ℕ) → AreFront text (word name.entry.now ∷ []) behind.entry.now → IfSome result (λ x. AreFront text (datum_tokens (datum x.0)) x.1.now) }
-    ensures only { (text rest : List ℕ) (d : Datum) → AreFront text (word name.entry.now ∷ []) behind.entry.now → AreFront text (datum_tokens d) rest → EndsHere rest → IsSomeAnd result (λ x. (datum x.0 ≡ d) × (x.1.now ≡ rest)) }
+    ensures found { (text : List ℕ) → AreFront text (word name.entry.now ∷ []) behind.entry.now
+        → IfSome result (λ x. AreFront text (datum_tokens (datum x.0)) x.1.now) }
+    ensures only { (text rest : List ℕ) (d : Datum) → AreFront text (word name.entry.now ∷ []) behind.entry.now → AreFront text (datum_tokens d) rest
+        → EndsHere rest → IsSomeAnd result (λ x. (datum x.0 ≡ d) × (x.1.now ≡ rest)) }
     ensures shorter { IfSome result (λ x. length x.1.now ≤ length behind.entry.now) }
 {
     match behind_mark(Mark::Plus, behind) {
@@ -79,7 +81,8 @@ fn named_at<'a>(name: &'a [u8], behind: &'a [u8]) -> Option<(Item<'a>, &'a [u8])
 /// An item at the front of a text, and what stands behind it.
 pub fn item_at(text: &[u8]) -> Option<(Item<'_>, &[u8])>
     ensures found { IfSome result (λ x. AreFront text.now (datum_tokens (datum x.0)) x.1.now) }
-    ensures only { (d : Datum) (rest : List ℕ) → AreFront text.now (datum_tokens d) rest → EndsHere rest → IsSomeAnd result (λ x. (datum x.0 ≡ d) × (x.1.now ≡ rest)) }
+    ensures only { (d : Datum) (rest : List ℕ) → AreFront text.now (datum_tokens d) rest → EndsHere rest
+        → IsSomeAnd result (λ x. (datum x.0 ≡ d) × (x.1.now ≡ rest)) }
     ensures shorter { IfSome result (λ x. length x.1.now < length text.now) }
 {
     let (token, behind) = next_token(text)?;

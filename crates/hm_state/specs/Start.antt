@@ -25,7 +25,8 @@ abbrev pub first_cell : List Segment → Cell → Value
 first_cell image (At p) = word (first_value image p)
 first_cell image (Byte a) = word (first_byte image a)
 
--- what stands beside the cells after a reset: flags, IT, FPCA, PRIMASK, the other stack pointer, SPSEL, BASEPRI and IPSR 0, the devices as they begin, and no output
+-- what stands beside the cells after a reset: flags, IT, FPCA, PRIMASK, the other stack pointer, SPSEL, BASEPRI and IPSR 0, the devices as they
+-- begin, and no output
 abbrev pub first_rest : Around → Rest
 first_rest around = record {
   n = false;

@@ -3,7 +3,8 @@
 //! The functions here are laws: they do nothing, and their clauses are what is proved of the definitions.
 #![tactic(auto)]
 
-ghost use Rattle.std.specs.Prelude.{◌≡◌, ℕ, suc, ◌+◌, ◌-◌, ◌*◌, ◌%◌, ◌^◌, ◌<◌, Bool, true, false, List, [], ◌∷◌, ◌++◌, length, map, nat_eq, slice_index, slice_index_or};
+ghost use Rattle.std.specs.Prelude.{◌≡◌, ℕ, suc, ◌+◌, ◌-◌, ◌*◌, ◌%◌, ◌^◌, ◌<◌, Bool, true, false, List, [], ◌∷◌, ◌++◌, length, map, nat_eq, slice_index};
+ghost use Rattle.std.specs.Prelude.{slice_index_or};
 ghost use Rattle.hm_base.specs.Image.{Segment, first_byte, sram_size, sram_start};
 ghost use Rattle.hm_base.specs.Place.{IsPlace};
 ghost use Rattle.hm_base.specs.declared.Place.{Place};
@@ -14,7 +15,8 @@ ghost use Rattle.hm_regs.specs.Writes.{Write, apply};
 ghost use Rattle.hm_regs.specs.declared.Regs.{Regs};
 ghost use Rattle.hm_mem.specs.Memory.{Bounds, Memory, byte_at, first_devices, tainted_at, thread_under};
 ghost use Rattle.hm_state.specs.Start.{reset_pc, reset_sp, start_under};
-ghost use Rattle.hm_state.specs.State.{AreCells, Byte, Cell, State, at, byte_of_bits, cells, into, is_cell, listed, put_at, regs_of, rest_of, sram_bytes, state_of, taint_bytes};
+ghost use Rattle.hm_state.specs.State.{AreCells, Byte, Cell, State, at, byte_of_bits, cells, into, is_cell, listed, put_at, regs_of, rest_of, sram_bytes};
+ghost use Rattle.hm_state.specs.State.{state_of, taint_bytes};
 ghost use Rattle.hm_state.specs.Store.{CellLaws, flagged, put_all};
 
 /// Cells are told apart, and states with the same in each cell and the same beside them are one.

@@ -1,5 +1,6 @@
 -- The most urgent exception, found from the lowest number up.
-use Rattle.std.proofs.Common.{◌≡◌, ℕ, zero, suc, ◌+◌, ◌-◌, ◌/◌, ◌%◌, ◌^◌, ◌<◌, ◌≤◌, get_or, ◌⊎◌, Bool, true, false, cond, arith, refl, sym, ◌∙◌, ap, subst, inl, inr}
+use Rattle.std.proofs.Common.{◌≡◌, ℕ, zero, suc, ◌+◌, ◌-◌, ◌/◌, ◌%◌, ◌^◌, ◌<◌, ◌≤◌, get_or, ◌⊎◌, Bool, true, false, cond, arith, refl, sym, ◌∙◌, ap, subst, inl}
+use Rattle.std.proofs.Common.{inr}
 use Rattle.std.specs.Prelude.{IfSome, Option, Some, None, ◌&&◌, ◌||◌, ◌==◌, nat_lt, min, bit_and, if◌then◌else◌}
 use Rattle.std.proofs.lemmas.Bool.{cases_lt}
 use Rattle.std.proofs.lemmas.Bool.Decides.{nat_tests}
@@ -7,7 +8,8 @@ use Rattle.std.proofs.lemmas.Nat.Bits.{bit_at_and, bit_at-zero}
 use Rattle.std.specs.Int.{bit_at}
 use Rattle.hm_mem.specs.declared.Dev.{Dev}
 use Rattle.hm_sys.specs.Best.{IsBest, IsFirst, end_of}
-use Rattle.hm_sys.specs.Exceptions.{IsException, IsPicked, end_number, is_eligible, is_enabled, is_external, is_pending, is_set, is_waiting, or_later, picked_below, priority_of}
+use Rattle.hm_sys.specs.Exceptions.{IsException, IsPicked, end_number, is_eligible, is_enabled, is_external, is_pending, is_set, is_waiting, or_later}
+use Rattle.hm_sys.specs.Exceptions.{picked_below, priority_of}
 
 no : (b : Bool) → b ≡ true → b ≡ false → ⊥
 no true e f = cc
@@ -34,7 +36,8 @@ pub waits : (d : Dev) (c e : ℕ) → is_eligible d c e ≡ true → IsException
 waits d c e h = in_range d.tick_pending (is_enabled d (e - 16)) e (is_pending d (e - 16)) ((tested (is_waiting d e) (priority_of d e) c h).0)
 
 last_or_before : (f e : ℕ) → f < e + 1 → (f < e) ⊎ (f ≡ e)
-last_or_before f e h = elim (nat_lt f e) as (λ t. nat_lt f e ≡ t → (f < e) ⊎ (f ≡ e)) [ true ↦ (λ t. inl (grind (arith, nat_tests))) | false ↦ (λ t. inr (grind (arith, nat_tests))) ] refl
+last_or_before f e h = elim (nat_lt f e) as (λ t. nat_lt f e ≡ t
+    → (f < e) ⊎ (f ≡ e)) [ true ↦ (λ t. inl (grind (arith, nat_tests))) | false ↦ (λ t. inr (grind (arith, nat_tests))) ] refl
 
 -- of one priority and one number none is more urgent
 equal_first : (p q f e : ℕ) → p ≡ q → f ≡ e → (nat_lt p q || (p == q && nat_lt f e)) ≡ false
@@ -112,7 +115,9 @@ not_waiting t x w e c p h n = grind (arith, nat_tests)
 idle : (d : Dev) (c k f : ℕ) → bit_and (get_or d.pending k 0) (get_or d.enabled k 0) ≡ 0 → (f - 16) / 32 ≡ k → 16 ≤ f → is_eligible d c f ≡ false
 idle d c k f h w l =
     not_waiting d.tick_pending (is_pending d (f - 16)) (is_enabled d (f - 16)) f c (priority_of d f) l
-    (ap (λ (j : ℕ). is_set (f - 16) d.pending && is_set (f - 16) d.enabled) w ∙ none_of (get_or d.pending ((f - 16) / 32) 0) (get_or d.enabled ((f - 16) / 32) 0) ((f - 16) % 32) (ap (λ (j : ℕ). bit_and (get_or d.pending j 0) (get_or d.enabled j 0)) w ∙ h))
+    (ap (λ (j : ℕ). is_set (f - 16) d.pending && is_set (f - 16) d.enabled) w
+    ∙ none_of (get_or d.pending ((f - 16) / 32) 0) (get_or d.enabled ((f - 16) / 32) 0) ((f - 16) % 32)
+    (ap (λ (j : ℕ). bit_and (get_or d.pending j 0) (get_or d.enabled j 0)) w ∙ h))
 
 -- where none of those between two ends is eligible, the best below the one is the best below the other
 none_between : (d : Dev) (c e n : ℕ) (r : Option ℕ) → e ≤ n → ((f : ℕ) → e ≤ f → f < n → is_eligible d c f ≡ false) → IsBest d c e r → IsBest d c n r
@@ -123,7 +128,8 @@ none_between d c e n (Some b) l none h = record {
   first = λ f m s. elim (cases_lt f e) [ inl before ↦ h.first f before s | inr past ↦ absurd (no (is_eligible d c f) s (none f past m)) ];
 }
 
-pub word_passed : (d : Dev) (c k : ℕ) (r : Option ℕ) → k < 8 → bit_and (get_or d.pending k 0) (get_or d.enabled k 0) ≡ 0 → IsBest d c (end_of k) r → IsBest d c (end_of (k + 1)) r
+pub word_passed : (d : Dev) (c k : ℕ) (r : Option ℕ) → k < 8 → bit_and (get_or d.pending k 0) (get_or d.enabled k 0) ≡ 0 → IsBest d c (end_of k) r
+    → IsBest d c (end_of (k + 1)) r
 word_passed d c k r l h best =
     none_between d c (end_of k) (end_of (k + 1)) r (omega arith)
     (λ f from below. idle d c k f h (omega arith) (omega arith)) best

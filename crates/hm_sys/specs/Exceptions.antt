@@ -1,6 +1,7 @@
 -- Exceptions that wait, and which of them is the most urgent: `IsException`, `is_pending`, `is_enabled`, `is_waiting`, `priority_of`, `is_eligible`,
 -- `is_more_urgent`, `IsPicked`, `picked`; and what is pending once one has entered: `accepted`.
-use Rattle.std.specs.Prelude.{ℕ, zero, suc, ◌-◌, ◌/◌, ◌%◌, ◌^◌, ◌≡◌, ◌<◌, ◌≤◌, Bool, false, ◌&&◌, ◌||◌, nat_le, nat_lt, ◌==◌, if◌then◌else◌, bit_and, List, slice_index, set, IsTrue, Option, Some, None}
+use Rattle.std.specs.Prelude.{ℕ, zero, suc, ◌-◌, ◌/◌, ◌%◌, ◌^◌, ◌≡◌, ◌<◌, ◌≤◌, Bool, false, ◌&&◌, ◌||◌, nat_le, nat_lt, ◌==◌, if◌then◌else◌, bit_and, List}
+use Rattle.std.specs.Prelude.{slice_index, set, IsTrue, Option, Some, None}
 use Rattle.hm_mem.specs.declared.Dev.{Dev}
 
 -- exception 15 is SysTick, and 16 + n is the external interrupt n, of which there are 240

@@ -44,7 +44,8 @@ named_v : (t : Tok) (name : List ℕ) (ts : List Tok) → t ≡ word name → be
 named_v t [] ts is v = absurd (false≢true v)
 named_v t (c ∷ w) ts is v =
     let first : t ≡ word (118 ∷ w) = is ∙ ap (λ (x : ℕ). word (x ∷ w)) (eqb-true c 118 v) in
-    subst (λ (x : List Tok). code_in x 0 4 ≡ None) (sym (normal_first t ts ∙ ap (λ (x : Tok). x ∷ singles 0 (is_inside false t) ts) first)) (narrow_none w (singles 0 (is_inside false t) ts) 0 4)
+    subst (λ (x : List Tok). code_in x 0 4 ≡ None) (sym (normal_first t ts ∙ ap (λ (x : Tok). x ∷ singles 0 (is_inside false t) ts) first))
+    (narrow_none w (singles 0 (is_inside false t) ts) 0 4)
 
 clash : (text : List ℕ) (ts us : List Tok) → IsLineOf text ts → IsLineOf text us → IsNamedV us → (code_in (normal ts) 0 4 ≡ None → ⊥) → ⊥
 clash text [] us l m v some = absurd l

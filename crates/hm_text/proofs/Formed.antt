@@ -71,7 +71,8 @@ stands_apart (b ∷ bs) rest t gap e =
     let same = ap length (skip_space b bs (begins_with_space (length (b ∷ bs)) b (omega arith) gap)) in
     less (length (skip (b ∷ bs))) (length (b ∷ bs)) (omega (arith, shorter, same))
 
-line_form : (text : List ℕ) (w : List ℕ) (rest : List ℕ) (ts : List Tok) → token_at (skip text) ≡ Some (word w, rest) → is_gap rest ≡ true → AreTokensOf rest ts → are_operands (map kind ts) ≡ true → IsOfForm forms.Instruction text
+line_form : (text : List ℕ) (w : List ℕ) (rest : List ℕ) (ts : List Tok) → token_at (skip text) ≡ Some (word w, rest) → is_gap rest ≡ true → AreTokensOf rest ts
+    → are_operands (map kind ts) ≡ true → IsOfForm forms.Instruction text
 line_form text w rest [] e gap are f = ((is_spaced text, line_kinds.word) ∷ [], rest, (rest, next_of text rest (word w) e, refl), are, (refl, tt))
 line_form text w rest (t ∷ ts) e gap are f =
     let more = spaced_of ts are.0 are.2 in

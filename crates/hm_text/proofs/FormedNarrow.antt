@@ -15,24 +15,25 @@ use Rattle.hm_isa.specs.declared.narrow.S25.TheVariants as s25
 use Rattle.hm_isa.specs.Code.{branch_halves, scalar_halves}
 use Rattle.hm_isa.specs.Rules.{keeps_list, listed_in}
 use Rattle.hm_isa.specs.Standing.{◌↑◌}
-use Rattle.hm_tokens.specs.Tokens.{word, number, mark}
+use Rattle.hm_tokens.specs.Tokens.{word, number, close_brace, comma, bang}
 use Rattle.hm_line.specs.declared.form.Depth.TheVariants.{Outside}
 use Rattle.hm_line.specs.declared.form.Operands.TheVariants as ops
 use Rattle.hm_line.specs.Kinds.{Kind, kind}
 use Rattle.hm_line.proofs.Operands.{takes}
 use Rattle.hm_text_rows.specs.Operands.{bits_of, braced}
-use Rattle.hm_text_rows.specs.Shapes.{braces, comma, listed, r, registers_from}
+use Rattle.hm_text_rows.specs.Shapes.{braces, listed, r, registers_from}
 use Rattle.hm_text16.specs.Rows.{list_tokens, tokens_of}
 use Rattle.hm_text16.specs.Texts.{IsNarrow}
 use Rattle.hm_text16.proofs.Registers.{Braces, low_braces, pop_braces, push_braces}
 use Rattle.hm_text.proofs.Formed.{Formed, are_operands}
 
 -- LISTS
-pub more_registers : (ks : List ℕ) → takes ops.ListWord (map kind (listed 44 ks ++ mark 125 ∷ [])) ≡ true
+pub more_registers : (ks : List ℕ) → takes ops.ListWord (map kind (listed 44 ks ++ close_brace ∷ [])) ≡ true
 more_registers [] = refl
 more_registers (k ∷ ks) = more_registers ks
 
-some_registers : (ks : List ℕ) (regs : ℕ) → bits_of (braced (listed 123 ks ++ mark 125 ∷ [])) ≡ regs → 0 < regs → takes (ops.Operand Outside) (map kind (listed 123 ks ++ mark 125 ∷ [])) ≡ true
+some_registers : (ks : List ℕ) (regs : ℕ) → bits_of (braced (listed 123 ks ++ close_brace ∷ [])) ≡ regs → 0 < regs
+    → takes (ops.Operand Outside) (map kind (listed 123 ks ++ close_brace ∷ [])) ≡ true
 unfolding bits_of braced
 some_registers [] regs bits some = absurd (omega (arith, bits, some))
 some_registers (k ∷ ks) regs bits some = more_registers ks
@@ -47,11 +48,11 @@ operands_of (k ∷ ks) e = e
 formed_braces : (s : List ℕ) (regs : ℕ) → takes (ops.Operand Outside) (map kind (braces regs)) ≡ true → Formed (word s ∷ braces regs)
 formed_braces s regs e = record { is = operands_of (map kind (braces regs)) e }
 
-formed_written : (s : List ℕ) (n regs : ℕ) → takes (ops.Operand Outside) (map kind (braces regs)) ≡ true → Formed (word s ∷ r n ∷ mark 33 ∷ comma ∷ braces regs)
+formed_written : (s : List ℕ) (n regs : ℕ) → takes (ops.Operand Outside) (map kind (braces regs)) ≡ true → Formed (word s ∷ r n ∷ bang ∷ comma ∷ braces regs)
 formed_written s n regs e = record { is = e }
 
 formed_load : (b : Bool) (n regs : ℕ) → takes (ops.Operand Outside) (map kind (braces regs)) ≡ true
-    → Formed (cond b (word (codes "ldm") ∷ r n ∷ comma ∷ []) (word (codes "ldm") ∷ r n ∷ mark 33 ∷ comma ∷ []) ++ braces regs)
+    → Formed (cond b (word (codes "ldm") ∷ r n ∷ comma ∷ []) (word (codes "ldm") ∷ r n ∷ bang ∷ comma ∷ []) ++ braces regs)
 formed_load true n regs e = record { is = e }
 formed_load false n regs e = record { is = e }
 

@@ -120,14 +120,27 @@ fine_vector (vector.V22 (v22.LongSum i)) = record { is = refl }
 fine_vector (vector.V22 (v22.LongDot i)) = record { is = refl }
 fine_vector (vector.V23 i) = record { is = refl }
 fine_vector (vector.V24 i) =
-    record { is = indexed_formed (access_stem i.l.value i.z.value ++ access_suffix i.l.value 1 i.z.value) (register_name i.n.value) i.d.value i.p.value i.a.value i.w.value (i.i.value * 2 ^ i.z.value) }
+    record {
+      is = indexed_formed (access_stem i.l.value i.z.value ++ access_suffix i.l.value 1 i.z.value) (register_name i.n.value) i.d.value i.p.value
+          i.a.value i.w.value (i.i.value * 2 ^ i.z.value);
+    }
 fine_vector (vector.V25 i) =
-    record { is = indexed_formed (access_stem i.l.value i.h.value ++ access_suffix i.l.value i.u.value i.z.value) (register_name i.n.value) i.d.value i.p.value i.a.value i.w.value (i.i.value * 2 ^ i.h.value) }
+    record {
+      is = indexed_formed (access_stem i.l.value i.h.value ++ access_suffix i.l.value i.u.value i.z.value) (register_name i.n.value) i.d.value i.p.value
+          i.a.value i.w.value (i.i.value * 2 ^ i.h.value);
+    }
 fine_vector (vector.V26 i) =
-    record { is = offsets_formed (access_stem i.l.value i.y.value ++ access_suffix i.l.value i.u.value i.z.value) (register_name i.n.value) i.d.value i.m.value i.o.value i.y.value }
-fine_vector (vector.V27 i) = record { is = inside_formed (access_stem i.l.value 2 ++ access_suffix i.l.value 1 2) (vector_name i.m.value) i.d.value i.a.value i.w.value (4 * i.i.value) }
+    record {
+      is = offsets_formed (access_stem i.l.value i.y.value ++ access_suffix i.l.value i.u.value i.z.value) (register_name i.n.value) i.d.value i.m.value
+          i.o.value i.y.value;
+    }
+fine_vector (vector.V27 i) = record
+    { is = inside_formed (access_stem i.l.value 2 ++ access_suffix i.l.value 1 2) (vector_name i.m.value) i.d.value i.a.value i.w.value (4 * i.i.value) }
 fine_vector (vector.V28 i) =
-    record { is = turns_formed (either i.f.value (pair_stem i.l.value i.p.value) (quad_stem i.l.value i.p.value) ++ plain i.z.value) (register_name i.n.value) i.f.value i.d.value i.w.value }
+    record {
+      is = turns_formed (either i.f.value (pair_stem i.l.value i.p.value) (quad_stem i.l.value i.p.value) ++ plain i.z.value) (register_name i.n.value)
+          i.f.value i.d.value i.w.value;
+    }
 
 pub formed_vector : (v : Vector) → Formed (tokens_of v)
 formed_vector v = record { is = (and_parts (is_formed (tokens_of v)) (not (has_lane (tokens_of v))) (fine_vector v).is).0 }
@@ -153,5 +166,6 @@ other_lane v = refl
 
 pub no_lane : (v : Vector) (ts : List Tok) → HasTokens v ts → has_lane ts ≡ false
 no_lane v ts (inl is) =
-    subst (λ (x : List Tok). has_lane x ≡ false) is (not_true (has_lane (tokens_of v)) (and_parts (is_formed (tokens_of v)) (not (has_lane (tokens_of v))) (fine_vector v).is).1)
+    subst (λ (x : List Tok). has_lane x ≡ false) is
+    (not_true (has_lane (tokens_of v)) (and_parts (is_formed (tokens_of v)) (not (has_lane (tokens_of v))) (fine_vector v).is).1)
 no_lane v ts (inr is) = not_true (has_lane ts) (subst (λ (x : Option (List Tok)). none_or_no_lane x ≡ true) is (other_lane v))

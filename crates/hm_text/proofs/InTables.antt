@@ -111,14 +111,16 @@ module _ (Has : Tokens) (w : ℕ) (label : Instr → Tok → Option Tok) (goes :
       pair : w ≡ width_of i → l ≡ label_of i t → (w, l) ≡ seen_of i t
       pair p q = λ j. (p j, q j)
 
-  pub shape_none : (ts : List Tok) → AreRead text (these ts) → ((i : Instr) (t : Tok) → Has i t (normal ts) → nothing ≡ given (label i t)) → (i : Instr) (t : Tok) → IsTextIn Has text i t → ⊥
+  pub shape_none : (ts : List Tok) → AreRead text (these ts) → ((i : Instr) (t : Tok) → Has i t (normal ts) → nothing ≡ given (label i t))
+      → (i : Instr) (t : Tok) → IsTextIn Has text i t → ⊥
   shape_none ts read only i t n = let e = only i t (read_has ts read i t n) in cc
 
   -- rows at an address
   abbrev pub At : List Tok → ℕ → ℕ → Instr → Type 0
   At ts pc a i = (t : Tok) × Has i t (normal ts) × Reaches (goes i pc) a
 
-  pub at_found : (ts : List Tok) (pc a : ℕ) (r : Option Instr) → IsLineOf text ts → IfSome r (λ i. At ts pc a i) → IfSome r (λ i. (t : Tok) × IsTextIn Has text i t × Reaches (target i pc) a)
+  pub at_found : (ts : List Tok) (pc a : ℕ) (r : Option Instr) → IsLineOf text ts → IfSome r (λ i. At ts pc a i)
+      → IfSome r (λ i. (t : Tok) × IsTextIn Has text i t × Reaches (target i pc) a)
   at_found ts pc a (Some i) line is = (
     is.0,
     record { tokens = ts; line = line; has = is.1 },
@@ -126,7 +128,8 @@ module _ (Has : Tokens) (w : ℕ) (label : Instr → Tok → Option Tok) (goes :
   )
   at_found ts pc a None line is = tt
 
-  pub at_only : (ts : List Tok) (pc a : ℕ) (r : Option Instr) → AreRead text (these ts) → ((i : Instr) → At ts pc a i → r ≡ Some i) → (i : Instr) (t : Tok) → IsTextIn Has text i t → Reaches (target i pc) a → r ≡ Some i
+  pub at_only : (ts : List Tok) (pc a : ℕ) (r : Option Instr) → AreRead text (these ts) → ((i : Instr) → At ts pc a i → r ≡ Some i) → (i : Instr) (t : Tok)
+      → IsTextIn Has text i t → Reaches (target i pc) a → r ≡ Some i
   at_only ts pc a r read only i t n re =
       let has = read_has ts read i t n in
       only i (t, has, subst (λ (o : Option ℕ). Reaches o a) (sym (table.aimed i t (normal ts) pc has)) re)
@@ -134,26 +137,32 @@ module _ (Has : Tokens) (w : ℕ) (label : Instr → Tok → Option Tok) (goes :
 -- rows as the readers of tables give them
 pub narrow_at_found : (text : List ℕ) (ts : List Tok) (pc a : ℕ) (r : Option Instr) → IsLineOf text ts → IfSome r (λ i. narrow.IsRowAt (normal ts) pc a i)
     → IfSome r (λ i. (t : Tok) × IsNarrowText text i t × Reaches (target i pc) a)
-narrow_at_found text ts pc a (Some i) line is = at_found narrow.HasTokens 2 narrow.label_of narrow_targets.target narrow_table text ts pc a (Some i) line (is.label, is.has, is.reaches)
+narrow_at_found text ts pc a (Some i) line is =
+    at_found narrow.HasTokens 2 narrow.label_of narrow_targets.target narrow_table text ts pc a (Some i) line (is.label, is.has, is.reaches)
 narrow_at_found text ts pc a None line is = tt
 
-pub narrow_at_only : (text : List ℕ) (ts : List Tok) (pc a : ℕ) (r : Option Instr) → AreRead text (these ts) → ((i : Instr) → narrow.IsRowAt (normal ts) pc a i → r ≡ Some i)
+pub narrow_at_only : (text : List ℕ) (ts : List Tok) (pc a : ℕ) (r : Option Instr) → AreRead text (these ts)
+    → ((i : Instr) → narrow.IsRowAt (normal ts) pc a i → r ≡ Some i)
     → (i : Instr) (t : Tok) → IsNarrowText text i t → Reaches (target i pc) a → r ≡ Some i
 narrow_at_only text ts pc a r read only =
-    at_only narrow.HasTokens 2 narrow.label_of narrow_targets.target narrow_table text ts pc a r read (λ i f. only i (record { label = f.0; has = f.1; reaches = f.2 }))
+    at_only narrow.HasTokens 2 narrow.label_of narrow_targets.target narrow_table text ts pc a r read
+    (λ i f. only i (record { label = f.0; has = f.1; reaches = f.2 }))
 
 pub wide_at_found : (text : List ℕ) (ts : List Tok) (pc a : ℕ) (r : Option Instr) → IsLineOf text ts → IfSome r (λ i. wide.IsRowAt (normal ts) pc a i)
     → IfSome r (λ i. (t : Tok) × IsWideText text i t × Reaches (target i pc) a)
-wide_at_found text ts pc a (Some i) line is = at_found wide.HasTokens 4 wide.label_of wide_targets.target wide_table text ts pc a (Some i) line (is.label, is.has, is.reaches)
+wide_at_found text ts pc a (Some i) line is =
+    at_found wide.HasTokens 4 wide.label_of wide_targets.target wide_table text ts pc a (Some i) line (is.label, is.has, is.reaches)
 wide_at_found text ts pc a None line is = tt
 
-pub wide_at_only : (text : List ℕ) (ts : List Tok) (pc a : ℕ) (r : Option Instr) → AreRead text (these ts) → ((i : Instr) → wide.IsRowAt (normal ts) pc a i → r ≡ Some i)
+pub wide_at_only : (text : List ℕ) (ts : List Tok) (pc a : ℕ) (r : Option Instr) → AreRead text (these ts)
+    → ((i : Instr) → wide.IsRowAt (normal ts) pc a i → r ≡ Some i)
     → (i : Instr) (t : Tok) → IsWideText text i t → Reaches (target i pc) a → r ≡ Some i
 wide_at_only text ts pc a r read only =
     at_only wide.HasTokens 4 wide.label_of wide_targets.target wide_table text ts pc a r read (λ i f. only i (record { label = f.0; has = f.1; reaches = f.2 }))
 
 -- VECTOR ROWS
-pub vector_found : (text : List ℕ) (v : VectorRow) → vectors.IsTextOf text v → (i : Instr) × (t : Tok) × IsVectorText text i × (4 ≡ width_of i) × (nothing ≡ label_of i t)
+pub vector_found : (text : List ℕ) (v : VectorRow) → vectors.IsTextOf text v
+    → (i : Instr) × (t : Tok) × IsVectorText text i × (4 ≡ width_of i) × (nothing ≡ label_of i t)
 vector_found text v is = (Vector v, number 0, is, refl, refl)
 
 pub vector_seen : (text : List ℕ) (i : Instr) (t : Tok) → IsVectorText text i → given (4, nothing) ≡ given (seen_of i t)
@@ -166,7 +175,8 @@ vector_none text only (Scalar i) is = is
 vector_none text only (Branch i) is = is
 vector_none text only (Vector v) is = let e = only v is in cc
 
-pub vector_only : (text : List ℕ) (u : VectorRow) → ((v : VectorRow) → vectors.IsTextOf text v → given u ≡ given v) → (i : Instr) → IsVectorText text i → given (Vector u) ≡ given i
+pub vector_only : (text : List ℕ) (u : VectorRow) → ((v : VectorRow) → vectors.IsTextOf text v → given u ≡ given v) → (i : Instr) → IsVectorText text i
+    → given (Vector u) ≡ given i
 vector_only text u only (Scalar i) is = absurd is
 vector_only text u only (Branch i) is = absurd is
 vector_only text u only (Vector v) is = ap (λ (x : VectorRow). Some (Vector x)) (some_is u v (only v is))
@@ -176,7 +186,8 @@ vector_reaches text (Scalar i) pc a is = absurd is
 vector_reaches text (Branch i) pc a is = absurd is
 vector_reaches text (Vector v) pc a is = tt
 
-pub vector_at_found : (text : List ℕ) (pc a : ℕ) (r : Option Instr) → IfSome r (λ i. IsVectorText text i) → IfSome r (λ i. (t : Tok) × IsVectorText text i × Reaches (target i pc) a)
+pub vector_at_found : (text : List ℕ) (pc a : ℕ) (r : Option Instr) → IfSome r (λ i. IsVectorText text i)
+    → IfSome r (λ i. (t : Tok) × IsVectorText text i × Reaches (target i pc) a)
 vector_at_found text pc a (Some i) is = (number 0, is, vector_reaches text i pc a is)
 vector_at_found text pc a None is = tt
 
@@ -185,7 +196,8 @@ abbrev pub Texts : Type 1
 Texts = Instr → Tok → Type 0
 
 module _ (P Q : Texts) (apart_ : (i j : Instr) (t u : Tok) → P i t → Q j u → ⊥) where
-  pub first_only : (s : Option Seen) (j : Instr) (u : Tok) → P j u → ((i : Instr) (t : Tok) → P i t → s ≡ given (seen_of i t)) → (i : Instr) (t : Tok) → P i t ⊎ Q i t → s ≡ given (seen_of i t)
+  pub first_only : (s : Option Seen) (j : Instr) (u : Tok) → P j u → ((i : Instr) (t : Tok) → P i t → s ≡ given (seen_of i t)) → (i : Instr) (t : Tok)
+      → P i t ⊎ Q i t → s ≡ given (seen_of i t)
   first_only s j u p only i t (inl m) = only i t m
   first_only s j u p only i t (inr v) = absurd (apart_ j i u t p v)
 
@@ -195,21 +207,25 @@ module _ (P Q : Texts) (apart_ : (i j : Instr) (t u : Tok) → P i t → Q j u �
   first_at pc a r j u p only i t (inr v) re = absurd (apart_ j i u t p v)
 
 module _ (P Q : Texts) where
-  pub then_found : {A : Type 0} (r : Option A) (width : A → ℕ) (label : A → Option Tok) → IfSome r (λ s. (i : Instr) × (t : Tok) × Q i t × (width s ≡ width_of i) × (label s ≡ label_of i t))
+  pub then_found : {A : Type 0} (r : Option A) (width : A → ℕ) (label : A → Option Tok)
+      → IfSome r (λ s. (i : Instr) × (t : Tok) × Q i t × (width s ≡ width_of i) × (label s ≡ label_of i t))
       → IfSome r (λ s. (i : Instr) × (t : Tok) × (P i t ⊎ Q i t) × (width s ≡ width_of i) × (label s ≡ label_of i t))
   then_found (Some s) width label f = (f.0, f.1, inr f.2, f.3, f.4)
   then_found None width label f = tt
 
-  pub then_only : (s : Option Seen) → ((i : Instr) (t : Tok) → P i t → nothing ≡ given (seen_of i t)) → ((i : Instr) (t : Tok) → Q i t → s ≡ given (seen_of i t))
+  pub then_only : (s : Option Seen) → ((i : Instr) (t : Tok) → P i t → nothing ≡ given (seen_of i t))
+      → ((i : Instr) (t : Tok) → Q i t → s ≡ given (seen_of i t))
       → (i : Instr) (t : Tok) → P i t ⊎ Q i t → s ≡ given (seen_of i t)
   then_only s none only i t (inl m) = absurd (let e = none i t m in cc)
   then_only s none only i t (inr v) = only i t v
 
-  pub then_at_found : (pc a : ℕ) (r : Option Instr) → IfSome r (λ i. (t : Tok) × Q i t × Reaches (target i pc) a) → IfSome r (λ i. (t : Tok) × (P i t ⊎ Q i t) × Reaches (target i pc) a)
+  pub then_at_found : (pc a : ℕ) (r : Option Instr) → IfSome r (λ i. (t : Tok) × Q i t × Reaches (target i pc) a)
+      → IfSome r (λ i. (t : Tok) × (P i t ⊎ Q i t) × Reaches (target i pc) a)
   then_at_found pc a (Some i) f = (f.0, inr f.1, f.2)
   then_at_found pc a None f = tt
 
-  pub then_at : (pc a : ℕ) (r : Option Instr) → ((i : Instr) (t : Tok) → P i t → Reaches (target i pc) a → nothing ≡ given i) → ((i : Instr) (t : Tok) → Q i t → Reaches (target i pc) a → r ≡ Some i)
+  pub then_at : (pc a : ℕ) (r : Option Instr) → ((i : Instr) (t : Tok) → P i t → Reaches (target i pc) a → nothing ≡ given i)
+      → ((i : Instr) (t : Tok) → Q i t → Reaches (target i pc) a → r ≡ Some i)
       → (i : Instr) (t : Tok) → P i t ⊎ Q i t → Reaches (target i pc) a → r ≡ Some i
   then_at pc a r none only i t (inl m) re = absurd (let e = none i t m re in cc)
   then_at pc a r none only i t (inr v) re = only i t v re
@@ -227,6 +243,7 @@ Of_vectors text i t = IsVectorText text i
 abbrev pub Long : List ℕ → Texts
 Long text i t = IsLongText text i t
 
-pub row_found : (text : List ℕ) (pc a : ℕ) (r : Option Instr) → IfSome r (λ i. (t : Tok) × (Narrow text i t ⊎ Long text i t) × Reaches (target i pc) a) → IfSome r (λ i. IsRowAt text pc a i)
+pub row_found : (text : List ℕ) (pc a : ℕ) (r : Option Instr) → IfSome r (λ i. (t : Tok) × (Narrow text i t ⊎ Long text i t) × Reaches (target i pc) a)
+    → IfSome r (λ i. IsRowAt text pc a i)
 row_found text pc a (Some i) f = record { label = f.0; has = f.1; reaches = f.2 }
 row_found text pc a None f = tt

@@ -83,7 +83,8 @@ number_of (number n) ts us e = refl
 number_of (mark c) ts us e = absurd (false≢true e)
 
 -- a number that comes first in what has no ranges comes first in what may have them
-chosen_number : (b : Bool) (range behind single ts : List Tok) (t : Tok) → (b ≡ true → is_number_first (range ++ behind) ≡ false) → is_number_first (cond b (range ++ behind) (t ∷ single)) ≡ true → is_number_first (t ∷ ts) ≡ true
+chosen_number : (b : Bool) (range behind single ts : List Tok) (t : Tok) → (b ≡ true → is_number_first (range ++ behind) ≡ false)
+    → is_number_first (cond b (range ++ behind) (t ∷ single)) ≡ true → is_number_first (t ∷ ts) ≡ true
 chosen_number true range behind single ts t none e = absurd (false≢true (sym (none refl) ∙ e))
 chosen_number false range behind single ts t none e = number_of t single ts e
 
@@ -91,15 +92,18 @@ number_first : (ts : List Tok) (inside : Bool) → is_number_first (singles 0 in
 unfolding singles
 number_first [] inside e = absurd (false≢true e)
 number_first (t ∷ ts) inside e =
-    chosen_number (inside && is_rising (register_of t) (last_register ts)) (range_tokens (register_of t) (last_register ts)) (singles 2 inside ts) (singles 0 (is_inside inside t) ts) ts t
+    chosen_number (inside && is_rising (register_of t) (last_register ts)) (range_tokens (register_of t) (last_register ts)) (singles 2 inside ts)
+    (singles 0 (is_inside inside t) ts) ts t
     (λ b. range_number (register_of t) (last_register ts) (singles 2 inside ts) (and_parts inside (is_rising (register_of t) (last_register ts)) b).1) e
 
 -- and so does a lane
-chosen_lane : (b : Bool) (range behind single ts : List Tok) (t : Tok) → has_lane (range ++ behind) ≡ has_lane behind → (has_lane behind ≡ true → has_lane ts ≡ true) → (is_number_first single ≡ true → is_number_first ts ≡ true)
+chosen_lane : (b : Bool) (range behind single ts : List Tok) (t : Tok) → has_lane (range ++ behind) ≡ has_lane behind
+    → (has_lane behind ≡ true → has_lane ts ≡ true) → (is_number_first single ≡ true → is_number_first ts ≡ true)
     → (has_lane single ≡ true → has_lane ts ≡ true) → has_lane (cond b (range ++ behind) (t ∷ single)) ≡ true → has_lane (t ∷ ts) ≡ true
 chosen_lane true range behind single ts t same more number_ lane e = or_second (is_the_mark 91 t && is_number_first ts) (has_lane ts) (more (sym same ∙ e))
 chosen_lane false range behind single ts t same more number_ lane e =
-    or_cases (is_the_mark 91 t && is_number_first single) (has_lane single) (has_lane (t ∷ ts)) e (λ f. front (and_parts (is_the_mark 91 t) (is_number_first single) f))
+    or_cases (is_the_mark 91 t && is_number_first single) (has_lane single) (has_lane (t ∷ ts)) e
+    (λ f. front (and_parts (is_the_mark 91 t) (is_number_first single) f))
     (λ f. or_second (is_the_mark 91 t && is_number_first ts) (has_lane ts) (lane f))
   where
     both : (a b c : Bool) → a ≡ true → b ≡ true → ((a && b) || c) ≡ true
@@ -113,8 +117,10 @@ unfolding singles
 singles_lane [] over inside e = e
 singles_lane (t ∷ ts) (suc over) inside e = or_second (is_the_mark 91 t && is_number_first ts) (has_lane ts) (singles_lane ts over inside e)
 singles_lane (t ∷ ts) zero inside e =
-    chosen_lane (inside && is_rising (register_of t) (last_register ts)) (range_tokens (register_of t) (last_register ts)) (singles 2 inside ts) (singles 0 (is_inside inside t) ts) ts t
-    (range_lane (register_of t) (last_register ts) (singles 2 inside ts)) (singles_lane ts 2 inside) (number_first ts (is_inside inside t)) (singles_lane ts 0 (is_inside inside t)) e
+    chosen_lane (inside && is_rising (register_of t) (last_register ts)) (range_tokens (register_of t) (last_register ts)) (singles 2 inside ts)
+    (singles 0 (is_inside inside t) ts) ts t
+    (range_lane (register_of t) (last_register ts) (singles 2 inside ts)) (singles_lane ts 2 inside) (number_first ts (is_inside inside t))
+    (singles_lane ts 0 (is_inside inside t)) e
 
 pub normal_lane : (t : Tok) (ts : List Tok) → has_lane (singles 0 (is_inside false t) ts) ≡ true → has_lane ts ≡ true
 normal_lane t ts e = singles_lane ts 0 (is_inside false t) e

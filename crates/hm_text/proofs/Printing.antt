@@ -34,7 +34,8 @@ use Rattle.hm_text.proofs.WideRows.{formed_wide}
 use Rattle.hm_text.proofs.FormedVectors.{formed_vector}
 
 -- the form
-form_of : (b : Bool) (row : List Tok) (o : Option ℕ) → IsPrintedRow b row → IsGiven b o → ((a : ℕ) → Formed (cond b (row ++ number a ∷ []) row)) → IsOfForm forms.Instruction (printed_with row o)
+form_of : (b : Bool) (row : List Tok) (o : Option ℕ) → IsPrintedRow b row → IsGiven b o → ((a : ℕ) → Formed (cond b (row ++ number a ∷ []) row))
+    → IsOfForm forms.Instruction (printed_with row o)
 form_of true row (Some a) p lt f = formed_text (row ++ number a ∷ []) (printed_with row (Some a)) (p.again a lt) (f a)
 form_of true row None p given f = absurd given
 form_of false row (Some a) p given f = absurd given
@@ -45,7 +46,8 @@ narrow_form i pc text narrow is =
     subst (λ (x : List ℕ). IsOfForm forms.Instruction x) (sym is)
     (form_of (has_label i) (row_tokens i) (target i pc) (row_law i narrow).prints (given_target i pc) (λ a. formed_narrow i a narrow))
 
-pub narrow_printed : (i : Instr) (pc : ℕ) (text : List ℕ) (labels : List ℕ → Option ℕ) → IsNarrow i → text ≡ text_of i (target i pc) → narrow.IsTextOf text pc labels i → IsTextOf text pc labels i
+pub narrow_printed : (i : Instr) (pc : ℕ) (text : List ℕ) (labels : List ℕ → Option ℕ) → IsNarrow i → text ≡ text_of i (target i pc)
+    → narrow.IsTextOf text pc labels i → IsTextOf text pc labels i
 narrow_printed i pc text labels narrow_ is read = record {
   label = read.label;
   row = record { form = narrow_form i pc text narrow_ is; has = inl (record { tokens = read.tokens; line = read.line; has = read.has }) };
@@ -56,20 +58,24 @@ narrow_printed i pc text labels narrow_ is read = record {
 wide_form : (i : Instr) (pc : ℕ) (text : List ℕ) → IsWide i → text ≡ wide.text_of i (wide_targets.target i pc) → IsOfForm forms.Instruction text
 wide_form i pc text wide_ is =
     subst (λ (x : List ℕ). IsOfForm forms.Instruction x) (sym is)
-    (form_of (wide_rows.has_label i) (wide_rows.row_tokens i) (wide_targets.target i pc) (wide_laws.row_law i wide_).prints (wide_laws.given_target i pc) (λ a. formed_wide i a wide_))
+    (form_of (wide_rows.has_label i) (wide_rows.row_tokens i) (wide_targets.target i pc) (wide_laws.row_law i wide_).prints (wide_laws.given_target i pc)
+    (λ a. formed_wide i a wide_))
 
-pub wide_printed : (i : Instr) (pc : ℕ) (text : List ℕ) (labels : List ℕ → Option ℕ) → IsWide i → text ≡ wide.text_of i (wide_targets.target i pc) → wide.IsTextOf text pc labels i → IsTextOf text pc labels i
+pub wide_printed : (i : Instr) (pc : ℕ) (text : List ℕ) (labels : List ℕ → Option ℕ) → IsWide i → text ≡ wide.text_of i (wide_targets.target i pc)
+    → wide.IsTextOf text pc labels i → IsTextOf text pc labels i
 wide_printed i pc text labels wide_ is read = record {
   label = read.label;
   row = record { form = wide_form i pc text wide_ is; has = inr (inl (record { tokens = read.tokens; line = read.line; has = read.has })) };
   names = subst (λ (o : Option ℕ). NamesTarget labels read.label o) (wide_target i pc wide_) read.names;
 }
 
-pub vector_printed : (v : VectorRow) (pc : ℕ) (text : List ℕ) (labels : List ℕ → Option ℕ) → text ≡ printed (vectors.tokens_of v) → vectors.IsTextOf text v → IsTextOf text pc labels (Vector v)
+pub vector_printed : (v : VectorRow) (pc : ℕ) (text : List ℕ) (labels : List ℕ → Option ℕ) → text ≡ printed (vectors.tokens_of v) → vectors.IsTextOf text v
+    → IsTextOf text pc labels (Vector v)
 vector_printed v pc text labels is read = record {
   label = number 0;
   row = record {
-    form = subst (λ (x : List ℕ). IsOfForm forms.Instruction x) (sym is) (formed_text (vectors.tokens_of v) (printed (vectors.tokens_of v)) (vector_laws.row_law v).prints.again (formed_vector v));
+    form = subst (λ (x : List ℕ). IsOfForm forms.Instruction x) (sym is)
+        (formed_text (vectors.tokens_of v) (printed (vectors.tokens_of v)) (vector_laws.row_law v).prints.again (formed_vector v));
     has = inr (inr read);
   };
   names = tt;
@@ -94,7 +100,8 @@ branch_text i b pc is = subst (λ (x : Instr). wide.text_of x (wide_targets.targ
 pub vector_text : (i : Instr) (v : VectorRow) (pc : ℕ) → i ≡ Vector v → printed (vectors.tokens_of v) ≡ long_text i pc
 vector_text i v pc is = subst (λ (x : Instr). printed (vectors.tokens_of v) ≡ long_text x pc) (sym is) refl
 
-pub vector_is_printed : (i : Instr) (v : VectorRow) (pc : ℕ) (text : List ℕ) (labels : List ℕ → Option ℕ) → i ≡ Vector v → text ≡ printed (vectors.tokens_of v) → vectors.IsTextOf text v → IsTextOf text pc labels i
+pub vector_is_printed : (i : Instr) (v : VectorRow) (pc : ℕ) (text : List ℕ) (labels : List ℕ → Option ℕ) → i ≡ Vector v → text ≡ printed (vectors.tokens_of v)
+    → vectors.IsTextOf text v → IsTextOf text pc labels i
 vector_is_printed i v pc text labels is e read = subst (λ (x : Instr). IsTextOf text pc labels x) (sym is) (vector_printed v pc text labels e read)
 
 -- the table of a row, by its width

@@ -169,10 +169,12 @@ given_as a b o p e f g = subst (λ (x : Bool). IsGiven x p) e (subst (λ (x : Op
 
 given_narrow : (i : Instr) (pc : ℕ) → narrow.IsNarrow i → IsGiven (has_label i) (target i pc)
 given_narrow i pc e =
-    given_as (narrow_rows.has_label i) (has_label i) (narrow_targets.target i pc) (target i pc) (narrow_has_label i e) (narrow_target i pc e) (narrow_laws.given_target i pc)
+    given_as (narrow_rows.has_label i) (has_label i) (narrow_targets.target i pc) (target i pc) (narrow_has_label i e) (narrow_target i pc e)
+    (narrow_laws.given_target i pc)
 
 given_two : (i : Instr) (pc : ℕ) → IsWide i → IsGiven (has_label i) (target i pc)
-given_two i pc e = given_as (wide_rows.has_label i) (has_label i) (wide_targets.target i pc) (target i pc) (wide_has_label i e) (wide_target i pc e) (wide_laws.given_target i pc)
+given_two i pc e = given_as (wide_rows.has_label i) (has_label i) (wide_targets.target i pc) (target i pc) (wide_has_label i e) (wide_target i pc e)
+    (wide_laws.given_target i pc)
 
 pub given_target : (i : Instr) (pc : ℕ) → IsGiven (has_label i) (target i pc)
 given_target (instr.Scalar i) pc =

@@ -74,7 +74,8 @@ reach_without true (Some t) a g e = absurd cc
 reach_without false (Some t) a g e = absurd g
 
 -- what is reached is named
-named_target : (labels : Labels) (l : Option Tok) (t : Tok) (b : Bool) (o : Option ℕ) (a : ℕ) → IsGiven b o → l ≡ cond b (Some t) None → NamesGiven labels l a → Reaches o a → NamesTarget labels t o
+named_target : (labels : Labels) (l : Option Tok) (t : Tok) (b : Bool) (o : Option ℕ) (a : ℕ) → IsGiven b o → l ≡ cond b (Some t) None → NamesGiven labels l a
+    → Reaches o a → NamesTarget labels t o
 named_target labels l t b None a g e names re = tt
 named_target labels l t true (Some x) a g e names re = subst (λ (y : ℕ). Names labels t y) (sym re) (subst (λ (m : Option Tok). NamesGiven labels m a) e names)
 named_target labels l t false (Some x) a g e names re = absurd g
@@ -86,7 +87,8 @@ one_name labels (number n) a b p q = sym p ∙ q
 one_name labels (mark c) a b p q = absurd p
 
 -- and what is named is reached
-target_reached : (labels : Labels) (l : Option Tok) (t : Tok) (b : Bool) (o : Option ℕ) (a : ℕ) → IsGiven b o → l ≡ cond b (Some t) None → NamesGiven labels l a → NamesTarget labels t o → Reaches o a
+target_reached : (labels : Labels) (l : Option Tok) (t : Tok) (b : Bool) (o : Option ℕ) (a : ℕ) → IsGiven b o → l ≡ cond b (Some t) None → NamesGiven labels l a
+    → NamesTarget labels t o → Reaches o a
 target_reached labels l t b None a g e given names = tt
 target_reached labels l t true (Some x) a g e given names = one_name labels t x a names (subst (λ (m : Option Tok). NamesGiven labels m a) e given)
 target_reached labels l t false (Some x) a g e given names = absurd g
@@ -155,7 +157,8 @@ moved_error P d e same p = subst (λ (x : TextErr). P x.kind x.column) same p
 error_is : {A : Type 0} (d e : TextErr) → refused {A = A} d ≡ refused e → d ≡ e
 error_is d e f = cc
 
-pub shape_refusals : (text : List ℕ) (d : TextErr) → IsShapeRefused d.kind text d.column → (e : TextErr) → IsShapeRefused e.kind text e.column ↔ (refused {A = ℕ} d ≡ refused e)
+pub shape_refusals : (text : List ℕ) (d : TextErr) → IsShapeRefused d.kind text d.column → (e : TextErr)
+    → IsShapeRefused e.kind text e.column ↔ (refused {A = ℕ} d ≡ refused e)
 shape_refusals text d r e = (
   (λ s. let one = one_shape_refusal text d.kind e.kind d.column e.column r s in ap (λ (x : TextErr). refused x) (same_error d e one.0 one.1)),
   (λ f. moved_error (λ k c. IsShapeRefused k text c) d e (error_is {A = ℕ} d e f) r),
@@ -171,7 +174,8 @@ shape_refusal_told text pc labels kinds.Offset c r = absurd r
 shape_refusal_told text pc labels kinds.Place c r = absurd r
 
 -- a refusal of the shape is the only one
-pub shape_first : (text : List ℕ) (pc : ℕ) (labels : Labels) (k j : AsmKind) (c d : ℕ) → IsShapeRefused k text c → IsTextRefused j text pc labels d → (k ≡ j) × (c ≡ d)
+pub shape_first : (text : List ℕ) (pc : ℕ) (labels : Labels) (k j : AsmKind) (c d : ℕ) → IsShapeRefused k text c → IsTextRefused j text pc labels d
+    → (k ≡ j) × (c ≡ d)
 shape_first text pc labels k kinds.Syntax c d r s = one_shape_refusal text k kinds.Syntax c d r s
 shape_first text pc labels k kinds.Row c d r s = one_shape_refusal text k kinds.Row c d r s
 shape_first text pc labels k kinds.Missing c d r s = absurd (row_not_refused text s.instr (word s.name) k c s.row r)
@@ -179,10 +183,12 @@ shape_first text pc labels k kinds.Double c d r s = absurd s
 shape_first text pc labels k kinds.Offset c d r s = absurd (row_not_refused text s.instr s.label k c s.row r)
 shape_first text pc labels k kinds.Place c d r s = absurd s
 
-pub shape_reads : (text : List ℕ) (pc : ℕ) (labels : Labels) (d : TextErr) → IsShapeRefused d.kind text d.column → (i : Instr) → IsTextOf text pc labels i ↔ (refused d ≡ ok i)
+pub shape_reads : (text : List ℕ) (pc : ℕ) (labels : Labels) (d : TextErr) → IsShapeRefused d.kind text d.column → (i : Instr)
+    → IsTextOf text pc labels i ↔ (refused d ≡ ok i)
 shape_reads text pc labels d r i = ((λ is. absurd (row_not_refused text i is.label d.kind d.column is.row r)), (λ f. absurd cc))
 
-pub shape_tells : (text : List ℕ) (pc : ℕ) (labels : Labels) (d : TextErr) → IsShapeRefused d.kind text d.column → (e : TextErr) → IsTextRefused e.kind text pc labels e.column ↔ (refused {A = Instr} d ≡ refused e)
+pub shape_tells : (text : List ℕ) (pc : ℕ) (labels : Labels) (d : TextErr) → IsShapeRefused d.kind text d.column → (e : TextErr)
+    → IsTextRefused e.kind text pc labels e.column ↔ (refused {A = Instr} d ≡ refused e)
 shape_tells text pc labels d r e = (
   (λ s. let one = shape_first text pc labels d.kind e.kind d.column e.column r s in ap (λ (x : TextErr). refused x) (same_error d e one.0 one.1)),
   (λ f. moved_error (λ k c. IsTextRefused k text pc labels c) d e (error_is {A = Instr} d e f) (shape_refusal_told text pc labels d.kind d.column r)),
@@ -193,23 +199,27 @@ unknown_label : (labels : Labels) (l : Option Tok) → IsUnknownGiven labels l �
 unknown_label labels (Some t) is = (t, refl, is)
 unknown_label labels None is = absurd is
 
-missing_name : (text : List ℕ) (labels : Labels) (c : ℕ) (i : Instr) (t : Tok) → IsRowText text i t → label_of i t ≡ Some t → IsLabel t → IsUnknown labels t → IsAtLabel text c → IsMissing text labels c
+missing_name : (text : List ℕ) (labels : Labels) (c : ℕ) (i : Instr) (t : Tok) → IsRowText text i t → label_of i t ≡ Some t → IsLabel t → IsUnknown labels t
+    → IsAtLabel text c → IsMissing text labels c
 missing_name text labels c i (word w) row is label none at = record { instr = i; name = w; row = row; labelled = is; unknown = none; column = at }
 missing_name text labels c i (number n) row is label none at = absurd (omega (arith, label, none))
 missing_name text labels c i (mark m) row is label none at = absurd label
 
-pub is_missing : (text : List ℕ) (labels : Labels) (w : ℕ) (l : Option Tok) (c : ℕ) → IsShape text w l → IsUnknownGiven labels l → ((here : List ℕ) → IsLast text here → c ≡ column text (skip here)) → IsMissing text labels c
+pub is_missing : (text : List ℕ) (labels : Labels) (w : ℕ) (l : Option Tok) (c : ℕ) → IsShape text w l → IsUnknownGiven labels l
+    → ((here : List ℕ) → IsLast text here → c ≡ column text (skip here)) → IsMissing text labels c
 is_missing text labels w l c is none at =
     let u = unknown_label labels l none in
     let g = given_label (has_label is.0) is.1 u.0 (sym is.4 ∙ u.1) in
-    missing_name text labels c is.0 is.1 is.2 (with_label is.0 is.1 g.0) (is_label text is.0 is.1 is.2.has g.0) (subst (λ (t : Tok). IsUnknown labels t) (sym g.1) u.2)
+    missing_name text labels c is.0 is.1 is.2 (with_label is.0 is.1 g.0) (is_label text is.0 is.1 is.2.has g.0)
+    (subst (λ (t : Tok). IsUnknown labels t) (sym g.1) u.2)
     (at_label text c is.2.form at)
 
 -- where there is an unknown label no instruction is named
 no_text : (text : List ℕ) (pc : ℕ) (labels : Labels) (t : Tok) (i : Instr) → HasLabel text (Some t) → IsUnknown labels t → IsTextOf text pc labels i → ⊥
 no_text text pc labels t i label none is =
     let g = given_label (has_label i) is.label t (sym (label i is.label is.row)) in
-    no_name (has_label i) (target i pc) g.0 (given_target i pc) (is_label text i is.label is.row.has g.0) (subst (λ (u : Tok). IsUnknown labels u) (sym g.1) none) is.names
+    no_name (has_label i) (target i pc) g.0 (given_target i pc) (is_label text i is.label is.row.has g.0)
+    (subst (λ (u : Tok). IsUnknown labels u) (sym g.1) none) is.names
   where
     no_name : (b : Bool) (o : Option ℕ) → b ≡ true → IsGiven b o → IsLabel is.label → IsUnknown labels is.label → NamesTarget labels is.label o → ⊥
     no_name true (Some a) e g l u names = unknown_named labels is.label a l u names
@@ -217,7 +227,8 @@ no_text text pc labels t i label none is =
     no_name false o e g l u names = absurd cc
 
 -- what is refused where the label is unknown
-pub missing_only : (text : List ℕ) (pc : ℕ) (labels : Labels) (t : Tok) (c d : ℕ) (j : AsmKind) → HasLabel text (Some t) → IsMissing text labels c → IsUnknown labels t → IsOne (IsAtLabel text) c → IsTextRefused j text pc labels d
+pub missing_only : (text : List ℕ) (pc : ℕ) (labels : Labels) (t : Tok) (c d : ℕ) (j : AsmKind) → HasLabel text (Some t) → IsMissing text labels c
+    → IsUnknown labels t → IsOne (IsAtLabel text) c → IsTextRefused j text pc labels d
     → (kinds.Missing ≡ j) × (c ≡ d)
 missing_only text pc labels t c d kinds.Syntax label m none one s = absurd (not_both forms.Instruction text d m.row.form s)
 missing_only text pc labels t c d kinds.Row label m none one s = absurd (s.none m.instr (word m.name) m.row)
@@ -231,13 +242,19 @@ missing_only text pc labels t c d kinds.Place label m none one s = absurd s
 
 -- AN ADDRESS
 -- a row at the address is what the text names
-pub row_is_named : (text : List ℕ) (pc a : ℕ) (labels : Labels) (l : Option Tok) (i : Instr) → IsOfForm forms.Instruction text → HasLabel text l → NamesGiven labels l a → IsRowAt text pc a i → IsTextOf text pc labels i
+pub row_is_named : (text : List ℕ) (pc a : ℕ) (labels : Labels) (l : Option Tok) (i : Instr) → IsOfForm forms.Instruction text → HasLabel text l
+    → NamesGiven labels l a → IsRowAt text pc a i → IsTextOf text pc labels i
 row_is_named text pc a labels l i form label names is =
     let row : IsRowText text i is.label = record { form = form; has = is.has } in
-    record { label = is.label; row = row; names = named_target labels l is.label (has_label i) (target i pc) a (given_target i pc) (label i is.label row) names is.reaches }
+    record {
+      label = is.label;
+      row = row;
+      names = named_target labels l is.label (has_label i) (target i pc) a (given_target i pc) (label i is.label row) names is.reaches;
+    }
 
 -- and the other way round
-pub named_is_row : (text : List ℕ) (pc a : ℕ) (labels : Labels) (l : Option Tok) (i : Instr) → HasLabel text l → NamesGiven labels l a → IsTextOf text pc labels i → IsRowAt text pc a i
+pub named_is_row : (text : List ℕ) (pc a : ℕ) (labels : Labels) (l : Option Tok) (i : Instr) → HasLabel text l → NamesGiven labels l a
+    → IsTextOf text pc labels i → IsRowAt text pc a i
 named_is_row text pc a labels l i label names is = record {
   label = is.label;
   has = is.row.has;
@@ -245,7 +262,8 @@ named_is_row text pc a labels l i label names is = record {
 }
 
 -- a text that names an instruction is not refused
-pub named_not_refused : (text : List ℕ) (pc a : ℕ) (labels : Labels) (l : Option Tok) (i : Instr) (k : AsmKind) (c : ℕ) → HasLabel text l → NamesGiven labels l a → IsTextOf text pc labels i → IsTextRefused k text pc labels c → ⊥
+pub named_not_refused : (text : List ℕ) (pc a : ℕ) (labels : Labels) (l : Option Tok) (i : Instr) (k : AsmKind) (c : ℕ) → HasLabel text l
+    → NamesGiven labels l a → IsTextOf text pc labels i → IsTextRefused k text pc labels c → ⊥
 named_not_refused text pc a labels l i kinds.Syntax c label names is r = not_both forms.Instruction text c is.row.form r
 named_not_refused text pc a labels l i kinds.Row c label names is r = r.none i is.label is.row
 named_not_refused text pc a labels l i kinds.Missing c label names is r =
@@ -260,18 +278,21 @@ named_not_refused text pc a labels l i kinds.Place c label names is r = r
 instr_is : (i j : Instr) → ok i ≡ ok j → i ≡ j
 instr_is i j e = cc
 
-pub row_reads : (text : List ℕ) (pc a : ℕ) (labels : Labels) (l : Option Tok) (i : Instr) → HasLabel text l → NamesGiven labels l a → IsTextOf text pc labels i → ((j : Instr) → IsRowAt text pc a j → given i ≡ given j)
+pub row_reads : (text : List ℕ) (pc a : ℕ) (labels : Labels) (l : Option Tok) (i : Instr) → HasLabel text l → NamesGiven labels l a → IsTextOf text pc labels i
+    → ((j : Instr) → IsRowAt text pc a j → given i ≡ given j)
     → (j : Instr) → IsTextOf text pc labels j ↔ (ok i ≡ ok j)
 row_reads text pc a labels l i label names is only j = (
   (λ h. ap (λ (x : Instr). ok x) (some_is i j (only j (named_is_row text pc a labels l j label names h)))),
   (λ e. subst (λ (x : Instr). IsTextOf text pc labels x) (instr_is i j e) is),
 )
 
-pub row_tells : (text : List ℕ) (pc a : ℕ) (labels : Labels) (l : Option Tok) (i : Instr) → HasLabel text l → NamesGiven labels l a → IsTextOf text pc labels i → (e : TextErr) → IsTextRefused e.kind text pc labels e.column ↔ (ok i ≡ refused e)
+pub row_tells : (text : List ℕ) (pc a : ℕ) (labels : Labels) (l : Option Tok) (i : Instr) → HasLabel text l → NamesGiven labels l a → IsTextOf text pc labels i
+    → (e : TextErr) → IsTextRefused e.kind text pc labels e.column ↔ (ok i ≡ refused e)
 row_tells text pc a labels l i label names is e = ((λ r. absurd (named_not_refused text pc a labels l i e.kind e.column label names is r)), (λ f. absurd cc))
 
 -- no row at the address
-pub is_out_of_reach : (text : List ℕ) (pc a : ℕ) (labels : Labels) (w : ℕ) (l : Option Tok) (c : ℕ) → IsShape text w l → HasLabel text l → NamesGiven labels l a → ((i : Instr) → IsRowAt text pc a i → ⊥)
+pub is_out_of_reach : (text : List ℕ) (pc a : ℕ) (labels : Labels) (w : ℕ) (l : Option Tok) (c : ℕ) → IsShape text w l → HasLabel text l → NamesGiven labels l a
+    → ((i : Instr) → IsRowAt text pc a i → ⊥)
     → ((here : List ℕ) → IsLast text here → c ≡ column text (skip here)) → IsOutOfReach text pc labels c
 is_out_of_reach text pc a labels w (Some t) c is label names none at =
     let g = given_label (has_label is.0) is.1 t (sym is.4) in
@@ -286,9 +307,14 @@ is_out_of_reach text pc a labels w (Some t) c is label names none at =
       column = at_label text c is.2.form at;
     }
 is_out_of_reach text pc a labels w None c is label names none at =
-    absurd (none is.0 (record { label = is.1; has = is.2.has; reaches = reach_without (has_label is.0) (target is.0 pc) a (given_target is.0 pc) (without_label is.0 is.1 (sym is.4)) }))
+    absurd (none is.0 (record {
+      label = is.1;
+      has = is.2.has;
+      reaches = reach_without (has_label is.0) (target is.0 pc) a (given_target is.0 pc) (without_label is.0 is.1 (sym is.4));
+    }))
 
-pub out_only : (text : List ℕ) (pc a : ℕ) (labels : Labels) (l : Option Tok) (c d : ℕ) (j : AsmKind) → HasLabel text l → NamesGiven labels l a → IsOutOfReach text pc labels c → IsOne (IsAtLabel text) c → IsTextRefused j text pc labels d
+pub out_only : (text : List ℕ) (pc a : ℕ) (labels : Labels) (l : Option Tok) (c d : ℕ) (j : AsmKind) → HasLabel text l → NamesGiven labels l a
+    → IsOutOfReach text pc labels c → IsOne (IsAtLabel text) c → IsTextRefused j text pc labels d
     → (kinds.Offset ≡ j) × (c ≡ d)
 out_only text pc a labels l c d kinds.Syntax label names o one s = absurd (not_both forms.Instruction text d o.row.form s)
 out_only text pc a labels l c d kinds.Row label names o one s = absurd (s.none o.instr o.label o.row)
@@ -301,25 +327,33 @@ out_only text pc a labels l c d kinds.Double label names o one s = absurd s
 out_only text pc a labels l c d kinds.Offset label names o one s = (refl, one d s.column)
 out_only text pc a labels l c d kinds.Place label names o one s = absurd s
 
-pub out_reads : (text : List ℕ) (pc : ℕ) (labels : Labels) (d : TextErr) (c : ℕ) → IsOutOfReach text pc labels c → (i : Instr) → IsTextOf text pc labels i ↔ (refused d ≡ ok i)
+pub out_reads : (text : List ℕ) (pc : ℕ) (labels : Labels) (d : TextErr) (c : ℕ) → IsOutOfReach text pc labels c → (i : Instr)
+    → IsTextOf text pc labels i ↔ (refused d ≡ ok i)
 out_reads text pc labels d c o i = ((λ is. absurd (o.none i is)), (λ f. absurd cc))
 
-pub out_tells : (text : List ℕ) (pc a : ℕ) (labels : Labels) (l : Option Tok) (d : TextErr) → d.kind ≡ kinds.Offset → HasLabel text l → NamesGiven labels l a → IsOutOfReach text pc labels d.column → IsOne (IsAtLabel text) d.column
+pub out_tells : (text : List ℕ) (pc a : ℕ) (labels : Labels) (l : Option Tok) (d : TextErr) → d.kind ≡ kinds.Offset → HasLabel text l → NamesGiven labels l a
+    → IsOutOfReach text pc labels d.column → IsOne (IsAtLabel text) d.column
     → (e : TextErr) → IsTextRefused e.kind text pc labels e.column ↔ (refused {A = Instr} d ≡ refused e)
 out_tells text pc a labels l d kind label names o one e = (
-  (λ s. let same = out_only text pc a labels l d.column e.column e.kind label names o one s in ap (λ (x : TextErr). refused x) (same_error d e (kind ∙ same.0) same.1)),
-  (λ f. moved_error (λ k c. IsTextRefused k text pc labels c) d e (error_is {A = Instr} d e f) (subst (λ (k : AsmKind). IsTextRefused k text pc labels d.column) (sym kind) o)),
+  (λ s. let same = out_only text pc a labels l d.column e.column e.kind label names o one s in
+      ap (λ (x : TextErr). refused x) (same_error d e (kind ∙ same.0) same.1)),
+  (λ f. moved_error (λ k c. IsTextRefused k text pc labels c) d e (error_is {A = Instr} d e f)
+      (subst (λ (k : AsmKind). IsTextRefused k text pc labels d.column) (sym kind) o)),
 )
 
-pub missing_reads : (text : List ℕ) (pc : ℕ) (labels : Labels) (l : Option Tok) (d : TextErr) → HasLabel text l → IsUnknownGiven labels l → (i : Instr) → IsTextOf text pc labels i ↔ (refused d ≡ ok i)
+pub missing_reads : (text : List ℕ) (pc : ℕ) (labels : Labels) (l : Option Tok) (d : TextErr) → HasLabel text l → IsUnknownGiven labels l → (i : Instr)
+    → IsTextOf text pc labels i ↔ (refused d ≡ ok i)
 missing_reads text pc labels (Some t) d label none i = ((λ is. absurd (no_text text pc labels t i label none is)), (λ f. absurd cc))
 missing_reads text pc labels None d label none i = absurd none
 
-pub missing_tells : (text : List ℕ) (pc : ℕ) (labels : Labels) (l : Option Tok) (d : TextErr) → d.kind ≡ kinds.Missing → HasLabel text l → IsUnknownGiven labels l → IsMissing text labels d.column → IsOne (IsAtLabel text) d.column
+pub missing_tells : (text : List ℕ) (pc : ℕ) (labels : Labels) (l : Option Tok) (d : TextErr) → d.kind ≡ kinds.Missing → HasLabel text l
+    → IsUnknownGiven labels l → IsMissing text labels d.column → IsOne (IsAtLabel text) d.column
     → (e : TextErr) → IsTextRefused e.kind text pc labels e.column ↔ (refused {A = Instr} d ≡ refused e)
 missing_tells text pc labels (Some t) d kind label none m one e = (
-  (λ s. let same = missing_only text pc labels t d.column e.column e.kind label m none one s in ap (λ (x : TextErr). refused x) (same_error d e (kind ∙ same.0) same.1)),
-  (λ f. moved_error (λ k c. IsTextRefused k text pc labels c) d e (error_is {A = Instr} d e f) (subst (λ (k : AsmKind). IsTextRefused k text pc labels d.column) (sym kind) m)),
+  (λ s. let same = missing_only text pc labels t d.column e.column e.kind label m none one s in
+      ap (λ (x : TextErr). refused x) (same_error d e (kind ∙ same.0) same.1)),
+  (λ f. moved_error (λ k c. IsTextRefused k text pc labels c) d e (error_is {A = Instr} d e f)
+      (subst (λ (k : AsmKind). IsTextRefused k text pc labels d.column) (sym kind) m)),
 )
 missing_tells text pc labels None d kind label none m one e = absurd none
 

@@ -133,7 +133,9 @@ unfolding span
 other_name_none w ts e =
     let P : Type 0 = code_in (word w ∷ ts) ≡ None in
     let name : List ℕ → Bool = λ s. bytes_eq w s in
-    one_of (name (codes "vpush")) (name (codes "vpop") || (name (codes "vmrs") || name (codes "vmsr"))) P e (λ f. whole w (codes "vpush") ts (spelled_so w (codes "vpush") f) refl vpush_none)
-    (λ e1. one_of (name (codes "vpop")) (name (codes "vmrs") || name (codes "vmsr")) P e1 (λ f. whole w (codes "vpop") ts (spelled_so w (codes "vpop") f) refl vpop_none)
+    one_of (name (codes "vpush")) (name (codes "vpop") || (name (codes "vmrs") || name (codes "vmsr"))) P e
+    (λ f. whole w (codes "vpush") ts (spelled_so w (codes "vpush") f) refl vpush_none)
+    (λ e1. one_of (name (codes "vpop")) (name (codes "vmrs") || name (codes "vmsr")) P e1
+    (λ f. whole w (codes "vpop") ts (spelled_so w (codes "vpop") f) refl vpop_none)
     (λ e2. one_of (name (codes "vmrs")) (name (codes "vmsr")) P e2 (λ f. whole w (codes "vmrs") ts (spelled_so w (codes "vmrs") f) refl vmrs_none)
     (λ f. whole w (codes "vmsr") ts (spelled_so w (codes "vmsr") f) refl vmsr_none)))

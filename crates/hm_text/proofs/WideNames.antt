@@ -7,7 +7,12 @@ use Rattle.hm_tokens.specs.Tokens.{Tok, word, number, mark}
 use Rattle.hm_text16.specs.declared.operands.Kind.{Kind}
 use Rattle.hm_text16.specs.declared.operands.Kind.TheVariants as kinds
 use Rattle.hm_text16.specs.declared.operands.Operands.{Operands}
-use Rattle.hm_text16.specs.Codes.{access_base_in, block_in, byte_access_base_in, byte_base_in, code_address, code_always, code_block, code_break, code_byte, code_byte_access, code_compare, code_conditional, code_half, code_high, code_in, code_jump, code_label, code_list, code_literal, code_low, code_of, code_of_three, code_of_two, code_registers, code_shift, code_single, code_small_sum, code_stack_access, code_stack_sum, code_with_number, code_with_register, code_word, code_zero, fixed_code_in, half_base_in, high_base_in, jump_base_in, low_base_in, move_base_in, shift_base_in, stack_base_in, stack_sum_base_in, sum_base_in, word_base_in, zero_base_in}
+use Rattle.hm_text16.specs.Codes.{access_base_in, block_in, byte_access_base_in, byte_base_in, code_address, code_always, code_block, code_break, code_byte}
+use Rattle.hm_text16.specs.Codes.{code_byte_access, code_compare, code_conditional, code_half, code_high, code_in, code_jump, code_label, code_list}
+use Rattle.hm_text16.specs.Codes.{code_literal, code_low, code_of, code_of_three, code_of_two, code_registers, code_shift, code_single, code_small_sum}
+use Rattle.hm_text16.specs.Codes.{code_stack_access, code_stack_sum, code_with_number, code_with_register, code_word, code_zero, fixed_code_in, half_base_in}
+use Rattle.hm_text16.specs.Codes.{high_base_in, jump_base_in, low_base_in, move_base_in, shift_base_in, stack_base_in, stack_sum_base_in, sum_base_in}
+use Rattle.hm_text16.specs.Codes.{word_base_in, zero_base_in}
 use Rattle.hm_text_rows.specs.Operands.{branch_condition_in, first}
 use Rattle.hm_text16.specs.Operands.{read_operands}
 use Rattle.hm_textv.specs.Codes as vectors
@@ -36,12 +41,14 @@ is_no_offset s = is_none (stack_base_in s) && (is_none (word_base_in s) && (is_n
 
 -- with registers
 abbrev is_no_register : List ℕ → Bool
-is_no_register s = is_none (access_base_in s) && (not (bytes_eq s (codes "cmp")) && (is_none (low_base_in s) && (is_none (move_base_in s) && is_none (high_base_in s))))
+is_no_register s = is_none (access_base_in s)
+    && (not (bytes_eq s (codes "cmp")) && (is_none (low_base_in s) && (is_none (move_base_in s) && is_none (high_base_in s))))
 
 -- with a number behind one, or fewer operands
 abbrev is_no_single : List ℕ → Bool
 is_no_single s =
-    is_none (byte_base_in s) && (is_none (stack_sum_base_in s) && (is_none (fixed_code_in s) && (is_none (jump_base_in s) && (not (bytes_eq s (codes "bkpt")) && is_none (block_in s)))))
+    is_none (byte_base_in s) && (is_none (stack_sum_base_in s)
+    && (is_none (fixed_code_in s) && (is_none (jump_base_in s) && (not (bytes_eq s (codes "bkpt")) && is_none (block_in s)))))
 
 -- with a label
 abbrev is_no_label : List ℕ → Bool
@@ -74,7 +81,8 @@ register_sum_none s e =
     let p = and_parts (is_none (shift_base_in s)) (is_none (sum_base_in s) && not (bytes_eq s (codes "add"))) e in
     none_is (sum_base_in s) (and_parts (is_none (sum_base_in s)) (not (bytes_eq s (codes "add"))) p.1).0
 
-offset_none : (s : List ℕ) (o : Operands) → is_no_offset s ≡ true → (code_stack_access s o ≡ None) × (code_word s o ≡ None) × (code_byte_access s o ≡ None) × (code_half s o ≡ None)
+offset_none : (s : List ℕ) (o : Operands) → is_no_offset s ≡ true
+    → (code_stack_access s o ≡ None) × (code_word s o ≡ None) × (code_byte_access s o ≡ None) × (code_half s o ≡ None)
 offset_none s o e =
     let p = and_parts (is_none (stack_base_in s)) (is_none (word_base_in s) && (is_none (byte_access_base_in s) && is_none (half_base_in s))) e in
     let q = and_parts (is_none (word_base_in s)) (is_none (byte_access_base_in s) && is_none (half_base_in s)) p.1 in
@@ -104,7 +112,8 @@ record NoRegister (s : List ℕ) : Type 0 where
 
 no_register : (s : List ℕ) → is_no_register s ≡ true → NoRegister s
 no_register s e =
-    let p = and_parts (is_none (access_base_in s)) (not (bytes_eq s (codes "cmp")) && (is_none (low_base_in s) && (is_none (move_base_in s) && is_none (high_base_in s)))) e in
+    let p = and_parts (is_none (access_base_in s))
+    (not (bytes_eq s (codes "cmp")) && (is_none (low_base_in s) && (is_none (move_base_in s) && is_none (high_base_in s)))) e in
     let q = and_parts (not (bytes_eq s (codes "cmp"))) (is_none (low_base_in s) && (is_none (move_base_in s) && is_none (high_base_in s))) p.1 in
     let r = and_parts (is_none (low_base_in s)) (is_none (move_base_in s) && is_none (high_base_in s)) q.1 in
     let t = and_parts (is_none (move_base_in s)) (is_none (high_base_in s)) r.1 in
@@ -129,7 +138,8 @@ high_none : (s : List ℕ) (o : Operands) → NoRegister s → code_high s o ≡
 high_none s o n = rw n.high refl
 
 registers_none : (s : List ℕ) (o : Operands) → NoRegister s → code_registers s o ≡ None
-registers_none s o n = first_none (code_compare s o) (first (code_low s o) (code_high s o)) (compare_none s o n) (first_none (code_low s o) (code_high s o) (low_none s o n) (high_none s o n))
+registers_none s o n = first_none (code_compare s o) (first (code_low s o) (code_high s o)) (compare_none s o n)
+    (first_none (code_low s o) (code_high s o) (low_none s o n) (high_none s o n))
 
 -- fewer operands
 record NoSingle (s : List ℕ) : Type 0 where
@@ -144,8 +154,10 @@ no_single : (s : List ℕ) → is_no_single s ≡ true → NoSingle s
 no_single s e =
     let p =
     and_parts (is_none (byte_base_in s))
-    (is_none (stack_sum_base_in s) && (is_none (fixed_code_in s) && (is_none (jump_base_in s) && (not (bytes_eq s (codes "bkpt")) && is_none (block_in s))))) e in
-    let q = and_parts (is_none (stack_sum_base_in s)) (is_none (fixed_code_in s) && (is_none (jump_base_in s) && (not (bytes_eq s (codes "bkpt")) && is_none (block_in s)))) p.1 in
+    (is_none (stack_sum_base_in s) && (is_none (fixed_code_in s) && (is_none (jump_base_in s) && (not (bytes_eq s (codes "bkpt")) && is_none (block_in s)))))
+    e in
+    let q = and_parts (is_none (stack_sum_base_in s))
+    (is_none (fixed_code_in s) && (is_none (jump_base_in s) && (not (bytes_eq s (codes "bkpt")) && is_none (block_in s)))) p.1 in
     let r = and_parts (is_none (fixed_code_in s)) (is_none (jump_base_in s) && (not (bytes_eq s (codes "bkpt")) && is_none (block_in s))) q.1 in
     let t = and_parts (is_none (jump_base_in s)) (not (bytes_eq s (codes "bkpt")) && is_none (block_in s)) r.1 in
     let u = and_parts (not (bytes_eq s (codes "bkpt"))) (is_none (block_in s)) t.1 in
@@ -176,7 +188,8 @@ block_none s o n = rw n.block refl
 single_none : (s : List ℕ) (o : Operands) → NoSingle s → code_single s o ≡ None
 single_none s o n =
     first_none (fixed_code_in s) (first (code_jump s o) (first (code_break s o) (code_block s o))) n.fixed
-    (first_none (code_jump s o) (first (code_break s o) (code_block s o)) (jump_none s o n) (first_none (code_break s o) (code_block s o) (break_none s o n) (block_none s o n)))
+    (first_none (code_jump s o) (first (code_break s o) (code_block s o)) (jump_none s o n)
+    (first_none (code_break s o) (code_block s o) (break_none s o n) (block_none s o n)))
 
 two_none : (k : Kind) (s : List ℕ) (o : Operands) → NoRegister s → NoSingle s → code_of_two k s o ≡ None
 two_none kinds.Number s o n m = first_none (code_byte s o) (code_stack_sum s o) (byte_none s o m) (stack_none s o m)
@@ -223,16 +236,24 @@ label_none s o pc a n =
 -- lists
 list_none : (s : List ℕ) (o : Operands) → is_no_list s ≡ true → code_list s o ≡ None
 list_none s o e =
-    let p = and_parts (not (bytes_eq s (codes "push"))) (not (bytes_eq s (codes "pop")) && (not (bytes_eq s (codes "stm")) && not (bytes_eq s (codes "ldm")))) e in
+    let p = and_parts (not (bytes_eq s (codes "push"))) (not (bytes_eq s (codes "pop")) && (not (bytes_eq s (codes "stm")) && not (bytes_eq s (codes "ldm"))))
+    e in
     let q = and_parts (not (bytes_eq s (codes "pop"))) (not (bytes_eq s (codes "stm")) && not (bytes_eq s (codes "ldm"))) p.1 in
     let r = and_parts (not (bytes_eq s (codes "stm"))) (not (bytes_eq s (codes "ldm"))) q.1 in
-    rw (not_is (bytes_eq s (codes "push")) p.0, not_is (bytes_eq s (codes "pop")) q.0, not_is (bytes_eq s (codes "stm")) r.0, not_is (bytes_eq s (codes "ldm")) r.1) refl
+    rw (
+      not_is (bytes_eq s (codes "push")) p.0,
+      not_is (bytes_eq s (codes "pop")) q.0,
+      not_is (bytes_eq s (codes "stm")) r.0,
+      not_is (bytes_eq s (codes "ldm")) r.1,
+    ) refl
 
 -- all
-by_third : (k j : Kind) (s : List ℕ) (o : Operands) (pc a : ℕ) → is_no_sum s ≡ true → is_no_offset s ≡ true → NoRegister s → NoSingle s → NoLabel s → o.second_kind ≡ j → code_of_three k s o pc a ≡ None
+by_third : (k j : Kind) (s : List ℕ) (o : Operands) (pc a : ℕ) → is_no_sum s ≡ true → is_no_offset s ≡ true → NoRegister s → NoSingle s → NoLabel s
+    → o.second_kind ≡ j → code_of_three k s o pc a ≡ None
 by_third kinds.Number j s o pc a sums offsets n m l e = number_none s o sums offsets
 by_third kinds.Word j s o pc a sums offsets n m l e = three_none s o (register_sum_none s sums) n
-by_third kinds.Missing j s o pc a sums offsets n m l e = first_none (code_label s o pc a) (code_of_two o.second_kind s o) (label_none s o pc a l) (two_none o.second_kind s o n m)
+by_third kinds.Missing j s o pc a sums offsets n m l e =
+    first_none (code_label s o pc a) (code_of_two o.second_kind s o) (label_none s o pc a l) (two_none o.second_kind s o n m)
 
 narrow_code_none : (s : List ℕ) (o : Operands) (pc a : ℕ) → is_not_narrow s ≡ true → code_of s o pc a ≡ None
 unfolding code_of
@@ -258,7 +279,8 @@ is_wide_line (mark c ∷ ts) = false
 
 pub narrow_asks_none : (ts : List Tok) (pc a : ℕ) → is_wide_line ts ≡ true → code_in ts pc a ≡ None
 narrow_asks_none [] pc a e = absurd (false≢true e)
-narrow_asks_none (word w ∷ ts) pc a e = narrow_code_none w (read_operands ts) pc a (and_parts (is_not_narrow w) (not (begins_with_v w) || (is_other w || has_lane ts)) e).0
+narrow_asks_none (word w ∷ ts) pc a e =
+    narrow_code_none w (read_operands ts) pc a (and_parts (is_not_narrow w) (not (begins_with_v w) || (is_other w || has_lane ts)) e).0
 narrow_asks_none (number n ∷ ts) pc a e = absurd (false≢true e)
 narrow_asks_none (mark c ∷ ts) pc a e = absurd (false≢true e)
 

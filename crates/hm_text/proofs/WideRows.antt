@@ -1,5 +1,6 @@
 -- Each row of two halfwords that is no vector row: its mnemonic is its own, and its text is of the form.
-use Rattle.std.proofs.Common.{◌≡◌, ℕ, suc, ◌+◌, ◌*◌, ◌/◌, ◌%◌, ◌^◌, ◌<◌, ◌≤◌, Bool, true, false, cond, List, [], ◌∷◌, ◌++◌, length, map, Some, refl, sym, subst, inl, inr, arith}
+use Rattle.std.proofs.Common.{◌≡◌, ℕ, suc, ◌+◌, ◌*◌, ◌/◌, ◌%◌, ◌^◌, ◌<◌, ◌≤◌, Bool, true, false, cond, List, [], ◌∷◌, ◌++◌, length, map, Some, refl, sym, subst}
+use Rattle.std.proofs.Common.{inl, inr, arith}
 use Rattle.std.specs.Prelude.{codes, count_ones, nat_eq, nat_le, not, ◌&&◌, ◌||◌}
 use Rattle.std.proofs.lemmas.Bool.{and_parts, cases_Bool, eqb-true}
 use Rattle.std.proofs.lemmas.Bool.Decides.{nat_tests}
@@ -71,16 +72,20 @@ use Rattle.hm_isa.specs.Code.{branch_halves, scalar_halves}
 use Rattle.hm_isa.specs.Rules.{is_wide_list, listed_in, may_list}
 use Rattle.hm_enc32.specs.Table.{IsWide}
 use Rattle.hm_tokens.specs.Names.{condition_name}
-use Rattle.hm_tokens.specs.Tokens.{Tok, word, number, mark}
+use Rattle.hm_tokens.specs.Tokens.{Tok, word, number, close_brace, comma, bang, minus_mark, open_brace}
 use Rattle.hm_line.specs.declared.form.Depth.TheVariants.{Outside}
 use Rattle.hm_line.specs.declared.form.Operands.TheVariants as ops
 use Rattle.hm_line.specs.Kinds.{kind}
 use Rattle.hm_line.proofs.Operands.{takes}
 use Rattle.hm_text_base.proofs.Steps.{some_is, test_some}
-use Rattle.hm_text_rows.specs.Shapes.{braces, comma, indexed, inside, listed, r, registers_from, two}
+use Rattle.hm_text_rows.specs.Shapes.{braces, indexed, inside, listed, r, registers_from, two}
 use Rattle.hm_text_rows.proofs.Words.{below_holds}
-use Rattle.hm_text32.specs.Rows.{and_shifted, constant_tokens, data_tokens, is_by_carry, is_unshifted, insert_tokens, lane_tokens, loop_end_tokens, moved_tokens, other_barrier, other_scalar, other_tokens, row_tokens, shift_number, single_tokens, system_tokens, table_tokens, tokens_of}
-use Rattle.hm_text32.specs.Stems.{access_stem, accumulate_stem, barrier_stem, bits_stem, bits_suffix, carry_stem, data_stem, element_suffix, extend_stem, extract_stem, half_stem, long_stem, move_stem, operation_stem, pair_stem, saturate_stem, select_stem, stack_stem, test_stem, turn_stem, wide, wide_branch_stem, wide_list_stem, wide_list_suffix, wide_shift_stem, wide_sum_stem}
+use Rattle.hm_text32.specs.Rows.{and_shifted, constant_tokens, data_tokens, is_by_carry, is_unshifted, insert_tokens, lane_tokens, loop_end_tokens}
+use Rattle.hm_text32.specs.Rows.{moved_tokens, other_barrier, other_scalar, other_tokens, row_tokens, shift_number, single_tokens, system_tokens, table_tokens}
+use Rattle.hm_text32.specs.Rows.{tokens_of}
+use Rattle.hm_text32.specs.Stems.{access_stem, accumulate_stem, barrier_stem, bits_stem, bits_suffix, carry_stem, data_stem, element_suffix, extend_stem}
+use Rattle.hm_text32.specs.Stems.{extract_stem, half_stem, long_stem, move_stem, operation_stem, pair_stem, saturate_stem, select_stem, stack_stem, test_stem}
+use Rattle.hm_text32.specs.Stems.{turn_stem, wide, wide_branch_stem, wide_list_stem, wide_list_suffix, wide_shift_stem, wide_sum_stem}
 use Rattle.hm_text32.specs.Texts.{AreTokens}
 use Rattle.hm_text.proofs.Formed.{Formed, is_formed}
 use Rattle.hm_text.proofs.FormedNarrow.{more_registers}
@@ -267,7 +272,8 @@ shifted_three : (w : List ℕ) (a b c ty k : ℕ) → IsFree w → IsWideRow (an
 shifted_three w a b c ty k free = chosen (is_by_carry ty k) (row free refl) (chosen (nat_eq (shift_number ty k) 0) (row free refl) (row free refl))
 
 moved_row : (s d m ty k : ℕ) → ty < 4 → s < 2 → IsWideRow (moved_tokens s d m ty k)
-moved_row s d m ty k lt bit = chosen (is_by_carry ty k) (row (free_carry s) refl) (chosen (is_unshifted ty k) (row (free_move data_.Orr s) refl) (row (free_turn ty s lt bit) refl))
+moved_row s d m ty k lt bit = chosen (is_by_carry ty k) (row (free_carry s) refl)
+    (chosen (is_unshifted ty k) (row (free_move data_.Orr s) refl) (row (free_turn ty s lt bit) refl))
 
 single_row : (name : DataName) (s d m ty k : ℕ) → ty < 4 → s < 2 → IsWideRow (single_tokens name s d m ty k)
 single_row data_.Orr s d m ty k lt bit = moved_row s d m ty k lt bit
@@ -409,12 +415,13 @@ some_ones list e zero_ =
 
 is_some_list : (name : WideListName) (w n list : ℕ) → is_wide_list name w n list ≡ true → nat_le 2 (count_ones list) ≡ true
 is_some_list name w n list e =
-    let p = and_parts (nat_le 2 (count_ones list) && not (listed_in list 13) && may_list name list && not (nat_eq n 15)) (nat_eq w 0 || not (listed_in list n)) e in
+    let p = and_parts (nat_le 2 (count_ones list) && not (listed_in list 13) && may_list name list && not (nat_eq n 15)) (nat_eq w 0 || not (listed_in list n))
+    e in
     let q = and_parts (nat_le 2 (count_ones list) && not (listed_in list 13) && may_list name list) (not (nat_eq n 15)) p.0 in
     let t = and_parts (nat_le 2 (count_ones list) && not (listed_in list 13)) (may_list name list) q.0 in
     (and_parts (nat_le 2 (count_ones list)) (not (listed_in list 13)) t.0).0
 
-some_taken : (ks : List ℕ) → (ks ≡ [] → ⊥) → takes (ops.Operand Outside) (map kind (listed 123 ks ++ mark 125 ∷ [])) ≡ true
+some_taken : (ks : List ℕ) → (ks ≡ [] → ⊥) → takes (ops.Operand Outside) (map kind (listed 123 ks ++ close_brace ∷ [])) ≡ true
 some_taken [] some = absurd (some refl)
 some_taken (k ∷ ks) some = more_registers ks
 
@@ -424,15 +431,16 @@ braces_taken i =
     (λ e. some_ones i.list.value (is_some_list i.name i.w.value i.n.value i.list.value i.rules) (no_registers i.list.value i.list.in_range e))
 
 list_rows : (b : Bool) (n : ℕ) (name : List ℕ) (ts : List Tok) → IsFree name → takes (ops.Operand Outside) (map kind ts) ≡ true
-    → IsWideRow ((word name ∷ r n ∷ (cond b [] (mark 33 ∷ []) ++ comma ∷ [])) ++ ts)
+    → IsWideRow ((word name ∷ r n ∷ (cond b [] (bang ∷ []) ++ comma ∷ [])) ++ ts)
 list_rows true n name ts free e = row free e
 list_rows false n name ts free e = row free e
 
 list_row : (i : T14) → IsWideRow (row_tokens (instr.Scalar (scalar.T14 i)))
-list_row i = list_rows (nat_eq i.w.value 0) i.n.value (wide_list_stem i.name ++ wide_list_suffix i.name) (braces i.list.value) (free_list i.name) (braces_taken i)
+list_row i = list_rows (nat_eq i.w.value 0) i.n.value (wide_list_stem i.name ++ wide_list_suffix i.name) (braces i.list.value) (free_list i.name)
+    (braces_taken i)
 
 -- OTHERS
-stack_row : (name : StackName) (v w : List ℕ) → IsWideRow (word (stack_stem name) ∷ mark 123 ∷ word v ∷ mark 45 ∷ word w ∷ mark 125 ∷ [])
+stack_row : (name : StackName) (v w : List ℕ) → IsWideRow (word (stack_stem name) ∷ open_brace ∷ word v ∷ minus_mark ∷ word w ∷ close_brace ∷ [])
 stack_row stack.Vpush v w = record { named = refl; formed = refl }
 stack_row stack.Vpop v w = record { named = refl; formed = refl }
 
@@ -530,7 +538,8 @@ loop_named : (i : T23) (t : Tok) → is_wide_line (tokens_of (instr.Branch (bran
 loop_named (t23.Dls i) t = refl
 loop_named (t23.Wls i) t = refl
 loop_named (t23.Dlstp i) t = free_line (codes "dlstp" ++ element_suffix i.z.value) (r 14 ∷ comma ∷ r i.n.value ∷ []) (free_dlstp i.z.value i.z.in_range)
-loop_named (t23.Wlstp i) t = free_line (codes "wlstp" ++ element_suffix i.z.value) (r 14 ∷ comma ∷ r i.n.value ∷ comma ∷ t ∷ []) (free_wlstp i.z.value i.z.in_range)
+loop_named (t23.Wlstp i) t = free_line (codes "wlstp" ++ element_suffix i.z.value) (r 14 ∷ comma ∷ r i.n.value ∷ comma ∷ t ∷ [])
+    (free_wlstp i.z.value i.z.in_range)
 loop_named (t23.End i) t = end_named i.name t
 loop_named t23.Lctp t = refl
 
@@ -563,7 +572,8 @@ barrier_named : (i : T19) (ts : List Tok) → other_barrier i ≡ Some ts → is
 barrier_named t19.Nop ts e = absurd cc
 barrier_named (t19.Barrier i) ts e =
     let a = test_some (nat_eq i.o.value 15) (Some (word (barrier_stem i.name) ∷ [])) ts e in
-    subst (λ (x : List Tok). is_wide_line x ≡ true) (some_is (word (barrier_stem i.name) ∷ []) ts a.1) (free_line (barrier_stem i.name) [] (free_barrier i.name))
+    subst (λ (x : List Tok). is_wide_line x ≡ true) (some_is (word (barrier_stem i.name) ∷ []) ts a.1)
+    (free_line (barrier_stem i.name) [] (free_barrier i.name))
 
 other_scalar_named : (s : Scalar) (ts : List Tok) → other_scalar s ≡ Some ts → is_wide_line ts ≡ true
 other_scalar_named (scalar.T19 i) ts e = barrier_named i ts e

@@ -28,7 +28,8 @@ fn address_of(label: Token<'_>, labels: &Labels) -> Option<u32>
 
 /// The address that a label names, where a row has one; else some address.
 pub fn address_in(label: Option<Token<'_>>, labels: &Labels) -> Option<u32>
-    ensures named { MatchOption result (IsUnknownGiven (map.get labels.now) (option_map tok label.entry)) (λ a. NamesGiven (map.get labels.now) (option_map tok label.entry) a) }
+    ensures named { MatchOption result (IsUnknownGiven (map.get labels.now) (option_map tok label.entry))
+        (λ a. NamesGiven (map.get labels.now) (option_map tok label.entry) a) }
 {
     match label {
         Some(label) => address_of(label, labels),

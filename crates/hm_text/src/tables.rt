@@ -23,8 +23,10 @@ pub struct Shape<'a> {
 
 /// The shape of a text of a row of one halfword.
 fn narrow_shape(text: &[u8]) -> Option<Shape<'_>>
-    ensures found { IfSome result (λ s. (i : Instr) × (t : Tok) × IsNarrowText text.now i t × (s.width ≡ width_of i) × (option_map tok s.label ≡ label_of i t)) }
-    ensures only { (i : Instr) (t : Tok) → IsNarrowText text.now i t → option_map {U = Seen} (λ s. (s.width, option_map tok s.label)) result ≡ Some (width_of i, label_of i t) }
+    ensures found { IfSome result (λ s. (i : Instr) × (t : Tok) × IsNarrowText text.now i t × (s.width ≡ width_of i)
+        × (option_map tok s.label ≡ label_of i t)) }
+    ensures only { (i : Instr) (t : Tok) → IsNarrowText text.now i t
+        → option_map {U = Seen} (λ s. (s.width, option_map tok s.label)) result ≡ Some (width_of i, label_of i t) }
 {
     let tokens = read_tokens(text)?;
     match shape16(tokens.as_slice()) {
@@ -39,7 +41,8 @@ fn narrow_shape(text: &[u8]) -> Option<Shape<'_>>
 /// The shape of a text of a row of two halfwords that is no vector row.
 fn wide_shape(text: &[u8]) -> Option<Shape<'_>>
     ensures found { IfSome result (λ s. (i : Instr) × (t : Tok) × IsWideText text.now i t × (s.width ≡ width_of i) × (option_map tok s.label ≡ label_of i t)) }
-    ensures only { (i : Instr) (t : Tok) → IsWideText text.now i t → option_map {U = Seen} (λ s. (s.width, option_map tok s.label)) result ≡ Some (width_of i, label_of i t) }
+    ensures only { (i : Instr) (t : Tok) → IsWideText text.now i t
+        → option_map {U = Seen} (λ s. (s.width, option_map tok s.label)) result ≡ Some (width_of i, label_of i t) }
 {
     let tokens = read_tokens(text)?;
     match shape32(tokens.as_slice()) {
@@ -54,7 +57,8 @@ fn wide_shape(text: &[u8]) -> Option<Shape<'_>>
 /// The shape of a text of a vector row.
 fn vector_shape(text: &[u8]) -> Option<Shape<'_>>
     ensures found { IfSome result (λ s. (i : Instr) × (t : Tok) × IsVectorText text.now i × (s.width ≡ width_of i) × (option_map tok s.label ≡ label_of i t)) }
-    ensures only { (i : Instr) (t : Tok) → IsVectorText text.now i → option_map {U = Seen} (λ s. (s.width, option_map tok s.label)) result ≡ Some (width_of i, label_of i t) }
+    ensures only { (i : Instr) (t : Tok) → IsVectorText text.now i
+        → option_map {U = Seen} (λ s. (s.width, option_map tok s.label)) result ≡ Some (width_of i, label_of i t) }
 {
     match parse_v(text) {
         Some(_row) => Some(Shape {
@@ -68,7 +72,8 @@ fn vector_shape(text: &[u8]) -> Option<Shape<'_>>
 /// The shape of a text of a row of two halfwords.
 fn long_shape(text: &[u8]) -> Option<Shape<'_>>
     ensures found { IfSome result (λ s. (i : Instr) × (t : Tok) × IsLongText text.now i t × (s.width ≡ width_of i) × (option_map tok s.label ≡ label_of i t)) }
-    ensures only { (i : Instr) (t : Tok) → IsLongText text.now i t → option_map {U = Seen} (λ s. (s.width, option_map tok s.label)) result ≡ Some (width_of i, label_of i t) }
+    ensures only { (i : Instr) (t : Tok) → IsLongText text.now i t
+        → option_map {U = Seen} (λ s. (s.width, option_map tok s.label)) result ≡ Some (width_of i, label_of i t) }
 {
     match wide_shape(text) {
         Some(shape) => Some(shape),
@@ -79,7 +84,8 @@ fn long_shape(text: &[u8]) -> Option<Shape<'_>>
 /// The shape of a text that some row has.
 pub fn row_shape(text: &[u8]) -> Option<Shape<'_>>
     ensures found { IfSome result (λ s. (i : Instr) × (t : Tok) × HasText i t text.now × (s.width ≡ width_of i) × (option_map tok s.label ≡ label_of i t)) }
-    ensures only { (i : Instr) (t : Tok) → HasText i t text.now → option_map {U = Seen} (λ s. (s.width, option_map tok s.label)) result ≡ Some (width_of i, label_of i t) }
+    ensures only { (i : Instr) (t : Tok) → HasText i t text.now
+        → option_map {U = Seen} (λ s. (s.width, option_map tok s.label)) result ≡ Some (width_of i, label_of i t) }
 {
     match narrow_shape(text) {
         Some(shape) => Some(shape),

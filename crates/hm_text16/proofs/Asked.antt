@@ -21,7 +21,8 @@ pub record Row (i : Instr) : Type 0 where
   pub prints : IsPrintedRow (has_label i) (row_tokens i)
 
 -- of a row with no label
-pub plain_row : (i : Instr) (s : List ℕ) (o : Operands) (c : ℕ) → has_label i ≡ false → halfwords i ≡ c ∷ [] → Reads (row_tokens i) s o → ((pc a : ℕ) → code_of s o pc a ≡ Some c) → Row i
+pub plain_row : (i : Instr) (s : List ℕ) (o : Operands) (c : ℕ) → has_label i ≡ false → halfwords i ≡ c ∷ [] → Reads (row_tokens i) s o
+    → ((pc a : ℕ) → code_of s o pc a ≡ Some c) → Row i
 plain_row i s o c plain code reads e = record {
   asks =
       λ t pc a l hp ha re. subst (λ (b : Bool). halves (code_in (cond b (row_tokens i ++ t ∷ []) (row_tokens i)) pc a) ≡ Some (halfwords i)) (sym plain)

@@ -9,7 +9,8 @@ use Rattle.hm_isa.specs.declared.Instr.TheVariants as instr
 use Rattle.hm_isa.specs.Code.{branch_halves, halfwords, scalar_halves}
 use Rattle.hm_layout.proofs.Rows.{coded, named, plain, varied}
 use Rattle.hm_layout.proofs.Lengths.{short_code}
-use Rattle.hm_codes.proofs.Scalars.{row_s1, row_s2, row_s3, row_s4, row_s5, row_s6, row_s7, row_s8, row_s9, row_s10, row_s11, row_s12, row_s13, row_s14, row_s15, row_s16, row_s17, row_s18, row_s19, row_s20, spared_s21}
+use Rattle.hm_codes.proofs.Scalars.{row_s1, row_s2, row_s3, row_s4, row_s5, row_s6, row_s7, row_s8, row_s9, row_s10, row_s11, row_s12, row_s13, row_s14}
+use Rattle.hm_codes.proofs.Scalars.{row_s15, row_s16, row_s17, row_s18, row_s19, row_s20, spared_s21}
 use Rattle.hm_codes.proofs.Branches.{coded_s25, row_s23, row_s24}
 
 -- where a code has one halfword, this is below 2^16

@@ -1,11 +1,12 @@
 -- The shapes of rows' texts: what their operands give, and that they are printed and read back.
 use Rattle.std.proofs.Common.{◌≡◌, ℕ, ◌<◌, true, List, [], ◌∷◌, ◌++◌, refl, arith}
 use Rattle.std.specs.Prelude.{min}
-use Rattle.hm_tokens.specs.Tokens.{Tok, word, number, mark}
+use Rattle.hm_tokens.specs.Tokens.{Tok, word, number, mark, comma}
 use Rattle.hm_text_rows.specs.Labels.{IsLabel}
 use Rattle.hm_text_rows.specs.Operands.{bits_of, braced}
-use Rattle.hm_text_rows.specs.Shapes.{and_constant, comma, constant, one, three, two}
-use Rattle.hm_text_rows.proofs.Printed.{IsPrinted, IsPrintedAt, IsShort, is_printed_bare, is_printed_bare_at, short_close, short_comma, short_hash, short_number, short_open, short_word}
+use Rattle.hm_text_rows.specs.Shapes.{and_constant, constant, one, three, two}
+use Rattle.hm_text_rows.proofs.Printed.{IsPrinted, IsPrintedAt, IsShort, is_printed_bare, is_printed_bare_at, short_close, short_comma, short_hash}
+use Rattle.hm_text_rows.proofs.Printed.{short_number, short_open, short_word}
 use Rattle.hm_text_rows.proofs.Words.{is_stem}
 use Rattle.hm_text16.specs.declared.operands.Kind.{Kind}
 use Rattle.hm_text16.specs.declared.operands.Kind.TheVariants as kinds
@@ -57,14 +58,16 @@ reads_constant s k stem lt = record {
   prints = is_printed_bare s _ stem (short_hash, (short_small k lt, tt)) refl (omega arith) refl;
 }
 
-pub reads_one_constant : (s w : List ℕ) (m k : ℕ) → is_stem s ≡ true → Operand w m → k < 10000 → Reads (and_constant (one s (word w)) k) s (given m k 0 kinds.Number kinds.Missing)
+pub reads_one_constant : (s w : List ℕ) (m k : ℕ) → is_stem s ≡ true → Operand w m → k < 10000
+    → Reads (and_constant (one s (word w)) k) s (given m k 0 kinds.Number kinds.Missing)
 unfolding bits_of braced
 reads_one_constant s w m k stem p lt = record {
   asks = λ pc a. rw (p.value, min_small k lt) refl;
   prints = is_printed_bare s _ stem (short_word w p.is, (short_comma, (short_hash, (short_small k lt, tt)))) refl (omega arith) refl;
 }
 
-pub reads_two : (s w x : List ℕ) (m n : ℕ) → is_stem s ≡ true → Operand w m → Operand x n → Reads (two s (word w) (word x)) s (given m n 0 kinds.Word kinds.Missing)
+pub reads_two : (s w x : List ℕ) (m n : ℕ) → is_stem s ≡ true → Operand w m → Operand x n
+    → Reads (two s (word w) (word x)) s (given m n 0 kinds.Word kinds.Missing)
 unfolding bits_of braced
 reads_two s w x m n stem p o = record {
   asks = λ pc a. rw (p.value, o.value) refl;
@@ -89,7 +92,8 @@ reads_three s w x y m n l stem p o q = record {
   prints = is_printed_bare s _ stem (short_word w p.is, (short_comma, (short_word x o.is, (short_comma, (short_word y q.is, tt))))) refl (omega arith) refl;
 }
 
-pub reads_by_register : (s : List ℕ) (t n m : ℕ) → is_stem s ≡ true → t < 16 → n < 16 → m < 16 → Reads (by_register s t n m) s (given t n m kinds.Word kinds.Word)
+pub reads_by_register : (s : List ℕ) (t n m : ℕ) → is_stem s ≡ true → t < 16 → n < 16 → m < 16
+    → Reads (by_register s t n m) s (given t n m kinds.Word kinds.Word)
 unfolding bits_of braced
 reads_by_register s t n m stem ht hn hm =
     let p = a_register t ht in
@@ -103,7 +107,8 @@ reads_by_register s t n m stem ht hn hm =
           refl (omega arith) refl;
     }
 
-pub reads_by_number : (s : List ℕ) (t n k : ℕ) → is_stem s ≡ true → t < 16 → n < 16 → k < 10000 → Reads (by_number s t n k) s (given t n k kinds.Word kinds.Number)
+pub reads_by_number : (s : List ℕ) (t n k : ℕ) → is_stem s ≡ true → t < 16 → n < 16 → k < 10000
+    → Reads (by_number s t n k) s (given t n k kinds.Word kinds.Number)
 unfolding bits_of braced
 reads_by_number s t n k stem ht hn lt =
     let p = a_register t ht in

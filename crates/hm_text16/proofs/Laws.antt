@@ -16,7 +16,8 @@ use Rattle.hm_text16.specs.Targets.{target}
 use Rattle.hm_text16.specs.Texts.{HasTokens, IsNarrow, IsTextOf, text_of}
 use Rattle.hm_text_rows.specs.Labels.{Reaches}
 use Rattle.hm_text16.proofs.Asked.{Row}
-use Rattle.hm_text16.proofs.OnRegisters.{row_s1, row_s2, row_s3, row_s4, row_s5, row_s6, row_s7, row_s8, row_s9, row_s10, row_s11, row_s12, row_s13, row_s18, row_s19, row_s23}
+use Rattle.hm_text16.proofs.OnRegisters.{row_s1, row_s2, row_s3, row_s4, row_s5, row_s6, row_s7, row_s8, row_s9, row_s10, row_s11, row_s12, row_s13, row_s18}
+use Rattle.hm_text16.proofs.OnRegisters.{row_s19, row_s23}
 use Rattle.hm_text16.proofs.OnMemory.{row_s15, row_s16, row_s17}
 use Rattle.hm_text16.proofs.OnLists.{row_s20, row_s21}
 use Rattle.hm_text16.proofs.OnLabels.{row_s14, row_s24, row_s25}

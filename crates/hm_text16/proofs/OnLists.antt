@@ -1,5 +1,6 @@
 -- Rows of lists of registers, and blocks: their texts ask for their codes.
-use Rattle.std.proofs.Common.{◌≡◌, ℕ, zero, suc, ◌+◌, ◌/◌, ◌%◌, ◌^◌, ◌<◌, Bool, true, false, cond, eqb, List, [], ◌∷◌, ◌++◌, Some, refl, ap, inl, inr, ◌⊎◌, ◌∙◌, arith}
+use Rattle.std.proofs.Common.{◌≡◌, ℕ, zero, suc, ◌+◌, ◌/◌, ◌%◌, ◌^◌, ◌<◌, Bool, true, false, cond, eqb, List, [], ◌∷◌, ◌++◌, Some, refl, ap, inl, inr, ◌⊎◌, ◌∙◌}
+use Rattle.std.proofs.Common.{arith}
 use Rattle.std.specs.Prelude.{codes, nat_eq, nat_lt, ◌&&◌}
 use Rattle.std.proofs.lemmas.Bool.{and_parts, cases_Bool, eqb-true}
 use Rattle.std.proofs.lemmas.Bool.Decides.{nat_tests}
@@ -12,7 +13,7 @@ use Rattle.hm_isa.specs.declared.narrow.S21.{S21}
 use Rattle.hm_isa.specs.Code.{list_base}
 use Rattle.hm_isa.specs.Rules.{keeps_it, keeps_list, listed_in}
 use Rattle.hm_isa.specs.Standing.{◌↑◌}
-use Rattle.hm_tokens.specs.Tokens.{Tok, word, mark}
+use Rattle.hm_tokens.specs.Tokens.{Tok, word, comma, bang}
 use Rattle.hm_text_rows.proofs.Braces.{printed_braces, printed_list}
 use Rattle.hm_text_rows.proofs.Printed.{IsPrinted, without_suffix}
 use Rattle.hm_text16.specs.declared.operands.Kind.TheVariants as kinds
@@ -20,7 +21,7 @@ use Rattle.hm_text16.specs.declared.operands.Operands.{Operands}
 use Rattle.hm_text16.specs.Codes.{code_in, code_of}
 use Rattle.hm_text16.specs.Operands.{read_operands}
 use Rattle.hm_text_rows.specs.Operands.{bits_of, braced}
-use Rattle.hm_text_rows.specs.Shapes.{braces, comma, r}
+use Rattle.hm_text_rows.specs.Shapes.{braces, r}
 use Rattle.hm_text_rows.proofs.Words.{at_below, below_holds, is_stem}
 use Rattle.hm_text16.specs.Rows.{list_tokens}
 use Rattle.hm_text16.specs.Stems.{block_stem, letters_above}
@@ -61,7 +62,7 @@ pop_field zero m hx hm = (omega arith, omega arith)
 pop_field (suc zero) m hx hm = (omega arith, omega arith)
 pop_field (suc (suc x)) m hx hm = absurd (omega arith)
 
-printed_written : (s : List ℕ) (n regs : ℕ) → is_stem s ≡ true → n < 8 → Braces regs → IsPrinted (word s ∷ r n ∷ mark 33 ∷ comma ∷ braces regs)
+printed_written : (s : List ℕ) (n regs : ℕ) → is_stem s ≡ true → n < 8 → Braces regs → IsPrinted (word s ∷ r n ∷ bang ∷ comma ∷ braces regs)
 printed_written s n regs stem hn b = without_suffix s _ (printed_list s [] 1 n regs stem refl (omega arith) (omega (arith, hn)) b.few)
 
 printed_read : (s : List ℕ) (n regs : ℕ) → is_stem s ≡ true → n < 8 → Braces regs → IsPrinted (word s ∷ r n ∷ comma ∷ braces regs)
@@ -89,7 +90,7 @@ pop_row x n m hx hm hn =
       prints = without_suffix (codes "pop") _ (printed_braces (codes "pop") [] (m + x ↑ 15) refl refl b.few);
     }
 
-written_bits : (n m : ℕ) → Braces m → bits_of (braced (r n ∷ mark 33 ∷ comma ∷ braces m)) ≡ m
+written_bits : (n m : ℕ) → Braces m → bits_of (braced (r n ∷ bang ∷ comma ∷ braces m)) ≡ m
 unfolding braced
 written_bits n m b = b.bits
 
@@ -97,18 +98,18 @@ read_bits : (n m : ℕ) → Braces m → bits_of (braced (r n ∷ comma ∷ brac
 unfolding braced
 read_bits n m b = b.bits
 
-stm_row : (x n m : ℕ) → n < 8 → m < 256 → x ≡ 0 → ListRow (word (codes "stm") ∷ r n ∷ mark 33 ∷ comma ∷ braces m) (0xc000 + x ↑ 8 + n ↑ 8 + m)
+stm_row : (x n m : ℕ) → n < 8 → m < 256 → x ≡ 0 → ListRow (word (codes "stm") ∷ r n ∷ bang ∷ comma ∷ braces m) (0xc000 + x ↑ 8 + n ↑ 8 + m)
 stm_row x n m hn hm hx =
     let b = low_braces m hm in
     record {
       asks =
-          λ pc a. asks_stm (read_operands (r n ∷ mark 33 ∷ comma ∷ braces m)) pc a
+          λ pc a. asks_stm (read_operands (r n ∷ bang ∷ comma ∷ braces m)) pc a
           ∙ rw ((a_low n hn).value, written_bits n m b, hx) (ap (λ (w : ℕ). Some w) (omega arith));
       prints = printed_written (codes "stm") n m refl hn b;
     }
 
 ldm_row : (x n m : ℕ) → n < 8 → m < 256 → x ≡ 0 → (b : Bool)
-    → ListRow (cond b (word (codes "ldm") ∷ r n ∷ comma ∷ []) (word (codes "ldm") ∷ r n ∷ mark 33 ∷ comma ∷ []) ++ braces m) (0xc800 + x ↑ 8 + n ↑ 8 + m)
+    → ListRow (cond b (word (codes "ldm") ∷ r n ∷ comma ∷ []) (word (codes "ldm") ∷ r n ∷ bang ∷ comma ∷ []) ++ braces m) (0xc800 + x ↑ 8 + n ↑ 8 + m)
 ldm_row x n m hn hm hx true =
     let b = low_braces m hm in
     record {
@@ -121,7 +122,7 @@ ldm_row x n m hn hm hx false =
     let b = low_braces m hm in
     record {
       asks =
-          λ pc a. asks_ldm (read_operands (r n ∷ mark 33 ∷ comma ∷ braces m)) pc a
+          λ pc a. asks_ldm (read_operands (r n ∷ bang ∷ comma ∷ braces m)) pc a
           ∙ rw ((a_low n hn).value, written_bits n m b, hx) (ap (λ (w : ℕ). Some w) (omega arith));
       prints = printed_written (codes "ldm") n m refl hn b;
     }
@@ -129,7 +130,8 @@ ldm_row x n m hn hm hx false =
 no_n : (x n m : ℕ) → (nat_lt 0 (m + x) && nat_eq n 0) ≡ true → n ≡ 0
 no_n x n m e = eqb-true n 0 (and_parts _ _ e).1
 
-list_row : (name : ListName) (x n m : ℕ) → x < 2 → n < 8 → m < 256 → keeps_list name x n m ≡ true → ListRow (list_tokens name x n m) (list_base name + x ↑ 8 + n ↑ 8 + m)
+list_row : (name : ListName) (x n m : ℕ) → x < 2 → n < 8 → m < 256 → keeps_list name x n m ≡ true
+    → ListRow (list_tokens name x n m) (list_base name + x ↑ 8 + n ↑ 8 + m)
 list_row list.Push x n m hx hn hm e = push_row x n m hx hm (no_n x n m e)
 list_row list.Pop x n m hx hn hm e = pop_row x n m hx hm (no_n x n m e)
 list_row list.Stm x n m hx hn hm e = stm_row x n m hn hm (eqb-true x 0 (and_parts _ _ (and_parts _ _ e).0).1)
@@ -143,10 +145,12 @@ row_s20 i =
 -- ---- blocks
 
 abbrev AsksEven : ℕ → Type 0
-AsksEven j = (c pc a : ℕ) → c % 2 ≡ 0 → code_of (codes "it" ++ letters_above 0 (suc j)) (given c 0 0 kinds.Missing kinds.Missing) pc a ≡ Some (0xbf00 + c ↑ 4 + suc j)
+AsksEven j = (c pc a : ℕ) → c % 2 ≡ 0
+    → code_of (codes "it" ++ letters_above 0 (suc j)) (given c 0 0 kinds.Missing kinds.Missing) pc a ≡ Some (0xbf00 + c ↑ 4 + suc j)
 
 abbrev AsksOdd : ℕ → Type 0
-AsksOdd j = (c pc a : ℕ) → c % 2 ≡ 1 → code_of (codes "it" ++ letters_above 1 (suc j)) (given c 0 0 kinds.Missing kinds.Missing) pc a ≡ Some (0xbf00 + c ↑ 4 + suc j)
+AsksOdd j = (c pc a : ℕ) → c % 2 ≡ 1
+    → code_of (codes "it" ++ letters_above 1 (suc j)) (given c 0 0 kinds.Missing kinds.Missing) pc a ≡ Some (0xbf00 + c ↑ 4 + suc j)
 
 asks_even : (j : ℕ) → j < 15 → AsksEven j
 unfolding code_of

@@ -36,7 +36,8 @@ stem_access access.Ldrh = refl
 stem_access access.Ldrb = refl
 stem_access access.Ldrsh = refl
 
-asks_access : (name : AccessName) (m n t pc a : ℕ) → code_of (access_stem name) (given t n m kinds.Word kinds.Word) pc a ≡ Some (access_base name + m ↑ 6 + n ↑ 3 + t)
+asks_access : (name : AccessName) (m n t pc a : ℕ)
+    → code_of (access_stem name) (given t n m kinds.Word kinds.Word) pc a ≡ Some (access_base name + m ↑ 6 + n ↑ 3 + t)
 unfolding code_of
 asks_access access.Str m n t pc a = refl
 asks_access access.Strh m n t pc a = refl
@@ -48,7 +49,9 @@ asks_access access.Ldrb m n t pc a = refl
 asks_access access.Ldrsh m n t pc a = refl
 
 pub row_s15 : (i : S15) → Row (instr.Scalar (scalar.S15 i))
-row_s15 i = plain_row (instr.Scalar (scalar.S15 i)) _ _ _ refl refl (reads_by_register _ _ _ _ (stem_access i.name) (low_below i.t.value i.t.in_range) (low_below i.n.value i.n.in_range) (low_below i.m.value i.m.in_range)) (λ p b. asks_access i.name _ _ _ p b)
+row_s15 i = plain_row (instr.Scalar (scalar.S15 i)) _ _ _ refl refl
+    (reads_by_register _ _ _ _ (stem_access i.name) (low_below i.t.value i.t.in_range) (low_below i.n.value i.n.in_range) (low_below i.m.value i.m.in_range))
+    (λ p b. asks_access i.name _ _ _ p b)
 
 -- S16
 stem_plain : (name : PlainName) → is_stem (plain_stem name) ≡ true
@@ -62,7 +65,8 @@ stem_plain plain.Ldrh = refl
 byte_is : (k i : ℕ) → k / 1 ≡ i → k ≡ i
 byte_is k i e = omega (arith, e)
 
-asks_plain : (name : PlainName) (i n t k pc a : ℕ) → eqb n 13 ≡ false → k / plain_size name ≡ i → code_of (plain_stem name) (given t n k kinds.Word kinds.Number) pc a ≡ Some (plain_base name + i ↑ 6 + n ↑ 3 + t)
+asks_plain : (name : PlainName) (i n t k pc a : ℕ) → eqb n 13 ≡ false → k / plain_size name ≡ i
+    → code_of (plain_stem name) (given t n k kinds.Word kinds.Number) pc a ≡ Some (plain_base name + i ↑ 6 + n ↑ 3 + t)
 unfolding code_of
 asks_plain plain.Str i n t k pc a h0 h1 = rw (h0, h1) refl
 asks_plain plain.Ldr i n t k pc a h0 h1 = rw (h0, h1) refl
@@ -91,14 +95,17 @@ no_sp : (n : ℕ) → n < 8 → eqb n 13 ≡ false
 no_sp n lt = ne_eqb n 13 (λ is. omega arith)
 
 pub row_s16 : (i : S16) → Row (instr.Scalar (scalar.S16 i))
-row_s16 i = plain_row (instr.Scalar (scalar.S16 i)) _ _ _ refl refl (reads_by_number _ _ _ _ (stem_plain i.name) (low_below i.t.value i.t.in_range) (low_below i.n.value i.n.in_range) (offset_fits i.name i.i.value i.i.in_range)) (λ p b. asks_plain i.name i.i.value _ _ _ p b (no_sp i.n.value i.n.in_range) (size_back i.name i.i.value))
+row_s16 i = plain_row (instr.Scalar (scalar.S16 i)) _ _ _ refl refl
+    (reads_by_number _ _ _ _ (stem_plain i.name) (low_below i.t.value i.t.in_range) (low_below i.n.value i.n.in_range)
+    (offset_fits i.name i.i.value i.i.in_range)) (λ p b. asks_plain i.name i.i.value _ _ _ p b (no_sp i.n.value i.n.in_range) (size_back i.name i.i.value))
 
 -- S17
 stem_word : (name : WordName) → is_stem (word_stem name) ≡ true
 stem_word word_.Str = refl
 stem_word word_.Ldr = refl
 
-asks_word : (name : WordName) (i t k pc a : ℕ) → k / 4 ≡ i → code_of (word_stem name) (given t 13 k kinds.Word kinds.Number) pc a ≡ Some (word_base name + t ↑ 8 + i)
+asks_word : (name : WordName) (i t k pc a : ℕ) → k / 4 ≡ i
+    → code_of (word_stem name) (given t 13 k kinds.Word kinds.Number) pc a ≡ Some (word_base name + t ↑ 8 + i)
 unfolding code_of
 asks_word word_.Str i t k pc a h0 = rw h0 refl
 asks_word word_.Ldr i t k pc a h0 = rw h0 refl
@@ -110,4 +117,6 @@ words_fit : (i : ℕ) → i < 256 → 4 * i < 10000
 words_fit i lt = omega arith
 
 pub row_s17 : (i : S17) → Row (instr.Scalar (scalar.S17 i))
-row_s17 i = plain_row (instr.Scalar (scalar.S17 i)) _ _ _ refl refl (reads_by_number _ _ _ _ (stem_word i.name) (low_below i.t.value i.t.in_range) (omega arith) (words_fit i.i.value i.i.in_range)) (λ p b. asks_word i.name i.i.value _ _ p b (quarter i.i.value))
+row_s17 i = plain_row (instr.Scalar (scalar.S17 i)) _ _ _ refl refl
+    (reads_by_number _ _ _ _ (stem_word i.name) (low_below i.t.value i.t.in_range) (omega arith) (words_fit i.i.value i.i.in_range))
+    (λ p b. asks_word i.name i.i.value _ _ p b (quarter i.i.value))

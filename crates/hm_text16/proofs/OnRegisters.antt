@@ -40,7 +40,8 @@ use Rattle.hm_isa.specs.declared.narrow.S23.{S23}
 use Rattle.hm_isa.specs.declared.Instr.TheVariants as instr
 use Rattle.hm_isa.specs.declared.Scalar.TheVariants as scalar
 use Rattle.hm_isa.specs.declared.Branch.TheVariants as branch
-use Rattle.hm_isa.specs.Code.{base_base, byte_base, extend_base, hint_base, jump_base, logic_base, masking_base, shift_base, stack_sum_base, sum_base, swap_base}
+use Rattle.hm_isa.specs.Code.{base_base, byte_base, extend_base, hint_base, jump_base, logic_base, masking_base, shift_base, stack_sum_base, sum_base}
+use Rattle.hm_isa.specs.Code.{swap_base}
 use Rattle.hm_isa.specs.Rules.{keeps_compare}
 use Rattle.hm_isa.specs.Standing.{◌↑◌}
 use Rattle.std.proofs.lemmas.Bool.{and_parts}
@@ -61,7 +62,8 @@ stem_shift shift.Lsl = refl
 stem_shift shift.Lsr = refl
 stem_shift shift.Asr = refl
 
-asks_shift : (name : ShiftName) (i m d k pc a : ℕ) → k % 32 ≡ i → code_of (shift_stem name) (given d m k kinds.Word kinds.Number) pc a ≡ Some (shift_base name + i ↑ 6 + m ↑ 3 + d)
+asks_shift : (name : ShiftName) (i m d k pc a : ℕ) → k % 32 ≡ i
+    → code_of (shift_stem name) (given d m k kinds.Word kinds.Number) pc a ≡ Some (shift_base name + i ↑ 6 + m ↑ 3 + d)
 unfolding code_of
 asks_shift shift.Lsl i m d k pc a h0 = rw h0 refl
 asks_shift shift.Lsr i m d k pc a h0 = rw h0 refl
@@ -78,7 +80,9 @@ shift_small shift.Lsr i lt = less _ _ (below_holds (λ j. ltb (shift_number shif
 shift_small shift.Asr i lt = less _ _ (below_holds (λ j. ltb (shift_number shift.Asr j) 10000) 32 i refl lt)
 
 pub row_s1 : (i : S1) → Row (instr.Scalar (scalar.S1 i))
-row_s1 i = plain_row (instr.Scalar (scalar.S1 i)) _ _ _ refl refl (reads_two_constant _ _ _ _ _ _ (stem_shift i.name) (a_low i.d.value i.d.in_range) (a_low i.m.value i.m.in_range) (shift_small i.name i.i.value i.i.in_range)) (λ p b. asks_shift i.name i.i.value _ _ _ p b (shift_back i.name i.i.value i.i.in_range))
+row_s1 i = plain_row (instr.Scalar (scalar.S1 i)) _ _ _ refl refl
+    (reads_two_constant _ _ _ _ _ _ (stem_shift i.name) (a_low i.d.value i.d.in_range) (a_low i.m.value i.m.in_range)
+    (shift_small i.name i.i.value i.i.in_range)) (λ p b. asks_shift i.name i.i.value _ _ _ p b (shift_back i.name i.i.value i.i.in_range))
 
 -- S2, S3
 stem_sum : (name : SumName) → is_stem (sum_stem name) ≡ true
@@ -91,9 +95,12 @@ asks_sum sum_.Add m n d pc a = refl
 asks_sum sum_.Sub m n d pc a = refl
 
 pub row_s2 : (i : S2) → Row (instr.Scalar (scalar.S2 i))
-row_s2 i = plain_row (instr.Scalar (scalar.S2 i)) _ _ _ refl refl (reads_three _ _ _ _ _ _ _ (stem_sum i.name) (a_low i.d.value i.d.in_range) (a_low i.n.value i.n.in_range) (a_low i.m.value i.m.in_range)) (λ p b. asks_sum i.name _ _ _ p b)
+row_s2 i = plain_row (instr.Scalar (scalar.S2 i)) _ _ _ refl refl
+    (reads_three _ _ _ _ _ _ _ (stem_sum i.name) (a_low i.d.value i.d.in_range) (a_low i.n.value i.n.in_range) (a_low i.m.value i.m.in_range))
+    (λ p b. asks_sum i.name _ _ _ p b)
 
-asks_small_sum : (name : SumName) (i n d pc a : ℕ) → code_of (sum_stem name) (given d n i kinds.Word kinds.Number) pc a ≡ Some (sum_base name + 0x0400 + i ↑ 6 + n ↑ 3 + d)
+asks_small_sum : (name : SumName) (i n d pc a : ℕ)
+    → code_of (sum_stem name) (given d n i kinds.Word kinds.Number) pc a ≡ Some (sum_base name + 0x0400 + i ↑ 6 + n ↑ 3 + d)
 unfolding code_of
 asks_small_sum sum_.Add i n d pc a = refl
 asks_small_sum sum_.Sub i n d pc a = refl
@@ -105,7 +112,9 @@ eight_fits : (i : ℕ) → i < 8 → i < 10000
 eight_fits i lt = omega arith
 
 pub row_s3 : (i : S3) → Row (instr.Scalar (scalar.S3 i))
-row_s3 i = plain_row (instr.Scalar (scalar.S3 i)) _ _ _ refl refl (reads_two_constant _ _ _ _ _ _ (stem_sum i.name) (a_low i.d.value i.d.in_range) (a_low i.n.value i.n.in_range) (eight_fits i.i.value i.i.in_range)) (λ p b. asks_small_sum i.name _ _ _ p b)
+row_s3 i = plain_row (instr.Scalar (scalar.S3 i)) _ _ _ refl refl
+    (reads_two_constant _ _ _ _ _ _ (stem_sum i.name) (a_low i.d.value i.d.in_range) (a_low i.n.value i.n.in_range) (eight_fits i.i.value i.i.in_range))
+    (λ p b. asks_small_sum i.name _ _ _ p b)
 
 -- S4
 stem_byte : (name : ByteName) → is_stem (byte_stem name) ≡ true
@@ -122,7 +131,8 @@ asks_byte byte.Add d i pc a = refl
 asks_byte byte.Sub d i pc a = refl
 
 pub row_s4 : (i : S4) → Row (instr.Scalar (scalar.S4 i))
-row_s4 i = plain_row (instr.Scalar (scalar.S4 i)) _ _ _ refl refl (reads_one_constant _ _ _ _ (stem_byte i.name) (a_low i.d.value i.d.in_range) (byte_fits i.i.value i.i.in_range)) (λ p b. asks_byte i.name _ _ p b)
+row_s4 i = plain_row (instr.Scalar (scalar.S4 i)) _ _ _ refl refl
+    (reads_one_constant _ _ _ _ (stem_byte i.name) (a_low i.d.value i.d.in_range) (byte_fits i.i.value i.i.in_range)) (λ p b. asks_byte i.name _ _ p b)
 
 -- S5
 stem_logic : (name : LogicName) → is_stem (logic_stem name) ≡ true
@@ -146,7 +156,8 @@ stem_logic logic.Mvns = refl
 low_test : (d m : ℕ) → d < 8 → m < 8 → (nat_le 8 d || nat_le 8 m) ≡ false
 low_test d m hd hm = grind (arith, nat_tests)
 
-asks_logic : (name : LogicName) (m d pc a : ℕ) → (nat_le 8 d || nat_le 8 m) ≡ false → code_of (logic_stem name) (given d m 0 kinds.Word kinds.Missing) pc a ≡ Some (logic_base name + m ↑ 3 + d)
+asks_logic : (name : LogicName) (m d pc a : ℕ) → (nat_le 8 d || nat_le 8 m) ≡ false
+    → code_of (logic_stem name) (given d m 0 kinds.Word kinds.Missing) pc a ≡ Some (logic_base name + m ↑ 3 + d)
 unfolding code_of
 asks_logic logic.Ands m d pc a h0 = refl
 asks_logic logic.Eors m d pc a h0 = refl
@@ -166,14 +177,17 @@ asks_logic logic.Bics m d pc a h0 = refl
 asks_logic logic.Mvns m d pc a h0 = refl
 
 pub row_s5 : (i : S5) → Row (instr.Scalar (scalar.S5 i))
-row_s5 i = plain_row (instr.Scalar (scalar.S5 i)) _ _ _ refl refl (reads_two _ _ _ _ _ (stem_logic i.name) (a_low i.d.value i.d.in_range) (a_low i.m.value i.m.in_range)) (λ p b. asks_logic i.name _ _ p b (low_test i.d.value i.m.value i.d.in_range i.m.in_range))
+row_s5 i = plain_row (instr.Scalar (scalar.S5 i)) _ _ _ refl refl
+    (reads_two _ _ _ _ _ (stem_logic i.name) (a_low i.d.value i.d.in_range) (a_low i.m.value i.m.in_range))
+    (λ p b. asks_logic i.name _ _ p b (low_test i.d.value i.m.value i.d.in_range i.m.in_range))
 
 -- S6 to S8
 asks_add : (d m pc a : ℕ) → code_of (codes "add") (given d m 0 kinds.Word kinds.Missing) pc a ≡ Some (0x4400 + (d / 8) ↑ 7 + m ↑ 3 + d % 8)
 unfolding code_of
 asks_add d m pc a = refl
 
-asks_compare : (d m pc a : ℕ) → (nat_le 8 d || nat_le 8 m) ≡ true → code_of (codes "cmp") (given d m 0 kinds.Word kinds.Missing) pc a ≡ Some (0x4500 + (d / 8) ↑ 7 + m ↑ 3 + d % 8)
+asks_compare : (d m pc a : ℕ) → (nat_le 8 d || nat_le 8 m) ≡ true
+    → code_of (codes "cmp") (given d m 0 kinds.Word kinds.Missing) pc a ≡ Some (0x4500 + (d / 8) ↑ 7 + m ↑ 3 + d % 8)
 unfolding code_of
 asks_compare d m pc a e = rw e refl
 
@@ -185,16 +199,21 @@ high_test : (d m : ℕ) → keeps_compare d m ≡ true → (nat_le 8 d || nat_le
 high_test d m e = (and_parts _ _ (and_parts _ _ e).0).0
 
 pub row_s6 : (i : S6) → Row (instr.Scalar (scalar.S6 i))
-row_s6 i = plain_row (instr.Scalar (scalar.S6 i)) _ _ _ refl refl (reads_two (codes "add") _ _ _ _ refl (a_register i.d.value i.d.in_range) (a_register i.m.value i.m.in_range)) (λ p b. asks_add _ _ p b)
+row_s6 i = plain_row (instr.Scalar (scalar.S6 i)) _ _ _ refl refl
+    (reads_two (codes "add") _ _ _ _ refl (a_register i.d.value i.d.in_range) (a_register i.m.value i.m.in_range)) (λ p b. asks_add _ _ p b)
 
 pub row_s7 : (i : S7) → Row (instr.Scalar (scalar.S7 i))
-row_s7 i = plain_row (instr.Scalar (scalar.S7 i)) _ _ _ refl refl (reads_two (codes "cmp") _ _ _ _ refl (a_register i.d.value i.d.in_range) (a_register i.m.value i.m.in_range)) (λ p b. asks_compare _ _ p b (high_test i.d.value i.m.value i.high))
+row_s7 i = plain_row (instr.Scalar (scalar.S7 i)) _ _ _ refl refl
+    (reads_two (codes "cmp") _ _ _ _ refl (a_register i.d.value i.d.in_range) (a_register i.m.value i.m.in_range))
+    (λ p b. asks_compare _ _ p b (high_test i.d.value i.m.value i.high))
 
 pub row_s8 : (i : S8) → Row (instr.Scalar (scalar.S8 i))
-row_s8 i = plain_row (instr.Scalar (scalar.S8 i)) _ _ _ refl refl (reads_two (codes "mov") _ _ _ _ refl (a_register i.d.value i.d.in_range) (a_register i.m.value i.m.in_range)) (λ p b. asks_move _ _ p b)
+row_s8 i = plain_row (instr.Scalar (scalar.S8 i)) _ _ _ refl refl
+    (reads_two (codes "mov") _ _ _ _ refl (a_register i.d.value i.d.in_range) (a_register i.m.value i.m.in_range)) (λ p b. asks_move _ _ p b)
 
 -- S9, S10
-asks_address : (name : BaseName) (d i k pc a : ℕ) → k / 4 ≡ i → code_of (codes "add") (given d (base_register name) k kinds.Word kinds.Number) pc a ≡ Some (base_base name + d ↑ 8 + i)
+asks_address : (name : BaseName) (d i k pc a : ℕ) → k / 4 ≡ i
+    → code_of (codes "add") (given d (base_register name) k kinds.Word kinds.Number) pc a ≡ Some (base_base name + d ↑ 8 + i)
 unfolding code_of
 asks_address base.Pc d i k pc a e = rw e refl
 asks_address base.Sp d i k pc a e = rw e refl
@@ -210,13 +229,16 @@ words_fit : (i : ℕ) → i < 256 → 4 * i < 10000
 words_fit i lt = omega arith
 
 pub row_s9 : (i : S9) → Row (instr.Scalar (scalar.S9 i))
-row_s9 i = plain_row (instr.Scalar (scalar.S9 i)) _ _ _ refl refl (reads_two_constant (codes "add") _ _ _ _ _ refl (a_low i.d.value i.d.in_range) (a_register (base_register i.name) (base_below i.name)) (words_fit i.i.value i.i.in_range)) (λ p b. asks_address i.name _ i.i.value _ p b (quarter i.i.value))
+row_s9 i = plain_row (instr.Scalar (scalar.S9 i)) _ _ _ refl refl
+    (reads_two_constant (codes "add") _ _ _ _ _ refl (a_low i.d.value i.d.in_range) (a_register (base_register i.name) (base_below i.name))
+    (words_fit i.i.value i.i.in_range)) (λ p b. asks_address i.name _ i.i.value _ p b (quarter i.i.value))
 
 stem_stack_sum : (name : SumName) → is_stem (stack_sum_stem name) ≡ true
 stem_stack_sum sum_.Add = refl
 stem_stack_sum sum_.Sub = refl
 
-asks_stack_sum : (name : SumName) (i k d pc a : ℕ) → k / 4 ≡ i → code_of (stack_sum_stem name) (given d k 0 kinds.Number kinds.Missing) pc a ≡ Some (stack_sum_base name + i)
+asks_stack_sum : (name : SumName) (i k d pc a : ℕ) → k / 4 ≡ i
+    → code_of (stack_sum_stem name) (given d k 0 kinds.Number kinds.Missing) pc a ≡ Some (stack_sum_base name + i)
 unfolding code_of
 asks_stack_sum sum_.Add i k d pc a h0 = rw h0 refl
 asks_stack_sum sum_.Sub i k d pc a h0 = rw h0 refl
@@ -225,7 +247,9 @@ stack_words_fit : (i : ℕ) → i < 128 → 4 * i < 10000
 stack_words_fit i lt = omega arith
 
 pub row_s10 : (i : S10) → Row (instr.Scalar (scalar.S10 i))
-row_s10 i = plain_row (instr.Scalar (scalar.S10 i)) _ _ _ refl refl (reads_one_constant _ _ _ _ (stem_stack_sum i.name) (a_register 13 (omega arith)) (stack_words_fit i.i.value i.i.in_range)) (λ p b. asks_stack_sum i.name i.i.value _ _ p b (quarter i.i.value))
+row_s10 i = plain_row (instr.Scalar (scalar.S10 i)) _ _ _ refl refl
+    (reads_one_constant _ _ _ _ (stem_stack_sum i.name) (a_register 13 (omega arith)) (stack_words_fit i.i.value i.i.in_range))
+    (λ p b. asks_stack_sum i.name i.i.value _ _ p b (quarter i.i.value))
 
 -- S11, S12
 stem_extend : (name : ExtendName) → is_stem (extend_stem name) ≡ true
@@ -242,7 +266,8 @@ asks_extend extend.Uxth m d pc a = refl
 asks_extend extend.Uxtb m d pc a = refl
 
 pub row_s11 : (i : S11) → Row (instr.Scalar (scalar.S11 i))
-row_s11 i = plain_row (instr.Scalar (scalar.S11 i)) _ _ _ refl refl (reads_two _ _ _ _ _ (stem_extend i.name) (a_low i.d.value i.d.in_range) (a_low i.m.value i.m.in_range)) (λ p b. asks_extend i.name _ _ p b)
+row_s11 i = plain_row (instr.Scalar (scalar.S11 i)) _ _ _ refl refl
+    (reads_two _ _ _ _ _ (stem_extend i.name) (a_low i.d.value i.d.in_range) (a_low i.m.value i.m.in_range)) (λ p b. asks_extend i.name _ _ p b)
 
 stem_swap : (name : SwapName) → is_stem (swap_stem name) ≡ true
 stem_swap swap_.Rev = refl
@@ -256,7 +281,8 @@ asks_swap swap_.Rev16 m d pc a = refl
 asks_swap swap_.Revsh m d pc a = refl
 
 pub row_s12 : (i : S12) → Row (instr.Scalar (scalar.S12 i))
-row_s12 i = plain_row (instr.Scalar (scalar.S12 i)) _ _ _ refl refl (reads_two _ _ _ _ _ (stem_swap i.name) (a_low i.d.value i.d.in_range) (a_low i.m.value i.m.in_range)) (λ p b. asks_swap i.name _ _ p b)
+row_s12 i = plain_row (instr.Scalar (scalar.S12 i)) _ _ _ refl refl
+    (reads_two _ _ _ _ _ (stem_swap i.name) (a_low i.d.value i.d.in_range) (a_low i.m.value i.m.in_range)) (λ p b. asks_swap i.name _ _ p b)
 
 -- S13, S18, S19, S23
 stem_masking : (name : MaskingName) → is_stem (masking_stem name) ≡ true
@@ -280,7 +306,8 @@ unfolding code_of
 asks_break i pc a = refl
 
 pub row_s18 : (i : S18) → Row (instr.Scalar (scalar.S18 i))
-row_s18 i = plain_row (instr.Scalar (scalar.S18 i)) _ _ _ refl refl (reads_constant (codes "bkpt") _ refl (byte_fits i.i.value i.i.in_range)) (λ p b. asks_break _ p b)
+row_s18 i = plain_row (instr.Scalar (scalar.S18 i)) _ _ _ refl refl (reads_constant (codes "bkpt") _ refl (byte_fits i.i.value i.i.in_range))
+    (λ p b. asks_break _ p b)
 
 stem_hint : (name : HintName) → is_stem (hint_stem name) ≡ true
 stem_hint hint.Nop = refl
@@ -310,4 +337,5 @@ asks_jump jump.Bx m pc a = refl
 asks_jump jump.Blx m pc a = refl
 
 pub row_s23 : (i : S23) → Row (instr.Branch (branch.S23 i))
-row_s23 i = plain_row (instr.Branch (branch.S23 i)) _ _ _ refl refl (reads_one _ _ _ (stem_jump i.name) (a_register i.m.value i.m.in_range)) (λ p b. asks_jump i.name _ p b)
+row_s23 i = plain_row (instr.Branch (branch.S23 i)) _ _ _ refl refl (reads_one _ _ _ (stem_jump i.name) (a_register i.m.value i.m.in_range))
+    (λ p b. asks_jump i.name _ p b)

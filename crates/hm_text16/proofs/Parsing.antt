@@ -17,7 +17,8 @@ use Rattle.hm_text16.proofs.Asked.{halves}
 
 asked : (ts : List Tok) (pc a : ℕ) (i : Instr) → pc < 2 ^ 32 → a < 2 ^ 32 → IsRowAt ts pc a i → halves (code_in ts pc a) ≡ Some (halfwords i)
 asked ts pc a i hp ha is =
-    subst (λ (x : List Tok). halves (code_in x pc a) ≡ Some (halfwords i)) is.has.tokens ((row_law i is.has.narrow).asks is.label pc a is.has.label hp ha is.reaches)
+    subst (λ (x : List Tok). halves (code_in x pc a) ≡ Some (halfwords i)) is.has.tokens
+    ((row_law i is.has.narrow).asks is.label pc a is.has.label hp ha is.reaches)
 
 code_again : (w : ℕ) (hs : List ℕ) → halves (Some w) ≡ Some hs → hs ≡ w ∷ []
 code_again w hs e = sym (some_is (w ∷ []) hs e)
@@ -46,16 +47,19 @@ abbrev none_of : Option Instr
 none_of = None
 
 -- what the decoder says of a row with the tokens
-pub the_row : (ts : List Tok) (pc a w : ℕ) (j : Instr) → pc < 2 ^ 32 → a < 2 ^ 32 → code_in ts pc a ≡ Some w → ((i : Instr) → (one j ≡ one i) ↔ (halfwords i ≡ w ∷ []))
+pub the_row : (ts : List Tok) (pc a w : ℕ) (j : Instr) → pc < 2 ^ 32 → a < 2 ^ 32 → code_in ts pc a ≡ Some w
+    → ((i : Instr) → (one j ≡ one i) ↔ (halfwords i ≡ w ∷ []))
     → (i : Instr) → IsRowAt ts pc a i → one j ≡ one i
 the_row ts pc a w j hp ha e exact i is = (exact i).1 (the_code ts pc a w hp ha e i is)
 
-pub no_row : (ts : List Tok) (pc a w : ℕ) → pc < 2 ^ 32 → a < 2 ^ 32 → code_in ts pc a ≡ Some w → ((i : Instr) → halfwords i ≡ w ∷ [] → ⊥) → (i : Instr) → IsRowAt ts pc a i → ⊥
+pub no_row : (ts : List Tok) (pc a w : ℕ) → pc < 2 ^ 32 → a < 2 ^ 32 → code_in ts pc a ≡ Some w → ((i : Instr) → halfwords i ≡ w ∷ [] → ⊥) → (i : Instr)
+    → IsRowAt ts pc a i → ⊥
 no_row ts pc a w hp ha e none i is = none i (the_code ts pc a w hp ha e i is)
 
 -- ---- ranges
 
-pub other_row : (ts : List Tok) (pc a w : ℕ) (j : Instr) → pc < 2 ^ 32 → a < 2 ^ 32 → code_in ts pc a ≡ Some w → ((i : Instr) → (one j ≡ one i) ↔ (halfwords i ≡ w ∷ []))
+pub other_row : (ts : List Tok) (pc a w : ℕ) (j : Instr) → pc < 2 ^ 32 → a < 2 ^ 32 → code_in ts pc a ≡ Some w
+    → ((i : Instr) → (one j ≡ one i) ↔ (halfwords i ≡ w ∷ []))
     → (IsRowAt ts pc a j → ⊥) → (i : Instr) → IsRowAt ts pc a i → ⊥
 other_row ts pc a w j hp ha e exact not i is =
     not (subst (λ (x : Instr). IsRowAt ts pc a x) (sym (some_is j i (the_row ts pc a w j hp ha e exact i is))) is)
@@ -63,10 +67,12 @@ other_row ts pc a w j hp ha e exact not i is =
 pub too_many : (ts : List Tok) (pc a : ℕ) → 40 < length (normal ts) → (i : Instr) → IsRowAt (normal ts) pc a i → ⊥
 too_many ts pc a lt i is = let few = few_tokens i is.label (normal ts) is.has in omega (arith, few, lt)
 
-pub read_found : (ts us : List Tok) (pc a : ℕ) (r : Option Instr) → us ≡ normal ts → IfSome r (λ i. IsRowAt us pc a i) → IfSome r (λ i. IsRowAt (normal ts) pc a i)
+pub read_found : (ts us : List Tok) (pc a : ℕ) (r : Option Instr) → us ≡ normal ts → IfSome r (λ i. IsRowAt us pc a i)
+    → IfSome r (λ i. IsRowAt (normal ts) pc a i)
 read_found ts us pc a r e found = subst (λ (x : List Tok). IfSome r (λ i. IsRowAt x pc a i)) e found
 
-pub read_only : (ts us : List Tok) (pc a : ℕ) (r : Option Instr) → us ≡ normal ts → ((i : Instr) → IsRowAt us pc a i → r ≡ Some i) → (i : Instr) → IsRowAt (normal ts) pc a i → r ≡ Some i
+pub read_only : (ts us : List Tok) (pc a : ℕ) (r : Option Instr) → us ≡ normal ts → ((i : Instr) → IsRowAt us pc a i → r ≡ Some i) → (i : Instr)
+    → IsRowAt (normal ts) pc a i → r ≡ Some i
 read_only ts us pc a r e only i is = only i (subst (λ (x : List Tok). IsRowAt x pc a i) (sym e) is)
 
 -- ---- shapes
@@ -81,13 +87,15 @@ at_nearest i t ts has =
     let same : tokens_of n.near t ≡ ts = rw (n.label, n.tokens) has.tokens in
     (n.near, record { label = t; has = record { narrow = n.narrow; label = has.label; tokens = same }; reaches = n.reaches }, same, rw n.label refl)
 
-pub shape_found : (ts : List Tok) (i : Instr) (s : Option Tok) → IsRowAt ts 0 4 i → ((t : Tok) → tokens_of i t ≡ ts → s ≡ label_of i t) → (j : Instr) × (t : Tok) × HasTokens j t ts × (label_of j t ≡ s)
+pub shape_found : (ts : List Tok) (i : Instr) (s : Option Tok) → IsRowAt ts 0 4 i → ((t : Tok) → tokens_of i t ≡ ts → s ≡ label_of i t)
+    → (j : Instr) × (t : Tok) × HasTokens j t ts × (label_of j t ≡ s)
 shape_found ts i s is label = (i, is.label, is.has, sym (label is.label is.has.tokens))
 
 abbrev given : {A : Type 0} → A → Option A
 given x = Some x
 
-pub shape_only : (ts : List Tok) (i : Instr) (s : Option Tok) → ((j : Instr) → IsRowAt ts 0 4 j → given i ≡ given j) → ((t : Tok) → tokens_of i t ≡ ts → s ≡ label_of i t)
+pub shape_only : (ts : List Tok) (i : Instr) (s : Option Tok) → ((j : Instr) → IsRowAt ts 0 4 j → given i ≡ given j)
+    → ((t : Tok) → tokens_of i t ≡ ts → s ≡ label_of i t)
     → (j : Instr) (t : Tok) → HasTokens j t ts → given s ≡ given (label_of j t)
 shape_only ts i s only label j t has =
     let n = at_nearest j t ts has in
@@ -107,9 +115,11 @@ nothing_is j e = cc
 abbrev pub IsShapeFound : List Tok → Option Tok → Type 0
 IsShapeFound ts s = (i : Instr) × (t : Tok) × HasTokens i t ts × (label_of i t ≡ s)
 
-pub shape_read : {A : Type 0} (ts us : List Tok) (r : Option A) (view : A → Option Tok) → us ≡ normal ts → IfSome r (λ s. IsShapeFound us (view s)) → IfSome r (λ s. IsShapeFound (normal ts) (view s))
+pub shape_read : {A : Type 0} (ts us : List Tok) (r : Option A) (view : A → Option Tok) → us ≡ normal ts → IfSome r (λ s. IsShapeFound us (view s))
+    → IfSome r (λ s. IsShapeFound (normal ts) (view s))
 shape_read ts us r view e found = subst (λ (x : List Tok). IfSome r (λ s. IsShapeFound x (view s))) e found
 
-pub shape_alone : {A : Type 0} (ts us : List Tok) (r : Option A) (view : A → Option Tok) → us ≡ normal ts → ((i : Instr) (t : Tok) → HasTokens i t us → option_map view r ≡ Some (label_of i t))
+pub shape_alone : {A : Type 0} (ts us : List Tok) (r : Option A) (view : A → Option Tok) → us ≡ normal ts
+    → ((i : Instr) (t : Tok) → HasTokens i t us → option_map view r ≡ Some (label_of i t))
     → (i : Instr) (t : Tok) → HasTokens i t (normal ts) → option_map view r ≡ Some (label_of i t)
 shape_alone ts us r view e only i t has = only i t (subst (λ (x : List Tok). HasTokens i t x) (sym e) has)

@@ -19,7 +19,8 @@ with_label i t e = rw e refl
 without_label : (i : Instr) (t : Tok) → has_label i ≡ false → tokens_of i t ≡ row_tokens i
 without_label i t e = rw e refl
 
-pub labelled_yes : (i : Instr) (ts front row : List Tok) (last : Tok) (c : Bool) → IsNarrow i → has_label i ≡ true → ts ≡ front ++ last ∷ [] → row ≡ row_tokens i → IsLabel last → (IsTrue c ↔ (front ≡ row)) → IsTrue c ↔ Has i ts
+pub labelled_yes : (i : Instr) (ts front row : List Tok) (last : Tok) (c : Bool) → IsNarrow i → has_label i ≡ true → ts ≡ front ++ last ∷ []
+    → row ≡ row_tokens i → IsLabel last → (IsTrue c ↔ (front ≡ row)) → IsTrue c ↔ Has i ts
 labelled_yes i ts front row last c narrow e split is_row label has = (
   λ true_. (
     last,
@@ -44,7 +45,8 @@ labelled_none i ts e f = (
   λ h. absurd (nothing_not (row_tokens i) ts h.0 (sym (with_label i h.0 e) ∙ h.1.tokens) f),
 )
 
-pub plain_has : (i : Instr) (ts row : List Tok) (c : Bool) → IsNarrow i → has_label i ≡ false → row ≡ row_tokens i → (IsTrue c ↔ (ts ≡ row)) → IsTrue c ↔ Has i ts
+pub plain_has : (i : Instr) (ts row : List Tok) (c : Bool) → IsNarrow i → has_label i ≡ false → row ≡ row_tokens i → (IsTrue c ↔ (ts ≡ row))
+    → IsTrue c ↔ Has i ts
 plain_has i ts row c narrow e is_row has = (
   λ true_. (
     number 0,
@@ -79,7 +81,8 @@ some_of t = Some t
 pub label_none : (i : Instr) (ts : List Tok) → has_label i ≡ false → (t : Tok) → tokens_of i t ≡ ts → none_of ≡ label_of i t
 label_none i ts e t is = rw e refl
 
-pub label_last : (i : Instr) (ts front : List Tok) (last : Tok) → has_label i ≡ true → ts ≡ front ++ last ∷ [] → (t : Tok) → tokens_of i t ≡ ts → some_of last ≡ label_of i t
+pub label_last : (i : Instr) (ts front : List Tok) (last : Tok) → has_label i ≡ true → ts ≡ front ++ last ∷ [] → (t : Tok) → tokens_of i t ≡ ts
+    → some_of last ≡ label_of i t
 label_last i ts front last e split t is =
     let same : t ≡ last = (last_one (row_tokens i) front t last (sym (with_label i t e) ∙ is ∙ split)).1 in
     rw e (ap some_of (sym same))

@@ -1,5 +1,6 @@
 -- The code that a text carelessly asks for: what decides is whether the row that has this code has the text.
-use Rattle.std.specs.Prelude.{ℕ, ◌+◌, ◌-◌, ◌*◌, ◌/◌, ◌%◌, ◌^◌, List, [], ◌∷◌, Option, Some, None, option_map, codes, bytes_eq, ◌==◌, nat_le, ◌||◌, if◌then◌else◌}
+use Rattle.std.specs.Prelude.{ℕ, ◌+◌, ◌-◌, ◌*◌, ◌/◌, ◌%◌, ◌^◌, List, [], ◌∷◌, Option, Some, None, option_map, codes, bytes_eq, ◌==◌, nat_le, ◌||◌}
+use Rattle.std.specs.Prelude.{if◌then◌else◌}
 use Rattle.hm_isa.specs.declared.narrow.AccessName.TheVariants as access
 use Rattle.hm_isa.specs.declared.narrow.ByteName.TheVariants as byte
 use Rattle.hm_isa.specs.declared.narrow.ExtendName.TheVariants as extend
@@ -13,7 +14,8 @@ use Rattle.hm_isa.specs.declared.narrow.SwapName.TheVariants as swap_
 use Rattle.hm_isa.specs.declared.narrow.WordName.TheVariants as word_
 use Rattle.hm_isa.specs.declared.narrow.ZeroName.TheVariants as zero_
 use Rattle.hm_isa.specs.declared.narrow.JumpName.TheVariants as jump
-use Rattle.hm_isa.specs.Code.{access_base, byte_base, extend_base, hint_base, jump_base, logic_base, masking_base, plain_base, shift_base, stack_sum_base, sum_base, swap_base, word_base, zero_base}
+use Rattle.hm_isa.specs.Code.{access_base, byte_base, extend_base, hint_base, jump_base, logic_base, masking_base, plain_base, shift_base, stack_sum_base}
+use Rattle.hm_isa.specs.Code.{sum_base, swap_base, word_base, zero_base}
 use Rattle.hm_isa.specs.Standing.{◌↑◌}
 use Rattle.hm_tokens.specs.Tokens.{Tok, word, number, mark}
 use Rattle.hm_text_rows.specs.Labels.{distance}

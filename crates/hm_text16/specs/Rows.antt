@@ -18,14 +18,15 @@ use Rattle.hm_isa.specs.declared.narrow.ShiftName.{ShiftName}
 use Rattle.hm_isa.specs.declared.narrow.ShiftName.TheVariants as shift
 use Rattle.hm_isa.specs.Rules.{listed_in}
 use Rattle.hm_isa.specs.Standing.{◌↑◌}
-use Rattle.hm_tokens.specs.Tokens.{Tok, word, mark}
-use Rattle.hm_text_rows.specs.Shapes.{and_constant, braces, comma, constant, inside, one, r, three, two}
-use Rattle.hm_text16.specs.Stems.{access_stem, block_condition, block_stem, branch_stem, byte_stem, extend_stem, hint_stem, jump_stem, logic_stem, masking_stem, plain_stem, shift_stem, stack_sum_stem, sum_stem, swap_stem, word_stem, zero_stem}
+use Rattle.hm_tokens.specs.Tokens.{Tok, word, close_bracket, comma, bang, open_bracket}
+use Rattle.hm_text_rows.specs.Shapes.{and_constant, braces, constant, inside, one, r, three, two}
+use Rattle.hm_text16.specs.Stems.{access_stem, block_condition, block_stem, branch_stem, byte_stem, extend_stem, hint_stem, jump_stem, logic_stem, masking_stem}
+use Rattle.hm_text16.specs.Stems.{plain_stem, shift_stem, stack_sum_stem, sum_stem, swap_stem, word_stem, zero_stem}
 
 -- SHAPES
 -- S15: the tokens of an access at two registers, `rt,[rn,rm]` (DDI0553, the register form of each, as "STR (register)")
 abbrev pub by_register : List ℕ → ℕ → ℕ → ℕ → List Tok
-by_register name t n m = word name ∷ r t ∷ comma ∷ mark 91 ∷ r n ∷ comma ∷ r m ∷ mark 93 ∷ []
+by_register name t n m = word name ∷ r t ∷ comma ∷ open_bracket ∷ r n ∷ comma ∷ r m ∷ close_bracket ∷ []
 
 -- S16: the tokens of an access at a number, `rt,[rn,#k]` (DDI0553, the immediate form of each, as "STR (immediate)")
 abbrev pub by_number : List ℕ → ℕ → ℕ → ℕ → List Tok
@@ -34,13 +35,13 @@ by_number name t n k = word name ∷ r t ∷ comma ∷ inside 1 0 (r n) k
 -- LISTS
 -- S20: the beginning of LDM, `ldm rn!,`, or `ldm rn,` where rn is listed and there is no writeback (DDI0553, "LDM, LDMIA, LDMFD")
 abbrev pub load_start : ℕ → ℕ → List Tok
-load_start n list = if listed_in list n then word (codes "ldm") ∷ r n ∷ comma ∷ [] else word (codes "ldm") ∷ r n ∷ mark 33 ∷ comma ∷ []
+load_start n list = if listed_in list n then word (codes "ldm") ∷ r n ∷ comma ∷ [] else word (codes "ldm") ∷ r n ∷ bang ∷ comma ∷ []
 
 -- S20: the tokens of PUSH, POP, STM and LDM; lr is register 14 and pc is register 15 (DDI0553, "STMDB, STMFD", "LDM, LDMIA, LDMFD" and "STM, STMIA, STMEA")
 abbrev pub list_tokens : ListName → ℕ → ℕ → ℕ → List Tok
 list_tokens list.Push x n regs = word (codes "push") ∷ braces (regs + x ↑ 14)
 list_tokens list.Pop x n regs = word (codes "pop") ∷ braces (regs + x ↑ 15)
-list_tokens list.Stm x n regs = word (codes "stm") ∷ r n ∷ mark 33 ∷ comma ∷ braces regs
+list_tokens list.Stm x n regs = word (codes "stm") ∷ r n ∷ bang ∷ comma ∷ braces regs
 list_tokens list.Ldm x n regs = load_start n regs ++ braces regs
 
 -- ROWS

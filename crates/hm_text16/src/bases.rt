@@ -1,7 +1,9 @@
 //! Mnemonics: the codes that their rows begin from, and what else they tell.
 
 ghost use Rattle.std.specs.Prelude.{◌≡◌, ◌<◌, IfSome};
-ghost use Rattle.hm_text16.specs.Codes.{access_base_in, block_in, byte_access_base_in, byte_base_in, fixed_code_in, front_base_in, half_base_in, high_base_in, jump_base_in, long_block_in, low_base_in, move_base_in, rear_base_in, shift_base_in, short_block_in, stack_base_in, stack_sum_base_in, sum_base_in, word_base_in, zero_base_in};
+ghost use Rattle.hm_text16.specs.Codes.{access_base_in, block_in, byte_access_base_in, byte_base_in, fixed_code_in, front_base_in, half_base_in, high_base_in};
+ghost use Rattle.hm_text16.specs.Codes.{jump_base_in, long_block_in, low_base_in, move_base_in, rear_base_in, shift_base_in, short_block_in, stack_base_in};
+ghost use Rattle.hm_text16.specs.Codes.{stack_sum_base_in, sum_base_in, word_base_in, zero_base_in};
 ghost use Rattle.hm_text_rows.specs.Operands.{first};
 
 use hm_text_rows::is;

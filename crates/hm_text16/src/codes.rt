@@ -1,7 +1,11 @@
 //! The code that a text carelessly asks for: what decides is whether the row that has this code has the text.
 
 ghost use Rattle.std.specs.Prelude.{◌≡◌, ◌<◌, ◌+◌, ◌^◌, map};
-ghost use Rattle.hm_text16.specs.Codes.{block_mask, code_address, code_always, code_block, code_break, code_byte, code_byte_access, code_compare, code_conditional, code_half, code_high, code_in, code_jump, code_label, code_list, code_literal, code_low, code_number, code_of, code_of_three, code_of_two, code_registers, code_shift, code_single, code_small_sum, code_stack_access, code_stack_sum, code_with_number, code_with_register, code_word, code_zero, fixed_code_in, low_base_in, move_base_in, of_byte, of_high, of_three, sum_base_in, access_base_in, zero_code};
+ghost use Rattle.hm_text16.specs.Codes.{block_mask, code_address, code_always, code_block, code_break, code_byte, code_byte_access, code_compare};
+ghost use Rattle.hm_text16.specs.Codes.{code_conditional, code_half, code_high, code_in, code_jump, code_label, code_list, code_literal, code_low, code_number};
+ghost use Rattle.hm_text16.specs.Codes.{code_of, code_of_three, code_of_two, code_registers, code_shift, code_single, code_small_sum, code_stack_access};
+ghost use Rattle.hm_text16.specs.Codes.{code_stack_sum, code_with_number, code_with_register, code_word, code_zero, fixed_code_in, low_base_in, move_base_in};
+ghost use Rattle.hm_text16.specs.Codes.{of_byte, of_high, of_three, sum_base_in, access_base_in, zero_code};
 ghost use Rattle.hm_text_rows.specs.Labels.{distance};
 ghost use Rattle.hm_text_rows.specs.Operands.{first};
 ghost use Rattle.hm_tokens.specs.Tokens.{tok};

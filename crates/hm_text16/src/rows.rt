@@ -5,9 +5,9 @@ ghost use Rattle.hm_isa.specs.Code.{branch_halves, halfwords, scalar_halves};
 ghost use Rattle.hm_isa.specs.declared.Branch.TheVariants as branch;
 ghost use Rattle.hm_isa.specs.declared.Scalar.TheVariants as scalar;
 ghost use Rattle.hm_text16.specs.Rows.{base_register, branch_tokens, list_tokens, load_start, plain_size, row_tokens, scalar_tokens, shift_number};
-ghost use Rattle.hm_text_rows.specs.Shapes.{comma, r};
+ghost use Rattle.hm_text_rows.specs.Shapes.{r};
 ghost use Rattle.hm_tokens.specs.Texts.{text_tokens};
-ghost use Rattle.hm_tokens.specs.Tokens.{mark, word};
+ghost use Rattle.hm_tokens.specs.Tokens.{word, comma, bang};
 
 use crate::shapes::{by_number, by_register};
 use crate::stems::{
@@ -199,7 +199,7 @@ fn load_start(i: &S20) -> InstrText
 fn store_start(n: u32) -> InstrText
     requires { n < 16 }
     ensures room { length result.operands.items ≡ 3 }
-    ensures tokens { text_tokens result ≡ word (codes "stm") ∷ r n ∷ mark 33 ∷ comma ∷ [] }
+    ensures tokens { text_tokens result ≡ word (codes "stm") ∷ r n ∷ bang ∷ comma ∷ [] }
 {
     marked(marked(one("stm", "", r(n)), Mark::Bang), Mark::Comma)
 }

@@ -1,7 +1,8 @@
 //! The mnemonics of the rows of one halfword.
 
 ghost use Rattle.std.specs.Prelude.{◌≡◌, ◌<◌, ◌%◌};
-ghost use Rattle.hm_text16.specs.Stems.{access_stem, block_condition, byte_stem, extend_stem, hint_stem, jump_stem, letters_above, logic_stem, masking_stem, plain_stem, shift_stem, stack_sum_stem, sum_stem, swap_stem, word_stem, zero_stem};
+ghost use Rattle.hm_text16.specs.Stems.{access_stem, block_condition, byte_stem, extend_stem, hint_stem, jump_stem, letters_above, logic_stem, masking_stem};
+ghost use Rattle.hm_text16.specs.Stems.{plain_stem, shift_stem, stack_sum_stem, sum_stem, swap_stem, word_stem, zero_stem};
 
 use hm_isa::{
     AccessName, ByteName, ExtendName, HintName, JumpName, LogicName, MaskingName, PlainName,

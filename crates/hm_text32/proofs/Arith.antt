@@ -23,7 +23,8 @@ use Rattle.hm_isa.specs.declared.arith.T10.{T10}
 use Rattle.hm_isa.specs.declared.arith.T11.{T11}
 use Rattle.hm_isa.specs.declared.arith.T11.TheVariants as t11
 use Rattle.hm_isa.specs.declared.arith.T20.{T20}
-use Rattle.hm_isa.specs.ArithCodes.{accumulate_base, bits_base, code_t10, code_t11, code_t20, code_t8, code_t9, long_product_base, operation_base, select_base, wide_extend_base, wide_shift_base}
+use Rattle.hm_isa.specs.ArithCodes.{accumulate_base, bits_base, code_t10, code_t11, code_t20, code_t8, code_t9, long_product_base, operation_base, select_base}
+use Rattle.hm_isa.specs.ArithCodes.{wide_extend_base, wide_shift_base}
 use Rattle.hm_isa.specs.Standing.{◌↑◌}
 use Rattle.hm_tokens.specs.Tokens.{word}
 use Rattle.hm_tokens.specs.Names.{condition_name}
@@ -34,7 +35,8 @@ use Rattle.hm_text32.specs.Rows.{product_tokens}
 use Rattle.hm_text32.specs.Stems.{accumulate_stem, bits_stem, bits_suffix, extend_stem, long_stem, operation_stem, select_stem, wide, wide_shift_stem}
 use Rattle.hm_text_rows.specs.Shapes.{and_shift, four, or_zero, r, three, two}
 use Rattle.hm_text_rows.proofs.Words.{is_stem}
-use Rattle.hm_text32.proofs.Forms.{Answers, Operand, Suffix, a_condition, a_register, a_register_or_zero, answers_of, bare, given, no_suffix, reads_four, reads_three, reads_two, reads_two_shift, suffix_wide}
+use Rattle.hm_text32.proofs.Forms.{Answers, Operand, Suffix, a_condition, a_register, a_register_or_zero, answers_of, bare, given, no_suffix, reads_four}
+use Rattle.hm_text32.proofs.Forms.{reads_three, reads_two, reads_two_shift, suffix_wide}
 
 -- T8
 stem_wide_shift : (name : WideShiftName) (s : ℕ) → s < 2 → is_stem (wide_shift_stem name s) ≡ true
@@ -64,7 +66,8 @@ asks_wide_shift name (suc (suc s)) n d m lt = absurd (omega arith)
 pub row_t8 : (i : T8) → Answers (instr.Scalar (scalar.T8 i)) (three (wide_shift_stem i.name i.s.value ++ wide) (r i.d.value) (r i.n.value) (r i.m.value))
 row_t8 i =
     answers_of _ _ (code_t8 i) _ _
-    (reads_three _ _ _ _ _ _ _ _ _ _ _ _ (stem_wide_shift i.name i.s.value i.s.in_range) suffix_wide (a_register i.d.value i.d.in_range) (a_register i.n.value i.n.in_range) (a_register i.m.value i.m.in_range))
+    (reads_three _ _ _ _ _ _ _ _ _ _ _ _ (stem_wide_shift i.name i.s.value i.s.in_range) suffix_wide (a_register i.d.value i.d.in_range)
+    (a_register i.n.value i.n.in_range) (a_register i.m.value i.m.in_range))
     (asks_wide_shift i.name i.s.value _ _ _ i.s.in_range) refl
 
 -- T9
@@ -86,10 +89,12 @@ ror : Operand (codes "ror") 3 false
 unfolding word_value is_vector_name
 ror = record { value = refl; vector = refl; is = refl }
 
-pub row_t9 : (i : T9) → Answers (instr.Scalar (scalar.T9 i)) (and_shift (two (extend_stem i.name ++ wide) (r i.d.value) (r i.m.value)) (codes "ror") (8 * i.r.value))
+pub row_t9 : (i : T9) → Answers (instr.Scalar (scalar.T9 i))
+    (and_shift (two (extend_stem i.name ++ wide) (r i.d.value) (r i.m.value)) (codes "ror") (8 * i.r.value))
 row_t9 i =
     answers_of _ _ (code_t9 i) _ _
-    (reads_two_shift _ _ _ _ _ _ _ _ _ _ _ _ _ (stem_extend i.name) suffix_wide (a_register i.d.value i.d.in_range) (a_register i.m.value i.m.in_range) ror (let lt = i.r.in_range in omega arith))
+    (reads_two_shift _ _ _ _ _ _ _ _ _ _ _ _ _ (stem_extend i.name) suffix_wide (a_register i.d.value i.d.in_range) (a_register i.m.value i.m.in_range) ror
+    (let lt = i.r.in_range in omega arith))
     (asks_extend i.name i.r.value _ _ _) refl
 
 -- T10
@@ -127,7 +132,8 @@ stem_operation operation.Mul = refl
 stem_operation operation.Sdiv = refl
 stem_operation operation.Udiv = refl
 
-asks_operation : (name : OperationName) (n d m : ℕ) → code_of (operation_stem name) (given false 0 false d n m 0 0) ≡ Some (operation_base name + n ↑ 16 + d ↑ 8 + m)
+asks_operation : (name : OperationName) (n d m : ℕ)
+    → code_of (operation_stem name) (given false 0 false d n m 0 0) ≡ Some (operation_base name + n ↑ 16 + d ↑ 8 + m)
 unfolding code_of
 asks_operation operation.Mul n d m = ap (λ (w : ℕ). Some w) (omega arith)
 asks_operation operation.Sdiv n d m = ap (λ (w : ℕ). Some w) (omega arith)
@@ -137,7 +143,8 @@ stem_accumulate : (name : AccumulateName) → is_stem (accumulate_stem name) ≡
 stem_accumulate accumulate.Mla = refl
 stem_accumulate accumulate.Mls = refl
 
-asks_accumulate : (name : AccumulateName) (n a d m : ℕ) → code_of (accumulate_stem name) (given false 0 false d n m a 0) ≡ Some (accumulate_base name + n ↑ 16 + a ↑ 12 + d ↑ 8 + m)
+asks_accumulate : (name : AccumulateName) (n a d m : ℕ)
+    → code_of (accumulate_stem name) (given false 0 false d n m a 0) ≡ Some (accumulate_base name + n ↑ 16 + a ↑ 12 + d ↑ 8 + m)
 unfolding code_of
 asks_accumulate accumulate.Mla n a d m = refl
 asks_accumulate accumulate.Mls n a d m = refl
@@ -148,7 +155,8 @@ stem_long long.Umull = refl
 stem_long long.Smlal = refl
 stem_long long.Umlal = refl
 
-asks_long : (name : LongProductName) (n l h m : ℕ) → code_of (long_stem name) (given false 0 false l h n m 0) ≡ Some (long_product_base name + n ↑ 16 + l ↑ 12 + h ↑ 8 + m)
+asks_long : (name : LongProductName) (n l h m : ℕ)
+    → code_of (long_stem name) (given false 0 false l h n m 0) ≡ Some (long_product_base name + n ↑ 16 + l ↑ 12 + h ↑ 8 + m)
 unfolding code_of
 asks_long long.Smull n l h m = refl
 asks_long long.Umull n l h m = refl
@@ -159,17 +167,20 @@ pub row_t11 : (i : T11) → Answers (instr.Scalar (scalar.T11 i)) (product_token
 row_t11 (t11.Operation i) =
     answers_of _ _ (code_t11 (t11.Operation i)) _ _
     (bare (λ name. three name (r i.d.value) (r i.n.value) (r i.m.value)) (operation_stem i.name) _
-    (reads_three _ _ _ _ _ _ _ _ _ _ _ _ (stem_operation i.name) no_suffix (a_register i.d.value i.d.in_range) (a_register i.n.value i.n.in_range) (a_register i.m.value i.m.in_range)))
+    (reads_three _ _ _ _ _ _ _ _ _ _ _ _ (stem_operation i.name) no_suffix (a_register i.d.value i.d.in_range) (a_register i.n.value i.n.in_range)
+    (a_register i.m.value i.m.in_range)))
     (asks_operation i.name _ _ _) refl
 row_t11 (t11.Accumulate i) =
     answers_of _ _ (code_t11 (t11.Accumulate i)) _ _
     (bare (λ name. four name (r i.d.value) (r i.n.value) (r i.m.value) (r i.a.value)) (accumulate_stem i.name) _
-    (reads_four _ _ _ _ _ _ _ _ _ _ _ _ _ _ _ (stem_accumulate i.name) no_suffix (a_register i.d.value i.d.in_range) (a_register i.n.value i.n.in_range) (a_register i.m.value i.m.in_range) (a_register i.a.value i.a.in_range)))
+    (reads_four _ _ _ _ _ _ _ _ _ _ _ _ _ _ _ (stem_accumulate i.name) no_suffix (a_register i.d.value i.d.in_range) (a_register i.n.value i.n.in_range)
+    (a_register i.m.value i.m.in_range) (a_register i.a.value i.a.in_range)))
     (asks_accumulate i.name _ _ _ _) refl
 row_t11 (t11.Long i) =
     answers_of _ _ (code_t11 (t11.Long i)) _ _
     (bare (λ name. four name (r i.l.value) (r i.h.value) (r i.n.value) (r i.m.value)) (long_stem i.name) _
-    (reads_four _ _ _ _ _ _ _ _ _ _ _ _ _ _ _ (stem_long i.name) no_suffix (a_register i.l.value i.l.in_range) (a_register i.h.value i.h.in_range) (a_register i.n.value i.n.in_range) (a_register i.m.value i.m.in_range)))
+    (reads_four _ _ _ _ _ _ _ _ _ _ _ _ _ _ _ (stem_long i.name) no_suffix (a_register i.l.value i.l.in_range) (a_register i.h.value i.h.in_range)
+    (a_register i.n.value i.n.in_range) (a_register i.m.value i.m.in_range)))
     (asks_long i.name _ _ _ _) refl
 
 -- T20
@@ -179,16 +190,19 @@ stem_select select.Csinc = refl
 stem_select select.Csinv = refl
 stem_select select.Csneg = refl
 
-asks_select : (name : SelectName) (n d c m : ℕ) → code_of (select_stem name) (given false 0 false d n m c 0) ≡ Some (select_base name + n ↑ 16 + d ↑ 8 + c ↑ 4 + m)
+asks_select : (name : SelectName) (n d c m : ℕ)
+    → code_of (select_stem name) (given false 0 false d n m c 0) ≡ Some (select_base name + n ↑ 16 + d ↑ 8 + c ↑ 4 + m)
 unfolding code_of
 asks_select select.Csel n d c m = ap (λ (w : ℕ). Some w) (omega arith)
 asks_select select.Csinc n d c m = ap (λ (w : ℕ). Some w) (omega arith)
 asks_select select.Csinv n d c m = ap (λ (w : ℕ). Some w) (omega arith)
 asks_select select.Csneg n d c m = ap (λ (w : ℕ). Some w) (omega arith)
 
-pub row_t20 : (i : T20) → Answers (instr.Scalar (scalar.T20 i)) (four (select_stem i.name) (r i.d.value) (or_zero i.n.value) (or_zero i.m.value) (word (condition_name i.c.value)))
+pub row_t20 : (i : T20) → Answers (instr.Scalar (scalar.T20 i))
+    (four (select_stem i.name) (r i.d.value) (or_zero i.n.value) (or_zero i.m.value) (word (condition_name i.c.value)))
 row_t20 i =
     answers_of _ _ (code_t20 i) _ _
     (bare (λ name. four name (r i.d.value) (or_zero i.n.value) (or_zero i.m.value) (word (condition_name i.c.value))) (select_stem i.name) _
-    (reads_four _ _ _ _ _ _ _ _ _ _ _ _ _ _ _ (stem_select i.name) no_suffix (a_register i.d.value i.d.in_range) (a_register_or_zero i.n.value i.n.in_range) (a_register_or_zero i.m.value i.m.in_range) (a_condition i.c.value i.c.in_range)))
+    (reads_four _ _ _ _ _ _ _ _ _ _ _ _ _ _ _ (stem_select i.name) no_suffix (a_register i.d.value i.d.in_range) (a_register_or_zero i.n.value i.n.in_range)
+    (a_register_or_zero i.m.value i.m.in_range) (a_condition i.c.value i.c.in_range)))
     (asks_select i.name _ _ _ _) refl

@@ -37,10 +37,12 @@ of_plain i ts answers = record {
 abbrev pub IsNoPlain : List ℕ → Type 0
 IsNoPlain s = (o : Operands) → code_of s o ≡ None
 
-pub asks_memory : (s f : List ℕ) (us : List Tok) (pc a w : ℕ) → is_stem s ≡ true → is_suffix f ≡ true → IsNoPlain s → code_of_memory s us ≡ Some w → code_in (word (s ++ f) ∷ us) pc a ≡ Some w
+pub asks_memory : (s f : List ℕ) (us : List Tok) (pc a w : ℕ) → is_stem s ≡ true → is_suffix f ≡ true → IsNoPlain s → code_of_memory s us ≡ Some w
+    → code_in (word (s ++ f) ∷ us) pc a ≡ Some w
 asks_memory s f us pc a w stem behind none e = rw (cut s f stem behind, none (read_operands f us), e) refl
 
-pub asks_label : (s f : List ℕ) (us : List Tok) (pc a w : ℕ) → is_stem s ≡ true → is_suffix f ≡ true → IsNoPlain s → code_of_memory s us ≡ None → code_of_label s f us pc a ≡ Some w
+pub asks_label : (s f : List ℕ) (us : List Tok) (pc a w : ℕ) → is_stem s ≡ true → is_suffix f ≡ true → IsNoPlain s → code_of_memory s us ≡ None
+    → code_of_label s f us pc a ≡ Some w
     → code_in (word (s ++ f) ∷ us) pc a ≡ Some w
 asks_label s f us pc a w stem behind none memory e = rw (cut s f stem behind, none (read_operands f us), memory, e) refl
 

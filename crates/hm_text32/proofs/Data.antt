@@ -31,7 +31,8 @@ use Rattle.hm_text32.specs.Rows.{and_turn, insert_tokens, saturate_tokens, satur
 use Rattle.hm_text32.specs.Stems.{extract_stem, half_stem, saturate_stem, wide_sum_stem}
 use Rattle.hm_text_rows.specs.Shapes.{and_constant, and_operand, one, r, two}
 use Rattle.hm_text_rows.proofs.Words.{is_stem}
-use Rattle.hm_text32.proofs.Forms.{Answers, Operand, a_register, answers_of, bare, no_suffix, numbered, reads_one_constant, reads_one_constants, reads_saturate, reads_two_constant, reads_two_constants, both_numbered, second_numbered}
+use Rattle.hm_text32.proofs.Forms.{Answers, Operand, a_register, answers_of, bare, no_suffix, numbered, reads_one_constant, reads_one_constants, reads_saturate}
+use Rattle.hm_text32.proofs.Forms.{reads_two_constant, reads_two_constants, both_numbered, second_numbered}
 
 -- T3
 stem_wide_sum : (name : SumName) → is_stem (wide_sum_stem name) ≡ true
@@ -59,12 +60,14 @@ twelve_middle i j l hi hj hl = omega arith
 twelve_low : (i j l : ℕ) → i < 2 → j < 8 → l < 256 → twelve i j l % 256 ≡ l
 twelve_low i j l hi hj hl = omega arith
 
-pub row_t3 : (i : T3) → Answers (instr.Scalar (scalar.T3 i)) (and_constant (two (wide_sum_stem i.name) (r i.d.value) (r i.n.value)) (2048 * i.i.value + 256 * i.i3.value + i.i8.value))
+pub row_t3 : (i : T3) → Answers (instr.Scalar (scalar.T3 i))
+    (and_constant (two (wide_sum_stem i.name) (r i.d.value) (r i.n.value)) (2048 * i.i.value + 256 * i.i3.value + i.i8.value))
 row_t3 i =
     let x = twelve i.i.value i.i3.value i.i8.value in
     answers_of _ _ (code_t3 i) _ _
     (bare (λ name. and_constant (two name (r i.d.value) (r i.n.value)) x) (wide_sum_stem i.name) _
-    (reads_two_constant _ _ _ _ _ _ _ _ _ _ (stem_wide_sum i.name) no_suffix (a_register i.d.value i.d.in_range) (a_register i.n.value i.n.in_range) (twelve_small i.i.value i.i3.value i.i8.value i.i.in_range i.i3.in_range i.i8.in_range)))
+    (reads_two_constant _ _ _ _ _ _ _ _ _ _ (stem_wide_sum i.name) no_suffix (a_register i.d.value i.d.in_range) (a_register i.n.value i.n.in_range)
+    (twelve_small i.i.value i.i3.value i.i8.value i.i.in_range i.i3.in_range i.i8.in_range)))
     (asks_wide_sum i.name i.i.value i.i3.value i.i8.value i.n.value i.d.value x
     (twelve_high i.i.value i.i3.value i.i8.value i.i.in_range i.i3.in_range i.i8.in_range)
     (twelve_middle i.i.value i.i3.value i.i8.value i.i.in_range i.i3.in_range i.i8.in_range)
@@ -100,12 +103,14 @@ sixteen_middle h i j l hh hi hj hl = omega arith
 sixteen_low : (h i j l : ℕ) → h < 16 → i < 2 → j < 8 → l < 256 → sixteen h i j l % 256 ≡ l
 sixteen_low h i j l hh hi hj hl = omega arith
 
-pub row_t4 : (i : T4) → Answers (instr.Scalar (scalar.T4 i)) (and_constant (one (half_stem i.name) (r i.d.value)) (4096 * i.i4.value + 2048 * i.i.value + 256 * i.i3.value + i.i8.value))
+pub row_t4 : (i : T4) → Answers (instr.Scalar (scalar.T4 i))
+    (and_constant (one (half_stem i.name) (r i.d.value)) (4096 * i.i4.value + 2048 * i.i.value + 256 * i.i3.value + i.i8.value))
 row_t4 i =
     let x = sixteen i.i4.value i.i.value i.i3.value i.i8.value in
     answers_of _ _ (code_t4 i) _ _
     (bare (λ name. and_constant (one name (r i.d.value)) x) (half_stem i.name) _
-    (reads_one_constant _ _ _ _ _ _ _ (stem_half i.name) no_suffix (a_register i.d.value i.d.in_range) (sixteen_small i.i4.value i.i.value i.i3.value i.i8.value i.i4.in_range i.i.in_range i.i3.in_range i.i8.in_range)))
+    (reads_one_constant _ _ _ _ _ _ _ (stem_half i.name) no_suffix (a_register i.d.value i.d.in_range)
+    (sixteen_small i.i4.value i.i.value i.i3.value i.i8.value i.i4.in_range i.i.in_range i.i3.in_range i.i8.in_range)))
     (asks_half i.name i.i4.value i.i.value i.i3.value i.i8.value i.d.value x
     (sixteen_top i.i4.value i.i.value i.i3.value i.i8.value i.i4.in_range i.i.in_range i.i3.in_range i.i8.in_range)
     (sixteen_high i.i4.value i.i.value i.i3.value i.i8.value i.i4.in_range i.i.in_range i.i3.in_range i.i8.in_range)
@@ -146,7 +151,8 @@ kind_told : (h : ℕ) → 2 * h / 2 ≡ h
 kind_told h = omega arith
 
 asks_saturate : (name : SaturateName) (h j l s n d v x : ℕ) → v / 2 ≡ h → x / 4 ≡ j → x % 4 ≡ l
-    → code_of (saturate_stem name) (second_numbered false 0 false d (saturated_bits name s) n v x) ≡ Some (saturate_base name + h ↑ 21 + n ↑ 16 + j ↑ 12 + d ↑ 8 + l ↑ 6 + s)
+    → code_of (saturate_stem name) (second_numbered false 0 false d (saturated_bits name s) n v x)
+    ≡ Some (saturate_base name + h ↑ 21 + n ↑ 16 + j ↑ 12 + d ↑ 8 + l ↑ 6 + s)
 unfolding code_of
 asks_saturate saturate.Ssat h j l s n d v x e f g = rw (e, f, g) (ap (λ (w : ℕ). Some w) (omega arith))
 asks_saturate saturate.Usat h j l s n d v x e f g = rw (e, f, g) (ap (λ (w : ℕ). Some w) (omega arith))
@@ -157,8 +163,10 @@ row_t5 i =
     let j = i.i3.value in
     let l = i.i2.value in
     answers_of _ _ (code_t5 i) _ _
-    (bare (λ name. and_turn (and_operand (and_constant (one name (r i.d.value)) (saturated_bits i.name i.s.value)) (r i.n.value)) (cond (nat_eq h 0) (codes "lsl") (codes "asr")) (five j l)) (saturate_stem i.name) _
-    (reads_saturate _ _ _ _ _ _ _ _ _ _ _ _ _ _ (stem_saturate i.name) no_suffix (a_register i.d.value i.d.in_range) (bits_small i.name i.s.value i.s.in_range) (a_register i.n.value i.n.in_range) (a_shift h i.sh.in_range) (five_small j l i.i3.in_range i.i2.in_range)))
+    (bare (λ name. and_turn (and_operand (and_constant (one name (r i.d.value)) (saturated_bits i.name i.s.value)) (r i.n.value))
+    (cond (nat_eq h 0) (codes "lsl") (codes "asr")) (five j l)) (saturate_stem i.name) _
+    (reads_saturate _ _ _ _ _ _ _ _ _ _ _ _ _ _ (stem_saturate i.name) no_suffix (a_register i.d.value i.d.in_range) (bits_small i.name i.s.value i.s.in_range)
+    (a_register i.n.value i.n.in_range) (a_shift h i.sh.in_range) (five_small j l i.i3.in_range i.i2.in_range)))
     (asks_saturate i.name h j l i.s.value _ _ _ (five j l) (kind_told h) (five_high j l i.i2.in_range) (five_low j l i.i2.in_range))
     refl
 
@@ -173,13 +181,15 @@ unfolding code_of
 asks_extract extract.Sbfx j l w n d x e f = rw (e, f) (ap (λ (c : ℕ). Some c) (omega arith))
 asks_extract extract.Ubfx j l w n d x e f = rw (e, f) (ap (λ (c : ℕ). Some c) (omega arith))
 
-pub row_t6 : (i : T6) → Answers (instr.Scalar (scalar.T6 i)) (and_constant (and_constant (two (extract_stem i.name) (r i.d.value) (r i.n.value)) (4 * i.i3.value + i.i2.value)) (i.w.value + 1))
+pub row_t6 : (i : T6) → Answers (instr.Scalar (scalar.T6 i))
+    (and_constant (and_constant (two (extract_stem i.name) (r i.d.value) (r i.n.value)) (4 * i.i3.value + i.i2.value)) (i.w.value + 1))
 row_t6 i =
     let j = i.i3.value in
     let l = i.i2.value in
     answers_of _ _ (code_t6 i) _ _
     (bare (λ name. and_constant (and_constant (two name (r i.d.value) (r i.n.value)) (five j l)) (i.w.value + 1)) (extract_stem i.name) _
-    (reads_two_constants _ _ _ _ _ _ _ _ _ _ _ (stem_extract i.name) no_suffix (a_register i.d.value i.d.in_range) (a_register i.n.value i.n.in_range) (five_small j l i.i3.in_range i.i2.in_range) (let lt = i.w.in_range in omega arith)))
+    (reads_two_constants _ _ _ _ _ _ _ _ _ _ _ (stem_extract i.name) no_suffix (a_register i.d.value i.d.in_range) (a_register i.n.value i.n.in_range)
+    (five_small j l i.i3.in_range i.i2.in_range) (let lt = i.w.in_range in omega arith)))
     (asks_extract i.name j l i.w.value _ _ (five j l) (five_high j l i.i2.in_range) (five_low j l i.i2.in_range))
     refl
 
@@ -191,7 +201,8 @@ asks_bfi : (n d j l e x : ℕ) → x / 4 ≡ j → x % 4 ≡ l → x ≤ e → c
 unfolding code_of
 asks_bfi n d j l e x f g le = rw (f, g) (ap (λ (c : ℕ). Some c) (omega (arith, le)))
 
-asks_bfc : (n d j l e x : ℕ) → n ≡ 15 → x / 4 ≡ j → x % 4 ≡ l → x ≤ e → code_of (codes "bfc") (both_numbered false 0 false d x (e + 1 - x) 0 0) ≡ Some (insert_sum n d j l e)
+asks_bfc : (n d j l e x : ℕ) → n ≡ 15 → x / 4 ≡ j → x % 4 ≡ l → x ≤ e
+    → code_of (codes "bfc") (both_numbered false 0 false d x (e + 1 - x) 0 0) ≡ Some (insert_sum n d j l e)
 unfolding code_of
 asks_bfc n d j l e x none f g le = rw (none, f, g) (ap (λ (c : ℕ). Some c) (omega (arith, le)))
 
@@ -221,4 +232,5 @@ pub row_t7 : (i : T7) → Answers (instr.Scalar (scalar.T7 i)) (insert_tokens i)
 row_t7 i =
     let parts = and_parts (not (nat_eq i.n.value 13) && is_general i.d.value) (nat_le (i.i3.value * 4 + i.i2.value) i.e.value) i.rules in
     let within = no_more_than _ _ parts.1 in
-    insert_answers _ i.n.value i.d.value i.i3.value i.i2.value i.e.value i.n.in_range i.d.in_range i.i3.in_range i.i2.in_range i.e.in_range (omega (arith, within)) refl
+    insert_answers _ i.n.value i.d.value i.i3.value i.i2.value i.e.value i.n.in_range i.d.in_range i.i3.in_range i.i2.in_range i.e.in_range
+    (omega (arith, within)) refl

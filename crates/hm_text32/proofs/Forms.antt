@@ -6,13 +6,13 @@ use Rattle.std.specs.Prelude.{cond, codes, min, nat_eq}
 use Rattle.hm_isa.specs.declared.Instr.{Instr}
 use Rattle.hm_enc32.specs.Table.{HasWord}
 use Rattle.hm_tokens.specs.Names.{condition_name, register_name, vector_name}
-use Rattle.hm_tokens.specs.Tokens.{Tok, word}
+use Rattle.hm_tokens.specs.Tokens.{Tok, word, comma}
 use Rattle.hm_text32.specs.declared.operands.Operands.{Operands}
 use Rattle.hm_text32.specs.Operands.{word_value}
 use Rattle.hm_text_rows.specs.Operands.{is_vector_name, size_of}
 use Rattle.hm_text32.specs.Codes.{code_of, plain_code_in}
 use Rattle.hm_text32.specs.Stems.{element_suffix, wide}
-use Rattle.hm_text_rows.specs.Shapes.{and_constant, and_operand, and_shift, comma, constant, four, one, three, two}
+use Rattle.hm_text_rows.specs.Shapes.{and_constant, and_operand, and_shift, constant, four, one, three, two}
 use Rattle.hm_text_rows.proofs.Words.{below_holds, below_is, cut, is_name, is_stem, is_suffix, word_q, word_r}
 use Rattle.hm_text_rows.proofs.Printed.{IsPrinted, is_printed, short_comma, short_hash, short_number, short_word}
 
@@ -135,7 +135,8 @@ reads_none s f z stem g = record {
   prints = is_printed s f [] stem g.is tt refl (omega arith) refl;
 }
 
-pub reads_constant : (s f : List ℕ) (z x : ℕ) → is_stem s ≡ true → Suffix f z → x < 2 ^ 32 → Reads (word (s ++ f) ∷ constant x) s (given false z false x 0 0 0 0)
+pub reads_constant : (s f : List ℕ) (z x : ℕ) → is_stem s ≡ true → Suffix f z → x < 2 ^ 32
+    → Reads (word (s ++ f) ∷ constant x) s (given false z false x 0 0 0 0)
 reads_constant s f z x stem g hx = record {
   asks = rw (cut s f stem g.is, g.size, min_small x hx) refl;
   prints = is_printed s f _ stem g.is (short_hash, (short_number x hx, tt)) refl (omega arith) refl;
@@ -155,13 +156,15 @@ reads_three s f w x y b c e z m n l stem g p o t = record {
   prints = is_printed s f _ stem g.is (short_word w p.is, (short_comma, (short_word x o.is, (short_comma, (short_word y t.is, tt))))) refl (omega arith) refl;
 }
 
-pub reads_four : (s f w x y v : List ℕ) (b c e h : Bool) (z m n l k : ℕ) → is_stem s ≡ true → Suffix f z → Operand w m b → Operand x n c → Operand y l e → Operand v k h
+pub reads_four : (s f w x y v : List ℕ) (b c e h : Bool) (z m n l k : ℕ) → is_stem s ≡ true → Suffix f z → Operand w m b → Operand x n c → Operand y l e
+    → Operand v k h
     → Reads (four (s ++ f) (word w) (word x) (word y) (word v)) s (given false z b m n l k 0)
 reads_four s f w x y v b c e h z m n l k stem g p o t i = record {
   asks = rw (cut s f stem g.is, g.size, p.vector, p.value, o.value, t.value, i.value) refl;
   prints =
       is_printed s f _ stem g.is
-      (short_word w p.is, (short_comma, (short_word x o.is, (short_comma, (short_word y t.is, (short_comma, (short_word v i.is, tt))))))) refl (omega arith) refl;
+      (short_word w p.is, (short_comma, (short_word x o.is, (short_comma, (short_word y t.is, (short_comma, (short_word v i.is, tt))))))) refl (omega arith)
+      refl;
 }
 
 pub reads_one_constant : (s f w : List ℕ) (b : Bool) (z m x : ℕ) → is_stem s ≡ true → Suffix f z → Operand w m b → x < 2 ^ 32
@@ -176,7 +179,8 @@ pub reads_two_constant : (s f w x : List ℕ) (b c : Bool) (z m n k : ℕ) → i
 reads_two_constant s f w x b c z m n k stem g p o hk = record {
   asks = rw (cut s f stem g.is, g.size, p.vector, p.value, o.value, min_small k hk) refl;
   prints =
-      is_printed s f _ stem g.is (short_word w p.is, (short_comma, (short_word x o.is, (short_comma, (short_hash, (short_number k hk, tt)))))) refl (omega arith) refl;
+      is_printed s f _ stem g.is (short_word w p.is, (short_comma, (short_word x o.is, (short_comma, (short_hash, (short_number k hk, tt)))))) refl
+      (omega arith) refl;
 }
 
 pub reads_one_constants : (s f w : List ℕ) (b : Bool) (z m x y : ℕ) → is_stem s ≡ true → Suffix f z → Operand w m b → x < 2 ^ 32 → y < 2 ^ 32
@@ -188,29 +192,38 @@ reads_one_constants s f w b z m x y stem g p hx hy = record {
       (short_word w p.is, (short_comma, (short_hash, (short_number x hx, (short_comma, (short_hash, (short_number y hy, tt))))))) refl (omega arith) refl;
 }
 
-pub reads_two_constants : (s f w x : List ℕ) (b c : Bool) (z m n k l : ℕ) → is_stem s ≡ true → Suffix f z → Operand w m b → Operand x n c → k < 2 ^ 32 → l < 2 ^ 32
+pub reads_two_constants : (s f w x : List ℕ) (b c : Bool) (z m n k l : ℕ) → is_stem s ≡ true → Suffix f z → Operand w m b → Operand x n c → k < 2 ^ 32
+    → l < 2 ^ 32
     → Reads (and_constant (and_constant (two (s ++ f) (word w) (word x)) k) l) s (numbered false z b m n k l 0)
 reads_two_constants s f w x b c z m n k l stem g p o hk hl = record {
   asks = rw (cut s f stem g.is, g.size, p.vector, p.value, o.value, min_small k hk, min_small l hl) refl;
   prints =
-      is_printed s f _ stem g.is
-      (short_word w p.is, (short_comma, (short_word x o.is, (short_comma, (short_hash, (short_number k hk, (short_comma, (short_hash, (short_number l hl, tt))))))))) refl (omega arith) refl;
+      is_printed s f _ stem g.is (
+        short_word w p.is,
+        (
+          short_comma,
+          (short_word x o.is, (short_comma, (short_hash, (short_number k hk, (short_comma, (short_hash, (short_number l hl, tt))))))),
+        ),
+      ) refl (omega arith) refl;
 }
 
 -- a shift by 0 is not written
 abbrev pub kind_given : ℕ → ℕ → ℕ
 kind_given v k = cond (nat_eq k 0) 0 v
 
-reads_two_shifted : (s f w x kind : List ℕ) (b c h : Bool) (z m n v k : ℕ) → is_stem s ≡ true → Suffix f z → Operand w m b → Operand x n c → Operand kind v h → k < 2 ^ 32
+reads_two_shifted : (s f w x kind : List ℕ) (b c h : Bool) (z m n v k : ℕ) → is_stem s ≡ true → Suffix f z → Operand w m b → Operand x n c → Operand kind v h
+    → k < 2 ^ 32
     → Reads (two (s ++ f) (word w) (word x) ++ comma ∷ word kind ∷ constant k) s (given false z b m n v k 0)
 reads_two_shifted s f w x kind b c h z m n v k stem g p o t hk = record {
   asks = rw (cut s f stem g.is, g.size, p.vector, p.value, o.value, t.value, min_small k hk) refl;
   prints =
       is_printed s f _ stem g.is
-      (short_word w p.is, (short_comma, (short_word x o.is, (short_comma, (short_word kind t.is, (short_hash, (short_number k hk, tt))))))) refl (omega arith) refl;
+      (short_word w p.is, (short_comma, (short_word x o.is, (short_comma, (short_word kind t.is, (short_hash, (short_number k hk, tt))))))) refl (omega arith)
+      refl;
 }
 
-pub reads_two_shift : (s f w x kind : List ℕ) (b c h : Bool) (z m n v k : ℕ) → is_stem s ≡ true → Suffix f z → Operand w m b → Operand x n c → Operand kind v h → k < 2 ^ 32
+pub reads_two_shift : (s f w x kind : List ℕ) (b c h : Bool) (z m n v k : ℕ) → is_stem s ≡ true → Suffix f z → Operand w m b → Operand x n c → Operand kind v h
+    → k < 2 ^ 32
     → Reads (and_shift (two (s ++ f) (word w) (word x)) kind k) s (given false z b m n (kind_given v k) k 0)
 reads_two_shift s f w x kind b c h z m n v k stem g p o t hk =
     elim (cases_Bool (eqb k 0)) [
@@ -221,13 +234,19 @@ reads_two_shift s f w x kind b c h z m n v k stem g p o t hk =
 abbrev saturated : List ℕ → List ℕ → ℕ → List ℕ → List Tok
 saturated name w l x = and_operand (and_constant (one name (word w)) l) (word x)
 
-pub reads_saturate : (s f w x kind : List ℕ) (b c h : Bool) (z m n l v k : ℕ) → is_stem s ≡ true → Suffix f z → Operand w m b → l < 2 ^ 32 → Operand x n c → Operand kind v h → k < 2 ^ 32
+pub reads_saturate : (s f w x kind : List ℕ) (b c h : Bool) (z m n l v k : ℕ) → is_stem s ≡ true → Suffix f z → Operand w m b → l < 2 ^ 32 → Operand x n c
+    → Operand kind v h → k < 2 ^ 32
     → Reads (saturated (s ++ f) w l x ++ comma ∷ word kind ∷ constant k) s (second_numbered false z b m l n v k)
 reads_saturate s f w x kind b c h z m n l v k stem g p hl o t hk = record {
   asks = rw (cut s f stem g.is, g.size, p.vector, p.value, o.value, t.value, min_small l hl, min_small k hk) refl;
   prints =
-      is_printed s f _ stem g.is
-      (short_word w p.is, (short_comma, (short_hash, (short_number l hl, (short_comma, (short_word x o.is, (short_comma, (short_word kind t.is, (short_hash, (short_number k hk, tt))))))))))
+      is_printed s f _ stem g.is (
+        short_word w p.is,
+        (
+          short_comma,
+          (short_hash, (short_number l hl, (short_comma, (short_word x o.is, (short_comma, (short_word kind t.is, (short_hash, (short_number k hk, tt)))))))),
+        ),
+      )
       refl (omega arith) refl;
 }
 
@@ -236,17 +255,24 @@ pub bare : (shape : List ℕ → List Tok) (s : List ℕ) (o : Operands) → Rea
 bare shape s o reads = subst (λ (name : List ℕ). Reads (shape name) s o) (append-nil s) reads
 
 -- a register that is shifted
-reads_three_shifted : (s f w x y kind : List ℕ) (b c e h : Bool) (z m n l v k : ℕ) → is_stem s ≡ true → Suffix f z → Operand w m b → Operand x n c → Operand y l e → Operand kind v h → k < 2 ^ 32
+reads_three_shifted : (s f w x y kind : List ℕ) (b c e h : Bool) (z m n l v k : ℕ) → is_stem s ≡ true → Suffix f z → Operand w m b → Operand x n c
+    → Operand y l e → Operand kind v h → k < 2 ^ 32
     → Reads (three (s ++ f) (word w) (word x) (word y) ++ comma ∷ word kind ∷ constant k) s (given false z b m n l v k)
 reads_three_shifted s f w x y kind b c e h z m n l v k stem g p o i t hk = record {
   asks = rw (cut s f stem g.is, g.size, p.vector, p.value, o.value, i.value, t.value, min_small k hk) refl;
   prints =
-      is_printed s f _ stem g.is
-      (short_word w p.is, (short_comma, (short_word x o.is, (short_comma, (short_word y i.is, (short_comma, (short_word kind t.is, (short_hash, (short_number k hk, tt)))))))))
+      is_printed s f _ stem g.is (
+        short_word w p.is,
+        (
+          short_comma,
+          (short_word x o.is, (short_comma, (short_word y i.is, (short_comma, (short_word kind t.is, (short_hash, (short_number k hk, tt))))))),
+        ),
+      )
       refl (omega arith) refl;
 }
 
-pub reads_three_shift : (s f w x y kind : List ℕ) (b c e h : Bool) (z m n l v k : ℕ) → is_stem s ≡ true → Suffix f z → Operand w m b → Operand x n c → Operand y l e → Operand kind v h → k < 2 ^ 32
+pub reads_three_shift : (s f w x y kind : List ℕ) (b c e h : Bool) (z m n l v k : ℕ) → is_stem s ≡ true → Suffix f z → Operand w m b → Operand x n c
+    → Operand y l e → Operand kind v h → k < 2 ^ 32
     → Reads (and_shift (three (s ++ f) (word w) (word x) (word y)) kind k) s (given false z b m n l (kind_given v k) k)
 reads_three_shift s f w x y kind b c e h z m n l v k stem g p o i t hk =
     elim (cases_Bool (eqb k 0)) [

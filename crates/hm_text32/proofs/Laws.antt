@@ -205,7 +205,8 @@ nearest_loop (t23.Wls i) = record {
 }
 nearest_loop (t23.Dlstp i) = itself (instr.Branch (branch.T23 (t23.Dlstp i))) refl tt
 nearest_loop (t23.Wlstp i) = record {
-  near = instr.Branch (branch.T23 (t23.Wlstp (record { z = i.z; n = i.n; v = record { value = 0; in_range = omega arith }; not_sp = i.not_sp; not_pc = i.not_pc })));
+  near = instr.Branch (branch.T23
+      (t23.Wlstp (record { z = i.z; n = i.n; v = record { value = 0; in_range = omega arith }; not_sp = i.not_sp; not_pc = i.not_pc })));
   wide = refl;
   tokens = refl;
   other = refl;

@@ -1,5 +1,6 @@
 -- Rows of a constant: their texts ask for their codes.
-use Rattle.std.proofs.Common.{◌≡◌, ℕ, zero, suc, ◌+◌, ◌-◌, ◌*◌, ◌/◌, ◌%◌, ◌<◌, ◌≤◌, ◌^◌, Bool, true, false, eqb, ◌++◌, Some, refl, subst, ap, inl, inr, ◌∙◌, arith}
+use Rattle.std.proofs.Common.{◌≡◌, ℕ, zero, suc, ◌+◌, ◌-◌, ◌*◌, ◌/◌, ◌%◌, ◌<◌, ◌≤◌, ◌^◌, Bool, true, false, eqb, ◌++◌, Some, refl, subst, ap, inl, inr, ◌∙◌}
+use Rattle.std.proofs.Common.{arith}
 use Rattle.std.specs.Prelude.{nat_eq, nat_le, nat_lt, ◌&&◌, ◌||◌}
 use Rattle.std.proofs.lemmas.Bool.{and_parts, cases_Bool, eqb-true, ne_eqb}
 use Rattle.std.proofs.lemmas.Bool.Decides.{nat_tests}
@@ -119,11 +120,14 @@ back_rotated q lt =
                                             (
                                               (λ j lj. below_is (λ i. constant_field (expanded (1024 + 128 * 3 + i))) (λ i. 1024 + 128 * 3 + i) 128 j refl lj),
                                               (
-                                                (λ j lj. below_is (λ i. constant_field (expanded (1024 + 128 * 2 + i))) (λ i. 1024 + 128 * 2 + i) 128 j refl lj),
+                                                (λ j lj. below_is (λ i. constant_field (expanded (1024 + 128 * 2 + i))) (λ i. 1024 + 128 * 2 + i) 128 j refl
+                                                    lj),
                                                 (
-                                                  (λ j lj. below_is (λ i. constant_field (expanded (1024 + 128 * 1 + i))) (λ i. 1024 + 128 * 1 + i) 128 j refl lj),
+                                                  (λ j lj. below_is (λ i. constant_field (expanded (1024 + 128 * 1 + i))) (λ i. 1024 + 128 * 1 + i) 128 j refl
+                                                      lj),
                                                   (
-                                                    (λ j lj. below_is (λ i. constant_field (expanded (1024 + 128 * 0 + i))) (λ i. 1024 + 128 * 0 + i) 128 j refl lj),
+                                                    (λ j lj. below_is (λ i. constant_field (expanded (1024 + 128 * 0 + i))) (λ i. 1024 + 128 * 0 + i) 128 j refl
+                                                        lj),
                                                     tt,
                                                   ),
                                                 ),
@@ -203,7 +207,9 @@ told_of zero zero i8 hi h3 h8 e = told_low (imm12 0 0 i8) (omega arith)
 told_of zero (suc i3) i8 hi h3 h8 e =
     elim (cases_Bool (nat_le 4 (suc i3))) [
       | inl f ↦ let four : 4 ≤ suc i3 = grind (arith, nat_tests, f) in told_high (imm12 0 (suc i3) i8) (omega (arith, four))
-      | inr f ↦ told_some (imm12 0 (suc i3) i8) (rw (low_field 0 (suc i3) i8 hi h3 h8) (last_of (nat_eq (suc i3) 0) (nat_le 4 (suc i3)) (nat_lt 0 i8) (ne_eqb (suc i3) 0 (λ is. omega (arith, is))) f e))
+      | inr f ↦ told_some (imm12 0 (suc i3) i8)
+          (rw (low_field 0 (suc i3) i8 hi h3 h8)
+          (last_of (nat_eq (suc i3) 0) (nat_le 4 (suc i3)) (nat_lt 0 i8) (ne_eqb (suc i3) 0 (λ is. omega (arith, is))) f e))
     ]
 told_of (suc zero) i3 i8 hi h3 h8 e = told_high (imm12 1 i3 i8) (omega arith)
 told_of (suc (suc i)) i3 i8 hi h3 h8 e = absurd (omega arith)
@@ -215,7 +221,8 @@ back i i3 i8 hi h3 h8 e = back_expanded (imm12 i i3 i8) (omega arith) (told_of i
 abbrev constant_sum : ℕ → ℕ → ℕ → ℕ → ℕ → ℕ → ℕ → ℕ
 constant_sum op s n d i i3 i8 = 0xf0000000 + i ↑ 26 + op ↑ 21 + s ↑ 20 + n ↑ 16 + i3 ↑ 12 + d ↑ 8 + i8
 
-code_sum : (op s n d x i i3 i8 : ℕ) → x / 2048 ≡ i → x / 256 % 8 ≡ i3 → x % 256 ≡ i8 → constant_code (0xea000000 + op ↑ 21 + s ↑ 20) n d x ≡ constant_sum op s n d i i3 i8
+code_sum : (op s n d x i i3 i8 : ℕ) → x / 2048 ≡ i → x / 256 % 8 ≡ i3 → x % 256 ≡ i8
+    → constant_code (0xea000000 + op ↑ 21 + s ↑ 20) n d x ≡ constant_sum op s n d i i3 i8
 code_sum op s n d x i i3 i8 e f g = rw (e, f, g) (omega arith)
 
 abbrev AsksData : DataName → ℕ → Type 0
@@ -245,7 +252,8 @@ asks_data data_.Rsb zero lt n d c = refl
 asks_data data_.Rsb (suc zero) lt n d c = refl
 asks_data name (suc (suc s)) lt n d c = absurd (omega arith)
 
-asks_test : (name : DataName) (n c : ℕ) → may_test name ≡ true → code_of (test_stem name) (second_numbered false 0 false n c 0 0 0) ≡ Some (constant_code (data_base name 1) n 15 (constant_field c))
+asks_test : (name : DataName) (n c : ℕ) → may_test name ≡ true
+    → code_of (test_stem name) (second_numbered false 0 false n c 0 0 0) ≡ Some (constant_code (data_base name 1) n 15 (constant_field c))
 unfolding code_of
 asks_test data_.And n c e = refl
 asks_test data_.Eor n c e = refl
@@ -253,13 +261,15 @@ asks_test data_.Add n c e = refl
 asks_test data_.Sub n c e = refl
 asks_test name n c e = absurd cc
 
-asks_move : (s d c : ℕ) → s < 2 → code_of (move_stem data_.Orr s) (second_numbered false 0 false d c 0 0 0) ≡ Some (constant_code (data_base data_.Orr s) 15 d (constant_field c))
+asks_move : (s d c : ℕ) → s < 2
+    → code_of (move_stem data_.Orr s) (second_numbered false 0 false d c 0 0 0) ≡ Some (constant_code (data_base data_.Orr s) 15 d (constant_field c))
 unfolding code_of
 asks_move zero d c lt = refl
 asks_move (suc zero) d c lt = refl
 asks_move (suc (suc s)) d c lt = absurd (omega arith)
 
-asks_not : (s d c : ℕ) → s < 2 → code_of (move_stem data_.Orn s) (second_numbered false 0 false d c 0 0 0) ≡ Some (constant_code (data_base data_.Orn s) 15 d (constant_field c))
+asks_not : (s d c : ℕ) → s < 2
+    → code_of (move_stem data_.Orn s) (second_numbered false 0 false d c 0 0 0) ≡ Some (constant_code (data_base data_.Orn s) 15 d (constant_field c))
 unfolding code_of
 asks_not zero d c lt = refl
 asks_not (suc zero) d c lt = refl
@@ -275,7 +285,8 @@ record Fields (s n d i i3 i8 : ℕ) : Type 0 where
   low : i8 < 256
   constant : is_constant i i3 i8 ≡ true
 
-read_sum : (op s n d i i3 i8 : ℕ) → Fields s n d i i3 i8 → constant_code (0xea000000 + op ↑ 21 + s ↑ 20) n d (constant_field (constant_in i i3 i8)) ≡ constant_sum op s n d i i3 i8
+read_sum : (op s n d i i3 i8 : ℕ) → Fields s n d i i3 i8
+    → constant_code (0xea000000 + op ↑ 21 + s ↑ 20) n d (constant_field (constant_in i i3 i8)) ≡ constant_sum op s n d i i3 i8
 read_sum op s n d i i3 i8 is =
     let e = back i i3 i8 is.top is.middle is.low is.constant in
     code_sum op s n d (constant_field (constant_in i i3 i8)) i i3 i8
@@ -283,18 +294,21 @@ read_sum op s n d i i3 i8 is =
     (ap (λ (x : ℕ). x / 256 % 8) e ∙ middle_field i i3 i8 is.top is.middle is.low)
     (ap (λ (x : ℕ). x % 256) e ∙ low_field i i3 i8 is.top is.middle is.low)
 
-some_sum : (op s n d i i3 i8 : ℕ) → Fields s n d i i3 i8 → Some (constant_code (0xea000000 + op ↑ 21 + s ↑ 20) n d (constant_field (constant_in i i3 i8))) ≡ Some (constant_sum op s n d i i3 i8)
+some_sum : (op s n d i i3 i8 : ℕ) → Fields s n d i i3 i8
+    → Some (constant_code (0xea000000 + op ↑ 21 + s ↑ 20) n d (constant_field (constant_in i i3 i8))) ≡ Some (constant_sum op s n d i i3 i8)
 some_sum op s n d i i3 i8 is = ap (λ (w : ℕ). Some w) (read_sum op s n d i i3 i8 is)
 
 data_answers : (k : Instr) (name : DataName) (s n d i i3 i8 : ℕ) → Fields s n d i i3 i8 → HasWord k (constant_sum (operation name) s n d i i3 i8)
     → Answers k (and_constant (two (data_stem name s ++ wide) (r d) (r n)) (constant_in i i3 i8))
 data_answers k name s n d i i3 i8 is has =
     answers_of k _ (constant_sum (operation name) s n d i i3 i8) (data_stem name s) _
-    (reads_two_constant (data_stem name s) wide _ _ _ _ _ _ _ _ (stem_data name s is.flag) suffix_wide (a_register d is.result) (a_register n is.first) (expanded_small (imm12 i i3 i8)))
+    (reads_two_constant (data_stem name s) wide _ _ _ _ _ _ _ _ (stem_data name s is.flag) suffix_wide (a_register d is.result) (a_register n is.first)
+    (expanded_small (imm12 i i3 i8)))
     (asks_data name s is.flag n d _ ∙ some_sum (operation name) s n d i i3 i8 is)
     has
 
-test_answers : (k : Instr) (name : DataName) (n i i3 i8 : ℕ) → Fields 1 n 15 i i3 i8 → may_test name ≡ true → HasWord k (constant_sum (operation name) 1 n 15 i i3 i8)
+test_answers : (k : Instr) (name : DataName) (n i i3 i8 : ℕ) → Fields 1 n 15 i i3 i8 → may_test name ≡ true
+    → HasWord k (constant_sum (operation name) 1 n 15 i i3 i8)
     → Answers k (and_constant (one (test_stem name ++ wide) (r n)) (constant_in i i3 i8))
 test_answers k name n i i3 i8 is may has =
     answers_of k _ (constant_sum (operation name) 1 n 15 i i3 i8) (test_stem name) _
@@ -302,21 +316,24 @@ test_answers k name n i i3 i8 is may has =
     (asks_test name n _ may ∙ some_sum (operation name) 1 n 15 i i3 i8 is)
     has
 
-move_answers : (k : Instr) (s d i i3 i8 : ℕ) → Fields s 15 d i i3 i8 → HasWord k (constant_sum 2 s 15 d i i3 i8) → Answers k (and_constant (one (move_stem data_.Orr s ++ wide) (r d)) (constant_in i i3 i8))
+move_answers : (k : Instr) (s d i i3 i8 : ℕ) → Fields s 15 d i i3 i8 → HasWord k (constant_sum 2 s 15 d i i3 i8)
+    → Answers k (and_constant (one (move_stem data_.Orr s ++ wide) (r d)) (constant_in i i3 i8))
 move_answers k s d i i3 i8 is has =
     answers_of k _ (constant_sum 2 s 15 d i i3 i8) (move_stem data_.Orr s) _
     (reads_one_constant (move_stem data_.Orr s) wide _ _ _ _ _ (stem_move s is.flag) suffix_wide (a_register d is.result) (expanded_small (imm12 i i3 i8)))
     (asks_move s d _ is.flag ∙ some_sum 2 s 15 d i i3 i8 is)
     has
 
-not_answers : (k : Instr) (s d i i3 i8 : ℕ) → Fields s 15 d i i3 i8 → HasWord k (constant_sum 3 s 15 d i i3 i8) → Answers k (and_constant (one (move_stem data_.Orn s ++ wide) (r d)) (constant_in i i3 i8))
+not_answers : (k : Instr) (s d i i3 i8 : ℕ) → Fields s 15 d i i3 i8 → HasWord k (constant_sum 3 s 15 d i i3 i8)
+    → Answers k (and_constant (one (move_stem data_.Orn s ++ wide) (r d)) (constant_in i i3 i8))
 not_answers k s d i i3 i8 is has =
     answers_of k _ (constant_sum 3 s 15 d i i3 i8) (move_stem data_.Orn s) _
     (reads_one_constant (move_stem data_.Orn s) wide _ _ _ _ _ (stem_not s is.flag) suffix_wide (a_register d is.result) (expanded_small (imm12 i i3 i8)))
     (asks_not s d _ is.flag ∙ some_sum 3 s 15 d i i3 i8 is)
     has
 
-single_answers : (k : Instr) (name : DataName) (s d i i3 i8 : ℕ) → Fields s 15 d i i3 i8 → is_first name 15 ≡ true → HasWord k (constant_sum (operation name) s 15 d i i3 i8)
+single_answers : (k : Instr) (name : DataName) (s d i i3 i8 : ℕ) → Fields s 15 d i i3 i8 → is_first name 15 ≡ true
+    → HasWord k (constant_sum (operation name) s 15 d i i3 i8)
     → Answers k (and_constant (one (move_stem name s ++ wide) (r d)) (constant_in i i3 i8))
 single_answers k data_.Orr s d i i3 i8 is e has = move_answers k s d i i3 i8 is has
 single_answers k data_.Orn s d i i3 i8 is e has = not_answers k s d i i3 i8 is has
@@ -340,7 +357,8 @@ row_answers k name s n d i i3 i8 is first result has =
           ]
     ]
 
-pub row_t1 : (i : T1) → Answers (instr.Scalar (scalar.T1 i)) (constant_tokens i.name i.s.value i.n.value i.d.value (constant_in i.i.value i.i3.value i.i8.value))
+pub row_t1 : (i : T1) → Answers (instr.Scalar (scalar.T1 i))
+    (constant_tokens i.name i.s.value i.n.value i.d.value (constant_in i.i.value i.i3.value i.i8.value))
 row_t1 i =
     let rules = and_parts (is_first i.name i.n.value && is_result i.name i.s.value i.n.value i.d.value) (is_constant i.i.value i.i3.value i.i8.value) i.rules in
     let registers = and_parts (is_first i.name i.n.value) (is_result i.name i.s.value i.n.value i.d.value) rules.0 in

@@ -1,5 +1,6 @@
 -- Rows with a label: their texts ask for their codes, where the label names their targets.
-use Rattle.std.proofs.Common.{◌≡◌, ℕ, zero, suc, ◌+◌, ◌-◌, ◌*◌, ◌/◌, ◌%◌, ◌^◌, ◌<◌, ◌≤◌, true, List, [], ◌∷◌, ◌++◌, Some, None, refl, sym, subst, ap, ◌∙◌, inl, inr, arith}
+use Rattle.std.proofs.Common.{◌≡◌, ℕ, zero, suc, ◌+◌, ◌-◌, ◌*◌, ◌/◌, ◌%◌, ◌^◌, ◌<◌, ◌≤◌, true, List, [], ◌∷◌, ◌++◌, Some, None, refl, sym, subst, ap, ◌∙◌, inl}
+use Rattle.std.proofs.Common.{inr, arith}
 use Rattle.std.specs.Prelude.{codes, nat_eq, nat_lt}
 use Rattle.std.proofs.lemmas.Bool.{cases_Bool}
 use Rattle.std.proofs.lemmas.Bool.Decides.{nat_tests}
@@ -22,9 +23,9 @@ use Rattle.hm_isa.specs.Standing.{◌↑◌}
 use Rattle.hm_isa.specs.Words.{sign_extended}
 use Rattle.hm_isa.specs.Distances.{alike, always_distance, conditional_distance}
 use Rattle.hm_tokens.specs.Names.{condition_name, register_name}
-use Rattle.hm_tokens.specs.Tokens.{Tok, word}
+use Rattle.hm_tokens.specs.Tokens.{Tok, word, comma}
 use Rattle.hm_text_rows.specs.Labels.{behind, distance}
-use Rattle.hm_text_rows.specs.Shapes.{comma, r}
+use Rattle.hm_text_rows.specs.Shapes.{r}
 use Rattle.hm_text_rows.proofs.Printed.{IsPrintedAt, is_printed_at, short_comma, short_word}
 use Rattle.hm_text_rows.proofs.Words.{at_below, below_holds, is_stem, is_suffix, word_r}
 use Rattle.hm_text32.specs.Codes.{ahead, always_code, behind_it, code_in, code_of, code_of_label, code_of_memory, conditional_code, same_bit}
@@ -126,22 +127,26 @@ module _ (s j2 j1 i6 i11 m : ℕ) (hs : s < 2) (h2 : j2 < 2) (h1 : j1 < 2) (h6 :
 near_small : (s j2 j1 i6 i11 : ℕ) → s < 2 → j2 < 2 → j1 < 2 → i6 < 64 → i11 < 2048 → near_half s j2 j1 i6 i11 < 2 ^ 20
 near_small s j2 j1 i6 i11 hs h2 h1 h6 hi = omega arith
 
-conditional_asks : (i : WideConditional) (pc a : ℕ) → pc < 2 ^ 32 → behind pc (conditional_distance i) ≡ a → conditional_code i.c.value (distance (pc + 4) a / 2) ≡ code_wide_conditional i
+conditional_asks : (i : WideConditional) (pc a : ℕ) → pc < 2 ^ 32 → behind pc (conditional_distance i) ≡ a
+    → conditional_code i.c.value (distance (pc + 4) a / 2) ≡ code_wide_conditional i
 conditional_asks i pc a hp e =
     let h = near_half i.s.value i.j2.value i.j1.value i.i6.value i.i11.value in
     let signed : Signed (2 ^ 20) (conditional_distance i) h =
-    near_signed (i.s.value * 2 ^ 20 + i.j2.value * 2 ^ 19 + i.j1.value * 2 ^ 18 + i.i6.value * 2 ^ 12 + i.i11.value * 2) h (omega arith) (near_small i.s.value i.j2.value i.j1.value i.i6.value i.i11.value i.s.in_range i.j2.in_range i.j1.in_range i.i6.in_range i.i11.in_range) in
+    near_signed (i.s.value * 2 ^ 20 + i.j2.value * 2 ^ 19 + i.j1.value * 2 ^ 18 + i.i6.value * 2 ^ 12 + i.i11.value * 2) h (omega arith)
+    (near_small i.s.value i.j2.value i.j1.value i.i6.value i.i11.value i.s.in_range i.j2.in_range i.j1.in_range i.i6.in_range i.i11.in_range) in
     let back = distance_back (pc + 4) (conditional_distance i) a (omega arith) signed.small e in
     let half : distance (pc + 4) a / 2 ≡ h + signed.more * 2 ^ 20 = ap (λ (d : ℕ). d / 2) back ∙ signed.half in
     ap (λ (f : ℕ). conditional_code i.c.value f) half
-    ∙ near_sum i.s.value i.j2.value i.j1.value i.i6.value i.i11.value signed.more i.s.in_range i.j2.in_range i.j1.in_range i.i6.in_range i.i11.in_range i.c.value
+    ∙ near_sum i.s.value i.j2.value i.j1.value i.i6.value i.i11.value signed.more i.s.in_range i.j2.in_range i.j1.in_range i.i6.in_range i.i11.in_range
+    i.c.value
 
 row_conditional : (i : WideConditional) → Row (instr.Branch (branch.T16 (t16.Conditional i)))
 row_conditional i =
     label_row (instr.Branch (branch.T16 (t16.Conditional i))) (code_wide_conditional i) refl refl
     (is_printed_at (stem_of i.c.value) wide [] (conditional_stem i.c.value i.c.in_range) refl tt refl refl (omega arith) refl)
     (λ t pc a l hp re.
-    asks_label (stem_of i.c.value) wide (t ∷ []) pc a (code_wide_conditional i) (conditional_stem i.c.value i.c.in_range) refl (no_conditional i.c.value i.c.in_range)
+    asks_label (stem_of i.c.value) wide (t ∷ []) pc a (code_wide_conditional i) (conditional_stem i.c.value i.c.in_range) refl
+    (no_conditional i.c.value i.c.in_range)
     (no_conditional_access i.c.value i.c.in_range (t ∷ []))
     (asks_conditional i.c.value i.c.in_range wide (t ∷ []) pc a ∙ ap (λ (w : ℕ). Some w) (conditional_asks i pc a hp re)))
 
@@ -185,7 +190,8 @@ module _ (s x1 x2 i10 i11 m : ℕ) (hs : s < 2) (h1 : x1 < 2) (h2 : x2 < 2) (h10
 far_small : (s x1 x2 i10 i11 : ℕ) → s < 2 → x1 < 2 → x2 < 2 → i10 < 1024 → i11 < 2048 → far_half s x1 x2 i10 i11 < 2 ^ 24
 far_small s x1 x2 i10 i11 hs h1 h2 h10 hi = omega arith
 
-always_asks : (i : WideAlways) (pc a : ℕ) → pc < 2 ^ 32 → behind pc (always_distance i) ≡ a → always_code (wide_branch_base i.name) (distance (pc + 4) a / 2) ≡ code_wide_always i
+always_asks : (i : WideAlways) (pc a : ℕ) → pc < 2 ^ 32 → behind pc (always_distance i) ≡ a
+    → always_code (wide_branch_base i.name) (distance (pc + 4) a / 2) ≡ code_wide_always i
 always_asks i pc a hp e =
     let s = i.s.value in
     let x1 = alike i.j1.value s in
@@ -193,12 +199,15 @@ always_asks i pc a hp e =
     let b1 = alike_bit i.j1.value s in
     let b2 = alike_bit i.j2.value s in
     let h = far_half s x1 x2 i.i10.value i.i11.value in
-    let signed : Signed (2 ^ 24) (always_distance i) h = far_signed (s * 2 ^ 24 + x1 * 2 ^ 23 + x2 * 2 ^ 22 + i.i10.value * 2 ^ 12 + i.i11.value * 2) h (omega arith) (far_small s x1 x2 i.i10.value i.i11.value i.s.in_range b1 b2 i.i10.in_range i.i11.in_range) in
+    let signed : Signed (2 ^ 24) (always_distance i) h =
+    far_signed (s * 2 ^ 24 + x1 * 2 ^ 23 + x2 * 2 ^ 22 + i.i10.value * 2 ^ 12 + i.i11.value * 2) h (omega arith)
+    (far_small s x1 x2 i.i10.value i.i11.value i.s.in_range b1 b2 i.i10.in_range i.i11.in_range) in
     let back = distance_back (pc + 4) (always_distance i) a (omega arith) signed.small e in
     let half : distance (pc + 4) a / 2 ≡ h + signed.more * 2 ^ 24 = ap (λ (d : ℕ). d / 2) back ∙ signed.half in
     ap (λ (f : ℕ). always_code (wide_branch_base i.name) f) half
     ∙ far_sum s x1 x2 i.i10.value i.i11.value signed.more i.s.in_range b1 b2 i.i10.in_range i.i11.in_range (wide_branch_base i.name)
-    ∙ (λ k. wide_branch_base i.name + s ↑ 26 + i.i10.value ↑ 16 + same_back i.j1.value s i.j1.in_range i.s.in_range k ↑ 13 + same_back i.j2.value s i.j2.in_range i.s.in_range k ↑ 11 + i.i11.value)
+    ∙ (λ k. wide_branch_base i.name + s ↑ 26 + i.i10.value ↑ 16 + same_back i.j1.value s i.j1.in_range i.s.in_range k ↑ 13 + same_back i.j2.value s
+    i.j2.in_range i.s.in_range k ↑ 11 + i.i11.value)
 
 -- their stems, and what follows
 abbrev always_stem : WideBranchName → List ℕ
@@ -214,7 +223,8 @@ record Always (name : WideBranchName) : Type 0 where
   suffix : is_suffix (always_suffix name) ≡ true
   none : IsNoPlain (always_stem name)
   access : IsNoAccess (always_stem name)
-  asks : (f : List ℕ) (us : List Tok) (pc a : ℕ) → code_of_label (always_stem name) f us pc a ≡ Some (always_code (wide_branch_base name) (distance (pc + 4) a / 2))
+  asks : (f : List ℕ) (us : List Tok) (pc a : ℕ)
+      → code_of_label (always_stem name) f us pc a ≡ Some (always_code (wide_branch_base name) (distance (pc + 4) a / 2))
   whole : wide_branch_stem name ≡ always_stem name ++ always_suffix name
 
 always : (name : WideBranchName) → Always name
@@ -231,7 +241,8 @@ row_always i =
     (subst (λ (name : List ℕ). IsPrintedAt (word name ∷ [])) (sym x.whole) (is_printed_at s f [] x.stem x.suffix tt refl refl (omega arith) refl))
     (λ t pc a l hp re.
     subst (λ (name : List ℕ). code_in (word name ∷ t ∷ []) pc a ≡ Some (code_wide_always i)) (sym x.whole)
-    (asks_label s f (t ∷ []) pc a (code_wide_always i) x.stem x.suffix x.none (x.access (t ∷ [])) (x.asks f (t ∷ []) pc a ∙ ap (λ (w : ℕ). Some w) (always_asks i pc a hp re))))
+    (asks_label s f (t ∷ []) pc a (code_wide_always i) x.stem x.suffix x.none (x.access (t ∷ []))
+    (x.asks f (t ∷ []) pc a ∙ ap (λ (w : ℕ). Some w) (always_asks i pc a hp re))))
 
 pub row_t16 : (i : T16) → Row (instr.Branch (branch.T16 i))
 row_t16 (t16.Conditional i) = row_conditional i
@@ -266,14 +277,18 @@ no_wls_access us = refl
 abbrev after : ℕ → Tok → List Tok
 after n t = r 14 ∷ comma ∷ r n ∷ comma ∷ t ∷ []
 
-asks_wls : (f : List ℕ) (n v : ℕ) (t : Tok) (pc a : ℕ) → n < 16 → ahead pc a ≡ v → code_of_label (codes "wls") f (after n t) pc a ≡ Some (0xf040c001 + n ↑ 16 + ((v / 2) ↑ 1 + (v % 2) ↑ 11))
+asks_wls : (f : List ℕ) (n v : ℕ) (t : Tok) (pc a : ℕ) → n < 16 → ahead pc a ≡ v
+    → code_of_label (codes "wls") f (after n t) pc a ≡ Some (0xf040c001 + n ↑ 16 + ((v / 2) ↑ 1 + (v % 2) ↑ 11))
 unfolding code_of_label
 asks_wls f n v t pc a hn e = rw ((a_register n hn).value, e) (ap (λ (w : ℕ). Some w) (omega arith))
 
 pub row_wls : (i : Wls) → Row (instr.Branch (branch.T23 (t23.Wls i)))
 row_wls i =
     label_row (instr.Branch (branch.T23 (t23.Wls i))) (code_wls i) refl refl
-    (is_printed_at (codes "wls") [] _ refl refl (short_word (register_name 14) (word_r 14 lr_small), (short_comma, (short_word (register_name i.n.value) (word_r i.n.value i.n.in_range), (short_comma, tt)))) refl refl (omega arith) refl)
+    (is_printed_at (codes "wls") [] _ refl refl (
+      short_word (register_name 14) (word_r 14 lr_small),
+      (short_comma, (short_word (register_name i.n.value) (word_r i.n.value i.n.in_range), (short_comma, tt))),
+    ) refl refl (omega arith) refl)
     (λ t pc a l hp re.
     asks_label (codes "wls") [] (after i.n.value t) pc a (code_wls i) refl refl no_wls (no_wls_access (after i.n.value t))
     (asks_wls [] i.n.value i.v.value t pc a i.n.in_range (ahead_back pc i.v.value a hp i.v.in_range re)))
@@ -296,14 +311,18 @@ row_wlstp i =
     let f = element_suffix i.z.value in
     let g = suffix_element i.z.value i.z.in_range in
     label_row (instr.Branch (branch.T23 (t23.Wlstp i))) (code_wlstp i) refl refl
-    (is_printed_at (codes "wlstp") f _ refl g.is (short_word (register_name 14) (word_r 14 lr_small), (short_comma, (short_word (register_name i.n.value) (word_r i.n.value i.n.in_range), (short_comma, tt)))) refl refl (omega arith) refl)
+    (is_printed_at (codes "wlstp") f _ refl g.is (
+      short_word (register_name 14) (word_r 14 lr_small),
+      (short_comma, (short_word (register_name i.n.value) (word_r i.n.value i.n.in_range), (short_comma, tt))),
+    ) refl refl (omega arith) refl)
     (λ t pc a l hp re.
     asks_label (codes "wlstp") f (after i.n.value t) pc a (code_wlstp i) refl g.is no_wlstp (no_wlstp_access (after i.n.value t))
     (asks_wlstp f i.z.value i.n.value i.v.value t pc a i.n.in_range g.size (ahead_back pc i.v.value a hp i.v.in_range re)))
 
 record End (name : LoopEndName) : Type 0 where
   prints : IsPrintedAt (loop_end_tokens name)
-  asks : (v : ℕ) (t : Tok) (pc a : ℕ) → behind_it pc a ≡ v → code_in (loop_end_tokens name ++ t ∷ []) pc a ≡ Some (loop_end_base name + ((v / 2) ↑ 1 + (v % 2) ↑ 11))
+  asks : (v : ℕ) (t : Tok) (pc a : ℕ) → behind_it pc a ≡ v
+      → code_in (loop_end_tokens name ++ t ∷ []) pc a ≡ Some (loop_end_base name + ((v / 2) ↑ 1 + (v % 2) ↑ 11))
 
 no_le : IsNoPlain (codes "le")
 unfolding code_of
@@ -325,11 +344,13 @@ asks_le : (t : Tok) (pc a v : ℕ) → behind_it pc a ≡ v → code_of_label (c
 unfolding code_of_label
 asks_le t pc a v e = rw e (ap (λ (w : ℕ). Some w) (omega arith))
 
-asks_le_lr : (t : Tok) (pc a v : ℕ) → behind_it pc a ≡ v → code_of_label (codes "le") [] (r 14 ∷ comma ∷ t ∷ []) pc a ≡ Some (0xf00fc001 + ((v / 2) ↑ 1 + (v % 2) ↑ 11))
+asks_le_lr : (t : Tok) (pc a v : ℕ) → behind_it pc a ≡ v
+    → code_of_label (codes "le") [] (r 14 ∷ comma ∷ t ∷ []) pc a ≡ Some (0xf00fc001 + ((v / 2) ↑ 1 + (v % 2) ↑ 11))
 unfolding code_of_label
 asks_le_lr t pc a v e = rw e (ap (λ (w : ℕ). Some w) (omega arith))
 
-asks_letp : (t : Tok) (pc a v : ℕ) → behind_it pc a ≡ v → code_of_label (codes "letp") [] (r 14 ∷ comma ∷ t ∷ []) pc a ≡ Some (0xf01fc001 + ((v / 2) ↑ 1 + (v % 2) ↑ 11))
+asks_letp : (t : Tok) (pc a v : ℕ) → behind_it pc a ≡ v
+    → code_of_label (codes "letp") [] (r 14 ∷ comma ∷ t ∷ []) pc a ≡ Some (0xf01fc001 + ((v / 2) ↑ 1 + (v % 2) ↑ 11))
 unfolding code_of_label
 asks_letp t pc a v e = rw e (ap (λ (w : ℕ). Some w) (omega arith))
 

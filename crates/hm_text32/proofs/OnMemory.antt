@@ -1,5 +1,6 @@
 -- Rows that load and store one register or two: their texts ask for their codes.
-use Rattle.std.proofs.Common.{◌≡◌, ℕ, zero, suc, ◌+◌, ◌*◌, ◌<◌, ◌^◌, Bool, true, false, eqb, List, [], ◌∷◌, ◌++◌, Some, refl, subst, ap, inl, inr, ◌⊎◌, ◌∙◌, arith}
+use Rattle.std.proofs.Common.{◌≡◌, ℕ, zero, suc, ◌+◌, ◌*◌, ◌<◌, ◌^◌, Bool, true, false, eqb, List, [], ◌∷◌, ◌++◌, Some, refl, subst, ap, inl, inr, ◌⊎◌, ◌∙◌}
+use Rattle.std.proofs.Common.{arith}
 use Rattle.std.specs.Prelude.{codes, nat_eq, nat_lt, not, ◌&&◌, if◌then◌else◌}
 use Rattle.std.proofs.lemmas.Bool.{and_parts, eqb-true}
 use Rattle.std.proofs.lemmas.Bool.Decides.{nat_tests}
@@ -24,15 +25,16 @@ use Rattle.std.proofs.lemmas.List.{append-nil}
 use Rattle.hm_enc32.specs.Table.{HasWord}
 use Rattle.hm_tokens.specs.Names.{register_name}
 use Rattle.hm_tokens.specs.Ranges.{singles}
-use Rattle.hm_tokens.specs.Tokens.{Tok, word}
+use Rattle.hm_tokens.specs.Tokens.{Tok, word, comma}
 use Rattle.hm_text32.specs.declared.operands.Places.{Places}
 use Rattle.hm_text32.specs.Codes.{access_code, code_of, code_of_memory, pair_code}
 use Rattle.hm_text32.specs.Operands.{read_places, word_value}
 use Rattle.hm_text32.specs.Rows.{access_tokens}
 use Rattle.hm_text32.specs.Stems.{access_stem, pair_stem, wide}
-use Rattle.hm_text_rows.specs.Shapes.{comma, indexed, r, scaled}
+use Rattle.hm_text_rows.specs.Shapes.{indexed, r, scaled}
 use Rattle.hm_text_rows.proofs.Words.{is_stem, is_suffix, word_r}
-use Rattle.hm_text_rows.proofs.Printed.{IsPrinted, IsShort, is_printed_as, short_bang, short_close, short_comma, short_hash, short_minus, short_number, short_open, short_word}
+use Rattle.hm_text_rows.proofs.Printed.{IsPrinted, IsShort, is_printed_as, short_bang, short_close, short_comma, short_hash, short_minus, short_number}
+use Rattle.hm_text_rows.proofs.Printed.{short_open, short_word}
 use Rattle.hm_text32.proofs.Asked.{Asks, IsNoPlain, asks_memory}
 use Rattle.hm_text32.proofs.Forms.{a_register, min_small}
 
@@ -105,27 +107,44 @@ unfolding singles
 reads_indexed s f t n zero u zero k stem g ht hn hp hu hw some hk = absurd (omega arith)
 reads_indexed s f t n zero zero (suc zero) k stem g ht hn hp hu hw some hk = record {
   places = rw ((a_register t ht).value, (a_register n hn).value, min_small k hk) refl;
-  prints = is_printed_as s f _ stem g (short_r t ht, (short_comma, (short_open, (short_r n hn, (short_close, (short_comma, (short_hash, (short_minus, (short_number k hk, tt))))))))) refl (omega arith) refl;
+  prints = is_printed_as s f _ stem g
+      (short_r t ht, (short_comma, (short_open, (short_r n hn, (short_close, (short_comma, (short_hash, (short_minus, (short_number k hk, tt))))))))) refl
+      (omega arith) refl;
 }
 reads_indexed s f t n zero (suc zero) (suc zero) k stem g ht hn hp hu hw some hk = record {
   places = rw ((a_register t ht).value, (a_register n hn).value, min_small k hk) refl;
-  prints = is_printed_as s f _ stem g (short_r t ht, (short_comma, (short_open, (short_r n hn, (short_close, (short_comma, (short_hash, (short_number k hk, tt)))))))) refl (omega arith) refl;
+  prints = is_printed_as s f _ stem g
+      (short_r t ht, (short_comma, (short_open, (short_r n hn, (short_close, (short_comma, (short_hash, (short_number k hk, tt)))))))) refl (omega arith) refl;
 }
 reads_indexed s f t n (suc zero) zero zero k stem g ht hn hp hu hw some hk = record {
   places = rw ((a_register t ht).value, (a_register n hn).value, min_small k hk) refl;
-  prints = is_printed_as s f _ stem g (short_r t ht, (short_comma, (short_open, (short_r n hn, (short_comma, (short_hash, (short_minus, (short_number k hk, (short_close, tt))))))))) refl (omega arith) refl;
+  prints = is_printed_as s f _ stem g
+      (short_r t ht, (short_comma, (short_open, (short_r n hn, (short_comma, (short_hash, (short_minus, (short_number k hk, (short_close, tt))))))))) refl
+      (omega arith) refl;
 }
 reads_indexed s f t n (suc zero) (suc zero) zero k stem g ht hn hp hu hw some hk = record {
   places = rw ((a_register t ht).value, (a_register n hn).value, min_small k hk) refl;
-  prints = is_printed_as s f _ stem g (short_r t ht, (short_comma, (short_open, (short_r n hn, (short_comma, (short_hash, (short_number k hk, (short_close, tt)))))))) refl (omega arith) refl;
+  prints = is_printed_as s f _ stem g
+      (short_r t ht, (short_comma, (short_open, (short_r n hn, (short_comma, (short_hash, (short_number k hk, (short_close, tt)))))))) refl (omega arith) refl;
 }
 reads_indexed s f t n (suc zero) zero (suc zero) k stem g ht hn hp hu hw some hk = record {
   places = rw ((a_register t ht).value, (a_register n hn).value, min_small k hk) refl;
-  prints = is_printed_as s f _ stem g (short_r t ht, (short_comma, (short_open, (short_r n hn, (short_comma, (short_hash, (short_minus, (short_number k hk, (short_close, (short_bang, tt)))))))))) refl (omega arith) refl;
+  prints = is_printed_as s f _ stem g (
+    short_r t ht,
+    (
+      short_comma,
+      (
+        short_open,
+        (short_r n hn, (short_comma, (short_hash, (short_minus, (short_number k hk, (short_close, (short_bang, tt))))))),
+      ),
+    ),
+  ) refl (omega arith) refl;
 }
 reads_indexed s f t n (suc zero) (suc zero) (suc zero) k stem g ht hn hp hu hw some hk = record {
   places = rw ((a_register t ht).value, (a_register n hn).value, min_small k hk) refl;
-  prints = is_printed_as s f _ stem g (short_r t ht, (short_comma, (short_open, (short_r n hn, (short_comma, (short_hash, (short_number k hk, (short_close, (short_bang, tt))))))))) refl (omega arith) refl;
+  prints = is_printed_as s f _ stem g
+      (short_r t ht, (short_comma, (short_open, (short_r n hn, (short_comma, (short_hash, (short_number k hk, (short_close, (short_bang, tt))))))))) refl
+      (omega arith) refl;
 }
 reads_indexed s f t n (suc (suc p)) u w k stem g ht hn hp hu hw some hk = absurd (omega arith)
 reads_indexed s f t n p (suc (suc u)) w k stem g ht hn hp hu hw some hk = absurd (omega arith)
@@ -137,12 +156,21 @@ unfolding singles word_value
 reads_scaled s f t n m k stem g ht hn hm hk = record {
   places = rw ((a_register t ht).value, (a_register n hn).value, (a_register m hm).value, min_small k hk) refl;
   prints =
-      is_printed_as s f _ stem g
-      (short_r t ht, (short_comma, (short_open, (short_r n hn, (short_comma, (short_r m hm, (short_comma, (short_word (codes "lsl") refl, (short_hash, (short_number k hk, (short_close, tt)))))))))))
+      is_printed_as s f _ stem g (
+        short_r t ht,
+        (
+          short_comma,
+          (
+            short_open,
+            (short_r n hn, (short_comma, (short_r m hm, (short_comma, (short_word (codes "lsl") refl, (short_hash, (short_number k hk, (short_close, tt)))))))),
+          ),
+        ),
+      )
       refl (omega arith) refl;
 }
 
-access_asks : (k : Instr) (name : AccessName) (us : List Tok) (o : Places) (w : ℕ) → Addressed (access_stem name ++ wide) us o → access_code (wide_access_base name) o ≡ w → HasWord k w → Asks k (word (access_stem name ++ wide) ∷ us)
+access_asks : (k : Instr) (name : AccessName) (us : List Tok) (o : Places) (w : ℕ) → Addressed (access_stem name ++ wide) us o
+    → access_code (wide_access_base name) o ≡ w → HasWord k w → Asks k (word (access_stem name ++ wide) ∷ us)
 access_asks k name us o w is e has = record {
   code = w;
   has = has;
@@ -189,14 +217,17 @@ pub row_t12 : (i : T12) → Asks (instr.Scalar (scalar.T12 i)) (access_tokens i)
 row_t12 (t12.Offset i) =
     let small : i.i.value < 2 ^ 32 = let lt = i.i.in_range in omega (arith, lt) in
     access_asks (instr.Scalar (scalar.T12 (t12.Offset i))) i.name _ _ _
-    (reads_indexed (access_stem i.name) wide i.t.value i.n.value 1 1 0 i.i.value (stem_access i.name) refl i.t.in_range i.n.in_range (omega arith) (omega arith) (omega arith) (omega arith) small)
+    (reads_indexed (access_stem i.name) wide i.t.value i.n.value 1 1 0 i.i.value (stem_access i.name) refl i.t.in_range i.n.in_range (omega arith) (omega arith)
+    (omega arith) (omega arith) small)
     (offset_sum (wide_access_base i.name) i.n.value i.t.value i.i.value (no_pc i.name i.n.value i.t.value i.rules)) refl
 row_t12 (t12.Indexed i) =
     let small : i.i.value < 2 ^ 32 = let lt = i.i.in_range in omega (arith, lt) in
     let use_ = used i.name i.n.value i.t.value i.p.value i.u.value i.w.value i.w.in_range i.rules in
-    let parts = and_parts (is_offset i.name i.n.value i.t.value) (if nat_eq i.w.value 1 then not (nat_eq i.n.value i.t.value) else nat_eq i.p.value 1 && nat_eq i.u.value 0) i.rules in
+    let parts = and_parts (is_offset i.name i.n.value i.t.value)
+    (if nat_eq i.w.value 1 then not (nat_eq i.n.value i.t.value) else nat_eq i.p.value 1 && nat_eq i.u.value 0) i.rules in
     access_asks (instr.Scalar (scalar.T12 (t12.Indexed i))) i.name _ _ _
-    (reads_indexed (access_stem i.name) wide i.t.value i.n.value i.p.value i.u.value i.w.value i.i.value (stem_access i.name) refl i.t.in_range i.n.in_range i.p.in_range i.u.in_range i.w.in_range (some_use _ _ _ use_) small)
+    (reads_indexed (access_stem i.name) wide i.t.value i.n.value i.p.value i.u.value i.w.value i.i.value (stem_access i.name) refl i.t.in_range i.n.in_range
+    i.p.in_range i.u.in_range i.w.in_range (some_use _ _ _ use_) small)
     (indexed_sum (wide_access_base i.name) i.n.value i.t.value i.p.value i.u.value i.w.value i.i.value use_ (no_pc i.name i.n.value i.t.value parts.0)) refl
 row_t12 (t12.Shifted i) =
     let small : i.i.value < 2 ^ 32 = let lt = i.i.in_range in omega (arith, lt) in
@@ -206,7 +237,8 @@ row_t12 (t12.Shifted i) =
 row_t12 (t12.Literal i) =
     let small : i.i.value < 2 ^ 32 = let lt = i.i.in_range in omega (arith, lt) in
     access_asks (instr.Scalar (scalar.T12 (t12.Literal i))) i.name _ _ _
-    (reads_indexed (access_stem i.name) wide i.t.value 15 1 i.u.value 0 i.i.value (stem_access i.name) refl i.t.in_range (omega arith) (omega arith) i.u.in_range (omega arith) (omega arith) small)
+    (reads_indexed (access_stem i.name) wide i.t.value 15 1 i.u.value 0 i.i.value (stem_access i.name) refl i.t.in_range (omega arith) (omega arith)
+    i.u.in_range (omega arith) (omega arith) small)
     (literal_sum (wide_access_base i.name) i.u.value i.t.value i.i.value) refl
 
 -- T13
@@ -224,33 +256,91 @@ unfolding code_of_memory
 asks_pair pair.Strd us = refl
 asks_pair pair.Ldrd us = refl
 
-reads_pair : (s f : List ℕ) (t v n p u w k : ℕ) → is_stem s ≡ true → is_suffix f ≡ true → t < 16 → v < 16 → n < 16 → p < 2 → u < 2 → w < 2 → 0 < p + w → k < 2 ^ 32
+reads_pair : (s f : List ℕ) (t v n p u w k : ℕ) → is_stem s ≡ true → is_suffix f ≡ true → t < 16 → v < 16 → n < 16 → p < 2 → u < 2 → w < 2 → 0 < p + w
+    → k < 2 ^ 32
     → Addressed (s ++ f) (r t ∷ comma ∷ r v ∷ comma ∷ indexed p u w (r n) k) (given false p u w t v n k 0)
 unfolding singles
 reads_pair s f t v n zero u zero k stem g ht hv hn hp hu hw some hk = absurd (omega arith)
 reads_pair s f t v n zero zero (suc zero) k stem g ht hv hn hp hu hw some hk = record {
   places = rw ((a_register t ht).value, (a_register v hv).value, (a_register n hn).value, min_small k hk) refl;
-  prints = is_printed_as s f _ stem g (short_r t ht, (short_comma, (short_r v hv, (short_comma, (short_open, (short_r n hn, (short_close, (short_comma, (short_hash, (short_minus, (short_number k hk, tt))))))))))) refl (omega arith) refl;
+  prints = is_printed_as s f _ stem g (
+    short_r t ht,
+    (
+      short_comma,
+      (
+        short_r v hv,
+        (short_comma, (short_open, (short_r n hn, (short_close, (short_comma, (short_hash, (short_minus, (short_number k hk, tt)))))))),
+      ),
+    ),
+  ) refl (omega arith)
+      refl;
 }
 reads_pair s f t v n zero (suc zero) (suc zero) k stem g ht hv hn hp hu hw some hk = record {
   places = rw ((a_register t ht).value, (a_register v hv).value, (a_register n hn).value, min_small k hk) refl;
-  prints = is_printed_as s f _ stem g (short_r t ht, (short_comma, (short_r v hv, (short_comma, (short_open, (short_r n hn, (short_close, (short_comma, (short_hash, (short_number k hk, tt)))))))))) refl (omega arith) refl;
+  prints = is_printed_as s f _ stem g (
+    short_r t ht,
+    (
+      short_comma,
+      (
+        short_r v hv,
+        (short_comma, (short_open, (short_r n hn, (short_close, (short_comma, (short_hash, (short_number k hk, tt))))))),
+      ),
+    ),
+  ) refl (omega arith) refl;
 }
 reads_pair s f t v n (suc zero) zero zero k stem g ht hv hn hp hu hw some hk = record {
   places = rw ((a_register t ht).value, (a_register v hv).value, (a_register n hn).value, min_small k hk) refl;
-  prints = is_printed_as s f _ stem g (short_r t ht, (short_comma, (short_r v hv, (short_comma, (short_open, (short_r n hn, (short_comma, (short_hash, (short_minus, (short_number k hk, (short_close, tt))))))))))) refl (omega arith) refl;
+  prints = is_printed_as s f _ stem g (
+    short_r t ht,
+    (
+      short_comma,
+      (
+        short_r v hv,
+        (short_comma, (short_open, (short_r n hn, (short_comma, (short_hash, (short_minus, (short_number k hk, (short_close, tt)))))))),
+      ),
+    ),
+  ) refl (omega arith)
+      refl;
 }
 reads_pair s f t v n (suc zero) (suc zero) zero k stem g ht hv hn hp hu hw some hk = record {
   places = rw ((a_register t ht).value, (a_register v hv).value, (a_register n hn).value, min_small k hk) refl;
-  prints = is_printed_as s f _ stem g (short_r t ht, (short_comma, (short_r v hv, (short_comma, (short_open, (short_r n hn, (short_comma, (short_hash, (short_number k hk, (short_close, tt)))))))))) refl (omega arith) refl;
+  prints = is_printed_as s f _ stem g (
+    short_r t ht,
+    (
+      short_comma,
+      (
+        short_r v hv,
+        (short_comma, (short_open, (short_r n hn, (short_comma, (short_hash, (short_number k hk, (short_close, tt))))))),
+      ),
+    ),
+  ) refl (omega arith) refl;
 }
 reads_pair s f t v n (suc zero) zero (suc zero) k stem g ht hv hn hp hu hw some hk = record {
   places = rw ((a_register t ht).value, (a_register v hv).value, (a_register n hn).value, min_small k hk) refl;
-  prints = is_printed_as s f _ stem g (short_r t ht, (short_comma, (short_r v hv, (short_comma, (short_open, (short_r n hn, (short_comma, (short_hash, (short_minus, (short_number k hk, (short_close, (short_bang, tt)))))))))))) refl (omega arith) refl;
+  prints = is_printed_as s f _ stem g (
+    short_r t ht,
+    (
+      short_comma,
+      (
+        short_r v hv,
+        (short_comma, (short_open, (short_r n hn, (short_comma, (short_hash, (short_minus, (short_number k hk, (short_close, (short_bang, tt))))))))),
+      ),
+    ),
+  ) refl
+      (omega arith) refl;
 }
 reads_pair s f t v n (suc zero) (suc zero) (suc zero) k stem g ht hv hn hp hu hw some hk = record {
   places = rw ((a_register t ht).value, (a_register v hv).value, (a_register n hn).value, min_small k hk) refl;
-  prints = is_printed_as s f _ stem g (short_r t ht, (short_comma, (short_r v hv, (short_comma, (short_open, (short_r n hn, (short_comma, (short_hash, (short_number k hk, (short_close, (short_bang, tt))))))))))) refl (omega arith) refl;
+  prints = is_printed_as s f _ stem g (
+    short_r t ht,
+    (
+      short_comma,
+      (
+        short_r v hv,
+        (short_comma, (short_open, (short_r n hn, (short_comma, (short_hash, (short_number k hk, (short_close, (short_bang, tt)))))))),
+      ),
+    ),
+  ) refl (omega arith) refl;
 }
 reads_pair s f t v n (suc (suc p)) u w k stem g ht hv hn hp hu hw some hk = absurd (omega arith)
 reads_pair s f t v n p (suc (suc u)) w k stem g ht hv hn hp hu hw some hk = absurd (omega arith)
@@ -271,17 +361,20 @@ first_rule pair.Ldrd p w n t u e = less 0 (p + w) (first_of_five _ _ _ _ _ _ e)
     first_of_five true b c d f g e = refl
     first_of_five false b c d f g e = absurd cc
 
-pub row_t13 : (i : T13) → Asks (instr.Scalar (scalar.T13 i)) (word (pair_stem i.name) ∷ r i.t.value ∷ comma ∷ r i.u.value ∷ comma ∷ indexed i.p.value i.add.value i.w.value (r i.n.value) (4 * i.i.value))
+pub row_t13 : (i : T13) → Asks (instr.Scalar (scalar.T13 i))
+    (word (pair_stem i.name) ∷ r i.t.value ∷ comma ∷ r i.u.value ∷ comma ∷ indexed i.p.value i.add.value i.w.value (r i.n.value) (4 * i.i.value))
 row_t13 i =
     let us = r i.t.value ∷ comma ∷ r i.u.value ∷ comma ∷ indexed i.p.value i.add.value i.w.value (r i.n.value) (4 * i.i.value) in
     let small : 4 * i.i.value < 2 ^ 32 = let lt = i.i.in_range in omega (arith, lt) in
-    let is = reads_pair (pair_stem i.name) [] i.t.value i.u.value i.n.value i.p.value i.add.value i.w.value (4 * i.i.value) (stem_pair i.name) refl i.t.in_range i.u.in_range i.n.in_range i.p.in_range i.add.in_range i.w.in_range (first_rule i.name _ _ _ _ _ i.rules) small in
+    let is = reads_pair (pair_stem i.name) [] i.t.value i.u.value i.n.value i.p.value i.add.value i.w.value (4 * i.i.value) (stem_pair i.name) refl i.t.in_range
+    i.u.in_range i.n.in_range i.p.in_range i.add.in_range i.w.in_range (first_rule i.name _ _ _ _ _ i.rules) small in
     subst (λ (name : List ℕ). Asks (instr.Scalar (scalar.T13 i)) (word name ∷ us)) (append-nil (pair_stem i.name))
     (record {
       code = code_t13 i;
       has = refl;
       asks =
           λ pc a. asks_memory (pair_stem i.name) [] us pc a (code_t13 i) (stem_pair i.name) refl (no_pair i.name)
-          (asks_pair i.name us ∙ ap (λ (x : Places). Some (pair_code (pair_base i.name) x)) is.places ∙ ap (λ (x : ℕ). Some x) (pair_sum (pair_base i.name) i.t.value i.u.value i.n.value i.p.value i.add.value i.w.value i.i.value));
+          (asks_pair i.name us ∙ ap (λ (x : Places). Some (pair_code (pair_base i.name) x)) is.places
+          ∙ ap (λ (x : ℕ). Some x) (pair_sum (pair_base i.name) i.t.value i.u.value i.n.value i.p.value i.add.value i.w.value i.i.value));
       prints = is.prints;
     })

@@ -22,7 +22,8 @@ record AskedFor (ts : List Tok) (pc a : ℕ) (i : Instr) : Type 0 where
   asks : code_in ts pc a ≡ Some code
   has : HasWord i code
 
-asked_ones : (ts : List Tok) (pc a : ℕ) (i : Instr) (t : Tok) → pc < 2 ^ 32 → a < 2 ^ 32 → IsWide i → IsLabel t → Reaches (target i pc) a → AreTokens i t ts → AskedFor ts pc a i
+asked_ones : (ts : List Tok) (pc a : ℕ) (i : Instr) (t : Tok) → pc < 2 ^ 32 → a < 2 ^ 32 → IsWide i → IsLabel t → Reaches (target i pc) a → AreTokens i t ts
+    → AskedFor ts pc a i
 asked_ones ts pc a i t hp ha wide label reaches (inl is) =
     let row = row_law i wide in
     record { code = row.code; asks = subst (λ (x : List Tok). code_in x pc a ≡ Some row.code) is (row.asks t pc a label hp ha reaches); has = row.has }
@@ -56,13 +57,16 @@ abbrev none_of : Option Instr
 none_of = None
 
 -- what the decoder says of a row with the tokens
-pub the_row : (ts : List Tok) (pc a w : ℕ) (j : Instr) → pc < 2 ^ 32 → a < 2 ^ 32 → code_in ts pc a ≡ Some w → ((i : Instr) → (one j ≡ one i) ↔ HasWord i w) → (i : Instr) → IsRowAt ts pc a i → one j ≡ one i
+pub the_row : (ts : List Tok) (pc a w : ℕ) (j : Instr) → pc < 2 ^ 32 → a < 2 ^ 32 → code_in ts pc a ≡ Some w → ((i : Instr) → (one j ≡ one i) ↔ HasWord i w)
+    → (i : Instr) → IsRowAt ts pc a i → one j ≡ one i
 the_row ts pc a w j hp ha e exact i is = (exact i).1 (the_code ts pc a w hp ha e i is)
 
-pub no_row : (ts : List Tok) (pc a w : ℕ) → pc < 2 ^ 32 → a < 2 ^ 32 → code_in ts pc a ≡ Some w → ((i : Instr) → HasWord i w → ⊥) → (i : Instr) → IsRowAt ts pc a i → ⊥
+pub no_row : (ts : List Tok) (pc a w : ℕ) → pc < 2 ^ 32 → a < 2 ^ 32 → code_in ts pc a ≡ Some w → ((i : Instr) → HasWord i w → ⊥) → (i : Instr)
+    → IsRowAt ts pc a i → ⊥
 no_row ts pc a w hp ha e none i is = none i (the_code ts pc a w hp ha e i is)
 
-pub other_row : (ts : List Tok) (pc a w : ℕ) (j : Instr) → pc < 2 ^ 32 → a < 2 ^ 32 → code_in ts pc a ≡ Some w → ((i : Instr) → (one j ≡ one i) ↔ HasWord i w) → (IsRowAt ts pc a j → ⊥) → (i : Instr) → IsRowAt ts pc a i → ⊥
+pub other_row : (ts : List Tok) (pc a w : ℕ) (j : Instr) → pc < 2 ^ 32 → a < 2 ^ 32 → code_in ts pc a ≡ Some w → ((i : Instr) → (one j ≡ one i) ↔ HasWord i w)
+    → (IsRowAt ts pc a j → ⊥) → (i : Instr) → IsRowAt ts pc a i → ⊥
 other_row ts pc a w j hp ha e exact not i is =
     not (subst (λ (x : Instr). IsRowAt ts pc a x) (sym (some_is j i (the_row ts pc a w j hp ha e exact i is))) is)
 
@@ -71,10 +75,12 @@ other_row ts pc a w j hp ha e exact not i is =
 pub too_many : (ts : List Tok) (pc a : ℕ) → 40 < length (normal ts) → (i : Instr) → IsRowAt (normal ts) pc a i → ⊥
 too_many ts pc a lt i is = let few = few_tokens i is.label (normal ts) is.has in omega (arith, few, lt)
 
-pub read_found : (ts us : List Tok) (pc a : ℕ) (r : Option Instr) → us ≡ normal ts → IfSome r (λ i. IsRowAt us pc a i) → IfSome r (λ i. IsRowAt (normal ts) pc a i)
+pub read_found : (ts us : List Tok) (pc a : ℕ) (r : Option Instr) → us ≡ normal ts → IfSome r (λ i. IsRowAt us pc a i)
+    → IfSome r (λ i. IsRowAt (normal ts) pc a i)
 read_found ts us pc a r e found = subst (λ (x : List Tok). IfSome r (λ i. IsRowAt x pc a i)) e found
 
-pub read_only : (ts us : List Tok) (pc a : ℕ) (r : Option Instr) → us ≡ normal ts → ((i : Instr) → IsRowAt us pc a i → r ≡ Some i) → (i : Instr) → IsRowAt (normal ts) pc a i → r ≡ Some i
+pub read_only : (ts us : List Tok) (pc a : ℕ) (r : Option Instr) → us ≡ normal ts → ((i : Instr) → IsRowAt us pc a i → r ≡ Some i) → (i : Instr)
+    → IsRowAt (normal ts) pc a i → r ≡ Some i
 read_only ts us pc a r e only i is = only i (subst (λ (x : List Tok). IsRowAt x pc a i) (sym e) is)
 
 -- ---- shapes
@@ -83,7 +89,8 @@ read_only ts us pc a r e only i is = only i (subst (λ (x : List Tok). IsRowAt x
 abbrev pub NearestOf : Instr → List Tok → Tok → Type 0
 NearestOf i ts t = (j : Instr) × IsRowAt ts 0 4 j × AreTokens j t ts × (label_of j t ≡ label_of i t)
 
-same_tokens : (i j : Instr) (t : Tok) (ts : List Tok) → has_label j ≡ has_label i → row_tokens j ≡ row_tokens i → other_tokens j ≡ other_tokens i → AreTokens i t ts → AreTokens j t ts
+same_tokens : (i j : Instr) (t : Tok) (ts : List Tok) → has_label j ≡ has_label i → row_tokens j ≡ row_tokens i → other_tokens j ≡ other_tokens i
+    → AreTokens i t ts → AreTokens j t ts
 same_tokens i j t ts label row other (inl is) = inl (rw (label, row) is)
 same_tokens i j t ts label row other (inr is) = inr (other ∙ is)
 
@@ -93,13 +100,15 @@ at_nearest i t ts has =
     let same = same_tokens i n.near t ts n.label n.tokens n.other has.tokens in
     (n.near, record { label = t; has = record { wide = n.wide; label = has.label; tokens = same }; reaches = n.reaches }, same, rw n.label refl)
 
-pub shape_found : (ts : List Tok) (i : Instr) (s : Option Tok) → IsRowAt ts 0 4 i → ((t : Tok) → AreTokens i t ts → s ≡ label_of i t) → (j : Instr) × (t : Tok) × HasTokens j t ts × (label_of j t ≡ s)
+pub shape_found : (ts : List Tok) (i : Instr) (s : Option Tok) → IsRowAt ts 0 4 i → ((t : Tok) → AreTokens i t ts → s ≡ label_of i t)
+    → (j : Instr) × (t : Tok) × HasTokens j t ts × (label_of j t ≡ s)
 shape_found ts i s is label = (i, is.label, is.has, sym (label is.label is.has.tokens))
 
 abbrev given : {A : Type 0} → A → Option A
 given x = Some x
 
-pub shape_only : (ts : List Tok) (i : Instr) (s : Option Tok) → ((j : Instr) → IsRowAt ts 0 4 j → given i ≡ given j) → ((t : Tok) → AreTokens i t ts → s ≡ label_of i t)
+pub shape_only : (ts : List Tok) (i : Instr) (s : Option Tok) → ((j : Instr) → IsRowAt ts 0 4 j → given i ≡ given j)
+    → ((t : Tok) → AreTokens i t ts → s ≡ label_of i t)
     → (j : Instr) (t : Tok) → HasTokens j t ts → given s ≡ given (label_of j t)
 shape_only ts i s only label j t has =
     let n = at_nearest j t ts has in
@@ -119,9 +128,11 @@ nothing_is j e = cc
 abbrev pub IsShapeFound : List Tok → Option Tok → Type 0
 IsShapeFound ts s = (i : Instr) × (t : Tok) × HasTokens i t ts × (label_of i t ≡ s)
 
-pub shape_read : {A : Type 0} (ts us : List Tok) (r : Option A) (view : A → Option Tok) → us ≡ normal ts → IfSome r (λ s. IsShapeFound us (view s)) → IfSome r (λ s. IsShapeFound (normal ts) (view s))
+pub shape_read : {A : Type 0} (ts us : List Tok) (r : Option A) (view : A → Option Tok) → us ≡ normal ts → IfSome r (λ s. IsShapeFound us (view s))
+    → IfSome r (λ s. IsShapeFound (normal ts) (view s))
 shape_read ts us r view e found = subst (λ (x : List Tok). IfSome r (λ s. IsShapeFound x (view s))) e found
 
-pub shape_alone : {A : Type 0} (ts us : List Tok) (r : Option A) (view : A → Option Tok) → us ≡ normal ts → ((i : Instr) (t : Tok) → HasTokens i t us → option_map view r ≡ Some (label_of i t))
+pub shape_alone : {A : Type 0} (ts us : List Tok) (r : Option A) (view : A → Option Tok) → us ≡ normal ts
+    → ((i : Instr) (t : Tok) → HasTokens i t us → option_map view r ≡ Some (label_of i t))
     → (i : Instr) (t : Tok) → HasTokens i t (normal ts) → option_map view r ≡ Some (label_of i t)
 shape_alone ts us r view e only i t has = only i t (subst (λ (x : List Tok). HasTokens i t x) (sym e) has)

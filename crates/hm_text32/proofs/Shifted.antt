@@ -1,5 +1,6 @@
 -- Rows of a register that is shifted: their texts ask for their codes.
-use Rattle.std.proofs.Common.{◌≡◌, ℕ, zero, suc, ◌+◌, ◌*◌, ◌/◌, ◌%◌, ◌<◌, ◌^◌, Bool, true, false, cond, eqb, List, [], ◌++◌, Some, refl, sym, ap, inl, inr, ◌∙◌, arith}
+use Rattle.std.proofs.Common.{◌≡◌, ℕ, zero, suc, ◌+◌, ◌*◌, ◌/◌, ◌%◌, ◌<◌, ◌^◌, Bool, true, false, cond, eqb, List, [], ◌++◌, Some, refl, sym, ap, inl, inr, ◌∙◌}
+use Rattle.std.proofs.Common.{arith}
 use Rattle.std.specs.Prelude.{codes, nat_eq, ◌&&◌, ◌||◌}
 use Rattle.std.proofs.lemmas.Bool.{agree_below_at, and_parts, cases_Bool, eqb-true, false≢true, or_cases}
 use Rattle.hm_isa.specs.declared.Instr.{Instr}
@@ -21,7 +22,8 @@ use Rattle.hm_text32.specs.Rows.{and_shifted, data_tokens, moved_tokens, shift_n
 use Rattle.hm_text32.specs.Stems.{carry_stem, data_stem, move_stem, shift_stem, test_stem, turn_stem, wide}
 use Rattle.hm_text_rows.specs.Shapes.{and_constant, r, three, two}
 use Rattle.hm_text_rows.proofs.Words.{below_holds, below_is, is_name, is_stem}
-use Rattle.hm_text32.proofs.Forms.{Answers, Operand, Reads, Suffix, a_register, answers_of, bare, given, kind_given, no_suffix, numbered, reads_four, reads_three, reads_three_shift, reads_two, reads_two_constant, reads_two_shift, suffix_wide}
+use Rattle.hm_text32.proofs.Forms.{Answers, Operand, Reads, Suffix, a_register, answers_of, bare, given, kind_given, no_suffix, numbered, reads_four}
+use Rattle.hm_text32.proofs.Forms.{reads_three, reads_three_shift, reads_two, reads_two_constant, reads_two_shift, suffix_wide}
 
 -- SHIFTS
 abbrev turns : ℕ → ℕ → Bool
@@ -82,19 +84,22 @@ two_shifted s f w x b c z m n ty k stem g p o ht hk =
       | inr e ↦ rw e (reads_two_shift s f w x (shift_stem ty) b c false z m n ty (shift_number ty k) stem g p o (a_kind ty ht) (number_small ty k hk))
     ]
 
-three_shifted : (s f w x y : List ℕ) (b c e : Bool) (z m n l ty k : ℕ) → is_stem s ≡ true → Suffix f z → Operand w m b → Operand x n c → Operand y l e → ty < 4 → k < 32
+three_shifted : (s f w x y : List ℕ) (b c e : Bool) (z m n l ty k : ℕ) → is_stem s ≡ true → Suffix f z → Operand w m b → Operand x n c → Operand y l e → ty < 4
+    → k < 32
     → Reads (and_shifted (three (s ++ f) (word w) (word x) (word y)) ty k) s (given false z b m n l (kind_read ty k) (number_read ty k))
 three_shifted s f w x y b c e z m n l ty k stem g p o i ht hk =
     elim (cases_Bool (turns ty k)) [
       | inl is ↦ rw is (reads_four s f w x y (codes "rrx") b c e false z m n l 3 stem g p o i rrx)
-      | inr is ↦ rw is (reads_three_shift s f w x y (shift_stem ty) b c e false z m n l ty (shift_number ty k) stem g p o i (a_kind ty ht) (number_small ty k hk))
+      | inr is ↦ rw is (reads_three_shift s f w x y (shift_stem ty) b c e false z m n l ty (shift_number ty k) stem g p o i (a_kind ty ht)
+          (number_small ty k hk))
     ]
 
 -- CODES
 abbrev data_sum : ℕ → ℕ → ℕ → ℕ → ℕ → ℕ → ℕ → ℕ → ℕ
 data_sum op s n j d l ty m = 0xea000000 + op ↑ 21 + s ↑ 20 + n ↑ 16 + j ↑ 12 + d ↑ 8 + l ↑ 6 + ty ↑ 4 + m
 
-shifted_sum : (op s n d m v x ty j l : ℕ) → v ≡ ty → x % 32 / 4 ≡ j → x % 4 ≡ l → shifted_code (0xea000000 + op ↑ 21 + s ↑ 20) n d m v x ≡ data_sum op s n j d l ty m
+shifted_sum : (op s n d m v x ty j l : ℕ) → v ≡ ty → x % 32 / 4 ≡ j → x % 4 ≡ l
+    → shifted_code (0xea000000 + op ↑ 21 + s ↑ 20) n d m v x ≡ data_sum op s n j d l ty m
 shifted_sum op s n d m v x ty j l e f g = rw (e, f, g) (omega arith)
 
 five_high : (j l : ℕ) → l < 4 → (4 * j + l) / 4 ≡ j
@@ -141,7 +146,8 @@ stem_data name (suc (suc s)) lt = absurd (omega arith)
 abbrev pub data_base : DataName → ℕ → ℕ
 data_base name s = 0xea000000 + operation name ↑ 21 + s ↑ 20
 
-asks_data : (name : DataName) (s n d m v x : ℕ) → s < 2 → code_of (data_stem name s) (given false 0 false d n m v x) ≡ Some (shifted_code (data_base name s) n d m v x)
+asks_data : (name : DataName) (s n d m v x : ℕ) → s < 2
+    → code_of (data_stem name s) (given false 0 false d n m v x) ≡ Some (shifted_code (data_base name s) n d m v x)
 unfolding code_of
 asks_data data_.And zero n d m v x lt = refl
 asks_data data_.And (suc zero) n d m v x lt = refl
@@ -182,7 +188,8 @@ data_answers : (k : Instr) (name : DataName) (s n d m ty j l : ℕ) → Fields s
     → Answers k (and_shifted (three (data_stem name s ++ wide) (r d) (r n) (r m)) ty (number_of j l))
 data_answers k name s n d m ty j l is has =
     answers_of k _ (data_sum (operation name) s n j d l ty m) (data_stem name s) _
-    (three_shifted (data_stem name s) wide _ _ _ _ _ _ _ _ _ _ ty (number_of j l) (stem_data name s is.flag) suffix_wide (a_register d is.result) (a_register n is.first) (a_register m is.last) is.kind (five_below j l is.high is.low))
+    (three_shifted (data_stem name s) wide _ _ _ _ _ _ _ _ _ _ ty (number_of j l) (stem_data name s is.flag) suffix_wide (a_register d is.result)
+    (a_register n is.first) (a_register m is.last) is.kind (five_below j l is.high is.low))
     (asks_data name s n d m _ _ is.flag ∙ ap (λ (w : ℕ). Some w) (read_sum (operation name) s n d m ty j l is.kind is.high is.low))
     has
 
@@ -194,7 +201,8 @@ stem_test data_.Add e = refl
 stem_test data_.Sub e = refl
 stem_test name e = absurd cc
 
-asks_test : (name : DataName) (n m v x : ℕ) → may_test name ≡ true → code_of (test_stem name) (given false 0 false n m v x 0) ≡ Some (shifted_code (data_base name 1) n 15 m v x)
+asks_test : (name : DataName) (n m v x : ℕ) → may_test name ≡ true
+    → code_of (test_stem name) (given false 0 false n m v x 0) ≡ Some (shifted_code (data_base name 1) n 15 m v x)
 unfolding code_of
 asks_test data_.And n m v x e = refl
 asks_test data_.Eor n m v x e = refl
@@ -219,11 +227,13 @@ test_rule name s n j l ty m e =
     and_parts (nat_eq s 1) (may_test name)
     (second_of_four (is_first name n) (is_result name s n 15) (is_general m) true (is_stack_move name s n 15 j l ty m) e (and_no _))
 
-test_answers : (k : Instr) (name : DataName) (n m ty j l : ℕ) → n < 16 → m < 16 → ty < 4 → j < 8 → l < 4 → may_test name ≡ true → HasWord k (data_sum (operation name) 1 n j 15 l ty m)
+test_answers : (k : Instr) (name : DataName) (n m ty j l : ℕ) → n < 16 → m < 16 → ty < 4 → j < 8 → l < 4 → may_test name ≡ true
+    → HasWord k (data_sum (operation name) 1 n j 15 l ty m)
     → Answers k (and_shifted (two (test_stem name ++ wide) (r n) (r m)) ty (number_of j l))
 test_answers k name n m ty j l hn hm ht hj hl may has =
     answers_of k _ (data_sum (operation name) 1 n j 15 l ty m) (test_stem name) _
-    (two_shifted (test_stem name) wide _ _ _ _ _ _ _ ty (number_of j l) (stem_test name may) suffix_wide (a_register n hn) (a_register m hm) ht (five_below j l hj hl))
+    (two_shifted (test_stem name) wide _ _ _ _ _ _ _ ty (number_of j l) (stem_test name may) suffix_wide (a_register n hn) (a_register m hm) ht
+    (five_below j l hj hl))
     (asks_test name n m _ _ may ∙ ap (λ (w : ℕ). Some w) (read_sum (operation name) 1 n 15 m ty j l ht hj hl))
     has
 
@@ -266,7 +276,8 @@ asks_carry zero d m lt = ap (λ (w : ℕ). Some w) (omega arith)
 asks_carry (suc zero) d m lt = ap (λ (w : ℕ). Some w) (omega arith)
 asks_carry (suc (suc s)) d m lt = absurd (omega arith)
 
-asks_turn : (ty s d m x : ℕ) → ty < 4 → s < 2 → code_of (turn_stem ty s) (numbered false 0 false d m x 0 0) ≡ Some (shifted_code (data_base data_.Orr s) 15 d m ty x)
+asks_turn : (ty s d m x : ℕ) → ty < 4 → s < 2
+    → code_of (turn_stem ty s) (numbered false 0 false d m x 0 0) ≡ Some (shifted_code (data_base data_.Orr s) 15 d m ty x)
 unfolding code_of
 asks_turn zero zero d m x ht lt = ap (λ (w : ℕ). Some w) (omega arith)
 asks_turn zero (suc zero) d m x ht lt = ap (λ (w : ℕ). Some w) (omega arith)
@@ -283,7 +294,8 @@ not_answers : (k : Instr) (s d m ty j l : ℕ) → Fields s 15 d m ty j l → Ha
     → Answers k (and_shifted (two (move_stem data_.Orn s ++ wide) (r d) (r m)) ty (number_of j l))
 not_answers k s d m ty j l is has =
     answers_of k _ (data_sum 3 s 15 j d l ty m) (move_stem data_.Orn s) _
-    (two_shifted (move_stem data_.Orn s) wide _ _ _ _ _ _ _ ty (number_of j l) (stem_not s is.flag) suffix_wide (a_register d is.result) (a_register m is.last) is.kind (five_below j l is.high is.low))
+    (two_shifted (move_stem data_.Orn s) wide _ _ _ _ _ _ _ ty (number_of j l) (stem_not s is.flag) suffix_wide (a_register d is.result) (a_register m is.last)
+    is.kind (five_below j l is.high is.low))
     (asks_not s d m _ _ is.flag ∙ ap (λ (w : ℕ). Some w) (read_sum 3 s 15 d m ty j l is.kind is.high is.low))
     has
 
@@ -291,7 +303,8 @@ not_answers k s d m ty j l is has =
 no_digits : (j l : ℕ) → nat_eq (number_of j l) 0 ≡ true → (j ≡ 0) × (l ≡ 0)
 no_digits j l e = let is = eqb-true (number_of j l) 0 e in (omega (arith, is), omega (arith, is))
 
-carry_answers : (k : Instr) (s d m ty j l : ℕ) → Fields s 15 d m ty j l → ty ≡ 3 → j ≡ 0 → l ≡ 0 → HasWord k (data_sum 2 s 15 j d l ty m) → Answers k (two (carry_stem s) (r d) (r m))
+carry_answers : (k : Instr) (s d m ty j l : ℕ) → Fields s 15 d m ty j l → ty ≡ 3 → j ≡ 0 → l ≡ 0 → HasWord k (data_sum 2 s 15 j d l ty m)
+    → Answers k (two (carry_stem s) (r d) (r m))
 carry_answers k s d m ty j l is ht hj hl has =
     answers_of k _ (data_sum 2 s 15 j d l ty m) (carry_stem s) _
     (bare (λ name. two name (r d) (r m)) (carry_stem s) _
@@ -316,7 +329,8 @@ turn_answers k s d m ty j l is none has =
     let kept = ap (λ (x : ℕ). x % 32 / 4) (number_kept ty (number_of j l) none) in
     let low_kept = ap (λ (x : ℕ). x % 4) (number_kept ty (number_of j l) none) in
     answers_of k _ (data_sum 2 s 15 j d l ty m) (turn_stem ty s) _
-    (reads_two_constant (turn_stem ty s) wide _ _ _ _ _ _ _ _ (stem_turn ty s is.kind is.flag) suffix_wide (a_register d is.result) (a_register m is.last) (number_small ty (number_of j l) below))
+    (reads_two_constant (turn_stem ty s) wide _ _ _ _ _ _ _ _ (stem_turn ty s is.kind is.flag) suffix_wide (a_register d is.result) (a_register m is.last)
+    (number_small ty (number_of j l) below))
     (asks_turn ty s d m _ is.kind is.flag
     ∙ ap (λ (w : ℕ). Some w)
     (shifted_sum 2 s 15 d m ty (shift_number ty (number_of j l)) ty j l refl
@@ -327,7 +341,8 @@ turn_answers k s d m ty j l is none has =
 both : (a b : Bool) → (a && b) ≡ true → (a ≡ true) × (b ≡ true)
 both a b e = and_parts a b e
 
-moved_answers : (k : Instr) (s d m ty j l : ℕ) → Fields s 15 d m ty j l → HasWord k (data_sum 2 s 15 j d l ty m) → Answers k (moved_tokens s d m ty (number_of j l))
+moved_answers : (k : Instr) (s d m ty j l : ℕ) → Fields s 15 d m ty j l → HasWord k (data_sum 2 s 15 j d l ty m)
+    → Answers k (moved_tokens s d m ty (number_of j l))
 moved_answers k s d m ty j l is has =
     elim (cases_Bool (turns ty (number_of j l))) [
       | inl e ↦
@@ -369,7 +384,8 @@ row_answers k name s n d m ty j l is e has =
           ]
     ]
 
-pub row_t2 : (i : T2) → Answers (instr.Scalar (scalar.T2 i)) (data_tokens i.name i.s.value i.n.value i.d.value i.m.value i.ty.value (4 * i.i3.value + i.i2.value))
+pub row_t2 : (i : T2) → Answers (instr.Scalar (scalar.T2 i))
+    (data_tokens i.name i.s.value i.n.value i.d.value i.m.value i.ty.value (4 * i.i3.value + i.i2.value))
 row_t2 i =
     row_answers _ i.name i.s.value i.n.value i.d.value i.m.value i.ty.value i.i3.value i.i2.value
     (record {

@@ -34,21 +34,24 @@ use Rattle.hm_isa.specs.declared.system.T21.{T21}
 use Rattle.hm_isa.specs.declared.system.T22.{T22}
 use Rattle.hm_isa.specs.Code.{code_t15, stack_base}
 use Rattle.hm_isa.specs.JumpCodes.{code_dls, code_dlstp, code_t17, table_base}
-use Rattle.hm_isa.specs.SystemCodes.{barrier_base, code_barrier, code_mrs, code_msr, code_t21, code_t22, lane_move_base, read_base, system_move_base, written_base}
+use Rattle.hm_isa.specs.SystemCodes.{barrier_base, code_barrier, code_mrs, code_msr, code_t21, code_t22, lane_move_base, read_base, system_move_base}
+use Rattle.hm_isa.specs.SystemCodes.{written_base}
 use Rattle.hm_isa.specs.Standing.{◌↑◌}
 use Rattle.hm_tokens.specs.Names.{register_in, register_name}
 use Rattle.hm_tokens.specs.Ranges.{singles}
-use Rattle.hm_tokens.specs.Tokens.{mark, number, word}
+use Rattle.hm_tokens.specs.Tokens.{number, word, close_brace, close_bracket, comma, hash_mark, minus_mark, open_brace, open_bracket}
 use Rattle.hm_text32.specs.declared.operands.Operands.{Operands}
 use Rattle.hm_text32.specs.Codes.{code_of}
 use Rattle.hm_text32.specs.Operands.{word_value}
 use Rattle.hm_text_rows.specs.Operands.{is_vector_name}
 use Rattle.hm_text32.specs.Rows.{barrier_tokens, doubles, lane_tokens, special_tokens, system_tokens, table_tokens}
 use Rattle.hm_text32.specs.Stems.{barrier_stem, double_name, element_suffix, read_name, stack_stem, wide, written_name}
-use Rattle.hm_text_rows.specs.Shapes.{comma, constant, r, two}
+use Rattle.hm_text_rows.specs.Shapes.{constant, r, two}
 use Rattle.hm_text_rows.proofs.Words.{at_below, below_holds, below_is, cut, is_name, is_stem}
-use Rattle.hm_text_rows.proofs.Printed.{is_printed, is_printed_as, short_close, short_close_brace, short_comma, short_hash, short_minus, short_number, short_open, short_open_brace, short_word}
-use Rattle.hm_text32.proofs.Forms.{Answers, Operand, Reads, Suffix, a_register, a_vector, answers_of, bare, given, min_small, no_suffix, numbered, reads_constant, reads_none, reads_two, suffix_element, suffix_wide, suffix_words, second_numbered}
+use Rattle.hm_text_rows.proofs.Printed.{is_printed, is_printed_as, short_close, short_close_brace, short_comma, short_hash, short_minus, short_number}
+use Rattle.hm_text_rows.proofs.Printed.{short_open, short_open_brace, short_word}
+use Rattle.hm_text32.proofs.Forms.{Answers, Operand, Reads, Suffix, a_register, a_vector, answers_of, bare, given, min_small, no_suffix, numbered}
+use Rattle.hm_text32.proofs.Forms.{reads_constant, reads_none, reads_two, suffix_element, suffix_wide, suffix_words, second_numbered}
 
 -- T15
 stem_stack : (name : StackName) → is_stem (stack_stem name) ≡ true
@@ -64,11 +67,12 @@ a_double n lt = record {
 }
 
 reads_doubles : (s w x : List ℕ) (b c : Bool) (m n : ℕ) → is_stem s ≡ true → Operand w m b → Operand x n c → register_in w ≡ None → register_in x ≡ None
-    → Reads (word (s ++ []) ∷ mark 123 ∷ word w ∷ mark 45 ∷ word x ∷ mark 125 ∷ []) s (given false 0 b m n 0 0 0)
+    → Reads (word (s ++ []) ∷ open_brace ∷ word w ∷ minus_mark ∷ word x ∷ close_brace ∷ []) s (given false 0 b m n 0 0 0)
 unfolding singles
 reads_doubles s w x b c m n stem p o hw hx = record {
   asks = rw (cut s [] stem no_suffix.is, no_suffix.size, p.vector, p.value, o.value) refl;
-  prints = is_printed_as s [] _ stem refl (short_open_brace, (short_word w p.is, (short_minus, (short_word x o.is, (short_close_brace, tt))))) refl (omega arith) (rw (hw, hx) refl);
+  prints = is_printed_as s [] _ stem refl (short_open_brace, (short_word w p.is, (short_minus, (short_word x o.is, (short_close_brace, tt))))) refl
+      (omega arith) (rw (hw, hx) refl);
 }
 
 no_register : (n : ℕ) → n < 16 → register_in (double_name n) ≡ None
@@ -80,7 +84,8 @@ no_register n lt =
 last_and_one : (v k : ℕ) → 0 < k → v + k - 1 + 1 - v ≡ k
 last_and_one v k lt = omega arith
 
-asks_stack : (name : StackName) (v w k : ℕ) → w + 1 - v ≡ k → code_of (stack_stem name) (given false 0 false v w 0 0 0) ≡ Some (stack_base name + v ↑ 12 + k ↑ 1)
+asks_stack : (name : StackName) (v w k : ℕ) → w + 1 - v ≡ k
+    → code_of (stack_stem name) (given false 0 false v w 0 0 0) ≡ Some (stack_base name + v ↑ 12 + k ↑ 1)
 unfolding code_of
 asks_stack stack.Vpush v w k e = rw e refl
 asks_stack stack.Vpop v w k e = rw e refl
@@ -97,24 +102,30 @@ row_t15 i =
     let p = some_doubles v k i.rules in
     answers_of _ _ (code_t15 i) _ _
     (bare (λ name. word name ∷ doubles v k) (stack_stem i.name) _
-    (reads_doubles _ _ _ _ _ _ _ (stem_stack i.name) (a_double v i.v.in_range) (a_double (v + k - 1) (omega (arith, p.0, p.1))) (no_register v i.v.in_range) (no_register (v + k - 1) (omega (arith, p.0, p.1)))))
+    (reads_doubles _ _ _ _ _ _ _ (stem_stack i.name) (a_double v i.v.in_range) (a_double (v + k - 1) (omega (arith, p.0, p.1))) (no_register v i.v.in_range)
+    (no_register (v + k - 1) (omega (arith, p.0, p.1)))))
     (asks_stack i.name v (v + k - 1) k (last_and_one v k p.0)) refl
 
 -- T17
 reads_table : (s w x : List ℕ) (b c : Bool) (m n : ℕ) → is_stem s ≡ true → Operand w m b → Operand x n c
-    → Reads (word (s ++ []) ∷ mark 91 ∷ word w ∷ comma ∷ word x ∷ mark 93 ∷ []) s (given false 0 b m n 0 0 0)
+    → Reads (word (s ++ []) ∷ open_bracket ∷ word w ∷ comma ∷ word x ∷ close_bracket ∷ []) s (given false 0 b m n 0 0 0)
 reads_table s w x b c m n stem p o = record {
   asks = rw (cut s [] stem no_suffix.is, no_suffix.size, p.vector, p.value, o.value) refl;
   prints = is_printed s [] _ stem refl (short_open, (short_word w p.is, (short_comma, (short_word x o.is, (short_close, tt))))) refl (omega arith) refl;
 }
 
 reads_scaled_table : (s w x k : List ℕ) (b c e : Bool) (m n v : ℕ) → is_stem s ≡ true → Operand w m b → Operand x n c → Operand k v e
-    → Reads (word (s ++ []) ∷ mark 91 ∷ word w ∷ comma ∷ word x ∷ comma ∷ word k ∷ mark 35 ∷ number 1 ∷ mark 93 ∷ []) s (given false 0 b m n v 1 0)
+    → Reads (word (s ++ []) ∷ open_bracket ∷ word w ∷ comma ∷ word x ∷ comma ∷ word k ∷ hash_mark ∷ number 1 ∷ close_bracket ∷ []) s (given false 0 b m n v 1 0)
 reads_scaled_table s w x k b c e m n v stem p o t = record {
   asks = rw (cut s [] stem no_suffix.is, no_suffix.size, p.vector, p.value, o.value, t.value) refl;
   prints =
-      is_printed s [] _ stem refl
-      (short_open, (short_word w p.is, (short_comma, (short_word x o.is, (short_comma, (short_word k t.is, (short_hash, (short_number 1 (omega arith), (short_close, tt)))))))))
+      is_printed s [] _ stem refl (
+        short_open,
+        (
+          short_word w p.is,
+          (short_comma, (short_word x o.is, (short_comma, (short_word k t.is, (short_hash, (short_number 1 (omega arith), (short_close, tt))))))),
+        ),
+      )
       refl (omega arith) refl;
 }
 
@@ -133,7 +144,8 @@ asks_tbh n m = ap (λ (w : ℕ). Some w) (omega arith)
 abbrev table_sum : TableName → ℕ → ℕ → ℕ
 table_sum name n m = table_base name + n ↑ 16 + m
 
-table_reads : (name : TableName) (n m : ℕ) → n < 16 → m < 16 → (s : List ℕ) × (o : Operands) × Reads (table_tokens name n m) s o × (code_of s o ≡ Some (table_sum name n m))
+table_reads : (name : TableName) (n m : ℕ) → n < 16 → m < 16
+    → (s : List ℕ) × (o : Operands) × Reads (table_tokens name n m) s o × (code_of s o ≡ Some (table_sum name n m))
 table_reads table.Tbb n m hn hm =
     (codes "tbb", given false 0 false n m 0 0 0, reads_table (codes "tbb") _ _ _ _ _ _ refl (a_register n hn) (a_register m hm), asks_tbb n m)
 table_reads table.Tbh n m hn hm =
@@ -295,7 +307,7 @@ row_t21 i =
 
 -- T22
 reads_to_lane : (s f w y : List ℕ) (b c : Bool) (z d x t : ℕ) → is_stem s ≡ true → Suffix f z → Operand w d b → x < 2 ^ 32 → Operand y t c
-    → Reads (word (s ++ f) ∷ word w ∷ mark 91 ∷ number x ∷ mark 93 ∷ comma ∷ word y ∷ []) s (second_numbered false z b d x t 0 0)
+    → Reads (word (s ++ f) ∷ word w ∷ open_bracket ∷ number x ∷ close_bracket ∷ comma ∷ word y ∷ []) s (second_numbered false z b d x t 0 0)
 reads_to_lane s f w y b c z d x t stem g p hx o = record {
   asks = rw (cut s f stem g.is, g.size, p.vector, p.value, o.value, min_small x hx) refl;
   prints =
@@ -304,7 +316,7 @@ reads_to_lane s f w y b c z d x t stem g p hx o = record {
 }
 
 reads_from_lane : (s f w y : List ℕ) (b c : Bool) (z d x t : ℕ) → is_stem s ≡ true → Suffix f z → Operand w d b → x < 2 ^ 32 → Operand y t c
-    → Reads (word (s ++ f) ∷ word y ∷ comma ∷ word w ∷ mark 91 ∷ number x ∷ mark 93 ∷ []) s (numbered false z c t d x 0 0)
+    → Reads (word (s ++ f) ∷ word y ∷ comma ∷ word w ∷ open_bracket ∷ number x ∷ close_bracket ∷ []) s (numbered false z c t d x 0 0)
 reads_from_lane s f w y b c z d x t stem g p hx o = record {
   asks = rw (cut s f stem g.is, g.size, o.vector, p.value, o.value, min_small x hx) refl;
   prints =
@@ -360,7 +372,8 @@ row_dls i =
 pub row_dlstp : (i : Dlstp) → Answers (instr.Branch (branch.T23 (t23.Dlstp i))) (two (codes "dlstp" ++ element_suffix i.z.value) (r 14) (r i.n.value))
 row_dlstp i =
     answers_of _ _ (code_dlstp i) (codes "dlstp") _
-    (reads_two (codes "dlstp") _ _ _ _ _ _ _ _ refl (suffix_element i.z.value i.z.in_range) (a_register 14 lr_small) (a_register i.n.value i.n.in_range)) (asks_dlstp i.z.value _) refl
+    (reads_two (codes "dlstp") _ _ _ _ _ _ _ _ refl (suffix_element i.z.value i.z.in_range) (a_register 14 lr_small) (a_register i.n.value i.n.in_range))
+    (asks_dlstp i.z.value _) refl
 
 pub row_lctp : Answers (instr.Branch (branch.T23 t23.Lctp)) (word (codes "lctp") ∷ [])
 row_lctp = answers_of _ _ 0xf00fe001 (codes "lctp") _ (reads_none (codes "lctp") [] 0 refl no_suffix) asks_lctp refl

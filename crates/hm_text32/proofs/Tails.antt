@@ -1,5 +1,6 @@
 -- Whether tokens are a row's, and the last of them.
-use Rattle.std.proofs.Common.{◌≡◌, ℕ, Bool, true, false, List, [], ◌∷◌, ◌++◌, length, length-append, Option, Some, None, refl, sym, subst, ap, inl, inr, ◌∙◌, arith}
+use Rattle.std.proofs.Common.{◌≡◌, ℕ, Bool, true, false, List, [], ◌∷◌, ◌++◌, length, length-append, Option, Some, None, refl, sym, subst, ap, inl, inr, ◌∙◌}
+use Rattle.std.proofs.Common.{arith}
 use Rattle.std.specs.Prelude.{◌↔◌, IsTrue}
 use Rattle.std.proofs.lemmas.Bool.{false≢true}
 use Rattle.hm_isa.specs.declared.Instr.{Instr}
@@ -32,7 +33,8 @@ printed_ones : (i : Instr) (t : Tok) (ts : List Tok) → has_label i ≡ true �
 printed_ones i t ts e (inl is) = sym (with_label i t e) ∙ is
 printed_ones i t ts e (inr other) = absurd (no_other i ts e other)
 
-pub labelled_yes : (i : Instr) (ts front row : List Tok) (last : Tok) (c : Bool) → IsWide i → has_label i ≡ true → ts ≡ front ++ last ∷ [] → row ≡ row_tokens i → IsLabel last → (IsTrue c ↔ (front ≡ row)) → IsTrue c ↔ Has i ts
+pub labelled_yes : (i : Instr) (ts front row : List Tok) (last : Tok) (c : Bool) → IsWide i → has_label i ≡ true → ts ≡ front ++ last ∷ [] → row ≡ row_tokens i
+    → IsLabel last → (IsTrue c ↔ (front ≡ row)) → IsTrue c ↔ Has i ts
 labelled_yes i ts front row last c wide e split is_row label has = (
   λ true_. (
     last,
@@ -70,15 +72,19 @@ pub other_yes : (i : Instr) (ts : List Tok) → IsWide i → other_tokens i ≡ 
 other_yes i ts wide other = (number 0, record { wide = wide; label = some_label; tokens = inr other })
 
 -- of tokens that are the printed text, and of others
-pub plain_then : (i : Instr) (ts row : List Tok) (b : Bool) → IsWide i → has_label i ≡ false → row ≡ row_tokens i → (IsTrue b ↔ (ts ≡ row)) → b ≡ true → IsTrue b ↔ Has i ts
+pub plain_then : (i : Instr) (ts row : List Tok) (b : Bool) → IsWide i → has_label i ≡ false → row ≡ row_tokens i → (IsTrue b ↔ (ts ≡ row)) → b ≡ true
+    → IsTrue b ↔ Has i ts
 plain_then i ts row b wide e is_row has yes_ = (λ true_. plain_yes i ts row b wide e is_row has yes_, λ h. yes_)
 
-other_of : (i : Instr) (ts row : List Tok) (b c : Bool) (t : Tok) → has_label i ≡ false → row ≡ row_tokens i → (IsTrue b ↔ (ts ≡ row)) → b ≡ false → (IsTrue c ↔ (other_tokens i ≡ Some ts)) → AreTokens i t ts → IsTrue c
+other_of : (i : Instr) (ts row : List Tok) (b c : Bool) (t : Tok) → has_label i ≡ false → row ≡ row_tokens i → (IsTrue b ↔ (ts ≡ row)) → b ≡ false
+    → (IsTrue c ↔ (other_tokens i ≡ Some ts)) → AreTokens i t ts → IsTrue c
 other_of i ts row b c t e is_row has not other (inl is) = absurd (false≢true (sym not ∙ has.1 (sym is ∙ without_label i t e ∙ sym is_row)))
 other_of i ts row b c t e is_row has not other (inr is) = other.1 is
 
-pub plain_else : (i : Instr) (ts row : List Tok) (b c : Bool) → IsWide i → has_label i ≡ false → row ≡ row_tokens i → (IsTrue b ↔ (ts ≡ row)) → b ≡ false → (IsTrue c ↔ (other_tokens i ≡ Some ts)) → IsTrue c ↔ Has i ts
-plain_else i ts row b c wide e is_row has not other = (λ true_. other_yes i ts wide (other.0 true_), λ h. other_of i ts row b c h.0 e is_row has not other h.1.tokens)
+pub plain_else : (i : Instr) (ts row : List Tok) (b c : Bool) → IsWide i → has_label i ≡ false → row ≡ row_tokens i → (IsTrue b ↔ (ts ≡ row)) → b ≡ false
+    → (IsTrue c ↔ (other_tokens i ≡ Some ts)) → IsTrue c ↔ Has i ts
+plain_else i ts row b c wide e is_row has not other =
+    (λ true_. other_yes i ts wide (other.0 true_), λ h. other_of i ts row b c h.0 e is_row has not other h.1.tokens)
 
 pub at_yes : (i : Instr) (ts : List Tok) (pc a : ℕ) (c : Bool) → Has i ts → (IsTrue c ↔ Reaches (target i pc) a) → IsTrue c ↔ IsRowAt ts pc a i
 at_yes i ts pc a c has reaches = (
@@ -102,7 +108,8 @@ some_of t = Some t
 pub label_none : (i : Instr) (ts : List Tok) → has_label i ≡ false → (t : Tok) → AreTokens i t ts → none_of ≡ label_of i t
 label_none i ts e t is = rw e refl
 
-pub label_last : (i : Instr) (ts front : List Tok) (last : Tok) → has_label i ≡ true → ts ≡ front ++ last ∷ [] → (t : Tok) → AreTokens i t ts → some_of last ≡ label_of i t
+pub label_last : (i : Instr) (ts front : List Tok) (last : Tok) → has_label i ≡ true → ts ≡ front ++ last ∷ [] → (t : Tok) → AreTokens i t ts
+    → some_of last ≡ label_of i t
 label_last i ts front last e split t is =
     let same : t ≡ last = (last_one (row_tokens i) front t last (printed_ones i t ts e is ∙ split)).1 in
     rw e (ap some_of (sym same))

@@ -1,5 +1,6 @@
 -- The code that a text carelessly asks for: what decides is whether the row that has this code has the text.
-use Rattle.std.specs.Prelude.{ℕ, zero, suc, Bool, ◌+◌, ◌-◌, ◌*◌, ◌/◌, ◌%◌, ◌^◌, ◌&&◌, List, [], ◌∷◌, length, Option, Some, None, option_map, codes, bytes_eq, nat_lt, ◌==◌, if◌then◌else◌}
+use Rattle.std.specs.Prelude.{ℕ, zero, suc, Bool, ◌+◌, ◌-◌, ◌*◌, ◌/◌, ◌%◌, ◌^◌, ◌&&◌, List, [], ◌∷◌, length, Option, Some, None, option_map, codes, bytes_eq}
+use Rattle.std.specs.Prelude.{nat_lt, ◌==◌, if◌then◌else◌}
 use Rattle.hm_isa.specs.Standing.{◌↑◌}
 use Rattle.hm_text_base.specs.Spans.{span}
 use Rattle.hm_tokens.specs.Tokens.{Tok, word, number, mark}
@@ -7,7 +8,9 @@ use Rattle.hm_text_rows.specs.Labels.{distance}
 use Rattle.hm_text_rows.specs.Operands.{bits_of, braced, branch_condition_in, first, operand, size_of}
 use Rattle.hm_text32.specs.declared.operands.Operands.{Operands}
 use Rattle.hm_text32.specs.declared.operands.Places.{Places}
-use Rattle.hm_text32.specs.Bases.{access_base_in, accumulate_base_in, barrier_base_in, branch_base_in, data_base_in, extend_base_in, extract_base_in, flagged_base_in, half_base_in, list_base_in, long_base_in, move_base_in, pair_base_in, select_base_in, stack_base_in, table_base_in, test_base_in, three_base, turn_base_in, two_base, wide_sum_base_in}
+use Rattle.hm_text32.specs.Bases.{access_base_in, accumulate_base_in, barrier_base_in, branch_base_in, data_base_in, extend_base_in, extract_base_in}
+use Rattle.hm_text32.specs.Bases.{flagged_base_in, half_base_in, list_base_in, long_base_in, move_base_in, pair_base_in, select_base_in, stack_base_in}
+use Rattle.hm_text32.specs.Bases.{table_base_in, test_base_in, three_base, turn_base_in, two_base, wide_sum_base_in}
 use Rattle.hm_text32.specs.Operands.{read_operands, read_places, second_bang, value}
 
 -- FIELDS AT THEIR PLACES
@@ -175,7 +178,8 @@ lane_code base d x t = base + (x % 2) ↑ 21 + d ↑ 17 + (x / 2) ↑ 16 + t ↑
 -- (DDI0553, "VMOV (general-purpose register to vector lane)" and "VMOV (vector lane to general-purpose register)")
 abbrev pub code_lane : List ℕ → Operands → Option ℕ
 code_lane s o =
-    if bytes_eq s (codes "vmov") then Some (if o.is_vector then lane_code 0xee000b10 o.first o.second o.third else lane_code 0xee100b10 o.second o.third o.first)
+    if bytes_eq s (codes "vmov") then Some
+    (if o.is_vector then lane_code 0xee000b10 o.first o.second o.third else lane_code 0xee100b10 o.second o.third o.first)
     else None
 
 -- T19 and T23: the code of NOP, which is wide, and of DLS, DLSTP and LCTP (DDI0553, "NOP", "WLS, DLS, WLSTP, DLSTP" and "LCTP")
@@ -277,7 +281,8 @@ same_bit x s = (x + s + 1) % 2
 -- T16: the code of B under no condition or BL, where f is half the distance, s:I1:I2:i10:i11 (DDI0553, "B", encoding T4, and "BL", encoding T1)
 abbrev pub always_code : ℕ → ℕ → ℕ
 always_code base f =
-    base + (f / 2 ^ 23 % 2) ↑ 26 + (f / 2 ^ 11 % 1024) ↑ 16 + same_bit (f / 2 ^ 22 % 2) (f / 2 ^ 23 % 2) ↑ 13 + same_bit (f / 2 ^ 21 % 2) (f / 2 ^ 23 % 2) ↑ 11 + f % 2 ^ 11
+    base + (f / 2 ^ 23 % 2) ↑ 26 + (f / 2 ^ 11 % 1024) ↑ 16 + same_bit (f / 2 ^ 22 % 2) (f / 2 ^ 23 % 2) ↑ 13 + same_bit (f / 2 ^ 21 % 2) (f / 2 ^ 23 % 2) ↑ 11
+    + f % 2 ^ 11
 
 -- T16: the code of B with a condition that stands at pc and goes to the address a (DDI0553, "B", encoding T3)
 abbrev pub code_conditional : List ℕ → ℕ → ℕ → Option ℕ

@@ -33,10 +33,14 @@ use Rattle.hm_isa.specs.declared.system.SystemMoveName.TheVariants as move
 use Rattle.hm_isa.specs.declared.system.LaneMoveName.{LaneMoveName}
 use Rattle.hm_isa.specs.declared.system.LaneMoveName.TheVariants as lane
 use Rattle.hm_tokens.specs.Names.{condition_name, register_name}
-use Rattle.hm_tokens.specs.Tokens.{Tok, word, number, mark}
-use Rattle.hm_text_rows.specs.Shapes.{and_constant, and_operand, and_shift, back, braces, comma, constant, four, indexed, inside, one, or_zero, q, r, scaled, three, two}
+use Rattle.hm_tokens.specs.Tokens.{Tok, word, number, close_brace, close_bracket, comma, minus_mark, open_brace, open_bracket}
+use Rattle.hm_text_rows.specs.Shapes.{and_constant, and_operand, and_shift, back, braces, constant, four, indexed, inside, one, or_zero, q, r, scaled, three}
+use Rattle.hm_text_rows.specs.Shapes.{two}
 use Rattle.hm_isa.specs.Words.{expand_imm_c, imm12}
-use Rattle.hm_text32.specs.Stems.{access_stem, accumulate_stem, barrier_stem, bits_stem, bits_suffix, carry_stem, data_stem, double_name, element_suffix, extend_stem, extract_stem, half_stem, long_stem, move_stem, operation_stem, pair_stem, read_name, saturate_shift, saturate_stem, select_stem, shift_stem, stack_stem, test_stem, turn_stem, wide, wide_branch_stem, wide_list_stem, wide_list_suffix, wide_shift_stem, wide_sum_stem, written_name}
+use Rattle.hm_text32.specs.Stems.{access_stem, accumulate_stem, barrier_stem, bits_stem, bits_suffix, carry_stem, data_stem, double_name, element_suffix}
+use Rattle.hm_text32.specs.Stems.{extend_stem, extract_stem, half_stem, long_stem, move_stem, operation_stem, pair_stem, read_name, saturate_shift}
+use Rattle.hm_text32.specs.Stems.{saturate_stem, select_stem, shift_stem, stack_stem, test_stem, turn_stem, wide, wide_branch_stem, wide_list_stem}
+use Rattle.hm_text32.specs.Stems.{wide_list_suffix, wide_shift_stem, wide_sum_stem, written_name}
 
 -- DATA
 -- T1: the constant that the fields i, i3 and i8 stand for (DDI0553, "Data-processing (modified immediate)")
@@ -132,7 +136,7 @@ list_start name w n = word name ∷ r n ∷ (back w ++ comma ∷ [])
 
 -- T15: the registers of VPUSH and VPOP, `{dv-dw}` of k registers (DDI0553, "VPUSH" and "VPOP")
 abbrev pub doubles : ℕ → ℕ → List Tok
-doubles v k = mark 123 ∷ word (double_name v) ∷ mark 45 ∷ word (double_name (v + k - 1)) ∷ mark 125 ∷ []
+doubles v k = open_brace ∷ word (double_name v) ∷ minus_mark ∷ word (double_name (v + k - 1)) ∷ close_brace ∷ []
 
 -- T18: the tokens of MRS and MSR (DDI0553, "MRS" and "MSR (register)")
 abbrev pub special_tokens : SpecialRow → List Tok
@@ -159,7 +163,7 @@ system_tokens move.WriteP0 t = two (codes "vmsr") (word (codes "p0")) (r t)
 
 -- T22: a word of a vector register, `qd[x]` (DDI0553, "VMOV (general-purpose register to vector lane)" and "VMOV (vector lane to general-purpose register)")
 abbrev pub lane_of : ℕ → ℕ → List Tok
-lane_of d x = q d ∷ mark 91 ∷ number x ∷ mark 93 ∷ []
+lane_of d x = q d ∷ open_bracket ∷ number x ∷ close_bracket ∷ []
 
 -- T22: the tokens of VMOV between a core register and a word of a vector
 -- (DDI0553, "VMOV (general-purpose register to vector lane)" and "VMOV (vector lane to general-purpose register)")
@@ -194,8 +198,8 @@ scalar_tokens i = []
 
 -- T17: the tokens of TBB and TBH, `tbb [rn,rm]`, `tbh [rn,rm,lsl #1]` (DDI0553, "TBB, TBH")
 abbrev pub table_tokens : TableName → ℕ → ℕ → List Tok
-table_tokens table.Tbb n m = word (codes "tbb") ∷ mark 91 ∷ r n ∷ comma ∷ r m ∷ mark 93 ∷ []
-table_tokens table.Tbh n m = word (codes "tbh") ∷ mark 91 ∷ r n ∷ comma ∷ r m ∷ comma ∷ word (codes "lsl") ∷ (constant 1 ++ mark 93 ∷ [])
+table_tokens table.Tbb n m = word (codes "tbb") ∷ open_bracket ∷ r n ∷ comma ∷ r m ∷ close_bracket ∷ []
+table_tokens table.Tbh n m = word (codes "tbh") ∷ open_bracket ∷ r n ∷ comma ∷ r m ∷ comma ∷ word (codes "lsl") ∷ (constant 1 ++ close_bracket ∷ [])
 
 -- LABELS: what stands before them
 -- T16: the tokens of B and BL before the label, `beq.w label` and so on, `b.w label`, `bl label` (DDI0553, "B", encodings T3 and T4, and "BL")

@@ -1,7 +1,9 @@
 //! Stems of mnemonics: the codes that their rows begin from.
 
 ghost use Rattle.std.specs.Prelude.{◌≡◌};
-ghost use Rattle.hm_text32.specs.Bases.{access_base_in, accumulate_base_in, barrier_base_in, branch_base_in, data_base_in, extend_base_in, extract_base_in, flagged_base_in, half_base_in, list_base_in, long_base_in, move_base_in, pair_base_in, select_base_in, stack_base_in, table_base_in, test_base_in, three_base, turn_base_in, two_base, wide_sum_base_in};
+ghost use Rattle.hm_text32.specs.Bases.{access_base_in, accumulate_base_in, barrier_base_in, branch_base_in, data_base_in, extend_base_in, extract_base_in};
+ghost use Rattle.hm_text32.specs.Bases.{flagged_base_in, half_base_in, list_base_in, long_base_in, move_base_in, pair_base_in, select_base_in, stack_base_in};
+ghost use Rattle.hm_text32.specs.Bases.{table_base_in, test_base_in, three_base, turn_base_in, two_base, wide_sum_base_in};
 
 use hm_text_rows::is;
 

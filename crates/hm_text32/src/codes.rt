@@ -1,7 +1,11 @@
 //! The code that a text carelessly asks for: what decides is whether the row that has this code has the text.
 
 ghost use Rattle.std.specs.Prelude.{◌≡◌, ◌<◌, ◌^◌, map};
-ghost use Rattle.hm_text32.specs.Codes.{code_accumulate, code_alone, code_barrier, code_constant, code_constant_data, code_constant_move, code_constant_test, code_cut, code_data, code_extend, code_extract, code_half, code_in, code_insert, code_lane, code_long, code_move, code_of, code_of_arith, code_of_data, code_of_other, code_saturate, code_select, code_shifted, code_special, code_stack, code_table, code_test, code_three, code_turn, code_two, code_wide_sum, constant_code, insert_code, lane_code, of_three, plain_code_in, saturate_code, shifted_code};
+ghost use Rattle.hm_text32.specs.Codes.{code_accumulate, code_alone, code_barrier, code_constant, code_constant_data, code_constant_move, code_constant_test};
+ghost use Rattle.hm_text32.specs.Codes.{code_cut, code_data, code_extend, code_extract, code_half, code_in, code_insert, code_lane, code_long, code_move};
+ghost use Rattle.hm_text32.specs.Codes.{code_of, code_of_arith, code_of_data, code_of_other, code_saturate, code_select, code_shifted, code_special};
+ghost use Rattle.hm_text32.specs.Codes.{code_stack, code_table, code_test, code_three, code_turn, code_two, code_wide_sum, constant_code, insert_code};
+ghost use Rattle.hm_text32.specs.Codes.{lane_code, of_three, plain_code_in, saturate_code, shifted_code};
 ghost use Rattle.hm_text_rows.specs.Operands.{first};
 ghost use Rattle.hm_text32.specs.Bases.{data_base_in, flagged_base_in};
 ghost use Rattle.hm_text_base.specs.Spans.{span};

@@ -1,7 +1,8 @@
 //! The codes that texts of rows with a label carelessly ask for.
 
 ghost use Rattle.std.specs.Prelude.{◌≡◌, ◌<◌, ◌^◌, map};
-ghost use Rattle.hm_text32.specs.Codes.{ahead, always_code, behind_it, code_always, code_conditional, code_loop, code_of_label, conditional_code, label_code_in, same_bit, with_field};
+ghost use Rattle.hm_text32.specs.Codes.{ahead, always_code, behind_it, code_always, code_conditional, code_loop, code_of_label, conditional_code};
+ghost use Rattle.hm_text32.specs.Codes.{label_code_in, same_bit, with_field};
 ghost use Rattle.hm_text_base.specs.Spans.{span};
 ghost use Rattle.hm_tokens.specs.Tokens.{tok};
 

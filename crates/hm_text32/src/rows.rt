@@ -5,10 +5,11 @@ ghost use Rattle.hm_enc32.specs.Table.{IsWide};
 ghost use Rattle.hm_isa.specs.Code.{branch_halves, scalar_halves};
 ghost use Rattle.hm_isa.specs.declared.Scalar.TheVariants as scalar;
 ghost use Rattle.hm_isa.specs.declared.Branch.TheVariants as branch;
-ghost use Rattle.hm_text32.specs.Rows.{and_shifted, and_turn, branch_tokens, flags_or, is_by_carry, is_unshifted, lane_tokens, loop_end_tokens, moved_tokens, row_tokens, saturated_bits, scalar_tokens, shift_number, single_tokens, system_tokens};
-ghost use Rattle.hm_text_rows.specs.Shapes.{comma, r};
+ghost use Rattle.hm_text32.specs.Rows.{and_shifted, and_turn, branch_tokens, flags_or, is_by_carry, is_unshifted, lane_tokens, loop_end_tokens, moved_tokens};
+ghost use Rattle.hm_text32.specs.Rows.{row_tokens, saturated_bits, scalar_tokens, shift_number, single_tokens, system_tokens};
+ghost use Rattle.hm_text_rows.specs.Shapes.{r};
 ghost use Rattle.hm_tokens.specs.Texts.{part_token, text_tokens};
-ghost use Rattle.hm_tokens.specs.Tokens.{mark, number, word};
+ghost use Rattle.hm_tokens.specs.Tokens.{number, word, close_bracket, comma, open_bracket};
 
 use crate::constants::constant_in;
 use crate::memory::{text_t12, text_t13, text_t14};
@@ -353,7 +354,7 @@ fn text_t21(i: &T21) -> InstrText
 /// The text with a lane more: `[x]`.
 fn lane(mut text: InstrText, x: u32) -> InstrText
     requires { length text.operands.items ≤ 30 }
-    ensures tokens { text_tokens result ≡ text_tokens text ++ mark 91 ∷ number x ∷ mark 93 ∷ [] }
+    ensures tokens { text_tokens result ≡ text_tokens text ++ open_bracket ∷ number x ∷ close_bracket ∷ [] }
     ensures room { length result.operands.items ≡ length text.operands.items + 3 }
 {
     text.operands.push(Part::Mark(Mark::OpenBracket));
@@ -381,7 +382,7 @@ fn text_t22(i: &T22) -> InstrText
 
 /// A mnemonic and `[rn,rm`.
 fn base_and_index(stem: &'static str, n: Register, m: Register) -> InstrText
-    ensures tokens { text_tokens result ≡ word stem.now ∷ mark 91 ∷ r n.value ∷ comma ∷ r m.value ∷ [] }
+    ensures tokens { text_tokens result ≡ word stem.now ∷ open_bracket ∷ r n.value ∷ comma ∷ r m.value ∷ [] }
     ensures room { length result.operands.items ≡ 4 }
 {
     let mut text = first(alone(stem, "", ""), Part::Mark(Mark::OpenBracket));

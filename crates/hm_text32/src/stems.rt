@@ -1,7 +1,10 @@
 //! The stems of the mnemonics of rows of two halfwords, and the names of special registers.
 
 ghost use Rattle.std.specs.Prelude.{◌≡◌, ◌<◌};
-ghost use Rattle.hm_text32.specs.Stems.{access_stem, accumulate_stem, barrier_stem, bits_stem, bits_suffix, carry_stem, data_stem, double_in, double_name, element_suffix, extend_stem, extract_stem, half_stem, long_stem, move_stem, operation_stem, pair_stem, read_name, saturate_shift, saturate_stem, select_stem, shift_stem, stack_stem, test_stem, turn_stem, wide_branch_stem, wide_list_stem, wide_list_suffix, wide_shift_stem, wide_sum_stem, written_name};
+ghost use Rattle.hm_text32.specs.Stems.{access_stem, accumulate_stem, barrier_stem, bits_stem, bits_suffix, carry_stem, data_stem, double_in, double_name};
+ghost use Rattle.hm_text32.specs.Stems.{element_suffix, extend_stem, extract_stem, half_stem, long_stem, move_stem, operation_stem, pair_stem, read_name};
+ghost use Rattle.hm_text32.specs.Stems.{saturate_shift, saturate_stem, select_stem, shift_stem, stack_stem, test_stem, turn_stem, wide_branch_stem};
+ghost use Rattle.hm_text32.specs.Stems.{wide_list_stem, wide_list_suffix, wide_shift_stem, wide_sum_stem, written_name};
 
 use hm_isa::{
     AccessName, AccumulateName, BarrierName, Below, Bit, BitsName, DataName, ExtendName,

@@ -1,5 +1,6 @@
 -- Numbers that are read are the ones that were written, and back.
-use Rattle.std.proofs.Common.{◌≡◌, ◌≢◌, ℕ, zero, suc, ◌+◌, ◌-◌, ◌*◌, ◌/◌, ◌%◌, ◌^◌, ◌<◌, ◌≤◌, true, false, cond, eqb, ltb, List, [], ◌∷◌, ◌++◌, length, get_or, Some, None, refl, sym, ap, subst, ◌∙◌, arith, add-zero, append_assoc, rules}
+use Rattle.std.proofs.Common.{◌≡◌, ◌≢◌, ℕ, zero, suc, ◌+◌, ◌-◌, ◌*◌, ◌/◌, ◌%◌, ◌^◌, ◌<◌, ◌≤◌, true, false, cond, eqb, ltb, List, [], ◌∷◌, ◌++◌, length, get_or}
+use Rattle.std.proofs.Common.{Some, None, refl, sym, ap, subst, ◌∙◌, arith, add-zero, append_assoc, rules}
 use Rattle.std.specs.Prelude.{decimal, option_and_then, ◌&&◌, ◌||◌}
 use Rattle.std.specs.Char.{is_ascii_digit}
 use Rattle.std.specs.Str.{all_ascii_digits}
@@ -51,7 +52,8 @@ hex_found (c ∷ cs) n k m e =
     let high : (n * 16 + a.0) / 16 ≡ n = omega (arith, d.1) in
     let low : (n * 16 + a.0) % 16 ≡ a.0 = omega (arith, d.1) in
     let len : k + suc (length cs) ≡ suc k + length cs = omega arith in
-    let last : (hex k ((n * 16 + a.0) / 16) ++ hex_digit ((n * 16 + a.0) % 16) ∷ []) ++ cs ≡ hex k n ++ c ∷ cs = rw (high, low, d.0) (append_assoc (hex k n) (c ∷ []) cs) in
+    let last : (hex k ((n * 16 + a.0) / 16) ++ hex_digit ((n * 16 + a.0) % 16) ∷ []) ++ cs ≡ hex k n ++ c ∷ cs =
+    rw (high, low, d.0) (append_assoc (hex k n) (c ∷ []) cs) in
     ap (λ (j : ℕ). hex j m) len ∙ rest ∙ last
 
 hex_again : (k n m : ℕ) (rest : List ℕ) → n < 16 ^ k → hex_in m (hex k n ++ rest) ≡ hex_in (m * 16 ^ k + n) rest
@@ -60,7 +62,8 @@ hex_again zero n m rest lt = ap (λ (x : ℕ). hex_in x rest) (omega arith)
 hex_again (suc k) n m rest lt =
     let g = hex_digit (n % 16) in
     let below : n < 16 ^ k * 16 = rw pow-suc at lt in
-    let one : hex_in m ((hex k (n / 16) ++ g ∷ []) ++ rest) ≡ hex_in m (hex k (n / 16) ++ g ∷ rest) = ap (λ (x : List ℕ). hex_in m x) (append_assoc (hex k (n / 16)) (g ∷ []) rest) in
+    let one : hex_in m ((hex k (n / 16) ++ g ∷ []) ++ rest) ≡ hex_in m (hex k (n / 16) ++ g ∷ rest) =
+    ap (λ (x : List ℕ). hex_in m x) (append_assoc (hex k (n / 16)) (g ∷ []) rest) in
     let two = hex_again k (n / 16) m (g ∷ rest) (omega arith) in
     let three : hex_in (m * 16 ^ k + n / 16) (g ∷ rest) ≡ hex_in ((m * 16 ^ k + n / 16) * 16 + n % 16) rest = rw (digit_again (n % 16) (omega arith)) refl in
     let value : (m * 16 ^ k + n / 16) * 16 + n % 16 ≡ m * 16 ^ suc k + n = rw pow-suc (omega arith) in
@@ -152,16 +155,18 @@ digits_up_to_again most n some lt fits =
     let wide : n < 2 ^ 64 = omega arith in
     let all = digits_decimal own n wide in
     let value = digits_value-decimal own n wide in
-    let tests = passes most (length (decimal n)) (get_or (decimal n) 0 0) (decimal_nonempty n wide) (length-decimal-le most n some lt wide) (first_plain n wide) in
+    let tests = passes most (length (decimal n)) (get_or (decimal n) 0 0) (decimal_nonempty n wide) (length-decimal-le most n some lt wide)
+    (first_plain n wide) in
     rw tests (digits_again (decimal n) 0 all ∙ ap (λ (x : ℕ). Some x) value)
 
 pub number_again : (n : ℕ) → n < 10 ^ 8 → number_in (decimal n) ≡ Some n
 number_again n lt = digits_up_to_again 8 n (omega arith) lt (omega arith)
 
 pub word_again : (n : ℕ) → n < 2 ^ 32 → word_in (decimal n) ≡ Some n
-word_again n lt = ap (option_and_then (λ n. cond (ltb n (2 ^ 32)) (Some n) None)) (digits_up_to_again 10 n (omega arith) (omega arith) (omega arith)) ∙ small n lt where
-  small : (x : ℕ) → x < 2 ^ 32 → cond (ltb x (2 ^ 32)) (Some x) None ≡ Some x
-  small x lt = grind (arith, nat_tests)
+word_again n lt = ap (option_and_then (λ n. cond (ltb n (2 ^ 32)) (Some n) None)) (digits_up_to_again 10 n (omega arith) (omega arith) (omega arith))
+    ∙ small n lt where
+      small : (x : ℕ) → x < 2 ^ 32 → cond (ltb x (2 ^ 32)) (Some x) None ≡ Some x
+      small x lt = grind (arith, nat_tests)
 
 -- ---- what numbers lack
 

@@ -6,7 +6,8 @@ use Rattle.std.proofs.Math.Nat.{pow-le-pow_right, pow-suc, mul-le-mul_right}
 use Rattle.std.proofs.lemmas.List.{drop_more, drop_all}
 use Rattle.hm_text_base.specs.Numbers.{digit_in, hex_in, digits_in}
 
-pub hex_more : (n : ℕ) (text : List ℕ) (i : ℕ) → i < length text → hex_in n (drop i text) ≡ option_and_then (λ d. hex_in (n * 16 + d) (drop (i + 1) text)) (digit_in (get_or text i 0))
+pub hex_more : (n : ℕ) (text : List ℕ) (i : ℕ) → i < length text
+    → hex_in n (drop i text) ≡ option_and_then (λ d. hex_in (n * 16 + d) (drop (i + 1) text)) (digit_in (get_or text i 0))
 unfolding hex_in
 hex_more n text i lt = rw (drop_more text i 0 lt) refl
 
@@ -14,7 +15,8 @@ pub hex_all : (n : ℕ) (text : List ℕ) (i : ℕ) → length text ≤ i → he
 unfolding hex_in
 hex_all n text i le = rw (drop_all i text le) refl
 
-pub digits_more : (n : ℕ) (text : List ℕ) (i : ℕ) → i < length text → digits_in n (drop i text) ≡ cond (is_ascii_digit (get_or text i 0)) (digits_in (n * 10 + (get_or text i 0 - 48)) (drop (i + 1) text)) None
+pub digits_more : (n : ℕ) (text : List ℕ) (i : ℕ) → i < length text
+    → digits_in n (drop i text) ≡ cond (is_ascii_digit (get_or text i 0)) (digits_in (n * 10 + (get_or text i 0 - 48)) (drop (i + 1) text)) None
 unfolding digits_in
 digits_more n text i lt = rw (drop_more text i 0 lt) refl
 

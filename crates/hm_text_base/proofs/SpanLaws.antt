@@ -7,7 +7,8 @@ use Rattle.std.proofs.Common.{inl, inr}
 use Rattle.hm_text_base.specs.Spans.{span, Lacks}
 
 -- the mark is not among the first n, and stands there unless the text ends
-pub span_is : (mark : ℕ) (text : List ℕ) (n : ℕ) → n ≤ length text → ((k : ℕ) → k < n → get_or text k 0 ≢ mark) → (n < length text → get_or text n 0 ≡ mark) → span mark text ≡ (take n text, drop n text)
+pub span_is : (mark : ℕ) (text : List ℕ) (n : ℕ) → n ≤ length text → ((k : ℕ) → k < n → get_or text k 0 ≢ mark) → (n < length text → get_or text n 0 ≡ mark)
+    → span mark text ≡ (take n text, drop n text)
 unfolding span
 span_is mark [] zero le before here = refl
 span_is mark [] (suc n) le before here = absurd (omega arith)
@@ -75,7 +76,9 @@ Lacks_from_test mark (b ∷ bs) e =
     let p = and_parts (not (eqb b mark)) (list_all (λ c. not (eqb c mark)) bs) e in
     (eqb-false b mark (not-true (eqb b mark) p.0), Lacks_from_test mark bs p.1)
 
-pub split_join : (mark : ℕ) (word : List ℕ) (words : List (List ℕ)) → AllByRecursion (Lacks mark) (word ∷ words) → slice_split (λ b. b == mark) (join_with_byte mark (word ∷ words)) ≡ word ∷ words
+pub split_join : (mark : ℕ) (word : List ℕ) (words : List (List ℕ)) → AllByRecursion (Lacks mark) (word ∷ words)
+    → slice_split (λ b. b == mark) (join_with_byte mark (word ∷ words)) ≡ word ∷ words
 split_join mark word [] lacks = split_span mark word ∙ rw (span_all mark word lacks.0) refl
 split_join mark word (next ∷ words) lacks =
-    split_span mark (word ++ mark ∷ join_with_byte mark (next ∷ words)) ∙ rw (span_at mark word (join_with_byte mark (next ∷ words)) lacks.0, split_join mark next words lacks.1) refl
+    split_span mark (word ++ mark ∷ join_with_byte mark (next ∷ words))
+    ∙ rw (span_at mark word (join_with_byte mark (next ∷ words)) lacks.0, split_join mark next words lacks.1) refl

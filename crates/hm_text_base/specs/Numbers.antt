@@ -1,5 +1,6 @@
 -- Reading numbers.
-use Rattle.std.specs.Prelude.{ℕ, ◌+◌, ◌-◌, ◌*◌, ◌^◌, List, [], ◌∷◌, length, slice_index, Option, Some, None, option_and_then, ◌==◌, nat_lt, nat_le, ◌&&◌, ◌||◌, if◌then◌else◌}
+use Rattle.std.specs.Prelude.{ℕ, ◌+◌, ◌-◌, ◌*◌, ◌^◌, List, [], ◌∷◌, length, slice_index, Option, Some, None, option_and_then, ◌==◌, nat_lt, nat_le, ◌&&◌, ◌||◌}
+use Rattle.std.specs.Prelude.{if◌then◌else◌}
 use Rattle.std.specs.Char.{is_ascii_digit}
 
 -- the number below 16 that is written as 0 to 9 or a to f
@@ -22,7 +23,8 @@ digits_in n (c ∷ cs) = if is_ascii_digit c then digits_in (n * 10 + (c - 48)) 
 
 -- one to so many decimal digits with no leading zero
 abbrev pub digits_up_to : ℕ → List ℕ → Option ℕ
-digits_up_to most text = if (length text == 0) || (nat_lt most (length text) || (nat_lt 1 (length text) && (slice_index text 0 == 48))) then None else digits_in 0 text
+digits_up_to most text = if (length text == 0) || (nat_lt most (length text) || (nat_lt 1 (length text) && (slice_index text 0 == 48))) then None
+    else digits_in 0 text
 
 -- one to eight decimal digits with no leading zero
 abbrev pub number_in : List ℕ → Option ℕ

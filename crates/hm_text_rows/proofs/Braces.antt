@@ -1,5 +1,6 @@
 -- Lists of registers in braces: what is read of them, and that they are printed and read back.
-use Rattle.std.proofs.Common.{◌≡◌, ℕ, zero, suc, ◌+◌, ◌*◌, ◌/◌, ◌%◌, ◌^◌, ◌<◌, ◌≤◌, true, false, cond, List, [], ◌∷◌, ◌++◌, length, refl, inl, inr, ap, ◌∙◌, arith}
+use Rattle.std.proofs.Common.{◌≡◌, ℕ, zero, suc, ◌+◌, ◌*◌, ◌/◌, ◌%◌, ◌^◌, ◌<◌, ◌≤◌, true, false, cond, List, [], ◌∷◌, ◌++◌, length, refl, inl, inr, ap, ◌∙◌}
+use Rattle.std.proofs.Common.{arith}
 use Rattle.std.specs.Prelude.{min, nat_eq}
 use Rattle.std.proofs.lemmas.Bool.{cases_Bool, eqb-true}
 use Rattle.std.proofs.lemmas.Bool.Decides.{nat_tests}
@@ -7,10 +8,10 @@ use Rattle.std.proofs.lemmas.List.{length-append}
 use Rattle.std.proofs.Math.Nat.{mul-add}
 use Rattle.hm_tokens.specs.Lines.{printed, spelled, spelled_behind}
 use Rattle.hm_tokens.specs.Names.{register_name}
-use Rattle.hm_tokens.specs.Tokens.{Tok, word, mark}
+use Rattle.hm_tokens.specs.Tokens.{Tok, word, close_brace, comma}
 use Rattle.hm_tokens.proofs.Again.{apart, are_apart}
 use Rattle.hm_text_rows.specs.Operands.{bit_in, bits_of, braced}
-use Rattle.hm_text_rows.specs.Shapes.{back, braces, comma, listed, r, registers_from}
+use Rattle.hm_text_rows.specs.Shapes.{back, braces, listed, r, registers_from}
 use Rattle.hm_text_rows.proofs.Printed.{IsPrinted, is_printed_in, short_bang, short_comma, short_open_brace}
 use Rattle.hm_text_rows.proofs.Registers.{AllBelow16, listed_apart, listed_length, listed_ranges, listed_spelled, listed_tokens, name_length, registers_below}
 use Rattle.hm_text_rows.proofs.Words.{below_is, is_stem, is_suffix, mnemonic_short, word_r, word_token}
@@ -99,14 +100,14 @@ one_bit k lt = below_is (λ j. bit_in (register_name j)) (λ j. 2 ^ j) 16 k refl
 min_low : (x : ℕ) → x ≤ 0xffff → min x 0xffff ≡ x
 min_low x le = omega arith
 
-listed_bits : (m : ℕ) (ks : List ℕ) → AllBelow16 ks → total ks ≤ 0xffff → bits_of (listed m ks ++ mark 125 ∷ []) ≡ total ks
+listed_bits : (m : ℕ) (ks : List ℕ) → AllBelow16 ks → total ks ≤ 0xffff → bits_of (listed m ks ++ close_brace ∷ []) ≡ total ks
 unfolding bits_of
 listed_bits m [] all le = refl
 listed_bits m (k ∷ ks) all le =
     let rest = listed_bits 44 ks all.1 (omega arith) in
     rw (one_bit k all.0, rest, min_low (2 ^ k + total ks) le) (omega (arith, le))
 
-braced_bits : (ks : List ℕ) → AllBelow16 ks → total ks ≤ 0xffff → bits_of (braced (listed 123 ks ++ mark 125 ∷ [])) ≡ total ks
+braced_bits : (ks : List ℕ) → AllBelow16 ks → total ks ≤ 0xffff → bits_of (braced (listed 123 ks ++ close_brace ∷ [])) ≡ total ks
 unfolding bits_of braced
 braced_bits [] all le = refl
 braced_bits (k ∷ ks) all le =
@@ -136,7 +137,8 @@ braced_of (suc (suc w)) n us lt = absurd (omega arith)
 abbrev Fits : List ℕ → ℕ → ℕ → ℕ → Type 0
 Fits name w n list = IsPrinted (word name ∷ base_and_list w n list)
 
-pub printed_list : (s f : List ℕ) (w n list : ℕ) → is_stem s ≡ true → is_suffix f ≡ true → w < 2 → n < 16 → length (registers_from 16 0 list) ≤ 14 → Fits (s ++ f) w n list
+pub printed_list : (s f : List ℕ) (w n list : ℕ) → is_stem s ≡ true → is_suffix f ≡ true → w < 2 → n < 16 → length (registers_from 16 0 list) ≤ 14
+    → Fits (s ++ f) w n list
 printed_list s f zero n list stem suffix hw hn few =
     let ks = registers_from 16 0 list in
     let all = registers_below 16 0 list (omega arith) in
@@ -146,8 +148,16 @@ printed_list s f zero n list stem suffix hw hn few =
     let count = listed_length 123 ks in
     is_printed_in s f (base_and_list 0 n list) stem suffix
     (word_token (register_name n) (word_r n hn), (short_comma.is, listed_tokens 123 ks (short_open_brace.is, tt) all))
-    (listed_apart (mark 44) 123 ks)
-    (omega (arith, name, base, rest, few, length-append (s ++ f) (32 ∷ spelled_behind false (base_and_list 0 n list)), length-append (register_name n) (44 ∷ spelled_behind false (braces list))))
+    (listed_apart comma 123 ks)
+    (omega (
+      arith,
+      name,
+      base,
+      rest,
+      few,
+      length-append (s ++ f) (32 ∷ spelled_behind false (base_and_list 0 n list)),
+      length-append (register_name n) (44 ∷ spelled_behind false (braces list)),
+    ))
     (listed_ranges 123 ks refl) (omega (arith, count, few))
 printed_list s f (suc zero) n list stem suffix hw hn few =
     let ks = registers_from 16 0 list in
@@ -158,13 +168,21 @@ printed_list s f (suc zero) n list stem suffix hw hn few =
     let count = listed_length 123 ks in
     is_printed_in s f (base_and_list 1 n list) stem suffix
     (word_token (register_name n) (word_r n hn), (short_bang.is, (short_comma.is, listed_tokens 123 ks (short_open_brace.is, tt) all)))
-    (listed_apart (mark 44) 123 ks)
-    (omega (arith, name, base, rest, few, length-append (s ++ f) (32 ∷ spelled_behind false (base_and_list 1 n list)), length-append (register_name n) (33 ∷ 44 ∷ spelled_behind false (braces list))))
+    (listed_apart comma 123 ks)
+    (omega (
+      arith,
+      name,
+      base,
+      rest,
+      few,
+      length-append (s ++ f) (32 ∷ spelled_behind false (base_and_list 1 n list)),
+      length-append (register_name n) (33 ∷ 44 ∷ spelled_behind false (braces list)),
+    ))
     (listed_ranges 123 ks refl) (omega (arith, count, few))
 printed_list s f (suc (suc w)) n list stem suffix hw hn few = absurd (omega arith)
 
 -- with no base before it
-apart_are : (ts : List Tok) → apart (mark 44) ts ≡ true → are_apart ts ≡ true
+apart_are : (ts : List Tok) → apart comma ts ≡ true → are_apart ts ≡ true
 apart_are [] e = refl
 apart_are (t ∷ ts) e = e
 
@@ -172,15 +190,17 @@ printed_length : (name : List ℕ) (ts : List Tok) → length (printed (word nam
 printed_length name [] = omega arith
 printed_length name (t ∷ ts) = omega (arith, length-append name (32 ∷ spelled (t ∷ ts)))
 
-printed_alone : (s f : List ℕ) (ks : List ℕ) → is_stem s ≡ true → is_suffix f ≡ true → AllBelow16 ks → length ks ≤ 14 → IsPrinted (word (s ++ f) ∷ (listed 123 ks ++ mark 125 ∷ []))
+printed_alone : (s f : List ℕ) (ks : List ℕ) → is_stem s ≡ true → is_suffix f ≡ true → AllBelow16 ks → length ks ≤ 14
+    → IsPrinted (word (s ++ f) ∷ (listed 123 ks ++ close_brace ∷ []))
 printed_alone s f ks stem suffix all few =
-    let ts = listed 123 ks ++ mark 125 ∷ [] in
+    let ts = listed 123 ks ++ close_brace ∷ [] in
     let name = mnemonic_short s f stem suffix in
     let rest = listed_spelled false 123 ks refl all in
     let count = listed_length 123 ks in
     let whole = printed_length (s ++ f) ts in
-    is_printed_in s f ts stem suffix (listed_tokens 123 ks (short_open_brace.is, tt) all) (apart_are ts (listed_apart (mark 44) 123 ks))
+    is_printed_in s f ts stem suffix (listed_tokens 123 ks (short_open_brace.is, tt) all) (apart_are ts (listed_apart comma 123 ks))
     (omega (arith, name, rest, few, whole)) (listed_ranges 123 ks refl) (omega (arith, count, few))
 
-pub printed_braces : (s f : List ℕ) (list : ℕ) → is_stem s ≡ true → is_suffix f ≡ true → length (registers_from 16 0 list) ≤ 14 → IsPrinted (word (s ++ f) ∷ braces list)
+pub printed_braces : (s f : List ℕ) (list : ℕ) → is_stem s ≡ true → is_suffix f ≡ true → length (registers_from 16 0 list) ≤ 14
+    → IsPrinted (word (s ++ f) ∷ braces list)
 printed_braces s f list stem suffix few = printed_alone s f (registers_from 16 0 list) stem suffix (registers_below 16 0 list (omega arith)) few

@@ -6,7 +6,7 @@ use Rattle.std.proofs.lemmas.List.{append-nil, length-append}
 use Rattle.std.proofs.lemmas.Fmt.{length-decimal-le}
 use Rattle.hm_tokens.specs.Lines.{IsLineOf, address, gap, is_hash, is_word, printed, printed_at, spelled, spelled_behind}
 use Rattle.hm_tokens.specs.Ranges.{normal}
-use Rattle.hm_tokens.specs.Tokens.{Tok, word, number, mark, spell}
+use Rattle.hm_tokens.specs.Tokens.{Tok, word, number, mark, spell, close_brace, close_bracket, comma, bang, hash_mark, minus_mark, open_brace, open_bracket}
 use Rattle.hm_tokens.proofs.Addresses.{ends_in_mark, printed_at_again}
 use Rattle.hm_tokens.proofs.Again.{AreTokens, IsToken, are_apart, printed_again}
 use Rattle.hm_tokens.proofs.Ranges.{has_no_ranges, normal_same}
@@ -43,28 +43,28 @@ short_number n lt =
 pub short_mark : (c : ℕ) → IsToken (mark c) → IsShort (mark c)
 short_mark c is = record { is = is; short = omega arith }
 
-pub short_comma : IsShort (mark 44)
+pub short_comma : IsShort comma
 short_comma = short_mark 44 (refl, refl, refl, refl)
 
-pub short_hash : IsShort (mark 35)
+pub short_hash : IsShort hash_mark
 short_hash = short_mark 35 (refl, refl, refl, refl)
 
-pub short_minus : IsShort (mark 45)
+pub short_minus : IsShort minus_mark
 short_minus = short_mark 45 (refl, refl, refl, refl)
 
-pub short_bang : IsShort (mark 33)
+pub short_bang : IsShort bang
 short_bang = short_mark 33 (refl, refl, refl, refl)
 
-pub short_open : IsShort (mark 91)
+pub short_open : IsShort open_bracket
 short_open = short_mark 91 (refl, refl, refl, refl)
 
-pub short_close : IsShort (mark 93)
+pub short_close : IsShort close_bracket
 short_close = short_mark 93 (refl, refl, refl, refl)
 
-pub short_open_brace : IsShort (mark 123)
+pub short_open_brace : IsShort open_brace
 short_open_brace = short_mark 123 (refl, refl, refl, refl)
 
-pub short_close_brace : IsShort (mark 125)
+pub short_close_brace : IsShort close_brace
 short_close_brace = short_mark 125 (refl, refl, refl, refl)
 
 tokens_of_short : (ts : List Tok) → AreShort ts → AreTokens ts
@@ -114,7 +114,8 @@ room_of name (t ∷ ts) short are le =
     let all = spelled_short (t ∷ ts) false are in
     omega (arith, all, length-append name (32 ∷ spelled (t ∷ ts)))
 
-pub is_read_back : (s suffix : List ℕ) (ts : List Tok) → is_stem s ≡ true → is_suffix suffix ≡ true → AreShort ts → are_apart ts ≡ true → room ts ≤ 78 → IsReadBack (word (s ++ suffix) ∷ ts)
+pub is_read_back : (s suffix : List ℕ) (ts : List Tok) → is_stem s ≡ true → is_suffix suffix ≡ true → AreShort ts → are_apart ts ≡ true → room ts ≤ 78
+    → IsReadBack (word (s ++ suffix) ∷ ts)
 is_read_back s suffix ts stem behind are apart le = record {
   again = printed_again ts (tokens_of_short ts are) (word (s ++ suffix)) (mnemonic_token s suffix stem behind) apart;
   room = let r = room_of (s ++ suffix) ts (mnemonic_short s suffix stem behind) are le in omega (arith, r);
@@ -122,16 +123,19 @@ is_read_back s suffix ts stem behind are apart le = record {
 }
 
 -- tokens that may have a `-`, but have no range of registers
-pub is_printed_as : (s suffix : List ℕ) (ts : List Tok) → is_stem s ≡ true → is_suffix suffix ≡ true → AreShort ts → are_apart ts ≡ true → room ts ≤ 78 → normal (word (s ++ suffix) ∷ ts) ≡ word (s ++ suffix) ∷ ts → IsPrinted (word (s ++ suffix) ∷ ts)
+pub is_printed_as : (s suffix : List ℕ) (ts : List Tok) → is_stem s ≡ true → is_suffix suffix ≡ true → AreShort ts → are_apart ts ≡ true → room ts ≤ 78
+    → normal (word (s ++ suffix) ∷ ts) ≡ word (s ++ suffix) ∷ ts → IsPrinted (word (s ++ suffix) ∷ ts)
 is_printed_as s suffix ts stem behind are apart le same =
     let back = is_read_back s suffix ts stem behind are apart le in
     record { again = back.again; room = back.room; ranges = same; few = back.few }
 
-pub is_printed : (s suffix : List ℕ) (ts : List Tok) → is_stem s ≡ true → is_suffix suffix ≡ true → AreShort ts → are_apart ts ≡ true → room ts ≤ 78 → has_no_ranges ts ≡ true → IsPrinted (word (s ++ suffix) ∷ ts)
+pub is_printed : (s suffix : List ℕ) (ts : List Tok) → is_stem s ≡ true → is_suffix suffix ≡ true → AreShort ts → are_apart ts ≡ true → room ts ≤ 78
+    → has_no_ranges ts ≡ true → IsPrinted (word (s ++ suffix) ∷ ts)
 is_printed s suffix ts stem behind are apart le none = is_printed_as s suffix ts stem behind are apart le (normal_same (word (s ++ suffix) ∷ ts) none)
 
 -- a text that is known to fit
-pub is_printed_in : (s suffix : List ℕ) (ts : List Tok) → is_stem s ≡ true → is_suffix suffix ≡ true → AreTokens ts → are_apart ts ≡ true → length (printed (word (s ++ suffix) ∷ ts)) ≤ 96 → has_no_ranges ts ≡ true → length ts ≤ 39
+pub is_printed_in : (s suffix : List ℕ) (ts : List Tok) → is_stem s ≡ true → is_suffix suffix ≡ true → AreTokens ts → are_apart ts ≡ true
+    → length (printed (word (s ++ suffix) ∷ ts)) ≤ 96 → has_no_ranges ts ≡ true → length ts ≤ 39
     → IsPrinted (word (s ++ suffix) ∷ ts)
 is_printed_in s suffix ts stem behind are apart fits none few = record {
   again = printed_again ts are (word (s ++ suffix)) (mnemonic_token s suffix stem behind) apart;
@@ -153,7 +157,8 @@ room_at name (t ∷ ts) a short are le =
     let all = spelled_short (t ∷ ts) false are in
     omega (arith, all, length-append name (32 ∷ spelled (t ∷ ts)), length-append (printed (word name ∷ t ∷ ts)) (address a))
 
-pub is_printed_at : (s suffix : List ℕ) (ts : List Tok) → is_stem s ≡ true → is_suffix suffix ≡ true → AreShort ts → are_apart ts ≡ true → ends_in_mark ts ≡ true → room ts ≤ 68 → has_no_ranges ts ≡ true → IsPrintedAt (word (s ++ suffix) ∷ ts)
+pub is_printed_at : (s suffix : List ℕ) (ts : List Tok) → is_stem s ≡ true → is_suffix suffix ≡ true → AreShort ts → are_apart ts ≡ true
+    → ends_in_mark ts ≡ true → room ts ≤ 68 → has_no_ranges ts ≡ true → IsPrintedAt (word (s ++ suffix) ∷ ts)
 is_printed_at s suffix ts stem behind are apart ends le none = record {
   again = λ a lt. printed_at_again ts (word (s ++ suffix)) a (tokens_of_short ts are) (mnemonic_token s suffix stem behind) apart ends lt;
   room = λ a. room_at (s ++ suffix) ts a (mnemonic_short s suffix stem behind) are le;
@@ -165,8 +170,11 @@ is_printed_at s suffix ts stem behind are apart ends le none = record {
 pub without_suffix : (s : List ℕ) (ts : List Tok) → IsPrinted (word (s ++ []) ∷ ts) → IsPrinted (word s ∷ ts)
 without_suffix s ts printed_ = subst (λ (name : List ℕ). IsPrinted (word name ∷ ts)) (append-nil s) printed_
 
-pub is_printed_bare : (s : List ℕ) (ts : List Tok) → is_stem s ≡ true → AreShort ts → are_apart ts ≡ true → room ts ≤ 78 → has_no_ranges ts ≡ true → IsPrinted (word s ∷ ts)
+pub is_printed_bare : (s : List ℕ) (ts : List Tok) → is_stem s ≡ true → AreShort ts → are_apart ts ≡ true → room ts ≤ 78 → has_no_ranges ts ≡ true
+    → IsPrinted (word s ∷ ts)
 is_printed_bare s ts stem are apart le none = without_suffix s ts (is_printed s [] ts stem refl are apart le none)
 
-pub is_printed_bare_at : (s : List ℕ) (ts : List Tok) → is_stem s ≡ true → AreShort ts → are_apart ts ≡ true → ends_in_mark ts ≡ true → room ts ≤ 68 → has_no_ranges ts ≡ true → IsPrintedAt (word s ∷ ts)
-is_printed_bare_at s ts stem are apart ends le none = subst (λ (name : List ℕ). IsPrintedAt (word name ∷ ts)) (append-nil s) (is_printed_at s [] ts stem refl are apart ends le none)
+pub is_printed_bare_at : (s : List ℕ) (ts : List Tok) → is_stem s ≡ true → AreShort ts → are_apart ts ≡ true → ends_in_mark ts ≡ true → room ts ≤ 68
+    → has_no_ranges ts ≡ true → IsPrintedAt (word s ∷ ts)
+is_printed_bare_at s ts stem are apart ends le none =
+    subst (λ (name : List ℕ). IsPrintedAt (word name ∷ ts)) (append-nil s) (is_printed_at s [] ts stem refl are apart ends le none)

@@ -1,12 +1,13 @@
 -- Registers in braces.
-use Rattle.std.proofs.Common.{◌≡◌, ℕ, zero, suc, ◌+◌, ◌-◌, ◌*◌, ◌<◌, ◌≤◌, Bool, true, false, cond, eqb, List, [], ◌∷◌, ◌++◌, length, refl, sym, ap, ◌∙◌, append_assoc, arith}
+use Rattle.std.proofs.Common.{◌≡◌, ℕ, zero, suc, ◌+◌, ◌-◌, ◌*◌, ◌<◌, ◌≤◌, Bool, true, false, cond, eqb, List, [], ◌∷◌, ◌++◌, length, refl, sym, ap, ◌∙◌}
+use Rattle.std.proofs.Common.{append_assoc, arith}
 use Rattle.std.specs.Prelude.{nat_le, ◌&&◌}
 use Rattle.std.proofs.lemmas.Bool.Decides.{nat_tests}
 use Rattle.std.proofs.lemmas.List.{append-nil, length-append}
 use Rattle.hm_isa.specs.Rules.{listed_in}
 use Rattle.hm_tokens.specs.Lines.{spelled_behind}
 use Rattle.hm_tokens.specs.Names.{register_name}
-use Rattle.hm_tokens.specs.Tokens.{Tok, mark}
+use Rattle.hm_tokens.specs.Tokens.{Tok, mark, close_brace}
 use Rattle.hm_tokens.proofs.Again.{AreTokens, apart, is_mark_token, or_true}
 use Rattle.hm_tokens.proofs.Ranges.{has_no_ranges}
 use Rattle.hm_text_rows.specs.Shapes.{listed, r, registers_from}
@@ -49,19 +50,19 @@ pub front_count : (m n k regs : ℕ) → length (registers_from (n + m) k regs) 
 front_count m n k regs = front_from m n k (n + m) (k + m) regs refl refl
 
 -- their text
-pub listed_tokens : (m : ℕ) (ks : List ℕ) → AreTokens (mark m ∷ []) → AllBelow16 ks → AreTokens (listed m ks ++ mark 125 ∷ [])
+pub listed_tokens : (m : ℕ) (ks : List ℕ) → AreTokens (mark m ∷ []) → AllBelow16 ks → AreTokens (listed m ks ++ close_brace ∷ [])
 listed_tokens m [] is all = (short_close_brace.is, tt)
 listed_tokens m (k ∷ ks) is all = (is.0, (word_token (register_name k) (word_r k all.0), listed_tokens 44 ks (short_comma.is, tt) all.1))
 
-pub listed_apart : (t : Tok) (m : ℕ) (ks : List ℕ) → apart t (listed m ks ++ mark 125 ∷ []) ≡ true
+pub listed_apart : (t : Tok) (m : ℕ) (ks : List ℕ) → apart t (listed m ks ++ close_brace ∷ []) ≡ true
 listed_apart t m [] = rw (or_true (is_mark_token t)) refl
 listed_apart t m (k ∷ ks) = rw (or_true (is_mark_token t), listed_apart (r k) 44 ks) refl
 
-pub listed_ranges : (m : ℕ) (ks : List ℕ) → eqb m 45 ≡ false → has_no_ranges (listed m ks ++ mark 125 ∷ []) ≡ true
+pub listed_ranges : (m : ℕ) (ks : List ℕ) → eqb m 45 ≡ false → has_no_ranges (listed m ks ++ close_brace ∷ []) ≡ true
 listed_ranges m [] e = refl
 listed_ranges m (k ∷ ks) e = rw (e, listed_ranges 44 ks refl) refl
 
-pub listed_length : (m : ℕ) (ks : List ℕ) → length (listed m ks ++ mark 125 ∷ []) ≡ 2 * length ks + 1
+pub listed_length : (m : ℕ) (ks : List ℕ) → length (listed m ks ++ close_brace ∷ []) ≡ 2 * length ks + 1
 listed_length m [] = refl
 listed_length m (k ∷ ks) = omega (arith, listed_length 44 ks)
 
@@ -74,12 +75,13 @@ name_length k lt =
     let all : nat_le (length (register_name k)) 3 ≡ true = below_holds (λ j. nat_le (length (register_name j)) 3) 16 k refl lt in
     grind (arith, nat_tests, all)
 
-pub listed_spelled : (b : Bool) (m : ℕ) (ks : List ℕ) → eqb m 35 ≡ false → AllBelow16 ks → length (spelled_behind b (listed m ks ++ mark 125 ∷ [])) ≤ 4 * length ks + 1
+pub listed_spelled : (b : Bool) (m : ℕ) (ks : List ℕ) → eqb m 35 ≡ false → AllBelow16 ks
+    → length (spelled_behind b (listed m ks ++ close_brace ∷ [])) ≤ 4 * length ks + 1
 listed_spelled b m [] e all = rw (and_false b) (omega arith)
 listed_spelled b m (k ∷ ks) e all =
     let rest = listed_spelled true 44 ks refl all.1 in
     let name = name_length k all.0 in
-    rw (e, and_false b) (omega (arith, rest, name, length-append (register_name k) (spelled_behind true (listed 44 ks ++ mark 125 ∷ []))))
+    rw (e, and_false b) (omega (arith, rest, name, length-append (register_name k) (spelled_behind true (listed 44 ks ++ close_brace ∷ []))))
 
 -- ---- room for them
 
@@ -126,5 +128,6 @@ pub taken_more : (front one two all : List Tok) (m k n regs : ℕ) → 0 < n →
     → all ≡ two ++ listed 44 (registers_from (n - 1) (k + 1) regs) → all ≡ front ++ listed m (registers_from n k regs)
 taken_more front one two all m k n regs some e eo et ea =
     let rest = listed 44 (registers_from (n - 1) (k + 1) regs) in
-    ea ∙ ap (λ (x : List Tok). x ++ rest) et ∙ append_assoc one (r k ∷ []) rest ∙ ap (λ (x : List Tok). x ++ r k ∷ rest) eo ∙ append_assoc front (mark m ∷ []) (r k ∷ rest)
+    ea ∙ ap (λ (x : List Tok). x ++ rest) et ∙ append_assoc one (r k ∷ []) rest ∙ ap (λ (x : List Tok). x ++ r k ∷ rest) eo
+    ∙ append_assoc front (mark m ∷ []) (r k ∷ rest)
     ∙ ap (λ (ks : List ℕ). front ++ listed m ks) (sym (taken m k n regs some e))

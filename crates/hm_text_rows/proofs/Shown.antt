@@ -36,7 +36,8 @@ more_ranges (t ∷ ts) a e =
     let p = and_parts (not (is_the_mark 45 t)) (has_no_ranges ts) e in
     rw (p.0, more_ranges ts a p.1) refl
 
-pub again_of : (b : Bool) (row : List Tok) (o : Option ℕ) (labels : List ℕ → Option ℕ) → IsPrintedRow b row → IsGiven b o → Again b row o (printed_with row o) labels
+pub again_of : (b : Bool) (row : List Tok) (o : Option ℕ) (labels : List ℕ → Option ℕ) → IsPrintedRow b row → IsGiven b o
+    → Again b row o (printed_with row o) labels
 again_of true row (Some a) labels p lt = record {
   tokens = row ++ number a ∷ [];
   label = number a;

@@ -2,7 +2,7 @@
 use Rattle.std.specs.Prelude.{ℕ, ◌+◌, ◌-◌, ◌^◌, min, Bool, true, false, List, [], ◌∷◌, length, get_or, Option, Some, None, ◌==◌, if◌then◌else◌}
 use Rattle.hm_tokens.specs.Names.{condition_in, register_in, vector_in}
 use Rattle.hm_tokens.specs.Ranges.{is_the_mark}
-use Rattle.hm_tokens.specs.Tokens.{Tok, word, number, mark}
+use Rattle.hm_tokens.specs.Tokens.{Tok, word, number, mark, comma}
 
 -- the number, where there is one, else d
 abbrev pub given_or : Option ℕ → ℕ → ℕ
@@ -52,7 +52,7 @@ is_number (mark c) = false
 
 -- operand k, counted from 0 and without the marks; a comma where there is none
 abbrev pub operand : ℕ → List Tok → Tok
-operand k [] = mark 44
+operand k [] = comma
 operand k (word w ∷ ts) = if k == 0 then word w else operand (k - 1) ts
 operand k (number n ∷ ts) = if k == 0 then number n else operand (k - 1) ts
 operand k (mark c ∷ ts) = operand k ts

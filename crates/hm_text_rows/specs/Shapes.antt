@@ -2,7 +2,7 @@
 use Rattle.std.specs.Prelude.{ℕ, zero, suc, ◌+◌, cond, List, [], ◌∷◌, ◌++◌, codes, nat_eq, if◌then◌else◌}
 use Rattle.hm_isa.specs.Rules.{listed_in}
 use Rattle.hm_tokens.specs.Names.{register_name, vector_name}
-use Rattle.hm_tokens.specs.Tokens.{Tok, word, number, mark}
+use Rattle.hm_tokens.specs.Tokens.{Tok, word, number, mark, close_brace, close_bracket, comma, bang, hash_mark, minus_mark, open_bracket}
 
 -- OPERANDS
 -- the name of vector register d
@@ -17,13 +17,9 @@ r n = word (register_name n)
 abbrev pub or_zero : ℕ → Tok
 or_zero n = word (cond (nat_eq n 15) (codes "zr") (register_name n))
 
--- the mark between two operands
-abbrev pub comma : Tok
-comma = mark 44
-
 -- `#n`
 abbrev pub constant : ℕ → List Tok
-constant n = mark 35 ∷ number n ∷ []
+constant n = hash_mark ∷ number n ∷ []
 
 -- one of two stems, by a bit
 abbrev pub either : ℕ → List ℕ → List ℕ → List ℕ
@@ -61,23 +57,23 @@ and_shift front kind n = cond (nat_eq n 0) front (front ++ comma ∷ word kind �
 -- ADDRESSES
 -- a minus sign, where the offset is taken away
 abbrev pub minus : ℕ → List Tok
-minus a = cond (nat_eq a 0) (mark 45 ∷ []) []
+minus a = cond (nat_eq a 0) (minus_mark ∷ []) []
 
 -- `!`, where the address is written back
 abbrev pub back : ℕ → List Tok
-back w = cond (nat_eq w 0) [] (mark 33 ∷ [])
+back w = cond (nat_eq w 0) [] (bang ∷ [])
 
 -- `,#n`
 abbrev pub offset : ℕ → ℕ → List Tok
-offset a n = comma ∷ mark 35 ∷ (minus a ++ number n ∷ [])
+offset a n = comma ∷ hash_mark ∷ (minus a ++ number n ∷ [])
 
 -- `[base,#n]`, `[base,#n]!`, and where the offset goes to the base alone `[base],#n`
 abbrev pub inside : ℕ → ℕ → Tok → ℕ → List Tok
-inside a w base n = mark 91 ∷ base ∷ (offset a n ++ mark 93 ∷ back w)
+inside a w base n = open_bracket ∷ base ∷ (offset a n ++ close_bracket ∷ back w)
 
 -- `[base],#n`
 abbrev pub outside : ℕ → Tok → ℕ → List Tok
-outside a base n = mark 91 ∷ base ∷ mark 93 ∷ offset a n
+outside a base n = open_bracket ∷ base ∷ close_bracket ∷ offset a n
 
 -- an address with an offset: behind the brackets where p is 0, as `[base],#n`, else within them
 abbrev pub indexed : ℕ → ℕ → ℕ → Tok → ℕ → List Tok
@@ -85,7 +81,7 @@ indexed p a w base n = cond (nat_eq p 0) (outside a base n) (inside a w base n)
 
 -- `[rn,rm,lsl #k]`
 abbrev pub scaled : ℕ → ℕ → ℕ → List Tok
-scaled n m k = mark 91 ∷ r n ∷ comma ∷ r m ∷ comma ∷ word (codes "lsl") ∷ mark 35 ∷ number k ∷ mark 93 ∷ []
+scaled n m k = open_bracket ∷ r n ∷ comma ∷ r m ∷ comma ∷ word (codes "lsl") ∷ hash_mark ∷ number k ∷ close_bracket ∷ []
 
 -- LISTS
 -- those of the registers from k up, so many, that stand in a list
@@ -100,4 +96,4 @@ listed m (k ∷ ks) = mark m ∷ r k ∷ listed 44 ks
 
 -- `{..}`, the registers in rising order
 abbrev pub braces : ℕ → List Tok
-braces list = listed 123 (registers_from 16 0 list) ++ mark 125 ∷ []
+braces list = listed 123 (registers_from 16 0 list) ++ close_brace ∷ []

@@ -1,9 +1,9 @@
 //! Addresses of texts: a base, and an offset or an index.
 
 ghost use Rattle.std.specs.Prelude.{◌≡◌, ◌≤◌, ◌<◌, ◌+◌, ◌++◌, ◌∷◌, [], length};
-ghost use Rattle.hm_text_rows.specs.Shapes.{back, comma, indexed, inside, offset, outside, scaled};
+ghost use Rattle.hm_tokens.specs.Tokens.{comma, open_bracket};
+ghost use Rattle.hm_text_rows.specs.Shapes.{back, indexed, inside, offset, outside, scaled};
 ghost use Rattle.hm_tokens.specs.Texts.{part_token, text_tokens};
-ghost use Rattle.hm_tokens.specs.Tokens.{mark};
 
 use crate::shapes::{and, marked, r, with};
 use hm_isa::Bit;
@@ -51,7 +51,7 @@ fn offset(mut text: InstrText, a: Bit, n: u32) -> InstrText
 /// The text with a base more, behind a comma and `[`.
 pub fn open(mut text: InstrText, base: Part) -> InstrText
     requires { length text.operands.items ≤ 20 }
-    ensures tokens { text_tokens result ≡ text_tokens text ++ comma ∷ mark 91 ∷ part_token base ∷ [] }
+    ensures tokens { text_tokens result ≡ text_tokens text ++ comma ∷ open_bracket ∷ part_token base ∷ [] }
     ensures room { length result.operands.items ≡ length text.operands.items + 3 }
 {
     text.operands.push(Part::Mark(Mark::Comma));

@@ -1,7 +1,8 @@
 //! What a text gives numbers for, read carelessly: nothing is refused, since the row that is found is asked for its text.
 
 ghost use Rattle.std.specs.Prelude.{◌≡◌, ◌≤◌, bytes_eq, map};
-ghost use Rattle.hm_text_rows.specs.Operands.{added, back_in, before, bit_in, bits_of, braced, branch_condition_in, first_of, is_number, is_vector, is_vector_name, operand, size_of, token_behind, token_bit};
+ghost use Rattle.hm_text_rows.specs.Operands.{added, back_in, before, bit_in, bits_of, braced, branch_condition_in, first_of, is_number, is_vector};
+ghost use Rattle.hm_text_rows.specs.Operands.{is_vector_name, operand, size_of, token_behind, token_bit};
 ghost use Rattle.hm_tokens.specs.Marks.{mark_byte};
 ghost use Rattle.hm_tokens.specs.Ranges.{is_the_mark};
 ghost use Rattle.hm_tokens.specs.Tokens.{tok};

@@ -1,10 +1,10 @@
 //! The shapes that texts of rows have.
 
 ghost use Rattle.std.specs.Prelude.{◌≡◌, ◌≤◌, ◌<◌, ◌+◌, ◌++◌, ◌∷◌, [], length};
-ghost use Rattle.hm_text_rows.specs.Shapes.{and_constant, and_operand, and_shift, comma, constant, four, one, or_zero, q, r, three, two};
+ghost use Rattle.hm_text_rows.specs.Shapes.{and_constant, and_operand, and_shift, constant, four, one, or_zero, q, r, three, two};
 ghost use Rattle.hm_tokens.specs.Marks.{mark_byte};
 ghost use Rattle.hm_tokens.specs.Texts.{part_token, text_tokens};
-ghost use Rattle.hm_tokens.specs.Tokens.{mark, word};
+ghost use Rattle.hm_tokens.specs.Tokens.{mark, word, comma};
 
 use arrayvec::ArrayVec;
 use hm_isa::{QRegister, Register};

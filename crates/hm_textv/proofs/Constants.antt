@@ -101,10 +101,13 @@ merged_answers (suc (suc op)) d i j l z v n cm f kind ho hd hi hj hl g o hn m m'
 unshifted_answers : (op d i j l : ℕ) → op < 2 → d < 8 → i < 2 → j < 8 → l < 16
     → Answers (unshifted (codes "vmov" ++ either op (codes ".i8") (codes ".i64")) d (byte i j l)) (sum i j d 14 op l)
 unshifted_answers zero d i j l ho hd hi hj hl =
-    answers_of _ _ (codes "vmov") _ (reads_constant (codes "vmov") (codes ".i8") _ false true 0 0 d (byte i j l) refl (suffix_integer 0 (omega arith)) (a_vector d hd) (byte_small i j l hi hj hl))
+    answers_of _ _ (codes "vmov") _
+    (reads_constant (codes "vmov") (codes ".i8") _ false true 0 0 d (byte i j l) refl (suffix_integer 0 (omega arith)) (a_vector d hd)
+    (byte_small i j l hi hj hl))
     (asks_vmov _ refl refl ∙ ap (λ (w : ℕ). Some w) (coded 0 0 0 0 d i j l 14 0 hi hj hl refl refl))
 unshifted_answers (suc zero) d i j l ho hd hi hj hl =
-    answers_of _ _ (codes "vmov") _ (reads_constant (codes "vmov") (codes ".i64") _ false true 0 3 d (byte i j l) refl suffix_i64 (a_vector d hd) (byte_small i j l hi hj hl))
+    answers_of _ _ (codes "vmov") _
+    (reads_constant (codes "vmov") (codes ".i64") _ false true 0 3 d (byte i j l) refl suffix_i64 (a_vector d hd) (byte_small i j l hi hj hl))
     (asks_vmov _ refl refl ∙ ap (λ (w : ℕ). Some w) (coded 0 3 0 0 d i j l 14 1 hi hj hl refl refl))
 unshifted_answers (suc (suc op)) d i j l ho hd hi hj hl = absurd (omega arith)
 
@@ -113,10 +116,52 @@ constant_answers : (cm op d i j l : ℕ) → cm < 15 → op < 2 → d < 8 → i 
 constant_answers cm op d i j l hc ho hd hi hj hl =
     let words = suffix_integer 2 (omega arith) in
     let halves = suffix_integer 1 (omega arith) in
-    at_below (λ c. Answers (get_or (constant_forms op d (byte i j l)) c []) (sum i j d c op l)) 15 cm
-    (unshifted_answers op d i j l ho hd hi hj hl, (moved_answers op d i j l 2 1 16 13 _ _ ho hd hi hj hl words msl (omega arith) refl refl refl refl, (moved_answers op d i j l 2 1 8 12 _ _ ho hd hi hj hl words msl (omega arith) refl refl refl refl, (merged_answers op d i j l 1 0 8 11 _ _ ho hd hi hj hl halves lsl (omega arith) refl refl refl refl, (moved_answers op d i j l 1 0 8 10 _ _ ho hd hi hj hl halves lsl (omega arith) refl refl refl refl, (merged_answers op d i j l 1 0 0 9 _ _ ho hd hi hj hl halves lsl (omega arith) refl refl refl refl, (moved_answers op d i j l 1 0 0 8 _ _ ho hd hi hj hl halves lsl (omega arith) refl refl refl refl, (merged_answers op d i j l 2 0 24 7 _ _ ho hd hi hj hl words lsl (omega arith) refl refl refl refl, (moved_answers op d i j l 2 0 24 6 _ _ ho hd hi hj hl words lsl (omega arith) refl refl refl refl, (merged_answers op d i j l 2 0 16 5 _ _ ho hd hi hj hl words lsl (omega arith) refl refl refl refl, (moved_answers op d i j l 2 0 16 4 _ _ ho hd hi hj hl words lsl (omega arith) refl refl refl refl, (merged_answers op d i j l 2 0 8 3 _ _ ho hd hi hj hl words lsl (omega arith) refl refl refl refl, (moved_answers op d i j l 2 0 8 2 _ _ ho hd hi hj hl words lsl (omega arith) refl refl refl refl, (merged_answers op d i j l 2 0 0 1 _ _ ho hd hi hj hl words lsl (omega arith) refl refl refl refl, (moved_answers op d i j l 2 0 0 0 _ _ ho hd hi hj hl words lsl (omega arith) refl refl refl refl, tt)))))))))))))))
+    at_below (λ c. Answers (get_or (constant_forms op d (byte i j l)) c []) (sum i j d c op l)) 15 cm (
+      unshifted_answers op d i j l ho hd hi hj hl,
+      (
+        moved_answers op d i j l 2 1 16 13 _ _ ho hd hi hj hl words msl (omega arith) refl refl refl refl,
+        (
+          moved_answers op d i j l 2 1 8 12 _ _ ho hd hi hj hl words msl (omega arith) refl refl refl refl,
+          (
+            merged_answers op d i j l 1 0 8 11 _ _ ho hd hi hj hl halves lsl (omega arith) refl refl refl refl,
+            (
+              moved_answers op d i j l 1 0 8 10 _ _ ho hd hi hj hl halves lsl (omega arith) refl refl refl refl,
+              (
+                merged_answers op d i j l 1 0 0 9 _ _ ho hd hi hj hl halves lsl (omega arith) refl refl refl refl,
+                (
+                  moved_answers op d i j l 1 0 0 8 _ _ ho hd hi hj hl halves lsl (omega arith) refl refl refl refl,
+                  (
+                    merged_answers op d i j l 2 0 24 7 _ _ ho hd hi hj hl words lsl (omega arith) refl refl refl refl,
+                    (
+                      moved_answers op d i j l 2 0 24 6 _ _ ho hd hi hj hl words lsl (omega arith) refl refl refl refl,
+                      (
+                        merged_answers op d i j l 2 0 16 5 _ _ ho hd hi hj hl words lsl (omega arith) refl refl refl refl,
+                        (
+                          moved_answers op d i j l 2 0 16 4 _ _ ho hd hi hj hl words lsl (omega arith) refl refl refl refl,
+                          (
+                            merged_answers op d i j l 2 0 8 3 _ _ ho hd hi hj hl words lsl (omega arith) refl refl refl refl,
+                            (
+                              moved_answers op d i j l 2 0 8 2 _ _ ho hd hi hj hl words lsl (omega arith) refl refl refl refl,
+                              (
+                                merged_answers op d i j l 2 0 0 1 _ _ ho hd hi hj hl words lsl (omega arith) refl refl refl refl,
+                                (moved_answers op d i j l 2 0 0 0 _ _ ho hd hi hj hl words lsl (omega arith) refl refl refl refl, tt),
+                              ),
+                            ),
+                          ),
+                        ),
+                      ),
+                    ),
+                  ),
+                ),
+              ),
+            ),
+          ),
+        ),
+      ),
+    )
     hc
 
 pub row_v15 : (i : V15) → Row (vector.V15 i)
 row_v15 i =
-    constant_answers i.cm.value i.op.value i.d.value i.i.value i.i3.value i.i4.value i.cm.in_range i.op.in_range i.d.in_range i.i.in_range i.i3.in_range i.i4.in_range
+    constant_answers i.cm.value i.op.value i.d.value i.i.value i.i3.value i.i4.value i.cm.in_range i.op.in_range i.d.in_range i.i.in_range i.i3.in_range
+    i.i4.in_range

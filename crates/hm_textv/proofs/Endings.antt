@@ -25,25 +25,29 @@ of_sizes f n u z lt is bare sign size = record { is = is z lt; bare = bare z lt;
 pub suffix_integer : (z : ℕ) → z < 3 → Suffix (integer z) false 0 z
 unfolding sign_of size_of
 suffix_integer z lt =
-    of_sizes integer 3 0 z lt (λ k h. below_holds (λ j. is_suffix (integer j)) 3 k refl h) (λ k h. agree_below_at (λ j. length (integer j) == 0) (λ j. false) 3 k refl h)
+    of_sizes integer 3 0 z lt (λ k h. below_holds (λ j. is_suffix (integer j)) 3 k refl h)
+    (λ k h. agree_below_at (λ j. length (integer j) == 0) (λ j. false) 3 k refl h)
     (λ k h. below_is (λ j. sign_of (integer j)) (λ j. 0) 3 k refl h) (λ k h. below_is (λ j. size_of (integer j)) (λ j. j) 3 k refl h)
 
 pub suffix_signed : (z : ℕ) → z < 3 → Suffix (signed z) false 0 z
 unfolding sign_of size_of
 suffix_signed z lt =
-    of_sizes signed 3 0 z lt (λ k h. below_holds (λ j. is_suffix (signed j)) 3 k refl h) (λ k h. agree_below_at (λ j. length (signed j) == 0) (λ j. false) 3 k refl h)
+    of_sizes signed 3 0 z lt (λ k h. below_holds (λ j. is_suffix (signed j)) 3 k refl h)
+    (λ k h. agree_below_at (λ j. length (signed j) == 0) (λ j. false) 3 k refl h)
     (λ k h. below_is (λ j. sign_of (signed j)) (λ j. 0) 3 k refl h) (λ k h. below_is (λ j. size_of (signed j)) (λ j. j) 3 k refl h)
 
 pub suffix_unsigned : (z : ℕ) → z < 3 → Suffix (unsigned z) false 1 z
 unfolding sign_of size_of
 suffix_unsigned z lt =
-    of_sizes unsigned 3 1 z lt (λ k h. below_holds (λ j. is_suffix (unsigned j)) 3 k refl h) (λ k h. agree_below_at (λ j. length (unsigned j) == 0) (λ j. false) 3 k refl h)
+    of_sizes unsigned 3 1 z lt (λ k h. below_holds (λ j. is_suffix (unsigned j)) 3 k refl h)
+    (λ k h. agree_below_at (λ j. length (unsigned j) == 0) (λ j. false) 3 k refl h)
     (λ k h. below_is (λ j. sign_of (unsigned j)) (λ j. 1) 3 k refl h) (λ k h. below_is (λ j. size_of (unsigned j)) (λ j. j) 3 k refl h)
 
 pub suffix_plain : (z : ℕ) → z < 4 → Suffix (plain z) false 0 z
 unfolding sign_of size_of
 suffix_plain z lt =
-    of_sizes plain 4 0 z lt (λ k h. below_holds (λ j. is_suffix (plain j)) 4 k refl h) (λ k h. agree_below_at (λ j. length (plain j) == 0) (λ j. false) 4 k refl h)
+    of_sizes plain 4 0 z lt (λ k h. below_holds (λ j. is_suffix (plain j)) 4 k refl h)
+    (λ k h. agree_below_at (λ j. length (plain j) == 0) (λ j. false) 4 k refl h)
     (λ k h. below_is (λ j. sign_of (plain j)) (λ j. 0) 4 k refl h) (λ k h. below_is (λ j. size_of (plain j)) (λ j. j) 4 k refl h)
 
 pub suffix_by_sign : (u z : ℕ) → u < 2 → z < 3 → Suffix (by_sign u z) false u z

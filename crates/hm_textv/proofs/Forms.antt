@@ -5,11 +5,11 @@ use Rattle.std.specs.Prelude.{min}
 use Rattle.hm_isa.specs.declared.Vector.{Vector}
 use Rattle.hm_isa.specs.Code.{vector_code}
 use Rattle.hm_tokens.specs.Names.{register_name, vector_name}
-use Rattle.hm_tokens.specs.Tokens.{Tok, word, number}
+use Rattle.hm_tokens.specs.Tokens.{Tok, word, number, comma}
 use Rattle.hm_textv.specs.declared.operands.Operands.{Operands}
 use Rattle.hm_textv.specs.Operands.{word_value}
 use Rattle.hm_text_rows.specs.Operands.{is_vector_name}
-use Rattle.hm_text_rows.specs.Shapes.{and_constant, comma, constant, four, three, two}
+use Rattle.hm_text_rows.specs.Shapes.{and_constant, constant, four, three, two}
 use Rattle.hm_text_rows.proofs.Words.{cut, is_name, is_stem, word_q, word_r}
 use Rattle.hm_text_rows.proofs.Printed.{IsReadBack, IsShort, is_read_back, short_comma, short_hash, short_number, short_word}
 use Rattle.hm_textv.specs.Codes.{code_in, code_of}
@@ -97,10 +97,12 @@ pub reads_two_constant : (s f w x : List ℕ) (bare b c : Bool) (u z m n k : ℕ
 reads_two_constant s f w x bare b c u z m n k stem g p o lt = record {
   asks = rw (cut s f stem g.is, g.bare, g.sign, g.size, p.value, o.value, min_small k lt) refl;
   prints =
-      is_read_back s f _ stem g.is (short_word w p.is, (short_comma, (short_word x o.is, (short_comma, (short_hash, (short_small k lt, tt)))))) refl (omega arith);
+      is_read_back s f _ stem g.is (short_word w p.is, (short_comma, (short_word x o.is, (short_comma, (short_hash, (short_small k lt, tt)))))) refl
+      (omega arith);
 }
 
-pub reads_three : (s f w x y : List ℕ) (bare b c e : Bool) (u z m n l : ℕ) → is_stem s ≡ true → Suffix f bare u z → Operand w m b → Operand x n c → Operand y l e
+pub reads_three : (s f w x y : List ℕ) (bare b c e : Bool) (u z m n l : ℕ) → is_stem s ≡ true → Suffix f bare u z → Operand w m b → Operand x n c
+    → Operand y l e
     → Reads (three (s ++ f) (word w) (word x) (word y)) s (given bare u z e m n l 0)
 reads_three s f w x y bare b c e u z m n l stem g p o t = record {
   asks = rw (cut s f stem g.is, g.bare, g.sign, g.size, t.vector, p.value, o.value, t.value) refl;
@@ -108,16 +110,19 @@ reads_three s f w x y bare b c e u z m n l stem g p o t = record {
       is_read_back s f _ stem g.is (short_word w p.is, (short_comma, (short_word x o.is, (short_comma, (short_word y t.is, tt))))) refl (omega arith);
 }
 
-pub reads_three_constant : (s f w x y : List ℕ) (bare b c e : Bool) (u z m n l k : ℕ) → is_stem s ≡ true → Suffix f bare u z → Operand w m b → Operand x n c → Operand y l e → k < 1000
+pub reads_three_constant : (s f w x y : List ℕ) (bare b c e : Bool) (u z m n l k : ℕ) → is_stem s ≡ true → Suffix f bare u z → Operand w m b → Operand x n c
+    → Operand y l e → k < 1000
     → Reads (and_constant (three (s ++ f) (word w) (word x) (word y)) k) s (given bare u z e m n l k)
 reads_three_constant s f w x y bare b c e u z m n l k stem g p o t lt = record {
   asks = rw (cut s f stem g.is, g.bare, g.sign, g.size, t.vector, p.value, o.value, t.value, min_small k lt) refl;
   prints =
       is_read_back s f _ stem g.is
-      (short_word w p.is, (short_comma, (short_word x o.is, (short_comma, (short_word y t.is, (short_comma, (short_hash, (short_small k lt, tt)))))))) refl (omega arith);
+      (short_word w p.is, (short_comma, (short_word x o.is, (short_comma, (short_word y t.is, (short_comma, (short_hash, (short_small k lt, tt)))))))) refl
+      (omega arith);
 }
 
-pub reads_four : (s f w x y v : List ℕ) (bare b c e h : Bool) (u z m n l k : ℕ) → is_stem s ≡ true → Suffix f bare u z → Operand w m b → Operand x n c → Operand y l e → Operand v k h
+pub reads_four : (s f w x y v : List ℕ) (bare b c e h : Bool) (u z m n l k : ℕ) → is_stem s ≡ true → Suffix f bare u z → Operand w m b → Operand x n c
+    → Operand y l e → Operand v k h
     → Reads (four (s ++ f) (word w) (word x) (word y) (word v)) s (given bare u z e m n l k)
 reads_four s f w x y v bare b c e h u z m n l k stem g p o t i = record {
   asks = rw (cut s f stem g.is, g.bare, g.sign, g.size, t.vector, p.value, o.value, t.value, i.value) refl;
@@ -133,13 +138,16 @@ reads_constant s f w bare b u z m x stem g p lt = record {
   prints = is_read_back s f _ stem g.is (short_word w p.is, (short_comma, (short_hash, (short_small x lt, tt)))) refl (omega arith);
 }
 
-pub reads_shifted : (s f kind : List ℕ) (bare b : Bool) (u z d x v n : ℕ) → is_stem s ≡ true → Suffix f bare u z → d < 8 → Operand kind v b → x < 1000 → n < 1000
+pub reads_shifted : (s f kind : List ℕ) (bare b : Bool) (u z d x v n : ℕ) → is_stem s ≡ true → Suffix f bare u z → d < 8 → Operand kind v b → x < 1000
+    → n < 1000
     → Reads (shifted (s ++ f) kind n d x) s (given bare u z b d x v n)
 reads_shifted s f kind bare b u z d x v n stem g hd o hx hn = record {
   asks = rw (cut s f stem g.is, g.bare, g.sign, g.size, o.vector, value_q d hd, min_small x hx, o.value, min_small n hn) refl;
   prints =
-      is_read_back s f _ stem g.is
-      (short_word (vector_name d) (word_q d hd), (short_comma, (short_hash, (short_small x hx, (short_comma, (short_word kind o.is, (short_hash, (short_small n hn, tt))))))))
+      is_read_back s f _ stem g.is (
+        short_word (vector_name d) (word_q d hd),
+        (short_comma, (short_hash, (short_small x hx, (short_comma, (short_word kind o.is, (short_hash, (short_small n hn, tt))))))),
+      )
       refl (omega arith);
 }
 

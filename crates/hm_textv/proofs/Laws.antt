@@ -62,7 +62,8 @@ move_answers : (d m : ℕ) → d < 8 → m < 8 → Answers (two (codes "vmov") (
 move_answers d m hd hm =
     answers_of _ _ (codes "vmov") _ (reads_two (codes "vmov") _ _ _ _ _ _ _ _ _ _ refl no_suffix (a_vector d hd) (a_vector m hm)) (asks_move d m)
 
-same_move : (n d m : ℕ) (ts : List Tok) → d < 8 → m < 8 → n ≡ m → two (codes "vmov") (q d) (q m) ≡ ts → Answers ts (bitwise_base bitwise.Orr + n ↑ 17 + d ↑ 13 + m ↑ 1)
+same_move : (n d m : ℕ) (ts : List Tok) → d < 8 → m < 8 → n ≡ m → two (codes "vmov") (q d) (q m) ≡ ts
+    → Answers ts (bitwise_base bitwise.Orr + n ↑ 17 + d ↑ 13 + m ↑ 1)
 same_move n d m ts hd hm e is =
     subst (λ (x : ℕ). Answers ts (bitwise_base bitwise.Orr + x ↑ 17 + d ↑ 13 + m ↑ 1)) (sym e)
     (subst (λ (xs : List Tok). Answers xs (bitwise_base bitwise.Orr + m ↑ 17 + d ↑ 13 + m ↑ 1)) is (move_answers d m hd hm))

@@ -25,7 +25,8 @@ use Rattle.hm_isa.specs.Standing.{◌↑◌}
 use Rattle.hm_tokens.specs.Tokens.{Tok}
 use Rattle.hm_textv.specs.Codes.{bits_in, code_of}
 use Rattle.hm_textv.specs.Rows.{long_part, shift_in, size_in}
-use Rattle.hm_textv.specs.Stems.{constant_shift_stem, constant_shift_suffix, integer, narrow_stem, narrow_suffix, one_stem, one_suffix, plain, reverse_stem, signed}
+use Rattle.hm_textv.specs.Stems.{constant_shift_stem, constant_shift_suffix, integer, narrow_stem, narrow_suffix, one_stem, one_suffix, plain, reverse_stem}
+use Rattle.hm_textv.specs.Stems.{signed}
 use Rattle.hm_text_rows.specs.Shapes.{either}
 use Rattle.hm_text_rows.proofs.Words.{below_holds, below_is, is_stem}
 use Rattle.hm_textv.proofs.Endings.{Suffix, no_suffix, suffix_by_sign, suffix_integer, suffix_plain, suffix_signed, suffix_unsigned}
@@ -78,11 +79,15 @@ not_less x e = grind (arith, nat_tests)
 is_field : (name : ConstantShiftName) (x : ℕ) → x < 64 → has_size x ≡ true → IsField name (size_in x) (shift_in name x) x
 is_field by_constant.Shr x lt e = below_is (λ k. 2 * bits_in (size_in k) - shift_in by_constant.Shr k) (λ k. k) 64 x refl lt
 is_field by_constant.Rshr x lt e = below_is (λ k. 2 * bits_in (size_in k) - shift_in by_constant.Rshr k) (λ k. k) 64 x refl lt
-is_field by_constant.Qshl x lt e = rw (not_less x e) at (below_is (λ k. cond (ltb k 8) k (bits_in (size_in k) + shift_in by_constant.Qshl k)) (λ k. k) 64 x refl lt)
-is_field by_constant.Qshlu x lt e = rw (not_less x e) at (below_is (λ k. cond (ltb k 8) k (bits_in (size_in k) + shift_in by_constant.Qshlu k)) (λ k. k) 64 x refl lt)
-is_field by_constant.Shl x lt e = rw (not_less x e) at (below_is (λ k. cond (ltb k 8) k (bits_in (size_in k) + shift_in by_constant.Shl k)) (λ k. k) 64 x refl lt)
+is_field by_constant.Qshl x lt e =
+    rw (not_less x e) at (below_is (λ k. cond (ltb k 8) k (bits_in (size_in k) + shift_in by_constant.Qshl k)) (λ k. k) 64 x refl lt)
+is_field by_constant.Qshlu x lt e =
+    rw (not_less x e) at (below_is (λ k. cond (ltb k 8) k (bits_in (size_in k) + shift_in by_constant.Qshlu k)) (λ k. k) 64 x refl lt)
+is_field by_constant.Shl x lt e =
+    rw (not_less x e) at (below_is (λ k. cond (ltb k 8) k (bits_in (size_in k) + shift_in by_constant.Shl k)) (λ k. k) 64 x refl lt)
 is_field by_constant.Sri x lt e = below_is (λ k. 2 * bits_in (size_in k) - shift_in by_constant.Sri k) (λ k. k) 64 x refl lt
-is_field by_constant.Sli x lt e = rw (not_less x e) at (below_is (λ k. cond (ltb k 8) k (bits_in (size_in k) + shift_in by_constant.Sli k)) (λ k. k) 64 x refl lt)
+is_field by_constant.Sli x lt e =
+    rw (not_less x e) at (below_is (λ k. cond (ltb k 8) k (bits_in (size_in k) + shift_in by_constant.Sli k)) (λ k. k) 64 x refl lt)
 
 asks_shift : (name : ConstantShiftName) (u z d m k x : ℕ) → IsField name z k x
     → code_of (constant_shift_stem name) (given false u z false d m k 0) ≡ Some (constant_shift_base name + u ↑ 28 + x ↑ 16 + d ↑ 13 + m ↑ 1)
@@ -100,7 +105,8 @@ row_v11 i =
     let x = i.x.value in
     let lt = i.x.in_range in
     row_of (vector.V11 i) _ _
-    (reads_two_constant _ _ _ _ _ _ _ _ _ _ _ _ (stem_constant_shift i.name) (suffix_shift i.name i.u.value (size_in x) i.u.in_range (size_small x lt) i.signs) (a_vector i.d.value i.d.in_range) (a_vector i.m.value i.m.in_range) (shift_small i.name x lt))
+    (reads_two_constant _ _ _ _ _ _ _ _ _ _ _ _ (stem_constant_shift i.name) (suffix_shift i.name i.u.value (size_in x) i.u.in_range (size_small x lt) i.signs)
+    (a_vector i.d.value i.d.in_range) (a_vector i.m.value i.m.in_range) (shift_small i.name x lt))
     (asks_shift i.name i.u.value (size_in x) _ _ _ x (is_field i.name x lt i.size))
 
 -- V12
@@ -142,14 +148,17 @@ asks_full (suc (suc t)) u z d m k lt e = absurd (omega arith)
 long_zero : (t : ℕ) (f : List ℕ) (u z d m k : ℕ) → t < 2 → Suffix f false u z → d < 8 → m < 8 → eqb 0 (bits_in z) ≡ false → eqb k 0 ≡ true
     → Answers (long_part t f d m k) (part_code t u z d m k)
 long_zero t f u z d m k ht g hd hm some e =
-    rw (eqb-true k 0 e) (answers_of _ _ _ _ (reads_two _ _ _ _ _ _ _ _ _ _ _ (stem_moved t ht) g (a_vector d hd) (a_vector m hm)) (asks_moved t u z d m ht some))
+    rw (eqb-true k 0 e) (answers_of _ _ _ _ (reads_two _ _ _ _ _ _ _ _ _ _ _ (stem_moved t ht) g (a_vector d hd) (a_vector m hm))
+    (asks_moved t u z d m ht some))
 
 long_more : (t : ℕ) (f : List ℕ) (u z d m k : ℕ) → t < 2 → Suffix f false u z → d < 8 → m < 8 → k < 1000 → eqb k (bits_in z) ≡ false → eqb k 0 ≡ false
     → Answers (long_part t f d m k) (part_code t u z d m k)
 long_more t f u z d m k ht g hd hm small less e =
-    rw e (answers_of _ _ _ _ (reads_two_constant _ _ _ _ _ _ _ _ _ _ _ _ (stem_long t ht) g (a_vector d hd) (a_vector m hm) small) (asks_long t u z d m k ht less))
+    rw e (answers_of _ _ _ _ (reads_two_constant _ _ _ _ _ _ _ _ _ _ _ _ (stem_long t ht) g (a_vector d hd) (a_vector m hm) small)
+    (asks_long t u z d m k ht less))
 
-long_answers : (t : ℕ) (f : List ℕ) (u z d m k : ℕ) → t < 2 → Suffix f false u z → d < 8 → m < 8 → k < 1000 → eqb 0 (bits_in z) ≡ false → eqb k (bits_in z) ≡ false
+long_answers : (t : ℕ) (f : List ℕ) (u z d m k : ℕ) → t < 2 → Suffix f false u z → d < 8 → m < 8 → k < 1000 → eqb 0 (bits_in z) ≡ false
+    → eqb k (bits_in z) ≡ false
     → Answers (long_part t f d m k) (part_code t u z d m k)
 long_answers t f u z d m k ht g hd hm small some less =
     elim (cases_Bool (eqb k 0)) [
@@ -173,15 +182,19 @@ full_bits (suc (suc z)) lt = absurd (omega arith)
 pub row_v12 : (i : V12) → Row (vector.V12 i)
 row_v12 (v12.Bytes i) =
     recoded _ _ _ (omega arith)
-    (long_answers i.t.value _ i.u.value 0 i.d.value i.m.value i.k.value i.t.in_range (suffix_by_sign i.u.value 0 i.u.in_range (omega arith)) i.d.in_range i.m.in_range
+    (long_answers i.t.value _ i.u.value 0 i.d.value i.m.value i.k.value i.t.in_range (suffix_by_sign i.u.value 0 i.u.in_range (omega arith)) i.d.in_range
+    i.m.in_range
     (let lt = i.k.in_range in omega arith) refl (ne_eqb _ _ (let lt = i.k.in_range in λ e. omega arith)))
 row_v12 (v12.Halves i) =
     recoded _ _ _ (omega arith)
-    (long_answers i.t.value _ i.u.value 1 i.d.value i.m.value i.k.value i.t.in_range (suffix_by_sign i.u.value 1 i.u.in_range (omega arith)) i.d.in_range i.m.in_range
+    (long_answers i.t.value _ i.u.value 1 i.d.value i.m.value i.k.value i.t.in_range (suffix_by_sign i.u.value 1 i.u.in_range (omega arith)) i.d.in_range
+    i.m.in_range
     (let lt = i.k.in_range in omega arith) refl (ne_eqb _ _ (let lt = i.k.in_range in λ e. omega arith)))
 row_v12 (v12.Full i) =
     row_of (vector.V12 (v12.Full i)) _ _
-    (reads_two_constant _ _ _ _ _ _ _ _ _ _ _ _ (stem_long i.t.value i.t.in_range) (suffix_by_sign i.u.value i.z.value i.u.in_range (let lt = i.z.in_range in omega arith)) (a_vector i.d.value i.d.in_range) (a_vector i.m.value i.m.in_range) (full_small i.z.value i.z.in_range))
+    (reads_two_constant _ _ _ _ _ _ _ _ _ _ _ _ (stem_long i.t.value i.t.in_range)
+    (suffix_by_sign i.u.value i.z.value i.u.in_range (let lt = i.z.in_range in omega arith)) (a_vector i.d.value i.d.in_range)
+    (a_vector i.m.value i.m.in_range) (full_small i.z.value i.z.in_range))
     (asks_full i.t.value _ _ _ _ _ i.t.in_range (full_bits i.z.value i.z.in_range))
 
 -- V13
@@ -216,8 +229,11 @@ asks_not d m = refl
 
 pub row_v13 : (i : V13) → Row (vector.V13 i)
 row_v13 (v13.Elements i) =
-    row_of (vector.V13 (v13.Elements i)) _ _ (reads_two _ _ _ _ _ _ _ _ _ _ _ (stem_one i.name) (suffix_one i.name i.z.value i.z.in_range) (a_vector i.d.value i.d.in_range) (a_vector i.m.value i.m.in_range)) (asks_one i.name _ _ _)
-row_v13 (v13.Not i) = row_of (vector.V13 (v13.Not i)) _ _ (reads_two (codes "vmvn") _ _ _ _ _ _ _ _ _ _ refl no_suffix (a_vector i.d.value i.d.in_range) (a_vector i.m.value i.m.in_range)) (asks_not _ _)
+    row_of (vector.V13 (v13.Elements i)) _ _
+    (reads_two _ _ _ _ _ _ _ _ _ _ _ (stem_one i.name) (suffix_one i.name i.z.value i.z.in_range) (a_vector i.d.value i.d.in_range)
+    (a_vector i.m.value i.m.in_range)) (asks_one i.name _ _ _)
+row_v13 (v13.Not i) = row_of (vector.V13 (v13.Not i)) _ _
+    (reads_two (codes "vmvn") _ _ _ _ _ _ _ _ _ _ refl no_suffix (a_vector i.d.value i.d.in_range) (a_vector i.m.value i.m.in_range)) (asks_not _ _)
 
 -- V14
 stem_reverse : (name : ReverseName) → is_stem (reverse_stem name) ≡ true
@@ -225,7 +241,8 @@ stem_reverse reverse_.Rev64 = refl
 stem_reverse reverse_.Rev32 = refl
 stem_reverse reverse_.Rev16 = refl
 
-asks_reverse : (name : ReverseName) (z d m : ℕ) → code_of (reverse_stem name) (given false 0 z false d m 0 0) ≡ Some (reverse_base name + z ↑ 18 + d ↑ 13 + m ↑ 1)
+asks_reverse : (name : ReverseName) (z d m : ℕ)
+    → code_of (reverse_stem name) (given false 0 z false d m 0 0) ≡ Some (reverse_base name + z ↑ 18 + d ↑ 13 + m ↑ 1)
 unfolding code_of
 asks_reverse reverse_.Rev64 z d m = refl
 asks_reverse reverse_.Rev32 z d m = refl
@@ -234,7 +251,8 @@ asks_reverse reverse_.Rev16 z d m = refl
 pub row_v14 : (i : V14) → Row (vector.V14 i)
 row_v14 i =
     row_of (vector.V14 i) _ _
-    (reads_two _ _ _ _ _ _ _ _ _ _ _ (stem_reverse i.name) (suffix_plain i.z.value (let lt = i.z.in_range in omega arith)) (a_vector i.d.value i.d.in_range) (a_vector i.m.value i.m.in_range)) (asks_reverse i.name _ _ _)
+    (reads_two _ _ _ _ _ _ _ _ _ _ _ (stem_reverse i.name) (suffix_plain i.z.value (let lt = i.z.in_range in omega arith)) (a_vector i.d.value i.d.in_range)
+    (a_vector i.m.value i.m.in_range)) (asks_reverse i.name _ _ _)
 
 -- V16
 stem_narrow : (name : NarrowName) (t : ℕ) → t < 2 → is_stem (narrow_stem name t) ≡ true
@@ -273,5 +291,6 @@ asks_narrow name (suc (suc t)) z d m lt = absurd (omega arith)
 
 pub row_v16 : (i : V16) → Row (vector.V16 i)
 row_v16 i =
-    row_of (vector.V16 i) _ _ (reads_two _ _ _ _ _ _ _ _ _ _ _ (stem_narrow i.name i.t.value i.t.in_range) (suffix_narrow i.name i.z.value i.z.in_range) (a_vector i.d.value i.d.in_range) (a_vector i.m.value i.m.in_range))
+    row_of (vector.V16 i) _ _ (reads_two _ _ _ _ _ _ _ _ _ _ _ (stem_narrow i.name i.t.value i.t.in_range) (suffix_narrow i.name i.z.value i.z.in_range)
+    (a_vector i.d.value i.d.in_range) (a_vector i.m.value i.m.in_range))
     (asks_narrow i.name i.t.value i.z.value _ _ i.t.in_range)

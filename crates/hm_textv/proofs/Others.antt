@@ -1,5 +1,6 @@
 -- Comparisons, blocks, and rows of core registers: their texts ask for their codes.
-use Rattle.std.proofs.Common.{◌≡◌, ℕ, ◌+◌, ◌*◌, ◌/◌, ◌%◌, ◌^◌, ◌<◌, true, false, cond, ltb, List, [], ◌∷◌, ◌++◌, get_or, Some, refl, ap, subst, append_assoc, arith}
+use Rattle.std.proofs.Common.{◌≡◌, ℕ, ◌+◌, ◌*◌, ◌/◌, ◌%◌, ◌^◌, ◌<◌, true, false, cond, ltb, List, [], ◌∷◌, ◌++◌, get_or, Some, refl, ap, subst, append_assoc}
+use Rattle.std.proofs.Common.{arith}
 use Rattle.std.specs.Prelude.{codes, nat_eq}
 use Rattle.std.proofs.lemmas.Bool.{agree_below_at}
 use Rattle.std.proofs.lemmas.Bool.Decides.{nat_tests}
@@ -30,7 +31,8 @@ use Rattle.hm_text_rows.proofs.Words.{at_below, below_holds, below_is, is_name, 
 use Rattle.hm_textv.specs.Rows.{compare_name}
 use Rattle.hm_textv.specs.Stems.{block_letters, compare_condition, compare_suffix, offsets_stem, size_number, wrapped_stem}
 use Rattle.hm_textv.proofs.Endings.{Suffix, no_suffix, suffix_integer, suffix_plain, suffix_signed, suffix_unsigned}
-use Rattle.hm_textv.proofs.Forms.{Operand, Reads, Row, a_register, a_vector, given, reads_none, reads_one, reads_three, reads_three_constant, reads_two, reads_two_constant, row_of}
+use Rattle.hm_textv.proofs.Forms.{Operand, Reads, Row, a_register, a_vector, given, reads_none, reads_one, reads_three, reads_three_constant, reads_two}
+use Rattle.hm_textv.proofs.Forms.{reads_two_constant, row_of}
 
 less : (m n : ℕ) → ltb m n ≡ true → m < n
 less m n e = grind (arith, nat_tests)
@@ -46,7 +48,8 @@ asks_carried k d m n e = rw e (ap (λ (w : ℕ). Some w) (omega arith))
 pub row_v17 : (i : V17) → Row (vector.V17 i)
 row_v17 i =
     row_of (vector.V17 i) (codes "vshlc") _
-    (reads_two_constant (codes "vshlc") _ _ _ _ _ _ _ _ _ _ _ refl no_suffix (a_vector i.d.value i.d.in_range) (a_register i.m.value i.m.in_range) (shift_small i.k.value i.k.in_range))
+    (reads_two_constant (codes "vshlc") _ _ _ _ _ _ _ _ _ _ _ refl no_suffix (a_vector i.d.value i.d.in_range) (a_register i.m.value i.m.in_range)
+    (shift_small i.k.value i.k.in_range))
     (asks_carried i.k.value _ _ _ (below_is (λ j. cond (nat_eq j 0) 32 j % 32) (λ j. j) 32 i.k.value refl i.k.in_range))
 
 -- V18
@@ -64,7 +67,8 @@ asks_dup element.Words d t = ap (λ (w : ℕ). Some w) (omega arith)
 pub row_v18 : (i : V18) → Row (vector.V18 i)
 row_v18 i =
     row_of (vector.V18 i) (codes "vdup") _
-    (reads_two (codes "vdup") _ _ _ _ _ _ _ _ _ _ refl (suffix_plain (size_number i.size) (size_below i.size)) (a_vector i.d.value i.d.in_range) (a_register i.t.value i.t.in_range)) (asks_dup i.size _ _)
+    (reads_two (codes "vdup") _ _ _ _ _ _ _ _ _ _ refl (suffix_plain (size_number i.size) (size_below i.size)) (a_vector i.d.value i.d.in_range)
+    (a_register i.t.value i.t.in_range)) (asks_dup i.size _ _)
 
 -- V19
 stem_offsets : (name : OffsetsName) → is_stem (offsets_stem name) ≡ true
@@ -102,11 +106,13 @@ odd h lt = a_register (2 * h + 1) (omega arith)
 pub row_v19 : (i : V19) → Row (vector.V19 i)
 row_v19 (v19.Free i) =
     row_of (vector.V19 (v19.Free i)) _ _
-    (reads_two_constant _ _ _ _ _ _ _ _ _ _ _ _ (stem_offsets i.name) (suffix_unsigned i.z.value i.z.in_range) (a_vector i.d.value i.d.in_range) (even i.n.value i.n.in_range) (step_small i.k.value i.k.in_range))
+    (reads_two_constant _ _ _ _ _ _ _ _ _ _ _ _ (stem_offsets i.name) (suffix_unsigned i.z.value i.z.in_range) (a_vector i.d.value i.d.in_range)
+    (even i.n.value i.n.in_range) (step_small i.k.value i.k.in_range))
     (asks_offsets i.name _ _ _ i.k.value _ (step_is i.k.value i.k.in_range))
 row_v19 (v19.Wrapped i) =
     row_of (vector.V19 (v19.Wrapped i)) _ _
-    (reads_three_constant _ _ _ _ _ _ _ _ _ _ _ _ _ _ _ (stem_wrapped i.name) (suffix_unsigned i.z.value i.z.in_range) (a_vector i.d.value i.d.in_range) (even i.n.value i.n.in_range) (odd i.r.value i.r.in_range) (step_small i.k.value i.k.in_range))
+    (reads_three_constant _ _ _ _ _ _ _ _ _ _ _ _ _ _ _ (stem_wrapped i.name) (suffix_unsigned i.z.value i.z.in_range) (a_vector i.d.value i.d.in_range)
+    (even i.n.value i.n.in_range) (odd i.r.value i.r.in_range) (step_small i.k.value i.k.in_range))
     (asks_wrapped i.name _ _ _ i.k.value _ _ (step_is i.k.value i.k.in_range))
 
 -- V20
@@ -160,31 +166,117 @@ AsksScalar k =
 asks_vectors : (k : ℕ) → k < 16 → AsksVectors k
 unfolding code_of
 asks_vectors k lt =
-    at_below AsksVectors 16 k
-    ((λ u z c n m. ap (λ (w : ℕ). Some w) (omega arith)), ((λ u z c n m. ap (λ (w : ℕ). Some w) (omega arith)), ((λ u z c n m. ap (λ (w : ℕ). Some w) (omega arith)), ((λ u z c n m. ap (λ (w : ℕ). Some w) (omega arith)), ((λ u z c n m. ap (λ (w : ℕ). Some w) (omega arith)), ((λ u z c n m. ap (λ (w : ℕ). Some w) (omega arith)), ((λ u z c n m. ap (λ (w : ℕ). Some w) (omega arith)), ((λ u z c n m. ap (λ (w : ℕ). Some w) (omega arith)), ((λ u z c n m. ap (λ (w : ℕ). Some w) (omega arith)), ((λ u z c n m. ap (λ (w : ℕ). Some w) (omega arith)), ((λ u z c n m. ap (λ (w : ℕ). Some w) (omega arith)), ((λ u z c n m. ap (λ (w : ℕ). Some w) (omega arith)), ((λ u z c n m. ap (λ (w : ℕ). Some w) (omega arith)), ((λ u z c n m. ap (λ (w : ℕ). Some w) (omega arith)), ((λ u z c n m. ap (λ (w : ℕ). Some w) (omega arith)), ((λ u z c n m. ap (λ (w : ℕ). Some w) (omega arith)), tt))))))))))))))))
+    at_below AsksVectors 16 k (
+      (λ u z c n m. ap (λ (w : ℕ). Some w) (omega arith)),
+      (
+        (λ u z c n m. ap (λ (w : ℕ). Some w) (omega arith)),
+        (
+          (λ u z c n m. ap (λ (w : ℕ). Some w) (omega arith)),
+          (
+            (λ u z c n m. ap (λ (w : ℕ). Some w) (omega arith)),
+            (
+              (λ u z c n m. ap (λ (w : ℕ). Some w) (omega arith)),
+              (
+                (λ u z c n m. ap (λ (w : ℕ). Some w) (omega arith)),
+                (
+                  (λ u z c n m. ap (λ (w : ℕ). Some w) (omega arith)),
+                  (
+                    (λ u z c n m. ap (λ (w : ℕ). Some w) (omega arith)),
+                    (
+                      (λ u z c n m. ap (λ (w : ℕ). Some w) (omega arith)),
+                      (
+                        (λ u z c n m. ap (λ (w : ℕ). Some w) (omega arith)),
+                        (
+                          (λ u z c n m. ap (λ (w : ℕ). Some w) (omega arith)),
+                          (
+                            (λ u z c n m. ap (λ (w : ℕ). Some w) (omega arith)),
+                            (
+                              (λ u z c n m. ap (λ (w : ℕ). Some w) (omega arith)),
+                              (
+                                (λ u z c n m. ap (λ (w : ℕ). Some w) (omega arith)),
+                                ((λ u z c n m. ap (λ (w : ℕ). Some w) (omega arith)), ((λ u z c n m. ap (λ (w : ℕ). Some w) (omega arith)), tt)),
+                              ),
+                            ),
+                          ),
+                        ),
+                      ),
+                    ),
+                  ),
+                ),
+              ),
+            ),
+          ),
+        ),
+      ),
+    )
     lt
 
 asks_scalar : (k : ℕ) → k < 16 → AsksScalar k
 unfolding code_of
 asks_scalar k lt =
-    at_below AsksScalar 16 k
-    ((λ u z c n m. ap (λ (w : ℕ). Some w) (omega arith)), ((λ u z c n m. ap (λ (w : ℕ). Some w) (omega arith)), ((λ u z c n m. ap (λ (w : ℕ). Some w) (omega arith)), ((λ u z c n m. ap (λ (w : ℕ). Some w) (omega arith)), ((λ u z c n m. ap (λ (w : ℕ). Some w) (omega arith)), ((λ u z c n m. ap (λ (w : ℕ). Some w) (omega arith)), ((λ u z c n m. ap (λ (w : ℕ). Some w) (omega arith)), ((λ u z c n m. ap (λ (w : ℕ). Some w) (omega arith)), ((λ u z c n m. ap (λ (w : ℕ). Some w) (omega arith)), ((λ u z c n m. ap (λ (w : ℕ). Some w) (omega arith)), ((λ u z c n m. ap (λ (w : ℕ). Some w) (omega arith)), ((λ u z c n m. ap (λ (w : ℕ). Some w) (omega arith)), ((λ u z c n m. ap (λ (w : ℕ). Some w) (omega arith)), ((λ u z c n m. ap (λ (w : ℕ). Some w) (omega arith)), ((λ u z c n m. ap (λ (w : ℕ). Some w) (omega arith)), ((λ u z c n m. ap (λ (w : ℕ). Some w) (omega arith)), tt))))))))))))))))
+    at_below AsksScalar 16 k (
+      (λ u z c n m. ap (λ (w : ℕ). Some w) (omega arith)),
+      (
+        (λ u z c n m. ap (λ (w : ℕ). Some w) (omega arith)),
+        (
+          (λ u z c n m. ap (λ (w : ℕ). Some w) (omega arith)),
+          (
+            (λ u z c n m. ap (λ (w : ℕ). Some w) (omega arith)),
+            (
+              (λ u z c n m. ap (λ (w : ℕ). Some w) (omega arith)),
+              (
+                (λ u z c n m. ap (λ (w : ℕ). Some w) (omega arith)),
+                (
+                  (λ u z c n m. ap (λ (w : ℕ). Some w) (omega arith)),
+                  (
+                    (λ u z c n m. ap (λ (w : ℕ). Some w) (omega arith)),
+                    (
+                      (λ u z c n m. ap (λ (w : ℕ). Some w) (omega arith)),
+                      (
+                        (λ u z c n m. ap (λ (w : ℕ). Some w) (omega arith)),
+                        (
+                          (λ u z c n m. ap (λ (w : ℕ). Some w) (omega arith)),
+                          (
+                            (λ u z c n m. ap (λ (w : ℕ). Some w) (omega arith)),
+                            (
+                              (λ u z c n m. ap (λ (w : ℕ). Some w) (omega arith)),
+                              (
+                                (λ u z c n m. ap (λ (w : ℕ). Some w) (omega arith)),
+                                ((λ u z c n m. ap (λ (w : ℕ). Some w) (omega arith)), ((λ u z c n m. ap (λ (w : ℕ). Some w) (omega arith)), tt)),
+                              ),
+                            ),
+                          ),
+                        ),
+                      ),
+                    ),
+                  ),
+                ),
+              ),
+            ),
+          ),
+        ),
+      ),
+    )
     lt
 
-named : (k c z : ℕ) (x y w : Tok) (s : List ℕ) (o : Operands) → Reads (three (compare_stem k ++ compare_suffix c z) x y w) s o → Reads (three (compare_name k c z) x y w) s o
+named : (k c z : ℕ) (x y w : Tok) (s : List ℕ) (o : Operands) → Reads (three (compare_stem k ++ compare_suffix c z) x y w) s o
+    → Reads (three (compare_name k c z) x y w) s o
 named k c z x y w s o reads =
-    subst (λ (name : List ℕ). Reads (three name x y w) s o) (append_assoc (cond (nat_eq k 0) (codes "vcmp") (codes "vpt")) (block_letters k) (compare_suffix c z)) reads
+    subst (λ (name : List ℕ). Reads (three name x y w) s o)
+    (append_assoc (cond (nat_eq k 0) (codes "vcmp") (codes "vpt")) (block_letters k) (compare_suffix c z)) reads
 
 pub row_v20 : (i : V20) → Row (vector.V20 i)
 row_v20 (v20.Vectors i) =
     row_of (vector.V20 (v20.Vectors i)) _ _
     (named i.k.value i.c.value i.z.value _ _ _ _ _
-    (reads_three _ _ _ _ _ _ _ _ _ _ _ _ _ _ (stem_compare i.k.value i.k.in_range) (suffix_compare i.c.value i.z.value i.c.in_range i.z.in_range) (a_condition i.c.value i.c.in_range) (a_vector i.n.value i.n.in_range) (a_vector i.m.value i.m.in_range)))
+    (reads_three _ _ _ _ _ _ _ _ _ _ _ _ _ _ (stem_compare i.k.value i.k.in_range) (suffix_compare i.c.value i.z.value i.c.in_range i.z.in_range)
+    (a_condition i.c.value i.c.in_range) (a_vector i.n.value i.n.in_range) (a_vector i.m.value i.m.in_range)))
     (asks_vectors i.k.value i.k.in_range _ _ _ _ _)
 row_v20 (v20.Scalar i) =
     row_of (vector.V20 (v20.Scalar i)) _ _
     (named i.k.value i.c.value i.z.value _ _ _ _ _
-    (reads_three _ _ _ _ _ _ _ _ _ _ _ _ _ _ (stem_compare i.k.value i.k.in_range) (suffix_compare i.c.value i.z.value i.c.in_range i.z.in_range) (a_condition i.c.value i.c.in_range) (a_vector i.n.value i.n.in_range) (a_register_or_zero i.m.value i.m.in_range)))
+    (reads_three _ _ _ _ _ _ _ _ _ _ _ _ _ _ (stem_compare i.k.value i.k.in_range) (suffix_compare i.c.value i.z.value i.c.in_range i.z.in_range)
+    (a_condition i.c.value i.c.in_range) (a_vector i.n.value i.n.in_range) (a_register_or_zero i.m.value i.m.in_range)))
     (asks_scalar i.k.value i.k.in_range _ _ _ _ _)
 
 -- V21
@@ -215,6 +307,9 @@ row_v21 (v21.Block i) =
     (subst (λ (name : List ℕ). Reads (word name ∷ []) (block_stem i.k.value) (given true 0 0 false 0 0 0 0)) (append-nil (block_stem i.k.value))
     (reads_none (block_stem i.k.value) (stem_block i.k.value i.k.in_range) no_suffix))
     (asks_block i.k.value i.k.in_range)
-row_v21 (v21.Select i) = row_of (vector.V21 (v21.Select i)) (codes "vpsel") _ (reads_three (codes "vpsel") _ _ _ _ _ _ _ _ _ _ _ _ _ refl no_suffix (a_vector i.d.value i.d.in_range) (a_vector i.n.value i.n.in_range) (a_vector i.m.value i.m.in_range)) (asks_select _ _ _)
+row_v21 (v21.Select i) = row_of (vector.V21 (v21.Select i)) (codes "vpsel") _
+    (reads_three (codes "vpsel") _ _ _ _ _ _ _ _ _ _ _ _ _ refl no_suffix (a_vector i.d.value i.d.in_range) (a_vector i.n.value i.n.in_range)
+    (a_vector i.m.value i.m.in_range)) (asks_select _ _ _)
 row_v21 (v21.Tail i) =
-    row_of (vector.V21 (v21.Tail i)) (codes "vctp") _ (reads_one (codes "vctp") _ _ _ _ _ _ _ refl (suffix_plain i.z.value i.z.in_range) (a_register i.n.value i.n.in_range)) (asks_tail _ _)
+    row_of (vector.V21 (v21.Tail i)) (codes "vctp") _
+    (reads_one (codes "vctp") _ _ _ _ _ _ _ refl (suffix_plain i.z.value i.z.in_range) (a_register i.n.value i.n.in_range)) (asks_tail _ _)

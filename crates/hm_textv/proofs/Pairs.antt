@@ -35,7 +35,8 @@ use Rattle.hm_isa.specs.Code.{add_base, bitwise_base, carry_base, doubling_base,
 use Rattle.hm_isa.specs.Rules.{is_signed_by}
 use Rattle.hm_isa.specs.Standing.{◌↑◌}
 use Rattle.hm_textv.specs.Codes.{code_of}
-use Rattle.hm_textv.specs.Stems.{add_stem, bitwise_stem, carry_stem, doubling_stem, high_stem, integer, scalar_stem, scalar_suffix, signed, signed_stem, complex_sum_stem, complex_sum_suffix, vector_shift_stem}
+use Rattle.hm_textv.specs.Stems.{add_stem, bitwise_stem, carry_stem, doubling_stem, high_stem, integer, scalar_stem, scalar_suffix, signed, signed_stem}
+use Rattle.hm_textv.specs.Stems.{complex_sum_stem, complex_sum_suffix, vector_shift_stem}
 use Rattle.hm_text_rows.specs.Shapes.{either}
 use Rattle.hm_text_rows.proofs.Words.{is_stem}
 use Rattle.hm_textv.proofs.Endings.{Suffix, no_suffix, suffix_by_sign, suffix_integer, suffix_signed}
@@ -54,7 +55,9 @@ asks_add add.Sub z n d m = refl
 asks_add add.Mul z n d m = refl
 
 pub row_v1 : (i : V1) → Row (vector.V1 i)
-row_v1 i = row_of (vector.V1 i) _ _ (reads_three _ _ _ _ _ _ _ _ _ _ _ _ _ _ (stem_add i.name) (suffix_integer i.z.value i.z.in_range) (a_vector i.d.value i.d.in_range) (a_vector i.n.value i.n.in_range) (a_vector i.m.value i.m.in_range)) (asks_add i.name _ _ _ _)
+row_v1 i = row_of (vector.V1 i) _ _
+    (reads_three _ _ _ _ _ _ _ _ _ _ _ _ _ _ (stem_add i.name) (suffix_integer i.z.value i.z.in_range) (a_vector i.d.value i.d.in_range)
+    (a_vector i.n.value i.n.in_range) (a_vector i.m.value i.m.in_range)) (asks_add i.name _ _ _ _)
 
 -- V2
 stem_bitwise : (name : BitwiseName) → is_stem (bitwise_stem name) ≡ true
@@ -73,7 +76,9 @@ asks_bitwise bitwise.Orn n d m = refl
 asks_bitwise bitwise.Eor n d m = refl
 
 pub row_v2 : (i : V2) → Row (vector.V2 i)
-row_v2 i = row_of (vector.V2 i) _ _ (bare_three _ _ _ _ _ (reads_three _ _ _ _ _ _ _ _ _ _ _ _ _ _ (stem_bitwise i.name) no_suffix (a_vector i.d.value i.d.in_range) (a_vector i.n.value i.n.in_range) (a_vector i.m.value i.m.in_range))) (asks_bitwise i.name _ _ _)
+row_v2 i = row_of (vector.V2 i) _ _
+    (bare_three _ _ _ _ _ (reads_three _ _ _ _ _ _ _ _ _ _ _ _ _ _ (stem_bitwise i.name) no_suffix (a_vector i.d.value i.d.in_range)
+    (a_vector i.n.value i.n.in_range) (a_vector i.m.value i.m.in_range))) (asks_bitwise i.name _ _ _)
 
 -- V3
 stem_signed : (name : SignedName) → is_stem (signed_stem name) ≡ true
@@ -86,7 +91,8 @@ stem_signed signed.Hsub = refl
 stem_signed signed.Qadd = refl
 stem_signed signed.Qsub = refl
 
-asks_signed : (name : SignedName) (u z n d m : ℕ) → code_of (signed_stem name) (given false u z true d n m 0) ≡ Some (signed_base name + u ↑ 28 + z ↑ 20 + n ↑ 17 + d ↑ 13 + m ↑ 1)
+asks_signed : (name : SignedName) (u z n d m : ℕ)
+    → code_of (signed_stem name) (given false u z true d n m 0) ≡ Some (signed_base name + u ↑ 28 + z ↑ 20 + n ↑ 17 + d ↑ 13 + m ↑ 1)
 unfolding code_of
 asks_signed signed.Max u z n d m = refl
 asks_signed signed.Min u z n d m = refl
@@ -98,7 +104,9 @@ asks_signed signed.Qadd u z n d m = refl
 asks_signed signed.Qsub u z n d m = refl
 
 pub row_v3 : (i : V3) → Row (vector.V3 i)
-row_v3 i = row_of (vector.V3 i) _ _ (reads_three _ _ _ _ _ _ _ _ _ _ _ _ _ _ (stem_signed i.name) (suffix_by_sign i.u.value i.z.value i.u.in_range i.z.in_range) (a_vector i.d.value i.d.in_range) (a_vector i.n.value i.n.in_range) (a_vector i.m.value i.m.in_range)) (asks_signed i.name _ _ _ _ _)
+row_v3 i = row_of (vector.V3 i) _ _
+    (reads_three _ _ _ _ _ _ _ _ _ _ _ _ _ _ (stem_signed i.name) (suffix_by_sign i.u.value i.z.value i.u.in_range i.z.in_range)
+    (a_vector i.d.value i.d.in_range) (a_vector i.n.value i.n.in_range) (a_vector i.m.value i.m.in_range)) (asks_signed i.name _ _ _ _ _)
 
 -- V4
 stem_vector_shift : (name : VectorShiftName) → is_stem (vector_shift_stem name) ≡ true
@@ -107,7 +115,8 @@ stem_vector_shift by_vector.Qshl = refl
 stem_vector_shift by_vector.Rshl = refl
 stem_vector_shift by_vector.Qrshl = refl
 
-asks_vector_shift : (name : VectorShiftName) (u z n d m : ℕ) → code_of (vector_shift_stem name) (given false u z true d m n 0) ≡ Some (vector_shift_base name + u ↑ 28 + z ↑ 20 + n ↑ 17 + d ↑ 13 + m ↑ 1)
+asks_vector_shift : (name : VectorShiftName) (u z n d m : ℕ)
+    → code_of (vector_shift_stem name) (given false u z true d m n 0) ≡ Some (vector_shift_base name + u ↑ 28 + z ↑ 20 + n ↑ 17 + d ↑ 13 + m ↑ 1)
 unfolding code_of
 asks_vector_shift by_vector.Shl u z n d m = refl
 asks_vector_shift by_vector.Qshl u z n d m = refl
@@ -115,20 +124,25 @@ asks_vector_shift by_vector.Rshl u z n d m = refl
 asks_vector_shift by_vector.Qrshl u z n d m = refl
 
 pub row_v4 : (i : V4) → Row (vector.V4 i)
-row_v4 i = row_of (vector.V4 i) _ _ (reads_three _ _ _ _ _ _ _ _ _ _ _ _ _ _ (stem_vector_shift i.name) (suffix_by_sign i.u.value i.z.value i.u.in_range i.z.in_range) (a_vector i.d.value i.d.in_range) (a_vector i.m.value i.m.in_range) (a_vector i.n.value i.n.in_range)) (asks_vector_shift i.name _ _ _ _ _)
+row_v4 i = row_of (vector.V4 i) _ _
+    (reads_three _ _ _ _ _ _ _ _ _ _ _ _ _ _ (stem_vector_shift i.name) (suffix_by_sign i.u.value i.z.value i.u.in_range i.z.in_range)
+    (a_vector i.d.value i.d.in_range) (a_vector i.m.value i.m.in_range) (a_vector i.n.value i.n.in_range)) (asks_vector_shift i.name _ _ _ _ _)
 
 -- V5
 stem_doubling : (name : DoublingName) → is_stem (doubling_stem name) ≡ true
 stem_doubling doubling.Qdmulh = refl
 stem_doubling doubling.Qrdmulh = refl
 
-asks_doubling : (name : DoublingName) (z n d m : ℕ) → code_of (doubling_stem name) (given false 0 z true d n m 0) ≡ Some (doubling_base name + z ↑ 20 + n ↑ 17 + d ↑ 13 + m ↑ 1)
+asks_doubling : (name : DoublingName) (z n d m : ℕ)
+    → code_of (doubling_stem name) (given false 0 z true d n m 0) ≡ Some (doubling_base name + z ↑ 20 + n ↑ 17 + d ↑ 13 + m ↑ 1)
 unfolding code_of
 asks_doubling doubling.Qdmulh z n d m = refl
 asks_doubling doubling.Qrdmulh z n d m = refl
 
 pub row_v5 : (i : V5) → Row (vector.V5 i)
-row_v5 i = row_of (vector.V5 i) _ _ (reads_three _ _ _ _ _ _ _ _ _ _ _ _ _ _ (stem_doubling i.name) (suffix_signed i.z.value i.z.in_range) (a_vector i.d.value i.d.in_range) (a_vector i.n.value i.n.in_range) (a_vector i.m.value i.m.in_range)) (asks_doubling i.name _ _ _ _)
+row_v5 i = row_of (vector.V5 i) _ _
+    (reads_three _ _ _ _ _ _ _ _ _ _ _ _ _ _ (stem_doubling i.name) (suffix_signed i.z.value i.z.in_range) (a_vector i.d.value i.d.in_range)
+    (a_vector i.n.value i.n.in_range) (a_vector i.m.value i.m.in_range)) (asks_doubling i.name _ _ _ _)
 
 -- V6
 stem_long : (t : ℕ) → t < 2 → is_stem (either t (codes "vmullb") (codes "vmullt")) ≡ true
@@ -137,27 +151,33 @@ stem_long (suc zero) lt = refl
 stem_long (suc (suc t)) lt = absurd (omega arith)
 
 asks_long : (t u z n d m : ℕ) → t < 2
-    → code_of (either t (codes "vmullb") (codes "vmullt")) (given false u z true d n m 0) ≡ Some (0xee010e00 + u ↑ 28 + z ↑ 20 + t ↑ 12 + n ↑ 17 + d ↑ 13 + m ↑ 1)
+    → code_of (either t (codes "vmullb") (codes "vmullt")) (given false u z true d n m 0)
+    ≡ Some (0xee010e00 + u ↑ 28 + z ↑ 20 + t ↑ 12 + n ↑ 17 + d ↑ 13 + m ↑ 1)
 unfolding code_of
 asks_long zero u z n d m lt = ap (λ (w : ℕ). Some w) (omega arith)
 asks_long (suc zero) u z n d m lt = ap (λ (w : ℕ). Some w) (omega arith)
 asks_long (suc (suc t)) u z n d m lt = absurd (omega arith)
 
 pub row_v6 : (i : V6) → Row (vector.V6 i)
-row_v6 i = row_of (vector.V6 i) _ _ (reads_three _ _ _ _ _ _ _ _ _ _ _ _ _ _ (stem_long i.t.value i.t.in_range) (suffix_by_sign i.u.value i.z.value i.u.in_range i.z.in_range) (a_vector i.d.value i.d.in_range) (a_vector i.n.value i.n.in_range) (a_vector i.m.value i.m.in_range)) (asks_long i.t.value _ _ _ _ _ i.t.in_range)
+row_v6 i = row_of (vector.V6 i) _ _
+    (reads_three _ _ _ _ _ _ _ _ _ _ _ _ _ _ (stem_long i.t.value i.t.in_range) (suffix_by_sign i.u.value i.z.value i.u.in_range i.z.in_range)
+    (a_vector i.d.value i.d.in_range) (a_vector i.n.value i.n.in_range) (a_vector i.m.value i.m.in_range)) (asks_long i.t.value _ _ _ _ _ i.t.in_range)
 
 -- V7
 stem_high : (name : HighName) → is_stem (high_stem name) ≡ true
 stem_high high.Mulh = refl
 stem_high high.Rmulh = refl
 
-asks_high : (name : HighName) (u z n d m : ℕ) → code_of (high_stem name) (given false u z true d n m 0) ≡ Some (high_base name + u ↑ 28 + z ↑ 20 + n ↑ 17 + d ↑ 13 + m ↑ 1)
+asks_high : (name : HighName) (u z n d m : ℕ)
+    → code_of (high_stem name) (given false u z true d n m 0) ≡ Some (high_base name + u ↑ 28 + z ↑ 20 + n ↑ 17 + d ↑ 13 + m ↑ 1)
 unfolding code_of
 asks_high high.Mulh u z n d m = refl
 asks_high high.Rmulh u z n d m = refl
 
 pub row_v7 : (i : V7) → Row (vector.V7 i)
-row_v7 i = row_of (vector.V7 i) _ _ (reads_three _ _ _ _ _ _ _ _ _ _ _ _ _ _ (stem_high i.name) (suffix_by_sign i.u.value i.z.value i.u.in_range i.z.in_range) (a_vector i.d.value i.d.in_range) (a_vector i.n.value i.n.in_range) (a_vector i.m.value i.m.in_range)) (asks_high i.name _ _ _ _ _)
+row_v7 i = row_of (vector.V7 i) _ _
+    (reads_three _ _ _ _ _ _ _ _ _ _ _ _ _ _ (stem_high i.name) (suffix_by_sign i.u.value i.z.value i.u.in_range i.z.in_range) (a_vector i.d.value i.d.in_range)
+    (a_vector i.n.value i.n.in_range) (a_vector i.m.value i.m.in_range)) (asks_high i.name _ _ _ _ _)
 
 -- V8
 stem_carry : (name : CarryName) → is_stem (carry_stem name) ≡ true
@@ -174,7 +194,9 @@ asks_carry carry.Sbc n d m = refl
 asks_carry carry.Sbci n d m = refl
 
 pub row_v8 : (i : V8) → Row (vector.V8 i)
-row_v8 i = row_of (vector.V8 i) _ _ (reads_three _ _ _ _ _ _ _ _ _ _ _ _ _ _ (stem_carry i.name) (suffix_integer 2 (omega arith)) (a_vector i.d.value i.d.in_range) (a_vector i.n.value i.n.in_range) (a_vector i.m.value i.m.in_range)) (asks_carry i.name _ _ _)
+row_v8 i = row_of (vector.V8 i) _ _
+    (reads_three _ _ _ _ _ _ _ _ _ _ _ _ _ _ (stem_carry i.name) (suffix_integer 2 (omega arith)) (a_vector i.d.value i.d.in_range)
+    (a_vector i.n.value i.n.in_range) (a_vector i.m.value i.m.in_range)) (asks_carry i.name _ _ _)
 
 -- V9
 stem_turn : (name : ComplexSumName) → is_stem (complex_sum_stem name) ≡ true
@@ -191,7 +213,8 @@ angle_small (suc zero) lt = omega arith
 angle_small (suc (suc t)) lt = absurd (omega arith)
 
 asks_turn : (name : ComplexSumName) (t z n d m : ℕ) → t < 2
-    → code_of (complex_sum_stem name) (given false 0 z true d n m (cond (nat_eq t 0) 90 270)) ≡ Some (complex_sum_base name + z ↑ 20 + t ↑ 12 + n ↑ 17 + d ↑ 13 + m ↑ 1)
+    → code_of (complex_sum_stem name) (given false 0 z true d n m (cond (nat_eq t 0) 90 270))
+    ≡ Some (complex_sum_base name + z ↑ 20 + t ↑ 12 + n ↑ 17 + d ↑ 13 + m ↑ 1)
 unfolding code_of
 asks_turn turn.Cadd zero z n d m lt = ap (λ (w : ℕ). Some w) (omega arith)
 asks_turn turn.Cadd (suc zero) z n d m lt = ap (λ (w : ℕ). Some w) (omega arith)
@@ -200,7 +223,9 @@ asks_turn turn.Hcadd (suc zero) z n d m lt = ap (λ (w : ℕ). Some w) (omega ar
 asks_turn name (suc (suc t)) z n d m lt = absurd (omega arith)
 
 pub row_v9 : (i : V9) → Row (vector.V9 i)
-row_v9 i = row_of (vector.V9 i) _ _ (reads_three_constant _ _ _ _ _ _ _ _ _ _ _ _ _ _ _ (stem_turn i.name) (suffix_turn i.name i.z.value i.z.in_range) (a_vector i.d.value i.d.in_range) (a_vector i.n.value i.n.in_range) (a_vector i.m.value i.m.in_range) (angle_small i.t.value i.t.in_range)) (asks_turn i.name i.t.value _ _ _ _ i.t.in_range)
+row_v9 i = row_of (vector.V9 i) _ _
+    (reads_three_constant _ _ _ _ _ _ _ _ _ _ _ _ _ _ _ (stem_turn i.name) (suffix_turn i.name i.z.value i.z.in_range) (a_vector i.d.value i.d.in_range)
+    (a_vector i.n.value i.n.in_range) (a_vector i.m.value i.m.in_range) (angle_small i.t.value i.t.in_range)) (asks_turn i.name i.t.value _ _ _ _ i.t.in_range)
 
 -- V10
 stem_scalar : (name : ScalarName) → is_stem (scalar_stem name) ≡ true
@@ -230,7 +255,8 @@ suffix_scalar by_scalar.Qrdmulh u z hu hz e = subst (λ (x : ℕ). Suffix (signe
 suffix_scalar by_scalar.Mla u z hu hz e = suffix_by_sign u z hu hz
 suffix_scalar by_scalar.Mlas u z hu hz e = suffix_by_sign u z hu hz
 
-asks_scalar : (name : ScalarName) (u z n d m : ℕ) → code_of (scalar_stem name) (given false u z false d n m 0) ≡ Some (scalar_base name + u ↑ 28 + z ↑ 20 + n ↑ 17 + d ↑ 13 + m)
+asks_scalar : (name : ScalarName) (u z n d m : ℕ)
+    → code_of (scalar_stem name) (given false u z false d n m 0) ≡ Some (scalar_base name + u ↑ 28 + z ↑ 20 + n ↑ 17 + d ↑ 13 + m)
 unfolding code_of
 asks_scalar by_scalar.Add u z n d m = refl
 asks_scalar by_scalar.Sub u z n d m = refl
@@ -245,4 +271,6 @@ asks_scalar by_scalar.Mla u z n d m = refl
 asks_scalar by_scalar.Mlas u z n d m = refl
 
 pub row_v10 : (i : V10) → Row (vector.V10 i)
-row_v10 i = row_of (vector.V10 i) _ _ (reads_three _ _ _ _ _ _ _ _ _ _ _ _ _ _ (stem_scalar i.name) (suffix_scalar i.name i.u.value i.z.value i.u.in_range i.z.in_range i.signs) (a_vector i.d.value i.d.in_range) (a_vector i.n.value i.n.in_range) (a_register i.m.value i.m.in_range)) (asks_scalar i.name _ _ _ _ _)
+row_v10 i = row_of (vector.V10 i) _ _
+    (reads_three _ _ _ _ _ _ _ _ _ _ _ _ _ _ (stem_scalar i.name) (suffix_scalar i.name i.u.value i.z.value i.u.in_range i.z.in_range i.signs)
+    (a_vector i.d.value i.d.in_range) (a_vector i.n.value i.n.in_range) (a_register i.m.value i.m.in_range)) (asks_scalar i.name _ _ _ _ _)

@@ -27,10 +27,12 @@ no_row ts w e none v has = none v (the_code ts w e v has)
 abbrev one : Vector → Option Vector
 one v = Some v
 
-pub the_row : (ts : List Tok) (w : ℕ) (u : Vector) → code_in ts ≡ Some w → ((v : Vector) → (one u ≡ one v) ↔ (vector_code v ≡ w)) → (v : Vector) → HasTokens v ts → one u ≡ one v
+pub the_row : (ts : List Tok) (w : ℕ) (u : Vector) → code_in ts ≡ Some w → ((v : Vector) → (one u ≡ one v) ↔ (vector_code v ≡ w)) → (v : Vector)
+    → HasTokens v ts → one u ≡ one v
 the_row ts w u e exact v has = (exact v).1 (the_code ts w e v has)
 
-pub other_row : (ts : List Tok) (w : ℕ) (u : Vector) → code_in ts ≡ Some w → ((v : Vector) → (one u ≡ one v) ↔ (vector_code v ≡ w)) → (HasTokens u ts → ⊥) → (v : Vector) → HasTokens v ts → ⊥
+pub other_row : (ts : List Tok) (w : ℕ) (u : Vector) → code_in ts ≡ Some w → ((v : Vector) → (one u ≡ one v) ↔ (vector_code v ≡ w)) → (HasTokens u ts → ⊥)
+    → (v : Vector) → HasTokens v ts → ⊥
 other_row ts w u e exact not v has =
     not (subst (λ (x : Vector). HasTokens x ts) (sym (some_is u v (the_row ts w u e exact v has))) has)
 
@@ -61,14 +63,16 @@ first_has v ts xs e f = (λ t. inl (sym (f ∙ e)), λ h. refl)
 not_first : (v : Vector) (ts xs : List Tok) (b : Bool) → xs ≡ tokens_of v → (IsTrue b ↔ (ts ≡ xs)) → b ≡ false → tokens_of v ≡ ts → ⊥
 not_first v ts xs b e is f h = let t : b ≡ true = is.1 (sym h ∙ sym e) in false≢true (sym f ∙ t)
 
-pub other_has : (v : Vector) (ts xs ys : List Tok) (b r : Bool) → xs ≡ tokens_of v → (IsTrue b ↔ (ts ≡ xs)) → b ≡ false → these ys ≡ other_tokens v → (IsTrue r ↔ (ts ≡ ys))
+pub other_has : (v : Vector) (ts xs ys : List Tok) (b r : Bool) → xs ≡ tokens_of v → (IsTrue b ↔ (ts ≡ xs)) → b ≡ false → these ys ≡ other_tokens v
+    → (IsTrue r ↔ (ts ≡ ys))
     → IsTrue r ↔ HasTokens v ts
 other_has v ts xs ys b r e is f o has = (
   λ t. inr (sym o ∙ ap these (sym (has.0 t))),
   λ h. elim h [ inl a ↦ absurd (not_first v ts xs b e is f a) | inr a ↦ has.1 (sym (some_is ys ts (o ∙ a))) ],
 )
 
-pub none_has : (v : Vector) (ts xs : List Tok) (b : Bool) → xs ≡ tokens_of v → (IsTrue b ↔ (ts ≡ xs)) → b ≡ false → no_tokens ≡ other_tokens v → IsTrue false ↔ HasTokens v ts
+pub none_has : (v : Vector) (ts xs : List Tok) (b : Bool) → xs ≡ tokens_of v → (IsTrue b ↔ (ts ≡ xs)) → b ≡ false → no_tokens ≡ other_tokens v
+    → IsTrue false ↔ HasTokens v ts
 none_has v ts xs b e is f o = (
   λ t. absurd (false≢true t),
   λ h. elim h [ inl a ↦ absurd (not_first v ts xs b e is f a) | inr a ↦ let n : no_tokens ≡ these ts = o ∙ a in absurd cc ],

@@ -84,11 +84,13 @@ contiguous : (l z s p a w d n i : ℕ) → z < 3
 contiguous l z s p a w d n i hz = rw (eq-eqb z z refl, in_elements i z hz) (omega arith)
 
 widening : (l y z u p a w d n i : ℕ) → y < 3 → y < z
-    → access_code l y (given_access u z false false p a w d n (i * 2 ^ y) 0 0) ≡ 0xec000e00 + u ↑ 28 + p ↑ 24 + a ↑ 23 + w ↑ 21 + l ↑ 20 + y ↑ 19 + n ↑ 16 + d ↑ 13 + z ↑ 7 + i
+    → access_code l y (given_access u z false false p a w d n (i * 2 ^ y) 0 0)
+    ≡ 0xec000e00 + u ↑ 28 + p ↑ 24 + a ↑ 23 + w ↑ 21 + l ↑ 20 + y ↑ 19 + n ↑ 16 + d ↑ 13 + z ↑ 7 + i
 widening l y z u p a w d n i hy lt = rw (ne_eqb z y (λ is. omega arith), in_elements i y hy) (omega arith)
 
 scattered : (l y z u d n m o x : ℕ)
-    → access_code l y (given_access u z true false 1 1 0 d n m o x) ≡ 0xec800e00 + u ↑ 28 + l ↑ 20 + n ↑ 16 + d ↑ 13 + z ↑ 7 + (y / 2) ↑ 6 + (y % 2) ↑ 4 + m ↑ 1 + o
+    → access_code l y (given_access u z true false 1 1 0 d n m o x)
+    ≡ 0xec800e00 + u ↑ 28 + l ↑ 20 + n ↑ 16 + d ↑ 13 + z ↑ 7 + (y / 2) ↑ 6 + (y % 2) ↑ 4 + m ↑ 1 + o
 scattered l y z u d n m o x = omega arith
 
 addressed : (l s a w d m i : ℕ)
@@ -101,8 +103,11 @@ row_v24 i =
     let z = i.z.value in
     let used = and_parts (nat_lt 0 (i.p.value + i.w.value)) (not (nat_eq i.n.value 15)) i.rule in
     row_of (vector.V24 i) (access_stem l z) _
-    (reads_indexed _ _ _ _ _ _ _ _ _ _ _ _ (stem_access l z i.l.in_range i.z.in_range) (suffix_access l 1 z i.l.in_range (omega arith) i.z.in_range) i.d.in_range (a_register i.n.value i.n.in_range) (offset_small i.i.value z i.i.in_range i.z.in_range) i.p.in_range i.a.in_range i.w.in_range (less _ _ used.0))
-    (asks_access l z (sign_in l 1) z false false _ _ _ _ _ _ _ _ i.l.in_range i.z.in_range ∙ ap (λ (w : ℕ). Some w) (contiguous l z (sign_in l 1) _ _ _ _ _ i.i.value i.z.in_range))
+    (reads_indexed _ _ _ _ _ _ _ _ _ _ _ _ (stem_access l z i.l.in_range i.z.in_range) (suffix_access l 1 z i.l.in_range (omega arith) i.z.in_range)
+    i.d.in_range (a_register i.n.value i.n.in_range) (offset_small i.i.value z i.i.in_range i.z.in_range) i.p.in_range i.a.in_range i.w.in_range
+    (less _ _ used.0))
+    (asks_access l z (sign_in l 1) z false false _ _ _ _ _ _ _ _ i.l.in_range i.z.in_range
+    ∙ ap (λ (w : ℕ). Some w) (contiguous l z (sign_in l 1) _ _ _ _ _ i.i.value i.z.in_range))
 
 pub row_v25 : (i : V25) → Row (vector.V25 i)
 row_v25 i =
@@ -115,7 +120,9 @@ row_v25 i =
     let small : y < 3 = let h = i.h.in_range in omega arith in
     let low : i.n.value < 16 = let h = i.n.in_range in omega arith in
     row_of (vector.V25 i) (access_stem l y) _
-    (reads_indexed _ _ _ _ _ _ _ _ _ _ _ _ (stem_access l y i.l.in_range small) (suffix_signed_access l u z i.l.in_range i.u.in_range i.z.in_range (sign_is l u i.l.in_range parts.1)) i.d.in_range (a_register i.n.value low) (offset_small i.i.value y i.i.in_range small) i.p.in_range i.a.in_range i.w.in_range (less _ _ used.0))
+    (reads_indexed _ _ _ _ _ _ _ _ _ _ _ _ (stem_access l y i.l.in_range small)
+    (suffix_signed_access l u z i.l.in_range i.u.in_range i.z.in_range (sign_is l u i.l.in_range parts.1)) i.d.in_range (a_register i.n.value low)
+    (offset_small i.i.value y i.i.in_range small) i.p.in_range i.a.in_range i.w.in_range (less _ _ used.0))
     (asks_access l y u z false false _ _ _ _ _ _ _ _ i.l.in_range small ∙ ap (λ (w : ℕ). Some w) (widening l y z u _ _ _ _ _ i.i.value small (less _ _ used.1)))
 
 pub row_v26 : (i : V26) → Row (vector.V26 i)
@@ -127,8 +134,10 @@ row_v26 i =
     let few : y < 1000 = let h = i.y.in_range in omega arith in
     let sign = sign_of_access l u i.d.value z y i.m.value i.l.in_range i.access in
     row_of (vector.V26 i) (access_stem l y) _
-    (reads_at_offsets _ _ _ _ _ _ _ _ _ (stem_access l y i.l.in_range i.y.in_range) (suffix_signed_access l u z i.l.in_range i.u.in_range i.z.in_range sign) i.d.in_range i.n.in_range i.m.in_range i.o.in_range few)
-    (asks_access l y u z true false _ _ _ _ _ _ _ _ i.l.in_range i.y.in_range ∙ ap (λ (w : ℕ). Some w) (scattered l y z u i.d.value i.n.value i.m.value i.o.value (cond (nat_eq i.o.value 0) 0 y)))
+    (reads_at_offsets _ _ _ _ _ _ _ _ _ (stem_access l y i.l.in_range i.y.in_range) (suffix_signed_access l u z i.l.in_range i.u.in_range i.z.in_range sign)
+    i.d.in_range i.n.in_range i.m.in_range i.o.in_range few)
+    (asks_access l y u z true false _ _ _ _ _ _ _ _ i.l.in_range i.y.in_range
+    ∙ ap (λ (w : ℕ). Some w) (scattered l y z u i.d.value i.n.value i.m.value i.o.value (cond (nat_eq i.o.value 0) 0 y)))
 
 pub row_v27 : (i : V27) → Row (vector.V27 i)
 row_v27 i =
@@ -136,8 +145,10 @@ row_v27 i =
     let used : 0 < 1 + i.w.value = omega arith in
     let small : 4 * i.i.value < 1000 = let h = i.i.in_range in omega arith in
     row_of (vector.V27 i) (access_stem l 2) _
-    (reads_indexed _ _ _ _ _ _ _ 1 _ _ _ _ (stem_access l 2 i.l.in_range (omega arith)) (suffix_access l 1 2 i.l.in_range (omega arith) (omega arith)) i.d.in_range (a_vector i.m.value i.m.in_range) small (omega arith) i.a.in_range i.w.in_range used)
-    (asks_access l 2 (sign_in l 1) 2 false true _ _ _ _ _ _ _ _ i.l.in_range (omega arith) ∙ ap (λ (w : ℕ). Some w) (addressed l (sign_in l 1) _ _ _ _ i.i.value))
+    (reads_indexed _ _ _ _ _ _ _ 1 _ _ _ _ (stem_access l 2 i.l.in_range (omega arith)) (suffix_access l 1 2 i.l.in_range (omega arith) (omega arith))
+    i.d.in_range (a_vector i.m.value i.m.in_range) small (omega arith) i.a.in_range i.w.in_range used)
+    (asks_access l 2 (sign_in l 1) 2 false true _ _ _ _ _ _ _ _ i.l.in_range (omega arith)
+    ∙ ap (λ (w : ℕ). Some w) (addressed l (sign_in l 1) _ _ _ _ i.i.value))
 
 -- V28
 stem_pair : (l p : ℕ) → l < 2 → p < 2 → is_stem (pair_stem l p) ≡ true
@@ -170,12 +181,22 @@ AsksQuad l p = (z w a b c e n : ℕ) → code_of (quad_stem l p) (given_access 0
 asks_quad : (l p : ℕ) → l < 2 → p < 4 → AsksQuad l p
 unfolding code_of
 asks_quad zero p hl hp =
-    at_below (AsksQuad 0) 4 p
-    ((λ z w a b c e n. ap (λ (k : ℕ). Some k) (omega arith)), ((λ z w a b c e n. ap (λ (k : ℕ). Some k) (omega arith)), ((λ z w a b c e n. ap (λ (k : ℕ). Some k) (omega arith)), ((λ z w a b c e n. ap (λ (k : ℕ). Some k) (omega arith)), tt))))
+    at_below (AsksQuad 0) 4 p (
+      (λ z w a b c e n. ap (λ (k : ℕ). Some k) (omega arith)),
+      (
+        (λ z w a b c e n. ap (λ (k : ℕ). Some k) (omega arith)),
+        ((λ z w a b c e n. ap (λ (k : ℕ). Some k) (omega arith)), ((λ z w a b c e n. ap (λ (k : ℕ). Some k) (omega arith)), tt)),
+      ),
+    )
     hp
 asks_quad (suc zero) p hl hp =
-    at_below (AsksQuad 1) 4 p
-    ((λ z w a b c e n. ap (λ (k : ℕ). Some k) (omega arith)), ((λ z w a b c e n. ap (λ (k : ℕ). Some k) (omega arith)), ((λ z w a b c e n. ap (λ (k : ℕ). Some k) (omega arith)), ((λ z w a b c e n. ap (λ (k : ℕ). Some k) (omega arith)), tt))))
+    at_below (AsksQuad 1) 4 p (
+      (λ z w a b c e n. ap (λ (k : ℕ). Some k) (omega arith)),
+      (
+        (λ z w a b c e n. ap (λ (k : ℕ). Some k) (omega arith)),
+        ((λ z w a b c e n. ap (λ (k : ℕ). Some k) (omega arith)), ((λ z w a b c e n. ap (λ (k : ℕ). Some k) (omega arith)), tt)),
+      ),
+    )
     hp
 asks_quad (suc (suc l)) p hl hp = absurd (omega arith)
 
@@ -197,4 +218,5 @@ turn_answers (suc (suc f)) l p z d n w hf hl hp hz hn hw e = absurd (omega arith
 
 pub row_v28 : (i : V28) → Row (vector.V28 i)
 row_v28 i =
-    turn_answers i.f.value i.l.value i.p.value i.z.value i.d.value i.n.value i.w.value i.f.in_range i.l.in_range i.p.in_range i.z.in_range i.n.in_range i.w.in_range i.rule
+    turn_answers i.f.value i.l.value i.p.value i.z.value i.d.value i.n.value i.w.value i.f.in_range i.l.in_range i.p.in_range i.z.in_range i.n.in_range
+    i.w.in_range i.rule

@@ -50,7 +50,8 @@ stem_dot (suc zero) lt = refl
 stem_dot (suc (suc a)) lt = absurd (omega arith)
 
 asks_dot : (size : Element) (a u n l m : ℕ) → a < 2
-    → code_of (either a (codes "vmladav") (codes "vmladava")) (given false u (size_number size) true (2 * l) n m 0) ≡ Some (dot_base size + u ↑ 28 + n ↑ 17 + l ↑ 13 + a ↑ 5 + m ↑ 1)
+    → code_of (either a (codes "vmladav") (codes "vmladava")) (given false u (size_number size) true (2 * l) n m 0)
+    ≡ Some (dot_base size + u ↑ 28 + n ↑ 17 + l ↑ 13 + a ↑ 5 + m ↑ 1)
 unfolding code_of
 asks_dot element.Bytes zero u n l m lt = ap (λ (w : ℕ). Some w) (omega arith)
 asks_dot element.Bytes (suc zero) u n l m lt = ap (λ (w : ℕ). Some w) (omega arith)
@@ -66,7 +67,8 @@ stem_other_dot (suc zero) lt = refl
 stem_other_dot (suc (suc a)) lt = absurd (omega arith)
 
 asks_other_dot : (size : Element) (a u n l m : ℕ) → a < 2
-    → code_of (either a (codes "vmlav") (codes "vmlava")) (given false u (size_number size) true (2 * l) n m 0) ≡ Some (dot_base size + u ↑ 28 + n ↑ 17 + l ↑ 13 + a ↑ 5 + m ↑ 1)
+    → code_of (either a (codes "vmlav") (codes "vmlava")) (given false u (size_number size) true (2 * l) n m 0)
+    ≡ Some (dot_base size + u ↑ 28 + n ↑ 17 + l ↑ 13 + a ↑ 5 + m ↑ 1)
 unfolding code_of
 asks_other_dot element.Bytes zero u n l m lt = ap (λ (w : ℕ). Some w) (omega arith)
 asks_other_dot element.Bytes (suc zero) u n l m lt = ap (λ (w : ℕ). Some w) (omega arith)
@@ -82,7 +84,8 @@ stem_long_sum (suc zero) lt = refl
 stem_long_sum (suc (suc a)) lt = absurd (omega arith)
 
 asks_long_sum : (a u h l m : ℕ) → a < 2
-    → code_of (either a (codes "vaddlv") (codes "vaddlva")) (given false u 2 true (2 * l) (2 * h + 1) m 0) ≡ Some (0xee890f00 + u ↑ 28 + h ↑ 20 + l ↑ 13 + a ↑ 5 + m ↑ 1)
+    → code_of (either a (codes "vaddlv") (codes "vaddlva")) (given false u 2 true (2 * l) (2 * h + 1) m 0)
+    ≡ Some (0xee890f00 + u ↑ 28 + h ↑ 20 + l ↑ 13 + a ↑ 5 + m ↑ 1)
 unfolding code_of
 asks_long_sum zero u h l m lt = ap (λ (w : ℕ). Some w) (omega arith)
 asks_long_sum (suc zero) u h l m lt = ap (λ (w : ℕ). Some w) (omega arith)
@@ -94,33 +97,43 @@ stem_long_dot (suc zero) lt = refl
 stem_long_dot (suc (suc a)) lt = absurd (omega arith)
 
 asks_long_dot : (a u h n s l m : ℕ) → a < 2
-    → code_of (either a (codes "vmlaldav") (codes "vmlaldava")) (given false u (s + 1) true (2 * l) (2 * h + 1) n m) ≡ Some (0xee800e00 + u ↑ 28 + h ↑ 20 + n ↑ 17 + s ↑ 16 + l ↑ 13 + a ↑ 5 + m ↑ 1)
+    → code_of (either a (codes "vmlaldav") (codes "vmlaldava")) (given false u (s + 1) true (2 * l) (2 * h + 1) n m)
+    ≡ Some (0xee800e00 + u ↑ 28 + h ↑ 20 + n ↑ 17 + s ↑ 16 + l ↑ 13 + a ↑ 5 + m ↑ 1)
 unfolding code_of
 asks_long_dot zero u h n s l m lt = ap (λ (w : ℕ). Some w) (omega arith)
 asks_long_dot (suc zero) u h n s l m lt = ap (λ (w : ℕ). Some w) (omega arith)
 asks_long_dot (suc (suc a)) u h n s l m lt = absurd (omega arith)
 
 pub row_v22 : (i : V22) → Row (vector.V22 i)
-row_v22 (v22.Sum i) = row_of (vector.V22 (v22.Sum i)) _ _ (reads_two _ _ _ _ _ _ _ _ _ _ _ (stem_sum i.a.value i.a.in_range) (suffix_by_sign i.u.value i.z.value i.u.in_range i.z.in_range) (even i.l.value i.l.in_range) (a_vector i.m.value i.m.in_range)) (asks_sum i.a.value _ _ _ _ i.a.in_range)
+row_v22 (v22.Sum i) = row_of (vector.V22 (v22.Sum i)) _ _
+    (reads_two _ _ _ _ _ _ _ _ _ _ _ (stem_sum i.a.value i.a.in_range) (suffix_by_sign i.u.value i.z.value i.u.in_range i.z.in_range)
+    (even i.l.value i.l.in_range) (a_vector i.m.value i.m.in_range)) (asks_sum i.a.value _ _ _ _ i.a.in_range)
 row_v22 (v22.Dot i) =
     row_of (vector.V22 (v22.Dot i)) _ _
-    (reads_three _ _ _ _ _ _ _ _ _ _ _ _ _ _ (stem_dot i.a.value i.a.in_range) (suffix_by_sign i.u.value (size_number i.size) i.u.in_range (size_below i.size)) (even i.l.value i.l.in_range) (a_vector i.n.value i.n.in_range) (a_vector i.m.value i.m.in_range))
+    (reads_three _ _ _ _ _ _ _ _ _ _ _ _ _ _ (stem_dot i.a.value i.a.in_range) (suffix_by_sign i.u.value (size_number i.size) i.u.in_range (size_below i.size))
+    (even i.l.value i.l.in_range) (a_vector i.n.value i.n.in_range) (a_vector i.m.value i.m.in_range))
     (asks_dot i.size i.a.value _ _ _ _ i.a.in_range)
 row_v22 (v22.LongSum i) =
     row_of (vector.V22 (v22.LongSum i)) _ _
-    (reads_three _ _ _ _ _ _ _ _ _ _ _ _ _ _ (stem_long_sum i.a.value i.a.in_range) (suffix_by_sign i.u.value 2 i.u.in_range (omega arith)) (even i.l.value i.l.in_range) (odd i.h.value i.h.in_range) (a_vector i.m.value i.m.in_range))
+    (reads_three _ _ _ _ _ _ _ _ _ _ _ _ _ _ (stem_long_sum i.a.value i.a.in_range) (suffix_by_sign i.u.value 2 i.u.in_range (omega arith))
+    (even i.l.value i.l.in_range) (odd i.h.value i.h.in_range) (a_vector i.m.value i.m.in_range))
     (asks_long_sum i.a.value _ _ _ _ i.a.in_range)
 row_v22 (v22.LongDot i) =
     row_of (vector.V22 (v22.LongDot i)) _ _
-    (reads_four _ _ _ _ _ _ _ _ _ _ _ _ _ _ _ _ _ (stem_long_dot i.a.value i.a.in_range) (suffix_by_sign i.u.value (i.s.value + 1) i.u.in_range (let lt = i.s.in_range in omega arith)) (even i.l.value i.l.in_range) (odd i.h.value i.h.in_range) (a_vector i.n.value i.n.in_range) (a_vector i.m.value i.m.in_range))
+    (reads_four _ _ _ _ _ _ _ _ _ _ _ _ _ _ _ _ _ (stem_long_dot i.a.value i.a.in_range)
+    (suffix_by_sign i.u.value (i.s.value + 1) i.u.in_range (let lt = i.s.in_range in omega arith)) (even i.l.value i.l.in_range)
+    (odd i.h.value i.h.in_range) (a_vector i.n.value i.n.in_range) (a_vector i.m.value i.m.in_range))
     (asks_long_dot i.a.value _ _ _ _ _ _ i.a.in_range)
 
 -- the other spelling
 pub other_dot : (i : Dot)
-    → Answers (three (either i.a.value (codes "vmlav") (codes "vmlava") ++ by_sign i.u.value (size_number i.size)) (r (2 * i.l.value)) (q i.n.value) (q i.m.value)) (code_dot i)
+    → Answers (three (either i.a.value (codes "vmlav") (codes "vmlava") ++ by_sign i.u.value (size_number i.size)) (r (2 * i.l.value)) (q i.n.value)
+    (q i.m.value)) (code_dot i)
 other_dot i =
     answers_of _ _ _ _
-    (reads_three _ _ _ _ _ _ _ _ _ _ _ _ _ _ (stem_other_dot i.a.value i.a.in_range) (suffix_by_sign i.u.value (size_number i.size) i.u.in_range (size_below i.size)) (even i.l.value i.l.in_range) (a_vector i.n.value i.n.in_range) (a_vector i.m.value i.m.in_range))
+    (reads_three _ _ _ _ _ _ _ _ _ _ _ _ _ _ (stem_other_dot i.a.value i.a.in_range)
+    (suffix_by_sign i.u.value (size_number i.size) i.u.in_range (size_below i.size)) (even i.l.value i.l.in_range) (a_vector i.n.value i.n.in_range)
+    (a_vector i.m.value i.m.in_range))
     (asks_other_dot i.size i.a.value _ _ _ _ i.a.in_range)
 
 -- V23
@@ -135,4 +148,6 @@ asks_extreme extreme.Max u z t m = ap (λ (w : ℕ). Some w) (omega arith)
 asks_extreme extreme.Min u z t m = ap (λ (w : ℕ). Some w) (omega arith)
 
 pub row_v23 : (i : V23) → Row (vector.V23 i)
-row_v23 i = row_of (vector.V23 i) _ _ (reads_two _ _ _ _ _ _ _ _ _ _ _ (stem_extreme i.name) (suffix_by_sign i.u.value i.z.value i.u.in_range i.z.in_range) (a_register i.t.value i.t.in_range) (a_vector i.m.value i.m.in_range)) (asks_extreme i.name _ _ _ _)
+row_v23 i = row_of (vector.V23 i) _ _
+    (reads_two _ _ _ _ _ _ _ _ _ _ _ (stem_extreme i.name) (suffix_by_sign i.u.value i.z.value i.u.in_range i.z.in_range) (a_register i.t.value i.t.in_range)
+    (a_vector i.m.value i.m.in_range)) (asks_extreme i.name _ _ _ _)

@@ -15,7 +15,8 @@ use Rattle.hm_isa.specs.declared.vectors.ReverseName.TheVariants as reverse_
 use Rattle.hm_isa.specs.declared.vectors.NarrowName.TheVariants as narrow_
 use Rattle.hm_isa.specs.declared.vectors.OffsetsName.TheVariants as offsets
 use Rattle.hm_isa.specs.declared.vectors.ExtremeName.TheVariants as extreme
-use Rattle.hm_isa.specs.Code.{add_base, bitwise_base, carry_base, constant_shift_base, doubling_base, extreme_base, high_base, narrow_base, offsets_base, one_base, reverse_base, scalar_base, signed_base, complex_sum_base, vector_shift_base}
+use Rattle.hm_isa.specs.Code.{add_base, bitwise_base, carry_base, constant_shift_base, doubling_base, extreme_base, high_base, narrow_base, offsets_base}
+use Rattle.hm_isa.specs.Code.{one_base, reverse_base, scalar_base, signed_base, complex_sum_base, vector_shift_base}
 use Rattle.hm_text_rows.specs.Operands.{first}
 
 -- V1 and V2: the base code of VADD, VSUB, VMUL, VAND, VBIC, VORR, VORN and VEOR, by the stem

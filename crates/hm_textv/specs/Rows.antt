@@ -1,7 +1,9 @@
 -- The text of each vector row, as tokens.
-use Rattle.std.specs.Prelude.{◌≡◌, ◌⊎◌, ℕ, ◌+◌, ◌-◌, ◌*◌, ◌^◌, Bool, cond, List, [], ◌∷◌, ◌++◌, get_or, codes, nat_eq, nat_lt, Option, Some, None, if◌then◌else◌}
+use Rattle.std.specs.Prelude.{◌≡◌, ◌⊎◌, ℕ, ◌+◌, ◌-◌, ◌*◌, ◌^◌, Bool, cond, List, [], ◌∷◌, ◌++◌, get_or, codes, nat_eq, nat_lt, Option, Some, None}
+use Rattle.std.specs.Prelude.{if◌then◌else◌}
 use Rattle.hm_isa.specs.declared.Vector.{Vector}
-use Rattle.hm_isa.specs.declared.Vector.TheVariants.{V1, V2, V3, V4, V5, V6, V7, V8, V9, V10, V11, V12, V13, V14, V15, V16, V17, V18, V19, V20, V21, V22, V23, V24, V25, V26, V27, V28}
+use Rattle.hm_isa.specs.declared.Vector.TheVariants.{V1, V2, V3, V4, V5, V6, V7, V8, V9, V10, V11, V12, V13, V14, V15, V16, V17, V18, V19, V20, V21, V22, V23}
+use Rattle.hm_isa.specs.declared.Vector.TheVariants.{V24, V25, V26, V27, V28}
 use Rattle.hm_isa.specs.declared.vectors.V11.{V11 as ShiftRow}
 use Rattle.hm_isa.specs.declared.vectors.V12.{V12 as LongRow}
 use Rattle.hm_isa.specs.declared.vectors.V12.TheVariants as v12
@@ -21,9 +23,12 @@ use Rattle.hm_isa.specs.declared.vectors.BitwiseName.TheVariants as bitwise
 use Rattle.hm_isa.specs.declared.vectors.ConstantShiftName.{ConstantShiftName}
 use Rattle.hm_isa.specs.declared.vectors.ConstantShiftName.TheVariants as by_constant
 use Rattle.hm_tokens.specs.Lines.{IsLineOf}
-use Rattle.hm_tokens.specs.Tokens.{Tok, word, mark}
-use Rattle.hm_text_rows.specs.Shapes.{and_constant, back, comma, constant, either, four, indexed, inside, or_zero, q, r, three, two}
-use Rattle.hm_textv.specs.Stems.{access_stem, access_suffix, add_stem, bitwise_stem, block_letters, by_sign, carry_stem, compare_condition, compare_suffix, constant_shift_stem, constant_shift_suffix, doubling_stem, extreme_stem, high_stem, integer, narrow_stem, narrow_suffix, offsets_stem, one_stem, one_suffix, pair_stem, plain, quad_stem, reverse_stem, scalar_stem, scalar_suffix, signed, signed_stem, size_number, complex_sum_stem, complex_sum_suffix, unsigned, vector_shift_stem, wrapped_stem}
+use Rattle.hm_tokens.specs.Tokens.{Tok, word, close_brace, close_bracket, comma, open_brace, open_bracket}
+use Rattle.hm_text_rows.specs.Shapes.{and_constant, back, constant, either, four, indexed, inside, or_zero, q, r, three, two}
+use Rattle.hm_textv.specs.Stems.{access_stem, access_suffix, add_stem, bitwise_stem, block_letters, by_sign, carry_stem, compare_condition, compare_suffix}
+use Rattle.hm_textv.specs.Stems.{constant_shift_stem, constant_shift_suffix, doubling_stem, extreme_stem, high_stem, integer, narrow_stem, narrow_suffix}
+use Rattle.hm_textv.specs.Stems.{offsets_stem, one_stem, one_suffix, pair_stem, plain, quad_stem, reverse_stem, scalar_stem, scalar_suffix, signed, signed_stem}
+use Rattle.hm_textv.specs.Stems.{size_number, complex_sum_stem, complex_sum_suffix, unsigned, vector_shift_stem, wrapped_stem}
 
 -- ROWS
 -- V11: the size of elements that the highest bit of the field x tells (DDI0553, "VSHR", "VRSHR", "VQSHL, VQSHLU", "VSHL", "VSRI" and "VSLI")
@@ -41,7 +46,8 @@ shift_in name x = x - 2 ^ (3 + size_in x)
 -- V11: the tokens of a shift by a constant, VSHR, VRSHR, VQSHL, VQSHLU, VSHL, VSRI and VSLI
 -- (DDI0553, "VSHR", "VRSHR", "VQSHL, VQSHLU", "VSHL", "VSRI" and "VSLI")
 abbrev pub shift_tokens : ShiftRow → List Tok
-shift_tokens i = and_constant (two (constant_shift_stem i.name ++ constant_shift_suffix i.name i.u.value (size_in i.x.value)) (q i.d.value) (q i.m.value)) (shift_in i.name i.x.value)
+shift_tokens i = and_constant (two (constant_shift_stem i.name ++ constant_shift_suffix i.name i.u.value (size_in i.x.value)) (q i.d.value) (q i.m.value))
+    (shift_in i.name i.x.value)
 
 -- V12: the tokens of VSHLLB or VSHLLT by k; a shift by 0 is written as a move, VMOVLB or VMOVLT (DDI0553, "VSHLL" and "VMOVL")
 abbrev pub long_part : ℕ → List ℕ → ℕ → ℕ → ℕ → List Tok
@@ -54,7 +60,8 @@ long_part t suffix d m k =
 abbrev pub long_tokens : LongRow → List Tok
 long_tokens (v12.Bytes i) = long_part i.t.value (by_sign i.u.value 0) i.d.value i.m.value i.k.value
 long_tokens (v12.Halves i) = long_part i.t.value (by_sign i.u.value 1) i.d.value i.m.value i.k.value
-long_tokens (v12.Full i) = and_constant (two (either i.t.value (codes "vshllb") (codes "vshllt") ++ by_sign i.u.value i.z.value) (q i.d.value) (q i.m.value)) (8 * 2 ^ i.z.value)
+long_tokens (v12.Full i) = and_constant (two (either i.t.value (codes "vshllb") (codes "vshllt") ++ by_sign i.u.value i.z.value) (q i.d.value) (q i.m.value))
+    (8 * 2 ^ i.z.value)
 
 -- V13: the tokens of VCLS, VCLZ, VABS, VNEG, VQABS and VQNEG, and of VMVN of a vector
 -- (DDI0553, "VCLS", "VCLZ", "VABS", "VNEG", "VQABS", "VQNEG" and "VMVN (register)")
@@ -134,7 +141,8 @@ sum_tokens (v22.Dot i) =
 sum_tokens (v22.LongSum i) =
     three (either i.a.value (codes "vaddlv") (codes "vaddlva") ++ by_sign i.u.value 2) (r (2 * i.l.value)) (r (2 * i.h.value + 1)) (q i.m.value)
 sum_tokens (v22.LongDot i) =
-    four (either i.a.value (codes "vmlaldav") (codes "vmlaldava") ++ by_sign i.u.value (i.s.value + 1)) (r (2 * i.l.value)) (r (2 * i.h.value + 1)) (q i.n.value) (q i.m.value)
+    four (either i.a.value (codes "vmlaldav") (codes "vmlaldava") ++ by_sign i.u.value (i.s.value + 1)) (r (2 * i.l.value)) (r (2 * i.h.value + 1))
+    (q i.n.value) (q i.m.value)
 
 -- LOADS AND STORES
 -- V26: the scale of offsets, `,uxtw #y` where they are in elements of memory, and nothing where they are in bytes
@@ -144,7 +152,7 @@ scale o y = cond (nat_eq o 0) [] (comma ∷ word (codes "uxtw") ∷ constant y)
 
 -- V26: the address that has a base and offsets in the vector m (DDI0553, "VLDRB, VLDRH, VLDRW, VLDRD (vector)" and "VSTRB, VSTRH, VSTRW, VSTRD (vector)")
 abbrev pub at_offsets : Tok → ℕ → ℕ → ℕ → List Tok
-at_offsets base m o y = mark 91 ∷ base ∷ comma ∷ q m ∷ (scale o y ++ mark 93 ∷ [])
+at_offsets base m o y = open_bracket ∷ base ∷ comma ∷ q m ∷ (scale o y ++ close_bracket ∷ [])
 
 -- V24 to V27: the tokens of VLDRB, VLDRH, VLDRW, VSTRB, VSTRH and VSTRW: a register and an address
 -- (DDI0553, "VLDRB, VLDRH, VLDRW", "VSTRB, VSTRH, VSTRW", "VLDRB, VLDRH, VLDRW, VLDRD (vector)" and "VSTRB, VSTRH, VSTRW, VSTRD (vector)")
@@ -155,12 +163,12 @@ access name d address = word name ∷ q d ∷ comma ∷ address
 abbrev pub registers : ℕ → ℕ → List Tok
 registers f d =
     cond (nat_eq f 0)
-    (mark 123 ∷ q d ∷ comma ∷ q (d + 1) ∷ mark 125 ∷ [])
-    (mark 123 ∷ q d ∷ comma ∷ q (d + 1) ∷ comma ∷ q (d + 2) ∷ comma ∷ q (d + 3) ∷ mark 125 ∷ [])
+    (open_brace ∷ q d ∷ comma ∷ q (d + 1) ∷ close_brace ∷ [])
+    (open_brace ∷ q d ∷ comma ∷ q (d + 1) ∷ comma ∷ q (d + 2) ∷ comma ∷ q (d + 3) ∷ close_brace ∷ [])
 
 -- V28: the tokens of a part of VLD2, VLD4, VST2 and VST4, with `!` where the base is written back (DDI0553, "VLD2", "VLD4", "VST2" and "VST4")
 abbrev pub turns : List ℕ → ℕ → ℕ → Tok → ℕ → List Tok
-turns name f d base w = word name ∷ (registers f d ++ comma ∷ mark 91 ∷ base ∷ mark 93 ∷ back w)
+turns name f d base w = word name ∷ (registers f d ++ comma ∷ open_bracket ∷ base ∷ close_bracket ∷ back w)
 
 -- the tokens of each row as it is printed
 abbrev pub tokens_of : Vector → List Tok
@@ -172,7 +180,8 @@ tokens_of (V5 i) = three (doubling_stem i.name ++ signed i.z.value) (q i.d.value
 tokens_of (V6 i) = three (either i.t.value (codes "vmullb") (codes "vmullt") ++ by_sign i.u.value i.z.value) (q i.d.value) (q i.n.value) (q i.m.value)
 tokens_of (V7 i) = three (high_stem i.name ++ by_sign i.u.value i.z.value) (q i.d.value) (q i.n.value) (q i.m.value)
 tokens_of (V8 i) = three (carry_stem i.name ++ codes ".i32") (q i.d.value) (q i.n.value) (q i.m.value)
-tokens_of (V9 i) = and_constant (three (complex_sum_stem i.name ++ complex_sum_suffix i.name i.z.value) (q i.d.value) (q i.n.value) (q i.m.value)) (cond (nat_eq i.t.value 0) 90 270)
+tokens_of (V9 i) = and_constant (three (complex_sum_stem i.name ++ complex_sum_suffix i.name i.z.value) (q i.d.value) (q i.n.value) (q i.m.value))
+    (cond (nat_eq i.t.value 0) 90 270)
 tokens_of (V10 i) = three (scalar_stem i.name ++ scalar_suffix i.name i.u.value i.z.value) (q i.d.value) (q i.n.value) (r i.m.value)
 tokens_of (V11 i) = shift_tokens i
 tokens_of (V12 i) = long_tokens i

@@ -3,9 +3,9 @@
 ghost use Rattle.std.specs.Prelude.{◌≡◌, ◌≤◌, ◌<◌, ◌+◌, ◌*◌, ◌^◌, ◌++◌, ◌∷◌, [], length};
 ghost use Rattle.hm_isa.specs.declared.Vector.TheVariants as vector;
 ghost use Rattle.hm_textv.specs.Rows.{at_offsets, registers, scale, tokens_of};
-ghost use Rattle.hm_text_rows.specs.Shapes.{back, comma, q};
+ghost use Rattle.hm_text_rows.specs.Shapes.{back, q};
 ghost use Rattle.hm_tokens.specs.Texts.{part_token, text_tokens};
-ghost use Rattle.hm_tokens.specs.Tokens.{mark, word};
+ghost use Rattle.hm_tokens.specs.Tokens.{word, close_bracket, comma, open_bracket};
 
 use crate::stems::{access_stem, pair_stem, quad_stem};
 use crate::suffixes::{access_suffix, plain};
@@ -144,7 +144,7 @@ pub fn text_v28(i: &V28) -> InstrText
 /// The text with `[base]` more, and `!` where the base moves on.
 fn at_base(text: InstrText, base: Part, w: Bit) -> InstrText
     requires { length text.operands.items ≤ 10 }
-    ensures { text_tokens result ≡ text_tokens text ++ comma ∷ mark 91 ∷ part_token base ∷ mark 93 ∷ back w.value }
+    ensures { text_tokens result ≡ text_tokens text ++ comma ∷ open_bracket ∷ part_token base ∷ close_bracket ∷ back w.value }
 {
     let opened = open(text, base);
     let closed = marked(opened, Mark::CloseBracket);

@@ -1,7 +1,9 @@
 //! The stems of the mnemonics of vector rows.
 
 ghost use Rattle.std.specs.Prelude.{◌≡◌, ◌<◌};
-ghost use Rattle.hm_textv.specs.Stems.{add_stem, bitwise_stem, carry_stem, constant_shift_stem, doubling_stem, extreme_stem, high_stem, offsets_stem, one_stem, reverse_stem, scalar_stem, signed_stem, complex_sum_stem, vector_shift_stem, wrapped_stem, narrow_stem, block_letters, compare_condition, access_stem, pair_stem, quad_stem};
+ghost use Rattle.hm_textv.specs.Stems.{add_stem, bitwise_stem, carry_stem, constant_shift_stem, doubling_stem, extreme_stem, high_stem, offsets_stem, one_stem};
+ghost use Rattle.hm_textv.specs.Stems.{reverse_stem, scalar_stem, signed_stem, complex_sum_stem, vector_shift_stem, wrapped_stem, narrow_stem, block_letters};
+ghost use Rattle.hm_textv.specs.Stems.{compare_condition, access_stem, pair_stem, quad_stem};
 
 use hm_isa::{
     AddName, Below, Bit, BitwiseName, CarryName, ComplexSumName, ConstantShiftName, DoublingName,

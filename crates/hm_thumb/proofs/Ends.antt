@@ -1,5 +1,6 @@
 -- Every text ends: behind its start there is a byte that can't be loaded, nearer than the most bytes of a text.
-use Rattle.std.proofs.Common.{◌≡◌, ◌⊎◌, ℕ, zero, suc, ◌+◌, ◌-◌, ◌%◌, ◌^◌, ◌<◌, ◌≤◌, Bool, true, false, inl, inr, List, [], arith, refl, ap, sym, subst, cond, ◌∙◌}
+use Rattle.std.proofs.Common.{◌≡◌, ◌⊎◌, ℕ, zero, suc, ◌+◌, ◌-◌, ◌%◌, ◌^◌, ◌<◌, ◌≤◌, Bool, true, false, inl, inr, List, [], arith, refl, ap, sym, subst, cond}
+use Rattle.std.proofs.Common.{◌∙◌}
 use Rattle.std.proofs.lemmas.Bool.Decides.{nat_tests}
 use Rattle.std.specs.Prelude.{Some, Result, Ok, nat_eq, nat_le, nat_lt}
 use native.Mathlib.Nat.{mod-eq_of_lt}
@@ -74,7 +75,8 @@ module _ {E : Type 0} (R : Runner E) (s : Seen) where
       at_priority (inl h) = enough_to ended m a 0xe000e4f0 up (Bus, refl) (omega (arith, h.1)) (omega arith) (omega (arith, most_is, h.0))
       at_priority (inr h) = enough_to ended m a 0xe000ed24 up (Bus, refl) (omega (arith, h.1)) (omega arith) (omega (arith, most_is, h.0))
 
-  by_sram : IsEnded → (m a : ℕ) → most_text ≤ m → a < 2 ^ 32 → 0x100000 ≤ a → (b c : Bool) → nat_lt a 0x20000000 ≡ b → nat_le 0x20040000 a ≡ c → text R m a s ≡ text R most_text a s
+  by_sram : IsEnded → (m a : ℕ) → most_text ≤ m → a < 2 ^ 32 → 0x100000 ≤ a → (b c : Bool) → nat_lt a 0x20000000 ≡ b → nat_le 0x20040000 a ≡ c
+      → text R m a s ≡ text R most_text a s
   by_sram ended m a up fits past true c below above = by_priority ended m a up fits past (inl (grind (arith, nat_tests))) (has_width (word_at a) 1) refl
   by_sram ended m a up fits past false true below above = by_priority ended m a up fits past (inr (grind (arith, nat_tests))) (has_width (word_at a) 1) refl
   by_sram ended m a up fits past false false below above =
@@ -94,5 +96,6 @@ module _ {E : Type 0} (R : Runner E) (s : Seen) where
 pub enough-alone : (s : Seen) (m a : ℕ) → most_text ≤ m → a < 2 ^ 32 → text alone m a s ≡ text alone most_text a s
 enough-alone s = enough alone s (λ a is. (_, λ j. fault_at (is.1 j) a))
 
-pub enough-machine : (bounds : Bounds) (s : Seen) (m a : ℕ) → most_text ≤ m → a < 2 ^ 32 → text (in_machine (thread_under bounds)) m a s ≡ text (in_machine (thread_under bounds)) most_text a s
+pub enough-machine : (bounds : Bounds) (s : Seen) (m a : ℕ) → most_text ≤ m → a < 2 ^ 32
+    → text (in_machine (thread_under bounds)) m a s ≡ text (in_machine (thread_under bounds)) most_text a s
 enough-machine bounds s = enough (in_machine (thread_under bounds)) s (λ a is. (_, λ j. stop_after (is.1 j) (is_kept Thread bounds false 1 a s) false a))

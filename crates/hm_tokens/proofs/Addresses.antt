@@ -1,5 +1,6 @@
 -- A text with an address for its last operand has the tokens that it was printed from, and the address for a number.
-use Rattle.std.proofs.Common.{◌≡◌, ℕ, ◌+◌, ◌-◌, ◌*◌, ◌/◌, ◌%◌, ◌^◌, ◌<◌, ◌≤◌, min, Bool, true, false, eqb, List, [], ◌∷◌, ◌++◌, length, drop, Some, refl, ap, subst, ◌∙◌, append_assoc, arith}
+use Rattle.std.proofs.Common.{◌≡◌, ℕ, ◌+◌, ◌-◌, ◌*◌, ◌/◌, ◌%◌, ◌^◌, ◌<◌, ◌≤◌, min, Bool, true, false, eqb, List, [], ◌∷◌, ◌++◌, length, drop, Some, refl, ap}
+use Rattle.std.proofs.Common.{subst, ◌∙◌, append_assoc, arith}
 use Rattle.std.specs.Prelude.{◌&&◌, ◌||◌}
 use Rattle.std.specs.List.{list_all}
 use Rattle.std.proofs.lemmas.Bool.{and_parts}
@@ -10,9 +11,10 @@ use Rattle.hm_text_base.specs.Texts.{hex8, hex_digit}
 use Rattle.hm_text_base.proofs.Steps.{and_then_some, some_is, test_some}
 use Rattle.hm_text_base.proofs.NumberLaws.{hex8_again}
 use Rattle.hm_tokens.specs.declared.token.Class.TheVariants as classes
-use Rattle.hm_tokens.specs.Tokens.{Tok, word, number, mark, is_in, run, digit, value, skip, spell, token_at}
+use Rattle.hm_tokens.specs.Tokens.{Tok, word, number, mark, is_in, run, digit, value, skip, spell, token_at, comma}
 use Rattle.hm_tokens.specs.Lines.{AreTokensOf, IsLineOf, address, gap, is_word, printed, printed_at, spelled, spelled_behind}
-use Rattle.hm_tokens.proofs.Again.{AreTokens, IsToken, MayFollow, Parts, apart, are_apart, follows, from_mark, is_mark_token, no_space, or_true, run_front, skip_gap, space_follows, token_front}
+use Rattle.hm_tokens.proofs.Again.{AreTokens, IsToken, MayFollow, Parts, apart, are_apart, follows, from_mark, is_mark_token, no_space, or_true, run_front}
+use Rattle.hm_tokens.proofs.Again.{skip_gap, space_follows, token_front}
 
 -- ---- the number
 
@@ -89,13 +91,15 @@ some_spelled b (mark c) ts e = omega (arith, length-append (gap b (mark c)) (c �
 marked : (t u : Tok) → is_mark_token t ≡ false → (is_mark_token t || is_mark_token u) ≡ true → is_mark_token u ≡ true
 marked t u e f = rw e at f
 
-follows_more : (t : Tok) (ts : List Tok) (tail : List ℕ) → is_mark_token t ≡ false → ends_in_mark (t ∷ ts) ≡ true → apart t ts ≡ true → Parts (spelled_behind (is_word t) ts) → Parts (spelled_behind (is_word t) ts ++ tail)
+follows_more : (t : Tok) (ts : List Tok) (tail : List ℕ) → is_mark_token t ≡ false → ends_in_mark (t ∷ ts) ≡ true → apart t ts ≡ true
+    → Parts (spelled_behind (is_word t) ts) → Parts (spelled_behind (is_word t) ts ++ tail)
 follows_more t [] tail plain ends e parts = absurd cc
 follows_more t (u ∷ ts) tail plain ends e parts =
     let p = and_parts (is_mark_token t || is_mark_token u) (apart u ts) e in
     parts_more (spelled_behind (is_word t) (u ∷ ts)) tail parts (some_spelled (is_word t) u ts (marked t u plain p.0))
 
-follows_at : (t : Tok) (ts : List Tok) (tail : List ℕ) → ends_in_mark (t ∷ ts) ≡ true → apart t ts ≡ true → AreTokens ts → MayFollow t (spelled_behind (is_word t) ts ++ tail)
+follows_at : (t : Tok) (ts : List Tok) (tail : List ℕ) → ends_in_mark (t ∷ ts) ≡ true → apart t ts ≡ true → AreTokens ts
+    → MayFollow t (spelled_behind (is_word t) ts ++ tail)
 follows_at (mark c) ts tail ends e are = tt
 follows_at (word w) ts tail ends e are = follows_more (word w) ts tail refl ends e (follows (word w) ts e are)
 follows_at (number n) ts tail ends e are = follows_more (number n) ts tail refl ends e (follows (number n) ts e are)
@@ -107,9 +111,11 @@ tokens_at (u ∷ ts) are t e ends b a lt =
     let p = and_parts (is_mark_token t || is_mark_token u) (apart u ts) e in
     let rest = spelled_behind (is_word u) ts ++ address a in
     let whole : (gap b u ++ (spell u ++ spelled_behind (is_word u) ts)) ++ address a ≡ gap b u ++ (spell u ++ rest) =
-    append_assoc (gap b u) (spell u ++ spelled_behind (is_word u) ts) (address a) ∙ ap (λ (x : List ℕ). gap b u ++ x) (append_assoc (spell u) (spelled_behind (is_word u) ts) (address a)) in
+    append_assoc (gap b u) (spell u ++ spelled_behind (is_word u) ts) (address a)
+    ∙ ap (λ (x : List ℕ). gap b u ++ x) (append_assoc (spell u) (spelled_behind (is_word u) ts) (address a)) in
     let front : token_at (skip ((gap b u ++ (spell u ++ spelled_behind (is_word u) ts)) ++ address a)) ≡ Some (u, rest) =
-    ap (λ (x : List ℕ). token_at (skip x)) whole ∙ ap token_at (skip_gap b u (spell u ++ rest) ∙ no_space u rest are.0) ∙ token_front u rest are.0 (follows_at u ts (address a) ends p.1 are.1) in
+    ap (λ (x : List ℕ). token_at (skip x)) whole ∙ ap token_at (skip_gap b u (spell u ++ rest) ∙ no_space u rest are.0)
+    ∙ token_front u rest are.0 (follows_at u ts (address a) ends p.1 are.1) in
     (rest, front, tokens_at ts are.1 u p.1 (rest_ends u ts ends) (is_word u) a lt)
 
 skip_one : (text : List ℕ) (ts : List Tok) → AreTokensOf text ts → AreTokensOf (32 ∷ text) ts
@@ -123,8 +129,9 @@ apart_line text t rest ts e is are =
     ap (λ (x : List ℕ). token_at (skip x)) e ∙ ap token_at (no_space t (32 ∷ rest) is) ∙ token_front t (32 ∷ rest) is (space_follows t rest) in
     (32 ∷ rest, front, or_true (eqb (length (32 ∷ rest)) 0), skip_one rest ts are)
 
-pub printed_at_again : (ts : List Tok) (t : Tok) (a : ℕ) → AreTokens ts → IsToken t → are_apart ts ≡ true → ends_in_mark ts ≡ true → a < 2 ^ 32 → IsLineOf (printed_at (t ∷ ts) a) (t ∷ (ts ++ number a ∷ []))
+pub printed_at_again : (ts : List Tok) (t : Tok) (a : ℕ) → AreTokens ts → IsToken t → are_apart ts ≡ true → ends_in_mark ts ≡ true → a < 2 ^ 32
+    → IsLineOf (printed_at (t ∷ ts) a) (t ∷ (ts ++ number a ∷ []))
 printed_at_again [] t a are is e ends lt = apart_line _ t (address a) (number a ∷ []) refl is (address_tokens a lt)
 printed_at_again (u ∷ ts) t a are is e ends lt =
     apart_line _ t (spelled (u ∷ ts) ++ address a) ((u ∷ ts) ++ number a ∷ []) (append_assoc (spell t) (32 ∷ spelled (u ∷ ts)) (address a)) is
-    (tokens_at (u ∷ ts) are (mark 44) (from_mark (u ∷ ts) e) ends false a lt)
+    (tokens_at (u ∷ ts) are comma (from_mark (u ∷ ts) e) ends false a lt)

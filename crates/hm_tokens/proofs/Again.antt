@@ -1,5 +1,6 @@
 -- A text that is printed has the tokens that it was printed from.
-use Rattle.std.proofs.Common.{◌≡◌, ℕ, ◌+◌, ◌-◌, ◌*◌, ◌^◌, ◌<◌, ◌≤◌, min, Bool, true, false, eqb, ltb, List, [], ◌∷◌, ◌++◌, length, Some, refl, sym, ap, inl, inr, ◌∙◌, arith, rules}
+use Rattle.std.proofs.Common.{◌≡◌, ℕ, ◌+◌, ◌-◌, ◌*◌, ◌^◌, ◌<◌, ◌≤◌, min, Bool, true, false, eqb, ltb, List, [], ◌∷◌, ◌++◌, length, Some, refl, sym, ap, inl}
+use Rattle.std.proofs.Common.{inr, ◌∙◌, arith, rules}
 use Rattle.std.specs.Prelude.{decimal, ◌&&◌, ◌||◌}
 use Rattle.std.specs.List.{list_all}
 use Rattle.std.specs.Str.{all_ascii_digits}
@@ -11,7 +12,7 @@ use Rattle.std.proofs.lemmas.Fmt.{digits_decimal, digits_value-decimal, decimal_
 use Rattle.std.specs.Char.{is_ascii_digit}
 use Rattle.hm_tokens.specs.declared.token.Class.{Class}
 use Rattle.hm_tokens.specs.declared.token.Class.TheVariants as classes
-use Rattle.hm_tokens.specs.Tokens.{Tok, word, number, mark, is_in, is_digit, run, digit, value, skip, is_hex, spell, token_at}
+use Rattle.hm_tokens.specs.Tokens.{Tok, word, number, mark, is_in, is_digit, run, digit, value, skip, is_hex, spell, token_at, comma}
 use Rattle.hm_tokens.specs.Marks.{is_mark}
 use Rattle.hm_tokens.specs.Lines.{AreTokensOf, IsLineOf, gap, is_hash, is_word, printed, spelled, spelled_behind}
 
@@ -56,7 +57,8 @@ stops : (rest : List ℕ) → Parts rest → Stops classes.Word rest
 stops [] p = tt
 stops (b ∷ rest) p = p
 
-word_front : (c : ℕ) (w rest : List ℕ) → is_digit c ≡ false → list_all (is_in classes.Word) (c ∷ w) ≡ true → Parts rest → token_at ((c ∷ w) ++ rest) ≡ Some (word (c ∷ w), rest)
+word_front : (c : ℕ) (w rest : List ℕ) → is_digit c ≡ false → list_all (is_in classes.Word) (c ∷ w) ≡ true → Parts rest
+    → token_at ((c ∷ w) ++ rest) ≡ Some (word (c ∷ w), rest)
 unfolding token_at
 word_front c w rest nd all parts =
     let p = and_parts (is_in classes.Word c) (list_all (is_in classes.Word) w) all in
@@ -233,7 +235,7 @@ abbrev pub are_apart : List Tok → Bool
 are_apart [] = true
 are_apart (t ∷ ts) = apart t ts
 
-pub from_mark : (ts : List Tok) → are_apart ts ≡ true → apart (mark 44) ts ≡ true
+pub from_mark : (ts : List Tok) → are_apart ts ≡ true → apart comma ts ≡ true
 from_mark [] e = refl
 from_mark (t ∷ ts) e = e
 
@@ -257,5 +259,9 @@ unfolding run
 printed_again [] are t is e = ([], bare t is, refl, refl)
 printed_again (u ∷ ts) are t is e =
     let gap : token_at (skip (spell t ++ 32 ∷ spelled (u ∷ ts))) ≡ Some (t, 32 ∷ spelled (u ∷ ts)) =
-    rw (no_space t (32 ∷ spelled (u ∷ ts)) is) (token_front t (32 ∷ spelled (u ∷ ts)) is (space_follows t (spelled (u ∷ ts)))) in
-    (32 ∷ spelled (u ∷ ts), gap, or_true (eqb (length (32 ∷ spelled (u ∷ ts))) 0), space_skipped (u ∷ ts) (u ∷ ts) (tokens_again (u ∷ ts) are (mark 44) (from_mark (u ∷ ts) e) false))
+    rw (no_space t (32 ∷ spelled (u ∷ ts)) is) (token_front t (32 ∷ spelled (u ∷ ts)) is (space_follows t (spelled (u ∷ ts)))) in (
+      32 ∷ spelled (u ∷ ts),
+      gap,
+      or_true (eqb (length (32 ∷ spelled (u ∷ ts))) 0),
+      space_skipped (u ∷ ts) (u ∷ ts) (tokens_again (u ∷ ts) are comma (from_mark (u ∷ ts) e) false),
+    )

@@ -40,7 +40,8 @@ tokens_found (suc most) text ts e =
           one_more text a.0.1 a.0.0 b.0 ts a.1 (tokens_found most a.0.1 b.0 b.1) b.2
     ]
 
-first_apart : (text rest : List ℕ) (t : Tok) (us ts : List Tok) → token_at (skip text) ≡ Some (t, rest) → is_gap rest ≡ true → AreTokensOf rest us → t ∷ us ≡ ts → IsLineOf text ts
+first_apart : (text rest : List ℕ) (t : Tok) (us ts : List Tok) → token_at (skip text) ≡ Some (t, rest) → is_gap rest ≡ true → AreTokensOf rest us → t ∷ us ≡ ts
+    → IsLineOf text ts
 first_apart text rest t us ts e gap are is = subst (λ (x : List Tok). IsLineOf text x) is (rest, e, gap, are)
 
 line_is : (text : List ℕ) (ts : List Tok) → line_in text ≡ Some ts → IsLineOf text ts
@@ -79,6 +80,7 @@ pub line_found : {A : Type 0} (view : A → List Tok) (text : List ℕ) (r : Opt
 line_found view text (Some v) e = line_is text (view v) e
 line_found view text None e = tt
 
-pub line_only : {A : Type 0} (view : A → List Tok) (text : List ℕ) (r : Option A) → ReadsSome view r (line_in text) → (ts : List Tok) → IsLineOf text ts → length ts ≤ 40 → option_map view r ≡ Some ts
+pub line_only : {A : Type 0} (view : A → List Tok) (text : List ℕ) (r : Option A) → ReadsSome view r (line_in text) → (ts : List Tok) → IsLineOf text ts
+    → length ts ≤ 40 → option_map view r ≡ Some ts
 line_only view text (Some v) e ts is le = sym e ∙ line_only_one text ts is le
 line_only view text None e ts is le = sym e ∙ line_only_one text ts is le

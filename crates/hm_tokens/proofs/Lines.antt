@@ -15,16 +15,19 @@ regroup : (front : List Tok) (t : Tok) (o : Option (List Tok)) → with_front fr
 regroup front t None = refl
 regroup front t (Some ts) = ap (λ (x : List Tok). Some x) (sym (append_assoc front (t ∷ []) ts))
 
-pub more : (front : List Tok) (n : ℕ) (text : List ℕ) (t : Tok) (rest : List ℕ) (whole : Option (List Tok)) → 0 < length text → n < 40 → token_at text ≡ Some (t, rest)
+pub more : (front : List Tok) (n : ℕ) (text : List ℕ) (t : Tok) (rest : List ℕ) (whole : Option (List Tok)) → 0 < length text → n < 40
+    → token_at text ≡ Some (t, rest)
     → with_front front (tokens_from (40 - n) text) ≡ whole → with_front (front ++ t ∷ []) (tokens_from (40 - (n + 1)) (skip rest)) ≡ whole
 unfolding tokens_from
 more front n text t rest whole some lt e so_far =
     let k : 40 - n ≡ suc (40 - (n + 1)) = omega arith in
     let s = ne_eqb (length text) 0 (λ is. omega arith) in
-    let one : with_front front (tokens_from (40 - n) text) ≡ with_front (front ++ t ∷ []) (tokens_from (40 - (n + 1)) (skip rest)) = rw (k, s, e) (regroup front t (tokens_from (40 - (n + 1)) (skip rest))) in
+    let one : with_front front (tokens_from (40 - n) text) ≡ with_front (front ++ t ∷ []) (tokens_from (40 - (n + 1)) (skip rest)) =
+    rw (k, s, e) (regroup front t (tokens_from (40 - (n + 1)) (skip rest))) in
     sym one ∙ so_far
 
-pub none : (front : List Tok) (n : ℕ) (text : List ℕ) (whole : Option (List Tok)) → 0 < length text → n < 40 → token_at text ≡ None → with_front front (tokens_from (40 - n) text) ≡ whole → whole ≡ None
+pub none : (front : List Tok) (n : ℕ) (text : List ℕ) (whole : Option (List Tok)) → 0 < length text → n < 40 → token_at text ≡ None
+    → with_front front (tokens_from (40 - n) text) ≡ whole → whole ≡ None
 unfolding tokens_from
 none front n text whole some lt e so_far =
     let k : 40 - n ≡ suc (40 - (n + 1)) = omega arith in
@@ -32,7 +35,8 @@ none front n text whole some lt e so_far =
     let one : with_front front (tokens_from (40 - n) text) ≡ None = rw (k, s, e) refl in
     sym so_far ∙ one
 
-pub full : (front : List Tok) (n : ℕ) (text : List ℕ) (whole : Option (List Tok)) → 0 < length text → 40 ≤ n → with_front front (tokens_from (40 - n) text) ≡ whole → whole ≡ None
+pub full : (front : List Tok) (n : ℕ) (text : List ℕ) (whole : Option (List Tok)) → 0 < length text → 40 ≤ n
+    → with_front front (tokens_from (40 - n) text) ≡ whole → whole ≡ None
 unfolding tokens_from
 full front n text whole some le so_far =
     let k : 40 - n ≡ 0 = omega arith in
@@ -45,10 +49,12 @@ unfolding tokens_from
 ended zero text e = rw (eq-eqb (length text) 0 e) refl
 ended (suc k) text e = rw (eq-eqb (length text) 0 e) refl
 
-pub is_done : (front : List Tok) (k : ℕ) (text : List ℕ) (whole : Option (List Tok)) → length text ≡ 0 → with_front front (tokens_from k text) ≡ whole → whole ≡ Some front
+pub is_done : (front : List Tok) (k : ℕ) (text : List ℕ) (whole : Option (List Tok)) → length text ≡ 0 → with_front front (tokens_from k text) ≡ whole
+    → whole ≡ Some front
 is_done front k text whole e so_far =
     let one : with_front front (tokens_from k text) ≡ Some front = rw (ended k text e) (ap (λ (x : List Tok). Some x) (append-nil front)) in
     sym so_far ∙ one
 
-pub begins : (first : Token) (items : List Token) (o : Option (List Tok)) → items ≡ first ∷ [] → with_front (map tok items) o ≡ option_map (λ ts. tok first ∷ ts) o
+pub begins : (first : Token) (items : List Token) (o : Option (List Tok)) → items ≡ first ∷ []
+    → with_front (map tok items) o ≡ option_map (λ ts. tok first ∷ ts) o
 begins first items o e = rw e refl

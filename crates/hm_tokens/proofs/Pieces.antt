@@ -17,7 +17,8 @@ behind_found piece name rest e =
 
 behind_again : (piece rest : List ℕ) → behind piece (piece ++ rest) ≡ Some rest
 behind_again piece rest =
-    let s : starts_with nat_eq (piece ++ rest) piece ≡ true = (starts_is Decides-eqb (piece ++ rest) piece (starts_with nat_eq (piece ++ rest) piece) refl).1 rest refl in
+    let s : starts_with nat_eq (piece ++ rest) piece ≡ true =
+    (starts_is Decides-eqb (piece ++ rest) piece (starts_with nat_eq (piece ++ rest) piece) refl).1 rest refl in
     rw (s, drop-append_seam piece rest) refl
 
 last_found : (c : List ℕ) (o : Option (List ℕ)) → is_last c o ≡ true → o ≡ Some c
@@ -31,7 +32,8 @@ rest_found b c None e = absurd (false≢true e)
 last_again : (c : List ℕ) → is_last c (Some c) ≡ true
 last_again c = (bytes_eq-Decides c c).1 refl
 
-pub pieces_is : (a b c name : List ℕ) (r : Bool) → r ≡ is_pieces a b c name → (IsTrue r → word name ≡ word (a ++ (b ++ c))) × (word name ≡ word (a ++ (b ++ c)) → IsTrue r)
+pub pieces_is : (a b c name : List ℕ) (r : Bool) → r ≡ is_pieces a b c name
+    → (IsTrue r → word name ≡ word (a ++ (b ++ c))) × (word name ≡ word (a ++ (b ++ c)) → IsTrue r)
 pieces_is a b c name r is = (
   λ e. ap word (behind_found a name (b ++ c) (rest_found b c (behind a name) (sym is ∙ e))),
   λ e. is ∙ ap (is_pieces a b c) (the_word e) ∙ ap (is_rest b c) (behind_again a (b ++ c)) ∙ ap (is_last c) (behind_again b c) ∙ last_again c,

@@ -1,12 +1,13 @@
 -- Tokens without `-` have no ranges.
-use Rattle.std.proofs.Common.{◌≡◌, ℕ, zero, suc, ◌+◌, ◌-◌, ◌<◌, ◌≤◌, Bool, cond, true, false, List, [], ◌∷◌, ◌++◌, length, refl, sym, subst, ap, ◌∙◌, append_assoc, arith}
+use Rattle.std.proofs.Common.{◌≡◌, ℕ, zero, suc, ◌+◌, ◌-◌, ◌<◌, ◌≤◌, Bool, cond, true, false, List, [], ◌∷◌, ◌++◌, length, refl, sym, subst, ap, ◌∙◌}
+use Rattle.std.proofs.Common.{append_assoc, arith}
 use Rattle.std.specs.Prelude.{IfSome, Option, Some, None, ◌&&◌, not}
 use Rattle.std.specs.List.{list_all}
 use Rattle.std.proofs.lemmas.Bool.{and_parts, false≢true}
 use Rattle.std.proofs.lemmas.Bool.Decides.{nat_tests}
 use Rattle.std.proofs.lemmas.List.{length-append}
 use Rattle.hm_tokens.specs.Names.{register_name}
-use Rattle.hm_tokens.specs.Tokens.{Tok, word, mark}
+use Rattle.hm_tokens.specs.Tokens.{Tok, word, comma}
 use Rattle.hm_tokens.specs.Ranges.{is_inside, is_rising, is_the_mark, last_register, normal, range_tokens, register_of, rising, singles}
 
 abbrev pub has_no_ranges : List Tok → Bool
@@ -42,27 +43,31 @@ pub normal_same : (ts : List Tok) → has_no_ranges ts ≡ true → normal ts �
 normal_same ts e = singles_same ts false e
 
 -- one register more in front of a range
-more_rising : (k n : ℕ) → 0 < n → rising k n ≡ word (register_name k) ∷ mark 44 ∷ rising (k + 1) (n - 1)
+more_rising : (k n : ℕ) → 0 < n → rising k n ≡ word (register_name k) ∷ comma ∷ rising (k + 1) (n - 1)
 unfolding rising
 more_rising k zero lt = absurd (omega arith)
 more_rising k (suc n) lt = let e : suc n - 1 ≡ n = omega arith in rw e refl
 
-pub rising_more : (old a b c : List Tok) (k n : ℕ) → 0 < n → a ≡ old ++ word (register_name k) ∷ [] → b ≡ a ++ mark 44 ∷ [] → c ≡ b ++ rising (k + 1) (n - 1) → c ≡ old ++ rising k n
+pub rising_more : (old a b c : List Tok) (k n : ℕ) → 0 < n → a ≡ old ++ word (register_name k) ∷ [] → b ≡ a ++ comma ∷ [] → c ≡ b ++ rising (k + 1) (n - 1)
+    → c ≡ old ++ rising k n
 rising_more old a b c k n lt ea eb ec =
     let tail = rising (k + 1) (n - 1) in
-    let one : b ++ tail ≡ a ++ (mark 44 ∷ tail) = ap (λ (x : List Tok). x ++ tail) eb ∙ append_assoc a (mark 44 ∷ []) tail in
-    let two : a ++ (mark 44 ∷ tail) ≡ old ++ (word (register_name k) ∷ mark 44 ∷ tail) = ap (λ (x : List Tok). x ++ (mark 44 ∷ tail)) ea ∙ append_assoc old (word (register_name k) ∷ []) (mark 44 ∷ tail) in
+    let one : b ++ tail ≡ a ++ (comma ∷ tail) = ap (λ (x : List Tok). x ++ tail) eb ∙ append_assoc a (comma ∷ []) tail in
+    let two : a ++ (comma ∷ tail) ≡ old ++ (word (register_name k) ∷ comma ∷ tail) = ap (λ (x : List Tok). x ++ (comma ∷ tail)) ea
+    ∙ append_assoc old (word (register_name k) ∷ []) (comma ∷ tail) in
     ec ∙ one ∙ two ∙ ap (λ (x : List Tok). old ++ x) (sym (more_rising k n lt))
 
 pub rising_length : (k n : ℕ) → 0 < n → length (rising k n) ≡ 2 + length (rising (k + 1) (n - 1))
 rising_length k n lt = let e = ap length (more_rising k n lt) in omega (arith, e)
 
-pub rising_pushed : {A : Type 0} (r : Option A) (old a b c : List Tok) (w : List ℕ) (k n : ℕ) → 0 < n → w ≡ register_name k → a ≡ old ++ word w ∷ [] → b ≡ a ++ mark 44 ∷ []
+pub rising_pushed : {A : Type 0} (r : Option A) (old a b c : List Tok) (w : List ℕ) (k n : ℕ) → 0 < n → w ≡ register_name k → a ≡ old ++ word w ∷ []
+    → b ≡ a ++ comma ∷ []
     → IfSome r (λ x. c ≡ b ++ rising (k + 1) (n - 1)) → IfSome r (λ x. c ≡ old ++ rising k n)
 rising_pushed (Some x) old a b c w k n lt name ea eb ec = rising_more old a b c k n lt (subst (λ (v : List ℕ). a ≡ old ++ word v ∷ []) name ea) eb ec
 rising_pushed None old a b c w k n lt name ea eb ec = tt
 
-pub rising_longer : {A : Type 0} (r : Option A) (old a b c k n : ℕ) → 0 < n → a ≡ old + 1 → b ≡ a + 1 → IfSome r (λ x. c ≡ b + length (rising (k + 1) (n - 1))) → IfSome r (λ x. c ≡ old + length (rising k n))
+pub rising_longer : {A : Type 0} (r : Option A) (old a b c k n : ℕ) → 0 < n → a ≡ old + 1 → b ≡ a + 1 → IfSome r (λ x. c ≡ b + length (rising (k + 1) (n - 1)))
+    → IfSome r (λ x. c ≡ old + length (rising k n))
 rising_longer (Some x) old a b c k n lt ea eb ec = let e = rising_length k n lt in omega (arith, e, ea, eb, ec)
 rising_longer None old a b c k n lt ea eb ec = tt
 
@@ -81,7 +86,8 @@ range_some (Some k) (Some j) e =
 range_some (Some k) None e = absurd (false≢true e)
 range_some None last e = absurd (false≢true e)
 
-no_fewer : (b : Bool) (range behind single : List Tok) (t : Tok) (n : ℕ) → (b ≡ true → 3 ≤ length range) → n ≤ length behind + 2 → n ≤ length single → suc n ≤ length (cond b (range ++ behind) (t ∷ single))
+no_fewer : (b : Bool) (range behind single : List Tok) (t : Tok) (n : ℕ) → (b ≡ true → 3 ≤ length range) → n ≤ length behind + 2 → n ≤ length single
+    → suc n ≤ length (cond b (range ++ behind) (t ∷ single))
 no_fewer true range behind single t n some le others = let three = some refl in omega (arith, three, le, length-append range behind)
 no_fewer false range behind single t n some le others = omega (arith, others)
 
@@ -91,7 +97,8 @@ singles_no_fewer [] over inside = omega arith
 singles_no_fewer (t ∷ ts) zero inside =
     let single = singles_no_fewer ts 0 (is_inside inside t) in
     let whole : suc (length ts) ≤ length (singles zero inside (t ∷ ts)) =
-    no_fewer (inside && is_rising (register_of t) (last_register ts)) (range_tokens (register_of t) (last_register ts)) (singles 2 inside ts) (singles 0 (is_inside inside t) ts) t (length ts)
+    no_fewer (inside && is_rising (register_of t) (last_register ts)) (range_tokens (register_of t) (last_register ts)) (singles 2 inside ts)
+    (singles 0 (is_inside inside t) ts) t (length ts)
     (λ e. range_some (register_of t) (last_register ts) (and_parts inside (is_rising (register_of t) (last_register ts)) e).1)
     (singles_no_fewer ts 2 inside) (omega (arith, single)) in
     omega (arith, whole)

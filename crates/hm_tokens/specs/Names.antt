@@ -1,5 +1,6 @@
 -- The names of registers and conditions, in the order of their numbers.
-use Rattle.std.specs.Prelude.{ℕ, ◌+◌, Bool, true, false, List, [], ◌∷◌, get_or, codes, Option, Some, None, bytes_eq, ◌==◌, nat_le, ◌&&◌, ◌||◌, not, if◌then◌else◌}
+use Rattle.std.specs.Prelude.{ℕ, ◌+◌, Bool, true, false, List, [], ◌∷◌, get_or, codes, Option, Some, None, bytes_eq, ◌==◌, nat_le, ◌&&◌, ◌||◌, not}
+use Rattle.std.specs.Prelude.{if◌then◌else◌}
 
 -- the names of the core registers, from 0 to 15
 abbrev pub register_names : List (List ℕ)

@@ -1,7 +1,7 @@
 -- Registers in braces: a range, as `r0-r3`, stands for each of them.
 use Rattle.std.specs.Prelude.{ℕ, zero, suc, ◌+◌, ◌-◌, Bool, false, List, [], ◌∷◌, ◌++◌, Option, Some, None, ◌==◌, nat_lt, ◌&&◌, ◌||◌, not, if◌then◌else◌}
 use Rattle.hm_tokens.specs.Names.{register_in, register_name}
-use Rattle.hm_tokens.specs.Tokens.{Tok, word, number, mark}
+use Rattle.hm_tokens.specs.Tokens.{Tok, word, number, mark, comma}
 
 -- whether a token is this mark
 abbrev pub is_the_mark : ℕ → Tok → Bool
@@ -30,7 +30,7 @@ is_rising None last = false
 -- register k and the n behind it, with commas between
 unfoldable pub rising : ℕ → ℕ → List Tok
 rising k zero = word (register_name k) ∷ []
-rising k (suc n) = word (register_name k) ∷ mark 44 ∷ rising (k + 1) n
+rising k (suc n) = word (register_name k) ∷ comma ∷ rising (k + 1) n
 
 -- the registers from the first of a range to its last, with commas between; nothing where one of the two is not given
 abbrev pub range_tokens : Option ℕ → Option ℕ → List Tok

@@ -1,5 +1,6 @@
 -- Tokens of assembly text, and the longest at the front of a text.
-use Rattle.std.specs.Prelude.{ℕ, Bool, ◌+◌, ◌-◌, ◌*◌, min, List, [], ◌∷◌, length, slice_index, drop, decimal, Option, Some, None, ◌==◌, nat_le, nat_lt, ◌&&◌, ◌||◌, if◌then◌else◌}
+use Rattle.std.specs.Prelude.{ℕ, Bool, ◌+◌, ◌-◌, ◌*◌, min, List, [], ◌∷◌, length, slice_index, drop, decimal, Option, Some, None, ◌==◌, nat_le, nat_lt, ◌&&◌}
+use Rattle.std.specs.Prelude.{◌||◌, if◌then◌else◌}
 use Rattle.hm_tokens.specs.Marks.{is_mark, mark_byte}
 use Rattle.hm_tokens.specs.declared.token.Token.{Token}
 use Rattle.hm_tokens.specs.declared.token.Token.TheVariants as tokens
@@ -11,6 +12,42 @@ pub data Tok : Type 0 where
   word : List ℕ → Tok
   number : ℕ → Tok
   mark : ℕ → Tok
+
+-- between two operands
+abbrev pub comma : Tok
+comma = mark 44
+
+-- before the base of an address
+abbrev pub open_bracket : Tok
+open_bracket = mark 91
+
+-- behind the offset of an address
+abbrev pub close_bracket : Tok
+close_bracket = mark 93
+
+-- before a list of registers
+abbrev pub open_brace : Tok
+open_brace = mark 123
+
+-- behind a list of registers
+abbrev pub close_brace : Tok
+close_brace = mark 125
+
+-- behind a base that is written back
+abbrev pub bang : Tok
+bang = mark 33
+
+-- before a constant
+abbrev pub hash_mark : Tok
+hash_mark = mark 35
+
+-- before what is added to a label
+abbrev pub plus_mark : Tok
+plus_mark = mark 43
+
+-- before a number that is taken away, and inside a range of registers
+abbrev pub minus_mark : Tok
+minus_mark = mark 45
 
 -- a token of the program, as a token of these definitions
 abbrev pub tok : Token → Tok

@@ -1,7 +1,8 @@
 //! The names of registers and conditions.
 
 ghost use Rattle.std.specs.Prelude.{◌≡◌, ◌<◌, ◌≤◌, length, IfSome};
-ghost use Rattle.hm_tokens.specs.Names.{are_name_bytes, condition_in, condition_name, is_half, is_label_name, is_letter, is_name, is_reserved, register_in, register_name, vector_in, vector_name};
+ghost use Rattle.hm_tokens.specs.Names.{are_name_bytes, condition_in, condition_name, is_half, is_label_name, is_letter, is_name, is_reserved, register_in};
+ghost use Rattle.hm_tokens.specs.Names.{register_name, vector_in, vector_name};
 
 /// The name of a core register: `r0` to `r12`, `sp`, `lr`, `pc`.
 pub fn register_name(n: u32) -> &'static str

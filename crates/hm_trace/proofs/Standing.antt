@@ -16,10 +16,12 @@ fetched_text flash a (Err e) i fetched stands = absurd (fetched.0 i stands)
 pub text_shown : (flash : ℕ → ℕ) (listing : Listing) (a : ℕ) (i : Instr) → IsListing flash listing → Stands flash a i → printed_text i a ≡ text_of a (listing a)
 text_shown flash listing a i listed stands = fetched_text flash a (listing a) i (listed.at a) stands
 
-missing_text : (flash : ℕ → ℕ) (a : ℕ) (x : Result Instr Fault) → IsFetched flash a x → ((i : Instr) → Stands flash a i → ⊥) → codes "no instruction" ≡ text_of a x
+missing_text : (flash : ℕ → ℕ) (a : ℕ) (x : Result Instr Fault) → IsFetched flash a x → ((i : Instr) → Stands flash a i → ⊥)
+    → codes "no instruction" ≡ text_of a x
 missing_text flash a (Ok j) fetched none = absurd (none j fetched)
 missing_text flash a (Err e) fetched none = refl
 
 -- that none does
-pub text_missing : (flash : ℕ → ℕ) (listing : Listing) (a : ℕ) → IsListing flash listing → ((i : Instr) → Stands flash a i → ⊥) → codes "no instruction" ≡ text_of a (listing a)
+pub text_missing : (flash : ℕ → ℕ) (listing : Listing) (a : ℕ) → IsListing flash listing → ((i : Instr) → Stands flash a i → ⊥)
+    → codes "no instruction" ≡ text_of a (listing a)
 text_missing flash listing a listed none = missing_text flash a (listing a) (listed.at a) none

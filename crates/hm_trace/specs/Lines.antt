@@ -92,4 +92,5 @@ end_part (Some o) = codes " | " ++ outcome_line (Some o)
 -- THE LINE OF A TICK
 unfoldable pub tick_line : Listing → Past → Mark → Timed → List ℕ
 tick_line listing p mark y =
-    head_part p mark y ++ (flat_map (progress_part listing) (progresses p mark y) ++ (changes_part (changes p.regs (regs_of y.config.state)) ++ end_part y.outcome))
+    head_part p mark y ++ (flat_map (progress_part listing) (progresses p mark y)
+    ++ (changes_part (changes p.regs (regs_of y.config.state)) ++ end_part y.outcome))

@@ -35,8 +35,8 @@ hue a = a * 34 % 360
 abbrev pub column : ℕ → ℕ
 column a = a / 4 % 2
 
--- what stands between the texts of a page: the beginning of a row of a class, of its first cell and of another, of a bar, of the cell of instructions and of the
--- cell behind it, of an instruction in a column, of its colour and of its boxes, and its end
+-- what stands between the texts of a page: the beginning of a row of a class, of its first cell and of another, of a bar, of the cell of instructions
+-- and of the cell behind it, of an instruction in a column, of its colour and of its boxes, and its end
 unfoldable pub tag_text : Tag → List ℕ
 tag_text Row = codes "<tr class="
 tag_text FirstCell = codes "><td>"
@@ -120,7 +120,9 @@ tick_rows listing p mark y = tick_row listing p mark y ++ (mark_rows mark (regs_
 -- how the page looks: a box of 12 pixels a beat, filled in the instruction's colour where the tick did it, and pale where it was done before; two columns of
 -- instructions in each row
 unfoldable pub style : List ℕ
-style = codes "<style>body{font:13px/1.4 monospace;margin:1em;color:#222}table{border-collapse:collapse}td,th{padding:1px 9px;text-align:left;white-space:nowrap;vertical-align:top;border-bottom:1px solid #e8e8e8}th{position:sticky;top:0;background:#fff;border-bottom:2px solid #888}i{display:inline-block;width:12px;height:12px;margin:0 1px 0 0;vertical-align:-2px;box-sizing:border-box;border:1px solid hsl(var(--h) 45% 60%)}i.n{background:hsl(var(--h) 65% 45%)}i.d{background:hsl(var(--h) 60% 86%)}div{display:grid;grid-template-columns:repeat(2,minmax(25em,max-content));grid-auto-flow:dense}.c0{grid-column:1}.c1{grid-column:2}span:nth-child(2):nth-last-child(2),span:nth-child(3){grid-row:2}span{color:hsl(var(--h) 70% 27%)}.d1 td{background:#fff5dc}.d2 td{background:#ffe9b8}.d3 td,.d4 td,.d5 td,.d6 td,.d7 td,.d8 td{background:#ffdc94}.e td{background:#b3261e;color:#fff}.r td{background:#1e6b45;color:#fff}.o td{background:#333;color:#fff}</style>\n"
+style =
+    codes
+    "<style>body{font:13px/1.4 monospace;margin:1em;color:#222}table{border-collapse:collapse}td,th{padding:1px 9px;text-align:left;white-space:nowrap;vertical-align:top;border-bottom:1px solid #e8e8e8}th{position:sticky;top:0;background:#fff;border-bottom:2px solid #888}i{display:inline-block;width:12px;height:12px;margin:0 1px 0 0;vertical-align:-2px;box-sizing:border-box;border:1px solid hsl(var(--h) 45% 60%)}i.n{background:hsl(var(--h) 65% 45%)}i.d{background:hsl(var(--h) 60% 86%)}div{display:grid;grid-template-columns:repeat(2,minmax(25em,max-content));grid-auto-flow:dense}.c0{grid-column:1}.c1{grid-column:2}span:nth-child(2):nth-last-child(2),span:nth-child(3){grid-row:2}span{color:hsl(var(--h) 70% 27%)}.d1 td{background:#fff5dc}.d2 td{background:#ffe9b8}.d3 td,.d4 td,.d5 td,.d6 td,.d7 td,.d8 td{background:#ffdc94}.e td{background:#b3261e;color:#fff}.r td{background:#1e6b45;color:#fff}.o td{background:#333;color:#fff}</style>\n"
 
 -- the first lines of the page
 unfoldable pub page_start : List ℕ
@@ -128,7 +130,9 @@ page_start = codes "<!doctype html>\n<html lang=en><meta charset=utf-8><title>he
 
 -- the heads of the columns
 unfoldable pub columns : List ℕ
-columns = codes "<table><thead><tr><th>tick<th>letters<th>beats, in a column by the address: done before the tick are pale, done in it are full<th>then runs<th>pc<th>retired<th>changed<tbody>\n"
+columns =
+    codes
+    "<table><thead><tr><th>tick<th>letters<th>beats, in a column by the address: done before the tick are pale, done in it are full<th>then runs<th>pc<th>retired<th>changed<tbody>\n"
 
 -- what stands before the rows
 abbrev pub page_head : List ℕ

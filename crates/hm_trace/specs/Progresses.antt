@@ -1,5 +1,6 @@
 -- THE INSTRUCTIONS OF A TICK, and the beats of each that are done before it and after it.
-use Rattle.std.specs.Prelude.{ℕ, ◌+◌, ◌-◌, ◌%◌, ◌^◌, Bool, true, false, not, ◌&&◌, ◌||◌, nat_eq, nat_le, nat_lt, if◌then◌else◌, List, [], ◌∷◌, ◌++◌, length, slice_get, Option, Some, None}
+use Rattle.std.specs.Prelude.{ℕ, ◌+◌, ◌-◌, ◌%◌, ◌^◌, Bool, true, false, not, ◌&&◌, ◌||◌, nat_eq, nat_le, nat_lt, if◌then◌else◌, List, [], ◌∷◌, ◌++◌, length}
+use Rattle.std.specs.Prelude.{slice_get, Option, Some, None}
 use Rattle.std.specs.List.{count_by}
 use Rattle.hm_run.specs.Timed.{Timed}
 use Rattle.hm_run.specs.declared.Outcome.{Outcome}
@@ -80,8 +81,8 @@ younger_progress same base to = record { addr = behind to.pc; before = younger_b
 abbrev pub shown_if : Bool → Progress → List Progress
 shown_if b p = if b then p ∷ [] else []
 
--- the one at which a tick began, where it is done; the one at which its letters ended, where a beat of it is done, the tick began at it, or the run ended there;
--- and the one behind that, where a beat of it is done
+-- the one at which a tick began, where it is done; the one at which its letters ended, where a beat of it is done, the tick began at it, or the run
+-- ended there; and the one behind that, where a beat of it is done
 abbrev pub progresses_at : Bool → Bool → Stand → Progress → Progress → List Progress
 progresses_at left cut from older younger =
     shown_if (not left) (done_progress from) ++ (shown_if (left || cut || nat_lt 0 older.after) older ++ shown_if (nat_lt 0 younger.after) younger)

@@ -9,8 +9,8 @@ use Rattle.hm_state.specs.State.{regs_of}
 use Rattle.hm_trace.specs.declared.stands.Before.{Before}
 use Rattle.hm_trace.specs.declared.stands.Stand.{Stand}
 
--- what a tick is to do, and what is known of the run before it: where it stands, what the entries of the handlers that are active put away, the oldest first, and
--- its registers
+-- what a tick is to do, and what is known of the run before it: where it stands, what the entries of the handlers that are active put away, the
+-- oldest first, and its registers
 pub record Past : Type 0 where
   pub line : TickLine
   pub stand : Stand

@@ -1,7 +1,8 @@
 //! The registers that changed, each with its new value.
 
 ghost use Rattle.std.specs.Prelude.{◌≡◌, ◌++◌, IfOk};
-ghost use Rattle.hm_trace.specs.Changes.{bit_change, byte_change, changes, control_changes, core_changes, flags_change, flags_text, pointer_changes, same_flags, status_changes, vector_changes, vector_name, word_change, word_name};
+ghost use Rattle.hm_trace.specs.Changes.{bit_change, byte_change, changes, control_changes, core_changes, flags_change, flags_text, pointer_changes};
+ghost use Rattle.hm_trace.specs.Changes.{same_flags, status_changes, vector_changes, vector_name, word_change, word_name};
 
 use hm_base::OutOfMemory;
 use hm_regs::Regs;

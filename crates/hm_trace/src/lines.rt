@@ -6,7 +6,8 @@ ghost use Rattle.hm_codes.specs.Listing.{IsListing, Listing};
 ghost use Rattle.hm_machine.specs.Shown.{timed_of};
 ghost use Rattle.hm_mem.specs.Memory.{flash_at};
 ghost use Rattle.hm_trace.specs.Changes.{changes};
-ghost use Rattle.hm_trace.specs.Lines.{beat_mark, beats_text, changes_part, end_part, head_part, mark_text, pc_part, progress_part, retired_part, steps_part, tick_line, where_part};
+ghost use Rattle.hm_trace.specs.Lines.{beat_mark, beats_text, changes_part, end_part, head_part, mark_text, pc_part, progress_part, retired_part, steps_part};
+ghost use Rattle.hm_trace.specs.Lines.{tick_line, where_part};
 ghost use Rattle.hm_trace.specs.Stands.{past_of};
 
 use crate::changes::add_changes;

@@ -5,7 +5,9 @@ ghost use Rattle.std.specs.List.{flat_map};
 ghost use Rattle.hm_codes.specs.Listing.{IsListing, Listing};
 ghost use Rattle.hm_machine.specs.Shown.{timed_of};
 ghost use Rattle.hm_mem.specs.Memory.{flash_at};
-ghost use Rattle.hm_trace.specs.Pages.{bar_start, box, boxes, changes_cell, column, columns, ended_row, entry_row, group_start, group_text, hue, mark_rows, page_head, page_start, page_tail, progress_group, return_row, row_end, row_start, steps_cell, style, tag_text, tick_cell, tick_row, tick_rows, where_cells};
+ghost use Rattle.hm_trace.specs.Pages.{bar_start, box, boxes, changes_cell, column, columns, ended_row, entry_row, group_start, group_text, hue, mark_rows};
+ghost use Rattle.hm_trace.specs.Pages.{page_head, page_start, page_tail, progress_group, return_row, row_end, row_start, steps_cell, style, tag_text};
+ghost use Rattle.hm_trace.specs.Pages.{tick_cell, tick_row, tick_rows, where_cells};
 ghost use Rattle.hm_trace.specs.Stands.{past_of};
 
 use crate::changes::add_changes;

@@ -3,7 +3,8 @@
 ghost use Rattle.std.specs.Prelude.{◌≡◌, ◌+◌, ◌≤◌, ◌<◌, ◌++◌, cond, length, nat_eq};
 ghost use Rattle.arrayvec.specs.ArrayVec.{array_vec_len};
 ghost use Rattle.hm_machine.specs.Shown.{timed_of};
-ghost use Rattle.hm_trace.specs.Progresses.{base_of, count_of, done_progress, end_of, goes_on, is_cut, is_left, is_refused_entry, left_of, older_before, older_progress, progresses, progresses_at, shown_if, stays_at, younger_before, younger_progress};
+ghost use Rattle.hm_trace.specs.Progresses.{base_of, count_of, done_progress, end_of, goes_on, is_cut, is_left, is_refused_entry, left_of, older_before};
+ghost use Rattle.hm_trace.specs.Progresses.{older_progress, progresses, progresses_at, shown_if, stays_at, younger_before, younger_progress};
 ghost use Rattle.hm_trace.specs.Stands.{past_of};
 
 use crate::marks::Mark;

@@ -150,7 +150,8 @@ pub fn trace(
     schedule: Schedule,
     ticks: Ticks,
 ) -> Result<Vec<u8>, LoadErr>
-    ensures text { IfOk result (λ out. (listing : Listing) → IsListing (flash_byte image.now) listing → out.items ≡ trace_text form listing image.now schedule ticks.first ticks.last) }
+    ensures text { IfOk result (λ out. (listing : Listing) → IsListing (flash_byte image.now) listing
+        → out.items ≡ trace_text form listing image.now schedule ticks.first ticks.last) }
     ensures odd { IfOk result (λ _. reset_pc image.now % 2 ≡ 1) }
     ensures refused { IfErr result (λ e. LoadRefuses image.now e) }
 {

@@ -27,8 +27,10 @@ pub one_memory : (m n : Memory) → length n.sram ≡ length m.sram → length n
 one_memory m n sram taint bytes marks h =
     let one = same_lists n.sram m.sram sram (λ k d lt.
     let inside : k < sram_size = omega (arith, sram, bytes, lt) in
-    get_or_default n.sram k d 0 lt ∙ sym (sram_at n k inside) ∙ h.bytes (sram_start + k) refl ∙ sram_at m k inside ∙ sym (get_or_default m.sram k d 0 (omega (arith, sram, lt)))) in
+    get_or_default n.sram k d 0 lt ∙ sym (sram_at n k inside) ∙ h.bytes (sram_start + k) refl ∙ sram_at m k inside
+    ∙ sym (get_or_default m.sram k d 0 (omega (arith, sram, lt)))) in
     let two = same_lists n.taint m.taint taint (λ k d lt.
     let inside : k < sram_size = omega (arith, taint, marks, lt) in
-    get_or_default n.taint k d false lt ∙ sym (taint_at n k inside) ∙ h.taint (sram_start + k) refl ∙ taint_at m k inside ∙ sym (get_or_default m.taint k d false (omega (arith, taint, lt)))) in
+    get_or_default n.taint k d false lt ∙ sym (taint_at n k inside) ∙ h.taint (sram_start + k) refl ∙ taint_at m k inside
+    ∙ sym (get_or_default m.taint k d false (omega (arith, taint, lt)))) in
     λ j. record { flash = h.elsewhere.flash j; sram = one j; taint = two j; devices = h.devices j; around = h.elsewhere.around j }

@@ -45,7 +45,8 @@ pub fn first_rule<A: BeatWise, B: BeatWise>(
     requires position { at.a < 4 }
     requires context { 2 ≤ at.a → IsTrue r.now.fpca }
     ensures value { (m : Memory) (output : List ℕ)
-        → result ≡ first_rule (option_map (λ x. A.tree x.now m.around) older.entry) (option_map (λ x. B.tree x.now m.around) younger.entry) at.a at.b (state_of r.now m output) }
+        → result ≡ first_rule (option_map (λ x. A.tree x.now m.around) older.entry) (option_map (λ x. B.tree x.now m.around) younger.entry) at.a at.b
+        (state_of r.now m output) }
     ensures in_time { result ≡ None → (2 ≤ at.a) × (at.b < 2) }
 {
     let Some(v) = older else {
@@ -91,7 +92,8 @@ pub fn lawful<A: BeatWise, B: BeatWise>(
     requires position { at.a < 4 }
     requires context { 2 ≤ at.a → IsTrue r.now.fpca }
     ensures value { (output : List ℕ) → let x = memory_of m.now in
-        result ≡ judged (lawful_rule (option_map (λ v. A.tree v.now x.around) older.entry) (option_map (λ w. B.tree w.now x.around) younger.entry) at.a at.b (state_of r.now x output)) }
+        result ≡ judged (lawful_rule (option_map (λ v. A.tree v.now x.around) older.entry) (option_map (λ w. B.tree w.now x.around) younger.entry) at.a at.b
+        (state_of r.now x output)) }
 {
     if let Some(rule) = first_rule(at, older, younger, r) {
         return Err(rule);

@@ -1,5 +1,6 @@
 -- Words that give numbers, a schedule, or a range of flash.
-use Rattle.std.proofs.Common.{◌≡◌, ◌≢◌, ℕ, ◌≤◌, ◌%◌, nat_eq, Bool, true, false, List, ◌++◌, take, drop, Option, Some, None, option_map, refl, sym, ap, subst, ◌∙◌, inl, inr, arith}
+use Rattle.std.proofs.Common.{◌≡◌, ◌≢◌, ℕ, ◌≤◌, ◌%◌, nat_eq, Bool, true, false, List, ◌++◌, take, drop, Option, Some, None, option_map, refl, sym, ap, subst}
+use Rattle.std.proofs.Common.{◌∙◌, inl, inr, arith}
 use Rattle.std.specs.Prelude.{codes, bytes_eq, cond, nat_lt, option_and_then}
 use Rattle.std.specs.Fmt.{decimal}
 use Rattle.std.proofs.lemmas.Bool.{cases_Bool}
@@ -63,18 +64,23 @@ pub source_of-word : (word : List ℕ) (schedule : Source) → IsSource word sch
 source_of-word word (ticks n) h = ap source_of h.0 ∙ ap (option_map ticks) (number_of-decimal most n h.1 (omega arith))
 source_of-word word (file name) h = rw (bytes_not (take 6 word) (codes "plain:") h.1) (ap (λ (w : List ℕ). Some (file w)) h.0)
 
-source_by : (o : Option ℕ) (word : List ℕ) (schedule : Source) → take 6 word ≡ codes "plain:" → number_of most (drop 6 word) ≡ o → option_map ticks o ≡ Some schedule → IsSource word schedule
+source_by : (o : Option ℕ) (word : List ℕ) (schedule : Source) → take 6 word ≡ codes "plain:" → number_of most (drop 6 word) ≡ o
+    → option_map ticks o ≡ Some schedule → IsSource word schedule
 source_by None word schedule front is h = cc
 source_by (Some n) word schedule front is h =
     let same : ticks n ≡ schedule = cc in
     let number = number_of-is most (drop 6 word) n is in
     subst (IsSource word) same (sym (take-append-drop 6 word) ∙ ap (λ front. front ++ drop 6 word) front ∙ ap (λ ds. codes "plain:" ++ ds) number.0, number.1)
 
-word_by : (b : Bool) (word : List ℕ) (schedule : Source) → bytes_eq (take 6 word) (codes "plain:") ≡ b → cond b (option_map ticks (number_of most (drop 6 word))) (Some (file word)) ≡ Some schedule → IsSource word schedule
+word_by : (b : Bool) (word : List ℕ) (schedule : Source) → bytes_eq (take 6 word) (codes "plain:") ≡ b
+    → cond b (option_map ticks (number_of most (drop 6 word))) (Some (file word)) ≡ Some schedule → IsSource word schedule
 word_by true word schedule is h = source_by (number_of most (drop 6 word)) word schedule ((bytes_eq-Decides (take 6 word) (codes "plain:")).0 is) refl h
 word_by false word schedule is h =
     let same : file word ≡ schedule = cc in
-    subst (IsSource word) same (refl, λ e. (let yes_same : bytes_eq (take 6 word) (codes "plain:") ≡ true = ap (λ (w : List ℕ). bytes_eq w (codes "plain:")) e in absurd cc))
+    subst (IsSource word) same (
+      refl,
+      λ e. (let yes_same : bytes_eq (take 6 word) (codes "plain:") ≡ true = ap (λ (w : List ℕ). bytes_eq w (codes "plain:")) e in absurd cc),
+    )
 
 pub source_of-is : (word : List ℕ) (schedule : Source) → source_of word ≡ Some schedule → IsSource word schedule
 source_of-is word schedule h = word_by (bytes_eq (take 6 word) (codes "plain:")) word schedule refl h
@@ -82,7 +88,11 @@ source_of-is word schedule h = word_by (bytes_eq (take 6 word) (codes "plain:"))
 -- ---- a range
 
 range_holds : (lo hi : ℕ) → is_range lo hi ≡ true → IsRange lo hi
-range_holds lo hi is = record { even = (grind (arith, nat_tests), grind (arith, nat_tests)); order = grind (arith, nat_tests); within = grind (arith, nat_tests) }
+range_holds lo hi is = record {
+  even = (grind (arith, nat_tests), grind (arith, nat_tests));
+  order = grind (arith, nat_tests);
+  within = grind (arith, nat_tests);
+}
 
 range_passes : (lo hi : ℕ) → IsRange lo hi → range_of lo hi ≡ Some (lo, hi)
 range_passes lo hi h =
@@ -99,7 +109,8 @@ range_in-is x y r h =
     let last = and_then_some (hex8_in y) (range_of first.0) r first.2 in
     let passed = test_some (is_range first.0 last.0) (Some (first.0, last.0)) r last.2 in
     let same : ◌≡◌ {A = ℕ × ℕ} (first.0, last.0) r = some_is (first.0, last.0) r passed.1 in
-    subst (λ (q : ℕ × ℕ). (x ≡ hex8 q.0) × (y ≡ hex8 q.1) × IsRange q.0 q.1) same (hex8_found x first.0 first.1, hex8_found y last.0 last.1, range_holds first.0 last.0 passed.0)
+    subst (λ (q : ℕ × ℕ). (x ≡ hex8 q.0) × (y ≡ hex8 q.1) × IsRange q.0 q.1) same
+    (hex8_found x first.0 first.1, hex8_found y last.0 last.1, range_holds first.0 last.0 passed.0)
 
 pub range_in-again : (lo hi : ℕ) → IsRange lo hi → range_in (hex8 lo) (hex8 hi) ≡ Some (lo, hi)
 range_in-again lo hi h =

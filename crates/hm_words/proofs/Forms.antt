@@ -8,8 +8,12 @@ use Rattle.hm_text_base.specs.Numbers.{word_in}
 use Rattle.hm_text_base.specs.Texts.{hex8}
 use Rattle.hm_text_base.proofs.NumberLaws.{word_found, word_again}
 use Rattle.hm_text_base.proofs.Steps.{and_then_some, some_is}
-use Rattle.hm_words.specs.Words.{most, most_planned, number_of, every_of, range_in, Source, source_of, Form, run, seq, dis, asm, soak, debug, journal, replay, migrate, plan, hex, kernel, two_names, run_form, seq_form, dis_form, asm_form, soak_form, debug_form, journal_form, replay_form, migrate_form, plan_form, hex_form, kernel_form, commands, form_in, form_of, IsRange, IsRun, IsSeq, IsDis, IsAsm, IsSoak, IsDebug, IsJournal, IsReplay, IsMigrate, IsPlan, IsHex, IsKernel}
-use Rattle.hm_words.proofs.Decimals.{map_some, number_of-is, number_of-decimal, every_of-is, every_of-decimal, source_of-word, source_of-is, range_in-is, range_in-again}
+use Rattle.hm_words.specs.Words.{most, most_planned, number_of, every_of, range_in, Source, source_of, Form, run, seq, dis, asm, soak, debug, journal, replay}
+use Rattle.hm_words.specs.Words.{migrate, plan, hex, kernel, two_names, run_form, seq_form, dis_form, asm_form, soak_form, debug_form, journal_form}
+use Rattle.hm_words.specs.Words.{replay_form, migrate_form, plan_form, hex_form, kernel_form, commands, form_in, form_of, IsRange, IsRun, IsSeq, IsDis, IsAsm}
+use Rattle.hm_words.specs.Words.{IsSoak, IsDebug, IsJournal, IsReplay, IsMigrate, IsPlan, IsHex, IsKernel}
+use Rattle.hm_words.proofs.Decimals.{map_some, number_of-is, number_of-decimal, every_of-is, every_of-decimal, source_of-word, source_of-is, range_in-is}
+use Rattle.hm_words.proofs.Decimals.{range_in-again}
 
 -- ---- the command of a name
 
@@ -37,14 +41,16 @@ AllAsk [] = Unit {0}
 AllAsk (command ∷ others) = Asks command.0 command.1 × AllAsk others
 
 -- a form is asked for by its own name
-name_is : (table : List (List ℕ × (List (List ℕ) → Option Form))) (name : List ℕ) (words : List (List ℕ)) (form : Form) → AllAsk table → form_in table name words ≡ Some form → name ≡ name_of form
+name_is : (table : List (List ℕ × (List (List ℕ) → Option Form))) (name : List ℕ) (words : List (List ℕ)) (form : Form) → AllAsk table
+    → form_in table name words ≡ Some form → name ≡ name_of form
 name_is [] name words form each h = absurd cc
 name_is (command ∷ others) name words form each h = elim (cases_Bool (bytes_eq name command.0)) [
   | inl same ↦ (let here : command.1 words ≡ Some form = rw same at h in (bytes_eq-Decides name command.0).0 same ∙ sym (each.0 words form here))
   | inr no_same ↦ (let later : form_in others name words ≡ Some form = rw no_same at h in name_is others name words form each.1 later)
 ]
 
-mapped : {A : Type 0} (f : A → Form) (o : Option A) (name : List ℕ) (form : Form) → ((x : A) → name_of (f x) ≡ name) → option_map f o ≡ Some form → name_of form ≡ name
+mapped : {A : Type 0} (f : A → Form) (o : Option A) (name : List ℕ) (form : Form) → ((x : A) → name_of (f x) ≡ name) → option_map f o ≡ Some form
+    → name_of form ≡ name
 mapped f o name form each h = let x = map_some f o form h in ap name_of (sym x.2) ∙ each x.0
 
 asks_run : Asks (codes "run") run_form
@@ -93,7 +99,9 @@ asks_journal [] form h = absurd cc
 asks_journal (x ∷ []) form h = absurd cc
 asks_journal (x ∷ y ∷ []) form h = absurd cc
 asks_journal (x ∷ y ∷ z ∷ []) form h = absurd cc
-asks_journal (x ∷ y ∷ z ∷ w ∷ []) form h = (let s = and_then_some (source_of y) (λ s. option_map (λ e. journal x s e w) (every_of z)) form h in mapped (λ e. journal x s.0 e w) (every_of z) (codes "journal") form (λ e. refl) s.2)
+asks_journal (x ∷ y ∷ z ∷ w ∷ []) form h =
+    (let s = and_then_some (source_of y) (λ s. option_map (λ e. journal x s e w) (every_of z)) form h in
+    mapped (λ e. journal x s.0 e w) (every_of z) (codes "journal") form (λ e. refl) s.2)
 asks_journal (x ∷ y ∷ z ∷ w ∷ v ∷ words) form h = absurd cc
 
 asks_replay : Asks (codes "replay") replay_form
@@ -101,7 +109,9 @@ asks_replay [] form h = absurd cc
 asks_replay (x ∷ []) form h = absurd cc
 asks_replay (x ∷ y ∷ []) form h = absurd cc
 asks_replay (x ∷ y ∷ z ∷ []) form h = absurd cc
-asks_replay (x ∷ y ∷ z ∷ w ∷ []) form h = (let s = and_then_some (source_of y) (λ s. option_map (replay x s z) (number_of most w)) form h in mapped (replay x s.0 z) (number_of most w) (codes "replay") form (λ n. refl) s.2)
+asks_replay (x ∷ y ∷ z ∷ w ∷ []) form h =
+    (let s = and_then_some (source_of y) (λ s. option_map (replay x s z) (number_of most w)) form h in
+    mapped (replay x s.0 z) (number_of most w) (codes "replay") form (λ n. refl) s.2)
 asks_replay (x ∷ y ∷ z ∷ w ∷ v ∷ words) form h = absurd cc
 
 asks_migrate : Asks (codes "migrate") migrate_form
@@ -126,7 +136,13 @@ asks_kernel : Asks (codes "kernel") kernel_form
 asks_kernel = asks_two (codes "kernel") kernel (λ x y. refl)
 
 all_ask : AllAsk commands
-all_ask = (asks_run, (asks_seq, (asks_dis, (asks_asm, (asks_soak, (asks_debug, (asks_journal, (asks_replay, (asks_migrate, (asks_plan, (asks_hex, (asks_kernel, tt))))))))))))
+all_ask = (
+  asks_run,
+  (
+    asks_seq,
+    (asks_dis, (asks_asm, (asks_soak, (asks_debug, (asks_journal, (asks_replay, (asks_migrate, (asks_plan, (asks_hex, (asks_kernel, tt)))))))))),
+  ),
+)
 
 -- four words and no other number of them
 pub no_journal : {A : Type 0} (f : A → List ℕ) (words : List A) → length words ≢ 4 → journal_form (map f words) ≡ None
@@ -167,10 +183,12 @@ asked (name ∷ words) form h =
 
 -- ---- run
 
-pub form_of-run : (words : List (List ℕ)) (image : List ℕ) (schedule : Source) (memory : List ℕ) → IsRun words image schedule memory → form_of words ≡ Some (run image schedule memory)
+pub form_of-run : (words : List (List ℕ)) (image : List ℕ) (schedule : Source) (memory : List ℕ) → IsRun words image schedule memory
+    → form_of words ≡ Some (run image schedule memory)
 form_of-run words image schedule memory h = ap form_of h.words_are ∙ ap (option_map (λ s. run image s memory)) (source_of-word h.word schedule h.source)
 
-run_words : (words : List (List ℕ)) (image : List ℕ) (schedule : Source) (memory : List ℕ) → run_form words ≡ Some (run image schedule memory) → IsRun (codes "run" ∷ words) image schedule memory
+run_words : (words : List (List ℕ)) (image : List ℕ) (schedule : Source) (memory : List ℕ) → run_form words ≡ Some (run image schedule memory)
+    → IsRun (codes "run" ∷ words) image schedule memory
 run_words [] image schedule memory h = absurd cc
 run_words (x ∷ []) image schedule memory h = absurd cc
 run_words (x ∷ y ∷ []) image schedule memory h = absurd cc
@@ -181,7 +199,8 @@ run_words (x ∷ y ∷ z ∷ []) image schedule memory h = (let s = map_some (λ
     record { word = y; words_are = cc; source = source_of-is y schedule (s.1 ∙ ap (λ (q : Source). Some q) same) })
 run_words (x ∷ y ∷ z ∷ v ∷ words) image schedule memory h = absurd cc
 
-pub form_of-is_run : (words : List (List ℕ)) (image : List ℕ) (schedule : Source) (memory : List ℕ) → form_of words ≡ Some (run image schedule memory) → IsRun words image schedule memory
+pub form_of-is_run : (words : List (List ℕ)) (image : List ℕ) (schedule : Source) (memory : List ℕ) → form_of words ≡ Some (run image schedule memory)
+    → IsRun words image schedule memory
 form_of-is_run words image schedule memory h =
     let found = asked words (run image schedule memory) h in
     subst (λ (w : List (List ℕ)). IsRun w image schedule memory) (sym found.words_are) (run_words found.others image schedule memory found.rest)
@@ -237,7 +256,8 @@ pub form_of-asm : (words : List (List ℕ)) (source out : List ℕ) → IsAsm wo
 form_of-asm words source out h = ap form_of h.words_are
 
 -- the words behind a command of two names are these, where the form tells its names
-two_words : (name : List ℕ) (of : List ℕ → List ℕ → Form) (words : List (List ℕ)) (source out : List ℕ) → ((x y : List ℕ) → of x y ≡ of source out → (x ≡ source) × (y ≡ out))
+two_words : (name : List ℕ) (of : List ℕ → List ℕ → Form) (words : List (List ℕ)) (source out : List ℕ)
+    → ((x y : List ℕ) → of x y ≡ of source out → (x ≡ source) × (y ≡ out))
     → two_names of words ≡ Some (of source out) → name ∷ words ≡ name ∷ source ∷ out ∷ []
 two_words name of [] source out tells h = absurd cc
 two_words name of (x ∷ []) source out tells h = absurd cc
@@ -277,10 +297,12 @@ form_of-is_soak words number h =
 
 -- ---- debug
 
-pub form_of-debug : (words : List (List ℕ)) (image : List ℕ) (schedule : Source) (script : List ℕ) → IsDebug words image schedule script → form_of words ≡ Some (debug image schedule script)
+pub form_of-debug : (words : List (List ℕ)) (image : List ℕ) (schedule : Source) (script : List ℕ) → IsDebug words image schedule script
+    → form_of words ≡ Some (debug image schedule script)
 form_of-debug words image schedule script h = ap form_of h.words_are ∙ ap (option_map (λ s. debug image s script)) (source_of-word h.word schedule h.source)
 
-debug_words : (words : List (List ℕ)) (image : List ℕ) (schedule : Source) (script : List ℕ) → debug_form words ≡ Some (debug image schedule script) → IsDebug (codes "debug" ∷ words) image schedule script
+debug_words : (words : List (List ℕ)) (image : List ℕ) (schedule : Source) (script : List ℕ) → debug_form words ≡ Some (debug image schedule script)
+    → IsDebug (codes "debug" ∷ words) image schedule script
 debug_words [] image schedule script h = absurd cc
 debug_words (x ∷ []) image schedule script h = absurd cc
 debug_words (x ∷ y ∷ []) image schedule script h = absurd cc
@@ -291,22 +313,28 @@ debug_words (x ∷ y ∷ z ∷ []) image schedule script h = (let s = map_some (
     record { word = y; words_are = cc; source = source_of-is y schedule (s.1 ∙ ap (λ (q : Source). Some q) same) })
 debug_words (x ∷ y ∷ z ∷ v ∷ words) image schedule script h = absurd cc
 
-pub form_of-is_debug : (words : List (List ℕ)) (image : List ℕ) (schedule : Source) (script : List ℕ) → form_of words ≡ Some (debug image schedule script) → IsDebug words image schedule script
+pub form_of-is_debug : (words : List (List ℕ)) (image : List ℕ) (schedule : Source) (script : List ℕ) → form_of words ≡ Some (debug image schedule script)
+    → IsDebug words image schedule script
 form_of-is_debug words image schedule script h =
     let found = asked words (debug image schedule script) h in
     subst (λ (w : List (List ℕ)). IsDebug w image schedule script) (sym found.words_are) (debug_words found.others image schedule script found.rest)
 
 -- ---- journal
 
-pub form_of-journal : (words : List (List ℕ)) (image : List ℕ) (schedule : Source) (every : ℕ) (out : List ℕ) → IsJournal words image schedule every out → form_of words ≡ Some (journal image schedule every out)
-form_of-journal words image schedule every out h = ap form_of h.words_are ∙ ap (option_and_then (λ s. option_map (λ e. journal image s e out) (every_of (decimal every)))) (source_of-word h.word schedule h.source) ∙ ap (option_map (λ e. journal image schedule e out)) (every_of-decimal every h.some h.few)
+pub form_of-journal : (words : List (List ℕ)) (image : List ℕ) (schedule : Source) (every : ℕ) (out : List ℕ) → IsJournal words image schedule every out
+    → form_of words ≡ Some (journal image schedule every out)
+form_of-journal words image schedule every out h = ap form_of h.words_are
+    ∙ ap (option_and_then (λ s. option_map (λ e. journal image s e out) (every_of (decimal every)))) (source_of-word h.word schedule h.source)
+    ∙ ap (option_map (λ e. journal image schedule e out)) (every_of-decimal every h.some h.few)
 
-journal_words : (words : List (List ℕ)) (image : List ℕ) (schedule : Source) (every : ℕ) (out : List ℕ) → journal_form words ≡ Some (journal image schedule every out) → IsJournal (codes "journal" ∷ words) image schedule every out
+journal_words : (words : List (List ℕ)) (image : List ℕ) (schedule : Source) (every : ℕ) (out : List ℕ)
+    → journal_form words ≡ Some (journal image schedule every out) → IsJournal (codes "journal" ∷ words) image schedule every out
 journal_words [] image schedule every out h = absurd cc
 journal_words (x ∷ []) image schedule every out h = absurd cc
 journal_words (x ∷ y ∷ []) image schedule every out h = absurd cc
 journal_words (x ∷ y ∷ z ∷ []) image schedule every out h = absurd cc
-journal_words (x ∷ y ∷ z ∷ w ∷ []) image schedule every out h = (let s = and_then_some (source_of y) (λ s. option_map (λ e. journal x s e w) (every_of z)) (journal image schedule every out) h in
+journal_words (x ∷ y ∷ z ∷ w ∷ []) image schedule every out h =
+    (let s = and_then_some (source_of y) (λ s. option_map (λ e. journal x s e w) (every_of z)) (journal image schedule every out) h in
     let e = map_some (λ e. journal x s.0 e w) (every_of z) (journal image schedule every out) s.2 in
     let first : x ≡ image = cc in
     let last : w ≡ out = cc in
@@ -317,22 +345,28 @@ journal_words (x ∷ y ∷ z ∷ w ∷ []) image schedule every out h = (let s =
     record { word = y; words_are = cc; source = source_of-is y schedule (s.1 ∙ ap (λ (q : Source). Some q) same); some = distance.1; few = distance.2 })
 journal_words (x ∷ y ∷ z ∷ w ∷ v ∷ words) image schedule every out h = absurd cc
 
-pub form_of-is_journal : (words : List (List ℕ)) (image : List ℕ) (schedule : Source) (every : ℕ) (out : List ℕ) → form_of words ≡ Some (journal image schedule every out) → IsJournal words image schedule every out
+pub form_of-is_journal : (words : List (List ℕ)) (image : List ℕ) (schedule : Source) (every : ℕ) (out : List ℕ)
+    → form_of words ≡ Some (journal image schedule every out) → IsJournal words image schedule every out
 form_of-is_journal words image schedule every out h =
     let found = asked words (journal image schedule every out) h in
     subst (λ (w : List (List ℕ)). IsJournal w image schedule every out) (sym found.words_are) (journal_words found.others image schedule every out found.rest)
 
 -- ---- replay
 
-pub form_of-replay : (words : List (List ℕ)) (image : List ℕ) (schedule : Source) (text : List ℕ) (tick : ℕ) → IsReplay words image schedule text tick → form_of words ≡ Some (replay image schedule text tick)
-form_of-replay words image schedule text tick h = ap form_of h.words_are ∙ ap (option_and_then (λ s. option_map (replay image s text) (number_of most (decimal tick)))) (source_of-word h.word schedule h.source) ∙ ap (option_map (replay image schedule text)) (number_of-decimal most tick h.few (omega arith))
+pub form_of-replay : (words : List (List ℕ)) (image : List ℕ) (schedule : Source) (text : List ℕ) (tick : ℕ) → IsReplay words image schedule text tick
+    → form_of words ≡ Some (replay image schedule text tick)
+form_of-replay words image schedule text tick h = ap form_of h.words_are
+    ∙ ap (option_and_then (λ s. option_map (replay image s text) (number_of most (decimal tick)))) (source_of-word h.word schedule h.source)
+    ∙ ap (option_map (replay image schedule text)) (number_of-decimal most tick h.few (omega arith))
 
-replay_words : (words : List (List ℕ)) (image : List ℕ) (schedule : Source) (text : List ℕ) (tick : ℕ) → replay_form words ≡ Some (replay image schedule text tick) → IsReplay (codes "replay" ∷ words) image schedule text tick
+replay_words : (words : List (List ℕ)) (image : List ℕ) (schedule : Source) (text : List ℕ) (tick : ℕ)
+    → replay_form words ≡ Some (replay image schedule text tick) → IsReplay (codes "replay" ∷ words) image schedule text tick
 replay_words [] image schedule text tick h = absurd cc
 replay_words (x ∷ []) image schedule text tick h = absurd cc
 replay_words (x ∷ y ∷ []) image schedule text tick h = absurd cc
 replay_words (x ∷ y ∷ z ∷ []) image schedule text tick h = absurd cc
-replay_words (x ∷ y ∷ z ∷ w ∷ []) image schedule text tick h = (let s = and_then_some (source_of y) (λ s. option_map (replay x s z) (number_of most w)) (replay image schedule text tick) h in
+replay_words (x ∷ y ∷ z ∷ w ∷ []) image schedule text tick h =
+    (let s = and_then_some (source_of y) (λ s. option_map (replay x s z) (number_of most w)) (replay image schedule text tick) h in
     let n = map_some (replay x s.0 z) (number_of most w) (replay image schedule text tick) s.2 in
     let first : x ≡ image = cc in
     let third : z ≡ text = cc in
@@ -343,17 +377,21 @@ replay_words (x ∷ y ∷ z ∷ w ∷ []) image schedule text tick h = (let s = 
     record { word = y; words_are = cc; source = source_of-is y schedule (s.1 ∙ ap (λ (q : Source). Some q) same); few = number.1 })
 replay_words (x ∷ y ∷ z ∷ w ∷ v ∷ words) image schedule text tick h = absurd cc
 
-pub form_of-is_replay : (words : List (List ℕ)) (image : List ℕ) (schedule : Source) (text : List ℕ) (tick : ℕ) → form_of words ≡ Some (replay image schedule text tick) → IsReplay words image schedule text tick
+pub form_of-is_replay : (words : List (List ℕ)) (image : List ℕ) (schedule : Source) (text : List ℕ) (tick : ℕ)
+    → form_of words ≡ Some (replay image schedule text tick) → IsReplay words image schedule text tick
 form_of-is_replay words image schedule text tick h =
     let found = asked words (replay image schedule text tick) h in
     subst (λ (w : List (List ℕ)). IsReplay w image schedule text tick) (sym found.words_are) (replay_words found.others image schedule text tick found.rest)
 
 -- ---- migrate
 
-pub form_of-migrate : (words : List (List ℕ)) (image : List ℕ) (schedule : Source) (text out : List ℕ) → IsMigrate words image schedule text out → form_of words ≡ Some (migrate image schedule text out)
-form_of-migrate words image schedule text out h = ap form_of h.words_are ∙ ap (option_map (λ s. migrate image s text out)) (source_of-word h.word schedule h.source)
+pub form_of-migrate : (words : List (List ℕ)) (image : List ℕ) (schedule : Source) (text out : List ℕ) → IsMigrate words image schedule text out
+    → form_of words ≡ Some (migrate image schedule text out)
+form_of-migrate words image schedule text out h = ap form_of h.words_are
+    ∙ ap (option_map (λ s. migrate image s text out)) (source_of-word h.word schedule h.source)
 
-migrate_words : (words : List (List ℕ)) (image : List ℕ) (schedule : Source) (text out : List ℕ) → migrate_form words ≡ Some (migrate image schedule text out) → IsMigrate (codes "migrate" ∷ words) image schedule text out
+migrate_words : (words : List (List ℕ)) (image : List ℕ) (schedule : Source) (text out : List ℕ) → migrate_form words ≡ Some (migrate image schedule text out)
+    → IsMigrate (codes "migrate" ∷ words) image schedule text out
 migrate_words [] image schedule text out h = absurd cc
 migrate_words (x ∷ []) image schedule text out h = absurd cc
 migrate_words (x ∷ y ∷ []) image schedule text out h = absurd cc
@@ -366,7 +404,8 @@ migrate_words (x ∷ y ∷ z ∷ w ∷ []) image schedule text out h = (let s = 
     record { word = y; words_are = cc; source = source_of-is y schedule (s.1 ∙ ap (λ (q : Source). Some q) same) })
 migrate_words (x ∷ y ∷ z ∷ w ∷ v ∷ words) image schedule text out h = absurd cc
 
-pub form_of-is_migrate : (words : List (List ℕ)) (image : List ℕ) (schedule : Source) (text out : List ℕ) → form_of words ≡ Some (migrate image schedule text out) → IsMigrate words image schedule text out
+pub form_of-is_migrate : (words : List (List ℕ)) (image : List ℕ) (schedule : Source) (text out : List ℕ)
+    → form_of words ≡ Some (migrate image schedule text out) → IsMigrate words image schedule text out
 form_of-is_migrate words image schedule text out h =
     let found = asked words (migrate image schedule text out) h in
     subst (λ (w : List (List ℕ)). IsMigrate w image schedule text out) (sym found.words_are) (migrate_words found.others image schedule text out found.rest)
@@ -376,7 +415,8 @@ form_of-is_migrate words image schedule text out h =
 pub form_of-plan : (words : List (List ℕ)) (image : List ℕ) (n : ℕ) (out : List ℕ) → IsPlan words image n out → form_of words ≡ Some (plan image n out)
 form_of-plan words image n out h = ap form_of h.words_are ∙ ap (option_map (λ n. plan image n out)) (number_of-decimal most_planned n h.few (omega arith))
 
-plan_words : (words : List (List ℕ)) (image : List ℕ) (n : ℕ) (out : List ℕ) → plan_form words ≡ Some (plan image n out) → IsPlan (codes "plan" ∷ words) image n out
+plan_words : (words : List (List ℕ)) (image : List ℕ) (n : ℕ) (out : List ℕ) → plan_form words ≡ Some (plan image n out)
+    → IsPlan (codes "plan" ∷ words) image n out
 plan_words [] image n out h = absurd cc
 plan_words (x ∷ []) image n out h = absurd cc
 plan_words (x ∷ y ∷ []) image n out h = absurd cc

@@ -1,5 +1,6 @@
 -- The words of a command, by position.
-use Rattle.std.specs.Prelude.{◌≡◌, ◌≢◌, ℕ, ◌≤◌, ◌<◌, ◌%◌, ◌^◌, ◌&&◌, Bool, List, [], ◌∷◌, Option, Some, None, nat_eq, nat_le, nat_lt, if◌then◌else◌, option_map, option_and_then, codes, bytes_eq, take, drop, ◌++◌}
+use Rattle.std.specs.Prelude.{◌≡◌, ◌≢◌, ℕ, ◌≤◌, ◌<◌, ◌%◌, ◌^◌, ◌&&◌, Bool, List, [], ◌∷◌, Option, Some, None, nat_eq, nat_le, nat_lt, if◌then◌else◌, option_map}
+use Rattle.std.specs.Prelude.{option_and_then, codes, bytes_eq, take, drop, ◌++◌}
 use Rattle.std.specs.Fmt.{decimal}
 use Rattle.hm_base.specs.Image.{flash_size}
 use Rattle.hm_text_base.specs.Numbers.{hex8_in, number_in, word_in}
@@ -135,7 +136,8 @@ kernel_form = two_names kernel
 abbrev pub commands : List (List ℕ × (List (List ℕ) → Option Form))
 commands =
     (codes "run", run_form) ∷ (codes "seq", seq_form) ∷ (codes "dis", dis_form) ∷ (codes "asm", asm_form) ∷ (codes "soak", soak_form)
-    ∷ (codes "debug", debug_form) ∷ (codes "journal", journal_form) ∷ (codes "replay", replay_form) ∷ (codes "migrate", migrate_form) ∷ (codes "plan", plan_form)
+    ∷ (codes "debug", debug_form) ∷ (codes "journal", journal_form) ∷ (codes "replay", replay_form) ∷ (codes "migrate", migrate_form)
+    ∷ (codes "plan", plan_form)
     ∷ (codes "hex", hex_form) ∷ (codes "kernel", kernel_form) ∷ []
 
 -- the command of a name among these

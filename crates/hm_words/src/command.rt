@@ -90,7 +90,8 @@ pub enum Command<'a> {
 
 /// Adds the file of a schedule, where it is one.
 fn add_source<'a>(names: &mut Vec<&'a str>, schedule: &Source<'a>) -> Result<(), AllocError>
-    ensures added { IfOk result (λ _. map (λ name. name.now) names.new.items ≡ map (λ name. name.now) names.old.items ++ source_reads (source_meant schedule.now)) }
+    ensures added { IfOk result (λ _. map (λ name. name.now) names.new.items
+        ≡ map (λ name. name.now) names.old.items ++ source_reads (source_meant schedule.now)) }
 {
     match schedule {
         Source::Plain(_) => Ok(()),

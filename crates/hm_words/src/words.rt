@@ -1,7 +1,9 @@
 //! The words of a command, by position.
 
 ghost use Rattle.std.specs.Prelude.{◌≡◌, ℕ, List, option_map, map, string_bytes};
-ghost use Rattle.hm_words.specs.Words.{number_of, every_of, range_in, range_of, source_of, source_meant, run_form, seq_form, dis_form, asm_form, soak_form, debug_form, journal_form, replay_form, migrate_form, plan_form, hex_form, kernel_form, form_of, meant, most, most_planned};
+ghost use Rattle.hm_words.specs.Words.{number_of, every_of, range_in, range_of, source_of, source_meant, run_form, seq_form, dis_form, asm_form, soak_form};
+ghost use Rattle.hm_words.specs.Words.{debug_form, journal_form, replay_form, migrate_form, plan_form, hex_form, kernel_form, form_of, meant, most};
+ghost use Rattle.hm_words.specs.Words.{most_planned};
 
 use crate::command::{Command, Source};
 use crate::numbers::{Every, Planned, Range, Ticks};

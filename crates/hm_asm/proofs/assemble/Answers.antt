@@ -5,7 +5,8 @@ use Rattle.hm_asm.proofs.assemble.Goals as goal
 pub returns-in-Ok : goal.returns-in-Ok
 returns-in-Ok c =
     let found = second_found c.args.source.now c.in-Ok.labels c.second_pass.result c.in-Ok.ensures.fine c.second_pass.ensures.given in
-    let meets = second_meets c.args.source.now c.in-Ok.labels c.second_pass.result c.in-Ok.ensures.fine c.second_pass.ensures.given c.second_pass.ensures.refused in
+    let meets = second_meets c.args.source.now c.in-Ok.labels c.second_pass.result c.in-Ok.ensures.fine c.second_pass.ensures.given
+    c.second_pass.ensures.refused in
     record {
       found = found;
       only = λ image is. only_outcome c.args.source.now c.second_pass.result (Ok image) meets is;

@@ -1,4 +1,5 @@
-use Rattle.hm_handlers.proofs.Soundness.{at_most_eight, can_enter, counted_sound, entered_sound, letters_sound, next_sound, picked_sound, run_sound, start_sound, step_sound}
+use Rattle.hm_handlers.proofs.Soundness.{at_most_eight, can_enter, counted_sound, entered_sound, letters_sound, next_sound, picked_sound, run_sound}
+use Rattle.hm_handlers.proofs.Soundness.{start_sound, step_sound}
 use Rattle.hm_handlers.proofs.sound.Goals as goal
 
 pub returns : goal.returns

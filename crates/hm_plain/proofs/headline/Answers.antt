@@ -3,4 +3,7 @@ use Rattle.hm_sched.specs.Schedule.{plain}
 use Rattle.hm_plain.proofs.headline.Goals as goal
 
 pub returns : goal.returns
-returns c = record { every = λ listing image s report file none. headline_all listing image s report file; plain = λ listing image n. headline_all listing image (plain n) }
+returns c = record {
+  every = λ listing image s report file none. headline_all listing image s report file;
+  plain = λ listing image n. headline_all listing image (plain n);
+}

@@ -7,4 +7,5 @@ pub print_with-requires : goal.print_with-requires
 print_with-requires c = record { narrow = c.requires.narrow; room = rw c.target.ensures.value (printed_room c.args.i.now c.args.pc c.requires.narrow) }
 
 pub returns-clause-read : goal.returns-clause-read
-returns-clause-read c labels = printed_read c.args.i.now c.args.pc _ labels c.requires.narrow (c.print_with.ensures.text ∙ ap (text_of c.args.i.now) c.target.ensures.value)
+returns-clause-read c labels =
+    printed_read c.args.i.now c.args.pc _ labels c.requires.narrow (c.print_with.ensures.text ∙ ap (text_of c.args.i.now) c.target.ensures.value)

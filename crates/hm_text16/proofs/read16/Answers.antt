@@ -8,8 +8,10 @@ returns-in_err-single-clause-only c i is = absurd (too_many (map tok c.args.toke
 
 pub returns-clause-found : goal.returns-clause-found
 returns-clause-found c =
-    read_found (map tok c.args.tokens.now) (map tok c.in_ok-single.single.items) c.args.pc c.args.address c.row_of.result c.in_ok-single.ensures.found (rw c.as_slice.ensures.value at c.row_of.ensures.found)
+    read_found (map tok c.args.tokens.now) (map tok c.in_ok-single.single.items) c.args.pc c.args.address c.row_of.result c.in_ok-single.ensures.found
+    (rw c.as_slice.ensures.value at c.row_of.ensures.found)
 
 pub returns-clause-only : goal.returns-clause-only
 returns-clause-only c =
-    read_only (map tok c.args.tokens.now) (map tok c.in_ok-single.single.items) c.args.pc c.args.address c.row_of.result c.in_ok-single.ensures.found (rw c.as_slice.ensures.value at c.row_of.ensures.only)
+    read_only (map tok c.args.tokens.now) (map tok c.in_ok-single.single.items) c.args.pc c.args.address c.row_of.result c.in_ok-single.ensures.found
+    (rw c.as_slice.ensures.value at c.row_of.ensures.only)

@@ -5,15 +5,18 @@ use Rattle.hm_text16.proofs.Parsing.{narrow_of, no_code, no_row, other_row, the_
 use Rattle.hm_text16.proofs.row_of.Goals as goal
 
 pub returns-in_err-code-clause-only : goal.returns-in_err-code-clause-only
-returns-in_err-code-clause-only c i is = absurd (no_code (map tok c.args.tokens.now) c.args.pc c.args.address c.ranges.pc.fits c.ranges.address.fits (sym c.in_err-code.ensures) i is)
+returns-in_err-code-clause-only c i is =
+    absurd (no_code (map tok c.args.tokens.now) c.args.pc c.args.address c.ranges.pc.fits c.ranges.address.fits (sym c.in_err-code.ensures) i is)
 
 pub returns-then-code-gt-LAST-clause-only : goal.returns-then-code-gt-LAST-clause-only
 returns-then-code-gt-LAST-clause-only c i is =
-    absurd (too_large (map tok c.args.tokens.now) c.args.pc c.args.address c.in_ok-code.code c.ranges.pc.fits c.ranges.address.fits (sym c.in_ok-code.ensures) c.if-code-gt-LAST.true i is)
+    absurd (too_large (map tok c.args.tokens.now) c.args.pc c.args.address c.in_ok-code.code c.ranges.pc.fits c.ranges.address.fits (sym c.in_ok-code.ensures)
+    c.if-code-gt-LAST.true i is)
 
 pub returns-in_err-i-clause-only : goal.returns-in_err-i-clause-only
 returns-in_err-i-clause-only c i is =
-    absurd (no_row (map tok c.args.tokens.now) c.args.pc c.args.address c.in_ok-code.code c.ranges.pc.fits c.ranges.address.fits (sym c.in_ok-code.ensures) c.in_err-i.ensures.none i is)
+    absurd (no_row (map tok c.args.tokens.now) c.args.pc c.args.address c.in_ok-code.code c.ranges.pc.fits c.ranges.address.fits (sym c.in_ok-code.ensures)
+    c.in_err-i.ensures.none i is)
 
 pub is_row_at-requires : goal.is_row_at-requires
 is_row_at-requires c = record { narrow = narrow_of c.in_ok-i.i c.in_ok-code.code c.in_ok-i.ensures.found }
@@ -23,10 +26,12 @@ returns-then-is_row_at-clause-found c = c.is_row_at.ensures.0 c.if-is_row_at.tru
 
 pub returns-then-is_row_at-clause-only : goal.returns-then-is_row_at-clause-only
 returns-then-is_row_at-clause-only c i is =
-    the_row (map tok c.args.tokens.now) c.args.pc c.args.address c.in_ok-code.code c.in_ok-i.i c.ranges.pc.fits c.ranges.address.fits (sym c.in_ok-code.ensures) c.in_ok-i.ensures.exact i is
+    the_row (map tok c.args.tokens.now) c.args.pc c.args.address c.in_ok-code.code c.in_ok-i.i c.ranges.pc.fits c.ranges.address.fits (sym c.in_ok-code.ensures)
+    c.in_ok-i.ensures.exact i is
 
 pub returns-clause-only : goal.returns-clause-only
 returns-clause-only c i is =
     absurd
-    (other_row (map tok c.args.tokens.now) c.args.pc c.args.address c.in_ok-code.code c.in_ok-i.i c.ranges.pc.fits c.ranges.address.fits (sym c.in_ok-code.ensures) c.in_ok-i.ensures.exact
+    (other_row (map tok c.args.tokens.now) c.args.pc c.args.address c.in_ok-code.code c.in_ok-i.i c.ranges.pc.fits c.ranges.address.fits
+    (sym c.in_ok-code.ensures) c.in_ok-i.ensures.exact
     (λ h. false≢true (sym c.if-is_row_at.false ∙ c.is_row_at.ensures.1 h)) i is)

@@ -9,8 +9,10 @@ returns-in_err-single-clause-only c i u has = absurd (too_many_tokens (map tok c
 
 pub returns-clause-found : goal.returns-clause-found
 returns-clause-found c =
-    shape_read (map tok c.args.tokens.now) (map tok c.in_ok-single.single.items) c.shape_of.result (λ s. option_map tok s.label) c.in_ok-single.ensures.found (rw c.as_slice.ensures.value at c.shape_of.ensures.found)
+    shape_read (map tok c.args.tokens.now) (map tok c.in_ok-single.single.items) c.shape_of.result (λ s. option_map tok s.label) c.in_ok-single.ensures.found
+    (rw c.as_slice.ensures.value at c.shape_of.ensures.found)
 
 pub returns-clause-only : goal.returns-clause-only
 returns-clause-only c =
-    shape_alone (map tok c.args.tokens.now) (map tok c.in_ok-single.single.items) c.shape_of.result (λ s. option_map tok s.label) c.in_ok-single.ensures.found (rw c.as_slice.ensures.value at c.shape_of.ensures.only)
+    shape_alone (map tok c.args.tokens.now) (map tok c.in_ok-single.single.items) c.shape_of.result (λ s. option_map tok s.label) c.in_ok-single.ensures.found
+    (rw c.as_slice.ensures.value at c.shape_of.ensures.only)

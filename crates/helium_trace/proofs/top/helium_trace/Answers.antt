@@ -10,5 +10,6 @@ returns-in-None g c = record {
       let nothing = ap (option_map meant) (sym c.in-None.is) ∙ c.parse.ensures.value in
       let old = g.H.Host.state c.args.host.now in
       let new = g.H.Host.state c.say_usage.new.host in
-      subst (λ (a : Option Asked). Traces listings a old new c.say_usage.result) nothing (usage_said listings old new c.say_usage.result c.say_usage.ensures.effect c.say_usage.ensures.calls);
+      subst (λ (a : Option Asked). Traces listings a old new c.say_usage.result) nothing
+      (usage_said listings old new c.say_usage.result c.say_usage.ensures.effect c.say_usage.ensures.calls);
 }

@@ -20,6 +20,9 @@ returns c =
     let a = meant c.args.command.now in
     record {
       outcome = λ listings are.
-          load_goes_on image (λ (o : Outcome). o ≡ traced a.page (trace_text (form_for a.page) (listings image) image c.args.input.schedule a.first a.last)) (Ok c.finish.result) c.in_ok-bytes.ensures.odd
-          (c.finish.ensures.value ∙ ap (λ (t : List ℕ). traced a.page t) (c.in_ok-bytes.ensures.text (listings image) (are.at image) ∙ ap (λ (f : Form). trace_text f (listings image) image c.args.input.schedule a.first a.last) c.form_of.ensures.value));
+          load_goes_on image (λ (o : Outcome). o ≡ traced a.page (trace_text (form_for a.page) (listings image) image c.args.input.schedule a.first a.last))
+          (Ok c.finish.result) c.in_ok-bytes.ensures.odd
+          (c.finish.ensures.value ∙ ap (λ (t : List ℕ). traced a.page t)
+          (c.in_ok-bytes.ensures.text (listings image) (are.at image)
+          ∙ ap (λ (f : Form). trace_text f (listings image) image c.args.input.schedule a.first a.last) c.form_of.ensures.value));
     }

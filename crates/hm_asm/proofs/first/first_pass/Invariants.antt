@@ -12,7 +12,8 @@ invariant-loop-rest l = record {
   counted : 1 ≤ l.number;
   numbered : l.number + length l.rest ≤ 1 + length l.source;
   fine : (all : LabelMap) → AreFine l.labels l.at (source_lines l.rest) all → AreFine empty 0 (source_lines l.source) all;
-  refused : (kind : AsmKind) (n c : ℕ) → IsFirstRefused kind l.labels l.at (source_lines l.rest) n c → IsFirstRefused kind empty 0 (source_lines l.source) (l.number - 1 + n) c;
+  refused : (kind : AsmKind) (n c : ℕ) → IsFirstRefused kind l.labels l.at (source_lines l.rest) n c
+      → IsFirstRefused kind empty 0 (source_lines l.source) (l.number - 1 + n) c;
 }
 
 abbrev pub decreases-loop-rest : goal.decreases-loop-rest

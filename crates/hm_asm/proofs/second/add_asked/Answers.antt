@@ -11,7 +11,8 @@ pub returns-in_ok-add_zeros-in-Align-clause-given : goal.returns-in_ok-add_zeros
 returns-in_ok-add_zeros-in-Align-clause-given c =
     λ a e.
     (let count =
-    c.padding-count.ensures.value ∙ ap (λ (x : ℕ). padding x c.place.result) c.bytes.ensures.value ∙ ap (λ (x : ℕ). padding (multiple_of c.in-Align.multiple) x) c.place.ensures.value in
+    c.padding-count.ensures.value ∙ ap (λ (x : ℕ). padding x c.place.result) c.bytes.ensures.value
+    ∙ ap (λ (x : ℕ). padding (multiple_of c.in-Align.multiple) x) c.place.ensures.value in
     given_align (get c.args.labels.now) c.args.out.now c.add_zeros.new.self (multiple_of c.in-Align.multiple) c.padding-count.result a
     (subst (λ (d : Directive). ShowsDirected c.args.line.now.parts.instruction.now d a) c.in-Align.is e) count c.in_ok-add_zeros-in-Align.ensures.added)
 

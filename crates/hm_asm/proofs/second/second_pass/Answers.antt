@@ -17,8 +17,11 @@ loop-rest-init c =
       counted = omega arith;
       numbered = omega arith;
       fine = (empty, subst (λ (a : ℕ). AreFine empty a (source_lines c.args.source.now) c.args.labels.now) (sym place) c.requires.fine);
-      given = λ ps given.
-          (ps, subst (λ (a : ℕ). AreGiven (get c.args.labels.now) a (source_lines c.args.source.now) ps) place given, begun_whole c.new-out.result ps c.new-out.ensures.nothing);
+      given = λ ps given. (
+        ps,
+        subst (λ (a : ℕ). AreGiven (get c.args.labels.now) a (source_lines c.args.source.now) ps) place given,
+        begun_whole c.new-out.result ps c.new-out.ensures.nothing,
+      );
       refused = λ kind n k r.
           (let count : n ≡ 1 - 1 + n = omega arith in
           subst (λ (i : ℕ). IsNextRefused kind (get c.args.labels.now) 0 (source_lines c.args.source.now) i k) count
@@ -26,9 +29,11 @@ loop-rest-init c =
     }
 
 -- the line that was read, and those behind it
-line_of : (c : After-first_line) → First c.loop-rest.invariant.fine.0 (place_of c.loop-rest.out) c.first_line.result.0.now (source_lines c.first_line.result.1.now) c.args.labels.now
+line_of : (c : After-first_line)
+    → First c.loop-rest.invariant.fine.0 (place_of c.loop-rest.out) c.first_line.result.0.now (source_lines c.first_line.result.1.now) c.args.labels.now
 line_of c =
-    first_of c.loop-rest.invariant.fine.0 (place_of c.loop-rest.out) c.first_line.result.0.now (source_lines c.first_line.result.1.now) (source_lines c.loop-rest.rest.now) c.args.labels.now c.first_line.ensures.first
+    first_of c.loop-rest.invariant.fine.0 (place_of c.loop-rest.out) c.first_line.result.0.now (source_lines c.first_line.result.1.now)
+    (source_lines c.loop-rest.rest.now) c.args.labels.now c.first_line.ensures.first
     c.loop-rest.invariant.fine.1
 
 pub add_line-requires-clause-fine : goal.add_line-requires-clause-fine
@@ -37,7 +42,8 @@ add_line-requires-clause-fine c = let f = line_of (goal.at.add_line-requires-cla
 pub returns-in-Err-clause-refused : goal.returns-in-Err-clause-refused
 returns-in-Err-clause-refused c =
     let f = line_of (goal.at.returns-in-Err-clause-refused c).After-first_line in
-    second_err (get c.args.labels.now) (source_lines c.args.source.now) (place_of c.loop-rest.out) c.loop-rest.number c.first_line.result.0.now (source_lines c.first_line.result.1.now) (source_lines c.loop-rest.rest.now) f.said c.in-Err.e
+    second_err (get c.args.labels.now) (source_lines c.args.source.now) (place_of c.loop-rest.out) c.loop-rest.number c.first_line.result.0.now
+    (source_lines c.first_line.result.1.now) (source_lines c.loop-rest.rest.now) f.said c.in-Err.e
     c.loop-rest.invariant.counted c.first_line.ensures.first f.fine.says c.loop-rest.invariant.refused (c.in-Err.ensures.refused f.said f.fine.says)
 
 pub loop-rest-preserved : goal.loop-rest-preserved
@@ -53,14 +59,16 @@ loop-rest-preserved c =
       numbered = omega (arith, c.first_line.ensures.shorter, c.loop-rest.invariant.numbered);
       fine = fine_behind c.args.labels.now m c.loop-rest.out c.add_line.new.out line behind lines f.said g.0 c.first_line.ensures.first f.fine f.others g.1 g.2;
       given = λ ps given.
-          (let s = given_step c.args.labels.now m c.loop-rest.out c.add_line.new.out line behind lines f.said g.0 c.first_line.ensures.first f.fine f.others g.1 g.2 ps given in
+          (let s = given_step c.args.labels.now m c.loop-rest.out c.add_line.new.out line behind lines f.said g.0 c.first_line.ensures.first f.fine f.others g.1
+          g.2 ps given in
           let whole = c.loop-rest.invariant.given (segment (place_of c.loop-rest.out) g.0 ∷ ps) s.0 in
           (whole.0, whole.1, s.1 ∙ whole.2));
       refused = λ kind n k r.
           (let count : c.loop-rest.number - 1 + suc n ≡ c.loop-rest.number + 1 - 1 + n = omega (arith, c.loop-rest.invariant.counted) in
           subst (λ (i : ℕ). IsNextRefused kind (get c.args.labels.now) 0 (source_lines c.args.source.now) i k) count
           (c.loop-rest.invariant.refused kind (suc n) k
-          (next_step c.args.labels.now m c.loop-rest.out c.add_line.new.out line behind lines f.said g.0 c.first_line.ensures.first f.fine f.others g.1 g.2 kind n k r)));
+          (next_step c.args.labels.now m c.loop-rest.out c.add_line.new.out line behind lines f.said g.0 c.first_line.ensures.first f.fine f.others g.1 g.2 kind
+          n k r)));
     }
 
 pub returns-clause-given : goal.returns-clause-given

@@ -17,7 +17,8 @@ invariant-loop-rest l = record {
   numbered : l.number + length l.rest ≤ 1 + length l.source;
   fine : (m : LabelMap) × AreFine m (place_of l.out) (source_lines l.rest) l.labels;
   given : (pieces : List Segment) → AreGiven (get l.labels) (place_of l.out) (source_lines l.rest) pieces
-      → (all : List Segment) × AreGiven (get l.labels) 0 (source_lines l.source) all × (l.out.whole ++ joined (segment l.out.start l.out.bytes ∷ pieces) ≡ joined all);
+      → (all : List Segment) × AreGiven (get l.labels) 0 (source_lines l.source) all
+      × (l.out.whole ++ joined (segment l.out.start l.out.bytes ∷ pieces) ≡ joined all);
   refused : (kind : AsmKind) (n c : ℕ) → IsNextRefused kind (get l.labels) (place_of l.out) (source_lines l.rest) n c
       → IsNextRefused kind (get l.labels) 0 (source_lines l.source) (l.number - 1 + n) c;
 }

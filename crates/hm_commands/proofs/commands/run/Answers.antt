@@ -12,5 +12,7 @@ returns c = λ listings are.
     let all = map (λ (v : Vec ℕ Global). v.items) c.args.contents.now in
     let read = schedule_in (source_meant c.args.schedule.now) (get_or all 1 []) in
     let some : 0 < length c.args.contents.now = one_more (length c.args.contents.now) [] (source_reads (source_meant c.args.schedule.now)) c.requires.each in
-    let first : get_or all 0 [] ≡ c.deref.result.now = content_is c.args.contents.now 0 c.index-contents-0.result c.deref.result.now some (sym c.index-contents-0.is) c.deref.ensures.value in
-    subst (λ (image : List ℕ). GivesOne (λ o. o ≡ run_outcome listings (image_of image) read c.args.memory.now) c.run_under.result) (sym first) (c.run_under.ensures listings are read c.read_schedule-read.ensures.exact)
+    let first : get_or all 0 [] ≡ c.deref.result.now =
+    content_is c.args.contents.now 0 c.index-contents-0.result c.deref.result.now some (sym c.index-contents-0.is) c.deref.ensures.value in
+    subst (λ (image : List ℕ). GivesOne (λ o. o ≡ run_outcome listings (image_of image) read c.args.memory.now) c.run_under.result) (sym first)
+    (c.run_under.ensures listings are read c.read_schedule-read.ensures.exact)

@@ -8,7 +8,8 @@ use Rattle.hm_commands.proofs.outside.read_all.Goals as goal
 
 pub returns-in-Err-clause-answer : goal.returns-in-Err-clause-answer
 returns-in-Err-clause-answer g c =
-    ReadsAll-err _ _ _ _ c.args.names.now c.loop-name.name-index c.in-Err.e c.loop-name.invariant.told c.loop-name-test.true c.loop-name.invariant.files c.in-Err.ensures.answer
+    ReadsAll-err _ _ _ _ c.args.names.now c.loop-name.name-index c.in-Err.e c.loop-name.invariant.told c.loop-name-test.true c.loop-name.invariant.files
+    c.in-Err.ensures.answer
 
 pub returns-then-is_err-clause-calls : goal.returns-then-is_err-clause-calls
 returns-then-is_err-clause-calls g c = λ F is.
@@ -16,7 +17,8 @@ returns-then-is_err-clause-calls g c = λ F is.
     let h = c.in-Ok.ensures in
     let names = c.args.names.now in
     let lt = c.loop-name-test.true in
-    calls_lost F names _ _ _ (next_splits F names c.loop-name.name-index _ lt (h.answer.1 F (i.files F is)) h.answer.0 (i.splits F is)) (next_calls names c.loop-name.name-index _ _ _ lt i.calls h.calls)
+    calls_lost F names _ _ _ (next_splits F names c.loop-name.name-index _ lt (h.answer.1 F (i.files F is)) h.answer.0 (i.splits F is))
+    (next_calls names c.loop-name.name-index _ _ _ lt i.calls h.calls)
 
 pub returns-in-Err-clause-calls : goal.returns-in-Err-clause-calls
 returns-in-Err-clause-calls g c = λ F is.
@@ -31,11 +33,13 @@ loop-name-preserved g c =
     let names = c.args.names.now in
     let lt = c.loop-name-test.true in
     let pushed : c.push.new.self.items ≡ c.loop-name.contents.items ++ c.in-Ok.bytes ∷ [] = search rules in
-    let items : map (λ (v : Vec ℕ Global). v.items) c.push.new.self.items ≡ map (λ (v : Vec ℕ Global). v.items) c.loop-name.contents.items ++ c.in-Ok.bytes.items ∷ []
+    let items : map (λ (v : Vec ℕ Global). v.items) c.push.new.self.items
+    ≡ map (λ (v : Vec ℕ Global). v.items) c.loop-name.contents.items ++ c.in-Ok.bytes.items ∷ []
     = ap (map (λ (v : Vec ℕ Global). v.items)) pushed ∙ map_push (λ (v : Vec ℕ Global). v.items) c.loop-name.contents.items c.in-Ok.bytes in
     record {
       each = search rules;
-      short = subst (λ (l : List (Vec ℕ Global)). All (λ (v : Vec ℕ Global). length v.items ≤ longest) l) (sym pushed) (All-push (λ (v : Vec ℕ Global). length v.items ≤ longest) c.loop-name.contents.items c.in-Ok.bytes i.short h.answer.0);
+      short = subst (λ (l : List (Vec ℕ Global)). All (λ (v : Vec ℕ Global). length v.items ≤ longest) l) (sym pushed)
+          (All-push (λ (v : Vec ℕ Global). length v.items ≤ longest) c.loop-name.contents.items c.in-Ok.bytes i.short h.answer.0);
       told = λ F is.
           i.told F is ∙ next_told F _ names c.loop-name.name-index c.in-Ok.bytes.items lt (h.answer.1 F (i.files F is)) h.answer.0
           ∙ ap (λ (b : List (List ℕ)). after_contents b (reading_of F (map (λ name. name.now) (drop (c.loop-name.name-index + 1) names)))) (sym items);

@@ -13,7 +13,8 @@ invariant-loop-name g l =
       each : vec_len l.contents ≡ l.name-index;
       short : All (λ bytes. length bytes.items ≤ longest) l.contents.items;
       told : (F : FileMap) → (state l.initial.host).files ≡ Some F
-          → reading_of F (map (λ name. name.now) l.names) ≡ after_contents (map (λ bytes. bytes.items) l.contents.items) (reading_of F (map (λ name. name.now) (drop l.name-index l.names)));
+          → reading_of F (map (λ name. name.now) l.names)
+          ≡ after_contents (map (λ bytes. bytes.items) l.contents.items) (reading_of F (map (λ name. name.now) (drop l.name-index l.names)));
       files : Stays (state l.initial.host).files (state l.host).files;
       printed : Stays (state l.initial.host).printed (state l.host).printed;
       splits : (F : FileMap) → (state l.initial.host).files ≡ Some F → SplitsAt F l.names l.name-index;

@@ -19,7 +19,8 @@ returns-in_err-compare c =
     let e = c.in_err-compare.field-0.0 in
     record {
       outcome = λ listings are.
-          rw p.1 (journal_differs listings image s (tick_outcome listings image s c.args.tick.count) c.args.journal.now e p.0 tape.odd (c.in_err-compare.ensures.refused image s (listings image) (are.at image) tape.tapes) p.2);
+          rw p.1 (journal_differs listings image s (tick_outcome listings image s c.args.tick.count) c.args.journal.now e p.0 tape.odd
+          (c.in_err-compare.ensures.refused image s (listings image) (are.at image) tape.tapes) p.2);
     }
 
 pub returns-in_err-machine : goal.returns-in_err-machine
@@ -34,8 +35,11 @@ returns-in_err-machine c =
     record {
       outcome = λ listings are.
           let last = tape.tapes.last (listings image) (are.at image) ∙ sym same ∙ sym past.0 in
-          rw p.1 (subst (λ (x : Stop). GivesOne (UnlessRefused (reset_refusal image) (IsCompared listings image s (tick_outcome listings image s c.args.tick.count) c.args.journal.now)) (Err x)) (sym p.2)
-          (tick_past listings image s c.args.tick.count e.last c.args.journal.now tape.odd (c.in_ok-compare.ensures.same image s (listings image) (are.at image) tape.tapes) last (rw past.0 past.1)));
+          rw p.1 (subst (λ (x : Stop). GivesOne
+          (UnlessRefused (reset_refusal image) (IsCompared listings image s (tick_outcome listings image s c.args.tick.count) c.args.journal.now)) (Err x))
+          (sym p.2)
+          (tick_past listings image s c.args.tick.count e.last c.args.journal.now tape.odd
+          (c.in_ok-compare.ensures.same image s (listings image) (are.at image) tape.tapes) last (rw past.0 past.1)));
     }
 
 pub returns : goal.returns

@@ -21,6 +21,8 @@ returns-in_err-journal c =
     let fails = subst (λ (bytes : List ℕ). IsReadErr bytes e) c.last_of.ensures.value c.in_err-journal.ensures.refused in
     record {
       outcome = λ listings are.
-          rw p.1 (run_goes_on (image_of (get_or all 0 [])) (schedule_in source (get_or all 1 [])) input.image input.schedule (IsMigrateOutcome listings text c.args.out.now) (Err p.0) read.0 read.1
-          (journal_not_read listings text input.image input.schedule (λ j. journal_written listings j.every c.args.out.now input.image input.schedule) e p.0 fails p.2));
+          rw p.1 (run_goes_on (image_of (get_or all 0 [])) (schedule_in source (get_or all 1 [])) input.image input.schedule
+          (IsMigrateOutcome listings text c.args.out.now) (Err p.0) read.0 read.1
+          (journal_not_read listings text input.image input.schedule (λ j. journal_written listings j.every c.args.out.now input.image input.schedule) e p.0
+          fails p.2));
     }

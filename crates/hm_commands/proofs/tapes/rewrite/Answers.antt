@@ -18,7 +18,8 @@ returns-in_err-compare c =
     let e = c.in_err-compare.field-0.0 in
     record {
       outcome = λ listings are.
-          rw p.1 (journal_differs listings image s (journal_written listings j.every c.args.out.now image s) j e p.0 tape.odd (c.in_err-compare.ensures.refused image s (listings image) (are.at image) tape.tapes) p.2);
+          rw p.1 (journal_differs listings image s (journal_written listings j.every c.args.out.now image s) j e p.0 tape.odd
+          (c.in_err-compare.ensures.refused image s (listings image) (are.at image) tape.tapes) p.2);
     }
 
 pub returns-in_err-bytes : goal.returns-in_err-bytes
@@ -32,7 +33,9 @@ returns-in_err-bytes c =
     let e = c.in_err-bytes.field-0.0 in
     let why = subst (λ (n : ℕ). IsWriteErr s n e) c.every.ensures.value (c.in_err-bytes.ensures.refused image s tapes) in
     record {
-      outcome = λ listings are. rw p.1 (again_refused listings image s j.every c.args.out.now j e p.0 tape.odd (c.in_ok-compare.ensures.same image s (listings image) (are.at image) tape.tapes) why p.2);
+      outcome = λ listings are. rw p.1
+          (again_refused listings image s j.every c.args.out.now j e p.0 tape.odd
+          (c.in_ok-compare.ensures.same image s (listings image) (are.at image) tape.tapes) why p.2);
     }
 
 pub returns : goal.returns
@@ -46,6 +49,8 @@ returns c =
     let few = subst (λ (n : ℕ). length (ticks_of s.lines) / n + 1 ≤ 64) every (c.in_ok-bytes.ensures.few image s tapes) in
     record {
       outcome = λ listings are.
-          again_written listings image s j.every c.args.out.now j c.in_ok-bytes.bytes.items tape.odd (c.in_ok-compare.ensures.same image s (listings image) (are.at image) tape.tapes) few
-          (c.in_ok-bytes.ensures.text image s (listings image) (are.at image) tapes ∙ ap (λ (n : ℕ). journal_text (journal_of (listings image) image s n)) every);
+          again_written listings image s j.every c.args.out.now j c.in_ok-bytes.bytes.items tape.odd
+          (c.in_ok-compare.ensures.same image s (listings image) (are.at image) tape.tapes) few
+          (c.in_ok-bytes.ensures.text image s (listings image) (are.at image) tapes
+          ∙ ap (λ (n : ℕ). journal_text (journal_of (listings image) image s n)) every);
     }

@@ -9,7 +9,10 @@ returns-in_err-bytes c =
     let tape = c.in_ok-tape.ensures in
     let p = err_from_is_err_and c.from_residual-in_err-bytes.result c.from_residual-in_err-bytes.ensures.1 in
     let e = c.in_err-bytes.field-0.0 in
-    record { outcome = λ listings are. rw p.1 (journal_refused listings c.args.every.ticks c.args.out.now image s e p.0 tape.odd (c.in_err-bytes.ensures.refused image s tape.tapes) p.2) }
+    record {
+      outcome = λ listings are. rw p.1
+          (journal_refused listings c.args.every.ticks c.args.out.now image s e p.0 tape.odd (c.in_err-bytes.ensures.refused image s tape.tapes) p.2);
+    }
 
 pub returns : goal.returns
 returns c =
@@ -19,5 +22,6 @@ returns c =
     let journal = c.in_ok-bytes.ensures in
     record {
       outcome = λ listings are.
-          journal_comes listings c.args.every.ticks c.args.out.now image s c.in_ok-bytes.bytes.items tape.odd (journal.few image s tape.tapes) (journal.text image s (listings image) (are.at image) tape.tapes);
+          journal_comes listings c.args.every.ticks c.args.out.now image s c.in_ok-bytes.bytes.items tape.odd (journal.few image s tape.tapes)
+          (journal.text image s (listings image) (are.at image) tape.tapes);
     }

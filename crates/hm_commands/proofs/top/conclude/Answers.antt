@@ -13,12 +13,15 @@ returns-in-Refused g c = record {
       subst (λ o'. Carries (effect_for o') (g.H.Host.state c.args.host.now) (g.H.Host.state c.refuse.new.host) c.refuse.result) h c.refuse.ensures.effect;
   calls = λ o gives.
       let h : refuses c.in-Refused.why ≡ o = rw (c.in-Err.is, c.in-Refused.is) at gives in
-      subst (λ o'. MakesCalls (calls_for (effect_for o')) (g.H.Host.state c.args.host.now).calls (g.H.Host.state c.refuse.new.host).calls (way_of c.refuse.result)) h c.refuse.ensures.calls;
-  spent = λ o gives is. inl (stays_spent Refused (Some (refused_line c.in-Refused.why)) (g.H.Host.state c.args.host.now) (g.H.Host.state c.refuse.new.host) c.refuse.result c.refuse.ensures.effect is);
+      subst (λ o'. MakesCalls (calls_for (effect_for o')) (g.H.Host.state c.args.host.now).calls (g.H.Host.state c.refuse.new.host).calls
+      (way_of c.refuse.result)) h c.refuse.ensures.calls;
+  spent = λ o gives is. inl (stays_spent Refused (Some (refused_line c.in-Refused.why)) (g.H.Host.state c.args.host.now) (g.H.Host.state c.refuse.new.host)
+      c.refuse.result c.refuse.ensures.effect is);
   wanted = λ is. (let no = rw (c.in-Err.is, c.in-Refused.is) at is in absurd cc);
 }
 
 pub returns-after-finish-clause-spent : goal.returns-after-finish-clause-spent
 returns-after-finish-clause-spent g c = λ o gives wanted.
     let h : finish_of c.in-Ok.finish ≡ o = rw c.in-Ok.is at gives in
-    subst (λ o'. StaysOrMakesAll (calls_for (effect_for o')) (g.H.Host.state c.args.host.now) (g.H.Host.state c.carry_out.new.host)) h (c.carry_out.ensures.spent wanted)
+    subst (λ o'. StaysOrMakesAll (calls_for (effect_for o')) (g.H.Host.state c.args.host.now) (g.H.Host.state c.carry_out.new.host)) h
+    (c.carry_out.ensures.spent wanted)

@@ -22,7 +22,8 @@ returns-in-None-clause-effect g c = λ listings are F told.
     let words = map string_bytes c.args.words.now in
     let said = c.say_usage.ensures in
     does_one (reads_for (form_of words)) (IsEffect listings words F) F _ _ _ told (some_effect listings words F)
-    (usage_begins listings words (g.H.Host.state c.args.host.now) (g.H.Host.state c.say_usage.new.host) c.say_usage.result F c.in-None.ensures.value said.effect said.calls
+    (usage_begins listings words (g.H.Host.state c.args.host.now) (g.H.Host.state c.say_usage.new.host) c.say_usage.result F c.in-None.ensures.value said.effect
+    said.calls
     (stays_spent Usage (Some usage_line) _ _ _ said.effect))
 
 pub returns-in-Some-clause-headline : goal.returns-in-Some-clause-headline

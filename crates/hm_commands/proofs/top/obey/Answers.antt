@@ -15,27 +15,34 @@ pub returns : goal.returns
 returns g c = record {
   effect = λ listings are.
       let h = c.in-Err-OutOfMemory.ensures in
-      let names : map (λ n. n.now) c.deref.result.now ≡ reads_of (meant c.args.command.now) = ap (map (λ n. n.now)) c.deref.ensures.value ∙ c.in-Ok.ensures.names in
+      let names : map (λ n. n.now) c.deref.result.now ≡ reads_of (meant c.args.command.now) = ap (map (λ n. n.now)) c.deref.ensures.value
+      ∙ c.in-Ok.ensures.names in
       Does-no_memory _ _ _ _ h.files h.printed (rw c.in-Err-OutOfMemory.field-0-is at h.count)
-      (λ F is. subst (λ (n : List (List ℕ)). MakesCalls (read_calls F n) (g.H.Host.state c.args.host.now).calls (g.H.Host.state c.read_all.new.host).calls to_memory) names (rw c.in-Err-OutOfMemory.field-0-is at h.calls F is));
+      (λ F is. subst (λ (n : List (List ℕ)). MakesCalls (read_calls F n) (g.H.Host.state c.args.host.now).calls (g.H.Host.state c.read_all.new.host).calls
+      to_memory) names (rw c.in-Err-OutOfMemory.field-0-is at h.calls F is));
 }
 
 pub returns-in-Err-Failed : goal.returns-in-Err-Failed
 returns-in-Err-Failed g c = record {
   effect = λ listings are.
       let h = c.in-Err-Failed.ensures in
-      let names : map (λ n. n.now) c.deref.result.now ≡ reads_of (meant c.args.command.now) = ap (map (λ n. n.now)) c.deref.ensures.value ∙ c.in-Ok.ensures.names in
+      let names : map (λ n. n.now) c.deref.result.now ≡ reads_of (meant c.args.command.now) = ap (map (λ n. n.now)) c.deref.ensures.value
+      ∙ c.in-Ok.ensures.names in
       Does-fault _ _ _ _ h.files h.printed (rw c.in-Err-Failed.field-0-is at h.count)
-      (λ F is. subst (λ (n : List (List ℕ)). MakesCalls (read_calls F n) (g.H.Host.state c.args.host.now).calls (g.H.Host.state c.read_all.new.host).calls to_fault) names (rw c.in-Err-Failed.field-0-is at h.calls F is));
+      (λ F is. subst (λ (n : List (List ℕ)). MakesCalls (read_calls F n) (g.H.Host.state c.args.host.now).calls (g.H.Host.state c.read_all.new.host).calls
+      to_fault) names (rw c.in-Err-Failed.field-0-is at h.calls F is));
 }
 
 pub returns-in-Err-TooLarge : goal.returns-in-Err-TooLarge
 returns-in-Err-TooLarge g c = record {
   effect = λ listings are.
       let h = c.in-Err-TooLarge.ensures in
-      let names : map (λ n. n.now) c.deref.result.now ≡ reads_of (meant c.args.command.now) = ap (map (λ n. n.now)) c.deref.ensures.value ∙ c.in-Ok.ensures.names in
-      Does-too_large _ _ _ _ _ _ (λ F is. ap (reading_of F) (sym names) ∙ (rw c.in-Err-TooLarge.field-0-is at h.answer) F is) h.files h.printed (rw c.in-Err-TooLarge.field-0-is at h.count)
-      (λ F is. subst (λ (n : List (List ℕ)). Becomes (with_calls (read_calls F n)) (g.H.Host.state c.args.host.now).calls (g.H.Host.state c.read_all.new.host).calls) names (rw c.in-Err-TooLarge.field-0-is at h.calls F is))
+      let names : map (λ n. n.now) c.deref.result.now ≡ reads_of (meant c.args.command.now) = ap (map (λ n. n.now)) c.deref.ensures.value
+      ∙ c.in-Ok.ensures.names in
+      Does-too_large _ _ _ _ _ _ (λ F is. ap (reading_of F) (sym names) ∙ (rw c.in-Err-TooLarge.field-0-is at h.answer) F is) h.files h.printed
+      (rw c.in-Err-TooLarge.field-0-is at h.count)
+      (λ F is. subst (λ (n : List (List ℕ)). Becomes (with_calls (read_calls F n)) (g.H.Host.state c.args.host.now).calls
+      (g.H.Host.state c.read_all.new.host).calls) names (rw c.in-Err-TooLarge.field-0-is at h.calls F is))
       c.refuse.ensures.effect c.refuse.ensures.calls;
 }
 
@@ -51,9 +58,11 @@ pub returns-in-Ok-read_all : goal.returns-in-Ok-read_all
 returns-in-Ok-read_all g c = record {
   effect = λ listings are.
       let h = c.in-Ok-read_all.ensures in
-      let names : map (λ n. n.now) c.deref.result.now ≡ reads_of (meant c.args.command.now) = ap (map (λ n. n.now)) c.deref.ensures.value ∙ c.in-Ok.ensures.names in
+      let names : map (λ n. n.now) c.deref.result.now ≡ reads_of (meant c.args.command.now) = ap (map (λ n. n.now)) c.deref.ensures.value
+      ∙ c.in-Ok.ensures.names in
       let given = rw c.deref-in-Ok-read_all.ensures.value at c.perform.ensures listings are in
       Does-ok _ _ _ _ _ _ _ _ given (λ F is. ap (reading_of F) (sym names) ∙ h.answer F is) h.files h.printed h.count
-      (λ F is. subst (λ (n : List (List ℕ)). Becomes (with_calls (read_calls F n)) (g.H.Host.state c.args.host.now).calls (g.H.Host.state c.read_all.new.host).calls) names (h.calls F is))
+      (λ F is. subst (λ (n : List (List ℕ)). Becomes (with_calls (read_calls F n)) (g.H.Host.state c.args.host.now).calls
+      (g.H.Host.state c.read_all.new.host).calls) names (h.calls F is))
       c.conclude.ensures.effect c.conclude.ensures.calls c.conclude.ensures.spent c.conclude.ensures.wanted;
 }

@@ -19,5 +19,6 @@ loop-words-preserved c =
 pub returns-then-is_empty-clause-fine : goal.returns-then-is_empty-clause-fine
 returns-then-is_empty-clause-fine c =
     let none : length c.loop-words.rest.now ≡ 0 = search rules in
-    let lines : lines_of c.loop-words.rest.now ≡ ([], []) = c.in_default.ensures.unended ∙ ap (λ (r : List ℕ). ([], r)) (none_left c.loop-words.rest.now none) in
+    let lines : lines_of c.loop-words.rest.now ≡ ([], []) = c.in_default.ensures.unended
+    ∙ ap (λ (r : List ℕ). ([], r)) (none_left c.loop-words.rest.now none) in
     c.loop-words.invariant.fine [] (subst (λ (ls : Lines). SayAll ls []) (sym lines) tt)

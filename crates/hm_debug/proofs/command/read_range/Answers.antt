@@ -10,7 +10,8 @@ returns-then-is_empty-clause-finds c =
 pub returns-in_err-addr-clause-finds : goal.returns-in_err-addr-clause-finds
 returns-in_err-addr-clause-finds c =
     let is = range_is c.args.text.now c.span.result.0.now c.span.result.1.now c.span.ensures.parts (search rules) in
-    range_finds c.args.text.now _ (c.from_residual.ensures ∙ ap (λ (o : Option ℕ). both o (number_in (take (length c.span.result.1.now - 1) (drop 1 c.span.result.1.now)))) c.in_err-addr.ensures.value ∙ is)
+    range_finds c.args.text.now _ (c.from_residual.ensures
+    ∙ ap (λ (o : Option ℕ). both o (number_in (take (length c.span.result.1.now - 1) (drop 1 c.span.result.1.now)))) c.in_err-addr.ensures.value ∙ is)
 
 pub returns-in_err-n-clause-finds : goal.returns-in_err-n-clause-finds
 returns-in_err-n-clause-finds c =

@@ -14,5 +14,6 @@ loop-k-preserved c =
     let told : told_at m.memory (c.args.at + c.loop-k.k) ≡ Some c.unwrap-byte.result = search rules in
     record {
       there = (mapped_here m.memory c.args.at c.args.count c.loop-k.k c.loop-k-test.true c.loop-k.invariant.there).1;
-      left = bytes_on m.regs m.memory m.output c.args.at c.args.count c.loop-k.k c.unwrap-byte.result _ _ _ c.loop-k-test.true told c.in_ok-hex2.ensures c.loop-k.invariant.left;
+      left = bytes_on m.regs m.memory m.output c.args.at c.args.count c.loop-k.k c.unwrap-byte.result _ _ _ c.loop-k-test.true told c.in_ok-hex2.ensures
+          c.loop-k.invariant.left;
     }

@@ -6,4 +6,5 @@ use Rattle.hm_debug.proofs.memory.add_memory.Goals as goal
 pub loop-row-preserved : goal.loop-row-preserved
 loop-row-preserved c =
     let least : c.min-count.result ≡ min (c.args.len - c.loop-row.row * 16) 16 = search rules in
-    rows_on (timed_of c.args.machine.now).config.state c.args.addr c.args.len c.loop-row.row c.min-count.result _ _ _ c.loop-row-test.true least c.in_ok-add_row.ensures.added c.loop-row.invariant
+    rows_on (timed_of c.args.machine.now).config.state c.args.addr c.args.len c.loop-row.row c.min-count.result _ _ _ c.loop-row-test.true least
+    c.in_ok-add_row.ensures.added c.loop-row.invariant

@@ -11,7 +11,8 @@ loop-tick-preserved c = record {
   next = λ f film.
       let here = subst (λ (w : Taped). IsFilm f w) (sym c.loop-tick.invariant.stays) film in
       c.loop-tick.invariant.next f film
-      ∙ next_on (λ u. reaches c.args.addr (f.at u)) c.last-last.result c.loop-tick.tick c.loop-tick-test.true (sym (c.reaches_at.ensures.value f here) ∙ c.if-reaches_at.false);
+      ∙ next_on (λ u. reaches c.args.addr (f.at u)) c.last-last.result c.loop-tick.tick c.loop-tick-test.true
+      (sym (c.reaches_at.ensures.value f here) ∙ c.if-reaches_at.false);
 }
 
 pub returns-then-reaches_at-clause-next : goal.returns-then-reaches_at-clause-next

@@ -9,6 +9,8 @@ returns-in-Until-clause-gives c f film =
     rw
     c.in-Until.is
     (subst
-    (λ (n : ℕ). IfOk c.go_until.result (λ tick. Gives (found_or_end n (next_at (λ u. reaches c.in-Until.addr (f.at u)) c.args.place (n - c.args.place))) c.args.out.now.items c.go_until.new.out.items tick))
+    (λ (n : ℕ). IfOk c.go_until.result
+    (λ tick. Gives (found_or_end n (next_at (λ u. reaches c.in-Until.addr (f.at u)) c.args.place (n - c.args.place))) c.args.out.now.items
+    c.go_until.new.out.items tick))
     (sym (film_last f _ film))
     (c.go_until.ensures.gives f film))

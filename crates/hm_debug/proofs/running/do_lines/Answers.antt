@@ -33,4 +33,5 @@ loop-line-preserved c =
 pub returns-clause-answers : goal.returns-clause-answers
 returns-clause-answers c f cs film say =
     left_none f c.loop-line.rest.now c.loop-line.out.items c.loop-line.place (answers f cs 0)
-    (subst (λ (ls : Lines). IsLeft f ls c.loop-line.out.items c.loop-line.place (answers f cs 0)) c.in_default.ensures.unended (c.loop-line.invariant.left f cs film say))
+    (subst (λ (ls : Lines). IsLeft f ls c.loop-line.out.items c.loop-line.place (answers f cs 0)) c.in_default.ensures.unended
+    (c.loop-line.invariant.left f cs film say))

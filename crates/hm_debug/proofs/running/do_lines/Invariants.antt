@@ -12,7 +12,8 @@ invariant-loop-line l = record {
   stays : l.tape ≡ l.initial.tape;
   within : l.place ≤ l.tape.last;
   said : (cs : List Command) × SayAll (lines_of l.rest) cs;
-  left : (f : Film) (cs : List Command) → IsFilm f l.initial.tape → SayAll (lines_of l.text) cs → IsLeft f (lines_of l.rest) l.out.items l.place (answers f cs 0);
+  left : (f : Film) (cs : List Command) → IsFilm f l.initial.tape → SayAll (lines_of l.text) cs
+      → IsLeft f (lines_of l.rest) l.out.items l.place (answers f cs 0);
 }
 
 abbrev pub decreases-loop-line : goal.decreases-loop-line

@@ -8,6 +8,7 @@ use Rattle.hm_debug.proofs.running.show_memory.Goals as goal
 pub returns-clause-added : goal.returns-clause-added
 returns-clause-added c f film =
     subst
-    (λ (x : Timed). IfOk c.add_memory.result (λ _. c.add_memory.new.out.items ≡ c.args.out.now.items ++ memory_lines x.config.state c.args.addr c.args.len ((c.args.len + 15) / 16)))
+    (λ (x : Timed). IfOk c.add_memory.result
+    (λ _. c.add_memory.new.out.items ≡ c.args.out.now.items ++ memory_lines x.config.state c.args.addr c.args.len ((c.args.len + 15) / 16)))
     (shows_at f _ c.args.tick _ film c.machine_at.ensures.shows)
     c.add_memory.ensures.added

@@ -15,6 +15,8 @@ returns-then-header c = no_room c.args.bytes.now c.args.number c.args.header.now
 
 pub returns : goal.returns
 returns c =
-    let same : segment c.args.header.now.address c.in-Ok.part.items ≡ loaded c.args.bytes.now c.args.header.now = ap (segment c.args.header.now.address) c.in-Ok.ensures in
+    let same : segment c.args.header.now.address c.in-Ok.part.items ≡ loaded c.args.bytes.now c.args.header.now =
+    ap (segment c.args.header.now.address) c.in-Ok.ensures in
     seen_at c.args.bytes.now c.args.number c.args.header.now c.args.image c.in-Ok.part.items c.with_segment.result
-    (to_place c.args.bytes.now c.args.number c.args.header.now c.args.image (grind (arith, c.loads.ensures)) (omega arith) (omega arith)) same c.with_segment.ensures
+    (to_place c.args.bytes.now c.args.number c.args.header.now c.args.image (grind (arith, c.loads.ensures)) (omega arith) (omega arith)) same
+    c.with_segment.ensures

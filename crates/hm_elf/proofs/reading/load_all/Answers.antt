@@ -11,12 +11,17 @@ returns-in_err-image c =
     let p = err_from_is_err_and c.from_residual.result c.from_residual.ensures.1 in
     let e = c.in_err-image.field-0.0 in
     let header = c.program_header-header.ensures ∙ ap header_at (take_rest c.args.table.now (32 * c.loop-number.number)) in
-    rw (p.1, p.2) (ends c.args.bytes.now c.loop-number.number c.args.count c.args.table.now c.loop-number.image (loads_in c.args.bytes.now 0 (headers_in c.args.count c.args.table.now) []) e c.program_header-header.result (omega arith) header c.loop-number.invariant c.in_err-image.ensures)
+    rw (p.1, p.2) (ends c.args.bytes.now c.loop-number.number c.args.count c.args.table.now c.loop-number.image
+    (loads_in c.args.bytes.now 0 (headers_in c.args.count c.args.table.now) []) e c.program_header-header.result (omega arith) header
+    c.loop-number.invariant c.in_err-image.ensures)
 
 pub loop-number-preserved : goal.loop-number-preserved
 loop-number-preserved c =
     let header = c.program_header-header.ensures ∙ ap header_at (take_rest c.args.table.now (32 * c.loop-number.number)) in
-    goes_on c.args.bytes.now c.loop-number.number c.args.count c.args.table.now c.loop-number.image c.in_ok-image.image (loads_in c.args.bytes.now 0 (headers_in c.args.count c.args.table.now) []) c.program_header-header.result (omega arith) header c.in_ok-image.ensures c.loop-number.invariant
+    goes_on c.args.bytes.now c.loop-number.number c.args.count c.args.table.now c.loop-number.image c.in_ok-image.image
+    (loads_in c.args.bytes.now 0 (headers_in c.args.count c.args.table.now) []) c.program_header-header.result (omega arith) header c.in_ok-image.ensures
+    c.loop-number.invariant
 
 pub returns : goal.returns
-returns c = is_done c.args.bytes.now c.loop-number.number c.args.count c.args.table.now c.loop-number.image (loads_in c.args.bytes.now 0 (headers_in c.args.count c.args.table.now) []) (omega arith) c.loop-number.invariant
+returns c = is_done c.args.bytes.now c.loop-number.number c.args.count c.args.table.now c.loop-number.image
+    (loads_in c.args.bytes.now 0 (headers_in c.args.count c.args.table.now) []) (omega arith) c.loop-number.invariant

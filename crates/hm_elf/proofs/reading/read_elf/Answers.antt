@@ -9,10 +9,12 @@ use Rattle.hm_elf.proofs.ReadLaws.{header_refused, header_passed}
 use Rattle.hm_elf.proofs.reading.read_elf.Goals as goal
 
 pub returns-in-Some-clause-value : goal.returns-in-Some-clause-value
-returns-in-Some-clause-value c = Fails-same c.in-Some.refusal (elf_in c.args.bytes.now) (header_refused c.args.bytes.now c.in-Some.refusal (sym c.in-Some.ensures))
+returns-in-Some-clause-value c =
+    Fails-same c.in-Some.refusal (elf_in c.args.bytes.now) (header_refused c.args.bytes.now c.in-Some.refusal (sym c.in-Some.ensures))
 
 pub returns-in-None-clause-value : goal.returns-in-None-clause-value
 returns-in-None-clause-value c =
-    let read = subst (λ (t : List ℕ). Gives c.load_all.result (loads_in c.args.bytes.now 0 (headers_in c.half.result t) [])) (take_rest c.args.bytes.now c.word.result) c.load_all.ensures in
+    let read = subst (λ (t : List ℕ). Gives c.load_all.result (loads_in c.args.bytes.now 0 (headers_in c.half.result t) []))
+    (take_rest c.args.bytes.now c.word.result) c.load_all.ensures in
     subst (λ (r : Result (List Segment) ImageErr). Gives c.load_all.result r)
     (sym (header_passed c.args.bytes.now c.half.result c.word.result (sym c.in-None.ensures) c.half.ensures c.word.ensures)) read

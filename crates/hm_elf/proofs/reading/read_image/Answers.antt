@@ -9,4 +9,5 @@ pub returns-clause-found : goal.returns-clause-found
 returns-clause-found c = is_found c.args.bytes.now c.read_file.result c.read_file.ensures.value
 
 pub returns-clause-only : goal.returns-clause-only
-returns-clause-only c = λ image is. subst (λ (r : Result (List Segment) ImageErr). Gives c.read_file.result r) (image_again c.args.bytes.now image is) c.read_file.ensures.value
+returns-clause-only c = λ image is. subst (λ (r : Result (List Segment) ImageErr). Gives c.read_file.result r) (image_again c.args.bytes.now image is)
+    c.read_file.ensures.value

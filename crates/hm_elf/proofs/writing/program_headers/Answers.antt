@@ -13,6 +13,7 @@ loop-k-preserved c =
     let same = ap (λ (s : Segment). length s.bytes) c.segment-address.ensures.value in
     record {
       so_far = ap (λ (x : List ℕ). x ++ program_headers (c.loop-k.offset + length bytes) (drop (k + 1) image)) c.in_ok-program_header.ensures
-          ∙ headers_step c.loop-k.out.items c.loop-k.offset k c.segment-address.result.0 bytes image (c.args.out.now.items ++ program_headers c.args.start image) (omega arith) c.segment-address.ensures.value c.loop-k.invariant.so_far;
+          ∙ headers_step c.loop-k.out.items c.loop-k.offset k c.segment-address.result.0 bytes image
+          (c.args.out.now.items ++ program_headers c.args.start image) (omega arith) c.segment-address.ensures.value c.loop-k.invariant.so_far;
       near = omega arith;
     }

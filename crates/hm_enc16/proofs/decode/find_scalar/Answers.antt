@@ -1,6 +1,7 @@
 use Rattle.std.proofs.Common.{◌≡◌, [], ◌∷◌}
 use Rattle.hm_isa.specs.declared.Scalar.TheVariants as scalar
-use Rattle.hm_isa.specs.Code.{scalar_halves, code_s1, code_s2, code_s3, code_s4, code_s5, code_s6, code_s7, code_s8, code_s9, code_s10, code_s11, code_s12, code_s13, code_s14, code_s15, code_s16, code_s17, code_s18, code_s19, code_s20, code_s21}
+use Rattle.hm_isa.specs.Code.{scalar_halves, code_s1, code_s2, code_s3, code_s4, code_s5, code_s6, code_s7, code_s8, code_s9, code_s10, code_s11, code_s12}
+use Rattle.hm_isa.specs.Code.{code_s13, code_s14, code_s15, code_s16, code_s17, code_s18, code_s19, code_s20, code_s21}
 use Rattle.hm_enc16.proofs.Halves.{no_half, not_one}
 use Rattle.hm_enc16.proofs.decode.find_scalar.Goals as goal
 

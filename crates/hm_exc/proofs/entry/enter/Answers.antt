@@ -17,4 +17,5 @@ returns-clause-registers c =
 pub returns-clause-fits : goal.returns-clause-fits
 returns-clause-fits c =
     let t : c.has_room.result ≡ true = search rules in
-    c.activation-x.ensures.fits (in_room c.activation-x.result (activation c.args.r.now c.args.w c.args.e) _ c.has_room.result c.activation-x.ensures.value c.has_room.ensures.value t)
+    c.activation-x.ensures.fits (in_room c.activation-x.result (activation c.args.r.now c.args.w c.args.e) _ c.has_room.result c.activation-x.ensures.value
+    c.has_room.ensures.value t)

@@ -12,7 +12,8 @@ loop-k-preserved c =
     let marked : marks (memory_of c.loop-k.m).around.actor ≡ true = ap marks (a ∙ c.requires.actor) in
     let lt : c.loop-k.k < frame_size x.long = omega (arith, c.frame_size-k-end.ensures.value) in
     record {
-      seen = one_written x c.loop-k.k _ (seen (memory_of c.loop-k.m)) (seen (memory_of c.put.new.self)) (seen (memory_of c.args.m.now)) c.requires.in_sram lt (search rules) refl
+      seen = one_written x c.loop-k.k _ (seen (memory_of c.loop-k.m)) (seen (memory_of c.put.new.self)) (seen (memory_of c.args.m.now)) c.requires.in_sram lt
+          (search rules) refl
           (marks (memory_of c.loop-k.m).around.actor) marked c.loop-k.invariant.seen c.put.ensures.seen;
       kept = record { flash = c.put.ensures.kept.flash ∙ c.loop-k.invariant.kept.flash; around = c.put.ensures.kept.around ∙ c.loop-k.invariant.kept.around };
     }

@@ -9,6 +9,7 @@ returns-then-x c =
     let k = c.args.k in
     let e : (8 + k) - 8 ≡ k = omega arith in
     record {
-      value = c.stacked.ensures.value ∙ word-vector x.regs (window_in x) (8 + k) (sym c.requires.fits.form ∙ c.if-x.true) c.in_range.ensures.counted.qw_count (omega arith) (omega arith)
+      value = c.stacked.ensures.value
+          ∙ word-vector x.regs (window_in x) (8 + k) (sym c.requires.fits.form ∙ c.if-x.true) c.in_range.ensures.counted.qw_count (omega arith) (omega arith)
           ∙ ap (λ (i : ℕ). get_or x.regs.qw i 0) e;
     }

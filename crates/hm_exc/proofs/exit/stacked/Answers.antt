@@ -9,5 +9,6 @@ returns c =
     let pc : x.regs.pc < 2 ^ 32 = omega arith in
     let it : x.regs.it < 256 = omega arith in
     record {
-      value = c.word.ensures.value ∙ stacked-word x c.requires.fits c.in_range.ensures.range pc it (byte_at (memory_of c.args.m.now)) c.args.k c.requires.frame c.requires.word (whole_word x.long c.args.k c.requires.word);
+      value = c.word.ensures.value ∙ stacked-word x c.requires.fits c.in_range.ensures.range pc it (byte_at (memory_of c.args.m.now)) c.args.k c.requires.frame
+          c.requires.word (whole_word x.long c.args.k c.requires.word);
     }

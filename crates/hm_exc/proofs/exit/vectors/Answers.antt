@@ -6,7 +6,8 @@ pub loop-k-preserved : goal.loop-k-preserved
 loop-k-preserved c =
     let room : c.loop-k.k < length c.loop-k.words = omega arith in
     record {
-      filled = one_filled c.args.x.now.regs.qw c.args.r.now.qw c.loop-k.words c.loop-k.k c.low_vector.result c.loop-k.invariant.filled room c.low_vector.ensures.value;
+      filled = one_filled c.args.x.now.regs.qw c.args.r.now.qw c.loop-k.words c.loop-k.k c.low_vector.result c.loop-k.invariant.filled room
+          c.low_vector.ensures.value;
       count = length-set c.loop-k.words c.loop-k.k c.low_vector.result ∙ c.loop-k.invariant.count;
     }
 

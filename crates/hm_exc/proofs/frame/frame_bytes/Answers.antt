@@ -12,7 +12,8 @@ pub loop-k-preserved : goal.loop-k-preserved
 loop-k-preserved c =
     let room : c.loop-k.k < length c.loop-k.bytes = omega arith in
     record {
-      filled = one_filled (frame_bytes c.args.r.now c.args.w) [] c.loop-k.bytes c.loop-k.k c.frame_byte.result c.loop-k.invariant.filled room c.frame_byte.ensures.value;
+      filled = one_filled (frame_bytes c.args.r.now c.args.w) [] c.loop-k.bytes c.loop-k.k c.frame_byte.result c.loop-k.invariant.filled room
+          c.frame_byte.ensures.value;
       count = length-set c.loop-k.bytes c.loop-k.k c.frame_byte.result ∙ c.loop-k.invariant.count;
     }
 
@@ -21,6 +22,7 @@ returns c =
     let n : c.loop-k.k ≡ frame_size c.args.r.now.fpca = omega arith in
     let l : frame_size c.args.r.now.fpca ≤ 104 = omega arith in
     record {
-      value = padded (frame_bytes c.args.r.now c.args.w) c.loop-k.bytes (frame_size c.args.r.now.fpca) 104 c.loop-k.invariant.count (length-frame_bytes c.args.r.now c.args.w c.in_range.ensures.counted.qw_count) l
+      value = padded (frame_bytes c.args.r.now c.args.w) c.loop-k.bytes (frame_size c.args.r.now.fpca) 104 c.loop-k.invariant.count
+          (length-frame_bytes c.args.r.now c.args.w c.in_range.ensures.counted.qw_count) l
           (subst (λ (k : ℕ). Filled (frame_bytes c.args.r.now c.args.w) [] k c.loop-k.bytes) n c.loop-k.invariant.filled);
     }

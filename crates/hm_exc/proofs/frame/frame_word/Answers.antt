@@ -8,13 +8,19 @@ pub returns-in-0-to-3 : goal.returns-in-0-to-3
 returns-in-0-to-3 c = record { value = sym (word-low c.args.r.now c.args.w c.args.k (omega arith)) }
 
 pub returns-in-4 : goal.returns-in-4
-returns-in-4 c = let e : c.args.k ≡ 4 = omega arith in record { value = sym (ap (λ (i : ℕ). get_or (frame_words c.args.r.now c.args.w) i 0) e ∙ word-12 c.args.r.now c.args.w) }
+returns-in-4 c =
+    let e : c.args.k ≡ 4 = omega arith in
+    record { value = sym (ap (λ (i : ℕ). get_or (frame_words c.args.r.now c.args.w) i 0) e ∙ word-12 c.args.r.now c.args.w) }
 
 pub returns-in-5 : goal.returns-in-5
-returns-in-5 c = let e : c.args.k ≡ 5 = omega arith in record { value = sym (ap (λ (i : ℕ). get_or (frame_words c.args.r.now c.args.w) i 0) e ∙ word-lr c.args.r.now c.args.w) }
+returns-in-5 c =
+    let e : c.args.k ≡ 5 = omega arith in
+    record { value = sym (ap (λ (i : ℕ). get_or (frame_words c.args.r.now c.args.w) i 0) e ∙ word-lr c.args.r.now c.args.w) }
 
 pub returns-in-6 : goal.returns-in-6
-returns-in-6 c = let e : c.args.k ≡ 6 = omega arith in record { value = sym (ap (λ (i : ℕ). get_or (frame_words c.args.r.now c.args.w) i 0) e ∙ word-pc c.args.r.now c.args.w) }
+returns-in-6 c =
+    let e : c.args.k ≡ 6 = omega arith in
+    record { value = sym (ap (λ (i : ℕ). get_or (frame_words c.args.r.now c.args.w) i 0) e ∙ word-pc c.args.r.now c.args.w) }
 
 pub returns-in-7 : goal.returns-in-7
 returns-in-7 c =
@@ -25,7 +31,10 @@ pub returns-in-8-to-23 : goal.returns-in-8-to-23
 returns-in-8-to-23 c =
     let low : 8 ≤ c.args.k = omega arith in
     let high : c.args.k < 24 = omega arith in
-    record { value = sym (word-vector c.args.r.now c.args.w c.args.k (has_context c.args.r.now.fpca c.args.k low c.requires.word) c.in_range.ensures.counted.qw_count low high) }
+    record {
+      value = sym (word-vector c.args.r.now c.args.w c.args.k (has_context c.args.r.now.fpca c.args.k low c.requires.word)
+          c.in_range.ensures.counted.qw_count low high);
+    }
 
 pub returns-in-24 : goal.returns-in-24
 returns-in-24 c =

@@ -6,7 +6,8 @@ use Rattle.hm_exc.proofs.rules.difference.Goals as goal
 
 pub returns-then-value-x-clause-value : goal.returns-then-value-x-clause-value
 returns-then-value-x-clause-value c =
-    sym (by_parts c.args.r.now (byte_at (memory_of c.args.m.now)) c.args.value c.args.x.now _ _ _ _ _ (value_differs c.args.value c.args.x.now c.if-value-x.true) refl refl refl refl)
+    sym (by_parts c.args.r.now (byte_at (memory_of c.args.m.now)) c.args.value c.args.x.now _ _ _ _ _
+    (value_differs c.args.value c.args.x.now c.if-value-x.true) refl refl refl refl)
 
 pub returns-in-Some-clause-value : goal.returns-in-Some-clause-value
 returns-in-Some-clause-value c =
@@ -35,7 +36,8 @@ returns-in-Some-vector_difference-clause-value c =
     let k = is_none c.core_difference.result c.in_default-core_difference.not-Some in
     sym (by_parts c.args.r.now (byte_at (memory_of c.args.m.now)) c.args.value c.args.x.now None None None None (Some c.in-Some-vector_difference.b)
     (value_same c.args.value c.args.x.now (omega arith)) (sym c.stack_difference.ensures.value ∙ n)
-    (sym c.frame_difference.ensures.value ∙ f) (sym c.core_difference.ensures.value ∙ k) (sym c.vector_difference.ensures.value ∙ c.in-Some-vector_difference.is))
+    (sym c.frame_difference.ensures.value ∙ f) (sym c.core_difference.ensures.value ∙ k)
+    (sym c.vector_difference.ensures.value ∙ c.in-Some-vector_difference.is))
 
 pub returns-clause-value : goal.returns-clause-value
 returns-clause-value c =

@@ -12,11 +12,15 @@ high : (x : ℕ) → x < 2 ^ 32 → x / 65536 ≡ x / 65536 % 256 + 256 * (x / 1
 high x h = omega arith
 
 -- the tests of the two halves of a word are those of its bytes
-lower : (f : NarrowName) (x : ℕ) (p q : Bool) → x < 2 ^ 32 → p ≡ narrow_outside f Half Byte (x % 65536) → q ≡ narrow_outside f Half Byte (x / 65536) → p ∷ false ∷ q ∷ false ∷ [] ≡ narrow_tests false false f (bytes_of x)
-lower f x p q h d e = (λ j. d j ∷ false ∷ e j ∷ false ∷ []) ∙ (λ j. narrow_outside f Half Byte (low x j) ∷ false ∷ narrow_outside f Half Byte (high x h j) ∷ false ∷ [])
+lower : (f : NarrowName) (x : ℕ) (p q : Bool) → x < 2 ^ 32 → p ≡ narrow_outside f Half Byte (x % 65536) → q ≡ narrow_outside f Half Byte (x / 65536)
+    → p ∷ false ∷ q ∷ false ∷ [] ≡ narrow_tests false false f (bytes_of x)
+lower f x p q h d e = (λ j. d j ∷ false ∷ e j ∷ false ∷ [])
+    ∙ (λ j. narrow_outside f Half Byte (low x j) ∷ false ∷ narrow_outside f Half Byte (high x h j) ∷ false ∷ [])
 
-upper : (f : NarrowName) (x : ℕ) (p q : Bool) → x < 2 ^ 32 → p ≡ narrow_outside f Half Byte (x % 65536) → q ≡ narrow_outside f Half Byte (x / 65536) → false ∷ p ∷ false ∷ q ∷ [] ≡ narrow_tests false true f (bytes_of x)
-upper f x p q h d e = (λ j. false ∷ d j ∷ false ∷ e j ∷ []) ∙ (λ j. false ∷ narrow_outside f Half Byte (low x j) ∷ false ∷ narrow_outside f Half Byte (high x h j) ∷ [])
+upper : (f : NarrowName) (x : ℕ) (p q : Bool) → x < 2 ^ 32 → p ≡ narrow_outside f Half Byte (x % 65536) → q ≡ narrow_outside f Half Byte (x / 65536)
+    → false ∷ p ∷ false ∷ q ∷ [] ≡ narrow_tests false true f (bytes_of x)
+upper f x p q h d e = (λ j. false ∷ d j ∷ false ∷ e j ∷ [])
+    ∙ (λ j. false ∷ narrow_outside f Half Byte (low x j) ∷ false ∷ narrow_outside f Half Byte (high x h j) ∷ [])
 
 pub returns-then-top-2 : goal.returns-then-top-2
 returns-then-top-2 c =

@@ -14,6 +14,7 @@ loop-byte-preserved c =
     record {
       next = omega arith;
       put = sym (put_more bytes cells k c.loop-byte.next c.loop-byte-test.true
-          ∙ ap (λ (b : Bool). cond b (put_in (c.loop-byte.next + 1) (drop (k + 1) bytes) (set cells c.loop-byte.next (Some (get_or bytes k 0)))) None) free) ∙ c.loop-byte.invariant.put;
+          ∙ ap (λ (b : Bool). cond b (put_in (c.loop-byte.next + 1) (drop (k + 1) bytes) (set cells c.loop-byte.next (Some (get_or bytes k 0)))) None) free)
+          ∙ c.loop-byte.invariant.put;
       size = length-set cells c.loop-byte.next (Some (get_or bytes k 0)) ∙ c.loop-byte.invariant.size;
     }

@@ -14,7 +14,8 @@ loop-at-preserved-then-is_none c =
     record {
       within = omega (arith, c.loop-at-test.true);
       added = ap (λ (ss : List Segment). c.loop-at.image ++ ss) (sym (runs_skip c.args.start at cells c.loop-at-test.true none)) ∙ c.loop-at.invariant.added;
-      behind = All-weaker (λ (s : Segment). s.addr + length s.bytes ≤ c.args.start + at) (λ (s : Segment). s.addr + length s.bytes ≤ c.args.start + (at + 1)) (λ s h. omega arith) c.loop-at.image c.loop-at.invariant.behind;
+      behind = All-weaker (λ (s : Segment). s.addr + length s.bytes ≤ c.args.start + at) (λ (s : Segment). s.addr + length s.bytes ≤ c.args.start + (at + 1))
+          (λ s h. omega arith) c.loop-at.image c.loop-at.invariant.behind;
     }
 
 pub add_behind-requires-clause-placed : goal.add_behind-requires-clause-placed
@@ -26,7 +27,8 @@ add_behind-requires-clause-placed c =
     let bytes : c.in_ok-bytes.bytes.items ≡ front_of (drop at cells) = c.in_ok-bytes.ensures.bytes ∙ ap front_of (take_rest cells at) in
     let count : length c.in_ok-bytes.bytes.items ≡ length (front_of (drop at cells)) = ap length bytes in
     let within = run.within in
-    in_area c.args.start (c.args.start + at) (length (front_of (drop at cells))) (c.args.start + length cells) c.in_ok-bytes.bytes.items c.requires.area (omega arith) (omega arith) count run.some
+    in_area c.args.start (c.args.start + at) (length (front_of (drop at cells))) (c.args.start + length cells) c.in_ok-bytes.bytes.items c.requires.area
+    (omega arith) (omega arith) count run.some
 
 pub loop-at-smaller : goal.loop-at-smaller
 loop-at-smaller c =
@@ -49,12 +51,16 @@ loop-at-preserved c =
     let bytes : c.in_ok-bytes.bytes.items ≡ front_of (drop at cells) = c.in_ok-bytes.ensures.bytes ∙ ap front_of (take_rest cells at) in
     let n = length (front_of (drop at cells)) in
     let count : c.len-count.result ≡ n = search (rules, bytes) in
-    let image : c.add_behind.new.image ≡ c.loop-at.image ++ segment (c.args.start + at) (front_of (drop at cells)) ∷ [] = c.in_ok-add_behind.ensures.added ∙ ap (λ (b : List ℕ). c.loop-at.image ++ segment (c.args.start + at) b ∷ []) bytes in
-    let next = at_next c.args.start at n c.len-count.result cells c.loop-at.image c.add_behind.new.image (c.args.image.now ++ runs c.args.start cells) (front_of (drop at cells)) count image refl run.within run.first
+    let image : c.add_behind.new.image ≡ c.loop-at.image ++ segment (c.args.start + at) (front_of (drop at cells)) ∷ [] = c.in_ok-add_behind.ensures.added
+    ∙ ap (λ (b : List ℕ). c.loop-at.image ++ segment (c.args.start + at) b ∷ []) bytes in
+    let next = at_next c.args.start at n c.len-count.result cells c.loop-at.image c.add_behind.new.image (c.args.image.now ++ runs c.args.start cells)
+    (front_of (drop at cells)) count image refl run.within run.first
     (record { within = c.loop-at.invariant.within; added = c.loop-at.invariant.added; behind = c.loop-at.invariant.behind }) in
     record { within = next.within; added = next.added; behind = next.behind }
 
 pub returns-clause-added : goal.returns-clause-added
 returns-clause-added c =
     let none : drop c.loop-at.at c.args.cells.now ≡ [] = drop_all c.loop-at.at c.args.cells.now c.loop-at-test.false in
-    sym (append-nil c.loop-at.image) ∙ ap (λ (ss : List Segment). c.loop-at.image ++ ss) (sym (ap (runs (c.args.start + c.loop-at.at)) none ∙ runs_nil (c.args.start + c.loop-at.at))) ∙ c.loop-at.invariant.added
+    sym (append-nil c.loop-at.image)
+    ∙ ap (λ (ss : List Segment). c.loop-at.image ++ ss) (sym (ap (runs (c.args.start + c.loop-at.at)) none ∙ runs_nil (c.args.start + c.loop-at.at)))
+    ∙ c.loop-at.invariant.added

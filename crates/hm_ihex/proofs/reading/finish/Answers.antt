@@ -10,4 +10,7 @@ returns-then-not-is_empty c = record { value = line_follows c.args.number (cells
 pub returns-in-Ok : goal.returns-in-Ok
 returns-in-Ok c =
     let none : length c.args.rest.now ≡ 0 = search rules in
-    record { value = nothing_follows c.args.number (cells_of c.args.areas.now) c.args.rest.now none ∙ ap (λ (i : List Segment). Ok i) (sym c.in-Ok.ensures.image) }
+    record {
+      value = nothing_follows c.args.number (cells_of c.args.areas.now) c.args.rest.now none
+          ∙ ap (λ (i : List Segment). Ok i) (sym c.in-Ok.ensures.image);
+    }

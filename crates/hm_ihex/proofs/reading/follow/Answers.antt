@@ -10,4 +10,5 @@ returns-in-Some-read_record-clause-next c =
     let bytes : Some c.in-Ok-Some.bytes.items ≡ bytes_in c.in-Some.digits.now = search rules in
     let said : Some (record_meant c.in-Some-read_record.record) ≡ record_in c.in-Ok-Some.bytes.items = search rules in
     let is = line_of c.args.line.now c.in-Some.digits.now c.in-Ok-Some.bytes.items (record_meant c.in-Some-read_record.record) line bytes said in
-    subst (λ (said : Option Record). IsNext c.args.number (reading_of c.args.state.now) (reading_of c.take_in.new.state) said c.take_in.result) (sym is) (c.take_in.ensures.next c.args.number)
+    subst (λ (said : Option Record). IsNext c.args.number (reading_of c.args.state.now) (reading_of c.take_in.new.state) said c.take_in.result) (sym is)
+    (c.take_in.ensures.next c.args.number)

@@ -9,4 +9,5 @@ pub returns-clause-found : goal.returns-clause-found
 returns-clause-found c = is_found c.args.bytes.now c.read_lines.result c.read_lines.ensures.exact
 
 pub returns-clause-only : goal.returns-clause-only
-returns-clause-only c = λ image is. subst (λ (r : Result (List Segment) ImageErr). Gives c.read_lines.result r) (hex_only c.args.bytes.now image is) c.read_lines.ensures.exact
+returns-clause-only c = λ image is. subst (λ (r : Result (List Segment) ImageErr). Gives c.read_lines.result r) (hex_only c.args.bytes.now image is)
+    c.read_lines.ensures.exact

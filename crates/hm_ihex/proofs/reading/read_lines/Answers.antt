@@ -12,20 +12,23 @@ use Rattle.hm_ihex.proofs.reading.read_lines.Goals as goal
 pub returns-in-Ok-End : goal.returns-in-Ok-End
 returns-in-Ok-End c =
     let ended : c.follow.result ≡ Ok End = c.in-Ok-End.is ∙ ap (λ (n : Next). Ok n) c.in-Ok-End.field-0-is in
-    let read = by_end c.loop-rest.number (reading_of c.loop-rest.state) (reading_of c.follow.new.state) c.first_line.result.line.now (all_lines (lines_of c.first_line.result.rest.now)) c.follow.result c.follow.ensures.next ended in
+    let read = by_end c.loop-rest.number (reading_of c.loop-rest.state) (reading_of c.follow.new.state) c.first_line.result.line.now
+    (all_lines (lines_of c.first_line.result.rest.now)) c.follow.result c.follow.ensures.next ended in
     let whole = sym c.loop-rest.invariant.read ∙ ap (lines_in c.loop-rest.number (reading_of c.loop-rest.state)) c.first_line.ensures.lines ∙ read in
     record { exact = subst (λ (r : Result (List Segment) ImageErr). Gives c.finish.result r) (sym whole) c.finish.ensures.value }
 
 pub returns-in-Err : goal.returns-in-Err
 returns-in-Err c =
-    let fails = by_err c.loop-rest.number (reading_of c.loop-rest.state) (reading_of c.follow.new.state) c.first_line.result.line.now (all_lines (lines_of c.first_line.result.rest.now)) c.in-Err.e c.follow.result c.follow.ensures.next c.in-Err.is in
+    let fails = by_err c.loop-rest.number (reading_of c.loop-rest.state) (reading_of c.follow.new.state) c.first_line.result.line.now
+    (all_lines (lines_of c.first_line.result.rest.now)) c.in-Err.e c.follow.result c.follow.ensures.next c.in-Err.is in
     let whole = sym c.loop-rest.invariant.read ∙ ap (lines_in c.loop-rest.number (reading_of c.loop-rest.state)) c.first_line.ensures.lines in
     record { exact = subst (λ (r : Result (List Segment) ImageErr). Fails c.in-Err.e r) (sym whole) fails }
 
 pub loop-rest-preserved : goal.loop-rest-preserved
 loop-rest-preserved c =
     let more : c.follow.result ≡ Ok More = c.in-Ok-More.is ∙ ap (λ (n : Next). Ok n) c.in-Ok-More.field-0-is in
-    let read = by_more c.loop-rest.number (reading_of c.loop-rest.state) (reading_of c.follow.new.state) c.first_line.result.line.now (all_lines (lines_of c.first_line.result.rest.now)) c.follow.result c.follow.ensures.next more in
+    let read = by_more c.loop-rest.number (reading_of c.loop-rest.state) (reading_of c.follow.new.state) c.first_line.result.line.now
+    (all_lines (lines_of c.first_line.result.rest.now)) c.follow.result c.follow.ensures.next more in
     let few = c.loop-rest.invariant.few in
     let count = c.loop-rest.invariant.count in
     let shorter = c.first_line.ensures.shorter in

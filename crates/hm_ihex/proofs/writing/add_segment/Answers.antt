@@ -11,7 +11,8 @@ loop-at-preserved c =
     let start = c.args.address + at in
     let end = c.piece_end-end.result in
     let h : ((at + room_at start ≤ length bytes) × (end ≡ at + room_at start)) ⊎ ((length bytes < at + room_at start) × (end ≡ length bytes))
-    = subst (λ (r : ℕ). ((at + r ≤ length bytes) × (end ≡ at + r)) ⊎ ((length bytes < at + r) × (end ≡ length bytes))) c.room_at.ensures.value c.piece_end-end.ensures.end in
+    = subst (λ (r : ℕ). ((at + r ≤ length bytes) × (end ≡ at + r)) ⊎ ((length bytes < at + r) × (end ≡ length bytes))) c.room_at.ensures.value
+    c.piece_end-end.ensures.end in
     let piece = piece_at c.args.address at end bytes c.loop-at-test.true h in
     record {
       within = c.piece_end-end.ensures.last;
@@ -23,6 +24,7 @@ loop-at-preserved c =
 
 pub returns : goal.returns
 returns c = record {
-  added = λ rest. no_piece c.loop-at.out.items c.loop-at.upper (length c.args.bytes.now - c.loop-at.at) c.args.address c.loop-at.at c.args.bytes.now rest _ c.loop-at-test.false (c.loop-at.invariant.added rest);
+  added = λ rest. no_piece c.loop-at.out.items c.loop-at.upper (length c.args.bytes.now - c.loop-at.at) c.args.address c.loop-at.at c.args.bytes.now rest _
+      c.loop-at-test.false (c.loop-at.invariant.added rest);
   bytes = bytes_from c.args.bytes.now c.loop-at.invariant.bytes;
 }

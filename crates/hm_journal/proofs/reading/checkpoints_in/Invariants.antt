@@ -5,4 +5,5 @@ use Rattle.hm_journal.specs.Views.{checkpoint_of}
 use Rattle.hm_journal.proofs.reading.checkpoints_in.Given as goal
 
 abbrev pub invariant-loop-value : goal.invariant-loop-value
-invariant-loop-value l = (xs : List ReportAt) → AreSmall xs → map view l.values ≡ map checkpoint_data xs → map checkpoint_of l.checkpoints.items ≡ take l.value-index xs
+invariant-loop-value l = (xs : List ReportAt) → AreSmall xs → map view l.values ≡ map checkpoint_data xs
+    → map checkpoint_of l.checkpoints.items ≡ take l.value-index xs

@@ -17,7 +17,8 @@ returns-in-Some-2-clause-draft c j sound f e =
     = c.in-Some-values_at.ensures ∙ ap (λ (d : Data). option_and_then as_array (get (codes "checkpoints") d)) e ∙ checkpoints_in j in
     let items : items_view c.in-Some-values_at.values.now.items ≡ items_of (map checkpoint_data j.checkpoints) = cc in
     let did = c.in_ok-checkpoints.ensures j.checkpoints (ticks_fit j sound) (ap (map view) c.deref.ensures.value ∙ items_same _ _ items) in
-    let some : Some (map checkpoint_of c.in-Some-2.checkpoints.items) ≡ Some j.checkpoints = sym (ap (option_map (λ v. map checkpoint_of v.items)) c.in-Some-2.is) ∙ did in
+    let some : Some (map checkpoint_of c.in-Some-2.checkpoints.items) ≡ Some j.checkpoints =
+    sym (ap (option_map (λ v. map checkpoint_of v.items)) c.in-Some-2.is) ∙ did in
     let marks : map checkpoint_of c.in-Some-2.checkpoints.items ≡ j.checkpoints = cc in
     λ i. Some (record { format = sym f i; every = every i; checkpoints = marks i })
 

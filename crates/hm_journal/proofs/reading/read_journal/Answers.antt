@@ -20,7 +20,8 @@ returns-then-ne-clause-refused c = (
       let some : Some (drafted c.in-Some-2.d) ≡ Some j = sym (ap (option_map drafted) c.in-Some-2.is) ∙ did in
       let one : drafted c.in-Some-2.d ≡ j = cc in
       let text = c.in_ok-text.ensures.text (ap has_float is ∙ no_float j) ∙ ap compact_text is ∙ text_is j in
-      let own = c.in_ok-own.ensures.text ∙ ap (λ (l : List Checkpoint). journal_text (journal_with c.in-Some-2.d.format c.in-Some-2.d.every l)) c.deref.ensures.value ∙ ap journal_text one in
+      let own = c.in_ok-own.ensures.text
+      ∙ ap (λ (l : List Checkpoint). journal_text (journal_with c.in-Some-2.d.format c.in-Some-2.d.every l)) c.deref.ensures.value ∙ ap journal_text one in
       let same : c.as_bytes.result.now ≡ c.as_bytes-2.result.now = c.as_bytes.ensures.value ∙ text ∙ sym own ∙ sym c.as_bytes-2.ensures.value in
       search rules,
 )

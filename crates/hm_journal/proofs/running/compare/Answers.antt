@@ -10,14 +10,22 @@ use Rattle.hm_journal.proofs.running.compare.Goals as goal
 
 pub returns-clause-same : goal.returns-clause-same
 returns-clause-same c =
-    subst (λ (j : Journaled). OnOk c.compare_all.result ((image : List Segment) (s : Sched) (listing : Listing) → IsListing (flash_byte image) listing → Tapes image s c.args.tape.now → AreOfRun listing image s j.format j.checkpoints))
+    subst (λ (j : Journaled). OnOk c.compare_all.result
+    ((image : List Segment) (s : Sched) (listing : Listing) → IsListing (flash_byte image) listing → Tapes image s c.args.tape.now
+    → AreOfRun listing image s j.format j.checkpoints))
     c.j.view_is
-    (subst (λ (xs : List ReportAt). OnOk c.compare_all.result ((image : List Segment) (s : Sched) (listing : Listing) → IsListing (flash_byte image) listing → Tapes image s c.args.tape.now → AreOfRun listing image s c.j.inside.format xs))
+    (subst (λ (xs : List ReportAt). OnOk c.compare_all.result
+    ((image : List Segment) (s : Sched) (listing : Listing) → IsListing (flash_byte image) listing → Tapes image s c.args.tape.now
+    → AreOfRun listing image s c.j.inside.format xs))
     (ap (map checkpoint_of) c.deref.ensures.value) c.compare_all.ensures.same)
 
 pub returns-clause-refused : goal.returns-clause-refused
 returns-clause-refused c =
-    subst (λ (j : Journaled). IfErr c.compare_all.result (λ e. (image : List Segment) (s : Sched) (listing : Listing) → IsListing (flash_byte image) listing → Tapes image s c.args.tape.now → IsCompareErr listing image s j.format j.checkpoints e))
+    subst (λ (j : Journaled). IfErr c.compare_all.result
+    (λ e. (image : List Segment) (s : Sched) (listing : Listing) → IsListing (flash_byte image) listing → Tapes image s c.args.tape.now
+    → IsCompareErr listing image s j.format j.checkpoints e))
     c.j.view_is
-    (subst (λ (xs : List ReportAt). IfErr c.compare_all.result (λ e. (image : List Segment) (s : Sched) (listing : Listing) → IsListing (flash_byte image) listing → Tapes image s c.args.tape.now → IsCompareErr listing image s c.j.inside.format xs e))
+    (subst (λ (xs : List ReportAt). IfErr c.compare_all.result
+    (λ e. (image : List Segment) (s : Sched) (listing : Listing) → IsListing (flash_byte image) listing → Tapes image s c.args.tape.now
+    → IsCompareErr listing image s c.j.inside.format xs e))
     (ap (map checkpoint_of) c.deref.ensures.value) c.compare_all.ensures.refused)

@@ -9,7 +9,8 @@ use Rattle.hm_journal.proofs.running.report_at.Goals as goal
 -- a report is ASCII, so it is text
 pub unreachable-requires-in-Err : goal.unreachable-requires-in-Err
 unreachable-requires-in-Err c =
-    let never : false ≡ true = c.in-Err.ensures.succeeds (IsUtf8-from_ascii c.in_ok-bytes.bytes.items (subst IsAscii (sym c.in_ok-bytes.ensures) (report_text_is (timed_of c.in-Ok.machine.now)))) in
+    let never : false ≡ true = c.in-Err.ensures.succeeds
+    (IsUtf8-from_ascii c.in_ok-bytes.bytes.items (subst IsAscii (sym c.in_ok-bytes.ensures) (report_text_is (timed_of c.in-Ok.machine.now)))) in
     absurd cc
 
 pub returns-clause-report : goal.returns-clause-report

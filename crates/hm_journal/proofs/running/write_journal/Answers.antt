@@ -11,7 +11,8 @@ pub returns-clause-reads_back : goal.returns-clause-reads_back
 returns-clause-reads_back c = λ image s listing is tapes most.
     let every = c.args.every in
     let list = ap (map checkpoint_of) c.deref.ensures.value ∙ c.in_ok-checkpoints.ensures.checkpoints image s listing is tapes in
-    let whole : journal_with 2 every c.deref.result.now ≡ journal_of listing image s every = (λ i. record { format = 2; every = every; checkpoints = list i }) in
+    let whole : journal_with 2 every c.deref.result.now ≡ journal_of listing image s every =
+    (λ i. record { format = 2; every = every; checkpoints = list i }) in
     let ticks : c.scheduled.result ≡ length (ticks_of s.lines) = c.scheduled.ensures.value ∙ ap (λ (x : Sched). length (ticks_of x.lines)) tapes.start.plan in
     let few = subst (λ (n : ℕ). n / every + 1 ≤ 64) ticks c.if-scheduled-every-gt64.false in
     file_of c.into_bytes.result.items (string_bytes c.in_ok-text.text) (journal_with 2 every c.deref.result.now) (journal_of listing image s every)

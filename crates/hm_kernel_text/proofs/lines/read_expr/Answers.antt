@@ -8,5 +8,6 @@ unreachable-requires c = is_some_expression 64 (words_behind c.args.text.now) c.
 
 pub returns : goal.returns
 returns c = record {
-  tree = is_expression 64 (words_behind c.args.text.now) (tree_of c.in-Some.tree) (words_behind c.in-Some._rest.now) c.requires.few (seen _ _ _ _ c.in_ok-tree.ensures.value c.in-Some.is);
+  tree = is_expression 64 (words_behind c.args.text.now) (tree_of c.in-Some.tree) (words_behind c.in-Some._rest.now) c.requires.few
+      (seen _ _ _ _ c.in_ok-tree.ensures.value c.in-Some.is);
 }

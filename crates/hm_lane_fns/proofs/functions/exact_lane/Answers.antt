@@ -6,7 +6,8 @@ use Rattle.hm_lane_fns.proofs.functions.exact_lane.Goals as goal
 pub returns-then-shifts : goal.returns-then-shifts
 returns-then-shifts c =
     let fits : FitsSigned w64 c.shift_value.result = search rules in
-    let told : StandsFor c.args.unsigned c.args.z c.shift_value.result (exact_lane c.args.f c.args.unsigned c.args.z c.args.c c.args.a c.args.b) = c.shift_value.ensures c.args.c (search rules) in
+    let told : StandsFor c.args.unsigned c.args.z c.shift_value.result (exact_lane c.args.f c.args.unsigned c.args.z c.args.c c.args.a c.args.b) =
+    c.shift_value.ensures c.args.c (search rules) in
     passed c.args.unsigned c.args.z c.shift_value.result (exact_lane c.args.f c.args.unsigned c.args.z c.args.c c.args.a c.args.b) fits told
 
 pub returns-else-shifts : goal.returns-else-shifts

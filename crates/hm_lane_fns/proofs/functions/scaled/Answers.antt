@@ -1,4 +1,5 @@
-use Rattle.std.proofs.Common.{rules, ◌≡◌, ◌≤◌, ◌<◌, ◌^◌, ℕ, ℤ, pos, negsuc, ◌≤ℤ◌, ◌<ℤ◌, ◌-ℤ◌, ◌*ℤ◌, FitsSigned, w64, to_z, of_z, arith, ap, sym, subst, ◌∙◌, unsigned_abs}
+use Rattle.std.proofs.Common.{rules, ◌≡◌, ◌≤◌, ◌<◌, ◌^◌, ℕ, ℤ, pos, negsuc, ◌≤ℤ◌, ◌<ℤ◌, ◌-ℤ◌, ◌*ℤ◌, FitsSigned, w64, to_z, of_z, arith, ap, sym, subst, ◌∙◌}
+use Rattle.std.proofs.Common.{unsigned_abs}
 use Rattle.std.proofs.lemmas.Int.{fits_signed_mul, ints, to_z-of_z}
 use Rattle.std.proofs.Math.Pow.{pow_mono}
 use Rattle.hm_lane_fns.proofs.functions.scaled.Goals as goal
@@ -23,10 +24,13 @@ pub overflow_mul-result : goal.overflow_mul-result
 overflow_mul-result c =
     let f : FitsSigned w64 c.power.result = search rules in
     subst (λ x. FitsSigned w64 x) (sym (passed_on c.args.v c.power.result c.ranges.v f))
-    (fitting c.args.v c.power.result (small c.args.v c.requires.low c.requires.high) (power_bound c.power.result c.args.k c.requires.short c.power.ensures.value))
+    (fitting c.args.v c.power.result (small c.args.v c.requires.low c.requires.high)
+    (power_bound c.power.result c.args.k c.requires.short c.power.ensures.value))
 
 pub returns : goal.returns
 returns c =
     let f : FitsSigned w64 c.power.result = search rules in
-    let fits = fitting c.args.v c.power.result (small c.args.v c.requires.low c.requires.high) (power_bound c.power.result c.args.k c.requires.short c.power.ensures.value) in
-    ap (λ x. to_z w64 (of_z w64 x)) (passed_on c.args.v c.power.result c.ranges.v f) ∙ to_z-of_z w64 (c.args.v *ℤ c.power.result) fits ∙ ap (λ p. c.args.v *ℤ p) c.power.ensures.value
+    let fits = fitting c.args.v c.power.result (small c.args.v c.requires.low c.requires.high)
+    (power_bound c.power.result c.args.k c.requires.short c.power.ensures.value) in
+    ap (λ x. to_z w64 (of_z w64 x)) (passed_on c.args.v c.power.result c.ranges.v f) ∙ to_z-of_z w64 (c.args.v *ℤ c.power.result) fits
+    ∙ ap (λ p. c.args.v *ℤ p) c.power.ensures.value

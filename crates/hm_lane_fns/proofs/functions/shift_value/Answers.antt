@@ -8,5 +8,7 @@ returns c =
     let f : FitsSigned w64 c.exact_shift.result = search rules in
     let x : FitsSigned w64 c.number-x.result = search rules in
     let y : FitsSigned w64 c.number-y.result = search rules in
-    λ old s. of_numbers c.args.f c.args.unsigned c.takes_unsigned-u.result c.args.z c.exact_shift.result c.number-x.result c.number-y.result old c.args.a c.args.b f x y
-    c.takes_unsigned-u.ensures.value c.number-x.ensures.value c.number-y.ensures.value (c.exact_shift.ensures c.args.unsigned c.args.z (number c.takes_unsigned-u.result c.args.z old) s)
+    λ old s. of_numbers c.args.f c.args.unsigned c.takes_unsigned-u.result c.args.z c.exact_shift.result c.number-x.result c.number-y.result old c.args.a
+    c.args.b f x y
+    c.takes_unsigned-u.ensures.value c.number-x.ensures.value c.number-y.ensures.value
+    (c.exact_shift.ensures c.args.unsigned c.args.z (number c.takes_unsigned-u.result c.args.z old) s)

@@ -8,4 +8,5 @@ pub returns-else-s-lt0 : goal.returns-else-s-lt0
 returns-else-s-lt0 c =
     let f : FitsSigned w64 c.times_power.result = search rules in
     let up : int_lt c.args.s (pos 0) ≡ false = grind (arith, ints) in
-    λ u z. shifted_rounded_up u z c.times_power.result c.args.v c.args.s c.unsigned_abs-k.result f c.ranges.v c.ranges.s c.unsigned_abs-k.ensures.value up (c.times_power.ensures u z)
+    λ u z. shifted_rounded_up u z c.times_power.result c.args.v c.args.s c.unsigned_abs-k.result f c.ranges.v c.ranges.s c.unsigned_abs-k.ensures.value up
+    (c.times_power.ensures u z)

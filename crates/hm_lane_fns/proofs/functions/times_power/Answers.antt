@@ -8,4 +8,5 @@ pub returns-else-k-lt32 : goal.returns-else-k-lt32
 returns-else-k-lt32 c =
     let f : FitsSigned w64 c.scaled_out.result = search rules in
     λ u z. passed u z c.scaled_out.result (c.args.v *ℤ pos (2 ^ c.args.k)) f
-    (subst (λ v. StandsFor u z c.scaled_out.result (v *ℤ pos (2 ^ c.args.k))) (to_z-of_z w64 c.args.v c.ranges.v) (c.scaled_out.ensures u z c.args.k (omega arith)))
+    (subst (λ v. StandsFor u z c.scaled_out.result (v *ℤ pos (2 ^ c.args.k))) (to_z-of_z w64 c.args.v c.ranges.v)
+    (c.scaled_out.ensures u z c.args.k (omega arith)))

@@ -9,14 +9,17 @@ pub loop-left-init : goal.loop-left-init
 loop-left-init c =
     let less = token_shorter c.skip.result.now (tok c.in_ok-_mnemonic._mnemonic, c.in_ok-_mnemonic.behind.now) c.in_ok-_mnemonic.ensures.read in
     record {
-      behind = λ there o. operand_passes c.args.text.now c.skip.result.now c.in_ok-_mnemonic.behind.now there c.args.n (tok c.in_ok-_mnemonic._mnemonic) c.skip.ensures.rest c.in_ok-_mnemonic.ensures.read o;
-      before = λ there p. passes_operand c.args.text.now c.skip.result.now c.in_ok-_mnemonic.behind.now there c.args.n (tok c.in_ok-_mnemonic._mnemonic) c.skip.ensures.rest c.in_ok-_mnemonic.ensures.read p;
+      behind = λ there o. operand_passes c.args.text.now c.skip.result.now c.in_ok-_mnemonic.behind.now there c.args.n (tok c.in_ok-_mnemonic._mnemonic)
+          c.skip.ensures.rest c.in_ok-_mnemonic.ensures.read o;
+      before = λ there p. passes_operand c.args.text.now c.skip.result.now c.in_ok-_mnemonic.behind.now there c.args.n (tok c.in_ok-_mnemonic._mnemonic)
+          c.skip.ensures.rest c.in_ok-_mnemonic.ensures.read p;
       within = omega (arith, less, c.skip.ensures.shorter);
     }
 
 pub returns-in_err-token-clause-only : goal.returns-in_err-token-clause-only
 returns-in_err-token-clause-only c here o =
-    absurd (no_more_passed c.loop-left.left c.loop-left.inside c.loop-left.rest.now c.skip-in-loop-left.result.now here c.loop-left-test.true c.skip-in-loop-left.ensures.rest c.in_err-token.ensures.read (c.loop-left.invariant.behind here o))
+    absurd (no_more_passed c.loop-left.left c.loop-left.inside c.loop-left.rest.now c.skip-in-loop-left.result.now here c.loop-left-test.true
+    c.skip-in-loop-left.ensures.rest c.in_err-token.ensures.read (c.loop-left.invariant.behind here o))
 
 pub loop-left-smaller : goal.loop-left-smaller
 loop-left-smaller c =
@@ -30,11 +33,13 @@ loop-left-preserved c =
     record {
       behind =
           λ there o. rw inside
-          (then_passed c.loop-left.left c.left_behind-left.result c.loop-left.inside c.loop-left.rest.now c.skip-in-loop-left.result.now c.in_ok-token.after.now there (tok c.in_ok-token.token) c.loop-left-test.true c.left_behind-left.ensures.value
+          (then_passed c.loop-left.left c.left_behind-left.result c.loop-left.inside c.loop-left.rest.now c.skip-in-loop-left.result.now c.in_ok-token.after.now
+          there (tok c.in_ok-token.token) c.loop-left-test.true c.left_behind-left.ensures.value
           c.skip-in-loop-left.ensures.rest c.in_ok-token.ensures.read (c.loop-left.invariant.behind there o));
       before =
           λ there p. c.loop-left.invariant.before there
-          (before_passed c.loop-left.left c.left_behind-left.result c.loop-left.inside c.loop-left.rest.now c.skip-in-loop-left.result.now c.in_ok-token.after.now there (tok c.in_ok-token.token) c.loop-left-test.true c.left_behind-left.ensures.value
+          (before_passed c.loop-left.left c.left_behind-left.result c.loop-left.inside c.loop-left.rest.now c.skip-in-loop-left.result.now
+          c.in_ok-token.after.now there (tok c.in_ok-token.token) c.loop-left-test.true c.left_behind-left.ensures.value
           c.skip-in-loop-left.ensures.rest c.in_ok-token.ensures.read (rw inside at p));
       within = omega (arith, less, c.skip-in-loop-left.ensures.shorter, c.loop-left.invariant.within);
     }
@@ -42,8 +47,12 @@ loop-left-preserved c =
 pub returns-clause-found : goal.returns-clause-found
 returns-clause-found c =
     let none : c.loop-left.left ≡ 0 = omega arith in
-    let here = here_passed c.loop-left.inside c.loop-left.rest.now in
-    (c.loop-left.rest.now, c.loop-left.invariant.before c.loop-left.rest.now (rw none here), c.column.ensures.value ∙ ap (column c.args.text.now) c.skip-2.ensures.rest)
+    let here = here_passed c.loop-left.inside c.loop-left.rest.now in (
+      c.loop-left.rest.now,
+      c.loop-left.invariant.before c.loop-left.rest.now (rw none here),
+      c.column.ensures.value
+          ∙ ap (column c.args.text.now) c.skip-2.ensures.rest,
+    )
 
 pub returns-clause-only : goal.returns-clause-only
 returns-clause-only c there o =

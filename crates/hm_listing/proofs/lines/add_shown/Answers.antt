@@ -9,7 +9,8 @@ returns c = record {
   added =
       let code = ap (λ (first : ℕ). halves_from first c.second_of.result) c.half_of.ensures.value ∙ c.second_of.ensures.code in
       subst
-      (λ (hs : List ℕ). IfOk c.instr_line.result (λ _. c.instr_line.new.out.items ≡ c.args.out.now.items ++ listing_line c.args.at hs (printed_text c.args.i.now c.args.at)))
+      (λ (hs : List ℕ). IfOk c.instr_line.result
+      (λ _. c.instr_line.new.out.items ≡ c.args.out.now.items ++ listing_line c.args.at hs (printed_text c.args.i.now c.args.at)))
       code
       c.instr_line.ensures.added;
 }

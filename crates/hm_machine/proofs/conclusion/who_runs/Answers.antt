@@ -5,7 +5,8 @@ use Rattle.hm_machine.specs.Cpus.{nested_of}
 use Rattle.hm_machine.proofs.conclusion.who_runs.Goals as goal
 
 pub returns-then-is_empty : goal.returns-then-is_empty
-returns-then-is_empty c = record { value = who_thread (nested_of c.args.x.now).acts (none_active c.args.x.now (is_none _ _ c.is_empty.ensures c.if-is_empty.true)) }
+returns-then-is_empty c = record
+    { value = who_thread (nested_of c.args.x.now).acts (none_active c.args.x.now (is_none _ _ c.is_empty.ensures c.if-is_empty.true)) }
 
 pub returns-else-is_empty : goal.returns-else-is_empty
 returns-else-is_empty c =

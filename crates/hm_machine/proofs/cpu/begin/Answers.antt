@@ -5,7 +5,8 @@ use Rattle.hm_machine.proofs.cpu.begin.Goals as goal
 pub returns-in-Some-clause-value : goal.returns-in-Some-clause-value
 returns-in-Some-clause-value c listing m output =
     let first : c.args.done ≡ 0 = omega (arith, c.if-done-gt0.false) in
-    begins_first listing m.around c.args.v.now c.args.done _ _ _ first (context_made c.args.regs.now _ m output c.context.ensures) (sym (c.refuse.ensures.value m output) ∙ c.in-Some.is)
+    begins_first listing m.around c.args.v.now c.args.done _ _ _ first (context_made c.args.regs.now _ m output c.context.ensures)
+    (sym (c.refuse.ensures.value m output) ∙ c.in-Some.is)
 
 pub returns-in-Some-clause-refused : goal.returns-in-Some-clause-refused
 returns-in-Some-clause-refused c m output =
@@ -15,7 +16,8 @@ returns-in-Some-clause-refused c m output =
 pub returns-in-None-clause-value : goal.returns-in-None-clause-value
 returns-in-None-clause-value c listing m output =
     let first : c.args.done ≡ 0 = omega (arith, c.if-done-gt0.false) in
-    begins_first listing m.around c.args.v.now c.args.done _ _ _ first (context_made c.args.regs.now _ m output c.context.ensures) (sym (c.refuse.ensures.value m output) ∙ c.in-None.is)
+    begins_first listing m.around c.args.v.now c.args.done _ _ _ first (context_made c.args.regs.now _ m output c.context.ensures)
+    (sym (c.refuse.ensures.value m output) ∙ c.in-None.is)
 
 pub returns-in-Some-clause-made : goal.returns-in-Some-clause-made
 returns-in-Some-clause-made c m output first = context_made c.args.regs.now _ m output c.context.ensures

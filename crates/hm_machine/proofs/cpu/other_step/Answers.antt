@@ -27,7 +27,8 @@ returns-in-Some-clause-value c listing here =
     let y = c.breakpoint.new.x in
     ap (λ (z : Cpu). Ok (config_of z)) c.retire.ensures.new
     ∙ (λ j. Ok (record { a = 0; b = 0; n = kept.retired j + 1; steps = kept.steps j + 1; state = state_in y }))
-    ∙ other_done listing x c.args.i.now here c.requires.row (state_in y) (by_break listing x c.args.i.now here c.requires.row c.in-Some.k (sym c.in-Some.is ∙ c.break_of.ensures.value) ∙ sym did.value)
+    ∙ other_done listing x c.args.i.now here c.requires.row (state_in y)
+    (by_break listing x c.args.i.now here c.requires.row c.in-Some.k (sym c.in-Some.is ∙ c.break_of.ensures.value) ∙ sym did.value)
 
 pub returns-in_err-execute_in_thread-clause-value : goal.returns-in_err-execute_in_thread-clause-value
 returns-in_err-execute_in_thread-clause-value c listing here =
@@ -37,7 +38,8 @@ returns-in_err-execute_in_thread-clause-value c listing here =
     let same : c.from_residual-in_err-execute_in_thread.result ≡ Err cause = answered.1 ∙ ap Err answered.2 in
     let did = c.in_err-execute_in_thread.ensures in
     ap (λ (q : Result Unit Cause). reached q (record x { regs = c.execute_in_thread.new.regs; mem = c.execute_in_thread.new.mem })) same
-    ∙ other_stops listing x c.args.i.now here c.requires.row cause c.execute_in_thread.new.regs (memory_of c.execute_in_thread.new.mem) did.range did.counted c.requires.position.2
+    ∙ other_stops listing x c.args.i.now here c.requires.row cause c.execute_in_thread.new.regs (memory_of c.execute_in_thread.new.mem) did.range did.counted
+    c.requires.position.2
     (sym c.in_default.is ∙ c.break_of.ensures.value) (did.value x.output.items) did.stopped.0 did.stopped.1
 
 pub returns-clause-value : goal.returns-clause-value
@@ -45,4 +47,5 @@ returns-clause-value c listing here =
     let x = c.args.x.now in
     ap (λ (z : Cpu). Ok (config_of z)) c.retire-2.ensures.new
     ∙ other_done listing x c.args.i.now here c.requires.row _
-    (by_none listing x c.args.i.now here c.requires.row (sym c.in_default.is ∙ c.break_of.ensures.value) ∙ sym (c.in_ok-execute_in_thread.ensures.value x.output.items))
+    (by_none listing x c.args.i.now here c.requires.row (sym c.in_default.is ∙ c.break_of.ensures.value)
+    ∙ sym (c.in_ok-execute_in_thread.ensures.value x.output.items))

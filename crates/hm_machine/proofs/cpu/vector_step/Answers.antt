@@ -28,7 +28,8 @@ returns-in_err-beat-clause-value c listing row =
     let same : c.from_residual-in_err-beat.result ≡ Err cause = answered.1 ∙ ap Err answered.2 in
     let still = c.in_err-beat.ensures.stopped in
     ap (λ (q : Result Unit Cause). reached q (record x { regs = c.beat.new.regs; mem = c.beat.new.mem })) same
-    ∙ (λ j. Err (order.Stopped (record { a = x.window.a; b = x.window.b; n = x.retired; steps = x.older_steps; state = state_of (still.0 j) (still.1 j) x.output.items }) cause))
+    ∙ (λ j. Err (order.Stopped (record
+    { a = x.window.a; b = x.window.b; n = x.retired; steps = x.older_steps; state = state_of (still.0 j) (still.1 j) x.output.items }) cause))
     ∙ row_stops listing x c.args.v.now _ cause row (c.in_ok-begin.ensures.made m x.output.items)
     (λ some. ap (λ (r : Regs). state_of r m x.output.items) (c.in_ok-begin.ensures.later some))
     (c.in_ok-begin.ensures.value listing m x.output.items) (c.in_err-beat.ensures.value x.output.items)
@@ -36,7 +37,8 @@ returns-in_err-beat-clause-value c listing row =
 pub settle-requires-clause-pc : goal.settle-requires-clause-pc
 settle-requires-clause-pc c =
     let x = c.args.x.now in
-    let stays = beat_stays c.args.v.now x.window.a c.begin.new.regs c.beat.new.regs (memory_of x.mem) (memory_of c.beat.new.mem) x.output.items (c.in_ok-beat.ensures.value x.output.items) in
+    let stays = beat_stays c.args.v.now x.window.a c.begin.new.regs c.beat.new.regs (memory_of x.mem) (memory_of c.beat.new.mem) x.output.items
+    (c.in_ok-beat.ensures.value x.output.items) in
     omega (arith, stays, c.in_ok-begin.ensures.pc, c.requires.pc)
 
 pub returns-clause-value : goal.returns-clause-value

@@ -13,7 +13,8 @@ pub returns-then-cursor-lines-clause-left : goal.returns-then-cursor-lines-claus
 returns-then-cursor-lines-clause-left c =
     ap (λ (k : ℕ). left_in (drop k c.args.schedule.now.lines) 0) (add-one c.args.cursor.line)
     ∙ left_new (drop (suc c.args.cursor.line) c.args.schedule.now.lines)
-    ∙ sym (c.line_at.ensures.others ∙ used_up c.args.schedule.now.lines c.args.cursor.line c.args.cursor.used (line_of c.line_at.result.now) c.if-cursor-count.false)
+    ∙ sym (c.line_at.ensures.others
+    ∙ used_up c.args.schedule.now.lines c.args.cursor.line c.args.cursor.used (line_of c.line_at.result.now) c.if-cursor-count.false)
 
 pub returns-then-cursor-lines-clause-stands : goal.returns-then-cursor-lines-clause-stands
 returns-then-cursor-lines-clause-stands c =

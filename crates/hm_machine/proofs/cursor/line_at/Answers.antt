@@ -9,10 +9,12 @@ returns-clause-first c =
     e ∙ ap (λ (rest : List TickLine). line_of c.line.result.now ∷ rest) (sym (ap (drop 1) e))
 
 pub returns-clause-others : goal.returns-clause-others
-returns-clause-others c = ap (drop 1) (line_first c.args.schedule.now.lines c.args.cursor.line c.args.cursor.used (line_of c.line.result.now) c.requires c.line.ensures.value)
+returns-clause-others c = ap (drop 1)
+    (line_first c.args.schedule.now.lines c.args.cursor.line c.args.cursor.used (line_of c.line.result.now) c.requires c.line.ensures.value)
 
 pub returns-clause-some : goal.returns-clause-some
 returns-clause-some c = line_used c.args.schedule.now.lines c.args.cursor.line c.args.cursor.used (line_of c.line.result.now) c.requires c.line.ensures.value
 
 pub returns-clause-few : goal.returns-clause-few
-returns-clause-few c = (all_at (IsLine (most_irq c.args.schedule.now.format)) c.args.schedule.now.lines c.args.cursor.line (line_of c.line.result.now) c.lines-known.ensures.sound.each_line c.line.ensures.value).few
+returns-clause-few c = (all_at (IsLine (most_irq c.args.schedule.now.format)) c.args.schedule.now.lines c.args.cursor.line (line_of c.line.result.now)
+    c.lines-known.ensures.sound.each_line c.line.ensures.value).few

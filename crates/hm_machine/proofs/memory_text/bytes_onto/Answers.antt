@@ -9,5 +9,6 @@ loop-k-init c = listed_first c.args.out.now.items (λ (j : ℕ). byte_at (memory
 
 pub loop-k-preserved : goal.loop-k-preserved
 loop-k-preserved c =
-    listed_more c.args.out.now.items c.loop-k.out.items c.push.new.self.items c.loop-k.k c.sram_byte.result (λ (j : ℕ). byte_at (memory_of c.args.mem.now) (sram_start + j))
+    listed_more c.args.out.now.items c.loop-k.out.items c.push.new.self.items c.loop-k.k c.sram_byte.result
+    (λ (j : ℕ). byte_at (memory_of c.args.mem.now) (sram_start + j))
     c.loop-k.invariant c.sram_byte.ensures c.in_ok-push.ensures.items

@@ -24,7 +24,8 @@ returns-in-len1-up-clause-same t c others h =
     let all = stores_in (vector_tree c.args.v.now m.around 2) c.args.regs.now m [] in
     let none : c.args.len ≡ 0 = omega (arith, c.if-len-gt0.false) in
     c.tried.ensures.same others
-    (subst (λ (l : List ℕ). HoldsAll all (others ++ l)) (first_span c.args.rest.now _ c.in-len1-up.len_at_least) (next_held all others (spanned c.args.rest.now) c.args.addr c.args.len none h))
+    (subst (λ (l : List ℕ). HoldsAll all (others ++ l)) (first_span c.args.rest.now _ c.in-len1-up.len_at_least)
+    (next_held all others (spanned c.args.rest.now) c.args.addr c.args.len none h))
 
 pub returns-in-empty-clause-same : goal.returns-in-empty-clause-same
 returns-in-empty-clause-same t c others h =
@@ -35,4 +36,5 @@ returns-in-empty-clause-same t c others h =
     let size : length c.args.rest.now ≡ 0 = omega (arith, short) in
     let empty : c.args.rest.now ≡ [] = nil_from_length c.args.rest.now size in
     same_but all others m (memory_of c.goes.new.mem) c.goes.ensures.same
-    (all_held all others (subst (λ (l : List Span). HoldsAll all (others ++ spanned l)) empty (next_held all others (spanned c.args.rest.now) c.args.addr c.args.len none h)))
+    (all_held all others (subst (λ (l : List Span). HoldsAll all (others ++ spanned l)) empty
+    (next_held all others (spanned c.args.rest.now) c.args.addr c.args.len none h)))

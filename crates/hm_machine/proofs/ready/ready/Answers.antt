@@ -24,5 +24,7 @@ returns-clause-same c =
     let stores : spanned c.touch-touch.result.stores.items ≡ stores_in (vector_tree c.in-Some.v m.around 2) c.args.regs.now m [] =
     c.touch-touch.ensures.stores m []
     ∙ (λ j. stores_in (vector_tree (c.any-row.ensures.row j) m.around 2) c.args.regs.now m []) in
-    c.undone_law.ensures m (memory_of c.tried-result.new.mem) (c.sized-2.ensures.sram ∙ sym c.sized.ensures.sram) (c.sized-2.ensures.taint ∙ sym c.sized.ensures.taint) c.sized.ensures.sram c.sized.ensures.taint
-    (c.tried-result.ensures.same [] (subst (λ (l : List ℕ). HoldsAll l (spanned c.as_slice.result.now)) (ap spanned c.as_slice.ensures.value ∙ stores) (λ a h. h)))
+    c.undone_law.ensures m (memory_of c.tried-result.new.mem) (c.sized-2.ensures.sram ∙ sym c.sized.ensures.sram)
+    (c.sized-2.ensures.taint ∙ sym c.sized.ensures.taint) c.sized.ensures.sram c.sized.ensures.taint
+    (c.tried-result.ensures.same []
+    (subst (λ (l : List ℕ). HoldsAll l (spanned c.as_slice.result.now)) (ap spanned c.as_slice.ensures.value ∙ stores) (λ a h. h)))

@@ -12,7 +12,10 @@ pub back-requires : goal.back-requires
 back-requires c =
     let near = c.nearest-near.ensures.below in
     let len = c.len.ensures in
-    record { kept = (c.requires.kept c.nearest-near.result c.index-checkpoint.result.now (found c.args.kept.now.items c.nearest-near.result c.index-checkpoint.result.now (omega (arith, near, len)) c.index-checkpoint.ensures)).1 }
+    record {
+      kept = (c.requires.kept c.nearest-near.result c.index-checkpoint.result.now
+          (found c.args.kept.now.items c.nearest-near.result c.index-checkpoint.result.now (omega (arith, near, len)) c.index-checkpoint.ensures)).1;
+    }
 
 pub returns-clause-shows : goal.returns-clause-shows
 returns-clause-shows c start lie at image s h =
@@ -20,7 +23,9 @@ returns-clause-shows c start lie at image s h =
     let before = c.nearest-near.ensures.before in
     let len = c.len.ensures in
     let from = c.nearest-near.result * c.args.apart in
-    let there = lie c.nearest-near.result c.index-checkpoint.result.now (found c.args.kept.now.items c.nearest-near.result c.index-checkpoint.result.now (omega (arith, near, len)) c.index-checkpoint.ensures) image s h in
-    let back : Shows image s (c.nearest-near.result * c.args.apart) c.back.new.self = subst (λ (m : Shown). Shows image s (c.nearest-near.result * c.args.apart) m) (sym c.back.ensures.shows) there in
+    let there = lie c.nearest-near.result c.index-checkpoint.result.now
+    (found c.args.kept.now.items c.nearest-near.result c.index-checkpoint.result.now (omega (arith, near, len)) c.index-checkpoint.ensures) image s h in
+    let back : Shows image s (c.nearest-near.result * c.args.apart) c.back.new.self =
+    subst (λ (m : Shown). Shows image s (c.nearest-near.result * c.args.apart) m) (sym c.back.ensures.shows) there in
     let sum : c.nearest-near.result * c.args.apart + (c.args.tick - c.nearest-near.result * c.args.apart) ≡ c.args.tick = omega (arith, before) in
     subst (λ (u : ℕ). Shows image s u c.pass-2.new.machine) sum (c.pass-2.ensures.shows image s (c.nearest-near.result * c.args.apart) back)

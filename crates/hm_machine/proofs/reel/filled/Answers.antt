@@ -1,6 +1,7 @@
 use Rattle.std.proofs.Common.{◌≡◌, ℕ, ◌+◌, ◌-◌, ◌*◌, ◌<◌, ◌≤◌, [], ◌∷◌, List, ap, arith, inr, length, refl, sym, ◌∙◌, subst, take}
 use Rattle.hm_machine.proofs.Counts.{ended_before, shows_more}
-use Rattle.hm_machine.proofs.Reels.{first_pushed, first_still, kept_still, lie_still, long_pushed, more_apart, new_kept, new_machine, one_less, only_one, pushed, shows_output}
+use Rattle.hm_machine.proofs.Reels.{first_pushed, first_still, kept_still, lie_still, long_pushed, more_apart, new_kept, new_machine, one_less, only_one}
+use Rattle.hm_machine.proofs.Reels.{pushed, shows_output}
 use Rattle.hm_machine.specs.Checkpoints.{IsKept}
 use Rattle.hm_machine.specs.Shown.{Shows, fixed_of}
 use Rattle.hm_machine.specs.Tapes.{AreApart, AreKept, ShowsTick, first_of, machine_at}
@@ -19,10 +20,12 @@ loop-k-init c =
       many = ap length items;
       first = ap (λ (l : List Checkpoint). first_of l m.output m) items ∙ new_machine x m did.written did.shows;
       kept = subst (AreKept (fixed_of m) m.output) (sym items)
-          (pushed (λ (k : ℕ) (y : Checkpoint). (y.written ≤ length m.output) × IsKept y (fixed_of m) (take y.written m.output)) [] x (λ k y e. absurd cc) (new_kept x m did.written did.kept));
+          (pushed (λ (k : ℕ) (y : Checkpoint). (y.written ≤ length m.output) × IsKept y (fixed_of m) (take y.written m.output)) [] x (λ k y e. absurd cc)
+          (new_kept x m did.written did.kept));
       lie = subst (AreApart m (fixed_of m) m.output c.args.apart) (sym items)
           (pushed (λ (k : ℕ) (y : Checkpoint). ShowsTick m (k * c.args.apart) (machine_at (fixed_of m) m.output y)) [] x (λ k y e. absurd cc)
-          (λ image s h. subst (λ (u : ℕ). Shows image s u (machine_at (fixed_of m) m.output x)) (sym none) (subst (Shows image s 0) (sym (new_machine x m did.written did.shows)) h)));
+          (λ image s h. subst (λ (u : ℕ). Shows image s u (machine_at (fixed_of m) m.output x)) (sym none)
+          (subst (Shows image s 0) (sym (new_machine x m did.written did.shows)) h)));
       shows = λ image s h. h;
       fixed = refl;
       reached = omega arith;
@@ -112,7 +115,8 @@ returns-then-ticks-reached-clause-lie c =
     lie_still (fixed_of m) (fixed_of n) m.output n.output c.pass.ensures.fixed more c.args.machine.now c.args.apart c.loop-k.kept.items before.kept before.lie
 
 pub returns-then-ticks-reached-clause-goes_on : goal.returns-then-ticks-reached-clause-goes_on
-returns-then-ticks-reached-clause-goes_on c image s h = (c.loop-k.reached + c.args.apart, c.pass.ensures.shows image s c.loop-k.reached (c.loop-k.invariant.shows image s h))
+returns-then-ticks-reached-clause-goes_on c image s h =
+    (c.loop-k.reached + c.args.apart, c.pass.ensures.shows image s c.loop-k.reached (c.loop-k.invariant.shows image s h))
 
 pub returns-then-ticks-reached-clause-reached : goal.returns-then-ticks-reached-clause-reached
 returns-then-ticks-reached-clause-reached c =
@@ -139,7 +143,11 @@ returns-then-ticks-reached-clause-all c =
     let less : c.pass.new.machine.ticks < c.loop-k.reached + c.args.apart = omega (arith, ticks, are) in
     let is : c.loop-k.reached + c.args.apart ≡ length c.loop-k.kept.items * c.args.apart = before.reached ∙ ap (λ (k : ℕ). k * c.args.apart) (sym many) in
     let on = c.pass.ensures.shows image s c.loop-k.reached (before.shows image s c.requires.start.2) in
-    inr (omega (arith, many, most), subst (λ (r : ℕ). c.pass.new.machine.ticks < r) is less, ended_before image s (c.loop-k.reached + c.args.apart) c.pass.new.machine on less)
+    inr (
+      omega (arith, many, most),
+      subst (λ (r : ℕ). c.pass.new.machine.ticks < r) is less,
+      ended_before image s (c.loop-k.reached + c.args.apart) c.pass.new.machine on less,
+    )
 
 pub returns-clause-reached : goal.returns-clause-reached
 returns-clause-reached c =

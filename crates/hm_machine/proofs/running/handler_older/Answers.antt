@@ -21,7 +21,8 @@ returns-in-Err-clause-value c listing s is under =
     let found = newest_there x.acts c.requires.handler in
     let here = listed_here listing (flash_at (memory_of x.mem)) x.regs.pc (Err c.in-Err.fault) is c.in-Err.ensures in
     ap (λ (o : LetterEnd). stepped (Err o) x) c.stop_of.ensures.value
-    ∙ fault_steps listing s x under found.0 found.1 found.2 c.in-Err.fault (Err (order.Stopped (config_of x) (cause.Stop (stop.Fault c.in-Err.fault)))) here (none_stands listing x c.in-Err.fault here)
+    ∙ fault_steps listing s x under found.0 found.1 found.2 c.in-Err.fault (Err (order.Stopped (config_of x) (cause.Stop (stop.Fault c.in-Err.fault)))) here
+    (none_stands listing x c.in-Err.fault here)
 
 pub returns-in-Ok-clause-moves : goal.returns-in-Ok-clause-moves
 returns-in-Ok-clause-moves c = let moves = c.handler_step.ensures.moves in record { flash = moves.flash; places = moves.places; room = moves.room }

@@ -17,7 +17,8 @@ returns-in-Err-clause-value c listing s is sound =
     younger_steps listing s x (sound_under s x sound) c.younger.new.x (Err c.in-Err.end) did.kept.acts did.count (did.value listing is)
 
 pub returns-in-Ok-clause-sound : goal.returns-in-Ok-clause-sound
-returns-in-Ok-clause-sound c s sound = step_stays s Younger c.args.x.now c.younger.new.x (Ok tt) (λ listing s is h. returns-in-Ok-clause-value c listing s is h) sound
+returns-in-Ok-clause-sound c s sound =
+    step_stays s Younger c.args.x.now c.younger.new.x (Ok tt) (λ listing s is h. returns-in-Ok-clause-value c listing s is h) sound
 
 pub returns-in-Ok-clause-moves : goal.returns-in-Ok-clause-moves
 returns-in-Ok-clause-moves c = keeps_moves c.in-Ok.ensures.kept

@@ -45,7 +45,8 @@ loop-k-preserved c =
       room = omega (arith, room, more, len, capacity);
       capacity = capacity ∙ c.loop-k.invariant.capacity;
       items =
-          words-more 1 c.loop-k.at left rest (seen m) c.loop-k.output.items _ _ (omega arith) (c.push_reserved.ensures.items ∙ ap (λ x. c.loop-k.output.items ++ x ∷ []) c.byte_at.ensures.value)
+          words-more 1 c.loop-k.at left rest (seen m) c.loop-k.output.items _ _ (omega arith)
+          (c.push_reserved.ensures.items ∙ ap (λ x. c.loop-k.output.items ++ x ∷ []) c.byte_at.ensures.value)
           c.loop-k.invariant.items;
     }
 

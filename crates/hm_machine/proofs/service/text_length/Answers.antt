@@ -20,13 +20,15 @@ loop-k-init c =
 pub returns-in-Err-clause-value : goal.returns-in-Err-clause-value
 returns-in-Err-clause-value c =
     let m = memory_of c.args.mem.now in
-    sym (text_stops (in_machine m.around) (seen m) c.loop-k.k c.args.addr c.loop-k.at c.loop-k.invariant.read (c.args.most - c.loop-k.k) (c.args.most - (c.loop-k.k + 1)) c.in-Err.stop (omega arith) (search rules))
+    sym (text_stops (in_machine m.around) (seen m) c.loop-k.k c.args.addr c.loop-k.at c.loop-k.invariant.read (c.args.most - c.loop-k.k)
+    (c.args.most - (c.loop-k.k + 1)) c.in-Err.stop (omega arith) (search rules))
     ∙ c.loop-k.invariant.text
 
 pub returns-then-peek-eq0-clause-value : goal.returns-then-peek-eq0-clause-value
 returns-then-peek-eq0-clause-value c =
     let m = memory_of c.args.mem.now in
-    sym (text_ends (in_machine m.around) (seen m) c.loop-k.k c.args.addr c.loop-k.at c.loop-k.invariant.read (c.args.most - c.loop-k.k) (c.args.most - (c.loop-k.k + 1)) (omega arith) (search rules) (search rules))
+    sym (text_ends (in_machine m.around) (seen m) c.loop-k.k c.args.addr c.loop-k.at c.loop-k.invariant.read (c.args.most - c.loop-k.k)
+    (c.args.most - (c.loop-k.k + 1)) (omega arith) (search rules) (search rules))
     ∙ c.loop-k.invariant.text
 
 pub returns-then-peek-eq0-clause-free : goal.returns-then-peek-eq0-clause-free
@@ -41,7 +43,8 @@ loop-k-preserved c =
     record {
       read = one_read R (seen m) c.loop-k.k c.args.addr c.loop-k.at c.loop-k.invariant.read (search rules);
       text =
-          sym (text_goes R (seen m) c.loop-k.k c.args.addr c.loop-k.at c.loop-k.invariant.read (c.args.most - c.loop-k.k) (c.args.most - (c.loop-k.k + 1)) (omega arith) (search rules) (search rules))
+          sym (text_goes R (seen m) c.loop-k.k c.args.addr c.loop-k.at c.loop-k.invariant.read (c.args.most - c.loop-k.k) (c.args.most - (c.loop-k.k + 1))
+          (omega arith) (search rules) (search rules))
           ∙ c.loop-k.invariant.text;
     }
 

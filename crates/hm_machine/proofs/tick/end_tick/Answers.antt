@@ -13,15 +13,19 @@ use Rattle.hm_machine.proofs.tick.end_tick.Goals as goal
 pub returns-then-not-entries-clause-value : goal.returns-then-not-entries-clause-value
 returns-then-not-entries-clause-value c s line es entries irq steps sound =
     let x = c.args.x.now in
-    ends_quiet s line (nested_of x) c.args.tick es _ (may_end_well (may_end x.window.a x.window.b) _ _ (sym c.ending.ensures.value ∙ c.in_default.is)) (entries ∙ c.if-not-entries.true)
+    ends_quiet s line (nested_of x) c.args.tick es _ (may_end_well (may_end x.window.a x.window.b) _ _ (sym c.ending.ensures.value ∙ c.in_default.is))
+    (entries ∙ c.if-not-entries.true)
     (counted_nested x (memory_of c.count_and_arrive.new.mem) c.args.irq.now line c.args.tick es irq c.count_and_arrive.ensures.value)
 
 pub enter_picked-requires-clause-sound : goal.enter_picked-requires-clause-sound
 enter_picked-requires-clause-sound c =
     let x = c.args.x.now in
     let s = c.requires.sound.0 in
-    let line : TickLine = record { count = 0; letters = []; irq = c.args.irq.now } in
-    (s, subst (IsSound s) (sym (counted_nested x (memory_of c.count_and_arrive.new.mem) c.args.irq.now line 0 [] refl c.count_and_arrive.ensures.value)) (counted_sound s c.args.irq.now (nested_of x) c.requires.sound.1))
+    let line : TickLine = record { count = 0; letters = []; irq = c.args.irq.now } in (
+      s,
+      subst (IsSound s) (sym (counted_nested x (memory_of c.count_and_arrive.new.mem) c.args.irq.now line 0 [] refl c.count_and_arrive.ensures.value))
+          (counted_sound s c.args.irq.now (nested_of x) c.requires.sound.1),
+    )
 
 pub returns-clause-value : goal.returns-clause-value
 returns-clause-value c s line es entries irq steps sound =

@@ -17,7 +17,8 @@ returns-in_err-letter_at-clause-value c listing s is sound =
     let y = c.letter_at.new.x in
     let step = c.in_err-letter_at.ensures.value listing s (listed_still c.loop-l.invariant.moves listing is) (c.loop-l.invariant.sound s sound) in
     ap (λ (q : Result Unit EarlyEnd). ticked q y) same
-    ∙ letters_stop listing s c.loop-l.l-index c.loop-l.step c.args.steps.now (nested_of c.loop-l.x) c.loop-l-test.true c.loop-l.invariant.counted (early_ended early (nested_of y)) step
+    ∙ letters_stop listing s c.loop-l.l-index c.loop-l.step c.args.steps.now (nested_of c.loop-l.x) c.loop-l-test.true c.loop-l.invariant.counted
+    (early_ended early (nested_of y)) step
     ∙ c.loop-l.invariant.value listing s is sound
 
 pub returns-in_err-letter_at-clause-moves : goal.returns-in_err-letter_at-clause-moves
@@ -26,7 +27,8 @@ returns-in_err-letter_at-clause-moves c = moves_then c.loop-l.invariant.moves c.
 pub loop-l-preserved : goal.loop-l-preserved
 loop-l-preserved c = record {
   value = λ listing s is sound.
-      letters_on listing s c.loop-l.l-index c.loop-l.step c.args.steps.now (nested_of c.loop-l.x) c.loop-l-test.true c.loop-l.invariant.counted (nested_of c.letter_at.new.x)
+      letters_on listing s c.loop-l.l-index c.loop-l.step c.args.steps.now (nested_of c.loop-l.x) c.loop-l-test.true c.loop-l.invariant.counted
+      (nested_of c.letter_at.new.x)
       (c.in_ok-letter_at.ensures.value listing s (listed_still c.loop-l.invariant.moves listing is) (c.loop-l.invariant.sound s sound))
       ∙ c.loop-l.invariant.value listing s is sound;
   sound = λ s sound. c.in_ok-letter_at.ensures.sound s (c.loop-l.invariant.sound s sound);

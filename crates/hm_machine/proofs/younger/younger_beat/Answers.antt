@@ -14,6 +14,7 @@ returns-in-Err-clause-value c listing =
     let x = c.args.x.now in
     let m = memory_of x.mem in
     let still = c.in-Err.ensures.stopped in
-    (λ j. Err (step_ended c.end_of.result (record { a = x.window.a; b = x.window.b; n = x.retired; steps = x.older_steps; state = state_of (still.0 j) (still.1 j) x.output.items })))
+    (λ j. Err (step_ended c.end_of.result
+    (record { a = x.window.a; b = x.window.b; n = x.retired; steps = x.older_steps; state = state_of (still.0 j) (still.1 j) x.output.items })))
     ∙ ap (λ (e : End State Cause Rule). Err e) (c.end_of.ensures.value listing m (config_of x))
     ∙ ap (λ (r : Result State Cause). did (core listing m.around) (config_of x) r) (c.in-Err.ensures.value x.output.items)

@@ -1,4 +1,5 @@
-use Rattle.std.proofs.Common.{◌≡◌, ℕ, suc, ◌+◌, ◌<◌, List, [], ◌∷◌, ◌++◌, length, set, take, drop, map, sym, subst, ap, ◌∙◌, append_assoc, arith, rules, length-append}
+use Rattle.std.proofs.Common.{◌≡◌, ℕ, suc, ◌+◌, ◌<◌, List, [], ◌∷◌, ◌++◌, length, set, take, drop, map, sym, subst, ap, ◌∙◌, append_assoc, arith, rules}
+use Rattle.std.proofs.Common.{length-append}
 use Rattle.std.proofs.Math.Seq.{drop-cons, set-append_seam}
 use Rattle.std.proofs.lemmas.List.{length-take-le}
 use Rattle.std.proofs.lemmas.List.FromFn.{length-map-range_with_len, map-range_with_len_more}
@@ -7,10 +8,14 @@ use Rattle.hm_mem.specs.Devices.{byte_of, put_prios, top_three}
 use Rattle.hm_mem.proofs.devices.put_prios.Goals as goal
 
 -- what is put behind two lists stands at their end
-put_behind : (front middle : List ℕ) (x : ℕ) (rest : List ℕ) (i y : ℕ) → length front + length middle ≡ i → set (front ++ (middle ++ (x ∷ rest))) i y ≡ front ++ ((middle ++ (y ∷ [])) ++ rest)
+put_behind : (front middle : List ℕ) (x : ℕ) (rest : List ℕ) (i y : ℕ) → length front + length middle ≡ i
+    → set (front ++ (middle ++ (x ∷ rest))) i y ≡ front ++ ((middle ++ (y ∷ [])) ++ rest)
 put_behind front middle x rest i y e =
-    let seam : set ((front ++ middle) ++ (x ∷ rest)) i y ≡ (front ++ middle) ++ (y ∷ rest) = subst (λ (j : ℕ). set ((front ++ middle) ++ (x ∷ rest)) j y ≡ (front ++ middle) ++ (y ∷ rest)) (length-append front middle ∙ e) (set-append_seam (front ++ middle) x rest y) in
-    ap (λ (l : List ℕ). set l i y) (sym (append_assoc front middle (x ∷ rest))) ∙ seam ∙ append_assoc front middle (y ∷ rest) ∙ ap (λ (l : List ℕ). front ++ l) (sym (append_assoc middle (y ∷ []) rest))
+    let seam : set ((front ++ middle) ++ (x ∷ rest)) i y ≡ (front ++ middle) ++ (y ∷ rest) =
+    subst (λ (j : ℕ). set ((front ++ middle) ++ (x ∷ rest)) j y ≡ (front ++ middle) ++ (y ∷ rest)) (length-append front middle ∙ e)
+    (set-append_seam (front ++ middle) x rest y) in
+    ap (λ (l : List ℕ). set l i y) (sym (append_assoc front middle (x ∷ rest))) ∙ seam ∙ append_assoc front middle (y ∷ rest)
+    ∙ ap (λ (l : List ℕ). front ++ l) (sym (append_assoc middle (y ∷ []) rest))
 
 -- one byte more is put
 prios-more : (n k x : ℕ) (ps : List ℕ) → k + n < length ps → set (put_prios n k x ps) (k + n) (top_three (byte_of x n)) ≡ put_prios (n + 1) k x ps

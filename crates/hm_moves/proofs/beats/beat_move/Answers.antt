@@ -19,7 +19,8 @@ returns-in_err-check_all-clause-done c = λ output.
     let same : c.from_residual.result ≡ Err stop = answered.1 ∙ ap Err answered.2 in
     subst (λ (x : Result Unit Stop). AnswersBeat (run tree r m output) x r m r m output) (sym same)
     (beats_stopped Unit tree r m output stop
-    (run_stopped (moves_of c.args.row.now) c.args.b m r output c.as_slice.result.now stop (c.as_slice.ensures.value ∙ c.elements-es.ensures.value m output) c.in_err-check_all.ensures.value))
+    (run_stopped (moves_of c.args.row.now) c.args.b m r output c.as_slice.result.now stop (c.as_slice.ensures.value ∙ c.elements-es.ensures.value m output)
+    c.in_err-check_all.ensures.value))
 
 pub returns-clause-done : goal.returns-clause-done
 returns-clause-done c = λ output.

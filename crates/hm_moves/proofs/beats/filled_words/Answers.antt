@@ -21,5 +21,6 @@ loop-j-preserved c =
       value = words_more i es c.args.list.now j _ (old_word i c.args.r.now) s c.loop-j.ws.items _ _ low c.push.ensures.items
           (c.filled-value.ensures.value ∙ ap (λ o. filled_in i j es o s) c.old_word.ensures) c.loop-j.invariant.value;
       size = rw c.push.ensures.items (simp length-append (omega arith));
-      written = subst (All (λ (w : Written). IsPlace w.place)) (sym c.push.ensures.items) (All-push (λ (w : Written). IsPlace w.place) c.loop-j.ws.items _ c.loop-j.invariant.written (search rules));
+      written = subst (All (λ (w : Written). IsPlace w.place)) (sym c.push.ensures.items)
+          (All-push (λ (w : Written). IsPlace w.place) c.loop-j.ws.items _ c.loop-j.invariant.written (search rules));
     }

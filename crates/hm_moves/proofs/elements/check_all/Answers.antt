@@ -8,7 +8,10 @@ use Rattle.hm_moves.proofs.elements.check_all.Goals as goal
 pub returns-in-Err : goal.returns-in-Err
 returns-in-Err c =
     let m = memory_of c.args.m.now in
-    record { value = sym (stop_here m.around c.args.store (width c.args.z) c.args.es.now c.loop-e.e-index (seen m) (omega arith) _ (search rules)) ∙ c.loop-e.invariant }
+    record {
+      value = sym (stop_here m.around c.args.store (width c.args.z) c.args.es.now c.loop-e.e-index (seen m) (omega arith) _ (search rules))
+          ∙ c.loop-e.invariant;
+    }
 
 pub loop-e-preserved : goal.loop-e-preserved
 loop-e-preserved c =

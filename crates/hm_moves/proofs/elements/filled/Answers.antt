@@ -10,4 +10,5 @@ peek-x-requires-clause-free c =
     let m = memory_of c.args.m.now in
     let len = width c.args.row.now.memory in
     let low : c.loop-k.k - 1 < length c.args.es.now = omega arith in
-    rw c.width.ensures.value (stop_none m.around false len c.args.es.now (c.loop-k.k - 1) (seen m) low (drop_none m.around false len c.args.es.now (c.loop-k.k - 1) (seen m) c.requires.free)).0
+    rw c.width.ensures.value (stop_none m.around false len c.args.es.now (c.loop-k.k - 1) (seen m) low
+    (drop_none m.around false len c.args.es.now (c.loop-k.k - 1) (seen m) c.requires.free)).0

@@ -13,7 +13,8 @@ loop-j-preserved c =
     let j = c.loop-j.j in
     let next : n - j ≡ suc (n - (j + 1)) = omega arith in
     record {
-      value = more_active c.args.active f j n (n - (j + 1)) next c.loop-j.es.items _ _ c.push_active.ensures.value c.element-e.ensures.value ∙ c.loop-j.invariant.value;
+      value = more_active c.args.active f j n (n - (j + 1)) next c.loop-j.es.items _ _ c.push_active.ensures.value c.element-e.ensures.value
+          ∙ c.loop-j.invariant.value;
       few = omega arith;
       fit = c.push_active.ensures.fit (width row.register) c.loop-j.invariant.fit c.element-e.ensures.fit;
     }

@@ -12,5 +12,8 @@ returns-clause-value c = λ m output.
     let s = state_of c.args.r.now m output in
     let ns = sources_at (moves_of row) c.args.b s in
     c.active_elements.ensures.value
-    ∙ (λ t. active_ones (c.active_bytes.ensures m output t) (each_same (way_element row.memory row.register (way_of row.way) c.args.b (c.first_source-first.result ∷ c.second_source-second.result ∷ [])) (way_element row.memory row.register (way_of row.way) c.args.b ns) 0 (per_word row.register)
-    (λ j. by_sources row.memory row.register (way_of row.way) c.args.b _ _ ns j (c.first_source-first.ensures m output) (c.second_source-second.ensures m output)) t))
+    ∙ (λ t. active_ones (c.active_bytes.ensures m output t)
+    (each_same (way_element row.memory row.register (way_of row.way) c.args.b (c.first_source-first.result ∷ c.second_source-second.result ∷ []))
+    (way_element row.memory row.register (way_of row.way) c.args.b ns) 0 (per_word row.register)
+    (λ j. by_sources row.memory row.register (way_of row.way) c.args.b _ _ ns j (c.first_source-first.ensures m output)
+    (c.second_source-second.ensures m output)) t))

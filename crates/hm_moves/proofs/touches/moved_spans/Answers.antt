@@ -3,4 +3,5 @@ use Rattle.hm_moves.specs.Moves.{bytes_of}
 use Rattle.hm_moves.proofs.touches.moved_spans.Goals as goal
 
 pub returns-then-touched : goal.returns-then-touched
-returns-then-touched c = λ m output. rw c.if-touched.true (c.spans.ensures ∙ ap (bytes_of c.args.row.now.memory) (c.as_slice.ensures.value ∙ c.elements-es.ensures.value m output))
+returns-then-touched c = λ m output. rw c.if-touched.true
+    (c.spans.ensures ∙ ap (bytes_of c.args.row.now.memory) (c.as_slice.ensures.value ∙ c.elements-es.ensures.value m output))

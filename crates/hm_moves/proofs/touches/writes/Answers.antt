@@ -16,5 +16,6 @@ returns c = λ m output.
     let ns = sources_at (moves_of row) b (state_of c.args.r.now m output) in
     c.note_words.ensures.value
     ∙ ap (noted_all (cond (not row.store) (way_words row.register (way_of row.way) b) []))
-    (c.note_back.ensures.value ∙ (λ t. noted_all (places_of (back_by (way_of row.way) b _ ns (c.first_source.ensures m output) t)) ((c.note_advance.ensures.value ∙ ap (noted_all (advance_places b c.args.r.now)) c.new-places.ensures) t)))
+    (c.note_back.ensures.value ∙ (λ t. noted_all (places_of (back_by (way_of row.way) b _ ns (c.first_source.ensures m output) t))
+    ((c.note_advance.ensures.value ∙ ap (noted_all (advance_places b c.args.r.now)) c.new-places.ensures) t)))
     ∙ sym (writes_are (moves_of row) b c.args.r.now m output c.requires)

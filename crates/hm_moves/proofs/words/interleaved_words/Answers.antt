@@ -18,11 +18,14 @@ loop-i-preserved c =
     let f : ℕ → Place = λ i. g (stream w.part z c.args.b + i) in
     let n = cond (ltb (per_word z) (registers w.four)) (per_word z) (registers w.four) in
     let i = c.loop-i.i in
-    let count : c.least-i-end.result ≡ n = c.least-i-end.ensures ∙ (λ t. cond (ltb (c.per_word.ensures.value t) (c.registers.ensures.value t)) (c.per_word.ensures.value t) (c.registers.ensures.value t)) in
+    let count : c.least-i-end.result ≡ n = c.least-i-end.ensures
+    ∙ (λ t. cond (ltb (c.per_word.ensures.value t) (c.registers.ensures.value t)) (c.per_word.ensures.value t) (c.registers.ensures.value t)) in
     let next : n - i ≡ suc (n - (i + 1)) = omega arith in
     record {
       value = each_more f n i (n - (i + 1)) c.loop-i.words.items _ _ next
-          (c.push.ensures.items ∙ ap (λ p. c.loop-i.words.items ++ p ∷ []) (c.interleaved_word.ensures.value ∙ ap (λ k. g (k + i)) c.stream-first.ensures.value)) c.loop-i.invariant.value;
+          (c.push.ensures.items ∙ ap (λ p. c.loop-i.words.items ++ p ∷ [])
+          (c.interleaved_word.ensures.value ∙ ap (λ k. g (k + i)) c.stream-first.ensures.value)) c.loop-i.invariant.value;
       size = rw c.push.ensures.items (simp length-append (omega arith));
-      placed = subst (All IsPlace) (sym c.push.ensures.items) (All-push IsPlace c.loop-i.words.items _ c.loop-i.invariant.placed c.interleaved_word.ensures.placed);
+      placed = subst (All IsPlace) (sym c.push.ensures.items)
+          (All-push IsPlace c.loop-i.words.items _ c.loop-i.invariant.placed c.interleaved_word.ensures.placed);
     }

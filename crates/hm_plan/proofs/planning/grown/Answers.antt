@@ -36,7 +36,8 @@ loop-machine-init c =
     let some : 0 < n = is_below there.0 image n 0 n (ap (is_over n) (sym first) ∙ on) in
     record {
       stands = λ listing is.
-          first_stands listing image n c.begin-schedule.result.lines c.greedy-first.result (timed_of made) (timed_of c.extend.new.self) (shows.now listing is) on
+          first_stands listing image n c.begin-schedule.result.lines c.greedy-first.result (timed_of made) (timed_of c.extend.new.self) (shows.now listing is)
+          on
           (ap (λ (s : Sched). s.lines) c.begin-schedule.ensures.made)
           (c.greedy-first.ensures.value listing (subst (λ (f : ℕ → ℕ). IsListing f listing) (sym shows.bytes) is)) (next listing is);
       flash = still;
@@ -61,8 +62,10 @@ loop-machine-smaller c =
     let next : timed_of c.extend-in-loop-machine.new.self ≡ tick (bare_program there.0) (plan_line 1 kind) old
     = c.extend-in-loop-machine.ensures.next there.0 (plan_line 1 kind) listed (sym c.letters-in-loop-machine.ensures.value) refl
     ∙ ap (λ (m : Shown). tick (bare_program there.0) (plan_line 1 kind) (timed_of m)) same in
-    let ticks : (timed_of c.extend-in-loop-machine.new.self).ticks ≡ old.ticks + 1 = next_ticks there.0 image n old (timed_of c.extend-in-loop-machine.new.self) (plan_line 1 kind) on next in
-    let less : old.ticks < 4 * n = few there.0 image n c.loop-machine.lines.schedule.lines c.loop-machine.lines.count c.loop-machine.lines.kind old (held.stands there.0 there.1) on in
+    let ticks : (timed_of c.extend-in-loop-machine.new.self).ticks ≡ old.ticks + 1 =
+    next_ticks there.0 image n old (timed_of c.extend-in-loop-machine.new.self) (plan_line 1 kind) on next in
+    let less : old.ticks < 4 * n =
+    few there.0 image n c.loop-machine.lines.schedule.lines c.loop-machine.lines.count c.loop-machine.lines.kind old (held.stands there.0 there.1) on in
     let fewer : 4 * n - (timed_of c.extend-in-loop-machine.new.self).ticks < 4 * n - old.ticks = omega (arith, ticks, less) in
     fewer
 
@@ -79,7 +82,8 @@ loop-machine-preserved c =
     let same : c.greedy-kind.new.machine ≡ c.loop-machine.machine = c.greedy-kind.ensures.same in
     let flash : flash_at c.greedy-kind.new.machine.memory ≡ flash_byte image = ap (λ (m : Shown). flash_at m.memory) same ∙ held.flash in
     let next : (listing : Listing) → IsListing (flash_byte image) listing → new ≡ tick (bare_program listing) (plan_line 1 kind) old
-    = λ listing is. c.extend-in-loop-machine.ensures.next listing (plan_line 1 kind) (subst (λ (f : ℕ → ℕ). IsListing f listing) (sym flash) is) (sym c.letters-in-loop-machine.ensures.value) refl
+    = λ listing is. c.extend-in-loop-machine.ensures.next listing (plan_line 1 kind) (subst (λ (f : ℕ → ℕ). IsListing f listing) (sym flash) is)
+    (sym c.letters-in-loop-machine.ensures.value) refl
     ∙ ap (λ (m : Shown). tick (bare_program listing) (plan_line 1 kind) (timed_of m)) same in
     let there = exists (flash_byte image) in
     let ticks : new.ticks ≡ old.ticks + 1 = next_ticks there.0 image n old new (plan_line 1 kind) on (next there.0 there.1) in
@@ -87,7 +91,8 @@ loop-machine-preserved c =
     record {
       stands = λ listing is.
           next_stands listing image n lines.schedule.lines lines.count lines.kind old new c.push.new.x.schedule.lines c.push.new.x.count c.push.new.x.kind kind
-          (held.stands listing is) on (c.greedy-kind.ensures.value listing (subst (λ (f : ℕ → ℕ). IsListing f listing) (sym held.flash) is)) c.in_ok-push.ensures.lines (next listing is);
+          (held.stands listing is) on (c.greedy-kind.ensures.value listing (subst (λ (f : ℕ → ℕ). IsListing f listing) (sym held.flash) is))
+          c.in_ok-push.ensures.lines (next listing is);
       flash = c.extend-in-loop-machine.ensures.flash ∙ flash;
       made = c.extend-in-loop-machine.ensures.bare;
       head = c.in_ok-push.ensures.kept ∙ ap (λ (s : Sched). record s { lines = c.push.new.x.schedule.lines }) held.head;
@@ -100,7 +105,8 @@ loop-machine-preserved c =
 pub extend-requires-clause-ticks : goal.extend-requires-clause-ticks
 extend-requires-clause-ticks c =
     let there = exists (flash_byte c.args.image.now) in
-    let none : c.greedy-first.new.machine.ticks ≡ 0 = ap (λ (m : Shown). m.ticks) c.greedy-first.ensures.same ∙ ap (λ (x : Timed). x.ticks) (c.in_ok-machine.ensures.shows.now there.0 there.1) in
+    let none : c.greedy-first.new.machine.ticks ≡ 0 = ap (λ (m : Shown). m.ticks) c.greedy-first.ensures.same
+    ∙ ap (λ (x : Timed). x.ticks) (c.in_ok-machine.ensures.shows.now there.0 there.1) in
     omega (arith, none)
 
 -- while it is not over fewer ticks were done than a plan may have
@@ -146,7 +152,8 @@ finish-requires-clause-room c =
 pub returns-then-is_over-clause-planned : goal.returns-then-is_over-clause-planned
 returns-then-is_over-clause-planned c = λ listing is.
     let over : is_over c.args.n (timed_of c.in_ok-machine.machine) ≡ true = sym c.is_over.ensures.value ∙ c.if-is_over.true in
-    nothing_lined listing c.args.image.now c.args.n c.begin-schedule.result (timed_of c.in_ok-machine.machine) (c.in_ok-machine.ensures.shows.now listing is) over c.begin-schedule.ensures.made
+    nothing_lined listing c.args.image.now c.args.n c.begin-schedule.result (timed_of c.in_ok-machine.machine) (c.in_ok-machine.ensures.shows.now listing is)
+    over c.begin-schedule.ensures.made
 
 -- or behind the last tick
 pub returns-clause-planned : goal.returns-clause-planned
@@ -154,5 +161,6 @@ returns-clause-planned c = λ listing is.
     let lines = c.loop-machine.lines in
     let held = c.loop-machine.invariant in
     let over : is_over c.args.n (timed_of c.loop-machine.machine) ≡ true = sym c.is_over-in-loop-machine.ensures.value ∙ c.loop-machine-test.false in
-    all_lined listing c.args.image.now c.args.n lines.schedule c.in_ok-finish.field-0 lines.count lines.kind (timed_of c.loop-machine.machine) (held.stands listing is) over held.head
+    all_lined listing c.args.image.now c.args.n lines.schedule c.in_ok-finish.field-0 lines.count lines.kind (timed_of c.loop-machine.machine)
+    (held.stands listing is) over held.head
     c.in_ok-finish.ensures.lines

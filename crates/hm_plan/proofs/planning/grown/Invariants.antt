@@ -11,7 +11,8 @@ use Rattle.hm_plan.proofs.planning.grown.Given as goal
 
 abbrev pub invariant-loop-machine : goal.invariant-loop-machine
 invariant-loop-machine l = record {
-  stands : (listing : Listing) → IsListing (flash_byte l.image) listing → Stands listing l.image l.n l.lines.schedule.lines l.lines.count l.lines.kind (timed_of l.machine);
+  stands : (listing : Listing) → IsListing (flash_byte l.image) listing
+      → Stands listing l.image l.n l.lines.schedule.lines l.lines.count l.lines.kind (timed_of l.machine);
   flash : flash_at l.machine.memory ≡ flash_byte l.image;
   head : l.lines.schedule ≡ bare l.lines.schedule.lines;
   count : total l.lines.schedule.lines + l.lines.count ≡ (timed_of l.machine).ticks;

@@ -18,7 +18,8 @@ returns-in-Some c = record {
       let s = (timed_of c.args.machine.now).config.state in
       let pc : c.regs.result.now.pc ≡ s.pc = ap (λ (r : Regs). r.pc) c.regs.ensures ∙ pc_of s in
       let here : Stands flash s.pc c.in-Some.i = subst (λ (a : ℕ). Stands flash a c.in-Some.i) pc c.in-Some.ensures.there in
-      c.is_vector.ensures.value ∙ sym (ap (λ (x : Result Instr Fault). is_some (vector_of x)) (fetched_one flash s.pc (listing s.pc) (Ok c.in-Some.i) (is.at s.pc) here));
+      c.is_vector.ensures.value ∙ sym
+      (ap (λ (x : Result Instr Fault). is_some (vector_of x)) (fetched_one flash s.pc (listing s.pc) (Ok c.in-Some.i) (is.at s.pc) here));
 }
 
 pub returns-in-None : goal.returns-in-None

@@ -16,21 +16,24 @@ pub returns-clause-ends : goal.returns-clause-ends
 returns-clause-ends c =
     let image = c.args.image.now in
     let n = c.args.n in
-    of_planned image n (λ (listing : Listing) (s : Sched). EndsAs n (timed_out listing image s) (in_order listing image n)) (λ listing. c.plan_in_order.ensures.ends listing image n)
+    of_planned image n (λ (listing : Listing) (s : Sched). EndsAs n (timed_out listing image s) (in_order listing image n))
+    (λ listing. c.plan_in_order.ensures.ends listing image n)
     c.grown.result c.grown.ensures.planned
 
 pub returns-clause-exactly : goal.returns-clause-exactly
 returns-clause-exactly c =
     let image = c.args.image.now in
     let n = c.args.n in
-    of_planned image n (λ (listing : Listing) (s : Sched). DecidedBy n (timed_out listing image s) (in_order listing image n)) (λ listing. c.plan_in_order.ensures.exactly listing image n)
+    of_planned image n (λ (listing : Listing) (s : Sched). DecidedBy n (timed_out listing image s) (in_order listing image n))
+    (λ listing. c.plan_in_order.ensures.exactly listing image n)
     c.grown.result c.grown.ensures.planned
 
 pub returns-clause-only : goal.returns-clause-only
 returns-clause-only c =
     let image = c.args.image.now in
     let n = c.args.n in
-    of_planned image n (λ (listing : Listing) (s : Sched). IsPlanEnd (timed_out listing image s).outcome) (λ listing. c.plan_in_order.ensures.only listing image n)
+    of_planned image n (λ (listing : Listing) (s : Sched). IsPlanEnd (timed_out listing image s).outcome)
+    (λ listing. c.plan_in_order.ensures.only listing image n)
     c.grown.result c.grown.ensures.planned
 
 pub returns-clause-few : goal.returns-clause-few
@@ -39,14 +42,16 @@ returns-clause-few c =
     let n = c.args.n in
     let there = exists (flash_byte image) in
     if_ok _ (λ (s : Sched). length (ticks_of s.lines) ≤ 4 * n) c.grown.result
-    (λ s is. subst (λ (u : Sched). length (ticks_of u.lines) ≤ 4 * n) (sym (is there.0 there.1)) (c.plan_in_order.ensures.few there.0 image n)) c.grown.ensures.planned
+    (λ s is. subst (λ (u : Sched). length (ticks_of u.lines) ≤ 4 * n) (sym (is there.0 there.1)) (c.plan_in_order.ensures.few there.0 image n))
+    c.grown.ensures.planned
 
 pub returns-clause-greedy : goal.returns-clause-greedy
 returns-clause-greedy c =
     let image = c.args.image.now in
     let n = c.args.n in
     of_planned image n
-    (λ (listing : Listing) (s : Sched). (t : ℕ) (line : TickLine) (left : List TickLine) → drop t (ticks_of s.lines) ≡ line ∷ left → IsGreedyAt listing image n s t line)
+    (λ (listing : Listing) (s : Sched). (t : ℕ) (line : TickLine) (left : List TickLine) → drop t (ticks_of s.lines) ≡ line ∷ left
+    → IsGreedyAt listing image n s t line)
     (λ listing t line left. c.plan_in_order.ensures.greedy listing image n t line left) c.grown.result c.grown.ensures.planned
 
 pub returns-clause-dense : goal.returns-clause-dense
@@ -54,7 +59,8 @@ returns-clause-dense c =
     let image = c.args.image.now in
     let n = c.args.n in
     of_planned image n
-    (λ (listing : Listing) (s : Sched). (t : ℕ) (line : TickLine) (left : List TickLine) → drop t (ticks_of s.lines) ≡ line ∷ left → line.letters ≡ older_letter ∷ []
+    (λ (listing : Listing) (s : Sched). (t : ℕ) (line : TickLine) (left : List TickLine) → drop t (ticks_of s.lines) ≡ line ∷ left
+    → line.letters ≡ older_letter ∷ []
     → let x = timed listing image s t in (tick (bare_program listing) both x).outcome ≡ None → n ≤ x.config.n + 1)
     (λ listing t line left there one goes.
     let s = planned listing image n in

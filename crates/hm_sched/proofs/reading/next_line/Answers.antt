@@ -6,7 +6,8 @@ pub returns-then-is_empty-clause-line : goal.returns-then-is_empty-clause-line
 returns-then-is_empty-clause-line c = next_none c.args.bytes.now c.args.line c.args.kind (search rules)
 
 pub returns-then-is_empty-2-clause-line : goal.returns-then-is_empty-2-clause-line
-returns-then-is_empty-2-clause-line c = next_unended c.args.bytes.now c.span.result.0.now c.span.result.1.now c.args.line c.args.kind c.span.ensures.parts (search rules) (search rules)
+returns-then-is_empty-2-clause-line c =
+    next_unended c.args.bytes.now c.span.result.0.now c.span.result.1.now c.args.line c.args.kind c.span.ensures.parts (search rules) (search rules)
 
 pub returns-clause-line : goal.returns-clause-line
 returns-clause-line c = next_some c.args.bytes.now c.span.result.0.now c.span.result.1.now c.args.line c.args.kind c.span.ensures.parts (search rules)

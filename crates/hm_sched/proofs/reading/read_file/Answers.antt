@@ -22,8 +22,10 @@ module _ (c : goal.After-rest-5-1) where
       let e : floor_in c.in_ok-fourth.fourth.now ≡ Some c.in_ok-floor.floor = search rules in
       (floor_found c.in_ok-fourth.fourth.now c.in_ok-floor.floor e).1
 
-  process : ProcessFound c.in_ok-format.format c.in_ok-floor.floor (lines_of c.in_ok-fourth.rest.now) (c.in_ok-process.process, lines_of c.in_ok-process.rest.now)
-  process = process_from_found c.in_ok-format.format c.in_ok-floor.floor (lines_of c.in_ok-fourth.rest.now) (c.in_ok-process.process, lines_of c.in_ok-process.rest.now) known floor c.in_ok-process.ensures
+  process : ProcessFound c.in_ok-format.format c.in_ok-floor.floor (lines_of c.in_ok-fourth.rest.now)
+      (c.in_ok-process.process, lines_of c.in_ok-process.rest.now)
+  process = process_from_found c.in_ok-format.format c.in_ok-floor.floor (lines_of c.in_ok-fourth.rest.now)
+      (c.in_ok-process.process, lines_of c.in_ok-process.rest.now) known floor c.in_ok-process.ensures
 
 pub of_format-requires-clause-known : goal.of_format-requires-clause-known
 of_format-requires-clause-known c = known c

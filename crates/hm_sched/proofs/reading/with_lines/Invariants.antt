@@ -6,7 +6,8 @@ use Rattle.hm_sched.proofs.reading.with_lines.Given as goal
 
 abbrev pub invariant-loop-rest : goal.invariant-loop-rest
 invariant-loop-rest l = record {
-  so_far : with_front l.schedule.lines (all_lines (most_irq l.initial.schedule.format) l.line (total l.schedule.lines) (lines_of l.rest)) ≡ all_lines (most_irq l.initial.schedule.format) (first_line l.initial.schedule.format) 0 (lines_of l.bytes);
+  so_far : with_front l.schedule.lines (all_lines (most_irq l.initial.schedule.format) l.line (total l.schedule.lines) (lines_of l.rest))
+      ≡ all_lines (most_irq l.initial.schedule.format) (first_line l.initial.schedule.format) 0 (lines_of l.bytes);
   head : l.schedule ≡ record l.initial.schedule { lines = l.schedule.lines };
   within : total l.schedule.lines ≤ most_ticks;
   counted : l.line ≡ first_line l.initial.schedule.format + length l.schedule.lines;

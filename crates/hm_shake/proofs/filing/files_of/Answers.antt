@@ -28,7 +28,8 @@ loop-found-preserved g c =
                 subst (λ (x : Repeater). Repeats image head x) (sym w.repeater-is) (w.shortest.ensures.again image (before.again image repeats));
             files = λ image listing is repeats all.
                 file_added (IsFiled listing image plan head irqs) plain kinds i _ old c.if-not-same_kind.files.items w.in_ok-file.file lt
-                (c.same_kind.ensures.other w.if-not-same_kind.true) (w.in_ok-file.ensures.filed image listing is (before.again image repeats) (all i _ lt)) added
+                (c.same_kind.ensures.other w.if-not-same_kind.true) (w.in_ok-file.ensures.filed image listing is (before.again image repeats) (all i _ lt))
+                added
                 (before.files image listing is repeats all);
           }
       | else-not-same_kind w ↦

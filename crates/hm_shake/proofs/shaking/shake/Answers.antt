@@ -10,7 +10,8 @@ returns-clause-finds g c = λ listing is.
     let counted = c.do_runs.ensures.again image repeats in
     let reported = c.report_of.ensures.again image counted in
     let plain = c.in_ok-plainly.ensures.ended listing is in
-    found_so listing image c.args.schedule.now _ _ c.of-head.result c.in_ok-interrupts_of.field-0.items c.deref.result.now c.deref-2.result.now (c.in_ok-kinds.ensures.kinds image listing is repeats)
+    found_so listing image c.args.schedule.now _ _ c.of-head.result c.in_ok-interrupts_of.field-0.items c.deref.result.now c.deref-2.result.now
+    (c.in_ok-kinds.ensures.kinds image listing is repeats)
     c.deref.ensures.value c.deref-2.ensures.value c.in_ok-interrupts_of.ensures.value c.of-head.ensures.value (ap (λ (e : Ended). e.kind) plain)
     (ap (λ (e : Ended). e.ticks) plain) (c.in_ok-report.ensures.report image listing is counted) c.in_ok-report.ensures.none
     (c.in_ok-files.ensures.files image listing is reported)

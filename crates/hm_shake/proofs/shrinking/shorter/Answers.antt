@@ -28,7 +28,8 @@ cut-requires c =
     let most = most_irq c.args.head.format in
     let xs = c.args.stretches.now in
     let sound : All (IsStretch most) c.deref-then-same_kind.result.now =
-    All-same (IsStretch most) c.deref-then-same_kind.result.now (without c.args.kept c.args.size xs) (c.deref-then-same_kind.ensures.value ∙ c.in_ok-fewer.ensures.value)
+    All-same (IsStretch most) c.deref-then-same_kind.result.now (without c.args.kept c.args.size xs)
+    (c.deref-then-same_kind.ensures.value ∙ c.in_ok-fewer.ensures.value)
     (without_sound most c.args.kept c.args.size xs c.requires.sound) in
     record { some = λ k d lt. (sound k d lt).some }
 
@@ -41,7 +42,8 @@ module _ (c : goal.After-drop-fewer-then-same_kind) where
   sound =
       let xs = c.args.stretches.now in
       All-same (IsStretch (most_irq c.args.head.format)) c.deref-then-same_kind.result.now (without c.args.kept c.args.size xs)
-      (c.deref-then-same_kind.ensures.value ∙ c.in_ok-fewer.ensures.value) (without_sound (most_irq c.args.head.format) c.args.kept c.args.size xs c.requires.sound)
+      (c.deref-then-same_kind.ensures.value ∙ c.in_ok-fewer.ensures.value)
+      (without_sound (most_irq c.args.head.format) c.args.kept c.args.size xs c.requires.sound)
 
 pub returns-then-same_kind-clause-kind : goal.returns-then-same_kind-clause-kind
 returns-then-same_kind-clause-kind c = λ image listing is repeats.

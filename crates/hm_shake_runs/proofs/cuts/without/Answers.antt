@@ -1,7 +1,8 @@
 use Rattle.std.proofs.Common.{◌+◌, ◌∙◌, ap, arith, drop, get_or, sym}
 use Rattle.hm_shake_runs.specs.Stretches.{without}
 use Rattle.hm_shake_runs.proofs.Turns.{keeps_one, left_at, moved, none, passes_one, takes_none, takes_one}
-use Rattle.hm_shake_runs.proofs.cuts.without.Goals.{then-is_some+then-before-gt0, then-is_some+else-before-gt0+then-left-gt0, then-is_some+else-before-gt0+else-left-gt0, else-is_some}
+use Rattle.hm_shake_runs.proofs.cuts.without.Goals.{then-is_some+then-before-gt0, then-is_some+else-before-gt0+then-left-gt0}
+use Rattle.hm_shake_runs.proofs.cuts.without.Goals.{then-is_some+else-before-gt0+else-left-gt0, else-is_some}
 use Rattle.hm_shake_runs.proofs.cuts.without.Goals as goal
 
 pub loop-stretch-preserved : goal.loop-stretch-preserved
@@ -17,7 +18,8 @@ loop-stretch-preserved c =
     c.in_ok-push.ensures.items
     (elim c.if-is_some.branch [
       | then-is_some+then-before-gt0 w ↦ let one = keeps_one k n x rest (sym c.is_some.ensures ∙ w.if-is_some.true) (omega arith) in cc
-      | then-is_some+else-before-gt0+then-left-gt0 w ↦ let one = takes_one k n x rest (sym c.is_some.ensures ∙ w.if-is_some.true) (omega arith) (omega arith) in cc
+      | then-is_some+else-before-gt0+then-left-gt0 w ↦ let one = takes_one k n x rest (sym c.is_some.ensures ∙ w.if-is_some.true) (omega arith) (omega arith) in
+          cc
       | then-is_some+else-before-gt0+else-left-gt0 w ↦ let one = takes_none k n x rest (omega arith) (omega arith) in cc
       | else-is_some w ↦ let one = passes_one k n x rest (sym c.is_some.ensures ∙ w.if-is_some.false) in cc
     ])

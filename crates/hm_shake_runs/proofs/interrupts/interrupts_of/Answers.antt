@@ -12,7 +12,8 @@ returns-then-is_empty-clause-each c =
     let most = most_irq c.args.s.now.format in
     let same : most_irq c.format.result ≡ most = ap most_irq c.format.ensures.value in
     IfOk-weaker c.all.result (λ irqs. irqs.items ≡ numbers_from (most_irq c.format.result) 0) _
-    (λ irqs e. All-same (λ n. n < most) irqs.items (numbers_from (most_irq c.format.result) 0) e (numbers_below (most_irq c.format.result) 0 most (omega arith)))
+    (λ irqs e. All-same (λ n. n < most) irqs.items (numbers_from (most_irq c.format.result) 0) e
+    (numbers_below (most_irq c.format.result) 0 most (omega arith)))
     c.all.ensures.value
 
 pub returns-clause-value : goal.returns-clause-value

@@ -8,7 +8,10 @@ pub returns-then-words_name : goal.returns-then-words_name
 returns-then-words_name c =
     let line = line_of c.line.result.now in
     let is = get_or_from_slice_get c.args.s.now.lines c.loop-k.k line line c.line.ensures.value in
-    record { value = sym (names_it c.args.s.now.lines c.loop-k.k c.args.n line (search rules) is (sym c.words_name.ensures.value ∙ c.if-words_name.true)) ∙ c.loop-k.invariant }
+    record {
+      value = sym (names_it c.args.s.now.lines c.loop-k.k c.args.n line (search rules) is (sym c.words_name.ensures.value ∙ c.if-words_name.true))
+          ∙ c.loop-k.invariant;
+    }
 
 pub loop-k-preserved : goal.loop-k-preserved
 loop-k-preserved c =

@@ -13,7 +13,8 @@ loop-n-preserved c =
     let lt : n < most = omega arith in
     elim c.if-is_named.branch [
       | then-is_named+in_ok-push w ↦
-          moved c.loop-n.irqs.items c.if-is_named.irqs.items (named_from c.args.s.now.lines (most - (n + 1)) (n + 1)) _ _ n (ap (λ v. v.items) w.irqs-is ∙ w.in_ok-push.ensures.items)
+          moved c.loop-n.irqs.items c.if-is_named.irqs.items (named_from c.args.s.now.lines (most - (n + 1)) (n + 1)) _ _ n
+          (ap (λ v. v.items) w.irqs-is ∙ w.in_ok-push.ensures.items)
           (named_turn c.args.s.now.lines most n lt (sym c.is_named.ensures.value ∙ w.if-is_named.true)) c.loop-n.invariant
       | else-is_named w ↦
           let same = unnamed_turn c.args.s.now.lines most n lt (sym c.is_named.ensures.value ∙ w.if-is_named.false) in

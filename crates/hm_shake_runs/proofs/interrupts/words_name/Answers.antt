@@ -6,5 +6,6 @@ use Rattle.hm_shake_runs.proofs.interrupts.words_name.Goals as goal
 
 pub returns : goal.returns
 returns c = record {
-  value = word_names c.args.irq.now c.args.n c.from.result c.from-2.result c.from.ensures c.from-2.ensures (All-from_get_or IsWord c.args.irq.now 0 (λ i lt. search rules));
+  value = word_names c.args.irq.now c.args.n c.from.result c.from-2.result c.from.ensures c.from-2.ensures
+      (All-from_get_or IsWord c.args.irq.now 0 (λ i lt. search rules));
 }

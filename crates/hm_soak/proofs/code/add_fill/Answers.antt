@@ -8,7 +8,8 @@ pub loop-j-init : goal.loop-j-init
 loop-j-init c = fills_none c.args.number c.args.out.now.items
 
 pub loop-j-preserved : goal.loop-j-preserved
-loop-j-preserved c = fills_next c.args.number c.args.out.now.items c.loop-j.j c.loop-j.x c.draw-x.result c.loop-j.out.items c.add_filled.new.out.items c.loop-j.invariant c.draw-x.ensures.next c.in_ok-add_filled.ensures.codes
+loop-j-preserved c = fills_next c.args.number c.args.out.now.items c.loop-j.j c.loop-j.x c.draw-x.result c.loop-j.out.items c.add_filled.new.out.items
+    c.loop-j.invariant c.draw-x.ensures.next c.in_ok-add_filled.ensures.codes
 
 pub returns-clause-codes : goal.returns-clause-codes
 returns-clause-codes c =

@@ -17,7 +17,9 @@ loop-machine-preserved c =
       lines = lines_stay c.loop-machine.machine c.tick-turn.new.self c.tick-turn.ensures.fixed c.loop-machine.invariant.lines;
       counted = λ image s h.
           let so_far = c.loop-machine.invariant.counted image s h in
-          counted_next image s _ _ _ _ _ _ so_far (c.tick-turn.ensures.shows image s _ so_far.shows) (c.tick-turn.ensures.once none c.loop-machine.invariant.lines) c.is_in_thread-begins.ensures c.is_in_thread-ends.ensures (ap (λ (n : ℕ). c.loop-machine.entries + n) c.entry-entries.ensures);
+          counted_next image s _ _ _ _ _ _ so_far (c.tick-turn.ensures.shows image s _ so_far.shows)
+          (c.tick-turn.ensures.once none c.loop-machine.invariant.lines) c.is_in_thread-begins.ensures c.is_in_thread-ends.ensures
+          (ap (λ (n : ℕ). c.loop-machine.entries + n) c.entry-entries.ensures);
     }
 
 pub loop-machine-smaller : goal.loop-machine-smaller

@@ -7,4 +7,10 @@ pub returns-then-eq : goal.returns-then-eq
 returns-then-eq c =
     let registers : same_regs c.args.a.now c.args.b.now ≡ true = sym c.eq.ensures ∙ c.if-eq.true in
     let output = bytes_eq-Decides c.args.output.now c.args.other.now in
-    record { same = (λ t. ((same_regs_decides c.args.a.now c.args.b.now).0 registers, output.0 (sym c.eq-then-eq.ensures ∙ t)), λ h. c.eq-then-eq.ensures ∙ output.1 h.1) }
+    record {
+      same = (
+        λ t. ((same_regs_decides c.args.a.now c.args.b.now).0 registers, output.0 (sym c.eq-then-eq.ensures ∙ t)),
+        λ h. c.eq-then-eq.ensures
+            ∙ output.1 h.1,
+      );
+    }

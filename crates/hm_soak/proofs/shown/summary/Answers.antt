@@ -11,12 +11,14 @@ load-requires c = record { odd = odd_reset c.args.number c.in_ok-image.image c.i
 
 pub run_counting-entries-requires-clause-few : goal.run_counting-entries-requires-clause-few
 run_counting-entries-requires-clause-few c =
-    let begins = subst (λ (s : Sched). Shows c.in_ok-image.image s 0 c.in_ok-scheduled.scheduled) c.in_ok-image.ensures.schedule c.in_ok-scheduled.ensures.shows in
+    let begins = subst (λ (s : Sched). Shows c.in_ok-image.image s 0 c.in_ok-scheduled.scheduled) c.in_ok-image.ensures.schedule
+    c.in_ok-scheduled.ensures.shows in
     few_left c.in_ok-image.image c.in_ok-scheduled.scheduled begins
 
 pub run_counting-entries-requires-clause-lines : goal.run_counting-entries-requires-clause-lines
 run_counting-entries-requires-clause-lines c =
-    let begins = subst (λ (s : Sched). Shows c.in_ok-image.image s 0 c.in_ok-scheduled.scheduled) c.in_ok-image.ensures.schedule c.in_ok-scheduled.ensures.shows in
+    let begins = subst (λ (s : Sched). Shows c.in_ok-image.image s 0 c.in_ok-scheduled.scheduled) c.in_ok-image.ensures.schedule
+    c.in_ok-scheduled.ensures.shows in
     lines_there c.in_ok-image.image c.in_ok-scheduled.scheduled begins
 
 pub run_plainly-requires : goal.run_plainly-requires
@@ -24,10 +26,14 @@ run_plainly-requires c = record { odd = odd_reset c.args.number c.in_ok-image.im
 
 pub returns-clause-line : goal.returns-clause-line
 returns-clause-line c =
-    let begins = subst (λ (s : Sched). Shows c.in_ok-image.image s 0 c.in_ok-scheduled.scheduled) c.in_ok-image.ensures.schedule c.in_ok-scheduled.ensures.shows in
-    line_ok c.args.number c.in_ok-image.image c.run_counting-entries.new.machine c.in_ok-plainly.plainly c.retired.result c.ticks.result c.run_counting-entries.result c.same_shown-same.result c.line.result
-    c.in_ok-image.ensures.image (c.run_counting-entries.ensures.over c.in_ok-image.image schedule begins) (c.run_counting-entries.ensures.entered c.in_ok-image.image schedule begins) c.in_ok-plainly.ensures.over
-    (means_same _ _ c.run_counting-entries.new.machine c.in_ok-plainly.plainly _ _ c.same_shown-same.result c.regs.ensures c.regs-2.ensures c.output.ensures c.output-2.ensures c.same_shown-same.ensures.same)
+    let begins = subst (λ (s : Sched). Shows c.in_ok-image.image s 0 c.in_ok-scheduled.scheduled) c.in_ok-image.ensures.schedule
+    c.in_ok-scheduled.ensures.shows in
+    line_ok c.args.number c.in_ok-image.image c.run_counting-entries.new.machine c.in_ok-plainly.plainly c.retired.result c.ticks.result
+    c.run_counting-entries.result c.same_shown-same.result c.line.result
+    c.in_ok-image.ensures.image (c.run_counting-entries.ensures.over c.in_ok-image.image schedule begins)
+    (c.run_counting-entries.ensures.entered c.in_ok-image.image schedule begins) c.in_ok-plainly.ensures.over
+    (means_same _ _ c.run_counting-entries.new.machine c.in_ok-plainly.plainly _ _ c.same_shown-same.result c.regs.ensures c.regs-2.ensures c.output.ensures
+    c.output-2.ensures c.same_shown-same.ensures.same)
     c.retired.ensures c.ticks.ensures.value c.line.ensures.value
 
 pub returns-clause-equal : goal.returns-clause-equal

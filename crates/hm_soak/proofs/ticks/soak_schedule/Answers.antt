@@ -13,6 +13,7 @@ add_wholes-requires-2-clause-room c =
 
 pub returns : goal.returns
 returns c = record {
-  value = all_lines c.begin-lines.result c.add_wholes.new.lines c.add_pairs.new.lines c.add_twice.new.lines c.add_wholes-2.new.lines c.begin-lines.ensures.made c.in_ok-add_wholes.ensures.added
+  value = all_lines c.begin-lines.result c.add_wholes.new.lines c.add_pairs.new.lines c.add_twice.new.lines c.add_wholes-2.new.lines c.begin-lines.ensures.made
+      c.in_ok-add_wholes.ensures.added
       c.in_ok-add_pairs.ensures.added c.in_ok-add_twice.ensures.added c.in_ok-add_wholes-2.ensures.added;
 }

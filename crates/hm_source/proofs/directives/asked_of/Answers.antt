@@ -8,12 +8,14 @@ use Rattle.hm_source.proofs.directives.asked_of.Goals as goal
 pub returns-in-Some-clause-found : goal.returns-in-Some-clause-found
 returns-in-Some-clause-found c text f =
     let x = c.in_ok-values.ensures.found in
-    let shown = values_found text c.args.name.now c.args.behind.now c.in-Some.size c.in_ok-values.values x.0 x.1 f c.in-Some.ensures.found c.in_ok-values.ensures.parts x.2 x.3 in
+    let shown = values_found text c.args.name.now c.args.behind.now c.in-Some.size c.in_ok-values.values x.0 x.1 f c.in-Some.ensures.found
+    c.in_ok-values.ensures.parts x.2 x.3 in
     (values c.in-Some.size x.0 x.1, shown.0, shown.1)
 
 pub returns-in-Some-clause-only : goal.returns-in-Some-clause-only
 returns-in-Some-clause-only c text asked f d =
-    values_only text c.args.name.now c.args.behind.now c.in-Some.size c.in_ok-values.values asked f c.in-Some.ensures.found c.in_ok-values.ensures.parts d c.in_ok-values.ensures.only
+    values_only text c.args.name.now c.args.behind.now c.in-Some.size c.in_ok-values.values asked f c.in-Some.ensures.found c.in_ok-values.ensures.parts d
+    c.in_ok-values.ensures.only
 
 pub returns-in_err-number_alone-clause-only : goal.returns-in_err-number_alone-clause-only
 returns-in_err-number_alone-clause-only c text asked f d =

@@ -5,4 +5,5 @@ use Rattle.hm_source.proofs.Fronts.{shorter_next}
 use Rattle.hm_source.proofs.tokens.next_token.Goals as goal
 
 pub returns-clause-shorter : goal.returns-clause-shorter
-returns-clause-shorter c = shorter_next (λ (x : Token × Bor (List ℕ)). tok x.0) (λ (x : Token × Bor (List ℕ)). x.1.now) c.token_at.result c.skip.result.now (length c.args.text.now) c.token_at.ensures.read c.skip.ensures.shorter
+returns-clause-shorter c = shorter_next (λ (x : Token × Bor (List ℕ)). tok x.0) (λ (x : Token × Bor (List ℕ)). x.1.now) c.token_at.result c.skip.result.now
+    (length c.args.text.now) c.token_at.ensures.read c.skip.ensures.shorter

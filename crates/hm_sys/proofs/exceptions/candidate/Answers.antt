@@ -11,12 +11,15 @@ best : (d : Dev) (current k : ℕ) (r : Option ℕ) → 8 ≤ k → k ≤ 8 → 
 best d current k r from to h = let end : k ≡ 8 = omega arith in subst (λ (j : ℕ). IsBest d current (end_of j) r) end h
 
 pub returns-clause-found : goal.returns-clause-found
-returns-clause-found c = picked-found c.args.d.now c.args.current c.loop-k.best (best c.args.d.now c.args.current c.loop-k.k c.loop-k.best (omega arith) (omega arith) c.loop-k.invariant)
+returns-clause-found c = picked-found c.args.d.now c.args.current c.loop-k.best
+    (best c.args.d.now c.args.current c.loop-k.k c.loop-k.best (omega arith) (omega arith) c.loop-k.invariant)
 
 pub returns-clause-unique : goal.returns-clause-unique
-returns-clause-unique c e p = picked-some c.args.d.now c.args.current e c.loop-k.best (best c.args.d.now c.args.current c.loop-k.k c.loop-k.best (omega arith) (omega arith) c.loop-k.invariant) p
+returns-clause-unique c e p = picked-some c.args.d.now c.args.current e c.loop-k.best
+    (best c.args.d.now c.args.current c.loop-k.k c.loop-k.best (omega arith) (omega arith) c.loop-k.invariant) p
 
 pub returns-clause-value : goal.returns-clause-value
 returns-clause-value c =
     best-one c.args.d.now c.args.current c.loop-k.best (picked_below c.args.d.now c.args.current end_number)
-    (best c.args.d.now c.args.current c.loop-k.k c.loop-k.best (omega arith) (omega arith) c.loop-k.invariant) (best_below c.args.d.now c.args.current end_number)
+    (best c.args.d.now c.args.current c.loop-k.k c.loop-k.best (omega arith) (omega arith) c.loop-k.invariant)
+    (best_below c.args.d.now c.args.current end_number)

@@ -9,7 +9,8 @@ returns-in-Some-clause-found c = let f = c.in-Some.ensures.found in (f.0, inl f.
 pub returns-in-Some-clause-only : goal.returns-in-Some-clause-only
 returns-in-Some-clause-only c =
     let f = c.in-Some.ensures.found in
-    first_at (Wide c.args.text.now) (Of_vectors c.args.text.now) (apart_long c.args.text.now) c.args.pc c.args.address (Some c.in-Some.i) c.in-Some.i f.0 f.1 c.in-Some.ensures.only
+    first_at (Wide c.args.text.now) (Of_vectors c.args.text.now) (apart_long c.args.text.now) c.args.pc c.args.address (Some c.in-Some.i) c.in-Some.i f.0 f.1
+    c.in-Some.ensures.only
 
 pub returns-in-None-clause-found : goal.returns-in-None-clause-found
 returns-in-None-clause-found c =
@@ -18,4 +19,5 @@ returns-in-None-clause-found c =
 
 pub returns-in-None-clause-only : goal.returns-in-None-clause-only
 returns-in-None-clause-only c =
-    then_at (Wide c.args.text.now) (Of_vectors c.args.text.now) c.args.pc c.args.address c.vector_of.result c.in-None.ensures.only (λ i t v re. c.vector_of.ensures.only i v)
+    then_at (Wide c.args.text.now) (Of_vectors c.args.text.now) c.args.pc c.args.address c.vector_of.result c.in-None.ensures.only
+    (λ i t v re. c.vector_of.ensures.only i v)

@@ -12,12 +12,15 @@ returns-in-Some-clause-found c = let f = c.in-Some.ensures.found in (f.0, f.1, i
 pub returns-in-Some-clause-only : goal.returns-in-Some-clause-only
 returns-in-Some-clause-only c =
     let f = c.in-Some.ensures.found in
-    first_only (Wide c.args.text.now) (Of_vectors c.args.text.now) (apart_long c.args.text.now) (Some (c.in-Some.shape.width, option_map tok c.in-Some.shape.label)) f.0 f.1 f.2 c.in-Some.ensures.only
+    first_only (Wide c.args.text.now) (Of_vectors c.args.text.now) (apart_long c.args.text.now)
+    (Some (c.in-Some.shape.width, option_map tok c.in-Some.shape.label)) f.0 f.1 f.2 c.in-Some.ensures.only
 
 pub returns-in-None-clause-found : goal.returns-in-None-clause-found
 returns-in-None-clause-found c =
-    then_found (Wide c.args.text.now) (Of_vectors c.args.text.now) c.vector_shape.result (λ s. s.width) (λ s. option_map tok s.label) c.vector_shape.ensures.found
+    then_found (Wide c.args.text.now) (Of_vectors c.args.text.now) c.vector_shape.result (λ s. s.width) (λ s. option_map tok s.label)
+    c.vector_shape.ensures.found
 
 pub returns-in-None-clause-only : goal.returns-in-None-clause-only
 returns-in-None-clause-only c =
-    then_only (Wide c.args.text.now) (Of_vectors c.args.text.now) (option_map {U = Seen} (λ s. (s.width, option_map tok s.label)) c.vector_shape.result) c.in-None.ensures.only c.vector_shape.ensures.only
+    then_only (Wide c.args.text.now) (Of_vectors c.args.text.now) (option_map {U = Seen} (λ s. (s.width, option_map tok s.label)) c.vector_shape.result)
+    c.in-None.ensures.only c.vector_shape.ensures.only

@@ -9,7 +9,8 @@ returns-in-Some-clause-found c = let f = c.in-Some.ensures.found in record { lab
 pub returns-in-Some-clause-only : goal.returns-in-Some-clause-only
 returns-in-Some-clause-only c i is =
     let f = c.in-Some.ensures.found in
-    first_at (Narrow c.args.text.now) (Long c.args.text.now) (apart c.args.text.now) c.args.pc c.args.address (Some c.in-Some.i) c.in-Some.i f.0 f.1 c.in-Some.ensures.only i is.label is.has is.reaches
+    first_at (Narrow c.args.text.now) (Long c.args.text.now) (apart c.args.text.now) c.args.pc c.args.address (Some c.in-Some.i) c.in-Some.i f.0 f.1
+    c.in-Some.ensures.only i is.label is.has is.reaches
 
 pub returns-in-None-clause-found : goal.returns-in-None-clause-found
 returns-in-None-clause-found c =
@@ -18,4 +19,5 @@ returns-in-None-clause-found c =
 
 pub returns-in-None-clause-only : goal.returns-in-None-clause-only
 returns-in-None-clause-only c i is =
-    then_at (Narrow c.args.text.now) (Long c.args.text.now) c.args.pc c.args.address c.long_at.result c.in-None.ensures.only c.long_at.ensures.only i is.label is.has is.reaches
+    then_at (Narrow c.args.text.now) (Long c.args.text.now) c.args.pc c.args.address c.long_at.result c.in-None.ensures.only c.long_at.ensures.only i is.label
+    is.has is.reaches

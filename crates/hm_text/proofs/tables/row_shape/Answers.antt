@@ -12,7 +12,8 @@ returns-in-Some-clause-found c = let f = c.in-Some.ensures.found in (f.0, f.1, i
 pub returns-in-Some-clause-only : goal.returns-in-Some-clause-only
 returns-in-Some-clause-only c =
     let f = c.in-Some.ensures.found in
-    first_only (Narrow c.args.text.now) (Long c.args.text.now) (apart c.args.text.now) (Some (c.in-Some.shape.width, option_map tok c.in-Some.shape.label)) f.0 f.1 f.2 c.in-Some.ensures.only
+    first_only (Narrow c.args.text.now) (Long c.args.text.now) (apart c.args.text.now) (Some (c.in-Some.shape.width, option_map tok c.in-Some.shape.label)) f.0
+    f.1 f.2 c.in-Some.ensures.only
 
 pub returns-in-None-clause-found : goal.returns-in-None-clause-found
 returns-in-None-clause-found c =
@@ -20,4 +21,5 @@ returns-in-None-clause-found c =
 
 pub returns-in-None-clause-only : goal.returns-in-None-clause-only
 returns-in-None-clause-only c =
-    then_only (Narrow c.args.text.now) (Long c.args.text.now) (option_map {U = Seen} (λ s. (s.width, option_map tok s.label)) c.long_shape.result) c.in-None.ensures.only c.long_shape.ensures.only
+    then_only (Narrow c.args.text.now) (Long c.args.text.now) (option_map {U = Seen} (λ s. (s.width, option_map tok s.label)) c.long_shape.result)
+    c.in-None.ensures.only c.long_shape.ensures.only

@@ -9,4 +9,5 @@ pub returns-then-c-lt256-clause-value : goal.returns-then-c-lt256-clause-value
 returns-then-c-lt256-clause-value t c = is_byte c.args.n c.args.c (omega (arith, c.if-c-lt256.true))
 
 pub returns-clause-value : goal.returns-clause-value
-returns-clause-value t c = one_more c.args.n c.args.c c.shift_of.result (omega (arith, c.if-n-eq0.false)) (omega (arith, c.if-c-lt256.false)) c.shift_of.ensures.value
+returns-clause-value t c = one_more c.args.n c.args.c c.shift_of.result (omega (arith, c.if-n-eq0.false)) (omega (arith, c.if-c-lt256.false))
+    c.shift_of.ensures.value

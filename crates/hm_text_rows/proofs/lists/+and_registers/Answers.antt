@@ -28,9 +28,11 @@ and_registers-requires-2 t c =
 pub returns-clause-tokens : goal.returns-clause-tokens
 returns-clause-tokens t c =
     let some : 0 < c.args.n = omega (arith, c.if-n-eq0.false) in
-    let register : text_tokens c.with.result ≡ text_tokens c.marked.result ++ r c.args.k ∷ [] = c.with.ensures.tokens ∙ ap (λ (x : Tok). text_tokens c.marked.result ++ x ∷ []) c.r.ensures in
+    let register : text_tokens c.with.result ≡ text_tokens c.marked.result ++ r c.args.k ∷ [] = c.with.ensures.tokens
+    ∙ ap (λ (x : Tok). text_tokens c.marked.result ++ x ∷ []) c.r.ensures in
     taken_more (text_tokens c.args.text) (text_tokens c.marked.result) (text_tokens c.with.result) (text_tokens c.and_registers-2.result)
-    (mark_byte c.args.before) c.args.k c.args.n c.args.list some (sym c.is_listed.ensures ∙ c.if-not-is_listed.false) c.marked.ensures.tokens register c.and_registers-2.ensures.tokens
+    (mark_byte c.args.before) c.args.k c.args.n c.args.list some (sym c.is_listed.ensures ∙ c.if-not-is_listed.false) c.marked.ensures.tokens register
+    c.and_registers-2.ensures.tokens
 
 pub returns-clause-room : goal.returns-clause-room
 returns-clause-room t c =

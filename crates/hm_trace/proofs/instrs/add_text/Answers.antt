@@ -7,7 +7,8 @@ use Rattle.hm_trace.proofs.instrs.add_text.Goals as goal
 pub returns-in-Some : goal.returns-in-Some
 returns-in-Some c = record {
   added = λ listing listed.
-      let is = c.as_bytes.ensures.value ∙ c.as_str.ensures.value ∙ c.print_instr.ensures.text ∙ text_shown (flash_at c.args.machine.now.memory) listing c.args.addr c.in-Some.i listed c.in-Some.ensures.there in
+      let is = c.as_bytes.ensures.value ∙ c.as_str.ensures.value ∙ c.print_instr.ensures.text
+      ∙ text_shown (flash_at c.args.machine.now.memory) listing c.args.addr c.in-Some.i listed c.in-Some.ensures.there in
       subst (λ (t : List ℕ). IfOk c.text.result (λ _. c.text.new.out.items ≡ c.args.out.now.items ++ t)) is c.text.ensures;
 }
 

@@ -9,7 +9,8 @@ pub returns-clause-bytes : goal.returns-clause-bytes
 returns-clause-bytes c a =
     ap (λ (m : Memory). byte_at m a) c.set_actor-2.ensures.memory
     ∙ ap (λ (s : Seen). s.byte a) c.put.ensures.seen
-    ∙ laid_byte (seen (memory_of c.set_actor.new.self)) (marks (memory_of c.set_actor.new.self).around.actor) c.args.addr c.args.byte a (search rules) (search rules)
+    ∙ laid_byte (seen (memory_of c.set_actor.new.self)) (marks (memory_of c.set_actor.new.self).around.actor) c.args.addr c.args.byte a (search rules)
+    (search rules)
     ∙ ap (λ (m : Memory). if nat_eq a c.args.addr then c.args.byte else byte_at m a) c.set_actor.ensures.memory
 
 pub returns-clause-taint : goal.returns-clause-taint

@@ -1,4 +1,7 @@
-use Rattle.hm_words.proofs.Forms.{form_of-run, form_of-is_run, form_of-seq, form_of-is_seq, form_of-dis, form_of-is_dis, form_of-asm, form_of-is_asm, form_of-soak, form_of-is_soak, form_of-debug, form_of-is_debug, form_of-journal, form_of-is_journal, form_of-replay, form_of-is_replay, form_of-migrate, form_of-is_migrate, form_of-plan, form_of-is_plan, form_of-hex, form_of-is_hex, form_of-kernel, form_of-is_kernel}
+use Rattle.hm_words.proofs.Forms.{form_of-run, form_of-is_run, form_of-seq, form_of-is_seq, form_of-dis, form_of-is_dis, form_of-asm, form_of-is_asm}
+use Rattle.hm_words.proofs.Forms.{form_of-soak, form_of-is_soak, form_of-debug, form_of-is_debug, form_of-journal, form_of-is_journal, form_of-replay}
+use Rattle.hm_words.proofs.Forms.{form_of-is_replay, form_of-migrate, form_of-is_migrate, form_of-plan, form_of-is_plan, form_of-hex, form_of-is_hex}
+use Rattle.hm_words.proofs.Forms.{form_of-kernel, form_of-is_kernel}
 use Rattle.hm_words.proofs.laws.words_of_commands.Goals as goal
 
 pub returns-clause-runs : goal.returns-clause-runs
@@ -20,7 +23,8 @@ pub returns-clause-scripts : goal.returns-clause-scripts
 returns-clause-scripts c = λ words image script schedule. (form_of-is_debug words image schedule script, form_of-debug words image schedule script)
 
 pub returns-clause-journals : goal.returns-clause-journals
-returns-clause-journals c = λ words image out schedule every. (form_of-is_journal words image schedule every out, form_of-journal words image schedule every out)
+returns-clause-journals c = λ words image out schedule
+    every. (form_of-is_journal words image schedule every out, form_of-journal words image schedule every out)
 
 pub returns-clause-replays : goal.returns-clause-replays
 returns-clause-replays c = λ words image text schedule tick. (form_of-is_replay words image schedule text tick, form_of-replay words image schedule text tick)

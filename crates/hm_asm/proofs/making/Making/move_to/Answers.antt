@@ -15,4 +15,5 @@ invariant_of-self-2 c =
     made_moved c.self.inside.image c.self.inside.start c.self.inside.bytes.items c.args.at c.self.invariant
     (subst (λ (m : Made). place_of m ≤ c.args.at) (sym c.self.view_is) rising) c.ranges.at.fits in
     subst (λ (x : List Segment). IsMade (record { whole = x; start = c.args.at; bytes = c.replace-bytes.new.dest.items })) (sym now)
-    (subst (λ (x : List ℕ). IsMade (record { whole = c.self.inside.image ++ with_piece c.self.inside.start c.self.inside.bytes.items []; start = c.args.at; bytes = x })) (sym none) made)
+    (subst (λ (x : List ℕ). IsMade
+    (record { whole = c.self.inside.image ++ with_piece c.self.inside.start c.self.inside.bytes.items []; start = c.args.at; bytes = x })) (sym none) made)

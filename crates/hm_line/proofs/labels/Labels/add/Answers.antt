@@ -7,11 +7,13 @@ use Rattle.hm_line.proofs.labels.Labels.add.Goals as goal
 
 pub returns-then-contains_key-clause-told : goal.returns-then-contains_key-clause-told
 returns-then-contains_key-clause-told c =
-    ap not (sym c.if-contains_key.true) ∙ is_told c.args.self.now c.args.name.now c.self.inside.addresses.entries c.contains_key.result c.self.view_is c.contains_key.ensures
+    ap not (sym c.if-contains_key.true)
+    ∙ is_told c.args.self.now c.args.name.now c.self.inside.addresses.entries c.contains_key.result c.self.view_is c.contains_key.ensures
 
 pub returns-clause-told : goal.returns-clause-told
 returns-clause-told c =
-    ap not (sym c.if-contains_key.false) ∙ is_told c.args.self.now c.args.name.now c.self.inside.addresses.entries c.contains_key.result c.self.view_is c.contains_key.ensures
+    ap not (sym c.if-contains_key.false)
+    ∙ is_told c.args.self.now c.args.name.now c.self.inside.addresses.entries c.contains_key.result c.self.view_is c.contains_key.ensures
 
 pub returns-clause-added : goal.returns-clause-added
 returns-clause-added c =

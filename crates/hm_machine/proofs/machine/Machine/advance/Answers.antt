@@ -1,4 +1,5 @@
-use Rattle.std.proofs.Common.{◌≡◌, ◌<◌, ◌≤◌, ℕ, suc, arith, ap, refl, sym, ◌∙◌, subst, Bool, true, false, [], ◌∷◌, ◌+◌, None, Some, Result, Ok, Err, List, drop, length, inl}
+use Rattle.std.proofs.Common.{◌≡◌, ◌<◌, ◌≤◌, ℕ, suc, arith, ap, refl, sym, ◌∙◌, subst, Bool, true, false, [], ◌∷◌, ◌+◌, None, Some, Result, Ok, Err, List, drop}
+use Rattle.std.proofs.Common.{length, inl}
 use Rattle.hm_codes.proofs.Exists.{exists}
 use Rattle.hm_machine.proofs.Bares.{stands_there}
 use Rattle.hm_codes.specs.Listing.{Listing}
@@ -19,11 +20,13 @@ use Rattle.hm_machine.proofs.machine.Machine.advance.Goals as goal
 
 pub line_at-line-requires : goal.line_at-line-requires
 line_at-line-requires c = stands_there c.self.inside.schedule.lines c.self.inside.cursor
-    (c.self.invariant.running (ap (λ (v : Shown). v.outcome) c.self.view_is ∙ c.requires.running)) (subst (λ (v : Shown). 0 < length v.schedule.lines) (sym c.self.view_is) c.requires.lines)
+    (c.self.invariant.running (ap (λ (v : Shown). v.outcome) c.self.view_is ∙ c.requires.running))
+    (subst (λ (v : Shown). 0 < length v.schedule.lines) (sym c.self.view_is) c.requires.lines)
 
 pub after_tick-requires : goal.after_tick-requires
 after_tick-requires c = stands_there c.self.inside.schedule.lines c.self.inside.cursor
-    (c.self.invariant.running (ap (λ (v : Shown). v.outcome) c.self.view_is ∙ c.requires.running)) (subst (λ (v : Shown). 0 < length v.schedule.lines) (sym c.self.view_is) c.requires.lines)
+    (c.self.invariant.running (ap (λ (v : Shown). v.outcome) c.self.view_is ∙ c.requires.running))
+    (subst (λ (v : Shown). 0 < length v.schedule.lines) (sym c.self.view_is) c.requires.lines)
 
 pub tick-requires-clause-sound : goal.tick-requires-clause-sound
 tick-requires-clause-sound c = (c.self.inside.schedule, c.self.invariant.sound (ap (λ (v : Shown). v.outcome) c.self.view_is ∙ c.requires.running))
@@ -44,10 +47,12 @@ module _ (listing : Listing) (inside : Inside) (running : inside.outcome ≡ Non
   next_is = λ j. next listing inside.schedule (left_while (sym running j) (sym first j)) (run_with (sym running j) (nested_of inside.cpu) inside.ticks es)
 
   -- how many entered
-  counted : (a : Result Bool Outcome) (m : Nested) (t n : ℕ) → Came a m t es (tick_of listing inside.schedule line before None) → n ≡ inside.entries + entered_in a
+  counted : (a : Result Bool Outcome) (m : Nested) (t n : ℕ) → Came a m t es (tick_of listing inside.schedule line before None)
+      → n ≡ inside.entries + entered_in a
       → n + length es ≡ inside.entries + length (let v = machine_view inside in next listing v.schedule v.left (run_of v es)).entries
   counted a m t n h e =
-      subst (λ (r : Run). n + length es ≡ inside.entries + length r.entries) next_is (comes_counted listing inside.schedule line rest before refl a m t es inside.entries n h e)
+      subst (λ (r : Run). n + length es ≡ inside.entries + length r.entries) next_is
+      (comes_counted listing inside.schedule line rest before refl a m t es inside.entries n h e)
 
 pub returns-in-Err-clause-next : goal.returns-in-Err-clause-next
 returns-in-Err-clause-next c =
@@ -56,9 +61,12 @@ returns-in-Err-clause-next c =
     let running : inside.outcome ≡ None = ap (λ (v : Shown). v.outcome) c.self.view_is ∙ c.requires.running in
     let s = inside.schedule in
     let line = line_of c.line_at-line.result.now in
-    let did = c.in-Err.ensures.value listing s line inside.ticks es is (sym c.entries-may_enter.ensures.value) (sym c.as_slice.ensures.value) refl refl (c.self.invariant.sound running) in
-    subst (λ (r : Run). run_with (Some c.in-Err.outcome) (nested_of c.tick.new.x) (inside.ticks + 1) r.entries ≡ r) (next_is listing inside running line es c.line_at-line.ensures.first)
-    (comes_ended listing s line (drop 1 (left_at s.lines inside.cursor)) (run_with None (nested_of inside.cpu) inside.ticks es) refl c.in-Err.outcome (nested_of c.tick.new.x) (inside.ticks + 1) did.0))
+    let did = c.in-Err.ensures.value listing s line inside.ticks es is (sym c.entries-may_enter.ensures.value) (sym c.as_slice.ensures.value) refl refl
+    (c.self.invariant.sound running) in
+    subst (λ (r : Run). run_with (Some c.in-Err.outcome) (nested_of c.tick.new.x) (inside.ticks + 1) r.entries ≡ r)
+    (next_is listing inside running line es c.line_at-line.ensures.first)
+    (comes_ended listing s line (drop 1 (left_at s.lines inside.cursor)) (run_with None (nested_of inside.cpu) inside.ticks es) refl c.in-Err.outcome
+    (nested_of c.tick.new.x) (inside.ticks + 1) did.0))
 
 pub returns-in-Err-clause-entries : goal.returns-in-Err-clause-entries
 returns-in-Err-clause-entries c =
@@ -66,8 +74,10 @@ returns-in-Err-clause-entries c =
     let inside = c.self.inside in
     let running : inside.outcome ≡ None = ap (λ (v : Shown). v.outcome) c.self.view_is ∙ c.requires.running in
     let line = line_of c.line_at-line.result.now in
-    let did = c.in-Err.ensures.value listing inside.schedule line inside.ticks es is (sym c.entries-may_enter.ensures.value) (sym c.as_slice.ensures.value) refl refl (c.self.invariant.sound running) in
-    counted listing inside running line es c.line_at-line.ensures.first (Err c.in-Err.outcome) (nested_of c.tick.new.x) (inside.ticks + 1) inside.entries did (omega arith))
+    let did = c.in-Err.ensures.value listing inside.schedule line inside.ticks es is (sym c.entries-may_enter.ensures.value) (sym c.as_slice.ensures.value) refl
+    refl (c.self.invariant.sound running) in
+    counted listing inside running line es c.line_at-line.ensures.first (Err c.in-Err.outcome) (nested_of c.tick.new.x) (inside.ticks + 1) inside.entries did
+    (omega arith))
 
 pub returns-in-Some-clause-next : goal.returns-in-Some-clause-next
 returns-in-Some-clause-next c =
@@ -78,9 +88,12 @@ returns-in-Some-clause-next c =
     let left = left_at s.lines inside.cursor in
     let line = line_of c.line_at-line.result.now in
     let before = run_with None (nested_of inside.cpu) inside.ticks es in
-    let did = c.in-Ok.ensures.value listing s line inside.ticks es is (sym c.entries-may_enter.ensures.value) (sym c.as_slice.ensures.value) refl refl (c.self.invariant.sound running) in
-    subst (λ (r : Run). run_with inside.outcome (nested_of c.tick.new.x) (inside.ticks + 1) r.entries ≡ r) (next_is listing inside running line es c.line_at-line.ensures.first)
-    (subst (λ (o : _). run_with o (nested_of c.tick.new.x) (inside.ticks + 1) (next listing s (line ∷ drop 1 left) before).entries ≡ next listing s (line ∷ drop 1 left) before) (sym running)
+    let did = c.in-Ok.ensures.value listing s line inside.ticks es is (sym c.entries-may_enter.ensures.value) (sym c.as_slice.ensures.value) refl refl
+    (c.self.invariant.sound running) in
+    subst (λ (r : Run). run_with inside.outcome (nested_of c.tick.new.x) (inside.ticks + 1) r.entries ≡ r)
+    (next_is listing inside running line es c.line_at-line.ensures.first)
+    (subst (λ (o : _). run_with o (nested_of c.tick.new.x) (inside.ticks + 1) (next listing s (line ∷ drop 1 left) before).entries
+    ≡ next listing s (line ∷ drop 1 left) before) (sym running)
     (comes_on listing s line (drop 1 left) before refl (nested_of c.tick.new.x) (inside.ticks + 1)
     (subst (λ (l : List TickLine). 0 < length l) c.in-Some.ensures.left
     (some_left (drop c.in-Some.cursor.line s.lines) c.in-Some.cursor.used c.in-Some.ensures.stands)) did.0)))
@@ -91,8 +104,10 @@ returns-in-Some-clause-entries c =
     let inside = c.self.inside in
     let running : inside.outcome ≡ None = ap (λ (v : Shown). v.outcome) c.self.view_is ∙ c.requires.running in
     let line = line_of c.line_at-line.result.now in
-    let did = c.in-Ok.ensures.value listing inside.schedule line inside.ticks es is (sym c.entries-may_enter.ensures.value) (sym c.as_slice.ensures.value) refl refl (c.self.invariant.sound running) in
-    counted listing inside running line es c.line_at-line.ensures.first (Ok c.in-Ok.entered) (nested_of c.tick.new.x) (inside.ticks + 1) _ did (ap (λ (n : ℕ). inside.entries + n) c.entered_once.ensures))
+    let did = c.in-Ok.ensures.value listing inside.schedule line inside.ticks es is (sym c.entries-may_enter.ensures.value) (sym c.as_slice.ensures.value) refl
+    refl (c.self.invariant.sound running) in
+    counted listing inside running line es c.line_at-line.ensures.first (Ok c.in-Ok.entered) (nested_of c.tick.new.x) (inside.ticks + 1) _ did
+    (ap (λ (n : ℕ). inside.entries + n) c.entered_once.ensures))
 
 pub returns-in-None-clause-next : goal.returns-in-None-clause-next
 returns-in-None-clause-next c =
@@ -101,9 +116,12 @@ returns-in-None-clause-next c =
     let running : inside.outcome ≡ None = ap (λ (v : Shown). v.outcome) c.self.view_is ∙ c.requires.running in
     let s = inside.schedule in
     let line = line_of c.line_at-line.result.now in
-    let did = c.in-Ok.ensures.value listing s line inside.ticks es is (sym c.entries-may_enter.ensures.value) (sym c.as_slice.ensures.value) refl refl (c.self.invariant.sound running) in
-    subst (λ (r : Run). run_with (Some outcome.OutOfTicks) (nested_of c.tick.new.x) (inside.ticks + 1) r.entries ≡ r) (next_is listing inside running line es c.line_at-line.ensures.first)
-    (comes_out listing s line (drop 1 (left_at s.lines inside.cursor)) (run_with None (nested_of inside.cpu) inside.ticks es) refl (nested_of c.tick.new.x) (inside.ticks + 1) c.in-None.ensures.none did.0))
+    let did = c.in-Ok.ensures.value listing s line inside.ticks es is (sym c.entries-may_enter.ensures.value) (sym c.as_slice.ensures.value) refl refl
+    (c.self.invariant.sound running) in
+    subst (λ (r : Run). run_with (Some outcome.OutOfTicks) (nested_of c.tick.new.x) (inside.ticks + 1) r.entries ≡ r)
+    (next_is listing inside running line es c.line_at-line.ensures.first)
+    (comes_out listing s line (drop 1 (left_at s.lines inside.cursor)) (run_with None (nested_of inside.cpu) inside.ticks es) refl (nested_of c.tick.new.x)
+    (inside.ticks + 1) c.in-None.ensures.none did.0))
 
 pub returns-in-None-clause-entries : goal.returns-in-None-clause-entries
 returns-in-None-clause-entries c =
@@ -111,8 +129,10 @@ returns-in-None-clause-entries c =
     let inside = c.self.inside in
     let running : inside.outcome ≡ None = ap (λ (v : Shown). v.outcome) c.self.view_is ∙ c.requires.running in
     let line = line_of c.line_at-line.result.now in
-    let did = c.in-Ok.ensures.value listing inside.schedule line inside.ticks es is (sym c.entries-may_enter.ensures.value) (sym c.as_slice.ensures.value) refl refl (c.self.invariant.sound running) in
-    counted listing inside running line es c.line_at-line.ensures.first (Ok c.in-Ok.entered) (nested_of c.tick.new.x) (inside.ticks + 1) _ did (ap (λ (n : ℕ). inside.entries + n) c.entered_once.ensures))
+    let did = c.in-Ok.ensures.value listing inside.schedule line inside.ticks es is (sym c.entries-may_enter.ensures.value) (sym c.as_slice.ensures.value) refl
+    refl (c.self.invariant.sound running) in
+    counted listing inside running line es c.line_at-line.ensures.first (Ok c.in-Ok.entered) (nested_of c.tick.new.x) (inside.ticks + 1) _ did
+    (ap (λ (n : ℕ). inside.entries + n) c.entered_once.ensures))
 
 -- at most one enters
 one_most : (b : Bool) → entered_in (Ok b) ≤ 1
@@ -128,7 +148,8 @@ invariant_of-self-in-Some c =
     let line = line_of c.line_at-line.result.now in
     let before = run_with None (nested_of inside.cpu) inside.ticks [] in
     let there = exists (flash_at (memory_of inside.cpu.mem)) in
-    let did = c.in-Ok.ensures.value there.0 s line inside.ticks [] there.1 (sym c.entries-may_enter.ensures.value) (sym c.as_slice.ensures.value) refl refl (c.self.invariant.sound running) in
+    let did = c.in-Ok.ensures.value there.0 s line inside.ticks [] there.1 (sym c.entries-may_enter.ensures.value) (sym c.as_slice.ensures.value) refl refl
+    (c.self.invariant.sound running) in
     let more = subst (λ (l : List TickLine). 0 < length l) c.in-Some.ensures.left
     (some_left (drop c.in-Some.cursor.line s.lines) c.in-Some.cursor.used c.in-Some.ensures.stands) in
     let first : length left ≡ suc (length (drop 1 left)) = ap length c.line_at-line.ensures.first in

@@ -69,5 +69,6 @@ returns c = record {
       let s = c.args.s in
       let o = c.first_outcome-self-inside.result in
       subst (Shows image s 0) (ap (λ (v : Shown). record v { outcome = o; schedule = s; left = left_while o (left_in (drop 0 s.lines) 0) }) (sym (there c)))
-      (shows_again image t c.args.start.now from s (put c) (whole c) (λ a. ap (λ (f : ℕ → ℕ). f a) shows.bytes) (bounds c u shows.plan same) o c.first_outcome-self-inside.ensures.none c.first_outcome-self-inside.ensures.out);
+      (shows_again image t c.args.start.now from s (put c) (whole c) (λ a. ap (λ (f : ℕ → ℕ). f a) shows.bytes) (bounds c u shows.plan same) o
+      c.first_outcome-self-inside.ensures.none c.first_outcome-self-inside.ensures.out);
 }

@@ -26,4 +26,6 @@ returns-clause-bare c =
 pub returns-clause-shows : goal.returns-clause-shows
 returns-clause-shows c =
     let image = c.args.image.now in
-    first_given image c.in_ok-machine.machine (subst (λ (s : Sched). Shows image s 0 c.in_ok-machine.machine) c.begin-schedule.ensures.made c.in_ok-machine.ensures.shows) c.reopen.new.self c.reopen.ensures.value
+    first_given image c.in_ok-machine.machine
+    (subst (λ (s : Sched). Shows image s 0 c.in_ok-machine.machine) c.begin-schedule.ensures.made c.in_ok-machine.ensures.shows) c.reopen.new.self
+    c.reopen.ensures.value

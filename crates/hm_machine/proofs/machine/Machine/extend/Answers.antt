@@ -24,7 +24,8 @@ use Rattle.hm_machine.proofs.machine.Machine.extend.Goals as goal
 pub returns-in-Some-clause-shows : goal.returns-in-Some-clause-shows
 returns-in-Some-clause-shows c image given line letters irq h =
     given_more image given line c.args.self.now c.args.self.now h refl
-    (λ listing is. ended_still (bare_program listing) line (timed_of c.args.self.now) c.in-Some.outcome (ap (λ (v : Shown). v.outcome) (sym c.self.view_is) ∙ c.in-Some.is))
+    (λ listing is. ended_still (bare_program listing) line (timed_of c.args.self.now) c.in-Some.outcome
+    (ap (λ (v : Shown). v.outcome) (sym c.self.view_is) ∙ c.in-Some.is))
 
 pub invariant_of-self-in-Ok : goal.invariant_of-self-in-Ok
 invariant_of-self-in-Ok c =
@@ -35,7 +36,8 @@ invariant_of-self-in-Ok c =
     let before = run_with None (nested_of inside.cpu) inside.ticks [] in
     let there = exists (flash_at (memory_of inside.cpu.mem)) in
     let plan : s ≡ bare [] = ap (λ (v : Shown). v.schedule) c.self.view_is ∙ c.requires.bare.plan in
-    let did = c.in-Ok.ensures.value there.0 s line inside.ticks [] there.1 (ap (λ (u : Sched). u.entries) plan) refl refl refl (c.self.invariant.sound running) in
+    let did = c.in-Ok.ensures.value there.0 s line inside.ticks [] there.1 (ap (λ (u : Sched). u.entries) plan) refl refl refl
+    (c.self.invariant.sound running) in
     let empty : s.lines ≡ [] = ap (λ (u : Sched). u.lines) plan in
     let none : length (left_at s.lines inside.cursor) ≡ 0 = ap length (no_left s.lines inside.cursor empty) in
     let few : inside.ticks < 16777215 = subst (λ (v : Shown). v.ticks < 16777215) (sym c.self.view_is) c.requires.ticks in
@@ -66,7 +68,8 @@ module _ (inside : Inside) (running : inside.outcome ≡ None) (bared : IsBare (
   before = run listing bared.made.0 (given_then given line) (length (map one_of given))
 
   sound : IsSoundUnder inside.schedule inside.cpu → IsSound (given_then given line) (nested_of inside.cpu)
-  sound h = sound_given given line (nested_of inside.cpu) (ap (map interrupted_of) bared.acts) (subst (λ (s : Sched). IsSound s (nested_of inside.cpu)) bared.plan h)
+  sound h = sound_given given line (nested_of inside.cpu) (ap (map interrupted_of) bared.acts)
+      (subst (λ (s : Sched). IsSound s (nested_of inside.cpu)) bared.plan h)
 
   next_shown : (o : Option Outcome) (x : Cpu) → IsListing (flash_at (memory_of inside.cpu.mem)) listing
       → (let r = tick_of listing (given_then given line) (one_of line) (run_with None (nested_of inside.cpu) inside.ticks before.entries) None in
@@ -74,7 +77,8 @@ module _ (inside : Inside) (running : inside.outcome ≡ None) (bared : IsBare (
       → shown (run_with o (nested_of x) (inside.ticks + 1) []) ≡ tick (bare_program listing) line (timed_of (machine_view inside))
   next_shown o x is e =
       let h = bared.made.2 in
-      given_on listing bared.made.0 given line (machine_view inside) (subst (λ (f : ℕ → ℕ). IsListing f listing) h.bytes is) h bared.acts running o (nested_of x) (inside.ticks + 1) e
+      given_on listing bared.made.0 given line (machine_view inside) (subst (λ (f : ℕ → ℕ). IsListing f listing) h.bytes is) h bared.acts running o
+      (nested_of x) (inside.ticks + 1) e
 
 -- one that goes on
 pub returns-in-Ok-clause-next : goal.returns-in-Ok-clause-next
@@ -86,8 +90,10 @@ returns-in-Ok-clause-next c listing line is letters irq =
     let s = given_then (given inside running bared listing line) line in
     let did = c.in-Ok.ensures.value listing s (one_of line) inside.ticks (before inside running bared listing line).entries listed refl letters irq refl
     (sound inside running bared listing line (c.self.invariant.sound running)) in
-    subst (λ (o : Option Outcome). shown (run_with o (nested_of c.tick.new.x) (inside.ticks + 1) []) ≡ tick (bare_program listing) line (timed_of c.args.self.now)) (sym running)
-    (next_shown inside running bared listing line None c.tick.new.x listed did.0 ∙ ap (λ (v : Shown). tick (bare_program listing) line (timed_of v)) c.self.view_is)
+    subst (λ (o : Option Outcome). shown (run_with o (nested_of c.tick.new.x) (inside.ticks + 1) [])
+    ≡ tick (bare_program listing) line (timed_of c.args.self.now)) (sym running)
+    (next_shown inside running bared listing line None c.tick.new.x listed did.0
+    ∙ ap (λ (v : Shown). tick (bare_program listing) line (timed_of v)) c.self.view_is)
 
 pub returns-in-Ok-clause-shows : goal.returns-in-Ok-clause-shows
 returns-in-Ok-clause-shows c image given line letters irq h =
@@ -101,7 +107,8 @@ returns-in-Ok-clause-bare c =
     let made = c.requires.bare.made in
     record {
       plan = ap (λ (v : Shown). v.schedule) c.self.view_is ∙ c.requires.bare.plan;
-      acts = still_none there.0 line c.args.self.now (newest_first c.tick.new.x.acts) c.requires.bare (ap (λ (x : Timed). x.acts) (returns-in-Ok-clause-next c there.0 line there.1 refl refl));
+      acts = still_none there.0 line c.args.self.now (newest_first c.tick.new.x.acts) c.requires.bare
+          (ap (λ (x : Timed). x.acts) (returns-in-Ok-clause-next c there.0 line there.1 refl refl));
       none = ap (λ (v : Shown). v.entries) c.self.view_is ∙ c.requires.bare.none;
       made = (made.0, made.1 ++ line ∷ [], returns-in-Ok-clause-shows c made.0 made.1 line refl refl made.2);
     }
@@ -116,7 +123,8 @@ returns-in-Err-clause-next c listing line is letters irq =
     let s = given_then (given inside running bared listing line) line in
     let did = c.in-Err.ensures.value listing s (one_of line) inside.ticks (before inside running bared listing line).entries listed refl letters irq refl
     (sound inside running bared listing line (c.self.invariant.sound running)) in
-    next_shown inside running bared listing line (Some c.in-Err.outcome) c.tick.new.x listed did.0 ∙ ap (λ (v : Shown). tick (bare_program listing) line (timed_of v)) c.self.view_is
+    next_shown inside running bared listing line (Some c.in-Err.outcome) c.tick.new.x listed did.0
+    ∙ ap (λ (v : Shown). tick (bare_program listing) line (timed_of v)) c.self.view_is
 
 pub returns-in-Err-clause-shows : goal.returns-in-Err-clause-shows
 returns-in-Err-clause-shows c image given line letters irq h =
@@ -130,7 +138,8 @@ returns-in-Err-clause-bare c =
     let made = c.requires.bare.made in
     record {
       plan = ap (λ (v : Shown). v.schedule) c.self.view_is ∙ c.requires.bare.plan;
-      acts = still_none there.0 line c.args.self.now (newest_first c.tick.new.x.acts) c.requires.bare (ap (λ (x : Timed). x.acts) (returns-in-Err-clause-next c there.0 line there.1 refl refl));
+      acts = still_none there.0 line c.args.self.now (newest_first c.tick.new.x.acts) c.requires.bare
+          (ap (λ (x : Timed). x.acts) (returns-in-Err-clause-next c there.0 line there.1 refl refl));
       none = ap (λ (v : Shown). v.entries) c.self.view_is ∙ c.requires.bare.none;
       made = (made.0, made.1 ++ line ∷ [], returns-in-Err-clause-shows c made.0 made.1 line refl refl made.2);
     }

@@ -1,4 +1,5 @@
-use Rattle.std.proofs.Common.{◌≡◌, ℕ, ◌+◌, ◌<◌, ◌≤◌, suc, List, Option, Some, None, ap, sym, ◌∙◌, subst, ◌⊎◌, inl, inr, ⊎_elim, arith, length, nat_le, eq-zero-or-pos}
+use Rattle.std.proofs.Common.{◌≡◌, ℕ, ◌+◌, ◌<◌, ◌≤◌, suc, List, Option, Some, None, ap, sym, ◌∙◌, subst, ◌⊎◌, inl, inr, ⊎_elim, arith, length, nat_le}
+use Rattle.std.proofs.Common.{eq-zero-or-pos}
 use Rattle.std.proofs.lemmas.List.{nil_from_length}
 use Rattle.hm_base.specs.Image.{Segment}
 use Rattle.hm_machine.proofs.Bares.{has_ticks}
@@ -25,7 +26,8 @@ module _ (old new : Shown) (none : old.outcome ≡ None)
       (λ some. let less = fewer none some in let one = once none some in omega arith) (eq-zero-or-pos (length old.schedule.lines))
 
   -- where the ticks are out the machine is the first one, ended so
-  over : (first : Shown) → length first.schedule.lines ≡ 0 → (old ≡ first) ⊎ (old ≡ record first { outcome = Some outcome.OutOfTicks }) → new ≡ record first { outcome = Some outcome.OutOfTicks }
+  over : (first : Shown) → length first.schedule.lines ≡ 0 → (old ≡ first) ⊎ (old ≡ record first { outcome = Some outcome.OutOfTicks })
+      → new ≡ record first { outcome = Some outcome.OutOfTicks }
   over first empty (inl same) =
       out none (ap (λ (m : Shown). length m.schedule.lines) same ∙ empty) ∙ ap (λ (m : Shown). record m { outcome = Some outcome.OutOfTicks }) same
   over first empty (inr ended) = absurd (let o = ap (λ (m : Shown). m.outcome) ended in cc)
@@ -69,7 +71,8 @@ loop-self-preserved c =
           let same = c.loop-self.invariant.ended some in
           c.tick-turn.ensures.ended (subst (λ (m : Shown). IsSome m.outcome) (sym same) some) ∙ same;
       out = λ running empty.
-          inr (over c.loop-self.self c.tick-turn.new.self none c.tick-turn.ensures.fewer c.tick-turn.ensures.once c.tick-turn.ensures.out _ empty (c.loop-self.invariant.out running empty));
+          inr (over c.loop-self.self c.tick-turn.new.self none c.tick-turn.ensures.fewer c.tick-turn.ensures.once c.tick-turn.ensures.out _ empty
+          (c.loop-self.invariant.out running empty));
       fixed = c.tick-turn.ensures.fixed ∙ c.loop-self.invariant.fixed;
     }
 
@@ -103,7 +106,8 @@ pub returns-clause-fixed : goal.returns-clause-fixed
 returns-clause-fixed c = c.loop-self.invariant.fixed
 
 -- where a machine has ended that is the first one, or the first one out of ticks, it is the other where the first one goes on
-ended_so : (m first : Shown) (o : Outcome) → m.outcome ≡ Some o → first.outcome ≡ None → (m ≡ first) ⊎ (m ≡ record first { outcome = Some outcome.OutOfTicks }) → m ≡ record first { outcome = Some outcome.OutOfTicks }
+ended_so : (m first : Shown) (o : Outcome) → m.outcome ≡ Some o → first.outcome ≡ None → (m ≡ first) ⊎ (m ≡ record first { outcome = Some outcome.OutOfTicks })
+    → m ≡ record first { outcome = Some outcome.OutOfTicks }
 ended_so m first o is none (inl same) = absurd (let p = ap (λ (x : Shown). x.outcome) same in cc)
 ended_so m first o is none (inr ended) = ended
 

@@ -40,7 +40,8 @@ no_run : (c : goal.After-self-1) → (image : List Segment) (s : Sched) (t : ℕ
 no_run c image s t h =
     let running : c.args.self.now.outcome ≡ None = ap (λ (v : Shown). v.outcome) (sym c.self.view_is) ∙ c.in_default.is in
     has_ticks image s t c.args.self.now h running
-    (ap (λ (u : Sched). u.lines) (sym h.plan) ∙ ap (λ (v : Shown). v.schedule.lines) (sym c.self.view_is) ∙ nil_from_length c.self.inside.schedule.lines (sym c.lines.ensures.count ∙ c.if-lines-eq0.true))
+    (ap (λ (u : Sched). u.lines) (sym h.plan) ∙ ap (λ (v : Shown). v.schedule.lines) (sym c.self.view_is)
+    ∙ nil_from_length c.self.inside.schedule.lines (sym c.lines.ensures.count ∙ c.if-lines-eq0.true))
 
 pub returns-then-lines-eq0-clause-shows : goal.returns-then-lines-eq0-clause-shows
 returns-then-lines-eq0-clause-shows c image s t h = absurd (no_run c image s t h)

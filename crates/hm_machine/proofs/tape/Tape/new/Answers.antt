@@ -21,7 +21,9 @@ module _ (c : goal.After-scheduled-place) where
   end = c.run-outcome.new.self
 
   ends : Shows c.args.image.now c.args.s (length (ticks_of c.args.s.lines)) end
-  ends = let on = c.in_ok-kept.ensures.goes_on c.args.image.now c.args.s c.in_ok-machine.ensures.shows in c.run-outcome.ensures.shows c.args.image.now c.args.s on.0 on.1
+  ends =
+      let on = c.in_ok-kept.ensures.goes_on c.args.image.now c.args.s c.in_ok-machine.ensures.shows in
+      c.run-outcome.ensures.shows c.args.image.now c.args.s on.0 on.1
 
   grown : Begins filled.output end.output × (filled.ticks ≤ end.ticks)
   grown =
@@ -32,15 +34,18 @@ module _ (c : goal.After-scheduled-place) where
   more = subst (Begins filled.output) (sym c.in_ok-output.ensures.value) grown.0
 
   kept : AreKept (fixed_of end) c.in_ok-output.output.items checkpoints
-  kept = kept_still (fixed_of filled) (fixed_of end) filled.output c.in_ok-output.output.items c.run-outcome.ensures.fixed more checkpoints c.in_ok-kept.ensures.kept
+  kept = kept_still (fixed_of filled) (fixed_of end) filled.output c.in_ok-output.output.items c.run-outcome.ensures.fixed more checkpoints
+      c.in_ok-kept.ensures.kept
 
   first : first_of checkpoints c.in_ok-output.output.items end ≡ c.in_ok-machine.machine
   first =
-      first_still (fixed_of filled) (fixed_of end) filled.output c.in_ok-output.output.items c.run-outcome.ensures.fixed more checkpoints filled end refl refl c.in_ok-kept.ensures.some c.in_ok-kept.ensures.kept
+      first_still (fixed_of filled) (fixed_of end) filled.output c.in_ok-output.output.items c.run-outcome.ensures.fixed more checkpoints filled end refl refl
+      c.in_ok-kept.ensures.some c.in_ok-kept.ensures.kept
       ∙ c.in_ok-kept.ensures.first
 
   lie : AreApart c.in_ok-machine.machine (fixed_of end) c.in_ok-output.output.items (c.scheduled.result / 64 + 1) checkpoints
-  lie = lie_still (fixed_of filled) (fixed_of end) filled.output c.in_ok-output.output.items c.run-outcome.ensures.fixed more c.in_ok-machine.machine (c.scheduled.result / 64 + 1) checkpoints c.in_ok-kept.ensures.kept c.in_ok-kept.ensures.lie
+  lie = lie_still (fixed_of filled) (fixed_of end) filled.output c.in_ok-output.output.items c.run-outcome.ensures.fixed more c.in_ok-machine.machine
+      (c.scheduled.result / 64 + 1) checkpoints c.in_ok-kept.ensures.kept c.in_ok-kept.ensures.lie
 
 pub invariant_of-result : goal.invariant_of-result
 invariant_of-result c = record {
@@ -62,11 +67,13 @@ returns-clause-tapes c = record {
 }
 
 pub returns-clause-apart : goal.returns-clause-apart
-returns-clause-apart c = ap (λ (n : ℕ). n / 64 + 1) (c.scheduled.ensures.value ∙ ap (λ (p : Sched). length (ticks_of p.lines)) c.in_ok-machine.ensures.shows.plan)
+returns-clause-apart c = ap (λ (n : ℕ). n / 64 + 1)
+    (c.scheduled.ensures.value ∙ ap (λ (p : Sched). length (ticks_of p.lines)) c.in_ok-machine.ensures.shows.plan)
 
 pub returns-clause-lie : goal.returns-clause-lie
 returns-clause-lie c =
-    mapped (machine_at (fixed_of (end c)) c.in_ok-output.output.items) (λ (k : ℕ) (m : Shown). Shows c.args.image.now c.args.s (k * (c.scheduled.result / 64 + 1)) m) (checkpoints c)
+    mapped (machine_at (fixed_of (end c)) c.in_ok-output.output.items)
+    (λ (k : ℕ) (m : Shown). Shows c.args.image.now c.args.s (k * (c.scheduled.result / 64 + 1)) m) (checkpoints c)
     (λ k x e. lie c k x e c.args.image.now c.args.s c.in_ok-machine.ensures.shows)
 
 pub returns-clause-reached : goal.returns-clause-reached

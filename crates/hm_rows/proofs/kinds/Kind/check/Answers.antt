@@ -9,7 +9,8 @@ use Rattle.hm_rows.specs.declared.kinds.Kind.TheVariants.{Registers}
 use Rattle.hm_rows.specs.Rows.{kind_seen, tree_of}
 use Rattle.hm_rows.proofs.kinds.Kind.check.Goals as goal
 
-registers_pass : (k : Kind) (f : Form) → k ≡ Registers f → (b : ℕ) (r : Regs) (m : Memory) (output : List ℕ) → Checks (run (tree_of (kind_seen k) m.around b) r m output) passed
+registers_pass : (k : Kind) (f : Form) → k ≡ Registers f → (b : ℕ) (r : Regs) (m : Memory) (output : List ℕ)
+    → Checks (run (tree_of (kind_seen k) m.around b) r m output) passed
 registers_pass k f e b r m output = subst (λ (x : Kind). Checks (run (tree_of (kind_seen x) m.around b) r m output) passed) (sym e) (form_passes f b r m output)
 
 pub returns-in-Registers : goal.returns-in-Registers
