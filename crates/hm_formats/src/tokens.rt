@@ -75,7 +75,7 @@ fn example() -> InstrText {
     operands.push(Part::Mark(Mark::Hash));
     operands.push(Part::Number(0xffff_ffff));
     InstrText {
-        stem: "vpt",
+        mnemonic: "vpt",
         letters: "e",
         suffix: ".s16",
         operands,

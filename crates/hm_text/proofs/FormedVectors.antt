@@ -17,7 +17,7 @@ use Rattle.hm_tokens.specs.Tokens.{Tok, word}
 use Rattle.hm_textv.specs.Rows.{HasTokens, access, at_offsets, constant_forms, long_part, other_bitwise, other_tokens, tokens_of, turns}
 use Rattle.hm_text_rows.specs.Shapes.{either, indexed, inside}
 use Rattle.hm_text_rows.proofs.Words.{at_below}
-use Rattle.hm_textv.specs.Stems.{access_stem, access_suffix, by_sign, pair_stem, plain, quad_stem}
+use Rattle.hm_textv.specs.Mnemonics.{access_mnemonic, access_suffix, by_sign, pair_mnemonic, plain, quad_mnemonic}
 use Rattle.hm_text.proofs.Formed.{Formed, is_formed}
 use Rattle.hm_text.proofs.Lines.{has_lane}
 
@@ -121,24 +121,24 @@ fine_vector (vector.V22 (v22.LongDot i)) = record { is = refl }
 fine_vector (vector.V23 i) = record { is = refl }
 fine_vector (vector.V24 i) =
     record {
-      is = indexed_formed (access_stem i.l.value i.z.value ++ access_suffix i.l.value 1 i.z.value) (register_name i.n.value) i.d.value i.p.value
+      is = indexed_formed (access_mnemonic i.l.value i.z.value ++ access_suffix i.l.value 1 i.z.value) (register_name i.n.value) i.d.value i.p.value
           i.a.value i.w.value (i.i.value * 2 ^ i.z.value);
     }
 fine_vector (vector.V25 i) =
     record {
-      is = indexed_formed (access_stem i.l.value i.h.value ++ access_suffix i.l.value i.u.value i.z.value) (register_name i.n.value) i.d.value i.p.value
+      is = indexed_formed (access_mnemonic i.l.value i.h.value ++ access_suffix i.l.value i.u.value i.z.value) (register_name i.n.value) i.d.value i.p.value
           i.a.value i.w.value (i.i.value * 2 ^ i.h.value);
     }
 fine_vector (vector.V26 i) =
     record {
-      is = offsets_formed (access_stem i.l.value i.y.value ++ access_suffix i.l.value i.u.value i.z.value) (register_name i.n.value) i.d.value i.m.value
+      is = offsets_formed (access_mnemonic i.l.value i.y.value ++ access_suffix i.l.value i.u.value i.z.value) (register_name i.n.value) i.d.value i.m.value
           i.o.value i.y.value;
     }
 fine_vector (vector.V27 i) = record
-    { is = inside_formed (access_stem i.l.value 2 ++ access_suffix i.l.value 1 2) (vector_name i.m.value) i.d.value i.a.value i.w.value (4 * i.i.value) }
+    { is = inside_formed (access_mnemonic i.l.value 2 ++ access_suffix i.l.value 1 2) (vector_name i.m.value) i.d.value i.a.value i.w.value (4 * i.i.value) }
 fine_vector (vector.V28 i) =
     record {
-      is = turns_formed (either i.f.value (pair_stem i.l.value i.p.value) (quad_stem i.l.value i.p.value) ++ plain i.z.value) (register_name i.n.value)
+      is = turns_formed (either i.f.value (pair_mnemonic i.l.value i.p.value) (quad_mnemonic i.l.value i.p.value) ++ plain i.z.value) (register_name i.n.value)
           i.f.value i.d.value i.w.value;
     }
 

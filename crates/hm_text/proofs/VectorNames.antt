@@ -51,10 +51,10 @@ code_none s o e =
     all_none (code_of_pair s o) (code_of_one s o) (code_of_sum s o) (code_of_other s o) (code_of_memory s o) (pair_none s o e) (one_none s o e) (sum_none s o e)
     (other_none s o e) (memory_none s o e)
 
-stem_begins : (name : List ℕ) → begins_with_v name ≡ false → begins_with_v (span 46 name).0 ≡ false
+mnemonic_begins : (name : List ℕ) → begins_with_v name ≡ false → begins_with_v (span 46 name).0 ≡ false
 unfolding span
-stem_begins [] e = refl
-stem_begins (c ∷ w) e =
+mnemonic_begins [] e = refl
+mnemonic_begins (c ∷ w) e =
     elim (cases_Bool (eqb c 46)) [
       | inl h ↦ rw h refl
       | inr h ↦ rw h e
@@ -74,7 +74,7 @@ vector_named [] x e = absurd cc
 vector_named (word name ∷ ts) x e =
     elim (cases_Bool (begins_with_v name)) [
       | inl t ↦ t
-      | inr f ↦ absurd (some_code (code_in (word name ∷ ts)) x (code_none (span 46 name).0 (read_operands (span 46 name).1 ts) (stem_begins name f)) e)
+      | inr f ↦ absurd (some_code (code_in (word name ∷ ts)) x (code_none (span 46 name).0 (read_operands (span 46 name).1 ts) (mnemonic_begins name f)) e)
     ]
 vector_named (number n ∷ ts) x e = absurd cc
 vector_named (mark c ∷ ts) x e = absurd cc

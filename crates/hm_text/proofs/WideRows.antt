@@ -83,9 +83,11 @@ use Rattle.hm_text_rows.proofs.Words.{below_holds}
 use Rattle.hm_text32.specs.Rows.{and_shifted, constant_tokens, data_tokens, is_by_carry, is_unshifted, insert_tokens, lane_tokens, loop_end_tokens}
 use Rattle.hm_text32.specs.Rows.{moved_tokens, other_barrier, other_scalar, other_tokens, row_tokens, shift_number, single_tokens, system_tokens, table_tokens}
 use Rattle.hm_text32.specs.Rows.{tokens_of}
-use Rattle.hm_text32.specs.Stems.{access_stem, accumulate_stem, barrier_stem, bits_stem, bits_suffix, carry_stem, data_stem, element_suffix, extend_stem}
-use Rattle.hm_text32.specs.Stems.{extract_stem, half_stem, long_stem, move_stem, operation_stem, pair_stem, saturate_stem, select_stem, stack_stem, test_stem}
-use Rattle.hm_text32.specs.Stems.{turn_stem, wide, wide_branch_stem, wide_list_stem, wide_list_suffix, wide_shift_stem, wide_sum_stem}
+use Rattle.hm_text32.specs.Mnemonics.{access_mnemonic, accumulate_mnemonic, barrier_mnemonic, bits_mnemonic, bits_suffix, carry_mnemonic, data_mnemonic}
+use Rattle.hm_text32.specs.Mnemonics.{element_suffix, extend_mnemonic}
+use Rattle.hm_text32.specs.Mnemonics.{extract_mnemonic, half_mnemonic, long_mnemonic, move_mnemonic, operation_mnemonic, pair_mnemonic, saturate_mnemonic}
+use Rattle.hm_text32.specs.Mnemonics.{select_mnemonic, stack_mnemonic, test_mnemonic}
+use Rattle.hm_text32.specs.Mnemonics.{turn_mnemonic, wide, wide_branch_mnemonic, wide_list_mnemonic, wide_list_suffix, wide_shift_mnemonic, wide_sum_mnemonic}
 use Rattle.hm_text32.specs.Texts.{AreTokens}
 use Rattle.hm_text.proofs.Formed.{Formed, is_formed}
 use Rattle.hm_text.proofs.FormedNarrow.{more_registers}
@@ -130,7 +132,7 @@ bit_free false p q = q
 ok : {w : List ℕ} → is_free w ≡ true → IsFree w
 ok e = record { is = e }
 
-free_data : (name : DataName) (s : ℕ) → IsFree (data_stem name s ++ wide)
+free_data : (name : DataName) (s : ℕ) → IsFree (data_mnemonic name s ++ wide)
 free_data data_.And s = by_bit (nat_eq s 0) (codes "and") (codes "ands") wide (ok refl) (ok refl)
 free_data data_.Bic s = by_bit (nat_eq s 0) (codes "bic") (codes "bics") wide (ok refl) (ok refl)
 free_data data_.Orr s = by_bit (nat_eq s 0) (codes "orr") (codes "orrs") wide (ok refl) (ok refl)
@@ -142,92 +144,92 @@ free_data data_.Sbc s = by_bit (nat_eq s 0) (codes "sbc") (codes "sbcs") wide (o
 free_data data_.Sub s = by_bit (nat_eq s 0) (codes "sub") (codes "subs") wide (ok refl) (ok refl)
 free_data data_.Rsb s = by_bit (nat_eq s 0) (codes "rsb") (codes "rsbs") wide (ok refl) (ok refl)
 
-free_test : (name : DataName) → IsFree (test_stem name ++ wide)
+free_test : (name : DataName) → IsFree (test_mnemonic name ++ wide)
 free_test data_.And = ok refl
 free_test data_.Eor = ok refl
 free_test data_.Add = ok refl
 free_test data_.Sub = ok refl
 free_test name = ok refl
 
-free_move : (name : DataName) (s : ℕ) → IsFree (move_stem name s ++ wide)
+free_move : (name : DataName) (s : ℕ) → IsFree (move_mnemonic name s ++ wide)
 free_move data_.Orr s = by_bit (nat_eq s 0) (codes "mov") (codes "movs") wide (ok refl) (ok refl)
 free_move data_.Orn s = by_bit (nat_eq s 0) (codes "mvn") (codes "mvns") wide (ok refl) (ok refl)
 free_move name s = ok refl
 
-free_turn : (ty s : ℕ) → ty < 4 → s < 2 → IsFree (turn_stem ty s ++ wide)
+free_turn : (ty s : ℕ) → ty < 4 → s < 2 → IsFree (turn_mnemonic ty s ++ wide)
 free_turn ty s lt bit =
-    let one_way : is_free (turn_stem ty 0 ++ wide) ≡ true = below_holds (λ k. is_free (turn_stem k 0 ++ wide)) 4 ty refl lt in
-    let other_way : is_free (turn_stem ty 1 ++ wide) ≡ true = below_holds (λ k. is_free (turn_stem k 1 ++ wide)) 4 ty refl lt in
+    let one_way : is_free (turn_mnemonic ty 0 ++ wide) ≡ true = below_holds (λ k. is_free (turn_mnemonic k 0 ++ wide)) 4 ty refl lt in
+    let other_way : is_free (turn_mnemonic ty 1 ++ wide) ≡ true = below_holds (λ k. is_free (turn_mnemonic k 1 ++ wide)) 4 ty refl lt in
     elim (cases_Bool (nat_eq s 0)) [
-      | inl e ↦ subst (λ (k : ℕ). IsFree (turn_stem ty k ++ wide)) (sym (eqb-true s 0 e)) (ok one_way)
-      | inr e ↦ let is : s ≡ 1 = grind (arith, nat_tests, e) in subst (λ (k : ℕ). IsFree (turn_stem ty k ++ wide)) (sym is) (ok other_way)
+      | inl e ↦ subst (λ (k : ℕ). IsFree (turn_mnemonic ty k ++ wide)) (sym (eqb-true s 0 e)) (ok one_way)
+      | inr e ↦ let is : s ≡ 1 = grind (arith, nat_tests, e) in subst (λ (k : ℕ). IsFree (turn_mnemonic ty k ++ wide)) (sym is) (ok other_way)
     ]
 
-free_carry : (s : ℕ) → IsFree (carry_stem s)
+free_carry : (s : ℕ) → IsFree (carry_mnemonic s)
 free_carry s = bit_free (nat_eq s 0) {x = codes "rrx"} {y = codes "rrxs"} (ok refl) (ok refl)
 
-free_wide_shift : (name : WideShiftName) (s : ℕ) → IsFree (wide_shift_stem name s ++ wide)
+free_wide_shift : (name : WideShiftName) (s : ℕ) → IsFree (wide_shift_mnemonic name s ++ wide)
 free_wide_shift wide_shift.Lsl s = by_bit (nat_eq s 0) (codes "lsl") (codes "lsls") wide (ok refl) (ok refl)
 free_wide_shift wide_shift.Lsr s = by_bit (nat_eq s 0) (codes "lsr") (codes "lsrs") wide (ok refl) (ok refl)
 free_wide_shift wide_shift.Asr s = by_bit (nat_eq s 0) (codes "asr") (codes "asrs") wide (ok refl) (ok refl)
 free_wide_shift wide_shift.Ror s = by_bit (nat_eq s 0) (codes "ror") (codes "rors") wide (ok refl) (ok refl)
 
-free_sum : (name : SumName) → IsFree (wide_sum_stem name)
+free_sum : (name : SumName) → IsFree (wide_sum_mnemonic name)
 free_sum sum_.Add = ok refl
 free_sum sum_.Sub = ok refl
 
-free_half : (name : HalfName) → IsFree (half_stem name)
+free_half : (name : HalfName) → IsFree (half_mnemonic name)
 free_half half.Movw = ok refl
 free_half half.Movt = ok refl
 
-free_saturate : (name : SaturateName) → IsFree (saturate_stem name)
+free_saturate : (name : SaturateName) → IsFree (saturate_mnemonic name)
 free_saturate saturate.Ssat = ok refl
 free_saturate saturate.Usat = ok refl
 
-free_extract : (name : ExtractName) → IsFree (extract_stem name)
+free_extract : (name : ExtractName) → IsFree (extract_mnemonic name)
 free_extract extract.Sbfx = ok refl
 free_extract extract.Ubfx = ok refl
 
-free_extend : (name : ExtendName) → IsFree (extend_stem name ++ wide)
+free_extend : (name : ExtendName) → IsFree (extend_mnemonic name ++ wide)
 free_extend extend.Sxth = ok refl
 free_extend extend.Sxtb = ok refl
 free_extend extend.Uxth = ok refl
 free_extend extend.Uxtb = ok refl
 
-free_bits : (name : BitsName) → IsFree (bits_stem name ++ bits_suffix name)
+free_bits : (name : BitsName) → IsFree (bits_mnemonic name ++ bits_suffix name)
 free_bits bits.Rev = ok refl
 free_bits bits.Rev16 = ok refl
 free_bits bits.Rbit = ok refl
 free_bits bits.Revsh = ok refl
 free_bits bits.Clz = ok refl
 
-free_operation : (name : OperationName) → IsFree (operation_stem name)
+free_operation : (name : OperationName) → IsFree (operation_mnemonic name)
 free_operation operation.Mul = ok refl
 free_operation operation.Sdiv = ok refl
 free_operation operation.Udiv = ok refl
 
-free_accumulate : (name : AccumulateName) → IsFree (accumulate_stem name)
+free_accumulate : (name : AccumulateName) → IsFree (accumulate_mnemonic name)
 free_accumulate accumulate.Mla = ok refl
 free_accumulate accumulate.Mls = ok refl
 
-free_long : (name : LongProductName) → IsFree (long_stem name)
+free_long : (name : LongProductName) → IsFree (long_mnemonic name)
 free_long long.Smull = ok refl
 free_long long.Umull = ok refl
 free_long long.Smlal = ok refl
 free_long long.Umlal = ok refl
 
-free_select : (name : SelectName) → IsFree (select_stem name)
+free_select : (name : SelectName) → IsFree (select_mnemonic name)
 free_select select.Csel = ok refl
 free_select select.Csinc = ok refl
 free_select select.Csinv = ok refl
 free_select select.Csneg = ok refl
 
-free_barrier : (name : BarrierName) → IsFree (barrier_stem name)
+free_barrier : (name : BarrierName) → IsFree (barrier_mnemonic name)
 free_barrier barrier.Dsb = ok refl
 free_barrier barrier.Dmb = ok refl
 free_barrier barrier.Isb = ok refl
 
-free_access : (name : AccessName) → IsFree (access_stem name ++ wide)
+free_access : (name : AccessName) → IsFree (access_mnemonic name ++ wide)
 free_access access.Str = ok refl
 free_access access.Strh = ok refl
 free_access access.Strb = ok refl
@@ -237,11 +239,11 @@ free_access access.Ldrh = ok refl
 free_access access.Ldrb = ok refl
 free_access access.Ldrsh = ok refl
 
-free_pair : (name : PairName) → IsFree (pair_stem name)
+free_pair : (name : PairName) → IsFree (pair_mnemonic name)
 free_pair pair.Strd = ok refl
 free_pair pair.Ldrd = ok refl
 
-free_list : (name : WideListName) → IsFree (wide_list_stem name ++ wide_list_suffix name)
+free_list : (name : WideListName) → IsFree (wide_list_mnemonic name ++ wide_list_suffix name)
 free_list wide_list.Stmia = ok refl
 free_list wide_list.Ldmia = ok refl
 free_list wide_list.Stmdb = ok refl
@@ -250,7 +252,7 @@ free_list wide_list.Ldmdb = ok refl
 free_condition : (c : ℕ) → c < 14 → IsFree (codes "b" ++ (condition_name c ++ wide))
 free_condition c lt = record { is = below_holds (λ k. is_free (codes "b" ++ (condition_name k ++ wide))) 14 c refl lt }
 
-free_branch : (name : WideBranchName) → IsFree (wide_branch_stem name)
+free_branch : (name : WideBranchName) → IsFree (wide_branch_mnemonic name)
 free_branch wide_branch.B = ok refl
 free_branch wide_branch.Bl = ok refl
 
@@ -277,20 +279,20 @@ moved_row s d m ty k lt bit = chosen (is_by_carry ty k) (row (free_carry s) refl
 
 single_row : (name : DataName) (s d m ty k : ℕ) → ty < 4 → s < 2 → IsWideRow (single_tokens name s d m ty k)
 single_row data_.Orr s d m ty k lt bit = moved_row s d m ty k lt bit
-single_row data_.Orn s d m ty k lt bit = shifted_two (move_stem data_.Orn s ++ wide) d m ty k (free_move data_.Orn s)
-single_row data_.And s d m ty k lt bit = shifted_two (move_stem data_.And s ++ wide) d m ty k (free_move data_.And s)
-single_row data_.Bic s d m ty k lt bit = shifted_two (move_stem data_.Bic s ++ wide) d m ty k (free_move data_.Bic s)
-single_row data_.Eor s d m ty k lt bit = shifted_two (move_stem data_.Eor s ++ wide) d m ty k (free_move data_.Eor s)
-single_row data_.Add s d m ty k lt bit = shifted_two (move_stem data_.Add s ++ wide) d m ty k (free_move data_.Add s)
-single_row data_.Adc s d m ty k lt bit = shifted_two (move_stem data_.Adc s ++ wide) d m ty k (free_move data_.Adc s)
-single_row data_.Sbc s d m ty k lt bit = shifted_two (move_stem data_.Sbc s ++ wide) d m ty k (free_move data_.Sbc s)
-single_row data_.Sub s d m ty k lt bit = shifted_two (move_stem data_.Sub s ++ wide) d m ty k (free_move data_.Sub s)
-single_row data_.Rsb s d m ty k lt bit = shifted_two (move_stem data_.Rsb s ++ wide) d m ty k (free_move data_.Rsb s)
+single_row data_.Orn s d m ty k lt bit = shifted_two (move_mnemonic data_.Orn s ++ wide) d m ty k (free_move data_.Orn s)
+single_row data_.And s d m ty k lt bit = shifted_two (move_mnemonic data_.And s ++ wide) d m ty k (free_move data_.And s)
+single_row data_.Bic s d m ty k lt bit = shifted_two (move_mnemonic data_.Bic s ++ wide) d m ty k (free_move data_.Bic s)
+single_row data_.Eor s d m ty k lt bit = shifted_two (move_mnemonic data_.Eor s ++ wide) d m ty k (free_move data_.Eor s)
+single_row data_.Add s d m ty k lt bit = shifted_two (move_mnemonic data_.Add s ++ wide) d m ty k (free_move data_.Add s)
+single_row data_.Adc s d m ty k lt bit = shifted_two (move_mnemonic data_.Adc s ++ wide) d m ty k (free_move data_.Adc s)
+single_row data_.Sbc s d m ty k lt bit = shifted_two (move_mnemonic data_.Sbc s ++ wide) d m ty k (free_move data_.Sbc s)
+single_row data_.Sub s d m ty k lt bit = shifted_two (move_mnemonic data_.Sub s ++ wide) d m ty k (free_move data_.Sub s)
+single_row data_.Rsb s d m ty k lt bit = shifted_two (move_mnemonic data_.Rsb s ++ wide) d m ty k (free_move data_.Rsb s)
 
 data_row : (name : DataName) (s n d m ty k : ℕ) → ty < 4 → s < 2 → IsWideRow (data_tokens name s n d m ty k)
 data_row name s n d m ty k lt bit =
-    chosen (nat_eq d 15) (shifted_two (test_stem name ++ wide) n m ty k (free_test name))
-    (chosen (nat_eq n 15) (single_row name s d m ty k lt bit) (shifted_three (data_stem name s ++ wide) d n m ty k (free_data name s)))
+    chosen (nat_eq d 15) (shifted_two (test_mnemonic name ++ wide) n m ty k (free_test name))
+    (chosen (nat_eq n 15) (single_row name s d m ty k lt bit) (shifted_three (data_mnemonic name s ++ wide) d n m ty k (free_data name s)))
 
 insert_row : (i : T7) → IsWideRow (insert_tokens i)
 insert_row i =
@@ -436,11 +438,11 @@ list_rows true n name ts free e = row free e
 list_rows false n name ts free e = row free e
 
 list_row : (i : T14) → IsWideRow (row_tokens (instr.Scalar (scalar.T14 i)))
-list_row i = list_rows (nat_eq i.w.value 0) i.n.value (wide_list_stem i.name ++ wide_list_suffix i.name) (braces i.list.value) (free_list i.name)
+list_row i = list_rows (nat_eq i.w.value 0) i.n.value (wide_list_mnemonic i.name ++ wide_list_suffix i.name) (braces i.list.value) (free_list i.name)
     (braces_taken i)
 
 -- OTHERS
-stack_row : (name : StackName) (v w : List ℕ) → IsWideRow (word (stack_stem name) ∷ open_brace ∷ word v ∷ minus_mark ∷ word w ∷ close_brace ∷ [])
+stack_row : (name : StackName) (v w : List ℕ) → IsWideRow (word (stack_mnemonic name) ∷ open_brace ∷ word v ∷ minus_mark ∷ word w ∷ close_brace ∷ [])
 stack_row stack.Vpush v w = record { named = refl; formed = refl }
 stack_row stack.Vpop v w = record { named = refl; formed = refl }
 
@@ -514,7 +516,7 @@ scalar_row (scalar.T22 i) e = lane_row i.name i.q.value i.x.value i.t.value
 -- whatever its label is, a branch has a mnemonic of its own
 jump_named : (i : T16) (t : Tok) → is_wide_line (tokens_of (instr.Branch (branch.T16 i)) t) ≡ true
 jump_named (t16.Conditional i) t = free_line (codes "b" ++ (condition_name i.c.value ++ wide)) (t ∷ []) (free_condition i.c.value i.c.in_range)
-jump_named (t16.Always i) t = free_line (wide_branch_stem i.name) (t ∷ []) (free_branch i.name)
+jump_named (t16.Always i) t = free_line (wide_branch_mnemonic i.name) (t ∷ []) (free_branch i.name)
 
 jump_formed : (i : T16) (a : ℕ) → is_formed (tokens_of (instr.Branch (branch.T16 i)) (number a)) ≡ true
 jump_formed (t16.Conditional i) a = refl
@@ -571,9 +573,9 @@ branch_formed (branch.T23 i) a e = loop_formed i a
 barrier_named : (i : T19) (ts : List Tok) → other_barrier i ≡ Some ts → is_wide_line ts ≡ true
 barrier_named t19.Nop ts e = absurd cc
 barrier_named (t19.Barrier i) ts e =
-    let a = test_some (nat_eq i.o.value 15) (Some (word (barrier_stem i.name) ∷ [])) ts e in
-    subst (λ (x : List Tok). is_wide_line x ≡ true) (some_is (word (barrier_stem i.name) ∷ []) ts a.1)
-    (free_line (barrier_stem i.name) [] (free_barrier i.name))
+    let a = test_some (nat_eq i.o.value 15) (Some (word (barrier_mnemonic i.name) ∷ [])) ts e in
+    subst (λ (x : List Tok). is_wide_line x ≡ true) (some_is (word (barrier_mnemonic i.name) ∷ []) ts a.1)
+    (free_line (barrier_mnemonic i.name) [] (free_barrier i.name))
 
 other_scalar_named : (s : Scalar) (ts : List Tok) → other_scalar s ≡ Some ts → is_wide_line ts ≡ true
 other_scalar_named (scalar.T19 i) ts e = barrier_named i ts e

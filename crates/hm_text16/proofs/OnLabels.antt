@@ -19,8 +19,8 @@ use Rattle.hm_text16.specs.declared.operands.Kind.{Kind}
 use Rattle.hm_text16.specs.declared.operands.Kind.TheVariants as kinds
 use Rattle.hm_text16.specs.Codes.{code_of}
 use Rattle.hm_text_rows.specs.Labels.{behind, distance}
-use Rattle.hm_text_rows.proofs.Words.{at_below, below_holds, is_stem}
-use Rattle.hm_text16.specs.Stems.{branch_stem, zero_stem}
+use Rattle.hm_text_rows.proofs.Words.{at_below, below_holds, is_mnemonic}
+use Rattle.hm_text16.specs.Mnemonics.{branch_mnemonic, zero_mnemonic}
 use Rattle.hm_text16.proofs.Words.{a_low}
 use Rattle.hm_text16.proofs.Forms.{given, reads_label, reads_register_label}
 use Rattle.hm_text16.proofs.Asked.{Row, label_row}
@@ -31,7 +31,8 @@ unfolding distance
 distance_back from d a hf hd e = omega (arith, e)
 
 -- S14
-asks_literal : (d v i : ℕ) (k : Kind) (pc a : ℕ) → distance ((pc + 4) / 4 * 4) a / 4 % 256 ≡ i → code_of (codes "ldr") (given d v 0 k kinds.Missing) pc a ≡ Some (0x4800 + d ↑ 8 + i)
+asks_literal : (d v i : ℕ) (k : Kind) (pc a : ℕ) → distance ((pc + 4) / 4 * 4) a / 4 % 256 ≡ i
+    → code_of (codes "ldr") (given d v 0 k kinds.Missing) pc a ≡ Some (0x4800 + d ↑ 8 + i)
 unfolding code_of
 asks_literal d v i k pc a e = rw e refl
 
@@ -46,12 +47,12 @@ row_s14 i =
     (λ t pc a hp re. asks_literal i.t.value _ i.i.value _ pc a (literal_field pc i.i.value a hp i.i.in_range re))
 
 -- S24
-stem_zero : (name : ZeroName) → is_stem (zero_stem name) ≡ true
-stem_zero zero_.Cbz = refl
-stem_zero zero_.Cbnz = refl
+mnemonic_zero : (name : ZeroName) → is_mnemonic (zero_mnemonic name) ≡ true
+mnemonic_zero zero_.Cbz = refl
+mnemonic_zero zero_.Cbnz = refl
 
 asks_zero : (name : ZeroName) (n v i : ℕ) (k : Kind) (pc a : ℕ) → distance (pc + 4) a / 2 % 64 ≡ i
-    → code_of (zero_stem name) (given n v 0 k kinds.Missing) pc a ≡ Some (zero_base name + (i / 32) ↑ 9 + (i % 32) ↑ 3 + n)
+    → code_of (zero_mnemonic name) (given n v 0 k kinds.Missing) pc a ≡ Some (zero_base name + (i / 32) ↑ 9 + (i % 32) ↑ 3 + n)
 unfolding code_of
 asks_zero zero_.Cbz n v i k pc a e = rw e refl
 asks_zero zero_.Cbnz n v i k pc a e = rw e refl
@@ -63,22 +64,53 @@ zero_field pc i a hp hi e =
 
 pub row_s24 : (i : S24) → Row (instr.Branch (branch.S24 i))
 row_s24 i =
-    label_row (instr.Branch (branch.S24 i)) (zero_stem i.name) _ _ refl refl (reads_register_label (zero_stem i.name) _ _ (stem_zero i.name) (a_low i.n.value i.n.in_range))
+    label_row (instr.Branch (branch.S24 i)) (zero_mnemonic i.name) _ _ refl refl
+    (reads_register_label (zero_mnemonic i.name) _ _ (mnemonic_zero i.name) (a_low i.n.value i.n.in_range))
     (λ t pc a hp re. asks_zero i.name i.n.value _ i.i.value _ pc a (zero_field pc i.i.value a hp i.i.in_range re))
 
 -- S25
 abbrev AsksConditional : ℕ → Type 0
-AsksConditional c = (v i pc a : ℕ) → distance (pc + 4) a / 2 % 256 ≡ i → code_of (branch_stem c) (given v 0 0 kinds.Missing kinds.Missing) pc a ≡ Some (0xd000 + c ↑ 8 + i)
+AsksConditional c = (v i pc a : ℕ) → distance (pc + 4) a / 2 % 256 ≡ i
+    → code_of (branch_mnemonic c) (given v 0 0 kinds.Missing kinds.Missing) pc a ≡ Some (0xd000 + c ↑ 8 + i)
 
 asks_conditional : (c : ℕ) → c < 14 → AsksConditional c
 unfolding code_of
 asks_conditional c lt =
-    at_below AsksConditional 14 c
-    ((λ v i pc a e. rw e refl), ((λ v i pc a e. rw e refl), ((λ v i pc a e. rw e refl), ((λ v i pc a e. rw e refl), ((λ v i pc a e. rw e refl), ((λ v i pc a e. rw e refl), ((λ v i pc a e. rw e refl), ((λ v i pc a e. rw e refl), ((λ v i pc a e. rw e refl), ((λ v i pc a e. rw e refl), ((λ v i pc a e. rw e refl), ((λ v i pc a e. rw e refl), ((λ v i pc a e. rw e refl), ((λ v i pc a e. rw e refl), tt))))))))))))))
+    at_below AsksConditional 14 c (
+      (λ v i pc a e. rw e refl),
+      (
+        (λ v i pc a e. rw e refl),
+        (
+          (λ v i pc a e. rw e refl),
+          (
+            (λ v i pc a e. rw e refl),
+            (
+              (λ v i pc a e. rw e refl),
+              (
+                (λ v i pc a e. rw e refl),
+                (
+                  (λ v i pc a e. rw e refl),
+                  (
+                    (λ v i pc a e. rw e refl),
+                    (
+                      (λ v i pc a e. rw e refl),
+                      (
+                        (λ v i pc a e. rw e refl),
+                        ((λ v i pc a e. rw e refl), ((λ v i pc a e. rw e refl), ((λ v i pc a e. rw e refl), ((λ v i pc a e. rw e refl), tt)))),
+                      ),
+                    ),
+                  ),
+                ),
+              ),
+            ),
+          ),
+        ),
+      ),
+    )
     lt
 
-stem_branch : (c : ℕ) → c < 14 → is_stem (branch_stem c) ≡ true
-stem_branch c lt = below_holds (λ j. is_stem (branch_stem j)) 14 c refl lt
+mnemonic_branch : (c : ℕ) → c < 14 → is_mnemonic (branch_mnemonic c) ≡ true
+mnemonic_branch c lt = below_holds (λ j. is_mnemonic (branch_mnemonic j)) 14 c refl lt
 
 asks_always : (v i pc a : ℕ) → distance (pc + 4) a / 2 % 2048 ≡ i → code_of (codes "b") (given v 0 0 kinds.Missing kinds.Missing) pc a ≡ Some (0xe000 + i)
 unfolding code_of
@@ -114,7 +146,8 @@ branch_field half i d pc a hp f e =
 
 pub row_s25 : (i : S25) → Row (instr.Branch (branch.S25 i))
 row_s25 (s25.Conditional i) =
-    label_row (instr.Branch (branch.S25 (s25.Conditional i))) (branch_stem i.c.value) _ _ refl refl (reads_label (branch_stem i.c.value) (stem_branch i.c.value i.c.in_range))
+    label_row (instr.Branch (branch.S25 (s25.Conditional i))) (branch_mnemonic i.c.value) _ _ refl refl
+    (reads_label (branch_mnemonic i.c.value) (mnemonic_branch i.c.value i.c.in_range))
     (λ t pc a hp re. asks_conditional i.c.value i.c.in_range _ i.i.value pc a
     (branch_field 128 i.i.value (sign_extended 9 (2 * i.i.value)) pc a hp (near_field (2 * i.i.value) i.i.value refl i.i.in_range) re))
 row_s25 (s25.Always i) =

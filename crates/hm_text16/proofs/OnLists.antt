@@ -22,9 +22,9 @@ use Rattle.hm_text16.specs.Codes.{code_in, code_of}
 use Rattle.hm_text16.specs.Operands.{read_operands}
 use Rattle.hm_text_rows.specs.Operands.{bits_of, braced}
 use Rattle.hm_text_rows.specs.Shapes.{braces, r}
-use Rattle.hm_text_rows.proofs.Words.{at_below, below_holds, is_stem}
+use Rattle.hm_text_rows.proofs.Words.{at_below, below_holds, is_mnemonic}
 use Rattle.hm_text16.specs.Rows.{list_tokens}
-use Rattle.hm_text16.specs.Stems.{block_stem, letters_above}
+use Rattle.hm_text16.specs.Mnemonics.{block_mnemonic, letters_above}
 use Rattle.hm_text16.proofs.Words.{a_condition, a_low, less}
 use Rattle.hm_text16.proofs.Registers.{Braces, low_braces, pop_braces, push_braces}
 use Rattle.hm_text16.proofs.Forms.{given, reads_one}
@@ -62,11 +62,11 @@ pop_field zero m hx hm = (omega arith, omega arith)
 pop_field (suc zero) m hx hm = (omega arith, omega arith)
 pop_field (suc (suc x)) m hx hm = absurd (omega arith)
 
-printed_written : (s : List ℕ) (n regs : ℕ) → is_stem s ≡ true → n < 8 → Braces regs → IsPrinted (word s ∷ r n ∷ bang ∷ comma ∷ braces regs)
-printed_written s n regs stem hn b = without_suffix s _ (printed_list s [] 1 n regs stem refl (omega arith) (omega (arith, hn)) b.few)
+printed_written : (s : List ℕ) (n regs : ℕ) → is_mnemonic s ≡ true → n < 8 → Braces regs → IsPrinted (word s ∷ r n ∷ bang ∷ comma ∷ braces regs)
+printed_written s n regs mnemonic hn b = without_suffix s _ (printed_list s [] 1 n regs mnemonic refl (omega arith) (omega (arith, hn)) b.few)
 
-printed_read : (s : List ℕ) (n regs : ℕ) → is_stem s ≡ true → n < 8 → Braces regs → IsPrinted (word s ∷ r n ∷ comma ∷ braces regs)
-printed_read s n regs stem hn b = without_suffix s _ (printed_list s [] 0 n regs stem refl (omega arith) (omega (arith, hn)) b.few)
+printed_read : (s : List ℕ) (n regs : ℕ) → is_mnemonic s ≡ true → n < 8 → Braces regs → IsPrinted (word s ∷ r n ∷ comma ∷ braces regs)
+printed_read s n regs mnemonic hn b = without_suffix s _ (printed_list s [] 0 n regs mnemonic refl (omega arith) (omega (arith, hn)) b.few)
 
 push_row : (x n m : ℕ) → x < 2 → m < 256 → n ≡ 0 → ListRow (word (codes "push") ∷ braces (m + x ↑ 14)) (0xb400 + x ↑ 8 + n ↑ 8 + m)
 push_row x n m hx hm hn =
@@ -155,15 +155,73 @@ AsksOdd j = (c pc a : ℕ) → c % 2 ≡ 1
 asks_even : (j : ℕ) → j < 15 → AsksEven j
 unfolding code_of
 asks_even j lt =
-    at_below AsksEven 15 j
-    ((λ c pc a e. rw e refl), ((λ c pc a e. rw e refl), ((λ c pc a e. rw e refl), ((λ c pc a e. rw e refl), ((λ c pc a e. rw e refl), ((λ c pc a e. rw e refl), ((λ c pc a e. rw e refl), ((λ c pc a e. rw e refl), ((λ c pc a e. rw e refl), ((λ c pc a e. rw e refl), ((λ c pc a e. rw e refl), ((λ c pc a e. rw e refl), ((λ c pc a e. rw e refl), ((λ c pc a e. rw e refl), ((λ c pc a e. rw e refl), tt)))))))))))))))
+    at_below AsksEven 15 j (
+      (λ c pc a e. rw e refl),
+      (
+        (λ c pc a e. rw e refl),
+        (
+          (λ c pc a e. rw e refl),
+          (
+            (λ c pc a e. rw e refl),
+            (
+              (λ c pc a e. rw e refl),
+              (
+                (λ c pc a e. rw e refl),
+                (
+                  (λ c pc a e. rw e refl),
+                  (
+                    (λ c pc a e. rw e refl),
+                    (
+                      (λ c pc a e. rw e refl),
+                      (
+                        (λ c pc a e. rw e refl),
+                        ((λ c pc a e. rw e refl), ((λ c pc a e. rw e refl), ((λ c pc a e. rw e refl), ((λ c pc a e. rw e refl), ((λ c pc a e. rw e refl), tt))))),
+                      ),
+                    ),
+                  ),
+                ),
+              ),
+            ),
+          ),
+        ),
+      ),
+    )
     lt
 
 asks_odd : (j : ℕ) → j < 15 → AsksOdd j
 unfolding code_of
 asks_odd j lt =
-    at_below AsksOdd 15 j
-    ((λ c pc a e. rw e refl), ((λ c pc a e. rw e refl), ((λ c pc a e. rw e refl), ((λ c pc a e. rw e refl), ((λ c pc a e. rw e refl), ((λ c pc a e. rw e refl), ((λ c pc a e. rw e refl), ((λ c pc a e. rw e refl), ((λ c pc a e. rw e refl), ((λ c pc a e. rw e refl), ((λ c pc a e. rw e refl), ((λ c pc a e. rw e refl), ((λ c pc a e. rw e refl), ((λ c pc a e. rw e refl), ((λ c pc a e. rw e refl), tt)))))))))))))))
+    at_below AsksOdd 15 j (
+      (λ c pc a e. rw e refl),
+      (
+        (λ c pc a e. rw e refl),
+        (
+          (λ c pc a e. rw e refl),
+          (
+            (λ c pc a e. rw e refl),
+            (
+              (λ c pc a e. rw e refl),
+              (
+                (λ c pc a e. rw e refl),
+                (
+                  (λ c pc a e. rw e refl),
+                  (
+                    (λ c pc a e. rw e refl),
+                    (
+                      (λ c pc a e. rw e refl),
+                      (
+                        (λ c pc a e. rw e refl),
+                        ((λ c pc a e. rw e refl), ((λ c pc a e. rw e refl), ((λ c pc a e. rw e refl), ((λ c pc a e. rw e refl), ((λ c pc a e. rw e refl), tt))))),
+                      ),
+                    ),
+                  ),
+                ),
+              ),
+            ),
+          ),
+        ),
+      ),
+    )
     lt
 
 parity : (c : ℕ) → (c % 2 ≡ 0) ⊎ (c % 2 ≡ 1)
@@ -173,7 +231,7 @@ parity c =
       | inr e ↦ inr (grind (arith, nat_tests))
     ]
 
-asks_block : (c m pc a : ℕ) → 0 < m → m < 16 → code_of (block_stem c m) (given c 0 0 kinds.Missing kinds.Missing) pc a ≡ Some (0xbf00 + c ↑ 4 + m)
+asks_block : (c m pc a : ℕ) → 0 < m → m < 16 → code_of (block_mnemonic c m) (given c 0 0 kinds.Missing kinds.Missing) pc a ≡ Some (0xbf00 + c ↑ 4 + m)
 asks_block c zero pc a some lt = absurd (omega arith)
 asks_block c (suc j) pc a some lt =
     elim (parity c) [
@@ -181,10 +239,10 @@ asks_block c (suc j) pc a some lt =
       | inr e ↦ rw e (asks_odd j (omega arith) c pc a e)
     ]
 
-stem_low : (low : ℕ) (m : ℕ) → low < 2 → m < 16 → is_stem (codes "it" ++ letters_above low m) ≡ true
-stem_low zero m hl lt = below_holds (λ j. is_stem (codes "it" ++ letters_above 0 j)) 16 m refl lt
-stem_low (suc zero) m hl lt = below_holds (λ j. is_stem (codes "it" ++ letters_above 1 j)) 16 m refl lt
-stem_low (suc (suc low)) m hl lt = absurd (omega arith)
+mnemonic_low : (low : ℕ) (m : ℕ) → low < 2 → m < 16 → is_mnemonic (codes "it" ++ letters_above low m) ≡ true
+mnemonic_low zero m hl lt = below_holds (λ j. is_mnemonic (codes "it" ++ letters_above 0 j)) 16 m refl lt
+mnemonic_low (suc zero) m hl lt = below_holds (λ j. is_mnemonic (codes "it" ++ letters_above 1 j)) 16 m refl lt
+mnemonic_low (suc (suc low)) m hl lt = absurd (omega arith)
 
 some_mask : (c m : ℕ) → keeps_it c m ≡ true → 0 < m
 some_mask c m e = less 0 m (and_parts _ _ e).0
@@ -192,5 +250,5 @@ some_mask c m e = less 0 m (and_parts _ _ e).0
 pub row_s21 : (i : S21) → Row (instr.Scalar (scalar.S21 i))
 row_s21 i =
     plain_row (instr.Scalar (scalar.S21 i)) _ _ _ refl refl
-    (reads_one _ _ _ (stem_low (i.c.value % 2) i.mask.value (omega arith) i.mask.in_range) (a_condition i.c.value i.c.in_range))
+    (reads_one _ _ _ (mnemonic_low (i.c.value % 2) i.mask.value (omega arith) i.mask.in_range) (a_condition i.c.value i.c.in_range))
     (λ p b. asks_block i.c.value i.mask.value p b (some_mask i.c.value i.mask.value i.row) i.mask.in_range)

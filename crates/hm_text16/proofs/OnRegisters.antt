@@ -50,20 +50,21 @@ use Rattle.hm_text16.specs.declared.operands.Kind.TheVariants as kinds
 use Rattle.hm_text16.specs.Codes.{code_of}
 use Rattle.hm_text16.specs.Operands.{word_value}
 use Rattle.hm_text16.specs.Rows.{base_register, shift_number}
-use Rattle.hm_text16.specs.Stems.{byte_stem, extend_stem, hint_stem, jump_stem, logic_stem, masking_stem, shift_stem, stack_sum_stem, sum_stem, swap_stem}
+use Rattle.hm_text16.specs.Mnemonics.{byte_mnemonic, extend_mnemonic, hint_mnemonic, jump_mnemonic, logic_mnemonic, masking_mnemonic, shift_mnemonic}
+use Rattle.hm_text16.specs.Mnemonics.{stack_sum_mnemonic, sum_mnemonic, swap_mnemonic}
 use Rattle.hm_text16.proofs.Words.{Operand, a_low, a_register, less}
-use Rattle.hm_text_rows.proofs.Words.{below_holds, below_is, is_stem}
+use Rattle.hm_text_rows.proofs.Words.{below_holds, below_is, is_mnemonic}
 use Rattle.hm_text16.proofs.Forms.{given, reads_constant, reads_none, reads_one, reads_one_constant, reads_three, reads_two, reads_two_constant}
 use Rattle.hm_text16.proofs.Asked.{Row, plain_row}
 
 -- S1
-stem_shift : (name : ShiftName) → is_stem (shift_stem name) ≡ true
-stem_shift shift.Lsl = refl
-stem_shift shift.Lsr = refl
-stem_shift shift.Asr = refl
+mnemonic_shift : (name : ShiftName) → is_mnemonic (shift_mnemonic name) ≡ true
+mnemonic_shift shift.Lsl = refl
+mnemonic_shift shift.Lsr = refl
+mnemonic_shift shift.Asr = refl
 
 asks_shift : (name : ShiftName) (i m d k pc a : ℕ) → k % 32 ≡ i
-    → code_of (shift_stem name) (given d m k kinds.Word kinds.Number) pc a ≡ Some (shift_base name + i ↑ 6 + m ↑ 3 + d)
+    → code_of (shift_mnemonic name) (given d m k kinds.Word kinds.Number) pc a ≡ Some (shift_base name + i ↑ 6 + m ↑ 3 + d)
 unfolding code_of
 asks_shift shift.Lsl i m d k pc a h0 = rw h0 refl
 asks_shift shift.Lsr i m d k pc a h0 = rw h0 refl
@@ -81,26 +82,26 @@ shift_small shift.Asr i lt = less _ _ (below_holds (λ j. ltb (shift_number shif
 
 pub row_s1 : (i : S1) → Row (instr.Scalar (scalar.S1 i))
 row_s1 i = plain_row (instr.Scalar (scalar.S1 i)) _ _ _ refl refl
-    (reads_two_constant _ _ _ _ _ _ (stem_shift i.name) (a_low i.d.value i.d.in_range) (a_low i.m.value i.m.in_range)
+    (reads_two_constant _ _ _ _ _ _ (mnemonic_shift i.name) (a_low i.d.value i.d.in_range) (a_low i.m.value i.m.in_range)
     (shift_small i.name i.i.value i.i.in_range)) (λ p b. asks_shift i.name i.i.value _ _ _ p b (shift_back i.name i.i.value i.i.in_range))
 
 -- S2, S3
-stem_sum : (name : SumName) → is_stem (sum_stem name) ≡ true
-stem_sum sum_.Add = refl
-stem_sum sum_.Sub = refl
+mnemonic_sum : (name : SumName) → is_mnemonic (sum_mnemonic name) ≡ true
+mnemonic_sum sum_.Add = refl
+mnemonic_sum sum_.Sub = refl
 
-asks_sum : (name : SumName) (m n d pc a : ℕ) → code_of (sum_stem name) (given d n m kinds.Word kinds.Word) pc a ≡ Some (sum_base name + m ↑ 6 + n ↑ 3 + d)
+asks_sum : (name : SumName) (m n d pc a : ℕ) → code_of (sum_mnemonic name) (given d n m kinds.Word kinds.Word) pc a ≡ Some (sum_base name + m ↑ 6 + n ↑ 3 + d)
 unfolding code_of
 asks_sum sum_.Add m n d pc a = refl
 asks_sum sum_.Sub m n d pc a = refl
 
 pub row_s2 : (i : S2) → Row (instr.Scalar (scalar.S2 i))
 row_s2 i = plain_row (instr.Scalar (scalar.S2 i)) _ _ _ refl refl
-    (reads_three _ _ _ _ _ _ _ (stem_sum i.name) (a_low i.d.value i.d.in_range) (a_low i.n.value i.n.in_range) (a_low i.m.value i.m.in_range))
+    (reads_three _ _ _ _ _ _ _ (mnemonic_sum i.name) (a_low i.d.value i.d.in_range) (a_low i.n.value i.n.in_range) (a_low i.m.value i.m.in_range))
     (λ p b. asks_sum i.name _ _ _ p b)
 
 asks_small_sum : (name : SumName) (i n d pc a : ℕ)
-    → code_of (sum_stem name) (given d n i kinds.Word kinds.Number) pc a ≡ Some (sum_base name + 0x0400 + i ↑ 6 + n ↑ 3 + d)
+    → code_of (sum_mnemonic name) (given d n i kinds.Word kinds.Number) pc a ≡ Some (sum_base name + 0x0400 + i ↑ 6 + n ↑ 3 + d)
 unfolding code_of
 asks_small_sum sum_.Add i n d pc a = refl
 asks_small_sum sum_.Sub i n d pc a = refl
@@ -113,17 +114,17 @@ eight_fits i lt = omega arith
 
 pub row_s3 : (i : S3) → Row (instr.Scalar (scalar.S3 i))
 row_s3 i = plain_row (instr.Scalar (scalar.S3 i)) _ _ _ refl refl
-    (reads_two_constant _ _ _ _ _ _ (stem_sum i.name) (a_low i.d.value i.d.in_range) (a_low i.n.value i.n.in_range) (eight_fits i.i.value i.i.in_range))
+    (reads_two_constant _ _ _ _ _ _ (mnemonic_sum i.name) (a_low i.d.value i.d.in_range) (a_low i.n.value i.n.in_range) (eight_fits i.i.value i.i.in_range))
     (λ p b. asks_small_sum i.name _ _ _ p b)
 
 -- S4
-stem_byte : (name : ByteName) → is_stem (byte_stem name) ≡ true
-stem_byte byte.Mov = refl
-stem_byte byte.Cmp = refl
-stem_byte byte.Add = refl
-stem_byte byte.Sub = refl
+mnemonic_byte : (name : ByteName) → is_mnemonic (byte_mnemonic name) ≡ true
+mnemonic_byte byte.Mov = refl
+mnemonic_byte byte.Cmp = refl
+mnemonic_byte byte.Add = refl
+mnemonic_byte byte.Sub = refl
 
-asks_byte : (name : ByteName) (d i pc a : ℕ) → code_of (byte_stem name) (given d i 0 kinds.Number kinds.Missing) pc a ≡ Some (byte_base name + d ↑ 8 + i)
+asks_byte : (name : ByteName) (d i pc a : ℕ) → code_of (byte_mnemonic name) (given d i 0 kinds.Number kinds.Missing) pc a ≡ Some (byte_base name + d ↑ 8 + i)
 unfolding code_of
 asks_byte byte.Mov d i pc a = refl
 asks_byte byte.Cmp d i pc a = refl
@@ -132,32 +133,32 @@ asks_byte byte.Sub d i pc a = refl
 
 pub row_s4 : (i : S4) → Row (instr.Scalar (scalar.S4 i))
 row_s4 i = plain_row (instr.Scalar (scalar.S4 i)) _ _ _ refl refl
-    (reads_one_constant _ _ _ _ (stem_byte i.name) (a_low i.d.value i.d.in_range) (byte_fits i.i.value i.i.in_range)) (λ p b. asks_byte i.name _ _ p b)
+    (reads_one_constant _ _ _ _ (mnemonic_byte i.name) (a_low i.d.value i.d.in_range) (byte_fits i.i.value i.i.in_range)) (λ p b. asks_byte i.name _ _ p b)
 
 -- S5
-stem_logic : (name : LogicName) → is_stem (logic_stem name) ≡ true
-stem_logic logic.Ands = refl
-stem_logic logic.Eors = refl
-stem_logic logic.Lsls = refl
-stem_logic logic.Lsrs = refl
-stem_logic logic.Asrs = refl
-stem_logic logic.Adcs = refl
-stem_logic logic.Sbcs = refl
-stem_logic logic.Rors = refl
-stem_logic logic.Tst = refl
-stem_logic logic.Rsbs = refl
-stem_logic logic.Cmp = refl
-stem_logic logic.Cmn = refl
-stem_logic logic.Orrs = refl
-stem_logic logic.Muls = refl
-stem_logic logic.Bics = refl
-stem_logic logic.Mvns = refl
+mnemonic_logic : (name : LogicName) → is_mnemonic (logic_mnemonic name) ≡ true
+mnemonic_logic logic.Ands = refl
+mnemonic_logic logic.Eors = refl
+mnemonic_logic logic.Lsls = refl
+mnemonic_logic logic.Lsrs = refl
+mnemonic_logic logic.Asrs = refl
+mnemonic_logic logic.Adcs = refl
+mnemonic_logic logic.Sbcs = refl
+mnemonic_logic logic.Rors = refl
+mnemonic_logic logic.Tst = refl
+mnemonic_logic logic.Rsbs = refl
+mnemonic_logic logic.Cmp = refl
+mnemonic_logic logic.Cmn = refl
+mnemonic_logic logic.Orrs = refl
+mnemonic_logic logic.Muls = refl
+mnemonic_logic logic.Bics = refl
+mnemonic_logic logic.Mvns = refl
 
 low_test : (d m : ℕ) → d < 8 → m < 8 → (nat_le 8 d || nat_le 8 m) ≡ false
 low_test d m hd hm = grind (arith, nat_tests)
 
 asks_logic : (name : LogicName) (m d pc a : ℕ) → (nat_le 8 d || nat_le 8 m) ≡ false
-    → code_of (logic_stem name) (given d m 0 kinds.Word kinds.Missing) pc a ≡ Some (logic_base name + m ↑ 3 + d)
+    → code_of (logic_mnemonic name) (given d m 0 kinds.Word kinds.Missing) pc a ≡ Some (logic_base name + m ↑ 3 + d)
 unfolding code_of
 asks_logic logic.Ands m d pc a h0 = refl
 asks_logic logic.Eors m d pc a h0 = refl
@@ -178,7 +179,7 @@ asks_logic logic.Mvns m d pc a h0 = refl
 
 pub row_s5 : (i : S5) → Row (instr.Scalar (scalar.S5 i))
 row_s5 i = plain_row (instr.Scalar (scalar.S5 i)) _ _ _ refl refl
-    (reads_two _ _ _ _ _ (stem_logic i.name) (a_low i.d.value i.d.in_range) (a_low i.m.value i.m.in_range))
+    (reads_two _ _ _ _ _ (mnemonic_logic i.name) (a_low i.d.value i.d.in_range) (a_low i.m.value i.m.in_range))
     (λ p b. asks_logic i.name _ _ p b (low_test i.d.value i.m.value i.d.in_range i.m.in_range))
 
 -- S6 to S8
@@ -233,12 +234,12 @@ row_s9 i = plain_row (instr.Scalar (scalar.S9 i)) _ _ _ refl refl
     (reads_two_constant (codes "add") _ _ _ _ _ refl (a_low i.d.value i.d.in_range) (a_register (base_register i.name) (base_below i.name))
     (words_fit i.i.value i.i.in_range)) (λ p b. asks_address i.name _ i.i.value _ p b (quarter i.i.value))
 
-stem_stack_sum : (name : SumName) → is_stem (stack_sum_stem name) ≡ true
-stem_stack_sum sum_.Add = refl
-stem_stack_sum sum_.Sub = refl
+mnemonic_stack_sum : (name : SumName) → is_mnemonic (stack_sum_mnemonic name) ≡ true
+mnemonic_stack_sum sum_.Add = refl
+mnemonic_stack_sum sum_.Sub = refl
 
 asks_stack_sum : (name : SumName) (i k d pc a : ℕ) → k / 4 ≡ i
-    → code_of (stack_sum_stem name) (given d k 0 kinds.Number kinds.Missing) pc a ≡ Some (stack_sum_base name + i)
+    → code_of (stack_sum_mnemonic name) (given d k 0 kinds.Number kinds.Missing) pc a ≡ Some (stack_sum_base name + i)
 unfolding code_of
 asks_stack_sum sum_.Add i k d pc a h0 = rw h0 refl
 asks_stack_sum sum_.Sub i k d pc a h0 = rw h0 refl
@@ -248,17 +249,18 @@ stack_words_fit i lt = omega arith
 
 pub row_s10 : (i : S10) → Row (instr.Scalar (scalar.S10 i))
 row_s10 i = plain_row (instr.Scalar (scalar.S10 i)) _ _ _ refl refl
-    (reads_one_constant _ _ _ _ (stem_stack_sum i.name) (a_register 13 (omega arith)) (stack_words_fit i.i.value i.i.in_range))
+    (reads_one_constant _ _ _ _ (mnemonic_stack_sum i.name) (a_register 13 (omega arith)) (stack_words_fit i.i.value i.i.in_range))
     (λ p b. asks_stack_sum i.name i.i.value _ _ p b (quarter i.i.value))
 
 -- S11, S12
-stem_extend : (name : ExtendName) → is_stem (extend_stem name) ≡ true
-stem_extend extend.Sxth = refl
-stem_extend extend.Sxtb = refl
-stem_extend extend.Uxth = refl
-stem_extend extend.Uxtb = refl
+mnemonic_extend : (name : ExtendName) → is_mnemonic (extend_mnemonic name) ≡ true
+mnemonic_extend extend.Sxth = refl
+mnemonic_extend extend.Sxtb = refl
+mnemonic_extend extend.Uxth = refl
+mnemonic_extend extend.Uxtb = refl
 
-asks_extend : (name : ExtendName) (m d pc a : ℕ) → code_of (extend_stem name) (given d m 0 kinds.Word kinds.Missing) pc a ≡ Some (extend_base name + m ↑ 3 + d)
+asks_extend : (name : ExtendName) (m d pc a : ℕ)
+    → code_of (extend_mnemonic name) (given d m 0 kinds.Word kinds.Missing) pc a ≡ Some (extend_base name + m ↑ 3 + d)
 unfolding code_of
 asks_extend extend.Sxth m d pc a = refl
 asks_extend extend.Sxtb m d pc a = refl
@@ -267,14 +269,14 @@ asks_extend extend.Uxtb m d pc a = refl
 
 pub row_s11 : (i : S11) → Row (instr.Scalar (scalar.S11 i))
 row_s11 i = plain_row (instr.Scalar (scalar.S11 i)) _ _ _ refl refl
-    (reads_two _ _ _ _ _ (stem_extend i.name) (a_low i.d.value i.d.in_range) (a_low i.m.value i.m.in_range)) (λ p b. asks_extend i.name _ _ p b)
+    (reads_two _ _ _ _ _ (mnemonic_extend i.name) (a_low i.d.value i.d.in_range) (a_low i.m.value i.m.in_range)) (λ p b. asks_extend i.name _ _ p b)
 
-stem_swap : (name : SwapName) → is_stem (swap_stem name) ≡ true
-stem_swap swap_.Rev = refl
-stem_swap swap_.Rev16 = refl
-stem_swap swap_.Revsh = refl
+mnemonic_swap : (name : SwapName) → is_mnemonic (swap_mnemonic name) ≡ true
+mnemonic_swap swap_.Rev = refl
+mnemonic_swap swap_.Rev16 = refl
+mnemonic_swap swap_.Revsh = refl
 
-asks_swap : (name : SwapName) (m d pc a : ℕ) → code_of (swap_stem name) (given d m 0 kinds.Word kinds.Missing) pc a ≡ Some (swap_base name + m ↑ 3 + d)
+asks_swap : (name : SwapName) (m d pc a : ℕ) → code_of (swap_mnemonic name) (given d m 0 kinds.Word kinds.Missing) pc a ≡ Some (swap_base name + m ↑ 3 + d)
 unfolding code_of
 asks_swap swap_.Rev m d pc a = refl
 asks_swap swap_.Rev16 m d pc a = refl
@@ -282,14 +284,14 @@ asks_swap swap_.Revsh m d pc a = refl
 
 pub row_s12 : (i : S12) → Row (instr.Scalar (scalar.S12 i))
 row_s12 i = plain_row (instr.Scalar (scalar.S12 i)) _ _ _ refl refl
-    (reads_two _ _ _ _ _ (stem_swap i.name) (a_low i.d.value i.d.in_range) (a_low i.m.value i.m.in_range)) (λ p b. asks_swap i.name _ _ p b)
+    (reads_two _ _ _ _ _ (mnemonic_swap i.name) (a_low i.d.value i.d.in_range) (a_low i.m.value i.m.in_range)) (λ p b. asks_swap i.name _ _ p b)
 
 -- S13, S18, S19, S23
-stem_masking : (name : MaskingName) → is_stem (masking_stem name) ≡ true
-stem_masking masking.Cpsie = refl
-stem_masking masking.Cpsid = refl
+mnemonic_masking : (name : MaskingName) → is_mnemonic (masking_mnemonic name) ≡ true
+mnemonic_masking masking.Cpsie = refl
+mnemonic_masking masking.Cpsid = refl
 
-asks_masking : (name : MaskingName) (x pc a : ℕ) → code_of (masking_stem name) (given x 0 0 kinds.Missing kinds.Missing) pc a ≡ Some (masking_base name)
+asks_masking : (name : MaskingName) (x pc a : ℕ) → code_of (masking_mnemonic name) (given x 0 0 kinds.Missing kinds.Missing) pc a ≡ Some (masking_base name)
 unfolding code_of
 asks_masking masking.Cpsie x pc a = refl
 asks_masking masking.Cpsid x pc a = refl
@@ -299,7 +301,7 @@ unfolding word_value
 the_i = record { value = refl; is = refl }
 
 pub row_s13 : (i : S13) → Row (instr.Scalar (scalar.S13 i))
-row_s13 i = plain_row (instr.Scalar (scalar.S13 i)) _ _ _ refl refl (reads_one _ _ _ (stem_masking i.name) the_i) (λ p b. asks_masking i.name _ p b)
+row_s13 i = plain_row (instr.Scalar (scalar.S13 i)) _ _ _ refl refl (reads_one _ _ _ (mnemonic_masking i.name) the_i) (λ p b. asks_masking i.name _ p b)
 
 asks_break : (i pc a : ℕ) → code_of (codes "bkpt") (given i 0 0 kinds.Missing kinds.Missing) pc a ≡ Some (0xbe00 + i)
 unfolding code_of
@@ -309,14 +311,14 @@ pub row_s18 : (i : S18) → Row (instr.Scalar (scalar.S18 i))
 row_s18 i = plain_row (instr.Scalar (scalar.S18 i)) _ _ _ refl refl (reads_constant (codes "bkpt") _ refl (byte_fits i.i.value i.i.in_range))
     (λ p b. asks_break _ p b)
 
-stem_hint : (name : HintName) → is_stem (hint_stem name) ≡ true
-stem_hint hint.Nop = refl
-stem_hint hint.Yield = refl
-stem_hint hint.Wfe = refl
-stem_hint hint.Wfi = refl
-stem_hint hint.Sev = refl
+mnemonic_hint : (name : HintName) → is_mnemonic (hint_mnemonic name) ≡ true
+mnemonic_hint hint.Nop = refl
+mnemonic_hint hint.Yield = refl
+mnemonic_hint hint.Wfe = refl
+mnemonic_hint hint.Wfi = refl
+mnemonic_hint hint.Sev = refl
 
-asks_hint : (name : HintName) (pc a : ℕ) → code_of (hint_stem name) (given 0 0 0 kinds.Missing kinds.Missing) pc a ≡ Some (hint_base name)
+asks_hint : (name : HintName) (pc a : ℕ) → code_of (hint_mnemonic name) (given 0 0 0 kinds.Missing kinds.Missing) pc a ≡ Some (hint_base name)
 unfolding code_of
 asks_hint hint.Nop pc a = refl
 asks_hint hint.Yield pc a = refl
@@ -325,17 +327,17 @@ asks_hint hint.Wfi pc a = refl
 asks_hint hint.Sev pc a = refl
 
 pub row_s19 : (i : S19) → Row (instr.Scalar (scalar.S19 i))
-row_s19 i = plain_row (instr.Scalar (scalar.S19 i)) _ _ _ refl refl (reads_none _ (stem_hint i.name)) (λ p b. asks_hint i.name p b)
+row_s19 i = plain_row (instr.Scalar (scalar.S19 i)) _ _ _ refl refl (reads_none _ (mnemonic_hint i.name)) (λ p b. asks_hint i.name p b)
 
-stem_jump : (name : JumpName) → is_stem (jump_stem name) ≡ true
-stem_jump jump.Bx = refl
-stem_jump jump.Blx = refl
+mnemonic_jump : (name : JumpName) → is_mnemonic (jump_mnemonic name) ≡ true
+mnemonic_jump jump.Bx = refl
+mnemonic_jump jump.Blx = refl
 
-asks_jump : (name : JumpName) (m pc a : ℕ) → code_of (jump_stem name) (given m 0 0 kinds.Missing kinds.Missing) pc a ≡ Some (jump_base name + m ↑ 3)
+asks_jump : (name : JumpName) (m pc a : ℕ) → code_of (jump_mnemonic name) (given m 0 0 kinds.Missing kinds.Missing) pc a ≡ Some (jump_base name + m ↑ 3)
 unfolding code_of
 asks_jump jump.Bx m pc a = refl
 asks_jump jump.Blx m pc a = refl
 
 pub row_s23 : (i : S23) → Row (instr.Branch (branch.S23 i))
-row_s23 i = plain_row (instr.Branch (branch.S23 i)) _ _ _ refl refl (reads_one _ _ _ (stem_jump i.name) (a_register i.m.value i.m.in_range))
+row_s23 i = plain_row (instr.Branch (branch.S23 i)) _ _ _ refl refl (reads_one _ _ _ (mnemonic_jump i.name) (a_register i.m.value i.m.in_range))
     (λ p b. asks_jump i.name _ p b)

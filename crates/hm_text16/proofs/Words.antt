@@ -4,7 +4,7 @@ use Rattle.std.proofs.lemmas.Bool.Decides.{nat_tests}
 use Rattle.hm_tokens.specs.Names.{register_name}
 use Rattle.hm_text_rows.proofs.Words.{below_holds, below_is, is_name}
 use Rattle.hm_text16.specs.Operands.{word_value}
-use Rattle.hm_text16.specs.Stems.{block_condition}
+use Rattle.hm_text16.specs.Mnemonics.{block_condition}
 
 pub less : (m n : ℕ) → ltb m n ≡ true → m < n
 less m n e = grind (arith, nat_tests)

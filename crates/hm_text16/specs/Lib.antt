@@ -1,4 +1,4 @@
-pub mod Stems
+pub mod Mnemonics
 pub mod Rows
 pub mod Targets
 pub mod Texts

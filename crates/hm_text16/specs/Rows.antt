@@ -20,8 +20,9 @@ use Rattle.hm_isa.specs.Rules.{listed_in}
 use Rattle.hm_isa.specs.Standing.{◌↑◌}
 use Rattle.hm_tokens.specs.Tokens.{Tok, word, close_bracket, comma, bang, open_bracket}
 use Rattle.hm_text_rows.specs.Shapes.{and_constant, braces, constant, inside, one, r, three, two}
-use Rattle.hm_text16.specs.Stems.{access_stem, block_condition, block_stem, branch_stem, byte_stem, extend_stem, hint_stem, jump_stem, logic_stem, masking_stem}
-use Rattle.hm_text16.specs.Stems.{plain_stem, shift_stem, stack_sum_stem, sum_stem, swap_stem, word_stem, zero_stem}
+use Rattle.hm_text16.specs.Mnemonics.{access_mnemonic, block_condition, block_mnemonic, branch_mnemonic, byte_mnemonic, extend_mnemonic, hint_mnemonic}
+use Rattle.hm_text16.specs.Mnemonics.{jump_mnemonic, logic_mnemonic, masking_mnemonic}
+use Rattle.hm_text16.specs.Mnemonics.{plain_mnemonic, shift_mnemonic, stack_sum_mnemonic, sum_mnemonic, swap_mnemonic, word_mnemonic, zero_mnemonic}
 
 -- SHAPES
 -- S15: the tokens of an access at two registers, `rt,[rn,rm]` (DDI0553, the register form of each, as "STR (register)")
@@ -67,38 +68,38 @@ plain_size plain.Ldrh = 2
 
 -- S25: the tokens of B with a condition or with none, before the label (DDI0553, "B", encodings T1 and T2)
 abbrev pub jump_tokens : JumpRow → List Tok
-jump_tokens (s25.Conditional i) = word (branch_stem i.c.value) ∷ []
+jump_tokens (s25.Conditional i) = word (branch_mnemonic i.c.value) ∷ []
 jump_tokens (s25.Always i) = word (codes "b") ∷ []
 
 -- the tokens of rows S1 to S21, of S14 those before its label; none of other rows
 abbrev pub scalar_tokens : ScalarRow → List Tok
-scalar_tokens (S1 i) = and_constant (two (shift_stem i.name) (r i.d.value) (r i.m.value)) (shift_number i.name i.i.value)
-scalar_tokens (S2 i) = three (sum_stem i.name) (r i.d.value) (r i.n.value) (r i.m.value)
-scalar_tokens (S3 i) = and_constant (two (sum_stem i.name) (r i.d.value) (r i.n.value)) i.i.value
-scalar_tokens (S4 i) = and_constant (one (byte_stem i.name) (r i.d.value)) i.i.value
-scalar_tokens (S5 i) = two (logic_stem i.name) (r i.d.value) (r i.m.value)
+scalar_tokens (S1 i) = and_constant (two (shift_mnemonic i.name) (r i.d.value) (r i.m.value)) (shift_number i.name i.i.value)
+scalar_tokens (S2 i) = three (sum_mnemonic i.name) (r i.d.value) (r i.n.value) (r i.m.value)
+scalar_tokens (S3 i) = and_constant (two (sum_mnemonic i.name) (r i.d.value) (r i.n.value)) i.i.value
+scalar_tokens (S4 i) = and_constant (one (byte_mnemonic i.name) (r i.d.value)) i.i.value
+scalar_tokens (S5 i) = two (logic_mnemonic i.name) (r i.d.value) (r i.m.value)
 scalar_tokens (S6 i) = two (codes "add") (r i.d.value) (r i.m.value)
 scalar_tokens (S7 i) = two (codes "cmp") (r i.d.value) (r i.m.value)
 scalar_tokens (S8 i) = two (codes "mov") (r i.d.value) (r i.m.value)
 scalar_tokens (S9 i) = and_constant (two (codes "add") (r i.d.value) (r (base_register i.name))) (4 * i.i.value)
-scalar_tokens (S10 i) = and_constant (one (stack_sum_stem i.name) (r 13)) (4 * i.i.value)
-scalar_tokens (S11 i) = two (extend_stem i.name) (r i.d.value) (r i.m.value)
-scalar_tokens (S12 i) = two (swap_stem i.name) (r i.d.value) (r i.m.value)
-scalar_tokens (S13 i) = one (masking_stem i.name) (word (codes "i"))
+scalar_tokens (S10 i) = and_constant (one (stack_sum_mnemonic i.name) (r 13)) (4 * i.i.value)
+scalar_tokens (S11 i) = two (extend_mnemonic i.name) (r i.d.value) (r i.m.value)
+scalar_tokens (S12 i) = two (swap_mnemonic i.name) (r i.d.value) (r i.m.value)
+scalar_tokens (S13 i) = one (masking_mnemonic i.name) (word (codes "i"))
 scalar_tokens (S14 i) = word (codes "ldr") ∷ r i.t.value ∷ comma ∷ []
-scalar_tokens (S15 i) = by_register (access_stem i.name) i.t.value i.n.value i.m.value
-scalar_tokens (S16 i) = by_number (plain_stem i.name) i.t.value i.n.value (plain_size i.name * i.i.value)
-scalar_tokens (S17 i) = by_number (word_stem i.name) i.t.value 13 (4 * i.i.value)
+scalar_tokens (S15 i) = by_register (access_mnemonic i.name) i.t.value i.n.value i.m.value
+scalar_tokens (S16 i) = by_number (plain_mnemonic i.name) i.t.value i.n.value (plain_size i.name * i.i.value)
+scalar_tokens (S17 i) = by_number (word_mnemonic i.name) i.t.value 13 (4 * i.i.value)
 scalar_tokens (S18 i) = word (codes "bkpt") ∷ constant i.i.value
-scalar_tokens (S19 i) = word (hint_stem i.name) ∷ []
+scalar_tokens (S19 i) = word (hint_mnemonic i.name) ∷ []
 scalar_tokens (S20 i) = list_tokens i.name i.x.value i.n.value i.list.value
-scalar_tokens (S21 i) = one (block_stem i.c.value i.mask.value) (word (block_condition i.c.value))
+scalar_tokens (S21 i) = one (block_mnemonic i.c.value i.mask.value) (word (block_condition i.c.value))
 scalar_tokens i = []
 
 -- the tokens of rows S23 to S25, of S24 and S25 those before the label; none of other rows
 abbrev pub branch_tokens : BranchRow → List Tok
-branch_tokens (S23 i) = one (jump_stem i.name) (r i.m.value)
-branch_tokens (S24 i) = word (zero_stem i.name) ∷ r i.n.value ∷ comma ∷ []
+branch_tokens (S23 i) = one (jump_mnemonic i.name) (r i.m.value)
+branch_tokens (S24 i) = word (zero_mnemonic i.name) ∷ r i.n.value ∷ comma ∷ []
 branch_tokens (S25 i) = jump_tokens i
 branch_tokens i = []
 

@@ -11,10 +11,10 @@ ghost use Rattle.hm_tokens.specs.Tokens.{Tok, tok};
 
 mod bases;
 mod codes;
+mod mnemonics;
 mod operands;
 mod rows;
 mod shapes;
-mod stems;
 mod targets;
 mod texts;
 

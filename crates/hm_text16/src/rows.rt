@@ -9,12 +9,12 @@ ghost use Rattle.hm_text_rows.specs.Shapes.{r};
 ghost use Rattle.hm_tokens.specs.Texts.{text_tokens};
 ghost use Rattle.hm_tokens.specs.Tokens.{word, comma, bang};
 
-use crate::shapes::{by_number, by_register};
-use crate::stems::{
-    access_stem, block_condition, block_letters, byte_stem, extend_stem, hint_stem, jump_stem,
-    logic_stem, masking_stem, plain_stem, shift_stem, stack_sum_stem, sum_stem, swap_stem,
-    word_stem, zero_stem,
+use crate::mnemonics::{
+    access_mnemonic, block_condition, block_letters, byte_mnemonic, extend_mnemonic, hint_mnemonic,
+    jump_mnemonic, logic_mnemonic, masking_mnemonic, plain_mnemonic, shift_mnemonic,
+    stack_sum_mnemonic, sum_mnemonic, swap_mnemonic, word_mnemonic, zero_mnemonic,
 };
+use crate::shapes::{by_number, by_register};
 use hm_isa::{
     BaseName, Branch, Instr, ListName, PlainName, S1, S2, S3, S4, S5, S6, S7, S8, S9, S10, S11,
     S12, S13, S14, S15, S16, S17, S18, S19, S20, S21, S23, S24, S25, Scalar, ShiftName,
@@ -35,7 +35,7 @@ fn shift_number(name: ShiftName, i: u32) -> u32
 fn text_s1(i: &S1) -> InstrText
     ensures { text_tokens result ≡ scalar_tokens (scalar.S1 i.now) }
 {
-    let text = two(shift_stem(i.name), "", r(i.d.get()), r(i.m.get()));
+    let text = two(shift_mnemonic(i.name), "", r(i.d.get()), r(i.m.get()));
     and_constant(text, shift_number(i.name, i.i.get()))
 }
 
@@ -43,7 +43,7 @@ fn text_s2(i: &S2) -> InstrText
     ensures { text_tokens result ≡ scalar_tokens (scalar.S2 i.now) }
 {
     three(
-        sum_stem(i.name),
+        sum_mnemonic(i.name),
         "",
         r(i.d.get()),
         r(i.n.get()),
@@ -55,7 +55,7 @@ fn text_s3(i: &S3) -> InstrText
     ensures { text_tokens result ≡ scalar_tokens (scalar.S3 i.now) }
 {
     and_constant(
-        two(sum_stem(i.name), "", r(i.d.get()), r(i.n.get())),
+        two(sum_mnemonic(i.name), "", r(i.d.get()), r(i.n.get())),
         i.i.get(),
     )
 }
@@ -63,13 +63,13 @@ fn text_s3(i: &S3) -> InstrText
 fn text_s4(i: &S4) -> InstrText
     ensures { text_tokens result ≡ scalar_tokens (scalar.S4 i.now) }
 {
-    and_constant(one(byte_stem(i.name), "", r(i.d.get())), i.i.get())
+    and_constant(one(byte_mnemonic(i.name), "", r(i.d.get())), i.i.get())
 }
 
 fn text_s5(i: &S5) -> InstrText
     ensures { text_tokens result ≡ scalar_tokens (scalar.S5 i.now) }
 {
-    two(logic_stem(i.name), "", r(i.d.get()), r(i.m.get()))
+    two(logic_mnemonic(i.name), "", r(i.d.get()), r(i.m.get()))
 }
 
 fn text_s6(i: &S6) -> InstrText
@@ -113,25 +113,25 @@ fn text_s9(i: &S9) -> InstrText
 fn text_s10(i: &S10) -> InstrText
     ensures { text_tokens result ≡ scalar_tokens (scalar.S10 i.now) }
 {
-    and_constant(one(stack_sum_stem(i.name), "", r(13)), 4 * i.i.get())
+    and_constant(one(stack_sum_mnemonic(i.name), "", r(13)), 4 * i.i.get())
 }
 
 fn text_s11(i: &S11) -> InstrText
     ensures { text_tokens result ≡ scalar_tokens (scalar.S11 i.now) }
 {
-    two(extend_stem(i.name), "", r(i.d.get()), r(i.m.get()))
+    two(extend_mnemonic(i.name), "", r(i.d.get()), r(i.m.get()))
 }
 
 fn text_s12(i: &S12) -> InstrText
     ensures { text_tokens result ≡ scalar_tokens (scalar.S12 i.now) }
 {
-    two(swap_stem(i.name), "", r(i.d.get()), r(i.m.get()))
+    two(swap_mnemonic(i.name), "", r(i.d.get()), r(i.m.get()))
 }
 
 fn text_s13(i: &S13) -> InstrText
     ensures { text_tokens result ≡ scalar_tokens (scalar.S13 i.now) }
 {
-    one(masking_stem(i.name), "", Part::Word("i"))
+    one(masking_mnemonic(i.name), "", Part::Word("i"))
 }
 
 fn text_s14(i: &S14) -> InstrText
@@ -143,7 +143,7 @@ fn text_s14(i: &S14) -> InstrText
 fn text_s15(i: &S15) -> InstrText
     ensures { text_tokens result ≡ scalar_tokens (scalar.S15 i.now) }
 {
-    by_register(access_stem(i.name), i.t.get(), i.n.get(), i.m.get())
+    by_register(access_mnemonic(i.name), i.t.get(), i.n.get(), i.m.get())
 }
 
 /// The offset of a row S16 in bytes.
@@ -160,13 +160,18 @@ fn plain_offset(i: &S16) -> u32
 fn text_s16(i: &S16) -> InstrText
     ensures { text_tokens result ≡ scalar_tokens (scalar.S16 i.now) }
 {
-    by_number(plain_stem(i.name), i.t.get(), i.n.get(), plain_offset(i))
+    by_number(
+        plain_mnemonic(i.name),
+        i.t.get(),
+        i.n.get(),
+        plain_offset(i),
+    )
 }
 
 fn text_s17(i: &S17) -> InstrText
     ensures { text_tokens result ≡ scalar_tokens (scalar.S17 i.now) }
 {
-    by_number(word_stem(i.name), i.t.get(), 13, 4 * i.i.get())
+    by_number(word_mnemonic(i.name), i.t.get(), 13, 4 * i.i.get())
 }
 
 fn text_s18(i: &S18) -> InstrText
@@ -179,7 +184,7 @@ fn text_s18(i: &S18) -> InstrText
 fn text_s19(i: &S19) -> InstrText
     ensures { text_tokens result ≡ scalar_tokens (scalar.S19 i.now) }
 {
-    alone(hint_stem(i.name), "", "")
+    alone(hint_mnemonic(i.name), "", "")
 }
 
 /// `ldm rn`, and `!` where it is written back.
@@ -243,13 +248,13 @@ fn text_s21(i: &S21) -> InstrText
 fn text_s23(i: &S23) -> InstrText
     ensures { text_tokens result ≡ branch_tokens (branch.S23 i.now) }
 {
-    one(jump_stem(i.name), "", r(i.m.get()))
+    one(jump_mnemonic(i.name), "", r(i.m.get()))
 }
 
 fn text_s24(i: &S24) -> InstrText
     ensures { text_tokens result ≡ branch_tokens (branch.S24 i.now) }
 {
-    marked(one(zero_stem(i.name), "", r(i.n.get())), Mark::Comma)
+    marked(one(zero_mnemonic(i.name), "", r(i.n.get())), Mark::Comma)
 }
 
 fn text_s25(i: &S25) -> InstrText

@@ -9,18 +9,24 @@ use hm_text_rows::{and, inside, marked, one, open, r};
 use hm_tokens::{InstrText, Mark};
 
 /// `rt,[rn,rm]` behind a mnemonic.
-pub fn by_register(stem: &'static str, t: u32, n: u32, m: u32) -> InstrText
+pub fn by_register(mnemonic: &'static str, t: u32, n: u32, m: u32) -> InstrText
     requires { (t < 16) × (n < 16) × (m < 16) }
-    ensures tokens { text_tokens result ≡ by_register stem.now t n m }
+    ensures tokens { text_tokens result ≡ by_register mnemonic.now t n m }
 {
-    let opened = open(one(stem, "", r(t)), r(n));
+    let opened = open(one(mnemonic, "", r(t)), r(n));
     marked(and(opened, r(m)), Mark::CloseBracket)
 }
 
 /// `rt,[rn,#k]` behind a mnemonic.
-pub fn by_number(stem: &'static str, t: u32, n: u32, k: u32) -> InstrText
+pub fn by_number(mnemonic: &'static str, t: u32, n: u32, k: u32) -> InstrText
     requires { (t < 16) × (n < 16) }
-    ensures tokens { text_tokens result ≡ by_number stem.now t n k }
+    ensures tokens { text_tokens result ≡ by_number mnemonic.now t n k }
 {
-    inside(one(stem, "", r(t)), r(n), Below::new(1), Below::new(0), k)
+    inside(
+        one(mnemonic, "", r(t)),
+        r(n),
+        Below::new(1),
+        Below::new(0),
+        k,
+    )
 }

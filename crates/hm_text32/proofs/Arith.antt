@@ -32,26 +32,27 @@ use Rattle.hm_text32.specs.Codes.{code_of}
 use Rattle.hm_text32.specs.Operands.{word_value}
 use Rattle.hm_text_rows.specs.Operands.{is_vector_name}
 use Rattle.hm_text32.specs.Rows.{product_tokens}
-use Rattle.hm_text32.specs.Stems.{accumulate_stem, bits_stem, bits_suffix, extend_stem, long_stem, operation_stem, select_stem, wide, wide_shift_stem}
+use Rattle.hm_text32.specs.Mnemonics.{accumulate_mnemonic, bits_mnemonic, bits_suffix, extend_mnemonic, long_mnemonic, operation_mnemonic, select_mnemonic}
+use Rattle.hm_text32.specs.Mnemonics.{wide, wide_shift_mnemonic}
 use Rattle.hm_text_rows.specs.Shapes.{and_shift, four, or_zero, r, three, two}
-use Rattle.hm_text_rows.proofs.Words.{is_stem}
+use Rattle.hm_text_rows.proofs.Words.{is_mnemonic}
 use Rattle.hm_text32.proofs.Forms.{Answers, Operand, Suffix, a_condition, a_register, a_register_or_zero, answers_of, bare, given, no_suffix, reads_four}
 use Rattle.hm_text32.proofs.Forms.{reads_three, reads_two, reads_two_shift, suffix_wide}
 
 -- T8
-stem_wide_shift : (name : WideShiftName) (s : ℕ) → s < 2 → is_stem (wide_shift_stem name s) ≡ true
-stem_wide_shift wide_shift.Lsl zero lt = refl
-stem_wide_shift wide_shift.Lsl (suc zero) lt = refl
-stem_wide_shift wide_shift.Lsr zero lt = refl
-stem_wide_shift wide_shift.Lsr (suc zero) lt = refl
-stem_wide_shift wide_shift.Asr zero lt = refl
-stem_wide_shift wide_shift.Asr (suc zero) lt = refl
-stem_wide_shift wide_shift.Ror zero lt = refl
-stem_wide_shift wide_shift.Ror (suc zero) lt = refl
-stem_wide_shift name (suc (suc s)) lt = absurd (omega arith)
+mnemonic_wide_shift : (name : WideShiftName) (s : ℕ) → s < 2 → is_mnemonic (wide_shift_mnemonic name s) ≡ true
+mnemonic_wide_shift wide_shift.Lsl zero lt = refl
+mnemonic_wide_shift wide_shift.Lsl (suc zero) lt = refl
+mnemonic_wide_shift wide_shift.Lsr zero lt = refl
+mnemonic_wide_shift wide_shift.Lsr (suc zero) lt = refl
+mnemonic_wide_shift wide_shift.Asr zero lt = refl
+mnemonic_wide_shift wide_shift.Asr (suc zero) lt = refl
+mnemonic_wide_shift wide_shift.Ror zero lt = refl
+mnemonic_wide_shift wide_shift.Ror (suc zero) lt = refl
+mnemonic_wide_shift name (suc (suc s)) lt = absurd (omega arith)
 
 asks_wide_shift : (name : WideShiftName) (s n d m : ℕ) → s < 2
-    → code_of (wide_shift_stem name s) (given false 0 false d n m 0 0) ≡ Some (wide_shift_base name + s ↑ 20 + n ↑ 16 + d ↑ 8 + m)
+    → code_of (wide_shift_mnemonic name s) (given false 0 false d n m 0 0) ≡ Some (wide_shift_base name + s ↑ 20 + n ↑ 16 + d ↑ 8 + m)
 unfolding code_of
 asks_wide_shift wide_shift.Lsl zero n d m lt = ap (λ (w : ℕ). Some w) (omega arith)
 asks_wide_shift wide_shift.Lsl (suc zero) n d m lt = ap (λ (w : ℕ). Some w) (omega arith)
@@ -63,22 +64,22 @@ asks_wide_shift wide_shift.Ror zero n d m lt = ap (λ (w : ℕ). Some w) (omega 
 asks_wide_shift wide_shift.Ror (suc zero) n d m lt = ap (λ (w : ℕ). Some w) (omega arith)
 asks_wide_shift name (suc (suc s)) n d m lt = absurd (omega arith)
 
-pub row_t8 : (i : T8) → Answers (instr.Scalar (scalar.T8 i)) (three (wide_shift_stem i.name i.s.value ++ wide) (r i.d.value) (r i.n.value) (r i.m.value))
+pub row_t8 : (i : T8) → Answers (instr.Scalar (scalar.T8 i)) (three (wide_shift_mnemonic i.name i.s.value ++ wide) (r i.d.value) (r i.n.value) (r i.m.value))
 row_t8 i =
     answers_of _ _ (code_t8 i) _ _
-    (reads_three _ _ _ _ _ _ _ _ _ _ _ _ (stem_wide_shift i.name i.s.value i.s.in_range) suffix_wide (a_register i.d.value i.d.in_range)
+    (reads_three _ _ _ _ _ _ _ _ _ _ _ _ (mnemonic_wide_shift i.name i.s.value i.s.in_range) suffix_wide (a_register i.d.value i.d.in_range)
     (a_register i.n.value i.n.in_range) (a_register i.m.value i.m.in_range))
     (asks_wide_shift i.name i.s.value _ _ _ i.s.in_range) refl
 
 -- T9
-stem_extend : (name : ExtendName) → is_stem (extend_stem name) ≡ true
-stem_extend extend.Sxth = refl
-stem_extend extend.Sxtb = refl
-stem_extend extend.Uxth = refl
-stem_extend extend.Uxtb = refl
+mnemonic_extend : (name : ExtendName) → is_mnemonic (extend_mnemonic name) ≡ true
+mnemonic_extend extend.Sxth = refl
+mnemonic_extend extend.Sxtb = refl
+mnemonic_extend extend.Uxth = refl
+mnemonic_extend extend.Uxtb = refl
 
 asks_extend : (name : ExtendName) (k d m v : ℕ)
-    → code_of (extend_stem name) (given false 0 false d m v (8 * k) 0) ≡ Some (wide_extend_base name + d ↑ 8 + k ↑ 4 + m)
+    → code_of (extend_mnemonic name) (given false 0 false d m v (8 * k) 0) ≡ Some (wide_extend_base name + d ↑ 8 + k ↑ 4 + m)
 unfolding code_of
 asks_extend extend.Sxth k d m v = ap (λ (w : ℕ). Some w) (omega arith)
 asks_extend extend.Sxtb k d m v = ap (λ (w : ℕ). Some w) (omega arith)
@@ -90,20 +91,20 @@ unfolding word_value is_vector_name
 ror = record { value = refl; vector = refl; is = refl }
 
 pub row_t9 : (i : T9) → Answers (instr.Scalar (scalar.T9 i))
-    (and_shift (two (extend_stem i.name ++ wide) (r i.d.value) (r i.m.value)) (codes "ror") (8 * i.r.value))
+    (and_shift (two (extend_mnemonic i.name ++ wide) (r i.d.value) (r i.m.value)) (codes "ror") (8 * i.r.value))
 row_t9 i =
     answers_of _ _ (code_t9 i) _ _
-    (reads_two_shift _ _ _ _ _ _ _ _ _ _ _ _ _ (stem_extend i.name) suffix_wide (a_register i.d.value i.d.in_range) (a_register i.m.value i.m.in_range) ror
+    (reads_two_shift _ _ _ _ _ _ _ _ _ _ _ _ _ (mnemonic_extend i.name) suffix_wide (a_register i.d.value i.d.in_range) (a_register i.m.value i.m.in_range) ror
     (let lt = i.r.in_range in omega arith))
     (asks_extend i.name i.r.value _ _ _) refl
 
 -- T10
-stem_bits : (name : BitsName) → is_stem (bits_stem name) ≡ true
-stem_bits bits.Rev = refl
-stem_bits bits.Rev16 = refl
-stem_bits bits.Rbit = refl
-stem_bits bits.Revsh = refl
-stem_bits bits.Clz = refl
+mnemonic_bits : (name : BitsName) → is_mnemonic (bits_mnemonic name) ≡ true
+mnemonic_bits bits.Rev = refl
+mnemonic_bits bits.Rev16 = refl
+mnemonic_bits bits.Rbit = refl
+mnemonic_bits bits.Revsh = refl
+mnemonic_bits bits.Clz = refl
 
 suffix_bits : (name : BitsName) → Suffix (bits_suffix name) 0
 suffix_bits bits.Rev = suffix_wide
@@ -112,7 +113,7 @@ suffix_bits bits.Rbit = no_suffix
 suffix_bits bits.Revsh = suffix_wide
 suffix_bits bits.Clz = no_suffix
 
-asks_bits : (name : BitsName) (d m : ℕ) → code_of (bits_stem name) (given false 0 false d m 0 0 0) ≡ Some (bits_base name + m ↑ 16 + d ↑ 8 + m)
+asks_bits : (name : BitsName) (d m : ℕ) → code_of (bits_mnemonic name) (given false 0 false d m 0 0 0) ≡ Some (bits_base name + m ↑ 16 + d ↑ 8 + m)
 unfolding code_of
 asks_bits bits.Rev d m = ap (λ (w : ℕ). Some w) (omega arith)
 asks_bits bits.Rev16 d m = ap (λ (w : ℕ). Some w) (omega arith)
@@ -120,43 +121,43 @@ asks_bits bits.Rbit d m = ap (λ (w : ℕ). Some w) (omega arith)
 asks_bits bits.Revsh d m = ap (λ (w : ℕ). Some w) (omega arith)
 asks_bits bits.Clz d m = ap (λ (w : ℕ). Some w) (omega arith)
 
-pub row_t10 : (i : T10) → Answers (instr.Scalar (scalar.T10 i)) (two (bits_stem i.name ++ bits_suffix i.name) (r i.d.value) (r i.m.value))
+pub row_t10 : (i : T10) → Answers (instr.Scalar (scalar.T10 i)) (two (bits_mnemonic i.name ++ bits_suffix i.name) (r i.d.value) (r i.m.value))
 row_t10 i =
     answers_of _ _ (code_t10 i) _ _
-    (reads_two _ _ _ _ _ _ _ _ _ (stem_bits i.name) (suffix_bits i.name) (a_register i.d.value i.d.in_range) (a_register i.m.value i.m.in_range))
+    (reads_two _ _ _ _ _ _ _ _ _ (mnemonic_bits i.name) (suffix_bits i.name) (a_register i.d.value i.d.in_range) (a_register i.m.value i.m.in_range))
     (asks_bits i.name _ _) refl
 
 -- T11
-stem_operation : (name : OperationName) → is_stem (operation_stem name) ≡ true
-stem_operation operation.Mul = refl
-stem_operation operation.Sdiv = refl
-stem_operation operation.Udiv = refl
+mnemonic_operation : (name : OperationName) → is_mnemonic (operation_mnemonic name) ≡ true
+mnemonic_operation operation.Mul = refl
+mnemonic_operation operation.Sdiv = refl
+mnemonic_operation operation.Udiv = refl
 
 asks_operation : (name : OperationName) (n d m : ℕ)
-    → code_of (operation_stem name) (given false 0 false d n m 0 0) ≡ Some (operation_base name + n ↑ 16 + d ↑ 8 + m)
+    → code_of (operation_mnemonic name) (given false 0 false d n m 0 0) ≡ Some (operation_base name + n ↑ 16 + d ↑ 8 + m)
 unfolding code_of
 asks_operation operation.Mul n d m = ap (λ (w : ℕ). Some w) (omega arith)
 asks_operation operation.Sdiv n d m = ap (λ (w : ℕ). Some w) (omega arith)
 asks_operation operation.Udiv n d m = ap (λ (w : ℕ). Some w) (omega arith)
 
-stem_accumulate : (name : AccumulateName) → is_stem (accumulate_stem name) ≡ true
-stem_accumulate accumulate.Mla = refl
-stem_accumulate accumulate.Mls = refl
+mnemonic_accumulate : (name : AccumulateName) → is_mnemonic (accumulate_mnemonic name) ≡ true
+mnemonic_accumulate accumulate.Mla = refl
+mnemonic_accumulate accumulate.Mls = refl
 
 asks_accumulate : (name : AccumulateName) (n a d m : ℕ)
-    → code_of (accumulate_stem name) (given false 0 false d n m a 0) ≡ Some (accumulate_base name + n ↑ 16 + a ↑ 12 + d ↑ 8 + m)
+    → code_of (accumulate_mnemonic name) (given false 0 false d n m a 0) ≡ Some (accumulate_base name + n ↑ 16 + a ↑ 12 + d ↑ 8 + m)
 unfolding code_of
 asks_accumulate accumulate.Mla n a d m = refl
 asks_accumulate accumulate.Mls n a d m = refl
 
-stem_long : (name : LongProductName) → is_stem (long_stem name) ≡ true
-stem_long long.Smull = refl
-stem_long long.Umull = refl
-stem_long long.Smlal = refl
-stem_long long.Umlal = refl
+mnemonic_long : (name : LongProductName) → is_mnemonic (long_mnemonic name) ≡ true
+mnemonic_long long.Smull = refl
+mnemonic_long long.Umull = refl
+mnemonic_long long.Smlal = refl
+mnemonic_long long.Umlal = refl
 
 asks_long : (name : LongProductName) (n l h m : ℕ)
-    → code_of (long_stem name) (given false 0 false l h n m 0) ≡ Some (long_product_base name + n ↑ 16 + l ↑ 12 + h ↑ 8 + m)
+    → code_of (long_mnemonic name) (given false 0 false l h n m 0) ≡ Some (long_product_base name + n ↑ 16 + l ↑ 12 + h ↑ 8 + m)
 unfolding code_of
 asks_long long.Smull n l h m = refl
 asks_long long.Umull n l h m = refl
@@ -166,32 +167,32 @@ asks_long long.Umlal n l h m = refl
 pub row_t11 : (i : T11) → Answers (instr.Scalar (scalar.T11 i)) (product_tokens i)
 row_t11 (t11.Operation i) =
     answers_of _ _ (code_t11 (t11.Operation i)) _ _
-    (bare (λ name. three name (r i.d.value) (r i.n.value) (r i.m.value)) (operation_stem i.name) _
-    (reads_three _ _ _ _ _ _ _ _ _ _ _ _ (stem_operation i.name) no_suffix (a_register i.d.value i.d.in_range) (a_register i.n.value i.n.in_range)
+    (bare (λ name. three name (r i.d.value) (r i.n.value) (r i.m.value)) (operation_mnemonic i.name) _
+    (reads_three _ _ _ _ _ _ _ _ _ _ _ _ (mnemonic_operation i.name) no_suffix (a_register i.d.value i.d.in_range) (a_register i.n.value i.n.in_range)
     (a_register i.m.value i.m.in_range)))
     (asks_operation i.name _ _ _) refl
 row_t11 (t11.Accumulate i) =
     answers_of _ _ (code_t11 (t11.Accumulate i)) _ _
-    (bare (λ name. four name (r i.d.value) (r i.n.value) (r i.m.value) (r i.a.value)) (accumulate_stem i.name) _
-    (reads_four _ _ _ _ _ _ _ _ _ _ _ _ _ _ _ (stem_accumulate i.name) no_suffix (a_register i.d.value i.d.in_range) (a_register i.n.value i.n.in_range)
+    (bare (λ name. four name (r i.d.value) (r i.n.value) (r i.m.value) (r i.a.value)) (accumulate_mnemonic i.name) _
+    (reads_four _ _ _ _ _ _ _ _ _ _ _ _ _ _ _ (mnemonic_accumulate i.name) no_suffix (a_register i.d.value i.d.in_range) (a_register i.n.value i.n.in_range)
     (a_register i.m.value i.m.in_range) (a_register i.a.value i.a.in_range)))
     (asks_accumulate i.name _ _ _ _) refl
 row_t11 (t11.Long i) =
     answers_of _ _ (code_t11 (t11.Long i)) _ _
-    (bare (λ name. four name (r i.l.value) (r i.h.value) (r i.n.value) (r i.m.value)) (long_stem i.name) _
-    (reads_four _ _ _ _ _ _ _ _ _ _ _ _ _ _ _ (stem_long i.name) no_suffix (a_register i.l.value i.l.in_range) (a_register i.h.value i.h.in_range)
+    (bare (λ name. four name (r i.l.value) (r i.h.value) (r i.n.value) (r i.m.value)) (long_mnemonic i.name) _
+    (reads_four _ _ _ _ _ _ _ _ _ _ _ _ _ _ _ (mnemonic_long i.name) no_suffix (a_register i.l.value i.l.in_range) (a_register i.h.value i.h.in_range)
     (a_register i.n.value i.n.in_range) (a_register i.m.value i.m.in_range)))
     (asks_long i.name _ _ _ _) refl
 
 -- T20
-stem_select : (name : SelectName) → is_stem (select_stem name) ≡ true
-stem_select select.Csel = refl
-stem_select select.Csinc = refl
-stem_select select.Csinv = refl
-stem_select select.Csneg = refl
+mnemonic_select : (name : SelectName) → is_mnemonic (select_mnemonic name) ≡ true
+mnemonic_select select.Csel = refl
+mnemonic_select select.Csinc = refl
+mnemonic_select select.Csinv = refl
+mnemonic_select select.Csneg = refl
 
 asks_select : (name : SelectName) (n d c m : ℕ)
-    → code_of (select_stem name) (given false 0 false d n m c 0) ≡ Some (select_base name + n ↑ 16 + d ↑ 8 + c ↑ 4 + m)
+    → code_of (select_mnemonic name) (given false 0 false d n m c 0) ≡ Some (select_base name + n ↑ 16 + d ↑ 8 + c ↑ 4 + m)
 unfolding code_of
 asks_select select.Csel n d c m = ap (λ (w : ℕ). Some w) (omega arith)
 asks_select select.Csinc n d c m = ap (λ (w : ℕ). Some w) (omega arith)
@@ -199,10 +200,10 @@ asks_select select.Csinv n d c m = ap (λ (w : ℕ). Some w) (omega arith)
 asks_select select.Csneg n d c m = ap (λ (w : ℕ). Some w) (omega arith)
 
 pub row_t20 : (i : T20) → Answers (instr.Scalar (scalar.T20 i))
-    (four (select_stem i.name) (r i.d.value) (or_zero i.n.value) (or_zero i.m.value) (word (condition_name i.c.value)))
+    (four (select_mnemonic i.name) (r i.d.value) (or_zero i.n.value) (or_zero i.m.value) (word (condition_name i.c.value)))
 row_t20 i =
     answers_of _ _ (code_t20 i) _ _
-    (bare (λ name. four name (r i.d.value) (or_zero i.n.value) (or_zero i.m.value) (word (condition_name i.c.value))) (select_stem i.name) _
-    (reads_four _ _ _ _ _ _ _ _ _ _ _ _ _ _ _ (stem_select i.name) no_suffix (a_register i.d.value i.d.in_range) (a_register_or_zero i.n.value i.n.in_range)
+    (bare (λ name. four name (r i.d.value) (or_zero i.n.value) (or_zero i.m.value) (word (condition_name i.c.value))) (select_mnemonic i.name) _
+    (reads_four _ _ _ _ _ _ _ _ _ _ _ _ _ _ _ (mnemonic_select i.name) no_suffix (a_register i.d.value i.d.in_range) (a_register_or_zero i.n.value i.n.in_range)
     (a_register_or_zero i.m.value i.m.in_range) (a_condition i.c.value i.c.in_range)))
     (asks_select i.name _ _ _ _) refl

@@ -5,7 +5,7 @@ use Rattle.hm_enc32.specs.Table.{HasWord}
 use Rattle.hm_tokens.specs.Tokens.{Tok, word}
 use Rattle.hm_text_rows.specs.Labels.{IsLabel, Reaches}
 use Rattle.hm_text_rows.proofs.Printed.{IsPrinted, IsPrintedAt}
-use Rattle.hm_text_rows.proofs.Words.{cut, is_stem, is_suffix}
+use Rattle.hm_text_rows.proofs.Words.{cut, is_mnemonic, is_suffix}
 use Rattle.hm_text_rows.proofs.Shown.{IsPrintedRow}
 use Rattle.hm_text32.specs.declared.operands.Operands.{Operands}
 use Rattle.hm_text32.specs.Codes.{code_in, code_of, code_of_label, code_of_memory, label_code_in, memory_code_in, plain_code_in}
@@ -33,18 +33,18 @@ of_plain i ts answers = record {
   prints = answers.prints;
 }
 
--- a stem that no plain row has
+-- a mnemonic that no plain row has
 abbrev pub IsNoPlain : List ℕ → Type 0
 IsNoPlain s = (o : Operands) → code_of s o ≡ None
 
-pub asks_memory : (s f : List ℕ) (us : List Tok) (pc a w : ℕ) → is_stem s ≡ true → is_suffix f ≡ true → IsNoPlain s → code_of_memory s us ≡ Some w
+pub asks_memory : (s f : List ℕ) (us : List Tok) (pc a w : ℕ) → is_mnemonic s ≡ true → is_suffix f ≡ true → IsNoPlain s → code_of_memory s us ≡ Some w
     → code_in (word (s ++ f) ∷ us) pc a ≡ Some w
-asks_memory s f us pc a w stem behind none e = rw (cut s f stem behind, none (read_operands f us), e) refl
+asks_memory s f us pc a w mnemonic behind none e = rw (cut s f mnemonic behind, none (read_operands f us), e) refl
 
-pub asks_label : (s f : List ℕ) (us : List Tok) (pc a w : ℕ) → is_stem s ≡ true → is_suffix f ≡ true → IsNoPlain s → code_of_memory s us ≡ None
+pub asks_label : (s f : List ℕ) (us : List Tok) (pc a w : ℕ) → is_mnemonic s ≡ true → is_suffix f ≡ true → IsNoPlain s → code_of_memory s us ≡ None
     → code_of_label s f us pc a ≡ Some w
     → code_in (word (s ++ f) ∷ us) pc a ≡ Some w
-asks_label s f us pc a w stem behind none memory e = rw (cut s f stem behind, none (read_operands f us), memory, e) refl
+asks_label s f us pc a w mnemonic behind none memory e = rw (cut s f mnemonic behind, none (read_operands f us), memory, e) refl
 
 -- ROWS
 pub record Row (i : Instr) : Type 0 where

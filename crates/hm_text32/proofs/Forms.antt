@@ -11,12 +11,12 @@ use Rattle.hm_text32.specs.declared.operands.Operands.{Operands}
 use Rattle.hm_text32.specs.Operands.{word_value}
 use Rattle.hm_text_rows.specs.Operands.{is_vector_name, size_of}
 use Rattle.hm_text32.specs.Codes.{code_of, plain_code_in}
-use Rattle.hm_text32.specs.Stems.{element_suffix, wide}
+use Rattle.hm_text32.specs.Mnemonics.{element_suffix, wide}
 use Rattle.hm_text_rows.specs.Shapes.{and_constant, and_operand, and_shift, constant, four, one, three, two}
-use Rattle.hm_text_rows.proofs.Words.{below_holds, below_is, cut, is_name, is_stem, is_suffix, word_q, word_r}
+use Rattle.hm_text_rows.proofs.Words.{below_holds, below_is, cut, is_name, is_mnemonic, is_suffix, word_q, word_r}
 use Rattle.hm_text_rows.proofs.Printed.{IsPrinted, is_printed, short_comma, short_hash, short_number, short_word}
 
--- tokens with this stem and these operands
+-- tokens with this mnemonic and these operands
 pub record Reads (ts : List Tok) (s : List ℕ) (o : Operands) : Type 0 where
   pub asks : plain_code_in ts ≡ code_of s o
   pub prints : IsPrinted ts
@@ -129,76 +129,77 @@ a_condition c lt = record {
 pub min_small : (n : ℕ) → n < 2 ^ 32 → min n 0xffff_ffff ≡ n
 min_small n lt = omega arith
 
-pub reads_none : (s f : List ℕ) (z : ℕ) → is_stem s ≡ true → Suffix f z → Reads (word (s ++ f) ∷ []) s (given true z false 0 0 0 0 0)
-reads_none s f z stem g = record {
-  asks = rw (cut s f stem g.is, g.size) refl;
-  prints = is_printed s f [] stem g.is tt refl (omega arith) refl;
+pub reads_none : (s f : List ℕ) (z : ℕ) → is_mnemonic s ≡ true → Suffix f z → Reads (word (s ++ f) ∷ []) s (given true z false 0 0 0 0 0)
+reads_none s f z mnemonic g = record {
+  asks = rw (cut s f mnemonic g.is, g.size) refl;
+  prints = is_printed s f [] mnemonic g.is tt refl (omega arith) refl;
 }
 
-pub reads_constant : (s f : List ℕ) (z x : ℕ) → is_stem s ≡ true → Suffix f z → x < 2 ^ 32
+pub reads_constant : (s f : List ℕ) (z x : ℕ) → is_mnemonic s ≡ true → Suffix f z → x < 2 ^ 32
     → Reads (word (s ++ f) ∷ constant x) s (given false z false x 0 0 0 0)
-reads_constant s f z x stem g hx = record {
-  asks = rw (cut s f stem g.is, g.size, min_small x hx) refl;
-  prints = is_printed s f _ stem g.is (short_hash, (short_number x hx, tt)) refl (omega arith) refl;
+reads_constant s f z x mnemonic g hx = record {
+  asks = rw (cut s f mnemonic g.is, g.size, min_small x hx) refl;
+  prints = is_printed s f _ mnemonic g.is (short_hash, (short_number x hx, tt)) refl (omega arith) refl;
 }
 
-pub reads_two : (s f w x : List ℕ) (b c : Bool) (z m n : ℕ) → is_stem s ≡ true → Suffix f z → Operand w m b → Operand x n c
+pub reads_two : (s f w x : List ℕ) (b c : Bool) (z m n : ℕ) → is_mnemonic s ≡ true → Suffix f z → Operand w m b → Operand x n c
     → Reads (two (s ++ f) (word w) (word x)) s (given false z b m n 0 0 0)
-reads_two s f w x b c z m n stem g p o = record {
-  asks = rw (cut s f stem g.is, g.size, p.vector, p.value, o.value) refl;
-  prints = is_printed s f _ stem g.is (short_word w p.is, (short_comma, (short_word x o.is, tt))) refl (omega arith) refl;
+reads_two s f w x b c z m n mnemonic g p o = record {
+  asks = rw (cut s f mnemonic g.is, g.size, p.vector, p.value, o.value) refl;
+  prints = is_printed s f _ mnemonic g.is (short_word w p.is, (short_comma, (short_word x o.is, tt))) refl (omega arith) refl;
 }
 
-pub reads_three : (s f w x y : List ℕ) (b c e : Bool) (z m n l : ℕ) → is_stem s ≡ true → Suffix f z → Operand w m b → Operand x n c → Operand y l e
+pub reads_three : (s f w x y : List ℕ) (b c e : Bool) (z m n l : ℕ) → is_mnemonic s ≡ true → Suffix f z → Operand w m b → Operand x n c → Operand y l e
     → Reads (three (s ++ f) (word w) (word x) (word y)) s (given false z b m n l 0 0)
-reads_three s f w x y b c e z m n l stem g p o t = record {
-  asks = rw (cut s f stem g.is, g.size, p.vector, p.value, o.value, t.value) refl;
-  prints = is_printed s f _ stem g.is (short_word w p.is, (short_comma, (short_word x o.is, (short_comma, (short_word y t.is, tt))))) refl (omega arith) refl;
+reads_three s f w x y b c e z m n l mnemonic g p o t = record {
+  asks = rw (cut s f mnemonic g.is, g.size, p.vector, p.value, o.value, t.value) refl;
+  prints = is_printed s f _ mnemonic g.is (short_word w p.is, (short_comma, (short_word x o.is, (short_comma, (short_word y t.is, tt))))) refl (omega arith)
+      refl;
 }
 
-pub reads_four : (s f w x y v : List ℕ) (b c e h : Bool) (z m n l k : ℕ) → is_stem s ≡ true → Suffix f z → Operand w m b → Operand x n c → Operand y l e
+pub reads_four : (s f w x y v : List ℕ) (b c e h : Bool) (z m n l k : ℕ) → is_mnemonic s ≡ true → Suffix f z → Operand w m b → Operand x n c → Operand y l e
     → Operand v k h
     → Reads (four (s ++ f) (word w) (word x) (word y) (word v)) s (given false z b m n l k 0)
-reads_four s f w x y v b c e h z m n l k stem g p o t i = record {
-  asks = rw (cut s f stem g.is, g.size, p.vector, p.value, o.value, t.value, i.value) refl;
+reads_four s f w x y v b c e h z m n l k mnemonic g p o t i = record {
+  asks = rw (cut s f mnemonic g.is, g.size, p.vector, p.value, o.value, t.value, i.value) refl;
   prints =
-      is_printed s f _ stem g.is
+      is_printed s f _ mnemonic g.is
       (short_word w p.is, (short_comma, (short_word x o.is, (short_comma, (short_word y t.is, (short_comma, (short_word v i.is, tt))))))) refl (omega arith)
       refl;
 }
 
-pub reads_one_constant : (s f w : List ℕ) (b : Bool) (z m x : ℕ) → is_stem s ≡ true → Suffix f z → Operand w m b → x < 2 ^ 32
+pub reads_one_constant : (s f w : List ℕ) (b : Bool) (z m x : ℕ) → is_mnemonic s ≡ true → Suffix f z → Operand w m b → x < 2 ^ 32
     → Reads (and_constant (one (s ++ f) (word w)) x) s (second_numbered false z b m x 0 0 0)
-reads_one_constant s f w b z m x stem g p hx = record {
-  asks = rw (cut s f stem g.is, g.size, p.vector, p.value, min_small x hx) refl;
-  prints = is_printed s f _ stem g.is (short_word w p.is, (short_comma, (short_hash, (short_number x hx, tt)))) refl (omega arith) refl;
+reads_one_constant s f w b z m x mnemonic g p hx = record {
+  asks = rw (cut s f mnemonic g.is, g.size, p.vector, p.value, min_small x hx) refl;
+  prints = is_printed s f _ mnemonic g.is (short_word w p.is, (short_comma, (short_hash, (short_number x hx, tt)))) refl (omega arith) refl;
 }
 
-pub reads_two_constant : (s f w x : List ℕ) (b c : Bool) (z m n k : ℕ) → is_stem s ≡ true → Suffix f z → Operand w m b → Operand x n c → k < 2 ^ 32
+pub reads_two_constant : (s f w x : List ℕ) (b c : Bool) (z m n k : ℕ) → is_mnemonic s ≡ true → Suffix f z → Operand w m b → Operand x n c → k < 2 ^ 32
     → Reads (and_constant (two (s ++ f) (word w) (word x)) k) s (numbered false z b m n k 0 0)
-reads_two_constant s f w x b c z m n k stem g p o hk = record {
-  asks = rw (cut s f stem g.is, g.size, p.vector, p.value, o.value, min_small k hk) refl;
+reads_two_constant s f w x b c z m n k mnemonic g p o hk = record {
+  asks = rw (cut s f mnemonic g.is, g.size, p.vector, p.value, o.value, min_small k hk) refl;
   prints =
-      is_printed s f _ stem g.is (short_word w p.is, (short_comma, (short_word x o.is, (short_comma, (short_hash, (short_number k hk, tt)))))) refl
+      is_printed s f _ mnemonic g.is (short_word w p.is, (short_comma, (short_word x o.is, (short_comma, (short_hash, (short_number k hk, tt)))))) refl
       (omega arith) refl;
 }
 
-pub reads_one_constants : (s f w : List ℕ) (b : Bool) (z m x y : ℕ) → is_stem s ≡ true → Suffix f z → Operand w m b → x < 2 ^ 32 → y < 2 ^ 32
+pub reads_one_constants : (s f w : List ℕ) (b : Bool) (z m x y : ℕ) → is_mnemonic s ≡ true → Suffix f z → Operand w m b → x < 2 ^ 32 → y < 2 ^ 32
     → Reads (and_constant (and_constant (one (s ++ f) (word w)) x) y) s (both_numbered false z b m x y 0 0)
-reads_one_constants s f w b z m x y stem g p hx hy = record {
-  asks = rw (cut s f stem g.is, g.size, p.vector, p.value, min_small x hx, min_small y hy) refl;
+reads_one_constants s f w b z m x y mnemonic g p hx hy = record {
+  asks = rw (cut s f mnemonic g.is, g.size, p.vector, p.value, min_small x hx, min_small y hy) refl;
   prints =
-      is_printed s f _ stem g.is
+      is_printed s f _ mnemonic g.is
       (short_word w p.is, (short_comma, (short_hash, (short_number x hx, (short_comma, (short_hash, (short_number y hy, tt))))))) refl (omega arith) refl;
 }
 
-pub reads_two_constants : (s f w x : List ℕ) (b c : Bool) (z m n k l : ℕ) → is_stem s ≡ true → Suffix f z → Operand w m b → Operand x n c → k < 2 ^ 32
+pub reads_two_constants : (s f w x : List ℕ) (b c : Bool) (z m n k l : ℕ) → is_mnemonic s ≡ true → Suffix f z → Operand w m b → Operand x n c → k < 2 ^ 32
     → l < 2 ^ 32
     → Reads (and_constant (and_constant (two (s ++ f) (word w) (word x)) k) l) s (numbered false z b m n k l 0)
-reads_two_constants s f w x b c z m n k l stem g p o hk hl = record {
-  asks = rw (cut s f stem g.is, g.size, p.vector, p.value, o.value, min_small k hk, min_small l hl) refl;
+reads_two_constants s f w x b c z m n k l mnemonic g p o hk hl = record {
+  asks = rw (cut s f mnemonic g.is, g.size, p.vector, p.value, o.value, min_small k hk, min_small l hl) refl;
   prints =
-      is_printed s f _ stem g.is (
+      is_printed s f _ mnemonic g.is (
         short_word w p.is,
         (
           short_comma,
@@ -211,36 +212,38 @@ reads_two_constants s f w x b c z m n k l stem g p o hk hl = record {
 abbrev pub kind_given : ℕ → ℕ → ℕ
 kind_given v k = cond (nat_eq k 0) 0 v
 
-reads_two_shifted : (s f w x kind : List ℕ) (b c h : Bool) (z m n v k : ℕ) → is_stem s ≡ true → Suffix f z → Operand w m b → Operand x n c → Operand kind v h
+reads_two_shifted : (s f w x kind : List ℕ) (b c h : Bool) (z m n v k : ℕ) → is_mnemonic s ≡ true → Suffix f z → Operand w m b → Operand x n c
+    → Operand kind v h
     → k < 2 ^ 32
     → Reads (two (s ++ f) (word w) (word x) ++ comma ∷ word kind ∷ constant k) s (given false z b m n v k 0)
-reads_two_shifted s f w x kind b c h z m n v k stem g p o t hk = record {
-  asks = rw (cut s f stem g.is, g.size, p.vector, p.value, o.value, t.value, min_small k hk) refl;
+reads_two_shifted s f w x kind b c h z m n v k mnemonic g p o t hk = record {
+  asks = rw (cut s f mnemonic g.is, g.size, p.vector, p.value, o.value, t.value, min_small k hk) refl;
   prints =
-      is_printed s f _ stem g.is
+      is_printed s f _ mnemonic g.is
       (short_word w p.is, (short_comma, (short_word x o.is, (short_comma, (short_word kind t.is, (short_hash, (short_number k hk, tt))))))) refl (omega arith)
       refl;
 }
 
-pub reads_two_shift : (s f w x kind : List ℕ) (b c h : Bool) (z m n v k : ℕ) → is_stem s ≡ true → Suffix f z → Operand w m b → Operand x n c → Operand kind v h
+pub reads_two_shift : (s f w x kind : List ℕ) (b c h : Bool) (z m n v k : ℕ) → is_mnemonic s ≡ true → Suffix f z → Operand w m b → Operand x n c
+    → Operand kind v h
     → k < 2 ^ 32
     → Reads (and_shift (two (s ++ f) (word w) (word x)) kind k) s (given false z b m n (kind_given v k) k 0)
-reads_two_shift s f w x kind b c h z m n v k stem g p o t hk =
+reads_two_shift s f w x kind b c h z m n v k mnemonic g p o t hk =
     elim (cases_Bool (eqb k 0)) [
-      | inl e ↦ rw (eqb-true k 0 e) (reads_two s f w x b c z m n stem g p o)
-      | inr e ↦ rw e (reads_two_shifted s f w x kind b c h z m n v k stem g p o t hk)
+      | inl e ↦ rw (eqb-true k 0 e) (reads_two s f w x b c z m n mnemonic g p o)
+      | inr e ↦ rw e (reads_two_shifted s f w x kind b c h z m n v k mnemonic g p o t hk)
     ]
 
 abbrev saturated : List ℕ → List ℕ → ℕ → List ℕ → List Tok
 saturated name w l x = and_operand (and_constant (one name (word w)) l) (word x)
 
-pub reads_saturate : (s f w x kind : List ℕ) (b c h : Bool) (z m n l v k : ℕ) → is_stem s ≡ true → Suffix f z → Operand w m b → l < 2 ^ 32 → Operand x n c
+pub reads_saturate : (s f w x kind : List ℕ) (b c h : Bool) (z m n l v k : ℕ) → is_mnemonic s ≡ true → Suffix f z → Operand w m b → l < 2 ^ 32 → Operand x n c
     → Operand kind v h → k < 2 ^ 32
     → Reads (saturated (s ++ f) w l x ++ comma ∷ word kind ∷ constant k) s (second_numbered false z b m l n v k)
-reads_saturate s f w x kind b c h z m n l v k stem g p hl o t hk = record {
-  asks = rw (cut s f stem g.is, g.size, p.vector, p.value, o.value, t.value, min_small l hl, min_small k hk) refl;
+reads_saturate s f w x kind b c h z m n l v k mnemonic g p hl o t hk = record {
+  asks = rw (cut s f mnemonic g.is, g.size, p.vector, p.value, o.value, t.value, min_small l hl, min_small k hk) refl;
   prints =
-      is_printed s f _ stem g.is (
+      is_printed s f _ mnemonic g.is (
         short_word w p.is,
         (
           short_comma,
@@ -255,13 +258,13 @@ pub bare : (shape : List ℕ → List Tok) (s : List ℕ) (o : Operands) → Rea
 bare shape s o reads = subst (λ (name : List ℕ). Reads (shape name) s o) (append-nil s) reads
 
 -- a register that is shifted
-reads_three_shifted : (s f w x y kind : List ℕ) (b c e h : Bool) (z m n l v k : ℕ) → is_stem s ≡ true → Suffix f z → Operand w m b → Operand x n c
+reads_three_shifted : (s f w x y kind : List ℕ) (b c e h : Bool) (z m n l v k : ℕ) → is_mnemonic s ≡ true → Suffix f z → Operand w m b → Operand x n c
     → Operand y l e → Operand kind v h → k < 2 ^ 32
     → Reads (three (s ++ f) (word w) (word x) (word y) ++ comma ∷ word kind ∷ constant k) s (given false z b m n l v k)
-reads_three_shifted s f w x y kind b c e h z m n l v k stem g p o i t hk = record {
-  asks = rw (cut s f stem g.is, g.size, p.vector, p.value, o.value, i.value, t.value, min_small k hk) refl;
+reads_three_shifted s f w x y kind b c e h z m n l v k mnemonic g p o i t hk = record {
+  asks = rw (cut s f mnemonic g.is, g.size, p.vector, p.value, o.value, i.value, t.value, min_small k hk) refl;
   prints =
-      is_printed s f _ stem g.is (
+      is_printed s f _ mnemonic g.is (
         short_word w p.is,
         (
           short_comma,
@@ -271,11 +274,11 @@ reads_three_shifted s f w x y kind b c e h z m n l v k stem g p o i t hk = recor
       refl (omega arith) refl;
 }
 
-pub reads_three_shift : (s f w x y kind : List ℕ) (b c e h : Bool) (z m n l v k : ℕ) → is_stem s ≡ true → Suffix f z → Operand w m b → Operand x n c
+pub reads_three_shift : (s f w x y kind : List ℕ) (b c e h : Bool) (z m n l v k : ℕ) → is_mnemonic s ≡ true → Suffix f z → Operand w m b → Operand x n c
     → Operand y l e → Operand kind v h → k < 2 ^ 32
     → Reads (and_shift (three (s ++ f) (word w) (word x) (word y)) kind k) s (given false z b m n l (kind_given v k) k)
-reads_three_shift s f w x y kind b c e h z m n l v k stem g p o i t hk =
+reads_three_shift s f w x y kind b c e h z m n l v k mnemonic g p o i t hk =
     elim (cases_Bool (eqb k 0)) [
-      | inl is ↦ rw (eqb-true k 0 is) (reads_three s f w x y b c e z m n l stem g p o i)
-      | inr is ↦ rw is (reads_three_shifted s f w x y kind b c e h z m n l v k stem g p o i t hk)
+      | inl is ↦ rw (eqb-true k 0 is) (reads_three s f w x y b c e z m n l mnemonic g p o i)
+      | inr is ↦ rw is (reads_three_shifted s f w x y kind b c e h z m n l v k mnemonic g p o i t hk)
     ]

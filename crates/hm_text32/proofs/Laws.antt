@@ -21,7 +21,7 @@ use Rattle.hm_tokens.specs.Tokens.{Tok, word}
 use Rattle.hm_text_rows.specs.Labels.{Reaches}
 use Rattle.hm_text_rows.proofs.Shown.{IsGiven, again_of, few_of, room_of}
 use Rattle.hm_text32.specs.Rows.{has_label, has_label_loop, other_barrier, other_scalar, other_tokens, row_tokens}
-use Rattle.hm_text32.specs.Stems.{barrier_stem}
+use Rattle.hm_text32.specs.Mnemonics.{barrier_mnemonic}
 use Rattle.hm_text32.specs.Targets.{target}
 use Rattle.hm_text32.specs.Texts.{AreTokens, HasTokens, IsTextOf, text_of}
 use Rattle.hm_text32.proofs.Asked.{Asks, Row, of_plain, plain_row}
@@ -117,7 +117,7 @@ told i us ts answers e = subst (λ (xs : List Tok). Answers i xs) e answers
 barrier_law : (i : T19) (ts : List Tok) → other_barrier i ≡ Some ts → Answers (instr.Scalar (scalar.T19 i)) ts
 barrier_law t19.Nop ts e = absurd cc
 barrier_law (t19.Barrier i) ts e =
-    let a = test_some (nat_eq i.o.value 15) (Some (word (barrier_stem i.name) ∷ [])) ts e in
+    let a = test_some (nat_eq i.o.value 15) (Some (word (barrier_mnemonic i.name) ∷ [])) ts e in
     told _ _ ts (other_barrier_answers i (eqb-true i.o.value 15 a.0)) (some_is _ ts a.1)
 
 other_scalar_law : (s : Scalar) (ts : List Tok) → other_scalar s ≡ Some ts → Answers (instr.Scalar s) ts

@@ -18,11 +18,11 @@ use Rattle.hm_tokens.proofs.Again.{or_true}
 use Rattle.hm_isa.specs.Words.{expand_imm_c, imm12, repeats}
 use Rattle.hm_text32.specs.Codes.{code_of, constant_code, constant_field, shift_of}
 use Rattle.hm_text32.specs.Rows.{constant_in, constant_tokens}
-use Rattle.hm_text32.specs.Stems.{data_stem, move_stem, test_stem, wide}
+use Rattle.hm_text32.specs.Mnemonics.{data_mnemonic, move_mnemonic, test_mnemonic, wide}
 use Rattle.hm_text_rows.specs.Shapes.{and_constant, one, r, two}
 use Rattle.hm_text_rows.proofs.Words.{at_below, below_is}
 use Rattle.hm_text32.proofs.Forms.{Answers, a_register, answers_of, numbered, reads_one_constant, reads_two_constant, second_numbered, suffix_wide}
-use Rattle.hm_text32.proofs.Shifted.{data_base, stem_data, stem_move, stem_not, stem_test}
+use Rattle.hm_text32.proofs.Shifted.{data_base, mnemonic_data, mnemonic_move, mnemonic_not, mnemonic_test}
 
 -- CONSTANTS
 abbrev expanded : ℕ → ℕ
@@ -226,7 +226,8 @@ code_sum : (op s n d x i i3 i8 : ℕ) → x / 2048 ≡ i → x / 256 % 8 ≡ i3 
 code_sum op s n d x i i3 i8 e f g = rw (e, f, g) (omega arith)
 
 abbrev AsksData : DataName → ℕ → Type 0
-AsksData name s = (n d c : ℕ) → code_of (data_stem name s) (numbered false 0 false d n c 0 0) ≡ Some (constant_code (data_base name s) n d (constant_field c))
+AsksData name s = (n d c : ℕ) → code_of (data_mnemonic name s) (numbered false 0 false d n c 0 0)
+    ≡ Some (constant_code (data_base name s) n d (constant_field c))
 
 asks_data : (name : DataName) (s : ℕ) → s < 2 → AsksData name s
 unfolding code_of
@@ -253,7 +254,7 @@ asks_data data_.Rsb (suc zero) lt n d c = refl
 asks_data name (suc (suc s)) lt n d c = absurd (omega arith)
 
 asks_test : (name : DataName) (n c : ℕ) → may_test name ≡ true
-    → code_of (test_stem name) (second_numbered false 0 false n c 0 0 0) ≡ Some (constant_code (data_base name 1) n 15 (constant_field c))
+    → code_of (test_mnemonic name) (second_numbered false 0 false n c 0 0 0) ≡ Some (constant_code (data_base name 1) n 15 (constant_field c))
 unfolding code_of
 asks_test data_.And n c e = refl
 asks_test data_.Eor n c e = refl
@@ -262,14 +263,14 @@ asks_test data_.Sub n c e = refl
 asks_test name n c e = absurd cc
 
 asks_move : (s d c : ℕ) → s < 2
-    → code_of (move_stem data_.Orr s) (second_numbered false 0 false d c 0 0 0) ≡ Some (constant_code (data_base data_.Orr s) 15 d (constant_field c))
+    → code_of (move_mnemonic data_.Orr s) (second_numbered false 0 false d c 0 0 0) ≡ Some (constant_code (data_base data_.Orr s) 15 d (constant_field c))
 unfolding code_of
 asks_move zero d c lt = refl
 asks_move (suc zero) d c lt = refl
 asks_move (suc (suc s)) d c lt = absurd (omega arith)
 
 asks_not : (s d c : ℕ) → s < 2
-    → code_of (move_stem data_.Orn s) (second_numbered false 0 false d c 0 0 0) ≡ Some (constant_code (data_base data_.Orn s) 15 d (constant_field c))
+    → code_of (move_mnemonic data_.Orn s) (second_numbered false 0 false d c 0 0 0) ≡ Some (constant_code (data_base data_.Orn s) 15 d (constant_field c))
 unfolding code_of
 asks_not zero d c lt = refl
 asks_not (suc zero) d c lt = refl
@@ -299,42 +300,44 @@ some_sum : (op s n d i i3 i8 : ℕ) → Fields s n d i i3 i8
 some_sum op s n d i i3 i8 is = ap (λ (w : ℕ). Some w) (read_sum op s n d i i3 i8 is)
 
 data_answers : (k : Instr) (name : DataName) (s n d i i3 i8 : ℕ) → Fields s n d i i3 i8 → HasWord k (constant_sum (operation name) s n d i i3 i8)
-    → Answers k (and_constant (two (data_stem name s ++ wide) (r d) (r n)) (constant_in i i3 i8))
+    → Answers k (and_constant (two (data_mnemonic name s ++ wide) (r d) (r n)) (constant_in i i3 i8))
 data_answers k name s n d i i3 i8 is has =
-    answers_of k _ (constant_sum (operation name) s n d i i3 i8) (data_stem name s) _
-    (reads_two_constant (data_stem name s) wide _ _ _ _ _ _ _ _ (stem_data name s is.flag) suffix_wide (a_register d is.result) (a_register n is.first)
+    answers_of k _ (constant_sum (operation name) s n d i i3 i8) (data_mnemonic name s) _
+    (reads_two_constant (data_mnemonic name s) wide _ _ _ _ _ _ _ _ (mnemonic_data name s is.flag) suffix_wide (a_register d is.result) (a_register n is.first)
     (expanded_small (imm12 i i3 i8)))
     (asks_data name s is.flag n d _ ∙ some_sum (operation name) s n d i i3 i8 is)
     has
 
 test_answers : (k : Instr) (name : DataName) (n i i3 i8 : ℕ) → Fields 1 n 15 i i3 i8 → may_test name ≡ true
     → HasWord k (constant_sum (operation name) 1 n 15 i i3 i8)
-    → Answers k (and_constant (one (test_stem name ++ wide) (r n)) (constant_in i i3 i8))
+    → Answers k (and_constant (one (test_mnemonic name ++ wide) (r n)) (constant_in i i3 i8))
 test_answers k name n i i3 i8 is may has =
-    answers_of k _ (constant_sum (operation name) 1 n 15 i i3 i8) (test_stem name) _
-    (reads_one_constant (test_stem name) wide _ _ _ _ _ (stem_test name may) suffix_wide (a_register n is.first) (expanded_small (imm12 i i3 i8)))
+    answers_of k _ (constant_sum (operation name) 1 n 15 i i3 i8) (test_mnemonic name) _
+    (reads_one_constant (test_mnemonic name) wide _ _ _ _ _ (mnemonic_test name may) suffix_wide (a_register n is.first) (expanded_small (imm12 i i3 i8)))
     (asks_test name n _ may ∙ some_sum (operation name) 1 n 15 i i3 i8 is)
     has
 
 move_answers : (k : Instr) (s d i i3 i8 : ℕ) → Fields s 15 d i i3 i8 → HasWord k (constant_sum 2 s 15 d i i3 i8)
-    → Answers k (and_constant (one (move_stem data_.Orr s ++ wide) (r d)) (constant_in i i3 i8))
+    → Answers k (and_constant (one (move_mnemonic data_.Orr s ++ wide) (r d)) (constant_in i i3 i8))
 move_answers k s d i i3 i8 is has =
-    answers_of k _ (constant_sum 2 s 15 d i i3 i8) (move_stem data_.Orr s) _
-    (reads_one_constant (move_stem data_.Orr s) wide _ _ _ _ _ (stem_move s is.flag) suffix_wide (a_register d is.result) (expanded_small (imm12 i i3 i8)))
+    answers_of k _ (constant_sum 2 s 15 d i i3 i8) (move_mnemonic data_.Orr s) _
+    (reads_one_constant (move_mnemonic data_.Orr s) wide _ _ _ _ _ (mnemonic_move s is.flag) suffix_wide (a_register d is.result)
+    (expanded_small (imm12 i i3 i8)))
     (asks_move s d _ is.flag ∙ some_sum 2 s 15 d i i3 i8 is)
     has
 
 not_answers : (k : Instr) (s d i i3 i8 : ℕ) → Fields s 15 d i i3 i8 → HasWord k (constant_sum 3 s 15 d i i3 i8)
-    → Answers k (and_constant (one (move_stem data_.Orn s ++ wide) (r d)) (constant_in i i3 i8))
+    → Answers k (and_constant (one (move_mnemonic data_.Orn s ++ wide) (r d)) (constant_in i i3 i8))
 not_answers k s d i i3 i8 is has =
-    answers_of k _ (constant_sum 3 s 15 d i i3 i8) (move_stem data_.Orn s) _
-    (reads_one_constant (move_stem data_.Orn s) wide _ _ _ _ _ (stem_not s is.flag) suffix_wide (a_register d is.result) (expanded_small (imm12 i i3 i8)))
+    answers_of k _ (constant_sum 3 s 15 d i i3 i8) (move_mnemonic data_.Orn s) _
+    (reads_one_constant (move_mnemonic data_.Orn s) wide _ _ _ _ _ (mnemonic_not s is.flag) suffix_wide (a_register d is.result)
+    (expanded_small (imm12 i i3 i8)))
     (asks_not s d _ is.flag ∙ some_sum 3 s 15 d i i3 i8 is)
     has
 
 single_answers : (k : Instr) (name : DataName) (s d i i3 i8 : ℕ) → Fields s 15 d i i3 i8 → is_first name 15 ≡ true
     → HasWord k (constant_sum (operation name) s 15 d i i3 i8)
-    → Answers k (and_constant (one (move_stem name s ++ wide) (r d)) (constant_in i i3 i8))
+    → Answers k (and_constant (one (move_mnemonic name s ++ wide) (r d)) (constant_in i i3 i8))
 single_answers k data_.Orr s d i i3 i8 is e has = move_answers k s d i i3 i8 is has
 single_answers k data_.Orn s d i i3 i8 is e has = not_answers k s d i i3 i8 is has
 single_answers k name s d i i3 i8 is e has = absurd cc

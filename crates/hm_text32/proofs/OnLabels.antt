@@ -27,11 +27,11 @@ use Rattle.hm_tokens.specs.Tokens.{Tok, word, comma}
 use Rattle.hm_text_rows.specs.Labels.{behind, distance}
 use Rattle.hm_text_rows.specs.Shapes.{r}
 use Rattle.hm_text_rows.proofs.Printed.{IsPrintedAt, is_printed_at, short_comma, short_word}
-use Rattle.hm_text_rows.proofs.Words.{at_below, below_holds, is_stem, is_suffix, word_r}
+use Rattle.hm_text_rows.proofs.Words.{at_below, below_holds, is_mnemonic, is_suffix, word_r}
 use Rattle.hm_text32.specs.Codes.{ahead, always_code, behind_it, code_in, code_of, code_of_label, code_of_memory, conditional_code, same_bit}
 use Rattle.hm_text_rows.specs.Operands.{size_of}
 use Rattle.hm_text32.specs.Rows.{loop_end_tokens}
-use Rattle.hm_text32.specs.Stems.{element_suffix, wide, wide_branch_stem}
+use Rattle.hm_text32.specs.Mnemonics.{element_suffix, wide, wide_branch_mnemonic}
 use Rattle.hm_text32.proofs.Asked.{IsNoPlain, Row, asks_label, label_row}
 use Rattle.hm_text32.proofs.Forms.{a_register, suffix_element}
 
@@ -41,37 +41,94 @@ unfolding distance
 distance_back from d a hf hd e = omega (arith, e)
 
 -- T16 WITH A CONDITION
-abbrev stem_of : ℕ → List ℕ
-stem_of c = codes "b" ++ condition_name c
+abbrev mnemonic_of : ℕ → List ℕ
+mnemonic_of c = codes "b" ++ condition_name c
 
-conditional_stem : (c : ℕ) → c < 14 → is_stem (stem_of c) ≡ true
-conditional_stem c lt = below_holds (λ j. is_stem (stem_of j)) 14 c refl lt
+conditional_mnemonic : (c : ℕ) → c < 14 → is_mnemonic (mnemonic_of c) ≡ true
+conditional_mnemonic c lt = below_holds (λ j. is_mnemonic (mnemonic_of j)) 14 c refl lt
 
-no_conditional : (c : ℕ) → c < 14 → IsNoPlain (stem_of c)
+no_conditional : (c : ℕ) → c < 14 → IsNoPlain (mnemonic_of c)
 unfolding code_of
 no_conditional c lt =
-    at_below (λ j. IsNoPlain (stem_of j)) 14 c
-    ((λ o. refl), ((λ o. refl), ((λ o. refl), ((λ o. refl), ((λ o. refl), ((λ o. refl), ((λ o. refl), ((λ o. refl), ((λ o. refl), ((λ o. refl), ((λ o. refl), ((λ o. refl), ((λ o. refl), ((λ o. refl), tt))))))))))))))
+    at_below (λ j. IsNoPlain (mnemonic_of j)) 14 c (
+      (λ o. refl),
+      (
+        (λ o. refl),
+        (
+          (λ o. refl),
+          (
+            (λ o. refl),
+            (
+              (λ o. refl),
+              (
+                (λ o. refl),
+                ((λ o. refl), ((λ o. refl), ((λ o. refl), ((λ o. refl), ((λ o. refl), ((λ o. refl), ((λ o. refl), ((λ o. refl), tt)))))))),
+              ),
+            ),
+          ),
+        ),
+      ),
+    )
     lt
 
 abbrev IsNoAccess : List ℕ → Type 0
 IsNoAccess s = (us : List Tok) → code_of_memory s us ≡ None
 
-no_conditional_access : (c : ℕ) → c < 14 → IsNoAccess (stem_of c)
+no_conditional_access : (c : ℕ) → c < 14 → IsNoAccess (mnemonic_of c)
 unfolding code_of_memory
 no_conditional_access c lt =
-    at_below (λ j. IsNoAccess (stem_of j)) 14 c
-    ((λ us. refl), ((λ us. refl), ((λ us. refl), ((λ us. refl), ((λ us. refl), ((λ us. refl), ((λ us. refl), ((λ us. refl), ((λ us. refl), ((λ us. refl), ((λ us. refl), ((λ us. refl), ((λ us. refl), ((λ us. refl), tt))))))))))))))
+    at_below (λ j. IsNoAccess (mnemonic_of j)) 14 c (
+      (λ us. refl),
+      (
+        (λ us. refl),
+        (
+          (λ us. refl),
+          (
+            (λ us. refl),
+            (
+              (λ us. refl),
+              (
+                (λ us. refl),
+                ((λ us. refl), ((λ us. refl), ((λ us. refl), ((λ us. refl), ((λ us. refl), ((λ us. refl), ((λ us. refl), ((λ us. refl), tt)))))))),
+              ),
+            ),
+          ),
+        ),
+      ),
+    )
     lt
 
 abbrev AsksConditional : ℕ → Type 0
-AsksConditional c = (f : List ℕ) (us : List Tok) (pc a : ℕ) → code_of_label (stem_of c) f us pc a ≡ Some (conditional_code c (distance (pc + 4) a / 2))
+AsksConditional c = (f : List ℕ) (us : List Tok) (pc a : ℕ) → code_of_label (mnemonic_of c) f us pc a ≡ Some (conditional_code c (distance (pc + 4) a / 2))
 
 asks_conditional : (c : ℕ) → c < 14 → AsksConditional c
 unfolding code_of_label
 asks_conditional c lt =
-    at_below AsksConditional 14 c
-    ((λ f us pc a. refl), ((λ f us pc a. refl), ((λ f us pc a. refl), ((λ f us pc a. refl), ((λ f us pc a. refl), ((λ f us pc a. refl), ((λ f us pc a. refl), ((λ f us pc a. refl), ((λ f us pc a. refl), ((λ f us pc a. refl), ((λ f us pc a. refl), ((λ f us pc a. refl), ((λ f us pc a. refl), ((λ f us pc a. refl), tt))))))))))))))
+    at_below AsksConditional 14 c (
+      (λ f us pc a. refl),
+      (
+        (λ f us pc a. refl),
+        (
+          (λ f us pc a. refl),
+          (
+            (λ f us pc a. refl),
+            (
+              (λ f us pc a. refl),
+              (
+                (λ f us pc a. refl),
+                (
+                  (λ f us pc a. refl),
+                  (
+                    (λ f us pc a. refl),
+                    ((λ f us pc a. refl), ((λ f us pc a. refl), ((λ f us pc a. refl), ((λ f us pc a. refl), ((λ f us pc a. refl), ((λ f us pc a. refl), tt)))))),
+                  ),
+                ),
+              ),
+            ),
+          ),
+        ),
+      ),
+    )
     lt
 
 -- a distance as a number of 32 bits, and half of it: so much and a multiple
@@ -143,9 +200,9 @@ conditional_asks i pc a hp e =
 row_conditional : (i : WideConditional) → Row (instr.Branch (branch.T16 (t16.Conditional i)))
 row_conditional i =
     label_row (instr.Branch (branch.T16 (t16.Conditional i))) (code_wide_conditional i) refl refl
-    (is_printed_at (stem_of i.c.value) wide [] (conditional_stem i.c.value i.c.in_range) refl tt refl refl (omega arith) refl)
+    (is_printed_at (mnemonic_of i.c.value) wide [] (conditional_mnemonic i.c.value i.c.in_range) refl tt refl refl (omega arith) refl)
     (λ t pc a l hp re.
-    asks_label (stem_of i.c.value) wide (t ∷ []) pc a (code_wide_conditional i) (conditional_stem i.c.value i.c.in_range) refl
+    asks_label (mnemonic_of i.c.value) wide (t ∷ []) pc a (code_wide_conditional i) (conditional_mnemonic i.c.value i.c.in_range) refl
     (no_conditional i.c.value i.c.in_range)
     (no_conditional_access i.c.value i.c.in_range (t ∷ []))
     (asks_conditional i.c.value i.c.in_range wide (t ∷ []) pc a ∙ ap (λ (w : ℕ). Some w) (conditional_asks i pc a hp re)))
@@ -209,39 +266,39 @@ always_asks i pc a hp e =
     ∙ (λ k. wide_branch_base i.name + s ↑ 26 + i.i10.value ↑ 16 + same_back i.j1.value s i.j1.in_range i.s.in_range k ↑ 13 + same_back i.j2.value s
     i.j2.in_range i.s.in_range k ↑ 11 + i.i11.value)
 
--- their stems, and what follows
-abbrev always_stem : WideBranchName → List ℕ
-always_stem wide_branch.B = codes "b"
-always_stem wide_branch.Bl = codes "bl"
+-- their mnemonics, and what follows
+abbrev always_mnemonic : WideBranchName → List ℕ
+always_mnemonic wide_branch.B = codes "b"
+always_mnemonic wide_branch.Bl = codes "bl"
 
 abbrev always_suffix : WideBranchName → List ℕ
 always_suffix wide_branch.B = wide
 always_suffix wide_branch.Bl = []
 
 record Always (name : WideBranchName) : Type 0 where
-  stem : is_stem (always_stem name) ≡ true
+  mnemonic : is_mnemonic (always_mnemonic name) ≡ true
   suffix : is_suffix (always_suffix name) ≡ true
-  none : IsNoPlain (always_stem name)
-  access : IsNoAccess (always_stem name)
+  none : IsNoPlain (always_mnemonic name)
+  access : IsNoAccess (always_mnemonic name)
   asks : (f : List ℕ) (us : List Tok) (pc a : ℕ)
-      → code_of_label (always_stem name) f us pc a ≡ Some (always_code (wide_branch_base name) (distance (pc + 4) a / 2))
-  whole : wide_branch_stem name ≡ always_stem name ++ always_suffix name
+      → code_of_label (always_mnemonic name) f us pc a ≡ Some (always_code (wide_branch_base name) (distance (pc + 4) a / 2))
+  whole : wide_branch_mnemonic name ≡ always_mnemonic name ++ always_suffix name
 
 always : (name : WideBranchName) → Always name
 unfolding code_of code_of_memory code_of_label
-always wide_branch.B = record { stem = refl; suffix = refl; none = λ o. refl; access = λ us. refl; asks = λ f us pc a. refl; whole = refl }
-always wide_branch.Bl = record { stem = refl; suffix = refl; none = λ o. refl; access = λ us. refl; asks = λ f us pc a. refl; whole = refl }
+always wide_branch.B = record { mnemonic = refl; suffix = refl; none = λ o. refl; access = λ us. refl; asks = λ f us pc a. refl; whole = refl }
+always wide_branch.Bl = record { mnemonic = refl; suffix = refl; none = λ o. refl; access = λ us. refl; asks = λ f us pc a. refl; whole = refl }
 
 row_always : (i : WideAlways) → Row (instr.Branch (branch.T16 (t16.Always i)))
 row_always i =
     let x = always i.name in
-    let s = always_stem i.name in
+    let s = always_mnemonic i.name in
     let f = always_suffix i.name in
     label_row (instr.Branch (branch.T16 (t16.Always i))) (code_wide_always i) refl refl
-    (subst (λ (name : List ℕ). IsPrintedAt (word name ∷ [])) (sym x.whole) (is_printed_at s f [] x.stem x.suffix tt refl refl (omega arith) refl))
+    (subst (λ (name : List ℕ). IsPrintedAt (word name ∷ [])) (sym x.whole) (is_printed_at s f [] x.mnemonic x.suffix tt refl refl (omega arith) refl))
     (λ t pc a l hp re.
     subst (λ (name : List ℕ). code_in (word name ∷ t ∷ []) pc a ≡ Some (code_wide_always i)) (sym x.whole)
-    (asks_label s f (t ∷ []) pc a (code_wide_always i) x.stem x.suffix x.none (x.access (t ∷ []))
+    (asks_label s f (t ∷ []) pc a (code_wide_always i) x.mnemonic x.suffix x.none (x.access (t ∷ []))
     (x.asks f (t ∷ []) pc a ∙ ap (λ (w : ℕ). Some w) (always_asks i pc a hp re))))
 
 pub row_t16 : (i : T16) → Row (instr.Branch (branch.T16 i))

@@ -13,13 +13,13 @@ use Rattle.hm_isa.specs.Standing.{◌↑◌}
 use Rattle.hm_tokens.specs.Tokens.{Tok}
 use Rattle.hm_text_rows.specs.Shapes.{braces, registers_from}
 use Rattle.hm_text_rows.proofs.Registers.{front_count}
-use Rattle.hm_text_rows.proofs.Words.{is_stem, is_suffix}
+use Rattle.hm_text_rows.proofs.Words.{is_mnemonic, is_suffix}
 use Rattle.hm_text_rows.proofs.Braces.{base_and_list, behind_base, braced_of, braces_bits, printed_list}
 use Rattle.hm_text32.specs.Codes.{code_of, code_of_memory}
 use Rattle.hm_text32.specs.Operands.{second_bang, value}
 use Rattle.hm_text_rows.specs.Operands.{bits_of, braced, operand}
 use Rattle.hm_text32.specs.Rows.{list_start}
-use Rattle.hm_text32.specs.Stems.{wide_list_stem, wide_list_suffix}
+use Rattle.hm_text32.specs.Mnemonics.{wide_list_mnemonic, wide_list_suffix}
 use Rattle.hm_text32.proofs.Asked.{Asks, IsNoPlain, asks_memory}
 use Rattle.hm_text32.proofs.Forms.{a_register}
 
@@ -46,7 +46,8 @@ not_both wide_list.Ldmdb list e = not_true (listed_in list 14 && listed_in list 
 
 few_of : (name : WideListName) (w n list : ℕ) → is_wide_list name w n list ≡ true → length (registers_from 16 0 list) ≤ 14
 few_of name w n list e =
-    let a = and_parts (nat_le 2 (count_ones list) && not (listed_in list 13) && may_list name list && not (nat_eq n 15)) (nat_eq w 0 || not (listed_in list n)) e in
+    let a = and_parts (nat_le 2 (count_ones list) && not (listed_in list 13) && may_list name list && not (nat_eq n 15)) (nat_eq w 0 || not (listed_in list n))
+    e in
     let b = and_parts (nat_le 2 (count_ones list) && not (listed_in list 13) && may_list name list) (not (nat_eq n 15)) a.0 in
     let c = and_parts (nat_le 2 (count_ones list) && not (listed_in list 13)) (may_list name list) b.0 in
     let d = and_parts (nat_le 2 (count_ones list)) (not (listed_in list 13)) c.0 in
@@ -59,7 +60,8 @@ pub few_listed : (i : T14) → length (registers_from 16 0 i.list.value) ≤ 14
 few_listed i = few_of i.name i.w.value i.n.value i.list.value i.rules
 
 -- THE TEXT
-pub text_list : (g : ℕ → List Tok) (all start : List Tok) (s f s2 f2 : List ℕ) (w n n2 list list2 : ℕ) → all ≡ start ++ g list2 → start ≡ list_start (s2 ++ f2) w n2 → s2 ≡ s → f2 ≡ f → n2 ≡ n → list2 ≡ list
+pub text_list : (g : ℕ → List Tok) (all start : List Tok) (s f s2 f2 : List ℕ) (w n n2 list list2 : ℕ) → all ≡ start ++ g list2
+    → start ≡ list_start (s2 ++ f2) w n2 → s2 ≡ s → f2 ≡ f → n2 ≡ n → list2 ≡ list
     → all ≡ list_start (s ++ f) w n ++ g list
 text_list g all start s f s2 f2 w n n2 list list2 ea es e1 e2 en el = ea ∙ (λ j. es j ++ g (el j)) ∙ (λ j. list_start (e1 j ++ e2 j) w (en j) ++ g list)
 
@@ -67,11 +69,11 @@ pub few_same : (i : T14) (list : ℕ) → list ≡ i.list.value → length (regi
 few_same i list e = subst (λ (x : ℕ). length (registers_from 16 0 x) ≤ 14) (sym e) (few_listed i)
 
 -- CODES
-stem_list : (name : WideListName) → is_stem (wide_list_stem name) ≡ true
-stem_list wide_list.Stmia = refl
-stem_list wide_list.Ldmia = refl
-stem_list wide_list.Stmdb = refl
-stem_list wide_list.Ldmdb = refl
+mnemonic_list : (name : WideListName) → is_mnemonic (wide_list_mnemonic name) ≡ true
+mnemonic_list wide_list.Stmia = refl
+mnemonic_list wide_list.Ldmia = refl
+mnemonic_list wide_list.Stmdb = refl
+mnemonic_list wide_list.Ldmdb = refl
 
 suffix_list : (name : WideListName) → is_suffix (wide_list_suffix name) ≡ true
 suffix_list wide_list.Stmia = refl
@@ -79,7 +81,7 @@ suffix_list wide_list.Ldmia = refl
 suffix_list wide_list.Stmdb = refl
 suffix_list wide_list.Ldmdb = refl
 
-no_list : (name : WideListName) → IsNoPlain (wide_list_stem name)
+no_list : (name : WideListName) → IsNoPlain (wide_list_mnemonic name)
 unfolding code_of
 no_list wide_list.Stmia o = refl
 no_list wide_list.Ldmia o = refl
@@ -89,7 +91,7 @@ no_list wide_list.Ldmdb o = refl
 abbrev list_code : WideListName → List Tok → ℕ
 list_code name us = wide_list_base name + second_bang us ↑ 21 + value (operand 0 us) ↑ 16 + bits_of (braced us)
 
-asks_list : (name : WideListName) (us : List Tok) → code_of_memory (wide_list_stem name) us ≡ Some (list_code name us)
+asks_list : (name : WideListName) (us : List Tok) → code_of_memory (wide_list_mnemonic name) us ≡ Some (list_code name us)
 unfolding code_of_memory
 asks_list wide_list.Stmia us = refl
 asks_list wide_list.Ldmia us = refl
@@ -102,23 +104,28 @@ bang_of (suc zero) n us lt = refl
 bang_of (suc (suc w)) n us lt = absurd (omega arith)
 
 sum_of : (base w n list : ℕ) (us : List Tok) → w < 2 → n < 16 → bits_of (braced us) ≡ list
-    → base + second_bang (behind_base w n us) ↑ 21 + value (operand 0 (behind_base w n us)) ↑ 16 + bits_of (braced (behind_base w n us)) ≡ base + w ↑ 21 + n ↑ 16 + list
+    → base + second_bang (behind_base w n us) ↑ 21 + value (operand 0 (behind_base w n us)) ↑ 16 + bits_of (braced (behind_base w n us))
+    ≡ base + w ↑ 21 + n ↑ 16 + list
 sum_of base w n list us hw hn bits =
     let bang = bang_of w n us hw in
     let all = ap bits_of (braced_of w n us hw) ∙ bits in
     λ j. base + bang j ↑ 21 + (a_register n hn).value j ↑ 16 + all j
 
-list_sum : (name : WideListName) (w n list : ℕ) → w < 2 → n < 16 → list < 65536 → list_code name (base_and_list w n list) ≡ wide_list_base name + w ↑ 21 + n ↑ 16 + list
+list_sum : (name : WideListName) (w n list : ℕ) → w < 2 → n < 16 → list < 65536
+    → list_code name (base_and_list w n list) ≡ wide_list_base name + w ↑ 21 + n ↑ 16 + list
 list_sum name w n list hw hn small = sum_of (wide_list_base name) w n list (braces list) hw hn (braces_bits list small)
 
-pub row_t14 : (i : T14) → Asks (instr.Scalar (scalar.T14 i)) (list_start (wide_list_stem i.name ++ wide_list_suffix i.name) i.w.value i.n.value ++ braces i.list.value)
+pub row_t14 : (i : T14) → Asks (instr.Scalar (scalar.T14 i))
+    (list_start (wide_list_mnemonic i.name ++ wide_list_suffix i.name) i.w.value i.n.value ++ braces i.list.value)
 row_t14 i =
     let us = base_and_list i.w.value i.n.value i.list.value in
     record {
       code = code_t14 i;
       has = refl;
       asks =
-          λ pc a. asks_memory (wide_list_stem i.name) (wide_list_suffix i.name) us pc a (code_t14 i) (stem_list i.name) (suffix_list i.name) (no_list i.name)
+          λ pc a. asks_memory (wide_list_mnemonic i.name) (wide_list_suffix i.name) us pc a (code_t14 i) (mnemonic_list i.name) (suffix_list i.name)
+          (no_list i.name)
           (asks_list i.name us ∙ ap (λ (w : ℕ). Some w) (list_sum i.name i.w.value i.n.value i.list.value i.w.in_range i.n.in_range i.list.in_range));
-      prints = printed_list (wide_list_stem i.name) (wide_list_suffix i.name) i.w.value i.n.value i.list.value (stem_list i.name) (suffix_list i.name) i.w.in_range i.n.in_range (few_listed i);
+      prints = printed_list (wide_list_mnemonic i.name) (wide_list_suffix i.name) i.w.value i.n.value i.list.value (mnemonic_list i.name) (suffix_list i.name)
+          i.w.in_range i.n.in_range (few_listed i);
     }

@@ -30,9 +30,9 @@ use Rattle.hm_text32.specs.declared.operands.Places.{Places}
 use Rattle.hm_text32.specs.Codes.{access_code, code_of, code_of_memory, pair_code}
 use Rattle.hm_text32.specs.Operands.{read_places, word_value}
 use Rattle.hm_text32.specs.Rows.{access_tokens}
-use Rattle.hm_text32.specs.Stems.{access_stem, pair_stem, wide}
+use Rattle.hm_text32.specs.Mnemonics.{access_mnemonic, pair_mnemonic, wide}
 use Rattle.hm_text_rows.specs.Shapes.{indexed, r, scaled}
-use Rattle.hm_text_rows.proofs.Words.{is_stem, is_suffix, word_r}
+use Rattle.hm_text_rows.proofs.Words.{is_mnemonic, is_suffix, word_r}
 use Rattle.hm_text_rows.proofs.Printed.{IsPrinted, IsShort, is_printed_as, short_bang, short_close, short_comma, short_hash, short_minus, short_number}
 use Rattle.hm_text_rows.proofs.Printed.{short_open, short_word}
 use Rattle.hm_text32.proofs.Asked.{Asks, IsNoPlain, asks_memory}
@@ -46,17 +46,17 @@ not_true true e = absurd cc
 not_true false e = refl
 
 -- T12
-stem_access : (name : AccessName) → is_stem (access_stem name) ≡ true
-stem_access access.Str = refl
-stem_access access.Strh = refl
-stem_access access.Strb = refl
-stem_access access.Ldrsb = refl
-stem_access access.Ldr = refl
-stem_access access.Ldrh = refl
-stem_access access.Ldrb = refl
-stem_access access.Ldrsh = refl
+mnemonic_access : (name : AccessName) → is_mnemonic (access_mnemonic name) ≡ true
+mnemonic_access access.Str = refl
+mnemonic_access access.Strh = refl
+mnemonic_access access.Strb = refl
+mnemonic_access access.Ldrsb = refl
+mnemonic_access access.Ldr = refl
+mnemonic_access access.Ldrh = refl
+mnemonic_access access.Ldrb = refl
+mnemonic_access access.Ldrsh = refl
 
-no_access : (name : AccessName) → IsNoPlain (access_stem name)
+no_access : (name : AccessName) → IsNoPlain (access_mnemonic name)
 unfolding code_of
 no_access access.Str o = refl
 no_access access.Strh o = refl
@@ -67,7 +67,7 @@ no_access access.Ldrh o = refl
 no_access access.Ldrb o = refl
 no_access access.Ldrsh o = refl
 
-asks_access : (name : AccessName) (us : List Tok) → code_of_memory (access_stem name) us ≡ Some (access_code (wide_access_base name) (read_places us))
+asks_access : (name : AccessName) (us : List Tok) → code_of_memory (access_mnemonic name) us ≡ Some (access_code (wide_access_base name) (read_places us))
 unfolding code_of_memory
 asks_access access.Str us = refl
 asks_access access.Strh us = refl
@@ -101,35 +101,35 @@ record Addressed (name : List ℕ) (us : List Tok) (o : Places) : Type 0 where
 short_r : (n : ℕ) → n < 16 → IsShort (r n)
 short_r n lt = short_word (register_name n) (word_r n lt)
 
-reads_indexed : (s f : List ℕ) (t n p u w k : ℕ) → is_stem s ≡ true → is_suffix f ≡ true → t < 16 → n < 16 → p < 2 → u < 2 → w < 2 → 0 < p + w → k < 2 ^ 32
+reads_indexed : (s f : List ℕ) (t n p u w k : ℕ) → is_mnemonic s ≡ true → is_suffix f ≡ true → t < 16 → n < 16 → p < 2 → u < 2 → w < 2 → 0 < p + w → k < 2 ^ 32
     → Addressed (s ++ f) (r t ∷ comma ∷ indexed p u w (r n) k) (given true p u w t n k 0 0)
 unfolding singles
-reads_indexed s f t n zero u zero k stem g ht hn hp hu hw some hk = absurd (omega arith)
-reads_indexed s f t n zero zero (suc zero) k stem g ht hn hp hu hw some hk = record {
+reads_indexed s f t n zero u zero k mnemonic g ht hn hp hu hw some hk = absurd (omega arith)
+reads_indexed s f t n zero zero (suc zero) k mnemonic g ht hn hp hu hw some hk = record {
   places = rw ((a_register t ht).value, (a_register n hn).value, min_small k hk) refl;
-  prints = is_printed_as s f _ stem g
+  prints = is_printed_as s f _ mnemonic g
       (short_r t ht, (short_comma, (short_open, (short_r n hn, (short_close, (short_comma, (short_hash, (short_minus, (short_number k hk, tt))))))))) refl
       (omega arith) refl;
 }
-reads_indexed s f t n zero (suc zero) (suc zero) k stem g ht hn hp hu hw some hk = record {
+reads_indexed s f t n zero (suc zero) (suc zero) k mnemonic g ht hn hp hu hw some hk = record {
   places = rw ((a_register t ht).value, (a_register n hn).value, min_small k hk) refl;
-  prints = is_printed_as s f _ stem g
+  prints = is_printed_as s f _ mnemonic g
       (short_r t ht, (short_comma, (short_open, (short_r n hn, (short_close, (short_comma, (short_hash, (short_number k hk, tt)))))))) refl (omega arith) refl;
 }
-reads_indexed s f t n (suc zero) zero zero k stem g ht hn hp hu hw some hk = record {
+reads_indexed s f t n (suc zero) zero zero k mnemonic g ht hn hp hu hw some hk = record {
   places = rw ((a_register t ht).value, (a_register n hn).value, min_small k hk) refl;
-  prints = is_printed_as s f _ stem g
+  prints = is_printed_as s f _ mnemonic g
       (short_r t ht, (short_comma, (short_open, (short_r n hn, (short_comma, (short_hash, (short_minus, (short_number k hk, (short_close, tt))))))))) refl
       (omega arith) refl;
 }
-reads_indexed s f t n (suc zero) (suc zero) zero k stem g ht hn hp hu hw some hk = record {
+reads_indexed s f t n (suc zero) (suc zero) zero k mnemonic g ht hn hp hu hw some hk = record {
   places = rw ((a_register t ht).value, (a_register n hn).value, min_small k hk) refl;
-  prints = is_printed_as s f _ stem g
+  prints = is_printed_as s f _ mnemonic g
       (short_r t ht, (short_comma, (short_open, (short_r n hn, (short_comma, (short_hash, (short_number k hk, (short_close, tt)))))))) refl (omega arith) refl;
 }
-reads_indexed s f t n (suc zero) zero (suc zero) k stem g ht hn hp hu hw some hk = record {
+reads_indexed s f t n (suc zero) zero (suc zero) k mnemonic g ht hn hp hu hw some hk = record {
   places = rw ((a_register t ht).value, (a_register n hn).value, min_small k hk) refl;
-  prints = is_printed_as s f _ stem g (
+  prints = is_printed_as s f _ mnemonic g (
     short_r t ht,
     (
       short_comma,
@@ -140,23 +140,23 @@ reads_indexed s f t n (suc zero) zero (suc zero) k stem g ht hn hp hu hw some hk
     ),
   ) refl (omega arith) refl;
 }
-reads_indexed s f t n (suc zero) (suc zero) (suc zero) k stem g ht hn hp hu hw some hk = record {
+reads_indexed s f t n (suc zero) (suc zero) (suc zero) k mnemonic g ht hn hp hu hw some hk = record {
   places = rw ((a_register t ht).value, (a_register n hn).value, min_small k hk) refl;
-  prints = is_printed_as s f _ stem g
+  prints = is_printed_as s f _ mnemonic g
       (short_r t ht, (short_comma, (short_open, (short_r n hn, (short_comma, (short_hash, (short_number k hk, (short_close, (short_bang, tt))))))))) refl
       (omega arith) refl;
 }
-reads_indexed s f t n (suc (suc p)) u w k stem g ht hn hp hu hw some hk = absurd (omega arith)
-reads_indexed s f t n p (suc (suc u)) w k stem g ht hn hp hu hw some hk = absurd (omega arith)
-reads_indexed s f t n p u (suc (suc w)) k stem g ht hn hp hu hw some hk = absurd (omega arith)
+reads_indexed s f t n (suc (suc p)) u w k mnemonic g ht hn hp hu hw some hk = absurd (omega arith)
+reads_indexed s f t n p (suc (suc u)) w k mnemonic g ht hn hp hu hw some hk = absurd (omega arith)
+reads_indexed s f t n p u (suc (suc w)) k mnemonic g ht hn hp hu hw some hk = absurd (omega arith)
 
-reads_scaled : (s f : List ℕ) (t n m k : ℕ) → is_stem s ≡ true → is_suffix f ≡ true → t < 16 → n < 16 → m < 16 → k < 2 ^ 32
+reads_scaled : (s f : List ℕ) (t n m k : ℕ) → is_mnemonic s ≡ true → is_suffix f ≡ true → t < 16 → n < 16 → m < 16 → k < 2 ^ 32
     → Addressed (s ++ f) (r t ∷ comma ∷ scaled n m k) (given false 1 1 0 t n m 0 k)
 unfolding singles word_value
-reads_scaled s f t n m k stem g ht hn hm hk = record {
+reads_scaled s f t n m k mnemonic g ht hn hm hk = record {
   places = rw ((a_register t ht).value, (a_register n hn).value, (a_register m hm).value, min_small k hk) refl;
   prints =
-      is_printed_as s f _ stem g (
+      is_printed_as s f _ mnemonic g (
         short_r t ht,
         (
           short_comma,
@@ -169,13 +169,13 @@ reads_scaled s f t n m k stem g ht hn hm hk = record {
       refl (omega arith) refl;
 }
 
-access_asks : (k : Instr) (name : AccessName) (us : List Tok) (o : Places) (w : ℕ) → Addressed (access_stem name ++ wide) us o
-    → access_code (wide_access_base name) o ≡ w → HasWord k w → Asks k (word (access_stem name ++ wide) ∷ us)
+access_asks : (k : Instr) (name : AccessName) (us : List Tok) (o : Places) (w : ℕ) → Addressed (access_mnemonic name ++ wide) us o
+    → access_code (wide_access_base name) o ≡ w → HasWord k w → Asks k (word (access_mnemonic name ++ wide) ∷ us)
 access_asks k name us o w is e has = record {
   code = w;
   has = has;
   asks =
-      λ pc a. asks_memory (access_stem name) wide us pc a w (stem_access name) refl (no_access name)
+      λ pc a. asks_memory (access_mnemonic name) wide us pc a w (mnemonic_access name) refl (no_access name)
       (asks_access name us ∙ ap (λ (x : Places). Some (access_code (wide_access_base name) x)) is.places ∙ ap (λ (x : ℕ). Some x) e);
   prints = is.prints;
 }
@@ -217,7 +217,8 @@ pub row_t12 : (i : T12) → Asks (instr.Scalar (scalar.T12 i)) (access_tokens i)
 row_t12 (t12.Offset i) =
     let small : i.i.value < 2 ^ 32 = let lt = i.i.in_range in omega (arith, lt) in
     access_asks (instr.Scalar (scalar.T12 (t12.Offset i))) i.name _ _ _
-    (reads_indexed (access_stem i.name) wide i.t.value i.n.value 1 1 0 i.i.value (stem_access i.name) refl i.t.in_range i.n.in_range (omega arith) (omega arith)
+    (reads_indexed (access_mnemonic i.name) wide i.t.value i.n.value 1 1 0 i.i.value (mnemonic_access i.name) refl i.t.in_range i.n.in_range (omega arith)
+    (omega arith)
     (omega arith) (omega arith) small)
     (offset_sum (wide_access_base i.name) i.n.value i.t.value i.i.value (no_pc i.name i.n.value i.t.value i.rules)) refl
 row_t12 (t12.Indexed i) =
@@ -226,44 +227,46 @@ row_t12 (t12.Indexed i) =
     let parts = and_parts (is_offset i.name i.n.value i.t.value)
     (if nat_eq i.w.value 1 then not (nat_eq i.n.value i.t.value) else nat_eq i.p.value 1 && nat_eq i.u.value 0) i.rules in
     access_asks (instr.Scalar (scalar.T12 (t12.Indexed i))) i.name _ _ _
-    (reads_indexed (access_stem i.name) wide i.t.value i.n.value i.p.value i.u.value i.w.value i.i.value (stem_access i.name) refl i.t.in_range i.n.in_range
+    (reads_indexed (access_mnemonic i.name) wide i.t.value i.n.value i.p.value i.u.value i.w.value i.i.value (mnemonic_access i.name) refl i.t.in_range
+    i.n.in_range
     i.p.in_range i.u.in_range i.w.in_range (some_use _ _ _ use_) small)
     (indexed_sum (wide_access_base i.name) i.n.value i.t.value i.p.value i.u.value i.w.value i.i.value use_ (no_pc i.name i.n.value i.t.value parts.0)) refl
 row_t12 (t12.Shifted i) =
     let small : i.i.value < 2 ^ 32 = let lt = i.i.in_range in omega (arith, lt) in
     access_asks (instr.Scalar (scalar.T12 (t12.Shifted i))) i.name _ _ _
-    (reads_scaled (access_stem i.name) wide i.t.value i.n.value i.m.value i.i.value (stem_access i.name) refl i.t.in_range i.n.in_range i.m.in_range small)
+    (reads_scaled (access_mnemonic i.name) wide i.t.value i.n.value i.m.value i.i.value (mnemonic_access i.name) refl i.t.in_range i.n.in_range i.m.in_range
+    small)
     (shifted_sum (wide_access_base i.name) i.n.value i.t.value i.i.value i.m.value) refl
 row_t12 (t12.Literal i) =
     let small : i.i.value < 2 ^ 32 = let lt = i.i.in_range in omega (arith, lt) in
     access_asks (instr.Scalar (scalar.T12 (t12.Literal i))) i.name _ _ _
-    (reads_indexed (access_stem i.name) wide i.t.value 15 1 i.u.value 0 i.i.value (stem_access i.name) refl i.t.in_range (omega arith) (omega arith)
+    (reads_indexed (access_mnemonic i.name) wide i.t.value 15 1 i.u.value 0 i.i.value (mnemonic_access i.name) refl i.t.in_range (omega arith) (omega arith)
     i.u.in_range (omega arith) (omega arith) small)
     (literal_sum (wide_access_base i.name) i.u.value i.t.value i.i.value) refl
 
 -- T13
-stem_pair : (name : PairName) → is_stem (pair_stem name) ≡ true
-stem_pair pair.Strd = refl
-stem_pair pair.Ldrd = refl
+mnemonic_pair : (name : PairName) → is_mnemonic (pair_mnemonic name) ≡ true
+mnemonic_pair pair.Strd = refl
+mnemonic_pair pair.Ldrd = refl
 
-no_pair : (name : PairName) → IsNoPlain (pair_stem name)
+no_pair : (name : PairName) → IsNoPlain (pair_mnemonic name)
 unfolding code_of
 no_pair pair.Strd o = refl
 no_pair pair.Ldrd o = refl
 
-asks_pair : (name : PairName) (us : List Tok) → code_of_memory (pair_stem name) us ≡ Some (pair_code (pair_base name) (read_places us))
+asks_pair : (name : PairName) (us : List Tok) → code_of_memory (pair_mnemonic name) us ≡ Some (pair_code (pair_base name) (read_places us))
 unfolding code_of_memory
 asks_pair pair.Strd us = refl
 asks_pair pair.Ldrd us = refl
 
-reads_pair : (s f : List ℕ) (t v n p u w k : ℕ) → is_stem s ≡ true → is_suffix f ≡ true → t < 16 → v < 16 → n < 16 → p < 2 → u < 2 → w < 2 → 0 < p + w
+reads_pair : (s f : List ℕ) (t v n p u w k : ℕ) → is_mnemonic s ≡ true → is_suffix f ≡ true → t < 16 → v < 16 → n < 16 → p < 2 → u < 2 → w < 2 → 0 < p + w
     → k < 2 ^ 32
     → Addressed (s ++ f) (r t ∷ comma ∷ r v ∷ comma ∷ indexed p u w (r n) k) (given false p u w t v n k 0)
 unfolding singles
-reads_pair s f t v n zero u zero k stem g ht hv hn hp hu hw some hk = absurd (omega arith)
-reads_pair s f t v n zero zero (suc zero) k stem g ht hv hn hp hu hw some hk = record {
+reads_pair s f t v n zero u zero k mnemonic g ht hv hn hp hu hw some hk = absurd (omega arith)
+reads_pair s f t v n zero zero (suc zero) k mnemonic g ht hv hn hp hu hw some hk = record {
   places = rw ((a_register t ht).value, (a_register v hv).value, (a_register n hn).value, min_small k hk) refl;
-  prints = is_printed_as s f _ stem g (
+  prints = is_printed_as s f _ mnemonic g (
     short_r t ht,
     (
       short_comma,
@@ -275,9 +278,9 @@ reads_pair s f t v n zero zero (suc zero) k stem g ht hv hn hp hu hw some hk = r
   ) refl (omega arith)
       refl;
 }
-reads_pair s f t v n zero (suc zero) (suc zero) k stem g ht hv hn hp hu hw some hk = record {
+reads_pair s f t v n zero (suc zero) (suc zero) k mnemonic g ht hv hn hp hu hw some hk = record {
   places = rw ((a_register t ht).value, (a_register v hv).value, (a_register n hn).value, min_small k hk) refl;
-  prints = is_printed_as s f _ stem g (
+  prints = is_printed_as s f _ mnemonic g (
     short_r t ht,
     (
       short_comma,
@@ -288,9 +291,9 @@ reads_pair s f t v n zero (suc zero) (suc zero) k stem g ht hv hn hp hu hw some 
     ),
   ) refl (omega arith) refl;
 }
-reads_pair s f t v n (suc zero) zero zero k stem g ht hv hn hp hu hw some hk = record {
+reads_pair s f t v n (suc zero) zero zero k mnemonic g ht hv hn hp hu hw some hk = record {
   places = rw ((a_register t ht).value, (a_register v hv).value, (a_register n hn).value, min_small k hk) refl;
-  prints = is_printed_as s f _ stem g (
+  prints = is_printed_as s f _ mnemonic g (
     short_r t ht,
     (
       short_comma,
@@ -302,9 +305,9 @@ reads_pair s f t v n (suc zero) zero zero k stem g ht hv hn hp hu hw some hk = r
   ) refl (omega arith)
       refl;
 }
-reads_pair s f t v n (suc zero) (suc zero) zero k stem g ht hv hn hp hu hw some hk = record {
+reads_pair s f t v n (suc zero) (suc zero) zero k mnemonic g ht hv hn hp hu hw some hk = record {
   places = rw ((a_register t ht).value, (a_register v hv).value, (a_register n hn).value, min_small k hk) refl;
-  prints = is_printed_as s f _ stem g (
+  prints = is_printed_as s f _ mnemonic g (
     short_r t ht,
     (
       short_comma,
@@ -315,9 +318,9 @@ reads_pair s f t v n (suc zero) (suc zero) zero k stem g ht hv hn hp hu hw some 
     ),
   ) refl (omega arith) refl;
 }
-reads_pair s f t v n (suc zero) zero (suc zero) k stem g ht hv hn hp hu hw some hk = record {
+reads_pair s f t v n (suc zero) zero (suc zero) k mnemonic g ht hv hn hp hu hw some hk = record {
   places = rw ((a_register t ht).value, (a_register v hv).value, (a_register n hn).value, min_small k hk) refl;
-  prints = is_printed_as s f _ stem g (
+  prints = is_printed_as s f _ mnemonic g (
     short_r t ht,
     (
       short_comma,
@@ -329,9 +332,9 @@ reads_pair s f t v n (suc zero) zero (suc zero) k stem g ht hv hn hp hu hw some 
   ) refl
       (omega arith) refl;
 }
-reads_pair s f t v n (suc zero) (suc zero) (suc zero) k stem g ht hv hn hp hu hw some hk = record {
+reads_pair s f t v n (suc zero) (suc zero) (suc zero) k mnemonic g ht hv hn hp hu hw some hk = record {
   places = rw ((a_register t ht).value, (a_register v hv).value, (a_register n hn).value, min_small k hk) refl;
-  prints = is_printed_as s f _ stem g (
+  prints = is_printed_as s f _ mnemonic g (
     short_r t ht,
     (
       short_comma,
@@ -342,9 +345,9 @@ reads_pair s f t v n (suc zero) (suc zero) (suc zero) k stem g ht hv hn hp hu hw
     ),
   ) refl (omega arith) refl;
 }
-reads_pair s f t v n (suc (suc p)) u w k stem g ht hv hn hp hu hw some hk = absurd (omega arith)
-reads_pair s f t v n p (suc (suc u)) w k stem g ht hv hn hp hu hw some hk = absurd (omega arith)
-reads_pair s f t v n p u (suc (suc w)) k stem g ht hv hn hp hu hw some hk = absurd (omega arith)
+reads_pair s f t v n (suc (suc p)) u w k mnemonic g ht hv hn hp hu hw some hk = absurd (omega arith)
+reads_pair s f t v n p (suc (suc u)) w k mnemonic g ht hv hn hp hu hw some hk = absurd (omega arith)
+reads_pair s f t v n p u (suc (suc w)) k mnemonic g ht hv hn hp hu hw some hk = absurd (omega arith)
 
 pair_sum : (base t v n p u w i : ℕ) → pair_code base (given false p u w t v n (4 * i) 0) ≡ base + p ↑ 24 + u ↑ 23 + w ↑ 21 + n ↑ 16 + t ↑ 12 + v ↑ 8 + i
 pair_sum base t v n p u w i = omega arith
@@ -362,18 +365,19 @@ first_rule pair.Ldrd p w n t u e = less 0 (p + w) (first_of_five _ _ _ _ _ _ e)
     first_of_five false b c d f g e = absurd cc
 
 pub row_t13 : (i : T13) → Asks (instr.Scalar (scalar.T13 i))
-    (word (pair_stem i.name) ∷ r i.t.value ∷ comma ∷ r i.u.value ∷ comma ∷ indexed i.p.value i.add.value i.w.value (r i.n.value) (4 * i.i.value))
+    (word (pair_mnemonic i.name) ∷ r i.t.value ∷ comma ∷ r i.u.value ∷ comma ∷ indexed i.p.value i.add.value i.w.value (r i.n.value) (4 * i.i.value))
 row_t13 i =
     let us = r i.t.value ∷ comma ∷ r i.u.value ∷ comma ∷ indexed i.p.value i.add.value i.w.value (r i.n.value) (4 * i.i.value) in
     let small : 4 * i.i.value < 2 ^ 32 = let lt = i.i.in_range in omega (arith, lt) in
-    let is = reads_pair (pair_stem i.name) [] i.t.value i.u.value i.n.value i.p.value i.add.value i.w.value (4 * i.i.value) (stem_pair i.name) refl i.t.in_range
+    let is = reads_pair (pair_mnemonic i.name) [] i.t.value i.u.value i.n.value i.p.value i.add.value i.w.value (4 * i.i.value) (mnemonic_pair i.name) refl
+    i.t.in_range
     i.u.in_range i.n.in_range i.p.in_range i.add.in_range i.w.in_range (first_rule i.name _ _ _ _ _ i.rules) small in
-    subst (λ (name : List ℕ). Asks (instr.Scalar (scalar.T13 i)) (word name ∷ us)) (append-nil (pair_stem i.name))
+    subst (λ (name : List ℕ). Asks (instr.Scalar (scalar.T13 i)) (word name ∷ us)) (append-nil (pair_mnemonic i.name))
     (record {
       code = code_t13 i;
       has = refl;
       asks =
-          λ pc a. asks_memory (pair_stem i.name) [] us pc a (code_t13 i) (stem_pair i.name) refl (no_pair i.name)
+          λ pc a. asks_memory (pair_mnemonic i.name) [] us pc a (code_t13 i) (mnemonic_pair i.name) refl (no_pair i.name)
           (asks_pair i.name us ∙ ap (λ (x : Places). Some (pair_code (pair_base i.name) x)) is.places
           ∙ ap (λ (x : ℕ). Some x) (pair_sum (pair_base i.name) i.t.value i.u.value i.n.value i.p.value i.add.value i.w.value i.i.value));
       prints = is.prints;

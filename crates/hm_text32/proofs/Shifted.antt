@@ -19,9 +19,9 @@ use Rattle.hm_text32.specs.Codes.{code_of, shifted_code}
 use Rattle.hm_text32.specs.Operands.{word_value}
 use Rattle.hm_text_rows.specs.Operands.{is_vector_name}
 use Rattle.hm_text32.specs.Rows.{and_shifted, data_tokens, moved_tokens, shift_number, single_tokens}
-use Rattle.hm_text32.specs.Stems.{carry_stem, data_stem, move_stem, shift_stem, test_stem, turn_stem, wide}
+use Rattle.hm_text32.specs.Mnemonics.{carry_mnemonic, data_mnemonic, move_mnemonic, shift_mnemonic, test_mnemonic, turn_mnemonic, wide}
 use Rattle.hm_text_rows.specs.Shapes.{and_constant, r, three, two}
-use Rattle.hm_text_rows.proofs.Words.{below_holds, below_is, is_name, is_stem}
+use Rattle.hm_text_rows.proofs.Words.{below_holds, below_is, is_name, is_mnemonic}
 use Rattle.hm_text32.proofs.Forms.{Answers, Operand, Reads, Suffix, a_register, answers_of, bare, given, kind_given, no_suffix, numbered, reads_four}
 use Rattle.hm_text32.proofs.Forms.{reads_three, reads_three_shift, reads_two, reads_two_constant, reads_two_shift, suffix_wide}
 
@@ -64,33 +64,34 @@ number_small ty k lt =
       | inr e ↦ rw e (omega (arith, lt))
     ]
 
-a_kind : (ty : ℕ) → ty < 4 → Operand (shift_stem ty) ty false
+a_kind : (ty : ℕ) → ty < 4 → Operand (shift_mnemonic ty) ty false
 unfolding word_value is_vector_name
 a_kind ty lt = record {
-  value = below_is (λ j. word_value (shift_stem j)) (λ j. j) 4 ty refl lt;
-  vector = agree_below_at (λ j. is_vector_name (shift_stem j)) (λ j. false) 4 ty refl lt;
-  is = below_holds (λ j. is_name (shift_stem j)) 4 ty refl lt;
+  value = below_is (λ j. word_value (shift_mnemonic j)) (λ j. j) 4 ty refl lt;
+  vector = agree_below_at (λ j. is_vector_name (shift_mnemonic j)) (λ j. false) 4 ty refl lt;
+  is = below_holds (λ j. is_name (shift_mnemonic j)) 4 ty refl lt;
 }
 
 rrx : Operand (codes "rrx") 3 false
 unfolding word_value is_vector_name
 rrx = record { value = refl; vector = refl; is = refl }
 
-two_shifted : (s f w x : List ℕ) (b c : Bool) (z m n ty k : ℕ) → is_stem s ≡ true → Suffix f z → Operand w m b → Operand x n c → ty < 4 → k < 32
+two_shifted : (s f w x : List ℕ) (b c : Bool) (z m n ty k : ℕ) → is_mnemonic s ≡ true → Suffix f z → Operand w m b → Operand x n c → ty < 4 → k < 32
     → Reads (and_shifted (two (s ++ f) (word w) (word x)) ty k) s (given false z b m n (kind_read ty k) (number_read ty k) 0)
-two_shifted s f w x b c z m n ty k stem g p o ht hk =
+two_shifted s f w x b c z m n ty k mnemonic g p o ht hk =
     elim (cases_Bool (turns ty k)) [
-      | inl e ↦ rw e (reads_three s f w x (codes "rrx") b c false z m n 3 stem g p o rrx)
-      | inr e ↦ rw e (reads_two_shift s f w x (shift_stem ty) b c false z m n ty (shift_number ty k) stem g p o (a_kind ty ht) (number_small ty k hk))
+      | inl e ↦ rw e (reads_three s f w x (codes "rrx") b c false z m n 3 mnemonic g p o rrx)
+      | inr e ↦ rw e (reads_two_shift s f w x (shift_mnemonic ty) b c false z m n ty (shift_number ty k) mnemonic g p o (a_kind ty ht) (number_small ty k hk))
     ]
 
-three_shifted : (s f w x y : List ℕ) (b c e : Bool) (z m n l ty k : ℕ) → is_stem s ≡ true → Suffix f z → Operand w m b → Operand x n c → Operand y l e → ty < 4
+three_shifted : (s f w x y : List ℕ) (b c e : Bool) (z m n l ty k : ℕ) → is_mnemonic s ≡ true → Suffix f z → Operand w m b → Operand x n c → Operand y l e
+    → ty < 4
     → k < 32
     → Reads (and_shifted (three (s ++ f) (word w) (word x) (word y)) ty k) s (given false z b m n l (kind_read ty k) (number_read ty k))
-three_shifted s f w x y b c e z m n l ty k stem g p o i ht hk =
+three_shifted s f w x y b c e z m n l ty k mnemonic g p o i ht hk =
     elim (cases_Bool (turns ty k)) [
-      | inl is ↦ rw is (reads_four s f w x y (codes "rrx") b c e false z m n l 3 stem g p o i rrx)
-      | inr is ↦ rw is (reads_three_shift s f w x y (shift_stem ty) b c e false z m n l ty (shift_number ty k) stem g p o i (a_kind ty ht)
+      | inl is ↦ rw is (reads_four s f w x y (codes "rrx") b c e false z m n l 3 mnemonic g p o i rrx)
+      | inr is ↦ rw is (reads_three_shift s f w x y (shift_mnemonic ty) b c e false z m n l ty (shift_number ty k) mnemonic g p o i (a_kind ty ht)
           (number_small ty k hk))
     ]
 
@@ -120,34 +121,34 @@ read_sum op s n d m ty j l ht hj hl =
     (low_same ty (4 * j + l) ht (five_below j l hj hl) ∙ five_low j l hl)
 
 -- THREE REGISTERS
-pub stem_data : (name : DataName) (s : ℕ) → s < 2 → is_stem (data_stem name s) ≡ true
-stem_data data_.And zero lt = refl
-stem_data data_.And (suc zero) lt = refl
-stem_data data_.Bic zero lt = refl
-stem_data data_.Bic (suc zero) lt = refl
-stem_data data_.Orr zero lt = refl
-stem_data data_.Orr (suc zero) lt = refl
-stem_data data_.Orn zero lt = refl
-stem_data data_.Orn (suc zero) lt = refl
-stem_data data_.Eor zero lt = refl
-stem_data data_.Eor (suc zero) lt = refl
-stem_data data_.Add zero lt = refl
-stem_data data_.Add (suc zero) lt = refl
-stem_data data_.Adc zero lt = refl
-stem_data data_.Adc (suc zero) lt = refl
-stem_data data_.Sbc zero lt = refl
-stem_data data_.Sbc (suc zero) lt = refl
-stem_data data_.Sub zero lt = refl
-stem_data data_.Sub (suc zero) lt = refl
-stem_data data_.Rsb zero lt = refl
-stem_data data_.Rsb (suc zero) lt = refl
-stem_data name (suc (suc s)) lt = absurd (omega arith)
+pub mnemonic_data : (name : DataName) (s : ℕ) → s < 2 → is_mnemonic (data_mnemonic name s) ≡ true
+mnemonic_data data_.And zero lt = refl
+mnemonic_data data_.And (suc zero) lt = refl
+mnemonic_data data_.Bic zero lt = refl
+mnemonic_data data_.Bic (suc zero) lt = refl
+mnemonic_data data_.Orr zero lt = refl
+mnemonic_data data_.Orr (suc zero) lt = refl
+mnemonic_data data_.Orn zero lt = refl
+mnemonic_data data_.Orn (suc zero) lt = refl
+mnemonic_data data_.Eor zero lt = refl
+mnemonic_data data_.Eor (suc zero) lt = refl
+mnemonic_data data_.Add zero lt = refl
+mnemonic_data data_.Add (suc zero) lt = refl
+mnemonic_data data_.Adc zero lt = refl
+mnemonic_data data_.Adc (suc zero) lt = refl
+mnemonic_data data_.Sbc zero lt = refl
+mnemonic_data data_.Sbc (suc zero) lt = refl
+mnemonic_data data_.Sub zero lt = refl
+mnemonic_data data_.Sub (suc zero) lt = refl
+mnemonic_data data_.Rsb zero lt = refl
+mnemonic_data data_.Rsb (suc zero) lt = refl
+mnemonic_data name (suc (suc s)) lt = absurd (omega arith)
 
 abbrev pub data_base : DataName → ℕ → ℕ
 data_base name s = 0xea000000 + operation name ↑ 21 + s ↑ 20
 
 asks_data : (name : DataName) (s n d m v x : ℕ) → s < 2
-    → code_of (data_stem name s) (given false 0 false d n m v x) ≡ Some (shifted_code (data_base name s) n d m v x)
+    → code_of (data_mnemonic name s) (given false 0 false d n m v x) ≡ Some (shifted_code (data_base name s) n d m v x)
 unfolding code_of
 asks_data data_.And zero n d m v x lt = refl
 asks_data data_.And (suc zero) n d m v x lt = refl
@@ -185,24 +186,24 @@ abbrev number_of : ℕ → ℕ → ℕ
 number_of j l = 4 * j + l
 
 data_answers : (k : Instr) (name : DataName) (s n d m ty j l : ℕ) → Fields s n d m ty j l → HasWord k (data_sum (operation name) s n j d l ty m)
-    → Answers k (and_shifted (three (data_stem name s ++ wide) (r d) (r n) (r m)) ty (number_of j l))
+    → Answers k (and_shifted (three (data_mnemonic name s ++ wide) (r d) (r n) (r m)) ty (number_of j l))
 data_answers k name s n d m ty j l is has =
-    answers_of k _ (data_sum (operation name) s n j d l ty m) (data_stem name s) _
-    (three_shifted (data_stem name s) wide _ _ _ _ _ _ _ _ _ _ ty (number_of j l) (stem_data name s is.flag) suffix_wide (a_register d is.result)
+    answers_of k _ (data_sum (operation name) s n j d l ty m) (data_mnemonic name s) _
+    (three_shifted (data_mnemonic name s) wide _ _ _ _ _ _ _ _ _ _ ty (number_of j l) (mnemonic_data name s is.flag) suffix_wide (a_register d is.result)
     (a_register n is.first) (a_register m is.last) is.kind (five_below j l is.high is.low))
     (asks_data name s n d m _ _ is.flag ∙ ap (λ (w : ℕ). Some w) (read_sum (operation name) s n d m ty j l is.kind is.high is.low))
     has
 
 -- TESTS
-pub stem_test : (name : DataName) → may_test name ≡ true → is_stem (test_stem name) ≡ true
-stem_test data_.And e = refl
-stem_test data_.Eor e = refl
-stem_test data_.Add e = refl
-stem_test data_.Sub e = refl
-stem_test name e = absurd cc
+pub mnemonic_test : (name : DataName) → may_test name ≡ true → is_mnemonic (test_mnemonic name) ≡ true
+mnemonic_test data_.And e = refl
+mnemonic_test data_.Eor e = refl
+mnemonic_test data_.Add e = refl
+mnemonic_test data_.Sub e = refl
+mnemonic_test name e = absurd cc
 
 asks_test : (name : DataName) (n m v x : ℕ) → may_test name ≡ true
-    → code_of (test_stem name) (given false 0 false n m v x 0) ≡ Some (shifted_code (data_base name 1) n 15 m v x)
+    → code_of (test_mnemonic name) (given false 0 false n m v x 0) ≡ Some (shifted_code (data_base name 1) n 15 m v x)
 unfolding code_of
 asks_test data_.And n m v x e = refl
 asks_test data_.Eor n m v x e = refl
@@ -229,55 +230,56 @@ test_rule name s n j l ty m e =
 
 test_answers : (k : Instr) (name : DataName) (n m ty j l : ℕ) → n < 16 → m < 16 → ty < 4 → j < 8 → l < 4 → may_test name ≡ true
     → HasWord k (data_sum (operation name) 1 n j 15 l ty m)
-    → Answers k (and_shifted (two (test_stem name ++ wide) (r n) (r m)) ty (number_of j l))
+    → Answers k (and_shifted (two (test_mnemonic name ++ wide) (r n) (r m)) ty (number_of j l))
 test_answers k name n m ty j l hn hm ht hj hl may has =
-    answers_of k _ (data_sum (operation name) 1 n j 15 l ty m) (test_stem name) _
-    (two_shifted (test_stem name) wide _ _ _ _ _ _ _ ty (number_of j l) (stem_test name may) suffix_wide (a_register n hn) (a_register m hm) ht
+    answers_of k _ (data_sum (operation name) 1 n j 15 l ty m) (test_mnemonic name) _
+    (two_shifted (test_mnemonic name) wide _ _ _ _ _ _ _ ty (number_of j l) (mnemonic_test name may) suffix_wide (a_register n hn) (a_register m hm) ht
     (five_below j l hj hl))
     (asks_test name n m _ _ may ∙ ap (λ (w : ℕ). Some w) (read_sum (operation name) 1 n 15 m ty j l ht hj hl))
     has
 
 -- MOVES
-pub stem_move : (s : ℕ) → s < 2 → is_stem (move_stem data_.Orr s) ≡ true
-stem_move zero lt = refl
-stem_move (suc zero) lt = refl
-stem_move (suc (suc s)) lt = absurd (omega arith)
+pub mnemonic_move : (s : ℕ) → s < 2 → is_mnemonic (move_mnemonic data_.Orr s) ≡ true
+mnemonic_move zero lt = refl
+mnemonic_move (suc zero) lt = refl
+mnemonic_move (suc (suc s)) lt = absurd (omega arith)
 
-pub stem_not : (s : ℕ) → s < 2 → is_stem (move_stem data_.Orn s) ≡ true
-stem_not zero lt = refl
-stem_not (suc zero) lt = refl
-stem_not (suc (suc s)) lt = absurd (omega arith)
+pub mnemonic_not : (s : ℕ) → s < 2 → is_mnemonic (move_mnemonic data_.Orn s) ≡ true
+mnemonic_not zero lt = refl
+mnemonic_not (suc zero) lt = refl
+mnemonic_not (suc (suc s)) lt = absurd (omega arith)
 
-stem_carry : (s : ℕ) → s < 2 → is_stem (carry_stem s) ≡ true
-stem_carry zero lt = refl
-stem_carry (suc zero) lt = refl
-stem_carry (suc (suc s)) lt = absurd (omega arith)
+mnemonic_carry : (s : ℕ) → s < 2 → is_mnemonic (carry_mnemonic s) ≡ true
+mnemonic_carry zero lt = refl
+mnemonic_carry (suc zero) lt = refl
+mnemonic_carry (suc (suc s)) lt = absurd (omega arith)
 
-stem_turn : (ty s : ℕ) → ty < 4 → s < 2 → is_stem (turn_stem ty s) ≡ true
-stem_turn ty zero ht lt = below_holds (λ j. is_stem (turn_stem j 0)) 4 ty refl ht
-stem_turn ty (suc zero) ht lt = below_holds (λ j. is_stem (turn_stem j 1)) 4 ty refl ht
-stem_turn ty (suc (suc s)) ht lt = absurd (omega arith)
+mnemonic_turn : (ty s : ℕ) → ty < 4 → s < 2 → is_mnemonic (turn_mnemonic ty s) ≡ true
+mnemonic_turn ty zero ht lt = below_holds (λ j. is_mnemonic (turn_mnemonic j 0)) 4 ty refl ht
+mnemonic_turn ty (suc zero) ht lt = below_holds (λ j. is_mnemonic (turn_mnemonic j 1)) 4 ty refl ht
+mnemonic_turn ty (suc (suc s)) ht lt = absurd (omega arith)
 
-asks_not : (s d m v x : ℕ) → s < 2 → code_of (move_stem data_.Orn s) (given false 0 false d m v x 0) ≡ Some (shifted_code (data_base data_.Orn s) 15 d m v x)
+asks_not : (s d m v x : ℕ) → s < 2
+    → code_of (move_mnemonic data_.Orn s) (given false 0 false d m v x 0) ≡ Some (shifted_code (data_base data_.Orn s) 15 d m v x)
 unfolding code_of
 asks_not zero d m v x lt = refl
 asks_not (suc zero) d m v x lt = refl
 asks_not (suc (suc s)) d m v x lt = absurd (omega arith)
 
-asks_move : (s d m : ℕ) → s < 2 → code_of (move_stem data_.Orr s) (given false 0 false d m 0 0 0) ≡ Some (shifted_code (data_base data_.Orr s) 15 d m 0 0)
+asks_move : (s d m : ℕ) → s < 2 → code_of (move_mnemonic data_.Orr s) (given false 0 false d m 0 0 0) ≡ Some (shifted_code (data_base data_.Orr s) 15 d m 0 0)
 unfolding code_of
 asks_move zero d m lt = refl
 asks_move (suc zero) d m lt = refl
 asks_move (suc (suc s)) d m lt = absurd (omega arith)
 
-asks_carry : (s d m : ℕ) → s < 2 → code_of (carry_stem s) (given false 0 false d m 0 0 0) ≡ Some (data_sum 2 s 15 0 d 0 3 m)
+asks_carry : (s d m : ℕ) → s < 2 → code_of (carry_mnemonic s) (given false 0 false d m 0 0 0) ≡ Some (data_sum 2 s 15 0 d 0 3 m)
 unfolding code_of
 asks_carry zero d m lt = ap (λ (w : ℕ). Some w) (omega arith)
 asks_carry (suc zero) d m lt = ap (λ (w : ℕ). Some w) (omega arith)
 asks_carry (suc (suc s)) d m lt = absurd (omega arith)
 
 asks_turn : (ty s d m x : ℕ) → ty < 4 → s < 2
-    → code_of (turn_stem ty s) (numbered false 0 false d m x 0 0) ≡ Some (shifted_code (data_base data_.Orr s) 15 d m ty x)
+    → code_of (turn_mnemonic ty s) (numbered false 0 false d m x 0 0) ≡ Some (shifted_code (data_base data_.Orr s) 15 d m ty x)
 unfolding code_of
 asks_turn zero zero d m x ht lt = ap (λ (w : ℕ). Some w) (omega arith)
 asks_turn zero (suc zero) d m x ht lt = ap (λ (w : ℕ). Some w) (omega arith)
@@ -291,10 +293,11 @@ asks_turn (suc (suc (suc (suc ty)))) s d m x ht lt = absurd (omega arith)
 asks_turn ty (suc (suc s)) d m x ht lt = absurd (omega arith)
 
 not_answers : (k : Instr) (s d m ty j l : ℕ) → Fields s 15 d m ty j l → HasWord k (data_sum 3 s 15 j d l ty m)
-    → Answers k (and_shifted (two (move_stem data_.Orn s ++ wide) (r d) (r m)) ty (number_of j l))
+    → Answers k (and_shifted (two (move_mnemonic data_.Orn s ++ wide) (r d) (r m)) ty (number_of j l))
 not_answers k s d m ty j l is has =
-    answers_of k _ (data_sum 3 s 15 j d l ty m) (move_stem data_.Orn s) _
-    (two_shifted (move_stem data_.Orn s) wide _ _ _ _ _ _ _ ty (number_of j l) (stem_not s is.flag) suffix_wide (a_register d is.result) (a_register m is.last)
+    answers_of k _ (data_sum 3 s 15 j d l ty m) (move_mnemonic data_.Orn s) _
+    (two_shifted (move_mnemonic data_.Orn s) wide _ _ _ _ _ _ _ ty (number_of j l) (mnemonic_not s is.flag) suffix_wide (a_register d is.result)
+    (a_register m is.last)
     is.kind (five_below j l is.high is.low))
     (asks_not s d m _ _ is.flag ∙ ap (λ (w : ℕ). Some w) (read_sum 3 s 15 d m ty j l is.kind is.high is.low))
     has
@@ -304,18 +307,18 @@ no_digits : (j l : ℕ) → nat_eq (number_of j l) 0 ≡ true → (j ≡ 0) × (
 no_digits j l e = let is = eqb-true (number_of j l) 0 e in (omega (arith, is), omega (arith, is))
 
 carry_answers : (k : Instr) (s d m ty j l : ℕ) → Fields s 15 d m ty j l → ty ≡ 3 → j ≡ 0 → l ≡ 0 → HasWord k (data_sum 2 s 15 j d l ty m)
-    → Answers k (two (carry_stem s) (r d) (r m))
+    → Answers k (two (carry_mnemonic s) (r d) (r m))
 carry_answers k s d m ty j l is ht hj hl has =
-    answers_of k _ (data_sum 2 s 15 j d l ty m) (carry_stem s) _
-    (bare (λ name. two name (r d) (r m)) (carry_stem s) _
-    (reads_two (carry_stem s) [] _ _ _ _ _ _ _ (stem_carry s is.flag) no_suffix (a_register d is.result) (a_register m is.last)))
+    answers_of k _ (data_sum 2 s 15 j d l ty m) (carry_mnemonic s) _
+    (bare (λ name. two name (r d) (r m)) (carry_mnemonic s) _
+    (reads_two (carry_mnemonic s) [] _ _ _ _ _ _ _ (mnemonic_carry s is.flag) no_suffix (a_register d is.result) (a_register m is.last)))
     (rw (ht, hj, hl) (asks_carry s d m is.flag)) has
 
 plain_answers : (k : Instr) (s d m ty j l : ℕ) → Fields s 15 d m ty j l → ty ≡ 0 → j ≡ 0 → l ≡ 0 → HasWord k (data_sum 2 s 15 j d l ty m)
-    → Answers k (two (move_stem data_.Orr s ++ wide) (r d) (r m))
+    → Answers k (two (move_mnemonic data_.Orr s ++ wide) (r d) (r m))
 plain_answers k s d m ty j l is ht hj hl has =
-    answers_of k _ (data_sum 2 s 15 j d l ty m) (move_stem data_.Orr s) _
-    (reads_two (move_stem data_.Orr s) wide _ _ _ _ _ _ _ (stem_move s is.flag) suffix_wide (a_register d is.result) (a_register m is.last))
+    answers_of k _ (data_sum 2 s 15 j d l ty m) (move_mnemonic data_.Orr s) _
+    (reads_two (move_mnemonic data_.Orr s) wide _ _ _ _ _ _ _ (mnemonic_move s is.flag) suffix_wide (a_register d is.result) (a_register m is.last))
     (rw (ht, hj, hl) (asks_move s d m is.flag ∙ ap (λ (w : ℕ). Some w) (shifted_sum 2 s 15 d m 0 0 0 0 0 refl refl refl))) has
 
 -- a number that is written is read as it is
@@ -323,13 +326,14 @@ number_kept : (ty k : ℕ) → turns ty k ≡ false → number_read ty k ≡ shi
 number_kept ty k e = rw e refl
 
 turn_answers : (k : Instr) (s d m ty j l : ℕ) → Fields s 15 d m ty j l → turns ty (number_of j l) ≡ false → HasWord k (data_sum 2 s 15 j d l ty m)
-    → Answers k (and_constant (two (turn_stem ty s ++ wide) (r d) (r m)) (shift_number ty (number_of j l)))
+    → Answers k (and_constant (two (turn_mnemonic ty s ++ wide) (r d) (r m)) (shift_number ty (number_of j l)))
 turn_answers k s d m ty j l is none has =
     let below = five_below j l is.high is.low in
     let kept = ap (λ (x : ℕ). x % 32 / 4) (number_kept ty (number_of j l) none) in
     let low_kept = ap (λ (x : ℕ). x % 4) (number_kept ty (number_of j l) none) in
-    answers_of k _ (data_sum 2 s 15 j d l ty m) (turn_stem ty s) _
-    (reads_two_constant (turn_stem ty s) wide _ _ _ _ _ _ _ _ (stem_turn ty s is.kind is.flag) suffix_wide (a_register d is.result) (a_register m is.last)
+    answers_of k _ (data_sum 2 s 15 j d l ty m) (turn_mnemonic ty s) _
+    (reads_two_constant (turn_mnemonic ty s) wide _ _ _ _ _ _ _ _ (mnemonic_turn ty s is.kind is.flag) suffix_wide (a_register d is.result)
+    (a_register m is.last)
     (number_small ty (number_of j l) below))
     (asks_turn ty s d m _ is.kind is.flag
     ∙ ap (λ (w : ℕ). Some w)

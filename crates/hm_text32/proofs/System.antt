@@ -45,18 +45,18 @@ use Rattle.hm_text32.specs.Codes.{code_of}
 use Rattle.hm_text32.specs.Operands.{word_value}
 use Rattle.hm_text_rows.specs.Operands.{is_vector_name}
 use Rattle.hm_text32.specs.Rows.{barrier_tokens, doubles, lane_tokens, special_tokens, system_tokens, table_tokens}
-use Rattle.hm_text32.specs.Stems.{barrier_stem, double_name, element_suffix, read_name, stack_stem, wide, written_name}
+use Rattle.hm_text32.specs.Mnemonics.{barrier_mnemonic, double_name, element_suffix, read_name, stack_mnemonic, wide, written_name}
 use Rattle.hm_text_rows.specs.Shapes.{constant, r, two}
-use Rattle.hm_text_rows.proofs.Words.{at_below, below_holds, below_is, cut, is_name, is_stem}
+use Rattle.hm_text_rows.proofs.Words.{at_below, below_holds, below_is, cut, is_name, is_mnemonic}
 use Rattle.hm_text_rows.proofs.Printed.{is_printed, is_printed_as, short_close, short_close_brace, short_comma, short_hash, short_minus, short_number}
 use Rattle.hm_text_rows.proofs.Printed.{short_open, short_open_brace, short_word}
 use Rattle.hm_text32.proofs.Forms.{Answers, Operand, Reads, Suffix, a_register, a_vector, answers_of, bare, given, min_small, no_suffix, numbered}
 use Rattle.hm_text32.proofs.Forms.{reads_constant, reads_none, reads_two, suffix_element, suffix_wide, suffix_words, second_numbered}
 
 -- T15
-stem_stack : (name : StackName) → is_stem (stack_stem name) ≡ true
-stem_stack stack.Vpush = refl
-stem_stack stack.Vpop = refl
+mnemonic_stack : (name : StackName) → is_mnemonic (stack_mnemonic name) ≡ true
+mnemonic_stack stack.Vpush = refl
+mnemonic_stack stack.Vpop = refl
 
 a_double : (n : ℕ) → n < 16 → Operand (double_name n) n false
 unfolding word_value is_vector_name
@@ -66,12 +66,12 @@ a_double n lt = record {
   is = below_holds (λ k. is_name (double_name k)) 16 n refl lt;
 }
 
-reads_doubles : (s w x : List ℕ) (b c : Bool) (m n : ℕ) → is_stem s ≡ true → Operand w m b → Operand x n c → register_in w ≡ None → register_in x ≡ None
+reads_doubles : (s w x : List ℕ) (b c : Bool) (m n : ℕ) → is_mnemonic s ≡ true → Operand w m b → Operand x n c → register_in w ≡ None → register_in x ≡ None
     → Reads (word (s ++ []) ∷ open_brace ∷ word w ∷ minus_mark ∷ word x ∷ close_brace ∷ []) s (given false 0 b m n 0 0 0)
 unfolding singles
-reads_doubles s w x b c m n stem p o hw hx = record {
-  asks = rw (cut s [] stem no_suffix.is, no_suffix.size, p.vector, p.value, o.value) refl;
-  prints = is_printed_as s [] _ stem refl (short_open_brace, (short_word w p.is, (short_minus, (short_word x o.is, (short_close_brace, tt))))) refl
+reads_doubles s w x b c m n mnemonic p o hw hx = record {
+  asks = rw (cut s [] mnemonic no_suffix.is, no_suffix.size, p.vector, p.value, o.value) refl;
+  prints = is_printed_as s [] _ mnemonic refl (short_open_brace, (short_word w p.is, (short_minus, (short_word x o.is, (short_close_brace, tt))))) refl
       (omega arith) (rw (hw, hx) refl);
 }
 
@@ -85,7 +85,7 @@ last_and_one : (v k : ℕ) → 0 < k → v + k - 1 + 1 - v ≡ k
 last_and_one v k lt = omega arith
 
 asks_stack : (name : StackName) (v w k : ℕ) → w + 1 - v ≡ k
-    → code_of (stack_stem name) (given false 0 false v w 0 0 0) ≡ Some (stack_base name + v ↑ 12 + k ↑ 1)
+    → code_of (stack_mnemonic name) (given false 0 false v w 0 0 0) ≡ Some (stack_base name + v ↑ 12 + k ↑ 1)
 unfolding code_of
 asks_stack stack.Vpush v w k e = rw e refl
 asks_stack stack.Vpop v w k e = rw e refl
@@ -95,31 +95,31 @@ some_doubles v k e =
     let p = and_parts (nat_lt 0 k) (nat_lt (v + k) 17) e in
     (grind (arith, nat_tests, p.0), grind (arith, nat_tests, p.1))
 
-pub row_t15 : (i : T15) → Answers (instr.Scalar (scalar.T15 i)) (word (stack_stem i.name) ∷ doubles i.v.value i.k.value)
+pub row_t15 : (i : T15) → Answers (instr.Scalar (scalar.T15 i)) (word (stack_mnemonic i.name) ∷ doubles i.v.value i.k.value)
 row_t15 i =
     let v = i.v.value in
     let k = i.k.value in
     let p = some_doubles v k i.rules in
     answers_of _ _ (code_t15 i) _ _
-    (bare (λ name. word name ∷ doubles v k) (stack_stem i.name) _
-    (reads_doubles _ _ _ _ _ _ _ (stem_stack i.name) (a_double v i.v.in_range) (a_double (v + k - 1) (omega (arith, p.0, p.1))) (no_register v i.v.in_range)
+    (bare (λ name. word name ∷ doubles v k) (stack_mnemonic i.name) _
+    (reads_doubles _ _ _ _ _ _ _ (mnemonic_stack i.name) (a_double v i.v.in_range) (a_double (v + k - 1) (omega (arith, p.0, p.1))) (no_register v i.v.in_range)
     (no_register (v + k - 1) (omega (arith, p.0, p.1)))))
     (asks_stack i.name v (v + k - 1) k (last_and_one v k p.0)) refl
 
 -- T17
-reads_table : (s w x : List ℕ) (b c : Bool) (m n : ℕ) → is_stem s ≡ true → Operand w m b → Operand x n c
+reads_table : (s w x : List ℕ) (b c : Bool) (m n : ℕ) → is_mnemonic s ≡ true → Operand w m b → Operand x n c
     → Reads (word (s ++ []) ∷ open_bracket ∷ word w ∷ comma ∷ word x ∷ close_bracket ∷ []) s (given false 0 b m n 0 0 0)
-reads_table s w x b c m n stem p o = record {
-  asks = rw (cut s [] stem no_suffix.is, no_suffix.size, p.vector, p.value, o.value) refl;
-  prints = is_printed s [] _ stem refl (short_open, (short_word w p.is, (short_comma, (short_word x o.is, (short_close, tt))))) refl (omega arith) refl;
+reads_table s w x b c m n mnemonic p o = record {
+  asks = rw (cut s [] mnemonic no_suffix.is, no_suffix.size, p.vector, p.value, o.value) refl;
+  prints = is_printed s [] _ mnemonic refl (short_open, (short_word w p.is, (short_comma, (short_word x o.is, (short_close, tt))))) refl (omega arith) refl;
 }
 
-reads_scaled_table : (s w x k : List ℕ) (b c e : Bool) (m n v : ℕ) → is_stem s ≡ true → Operand w m b → Operand x n c → Operand k v e
+reads_scaled_table : (s w x k : List ℕ) (b c e : Bool) (m n v : ℕ) → is_mnemonic s ≡ true → Operand w m b → Operand x n c → Operand k v e
     → Reads (word (s ++ []) ∷ open_bracket ∷ word w ∷ comma ∷ word x ∷ comma ∷ word k ∷ hash_mark ∷ number 1 ∷ close_bracket ∷ []) s (given false 0 b m n v 1 0)
-reads_scaled_table s w x k b c e m n v stem p o t = record {
-  asks = rw (cut s [] stem no_suffix.is, no_suffix.size, p.vector, p.value, o.value, t.value) refl;
+reads_scaled_table s w x k b c e m n v mnemonic p o t = record {
+  asks = rw (cut s [] mnemonic no_suffix.is, no_suffix.size, p.vector, p.value, o.value, t.value) refl;
   prints =
-      is_printed s [] _ stem refl (
+      is_printed s [] _ mnemonic refl (
         short_open,
         (
           short_word w p.is,
@@ -221,18 +221,18 @@ row_t18 (t18.Write i) =
     (reads_two (codes "msr") _ _ _ _ _ _ _ _ refl no_suffix (a_written i.name) (a_register i.n.value i.n.in_range)) (asks_msr i.name _) refl
 
 -- T19
-stem_barrier : (name : BarrierName) → is_stem (barrier_stem name) ≡ true
-stem_barrier barrier.Dsb = refl
-stem_barrier barrier.Dmb = refl
-stem_barrier barrier.Isb = refl
+mnemonic_barrier : (name : BarrierName) → is_mnemonic (barrier_mnemonic name) ≡ true
+mnemonic_barrier barrier.Dsb = refl
+mnemonic_barrier barrier.Dmb = refl
+mnemonic_barrier barrier.Isb = refl
 
-asks_barrier : (name : BarrierName) (o : ℕ) → code_of (barrier_stem name) (given false 0 false o 0 0 0 0) ≡ Some (barrier_base name + o)
+asks_barrier : (name : BarrierName) (o : ℕ) → code_of (barrier_mnemonic name) (given false 0 false o 0 0 0 0) ≡ Some (barrier_base name + o)
 unfolding code_of
 asks_barrier barrier.Dsb o = refl
 asks_barrier barrier.Dmb o = refl
 asks_barrier barrier.Isb o = refl
 
-asks_bare_barrier : (name : BarrierName) → code_of (barrier_stem name) (given true 0 false 0 0 0 0 0) ≡ Some (barrier_base name + 15)
+asks_bare_barrier : (name : BarrierName) → code_of (barrier_mnemonic name) (given true 0 false 0 0 0 0 0) ≡ Some (barrier_base name + 15)
 unfolding code_of
 asks_bare_barrier barrier.Dsb = refl
 asks_bare_barrier barrier.Dmb = refl
@@ -246,15 +246,15 @@ pub row_t19 : (i : T19) → Answers (instr.Scalar (scalar.T19 i)) (barrier_token
 row_t19 t19.Nop = answers_of _ _ 0xf3af8000 (codes "nop") _ (reads_none (codes "nop") wide 0 refl suffix_wide) asks_nop refl
 row_t19 (t19.Barrier i) =
     answers_of _ _ (code_barrier i) _ _
-    (bare (λ name. word name ∷ constant i.o.value) (barrier_stem i.name) _
-    (reads_constant (barrier_stem i.name) [] 0 i.o.value (stem_barrier i.name) no_suffix (let lt = i.o.in_range in omega arith)))
+    (bare (λ name. word name ∷ constant i.o.value) (barrier_mnemonic i.name) _
+    (reads_constant (barrier_mnemonic i.name) [] 0 i.o.value (mnemonic_barrier i.name) no_suffix (let lt = i.o.in_range in omega arith)))
     (asks_barrier i.name _) refl
 
 -- the other spelling, where the number is 15
-pub other_barrier_answers : (i : Barrier) → i.o.value ≡ 15 → Answers (instr.Scalar (scalar.T19 (t19.Barrier i))) (word (barrier_stem i.name) ∷ [])
+pub other_barrier_answers : (i : Barrier) → i.o.value ≡ 15 → Answers (instr.Scalar (scalar.T19 (t19.Barrier i))) (word (barrier_mnemonic i.name) ∷ [])
 other_barrier_answers i e =
     answers_of _ _ (code_barrier i) _ _
-    (bare (λ name. word name ∷ []) (barrier_stem i.name) _ (reads_none (barrier_stem i.name) [] 0 (stem_barrier i.name) no_suffix))
+    (bare (λ name. word name ∷ []) (barrier_mnemonic i.name) _ (reads_none (barrier_mnemonic i.name) [] 0 (mnemonic_barrier i.name) no_suffix))
     (rw e (asks_bare_barrier i.name)) refl
 
 -- T21
@@ -306,21 +306,21 @@ row_t21 i =
     answers_of _ _ (code_t21 i) t.0 t.1 t.2 t.3 refl
 
 -- T22
-reads_to_lane : (s f w y : List ℕ) (b c : Bool) (z d x t : ℕ) → is_stem s ≡ true → Suffix f z → Operand w d b → x < 2 ^ 32 → Operand y t c
+reads_to_lane : (s f w y : List ℕ) (b c : Bool) (z d x t : ℕ) → is_mnemonic s ≡ true → Suffix f z → Operand w d b → x < 2 ^ 32 → Operand y t c
     → Reads (word (s ++ f) ∷ word w ∷ open_bracket ∷ number x ∷ close_bracket ∷ comma ∷ word y ∷ []) s (second_numbered false z b d x t 0 0)
-reads_to_lane s f w y b c z d x t stem g p hx o = record {
-  asks = rw (cut s f stem g.is, g.size, p.vector, p.value, o.value, min_small x hx) refl;
+reads_to_lane s f w y b c z d x t mnemonic g p hx o = record {
+  asks = rw (cut s f mnemonic g.is, g.size, p.vector, p.value, o.value, min_small x hx) refl;
   prints =
-      is_printed s f _ stem g.is
+      is_printed s f _ mnemonic g.is
       (short_word w p.is, (short_open, (short_number x hx, (short_close, (short_comma, (short_word y o.is, tt)))))) refl (omega arith) refl;
 }
 
-reads_from_lane : (s f w y : List ℕ) (b c : Bool) (z d x t : ℕ) → is_stem s ≡ true → Suffix f z → Operand w d b → x < 2 ^ 32 → Operand y t c
+reads_from_lane : (s f w y : List ℕ) (b c : Bool) (z d x t : ℕ) → is_mnemonic s ≡ true → Suffix f z → Operand w d b → x < 2 ^ 32 → Operand y t c
     → Reads (word (s ++ f) ∷ word y ∷ comma ∷ word w ∷ open_bracket ∷ number x ∷ close_bracket ∷ []) s (numbered false z c t d x 0 0)
-reads_from_lane s f w y b c z d x t stem g p hx o = record {
-  asks = rw (cut s f stem g.is, g.size, o.vector, p.value, o.value, min_small x hx) refl;
+reads_from_lane s f w y b c z d x t mnemonic g p hx o = record {
+  asks = rw (cut s f mnemonic g.is, g.size, o.vector, p.value, o.value, min_small x hx) refl;
   prints =
-      is_printed s f _ stem g.is
+      is_printed s f _ mnemonic g.is
       (short_word y o.is, (short_comma, (short_word w p.is, (short_open, (short_number x hx, (short_close, tt)))))) refl (omega arith) refl;
 }
 

@@ -18,7 +18,7 @@ use Rattle.hm_text32.specs.Operands.{read_operands, read_places, second_bang, va
 abbrev pub of_three : ℕ → ℕ → ℕ → ℕ → ℕ → ℕ
 of_three base n a d m = base + n ↑ 16 + a ↑ 12 + d ↑ 8 + m
 
--- ROWS, by their stems
+-- ROWS, by their mnemonics
 -- a code with a base, where a test holds
 abbrev pub where_ : Bool → (ℕ → ℕ) → Option ℕ → Option ℕ
 where_ b code (Some base) = if b then Some (code base) else None
@@ -59,7 +59,7 @@ code_constant_test s o = where_ o.second_is_number (λ b. constant_code b o.firs
 abbrev pub code_constant_move : List ℕ → Operands → Option ℕ
 code_constant_move s o = where_ o.second_is_number (λ b. constant_code b 15 o.first (constant_field o.second)) (move_base_in s)
 
--- T1: the code of an operation with a constant, by the stem; None where a register stands in its place (DDI0553, "Data-processing (modified immediate)")
+-- T1: the code of an operation with a constant, by the mnemonic; None where a register stands in its place (DDI0553, "Data-processing (modified immediate)")
 abbrev pub code_constant : List ℕ → Operands → Option ℕ
 code_constant s o = first (code_constant_data s o) (first (code_constant_test s o) (code_constant_move s o))
 
@@ -83,7 +83,7 @@ code_move s o = option_map (λ b. shifted_code b 15 o.first o.second o.third o.f
 abbrev pub code_turn : List ℕ → Operands → Option ℕ
 code_turn s o = where_ o.third_is_number (λ b. shifted_code b 15 o.first o.second 0 o.third) (turn_base_in s)
 
--- T1 and T2: the code of an operation with a constant or a shifted register, by the stem
+-- T1 and T2: the code of an operation with a constant or a shifted register, by the mnemonic
 -- (DDI0553, "Data-processing (modified immediate)" and "Data-processing (shifted register)")
 abbrev pub code_shifted : List ℕ → Operands → Option ℕ
 code_shifted s o = first (code_constant s o) (first (code_turn s o) (first (code_data s o) (first (code_test s o) (code_move s o))))
@@ -192,26 +192,26 @@ code_alone s o =
     else None
 
 -- ALL ROWS
--- the code of rows T8 to T11 and T20, by the stem
+-- the code of rows T8 to T11 and T20, by the mnemonic
 abbrev pub code_of_arith : List ℕ → Operands → Option ℕ
 code_of_arith s o =
     first (code_three s o) (first (code_two s o) (first (code_extend s o) (first (code_accumulate s o) (first (code_long s o) (code_select s o)))))
 
--- the code of rows T3 to T7, by the stem
+-- the code of rows T3 to T7, by the mnemonic
 abbrev pub code_of_data : List ℕ → Operands → Option ℕ
 code_of_data s o =
     first (code_wide_sum s o) (first (code_half s o) (first (code_saturate s o) (first (code_extract s o) (code_insert s o))))
 
--- the code of rows T15, T17 to T19, T21 and T22, and of T23 without a label, by the stem
+-- the code of rows T15, T17 to T19, T21 and T22, and of T23 without a label, by the mnemonic
 abbrev pub code_of_other : List ℕ → Operands → Option ℕ
 code_of_other s o =
     first (code_stack s o) (first (code_table s o) (first (code_barrier s o) (first (code_special s o) (first (code_lane s o) (code_alone s o)))))
 
--- the code of a stem and its operands but for rows T12 to T14 and those with a label; None where no row fits
+-- the code of a mnemonic and its operands but for rows T12 to T14 and those with a label; None where no row fits
 unfoldable pub code_of : List ℕ → Operands → Option ℕ
 code_of s o = first (code_shifted s o) (first (code_of_arith s o) (first (code_of_data s o) (code_of_other s o)))
 
--- the code of a mnemonic, cut into its stem and what begins at the point, and of the tokens behind it
+-- the code of a first word, cut into its mnemonic and what begins at the point, and of the tokens behind it
 abbrev pub code_cut : List ℕ × List ℕ → List Tok → Option ℕ
 code_cut parts ts = code_of parts.0 (read_operands parts.1 ts)
 
@@ -258,7 +258,7 @@ code_pair s o = option_map (λ b. pair_code b o) (pair_base_in s)
 abbrev pub code_list : List ℕ → List Tok → Option ℕ
 code_list s ts = option_map (λ b. b + second_bang ts ↑ 21 + value (operand 0 ts) ↑ 16 + bits_of (braced ts)) (list_base_in s)
 
--- the code of rows T12 to T14, by the stem
+-- the code of rows T12 to T14, by the mnemonic
 unfoldable pub code_of_memory : List ℕ → List Tok → Option ℕ
 code_of_memory s ts = first (code_access s (read_places ts)) (first (code_pair s (read_places ts)) (code_list s ts))
 
@@ -313,7 +313,7 @@ code_loop s suffix ts pc a =
     else if bytes_eq s (codes "le") then Some (with_field (if length ts == 1 then 0xf02fc001 else 0xf00fc001) (behind_it pc a))
     else None
 
--- the code of T16, and of T23 with a label, by the stem, at pc and with a label that names the address a
+-- the code of T16, and of T23 with a label, by the mnemonic, at pc and with a label that names the address a
 unfoldable pub code_of_label : List ℕ → List ℕ → List Tok → ℕ → ℕ → Option ℕ
 code_of_label s suffix ts pc a = first (code_conditional s pc a) (first (code_always s pc a) (code_loop s suffix ts pc a))
 

@@ -1,4 +1,4 @@
-pub mod Stems
+pub mod Mnemonics
 pub mod Operands
 pub mod Bases
 pub mod Codes

@@ -4,7 +4,7 @@ use Rattle.hm_tokens.specs.Names.{condition_in, register_in, vector_in}
 use Rattle.hm_tokens.specs.Ranges.{is_the_mark}
 use Rattle.hm_tokens.specs.Tokens.{Tok, word, number, mark}
 use Rattle.hm_text_rows.specs.Operands.{added, back_in, before, first_of, given_or, is_number, is_vector, operand, size_of}
-use Rattle.hm_text32.specs.Stems.{double_in}
+use Rattle.hm_text32.specs.Mnemonics.{double_in}
 use Rattle.hm_text32.specs.declared.operands.Operands.{Operands}
 use Rattle.hm_text32.specs.declared.operands.Places.{Places}
 
@@ -44,7 +44,7 @@ value (word w) = word_value w
 value (number n) = min n 0xffff_ffff
 value (mark c) = 0
 
--- what stands behind a stem, as numbers: the element size, five operands, and which of them are numbers or vectors
+-- what stands behind a mnemonic, as numbers: the element size, five operands, and which of them are numbers or vectors
 abbrev pub read_operands : List ℕ → List Tok → Operands
 read_operands suffix ts = record {
   is_bare = length ts == 0;

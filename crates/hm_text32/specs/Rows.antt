@@ -37,10 +37,13 @@ use Rattle.hm_tokens.specs.Tokens.{Tok, word, number, close_brace, close_bracket
 use Rattle.hm_text_rows.specs.Shapes.{and_constant, and_operand, and_shift, back, braces, constant, four, indexed, inside, one, or_zero, q, r, scaled, three}
 use Rattle.hm_text_rows.specs.Shapes.{two}
 use Rattle.hm_isa.specs.Words.{expand_imm_c, imm12}
-use Rattle.hm_text32.specs.Stems.{access_stem, accumulate_stem, barrier_stem, bits_stem, bits_suffix, carry_stem, data_stem, double_name, element_suffix}
-use Rattle.hm_text32.specs.Stems.{extend_stem, extract_stem, half_stem, long_stem, move_stem, operation_stem, pair_stem, read_name, saturate_shift}
-use Rattle.hm_text32.specs.Stems.{saturate_stem, select_stem, shift_stem, stack_stem, test_stem, turn_stem, wide, wide_branch_stem, wide_list_stem}
-use Rattle.hm_text32.specs.Stems.{wide_list_suffix, wide_shift_stem, wide_sum_stem, written_name}
+use Rattle.hm_text32.specs.Mnemonics.{access_mnemonic, accumulate_mnemonic, barrier_mnemonic, bits_mnemonic, bits_suffix, carry_mnemonic, data_mnemonic}
+use Rattle.hm_text32.specs.Mnemonics.{double_name, element_suffix}
+use Rattle.hm_text32.specs.Mnemonics.{extend_mnemonic, extract_mnemonic, half_mnemonic, long_mnemonic, move_mnemonic, operation_mnemonic, pair_mnemonic}
+use Rattle.hm_text32.specs.Mnemonics.{read_name, saturate_shift}
+use Rattle.hm_text32.specs.Mnemonics.{saturate_mnemonic, select_mnemonic, shift_mnemonic, stack_mnemonic, test_mnemonic, turn_mnemonic, wide}
+use Rattle.hm_text32.specs.Mnemonics.{wide_branch_mnemonic, wide_list_mnemonic}
+use Rattle.hm_text32.specs.Mnemonics.{wide_list_suffix, wide_shift_mnemonic, wide_sum_mnemonic, written_name}
 
 -- DATA
 -- T1: the constant that the fields i, i3 and i8 stand for (DDI0553, "Data-processing (modified immediate)")
@@ -51,9 +54,9 @@ constant_in i i3 i8 = (expand_imm_c (imm12 i i3 i8) false).result
 -- and with 15 for the first register MOV and MVN (DDI0553, "Data-processing (modified immediate)")
 abbrev pub constant_tokens : DataName → ℕ → ℕ → ℕ → ℕ → List Tok
 constant_tokens name s n d c =
-    if nat_eq d 15 then and_constant (one (test_stem name ++ wide) (r n)) c
-    else if nat_eq n 15 then and_constant (one (move_stem name s ++ wide) (r d)) c
-    else and_constant (two (data_stem name s ++ wide) (r d) (r n)) c
+    if nat_eq d 15 then and_constant (one (test_mnemonic name ++ wide) (r n)) c
+    else if nat_eq n 15 then and_constant (one (move_mnemonic name s ++ wide) (r d)) c
+    else and_constant (two (data_mnemonic name s ++ wide) (r d) (r n)) c
 
 -- T2: the number of a shift as it is written: 0 stands for 32 in shifts to the right (DDI0553, "Data-processing (shifted register)")
 abbrev pub shift_number : ℕ → ℕ → ℕ
@@ -70,27 +73,27 @@ is_unshifted ty k = nat_eq ty 0 && nat_eq k 0
 -- T2: and a shift of the last register, where there is one (DDI0553, "Data-processing (shifted register)")
 abbrev pub and_shifted : List Tok → ℕ → ℕ → List Tok
 and_shifted front ty k =
-    if is_by_carry ty k then and_operand front (word (codes "rrx")) else and_shift front (shift_stem ty) (shift_number ty k)
+    if is_by_carry ty k then and_operand front (word (codes "rrx")) else and_shift front (shift_mnemonic ty) (shift_number ty k)
 
 -- T2: the tokens of MOV, `mov.w rd,rm`, of LSL, LSR, ASR and ROR, `lsl.w rd,rm,#k`, and of RRX, `rrx rd,rm` (DDI0553, "Data-processing (shifted register)")
 abbrev pub moved_tokens : ℕ → ℕ → ℕ → ℕ → ℕ → List Tok
 moved_tokens s d m ty k =
-    if is_by_carry ty k then two (carry_stem s) (r d) (r m)
-    else if is_unshifted ty k then two (move_stem data_.Orr s ++ wide) (r d) (r m)
-    else and_constant (two (turn_stem ty s ++ wide) (r d) (r m)) (shift_number ty k)
+    if is_by_carry ty k then two (carry_mnemonic s) (r d) (r m)
+    else if is_unshifted ty k then two (move_mnemonic data_.Orr s ++ wide) (r d) (r m)
+    else and_constant (two (turn_mnemonic ty s ++ wide) (r d) (r m)) (shift_number ty k)
 
 -- T2: the tokens of the operations with no first register: MOV and the shifts, and MVN (DDI0553, "Data-processing (shifted register)")
 abbrev pub single_tokens : DataName → ℕ → ℕ → ℕ → ℕ → ℕ → List Tok
 single_tokens data_.Orr s d m ty k = moved_tokens s d m ty k
-single_tokens name s d m ty k = and_shifted (two (move_stem name s ++ wide) (r d) (r m)) ty k
+single_tokens name s d m ty k = and_shifted (two (move_mnemonic name s ++ wide) (r d) (r m)) ty k
 
 -- T2: the tokens of AND, BIC, ORR, ORN, EOR, ADD, ADC, SBC, SUB and RSB with a shifted register; with 15 for the result TST, TEQ, CMN and CMP
 -- (DDI0553, "Data-processing (shifted register)")
 abbrev pub data_tokens : DataName → ℕ → ℕ → ℕ → ℕ → ℕ → ℕ → List Tok
 data_tokens name s n d m ty k =
-    if nat_eq d 15 then and_shifted (two (test_stem name ++ wide) (r n) (r m)) ty k
+    if nat_eq d 15 then and_shifted (two (test_mnemonic name ++ wide) (r n) (r m)) ty k
     else if nat_eq n 15 then single_tokens name s d m ty k
-    else and_shifted (three (data_stem name s ++ wide) (r d) (r n) (r m)) ty k
+    else and_shifted (three (data_mnemonic name s ++ wide) (r d) (r n) (r m)) ty k
 
 -- T5: the number of bits that SSAT and USAT make a value fit in (DDI0553, "SSAT" and "USAT")
 abbrev pub saturated_bits : SaturateName → ℕ → ℕ
@@ -104,7 +107,7 @@ and_turn front kind n = front ++ comma ∷ word kind ∷ constant n
 -- T5: the tokens of SSAT and USAT (DDI0553, "SSAT" and "USAT")
 abbrev pub saturate_tokens : SaturateRow → List Tok
 saturate_tokens i =
-    and_turn (and_operand (and_constant (one (saturate_stem i.name) (r i.d.value)) (saturated_bits i.name i.s.value)) (r i.n.value))
+    and_turn (and_operand (and_constant (one (saturate_mnemonic i.name) (r i.d.value)) (saturated_bits i.name i.s.value)) (r i.n.value))
     (saturate_shift i.sh.value) (4 * i.i3.value + i.i2.value)
 
 -- T7: the tokens of BFI, `rd,rn,#lsb,#width`, and of BFC, `rd,#lsb,#width`, which puts zeros in (DDI0553, "BFI" and "BFC")
@@ -116,18 +119,18 @@ insert_tokens i =
 
 -- T11: the tokens of MUL, SDIV and UDIV, of MLA and MLS, and of SMULL, UMULL, SMLAL and UMLAL (DDI0553, the section of each, as "MUL")
 abbrev pub product_tokens : ProductRow → List Tok
-product_tokens (t11.Operation i) = three (operation_stem i.name) (r i.d.value) (r i.n.value) (r i.m.value)
-product_tokens (t11.Accumulate i) = four (accumulate_stem i.name) (r i.d.value) (r i.n.value) (r i.m.value) (r i.a.value)
-product_tokens (t11.Long i) = four (long_stem i.name) (r i.l.value) (r i.h.value) (r i.n.value) (r i.m.value)
+product_tokens (t11.Operation i) = three (operation_mnemonic i.name) (r i.d.value) (r i.n.value) (r i.m.value)
+product_tokens (t11.Accumulate i) = four (accumulate_mnemonic i.name) (r i.d.value) (r i.n.value) (r i.m.value) (r i.a.value)
+product_tokens (t11.Long i) = four (long_mnemonic i.name) (r i.l.value) (r i.h.value) (r i.n.value) (r i.m.value)
 
 -- MEMORY
 -- T12: the tokens of an access: `[rn,#i]`; with an index by P, U and W; `[rn,rm,lsl #i]`; `[pc,#i]`
 -- (DDI0553, "LDR (immediate)", "LDR (literal)", "LDR (register)" and the like of each)
 abbrev pub access_tokens : AccessRow → List Tok
-access_tokens (t12.Offset i) = word (access_stem i.name ++ wide) ∷ r i.t.value ∷ comma ∷ inside 1 0 (r i.n.value) i.i.value
-access_tokens (t12.Indexed i) = word (access_stem i.name ++ wide) ∷ r i.t.value ∷ comma ∷ indexed i.p.value i.u.value i.w.value (r i.n.value) i.i.value
-access_tokens (t12.Shifted i) = word (access_stem i.name ++ wide) ∷ r i.t.value ∷ comma ∷ scaled i.n.value i.m.value i.i.value
-access_tokens (t12.Literal i) = word (access_stem i.name ++ wide) ∷ r i.t.value ∷ comma ∷ inside i.u.value 0 (r 15) i.i.value
+access_tokens (t12.Offset i) = word (access_mnemonic i.name ++ wide) ∷ r i.t.value ∷ comma ∷ inside 1 0 (r i.n.value) i.i.value
+access_tokens (t12.Indexed i) = word (access_mnemonic i.name ++ wide) ∷ r i.t.value ∷ comma ∷ indexed i.p.value i.u.value i.w.value (r i.n.value) i.i.value
+access_tokens (t12.Shifted i) = word (access_mnemonic i.name ++ wide) ∷ r i.t.value ∷ comma ∷ scaled i.n.value i.m.value i.i.value
+access_tokens (t12.Literal i) = word (access_mnemonic i.name ++ wide) ∷ r i.t.value ∷ comma ∷ inside i.u.value 0 (r 15) i.i.value
 
 -- T14: the base of STMIA, LDMIA, STMDB and LDMDB, `rn`, and `!` where it is written back
 -- (DDI0553, "STM, STMIA, STMEA", "LDM, LDMIA, LDMFD", "STMDB, STMFD" and "LDMDB, LDMEA")
@@ -146,7 +149,7 @@ special_tokens (t18.Write i) = two (codes "msr") (word (written_name i.name)) (r
 -- T19: the tokens of NOP, DSB, DMB and ISB (DDI0553, "NOP", "DSB", "DMB" and "ISB")
 abbrev pub barrier_tokens : BarrierRow → List Tok
 barrier_tokens t19.Nop = word (codes "nop" ++ wide) ∷ []
-barrier_tokens (t19.Barrier i) = word (barrier_stem i.name) ∷ constant i.o.value
+barrier_tokens (t19.Barrier i) = word (barrier_mnemonic i.name) ∷ constant i.o.value
 
 -- T21: the register of VMRS; of FPSCR 15 is the four flags (DDI0553, "VMRS" and "VMSR")
 abbrev pub flags_or : ℕ → Tok
@@ -175,23 +178,23 @@ lane_tokens lane.FromLane d x t = word (codes "vmov" ++ codes ".32") ∷ r t ∷
 abbrev pub scalar_tokens : Scalar → List Tok
 scalar_tokens (T1 i) = constant_tokens i.name i.s.value i.n.value i.d.value (constant_in i.i.value i.i3.value i.i8.value)
 scalar_tokens (T2 i) = data_tokens i.name i.s.value i.n.value i.d.value i.m.value i.ty.value (4 * i.i3.value + i.i2.value)
-scalar_tokens (T3 i) = and_constant (two (wide_sum_stem i.name) (r i.d.value) (r i.n.value)) (2048 * i.i.value + 256 * i.i3.value + i.i8.value)
-scalar_tokens (T4 i) = and_constant (one (half_stem i.name) (r i.d.value)) (4096 * i.i4.value + 2048 * i.i.value + 256 * i.i3.value + i.i8.value)
+scalar_tokens (T3 i) = and_constant (two (wide_sum_mnemonic i.name) (r i.d.value) (r i.n.value)) (2048 * i.i.value + 256 * i.i3.value + i.i8.value)
+scalar_tokens (T4 i) = and_constant (one (half_mnemonic i.name) (r i.d.value)) (4096 * i.i4.value + 2048 * i.i.value + 256 * i.i3.value + i.i8.value)
 scalar_tokens (T5 i) = saturate_tokens i
-scalar_tokens (T6 i) = and_constant (and_constant (two (extract_stem i.name) (r i.d.value) (r i.n.value)) (4 * i.i3.value + i.i2.value)) (i.w.value + 1)
+scalar_tokens (T6 i) = and_constant (and_constant (two (extract_mnemonic i.name) (r i.d.value) (r i.n.value)) (4 * i.i3.value + i.i2.value)) (i.w.value + 1)
 scalar_tokens (T7 i) = insert_tokens i
-scalar_tokens (T8 i) = three (wide_shift_stem i.name i.s.value ++ wide) (r i.d.value) (r i.n.value) (r i.m.value)
-scalar_tokens (T9 i) = and_shift (two (extend_stem i.name ++ wide) (r i.d.value) (r i.m.value)) (codes "ror") (8 * i.r.value)
-scalar_tokens (T10 i) = two (bits_stem i.name ++ bits_suffix i.name) (r i.d.value) (r i.m.value)
+scalar_tokens (T8 i) = three (wide_shift_mnemonic i.name i.s.value ++ wide) (r i.d.value) (r i.n.value) (r i.m.value)
+scalar_tokens (T9 i) = and_shift (two (extend_mnemonic i.name ++ wide) (r i.d.value) (r i.m.value)) (codes "ror") (8 * i.r.value)
+scalar_tokens (T10 i) = two (bits_mnemonic i.name ++ bits_suffix i.name) (r i.d.value) (r i.m.value)
 scalar_tokens (T11 i) = product_tokens i
 scalar_tokens (T12 i) = access_tokens i
 scalar_tokens (T13 i) =
-    word (pair_stem i.name) ∷ r i.t.value ∷ comma ∷ r i.u.value ∷ comma ∷ indexed i.p.value i.add.value i.w.value (r i.n.value) (4 * i.i.value)
-scalar_tokens (T14 i) = list_start (wide_list_stem i.name ++ wide_list_suffix i.name) i.w.value i.n.value ++ braces i.list.value
-scalar_tokens (T15 i) = word (stack_stem i.name) ∷ doubles i.v.value i.k.value
+    word (pair_mnemonic i.name) ∷ r i.t.value ∷ comma ∷ r i.u.value ∷ comma ∷ indexed i.p.value i.add.value i.w.value (r i.n.value) (4 * i.i.value)
+scalar_tokens (T14 i) = list_start (wide_list_mnemonic i.name ++ wide_list_suffix i.name) i.w.value i.n.value ++ braces i.list.value
+scalar_tokens (T15 i) = word (stack_mnemonic i.name) ∷ doubles i.v.value i.k.value
 scalar_tokens (T18 i) = special_tokens i
 scalar_tokens (T19 i) = barrier_tokens i
-scalar_tokens (T20 i) = four (select_stem i.name) (r i.d.value) (or_zero i.n.value) (or_zero i.m.value) (word (condition_name i.c.value))
+scalar_tokens (T20 i) = four (select_mnemonic i.name) (r i.d.value) (or_zero i.n.value) (or_zero i.m.value) (word (condition_name i.c.value))
 scalar_tokens (T21 i) = system_tokens i.name i.t.value
 scalar_tokens (T22 i) = lane_tokens i.name i.q.value i.x.value i.t.value
 scalar_tokens i = []
@@ -205,7 +208,7 @@ table_tokens table.Tbh n m = word (codes "tbh") ∷ open_bracket ∷ r n ∷ com
 -- T16: the tokens of B and BL before the label, `beq.w label` and so on, `b.w label`, `bl label` (DDI0553, "B", encodings T3 and T4, and "BL")
 abbrev pub wide_branch_tokens : WideBranchRow → List Tok
 wide_branch_tokens (t16.Conditional i) = word (codes "b" ++ (condition_name i.c.value ++ wide)) ∷ []
-wide_branch_tokens (t16.Always i) = word (wide_branch_stem i.name) ∷ []
+wide_branch_tokens (t16.Always i) = word (wide_branch_mnemonic i.name) ∷ []
 
 -- T23: the tokens of LE and LETP before the label, `le lr,label`, `letp lr,label`, `le label` (DDI0553, "LE, LETP")
 abbrev pub loop_end_tokens : LoopEndName → List Tok
@@ -263,7 +266,7 @@ tokens_of i t = if has_label i then row_tokens i ++ t ∷ [] else row_tokens i
 -- T19: the other text that is read as a row: DSB, DMB and ISB alone as those of 15 (DDI0553, "DSB", "DMB" and "ISB")
 abbrev pub other_barrier : BarrierRow → Option (List Tok)
 other_barrier t19.Nop = None
-other_barrier (t19.Barrier i) = if nat_eq i.o.value 15 then Some (word (barrier_stem i.name) ∷ []) else None
+other_barrier (t19.Barrier i) = if nat_eq i.o.value 15 then Some (word (barrier_mnemonic i.name) ∷ []) else None
 
 -- the other text of a row that is no branch and no vector row: T19 alone has one
 abbrev pub other_scalar : Scalar → Option (List Tok)

@@ -1,4 +1,4 @@
-//! Stems of mnemonics: the codes that their rows begin from.
+//! Mnemonics: the codes that their rows begin from.
 
 ghost use Rattle.std.specs.Prelude.{◌≡◌};
 ghost use Rattle.hm_text32.specs.Bases.{access_base_in, accumulate_base_in, barrier_base_in, branch_base_in, data_base_in, extend_base_in, extract_base_in};
@@ -8,438 +8,438 @@ ghost use Rattle.hm_text32.specs.Bases.{table_base_in, test_base_in, three_base,
 use hm_text_rows::is;
 
 /// Of a row T2 of three registers.
-pub fn data_base_in(stem: &[u8]) -> Option<u32>
-    ensures { result ≡ data_base_in stem.now }
+pub fn data_base_in(mnemonic: &[u8]) -> Option<u32>
+    ensures { result ≡ data_base_in mnemonic.now }
 {
-    if is(stem, "and") {
+    if is(mnemonic, "and") {
         return Some(0xea00_0000);
     }
-    if is(stem, "bic") {
+    if is(mnemonic, "bic") {
         return Some(0xea20_0000);
     }
-    if is(stem, "orr") {
+    if is(mnemonic, "orr") {
         return Some(0xea40_0000);
     }
-    if is(stem, "orn") {
+    if is(mnemonic, "orn") {
         return Some(0xea60_0000);
     }
-    if is(stem, "eor") {
+    if is(mnemonic, "eor") {
         return Some(0xea80_0000);
     }
-    if is(stem, "add") {
+    if is(mnemonic, "add") {
         return Some(0xeb00_0000);
     }
-    if is(stem, "adc") {
+    if is(mnemonic, "adc") {
         return Some(0xeb40_0000);
     }
-    if is(stem, "sbc") {
+    if is(mnemonic, "sbc") {
         return Some(0xeb60_0000);
     }
-    if is(stem, "sub") {
+    if is(mnemonic, "sub") {
         return Some(0xeba0_0000);
     }
-    if is(stem, "rsb") {
+    if is(mnemonic, "rsb") {
         return Some(0xebc0_0000);
     }
     None
 }
 
 /// Of a row T2 of three registers that sets the flags.
-pub fn flagged_base_in(stem: &[u8]) -> Option<u32>
-    ensures { result ≡ flagged_base_in stem.now }
+pub fn flagged_base_in(mnemonic: &[u8]) -> Option<u32>
+    ensures { result ≡ flagged_base_in mnemonic.now }
 {
-    if is(stem, "ands") {
+    if is(mnemonic, "ands") {
         return Some(0xea10_0000);
     }
-    if is(stem, "bics") {
+    if is(mnemonic, "bics") {
         return Some(0xea30_0000);
     }
-    if is(stem, "orrs") {
+    if is(mnemonic, "orrs") {
         return Some(0xea50_0000);
     }
-    if is(stem, "orns") {
+    if is(mnemonic, "orns") {
         return Some(0xea70_0000);
     }
-    if is(stem, "eors") {
+    if is(mnemonic, "eors") {
         return Some(0xea90_0000);
     }
-    if is(stem, "adds") {
+    if is(mnemonic, "adds") {
         return Some(0xeb10_0000);
     }
-    if is(stem, "adcs") {
+    if is(mnemonic, "adcs") {
         return Some(0xeb50_0000);
     }
-    if is(stem, "sbcs") {
+    if is(mnemonic, "sbcs") {
         return Some(0xeb70_0000);
     }
-    if is(stem, "subs") {
+    if is(mnemonic, "subs") {
         return Some(0xebb0_0000);
     }
-    if is(stem, "rsbs") {
+    if is(mnemonic, "rsbs") {
         return Some(0xebd0_0000);
     }
     None
 }
 
 /// Of a row T2 that is a test.
-pub fn test_base_in(stem: &[u8]) -> Option<u32>
-    ensures { result ≡ test_base_in stem.now }
+pub fn test_base_in(mnemonic: &[u8]) -> Option<u32>
+    ensures { result ≡ test_base_in mnemonic.now }
 {
-    if is(stem, "tst") {
+    if is(mnemonic, "tst") {
         return Some(0xea10_0000);
     }
-    if is(stem, "teq") {
+    if is(mnemonic, "teq") {
         return Some(0xea90_0000);
     }
-    if is(stem, "cmn") {
+    if is(mnemonic, "cmn") {
         return Some(0xeb10_0000);
     }
-    if is(stem, "cmp") {
+    if is(mnemonic, "cmp") {
         return Some(0xebb0_0000);
     }
     None
 }
 
 /// Of a row T2 with no first register.
-pub fn move_base_in(stem: &[u8]) -> Option<u32>
-    ensures { result ≡ move_base_in stem.now }
+pub fn move_base_in(mnemonic: &[u8]) -> Option<u32>
+    ensures { result ≡ move_base_in mnemonic.now }
 {
-    if is(stem, "mov") {
+    if is(mnemonic, "mov") {
         return Some(0xea40_0000);
     }
-    if is(stem, "movs") {
+    if is(mnemonic, "movs") {
         return Some(0xea50_0000);
     }
-    if is(stem, "mvn") {
+    if is(mnemonic, "mvn") {
         return Some(0xea60_0000);
     }
-    if is(stem, "mvns") {
+    if is(mnemonic, "mvns") {
         return Some(0xea70_0000);
     }
-    if is(stem, "rrx") {
+    if is(mnemonic, "rrx") {
         return Some(0xea40_0030);
     }
-    if is(stem, "rrxs") {
+    if is(mnemonic, "rrxs") {
         return Some(0xea50_0030);
     }
     None
 }
 
 /// Of a row T2 that is a shift by a number.
-pub fn turn_base_in(stem: &[u8]) -> Option<u32>
-    ensures { result ≡ turn_base_in stem.now }
+pub fn turn_base_in(mnemonic: &[u8]) -> Option<u32>
+    ensures { result ≡ turn_base_in mnemonic.now }
 {
-    if is(stem, "lsl") {
+    if is(mnemonic, "lsl") {
         return Some(0xea40_0000);
     }
-    if is(stem, "lsls") {
+    if is(mnemonic, "lsls") {
         return Some(0xea50_0000);
     }
-    if is(stem, "lsr") {
+    if is(mnemonic, "lsr") {
         return Some(0xea40_0010);
     }
-    if is(stem, "lsrs") {
+    if is(mnemonic, "lsrs") {
         return Some(0xea50_0010);
     }
-    if is(stem, "asr") {
+    if is(mnemonic, "asr") {
         return Some(0xea40_0020);
     }
-    if is(stem, "asrs") {
+    if is(mnemonic, "asrs") {
         return Some(0xea50_0020);
     }
-    if is(stem, "ror") {
+    if is(mnemonic, "ror") {
         return Some(0xea40_0030);
     }
-    if is(stem, "rors") {
+    if is(mnemonic, "rors") {
         return Some(0xea50_0030);
     }
     None
 }
 
 /// Of `rd,rn,rm`, rows T8 and T11.
-pub fn three_base(stem: &[u8]) -> Option<u32>
-    ensures { result ≡ three_base stem.now }
+pub fn three_base(mnemonic: &[u8]) -> Option<u32>
+    ensures { result ≡ three_base mnemonic.now }
 {
-    if is(stem, "lsl") {
+    if is(mnemonic, "lsl") {
         return Some(0xfa00_f000);
     }
-    if is(stem, "lsls") {
+    if is(mnemonic, "lsls") {
         return Some(0xfa10_f000);
     }
-    if is(stem, "lsr") {
+    if is(mnemonic, "lsr") {
         return Some(0xfa20_f000);
     }
-    if is(stem, "lsrs") {
+    if is(mnemonic, "lsrs") {
         return Some(0xfa30_f000);
     }
-    if is(stem, "asr") {
+    if is(mnemonic, "asr") {
         return Some(0xfa40_f000);
     }
-    if is(stem, "asrs") {
+    if is(mnemonic, "asrs") {
         return Some(0xfa50_f000);
     }
-    if is(stem, "ror") {
+    if is(mnemonic, "ror") {
         return Some(0xfa60_f000);
     }
-    if is(stem, "rors") {
+    if is(mnemonic, "rors") {
         return Some(0xfa70_f000);
     }
-    if is(stem, "mul") {
+    if is(mnemonic, "mul") {
         return Some(0xfb00_f000);
     }
-    if is(stem, "sdiv") {
+    if is(mnemonic, "sdiv") {
         return Some(0xfb90_f0f0);
     }
-    if is(stem, "udiv") {
+    if is(mnemonic, "udiv") {
         return Some(0xfbb0_f0f0);
     }
     None
 }
 
 /// Of `rd,rm`, rows T10.
-pub fn two_base(stem: &[u8]) -> Option<u32>
-    ensures { result ≡ two_base stem.now }
+pub fn two_base(mnemonic: &[u8]) -> Option<u32>
+    ensures { result ≡ two_base mnemonic.now }
 {
-    if is(stem, "rev") {
+    if is(mnemonic, "rev") {
         return Some(0xfa90_f080);
     }
-    if is(stem, "rev16") {
+    if is(mnemonic, "rev16") {
         return Some(0xfa90_f090);
     }
-    if is(stem, "rbit") {
+    if is(mnemonic, "rbit") {
         return Some(0xfa90_f0a0);
     }
-    if is(stem, "revsh") {
+    if is(mnemonic, "revsh") {
         return Some(0xfa90_f0b0);
     }
-    if is(stem, "clz") {
+    if is(mnemonic, "clz") {
         return Some(0xfab0_f080);
     }
     None
 }
 
 /// Of a row T9.
-pub fn extend_base_in(stem: &[u8]) -> Option<u32>
-    ensures { result ≡ extend_base_in stem.now }
+pub fn extend_base_in(mnemonic: &[u8]) -> Option<u32>
+    ensures { result ≡ extend_base_in mnemonic.now }
 {
-    if is(stem, "sxth") {
+    if is(mnemonic, "sxth") {
         return Some(0xfa0f_f080);
     }
-    if is(stem, "uxth") {
+    if is(mnemonic, "uxth") {
         return Some(0xfa1f_f080);
     }
-    if is(stem, "sxtb") {
+    if is(mnemonic, "sxtb") {
         return Some(0xfa4f_f080);
     }
-    if is(stem, "uxtb") {
+    if is(mnemonic, "uxtb") {
         return Some(0xfa5f_f080);
     }
     None
 }
 
 /// Of `rd,rn,rm,ra`, a row T11.
-pub fn accumulate_base_in(stem: &[u8]) -> Option<u32>
-    ensures { result ≡ accumulate_base_in stem.now }
+pub fn accumulate_base_in(mnemonic: &[u8]) -> Option<u32>
+    ensures { result ≡ accumulate_base_in mnemonic.now }
 {
-    if is(stem, "mla") {
+    if is(mnemonic, "mla") {
         return Some(0xfb00_0000);
     }
-    if is(stem, "mls") {
+    if is(mnemonic, "mls") {
         return Some(0xfb00_0010);
     }
     None
 }
 
 /// Of `rl,rh,rn,rm`, a row T11.
-pub fn long_base_in(stem: &[u8]) -> Option<u32>
-    ensures { result ≡ long_base_in stem.now }
+pub fn long_base_in(mnemonic: &[u8]) -> Option<u32>
+    ensures { result ≡ long_base_in mnemonic.now }
 {
-    if is(stem, "smull") {
+    if is(mnemonic, "smull") {
         return Some(0xfb80_0000);
     }
-    if is(stem, "umull") {
+    if is(mnemonic, "umull") {
         return Some(0xfba0_0000);
     }
-    if is(stem, "smlal") {
+    if is(mnemonic, "smlal") {
         return Some(0xfbc0_0000);
     }
-    if is(stem, "umlal") {
+    if is(mnemonic, "umlal") {
         return Some(0xfbe0_0000);
     }
     None
 }
 
 /// Of a row T20.
-pub fn select_base_in(stem: &[u8]) -> Option<u32>
-    ensures { result ≡ select_base_in stem.now }
+pub fn select_base_in(mnemonic: &[u8]) -> Option<u32>
+    ensures { result ≡ select_base_in mnemonic.now }
 {
-    if is(stem, "csel") {
+    if is(mnemonic, "csel") {
         return Some(0xea50_8000);
     }
-    if is(stem, "csinc") {
+    if is(mnemonic, "csinc") {
         return Some(0xea50_9000);
     }
-    if is(stem, "csinv") {
+    if is(mnemonic, "csinv") {
         return Some(0xea50_a000);
     }
-    if is(stem, "csneg") {
+    if is(mnemonic, "csneg") {
         return Some(0xea50_b000);
     }
     None
 }
 
 /// Of a row T3.
-pub fn wide_sum_base_in(stem: &[u8]) -> Option<u32>
-    ensures { result ≡ wide_sum_base_in stem.now }
+pub fn wide_sum_base_in(mnemonic: &[u8]) -> Option<u32>
+    ensures { result ≡ wide_sum_base_in mnemonic.now }
 {
-    if is(stem, "addw") {
+    if is(mnemonic, "addw") {
         return Some(0xf200_0000);
     }
-    if is(stem, "subw") {
+    if is(mnemonic, "subw") {
         return Some(0xf2a0_0000);
     }
     None
 }
 
 /// Of a row T4.
-pub fn half_base_in(stem: &[u8]) -> Option<u32>
-    ensures { result ≡ half_base_in stem.now }
+pub fn half_base_in(mnemonic: &[u8]) -> Option<u32>
+    ensures { result ≡ half_base_in mnemonic.now }
 {
-    if is(stem, "movw") {
+    if is(mnemonic, "movw") {
         return Some(0xf240_0000);
     }
-    if is(stem, "movt") {
+    if is(mnemonic, "movt") {
         return Some(0xf2c0_0000);
     }
     None
 }
 
 /// Of a row T6.
-pub fn extract_base_in(stem: &[u8]) -> Option<u32>
-    ensures { result ≡ extract_base_in stem.now }
+pub fn extract_base_in(mnemonic: &[u8]) -> Option<u32>
+    ensures { result ≡ extract_base_in mnemonic.now }
 {
-    if is(stem, "sbfx") {
+    if is(mnemonic, "sbfx") {
         return Some(0xf340_0000);
     }
-    if is(stem, "ubfx") {
+    if is(mnemonic, "ubfx") {
         return Some(0xf3c0_0000);
     }
     None
 }
 
 /// Of a row T15.
-pub fn stack_base_in(stem: &[u8]) -> Option<u32>
-    ensures { result ≡ stack_base_in stem.now }
+pub fn stack_base_in(mnemonic: &[u8]) -> Option<u32>
+    ensures { result ≡ stack_base_in mnemonic.now }
 {
-    if is(stem, "vpush") {
+    if is(mnemonic, "vpush") {
         return Some(0xed2d_0b00);
     }
-    if is(stem, "vpop") {
+    if is(mnemonic, "vpop") {
         return Some(0xecbd_0b00);
     }
     None
 }
 
 /// Of a row T17.
-pub fn table_base_in(stem: &[u8]) -> Option<u32>
-    ensures { result ≡ table_base_in stem.now }
+pub fn table_base_in(mnemonic: &[u8]) -> Option<u32>
+    ensures { result ≡ table_base_in mnemonic.now }
 {
-    if is(stem, "tbb") {
+    if is(mnemonic, "tbb") {
         return Some(0xe8d0_f000);
     }
-    if is(stem, "tbh") {
+    if is(mnemonic, "tbh") {
         return Some(0xe8d0_f010);
     }
     None
 }
 
 /// Of a barrier, a row T19.
-pub fn barrier_base_in(stem: &[u8]) -> Option<u32>
-    ensures { result ≡ barrier_base_in stem.now }
+pub fn barrier_base_in(mnemonic: &[u8]) -> Option<u32>
+    ensures { result ≡ barrier_base_in mnemonic.now }
 {
-    if is(stem, "dsb") {
+    if is(mnemonic, "dsb") {
         return Some(0xf3bf_8f40);
     }
-    if is(stem, "dmb") {
+    if is(mnemonic, "dmb") {
         return Some(0xf3bf_8f50);
     }
-    if is(stem, "isb") {
+    if is(mnemonic, "isb") {
         return Some(0xf3bf_8f60);
     }
     None
 }
 
 /// Of a row T12.
-pub fn access_base_in(stem: &[u8]) -> Option<u32>
-    ensures { result ≡ access_base_in stem.now }
+pub fn access_base_in(mnemonic: &[u8]) -> Option<u32>
+    ensures { result ≡ access_base_in mnemonic.now }
 {
-    if is(stem, "strb") {
+    if is(mnemonic, "strb") {
         return Some(0xf800_0000);
     }
-    if is(stem, "strh") {
+    if is(mnemonic, "strh") {
         return Some(0xf820_0000);
     }
-    if is(stem, "str") {
+    if is(mnemonic, "str") {
         return Some(0xf840_0000);
     }
-    if is(stem, "ldrb") {
+    if is(mnemonic, "ldrb") {
         return Some(0xf810_0000);
     }
-    if is(stem, "ldrh") {
+    if is(mnemonic, "ldrh") {
         return Some(0xf830_0000);
     }
-    if is(stem, "ldr") {
+    if is(mnemonic, "ldr") {
         return Some(0xf850_0000);
     }
-    if is(stem, "ldrsb") {
+    if is(mnemonic, "ldrsb") {
         return Some(0xf910_0000);
     }
-    if is(stem, "ldrsh") {
+    if is(mnemonic, "ldrsh") {
         return Some(0xf930_0000);
     }
     None
 }
 
 /// Of a row T13.
-pub fn pair_base_in(stem: &[u8]) -> Option<u32>
-    ensures { result ≡ pair_base_in stem.now }
+pub fn pair_base_in(mnemonic: &[u8]) -> Option<u32>
+    ensures { result ≡ pair_base_in mnemonic.now }
 {
-    if is(stem, "strd") {
+    if is(mnemonic, "strd") {
         return Some(0xe840_0000);
     }
-    if is(stem, "ldrd") {
+    if is(mnemonic, "ldrd") {
         return Some(0xe850_0000);
     }
     None
 }
 
 /// Of a row T14.
-pub fn list_base_in(stem: &[u8]) -> Option<u32>
-    ensures { result ≡ list_base_in stem.now }
+pub fn list_base_in(mnemonic: &[u8]) -> Option<u32>
+    ensures { result ≡ list_base_in mnemonic.now }
 {
-    if is(stem, "stmia") {
+    if is(mnemonic, "stmia") {
         return Some(0xe880_0000);
     }
-    if is(stem, "ldmia") {
+    if is(mnemonic, "ldmia") {
         return Some(0xe890_0000);
     }
-    if is(stem, "stmdb") {
+    if is(mnemonic, "stmdb") {
         return Some(0xe900_0000);
     }
-    if is(stem, "ldmdb") {
+    if is(mnemonic, "ldmdb") {
         return Some(0xe910_0000);
     }
     None
 }
 
 /// Of a row T16 without a condition.
-pub fn branch_base_in(stem: &[u8]) -> Option<u32>
-    ensures { result ≡ branch_base_in stem.now }
+pub fn branch_base_in(mnemonic: &[u8]) -> Option<u32>
+    ensures { result ≡ branch_base_in mnemonic.now }
 {
-    if is(stem, "b") {
+    if is(mnemonic, "b") {
         return Some(0xf000_9000);
     }
-    if is(stem, "bl") {
+    if is(mnemonic, "bl") {
         return Some(0xf000_d000);
     }
     None

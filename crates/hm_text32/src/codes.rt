@@ -42,10 +42,10 @@ fn constant_code(base: u64, n: u32, d: u32, x: u32) -> u64
 }
 
 /// Rows T1 of two registers.
-fn code_constant_data(stem: &[u8], o: &Operands) -> Option<u64>
-    ensures { result ≡ code_constant_data stem.now o.now }
+fn code_constant_data(mnemonic: &[u8], o: &Operands) -> Option<u64>
+    ensures { result ≡ code_constant_data mnemonic.now o.now }
 {
-    let base = u64::from(any_data_base(stem)?);
+    let base = u64::from(any_data_base(mnemonic)?);
     if !o.third_is_number {
         return None;
     }
@@ -53,10 +53,10 @@ fn code_constant_data(stem: &[u8], o: &Operands) -> Option<u64>
 }
 
 /// Rows T1 that are tests.
-fn code_constant_test(stem: &[u8], o: &Operands) -> Option<u64>
-    ensures { result ≡ code_constant_test stem.now o.now }
+fn code_constant_test(mnemonic: &[u8], o: &Operands) -> Option<u64>
+    ensures { result ≡ code_constant_test mnemonic.now o.now }
 {
-    let base = u64::from(test_base_in(stem)?);
+    let base = u64::from(test_base_in(mnemonic)?);
     if !o.second_is_number {
         return None;
     }
@@ -64,10 +64,10 @@ fn code_constant_test(stem: &[u8], o: &Operands) -> Option<u64>
 }
 
 /// Rows T1 with no first register.
-fn code_constant_move(stem: &[u8], o: &Operands) -> Option<u64>
-    ensures { result ≡ code_constant_move stem.now o.now }
+fn code_constant_move(mnemonic: &[u8], o: &Operands) -> Option<u64>
+    ensures { result ≡ code_constant_move mnemonic.now o.now }
 {
-    let base = u64::from(move_base_in(stem)?);
+    let base = u64::from(move_base_in(mnemonic)?);
     if !o.second_is_number {
         return None;
     }
@@ -75,16 +75,16 @@ fn code_constant_move(stem: &[u8], o: &Operands) -> Option<u64>
 }
 
 /// Rows T1.
-fn code_constant(stem: &[u8], o: &Operands) -> Option<u64>
-    ensures { result ≡ code_constant stem.now o.now }
+fn code_constant(mnemonic: &[u8], o: &Operands) -> Option<u64>
+    ensures { result ≡ code_constant mnemonic.now o.now }
 {
-    if let Some(w) = code_constant_data(stem, o) {
+    if let Some(w) = code_constant_data(mnemonic, o) {
         return Some(w);
     }
-    if let Some(w) = code_constant_test(stem, o) {
+    if let Some(w) = code_constant_test(mnemonic, o) {
         return Some(w);
     }
-    code_constant_move(stem, o)
+    code_constant_move(mnemonic, o)
 }
 
 /// A row T2 of a register shifted by k, where 32 is 0.
@@ -97,44 +97,44 @@ fn shifted_code(base: u64, n: u32, d: u32, m: u32, ty: u32, k: u32) -> u64
 }
 
 /// The base of a row T2 of three registers.
-fn any_data_base(stem: &[u8]) -> Option<u32>
-    ensures { result ≡ first (data_base_in stem.now) (flagged_base_in stem.now) }
+fn any_data_base(mnemonic: &[u8]) -> Option<u32>
+    ensures { result ≡ first (data_base_in mnemonic.now) (flagged_base_in mnemonic.now) }
 {
-    if let Some(base) = data_base_in(stem) {
+    if let Some(base) = data_base_in(mnemonic) {
         return Some(base);
     }
-    flagged_base_in(stem)
+    flagged_base_in(mnemonic)
 }
 
 /// Rows T2 of three registers.
-fn code_data(stem: &[u8], o: &Operands) -> Option<u64>
-    ensures { result ≡ code_data stem.now o.now }
+fn code_data(mnemonic: &[u8], o: &Operands) -> Option<u64>
+    ensures { result ≡ code_data mnemonic.now o.now }
 {
-    let base = u64::from(any_data_base(stem)?);
+    let base = u64::from(any_data_base(mnemonic)?);
     Some(shifted_code(base, o.second, o.first, o.third, o.fourth, o.fifth))
 }
 
 /// Rows T2 that are tests.
-fn code_test(stem: &[u8], o: &Operands) -> Option<u64>
-    ensures { result ≡ code_test stem.now o.now }
+fn code_test(mnemonic: &[u8], o: &Operands) -> Option<u64>
+    ensures { result ≡ code_test mnemonic.now o.now }
 {
-    let base = u64::from(test_base_in(stem)?);
+    let base = u64::from(test_base_in(mnemonic)?);
     Some(shifted_code(base, o.first, 15, o.second, o.third, o.fourth))
 }
 
 /// Rows T2 with no first register.
-fn code_move(stem: &[u8], o: &Operands) -> Option<u64>
-    ensures { result ≡ code_move stem.now o.now }
+fn code_move(mnemonic: &[u8], o: &Operands) -> Option<u64>
+    ensures { result ≡ code_move mnemonic.now o.now }
 {
-    let base = u64::from(move_base_in(stem)?);
+    let base = u64::from(move_base_in(mnemonic)?);
     Some(shifted_code(base, 15, o.first, o.second, o.third, o.fourth))
 }
 
 /// Rows T2 that are shifts by a number.
-fn code_turn(stem: &[u8], o: &Operands) -> Option<u64>
-    ensures { result ≡ code_turn stem.now o.now }
+fn code_turn(mnemonic: &[u8], o: &Operands) -> Option<u64>
+    ensures { result ≡ code_turn mnemonic.now o.now }
 {
-    let base = u64::from(turn_base_in(stem)?);
+    let base = u64::from(turn_base_in(mnemonic)?);
     if !o.third_is_number {
         return None;
     }
@@ -142,45 +142,45 @@ fn code_turn(stem: &[u8], o: &Operands) -> Option<u64>
 }
 
 /// Rows T1 and T2.
-fn code_shifted(stem: &[u8], o: &Operands) -> Option<u64>
-    ensures { result ≡ code_shifted stem.now o.now }
+fn code_shifted(mnemonic: &[u8], o: &Operands) -> Option<u64>
+    ensures { result ≡ code_shifted mnemonic.now o.now }
 {
-    if let Some(w) = code_constant(stem, o) {
+    if let Some(w) = code_constant(mnemonic, o) {
         return Some(w);
     }
-    if let Some(w) = code_turn(stem, o) {
+    if let Some(w) = code_turn(mnemonic, o) {
         return Some(w);
     }
-    if let Some(w) = code_data(stem, o) {
+    if let Some(w) = code_data(mnemonic, o) {
         return Some(w);
     }
-    if let Some(w) = code_test(stem, o) {
+    if let Some(w) = code_test(mnemonic, o) {
         return Some(w);
     }
-    code_move(stem, o)
+    code_move(mnemonic, o)
 }
 
 /// Rows T8, and T11 of three registers.
-fn code_three(stem: &[u8], o: &Operands) -> Option<u64>
-    ensures { result ≡ code_three stem.now o.now }
+fn code_three(mnemonic: &[u8], o: &Operands) -> Option<u64>
+    ensures { result ≡ code_three mnemonic.now o.now }
 {
-    let base = three_base(stem)?;
+    let base = three_base(mnemonic)?;
     Some(of_three(u64::from(base), o.second, 0, o.first, o.third))
 }
 
 /// Rows T10.
-fn code_two(stem: &[u8], o: &Operands) -> Option<u64>
-    ensures { result ≡ code_two stem.now o.now }
+fn code_two(mnemonic: &[u8], o: &Operands) -> Option<u64>
+    ensures { result ≡ code_two mnemonic.now o.now }
 {
-    let base = two_base(stem)?;
+    let base = two_base(mnemonic)?;
     Some(of_three(u64::from(base), o.second, 0, o.first, o.second))
 }
 
 /// Rows T9.
-fn code_extend(stem: &[u8], o: &Operands) -> Option<u64>
-    ensures { result ≡ code_extend stem.now o.now }
+fn code_extend(mnemonic: &[u8], o: &Operands) -> Option<u64>
+    ensures { result ≡ code_extend mnemonic.now o.now }
 {
-    let base = u64::from(extend_base_in(stem)?);
+    let base = u64::from(extend_base_in(mnemonic)?);
     Some(of_three(
         base + (u64::from(o.fourth / 8) << 4),
         0,
@@ -191,26 +191,26 @@ fn code_extend(stem: &[u8], o: &Operands) -> Option<u64>
 }
 
 /// Rows T11 that add a product.
-fn code_accumulate(stem: &[u8], o: &Operands) -> Option<u64>
-    ensures { result ≡ code_accumulate stem.now o.now }
+fn code_accumulate(mnemonic: &[u8], o: &Operands) -> Option<u64>
+    ensures { result ≡ code_accumulate mnemonic.now o.now }
 {
-    let base = accumulate_base_in(stem)?;
+    let base = accumulate_base_in(mnemonic)?;
     Some(of_three(u64::from(base), o.second, o.fourth, o.first, o.third))
 }
 
 /// Rows T11 of a product of 64 bits.
-fn code_long(stem: &[u8], o: &Operands) -> Option<u64>
-    ensures { result ≡ code_long stem.now o.now }
+fn code_long(mnemonic: &[u8], o: &Operands) -> Option<u64>
+    ensures { result ≡ code_long mnemonic.now o.now }
 {
-    let base = long_base_in(stem)?;
+    let base = long_base_in(mnemonic)?;
     Some(of_three(u64::from(base), o.third, o.first, o.second, o.fourth))
 }
 
 /// Rows T20.
-fn code_select(stem: &[u8], o: &Operands) -> Option<u64>
-    ensures { result ≡ code_select stem.now o.now }
+fn code_select(mnemonic: &[u8], o: &Operands) -> Option<u64>
+    ensures { result ≡ code_select mnemonic.now o.now }
 {
-    let base = u64::from(select_base_in(stem)?);
+    let base = u64::from(select_base_in(mnemonic)?);
     Some(of_three(
         base + (u64::from(o.fourth) << 4),
         o.second,
@@ -221,10 +221,10 @@ fn code_select(stem: &[u8], o: &Operands) -> Option<u64>
 }
 
 /// Rows T3.
-fn code_wide_sum(stem: &[u8], o: &Operands) -> Option<u64>
-    ensures { result ≡ code_wide_sum stem.now o.now }
+fn code_wide_sum(mnemonic: &[u8], o: &Operands) -> Option<u64>
+    ensures { result ≡ code_wide_sum mnemonic.now o.now }
 {
-    let base = u64::from(wide_sum_base_in(stem)?);
+    let base = u64::from(wide_sum_base_in(mnemonic)?);
     let x = o.third;
     Some(of_three(
         base + (u64::from(x / 2048) << 26),
@@ -236,10 +236,10 @@ fn code_wide_sum(stem: &[u8], o: &Operands) -> Option<u64>
 }
 
 /// Rows T4.
-fn code_half(stem: &[u8], o: &Operands) -> Option<u64>
-    ensures { result ≡ code_half stem.now o.now }
+fn code_half(mnemonic: &[u8], o: &Operands) -> Option<u64>
+    ensures { result ≡ code_half mnemonic.now o.now }
 {
-    let base = u64::from(half_base_in(stem)?);
+    let base = u64::from(half_base_in(mnemonic)?);
     let x = o.second;
     Some(of_three(
         base + (u64::from(x / 2048 % 2) << 26),
@@ -263,23 +263,23 @@ fn saturate_code(base: u64, s: u32, o: &Operands) -> u64
 }
 
 /// Rows T5.
-fn code_saturate(stem: &[u8], o: &Operands) -> Option<u64>
-    ensures { result ≡ code_saturate stem.now o.now }
+fn code_saturate(mnemonic: &[u8], o: &Operands) -> Option<u64>
+    ensures { result ≡ code_saturate mnemonic.now o.now }
 {
-    if is(stem, "ssat") {
+    if is(mnemonic, "ssat") {
         return Some(saturate_code(0xf300_0000, o.second.saturating_sub(1), o));
     }
-    if is(stem, "usat") {
+    if is(mnemonic, "usat") {
         return Some(saturate_code(0xf380_0000, o.second, o));
     }
     None
 }
 
 /// Rows T6.
-fn code_extract(stem: &[u8], o: &Operands) -> Option<u64>
-    ensures { result ≡ code_extract stem.now o.now }
+fn code_extract(mnemonic: &[u8], o: &Operands) -> Option<u64>
+    ensures { result ≡ code_extract mnemonic.now o.now }
 {
-    let base = u64::from(extract_base_in(stem)?)
+    let base = u64::from(extract_base_in(mnemonic)?)
         + (u64::from(o.third % 4) << 6)
         + u64::from(o.fourth.saturating_sub(1));
     Some(of_three(base, o.second, o.third / 4, o.first, 0))
@@ -295,40 +295,40 @@ fn insert_code(n: u32, low: u32, width: u32, o: &Operands) -> u64
 }
 
 /// Rows T7.
-fn code_insert(stem: &[u8], o: &Operands) -> Option<u64>
-    ensures { result ≡ code_insert stem.now o.now }
+fn code_insert(mnemonic: &[u8], o: &Operands) -> Option<u64>
+    ensures { result ≡ code_insert mnemonic.now o.now }
 {
-    if is(stem, "bfi") {
+    if is(mnemonic, "bfi") {
         return Some(insert_code(o.second, o.third, o.fourth, o));
     }
-    if is(stem, "bfc") {
+    if is(mnemonic, "bfc") {
         return Some(insert_code(15, o.second, o.third, o));
     }
     None
 }
 
 /// Rows T15, of the first register and the last.
-fn code_stack(stem: &[u8], o: &Operands) -> Option<u64>
-    ensures { result ≡ code_stack stem.now o.now }
+fn code_stack(mnemonic: &[u8], o: &Operands) -> Option<u64>
+    ensures { result ≡ code_stack mnemonic.now o.now }
 {
-    let base = u64::from(stack_base_in(stem)?);
+    let base = u64::from(stack_base_in(mnemonic)?);
     let count = (u64::from(o.second) + 1).saturating_sub(u64::from(o.first));
     Some(base + (u64::from(o.first) << 12) + (count << 1))
 }
 
 /// Rows T17.
-fn code_table(stem: &[u8], o: &Operands) -> Option<u64>
-    ensures { result ≡ code_table stem.now o.now }
+fn code_table(mnemonic: &[u8], o: &Operands) -> Option<u64>
+    ensures { result ≡ code_table mnemonic.now o.now }
 {
-    let base = table_base_in(stem)?;
+    let base = table_base_in(mnemonic)?;
     Some(of_three(u64::from(base), o.first, 0, 0, o.second))
 }
 
 /// Barriers.
-fn code_barrier(stem: &[u8], o: &Operands) -> Option<u64>
-    ensures { result ≡ code_barrier stem.now o.now }
+fn code_barrier(mnemonic: &[u8], o: &Operands) -> Option<u64>
+    ensures { result ≡ code_barrier mnemonic.now o.now }
 {
-    let base = u64::from(barrier_base_in(stem)?);
+    let base = u64::from(barrier_base_in(mnemonic)?);
     if o.is_bare {
         Some(base + 15)
     } else {
@@ -337,19 +337,19 @@ fn code_barrier(stem: &[u8], o: &Operands) -> Option<u64>
 }
 
 /// Rows T18 and T21.
-fn code_special(stem: &[u8], o: &Operands) -> Option<u64>
-    ensures { result ≡ code_special stem.now o.now }
+fn code_special(mnemonic: &[u8], o: &Operands) -> Option<u64>
+    ensures { result ≡ code_special mnemonic.now o.now }
 {
-    if is(stem, "mrs") {
+    if is(mnemonic, "mrs") {
         return Some(of_three(0xf3ef_8000, 0, 0, o.first, o.second));
     }
-    if is(stem, "msr") {
+    if is(mnemonic, "msr") {
         return Some(of_three(0xf380_8800, o.second, 0, 0, o.first));
     }
-    if is(stem, "vmrs") {
+    if is(mnemonic, "vmrs") {
         return Some(of_three(0xeef0_0a10, o.second, o.first, 0, 0));
     }
-    if is(stem, "vmsr") {
+    if is(mnemonic, "vmsr") {
         return Some(of_three(0xeee0_0a10, o.first, o.second, 0, 0));
     }
     None
@@ -367,10 +367,10 @@ fn lane_code(base: u64, d: u32, x: u32, t: u32) -> u64
 }
 
 /// Rows T22.
-fn code_lane(stem: &[u8], o: &Operands) -> Option<u64>
-    ensures { result ≡ code_lane stem.now o.now }
+fn code_lane(mnemonic: &[u8], o: &Operands) -> Option<u64>
+    ensures { result ≡ code_lane mnemonic.now o.now }
 {
-    if !is(stem, "vmov") {
+    if !is(mnemonic, "vmov") {
         return None;
     }
     if o.is_vector {
@@ -381,111 +381,111 @@ fn code_lane(stem: &[u8], o: &Operands) -> Option<u64>
 }
 
 /// `nop.w`, and rows T23 with no label.
-fn code_alone(stem: &[u8], o: &Operands) -> Option<u64>
-    ensures { result ≡ code_alone stem.now o.now }
+fn code_alone(mnemonic: &[u8], o: &Operands) -> Option<u64>
+    ensures { result ≡ code_alone mnemonic.now o.now }
 {
-    if is(stem, "nop") {
+    if is(mnemonic, "nop") {
         return Some(0xf3af_8000);
     }
-    if is(stem, "dls") {
+    if is(mnemonic, "dls") {
         return Some(of_three(0xf040_e001, o.second, 0, 0, 0));
     }
-    if is(stem, "dlstp") {
+    if is(mnemonic, "dlstp") {
         let base = 0xf000_e001 + (u64::from(o.size) << 20);
         return Some(of_three(base, o.second, 0, 0, 0));
     }
-    if is(stem, "lctp") {
+    if is(mnemonic, "lctp") {
         return Some(0xf00f_e001);
     }
     None
 }
 
 /// Shifts, products, quotients and choices.
-fn code_of_arith(stem: &[u8], o: &Operands) -> Option<u64>
-    ensures { result ≡ code_of_arith stem.now o.now }
+fn code_of_arith(mnemonic: &[u8], o: &Operands) -> Option<u64>
+    ensures { result ≡ code_of_arith mnemonic.now o.now }
 {
-    if let Some(w) = code_three(stem, o) {
+    if let Some(w) = code_three(mnemonic, o) {
         return Some(w);
     }
-    if let Some(w) = code_two(stem, o) {
+    if let Some(w) = code_two(mnemonic, o) {
         return Some(w);
     }
-    if let Some(w) = code_extend(stem, o) {
+    if let Some(w) = code_extend(mnemonic, o) {
         return Some(w);
     }
-    if let Some(w) = code_accumulate(stem, o) {
+    if let Some(w) = code_accumulate(mnemonic, o) {
         return Some(w);
     }
-    if let Some(w) = code_long(stem, o) {
+    if let Some(w) = code_long(mnemonic, o) {
         return Some(w);
     }
-    code_select(stem, o)
+    code_select(mnemonic, o)
 }
 
 /// A register and a constant.
-fn code_of_data(stem: &[u8], o: &Operands) -> Option<u64>
-    ensures { result ≡ code_of_data stem.now o.now }
+fn code_of_data(mnemonic: &[u8], o: &Operands) -> Option<u64>
+    ensures { result ≡ code_of_data mnemonic.now o.now }
 {
-    if let Some(w) = code_wide_sum(stem, o) {
+    if let Some(w) = code_wide_sum(mnemonic, o) {
         return Some(w);
     }
-    if let Some(w) = code_half(stem, o) {
+    if let Some(w) = code_half(mnemonic, o) {
         return Some(w);
     }
-    if let Some(w) = code_saturate(stem, o) {
+    if let Some(w) = code_saturate(mnemonic, o) {
         return Some(w);
     }
-    if let Some(w) = code_extract(stem, o) {
+    if let Some(w) = code_extract(mnemonic, o) {
         return Some(w);
     }
-    code_insert(stem, o)
+    code_insert(mnemonic, o)
 }
 
 /// All others.
-fn code_of_other(stem: &[u8], o: &Operands) -> Option<u64>
-    ensures { result ≡ code_of_other stem.now o.now }
+fn code_of_other(mnemonic: &[u8], o: &Operands) -> Option<u64>
+    ensures { result ≡ code_of_other mnemonic.now o.now }
 {
-    if let Some(w) = code_stack(stem, o) {
+    if let Some(w) = code_stack(mnemonic, o) {
         return Some(w);
     }
-    if let Some(w) = code_table(stem, o) {
+    if let Some(w) = code_table(mnemonic, o) {
         return Some(w);
     }
-    if let Some(w) = code_barrier(stem, o) {
+    if let Some(w) = code_barrier(mnemonic, o) {
         return Some(w);
     }
-    if let Some(w) = code_special(stem, o) {
+    if let Some(w) = code_special(mnemonic, o) {
         return Some(w);
     }
-    if let Some(w) = code_lane(stem, o) {
+    if let Some(w) = code_lane(mnemonic, o) {
         return Some(w);
     }
-    code_alone(stem, o)
+    code_alone(mnemonic, o)
 }
 
-/// The code that a stem and operands ask for.
+/// The code that a mnemonic and operands ask for.
 #[tactic(auto, unfolding(crate::specs::Codes::code_of))]
-fn code_of(stem: &[u8], o: &Operands) -> Option<u64>
-    ensures { result ≡ code_of stem.now o.now }
+fn code_of(mnemonic: &[u8], o: &Operands) -> Option<u64>
+    ensures { result ≡ code_of mnemonic.now o.now }
 {
-    if let Some(w) = code_shifted(stem, o) {
+    if let Some(w) = code_shifted(mnemonic, o) {
         return Some(w);
     }
-    if let Some(w) = code_of_arith(stem, o) {
+    if let Some(w) = code_of_arith(mnemonic, o) {
         return Some(w);
     }
-    if let Some(w) = code_of_data(stem, o) {
+    if let Some(w) = code_of_data(mnemonic, o) {
         return Some(w);
     }
-    code_of_other(stem, o)
+    code_of_other(mnemonic, o)
 }
 
 /// The code that a mnemonic and the tokens behind it ask for.
 fn code_named(name: &[u8], tokens: &[Token<'_>]) -> Option<u64>
     ensures { result ≡ code_cut (span 46 name.now) (map tok tokens.now) }
 {
-    let (stem, suffix) = span(b'.', name);
-    code_of(stem, &read_operands(suffix, tokens))
+    let (mnemonic, suffix) = span(b'.', name);
+    code_of(mnemonic, &read_operands(suffix, tokens))
 }
 
 /// The code that tokens of a row without a label ask for, if it does not load or store.

@@ -48,18 +48,18 @@ fn always_code(base: u64, f: u64) -> u64
 }
 
 /// Rows T16 with a condition.
-fn code_conditional(stem: &[u8], pc: u32, a: u32) -> Option<u64>
-    ensures { result ≡ code_conditional stem.now pc a }
+fn code_conditional(mnemonic: &[u8], pc: u32, a: u32) -> Option<u64>
+    ensures { result ≡ code_conditional mnemonic.now pc a }
 {
-    let c = branch_condition_in(stem)?;
+    let c = branch_condition_in(mnemonic)?;
     Some(conditional_code(c, distance(u64::from(pc) + 4, a) / 2))
 }
 
 /// Rows T16 without a condition.
-fn code_always(stem: &[u8], pc: u32, a: u32) -> Option<u64>
-    ensures { result ≡ code_always stem.now pc a }
+fn code_always(mnemonic: &[u8], pc: u32, a: u32) -> Option<u64>
+    ensures { result ≡ code_always mnemonic.now pc a }
 {
-    let base = branch_base_in(stem)?;
+    let base = branch_base_in(mnemonic)?;
     Some(always_code(u64::from(base), distance(u64::from(pc) + 4, a) / 2))
 }
 
@@ -88,22 +88,22 @@ fn behind_it(pc: u32, a: u32) -> u64
 }
 
 /// Rows T23.
-fn code_loop(stem: &[u8], suffix: &[u8], tokens: &[Token<'_>], pc: u32, a: u32) -> Option<u64>
-    ensures { result ≡ code_loop stem.now suffix.now (map tok tokens.now) pc a }
+fn code_loop(mnemonic: &[u8], suffix: &[u8], tokens: &[Token<'_>], pc: u32, a: u32) -> Option<u64>
+    ensures { result ≡ code_loop mnemonic.now suffix.now (map tok tokens.now) pc a }
 {
-    if is(stem, "wls") {
+    if is(mnemonic, "wls") {
         let n = u64::from(value(operand(tokens, 1)));
         return Some(with_field(0xf040_c001 + (n << 16), ahead(pc, a)));
     }
-    if is(stem, "wlstp") {
+    if is(mnemonic, "wlstp") {
         let n = u64::from(value(operand(tokens, 1)));
         let base = 0xf000_c001 + (u64::from(size_of(suffix)) << 20) + (n << 16);
         return Some(with_field(base, ahead(pc, a)));
     }
-    if is(stem, "letp") {
+    if is(mnemonic, "letp") {
         return Some(with_field(0xf01f_c001, behind_it(pc, a)));
     }
-    if is(stem, "le") {
+    if is(mnemonic, "le") {
         if tokens.len() == 1 {
             return Some(with_field(0xf02f_c001, behind_it(pc, a)));
         }
@@ -112,18 +112,24 @@ fn code_loop(stem: &[u8], suffix: &[u8], tokens: &[Token<'_>], pc: u32, a: u32) 
     None
 }
 
-/// Rows with a label, by the stem and the suffix.
+/// Rows with a label, by the mnemonic and the suffix.
 #[tactic(auto, unfolding(crate::specs::Codes::code_of_label))]
-fn code_of_label(stem: &[u8], suffix: &[u8], tokens: &[Token<'_>], pc: u32, a: u32) -> Option<u64>
-    ensures { result ≡ code_of_label stem.now suffix.now (map tok tokens.now) pc a }
+fn code_of_label(
+    mnemonic: &[u8],
+    suffix: &[u8],
+    tokens: &[Token<'_>],
+    pc: u32,
+    a: u32,
+) -> Option<u64>
+    ensures { result ≡ code_of_label mnemonic.now suffix.now (map tok tokens.now) pc a }
 {
-    if let Some(w) = code_conditional(stem, pc, a) {
+    if let Some(w) = code_conditional(mnemonic, pc, a) {
         return Some(w);
     }
-    if let Some(w) = code_always(stem, pc, a) {
+    if let Some(w) = code_always(mnemonic, pc, a) {
         return Some(w);
     }
-    code_loop(stem, suffix, tokens, pc, a)
+    code_loop(mnemonic, suffix, tokens, pc, a)
 }
 
 /// The code that tokens of a row with a label ask for, which stands at `pc`, where its label names `a`.
@@ -134,8 +140,8 @@ pub fn label_code_in(tokens: &[Token<'_>], pc: u32, a: u32) -> Option<u64>
         [] => None,
         [first, rest @ ..] => match *first {
             Token::Word(name) => {
-                let (stem, suffix) = span(b'.', name);
-                code_of_label(stem, suffix, rest, pc, a)
+                let (mnemonic, suffix) = span(b'.', name);
+                code_of_label(mnemonic, suffix, rest, pc, a)
             }
             Token::Number(_) | Token::Mark(_) => None,
         },

@@ -15,9 +15,9 @@ mod constants;
 mod jumps;
 mod memory;
 mod memory_codes;
+mod mnemonics;
 mod operands;
 mod rows;
-mod stems;
 mod targets;
 mod texts;
 

@@ -6,7 +6,7 @@ ghost use Rattle.hm_isa.specs.declared.wide.T12.TheVariants as t12;
 ghost use Rattle.hm_text32.specs.Rows.{access_tokens, list_start, scalar_tokens};
 ghost use Rattle.hm_tokens.specs.Texts.{text_tokens};
 
-use crate::stems::{access_stem, pair_stem, wide_list_stem, wide_list_suffix};
+use crate::mnemonics::{access_mnemonic, pair_mnemonic, wide_list_mnemonic, wide_list_suffix};
 use hm_isa::{Below, Bit, Indexed, Literal, Offset, Shifted, T12, T13, T14};
 use hm_text_rows::{Index, and, indexed, marked, one, r, scaled, with_list};
 use hm_tokens::{InstrText, Mark};
@@ -20,7 +20,7 @@ fn offset_text(i: &Offset) -> InstrText
         a: Below::new(1),
         w: Below::new(0),
     };
-    let text = one(access_stem(i.name), ".w", r(i.t.get()));
+    let text = one(access_mnemonic(i.name), ".w", r(i.t.get()));
     indexed(text, index, r(i.n.get()), i.i.get())
 }
 
@@ -33,7 +33,7 @@ fn indexed_text(i: &Indexed) -> InstrText
         a: i.u,
         w: i.w,
     };
-    let text = one(access_stem(i.name), ".w", r(i.t.get()));
+    let text = one(access_mnemonic(i.name), ".w", r(i.t.get()));
     indexed(text, index, r(i.n.get()), i.i.get())
 }
 
@@ -41,7 +41,7 @@ fn indexed_text(i: &Indexed) -> InstrText
 fn shifted_text(i: &Shifted) -> InstrText
     ensures { text_tokens result ≡ access_tokens (t12.Shifted i.now) }
 {
-    let text = one(access_stem(i.name), ".w", r(i.t.get()));
+    let text = one(access_mnemonic(i.name), ".w", r(i.t.get()));
     scaled(text, i.n.get(), i.m.get(), i.i.get())
 }
 
@@ -54,7 +54,7 @@ fn literal_text(i: &Literal) -> InstrText
         a: i.u,
         w: Below::new(0),
     };
-    let text = one(access_stem(i.name), ".w", r(i.t.get()));
+    let text = one(access_mnemonic(i.name), ".w", r(i.t.get()));
     indexed(text, index, r(15), i.i.get())
 }
 
@@ -79,17 +79,17 @@ pub fn text_t13(i: &T13) -> InstrText
         a: i.add,
         w: i.w,
     };
-    let text = and(one(pair_stem(i.name), "", r(i.t.get())), r(i.u.get()));
+    let text = and(one(pair_mnemonic(i.name), "", r(i.t.get())), r(i.u.get()));
     indexed(text, index, r(i.n.get()), 4 * i.i.get())
 }
 
 /// `rn`, and `!` where it is written back.
-fn list_start(stem: &'static str, suffix: &'static str, w: Bit, n: u32) -> InstrText
+fn list_start(mnemonic: &'static str, suffix: &'static str, w: Bit, n: u32) -> InstrText
     requires { n < 16 }
-    ensures tokens { text_tokens result ≡ list_start (stem.now ++ suffix.now) w.value n }
+    ensures tokens { text_tokens result ≡ list_start (mnemonic.now ++ suffix.now) w.value n }
     ensures room { length result.operands.items ≤ 3 }
 {
-    let text = one(stem, suffix, r(n));
+    let text = one(mnemonic, suffix, r(n));
     if w.get() == 0 {
         return marked(text, Mark::Comma);
     }
@@ -100,7 +100,7 @@ fn list_start(stem: &'static str, suffix: &'static str, w: Bit, n: u32) -> Instr
 pub fn text_t14(i: &T14) -> InstrText
     ensures { text_tokens result ≡ scalar_tokens (scalar.T14 i.now) }
 {
-    let stem = wide_list_stem(i.name);
-    let start = list_start(stem, wide_list_suffix(i.name), i.w, i.n.get());
+    let mnemonic = wide_list_mnemonic(i.name);
+    let start = list_start(mnemonic, wide_list_suffix(i.name), i.w, i.n.get());
     with_list(start, i.list.get())
 }

@@ -56,10 +56,10 @@ fn access_code(base: u64, o: &Places) -> u64
 }
 
 /// Rows T12.
-fn code_access(stem: &[u8], o: &Places) -> Option<u64>
-    ensures { result ≡ code_access stem.now o.now }
+fn code_access(mnemonic: &[u8], o: &Places) -> Option<u64>
+    ensures { result ≡ code_access mnemonic.now o.now }
 {
-    let base = u64::from(access_base_in(stem)?);
+    let base = u64::from(access_base_in(mnemonic)?);
     Some(access_code(base, o))
 }
 
@@ -78,36 +78,36 @@ fn pair_code(base: u64, o: &Places) -> u64
 }
 
 /// Rows T13.
-fn code_pair(stem: &[u8], o: &Places) -> Option<u64>
-    ensures { result ≡ code_pair stem.now o.now }
+fn code_pair(mnemonic: &[u8], o: &Places) -> Option<u64>
+    ensures { result ≡ code_pair mnemonic.now o.now }
 {
-    let base = u64::from(pair_base_in(stem)?);
+    let base = u64::from(pair_base_in(mnemonic)?);
     Some(pair_code(base, o))
 }
 
 /// Rows T14.
-fn code_list(stem: &[u8], tokens: &[Token<'_>]) -> Option<u64>
-    ensures { result ≡ code_list stem.now (map tok tokens.now) }
+fn code_list(mnemonic: &[u8], tokens: &[Token<'_>]) -> Option<u64>
+    ensures { result ≡ code_list mnemonic.now (map tok tokens.now) }
 {
-    let base = u64::from(list_base_in(stem)?);
+    let base = u64::from(list_base_in(mnemonic)?);
     let back = u64::from(second_bang(tokens));
     let n = u64::from(value(operand(tokens, 0)));
     Some(base + (back << 21) + (n << 16) + u64::from(braced_bits(tokens)))
 }
 
-/// Rows that load and store, by the stem.
+/// Rows that load and store, by the mnemonic.
 #[tactic(auto, unfolding(crate::specs::Codes::code_of_memory))]
-fn code_of_memory(stem: &[u8], tokens: &[Token<'_>]) -> Option<u64>
-    ensures { result ≡ code_of_memory stem.now (map tok tokens.now) }
+fn code_of_memory(mnemonic: &[u8], tokens: &[Token<'_>]) -> Option<u64>
+    ensures { result ≡ code_of_memory mnemonic.now (map tok tokens.now) }
 {
     let o = read_places(tokens);
-    if let Some(w) = code_access(stem, &o) {
+    if let Some(w) = code_access(mnemonic, &o) {
         return Some(w);
     }
-    if let Some(w) = code_pair(stem, &o) {
+    if let Some(w) = code_pair(mnemonic, &o) {
         return Some(w);
     }
-    code_list(stem, tokens)
+    code_list(mnemonic, tokens)
 }
 
 /// The code that tokens of a row that loads or stores ask for.
@@ -118,8 +118,8 @@ pub fn memory_code_in(tokens: &[Token<'_>]) -> Option<u64>
         [] => None,
         [first, rest @ ..] => match *first {
             Token::Word(name) => {
-                let (stem, _suffix) = span(b'.', name);
-                code_of_memory(stem, rest)
+                let (mnemonic, _suffix) = span(b'.', name);
+                code_of_memory(mnemonic, rest)
             }
             Token::Number(_) | Token::Mark(_) => None,
         },

@@ -4,13 +4,13 @@ ghost use Rattle.std.specs.Prelude.{◌≡◌, ◌<◌, map};
 ghost use Rattle.hm_text32.specs.Operands.{other_value, read_operands, read_places, second_bang, shift_in, value, word_value};
 ghost use Rattle.hm_tokens.specs.Tokens.{tok};
 
-use crate::stems::read_double;
+use crate::mnemonics::read_double;
 use hm_text_rows::{
     added, back_in, before, first_of, is, is_mark, is_number, is_vector, operand, size_of,
 };
 use hm_tokens::{Token, read_condition, read_register, read_vector};
 
-/// What stands behind the stem of a mnemonic, as numbers.
+/// What stands behind a mnemonic, as numbers.
 #[derive(Clone, Copy)]
 pub struct Operands {
     /// Whether there are no operands.
@@ -117,7 +117,7 @@ pub fn value(token: Token<'_>) -> u32
     }
 }
 
-/// What stands behind the stem of a mnemonic: its suffix, with the point, and the other tokens.
+/// What stands behind a mnemonic: its suffix, with the point, and the other tokens.
 pub fn read_operands(suffix: &[u8], tokens: &[Token<'_>]) -> Operands
     ensures { result ≡ read_operands suffix.now (map tok tokens.now) }
 {

@@ -13,11 +13,12 @@ ghost use Rattle.hm_tokens.specs.Tokens.{number, word, close_bracket, comma, ope
 
 use crate::constants::constant_in;
 use crate::memory::{text_t12, text_t13, text_t14};
-use crate::stems::{
-    accumulate_stem, barrier_stem, bits_stem, bits_suffix, carry_stem, data_stem, double_name,
-    element_suffix, extend_stem, extract_stem, half_stem, long_stem, move_stem, operation_stem,
-    read_name, saturate_shift, saturate_stem, select_stem, shift_stem, stack_stem, test_stem,
-    turn_stem, wide_branch_stem, wide_shift_stem, wide_sum_stem, written_name,
+use crate::mnemonics::{
+    accumulate_mnemonic, barrier_mnemonic, bits_mnemonic, bits_suffix, carry_mnemonic,
+    data_mnemonic, double_name, element_suffix, extend_mnemonic, extract_mnemonic, half_mnemonic,
+    long_mnemonic, move_mnemonic, operation_mnemonic, read_name, saturate_mnemonic, saturate_shift,
+    select_mnemonic, shift_mnemonic, stack_mnemonic, test_mnemonic, turn_mnemonic,
+    wide_branch_mnemonic, wide_shift_mnemonic, wide_sum_mnemonic, written_name,
 };
 use hm_isa::{
     Below, Bit, Branch, DataName, Instr, LaneMoveName, LoopEndName, QRegister, Register,
@@ -61,7 +62,7 @@ fn and_shifted(text: InstrText, ty: Below<4>, k: u32) -> InstrText
     if is_by_carry(ty, k) {
         return and(text, Part::Word("rrx"));
     }
-    and_shift(text, shift_stem(ty), shift_number(ty, k))
+    and_shift(text, shift_mnemonic(ty), shift_number(ty, k))
 }
 
 /// The text of `mov`, or of a shift as a mnemonic.
@@ -69,13 +70,13 @@ fn moved_text(s: Bit, d: Register, m: Register, ty: Below<4>, k: u32) -> InstrTe
     ensures { text_tokens result ≡ moved_tokens s.value d.value m.value ty.value k }
 {
     if is_by_carry(ty, k) {
-        return two(carry_stem(s), "", r(d.get()), r(m.get()));
+        return two(carry_mnemonic(s), "", r(d.get()), r(m.get()));
     }
     if is_unshifted(ty, k) {
-        let stem = move_stem(DataName::Orr, s);
-        return two(stem, ".w", r(d.get()), r(m.get()));
+        let mnemonic = move_mnemonic(DataName::Orr, s);
+        return two(mnemonic, ".w", r(d.get()), r(m.get()));
     }
-    let text = two(turn_stem(ty, s), ".w", r(d.get()), r(m.get()));
+    let text = two(turn_mnemonic(ty, s), ".w", r(d.get()), r(m.get()));
     and_constant(text, shift_number(ty, k))
 }
 
@@ -94,7 +95,7 @@ fn single_text(i: &T2, k: u32) -> InstrText
         | DataName::Sbc
         | DataName::Sub
         | DataName::Rsb => {
-            let text = two(move_stem(i.name, i.s), ".w", r(i.d.get()), r(i.m.get()));
+            let text = two(move_mnemonic(i.name, i.s), ".w", r(i.d.get()), r(i.m.get()));
             and_shifted(text, i.ty, k)
         }
     }
@@ -106,14 +107,14 @@ fn text_t1(i: &T1) -> InstrText
 {
     let c = constant_in(i.i, i.i3, i.i8);
     if i.d.get() == 15 {
-        return and_constant(one(test_stem(i.name), ".w", r(i.n.get())), c);
+        return and_constant(one(test_mnemonic(i.name), ".w", r(i.n.get())), c);
     }
     if i.n.get() == 15 {
-        let stem = move_stem(i.name, i.s);
-        return and_constant(one(stem, ".w", r(i.d.get())), c);
+        let mnemonic = move_mnemonic(i.name, i.s);
+        return and_constant(one(mnemonic, ".w", r(i.d.get())), c);
     }
-    let stem = data_stem(i.name, i.s);
-    and_constant(two(stem, ".w", r(i.d.get()), r(i.n.get())), c)
+    let mnemonic = data_mnemonic(i.name, i.s);
+    and_constant(two(mnemonic, ".w", r(i.d.get()), r(i.n.get())), c)
 }
 
 /// The text of a row T2.
@@ -122,14 +123,14 @@ fn text_t2(i: &T2) -> InstrText
 {
     let k = 4 * i.i3.get() + i.i2.get();
     if i.d.get() == 15 {
-        let text = two(test_stem(i.name), ".w", r(i.n.get()), r(i.m.get()));
+        let text = two(test_mnemonic(i.name), ".w", r(i.n.get()), r(i.m.get()));
         return and_shifted(text, i.ty, k);
     }
     if i.n.get() == 15 {
         return single_text(i, k);
     }
-    let stem = data_stem(i.name, i.s);
-    let text = three(stem, ".w", r(i.d.get()), r(i.n.get()), r(i.m.get()));
+    let mnemonic = data_mnemonic(i.name, i.s);
+    let text = three(mnemonic, ".w", r(i.d.get()), r(i.n.get()), r(i.m.get()));
     and_shifted(text, i.ty, k)
 }
 
@@ -137,7 +138,7 @@ fn text_t2(i: &T2) -> InstrText
 fn text_t3(i: &T3) -> InstrText
     ensures { text_tokens result ≡ scalar_tokens (scalar.T3 i.now) }
 {
-    let text = two(wide_sum_stem(i.name), "", r(i.d.get()), r(i.n.get()));
+    let text = two(wide_sum_mnemonic(i.name), "", r(i.d.get()), r(i.n.get()));
     and_constant(text, 2048 * i.i.get() + 256 * i.i3.get() + i.i8.get())
 }
 
@@ -146,7 +147,7 @@ fn text_t4(i: &T4) -> InstrText
     ensures { text_tokens result ≡ scalar_tokens (scalar.T4 i.now) }
 {
     let x = 4096 * i.i4.get() + 2048 * i.i.get() + 256 * i.i3.get() + i.i8.get();
-    and_constant(one(half_stem(i.name), "", r(i.d.get())), x)
+    and_constant(one(half_mnemonic(i.name), "", r(i.d.get())), x)
 }
 
 /// The number of bits that a row T5 makes a value fit in.
@@ -176,7 +177,7 @@ fn text_t5(i: &T5) -> InstrText
     ensures { text_tokens result ≡ scalar_tokens (scalar.T5 i.now) }
 {
     let text = and_constant(
-        one(saturate_stem(i.name), "", r(i.d.get())),
+        one(saturate_mnemonic(i.name), "", r(i.d.get())),
         saturated_bits(i.name, i.s),
     );
     let kind = saturate_shift(i.sh);
@@ -187,7 +188,7 @@ fn text_t5(i: &T5) -> InstrText
 fn text_t6(i: &T6) -> InstrText
     ensures { text_tokens result ≡ scalar_tokens (scalar.T6 i.now) }
 {
-    let text = two(extract_stem(i.name), "", r(i.d.get()), r(i.n.get()));
+    let text = two(extract_mnemonic(i.name), "", r(i.d.get()), r(i.n.get()));
     let text = and_constant(text, 4 * i.i3.get() + i.i2.get());
     and_constant(text, i.w.get() + 1)
 }
@@ -210,15 +211,15 @@ fn text_t7(i: &T7) -> InstrText
 fn text_t8(i: &T8) -> InstrText
     ensures { text_tokens result ≡ scalar_tokens (scalar.T8 i.now) }
 {
-    let stem = wide_shift_stem(i.name, i.s);
-    three(stem, ".w", r(i.d.get()), r(i.n.get()), r(i.m.get()))
+    let mnemonic = wide_shift_mnemonic(i.name, i.s);
+    three(mnemonic, ".w", r(i.d.get()), r(i.n.get()), r(i.m.get()))
 }
 
 /// The text of a row T9.
 fn text_t9(i: &T9) -> InstrText
     ensures { text_tokens result ≡ scalar_tokens (scalar.T9 i.now) }
 {
-    let text = two(extend_stem(i.name), ".w", r(i.d.get()), r(i.m.get()));
+    let text = two(extend_mnemonic(i.name), ".w", r(i.d.get()), r(i.m.get()));
     and_shift(text, "ror", 8 * i.r.get())
 }
 
@@ -227,7 +228,7 @@ fn text_t10(i: &T10) -> InstrText
     ensures { text_tokens result ≡ scalar_tokens (scalar.T10 i.now) }
 {
     two(
-        bits_stem(i.name),
+        bits_mnemonic(i.name),
         bits_suffix(i.name),
         r(i.d.get()),
         r(i.m.get()),
@@ -240,14 +241,14 @@ fn text_t11(i: &T11) -> InstrText
 {
     match i {
         T11::Operation(i) => three(
-            operation_stem(i.name),
+            operation_mnemonic(i.name),
             "",
             r(i.d.get()),
             r(i.n.get()),
             r(i.m.get()),
         ),
         T11::Accumulate(i) => four(
-            accumulate_stem(i.name),
+            accumulate_mnemonic(i.name),
             "",
             r(i.d.get()),
             r(i.n.get()),
@@ -255,7 +256,7 @@ fn text_t11(i: &T11) -> InstrText
             r(i.a.get()),
         ),
         T11::Long(i) => four(
-            long_stem(i.name),
+            long_mnemonic(i.name),
             "",
             r(i.l.get()),
             r(i.h.get()),
@@ -271,7 +272,7 @@ fn text_t15(i: &T15) -> InstrText
 {
     let last = i.v.get() + i.k.get() - 1;
     let mut text = first(
-        alone(stack_stem(i.name), "", ""),
+        alone(stack_mnemonic(i.name), "", ""),
         Part::Mark(Mark::OpenBrace),
     );
     text.operands.push(Part::Word(double_name(i.v.get())));
@@ -298,7 +299,10 @@ fn text_t19(i: &T19) -> InstrText
     match i {
         T19::Nop => alone("nop", "", ".w"),
         T19::Barrier(i) => {
-            let mut text = first(alone(barrier_stem(i.name), "", ""), Part::Mark(Mark::Hash));
+            let mut text = first(
+                alone(barrier_mnemonic(i.name), "", ""),
+                Part::Mark(Mark::Hash),
+            );
             text.operands.push(Part::Number(i.o.get()));
             text
         }
@@ -310,7 +314,7 @@ fn text_t20(i: &T20) -> InstrText
     ensures { text_tokens result ≡ scalar_tokens (scalar.T20 i.now) }
 {
     four(
-        select_stem(i.name),
+        select_mnemonic(i.name),
         "",
         r(i.d.get()),
         or_zero(i.n),
@@ -381,11 +385,11 @@ fn text_t22(i: &T22) -> InstrText
 }
 
 /// A mnemonic and `[rn,rm`.
-fn base_and_index(stem: &'static str, n: Register, m: Register) -> InstrText
-    ensures tokens { text_tokens result ≡ word stem.now ∷ open_bracket ∷ r n.value ∷ comma ∷ r m.value ∷ [] }
+fn base_and_index(mnemonic: &'static str, n: Register, m: Register) -> InstrText
+    ensures tokens { text_tokens result ≡ word mnemonic.now ∷ open_bracket ∷ r n.value ∷ comma ∷ r m.value ∷ [] }
     ensures room { length result.operands.items ≡ 4 }
 {
-    let mut text = first(alone(stem, "", ""), Part::Mark(Mark::OpenBracket));
+    let mut text = first(alone(mnemonic, "", ""), Part::Mark(Mark::OpenBracket));
     text.operands.push(r(n.get()));
     and(text, r(m.get()))
 }
@@ -410,13 +414,13 @@ fn text_t17(i: &T17) -> InstrText
     }
 }
 
-/// The stem of a wide branch, and its condition, with their suffix.
+/// The mnemonic of a wide branch, and its condition, with their suffix.
 fn text_t16(i: &T16) -> InstrText
     ensures { text_tokens result ≡ branch_tokens (branch.T16 i.now) }
 {
     match i {
         T16::Conditional(i) => alone("b", condition_name(i.c.get()), ".w"),
-        T16::Always(i) => alone(wide_branch_stem(i.name), "", ""),
+        T16::Always(i) => alone(wide_branch_mnemonic(i.name), "", ""),
     }
 }
 

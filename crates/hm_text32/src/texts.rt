@@ -10,8 +10,8 @@ ghost use Rattle.hm_text_rows.specs.Labels.{Reaches};
 ghost use Rattle.hm_tokens.specs.Texts.{text_tokens};
 ghost use Rattle.hm_tokens.specs.Tokens.{Tok, tok};
 
+use crate::mnemonics::barrier_mnemonic;
 use crate::rows::row_text;
-use crate::stems::barrier_stem;
 use crate::targets::target;
 use hm_isa::{Branch, Instr, Scalar, T19, T23};
 use hm_text_rows::{alone, is_label, split_last};
@@ -56,7 +56,7 @@ fn barrier_text(i: &T19) -> Option<InstrText>
         T19::Nop => None,
         T19::Barrier(i) => {
             if i.o.get() == 15 {
-                Some(alone(barrier_stem(i.name), "", ""))
+                Some(alone(barrier_mnemonic(i.name), "", ""))
             } else {
                 None
             }

@@ -14,7 +14,7 @@ use Rattle.hm_text_rows.specs.Operands.{bit_in, bits_of, braced}
 use Rattle.hm_text_rows.specs.Shapes.{back, braces, listed, r, registers_from}
 use Rattle.hm_text_rows.proofs.Printed.{IsPrinted, is_printed_in, short_bang, short_comma, short_open_brace}
 use Rattle.hm_text_rows.proofs.Registers.{AllBelow16, listed_apart, listed_length, listed_ranges, listed_spelled, listed_tokens, name_length, registers_below}
-use Rattle.hm_text_rows.proofs.Words.{below_is, is_stem, is_suffix, mnemonic_short, word_r, word_token}
+use Rattle.hm_text_rows.proofs.Words.{below_is, is_mnemonic, is_suffix, first_word_short, word_r, word_token}
 
 -- THE BITS OF A LIST
 abbrev total : List ℕ → ℕ
@@ -137,16 +137,16 @@ braced_of (suc (suc w)) n us lt = absurd (omega arith)
 abbrev Fits : List ℕ → ℕ → ℕ → ℕ → Type 0
 Fits name w n list = IsPrinted (word name ∷ base_and_list w n list)
 
-pub printed_list : (s f : List ℕ) (w n list : ℕ) → is_stem s ≡ true → is_suffix f ≡ true → w < 2 → n < 16 → length (registers_from 16 0 list) ≤ 14
+pub printed_list : (s f : List ℕ) (w n list : ℕ) → is_mnemonic s ≡ true → is_suffix f ≡ true → w < 2 → n < 16 → length (registers_from 16 0 list) ≤ 14
     → Fits (s ++ f) w n list
-printed_list s f zero n list stem suffix hw hn few =
+printed_list s f zero n list mnemonic suffix hw hn few =
     let ks = registers_from 16 0 list in
     let all = registers_below 16 0 list (omega arith) in
-    let name = mnemonic_short s f stem suffix in
+    let name = first_word_short s f mnemonic suffix in
     let base = name_length n hn in
     let rest = listed_spelled false 123 ks refl all in
     let count = listed_length 123 ks in
-    is_printed_in s f (base_and_list 0 n list) stem suffix
+    is_printed_in s f (base_and_list 0 n list) mnemonic suffix
     (word_token (register_name n) (word_r n hn), (short_comma.is, listed_tokens 123 ks (short_open_brace.is, tt) all))
     (listed_apart comma 123 ks)
     (omega (
@@ -159,14 +159,14 @@ printed_list s f zero n list stem suffix hw hn few =
       length-append (register_name n) (44 ∷ spelled_behind false (braces list)),
     ))
     (listed_ranges 123 ks refl) (omega (arith, count, few))
-printed_list s f (suc zero) n list stem suffix hw hn few =
+printed_list s f (suc zero) n list mnemonic suffix hw hn few =
     let ks = registers_from 16 0 list in
     let all = registers_below 16 0 list (omega arith) in
-    let name = mnemonic_short s f stem suffix in
+    let name = first_word_short s f mnemonic suffix in
     let base = name_length n hn in
     let rest = listed_spelled false 123 ks refl all in
     let count = listed_length 123 ks in
-    is_printed_in s f (base_and_list 1 n list) stem suffix
+    is_printed_in s f (base_and_list 1 n list) mnemonic suffix
     (word_token (register_name n) (word_r n hn), (short_bang.is, (short_comma.is, listed_tokens 123 ks (short_open_brace.is, tt) all)))
     (listed_apart comma 123 ks)
     (omega (
@@ -179,7 +179,7 @@ printed_list s f (suc zero) n list stem suffix hw hn few =
       length-append (register_name n) (33 ∷ 44 ∷ spelled_behind false (braces list)),
     ))
     (listed_ranges 123 ks refl) (omega (arith, count, few))
-printed_list s f (suc (suc w)) n list stem suffix hw hn few = absurd (omega arith)
+printed_list s f (suc (suc w)) n list mnemonic suffix hw hn few = absurd (omega arith)
 
 -- with no base before it
 apart_are : (ts : List Tok) → apart comma ts ≡ true → are_apart ts ≡ true
@@ -190,17 +190,17 @@ printed_length : (name : List ℕ) (ts : List Tok) → length (printed (word nam
 printed_length name [] = omega arith
 printed_length name (t ∷ ts) = omega (arith, length-append name (32 ∷ spelled (t ∷ ts)))
 
-printed_alone : (s f : List ℕ) (ks : List ℕ) → is_stem s ≡ true → is_suffix f ≡ true → AllBelow16 ks → length ks ≤ 14
+printed_alone : (s f : List ℕ) (ks : List ℕ) → is_mnemonic s ≡ true → is_suffix f ≡ true → AllBelow16 ks → length ks ≤ 14
     → IsPrinted (word (s ++ f) ∷ (listed 123 ks ++ close_brace ∷ []))
-printed_alone s f ks stem suffix all few =
+printed_alone s f ks mnemonic suffix all few =
     let ts = listed 123 ks ++ close_brace ∷ [] in
-    let name = mnemonic_short s f stem suffix in
+    let name = first_word_short s f mnemonic suffix in
     let rest = listed_spelled false 123 ks refl all in
     let count = listed_length 123 ks in
     let whole = printed_length (s ++ f) ts in
-    is_printed_in s f ts stem suffix (listed_tokens 123 ks (short_open_brace.is, tt) all) (apart_are ts (listed_apart comma 123 ks))
+    is_printed_in s f ts mnemonic suffix (listed_tokens 123 ks (short_open_brace.is, tt) all) (apart_are ts (listed_apart comma 123 ks))
     (omega (arith, name, rest, few, whole)) (listed_ranges 123 ks refl) (omega (arith, count, few))
 
-pub printed_braces : (s f : List ℕ) (list : ℕ) → is_stem s ≡ true → is_suffix f ≡ true → length (registers_from 16 0 list) ≤ 14
+pub printed_braces : (s f : List ℕ) (list : ℕ) → is_mnemonic s ≡ true → is_suffix f ≡ true → length (registers_from 16 0 list) ≤ 14
     → IsPrinted (word (s ++ f) ∷ braces list)
-printed_braces s f list stem suffix few = printed_alone s f (registers_from 16 0 list) stem suffix (registers_below 16 0 list (omega arith)) few
+printed_braces s f list mnemonic suffix few = printed_alone s f (registers_from 16 0 list) mnemonic suffix (registers_below 16 0 list (omega arith)) few

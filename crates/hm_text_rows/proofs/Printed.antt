@@ -10,7 +10,7 @@ use Rattle.hm_tokens.specs.Tokens.{Tok, word, number, mark, spell, close_brace, 
 use Rattle.hm_tokens.proofs.Addresses.{ends_in_mark, printed_at_again}
 use Rattle.hm_tokens.proofs.Again.{AreTokens, IsToken, are_apart, printed_again}
 use Rattle.hm_tokens.proofs.Ranges.{has_no_ranges, normal_same}
-use Rattle.hm_text_rows.proofs.Words.{is_name, is_stem, is_suffix, mnemonic_short, mnemonic_token, word_short, word_token}
+use Rattle.hm_text_rows.proofs.Words.{is_name, is_mnemonic, is_suffix, first_word_short, first_word_token, word_short, word_token}
 
 -- how long a token is at most
 abbrev pub most : Tok → ℕ
@@ -114,31 +114,31 @@ room_of name (t ∷ ts) short are le =
     let all = spelled_short (t ∷ ts) false are in
     omega (arith, all, length-append name (32 ∷ spelled (t ∷ ts)))
 
-pub is_read_back : (s suffix : List ℕ) (ts : List Tok) → is_stem s ≡ true → is_suffix suffix ≡ true → AreShort ts → are_apart ts ≡ true → room ts ≤ 78
+pub is_read_back : (s suffix : List ℕ) (ts : List Tok) → is_mnemonic s ≡ true → is_suffix suffix ≡ true → AreShort ts → are_apart ts ≡ true → room ts ≤ 78
     → IsReadBack (word (s ++ suffix) ∷ ts)
-is_read_back s suffix ts stem behind are apart le = record {
-  again = printed_again ts (tokens_of_short ts are) (word (s ++ suffix)) (mnemonic_token s suffix stem behind) apart;
-  room = let r = room_of (s ++ suffix) ts (mnemonic_short s suffix stem behind) are le in omega (arith, r);
+is_read_back s suffix ts mnemonic behind are apart le = record {
+  again = printed_again ts (tokens_of_short ts are) (word (s ++ suffix)) (first_word_token s suffix mnemonic behind) apart;
+  room = let r = room_of (s ++ suffix) ts (first_word_short s suffix mnemonic behind) are le in omega (arith, r);
   few = omega (arith, few_in_room ts, le);
 }
 
 -- tokens that may have a `-`, but have no range of registers
-pub is_printed_as : (s suffix : List ℕ) (ts : List Tok) → is_stem s ≡ true → is_suffix suffix ≡ true → AreShort ts → are_apart ts ≡ true → room ts ≤ 78
+pub is_printed_as : (s suffix : List ℕ) (ts : List Tok) → is_mnemonic s ≡ true → is_suffix suffix ≡ true → AreShort ts → are_apart ts ≡ true → room ts ≤ 78
     → normal (word (s ++ suffix) ∷ ts) ≡ word (s ++ suffix) ∷ ts → IsPrinted (word (s ++ suffix) ∷ ts)
-is_printed_as s suffix ts stem behind are apart le same =
-    let back = is_read_back s suffix ts stem behind are apart le in
+is_printed_as s suffix ts mnemonic behind are apart le same =
+    let back = is_read_back s suffix ts mnemonic behind are apart le in
     record { again = back.again; room = back.room; ranges = same; few = back.few }
 
-pub is_printed : (s suffix : List ℕ) (ts : List Tok) → is_stem s ≡ true → is_suffix suffix ≡ true → AreShort ts → are_apart ts ≡ true → room ts ≤ 78
+pub is_printed : (s suffix : List ℕ) (ts : List Tok) → is_mnemonic s ≡ true → is_suffix suffix ≡ true → AreShort ts → are_apart ts ≡ true → room ts ≤ 78
     → has_no_ranges ts ≡ true → IsPrinted (word (s ++ suffix) ∷ ts)
-is_printed s suffix ts stem behind are apart le none = is_printed_as s suffix ts stem behind are apart le (normal_same (word (s ++ suffix) ∷ ts) none)
+is_printed s suffix ts mnemonic behind are apart le none = is_printed_as s suffix ts mnemonic behind are apart le (normal_same (word (s ++ suffix) ∷ ts) none)
 
 -- a text that is known to fit
-pub is_printed_in : (s suffix : List ℕ) (ts : List Tok) → is_stem s ≡ true → is_suffix suffix ≡ true → AreTokens ts → are_apart ts ≡ true
+pub is_printed_in : (s suffix : List ℕ) (ts : List Tok) → is_mnemonic s ≡ true → is_suffix suffix ≡ true → AreTokens ts → are_apart ts ≡ true
     → length (printed (word (s ++ suffix) ∷ ts)) ≤ 96 → has_no_ranges ts ≡ true → length ts ≤ 39
     → IsPrinted (word (s ++ suffix) ∷ ts)
-is_printed_in s suffix ts stem behind are apart fits none few = record {
-  again = printed_again ts are (word (s ++ suffix)) (mnemonic_token s suffix stem behind) apart;
+is_printed_in s suffix ts mnemonic behind are apart fits none few = record {
+  again = printed_again ts are (word (s ++ suffix)) (first_word_token s suffix mnemonic behind) apart;
   room = fits;
   ranges = normal_same (word (s ++ suffix) ∷ ts) none;
   few = omega (arith, few);
@@ -157,24 +157,24 @@ room_at name (t ∷ ts) a short are le =
     let all = spelled_short (t ∷ ts) false are in
     omega (arith, all, length-append name (32 ∷ spelled (t ∷ ts)), length-append (printed (word name ∷ t ∷ ts)) (address a))
 
-pub is_printed_at : (s suffix : List ℕ) (ts : List Tok) → is_stem s ≡ true → is_suffix suffix ≡ true → AreShort ts → are_apart ts ≡ true
+pub is_printed_at : (s suffix : List ℕ) (ts : List Tok) → is_mnemonic s ≡ true → is_suffix suffix ≡ true → AreShort ts → are_apart ts ≡ true
     → ends_in_mark ts ≡ true → room ts ≤ 68 → has_no_ranges ts ≡ true → IsPrintedAt (word (s ++ suffix) ∷ ts)
-is_printed_at s suffix ts stem behind are apart ends le none = record {
-  again = λ a lt. printed_at_again ts (word (s ++ suffix)) a (tokens_of_short ts are) (mnemonic_token s suffix stem behind) apart ends lt;
-  room = λ a. room_at (s ++ suffix) ts a (mnemonic_short s suffix stem behind) are le;
+is_printed_at s suffix ts mnemonic behind are apart ends le none = record {
+  again = λ a lt. printed_at_again ts (word (s ++ suffix)) a (tokens_of_short ts are) (first_word_token s suffix mnemonic behind) apart ends lt;
+  room = λ a. room_at (s ++ suffix) ts a (first_word_short s suffix mnemonic behind) are le;
   ranges = none;
   few = omega (arith, few_in_room ts, le);
 }
 
--- A MNEMONIC THAT IS ITS STEM ALONE
+-- A FIRST WORD THAT IS ITS MNEMONIC ALONE
 pub without_suffix : (s : List ℕ) (ts : List Tok) → IsPrinted (word (s ++ []) ∷ ts) → IsPrinted (word s ∷ ts)
 without_suffix s ts printed_ = subst (λ (name : List ℕ). IsPrinted (word name ∷ ts)) (append-nil s) printed_
 
-pub is_printed_bare : (s : List ℕ) (ts : List Tok) → is_stem s ≡ true → AreShort ts → are_apart ts ≡ true → room ts ≤ 78 → has_no_ranges ts ≡ true
+pub is_printed_bare : (s : List ℕ) (ts : List Tok) → is_mnemonic s ≡ true → AreShort ts → are_apart ts ≡ true → room ts ≤ 78 → has_no_ranges ts ≡ true
     → IsPrinted (word s ∷ ts)
-is_printed_bare s ts stem are apart le none = without_suffix s ts (is_printed s [] ts stem refl are apart le none)
+is_printed_bare s ts mnemonic are apart le none = without_suffix s ts (is_printed s [] ts mnemonic refl are apart le none)
 
-pub is_printed_bare_at : (s : List ℕ) (ts : List Tok) → is_stem s ≡ true → AreShort ts → are_apart ts ≡ true → ends_in_mark ts ≡ true → room ts ≤ 68
+pub is_printed_bare_at : (s : List ℕ) (ts : List Tok) → is_mnemonic s ≡ true → AreShort ts → are_apart ts ≡ true → ends_in_mark ts ≡ true → room ts ≤ 68
     → has_no_ranges ts ≡ true → IsPrintedAt (word s ∷ ts)
-is_printed_bare_at s ts stem are apart ends le none =
-    subst (λ (name : List ℕ). IsPrintedAt (word name ∷ ts)) (append-nil s) (is_printed_at s [] ts stem refl are apart ends le none)
+is_printed_bare_at s ts mnemonic are apart ends le none =
+    subst (λ (name : List ℕ). IsPrintedAt (word name ∷ ts)) (append-nil s) (is_printed_at s [] ts mnemonic refl are apart ends le none)

@@ -1,4 +1,4 @@
--- Mnemonics: a stem, and what stands behind the point; names.
+-- Mnemonics: a mnemonic, and what stands behind the point; names.
 use Rattle.std.proofs.Common.{◌≡◌, ℕ, zero, suc, ◌<◌, ◌≤◌, Bool, true, false, eqb, ltb, List, [], ◌∷◌, ◌++◌, length, refl, sym, subst, inl, inr, arith}
 use Rattle.std.specs.Prelude.{◌&&◌, not}
 use Rattle.std.specs.List.{list_all}
@@ -37,9 +37,9 @@ abbrev pub is_part : ℕ → Bool
 is_part c = is_in classes.Word c && not (eqb c 46)
 
 -- begins with no digit, has no point, and is short
-abbrev pub is_stem : List ℕ → Bool
-is_stem [] = false
-is_stem (c ∷ cs) = not (is_digit c) && (list_all is_part (c ∷ cs) && ltb (length cs) 9)
+abbrev pub is_mnemonic : List ℕ → Bool
+is_mnemonic [] = false
+is_mnemonic (c ∷ cs) = not (is_digit c) && (list_all is_part (c ∷ cs) && ltb (length cs) 9)
 
 -- nothing, or begins with a point
 abbrev pub is_suffix : List ℕ → Bool
@@ -68,8 +68,8 @@ span_parts_suffix (c ∷ s) suffix all e =
     let n = and_parts (is_in classes.Word c) (not (eqb c 46)) p.0 in
     rw (not_true (eqb c 46) n.1, span_parts_suffix s suffix p.1 e) refl
 
--- the mnemonic is cut behind its stem
-pub cut : (s suffix : List ℕ) → is_stem s ≡ true → is_suffix suffix ≡ true → span 46 (s ++ suffix) ≡ (s, suffix)
+-- the first word is cut behind its mnemonic
+pub cut : (s suffix : List ℕ) → is_mnemonic s ≡ true → is_suffix suffix ≡ true → span 46 (s ++ suffix) ≡ (s, suffix)
 cut [] suffix is e = absurd cc
 cut (c ∷ s) suffix is e =
     let p = and_parts (not (is_digit c)) (list_all is_part (c ∷ s) && ltb (length s) 9) is in
@@ -97,16 +97,16 @@ suffix_short (c ∷ cs) e =
     let short : length cs < 4 = grind (arith, nat_tests, q.1) in
     omega (arith, short)
 
-pub mnemonic_token : (s suffix : List ℕ) → is_stem s ≡ true → is_suffix suffix ≡ true → IsToken (word (s ++ suffix))
-mnemonic_token [] suffix is e = absurd cc
-mnemonic_token (c ∷ s) suffix is e =
+pub first_word_token : (s suffix : List ℕ) → is_mnemonic s ≡ true → is_suffix suffix ≡ true → IsToken (word (s ++ suffix))
+first_word_token [] suffix is e = absurd cc
+first_word_token (c ∷ s) suffix is e =
     let p = and_parts (not (is_digit c)) (list_all is_part (c ∷ s) && ltb (length s) 9) is in
     let q = and_parts (list_all is_part (c ∷ s)) (ltb (length s) 9) p.1 in
     (not_true (is_digit c) p.0, all_words (c ∷ s) suffix q.0 (suffix_words suffix e))
 
-pub mnemonic_short : (s suffix : List ℕ) → is_stem s ≡ true → is_suffix suffix ≡ true → length (s ++ suffix) ≤ 13
-mnemonic_short [] suffix is e = absurd cc
-mnemonic_short (c ∷ s) suffix is e =
+pub first_word_short : (s suffix : List ℕ) → is_mnemonic s ≡ true → is_suffix suffix ≡ true → length (s ++ suffix) ≤ 13
+first_word_short [] suffix is e = absurd cc
+first_word_short (c ∷ s) suffix is e =
     let p = and_parts (not (is_digit c)) (list_all is_part (c ∷ s) && ltb (length s) 9) is in
     let q = and_parts (list_all is_part (c ∷ s)) (ltb (length s) 9) p.1 in
     let short : length s < 9 = grind (arith, nat_tests, q.1) in

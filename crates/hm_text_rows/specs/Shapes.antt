@@ -21,7 +21,7 @@ or_zero n = word (cond (nat_eq n 15) (codes "zr") (register_name n))
 abbrev pub constant : ℕ → List Tok
 constant n = hash_mark ∷ number n ∷ []
 
--- one of two stems, by a bit
+-- one of two mnemonics, by a bit
 abbrev pub either : ℕ → List ℕ → List ℕ → List ℕ
 either bit zero_ one_ = cond (nat_eq bit 0) zero_ one_
 

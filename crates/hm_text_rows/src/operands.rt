@@ -17,10 +17,10 @@ pub fn is(word: &[u8], name: &str) -> bool
 }
 
 /// The condition of a branch: that behind the `b` of `beq` to `ble`.
-pub fn branch_condition_in(stem: &[u8]) -> Option<u32>
-    ensures value { result ≡ branch_condition_in stem.now }
+pub fn branch_condition_in(mnemonic: &[u8]) -> Option<u32>
+    ensures value { result ≡ branch_condition_in mnemonic.now }
 {
-    match stem {
+    match mnemonic {
         [] => None,
         [first, rest @ ..] => {
             if *first == b'b' {

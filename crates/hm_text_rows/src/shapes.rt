@@ -37,13 +37,13 @@ pub fn or_zero(n: Register) -> Part
 }
 
 /// A mnemonic with no operands.
-pub fn alone(stem: &'static str, letters: &'static str, suffix: &'static str) -> InstrText
-    ensures tokens { text_tokens result ≡ word (stem.now ++ (letters.now ++ suffix.now)) ∷ [] }
+pub fn alone(mnemonic: &'static str, letters: &'static str, suffix: &'static str) -> InstrText
+    ensures tokens { text_tokens result ≡ word (mnemonic.now ++ (letters.now ++ suffix.now)) ∷ [] }
     ensures room { length result.operands.items ≡ 0 }
-    ensures pieces { (result.stem.now ≡ stem.now) × (result.letters.now ≡ letters.now) × (result.suffix.now ≡ suffix.now) }
+    ensures pieces { (result.mnemonic.now ≡ mnemonic.now) × (result.letters.now ≡ letters.now) × (result.suffix.now ≡ suffix.now) }
 {
     InstrText {
-        stem,
+        mnemonic,
         letters,
         suffix,
         operands: ArrayVec::new(),
@@ -72,7 +72,7 @@ pub fn marked(text: InstrText, which: Mark) -> InstrText
 /// The text with a first operand.
 pub fn first(mut text: InstrText, operand: Part) -> InstrText
     requires { length text.operands.items ≡ 0 }
-    ensures tokens { text_tokens result ≡ word (text.stem.now ++ (text.letters.now ++ text.suffix.now)) ∷ part_token operand ∷ [] }
+    ensures tokens { text_tokens result ≡ word (text.mnemonic.now ++ (text.letters.now ++ text.suffix.now)) ∷ part_token operand ∷ [] }
     ensures room { length result.operands.items ≡ 1 }
 {
     text.operands.push(operand);
@@ -80,11 +80,11 @@ pub fn first(mut text: InstrText, operand: Part) -> InstrText
 }
 
 /// The mnemonic and one operand.
-pub fn one(stem: &'static str, suffix: &'static str, a: Part) -> InstrText
-    ensures tokens { text_tokens result ≡ one (stem.now ++ suffix.now) (part_token a) }
+pub fn one(mnemonic: &'static str, suffix: &'static str, a: Part) -> InstrText
+    ensures tokens { text_tokens result ≡ one (mnemonic.now ++ suffix.now) (part_token a) }
     ensures room { length result.operands.items ≡ 1 }
 {
-    first(alone(stem, "", suffix), a)
+    first(alone(mnemonic, "", suffix), a)
 }
 
 /// The text with one operand more, behind a comma.
@@ -111,34 +111,34 @@ pub fn and_constant(mut text: InstrText, n: u32) -> InstrText
 }
 
 /// The mnemonic and two operands.
-pub fn two(stem: &'static str, suffix: &'static str, a: Part, b: Part) -> InstrText
-    ensures tokens { text_tokens result ≡ two (stem.now ++ suffix.now) (part_token a) (part_token b) }
+pub fn two(mnemonic: &'static str, suffix: &'static str, a: Part, b: Part) -> InstrText
+    ensures tokens { text_tokens result ≡ two (mnemonic.now ++ suffix.now) (part_token a) (part_token b) }
     ensures room { length result.operands.items ≡ 3 }
 {
-    and(one(stem, suffix, a), b)
+    and(one(mnemonic, suffix, a), b)
 }
 
 /// The mnemonic and three operands.
-pub fn three(stem: &'static str, suffix: &'static str, a: Part, b: Part, c: Part) -> InstrText
-    ensures tokens { text_tokens result ≡ three (stem.now ++ suffix.now) (part_token a) (part_token b) (part_token c) }
+pub fn three(mnemonic: &'static str, suffix: &'static str, a: Part, b: Part, c: Part) -> InstrText
+    ensures tokens { text_tokens result ≡ three (mnemonic.now ++ suffix.now) (part_token a) (part_token b) (part_token c) }
     ensures room { length result.operands.items ≡ 5 }
 {
-    and(two(stem, suffix, a, b), c)
+    and(two(mnemonic, suffix, a, b), c)
 }
 
 /// The mnemonic and four operands.
 pub fn four(
-    stem: &'static str,
+    mnemonic: &'static str,
     suffix: &'static str,
     a: Part,
     b: Part,
     c: Part,
     d: Part,
 ) -> InstrText
-    ensures tokens { text_tokens result ≡ four (stem.now ++ suffix.now) (part_token a) (part_token b) (part_token c) (part_token d) }
+    ensures tokens { text_tokens result ≡ four (mnemonic.now ++ suffix.now) (part_token a) (part_token b) (part_token c) (part_token d) }
     ensures room { length result.operands.items ≡ 7 }
 {
-    and(three(stem, suffix, a, b, c), d)
+    and(three(mnemonic, suffix, a, b, c), d)
 }
 
 /// The text with a shift more, behind a comma, where it is not by 0.

@@ -9,7 +9,7 @@ use Rattle.hm_textv.specs.Codes.{code_of, constant_code, constant_mode, constant
 use Rattle.hm_textv.specs.Operands.{sign_of, word_value}
 use Rattle.hm_text_rows.specs.Operands.{is_vector_name, size_of}
 use Rattle.hm_text_rows.specs.Shapes.{either}
-use Rattle.hm_text_rows.proofs.Words.{at_below, is_stem}
+use Rattle.hm_text_rows.proofs.Words.{at_below, is_mnemonic}
 use Rattle.hm_textv.specs.Rows.{constant_forms, merged, moved, shifted, unshifted}
 use Rattle.hm_textv.proofs.Endings.{Suffix, suffix_integer}
 use Rattle.hm_textv.proofs.Forms.{Answers, Operand, Row, a_vector, answers_of, given, reads_constant, reads_shifted}
@@ -57,11 +57,11 @@ unfolding code_of
 asks_vbic o e f = rw (e, f) refl
 
 -- one text of an immediate that is shifted
-one_shifted : (s f kind : List ℕ) (k z v n d i j l cm op : ℕ) → is_stem s ≡ true → Asks s k → Suffix f false 0 z → Operand kind v false → n < 1000 → d < 8
+one_shifted : (s f kind : List ℕ) (k z v n d i j l cm op : ℕ) → is_mnemonic s ≡ true → Asks s k → Suffix f false 0 z → Operand kind v false → n < 1000 → d < 8
     → i < 2 → j < 8 → l < 16 → constant_mode k (given false 0 z false d (byte i j l) v n) ≡ cm
     → constant_operation k (given false 0 z false d (byte i j l) v n) ≡ op → Answers (shifted (s ++ f) kind n d (byte i j l)) (sum i j d cm op l)
-one_shifted s f kind k z v n d i j l cm op stem asks g o hn hd hi hj hl mode operation =
-    answers_of _ _ _ _ (reads_shifted s f kind false false 0 z d (byte i j l) v n stem g hd o (byte_small i j l hi hj hl) hn)
+one_shifted s f kind k z v n d i j l cm op mnemonic asks g o hn hd hi hj hl mode operation =
+    answers_of _ _ _ _ (reads_shifted s f kind false false 0 z d (byte i j l) v n mnemonic g hd o (byte_small i j l hi hj hl) hn)
     (asks _ refl refl ∙ ap (λ (w : ℕ). Some w) (coded k z v n d i j l cm op hi hj hl mode operation))
 
 lsl : Operand (codes "lsl") 0 false

@@ -5,7 +5,7 @@ use Rattle.std.proofs.lemmas.Bool.{agree_below_at}
 use Rattle.hm_textv.specs.Operands.{sign_of}
 use Rattle.hm_text_rows.specs.Operands.{size_of}
 use Rattle.hm_text_rows.proofs.Words.{below_holds, below_is, is_suffix}
-use Rattle.hm_textv.specs.Stems.{by_sign, integer, plain, signed, unsigned}
+use Rattle.hm_textv.specs.Mnemonics.{by_sign, integer, plain, signed, unsigned}
 
 pub record Suffix (suffix : List ℕ) (is_bare : Bool) (u z : ℕ) : Type 0 where
   pub is : is_suffix suffix ≡ true

@@ -25,22 +25,23 @@ use Rattle.hm_isa.specs.Standing.{◌↑◌}
 use Rattle.hm_tokens.specs.Tokens.{Tok}
 use Rattle.hm_textv.specs.Codes.{bits_in, code_of}
 use Rattle.hm_textv.specs.Rows.{long_part, shift_in, size_in}
-use Rattle.hm_textv.specs.Stems.{constant_shift_stem, constant_shift_suffix, integer, narrow_stem, narrow_suffix, one_stem, one_suffix, plain, reverse_stem}
-use Rattle.hm_textv.specs.Stems.{signed}
+use Rattle.hm_textv.specs.Mnemonics.{constant_shift_mnemonic, constant_shift_suffix, integer, narrow_mnemonic, narrow_suffix, one_mnemonic, one_suffix, plain}
+use Rattle.hm_textv.specs.Mnemonics.{reverse_mnemonic}
+use Rattle.hm_textv.specs.Mnemonics.{signed}
 use Rattle.hm_text_rows.specs.Shapes.{either}
-use Rattle.hm_text_rows.proofs.Words.{below_holds, below_is, is_stem}
+use Rattle.hm_text_rows.proofs.Words.{below_holds, below_is, is_mnemonic}
 use Rattle.hm_textv.proofs.Endings.{Suffix, no_suffix, suffix_by_sign, suffix_integer, suffix_plain, suffix_signed, suffix_unsigned}
 use Rattle.hm_textv.proofs.Forms.{Answers, Row, a_vector, answers_of, given, reads_two, reads_two_constant, row_of}
 
 -- V11
-stem_constant_shift : (name : ConstantShiftName) → is_stem (constant_shift_stem name) ≡ true
-stem_constant_shift by_constant.Shr = refl
-stem_constant_shift by_constant.Rshr = refl
-stem_constant_shift by_constant.Qshl = refl
-stem_constant_shift by_constant.Qshlu = refl
-stem_constant_shift by_constant.Shl = refl
-stem_constant_shift by_constant.Sri = refl
-stem_constant_shift by_constant.Sli = refl
+mnemonic_constant_shift : (name : ConstantShiftName) → is_mnemonic (constant_shift_mnemonic name) ≡ true
+mnemonic_constant_shift by_constant.Shr = refl
+mnemonic_constant_shift by_constant.Rshr = refl
+mnemonic_constant_shift by_constant.Qshl = refl
+mnemonic_constant_shift by_constant.Qshlu = refl
+mnemonic_constant_shift by_constant.Shl = refl
+mnemonic_constant_shift by_constant.Sri = refl
+mnemonic_constant_shift by_constant.Sli = refl
 
 suffix_shift : (name : ConstantShiftName) (u z : ℕ) → u < 2 → z < 3 → is_shifted_by name u ≡ true → Suffix (constant_shift_suffix name u z) false u z
 suffix_shift by_constant.Shr u z hu hz e = suffix_by_sign u z hu hz
@@ -90,7 +91,7 @@ is_field by_constant.Sli x lt e =
     rw (not_less x e) at (below_is (λ k. cond (ltb k 8) k (bits_in (size_in k) + shift_in by_constant.Sli k)) (λ k. k) 64 x refl lt)
 
 asks_shift : (name : ConstantShiftName) (u z d m k x : ℕ) → IsField name z k x
-    → code_of (constant_shift_stem name) (given false u z false d m k 0) ≡ Some (constant_shift_base name + u ↑ 28 + x ↑ 16 + d ↑ 13 + m ↑ 1)
+    → code_of (constant_shift_mnemonic name) (given false u z false d m k 0) ≡ Some (constant_shift_base name + u ↑ 28 + x ↑ 16 + d ↑ 13 + m ↑ 1)
 unfolding code_of
 asks_shift by_constant.Shr u z d m k x e = rw e (ap (λ (w : ℕ). Some w) (omega arith))
 asks_shift by_constant.Rshr u z d m k x e = rw e (ap (λ (w : ℕ). Some w) (omega arith))
@@ -105,20 +106,21 @@ row_v11 i =
     let x = i.x.value in
     let lt = i.x.in_range in
     row_of (vector.V11 i) _ _
-    (reads_two_constant _ _ _ _ _ _ _ _ _ _ _ _ (stem_constant_shift i.name) (suffix_shift i.name i.u.value (size_in x) i.u.in_range (size_small x lt) i.signs)
+    (reads_two_constant _ _ _ _ _ _ _ _ _ _ _ _ (mnemonic_constant_shift i.name)
+    (suffix_shift i.name i.u.value (size_in x) i.u.in_range (size_small x lt) i.signs)
     (a_vector i.d.value i.d.in_range) (a_vector i.m.value i.m.in_range) (shift_small i.name x lt))
     (asks_shift i.name i.u.value (size_in x) _ _ _ x (is_field i.name x lt i.size))
 
 -- V12
-stem_long : (t : ℕ) → t < 2 → is_stem (either t (codes "vshllb") (codes "vshllt")) ≡ true
-stem_long zero lt = refl
-stem_long (suc zero) lt = refl
-stem_long (suc (suc t)) lt = absurd (omega arith)
+mnemonic_long : (t : ℕ) → t < 2 → is_mnemonic (either t (codes "vshllb") (codes "vshllt")) ≡ true
+mnemonic_long zero lt = refl
+mnemonic_long (suc zero) lt = refl
+mnemonic_long (suc (suc t)) lt = absurd (omega arith)
 
-stem_moved : (t : ℕ) → t < 2 → is_stem (either t (codes "vmovlb") (codes "vmovlt")) ≡ true
-stem_moved zero lt = refl
-stem_moved (suc zero) lt = refl
-stem_moved (suc (suc t)) lt = absurd (omega arith)
+mnemonic_moved : (t : ℕ) → t < 2 → is_mnemonic (either t (codes "vmovlb") (codes "vmovlt")) ≡ true
+mnemonic_moved zero lt = refl
+mnemonic_moved (suc zero) lt = refl
+mnemonic_moved (suc (suc t)) lt = absurd (omega arith)
 
 -- the code of a shift by less than the size of the elements
 abbrev part_code : ℕ → ℕ → ℕ → ℕ → ℕ → ℕ → ℕ
@@ -148,13 +150,13 @@ asks_full (suc (suc t)) u z d m k lt e = absurd (omega arith)
 long_zero : (t : ℕ) (f : List ℕ) (u z d m k : ℕ) → t < 2 → Suffix f false u z → d < 8 → m < 8 → eqb 0 (bits_in z) ≡ false → eqb k 0 ≡ true
     → Answers (long_part t f d m k) (part_code t u z d m k)
 long_zero t f u z d m k ht g hd hm some e =
-    rw (eqb-true k 0 e) (answers_of _ _ _ _ (reads_two _ _ _ _ _ _ _ _ _ _ _ (stem_moved t ht) g (a_vector d hd) (a_vector m hm))
+    rw (eqb-true k 0 e) (answers_of _ _ _ _ (reads_two _ _ _ _ _ _ _ _ _ _ _ (mnemonic_moved t ht) g (a_vector d hd) (a_vector m hm))
     (asks_moved t u z d m ht some))
 
 long_more : (t : ℕ) (f : List ℕ) (u z d m k : ℕ) → t < 2 → Suffix f false u z → d < 8 → m < 8 → k < 1000 → eqb k (bits_in z) ≡ false → eqb k 0 ≡ false
     → Answers (long_part t f d m k) (part_code t u z d m k)
 long_more t f u z d m k ht g hd hm small less e =
-    rw e (answers_of _ _ _ _ (reads_two_constant _ _ _ _ _ _ _ _ _ _ _ _ (stem_long t ht) g (a_vector d hd) (a_vector m hm) small)
+    rw e (answers_of _ _ _ _ (reads_two_constant _ _ _ _ _ _ _ _ _ _ _ _ (mnemonic_long t ht) g (a_vector d hd) (a_vector m hm) small)
     (asks_long t u z d m k ht less))
 
 long_answers : (t : ℕ) (f : List ℕ) (u z d m k : ℕ) → t < 2 → Suffix f false u z → d < 8 → m < 8 → k < 1000 → eqb 0 (bits_in z) ≡ false
@@ -192,19 +194,19 @@ row_v12 (v12.Halves i) =
     (let lt = i.k.in_range in omega arith) refl (ne_eqb _ _ (let lt = i.k.in_range in λ e. omega arith)))
 row_v12 (v12.Full i) =
     row_of (vector.V12 (v12.Full i)) _ _
-    (reads_two_constant _ _ _ _ _ _ _ _ _ _ _ _ (stem_long i.t.value i.t.in_range)
+    (reads_two_constant _ _ _ _ _ _ _ _ _ _ _ _ (mnemonic_long i.t.value i.t.in_range)
     (suffix_by_sign i.u.value i.z.value i.u.in_range (let lt = i.z.in_range in omega arith)) (a_vector i.d.value i.d.in_range)
     (a_vector i.m.value i.m.in_range) (full_small i.z.value i.z.in_range))
     (asks_full i.t.value _ _ _ _ _ i.t.in_range (full_bits i.z.value i.z.in_range))
 
 -- V13
-stem_one : (name : OneName) → is_stem (one_stem name) ≡ true
-stem_one one.Cls = refl
-stem_one one.Clz = refl
-stem_one one.Abs = refl
-stem_one one.Neg = refl
-stem_one one.Qabs = refl
-stem_one one.Qneg = refl
+mnemonic_one : (name : OneName) → is_mnemonic (one_mnemonic name) ≡ true
+mnemonic_one one.Cls = refl
+mnemonic_one one.Clz = refl
+mnemonic_one one.Abs = refl
+mnemonic_one one.Neg = refl
+mnemonic_one one.Qabs = refl
+mnemonic_one one.Qneg = refl
 
 suffix_one : (name : OneName) (z : ℕ) → z < 3 → Suffix (one_suffix name z) false 0 z
 suffix_one one.Cls z lt = suffix_signed z lt
@@ -214,7 +216,7 @@ suffix_one one.Neg z lt = suffix_signed z lt
 suffix_one one.Qabs z lt = suffix_signed z lt
 suffix_one one.Qneg z lt = suffix_signed z lt
 
-asks_one : (name : OneName) (z d m : ℕ) → code_of (one_stem name) (given false 0 z false d m 0 0) ≡ Some (one_base name + z ↑ 18 + d ↑ 13 + m ↑ 1)
+asks_one : (name : OneName) (z d m : ℕ) → code_of (one_mnemonic name) (given false 0 z false d m 0 0) ≡ Some (one_base name + z ↑ 18 + d ↑ 13 + m ↑ 1)
 unfolding code_of
 asks_one one.Cls z d m = refl
 asks_one one.Clz z d m = refl
@@ -230,19 +232,19 @@ asks_not d m = refl
 pub row_v13 : (i : V13) → Row (vector.V13 i)
 row_v13 (v13.Elements i) =
     row_of (vector.V13 (v13.Elements i)) _ _
-    (reads_two _ _ _ _ _ _ _ _ _ _ _ (stem_one i.name) (suffix_one i.name i.z.value i.z.in_range) (a_vector i.d.value i.d.in_range)
+    (reads_two _ _ _ _ _ _ _ _ _ _ _ (mnemonic_one i.name) (suffix_one i.name i.z.value i.z.in_range) (a_vector i.d.value i.d.in_range)
     (a_vector i.m.value i.m.in_range)) (asks_one i.name _ _ _)
 row_v13 (v13.Not i) = row_of (vector.V13 (v13.Not i)) _ _
     (reads_two (codes "vmvn") _ _ _ _ _ _ _ _ _ _ refl no_suffix (a_vector i.d.value i.d.in_range) (a_vector i.m.value i.m.in_range)) (asks_not _ _)
 
 -- V14
-stem_reverse : (name : ReverseName) → is_stem (reverse_stem name) ≡ true
-stem_reverse reverse_.Rev64 = refl
-stem_reverse reverse_.Rev32 = refl
-stem_reverse reverse_.Rev16 = refl
+mnemonic_reverse : (name : ReverseName) → is_mnemonic (reverse_mnemonic name) ≡ true
+mnemonic_reverse reverse_.Rev64 = refl
+mnemonic_reverse reverse_.Rev32 = refl
+mnemonic_reverse reverse_.Rev16 = refl
 
 asks_reverse : (name : ReverseName) (z d m : ℕ)
-    → code_of (reverse_stem name) (given false 0 z false d m 0 0) ≡ Some (reverse_base name + z ↑ 18 + d ↑ 13 + m ↑ 1)
+    → code_of (reverse_mnemonic name) (given false 0 z false d m 0 0) ≡ Some (reverse_base name + z ↑ 18 + d ↑ 13 + m ↑ 1)
 unfolding code_of
 asks_reverse reverse_.Rev64 z d m = refl
 asks_reverse reverse_.Rev32 z d m = refl
@@ -251,20 +253,20 @@ asks_reverse reverse_.Rev16 z d m = refl
 pub row_v14 : (i : V14) → Row (vector.V14 i)
 row_v14 i =
     row_of (vector.V14 i) _ _
-    (reads_two _ _ _ _ _ _ _ _ _ _ _ (stem_reverse i.name) (suffix_plain i.z.value (let lt = i.z.in_range in omega arith)) (a_vector i.d.value i.d.in_range)
+    (reads_two _ _ _ _ _ _ _ _ _ _ _ (mnemonic_reverse i.name) (suffix_plain i.z.value (let lt = i.z.in_range in omega arith)) (a_vector i.d.value i.d.in_range)
     (a_vector i.m.value i.m.in_range)) (asks_reverse i.name _ _ _)
 
 -- V16
-stem_narrow : (name : NarrowName) (t : ℕ) → t < 2 → is_stem (narrow_stem name t) ≡ true
-stem_narrow narrow_.Plain zero lt = refl
-stem_narrow narrow_.Plain (suc zero) lt = refl
-stem_narrow narrow_.ToUnsigned zero lt = refl
-stem_narrow narrow_.ToUnsigned (suc zero) lt = refl
-stem_narrow narrow_.Signed zero lt = refl
-stem_narrow narrow_.Signed (suc zero) lt = refl
-stem_narrow narrow_.Unsigned zero lt = refl
-stem_narrow narrow_.Unsigned (suc zero) lt = refl
-stem_narrow name (suc (suc t)) lt = absurd (omega arith)
+mnemonic_narrow : (name : NarrowName) (t : ℕ) → t < 2 → is_mnemonic (narrow_mnemonic name t) ≡ true
+mnemonic_narrow narrow_.Plain zero lt = refl
+mnemonic_narrow narrow_.Plain (suc zero) lt = refl
+mnemonic_narrow narrow_.ToUnsigned zero lt = refl
+mnemonic_narrow narrow_.ToUnsigned (suc zero) lt = refl
+mnemonic_narrow narrow_.Signed zero lt = refl
+mnemonic_narrow narrow_.Signed (suc zero) lt = refl
+mnemonic_narrow narrow_.Unsigned zero lt = refl
+mnemonic_narrow narrow_.Unsigned (suc zero) lt = refl
+mnemonic_narrow name (suc (suc t)) lt = absurd (omega arith)
 
 abbrev narrow_sign : NarrowName → ℕ
 narrow_sign narrow_.Unsigned = 1
@@ -277,7 +279,7 @@ suffix_narrow narrow_.Signed z lt = suffix_signed (z + 1) (omega arith)
 suffix_narrow narrow_.Unsigned z lt = suffix_unsigned (z + 1) (omega arith)
 
 asks_narrow : (name : NarrowName) (t z d m : ℕ) → t < 2
-    → code_of (narrow_stem name t) (given false (narrow_sign name) (z + 1) false d m 0 0) ≡ Some (narrow_base name + z ↑ 18 + t ↑ 12 + d ↑ 13 + m ↑ 1)
+    → code_of (narrow_mnemonic name t) (given false (narrow_sign name) (z + 1) false d m 0 0) ≡ Some (narrow_base name + z ↑ 18 + t ↑ 12 + d ↑ 13 + m ↑ 1)
 unfolding code_of
 asks_narrow narrow_.Plain zero z d m lt = ap (λ (w : ℕ). Some w) (omega arith)
 asks_narrow narrow_.Plain (suc zero) z d m lt = ap (λ (w : ℕ). Some w) (omega arith)
@@ -291,6 +293,6 @@ asks_narrow name (suc (suc t)) z d m lt = absurd (omega arith)
 
 pub row_v16 : (i : V16) → Row (vector.V16 i)
 row_v16 i =
-    row_of (vector.V16 i) _ _ (reads_two _ _ _ _ _ _ _ _ _ _ _ (stem_narrow i.name i.t.value i.t.in_range) (suffix_narrow i.name i.z.value i.z.in_range)
+    row_of (vector.V16 i) _ _ (reads_two _ _ _ _ _ _ _ _ _ _ _ (mnemonic_narrow i.name i.t.value i.t.in_range) (suffix_narrow i.name i.z.value i.z.in_range)
     (a_vector i.d.value i.d.in_range) (a_vector i.m.value i.m.in_range))
     (asks_narrow i.name i.t.value i.z.value _ _ i.t.in_range)

@@ -27,9 +27,9 @@ use Rattle.hm_textv.specs.Codes.{code_of, step_in}
 use Rattle.hm_textv.specs.Operands.{word_value}
 use Rattle.hm_text_rows.specs.Operands.{is_vector_name}
 use Rattle.hm_text_rows.specs.Shapes.{three}
-use Rattle.hm_text_rows.proofs.Words.{at_below, below_holds, below_is, is_name, is_stem}
+use Rattle.hm_text_rows.proofs.Words.{at_below, below_holds, below_is, is_name, is_mnemonic}
 use Rattle.hm_textv.specs.Rows.{compare_name}
-use Rattle.hm_textv.specs.Stems.{block_letters, compare_condition, compare_suffix, offsets_stem, size_number, wrapped_stem}
+use Rattle.hm_textv.specs.Mnemonics.{block_letters, compare_condition, compare_suffix, offsets_mnemonic, size_number, wrapped_mnemonic}
 use Rattle.hm_textv.proofs.Endings.{Suffix, no_suffix, suffix_integer, suffix_plain, suffix_signed, suffix_unsigned}
 use Rattle.hm_textv.proofs.Forms.{Operand, Reads, Row, a_register, a_vector, given, reads_none, reads_one, reads_three, reads_three_constant, reads_two}
 use Rattle.hm_textv.proofs.Forms.{reads_two_constant, row_of}
@@ -71,22 +71,23 @@ row_v18 i =
     (a_register i.t.value i.t.in_range)) (asks_dup i.size _ _)
 
 -- V19
-stem_offsets : (name : OffsetsName) → is_stem (offsets_stem name) ≡ true
-stem_offsets offsets.Up = refl
-stem_offsets offsets.Down = refl
+mnemonic_offsets : (name : OffsetsName) → is_mnemonic (offsets_mnemonic name) ≡ true
+mnemonic_offsets offsets.Up = refl
+mnemonic_offsets offsets.Down = refl
 
-stem_wrapped : (name : OffsetsName) → is_stem (wrapped_stem name) ≡ true
-stem_wrapped offsets.Up = refl
-stem_wrapped offsets.Down = refl
+mnemonic_wrapped : (name : OffsetsName) → is_mnemonic (wrapped_mnemonic name) ≡ true
+mnemonic_wrapped offsets.Up = refl
+mnemonic_wrapped offsets.Down = refl
 
 asks_offsets : (name : OffsetsName) (z n d k s : ℕ) → step_in s ≡ step_code k
-    → code_of (offsets_stem name) (given false 1 z false d (2 * n) s 0) ≡ Some (offsets_base name + 0xe + z ↑ 20 + n ↑ 17 + d ↑ 13 + step_code k)
+    → code_of (offsets_mnemonic name) (given false 1 z false d (2 * n) s 0) ≡ Some (offsets_base name + 0xe + z ↑ 20 + n ↑ 17 + d ↑ 13 + step_code k)
 unfolding code_of
 asks_offsets offsets.Up z n d k s e = rw e (ap (λ (w : ℕ). Some w) (omega arith))
 asks_offsets offsets.Down z n d k s e = rw e (ap (λ (w : ℕ). Some w) (omega arith))
 
 asks_wrapped : (name : OffsetsName) (z n d k l s : ℕ) → step_in s ≡ step_code k
-    → code_of (wrapped_stem name) (given false 1 z false d (2 * n) (2 * l + 1) s) ≡ Some (offsets_base name + z ↑ 20 + n ↑ 17 + d ↑ 13 + step_code k + l ↑ 1)
+    → code_of (wrapped_mnemonic name) (given false 1 z false d (2 * n) (2 * l + 1) s)
+    ≡ Some (offsets_base name + z ↑ 20 + n ↑ 17 + d ↑ 13 + step_code k + l ↑ 1)
 unfolding code_of
 asks_wrapped offsets.Up z n d k l s e = rw e (ap (λ (w : ℕ). Some w) (omega arith))
 asks_wrapped offsets.Down z n d k l s e = rw e (ap (λ (w : ℕ). Some w) (omega arith))
@@ -106,21 +107,21 @@ odd h lt = a_register (2 * h + 1) (omega arith)
 pub row_v19 : (i : V19) → Row (vector.V19 i)
 row_v19 (v19.Free i) =
     row_of (vector.V19 (v19.Free i)) _ _
-    (reads_two_constant _ _ _ _ _ _ _ _ _ _ _ _ (stem_offsets i.name) (suffix_unsigned i.z.value i.z.in_range) (a_vector i.d.value i.d.in_range)
+    (reads_two_constant _ _ _ _ _ _ _ _ _ _ _ _ (mnemonic_offsets i.name) (suffix_unsigned i.z.value i.z.in_range) (a_vector i.d.value i.d.in_range)
     (even i.n.value i.n.in_range) (step_small i.k.value i.k.in_range))
     (asks_offsets i.name _ _ _ i.k.value _ (step_is i.k.value i.k.in_range))
 row_v19 (v19.Wrapped i) =
     row_of (vector.V19 (v19.Wrapped i)) _ _
-    (reads_three_constant _ _ _ _ _ _ _ _ _ _ _ _ _ _ _ (stem_wrapped i.name) (suffix_unsigned i.z.value i.z.in_range) (a_vector i.d.value i.d.in_range)
+    (reads_three_constant _ _ _ _ _ _ _ _ _ _ _ _ _ _ _ (mnemonic_wrapped i.name) (suffix_unsigned i.z.value i.z.in_range) (a_vector i.d.value i.d.in_range)
     (even i.n.value i.n.in_range) (odd i.r.value i.r.in_range) (step_small i.k.value i.k.in_range))
     (asks_wrapped i.name _ _ _ i.k.value _ _ (step_is i.k.value i.k.in_range))
 
 -- V20
-abbrev compare_stem : ℕ → List ℕ
-compare_stem k = cond (nat_eq k 0) (codes "vcmp") (codes "vpt") ++ block_letters k
+abbrev compare_mnemonic : ℕ → List ℕ
+compare_mnemonic k = cond (nat_eq k 0) (codes "vcmp") (codes "vpt") ++ block_letters k
 
-stem_compare : (k : ℕ) → k < 16 → is_stem (compare_stem k) ≡ true
-stem_compare k lt = below_holds (λ j. is_stem (compare_stem j)) 16 k refl lt
+mnemonic_compare : (k : ℕ) → k < 16 → is_mnemonic (compare_mnemonic k) ≡ true
+mnemonic_compare k lt = below_holds (λ j. is_mnemonic (compare_mnemonic j)) 16 k refl lt
 
 abbrev compare_sign : ℕ → ℕ
 compare_sign c = get_or (0 ∷ 0 ∷ 1 ∷ 1 ∷ 0 ∷ 0 ∷ 0 ∷ 0 ∷ []) c 0
@@ -154,13 +155,13 @@ a_register_or_zero n lt = record {
 abbrev AsksVectors : ℕ → Type 0
 AsksVectors k =
     (u z c n m : ℕ)
-    → code_of (compare_stem k) (given false u z true c n m 0)
+    → code_of (compare_mnemonic k) (given false u z true c n m 0)
     ≡ Some (0xfe010f00 + mask_code k + z ↑ 20 + n ↑ 17 + (c / 4) ↑ 12 + (c % 2) ↑ 7 + m ↑ 1 + c / 2 % 2)
 
 abbrev AsksScalar : ℕ → Type 0
 AsksScalar k =
     (u z c n m : ℕ)
-    → code_of (compare_stem k) (given false u z false c n m 0)
+    → code_of (compare_mnemonic k) (given false u z false c n m 0)
     ≡ Some (0xfe010f40 + mask_code k + z ↑ 20 + n ↑ 17 + (c / 4) ↑ 12 + (c % 2) ↑ 7 + (c / 2 % 2) ↑ 5 + m)
 
 asks_vectors : (k : ℕ) → k < 16 → AsksVectors k
@@ -259,7 +260,7 @@ asks_scalar k lt =
     )
     lt
 
-named : (k c z : ℕ) (x y w : Tok) (s : List ℕ) (o : Operands) → Reads (three (compare_stem k ++ compare_suffix c z) x y w) s o
+named : (k c z : ℕ) (x y w : Tok) (s : List ℕ) (o : Operands) → Reads (three (compare_mnemonic k ++ compare_suffix c z) x y w) s o
     → Reads (three (compare_name k c z) x y w) s o
 named k c z x y w s o reads =
     subst (λ (name : List ℕ). Reads (three name x y w) s o)
@@ -269,27 +270,27 @@ pub row_v20 : (i : V20) → Row (vector.V20 i)
 row_v20 (v20.Vectors i) =
     row_of (vector.V20 (v20.Vectors i)) _ _
     (named i.k.value i.c.value i.z.value _ _ _ _ _
-    (reads_three _ _ _ _ _ _ _ _ _ _ _ _ _ _ (stem_compare i.k.value i.k.in_range) (suffix_compare i.c.value i.z.value i.c.in_range i.z.in_range)
+    (reads_three _ _ _ _ _ _ _ _ _ _ _ _ _ _ (mnemonic_compare i.k.value i.k.in_range) (suffix_compare i.c.value i.z.value i.c.in_range i.z.in_range)
     (a_condition i.c.value i.c.in_range) (a_vector i.n.value i.n.in_range) (a_vector i.m.value i.m.in_range)))
     (asks_vectors i.k.value i.k.in_range _ _ _ _ _)
 row_v20 (v20.Scalar i) =
     row_of (vector.V20 (v20.Scalar i)) _ _
     (named i.k.value i.c.value i.z.value _ _ _ _ _
-    (reads_three _ _ _ _ _ _ _ _ _ _ _ _ _ _ (stem_compare i.k.value i.k.in_range) (suffix_compare i.c.value i.z.value i.c.in_range i.z.in_range)
+    (reads_three _ _ _ _ _ _ _ _ _ _ _ _ _ _ (mnemonic_compare i.k.value i.k.in_range) (suffix_compare i.c.value i.z.value i.c.in_range i.z.in_range)
     (a_condition i.c.value i.c.in_range) (a_vector i.n.value i.n.in_range) (a_register_or_zero i.m.value i.m.in_range)))
     (asks_scalar i.k.value i.k.in_range _ _ _ _ _)
 
 -- V21
-abbrev block_stem : ℕ → List ℕ
-block_stem k = cond (nat_eq k 0) (codes "vpnot") (codes "vpst") ++ block_letters k
+abbrev block_mnemonic : ℕ → List ℕ
+block_mnemonic k = cond (nat_eq k 0) (codes "vpnot") (codes "vpst") ++ block_letters k
 
-stem_block : (k : ℕ) → k < 16 → is_stem (block_stem k) ≡ true
-stem_block k lt = below_holds (λ j. is_stem (block_stem j)) 16 k refl lt
+mnemonic_block : (k : ℕ) → k < 16 → is_mnemonic (block_mnemonic k) ≡ true
+mnemonic_block k lt = below_holds (λ j. is_mnemonic (block_mnemonic j)) 16 k refl lt
 
-asks_block : (k : ℕ) → k < 16 → code_of (block_stem k) (given true 0 0 false 0 0 0 0) ≡ Some (0xfe310f4d + mask_code k)
+asks_block : (k : ℕ) → k < 16 → code_of (block_mnemonic k) (given true 0 0 false 0 0 0 0) ≡ Some (0xfe310f4d + mask_code k)
 unfolding code_of
 asks_block k lt =
-    at_below (λ j. code_of (block_stem j) (given true 0 0 false 0 0 0 0) ≡ Some (0xfe310f4d + mask_code j)) 16 k
+    at_below (λ j. code_of (block_mnemonic j) (given true 0 0 false 0 0 0 0) ≡ Some (0xfe310f4d + mask_code j)) 16 k
     (refl, (refl, (refl, (refl, (refl, (refl, (refl, (refl, (refl, (refl, (refl, (refl, (refl, (refl, (refl, (refl, tt))))))))))))))))
     lt
 
@@ -304,8 +305,8 @@ asks_tail z n = ap (λ (w : ℕ). Some w) (omega arith)
 pub row_v21 : (i : V21) → Row (vector.V21 i)
 row_v21 (v21.Block i) =
     row_of (vector.V21 (v21.Block i)) _ _
-    (subst (λ (name : List ℕ). Reads (word name ∷ []) (block_stem i.k.value) (given true 0 0 false 0 0 0 0)) (append-nil (block_stem i.k.value))
-    (reads_none (block_stem i.k.value) (stem_block i.k.value i.k.in_range) no_suffix))
+    (subst (λ (name : List ℕ). Reads (word name ∷ []) (block_mnemonic i.k.value) (given true 0 0 false 0 0 0 0)) (append-nil (block_mnemonic i.k.value))
+    (reads_none (block_mnemonic i.k.value) (mnemonic_block i.k.value i.k.in_range) no_suffix))
     (asks_block i.k.value i.k.in_range)
 row_v21 (v21.Select i) = row_of (vector.V21 (v21.Select i)) (codes "vpsel") _
     (reads_three (codes "vpsel") _ _ _ _ _ _ _ _ _ _ _ _ _ refl no_suffix (a_vector i.d.value i.d.in_range) (a_vector i.n.value i.n.in_range)

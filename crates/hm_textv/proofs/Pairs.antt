@@ -35,20 +35,21 @@ use Rattle.hm_isa.specs.Code.{add_base, bitwise_base, carry_base, doubling_base,
 use Rattle.hm_isa.specs.Rules.{is_signed_by}
 use Rattle.hm_isa.specs.Standing.{◌↑◌}
 use Rattle.hm_textv.specs.Codes.{code_of}
-use Rattle.hm_textv.specs.Stems.{add_stem, bitwise_stem, carry_stem, doubling_stem, high_stem, integer, scalar_stem, scalar_suffix, signed, signed_stem}
-use Rattle.hm_textv.specs.Stems.{complex_sum_stem, complex_sum_suffix, vector_shift_stem}
+use Rattle.hm_textv.specs.Mnemonics.{add_mnemonic, bitwise_mnemonic, carry_mnemonic, doubling_mnemonic, high_mnemonic, integer, scalar_mnemonic, scalar_suffix}
+use Rattle.hm_textv.specs.Mnemonics.{signed, signed_mnemonic}
+use Rattle.hm_textv.specs.Mnemonics.{complex_sum_mnemonic, complex_sum_suffix, vector_shift_mnemonic}
 use Rattle.hm_text_rows.specs.Shapes.{either}
-use Rattle.hm_text_rows.proofs.Words.{is_stem}
+use Rattle.hm_text_rows.proofs.Words.{is_mnemonic}
 use Rattle.hm_textv.proofs.Endings.{Suffix, no_suffix, suffix_by_sign, suffix_integer, suffix_signed}
 use Rattle.hm_textv.proofs.Forms.{Row, a_register, a_vector, bare_three, given, reads_three, reads_three_constant, row_of}
 
 -- V1
-stem_add : (name : AddName) → is_stem (add_stem name) ≡ true
-stem_add add.Add = refl
-stem_add add.Sub = refl
-stem_add add.Mul = refl
+mnemonic_add : (name : AddName) → is_mnemonic (add_mnemonic name) ≡ true
+mnemonic_add add.Add = refl
+mnemonic_add add.Sub = refl
+mnemonic_add add.Mul = refl
 
-asks_add : (name : AddName) (z n d m : ℕ) → code_of (add_stem name) (given false 0 z true d n m 0) ≡ Some (add_base name + z ↑ 20 + n ↑ 17 + d ↑ 13 + m ↑ 1)
+asks_add : (name : AddName) (z n d m : ℕ) → code_of (add_mnemonic name) (given false 0 z true d n m 0) ≡ Some (add_base name + z ↑ 20 + n ↑ 17 + d ↑ 13 + m ↑ 1)
 unfolding code_of
 asks_add add.Add z n d m = refl
 asks_add add.Sub z n d m = refl
@@ -56,18 +57,19 @@ asks_add add.Mul z n d m = refl
 
 pub row_v1 : (i : V1) → Row (vector.V1 i)
 row_v1 i = row_of (vector.V1 i) _ _
-    (reads_three _ _ _ _ _ _ _ _ _ _ _ _ _ _ (stem_add i.name) (suffix_integer i.z.value i.z.in_range) (a_vector i.d.value i.d.in_range)
+    (reads_three _ _ _ _ _ _ _ _ _ _ _ _ _ _ (mnemonic_add i.name) (suffix_integer i.z.value i.z.in_range) (a_vector i.d.value i.d.in_range)
     (a_vector i.n.value i.n.in_range) (a_vector i.m.value i.m.in_range)) (asks_add i.name _ _ _ _)
 
 -- V2
-stem_bitwise : (name : BitwiseName) → is_stem (bitwise_stem name) ≡ true
-stem_bitwise bitwise.And = refl
-stem_bitwise bitwise.Bic = refl
-stem_bitwise bitwise.Orr = refl
-stem_bitwise bitwise.Orn = refl
-stem_bitwise bitwise.Eor = refl
+mnemonic_bitwise : (name : BitwiseName) → is_mnemonic (bitwise_mnemonic name) ≡ true
+mnemonic_bitwise bitwise.And = refl
+mnemonic_bitwise bitwise.Bic = refl
+mnemonic_bitwise bitwise.Orr = refl
+mnemonic_bitwise bitwise.Orn = refl
+mnemonic_bitwise bitwise.Eor = refl
 
-asks_bitwise : (name : BitwiseName) (n d m : ℕ) → code_of (bitwise_stem name) (given true 0 0 true d n m 0) ≡ Some (bitwise_base name + n ↑ 17 + d ↑ 13 + m ↑ 1)
+asks_bitwise : (name : BitwiseName) (n d m : ℕ)
+    → code_of (bitwise_mnemonic name) (given true 0 0 true d n m 0) ≡ Some (bitwise_base name + n ↑ 17 + d ↑ 13 + m ↑ 1)
 unfolding code_of
 asks_bitwise bitwise.And n d m = refl
 asks_bitwise bitwise.Bic n d m = refl
@@ -77,22 +79,22 @@ asks_bitwise bitwise.Eor n d m = refl
 
 pub row_v2 : (i : V2) → Row (vector.V2 i)
 row_v2 i = row_of (vector.V2 i) _ _
-    (bare_three _ _ _ _ _ (reads_three _ _ _ _ _ _ _ _ _ _ _ _ _ _ (stem_bitwise i.name) no_suffix (a_vector i.d.value i.d.in_range)
+    (bare_three _ _ _ _ _ (reads_three _ _ _ _ _ _ _ _ _ _ _ _ _ _ (mnemonic_bitwise i.name) no_suffix (a_vector i.d.value i.d.in_range)
     (a_vector i.n.value i.n.in_range) (a_vector i.m.value i.m.in_range))) (asks_bitwise i.name _ _ _)
 
 -- V3
-stem_signed : (name : SignedName) → is_stem (signed_stem name) ≡ true
-stem_signed signed.Max = refl
-stem_signed signed.Min = refl
-stem_signed signed.Abd = refl
-stem_signed signed.Hadd = refl
-stem_signed signed.Rhadd = refl
-stem_signed signed.Hsub = refl
-stem_signed signed.Qadd = refl
-stem_signed signed.Qsub = refl
+mnemonic_signed : (name : SignedName) → is_mnemonic (signed_mnemonic name) ≡ true
+mnemonic_signed signed.Max = refl
+mnemonic_signed signed.Min = refl
+mnemonic_signed signed.Abd = refl
+mnemonic_signed signed.Hadd = refl
+mnemonic_signed signed.Rhadd = refl
+mnemonic_signed signed.Hsub = refl
+mnemonic_signed signed.Qadd = refl
+mnemonic_signed signed.Qsub = refl
 
 asks_signed : (name : SignedName) (u z n d m : ℕ)
-    → code_of (signed_stem name) (given false u z true d n m 0) ≡ Some (signed_base name + u ↑ 28 + z ↑ 20 + n ↑ 17 + d ↑ 13 + m ↑ 1)
+    → code_of (signed_mnemonic name) (given false u z true d n m 0) ≡ Some (signed_base name + u ↑ 28 + z ↑ 20 + n ↑ 17 + d ↑ 13 + m ↑ 1)
 unfolding code_of
 asks_signed signed.Max u z n d m = refl
 asks_signed signed.Min u z n d m = refl
@@ -105,18 +107,18 @@ asks_signed signed.Qsub u z n d m = refl
 
 pub row_v3 : (i : V3) → Row (vector.V3 i)
 row_v3 i = row_of (vector.V3 i) _ _
-    (reads_three _ _ _ _ _ _ _ _ _ _ _ _ _ _ (stem_signed i.name) (suffix_by_sign i.u.value i.z.value i.u.in_range i.z.in_range)
+    (reads_three _ _ _ _ _ _ _ _ _ _ _ _ _ _ (mnemonic_signed i.name) (suffix_by_sign i.u.value i.z.value i.u.in_range i.z.in_range)
     (a_vector i.d.value i.d.in_range) (a_vector i.n.value i.n.in_range) (a_vector i.m.value i.m.in_range)) (asks_signed i.name _ _ _ _ _)
 
 -- V4
-stem_vector_shift : (name : VectorShiftName) → is_stem (vector_shift_stem name) ≡ true
-stem_vector_shift by_vector.Shl = refl
-stem_vector_shift by_vector.Qshl = refl
-stem_vector_shift by_vector.Rshl = refl
-stem_vector_shift by_vector.Qrshl = refl
+mnemonic_vector_shift : (name : VectorShiftName) → is_mnemonic (vector_shift_mnemonic name) ≡ true
+mnemonic_vector_shift by_vector.Shl = refl
+mnemonic_vector_shift by_vector.Qshl = refl
+mnemonic_vector_shift by_vector.Rshl = refl
+mnemonic_vector_shift by_vector.Qrshl = refl
 
 asks_vector_shift : (name : VectorShiftName) (u z n d m : ℕ)
-    → code_of (vector_shift_stem name) (given false u z true d m n 0) ≡ Some (vector_shift_base name + u ↑ 28 + z ↑ 20 + n ↑ 17 + d ↑ 13 + m ↑ 1)
+    → code_of (vector_shift_mnemonic name) (given false u z true d m n 0) ≡ Some (vector_shift_base name + u ↑ 28 + z ↑ 20 + n ↑ 17 + d ↑ 13 + m ↑ 1)
 unfolding code_of
 asks_vector_shift by_vector.Shl u z n d m = refl
 asks_vector_shift by_vector.Qshl u z n d m = refl
@@ -125,30 +127,30 @@ asks_vector_shift by_vector.Qrshl u z n d m = refl
 
 pub row_v4 : (i : V4) → Row (vector.V4 i)
 row_v4 i = row_of (vector.V4 i) _ _
-    (reads_three _ _ _ _ _ _ _ _ _ _ _ _ _ _ (stem_vector_shift i.name) (suffix_by_sign i.u.value i.z.value i.u.in_range i.z.in_range)
+    (reads_three _ _ _ _ _ _ _ _ _ _ _ _ _ _ (mnemonic_vector_shift i.name) (suffix_by_sign i.u.value i.z.value i.u.in_range i.z.in_range)
     (a_vector i.d.value i.d.in_range) (a_vector i.m.value i.m.in_range) (a_vector i.n.value i.n.in_range)) (asks_vector_shift i.name _ _ _ _ _)
 
 -- V5
-stem_doubling : (name : DoublingName) → is_stem (doubling_stem name) ≡ true
-stem_doubling doubling.Qdmulh = refl
-stem_doubling doubling.Qrdmulh = refl
+mnemonic_doubling : (name : DoublingName) → is_mnemonic (doubling_mnemonic name) ≡ true
+mnemonic_doubling doubling.Qdmulh = refl
+mnemonic_doubling doubling.Qrdmulh = refl
 
 asks_doubling : (name : DoublingName) (z n d m : ℕ)
-    → code_of (doubling_stem name) (given false 0 z true d n m 0) ≡ Some (doubling_base name + z ↑ 20 + n ↑ 17 + d ↑ 13 + m ↑ 1)
+    → code_of (doubling_mnemonic name) (given false 0 z true d n m 0) ≡ Some (doubling_base name + z ↑ 20 + n ↑ 17 + d ↑ 13 + m ↑ 1)
 unfolding code_of
 asks_doubling doubling.Qdmulh z n d m = refl
 asks_doubling doubling.Qrdmulh z n d m = refl
 
 pub row_v5 : (i : V5) → Row (vector.V5 i)
 row_v5 i = row_of (vector.V5 i) _ _
-    (reads_three _ _ _ _ _ _ _ _ _ _ _ _ _ _ (stem_doubling i.name) (suffix_signed i.z.value i.z.in_range) (a_vector i.d.value i.d.in_range)
+    (reads_three _ _ _ _ _ _ _ _ _ _ _ _ _ _ (mnemonic_doubling i.name) (suffix_signed i.z.value i.z.in_range) (a_vector i.d.value i.d.in_range)
     (a_vector i.n.value i.n.in_range) (a_vector i.m.value i.m.in_range)) (asks_doubling i.name _ _ _ _)
 
 -- V6
-stem_long : (t : ℕ) → t < 2 → is_stem (either t (codes "vmullb") (codes "vmullt")) ≡ true
-stem_long zero lt = refl
-stem_long (suc zero) lt = refl
-stem_long (suc (suc t)) lt = absurd (omega arith)
+mnemonic_long : (t : ℕ) → t < 2 → is_mnemonic (either t (codes "vmullb") (codes "vmullt")) ≡ true
+mnemonic_long zero lt = refl
+mnemonic_long (suc zero) lt = refl
+mnemonic_long (suc (suc t)) lt = absurd (omega arith)
 
 asks_long : (t u z n d m : ℕ) → t < 2
     → code_of (either t (codes "vmullb") (codes "vmullt")) (given false u z true d n m 0)
@@ -160,33 +162,34 @@ asks_long (suc (suc t)) u z n d m lt = absurd (omega arith)
 
 pub row_v6 : (i : V6) → Row (vector.V6 i)
 row_v6 i = row_of (vector.V6 i) _ _
-    (reads_three _ _ _ _ _ _ _ _ _ _ _ _ _ _ (stem_long i.t.value i.t.in_range) (suffix_by_sign i.u.value i.z.value i.u.in_range i.z.in_range)
+    (reads_three _ _ _ _ _ _ _ _ _ _ _ _ _ _ (mnemonic_long i.t.value i.t.in_range) (suffix_by_sign i.u.value i.z.value i.u.in_range i.z.in_range)
     (a_vector i.d.value i.d.in_range) (a_vector i.n.value i.n.in_range) (a_vector i.m.value i.m.in_range)) (asks_long i.t.value _ _ _ _ _ i.t.in_range)
 
 -- V7
-stem_high : (name : HighName) → is_stem (high_stem name) ≡ true
-stem_high high.Mulh = refl
-stem_high high.Rmulh = refl
+mnemonic_high : (name : HighName) → is_mnemonic (high_mnemonic name) ≡ true
+mnemonic_high high.Mulh = refl
+mnemonic_high high.Rmulh = refl
 
 asks_high : (name : HighName) (u z n d m : ℕ)
-    → code_of (high_stem name) (given false u z true d n m 0) ≡ Some (high_base name + u ↑ 28 + z ↑ 20 + n ↑ 17 + d ↑ 13 + m ↑ 1)
+    → code_of (high_mnemonic name) (given false u z true d n m 0) ≡ Some (high_base name + u ↑ 28 + z ↑ 20 + n ↑ 17 + d ↑ 13 + m ↑ 1)
 unfolding code_of
 asks_high high.Mulh u z n d m = refl
 asks_high high.Rmulh u z n d m = refl
 
 pub row_v7 : (i : V7) → Row (vector.V7 i)
 row_v7 i = row_of (vector.V7 i) _ _
-    (reads_three _ _ _ _ _ _ _ _ _ _ _ _ _ _ (stem_high i.name) (suffix_by_sign i.u.value i.z.value i.u.in_range i.z.in_range) (a_vector i.d.value i.d.in_range)
+    (reads_three _ _ _ _ _ _ _ _ _ _ _ _ _ _ (mnemonic_high i.name) (suffix_by_sign i.u.value i.z.value i.u.in_range i.z.in_range)
+    (a_vector i.d.value i.d.in_range)
     (a_vector i.n.value i.n.in_range) (a_vector i.m.value i.m.in_range)) (asks_high i.name _ _ _ _ _)
 
 -- V8
-stem_carry : (name : CarryName) → is_stem (carry_stem name) ≡ true
-stem_carry carry.Adc = refl
-stem_carry carry.Adci = refl
-stem_carry carry.Sbc = refl
-stem_carry carry.Sbci = refl
+mnemonic_carry : (name : CarryName) → is_mnemonic (carry_mnemonic name) ≡ true
+mnemonic_carry carry.Adc = refl
+mnemonic_carry carry.Adci = refl
+mnemonic_carry carry.Sbc = refl
+mnemonic_carry carry.Sbci = refl
 
-asks_carry : (name : CarryName) (n d m : ℕ) → code_of (carry_stem name) (given false 0 2 true d n m 0) ≡ Some (carry_base name + n ↑ 17 + d ↑ 13 + m ↑ 1)
+asks_carry : (name : CarryName) (n d m : ℕ) → code_of (carry_mnemonic name) (given false 0 2 true d n m 0) ≡ Some (carry_base name + n ↑ 17 + d ↑ 13 + m ↑ 1)
 unfolding code_of
 asks_carry carry.Adc n d m = refl
 asks_carry carry.Adci n d m = refl
@@ -195,13 +198,13 @@ asks_carry carry.Sbci n d m = refl
 
 pub row_v8 : (i : V8) → Row (vector.V8 i)
 row_v8 i = row_of (vector.V8 i) _ _
-    (reads_three _ _ _ _ _ _ _ _ _ _ _ _ _ _ (stem_carry i.name) (suffix_integer 2 (omega arith)) (a_vector i.d.value i.d.in_range)
+    (reads_three _ _ _ _ _ _ _ _ _ _ _ _ _ _ (mnemonic_carry i.name) (suffix_integer 2 (omega arith)) (a_vector i.d.value i.d.in_range)
     (a_vector i.n.value i.n.in_range) (a_vector i.m.value i.m.in_range)) (asks_carry i.name _ _ _)
 
 -- V9
-stem_turn : (name : ComplexSumName) → is_stem (complex_sum_stem name) ≡ true
-stem_turn turn.Cadd = refl
-stem_turn turn.Hcadd = refl
+mnemonic_turn : (name : ComplexSumName) → is_mnemonic (complex_sum_mnemonic name) ≡ true
+mnemonic_turn turn.Cadd = refl
+mnemonic_turn turn.Hcadd = refl
 
 suffix_turn : (name : ComplexSumName) (z : ℕ) → z < 3 → Suffix (complex_sum_suffix name z) false 0 z
 suffix_turn turn.Cadd z lt = suffix_integer z lt
@@ -213,7 +216,7 @@ angle_small (suc zero) lt = omega arith
 angle_small (suc (suc t)) lt = absurd (omega arith)
 
 asks_turn : (name : ComplexSumName) (t z n d m : ℕ) → t < 2
-    → code_of (complex_sum_stem name) (given false 0 z true d n m (cond (nat_eq t 0) 90 270))
+    → code_of (complex_sum_mnemonic name) (given false 0 z true d n m (cond (nat_eq t 0) 90 270))
     ≡ Some (complex_sum_base name + z ↑ 20 + t ↑ 12 + n ↑ 17 + d ↑ 13 + m ↑ 1)
 unfolding code_of
 asks_turn turn.Cadd zero z n d m lt = ap (λ (w : ℕ). Some w) (omega arith)
@@ -224,22 +227,22 @@ asks_turn name (suc (suc t)) z n d m lt = absurd (omega arith)
 
 pub row_v9 : (i : V9) → Row (vector.V9 i)
 row_v9 i = row_of (vector.V9 i) _ _
-    (reads_three_constant _ _ _ _ _ _ _ _ _ _ _ _ _ _ _ (stem_turn i.name) (suffix_turn i.name i.z.value i.z.in_range) (a_vector i.d.value i.d.in_range)
+    (reads_three_constant _ _ _ _ _ _ _ _ _ _ _ _ _ _ _ (mnemonic_turn i.name) (suffix_turn i.name i.z.value i.z.in_range) (a_vector i.d.value i.d.in_range)
     (a_vector i.n.value i.n.in_range) (a_vector i.m.value i.m.in_range) (angle_small i.t.value i.t.in_range)) (asks_turn i.name i.t.value _ _ _ _ i.t.in_range)
 
 -- V10
-stem_scalar : (name : ScalarName) → is_stem (scalar_stem name) ≡ true
-stem_scalar by_scalar.Add = refl
-stem_scalar by_scalar.Sub = refl
-stem_scalar by_scalar.Mul = refl
-stem_scalar by_scalar.Hadd = refl
-stem_scalar by_scalar.Hsub = refl
-stem_scalar by_scalar.Qadd = refl
-stem_scalar by_scalar.Qsub = refl
-stem_scalar by_scalar.Qdmulh = refl
-stem_scalar by_scalar.Qrdmulh = refl
-stem_scalar by_scalar.Mla = refl
-stem_scalar by_scalar.Mlas = refl
+mnemonic_scalar : (name : ScalarName) → is_mnemonic (scalar_mnemonic name) ≡ true
+mnemonic_scalar by_scalar.Add = refl
+mnemonic_scalar by_scalar.Sub = refl
+mnemonic_scalar by_scalar.Mul = refl
+mnemonic_scalar by_scalar.Hadd = refl
+mnemonic_scalar by_scalar.Hsub = refl
+mnemonic_scalar by_scalar.Qadd = refl
+mnemonic_scalar by_scalar.Qsub = refl
+mnemonic_scalar by_scalar.Qdmulh = refl
+mnemonic_scalar by_scalar.Qrdmulh = refl
+mnemonic_scalar by_scalar.Mla = refl
+mnemonic_scalar by_scalar.Mlas = refl
 
 -- the sign is 0 where the name says nothing of it
 suffix_scalar : (name : ScalarName) (u z : ℕ) → u < 2 → z < 3 → is_signed_by name u ≡ true → Suffix (scalar_suffix name u z) false u z
@@ -256,7 +259,7 @@ suffix_scalar by_scalar.Mla u z hu hz e = suffix_by_sign u z hu hz
 suffix_scalar by_scalar.Mlas u z hu hz e = suffix_by_sign u z hu hz
 
 asks_scalar : (name : ScalarName) (u z n d m : ℕ)
-    → code_of (scalar_stem name) (given false u z false d n m 0) ≡ Some (scalar_base name + u ↑ 28 + z ↑ 20 + n ↑ 17 + d ↑ 13 + m)
+    → code_of (scalar_mnemonic name) (given false u z false d n m 0) ≡ Some (scalar_base name + u ↑ 28 + z ↑ 20 + n ↑ 17 + d ↑ 13 + m)
 unfolding code_of
 asks_scalar by_scalar.Add u z n d m = refl
 asks_scalar by_scalar.Sub u z n d m = refl
@@ -272,5 +275,5 @@ asks_scalar by_scalar.Mlas u z n d m = refl
 
 pub row_v10 : (i : V10) → Row (vector.V10 i)
 row_v10 i = row_of (vector.V10 i) _ _
-    (reads_three _ _ _ _ _ _ _ _ _ _ _ _ _ _ (stem_scalar i.name) (suffix_scalar i.name i.u.value i.z.value i.u.in_range i.z.in_range i.signs)
+    (reads_three _ _ _ _ _ _ _ _ _ _ _ _ _ _ (mnemonic_scalar i.name) (suffix_scalar i.name i.u.value i.z.value i.u.in_range i.z.in_range i.signs)
     (a_vector i.d.value i.d.in_range) (a_vector i.n.value i.n.in_range) (a_register i.m.value i.m.in_range)) (asks_scalar i.name _ _ _ _ _)

@@ -15,8 +15,8 @@ use Rattle.hm_textv.specs.declared.operands.Operands.{Operands}
 use Rattle.hm_textv.specs.Codes.{access_code, code_of}
 use Rattle.hm_textv.specs.Rows.{turns}
 use Rattle.hm_text_rows.specs.Shapes.{either, r}
-use Rattle.hm_text_rows.proofs.Words.{at_below, below_holds, is_stem}
-use Rattle.hm_textv.specs.Stems.{access_stem, access_suffix, pair_stem, plain, quad_stem}
+use Rattle.hm_text_rows.proofs.Words.{at_below, below_holds, is_mnemonic}
+use Rattle.hm_textv.specs.Mnemonics.{access_mnemonic, access_suffix, pair_mnemonic, plain, quad_mnemonic}
 use Rattle.hm_textv.proofs.Endings.{Suffix, suffix_by_sign, suffix_plain}
 use Rattle.hm_textv.proofs.Forms.{Answers, Row, a_register, a_vector, answers_of, row_of}
 use Rattle.hm_textv.proofs.Addresses.{given_access, reads_at_offsets, reads_indexed, reads_pair, reads_quad}
@@ -28,10 +28,10 @@ no_more : (m n : ℕ) → nat_le m n ≡ true → m ≤ n
 no_more m n e = grind (arith, nat_tests)
 
 -- V24 to V27
-stem_access : (l y : ℕ) → l < 2 → y < 3 → is_stem (access_stem l y) ≡ true
-stem_access zero y hl hy = below_holds (λ k. is_stem (access_stem 0 k)) 3 y refl hy
-stem_access (suc zero) y hl hy = below_holds (λ k. is_stem (access_stem 1 k)) 3 y refl hy
-stem_access (suc (suc l)) y hl hy = absurd (omega arith)
+mnemonic_access : (l y : ℕ) → l < 2 → y < 3 → is_mnemonic (access_mnemonic l y) ≡ true
+mnemonic_access zero y hl hy = below_holds (λ k. is_mnemonic (access_mnemonic 0 k)) 3 y refl hy
+mnemonic_access (suc zero) y hl hy = below_holds (λ k. is_mnemonic (access_mnemonic 1 k)) 3 y refl hy
+mnemonic_access (suc (suc l)) y hl hy = absurd (omega arith)
 
 abbrev sign_in : ℕ → ℕ → ℕ
 sign_in l u = cond (nat_eq l 0) 0 u
@@ -56,7 +56,7 @@ suffix_signed_access : (l u z : ℕ) → l < 2 → u < 2 → z < 3 → sign_in l
 suffix_signed_access l u z hl hu hz e = subst (λ (x : ℕ). Suffix (access_suffix l u z) false x z) e (suffix_access l u z hl hu hz)
 
 abbrev Asks : ℕ → Operands → ℕ → Type 0
-Asks l o y = code_of (access_stem l y) o ≡ Some (access_code l y o)
+Asks l o y = code_of (access_mnemonic l y) o ≡ Some (access_code l y o)
 
 asks_access : (l y u z : ℕ) (b t : Bool) (p a w c e g h k : ℕ) → l < 2 → y < 3 → Asks l (given_access u z b t p a w c e g h k) y
 unfolding code_of
@@ -102,8 +102,8 @@ row_v24 i =
     let l = i.l.value in
     let z = i.z.value in
     let used = and_parts (nat_lt 0 (i.p.value + i.w.value)) (not (nat_eq i.n.value 15)) i.rule in
-    row_of (vector.V24 i) (access_stem l z) _
-    (reads_indexed _ _ _ _ _ _ _ _ _ _ _ _ (stem_access l z i.l.in_range i.z.in_range) (suffix_access l 1 z i.l.in_range (omega arith) i.z.in_range)
+    row_of (vector.V24 i) (access_mnemonic l z) _
+    (reads_indexed _ _ _ _ _ _ _ _ _ _ _ _ (mnemonic_access l z i.l.in_range i.z.in_range) (suffix_access l 1 z i.l.in_range (omega arith) i.z.in_range)
     i.d.in_range (a_register i.n.value i.n.in_range) (offset_small i.i.value z i.i.in_range i.z.in_range) i.p.in_range i.a.in_range i.w.in_range
     (less _ _ used.0))
     (asks_access l z (sign_in l 1) z false false _ _ _ _ _ _ _ _ i.l.in_range i.z.in_range
@@ -119,8 +119,8 @@ row_v25 i =
     let used = and_parts (nat_lt 0 (i.p.value + i.w.value)) (nat_lt y z) parts.0 in
     let small : y < 3 = let h = i.h.in_range in omega arith in
     let low : i.n.value < 16 = let h = i.n.in_range in omega arith in
-    row_of (vector.V25 i) (access_stem l y) _
-    (reads_indexed _ _ _ _ _ _ _ _ _ _ _ _ (stem_access l y i.l.in_range small)
+    row_of (vector.V25 i) (access_mnemonic l y) _
+    (reads_indexed _ _ _ _ _ _ _ _ _ _ _ _ (mnemonic_access l y i.l.in_range small)
     (suffix_signed_access l u z i.l.in_range i.u.in_range i.z.in_range (sign_is l u i.l.in_range parts.1)) i.d.in_range (a_register i.n.value low)
     (offset_small i.i.value y i.i.in_range small) i.p.in_range i.a.in_range i.w.in_range (less _ _ used.0))
     (asks_access l y u z false false _ _ _ _ _ _ _ _ i.l.in_range small ∙ ap (λ (w : ℕ). Some w) (widening l y z u _ _ _ _ _ i.i.value small (less _ _ used.1)))
@@ -133,8 +133,8 @@ row_v26 i =
     let u = i.u.value in
     let few : y < 1000 = let h = i.y.in_range in omega arith in
     let sign = sign_of_access l u i.d.value z y i.m.value i.l.in_range i.access in
-    row_of (vector.V26 i) (access_stem l y) _
-    (reads_at_offsets _ _ _ _ _ _ _ _ _ (stem_access l y i.l.in_range i.y.in_range) (suffix_signed_access l u z i.l.in_range i.u.in_range i.z.in_range sign)
+    row_of (vector.V26 i) (access_mnemonic l y) _
+    (reads_at_offsets _ _ _ _ _ _ _ _ _ (mnemonic_access l y i.l.in_range i.y.in_range) (suffix_signed_access l u z i.l.in_range i.u.in_range i.z.in_range sign)
     i.d.in_range i.n.in_range i.m.in_range i.o.in_range few)
     (asks_access l y u z true false _ _ _ _ _ _ _ _ i.l.in_range i.y.in_range
     ∙ ap (λ (w : ℕ). Some w) (scattered l y z u i.d.value i.n.value i.m.value i.o.value (cond (nat_eq i.o.value 0) 0 y)))
@@ -144,28 +144,28 @@ row_v27 i =
     let l = i.l.value in
     let used : 0 < 1 + i.w.value = omega arith in
     let small : 4 * i.i.value < 1000 = let h = i.i.in_range in omega arith in
-    row_of (vector.V27 i) (access_stem l 2) _
-    (reads_indexed _ _ _ _ _ _ _ 1 _ _ _ _ (stem_access l 2 i.l.in_range (omega arith)) (suffix_access l 1 2 i.l.in_range (omega arith) (omega arith))
+    row_of (vector.V27 i) (access_mnemonic l 2) _
+    (reads_indexed _ _ _ _ _ _ _ 1 _ _ _ _ (mnemonic_access l 2 i.l.in_range (omega arith)) (suffix_access l 1 2 i.l.in_range (omega arith) (omega arith))
     i.d.in_range (a_vector i.m.value i.m.in_range) small (omega arith) i.a.in_range i.w.in_range used)
     (asks_access l 2 (sign_in l 1) 2 false true _ _ _ _ _ _ _ _ i.l.in_range (omega arith)
     ∙ ap (λ (w : ℕ). Some w) (addressed l (sign_in l 1) _ _ _ _ i.i.value))
 
 -- V28
-stem_pair : (l p : ℕ) → l < 2 → p < 2 → is_stem (pair_stem l p) ≡ true
-stem_pair zero p hl hp = below_holds (λ k. is_stem (pair_stem 0 k)) 2 p refl hp
-stem_pair (suc zero) p hl hp = below_holds (λ k. is_stem (pair_stem 1 k)) 2 p refl hp
-stem_pair (suc (suc l)) p hl hp = absurd (omega arith)
+mnemonic_pair : (l p : ℕ) → l < 2 → p < 2 → is_mnemonic (pair_mnemonic l p) ≡ true
+mnemonic_pair zero p hl hp = below_holds (λ k. is_mnemonic (pair_mnemonic 0 k)) 2 p refl hp
+mnemonic_pair (suc zero) p hl hp = below_holds (λ k. is_mnemonic (pair_mnemonic 1 k)) 2 p refl hp
+mnemonic_pair (suc (suc l)) p hl hp = absurd (omega arith)
 
-stem_quad : (l p : ℕ) → l < 2 → p < 4 → is_stem (quad_stem l p) ≡ true
-stem_quad zero p hl hp = below_holds (λ k. is_stem (quad_stem 0 k)) 4 p refl hp
-stem_quad (suc zero) p hl hp = below_holds (λ k. is_stem (quad_stem 1 k)) 4 p refl hp
-stem_quad (suc (suc l)) p hl hp = absurd (omega arith)
+mnemonic_quad : (l p : ℕ) → l < 2 → p < 4 → is_mnemonic (quad_mnemonic l p) ≡ true
+mnemonic_quad zero p hl hp = below_holds (λ k. is_mnemonic (quad_mnemonic 0 k)) 4 p refl hp
+mnemonic_quad (suc zero) p hl hp = below_holds (λ k. is_mnemonic (quad_mnemonic 1 k)) 4 p refl hp
+mnemonic_quad (suc (suc l)) p hl hp = absurd (omega arith)
 
 abbrev turn_code : ℕ → ℕ → ℕ → ℕ → ℕ → ℕ → ℕ → ℕ
 turn_code f w l n d z p = 0xfc801e00 + w ↑ 21 + l ↑ 20 + n ↑ 16 + d ↑ 13 + z ↑ 7 + p ↑ 5 + f
 
 abbrev AsksPair : ℕ → ℕ → Type 0
-AsksPair l p = (z w a b n : ℕ) → code_of (pair_stem l p) (given_access 0 z false false 1 1 w a b n 0 0) ≡ Some (turn_code 0 w l n a z p)
+AsksPair l p = (z w a b n : ℕ) → code_of (pair_mnemonic l p) (given_access 0 z false false 1 1 w a b n 0 0) ≡ Some (turn_code 0 w l n a z p)
 
 asks_pair : (l p : ℕ) → l < 2 → p < 2 → AsksPair l p
 unfolding code_of
@@ -176,7 +176,7 @@ asks_pair (suc zero) p hl hp =
 asks_pair (suc (suc l)) p hl hp = absurd (omega arith)
 
 abbrev AsksQuad : ℕ → ℕ → Type 0
-AsksQuad l p = (z w a b c e n : ℕ) → code_of (quad_stem l p) (given_access 0 z true false 1 1 w a b c e n) ≡ Some (turn_code 1 w l n a z p)
+AsksQuad l p = (z w a b c e n : ℕ) → code_of (quad_mnemonic l p) (given_access 0 z true false 1 1 w a b c e n) ≡ Some (turn_code 1 w l n a z p)
 
 asks_quad : (l p : ℕ) → l < 2 → p < 4 → AsksQuad l p
 unfolding code_of
@@ -201,19 +201,19 @@ asks_quad (suc zero) p hl hp =
 asks_quad (suc (suc l)) p hl hp = absurd (omega arith)
 
 turn_answers : (f l p z d n w : ℕ) → f < 2 → l < 2 → p < 4 → z < 3 → n < 16 → w < 2 → is_interleaved n d p f ≡ true
-    → Answers (turns (either f (pair_stem l p) (quad_stem l p) ++ plain z) f d (r n) w) (turn_code f w l n d z p)
+    → Answers (turns (either f (pair_mnemonic l p) (quad_mnemonic l p) ++ plain z) f d (r n) w) (turn_code f w l n d z p)
 turn_answers zero l p z d n w hf hl hp hz hn hw e =
     let parts = and_parts (not (nat_eq n 15)) (nat_lt p 2 && nat_le d 6) e in
     let limits = and_parts (nat_lt p 2) (nat_le d 6) parts.1 in
     let few = less _ _ limits.0 in
     let two_fit : d < 7 = let h = no_more _ _ limits.1 in omega (arith, h) in
-    answers_of _ _ (pair_stem l p) _
-    (reads_pair _ _ _ _ _ _ (stem_pair l p hl few) (suffix_plain z (omega arith)) two_fit hn hw) (asks_pair l p hl few z w d (d + 1) n)
+    answers_of _ _ (pair_mnemonic l p) _
+    (reads_pair _ _ _ _ _ _ (mnemonic_pair l p hl few) (suffix_plain z (omega arith)) two_fit hn hw) (asks_pair l p hl few z w d (d + 1) n)
 turn_answers (suc zero) l p z d n w hf hl hp hz hn hw e =
     let parts = and_parts (not (nat_eq n 15)) (nat_le d 4) e in
     let four_fit : d < 5 = let h = no_more _ _ parts.1 in omega (arith, h) in
-    answers_of _ _ (quad_stem l p) _
-    (reads_quad _ _ _ _ _ _ (stem_quad l p hl hp) (suffix_plain z (omega arith)) four_fit hn hw) (asks_quad l p hl hp z w d (d + 1) (d + 2) (d + 3) n)
+    answers_of _ _ (quad_mnemonic l p) _
+    (reads_quad _ _ _ _ _ _ (mnemonic_quad l p hl hp) (suffix_plain z (omega arith)) four_fit hn hw) (asks_quad l p hl hp z w d (d + 1) (d + 2) (d + 3) n)
 turn_answers (suc (suc f)) l p z d n w hf hl hp hz hn hw e = absurd (omega arith)
 
 pub row_v28 : (i : V28) → Row (vector.V28 i)

@@ -1,4 +1,4 @@
--- Stems of mnemonics: the codes that their rows begin from, and what else they tell.
+-- Mnemonics: the codes that their rows begin from, and what else they tell.
 use Rattle.std.specs.Prelude.{ℕ, ◌+◌, List, codes, bytes_eq, Option, Some, None, if◌then◌else◌}
 use Rattle.hm_isa.specs.declared.vectors.AddName.TheVariants as add
 use Rattle.hm_isa.specs.declared.vectors.BitwiseName.TheVariants as bitwise
@@ -19,7 +19,7 @@ use Rattle.hm_isa.specs.Code.{add_base, bitwise_base, carry_base, constant_shift
 use Rattle.hm_isa.specs.Code.{one_base, reverse_base, scalar_base, signed_base, complex_sum_base, vector_shift_base}
 use Rattle.hm_text_rows.specs.Operands.{first}
 
--- V1 and V2: the base code of VADD, VSUB, VMUL, VAND, VBIC, VORR, VORN and VEOR, by the stem
+-- V1 and V2: the base code of VADD, VSUB, VMUL, VAND, VBIC, VORR, VORN and VEOR, by the mnemonic
 -- (DDI0553, "VADD (vector)", "VSUB (vector)", "VMUL (vector)", "VAND", "VBIC (register)", "VORR", "VORN" and "VEOR")
 abbrev pub plain_base : List ℕ → Option ℕ
 plain_base s =
@@ -33,7 +33,7 @@ plain_base s =
     else if bytes_eq s (codes "veor") then Some (bitwise_base bitwise.Eor)
     else None
 
--- V3: the base code of VMAX, VMIN, VABD, VHADD, VRHADD, VHSUB, VQADD and VQSUB, by the stem (DDI0553, the vector form of each)
+-- V3: the base code of VMAX, VMIN, VABD, VHADD, VRHADD, VHSUB, VQADD and VQSUB, by the mnemonic (DDI0553, the vector form of each)
 abbrev pub signed_base_in : List ℕ → Option ℕ
 signed_base_in s =
     if bytes_eq s (codes "vmax") then Some (signed_base signed.Max)
@@ -46,11 +46,11 @@ signed_base_in s =
     else if bytes_eq s (codes "vqsub") then Some (signed_base signed.Qsub)
     else None
 
--- V1 to V3: the base code of what has `qd,qn,qm`, VADD to VEOR and VMAX to VQSUB, by the stem (DDI0553, the section of each, as "VADD (vector)")
+-- V1 to V3: the base code of what has `qd,qn,qm`, VADD to VEOR and VMAX to VQSUB, by the mnemonic (DDI0553, the section of each, as "VADD (vector)")
 abbrev pub three_base : List ℕ → Option ℕ
 three_base s = first (plain_base s) (signed_base_in s)
 
--- V5 to V7 and V21: the base code of VQDMULH, VQRDMULH, VMULH, VRMULH, VMULLB, VMULLT and VPSEL, `qd,qn,qm`, by the stem
+-- V5 to V7 and V21: the base code of VQDMULH, VQRDMULH, VMULH, VRMULH, VMULLB, VMULLT and VPSEL, `qd,qn,qm`, by the mnemonic
 -- (DDI0553, "VQDMULH, VQRDMULH (vector)", "VMULL (integer)", "VMULH, VRMULH" and "VPSEL")
 abbrev pub product_base : List ℕ → Option ℕ
 product_base s =
@@ -63,7 +63,7 @@ product_base s =
     else if bytes_eq s (codes "vpsel") then Some 0xfe310f01
     else None
 
--- V8: the base code of VADC, VADCI, VSBC and VSBCI, by the stem (DDI0553, "VADC" and "VSBC")
+-- V8: the base code of VADC, VADCI, VSBC and VSBCI, by the mnemonic (DDI0553, "VADC" and "VSBC")
 abbrev pub carry_base_in : List ℕ → Option ℕ
 carry_base_in s =
     if bytes_eq s (codes "vadc") then Some (carry_base carry.Adc)
@@ -72,14 +72,14 @@ carry_base_in s =
     else if bytes_eq s (codes "vsbci") then Some (carry_base carry.Sbci)
     else None
 
--- V9: the base code of VCADD and VHCADD, by the stem (DDI0553, "VCADD" and "VHCADD")
+-- V9: the base code of VCADD and VHCADD, by the mnemonic (DDI0553, "VCADD" and "VHCADD")
 abbrev pub complex_sum_base_in : List ℕ → Option ℕ
 complex_sum_base_in s =
     if bytes_eq s (codes "vcadd") then Some (complex_sum_base turn.Cadd)
     else if bytes_eq s (codes "vhcadd") then Some (complex_sum_base turn.Hcadd)
     else None
 
--- V4: the base code of VSHL, VQSHL, VRSHL and VQRSHL by a vector, by the stem (DDI0553, "VSHL", "VQSHL", "VRSHL" and "VQRSHL")
+-- V4: the base code of VSHL, VQSHL, VRSHL and VQRSHL by a vector, by the mnemonic (DDI0553, "VSHL", "VQSHL", "VRSHL" and "VQRSHL")
 abbrev pub vector_shift_base_in : List ℕ → Option ℕ
 vector_shift_base_in s =
     if bytes_eq s (codes "vshl") then Some (vector_shift_base by_vector.Shl)
@@ -88,7 +88,7 @@ vector_shift_base_in s =
     else if bytes_eq s (codes "vqrshl") then Some (vector_shift_base by_vector.Qrshl)
     else None
 
--- V10: the base code of VADD, VSUB, VMUL, VHADD, VHSUB, VQADD, VQSUB, VQDMULH, VQRDMULH, VMLA and VMLAS, by the stem
+-- V10: the base code of VADD, VSUB, VMUL, VHADD, VHSUB, VQADD, VQSUB, VQDMULH, VQRDMULH, VMLA and VMLAS, by the mnemonic
 -- (DDI0553, the form of each with a vector and a scalar)
 abbrev pub scalar_base_in : List ℕ → Option ℕ
 scalar_base_in s =
@@ -105,7 +105,7 @@ scalar_base_in s =
     else if bytes_eq s (codes "vmlas") then Some (scalar_base by_scalar.Mlas)
     else None
 
--- V11: the base code of the shifts to the right, VSHR, VRSHR and VSRI, by the stem (DDI0553, "VSHR", "VRSHR" and "VSRI")
+-- V11: the base code of the shifts to the right, VSHR, VRSHR and VSRI, by the mnemonic (DDI0553, "VSHR", "VRSHR" and "VSRI")
 abbrev pub right_base : List ℕ → Option ℕ
 right_base s =
     if bytes_eq s (codes "vshr") then Some (constant_shift_base by_constant.Shr)
@@ -113,7 +113,7 @@ right_base s =
     else if bytes_eq s (codes "vsri") then Some (constant_shift_base by_constant.Sri)
     else None
 
--- V11: the base code of the shifts to the left, VQSHL, VQSHLU, VSHL and VSLI, by the stem (DDI0553, "VQSHL, VQSHLU", "VSHL" and "VSLI")
+-- V11: the base code of the shifts to the left, VQSHL, VQSHLU, VSHL and VSLI, by the mnemonic (DDI0553, "VQSHL, VQSHLU", "VSHL" and "VSLI")
 abbrev pub left_base : List ℕ → Option ℕ
 left_base s =
     if bytes_eq s (codes "vqshl") then Some (constant_shift_base by_constant.Qshl)
@@ -122,7 +122,7 @@ left_base s =
     else if bytes_eq s (codes "vsli") then Some (constant_shift_base by_constant.Sli)
     else None
 
--- V13 and V14: the base code of VCLS, VCLZ, VABS, VNEG, VQABS, VQNEG, VREV64, VREV32 and VREV16, `qd,qm`, by the stem
+-- V13 and V14: the base code of VCLS, VCLZ, VABS, VNEG, VQABS, VQNEG, VREV64, VREV32 and VREV16, `qd,qm`, by the mnemonic
 -- (DDI0553, "VCLS", "VCLZ", "VABS", "VNEG", "VQABS", "VQNEG", "VREV64", "VREV32" and "VREV16")
 abbrev pub single_base : List ℕ → Option ℕ
 single_base s =
@@ -137,7 +137,8 @@ single_base s =
     else if bytes_eq s (codes "vrev16") then Some (reverse_base reverse_.Rev16)
     else None
 
--- V16: the base code of VMOVNB, VMOVNT, VQMOVUNB, VQMOVUNT, VQMOVNB and VQMOVNT, by the stem, which tells the part (DDI0553, "VMOVN", "VQMOVN" and "VQMOVUN")
+-- V16: the base code of VMOVNB, VMOVNT, VQMOVUNB, VQMOVUNT, VQMOVNB and VQMOVNT, by the mnemonic, which tells the part (DDI0553, "VMOVN", "VQMOVN"
+-- and "VQMOVUN")
 abbrev pub narrow_base_in : List ℕ → Option ℕ
 narrow_base_in s =
     if bytes_eq s (codes "vmovnb") then Some (narrow_base narrow_.Plain)
@@ -148,28 +149,28 @@ narrow_base_in s =
     else if bytes_eq s (codes "vqmovnt") then Some (narrow_base narrow_.Signed + 0x1000)
     else None
 
--- V19: the base code of VIDUP and VDDUP, which have one register, by the stem (DDI0553, "VIDUP, VIWDUP" and "VDDUP, VDWDUP")
+-- V19: the base code of VIDUP and VDDUP, which have one register, by the mnemonic (DDI0553, "VIDUP, VIWDUP" and "VDDUP, VDWDUP")
 abbrev pub offsets_base_in : List ℕ → Option ℕ
 offsets_base_in s =
     if bytes_eq s (codes "vidup") then Some (offsets_base offsets.Up)
     else if bytes_eq s (codes "vddup") then Some (offsets_base offsets.Down)
     else None
 
--- V19: the base code of VIWDUP and VDWDUP, which go round, by the stem (DDI0553, "VIDUP, VIWDUP" and "VDDUP, VDWDUP")
+-- V19: the base code of VIWDUP and VDWDUP, which go round, by the mnemonic (DDI0553, "VIDUP, VIWDUP" and "VDDUP, VDWDUP")
 abbrev pub wrapped_base_in : List ℕ → Option ℕ
 wrapped_base_in s =
     if bytes_eq s (codes "viwdup") then Some (offsets_base offsets.Up)
     else if bytes_eq s (codes "vdwdup") then Some (offsets_base offsets.Down)
     else None
 
--- V23: the base code of VMAXV and VMINV, by the stem (DDI0553, "VMAXV, VMAXAV" and "VMINV, VMINAV")
+-- V23: the base code of VMAXV and VMINV, by the mnemonic (DDI0553, "VMAXV, VMAXAV" and "VMINV, VMINAV")
 abbrev pub extreme_base_in : List ℕ → Option ℕ
 extreme_base_in s =
     if bytes_eq s (codes "vmaxv") then Some (extreme_base extreme.Max)
     else if bytes_eq s (codes "vminv") then Some (extreme_base extreme.Min)
     else None
 
--- V12: the part of VSHLLB, VSHLLT, VMOVLB and VMOVLT, by the stem (DDI0553, "VSHLL" and "VMOVL")
+-- V12: the part of VSHLLB, VSHLLT, VMOVLB and VMOVLT, by the mnemonic (DDI0553, "VSHLL" and "VMOVL")
 abbrev pub long_in : List ℕ → Option ℕ
 long_in s =
     if bytes_eq s (codes "vshllb") then Some 0
@@ -178,7 +179,7 @@ long_in s =
     else if bytes_eq s (codes "vmovlt") then Some 1
     else None
 
--- V15: the stem of VMOV, VMVN, VORR or VBIC: 1 for the second of two operations, and 2 where it is merged
+-- V15: the mnemonic of VMOV, VMVN, VORR or VBIC: 1 for the second of two operations, and 2 where it is merged
 -- (DDI0553, "VMOV (immediate)", "VMVN (immediate)", "VORR (immediate)" and "VBIC (immediate)")
 abbrev pub constant_in : List ℕ → Option ℕ
 constant_in s =
@@ -188,7 +189,7 @@ constant_in s =
     else if bytes_eq s (codes "vbic") then Some 3
     else None
 
--- V20: the mask of VCMP, and of VPT whose block is of at most three, by the stem (DDI0553, "VCMP" and "VPT")
+-- V20: the mask of VCMP, and of VPT whose block is of at most three, by the mnemonic (DDI0553, "VCMP" and "VPT")
 abbrev pub short_compare_in : List ℕ → Option ℕ
 short_compare_in s =
     if bytes_eq s (codes "vcmp") then Some 0
@@ -201,7 +202,7 @@ short_compare_in s =
     else if bytes_eq s (codes "vptet") then Some 14
     else None
 
--- V20: the mask of VPT whose block is of four, by the stem (DDI0553, "VPT")
+-- V20: the mask of VPT whose block is of four, by the mnemonic (DDI0553, "VPT")
 abbrev pub long_compare_in : List ℕ → Option ℕ
 long_compare_in s =
     if bytes_eq s (codes "vptttt") then Some 1
@@ -214,11 +215,11 @@ long_compare_in s =
     else if bytes_eq s (codes "vptete") then Some 15
     else None
 
--- V20: the mask of VCMP and VPT, by the stem (DDI0553, "VCMP" and "VPT")
+-- V20: the mask of VCMP and VPT, by the mnemonic (DDI0553, "VCMP" and "VPT")
 abbrev pub compare_in : List ℕ → Option ℕ
 compare_in s = first (short_compare_in s) (long_compare_in s)
 
--- V21: the mask of VPNOT, and of VPST whose block is of at most three, by the stem (DDI0553, "VPST" and "VPNOT")
+-- V21: the mask of VPNOT, and of VPST whose block is of at most three, by the mnemonic (DDI0553, "VPST" and "VPNOT")
 abbrev pub short_block_in : List ℕ → Option ℕ
 short_block_in s =
     if bytes_eq s (codes "vpnot") then Some 0
@@ -231,7 +232,7 @@ short_block_in s =
     else if bytes_eq s (codes "vpstet") then Some 14
     else None
 
--- V21: the mask of VPST whose block is of four, by the stem (DDI0553, "VPST")
+-- V21: the mask of VPST whose block is of four, by the mnemonic (DDI0553, "VPST")
 abbrev pub long_block_in : List ℕ → Option ℕ
 long_block_in s =
     if bytes_eq s (codes "vpstttt") then Some 1
@@ -244,18 +245,18 @@ long_block_in s =
     else if bytes_eq s (codes "vpstete") then Some 15
     else None
 
--- V21: the mask of VPNOT and VPST, by the stem (DDI0553, "VPST" and "VPNOT")
+-- V21: the mask of VPNOT and VPST, by the mnemonic (DDI0553, "VPST" and "VPNOT")
 abbrev pub block_in : List ℕ → Option ℕ
 block_in s = first (short_block_in s) (long_block_in s)
 
--- V22: whether VADDV goes on, as VADDVA does, by the stem (DDI0553, "VADDV")
+-- V22: whether VADDV goes on, as VADDVA does, by the mnemonic (DDI0553, "VADDV")
 abbrev pub sum_in : List ℕ → Option ℕ
 sum_in s =
     if bytes_eq s (codes "vaddv") then Some 0
     else if bytes_eq s (codes "vaddva") then Some 1
     else None
 
--- V22: whether VMLADAV and VMLAV go on, as VMLADAVA and VMLAVA do, by the stem (DDI0553, "VMLADAV")
+-- V22: whether VMLADAV and VMLAV go on, as VMLADAVA and VMLAVA do, by the mnemonic (DDI0553, "VMLADAV")
 abbrev pub dot_in : List ℕ → Option ℕ
 dot_in s =
     if bytes_eq s (codes "vmladav") then Some 0
@@ -264,21 +265,21 @@ dot_in s =
     else if bytes_eq s (codes "vmlava") then Some 1
     else None
 
--- V22: whether VADDLV goes on, as VADDLVA does, by the stem (DDI0553, "VADDLV")
+-- V22: whether VADDLV goes on, as VADDLVA does, by the mnemonic (DDI0553, "VADDLV")
 abbrev pub long_sum_in : List ℕ → Option ℕ
 long_sum_in s =
     if bytes_eq s (codes "vaddlv") then Some 0
     else if bytes_eq s (codes "vaddlva") then Some 1
     else None
 
--- V22: whether VMLALDAV goes on, as VMLALDAVA does, by the stem (DDI0553, "VMLALDAV")
+-- V22: whether VMLALDAV goes on, as VMLALDAVA does, by the mnemonic (DDI0553, "VMLALDAV")
 abbrev pub long_dot_in : List ℕ → Option ℕ
 long_dot_in s =
     if bytes_eq s (codes "vmlaldav") then Some 0
     else if bytes_eq s (codes "vmlaldava") then Some 1
     else None
 
--- V24 to V27: the size in memory of the elements of VSTRB, VSTRH and VSTRW, by the stem
+-- V24 to V27: the size in memory of the elements of VSTRB, VSTRH and VSTRW, by the mnemonic
 -- (DDI0553, "VSTRB, VSTRH, VSTRW" and "VSTRB, VSTRH, VSTRW, VSTRD (vector)")
 abbrev pub store_in : List ℕ → Option ℕ
 store_in s =
@@ -287,7 +288,7 @@ store_in s =
     else if bytes_eq s (codes "vstrw") then Some 2
     else None
 
--- V24 to V27: the size in memory of the elements of VLDRB, VLDRH and VLDRW, by the stem
+-- V24 to V27: the size in memory of the elements of VLDRB, VLDRH and VLDRW, by the mnemonic
 -- (DDI0553, "VLDRB, VLDRH, VLDRW" and "VLDRB, VLDRH, VLDRW, VLDRD (vector)")
 abbrev pub load_in : List ℕ → Option ℕ
 load_in s =
@@ -296,7 +297,7 @@ load_in s =
     else if bytes_eq s (codes "vldrw") then Some 2
     else None
 
--- V28: the base code of VLD20, VLD21, VST20 and VST21, of two registers, by the stem (DDI0553, "VLD2" and "VST2")
+-- V28: the base code of VLD20, VLD21, VST20 and VST21, of two registers, by the mnemonic (DDI0553, "VLD2" and "VST2")
 abbrev pub pair_base : List ℕ → Option ℕ
 pair_base s =
     if bytes_eq s (codes "vst20") then Some 0xfc801e00
@@ -305,7 +306,7 @@ pair_base s =
     else if bytes_eq s (codes "vld21") then Some 0xfc901e20
     else None
 
--- V28: the base code of VLD40 to VLD43 and VST40 to VST43, of four registers, by the stem (DDI0553, "VLD4" and "VST4")
+-- V28: the base code of VLD40 to VLD43 and VST40 to VST43, of four registers, by the mnemonic (DDI0553, "VLD4" and "VST4")
 abbrev pub quad_base : List ℕ → Option ℕ
 quad_base s =
     if bytes_eq s (codes "vst40") then Some 0xfc801e01

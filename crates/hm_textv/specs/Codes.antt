@@ -38,8 +38,8 @@ bits_in z = if z == 0 then 8 else if z == 1 then 16 else 32
 abbrev pub element_in : ℕ → Element
 element_in z = if z == 0 then element.Bytes else if z == 1 then element.Halves else element.Words
 
--- ROWS, by their stems
--- V1 to V3, V5 to V7 and VPSEL of V21: the code of what has three vectors, by the stem (DDI0553, the section of each, as "VADD (vector)")
+-- ROWS, by their mnemonics
+-- V1 to V3, V5 to V7 and VPSEL of V21: the code of what has three vectors, by the mnemonic (DDI0553, the section of each, as "VADD (vector)")
 abbrev pub code_three : List ℕ → Operands → Option ℕ
 code_three s o =
     if o.is_vector then option_map (λ b. of_vectors b o.sign o.size o.second o.first o.third) (first (three_base s) (product_base s)) else None
@@ -165,7 +165,7 @@ code_long_dot s o =
 abbrev pub code_extreme : List ℕ → Operands → Option ℕ
 code_extreme s o = option_map (λ b. of_one (b + o.first ↑ 12) o.sign o.size 0 o.second) (extreme_base_in s)
 
--- V17, V18 and V21: the code of VSHLC, VDUP and VCTP, by the stem (DDI0553, "VSHLC", "VDUP" and "VCTP")
+-- V17, V18 and V21: the code of VSHLC, VDUP and VCTP, by the mnemonic (DDI0553, "VSHLC", "VDUP" and "VCTP")
 abbrev pub code_alone : List ℕ → Operands → Option ℕ
 code_alone s o =
     if bytes_eq s (codes "vshlc") then Some (of_core (0xeea00fc0 + (o.third % 32) ↑ 16) 0 0 0 o.first o.second)
@@ -218,36 +218,36 @@ abbrev pub code_quad : List ℕ → Operands → Option ℕ
 code_quad s o = option_map (λ b. of_access (b + o.back ↑ 21) 0 o.fifth o.first o.size 0) (quad_base s)
 
 -- ALL ROWS
--- the code of rows V1 to V10 and of VPSEL, by the stem
+-- the code of rows V1 to V10 and of VPSEL, by the mnemonic
 abbrev pub code_of_pair : List ℕ → Operands → Option ℕ
 code_of_pair s o =
     first (code_three s o) (first (code_vector_shift s o) (first (code_carry s o) (first (code_turn s o) (code_scalar s o))))
 
--- the code of rows V11 to V16, and of VMOV of a vector, by the stem
+-- the code of rows V11 to V16, and of VMOV of a vector, by the mnemonic
 abbrev pub code_of_one : List ℕ → Operands → Option ℕ
 code_of_one s o =
     first (code_right s o) (first (code_left s o) (first (code_long s o) (first (code_single s o) (first (code_constant s o) (code_narrow s o)))))
 
--- the code of rows V22 and V23, by the stem
+-- the code of rows V22 and V23, by the mnemonic
 abbrev pub code_of_sum : List ℕ → Operands → Option ℕ
 code_of_sum s o =
     first (code_sum s o) (first (code_dot s o) (first (code_long_sum s o) (first (code_long_dot s o) (code_extreme s o))))
 
--- the code of rows V17 to V21 but for VPSEL, by the stem
+-- the code of rows V17 to V21 but for VPSEL, by the mnemonic
 abbrev pub code_of_other : List ℕ → Operands → Option ℕ
 code_of_other s o =
     first (code_offsets s o) (first (code_wrapped s o) (first (code_compare s o) (first (code_block s) (code_alone s o))))
 
--- the code of rows V24 to V28, by the stem
+-- the code of rows V24 to V28, by the mnemonic
 abbrev pub code_of_memory : List ℕ → Operands → Option ℕ
 code_of_memory s o = first (code_store s o) (first (code_load s o) (first (code_pair s o) (code_quad s o)))
 
--- the code of a stem and its operands; None where no row fits
+-- the code of a mnemonic and its operands; None where no row fits
 unfoldable pub code_of : List ℕ → Operands → Option ℕ
 code_of s o =
     first (code_of_pair s o) (first (code_of_one s o) (first (code_of_sum s o) (first (code_of_other s o) (code_of_memory s o))))
 
--- the code of a mnemonic, cut into its stem and what begins at the point, and of the tokens behind it
+-- the code of a first word, cut into its mnemonic and what begins at the point, and of the tokens behind it
 abbrev pub code_cut : List ℕ × List ℕ → List Tok → Option ℕ
 code_cut parts ts = code_of parts.0 (read_operands parts.1 ts)
 

@@ -34,7 +34,7 @@ value (mark c) = 0
 unfoldable pub sign_of : List ℕ → ℕ
 sign_of suffix = if get_or suffix 1 0 == 117 then 1 else 0
 
--- what stands behind a stem, as numbers: the sign and the size of the elements, the operands, and how the address is written
+-- what stands behind a mnemonic, as numbers: the sign and the size of the elements, the operands, and how the address is written
 abbrev pub read_operands : List ℕ → List Tok → Operands
 read_operands suffix ts = record {
   is_bare = length suffix == 0;

@@ -25,10 +25,13 @@ use Rattle.hm_isa.specs.declared.vectors.ConstantShiftName.TheVariants as by_con
 use Rattle.hm_tokens.specs.Lines.{IsLineOf}
 use Rattle.hm_tokens.specs.Tokens.{Tok, word, close_brace, close_bracket, comma, open_brace, open_bracket}
 use Rattle.hm_text_rows.specs.Shapes.{and_constant, back, constant, either, four, indexed, inside, or_zero, q, r, three, two}
-use Rattle.hm_textv.specs.Stems.{access_stem, access_suffix, add_stem, bitwise_stem, block_letters, by_sign, carry_stem, compare_condition, compare_suffix}
-use Rattle.hm_textv.specs.Stems.{constant_shift_stem, constant_shift_suffix, doubling_stem, extreme_stem, high_stem, integer, narrow_stem, narrow_suffix}
-use Rattle.hm_textv.specs.Stems.{offsets_stem, one_stem, one_suffix, pair_stem, plain, quad_stem, reverse_stem, scalar_stem, scalar_suffix, signed, signed_stem}
-use Rattle.hm_textv.specs.Stems.{size_number, complex_sum_stem, complex_sum_suffix, unsigned, vector_shift_stem, wrapped_stem}
+use Rattle.hm_textv.specs.Mnemonics.{access_mnemonic, access_suffix, add_mnemonic, bitwise_mnemonic, block_letters, by_sign, carry_mnemonic, compare_condition}
+use Rattle.hm_textv.specs.Mnemonics.{compare_suffix}
+use Rattle.hm_textv.specs.Mnemonics.{constant_shift_mnemonic, constant_shift_suffix, doubling_mnemonic, extreme_mnemonic, high_mnemonic, integer}
+use Rattle.hm_textv.specs.Mnemonics.{narrow_mnemonic, narrow_suffix}
+use Rattle.hm_textv.specs.Mnemonics.{offsets_mnemonic, one_mnemonic, one_suffix, pair_mnemonic, plain, quad_mnemonic, reverse_mnemonic, scalar_mnemonic}
+use Rattle.hm_textv.specs.Mnemonics.{scalar_suffix, signed, signed_mnemonic}
+use Rattle.hm_textv.specs.Mnemonics.{size_number, complex_sum_mnemonic, complex_sum_suffix, unsigned, vector_shift_mnemonic, wrapped_mnemonic}
 
 -- ROWS
 -- V11: the size of elements that the highest bit of the field x tells (DDI0553, "VSHR", "VRSHR", "VQSHL, VQSHLU", "VSHL", "VSRI" and "VSLI")
@@ -46,7 +49,7 @@ shift_in name x = x - 2 ^ (3 + size_in x)
 -- V11: the tokens of a shift by a constant, VSHR, VRSHR, VQSHL, VQSHLU, VSHL, VSRI and VSLI
 -- (DDI0553, "VSHR", "VRSHR", "VQSHL, VQSHLU", "VSHL", "VSRI" and "VSLI")
 abbrev pub shift_tokens : ShiftRow → List Tok
-shift_tokens i = and_constant (two (constant_shift_stem i.name ++ constant_shift_suffix i.name i.u.value (size_in i.x.value)) (q i.d.value) (q i.m.value))
+shift_tokens i = and_constant (two (constant_shift_mnemonic i.name ++ constant_shift_suffix i.name i.u.value (size_in i.x.value)) (q i.d.value) (q i.m.value))
     (shift_in i.name i.x.value)
 
 -- V12: the tokens of VSHLLB or VSHLLT by k; a shift by 0 is written as a move, VMOVLB or VMOVLT (DDI0553, "VSHLL" and "VMOVL")
@@ -66,7 +69,7 @@ long_tokens (v12.Full i) = and_constant (two (either i.t.value (codes "vshllb") 
 -- V13: the tokens of VCLS, VCLZ, VABS, VNEG, VQABS and VQNEG, and of VMVN of a vector
 -- (DDI0553, "VCLS", "VCLZ", "VABS", "VNEG", "VQABS", "VQNEG" and "VMVN (register)")
 abbrev pub one_tokens : OneRow → List Tok
-one_tokens (v13.Elements i) = two (one_stem i.name ++ one_suffix i.name i.z.value) (q i.d.value) (q i.m.value)
+one_tokens (v13.Elements i) = two (one_mnemonic i.name ++ one_suffix i.name i.z.value) (q i.d.value) (q i.m.value)
 one_tokens (v13.Not i) = two (codes "vmvn") (q i.d.value) (q i.m.value)
 
 -- V15: VMOV, or VMVN where op is 1 (DDI0553, "VMOV (immediate)" and "VMVN (immediate)")
@@ -113,9 +116,9 @@ constant_tokens i = get_or (constant_forms i.op.value i.d.value (128 * i.i.value
 
 -- V19: the tokens of VIDUP, VDDUP, VIWDUP and VDWDUP (DDI0553, "VIDUP, VIWDUP" and "VDDUP, VDWDUP")
 abbrev pub offsets_tokens : OffsetsRow → List Tok
-offsets_tokens (v19.Free i) = and_constant (two (offsets_stem i.name ++ unsigned i.z.value) (q i.d.value) (r (2 * i.n.value))) (2 ^ i.k.value)
+offsets_tokens (v19.Free i) = and_constant (two (offsets_mnemonic i.name ++ unsigned i.z.value) (q i.d.value) (r (2 * i.n.value))) (2 ^ i.k.value)
 offsets_tokens (v19.Wrapped i) =
-    and_constant (three (wrapped_stem i.name ++ unsigned i.z.value) (q i.d.value) (r (2 * i.n.value)) (r (2 * i.r.value + 1))) (2 ^ i.k.value)
+    and_constant (three (wrapped_mnemonic i.name ++ unsigned i.z.value) (q i.d.value) (r (2 * i.n.value)) (r (2 * i.r.value + 1))) (2 ^ i.k.value)
 
 -- V20: the mnemonic: VCMP, or VPT and the letters of its block (DDI0553, "VCMP" and "VPT")
 abbrev pub compare_name : ℕ → ℕ → ℕ → List ℕ
@@ -172,43 +175,44 @@ turns name f d base w = word name ∷ (registers f d ++ comma ∷ open_bracket �
 
 -- the tokens of each row as it is printed
 abbrev pub tokens_of : Vector → List Tok
-tokens_of (V1 i) = three (add_stem i.name ++ integer i.z.value) (q i.d.value) (q i.n.value) (q i.m.value)
-tokens_of (V2 i) = three (bitwise_stem i.name) (q i.d.value) (q i.n.value) (q i.m.value)
-tokens_of (V3 i) = three (signed_stem i.name ++ by_sign i.u.value i.z.value) (q i.d.value) (q i.n.value) (q i.m.value)
-tokens_of (V4 i) = three (vector_shift_stem i.name ++ by_sign i.u.value i.z.value) (q i.d.value) (q i.m.value) (q i.n.value)
-tokens_of (V5 i) = three (doubling_stem i.name ++ signed i.z.value) (q i.d.value) (q i.n.value) (q i.m.value)
+tokens_of (V1 i) = three (add_mnemonic i.name ++ integer i.z.value) (q i.d.value) (q i.n.value) (q i.m.value)
+tokens_of (V2 i) = three (bitwise_mnemonic i.name) (q i.d.value) (q i.n.value) (q i.m.value)
+tokens_of (V3 i) = three (signed_mnemonic i.name ++ by_sign i.u.value i.z.value) (q i.d.value) (q i.n.value) (q i.m.value)
+tokens_of (V4 i) = three (vector_shift_mnemonic i.name ++ by_sign i.u.value i.z.value) (q i.d.value) (q i.m.value) (q i.n.value)
+tokens_of (V5 i) = three (doubling_mnemonic i.name ++ signed i.z.value) (q i.d.value) (q i.n.value) (q i.m.value)
 tokens_of (V6 i) = three (either i.t.value (codes "vmullb") (codes "vmullt") ++ by_sign i.u.value i.z.value) (q i.d.value) (q i.n.value) (q i.m.value)
-tokens_of (V7 i) = three (high_stem i.name ++ by_sign i.u.value i.z.value) (q i.d.value) (q i.n.value) (q i.m.value)
-tokens_of (V8 i) = three (carry_stem i.name ++ codes ".i32") (q i.d.value) (q i.n.value) (q i.m.value)
-tokens_of (V9 i) = and_constant (three (complex_sum_stem i.name ++ complex_sum_suffix i.name i.z.value) (q i.d.value) (q i.n.value) (q i.m.value))
+tokens_of (V7 i) = three (high_mnemonic i.name ++ by_sign i.u.value i.z.value) (q i.d.value) (q i.n.value) (q i.m.value)
+tokens_of (V8 i) = three (carry_mnemonic i.name ++ codes ".i32") (q i.d.value) (q i.n.value) (q i.m.value)
+tokens_of (V9 i) = and_constant (three (complex_sum_mnemonic i.name ++ complex_sum_suffix i.name i.z.value) (q i.d.value) (q i.n.value) (q i.m.value))
     (cond (nat_eq i.t.value 0) 90 270)
-tokens_of (V10 i) = three (scalar_stem i.name ++ scalar_suffix i.name i.u.value i.z.value) (q i.d.value) (q i.n.value) (r i.m.value)
+tokens_of (V10 i) = three (scalar_mnemonic i.name ++ scalar_suffix i.name i.u.value i.z.value) (q i.d.value) (q i.n.value) (r i.m.value)
 tokens_of (V11 i) = shift_tokens i
 tokens_of (V12 i) = long_tokens i
 tokens_of (V13 i) = one_tokens i
-tokens_of (V14 i) = two (reverse_stem i.name ++ plain i.z.value) (q i.d.value) (q i.m.value)
+tokens_of (V14 i) = two (reverse_mnemonic i.name ++ plain i.z.value) (q i.d.value) (q i.m.value)
 tokens_of (V15 i) = constant_tokens i
-tokens_of (V16 i) = two (narrow_stem i.name i.t.value ++ narrow_suffix i.name i.z.value) (q i.d.value) (q i.m.value)
+tokens_of (V16 i) = two (narrow_mnemonic i.name i.t.value ++ narrow_suffix i.name i.z.value) (q i.d.value) (q i.m.value)
 tokens_of (V17 i) = and_constant (two (codes "vshlc") (q i.d.value) (r i.m.value)) (cond (nat_eq i.k.value 0) 32 i.k.value)
 tokens_of (V18 i) = two (codes "vdup" ++ plain (size_number i.size)) (q i.d.value) (r i.t.value)
 tokens_of (V19 i) = offsets_tokens i
 tokens_of (V20 i) = compare_tokens i
 tokens_of (V21 i) = predicate_tokens i
 tokens_of (V22 i) = sum_tokens i
-tokens_of (V23 i) = two (extreme_stem i.name ++ by_sign i.u.value i.z.value) (r i.t.value) (q i.m.value)
+tokens_of (V23 i) = two (extreme_mnemonic i.name ++ by_sign i.u.value i.z.value) (r i.t.value) (q i.m.value)
 tokens_of (V24 i) =
-    access (access_stem i.l.value i.z.value ++ access_suffix i.l.value 1 i.z.value) i.d.value
+    access (access_mnemonic i.l.value i.z.value ++ access_suffix i.l.value 1 i.z.value) i.d.value
     (indexed i.p.value i.a.value i.w.value (r i.n.value) (i.i.value * 2 ^ i.z.value))
 tokens_of (V25 i) =
-    access (access_stem i.l.value i.h.value ++ access_suffix i.l.value i.u.value i.z.value) i.d.value
+    access (access_mnemonic i.l.value i.h.value ++ access_suffix i.l.value i.u.value i.z.value) i.d.value
     (indexed i.p.value i.a.value i.w.value (r i.n.value) (i.i.value * 2 ^ i.h.value))
 tokens_of (V26 i) =
-    access (access_stem i.l.value i.y.value ++ access_suffix i.l.value i.u.value i.z.value) i.d.value
+    access (access_mnemonic i.l.value i.y.value ++ access_suffix i.l.value i.u.value i.z.value) i.d.value
     (at_offsets (r i.n.value) i.m.value i.o.value i.y.value)
 tokens_of (V27 i) =
-    access (access_stem i.l.value 2 ++ access_suffix i.l.value 1 2) i.d.value (inside i.a.value i.w.value (q i.m.value) (4 * i.i.value))
+    access (access_mnemonic i.l.value 2 ++ access_suffix i.l.value 1 2) i.d.value (inside i.a.value i.w.value (q i.m.value) (4 * i.i.value))
 tokens_of (V28 i) =
-    turns (either i.f.value (pair_stem i.l.value i.p.value) (quad_stem i.l.value i.p.value) ++ plain i.z.value) i.f.value i.d.value (r i.n.value) i.w.value
+    turns (either i.f.value (pair_mnemonic i.l.value i.p.value) (quad_mnemonic i.l.value i.p.value) ++ plain i.z.value) i.f.value i.d.value (r i.n.value)
+    i.w.value
 
 -- V2: the other text of VORR of a register with itself, VMOV (DDI0553, "VORR")
 abbrev pub other_bitwise : BitwiseName → Bool → ℕ → ℕ → Option (List Tok)

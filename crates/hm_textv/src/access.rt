@@ -77,49 +77,49 @@ fn access_code(l: u32, y: u32, o: &Operands) -> u64
 }
 
 /// Stores of rows V24 to V27.
-fn code_store(stem: &[u8], o: &Operands) -> Option<u64>
-    ensures { result ≡ code_store stem.now o.now }
+fn code_store(mnemonic: &[u8], o: &Operands) -> Option<u64>
+    ensures { result ≡ code_store mnemonic.now o.now }
 {
-    let y = store_in(stem)?;
+    let y = store_in(mnemonic)?;
     Some(access_code(0, y, o))
 }
 
 /// Loads of rows V24 to V27.
-fn code_load(stem: &[u8], o: &Operands) -> Option<u64>
-    ensures { result ≡ code_load stem.now o.now }
+fn code_load(mnemonic: &[u8], o: &Operands) -> Option<u64>
+    ensures { result ≡ code_load mnemonic.now o.now }
 {
-    let y = load_in(stem)?;
+    let y = load_in(mnemonic)?;
     Some(access_code(1, y, o))
 }
 
 /// Rows V28 of two registers.
-fn code_pair(stem: &[u8], o: &Operands) -> Option<u64>
-    ensures { result ≡ code_pair stem.now o.now }
+fn code_pair(mnemonic: &[u8], o: &Operands) -> Option<u64>
+    ensures { result ≡ code_pair mnemonic.now o.now }
 {
-    let base = u64::from(pair_base(stem)?) + (u64::from(o.back) << 21);
+    let base = u64::from(pair_base(mnemonic)?) + (u64::from(o.back) << 21);
     Some(of_access(base, 0, u64::from(o.third), o.first, o.size, 0))
 }
 
 /// Rows V28 of four registers.
-fn code_quad(stem: &[u8], o: &Operands) -> Option<u64>
-    ensures { result ≡ code_quad stem.now o.now }
+fn code_quad(mnemonic: &[u8], o: &Operands) -> Option<u64>
+    ensures { result ≡ code_quad mnemonic.now o.now }
 {
-    let base = u64::from(quad_base(stem)?) + (u64::from(o.back) << 21);
+    let base = u64::from(quad_base(mnemonic)?) + (u64::from(o.back) << 21);
     Some(of_access(base, 0, u64::from(o.fifth), o.first, o.size, 0))
 }
 
 /// Loads and stores.
-pub fn code_of_memory(stem: &[u8], o: &Operands) -> Option<u64>
-    ensures { result ≡ code_of_memory stem.now o.now }
+pub fn code_of_memory(mnemonic: &[u8], o: &Operands) -> Option<u64>
+    ensures { result ≡ code_of_memory mnemonic.now o.now }
 {
-    if let Some(w) = code_store(stem, o) {
+    if let Some(w) = code_store(mnemonic, o) {
         return Some(w);
     }
-    if let Some(w) = code_load(stem, o) {
+    if let Some(w) = code_load(mnemonic, o) {
         return Some(w);
     }
-    if let Some(w) = code_pair(stem, o) {
+    if let Some(w) = code_pair(mnemonic, o) {
         return Some(w);
     }
-    code_quad(stem, o)
+    code_quad(mnemonic, o)
 }

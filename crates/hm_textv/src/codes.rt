@@ -89,50 +89,50 @@ fn place_mask(k: u32) -> u64
 }
 
 /// The first base of two.
-fn first_base(stem: &[u8]) -> Option<u32>
-    ensures { result ≡ first (three_base stem.now) (product_base stem.now) }
+fn first_base(mnemonic: &[u8]) -> Option<u32>
+    ensures { result ≡ first (three_base mnemonic.now) (product_base mnemonic.now) }
 {
-    if let Some(base) = three_base(stem) {
+    if let Some(base) = three_base(mnemonic) {
         return Some(base);
     }
-    product_base(stem)
+    product_base(mnemonic)
 }
 
 /// Rows V1 to V3 and V5 to V7, and `vpsel`.
-fn code_three(stem: &[u8], o: &Operands) -> Option<u64>
-    ensures { result ≡ code_three stem.now o.now }
+fn code_three(mnemonic: &[u8], o: &Operands) -> Option<u64>
+    ensures { result ≡ code_three mnemonic.now o.now }
 {
     if !o.is_vector {
         return None;
     }
-    let base = first_base(stem)?;
+    let base = first_base(mnemonic)?;
     Some(of_vectors(u64::from(base), o.sign, o.size, o.second, o.first, o.third))
 }
 
 /// Rows V4.
-fn code_vector_shift(stem: &[u8], o: &Operands) -> Option<u64>
-    ensures { result ≡ code_vector_shift stem.now o.now }
+fn code_vector_shift(mnemonic: &[u8], o: &Operands) -> Option<u64>
+    ensures { result ≡ code_vector_shift mnemonic.now o.now }
 {
     if !o.is_vector {
         return None;
     }
-    let base = vector_shift_base_in(stem)?;
+    let base = vector_shift_base_in(mnemonic)?;
     Some(of_vectors(u64::from(base), o.sign, o.size, o.third, o.first, o.second))
 }
 
 /// Rows V8.
-fn code_carry(stem: &[u8], o: &Operands) -> Option<u64>
-    ensures { result ≡ code_carry stem.now o.now }
+fn code_carry(mnemonic: &[u8], o: &Operands) -> Option<u64>
+    ensures { result ≡ code_carry mnemonic.now o.now }
 {
-    let base = carry_base_in(stem)?;
+    let base = carry_base_in(mnemonic)?;
     Some(of_vectors(u64::from(base), 0, 0, o.second, o.first, o.third))
 }
 
 /// Rows V9.
-fn code_turn(stem: &[u8], o: &Operands) -> Option<u64>
-    ensures { result ≡ code_turn stem.now o.now }
+fn code_turn(mnemonic: &[u8], o: &Operands) -> Option<u64>
+    ensures { result ≡ code_turn mnemonic.now o.now }
 {
-    let base = u64::from(complex_sum_base_in(stem)?);
+    let base = u64::from(complex_sum_base_in(mnemonic)?);
     if o.fourth == 270 {
         Some(of_vectors(base + 0x1000, 0, o.size, o.second, o.first, o.third))
     } else {
@@ -141,30 +141,30 @@ fn code_turn(stem: &[u8], o: &Operands) -> Option<u64>
 }
 
 /// Rows V10.
-fn code_scalar(stem: &[u8], o: &Operands) -> Option<u64>
-    ensures { result ≡ code_scalar stem.now o.now }
+fn code_scalar(mnemonic: &[u8], o: &Operands) -> Option<u64>
+    ensures { result ≡ code_scalar mnemonic.now o.now }
 {
     if o.is_vector {
         return None;
     }
-    let base = scalar_base_in(stem)?;
+    let base = scalar_base_in(mnemonic)?;
     Some(of_core(u64::from(base), o.sign, o.size, o.second, o.first, o.third))
 }
 
 /// Rows V11 to the right.
-fn code_right(stem: &[u8], o: &Operands) -> Option<u64>
-    ensures { result ≡ code_right stem.now o.now }
+fn code_right(mnemonic: &[u8], o: &Operands) -> Option<u64>
+    ensures { result ≡ code_right mnemonic.now o.now }
 {
-    let base = u64::from(right_base(stem)?);
+    let base = u64::from(right_base(mnemonic)?);
     let x = (2 * bits_in(o.size)).saturating_sub(o.third);
     Some(of_one(base + (u64::from(x) << 16), o.sign, 0, o.first, o.second))
 }
 
 /// Rows V11 to the left.
-fn code_left(stem: &[u8], o: &Operands) -> Option<u64>
-    ensures { result ≡ code_left stem.now o.now }
+fn code_left(mnemonic: &[u8], o: &Operands) -> Option<u64>
+    ensures { result ≡ code_left mnemonic.now o.now }
 {
-    let base = u64::from(left_base(stem)?);
+    let base = u64::from(left_base(mnemonic)?);
     let x = u64::from(bits_in(o.size)) + u64::from(o.third);
     Some(of_one(base + (x << 16), o.sign, 0, o.first, o.second))
 }
@@ -183,18 +183,18 @@ fn long_code(t: u32, o: &Operands) -> u64
 }
 
 /// Rows V12.
-fn code_long(stem: &[u8], o: &Operands) -> Option<u64>
-    ensures { result ≡ code_long stem.now o.now }
+fn code_long(mnemonic: &[u8], o: &Operands) -> Option<u64>
+    ensures { result ≡ code_long mnemonic.now o.now }
 {
-    let t = long_in(stem)?;
+    let t = long_in(mnemonic)?;
     Some(long_code(t, o))
 }
 
 /// Rows V13 and V14.
-fn code_single(stem: &[u8], o: &Operands) -> Option<u64>
-    ensures { result ≡ code_single stem.now o.now }
+fn code_single(mnemonic: &[u8], o: &Operands) -> Option<u64>
+    ensures { result ≡ code_single mnemonic.now o.now }
 {
-    let base = single_base(stem)?;
+    let base = single_base(mnemonic)?;
     Some(of_one(u64::from(base), 0, o.size, o.first, o.second))
 }
 
@@ -252,10 +252,10 @@ fn bare_code(k: u32, o: &Operands) -> u64
 }
 
 /// Rows V15, and `vmov` and `vmvn` of a register.
-fn code_constant(stem: &[u8], o: &Operands) -> Option<u64>
-    ensures { result ≡ code_constant stem.now o.now }
+fn code_constant(mnemonic: &[u8], o: &Operands) -> Option<u64>
+    ensures { result ≡ code_constant mnemonic.now o.now }
 {
-    let k = constant_in(stem)?;
+    let k = constant_in(mnemonic)?;
     if o.is_bare {
         Some(bare_code(k, o))
     } else {
@@ -264,10 +264,10 @@ fn code_constant(stem: &[u8], o: &Operands) -> Option<u64>
 }
 
 /// Rows V16.
-fn code_narrow(stem: &[u8], o: &Operands) -> Option<u64>
-    ensures { result ≡ code_narrow stem.now o.now }
+fn code_narrow(mnemonic: &[u8], o: &Operands) -> Option<u64>
+    ensures { result ≡ code_narrow mnemonic.now o.now }
 {
-    let base = narrow_base_in(stem)?;
+    let base = narrow_base_in(mnemonic)?;
     Some(of_one(
         u64::from(base),
         o.sign,
@@ -291,10 +291,10 @@ fn step_in(n: u32) -> u64
 }
 
 /// Rows V19 from one register.
-fn code_offsets(stem: &[u8], o: &Operands) -> Option<u64>
-    ensures { result ≡ code_offsets stem.now o.now }
+fn code_offsets(mnemonic: &[u8], o: &Operands) -> Option<u64>
+    ensures { result ≡ code_offsets mnemonic.now o.now }
 {
-    let base = u64::from(offsets_base_in(stem)?);
+    let base = u64::from(offsets_base_in(mnemonic)?);
     Some(of_core(
         base + 0xe + step_in(o.third),
         0,
@@ -306,10 +306,10 @@ fn code_offsets(stem: &[u8], o: &Operands) -> Option<u64>
 }
 
 /// Rows V19 that go round.
-fn code_wrapped(stem: &[u8], o: &Operands) -> Option<u64>
-    ensures { result ≡ code_wrapped stem.now o.now }
+fn code_wrapped(mnemonic: &[u8], o: &Operands) -> Option<u64>
+    ensures { result ≡ code_wrapped mnemonic.now o.now }
 {
-    let base = u64::from(wrapped_base_in(stem)?);
+    let base = u64::from(wrapped_base_in(mnemonic)?);
     Some(of_vectors(
         base + step_in(o.fourth),
         0,
@@ -336,26 +336,26 @@ fn compare_code(k: u32, o: &Operands) -> u64
 }
 
 /// Rows V20.
-fn code_compare(stem: &[u8], o: &Operands) -> Option<u64>
-    ensures { result ≡ code_compare stem.now o.now }
+fn code_compare(mnemonic: &[u8], o: &Operands) -> Option<u64>
+    ensures { result ≡ code_compare mnemonic.now o.now }
 {
-    let k = compare_in(stem)?;
+    let k = compare_in(mnemonic)?;
     Some(compare_code(k, o))
 }
 
 /// `vpst` and `vpnot`.
-fn code_block(stem: &[u8]) -> Option<u64>
-    ensures { result ≡ code_block stem.now }
+fn code_block(mnemonic: &[u8]) -> Option<u64>
+    ensures { result ≡ code_block mnemonic.now }
 {
-    let k = block_in(stem)?;
+    let k = block_in(mnemonic)?;
     Some(0xfe31_0f4d + place_mask(k))
 }
 
 /// Sums.
-fn code_sum(stem: &[u8], o: &Operands) -> Option<u64>
-    ensures { result ≡ code_sum stem.now o.now }
+fn code_sum(mnemonic: &[u8], o: &Operands) -> Option<u64>
+    ensures { result ≡ code_sum mnemonic.now o.now }
 {
-    let a = u64::from(sum_in(stem)?);
+    let a = u64::from(sum_in(mnemonic)?);
     Some(of_one(
         0xeef1_0f00 + (a << 5),
         o.sign,
@@ -366,19 +366,19 @@ fn code_sum(stem: &[u8], o: &Operands) -> Option<u64>
 }
 
 /// Sums of products.
-fn code_dot(stem: &[u8], o: &Operands) -> Option<u64>
-    ensures { result ≡ code_dot stem.now o.now }
+fn code_dot(mnemonic: &[u8], o: &Operands) -> Option<u64>
+    ensures { result ≡ code_dot mnemonic.now o.now }
 {
-    let a = u64::from(dot_in(stem)?);
+    let a = u64::from(dot_in(mnemonic)?);
     let base = u64::from(base_of_dot(element_in(o.size)));
     Some(of_vectors(base + (a << 5), o.sign, 0, o.second, o.first / 2, o.third))
 }
 
 /// Sums in 64 bits.
-fn code_long_sum(stem: &[u8], o: &Operands) -> Option<u64>
-    ensures { result ≡ code_long_sum stem.now o.now }
+fn code_long_sum(mnemonic: &[u8], o: &Operands) -> Option<u64>
+    ensures { result ≡ code_long_sum mnemonic.now o.now }
 {
-    let a = u64::from(long_sum_in(stem)?);
+    let a = u64::from(long_sum_in(mnemonic)?);
     Some(of_vectors(
         0xee89_0f00 + (a << 5),
         o.sign,
@@ -390,10 +390,10 @@ fn code_long_sum(stem: &[u8], o: &Operands) -> Option<u64>
 }
 
 /// Sums of products in 64 bits.
-fn code_long_dot(stem: &[u8], o: &Operands) -> Option<u64>
-    ensures { result ≡ code_long_dot stem.now o.now }
+fn code_long_dot(mnemonic: &[u8], o: &Operands) -> Option<u64>
+    ensures { result ≡ code_long_dot mnemonic.now o.now }
 {
-    let a = u64::from(long_dot_in(stem)?);
+    let a = u64::from(long_dot_in(mnemonic)?);
     let size = u64::from(o.size.saturating_sub(1));
     Some(of_vectors(
         0xee80_0e00 + (a << 5) + (size << 16),
@@ -406,10 +406,10 @@ fn code_long_dot(stem: &[u8], o: &Operands) -> Option<u64>
 }
 
 /// Rows V23.
-fn code_extreme(stem: &[u8], o: &Operands) -> Option<u64>
-    ensures { result ≡ code_extreme stem.now o.now }
+fn code_extreme(mnemonic: &[u8], o: &Operands) -> Option<u64>
+    ensures { result ≡ code_extreme mnemonic.now o.now }
 {
-    let base = u64::from(extreme_base_in(stem)?);
+    let base = u64::from(extreme_base_in(mnemonic)?);
     Some(of_one(
         base + (u64::from(o.first) << 12),
         o.sign,
@@ -420,10 +420,10 @@ fn code_extreme(stem: &[u8], o: &Operands) -> Option<u64>
 }
 
 /// Rows V17 and V18, and `vctp`.
-fn code_alone(stem: &[u8], o: &Operands) -> Option<u64>
-    ensures { result ≡ code_alone stem.now o.now }
+fn code_alone(mnemonic: &[u8], o: &Operands) -> Option<u64>
+    ensures { result ≡ code_alone mnemonic.now o.now }
 {
-    match stem {
+    match mnemonic {
         b"vshlc" => Some(of_core(
             0xeea0_0fc0 + (u64::from(o.third % 32) << 16),
             0,
@@ -442,110 +442,110 @@ fn code_alone(stem: &[u8], o: &Operands) -> Option<u64>
 }
 
 /// Rows of two operands in vectors, or of a vector and a core register.
-fn code_of_pair(stem: &[u8], o: &Operands) -> Option<u64>
-    ensures { result ≡ code_of_pair stem.now o.now }
+fn code_of_pair(mnemonic: &[u8], o: &Operands) -> Option<u64>
+    ensures { result ≡ code_of_pair mnemonic.now o.now }
 {
-    if let Some(w) = code_three(stem, o) {
+    if let Some(w) = code_three(mnemonic, o) {
         return Some(w);
     }
-    if let Some(w) = code_vector_shift(stem, o) {
+    if let Some(w) = code_vector_shift(mnemonic, o) {
         return Some(w);
     }
-    if let Some(w) = code_carry(stem, o) {
+    if let Some(w) = code_carry(mnemonic, o) {
         return Some(w);
     }
-    if let Some(w) = code_turn(stem, o) {
+    if let Some(w) = code_turn(mnemonic, o) {
         return Some(w);
     }
-    code_scalar(stem, o)
+    code_scalar(mnemonic, o)
 }
 
 /// Rows of one operand in a vector.
-fn code_of_one(stem: &[u8], o: &Operands) -> Option<u64>
-    ensures { result ≡ code_of_one stem.now o.now }
+fn code_of_one(mnemonic: &[u8], o: &Operands) -> Option<u64>
+    ensures { result ≡ code_of_one mnemonic.now o.now }
 {
-    if let Some(w) = code_right(stem, o) {
+    if let Some(w) = code_right(mnemonic, o) {
         return Some(w);
     }
-    if let Some(w) = code_left(stem, o) {
+    if let Some(w) = code_left(mnemonic, o) {
         return Some(w);
     }
-    if let Some(w) = code_long(stem, o) {
+    if let Some(w) = code_long(mnemonic, o) {
         return Some(w);
     }
-    if let Some(w) = code_single(stem, o) {
+    if let Some(w) = code_single(mnemonic, o) {
         return Some(w);
     }
-    if let Some(w) = code_constant(stem, o) {
+    if let Some(w) = code_constant(mnemonic, o) {
         return Some(w);
     }
-    code_narrow(stem, o)
+    code_narrow(mnemonic, o)
 }
 
 /// Sums and extremes.
-fn code_of_sum(stem: &[u8], o: &Operands) -> Option<u64>
-    ensures { result ≡ code_of_sum stem.now o.now }
+fn code_of_sum(mnemonic: &[u8], o: &Operands) -> Option<u64>
+    ensures { result ≡ code_of_sum mnemonic.now o.now }
 {
-    if let Some(w) = code_sum(stem, o) {
+    if let Some(w) = code_sum(mnemonic, o) {
         return Some(w);
     }
-    if let Some(w) = code_dot(stem, o) {
+    if let Some(w) = code_dot(mnemonic, o) {
         return Some(w);
     }
-    if let Some(w) = code_long_sum(stem, o) {
+    if let Some(w) = code_long_sum(mnemonic, o) {
         return Some(w);
     }
-    if let Some(w) = code_long_dot(stem, o) {
+    if let Some(w) = code_long_dot(mnemonic, o) {
         return Some(w);
     }
-    code_extreme(stem, o)
+    code_extreme(mnemonic, o)
 }
 
 /// All others.
-fn code_of_other(stem: &[u8], o: &Operands) -> Option<u64>
-    ensures { result ≡ code_of_other stem.now o.now }
+fn code_of_other(mnemonic: &[u8], o: &Operands) -> Option<u64>
+    ensures { result ≡ code_of_other mnemonic.now o.now }
 {
-    if let Some(w) = code_offsets(stem, o) {
+    if let Some(w) = code_offsets(mnemonic, o) {
         return Some(w);
     }
-    if let Some(w) = code_wrapped(stem, o) {
+    if let Some(w) = code_wrapped(mnemonic, o) {
         return Some(w);
     }
-    if let Some(w) = code_compare(stem, o) {
+    if let Some(w) = code_compare(mnemonic, o) {
         return Some(w);
     }
-    if let Some(w) = code_block(stem) {
+    if let Some(w) = code_block(mnemonic) {
         return Some(w);
     }
-    code_alone(stem, o)
+    code_alone(mnemonic, o)
 }
 
-/// The code that a stem and operands ask for.
+/// The code that a mnemonic and operands ask for.
 #[tactic(auto, unfolding(crate::specs::Codes::code_of))]
-fn code_of(stem: &[u8], o: &Operands) -> Option<u64>
-    ensures { result ≡ code_of stem.now o.now }
+fn code_of(mnemonic: &[u8], o: &Operands) -> Option<u64>
+    ensures { result ≡ code_of mnemonic.now o.now }
 {
-    if let Some(w) = code_of_pair(stem, o) {
+    if let Some(w) = code_of_pair(mnemonic, o) {
         return Some(w);
     }
-    if let Some(w) = code_of_one(stem, o) {
+    if let Some(w) = code_of_one(mnemonic, o) {
         return Some(w);
     }
-    if let Some(w) = code_of_sum(stem, o) {
+    if let Some(w) = code_of_sum(mnemonic, o) {
         return Some(w);
     }
-    if let Some(w) = code_of_other(stem, o) {
+    if let Some(w) = code_of_other(mnemonic, o) {
         return Some(w);
     }
-    code_of_memory(stem, o)
+    code_of_memory(mnemonic, o)
 }
 
 /// The code that a mnemonic and the tokens behind it ask for.
 fn code_named(name: &[u8], tokens: &[Token<'_>]) -> Option<u64>
     ensures { result ≡ code_cut (span 46 name.now) (map tok tokens.now) }
 {
-    let (stem, suffix) = span(b'.', name);
-    code_of(stem, &read_operands(suffix, tokens))
+    let (mnemonic, suffix) = span(b'.', name);
+    code_of(mnemonic, &read_operands(suffix, tokens))
 }
 
 /// The code that tokens ask for.

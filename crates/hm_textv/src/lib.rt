@@ -11,9 +11,9 @@ mod access;
 mod bases;
 mod codes;
 mod memory;
+mod mnemonics;
 mod operands;
 mod rows;
-mod stems;
 mod suffixes;
 mod texts;
 

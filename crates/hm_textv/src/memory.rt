@@ -7,7 +7,7 @@ ghost use Rattle.hm_text_rows.specs.Shapes.{back, q};
 ghost use Rattle.hm_tokens.specs.Texts.{part_token, text_tokens};
 ghost use Rattle.hm_tokens.specs.Tokens.{word, close_bracket, comma, open_bracket};
 
-use crate::stems::{access_stem, pair_stem, quad_stem};
+use crate::mnemonics::{access_mnemonic, pair_mnemonic, quad_mnemonic};
 use crate::suffixes::{access_suffix, plain};
 use hm_isa::{Below, Bit, QRegister, V24, V25, V26, V27, V28};
 use hm_text_rows::{Index, alone, and, back, indexed, inside, marked, one, open, q, r, with};
@@ -38,7 +38,7 @@ pub fn text_v24(i: &V24) -> InstrText
     ensures { text_tokens result ≡ tokens_of (vector.V24 i.now) }
 {
     let suffix = access_suffix(i.l, Below::new(1), i.z.get());
-    let text = one(access_stem(i.l, i.z.get()), suffix, q(i.d));
+    let text = one(access_mnemonic(i.l, i.z.get()), suffix, q(i.d));
     let index = Index {
         p: i.p,
         a: i.a,
@@ -52,7 +52,7 @@ pub fn text_v25(i: &V25) -> InstrText
     ensures { text_tokens result ≡ tokens_of (vector.V25 i.now) }
 {
     let suffix = access_suffix(i.l, i.u, i.z.get());
-    let text = one(access_stem(i.l, i.h.get()), suffix, q(i.d));
+    let text = one(access_mnemonic(i.l, i.h.get()), suffix, q(i.d));
     let index = Index {
         p: i.p,
         a: i.a,
@@ -93,7 +93,7 @@ pub fn text_v26(i: &V26) -> InstrText
     ensures { text_tokens result ≡ tokens_of (vector.V26 i.now) }
 {
     let suffix = access_suffix(i.l, i.u, i.z.get());
-    let text = one(access_stem(i.l, i.y.get()), suffix, q(i.d));
+    let text = one(access_mnemonic(i.l, i.y.get()), suffix, q(i.d));
     at_offsets(text, r(i.n.get()), i.m, i.o, i.y.get())
 }
 
@@ -102,27 +102,33 @@ pub fn text_v27(i: &V27) -> InstrText
     ensures { text_tokens result ≡ tokens_of (vector.V27 i.now) }
 {
     let suffix = access_suffix(i.l, Below::new(1), 2);
-    let text = one(access_stem(i.l, 2), suffix, q(i.d));
+    let text = one(access_mnemonic(i.l, 2), suffix, q(i.d));
     inside(text, q(i.m), i.a, i.w, 4 * i.i.get())
 }
 
 /// A mnemonic and the two registers from d on, in braces.
-fn pair(stem: &'static str, suffix: &'static str, d: u32) -> InstrText
+fn pair(mnemonic: &'static str, suffix: &'static str, d: u32) -> InstrText
     requires { d < 7 }
-    ensures tokens { text_tokens result ≡ word (stem.now ++ suffix.now) ∷ registers 0 d }
+    ensures tokens { text_tokens result ≡ word (mnemonic.now ++ suffix.now) ∷ registers 0 d }
     ensures room { length result.operands.items ≡ 5 }
 {
-    let text = with(marked(alone(stem, "", suffix), Mark::OpenBrace), vector(d));
+    let text = with(
+        marked(alone(mnemonic, "", suffix), Mark::OpenBrace),
+        vector(d),
+    );
     marked(and(text, vector(d + 1)), Mark::CloseBrace)
 }
 
 /// A mnemonic and the four registers from d on, in braces.
-fn quad(stem: &'static str, suffix: &'static str, d: u32) -> InstrText
+fn quad(mnemonic: &'static str, suffix: &'static str, d: u32) -> InstrText
     requires { d < 5 }
-    ensures tokens { text_tokens result ≡ word (stem.now ++ suffix.now) ∷ registers 1 d }
+    ensures tokens { text_tokens result ≡ word (mnemonic.now ++ suffix.now) ∷ registers 1 d }
     ensures room { length result.operands.items ≡ 9 }
 {
-    let text = with(marked(alone(stem, "", suffix), Mark::OpenBrace), vector(d));
+    let text = with(
+        marked(alone(mnemonic, "", suffix), Mark::OpenBrace),
+        vector(d),
+    );
     let text = and(and(text, vector(d + 1)), vector(d + 2));
     marked(and(text, vector(d + 3)), Mark::CloseBrace)
 }
@@ -134,10 +140,10 @@ pub fn text_v28(i: &V28) -> InstrText
     let suffix = plain(i.z.get());
     let base = r(i.n.get());
     if i.f.get() == 0 {
-        let listed = pair(pair_stem(i.l, i.p), suffix, i.d.get());
+        let listed = pair(pair_mnemonic(i.l, i.p), suffix, i.d.get());
         return at_base(listed, base, i.w);
     }
-    let listed = quad(quad_stem(i.l, i.p), suffix, i.d.get());
+    let listed = quad(quad_mnemonic(i.l, i.p), suffix, i.d.get());
     at_base(listed, base, i.w)
 }
 

@@ -7,7 +7,7 @@ ghost use Rattle.hm_tokens.specs.Tokens.{tok};
 use hm_text_rows::{added, back_in, before, is_vector, operand, size_of, token_behind};
 use hm_tokens::{Token, read_register, read_vector};
 
-/// What stands behind the stem of a mnemonic, as numbers.
+/// What stands behind a mnemonic, as numbers.
 #[derive(Clone, Copy)]
 pub struct Operands {
     /// Whether the mnemonic has no point.
@@ -89,7 +89,7 @@ fn sign_of(suffix: &[u8]) -> u32
     }
 }
 
-/// What stands behind the stem of a mnemonic: its suffix, with the point, and the other tokens.
+/// What stands behind a mnemonic: its suffix, with the point, and the other tokens.
 pub fn read_operands(suffix: &[u8], tokens: &[Token<'_>]) -> Operands
     ensures { result ≡ read_operands suffix.now (map tok tokens.now) }
 {

@@ -4,15 +4,16 @@ ghost use Rattle.std.specs.Prelude.{◌≡◌, ◌≤◌, ◌<◌, ◌+◌, ◌*
 ghost use Rattle.hm_isa.specs.declared.Vector.TheVariants as vector;
 ghost use Rattle.hm_textv.specs.Rows.{compare_name, long_part, shift_in, shifted, size_in, tokens_of};
 ghost use Rattle.hm_text_rows.specs.Shapes.{either, q, three};
-ghost use Rattle.hm_textv.specs.Stems.{compare_condition};
+ghost use Rattle.hm_textv.specs.Mnemonics.{compare_condition};
 ghost use Rattle.hm_tokens.specs.Texts.{part_token, text_tokens};
 ghost use Rattle.hm_tokens.specs.Tokens.{word};
 
 use crate::memory::{text_v24, text_v25, text_v26, text_v27, text_v28};
-use crate::stems::{
-    add_stem, bitwise_stem, block_letters, carry_stem, compare_condition, complex_sum_stem,
-    constant_shift_stem, doubling_stem, extreme_stem, high_stem, narrow_stem, offsets_stem,
-    one_stem, reverse_stem, scalar_stem, signed_stem, vector_shift_stem, wrapped_stem,
+use crate::mnemonics::{
+    add_mnemonic, bitwise_mnemonic, block_letters, carry_mnemonic, compare_condition,
+    complex_sum_mnemonic, constant_shift_mnemonic, doubling_mnemonic, extreme_mnemonic,
+    high_mnemonic, narrow_mnemonic, offsets_mnemonic, one_mnemonic, reverse_mnemonic,
+    scalar_mnemonic, signed_mnemonic, vector_shift_mnemonic, wrapped_mnemonic,
 };
 use crate::suffixes::{
     by_sign, compare_suffix, complex_sum_suffix, constant_shift_suffix, integer, narrow_suffix,
@@ -29,14 +30,20 @@ use hm_tokens::{InstrText, Mark, Part};
 fn text_v1(i: &V1) -> InstrText
     ensures { text_tokens result ≡ tokens_of (vector.V1 i.now) }
 {
-    three(add_stem(i.name), integer(i.z.get()), q(i.d), q(i.n), q(i.m))
+    three(
+        add_mnemonic(i.name),
+        integer(i.z.get()),
+        q(i.d),
+        q(i.n),
+        q(i.m),
+    )
 }
 
 /// The text of a row V2.
 fn text_v2(i: &V2) -> InstrText
     ensures { text_tokens result ≡ tokens_of (vector.V2 i.now) }
 {
-    three(bitwise_stem(i.name), "", q(i.d), q(i.n), q(i.m))
+    three(bitwise_mnemonic(i.name), "", q(i.d), q(i.n), q(i.m))
 }
 
 /// The text of a row V3.
@@ -44,7 +51,7 @@ fn text_v3(i: &V3) -> InstrText
     ensures { text_tokens result ≡ tokens_of (vector.V3 i.now) }
 {
     three(
-        signed_stem(i.name),
+        signed_mnemonic(i.name),
         by_sign(i.u, i.z.get()),
         q(i.d),
         q(i.n),
@@ -57,7 +64,7 @@ fn text_v4(i: &V4) -> InstrText
     ensures { text_tokens result ≡ tokens_of (vector.V4 i.now) }
 {
     three(
-        vector_shift_stem(i.name),
+        vector_shift_mnemonic(i.name),
         by_sign(i.u, i.z.get()),
         q(i.d),
         q(i.m),
@@ -70,7 +77,7 @@ fn text_v5(i: &V5) -> InstrText
     ensures { text_tokens result ≡ tokens_of (vector.V5 i.now) }
 {
     three(
-        doubling_stem(i.name),
+        doubling_mnemonic(i.name),
         signed(i.z.get()),
         q(i.d),
         q(i.n),
@@ -82,8 +89,8 @@ fn text_v5(i: &V5) -> InstrText
 fn text_v6(i: &V6) -> InstrText
     ensures { text_tokens result ≡ tokens_of (vector.V6 i.now) }
 {
-    let stem = if i.t.get() == 0 { "vmullb" } else { "vmullt" };
-    three(stem, by_sign(i.u, i.z.get()), q(i.d), q(i.n), q(i.m))
+    let mnemonic = if i.t.get() == 0 { "vmullb" } else { "vmullt" };
+    three(mnemonic, by_sign(i.u, i.z.get()), q(i.d), q(i.n), q(i.m))
 }
 
 /// The text of a row V7.
@@ -91,7 +98,7 @@ fn text_v7(i: &V7) -> InstrText
     ensures { text_tokens result ≡ tokens_of (vector.V7 i.now) }
 {
     three(
-        high_stem(i.name),
+        high_mnemonic(i.name),
         by_sign(i.u, i.z.get()),
         q(i.d),
         q(i.n),
@@ -103,7 +110,7 @@ fn text_v7(i: &V7) -> InstrText
 fn text_v8(i: &V8) -> InstrText
     ensures { text_tokens result ≡ tokens_of (vector.V8 i.now) }
 {
-    three(carry_stem(i.name), ".i32", q(i.d), q(i.n), q(i.m))
+    three(carry_mnemonic(i.name), ".i32", q(i.d), q(i.n), q(i.m))
 }
 
 /// The text of a row V9.
@@ -113,7 +120,7 @@ fn text_v9(i: &V9) -> InstrText
     let angle = if i.t.get() == 0 { 90 } else { 270 };
     and_constant(
         three(
-            complex_sum_stem(i.name),
+            complex_sum_mnemonic(i.name),
             complex_sum_suffix(i.name, i.z),
             q(i.d),
             q(i.n),
@@ -128,7 +135,7 @@ fn text_v10(i: &V10) -> InstrText
     ensures { text_tokens result ≡ tokens_of (vector.V10 i.now) }
 {
     three(
-        scalar_stem(i.name),
+        scalar_mnemonic(i.name),
         scalar_suffix(i.name, i.u, i.z),
         q(i.d),
         q(i.n),
@@ -140,7 +147,7 @@ fn text_v10(i: &V10) -> InstrText
 fn text_v14(i: &V14) -> InstrText
     ensures { text_tokens result ≡ tokens_of (vector.V14 i.now) }
 {
-    two(reverse_stem(i.name), plain(i.z.get()), q(i.d), q(i.m))
+    two(reverse_mnemonic(i.name), plain(i.z.get()), q(i.d), q(i.m))
 }
 
 /// The text of a row V16.
@@ -148,7 +155,7 @@ fn text_v16(i: &V16) -> InstrText
     ensures { text_tokens result ≡ tokens_of (vector.V16 i.now) }
 {
     two(
-        narrow_stem(i.name, i.t),
+        narrow_mnemonic(i.name, i.t),
         narrow_suffix(i.name, i.z),
         q(i.d),
         q(i.m),
@@ -175,7 +182,7 @@ fn text_v23(i: &V23) -> InstrText
     ensures { text_tokens result ≡ tokens_of (vector.V23 i.now) }
 {
     two(
-        extreme_stem(i.name),
+        extreme_mnemonic(i.name),
         by_sign(i.u, i.z.get()),
         r(i.t.get()),
         q(i.m),
@@ -228,20 +235,20 @@ fn text_v11(i: &V11) -> InstrText
 {
     let suffix = constant_shift_suffix(i.name, i.u, shift_size(i));
     and_constant(
-        two(constant_shift_stem(i.name), suffix, q(i.d), q(i.m)),
+        two(constant_shift_mnemonic(i.name), suffix, q(i.d), q(i.m)),
         shift_count(i),
     )
 }
 
 /// `vshllb` or `vshllt`.
-fn long_stem(t: Bit) -> &'static str
+fn long_mnemonic(t: Bit) -> &'static str
     ensures { result.now ≡ either t.value (codes "vshllb") (codes "vshllt") }
 {
     if t.get() == 0 { "vshllb" } else { "vshllt" }
 }
 
 /// `vmovlb` or `vmovlt`.
-fn moved_stem(t: Bit) -> &'static str
+fn moved_mnemonic(t: Bit) -> &'static str
     ensures { result.now ≡ either t.value (codes "vmovlb") (codes "vmovlt") }
 {
     if t.get() == 0 { "vmovlb" } else { "vmovlt" }
@@ -252,9 +259,9 @@ fn long_text(t: Bit, suffix: &'static str, d: QRegister, m: QRegister, k: u32) -
     ensures { text_tokens result ≡ long_part t.value suffix.now d.value m.value k }
 {
     if k == 0 {
-        two(moved_stem(t), suffix, q(d), q(m))
+        two(moved_mnemonic(t), suffix, q(d), q(m))
     } else {
-        and_constant(two(long_stem(t), suffix, q(d), q(m)), k)
+        and_constant(two(long_mnemonic(t), suffix, q(d), q(m)), k)
     }
 }
 
@@ -266,7 +273,7 @@ fn text_v12(i: &V12) -> InstrText
         V12::Bytes(i) => long_text(i.t, by_sign(i.u, 0), i.d, i.m, i.k.get()),
         V12::Halves(i) => long_text(i.t, by_sign(i.u, 1), i.d, i.m, i.k.get()),
         V12::Full(i) => {
-            let text = two(long_stem(i.t), by_sign(i.u, i.z.get()), q(i.d), q(i.m));
+            let text = two(long_mnemonic(i.t), by_sign(i.u, i.z.get()), q(i.d), q(i.m));
             and_constant(text, if i.z.get() == 0 { 8 } else { 16 })
         }
     }
@@ -277,7 +284,12 @@ fn text_v13(i: &V13) -> InstrText
     ensures { text_tokens result ≡ tokens_of (vector.V13 i.now) }
 {
     match i {
-        V13::Elements(i) => two(one_stem(i.name), one_suffix(i.name, i.z), q(i.d), q(i.m)),
+        V13::Elements(i) => two(
+            one_mnemonic(i.name),
+            one_suffix(i.name, i.z),
+            q(i.d),
+            q(i.m),
+        ),
         V13::Not(i) => two("vmvn", "", q(i.d), q(i.m)),
     }
 }
@@ -289,7 +301,7 @@ fn text_v19(i: &V19) -> InstrText
     match i {
         V19::Free(i) => {
             let text = two(
-                offsets_stem(i.name),
+                offsets_mnemonic(i.name),
                 unsigned(i.z.get()),
                 q(i.d),
                 r(2 * i.n.get()),
@@ -298,7 +310,7 @@ fn text_v19(i: &V19) -> InstrText
         }
         V19::Wrapped(i) => {
             let text = three(
-                wrapped_stem(i.name),
+                wrapped_mnemonic(i.name),
                 unsigned(i.z.get()),
                 q(i.d),
                 r(2 * i.n.get()),
@@ -313,8 +325,8 @@ fn text_v19(i: &V19) -> InstrText
 fn comparison(k: Below<16>, c: Below<8>, z: ElementSize, n: QRegister, by: Part) -> InstrText
     ensures { text_tokens result ≡ three (compare_name k.value c.value z.value) (word (compare_condition c.value)) (q n.value) (part_token by) }
 {
-    let stem = if k.get() == 0 { "vcmp" } else { "vpt" };
-    let text = alone(stem, block_letters(k), compare_suffix(c, z));
+    let mnemonic = if k.get() == 0 { "vcmp" } else { "vpt" };
+    let text = alone(mnemonic, block_letters(k), compare_suffix(c, z));
     and(and(first(text, Part::Word(compare_condition(c))), q(n)), by)
 }
 
@@ -334,16 +346,16 @@ fn text_v21(i: &V21) -> InstrText
 {
     match i {
         V21::Block(i) => {
-            let stem = if i.k.get() == 0 { "vpnot" } else { "vpst" };
-            alone(stem, block_letters(i.k), "")
+            let mnemonic = if i.k.get() == 0 { "vpnot" } else { "vpst" };
+            alone(mnemonic, block_letters(i.k), "")
         }
         V21::Select(i) => three("vpsel", "", q(i.d), q(i.n), q(i.m)),
         V21::Tail(i) => one("vctp", plain(i.z.get()), r(i.n.get())),
     }
 }
 
-/// One of two stems, by whether a sum goes on from the old value.
-pub fn sum_stem(a: Bit, begins: &'static str, goes_on: &'static str) -> &'static str
+/// One of two mnemonics, by whether a sum goes on from the old value.
+pub fn sum_mnemonic(a: Bit, begins: &'static str, goes_on: &'static str) -> &'static str
     ensures { result.now ≡ either a.value begins.now goes_on.now }
 {
     if a.get() == 0 { begins } else { goes_on }
@@ -355,20 +367,20 @@ fn text_v22(i: &V22) -> InstrText
 {
     match i {
         V22::Sum(i) => two(
-            sum_stem(i.a, "vaddv", "vaddva"),
+            sum_mnemonic(i.a, "vaddv", "vaddva"),
             by_sign(i.u, i.z.get()),
             r(2 * i.l.get()),
             q(i.m),
         ),
         V22::Dot(i) => three(
-            sum_stem(i.a, "vmladav", "vmladava"),
+            sum_mnemonic(i.a, "vmladav", "vmladava"),
             by_sign(i.u, size_number(i.size)),
             r(2 * i.l.get()),
             q(i.n),
             q(i.m),
         ),
         V22::LongSum(i) => three(
-            sum_stem(i.a, "vaddlv", "vaddlva"),
+            sum_mnemonic(i.a, "vaddlv", "vaddlva"),
             by_sign(i.u, 2),
             r(2 * i.l.get()),
             r(2 * i.h.get() + 1),
@@ -376,7 +388,7 @@ fn text_v22(i: &V22) -> InstrText
         ),
         V22::LongDot(i) => {
             let text = three(
-                sum_stem(i.a, "vmlaldav", "vmlaldava"),
+                sum_mnemonic(i.a, "vmlaldav", "vmlaldava"),
                 by_sign(i.u, i.s.get() + 1),
                 r(2 * i.l.get()),
                 r(2 * i.h.get() + 1),
@@ -403,16 +415,19 @@ fn merged_constant(op: Bit) -> &'static str
 
 /// A mnemonic, a vector register, and a constant that is shifted.
 fn shifted(
-    stem: &'static str,
+    mnemonic: &'static str,
     suffix: &'static str,
     kind: &'static str,
     n: u32,
     d: QRegister,
     x: u32,
 ) -> InstrText
-    ensures { text_tokens result ≡ shifted (stem.now ++ suffix.now) kind.now n d.value x }
+    ensures { text_tokens result ≡ shifted (mnemonic.now ++ suffix.now) kind.now n d.value x }
 {
-    let mut text = and(and_constant(one(stem, suffix, q(d)), x), Part::Word(kind));
+    let mut text = and(
+        and_constant(one(mnemonic, suffix, q(d)), x),
+        Part::Word(kind),
+    );
     text.operands.push(Part::Mark(Mark::Hash));
     text.operands.push(Part::Number(n));
     text

@@ -6,7 +6,7 @@ ghost use Rattle.hm_textv.specs.Rows.{HasTokens, other_tokens};
 ghost use Rattle.hm_tokens.specs.Texts.{text_tokens};
 ghost use Rattle.hm_tokens.specs.Tokens.{tok};
 
-use crate::rows::{row_text, sum_stem};
+use crate::rows::{row_text, sum_mnemonic};
 use crate::suffixes::{by_sign, size_number};
 use hm_isa::{BitwiseName, V2, V22, Vector};
 use hm_text_rows::{q, r, three, two};
@@ -34,7 +34,7 @@ fn dot_text(i: &V22) -> Option<InstrText>
 {
     match i {
         V22::Dot(i) => Some(three(
-            sum_stem(i.a, "vmlav", "vmlava"),
+            sum_mnemonic(i.a, "vmlav", "vmlava"),
             by_sign(i.u, size_number(i.size)),
             r(2 * i.l.get()),
             q(i.n),

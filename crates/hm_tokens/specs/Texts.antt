@@ -13,13 +13,13 @@ part_token (parts.Word w) = word w.now
 part_token (parts.Number n) = number n
 part_token (parts.Mark m) = mark (mark_byte m)
 
--- the mnemonic: a stem, letters behind it, and a suffix
-abbrev pub mnemonic_of : InstrText → List ℕ
-mnemonic_of t = t.stem.now ++ (t.letters.now ++ t.suffix.now)
+-- the first word: a mnemonic, letters behind it, and a suffix
+abbrev pub first_word_of : InstrText → List ℕ
+first_word_of t = t.mnemonic.now ++ (t.letters.now ++ t.suffix.now)
 
 -- its tokens
 abbrev pub text_tokens : InstrText → List Tok
-text_tokens t = word (mnemonic_of t) ∷ map part_token t.operands.items
+text_tokens t = word (first_word_of t) ∷ map part_token t.operands.items
 
 -- a word in pieces
 abbrev pub behind : List ℕ → List ℕ → Option (List ℕ)

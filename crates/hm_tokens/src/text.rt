@@ -4,7 +4,7 @@ ghost use Rattle.std.specs.Prelude.{◌≡◌, ◌<◌, ◌≤◌, ◌+◌, ◌+
 ghost use Rattle.arrayvec.specs.ArrayString.{array_string_len};
 ghost use Rattle.hm_text_base.specs.Texts.{hex_digit};
 ghost use Rattle.hm_tokens.specs.Lines.{address, gap, is_hash, is_word, printed, printed_at, spelled};
-ghost use Rattle.hm_tokens.specs.Texts.{behind, is_pieces, mnemonic_of, part_token, text_tokens};
+ghost use Rattle.hm_tokens.specs.Texts.{behind, is_pieces, first_word_of, part_token, text_tokens};
 ghost use Rattle.hm_tokens.specs.Tokens.{spell, tok, word};
 
 use crate::marks::Mark;
@@ -26,10 +26,10 @@ impl Default for Part {
     }
 }
 
-/// The text of an instruction: its mnemonic in three pieces, and its operands with the marks between them.
+/// The text of an instruction: its first word in three pieces, and its operands with the marks between them.
 #[derive(Drop)]
 pub struct InstrText {
-    pub stem: &'static str,
+    pub mnemonic: &'static str,
     /// The letters of a block, or none.
     pub letters: &'static str,
     /// What stands behind the point, with it, or nothing.
@@ -209,11 +209,11 @@ fn push_address(out: &mut ArrayString<96>, a: u32)
 }
 
 impl InstrText {
-    /// Whether a word is its mnemonic.
-    fn is_mnemonic(&self, word: &[u8]) -> bool
-        ensures value { result ≡ is_pieces self.now.stem.now self.now.letters.now self.now.suffix.now word.now }
+    /// Whether a word is its first.
+    fn is_first_word(&self, word: &[u8]) -> bool
+        ensures value { result ≡ is_pieces self.now.mnemonic.now self.now.letters.now self.now.suffix.now word.now }
     {
-        match behind(word, self.stem) {
+        match behind(word, self.mnemonic) {
             Some(rest) => match behind(rest, self.letters) {
                 Some(rest) => rest == self.suffix.as_bytes(),
                 None => false,
@@ -222,12 +222,12 @@ impl InstrText {
         }
     }
 
-    /// Whether a token is its mnemonic.
+    /// Whether a token is its first word.
     fn is_first(&self, token: Token<'_>) -> bool
-        ensures same { IsTrue result ↔ (tok token.entry ≡ word (mnemonic_of self.now)) }
+        ensures same { IsTrue result ↔ (tok token.entry ≡ word (first_word_of self.now)) }
     {
         match token {
-            Token::Word(name) => self.is_mnemonic(name),
+            Token::Word(name) => self.is_first_word(name),
             Token::Number(_) | Token::Mark(_) => false,
         }
     }
@@ -244,13 +244,13 @@ impl InstrText {
         }
     }
 
-    /// What it is printed as: its mnemonic, and behind a space its operands.
+    /// What it is printed as: its first word, and behind a space its operands.
     pub fn print(&self) -> ArrayString<96>
         requires { length (printed (text_tokens self.now)) ≤ 96 }
         ensures bytes { result.bytes ≡ printed (text_tokens self.now) }
     {
         let mut out = ArrayString::new();
-        out.push_str(self.stem);
+        out.push_str(self.mnemonic);
         out.push_str(self.letters);
         out.push_str(self.suffix);
         if self.operands.is_empty() {

@@ -1,6 +1,6 @@
 use Rattle.hm_text_rows.specs.Shapes.{braces}
 use Rattle.hm_tokens.specs.Texts.{text_tokens}
-use Rattle.hm_text32.specs.Stems.{wide_list_stem, wide_list_suffix}
+use Rattle.hm_text32.specs.Mnemonics.{wide_list_mnemonic, wide_list_suffix}
 use Rattle.hm_text32.proofs.OnLists.{few_same, text_list}
 use Rattle.hm_text32.proofs.memory.text_t14.Goals as goal
 
@@ -10,7 +10,7 @@ with_list-requires-clause-few c = few_same c.args.i.now c.get-2.result c.get-2.e
 pub returns : goal.returns
 returns c =
     let i = c.args.i.now in
-    text_list braces (text_tokens c.with_list.result) (text_tokens c.list_start-start.result) (wide_list_stem i.name) (wide_list_suffix i.name)
-    c.wide_list_stem-stem.result.now c.wide_list_suffix.result.now
-    i.w.value i.n.value c.get.result i.list.value c.get-2.result c.with_list.ensures c.list_start-start.ensures.tokens c.wide_list_stem-stem.ensures
+    text_list braces (text_tokens c.with_list.result) (text_tokens c.list_start-start.result) (wide_list_mnemonic i.name) (wide_list_suffix i.name)
+    c.wide_list_mnemonic-mnemonic.result.now c.wide_list_suffix.result.now
+    i.w.value i.n.value c.get.result i.list.value c.get-2.result c.with_list.ensures c.list_start-start.ensures.tokens c.wide_list_mnemonic-mnemonic.ensures
     c.wide_list_suffix.ensures c.get.ensures.value c.get-2.ensures.value

@@ -4,6 +4,6 @@ use Rattle.hm_tokens.proofs.text.InstrText.is_first.Goals as goal
 pub returns-in-Word : goal.returns-in-Word
 returns-in-Word c = record {
   same =
-      rw c.in-Word.is (pieces_is c.args.self.now.stem.now c.args.self.now.letters.now c.args.self.now.suffix.now c.in-Word.name.now c.is_mnemonic.result
-      c.is_mnemonic.ensures.value);
+      rw c.in-Word.is (pieces_is c.args.self.now.mnemonic.now c.args.self.now.letters.now c.args.self.now.suffix.now c.in-Word.name.now c.is_first_word.result
+      c.is_first_word.ensures.value);
 }

@@ -1,10 +1,13 @@
-//! The stems of the mnemonics of rows of two halfwords, and the names of special registers.
+//! The mnemonics of rows of two halfwords, and the names of special registers.
 
 ghost use Rattle.std.specs.Prelude.{◌≡◌, ◌<◌};
-ghost use Rattle.hm_text32.specs.Stems.{access_stem, accumulate_stem, barrier_stem, bits_stem, bits_suffix, carry_stem, data_stem, double_in, double_name};
-ghost use Rattle.hm_text32.specs.Stems.{element_suffix, extend_stem, extract_stem, half_stem, long_stem, move_stem, operation_stem, pair_stem, read_name};
-ghost use Rattle.hm_text32.specs.Stems.{saturate_shift, saturate_stem, select_stem, shift_stem, stack_stem, test_stem, turn_stem, wide_branch_stem};
-ghost use Rattle.hm_text32.specs.Stems.{wide_list_stem, wide_list_suffix, wide_shift_stem, wide_sum_stem, written_name};
+ghost use Rattle.hm_text32.specs.Mnemonics.{access_mnemonic, accumulate_mnemonic, barrier_mnemonic, bits_mnemonic, bits_suffix, carry_mnemonic, data_mnemonic};
+ghost use Rattle.hm_text32.specs.Mnemonics.{double_in, double_name};
+ghost use Rattle.hm_text32.specs.Mnemonics.{element_suffix, extend_mnemonic, extract_mnemonic, half_mnemonic, long_mnemonic, move_mnemonic, operation_mnemonic};
+ghost use Rattle.hm_text32.specs.Mnemonics.{pair_mnemonic, read_name};
+ghost use Rattle.hm_text32.specs.Mnemonics.{saturate_shift, saturate_mnemonic, select_mnemonic, shift_mnemonic, stack_mnemonic, test_mnemonic, turn_mnemonic};
+ghost use Rattle.hm_text32.specs.Mnemonics.{wide_branch_mnemonic};
+ghost use Rattle.hm_text32.specs.Mnemonics.{wide_list_mnemonic, wide_list_suffix, wide_shift_mnemonic, wide_sum_mnemonic, written_name};
 
 use hm_isa::{
     AccessName, AccumulateName, BarrierName, Below, Bit, BitsName, DataName, ExtendName,
@@ -12,9 +15,9 @@ use hm_isa::{
     SelectName, StackName, SumName, WideBranchName, WideListName, WideShiftName, WrittenName,
 };
 
-/// The stem of a row T3.
-pub fn wide_sum_stem(name: SumName) -> &'static str
-    ensures { result.now ≡ wide_sum_stem name }
+/// The mnemonic of a row T3.
+pub fn wide_sum_mnemonic(name: SumName) -> &'static str
+    ensures { result.now ≡ wide_sum_mnemonic name }
 {
     match name {
         SumName::Add => "addw",
@@ -22,9 +25,9 @@ pub fn wide_sum_stem(name: SumName) -> &'static str
     }
 }
 
-/// The stem of a row T4.
-pub fn half_stem(name: HalfName) -> &'static str
-    ensures { result.now ≡ half_stem name }
+/// The mnemonic of a row T4.
+pub fn half_mnemonic(name: HalfName) -> &'static str
+    ensures { result.now ≡ half_mnemonic name }
 {
     match name {
         HalfName::Movw => "movw",
@@ -32,9 +35,9 @@ pub fn half_stem(name: HalfName) -> &'static str
     }
 }
 
-/// The stem of a row T5.
-pub fn saturate_stem(name: SaturateName) -> &'static str
-    ensures { result.now ≡ saturate_stem name }
+/// The mnemonic of a row T5.
+pub fn saturate_mnemonic(name: SaturateName) -> &'static str
+    ensures { result.now ≡ saturate_mnemonic name }
 {
     match name {
         SaturateName::Ssat => "ssat",
@@ -42,9 +45,9 @@ pub fn saturate_stem(name: SaturateName) -> &'static str
     }
 }
 
-/// The stem of a row T6.
-pub fn extract_stem(name: ExtractName) -> &'static str
-    ensures { result.now ≡ extract_stem name }
+/// The mnemonic of a row T6.
+pub fn extract_mnemonic(name: ExtractName) -> &'static str
+    ensures { result.now ≡ extract_mnemonic name }
 {
     match name {
         ExtractName::Sbfx => "sbfx",
@@ -52,9 +55,9 @@ pub fn extract_stem(name: ExtractName) -> &'static str
     }
 }
 
-/// The stem of a row T9.
-pub fn extend_stem(name: ExtendName) -> &'static str
-    ensures { result.now ≡ extend_stem name }
+/// The mnemonic of a row T9.
+pub fn extend_mnemonic(name: ExtendName) -> &'static str
+    ensures { result.now ≡ extend_mnemonic name }
 {
     match name {
         ExtendName::Sxth => "sxth",
@@ -64,9 +67,9 @@ pub fn extend_stem(name: ExtendName) -> &'static str
     }
 }
 
-/// The stem of a row T10.
-pub fn bits_stem(name: BitsName) -> &'static str
-    ensures { result.now ≡ bits_stem name }
+/// The mnemonic of a row T10.
+pub fn bits_mnemonic(name: BitsName) -> &'static str
+    ensures { result.now ≡ bits_mnemonic name }
 {
     match name {
         BitsName::Rev => "rev",
@@ -77,9 +80,9 @@ pub fn bits_stem(name: BitsName) -> &'static str
     }
 }
 
-/// The stem of a row T11.
-pub fn operation_stem(name: OperationName) -> &'static str
-    ensures { result.now ≡ operation_stem name }
+/// The mnemonic of a row T11.
+pub fn operation_mnemonic(name: OperationName) -> &'static str
+    ensures { result.now ≡ operation_mnemonic name }
 {
     match name {
         OperationName::Mul => "mul",
@@ -88,9 +91,9 @@ pub fn operation_stem(name: OperationName) -> &'static str
     }
 }
 
-/// The stem of a row T11.
-pub fn accumulate_stem(name: AccumulateName) -> &'static str
-    ensures { result.now ≡ accumulate_stem name }
+/// The mnemonic of a row T11.
+pub fn accumulate_mnemonic(name: AccumulateName) -> &'static str
+    ensures { result.now ≡ accumulate_mnemonic name }
 {
     match name {
         AccumulateName::Mla => "mla",
@@ -98,9 +101,9 @@ pub fn accumulate_stem(name: AccumulateName) -> &'static str
     }
 }
 
-/// The stem of a row T11.
-pub fn long_stem(name: LongProductName) -> &'static str
-    ensures { result.now ≡ long_stem name }
+/// The mnemonic of a row T11.
+pub fn long_mnemonic(name: LongProductName) -> &'static str
+    ensures { result.now ≡ long_mnemonic name }
 {
     match name {
         LongProductName::Smull => "smull",
@@ -110,9 +113,9 @@ pub fn long_stem(name: LongProductName) -> &'static str
     }
 }
 
-/// The stem of a row T20.
-pub fn select_stem(name: SelectName) -> &'static str
-    ensures { result.now ≡ select_stem name }
+/// The mnemonic of a row T20.
+pub fn select_mnemonic(name: SelectName) -> &'static str
+    ensures { result.now ≡ select_mnemonic name }
 {
     match name {
         SelectName::Csel => "csel",
@@ -122,9 +125,9 @@ pub fn select_stem(name: SelectName) -> &'static str
     }
 }
 
-/// The stem of a row T19.
-pub fn barrier_stem(name: BarrierName) -> &'static str
-    ensures { result.now ≡ barrier_stem name }
+/// The mnemonic of a row T19.
+pub fn barrier_mnemonic(name: BarrierName) -> &'static str
+    ensures { result.now ≡ barrier_mnemonic name }
 {
     match name {
         BarrierName::Dsb => "dsb",
@@ -162,9 +165,9 @@ pub fn written_name(name: WrittenName) -> &'static str
     }
 }
 
-/// The stem of a row T8, with s where the flags tell the result.
-pub fn wide_shift_stem(name: WideShiftName, s: Bit) -> &'static str
-    ensures { result.now ≡ wide_shift_stem name s.value }
+/// The mnemonic of a row T8, with s where the flags tell the result.
+pub fn wide_shift_mnemonic(name: WideShiftName, s: Bit) -> &'static str
+    ensures { result.now ≡ wide_shift_mnemonic name s.value }
 {
     match (name, s.get() == 0) {
         (WideShiftName::Lsl, true) => "lsl",
@@ -178,7 +181,7 @@ pub fn wide_shift_stem(name: WideShiftName, s: Bit) -> &'static str
     }
 }
 
-/// What stands behind the stem of a row T10.
+/// What stands behind the mnemonic of a row T10.
 pub fn bits_suffix(name: BitsName) -> &'static str
     ensures { result.now ≡ bits_suffix name }
 {
@@ -207,9 +210,9 @@ pub fn saturate_shift(sh: Bit) -> &'static str
     if sh.get() == 0 { "lsl" } else { "asr" }
 }
 
-/// The stem of a row T15.
-pub fn stack_stem(name: StackName) -> &'static str
-    ensures { result.now ≡ stack_stem name }
+/// The mnemonic of a row T15.
+pub fn stack_mnemonic(name: StackName) -> &'static str
+    ensures { result.now ≡ stack_mnemonic name }
 {
     match name {
         StackName::Vpush => "vpush",
@@ -267,9 +270,9 @@ pub fn read_double(name: &[u8]) -> Option<u32>
     }
 }
 
-/// The stem of a row T2 of three registers, with s where the flags tell the result.
-pub fn data_stem(name: DataName, s: Bit) -> &'static str
-    ensures { result.now ≡ data_stem name s.value }
+/// The mnemonic of a row T2 of three registers, with s where the flags tell the result.
+pub fn data_mnemonic(name: DataName, s: Bit) -> &'static str
+    ensures { result.now ≡ data_mnemonic name s.value }
 {
     match (name, s.get() == 0) {
         (DataName::And, true) => "and",
@@ -295,9 +298,9 @@ pub fn data_stem(name: DataName, s: Bit) -> &'static str
     }
 }
 
-/// The stem of a row T2 that is a test; nothing for the other names.
-pub fn test_stem(name: DataName) -> &'static str
-    ensures { result.now ≡ test_stem name }
+/// The mnemonic of a row T2 that is a test; nothing for the other names.
+pub fn test_mnemonic(name: DataName) -> &'static str
+    ensures { result.now ≡ test_mnemonic name }
 {
     match name {
         DataName::And => "tst",
@@ -313,9 +316,9 @@ pub fn test_stem(name: DataName) -> &'static str
     }
 }
 
-/// The stem of a row T2 with no first register; nothing for the other names.
-pub fn move_stem(name: DataName, s: Bit) -> &'static str
-    ensures { result.now ≡ move_stem name s.value }
+/// The mnemonic of a row T2 with no first register; nothing for the other names.
+pub fn move_mnemonic(name: DataName, s: Bit) -> &'static str
+    ensures { result.now ≡ move_mnemonic name s.value }
 {
     match (name, s.get() == 0) {
         (DataName::Orr, true) => "mov",
@@ -328,8 +331,8 @@ pub fn move_stem(name: DataName, s: Bit) -> &'static str
 }
 
 /// A shift by its number.
-pub fn shift_stem(ty: Below<4>) -> &'static str
-    ensures { result.now ≡ shift_stem ty.value }
+pub fn shift_mnemonic(ty: Below<4>) -> &'static str
+    ensures { result.now ≡ shift_mnemonic ty.value }
 {
     match ty.get() {
         0 => "lsl",
@@ -340,11 +343,11 @@ pub fn shift_stem(ty: Below<4>) -> &'static str
 }
 
 /// A shift as a mnemonic, with s where the flags tell the result.
-pub fn turn_stem(ty: Below<4>, s: Bit) -> &'static str
-    ensures { result.now ≡ turn_stem ty.value s.value }
+pub fn turn_mnemonic(ty: Below<4>, s: Bit) -> &'static str
+    ensures { result.now ≡ turn_mnemonic ty.value s.value }
 {
     if s.get() == 0 {
-        return shift_stem(ty);
+        return shift_mnemonic(ty);
     }
     match ty.get() {
         0 => "lsls",
@@ -355,15 +358,15 @@ pub fn turn_stem(ty: Below<4>, s: Bit) -> &'static str
 }
 
 /// A shift through the carry, with s where the flags tell the result.
-pub fn carry_stem(s: Bit) -> &'static str
-    ensures { result.now ≡ carry_stem s.value }
+pub fn carry_mnemonic(s: Bit) -> &'static str
+    ensures { result.now ≡ carry_mnemonic s.value }
 {
     if s.get() == 0 { "rrx" } else { "rrxs" }
 }
 
-/// The stem of a row T12.
-pub fn access_stem(name: AccessName) -> &'static str
-    ensures { result.now ≡ access_stem name }
+/// The mnemonic of a row T12.
+pub fn access_mnemonic(name: AccessName) -> &'static str
+    ensures { result.now ≡ access_mnemonic name }
 {
     match name {
         AccessName::Str => "str",
@@ -377,9 +380,9 @@ pub fn access_stem(name: AccessName) -> &'static str
     }
 }
 
-/// The stem of a row T13.
-pub fn pair_stem(name: PairName) -> &'static str
-    ensures { result.now ≡ pair_stem name }
+/// The mnemonic of a row T13.
+pub fn pair_mnemonic(name: PairName) -> &'static str
+    ensures { result.now ≡ pair_mnemonic name }
 {
     match name {
         PairName::Strd => "strd",
@@ -387,9 +390,9 @@ pub fn pair_stem(name: PairName) -> &'static str
     }
 }
 
-/// The stem of a row T14.
-pub fn wide_list_stem(name: WideListName) -> &'static str
-    ensures { result.now ≡ wide_list_stem name }
+/// The mnemonic of a row T14.
+pub fn wide_list_mnemonic(name: WideListName) -> &'static str
+    ensures { result.now ≡ wide_list_mnemonic name }
 {
     match name {
         WideListName::Stmia => "stmia",
@@ -412,8 +415,8 @@ pub fn wide_list_suffix(name: WideListName) -> &'static str
 }
 
 /// The mnemonic of a row T16 without a condition.
-pub fn wide_branch_stem(name: WideBranchName) -> &'static str
-    ensures { result.now ≡ wide_branch_stem name }
+pub fn wide_branch_mnemonic(name: WideBranchName) -> &'static str
+    ensures { result.now ≡ wide_branch_mnemonic name }
 {
     match name {
         WideBranchName::B => "b.w",

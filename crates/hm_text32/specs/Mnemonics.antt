@@ -1,4 +1,4 @@
--- The mnemonics of rows of two halfwords: stems, and the names that stand for operands.
+-- The mnemonics of rows of two halfwords, and the names that stand for operands.
 use Rattle.std.specs.Prelude.{ℕ, List, [], ◌∷◌, get_or, codes, Option}
 use Rattle.hm_isa.specs.declared.narrow.AccessName.{AccessName}
 use Rattle.hm_isa.specs.declared.narrow.AccessName.TheVariants as access
@@ -51,159 +51,160 @@ wide = codes ".w"
 abbrev pub element_suffix : ℕ → List ℕ
 element_suffix z = get_or (codes ".8" ∷ codes ".16" ∷ codes ".32" ∷ codes ".64" ∷ []) z []
 
--- STEMS
--- T1 and T2: the stem of AND, BIC, ORR, ORN, EOR, ADD, ADC, SBC, SUB and RSB, with s where the flags tell the result
+-- MNEMONICS
+-- T1 and T2: the mnemonic of AND, BIC, ORR, ORN, EOR, ADD, ADC, SBC, SUB and RSB, with s where the flags tell the result
 -- (DDI0553, "Data-processing (modified immediate)" and "Data-processing (shifted register)")
-abbrev pub data_stem : DataName → ℕ → List ℕ
-data_stem data_.And s = either s (codes "and") (codes "ands")
-data_stem data_.Bic s = either s (codes "bic") (codes "bics")
-data_stem data_.Orr s = either s (codes "orr") (codes "orrs")
-data_stem data_.Orn s = either s (codes "orn") (codes "orns")
-data_stem data_.Eor s = either s (codes "eor") (codes "eors")
-data_stem data_.Add s = either s (codes "add") (codes "adds")
-data_stem data_.Adc s = either s (codes "adc") (codes "adcs")
-data_stem data_.Sbc s = either s (codes "sbc") (codes "sbcs")
-data_stem data_.Sub s = either s (codes "sub") (codes "subs")
-data_stem data_.Rsb s = either s (codes "rsb") (codes "rsbs")
+abbrev pub data_mnemonic : DataName → ℕ → List ℕ
+data_mnemonic data_.And s = either s (codes "and") (codes "ands")
+data_mnemonic data_.Bic s = either s (codes "bic") (codes "bics")
+data_mnemonic data_.Orr s = either s (codes "orr") (codes "orrs")
+data_mnemonic data_.Orn s = either s (codes "orn") (codes "orns")
+data_mnemonic data_.Eor s = either s (codes "eor") (codes "eors")
+data_mnemonic data_.Add s = either s (codes "add") (codes "adds")
+data_mnemonic data_.Adc s = either s (codes "adc") (codes "adcs")
+data_mnemonic data_.Sbc s = either s (codes "sbc") (codes "sbcs")
+data_mnemonic data_.Sub s = either s (codes "sub") (codes "subs")
+data_mnemonic data_.Rsb s = either s (codes "rsb") (codes "rsbs")
 
--- T1 and T2: the stem of TST, TEQ, CMN and CMP, which have no register for the result; the others are no tests
+-- T1 and T2: the mnemonic of TST, TEQ, CMN and CMP, which have no register for the result; the others are no tests
 -- (DDI0553, "Data-processing (modified immediate)" and "Data-processing (shifted register)")
-abbrev pub test_stem : DataName → List ℕ
-test_stem data_.And = codes "tst"
-test_stem data_.Eor = codes "teq"
-test_stem data_.Add = codes "cmn"
-test_stem data_.Sub = codes "cmp"
-test_stem name = []
+abbrev pub test_mnemonic : DataName → List ℕ
+test_mnemonic data_.And = codes "tst"
+test_mnemonic data_.Eor = codes "teq"
+test_mnemonic data_.Add = codes "cmn"
+test_mnemonic data_.Sub = codes "cmp"
+test_mnemonic name = []
 
--- T1 and T2: the stem of MOV and MVN, which have no first register, with s where the flags tell the result; the others have one
+-- T1 and T2: the mnemonic of MOV and MVN, which have no first register, with s where the flags tell the result; the others have one
 -- (DDI0553, "Data-processing (modified immediate)" and "Data-processing (shifted register)")
-abbrev pub move_stem : DataName → ℕ → List ℕ
-move_stem data_.Orr s = either s (codes "mov") (codes "movs")
-move_stem data_.Orn s = either s (codes "mvn") (codes "mvns")
-move_stem name s = []
+abbrev pub move_mnemonic : DataName → ℕ → List ℕ
+move_mnemonic data_.Orr s = either s (codes "mov") (codes "movs")
+move_mnemonic data_.Orn s = either s (codes "mvn") (codes "mvns")
+move_mnemonic name s = []
 
--- T2: the stem of LSL, LSR, ASR and ROR, by the number of the shift (DDI0553, "Data-processing (shifted register)")
-abbrev pub shift_stem : ℕ → List ℕ
-shift_stem ty = get_or (codes "lsl" ∷ codes "lsr" ∷ codes "asr" ∷ codes "ror" ∷ []) ty []
+-- T2: the mnemonic of LSL, LSR, ASR and ROR, by the number of the shift (DDI0553, "Data-processing (shifted register)")
+abbrev pub shift_mnemonic : ℕ → List ℕ
+shift_mnemonic ty = get_or (codes "lsl" ∷ codes "lsr" ∷ codes "asr" ∷ codes "ror" ∷ []) ty []
 
--- T2: the stem of LSL, LSR, ASR and ROR as mnemonics, with s where the flags tell the result (DDI0553, "Data-processing (shifted register)")
-abbrev pub turn_stem : ℕ → ℕ → List ℕ
-turn_stem ty s = either s (shift_stem ty) (get_or (codes "lsls" ∷ codes "lsrs" ∷ codes "asrs" ∷ codes "rors" ∷ []) ty [])
+-- T2: the mnemonic of LSL, LSR, ASR and ROR with a constant, with s where the flags tell the result (DDI0553, "Data-processing (shifted register)")
+abbrev pub turn_mnemonic : ℕ → ℕ → List ℕ
+turn_mnemonic ty s = either s (shift_mnemonic ty) (get_or (codes "lsls" ∷ codes "lsrs" ∷ codes "asrs" ∷ codes "rors" ∷ []) ty [])
 
 -- T2: RRX, or RRXS where the flags tell the result (DDI0553, "Data-processing (shifted register)")
-abbrev pub carry_stem : ℕ → List ℕ
-carry_stem s = either s (codes "rrx") (codes "rrxs")
+abbrev pub carry_mnemonic : ℕ → List ℕ
+carry_mnemonic s = either s (codes "rrx") (codes "rrxs")
 
 -- T3: the mnemonic of each name, ADDW and SUBW (DDI0553, "ADD (immediate)" and "SUB (immediate)", encodings T4)
-abbrev pub wide_sum_stem : SumName → List ℕ
-wide_sum_stem sum_.Add = codes "addw"
-wide_sum_stem sum_.Sub = codes "subw"
+abbrev pub wide_sum_mnemonic : SumName → List ℕ
+wide_sum_mnemonic sum_.Add = codes "addw"
+wide_sum_mnemonic sum_.Sub = codes "subw"
 
 -- T4: the mnemonic of each name, MOVW and MOVT (DDI0553, "MOV (immediate)" and "MOVT")
-abbrev pub half_stem : HalfName → List ℕ
-half_stem half.Movw = codes "movw"
-half_stem half.Movt = codes "movt"
+abbrev pub half_mnemonic : HalfName → List ℕ
+half_mnemonic half.Movw = codes "movw"
+half_mnemonic half.Movt = codes "movt"
 
 -- T5: the mnemonic of each name, SSAT and USAT (DDI0553, "SSAT" and "USAT")
-abbrev pub saturate_stem : SaturateName → List ℕ
-saturate_stem saturate.Ssat = codes "ssat"
-saturate_stem saturate.Usat = codes "usat"
+abbrev pub saturate_mnemonic : SaturateName → List ℕ
+saturate_mnemonic saturate.Ssat = codes "ssat"
+saturate_mnemonic saturate.Usat = codes "usat"
 
 -- T6: the mnemonic of each name, SBFX and UBFX (DDI0553, "SBFX" and "UBFX")
-abbrev pub extract_stem : ExtractName → List ℕ
-extract_stem extract.Sbfx = codes "sbfx"
-extract_stem extract.Ubfx = codes "ubfx"
+abbrev pub extract_mnemonic : ExtractName → List ℕ
+extract_mnemonic extract.Sbfx = codes "sbfx"
+extract_mnemonic extract.Ubfx = codes "ubfx"
 
--- T8: the stem of each name, LSL, LSR, ASR and ROR, with s where the flags tell the result
+-- T8: the mnemonic of each name, LSL, LSR, ASR and ROR, with s where the flags tell the result
 -- (DDI0553, "LSL (register)", "LSR (register)", "ASR (register)" and "ROR (register)")
-abbrev pub wide_shift_stem : WideShiftName → ℕ → List ℕ
-wide_shift_stem wide_shift.Lsl s = either s (codes "lsl") (codes "lsls")
-wide_shift_stem wide_shift.Lsr s = either s (codes "lsr") (codes "lsrs")
-wide_shift_stem wide_shift.Asr s = either s (codes "asr") (codes "asrs")
-wide_shift_stem wide_shift.Ror s = either s (codes "ror") (codes "rors")
+abbrev pub wide_shift_mnemonic : WideShiftName → ℕ → List ℕ
+wide_shift_mnemonic wide_shift.Lsl s = either s (codes "lsl") (codes "lsls")
+wide_shift_mnemonic wide_shift.Lsr s = either s (codes "lsr") (codes "lsrs")
+wide_shift_mnemonic wide_shift.Asr s = either s (codes "asr") (codes "asrs")
+wide_shift_mnemonic wide_shift.Ror s = either s (codes "ror") (codes "rors")
 
--- T9: the stem of each name, SXTH, SXTB, UXTH and UXTB (DDI0553, "SXTH", "UXTH", "SXTB" and "UXTB")
-abbrev pub extend_stem : ExtendName → List ℕ
-extend_stem extend.Sxth = codes "sxth"
-extend_stem extend.Sxtb = codes "sxtb"
-extend_stem extend.Uxth = codes "uxth"
-extend_stem extend.Uxtb = codes "uxtb"
+-- T9: the mnemonic of each name, SXTH, SXTB, UXTH and UXTB (DDI0553, "SXTH", "UXTH", "SXTB" and "UXTB")
+abbrev pub extend_mnemonic : ExtendName → List ℕ
+extend_mnemonic extend.Sxth = codes "sxth"
+extend_mnemonic extend.Sxtb = codes "sxtb"
+extend_mnemonic extend.Uxth = codes "uxth"
+extend_mnemonic extend.Uxtb = codes "uxtb"
 
--- T10: the stem of each name, REV, REV16, RBIT, REVSH and CLZ (DDI0553, "REV", "REV16", "RBIT", "REVSH" and "CLZ")
-abbrev pub bits_stem : BitsName → List ℕ
-bits_stem bits.Rev = codes "rev"
-bits_stem bits.Rev16 = codes "rev16"
-bits_stem bits.Rbit = codes "rbit"
-bits_stem bits.Revsh = codes "revsh"
-bits_stem bits.Clz = codes "clz"
+-- T10: the mnemonic of each name, REV, REV16, RBIT, REVSH and CLZ (DDI0553, "REV", "REV16", "RBIT", "REVSH" and "CLZ")
+abbrev pub bits_mnemonic : BitsName → List ℕ
+bits_mnemonic bits.Rev = codes "rev"
+bits_mnemonic bits.Rev16 = codes "rev16"
+bits_mnemonic bits.Rbit = codes "rbit"
+bits_mnemonic bits.Revsh = codes "revsh"
+bits_mnemonic bits.Clz = codes "clz"
 
--- T10: what stands behind the stem: REV, REV16 and REVSH, which a row of one halfword has too, are wide (DDI0553, "REV", "REV16", "RBIT", "REVSH" and "CLZ")
+-- T10: what stands behind the mnemonic: REV, REV16 and REVSH, which a row of one halfword has too, are wide (DDI0553, "REV", "REV16", "RBIT", "REVSH"
+-- and "CLZ")
 abbrev pub bits_suffix : BitsName → List ℕ
 bits_suffix bits.Rbit = []
 bits_suffix bits.Clz = []
 bits_suffix name = wide
 
 -- T11: the mnemonic of each name, MUL, SDIV and UDIV (DDI0553, "MUL", "SDIV" and "UDIV")
-abbrev pub operation_stem : OperationName → List ℕ
-operation_stem operation.Mul = codes "mul"
-operation_stem operation.Sdiv = codes "sdiv"
-operation_stem operation.Udiv = codes "udiv"
+abbrev pub operation_mnemonic : OperationName → List ℕ
+operation_mnemonic operation.Mul = codes "mul"
+operation_mnemonic operation.Sdiv = codes "sdiv"
+operation_mnemonic operation.Udiv = codes "udiv"
 
 -- T11: the mnemonic of each name, MLA and MLS (DDI0553, "MLA" and "MLS")
-abbrev pub accumulate_stem : AccumulateName → List ℕ
-accumulate_stem accumulate.Mla = codes "mla"
-accumulate_stem accumulate.Mls = codes "mls"
+abbrev pub accumulate_mnemonic : AccumulateName → List ℕ
+accumulate_mnemonic accumulate.Mla = codes "mla"
+accumulate_mnemonic accumulate.Mls = codes "mls"
 
 -- T11: the mnemonic of each name, SMULL, UMULL, SMLAL and UMLAL (DDI0553, "SMULL", "UMULL", "SMLAL" and "UMLAL")
-abbrev pub long_stem : LongProductName → List ℕ
-long_stem long.Smull = codes "smull"
-long_stem long.Umull = codes "umull"
-long_stem long.Smlal = codes "smlal"
-long_stem long.Umlal = codes "umlal"
+abbrev pub long_mnemonic : LongProductName → List ℕ
+long_mnemonic long.Smull = codes "smull"
+long_mnemonic long.Umull = codes "umull"
+long_mnemonic long.Smlal = codes "smlal"
+long_mnemonic long.Umlal = codes "umlal"
 
 -- T20: the mnemonic of each name, CSEL, CSINC, CSINV and CSNEG (DDI0553, "CSEL", "CSINC", "CSINV" and "CSNEG")
-abbrev pub select_stem : SelectName → List ℕ
-select_stem select.Csel = codes "csel"
-select_stem select.Csinc = codes "csinc"
-select_stem select.Csinv = codes "csinv"
-select_stem select.Csneg = codes "csneg"
+abbrev pub select_mnemonic : SelectName → List ℕ
+select_mnemonic select.Csel = codes "csel"
+select_mnemonic select.Csinc = codes "csinc"
+select_mnemonic select.Csinv = codes "csinv"
+select_mnemonic select.Csneg = codes "csneg"
 
 -- T19: the mnemonic of each name, DSB, DMB and ISB (DDI0553, "DSB", "DMB" and "ISB")
-abbrev pub barrier_stem : BarrierName → List ℕ
-barrier_stem barrier.Dsb = codes "dsb"
-barrier_stem barrier.Dmb = codes "dmb"
-barrier_stem barrier.Isb = codes "isb"
+abbrev pub barrier_mnemonic : BarrierName → List ℕ
+barrier_mnemonic barrier.Dsb = codes "dsb"
+barrier_mnemonic barrier.Dmb = codes "dmb"
+barrier_mnemonic barrier.Isb = codes "isb"
 
 -- T15: the mnemonic of each name, VPUSH and VPOP (DDI0553, "VPUSH" and "VPOP")
-abbrev pub stack_stem : StackName → List ℕ
-stack_stem stack.Vpush = codes "vpush"
-stack_stem stack.Vpop = codes "vpop"
+abbrev pub stack_mnemonic : StackName → List ℕ
+stack_mnemonic stack.Vpush = codes "vpush"
+stack_mnemonic stack.Vpop = codes "vpop"
 
--- T12: the stem of each name, STR, STRH, STRB, LDRSB, LDR, LDRH, LDRB and LDRSH
+-- T12: the mnemonic of each name, STR, STRH, STRB, LDRSB, LDR, LDRH, LDRB and LDRSH
 -- (DDI0553, "LDR (immediate)", "LDR (literal)", "LDR (register)" and the like of each)
-abbrev pub access_stem : AccessName → List ℕ
-access_stem access.Str = codes "str"
-access_stem access.Strh = codes "strh"
-access_stem access.Strb = codes "strb"
-access_stem access.Ldrsb = codes "ldrsb"
-access_stem access.Ldr = codes "ldr"
-access_stem access.Ldrh = codes "ldrh"
-access_stem access.Ldrb = codes "ldrb"
-access_stem access.Ldrsh = codes "ldrsh"
+abbrev pub access_mnemonic : AccessName → List ℕ
+access_mnemonic access.Str = codes "str"
+access_mnemonic access.Strh = codes "strh"
+access_mnemonic access.Strb = codes "strb"
+access_mnemonic access.Ldrsb = codes "ldrsb"
+access_mnemonic access.Ldr = codes "ldr"
+access_mnemonic access.Ldrh = codes "ldrh"
+access_mnemonic access.Ldrb = codes "ldrb"
+access_mnemonic access.Ldrsh = codes "ldrsh"
 
 -- T13: the mnemonic of each name, STRD and LDRD (DDI0553, "STRD (immediate)", "LDRD (immediate)" and "LDRD (literal)")
-abbrev pub pair_stem : PairName → List ℕ
-pair_stem pair.Strd = codes "strd"
-pair_stem pair.Ldrd = codes "ldrd"
+abbrev pub pair_mnemonic : PairName → List ℕ
+pair_mnemonic pair.Strd = codes "strd"
+pair_mnemonic pair.Ldrd = codes "ldrd"
 
--- T14: the stem of each name, STMIA, LDMIA, STMDB and LDMDB (DDI0553, "STM, STMIA, STMEA", "LDM, LDMIA, LDMFD", "STMDB, STMFD" and "LDMDB, LDMEA")
-abbrev pub wide_list_stem : WideListName → List ℕ
-wide_list_stem wide_list.Stmia = codes "stmia"
-wide_list_stem wide_list.Ldmia = codes "ldmia"
-wide_list_stem wide_list.Stmdb = codes "stmdb"
-wide_list_stem wide_list.Ldmdb = codes "ldmdb"
+-- T14: the mnemonic of each name, STMIA, LDMIA, STMDB and LDMDB (DDI0553, "STM, STMIA, STMEA", "LDM, LDMIA, LDMFD", "STMDB, STMFD" and "LDMDB, LDMEA")
+abbrev pub wide_list_mnemonic : WideListName → List ℕ
+wide_list_mnemonic wide_list.Stmia = codes "stmia"
+wide_list_mnemonic wide_list.Ldmia = codes "ldmia"
+wide_list_mnemonic wide_list.Stmdb = codes "stmdb"
+wide_list_mnemonic wide_list.Ldmdb = codes "ldmdb"
 
--- T14: what stands behind the stem: STMIA and LDMIA, which a row of one halfword has too, are wide
+-- T14: what stands behind the mnemonic: STMIA and LDMIA, which a row of one halfword has too, are wide
 -- (DDI0553, "STM, STMIA, STMEA", "LDM, LDMIA, LDMFD", "STMDB, STMFD" and "LDMDB, LDMEA")
 abbrev pub wide_list_suffix : WideListName → List ℕ
 wide_list_suffix wide_list.Stmia = wide
@@ -212,9 +213,9 @@ wide_list_suffix wide_list.Stmdb = []
 wide_list_suffix wide_list.Ldmdb = []
 
 -- T16: the mnemonic of each name, B.W and BL (DDI0553, "B", encoding T4, and "BL", encoding T1)
-abbrev pub wide_branch_stem : WideBranchName → List ℕ
-wide_branch_stem wide_branch.B = codes "b.w"
-wide_branch_stem wide_branch.Bl = codes "bl"
+abbrev pub wide_branch_mnemonic : WideBranchName → List ℕ
+wide_branch_mnemonic wide_branch.B = codes "b.w"
+wide_branch_mnemonic wide_branch.Bl = codes "bl"
 
 -- T5: how SSAT and USAT shift, LSL or ASR (DDI0553, "SSAT" and "USAT")
 abbrev pub saturate_shift : ℕ → List ℕ

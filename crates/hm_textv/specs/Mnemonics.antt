@@ -1,4 +1,4 @@
--- The mnemonics of the vector rows: stems, and what stands behind the point.
+-- The mnemonics of the vector rows, and what stands behind the point.
 use Rattle.std.specs.Prelude.{ℕ, ◌+◌, cond, List, [], ◌∷◌, ◌++◌, get_or, codes, nat_eq}
 use Rattle.hm_isa.specs.declared.vectors.AddName.{AddName}
 use Rattle.hm_isa.specs.declared.vectors.AddName.TheVariants as add
@@ -65,142 +65,142 @@ size_number element.Bytes = 0
 size_number element.Halves = 1
 size_number element.Words = 2
 
--- STEMS
--- V1: the stem of each name, VADD, VSUB and VMUL (DDI0553, "VADD (vector)", "VSUB (vector)" and "VMUL (vector)")
-abbrev pub add_stem : AddName → List ℕ
-add_stem add.Add = codes "vadd"
-add_stem add.Sub = codes "vsub"
-add_stem add.Mul = codes "vmul"
+-- MNEMONICS
+-- V1: the mnemonic of each name, VADD, VSUB and VMUL (DDI0553, "VADD (vector)", "VSUB (vector)" and "VMUL (vector)")
+abbrev pub add_mnemonic : AddName → List ℕ
+add_mnemonic add.Add = codes "vadd"
+add_mnemonic add.Sub = codes "vsub"
+add_mnemonic add.Mul = codes "vmul"
 
--- V2: the stem of each name, VAND, VBIC, VORR, VORN and VEOR (DDI0553, "VAND", "VBIC (register)", "VORR", "VORN" and "VEOR")
-abbrev pub bitwise_stem : BitwiseName → List ℕ
-bitwise_stem bitwise.And = codes "vand"
-bitwise_stem bitwise.Bic = codes "vbic"
-bitwise_stem bitwise.Orr = codes "vorr"
-bitwise_stem bitwise.Orn = codes "vorn"
-bitwise_stem bitwise.Eor = codes "veor"
+-- V2: the mnemonic of each name, VAND, VBIC, VORR, VORN and VEOR (DDI0553, "VAND", "VBIC (register)", "VORR", "VORN" and "VEOR")
+abbrev pub bitwise_mnemonic : BitwiseName → List ℕ
+bitwise_mnemonic bitwise.And = codes "vand"
+bitwise_mnemonic bitwise.Bic = codes "vbic"
+bitwise_mnemonic bitwise.Orr = codes "vorr"
+bitwise_mnemonic bitwise.Orn = codes "vorn"
+bitwise_mnemonic bitwise.Eor = codes "veor"
 
--- V3: the stem of each name, VMAX, VMIN, VABD, VHADD, VRHADD, VHSUB, VQADD and VQSUB (DDI0553, the vector form of each)
-abbrev pub signed_stem : SignedName → List ℕ
-signed_stem signed_.Max = codes "vmax"
-signed_stem signed_.Min = codes "vmin"
-signed_stem signed_.Abd = codes "vabd"
-signed_stem signed_.Hadd = codes "vhadd"
-signed_stem signed_.Rhadd = codes "vrhadd"
-signed_stem signed_.Hsub = codes "vhsub"
-signed_stem signed_.Qadd = codes "vqadd"
-signed_stem signed_.Qsub = codes "vqsub"
+-- V3: the mnemonic of each name, VMAX, VMIN, VABD, VHADD, VRHADD, VHSUB, VQADD and VQSUB (DDI0553, the vector form of each)
+abbrev pub signed_mnemonic : SignedName → List ℕ
+signed_mnemonic signed_.Max = codes "vmax"
+signed_mnemonic signed_.Min = codes "vmin"
+signed_mnemonic signed_.Abd = codes "vabd"
+signed_mnemonic signed_.Hadd = codes "vhadd"
+signed_mnemonic signed_.Rhadd = codes "vrhadd"
+signed_mnemonic signed_.Hsub = codes "vhsub"
+signed_mnemonic signed_.Qadd = codes "vqadd"
+signed_mnemonic signed_.Qsub = codes "vqsub"
 
--- V4: the stem of each name, VSHL, VQSHL, VRSHL and VQRSHL (DDI0553, "VSHL", "VQSHL", "VRSHL" and "VQRSHL")
-abbrev pub vector_shift_stem : VectorShiftName → List ℕ
-vector_shift_stem by_vector.Shl = codes "vshl"
-vector_shift_stem by_vector.Qshl = codes "vqshl"
-vector_shift_stem by_vector.Rshl = codes "vrshl"
-vector_shift_stem by_vector.Qrshl = codes "vqrshl"
+-- V4: the mnemonic of each name, VSHL, VQSHL, VRSHL and VQRSHL (DDI0553, "VSHL", "VQSHL", "VRSHL" and "VQRSHL")
+abbrev pub vector_shift_mnemonic : VectorShiftName → List ℕ
+vector_shift_mnemonic by_vector.Shl = codes "vshl"
+vector_shift_mnemonic by_vector.Qshl = codes "vqshl"
+vector_shift_mnemonic by_vector.Rshl = codes "vrshl"
+vector_shift_mnemonic by_vector.Qrshl = codes "vqrshl"
 
--- V5: the stem of each name, VQDMULH and VQRDMULH (DDI0553, "VQDMULH, VQRDMULH (vector)")
-abbrev pub doubling_stem : DoublingName → List ℕ
-doubling_stem doubling.Qdmulh = codes "vqdmulh"
-doubling_stem doubling.Qrdmulh = codes "vqrdmulh"
+-- V5: the mnemonic of each name, VQDMULH and VQRDMULH (DDI0553, "VQDMULH, VQRDMULH (vector)")
+abbrev pub doubling_mnemonic : DoublingName → List ℕ
+doubling_mnemonic doubling.Qdmulh = codes "vqdmulh"
+doubling_mnemonic doubling.Qrdmulh = codes "vqrdmulh"
 
--- V7: the stem of each name, VMULH and VRMULH (DDI0553, "VMULH, VRMULH")
-abbrev pub high_stem : HighName → List ℕ
-high_stem high.Mulh = codes "vmulh"
-high_stem high.Rmulh = codes "vrmulh"
+-- V7: the mnemonic of each name, VMULH and VRMULH (DDI0553, "VMULH, VRMULH")
+abbrev pub high_mnemonic : HighName → List ℕ
+high_mnemonic high.Mulh = codes "vmulh"
+high_mnemonic high.Rmulh = codes "vrmulh"
 
--- V8: the stem of each name, VADC, VADCI, VSBC and VSBCI (DDI0553, "VADC" and "VSBC")
-abbrev pub carry_stem : CarryName → List ℕ
-carry_stem carry.Adc = codes "vadc"
-carry_stem carry.Adci = codes "vadci"
-carry_stem carry.Sbc = codes "vsbc"
-carry_stem carry.Sbci = codes "vsbci"
+-- V8: the mnemonic of each name, VADC, VADCI, VSBC and VSBCI (DDI0553, "VADC" and "VSBC")
+abbrev pub carry_mnemonic : CarryName → List ℕ
+carry_mnemonic carry.Adc = codes "vadc"
+carry_mnemonic carry.Adci = codes "vadci"
+carry_mnemonic carry.Sbc = codes "vsbc"
+carry_mnemonic carry.Sbci = codes "vsbci"
 
--- V9: the stem of each name, VCADD and VHCADD (DDI0553, "VCADD" and "VHCADD")
-abbrev pub complex_sum_stem : ComplexSumName → List ℕ
-complex_sum_stem turn.Cadd = codes "vcadd"
-complex_sum_stem turn.Hcadd = codes "vhcadd"
+-- V9: the mnemonic of each name, VCADD and VHCADD (DDI0553, "VCADD" and "VHCADD")
+abbrev pub complex_sum_mnemonic : ComplexSumName → List ℕ
+complex_sum_mnemonic turn.Cadd = codes "vcadd"
+complex_sum_mnemonic turn.Hcadd = codes "vhcadd"
 
--- V10: the stem of each name, VADD, VSUB, VMUL, VHADD, VHSUB, VQADD, VQSUB, VQDMULH, VQRDMULH, VMLA and VMLAS
+-- V10: the mnemonic of each name, VADD, VSUB, VMUL, VHADD, VHSUB, VQADD, VQSUB, VQDMULH, VQRDMULH, VMLA and VMLAS
 -- (DDI0553, the form of each with a vector and a scalar)
-abbrev pub scalar_stem : ScalarName → List ℕ
-scalar_stem by_scalar.Add = codes "vadd"
-scalar_stem by_scalar.Sub = codes "vsub"
-scalar_stem by_scalar.Mul = codes "vmul"
-scalar_stem by_scalar.Hadd = codes "vhadd"
-scalar_stem by_scalar.Hsub = codes "vhsub"
-scalar_stem by_scalar.Qadd = codes "vqadd"
-scalar_stem by_scalar.Qsub = codes "vqsub"
-scalar_stem by_scalar.Qdmulh = codes "vqdmulh"
-scalar_stem by_scalar.Qrdmulh = codes "vqrdmulh"
-scalar_stem by_scalar.Mla = codes "vmla"
-scalar_stem by_scalar.Mlas = codes "vmlas"
+abbrev pub scalar_mnemonic : ScalarName → List ℕ
+scalar_mnemonic by_scalar.Add = codes "vadd"
+scalar_mnemonic by_scalar.Sub = codes "vsub"
+scalar_mnemonic by_scalar.Mul = codes "vmul"
+scalar_mnemonic by_scalar.Hadd = codes "vhadd"
+scalar_mnemonic by_scalar.Hsub = codes "vhsub"
+scalar_mnemonic by_scalar.Qadd = codes "vqadd"
+scalar_mnemonic by_scalar.Qsub = codes "vqsub"
+scalar_mnemonic by_scalar.Qdmulh = codes "vqdmulh"
+scalar_mnemonic by_scalar.Qrdmulh = codes "vqrdmulh"
+scalar_mnemonic by_scalar.Mla = codes "vmla"
+scalar_mnemonic by_scalar.Mlas = codes "vmlas"
 
--- V11: the stem of each name, VSHR, VRSHR, VQSHL, VQSHLU, VSHL, VSRI and VSLI (DDI0553, "VSHR", "VRSHR", "VQSHL, VQSHLU", "VSHL", "VSRI" and "VSLI")
-abbrev pub constant_shift_stem : ConstantShiftName → List ℕ
-constant_shift_stem by_constant.Shr = codes "vshr"
-constant_shift_stem by_constant.Rshr = codes "vrshr"
-constant_shift_stem by_constant.Qshl = codes "vqshl"
-constant_shift_stem by_constant.Qshlu = codes "vqshlu"
-constant_shift_stem by_constant.Shl = codes "vshl"
-constant_shift_stem by_constant.Sri = codes "vsri"
-constant_shift_stem by_constant.Sli = codes "vsli"
+-- V11: the mnemonic of each name, VSHR, VRSHR, VQSHL, VQSHLU, VSHL, VSRI and VSLI (DDI0553, "VSHR", "VRSHR", "VQSHL, VQSHLU", "VSHL", "VSRI" and "VSLI")
+abbrev pub constant_shift_mnemonic : ConstantShiftName → List ℕ
+constant_shift_mnemonic by_constant.Shr = codes "vshr"
+constant_shift_mnemonic by_constant.Rshr = codes "vrshr"
+constant_shift_mnemonic by_constant.Qshl = codes "vqshl"
+constant_shift_mnemonic by_constant.Qshlu = codes "vqshlu"
+constant_shift_mnemonic by_constant.Shl = codes "vshl"
+constant_shift_mnemonic by_constant.Sri = codes "vsri"
+constant_shift_mnemonic by_constant.Sli = codes "vsli"
 
--- V13: the stem of each name, VCLS, VCLZ, VABS, VNEG, VQABS and VQNEG (DDI0553, "VCLS", "VCLZ", "VABS", "VNEG", "VQABS" and "VQNEG")
-abbrev pub one_stem : OneName → List ℕ
-one_stem one.Cls = codes "vcls"
-one_stem one.Clz = codes "vclz"
-one_stem one.Abs = codes "vabs"
-one_stem one.Neg = codes "vneg"
-one_stem one.Qabs = codes "vqabs"
-one_stem one.Qneg = codes "vqneg"
+-- V13: the mnemonic of each name, VCLS, VCLZ, VABS, VNEG, VQABS and VQNEG (DDI0553, "VCLS", "VCLZ", "VABS", "VNEG", "VQABS" and "VQNEG")
+abbrev pub one_mnemonic : OneName → List ℕ
+one_mnemonic one.Cls = codes "vcls"
+one_mnemonic one.Clz = codes "vclz"
+one_mnemonic one.Abs = codes "vabs"
+one_mnemonic one.Neg = codes "vneg"
+one_mnemonic one.Qabs = codes "vqabs"
+one_mnemonic one.Qneg = codes "vqneg"
 
--- V14: the stem of each name, VREV64, VREV32 and VREV16 (DDI0553, "VREV64", "VREV32" and "VREV16")
-abbrev pub reverse_stem : ReverseName → List ℕ
-reverse_stem reverse_.Rev64 = codes "vrev64"
-reverse_stem reverse_.Rev32 = codes "vrev32"
-reverse_stem reverse_.Rev16 = codes "vrev16"
+-- V14: the mnemonic of each name, VREV64, VREV32 and VREV16 (DDI0553, "VREV64", "VREV32" and "VREV16")
+abbrev pub reverse_mnemonic : ReverseName → List ℕ
+reverse_mnemonic reverse_.Rev64 = codes "vrev64"
+reverse_mnemonic reverse_.Rev32 = codes "vrev32"
+reverse_mnemonic reverse_.Rev16 = codes "vrev16"
 
--- V16: the stem of each name, VMOVN, VQMOVUN and VQMOVN, with b for the lower part of each wide element, or t for the upper
+-- V16: the mnemonic of each name, VMOVN, VQMOVUN and VQMOVN, with b for the lower part of each wide element, or t for the upper
 -- (DDI0553, "VMOVN", "VQMOVN" and "VQMOVUN")
-abbrev pub narrow_stem : NarrowName → ℕ → List ℕ
-narrow_stem narrow_.Plain t = cond (nat_eq t 0) (codes "vmovnb") (codes "vmovnt")
-narrow_stem narrow_.ToUnsigned t = cond (nat_eq t 0) (codes "vqmovunb") (codes "vqmovunt")
-narrow_stem narrow_.Signed t = cond (nat_eq t 0) (codes "vqmovnb") (codes "vqmovnt")
-narrow_stem narrow_.Unsigned t = cond (nat_eq t 0) (codes "vqmovnb") (codes "vqmovnt")
+abbrev pub narrow_mnemonic : NarrowName → ℕ → List ℕ
+narrow_mnemonic narrow_.Plain t = cond (nat_eq t 0) (codes "vmovnb") (codes "vmovnt")
+narrow_mnemonic narrow_.ToUnsigned t = cond (nat_eq t 0) (codes "vqmovunb") (codes "vqmovunt")
+narrow_mnemonic narrow_.Signed t = cond (nat_eq t 0) (codes "vqmovnb") (codes "vqmovnt")
+narrow_mnemonic narrow_.Unsigned t = cond (nat_eq t 0) (codes "vqmovnb") (codes "vqmovnt")
 
--- V23: the stem of each name, VMAXV and VMINV (DDI0553, "VMAXV, VMAXAV" and "VMINV, VMINAV")
-abbrev pub extreme_stem : ExtremeName → List ℕ
-extreme_stem extreme.Max = codes "vmaxv"
-extreme_stem extreme.Min = codes "vminv"
+-- V23: the mnemonic of each name, VMAXV and VMINV (DDI0553, "VMAXV, VMAXAV" and "VMINV, VMINAV")
+abbrev pub extreme_mnemonic : ExtremeName → List ℕ
+extreme_mnemonic extreme.Max = codes "vmaxv"
+extreme_mnemonic extreme.Min = codes "vminv"
 
--- V19: the stem of each name from one register, VIDUP and VDDUP (DDI0553, "VIDUP, VIWDUP" and "VDDUP, VDWDUP")
-abbrev pub offsets_stem : OffsetsName → List ℕ
-offsets_stem offsets.Up = codes "vidup"
-offsets_stem offsets.Down = codes "vddup"
+-- V19: the mnemonic of each name from one register, VIDUP and VDDUP (DDI0553, "VIDUP, VIWDUP" and "VDDUP, VDWDUP")
+abbrev pub offsets_mnemonic : OffsetsName → List ℕ
+offsets_mnemonic offsets.Up = codes "vidup"
+offsets_mnemonic offsets.Down = codes "vddup"
 
--- V19: the stem of each name that goes round, VIWDUP and VDWDUP (DDI0553, "VIDUP, VIWDUP" and "VDDUP, VDWDUP")
-abbrev pub wrapped_stem : OffsetsName → List ℕ
-wrapped_stem offsets.Up = codes "viwdup"
-wrapped_stem offsets.Down = codes "vdwdup"
+-- V19: the mnemonic of each name that goes round, VIWDUP and VDWDUP (DDI0553, "VIDUP, VIWDUP" and "VDDUP, VDWDUP")
+abbrev pub wrapped_mnemonic : OffsetsName → List ℕ
+wrapped_mnemonic offsets.Up = codes "viwdup"
+wrapped_mnemonic offsets.Down = codes "vdwdup"
 
--- V24 to V27: the stem of VSTRB, VSTRH and VSTRW where l is 0, or VLDRB, VLDRH and VLDRW, of elements that have the size y in memory
+-- V24 to V27: the mnemonic of VSTRB, VSTRH and VSTRW where l is 0, or VLDRB, VLDRH and VLDRW, of elements that have the size y in memory
 -- (DDI0553, "VLDRB, VLDRH, VLDRW", "VSTRB, VSTRH, VSTRW", "VLDRB, VLDRH, VLDRW, VLDRD (vector)" and "VSTRB, VSTRH, VSTRW, VSTRD (vector)")
-abbrev pub access_stem : ℕ → ℕ → List ℕ
-access_stem l y =
+abbrev pub access_mnemonic : ℕ → ℕ → List ℕ
+access_mnemonic l y =
     either l
     (get_or (codes "vstrb" ∷ codes "vstrh" ∷ codes "vstrw" ∷ []) y [])
     (get_or (codes "vldrb" ∷ codes "vldrh" ∷ codes "vldrw" ∷ []) y [])
 
--- V28: the stem of part p of two registers, VST20 and VST21 where l is 0, or VLD20 and VLD21 (DDI0553, "VLD2" and "VST2")
-abbrev pub pair_stem : ℕ → ℕ → List ℕ
-pair_stem l p =
+-- V28: the mnemonic of part p of two registers, VST20 and VST21 where l is 0, or VLD20 and VLD21 (DDI0553, "VLD2" and "VST2")
+abbrev pub pair_mnemonic : ℕ → ℕ → List ℕ
+pair_mnemonic l p =
     either l
     (get_or (codes "vst20" ∷ codes "vst21" ∷ []) p [])
     (get_or (codes "vld20" ∷ codes "vld21" ∷ []) p [])
 
--- V28: the stem of part p of four registers, VST40 to VST43 where l is 0, or VLD40 to VLD43 (DDI0553, "VLD4" and "VST4")
-abbrev pub quad_stem : ℕ → ℕ → List ℕ
-quad_stem l p =
+-- V28: the mnemonic of part p of four registers, VST40 to VST43 where l is 0, or VLD40 to VLD43 (DDI0553, "VLD4" and "VST4")
+abbrev pub quad_mnemonic : ℕ → ℕ → List ℕ
+quad_mnemonic l p =
     either l
     (get_or (codes "vst40" ∷ codes "vst41" ∷ codes "vst42" ∷ codes "vst43" ∷ []) p [])
     (get_or (codes "vld40" ∷ codes "vld41" ∷ codes "vld42" ∷ codes "vld43" ∷ []) p [])

@@ -1,9 +1,11 @@
-//! The stems of the mnemonics of vector rows.
+//! The mnemonics of vector rows.
 
 ghost use Rattle.std.specs.Prelude.{◌≡◌, ◌<◌};
-ghost use Rattle.hm_textv.specs.Stems.{add_stem, bitwise_stem, carry_stem, constant_shift_stem, doubling_stem, extreme_stem, high_stem, offsets_stem, one_stem};
-ghost use Rattle.hm_textv.specs.Stems.{reverse_stem, scalar_stem, signed_stem, complex_sum_stem, vector_shift_stem, wrapped_stem, narrow_stem, block_letters};
-ghost use Rattle.hm_textv.specs.Stems.{compare_condition, access_stem, pair_stem, quad_stem};
+ghost use Rattle.hm_textv.specs.Mnemonics.{add_mnemonic, bitwise_mnemonic, carry_mnemonic, constant_shift_mnemonic, doubling_mnemonic, extreme_mnemonic};
+ghost use Rattle.hm_textv.specs.Mnemonics.{high_mnemonic, offsets_mnemonic, one_mnemonic};
+ghost use Rattle.hm_textv.specs.Mnemonics.{reverse_mnemonic, scalar_mnemonic, signed_mnemonic, complex_sum_mnemonic, vector_shift_mnemonic, wrapped_mnemonic};
+ghost use Rattle.hm_textv.specs.Mnemonics.{narrow_mnemonic, block_letters};
+ghost use Rattle.hm_textv.specs.Mnemonics.{compare_condition, access_mnemonic, pair_mnemonic, quad_mnemonic};
 
 use hm_isa::{
     AddName, Below, Bit, BitwiseName, CarryName, ComplexSumName, ConstantShiftName, DoublingName,
@@ -11,9 +13,9 @@ use hm_isa::{
     VectorShiftName,
 };
 
-/// The stem of a row V1.
-pub fn add_stem(name: AddName) -> &'static str
-    ensures { result.now ≡ add_stem name }
+/// The mnemonic of a row V1.
+pub fn add_mnemonic(name: AddName) -> &'static str
+    ensures { result.now ≡ add_mnemonic name }
 {
     match name {
         AddName::Add => "vadd",
@@ -22,9 +24,9 @@ pub fn add_stem(name: AddName) -> &'static str
     }
 }
 
-/// The stem of a row V2.
-pub fn bitwise_stem(name: BitwiseName) -> &'static str
-    ensures { result.now ≡ bitwise_stem name }
+/// The mnemonic of a row V2.
+pub fn bitwise_mnemonic(name: BitwiseName) -> &'static str
+    ensures { result.now ≡ bitwise_mnemonic name }
 {
     match name {
         BitwiseName::And => "vand",
@@ -35,9 +37,9 @@ pub fn bitwise_stem(name: BitwiseName) -> &'static str
     }
 }
 
-/// The stem of a row V3.
-pub fn signed_stem(name: SignedName) -> &'static str
-    ensures { result.now ≡ signed_stem name }
+/// The mnemonic of a row V3.
+pub fn signed_mnemonic(name: SignedName) -> &'static str
+    ensures { result.now ≡ signed_mnemonic name }
 {
     match name {
         SignedName::Max => "vmax",
@@ -51,9 +53,9 @@ pub fn signed_stem(name: SignedName) -> &'static str
     }
 }
 
-/// The stem of a row V4.
-pub fn vector_shift_stem(name: VectorShiftName) -> &'static str
-    ensures { result.now ≡ vector_shift_stem name }
+/// The mnemonic of a row V4.
+pub fn vector_shift_mnemonic(name: VectorShiftName) -> &'static str
+    ensures { result.now ≡ vector_shift_mnemonic name }
 {
     match name {
         VectorShiftName::Shl => "vshl",
@@ -63,9 +65,9 @@ pub fn vector_shift_stem(name: VectorShiftName) -> &'static str
     }
 }
 
-/// The stem of a row V5.
-pub fn doubling_stem(name: DoublingName) -> &'static str
-    ensures { result.now ≡ doubling_stem name }
+/// The mnemonic of a row V5.
+pub fn doubling_mnemonic(name: DoublingName) -> &'static str
+    ensures { result.now ≡ doubling_mnemonic name }
 {
     match name {
         DoublingName::Qdmulh => "vqdmulh",
@@ -73,9 +75,9 @@ pub fn doubling_stem(name: DoublingName) -> &'static str
     }
 }
 
-/// The stem of a row V7.
-pub fn high_stem(name: HighName) -> &'static str
-    ensures { result.now ≡ high_stem name }
+/// The mnemonic of a row V7.
+pub fn high_mnemonic(name: HighName) -> &'static str
+    ensures { result.now ≡ high_mnemonic name }
 {
     match name {
         HighName::Mulh => "vmulh",
@@ -83,9 +85,9 @@ pub fn high_stem(name: HighName) -> &'static str
     }
 }
 
-/// The stem of a row V8.
-pub fn carry_stem(name: CarryName) -> &'static str
-    ensures { result.now ≡ carry_stem name }
+/// The mnemonic of a row V8.
+pub fn carry_mnemonic(name: CarryName) -> &'static str
+    ensures { result.now ≡ carry_mnemonic name }
 {
     match name {
         CarryName::Adc => "vadc",
@@ -95,9 +97,9 @@ pub fn carry_stem(name: CarryName) -> &'static str
     }
 }
 
-/// The stem of a row V9.
-pub fn complex_sum_stem(name: ComplexSumName) -> &'static str
-    ensures { result.now ≡ complex_sum_stem name }
+/// The mnemonic of a row V9.
+pub fn complex_sum_mnemonic(name: ComplexSumName) -> &'static str
+    ensures { result.now ≡ complex_sum_mnemonic name }
 {
     match name {
         ComplexSumName::Cadd => "vcadd",
@@ -105,9 +107,9 @@ pub fn complex_sum_stem(name: ComplexSumName) -> &'static str
     }
 }
 
-/// The stem of a row V10.
-pub fn scalar_stem(name: ScalarName) -> &'static str
-    ensures { result.now ≡ scalar_stem name }
+/// The mnemonic of a row V10.
+pub fn scalar_mnemonic(name: ScalarName) -> &'static str
+    ensures { result.now ≡ scalar_mnemonic name }
 {
     match name {
         ScalarName::Add => "vadd",
@@ -124,9 +126,9 @@ pub fn scalar_stem(name: ScalarName) -> &'static str
     }
 }
 
-/// The stem of a row V11.
-pub fn constant_shift_stem(name: ConstantShiftName) -> &'static str
-    ensures { result.now ≡ constant_shift_stem name }
+/// The mnemonic of a row V11.
+pub fn constant_shift_mnemonic(name: ConstantShiftName) -> &'static str
+    ensures { result.now ≡ constant_shift_mnemonic name }
 {
     match name {
         ConstantShiftName::Shr => "vshr",
@@ -139,9 +141,9 @@ pub fn constant_shift_stem(name: ConstantShiftName) -> &'static str
     }
 }
 
-/// The stem of a row V13.
-pub fn one_stem(name: OneName) -> &'static str
-    ensures { result.now ≡ one_stem name }
+/// The mnemonic of a row V13.
+pub fn one_mnemonic(name: OneName) -> &'static str
+    ensures { result.now ≡ one_mnemonic name }
 {
     match name {
         OneName::Cls => "vcls",
@@ -153,9 +155,9 @@ pub fn one_stem(name: OneName) -> &'static str
     }
 }
 
-/// The stem of a row V14.
-pub fn reverse_stem(name: ReverseName) -> &'static str
-    ensures { result.now ≡ reverse_stem name }
+/// The mnemonic of a row V14.
+pub fn reverse_mnemonic(name: ReverseName) -> &'static str
+    ensures { result.now ≡ reverse_mnemonic name }
 {
     match name {
         ReverseName::Rev64 => "vrev64",
@@ -164,9 +166,9 @@ pub fn reverse_stem(name: ReverseName) -> &'static str
     }
 }
 
-/// The stem of a row V19, from one register.
-pub fn offsets_stem(name: OffsetsName) -> &'static str
-    ensures { result.now ≡ offsets_stem name }
+/// The mnemonic of a row V19, from one register.
+pub fn offsets_mnemonic(name: OffsetsName) -> &'static str
+    ensures { result.now ≡ offsets_mnemonic name }
 {
     match name {
         OffsetsName::Up => "vidup",
@@ -174,9 +176,9 @@ pub fn offsets_stem(name: OffsetsName) -> &'static str
     }
 }
 
-/// The stem of a row V19, going round.
-pub fn wrapped_stem(name: OffsetsName) -> &'static str
-    ensures { result.now ≡ wrapped_stem name }
+/// The mnemonic of a row V19, going round.
+pub fn wrapped_mnemonic(name: OffsetsName) -> &'static str
+    ensures { result.now ≡ wrapped_mnemonic name }
 {
     match name {
         OffsetsName::Up => "viwdup",
@@ -184,9 +186,9 @@ pub fn wrapped_stem(name: OffsetsName) -> &'static str
     }
 }
 
-/// The stem of a row V23.
-pub fn extreme_stem(name: ExtremeName) -> &'static str
-    ensures { result.now ≡ extreme_stem name }
+/// The mnemonic of a row V23.
+pub fn extreme_mnemonic(name: ExtremeName) -> &'static str
+    ensures { result.now ≡ extreme_mnemonic name }
 {
     match name {
         ExtremeName::Max => "vmaxv",
@@ -194,9 +196,9 @@ pub fn extreme_stem(name: ExtremeName) -> &'static str
     }
 }
 
-/// The stem of a row V16: with b for the lower part of each wide element, or t for the upper.
-pub fn narrow_stem(name: NarrowName, t: Bit) -> &'static str
-    ensures { result.now ≡ narrow_stem name t.value }
+/// The mnemonic of a row V16: with b for the lower part of each wide element, or t for the upper.
+pub fn narrow_mnemonic(name: NarrowName, t: Bit) -> &'static str
+    ensures { result.now ≡ narrow_mnemonic name t.value }
 {
     match (name, t.get() == 0) {
         (NarrowName::Plain, true) => "vmovnb",
@@ -247,10 +249,10 @@ pub fn compare_condition(c: Below<8>) -> &'static str
     }
 }
 
-/// The stem of a store where l is 0, or of a load, of elements that have the size y in memory.
-pub fn access_stem(l: Bit, y: u32) -> &'static str
+/// The mnemonic of a store where l is 0, or of a load, of elements that have the size y in memory.
+pub fn access_mnemonic(l: Bit, y: u32) -> &'static str
     requires { y < 3 }
-    ensures { result.now ≡ access_stem l.value y }
+    ensures { result.now ≡ access_mnemonic l.value y }
 {
     match (l.get() == 0, y) {
         (true, 0) => "vstrb",
@@ -262,10 +264,10 @@ pub fn access_stem(l: Bit, y: u32) -> &'static str
     }
 }
 
-/// The stem of a part of two registers whose elements take turns in memory.
-pub fn pair_stem(l: Bit, p: Below<4>) -> &'static str
+/// The mnemonic of a part of two registers whose elements take turns in memory.
+pub fn pair_mnemonic(l: Bit, p: Below<4>) -> &'static str
     requires { p.value < 2 }
-    ensures { result.now ≡ pair_stem l.value p.value }
+    ensures { result.now ≡ pair_mnemonic l.value p.value }
 {
     match (l.get() == 0, p.get()) {
         (true, 0) => "vst20",
@@ -275,9 +277,9 @@ pub fn pair_stem(l: Bit, p: Below<4>) -> &'static str
     }
 }
 
-/// The stem of a part of four registers whose elements take turns in memory.
-pub fn quad_stem(l: Bit, p: Below<4>) -> &'static str
-    ensures { result.now ≡ quad_stem l.value p.value }
+/// The mnemonic of a part of four registers whose elements take turns in memory.
+pub fn quad_mnemonic(l: Bit, p: Below<4>) -> &'static str
+    ensures { result.now ≡ quad_mnemonic l.value p.value }
 {
     match (l.get() == 0, p.get()) {
         (true, 0) => "vst40",

@@ -1,8 +1,9 @@
 //! The mnemonics of the rows of one halfword.
 
 ghost use Rattle.std.specs.Prelude.{◌≡◌, ◌<◌, ◌%◌};
-ghost use Rattle.hm_text16.specs.Stems.{access_stem, block_condition, byte_stem, extend_stem, hint_stem, jump_stem, letters_above, logic_stem, masking_stem};
-ghost use Rattle.hm_text16.specs.Stems.{plain_stem, shift_stem, stack_sum_stem, sum_stem, swap_stem, word_stem, zero_stem};
+ghost use Rattle.hm_text16.specs.Mnemonics.{access_mnemonic, block_condition, byte_mnemonic, extend_mnemonic, hint_mnemonic, jump_mnemonic, letters_above};
+ghost use Rattle.hm_text16.specs.Mnemonics.{logic_mnemonic, masking_mnemonic};
+ghost use Rattle.hm_text16.specs.Mnemonics.{plain_mnemonic, shift_mnemonic, stack_sum_mnemonic, sum_mnemonic, swap_mnemonic, word_mnemonic, zero_mnemonic};
 
 use hm_isa::{
     AccessName, ByteName, ExtendName, HintName, JumpName, LogicName, MaskingName, PlainName,
@@ -11,8 +12,8 @@ use hm_isa::{
 use hm_tokens::condition_name;
 
 /// Of a row S1.
-pub fn shift_stem(name: ShiftName) -> &'static str
-    ensures { result.now ≡ shift_stem name }
+pub fn shift_mnemonic(name: ShiftName) -> &'static str
+    ensures { result.now ≡ shift_mnemonic name }
 {
     match name {
         ShiftName::Lsl => "lsls",
@@ -22,8 +23,8 @@ pub fn shift_stem(name: ShiftName) -> &'static str
 }
 
 /// Of rows S2 and S3.
-pub fn sum_stem(name: SumName) -> &'static str
-    ensures { result.now ≡ sum_stem name }
+pub fn sum_mnemonic(name: SumName) -> &'static str
+    ensures { result.now ≡ sum_mnemonic name }
 {
     match name {
         SumName::Add => "adds",
@@ -32,8 +33,8 @@ pub fn sum_stem(name: SumName) -> &'static str
 }
 
 /// Of a row S10.
-pub fn stack_sum_stem(name: SumName) -> &'static str
-    ensures { result.now ≡ stack_sum_stem name }
+pub fn stack_sum_mnemonic(name: SumName) -> &'static str
+    ensures { result.now ≡ stack_sum_mnemonic name }
 {
     match name {
         SumName::Add => "add",
@@ -42,8 +43,8 @@ pub fn stack_sum_stem(name: SumName) -> &'static str
 }
 
 /// Of a row S4.
-pub fn byte_stem(name: ByteName) -> &'static str
-    ensures { result.now ≡ byte_stem name }
+pub fn byte_mnemonic(name: ByteName) -> &'static str
+    ensures { result.now ≡ byte_mnemonic name }
 {
     match name {
         ByteName::Mov => "movs",
@@ -54,8 +55,8 @@ pub fn byte_stem(name: ByteName) -> &'static str
 }
 
 /// Of a row S5.
-pub fn logic_stem(name: LogicName) -> &'static str
-    ensures { result.now ≡ logic_stem name }
+pub fn logic_mnemonic(name: LogicName) -> &'static str
+    ensures { result.now ≡ logic_mnemonic name }
 {
     match name {
         LogicName::Ands => "ands",
@@ -78,8 +79,8 @@ pub fn logic_stem(name: LogicName) -> &'static str
 }
 
 /// Of a row S11.
-pub fn extend_stem(name: ExtendName) -> &'static str
-    ensures { result.now ≡ extend_stem name }
+pub fn extend_mnemonic(name: ExtendName) -> &'static str
+    ensures { result.now ≡ extend_mnemonic name }
 {
     match name {
         ExtendName::Sxth => "sxth",
@@ -90,8 +91,8 @@ pub fn extend_stem(name: ExtendName) -> &'static str
 }
 
 /// Of a row S12.
-pub fn swap_stem(name: SwapName) -> &'static str
-    ensures { result.now ≡ swap_stem name }
+pub fn swap_mnemonic(name: SwapName) -> &'static str
+    ensures { result.now ≡ swap_mnemonic name }
 {
     match name {
         SwapName::Rev => "rev",
@@ -101,8 +102,8 @@ pub fn swap_stem(name: SwapName) -> &'static str
 }
 
 /// Of a row S13.
-pub fn masking_stem(name: MaskingName) -> &'static str
-    ensures { result.now ≡ masking_stem name }
+pub fn masking_mnemonic(name: MaskingName) -> &'static str
+    ensures { result.now ≡ masking_mnemonic name }
 {
     match name {
         MaskingName::Cpsie => "cpsie",
@@ -111,8 +112,8 @@ pub fn masking_stem(name: MaskingName) -> &'static str
 }
 
 /// Of a row S15.
-pub fn access_stem(name: AccessName) -> &'static str
-    ensures { result.now ≡ access_stem name }
+pub fn access_mnemonic(name: AccessName) -> &'static str
+    ensures { result.now ≡ access_mnemonic name }
 {
     match name {
         AccessName::Str => "str",
@@ -127,8 +128,8 @@ pub fn access_stem(name: AccessName) -> &'static str
 }
 
 /// Of a row S16.
-pub fn plain_stem(name: PlainName) -> &'static str
-    ensures { result.now ≡ plain_stem name }
+pub fn plain_mnemonic(name: PlainName) -> &'static str
+    ensures { result.now ≡ plain_mnemonic name }
 {
     match name {
         PlainName::Str => "str",
@@ -141,8 +142,8 @@ pub fn plain_stem(name: PlainName) -> &'static str
 }
 
 /// Of a row S17.
-pub fn word_stem(name: WordName) -> &'static str
-    ensures { result.now ≡ word_stem name }
+pub fn word_mnemonic(name: WordName) -> &'static str
+    ensures { result.now ≡ word_mnemonic name }
 {
     match name {
         WordName::Str => "str",
@@ -151,8 +152,8 @@ pub fn word_stem(name: WordName) -> &'static str
 }
 
 /// Of a row S19.
-pub fn hint_stem(name: HintName) -> &'static str
-    ensures { result.now ≡ hint_stem name }
+pub fn hint_mnemonic(name: HintName) -> &'static str
+    ensures { result.now ≡ hint_mnemonic name }
 {
     match name {
         HintName::Nop => "nop",
@@ -164,8 +165,8 @@ pub fn hint_stem(name: HintName) -> &'static str
 }
 
 /// Of a row S23.
-pub fn jump_stem(name: JumpName) -> &'static str
-    ensures { result.now ≡ jump_stem name }
+pub fn jump_mnemonic(name: JumpName) -> &'static str
+    ensures { result.now ≡ jump_mnemonic name }
 {
     match name {
         JumpName::Bx => "bx",
@@ -174,8 +175,8 @@ pub fn jump_stem(name: JumpName) -> &'static str
 }
 
 /// Of a row S24.
-pub fn zero_stem(name: ZeroName) -> &'static str
-    ensures { result.now ≡ zero_stem name }
+pub fn zero_mnemonic(name: ZeroName) -> &'static str
+    ensures { result.now ≡ zero_mnemonic name }
 {
     match name {
         ZeroName::Cbz => "cbz",
