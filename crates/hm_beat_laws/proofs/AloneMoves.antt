@@ -14,7 +14,7 @@ use Rattle.hm_state.specs.State.{Cell, State, Value}
 use Rattle.hm_beat.specs.Rows.{predicate_at, register_at, write_register}
 use Rattle.hm_beat.specs.Touches.{span_bytes}
 use Rattle.hm_forms.specs.Registers.{advancing, saturating}
-use Rattle.hm_moves.specs.Moves.{extended, width}
+use Rattle.hm_moves.specs.Moves.{as_loaded, byte_count}
 use Rattle.hm_moves.specs.Ways.{Found, Transfer, at_addresses, at_offsets, interleaved, moves_by, straight, way_predicated}
 use Rattle.hm_moves.specs.Wholes.{addresses, are_moved, element_bytes, filled_registers, loaded, loaded_elements, number_bytes, read_at, stored_elements}
 use Rattle.hm_moves.specs.Wholes.{transfer_whole, written_back}
@@ -41,7 +41,7 @@ plain_bytes y (p ∷ ps) (a ∷ addrs) [] = tt
 plain_bytes y (p ∷ ps) (a ∷ addrs) (x ∷ xs) = plain-append (cond p (number_bytes x 0 bs) []) (element_bytes y ps addrs xs) (go p) (plain_bytes y ps addrs xs)
   where
     bs : List ℕ
-    bs = span_bytes a (width y)
+    bs = span_bytes a (byte_count y)
 
     go : (q : Bool) → Plain (cond q (number_bytes x 0 bs) [])
     go true = plain_number x 0 bs
@@ -112,7 +112,7 @@ module _ (x : Around) (store : Bool) (y z : Size) (sign : Bool) (b : ℕ) (low :
       (λ j. then (transfer_among x (moved_ones z w b s) (moves w) s) (λ v. Ok (part_of (belong j) v s)))
       ∙ agrees b s f (stop_at w (moved_ones z w b s) s) (stop_at w (are_moved z w u) u) (writes_at w (moved_ones z w b s) s) (writes_at w (are_moved z w u) u)
       (λ j. first_among (element_stop x store y s) (same j) (found j))
-      (λ j. let read : ℕ → ℕ = λ a. extended (moves_by (moves w)) (same_read y b s a j) in
+      (λ j. let read : ℕ → ℕ = λ a. as_loaded (moves_by (moves w)) (same_read y b s a j) in
       marked (marks x.actor) (cond (keeps_others (moves w)) (filled_registers z w (loaded_among read (same j) (found j) (stored j)))
       (cond store (element_bytes y (same j) (found j) (stored j)) (filled_registers z w (loaded_elements read (same j) (found j))))) ++ back j)
       plain

@@ -13,7 +13,7 @@ use Rattle.hm_mem.specs.Memory.{Around}
 use Rattle.hm_mem.specs.Seen.{marks}
 use Rattle.hm_state.specs.State.{At, Byte, Cell, State, Value, at, word}
 use Rattle.hm_kinds.specs.Row.{numbers}
-use Rattle.hm_moves.specs.Moves.{Moves, all_bytes_from, bytes_of, elements_at, loaded_at, stored_at, width, words_from}
+use Rattle.hm_moves.specs.Moves.{Moves, all_bytes_from, bytes_of_elements, elements_at, loaded_at, stored_at, byte_count, words_from}
 use Rattle.hm_moves.specs.Ways.{Found, Transfer, each_from, interleaved, moves_by}
 use Rattle.hm_moves.specs.Wholes.{addresses, count, element_bytes, filled_registers, loaded, stored_elements}
 use Rattle.hm_moves.proofs.Fields.{one_word}
@@ -46,7 +46,7 @@ part_stop g f size.Word false = by_beat (IsStop g f size.Word false) refl refl r
 -- STORES
 -- of the bytes of four beats those of beat b
 abbrev bytes_of_beat : Size → Size → ℕ → List (Cell × Value) → List (Cell × Value)
-bytes_of_beat y z b ws = take (per_word z * width y) (drop (per_word z * width y * b) ws)
+bytes_of_beat y z b ws = take (per_word z * byte_count y) (drop (per_word z * byte_count y * b) ws)
 
 module _ (d n : ℕ) (part : ℕ) (back : Bool) (f : ℕ → ℕ) (s : State) where
   abbrev stored_by : Size → Size → Bool → ℕ → List (Cell × Value)
@@ -115,7 +115,7 @@ module _ (d n : ℕ) (part : ℕ) (back : Bool) (f : ℕ → ℕ) (s : State) wh
       by_beat (IsStored size.Word size.Word false) (ap (bytes_of_beat size.Word size.Word 0) h) (ap (bytes_of_beat size.Word size.Word 1) h)
       (ap (bytes_of_beat size.Word size.Word 2) h) (ap (bytes_of_beat size.Word size.Word 3) h)
 
-  pub beat_stored : (y z : Size) (four : Bool) → width y ≤ width z → (b : ℕ) → b < 4 → IsStored y z four b
+  pub beat_stored : (y z : Size) (four : Bool) → byte_count y ≤ byte_count z → (b : ℕ) → b < 4 → IsStored y z four b
   beat_stored y z four narrow = one_of y z four (sym (part_stored y d part f s z four n back narrow))
 
 -- LOADS
@@ -378,7 +378,7 @@ module _ (y z : Size) (sign : Bool) (d n : ℕ) (four : Bool) (part : ℕ) (back
   stored_is = λ j. all_bytes_from taint y (elements_are y z d n four part back true sign b s j)
       (numbers (map s.cell (map At (places_are y z d n four part back b j))))
 
-  stores_are : width y ≤ width z
+  stores_are : byte_count y ≤ byte_count z
       → those kept (marked taint (element_bytes y (ones z b) (addresses y z w s) (stored_elements z w s))) ≡ stored_at (by true) taint b s
   stores_are narrow =
       marked_kept kept taint y (element_bytes y (ones z b) (addresses y z w s) (stored_elements z w s)) (part_elements z four place b)
@@ -393,7 +393,7 @@ module _ (y z : Size) (sign : Bool) (d n : ℕ) (four : Bool) (part : ℕ) (back
   loaded_is =
       let es = elements_are y z d n four part back false sign b s in
       let ps = places_are y z d n four part back b in
-      (λ j. words_from (by false) 0 (es j) (numbers (map s.cell (map Byte (bytes_of y (es j)) ++ map At (ps j)))) (ps j))
+      (λ j. words_from (by false) 0 (es j) (numbers (map s.cell (map Byte (bytes_of_elements y (es j)) ++ map At (ps j)))) (ps j))
       ∙ words_got (by false) (part_elements z four place b) s (part_places z four d part b)
 
   loads_are : those kept (marked taint (filled_registers z w (loaded_among (loaded (row false) s) (ones z b) (addresses y z w s) (stored_elements z w s))))
@@ -403,7 +403,7 @@ module _ (y z : Size) (sign : Bool) (d n : ℕ) (four : Bool) (part : ℕ) (back
       (filled_registers z w (loaded_among (loaded (row false) s) (ones z b) (addresses_are y z d n four part back s j) (stored_elements z w s)))))
       ∙ beat_filled y d n part back place (loaded (row false) s) s taint z four b low ∙ sym loaded_is ∙ sym (append-nil (loaded_at (by false) b s))
 
-  pub interleaved_part : (store : Bool) → (store ≡ true → width y ≤ width z) → IsMovedPart (row store) x b s
+  pub interleaved_part : (store : Bool) → (store ≡ true → byte_count y ≤ byte_count z) → IsMovedPart (row store) x b s
   interleaved_part true narrow =
       move_beat (row true) x b low s (λ k. refl, refl, refl) (stops_are true (element_stop x true y s)) (stores_are (narrow refl))
       (base_back kept back n _ b refl)

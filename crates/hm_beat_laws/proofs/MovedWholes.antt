@@ -20,7 +20,7 @@ use Rattle.hm_beat.specs.Rows.{advance_half, retired, write_words}
 use Rattle.hm_beat.specs.Touches.{span_bytes}
 use Rattle.hm_kinds.proofs.Row.{pc-put_all}
 use Rattle.hm_moves.specs.declared.elements.Element.{Element}
-use Rattle.hm_moves.specs.Moves.{fault_after, width}
+use Rattle.hm_moves.specs.Moves.{fault_after, byte_count}
 use Rattle.hm_moves.specs.Ways.{Found, Transfer, at_addresses, at_offsets, each_from, interleaved, registers, straight}
 use Rattle.hm_moves.specs.Wholes.{addresses, are_moved, count, element_bytes, fault_of, filled_registers, loaded, loaded_elements, number_bytes, part_word}
 use Rattle.hm_moves.specs.Wholes.{stored_elements, taken_by, transfer_whole, transferred, written_back}
@@ -41,19 +41,19 @@ where_fault true o = refl
 where_fault false o = refl
 
 module _ (x : Around) (store : Bool) (y : Size) (s : State) (thread : x.actor ≡ Thread) (clean : NoTaint s) where
-  stop_is : (a : ℕ) → element_stop x store y s a ≡ fault_stop (fault_after (fault_kind true Vector store (width y) a) a)
+  stop_is : (a : ℕ) → element_stop x store y s a ≡ fault_stop (fault_after (fault_kind true Vector store (byte_count y) a) a)
   stop_is a =
       let e : Element = record { addr = a; word = 0; lane = 0 } in
-      sym (or_none (element_stop x store y s a)) ∙ sym (all_checked x store y (e ∷ []) s) ∙ checked_clean x store (width y) (e ∷ []) s thread clean
-      ∙ ap fault_stop (or_none (fault_after (fault_kind true Vector store (width y) a) a))
+      sym (or_none (element_stop x store y s a)) ∙ sym (all_checked x store y (e ∷ []) s) ∙ checked_clean x store (byte_count y) (e ∷ []) s thread clean
+      ∙ ap fault_stop (or_none (fault_after (fault_kind true Vector store (byte_count y) a) a))
 
-  first_is : (ps : List Bool) (addrs : List ℕ) → first_among (element_stop x store y s) ps addrs ≡ fault_stop (fault_of store (width y) ps addrs)
+  first_is : (ps : List Bool) (addrs : List ℕ) → first_among (element_stop x store y s) ps addrs ≡ fault_stop (fault_of store (byte_count y) ps addrs)
   first_is [] addrs = refl
   first_is (p ∷ ps) [] = refl
   first_is (p ∷ ps) (a ∷ addrs) =
-      let o = fault_after (fault_kind true Vector store (width y) a) a in
-      (λ j. or_else (cond p (stop_is a j) None) (first_is ps addrs j)) ∙ ap (λ q. or_else q (fault_stop (fault_of store (width y) ps addrs))) (where_fault p o)
-      ∙ or_faults (cond p o None) (fault_of store (width y) ps addrs)
+      let o = fault_after (fault_kind true Vector store (byte_count y) a) a in
+      (λ j. or_else (cond p (stop_is a j) None) (first_is ps addrs j)) ∙ ap (λ q. or_else q (fault_stop (fault_of store (byte_count y) ps addrs))) (where_fault p o)
+      ∙ or_faults (cond p o None) (fault_of store (byte_count y) ps addrs)
 
 -- WHAT IS MOVED
 clean_number : (x k : ℕ) (bs : List ℕ) → marked false (number_bytes x k bs) ≡ number_bytes x k bs
@@ -65,7 +65,7 @@ clean_bytes y [] addrs xs = refl
 clean_bytes y (p ∷ ps) [] xs = refl
 clean_bytes y (p ∷ ps) (a ∷ addrs) [] = refl
 clean_bytes y (p ∷ ps) (a ∷ addrs) (x ∷ xs) =
-    let bs = span_bytes a (width y) in
+    let bs = span_bytes a (byte_count y) in
     marked-append false (cond p (number_bytes x 0 bs) []) (element_bytes y ps addrs xs) ∙ (λ j. go p bs j ++ clean_bytes y ps addrs xs j)
   where
     go : (q : Bool) (bs : List ℕ) → marked false (cond q (number_bytes x 0 bs) []) ≡ cond q (number_bytes x 0 bs) []
@@ -143,7 +143,7 @@ moved_whole x t s thread clean =
     let ps = are_moved t.register t.found s in
     let addrs = addresses t.memory t.register t.found s in
     (λ j. unless (first_is x t.store t.memory s thread clean ps addrs j) (Ok (after t s (moved_is x t s thread j))))
-    ∙ as_stop (fault_of t.store (width t.memory) ps addrs) (after t s (transferred t ps addrs s))
+    ∙ as_stop (fault_of t.store (byte_count t.memory) ps addrs) (after t s (transferred t ps addrs s))
 
 -- WHERE NO ELEMENT STOPS
 ran : (o : Option Stop) (u v : State) → ◌≡◌ {A = Result State Stop} (unless o (Ok u)) (Ok v) → (o ≡ None) × (u ≡ v)

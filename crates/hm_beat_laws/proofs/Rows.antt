@@ -5,7 +5,7 @@ use Rattle.hm_lane.specs.declared.lanes.Size.{Size}
 use Rattle.hm_mem.specs.Memory.{Around}
 use Rattle.hm_state.specs.State.{State, cells}
 use Rattle.hm_beat.specs.Trees.{action}
-use Rattle.hm_moves.specs.Moves.{width}
+use Rattle.hm_moves.specs.Moves.{byte_count}
 use Rattle.hm_moves.specs.Ways.{Found, Transfer, at_addresses, at_offsets, interleaved, straight}
 use Rattle.hm_moves.specs.Wholes.{IsNarrow}
 use Rattle.hm_rows.specs.Rows.{Kind, Moves, Registers, kind_of, tree_of, vector_tree}
@@ -18,7 +18,7 @@ use Rattle.hm_beat_laws.proofs.MovedParts.{IsMovedPart, addresses_part, offsets_
 abbrev transfer : Bool → Size → Size → Bool → Found → Transfer
 transfer store y z sign w = record { store = store; memory = y; register = z; signed = sign; found = w }
 
-by_way : (store : Bool) (y z : Size) (sign : Bool) (w : Found) (x : Around) (s : State) (b : ℕ) → b < 4 → (store ≡ true → width y ≤ width z)
+by_way : (store : Bool) (y z : Size) (sign : Bool) (w : Found) (x : Around) (s : State) (b : ℕ) → b < 4 → (store ≡ true → byte_count y ≤ byte_count z)
     → IsMovedPart (transfer store y z sign w) x b s
 by_way store y z sign (straight d n offset before back) x s b low narrow = straight_part y z sign x s b low store d n offset before back narrow
 by_way store y z sign (at_offsets d n m scale) x s b low narrow = offsets_part y z sign x s b low store d n m scale narrow

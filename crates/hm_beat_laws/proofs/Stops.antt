@@ -20,7 +20,7 @@ use Rattle.hm_state.specs.State.{Byte, Cell, State, cells}
 use Rattle.hm_beat.specs.Trees.{Check, checked}
 use Rattle.hm_beat.specs.Touches.{span_bytes}
 use Rattle.hm_moves.specs.declared.elements.Element.{Element}
-use Rattle.hm_moves.specs.Moves.{active_ones, asks, checks_of, fails, fault_after, is_closed, sure_stop, width}
+use Rattle.hm_moves.specs.Moves.{active_ones, asks, checks_of, fails, fault_after, is_closed, sure_stop, byte_count}
 use Rattle.hm_moves.specs.Ways.{each_from}
 use Rattle.hm_moves.specs.Wholes.{fault_of}
 use Rattle.hm_moves.proofs.Trees.{checked_fails}
@@ -86,7 +86,7 @@ module _ (x : Around) (store : Bool) (y : Size) (s : State) (a : ℕ) where
   abbrev taint : ℕ → Bool
   taint = (seen_in s).taint
 
-  any_byte : (z : Size) → lies_in_memory (width z) a ≡ true → any_tainted (span_bytes a (width z)) s ≡ some_byte (width z) taint a
+  any_byte : (z : Size) → lies_in_memory (byte_count z) a ≡ true → any_tainted (span_bytes a (byte_count z)) s ≡ some_byte (byte_count z) taint a
   any_byte size.Byte h = one_byte (taint a)
   any_byte size.Half h = ap (λ b. taint a || (taint b || false)) (within size.Half a 1 h (omega arith)) ∙ two_bytes (taint a) (taint (a + 1))
   any_byte size.Word h =
@@ -94,13 +94,13 @@ module _ (x : Around) (store : Bool) (y : Size) (s : State) (a : ℕ) where
       || (taint (within size.Word a 2 h (omega arith) j) || (taint (within size.Word a 3 h (omega arith) j) || false))))
       ∙ four_bytes (taint a) (taint (a + 1)) (taint (a + 2)) (taint (a + 3))
 
-  by_actor : (o : Option FaultKind) (who : Actor) → (o ≡ None → lies_in_memory (width y) a ≡ true)
-      → or_else (stop_after o (is_closed who x.bounds store (width y) a) store a)
-      (cond (is_thread who && not store && any_tainted (span_bytes a (width y)) s) (Some (stop.Tainted a)) None)
-      ≡ stop_after o (is_kept who x.bounds store (width y) a (seen_in s)) store a
+  by_actor : (o : Option FaultKind) (who : Actor) → (o ≡ None → lies_in_memory (byte_count y) a ≡ true)
+      → or_else (stop_after o (is_closed who x.bounds store (byte_count y) a) store a)
+      (cond (is_thread who && not store && any_tainted (span_bytes a (byte_count y)) s) (Some (stop.Tainted a)) None)
+      ≡ stop_after o (is_kept who x.bounds store (byte_count y) a (seen_in s)) store a
   by_actor (Some k) who h = refl
   by_actor None Entry h = refl
-  by_actor None (Handler f) h = or_none (stop_after None (store && is_denied x.bounds f (width y) a) store a)
+  by_actor None (Handler f) h = or_none (stop_after None (store && is_denied x.bounds f (byte_count y) a) store a)
   by_actor None Thread h = by_store store
     where
       tainted : (p q : Bool) → p ≡ true → cond q (Some (stop.Tainted a)) None ≡ stop_after None (p && q) false a
@@ -108,24 +108,24 @@ module _ (x : Around) (store : Bool) (y : Size) (s : State) (a : ℕ) where
       tainted true false e = refl
       tainted false q e = cc
 
-      by_store : (w : Bool) → or_else (stop_after None false w a) (cond (true && not w && any_tainted (span_bytes a (width y)) s) (Some (stop.Tainted a)) None)
-          ≡ stop_after None (not w && lies_in_memory (width y) a && some_byte (width y) taint a) w a
+      by_store : (w : Bool) → or_else (stop_after None false w a) (cond (true && not w && any_tainted (span_bytes a (byte_count y)) s) (Some (stop.Tainted a)) None)
+          ≡ stop_after None (not w && lies_in_memory (byte_count y) a && some_byte (byte_count y) taint a) w a
       by_store true = refl
       by_store false = (λ j. cond (any_byte y (h refl) j) (Some (stop.Tainted a)) None)
-          ∙ tainted (lies_in_memory (width y) a) (some_byte (width y) taint a) (h refl)
+          ∙ tainted (lies_in_memory (byte_count y) a) (some_byte (byte_count y) taint a) (h refl)
 
-  stop_is : or_else (sure_stop x store (width y) a)
-      (cond (is_thread x.actor && not store && any_tainted (span_bytes a (width y)) s) (Some (stop.Tainted a)) None) ≡ element_stop x store y s a
-  stop_is = by_actor (fault_kind (is_thread x.actor) Vector store (width y) a) x.actor (λ e. (in_memory (is_thread x.actor) store (width y) a e).0)
+  stop_is : or_else (sure_stop x store (byte_count y) a)
+      (cond (is_thread x.actor && not store && any_tainted (span_bytes a (byte_count y)) s) (Some (stop.Tainted a)) None) ≡ element_stop x store y s a
+  stop_is = by_actor (fault_kind (is_thread x.actor) Vector store (byte_count y) a) x.actor (λ e. (in_memory (is_thread x.actor) store (byte_count y) a e).0)
 
 pub all_checked : (x : Around) (store : Bool) (y : Size) (es : List Element) (s : State)
-    → checked cells (checks_of x store (width y) es) s ≡ first_of (element_stop x store y s) es
+    → checked cells (checks_of x store (byte_count y) es) s ≡ first_of (element_stop x store y s) es
 all_checked x store y [] s = refl
 all_checked x store y (e ∷ es) s =
-    let o = sure_stop x store (width y) e.addr in
+    let o = sure_stop x store (byte_count y) e.addr in
     let w = is_thread x.actor && not store in
-    let bs = span_bytes e.addr (width y) in
-    let cs = checks_of x store (width y) es in
+    let bs = span_bytes e.addr (byte_count y) in
+    let cs = checks_of x store (byte_count y) es in
     ap (λ ks. checked cells ks s) (append_assoc (fails o) (cond w (asks e.addr bs) []) cs)
     ∙ checked_fails o (cond w (asks e.addr bs) [] ++ cs) s
     ∙ ap (or_else o) (checked_where w e.addr bs cs s)
@@ -174,12 +174,12 @@ where_none true o f g h = g h
 where_none false o f g h = refl
 
 pub no_fault : (x : Around) (store : Bool) (y : Size) (s : State) (ps : List Bool) (addrs : List ℕ) → first_among (element_stop x store y s) ps addrs ≡ None
-    → fault_of store (width y) ps addrs ≡ None
+    → fault_of store (byte_count y) ps addrs ≡ None
 no_fault x store y s [] addrs h = refl
 no_fault x store y s (p ∷ ps) [] h = refl
 no_fault x store y s (p ∷ ps) (a ∷ addrs) h =
     let none = both_none (cond p (element_stop x store y s a) None) (first_among (element_stop x store y s) ps addrs) h in
-    let free : element_stop x store y s a ≡ None → fault_after (fault_kind true Vector store (width y) a) a ≡ None
-    = λ e. ap (λ k. fault_after k a) (thread_free (is_thread x.actor) store (width y) a (fault_free x store (width y) a (seen_in s) e)) in
-    λ j. or_else (where_none p (element_stop x store y s a) (fault_after (fault_kind true Vector store (width y) a) a) free none.0 j)
+    let free : element_stop x store y s a ≡ None → fault_after (fault_kind true Vector store (byte_count y) a) a ≡ None
+    = λ e. ap (λ k. fault_after k a) (thread_free (is_thread x.actor) store (byte_count y) a (fault_free x store (byte_count y) a (seen_in s) e)) in
+    λ j. or_else (where_none p (element_stop x store y s a) (fault_after (fault_kind true Vector store (byte_count y) a) a) free none.0 j)
     (no_fault x store y s ps addrs none.1 j)

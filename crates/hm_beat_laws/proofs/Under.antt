@@ -9,7 +9,7 @@ use Rattle.hm_lane.specs.Lanes.{firsts, merged, modulus, per_word, unlanes}
 use Rattle.hm_regs.specs.Writes.{write}
 use Rattle.hm_state.specs.State.{Cell, State, Value, at, into}
 use Rattle.hm_beat.specs.Rows.{predicate_at, register_at, write_register}
-use Rattle.hm_lane_fns.specs.LaneFns.{cut, number, saturates}
+use Rattle.hm_lane_fns.specs.LaneFns.{cut, lane_value, saturates}
 use Rattle.hm_lane_fns.specs.Words.{any_both, size_of}
 use Rattle.hm_forms.specs.declared.long_sums.LongSums.{LongSums}
 use Rattle.hm_forms.specs.declared.offsets.Steps.{Steps}
@@ -79,7 +79,7 @@ extreme_under ps r s =
     let z = size_of r.z.value in
     let u = nat_eq r.u.value 1 in
     let place = R r.t.value in
-    let extreme = best r.name (firsts z ps) (map (number u z) (elements z r.m.value s)) (number u z (at place s % modulus z)) in
+    let extreme = best r.name (firsts z ps) (map (lane_value u z) (elements z r.m.value s)) (lane_value u z (at place s % modulus z)) in
     into (write place (cut Word extreme)) ∷ []
 
 -- what a form writes under these truth values, beside P0 and the masks

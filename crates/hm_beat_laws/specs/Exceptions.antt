@@ -13,7 +13,7 @@ use Rattle.hm_mem.specs.Seen.{stop_of}
 use Rattle.hm_state.specs.State.{At, Byte, Cell, State, Value}
 use Rattle.hm_forms.specs.declared.form.Form.{Form}
 use Rattle.hm_forms.specs.declared.form.Form.TheVariants as form
-use Rattle.hm_moves.specs.Moves.{width}
+use Rattle.hm_moves.specs.Moves.{byte_count}
 use Rattle.hm_moves.specs.Ways.{Found, Transfer, way_predicated}
 use Rattle.hm_rows.specs.Rows.{Kind, Moves, Registers}
 use Rattle.hm_whole.specs.Whole.{seen_in}
@@ -76,7 +76,7 @@ keeps_others t = takes_turns t.found && not t.store
 -- 5. WHO ACCESSES THE MEMORY: the whole of a row that loads or stores knows faults alone, and no taint
 -- the stop of an element at an address, if it has one: that of its access in the machine
 abbrev pub element_stop : Around → Bool → Size → State → ℕ → Option Stop
-element_stop x store y s a = stop_of x Vector store (width y) a (seen_in s)
+element_stop x store y s a = stop_of x Vector store (byte_count y) a (seen_in s)
 
 -- a byte that is written is tainted so
 abbrev pub mark : Bool → Cell → Value → Value

@@ -45,10 +45,7 @@ fn find_word(w: u32) -> Option<Instr>
     if let Some(v) = find_vector(w) {
         return Some(Instr::Vector(v));
     }
-    if let Some(i) = decode32(w) {
-        return Some(i);
-    }
-    None
+    decode32(w)
 }
 
 /// The instruction whose code is two halfwords, high and low.

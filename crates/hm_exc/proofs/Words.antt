@@ -4,17 +4,17 @@ use Rattle.std.proofs.Common.{refl, sym, ◌∙◌, ap}
 use Rattle.std.specs.Prelude.{if◌then◌else◌, slice_index}
 use Rattle.std.proofs.lemmas.List.{get_or-take, get_or_append_left, get_or-append_right, length-take, length-append}
 use Rattle.hm_base.specs.Image.{word_at}
-use Rattle.hm_exc.specs.Frame.{basic_words, bytes_of, context_words, frame_size, frame_words, xpsr}
+use Rattle.hm_exc.specs.Frame.{basic_words, bytes_of_words, context_words, frame_size, frame_words, xpsr}
 use Rattle.hm_mem.specs.Devices.{byte_of}
 use Rattle.hm_regs.specs.declared.Regs.{Regs}
 use Rattle.hm_window.specs.declared.rule.Window.{Window}
 
 -- BYTES OF WORDS
-pub length-bytes_of : (xs : List ℕ) → length (bytes_of xs) ≡ 4 * length xs
+pub length-bytes_of : (xs : List ℕ) → length (bytes_of_words xs) ≡ 4 * length xs
 length-bytes_of [] = refl
-length-bytes_of (x ∷ xs) = let e : length (bytes_of xs) ≡ 4 * length xs = length-bytes_of xs in omega arith
+length-bytes_of (x ∷ xs) = let e : length (bytes_of_words xs) ≡ 4 * length xs = length-bytes_of xs in omega arith
 
-pub get_or-bytes_of : (xs : List ℕ) (k : ℕ) → k < 4 * length xs → get_or (bytes_of xs) k 0 ≡ byte_of (get_or xs (k / 4) 0) (k % 4)
+pub get_or-bytes_of : (xs : List ℕ) (k : ℕ) → k < 4 * length xs → get_or (bytes_of_words xs) k 0 ≡ byte_of (get_or xs (k / 4) 0) (k % 4)
 get_or-bytes_of [] k h = absurd (omega arith)
 get_or-bytes_of (x ∷ xs) zero h = refl
 get_or-bytes_of (x ∷ xs) (suc zero) h = refl
@@ -29,14 +29,14 @@ get_or-bytes_of (x ∷ xs) (suc (suc (suc (suc k)))) h =
 pub four_bytes : (x : ℕ) → x < 2 ^ 32 → byte_of x 0 + 0x100 * byte_of x 1 + 0x10000 * byte_of x 2 + 0x1000000 * byte_of x 3 ≡ x
 four_bytes x h = omega arith
 
-pub word-bytes_of : (xs : List ℕ) (k : ℕ) → k < length xs → get_or xs k 0 < 2 ^ 32 → word_at (slice_index (bytes_of xs)) (4 * k) ≡ get_or xs k 0
+pub word-bytes_of : (xs : List ℕ) (k : ℕ) → k < length xs → get_or xs k 0 < 2 ^ 32 → word_at (slice_index (bytes_of_words xs)) (4 * k) ≡ get_or xs k 0
 word-bytes_of xs k l fits =
-    let at : (i : ℕ) → i < 4 → get_or (bytes_of xs) (4 * k + i) 0 ≡ byte_of (get_or xs k 0) i = (λ i b.
+    let at : (i : ℕ) → i < 4 → get_or (bytes_of_words xs) (4 * k + i) 0 ≡ byte_of (get_or xs k 0) i = (λ i b.
     let d : (4 * k + i) / 4 ≡ k = omega arith in
     let m : (4 * k + i) % 4 ≡ i = omega arith in
     get_or-bytes_of xs (4 * k + i) (omega arith) ∙ (λ j. byte_of (get_or xs (d j) 0) (m j))) in
-    let first : get_or (bytes_of xs) (4 * k) 0 ≡ byte_of (get_or xs k 0) 0 =
-    ap (λ (i : ℕ). get_or (bytes_of xs) i 0) (let e : 4 * k ≡ 4 * k + 0 = omega arith in e) ∙ at 0 (omega arith) in
+    let first : get_or (bytes_of_words xs) (4 * k) 0 ≡ byte_of (get_or xs k 0) 0 =
+    ap (λ (i : ℕ). get_or (bytes_of_words xs) i 0) (let e : 4 * k ≡ 4 * k + 0 = omega arith in e) ∙ at 0 (omega arith) in
     (λ j. first j + 0x100 * at 1 (omega arith) j + 0x10000 * at 2 (omega arith) j + 0x1000000 * at 3 (omega arith) j)
     ∙ four_bytes (get_or xs k 0) fits
 

@@ -52,13 +52,13 @@ unfoldable pub frame_words : Regs → Window → List ℕ
 frame_words r w = basic_words r w ++ (if r.fpca then context_words r else [])
 
 -- the bytes of words, the lowest of each first
-abbrev pub bytes_of : List ℕ → List ℕ
-bytes_of [] = []
-bytes_of (x ∷ xs) = byte_of x 0 ∷ byte_of x 1 ∷ byte_of x 2 ∷ byte_of x 3 ∷ bytes_of xs
+abbrev pub bytes_of_words : List ℕ → List ℕ
+bytes_of_words [] = []
+bytes_of_words (x ∷ xs) = byte_of x 0 ∷ byte_of x 1 ∷ byte_of x 2 ∷ byte_of x 3 ∷ bytes_of_words xs
 
 -- the bytes of a frame, by rising address
 unfoldable pub frame_bytes : Regs → Window → List ℕ
-frame_bytes r w = bytes_of (frame_words r w)
+frame_bytes r w = bytes_of_words (frame_words r w)
 
 -- how many bytes a frame has, with a context and without
 abbrev pub frame_size : Bool → ℕ

@@ -15,7 +15,7 @@ use Rattle.hm_state.specs.Store.{put, put_all}
 use Rattle.hm_state.specs.State.{At, Cell, State, at, cells, word}
 use Rattle.hm_beat.specs.Rows.{Each, active_at, advance_half, predicate_at, retired, word_place}
 use Rattle.hm_kinds.specs.Row.{Row, ends_at, linked, row_by_words}
-use Rattle.hm_lane_fns.specs.LaneFns.{cut, half, number}
+use Rattle.hm_lane_fns.specs.LaneFns.{cut, half, lane_value}
 use Rattle.hm_lane_fns.specs.Words.{size_of}
 use Rattle.hm_forms.specs.Forms.{best, better, extreme_row}
 use Rattle.hm_forms.specs.Registers.{advancing, extreme_writes}
@@ -41,10 +41,10 @@ back Word false x h = ap (λ v. unsigned_abs v % 2 ^ 32) (negative (2 ^ 32) x h 
 record Held (u : Bool) (z : Size) (v : ℤ) : Type 0 where
   lane : ℕ
   below : lane < modulus z
-  is : v ≡ number u z lane
+  is : v ≡ lane_value u z lane
 
-held_back : (u : Bool) (z : Size) (v : ℤ) → Held u z v → number u z (cut Word v % modulus z) ≡ v
-held_back u z v h = ap (λ w. number u z (cut Word w % modulus z)) h.is ∙ ap (number u z) (back z (u || ltb h.lane (half z)) h.lane h.below) ∙ sym h.is
+held_back : (u : Bool) (z : Size) (v : ℤ) → Held u z v → lane_value u z (cut Word v % modulus z) ≡ v
+held_back u z v h = ap (λ w. lane_value u z (cut Word w % modulus z)) h.is ∙ ap (lane_value u z) (back z (u || ltb h.lane (half z)) h.lane h.below) ∙ sym h.is
 
 module _ (name : ExtremeName) (u : Bool) (z : Size) where
   chosen : (n : ExtremeName) (v w : ℤ) → Held u z v → Held u z w → Held u z (better n v w)
@@ -59,13 +59,13 @@ module _ (name : ExtremeName) (u : Bool) (z : Size) where
       go true = k
       go false = h
 
-  best_held : (ps : List Bool) (xs : List ℕ) (v : ℤ) → Each (λ x. x < modulus z) xs → Held u z v → Held u z (best name ps (map (number u z) xs) v)
+  best_held : (ps : List Bool) (xs : List ℕ) (v : ℤ) → Each (λ x. x < modulus z) xs → Held u z v → Held u z (best name ps (map (lane_value u z) xs) v)
   best_held [] xs v b h = h
   best_held (p ∷ ps) [] v b h = h
-  best_held (p ∷ ps) (x ∷ xs) v b h = best_held ps xs (cond p (better name v (number u z x)) v) b.1 (go p)
+  best_held (p ∷ ps) (x ∷ xs) v b h = best_held ps xs (cond p (better name v (lane_value u z x)) v) b.1 (go p)
     where
-      go : (q : Bool) → Held u z (cond q (better name v (number u z x)) v)
-      go true = chosen name v (number u z x) h (record { lane = x; below = b.0; is = refl })
+      go : (q : Bool) → Held u z (cond q (better name v (lane_value u z x)) v)
+      go true = chosen name v (lane_value u z x) h (record { lane = x; below = b.0; is = refl })
       go false = h
 
   best-append : (ps qs : List Bool) (xs us : List ℤ) (v : ℤ) → length xs ≡ length ps → best name (ps ++ qs) (xs ++ us) v ≡ best name qs us (best name ps xs v)
@@ -77,28 +77,28 @@ module _ (name : ExtremeName) (u : Bool) (z : Size) where
 -- THE BEST OF FOUR WORDS
 module _ (name : ExtremeName) (u : Bool) (s : State) (x : ℕ → ℕ) where
   abbrev word_best : Size → ℕ → ℤ → ℤ
-  word_best z b v = best name (firsts z (active_at b s)) (map (number u z) (lanes z (bytes_of (x b)))) v
+  word_best z b v = best name (firsts z (active_at b s)) (map (lane_value u z) (lanes z (bytes_of (x b)))) v
 
   whole_best : (z : Size) (v : ℤ)
-      → (let B = word_best z in best name (firsts z (predicate_at s)) (map (number u z) (lanes z (four x))) v ≡ B 3 (B 2 (B 1 (B 0 v))))
+      → (let B = word_best z in best name (firsts z (predicate_at s)) (map (lane_value u z) (lanes z (four x))) v ≡ B 3 (B 2 (B 1 (B 0 v))))
   whole_best Byte v =
       let B = word_best Byte in
       let F : ℕ → List Bool = λ b. firsts Byte (active_at b s) in
-      let L : ℕ → List ℤ = λ b. map (number u Byte) (lanes Byte (bytes_of (x b))) in
+      let L : ℕ → List ℤ = λ b. map (lane_value u Byte) (lanes Byte (bytes_of (x b))) in
       best-append name u Byte (F 0) (F 1 ++ F 2 ++ F 3) (L 0) (L 1 ++ L 2 ++ L 3) v refl
       ∙ best-append name u Byte (F 1) (F 2 ++ F 3) (L 1) (L 2 ++ L 3) (B 0 v) refl
       ∙ best-append name u Byte (F 2) (F 3) (L 2) (L 3) (B 1 (B 0 v)) refl
   whole_best Half v =
       let B = word_best Half in
       let F : ℕ → List Bool = λ b. firsts Half (active_at b s) in
-      let L : ℕ → List ℤ = λ b. map (number u Half) (lanes Half (bytes_of (x b))) in
+      let L : ℕ → List ℤ = λ b. map (lane_value u Half) (lanes Half (bytes_of (x b))) in
       best-append name u Half (F 0) (F 1 ++ F 2 ++ F 3) (L 0) (L 1 ++ L 2 ++ L 3) v refl
       ∙ best-append name u Half (F 1) (F 2 ++ F 3) (L 1) (L 2 ++ L 3) (B 0 v) refl
       ∙ best-append name u Half (F 2) (F 3) (L 2) (L 3) (B 1 (B 0 v)) refl
   whole_best Word v =
       let B = word_best Word in
       let F : ℕ → List Bool = λ b. firsts Word (active_at b s) in
-      let L : ℕ → List ℤ = λ b. map (number u Word) (lanes Word (bytes_of (x b))) in
+      let L : ℕ → List ℤ = λ b. map (lane_value u Word) (lanes Word (bytes_of (x b))) in
       best-append name u Word (F 0) (F 1 ++ F 2 ++ F 3) (L 0) (L 1 ++ L 2 ++ L 3) v refl
       ∙ best-append name u Word (F 1) (F 2 ++ F 3) (L 1) (L 2 ++ L 3) (B 0 v) refl
       ∙ best-append name u Word (F 2) (F 3) (L 2) (L 3) (B 1 (B 0 v)) refl
@@ -149,8 +149,8 @@ module _ (r : V23) (s : State) (runs : (ltb (at Ltp s) 4 ≡ false) ⊎ (eqb r.t
       go (inl e) = inl e
       go (inr e) = inr (ap (λ q. (cond q (word (cut Word v)) (s.cell (At (R 14)))).n) e)
 
-  read_back : (v : ℤ) → Held u z v → number u z (at (R r.t.value) (with_value v) % modulus z) ≡ v
-  read_back v h = ap (λ q. number u z ((cond q (word (cut Word v)) (s.cell place)).n % modulus z)) (eq-eqb r.t.value r.t.value refl) ∙ held_back u z v h
+  read_back : (v : ℤ) → Held u z v → lane_value u z (at (R r.t.value) (with_value v) % modulus z) ≡ v
+  read_back v h = ap (λ q. lane_value u z ((cond q (word (cut Word v)) (s.cell place)).n % modulus z)) (eq-eqb r.t.value r.t.value refl) ∙ held_back u z v h
 
   active_1 : (v : ℤ) → active_at 1 (with_value v) ≡ active_at 1 s
   active_1 v = active_any 1 (at Mask01 s) (at Ltp s) (at (R 14) (with_value v)) (at (R 14) s) (at (P0 1) s) (left v)
@@ -162,7 +162,7 @@ module _ (r : V23) (s : State) (runs : (ltb (at Ltp s) 4 ≡ false) ⊎ (eqb r.t
   active_3 v = active_any 3 (at Mask23 s) (at Ltp s) (at (R 14) (with_value v)) (at (R 14) s) (at (P0 3) s) (left v)
 
   abbrev after : ℕ → List Bool → ℤ → ℤ
-  after b active v = best r.name (firsts z active) (map (number u z) (lanes z (bytes_of (x b)))) v
+  after b active v = best r.name (firsts z active) (map (lane_value u z) (lanes z (bytes_of (x b)))) v
 
   step : (b : ℕ) (v : ℤ) → Held u z v → active_at b (with_value v) ≡ active_at b s → linked form_row b (with_value v) ≡ with_value (B b v)
   step b v h e = (λ j. put cells place (word (fit (R r.t.value) (cut Word (after b (e j) (read_back v h j))))) (with_value v))
@@ -170,7 +170,7 @@ module _ (r : V23) (s : State) (runs : (ltb (at Ltp s) 4 ≡ false) ⊎ (eqb r.t
       ∙ put_twice place (word (cut Word v)) (word (cut Word (B b v))) s
 
   abbrev start : ℤ
-  start = number u z (at (R r.t.value) s % modulus z)
+  start = lane_value u z (at (R r.t.value) s % modulus z)
 
   abbrev v0 : ℤ
   v0 = B 0 start

@@ -23,7 +23,7 @@ use Rattle.hm_state.specs.State.{Cell, State, Value, at, cells, into}
 use Rattle.hm_beat.specs.Rows.{advance_half, predicate_at, register_at, retired, word_place, write_register}
 use Rattle.hm_lane_fns.specs.declared.words.Operand.{Operand}
 use Rattle.hm_lane_fns.specs.declared.words.Operand.TheVariants.{Vector, Scalar, Constant}
-use Rattle.hm_lane_fns.specs.LaneFns.{cut, lane_of, lane_saturates, number, saturates}
+use Rattle.hm_lane_fns.specs.LaneFns.{cut, lane_of, lane_saturates, lane_value, saturates}
 use Rattle.hm_lane_fns.specs.Words.{any_both, lane_tests3, lanewise3, size_of, truths}
 use Rattle.hm_forms.specs.declared.lanes.Lanes.{Lanes}
 use Rattle.hm_forms.specs.declared.long_sums.LongSums.{LongSums}
@@ -268,5 +268,5 @@ extreme_writes r s =
     let z = size_of r.z.value in
     let u = nat_eq r.u.value 1 in
     let place = R r.t.value in
-    let extreme = best r.name (firsts z (predicate_at s)) (map (number u z) (elements z r.m.value s)) (number u z (at place s % modulus z)) in
+    let extreme = best r.name (firsts z (predicate_at s)) (map (lane_value u z) (elements z r.m.value s)) (lane_value u z (at place s % modulus z)) in
     into (write place (cut Word extreme)) ∷ []

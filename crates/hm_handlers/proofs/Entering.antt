@@ -12,7 +12,7 @@ use Rattle.hm_exc.specs.declared.types.EnterErr.{EnterErr}
 use Rattle.hm_exc.proofs.Psr.{psr-below, psr-window}
 use Rattle.hm_exc.proofs.Stacked.{frame_byte-is, in_room, length-frame_bytes}
 use Rattle.hm_exc.proofs.Words.{four_bytes, word-psr}
-use Rattle.hm_kept.specs.Blocks.{IsBlockByte}
+use Rattle.hm_handlers.specs.Blocks.{IsBlockByte}
 use Rattle.hm_mem.specs.Devices.{byte_of}
 use Rattle.hm_mem.specs.Seen.{Seen, lies_in_sram}
 use Rattle.hm_mem.specs.declared.Actor.{Actor}

@@ -13,10 +13,10 @@ use Rattle.hm_exc.specs.Frame.{is_between}
 use Rattle.hm_isa.specs.declared.Instr.{Instr}
 use Rattle.hm_isa.specs.declared.Instr.TheVariants as instr
 use Rattle.hm_isa.specs.declared.Vector.{Vector}
-use Rattle.hm_kept.proofs.Priorities.{step-levels}
-use Rattle.hm_kept.proofs.Steps.{settled-sound, step-number, step-sound, step-main}
-use Rattle.hm_kept.specs.Blocks.{IsBlockByte}
-use Rattle.hm_kept.specs.Levels.{HasLevels}
+use Rattle.hm_handlers.proofs.Priorities.{step-levels}
+use Rattle.hm_handlers.proofs.KeptSteps.{settled-sound, step-number, step-sound, step-main}
+use Rattle.hm_handlers.specs.Blocks.{IsBlockByte}
+use Rattle.hm_handlers.specs.Levels.{HasLevels}
 use Rattle.hm_mem.specs.Memory.{Around}
 use Rattle.hm_order.specs.Beats.{then}
 use Rattle.hm_order.specs.Machine.{Config, End, begin, did, done, older, older_of, settle, younger, younger_of}

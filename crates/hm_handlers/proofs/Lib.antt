@@ -1,3 +1,10 @@
+pub mod Choices
+pub mod Registers
+pub mod Accesses
+pub mod Jumps
+pub mod Instructions
+pub mod KeptSteps
+pub mod Priorities
 pub mod Hiding
 pub mod Steps
 pub mod Order

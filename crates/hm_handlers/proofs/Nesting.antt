@@ -6,7 +6,7 @@ use Rattle.std.proofs.Math.Nat.{min-eq_left, min-le_right}
 use Rattle.std.proofs.lemmas.Bool.Decides.{nat_tests}
 use Rattle.std.proofs.lemmas.List.{get_or_past}
 use Rattle.std.proofs.lemmas.List.Elements.{All-get_or}
-use Rattle.hm_kept.specs.Levels.{HasLevels, IsLevel}
+use Rattle.hm_handlers.specs.Levels.{HasLevels, IsLevel}
 use Rattle.hm_mem.specs.Devices.{open_devices}
 use Rattle.hm_mem.specs.declared.Dev.{Dev}
 use Rattle.hm_order.proofs.Results.{decide}

@@ -15,8 +15,8 @@ use Rattle.hm_isa.specs.declared.Flow.{Flow}
 use Rattle.hm_isa.specs.declared.Flow.TheVariants as flow
 use Rattle.hm_isa.specs.declared.Instr.{Instr}
 use Rattle.hm_isa.specs.declared.Instr.TheVariants as instr
-use Rattle.hm_kept.proofs.Priorities.{start-levels}
-use Rattle.hm_kept.specs.Blocks.{IsBlockByte}
+use Rattle.hm_handlers.proofs.Priorities.{start-levels}
+use Rattle.hm_handlers.specs.Blocks.{IsBlockByte}
 use Rattle.hm_mem.specs.Devices.{open_devices}
 use Rattle.hm_mem.specs.Memory.{Around}
 use Rattle.hm_mem.specs.declared.Actor.TheVariants.{Thread}

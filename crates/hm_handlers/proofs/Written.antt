@@ -16,7 +16,7 @@ use Rattle.hm_mem.specs.Seen.{fault_kind, is_denied, lies_in_sram, stop_after}
 use Rattle.hm_mem.specs.declared.Access.TheVariants.{Vector as VectorAccess}
 use Rattle.hm_moves.proofs.Accesses.{in_sram}
 use Rattle.hm_moves.proofs.Trees.{leaf_at, reach_moves}
-use Rattle.hm_moves.specs.Moves.{Moves, checks_of, elements_at, fails, fill, moved_by, store_all, store_bytes, sure_stop, width}
+use Rattle.hm_moves.specs.Moves.{Moves, checks_of, elements_at, fails, fill, moved_by, store_all, store_bytes, sure_stop, byte_count}
 use Rattle.hm_moves.specs.Ways.{moves_by}
 use Rattle.hm_moves.specs.declared.elements.Element.{Element}
 use Rattle.hm_lane.specs.declared.lanes.Size.{Size}
@@ -96,7 +96,7 @@ module _ (frame : ℕ) (bounds : Bounds) where
   free_store None true a h = absurd cc
   free_store None false a h = (refl, refl)
 
-  sized : (z : Size) → IsLen (width z)
+  sized : (z : Size) → IsLen (byte_count z)
   sized size.Byte = inl refl
   sized size.Half = inr (inl refl)
   sized size.Word = inr (inr refl)
@@ -105,33 +105,33 @@ module _ (frame : ℕ) (bounds : Bounds) where
   low : (len a k : ℕ) → lies_in_sram len a ≡ true → k < len → (a + k) % 2 ^ 32 ≡ a + k
   low len a k lies l = let high : a + len ≤ 0x20040000 = grind (arith, nat_tests) in omega arith
 
-  stored_at : (z : Size) (e : Element) → sure_stop x true (width z) e.addr ≡ None → WritesAt May (store_bytes true e 0 (span_bytes e.addr (width z)))
+  stored_at : (z : Size) (e : Element) → sure_stop x true (byte_count z) e.addr ≡ None → WritesAt May (store_bytes true e 0 (span_bytes e.addr (byte_count z)))
   stored_at z e free = by_size z refl
     where
-      both : (fault_kind false VectorAccess true (width z) e.addr ≡ None) × (is_denied bounds frame (width z) e.addr ≡ false)
-      both = free_store (fault_kind false VectorAccess true (width z) e.addr) (is_denied bounds frame (width z) e.addr) e.addr free
+      both : (fault_kind false VectorAccess true (byte_count z) e.addr ≡ None) × (is_denied bounds frame (byte_count z) e.addr ≡ false)
+      both = free_store (fault_kind false VectorAccess true (byte_count z) e.addr) (is_denied bounds frame (byte_count z) e.addr) e.addr free
 
-      lies : lies_in_sram (width z) e.addr ≡ true
-      lies = in_sram false (width z) e.addr both.0
+      lies : lies_in_sram (byte_count z) e.addr ≡ true
+      lies = in_sram false (byte_count z) e.addr both.0
 
-      at : (k : ℕ) → k < width z → May (e.addr + k)
-      at k l = all_allowed frame bounds (width z) e.addr (sized z) lies both.1 k l
+      at : (k : ℕ) → k < byte_count z → May (e.addr + k)
+      at k l = all_allowed frame bounds (byte_count z) e.addr (sized z) lies both.1 k l
 
-      first : 0 < width z → May e.addr
+      first : 0 < byte_count z → May e.addr
       first l = subst May (add-zero e.addr) (at 0 l)
 
-      behind : (k : ℕ) → k < width z → May ((e.addr + k) % 2 ^ 32)
-      behind k l = subst May (sym (low (width z) e.addr k lies l)) (at k l)
+      behind : (k : ℕ) → k < byte_count z → May ((e.addr + k) % 2 ^ 32)
+      behind k l = subst May (sym (low (byte_count z) e.addr k lies l)) (at k l)
 
-      by_size : (y : Size) → z ≡ y → WritesAt May (store_bytes true e 0 (span_bytes e.addr (width z)))
+      by_size : (y : Size) → z ≡ y → WritesAt May (store_bytes true e 0 (span_bytes e.addr (byte_count z)))
       by_size size.Byte is =
-          let n : width z ≡ 1 = ap width is in
+          let n : byte_count z ≡ 1 = ap byte_count is in
           subst (λ (n : ℕ). WritesAt May (store_bytes true e 0 (span_bytes e.addr n))) (sym n) (first (omega arith), tt)
       by_size size.Half is =
-          let n : width z ≡ 2 = ap width is in
+          let n : byte_count z ≡ 2 = ap byte_count is in
           subst (λ (n : ℕ). WritesAt May (store_bytes true e 0 (span_bytes e.addr n))) (sym n) (first (omega arith), (behind 1 (omega arith), tt))
       by_size size.Word is =
-          let n : width z ≡ 4 = ap width is in
+          let n : byte_count z ≡ 4 = ap byte_count is in
           subst (λ (n : ℕ). WritesAt May (store_bytes true e 0 (span_bytes e.addr n))) (sym n)
           (first (omega arith), (behind 1 (omega arith), (behind 2 (omega arith), (behind 3 (omega arith), tt))))
 
@@ -141,18 +141,18 @@ module _ (frame : ℕ) (bounds : Bounds) where
   first_free (Some e) cs s h = absurd cc
   first_free None cs s h = (refl, h)
 
-  all_stored : (z : Size) (es : List Element) (s : State) → checked cells (checks_of x true (width z) es) s ≡ None → WritesAt May (store_all true z es)
+  all_stored : (z : Size) (es : List Element) (s : State) → checked cells (checks_of x true (byte_count z) es) s ≡ None → WritesAt May (store_all true z es)
   all_stored z [] s h = tt
   all_stored z (e ∷ es) s h =
-      let both = first_free (sure_stop x true (width z) e.addr) (checks_of x true (width z) es) s h in
-      writes-append May (store_bytes true e 0 (span_bytes e.addr (width z))) (store_all true z es) (stored_at z e both.0) (all_stored z es s both.1)
+      let both = first_free (sure_stop x true (byte_count z) e.addr) (checks_of x true (byte_count z) es) s h in
+      writes-append May (store_bytes true e 0 (span_bytes e.addr (byte_count z))) (store_all true z es) (stored_at z e both.0) (all_stored z es s both.1)
 
   moves_write : (i : Moves) (b : ℕ) (s : State) → checked cells (leaf_at i x b s).checks s ≡ None → WritesAt May (leaf_at i x b s).writes
   moves_write i b s free = writes-append May (moved_by i x b (elements_at i b s)) _ (by_store i.store refl) (places_only May _)
     where
       by_store : (y : Bool) → i.store ≡ y → WritesAt May (cond y (store_all true i.memory (elements_at i b s)) (fill i 0 (elements_at i b s) (i.words b)))
       by_store true e = all_stored i.memory (elements_at i b s) s
-          (ap (λ (y : Bool). checked cells (checks_of x y (width i.memory) (elements_at i b s)) s) (sym e) ∙ free)
+          (ap (λ (y : Bool). checked cells (checks_of x y (byte_count i.memory) (elements_at i b s)) s) (sym e) ∙ free)
       by_store false e = fills May i 0 (elements_at i b s) (i.words b)
 
 -- ANY ROW

@@ -1,3 +1,5 @@
+pub mod Blocks
+pub mod Levels
 pub mod Registers
 pub mod Nested
 pub mod Entries

@@ -2,8 +2,8 @@
 use Rattle.std.specs.Prelude.{ℕ, ◌≡◌, ◌≢◌, ◌<◌, false, true, List, [], ◌∷◌}
 use Rattle.hm_exc.specs.Entry.{FitsEntry, window_in}
 use Rattle.hm_exc.specs.Frame.{is_between}
-use Rattle.hm_kept.specs.Blocks.{IsBlockByte}
-use Rattle.hm_kept.specs.Levels.{HasLevels}
+use Rattle.hm_handlers.specs.Blocks.{IsBlockByte}
+use Rattle.hm_handlers.specs.Levels.{HasLevels}
 use Rattle.hm_mem.specs.declared.Actor.{Actor}
 use Rattle.hm_mem.specs.declared.Dev.{Dev}
 use Rattle.hm_order.specs.Machine.{Config}

@@ -27,6 +27,10 @@ ghost use Rattle.hm_handlers.specs.Sound.{IsSound};
 ghost use Rattle.hm_sys.specs.Exceptions.{IsException};
 ghost use Rattle.hm_handlers.specs.Taint.{TaintLies};
 
+mod kept;
+
+pub use kept::{priorities_keep, rows_keep, steps_keep};
+
 /// After each tick of any schedule, with its entries and whatever its handlers do, whole instructions in order agree with the thread.
 pub fn thread_in_order()
     ensures order { (listing : Listing) (image : List Segment) (s : Sched) (t : ℕ) → KeepsOrder listing image s (run listing image s t) }

@@ -22,7 +22,7 @@ use Rattle.hm_lane_fns.specs.Words.{filled as spread_tests, size_of}
 use Rattle.hm_mem.specs.declared.Access.TheVariants.{Vector}
 use Rattle.hm_mem.specs.Devices.{has_width, tells_time, word_at}
 use Rattle.hm_mem.specs.Seen.{fault_kind, or_else, unless}
-use Rattle.hm_moves.specs.Moves.{fault_after, width}
+use Rattle.hm_moves.specs.Moves.{fault_after, byte_count}
 use Rattle.hm_moves.specs.Ways.{Transfer, each_from, straight, way_writes_lr}
 use Rattle.hm_moves.specs.Wholes.{count, fault_of, loaded_elements, read_at, transfer_whole, transferred, written_back}
 use Rattle.hm_rows.specs.Rows.{offset_of}
@@ -79,7 +79,7 @@ no_fault store len a aligned low some high =
 abbrev pub our_transfer : ElementType → Bool → ℕ → Transfer
 our_transfer t store d = record { store = store; memory = size_of_type t; register = size_of_type t; signed = false; found = straight d 5 0 true false }
 
-no_offset : (z : Size) → 0 * width z ≡ 0
+no_offset : (z : Size) → 0 * byte_count z ≡ 0
 no_offset OneByte = refl
 no_offset Half = refl
 no_offset Word = refl
@@ -112,9 +112,9 @@ transfer_is t l q i k =
 
 -- where elements stand
 abbrev pub stands_at : ElementType → ℕ → ℕ → ℕ
-stands_at t base j = ((base + 0) % 2 ^ 32 + width (size_of_type t) * j) % 2 ^ 32
+stands_at t base j = ((base + 0) % 2 ^ 32 + byte_count (size_of_type t) * j) % 2 ^ 32
 
-pub width_is : (t : ElementType) → width (size_of_type t) ≡ bytes t
+pub width_is : (t : ElementType) → byte_count (size_of_type t) ≡ bytes t
 width_is U8 = refl
 width_is S8 = refl
 width_is U16 = refl
@@ -163,7 +163,7 @@ inside_of U32 base left j a l h i k = record { is = omega arith; aligned = omega
 inside_of S32 base left j a l h i k = record { is = omega arith; aligned = omega arith; low = omega arith; high = omega arith }
 
 no_fault_at : (t : ElementType) (store : Bool) (base j : ℕ) → IsInside t base j
-    → fault_after (fault_kind true Vector store (width (size_of_type t)) (stands_at t base j)) (stands_at t base j) ≡ None
+    → fault_after (fault_kind true Vector store (byte_count (size_of_type t)) (stands_at t base j)) (stands_at t base j) ≡ None
 no_fault_at t store base j h =
     ap (λ (w : ℕ). fault_after (fault_kind true Vector store w (stands_at t base j)) (stands_at t base j)) (width_is t)
     ∙ ap (λ (a : ℕ). fault_after (fault_kind true Vector store (bytes t) a) a) h.is
@@ -273,15 +273,15 @@ module _ (t : ElementType) (listing : Listing) (store : Bool) (l q : ℕ) (l_is 
   given = transferred (our_transfer t store q) which there s
 
   abbrev by_lists : List Bool → List ℕ → Result State Fault
-  by_lists ps addrs = unless (fault_of store (width z) ps addrs)
+  by_lists ps addrs = unless (fault_of store (byte_count z) ps addrs)
       (Ok (retired (put_all cells (transferred (our_transfer t store q) ps addrs s ++ written_back (our_transfer t store q).found s ++ advance_half 0 s
       ++ advance_half 2 s) s)))
 
   moved_ones : firsts z (predicate_at s) ≡ which
   moved_ones = ap (firsts z) (predicate_is t v.left s h.mask01 h.mask23 (h.size ∙ size) h.left) ∙ firsts_are t v.left
 
-  no_fault_here : fault_of store (width z) which there ≡ None
-  no_fault_here = no_faults store (width z) v.left (stands_at t v.scratch) 0 (lanes t)
+  no_fault_here : fault_of store (byte_count z) which there ≡ None
+  no_fault_here = no_faults store (byte_count z) v.left (stands_at t v.scratch) 0 (lanes t)
       (λ j a b c. no_fault_at t store v.scratch j (inside_of t v.scratch v.left j within.aligned within.low within.high c (omega arith)))
 
   whole_is : transfer_whole (our_transfer t store q) s ≡ Ok (retired (put_all cells given s))

@@ -19,7 +19,7 @@ use Rattle.hm_lane.specs.declared.lanes.Size.TheVariants.{Byte as OneByte, Half,
 use Rattle.hm_lane.specs.Lanes as list
 use Rattle.hm_lane.specs.Lanes.{bytes_of, unlanes}
 use Rattle.hm_lane.proofs.LaneLists.{lanes-unlanes}
-use Rattle.hm_lane_fns.specs.LaneFns.{lane_of, number, saturates}
+use Rattle.hm_lane_fns.specs.LaneFns.{lane_of, lane_value, saturates}
 use Rattle.hm_lane_fns.specs.declared.functions.LaneFn.TheVariants as fn
 use Rattle.hm_lane_fns.specs.declared.words.Operand.TheVariants as by
 use Rattle.hm_lane_fns.specs.Words.{any_both, element_size, lanewise3, size_of, tripled}
@@ -109,7 +109,7 @@ module _ (t : ElementType) (l : Lanes) (v : View) (s : State) (h : Shows t v s) 
 pub record IsNumber (z : Size) (x : ℕ) : Type 0 where
   pub times : ℕ
   pub few : times ≤ 1
-  pub is : number false z x +ℤ pos (times * list.modulus z) ≡ pos x
+  pub is : lane_value false z x +ℤ pos (times * list.modulus z) ≡ pos x
 
 pub as_number : (z : Size) (x : ℕ) → IsNumber z x
 as_number OneByte x = decide (ltb x (2 ^ 7))
@@ -164,8 +164,8 @@ pub add_is : (z : Size) (c a b : ℕ) → lane_of fn.Add false z c a b ≡ (a + 
 add_is z c a b =
     let x = as_number z a in
     let y = as_number z b in
-    ap unsigned_abs (int_rem_euclid_is (number false z a +ℤ number false z b) (pos (list.modulus z)) (list.modulus z) (x.times + y.times) (a + b)
-    (some_modulus z) refl (sum_numbers (number false z a) (number false z b) (list.modulus z) x.times y.times a b x.is y.is))
+    ap unsigned_abs (int_rem_euclid_is (lane_value false z a +ℤ lane_value false z b) (pos (list.modulus z)) (list.modulus z) (x.times + y.times) (a + b)
+    (some_modulus z) refl (sum_numbers (lane_value false z a) (lane_value false z b) (list.modulus z) x.times y.times a b x.is y.is))
 
 pub modulus_is : (t : ElementType) → list.modulus (size_of_type t) ≡ modulus t
 modulus_is U8 = refl
@@ -191,9 +191,9 @@ pub sub_is : (z : Size) (c a b : ℕ) → b < list.modulus z → lane_of fn.Sub 
 sub_is z c a b fits =
     let x = as_number z a in
     let y = as_number z b in
-    ap unsigned_abs (int_rem_euclid_is (number false z a -ℤ number false z b) (pos (list.modulus z)) (list.modulus z) (x.times + (1 - y.times))
+    ap unsigned_abs (int_rem_euclid_is (lane_value false z a -ℤ lane_value false z b) (pos (list.modulus z)) (list.modulus z) (x.times + (1 - y.times))
     (a + (list.modulus z - b)) (some_modulus z) refl
-    (diff_numbers (number false z a) (number false z b) (list.modulus z) x.times y.times a b y.few fits x.is y.is))
+    (diff_numbers (lane_value false z a) (lane_value false z b) (list.modulus z) x.times y.times a b y.few fits x.is y.is))
 
 -- ELEMENTS FIT
 all_get : (n : ℕ) (xs : List ℕ) (e : ℕ) → 0 < n → AllBelow n xs → get_or xs e 0 < n

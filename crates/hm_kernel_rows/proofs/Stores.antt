@@ -13,7 +13,7 @@ use Rattle.hm_lane.specs.declared.lanes.Size.{Size}
 use Rattle.hm_lane.specs.Lanes as list
 use Rattle.hm_lane.specs.Lanes.{bytes_of}
 use Rattle.hm_mem.specs.Devices.{byte_of}
-use Rattle.hm_moves.specs.Moves.{width}
+use Rattle.hm_moves.specs.Moves.{byte_count}
 use Rattle.hm_moves.specs.Ways.{each_from}
 use Rattle.hm_moves.specs.Wholes.{element_bytes, number_bytes}
 use Rattle.hm_run.specs.Program as program
@@ -91,7 +91,7 @@ put_number x a n b y s fits h =
     ∙ combined a 0 a (a + suc n) b y x zero_is (omega arith)
 
 put_element : (t : ElementType) (x a b y : ℕ) (s : State) → a + bytes t ≤ 2 ^ 32 → (s.cell (Byte b)).n ≡ y
-    → ((put_all cells (number_bytes x 0 (span_bytes a (width (size_of_type t)))) s).cell (Byte b)).n
+    → ((put_all cells (number_bytes x 0 (span_bytes a (byte_count (size_of_type t)))) s).cell (Byte b)).n
     ≡ cond (nat_le a b && nat_lt b (a + bytes t)) (byte_of x (b - a)) y
 put_element U8 x a b y s fits h = put_number x a 0 b y s fits h
 put_element S8 x a b y s fits h = put_number x a 0 b y s fits h
@@ -106,7 +106,7 @@ module _ (t : ElementType) (base left : ℕ) (A g : ℕ → ℕ) (m : Bytes) (b 
   so_far j = replaced t base (min j left) g m b
 
   abbrev w : ℕ
-  w = width (size_of_type t)
+  w = byte_count (size_of_type t)
 
   elements_put : (n j : ℕ) (xs : List ℕ) (s : State) → length xs ≡ n → ((i : ℕ) → i < n → get_or xs i 0 ≡ g (j + i))
       → ((i : ℕ) → j ≤ i → i < j + n → i < left → (A i ≡ base + bytes t * i) × (base + bytes t * i + bytes t ≤ 2 ^ 32))
@@ -157,8 +157,8 @@ elements_off p z [] addrs xs = tt
 elements_off p z (u ∷ ps) [] xs = tt
 elements_off p z (u ∷ ps) (a ∷ addrs) [] = tt
 elements_off p z (u ∷ ps) (a ∷ addrs) (x ∷ xs) =
-    off-append (At p) (cond u (number_bytes x 0 (span_bytes a (width z))) []) (element_bytes z ps addrs xs)
-    (chosen_off p u (number_bytes x 0 (span_bytes a (width z))) (numbers_off p x 0 (span_bytes a (width z)))) (elements_off p z ps addrs xs)
+    off-append (At p) (cond u (number_bytes x 0 (span_bytes a (byte_count z))) []) (element_bytes z ps addrs xs)
+    (chosen_off p u (number_bytes x 0 (span_bytes a (byte_count z))) (numbers_off p x 0 (span_bytes a (byte_count z)))) (elements_off p z ps addrs xs)
 
 with_fits : (n a x : ℕ) (m : Bytes) (b : ℕ) → m b < 256 → with_number n a x m b < 256
 with_fits n a x m b h = go (nat_le a b && nat_lt b (a + n))

@@ -13,7 +13,7 @@ use Rattle.hm_lane.specs.declared.lanes.Size.{Size}
 use Rattle.hm_lane.specs.declared.lanes.Size.TheVariants.{Byte, Half, Word}
 use Rattle.hm_lane.specs.Lanes.{modulus}
 use Rattle.hm_lane_fns.specs.declared.functions.LaneFn.{LaneFn}
-use Rattle.hm_lane_fns.specs.LaneFns.{StandsFor, clamped, cut, exact, exact_lane, highest, is_outside, lowest, number, shift_count, shifted, shifted_rounded}
+use Rattle.hm_lane_fns.specs.LaneFns.{StandsFor, clamped, cut, exact, exact_lane, greatest_value, is_outside, least_value, lane_value, shift_count, shifted, shifted_rounded}
 use Rattle.hm_lane_fns.specs.LaneFns.{takes_signed}
 
 -- numbers above a range are outside it alike, and so are numbers below it
@@ -38,7 +38,7 @@ both_below lo hi v w h k =
           ∙ sym (λ j. cond (c j) lo (cond (int_lt hi w) hi w)),
     )
 
-in_order : (u : Bool) (z : Size) → lowest u z ≤ℤ highest u z
+in_order : (u : Bool) (z : Size) → least_value u z ≤ℤ greatest_value u z
 in_order true Byte = omega (arith, ints)
 in_order true Half = omega (arith, ints)
 in_order true Word = omega (arith, ints)
@@ -46,7 +46,7 @@ in_order false Byte = omega (arith, ints)
 in_order false Half = omega (arith, ints)
 in_order false Word = omega (arith, ints)
 
-high_limit : (u : Bool) (z : Size) → highest u z <ℤ pos 4294967296
+high_limit : (u : Bool) (z : Size) → greatest_value u z <ℤ pos 4294967296
 high_limit true Byte = omega (arith, ints)
 high_limit true Half = omega (arith, ints)
 high_limit true Word = omega (arith, ints)
@@ -54,7 +54,7 @@ high_limit false Byte = omega (arith, ints)
 high_limit false Half = omega (arith, ints)
 high_limit false Word = omega (arith, ints)
 
-low_limit : (u : Bool) (z : Size) → (pos 0 -ℤ pos 4294967296) <ℤ lowest u z
+low_limit : (u : Bool) (z : Size) → (pos 0 -ℤ pos 4294967296) <ℤ least_value u z
 low_limit true Byte = omega (arith, ints)
 low_limit true Half = omega (arith, ints)
 low_limit true Word = omega (arith, ints)
@@ -64,12 +64,12 @@ low_limit false Word = omega (arith, ints)
 
 stands_above : (u : Bool) (z : Size) (v w : ℤ) → pos 4294967296 ≤ℤ v → pos 4294967296 ≤ℤ w → cut z v ≡ cut z w → StandsFor u z v w
 stands_above u z v w h k e =
-    let alike = both_above (lowest u z) (highest u z) v w (in_order u z) (omega (arith, ints, high_limit u z)) (omega (arith, ints, high_limit u z)) in
+    let alike = both_above (least_value u z) (greatest_value u z) v w (in_order u z) (omega (arith, ints, high_limit u z)) (omega (arith, ints, high_limit u z)) in
     (e, alike.0, alike.1)
 
 stands_below : (u : Bool) (z : Size) (v w : ℤ) → v ≤ℤ (pos 0 -ℤ pos 4294967296) → w ≤ℤ (pos 0 -ℤ pos 4294967296) → cut z v ≡ cut z w → StandsFor u z v w
 stands_below u z v w h k e =
-    let alike = both_below (lowest u z) (highest u z) v w (omega (arith, ints, low_limit u z)) (omega (arith, ints, low_limit u z)) in
+    let alike = both_below (least_value u z) (greatest_value u z) v w (omega (arith, ints, low_limit u z)) (omega (arith, ints, low_limit u z)) in
     (e, alike.0, alike.1)
 
 -- no bit of a multiple of 2^32 is in a lane
@@ -194,10 +194,10 @@ by_count shift u z r a b s fr fa fb fs e h =
 
 -- a function of numbers that were passed on
 pub of_numbers : (f : LaneFn) (u s : Bool) (z : Size) (r x y : ℤ) (c a b : ℕ) → FitsSigned w64 r → FitsSigned w64 x → FitsSigned w64 y
-    → s ≡ (u && not (takes_signed f)) → x ≡ number s z a → y ≡ number s z b
-    → StandsFor u z r (exact f z (number s z c) (to_z w64 (of_z w64 x)) (to_z w64 (of_z w64 y)))
+    → s ≡ (u && not (takes_signed f)) → x ≡ lane_value s z a → y ≡ lane_value s z b
+    → StandsFor u z r (exact f z (lane_value s z c) (to_z w64 (of_z w64 x)) (to_z w64 (of_z w64 y)))
     → StandsFor u z (to_z w64 (of_z w64 r)) (exact_lane f u z c a b)
 of_numbers f u s z r x y c a b fr fx fy es ex ey h =
-    let first : to_z w64 (of_z w64 x) ≡ number (u && not (takes_signed f)) z a = to_z-of_z w64 x fx ∙ ex ∙ ap (λ s. number s z a) es in
-    let second : to_z w64 (of_z w64 y) ≡ number (u && not (takes_signed f)) z b = to_z-of_z w64 y fy ∙ ey ∙ ap (λ s. number s z b) es in
-    passed u z r (exact_lane f u z c a b) fr (subst (λ w. StandsFor u z r w) (λ j. exact f z (number (es j) z c) (first j) (second j)) h)
+    let first : to_z w64 (of_z w64 x) ≡ lane_value (u && not (takes_signed f)) z a = to_z-of_z w64 x fx ∙ ex ∙ ap (λ s. lane_value s z a) es in
+    let second : to_z w64 (of_z w64 y) ≡ lane_value (u && not (takes_signed f)) z b = to_z-of_z w64 y fy ∙ ey ∙ ap (λ s. lane_value s z b) es in
+    passed u z r (exact_lane f u z c a b) fr (subst (λ w. StandsFor u z r w) (λ j. exact f z (lane_value (es j) z c) (first j) (second j)) h)

@@ -5,7 +5,8 @@ mod functions;
 mod words;
 
 pub use functions::{
-    LaneFn, clamped, cut, halved, is_outside, lane, lane_saturates, number, saturates, width,
+    LaneFn, bit_count, clamped, cut, halved, is_outside, lane, lane_saturates, lane_value,
+    saturates,
 };
 pub use words::{
     Operand, any_both, both, element_size, lanes_saturate, lanes_word, merge, nibble, note_operand,

@@ -12,7 +12,7 @@ use Rattle.hm_mem.specs.declared.Actor.TheVariants.{Thread, Handler, Entry}
 use Rattle.hm_mem.specs.Devices.{byte_of, has_width, in_devices, word_at}
 use Rattle.hm_mem.specs.Memory.{Around, Bounds}
 use Rattle.hm_mem.specs.Seen.{Seen, fault_kind, is_kept, is_thread, is_unaligned, lies_in_flash, lies_in_memory, lies_in_sram, stop_after, stop_of}
-use Rattle.hm_moves.specs.Moves.{width}
+use Rattle.hm_moves.specs.Moves.{byte_count}
 
 -- WHERE A VECTOR ACCESS LIES THAT HAS NO FAULT
 no_word : (a : ℕ) → in_devices a ≡ false → word_at a ≡ None
@@ -57,7 +57,7 @@ pub fault_free : (x : Around) (store : Bool) (len a : ℕ) (s : Seen) → stop_o
 fault_free x store len a s h = no_fault (fault_kind (is_thread x.actor) Vector store len a) (is_kept x.actor x.bounds store len a s) store a h
 
 -- addresses within the memory do not go past the last
-pub within : (z : Size) (a k : ℕ) → lies_in_memory (width z) a ≡ true → k < width z → (a + k) % 2 ^ 32 ≡ a + k
+pub within : (z : Size) (a k : ℕ) → lies_in_memory (byte_count z) a ≡ true → k < byte_count z → (a + k) % 2 ^ 32 ≡ a + k
 within z a k h l = grind (arith, nat_tests)
 
 -- STORES

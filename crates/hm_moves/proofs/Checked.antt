@@ -18,7 +18,7 @@ use Rattle.hm_beat.specs.Touches.{span_bytes}
 use Rattle.hm_beat.specs.Laws.{Checks, run}
 use Rattle.hm_moves.specs.declared.elements.Element.{Element}
 use Rattle.hm_moves.specs.Coded.{first_stop}
-use Rattle.hm_moves.specs.Moves.{Moves, asks, checks_of, element_checks, elements_at, fails, is_closed, moves_tree, width}
+use Rattle.hm_moves.specs.Moves.{Moves, asks, checks_of, element_checks, elements_at, fails, is_closed, moves_tree, byte_count}
 use Rattle.hm_moves.proofs.Accesses.{in_memory, within}
 use Rattle.hm_moves.proofs.Trees.{leaf_at, reach_moves}
 
@@ -54,7 +54,7 @@ one_byte : (p : Bool) → (p || false) ≡ ((p || false) || false)
 one_byte true = refl
 one_byte false = refl
 
-any_byte : (m : Memory) (z : Size) (a : ℕ) → lies_in_memory (width z) a ≡ true → any_tainted m (span_bytes a (width z)) ≡ some_byte (width z) (tainted_at m) a
+any_byte : (m : Memory) (z : Size) (a : ℕ) → lies_in_memory (byte_count z) a ≡ true → any_tainted m (span_bytes a (byte_count z)) ≡ some_byte (byte_count z) (tainted_at m) a
 any_byte m size.Byte a h = one_byte (tainted_at m a)
 any_byte m size.Half a h =
     ap (λ b. tainted_at m a || (tainted_at m b || false)) (within size.Half a 1 h (omega arith))
@@ -79,48 +79,48 @@ module _ (m : Memory) (r : Regs) (output : List ℕ) (store : Bool) (z : Size) (
   tainted true = refl
   tainted false = refl
 
-  by_actor : (o : Option FaultKind) (who : Actor) → (o ≡ None → lies_in_memory (width z) a ≡ true)
-      → checked cells ((fails (stop_after o (is_closed who m.around.bounds store (width z) a) store a)
-      ++ cond (is_thread who && not store) (asks a (span_bytes a (width z))) []) ++ cs) s
-      ≡ or_else (stop_after o (is_kept who m.around.bounds store (width z) a (seen m)) store a) rest
+  by_actor : (o : Option FaultKind) (who : Actor) → (o ≡ None → lies_in_memory (byte_count z) a ≡ true)
+      → checked cells ((fails (stop_after o (is_closed who m.around.bounds store (byte_count z) a) store a)
+      ++ cond (is_thread who && not store) (asks a (span_bytes a (byte_count z))) []) ++ cs) s
+      ≡ or_else (stop_after o (is_kept who m.around.bounds store (byte_count z) a (seen m)) store a) rest
   by_actor (Some k) who h = refl
   by_actor None Entry h = refl
-  by_actor None (Handler f) h = closed (stop_after None (store && is_denied m.around.bounds f (width z) a) store a)
+  by_actor None (Handler f) h = closed (stop_after None (store && is_denied m.around.bounds f (byte_count z) a) store a)
   by_actor None Thread h = by_store store
     where
-      by_store : (y : Bool) → checked cells ((fails (stop_after None false y a) ++ cond (true && not y) (asks a (span_bytes a (width z))) []) ++ cs) s
-          ≡ or_else (stop_after None (not y && lies_in_memory (width z) a && some_byte (width z) (tainted_at m) a) y a) rest
+      by_store : (y : Bool) → checked cells ((fails (stop_after None false y a) ++ cond (true && not y) (asks a (span_bytes a (byte_count z))) []) ++ cs) s
+          ≡ or_else (stop_after None (not y && lies_in_memory (byte_count z) a && some_byte (byte_count z) (tainted_at m) a) y a) rest
       by_store true = refl
       by_store false =
-          checked_asks m r output a (span_bytes a (width z)) cs
+          checked_asks m r output a (span_bytes a (byte_count z)) cs
           ∙ (λ j. cond (any_byte m z a (h refl) j) (Some (stop.Tainted a)) rest)
-          ∙ tainted (some_byte (width z) (tainted_at m) a)
-          ∙ ap (λ y. or_else (stop_after None (y && some_byte (width z) (tainted_at m) a) false a) rest) (sym (h refl))
+          ∙ tainted (some_byte (byte_count z) (tainted_at m) a)
+          ∙ ap (λ y. or_else (stop_after None (y && some_byte (byte_count z) (tainted_at m) a) false a) rest) (sym (h refl))
 
-  pub element_checked : checked cells (element_checks m.around store (width z) a ++ cs) s ≡ or_else (stop_of m.around Vector store (width z) a (seen m)) rest
-  element_checked = by_actor (fault_kind (is_thread m.around.actor) Vector store (width z) a) m.around.actor
-      (λ e. (in_memory (is_thread m.around.actor) store (width z) a e).0)
+  pub element_checked : checked cells (element_checks m.around store (byte_count z) a ++ cs) s ≡ or_else (stop_of m.around Vector store (byte_count z) a (seen m)) rest
+  element_checked = by_actor (fault_kind (is_thread m.around.actor) Vector store (byte_count z) a) m.around.actor
+      (λ e. (in_memory (is_thread m.around.actor) store (byte_count z) a e).0)
 
 pub all_checked : (m : Memory) (r : Regs) (output : List ℕ) (store : Bool) (z : Size) (es : List Element)
-    → checked cells (checks_of m.around store (width z) es) (state_of r m output) ≡ first_stop m.around store (width z) es (seen m)
+    → checked cells (checks_of m.around store (byte_count z) es) (state_of r m output) ≡ first_stop m.around store (byte_count z) es (seen m)
 all_checked m r output store z [] = refl
 all_checked m r output store z (e ∷ es) =
-    element_checked m r output store z e.addr (checks_of m.around store (width z) es)
-    ∙ ap (or_else (stop_of m.around Vector store (width z) e.addr (seen m))) (all_checked m r output store z es)
+    element_checked m r output store z e.addr (checks_of m.around store (byte_count z) es)
+    ∙ ap (or_else (stop_of m.around Vector store (byte_count z) e.addr (seen m))) (all_checked m r output store z es)
 
 -- the run of a beat, by the stop of the code
 pub run_checked : (i : Moves) (b : ℕ) (m : Memory) (r : Regs) (output : List ℕ) (es : List Element) → es ≡ elements_at i b (state_of r m output)
     → run (moves_tree i m.around b) r m output
-    ≡ finish cells (first_stop m.around i.store (width i.memory) es (seen m)) (leaf_at i m.around b (state_of r m output)) (state_of r m output)
+    ≡ finish cells (first_stop m.around i.store (byte_count i.memory) es (seen m)) (leaf_at i m.around b (state_of r m output)) (state_of r m output)
 run_checked i b m r output es h =
     let s = state_of r m output in
     ap (λ (l : Leaf Cell Value Stop). finish cells (checked cells l.checks s) l s) (reach_moves i m.around b s)
     ∙ ap (λ o. finish cells o (leaf_at i m.around b s) s)
-    (all_checked m r output i.store i.memory (elements_at i b s) ∙ ap (λ xs. first_stop m.around i.store (width i.memory) xs (seen m)) (sym h))
+    (all_checked m r output i.store i.memory (elements_at i b s) ∙ ap (λ xs. first_stop m.around i.store (byte_count i.memory) xs (seen m)) (sym h))
 
 -- a beat that stops
 pub run_stopped : (i : Moves) (b : ℕ) (m : Memory) (r : Regs) (output : List ℕ) (es : List Element) (e : Stop) → es ≡ elements_at i b (state_of r m output)
-    → Some e ≡ first_stop m.around i.store (width i.memory) es (seen m) → run (moves_tree i m.around b) r m output ≡ Err e
+    → Some e ≡ first_stop m.around i.store (byte_count i.memory) es (seen m) → run (moves_tree i m.around b) r m output ≡ Err e
 run_stopped i b m r output es e same h =
     let s = state_of r m output in
     run_checked i b m r output es same ∙ ap (λ o. finish cells o (leaf_at i m.around b s) s) (sym h)
@@ -136,8 +136,8 @@ checks_as (Some f) l s (Err e) h = ap Err (some_same h)
 
 pub check_exact : {A : Type 0} (i : Moves) (b : ℕ) (m : Memory) (r : Regs) (output : List ℕ) (es : List Element) (x : Result A Stop)
     → es ≡ elements_at i b (state_of r m output)
-    → stop_in x ≡ first_stop m.around i.store (width i.memory) es (seen m) → Checks (run (moves_tree i m.around b) r m output) x
+    → stop_in x ≡ first_stop m.around i.store (byte_count i.memory) es (seen m) → Checks (run (moves_tree i m.around b) r m output) x
 check_exact i b m r output es x h e =
     let s = state_of r m output in
     subst (λ y. Checks y x) (sym (run_checked i b m r output es h))
-    (checks_as (first_stop m.around i.store (width i.memory) es (seen m)) (leaf_at i m.around b s) s x e)
+    (checks_as (first_stop m.around i.store (byte_count i.memory) es (seen m)) (leaf_at i m.around b s) s x e)

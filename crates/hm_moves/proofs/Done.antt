@@ -21,7 +21,7 @@ use Rattle.hm_kinds.specs.declared.rows.Written.{Written}
 use Rattle.hm_kinds.specs.Coded.{puts}
 use Rattle.hm_kinds.proofs.Coded.{apply-append, cells-append}
 use Rattle.hm_moves.specs.declared.elements.Element.{Element}
-use Rattle.hm_moves.specs.Moves.{Moves, back_at, elements_at, loaded_at, moves_tree, sources_at, stored_at, width}
+use Rattle.hm_moves.specs.Moves.{Moves, back_at, elements_at, loaded_at, moves_tree, sources_at, stored_at, byte_count}
 use Rattle.hm_moves.specs.Coded.{filled_in, first_stop, puts_of, word_puts}
 use Rattle.hm_moves.proofs.Checked.{run_checked}
 use Rattle.hm_moves.proofs.Loops.{drop_at}
@@ -65,7 +65,7 @@ either_first false ws vs us s = refl
 
 -- a beat that does not stop: its bytes are stored, and then come its words, what is written back, and the advance
 pub beat_done : (i : Moves) (b : ℕ) (r q : Regs) (m n : Memory) (output : List ℕ) (es : List Element) (ws back : List Write) → let s = state_of r m output in
-    b < 4 → Counted r → es ≡ elements_at i b s → first_stop m.around i.store (width i.memory) es (seen m) ≡ None
+    b < 4 → Counted r → es ≡ elements_at i b s → first_stop m.around i.store (byte_count i.memory) es (seen m) ≡ None
     → AreCells ws → AreCells back → map into ws ≡ loaded_at i b s → back ≡ i.back b (sources_at i b s)
     → state_of r n output ≡ put_all cells (stored_at i (marks m.around.actor) b s) s → q ≡ apply (ws ++ (back ++ advance_writes b r)) r
     → run (moves_tree i m.around b) r m output ≡ Ok (state_of q n output)

@@ -25,7 +25,7 @@ use Rattle.hm_beat.proofs.Footprint.{at_is}
 use Rattle.hm_kinds.specs.Row.{numbers}
 use Rattle.hm_moves.specs.declared.elements.Element.{Element}
 use Rattle.hm_moves.specs.Coded.{filled_in, first_stop, old_word, word_puts}
-use Rattle.hm_moves.specs.Moves.{Moves, all_bytes_from, bytes_of, elements_at, filled, is_word, laid, loaded_at, number, stored_at, width, words_from}
+use Rattle.hm_moves.specs.Moves.{Moves, all_bytes_from, bytes_of_elements, elements_at, filled, is_word, laid, loaded_at, little_endian, stored_at, byte_count, words_from}
 use Rattle.hm_moves.proofs.Accesses.{fault_free, in_memory, within}
 use Rattle.hm_moves.proofs.Loops.{both_none}
 
@@ -44,8 +44,8 @@ four_bytes : (p q r s : ℕ) → p + 256 * (q + 256 * (r + 256 * (s + 256 * 0)))
 four_bytes p q r s = omega arith
 
 -- the number of the bytes of an element is what is read there
-number_read : (m : Memory) (z : Size) (a : ℕ) (xs : List ℕ) → lies_in_memory (width z) a ≡ true
-    → number (width z) (map (byte_at m) (span_bytes a (width z)) ++ xs) ≡ read (width z) a (seen m)
+number_read : (m : Memory) (z : Size) (a : ℕ) (xs : List ℕ) → lies_in_memory (byte_count z) a ≡ true
+    → little_endian (byte_count z) (map (byte_at m) (span_bytes a (byte_count z)) ++ xs) ≡ read (byte_count z) a (seen m)
 number_read m size.Byte a xs h = one_byte (byte_at m a) ∙ taken (lies_in_memory 1 a) (byte_at m a) _ h
 number_read m size.Half a xs h =
     ap (λ b. byte_at m a + 256 * (byte_at m b + 256 * 0)) (within size.Half a 1 h (omega arith))
@@ -55,7 +55,7 @@ number_read m size.Word a xs h =
     (byte_at m (within size.Word a 2 h (omega arith) j) + 256 * (byte_at m (within size.Word a 3 h (omega arith) j) + 256 * 0))))
     ∙ four_bytes (byte_at m a) (byte_at m (a + 1)) (byte_at m (a + 2)) (byte_at m (a + 3)) ∙ taken (lies_in_memory 4 a) (little 4 (byte_at m) a) _ h
 
-drop_bytes : (m : Memory) (z : Size) (a : ℕ) (xs : List ℕ) → drop (width z) (map (byte_at m) (span_bytes a (width z)) ++ xs) ≡ xs
+drop_bytes : (m : Memory) (z : Size) (a : ℕ) (xs : List ℕ) → drop (byte_count z) (map (byte_at m) (span_bytes a (byte_count z)) ++ xs) ≡ xs
 drop_bytes m size.Byte a xs = refl
 drop_bytes m size.Half a xs = refl
 drop_bytes m size.Word a xs = refl
@@ -91,22 +91,22 @@ module _ (m : Memory) (r : Regs) (output : List ℕ) where
       λ j. at_is p r m output (All-head IsPlace p ws placed) (word_plain p are.0) j ∷ words_hold ws (All-tail IsPlace p ws placed) are.1 j
 
   -- the elements that are loaded are those that the tree reads
-  filled_read : (i : Moves) (k : ℕ) (es : List Element) (cs : List Cell) → first_stop m.around false (width i.memory) es (seen m) ≡ None
-      → filled i k es (numbers (map s.cell (map Byte (bytes_of i.memory es) ++ cs))) ≡ filled_in i k es (get_or (numbers (map s.cell cs)) k 0 % 2 ^ 32) (seen m)
+  filled_read : (i : Moves) (k : ℕ) (es : List Element) (cs : List Cell) → first_stop m.around false (byte_count i.memory) es (seen m) ≡ None
+      → filled i k es (numbers (map s.cell (map Byte (bytes_of_elements i.memory es) ++ cs))) ≡ filled_in i k es (get_or (numbers (map s.cell cs)) k 0 % 2 ^ 32) (seen m)
   filled_read i k [] cs free = refl
   filled_read i k (e ∷ es) cs free =
       let z = i.memory in
-      let both = both_none (stop_of m.around Vector false (width z) e.addr (seen m)) (first_stop m.around false (width z) es (seen m)) free in
-      let lies = (in_memory (is_thread m.around.actor) false (width z) e.addr (fault_free m.around false (width z) e.addr (seen m) both.0)).0 in
-      let bs = span_bytes e.addr (width z) in
-      let rest = map Byte (bytes_of z es) ++ cs in
+      let both = both_none (stop_of m.around Vector false (byte_count z) e.addr (seen m)) (first_stop m.around false (byte_count z) es (seen m)) free in
+      let lies = (in_memory (is_thread m.around.actor) false (byte_count z) e.addr (fault_free m.around false (byte_count z) e.addr (seen m) both.0)).0 in
+      let bs = span_bytes e.addr (byte_count z) in
+      let rest = map Byte (bytes_of_elements z es) ++ cs in
       let xs = numbers (map s.cell rest) in
-      let split : numbers (map s.cell (map Byte (bs ++ bytes_of z es) ++ cs)) ≡ map (byte_at m) bs ++ xs
-      = ap (λ ds. numbers (map s.cell ds)) (ap (λ ds. ds ++ cs) (map-append Byte bs (bytes_of z es)) ∙ append_assoc (map Byte bs) (map Byte (bytes_of z es)) cs)
+      let split : numbers (map s.cell (map Byte (bs ++ bytes_of_elements z es) ++ cs)) ≡ map (byte_at m) bs ++ xs
+      = ap (λ ds. numbers (map s.cell ds)) (ap (λ ds. ds ++ cs) (map-append Byte bs (bytes_of_elements z es)) ∙ append_assoc (map Byte bs) (map Byte (bytes_of_elements z es)) cs)
       ∙ bytes_read m r output bs rest in
-      (λ t. laid i k e (number (width z) (split t)) (filled i k es (drop (width z) (split t))))
+      (λ t. laid i k e (little_endian (byte_count z) (split t)) (filled i k es (drop (byte_count z) (split t))))
       ∙ (λ t. laid i k e (number_read m z e.addr xs lies t) (filled i k es (drop_bytes m z e.addr xs t)))
-      ∙ ap (laid i k e (read (width z) e.addr (seen m))) (filled_read i k es cs both.1)
+      ∙ ap (laid i k e (read (byte_count z) e.addr (seen m))) (filled_read i k es cs both.1)
 
   -- how word number k begins
   begins : (i : Moves) (ws : List Place) (k : ℕ) → All IsPlace ws → Words ws → k < length ws
@@ -132,9 +132,9 @@ module _ (m : Memory) (r : Regs) (output : List ℕ) where
 
   -- the words of a beat that loads
   pub words_filled : (i : Moves) (es : List Element) (ws : List Place) → All IsPlace ws → Words ws
-      → first_stop m.around false (width i.memory) es (seen m) ≡ None
+      → first_stop m.around false (byte_count i.memory) es (seen m) ≡ None
       → map into (word_puts i 0 es ws (old_word i r) (seen m))
-      ≡ words_from i 0 es (numbers (map s.cell (map Byte (bytes_of i.memory es) ++ map At (cond (not i.predicated) ws [])))) ws
+      ≡ words_from i 0 es (numbers (map s.cell (map Byte (bytes_of_elements i.memory es) ++ map At (cond (not i.predicated) ws [])))) ws
   words_filled i es ws placed are free =
       puts_words i 0 es ws _ (λ k low. filled_read i (0 + k) es (map At (cond (not i.predicated) ws [])) free
       ∙ ap (λ o. filled_in i (0 + k) es o (seen m)) (shifted k low))
@@ -147,12 +147,12 @@ module _ (m : Memory) (r : Regs) (output : List ℕ) where
   -- where the row loads, the words that the code fills are those that the beat fills
   pub loads_filled : (i : Moves) (b : ℕ) (es : List Element) (ws : List Place) → i.store ≡ false → es ≡ elements_at i b s → ws ≡ i.words b → All IsPlace ws
       → Words ws
-      → first_stop m.around false (width i.memory) es (seen m) ≡ None → map into (word_puts i 0 es ws (old_word i r) (seen m)) ≡ loaded_at i b s
+      → first_stop m.around false (byte_count i.memory) es (seen m) ≡ None → map into (word_puts i 0 es ws (old_word i r) (seen m)) ≡ loaded_at i b s
   loads_filled i b es ws loads same words placed are free =
       words_filled i es ws placed are free
-      ∙ (λ t. words_from i 0 (same t) (numbers (map s.cell (map Byte (bytes_of i.memory (same t)) ++ map At (cond (not i.predicated) (words t) [])))) (words t))
+      ∙ (λ t. words_from i 0 (same t) (numbers (map s.cell (map Byte (bytes_of_elements i.memory (same t)) ++ map At (cond (not i.predicated) (words t) [])))) (words t))
       ∙ (λ t. cond (sym loads t) [] (words_from i 0 (elements_at i b s)
-      (numbers (map s.cell (cond (sym loads t) [] (map Byte (bytes_of i.memory (elements_at i b s)))
+      (numbers (map s.cell (cond (sym loads t) [] (map Byte (bytes_of_elements i.memory (elements_at i b s)))
       ++ map At (cond (sym loads t || not i.predicated) (i.words b) [])))) (i.words b)))
 
   -- where the row stores, the bytes that the code stores are those that the beat stores
@@ -164,7 +164,7 @@ module _ (m : Memory) (r : Regs) (output : List ℕ) where
       ∙ ap (λ ps. numbers (map s.cell (map At ps))) words in
       (λ u. all_bytes_from t i.memory (same u) (values_read u))
       ∙ (λ u. cond (sym stores u) (all_bytes_from t i.memory (elements_at i b s)
-      (numbers (map s.cell (cond (sym stores u) [] (map Byte (bytes_of i.memory (elements_at i b s)))
+      (numbers (map s.cell (cond (sym stores u) [] (map Byte (bytes_of_elements i.memory (elements_at i b s)))
       ++ map At (cond (sym stores u || not i.predicated) (i.words b) []))))) [])
 
 pub cells_filled : (i : Moves) (j : ℕ) (es : List Element) (ws : List Place) (old : Place → ℕ) (s : Seen) → All IsPlace ws → Words ws

@@ -16,7 +16,7 @@ use Rattle.hm_beat.specs.Rows.{active_at, advance_half, predicate_at, register_a
 use Rattle.hm_beat.proofs.Whole.{put_all-append}
 use Rattle.hm_kinds.specs.Row.{numbers}
 use Rattle.hm_moves.specs.declared.elements.Element.{Element}
-use Rattle.hm_moves.specs.Moves.{Moves, all_bytes_from, extended, fault_after, filled, first_fault, width}
+use Rattle.hm_moves.specs.Moves.{Moves, all_bytes_from, as_loaded, fault_after, filled, first_fault, byte_count}
 use Rattle.hm_moves.specs.Moves as moves
 use Rattle.hm_moves.specs.Ways.{Found, each_from, moves_by}
 use Rattle.hm_moves.specs.Wholes.{fault_of, loaded_elements, read_at, number_bytes, element_bytes}
@@ -78,7 +78,7 @@ module _ (store : Bool) (len : ℕ) (z : Size) (f : ℕ → ℕ → ℕ) (q : �
   xs b = each_from (f b) 0 (per_word z)
 
   alike : (b : ℕ) → Alike (ps b) (xs b)
-  alike b = alike_each (λ j. get_or (q b) (width z * j) false) (f b) 0 (per_word z)
+  alike b = alike_each (λ j. get_or (q b) (byte_count z * j) false) (f b) 0 (per_word z)
 
   alike2 : Alike (ps 0 ++ ps 1) (xs 0 ++ xs 1)
   alike2 = alike-append (ps 0) (ps 1) (xs 0) (xs 1) (alike 0) (alike 1)
@@ -107,7 +107,7 @@ stored-append y [] qs [] us (v ∷ vs) ws h k = absurd k
 stored-append y (p ∷ ps) qs [] us vs ws h k = absurd h
 stored-append y (p ∷ ps) qs (x ∷ xs) us [] ws h k = absurd k
 stored-append y (p ∷ ps) qs (x ∷ xs) us (v ∷ vs) ws h k =
-    let bs = cond p (number_bytes v 0 (span_bytes x (width y))) [] in
+    let bs = cond p (number_bytes v 0 (span_bytes x (byte_count y))) [] in
     ap (λ cs. bs ++ cs) (stored-append y ps qs xs us vs ws h k) ∙ sym (append_assoc bs (element_bytes y ps xs vs) (element_bytes y qs us ws))
 
 -- the lanes of a register are those of its words
@@ -121,7 +121,7 @@ four_lanes size.Byte x = refl
 four_lanes size.Half x = refl
 four_lanes size.Word x = refl
 
-module _ (y z : Size) (f : ℕ → ℕ → ℕ) (q : ℕ → List Bool) (x : ℕ → ℕ) (narrow : width y ≤ width z) where
+module _ (y z : Size) (f : ℕ → ℕ → ℕ) (q : ℕ → List Bool) (x : ℕ → ℕ) (narrow : byte_count y ≤ byte_count z) where
   abbrev active : ℕ → List Bool
   active b = word_active z (q b)
 
@@ -135,10 +135,10 @@ module _ (y z : Size) (f : ℕ → ℕ → ℕ) (q : ℕ → List Bool) (x : ℕ
   kept b = all_bytes_from false y (word_elements z (f b) (q b)) (x b ∷ [])
 
   each_alike : (b : ℕ) → Alike (active b) (found b)
-  each_alike b = alike_each (λ j. get_or (q b) (width z * j) false) (f b) 0 (per_word z)
+  each_alike b = alike_each (λ j. get_or (q b) (byte_count z * j) false) (f b) 0 (per_word z)
 
   each_held : (b : ℕ) → Alike (active b) (held b)
-  each_held b = alike_each (λ j. get_or (q b) (width z * j) false) (λ k. get_or (lanes z (bytes_of (x b))) k 0) 0 (per_word z)
+  each_held b = alike_each (λ j. get_or (q b) (byte_count z * j) false) (λ k. get_or (lanes z (bytes_of (x b))) k 0) 0 (per_word z)
 
   -- the bytes that four words are stored to are those of the elements of their register
   four_stored : kept 0 ++ kept 1 ++ kept 2 ++ kept 3
@@ -207,41 +207,41 @@ module _ (y z : Size) (d : ℕ) (f : ℕ → ℕ → ℕ) (s : State) where
   abbrev are_active : List Bool
   are_active = firsts z (predicate_at s)
 
-  faults : (store : Bool) (xs : List ℕ) → xs ≡ four_addresses z f → first_fault store (width y) of_all ≡ fault_of store (width y) are_active xs
-  faults store xs e = four_faults store (width y) z f (λ b. active_at b s) ∙ sym (λ j. fault_of store (width y) (active_whole z s j) (e j))
+  faults : (store : Bool) (xs : List ℕ) → xs ≡ four_addresses z f → first_fault store (byte_count y) of_all ≡ fault_of store (byte_count y) are_active xs
+  faults store xs e = four_faults store (byte_count y) z f (λ b. active_at b s) ∙ sym (λ j. fault_of store (byte_count y) (active_whole z s j) (e j))
 
   -- the bytes of word b
   abbrev bytes_at : ℕ → List (Cell × Value)
   bytes_at b = all_bytes_from false y (of_beat b) (at (word_place d b) s ∷ [])
 
   -- a store of four words is that of their register
-  pub stores_whole : width y ≤ width z → (xs : List ℕ) → xs ≡ four_addresses z f → (ws vs : List (Cell × Value)) → ws ≡ vs
-      → unless (first_fault true (width y) of_all) (Ok (ended (put_all cells ws (put_all cells (bytes_at 0 ++ bytes_at 1 ++ bytes_at 2 ++ bytes_at 3) s))))
-      ≡ unless (fault_of true (width y) are_active xs) (Ok (whole (element_bytes y are_active xs (lanes z (register_at d s))) vs))
+  pub stores_whole : byte_count y ≤ byte_count z → (xs : List ℕ) → xs ≡ four_addresses z f → (ws vs : List (Cell × Value)) → ws ≡ vs
+      → unless (first_fault true (byte_count y) of_all) (Ok (ended (put_all cells ws (put_all cells (bytes_at 0 ++ bytes_at 1 ++ bytes_at 2 ++ bytes_at 3) s))))
+      ≡ unless (fault_of true (byte_count y) are_active xs) (Ok (whole (element_bytes y are_active xs (lanes z (register_at d s))) vs))
   stores_whole narrow xs e ws vs g =
       let stored : bytes_at 0 ++ bytes_at 1 ++ bytes_at 2 ++ bytes_at 3 ≡ element_bytes y are_active xs (lanes z (register_at d s))
       = four_stored y z f (λ b. active_at b s) (λ b. at (word_place d b) s) narrow
       ∙ sym (λ j. element_bytes y (active_whole z s j) (e j) (lanes z (register_at d s))) in
       (λ j. unless (faults true xs e j) (Ok (ended (put_all cells (g j) (put_all cells (stored j) s)))))
-      ∙ ap (λ u. unless (fault_of true (width y) are_active xs) (Ok (retired u)))
+      ∙ ap (λ u. unless (fault_of true (byte_count y) are_active xs) (Ok (retired u)))
       (writes_joined (element_bytes y are_active xs (lanes z (register_at d s))) vs (advance_half 0 s) (advance_half 2 s) s)
 
   module _ (sign : Bool) (w : Found) where
     abbrev g : ℕ → ℕ
-    g a = extended (load y z sign w) (read_at y s a)
+    g a = as_loaded (load y z sign w) (read_at y s a)
 
     -- what word b gets
     abbrev filled_at : ℕ → ℕ
-    filled_at b = filled (load y z sign w) 0 (of_beat b) (numbers (map s.cell (map Byte (moves.bytes_of y (of_beat b)) ++ [])))
+    filled_at b = filled (load y z sign w) 0 (of_beat b) (numbers (map s.cell (map Byte (moves.bytes_of_elements y (of_beat b)) ++ [])))
 
     abbrev word_at : ℕ → List (Cell × Value)
     word_at b = (At (word_place d b), word (filled_at b)) ∷ []
 
     -- a load of four words is that of their register
     pub loads_whole : (xs : List ℕ) → xs ≡ four_addresses z f → (ws vs : List (Cell × Value)) → ws ≡ vs
-        → unless (first_fault false (width y) of_all)
+        → unless (first_fault false (byte_count y) of_all)
         (Ok (ended (put_all cells ws (put_all cells (word_at 3) (put_all cells (word_at 2) (put_all cells (word_at 1) (put_all cells (word_at 0) s)))))))
-        ≡ unless (fault_of false (width y) are_active xs) (Ok (whole (write_register d (unlanes z (loaded_elements g are_active xs))) vs))
+        ≡ unless (fault_of false (byte_count y) are_active xs) (Ok (whole (write_register d (unlanes z (loaded_elements g are_active xs))) vs))
     loads_whole xs e ws vs h =
         let new : (b : ℕ) → filled_at b ≡ word_of (unlanes z (loaded_elements g (word_active z (active_at b s)) (each_from (f b) 0 (per_word z))))
         = λ b. filled_word (load y z sign w) s (active_at b s) (f b) in
@@ -251,4 +251,4 @@ module _ (y z : Size) (d : ℕ) (f : ℕ → ℕ → ℕ) (s : State) where
         ∷ (At (word_place d 3), word (new 3 j)) ∷ [])
         ∙ sym (four_loaded z d g (λ b. active_at b s) f) ∙ sym (λ j. write_register d (unlanes z (loaded_elements g (active_whole z s j) (e j)))) in
         (λ j. unless (faults false xs e j) (Ok (ended (put_all cells (h j) (put_all cells (loaded j) s)))))
-        ∙ ap (λ u. unless (fault_of false (width y) are_active xs) (Ok (retired u))) (writes_joined register vs (advance_half 0 s) (advance_half 2 s) s)
+        ∙ ap (λ u. unless (fault_of false (byte_count y) are_active xs) (Ok (retired u))) (writes_joined register vs (advance_half 0 s) (advance_half 2 s) s)

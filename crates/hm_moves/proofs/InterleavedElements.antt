@@ -11,17 +11,17 @@ use Rattle.hm_order.proofs.Results.{decide, true_not_false}
 use Rattle.hm_state.specs.State.{State, at}
 use Rattle.hm_beat.specs.Rows.{word_place}
 use Rattle.hm_moves.specs.declared.elements.Element.{Element}
-use Rattle.hm_moves.specs.Moves.{active_ones, elements_at, every_byte, first_fault, width}
+use Rattle.hm_moves.specs.Moves.{active_ones, elements_at, every_byte, first_fault, byte_count}
 use Rattle.hm_moves.specs.Ways.{Transfer, each_from, interleaved, moves_by, registers, stream, way_words}
 use Rattle.hm_moves.specs.Wholes.{addresses, count, fault_of, part_word}
 
 -- ELEMENT k OF A PART
 -- its lowest byte in its word, and which word of the part of its register it is of
 abbrev pub turn_lane : Size → Bool → ℕ → ℕ
-turn_lane z four k = width z * (k / registers four) % 4
+turn_lane z four k = byte_count z * (k / registers four) % 4
 
 abbrev pub turn_word : Size → Bool → ℕ → ℕ
-turn_word z four k = width z * (k / registers four) / 4
+turn_word z four k = byte_count z * (k / registers four) / 4
 
 -- m + n, which is m where n is 0
 abbrev pub and_more : ℕ → ℕ → ℕ
@@ -46,7 +46,7 @@ register_is size.Byte false part b j = omega arith
 register_is size.Half false part b j = omega arith
 register_is size.Word false part b j = omega arith
 
-lane_is : (z : Size) (four : Bool) (part b j : ℕ) → width z * ((stream part z b + j) / registers four) % 4 ≡ turn_lane z four (per_word z * b + j)
+lane_is : (z : Size) (four : Bool) (part b j : ℕ) → byte_count z * ((stream part z b + j) / registers four) % 4 ≡ turn_lane z four (per_word z * b + j)
 lane_is size.Byte true part b j = omega arith
 lane_is size.Half true part b j = omega arith
 lane_is size.Word true part b j = omega arith
@@ -55,7 +55,7 @@ lane_is size.Half false part b j = omega arith
 lane_is size.Word false part b j = omega arith
 
 word_is : (z : Size) (four : Bool) (part b j : ℕ)
-    → width z * ((stream part z b + j) / registers four) / 4 ≡ part_word four part + turn_word z four (per_word z * b + j)
+    → byte_count z * ((stream part z b + j) / registers four) / 4 ≡ part_word four part + turn_word z four (per_word z * b + j)
 word_is size.Byte true part b j = omega arith
 word_is size.Half true part b j = omega arith
 word_is size.Word true part b j = omega arith
@@ -80,7 +80,7 @@ part_places z four d part b =
 
 -- where element k of the part stands
 abbrev pub part_address : Size → Size → ℕ → ℕ → State → ℕ → ℕ
-part_address y z n part s k = (at (R n) s + width y * (count z * part + k)) % 2 ^ 32
+part_address y z n part s k = (at (R n) s + byte_count y * (count z * part + k)) % 2 ^ 32
 
 in_word : (x : ℕ) → get_or every_byte (x % 4) false ≡ true
 in_word x = go (x % 4) (omega arith)
@@ -117,15 +117,15 @@ module _ (y z : Size) (d n : ℕ) (four : Bool) (part : ℕ) (back : Bool) where
       elements_at (moves_by t) b u)
       ≡ part_elements z four (part_address y z n part u) b
   elements_are store sign b u =
-      let address : ℕ → ℕ = λ k. (at (R n) u + width y * k) % 2 ^ 32 in
+      let address : ℕ → ℕ = λ k. (at (R n) u + byte_count y * k) % 2 ^ 32 in
       (λ t. active_ones every_byte (each_from
       (λ j. record { addr = address (stream_is z part b j t); word = j % registers four; lane = lane_is z four part b j t }) 0 (per_word z)))
-      ∙ all_active (λ j. part_address y z n part u (per_word z * b + j)) (λ j. j % registers four) (λ j. width z * ((per_word z * b + j) / registers four)) 0
+      ∙ all_active (λ j. part_address y z n part u (per_word z * b + j)) (λ j. j % registers four) (λ j. byte_count z * ((per_word z * b + j) / registers four)) 0
       (per_word z)
 
   pub addresses_are : (s : State) → addresses y z (interleaved d n four part back) s ≡ each_from (part_address y z n part s) 0 (count z)
   addresses_are s =
-      let address : ℕ → ℕ = λ k. (at (R n) s + width y * k) % 2 ^ 32 in
+      let address : ℕ → ℕ = λ k. (at (R n) s + byte_count y * k) % 2 ^ 32 in
       ap (λ k. each_from address k (count z)) (omega arith) ∙ each_later address (count z * part) 0 (count z)
 
 -- FAULTS

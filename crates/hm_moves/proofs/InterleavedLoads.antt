@@ -6,7 +6,7 @@ use Rattle.hm_state.specs.Store.{put_all}
 use Rattle.hm_state.specs.State.{At, Byte, Cell, State, cells, same_cell}
 use Rattle.hm_beat.proofs.Chained.{put_other}
 use Rattle.hm_kinds.specs.Row.{numbers}
-use Rattle.hm_moves.specs.Moves.{Moves, bytes_of, elements_at, extended, handed, width, words_from}
+use Rattle.hm_moves.specs.Moves.{Moves, bytes_of_elements, elements_at, as_loaded, handed, byte_count, words_from}
 use Rattle.hm_moves.specs.Ways.{Transfer, interleaved, moves_by}
 use Rattle.hm_moves.specs.Wholes.{count, loaded}
 use Rattle.hm_moves.proofs.Laying.{laid_words, off_laid, same_got, words_got}
@@ -43,12 +43,12 @@ module _ (y z : Size) (sign : Bool) (d n : ℕ) (four : Bool) (part : ℕ) (back
   next_is b u h =
       let es = part_elements z four (part_address y z n part s) b in
       let ps = part_places z four d part b in
-      let from : ℕ → ℕ → ℕ = λ base k. (base + width y * (count z * part + k)) % 2 ^ 32 in
+      let from : ℕ → ℕ → ℕ = λ base k. (base + byte_count y * (count z * part + k)) % 2 ^ 32 in
       let same : elements_at i b u ≡ es = elements_are y z d n four part back false sign b u ∙ (λ j. part_elements z four (from (h.base j).n) b) in
       let places = places_are y z d n four part back b in
-      (λ j. put_all cells (words_from i 0 (same j) (numbers (map u.cell (map Byte (bytes_of y (same j)) ++ map At (places j)))) (places j)) u)
+      (λ j. put_all cells (words_from i 0 (same j) (numbers (map u.cell (map Byte (bytes_of_elements y (same j)) ++ map At (places j)))) (places j)) u)
       ∙ ap (λ ws. put_all cells ws u) (words_got i es u ps)
-      ∙ (λ j. put_all cells (laid_words z 0 es (λ a. extended i (same_got y s u h.bytes a j)) u ps) u)
+      ∙ (λ j. put_all cells (laid_words z 0 es (λ a. as_loaded i (same_got y s u h.bytes a j)) u ps) u)
 
   -- four beats, each in turn
   pub four_next : handed i 3 (handed i 2 (handed i 1 (handed i 0 s))) ≡ next 3 (next 2 (next 1 (next 0 s)))

@@ -10,7 +10,7 @@ use Rattle.hm_state.specs.State.{At, Byte, Cell, State, Value}
 use Rattle.hm_beat.specs.Touches.{span_bytes}
 use Rattle.hm_kinds.specs.Row.{numbers}
 use Rattle.hm_moves.specs.declared.elements.Element.{Element}
-use Rattle.hm_moves.specs.Moves.{all_bytes_from, bytes_from, width}
+use Rattle.hm_moves.specs.Moves.{all_bytes_from, bytes_from, byte_count}
 use Rattle.hm_moves.specs.Ways.{each_from, interleaved, registers}
 use Rattle.hm_moves.specs.Wholes.{count, number_bytes, part_at, element_bytes, stored_elements}
 use Rattle.hm_moves.proofs.OneWord.{lane_byte, span_length}
@@ -21,7 +21,7 @@ abbrev pub SameBytes : (len w l v : ℕ) → Type 0
 SameBytes len w l v = (m : ℕ) → m < len → byte_of w (l + m) ≡ byte_of v m
 
 -- a lane of a word, as far as it is stored
-in_lane : (z : Size) (w j len : ℕ) → j < per_word z → len ≤ width z → SameBytes len w (width z * j) (get_or (lanes z (bytes_of w)) j 0)
+in_lane : (z : Size) (w j len : ℕ) → j < per_word z → len ≤ byte_count z → SameBytes len w (byte_count z * j) (get_or (lanes z (bytes_of w)) j 0)
 in_lane z w j len low narrow m h = sym (lane_byte z w j m low (omega arith))
 
 -- ELEMENTS
@@ -37,17 +37,17 @@ bytes_same : (e : Element) (xs : List ℕ) (v len k : ℕ) (bs : List ℕ) → S
 bytes_same e xs v len k [] h low = refl
 bytes_same e xs v len k (a ∷ bs) h low = λ j. (Byte a, record { n = h k (omega arith) j; taint = false }) ∷ bytes_same e xs v len (k + 1) bs h (omega arith) j
 
-stored_first : (y : Size) (es : List Element) (xs vs : List ℕ) (ps : List Bool) (addrs zs : List ℕ) → AreStored (width y) xs es vs
+stored_first : (y : Size) (es : List Element) (xs vs : List ℕ) (ps : List Bool) (addrs zs : List ℕ) → AreStored (byte_count y) xs es vs
     → all_bytes_from false y es xs ++ element_bytes y ps addrs zs
     ≡ element_bytes y (map (λ e. true) es ++ ps) (map (λ (e : Element). e.addr) es ++ addrs) (vs ++ zs)
 stored_first y [] xs [] ps addrs zs h = refl
 stored_first y [] xs (v ∷ vs) ps addrs zs h = absurd h
 stored_first y (e ∷ es) xs [] ps addrs zs h = absurd h
 stored_first y (e ∷ es) xs (v ∷ vs) ps addrs zs h =
-    let bs = span_bytes e.addr (width y) in
+    let bs = span_bytes e.addr (byte_count y) in
     let long = span_length y e.addr in
     append_assoc (bytes_from false e xs 0 bs) (all_bytes_from false y es xs) (element_bytes y ps addrs zs)
-    ∙ (λ j. bytes_same e xs v (width y) 0 bs h.0 (omega arith) j ++ stored_first y es xs vs ps addrs zs h.1 j)
+    ∙ (λ j. bytes_same e xs v (byte_count y) 0 bs h.0 (omega arith) j ++ stored_first y es xs vs ps addrs zs h.1 j)
 
 regrouped : {A : Type 0} (a b c e : List A) → a ++ b ++ c ++ e ≡ a ++ (b ++ (c ++ (e ++ [])))
 regrouped a b c e = append_assoc (a ++ b) c e ∙ append_assoc a b (c ++ e) ∙ ap (λ x. a ++ (b ++ (c ++ x))) (sym (append-nil e))
@@ -63,7 +63,7 @@ abbrev pub part_words : Size → Bool → ℕ → ℕ → State → ℕ → List
 part_words z four d part s b = numbers (map s.cell (map At (part_places z four d part b)))
 
 abbrev pub BeatStored : Size → Size → Bool → ℕ → ℕ → (ℕ → ℕ) → State → ℕ → Type 0
-BeatStored y z four d part f s b = AreStored (width y) (part_words z four d part s b) (part_elements z four f b) (part_values z four d part s b)
+BeatStored y z four d part f s b = AreStored (byte_count y) (part_words z four d part s b) (part_elements z four f b) (part_values z four d part s b)
 
 abbrev pub FourStored : Size → Size → Bool → ℕ → ℕ → (ℕ → ℕ) → State → Type 0
 FourStored y z four d part f s = BeatStored y z four d part f s 0 × BeatStored y z four d part f s 1 × BeatStored y z four d part f s 2
@@ -71,9 +71,9 @@ FourStored y z four d part f s = BeatStored y z four d part f s 0 × BeatStored 
 
 module _ (y : Size) (d part : ℕ) (f : ℕ → ℕ) (s : State) where
   abbrev len : ℕ
-  len = width y
+  len = byte_count y
 
-  beats_stored : (z : Size) (four : Bool) → width y ≤ width z → FourStored y z four d part f s
+  beats_stored : (z : Size) (four : Bool) → byte_count y ≤ byte_count z → FourStored y z four d part f s
   beats_stored size.Byte true h = (
     (
       in_lane size.Byte _ 0 len (omega arith) h,
@@ -153,7 +153,7 @@ module _ (y : Size) (d part : ℕ) (f : ℕ → ℕ) (s : State) where
   joined size.Word true n back = refl
   joined size.Word false n back = refl
 
-  pub part_stored : (z : Size) (four : Bool) (n : ℕ) (back : Bool) → width y ≤ width z
+  pub part_stored : (z : Size) (four : Bool) (n : ℕ) (back : Bool) → byte_count y ≤ byte_count z
       → beat_bytes z four 0 ++ beat_bytes z four 1 ++ beat_bytes z four 2 ++ beat_bytes z four 3
       ≡ element_bytes y (each_from (λ j. true) 0 (count z)) (each_from f 0 (count z)) (stored_elements z (interleaved d n four part back) s)
   part_stored z four n back narrow =

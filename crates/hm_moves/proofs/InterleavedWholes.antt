@@ -6,7 +6,7 @@ use Rattle.hm_state.specs.State.{At, State, cells}
 use Rattle.hm_beat.specs.Rows.{advance_half, retired}
 use Rattle.hm_kinds.specs.Row.{numbers}
 use Rattle.hm_mem.specs.Seen.{unless}
-use Rattle.hm_moves.specs.Moves.{Moves, all_bytes_from, all_elements, back_at, first_fault, handed, moved, moves_by_words, stored_at, width}
+use Rattle.hm_moves.specs.Moves.{Moves, all_bytes_from, all_elements, back_at, first_fault, handed, moved, moves_by_words, stored_at, byte_count}
 use Rattle.hm_moves.specs.Ways.{Found, Transfer, each_from, interleaved, moves_by}
 use Rattle.hm_moves.specs.Wholes.{addresses, are_moved, count, fault_of, filled_registers, loaded, loaded_elements, element_bytes, stored_elements}
 use Rattle.hm_moves.specs.Wholes.{transfer_whole, transferred, written_back}
@@ -40,12 +40,12 @@ module _ (y z : Size) (sign : Bool) (d n : ℕ) (four : Bool) (part : ℕ) (back
   abbrev over : Bool → State
   over store = retired (put_all cells (transferred (row store) ps addrs s ++ written_back found s ++ advance_half 0 s ++ advance_half 2 s) s)
 
-  faults_are : (store : Bool) → first_fault store (width y) (all_elements (by store) s) ≡ fault_of store (width y) ps addrs
+  faults_are : (store : Bool) → first_fault store (byte_count y) (all_elements (by store) s) ≡ fault_of store (byte_count y) ps addrs
   faults_are store =
       let e = elements_are y z d n four part back store sign in
-      (λ j. first_fault store (width y) (e 0 s j ++ e 1 s j ++ e 2 s j ++ e 3 s j))
-      ∙ part_fault store (width y) f z four
-      ∙ (λ j. fault_of store (width y) (each_from (λ k. true) 0 (count z)) (sym (addresses_are y z d n four part back s) j))
+      (λ j. first_fault store (byte_count y) (e 0 s j ++ e 1 s j ++ e 2 s j ++ e 3 s j))
+      ∙ part_fault store (byte_count y) f z four
+      ∙ (λ j. fault_of store (byte_count y) (each_from (λ k. true) 0 (count z)) (sym (addresses_are y z d n four part back s) j))
 
   backs_are : (store : Bool) → back_at (by store) 0 s ++ back_at (by store) 1 s ++ back_at (by store) 2 s ++ back_at (by store) 3 s ≡ written_back found s
   backs_are store = go back
@@ -72,7 +72,7 @@ module _ (y z : Size) (sign : Bool) (d n : ℕ) (four : Bool) (part : ℕ) (back
   stored_is b = λ j. all_bytes_from false y (elements_are y z d n four part back true sign b s j)
       (numbers (map s.cell (map At (places_are y z d n four part back b j))))
 
-  stores_are : width y ≤ width z → moved (by true) s ≡ over true
+  stores_are : byte_count y ≤ byte_count z → moved (by true) s ≡ over true
   stores_are narrow =
       let S = λ (b : ℕ). stored_at (by true) false b s in
       let stored : S 0 ++ S 1 ++ S 2 ++ S 3 ≡ transferred (row true) ps addrs s
@@ -82,12 +82,12 @@ module _ (y z : Size) (sign : Bool) (d n : ℕ) (four : Bool) (part : ℕ) (back
       (λ j. retired (put_all cells (advance_half 0 s ++ advance_half 2 s) (put_all cells (backs_are true j) (put_all cells (stored j) s))))
       ∙ ap retired (writes_joined (transferred (row true) ps addrs s) (written_back found s) (advance_half 0 s) (advance_half 2 s) s)
 
-  states_are : (store : Bool) → (store ≡ true → width y ≤ width z) → moved (by store) s ≡ over store
+  states_are : (store : Bool) → (store ≡ true → byte_count y ≤ byte_count z) → moved (by store) s ≡ over store
   states_are true narrow = stores_are (narrow refl)
   states_are false narrow = loads_are
 
 -- the whole of an interleaved row
-pub interleaved_is : (store : Bool) (y z : Size) (sign : Bool) (d n : ℕ) (four : Bool) (part : ℕ) (back : Bool) (s : State) → (store ≡ true → width y ≤ width z)
+pub interleaved_is : (store : Bool) (y z : Size) (sign : Bool) (d n : ℕ) (four : Bool) (part : ℕ) (back : Bool) (s : State) → (store ≡ true → byte_count y ≤ byte_count z)
     → (let t : Transfer = record { store = store; memory = y; register = z; signed = sign; found = interleaved d n four part back } in
     moves_by_words (moves_by t) s ≡ transfer_whole t s)
 interleaved_is store y z sign d n four part back s narrow =

@@ -13,7 +13,7 @@ use Rattle.hm_beat.specs.Touches.{span_bytes}
 use Rattle.hm_beat.proofs.Chained.{Off}
 use Rattle.hm_kinds.specs.Row.{numbers}
 use Rattle.hm_moves.specs.declared.elements.Element.{Element}
-use Rattle.hm_moves.specs.Moves.{Moves, bytes_of, extended, filled, laid, number, width, words_from}
+use Rattle.hm_moves.specs.Moves.{Moves, bytes_of_elements, as_loaded, filled, laid, little_endian, byte_count, words_from}
 use Rattle.hm_moves.specs.Ways.{each_from}
 use Rattle.hm_moves.specs.Wholes.{read_at}
 
@@ -21,7 +21,7 @@ use Rattle.hm_moves.specs.Wholes.{read_at}
 -- word j with elements laid into it, by the numbers that they are loaded as
 abbrev pub laid_all : Size → ℕ → List Element → (ℕ → ℕ) → ℕ → ℕ
 laid_all z j [] v w = w
-laid_all z j (e ∷ es) v w = let x = laid_all z j es v w in cond (eqb e.word j) (put_field (8 * e.lane) (8 * width z) (v e.addr) x) x
+laid_all z j (e ∷ es) v w = let x = laid_all z j es v w in cond (eqb e.word j) (put_field (8 * e.lane) (8 * byte_count z) (v e.addr) x) x
 
 -- words from number j on, each from what stands there
 abbrev pub laid_words : Size → ℕ → List Element → (ℕ → ℕ) → State → List Place → List (Cell × Value)
@@ -33,26 +33,26 @@ split_read : (u : State) (bs rest : List ℕ) (cs : List Cell)
 split_read u [] rest cs = refl
 split_read u (b ∷ bs) rest cs = ap (λ xs. (u.cell (Byte b)).n ∷ xs) (split_read u bs rest cs)
 
-number_first : (y : Size) (u : State) (a : ℕ) (xs : List ℕ) → number (width y) (numbers (map u.cell (map Byte (span_bytes a (width y)))) ++ xs) ≡ read_at y u a
+number_first : (y : Size) (u : State) (a : ℕ) (xs : List ℕ) → little_endian (byte_count y) (numbers (map u.cell (map Byte (span_bytes a (byte_count y)))) ++ xs) ≡ read_at y u a
 number_first size.Byte u a xs = refl
 number_first size.Half u a xs = refl
 number_first size.Word u a xs = refl
 
-drop_first : (y : Size) (u : State) (a : ℕ) (xs : List ℕ) → drop (width y) (numbers (map u.cell (map Byte (span_bytes a (width y)))) ++ xs) ≡ xs
+drop_first : (y : Size) (u : State) (a : ℕ) (xs : List ℕ) → drop (byte_count y) (numbers (map u.cell (map Byte (span_bytes a (byte_count y)))) ++ xs) ≡ xs
 drop_first size.Byte u a xs = refl
 drop_first size.Half u a xs = refl
 drop_first size.Word u a xs = refl
 
 -- what a beat fills a word with, by what stands in the bytes and in the word
 pub filled_got : (i : Moves) (j : ℕ) (es : List Element) (u : State) (cs : List Cell)
-    → filled i j es (numbers (map u.cell (map Byte (bytes_of i.memory es) ++ cs)))
-    ≡ laid_all i.register j es (λ a. extended i (read_at i.memory u a)) (get_or (numbers (map u.cell cs)) j 0 % 2 ^ 32)
+    → filled i j es (numbers (map u.cell (map Byte (bytes_of_elements i.memory es) ++ cs)))
+    ≡ laid_all i.register j es (λ a. as_loaded i (read_at i.memory u a)) (get_or (numbers (map u.cell cs)) j 0 % 2 ^ 32)
 filled_got i j [] u cs = refl
 filled_got i j (e ∷ es) u cs =
     let y = i.memory in
-    let bs = span_bytes e.addr (width y) in
-    let xs = numbers (map u.cell (map Byte (bytes_of y es) ++ cs)) in
-    (λ t. laid i j e (number (width y) (split_read u bs (bytes_of y es) cs t)) (filled i j es (drop (width y) (split_read u bs (bytes_of y es) cs t))))
+    let bs = span_bytes e.addr (byte_count y) in
+    let xs = numbers (map u.cell (map Byte (bytes_of_elements y es) ++ cs)) in
+    (λ t. laid i j e (little_endian (byte_count y) (split_read u bs (bytes_of_elements y es) cs t)) (filled i j es (drop (byte_count y) (split_read u bs (bytes_of_elements y es) cs t))))
     ∙ (λ t. laid i j e (number_first y u e.addr xs t) (filled i j es (drop_first y u e.addr xs t)))
     ∙ ap (laid i j e (read_at y u e.addr)) (filled_got i j es u cs)
 
@@ -65,13 +65,13 @@ stands u ps k low = ap (λ xs. get_or xs k 0) (stand u ps) ∙ get_or-map (λ p.
 
 words_laid : (i : Moves) (j : ℕ) (es : List Element) (u : State) (cs : List Cell) (ps : List Place)
     → ((k : ℕ) → k < length ps → get_or (numbers (map u.cell cs)) (j + k) 0 ≡ at (get_or ps k (R 0)) u)
-    → words_from i j es (numbers (map u.cell (map Byte (bytes_of i.memory es) ++ cs))) ps
-    ≡ laid_words i.register j es (λ a. extended i (read_at i.memory u a)) u ps
+    → words_from i j es (numbers (map u.cell (map Byte (bytes_of_elements i.memory es) ++ cs))) ps
+    ≡ laid_words i.register j es (λ a. as_loaded i (read_at i.memory u a)) u ps
 words_laid i j es u cs [] h = refl
 words_laid i j es u cs (p ∷ ps) h =
     let old : get_or (numbers (map u.cell cs)) j 0 ≡ at p u =
     subst (λ (k : ℕ). get_or (numbers (map u.cell cs)) k 0 ≡ at p u) (omega arith) (h 0 (omega arith)) in
-    let lay : ℕ → ℕ = λ x. laid_all i.register j es (λ a. extended i (read_at i.memory u a)) (x % 2 ^ 32) in
+    let lay : ℕ → ℕ = λ x. laid_all i.register j es (λ a. as_loaded i (read_at i.memory u a)) (x % 2 ^ 32) in
     λ t. into (write p ((filled_got i j es u cs ∙ ap lay old) t)) ∷ words_laid i (j + 1) es u cs ps next t
   where
     next : (k : ℕ) → k < length ps → get_or (numbers (map u.cell cs)) (j + 1 + k) 0 ≡ at (get_or ps k (R 0)) u
@@ -79,15 +79,15 @@ words_laid i j es u cs (p ∷ ps) h =
 
 -- the words of a beat that reads them
 pub words_got : (i : Moves) (es : List Element) (u : State) (ps : List Place)
-    → words_from i 0 es (numbers (map u.cell (map Byte (bytes_of i.memory es) ++ map At ps))) ps
-    ≡ laid_words i.register 0 es (λ a. extended i (read_at i.memory u a)) u ps
+    → words_from i 0 es (numbers (map u.cell (map Byte (bytes_of_elements i.memory es) ++ map At ps))) ps
+    ≡ laid_words i.register 0 es (λ a. as_loaded i (read_at i.memory u a)) u ps
 words_got i es u ps =
     words_laid i 0 es u (map At ps) ps
     (λ k low. subst (λ (m : ℕ). get_or (numbers (map u.cell (map At ps))) m 0 ≡ at (get_or ps k (R 0)) u) (omega arith) (stands u ps k low))
 
 -- the same bytes are read alike
 pub same_got : (y : Size) (s u : State) → ((a : ℕ) → u.cell (Byte a) ≡ s.cell (Byte a)) → (a : ℕ) → read_at y u a ≡ read_at y s a
-same_got y s u h a = ap (number (width y)) (same_read (span_bytes a (width y)))
+same_got y s u h a = ap (little_endian (byte_count y)) (same_read (span_bytes a (byte_count y)))
   where
     same_read : (bs : List ℕ) → numbers (map u.cell (map Byte bs)) ≡ numbers (map s.cell (map Byte bs))
     same_read [] = refl

@@ -12,7 +12,7 @@ use Rattle.hm_mem.specs.Seen.{Seen, or_else, read, stop_of}
 use Rattle.hm_beat.specs.Touches.{span_bytes, spanned}
 use Rattle.hm_moves.specs.declared.elements.Element.{Element}
 use Rattle.hm_moves.specs.Coded.{filled_in, first_stop}
-use Rattle.hm_moves.specs.Moves.{Moves, bytes_of, laid, width}
+use Rattle.hm_moves.specs.Moves.{Moves, bytes_of_elements, laid, byte_count}
 
 abbrev pub none : Element
 none = record { addr = 0; word = 0; lane = 0 }
@@ -58,17 +58,17 @@ spanned-more (y ∷ xs) x = ap (λ bs. span_bytes y.addr y.len ++ bs) (spanned-m
     ∙ sym (append_assoc (span_bytes y.addr y.len) (spanned xs) (span_bytes x.addr x.len))
 
 pub spans_more : (z : Size) (es : List Element) (k : ℕ) (xs ys : List Span) (w : ℕ) → k < length es
-    → ys ≡ xs ++ (record { addr = (get_or es k none).addr; len = w }) ∷ [] → w ≡ width z
-    → spanned xs ++ bytes_of z (drop k es) ≡ bytes_of z es → spanned ys ++ bytes_of z (drop (k + 1) es) ≡ bytes_of z es
+    → ys ≡ xs ++ (record { addr = (get_or es k none).addr; len = w }) ∷ [] → w ≡ byte_count z
+    → spanned xs ++ bytes_of_elements z (drop k es) ≡ bytes_of_elements z es → spanned ys ++ bytes_of_elements z (drop (k + 1) es) ≡ bytes_of_elements z es
 spans_more z es k xs ys w low e f h =
-    let bs = span_bytes (get_or es k none).addr (width z) in
-    ap (λ zs. spanned zs ++ bytes_of z (drop (k + 1) es)) (e ∙ ap (λ n. xs ++ (record { addr = (get_or es k none).addr; len = n }) ∷ []) f)
-    ∙ ap (λ cs. cs ++ bytes_of z (drop (k + 1) es)) (spanned-more xs (record { addr = (get_or es k none).addr; len = width z }))
-    ∙ append_assoc (spanned xs) bs (bytes_of z (drop (k + 1) es))
-    ∙ ap (λ cs. spanned xs ++ cs) (sym (ap (bytes_of z) (drop_at none es k low))) ∙ h
+    let bs = span_bytes (get_or es k none).addr (byte_count z) in
+    ap (λ zs. spanned zs ++ bytes_of_elements z (drop (k + 1) es)) (e ∙ ap (λ n. xs ++ (record { addr = (get_or es k none).addr; len = n }) ∷ []) f)
+    ∙ ap (λ cs. cs ++ bytes_of_elements z (drop (k + 1) es)) (spanned-more xs (record { addr = (get_or es k none).addr; len = byte_count z }))
+    ∙ append_assoc (spanned xs) bs (bytes_of_elements z (drop (k + 1) es))
+    ∙ ap (λ cs. spanned xs ++ cs) (sym (ap (bytes_of_elements z) (drop_at none es k low))) ∙ h
 
 -- WORDS
 pub fill_next : (i : Moves) (j : ℕ) (es : List Element) (k old x w v : ℕ) (s : Seen) → k < length es → w ≡ filled_in i j (drop (k + 1) es) old s
-    → x ≡ read (width i.memory) (get_or es k none).addr s → v ≡ laid i j (get_or es k none) x w → v ≡ filled_in i j (drop k es) old s
+    → x ≡ read (byte_count i.memory) (get_or es k none).addr s → v ≡ laid i j (get_or es k none) x w → v ≡ filled_in i j (drop k es) old s
 fill_next i j es k old x w v s low hw hx hv =
     hv ∙ (λ t. laid i j (get_or es k none) (hx t) (hw t)) ∙ sym (ap (λ xs. filled_in i j xs old s) (drop_at none es k low))

@@ -29,15 +29,15 @@ use Rattle.hm_kinds.specs.Row.{is_body}
 use Rattle.hm_kinds.proofs.Row.{body_off, body_still, gathered, holds_written, pc-put_all}
 use Rattle.hm_moves.specs.declared.elements.Element.{Element}
 use Rattle.hm_moves.specs.Moves.{IsMoves, Moves, SparesLr, Unwritten, all_bytes_from, all_elements, active_ones, back_at, bytes_from, elements_at, every_byte}
-use Rattle.hm_moves.specs.Moves.{first_fault, handed, is_word, loaded_at, moved, moves_tree, moves_by_words, fault_after, bytes_of, reads_of, sources_at}
-use Rattle.hm_moves.specs.Moves.{stored_at, values_at, width, words_from}
+use Rattle.hm_moves.specs.Moves.{first_fault, handed, is_word, loaded_at, moved, moves_tree, moves_by_words, fault_after, bytes_of_elements, reads_of, sources_at}
+use Rattle.hm_moves.specs.Moves.{stored_at, values_at, byte_count, words_from}
 use Rattle.hm_moves.proofs.Trees.{begun_places, checked_clean, checks_fail, checks_stop, ends_at, fault_stop, leaf_asks, leaf_at, leaf_lives, leaf_read_asked}
 use Rattle.hm_moves.proofs.Trees.{leaf_taints, others_of, reach_moves, tests_moves, written_leaf}
 use Rattle.hm_moves.proofs.Faulting.{effect_after, four_faulting, stop_first}
 
 -- WHAT A BEAT DOES IN THE THREAD
 abbrev pub fault_at : Moves → ℕ → State → Option Fault
-fault_at i b s = first_fault i.store (width i.memory) (elements_at i b s)
+fault_at i b s = first_fault i.store (byte_count i.memory) (elements_at i b s)
 
 effect_where : (o : Option Fault) (l : Leaf Cell Value Stop) (vs : List Value) → l.mark ≡ None
     → effect_of (fault_stop o) l vs ≡ effect_after o (written l.writes vs)
@@ -49,7 +49,7 @@ pub moves_effect : (i : Moves) (x : Around) (b : ℕ) (s : State) → x.actor �
 moves_effect i x b s thread clean =
     let l = leaf_at i x b s in
     ap (λ (l : Leaf Cell Value Stop). effect_of (checked cells l.checks s) l (map s.cell l.reads)) (reach_moves i x b s)
-    ∙ ap (λ o. effect_of o l (map s.cell l.reads)) (checked_clean x i.store (width i.memory) (elements_at i b s) s thread clean)
+    ∙ ap (λ o. effect_of o l (map s.cell l.reads)) (checked_clean x i.store (byte_count i.memory) (elements_at i b s) s thread clean)
     ∙ effect_where (fault_at i b s) l (map s.cell l.reads) refl
     ∙ ap (effect_after (fault_at i b s)) (written_leaf i x b s ∙ ap (λ t. loaded_at i b s ++ others_of i t b s) (ap marks thread))
 
@@ -82,8 +82,8 @@ off_bytes t e xs k (a ∷ bs) p = (refl, off_bytes t e xs (k + 1) bs p)
 
 off_all : (t : Bool) (z : Size) (es : List Element) (xs : List ℕ) (p : Place) → Off (At p) (all_bytes_from t z es xs)
 off_all t z [] xs p = tt
-off_all t z (e ∷ es) xs p = off-append (At p) (bytes_from t e xs 0 (span_bytes e.addr (width z))) (all_bytes_from t z es xs)
-    (off_bytes t e xs 0 (span_bytes e.addr (width z)) p) (off_all t z es xs p)
+off_all t z (e ∷ es) xs p = off-append (At p) (bytes_from t e xs 0 (span_bytes e.addr (byte_count z))) (all_bytes_from t z es xs)
+    (off_bytes t e xs 0 (span_bytes e.addr (byte_count z)) p) (off_all t z es xs p)
 
 off_stored : (i : Moves) (t : Bool) (b : ℕ) (s : State) (p : Place) → Off (At p) (stored_at i t b s)
 off_stored i t b s p = go i.store
@@ -241,12 +241,12 @@ module _ (i : Moves) (is : IsMoves i) where
 
   unwritten_reads : (t : Bool) (b k : ℕ) (es : List Element) → k < b → b < 4 → Each (λ (c : Cell). (v : State) → Off c (others_of i t k v)) (reads_of i b es)
   unwritten_reads t b k es low high =
-      each-append (λ (c : Cell). (v : State) → Off c (others_of i t k v)) (cond i.store [] (map Byte (bytes_of i.memory es))) _ (go i.store refl)
+      each-append (λ (c : Cell). (v : State) → Off c (others_of i t k v)) (cond i.store [] (map Byte (bytes_of_elements i.memory es))) _ (go i.store refl)
       (unwritten_words t b k low high (i.store || not i.predicated))
     where
-      go : (y : Bool) → i.store ≡ y → Each (λ (c : Cell). (v : State) → Off c (others_of i t k v)) (cond y [] (map Byte (bytes_of i.memory es)))
+      go : (y : Bool) → i.store ≡ y → Each (λ (c : Cell). (v : State) → Off c (others_of i t k v)) (cond y [] (map Byte (bytes_of_elements i.memory es)))
       go true e = tt
-      go false e = unwritten_bytes t k (bytes_of i.memory es) e
+      go false e = unwritten_bytes t k (bytes_of_elements i.memory es) e
 
   uses_unwritten : (x : Around) (t : Bool) (b k : ℕ) → k < b → b < 4 → (u v : State) (c : Cell) → (action cells (moves_tree i x b)).uses u c ≡ true
       → Off c (others_of i t k v)
@@ -395,8 +395,8 @@ all_apart : (ws : List (Cell × Value)) (t : Bool) (z : Size) (es : List Element
     → Apart ws (all_bytes_from t z es xs)
 all_apart ws t z [] xs h = tt
 all_apart ws t z (e ∷ es) xs h =
-    each_write (λ (v : Cell × Value). Off v.0 ws) (bytes_from t e xs 0 (span_bytes e.addr (width z))) (all_bytes_from t z es xs)
-    (bytes_apart ws t e xs 0 (span_bytes e.addr (width z)) h) (all_apart ws t z es xs h)
+    each_write (λ (v : Cell × Value). Off v.0 ws) (bytes_from t e xs 0 (span_bytes e.addr (byte_count z))) (all_bytes_from t z es xs)
+    (bytes_apart ws t e xs 0 (span_bytes e.addr (byte_count z)) h) (all_apart ws t z es xs h)
 
 module _ (i : Moves) (is : IsMoves i) where
   -- what is written back and the advance meet no byte
@@ -442,7 +442,7 @@ module _ (i : Moves) (is : IsMoves i) where
       let s1 = handed i 0 s in
       let s2 = handed i 1 s1 in
       let s3 = handed i 2 s2 in
-      let len = width i.memory in
+      let len = byte_count i.memory in
       let same1 : (b : ℕ) → 0 < b → b < 4 → Same i is b s s1 = λ b low high. same_next i is b 0 s s low high (same_start i is b s) in
       let same2 : (b : ℕ) → 1 < b → b < 4 → Same i is b s s2 = λ b low high. same_next i is b 1 s s1 low high (same1 b (omega arith) high) in
       let same3 : Same i is 3 s s3 = same_next i is 3 2 s s2 (omega arith) (omega arith) (same2 3 (omega arith) (omega arith)) in
@@ -514,9 +514,9 @@ module _ (i : Moves) (is : IsMoves i) where
     tests = of_tests;
     reads = of_reads;
     stops = subst (λ (l : Leaf Cell Value Stop). StopsAs is_tainted l.checks) (sym (reach_moves i x b s))
-        (checks_stop x i.store (width i.memory) (elements_at i b s));
+        (checks_stop x i.store (byte_count i.memory) (elements_at i b s));
     fails = subst (λ (l : Leaf Cell Value Stop). FailsElse is_tainted l.checks) (sym (reach_moves i x b s))
-        (checks_fail x i.store (width i.memory) (elements_at i b s) thread);
+        (checks_fail x i.store (byte_count i.memory) (elements_at i b s) thread);
     lives = subst (λ (l : Leaf Cell Value Stop). WritesLive cells l.writes) (sym (reach_moves i x b s)) (leaf_lives i x b s thread);
   }
     where
@@ -538,7 +538,7 @@ module _ (i : Moves) (is : IsMoves i) where
       ∙ leaf_asks i x b s c (sym (ap (λ (l : Leaf Cell Value Stop). holds cells (asked l.checks) c) (reach_moves i x b s)) ∙ h)
 
   moves_next : (s t : State) → moves_by_words i s ≡ Ok t → t.pc ≡ s.pc + 4
-  moves_next s t e = go (first_fault i.store (width i.memory) (all_elements i s)) e
+  moves_next s t e = go (first_fault i.store (byte_count i.memory) (all_elements i s)) e
     where
       pc_handed : (b : ℕ) (u : State) → (handed i b u).pc ≡ u.pc
       pc_handed b u = pc-put_all (loaded_at i b u) u

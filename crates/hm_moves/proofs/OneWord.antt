@@ -15,7 +15,7 @@ use Rattle.hm_state.specs.State.{Byte, State}
 use Rattle.hm_beat.specs.Touches.{span_bytes}
 use Rattle.hm_kinds.specs.Row.{numbers}
 use Rattle.hm_moves.specs.declared.elements.Element.{Element}
-use Rattle.hm_moves.specs.Moves.{Moves, active_ones, all_bytes_from, bytes_from, extended, fault_after, filled, first_fault, width}
+use Rattle.hm_moves.specs.Moves.{Moves, active_ones, all_bytes_from, bytes_from, as_loaded, fault_after, filled, first_fault, byte_count}
 use Rattle.hm_moves.specs.Moves as moves
 use Rattle.hm_moves.specs.Ways.{each_from}
 use Rattle.hm_moves.specs.Wholes.{fault_of, loaded_elements, read_at, number_bytes, element_bytes}
@@ -23,7 +23,7 @@ use Rattle.hm_moves.proofs.Laying.{filled_got, laid_all}
 
 -- an element of a word, at an address
 abbrev pub placed : Size → (ℕ → ℕ) → ℕ → Element
-placed z f j = record { addr = f j; word = 0; lane = width z * j }
+placed z f j = record { addr = f j; word = 0; lane = byte_count z * j }
 
 -- the active ones of a word
 abbrev pub word_elements : Size → (ℕ → ℕ) → List Bool → List Element
@@ -31,7 +31,7 @@ word_elements z f q = active_ones q (each_from (placed z f) 0 (per_word z))
 
 -- which of its elements are active
 abbrev pub word_active : Size → List Bool → List Bool
-word_active z q = each_from (λ j. get_or q (width z * j) false) 0 (per_word z)
+word_active z q = each_from (λ j. get_or q (byte_count z * j) false) 0 (per_word z)
 
 -- FAULTS
 -- an element has its fault where it is active
@@ -58,7 +58,7 @@ lane_bytes : (x : ℕ) → (x / 2 ^ 0 % 2 ^ 8 ≡ x % 256) × (x / 2 ^ 0 % 2 ^ 1
 lane_bytes x = (omega arith, omega arith, omega arith, omega arith)
 
 -- element j of a word is a field of it
-pub lane_field : (z : Size) (x j : ℕ) → j < per_word z → get_or (lanes z (bytes_of x)) j 0 ≡ field (8 * (width z * j)) (8 * width z) x
+pub lane_field : (z : Size) (x j : ℕ) → j < per_word z → get_or (lanes z (bytes_of x)) j 0 ≡ field (8 * (byte_count z * j)) (8 * byte_count z) x
 unfolding field
 lane_field size.Byte x zero h = sym (lane_bytes x).0
 lane_field size.Byte x (suc zero) h = refl
@@ -88,7 +88,7 @@ put_low false lo n x u =
 -- n elements of a word from number j on, laid into it
 abbrev laid_from : Size → (ℕ → Bool) → (ℕ → ℕ) → ℕ → ℕ → ℕ
 laid_from z p g j zero = 0
-laid_from z p g j (suc n) = cond (p j) (put_field (8 * (width z * j)) (8 * width z) (g j) (laid_from z p g (j + 1) n)) (laid_from z p g (j + 1) n)
+laid_from z p g j (suc n) = cond (p j) (put_field (8 * (byte_count z * j)) (8 * byte_count z) (g j) (laid_from z p g (j + 1) n)) (laid_from z p g (j + 1) n)
 
 -- the word of four lanes, of two and of one
 four_laid : (p : ℕ → Bool) (g : ℕ → ℕ)
@@ -130,22 +130,22 @@ laid_one z v true e es = refl
 laid_one z v false e es = refl
 
 laid_active : (z : Size) (v : ℕ → ℕ) (q : List Bool) (f : ℕ → ℕ) (j n : ℕ)
-    → laid_all z 0 (active_ones q (each_from (placed z f) j n)) v 0 ≡ laid_from z (λ k. get_or q (width z * k) false) (λ k. v (f k)) j n
+    → laid_all z 0 (active_ones q (each_from (placed z f) j n)) v 0 ≡ laid_from z (λ k. get_or q (byte_count z * k) false) (λ k. v (f k)) j n
 laid_active z v q f j zero = refl
 laid_active z v q f j (suc n) =
     let e = placed z f j in
-    let p = get_or q (width z * j) false in
+    let p = get_or q (byte_count z * j) false in
     laid_one z v p e (active_ones q (each_from (placed z f) (j + 1) n))
-    ∙ ap (λ w. cond p (put_field (8 * e.lane) (8 * width z) (v (f j)) w) w) (laid_active z v q f (j + 1) n)
+    ∙ ap (λ w. cond p (put_field (8 * e.lane) (8 * byte_count z) (v (f j)) w) w) (laid_active z v q f (j + 1) n)
 
 -- a word that is filled is that of the elements that are loaded
 pub filled_word : (i : Moves) (s : State) (q : List Bool) (f : ℕ → ℕ) → (let es = word_elements i.register f q in
-    filled i 0 es (numbers (map s.cell (map Byte (moves.bytes_of i.memory es) ++ [])))
-    ≡ word_of (unlanes i.register (loaded_elements (λ a. extended i (read_at i.memory s a)) (word_active i.register q) (each_from f 0 (per_word i.register)))))
+    filled i 0 es (numbers (map s.cell (map Byte (moves.bytes_of_elements i.memory es) ++ [])))
+    ≡ word_of (unlanes i.register (loaded_elements (λ a. as_loaded i (read_at i.memory s a)) (word_active i.register q) (each_from f 0 (per_word i.register)))))
 filled_word i s q f =
     let z = i.register in
-    let v : ℕ → ℕ = λ a. extended i (read_at i.memory s a) in
-    filled_got i 0 (word_elements z f q) s [] ∙ laid_active z v q f 0 (per_word z) ∙ word_laid z (λ k. get_or q (width z * k) false) f v
+    let v : ℕ → ℕ = λ a. as_loaded i (read_at i.memory s a) in
+    filled_got i 0 (word_elements z f q) s [] ∙ laid_active z v q f 0 (per_word z) ∙ word_laid z (λ k. get_or q (byte_count z * k) false) f v
 
 -- BYTES THAT ARE STORED
 -- byte k of an element is one of its word
@@ -155,41 +155,41 @@ byte_field lo n x k h = field_of_low (8 * k) 8 (8 * n) (x / 2 ^ (8 * lo)) (omega
     ∙ ap (λ m. m % 256) (shr-shr x (8 * lo) (8 * k) ∙ ap (λ m. x / 2 ^ m) (omega arith))
 
 -- and so is byte k of a lane
-pub lane_byte : (z : Size) (x j k : ℕ) → j < per_word z → k < width z → byte_of (get_or (lanes z (bytes_of x)) j 0) k ≡ byte_of x (width z * j + k)
-lane_byte z x j k low h = ap (λ m. byte_of m k) (lane_field z x j low) ∙ byte_field (width z * j) (width z) x k (omega arith)
+pub lane_byte : (z : Size) (x j k : ℕ) → j < per_word z → k < byte_count z → byte_of (get_or (lanes z (bytes_of x)) j 0) k ≡ byte_of x (byte_count z * j + k)
+lane_byte z x j k low h = ap (λ m. byte_of m k) (lane_field z x j low) ∙ byte_field (byte_count z * j) (byte_count z) x k (omega arith)
 
 -- bytes of a word from a lane on are those of the lane
-bytes_alike : (z : Size) (x j a : ℕ) (bs : List ℕ) (k : ℕ) → j < per_word z → k + length bs ≤ width z
-    → bytes_from false (record { addr = a; word = 0; lane = width z * j }) (x ∷ []) k bs ≡ number_bytes (get_or (lanes z (bytes_of x)) j 0) k bs
+bytes_alike : (z : Size) (x j a : ℕ) (bs : List ℕ) (k : ℕ) → j < per_word z → k + length bs ≤ byte_count z
+    → bytes_from false (record { addr = a; word = 0; lane = byte_count z * j }) (x ∷ []) k bs ≡ number_bytes (get_or (lanes z (bytes_of x)) j 0) k bs
 bytes_alike z x j a [] k low fits = refl
 bytes_alike z x j a (b ∷ bs) k low fits =
     λ t. (Byte b, record { n = sym (lane_byte z x j k low (omega arith)) t; taint = false }) ∷ bytes_alike z x j a bs (k + 1) low (omega arith) t
 
-pub span_length : (y : Size) (a : ℕ) → length (span_bytes a (width y)) ≡ width y
+pub span_length : (y : Size) (a : ℕ) → length (span_bytes a (byte_count y)) ≡ byte_count y
 span_length size.Byte a = refl
 span_length size.Half a = refl
 span_length size.Word a = refl
 
 -- an element is stored where it is active
 stored_one : (y : Size) (p : Bool) (e : Element) (es : List Element) (xs : List ℕ)
-    → all_bytes_from false y (cond p (e ∷ []) [] ++ es) xs ≡ cond p (bytes_from false e xs 0 (span_bytes e.addr (width y))) [] ++ all_bytes_from false y es xs
+    → all_bytes_from false y (cond p (e ∷ []) [] ++ es) xs ≡ cond p (bytes_from false e xs 0 (span_bytes e.addr (byte_count y))) [] ++ all_bytes_from false y es xs
 stored_one y true e es xs = refl
 stored_one y false e es xs = refl
 
-stored_active : (y z : Size) (q : List Bool) (f : ℕ → ℕ) (x j n : ℕ) → width y ≤ width z → j + n ≤ per_word z
+stored_active : (y z : Size) (q : List Bool) (f : ℕ → ℕ) (x j n : ℕ) → byte_count y ≤ byte_count z → j + n ≤ per_word z
     → all_bytes_from false y (active_ones q (each_from (placed z f) j n)) (x ∷ [])
-    ≡ element_bytes y (each_from (λ k. get_or q (width z * k) false) j n) (each_from f j n) (each_from (λ k. get_or (lanes z (bytes_of x)) k 0) j n)
+    ≡ element_bytes y (each_from (λ k. get_or q (byte_count z * k) false) j n) (each_from f j n) (each_from (λ k. get_or (lanes z (bytes_of x)) k 0) j n)
 stored_active y z q f x j zero narrow low = refl
 stored_active y z q f x j (suc n) narrow low =
     let e = placed z f j in
-    let p = get_or q (width z * j) false in
-    let bs = span_bytes (f j) (width y) in
+    let p = get_or q (byte_count z * j) false in
+    let bs = span_bytes (f j) (byte_count y) in
     let long = span_length y (f j) in
     stored_one y p e (active_ones q (each_from (placed z f) (j + 1) n)) (x ∷ [])
     ∙ (λ t. cond p (bytes_alike z x j (f j) bs 0 (omega arith) (omega (arith, long)) t) [] ++ stored_active y z q f x (j + 1) n narrow (omega arith) t)
 
 -- the bytes that a word is stored to are those of its elements
-pub stored_word : (y z : Size) (q : List Bool) (f : ℕ → ℕ) (x : ℕ) → width y ≤ width z
+pub stored_word : (y z : Size) (q : List Bool) (f : ℕ → ℕ) (x : ℕ) → byte_count y ≤ byte_count z
     → all_bytes_from false y (word_elements z f q) (x ∷ [])
     ≡ element_bytes y (word_active z q) (each_from f 0 (per_word z)) (each_from (λ k. get_or (lanes z (bytes_of x)) k 0) 0 (per_word z))
 stored_word y z q f x narrow = stored_active y z q f x 0 (per_word z) narrow (omega arith)

@@ -8,7 +8,7 @@ use Rattle.hm_lane.specs.declared.lanes.Size.{Size}
 use Rattle.hm_beat.specs.Rows.{Each, word_place}
 use Rattle.hm_order.proofs.Results.{true_not_false}
 use Rattle.hm_kinds.specs.Row.{is_body}
-use Rattle.hm_moves.specs.Moves.{IsMoves, SparesLr, Unwritten, is_word, width}
+use Rattle.hm_moves.specs.Moves.{IsMoves, SparesLr, Unwritten, is_word, byte_count}
 use Rattle.hm_lane.specs.Lanes.{per_word}
 use Rattle.hm_moves.specs.Ways.{Found, Transfer, at_addresses, at_offsets, each_from, interleaved, moves_by, registers, stream, way_back, way_sources}
 use Rattle.hm_moves.specs.Ways.{way_words, way_writes_lr, straight}
@@ -32,7 +32,7 @@ are_words z (straight d n offset before back) b = (refl, tt)
 are_words z (at_offsets d n m scale) b = (refl, tt)
 are_words z (at_addresses d m offset back) b = (refl, tt)
 are_words z (interleaved d n four part back) b =
-    each_word (λ i. d + (stream part z b + i) % registers four) (λ i. width z * ((stream part z b + i) / registers four) / 4) 0
+    each_word (λ i. d + (stream part z b + i) % registers four) (λ i. byte_count z * ((stream part z b + i) / registers four) / 4) 0
     (cond (ltb (per_word z) (registers four)) (per_word z) (registers four))
 
 body_where : (y : Bool) (p : Place) (x : ℕ) → is_body p ≡ true → Each (λ (v : Write). is_body v.place ≡ true) (cond y (write p x ∷ []) [])
@@ -92,7 +92,7 @@ unfilled z (straight d n offset before back) b k low high = ((refl, tt), tt)
 unfilled z (at_offsets d n m scale) b k low high = ((refl, tt), ((word_off d m b k low high, tt), tt))
 unfilled z (at_addresses d m offset back) b k low high = ((word_off d m b k low high, tt), tt)
 unfilled z (interleaved d n four part back) b k low high = (
-  no_register (λ i. d + (stream part z k + i) % registers four) (λ i. width z * ((stream part z k + i) / registers four) / 4) n 0
+  no_register (λ i. d + (stream part z k + i) % registers four) (λ i. byte_count z * ((stream part z k + i) / registers four) / 4) n 0
       (cond (ltb (per_word z) (registers four)) (per_word z) (registers four)),
   tt,
 )

@@ -18,7 +18,7 @@ use Rattle.hm_beat.proofs.Chained.{put_other}
 use Rattle.hm_beat.proofs.Whole.{put_all-append}
 use Rattle.hm_kinds.proofs.Row.{pc-put_all}
 use Rattle.hm_moves.specs.declared.elements.Element.{Element}
-use Rattle.hm_moves.specs.Moves.{all_bytes_from, bytes_from, width}
+use Rattle.hm_moves.specs.Moves.{all_bytes_from, bytes_from, byte_count}
 use Rattle.hm_moves.proofs.Accesses.{shifted_byte}
 use Rattle.hm_moves.proofs.Loops.{drop_at, none}
 use Rattle.hm_moves.proofs.Moves.{off_bytes}
@@ -89,12 +89,12 @@ first_kept : (y : Bool) (d e : Dev) → y ≡ true → (if y then d else e) ≡ 
 first_kept true d e h = refl
 first_kept false d e h = cc
 
-sram_end : (z : Size) (a : ℕ) → lies_in_sram (width z) a ≡ true → a + width z ≤ 2 ^ 32
+sram_end : (z : Size) (a : ℕ) → lies_in_sram (byte_count z) a ≡ true → a + byte_count z ≤ 2 ^ 32
 sram_end z a h = grind (arith, nat_tests)
 
-pub put_state : (m n : Memory) (r : Regs) (output : List ℕ) (t : Bool) (z : Size) (e : Element) (ws : List ℕ) → lies_in_sram (width z) e.addr ≡ true
-    → seen n ≡ after_store t (width z) e.addr (get_or ws e.word 0 / 2 ^ (8 * e.lane)) (seen m) → n.around ≡ m.around
-    → state_of r n output ≡ put_all cells (bytes_from t e ws 0 (span_bytes e.addr (width z))) (state_of r m output)
+pub put_state : (m n : Memory) (r : Regs) (output : List ℕ) (t : Bool) (z : Size) (e : Element) (ws : List ℕ) → lies_in_sram (byte_count z) e.addr ≡ true
+    → seen n ≡ after_store t (byte_count z) e.addr (get_or ws e.word 0 / 2 ^ (8 * e.lane)) (seen m) → n.around ≡ m.around
+    → state_of r n output ≡ put_all cells (bytes_from t e ws 0 (span_bytes e.addr (byte_count z))) (state_of r m output)
 unfolding state_of
 put_state m n r output t z e ws lies same around =
     one_state (state_of r n output) (put_all cells vs (state_of r m output)) each
@@ -102,31 +102,31 @@ put_state m n r output t z e ws lies same around =
     ((λ j. record (rest_of r m output) { devices = devices j; around = around j }) ∙ sym (rest-put_all vs (state_of r m output)))
   where
     vs : List (Cell × Value)
-    vs = bytes_from t e ws 0 (span_bytes e.addr (width z))
+    vs = bytes_from t e ws 0 (span_bytes e.addr (byte_count z))
 
     x : ℕ
     x = get_or ws e.word 0 / 2 ^ (8 * e.lane)
 
     devices : n.devices ≡ m.devices
     devices = ap (λ (s : Seen). s.devices) same
-        ∙ first_kept (lies_in_sram (width z) e.addr) m.devices (write_devices m.devices (word_at e.addr) (width z) e.addr x) lies
+        ∙ first_kept (lies_in_sram (byte_count z) e.addr) m.devices (write_devices m.devices (word_at e.addr) (byte_count z) e.addr x) lies
 
     each : (c : Cell) → (state_of r n output).cell c ≡ (put_all cells vs (state_of r m output)).cell c
-    each (At p) = sym (put_other vs (At p) (state_of r m output) (off_bytes t e ws 0 (span_bytes e.addr (width z)) p))
+    each (At p) = sym (put_other vs (At p) (state_of r m output) (off_bytes t e ws 0 (span_bytes e.addr (byte_count z)) p))
     each (Byte b) =
-        let y = covers e.addr (width z) b in
+        let y = covers e.addr (byte_count z) b in
         (λ j. record { n = (same j).byte b; taint = (same j).taint b })
         ∙ (λ j. record { n = if lies j && y then byte_of x (b - e.addr) else byte_at m b; taint = if lies j && y then t else tainted_at m b })
         ∙ together y t (tainted_at m b) (byte_of x (b - e.addr)) (byte_at m b)
         ∙ ap (λ k. cond y (record { n = k; taint = t }) ((state_of r m output).cell (Byte b))) (shifted_byte (get_or ws e.word 0) e.lane (b - e.addr))
-        ∙ sym (put_span t e ws e.addr (width z) b (state_of r m output) (sram_end z e.addr lies))
+        ∙ sym (put_span t e ws e.addr (byte_count z) b (state_of r m output) (sram_end z e.addr lies))
 
 -- one element more is stored
 pub store_next : (t : Bool) (z : Size) (es : List Element) (ws : List ℕ) (k : ℕ) (s u : State) → k < length es
-    → u ≡ put_all cells (bytes_from t (get_or es k none) ws 0 (span_bytes (get_or es k none).addr (width z))) s
+    → u ≡ put_all cells (bytes_from t (get_or es k none) ws 0 (span_bytes (get_or es k none).addr (byte_count z))) s
     → put_all cells (all_bytes_from t z (drop (k + 1) es) ws) u ≡ put_all cells (all_bytes_from t z (drop k es) ws) s
 store_next t z es ws k s u low e =
     let e0 = get_or es k none in
     ap (put_all cells (all_bytes_from t z (drop (k + 1) es) ws)) e
-    ∙ sym (put_all-append (bytes_from t e0 ws 0 (span_bytes e0.addr (width z))) (all_bytes_from t z (drop (k + 1) es) ws) s)
+    ∙ sym (put_all-append (bytes_from t e0 ws 0 (span_bytes e0.addr (byte_count z))) (all_bytes_from t z (drop (k + 1) es) ws) s)
     ∙ sym (ap (λ xs. put_all cells (all_bytes_from t z xs ws) s) (drop_at none es k low))

@@ -21,7 +21,7 @@ use Rattle.hm_beat.proofs.Predicated.{advance_at, targets-append}
 use Rattle.hm_beat.proofs.Footprint.{advance_places_is, all_listed, bytes_at, bytes_at-append, mask_is, places_at, places_at-append, targets_always, tested_is}
 use Rattle.hm_moves.specs.declared.elements.Element.{Element}
 use Rattle.hm_moves.specs.Coded.{begun_in}
-use Rattle.hm_moves.specs.Moves.{Moves, bytes_of, elements_at, fill, moved_by, moves_tree, sources_at, store_all, store_bytes, width, words_read}
+use Rattle.hm_moves.specs.Moves.{Moves, bytes_of_elements, elements_at, fill, moved_by, moves_tree, sources_at, store_all, store_bytes, byte_count, words_read}
 use Rattle.hm_moves.proofs.Loops.{drop_at}
 use Rattle.hm_moves.proofs.Trees.{begun_places, leaf_at, reach_moves, tests_moves}
 
@@ -55,27 +55,27 @@ pub reads_are : (i : Moves) (b : ℕ) (r : Regs) (m : Memory) (output : List ℕ
     → reads_in (moves_tree i m.around b) r m output ≡ noted_all (begun_in i.predicated b r) (noted_all (i.sources b) (noted_all (words_read i b) []))
 reads_are i b r m output =
     let s = state_of r m output in
-    let rest = cond i.store [] (map Byte (bytes_of i.memory (elements_at i b s))) ++ map At (words_read i b) in
+    let rest = cond i.store [] (map Byte (bytes_of_elements i.memory (elements_at i b s))) ++ map At (words_read i b) in
     ap (λ cs. listed (places_in cs))
     ((λ j. tests_moves i m.around b s j ++ (reach_moves i m.around b s j).reads)
     ∙ append_assoc (map At (begun_places i.predicated b s)) (map At (i.sources b)) rest)
     ∙ ap listed (places_at-append (begun_places i.predicated b s) (map At (i.sources b) ++ rest)
     ∙ ap (λ ps. begun_places i.predicated b s ++ ps)
-    (places_at-append (i.sources b) rest ∙ ap (λ ps. i.sources b ++ ps) (places_where i.store (bytes_of i.memory (elements_at i b s)) (words_read i b)))
+    (places_at-append (i.sources b) rest ∙ ap (λ ps. i.sources b ++ ps) (places_where i.store (bytes_of_elements i.memory (elements_at i b s)) (words_read i b)))
     ∙ ap (λ ps. ps ++ (i.sources b ++ words_read i b)) (begun_is i.predicated b r m output))
     ∙ listed-append (begun_in i.predicated b r) (i.sources b ++ words_read i b)
     ∙ ap (noted_all (begun_in i.predicated b r))
     (listed-append (i.sources b) (words_read i b) ∙ ap (noted_all (i.sources b)) (sym (all_listed (words_read i b))))
 
 pub loads_are : (i : Moves) (b : ℕ) (r : Regs) (m : Memory) (output : List ℕ)
-    → loads_in (moves_tree i m.around b) r m output ≡ cond (not i.store) (bytes_of i.memory (elements_at i b (state_of r m output))) []
+    → loads_in (moves_tree i m.around b) r m output ≡ cond (not i.store) (bytes_of_elements i.memory (elements_at i b (state_of r m output))) []
 loads_are i b r m output =
     let s = state_of r m output in
-    let rest = cond i.store [] (map Byte (bytes_of i.memory (elements_at i b s))) ++ map At (words_read i b) in
+    let rest = cond i.store [] (map Byte (bytes_of_elements i.memory (elements_at i b s))) ++ map At (words_read i b) in
     ap bytes_in ((λ j. tests_moves i m.around b s j ++ (reach_moves i m.around b s j).reads)
     ∙ append_assoc (map At (begun_places i.predicated b s)) (map At (i.sources b)) rest)
     ∙ bytes_at-append (begun_places i.predicated b s) (map At (i.sources b) ++ rest) ∙ bytes_at-append (i.sources b) rest
-    ∙ bytes_where i.store (bytes_of i.memory (elements_at i b s)) (words_read i b)
+    ∙ bytes_where i.store (bytes_of_elements i.memory (elements_at i b s)) (words_read i b)
 
 -- WRITES
 targets_fill : (i : Moves) (j : ℕ) (es : List Element) (ps : List Place) → targets (fill i j es ps) ≡ map At ps
@@ -86,26 +86,26 @@ targets_bytes : (t : Bool) (e : Element) (k : ℕ) (bs : List ℕ) → targets (
 targets_bytes t e k [] = refl
 targets_bytes t e k (b ∷ bs) = ap (λ cs. Byte b ∷ cs) (targets_bytes t e (k + 1) bs)
 
-targets_stores : (t : Bool) (z : Size) (es : List Element) → targets (store_all t z es) ≡ map Byte (bytes_of z es)
+targets_stores : (t : Bool) (z : Size) (es : List Element) → targets (store_all t z es) ≡ map Byte (bytes_of_elements z es)
 targets_stores t z [] = refl
-targets_stores t z (e ∷ es) = targets-append (store_bytes t e 0 (span_bytes e.addr (width z))) (store_all t z es)
-    ∙ (λ j. targets_bytes t e 0 (span_bytes e.addr (width z)) j ++ targets_stores t z es j)
-    ∙ sym (map-append Byte (span_bytes e.addr (width z)) (bytes_of z es))
+targets_stores t z (e ∷ es) = targets-append (store_bytes t e 0 (span_bytes e.addr (byte_count z))) (store_all t z es)
+    ∙ (λ j. targets_bytes t e 0 (span_bytes e.addr (byte_count z)) j ++ targets_stores t z es j)
+    ∙ sym (map-append Byte (span_bytes e.addr (byte_count z)) (bytes_of_elements z es))
 
 targets_moved : (i : Moves) (t : Bool) (b : ℕ) (es : List Element) (y : Bool)
-    → targets (cond y (store_all t i.memory es) (fill i 0 es (i.words b))) ≡ cond y (map Byte (bytes_of i.memory es)) [] ++ map At (cond (not y) (i.words b) [])
-targets_moved i t b es true = targets_stores t i.memory es ∙ sym (append-nil (map Byte (bytes_of i.memory es)))
+    → targets (cond y (store_all t i.memory es) (fill i 0 es (i.words b))) ≡ cond y (map Byte (bytes_of_elements i.memory es)) [] ++ map At (cond (not y) (i.words b) [])
+targets_moved i t b es true = targets_stores t i.memory es ∙ sym (append-nil (map Byte (bytes_of_elements i.memory es)))
 targets_moved i t b es false = targets_fill i 0 es (i.words b)
 
 leaf_targets : (i : Moves) (b : ℕ) (r : Regs) (m : Memory) (output : List ℕ) → let s = state_of r m output in b < 4
     → targets (leaf_at i m.around b s).writes
-    ≡ cond i.store (map Byte (bytes_of i.memory (elements_at i b s))) []
+    ≡ cond i.store (map Byte (bytes_of_elements i.memory (elements_at i b s))) []
     ++ map At (cond (not i.store) (i.words b) [] ++ (places_of (i.back b (sources_at i b s)) ++ advance_places b r))
 leaf_targets i b r m output low =
     let s = state_of r m output in
     let es = elements_at i b s in
     let ws = i.back b (sources_at i b s) in
-    let bytes = cond i.store (map Byte (bytes_of i.memory es)) [] in
+    let bytes = cond i.store (map Byte (bytes_of_elements i.memory es)) [] in
     targets-append (moved_by i m.around b es) (map always (ws ++ advance_at b s))
     ∙ (λ j. targets_moved i (marks m.around.actor) b es i.store j
     ++ (targets_always (ws ++ advance_at b s)
@@ -130,14 +130,14 @@ writes_are i b r m output low =
     let ws = places_of (i.back b (sources_at i b s)) in
     ap (λ (l : Leaf Cell Value Stop). listed (flag_places l.mark ++ places_in (targets l.writes))) (reach_moves i m.around b s)
     ∙ ap (λ cs. listed (places_in cs)) (leaf_targets i b r m output low)
-    ∙ ap listed (places_after i.store (bytes_of i.memory (elements_at i b s)) (cond (not i.store) (i.words b) [] ++ (ws ++ advance_places b r)))
+    ∙ ap listed (places_after i.store (bytes_of_elements i.memory (elements_at i b s)) (cond (not i.store) (i.words b) [] ++ (ws ++ advance_places b r)))
     ∙ listed-append (cond (not i.store) (i.words b) []) (ws ++ advance_places b r)
     ∙ ap (noted_all (cond (not i.store) (i.words b) [])) (listed-append ws (advance_places b r) ∙ ap (noted_all ws) (sym (all_listed (advance_places b r))))
 
 pub stores_are : (i : Moves) (b : ℕ) (r : Regs) (m : Memory) (output : List ℕ) → b < 4
-    → stores_in (moves_tree i m.around b) r m output ≡ cond i.store (bytes_of i.memory (elements_at i b (state_of r m output))) []
+    → stores_in (moves_tree i m.around b) r m output ≡ cond i.store (bytes_of_elements i.memory (elements_at i b (state_of r m output))) []
 stores_are i b r m output low =
     let s = state_of r m output in
     ap (λ (l : Leaf Cell Value Stop). bytes_in (targets l.writes)) (reach_moves i m.around b s) ∙ ap bytes_in (leaf_targets i b r m output low)
-    ∙ bytes_after i.store (bytes_of i.memory (elements_at i b s))
+    ∙ bytes_after i.store (bytes_of_elements i.memory (elements_at i b s))
     (cond (not i.store) (i.words b) [] ++ (places_of (i.back b (sources_at i b s)) ++ advance_places b r))

@@ -29,9 +29,9 @@ use Rattle.hm_beat.proofs.Whole.{advance_taints, no_byte}
 use Rattle.hm_beat.proofs.Footprint.{no_tests}
 use Rattle.hm_kinds.specs.Row.{numbers}
 use Rattle.hm_moves.specs.declared.elements.Element.{Element}
-use Rattle.hm_moves.specs.Moves.{Moves, all_bytes_from, asks, back_at, begun, bytes_from, bytes_of, checks_of, element_checks, elements_at, active_ones}
+use Rattle.hm_moves.specs.Moves.{Moves, all_bytes_from, asks, back_at, begun, bytes_from, bytes_of_elements, checks_of, element_checks, elements_at, active_ones}
 use Rattle.hm_moves.specs.Moves.{every_byte, fails, fault_after, fill, filled, first_fault, is_closed, loaded_at, moved_by, moves_leaf, moves_tree, reads_of}
-use Rattle.hm_moves.specs.Moves.{sources_at, store_all, store_bytes, stored_at, sure_stop, test_all, width, words_from}
+use Rattle.hm_moves.specs.Moves.{sources_at, store_all, store_bytes, stored_at, sure_stop, test_all, byte_count, words_from}
 
 -- TESTS
 reach_all : (ps : List Place) (k : List ℕ → Tree) (s : State) → reach (test_all ps k) s ≡ reach (k (map (λ p. at p s) ps)) s
@@ -107,8 +107,8 @@ written_bytes t e k (a ∷ bs) vs =
 
 written_all : (t : Bool) (z : Size) (es : List Element) (vs : List Value) → written (store_all t z es) vs ≡ all_bytes_from t z es (numbers vs)
 written_all t z [] vs = refl
-written_all t z (e ∷ es) vs = written-append (store_bytes t e 0 (span_bytes e.addr (width z))) (store_all t z es) vs
-    ∙ (λ j. written_bytes t e 0 (span_bytes e.addr (width z)) vs j ++ written_all t z es vs j)
+written_all t z (e ∷ es) vs = written-append (store_bytes t e 0 (span_bytes e.addr (byte_count z))) (store_all t z es) vs
+    ∙ (λ j. written_bytes t e 0 (span_bytes e.addr (byte_count z)) vs j ++ written_all t z es vs j)
 
 written_moved : (i : Moves) (x : Around) (b : ℕ) (es : List Element) (vs : List Value)
     → written (moved_by i x b es) vs
@@ -156,7 +156,7 @@ asked_where true a bs cs = ap (λ xs. xs ++ map Byte cs) (asked_asks a bs) ∙ s
 asked_where false a bs cs = refl
 
 pub asked_is : (x : Around) (store : Bool) (z : Size) (es : List Element)
-    → asked (checks_of x store (width z) es) ≡ cond (is_thread x.actor && not store) (map Byte (bytes_of z es)) []
+    → asked (checks_of x store (byte_count z) es) ≡ cond (is_thread x.actor && not store) (map Byte (bytes_of_elements z es)) []
 asked_is x store z [] = sym (go (is_thread x.actor && not store))
   where
     go : (y : Bool) → cond y (map Byte []) [] ≡ []
@@ -164,10 +164,10 @@ asked_is x store z [] = sym (go (is_thread x.actor && not store))
     go false = refl
 asked_is x store z (e ∷ es) =
     let y = is_thread x.actor && not store in
-    let bs = span_bytes e.addr (width z) in
-    asked-append (element_checks x store (width z) e.addr) (checks_of x store (width z) es)
-    ∙ (λ j. asked_fails (sure_stop x store (width z) e.addr) (cond y (asks e.addr bs) []) j ++ asked_is x store z es j)
-    ∙ asked_where y e.addr bs (bytes_of z es)
+    let bs = span_bytes e.addr (byte_count z) in
+    asked-append (element_checks x store (byte_count z) e.addr) (checks_of x store (byte_count z) es)
+    ∙ (λ j. asked_fails (sure_stop x store (byte_count z) e.addr) (cond y (asks e.addr bs) []) j ++ asked_is x store z es j)
+    ∙ asked_where y e.addr bs (bytes_of_elements z es)
 
 -- what is asked for is read
 asked_read : (p store : Bool) (bs : List ℕ) (ws : List Cell) (c : Cell) → holds cells (cond (p && not store) (map Byte bs) []) c ≡ true
@@ -180,7 +180,7 @@ pub leaf_asks : (i : Moves) (x : Around) (b : ℕ) (s : State) (c : Cell) → ho
     → holds cells (leaf_at i x b s).reads c ≡ true
 leaf_asks i x b s c h =
     let es = elements_at i b s in
-    asked_read (is_thread x.actor) i.store (bytes_of i.memory es) _ c (sym (ap (λ cs. holds cells cs c) (asked_is x i.store i.memory es)) ∙ h)
+    asked_read (is_thread x.actor) i.store (bytes_of_elements i.memory es) _ c (sym (ap (λ cs. holds cells cs c) (asked_is x i.store i.memory es)) ∙ h)
 
 -- the thread asks for each byte that it reads
 read_asked : (store : Bool) (bs : List ℕ) (ps : List Place) (a : ℕ) → holds cells (cond store [] (map Byte bs) ++ map At ps) (Byte a) ≡ true
@@ -198,8 +198,8 @@ pub leaf_read_asked : (i : Moves) (x : Around) (b : ℕ) (s : State) (a : ℕ) �
 leaf_read_asked i x b s a thread h =
     let es = elements_at i b s in
     ap (λ cs. holds cells cs (Byte a)) (asked_is x i.store i.memory es)
-    ∙ ap (λ t. holds cells (cond (is_thread t && not i.store) (map Byte (bytes_of i.memory es)) []) (Byte a)) thread
-    ∙ read_asked i.store (bytes_of i.memory es) _ a h
+    ∙ ap (λ t. holds cells (cond (is_thread t && not i.store) (map Byte (bytes_of_elements i.memory es)) []) (Byte a)) thread
+    ∙ read_asked i.store (bytes_of_elements i.memory es) _ a h
 
 -- CHECKS OF THE THREAD
 abbrev pub fault_stop : Option Fault → Option Stop
@@ -312,8 +312,8 @@ bytes_live t e k (a ∷ bs) h = (λ vs. h, bytes_live t e (k + 1) bs h)
 
 stores_live : (t : Bool) (z : Size) (es : List Element) → t ≡ false → WritesLive cells (store_all t z es)
 stores_live t z [] h = tt
-stores_live t z (e ∷ es) h = lives-append (store_bytes t e 0 (span_bytes e.addr (width z))) (store_all t z es)
-    (bytes_live t e 0 (span_bytes e.addr (width z)) h) (stores_live t z es h)
+stores_live t z (e ∷ es) h = lives-append (store_bytes t e 0 (span_bytes e.addr (byte_count z))) (store_all t z es)
+    (bytes_live t e 0 (span_bytes e.addr (byte_count z)) h) (stores_live t z es h)
 
 -- AND WHAT IS WRITTEN TO BYTES IS TAINTED, OR NONE OF IT IS
 taint-append : (tainted : Bool) (ws us : List (Cell × (List Value → Value))) → WritesTaint tainted ws → WritesTaint tainted us → WritesTaint tainted (ws ++ us)
@@ -331,8 +331,8 @@ bytes_taint tainted e k (a ∷ bs) = (λ vs. refl, bytes_taint tainted e (k + 1)
 stores_taint : (tainted : Bool) (z : Size) (es : List Element) → WritesTaint tainted (store_all tainted z es)
 stores_taint tainted z [] = tt
 stores_taint tainted z (e ∷ es) =
-    taint-append tainted (store_bytes tainted e 0 (span_bytes e.addr (width z))) (store_all tainted z es)
-    (bytes_taint tainted e 0 (span_bytes e.addr (width z))) (stores_taint tainted z es)
+    taint-append tainted (store_bytes tainted e 0 (span_bytes e.addr (byte_count z))) (store_all tainted z es)
+    (bytes_taint tainted e 0 (span_bytes e.addr (byte_count z))) (stores_taint tainted z es)
 
 pub leaf_taints : (i : Moves) (x : Around) (b : ℕ) (s : State) → WritesTaint (marks x.actor) (leaf_at i x b s).writes
 leaf_taints i x b s =

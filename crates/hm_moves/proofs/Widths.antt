@@ -4,19 +4,19 @@ use Rattle.hm_base.specs.Bits.{field}
 use Rattle.hm_lane.specs.declared.lanes.Size.{Size}
 use Rattle.hm_lane.specs.declared.lanes.Size.TheVariants as size
 use Rattle.hm_moves.specs.declared.elements.Element.{Element}
-use Rattle.hm_moves.specs.Moves.{active_ones, width}
+use Rattle.hm_moves.specs.Moves.{active_ones, byte_count}
 use Rattle.hm_moves.specs.Ways.{Found, at_addresses, at_offsets, each_from, interleaved, straight, way_back, way_element}
 
-pub width_some : (z : Size) → 0 < width z
+pub width_some : (z : Size) → 0 < byte_count z
 width_some size.Byte = omega arith
 width_some size.Half = omega arith
 width_some size.Word = omega arith
 
-pub field_at : (z : Size) (j w lane len : ℕ) → lane ≡ width z * j → len ≡ width z
-    → field (8 * lane) (8 * lane + (8 * len - 1) + 1 - 8 * lane) w ≡ field (8 * (width z * j)) (8 * width z) w
+pub field_at : (z : Size) (j w lane len : ℕ) → lane ≡ byte_count z * j → len ≡ byte_count z
+    → field (8 * lane) (8 * lane + (8 * len - 1) + 1 - 8 * lane) w ≡ field (8 * (byte_count z * j)) (8 * byte_count z) w
 field_at z j w lane len e f =
     let some = width_some z in
-    let n : 8 * lane + (8 * len - 1) + 1 - 8 * lane ≡ 8 * width z = omega arith in
+    let n : 8 * lane + (8 * len - 1) + 1 - 8 * lane ≡ 8 * byte_count z = omega arith in
     (λ t. field (8 * e t) (n t) w)
 
 -- the elements of a beat by two numbers are those by what stands in the sources

@@ -16,7 +16,7 @@ use Rattle.hm_beat.specs.Touches.{looked_places}
 use Rattle.hm_beat.specs.Rows.{active_at}
 use Rattle.hm_kinds.specs.declared.rows.Written.{Written}
 use Rattle.hm_moves.specs.declared.elements.Element.{Element}
-use Rattle.hm_moves.specs.Moves.{Moves, every_byte, laid, width}
+use Rattle.hm_moves.specs.Moves.{Moves, every_byte, laid, byte_count}
 
 -- the stop of the first element that has one
 abbrev pub first_stop : Around → Bool → ℕ → List Element → Seen → Option Stop
@@ -25,12 +25,12 @@ first_stop x store len (e ∷ es) s = or_else (stop_of x Vector store len e.addr
 
 -- each element lies in its word
 abbrev pub Fit : Size → List Element → Type 0
-Fit z es = All (λ (e : Element). e.lane + width z ≤ 4) es
+Fit z es = All (λ (e : Element). e.lane + byte_count z ≤ 4) es
 
 -- word j with the elements that are loaded
 abbrev pub filled_in : Moves → ℕ → List Element → ℕ → Seen → ℕ
 filled_in i j [] old s = old
-filled_in i j (e ∷ es) old s = laid i j e (read (width i.memory) e.addr s) (filled_in i j es old s)
+filled_in i j (e ∷ es) old s = laid i j e (read (byte_count i.memory) e.addr s) (filled_in i j es old s)
 
 -- words from number j on, as they are filled
 abbrev pub word_puts : Moves → ℕ → List Element → List Place → (Place → ℕ) → Seen → List Write

@@ -28,10 +28,10 @@ use Rattle.hm_kinds.specs.Row.{is_body, numbers}
 use Rattle.hm_moves.specs.declared.elements.Element.{Element}
 
 -- how many bytes an element has
-abbrev pub width : Size → ℕ
-width size.Byte = 1
-width size.Half = 2
-width size.Word = 4
+abbrev pub byte_count : Size → ℕ
+byte_count size.Byte = 1
+byte_count size.Half = 2
+byte_count size.Word = 4
 
 -- Beat b of a row moves elements between memory and words of vector registers. The addresses are made of what stands in its sources. An
 -- element has the number of its word among those of the beat, and the lowest of its bytes there, at whose truth it is active.
@@ -59,9 +59,9 @@ active_ones active [] = []
 active_ones active (e ∷ es) = cond (get_or active e.lane false) (e ∷ []) [] ++ active_ones active es
 
 -- their bytes in memory
-abbrev pub bytes_of : Size → List Element → List ℕ
-bytes_of z [] = []
-bytes_of z (e ∷ es) = span_bytes e.addr (width z) ++ bytes_of z es
+abbrev pub bytes_of_elements : Size → List Element → List ℕ
+bytes_of_elements z [] = []
+bytes_of_elements z (e ∷ es) = span_bytes e.addr (byte_count z) ++ bytes_of_elements z es
 
 -- CHECKS
 -- a handler stores where it may not
@@ -94,23 +94,23 @@ checks_of x store len (e ∷ es) = element_checks x store len e.addr ++ checks_o
 
 -- LOADS
 -- the little-endian number of the first n bytes
-abbrev pub number : ℕ → List ℕ → ℕ
-number zero xs = 0
-number (suc n) [] = 0
-number (suc n) (x ∷ xs) = x + 256 * number n xs
+abbrev pub little_endian : ℕ → List ℕ → ℕ
+little_endian zero xs = 0
+little_endian (suc n) [] = 0
+little_endian (suc n) (x ∷ xs) = x + 256 * little_endian n xs
 
 -- a number that was loaded, as its register has it
-abbrev pub extended : Moves → ℕ → ℕ
-extended i x = let n = 8 * width i.memory in cond (i.signed && leb (2 ^ (n - 1)) x) ((x + (2 ^ 32 - 2 ^ n)) % 2 ^ 32) x
+abbrev pub as_loaded : Moves → ℕ → ℕ
+as_loaded i x = let n = 8 * byte_count i.memory in cond (i.signed && leb (2 ^ (n - 1)) x) ((x + (2 ^ 32 - 2 ^ n)) % 2 ^ 32) x
 
 -- an element laid into word j, where it is of that word
 abbrev pub laid : Moves → ℕ → Element → ℕ → ℕ → ℕ
-laid i j e x w = cond (eqb e.word j) (put_field (8 * e.lane) (8 * width i.register) (extended i x) w) w
+laid i j e x w = cond (eqb e.word j) (put_field (8 * e.lane) (8 * byte_count i.register) (as_loaded i x) w) w
 
 -- word j with the elements that are loaded, by their bytes and then the old words of 32 bits; a word that was not read begins as zero
 abbrev pub filled : Moves → ℕ → List Element → List ℕ → ℕ
 filled i j [] xs = get_or xs j 0 % 2 ^ 32
-filled i j (e ∷ es) xs = laid i j e (number (width i.memory) xs) (filled i j es (drop (width i.memory) xs))
+filled i j (e ∷ es) xs = laid i j e (little_endian (byte_count i.memory) xs) (filled i j es (drop (byte_count i.memory) xs))
 
 -- words from number j on are filled
 abbrev pub fill : Moves → ℕ → List Element → List Place → List (Cell × (List Value → Value))
@@ -127,7 +127,7 @@ store_bytes tainted e k (a ∷ bs) =
 -- the bytes of a list of elements are stored from words that were read
 abbrev pub store_all : Bool → Size → List Element → List (Cell × (List Value → Value))
 store_all tainted z [] = []
-store_all tainted z (e ∷ es) = store_bytes tainted e 0 (span_bytes e.addr (width z)) ++ store_all tainted z es
+store_all tainted z (e ∷ es) = store_bytes tainted e 0 (span_bytes e.addr (byte_count z)) ++ store_all tainted z es
 
 -- THE TREE
 -- tests of several places
@@ -150,7 +150,7 @@ words_read i b = cond (i.store || not i.predicated) (i.words b) []
 
 -- what beat b reads once its elements are known: the bytes that it loads, and the words that it reads
 abbrev pub reads_of : Moves → ℕ → List Element → List Cell
-reads_of i b es = cond i.store [] (map Byte (bytes_of i.memory es)) ++ map At (words_read i b)
+reads_of i b es = cond i.store [] (map Byte (bytes_of_elements i.memory es)) ++ map At (words_read i b)
 
 -- what the moved elements of beat b write: bytes of memory for a store, words of registers for a load
 abbrev pub moved_by : Moves → Around → ℕ → List Element → List (Cell × (List Value → Value))
@@ -159,7 +159,7 @@ moved_by i x b es = cond i.store (store_all (marks x.actor) i.memory es) (fill i
 -- the leaf of beat b, by what its sources hold, the elements that it moves, and the advance
 abbrev pub moves_leaf : Moves → Around → ℕ → List ℕ → List Element → List Write → Leaf Cell Value Stop
 moves_leaf i x b ns es advance = record {
-  checks = checks_of x i.store (width i.memory) es;
+  checks = checks_of x i.store (byte_count i.memory) es;
   reads = reads_of i b es;
   writes = moved_by i x b es ++ map always (i.back b ns ++ advance);
   mark = None;
@@ -201,7 +201,7 @@ bytes_from tainted e xs k (a ∷ bs) = (Byte a, record { n = byte_of (get_or xs 
 -- the bytes of a list of elements, as they are stored from words that were read
 abbrev pub all_bytes_from : Bool → Size → List Element → List ℕ → List (Cell × Value)
 all_bytes_from tainted z [] xs = []
-all_bytes_from tainted z (e ∷ es) xs = bytes_from tainted e xs 0 (span_bytes e.addr (width z)) ++ all_bytes_from tainted z es xs
+all_bytes_from tainted z (e ∷ es) xs = bytes_from tainted e xs 0 (span_bytes e.addr (byte_count z)) ++ all_bytes_from tainted z es xs
 
 -- the bytes of the elements of beat b as they are stored, where it stores
 abbrev pub stored_at : Moves → Bool → ℕ → State → List (Cell × Value)
@@ -242,7 +242,7 @@ all_elements i s = elements_at i 0 s ++ elements_at i 1 s ++ elements_at i 2 s +
 
 -- what four beats come to: the first active element that has a fault gives it, and else all are moved
 abbrev pub moves_by_words : Moves → State → Result State Fault
-moves_by_words i s = unless (first_fault i.store (width i.memory) (all_elements i s)) (Ok (moved i s))
+moves_by_words i s = unless (first_fault i.store (byte_count i.memory) (all_elements i s)) (Ok (moved i s))
 
 -- WHAT A ROW OWES
 -- whether a place is a word of a vector register

@@ -12,7 +12,7 @@ use Rattle.hm_moves.specs.declared.elements.Element.{Element}
 use Rattle.hm_moves.specs.declared.ways.Way.{Way}
 use Rattle.hm_moves.specs.declared.ways.Way.TheVariants.{Straight, Offsets, Addresses, Interleaved}
 use Rattle.hm_moves.specs.declared.ways.Move.{Move}
-use Rattle.hm_moves.specs.Moves.{Moves, moves_tree, width}
+use Rattle.hm_moves.specs.Moves.{Moves, moves_tree, byte_count}
 
 -- f of n numbers from j on
 abbrev pub each_from : {A : Type 0} → (ℕ → A) → ℕ → ℕ → List A
@@ -65,12 +65,12 @@ way_sources (interleaved d n four part back) b = R n ∷ []
 -- Element j of beat b, of size y in memory and z in its register, by what stands in the sources. Of interleaved ones element k of the stream is
 -- element k div R of register k mod R, where there are R registers.
 abbrev pub way_element : Size → Size → Found → ℕ → List ℕ → ℕ → Element
-way_element y z (straight d n offset before back) b ns j = element (start before offset (get_or ns 0 0) + width y * (per_word z * b + j)) 0 (width z * j)
-way_element y z (at_offsets d n m scale) b ns j = element (get_or ns 0 0 + field (8 * (width z * j)) (8 * width z) (get_or ns 1 0) * 2 ^ scale) 0 (width z * j)
-way_element y z (at_addresses d m offset back) b ns j = element (get_or ns 0 0 + offset) 0 (width z * j)
+way_element y z (straight d n offset before back) b ns j = element (start before offset (get_or ns 0 0) + byte_count y * (per_word z * b + j)) 0 (byte_count z * j)
+way_element y z (at_offsets d n m scale) b ns j = element (get_or ns 0 0 + field (8 * (byte_count z * j)) (8 * byte_count z) (get_or ns 1 0) * 2 ^ scale) 0 (byte_count z * j)
+way_element y z (at_addresses d m offset back) b ns j = element (get_or ns 0 0 + offset) 0 (byte_count z * j)
 way_element y z (interleaved d n four part back) b ns j =
     let k = stream part z b + j in
-    element (get_or ns 0 0 + width y * k) (j % registers four) (width z * (k / registers four) % 4)
+    element (get_or ns 0 0 + byte_count y * k) (j % registers four) (byte_count z * (k / registers four) % 4)
 
 -- the words that beat b fills or stores from; interleaved elements are of one word of each register that they are of
 abbrev pub way_words : Size → Found → ℕ → List Place
@@ -78,7 +78,7 @@ way_words z (straight d n offset before back) b = word_place d b ∷ []
 way_words z (at_offsets d n m scale) b = word_place d b ∷ []
 way_words z (at_addresses d m offset back) b = word_place d b ∷ []
 way_words z (interleaved d n four part back) b =
-    each_from (λ i. let k = stream part z b + i in word_place (d + k % registers four) (width z * (k / registers four) / 4)) 0
+    each_from (λ i. let k = stream part z b + i in word_place (d + k % registers four) (byte_count z * (k / registers four) / 4)) 0
     (cond (ltb (per_word z) (registers four)) (per_word z) (registers four))
 
 -- what is written back: the base on the last beat, or each address on its beat

@@ -15,7 +15,7 @@ use Rattle.hm_state.specs.State.{Byte, Cell, State, Value, at, cells, into}
 use Rattle.hm_beat.specs.Rows.{advance_half, predicate_at, register_at, retired, word_place, write_register, write_words}
 use Rattle.hm_beat.specs.Touches.{span_bytes}
 use Rattle.hm_kinds.specs.Row.{numbers}
-use Rattle.hm_moves.specs.Moves.{extended, fault_after, number, width}
+use Rattle.hm_moves.specs.Moves.{as_loaded, fault_after, little_endian, byte_count}
 use Rattle.hm_moves.specs.Ways.{Found, Transfer, at_addresses, at_offsets, each_from, interleaved, moves_by, registers, start, straight, way_predicated}
 
 -- how many elements a row moves
@@ -25,10 +25,10 @@ count z = 4 * per_word z
 -- WHERE THE ELEMENTS STAND IN MEMORY
 -- the addresses of the elements, of size y in memory and of size z in their register; an element at an address has that of its word
 abbrev pub addresses : Size → Size → Found → State → List ℕ
-addresses y z (straight d n offset before back) s = each_from (λ j. (start before offset (at (R n) s) + width y * j) % 2 ^ 32) 0 (count z)
+addresses y z (straight d n offset before back) s = each_from (λ j. (start before offset (at (R n) s) + byte_count y * j) % 2 ^ 32) 0 (count z)
 addresses y z (at_offsets d n m scale) s = map (λ o. (at (R n) s + o * 2 ^ scale) % 2 ^ 32) (lanes z (register_at m s))
 addresses y z (at_addresses d m offset back) s = each_from (λ j. (get_or (lanes Word (register_at m s)) (j / per_word z) 0 + offset) % 2 ^ 32) 0 (count z)
-addresses y z (interleaved d n four part back) s = each_from (λ k. (at (R n) s + width y * k) % 2 ^ 32) (count z * part) (count z)
+addresses y z (interleaved d n four part back) s = each_from (λ k. (at (R n) s + byte_count y * k) % 2 ^ 32) (count z * part) (count z)
 
 -- which elements are moved: the active ones, or all of a row that is not under the predicate
 abbrev pub are_moved : Size → Found → State → List Bool
@@ -53,11 +53,11 @@ part_at four part q s =
 -- LOADS
 -- the number that stands at an address, and what it is loaded as
 abbrev pub read_at : Size → State → ℕ → ℕ
-read_at y s a = number (width y) (numbers (map s.cell (map Byte (span_bytes a (width y)))))
+read_at y s a = little_endian (byte_count y) (numbers (map s.cell (map Byte (span_bytes a (byte_count y)))))
 
 -- what the number at an address is loaded as, extended with its sign or without
 abbrev pub loaded : Transfer → State → ℕ → ℕ
-loaded t s a = extended (moves_by t) (read_at t.memory s a)
+loaded t s a = as_loaded (moves_by t) (read_at t.memory s a)
 
 -- the elements as they are loaded, with zero in the place of each that is not
 abbrev pub loaded_elements : (ℕ → ℕ) → List Bool → List ℕ → List ℕ
@@ -93,7 +93,7 @@ number_bytes x k (a ∷ bs) = (Byte a, record { n = byte_of x k; taint = false }
 
 -- of the elements each that is moved is stored at its address
 abbrev pub element_bytes : Size → List Bool → List ℕ → List ℕ → List (Cell × Value)
-element_bytes y (p ∷ ps) (a ∷ addrs) (x ∷ xs) = cond p (number_bytes x 0 (span_bytes a (width y))) [] ++ element_bytes y ps addrs xs
+element_bytes y (p ∷ ps) (a ∷ addrs) (x ∷ xs) = cond p (number_bytes x 0 (span_bytes a (byte_count y))) [] ++ element_bytes y ps addrs xs
 element_bytes y _ _ _ = []
 
 -- THE WHOLE
@@ -114,9 +114,9 @@ abbrev pub transfer_whole : Transfer → State → Result State Fault
 transfer_whole t s =
     let ps = are_moved t.register t.found s in
     let addrs = addresses t.memory t.register t.found s in
-    unless (fault_of t.store (width t.memory) ps addrs)
+    unless (fault_of t.store (byte_count t.memory) ps addrs)
     (Ok (retired (put_all cells (transferred t ps addrs s ++ written_back t.found s ++ advance_half 0 s ++ advance_half 2 s) s)))
 
 -- an element that is stored is not longer in memory than in its register
 abbrev pub IsNarrow : Transfer → Type 0
-IsNarrow t = t.store ≡ true → width t.memory ≤ width t.register
+IsNarrow t = t.store ≡ true → byte_count t.memory ≤ byte_count t.register

@@ -15,7 +15,7 @@ ghost use Rattle.hm_beat.specs.Laws.{AnswersBeat, Checks, run};
 ghost use Rattle.hm_kinds.specs.Coded.{puts};
 ghost use Rattle.hm_kinds.specs.Row.{is_body};
 ghost use Rattle.hm_moves.specs.Coded.{Fit, first_stop, old_word, puts_of, word_puts};
-ghost use Rattle.hm_moves.specs.Moves.{elements_at, loaded_at, stored_at, width};
+ghost use Rattle.hm_moves.specs.Moves.{elements_at, loaded_at, stored_at, byte_count};
 ghost use Rattle.hm_moves.specs.Ways.{move_tree, moves_of};
 
 use crate::Move;
@@ -70,7 +70,7 @@ fn filled_words(
     requires few { length list.now ≤ 4 }
     requires placed { All IsPlace list.now }
     requires fit { Fit row.now.register es.now }
-    requires free { let m = memory_of m.now in first_stop m.around false (width row.now.memory) es.now (seen m) ≡ None }
+    requires free { let m = memory_of m.now in first_stop m.around false (byte_count row.now.memory) es.now (seen m) ≡ None }
     ensures value { puts_of result.items ≡ word_puts (moves_of row.now) 0 es.now list.now (old_word (moves_of row.now) r.now) (seen (memory_of m.now)) }
     ensures written { All (λ w. IsPlace w.place) result.items }
 {
@@ -87,7 +87,7 @@ fn filled_words(
 fn loaded(row: &Move, b: u8, es: &[Element], r: &Regs, m: &Mem) -> ArrayVec<Written, 4>
     requires beat { b < 4 }
     requires fit { Fit row.now.register es.now }
-    requires free { let m = memory_of m.now in first_stop m.around row.now.store (width row.now.memory) es.now (seen m) ≡ None }
+    requires free { let m = memory_of m.now in first_stop m.around row.now.store (byte_count row.now.memory) es.now (seen m) ≡ None }
     ensures value { (output : List ℕ) → let s = state_of r.now (memory_of m.now) output in
         es.now ≡ elements_at (moves_of row.now) b s → map into (puts_of result.items) ≡ loaded_at (moves_of row.now) b s }
     ensures written { All (λ w. IsPlace w.place) result.items }
@@ -105,7 +105,7 @@ fn loaded(row: &Move, b: u8, es: &[Element], r: &Regs, m: &Mem) -> ArrayVec<Writ
 fn store(row: &Move, b: u8, es: &[Element], r: &Regs, m: &mut Mem)
     requires beat { b < 4 }
     requires fit { Fit row.now.register es.now }
-    requires free { let m = memory_of m.old in first_stop m.around row.now.store (width row.now.memory) es.now (seen m) ≡ None }
+    requires free { let m = memory_of m.old in first_stop m.around row.now.store (byte_count row.now.memory) es.now (seen m) ≡ None }
     ensures state { (output : List ℕ) → let x = memory_of m.old in let s = state_of r.now x output in
         es.now ≡ elements_at (moves_of row.now) b s
         → state_of r.now (memory_of m.new) output ≡ put_all cells (stored_at (moves_of row.now) (marks x.around.actor) b s) s }
@@ -186,7 +186,7 @@ fn finish(r: &mut Regs, filled: &[Written], back: Option<Written>, b: u8)
 fn move_all(row: &Move, b: u8, es: &[Element], r: &mut Regs, m: &mut Mem)
     requires beat { b < 4 }
     requires fit { Fit row.now.register es.now }
-    requires free { let m = memory_of m.old in first_stop m.around row.now.store (width row.now.memory) es.now (seen m) ≡ None }
+    requires free { let m = memory_of m.old in first_stop m.around row.now.store (byte_count row.now.memory) es.now (seen m) ≡ None }
     ensures done { (output : List ℕ) → let x = memory_of m.old in
         es.now ≡ elements_at (moves_of row.now) b (state_of r.old x output)
         → run (move_tree row.now x.around b) r.old x output ≡ Ok (state_of r.new (memory_of m.new) output) }

@@ -10,7 +10,7 @@ ghost use Rattle.hm_regs.specs.declared.Regs.{Regs};
 ghost use Rattle.hm_state.specs.State.{cells, state_of};
 ghost use Rattle.hm_state.specs.Store.{put_all};
 ghost use Rattle.hm_moves.specs.Coded.{Fit, filled_in, first_stop};
-ghost use Rattle.hm_moves.specs.Moves.{all_bytes_from, bytes_of, extended, laid, width};
+ghost use Rattle.hm_moves.specs.Moves.{all_bytes_from, bytes_of_elements, as_loaded, laid, byte_count};
 ghost use Rattle.hm_moves.specs.Ways.{moves_of};
 
 use crate::Move;
@@ -34,8 +34,8 @@ pub struct Element {
 pub type Elements = ArrayVec<Element, 4>;
 
 /// How many bytes an element has.
-pub fn width(z: Size) -> u32
-    ensures value { result ≡ width z }
+pub fn byte_count(z: Size) -> u32
+    ensures value { result ≡ byte_count z }
     ensures len { IsLen result }
 {
     match z {
@@ -48,13 +48,13 @@ pub fn width(z: Size) -> u32
 /// The bytes of elements.
 pub fn spans(es: &[Element], z: Size) -> Spans
     requires few { length es.now ≤ 4 }
-    ensures { spanned result.items ≡ bytes_of z es.now }
+    ensures { spanned result.items ≡ bytes_of_elements z es.now }
 {
     let mut spans = Spans::new();
     for e in es {
         spans.push(Span {
             addr: e.addr,
-            len: width(z),
+            len: byte_count(z),
         });
     }
     spans
@@ -62,10 +62,10 @@ pub fn spans(es: &[Element], z: Size) -> Spans
 
 /// The stop of the first element that has one.
 pub fn check_all(es: &[Element], z: Size, store: bool, m: &Mem) -> Result<(), Stop>
-    ensures value { let m = memory_of m.now in stop_in result ≡ first_stop m.around store (width z) es.now (seen m) }
+    ensures value { let m = memory_of m.now in stop_in result ≡ first_stop m.around store (byte_count z) es.now (seen m) }
 {
     for e in es {
-        if let Err(stop) = m.check(e.addr, width(z), Access::Vector, store) {
+        if let Err(stop) = m.check(e.addr, byte_count(z), Access::Vector, store) {
             return Err(stop);
         }
     }
@@ -86,7 +86,7 @@ fn put_bits(w: u32, hi: u32, lo: u32, x: u32) -> u32
 
 /// The highest bit of an element.
 fn top_bit(z: Size) -> u32
-    ensures { result ≡ 2 ^ (8 * width z - 1) }
+    ensures { result ≡ 2 ^ (8 * byte_count z - 1) }
 {
     match z {
         Size::Byte => 0x80,
@@ -97,7 +97,7 @@ fn top_bit(z: Size) -> u32
 
 /// All bits of a word that an element does not have.
 fn bits_above(z: Size) -> u32
-    ensures { result ≡ 2 ^ 32 - 2 ^ (8 * width z) }
+    ensures { result ≡ 2 ^ 32 - 2 ^ (8 * byte_count z) }
 {
     match z {
         Size::Byte => 0xffff_ff00,
@@ -107,8 +107,8 @@ fn bits_above(z: Size) -> u32
 }
 
 /// A number that was loaded, extended as the row says.
-fn extended(row: &Move, x: u32) -> u32
-    ensures { result ≡ extended (moves_of row.now) x }
+fn as_loaded(row: &Move, x: u32) -> u32
+    ensures { result ≡ as_loaded (moves_of row.now) x }
 {
     if row.signed && top_bit(row.memory) <= x {
         x.wrapping_add(bits_above(row.memory))
@@ -119,12 +119,17 @@ fn extended(row: &Move, x: u32) -> u32
 
 /// Word `j` with an element laid into it, where it is of that word.
 fn laid(row: &Move, j: usize, e: &Element, x: u32, w: u32) -> u32
-    requires { e.now.lane + width row.now.register ≤ 4 }
+    requires { e.now.lane + byte_count row.now.register ≤ 4 }
     ensures { result ≡ laid (moves_of row.now) j e.now x w }
 {
     if e.word as usize == j {
         let lo = 8 * e.lane as u32;
-        put_bits(w, lo + (8 * width(row.register) - 1), lo, extended(row, x))
+        put_bits(
+            w,
+            lo + (8 * byte_count(row.register) - 1),
+            lo,
+            as_loaded(row, x),
+        )
     } else {
         w
     }
@@ -133,13 +138,13 @@ fn laid(row: &Move, j: usize, e: &Element, x: u32, w: u32) -> u32
 /// Word `j` with the elements that are loaded, none of which stops.
 pub fn filled(row: &Move, j: usize, es: &[Element], old: u32, m: &Mem) -> u32
     requires fit { Fit row.now.register es.now }
-    requires free { let m = memory_of m.now in first_stop m.around false (width row.now.memory) es.now (seen m) ≡ None }
+    requires free { let m = memory_of m.now in first_stop m.around false (byte_count row.now.memory) es.now (seen m) ≡ None }
     ensures value { result ≡ filled_in (moves_of row.now) j es.now old (seen (memory_of m.now)) }
 {
     let mut word = old;
     // From the last to the first.
     for k in (0..es.len()).rev() {
-        let x = m.peek(es[k].addr, width(row.memory), Access::Vector);
+        let x = m.peek(es[k].addr, byte_count(row.memory), Access::Vector);
         word = laid(row, j, &es[k], x, word);
     }
     word
@@ -158,13 +163,13 @@ fn number_at(xs: &[u32], k: u8) -> u32
 /// Stores elements of words, none of which stops.
 pub fn store_all(row: &Move, es: &[Element], words: &[u32], m: &mut Mem)
     requires fit { Fit row.now.register es.now }
-    requires free { let m = memory_of m.old in first_stop m.around true (width row.now.memory) es.now (seen m) ≡ None }
+    requires free { let m = memory_of m.old in first_stop m.around true (byte_count row.now.memory) es.now (seen m) ≡ None }
     ensures state { (r : Regs) (output : List ℕ) → let x = memory_of m.old in
         state_of r (memory_of m.new) output ≡ put_all cells (all_bytes_from (marks x.around.actor) row.now.memory es.now words.now) (state_of r x output) }
     ensures kept { IsSameElsewhere (memory_of m.old) (memory_of m.new) }
 {
     for e in es {
         let x = number_at(words, e.word) >> (8 * e.lane as u32);
-        m.put(e.addr, width(row.memory), Access::Vector, x);
+        m.put(e.addr, byte_count(row.memory), Access::Vector, x);
     }
 }

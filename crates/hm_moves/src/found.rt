@@ -9,12 +9,12 @@ ghost use Rattle.hm_beat.specs.Rows.{active_at, word_place};
 ghost use Rattle.hm_kinds.specs.Coded.{those};
 ghost use Rattle.hm_kinds.specs.Row.{is_body};
 ghost use Rattle.hm_moves.specs.Coded.{Fit, active_of};
-ghost use Rattle.hm_moves.specs.Moves.{active_ones, elements_at, every_byte, width};
+ghost use Rattle.hm_moves.specs.Moves.{active_ones, elements_at, every_byte, byte_count};
 ghost use Rattle.hm_lane.specs.Lanes.{per_word};
 ghost use Rattle.hm_moves.specs.Ways.{each_from, moves_of, registers, start, stream, way_element, way_of, way_predicated, way_sources};
 ghost use Rattle.hm_moves.specs.declared.ways.Way.TheVariants as way;
 
-use crate::elements::{Element, Elements, width};
+use crate::elements::{Element, Elements, byte_count};
 use crate::{Addresses, Interleaved, Move, Offsets, Straight, Way};
 use hm_base::{Place, bits};
 use hm_beat::read_word;
@@ -25,7 +25,7 @@ use hm_regs::Regs;
 /// So many elements in bytes.
 fn times_width(z: Size, k: u32) -> u32
     requires { k ≤ 64 }
-    ensures value { result ≡ width z * k }
+    ensures value { result ≡ byte_count z * k }
     ensures at_most { result ≤ 256 }
 {
     match z {
@@ -52,8 +52,8 @@ fn times_count(z: Size, k: u32) -> u32
 /// The lowest byte of element `j` of a word.
 fn lane(z: Size, j: u32) -> u8
     requires { j < per_word z }
-    ensures value { result ≡ width z * j }
-    ensures fit { result + width z ≤ 4 }
+    ensures value { result ≡ byte_count z * j }
+    ensures fit { result + byte_count z ≤ 4 }
 {
     match z {
         Size::Byte => j as u8,
@@ -65,8 +65,8 @@ fn lane(z: Size, j: u32) -> u8
 /// The lowest byte, in its word, of element `k` of a register.
 fn lane_in_word(z: Size, k: u32) -> u8
     requires { k ≤ 64 }
-    ensures value { result ≡ width z * k % 4 }
-    ensures fit { result + width z ≤ 4 }
+    ensures value { result ≡ byte_count z * k % 4 }
+    ensures fit { result + byte_count z ≤ 4 }
 {
     match z {
         Size::Byte => (k % 4) as u8,
@@ -78,10 +78,10 @@ fn lane_in_word(z: Size, k: u32) -> u8
 /// Element `j` of a word.
 fn lane_number(z: Size, j: u32, word: u32) -> u32
     requires { j < per_word z }
-    ensures { result ≡ field (8 * (width z * j)) (8 * width z) word }
+    ensures { result ≡ field (8 * (byte_count z * j)) (8 * byte_count z) word }
 {
     let lo = 8 * lane(z, j) as u32;
-    bits(word, lo + (8 * width(z) - 1), lo)
+    bits(word, lo + (8 * byte_count(z) - 1), lo)
 }
 
 /// Where elements that stand one behind another begin.
@@ -100,7 +100,7 @@ fn straight_element(w: &Straight, y: Size, z: Size, b: u8, base: u32, j: u32) ->
     requires beat { b < 4 }
     requires index { j < per_word z }
     ensures value { (n : ℕ) → result ≡ way_element y z (way_of (way.Straight w.now)) b (base ∷ n ∷ []) j }
-    ensures fit { result.lane + width z ≤ 4 }
+    ensures fit { result.lane + byte_count z ≤ 4 }
 {
     let index = times_count(z, b as u32) + j;
     Element {
@@ -113,7 +113,7 @@ fn straight_element(w: &Straight, y: Size, z: Size, b: u8, base: u32, j: u32) ->
 /// The address at the offset that element `j` of a word is.
 fn offset_address(w: &Offsets, z: Size, base: u32, word: u32, j: u32) -> u32
     requires { j < per_word z }
-    ensures { result ≡ (base + field (8 * (width z * j)) (8 * width z) word * 2 ^ w.now.scale) % 2 ^ 32 }
+    ensures { result ≡ (base + field (8 * (byte_count z * j)) (8 * byte_count z) word * 2 ^ w.now.scale) % 2 ^ 32 }
 {
     base.wrapping_add(lane_number(z, j, word) << w.scale)
 }
@@ -142,7 +142,7 @@ fn interleaved_element(w: &Interleaved, y: Size, z: Size, b: u8, base: u32, j: u
     requires beat { b < 4 }
     requires index { j < per_word z }
     ensures value { (n : ℕ) → result ≡ way_element y z (way_of (way.Interleaved w.now)) b (base ∷ n ∷ []) j }
-    ensures fit { result.lane + width z ≤ 4 }
+    ensures fit { result.lane + byte_count z ≤ 4 }
 {
     let count = registers(w);
     let index = stream(w, z, b) + j;
@@ -158,7 +158,7 @@ fn element(row: &Move, b: u8, first: u32, second: u32, j: u32) -> Element
     requires beat { b < 4 }
     requires index { j < per_word row.now.register }
     ensures value { result ≡ way_element row.now.memory row.now.register (way_of row.now.way) b (first ∷ second ∷ []) j }
-    ensures fit { result.lane + width row.now.register ≤ 4 }
+    ensures fit { result.lane + byte_count row.now.register ≤ 4 }
 {
     let y = row.memory;
     let z = row.register;

@@ -8,7 +8,7 @@ ghost use Rattle.hm_regs.specs.Writes.{places_of};
 ghost use Rattle.hm_state.specs.State.{state_of};
 ghost use Rattle.hm_beat.specs.Touches.{loads_in, reads_in, spanned, stores_in, writes_in};
 ghost use Rattle.hm_moves.specs.Coded.{begun_in};
-ghost use Rattle.hm_moves.specs.Moves.{bytes_of, elements_at, sources_at};
+ghost use Rattle.hm_moves.specs.Moves.{bytes_of_elements, elements_at, sources_at};
 ghost use Rattle.hm_moves.specs.Ways.{move_tree, moves_of, way_back, way_of, way_predicated, way_sources, way_words};
 
 use crate::elements::spans;
@@ -137,7 +137,7 @@ fn writes(row: &Move, b: u8, r: &Regs) -> Places
 fn moved_spans(row: &Move, b: u8, r: &Regs, touched: bool) -> Spans
     requires { b < 4 }
     ensures { (m : Memory) (output : List ℕ)
-        → spanned result.items ≡ cond touched (bytes_of row.now.memory (elements_at (moves_of row.now) b (state_of r.now m output))) [] }
+        → spanned result.items ≡ cond touched (bytes_of_elements row.now.memory (elements_at (moves_of row.now) b (state_of r.now m output))) [] }
 {
     if touched {
         let es = elements(row, b, r);

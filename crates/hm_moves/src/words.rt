@@ -7,7 +7,7 @@ ghost use Rattle.hm_regs.specs.Writes.{write};
 ghost use Rattle.hm_beat.specs.Rows.{word_place};
 ghost use Rattle.hm_kinds.specs.Coded.{puts};
 ghost use Rattle.hm_kinds.specs.Row.{is_body};
-ghost use Rattle.hm_moves.specs.Moves.{width};
+ghost use Rattle.hm_moves.specs.Moves.{byte_count};
 ghost use Rattle.hm_lane.specs.Lanes.{per_word};
 ghost use Rattle.hm_moves.specs.Ways.{each_from, registers, stream, way_back, way_of, way_words};
 
@@ -44,7 +44,7 @@ fn register_of(w: &Interleaved, k: u32) -> u8
 /// The word of a register that its element `k` is of.
 fn word_of(z: Size, k: u32) -> u8
     requires { k < 4 * per_word z }
-    ensures value { result ≡ width z * k / 4 }
+    ensures value { result ≡ byte_count z * k / 4 }
     ensures below { result < 4 }
 {
     match z {
@@ -57,7 +57,7 @@ fn word_of(z: Size, k: u32) -> u8
 /// The word that element `k` of the stream is of, one of those that all parts move.
 fn interleaved_word(w: &Interleaved, z: Size, k: u32) -> Place
     requires { k < 4 * per_word z * registers w.now.four }
-    ensures value { result ≡ word_place (w.now.d + k % registers w.now.four) (width z * (k / registers w.now.four) / 4) }
+    ensures value { result ≡ word_place (w.now.d + k % registers w.now.four) (byte_count z * (k / registers w.now.four) / 4) }
     ensures placed { IsPlace result }
 {
     Place::QWord(4 * register_of(w, k) + word_of(z, quotient(w, k)))
@@ -74,7 +74,7 @@ fn least(x: u32, y: u32) -> u32
 fn interleaved_words(w: &Interleaved, z: Size, b: u8) -> Words
     requires { b < 4 }
     ensures value { result.items ≡ each_from
-        (λ i. let k = stream w.now.part z b + i in word_place (w.now.d + k % registers w.now.four) (width z * (k / registers w.now.four) / 4)) 0
+        (λ i. let k = stream w.now.part z b + i in word_place (w.now.d + k % registers w.now.four) (byte_count z * (k / registers w.now.four) / 4)) 0
         (cond (ltb (per_word z) (registers w.now.four)) (per_word z) (registers w.now.four)) }
     ensures placed { All IsPlace result.items }
     ensures few { length result.items ≤ 4 }

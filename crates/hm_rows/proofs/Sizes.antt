@@ -6,7 +6,7 @@ use Rattle.hm_isa.specs.declared.Vector.TheVariants.{V24, V25, V26, V27, V28}
 use Rattle.hm_lane.specs.declared.lanes.Size.{Size}
 use Rattle.hm_lane.specs.declared.lanes.Size.TheVariants.{Byte, Half, Word}
 use Rattle.hm_lane_fns.specs.Words.{size_of}
-use Rattle.hm_moves.specs.Moves.{width}
+use Rattle.hm_moves.specs.Moves.{byte_count}
 use Rattle.hm_moves.specs.Wholes.{IsNarrow}
 use Rattle.hm_rows.specs.Rows.{Kind, Moves, Registers, kind_of}
 
@@ -15,12 +15,12 @@ IsSized (Registers f) = Unit {0}
 IsSized (Moves t) = IsNarrow t
 
 -- sizes rise with their numbers
-byte_is_least : (z : Size) → 1 ≤ width z
+byte_is_least : (z : Size) → 1 ≤ byte_count z
 byte_is_least Byte = omega arith
 byte_is_least Half = omega arith
 byte_is_least Word = omega arith
 
-size_rises : (y z : ℕ) → y < 3 → z < 3 → y ≤ z → width (size_of y) ≤ width (size_of z)
+size_rises : (y z : ℕ) → y < 3 → z < 3 → y ≤ z → byte_count (size_of y) ≤ byte_count (size_of z)
 size_rises zero z low high h = byte_is_least (size_of z)
 size_rises (suc zero) zero low high h = absurd (omega arith)
 size_rises (suc zero) (suc zero) low high h = omega arith
@@ -33,7 +33,7 @@ size_rises (suc (suc zero)) (suc (suc (suc z))) low high h = absurd (omega arith
 size_rises (suc (suc (suc y))) z low high h = absurd (omega arith)
 
 -- bytes or halves, by a bit, that are shorter
-shorter : (h z : ℕ) → h < 2 → z < 3 → h < z → width (cond (nat_eq h 1) Half Byte) ≤ width (size_of z)
+shorter : (h z : ℕ) → h < 2 → z < 3 → h < z → byte_count (cond (nat_eq h 1) Half Byte) ≤ byte_count (size_of z)
 shorter zero z low high h = byte_is_least (size_of z)
 shorter (suc zero) z low high h = size_rises 1 z (omega arith) high (omega arith)
 shorter (suc (suc n)) z low high h = absurd (omega arith)

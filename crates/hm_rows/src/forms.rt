@@ -15,7 +15,7 @@ use hm_isa::{
     V21, V22, VectorShiftName,
 };
 use hm_lane::Size;
-use hm_lane_fns::{LaneFn, Operand, element_size, size, width};
+use hm_lane_fns::{LaneFn, Operand, bit_count, element_size, size};
 
 /// A row on lanes.
 fn lanes(f: LaneFn, unsigned: bool, z: Size, d: QRegister, n: QRegister, by: Operand) -> Form
@@ -115,7 +115,7 @@ fn shift_operand(name: ConstantShiftName, x: u32) -> u32
     requires { x < 64 }
     ensures { result ≡ shift_operand name x }
 {
-    let size = width(shift_size(x));
+    let size = bit_count(shift_size(x));
     match name {
         ConstantShiftName::Shr | ConstantShiftName::Rshr => { 256 - (2 * size).saturating_sub(x) }
         ConstantShiftName::Sri => (2 * size).saturating_sub(x),

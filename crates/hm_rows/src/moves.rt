@@ -14,7 +14,7 @@ use hm_moves::{Addresses, Interleaved, Move, Offsets, Straight, Way};
 /// So many elements in bytes.
 fn bytes(i: u32, z: Size) -> u32
     requires { i < 128 }
-    ensures value { result ≡ i * moves.width z }
+    ensures value { result ≡ i * moves.byte_count z }
     ensures at_most { result ≤ 508 }
 {
     match z {

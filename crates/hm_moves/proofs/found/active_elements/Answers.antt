@@ -1,5 +1,5 @@
 use Rattle.std.proofs.Common.{◌≡◌, suc, ◌+◌, ◌-◌, ◌∷◌, [], arith, ◌∙◌}
-use Rattle.hm_moves.specs.Moves.{width}
+use Rattle.hm_moves.specs.Moves.{byte_count}
 use Rattle.hm_lane.specs.Lanes.{per_word}
 use Rattle.hm_moves.specs.Ways.{way_element, way_of}
 use Rattle.hm_moves.proofs.Widths.{more_active}
@@ -16,5 +16,5 @@ loop-j-preserved c =
       value = more_active c.args.active f j n (n - (j + 1)) next c.loop-j.es.items _ _ c.push_active.ensures.value c.element-e.ensures.value
           ∙ c.loop-j.invariant.value;
       few = omega arith;
-      fit = c.push_active.ensures.fit (width row.register) c.loop-j.invariant.fit c.element-e.ensures.fit;
+      fit = c.push_active.ensures.fit (byte_count row.register) c.loop-j.invariant.fit c.element-e.ensures.fit;
     }

@@ -4,7 +4,7 @@ use Rattle.std.proofs.lemmas.List.Elements.{All-push}
 use Rattle.hm_base.specs.Place.{IsPlace}
 use Rattle.hm_base.specs.declared.Place.{Place}
 use Rattle.hm_beat.specs.Rows.{word_place}
-use Rattle.hm_moves.specs.Moves.{width}
+use Rattle.hm_moves.specs.Moves.{byte_count}
 use Rattle.hm_lane.specs.Lanes.{per_word}
 use Rattle.hm_moves.specs.Ways.{registers, stream}
 use Rattle.hm_moves.proofs.Widths.{each_more}
@@ -14,7 +14,7 @@ pub loop-i-preserved : goal.loop-i-preserved
 loop-i-preserved c =
     let w = c.args.w.now in
     let z = c.args.z in
-    let g : ℕ → Place = λ k. word_place (w.d + k % registers w.four) (width z * (k / registers w.four) / 4) in
+    let g : ℕ → Place = λ k. word_place (w.d + k % registers w.four) (byte_count z * (k / registers w.four) / 4) in
     let f : ℕ → Place = λ i. g (stream w.part z c.args.b + i) in
     let n = cond (ltb (per_word z) (registers w.four)) (per_word z) (registers w.four) in
     let i = c.loop-i.i in

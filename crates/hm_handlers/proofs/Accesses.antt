@@ -22,9 +22,9 @@ use Rattle.hm_isa.specs.Words.{sign_extended}
 use Rattle.hm_thumb.specs.Does.{Ends, Faults, goes}
 use Rattle.hm_thumb.specs.RegisterRows.{blx_write, bx_write, put, reg}
 use Rattle.hm_thumb.specs.declared.Way.TheVariants as way
-use Rattle.hm_kept.specs.Blocks.{EndsKeep}
-use Rattle.hm_kept.proofs.Choices.{either}
-use Rattle.hm_kept.proofs.Registers.{Same, all-same, words-same}
+use Rattle.hm_handlers.specs.Blocks.{EndsKeep}
+use Rattle.hm_handlers.proofs.Choices.{either}
+use Rattle.hm_handlers.proofs.Registers.{Same, all-same, words-same}
 
 module _ (r : Regs) where
   pub blx-keep : (x : ℕ) (q : Regs) → Same r q → EndsKeep r (blx_write x q)

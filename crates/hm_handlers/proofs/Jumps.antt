@@ -22,10 +22,10 @@ use Rattle.hm_thumb.specs.BranchRows.{branch_if, jump_row, linked, s25, t16}
 use Rattle.hm_thumb.specs.LoopRows.{again, back, elements, enter, loop_end_row, put_size, t23}
 use Rattle.hm_thumb.specs.Does.{Faults, goes}
 use Rattle.hm_thumb.specs.RegisterRows.{put, reg}
-use Rattle.hm_kept.specs.Blocks.{EndsKeep}
-use Rattle.hm_kept.proofs.Accesses.{blx-keep, bx-keep}
-use Rattle.hm_kept.proofs.Choices.{either}
-use Rattle.hm_kept.proofs.Registers.{Same}
+use Rattle.hm_handlers.specs.Blocks.{EndsKeep}
+use Rattle.hm_handlers.proofs.Accesses.{blx-keep, bx-keep}
+use Rattle.hm_handlers.proofs.Choices.{either}
+use Rattle.hm_handlers.proofs.Registers.{Same}
 
 module _ (r : Regs) where
   pub jump-keep : (name : JumpName) (x : ℕ) (q : Regs) → Same r q → EndsKeep r (jump_row name x q)

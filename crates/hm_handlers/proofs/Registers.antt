@@ -29,7 +29,7 @@ use Rattle.hm_thumb.specs.RegisterRows.{byte_row, logic_row, put}
 use Rattle.hm_thumb.specs.SystemRows.{exchanged, lane_move, selected, system_move, t18, with_special}
 use Rattle.hm_isa.specs.declared.words.Shifted.{Shifted}
 use Rattle.hm_thumb.specs.declared.arithmetic.Sum.{Sum}
-use Rattle.hm_kept.proofs.Choices.{either}
+use Rattle.hm_handlers.proofs.Choices.{either}
 
 -- from the registers r to q
 abbrev pub Same : Regs → Regs → Type 0

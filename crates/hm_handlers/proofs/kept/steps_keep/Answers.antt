@@ -1,5 +1,5 @@
-use Rattle.hm_kept.proofs.Steps.{step-main, step-number, step-sound}
-use Rattle.hm_kept.proofs.steps_keep.Goals as goal
+use Rattle.hm_handlers.proofs.KeptSteps.{step-main, step-number, step-sound}
+use Rattle.hm_handlers.proofs.kept.steps_keep.Goals as goal
 
 pub returns : goal.returns
 returns c = record {

@@ -17,11 +17,11 @@ use Rattle.hm_thumb.specs.MemoryRows.{plain_name, word_name}
 use Rattle.hm_thumb.specs.RegisterRows.{put, put_any, reg}
 use Rattle.hm_thumb.specs.Rows.{branch_does, in_block, instr_does, made, makes_context, runs, scalar_does}
 use Rattle.hm_thumb.specs.declared.Way.TheVariants as way
-use Rattle.hm_kept.specs.Blocks.{EndsKeep}
-use Rattle.hm_kept.proofs.Accesses.{access-keep, list-keep, loaded-keep, pair-keep, stack-keep, t12-keep, wide_list-keep}
-use Rattle.hm_kept.proofs.Choices.{either}
-use Rattle.hm_kept.proofs.Jumps.{branch-keep, jump-keep, s25-keep, t16-keep, t23-keep}
-use Rattle.hm_kept.proofs.Registers.{Same, byte-same, context-same, data-same, lane-same, logic-same, product-same, system-same, t18-same}
+use Rattle.hm_handlers.specs.Blocks.{EndsKeep}
+use Rattle.hm_handlers.proofs.Accesses.{access-keep, list-keep, loaded-keep, pair-keep, stack-keep, t12-keep, wide_list-keep}
+use Rattle.hm_handlers.proofs.Choices.{either}
+use Rattle.hm_handlers.proofs.Jumps.{branch-keep, jump-keep, s25-keep, t16-keep, t23-keep}
+use Rattle.hm_handlers.proofs.Registers.{Same, byte-same, context-same, data-same, lane-same, logic-same, product-same, system-same, t18-same}
 
 left : (a b : Bool) → (a && b) ≡ true → a ≡ true
 left true b h = refl

@@ -1,13 +1,12 @@
 //! What every instruction that is no vector row leaves: the exception number; an IT byte that an exception may be entered with; a handler
 //! on the main stack; and priorities of three bits. The functions are laws: they do nothing, and their clauses are what is proved of the definitions.
-#![tactic(auto)]
 
 ghost use Rattle.std.specs.Prelude.{◌≡◌, IfOk};
 ghost use Rattle.hm_base.specs.declared.Fault.{Fault};
 ghost use Rattle.hm_base.specs.declared.Stop.{Stop};
 ghost use Rattle.hm_isa.specs.declared.Instr.{Instr};
-ghost use Rattle.hm_kept.specs.Blocks.{EndsKeep, IsBlockByte};
-ghost use Rattle.hm_kept.specs.Levels.{HasLevels};
+ghost use Rattle.hm_handlers.specs.Blocks.{EndsKeep, IsBlockByte};
+ghost use Rattle.hm_handlers.specs.Levels.{HasLevels};
 ghost use Rattle.hm_mem.specs.Memory.{Around, first_devices};
 ghost use Rattle.hm_mem.specs.Seen.{Seen};
 ghost use Rattle.hm_regs.specs.Stacks.{HandlerOnMain};

@@ -14,8 +14,8 @@ use Rattle.hm_regs.specs.declared.Regs.{Regs}
 use Rattle.hm_thumb.specs.Does.{Does, Ends, Faults, Loads, Stores, Done, Runner, after_loads, after_stores, behind, first_stop, run, words}
 use Rattle.hm_thumb.specs.Rows.{in_block, width}
 use Rattle.hm_thumb.specs.Steps.{finish, step}
-use Rattle.hm_kept.specs.Levels.{HasLevels, IsLevel}
-use Rattle.hm_kept.proofs.Choices.{either, if_done}
+use Rattle.hm_handlers.specs.Levels.{HasLevels, IsLevel}
+use Rattle.hm_handlers.proofs.Choices.{either, if_done}
 
 top-level : (x : ℕ) → IsLevel (top_three x)
 top-level x = (omega arith, omega arith)

@@ -12,9 +12,9 @@ use Rattle.hm_thumb.specs.Rows.{in_block, width}
 use Rattle.hm_thumb.specs.Steps.{finish, settled, step}
 use Rattle.hm_thumb.specs.declared.Way.{Way}
 use Rattle.hm_thumb.specs.declared.Way.TheVariants as way
-use Rattle.hm_kept.specs.Blocks.{EndsKeep, IsBlockByte, KeepsBlock}
-use Rattle.hm_kept.proofs.Choices.{if_done}
-use Rattle.hm_kept.proofs.Instructions.{block-keep}
+use Rattle.hm_handlers.specs.Blocks.{EndsKeep, IsBlockByte, KeepsBlock}
+use Rattle.hm_handlers.proofs.Choices.{if_done}
+use Rattle.hm_handlers.proofs.Instructions.{block-keep}
 
 -- ITAdvance() doubles the lowest bits of a block that is not over
 by_rest : (b : Bool) (it : ℕ) → it < 256 → nat_eq (it % 8) 0 ≡ b → IsBlockByte (if b then 0 else it / 32 * 32 + it * 2 % 32)
