@@ -92,7 +92,7 @@ fn entered_once(entered: bool) -> u32
 
 impl Machine {
     ghost use Rattle.hm_machine.specs.Checkpoints.{IsKept, at_checkpoint};
-    ghost use Rattle.hm_machine.specs.Starts.{IsStart, SameHead};
+    ghost use Rattle.hm_machine.specs.Starts.{IsStart, SameBounds};
 
     /// The machine after a reset to this image, at the start of this schedule. It takes all the memory that the run needs.
     /// LoadErr::Reset exactly where bit 0 of the word at 4 is 0 (DDI0553, "Reset": the address of the first instruction).
@@ -464,10 +464,10 @@ impl Machine {
         Ok(Start { checkpoint })
     }
 
-    /// Puts it back to the start of a run of its image, under another schedule that says the same beside its ticks. It takes no memory.
+    /// Puts it back to the start of a run of its image, under another schedule with the region and the floors of the one that it has. It takes no memory.
     pub fn again(&mut self, start: &Start, s: Schedule)
-        requires start { (image : List Segment) × (t u : Sched) × (k : ℕ) × IsStart image t start.now × Shows image u k self.old × SameHead t s × SameHead u s }
-        ensures shows { (image : List Segment) (t u : Sched) (k : ℕ) → IsStart image t start.now → Shows image u k self.old → SameHead t s → SameHead u s
+        requires start { (image : List Segment) × (t u : Sched) × (k : ℕ) × IsStart image t start.now × Shows image u k self.old × SameBounds u s }
+        ensures shows { (image : List Segment) (t u : Sched) (k : ℕ) → IsStart image t start.now → Shows image u k self.old → SameBounds u s
             → Shows image s 0 self.new }
     {
         self.back(&start.checkpoint, &[]);

@@ -19,11 +19,11 @@ use Rattle.hm_run.specs.Stops as why
 use Rattle.hm_run.specs.Stops.{WholeStop}
 use Rattle.hm_exc.specs.declared.types.Activation.{Activation}
 use Rattle.hm_run.specs.Timed.{Timed, begin, closed, ended, next as next_tick, or_out, thread_program, timed, timed_out, who_runs, bounds_of}
-use Rattle.hm_sched.specs.Schedule.{TickLine, whole_letter, plain_line, plain, plain_lines, repeat, ticks_of}
+use Rattle.hm_sched.specs.Schedule.{Sched, TickLine, whole_letter, plain_line, plain, plain_lines, repeat, ticks_of}
 use Rattle.hm_state.specs.Start.{start, start_under}
 use Rattle.hm_state.specs.State.{State}
 use Rattle.hm_plain.specs.Ends.{GoesOn, PlainlyEnds}
-use Rattle.hm_plain.specs.Orders.{HasStopped, plain_end}
+use Rattle.hm_plain.specs.Orders.{HasStopped, plain_end, plain_ticks}
 use Rattle.hm_plain.specs.Overlap.{HaltsAfter, StaysInOrder, StopsBetween}
 use Rattle.hm_plain.specs.Sequence.{FaultsAt}
 use Rattle.hm_plain.proofs.Halts.{fault_as, full_as, halted_as, kept, no_acts, reports_going, reports_stop, shown_between}
@@ -47,11 +47,19 @@ record Goes (left t : ℕ) (x : Timed) : Type 0 where
   ticks : x.ticks ≡ t
   clean : NoTaint state
 
+-- in which tick a plain run ends so
+abbrev ended_in : Outcome → ℕ
+ended_in (outcome.Halted reason k) = k
+ended_in (outcome.Fault who f pc k) = k + 1
+ended_in (outcome.OutputFull k) = k
+ended_in o = 0
+
 -- a run that one of the first t instructions ended
 record Ends (t : ℕ) (x : Timed) : Type 0 where
   end : Outcome
   outcome : x.outcome ≡ Some end
   plainly : PlainlyEnds t x.config end
+  ticks : x.ticks ≡ ended_in end
 
 abbrev Plainly : ℕ → ℕ → Timed → Type 0
 Plainly left t x = Goes left t x ⊎ Ends t x
@@ -70,7 +78,7 @@ later_ends t c (outcome.StackSpent i sp) h = absurd h
 later_ends t c (outcome.OutputFull k) h = let few = h.0 in (omega arith, h.1)
 
 closed_ends : (rest : List TickLine) (t : ℕ) (y : Timed) → Ends t y → Ends t (closed rest y)
-closed_ends [] t y h = record { end = h.end; outcome = ap or_out h.outcome; plainly = h.plainly }
+closed_ends [] t y h = record { end = h.end; outcome = ap or_out h.outcome; plainly = h.plainly; ticks = h.ticks }
 closed_ends (l ∷ rest) t y h = h
 
 closed_goes : (line : TickLine) (left t : ℕ) (y : Timed) → y.outcome ≡ None → (k : ℕ) (u : State) → y.config ≡ between t k u → y.ticks ≡ t → NoTaint u
@@ -78,12 +86,12 @@ closed_goes : (line : TickLine) (left t : ℕ) (y : Timed) → y.outcome ≡ Non
 closed_goes line zero t y none k u config ticks clean = record { steps = k; state = u; outcome = ap or_out none; config = config; ticks = ticks; clean = clean }
 closed_goes line (suc left) t y none k u config ticks clean = record { steps = k; state = u; outcome = none; config = config; ticks = ticks; clean = clean }
 
-module _ (listing : Listing) (n : ℕ) where
+module _ (listing : Listing) (s : Sched) (n : ℕ) where
   abbrev machine : Program
-  machine = thread_program listing (plain n)
+  machine = thread_program listing s
 
   abbrev around : Around
-  around = thread_under (bounds_of (plain n))
+  around = thread_under (bounds_of s)
 
   -- the end of a plain tick, by what the letter comes to
   abbrev after_tick : Timed → Stepped → Timed
@@ -101,16 +109,22 @@ module _ (listing : Listing) (n : ℕ) where
   tick_comes left t x none ticks (Err (why.Halt reason)) leaves r h =
       let same = h.1 in
       subst (λ (r : Stepped). Plainly left (suc t) (closed (rest left) (after_tick x r))) (sym h.2)
-      (inr (closed_ends (rest left) (suc t) _ (record { end = outcome.Halted reason (h.0.n + 1); outcome = refl; plainly = omega arith })))
+      (inr (closed_ends (rest left) (suc t) _ (record { end = outcome.Halted reason (h.0.n + 1); outcome = refl; plainly = omega arith; ticks = omega arith })))
   tick_comes left t x none ticks (Err why.Full) leaves r h =
       let same = h.1 in
       subst (λ (r : Stepped). Plainly left (suc t) (closed (rest left) (after_tick x r))) (sym h.2)
-      (inr (closed_ends (rest left) (suc t) _ (record { end = outcome.OutputFull (x.ticks + 1); outcome = refl; plainly = (omega arith, omega arith) })))
+      (inr (closed_ends (rest left) (suc t) _
+      (record { end = outcome.OutputFull (x.ticks + 1); outcome = refl; plainly = (omega arith, omega arith); ticks = refl })))
   tick_comes left t x none ticks (Err (why.Faults f)) leaves r h =
       let same = h.1 in
       subst (λ (r : Stepped). Plainly left (suc t) (closed (rest left) (after_tick x r))) (sym h.2)
       (inr (closed_ends (rest left) (suc t) _
-      (record { end = _; outcome = ap (λ (acts : List Activation). Some (outcome.Fault (who_runs acts) f h.0.state.pc h.0.n)) none; plainly = omega arith })))
+      (record {
+        end = _;
+        outcome = ap (λ (acts : List Activation). Some (outcome.Fault (who_runs acts) f h.0.state.pc h.0.n)) none;
+        plainly = omega arith;
+        ticks = omega arith;
+      })))
 
   tick_goes : (left t : ℕ) (x : Timed) → x.acts ≡ [] → x.outcome ≡ None → Goes (suc left) t x
       → Plainly left (suc t) (next_tick machine (plain_line n ∷ rest left) x)
@@ -127,7 +141,7 @@ module _ (listing : Listing) (n : ℕ) where
   tick_plainly left t x none (inl h) = tick_goes left t x none h.outcome h
   tick_plainly left t x none (inr h) =
       subst (Plainly left (suc t)) (sym (next_ended machine (plain_line n ∷ repeat left (plain_line n) []) x h.end h.outcome))
-      (inr (record { end = h.end; outcome = h.outcome; plainly = later_ends t x.config h.end h.plainly }))
+      (inr (record { end = h.end; outcome = h.outcome; plainly = later_ends t x.config h.end h.plainly; ticks = h.ticks }))
 
 -- THE TICKS OF A PLAIN SCHEDULE
 ticks_plain : (n : ℕ) → ticks_of (plain_lines n) ≡ repeat n (plain_line n) []
@@ -156,23 +170,26 @@ pub clean_start : (bounds : Bounds) (image : List Segment) → NoTaint (start_un
 unfolding start_under
 clean_start bounds image = λ a. refl
 
-goes_first : (image : List Segment) (n left : ℕ) → n ≡ left → Goes left 0 (closed (ticks_of (plain_lines n)) (begin image (plain n)))
-goes_first image n left e =
-    subst (λ (l : List TickLine). Goes left 0 (closed l (begin image (plain n)))) (sym (ticks_plain n ∙ ap (λ (k : ℕ). repeat k (plain_line n) []) e))
-    (closed_goes (plain_line n) left 0 (begin image (plain n)) refl 0 _ refl refl (clean_start (bounds_of (plain n)) image))
+-- A SCHEDULE OF n PLAIN TICKS, whatever its region and its floors
+module _ (listing : Listing) (image : List Segment) (s : Sched) (n : ℕ) (lines : s.lines ≡ plain_lines n) where
+  goes_first : (left : ℕ) → n ≡ left → Goes left 0 (closed (ticks_of s.lines) (begin image s))
+  goes_first left e =
+      subst (λ (l : List TickLine). Goes left 0 (closed l (begin image s)))
+      (sym (ap ticks_of lines ∙ ticks_plain n ∙ ap (λ (k : ℕ). repeat k (plain_line n) []) e))
+      (closed_goes (plain_line n) left 0 (begin image s) refl 0 _ refl refl (clean_start (bounds_of s) image))
 
-plainly : (listing : Listing) (image : List Segment) (n t left : ℕ) → t + left ≡ n → Plainly left t (timed listing image (plain n) t)
-plainly listing image n zero left e = let same : n ≡ left = omega arith in inl (goes_first image n left same)
-plainly listing image n (suc t) left e =
-    let more : t + suc left ≡ n = omega arith in
-    subst (λ (l : List TickLine). Plainly left (suc t) (next_tick (thread_program listing (plain n)) l (timed listing image (plain n) t)))
-    (sym (left_at t left n more))
-    (tick_plainly listing n left t (timed listing image (plain n) t) (no_acts listing image (plain n) t) (plainly listing image n t (suc left) more))
+  plainly : (t left : ℕ) → t + left ≡ n → Plainly left t (timed listing image s t)
+  plainly zero left e = let same : n ≡ left = omega arith in inl (goes_first left same)
+  plainly (suc t) left e =
+      let more : t + suc left ≡ n = omega arith in
+      subst (λ (l : List TickLine). Plainly left (suc t) (next_tick (thread_program listing s) l (timed listing image s t)))
+      (sym (ap (λ (l : List TickLine). drop t (ticks_of l)) lines ∙ left_at t left n more))
+      (tick_plainly listing s n left t (timed listing image s t) (no_acts listing image s t) (plainly t (suc left) more))
 
-plainly_out : (listing : Listing) (image : List Segment) (n : ℕ) → Plainly 0 n (timed_out listing image (plain n))
-plainly_out listing image n =
-    let all : n + 0 ≡ n = omega arith in
-    subst (λ (t : ℕ). Plainly 0 n (timed listing image (plain n) t)) (sym (plain_length n)) (plainly listing image n n 0 all)
+  plainly_out : Plainly 0 n (timed_out listing image s)
+  plainly_out =
+      let all : n + 0 ≡ n = omega arith in
+      subst (λ (t : ℕ). Plainly 0 n (timed listing image s t)) (sym (ap (λ (l : List TickLine). length (ticks_of l)) lines ∙ plain_length n)) (plainly n 0 all)
 
 -- while a plain run goes on, each tick retires one instruction
 on_retired : (left t : ℕ) (x : Timed) → Plainly left t x → GoesOn x.outcome → (x.config.n ≡ t) × (x.config.a ≡ 0)
@@ -188,68 +205,71 @@ pub retires : (listing : Listing) (image : List Segment) (n t : ℕ) → t ≤ n
     → ((timed listing image (plain n) t).config.n ≡ t) × ((timed listing image (plain n) t).config.a ≡ 0)
 retires listing image n t few on =
     let all : t + (n - t) ≡ n = omega arith in
-    on_retired (n - t) t (timed listing image (plain n) t) (plainly listing image n t (n - t) all) on
+    on_retired (n - t) t (timed listing image (plain n) t) (plainly listing image (plain n) n refl t (n - t) all) on
 
 -- REPORTS
 -- a plain run comes to what the instructions in order come to
-record Tells (x : Timed) (y : InOrder) : Type 0 where
-  report : PlainReport x y
-  ends : x.outcome ≡ Some (plain_end y)
+pub record Tells (n : ℕ) (x : Timed) (y : InOrder) : Type 0 where
+  pub report : PlainReport x y
+  pub ends : x.outcome ≡ Some (plain_end y)
+  pub ticks : x.ticks ≡ plain_ticks n y
 
-module _ (listing : Listing) (image : List Segment) (n : ℕ) where
-  goes_reports : (x : Timed) → StaysInOrder listing image (plain n) x → x.acts ≡ [] → Goes 0 n x → Tells x (in_order listing image n)
+module _ (listing : Listing) (image : List Segment) (s : Sched) (n : ℕ) (lines : s.lines ≡ plain_lines n) where
+  goes_reports : (x : Timed) → StaysInOrder listing image s x → x.acts ≡ [] → Goes 0 n x → Tells n x (in_order listing image n)
   goes_reports x keeps none h =
-      let holds : Holds (thread_program listing (plain n)) (start image) x.config = kept listing image (plain n) x (Some outcome.OutOfTicks) keeps h.outcome in
+      let holds : Holds (thread_program listing s) (start image) x.config = kept listing image s x (Some outcome.OutOfTicks) keeps h.outcome in
       let between : x.config.a ≡ 0 = ap (λ (c : Config State). c.a) h.config in
       let done : x.config.n ≡ n = ap (λ (c : Config State). c.n) h.config in
-      let shown = shown_between listing image (plain n) x.config holds between in
-      subst (Tells x) (sym shown.runs ∙ ap (in_order listing image) done)
-      (record { report = reports_going listing image (plain n) x h.outcome none holds between; ends = h.outcome })
+      let shown = shown_between listing image s x.config holds between in
+      subst (Tells n x) (sym shown.runs ∙ ap (in_order listing image) done)
+      (record { report = reports_going listing image s x h.outcome none holds between; ends = h.outcome; ticks = h.ticks })
 
   -- what stopped the instructions in order within n
-  within : (x : Timed) (k : ℕ) (y : InOrder) → k ≤ n → in_order listing image k ≡ y → HasStopped y → Tells x y → Tells x (in_order listing image n)
-  within x k y few e stopped h = subst (Tells x) (sym (stopped_later listing image k n few (subst HasStopped (sym e) stopped) ∙ e)) h
+  within : (x : Timed) (k : ℕ) (y : InOrder) → k ≤ n → in_order listing image k ≡ y → HasStopped y → Tells n x y → Tells n x (in_order listing image n)
+  within x k y few e stopped h = subst (Tells n x) (sym (stopped_later listing image k n few (subst HasStopped (sym e) stopped) ∙ e)) h
 
-  ends_reports : (x : Timed) → StaysInOrder listing image (plain n) x → x.acts ≡ [] → (o : Outcome) → x.outcome ≡ Some o → PlainlyEnds n x.config o
-      → Tells x (in_order listing image n)
-  ends_reports x keeps none outcome.OutOfTicks e p = absurd p
-  ends_reports x keeps none (outcome.Halted reason k) e p =
-      let h : HaltsAfter (thread_program listing (plain n)) (start image) reason k x.config =
-      kept listing image (plain n) x (Some (outcome.Halted reason k)) keeps e in
-      within x k (Halted reason k h.between.order) p (halted_as listing image (plain n) reason k x.config h) tt
-      (record { report = reports_stop listing image (plain n) x (outcome.Halted reason k) h.before (why.Halt reason) e none h.between; ends = e })
-  ends_reports x keeps none (outcome.Fault Thread f pc k) e p =
-      let h : FaultsAt (thread_program listing (plain n)) (start image) k f pc = kept listing image (plain n) x (Some (outcome.Fault Thread f pc k)) keeps e in
-      within x (k + 1) (Faulted f.kind pc f.addr k) (omega arith) (fault_as listing image (plain n) f pc k h) tt
-      (record { report = ap outcome_line e; ends = e })
-  ends_reports x keeps none (outcome.Fault Handler f pc k) e p = absurd p
-  ends_reports x keeps none (outcome.Fault Entry f pc k) e p = absurd p
-  ends_reports x keeps none (outcome.RuleBroken i j r) e p = absurd p
-  ends_reports x keeps none (outcome.HandlerBroken i what) e p = absurd p
-  ends_reports x keeps none (outcome.TaintedRead i pc addr) e p = absurd p
-  ends_reports x keeps none (outcome.StackSpent i sp) e p = absurd p
-  ends_reports x keeps none (outcome.OutputFull k) e p =
-      let h : StopsBetween (thread_program listing (plain n)) (start image) x.config.n why.Full x.config =
-      kept listing image (plain n) x (Some (outcome.OutputFull k)) keeps e in
+  ends_reports : (x : Timed) → StaysInOrder listing image s x → x.acts ≡ [] → (o : Outcome) → x.outcome ≡ Some o → PlainlyEnds n x.config o
+      → x.ticks ≡ ended_in o → Tells n x (in_order listing image n)
+  ends_reports x keeps none outcome.OutOfTicks e p t = absurd p
+  ends_reports x keeps none (outcome.Halted reason k) e p t =
+      let h : HaltsAfter (thread_program listing s) (start image) reason k x.config = kept listing image s x (Some (outcome.Halted reason k)) keeps e in
+      within x k (Halted reason k h.between.order) p (halted_as listing image s reason k x.config h) tt
+      (record { report = reports_stop listing image s x (outcome.Halted reason k) h.before (why.Halt reason) e none h.between; ends = e; ticks = t })
+  ends_reports x keeps none (outcome.Fault Thread f pc k) e p t =
+      let h : FaultsAt (thread_program listing s) (start image) k f pc = kept listing image s x (Some (outcome.Fault Thread f pc k)) keeps e in
+      within x (k + 1) (Faulted f.kind pc f.addr k) (omega arith) (fault_as listing image s f pc k h) tt
+      (record { report = ap outcome_line e; ends = e; ticks = t })
+  ends_reports x keeps none (outcome.Fault Handler f pc k) e p t = absurd p
+  ends_reports x keeps none (outcome.Fault Entry f pc k) e p t = absurd p
+  ends_reports x keeps none (outcome.RuleBroken i j r) e p t = absurd p
+  ends_reports x keeps none (outcome.HandlerBroken i what) e p t = absurd p
+  ends_reports x keeps none (outcome.TaintedRead i pc addr) e p t = absurd p
+  ends_reports x keeps none (outcome.StackSpent i sp) e p t = absurd p
+  ends_reports x keeps none (outcome.OutputFull k) e p t =
+      let h : StopsBetween (thread_program listing s) (start image) x.config.n why.Full x.config
+      = kept listing image s x (Some (outcome.OutputFull k)) keeps e in
       let same : k ≡ x.config.n + 1 = p.1 in
       let ends = e ∙ ap (λ (i : ℕ). Some (outcome.OutputFull i)) same in
-      within x (x.config.n + 1) (Full (x.config.n + 1) h.order) (subst (λ (i : ℕ). i ≤ n) same p.0) (full_as listing image (plain n) x.config h) tt
-      (record { report = reports_stop listing image (plain n) x (outcome.OutputFull (x.config.n + 1)) x.config.n why.Full ends none h; ends = ends })
+      within x (x.config.n + 1) (Full (x.config.n + 1) h.order) (subst (λ (i : ℕ). i ≤ n) same p.0) (full_as listing image s x.config h) tt
+      (record {
+        report = reports_stop listing image s x (outcome.OutputFull (x.config.n + 1)) x.config.n why.Full ends none h;
+        ends = ends;
+        ticks = t ∙ same;
+      })
 
-  plain_reports : (x : Timed) → StaysInOrder listing image (plain n) x → x.acts ≡ [] → Plainly 0 n x → Tells x (in_order listing image n)
+  plain_reports : (x : Timed) → StaysInOrder listing image s x → x.acts ≡ [] → Plainly 0 n x → Tells n x (in_order listing image n)
   plain_reports x keeps none (inl h) = goes_reports x keeps none h
-  plain_reports x keeps none (inr h) = ends_reports x keeps none h.end h.outcome h.plainly
+  plain_reports x keeps none (inr h) = ends_reports x keeps none h.end h.outcome h.plainly h.ticks
 
-  tells : Tells (timed_out listing image (plain n)) (in_order listing image n)
+  pub tells : Tells n (timed_out listing image s) (in_order listing image n)
   tells =
-      let t = length (ticks_of (plain n).lines) in
-      plain_reports (timed_out listing image (plain n)) (keeps_order listing image (plain n) t) (no_acts listing image (plain n) t)
-      (plainly_out listing image n)
+      let t = length (ticks_of s.lines) in
+      plain_reports (timed_out listing image s) (keeps_order listing image s t) (no_acts listing image s t) (plainly_out listing image s n lines)
 
-  -- a plain run reports what the instructions in order come to
-  pub reports : PlainReport (timed_out listing image (plain n)) (in_order listing image n)
-  reports = tells.report
+-- a plain run reports what the instructions in order come to
+pub reports : (listing : Listing) (image : List Segment) (n : ℕ) → PlainReport (timed_out listing image (plain n)) (in_order listing image n)
+reports listing image n = (tells listing image (plain n) n refl).report
 
-  -- and it ends as they do
-  pub plain_ends : (timed_out listing image (plain n)).outcome ≡ Some (plain_end (in_order listing image n))
-  plain_ends = tells.ends
+-- and it ends as they do
+pub plain_ends : (listing : Listing) (image : List Segment) (n : ℕ) → (timed_out listing image (plain n)).outcome ≡ Some (plain_end (in_order listing image n))
+plain_ends listing image n = (tells listing image (plain n) n refl).ends

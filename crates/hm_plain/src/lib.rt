@@ -19,13 +19,13 @@ ghost use Rattle.hm_whole.specs.Watched.{view};
 ghost use Rattle.hm_run.specs.Stops as why;
 ghost use Rattle.hm_run.specs.Report.{memory_text, report_text};
 ghost use Rattle.hm_run.specs.Timed.{timed, timed_out};
-ghost use Rattle.hm_sched.specs.Schedule.{Sched, plain, ticks_of};
+ghost use Rattle.hm_sched.specs.Schedule.{Sched, plain, plain_lines, ticks_of};
 ghost use Rattle.hm_state.specs.Start.{start};
 ghost use Rattle.hm_state.specs.State.{State};
 ghost use Rattle.hm_plain.specs.Readings.{ShownAlike, ShownInOrder};
 ghost use Rattle.hm_plain.specs.Sequence.{StopsFrom, FaultsAt};
 ghost use Rattle.hm_plain.specs.Ends.{GoesOn, HasEnded};
-ghost use Rattle.hm_plain.specs.Orders.{HasStopped, StaysStopped, plain_end};
+ghost use Rattle.hm_plain.specs.Orders.{EndsPlainly, HasStopped, StaysStopped, plain_end};
 ghost use Rattle.hm_plain.specs.Overlap.{StaysInOrder};
 
 /// A run of n plain ticks ends as the first n instructions in order come to, and reports that; of a fault the first line.
@@ -36,6 +36,9 @@ pub fn plain_in_order()
     // While it goes on each tick retires one instruction.
     ensures retired { (listing : Listing) (image : List Segment) (n t : ℕ) → t ≤ n → GoesOn (timed listing image (plain n) t).outcome
         → ((timed listing image (plain n) t).config.n ≡ t) × ((timed listing image (plain n) t).config.a ≡ 0) }
+    // The same ticks end so under every region and all floors, and as many are begun as the instructions in order want.
+    ensures under { (listing : Listing) (image : List Segment) (s : Sched) (n : ℕ) → s.lines ≡ plain_lines n
+        → EndsPlainly n (timed_out listing image s) (in_order listing image n) }
 {}
 
 /// Where a run halts, under whatever schedule that has no entries, what is printed after it and its memory file are those of the

@@ -1,5 +1,10 @@
-use Rattle.hm_plain.proofs.Plain.{reports, plain_ends, retires}
+use Rattle.hm_plain.proofs.Plain.{reports, plain_ends, retires, tells}
 use Rattle.hm_plain.proofs.plain_in_order.Goals as goal
 
 pub returns : goal.returns
-returns c = record { report = reports; ends = plain_ends; retired = retires }
+returns c = record {
+  report = reports;
+  ends = plain_ends;
+  retired = retires;
+  under = λ listing image s n is. let told = tells listing image s n is in record { outcome = told.ends; ticks = told.ticks };
+}

@@ -6,7 +6,7 @@ use Rattle.hm_machine.proofs.Starts.{first_older, first_ticks, first_younger, ke
 use Rattle.hm_machine.specs.Checkpoints.{at_checkpoint}
 use Rattle.hm_machine.specs.Machines.{left_in, left_while, machine_view}
 use Rattle.hm_machine.specs.Shown.{Fixed, Shown, Shows, fixed_of, run_of}
-use Rattle.hm_machine.specs.Starts.{SameHead}
+use Rattle.hm_machine.specs.Starts.{SameBounds}
 use Rattle.hm_run.specs.Timed.{bounds_of}
 use Rattle.hm_sched.specs.Schedule.{Sched, most_irq, most_ticks}
 use Rattle.hm_machine.proofs.machine.Machine.again.Goals as goal
@@ -28,10 +28,10 @@ module _ (c : goal.After-drop-self-inside) where
   plan : c.self.inside.schedule ≡ c.args.self.now.schedule
   plan = ap (λ (v : Shown). v.schedule) there
 
-  -- under a schedule that says the same beside its ticks
-  module _ (u : Sched) (is : c.args.self.now.schedule ≡ u) (same : SameHead u c.args.s) where
+  -- under a schedule with the same region and floors
+  module _ (u : Sched) (is : c.args.self.now.schedule ≡ u) (same : SameBounds u c.args.s) where
     inside_bounds : bounds_of c.self.inside.schedule ≡ bounds_of c.args.s
-    inside_bounds = ap bounds_of (plan ∙ is) ∙ ap bounds_of same
+    inside_bounds = ap bounds_of (plan ∙ is) ∙ same
 
     bounds : put.places.bounds ≡ bounds_of c.args.s
     bounds = ap (λ (v : Shown). v.memory.around.bounds) (sym there) ∙ c.self.invariant.bounds ∙ inside_bounds
@@ -44,7 +44,7 @@ invariant_of-self c =
     let x = c.args.start.now in
     let from = c.requires.start.4 in
     let shows = c.requires.start.5 in
-    let same = c.requires.start.7 in
+    let same = c.requires.start.6 in
     let ticks : c.self.inside.ticks ≡ 0 = ap (λ (v : Shown). v.ticks) (there c) ∙ first_ticks image t x from in
     let older : c.self.inside.cpu.window.a ≡ 0 = ap (λ (v : Shown). v.a) (there c) ∙ first_older image t x from in
     let younger : c.self.inside.cpu.window.b ≡ 0 = ap (λ (v : Shown). v.b) (there c) ∙ first_younger image t x from in
@@ -65,7 +65,7 @@ invariant_of-self c =
 
 pub returns : goal.returns
 returns c = record {
-  shows = λ image t u k from shows head same.
+  shows = λ image t u k from shows same.
       let s = c.args.s in
       let o = c.first_outcome-self-inside.result in
       subst (Shows image s 0) (ap (λ (v : Shown). record v { outcome = o; schedule = s; left = left_while o (left_in (drop 0 s.lines) 0) }) (sym (there c)))
