@@ -1,5 +1,5 @@
--- Rows that load and store leave the exception number and the IT byte.
-use Rattle.std.proofs.Common.{ℕ, ◌+◌, ◌-◌, ◌*◌, ◌/◌, ◌%◌, ◌^◌, Bool, true, false, cond, not, List, length}
+-- Rows that load and store leave the exception number and the IT byte, and what they store has one, two or four bytes.
+use Rattle.std.proofs.Common.{ℕ, ◌+◌, ◌-◌, ◌*◌, ◌/◌, ◌%◌, ◌^◌, Bool, true, false, cond, not, List, length, refl, inl, inr}
 use Rattle.std.specs.Prelude.{◌&&◌, nat_eq, nat_le, slice_index}
 use Rattle.hm_base.specs.declared.FaultKind.TheVariants.{InvState}
 use Rattle.hm_isa.specs.Rules.{listed_in}
@@ -15,6 +15,7 @@ use Rattle.hm_isa.specs.declared.wide.StackName.{StackName}
 use Rattle.hm_isa.specs.declared.wide.StackName.TheVariants as stack
 use Rattle.hm_isa.specs.declared.wide.T12.{T12}
 use Rattle.hm_isa.specs.declared.wide.T12.TheVariants as t12_
+use Rattle.hm_mem.specs.Devices.{IsLen}
 use Rattle.hm_regs.specs.declared.Regs.{Regs}
 use Rattle.hm_thumb.specs.MemoryRows.{access_row, list_row, load_list, loaded, other_end, pair_row, put_all, registers, stack_row, store_list, t12}
 use Rattle.hm_thumb.specs.MemoryRows.{wide_list_row}
@@ -25,6 +26,9 @@ use Rattle.hm_thumb.specs.declared.Way.TheVariants as way
 use Rattle.hm_handlers.specs.Blocks.{EndsKeep}
 use Rattle.hm_handlers.proofs.Choices.{either}
 use Rattle.hm_handlers.proofs.Registers.{Same, all-same, words-same}
+
+four : IsLen 4
+four = inr (inr refl)
 
 module _ (r : Regs) where
   pub blx-keep : (x : ℕ) (q : Regs) → Same r q → EndsKeep r (blx_write x q)
@@ -37,9 +41,9 @@ module _ (r : Regs) where
   loaded-keep t x q h = either (EndsKeep r) (nat_eq t 15) (bx_write x q) (goes (put t x q)) (bx-keep x q h) h
 
   pub access-keep : (name : AccessName) (t a : ℕ) (back : Regs → Regs) (q : Regs) → Same r (back q) → EndsKeep r (access_row name t a back q)
-  access-keep access.Str t a back q h = h
-  access-keep access.Strh t a back q h = h
-  access-keep access.Strb t a back q h = h
+  access-keep access.Str t a back q h = (four, h)
+  access-keep access.Strh t a back q h = (inr (inl refl), h)
+  access-keep access.Strb t a back q h = (inl refl, h)
   access-keep access.Ldrsb t a back q h = λ xs. loaded-keep t (sign_extended 8 (slice_index xs 0)) (back q) h
   access-keep access.Ldr t a back q h = λ xs. loaded-keep t (slice_index xs 0) (back q) h
   access-keep access.Ldrh t a back q h = λ xs. loaded-keep t (slice_index xs 0) (back q) h
@@ -54,7 +58,7 @@ module _ (r : Regs) where
 
   -- lists of registers
   stored-keep : (upward w : Bool) (n : ℕ) (ns : List ℕ) (q : Regs) → Same r q → EndsKeep r (store_list upward w n ns q)
-  stored-keep upward w n ns q h = either (Same r) w _ _ h h
+  stored-keep upward w n ns q h = (four, either (Same r) w _ _ h h)
 
   branched-keep : (pc x : ℕ) (q : Regs) → Same r q → EndsKeep r (cond (nat_eq pc 1) (bx_write x q) (goes q))
   branched-keep pc x q h = either (EndsKeep r) (nat_eq pc 1) (bx_write x q) (goes q) (bx-keep x q h) h
@@ -80,9 +84,9 @@ module _ (r : Regs) where
 
   -- pairs, and vector registers on the stack
   pub pair-keep : (name : PairName) (w : Bool) (n t u to a : ℕ) (q : Regs) → Same r q → EndsKeep r (pair_row name w n t u to a q)
-  pair-keep pair.Strd w n t u to a q h = either (Same r) w _ _ h h
+  pair-keep pair.Strd w n t u to a q h = (four, either (Same r) w _ _ h h)
   pair-keep pair.Ldrd w n t u to a q h = λ xs. either (Same r) w _ _ h h
 
   pub stack-keep : (name : StackName) (j n : ℕ) (q : Regs) → Same r q → EndsKeep r (stack_row name j n q)
-  stack-keep stack.Vpush j n q h = h
+  stack-keep stack.Vpush j n q h = (four, h)
   stack-keep stack.Vpop j n q h = λ xs. words-same r j xs q h

@@ -12,12 +12,14 @@ use Rattle.hm_mem.specs.Seen.{stop_of, unless}
 use Rattle.hm_mem.specs.declared.Access.{Access}
 use Rattle.hm_order.proofs.Results.{decide, ok_err, ok_same, true_not_false}
 use Rattle.hm_state.specs.State.{State, Byte, regs_of}
+use Rattle.hm_regs.specs.declared.Regs.{Regs}
 use Rattle.hm_thumb.specs.Does.{Does, Ends, Faults, Loads, Stores, Done, after_loads, after_stores, behind, first_stop, in_machine, run, words}
 use Rattle.hm_thumb.specs.Laws.{under_handler}
 use Rattle.hm_thumb.specs.Rows.{in_block, width}
 use Rattle.hm_thumb.specs.Steps.{Stepped, finish, step}
 use Rattle.hm_whole.specs.Whole.{Went, goes_from, scalar_in_machine, seen_in, state_with}
-use Rattle.hm_handlers.proofs.Sized.{IsSized, stores_sized}
+use Rattle.hm_handlers.specs.Blocks.{EndsKeep}
+use Rattle.hm_handlers.proofs.Instructions.{block-keep}
 
 -- a byte that is tainted in t is tainted in s, or one of these
 abbrev pub SeenGrows : (ℕ → Type 0) → Seen → Seen → Type 0
@@ -168,15 +170,15 @@ module _ (x : Around) (P : ℕ → Type 0)
   unless_grows s (Some e) r h = tt
   unless_grows s None r h = h refl
 
-  run_grows : (d : Does) → IsSized d → (s : Seen) → DoneGrows s (run (in_machine x) d s)
-  run_grows (Ends w r) is s = seen_none P s
-  run_grows (Faults k a) is s = tt
-  run_grows (Loads how len n a f) is s =
+  run_grows : (r : Regs) (d : Does) → EndsKeep r d → (s : Seen) → DoneGrows s (run (in_machine x) d s)
+  run_grows r (Ends w q) is s = seen_none P s
+  run_grows r (Faults k a) is s = tt
+  run_grows r (Loads how len n a f) is s =
       unless_grows s _ _ (λ e. later s (after_loads len n a s) _ (λ b h. inl (sym (loads_taint len n a s b) ∙ h))
-      (run_grows (f (words len n a s)) (is (words len n a s)) (after_loads len n a s)))
-  run_grows (Stores how len a xs d) is s =
+      (run_grows r (f (words len n a s)) (is (words len n a s)) (after_loads len n a s)))
+  run_grows r (Stores how len a xs d) is s =
       unless_grows s _ _ (λ e. later s (after_stores (marks x.actor) len a xs s) _ (stores_grow how len a xs s s is.0 e)
-      (run_grows d is.1 (after_stores (marks x.actor) len a xs s)))
+      (run_grows r d is.1 (after_stores (marks x.actor) len a xs s)))
 
   finish_grows : (n : ℕ) (s : Seen) (r : Result Done Stop) → DoneGrows s r → (y : Stepped) → finish n r ≡ Ok y → SeenGrows P s y.seen
   finish_grows n s (Ok d) h y e = subst (λ (z : Stepped). SeenGrows P s z.seen) (ok_same e) h
@@ -192,7 +194,7 @@ module _ (x : Around) (P : ℕ → Type 0)
   scalar_grows i s y e =
       goes_grows s (step (in_machine x) i (regs_of s) (seen_in s))
       (λ z f. finish_grows (width i) (seen_in s) (run (in_machine x) (in_block i (regs_of s)) (seen_in s))
-      (run_grows (in_block i (regs_of s)) (stores_sized i (regs_of s)) (seen_in s)) z f) y e
+      (run_grows (regs_of s) (in_block i (regs_of s)) (block-keep i (regs_of s)) (seen_in s)) z f) y e
 
 pub handler_scalar : (frame : ℕ) (bounds : Bounds) (i : Instr) (s : State) (y : Went) → scalar_in_machine (under_handler frame bounds) i s ≡ Ok y
     → Grows (Allowed frame bounds) s y.state

@@ -63,7 +63,7 @@ module _ {E : Type 0} (R : Runner E) where
       if_done (Kept r) (first_stop R how false len n a s) (run R (f xs) t) (run-keep r (f xs) t (h xs))
   run-keep r (Stores how len a xs d) s h =
       let t = after_stores R.marks len a xs s in
-      if_done (Kept r) (first_stop R how true len (length xs) a s) (run R d t) (run-keep r d t h)
+      if_done (Kept r) (first_stop R how true len (length xs) a s) (run R d t) (run-keep r d t h.1)
 
   finish-number : (bytes : ℕ) (r : Regs) (x : Result Done E) → IfOk x (Kept r) → IfOk (finish bytes x) (λ y. y.regs.ipsr ≡ r.ipsr)
   finish-number bytes r (Ok d) h = settled-number bytes d.way r d.regs h

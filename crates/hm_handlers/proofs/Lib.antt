@@ -11,7 +11,6 @@ pub mod Order
 pub mod Whole
 pub mod Alike
 pub mod Quiet
-pub mod Sized
 pub mod Growing
 pub mod Written
 pub mod Growth

@@ -1,5 +1,6 @@
--- The exception number, the IT byte and the stack of a handler: what they are at each end of an instruction.
+-- What an instruction leaves: the exception number, the IT byte and the stack of a handler at each end; and how long what it stores is.
 use Rattle.std.specs.Prelude.{◌≡◌, ◌≢◌, ℕ, ◌%◌, ◌<◌, List}
+use Rattle.hm_mem.specs.Devices.{IsLen}
 use Rattle.hm_regs.specs.declared.Regs.{Regs}
 use Rattle.hm_thumb.specs.Does.{Does, Ends, Faults, Loads, Stores}
 use Rattle.hm_thumb.specs.declared.Way.{Way}
@@ -15,9 +16,9 @@ abbrev pub KeepsBlock : Way → Regs → Regs → Type 0
 KeepsBlock way.Opens r q = (q.ipsr ≡ r.ipsr) × (q.it < 256) × (q.it % 16 ≢ 0) × (r.ipsr ≢ 0 → q.spsel ≡ r.spsel)
 KeepsBlock w r q = (q.ipsr ≡ r.ipsr) × (q.it ≡ r.it) × (r.ipsr ≢ 0 → q.spsel ≡ r.spsel)
 
--- so it is at every end of a program of accesses, whatever numbers it loads
+-- so it is at every end of a program of accesses, whatever numbers it loads; and each number that it stores has one, two or four bytes
 abbrev pub EndsKeep : Regs → Does → Type 0
 EndsKeep r (Ends w q) = KeepsBlock w r q
 EndsKeep r (Faults kind a) = Unit {0}
 EndsKeep r (Loads how len n a f) = (xs : List ℕ) → EndsKeep r (f xs)
-EndsKeep r (Stores how len a xs d) = EndsKeep r d
+EndsKeep r (Stores how len a xs d) = IsLen len × EndsKeep r d

@@ -1,5 +1,5 @@
 //! What every instruction that is no vector row leaves: the exception number; an IT byte that an exception may be entered with; a handler
-//! on the main stack; and priorities of three bits. The functions are laws: they do nothing, and their clauses are what is proved of the definitions.
+//! on the main stack; stores of one, two or four bytes; and priorities of three bits. The functions are laws: they do nothing, and their clauses are what is proved of the definitions.
 
 ghost use Rattle.std.specs.Prelude.{◌≡◌, IfOk};
 ghost use Rattle.hm_base.specs.declared.Fault.{Fault};
@@ -16,7 +16,8 @@ ghost use Rattle.hm_thumb.specs.Rows.{instr_does};
 ghost use Rattle.hm_thumb.specs.Steps.{step};
 
 /// At every end of an instruction the exception number is what it was; and the IT byte, but where the instruction opens a block:
-/// then it is a byte, and has a bit among its lowest four. In a handler it stays which stack a thread uses.
+/// then it is a byte, and has a bit among its lowest four. In a handler it stays which stack a thread uses. Each number that it stores has
+/// one, two or four bytes.
 pub fn rows_keep()
     ensures ends { (i : Instr) (r : Regs) → EndsKeep r (instr_does i r) }
 {}
