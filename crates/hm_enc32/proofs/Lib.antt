@@ -1,3 +1,1 @@
-pub mod Refused
-pub mod RefusedData
 pub mod Halves

@@ -5,34 +5,17 @@ ghost use Rattle.std.specs.Prelude.{◌≡◌, ◌↔◌, Some, IfSome, IfNone};
 ghost use Rattle.hm_isa.specs.declared.Vector.{Vector};
 ghost use Rattle.hm_isa.specs.Code.{vector_code};
 
-mod fields;
-mod memory;
-mod ones;
-mod pairs;
-mod predicate;
-mod registers;
-mod shifts;
-mod sums;
-
+use hm_encv_memory::{decode_memory, encode_v24, encode_v25, encode_v26, encode_v27, encode_v28};
+use hm_encv_registers::{
+    decode_predicate, decode_register, decode_total, encode_v10, encode_v17, encode_v18,
+    encode_v19, encode_v20, encode_v21, encode_v22, encode_v23,
+};
+use hm_encv_vectors::{
+    decode_one, decode_pair, decode_v11, encode_v1, encode_v2, encode_v3, encode_v4, encode_v5,
+    encode_v6, encode_v7, encode_v8, encode_v9, encode_v11, encode_v12, encode_v13, encode_v14,
+    encode_v15, encode_v16,
+};
 use hm_isa::Vector;
-use memory::{decode_memory, encode_v24, encode_v25, encode_v26, encode_v27, encode_v28};
-use ones::{decode_one, encode_v12, encode_v13, encode_v14, encode_v15, encode_v16};
-pub use ones::{base_of_narrow, base_of_one, base_of_reverse};
-pub use pairs::{
-    base_of_add, base_of_bitwise, base_of_carry, base_of_doubling, base_of_high, base_of_signed,
-    base_of_turn, base_of_vector_shift,
-};
-use pairs::{
-    decode_pair, encode_v1, encode_v2, encode_v3, encode_v4, encode_v5, encode_v6, encode_v7,
-    encode_v8, encode_v9,
-};
-use predicate::{decode_predicate, encode_v20, encode_v21};
-pub use registers::{base_of_dup, base_of_offsets, base_of_scalar};
-use registers::{decode_register, encode_v10, encode_v17, encode_v18, encode_v19};
-pub use shifts::base_of_shift;
-use shifts::{decode_v11, encode_v11};
-pub use sums::{base_of_dot, base_of_extreme};
-use sums::{decode_total, encode_v22, encode_v23};
 
 /// The instruction of the table of vector instructions whose code is w.
 fn find(w: u32) -> Option<Vector>

@@ -7,10 +7,11 @@ ghost use Rattle.hm_textv.specs.Bases.{product_base, quad_base, right_base, scal
 ghost use Rattle.hm_textv.specs.Bases.{store_in, sum_in, three_base, complex_sum_base_in, vector_shift_base_in, wrapped_base_in};
 ghost use Rattle.hm_text_rows.specs.Operands.{first};
 
-use hm_encv::{
-    base_of_add, base_of_bitwise, base_of_carry, base_of_doubling, base_of_extreme, base_of_high,
-    base_of_narrow, base_of_offsets, base_of_one, base_of_reverse, base_of_scalar, base_of_shift,
-    base_of_signed, base_of_turn, base_of_vector_shift,
+use hm_encv_registers::{base_of_extreme, base_of_offsets, base_of_scalar};
+use hm_encv_vectors::{
+    base_of_add, base_of_bitwise, base_of_carry, base_of_doubling, base_of_high, base_of_narrow,
+    base_of_one, base_of_reverse, base_of_shift, base_of_signed, base_of_turn,
+    base_of_vector_shift,
 };
 use hm_isa::{
     AddName, BitwiseName, CarryName, ComplexSumName, ConstantShiftName, DoublingName, ExtremeName,

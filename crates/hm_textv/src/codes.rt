@@ -20,7 +20,7 @@ use crate::bases::{
     wrapped_base_in,
 };
 use crate::operands::{Operands, read_operands};
-use hm_encv::{base_of_dot, base_of_dup};
+use hm_encv_registers::{base_of_dot, base_of_dup};
 use hm_isa::Element;
 use hm_text_base::span;
 use hm_tokens::Token;

@@ -1,0 +1,9 @@
+//! The codes of two halfwords of branches, special registers, barriers, and moves of a lane, T16 to T19 and T21 to T23, read and
+//! written: DDI0553, "T32 instruction set encoding", the 32-bit codes.
+#![tactic(auto)]
+
+mod jumps;
+mod system;
+
+pub use jumps::{branch_code, find_branch};
+pub use system::{encode_t18, encode_t19, encode_t21, encode_t22, find_system};

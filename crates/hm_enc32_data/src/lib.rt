@@ -1,0 +1,14 @@
+//! The codes of two halfwords of rows of data processing, T1 to T11 and T20, read and written: DDI0553, "T32 instruction set encoding",
+//! the 32-bit codes.
+#![tactic(auto)]
+
+mod arith;
+mod decode_data;
+mod decode_fields;
+mod encode_data;
+
+pub use arith::{encode_t8, encode_t9, encode_t10, encode_t11, encode_t20, find_arith};
+pub use decode_data::find_data;
+pub use encode_data::{
+    encode_t1, encode_t2, encode_t3, encode_t4, encode_t5, encode_t6, encode_t7,
+};
