@@ -16,7 +16,7 @@ ghost use Rattle.hm_isa.specs.JumpCodes.{code_wide_conditional, wide_branch_base
 ghost use Rattle.hm_isa.specs.JumpCodes.{code_wls, code_dlstp, code_wlstp, loop_end_base, code_loop_end, code_t23};
 ghost use Rattle.hm_isa.specs.Code.{branch_halves, two_halves};
 
-use hm_code_fields::is_general;
+use hm_code_fields::{bits, is_general};
 use hm_isa::{
     Below, Branch, Dls, Dlstp, LoopEnd, LoopEndName, T16, T17, T23, TableName, WideAlways,
     WideBranchName, WideConditional, Wls, Wlstp,
@@ -27,12 +27,12 @@ fn decode_wide_conditional(w: u32) -> Option<WideConditional>
     ensures found { IfSome result (λ r. code_wide_conditional r ≡ w) }
     ensures none { IfNone result ((r : WideConditional) → code_wide_conditional r ≡ w → ⊥) }
 {
-    let s = (w >> 26) & 1;
-    let c = (w >> 22) & 15;
-    let i6 = (w >> 16) & 63;
-    let j1 = (w >> 13) & 1;
-    let j2 = (w >> 11) & 1;
-    let i11 = w & 2047;
+    let s = bits(w, 26, 1);
+    let c = bits(w, 22, 4);
+    let i6 = bits(w, 16, 6);
+    let j1 = bits(w, 13, 1);
+    let j2 = bits(w, 11, 1);
+    let i11 = bits(w, 0, 11);
     if c >= 14 {
         return None;
     }
@@ -54,11 +54,11 @@ fn decode_wide_always(w: u32) -> Option<WideAlways>
     ensures found { IfSome result (λ r. code_wide_always r ≡ w) }
     ensures none { IfNone result ((r : WideAlways) → code_wide_always r ≡ w → ⊥) }
 {
-    let s = (w >> 26) & 1;
-    let i10 = (w >> 16) & 1023;
-    let j1 = (w >> 13) & 1;
-    let j2 = (w >> 11) & 1;
-    let i11 = w & 2047;
+    let s = bits(w, 26, 1);
+    let i10 = bits(w, 16, 10);
+    let j1 = bits(w, 13, 1);
+    let j2 = bits(w, 11, 1);
+    let i11 = bits(w, 0, 11);
     let name = match w - (s << 26) - (i10 << 16) - (j1 << 13) - (j2 << 11) - i11 {
         0xf000_9000 => WideBranchName::B,
         0xf000_d000 => WideBranchName::Bl,
@@ -93,8 +93,8 @@ fn decode_t17(w: u32) -> Option<T17>
     ensures found { IfSome result (λ r. code_t17 r ≡ w) }
     ensures none { IfNone result ((r : T17) → code_t17 r ≡ w → ⊥) }
 {
-    let n = (w >> 16) & 15;
-    let m = w & 15;
+    let n = bits(w, 16, 4);
+    let m = bits(w, 0, 4);
     if n == 13 || !is_general(m) {
         return None;
     }
@@ -115,7 +115,7 @@ fn decode_dls(w: u32) -> Option<Dls>
     ensures found { IfSome result (λ r. code_dls r ≡ w) }
     ensures none { IfNone result ((r : Dls) → code_dls r ≡ w → ⊥) }
 {
-    let n = (w >> 16) & 15;
+    let n = bits(w, 16, 4);
     if !is_general(n) || w - (n << 16) != 0xf040_e001 {
         return None;
     }
@@ -127,7 +127,7 @@ fn label_in(w: u32) -> u32
     ensures value { result ≡ w / 2 % 1024 * 2 + w / 2048 % 2 }
     ensures small { result < 2048 }
 {
-    ((w >> 1) & 1023) * 2 + ((w >> 11) & 1)
+    bits(w, 1, 10) * 2 + bits(w, 11, 1)
 }
 
 /// The field of a label, half the distance to which is v.
@@ -144,7 +144,7 @@ fn decode_wls(w: u32) -> Option<Wls>
     ensures found { IfSome result (λ r. code_wls r ≡ w) }
     ensures none { IfNone result ((r : Wls) → code_wls r ≡ w → ⊥) }
 {
-    let n = (w >> 16) & 15;
+    let n = bits(w, 16, 4);
     let v = label_in(w);
     if !is_general(n) || w - (n << 16) - label_field(v) != 0xf040_c001 {
         return None;
@@ -160,8 +160,8 @@ fn decode_dlstp(w: u32) -> Option<Dlstp>
     ensures found { IfSome result (λ r. code_dlstp r ≡ w) }
     ensures none { IfNone result ((r : Dlstp) → code_dlstp r ≡ w → ⊥) }
 {
-    let z = (w >> 20) & 3;
-    let n = (w >> 16) & 15;
+    let z = bits(w, 20, 2);
+    let n = bits(w, 16, 4);
     if !is_general(n) || w - (z << 20) - (n << 16) != 0xf000_e001 {
         return None;
     }
@@ -176,8 +176,8 @@ fn decode_wlstp(w: u32) -> Option<Wlstp>
     ensures found { IfSome result (λ r. code_wlstp r ≡ w) }
     ensures none { IfNone result ((r : Wlstp) → code_wlstp r ≡ w → ⊥) }
 {
-    let z = (w >> 20) & 3;
-    let n = (w >> 16) & 15;
+    let z = bits(w, 20, 2);
+    let n = bits(w, 16, 4);
     let v = label_in(w);
     if !is_general(n) {
         return None;

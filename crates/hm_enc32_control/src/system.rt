@@ -18,7 +18,7 @@ ghost use Rattle.hm_isa.specs.SystemCodes.{read_base, code_mrs, written_base, co
 ghost use Rattle.hm_isa.specs.SystemCodes.{code_t21, lane_move_base, code_t22};
 ghost use Rattle.hm_isa.specs.Code.{scalar_halves, two_halves};
 
-use hm_code_fields::is_general;
+use hm_code_fields::{bits, is_general};
 use hm_isa::{
     Barrier, BarrierName, Below, LaneMoveName, Mrs, Msr, ReadName, Scalar, SystemMoveName, T18,
     T19, T21, T22, WrittenName,
@@ -46,7 +46,7 @@ fn decode_mrs(w: u32) -> Option<Mrs>
     ensures found { IfSome result (λ r. code_mrs r ≡ w) }
     ensures none { IfNone result ((r : Mrs) → code_mrs r ≡ w → ⊥) }
 {
-    let d = (w >> 8) & 15;
+    let d = bits(w, 8, 4);
     if !is_general(d) {
         return None;
     }
@@ -79,7 +79,7 @@ fn decode_msr(w: u32) -> Option<Msr>
     ensures found { IfSome result (λ r. code_msr r ≡ w) }
     ensures none { IfNone result ((r : Msr) → code_msr r ≡ w → ⊥) }
 {
-    let n = (w >> 16) & 15;
+    let n = bits(w, 16, 4);
     if !is_general(n) {
         return None;
     }
@@ -123,7 +123,7 @@ fn decode_barrier(w: u32) -> Option<Barrier>
     ensures found { IfSome result (λ r. code_barrier r ≡ w) }
     ensures none { IfNone result ((r : Barrier) → code_barrier r ≡ w → ⊥) }
 {
-    let o = w & 15;
+    let o = bits(w, 0, 4);
     let rest = w - o;
     let name = barrier_name(rest)?;
     Some(Barrier {
@@ -177,7 +177,7 @@ fn decode_t21(w: u32) -> Option<T21>
     ensures found { IfSome result (λ r. code_t21 r ≡ w) }
     ensures none { IfNone result ((r : T21) → code_t21 r ≡ w → ⊥) }
 {
-    let t = (w >> 12) & 15;
+    let t = bits(w, 12, 4);
     let name = system_move_name(w - (t << 12))?;
     if !may_be_system_move(name, t) {
         return None;
@@ -205,10 +205,10 @@ fn decode_t22(w: u32) -> Option<T22>
     ensures found { IfSome result (λ r. code_t22 r ≡ w) }
     ensures none { IfNone result ((r : T22) → code_t22 r ≡ w → ⊥) }
 {
-    let low = (w >> 21) & 1;
-    let q = (w >> 17) & 7;
-    let high = (w >> 16) & 1;
-    let t = (w >> 12) & 15;
+    let low = bits(w, 21, 1);
+    let q = bits(w, 17, 3);
+    let high = bits(w, 16, 1);
+    let t = bits(w, 12, 4);
     if !is_general(t) {
         return None;
     }

@@ -1,7 +1,5 @@
 -- Codes whose fields break the rule of one of the rows T1 to T7, or of `mla` and `mls`.
-use Rattle.std.proofs.Common.{◌≡◌, ◌+◌, ◌-◌, ◌*◌, ◌^◌, ℕ, true, false, List, [], ◌∷◌, refl, arith, sym, ◌∙◌, ap}
-use denote.Struct.Declared as struct
-use denote.Enum.Declared as enum
+use Rattle.std.proofs.Common.{◌≡◌, ◌+◌, ◌-◌, ◌*◌, ◌^◌, ℕ, true, false, [], ◌∷◌, refl, arith}
 use Rattle.hm_isa.specs.Rules.{is_general, is_accumulated}
 use Rattle.hm_isa.specs.DataRules.{is_constant_row, is_shifted_row, is_wide_sum, is_saturated, is_bit_field, is_inserted}
 use Rattle.hm_isa.specs.DataCodes.{operation, code_t1, code_t2, code_t3, code_t4, code_t5, code_t6, code_t7}
@@ -15,21 +13,11 @@ use Rattle.hm_isa.specs.declared.data.T4.{T4}
 use Rattle.hm_isa.specs.declared.data.T5.{T5}
 use Rattle.hm_isa.specs.declared.data.T6.{T6}
 use Rattle.hm_isa.specs.declared.data.T7.{T7}
-use Rattle.hm_layout.proofs.Places.{Place, digits}
-use Rattle.hm_layout.proofs.Rows.{Row, is_row, row_digits, named, Named, plain, Plain, places_after, places_of}
+use Rattle.hm_layout.proofs.Places.{digits}
+use Rattle.hm_layout.proofs.Rows.{named, plain}
+use Rattle.hm_code_fields.proofs.AtPlaces.{places_named, places_plain, read}
 use Rattle.hm_codes.proofs.ArithRows.{row_accumulate}
 use Rattle.hm_codes.proofs.DataRows.{row_t1, row_t2, row_t3, row_t4, row_t5, row_t6, row_t7}
-
--- the places of a row of several names, and of one
-abbrev pub places_named : {T : struct.Declared} {E : enum.Record} {code : T.D → ℕ} {base : E.D → ℕ} → Named T E code base → List Place
-places_named {T = T} {E = E} row = places_after E T.parts row.layout
-
-abbrev pub places_plain : {T : struct.Declared} {code : T.D → ℕ} → Plain T code → List Place
-places_plain {T = T} row = places_of T.parts row.layout
-
--- what stands at a row's places in the code of one of its values
-read : {R : Type 0} (row : Row R) → is_row row ≡ true → (w : ℕ) (r : R) → row.code r ≡ w → digits (row.places (row.name r)) w ≡ row.numbers r
-read row e w r is = ap (digits (row.places (row.name r))) (sym is) ∙ row_digits row e r
 
 same_operation : (x y : DataName) → operation x ≡ operation y → x ≡ y
 same_operation x y e = grind arith

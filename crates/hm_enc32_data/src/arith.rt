@@ -21,8 +21,7 @@ ghost use Rattle.hm_isa.specs.ArithCodes.{wide_shift_base, code_t8, wide_extend_
 ghost use Rattle.hm_isa.specs.ArithCodes.{accumulate_base, code_accumulate, long_product_base, code_long_product, code_t11, select_base, code_t20};
 ghost use Rattle.hm_isa.specs.Code.{scalar_halves, two_halves};
 
-use hm_base::bits;
-use hm_code_fields::is_general;
+use hm_code_fields::{bits, is_general};
 use hm_isa::{
     Accumulate, AccumulateName, Below, BitsName, ExtendName, LongProduct, LongProductName,
     Operation, OperationName, Scalar, SelectName, T8, T9, T10, T11, T20, WideShiftName,
@@ -47,10 +46,10 @@ fn decode_t8(w: u32) -> Option<T8>
     ensures found { IfSome result (λ r. code_t8 r ≡ w) }
     ensures none { IfNone result ((r : T8) → code_t8 r ≡ w → ⊥) }
 {
-    let s = (w >> 20) & 1;
-    let n = (w >> 16) & 15;
-    let d = (w >> 8) & 15;
-    let m = w & 15;
+    let s = bits(w, 20, 1);
+    let n = bits(w, 16, 4);
+    let d = bits(w, 8, 4);
+    let m = bits(w, 0, 4);
     if !is_general(n) || !is_general(d) || !is_general(m) {
         return None;
     }
@@ -84,9 +83,9 @@ fn decode_t9(w: u32) -> Option<T9>
     ensures found { IfSome result (λ r. code_t9 r ≡ w) }
     ensures none { IfNone result ((r : T9) → code_t9 r ≡ w → ⊥) }
 {
-    let d = (w >> 8) & 15;
-    let r = (w >> 4) & 3;
-    let m = w & 15;
+    let d = bits(w, 8, 4);
+    let r = bits(w, 4, 2);
+    let m = bits(w, 0, 4);
     if !is_general(d) || !is_general(m) {
         return None;
     }
@@ -120,9 +119,9 @@ fn decode_t10(w: u32) -> Option<T10>
     ensures found { IfSome result (λ r. code_t10 r ≡ w) }
     ensures none { IfNone result ((r : T10) → code_t10 r ≡ w → ⊥) }
 {
-    let d = (w >> 8) & 15;
-    let m = w & 15;
-    if (w >> 16) & 15 != m || !is_general(d) || !is_general(m) {
+    let d = bits(w, 8, 4);
+    let m = bits(w, 0, 4);
+    if bits(w, 16, 4) != m || !is_general(d) || !is_general(m) {
         return None;
     }
     let rest = w - (m << 16) - (d << 8) - m;
@@ -152,9 +151,9 @@ fn decode_operation(w: u32) -> Option<Operation>
     ensures found { IfSome result (λ r. code_operation r ≡ w) }
     ensures none { IfNone result ((r : Operation) → code_operation r ≡ w → ⊥) }
 {
-    let n = (w >> 16) & 15;
-    let d = (w >> 8) & 15;
-    let m = w & 15;
+    let n = bits(w, 16, 4);
+    let d = bits(w, 8, 4);
+    let m = bits(w, 0, 4);
     if !is_general(n) || !is_general(d) || !is_general(m) {
         return None;
     }
@@ -188,15 +187,14 @@ fn may_accumulate(n: u32, a: u32, d: u32, m: u32) -> bool
 }
 
 /// `mla`, `mls rd,rn,rm,ra`
-#[tactic(auto, unfolding(hm_base::specs::Bits::field))]
 fn decode_accumulate(w: u32) -> Option<Accumulate>
     ensures found { IfSome result (λ r. code_accumulate r ≡ w) }
     ensures none { IfNone result ((r : Accumulate) → code_accumulate r ≡ w → ⊥) }
 {
-    let n = bits(w, 19, 16);
-    let a = bits(w, 15, 12);
-    let d = bits(w, 11, 8);
-    let m = bits(w, 3, 0);
+    let n = bits(w, 16, 4);
+    let a = bits(w, 12, 4);
+    let d = bits(w, 8, 4);
+    let m = bits(w, 0, 4);
     if !may_accumulate(n, a, d, m) {
         return None;
     }
@@ -230,10 +228,10 @@ fn decode_long_product(w: u32) -> Option<LongProduct>
     ensures found { IfSome result (λ r. code_long_product r ≡ w) }
     ensures none { IfNone result ((r : LongProduct) → code_long_product r ≡ w → ⊥) }
 {
-    let n = (w >> 16) & 15;
-    let l = (w >> 12) & 15;
-    let h = (w >> 8) & 15;
-    let m = w & 15;
+    let n = bits(w, 16, 4);
+    let l = bits(w, 12, 4);
+    let h = bits(w, 8, 4);
+    let m = bits(w, 0, 4);
     if l == h || !is_general(n) || !is_general(l) || !is_general(h) || !is_general(m) {
         return None;
     }
@@ -284,10 +282,10 @@ fn decode_t20(w: u32) -> Option<T20>
     ensures found { IfSome result (λ r. code_t20 r ≡ w) }
     ensures none { IfNone result ((r : T20) → code_t20 r ≡ w → ⊥) }
 {
-    let n = (w >> 16) & 15;
-    let d = (w >> 8) & 15;
-    let c = (w >> 4) & 15;
-    let m = w & 15;
+    let n = bits(w, 16, 4);
+    let d = bits(w, 8, 4);
+    let c = bits(w, 4, 4);
+    let m = bits(w, 0, 4);
     if n == 13 || c > 13 || m == 13 || !is_general(d) {
         return None;
     }

@@ -12,8 +12,7 @@ ghost use Rattle.hm_isa.specs.Code.{scalar_halves, two_halves};
 ghost use Rattle.hm_enc32_data.specs.DataRows.{IsNoData};
 
 use crate::decode_fields::{decode_t5, decode_t6, decode_t7};
-use hm_base::bits;
-use hm_code_fields::is_general;
+use hm_code_fields::{bits, is_general};
 use hm_isa::{Below, DataName, HalfName, Scalar, SumName, T1, T2, T3, T4};
 
 /// The operation of the row T1 or T2 with this base whose code without its other fields is `rest`.
@@ -85,17 +84,16 @@ fn may_be_t1(x: DataName, s: u32, n: u32, d: u32, i: u32, i3: u32, byte: u32) ->
 }
 
 /// `and.w rd,rn,#c` and so on
-#[tactic(auto, unfolding(hm_base::specs::Bits::field))]
 fn decode_t1(w: u32) -> Option<T1>
     ensures found { IfSome result (λ r. code_t1 r ≡ w) }
     ensures none { IfNone result ((r : T1) → code_t1 r ≡ w → ⊥) }
 {
-    let s = bits(w, 20, 20);
-    let n = bits(w, 19, 16);
-    let d = bits(w, 11, 8);
-    let i = bits(w, 26, 26);
-    let i3 = bits(w, 14, 12);
-    let byte = bits(w, 7, 0);
+    let s = bits(w, 20, 1);
+    let n = bits(w, 16, 4);
+    let d = bits(w, 8, 4);
+    let i = bits(w, 26, 1);
+    let i3 = bits(w, 12, 3);
+    let byte = bits(w, 0, 8);
     let rest = w - (s << 20) - (n << 16) - (d << 8) - (i << 26) - (i3 << 12) - byte;
     let name = data_name(0xf000_0000, rest)?;
     if !may_be_t1(name, s, n, d, i, i3, byte) {
@@ -140,18 +138,17 @@ fn may_be_t2(x: DataName, s: u32, n: u32, d: u32, i3: u32, i2: u32, ty: u32, m: 
 }
 
 /// `and.w rd,rn,rm,lsl #k` and so on
-#[tactic(auto, unfolding(hm_base::specs::Bits::field))]
 fn decode_t2(w: u32) -> Option<T2>
     ensures found { IfSome result (λ r. code_t2 r ≡ w) }
     ensures none { IfNone result ((r : T2) → code_t2 r ≡ w → ⊥) }
 {
-    let s = bits(w, 20, 20);
-    let n = bits(w, 19, 16);
-    let d = bits(w, 11, 8);
-    let i3 = bits(w, 14, 12);
-    let i2 = bits(w, 7, 6);
-    let ty = bits(w, 5, 4);
-    let m = bits(w, 3, 0);
+    let s = bits(w, 20, 1);
+    let n = bits(w, 16, 4);
+    let d = bits(w, 8, 4);
+    let i3 = bits(w, 12, 3);
+    let i2 = bits(w, 6, 2);
+    let ty = bits(w, 4, 2);
+    let m = bits(w, 0, 4);
     let rest = w - (s << 20) - (n << 16) - (d << 8) - (i3 << 12) - (i2 << 6) - (ty << 4) - m;
     let name = data_name(0xea00_0000, rest)?;
     if !may_be_t2(name, s, n, d, i3, i2, ty, m) {
@@ -177,16 +174,15 @@ fn may_be_t3(n: u32, d: u32) -> bool
 }
 
 /// `addw`, `subw rd,rn,#i12`
-#[tactic(auto, unfolding(hm_base::specs::Bits::field))]
 fn decode_t3(w: u32) -> Option<T3>
     ensures found { IfSome result (λ r. code_t3 r ≡ w) }
     ensures none { IfNone result ((r : T3) → code_t3 r ≡ w → ⊥) }
 {
-    let n = bits(w, 19, 16);
-    let d = bits(w, 11, 8);
-    let i = bits(w, 26, 26);
-    let i3 = bits(w, 14, 12);
-    let byte = bits(w, 7, 0);
+    let n = bits(w, 16, 4);
+    let d = bits(w, 8, 4);
+    let i = bits(w, 26, 1);
+    let i3 = bits(w, 12, 3);
+    let byte = bits(w, 0, 8);
     let name = match w - (n << 16) - (d << 8) - (i << 26) - (i3 << 12) - byte {
         0xf200_0000 => SumName::Add,
         0xf2a0_0000 => SumName::Sub,
@@ -206,16 +202,15 @@ fn decode_t3(w: u32) -> Option<T3>
 }
 
 /// `movw`, `movt rd,#i16`
-#[tactic(auto, unfolding(hm_base::specs::Bits::field))]
 fn decode_t4(w: u32) -> Option<T4>
     ensures found { IfSome result (λ r. code_t4 r ≡ w) }
     ensures none { IfNone result ((r : T4) → code_t4 r ≡ w → ⊥) }
 {
-    let d = bits(w, 11, 8);
-    let i4 = bits(w, 19, 16);
-    let i = bits(w, 26, 26);
-    let i3 = bits(w, 14, 12);
-    let byte = bits(w, 7, 0);
+    let d = bits(w, 8, 4);
+    let i4 = bits(w, 16, 4);
+    let i = bits(w, 26, 1);
+    let i3 = bits(w, 12, 3);
+    let byte = bits(w, 0, 8);
     let name = match w - (d << 8) - (i4 << 16) - (i << 26) - (i3 << 12) - byte {
         0xf240_0000 => HalfName::Movw,
         0xf2c0_0000 => HalfName::Movt,

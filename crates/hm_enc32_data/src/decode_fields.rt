@@ -7,8 +7,7 @@ ghost use Rattle.hm_isa.specs.declared.data.T7.{T7};
 ghost use Rattle.hm_isa.specs.DataRules.{is_bit_field, is_inserted, is_saturated};
 ghost use Rattle.hm_isa.specs.DataCodes.{code_t5, code_t6, code_t7};
 
-use hm_base::bits;
-use hm_code_fields::is_general;
+use hm_code_fields::{bits, is_general};
 use hm_isa::{Below, ExtractName, SaturateName, T5, T6, T7};
 
 /// Whether the row T5 has these letters.
@@ -24,17 +23,16 @@ fn may_be_t5(sh: u32, n: u32, d: u32, i3: u32, i2: u32) -> bool
 }
 
 /// `ssat rd,#s+1,rn`, `usat rd,#s,rn`
-#[tactic(auto, unfolding(hm_base::specs::Bits::field))]
 pub fn decode_t5(w: u32) -> Option<T5>
     ensures found { IfSome result (λ r. code_t5 r ≡ w) }
     ensures none { IfNone result ((r : T5) → code_t5 r ≡ w → ⊥) }
 {
-    let sh = bits(w, 21, 21);
-    let n = bits(w, 19, 16);
-    let d = bits(w, 11, 8);
-    let i3 = bits(w, 14, 12);
-    let i2 = bits(w, 7, 6);
-    let s = bits(w, 4, 0);
+    let sh = bits(w, 21, 1);
+    let n = bits(w, 16, 4);
+    let d = bits(w, 8, 4);
+    let i3 = bits(w, 12, 3);
+    let i2 = bits(w, 6, 2);
+    let s = bits(w, 0, 5);
     let name = match w - (sh << 21) - (n << 16) - (d << 8) - (i3 << 12) - (i2 << 6) - s {
         0xf300_0000 => SaturateName::Ssat,
         0xf380_0000 => SaturateName::Usat,
@@ -68,16 +66,15 @@ fn may_be_t6(n: u32, d: u32, i3: u32, i2: u32, width: u32) -> bool
 }
 
 /// `sbfx`, `ubfx rd,rn,#lsb,#w+1`
-#[tactic(auto, unfolding(hm_base::specs::Bits::field))]
 pub fn decode_t6(w: u32) -> Option<T6>
     ensures found { IfSome result (λ r. code_t6 r ≡ w) }
     ensures none { IfNone result ((r : T6) → code_t6 r ≡ w → ⊥) }
 {
-    let n = bits(w, 19, 16);
-    let d = bits(w, 11, 8);
-    let i3 = bits(w, 14, 12);
-    let i2 = bits(w, 7, 6);
-    let width = bits(w, 4, 0);
+    let n = bits(w, 16, 4);
+    let d = bits(w, 8, 4);
+    let i3 = bits(w, 12, 3);
+    let i2 = bits(w, 6, 2);
+    let width = bits(w, 0, 5);
     let name = match w - (n << 16) - (d << 8) - (i3 << 12) - (i2 << 6) - width {
         0xf340_0000 => ExtractName::Sbfx,
         0xf3c0_0000 => ExtractName::Ubfx,
@@ -109,16 +106,15 @@ fn may_be_t7(n: u32, d: u32, i3: u32, i2: u32, end: u32) -> bool
 }
 
 /// `bfi rd,rn,#lsb,#width`, `bfc rd,#lsb,#width`
-#[tactic(auto, unfolding(hm_base::specs::Bits::field))]
 pub fn decode_t7(w: u32) -> Option<T7>
     ensures found { IfSome result (λ r. code_t7 r ≡ w) }
     ensures none { IfNone result ((r : T7) → code_t7 r ≡ w → ⊥) }
 {
-    let n = bits(w, 19, 16);
-    let d = bits(w, 11, 8);
-    let i3 = bits(w, 14, 12);
-    let i2 = bits(w, 7, 6);
-    let end = bits(w, 4, 0);
+    let n = bits(w, 16, 4);
+    let d = bits(w, 8, 4);
+    let i3 = bits(w, 12, 3);
+    let i2 = bits(w, 6, 2);
+    let end = bits(w, 0, 5);
     if w - (n << 16) - (d << 8) - (i3 << 12) - (i2 << 6) - end != 0xf360_0000 {
         return None;
     }

@@ -16,8 +16,7 @@ ghost use Rattle.hm_isa.specs.Code.{wide_access_base, pair_base, code_offset, co
 ghost use Rattle.hm_isa.specs.Code.{scalar_halves, two_halves};
 
 use crate::lists::decode_t14;
-use hm_base::bits;
-use hm_code_fields::is_general;
+use hm_code_fields::{bits, is_general};
 use hm_isa::{
     AccessName, Below, Indexed, Literal, Offset, PairName, Scalar, Shifted, StackName, T12, T13,
     T15,
@@ -64,10 +63,10 @@ fn decode_offset(w: u32) -> Option<Offset>
     ensures found { IfSome result (λ r. code_offset r ≡ w) }
     ensures none { IfNone result ((r : Offset) → code_offset r ≡ w → ⊥) }
 {
-    let n = (w >> 16) & 15;
-    let t = (w >> 12) & 15;
-    let i = w & 4095;
-    if n == 15 || (w >> 23) & 1 == 0 {
+    let n = bits(w, 16, 4);
+    let t = bits(w, 12, 4);
+    let i = bits(w, 0, 12);
+    if n == 15 || bits(w, 23, 1) == 0 {
         return None;
     }
     let name = access_name(w - 0x80_0000 - (n << 16) - (t << 12) - i)?;
@@ -93,18 +92,17 @@ fn may_be_indexed(x: AccessName, n: u32, t: u32, p: u32, u: u32, w: u32) -> bool
 }
 
 /// `[rn,#-i]`, `[rn,#i]!`, `[rn],#i`
-#[tactic(auto, unfolding(hm_base::specs::Bits::field))]
 fn decode_indexed(w: u32) -> Option<Indexed>
     ensures found { IfSome result (λ r. code_indexed r ≡ w) }
     ensures none { IfNone result ((r : Indexed) → code_indexed r ≡ w → ⊥) }
 {
-    let n = bits(w, 19, 16);
-    let t = bits(w, 15, 12);
-    let before = bits(w, 10, 10);
-    let up = bits(w, 9, 9);
-    let back = bits(w, 8, 8);
-    let i = bits(w, 7, 0);
-    if (w >> 11) & 1 == 0 {
+    let n = bits(w, 16, 4);
+    let t = bits(w, 12, 4);
+    let before = bits(w, 10, 1);
+    let up = bits(w, 9, 1);
+    let back = bits(w, 8, 1);
+    let i = bits(w, 0, 8);
+    if bits(w, 11, 1) == 0 {
         return None;
     }
     let rest = w - 0x800 - (n << 16) - (t << 12) - (before << 10) - (up << 9) - (back << 8) - i;
@@ -128,10 +126,10 @@ fn decode_shifted(w: u32) -> Option<Shifted>
     ensures found { IfSome result (λ r. code_shifted r ≡ w) }
     ensures none { IfNone result ((r : Shifted) → code_shifted r ≡ w → ⊥) }
 {
-    let n = (w >> 16) & 15;
-    let t = (w >> 12) & 15;
-    let i = (w >> 4) & 3;
-    let m = w & 15;
+    let n = bits(w, 16, 4);
+    let t = bits(w, 12, 4);
+    let i = bits(w, 4, 2);
+    let m = bits(w, 0, 4);
     if n == 15 || !is_general(m) {
         return None;
     }
@@ -153,10 +151,10 @@ fn decode_literal(w: u32) -> Option<Literal>
     ensures found { IfSome result (λ r. code_literal r ≡ w) }
     ensures none { IfNone result ((r : Literal) → code_literal r ≡ w → ⊥) }
 {
-    let u = (w >> 23) & 1;
-    let t = (w >> 12) & 15;
-    let i = w & 4095;
-    if (w >> 16) & 15 != 15 {
+    let u = bits(w, 23, 1);
+    let t = bits(w, 12, 4);
+    let i = bits(w, 0, 12);
+    if bits(w, 16, 4) != 15 {
         return None;
     }
     let name = access_name(w - 0xf_0000 - (u << 23) - (t << 12) - i)?;
@@ -225,18 +223,17 @@ fn pair_name(rest: u32) -> Option<PairName>
 }
 
 /// `strd`, `ldrd rt,ru,[rn,#4i]`
-#[tactic(auto, unfolding(hm_base::specs::Bits::field))]
 fn decode_t13(w: u32) -> Option<T13>
     ensures found { IfSome result (λ r. code_t13 r ≡ w) }
     ensures none { IfNone result ((r : T13) → code_t13 r ≡ w → ⊥) }
 {
-    let before = bits(w, 24, 24);
-    let add = bits(w, 23, 23);
-    let back = bits(w, 21, 21);
-    let n = bits(w, 19, 16);
-    let t = bits(w, 15, 12);
-    let u = bits(w, 11, 8);
-    let i = bits(w, 7, 0);
+    let before = bits(w, 24, 1);
+    let add = bits(w, 23, 1);
+    let back = bits(w, 21, 1);
+    let n = bits(w, 16, 4);
+    let t = bits(w, 12, 4);
+    let u = bits(w, 8, 4);
+    let i = bits(w, 0, 8);
     let rest = w
         - (before << 24)
         - (add << 23)
@@ -266,8 +263,8 @@ fn decode_t15(w: u32) -> Option<T15>
     ensures found { IfSome result (λ r. code_t15 r ≡ w) }
     ensures none { IfNone result ((r : T15) → code_t15 r ≡ w → ⊥) }
 {
-    let v = (w >> 12) & 15;
-    let k = (w >> 1) & 31;
+    let v = bits(w, 12, 4);
+    let k = bits(w, 1, 5);
     if k == 0 || v + k > 16 {
         return None;
     }

@@ -6,7 +6,7 @@ ghost use Rattle.hm_isa.specs.declared.wide.T14.{T14};
 ghost use Rattle.hm_isa.specs.Rules.{is_wide_list, listed_in, may_list};
 ghost use Rattle.hm_isa.specs.Code.{code_t14, wide_list_base};
 
-use hm_base::bits;
+use hm_code_fields::bits;
 use hm_isa::{Below, T14, WideListName};
 
 /// Whether register k stands in a list.
@@ -56,14 +56,13 @@ fn list_name(rest: u32) -> Option<WideListName>
 }
 
 /// `stmia.w`, `ldmia.w`, `stmdb`, `ldmdb`
-#[tactic(auto, unfolding(hm_base::specs::Bits::field))]
 pub fn decode_t14(w: u32) -> Option<T14>
     ensures found { IfSome result (λ r. code_t14 r ≡ w) }
     ensures none { IfNone result ((r : T14) → code_t14 r ≡ w → ⊥) }
 {
-    let back = bits(w, 21, 21);
-    let n = bits(w, 19, 16);
-    let list = bits(w, 15, 0);
+    let back = bits(w, 21, 1);
+    let n = bits(w, 16, 4);
+    let list = bits(w, 0, 16);
     let name = list_name(w - (back << 21) - (n << 16) - list)?;
     if !may_be_wide_list(name, back, n, list) {
         return None;

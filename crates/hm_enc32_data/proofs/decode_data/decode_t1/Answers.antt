@@ -1,10 +1,8 @@
 use Rattle.std.proofs.Common.{arith, sym, ◌∙◌}
-use Rattle.hm_base.specs.Bits.{field}
 use Rattle.hm_enc32_data.proofs.Refused.{refused_t1}
 use Rattle.hm_enc32_data.proofs.decode_data.decode_t1.Goals as goal
 
 pub returns-then-not-may_be_t1-clause-none : goal.returns-then-not-may_be_t1-clause-none
-unfolding field
 returns-then-not-may_be_t1-clause-none c =
     refused_t1 c.args.w c.bits-s.result c.bits-n.result c.bits-d.result c.bits-i.result c.bits-i3.result c.bits-byte.result
     c.in_ok-name.name (cc) _ c.in_ok-name.ensures.found (omega arith) (sym c.may_be_t1.ensures ∙ c.if-not-may_be_t1.true)

@@ -1,10 +1,8 @@
 use Rattle.std.proofs.Common.{sym, ◌∙◌}
-use Rattle.hm_base.specs.Bits.{field}
 use Rattle.hm_enc32_data.proofs.Refused.{refused_t7}
 use Rattle.hm_enc32_data.proofs.decode_fields.decode_t7.Goals as goal
 
 pub returns-then-not-may_be_t7-clause-none : goal.returns-then-not-may_be_t7-clause-none
-unfolding field
 returns-then-not-may_be_t7-clause-none c =
     refused_t7 c.args.w c.bits-n.result c.bits-d.result c.bits-i3.result c.bits-i2.result c.bits-end.result (cc)
     (sym c.may_be_t7.ensures ∙ c.if-not-may_be_t7.true)
