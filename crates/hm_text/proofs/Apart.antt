@@ -14,9 +14,9 @@ use Rattle.hm_text16.specs.Rows.{tokens_of}
 use Rattle.hm_text16.specs.Texts.{HasTokens}
 use Rattle.hm_text16.proofs.Asked.{halves}
 use Rattle.hm_text16.proofs.Laws.{nearest, row_law}
-use Rattle.hm_textv.specs.Rows as vectors
+use Rattle.hm_textv_rows.specs.Rows as vectors
 use Rattle.hm_textv.proofs.Laws.{answers_law}
-use Rattle.hm_textv.specs.Codes as vector_codes
+use Rattle.hm_textv_codes.specs.Codes as vector_codes
 use Rattle.hm_text.specs.Tables.{IsLongText, IsNarrowText, IsVectorText, IsWideText}
 use Rattle.hm_text.proofs.FormedVectors.{no_lane}
 use Rattle.hm_text.proofs.Lines.{has_lane, normal_first, normal_lane, same_line}

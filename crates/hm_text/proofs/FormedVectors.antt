@@ -14,10 +14,10 @@ use Rattle.hm_isa.specs.declared.vectors.V21.TheVariants as v21
 use Rattle.hm_isa.specs.declared.vectors.V22.TheVariants as v22
 use Rattle.hm_tokens.specs.Names.{register_name, vector_name}
 use Rattle.hm_tokens.specs.Tokens.{Tok, word}
-use Rattle.hm_textv.specs.Rows.{HasTokens, access, at_offsets, constant_forms, long_part, other_bitwise, other_tokens, tokens_of, turns}
+use Rattle.hm_textv_rows.specs.Rows.{HasTokens, access, at_offsets, constant_forms, long_part, other_bitwise, other_tokens, tokens_of, turns}
 use Rattle.hm_text_rows.specs.Shapes.{either, indexed, inside}
 use Rattle.hm_text_rows.proofs.Words.{at_below}
-use Rattle.hm_textv.specs.Mnemonics.{access_mnemonic, access_suffix, by_sign, pair_mnemonic, plain, quad_mnemonic}
+use Rattle.hm_textv_rows.specs.Mnemonics.{access_mnemonic, access_suffix, by_sign, pair_mnemonic, plain, quad_mnemonic}
 use Rattle.hm_text.proofs.Formed.{Formed, is_formed}
 use Rattle.hm_text.proofs.Lines.{has_lane}
 

@@ -17,7 +17,7 @@ use Rattle.hm_text16.proofs.Laws as narrow_laws
 use Rattle.hm_text32.specs.Targets as wide_targets
 use Rattle.hm_text32.specs.Texts as wide
 use Rattle.hm_text32.proofs.Laws as wide_laws
-use Rattle.hm_textv.specs.Rows as vectors
+use Rattle.hm_textv_rows.specs.Rows as vectors
 use Rattle.hm_text.specs.Tables.{IsLongText, IsNarrowText, IsRowAt, IsTextIn, IsVectorText, IsWideText, Seen, label_of, target, width_of}
 use Rattle.hm_text.proofs.Targets.{narrow_label, narrow_target, wide_label, wide_length, wide_target}
 

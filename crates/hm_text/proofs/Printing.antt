@@ -17,7 +17,7 @@ use Rattle.hm_text16.specs.Texts.{IsNarrow, text_of}
 use Rattle.hm_text16.specs.Texts as narrow
 use Rattle.hm_text_rows.proofs.Shown.{IsGiven, IsPrintedRow}
 use Rattle.hm_text16.proofs.Laws.{given_target, row_law}
-use Rattle.hm_textv.specs.Rows as vectors
+use Rattle.hm_textv_rows.specs.Rows as vectors
 use Rattle.hm_textv.proofs.Laws as vector_laws
 use Rattle.hm_enc32.specs.Table.{IsWide}
 use Rattle.hm_text_rows.specs.Labels.{NamesTarget, printed_with}

@@ -5,10 +5,10 @@ use Rattle.std.proofs.lemmas.Bool.{cases_Bool}
 use Rattle.std.proofs.lemmas.Slice.Eq.{bytes_eq-Decides}
 use Rattle.hm_text_base.specs.Spans.{span}
 use Rattle.hm_tokens.specs.Tokens.{Tok, word, number, mark}
-use Rattle.hm_textv.specs.declared.operands.Operands.{Operands}
-use Rattle.hm_textv.specs.Codes.{code_in, code_of, code_of_memory, code_of_one, code_of_other, code_of_pair, code_of_sum}
+use Rattle.hm_textv_codes.specs.declared.operands.Operands.{Operands}
+use Rattle.hm_textv_codes.specs.Codes.{code_in, code_of, code_of_memory, code_of_one, code_of_other, code_of_pair, code_of_sum}
 use Rattle.hm_text_rows.specs.Operands.{first}
-use Rattle.hm_textv.specs.Operands.{read_operands}
+use Rattle.hm_textv_codes.specs.Operands.{read_operands}
 
 abbrev pub begins_with_v : List ℕ → Bool
 begins_with_v [] = false

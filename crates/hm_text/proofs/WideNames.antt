@@ -15,7 +15,7 @@ use Rattle.hm_text16.specs.Codes.{high_base_in, jump_base_in, low_base_in, move_
 use Rattle.hm_text16.specs.Codes.{word_base_in, zero_base_in}
 use Rattle.hm_text_rows.specs.Operands.{branch_condition_in, first}
 use Rattle.hm_text16.specs.Operands.{read_operands}
-use Rattle.hm_textv.specs.Codes as vectors
+use Rattle.hm_textv_codes.specs.Codes as vectors
 use Rattle.hm_text.proofs.Lines.{has_lane}
 use Rattle.hm_text.proofs.VectorNames.{begins_with_v, is_other, other_name_none, some_code, vector_named}
 

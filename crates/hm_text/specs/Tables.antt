@@ -13,7 +13,7 @@ use Rattle.hm_text16.specs.Texts as narrow
 use Rattle.hm_text32.specs.Rows as wide_rows
 use Rattle.hm_text32.specs.Targets as wide_targets
 use Rattle.hm_text32.specs.Texts as wide
-use Rattle.hm_textv.specs.Rows as vectors
+use Rattle.hm_textv_rows.specs.Rows as vectors
 use Rattle.hm_text_rows.specs.Operands.{first}
 
 -- TABLES, of which each has its own rows

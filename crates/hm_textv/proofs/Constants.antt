@@ -4,13 +4,13 @@ use Rattle.std.specs.Prelude.{codes}
 use Rattle.hm_isa.specs.declared.Vector.TheVariants as vector
 use Rattle.hm_isa.specs.declared.vectors.V15.{V15}
 use Rattle.hm_isa.specs.Standing.{◌↑◌}
-use Rattle.hm_textv.specs.declared.operands.Operands.{Operands}
-use Rattle.hm_textv.specs.Codes.{code_of, constant_code, constant_mode, constant_operation}
-use Rattle.hm_textv.specs.Operands.{sign_of, word_value}
+use Rattle.hm_textv_codes.specs.declared.operands.Operands.{Operands}
+use Rattle.hm_textv_codes.specs.Codes.{code_of, constant_code, constant_mode, constant_operation}
+use Rattle.hm_textv_codes.specs.Operands.{sign_of, word_value}
 use Rattle.hm_text_rows.specs.Operands.{is_vector_name, size_of}
 use Rattle.hm_text_rows.specs.Shapes.{either}
 use Rattle.hm_text_rows.proofs.Words.{at_below, is_mnemonic}
-use Rattle.hm_textv.specs.Rows.{constant_forms, merged, moved, shifted, unshifted}
+use Rattle.hm_textv_rows.specs.Rows.{constant_forms, merged, moved, shifted, unshifted}
 use Rattle.hm_textv.proofs.Endings.{Suffix, suffix_integer}
 use Rattle.hm_textv.proofs.Forms.{Answers, Operand, Row, a_vector, answers_of, given, reads_constant, reads_shifted}
 

@@ -6,15 +6,15 @@ use Rattle.hm_isa.specs.declared.Vector.{Vector}
 use Rattle.hm_isa.specs.Code.{vector_code}
 use Rattle.hm_tokens.specs.Names.{register_name, vector_name}
 use Rattle.hm_tokens.specs.Tokens.{Tok, word, number, comma}
-use Rattle.hm_textv.specs.declared.operands.Operands.{Operands}
-use Rattle.hm_textv.specs.Operands.{word_value}
+use Rattle.hm_textv_codes.specs.declared.operands.Operands.{Operands}
+use Rattle.hm_textv_codes.specs.Operands.{word_value}
 use Rattle.hm_text_rows.specs.Operands.{is_vector_name}
 use Rattle.hm_text_rows.specs.Shapes.{and_constant, constant, four, three, two}
 use Rattle.hm_text_rows.proofs.Words.{cut, is_name, is_mnemonic, word_q, word_r}
 use Rattle.hm_text_rows.proofs.Printed.{IsReadBack, IsShort, is_read_back, short_comma, short_hash, short_number, short_word}
-use Rattle.hm_textv.specs.Codes.{code_in, code_of}
-use Rattle.hm_textv.specs.Rows.{shifted, tokens_of}
-use Rattle.hm_textv.proofs.Words.{value_q, value_r, vector_q, vector_r}
+use Rattle.hm_textv_codes.specs.Codes.{code_in, code_of}
+use Rattle.hm_textv_rows.specs.Rows.{shifted, tokens_of}
+use Rattle.hm_textv_codes.proofs.Words.{value_q, value_r, vector_q, vector_r}
 use Rattle.hm_textv.proofs.Endings.{Suffix}
 
 -- tokens with this mnemonic and these operands

@@ -12,8 +12,8 @@ use Rattle.hm_isa.specs.Standing.{◌↑◌}
 use Rattle.hm_text_base.proofs.Steps.{some_is, test_some}
 use Rattle.hm_tokens.specs.Lines.{IsLineOf, printed}
 use Rattle.hm_tokens.specs.Tokens.{Tok}
-use Rattle.hm_textv.specs.Codes.{code_of}
-use Rattle.hm_textv.specs.Rows.{HasTokens, IsTextOf, other_bitwise, other_tokens, tokens_of}
+use Rattle.hm_textv_codes.specs.Codes.{code_of}
+use Rattle.hm_textv_rows.specs.Rows.{HasTokens, IsTextOf, other_bitwise, other_tokens, tokens_of}
 use Rattle.hm_text_rows.specs.Shapes.{q, two}
 use Rattle.hm_textv.proofs.Endings.{no_suffix}
 use Rattle.hm_textv.proofs.Forms.{Answers, Row, a_vector, answers_of, given, reads_two}

@@ -1,4 +1,3 @@
-pub mod Words
 pub mod Endings
 pub mod Forms
 pub mod Addresses

@@ -23,11 +23,10 @@ use Rattle.hm_isa.specs.Code.{constant_shift_base, narrow_base, one_base, revers
 use Rattle.hm_isa.specs.Rules.{has_size, is_shifted_by}
 use Rattle.hm_isa.specs.Standing.{◌↑◌}
 use Rattle.hm_tokens.specs.Tokens.{Tok}
-use Rattle.hm_textv.specs.Codes.{bits_in, code_of}
-use Rattle.hm_textv.specs.Rows.{long_part, shift_in, size_in}
-use Rattle.hm_textv.specs.Mnemonics.{constant_shift_mnemonic, constant_shift_suffix, integer, narrow_mnemonic, narrow_suffix, one_mnemonic, one_suffix, plain}
-use Rattle.hm_textv.specs.Mnemonics.{reverse_mnemonic}
-use Rattle.hm_textv.specs.Mnemonics.{signed}
+use Rattle.hm_textv_codes.specs.Codes.{bits_in, code_of}
+use Rattle.hm_textv_rows.specs.Rows.{long_part, shift_in, size_in}
+use Rattle.hm_textv_rows.specs.Mnemonics.{constant_shift_mnemonic, constant_shift_suffix, integer, narrow_mnemonic, narrow_suffix, one_mnemonic, one_suffix}
+use Rattle.hm_textv_rows.specs.Mnemonics.{plain, reverse_mnemonic, signed}
 use Rattle.hm_text_rows.specs.Shapes.{either}
 use Rattle.hm_text_rows.proofs.Words.{below_holds, below_is, is_mnemonic}
 use Rattle.hm_textv.proofs.Endings.{Suffix, no_suffix, suffix_by_sign, suffix_integer, suffix_plain, suffix_signed, suffix_unsigned}

@@ -22,14 +22,14 @@ use Rattle.hm_isa.specs.Code.{dup_base, mask_code, offsets_base, step_code}
 use Rattle.hm_isa.specs.Standing.{◌↑◌}
 use Rattle.hm_tokens.specs.Names.{register_name}
 use Rattle.hm_tokens.specs.Tokens.{Tok, word}
-use Rattle.hm_textv.specs.declared.operands.Operands.{Operands}
-use Rattle.hm_textv.specs.Codes.{code_of, step_in}
-use Rattle.hm_textv.specs.Operands.{word_value}
+use Rattle.hm_textv_codes.specs.declared.operands.Operands.{Operands}
+use Rattle.hm_textv_codes.specs.Codes.{code_of, step_in}
+use Rattle.hm_textv_codes.specs.Operands.{word_value}
 use Rattle.hm_text_rows.specs.Operands.{is_vector_name}
 use Rattle.hm_text_rows.specs.Shapes.{three}
 use Rattle.hm_text_rows.proofs.Words.{at_below, below_holds, below_is, is_name, is_mnemonic}
-use Rattle.hm_textv.specs.Rows.{compare_name}
-use Rattle.hm_textv.specs.Mnemonics.{block_letters, compare_condition, compare_suffix, offsets_mnemonic, size_number, wrapped_mnemonic}
+use Rattle.hm_textv_rows.specs.Rows.{compare_name}
+use Rattle.hm_textv_rows.specs.Mnemonics.{block_letters, compare_condition, compare_suffix, offsets_mnemonic, size_number, wrapped_mnemonic}
 use Rattle.hm_textv.proofs.Endings.{Suffix, no_suffix, suffix_integer, suffix_plain, suffix_signed, suffix_unsigned}
 use Rattle.hm_textv.proofs.Forms.{Operand, Reads, Row, a_register, a_vector, given, reads_none, reads_one, reads_three, reads_three_constant, reads_two}
 use Rattle.hm_textv.proofs.Forms.{reads_two_constant, row_of}

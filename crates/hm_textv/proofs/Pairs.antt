@@ -34,10 +34,9 @@ use Rattle.hm_isa.specs.declared.vectors.V10.{V10}
 use Rattle.hm_isa.specs.Code.{add_base, bitwise_base, carry_base, doubling_base, high_base, scalar_base, signed_base, complex_sum_base, vector_shift_base}
 use Rattle.hm_isa.specs.Rules.{is_signed_by}
 use Rattle.hm_isa.specs.Standing.{◌↑◌}
-use Rattle.hm_textv.specs.Codes.{code_of}
-use Rattle.hm_textv.specs.Mnemonics.{add_mnemonic, bitwise_mnemonic, carry_mnemonic, doubling_mnemonic, high_mnemonic, integer, scalar_mnemonic, scalar_suffix}
-use Rattle.hm_textv.specs.Mnemonics.{signed, signed_mnemonic}
-use Rattle.hm_textv.specs.Mnemonics.{complex_sum_mnemonic, complex_sum_suffix, vector_shift_mnemonic}
+use Rattle.hm_textv_codes.specs.Codes.{code_of}
+use Rattle.hm_textv_rows.specs.Mnemonics.{add_mnemonic, bitwise_mnemonic, carry_mnemonic, doubling_mnemonic, high_mnemonic, integer, scalar_mnemonic}
+use Rattle.hm_textv_rows.specs.Mnemonics.{scalar_suffix, signed, signed_mnemonic, complex_sum_mnemonic, complex_sum_suffix, vector_shift_mnemonic}
 use Rattle.hm_text_rows.specs.Shapes.{either}
 use Rattle.hm_text_rows.proofs.Words.{is_mnemonic}
 use Rattle.hm_textv.proofs.Endings.{Suffix, no_suffix, suffix_by_sign, suffix_integer, suffix_signed}

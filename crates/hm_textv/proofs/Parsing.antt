@@ -7,8 +7,8 @@ use Rattle.hm_isa.specs.Code.{vector_code}
 use Rattle.hm_text_base.proofs.Steps.{some_is}
 use Rattle.hm_tokens.specs.Lines.{IsLineOf}
 use Rattle.hm_tokens.specs.Tokens.{Tok}
-use Rattle.hm_textv.specs.Codes.{code_in}
-use Rattle.hm_textv.specs.Rows.{HasTokens, IsTextOf, other_tokens, tokens_of}
+use Rattle.hm_textv_codes.specs.Codes.{code_in}
+use Rattle.hm_textv_rows.specs.Rows.{HasTokens, IsTextOf, other_tokens, tokens_of}
 use Rattle.hm_textv.proofs.Fits.{code_below}
 use Rattle.hm_textv.proofs.Laws.{answers_law}
 

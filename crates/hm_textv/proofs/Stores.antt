@@ -11,12 +11,12 @@ use Rattle.hm_isa.specs.declared.memory.V27.{V27}
 use Rattle.hm_isa.specs.declared.memory.V28.{V28}
 use Rattle.hm_isa.specs.MemoryRules.{is_access, is_interleaved}
 use Rattle.hm_isa.specs.Standing.{◌↑◌}
-use Rattle.hm_textv.specs.declared.operands.Operands.{Operands}
-use Rattle.hm_textv.specs.Codes.{access_code, code_of}
-use Rattle.hm_textv.specs.Rows.{turns}
+use Rattle.hm_textv_codes.specs.declared.operands.Operands.{Operands}
+use Rattle.hm_textv_codes.specs.Codes.{access_code, code_of}
+use Rattle.hm_textv_rows.specs.Rows.{turns}
 use Rattle.hm_text_rows.specs.Shapes.{either, r}
 use Rattle.hm_text_rows.proofs.Words.{at_below, below_holds, is_mnemonic}
-use Rattle.hm_textv.specs.Mnemonics.{access_mnemonic, access_suffix, pair_mnemonic, plain, quad_mnemonic}
+use Rattle.hm_textv_rows.specs.Mnemonics.{access_mnemonic, access_suffix, pair_mnemonic, plain, quad_mnemonic}
 use Rattle.hm_textv.proofs.Endings.{Suffix, suffix_by_sign, suffix_plain}
 use Rattle.hm_textv.proofs.Forms.{Answers, Row, a_register, a_vector, answers_of, row_of}
 use Rattle.hm_textv.proofs.Addresses.{given_access, reads_at_offsets, reads_indexed, reads_pair, reads_quad}

@@ -13,10 +13,10 @@ use Rattle.hm_isa.specs.declared.vectors.V23.{V23}
 use Rattle.hm_isa.specs.Code.{code_dot, dot_base, extreme_base}
 use Rattle.hm_isa.specs.Standing.{◌↑◌}
 use Rattle.hm_tokens.specs.Names.{register_name}
-use Rattle.hm_textv.specs.Codes.{code_of}
+use Rattle.hm_textv_codes.specs.Codes.{code_of}
 use Rattle.hm_text_rows.specs.Shapes.{either, q, r, three}
 use Rattle.hm_text_rows.proofs.Words.{is_mnemonic}
-use Rattle.hm_textv.specs.Mnemonics.{by_sign, extreme_mnemonic, size_number}
+use Rattle.hm_textv_rows.specs.Mnemonics.{by_sign, extreme_mnemonic, size_number}
 use Rattle.hm_textv.proofs.Endings.{suffix_by_sign}
 use Rattle.hm_textv.proofs.Forms.{Answers, Operand, Row, a_register, a_vector, answers_of, given, reads_four, reads_three, reads_two, row_of}
 

@@ -3,26 +3,18 @@
 
 ghost use Rattle.std.specs.Prelude.{◌≡◌, IfSome, Some, map};
 ghost use Rattle.hm_isa.specs.declared.Vector.{Vector};
-ghost use Rattle.hm_textv.specs.Rows.{HasTokens, IsTextOf, tokens_of};
+ghost use Rattle.hm_textv_rows.specs.Rows.{HasTokens, IsTextOf, tokens_of};
 ghost use Rattle.hm_tokens.specs.Lines.{printed};
 ghost use Rattle.hm_tokens.specs.Tokens.{tok};
 
-mod access;
-mod bases;
-mod codes;
-mod memory;
-mod mnemonics;
-mod operands;
-mod rows;
-mod suffixes;
 mod texts;
 
 use arrayvec::ArrayString;
-use codes::code_in;
 use hm_encv::decodev;
 use hm_isa::Vector;
+use hm_textv_codes::code_in;
+use hm_textv_rows::row_text;
 use hm_tokens::{Token, read_tokens};
-use rows::row_text;
 use texts::is_text_of;
 
 /// The text of a vector row: the mnemonic, a space, and the operands with commas between them, numbers in decimal. `parse_v` gives

@@ -2,14 +2,13 @@
 
 ghost use Rattle.std.specs.Prelude.{◌≡◌, ◌↔◌, IsTrue, map, option_map};
 ghost use Rattle.hm_isa.specs.declared.Vector.TheVariants as vector;
-ghost use Rattle.hm_textv.specs.Rows.{HasTokens, other_tokens};
+ghost use Rattle.hm_textv_rows.specs.Rows.{HasTokens, other_tokens};
 ghost use Rattle.hm_tokens.specs.Texts.{text_tokens};
 ghost use Rattle.hm_tokens.specs.Tokens.{tok};
 
-use crate::rows::{row_text, sum_mnemonic};
-use crate::suffixes::{by_sign, size_number};
 use hm_isa::{BitwiseName, V2, V22, Vector};
 use hm_text_rows::{q, r, three, two};
+use hm_textv_rows::{by_sign, row_text, size_number, sum_mnemonic};
 use hm_tokens::{InstrText, Token};
 
 /// `vmov qd,qm`, where a row V2 moves a register.

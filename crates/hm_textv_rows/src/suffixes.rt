@@ -1,9 +1,9 @@
 //! What stands behind the point of a mnemonic: the kind of the elements and their size, where 0, 1, 2 and 3 are 8, 16, 32 and 64 bits.
 
 ghost use Rattle.std.specs.Prelude.{◌≡◌, ◌<◌};
-ghost use Rattle.hm_textv.specs.Mnemonics.{access_suffix, by_sign, compare_suffix, constant_shift_suffix, integer, narrow_suffix, one_suffix, plain};
-ghost use Rattle.hm_textv.specs.Mnemonics.{scalar_suffix};
-ghost use Rattle.hm_textv.specs.Mnemonics.{signed, size_number, complex_sum_suffix, unsigned};
+ghost use Rattle.hm_textv_rows.specs.Mnemonics.{access_suffix, by_sign, compare_suffix, constant_shift_suffix, integer, narrow_suffix, one_suffix, plain};
+ghost use Rattle.hm_textv_rows.specs.Mnemonics.{scalar_suffix};
+ghost use Rattle.hm_textv_rows.specs.Mnemonics.{signed, size_number, complex_sum_suffix, unsigned};
 
 use hm_isa::{
     Below, Bit, ComplexSumName, ConstantShiftName, Element, ElementSize, NarrowName, OneName,

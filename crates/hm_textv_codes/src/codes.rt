@@ -2,13 +2,13 @@
 
 ghost use Rattle.std.specs.Prelude.{◌≡◌, ◌<◌, ◌^◌, map};
 ghost use Rattle.hm_isa.specs.Code.{mask_code};
-ghost use Rattle.hm_textv.specs.Codes.{bare_code, bits_in, code_alone, code_cut, code_block, code_carry, code_compare, code_constant, code_dot, code_extreme};
-ghost use Rattle.hm_textv.specs.Codes.{code_in, code_left, code_long, code_long_dot, code_long_sum, code_narrow, code_of, code_of_one, code_of_other};
-ghost use Rattle.hm_textv.specs.Codes.{code_of_pair, code_of_sum, code_offsets, code_right, code_scalar, code_single, code_sum, code_three, code_turn};
-ghost use Rattle.hm_textv.specs.Codes.{code_vector_shift, code_wrapped, compare_code, constant_code, constant_mode, constant_operation, element_in, long_code};
-ghost use Rattle.hm_textv.specs.Codes.{of_core, of_one, of_vectors, step_in};
+ghost use Rattle.hm_textv_codes.specs.Codes.{bare_code, bits_in, code_alone, code_cut, code_block, code_carry, code_compare, code_constant, code_dot};
+ghost use Rattle.hm_textv_codes.specs.Codes.{code_extreme, code_in, code_left, code_long, code_long_dot, code_long_sum, code_narrow, code_of, code_of_one};
+ghost use Rattle.hm_textv_codes.specs.Codes.{code_of_other, code_of_pair, code_of_sum, code_offsets, code_right, code_scalar, code_single, code_sum};
+ghost use Rattle.hm_textv_codes.specs.Codes.{code_three, code_turn, code_vector_shift, code_wrapped, compare_code, constant_code, constant_mode};
+ghost use Rattle.hm_textv_codes.specs.Codes.{constant_operation, element_in, long_code, of_core, of_one, of_vectors, step_in};
 ghost use Rattle.hm_text_rows.specs.Operands.{first};
-ghost use Rattle.hm_textv.specs.Bases.{product_base, three_base};
+ghost use Rattle.hm_textv_codes.specs.Bases.{product_base, three_base};
 ghost use Rattle.hm_text_base.specs.Spans.{span};
 ghost use Rattle.hm_tokens.specs.Tokens.{tok};
 

@@ -7,11 +7,11 @@ use Rattle.hm_isa.specs.Standing.{◌↑◌}
 use Rattle.hm_text_base.specs.Spans.{span}
 use Rattle.hm_tokens.specs.Tokens.{Tok, word, number, mark}
 use Rattle.hm_text_rows.specs.Operands.{first}
-use Rattle.hm_textv.specs.declared.operands.Operands.{Operands}
-use Rattle.hm_textv.specs.Bases.{block_in, carry_base_in, compare_in, constant_in, dot_in, extreme_base_in, left_base, long_dot_in, load_in, long_in}
-use Rattle.hm_textv.specs.Bases.{long_sum_in, narrow_base_in, offsets_base_in, pair_base, product_base, quad_base, right_base, scalar_base_in, single_base}
-use Rattle.hm_textv.specs.Bases.{store_in, sum_in, three_base, complex_sum_base_in, vector_shift_base_in, wrapped_base_in}
-use Rattle.hm_textv.specs.Operands.{read_operands}
+use Rattle.hm_textv_codes.specs.declared.operands.Operands.{Operands}
+use Rattle.hm_textv_codes.specs.Bases.{block_in, carry_base_in, compare_in, constant_in, dot_in, extreme_base_in, left_base, long_dot_in, load_in, long_in}
+use Rattle.hm_textv_codes.specs.Bases.{long_sum_in, narrow_base_in, offsets_base_in, pair_base, product_base, quad_base, right_base, scalar_base_in}
+use Rattle.hm_textv_codes.specs.Bases.{single_base, store_in, sum_in, three_base, complex_sum_base_in, vector_shift_base_in, wrapped_base_in}
+use Rattle.hm_textv_codes.specs.Operands.{read_operands}
 
 -- FIELDS AT THEIR PLACES
 -- a base code with u at bit 28, z at bit 20, and the vectors n, d and m at bits 17, 13 and 1

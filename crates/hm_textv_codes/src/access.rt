@@ -1,8 +1,8 @@
 //! The codes that texts of loads and stores carelessly ask for.
 
 ghost use Rattle.std.specs.Prelude.{◌≡◌, ◌<◌, ◌^◌};
-ghost use Rattle.hm_textv.specs.Codes.{access_code, addresses_code, code_load, code_of_memory, code_pair, code_quad, code_store, index_code, of_access};
-ghost use Rattle.hm_textv.specs.Codes.{offset_code, offsets_code};
+ghost use Rattle.hm_textv_codes.specs.Codes.{access_code, addresses_code, code_load, code_of_memory, code_pair, code_quad, code_store, index_code, of_access};
+ghost use Rattle.hm_textv_codes.specs.Codes.{offset_code, offsets_code};
 
 use crate::bases::{load_in, pair_base, quad_base, store_in};
 use crate::operands::Operands;

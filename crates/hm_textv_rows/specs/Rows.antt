@@ -25,13 +25,11 @@ use Rattle.hm_isa.specs.declared.vectors.ConstantShiftName.TheVariants as by_con
 use Rattle.hm_tokens.specs.Lines.{IsLineOf}
 use Rattle.hm_tokens.specs.Tokens.{Tok, word, close_brace, close_bracket, comma, open_brace, open_bracket}
 use Rattle.hm_text_rows.specs.Shapes.{and_constant, back, constant, either, four, indexed, inside, or_zero, q, r, three, two}
-use Rattle.hm_textv.specs.Mnemonics.{access_mnemonic, access_suffix, add_mnemonic, bitwise_mnemonic, block_letters, by_sign, carry_mnemonic, compare_condition}
-use Rattle.hm_textv.specs.Mnemonics.{compare_suffix}
-use Rattle.hm_textv.specs.Mnemonics.{constant_shift_mnemonic, constant_shift_suffix, doubling_mnemonic, extreme_mnemonic, high_mnemonic, integer}
-use Rattle.hm_textv.specs.Mnemonics.{narrow_mnemonic, narrow_suffix}
-use Rattle.hm_textv.specs.Mnemonics.{offsets_mnemonic, one_mnemonic, one_suffix, pair_mnemonic, plain, quad_mnemonic, reverse_mnemonic, scalar_mnemonic}
-use Rattle.hm_textv.specs.Mnemonics.{scalar_suffix, signed, signed_mnemonic}
-use Rattle.hm_textv.specs.Mnemonics.{size_number, complex_sum_mnemonic, complex_sum_suffix, unsigned, vector_shift_mnemonic, wrapped_mnemonic}
+use Rattle.hm_textv_rows.specs.Mnemonics.{access_mnemonic, access_suffix, add_mnemonic, bitwise_mnemonic, block_letters, by_sign, carry_mnemonic}
+use Rattle.hm_textv_rows.specs.Mnemonics.{compare_condition, compare_suffix, constant_shift_mnemonic, constant_shift_suffix, doubling_mnemonic}
+use Rattle.hm_textv_rows.specs.Mnemonics.{extreme_mnemonic, high_mnemonic, integer, narrow_mnemonic, narrow_suffix, offsets_mnemonic, one_mnemonic, one_suffix}
+use Rattle.hm_textv_rows.specs.Mnemonics.{pair_mnemonic, plain, quad_mnemonic, reverse_mnemonic, scalar_mnemonic, scalar_suffix, signed, signed_mnemonic}
+use Rattle.hm_textv_rows.specs.Mnemonics.{size_number, complex_sum_mnemonic, complex_sum_suffix, unsigned, vector_shift_mnemonic, wrapped_mnemonic}
 
 -- ROWS
 -- V11: the size of elements that the highest bit of the field x tells (DDI0553, "VSHR", "VRSHR", "VQSHL, VQSHLU", "VSHL", "VSRI" and "VSLI")

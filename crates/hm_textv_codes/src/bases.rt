@@ -1,10 +1,10 @@
 //! Mnemonics: the codes that their rows begin from, and what else they tell.
 
 ghost use Rattle.std.specs.Prelude.{◌≡◌, ◌<◌, IfSome};
-ghost use Rattle.hm_textv.specs.Bases.{block_in, carry_base_in, compare_in, constant_in, dot_in, extreme_base_in, left_base, load_in, long_block_in};
-ghost use Rattle.hm_textv.specs.Bases.{long_compare_in, long_dot_in, long_in, long_sum_in, narrow_base_in, offsets_base_in, pair_base, plain_base};
-ghost use Rattle.hm_textv.specs.Bases.{product_base, quad_base, right_base, scalar_base_in, short_block_in, short_compare_in, signed_base_in, single_base};
-ghost use Rattle.hm_textv.specs.Bases.{store_in, sum_in, three_base, complex_sum_base_in, vector_shift_base_in, wrapped_base_in};
+ghost use Rattle.hm_textv_codes.specs.Bases.{block_in, carry_base_in, compare_in, constant_in, dot_in, extreme_base_in, left_base, load_in, long_block_in};
+ghost use Rattle.hm_textv_codes.specs.Bases.{long_compare_in, long_dot_in, long_in, long_sum_in, narrow_base_in, offsets_base_in, pair_base, plain_base};
+ghost use Rattle.hm_textv_codes.specs.Bases.{product_base, quad_base, right_base, scalar_base_in, short_block_in, short_compare_in, signed_base_in};
+ghost use Rattle.hm_textv_codes.specs.Bases.{single_base, store_in, sum_in, three_base, complex_sum_base_in, vector_shift_base_in, wrapped_base_in};
 ghost use Rattle.hm_text_rows.specs.Operands.{first};
 
 use hm_encv_registers::{base_of_extreme, base_of_offsets, base_of_scalar};

@@ -2,7 +2,7 @@
 
 ghost use Rattle.std.specs.Prelude.{◌≡◌, ◌≤◌, ◌<◌, ◌+◌, ◌*◌, ◌^◌, ◌++◌, ◌∷◌, [], length};
 ghost use Rattle.hm_isa.specs.declared.Vector.TheVariants as vector;
-ghost use Rattle.hm_textv.specs.Rows.{at_offsets, registers, scale, tokens_of};
+ghost use Rattle.hm_textv_rows.specs.Rows.{at_offsets, registers, scale, tokens_of};
 ghost use Rattle.hm_text_rows.specs.Shapes.{back, q};
 ghost use Rattle.hm_tokens.specs.Texts.{part_token, text_tokens};
 ghost use Rattle.hm_tokens.specs.Tokens.{word, close_bracket, comma, open_bracket};

@@ -1,7 +1,7 @@
 //! What a text gives numbers for, read carelessly: nothing is refused, since the row that is found is asked for its text.
 
 ghost use Rattle.std.specs.Prelude.{◌≡◌, map};
-ghost use Rattle.hm_textv.specs.Operands.{other_value, read_operands, sign_of, value, word_value};
+ghost use Rattle.hm_textv_codes.specs.Operands.{other_value, read_operands, sign_of, value, word_value};
 ghost use Rattle.hm_tokens.specs.Tokens.{tok};
 
 use hm_text_rows::{added, back_in, before, is_vector, operand, size_of, token_behind};

@@ -2,9 +2,9 @@
 
 ghost use Rattle.std.specs.Prelude.{◌≡◌, ◌≤◌, ◌<◌, ◌+◌, ◌*◌, ◌^◌, ◌++◌, codes};
 ghost use Rattle.hm_isa.specs.declared.Vector.TheVariants as vector;
-ghost use Rattle.hm_textv.specs.Rows.{compare_name, long_part, shift_in, shifted, size_in, tokens_of};
+ghost use Rattle.hm_textv_rows.specs.Rows.{compare_name, long_part, shift_in, shifted, size_in, tokens_of};
 ghost use Rattle.hm_text_rows.specs.Shapes.{either, q, three};
-ghost use Rattle.hm_textv.specs.Mnemonics.{compare_condition};
+ghost use Rattle.hm_textv_rows.specs.Mnemonics.{compare_condition};
 ghost use Rattle.hm_tokens.specs.Texts.{part_token, text_tokens};
 ghost use Rattle.hm_tokens.specs.Tokens.{word};
 

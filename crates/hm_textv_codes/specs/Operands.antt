@@ -3,7 +3,7 @@ use Rattle.std.specs.Prelude.{ℕ, min, List, length, get_or, codes, bytes_eq, �
 use Rattle.hm_tokens.specs.Names.{register_in, vector_in}
 use Rattle.hm_tokens.specs.Tokens.{Tok, word, number, mark}
 use Rattle.hm_text_rows.specs.Operands.{added, back_in, before, given_or, is_vector, operand, size_of, token_behind}
-use Rattle.hm_textv.specs.declared.operands.Operands.{Operands}
+use Rattle.hm_textv_codes.specs.declared.operands.Operands.{Operands}
 
 -- a condition of a comparison, zero, a shift that brings in ones, and an offset that is scaled
 abbrev pub other_value : List ℕ → ℕ

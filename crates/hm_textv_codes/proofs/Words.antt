@@ -4,7 +4,7 @@ use Rattle.std.proofs.lemmas.Bool.{agree_below_at}
 use Rattle.hm_tokens.specs.Names.{register_name, vector_name}
 use Rattle.hm_text_rows.specs.Operands.{is_vector_name}
 use Rattle.hm_text_rows.proofs.Words.{below_holds, below_is}
-use Rattle.hm_textv.specs.Operands.{word_value}
+use Rattle.hm_textv_codes.specs.Operands.{word_value}
 
 pub value_q : (d : ℕ) → d < 8 → word_value (vector_name d) ≡ d
 unfolding word_value

@@ -1,11 +1,10 @@
 //! The mnemonics of vector rows.
 
 ghost use Rattle.std.specs.Prelude.{◌≡◌, ◌<◌};
-ghost use Rattle.hm_textv.specs.Mnemonics.{add_mnemonic, bitwise_mnemonic, carry_mnemonic, constant_shift_mnemonic, doubling_mnemonic, extreme_mnemonic};
-ghost use Rattle.hm_textv.specs.Mnemonics.{high_mnemonic, offsets_mnemonic, one_mnemonic};
-ghost use Rattle.hm_textv.specs.Mnemonics.{reverse_mnemonic, scalar_mnemonic, signed_mnemonic, complex_sum_mnemonic, vector_shift_mnemonic, wrapped_mnemonic};
-ghost use Rattle.hm_textv.specs.Mnemonics.{narrow_mnemonic, block_letters};
-ghost use Rattle.hm_textv.specs.Mnemonics.{compare_condition, access_mnemonic, pair_mnemonic, quad_mnemonic};
+ghost use Rattle.hm_textv_rows.specs.Mnemonics.{add_mnemonic, bitwise_mnemonic, carry_mnemonic, constant_shift_mnemonic, doubling_mnemonic, extreme_mnemonic};
+ghost use Rattle.hm_textv_rows.specs.Mnemonics.{high_mnemonic, offsets_mnemonic, one_mnemonic, reverse_mnemonic, scalar_mnemonic, signed_mnemonic};
+ghost use Rattle.hm_textv_rows.specs.Mnemonics.{complex_sum_mnemonic, vector_shift_mnemonic, wrapped_mnemonic, narrow_mnemonic, block_letters};
+ghost use Rattle.hm_textv_rows.specs.Mnemonics.{compare_condition, access_mnemonic, pair_mnemonic, quad_mnemonic};
 
 use hm_isa::{
     AddName, Below, Bit, BitwiseName, CarryName, ComplexSumName, ConstantShiftName, DoublingName,
