@@ -9,11 +9,12 @@ use Rattle.hm_text_base.proofs.Steps.{some_is}
 use Rattle.hm_tokens.specs.Lines.{IsLineOf}
 use Rattle.hm_tokens.specs.Ranges.{is_inside, normal, singles}
 use Rattle.hm_tokens.specs.Tokens.{Tok, word, number, mark}
-use Rattle.hm_text16.specs.Codes.{code_in}
-use Rattle.hm_text16.specs.Rows.{tokens_of}
+use Rattle.hm_text16_codes.specs.Codes.{code_in}
+use Rattle.hm_text16_rows.specs.Rows.{tokens_of}
 use Rattle.hm_text16.specs.Texts.{HasTokens}
-use Rattle.hm_text16.proofs.Asked.{halves}
-use Rattle.hm_text16.proofs.Laws.{nearest, row_law}
+use Rattle.hm_text16_codes.proofs.Asked.{halves}
+use Rattle.hm_text16.proofs.Laws.{nearest}
+use Rattle.hm_text16_codes.proofs.Rows.{row_law}
 use Rattle.hm_textv_rows.specs.Rows as vectors
 use Rattle.hm_textv.proofs.Laws.{answers_law}
 use Rattle.hm_textv_codes.specs.Codes as vector_codes

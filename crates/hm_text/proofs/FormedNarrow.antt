@@ -22,9 +22,9 @@ use Rattle.hm_line.specs.Kinds.{Kind, kind}
 use Rattle.hm_line.proofs.Operands.{takes}
 use Rattle.hm_text_rows.specs.Operands.{bits_of, braced}
 use Rattle.hm_text_rows.specs.Shapes.{braces, listed, r, registers_from}
-use Rattle.hm_text16.specs.Rows.{list_tokens, tokens_of}
+use Rattle.hm_text16_rows.specs.Rows.{list_tokens, tokens_of}
 use Rattle.hm_text16.specs.Texts.{IsNarrow}
-use Rattle.hm_text16.proofs.Registers.{Braces, low_braces, pop_braces, push_braces}
+use Rattle.hm_text16_rows.proofs.Registers.{Braces, low_braces, pop_braces, push_braces}
 use Rattle.hm_text.proofs.Formed.{Formed, are_operands}
 
 -- LISTS

@@ -11,10 +11,10 @@ use Rattle.hm_tokens.specs.Ranges.{normal}
 use Rattle.hm_tokens.specs.Tokens.{Tok, number}
 use Rattle.hm_tokens.proofs.Ranges.{normal_no_fewer}
 use Rattle.hm_text_rows.specs.Labels.{Reaches}
-use Rattle.hm_text16.specs.Targets as narrow_targets
+use Rattle.hm_text16_rows.specs.Targets as narrow_targets
 use Rattle.hm_text16.specs.Texts as narrow
 use Rattle.hm_text16.proofs.Laws as narrow_laws
-use Rattle.hm_text32.specs.Targets as wide_targets
+use Rattle.hm_text32_rows.specs.Targets as wide_targets
 use Rattle.hm_text32.specs.Texts as wide
 use Rattle.hm_text32.proofs.Laws as wide_laws
 use Rattle.hm_textv_rows.specs.Rows as vectors

@@ -2,11 +2,11 @@
 use Rattle.std.proofs.Common.{◌≡◌, ℕ, eqb, List, ◌∷◌, None, refl, inl, inr}
 use Rattle.std.proofs.lemmas.Bool.{cases_Bool}
 use Rattle.hm_tokens.specs.Tokens.{Tok, word}
-use Rattle.hm_text16.specs.declared.operands.Kind.{Kind}
-use Rattle.hm_text16.specs.declared.operands.Kind.TheVariants as kinds
-use Rattle.hm_text16.specs.declared.operands.Operands.{Operands}
-use Rattle.hm_text16.specs.Codes.{code_in, code_of, code_of_three, code_of_two, code_with_number}
-use Rattle.hm_text16.specs.Operands.{read_operands}
+use Rattle.hm_text16_codes.specs.declared.operands.Kind.{Kind}
+use Rattle.hm_text16_codes.specs.declared.operands.Kind.TheVariants as kinds
+use Rattle.hm_text16_codes.specs.declared.operands.Operands.{Operands}
+use Rattle.hm_text16_codes.specs.Codes.{code_in, code_of, code_of_three, code_of_two, code_with_number}
+use Rattle.hm_text16_codes.specs.Operands.{read_operands}
 
 number_none : (w : List ℕ) (o : Operands) → code_with_number (118 ∷ w) o ≡ None
 number_none w o =

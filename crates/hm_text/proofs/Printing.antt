@@ -11,20 +11,22 @@ use Rattle.hm_line.specs.declared.form.Form.TheVariants as forms
 use Rattle.hm_line.specs.Texts.{IsOfForm}
 use Rattle.hm_tokens.specs.Lines.{printed}
 use Rattle.hm_tokens.specs.Tokens.{Tok, number}
-use Rattle.hm_text16.specs.Rows.{has_label, row_tokens}
-use Rattle.hm_text16.specs.Targets.{target}
+use Rattle.hm_text16_rows.specs.Rows.{has_label, row_tokens}
+use Rattle.hm_text16_rows.specs.Targets.{target}
 use Rattle.hm_text16.specs.Texts.{IsNarrow, text_of}
 use Rattle.hm_text16.specs.Texts as narrow
 use Rattle.hm_text_rows.proofs.Shown.{IsGiven, IsPrintedRow}
-use Rattle.hm_text16.proofs.Laws.{given_target, row_law}
+use Rattle.hm_text16.proofs.Laws.{given_target}
+use Rattle.hm_text16_codes.proofs.Rows.{row_law}
 use Rattle.hm_textv_rows.specs.Rows as vectors
 use Rattle.hm_textv.proofs.Laws as vector_laws
 use Rattle.hm_enc32.specs.Table.{IsWide}
 use Rattle.hm_text_rows.specs.Labels.{NamesTarget, printed_with}
-use Rattle.hm_text32.specs.Rows as wide_rows
-use Rattle.hm_text32.specs.Targets as wide_targets
+use Rattle.hm_text32_rows.specs.Rows as wide_rows
+use Rattle.hm_text32_rows.specs.Targets as wide_targets
 use Rattle.hm_text32.specs.Texts as wide
 use Rattle.hm_text32.proofs.Laws as wide_laws
+use Rattle.hm_text32_codes.proofs.Rows as wide_asked
 use Rattle.hm_text.specs.Tables.{long_text, printed_text, width_of}
 use Rattle.hm_text.specs.Texts.{HasWidth, IsTextOf}
 use Rattle.hm_text.proofs.Formed.{Formed, formed_text}
@@ -58,7 +60,7 @@ narrow_printed i pc text labels narrow_ is read = record {
 wide_form : (i : Instr) (pc : ℕ) (text : List ℕ) → IsWide i → text ≡ wide.text_of i (wide_targets.target i pc) → IsOfForm forms.Instruction text
 wide_form i pc text wide_ is =
     subst (λ (x : List ℕ). IsOfForm forms.Instruction x) (sym is)
-    (form_of (wide_rows.has_label i) (wide_rows.row_tokens i) (wide_targets.target i pc) (wide_laws.row_law i wide_).prints (wide_laws.given_target i pc)
+    (form_of (wide_rows.has_label i) (wide_rows.row_tokens i) (wide_targets.target i pc) (wide_asked.row_law i wide_).prints (wide_laws.given_target i pc)
     (λ a. formed_wide i a wide_))
 
 pub wide_printed : (i : Instr) (pc : ℕ) (text : List ℕ) (labels : List ℕ → Option ℕ) → IsWide i → text ≡ wide.text_of i (wide_targets.target i pc)

@@ -10,14 +10,14 @@ use Rattle.hm_isa.specs.declared.Scalar.TheVariants as scalar
 use Rattle.hm_isa.specs.Code.{branch_halves, halfwords, scalar_halves}
 use Rattle.hm_enc32.specs.Table.{IsWide}
 use Rattle.hm_tokens.specs.Tokens.{Tok}
-use Rattle.hm_text16.specs.Rows as narrow_rows
-use Rattle.hm_text16.specs.Targets as narrow_targets
+use Rattle.hm_text16_rows.specs.Rows as narrow_rows
+use Rattle.hm_text16_rows.specs.Targets as narrow_targets
 use Rattle.hm_text16.specs.Texts as narrow
 use Rattle.hm_text_rows.proofs.Shown.{IsGiven}
 use Rattle.hm_text16.proofs.Laws as narrow_laws
 use Rattle.hm_text32.proofs.Laws as wide_laws
-use Rattle.hm_text32.specs.Rows as wide_rows
-use Rattle.hm_text32.specs.Targets as wide_targets
+use Rattle.hm_text32_rows.specs.Rows as wide_rows
+use Rattle.hm_text32_rows.specs.Targets as wide_targets
 use Rattle.hm_text32.specs.Texts as wide
 use Rattle.hm_text_rows.specs.Operands.{first}
 use Rattle.hm_text.specs.Tables.{has_label, label_of, target}

@@ -4,17 +4,19 @@ use Rattle.std.proofs.Common.{◌≡◌, ◌⊎◌, ℕ, Bool, true, false, cond
 use Rattle.std.specs.Prelude.{bytes_eq, codes, not, ◌&&◌, ◌||◌}
 use Rattle.std.proofs.lemmas.Bool.{and_parts, cases_Bool, false≢true}
 use Rattle.hm_tokens.specs.Tokens.{Tok, word, number, mark}
-use Rattle.hm_text16.specs.declared.operands.Kind.{Kind}
-use Rattle.hm_text16.specs.declared.operands.Kind.TheVariants as kinds
-use Rattle.hm_text16.specs.declared.operands.Operands.{Operands}
-use Rattle.hm_text16.specs.Codes.{access_base_in, block_in, byte_access_base_in, byte_base_in, code_address, code_always, code_block, code_break, code_byte}
-use Rattle.hm_text16.specs.Codes.{code_byte_access, code_compare, code_conditional, code_half, code_high, code_in, code_jump, code_label, code_list}
-use Rattle.hm_text16.specs.Codes.{code_literal, code_low, code_of, code_of_three, code_of_two, code_registers, code_shift, code_single, code_small_sum}
-use Rattle.hm_text16.specs.Codes.{code_stack_access, code_stack_sum, code_with_number, code_with_register, code_word, code_zero, fixed_code_in, half_base_in}
-use Rattle.hm_text16.specs.Codes.{high_base_in, jump_base_in, low_base_in, move_base_in, shift_base_in, stack_base_in, stack_sum_base_in, sum_base_in}
-use Rattle.hm_text16.specs.Codes.{word_base_in, zero_base_in}
+use Rattle.hm_text16_codes.specs.declared.operands.Kind.{Kind}
+use Rattle.hm_text16_codes.specs.declared.operands.Kind.TheVariants as kinds
+use Rattle.hm_text16_codes.specs.declared.operands.Operands.{Operands}
+use Rattle.hm_text16_codes.specs.Codes.{access_base_in, block_in, byte_access_base_in, byte_base_in, code_address, code_always, code_block, code_break}
+use Rattle.hm_text16_codes.specs.Codes.{code_byte}
+use Rattle.hm_text16_codes.specs.Codes.{code_byte_access, code_compare, code_conditional, code_half, code_high, code_in, code_jump, code_label, code_list}
+use Rattle.hm_text16_codes.specs.Codes.{code_literal, code_low, code_of, code_of_three, code_of_two, code_registers, code_shift, code_single, code_small_sum}
+use Rattle.hm_text16_codes.specs.Codes.{code_stack_access, code_stack_sum, code_with_number, code_with_register, code_word, code_zero, fixed_code_in}
+use Rattle.hm_text16_codes.specs.Codes.{half_base_in}
+use Rattle.hm_text16_codes.specs.Codes.{high_base_in, jump_base_in, low_base_in, move_base_in, shift_base_in, stack_base_in, stack_sum_base_in, sum_base_in}
+use Rattle.hm_text16_codes.specs.Codes.{word_base_in, zero_base_in}
 use Rattle.hm_text_rows.specs.Operands.{branch_condition_in, first}
-use Rattle.hm_text16.specs.Operands.{read_operands}
+use Rattle.hm_text16_codes.specs.Operands.{read_operands}
 use Rattle.hm_textv_codes.specs.Codes as vectors
 use Rattle.hm_text.proofs.Lines.{has_lane}
 use Rattle.hm_text.proofs.VectorNames.{begins_with_v, is_other, other_name_none, some_code, vector_named}

@@ -80,14 +80,16 @@ use Rattle.hm_line.proofs.Operands.{takes}
 use Rattle.hm_text_base.proofs.Steps.{some_is, test_some}
 use Rattle.hm_text_rows.specs.Shapes.{braces, indexed, inside, listed, r, registers_from, two}
 use Rattle.hm_text_rows.proofs.Words.{below_holds}
-use Rattle.hm_text32.specs.Rows.{and_shifted, constant_tokens, data_tokens, is_by_carry, is_unshifted, insert_tokens, lane_tokens, loop_end_tokens}
-use Rattle.hm_text32.specs.Rows.{moved_tokens, other_barrier, other_scalar, other_tokens, row_tokens, shift_number, single_tokens, system_tokens, table_tokens}
-use Rattle.hm_text32.specs.Rows.{tokens_of}
-use Rattle.hm_text32.specs.Mnemonics.{access_mnemonic, accumulate_mnemonic, barrier_mnemonic, bits_mnemonic, bits_suffix, carry_mnemonic, data_mnemonic}
-use Rattle.hm_text32.specs.Mnemonics.{element_suffix, extend_mnemonic}
-use Rattle.hm_text32.specs.Mnemonics.{extract_mnemonic, half_mnemonic, long_mnemonic, move_mnemonic, operation_mnemonic, pair_mnemonic, saturate_mnemonic}
-use Rattle.hm_text32.specs.Mnemonics.{select_mnemonic, stack_mnemonic, test_mnemonic}
-use Rattle.hm_text32.specs.Mnemonics.{turn_mnemonic, wide, wide_branch_mnemonic, wide_list_mnemonic, wide_list_suffix, wide_shift_mnemonic, wide_sum_mnemonic}
+use Rattle.hm_text32_rows.specs.Rows.{and_shifted, constant_tokens, data_tokens, is_by_carry, is_unshifted, insert_tokens, lane_tokens, loop_end_tokens}
+use Rattle.hm_text32_rows.specs.Rows.{moved_tokens, other_barrier, other_scalar, other_tokens, row_tokens, shift_number, single_tokens, system_tokens}
+use Rattle.hm_text32_rows.specs.Rows.{table_tokens}
+use Rattle.hm_text32_rows.specs.Rows.{tokens_of}
+use Rattle.hm_text32_rows.specs.Mnemonics.{access_mnemonic, accumulate_mnemonic, barrier_mnemonic, bits_mnemonic, bits_suffix, carry_mnemonic, data_mnemonic}
+use Rattle.hm_text32_rows.specs.Mnemonics.{element_suffix, extend_mnemonic}
+use Rattle.hm_text32_rows.specs.Mnemonics.{extract_mnemonic, half_mnemonic, long_mnemonic, move_mnemonic, operation_mnemonic, pair_mnemonic, saturate_mnemonic}
+use Rattle.hm_text32_rows.specs.Mnemonics.{select_mnemonic, stack_mnemonic, test_mnemonic}
+use Rattle.hm_text32_rows.specs.Mnemonics.{turn_mnemonic, wide, wide_branch_mnemonic, wide_list_mnemonic, wide_list_suffix, wide_shift_mnemonic}
+use Rattle.hm_text32_rows.specs.Mnemonics.{wide_sum_mnemonic}
 use Rattle.hm_text32.specs.Texts.{AreTokens}
 use Rattle.hm_text.proofs.Formed.{Formed, is_formed}
 use Rattle.hm_text.proofs.FormedNarrow.{more_registers}

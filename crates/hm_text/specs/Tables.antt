@@ -7,11 +7,11 @@ use Rattle.hm_tokens.specs.Lines.{IsLineOf, printed}
 use Rattle.hm_tokens.specs.Ranges.{normal}
 use Rattle.hm_tokens.specs.Tokens.{Tok}
 use Rattle.hm_text_rows.specs.Labels.{Reaches}
-use Rattle.hm_text16.specs.Rows as narrow_rows
-use Rattle.hm_text16.specs.Targets as narrow_targets
+use Rattle.hm_text16_rows.specs.Rows as narrow_rows
+use Rattle.hm_text16_rows.specs.Targets as narrow_targets
 use Rattle.hm_text16.specs.Texts as narrow
-use Rattle.hm_text32.specs.Rows as wide_rows
-use Rattle.hm_text32.specs.Targets as wide_targets
+use Rattle.hm_text32_rows.specs.Rows as wide_rows
+use Rattle.hm_text32_rows.specs.Targets as wide_targets
 use Rattle.hm_text32.specs.Texts as wide
 use Rattle.hm_textv_rows.specs.Rows as vectors
 use Rattle.hm_text_rows.specs.Operands.{first}

@@ -1,5 +1,5 @@
--- Every row of one halfword: its text asks for its code, and is printed and read back.
-use Rattle.std.proofs.Common.{◌≡◌, ℕ, ◌≤◌, List, [], ◌∷◌, length, refl, sym, subst, Option, arith}
+-- Every row of one halfword: what is printed is its text, and there is a row with the same text whose label is near.
+use Rattle.std.proofs.Common.{◌≡◌, ℕ, ◌≤◌, List, length, refl, sym, subst, Option, arith}
 use Rattle.hm_isa.specs.declared.Scalar.{Scalar}
 use Rattle.hm_isa.specs.declared.Scalar.TheVariants as scalar
 use Rattle.hm_isa.specs.declared.Branch.{Branch}
@@ -10,79 +10,12 @@ use Rattle.hm_isa.specs.declared.narrow.S25.TheVariants as s25
 use Rattle.hm_isa.specs.Code.{branch_halves, scalar_halves}
 use Rattle.hm_tokens.specs.Lines.{IsLineOf}
 use Rattle.hm_tokens.specs.Tokens.{Tok}
-use Rattle.hm_text_rows.proofs.Shown.{IsGiven, again_of, few_of, room_of}
-use Rattle.hm_text16.specs.Rows.{has_label, row_tokens}
-use Rattle.hm_text16.specs.Targets.{target}
-use Rattle.hm_text16.specs.Texts.{HasTokens, IsNarrow, IsTextOf, text_of}
 use Rattle.hm_text_rows.specs.Labels.{Reaches}
-use Rattle.hm_text16.proofs.Asked.{Row}
-use Rattle.hm_text16.proofs.OnRegisters.{row_s1, row_s2, row_s3, row_s4, row_s5, row_s6, row_s7, row_s8, row_s9, row_s10, row_s11, row_s12, row_s13, row_s18}
-use Rattle.hm_text16.proofs.OnRegisters.{row_s19, row_s23}
-use Rattle.hm_text16.proofs.OnMemory.{row_s15, row_s16, row_s17}
-use Rattle.hm_text16.proofs.OnLists.{row_s20, row_s21}
-use Rattle.hm_text16.proofs.OnLabels.{row_s14, row_s24, row_s25}
-
-abbrev both : List ℕ
-both = 0 ∷ 0 ∷ []
-
-two_halves_not : length both ≡ 1 → ⊥
-two_halves_not e = omega (arith, e)
-
-row_scalar : (i : Scalar) → length (scalar_halves i) ≡ 1 → Row (instr.Scalar i)
-row_scalar (scalar.S1 i) e = row_s1 i
-row_scalar (scalar.S2 i) e = row_s2 i
-row_scalar (scalar.S3 i) e = row_s3 i
-row_scalar (scalar.S4 i) e = row_s4 i
-row_scalar (scalar.S5 i) e = row_s5 i
-row_scalar (scalar.S6 i) e = row_s6 i
-row_scalar (scalar.S7 i) e = row_s7 i
-row_scalar (scalar.S8 i) e = row_s8 i
-row_scalar (scalar.S9 i) e = row_s9 i
-row_scalar (scalar.S10 i) e = row_s10 i
-row_scalar (scalar.S11 i) e = row_s11 i
-row_scalar (scalar.S12 i) e = row_s12 i
-row_scalar (scalar.S13 i) e = row_s13 i
-row_scalar (scalar.S14 i) e = row_s14 i
-row_scalar (scalar.S15 i) e = row_s15 i
-row_scalar (scalar.S16 i) e = row_s16 i
-row_scalar (scalar.S17 i) e = row_s17 i
-row_scalar (scalar.S18 i) e = row_s18 i
-row_scalar (scalar.S19 i) e = row_s19 i
-row_scalar (scalar.S20 i) e = row_s20 i
-row_scalar (scalar.S21 i) e = row_s21 i
-row_scalar (scalar.T1 i) e = absurd (two_halves_not e)
-row_scalar (scalar.T2 i) e = absurd (two_halves_not e)
-row_scalar (scalar.T3 i) e = absurd (two_halves_not e)
-row_scalar (scalar.T4 i) e = absurd (two_halves_not e)
-row_scalar (scalar.T5 i) e = absurd (two_halves_not e)
-row_scalar (scalar.T6 i) e = absurd (two_halves_not e)
-row_scalar (scalar.T7 i) e = absurd (two_halves_not e)
-row_scalar (scalar.T8 i) e = absurd (two_halves_not e)
-row_scalar (scalar.T9 i) e = absurd (two_halves_not e)
-row_scalar (scalar.T10 i) e = absurd (two_halves_not e)
-row_scalar (scalar.T11 i) e = absurd (two_halves_not e)
-row_scalar (scalar.T12 i) e = absurd (two_halves_not e)
-row_scalar (scalar.T13 i) e = absurd (two_halves_not e)
-row_scalar (scalar.T14 i) e = absurd (two_halves_not e)
-row_scalar (scalar.T15 i) e = absurd (two_halves_not e)
-row_scalar (scalar.T18 i) e = absurd (two_halves_not e)
-row_scalar (scalar.T19 i) e = absurd (two_halves_not e)
-row_scalar (scalar.T20 i) e = absurd (two_halves_not e)
-row_scalar (scalar.T21 i) e = absurd (two_halves_not e)
-row_scalar (scalar.T22 i) e = absurd (two_halves_not e)
-
-row_branch : (i : Branch) → length (branch_halves i) ≡ 1 → Row (instr.Branch i)
-row_branch (branch.S23 i) e = row_s23 i
-row_branch (branch.S24 i) e = row_s24 i
-row_branch (branch.S25 i) e = row_s25 i
-row_branch (branch.T16 i) e = absurd (two_halves_not e)
-row_branch (branch.T17 i) e = absurd (two_halves_not e)
-row_branch (branch.T23 i) e = absurd (two_halves_not e)
-
-pub row_law : (i : Instr) → IsNarrow i → Row i
-row_law (instr.Scalar i) e = row_scalar i e
-row_law (instr.Branch i) e = row_branch i e
-row_law (instr.Vector i) e = absurd (two_halves_not e)
+use Rattle.hm_text_rows.proofs.Shown.{IsGiven, again_of, few_of, room_of}
+use Rattle.hm_text16_rows.specs.Rows.{has_label, row_tokens}
+use Rattle.hm_text16_rows.specs.Targets.{target}
+use Rattle.hm_text16_codes.proofs.Rows.{row_law, two_halves_not}
+use Rattle.hm_text16.specs.Texts.{HasTokens, IsNarrow, IsTextOf, text_of}
 
 -- ---- printed
 

@@ -1,11 +1,3 @@
-pub mod Words
-pub mod Forms
-pub mod Asked
-pub mod OnRegisters
-pub mod OnMemory
-pub mod Registers
-pub mod OnLists
-pub mod OnLabels
 pub mod Fits
 pub mod Laws
 pub mod Tails

@@ -6,12 +6,13 @@ use Rattle.hm_isa.specs.Code.{halfwords}
 use Rattle.hm_text_base.proofs.Steps.{some_is}
 use Rattle.hm_tokens.specs.Ranges.{normal}
 use Rattle.hm_tokens.specs.Tokens.{Tok}
-use Rattle.hm_text16.specs.Codes.{code_in}
-use Rattle.hm_text16.specs.Rows.{tokens_of}
+use Rattle.hm_text16_codes.specs.Codes.{code_in}
+use Rattle.hm_text16_rows.specs.Rows.{tokens_of}
 use Rattle.hm_text16.specs.Texts.{HasTokens, IsNarrow, IsRowAt, label_of}
 use Rattle.hm_text16.proofs.Fits.{IsSmall, small_code}
-use Rattle.hm_text16.proofs.Laws.{few_tokens, nearest, row_law}
-use Rattle.hm_text16.proofs.Asked.{halves}
+use Rattle.hm_text16_codes.proofs.Rows.{row_law}
+use Rattle.hm_text16.proofs.Laws.{few_tokens, nearest}
+use Rattle.hm_text16_codes.proofs.Asked.{halves}
 
 -- ---- the code that the tokens of a row ask for
 

@@ -5,8 +5,8 @@ use Rattle.std.proofs.lemmas.Bool.{false≢true}
 use Rattle.hm_isa.specs.declared.Instr.{Instr}
 use Rattle.hm_tokens.specs.Tokens.{Tok, number}
 use Rattle.hm_text_rows.proofs.Tails.{last_one, nothing_not}
-use Rattle.hm_text16.specs.Rows.{has_label, row_tokens, tokens_of}
-use Rattle.hm_text16.specs.Targets.{target}
+use Rattle.hm_text16_rows.specs.Rows.{has_label, row_tokens, tokens_of}
+use Rattle.hm_text16_rows.specs.Targets.{target}
 use Rattle.hm_text16.specs.Texts.{HasTokens, IsNarrow, IsRowAt, label_of}
 use Rattle.hm_text_rows.specs.Labels.{IsLabel, Reaches}
 

@@ -6,8 +6,8 @@ use Rattle.hm_tokens.specs.Lines.{IsLineOf}
 use Rattle.hm_tokens.specs.Ranges.{normal}
 use Rattle.hm_tokens.specs.Tokens.{Tok}
 use Rattle.hm_text_rows.specs.Labels.{IsLabel, NamesTarget, Reaches, printed_with}
-use Rattle.hm_text16.specs.Rows.{has_label, row_tokens, tokens_of}
-use Rattle.hm_text16.specs.Targets.{target}
+use Rattle.hm_text16_rows.specs.Rows.{has_label, row_tokens, tokens_of}
+use Rattle.hm_text16_rows.specs.Targets.{target}
 
 -- the code of a row is one halfword
 abbrev pub IsNarrow : Instr → Type 0

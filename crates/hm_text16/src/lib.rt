@@ -4,28 +4,21 @@
 ghost use Rattle.std.specs.Prelude.{◌≡◌, ◌≤◌, ℕ, IfSome, List, Option, Some, length, map, option_map};
 ghost use Rattle.hm_isa.specs.declared.Instr.{Instr};
 ghost use Rattle.hm_isa.specs.Code.{halfwords};
-ghost use Rattle.hm_text16.specs.Targets.{target};
+ghost use Rattle.hm_text16_rows.specs.Targets.{target};
 ghost use Rattle.hm_text16.specs.Texts.{HasTokens, IsRowAt, IsTextOf, label_of, text_of};
 ghost use Rattle.hm_tokens.specs.Ranges.{normal};
 ghost use Rattle.hm_tokens.specs.Tokens.{Tok, tok};
 
-mod bases;
-mod codes;
-mod mnemonics;
-mod operands;
-mod rows;
-mod shapes;
-mod targets;
 mod texts;
 
 use arrayvec::ArrayString;
-use codes::code_in;
 use hm_enc16::decode16;
 use hm_isa::Instr;
 pub use hm_text_rows::Shape;
+use hm_text16_codes::code_in;
+use hm_text16_rows::row_text;
+pub use hm_text16_rows::target;
 use hm_tokens::{Token, single_registers};
-use rows::row_text;
-pub use targets::target;
 use texts::{is_row_at, label_in};
 
 /// The text of a row, with the address that its label names, if it has one.

@@ -2,48 +2,16 @@
 
 ghost use Rattle.std.specs.Prelude.{◌≡◌, ◌↔◌, true, IsTrue, length, map, option_map};
 ghost use Rattle.hm_isa.specs.Code.{halfwords};
-ghost use Rattle.hm_text16.specs.Rows.{has_label, has_label_branch, has_label_scalar, tokens_of};
-ghost use Rattle.hm_text16.specs.Targets.{target};
+ghost use Rattle.hm_text16_rows.specs.Rows.{has_label, tokens_of};
+ghost use Rattle.hm_text16_rows.specs.Targets.{target};
 ghost use Rattle.hm_text16.specs.Texts.{HasTokens, IsRowAt, label_of};
 ghost use Rattle.hm_text_rows.specs.Labels.{Reaches};
 ghost use Rattle.hm_tokens.specs.Tokens.{Tok, tok};
 
-use crate::rows::row_text;
-use crate::targets::target;
-use hm_isa::{Branch, Instr, Scalar};
+use hm_isa::Instr;
 use hm_text_rows::{is_label, split_last};
+use hm_text16_rows::{has_label, row_text, target};
 use hm_tokens::Token;
-
-/// Whether a scalar row has a label.
-fn has_label_scalar(i: &Scalar) -> bool
-    ensures { result ≡ has_label_scalar i.now }
-{
-    match i {
-        Scalar::S14(_) => true,
-        _ => false,
-    }
-}
-
-/// Whether a branch has a label.
-fn has_label_branch(i: &Branch) -> bool
-    ensures { result ≡ has_label_branch i.now }
-{
-    match i {
-        Branch::S24(_) | Branch::S25(_) => true,
-        Branch::S23(_) | Branch::T16(_) | Branch::T17(_) | Branch::T23(_) => false,
-    }
-}
-
-/// Whether the last operand of a row of one halfword is a label.
-fn has_label(i: &Instr) -> bool
-    ensures { result ≡ has_label i.now }
-{
-    match i {
-        Instr::Scalar(i) => has_label_scalar(i),
-        Instr::Branch(i) => has_label_branch(i),
-        Instr::Vector(_) => false,
-    }
-}
 
 /// Whether tokens are those of a row with a label.
 fn is_labelled(i: &Instr, tokens: &[Token<'_>]) -> bool

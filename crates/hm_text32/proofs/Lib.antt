@@ -1,14 +1,3 @@
-pub mod Shifts
-pub mod Forms
-pub mod Asked
-pub mod Data
-pub mod Arith
-pub mod Shifted
-pub mod OnConstants
-pub mod OnMemory
-pub mod OnLists
-pub mod System
-pub mod OnLabels
 pub mod Fits
 pub mod Laws
 pub mod Tails

@@ -8,12 +8,13 @@ use Rattle.hm_text_base.proofs.Steps.{some_is}
 use Rattle.hm_tokens.specs.Ranges.{normal}
 use Rattle.hm_tokens.specs.Tokens.{Tok}
 use Rattle.hm_text_rows.specs.Labels.{IsLabel, Reaches}
-use Rattle.hm_text32.specs.Codes.{code_in}
-use Rattle.hm_text32.specs.Rows.{has_label, other_tokens, row_tokens}
-use Rattle.hm_text32.specs.Targets.{target}
+use Rattle.hm_text32_codes.specs.Codes.{code_in}
+use Rattle.hm_text32_rows.specs.Rows.{has_label, other_tokens, row_tokens}
+use Rattle.hm_text32_rows.specs.Targets.{target}
 use Rattle.hm_text32.specs.Texts.{AreTokens, HasTokens, IsRowAt, label_of}
 use Rattle.hm_text32.proofs.Fits.{word_below}
-use Rattle.hm_text32.proofs.Laws.{few_tokens, nearest, other_law, row_law}
+use Rattle.hm_text32_codes.proofs.Rows.{other_law, row_law}
+use Rattle.hm_text32.proofs.Laws.{few_tokens, nearest}
 
 -- ---- the code that the tokens of a row ask for
 

@@ -9,8 +9,8 @@ use Rattle.hm_enc32.specs.Table.{IsWide}
 use Rattle.hm_tokens.specs.Tokens.{Tok, number}
 use Rattle.hm_text_rows.specs.Labels.{IsLabel, Reaches}
 use Rattle.hm_text_rows.proofs.Tails.{last_one, nothing_not}
-use Rattle.hm_text32.specs.Rows.{has_label, other_tokens, row_tokens, tokens_of}
-use Rattle.hm_text32.specs.Targets.{target}
+use Rattle.hm_text32_rows.specs.Rows.{has_label, other_tokens, row_tokens, tokens_of}
+use Rattle.hm_text32_rows.specs.Targets.{target}
 use Rattle.hm_text32.specs.Texts.{AreTokens, HasTokens, IsRowAt, label_of}
 
 abbrev pub Has : Instr → List Tok → Type 0

@@ -1,7 +1,1 @@
-pub mod Mnemonics
-pub mod Operands
-pub mod Bases
-pub mod Codes
-pub mod Rows
-pub mod Targets
 pub mod Texts

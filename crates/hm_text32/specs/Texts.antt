@@ -6,8 +6,8 @@ use Rattle.hm_text_rows.specs.Labels.{IsLabel, NamesTarget, Reaches, printed_wit
 use Rattle.hm_tokens.specs.Lines.{IsLineOf}
 use Rattle.hm_tokens.specs.Ranges.{normal}
 use Rattle.hm_tokens.specs.Tokens.{Tok}
-use Rattle.hm_text32.specs.Rows.{has_label, other_tokens, row_tokens, tokens_of}
-use Rattle.hm_text32.specs.Targets.{target}
+use Rattle.hm_text32_rows.specs.Rows.{has_label, other_tokens, row_tokens, tokens_of}
+use Rattle.hm_text32_rows.specs.Targets.{target}
 
 -- tokens are those of a row as it is printed, where t stands for its label, or those of its other text
 abbrev pub AreTokens : Instr → Tok → List Tok → Type 0

@@ -1,6 +1,6 @@
 use Rattle.std.proofs.Common.{map}
 use Rattle.hm_tokens.specs.Tokens.{tok}
-use Rattle.hm_text16.specs.Targets as narrow_targets
+use Rattle.hm_text16_rows.specs.Targets as narrow_targets
 use Rattle.hm_text16.specs.Texts as narrow
 use Rattle.hm_text.proofs.InTables.{narrow_at_found, narrow_at_only, narrow_table, none_read}
 use Rattle.hm_text.proofs.tables.narrow_at.Goals as goal

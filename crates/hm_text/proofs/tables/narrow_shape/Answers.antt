@@ -1,7 +1,7 @@
 use Rattle.std.proofs.Common.{map}
 use Rattle.std.specs.Prelude.{option_map}
 use Rattle.hm_tokens.specs.Tokens.{tok}
-use Rattle.hm_text16.specs.Targets as narrow_targets
+use Rattle.hm_text16_rows.specs.Targets as narrow_targets
 use Rattle.hm_text16.specs.Texts as narrow
 use Rattle.hm_text.proofs.InTables.{narrow_table, none_read, shape_found, shape_none, shape_only}
 use Rattle.hm_text.proofs.tables.narrow_shape.Goals as goal

@@ -1,6 +1,6 @@
 use Rattle.std.proofs.Common.{map}
 use Rattle.hm_tokens.specs.Tokens.{tok}
-use Rattle.hm_text32.specs.Targets as wide_targets
+use Rattle.hm_text32_rows.specs.Targets as wide_targets
 use Rattle.hm_text32.specs.Texts as wide
 use Rattle.hm_text.proofs.InTables.{wide_at_found, wide_at_only, wide_table, none_read}
 use Rattle.hm_text.proofs.tables.wide_at.Goals as goal

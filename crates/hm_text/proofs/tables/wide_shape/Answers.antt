@@ -1,7 +1,7 @@
 use Rattle.std.proofs.Common.{map}
 use Rattle.std.specs.Prelude.{option_map}
 use Rattle.hm_tokens.specs.Tokens.{tok}
-use Rattle.hm_text32.specs.Targets as wide_targets
+use Rattle.hm_text32_rows.specs.Targets as wide_targets
 use Rattle.hm_text32.specs.Texts as wide
 use Rattle.hm_text.proofs.InTables.{wide_table, none_read, shape_found, shape_none, shape_only}
 use Rattle.hm_text.proofs.tables.wide_shape.Goals as goal

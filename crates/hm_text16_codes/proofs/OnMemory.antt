@@ -1,0 +1,123 @@
+-- Rows that load and store one register: their texts ask for their codes.
+use Rattle.std.proofs.Common.{◌≡◌, ℕ, ◌+◌, ◌*◌, ◌/◌, ◌<◌, true, false, eqb, Some, refl, arith}
+use Rattle.hm_isa.specs.declared.narrow.AccessName.{AccessName}
+use Rattle.hm_isa.specs.declared.narrow.AccessName.TheVariants as access
+use Rattle.hm_isa.specs.declared.narrow.PlainName.{PlainName}
+use Rattle.hm_isa.specs.declared.narrow.PlainName.TheVariants as plain
+use Rattle.hm_isa.specs.declared.narrow.WordName.{WordName}
+use Rattle.hm_isa.specs.declared.narrow.WordName.TheVariants as word_
+use Rattle.hm_isa.specs.declared.narrow.S15.{S15}
+use Rattle.hm_isa.specs.declared.narrow.S16.{S16}
+use Rattle.hm_isa.specs.declared.narrow.S17.{S17}
+use Rattle.hm_isa.specs.declared.Instr.TheVariants as instr
+use Rattle.hm_isa.specs.declared.Scalar.TheVariants as scalar
+use Rattle.hm_isa.specs.Code.{access_base, plain_base, word_base}
+use Rattle.hm_isa.specs.Standing.{◌↑◌}
+use Rattle.std.proofs.lemmas.Bool.{ne_eqb}
+use Rattle.hm_text16_codes.specs.declared.operands.Kind.TheVariants as kinds
+use Rattle.hm_text16_codes.specs.Codes.{code_of}
+use Rattle.hm_text16_rows.specs.Rows.{plain_size}
+use Rattle.hm_text16_rows.specs.Mnemonics.{access_mnemonic, plain_mnemonic, word_mnemonic}
+use Rattle.hm_text_rows.proofs.Words.{is_mnemonic}
+use Rattle.hm_text16_codes.proofs.Forms.{given, reads_by_register, reads_by_number}
+use Rattle.hm_text16_codes.proofs.Asked.{Row, plain_row}
+
+low_below : (n : ℕ) → n < 8 → n < 16
+low_below n lt = omega arith
+
+-- S15
+mnemonic_access : (name : AccessName) → is_mnemonic (access_mnemonic name) ≡ true
+mnemonic_access access.Str = refl
+mnemonic_access access.Strh = refl
+mnemonic_access access.Strb = refl
+mnemonic_access access.Ldrsb = refl
+mnemonic_access access.Ldr = refl
+mnemonic_access access.Ldrh = refl
+mnemonic_access access.Ldrb = refl
+mnemonic_access access.Ldrsh = refl
+
+asks_access : (name : AccessName) (m n t pc a : ℕ)
+    → code_of (access_mnemonic name) (given t n m kinds.Word kinds.Word) pc a ≡ Some (access_base name + m ↑ 6 + n ↑ 3 + t)
+unfolding code_of
+asks_access access.Str m n t pc a = refl
+asks_access access.Strh m n t pc a = refl
+asks_access access.Strb m n t pc a = refl
+asks_access access.Ldrsb m n t pc a = refl
+asks_access access.Ldr m n t pc a = refl
+asks_access access.Ldrh m n t pc a = refl
+asks_access access.Ldrb m n t pc a = refl
+asks_access access.Ldrsh m n t pc a = refl
+
+pub row_s15 : (i : S15) → Row (instr.Scalar (scalar.S15 i))
+row_s15 i = plain_row (instr.Scalar (scalar.S15 i)) _ _ _ refl refl
+    (reads_by_register _ _ _ _ (mnemonic_access i.name) (low_below i.t.value i.t.in_range) (low_below i.n.value i.n.in_range)
+    (low_below i.m.value i.m.in_range))
+    (λ p b. asks_access i.name _ _ _ p b)
+
+-- S16
+mnemonic_plain : (name : PlainName) → is_mnemonic (plain_mnemonic name) ≡ true
+mnemonic_plain plain.Str = refl
+mnemonic_plain plain.Ldr = refl
+mnemonic_plain plain.Strb = refl
+mnemonic_plain plain.Ldrb = refl
+mnemonic_plain plain.Strh = refl
+mnemonic_plain plain.Ldrh = refl
+
+byte_is : (k i : ℕ) → k / 1 ≡ i → k ≡ i
+byte_is k i e = omega (arith, e)
+
+asks_plain : (name : PlainName) (i n t k pc a : ℕ) → eqb n 13 ≡ false → k / plain_size name ≡ i
+    → code_of (plain_mnemonic name) (given t n k kinds.Word kinds.Number) pc a ≡ Some (plain_base name + i ↑ 6 + n ↑ 3 + t)
+unfolding code_of
+asks_plain plain.Str i n t k pc a h0 h1 = rw (h0, h1) refl
+asks_plain plain.Ldr i n t k pc a h0 h1 = rw (h0, h1) refl
+asks_plain plain.Strb i n t k pc a h0 h1 = rw (h0, byte_is k i h1) refl
+asks_plain plain.Ldrb i n t k pc a h0 h1 = rw (h0, byte_is k i h1) refl
+asks_plain plain.Strh i n t k pc a h0 h1 = rw (h0, h1) refl
+asks_plain plain.Ldrh i n t k pc a h0 h1 = rw (h0, h1) refl
+
+size_back : (name : PlainName) (i : ℕ) → plain_size name * i / plain_size name ≡ i
+size_back plain.Str i = omega arith
+size_back plain.Ldr i = omega arith
+size_back plain.Strb i = omega arith
+size_back plain.Ldrb i = omega arith
+size_back plain.Strh i = omega arith
+size_back plain.Ldrh i = omega arith
+
+offset_fits : (name : PlainName) (i : ℕ) → i < 32 → plain_size name * i < 10000
+offset_fits plain.Str i lt = omega arith
+offset_fits plain.Ldr i lt = omega arith
+offset_fits plain.Strb i lt = omega arith
+offset_fits plain.Ldrb i lt = omega arith
+offset_fits plain.Strh i lt = omega arith
+offset_fits plain.Ldrh i lt = omega arith
+
+no_sp : (n : ℕ) → n < 8 → eqb n 13 ≡ false
+no_sp n lt = ne_eqb n 13 (λ is. omega arith)
+
+pub row_s16 : (i : S16) → Row (instr.Scalar (scalar.S16 i))
+row_s16 i = plain_row (instr.Scalar (scalar.S16 i)) _ _ _ refl refl
+    (reads_by_number _ _ _ _ (mnemonic_plain i.name) (low_below i.t.value i.t.in_range) (low_below i.n.value i.n.in_range)
+    (offset_fits i.name i.i.value i.i.in_range)) (λ p b. asks_plain i.name i.i.value _ _ _ p b (no_sp i.n.value i.n.in_range) (size_back i.name i.i.value))
+
+-- S17
+mnemonic_word : (name : WordName) → is_mnemonic (word_mnemonic name) ≡ true
+mnemonic_word word_.Str = refl
+mnemonic_word word_.Ldr = refl
+
+asks_word : (name : WordName) (i t k pc a : ℕ) → k / 4 ≡ i
+    → code_of (word_mnemonic name) (given t 13 k kinds.Word kinds.Number) pc a ≡ Some (word_base name + t ↑ 8 + i)
+unfolding code_of
+asks_word word_.Str i t k pc a h0 = rw h0 refl
+asks_word word_.Ldr i t k pc a h0 = rw h0 refl
+
+quarter : (i : ℕ) → 4 * i / 4 ≡ i
+quarter i = omega arith
+
+words_fit : (i : ℕ) → i < 256 → 4 * i < 10000
+words_fit i lt = omega arith
+
+pub row_s17 : (i : S17) → Row (instr.Scalar (scalar.S17 i))
+row_s17 i = plain_row (instr.Scalar (scalar.S17 i)) _ _ _ refl refl
+    (reads_by_number _ _ _ _ (mnemonic_word i.name) (low_below i.t.value i.t.in_range) (omega arith) (words_fit i.i.value i.i.in_range))
+    (λ p b. asks_word i.name i.i.value _ _ p b (quarter i.i.value))

@@ -1,0 +1,343 @@
+-- Rows on registers: their texts ask for their codes.
+use Rattle.std.proofs.Common.{◌≡◌, ℕ, ◌+◌, ◌*◌, ◌/◌, ◌%◌, ◌<◌, true, false, ltb, Some, refl, arith}
+use Rattle.std.specs.Prelude.{codes, nat_le, ◌||◌}
+use Rattle.hm_isa.specs.declared.narrow.ShiftName.{ShiftName}
+use Rattle.hm_isa.specs.declared.narrow.ShiftName.TheVariants as shift
+use Rattle.hm_isa.specs.declared.narrow.SumName.{SumName}
+use Rattle.hm_isa.specs.declared.narrow.SumName.TheVariants as sum_
+use Rattle.hm_isa.specs.declared.narrow.ByteName.{ByteName}
+use Rattle.hm_isa.specs.declared.narrow.ByteName.TheVariants as byte
+use Rattle.hm_isa.specs.declared.narrow.LogicName.{LogicName}
+use Rattle.hm_isa.specs.declared.narrow.LogicName.TheVariants as logic
+use Rattle.hm_isa.specs.declared.narrow.BaseName.{BaseName}
+use Rattle.hm_isa.specs.declared.narrow.BaseName.TheVariants as base
+use Rattle.hm_isa.specs.declared.narrow.ExtendName.{ExtendName}
+use Rattle.hm_isa.specs.declared.narrow.ExtendName.TheVariants as extend
+use Rattle.hm_isa.specs.declared.narrow.SwapName.{SwapName}
+use Rattle.hm_isa.specs.declared.narrow.SwapName.TheVariants as swap_
+use Rattle.hm_isa.specs.declared.narrow.MaskingName.{MaskingName}
+use Rattle.hm_isa.specs.declared.narrow.MaskingName.TheVariants as masking
+use Rattle.hm_isa.specs.declared.narrow.HintName.{HintName}
+use Rattle.hm_isa.specs.declared.narrow.HintName.TheVariants as hint
+use Rattle.hm_isa.specs.declared.narrow.JumpName.{JumpName}
+use Rattle.hm_isa.specs.declared.narrow.JumpName.TheVariants as jump
+use Rattle.hm_isa.specs.declared.narrow.S1.{S1}
+use Rattle.hm_isa.specs.declared.narrow.S2.{S2}
+use Rattle.hm_isa.specs.declared.narrow.S3.{S3}
+use Rattle.hm_isa.specs.declared.narrow.S4.{S4}
+use Rattle.hm_isa.specs.declared.narrow.S5.{S5}
+use Rattle.hm_isa.specs.declared.narrow.S6.{S6}
+use Rattle.hm_isa.specs.declared.narrow.S7.{S7}
+use Rattle.hm_isa.specs.declared.narrow.S8.{S8}
+use Rattle.hm_isa.specs.declared.narrow.S9.{S9}
+use Rattle.hm_isa.specs.declared.narrow.S10.{S10}
+use Rattle.hm_isa.specs.declared.narrow.S11.{S11}
+use Rattle.hm_isa.specs.declared.narrow.S12.{S12}
+use Rattle.hm_isa.specs.declared.narrow.S13.{S13}
+use Rattle.hm_isa.specs.declared.narrow.S18.{S18}
+use Rattle.hm_isa.specs.declared.narrow.S19.{S19}
+use Rattle.hm_isa.specs.declared.narrow.S23.{S23}
+use Rattle.hm_isa.specs.declared.Instr.TheVariants as instr
+use Rattle.hm_isa.specs.declared.Scalar.TheVariants as scalar
+use Rattle.hm_isa.specs.declared.Branch.TheVariants as branch
+use Rattle.hm_isa.specs.Code.{base_base, byte_base, extend_base, hint_base, jump_base, logic_base, masking_base, shift_base, stack_sum_base, sum_base}
+use Rattle.hm_isa.specs.Code.{swap_base}
+use Rattle.hm_isa.specs.Rules.{keeps_compare}
+use Rattle.hm_isa.specs.Standing.{◌↑◌}
+use Rattle.std.proofs.lemmas.Bool.{and_parts, ltb-true}
+use Rattle.std.proofs.lemmas.Bool.Decides.{nat_tests}
+use Rattle.hm_text16_codes.specs.declared.operands.Kind.TheVariants as kinds
+use Rattle.hm_text16_codes.specs.Codes.{code_of}
+use Rattle.hm_text16_codes.specs.Operands.{word_value}
+use Rattle.hm_text16_rows.specs.Rows.{base_register, shift_number}
+use Rattle.hm_text16_rows.specs.Mnemonics.{byte_mnemonic, extend_mnemonic, hint_mnemonic, jump_mnemonic, logic_mnemonic, masking_mnemonic, shift_mnemonic}
+use Rattle.hm_text16_rows.specs.Mnemonics.{stack_sum_mnemonic, sum_mnemonic, swap_mnemonic}
+use Rattle.hm_text16_codes.proofs.Words.{Operand, a_low, a_register}
+use Rattle.hm_text_rows.proofs.Words.{below_holds, below_is, is_mnemonic}
+use Rattle.hm_text16_codes.proofs.Forms.{given, reads_constant, reads_none, reads_one, reads_one_constant, reads_three, reads_two, reads_two_constant}
+use Rattle.hm_text16_codes.proofs.Asked.{Row, plain_row}
+
+-- S1
+mnemonic_shift : (name : ShiftName) → is_mnemonic (shift_mnemonic name) ≡ true
+mnemonic_shift shift.Lsl = refl
+mnemonic_shift shift.Lsr = refl
+mnemonic_shift shift.Asr = refl
+
+asks_shift : (name : ShiftName) (i m d k pc a : ℕ) → k % 32 ≡ i
+    → code_of (shift_mnemonic name) (given d m k kinds.Word kinds.Number) pc a ≡ Some (shift_base name + i ↑ 6 + m ↑ 3 + d)
+unfolding code_of
+asks_shift shift.Lsl i m d k pc a h0 = rw h0 refl
+asks_shift shift.Lsr i m d k pc a h0 = rw h0 refl
+asks_shift shift.Asr i m d k pc a h0 = rw h0 refl
+
+shift_back : (name : ShiftName) (i : ℕ) → i < 32 → shift_number name i % 32 ≡ i
+shift_back shift.Lsl i lt = omega arith
+shift_back shift.Lsr i lt = below_is (λ j. shift_number shift.Lsr j % 32) (λ j. j) 32 i refl lt
+shift_back shift.Asr i lt = below_is (λ j. shift_number shift.Asr j % 32) (λ j. j) 32 i refl lt
+
+shift_small : (name : ShiftName) (i : ℕ) → i < 32 → shift_number name i < 10000
+shift_small shift.Lsl i lt = omega arith
+shift_small shift.Lsr i lt = ltb-true _ _ (below_holds (λ j. ltb (shift_number shift.Lsr j) 10000) 32 i refl lt)
+shift_small shift.Asr i lt = ltb-true _ _ (below_holds (λ j. ltb (shift_number shift.Asr j) 10000) 32 i refl lt)
+
+pub row_s1 : (i : S1) → Row (instr.Scalar (scalar.S1 i))
+row_s1 i = plain_row (instr.Scalar (scalar.S1 i)) _ _ _ refl refl
+    (reads_two_constant _ _ _ _ _ _ (mnemonic_shift i.name) (a_low i.d.value i.d.in_range) (a_low i.m.value i.m.in_range)
+    (shift_small i.name i.i.value i.i.in_range)) (λ p b. asks_shift i.name i.i.value _ _ _ p b (shift_back i.name i.i.value i.i.in_range))
+
+-- S2, S3
+mnemonic_sum : (name : SumName) → is_mnemonic (sum_mnemonic name) ≡ true
+mnemonic_sum sum_.Add = refl
+mnemonic_sum sum_.Sub = refl
+
+asks_sum : (name : SumName) (m n d pc a : ℕ) → code_of (sum_mnemonic name) (given d n m kinds.Word kinds.Word) pc a ≡ Some (sum_base name + m ↑ 6 + n ↑ 3 + d)
+unfolding code_of
+asks_sum sum_.Add m n d pc a = refl
+asks_sum sum_.Sub m n d pc a = refl
+
+pub row_s2 : (i : S2) → Row (instr.Scalar (scalar.S2 i))
+row_s2 i = plain_row (instr.Scalar (scalar.S2 i)) _ _ _ refl refl
+    (reads_three _ _ _ _ _ _ _ (mnemonic_sum i.name) (a_low i.d.value i.d.in_range) (a_low i.n.value i.n.in_range) (a_low i.m.value i.m.in_range))
+    (λ p b. asks_sum i.name _ _ _ p b)
+
+asks_small_sum : (name : SumName) (i n d pc a : ℕ)
+    → code_of (sum_mnemonic name) (given d n i kinds.Word kinds.Number) pc a ≡ Some (sum_base name + 0x0400 + i ↑ 6 + n ↑ 3 + d)
+unfolding code_of
+asks_small_sum sum_.Add i n d pc a = refl
+asks_small_sum sum_.Sub i n d pc a = refl
+
+byte_fits : (i : ℕ) → i < 256 → i < 10000
+byte_fits i lt = omega arith
+
+eight_fits : (i : ℕ) → i < 8 → i < 10000
+eight_fits i lt = omega arith
+
+pub row_s3 : (i : S3) → Row (instr.Scalar (scalar.S3 i))
+row_s3 i = plain_row (instr.Scalar (scalar.S3 i)) _ _ _ refl refl
+    (reads_two_constant _ _ _ _ _ _ (mnemonic_sum i.name) (a_low i.d.value i.d.in_range) (a_low i.n.value i.n.in_range) (eight_fits i.i.value i.i.in_range))
+    (λ p b. asks_small_sum i.name _ _ _ p b)
+
+-- S4
+mnemonic_byte : (name : ByteName) → is_mnemonic (byte_mnemonic name) ≡ true
+mnemonic_byte byte.Mov = refl
+mnemonic_byte byte.Cmp = refl
+mnemonic_byte byte.Add = refl
+mnemonic_byte byte.Sub = refl
+
+asks_byte : (name : ByteName) (d i pc a : ℕ) → code_of (byte_mnemonic name) (given d i 0 kinds.Number kinds.Missing) pc a ≡ Some (byte_base name + d ↑ 8 + i)
+unfolding code_of
+asks_byte byte.Mov d i pc a = refl
+asks_byte byte.Cmp d i pc a = refl
+asks_byte byte.Add d i pc a = refl
+asks_byte byte.Sub d i pc a = refl
+
+pub row_s4 : (i : S4) → Row (instr.Scalar (scalar.S4 i))
+row_s4 i = plain_row (instr.Scalar (scalar.S4 i)) _ _ _ refl refl
+    (reads_one_constant _ _ _ _ (mnemonic_byte i.name) (a_low i.d.value i.d.in_range) (byte_fits i.i.value i.i.in_range)) (λ p b. asks_byte i.name _ _ p b)
+
+-- S5
+mnemonic_logic : (name : LogicName) → is_mnemonic (logic_mnemonic name) ≡ true
+mnemonic_logic logic.Ands = refl
+mnemonic_logic logic.Eors = refl
+mnemonic_logic logic.Lsls = refl
+mnemonic_logic logic.Lsrs = refl
+mnemonic_logic logic.Asrs = refl
+mnemonic_logic logic.Adcs = refl
+mnemonic_logic logic.Sbcs = refl
+mnemonic_logic logic.Rors = refl
+mnemonic_logic logic.Tst = refl
+mnemonic_logic logic.Rsbs = refl
+mnemonic_logic logic.Cmp = refl
+mnemonic_logic logic.Cmn = refl
+mnemonic_logic logic.Orrs = refl
+mnemonic_logic logic.Muls = refl
+mnemonic_logic logic.Bics = refl
+mnemonic_logic logic.Mvns = refl
+
+low_test : (d m : ℕ) → d < 8 → m < 8 → (nat_le 8 d || nat_le 8 m) ≡ false
+low_test d m hd hm = grind (arith, nat_tests)
+
+asks_logic : (name : LogicName) (m d pc a : ℕ) → (nat_le 8 d || nat_le 8 m) ≡ false
+    → code_of (logic_mnemonic name) (given d m 0 kinds.Word kinds.Missing) pc a ≡ Some (logic_base name + m ↑ 3 + d)
+unfolding code_of
+asks_logic logic.Ands m d pc a h0 = refl
+asks_logic logic.Eors m d pc a h0 = refl
+asks_logic logic.Lsls m d pc a h0 = refl
+asks_logic logic.Lsrs m d pc a h0 = refl
+asks_logic logic.Asrs m d pc a h0 = refl
+asks_logic logic.Adcs m d pc a h0 = refl
+asks_logic logic.Sbcs m d pc a h0 = refl
+asks_logic logic.Rors m d pc a h0 = refl
+asks_logic logic.Tst m d pc a h0 = refl
+asks_logic logic.Rsbs m d pc a h0 = refl
+asks_logic logic.Cmp m d pc a h0 = rw h0 refl
+asks_logic logic.Cmn m d pc a h0 = refl
+asks_logic logic.Orrs m d pc a h0 = refl
+asks_logic logic.Muls m d pc a h0 = refl
+asks_logic logic.Bics m d pc a h0 = refl
+asks_logic logic.Mvns m d pc a h0 = refl
+
+pub row_s5 : (i : S5) → Row (instr.Scalar (scalar.S5 i))
+row_s5 i = plain_row (instr.Scalar (scalar.S5 i)) _ _ _ refl refl
+    (reads_two _ _ _ _ _ (mnemonic_logic i.name) (a_low i.d.value i.d.in_range) (a_low i.m.value i.m.in_range))
+    (λ p b. asks_logic i.name _ _ p b (low_test i.d.value i.m.value i.d.in_range i.m.in_range))
+
+-- S6 to S8
+asks_add : (d m pc a : ℕ) → code_of (codes "add") (given d m 0 kinds.Word kinds.Missing) pc a ≡ Some (0x4400 + (d / 8) ↑ 7 + m ↑ 3 + d % 8)
+unfolding code_of
+asks_add d m pc a = refl
+
+asks_compare : (d m pc a : ℕ) → (nat_le 8 d || nat_le 8 m) ≡ true
+    → code_of (codes "cmp") (given d m 0 kinds.Word kinds.Missing) pc a ≡ Some (0x4500 + (d / 8) ↑ 7 + m ↑ 3 + d % 8)
+unfolding code_of
+asks_compare d m pc a e = rw e refl
+
+asks_move : (d m pc a : ℕ) → code_of (codes "mov") (given d m 0 kinds.Word kinds.Missing) pc a ≡ Some (0x4600 + (d / 8) ↑ 7 + m ↑ 3 + d % 8)
+unfolding code_of
+asks_move d m pc a = refl
+
+high_test : (d m : ℕ) → keeps_compare d m ≡ true → (nat_le 8 d || nat_le 8 m) ≡ true
+high_test d m e = (and_parts _ _ (and_parts _ _ e).0).0
+
+pub row_s6 : (i : S6) → Row (instr.Scalar (scalar.S6 i))
+row_s6 i = plain_row (instr.Scalar (scalar.S6 i)) _ _ _ refl refl
+    (reads_two (codes "add") _ _ _ _ refl (a_register i.d.value i.d.in_range) (a_register i.m.value i.m.in_range)) (λ p b. asks_add _ _ p b)
+
+pub row_s7 : (i : S7) → Row (instr.Scalar (scalar.S7 i))
+row_s7 i = plain_row (instr.Scalar (scalar.S7 i)) _ _ _ refl refl
+    (reads_two (codes "cmp") _ _ _ _ refl (a_register i.d.value i.d.in_range) (a_register i.m.value i.m.in_range))
+    (λ p b. asks_compare _ _ p b (high_test i.d.value i.m.value i.high))
+
+pub row_s8 : (i : S8) → Row (instr.Scalar (scalar.S8 i))
+row_s8 i = plain_row (instr.Scalar (scalar.S8 i)) _ _ _ refl refl
+    (reads_two (codes "mov") _ _ _ _ refl (a_register i.d.value i.d.in_range) (a_register i.m.value i.m.in_range)) (λ p b. asks_move _ _ p b)
+
+-- S9, S10
+asks_address : (name : BaseName) (d i k pc a : ℕ) → k / 4 ≡ i
+    → code_of (codes "add") (given d (base_register name) k kinds.Word kinds.Number) pc a ≡ Some (base_base name + d ↑ 8 + i)
+unfolding code_of
+asks_address base.Pc d i k pc a e = rw e refl
+asks_address base.Sp d i k pc a e = rw e refl
+
+base_below : (name : BaseName) → base_register name < 16
+base_below base.Pc = omega arith
+base_below base.Sp = omega arith
+
+quarter : (i : ℕ) → 4 * i / 4 ≡ i
+quarter i = omega arith
+
+words_fit : (i : ℕ) → i < 256 → 4 * i < 10000
+words_fit i lt = omega arith
+
+pub row_s9 : (i : S9) → Row (instr.Scalar (scalar.S9 i))
+row_s9 i = plain_row (instr.Scalar (scalar.S9 i)) _ _ _ refl refl
+    (reads_two_constant (codes "add") _ _ _ _ _ refl (a_low i.d.value i.d.in_range) (a_register (base_register i.name) (base_below i.name))
+    (words_fit i.i.value i.i.in_range)) (λ p b. asks_address i.name _ i.i.value _ p b (quarter i.i.value))
+
+mnemonic_stack_sum : (name : SumName) → is_mnemonic (stack_sum_mnemonic name) ≡ true
+mnemonic_stack_sum sum_.Add = refl
+mnemonic_stack_sum sum_.Sub = refl
+
+asks_stack_sum : (name : SumName) (i k d pc a : ℕ) → k / 4 ≡ i
+    → code_of (stack_sum_mnemonic name) (given d k 0 kinds.Number kinds.Missing) pc a ≡ Some (stack_sum_base name + i)
+unfolding code_of
+asks_stack_sum sum_.Add i k d pc a h0 = rw h0 refl
+asks_stack_sum sum_.Sub i k d pc a h0 = rw h0 refl
+
+stack_words_fit : (i : ℕ) → i < 128 → 4 * i < 10000
+stack_words_fit i lt = omega arith
+
+pub row_s10 : (i : S10) → Row (instr.Scalar (scalar.S10 i))
+row_s10 i = plain_row (instr.Scalar (scalar.S10 i)) _ _ _ refl refl
+    (reads_one_constant _ _ _ _ (mnemonic_stack_sum i.name) (a_register 13 (omega arith)) (stack_words_fit i.i.value i.i.in_range))
+    (λ p b. asks_stack_sum i.name i.i.value _ _ p b (quarter i.i.value))
+
+-- S11, S12
+mnemonic_extend : (name : ExtendName) → is_mnemonic (extend_mnemonic name) ≡ true
+mnemonic_extend extend.Sxth = refl
+mnemonic_extend extend.Sxtb = refl
+mnemonic_extend extend.Uxth = refl
+mnemonic_extend extend.Uxtb = refl
+
+asks_extend : (name : ExtendName) (m d pc a : ℕ)
+    → code_of (extend_mnemonic name) (given d m 0 kinds.Word kinds.Missing) pc a ≡ Some (extend_base name + m ↑ 3 + d)
+unfolding code_of
+asks_extend extend.Sxth m d pc a = refl
+asks_extend extend.Sxtb m d pc a = refl
+asks_extend extend.Uxth m d pc a = refl
+asks_extend extend.Uxtb m d pc a = refl
+
+pub row_s11 : (i : S11) → Row (instr.Scalar (scalar.S11 i))
+row_s11 i = plain_row (instr.Scalar (scalar.S11 i)) _ _ _ refl refl
+    (reads_two _ _ _ _ _ (mnemonic_extend i.name) (a_low i.d.value i.d.in_range) (a_low i.m.value i.m.in_range)) (λ p b. asks_extend i.name _ _ p b)
+
+mnemonic_swap : (name : SwapName) → is_mnemonic (swap_mnemonic name) ≡ true
+mnemonic_swap swap_.Rev = refl
+mnemonic_swap swap_.Rev16 = refl
+mnemonic_swap swap_.Revsh = refl
+
+asks_swap : (name : SwapName) (m d pc a : ℕ) → code_of (swap_mnemonic name) (given d m 0 kinds.Word kinds.Missing) pc a ≡ Some (swap_base name + m ↑ 3 + d)
+unfolding code_of
+asks_swap swap_.Rev m d pc a = refl
+asks_swap swap_.Rev16 m d pc a = refl
+asks_swap swap_.Revsh m d pc a = refl
+
+pub row_s12 : (i : S12) → Row (instr.Scalar (scalar.S12 i))
+row_s12 i = plain_row (instr.Scalar (scalar.S12 i)) _ _ _ refl refl
+    (reads_two _ _ _ _ _ (mnemonic_swap i.name) (a_low i.d.value i.d.in_range) (a_low i.m.value i.m.in_range)) (λ p b. asks_swap i.name _ _ p b)
+
+-- S13, S18, S19, S23
+mnemonic_masking : (name : MaskingName) → is_mnemonic (masking_mnemonic name) ≡ true
+mnemonic_masking masking.Cpsie = refl
+mnemonic_masking masking.Cpsid = refl
+
+asks_masking : (name : MaskingName) (x pc a : ℕ) → code_of (masking_mnemonic name) (given x 0 0 kinds.Missing kinds.Missing) pc a ≡ Some (masking_base name)
+unfolding code_of
+asks_masking masking.Cpsie x pc a = refl
+asks_masking masking.Cpsid x pc a = refl
+
+the_i : Operand (codes "i") 0
+unfolding word_value
+the_i = record { value = refl; is = refl }
+
+pub row_s13 : (i : S13) → Row (instr.Scalar (scalar.S13 i))
+row_s13 i = plain_row (instr.Scalar (scalar.S13 i)) _ _ _ refl refl (reads_one _ _ _ (mnemonic_masking i.name) the_i) (λ p b. asks_masking i.name _ p b)
+
+asks_break : (i pc a : ℕ) → code_of (codes "bkpt") (given i 0 0 kinds.Missing kinds.Missing) pc a ≡ Some (0xbe00 + i)
+unfolding code_of
+asks_break i pc a = refl
+
+pub row_s18 : (i : S18) → Row (instr.Scalar (scalar.S18 i))
+row_s18 i = plain_row (instr.Scalar (scalar.S18 i)) _ _ _ refl refl (reads_constant (codes "bkpt") _ refl (byte_fits i.i.value i.i.in_range))
+    (λ p b. asks_break _ p b)
+
+mnemonic_hint : (name : HintName) → is_mnemonic (hint_mnemonic name) ≡ true
+mnemonic_hint hint.Nop = refl
+mnemonic_hint hint.Yield = refl
+mnemonic_hint hint.Wfe = refl
+mnemonic_hint hint.Wfi = refl
+mnemonic_hint hint.Sev = refl
+
+asks_hint : (name : HintName) (pc a : ℕ) → code_of (hint_mnemonic name) (given 0 0 0 kinds.Missing kinds.Missing) pc a ≡ Some (hint_base name)
+unfolding code_of
+asks_hint hint.Nop pc a = refl
+asks_hint hint.Yield pc a = refl
+asks_hint hint.Wfe pc a = refl
+asks_hint hint.Wfi pc a = refl
+asks_hint hint.Sev pc a = refl
+
+pub row_s19 : (i : S19) → Row (instr.Scalar (scalar.S19 i))
+row_s19 i = plain_row (instr.Scalar (scalar.S19 i)) _ _ _ refl refl (reads_none _ (mnemonic_hint i.name)) (λ p b. asks_hint i.name p b)
+
+mnemonic_jump : (name : JumpName) → is_mnemonic (jump_mnemonic name) ≡ true
+mnemonic_jump jump.Bx = refl
+mnemonic_jump jump.Blx = refl
+
+asks_jump : (name : JumpName) (m pc a : ℕ) → code_of (jump_mnemonic name) (given m 0 0 kinds.Missing kinds.Missing) pc a ≡ Some (jump_base name + m ↑ 3)
+unfolding code_of
+asks_jump jump.Bx m pc a = refl
+asks_jump jump.Blx m pc a = refl
+
+pub row_s23 : (i : S23) → Row (instr.Branch (branch.S23 i))
+row_s23 i = plain_row (instr.Branch (branch.S23 i)) _ _ _ refl refl (reads_one _ _ _ (mnemonic_jump i.name) (a_register i.m.value i.m.in_range))
+    (λ p b. asks_jump i.name _ p b)

@@ -1,0 +1,35 @@
+-- What a text gives numbers for, read carelessly: nothing is refused, since the row that is found is asked for its text.
+use Rattle.std.specs.Prelude.{ℕ, min, List, codes, bytes_eq, if◌then◌else◌}
+use Rattle.hm_tokens.specs.Names.{condition_in, register_in}
+use Rattle.hm_tokens.specs.Tokens.{Tok, word, number, mark}
+use Rattle.hm_text_rows.specs.Operands.{bits_of, braced, given_or, operand}
+use Rattle.hm_text16_codes.specs.declared.operands.Kind.{Kind}
+use Rattle.hm_text16_codes.specs.declared.operands.Kind.TheVariants as kinds
+use Rattle.hm_text16_codes.specs.declared.operands.Operands.{Operands}
+
+-- the number of a register or a condition
+unfoldable pub word_value : List ℕ → ℕ
+word_value w = given_or (register_in w) (given_or (condition_in w) (if bytes_eq w (codes "al") then 14 else 0))
+
+-- the number that a token stands for: a word's, or a number itself, at most 2^32 - 1; 0 of a mark
+abbrev pub value : Tok → ℕ
+value (word w) = word_value w
+value (number n) = min n 0xffff_ffff
+value (mark c) = 0
+
+-- what a token is as an operand: a word or a number, and a mark where the operand is missing
+abbrev pub kind_of : Tok → Kind
+kind_of (word w) = kinds.Word
+kind_of (number n) = kinds.Number
+kind_of (mark c) = kinds.Missing
+
+-- what stands behind a mnemonic, as numbers: three operands, what the second and the third are, and the registers in braces
+abbrev pub read_operands : List Tok → Operands
+read_operands ts = record {
+  first = value (operand 0 ts);
+  second = value (operand 1 ts);
+  third = value (operand 2 ts);
+  second_kind = kind_of (operand 1 ts);
+  third_kind = kind_of (operand 2 ts);
+  registers = bits_of (braced ts);
+}

@@ -1,0 +1,82 @@
+//! What a text gives numbers for, read carelessly: nothing is refused, since the row that is found is asked for its text.
+
+ghost use Rattle.std.specs.Prelude.{◌≡◌, map};
+ghost use Rattle.hm_text16_codes.specs.Operands.{kind_of, read_operands, value, word_value};
+ghost use Rattle.hm_tokens.specs.Tokens.{tok};
+
+use hm_text_rows::{braced_bits, operand};
+use hm_tokens::{Token, read_condition, read_register};
+
+/// What an operand is.
+#[derive(Clone, Copy, Debug, PartialEq, Eq)]
+pub enum Kind {
+    /// There is none.
+    Missing,
+    Word,
+    Number,
+}
+
+/// What stands behind a mnemonic, as numbers.
+#[derive(Clone, Copy)]
+pub struct Operands {
+    pub first: u32,
+    pub second: u32,
+    pub third: u32,
+    pub second_kind: Kind,
+    pub third_kind: Kind,
+    /// The registers behind a brace: bit k is register k.
+    pub registers: u32,
+}
+
+/// The number that a word stands for: a register's or a condition's.
+#[tactic(auto, unfolding(crate::specs::Operands::word_value))]
+fn word_value(name: &[u8]) -> u32
+    ensures { result ≡ word_value name.now }
+{
+    if let Some(n) = read_register(name) {
+        return n;
+    }
+    if let Some(n) = read_condition(name) {
+        return n;
+    }
+    match name {
+        b"al" => 14,
+        _ => 0,
+    }
+}
+
+/// The number that a token stands for.
+fn value(token: Token<'_>) -> u32
+    ensures { result ≡ value (tok token.entry) }
+{
+    match token {
+        Token::Word(name) => word_value(name),
+        Token::Number(n) => n.min(0xffff_ffff) as u32,
+        Token::Mark(_) => 0,
+    }
+}
+
+/// What a token is as an operand.
+fn kind_of(token: Token<'_>) -> Kind
+    ensures { result ≡ kind_of (tok token.entry) }
+{
+    match token {
+        Token::Word(_) => Kind::Word,
+        Token::Number(_) => Kind::Number,
+        Token::Mark(_) => Kind::Missing,
+    }
+}
+
+/// What stands behind a mnemonic.
+pub fn read_operands(tokens: &[Token<'_>]) -> Operands
+    ensures { result ≡ read_operands (map tok tokens.now) }
+{
+    Operands {
+        first: value(operand(tokens, 0)),
+        second: value(operand(tokens, 1)),
+        third: value(operand(tokens, 2)),
+        second_kind: kind_of(operand(tokens, 1)),
+        third_kind: kind_of(operand(tokens, 2)),
+        registers: braced_bits(tokens),
+    }
+}

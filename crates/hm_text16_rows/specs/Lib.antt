@@ -1,0 +1,3 @@
+pub mod Mnemonics
+pub mod Rows
+pub mod Targets

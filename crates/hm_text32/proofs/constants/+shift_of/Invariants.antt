@@ -1,4 +1,0 @@
-use Rattle.hm_text32.proofs.constants.+shift_of.Given as goal
-
-abbrev pub decreases-shift_of : goal.decreases-shift_of
-decreases-shift_of l = l.n

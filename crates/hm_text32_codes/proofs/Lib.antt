@@ -1,0 +1,12 @@
+pub mod Shifts
+pub mod Forms
+pub mod Asked
+pub mod Data
+pub mod Arith
+pub mod Shifted
+pub mod OnConstants
+pub mod OnMemory
+pub mod OnLists
+pub mod System
+pub mod OnLabels
+pub mod Rows

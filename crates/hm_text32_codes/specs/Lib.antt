@@ -1,0 +1,3 @@
+pub mod Operands
+pub mod Bases
+pub mod Codes

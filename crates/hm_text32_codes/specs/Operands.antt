@@ -1,0 +1,79 @@
+-- What a text gives numbers for, read carelessly: nothing is refused, since the row that is found is asked for its text.
+use Rattle.std.specs.Prelude.{ℕ, min, List, [], ◌∷◌, length, codes, bytes_eq, Option, Some, None, ◌==◌, if◌then◌else◌}
+use Rattle.hm_tokens.specs.Names.{condition_in, register_in, vector_in}
+use Rattle.hm_tokens.specs.Ranges.{is_the_mark}
+use Rattle.hm_tokens.specs.Tokens.{Tok, word, number, mark}
+use Rattle.hm_text_rows.specs.Operands.{added, back_in, before, first_of, given_or, is_number, is_vector, operand, size_of}
+use Rattle.hm_text32_rows.specs.Mnemonics.{double_in}
+use Rattle.hm_text32_codes.specs.declared.operands.Operands.{Operands}
+use Rattle.hm_text32_codes.specs.declared.operands.Places.{Places}
+
+-- shifts by their numbers; that through the carry is a rotation by 0
+abbrev pub shift_in : List ℕ → Option ℕ
+shift_in w =
+    if bytes_eq w (codes "lsl") then Some 0
+    else if bytes_eq w (codes "lsr") then Some 1
+    else if bytes_eq w (codes "asr") then Some 2
+    else if bytes_eq w (codes "ror") then Some 3
+    else if bytes_eq w (codes "rrx") then Some 3
+    else None
+
+-- zero and special registers
+abbrev pub other_value : List ℕ → ℕ
+other_value w =
+    if bytes_eq w (codes "zr") then 15
+    else if bytes_eq w (codes "ipsr") then 5
+    else if bytes_eq w (codes "msp") then 8
+    else if bytes_eq w (codes "psp") then 9
+    else if bytes_eq w (codes "primask") then 16
+    else if bytes_eq w (codes "basepri") then 17
+    else if bytes_eq w (codes "control") then 20
+    else if bytes_eq w (codes "fpscr") then 1
+    else if bytes_eq w (codes "vpr") then 12
+    else if bytes_eq w (codes "p0") then 13
+    else if bytes_eq w (codes "apsr_nzcv") then 15
+    else 0
+
+-- the number that a word stands for: a register's, a vector's, a condition's, a half of a vector's, a shift's or another's
+unfoldable pub word_value : List ℕ → ℕ
+word_value w = given_or (register_in w) (given_or (vector_in w) (given_or (condition_in w) (given_or (double_in w) (given_or (shift_in w) (other_value w)))))
+
+-- the number that a token stands for: a word's, or a number itself, at most 2^32 - 1; 0 of a mark
+abbrev pub value : Tok → ℕ
+value (word w) = word_value w
+value (number n) = min n 0xffff_ffff
+value (mark c) = 0
+
+-- what stands behind a mnemonic, as numbers: the element size, five operands, and which of them are numbers or vectors
+abbrev pub read_operands : List ℕ → List Tok → Operands
+read_operands suffix ts = record {
+  is_bare = length ts == 0;
+  size = size_of suffix;
+  is_vector = is_vector (operand 0 ts);
+  second_is_number = is_number (operand 1 ts);
+  third_is_number = is_number (operand 2 ts);
+  first = value (operand 0 ts);
+  second = value (operand 1 ts);
+  third = value (operand 2 ts);
+  fourth = value (operand 3 ts);
+  fifth = value (operand 4 ts);
+}
+
+-- what stands behind the mnemonic of a load or store, as numbers: its operands, and how the address is written
+abbrev pub read_places : List Tok → Places
+read_places ts = record {
+  third_is_number = is_number (operand 2 ts);
+  first = value (operand 0 ts);
+  second = value (operand 1 ts);
+  third = value (operand 2 ts);
+  fourth = value (operand 3 ts);
+  fifth = value (operand 4 ts);
+  added = added ts;
+  before = before ts;
+  back = back_in ts;
+}
+
+-- 1 where `!` stands behind the first token
+abbrev pub second_bang : List Tok → ℕ
+second_bang [] = 0
+second_bang (t ∷ ts) = if is_the_mark 33 (first_of ts) then 1 else 0

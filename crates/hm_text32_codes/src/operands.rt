@@ -1,0 +1,182 @@
+//! What a text gives numbers for, read carelessly: nothing is refused, since the row that is found is asked for its text.
+
+ghost use Rattle.std.specs.Prelude.{◌≡◌, ◌<◌, map};
+ghost use Rattle.hm_text32_codes.specs.Operands.{other_value, read_operands, read_places, second_bang, shift_in, value, word_value};
+ghost use Rattle.hm_tokens.specs.Tokens.{tok};
+
+use hm_text_rows::{
+    added, back_in, before, first_of, is, is_mark, is_number, is_vector, operand, size_of,
+};
+use hm_text32_rows::read_double;
+use hm_tokens::{Token, read_condition, read_register, read_vector};
+
+/// What stands behind a mnemonic, as numbers.
+#[derive(Clone, Copy)]
+pub struct Operands {
+    /// Whether there are no operands.
+    pub is_bare: bool,
+    /// The size of the elements: 0, 1, 2 and 3 are 8, 16, 32 and 64 bits.
+    pub size: u32,
+    /// Whether the first operand is a vector register.
+    pub is_vector: bool,
+    /// Whether the second operand is a number.
+    pub second_is_number: bool,
+    /// Whether the third operand is a number.
+    pub third_is_number: bool,
+    pub first: u32,
+    pub second: u32,
+    pub third: u32,
+    pub fourth: u32,
+    pub fifth: u32,
+}
+
+/// The number of a shift; that through the carry is a rotation by 0.
+fn read_shift(name: &[u8]) -> Option<u32>
+    ensures { result ≡ shift_in name.now }
+{
+    match name {
+        b"lsl" => Some(0),
+        b"lsr" => Some(1),
+        b"asr" => Some(2),
+        b"ror" | b"rrx" => Some(3),
+        _ => None,
+    }
+}
+
+/// The number of zero and of a special register.
+fn other_value(name: &[u8]) -> u32
+    ensures { result ≡ other_value name.now }
+{
+    if is(name, "zr") {
+        return 15;
+    }
+    if is(name, "ipsr") {
+        return 5;
+    }
+    if is(name, "msp") {
+        return 8;
+    }
+    if is(name, "psp") {
+        return 9;
+    }
+    if is(name, "primask") {
+        return 16;
+    }
+    if is(name, "basepri") {
+        return 17;
+    }
+    if is(name, "control") {
+        return 20;
+    }
+    if is(name, "fpscr") {
+        return 1;
+    }
+    if is(name, "vpr") {
+        return 12;
+    }
+    if is(name, "p0") {
+        return 13;
+    }
+    if is(name, "apsr_nzcv") {
+        return 15;
+    }
+    0
+}
+
+/// The number that a word stands for.
+#[tactic(auto, unfolding(crate::specs::Operands::word_value))]
+fn word_value(name: &[u8]) -> u32
+    ensures { result ≡ word_value name.now }
+{
+    if let Some(n) = read_register(name) {
+        return n;
+    }
+    if let Some(n) = read_vector(name) {
+        return n;
+    }
+    if let Some(n) = read_condition(name) {
+        return n;
+    }
+    if let Some(n) = read_double(name) {
+        return n;
+    }
+    if let Some(n) = read_shift(name) {
+        return n;
+    }
+    other_value(name)
+}
+
+/// The number that a token stands for.
+pub fn value(token: Token<'_>) -> u32
+    ensures { result ≡ value (tok token.entry) }
+{
+    match token {
+        Token::Word(name) => word_value(name),
+        Token::Number(n) => n.min(0xffff_ffff) as u32,
+        Token::Mark(_) => 0,
+    }
+}
+
+/// What stands behind a mnemonic: its suffix, with the point, and the other tokens.
+pub fn read_operands(suffix: &[u8], tokens: &[Token<'_>]) -> Operands
+    ensures { result ≡ read_operands suffix.now (map tok tokens.now) }
+{
+    Operands {
+        is_bare: tokens.is_empty(),
+        size: size_of(suffix),
+        is_vector: is_vector(operand(tokens, 0)),
+        second_is_number: is_number(operand(tokens, 1)),
+        third_is_number: is_number(operand(tokens, 2)),
+        first: value(operand(tokens, 0)),
+        second: value(operand(tokens, 1)),
+        third: value(operand(tokens, 2)),
+        fourth: value(operand(tokens, 3)),
+        fifth: value(operand(tokens, 4)),
+    }
+}
+
+/// What stands behind the mnemonic of a row that loads or stores, as numbers.
+#[derive(Clone, Copy)]
+pub struct Places {
+    /// Whether the third operand is a number.
+    pub third_is_number: bool,
+    pub first: u32,
+    pub second: u32,
+    pub third: u32,
+    pub fourth: u32,
+    pub fifth: u32,
+    /// 0 where an offset is taken away: a minus sign stands behind `#`.
+    pub added: u32,
+    /// 0 where an offset stands behind the brackets.
+    pub before: u32,
+    /// 1 where an address is written back.
+    pub back: u32,
+}
+
+/// What stands behind the mnemonic of a row that loads or stores.
+pub fn read_places(tokens: &[Token<'_>]) -> Places
+    ensures { result ≡ read_places (map tok tokens.now) }
+{
+    Places {
+        third_is_number: is_number(operand(tokens, 2)),
+        first: value(operand(tokens, 0)),
+        second: value(operand(tokens, 1)),
+        third: value(operand(tokens, 2)),
+        fourth: value(operand(tokens, 3)),
+        fifth: value(operand(tokens, 4)),
+        added: added(tokens),
+        before: before(tokens),
+        back: back_in(tokens),
+    }
+}
+
+/// 1 where `!` stands behind the first token.
+pub fn second_bang(tokens: &[Token<'_>]) -> u32
+    ensures value { result ≡ second_bang (map tok tokens.now) }
+    ensures bit { result < 2 }
+{
+    match tokens {
+        [] => 0,
+        [_first, rest @ ..] => { if is_mark(first_of(rest), b'!') { 1 } else { 0 } }
+    }
+}
