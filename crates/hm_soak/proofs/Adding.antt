@@ -10,19 +10,11 @@ use Rattle.hm_base.specs.declared.errors.OutOfMemory.{OutOfMemory}
 use Rattle.hm_isa.specs.declared.Instr.{Instr}
 use Rattle.hm_isa.specs.Code.{halfwords}
 use Rattle.hm_soak.specs.Adding.{AddsCodes}
-use Rattle.hm_soak_laws.specs.Image.{AreItems, IsItem, IsSoak, all_halves, half_bytes, vectors, word_bytes}
+use Rattle.hm_code_bytes.specs.Bytes.{all_halves, half_bytes, word_bytes}
+use Rattle.hm_soak_laws.specs.Image.{AreItems, IsItem, IsSoak, vectors}
 use Rattle.hm_soak_laws.specs.Soak.{Bkpt, Item, code, draw, drawn, fill, filled, handler, head, many, operation, operations}
-use Rattle.hm_soak_laws.proofs.Standing.{length_halves}
+use Rattle.hm_code_bytes.proofs.Bytes.{all_append, halves_append, length_halves}
 use Rattle.hm_soak_laws.proofs.Whole.{size_is}
-
--- THE BYTES of lists of halfwords, one behind another
-pub halves_append : (hs ks : List ℕ) → half_bytes (hs ++ ks) ≡ half_bytes hs ++ half_bytes ks
-halves_append [] ks = refl
-halves_append (h ∷ hs) ks = ap (λ (bs : List ℕ). h % 256 ∷ h / 256 ∷ bs) (halves_append hs ks)
-
-all_append : (is js : List Instr) → all_halves (is ++ js) ≡ all_halves is ++ all_halves js
-all_append [] js = refl
-all_append (i ∷ is) js = ap (λ (hs : List ℕ). halfwords i ++ hs) (all_append is js) ∙ sym (append_assoc (halfwords i) (all_halves is) (all_halves js))
 
 items_append : (xs ys : List Item) (is js : List Instr) → AreItems xs is → AreItems ys js → AreItems (xs ++ ys) (is ++ js)
 items_append [] ys [] js h k = k

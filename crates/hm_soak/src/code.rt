@@ -4,11 +4,11 @@ ghost use Rattle.std.specs.Prelude.{◌≡◌, ◌++◌, ◌/◌, ◌%◌, ◌<�
 ghost use Rattle.hm_soak.specs.Adding.{AddsCodes};
 ghost use Rattle.hm_soak_laws.specs.Soak.{Bkpt, Movt, Movw, code, draw, drawn, fill, filled, handler, head, many, operations};
 
-use crate::bytes::add_code;
 use crate::rows::{
     branch_to_link, breakpoint, duplicate, half_row, move_byte, no_operation, operation, store,
 };
 use hm_base::OutOfMemory;
+use hm_code_bytes::add_code;
 use hm_isa::HalfName;
 
 /// How many operations on lanes a soak has.

@@ -4,9 +4,9 @@ ghost use Rattle.std.specs.Prelude.{◌≡◌, ◌<◌, ◌≤◌, length, IfOk}
 ghost use Rattle.hm_base.specs.Image.{flash_size, flat};
 ghost use Rattle.hm_soak_laws.specs.Image.{IsSoak, vectors};
 
-use crate::bytes::add_word;
 use crate::code::{OPERATIONS, add_instructions};
 use hm_base::{Image, ImageErr, OutOfMemory};
+use hm_code_bytes::add_word;
 use std::alloc::Global;
 
 /// The stack pointer at the reset.

@@ -1,7 +1,6 @@
 //! The soak: generated work whose instructions overlap and are interrupted, and the line that says whether it came out as in order.
 #![tactic(auto)]
 
-mod bytes;
 mod code;
 mod flat;
 mod making;

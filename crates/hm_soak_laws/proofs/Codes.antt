@@ -16,7 +16,8 @@ use Rattle.hm_isa.specs.declared.vectors.SignedName.TheVariants as signed
 use Rattle.hm_isa.specs.Code.{add_base, bitwise_base, byte_base, dup_base, halfwords, hint_base, jump_base, plain_base, signed_base, two_halves}
 use Rattle.hm_isa.specs.DataCodes.{half_base}
 use Rattle.hm_isa.specs.Standing.{◌↑◌}
-use Rattle.hm_soak_laws.specs.Image.{AreItems, IsHalfRow, IsItem, IsOperation, IsSoak, IsSum, all_halves, half_bytes, vectors}
+use Rattle.hm_code_bytes.specs.Bytes.{all_halves, half_bytes}
+use Rattle.hm_soak_laws.specs.Image.{AreItems, IsHalfRow, IsItem, IsOperation, IsSoak, IsSum, vectors}
 use Rattle.hm_soak_laws.specs.Soak as soak
 use Rattle.hm_soak_laws.specs.Soak.{Item, Operation, Movw, Movt, Movs, Str, Vdup, Lanes, Bkpt, Nop, Bx, code}
 

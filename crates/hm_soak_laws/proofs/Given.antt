@@ -30,7 +30,8 @@ use Rattle.hm_isa.specs.declared.vectors.V2.{V2}
 use Rattle.hm_isa.specs.declared.vectors.V3.{V3}
 use Rattle.hm_isa.specs.declared.vectors.V18.{V18}
 use Rattle.hm_isa.specs.Rules.{is_general}
-use Rattle.hm_soak_laws.specs.Image.{AreItems, IsHalfRow, IsItem, IsOperation, IsSoak, IsSum, all_halves, half_bytes, vectors}
+use Rattle.hm_code_bytes.specs.Bytes.{all_halves, half_bytes}
+use Rattle.hm_soak_laws.specs.Image.{AreItems, IsHalfRow, IsItem, IsOperation, IsSoak, IsSum, vectors}
 use Rattle.hm_soak_laws.specs.Soak as soak
 use Rattle.hm_soak_laws.specs.Soak.{Item, Operation, Movw, Movt, Movs, Str, Vdup, Lanes, Bkpt, Nop, Bx, code, draw, drawn, fill, filled, handler, head, many}
 use Rattle.hm_soak_laws.specs.Soak.{middle, operation, operations}

@@ -6,7 +6,8 @@ use Rattle.hm_isa.specs.declared.Instr.TheVariants as instr
 use Rattle.hm_isa.specs.declared.Scalar.TheVariants as scalar
 use Rattle.hm_isa.specs.declared.Vector.TheVariants as vector
 use Rattle.hm_isa.specs.Code.{halfwords}
-use Rattle.hm_soak_laws.specs.Image.{AreItems, IsItem, IsOperation, all_halves}
+use Rattle.hm_code_bytes.specs.Bytes.{all_halves}
+use Rattle.hm_soak_laws.specs.Image.{AreItems, IsItem, IsOperation}
 use Rattle.hm_soak_laws.specs.Soak as soak
 use Rattle.hm_soak_laws.specs.Soak.{Item, Operation, Movw, Movt, Movs, Str, Vdup, Lanes, Bkpt, Nop, Bx, draw, fill, operation, operations}
 use Rattle.hm_soak_laws.specs.Straight.{AllGoOn, AlwaysGoesOn}

@@ -9,7 +9,8 @@ use Rattle.hm_isa.specs.declared.Instr.{Instr}
 use Rattle.hm_run.specs.declared.Outcome.TheVariants as outcome
 use Rattle.hm_run.specs.declared.Reason.{Reason}
 use Rattle.hm_state.specs.Start.{reset_pc, start, start_under}
-use Rattle.hm_soak_laws.specs.Image.{AreItems, IsSoak, all_halves, half_bytes, vectors}
+use Rattle.hm_code_bytes.specs.Bytes.{all_halves, half_bytes}
+use Rattle.hm_soak_laws.specs.Image.{AreItems, IsSoak, vectors}
 use Rattle.hm_soak_laws.specs.Soak.{Bkpt, Item, code, drawn, fill, handler, head, many, operations}
 use Rattle.hm_sched.specs.Schedule.{Sched, plain}
 use Rattle.hm_soak_laws.specs.Schedule.{in_order_schedule, schedule}
@@ -18,7 +19,9 @@ use Rattle.hm_soak_laws.specs.Summary.{EndsAlike, HaltsInOrder, IsSummary, SameS
 use Rattle.hm_soak_laws.proofs.Ends.{ends_alike}
 use Rattle.hm_soak_laws.proofs.Head.{head_passes}
 use Rattle.hm_soak_laws.proofs.Items.{AreFree, few_halves, items_go, items_length, middle_free, middle_length}
-use Rattle.hm_soak_laws.proofs.Standing.{flat_byte, held, length_halves, stand_back, stand_from, stand_front}
+use Rattle.hm_code_bytes.proofs.Bytes.{length_halves}
+use Rattle.hm_code_bytes.proofs.Standing.{flat_byte, held}
+use Rattle.hm_soak_laws.proofs.Standing.{stand_back, stand_from, stand_front}
 use Rattle.hm_soak_laws.proofs.Straight.{halts, passes}
 
 -- THE PARTS of a list of items

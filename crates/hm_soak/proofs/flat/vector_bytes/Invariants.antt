@@ -1,6 +1,6 @@
 use Rattle.std.proofs.Common.{◌≡◌, take}
 use Rattle.std.specs.List.{flat_map}
-use Rattle.hm_soak_laws.specs.Image.{word_bytes}
+use Rattle.hm_code_bytes.specs.Bytes.{word_bytes}
 use Rattle.hm_soak.proofs.Adding.{vector_words}
 use Rattle.hm_soak.proofs.flat.vector_bytes.Given as goal
 
