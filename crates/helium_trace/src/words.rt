@@ -3,6 +3,7 @@
 ghost use Rattle.std.specs.Prelude.{◌≡◌, map, option_map, string_bytes, IfOk};
 ghost use Rattle.helium_trace.specs.Words.{asked_in, asked_of, meant, range_in, range_meant, range_of, reads_of};
 
+use hm_sched::MOST_TICKS;
 use hm_text_base::read_number;
 use hm_trace::Ticks;
 use hm_words::{Source, read_source};
@@ -10,9 +11,6 @@ use std::alloc::{AllocError, Global};
 
 /// The most ticks that one call shows.
 const MOST_SHOWN: u32 = 10_000;
-
-/// The most ticks that a run has.
-const MOST_TICKS: u32 = 16_777_216;
 
 /// What the words ask for: to show ticks of the run of an image under a schedule, as lines that are printed, or as a page that is written to a file.
 #[derive(Clone, Copy)]

@@ -5,10 +5,8 @@ ghost use Rattle.hm_debug.specs.Commands.{Fits, IsRead, Says, range_text};
 ghost use Rattle.hm_debug.specs.declared.command.Command.{Command};
 
 use hm_base::FLASH_SIZE;
+use hm_sched::MOST_TICKS;
 use hm_text_base::{read_hex8, read_number, span};
-
-/// The last tick that a run may have.
-const MOST_TICKS: u32 = 16_777_216;
 
 /// The most bytes of memory that one command shows.
 const MOST_BYTES: u32 = 4_096;

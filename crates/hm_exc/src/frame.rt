@@ -173,7 +173,8 @@ pub fn activation(r: &Regs, w: Window, e: u16) -> Activation
     }
 }
 
-/// The position in a stacked xPSR.
+/// The position in a stacked xPSR: the one of its ECI (DDI0553, "EPSR, Execution Program Status Register"), where bits 26:25 and 11:10 are 0;
+/// between two instructions where these are not, and where ECI names none.
 pub fn psr_window(psr: u32) -> Window
     ensures value { result ≡ psr_window psr }
 {

@@ -10,4 +10,5 @@ mod types;
 
 pub use entry::enter;
 pub use exit::{leave, newest};
+pub use frame::psr_window;
 pub use types::{Activation, Acts, Broken, EnterErr, Slot};

@@ -23,7 +23,7 @@ use std::alloc::Global;
 use std::marker::Model;
 
 /// The most ticks that a schedule has.
-const MOST_TICKS: u32 = 16_777_216;
+pub const MOST_TICKS: u32 = 16_777_216;
 
 /// The interrupts that a format names are those below this number.
 fn most_irq(format: u32) -> u32

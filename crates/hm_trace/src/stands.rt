@@ -2,18 +2,16 @@
 
 ghost use Rattle.std.specs.Prelude.{◌≡◌, ◌≤◌, ◌<◌, [], None, length, reverse, IfOk, IfSome, IfNone, slice_get, slice_index};
 ghost use Rattle.hm_base.specs.Image.{word_at};
-ghost use Rattle.hm_exc.specs.Frame.{psr_window};
 ghost use Rattle.hm_machine.specs.Shown.{timed_of};
 ghost use Rattle.hm_sched.specs.Schedule.{line_of};
 ghost use Rattle.hm_trace.specs.Stands.{first_line, interrupted_or, newest_or, past_at, past_of, stand_in, stand_of};
 
 use arrayvec::ArrayVec;
-use hm_base::{OutOfMemory, bits};
-use hm_exc::Activation;
+use hm_base::OutOfMemory;
+use hm_exc::{Activation, psr_window};
 use hm_machine::Machine;
 use hm_regs::Regs;
 use hm_sched::Line;
-use hm_window::{Window, window};
 use std::alloc::Global;
 
 /// Where a program stands: its next instruction, and the beats that are done of it and of the one behind it.
@@ -82,25 +80,11 @@ fn stacked_status(x: &Activation) -> u32
     low + 0x1_0000 * high
 }
 
-/// The position in a stacked xPSR.
-fn position_in(psr: u32) -> Window
-    ensures value { result ≡ psr_window psr }
-{
-    if bits(psr, 26, 25) == 0 && bits(psr, 11, 10) == 0 {
-        match window(bits(psr, 15, 12) as u8) {
-            Some(at) => at,
-            None => Window { a: 0, b: 0 },
-        }
-    } else {
-        Window { a: 0, b: 0 }
-    }
-}
-
 /// Where stands what an entry interrupted.
 fn stand_in(x: &Activation) -> Stand
     ensures value { result ≡ stand_in x.now }
 {
-    let position = position_in(stacked_status(x));
+    let position = psr_window(stacked_status(x));
     Stand {
         pc: x.regs.pc,
         older: position.a,

@@ -5,11 +5,8 @@ ghost use Rattle.std.specs.Prelude.{◌<◌};
 use crate::runs::{image_of, shown};
 use anyhow::{Context, Result, bail};
 use hm_machine::{Machine, Past, Tape};
-use hm_sched::parse;
+use hm_sched::{MOST_TICKS, parse};
 use std::alloc::Global;
-
-/// The most ticks that a run has.
-const MOST_TICKS: u32 = 16_777_216;
 
 /// The order in which the ticks of a run are asked for.
 #[derive(Clone, Copy)]
