@@ -1,10 +1,10 @@
 -- Which texts a row has.
-use Rattle.std.specs.Prelude.{◌≡◌, ◌⊎◌, ℕ, List, Option, Some, None, if◌then◌else◌}
+use Rattle.std.specs.Prelude.{◌≡◌, ◌⊎◌, ℕ, List, Option, Some}
 use Rattle.hm_isa.specs.declared.Instr.{Instr}
 use Rattle.hm_enc32.specs.Table.{IsWide}
-use Rattle.hm_text_rows.specs.Labels.{IsLabel, NamesTarget, Reaches, printed_with}
-use Rattle.hm_tokens.specs.Lines.{IsLineOf}
-use Rattle.hm_tokens.specs.Ranges.{normal}
+use Rattle.hm_text_rows.specs.Labels.{IsLabel, printed_with}
+use Rattle.hm_text_labels.specs.Texts as labels
+use Rattle.hm_text_labels.specs.Texts.{label_where}
 use Rattle.hm_tokens.specs.Tokens.{Tok}
 use Rattle.hm_text32_rows.specs.Rows.{has_label, other_tokens, row_tokens, tokens_of}
 use Rattle.hm_text32_rows.specs.Targets.{target}
@@ -21,21 +21,15 @@ pub record HasTokens (i : Instr) (t : Tok) (ts : List Tok) : Type 0 where
 
 -- the label of a row, where it has one
 abbrev pub label_of : Instr → Tok → Option Tok
-label_of i t = if has_label i then Some t else None
+label_of i t = label_where (has_label i) t
 
 -- tokens with single registers are a row's that stands at pc, with a label that names the address a
-pub record IsRowAt (ts : List Tok) (pc : ℕ) (a : ℕ) (i : Instr) : Type 0 where
-  pub label : Tok
-  pub has : HasTokens i label ts
-  pub reaches : Reaches (target i pc) a
+abbrev pub IsRowAt : List Tok → ℕ → ℕ → Instr → Type 0
+IsRowAt = labels.IsRowAt HasTokens target
 
 -- the text is that of a row which stands at pc, where the labels say what names name; its lists may have ranges
-pub record IsTextOf (text : List ℕ) (pc : ℕ) (labels : List ℕ → Option ℕ) (i : Instr) : Type 0 where
-  pub tokens : List Tok
-  pub label : Tok
-  pub line : IsLineOf text tokens
-  pub has : HasTokens i label (normal tokens)
-  pub names : NamesTarget labels label (target i pc)
+abbrev pub IsTextOf : List ℕ → ℕ → (List ℕ → Option ℕ) → Instr → Type 0
+IsTextOf = labels.IsTextOf HasTokens target
 
 -- PRINTED
 -- the text of a row as it is printed: of one with a label, with the address that this names

@@ -1,7 +1,7 @@
 //! The texts of the rows of two halfwords that are no vector rows: printed, and read from tokens.
 #![tactic(auto)]
 
-ghost use Rattle.std.specs.Prelude.{◌≡◌, ◌≤◌, ℕ, IfSome, List, Option, Some, length, map, option_map};
+ghost use Rattle.std.specs.Prelude.{◌≡◌, ℕ, IfSome, List, Option, Some, length, map, option_map};
 ghost use Rattle.hm_enc32.specs.Table.{IsWide};
 ghost use Rattle.hm_isa.specs.declared.Instr.{Instr};
 ghost use Rattle.hm_text32_rows.specs.Targets.{target};
@@ -14,24 +14,13 @@ mod texts;
 use arrayvec::ArrayString;
 use hm_enc32::decode32;
 use hm_isa::Instr;
+use hm_text_labels::{label_in, print_with};
 pub use hm_text_rows::Shape;
 use hm_text32_codes::code_in;
-use hm_text32_rows::row_text;
 pub use hm_text32_rows::target;
+use hm_text32_rows::{has_label, row_text};
 use hm_tokens::{Token, single_registers};
-use texts::{is_row_at, label_in};
-
-/// The text of a row, with the address that its label names, if it has one.
-fn print_with(i: &Instr, address: Option<u32>) -> ArrayString<96>
-    requires wide { IsWide i.now }
-    requires room { length (text_of i.now address) ≤ 96 }
-    ensures text { result.bytes ≡ text_of i.now address }
-{
-    match address {
-        Some(address) => row_text(i).print_at(address),
-        None => row_text(i).print(),
-    }
-}
+use texts::is_row_at;
 
 /// The text of a row of two halfwords, no vector row, that stands at `pc`: the mnemonic, a space, and the operands with commas
 /// between them, numbers in decimal, and for a label the address that it names as `0x` and eight digits. `read32` gives the row again.
@@ -40,7 +29,7 @@ pub fn print32(i: &Instr, pc: u32) -> ArrayString<96>
     ensures text { result.bytes ≡ text_of i.now (target i.now pc) }
     ensures read { (labels : List ℕ → Option ℕ) → IsTextOf result.bytes pc labels i.now }
 {
-    print_with(i, target(i, pc))
+    print_with(&row_text(i), target(i, pc))
 }
 
 /// The last code of 32 bits.
@@ -78,7 +67,7 @@ fn shape_of<'a>(tokens: &[Token<'a>]) -> Option<Shape<'a>>
     ensures only { (i : Instr) (t : Tok) → HasTokens i t (map tok tokens.now) → option_map (λ s. option_map tok s.label) result ≡ Some (label_of i t) }
 {
     let i = row_of(tokens, 0, 4)?;
-    let label = label_in(&i, tokens);
+    let label = label_in(has_label(&i), tokens);
     Some(Shape { label })
 }
 

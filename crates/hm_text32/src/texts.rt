@@ -1,15 +1,13 @@
-//! Whether tokens are a row's, and the token of its label.
+//! Whether tokens are a row's.
 
-ghost use Rattle.std.specs.Prelude.{◌≡◌, ◌↔◌, true, false, IsTrue, Some, map, option_map};
+ghost use Rattle.std.specs.Prelude.{◌≡◌, ◌↔◌, IsTrue, Some, map};
 ghost use Rattle.hm_enc32.specs.Table.{IsWide};
-ghost use Rattle.hm_text32_rows.specs.Rows.{has_label, other_tokens};
-ghost use Rattle.hm_text32_rows.specs.Targets.{target};
-ghost use Rattle.hm_text32.specs.Texts.{AreTokens, HasTokens, IsRowAt, label_of};
-ghost use Rattle.hm_text_rows.specs.Labels.{Reaches};
+ghost use Rattle.hm_text32_rows.specs.Rows.{other_tokens};
+ghost use Rattle.hm_text32.specs.Texts.{HasTokens, IsRowAt};
 ghost use Rattle.hm_tokens.specs.Tokens.{Tok, tok};
 
 use hm_isa::Instr;
-use hm_text_rows::{is_label, split_last};
+use hm_text_labels::{has_text, reaches};
 use hm_text32_rows::{has_label, other_text, row_text, target};
 use hm_tokens::Token;
 
@@ -23,55 +21,14 @@ fn is_other(i: &Instr, tokens: &[Token<'_>]) -> bool
     }
 }
 
-/// Whether tokens are those of a row with a label.
-fn is_labelled(i: &Instr, tokens: &[Token<'_>]) -> bool
-    requires wide { IsWide i.now }
-    requires label { has_label i.now ≡ true }
-    ensures { IsTrue result ↔ ((t : Tok) × HasTokens i.now t (map tok tokens.now)) }
-{
-    match split_last(tokens) {
-        Some((front, last)) => {
-            if is_label(last) {
-                row_text(i).has(front)
-            } else {
-                false
-            }
-        }
-        None => false,
-    }
-}
-
-/// Whether tokens are those of a row without a label.
-fn is_plain(i: &Instr, tokens: &[Token<'_>]) -> bool
-    requires wide { IsWide i.now }
-    requires label { has_label i.now ≡ false }
-    ensures { IsTrue result ↔ ((t : Tok) × HasTokens i.now t (map tok tokens.now)) }
-{
-    let printed = row_text(i).has(tokens);
-    let other = is_other(i, tokens);
-    printed || other
-}
-
 /// Whether tokens are those of a row.
 fn is_text_of(i: &Instr, tokens: &[Token<'_>]) -> bool
     requires wide { IsWide i.now }
     ensures { IsTrue result ↔ ((t : Tok) × HasTokens i.now t (map tok tokens.now)) }
 {
-    if has_label(i) {
-        is_labelled(i, tokens)
-    } else {
-        is_plain(i, tokens)
-    }
-}
-
-/// Whether a row's label, if it has one, names an address.
-fn reaches(i: &Instr, pc: u32, address: u32) -> bool
-    ensures { IsTrue result ↔ Reaches (target i.now pc) address }
-{
-    match target(i, pc) {
-        Some(named) => named == address,
-        None => true,
-    }
+    let printed = has_text(&row_text(i), has_label(i), tokens);
+    let other = is_other(i, tokens);
+    printed || other
 }
 
 /// Whether a row that stands at `pc` has these tokens, with a label that names an address.
@@ -80,21 +37,8 @@ pub fn is_row_at(i: &Instr, tokens: &[Token<'_>], pc: u32, address: u32) -> bool
     ensures { IsTrue result ↔ IsRowAt (map tok tokens.now) pc address i.now }
 {
     if is_text_of(i, tokens) {
-        reaches(i, pc, address)
+        reaches(target(i, pc), address)
     } else {
         false
-    }
-}
-
-/// The label among the tokens of a row, if this has one.
-pub fn label_in<'a>(i: &Instr, tokens: &[Token<'a>]) -> Option<Token<'a>>
-    ensures { (t : Tok) → AreTokens i.now t (map tok tokens.now) → option_map tok result ≡ label_of i.now t }
-{
-    if !has_label(i) {
-        return None;
-    }
-    match split_last(tokens) {
-        Some((_front, last)) => Some(last),
-        None => None,
     }
 }

@@ -9,10 +9,6 @@ use Rattle.hm_isa.specs.declared.Instr.TheVariants as instr
 use Rattle.hm_isa.specs.declared.Scalar.TheVariants as scalar
 use Rattle.hm_isa.specs.declared.narrow.AccessName.{AccessName}
 use Rattle.hm_isa.specs.declared.narrow.AccessName.TheVariants as access
-use Rattle.hm_isa.specs.declared.wide.Offset.{Offset}
-use Rattle.hm_isa.specs.declared.wide.Indexed.{Indexed}
-use Rattle.hm_isa.specs.declared.wide.Shifted.{Shifted}
-use Rattle.hm_isa.specs.declared.wide.Literal.{Literal}
 use Rattle.hm_isa.specs.declared.wide.PairName.{PairName}
 use Rattle.hm_isa.specs.declared.wide.PairName.TheVariants as pair
 use Rattle.hm_isa.specs.declared.wide.T12.{T12}

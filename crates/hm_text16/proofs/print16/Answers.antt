@@ -1,11 +1,24 @@
-use Rattle.std.proofs.Common.{ap, ◌∙◌}
-use Rattle.hm_text16.specs.Texts.{text_of}
+use Rattle.std.proofs.Common.{◌∙◌}
+use Rattle.hm_text_rows.specs.Labels.{printed_with}
+use Rattle.hm_tokens.specs.Texts.{text_tokens}
+use Rattle.hm_text_labels.proofs.Tails.{room_as}
+use Rattle.hm_text16_rows.specs.Rows.{row_tokens}
+use Rattle.hm_text16_rows.specs.Targets.{target}
 use Rattle.hm_text16.proofs.Laws.{printed_read, printed_room}
 use Rattle.hm_text16.proofs.print16.Goals as goal
 
 pub print_with-requires : goal.print_with-requires
-print_with-requires c = record { narrow = c.requires.narrow; room = rw c.target.ensures.value (printed_room c.args.i.now c.args.pc c.requires.narrow) }
+print_with-requires c =
+    let i = c.args.i.now in
+    let room = printed_room i c.args.pc c.requires.narrow in
+    record {
+      room = room_as (text_tokens c.row_text.result) (row_tokens i) c.target.result (target i c.args.pc) c.row_text.ensures c.target.ensures.value room;
+    }
+
+pub returns-clause-text : goal.returns-clause-text
+returns-clause-text c = c.print_with.ensures.text ∙ (λ j. printed_with (c.row_text.ensures j) (c.target.ensures.value j))
 
 pub returns-clause-read : goal.returns-clause-read
 returns-clause-read c labels =
-    printed_read c.args.i.now c.args.pc _ labels c.requires.narrow (c.print_with.ensures.text ∙ ap (text_of c.args.i.now) c.target.ensures.value)
+    printed_read c.args.i.now c.args.pc _ labels c.requires.narrow
+    (c.print_with.ensures.text ∙ (λ j. printed_with (c.row_text.ensures j) (c.target.ensures.value j)))

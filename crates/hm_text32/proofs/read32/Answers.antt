@@ -1,17 +1,23 @@
-use Rattle.std.proofs.Common.{map}
-use Rattle.hm_tokens.specs.Tokens.{tok}
-use Rattle.hm_text32.proofs.Parsing.{read_found, read_only, too_many}
+use Rattle.std.proofs.Common.{◌≡◌, List, Some, map, subst}
+use Rattle.std.specs.Prelude.{IfSome}
+use Rattle.hm_isa.specs.declared.Instr.{Instr}
+use Rattle.hm_tokens.specs.Tokens.{Tok, tok}
+use Rattle.hm_text_labels.proofs.Reading.{too_many}
+use Rattle.hm_text32_rows.specs.Targets.{target}
+use Rattle.hm_text32.specs.Texts.{AreTokens, HasTokens, IsRowAt, label_of}
+use Rattle.hm_text32.proofs.Parsing.{readable}
 use Rattle.hm_text32.proofs.read32.Goals as goal
 
 pub returns-in_err-single-clause-only : goal.returns-in_err-single-clause-only
-returns-in_err-single-clause-only c i is = absurd (too_many (map tok c.args.tokens.now) c.args.pc c.args.address c.in_err-single.ensures.none i is)
+returns-in_err-single-clause-only c i is =
+    absurd (too_many HasTokens AreTokens label_of target readable (map tok c.args.tokens.now) c.args.pc c.args.address c.in_err-single.ensures.none i is)
 
 pub returns-clause-found : goal.returns-clause-found
 returns-clause-found c =
-    read_found (map tok c.args.tokens.now) (map tok c.in_ok-single.single.items) c.args.pc c.args.address c.row_of.result c.in_ok-single.ensures.found
+    subst (λ (x : List Tok). IfSome c.row_of.result (λ i. IsRowAt x c.args.pc c.args.address i)) c.in_ok-single.ensures.found
     (rw c.as_slice.ensures.value at c.row_of.ensures.found)
 
 pub returns-clause-only : goal.returns-clause-only
 returns-clause-only c =
-    read_only (map tok c.args.tokens.now) (map tok c.in_ok-single.single.items) c.args.pc c.args.address c.row_of.result c.in_ok-single.ensures.found
+    subst (λ (x : List Tok). (i : Instr) → IsRowAt x c.args.pc c.args.address i → c.row_of.result ≡ Some i) c.in_ok-single.ensures.found
     (rw c.as_slice.ensures.value at c.row_of.ensures.only)

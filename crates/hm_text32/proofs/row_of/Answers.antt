@@ -1,7 +1,11 @@
 use Rattle.std.proofs.Common.{map, sym, ◌∙◌}
 use Rattle.std.proofs.lemmas.Bool.{false≢true}
+use Rattle.hm_isa.specs.declared.Instr.{Instr}
+use Rattle.hm_enc32.specs.Table.{HasWord}
 use Rattle.hm_tokens.specs.Tokens.{tok}
-use Rattle.hm_text32.proofs.Parsing.{wide_of, no_code, no_row, other_row, the_row, too_large}
+use Rattle.hm_text_labels.proofs.Reading.{other_row, the_row}
+use Rattle.hm_text32.specs.Texts.{IsRowAt}
+use Rattle.hm_text32.proofs.Parsing.{wide_of, no_code, the_code, too_large}
 use Rattle.hm_text32.proofs.row_of.Goals as goal
 
 pub returns-in_err-code-clause-only : goal.returns-in_err-code-clause-only
@@ -15,8 +19,9 @@ returns-then-code-gt-LAST-clause-only c i is =
 
 pub returns-in_err-i-clause-only : goal.returns-in_err-i-clause-only
 returns-in_err-i-clause-only c i is =
-    absurd (no_row (map tok c.args.tokens.now) c.args.pc c.args.address c.in_ok-code.code c.ranges.pc.fits c.ranges.address.fits (sym c.in_ok-code.ensures)
-    c.in_err-i.ensures.none i is)
+    let ts = map tok c.args.tokens.now in
+    let coded = the_code ts c.args.pc c.args.address c.in_ok-code.code c.ranges.pc.fits c.ranges.address.fits (sym c.in_ok-code.ensures) in
+    absurd (c.in_err-i.ensures.none i (coded i is))
 
 pub is_row_at-requires : goal.is_row_at-requires
 is_row_at-requires c = record { wide = wide_of c.in_ok-i.i c.in_ok-code.code c.in_ok-i.ensures.found }
@@ -25,13 +30,15 @@ pub returns-then-is_row_at-clause-found : goal.returns-then-is_row_at-clause-fou
 returns-then-is_row_at-clause-found c = c.is_row_at.ensures.0 c.if-is_row_at.true
 
 pub returns-then-is_row_at-clause-only : goal.returns-then-is_row_at-clause-only
-returns-then-is_row_at-clause-only c i is =
-    the_row (map tok c.args.tokens.now) c.args.pc c.args.address c.in_ok-code.code c.in_ok-i.i c.ranges.pc.fits c.ranges.address.fits (sym c.in_ok-code.ensures)
-    c.in_ok-i.ensures.exact i is
+returns-then-is_row_at-clause-only c =
+    let ts = map tok c.args.tokens.now in
+    let coded = the_code ts c.args.pc c.args.address c.in_ok-code.code c.ranges.pc.fits c.ranges.address.fits (sym c.in_ok-code.ensures) in
+    the_row (IsRowAt ts c.args.pc c.args.address) (λ (i : Instr). HasWord i c.in_ok-code.code) c.in_ok-i.i coded c.in_ok-i.ensures.exact
 
 pub returns-clause-only : goal.returns-clause-only
 returns-clause-only c i is =
+    let ts = map tok c.args.tokens.now in
+    let coded = the_code ts c.args.pc c.args.address c.in_ok-code.code c.ranges.pc.fits c.ranges.address.fits (sym c.in_ok-code.ensures) in
     absurd
-    (other_row (map tok c.args.tokens.now) c.args.pc c.args.address c.in_ok-code.code c.in_ok-i.i c.ranges.pc.fits c.ranges.address.fits
-    (sym c.in_ok-code.ensures) c.in_ok-i.ensures.exact
+    (other_row (IsRowAt ts c.args.pc c.args.address) (λ (i : Instr). HasWord i c.in_ok-code.code) c.in_ok-i.i coded c.in_ok-i.ensures.exact
     (λ h. false≢true (sym c.if-is_row_at.false ∙ c.is_row_at.ensures.1 h)) i is)
