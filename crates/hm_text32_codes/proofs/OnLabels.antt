@@ -28,7 +28,7 @@ use Rattle.hm_text_rows.specs.Labels.{behind, distance}
 use Rattle.hm_text_rows.specs.Shapes.{r}
 use Rattle.hm_text_rows.proofs.Printed.{IsPrintedAt, is_printed_at, short_comma, short_word}
 use Rattle.hm_text_rows.proofs.Words.{at_below, below_holds, is_mnemonic, is_suffix, word_r}
-use Rattle.hm_text32_codes.specs.Codes.{ahead, always_code, behind_it, code_in, code_of, code_of_label, code_of_memory, conditional_code, same_bit}
+use Rattle.hm_text32_codes.specs.Codes.{ahead, always_code, behind_it, code_in, code_of, code_of_label, code_of_memory, conditional_code}
 use Rattle.hm_text_rows.specs.Operands.{size_of}
 use Rattle.hm_text32_rows.specs.Rows.{loop_end_tokens}
 use Rattle.hm_text32_rows.specs.Mnemonics.{element_suffix, wide, wide_branch_mnemonic}
@@ -211,13 +211,13 @@ row_conditional i =
 abbrev far_half : ℕ → ℕ → ℕ → ℕ → ℕ → ℕ
 far_half s x1 x2 i10 i11 = s * 2 ^ 23 + x1 * 2 ^ 22 + x2 * 2 ^ 21 + i10 * 2 ^ 11 + i11
 
-same_back : (j s : ℕ) → j < 2 → s < 2 → same_bit (alike j s) s ≡ j
-same_back zero zero hj hs = refl
-same_back zero (suc zero) hj hs = refl
-same_back (suc zero) zero hj hs = refl
-same_back (suc zero) (suc zero) hj hs = refl
-same_back (suc (suc j)) s hj hs = absurd (omega arith)
-same_back j (suc (suc s)) hj hs = absurd (omega arith)
+alike_back : (j s : ℕ) → j < 2 → s < 2 → alike (alike j s) s ≡ j
+alike_back zero zero hj hs = refl
+alike_back zero (suc zero) hj hs = refl
+alike_back (suc zero) zero hj hs = refl
+alike_back (suc zero) (suc zero) hj hs = refl
+alike_back (suc (suc j)) s hj hs = absurd (omega arith)
+alike_back j (suc (suc s)) hj hs = absurd (omega arith)
 
 alike_bit : (j s : ℕ) → alike j s < 2
 alike_bit j s = elim (cases_Bool (nat_eq j s)) [ inl e ↦ rw e (omega arith) | inr e ↦ rw e (omega arith) ]
@@ -241,7 +241,7 @@ module _ (s x1 x2 i10 i11 m : ℕ) (hs : s < 2) (h1 : x1 < 2) (h2 : x2 < 2) (h10
   far_low : far_field % 2 ^ 11 ≡ i11
   far_low = omega arith
 
-  far_sum : (base : ℕ) → always_code base far_field ≡ base + s ↑ 26 + i10 ↑ 16 + same_bit x1 s ↑ 13 + same_bit x2 s ↑ 11 + i11
+  far_sum : (base : ℕ) → always_code base far_field ≡ base + s ↑ 26 + i10 ↑ 16 + alike x1 s ↑ 13 + alike x2 s ↑ 11 + i11
   far_sum base = rw (far_sign, far_one, far_two, far_ten, far_low) refl
 
 far_small : (s x1 x2 i10 i11 : ℕ) → s < 2 → x1 < 2 → x2 < 2 → i10 < 1024 → i11 < 2048 → far_half s x1 x2 i10 i11 < 2 ^ 24
@@ -263,7 +263,7 @@ always_asks i pc a hp e =
     let half : distance (pc + 4) a / 2 ≡ h + signed.more * 2 ^ 24 = ap (λ (d : ℕ). d / 2) back ∙ signed.half in
     ap (λ (f : ℕ). always_code (wide_branch_base i.name) f) half
     ∙ far_sum s x1 x2 i.i10.value i.i11.value signed.more i.s.in_range b1 b2 i.i10.in_range i.i11.in_range (wide_branch_base i.name)
-    ∙ (λ k. wide_branch_base i.name + s ↑ 26 + i.i10.value ↑ 16 + same_back i.j1.value s i.j1.in_range i.s.in_range k ↑ 13 + same_back i.j2.value s
+    ∙ (λ k. wide_branch_base i.name + s ↑ 26 + i.i10.value ↑ 16 + alike_back i.j1.value s i.j1.in_range i.s.in_range k ↑ 13 + alike_back i.j2.value s
     i.j2.in_range i.s.in_range k ↑ 11 + i.i11.value)
 
 -- their mnemonics, and what follows

@@ -1,6 +1,7 @@
 -- The code that a text carelessly asks for: what decides is whether the row that has this code has the text.
 use Rattle.std.specs.Prelude.{ℕ, zero, suc, Bool, ◌+◌, ◌-◌, ◌*◌, ◌/◌, ◌%◌, ◌^◌, ◌&&◌, List, [], ◌∷◌, length, Option, Some, None, option_map, codes, bytes_eq}
 use Rattle.std.specs.Prelude.{nat_lt, ◌==◌, if◌then◌else◌}
+use Rattle.hm_isa.specs.Distances.{alike}
 use Rattle.hm_isa.specs.Standing.{◌↑◌}
 use Rattle.hm_text_base.specs.Spans.{span}
 use Rattle.hm_tokens.specs.Tokens.{Tok, word, number, mark}
@@ -274,14 +275,10 @@ memory_code_in (mark c ∷ ts) = None
 abbrev pub conditional_code : ℕ → ℕ → ℕ
 conditional_code c f = 0xf0008000 + (f / 2 ^ 19 % 2) ↑ 26 + c ↑ 22 + (f / 2 ^ 11 % 64) ↑ 16 + (f / 2 ^ 17 % 2) ↑ 13 + (f / 2 ^ 18 % 2) ↑ 11 + f % 2 ^ 11
 
--- T16: the bit that is coded as 1 where it is the same as another (DDI0553, "B", encoding T4, and "BL", encoding T1)
-abbrev pub same_bit : ℕ → ℕ → ℕ
-same_bit x s = (x + s + 1) % 2
-
 -- T16: the code of B under no condition or BL, where f is half the distance, s:I1:I2:i10:i11 (DDI0553, "B", encoding T4, and "BL", encoding T1)
 abbrev pub always_code : ℕ → ℕ → ℕ
 always_code base f =
-    base + (f / 2 ^ 23 % 2) ↑ 26 + (f / 2 ^ 11 % 1024) ↑ 16 + same_bit (f / 2 ^ 22 % 2) (f / 2 ^ 23 % 2) ↑ 13 + same_bit (f / 2 ^ 21 % 2) (f / 2 ^ 23 % 2) ↑ 11
+    base + (f / 2 ^ 23 % 2) ↑ 26 + (f / 2 ^ 11 % 1024) ↑ 16 + alike (f / 2 ^ 22 % 2) (f / 2 ^ 23 % 2) ↑ 13 + alike (f / 2 ^ 21 % 2) (f / 2 ^ 23 % 2) ↑ 11
     + f % 2 ^ 11
 
 -- T16: the code of B with a condition that stands at pc and goes to the address a (DDI0553, "B", encoding T3)

@@ -2,7 +2,8 @@
 
 ghost use Rattle.std.specs.Prelude.{◌≡◌, ◌<◌, ◌^◌, map};
 ghost use Rattle.hm_text32_codes.specs.Codes.{ahead, always_code, behind_it, code_always, code_conditional, code_loop, code_of_label, conditional_code};
-ghost use Rattle.hm_text32_codes.specs.Codes.{label_code_in, same_bit, with_field};
+ghost use Rattle.hm_text32_codes.specs.Codes.{label_code_in, with_field};
+ghost use Rattle.hm_isa.specs.Distances.{alike};
 ghost use Rattle.hm_text_base.specs.Spans.{span};
 ghost use Rattle.hm_tokens.specs.Tokens.{tok};
 
@@ -26,12 +27,11 @@ fn conditional_code(c: u32, f: u64) -> u64
 }
 
 /// The bit that two bits are coded by: 1 where they are the same.
-fn same_bit(x: u64, s: u64) -> u64
-    requires { (x < 2) × (s < 2) }
-    ensures value { result ≡ same_bit x s }
+fn alike(x: u64, s: u64) -> u64
+    ensures value { result ≡ alike x s }
     ensures below { result < 2 }
 {
-    (x + s + 1) % 2
+    if x == s { 1 } else { 0 }
 }
 
 /// A row T16 without a condition, at half the distance f.
@@ -42,8 +42,8 @@ fn always_code(base: u64, f: u64) -> u64
     let s = f / 0x80_0000 % 2;
     base + (s << 26)
         + (f / 0x800 % 1024 << 16)
-        + (same_bit(f / 0x40_0000 % 2, s) << 13)
-        + (same_bit(f / 0x20_0000 % 2, s) << 11)
+        + (alike(f / 0x40_0000 % 2, s) << 13)
+        + (alike(f / 0x20_0000 % 2, s) << 11)
         + f % 0x800
 }
 
