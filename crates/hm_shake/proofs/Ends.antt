@@ -13,11 +13,12 @@ use Rattle.hm_run.specs.declared.Offence.TheVariants as offence
 use Rattle.hm_exc.specs.declared.types.Broken.TheVariants as broken
 use Rattle.hm_run.specs.declared.Reason.{Reason}
 use Rattle.hm_sched.specs.Schedule.{Sched, ticks_of}
-use Rattle.hm_shake.specs.Ends.{EndsAs, Halts, ended_under, ends_in, kind_or}
+use Rattle.hm_shake.specs.Ends.{EndsAs, Halts, ended_plain, ended_under, ends_in, kind_or}
 use Rattle.hm_shake.specs.Kinds.{is_halt}
 use Rattle.hm_shake_runs.proofs.Cutting.{cut_same}
 use Rattle.hm_shake_runs.proofs.Letters.{breaks_no_rule, shaken_older}
-use Rattle.hm_shake_runs.specs.Heads.{bare}
+use Rattle.hm_shake_runs.proofs.Wholes.{whole_begun, whole_outcome}
+use Rattle.hm_shake_runs.specs.Heads.{bare, whole_ticks}
 use Rattle.hm_shake_runs.specs.Kinds.{kind_of}
 use Rattle.hm_shake_runs.specs.Stretches.{cut, with_stretches}
 use Rattle.hm_shake_runs.specs.declared.head.Head.{Head}
@@ -42,6 +43,11 @@ module _ (listing : Listing) (image : List Segment) (s : Sched) (m : Shown) (sho
 
   pub reports_so : report_text (timed_of m) ≡ report_text (shown_out listing image s)
   reports_so = ap (λ (x : Run). report_text (shown x)) (shows.now listing is)
+
+-- whole instructions end alike under every head
+pub plain_so : (listing : Listing) (image : List Segment) (h : Head) (n : ℕ) → ended_under listing image (whole_ticks h n) ≡ ended_plain listing image n
+unfolding ended_under ended_plain
+plain_so listing image h n = λ j. record { kind = kind_or (whole_outcome image listing h n j); ticks = whole_begun image listing h n j }
 
 -- cut off behind the tick that ends it a run ends as it did
 cut_ends : (listing : Listing) (image : List Segment) (h : Head) (xs : List Stretch)

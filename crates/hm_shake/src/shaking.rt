@@ -8,7 +8,6 @@ ghost use Rattle.hm_shake.specs.Findings.{FindsFor};
 ghost use Rattle.hm_state.specs.Start.{reset_pc};
 
 use crate::counting::{Given, Progress, do_runs, report_of};
-use crate::ended::plain_end;
 use crate::filing::{Written, files_of};
 use crate::repeats::Repeater;
 use hm_base::Image;
@@ -28,7 +27,7 @@ pub struct Findings {
 }
 
 /// Runs an image under so many schedules, made from a seed, and gives what was found. Of the schedule its head is taken, and the interrupts that its lines
-/// name. It is refused as by `Machine::load`.
+/// name. The image is loaded once. It is refused as by `Machine::load`.
 pub fn shake<P: Progress>(
     alloc: Global,
     image: &Image,
@@ -43,9 +42,9 @@ pub fn shake<P: Progress>(
     ensures odd { IfOk result (λ _. reset_pc image.now % 2 ≡ 1) }
     ensures refused { IfErr result (λ e. LoadRefuses image.now e) }
 {
-    let plainly = plain_end(alloc, image)?;
     let head = Head::of(schedule);
     let mut repeater = Repeater::of(alloc, image, head)?;
+    let plainly = repeater.plain(alloc, head)?;
     let given = Given {
         head,
         irqs: interrupts_of(alloc, schedule)?,

@@ -4,3 +4,4 @@ pub mod Turns
 pub mod Counting
 pub mod Letters
 pub mod Cutting
+pub mod Wholes

@@ -1,12 +1,16 @@
 -- WHAT A SCHEDULE SAYS BESIDE ITS TICKS, and the interrupts that its lines name.
 use Rattle.std.specs.Prelude.{ℕ, zero, suc, ◌+◌, ◌/◌, ◌%◌, ◌^◌, ◌==◌, ◌||◌, Bool, false, List, [], ◌∷◌, if◌then◌else◌}
-use Rattle.hm_sched.specs.Schedule.{Sched, TickLine, most_irq}
+use Rattle.hm_sched.specs.Schedule.{Sched, TickLine, most_irq, plain_lines}
 use Rattle.hm_sched.specs.Words.{number_of}
 use Rattle.hm_shake_runs.specs.declared.head.Head.{Head}
 
 -- the schedule that says this and has no ticks
 abbrev pub bare : Head → Sched
 bare h = record { format = h.format; entries = h.entries; lo = h.lo; hi = h.hi; floor = h.floor; process = h.process; lines = [] }
+
+-- n ticks of one whole instruction each, with this region and these floors, in which no exception enters
+abbrev pub whole_ticks : Head → ℕ → Sched
+whole_ticks h n = record (bare h) { entries = false; lines = plain_lines n }
 
 -- words have the bit of interrupt n
 abbrev pub words_name : ℕ → List ℕ → Bool

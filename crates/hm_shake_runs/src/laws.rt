@@ -7,8 +7,8 @@ ghost use Rattle.hm_handlers.specs.Runs.{run_out, shown_out};
 ghost use Rattle.hm_run.specs.Report.{report_text};
 ghost use Rattle.hm_run.specs.declared.Outcome.TheVariants.{Halted, RuleBroken};
 ghost use Rattle.hm_run.specs.declared.Reason.{Reason};
-ghost use Rattle.hm_sched.specs.Schedule.{Sched};
-ghost use Rattle.hm_shake_runs.specs.Heads.{bare};
+ghost use Rattle.hm_sched.specs.Schedule.{Sched, plain};
+ghost use Rattle.hm_shake_runs.specs.Heads.{bare, whole_ticks};
 ghost use Rattle.hm_shake_runs.specs.Runs.{AreOlder};
 ghost use Rattle.hm_shake_runs.specs.Shaken.{shaken_schedule};
 ghost use Rattle.hm_shake_runs.specs.Stretches.{cut, with_stretches};
@@ -37,4 +37,12 @@ pub fn reports_law()
 pub fn cut_law()
     ensures same { (image : List Segment) (listing : Listing) (h : Head) (xs : List Stretch) → let x = run_out listing image (with_stretches xs (bare h)) in
         run_out listing image (with_stretches (cut x.ticks xs) (bare h)) ≡ x }
+{}
+
+/// Whole instructions in order end alike under every head, where no exception enters, and begin as many ticks: so one machine does the plain run too.
+pub fn whole_law()
+    ensures outcome { (image : List Segment) (listing : Listing) (h : Head) (n : ℕ)
+        → (run_out listing image (whole_ticks h n)).outcome ≡ (run_out listing image (plain n)).outcome }
+    ensures ticks { (image : List Segment) (listing : Listing) (h : Head) (n : ℕ)
+        → (run_out listing image (whole_ticks h n)).ticks ≡ (run_out listing image (plain n)).ticks }
 {}

@@ -11,6 +11,7 @@ mod laws;
 mod making;
 mod plan;
 mod stretches;
+mod whole;
 
 pub use cuts::{cut, without};
 pub use draws::{draw, first, part};
@@ -18,7 +19,8 @@ pub use found::{Found, Tally};
 pub use head::Head;
 pub use interrupts::interrupts_of;
 pub use kinds::{Ended, Kind, kind_of};
-pub use laws::{cut_law, letters_law, reports_law};
+pub use laws::{cut_law, letters_law, reports_law, whole_law};
 pub use making::shaken;
 pub use plan::Plan;
 pub use stretches::{Stretch, interrupts_in, schedule_of, ticks_in};
+pub use whole::whole_ticks;

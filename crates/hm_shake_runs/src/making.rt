@@ -10,10 +10,8 @@ use crate::draws::{draw, first, part};
 use crate::plan::Plan;
 use crate::stretches::{Stretch, ticks_in};
 use hm_base::OutOfMemory;
+use hm_sched::MOST_TICKS;
 use std::alloc::Global;
-
-/// The most ticks that a schedule has.
-const MOST_TICKS: u32 = 16_777_216;
 
 /// The most interrupts of a run.
 const MOST_INTERRUPTS: u32 = 262_144;

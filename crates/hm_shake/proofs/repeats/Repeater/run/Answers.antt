@@ -1,7 +1,7 @@
-use Rattle.std.proofs.Common.{◌∙◌, List, length, refl, subst, sym}
+use Rattle.std.proofs.Common.{List, length, refl, subst, sym}
 use Rattle.hm_base.specs.Image.{Segment}
 use Rattle.hm_machine.specs.Shown.{Shows}
-use Rattle.hm_machine.specs.Starts.{SameHead}
+use Rattle.hm_machine.specs.Starts.{SameBounds}
 use Rattle.hm_sched.specs.Schedule.{Sched, ticks_of}
 use Rattle.hm_shake.specs.Repeats.{Repeats}
 use Rattle.hm_shake_runs.specs.Heads.{bare}
@@ -16,9 +16,9 @@ module _ (c : goal.After-end_of) where
   begins : (image : List Segment) → Repeats image c.args.head c.args.self.now → Shows image under 0 c.again.new.self
   begins image repeats =
       let is = c.in_ok-schedule.ensures.value in
-      let same : SameHead (bare c.args.head) c.in_ok-schedule.schedule = subst (λ (s : Sched). SameHead (bare c.args.head) s) (sym is) refl in
+      let same : SameBounds repeats.schedule c.in_ok-schedule.schedule = subst (λ (s : Sched). SameBounds repeats.schedule s) (sym is) repeats.same in
       subst (λ (s : Sched). Shows image s 0 c.again.new.self) is
-      (c.again.ensures.shows image (bare c.args.head) repeats.schedule repeats.ticks repeats.start repeats.shows same (repeats.same ∙ same))
+      (c.again.ensures.shows image (bare c.args.head) repeats.schedule repeats.ticks repeats.start repeats.shows same)
 
 pub returns-clause-ended : goal.returns-clause-ended
 returns-clause-ended c = λ image listing is repeats. c.end_of.ensures.ended image (under c) listing (begins c image repeats) is
