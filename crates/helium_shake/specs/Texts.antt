@@ -1,20 +1,16 @@
 -- THE TEXT THAT IS PRINTED, and the names of the files that are written.
-use Rattle.std.specs.Prelude.{ℕ, List, [], ◌++◌, codes, map, nat_eq, if◌then◌else◌, Option, Some, None}
+use Rattle.std.specs.Prelude.{ℕ, List, [], ◌++◌, codes, Option, Some, None}
 use Rattle.std.specs.Fmt.{decimal}
 use Rattle.std.specs.List.{flat_map}
-use Rattle.hm_shake.specs.Kinds.{kind_text}
+use Rattle.hm_shake.specs.Kinds.{kind_name}
 use Rattle.hm_shake.specs.Texts.{counts_text}
 use Rattle.hm_shake.specs.declared.filing.Written.{Written}
 use Rattle.hm_shake.specs.declared.shaking.Findings.{Findings}
 use Rattle.hm_shake_runs.specs.declared.kinds.Kind.{Kind}
 
--- a minus in place of a space
-abbrev pub joined : ℕ → ℕ
-joined c = if nat_eq c 32 then 45 else c
-
--- THE NAME OF A FILE: that of the schedule, a dot, and the kind with a minus between its words
+-- THE NAME OF A FILE: that of the schedule, a dot, and that of the kind
 abbrev pub file_name : List ℕ → Kind → List ℕ
-file_name schedule kind = schedule ++ codes "." ++ map joined (kind_text kind [])
+file_name schedule kind = schedule ++ codes "." ++ kind_name kind
 
 -- the line of a file
 abbrev pub file_line : List ℕ → Written → List ℕ

@@ -1,31 +1,14 @@
 //! The text that is printed, and the names of the files that are written.
 
-ghost use Rattle.std.specs.Prelude.{◌≡◌, ◌++◌, IfOk, map, option_map, string_bytes};
+ghost use Rattle.std.specs.Prelude.{◌≡◌, ◌++◌, IfOk, option_map, string_bytes};
 ghost use Rattle.std.specs.List.{flat_map};
-ghost use Rattle.helium_shake.specs.Texts.{file_line, file_name, findings_text, joined, report_or_none};
+ghost use Rattle.helium_shake.specs.Texts.{file_line, file_name, findings_text, report_or_none};
 
 use hm_base::OutOfMemory;
-use hm_shake::{Findings, Written, add_kind, counts_text};
+use hm_shake::{Findings, Written, add_name, counts_text};
 use hm_shake_runs::Kind;
 use hm_text_base::{decimal, text};
 use std::alloc::Global;
-
-/// A minus in place of a space.
-fn joined(byte: u8) -> u8
-    ensures value { result ≡ joined byte }
-{
-    if byte == b' ' { b'-' } else { byte }
-}
-
-/// Adds words with a minus in place of each space.
-fn add_joined(out: &mut Vec<u8>, words: &[u8]) -> Result<(), OutOfMemory>
-    ensures added { IfOk result (λ _. out.new.items ≡ out.old.items ++ map joined words.now) }
-{
-    for byte in words {
-        out.push(joined(*byte))?;
-    }
-    Ok(())
-}
 
 /// Adds the name of the file of a kind, behind that of the schedule.
 fn add_file_name(
@@ -36,11 +19,9 @@ fn add_file_name(
 ) -> Result<(), OutOfMemory>
     ensures added { IfOk result (λ _. out.new.items ≡ out.old.items ++ file_name schedule.now kind) }
 {
-    let mut words = Vec::new(alloc);
-    add_kind(alloc, &mut words, kind)?;
     text(out, schedule.as_bytes())?;
     text(out, b".")?;
-    add_joined(out, &words)
+    add_name(alloc, out, kind)
 }
 
 /// The name of the file of a kind, behind that of the schedule.

@@ -1,5 +1,5 @@
--- TEXTS OF KINDS of outcomes, and which of them halt.
-use Rattle.std.specs.Prelude.{Bool, false, true, ℕ, List, ◌++◌, codes}
+-- TEXTS AND NAMES OF KINDS of outcomes, and which of them halt.
+use Rattle.std.specs.Prelude.{Bool, false, true, ℕ, List, [], ◌++◌, codes, if◌then◌else◌, map, nat_eq}
 use Rattle.std.specs.Fmt.{decimal}
 use Rattle.hm_run.specs.Report.{kind_text as fault_text, reason_text, slot_text, who_text}
 use Rattle.hm_shake_runs.specs.declared.kinds.Kind.{Kind}
@@ -19,6 +19,14 @@ kind_text kind.Tainted out = out ++ codes "tainted"
 kind_text kind.Stack out = out ++ codes "stack"
 kind_text kind.Output out = out ++ codes "output"
 kind_text kind.Ticks out = out ++ codes "ticks"
+
+-- a minus in place of a space
+abbrev pub joined : ℕ → ℕ
+joined c = if nat_eq c 32 then 45 else c
+
+-- THE NAME OF A KIND: its text, with a minus between its words
+abbrev pub kind_name : Kind → List ℕ
+kind_name k = map joined (kind_text k [])
 
 -- it is that of runs that halt
 abbrev pub is_halt : Kind → Bool

@@ -1,4 +1,5 @@
 pub mod Kinds
+pub mod Numbers
 pub mod Ends
 pub mod Texts
 pub mod Repeats

@@ -4,6 +4,7 @@
 mod counting;
 mod ended;
 mod filing;
+mod naming;
 mod repeats;
 mod shaking;
 mod shrinking;
@@ -12,6 +13,7 @@ mod texts;
 pub use counting::Progress;
 pub use ended::end_of;
 pub use filing::Written;
+pub use naming::{add_name, names_law};
 pub use repeats::Repeater;
 pub use shaking::{Findings, shake};
 pub use shrinking::shrink;

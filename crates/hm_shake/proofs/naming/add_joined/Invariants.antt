@@ -1,6 +1,6 @@
 use Rattle.std.proofs.Common.{◌≡◌, ◌++◌, map, take}
-use Rattle.helium_shake.specs.Texts.{joined}
-use Rattle.helium_shake.proofs.texts.add_joined.Given as goal
+use Rattle.hm_shake.specs.Kinds.{joined}
+use Rattle.hm_shake.proofs.naming.add_joined.Given as goal
 
 -- the words so far
 abbrev pub invariant-loop-byte : goal.invariant-loop-byte
