@@ -4,7 +4,7 @@ use Rattle.std.proofs.lemmas.Bool.{cases_lt}
 use Rattle.std.proofs.lemmas.Bool.Decides.{nat_tests}
 use Rattle.std.specs.List.{All}
 use Rattle.std.proofs.lemmas.List.Elements.{All-cons, All-head, All-nil, All-same, All-tail, All-weaker}
-use Rattle.hm_shake.specs.Counts.{AreCounted, AreInOrder, CameBefore, CameTo, HasKind, HowMany, IsCounted, IsLater}
+use Rattle.hm_shake.specs.Counts.{AreCounted, AreInOrder, CameBefore, CameIn, CameTo, HasKind, HowMany, IsCounted, IsLater}
 use Rattle.hm_shake_runs.specs.Found.{IsNoted, counted, first_found}
 use Rattle.hm_shake_runs.specs.declared.found.Found.{Found}
 use Rattle.hm_shake_runs.specs.declared.kinds.Ended.{Ended}
@@ -21,12 +21,15 @@ behind_other x xs (inl e) other = absurd (other e)
 behind_other x xs (inr h) other = h
 
 module _ (ends : ℕ → Ended) where
+  -- it still came in that run
+  still_in : (n : ℕ) (x : Found) → CameIn ends n x → CameIn ends (suc n) x
+  still_in n x is = record { one = let one = is.one in omega arith; ended = is.ended }
+
   -- what is told of a kind stays so where one run more came to another
   another : (n : ℕ) (x : Found) → (ends n).kind ≢ x.kind → IsCounted ends n x → IsCounted ends (suc n) x
   another n x other is = record {
     count = inr (other, is.count);
-    one = let one = is.one in omega arith;
-    came = is.came;
+    came = still_in n x is.came;
     fewest = λ run lt came. elim (cases_lt run n) [
       | inl l ↦ is.fewest run l came
       | inr l ↦ let same : run ≡ n = omega arith in absurd (other (subst (λ (k : ℕ). (ends k).kind ≡ x.kind) same came))
@@ -39,8 +42,7 @@ module _ (ends : ℕ → Ended) where
       → IsCounted ends (suc n) (cond b (record x { count = x.count + 1; run = n; ticks = (ends n).ticks }) (record x { count = x.count + 1 }))
   one_more n x kind is true less = record {
     count = inl (sym kind, x.count, refl, is.count);
-    one = omega arith;
-    came = λ j. record { kind = sym kind j; ticks = (ends n).ticks };
+    came = record { one = omega arith; ended = λ j. record { kind = sym kind j; ticks = (ends n).ticks } };
     fewest = λ run lt came. elim (cases_lt run n) [
       | inl l ↦ let before = is.fewest run l came in grind (arith, nat_tests)
       | inr l ↦ let same : run ≡ n = omega arith in subst (λ (k : ℕ). (ends n).ticks ≤ (ends k).ticks) (sym same) (omega arith)
@@ -49,8 +51,7 @@ module _ (ends : ℕ → Ended) where
   }
   one_more n x kind is false less = record {
     count = inl (sym kind, x.count, refl, is.count);
-    one = let one = is.one in omega arith;
-    came = is.came;
+    came = still_in n x is.came;
     fewest = λ run lt came. elim (cases_lt run n) [
       | inl l ↦ is.fewest run l came
       | inr l ↦ let same : run ≡ n = omega arith in subst (λ (k : ℕ). x.ticks ≤ (ends k).ticks) (sym same) (grind (arith, nat_tests))
@@ -62,8 +63,7 @@ module _ (ends : ℕ → Ended) where
   first_one : (n : ℕ) → ((run : ℕ) → run < n → CameTo ends (ends n).kind run → ⊥) → IsCounted ends (suc n) (first_found (ends n) n)
   first_one n none = record {
     count = inl (refl, 0, refl, none_many (CameTo ends (ends n).kind) n none);
-    one = omega arith;
-    came = refl;
+    came = record { one = omega arith; ended = refl };
     fewest = λ run lt came. elim (cases_lt run n) [
       | inl l ↦ absurd (none run l came)
       | inr l ↦ let same : run ≡ n = omega arith in subst (λ (k : ℕ). (ends n).ticks ≤ (ends k).ticks) (sym same) (omega arith)

@@ -28,7 +28,7 @@ pub report_so : (listing : Listing) (image : List Segment) (p : Plan) (h : Head)
     → IsReport listing image p h irqs report
 report_so listing image p h irqs found report halt found_in is =
     let s = shaken_schedule p h irqs found.run in
-    let halts : Halts listing image s = ap (λ (e : Ended). is_halt e.kind) found_in.ends ∙ halt in
+    let halts : Halts listing image s = ap (λ (e : Ended). is_halt e.kind) found_in.ended ∙ halt in
     record { run = found.run; one = found_in.one; halts = halts; shown = λ t other. is ∙ one_report listing image s t halts other }
 
 -- all that is found
@@ -42,14 +42,14 @@ pub found_so : (listing : Listing) (image : List Segment) (s : Sched) (f : Findi
     → FindsFor listing image p.seed p.runs s f
 found_so listing image s f p h irqs xs ys counted xs_are ys_are irqs_are same plain ticks report none files =
     let all : All (IsFoundIn listing image p h irqs) f.kinds.items =
-    All-weaker (IsCounted (ends_in listing image p h irqs) p.runs) (IsFoundIn listing image p h irqs) (λ x is. record { one = is.one; ends = is.came })
+    All-weaker (IsCounted (ends_in listing image p h irqs) p.runs) (IsFoundIn listing image p h irqs) (λ x is. is.came)
     f.kinds.items counted.each in
     let finds : Finds listing image p h irqs f = record {
       plain = plain;
       ticks = ticks;
       kinds = counted;
       lawful = All-weaker (IsCounted (ends_in listing image p h irqs) p.runs) (λ x. x.kind ≢ kind.Rule)
-          (λ x is e. never_rule listing image p h irqs x.run (ap (λ (z : Ended). z.kind) is.came ∙ e)) f.kinds.items counted.each;
+          (λ x is e. never_rule listing image p h irqs x.run (ap (λ (z : Ended). z.kind) is.came.ended ∙ e)) f.kinds.items counted.each;
       files =
           subst (λ (ks : List Found). AreFiled (IsFiled listing image p h irqs) f.plain ks f.files.items) ys_are
           (files (All-same (IsFoundIn listing image p h irqs) ys f.kinds.items ys_are all));

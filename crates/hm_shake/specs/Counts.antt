@@ -14,11 +14,15 @@ HowMany P (suc n) c = (P n × (d : ℕ) × (c ≡ d + 1) × HowMany P n d) ⊎ (
 abbrev pub CameTo : (ℕ → Ended) → Kind → ℕ → Type 0
 CameTo ends k run = (ends run).kind ≡ k
 
+-- a kind came in this run, one of the first n, which began so many ticks
+pub record CameIn (ends : ℕ → Ended) (n : ℕ) (x : Found) : Type 0 where
+  pub one : x.run < n
+  pub ended : ends x.run ≡ record { kind = x.kind; ticks = x.ticks }
+
 -- what is told of a kind is so: how many of the first n runs came to it, and which of them is the first of those with the fewest ticks
 pub record IsCounted (ends : ℕ → Ended) (n : ℕ) (x : Found) : Type 0 where
   pub count : HowMany (CameTo ends x.kind) n x.count
-  pub one : x.run < n
-  pub came : ends x.run ≡ record { kind = x.kind; ticks = x.ticks }
+  pub came : CameIn ends n x
   pub fewest : (run : ℕ) → run < n → CameTo ends x.kind run → x.ticks ≤ (ends run).ticks
   pub first : (run : ℕ) → run < x.run → CameTo ends x.kind run → x.ticks < (ends run).ticks
 

@@ -7,8 +7,8 @@ use Rattle.hm_handlers.specs.Runs.{shown_out}
 use Rattle.hm_run.specs.Report.{report_text}
 use Rattle.hm_sched.specs.Schedule.{Sched, most_irq, total}
 use Rattle.hm_sched.specs.Written.{IsFile}
-use Rattle.hm_shake.specs.Counts.{AreCounted}
-use Rattle.hm_shake.specs.Ends.{EndsAs, Halts, ended_under, ends_in, plain_end}
+use Rattle.hm_shake.specs.Counts.{AreCounted, CameIn}
+use Rattle.hm_shake.specs.Ends.{EndsAs, Halts, ends_in, plain_end}
 use Rattle.hm_shake.specs.Kinds.{is_halt}
 use Rattle.hm_shake.specs.Shorter.{LeavesOut}
 use Rattle.hm_shake.specs.declared.counting.Given.{Given}
@@ -46,10 +46,9 @@ AreFiled Is plain (x ∷ xs) ws =
     ((x.kind ≢ plain) × (w : Written) × (more : List Written) × (ws ≡ w ∷ more) × Is x w × AreFiled Is plain xs more)
     ⊎ ((x.kind ≡ plain) × AreFiled Is plain xs ws)
 
--- a kind came in this run, which began so many ticks
-pub record IsFoundIn (listing : Listing) (image : List Segment) (p : Plan) (h : Head) (irqs : List ℕ) (found : Found) : Type 0 where
-  pub one : found.run < p.runs
-  pub ends : ended_under listing image (shaken_schedule p h irqs found.run) ≡ record { kind = found.kind; ticks = found.ticks }
+-- a kind came in this run of a shake, which began so many ticks
+abbrev pub IsFoundIn : Listing → List Segment → Plan → Head → List ℕ → Found → Type 0
+IsFoundIn listing image p h irqs found = CameIn (ends_in listing image p h irqs) p.runs found
 
 -- THE REPORT of an image: that which it shows under every schedule under which it halts, and under one of these runs it does
 pub record IsReport (listing : Listing) (image : List Segment) (p : Plan) (h : Head) (irqs : List ℕ) (report : List ℕ) : Type 0 where

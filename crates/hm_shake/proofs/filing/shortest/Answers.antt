@@ -30,7 +30,7 @@ returns-clause-filed g c = λ image listing is repeats found_in.
     let run = c.args.found.run in
     let drawn : c.deref-2.result.now ≡ shaken plan c.args.given.now.irqs.items run =
     c.deref-2.ensures.value ∙ c.in_ok-stretches.ensures.value ∙ ap (λ irqs. shaken plan irqs run) c.deref.ensures.value in
-    let ends = sym found_in.ends ∙ ap (λ (xs : List Stretch). ended_under listing image (with_stretches xs (bare head))) (sym drawn) in
+    let ends = sym found_in.ended ∙ ap (λ (xs : List Stretch). ended_under listing image (with_stretches xs (bare head))) (sym drawn) in
     let many = c.ticks_in.ensures.sum ∙ ap ticks c.deref-4.ensures.value in
     let few = c.in_ok-best.ensures.few in
     record {
