@@ -120,21 +120,29 @@ fn write_run<W: Write>(
     Ok(())
 }
 
-/// Takes the examples that are named: one is run, and one behind `shake:` is shaken.
+/// The name of an example, and of one behind a number and a colon, in how many runs it is shaken.
+fn asked(word: &str) -> Result<(&str, Option<u32>)> {
+    match word.split_once(':') {
+        Some((runs, name)) => Ok((name, Some(runs.parse::<u32>()?))),
+        None => Ok((word, None)),
+    }
+}
+
+/// Takes the examples that are named: one is run, and one behind a number and a colon is shaken in so many runs.
 fn main(rt: HostRuntime) -> Result<()> {
     let alloc = rt.alloc();
     let mut out = BufWriter::new(alloc, io::writer(&rt))?;
     for word in env::args(&rt)?.skip(1) {
-        let shaken = word.strip_prefix("shake:");
-        let name = shaken.unwrap_or(&word);
+        let (name, runs) = asked(&word)?;
         let source = fs::read(&rt, &format!(in alloc; "{name}.s")?)?;
         let schedule = fs::read(&rt, &format!(in alloc; "{name}.sched")?)?;
         let image = image_of(alloc, &source).context(format_args!("{name}"))?;
-        if shaken.is_some() {
-            let schedule = parse(alloc, &schedule)?;
-            write_shake(&mut out, alloc, name, &image, &schedule)?;
-        } else {
-            write_run(&mut out, alloc, name, &image, &schedule)?;
+        match runs {
+            Some(runs) => {
+                let schedule = parse(alloc, &schedule)?;
+                write_shake(&mut out, alloc, name, &image, &schedule, runs)?;
+            }
+            None => write_run(&mut out, alloc, name, &image, &schedule)?,
         }
     }
     out.flush()?;

@@ -1,19 +1,19 @@
 //! What a shake of an example finds.
 
-use anyhow::{Result, ensure};
+use anyhow::{Context, Result, ensure};
 use hm_base::Image;
 use hm_machine::Machine;
 use hm_sched::{Schedule, parse};
-use hm_shake::{Findings, Progress, Written, counts_text, shake};
-use hm_shake_runs::{Kind, kind_of};
+use hm_shake::{Findings, Progress, Repeater, Written, counts_text, shake};
+use hm_shake_runs::{Found, Head, Kind, Plan, cut, interrupts_in, interrupts_of, kind_of, shaken};
 use std::alloc::Global;
 use std::io::Write;
 
-/// How many runs a shake of an example has.
-const RUNS: u32 = 24;
-
-/// The seed of its schedules.
+/// The seed of the schedules of a shake.
 const SEED: u32 = 1;
+
+/// The most runs of a shake.
+const MOST_RUNS: u32 = 1_000_000;
 
 /// Nothing is told of how far a shake is.
 #[derive(Drop)]
@@ -45,34 +45,95 @@ fn kind_under(alloc: Global, image: &Image, file: &[u8]) -> Result<Kind> {
     Ok(kind_of(machine.run()))
 }
 
-/// Writes the schedule that was found for a kind, which is to give it.
+/// From what the schedules of a shake are made.
+fn plan_of(alloc: Global, image: &Image, schedule: &Schedule, runs: u32) -> Result<Plan> {
+    ensure!(1 <= runs && runs <= MOST_RUNS, "no shake has so many runs");
+    let head = Head::of(schedule);
+    let mut repeater = Repeater::of(alloc, image, head)?;
+    Ok(Plan {
+        seed: SEED,
+        runs,
+        ticks: repeater.plain(alloc, head)?.ticks,
+    })
+}
+
+/// What was counted of a kind.
+fn found_of(kinds: &[Found], kind: Kind) -> Option<Found> {
+    for found in kinds {
+        if found.kind == kind {
+            return Some(*found);
+        }
+    }
+    None
+}
+
+/// In how many ticks of a run, up to the one that ended it, an interrupt arrives.
+fn interrupts_of_run(
+    alloc: Global,
+    schedule: &Schedule,
+    plan: Plan,
+    found: Found,
+) -> Result<usize> {
+    ensure!(found.run < plan.runs, "there is no such run");
+    let irqs = interrupts_of(alloc, schedule)?;
+    let stretches = shaken(alloc, plan, &irqs, found.run)?;
+    Ok(interrupts_in(&cut(alloc, &stretches, found.ticks)?))
+}
+
+/// Writes the ticks and the interrupts of the run that came to a kind, and those of the schedule that was made of it, which is to have fewer.
+fn write_sizes<W: Write>(
+    out: &mut W,
+    found: Found,
+    interrupts: usize,
+    written: &Written,
+) -> Result<()> {
+    let run = found.run;
+    let ticks = found.ticks;
+    writeln!(out, "run {run} ticks {ticks} interrupts {interrupts}")?;
+    let ticks = written.ticks;
+    let left = written.interrupts;
+    writeln!(out, "file ticks {ticks} interrupts {left}")?;
+    ensure!(
+        ticks <= found.ticks && left <= interrupts,
+        "a schedule became longer"
+    );
+    Ok(())
+}
+
+/// Writes the schedule that was found for a kind, which is to give it, behind the sizes of the run that it was made of.
 fn write_found<W: Write>(
     out: &mut W,
     alloc: Global,
     image: &Image,
+    schedule: &Schedule,
+    runs: u32,
+    kinds: &[Found],
     written: &Written,
 ) -> Result<()> {
     let kind = kind_under(alloc, image, &written.bytes)?;
     ensure!(kind == written.kind, "a schedule gives another outcome");
-    let ticks = written.ticks;
-    let interrupts = written.interrupts;
-    writeln!(out, "ticks {ticks} interrupts {interrupts}")?;
+    let found = found_of(kinds, kind).context("no run came to it")?;
+    let plan = plan_of(alloc, image, schedule, runs)?;
+    let interrupts = interrupts_of_run(alloc, schedule, plan, found)?;
+    write_sizes(out, found, interrupts, written)?;
     out.write_all(&written.bytes)?;
     Ok(())
 }
 
-/// Writes the name of an example, how often each kind of outcome came, and the schedules that were found, which come from a seed twice.
+/// Writes the name of an example, how often each kind of outcome came in so many runs, and the schedules that were found, which come from a seed twice.
 pub fn write_shake<W: Write>(
     out: &mut W,
     alloc: Global,
     name: &str,
     image: &Image,
     schedule: &Schedule,
+    runs: u32,
 ) -> Result<()> {
-    writeln!(out, "shake {name}")?;
+    ensure!(1 <= runs && runs <= MOST_RUNS, "no shake has so many runs");
+    writeln!(out, "shake {name} {runs}")?;
     let mut quiet = Quiet;
-    let found = shake(alloc, image, schedule, RUNS, SEED, &mut quiet)?;
-    let again = shake(alloc, image, schedule, RUNS, SEED, &mut quiet)?;
+    let found = shake(alloc, image, schedule, runs, SEED, &mut quiet)?;
+    let again = shake(alloc, image, schedule, runs, SEED, &mut quiet)?;
     let counts = counts_text(alloc, found.plain, &found.kinds)?;
     ensure!(
         counts == counts_text(alloc, again.plain, &again.kinds)? && same_files(&found, &again),
@@ -80,7 +141,7 @@ pub fn write_shake<W: Write>(
     );
     out.write_all(&counts)?;
     for written in &found.files {
-        write_found(out, alloc, image, written)?;
+        write_found(out, alloc, image, schedule, runs, &found.kinds, written)?;
     }
     Ok(())
 }
