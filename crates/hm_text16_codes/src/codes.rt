@@ -419,9 +419,10 @@ fn code_of(mnemonic: &[u8], o: &Operands, pc: u32, a: u32) -> Option<u64>
     code_of_three(mnemonic, o, pc, a)
 }
 
-/// The code of a row with these tokens that stands at `pc`, if there is one, where its label names `a`.
+/// The code that tokens ask for at `pc`, where a label names `a`, read carelessly: that of the row with these tokens, where there is one;
+/// else any number, or None.
 pub fn code_in(tokens: &[Token<'_>], pc: u32, a: u32) -> Option<u64>
-    ensures { result ≡ code_in (map tok tokens.now) pc a }
+    ensures value { result ≡ code_in (map tok tokens.now) pc a }
 {
     match tokens {
         [first, rest @ ..] => match *first {

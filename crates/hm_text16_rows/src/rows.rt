@@ -32,6 +32,7 @@ fn shift_number(name: ShiftName, i: u32) -> u32
     }
 }
 
+/// The text of a row S1: `lsls`, `lsrs`, `asrs rd,rm,#i`.
 fn text_s1(i: &S1) -> InstrText
     ensures { text_tokens result ≡ scalar_tokens (scalar.S1 i.now) }
 {
@@ -39,6 +40,7 @@ fn text_s1(i: &S1) -> InstrText
     and_constant(text, shift_number(i.name, i.i.get()))
 }
 
+/// The text of a row S2: `adds`, `subs rd,rn,rm`.
 fn text_s2(i: &S2) -> InstrText
     ensures { text_tokens result ≡ scalar_tokens (scalar.S2 i.now) }
 {
@@ -51,6 +53,7 @@ fn text_s2(i: &S2) -> InstrText
     )
 }
 
+/// The text of a row S3: `adds`, `subs rd,rn,#i`.
 fn text_s3(i: &S3) -> InstrText
     ensures { text_tokens result ≡ scalar_tokens (scalar.S3 i.now) }
 {
@@ -60,30 +63,35 @@ fn text_s3(i: &S3) -> InstrText
     )
 }
 
+/// The text of a row S4: `movs`, `cmp`, `adds`, `subs rd,#i`.
 fn text_s4(i: &S4) -> InstrText
     ensures { text_tokens result ≡ scalar_tokens (scalar.S4 i.now) }
 {
     and_constant(one(byte_mnemonic(i.name), "", r(i.d.get())), i.i.get())
 }
 
+/// The text of a row S5: `ands` to `mvns rd,rm`.
 fn text_s5(i: &S5) -> InstrText
     ensures { text_tokens result ≡ scalar_tokens (scalar.S5 i.now) }
 {
     two(logic_mnemonic(i.name), "", r(i.d.get()), r(i.m.get()))
 }
 
+/// The text of a row S6: `add rd,rm` of any registers.
 fn text_s6(i: &S6) -> InstrText
     ensures { text_tokens result ≡ scalar_tokens (scalar.S6 i.now) }
 {
     two("add", "", r(i.d.get()), r(i.m.get()))
 }
 
+/// The text of a row S7: `cmp rd,rm` of higher registers.
 fn text_s7(i: &S7) -> InstrText
     ensures { text_tokens result ≡ scalar_tokens (scalar.S7 i.now) }
 {
     two("cmp", "", r(i.d.get()), r(i.m.get()))
 }
 
+/// The text of a row S8: `mov rd,rm` of any registers.
 fn text_s8(i: &S8) -> InstrText
     ensures { text_tokens result ≡ scalar_tokens (scalar.S8 i.now) }
 {
@@ -101,6 +109,7 @@ fn base_register(name: BaseName) -> u32
     }
 }
 
+/// The text of a row S9: `add rd,pc,#4i`, `add rd,sp,#4i`.
 fn text_s9(i: &S9) -> InstrText
     ensures { text_tokens result ≡ scalar_tokens (scalar.S9 i.now) }
 {
@@ -110,36 +119,42 @@ fn text_s9(i: &S9) -> InstrText
     )
 }
 
+/// The text of a row S10: `add sp,#4i`, `sub sp,#4i`.
 fn text_s10(i: &S10) -> InstrText
     ensures { text_tokens result ≡ scalar_tokens (scalar.S10 i.now) }
 {
     and_constant(one(stack_sum_mnemonic(i.name), "", r(13)), 4 * i.i.get())
 }
 
+/// The text of a row S11: `sxth`, `sxtb`, `uxth`, `uxtb`.
 fn text_s11(i: &S11) -> InstrText
     ensures { text_tokens result ≡ scalar_tokens (scalar.S11 i.now) }
 {
     two(extend_mnemonic(i.name), "", r(i.d.get()), r(i.m.get()))
 }
 
+/// The text of a row S12: `rev`, `rev16`, `revsh`.
 fn text_s12(i: &S12) -> InstrText
     ensures { text_tokens result ≡ scalar_tokens (scalar.S12 i.now) }
 {
     two(swap_mnemonic(i.name), "", r(i.d.get()), r(i.m.get()))
 }
 
+/// The text of a row S13: `cpsie i`, `cpsid i`.
 fn text_s13(i: &S13) -> InstrText
     ensures { text_tokens result ≡ scalar_tokens (scalar.S13 i.now) }
 {
     one(masking_mnemonic(i.name), "", Part::Word("i"))
 }
 
+/// The text of a row S14: `ldr rt,label`.
 fn text_s14(i: &S14) -> InstrText
     ensures { text_tokens result ≡ scalar_tokens (scalar.S14 i.now) }
 {
     marked(one("ldr", "", r(i.t.get())), Mark::Comma)
 }
 
+/// The text of a row S15: `str` to `ldrsh rt,[rn,rm]`.
 fn text_s15(i: &S15) -> InstrText
     ensures { text_tokens result ≡ scalar_tokens (scalar.S15 i.now) }
 {
@@ -157,6 +172,7 @@ fn plain_offset(i: &S16) -> u32
     }
 }
 
+/// The text of a row S16: `str` to `ldrh rt,[rn,#i]`.
 fn text_s16(i: &S16) -> InstrText
     ensures { text_tokens result ≡ scalar_tokens (scalar.S16 i.now) }
 {
@@ -168,12 +184,14 @@ fn text_s16(i: &S16) -> InstrText
     )
 }
 
+/// The text of a row S17: `str`, `ldr rt,[sp,#4i]`.
 fn text_s17(i: &S17) -> InstrText
     ensures { text_tokens result ≡ scalar_tokens (scalar.S17 i.now) }
 {
     by_number(word_mnemonic(i.name), i.t.get(), 13, 4 * i.i.get())
 }
 
+/// The text of a row S18: `bkpt #i`.
 fn text_s18(i: &S18) -> InstrText
     ensures { text_tokens result ≡ scalar_tokens (scalar.S18 i.now) }
 {
@@ -181,6 +199,7 @@ fn text_s18(i: &S18) -> InstrText
     with(hash, Part::Number(i.i.get()))
 }
 
+/// The text of a row S19: `nop`, `yield`, `wfe`, `wfi`, `sev`.
 fn text_s19(i: &S19) -> InstrText
     ensures { text_tokens result ≡ scalar_tokens (scalar.S19 i.now) }
 {
@@ -225,6 +244,7 @@ fn pop_text(list: u32, x: u32) -> InstrText
     with_list(alone("pop", "", ""), list + x * 0x8000)
 }
 
+/// The text of a row S20: `push`, `pop`, `stm`, `ldm`.
 fn text_s20(i: &S20) -> InstrText
     ensures { text_tokens result ≡ scalar_tokens (scalar.S20 i.now) }
 {
@@ -237,6 +257,7 @@ fn text_s20(i: &S20) -> InstrText
     }
 }
 
+/// The text of a row S21: `it`.
 fn text_s21(i: &S21) -> InstrText
     ensures { text_tokens result ≡ scalar_tokens (scalar.S21 i.now) }
 {
@@ -245,18 +266,21 @@ fn text_s21(i: &S21) -> InstrText
     with(alone("it", letters, ""), Part::Word(block_condition(c)))
 }
 
+/// The text of a row S23: `bx`, `blx rm`.
 fn text_s23(i: &S23) -> InstrText
     ensures { text_tokens result ≡ branch_tokens (branch.S23 i.now) }
 {
     one(jump_mnemonic(i.name), "", r(i.m.get()))
 }
 
+/// The text of a row S24: `cbz`, `cbnz rn,label`.
 fn text_s24(i: &S24) -> InstrText
     ensures { text_tokens result ≡ branch_tokens (branch.S24 i.now) }
 {
     marked(one(zero_mnemonic(i.name), "", r(i.n.get())), Mark::Comma)
 }
 
+/// The text of a row S25: `beq label` and so on, `b label`.
 fn text_s25(i: &S25) -> InstrText
     ensures { text_tokens result ≡ branch_tokens (branch.S25 i.now) }
 {
@@ -317,7 +341,7 @@ fn branch_text(i: &Branch) -> InstrText
 /// The text of a row of one halfword; of one with a label, what stands before that.
 pub fn row_text(i: &Instr) -> InstrText
     requires { length (halfwords i.now) ≡ 1 }
-    ensures { text_tokens result ≡ row_tokens i.now }
+    ensures tokens { text_tokens result ≡ row_tokens i.now }
 {
     match i {
         Instr::Scalar(i) => scalar_text(i),

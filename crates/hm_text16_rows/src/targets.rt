@@ -30,7 +30,7 @@ fn has_label_branch(i: &Branch) -> bool
 
 /// Whether the last operand of a row of one halfword is a label.
 pub fn has_label(i: &Instr) -> bool
-    ensures { result ≡ has_label i.now }
+    ensures value { result ≡ has_label i.now }
 {
     match i {
         Instr::Scalar(i) => has_label_scalar(i),

@@ -502,9 +502,10 @@ fn plain_code_in(tokens: &[Token<'_>]) -> Option<u64>
     }
 }
 
-/// The code of a row with these tokens that stands at `pc`, if there is one, where its label names `a`.
+/// The code that tokens ask for at `pc`, where a label names `a`, read carelessly: that of the row with these tokens, where there is one;
+/// else any number, or None.
 pub fn code_in(tokens: &[Token<'_>], pc: u32, a: u32) -> Option<u64>
-    ensures { result ≡ code_in (map tok tokens.now) pc a }
+    ensures value { result ≡ code_in (map tok tokens.now) pc a }
 {
     if let Some(w) = plain_code_in(tokens) {
         return Some(w);

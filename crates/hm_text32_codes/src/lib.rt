@@ -1,4 +1,4 @@
-//! The code that the text of a row of two halfwords that are no vector rows asks for, read carelessly; each row's own texts ask for its code.
+//! The code that the text of a row of two halfwords that is no vector row asks for, read carelessly; each row's own texts ask for its code.
 #![tactic(auto)]
 
 mod bases;

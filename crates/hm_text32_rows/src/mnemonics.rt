@@ -250,7 +250,7 @@ pub fn double_name(n: u32) -> &'static str
 
 /// The number of the half of a vector register that has this name.
 pub fn read_double(name: &[u8]) -> Option<u32>
-    ensures { result ≡ double_in name.now }
+    ensures value { result ≡ double_in name.now }
 {
     match name {
         b"d0" => Some(0),

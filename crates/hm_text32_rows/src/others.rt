@@ -38,7 +38,7 @@ fn other_scalar(i: &Scalar) -> Option<InstrText>
 
 /// The text of a row in its other spelling, where it has one.
 pub fn other_text(i: &Instr) -> Option<InstrText>
-    ensures { option_map text_tokens result ≡ other_tokens i.now }
+    ensures tokens { option_map text_tokens result ≡ other_tokens i.now }
 {
     match i {
         Instr::Scalar(i) => other_scalar(i),

@@ -548,9 +548,9 @@ fn code_named(name: &[u8], tokens: &[Token<'_>]) -> Option<u64>
     code_of(mnemonic, &read_operands(suffix, tokens))
 }
 
-/// The code that tokens ask for.
+/// The code that tokens ask for, read carelessly: that of the row with these tokens, where there is one; else any number, or None.
 pub fn code_in(tokens: &[Token<'_>]) -> Option<u64>
-    ensures { result ≡ code_in (map tok tokens.now) }
+    ensures value { result ≡ code_in (map tok tokens.now) }
 {
     match tokens {
         [] => None,

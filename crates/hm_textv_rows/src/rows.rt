@@ -356,7 +356,7 @@ fn text_v21(i: &V21) -> InstrText
 
 /// One of two mnemonics, by whether a sum goes on from the old value.
 pub fn sum_mnemonic(a: Bit, begins: &'static str, goes_on: &'static str) -> &'static str
-    ensures { result.now ≡ either a.value begins.now goes_on.now }
+    ensures value { result.now ≡ either a.value begins.now goes_on.now }
 {
     if a.get() == 0 { begins } else { goes_on }
 }
@@ -462,7 +462,7 @@ fn text_v15(i: &V15) -> InstrText
 
 /// The text of a vector row.
 pub fn row_text(v: &Vector) -> InstrText
-    ensures { text_tokens result ≡ tokens_of v.now }
+    ensures tokens { text_tokens result ≡ tokens_of v.now }
 {
     match v {
         Vector::V1(i) => text_v1(i),

@@ -59,10 +59,10 @@ pub fn unsigned(z: u32) -> &'static str
     }
 }
 
-/// Signed numbers where u is 0, and else unsigned ones.
+/// The suffix of elements of size z: of signed ones where u is 0, and else of unsigned ones.
 pub fn by_sign(u: Bit, z: u32) -> &'static str
     requires { z < 3 }
-    ensures { result.now ≡ by_sign u.value z }
+    ensures value { result.now ≡ by_sign u.value z }
 {
     if u.get() == 0 { signed(z) } else { unsigned(z) }
 }

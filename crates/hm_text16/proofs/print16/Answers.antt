@@ -12,13 +12,13 @@ print_with-requires c =
     let i = c.args.i.now in
     let room = printed_room i c.args.pc c.requires.narrow in
     record {
-      room = room_as (text_tokens c.row_text.result) (row_tokens i) c.target.result (target i c.args.pc) c.row_text.ensures c.target.ensures.value room;
+      room = room_as (text_tokens c.row_text.result) (row_tokens i) c.target.result (target i c.args.pc) c.row_text.ensures.tokens c.target.ensures.value room;
     }
 
 pub returns-clause-text : goal.returns-clause-text
-returns-clause-text c = c.print_with.ensures.text ∙ (λ j. printed_with (c.row_text.ensures j) (c.target.ensures.value j))
+returns-clause-text c = c.print_with.ensures.text ∙ (λ j. printed_with (c.row_text.ensures.tokens j) (c.target.ensures.value j))
 
 pub returns-clause-read : goal.returns-clause-read
 returns-clause-read c labels =
     printed_read c.args.i.now c.args.pc _ labels c.requires.narrow
-    (c.print_with.ensures.text ∙ (λ j. printed_with (c.row_text.ensures j) (c.target.ensures.value j)))
+    (c.print_with.ensures.text ∙ (λ j. printed_with (c.row_text.ensures.tokens j) (c.target.ensures.value j)))

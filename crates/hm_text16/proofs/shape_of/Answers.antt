@@ -19,7 +19,7 @@ returns-clause-found c =
     let i = c.in_ok-i.i in
     let label = option_map tok c.label_in-label.result in
     shape_found HasTokens AreTokens label_of target readable ts i label c.in_ok-i.ensures.found
-    (label_given c.has_label.result (has_label i) (row_tokens i) ts label c.has_label.ensures c.label_in-label.ensures.label)
+    (label_given c.has_label.result (has_label i) (row_tokens i) ts label c.has_label.ensures.value c.label_in-label.ensures.label)
 
 pub returns-clause-only : goal.returns-clause-only
 returns-clause-only c =
@@ -27,4 +27,4 @@ returns-clause-only c =
     let i = c.in_ok-i.i in
     let label = option_map tok c.label_in-label.result in
     shape_only HasTokens AreTokens label_of target readable ts i label c.in_ok-i.ensures.only
-    (label_given c.has_label.result (has_label i) (row_tokens i) ts label c.has_label.ensures c.label_in-label.ensures.label)
+    (label_given c.has_label.result (has_label i) (row_tokens i) ts label c.has_label.ensures.value c.label_in-label.ensures.label)

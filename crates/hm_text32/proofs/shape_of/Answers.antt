@@ -18,7 +18,7 @@ returns-clause-found c =
     let i = c.in_ok-i.i in
     let label = option_map tok c.label_in-label.result in
     shape_found HasTokens AreTokens label_of target readable ts i label c.in_ok-i.ensures.found
-    (the_label i ts c.has_label.result label c.has_label.ensures c.label_in-label.ensures.label)
+    (the_label i ts c.has_label.result label c.has_label.ensures.value c.label_in-label.ensures.label)
 
 pub returns-clause-only : goal.returns-clause-only
 returns-clause-only c =
@@ -26,4 +26,4 @@ returns-clause-only c =
     let i = c.in_ok-i.i in
     let label = option_map tok c.label_in-label.result in
     shape_only HasTokens AreTokens label_of target readable ts i label c.in_ok-i.ensures.only
-    (the_label i ts c.has_label.result label c.has_label.ensures c.label_in-label.ensures.label)
+    (the_label i ts c.has_label.result label c.has_label.ensures.value c.label_in-label.ensures.label)
