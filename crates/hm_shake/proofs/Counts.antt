@@ -51,7 +51,7 @@ module _ (ends : ℕ → Ended) where
   }
   one_more n x kind is false less = record {
     count = inl (sym kind, x.count, refl, is.count);
-    came = still_in n x is.came;
+    came = let there = still_in n x is.came in record { one = there.one; ended = there.ended };
     fewest = λ run lt came. elim (cases_lt run n) [
       | inl l ↦ is.fewest run l came
       | inr l ↦ let same : run ≡ n = omega arith in subst (λ (k : ℕ). x.ticks ≤ (ends k).ticks) (sym same) (grind (arith, nat_tests))
