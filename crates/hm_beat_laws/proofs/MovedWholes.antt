@@ -52,7 +52,8 @@ module _ (x : Around) (store : Bool) (y : Size) (s : State) (thread : x.actor �
   first_is (p ∷ ps) [] = refl
   first_is (p ∷ ps) (a ∷ addrs) =
       let o = fault_after (fault_kind true Vector store (byte_count y) a) a in
-      (λ j. or_else (cond p (stop_is a j) None) (first_is ps addrs j)) ∙ ap (λ q. or_else q (fault_stop (fault_of store (byte_count y) ps addrs))) (where_fault p o)
+      (λ j. or_else (cond p (stop_is a j) None) (first_is ps addrs j))
+      ∙ ap (λ q. or_else q (fault_stop (fault_of store (byte_count y) ps addrs))) (where_fault p o)
       ∙ or_faults (cond p o None) (fault_of store (byte_count y) ps addrs)
 
 -- WHAT IS MOVED

@@ -108,7 +108,8 @@ module _ (x : Around) (store : Bool) (y : Size) (s : State) (a : ℕ) where
       tainted true false e = refl
       tainted false q e = cc
 
-      by_store : (w : Bool) → or_else (stop_after None false w a) (cond (true && not w && any_tainted (span_bytes a (byte_count y)) s) (Some (stop.Tainted a)) None)
+      by_store : (w : Bool) → or_else (stop_after None false w a)
+          (cond (true && not w && any_tainted (span_bytes a (byte_count y)) s) (Some (stop.Tainted a)) None)
           ≡ stop_after None (not w && lies_in_memory (byte_count y) a && some_byte (byte_count y) taint a) w a
       by_store true = refl
       by_store false = (λ j. cond (any_byte y (h refl) j) (Some (stop.Tainted a)) None)

@@ -346,7 +346,7 @@ fn encode_t23(r: &T23) -> u32
 /// The code of an instruction of the rows T16, T17 and T23, with the first halfword in bits 31 to 16.
 pub fn branch_code(b: &Branch) -> u32
     requires { length (branch_halves b.now) ≡ 2 }
-    ensures { branch_halves b.now ≡ two_halves result }
+    ensures code { branch_halves b.now ≡ two_halves result }
 {
     match b {
         Branch::T16(r) => encode_t16(r),

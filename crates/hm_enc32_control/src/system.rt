@@ -289,9 +289,9 @@ fn encode_msr(r: &Msr) -> u32
     of_written(r.name) + (r.n.get() << 16)
 }
 
-/// The code of `mrs`, `msr`.
+/// The code of `mrs`, `msr`, with the first halfword in bits 31 to 16.
 pub fn encode_t18(r: &T18) -> u32
-    ensures { result ≡ code_t18 r.now }
+    ensures value { result ≡ code_t18 r.now }
 {
     match r {
         T18::Read(r) => encode_mrs(r),
@@ -317,9 +317,9 @@ fn encode_barrier(r: &Barrier) -> u32
     of_barrier(r.name) + r.o.get()
 }
 
-/// The code of `nop.w`, `dsb`, `dmb`, `isb`.
+/// The code of `nop.w`, `dsb`, `dmb`, `isb`, with the first halfword in bits 31 to 16.
 pub fn encode_t19(r: &T19) -> u32
-    ensures { result ≡ code_t19 r.now }
+    ensures value { result ≡ code_t19 r.now }
 {
     match r {
         T19::Nop => 0xf3af_8000,
@@ -341,9 +341,9 @@ fn of_system_move(x: SystemMoveName) -> u32
     }
 }
 
-/// The code of `vmrs`, `vmsr`.
+/// The code of `vmrs`, `vmsr`, with the first halfword in bits 31 to 16.
 pub fn encode_t21(r: &T21) -> u32
-    ensures { result ≡ code_t21 r.now }
+    ensures value { result ≡ code_t21 r.now }
 {
     of_system_move(r.name) + (r.t.get() << 12)
 }
@@ -358,9 +358,9 @@ fn of_lane_move(x: LaneMoveName) -> u32
     }
 }
 
-/// The code of `vmov.32` of a lane.
+/// The code of `vmov.32` of a lane, with the first halfword in bits 31 to 16.
 pub fn encode_t22(r: &T22) -> u32
-    ensures { result ≡ code_t22 r.now }
+    ensures value { result ≡ code_t22 r.now }
 {
     let x = r.x.get();
     of_lane_move(r.name) + ((x % 2) << 21) + (r.q.get() << 17) + ((x / 2) << 16) + (r.t.get() << 12)

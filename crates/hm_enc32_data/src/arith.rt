@@ -340,9 +340,9 @@ fn of_wide_shift(x: WideShiftName) -> u32
     }
 }
 
-/// The code of `lsl.w`, `lsr.w`, `asr.w`, `ror.w rd,rn,rm`.
+/// The code of `lsl.w`, `lsr.w`, `asr.w`, `ror.w rd,rn,rm`, with the first halfword in bits 31 to 16.
 pub fn encode_t8(r: &T8) -> u32
-    ensures { result ≡ code_t8 r.now }
+    ensures value { result ≡ code_t8 r.now }
 {
     of_wide_shift(r.name) + (r.s.get() << 20) + (r.n.get() << 16) + (r.d.get() << 8) + r.m.get()
 }
@@ -359,9 +359,9 @@ fn of_wide_extend(x: ExtendName) -> u32
     }
 }
 
-/// The code of `sxth.w`, `uxth.w`, `sxtb.w`, `uxtb.w rd,rm`.
+/// The code of `sxth.w`, `uxth.w`, `sxtb.w`, `uxtb.w rd,rm`, with the first halfword in bits 31 to 16.
 pub fn encode_t9(r: &T9) -> u32
-    ensures { result ≡ code_t9 r.now }
+    ensures value { result ≡ code_t9 r.now }
 {
     of_wide_extend(r.name) + (r.d.get() << 8) + (r.r.get() << 4) + r.m.get()
 }
@@ -379,9 +379,9 @@ fn of_bits(x: BitsName) -> u32
     }
 }
 
-/// The code of `rev.w`, `rev16.w`, `rbit`, `revsh.w`, `clz rd,rm`.
+/// The code of `rev.w`, `rev16.w`, `rbit`, `revsh.w`, `clz rd,rm`, with the first halfword in bits 31 to 16.
 pub fn encode_t10(r: &T10) -> u32
-    ensures { result ≡ code_t10 r.now }
+    ensures value { result ≡ code_t10 r.now }
 {
     of_bits(r.name) + (r.m.get() << 16) + (r.d.get() << 8) + r.m.get()
 }
@@ -440,9 +440,9 @@ fn encode_long_product(r: &LongProduct) -> u32
     of_long_product(r.name) + (r.n.get() << 16) + (r.l.get() << 12) + (r.h.get() << 8) + r.m.get()
 }
 
-/// The code of `mul` to `udiv`.
+/// The code of `mul` to `udiv`, with the first halfword in bits 31 to 16.
 pub fn encode_t11(r: &T11) -> u32
-    ensures { result ≡ code_t11 r.now }
+    ensures value { result ≡ code_t11 r.now }
 {
     match r {
         T11::Operation(r) => encode_operation(r),
@@ -463,9 +463,9 @@ fn of_select(x: SelectName) -> u32
     }
 }
 
-/// The code of `csel`, `csinc`, `csinv`, `csneg rd,rn,rm,cond`.
+/// The code of `csel`, `csinc`, `csinv`, `csneg rd,rn,rm,cond`, with the first halfword in bits 31 to 16.
 pub fn encode_t20(r: &T20) -> u32
-    ensures { result ≡ code_t20 r.now }
+    ensures value { result ≡ code_t20 r.now }
 {
     of_select(r.name) + (r.n.get() << 16) + (r.d.get() << 8) + (r.c.get() << 4) + r.m.get()
 }

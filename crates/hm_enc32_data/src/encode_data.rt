@@ -25,9 +25,9 @@ fn of_data(x: DataName) -> u32
     }
 }
 
-/// The code of `and.w rd,rn,#c` and so on.
+/// The code of `and.w rd,rn,#c` and so on, with the first halfword in bits 31 to 16.
 pub fn encode_t1(r: &T1) -> u32
-    ensures { result ≡ code_t1 r.now }
+    ensures value { result ≡ code_t1 r.now }
 {
     0xf000_0000
         + (r.i.get() << 26)
@@ -39,9 +39,9 @@ pub fn encode_t1(r: &T1) -> u32
         + r.i8.get()
 }
 
-/// The code of `and.w rd,rn,rm,lsl #k` and so on.
+/// The code of `and.w rd,rn,rm,lsl #k` and so on, with the first halfword in bits 31 to 16.
 pub fn encode_t2(r: &T2) -> u32
-    ensures { result ≡ code_t2 r.now }
+    ensures value { result ≡ code_t2 r.now }
 {
     0xea00_0000
         + (of_data(r.name) << 21)
@@ -64,9 +64,9 @@ fn of_wide_sum(x: SumName) -> u32
     }
 }
 
-/// The code of `addw`, `subw rd,rn,#i12`.
+/// The code of `addw`, `subw rd,rn,#i12`, with the first halfword in bits 31 to 16.
 pub fn encode_t3(r: &T3) -> u32
-    ensures { result ≡ code_t3 r.now }
+    ensures value { result ≡ code_t3 r.now }
 {
     of_wide_sum(r.name)
         + (r.i.get() << 26)
@@ -86,9 +86,9 @@ fn of_half(x: HalfName) -> u32
     }
 }
 
-/// The code of `movw`, `movt rd,#i16`.
+/// The code of `movw`, `movt rd,#i16`, with the first halfword in bits 31 to 16.
 pub fn encode_t4(r: &T4) -> u32
-    ensures { result ≡ code_t4 r.now }
+    ensures value { result ≡ code_t4 r.now }
 {
     of_half(r.name)
         + (r.i4.get() << 16)
@@ -108,9 +108,9 @@ fn of_saturate(x: SaturateName) -> u32
     }
 }
 
-/// The code of `ssat rd,#s+1,rn`, `usat rd,#s,rn`.
+/// The code of `ssat rd,#s+1,rn`, `usat rd,#s,rn`, with the first halfword in bits 31 to 16.
 pub fn encode_t5(r: &T5) -> u32
-    ensures { result ≡ code_t5 r.now }
+    ensures value { result ≡ code_t5 r.now }
 {
     of_saturate(r.name)
         + (r.sh.get() << 21)
@@ -131,9 +131,9 @@ fn of_bits(x: ExtractName) -> u32
     }
 }
 
-/// The code of `sbfx`, `ubfx rd,rn,#lsb,#w+1`.
+/// The code of `sbfx`, `ubfx rd,rn,#lsb,#w+1`, with the first halfword in bits 31 to 16.
 pub fn encode_t6(r: &T6) -> u32
-    ensures { result ≡ code_t6 r.now }
+    ensures value { result ≡ code_t6 r.now }
 {
     of_bits(r.name)
         + (r.n.get() << 16)
@@ -143,9 +143,9 @@ pub fn encode_t6(r: &T6) -> u32
         + r.w.get()
 }
 
-/// The code of `bfi rd,rn,#lsb,#width`, `bfc rd,#lsb,#width`.
+/// The code of `bfi rd,rn,#lsb,#width`, `bfc rd,#lsb,#width`, with the first halfword in bits 31 to 16.
 pub fn encode_t7(r: &T7) -> u32
-    ensures { result ≡ code_t7 r.now }
+    ensures value { result ≡ code_t7 r.now }
 {
     0xf360_0000
         + (r.n.get() << 16)

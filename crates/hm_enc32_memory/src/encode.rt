@@ -57,9 +57,9 @@ fn encode_literal(r: &Literal) -> u32
     of_access(r.name) + 0xf_0000 + (r.u.get() << 23) + (r.t.get() << 12) + r.i.get()
 }
 
-/// The code of `str.w` to `ldrsh.w`.
+/// The code of `str.w` to `ldrsh.w`, with the first halfword in bits 31 to 16.
 pub fn encode_t12(r: &T12) -> u32
-    ensures { result ≡ code_t12 r.now }
+    ensures value { result ≡ code_t12 r.now }
 {
     match r {
         T12::Offset(r) => encode_offset(r),
@@ -79,9 +79,9 @@ fn of_pair(x: PairName) -> u32
     }
 }
 
-/// The code of `strd`, `ldrd rt,ru,[rn,#4i]`.
+/// The code of `strd`, `ldrd rt,ru,[rn,#4i]`, with the first halfword in bits 31 to 16.
 pub fn encode_t13(r: &T13) -> u32
-    ensures { result ≡ code_t13 r.now }
+    ensures value { result ≡ code_t13 r.now }
 {
     of_pair(r.name)
         + (r.p.get() << 24)
@@ -103,9 +103,9 @@ fn of_stack(x: StackName) -> u32
     }
 }
 
-/// The code of `vpush`, `vpop`.
+/// The code of `vpush`, `vpop`, with the first halfword in bits 31 to 16.
 pub fn encode_t15(r: &T15) -> u32
-    ensures { result ≡ code_t15 r.now }
+    ensures value { result ≡ code_t15 r.now }
 {
     of_stack(r.name) + (r.v.get() << 12) + (r.k.get() << 1)
 }

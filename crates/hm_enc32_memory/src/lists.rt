@@ -87,9 +87,9 @@ fn of_list(x: WideListName) -> u32
     }
 }
 
-/// The code of `stmia.w`, `ldmia.w`, `stmdb`, `ldmdb`.
+/// The code of `stmia.w`, `ldmia.w`, `stmdb`, `ldmdb`, with the first halfword in bits 31 to 16.
 pub fn encode_t14(r: &T14) -> u32
-    ensures { result ≡ code_t14 r.now }
+    ensures value { result ≡ code_t14 r.now }
 {
     of_list(r.name) + (r.w.get() << 21) + (r.n.get() << 16) + r.list.get()
 }

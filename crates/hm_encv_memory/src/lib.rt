@@ -85,7 +85,7 @@ fn decode_v24(w: u32) -> Option<V24>
     })
 }
 
-/// The code of `vldrb.u8` to `vstrw.32` of elements one after another.
+/// The code of `vldrb.u8` to `vstrw.32` of elements one after another, with the first halfword in bits 31 to 16.
 pub fn encode_v24(r: &V24) -> u32
     ensures value { result ≡ code_v24 r.now }
 {
@@ -144,7 +144,7 @@ fn decode_v25(w: u32) -> Option<V25>
     })
 }
 
-/// The code of `vldrb.u16` to `vstrh.32` of narrower elements in memory.
+/// The code of `vldrb.u16` to `vstrh.32` of narrower elements in memory, with the first halfword in bits 31 to 16.
 pub fn encode_v25(r: &V25) -> u32
     ensures value { result ≡ code_v25 r.now }
 {
@@ -239,7 +239,7 @@ fn decode_v26(w: u32) -> Option<V26>
     })
 }
 
-/// The code of `vldrb.u8` to `vstrw.32` at offsets in a vector.
+/// The code of `vldrb.u8` to `vstrw.32` at offsets in a vector, with the first halfword in bits 31 to 16.
 pub fn encode_v26(r: &V26) -> u32
     ensures value { result ≡ code_v26 r.now }
 {
@@ -292,7 +292,7 @@ fn decode_v27(w: u32) -> Option<V27>
     })
 }
 
-/// The code of `vldrw.u32`, `vstrw.32` at addresses in a vector.
+/// The code of `vldrw.u32`, `vstrw.32` at addresses in a vector, with the first halfword in bits 31 to 16.
 pub fn encode_v27(r: &V27) -> u32
     ensures value { result ≡ code_v27 r.now }
 {
@@ -353,7 +353,7 @@ fn decode_v28(w: u32) -> Option<V28>
     })
 }
 
-/// The code of `vld2`, `vld4`, `vst2`, `vst4`.
+/// The code of `vld2`, `vld4`, `vst2`, `vst4`, with the first halfword in bits 31 to 16.
 pub fn encode_v28(r: &V28) -> u32
     ensures value { result ≡ code_v28 r.now }
 {

@@ -110,7 +110,7 @@ fn decode_v20(w: u32) -> Option<V20>
     None
 }
 
-/// The code of a comparison.
+/// The code of `vcmp`, `vpt`, with the first halfword in bits 31 to 16.
 pub fn encode_v20(r: &V20) -> u32
     ensures value { result ≡ code_v20 r.now }
 {
@@ -176,7 +176,7 @@ fn decode_v21(w: u32) -> Option<V21>
     None
 }
 
-/// The code of what sets or uses the predicate.
+/// The code of `vpst`, `vpnot`, `vpsel`, `vctp`, with the first halfword in bits 31 to 16.
 pub fn encode_v21(r: &V21) -> u32
     ensures value { result ≡ code_v21 r.now }
 {

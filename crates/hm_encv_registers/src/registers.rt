@@ -119,7 +119,7 @@ fn decode_v10(w: u32) -> Option<V10>
     })
 }
 
-/// The code of an operation of elements and a core register.
+/// The code of an operation of elements and a core register, with the first halfword in bits 31 to 16.
 pub fn encode_v10(r: &V10) -> u32
     ensures value { result ≡ code_v10 r.now }
 {
@@ -145,7 +145,7 @@ fn decode_v17(w: u32) -> Option<V17>
     Some(V17 { k, d, m })
 }
 
-/// The code of `vshlc`.
+/// The code of `vshlc`, with the first halfword in bits 31 to 16.
 pub fn encode_v17(r: &V17) -> u32
     ensures value { result ≡ code_v17 r.now }
 {
@@ -187,7 +187,7 @@ fn decode_v18(w: u32) -> Option<V18>
     Some(V18 { size, d, t })
 }
 
-/// The code of `vdup`.
+/// The code of `vdup`, with the first halfword in bits 31 to 16.
 pub fn encode_v18(r: &V18) -> u32
     ensures value { result ≡ code_v18 r.now }
 {
@@ -243,7 +243,7 @@ fn decode_v19(w: u32) -> Option<V19>
     }))
 }
 
-/// The code of `vidup`, `vddup`, `viwdup`, `vdwdup`.
+/// The code of `vidup`, `vddup`, `viwdup`, `vdwdup`, with the first halfword in bits 31 to 16.
 pub fn encode_v19(r: &V19) -> u32
     ensures value { result ≡ code_v19 r.now }
 {

@@ -209,7 +209,7 @@ fn decode_v22(w: u32) -> Option<V22>
     None
 }
 
-/// The code of a sum.
+/// The code of `vaddv`, `vmladav`, `vaddlv`, `vmlaldav`, with the first halfword in bits 31 to 16.
 pub fn encode_v22(r: &V22) -> u32
     ensures value { result ≡ code_v22 r.now }
 {
@@ -258,7 +258,7 @@ fn decode_v23(w: u32) -> Option<V23>
     Some(V23 { name, u, z, t, m })
 }
 
-/// The code of `vmaxv`, `vminv`.
+/// The code of `vmaxv`, `vminv`, with the first halfword in bits 31 to 16.
 pub fn encode_v23(r: &V23) -> u32
     ensures value { result ≡ code_v23 r.now }
 {

@@ -143,7 +143,7 @@ fn decode_v12(w: u32) -> Option<V12>
     None
 }
 
-/// The code of `vshllb`, `vshllt`, `vmovlb`, `vmovlt`.
+/// The code of `vshllb`, `vshllt`, `vmovlb`, `vmovlt`, with the first halfword in bits 31 to 16.
 pub fn encode_v12(r: &V12) -> u32
     ensures value { result ≡ code_v12 r.now }
 {
@@ -230,7 +230,7 @@ fn decode_v13(w: u32) -> Option<V13>
     None
 }
 
-/// The code of an operation on one vector.
+/// The code of an operation on one vector, with the first halfword in bits 31 to 16.
 pub fn encode_v13(r: &V13) -> u32
     ensures value { result ≡ code_v13 r.now }
 {
@@ -290,7 +290,7 @@ fn decode_v14(w: u32) -> Option<V14>
     Some(V14 { name, z, d, m })
 }
 
-/// The code of `vrev64`, `vrev32`, `vrev16`.
+/// The code of `vrev64`, `vrev32`, `vrev16`, with the first halfword in bits 31 to 16.
 pub fn encode_v14(r: &V14) -> u32
     ensures value { result ≡ code_v14 r.now }
 {
@@ -328,7 +328,7 @@ fn decode_v15(w: u32) -> Option<V15>
     })
 }
 
-/// The code of `vmov`, `vmvn`, `vorr`, `vbic` with an immediate.
+/// The code of `vmov`, `vmvn`, `vorr`, `vbic` with an immediate, with the first halfword in bits 31 to 16.
 pub fn encode_v15(r: &V15) -> u32
     ensures value { result ≡ code_v15 r.now }
 {
@@ -382,7 +382,7 @@ fn decode_v16(w: u32) -> Option<V16>
     Some(V16 { name, z, t, d, m })
 }
 
-/// The code of `vmovn`, `vqmovn`, `vqmovun`.
+/// The code of `vmovn`, `vqmovn`, `vqmovun`, with the first halfword in bits 31 to 16.
 pub fn encode_v16(r: &V16) -> u32
     ensures value { result ≡ code_v16 r.now }
 {

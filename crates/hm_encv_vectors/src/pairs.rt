@@ -65,7 +65,7 @@ fn decode_v1(w: u32) -> Option<V1>
     Some(V1 { name, z, n, d, m })
 }
 
-/// The code of `vadd`, `vsub`, `vmul` of elements.
+/// The code of `vadd`, `vsub`, `vmul` of elements, with the first halfword in bits 31 to 16.
 pub fn encode_v1(r: &V1) -> u32
     ensures value { result ≡ code_v1 r.now }
 {
@@ -112,7 +112,7 @@ fn decode_v2(w: u32) -> Option<V2>
     Some(V2 { name, n, d, m })
 }
 
-/// The code of `vand`, `vbic`, `vorr`, `vorn`, `veor`.
+/// The code of `vand`, `vbic`, `vorr`, `vorn`, `veor`, with the first halfword in bits 31 to 16.
 pub fn encode_v2(r: &V2) -> u32
     ensures value { result ≡ code_v2 r.now }
 {
@@ -174,7 +174,7 @@ fn decode_v3(w: u32) -> Option<V3>
     })
 }
 
-/// The code of `vmax`, `vmin`, `vabd`, `vhadd`, `vrhadd`, `vhsub`, `vqadd`, `vqsub` of elements.
+/// The code of `vmax`, `vmin`, `vabd`, `vhadd`, `vrhadd`, `vhsub`, `vqadd`, `vqsub` of elements, with the first halfword in bits 31 to 16.
 pub fn encode_v3(r: &V3) -> u32
     ensures value { result ≡ code_v3 r.now }
 {
@@ -228,7 +228,7 @@ fn decode_v4(w: u32) -> Option<V4>
     })
 }
 
-/// The code of `vshl`, `vqshl`, `vrshl`, `vqrshl` by elements.
+/// The code of `vshl`, `vqshl`, `vrshl`, `vqrshl` by elements, with the first halfword in bits 31 to 16.
 pub fn encode_v4(r: &V4) -> u32
     ensures value { result ≡ code_v4 r.now }
 {
@@ -273,7 +273,7 @@ fn decode_v5(w: u32) -> Option<V5>
     Some(V5 { name, z, n, d, m })
 }
 
-/// The code of `vqdmulh`, `vqrdmulh`.
+/// The code of `vqdmulh`, `vqrdmulh`, with the first halfword in bits 31 to 16.
 pub fn encode_v5(r: &V5) -> u32
     ensures value { result ≡ code_v5 r.now }
 {
@@ -305,7 +305,7 @@ fn decode_v6(w: u32) -> Option<V6>
     Some(V6 { u, z, t, n, d, m })
 }
 
-/// The code of `vmullb`, `vmullt`.
+/// The code of `vmullb`, `vmullt`, with the first halfword in bits 31 to 16.
 pub fn encode_v6(r: &V6) -> u32
     ensures value { result ≡ code_v6 r.now }
 {
@@ -359,7 +359,7 @@ fn decode_v7(w: u32) -> Option<V7>
     })
 }
 
-/// The code of `vmulh`, `vrmulh`.
+/// The code of `vmulh`, `vrmulh`, with the first halfword in bits 31 to 16.
 pub fn encode_v7(r: &V7) -> u32
     ensures value { result ≡ code_v7 r.now }
 {
@@ -404,7 +404,7 @@ fn decode_v8(w: u32) -> Option<V8>
     Some(V8 { name, n, d, m })
 }
 
-/// The code of `vadc`, `vadci`, `vsbc`, `vsbci`.
+/// The code of `vadc`, `vadci`, `vsbc`, `vsbci`, with the first halfword in bits 31 to 16.
 pub fn encode_v8(r: &V8) -> u32
     ensures value { result ≡ code_v8 r.now }
 {
@@ -464,7 +464,7 @@ fn decode_v9(w: u32) -> Option<V9>
     })
 }
 
-/// The code of `vcadd`, `vhcadd`.
+/// The code of `vcadd`, `vhcadd`, with the first halfword in bits 31 to 16.
 pub fn encode_v9(r: &V9) -> u32
     ensures value { result ≡ code_v9 r.now }
 {

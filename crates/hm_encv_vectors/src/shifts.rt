@@ -101,7 +101,7 @@ pub fn decode_v11(w: u32) -> Option<V11>
     Some(V11 { name, u, x, d, m })
 }
 
-/// The code of a shift of elements by a constant.
+/// The code of a shift of elements by a constant, with the first halfword in bits 31 to 16.
 pub fn encode_v11(r: &V11) -> u32
     ensures value { result ≡ code_v11 r.now }
 {

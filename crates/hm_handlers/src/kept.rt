@@ -1,5 +1,6 @@
 //! What every instruction that is no vector row leaves: the exception number; an IT byte that an exception may be entered with; a handler
-//! on the main stack; stores of one, two or four bytes; and priorities of three bits. The functions are laws: they do nothing, and their clauses are what is proved of the definitions.
+//! on the main stack; stores of one, two or four bytes; and priorities of three bits. The functions are laws: they do nothing, and their clauses are
+//! what is proved of the definitions.
 
 ghost use Rattle.std.specs.Prelude.{◌≡◌, IfOk};
 ghost use Rattle.hm_base.specs.declared.Fault.{Fault};

@@ -13,7 +13,8 @@ use Rattle.hm_lane.specs.declared.lanes.Size.{Size}
 use Rattle.hm_lane.specs.declared.lanes.Size.TheVariants.{Byte, Half, Word}
 use Rattle.hm_lane.specs.Lanes.{modulus}
 use Rattle.hm_lane_fns.specs.declared.functions.LaneFn.{LaneFn}
-use Rattle.hm_lane_fns.specs.LaneFns.{StandsFor, clamped, cut, exact, exact_lane, greatest_value, is_outside, least_value, lane_value, shift_count, shifted, shifted_rounded}
+use Rattle.hm_lane_fns.specs.LaneFns.{StandsFor, clamped, cut, exact, exact_lane, greatest_value, is_outside, least_value, lane_value, shift_count, shifted}
+use Rattle.hm_lane_fns.specs.LaneFns.{shifted_rounded}
 use Rattle.hm_lane_fns.specs.LaneFns.{takes_signed}
 
 -- numbers above a range are outside it alike, and so are numbers below it
@@ -64,7 +65,8 @@ low_limit false Word = omega (arith, ints)
 
 stands_above : (u : Bool) (z : Size) (v w : ℤ) → pos 4294967296 ≤ℤ v → pos 4294967296 ≤ℤ w → cut z v ≡ cut z w → StandsFor u z v w
 stands_above u z v w h k e =
-    let alike = both_above (least_value u z) (greatest_value u z) v w (in_order u z) (omega (arith, ints, high_limit u z)) (omega (arith, ints, high_limit u z)) in
+    let alike = both_above (least_value u z) (greatest_value u z) v w (in_order u z) (omega (arith, ints, high_limit u z))
+    (omega (arith, ints, high_limit u z)) in
     (e, alike.0, alike.1)
 
 stands_below : (u : Bool) (z : Size) (v w : ℤ) → v ≤ℤ (pos 0 -ℤ pos 4294967296) → w ≤ℤ (pos 0 -ℤ pos 4294967296) → cut z v ≡ cut z w → StandsFor u z v w

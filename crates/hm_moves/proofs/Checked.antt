@@ -54,7 +54,8 @@ one_byte : (p : Bool) → (p || false) ≡ ((p || false) || false)
 one_byte true = refl
 one_byte false = refl
 
-any_byte : (m : Memory) (z : Size) (a : ℕ) → lies_in_memory (byte_count z) a ≡ true → any_tainted m (span_bytes a (byte_count z)) ≡ some_byte (byte_count z) (tainted_at m) a
+any_byte : (m : Memory) (z : Size) (a : ℕ) → lies_in_memory (byte_count z) a ≡ true
+    → any_tainted m (span_bytes a (byte_count z)) ≡ some_byte (byte_count z) (tainted_at m) a
 any_byte m size.Byte a h = one_byte (tainted_at m a)
 any_byte m size.Half a h =
     ap (λ b. tainted_at m a || (tainted_at m b || false)) (within size.Half a 1 h (omega arith))
@@ -97,7 +98,8 @@ module _ (m : Memory) (r : Regs) (output : List ℕ) (store : Bool) (z : Size) (
           ∙ tainted (some_byte (byte_count z) (tainted_at m) a)
           ∙ ap (λ y. or_else (stop_after None (y && some_byte (byte_count z) (tainted_at m) a) false a) rest) (sym (h refl))
 
-  pub element_checked : checked cells (element_checks m.around store (byte_count z) a ++ cs) s ≡ or_else (stop_of m.around Vector store (byte_count z) a (seen m)) rest
+  pub element_checked : checked cells (element_checks m.around store (byte_count z) a ++ cs) s
+      ≡ or_else (stop_of m.around Vector store (byte_count z) a (seen m)) rest
   element_checked = by_actor (fault_kind (is_thread m.around.actor) Vector store (byte_count z) a) m.around.actor
       (λ e. (in_memory (is_thread m.around.actor) store (byte_count z) a e).0)
 

@@ -25,7 +25,8 @@ use Rattle.hm_beat.proofs.Footprint.{at_is}
 use Rattle.hm_kinds.specs.Row.{numbers}
 use Rattle.hm_moves.specs.declared.elements.Element.{Element}
 use Rattle.hm_moves.specs.Coded.{filled_in, first_stop, old_word, word_puts}
-use Rattle.hm_moves.specs.Moves.{Moves, all_bytes_from, bytes_of_elements, elements_at, filled, is_word, laid, loaded_at, little_endian, stored_at, byte_count, words_from}
+use Rattle.hm_moves.specs.Moves.{Moves, all_bytes_from, bytes_of_elements, elements_at, filled, is_word, laid, loaded_at, little_endian, stored_at, byte_count}
+use Rattle.hm_moves.specs.Moves.{words_from}
 use Rattle.hm_moves.proofs.Accesses.{fault_free, in_memory, within}
 use Rattle.hm_moves.proofs.Loops.{both_none}
 
@@ -92,7 +93,8 @@ module _ (m : Memory) (r : Regs) (output : List ℕ) where
 
   -- the elements that are loaded are those that the tree reads
   filled_read : (i : Moves) (k : ℕ) (es : List Element) (cs : List Cell) → first_stop m.around false (byte_count i.memory) es (seen m) ≡ None
-      → filled i k es (numbers (map s.cell (map Byte (bytes_of_elements i.memory es) ++ cs))) ≡ filled_in i k es (get_or (numbers (map s.cell cs)) k 0 % 2 ^ 32) (seen m)
+      → filled i k es (numbers (map s.cell (map Byte (bytes_of_elements i.memory es) ++ cs)))
+      ≡ filled_in i k es (get_or (numbers (map s.cell cs)) k 0 % 2 ^ 32) (seen m)
   filled_read i k [] cs free = refl
   filled_read i k (e ∷ es) cs free =
       let z = i.memory in
@@ -102,7 +104,8 @@ module _ (m : Memory) (r : Regs) (output : List ℕ) where
       let rest = map Byte (bytes_of_elements z es) ++ cs in
       let xs = numbers (map s.cell rest) in
       let split : numbers (map s.cell (map Byte (bs ++ bytes_of_elements z es) ++ cs)) ≡ map (byte_at m) bs ++ xs
-      = ap (λ ds. numbers (map s.cell ds)) (ap (λ ds. ds ++ cs) (map-append Byte bs (bytes_of_elements z es)) ∙ append_assoc (map Byte bs) (map Byte (bytes_of_elements z es)) cs)
+      = ap (λ ds. numbers (map s.cell ds))
+      (ap (λ ds. ds ++ cs) (map-append Byte bs (bytes_of_elements z es)) ∙ append_assoc (map Byte bs) (map Byte (bytes_of_elements z es)) cs)
       ∙ bytes_read m r output bs rest in
       (λ t. laid i k e (little_endian (byte_count z) (split t)) (filled i k es (drop (byte_count z) (split t))))
       ∙ (λ t. laid i k e (number_read m z e.addr xs lies t) (filled i k es (drop_bytes m z e.addr xs t)))
@@ -150,7 +153,8 @@ module _ (m : Memory) (r : Regs) (output : List ℕ) where
       → first_stop m.around false (byte_count i.memory) es (seen m) ≡ None → map into (word_puts i 0 es ws (old_word i r) (seen m)) ≡ loaded_at i b s
   loads_filled i b es ws loads same words placed are free =
       words_filled i es ws placed are free
-      ∙ (λ t. words_from i 0 (same t) (numbers (map s.cell (map Byte (bytes_of_elements i.memory (same t)) ++ map At (cond (not i.predicated) (words t) [])))) (words t))
+      ∙ (λ t. words_from i 0 (same t) (numbers (map s.cell (map Byte (bytes_of_elements i.memory (same t)) ++ map At (cond (not i.predicated) (words t) []))))
+      (words t))
       ∙ (λ t. cond (sym loads t) [] (words_from i 0 (elements_at i b s)
       (numbers (map s.cell (cond (sym loads t) [] (map Byte (bytes_of_elements i.memory (elements_at i b s)))
       ++ map At (cond (sym loads t || not i.predicated) (i.words b) [])))) (i.words b)))

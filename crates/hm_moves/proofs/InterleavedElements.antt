@@ -120,7 +120,8 @@ module _ (y z : Size) (d n : ℕ) (four : Bool) (part : ℕ) (back : Bool) where
       let address : ℕ → ℕ = λ k. (at (R n) u + byte_count y * k) % 2 ^ 32 in
       (λ t. active_ones every_byte (each_from
       (λ j. record { addr = address (stream_is z part b j t); word = j % registers four; lane = lane_is z four part b j t }) 0 (per_word z)))
-      ∙ all_active (λ j. part_address y z n part u (per_word z * b + j)) (λ j. j % registers four) (λ j. byte_count z * ((per_word z * b + j) / registers four)) 0
+      ∙ all_active (λ j. part_address y z n part u (per_word z * b + j)) (λ j. j % registers four) (λ j. byte_count z * ((per_word z * b + j) / registers four))
+      0
       (per_word z)
 
   pub addresses_are : (s : State) → addresses y z (interleaved d n four part back) s ≡ each_from (part_address y z n part s) 0 (count z)

@@ -87,7 +87,8 @@ module _ (y z : Size) (sign : Bool) (d n : ℕ) (four : Bool) (part : ℕ) (back
   states_are false narrow = loads_are
 
 -- the whole of an interleaved row
-pub interleaved_is : (store : Bool) (y z : Size) (sign : Bool) (d n : ℕ) (four : Bool) (part : ℕ) (back : Bool) (s : State) → (store ≡ true → byte_count y ≤ byte_count z)
+pub interleaved_is : (store : Bool) (y z : Size) (sign : Bool) (d n : ℕ) (four : Bool) (part : ℕ) (back : Bool) (s : State)
+    → (store ≡ true → byte_count y ≤ byte_count z)
     → (let t : Transfer = record { store = store; memory = y; register = z; signed = sign; found = interleaved d n four part back } in
     moves_by_words (moves_by t) s ≡ transfer_whole t s)
 interleaved_is store y z sign d n four part back s narrow =

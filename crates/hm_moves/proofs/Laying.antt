@@ -33,7 +33,8 @@ split_read : (u : State) (bs rest : List ℕ) (cs : List Cell)
 split_read u [] rest cs = refl
 split_read u (b ∷ bs) rest cs = ap (λ xs. (u.cell (Byte b)).n ∷ xs) (split_read u bs rest cs)
 
-number_first : (y : Size) (u : State) (a : ℕ) (xs : List ℕ) → little_endian (byte_count y) (numbers (map u.cell (map Byte (span_bytes a (byte_count y)))) ++ xs) ≡ read_at y u a
+number_first : (y : Size) (u : State) (a : ℕ) (xs : List ℕ)
+    → little_endian (byte_count y) (numbers (map u.cell (map Byte (span_bytes a (byte_count y)))) ++ xs) ≡ read_at y u a
 number_first size.Byte u a xs = refl
 number_first size.Half u a xs = refl
 number_first size.Word u a xs = refl
@@ -52,7 +53,8 @@ filled_got i j (e ∷ es) u cs =
     let y = i.memory in
     let bs = span_bytes e.addr (byte_count y) in
     let xs = numbers (map u.cell (map Byte (bytes_of_elements y es) ++ cs)) in
-    (λ t. laid i j e (little_endian (byte_count y) (split_read u bs (bytes_of_elements y es) cs t)) (filled i j es (drop (byte_count y) (split_read u bs (bytes_of_elements y es) cs t))))
+    (λ t. laid i j e (little_endian (byte_count y) (split_read u bs (bytes_of_elements y es) cs t))
+    (filled i j es (drop (byte_count y) (split_read u bs (bytes_of_elements y es) cs t))))
     ∙ (λ t. laid i j e (number_first y u e.addr xs t) (filled i j es (drop_first y u e.addr xs t)))
     ∙ ap (laid i j e (read_at y u e.addr)) (filled_got i j es u cs)
 

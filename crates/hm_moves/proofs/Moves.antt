@@ -29,7 +29,8 @@ use Rattle.hm_kinds.specs.Row.{is_body}
 use Rattle.hm_kinds.proofs.Row.{body_off, body_still, gathered, holds_written, pc-put_all}
 use Rattle.hm_moves.specs.declared.elements.Element.{Element}
 use Rattle.hm_moves.specs.Moves.{IsMoves, Moves, SparesLr, Unwritten, all_bytes_from, all_elements, active_ones, back_at, bytes_from, elements_at, every_byte}
-use Rattle.hm_moves.specs.Moves.{first_fault, handed, is_word, loaded_at, moved, moves_tree, moves_by_words, fault_after, bytes_of_elements, reads_of, sources_at}
+use Rattle.hm_moves.specs.Moves.{first_fault, handed, is_word, loaded_at, moved, moves_tree, moves_by_words, fault_after, bytes_of_elements, reads_of}
+use Rattle.hm_moves.specs.Moves.{sources_at}
 use Rattle.hm_moves.specs.Moves.{stored_at, values_at, byte_count, words_from}
 use Rattle.hm_moves.proofs.Trees.{begun_places, checked_clean, checks_fail, checks_stop, ends_at, fault_stop, leaf_asks, leaf_at, leaf_lives, leaf_read_asked}
 use Rattle.hm_moves.proofs.Trees.{leaf_taints, others_of, reach_moves, tests_moves, written_leaf}

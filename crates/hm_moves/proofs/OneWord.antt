@@ -172,7 +172,8 @@ span_length size.Word a = refl
 
 -- an element is stored where it is active
 stored_one : (y : Size) (p : Bool) (e : Element) (es : List Element) (xs : List ℕ)
-    → all_bytes_from false y (cond p (e ∷ []) [] ++ es) xs ≡ cond p (bytes_from false e xs 0 (span_bytes e.addr (byte_count y))) [] ++ all_bytes_from false y es xs
+    → all_bytes_from false y (cond p (e ∷ []) [] ++ es) xs
+    ≡ cond p (bytes_from false e xs 0 (span_bytes e.addr (byte_count y))) [] ++ all_bytes_from false y es xs
 stored_one y true e es xs = refl
 stored_one y false e es xs = refl
 

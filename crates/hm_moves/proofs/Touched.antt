@@ -61,7 +61,8 @@ reads_are i b r m output =
     ∙ append_assoc (map At (begun_places i.predicated b s)) (map At (i.sources b)) rest)
     ∙ ap listed (places_at-append (begun_places i.predicated b s) (map At (i.sources b) ++ rest)
     ∙ ap (λ ps. begun_places i.predicated b s ++ ps)
-    (places_at-append (i.sources b) rest ∙ ap (λ ps. i.sources b ++ ps) (places_where i.store (bytes_of_elements i.memory (elements_at i b s)) (words_read i b)))
+    (places_at-append (i.sources b) rest
+    ∙ ap (λ ps. i.sources b ++ ps) (places_where i.store (bytes_of_elements i.memory (elements_at i b s)) (words_read i b)))
     ∙ ap (λ ps. ps ++ (i.sources b ++ words_read i b)) (begun_is i.predicated b r m output))
     ∙ listed-append (begun_in i.predicated b r) (i.sources b ++ words_read i b)
     ∙ ap (noted_all (begun_in i.predicated b r))
@@ -93,7 +94,8 @@ targets_stores t z (e ∷ es) = targets-append (store_bytes t e 0 (span_bytes e.
     ∙ sym (map-append Byte (span_bytes e.addr (byte_count z)) (bytes_of_elements z es))
 
 targets_moved : (i : Moves) (t : Bool) (b : ℕ) (es : List Element) (y : Bool)
-    → targets (cond y (store_all t i.memory es) (fill i 0 es (i.words b))) ≡ cond y (map Byte (bytes_of_elements i.memory es)) [] ++ map At (cond (not y) (i.words b) [])
+    → targets (cond y (store_all t i.memory es) (fill i 0 es (i.words b)))
+    ≡ cond y (map Byte (bytes_of_elements i.memory es)) [] ++ map At (cond (not y) (i.words b) [])
 targets_moved i t b es true = targets_stores t i.memory es ∙ sym (append-nil (map Byte (bytes_of_elements i.memory es)))
 targets_moved i t b es false = targets_fill i 0 es (i.words b)
 

@@ -29,7 +29,8 @@ use Rattle.hm_beat.proofs.Whole.{advance_taints, no_byte}
 use Rattle.hm_beat.proofs.Footprint.{no_tests}
 use Rattle.hm_kinds.specs.Row.{numbers}
 use Rattle.hm_moves.specs.declared.elements.Element.{Element}
-use Rattle.hm_moves.specs.Moves.{Moves, all_bytes_from, asks, back_at, begun, bytes_from, bytes_of_elements, checks_of, element_checks, elements_at, active_ones}
+use Rattle.hm_moves.specs.Moves.{Moves, all_bytes_from, asks, back_at, begun, bytes_from, bytes_of_elements, checks_of, element_checks, elements_at}
+use Rattle.hm_moves.specs.Moves.{active_ones}
 use Rattle.hm_moves.specs.Moves.{every_byte, fails, fault_after, fill, filled, first_fault, is_closed, loaded_at, moved_by, moves_leaf, moves_tree, reads_of}
 use Rattle.hm_moves.specs.Moves.{sources_at, store_all, store_bytes, stored_at, sure_stop, test_all, byte_count, words_from}
 

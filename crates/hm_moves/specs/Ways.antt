@@ -65,8 +65,10 @@ way_sources (interleaved d n four part back) b = R n ∷ []
 -- Element j of beat b, of size y in memory and z in its register, by what stands in the sources. Of interleaved ones element k of the stream is
 -- element k div R of register k mod R, where there are R registers.
 abbrev pub way_element : Size → Size → Found → ℕ → List ℕ → ℕ → Element
-way_element y z (straight d n offset before back) b ns j = element (start before offset (get_or ns 0 0) + byte_count y * (per_word z * b + j)) 0 (byte_count z * j)
-way_element y z (at_offsets d n m scale) b ns j = element (get_or ns 0 0 + field (8 * (byte_count z * j)) (8 * byte_count z) (get_or ns 1 0) * 2 ^ scale) 0 (byte_count z * j)
+way_element y z (straight d n offset before back) b ns j =
+    element (start before offset (get_or ns 0 0) + byte_count y * (per_word z * b + j)) 0 (byte_count z * j)
+way_element y z (at_offsets d n m scale) b ns j =
+    element (get_or ns 0 0 + field (8 * (byte_count z * j)) (8 * byte_count z) (get_or ns 1 0) * 2 ^ scale) 0 (byte_count z * j)
 way_element y z (at_addresses d m offset back) b ns j = element (get_or ns 0 0 + offset) 0 (byte_count z * j)
 way_element y z (interleaved d n four part back) b ns j =
     let k = stream part z b + j in

@@ -23,7 +23,7 @@ use hm_lane::{Size, per_word};
 use hm_regs::Regs;
 
 /// So many elements in bytes.
-fn times_width(z: Size, k: u32) -> u32
+fn times_size(z: Size, k: u32) -> u32
     requires { k ≤ 64 }
     ensures value { result ≡ byte_count z * k }
     ensures at_most { result ≤ 256 }
@@ -104,7 +104,7 @@ fn straight_element(w: &Straight, y: Size, z: Size, b: u8, base: u32, j: u32) ->
 {
     let index = times_count(z, b as u32) + j;
     Element {
-        addr: start(w, base).wrapping_add(times_width(y, index)),
+        addr: start(w, base).wrapping_add(times_size(y, index)),
         word: 0,
         lane: lane(z, j),
     }
@@ -147,7 +147,7 @@ fn interleaved_element(w: &Interleaved, y: Size, z: Size, b: u8, base: u32, j: u
     let count = registers(w);
     let index = stream(w, z, b) + j;
     Element {
-        addr: base.wrapping_add(times_width(y, index)),
+        addr: base.wrapping_add(times_size(y, index)),
         word: (j % count) as u8,
         lane: lane_in_word(z, index / count),
     }

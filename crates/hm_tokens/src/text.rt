@@ -29,6 +29,7 @@ impl Default for Part {
 /// The text of an instruction: its first word in three pieces, and its operands with the marks between them.
 #[derive(Drop)]
 pub struct InstrText {
+    /// What the manual calls the mnemonic, without condition, size and `.w`.
     pub mnemonic: &'static str,
     /// The letters of a block, or none.
     pub letters: &'static str,

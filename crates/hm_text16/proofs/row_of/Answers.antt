@@ -14,7 +14,8 @@ returns-in_err-code-clause-only c i is =
 
 pub returns-then-code-gt-LAST-clause-only : goal.returns-then-code-gt-LAST-clause-only
 returns-then-code-gt-LAST-clause-only c i is =
-    absurd (too_large (map tok c.args.tokens.now) c.args.pc c.args.address c.in_ok-code.code c.ranges.pc.fits c.ranges.address.fits (sym c.in_ok-code.ensures.value)
+    absurd (too_large (map tok c.args.tokens.now) c.args.pc c.args.address c.in_ok-code.code c.ranges.pc.fits c.ranges.address.fits
+    (sym c.in_ok-code.ensures.value)
     c.if-code-gt-LAST.true i is)
 
 pub returns-in_err-i-clause-only : goal.returns-in_err-i-clause-only

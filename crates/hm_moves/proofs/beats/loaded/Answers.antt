@@ -19,7 +19,8 @@ returns-else-row-clause-value c = λ output same.
     let es = c.args.es.now in
     let words = c.as_slice.ensures.value ∙ c.words-list.ensures.value in
     let placed = subst (All IsPlace) (sym c.as_slice.ensures.value) c.words-list.ensures.placed in
-    let free : first_stop m.around false (byte_count i.memory) es (seen m) ≡ None = ap (λ y. first_stop m.around y (byte_count i.memory) es (seen m)) (sym c.if-row.false)
+    let free : first_stop m.around false (byte_count i.memory) es (seen m) ≡ None =
+    ap (λ y. first_stop m.around y (byte_count i.memory) es (seen m)) (sym c.if-row.false)
     ∙ c.requires.free in
     ap (map into) c.filled_words.ensures.value
     ∙ loads_filled m c.args.r.now output i b es c.as_slice.result.now c.if-row.false same words placed

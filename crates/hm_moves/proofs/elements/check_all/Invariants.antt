@@ -7,4 +7,5 @@ use Rattle.hm_moves.proofs.elements.check_all.Given as goal
 
 abbrev pub invariant-loop-e : goal.invariant-loop-e
 invariant-loop-e l =
-    let m = memory_of l.m in first_stop m.around l.store (byte_count l.z) (drop l.e-index l.es) (seen m) ≡ first_stop m.around l.store (byte_count l.z) l.es (seen m)
+    let m = memory_of l.m in
+    first_stop m.around l.store (byte_count l.z) (drop l.e-index l.es) (seen m) ≡ first_stop m.around l.store (byte_count l.z) l.es (seen m)

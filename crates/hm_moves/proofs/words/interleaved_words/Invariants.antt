@@ -10,7 +10,8 @@ use Rattle.hm_moves.proofs.words.interleaved_words.Given as goal
 
 abbrev pub invariant-loop-i : goal.invariant-loop-i
 invariant-loop-i l =
-    let f : ℕ → Place = λ i. let k = stream l.w.part l.z l.b + i in word_place (l.w.d + k % registers l.w.four) (byte_count l.z * (k / registers l.w.four) / 4) in
+    let f : ℕ → Place = λ i. let k = stream l.w.part l.z l.b + i in
+    word_place (l.w.d + k % registers l.w.four) (byte_count l.z * (k / registers l.w.four) / 4) in
     let n = cond (ltb (per_word l.z) (registers l.w.four)) (per_word l.z) (registers l.w.four) in
     record {
       value : l.words.items ++ each_from f l.i (n - l.i) ≡ each_from f 0 n;
