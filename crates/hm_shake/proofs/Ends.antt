@@ -13,9 +13,10 @@ use Rattle.hm_run.specs.declared.Offence.TheVariants as offence
 use Rattle.hm_exc.specs.declared.types.Broken.TheVariants as broken
 use Rattle.hm_run.specs.declared.Reason.{Reason}
 use Rattle.hm_sched.specs.Schedule.{Sched, ticks_of}
-use Rattle.hm_shake.specs.Ends.{EndsAs, Halts, ended_plain, ended_under, ends_in, kind_or}
+use Rattle.hm_shake.proofs.Fewer.{cut_ticks_all}
+use Rattle.hm_shake.specs.Ends.{EndsAs, EndsInLast, EndsOtherwise, Halts, ended_plain, ended_under, ends_in, kind_or}
 use Rattle.hm_shake.specs.Kinds.{is_halt}
-use Rattle.hm_shake_runs.proofs.Cutting.{cut_same}
+use Rattle.hm_shake_runs.proofs.Cutting.{cut_same, out_few}
 use Rattle.hm_shake_runs.proofs.Letters.{breaks_no_rule, shaken_older}
 use Rattle.hm_shake_runs.proofs.Wholes.{whole_begun, whole_outcome}
 use Rattle.hm_shake_runs.specs.Heads.{bare, whole_ticks}
@@ -64,6 +65,25 @@ cut_so listing image h xs ys e k ends kind is =
     ap (λ (zs : List Stretch). (ended_under listing image (with_stretches zs (bare h))).kind) is
     ∙ ap (λ (n : ℕ). (ended_under listing image (with_stretches (cut n xs) (bare h))).kind) (ap (λ (x : Ended). x.ticks) ends)
     ∙ ap (λ (x : Ended). x.kind) (cut_ends listing image h xs ∙ sym ends) ∙ kind
+
+-- its last tick is the last that there is
+last_so : (listing : Listing) (image : List Segment) (h : Head) (xs : List Stretch)
+    → EndsInLast listing image h (cut (ended_under listing image (with_stretches xs (bare h))).ticks xs)
+unfolding ended_under
+last_so listing image h xs =
+    ap (λ (x : Run). x.ticks) (cut_same listing image h xs)
+    ∙ sym (cut_ticks_all (run_out listing image (with_stretches xs (bare h))).ticks xs (out_few listing image h xs))
+
+pub cut_last : (listing : Listing) (image : List Segment) (h : Head) (xs ys : List Stretch) (e : Ended)
+    → e ≡ ended_under listing image (with_stretches xs (bare h)) → ys ≡ cut e.ticks xs → EndsInLast listing image h ys
+cut_last listing image h xs ys e ends is =
+    subst (EndsInLast listing image h) (sym (is ∙ ap (λ (x : Ended). cut x.ticks xs) ends)) (last_so listing image h xs)
+
+-- one of another kind ends otherwise
+pub other_so : (listing : Listing) (image : List Segment) (h : Head) (xs ys : List Stretch) (e : Ended) (k : Kind)
+    → e ≡ ended_under listing image (with_stretches ys (bare h)) → ys ≡ xs → e.kind ≢ k → EndsOtherwise listing image k (with_stretches xs (bare h))
+other_so listing image h xs ys e k ends is other same =
+    other (ap (λ (x : Ended). x.kind) ends ∙ ap (λ (zs : List Stretch). (ended_under listing image (with_stretches zs (bare h))).kind) is ∙ same)
 
 -- a run whose kind is a halt halted
 record HaltedSo (o : Option Outcome) : Type 0 where

@@ -1,11 +1,12 @@
--- Stretches that are cut off, and from which interrupts are taken out: sound, and no more ticks.
-use Rattle.std.proofs.Common.{◌≡◌, ℕ, zero, suc, ◌+◌, ◌-◌, ◌≤◌, Bool, true, false, cond, List, [], ◌∷◌, map, arith, refl, sym, ap, ◌∙◌, nat_le}
+-- Stretches that are cut off, and from which interrupts are taken out: sound, no more ticks, and fewer interrupts.
+use Rattle.std.proofs.Common.{◌≡◌, ℕ, zero, suc, ◌+◌, ◌-◌, ◌≤◌, ◌<◌, Bool, true, false, cond, List, [], ◌∷◌, ◌++◌, map, arith, refl, sym, ap, ◌∙◌, nat_le}
+use Rattle.std.proofs.Common.{◌⊎◌, inl, inr, Option, Some, None}
 use Rattle.std.specs.List.{All}
 use Rattle.std.proofs.lemmas.Bool.{leb-false, leb-true}
 use Rattle.std.proofs.lemmas.List.Elements.{All-append, All-cons, All-head, All-nil, All-tail}
 use Rattle.hm_sched.proofs.Ticks.{total-cons}
 use Rattle.hm_shake_runs.proofs.Room.{ticks, ticks-append}
-use Rattle.hm_shake_runs.specs.Stretches.{IsStretch, cut, first_of, one_if, quiet, quieted, stretch_line, without}
+use Rattle.hm_shake_runs.specs.Stretches.{IsStretch, cut, first_of, interrupts_in, one_if, quiet, quieted, stretch_line, without}
 use Rattle.hm_shake_runs.specs.declared.stretches.Stretch.{Stretch}
 
 ticks-cons : (x : Stretch) (xs : List Stretch) → ticks (x ∷ xs) ≡ x.count + ticks xs
@@ -96,3 +97,69 @@ cut_ticks_fewer most n (x ∷ xs) all =
     let whole = ticks-cons x xs in
     let second = first.1 in
     omega arith
+
+whole_or : (b : Bool) (c n : ℕ) → (b ≡ true → c ≤ n) → (b ≡ false → n ≤ c) → cond b c n + (n - c) ≡ n
+whole_or true c n f g = let few : c ≤ n = f refl in omega arith
+whole_or false c n f g = let many : n ≤ c = g refl in omega arith
+
+first_all : (n : ℕ) (x : Stretch) → ticks (first_of n x) + (n - x.count) ≡ n
+first_all zero x = omega arith
+first_all (suc n) x =
+    let all = whole_or (nat_le x.count (suc n)) x.count (suc n) (λ e. leb-true x.count (suc n) e) (λ e. omega (arith, leb-false x.count (suc n) e)) in
+    omega arith
+
+-- the first n ticks are n
+pub cut_ticks_all : (n : ℕ) (xs : List Stretch) → n ≤ ticks xs → ticks (cut n xs) ≡ n
+cut_ticks_all n [] room = omega arith
+cut_ticks_all n (x ∷ xs) room =
+    let whole = ticks-cons x xs in
+    let both = ticks-append (first_of n x) (cut (n - x.count) xs) in
+    let rest = cut_ticks_all (n - x.count) xs (omega arith) in
+    let first = first_all n x in
+    omega arith
+
+-- ---- how many interrupts
+
+abbrev count : List Stretch → ℕ
+count xs = interrupts_in xs
+
+append_count : (xs ys : List Stretch) → count (xs ++ ys) ≡ count xs + count ys
+append_count [] ys = omega arith
+append_count (x ∷ xs) ys = let rest = append_count xs ys in omega arith
+
+first_count : (n : ℕ) (x : Stretch) → count (first_of n x) ≤ one_if x.irq
+first_count zero x = omega arith
+first_count (suc n) x = omega arith
+
+pub cut_count : (n : ℕ) (xs : List Stretch) → count (cut n xs) ≤ count xs
+cut_count n [] = omega arith
+cut_count n (x ∷ xs) =
+    let both = append_count (first_of n x) (cut (n - x.count) xs) in
+    let first = first_count n x in
+    let rest = cut_count (n - x.count) xs in
+    omega arith
+
+quieted_count : (n : ℕ) (xs : List Stretch) → count (quieted n xs) ≤ count xs
+quieted_count zero xs = omega arith
+quieted_count (suc n) [] = omega arith
+quieted_count (suc n) (x ∷ xs) = let rest = quieted_count (suc n - one_if x.irq) xs in omega arith
+
+one_or_none : (o : Option ℕ) → (one_if o ≡ 0) ⊎ (one_if o ≡ 1)
+one_or_none None = inl refl
+one_or_none (Some n) = inr refl
+
+quieted_less : (n : ℕ) (xs : List Stretch) → 0 < n → 0 < count xs → count (quieted n xs) < count xs
+quieted_less zero xs some has = absurd (omega arith)
+quieted_less (suc n) [] some has = absurd (omega arith)
+quieted_less (suc n) (x ∷ xs) some has = elim (one_or_none x.irq) [
+  | inl none ↦ let rest = quieted_less (suc n - one_if x.irq) xs (omega arith) (omega arith) in omega arith
+  | inr one ↦ let rest = quieted_count (suc n - one_if x.irq) xs in omega arith
+]
+
+pub without_less : (k n : ℕ) (xs : List Stretch) → 0 < n → k < count xs → count (without k n xs) < count xs
+without_less zero n xs some has = quieted_less n xs some has
+without_less (suc k) n [] some has = absurd (omega arith)
+without_less (suc k) n (x ∷ xs) some has = elim (one_or_none x.irq) [
+  | inl none ↦ let rest = without_less (suc k - one_if x.irq) n xs some (omega arith) in omega arith
+  | inr one ↦ let rest = without_less (suc k - one_if x.irq) n xs some (omega arith) in omega arith
+]

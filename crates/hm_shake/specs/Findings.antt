@@ -8,7 +8,7 @@ use Rattle.hm_run.specs.Report.{report_text}
 use Rattle.hm_sched.specs.Schedule.{Sched, most_irq, total}
 use Rattle.hm_sched.specs.Written.{IsFile}
 use Rattle.hm_shake.specs.Counts.{AreCounted, CameIn}
-use Rattle.hm_shake.specs.Ends.{EndsAs, Halts, ends_in, plain_end}
+use Rattle.hm_shake.specs.Ends.{AllNeeded, EndsAs, EndsInLast, Halts, ends_in, plain_end}
 use Rattle.hm_shake.specs.Kinds.{is_halt}
 use Rattle.hm_shake.specs.Shorter.{LeavesOut}
 use Rattle.hm_shake.specs.declared.counting.Given.{Given}
@@ -38,6 +38,9 @@ pub record IsFiled (listing : Listing) (image : List Segment) (p : Plan) (h : He
   pub interrupts : interrupts_in stretches ≡ w.interrupts
   pub kind : w.kind ≡ x.kind
   pub gives : EndsAs listing image w.kind (with_stretches stretches (bare h))
+  -- its run ends in its last tick, and no one of its interrupts can be left out without another kind
+  pub last : EndsInLast listing image h stretches
+  pub needed : AllNeeded listing image h w.kind stretches
 
 -- of the kinds that came, each that is not the plain run's has a file of which this holds, in order
 abbrev pub AreFiled : (Found → Written → Type 0) → Kind → List Found → List Written → Type 0

@@ -1,4 +1,4 @@
--- A run under the ticks that it began, and no more, ends as it did.
+-- A run under the ticks that it began, and no more, ends as it did; and it begins no more than there are.
 use Rattle.std.proofs.Common.{◌≡◌, ℕ, zero, suc, ◌+◌, ◌-◌, ◌≤◌, Bool, true, false, cond, List, [], ◌∷◌, ◌++◌, length, take, map, arith, refl, sym, ap, ◌∙◌}
 use Rattle.std.proofs.Common.{Option, Some, None, Result, Ok, Err, nat_le}
 use Rattle.std.proofs.lemmas.Bool.{leb-false, leb-true}
@@ -14,7 +14,8 @@ use Rattle.hm_position.proofs.Prefixes.{run_taken, ticks_bare}
 use Rattle.hm_position.specs.Next.{after_ticks}
 use Rattle.hm_run.specs.Timed.{bounds_of}
 use Rattle.hm_run.specs.declared.Outcome.{Outcome}
-use Rattle.hm_sched.specs.Schedule.{Sched, TickLine, repeat, ticks_of}
+use Rattle.hm_sched.proofs.Ticks.{length-ticks_of}
+use Rattle.hm_sched.specs.Schedule.{Sched, TickLine, repeat, ticks_of, total}
 use Rattle.hm_shake_runs.specs.Heads.{bare}
 use Rattle.hm_shake_runs.specs.Stretches.{cut, first_of, stretch_line, with_stretches}
 use Rattle.hm_shake_runs.specs.declared.head.Head.{Head}
@@ -124,20 +125,21 @@ module _ (listing : Listing) (s : Sched) where
   -- WHAT SO MANY TICKS LEAVE is what those leave that it began
   record Begun (lines : List TickLine) (x : Run) : Type 0 where
     more : ℕ
+    few : more ≤ length lines
     ticks : (after_ticks listing s lines x).ticks ≡ x.ticks + more
     same : after_ticks listing s (take more lines) x ≡ after_ticks listing s lines x
 
   begun_by : (lines : List TickLine) (x : Run) (o : Option Outcome) → x.outcome ≡ o → Begun lines x
-  begun_by [] x o e = record { more = 0; ticks = omega arith; same = refl }
+  begun_by [] x o e = record { more = 0; few = omega arith; ticks = omega arith; same = refl }
   begun_by (line ∷ lines) x (Some o) e =
       let is = stays (line ∷ lines) x o e in
-      record { more = 0; ticks = ap (λ (y : Run). y.ticks) is ∙ omega arith; same = sym is }
+      record { more = 0; few = omega arith; ticks = ap (λ (y : Run). y.ticks) is ∙ omega arith; same = sym is }
   begun_by (line ∷ lines) x None e =
       let y = tick_of listing s line x x.outcome in
       let one_more : y.ticks ≡ x.ticks + 1 = ap (λ (o : Option Outcome). (tick_of listing s line x o).ticks) e
       ∙ ended_ticks line x (letters listing s 0 line.letters x.machine) in
       let rest = begun_by lines y y.outcome refl in
-      record { more = suc rest.more; ticks = rest.ticks ∙ omega arith; same = rest.same }
+      record { more = suc rest.more; few = omega (arith, rest.few); ticks = rest.ticks ∙ omega arith; same = rest.same }
 
   -- after all ticks
   out_of : (image : List Segment) → run_out listing image s ≡ closed [] (after_ticks listing s (ticks_of s.lines) (begin image s))
@@ -184,3 +186,11 @@ module _ (listing : Listing) (image : List Segment) (h : Head) (xs : List Stretc
 
   pub cut_same : run_out listing image (first (run_out listing image all).ticks) ≡ run_out listing image all
   cut_same = ap (λ (n : ℕ). run_out listing image (first n)) count ∙ first_out ∙ sym all_out
+
+  -- and it begins no more than there are
+  pub out_few : (run_out listing image all).ticks ≤ total (map stretch_line xs)
+  out_few =
+      let are = length-ticks_of (map stretch_line xs) in
+      let few = begun.few in
+      let is = count in
+      omega arith

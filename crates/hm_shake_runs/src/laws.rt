@@ -1,17 +1,17 @@
 //! Laws of the definitions. The functions do nothing, and their clauses are what is proved.
 
-ghost use Rattle.std.specs.Prelude.{◌≡◌, ◌≢◌, ℕ, List, Some};
+ghost use Rattle.std.specs.Prelude.{◌≡◌, ◌≢◌, ◌≤◌, ℕ, List, Some, map};
 ghost use Rattle.hm_base.specs.Image.{Segment};
 ghost use Rattle.hm_codes.specs.Listing.{Listing};
 ghost use Rattle.hm_handlers.specs.Runs.{run_out, shown_out};
 ghost use Rattle.hm_run.specs.Report.{report_text};
 ghost use Rattle.hm_run.specs.declared.Outcome.TheVariants.{Halted, RuleBroken};
 ghost use Rattle.hm_run.specs.declared.Reason.{Reason};
-ghost use Rattle.hm_sched.specs.Schedule.{Sched, plain};
+ghost use Rattle.hm_sched.specs.Schedule.{Sched, plain, total};
 ghost use Rattle.hm_shake_runs.specs.Heads.{bare, whole_ticks};
 ghost use Rattle.hm_shake_runs.specs.Runs.{AreOlder};
 ghost use Rattle.hm_shake_runs.specs.Shaken.{shaken_schedule};
-ghost use Rattle.hm_shake_runs.specs.Stretches.{cut, with_stretches};
+ghost use Rattle.hm_shake_runs.specs.Stretches.{cut, stretch_line, with_stretches};
 ghost use Rattle.hm_shake_runs.specs.declared.head.Head.{Head};
 ghost use Rattle.hm_shake_runs.specs.declared.plan.Plan.{Plan};
 ghost use Rattle.hm_shake_runs.specs.declared.stretches.Stretch.{Stretch};
@@ -33,10 +33,12 @@ pub fn reports_law()
         → (run_out listing image s).outcome ≡ Some (Halted r n) → (run_out listing image t).outcome ≡ Some (Halted q m) → (r ≡ q) × (n ≡ m) }
 {}
 
-/// A run under the ticks that it began, and no more, is the same run.
+/// A run under the ticks that it began, and no more, is the same run, and it begins no more than there are.
 pub fn cut_law()
     ensures same { (image : List Segment) (listing : Listing) (h : Head) (xs : List Stretch) → let x = run_out listing image (with_stretches xs (bare h)) in
         run_out listing image (with_stretches (cut x.ticks xs) (bare h)) ≡ x }
+    ensures few { (image : List Segment) (listing : Listing) (h : Head) (xs : List Stretch)
+        → (run_out listing image (with_stretches xs (bare h))).ticks ≤ total (map stretch_line xs) }
 {}
 
 /// Whole instructions in order end alike under every head, where no exception enters, and begin as many ticks: so one machine does the plain run too.

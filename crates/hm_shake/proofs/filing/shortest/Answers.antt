@@ -44,4 +44,6 @@ returns-clause-filed g c = λ image listing is repeats found_in.
       interrupts = sym (c.interrupts_in.ensures.value ∙ ap interrupts_in c.deref-5.ensures.value);
       kind = refl;
       gives = c.in_ok-best.ensures.kind image listing is repeats ends;
+      last = c.in_ok-best.ensures.last image listing is repeats ends;
+      needed = c.in_ok-best.ensures.needed image listing is repeats;
     }

@@ -2,11 +2,11 @@ use Rattle.std.proofs.Common.{◌≡◌, ◌∙◌, ap, arith, sym}
 use Rattle.std.specs.List.{All}
 use Rattle.std.proofs.lemmas.List.Elements.{All-same}
 use Rattle.hm_sched.specs.Schedule.{most_irq}
-use Rattle.hm_shake.proofs.Ends.{cut_so}
-use Rattle.hm_shake.proofs.Fewer.{cut_sound, cut_ticks_fewer, without_sound, without_ticks}
+use Rattle.hm_shake.proofs.Ends.{cut_last, cut_so, other_so}
+use Rattle.hm_shake.proofs.Fewer.{cut_count, cut_sound, cut_ticks_fewer, without_less, without_sound, without_ticks}
 use Rattle.hm_shake.proofs.Leaving.{shorter_left}
 use Rattle.hm_shake_runs.proofs.Room.{ticks}
-use Rattle.hm_shake_runs.specs.Stretches.{IsStretch, cut, without}
+use Rattle.hm_shake_runs.specs.Stretches.{IsStretch, cut, interrupts_in, without}
 use Rattle.hm_shake.proofs.shrinking.shorter.Goals as goal
 
 pub run-requires-clause-sound : goal.run-requires-clause-sound
@@ -71,3 +71,23 @@ returns-then-same_kind-clause-sound c =
     let most = most_irq c.args.head.format in
     All-same (IsStretch most) c.in_ok-cut.field-0.items (cut c.in_ok-ended.ended.ticks c.deref-then-same_kind.result.now) c.in_ok-cut.ensures.value
     (cut_sound most c.in_ok-ended.ended.ticks c.deref-then-same_kind.result.now (sound c))
+
+pub returns-then-same_kind-clause-last : goal.returns-then-same_kind-clause-last
+returns-then-same_kind-clause-last c = λ image listing is repeats.
+    let ends = c.in_ok-ended.ensures.ended image listing is repeats in
+    cut_last listing image c.args.head c.deref.result.now c.in_ok-cut.field-0.items c.in_ok-ended.ended ends
+    (c.in_ok-cut.ensures.value ∙ ap (cut c.in_ok-ended.ended.ticks) (same c))
+
+pub returns-then-same_kind-clause-less : goal.returns-then-same_kind-clause-less
+returns-then-same_kind-clause-less c = λ below some.
+    let is = ap interrupts_in c.in_ok-cut.ensures.value in
+    let few = cut_count c.in_ok-ended.ended.ticks c.deref-then-same_kind.result.now in
+    let whole = ap interrupts_in (c.deref-then-same_kind.ensures.value ∙ c.in_ok-fewer.ensures.value) in
+    let less = without_less c.args.kept c.args.size c.args.stretches.now some below in
+    omega arith
+
+pub returns-clause-other : goal.returns-clause-other
+returns-clause-other c = λ image listing is repeats none.
+    let fewer = without c.args.kept c.args.size c.args.stretches.now in
+    other_so listing image c.args.head fewer c.deref.result.now c.in_ok-ended.ended c.args.kind
+    (c.in_ok-ended.ensures.ended image listing is repeats) (c.deref.ensures.value ∙ c.in_ok-fewer.ensures.value) (c.same_kind.ensures.other c.if-same_kind.false)

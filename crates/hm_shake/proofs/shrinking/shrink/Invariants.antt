@@ -7,7 +7,7 @@ use Rattle.hm_shake.specs.Repeats.{Repeats}
 use Rattle.hm_shake.specs.Shorter.{LeavesOut}
 use Rattle.hm_shake_runs.proofs.Room.{ticks}
 use Rattle.hm_shake_runs.specs.Heads.{bare}
-use Rattle.hm_shake.specs.Ends.{EndsAs, ended_under}
+use Rattle.hm_shake.specs.Ends.{EndsAs, EndsInLast, ended_under}
 use Rattle.hm_shake_runs.specs.Stretches.{IsStretch, with_stretches}
 use Rattle.hm_shake.proofs.shrinking.shrink.Given as goal
 
@@ -21,6 +21,8 @@ invariant-loop-size g l = record {
   kind : (image : List Segment) (listing : Listing) → IsListing (flash_byte image) listing → Repeats image l.head l.fn.repeater
       → l.ended ≡ ended_under listing image (with_stretches l.stretches (bare l.head))
       → EndsAs listing image l.ended.kind (with_stretches l.best.items (bare l.head));
+  last : (image : List Segment) (listing : Listing) → IsListing (flash_byte image) listing → Repeats image l.head l.fn.repeater
+      → l.ended ≡ ended_under listing image (with_stretches l.stretches (bare l.head)) → EndsInLast listing image l.head l.best.items;
 }
 
 abbrev pub decreases-loop-size : goal.decreases-loop-size

@@ -1,4 +1,4 @@
-use Rattle.std.proofs.Common.{◌≤◌, List}
+use Rattle.std.proofs.Common.{◌≡◌, ◌<◌, ◌≤◌, ◌-◌, ◌^◌, List}
 use Rattle.std.specs.List.{All}
 use Rattle.hm_base.specs.Image.{Segment, flash_byte}
 use Rattle.hm_codes.specs.Listing.{IsListing, Listing}
@@ -7,12 +7,12 @@ use Rattle.hm_shake.specs.Repeats.{Repeats}
 use Rattle.hm_shake.specs.Shorter.{LeavesOut}
 use Rattle.hm_shake_runs.proofs.Room.{ticks}
 use Rattle.hm_shake_runs.specs.Heads.{bare}
-use Rattle.hm_shake.specs.Ends.{EndsAs}
-use Rattle.hm_shake_runs.specs.Stretches.{IsStretch, with_stretches}
+use Rattle.hm_shake.specs.Ends.{EndsAs, EndsInLast}
+use Rattle.hm_shake_runs.specs.Stretches.{IsStretch, interrupts_in, with_stretches}
 use Rattle.hm_shake.proofs.shrinking.thinned.Given as goal
 
-abbrev pub invariant-loop-k : goal.invariant-loop-k
-invariant-loop-k g l = record {
+abbrev pub invariant-loop-kept : goal.invariant-loop-kept
+invariant-loop-kept g l = record {
   again : (image : List Segment) → Repeats image l.head l.fn.repeater → Repeats image l.head l.repeater;
   sound : All (IsStretch (most_irq l.head.format)) l.best.items;
   leaves : LeavesOut l.best.items l.fn.stretches.items;
@@ -20,4 +20,11 @@ invariant-loop-k g l = record {
   kind : (image : List Segment) (listing : Listing) → IsListing (flash_byte image) listing → Repeats image l.head l.fn.repeater
       → EndsAs listing image l.kind (with_stretches l.fn.stretches.items (bare l.head))
       → EndsAs listing image l.kind (with_stretches l.best.items (bare l.head));
+  last : (image : List Segment) (listing : Listing) → IsListing (flash_byte image) listing → Repeats image l.head l.fn.repeater
+      → EndsInLast listing image l.head l.fn.stretches.items → EndsInLast listing image l.head l.best.items;
+  left : l.left ≡ interrupts_in l.best.items;
+  fits : l.left < 2 ^ 64;
 }
+
+abbrev pub decreases-loop-kept : goal.decreases-loop-kept
+decreases-loop-kept g l = l.left - l.kept
