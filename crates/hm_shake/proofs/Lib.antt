@@ -3,6 +3,7 @@ pub mod Fewer
 pub mod Leaving
 pub mod Names
 pub mod Telling
+pub mod Apart
 pub mod Finding
 pub mod Files
 pub mod Counts

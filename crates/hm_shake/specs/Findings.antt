@@ -9,7 +9,7 @@ use Rattle.hm_sched.specs.Schedule.{Sched, most_irq, total}
 use Rattle.hm_sched.specs.Written.{IsFile}
 use Rattle.hm_shake.specs.Counts.{AreCounted, CameIn}
 use Rattle.hm_shake.specs.Ends.{AllNeeded, EndsAs, EndsInLast, Halts, ends_in, plain_end}
-use Rattle.hm_shake.specs.Kinds.{is_halt}
+use Rattle.hm_shake.specs.Kinds.{is_halt, kind_name}
 use Rattle.hm_shake.specs.Shorter.{LeavesOut}
 use Rattle.hm_shake.specs.declared.counting.Given.{Given}
 use Rattle.hm_shake.specs.declared.filing.Written.{Written}
@@ -49,6 +49,11 @@ AreFiled Is plain (x ∷ xs) ws =
     ((x.kind ≢ plain) × (w : Written) × (more : List Written) × (ws ≡ w ∷ more) × Is x w × AreFiled Is plain xs more)
     ⊎ ((x.kind ≡ plain) × AreFiled Is plain xs ws)
 
+-- no two files have one name, behind that of the schedule
+abbrev pub AreNamedApart : List Written → Type 0
+AreNamedApart [] = Unit {0}
+AreNamedApart (w ∷ ws) = All (λ v. kind_name v.kind ≢ kind_name w.kind) ws × AreNamedApart ws
+
 -- a kind came in this run of a shake, which began so many ticks
 abbrev pub IsFoundIn : Listing → List Segment → Plan → Head → List ℕ → Found → Type 0
 IsFoundIn listing image p h irqs found = CameIn (ends_in listing image p h irqs) p.runs found
@@ -61,13 +66,14 @@ pub record IsReport (listing : Listing) (image : List Segment) (p : Plan) (h : H
   pub shown : (s : Sched) → Halts listing image s → report ≡ report_text (shown_out listing image s)
 
 -- WHAT IS FOUND of an image, by a plan: the plain run's kind, how often each kind came, none of which is a broken rule, a file for each that is another,
--- and the report of the runs that halt
+-- no two under one name, and the report of the runs that halt
 pub record Finds (listing : Listing) (image : List Segment) (p : Plan) (h : Head) (irqs : List ℕ) (f : Findings) : Type 0 where
   pub plain : f.plain ≡ (plain_end listing image).kind
   pub ticks : p.ticks ≡ (plain_end listing image).ticks
   pub kinds : AreCounted (ends_in listing image p h irqs) p.runs f.kinds.items
   pub lawful : All (λ x. x.kind ≢ Rule) f.kinds.items
   pub files : AreFiled (IsFiled listing image p h irqs) f.plain f.kinds.items f.files.items
+  pub names : AreNamedApart f.files.items
   pub report : IfSome f.report (λ bytes. IsReport listing image p h irqs bytes.items)
   pub none : f.report ≡ None → All (λ x. is_halt x.kind ≡ false) f.kinds.items
 

@@ -21,8 +21,8 @@ use std::alloc::Global;
 
 /// Who is told how far a shake is.
 pub trait Progress {
-    /// So many runs are done.
-    fn done(&mut self, runs: u32);
+    /// So many runs of all are done; it is told after each run.
+    fn done(&mut self, runs: u32, all: u32);
 
     /// A schedule of this kind of outcome is made shorter, and has so many interrupts left; it is told before each try.
     fn shortening(&mut self, kind: Kind, interrupts: usize);
@@ -74,7 +74,7 @@ pub fn do_runs<P: Progress>(
     for run in 0..given.plan.runs {
         let ended = do_run(alloc, given, repeater, run)?;
         tally.note(ended, run)?;
-        progress.done(run + 1);
+        progress.done(run + 1, given.plan.runs);
     }
     Ok(tally.kinds)
 }

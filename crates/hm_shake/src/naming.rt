@@ -1,9 +1,11 @@
 //! The names of kinds of outcomes, by which files are called.
 
 ghost use Rattle.std.specs.Prelude.{◌≡◌, ◌++◌, IfOk, map};
+ghost use Rattle.std.specs.List.{All};
 ghost use Rattle.hm_shake.specs.Kinds.{joined, kind_name};
 ghost use Rattle.hm_shake.specs.Numbers.{HasNumbers, PlaceFits, ReasonFits, SlotFits};
 
+use crate::filing::Written;
 use crate::texts::add_kind;
 use hm_base::{OutOfMemory, Place};
 use hm_exc::Slot;
@@ -104,6 +106,15 @@ fn kind_fits(kind: Kind)
         | Kind::Stack
         | Kind::Output
         | Kind::Ticks => {}
+    }
+}
+
+/// The numbers of the kinds of files fit their types, so files of kinds that differ have names that differ.
+pub fn files_fit(files: &[Written])
+    ensures fit { All (λ w. HasNumbers w.kind) files.now }
+{
+    for file in files {
+        kind_fits(file.kind);
     }
 }
 

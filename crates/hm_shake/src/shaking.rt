@@ -9,6 +9,7 @@ ghost use Rattle.hm_state.specs.Start.{reset_pc};
 
 use crate::counting::{Given, Progress, do_runs, report_of};
 use crate::filing::{Written, files_of};
+use crate::naming::files_fit;
 use crate::repeats::Repeater;
 use hm_base::Image;
 use hm_machine::LoadErr;
@@ -57,6 +58,7 @@ pub fn shake<P: Progress>(
     let kinds = do_runs(alloc, &given, &mut repeater, progress)?;
     let report = report_of(alloc, &given, &mut repeater, &kinds)?;
     let files = files_of(alloc, &given, &mut repeater, plainly.kind, &kinds, progress)?;
+    files_fit(&files);
     Ok(Findings {
         plain: plainly.kind,
         kinds,

@@ -1,5 +1,7 @@
-use Rattle.std.proofs.Common.{ap}
+use Rattle.std.proofs.Common.{ap, sym}
+use Rattle.std.proofs.lemmas.List.Elements.{All-same}
 use Rattle.hm_shake.proofs.Finding.{found_so}
+use Rattle.hm_shake.specs.Numbers.{HasNumbers}
 use Rattle.hm_shake_runs.specs.declared.kinds.Ended.{Ended}
 use Rattle.hm_shake.proofs.shaking.shake.Goals as goal
 
@@ -16,3 +18,4 @@ returns-clause-finds g c = λ listing is.
     c.deref.ensures.value c.deref-2.ensures.value c.in_ok-interrupts_of.ensures.value c.of-head.ensures.value (ap (λ (e : Ended). e.kind) plain)
     (ap (λ (e : Ended). e.ticks) plain) (c.in_ok-report.ensures.report image listing is counted) c.in_ok-report.ensures.none
     (c.in_ok-files.ensures.files image listing is reported)
+    (All-same (λ w. HasNumbers w.kind) c.in_ok-files.files.items c.deref-3.result.now (sym c.deref-3.ensures.value) c.files_fit.ensures.fit)
