@@ -2,7 +2,7 @@
 
 use crate::input::{address, text};
 use anyhow::{Context, Result, bail};
-use hm_text_base::{bit, decimal, hex_bytes, hex2, hex8, read_hex8, span};
+use hm_text_base::{binary_digit, decimal, hex_bytes, hex2, hex8, read_hex8, span};
 use std::alloc::Global;
 use std::str::SplitWhitespace;
 
@@ -31,7 +31,7 @@ pub fn written(alloc: Global, words: &mut SplitWhitespace<'_>, input: &[u8]) -> 
             u32::try_from(number(input)?).context("too large")?,
         )?,
         "bytes" => hex_bytes(alloc, &mut out, input)?,
-        "bit" => bit(&mut out, number(input)? != 0)?,
+        "bit" => binary_digit(&mut out, number(input)? != 0)?,
         "decimal" => decimal(alloc, &mut out, number(input)?)?,
         _ => bail!("no such form"),
     }

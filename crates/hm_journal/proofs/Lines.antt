@@ -13,7 +13,7 @@ use Rattle.hm_run.specs.Report.{register_lines, report_of, state_lines, system_l
 use Rattle.hm_run.specs.Timed.{Timed}
 use Rattle.hm_run.specs.declared.Outcome.{Outcome}
 use Rattle.hm_state.specs.State.{regs_of}
-use Rattle.hm_text_base.specs.Texts.{bit, hex2, hex8}
+use Rattle.hm_text_base.specs.Texts.{binary_digit, hex2, hex8}
 use Rattle.hm_journal.specs.Formats.{behind_line, without, without_system}
 use Rattle.hm_journal.specs.Runs.{IsWithoutLine}
 
@@ -74,7 +74,7 @@ word_stays : (name : List ℕ) (x : ℕ) (out : List ℕ) → Stays true false n
 word_stays name x out begins h = line_stays out name (codes " " ∷ hex8 x ∷ []) h begins (refl, (hex8_plain x, tt))
 
 flag_stays : (name : List ℕ) (b : Bool) (out : List ℕ) → Stays true false name → Stays true true out → Stays true true (bit_line name b out)
-flag_stays name b out begins h = line_stays out name (codes " " ∷ bit b ∷ []) h begins (refl, (bit_plain b, tt))
+flag_stays name b out begins h = line_stays out name (codes " " ∷ binary_digit b ∷ []) h begins (refl, (bit_plain b, tt))
 
 pointers_stay : (g : Regs) (out : List ℕ) → Stays true true out → Stays true true (pointer_lines g out)
 pointers_stay g out h =
@@ -88,7 +88,7 @@ position_stays a b out h = line_stays out (codes "position ") (decimal a ∷ cod
 
 flags_stay : (g : Regs) (out : List ℕ) → Stays true true out → Stays true true (flags_line g out)
 flags_stay g out h =
-    line_stays out (codes "flags ") (bit g.n ∷ bit g.z ∷ bit g.c ∷ bit g.v ∷ bit g.q ∷ []) h (λ rest. refl)
+    line_stays out (codes "flags ") (binary_digit g.n ∷ binary_digit g.z ∷ binary_digit g.c ∷ binary_digit g.v ∷ binary_digit g.q ∷ []) h (λ rest. refl)
     (bit_plain g.n, (bit_plain g.z, (bit_plain g.c, (bit_plain g.v, (bit_plain g.q, tt)))))
 
 states_stay : (g : Regs) (out : List ℕ) → Stays true true out → Stays true true (state_lines g out)
@@ -123,12 +123,13 @@ behind_plain (x ∷ xs) rest plain = let parts = and_parts (is_shown x) (is_plai
 
 -- the system's line but for its end
 system_text : Regs → List ℕ
-system_text g = codes "system " ++ hex8 (main_of g) ++ codes " " ++ hex8 (process_of g) ++ codes " " ++ bit g.spsel ++ codes " " ++ hex2 g.basepri
+system_text g = codes "system " ++ hex8 (main_of g) ++ codes " " ++ hex8 (process_of g) ++ codes " " ++ binary_digit g.spsel ++ codes " " ++ hex2 g.basepri
 
 system_plain : (g : Regs) → is_plain (system_text g) ≡ true
 unfolding system_text
 system_plain g =
-    adds is_shown (codes "system ") (hex8 (main_of g) ∷ codes " " ∷ hex8 (process_of g) ∷ codes " " ∷ bit g.spsel ∷ codes " " ∷ hex2 g.basepri ∷ []) refl
+    adds is_shown (codes "system ") (hex8 (main_of g) ∷ codes " " ∷ hex8 (process_of g) ∷ codes " " ∷ binary_digit g.spsel ∷ codes " " ∷ hex2 g.basepri ∷ [])
+    refl
     (hex8_plain (main_of g), (refl, (hex8_plain (process_of g), (refl, (bit_plain g.spsel, (refl, (hex2_plain g.basepri, tt)))))))
 
 -- that line is the first of the system in a text that begins with it

@@ -29,7 +29,7 @@ use Rattle.hm_run.specs.Report.{system_line, state_lines, special_lines, vector_
 use Rattle.hm_run.specs.Report.{report_text}
 use Rattle.hm_run.specs.Timed.{Timed}
 use Rattle.hm_state.specs.State.{regs_of}
-use Rattle.hm_text_base.specs.Texts.{bit, hex2, hex8}
+use Rattle.hm_text_base.specs.Texts.{binary_digit, hex2, hex8}
 use Rattle.hm_report.proofs.Bytes.{AreAll, adds, appended, bit_is, bytes_are, decimal_is, decimal_plain, hex2_is, hex8_is, hex8_plain, is_ascii, is_low}
 use Rattle.hm_report.proofs.Bytes.{is_plain, is_shown, joined, plain_is, told}
 
@@ -160,7 +160,7 @@ word_is : (name : List ℕ) (x : ℕ) (out : List ℕ) → is_ascii name ≡ tru
 word_is name x out n h = adds is_low out (name ∷ codes " " ∷ hex8 x ∷ codes "\n" ∷ []) h (n, (refl, (hex8_is x, (refl, tt))))
 
 flag_is : (name : List ℕ) (b : Bool) (out : List ℕ) → is_ascii name ≡ true → is_ascii out ≡ true → is_ascii (bit_line name b out) ≡ true
-flag_is name b out n h = adds is_low out (name ∷ codes " " ∷ bit b ∷ codes "\n" ∷ []) h (n, (refl, (bit_is b, (refl, tt))))
+flag_is name b out n h = adds is_low out (name ∷ codes " " ∷ binary_digit b ∷ codes "\n" ∷ []) h (n, (refl, (bit_is b, (refl, tt))))
 
 pointers_are : (g : Regs) (out : List ℕ) → is_ascii out ≡ true → is_ascii (pointer_lines g out) ≡ true
 pointers_are g out h =
@@ -174,12 +174,13 @@ position_is a b out h = adds is_low out (codes "position " ∷ decimal a ∷ cod
 
 flags_are : (g : Regs) (out : List ℕ) → is_ascii out ≡ true → is_ascii (flags_line g out) ≡ true
 flags_are g out h =
-    adds is_low out (codes "flags " ∷ bit g.n ∷ bit g.z ∷ bit g.c ∷ bit g.v ∷ bit g.q ∷ codes "\n" ∷ []) h
+    adds is_low out (codes "flags " ∷ binary_digit g.n ∷ binary_digit g.z ∷ binary_digit g.c ∷ binary_digit g.v ∷ binary_digit g.q ∷ codes "\n" ∷ []) h
     (refl, (bit_is g.n, (bit_is g.z, (bit_is g.c, (bit_is g.v, (bit_is g.q, (refl, tt)))))))
 
 system_is : (g : Regs) (out : List ℕ) → is_ascii out ≡ true → is_ascii (system_line g out) ≡ true
 system_is g out h =
-    adds is_low out (codes "system " ∷ hex8 (main_of g) ∷ codes " " ∷ hex8 (process_of g) ∷ codes " " ∷ bit g.spsel ∷ codes " " ∷ hex2 g.basepri ∷ codes "\n"
+    adds is_low out (codes "system " ∷ hex8 (main_of g) ∷ codes " " ∷ hex8 (process_of g) ∷ codes " " ∷ binary_digit g.spsel ∷ codes " " ∷ hex2 g.basepri
+    ∷ codes "\n"
     ∷ []) h
     (refl, (hex8_is (main_of g), (refl, (hex8_is (process_of g), (refl, (bit_is g.spsel, (refl, (hex2_is g.basepri, (refl, tt)))))))))
 

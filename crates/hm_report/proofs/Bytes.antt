@@ -8,7 +8,7 @@ use Rattle.std.specs.Fmt.{digit_glyph, digits, digits_onto}
 use Rattle.std.specs.Str.{IsAscii}
 use Rattle.hex.specs.Hex.{encode_lower, lower_digits}
 use Rattle.hex.proofs.HexLemmas.{IsAscii-encode_with}
-use Rattle.hm_text_base.specs.Texts.{bit, hex2, hex8, hex_digit}
+use Rattle.hm_text_base.specs.Texts.{binary_digit, hex2, hex8, hex_digit}
 
 -- a byte that is ASCII
 abbrev pub is_low : ℕ → Bool
@@ -78,7 +78,7 @@ hex8_plain x = rw (
   figure x,
 ) refl
 
-pub bit_plain : (b : Bool) → is_plain (bit b) ≡ true
+pub bit_plain : (b : Bool) → is_plain (binary_digit b) ≡ true
 bit_plain true = refl
 bit_plain false = refl
 
@@ -88,8 +88,8 @@ hex2_is x = plain_is (hex2 x) (hex2_plain x)
 pub hex8_is : (x : ℕ) → is_ascii (hex8 x) ≡ true
 hex8_is x = plain_is (hex8 x) (hex8_plain x)
 
-pub bit_is : (b : Bool) → is_ascii (bit b) ≡ true
-bit_is b = plain_is (bit b) (bit_plain b)
+pub bit_is : (b : Bool) → is_ascii (binary_digit b) ≡ true
+bit_is b = plain_is (binary_digit b) (bit_plain b)
 
 module _ (test : ℕ → Bool) where
   pub joined : (xs ys : List ℕ) → are_all test xs ≡ true → are_all test ys ≡ true → are_all test (xs ++ ys) ≡ true

@@ -6,7 +6,7 @@ ghost use Rattle.hm_run.specs.Report.{vector_words, vector_line, vector_lines, r
 
 use hm_base::OutOfMemory;
 use hm_regs::Regs;
-use hm_text_base::{bit, decimal, hex2, hex8, text};
+use hm_text_base::{binary_digit, decimal, hex2, hex8, text};
 use hm_window::Window;
 use std::alloc::Global;
 
@@ -38,7 +38,7 @@ fn bit_line(out: &mut Vec<u8>, name: &[u8], b: bool) -> Result<(), OutOfMemory>
 {
     text(out, name)?;
     text(out, b" ")?;
-    bit(out, b)?;
+    binary_digit(out, b)?;
     text(out, b"\n")
 }
 
@@ -64,11 +64,11 @@ fn flags_line(out: &mut Vec<u8>, regs: &Regs) -> Result<(), OutOfMemory>
     ensures { IfOk result (λ _. out.new.items ≡ flags_line regs.now out.old.items) }
 {
     text(out, b"flags ")?;
-    bit(out, regs.n)?;
-    bit(out, regs.z)?;
-    bit(out, regs.c)?;
-    bit(out, regs.v)?;
-    bit(out, regs.q)?;
+    binary_digit(out, regs.n)?;
+    binary_digit(out, regs.z)?;
+    binary_digit(out, regs.c)?;
+    binary_digit(out, regs.v)?;
+    binary_digit(out, regs.q)?;
     text(out, b"\n")
 }
 
@@ -81,7 +81,7 @@ fn system_line(out: &mut Vec<u8>, regs: &Regs) -> Result<(), OutOfMemory>
     text(out, b" ")?;
     hex8(out, regs.process_pointer())?;
     text(out, b" ")?;
-    bit(out, regs.spsel)?;
+    binary_digit(out, regs.spsel)?;
     text(out, b" ")?;
     hex2(out, regs.basepri)?;
     text(out, b"\n")

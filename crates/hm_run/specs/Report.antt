@@ -24,7 +24,7 @@ use Rattle.hm_run.specs.declared.Who.{Who}
 use Rattle.hm_run.specs.declared.Who.TheVariants as who
 use Rattle.hm_run.specs.Timed.{Timed}
 use Rattle.hm_state.specs.State.{regs_of, sram_bytes, taint_bytes}
-use Rattle.hm_text_base.specs.Texts.{hex2, hex8, bit}
+use Rattle.hm_text_base.specs.Texts.{hex2, hex8, binary_digit}
 
 -- THE FIRST LINE
 -- the word for a kind of fault
@@ -148,15 +148,16 @@ position_line a b out = out ++ codes "position " ++ decimal a ++ codes " " ++ de
 
 -- the line of N, Z, C, V and Q
 abbrev pub flags_line : Regs → List ℕ → List ℕ
-flags_line g out = out ++ codes "flags " ++ bit g.n ++ bit g.z ++ bit g.c ++ bit g.v ++ bit g.q ++ codes "\n"
+flags_line g out = out ++ codes "flags " ++ binary_digit g.n ++ binary_digit g.z ++ binary_digit g.c ++ binary_digit g.v ++ binary_digit g.q ++ codes "\n"
 
 -- a line of a name and a bit
 abbrev pub bit_line : List ℕ → Bool → List ℕ → List ℕ
-bit_line name b out = out ++ name ++ codes " " ++ bit b ++ codes "\n"
+bit_line name b out = out ++ name ++ codes " " ++ binary_digit b ++ codes "\n"
 
 -- the line of the main and the process stack pointer, SPSEL and BASEPRI
 abbrev pub system_line : Regs → List ℕ → List ℕ
-system_line g out = out ++ codes "system " ++ hex8 (main_of g) ++ codes " " ++ hex8 (process_of g) ++ codes " " ++ bit g.spsel ++ codes " " ++ hex2 g.basepri
+system_line g out = out ++ codes "system " ++ hex8 (main_of g) ++ codes " " ++ hex8 (process_of g) ++ codes " " ++ binary_digit g.spsel ++ codes " "
+    ++ hex2 g.basepri
     ++ codes "\n"
 
 -- the lines of the IT byte, FPSCR, VPR, FPCA and PRIMASK

@@ -4,7 +4,7 @@
 ghost use Rattle.std.specs.Prelude.{◌≡◌, ℕ, ◌++◌, ◌<◌, List, IfOk};
 ghost use Rattle.std.specs.Fmt.{decimal};
 ghost use Rattle.hex.specs.Hex.{encode_lower};
-ghost use Rattle.hm_text_base.specs.Texts.{hex_digit, hex2, hex8, bit};
+ghost use Rattle.hm_text_base.specs.Texts.{hex_digit, hex2, hex8, binary_digit};
 
 mod numbers;
 mod spans;
@@ -70,8 +70,8 @@ pub fn hex_bytes(alloc: Global, out: &mut Vec<u8>, bytes: &[u8]) -> Result<(), O
 }
 
 /// Adds a truth value as the digit 0 or 1.
-pub fn bit(out: &mut Vec<u8>, b: bool) -> Result<(), OutOfMemory>
-    ensures { IfOk result (λ _. out.new.items ≡ out.old.items ++ bit b) }
+pub fn binary_digit(out: &mut Vec<u8>, b: bool) -> Result<(), OutOfMemory>
+    ensures { IfOk result (λ _. out.new.items ≡ out.old.items ++ binary_digit b) }
 {
     text(out, &[if b { b'1' } else { b'0' }])
 }

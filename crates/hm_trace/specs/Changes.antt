@@ -3,7 +3,7 @@ use Rattle.std.specs.Prelude.{ℕ, zero, suc, ◌+◌, ◌/◌, ◌%◌, Bool, �
 use Rattle.std.proofs.Math.Bool.{beq}
 use Rattle.std.specs.Fmt.{decimal}
 use Rattle.hm_regs.specs.declared.Regs.{Regs}
-use Rattle.hm_text_base.specs.Texts.{bit, hex2, hex8}
+use Rattle.hm_text_base.specs.Texts.{binary_digit, hex2, hex8}
 use Rattle.hm_trace.specs.declared.changes.Word.{Word}
 use Rattle.hm_trace.specs.declared.changes.Word.TheVariants.{Core, Vector, Sp, Other, Lr, Fpscr, Vpr}
 
@@ -27,7 +27,7 @@ word_change word old new = if nat_eq old new then [] else codes " " ++ word_name
 
 -- a truth value under its name, where it changed
 abbrev pub bit_change : List ℕ → Bool → Bool → List ℕ
-bit_change name old new = if beq old new then [] else codes " " ++ name ++ codes " " ++ bit new
+bit_change name old new = if beq old new then [] else codes " " ++ name ++ codes " " ++ binary_digit new
 
 -- the texts of so many numbers from k on, one behind another
 unfoldable pub texts_from : (ℕ → List ℕ) → ℕ → ℕ → List ℕ
@@ -48,7 +48,7 @@ same_flags old new = beq old.n new.n && beq old.z new.z && beq old.c new.c && be
 
 -- N, Z, C, V and Q
 unfoldable pub flags_text : Regs → List ℕ
-flags_text g = bit g.n ++ (bit g.z ++ (bit g.c ++ (bit g.v ++ bit g.q)))
+flags_text g = binary_digit g.n ++ (binary_digit g.z ++ (binary_digit g.c ++ (binary_digit g.v ++ binary_digit g.q)))
 
 -- the same, where one of them changed
 abbrev pub flags_change : Regs → Regs → List ℕ

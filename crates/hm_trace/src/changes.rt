@@ -6,7 +6,7 @@ ghost use Rattle.hm_trace.specs.Changes.{same_flags, status_changes, vector_chan
 
 use hm_base::OutOfMemory;
 use hm_regs::Regs;
-use hm_text_base::{bit, decimal, hex2, hex8, text};
+use hm_text_base::{binary_digit, decimal, hex2, hex8, text};
 use std::alloc::Global;
 
 /// A word of the registers.
@@ -80,7 +80,7 @@ fn add_bit(out: &mut Vec<u8>, name: &[u8], before: bool, after: bool) -> Result<
     text(out, b" ")?;
     text(out, name)?;
     text(out, b" ")?;
-    bit(out, after)
+    binary_digit(out, after)
 }
 
 /// Adds those of r0 to r12 that changed.
@@ -130,11 +130,11 @@ fn same_flags(before: &Regs, after: &Regs) -> bool
 fn add_bits(out: &mut Vec<u8>, regs: &Regs) -> Result<(), OutOfMemory>
     ensures added { IfOk result (λ _. out.new.items ≡ out.old.items ++ flags_text regs.now) }
 {
-    bit(out, regs.n)?;
-    bit(out, regs.z)?;
-    bit(out, regs.c)?;
-    bit(out, regs.v)?;
-    bit(out, regs.q)
+    binary_digit(out, regs.n)?;
+    binary_digit(out, regs.z)?;
+    binary_digit(out, regs.c)?;
+    binary_digit(out, regs.v)?;
+    binary_digit(out, regs.q)
 }
 
 /// Adds the flags, where one of them changed.
