@@ -5,3 +5,4 @@ pub mod Counting
 pub mod Letters
 pub mod Cutting
 pub mod Wholes
+pub mod Lawful

@@ -1,13 +1,14 @@
 //! Laws of the definitions. The functions do nothing, and their clauses are what is proved.
 
-ghost use Rattle.std.specs.Prelude.{◌≡◌, ◌≢◌, ◌≤◌, ℕ, List, Some, map};
+ghost use Rattle.std.specs.Prelude.{◌≡◌, ◌≢◌, ◌<◌, ◌≤◌, ℕ, List, Some, length, map};
+ghost use Rattle.std.specs.List.{All};
 ghost use Rattle.hm_base.specs.Image.{Segment};
 ghost use Rattle.hm_codes.specs.Listing.{Listing};
 ghost use Rattle.hm_handlers.specs.Runs.{run_out, shown_out};
 ghost use Rattle.hm_run.specs.Report.{report_text};
 ghost use Rattle.hm_run.specs.declared.Outcome.TheVariants.{Halted, RuleBroken};
 ghost use Rattle.hm_run.specs.declared.Reason.{Reason};
-ghost use Rattle.hm_sched.specs.Schedule.{Sched, plain, total};
+ghost use Rattle.hm_sched.specs.Schedule.{IsSched, Sched, most_irq, plain, total};
 ghost use Rattle.hm_shake_runs.specs.Heads.{bare, whole_ticks};
 ghost use Rattle.hm_shake_runs.specs.Runs.{AreOlder};
 ghost use Rattle.hm_shake_runs.specs.Shaken.{shaken_schedule};
@@ -17,9 +18,11 @@ ghost use Rattle.hm_shake_runs.specs.declared.plan.Plan.{Plan};
 ghost use Rattle.hm_shake_runs.specs.declared.stretches.Stretch.{Stretch};
 ghost use Rattle.hm_window.specs.declared.rule.Rule.{Rule};
 
-/// Schedules of letters O alone break no rule of overlap, whatever the image, and each run's schedule is one.
+/// Schedules of letters O alone break no rule of overlap, whatever the image, and each run's schedule is one, of the grammar.
 pub fn letters_law()
     ensures letters { (p : Plan) (h : Head) (irqs : List ℕ) (run : ℕ) → AreOlder (shaken_schedule p h irqs run) }
+    ensures sched { (p : Plan) (h : Head) (irqs : List ℕ) (run : ℕ) → 0 < length irqs → All (λ n. n < most_irq h.format) irqs
+        → IsSched (shaken_schedule p h irqs run) }
     ensures no_rule { (image : List Segment) (listing : Listing) (s : Sched) (t step : ℕ) (r : Rule) → AreOlder s
         → (run_out listing image s).outcome ≢ Some (RuleBroken t step r) }
 {}
