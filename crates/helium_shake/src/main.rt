@@ -13,8 +13,8 @@ use hm_shake_runs::Kind;
 use std::process::ExitCode;
 use top::helium_shake;
 
-/// After so many runs, or tries to make a schedule shorter, it is told how far a shake is.
-const APART: u32 = 100;
+/// So many times or more it is told how many runs are done, and at each of so many tries to make a schedule shorter.
+const HUNDRED: u32 = 100;
 
 /// Tells on standard error how far a shake is.
 #[derive(Drop)]
@@ -25,15 +25,16 @@ struct Told {
 }
 
 impl Progress for Told {
-    fn done(&mut self, runs: u32) {
-        if runs % APART == 0 {
+    fn done(&mut self, runs: u32, all: u32) {
+        let apart = (all / HUNDRED).max(1);
+        if runs % apart == 0 {
             // where it can't be told, the shake goes on
-            let _told = eprintln!(self.rt; "helium-shake: {runs} runs");
+            let _told = eprintln!(self.rt; "helium-shake: {runs} runs of {all}");
         }
     }
 
     fn shortening(&mut self, _kind: Kind, interrupts: usize) {
-        if self.tries % APART == 0 {
+        if self.tries % HUNDRED == 0 {
             let _told = eprintln!(self.rt;
                 "helium-shake: a schedule of {interrupts} interrupts is made shorter"
             );
@@ -60,6 +61,7 @@ fn status_of(rt: HostRuntime) -> Status {
     )
 }
 
+/// Ends with the status of what the words ask for.
 fn main(rt: HostRuntime) -> ExitCode {
     ExitCode::from(status_of(rt).code())
 }

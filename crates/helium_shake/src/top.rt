@@ -94,9 +94,7 @@ fn write_files<H: Host>(
     ensures count { Counts (H.state host.old).faults (H.state host.new).faults result }
 {
     for file in files {
-        if let Err(e) = write_file(alloc, schedule, file, host) {
-            return Err(e);
-        }
+        write_file(alloc, schedule, file, host)?;
     }
     Ok(())
 }
@@ -179,6 +177,7 @@ fn obey<H: Host, P: Progress>(
     }
 }
 
+/// The line of words that say nothing.
 fn make_usage_line(alloc: Global) -> Result<Vec<u8>, OutOfMemory>
     ensures line { IfOk result (λ line. line.items ≡ usage_line) }
 {

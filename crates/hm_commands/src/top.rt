@@ -58,12 +58,14 @@ pub fn carry_out<H: Host>(
     }
 }
 
+/// The line of words that say nothing.
 fn make_usage_line(alloc: Global) -> Result<Vec<u8>, OutOfMemory>
     ensures { IfOk result (λ line. line.items ≡ usage_line) }
 {
     Ok(b"helium: usage\n".to_vec(alloc)?)
 }
 
+/// The line of a refusal.
 fn make_refused_line(alloc: Global, why: Refusal) -> Result<Vec<u8>, OutOfMemory>
     ensures { IfOk result (λ line. line.items ≡ refused_line why) }
 {

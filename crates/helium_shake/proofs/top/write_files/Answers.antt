@@ -1,5 +1,6 @@
-use Rattle.std.proofs.Common.{◌∙◌, ◌+◌, [], ◌∷◌, List, ℕ, Some, Ok, Err, ap, drop, map, refl, subst, sym}
+use Rattle.std.proofs.Common.{◌≡◌, ◌∙◌, ◌+◌, [], ◌∷◌, List, ℕ, Some, Ok, Err, ap, drop, map, refl, subst, sym}
 use Rattle.std.proofs.lemmas.List.{append-nil}
+use Rattle.std.proofs.lemmas.Result.{err_from_is_err_and}
 use Rattle.hm_commands.proofs.Calling.{made_after}
 use Rattle.hm_commands.specs.Calls.{MakesCalls, answer_way, to_end}
 use Rattle.helium_shake.proofs.Writing.{first_call_fails, first_fails, left_is, left_none, written_first}
@@ -9,31 +10,39 @@ use Rattle.helium_shake.proofs.top.write_files.Goals as goal
 pub loop-file-init : goal.loop-file-init
 loop-file-init g c = record { files = λ r new h. h; calls = λ way new h. h; printed = λ P is. is; faults = refl }
 
-pub returns-in-Err-clause-files : goal.returns-in-Err-clause-files
-returns-in-Err-clause-files g c =
+pub returns-in_err-write_file-clause-files : goal.returns-in_err-write_file-clause-files
+returns-in_err-write_file-clause-files g c =
     let schedule = c.args.schedule.now in
     let i = c.loop-file.file-index in
     let w = c.file-item.result in
-    let e = c.in-Err.e in
+    let e = c.in_err-write_file.field-0.0 in
+    let answered = err_from_is_err_and c.from_residual.result c.from_residual.ensures.1 in
+    let failed : c.from_residual.result ≡ Err e = answered.1 ∙ ap Err answered.2 in
+    let first = (g.H.Host.state c.args.host.now).files in
     let old = (g.H.Host.state c.loop-file.host).files in
     let new = (g.H.Host.state c.write_file.new.host).files in
-    c.loop-file.invariant.files (Err e) new
+    subst (λ r. WritesFiles (map (file_of schedule) c.args.files.now) first new r) (sym failed)
+    (c.loop-file.invariant.files (Err e) new
     (subst (λ (files : List File). WritesFiles {T = ℕ} files old new (Err e)) (sym (left_is schedule c.args.files.now i w c.loop-file-test.true c.file-item.is))
-    (first_fails e (file_of schedule w) (map (file_of schedule) (drop (i + 1) c.args.files.now)) old new c.in-Err.ensures.files))
+    (first_fails e (file_of schedule w) (map (file_of schedule) (drop (i + 1) c.args.files.now)) old new c.in_err-write_file.ensures.files)))
 
-pub returns-in-Err-clause-calls : goal.returns-in-Err-clause-calls
-returns-in-Err-clause-calls g c =
+pub returns-in_err-write_file-clause-calls : goal.returns-in_err-write_file-clause-calls
+returns-in_err-write_file-clause-calls g c =
     let schedule = c.args.schedule.now in
     let i = c.loop-file.file-index in
     let w = c.file-item.result in
-    let e = c.in-Err.e in
+    let e = c.in_err-write_file.field-0.0 in
+    let answered = err_from_is_err_and c.from_residual.result c.from_residual.ensures.1 in
+    let failed : c.from_residual.result ≡ Err e = answered.1 ∙ ap Err answered.2 in
+    let first = (g.H.Host.state c.args.host.now).calls in
     let old = (g.H.Host.state c.loop-file.host).calls in
     let new = (g.H.Host.state c.write_file.new.host).calls in
-    c.loop-file.invariant.calls (answer_way {T = ℕ} (Err e)) new
+    subst (λ r. MakesCalls (map write_call (map (file_of schedule) c.args.files.now)) first new (answer_way r)) (sym failed)
+    (c.loop-file.invariant.calls (answer_way {T = ℕ} (Err e)) new
     (subst (λ (files : List File). MakesCalls (map write_call files) old new (answer_way {T = ℕ} (Err e)))
     (sym (left_is schedule c.args.files.now i w c.loop-file-test.true c.file-item.is))
     (first_call_fails e (file_of schedule w) (map write_call (map (file_of schedule) (drop (i + 1) c.args.files.now))) (g.H.Host.state c.loop-file.host).files
-    (g.H.Host.state c.write_file.new.host).files old new c.in-Err.ensures.files c.in-Err.ensures.calls))
+    (g.H.Host.state c.write_file.new.host).files old new c.in_err-write_file.ensures.files c.in_err-write_file.ensures.calls)))
 
 pub loop-file-preserved : goal.loop-file-preserved
 loop-file-preserved g c =
@@ -45,7 +54,7 @@ loop-file-preserved g c =
     let old = g.H.Host.state c.loop-file.host in
     let mid = g.H.Host.state c.write_file.new.host in
     let before = c.loop-file.invariant in
-    let h = c.in_default.ensures in
+    let h = c.in_ok-write_file.ensures in
     record {
       files = λ r new more.
           before.files r new (subst (λ (files : List File). WritesFiles files old.files new r) left
