@@ -15,14 +15,21 @@ const SEED: u32 = 1;
 /// The most runs of a shake.
 const MOST_RUNS: u32 = 1_000_000;
 
-/// Nothing is told of how far a shake is.
+/// How often it was told how far a shake is.
 #[derive(Drop)]
-struct Quiet;
+struct Quiet {
+    runs: u32,
+    tries: u32,
+}
 
 impl Progress for Quiet {
-    fn done(&mut self, _runs: u32) {}
+    fn done(&mut self, _runs: u32, _all: u32) {
+        self.runs = self.runs.saturating_add(1);
+    }
 
-    fn shortening(&mut self, _kind: Kind, _interrupts: usize) {}
+    fn shortening(&mut self, _kind: Kind, _interrupts: usize) {
+        self.tries = self.tries.saturating_add(1);
+    }
 }
 
 /// Whether two shakes wrote the same files.
@@ -80,7 +87,7 @@ fn interrupts_of_run(
     Ok(interrupts_in(&cut(alloc, &stretches, found.ticks)?))
 }
 
-/// Writes the ticks and the interrupts of the run that came to a kind, and those of the schedule that was made of it, which is to have fewer.
+/// Writes the ticks and the interrupts of the run that came to a kind, and those of the schedule that was made of it, which is to have no more.
 fn write_sizes<W: Write>(
     out: &mut W,
     found: Found,
@@ -106,14 +113,13 @@ fn write_found<W: Write>(
     alloc: Global,
     image: &Image,
     schedule: &Schedule,
-    runs: u32,
+    plan: Plan,
     kinds: &[Found],
     written: &Written,
 ) -> Result<()> {
     let kind = kind_under(alloc, image, &written.bytes)?;
     ensure!(kind == written.kind, "a schedule gives another outcome");
     let found = found_of(kinds, kind).context("no run came to it")?;
-    let plan = plan_of(alloc, image, schedule, runs)?;
     let interrupts = interrupts_of_run(alloc, schedule, plan, found)?;
     write_sizes(out, found, interrupts, written)?;
     out.write_all(&written.bytes)?;
@@ -131,8 +137,13 @@ pub fn write_shake<W: Write>(
 ) -> Result<()> {
     ensure!(1 <= runs && runs <= MOST_RUNS, "no shake has so many runs");
     writeln!(out, "shake {name} {runs}")?;
-    let mut quiet = Quiet;
+    let plan = plan_of(alloc, image, schedule, runs)?;
+    let mut quiet = Quiet { runs: 0, tries: 0 };
     let found = shake(alloc, image, schedule, runs, SEED, &mut quiet)?;
+    ensure!(
+        quiet.runs == runs && (found.files.is_empty() || quiet.tries > 0),
+        "it was not told how far a shake is"
+    );
     let again = shake(alloc, image, schedule, runs, SEED, &mut quiet)?;
     let counts = counts_text(alloc, found.plain, &found.kinds)?;
     ensure!(
@@ -141,7 +152,7 @@ pub fn write_shake<W: Write>(
     );
     out.write_all(&counts)?;
     for written in &found.files {
-        write_found(out, alloc, image, schedule, runs, &found.kinds, written)?;
+        write_found(out, alloc, image, schedule, plan, &found.kinds, written)?;
     }
     Ok(())
 }
