@@ -13,7 +13,7 @@ use hm_shake_runs::Kind;
 use std::process::ExitCode;
 use top::helium_shake;
 
-/// So many times or more it is told how many runs are done, and at each of so many tries to make a schedule shorter.
+/// How many parts of the runs are told of, where there are so many; and of so many tries to make a schedule shorter the first is told.
 const HUNDRED: u32 = 100;
 
 /// Tells on standard error how far a shake is.
