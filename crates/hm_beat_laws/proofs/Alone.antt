@@ -22,10 +22,11 @@ use Rattle.hm_beat.proofs.Chained.{Off, off-append, put_other}
 use Rattle.hm_beat.proofs.Whole.{put_all-append}
 use Rattle.hm_forms.specs.declared.form.Form.{Form}
 use Rattle.hm_forms.specs.declared.form.Form.TheVariants as form
-use Rattle.hm_forms.specs.Forms.{offset_after, offsets_from}
-use Rattle.hm_forms.specs.Registers.{operand_register, round_at, saturating, wide_result}
-use Rattle.hm_forms.specs.Predicates.{half_writes, mask_after, predicate_whole}
-use Rattle.hm_forms.specs.Wholes.{block_whole, form_whole}
+use Rattle.hm_forms_elements.specs.Forms.{offset_after, offsets_from}
+use Rattle.hm_forms_elements.specs.Registers.{operand_register, round_at, saturating, wide_result}
+use Rattle.hm_forms_predicate.specs.Predicates.{half_writes, mask_after, predicate_whole}
+use Rattle.hm_forms_predicate.specs.Blocks.{block_whole}
+use Rattle.hm_forms.specs.Wholes.{form_whole}
 use Rattle.hm_rows.specs.Rows.{Registers}
 use Rattle.hm_beat_laws.specs.Exceptions.{chooses_by_predicate, from_beat, gives_registers, is_predicate, with_predicate}
 use Rattle.hm_beat_laws.specs.Parts.{alone_writes, belongs, form_part, only, part_of}

@@ -4,8 +4,8 @@ use Rattle.std.proofs.Common.{bit_or, bit_xor}
 use Rattle.std.specs.Prelude.{Ok}
 use Rattle.hm_beat.specs.Rows.{predicate_at, register_at}
 use Rattle.hm_codes.specs.Listing.{Listing}
-use Rattle.hm_forms.specs.declared.lanes.Lanes.{Lanes}
-use Rattle.hm_forms.specs.Registers.{lanes_result, lanes_saturated, lanes_whole}
+use Rattle.hm_forms_elements.specs.declared.lanes.Lanes.{Lanes}
+use Rattle.hm_forms_elements.specs.Registers.{lanes_result, lanes_saturated, lanes_whole}
 use Rattle.hm_isa.specs.declared.Instr.{Instr}
 use Rattle.hm_isa.specs.declared.Instr.TheVariants as instr
 use Rattle.hm_isa.specs.declared.Vector.TheVariants as vector

@@ -1,0 +1,4 @@
+pub mod Added
+pub mod Totals
+pub mod LongTotals
+pub mod Bests

@@ -1,0 +1,41 @@
+-- What sums and extremes do to core registers, over the elements of whole registers in rising order.
+use Rattle.std.specs.Prelude.{◌+◌, ◌*◌, ◌/◌, ◌%◌, ◌^◌, cond, List, [], ◌∷◌, map, nat_eq}
+use Rattle.hm_base.specs.declared.Place.TheVariants.{R}
+use Rattle.hm_isa.specs.declared.vectors.V23.{V23}
+use Rattle.hm_lane.specs.declared.lanes.Size.TheVariants.{Word}
+use Rattle.hm_lane.specs.Lanes.{firsts, modulus}
+use Rattle.hm_regs.specs.Writes.{write}
+use Rattle.hm_state.specs.State.{Cell, State, Value, at, into}
+use Rattle.hm_beat.specs.Rows.{predicate_at}
+use Rattle.hm_lane_fns.specs.LaneFns.{cut, lane_value}
+use Rattle.hm_lane_fns.specs.Words.{size_of}
+use Rattle.hm_forms_elements.specs.Registers.{elements}
+use Rattle.hm_forms_across.specs.declared.long_sums.LongSums.{LongSums}
+use Rattle.hm_forms_across.specs.declared.sums.Sums.{Sums}
+use Rattle.hm_forms_across.specs.Forms.{added, best, long_term, term_of}
+
+-- the elements of a register, or the products of those of two, are added to a register one after another
+abbrev pub sum_writes : Sums → State → List (Cell × Value)
+sum_writes r s =
+    let place = R (2 * r.l.value) in
+    let start = cond r.goes_on (at place s) 0 in
+    let sum = added (2 ^ 32) (term_of r) (firsts r.z (predicate_at s)) (elements r.z r.n.value s) (elements r.z r.m.value s) start in
+    into (write place sum) ∷ []
+
+-- the same in two registers
+abbrev pub long_writes : LongSums → State → List (Cell × Value)
+long_writes r s =
+    let low = R (2 * r.l.value) in
+    let high = R (2 * r.h.value + 1) in
+    let start = cond r.goes_on (at low s + 2 ^ 32 * at high s) 0 in
+    let sum = added (2 ^ 64) (long_term r) (firsts r.z (predicate_at s)) (elements r.z r.n.value s) (elements r.z r.m.value s) start in
+    into (write low (sum % 2 ^ 32)) ∷ into (write high (sum / 2 ^ 32)) ∷ []
+
+-- the best of a register's old value and of the elements of a vector register
+abbrev pub extreme_writes : V23 → State → List (Cell × Value)
+extreme_writes r s =
+    let z = size_of r.z.value in
+    let u = nat_eq r.u.value 1 in
+    let place = R r.t.value in
+    let extreme = best r.name (firsts z (predicate_at s)) (map (lane_value u z) (elements z r.m.value s)) (lane_value u z (at place s % modulus z)) in
+    into (write place (cut Word extreme)) ∷ []

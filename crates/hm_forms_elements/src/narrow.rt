@@ -1,0 +1,165 @@
+//! `vmovn`, `vqmovn` and `vqmovun`.
+
+ghost use Rattle.std.specs.Prelude.{◌≡◌, ℕ, ◌<◌, List, [], Ok, Bool};
+ghost use Rattle.hm_mem.specs.Memory.{Memory};
+ghost use Rattle.hm_state.specs.State.{state_of};
+ghost use Rattle.hm_beat.specs.Laws.{run};
+ghost use Rattle.hm_beat.specs.Touches.{reads_in, writes_in};
+ghost use Rattle.hm_kinds.specs.Row.{row_tree};
+ghost use Rattle.hm_lane.specs.Lanes.{bytes_of, modulus, word_of};
+ghost use Rattle.hm_forms_elements.specs.Forms.{gives_unsigned, narrow_bytes, narrow_outside, narrow_row, narrow_saturates, narrow_tests, narrowed};
+ghost use Rattle.hm_forms_elements.specs.Forms.{takes_unsigned};
+
+use hm_base::{Places, note};
+use hm_beat::Touch;
+use hm_isa::{NarrowName, V16};
+use hm_kinds::{Shape, Written, active, finish_row, read, touch_row};
+use hm_lane::{Size, bytes, word};
+use hm_lane_fns::{any_both, clamped, cut, is_outside, lane_value, merge, word_at};
+use hm_regs::Regs;
+
+/// Whether the operation saturates.
+fn saturates(f: NarrowName) -> bool
+    ensures { result ≡ narrow_saturates f }
+{
+    match f {
+        NarrowName::Plain => false,
+        _ => true,
+    }
+}
+
+/// Whether it takes elements without a sign.
+fn takes_unsigned(f: NarrowName) -> bool
+    ensures { result ≡ takes_unsigned f }
+{
+    match f {
+        NarrowName::Unsigned => true,
+        _ => false,
+    }
+}
+
+/// Whether it gives elements without a sign.
+fn gives_unsigned(f: NarrowName) -> bool
+    ensures { result ≡ gives_unsigned f }
+{
+    match f {
+        NarrowName::Unsigned | NarrowName::ToUnsigned => true,
+        _ => false,
+    }
+}
+
+/// The narrow element of a wide one.
+fn narrowed(f: NarrowName, wide: Size, small: Size, x: u32) -> u32
+    requires { x < modulus wide }
+    ensures value { result ≡ narrowed f wide small x }
+    ensures below { result < modulus small }
+{
+    let v = lane_value(takes_unsigned(f), wide, x);
+    if saturates(f) {
+        cut(small, clamped(gives_unsigned(f), small, v))
+    } else {
+        cut(small, v)
+    }
+}
+
+/// Whether it saturates.
+fn outside(f: NarrowName, wide: Size, small: Size, x: u32) -> bool
+    requires { x < modulus wide }
+    ensures { result ≡ narrow_outside f wide small x }
+{
+    is_outside(
+        gives_unsigned(f),
+        small,
+        lane_value(takes_unsigned(f), wide, x),
+    )
+}
+
+/// Narrow elements in the lower or the upper part of the wide ones' places.
+fn narrow_word(wide: bool, top: bool, f: NarrowName, old: u32, x: u32) -> u32
+    ensures { result ≡ word_of (narrow_bytes wide top f (bytes_of old) (bytes_of x)) }
+{
+    let [a, b, c, d] = bytes(old);
+    if wide {
+        let n = narrowed(f, Size::Word, Size::Half, x);
+        let low = (n % 256) as u8;
+        let high = (n >> 8) as u8;
+        if top {
+            word([a, b, low, high])
+        } else {
+            word([low, high, c, d])
+        }
+    } else {
+        let low = narrowed(f, Size::Half, Size::Byte, x % 65536) as u8;
+        let high = narrowed(f, Size::Half, Size::Byte, x >> 16) as u8;
+        if top {
+            word([a, low, c, high])
+        } else {
+            word([low, b, high, d])
+        }
+    }
+}
+
+/// Where they saturate.
+fn narrow_tests(wide: bool, top: bool, f: NarrowName, x: u32) -> [bool; 4]
+    ensures { result ≡ narrow_tests wide top f (bytes_of x) }
+{
+    if wide {
+        let n = outside(f, Size::Word, Size::Half, x);
+        if top {
+            [false, false, n, false]
+        } else {
+            [n, false, false, false]
+        }
+    } else {
+        let low = outside(f, Size::Half, Size::Byte, x % 65536);
+        let high = outside(f, Size::Half, Size::Byte, x >> 16);
+        if top {
+            [false, low, false, high]
+        } else {
+            [low, false, high, false]
+        }
+    }
+}
+
+/// What beat `b` of `vmovn`, `vqmovn` or `vqmovun` touches: DDI0553, "VMOVN", "VQMOVN" and "VQMOVUN". `b` is below 4.
+pub fn touch_narrow(row: &V16, b: u8, r: &Regs) -> Touch
+    requires { b < 4 }
+    ensures reads { (m : Memory) (output : List ℕ) → result.reads ≡ reads_in (row_tree (narrow_row row.now) b) r.now m output }
+    ensures writes { (m : Memory) (output : List ℕ) → result.writes ≡ writes_in (row_tree (narrow_row row.now) b) r.now m output }
+    ensures loads { result.loads.items ≡ [] }
+    ensures stores { result.stores.items ≡ [] }
+{
+    let word = word_at(&row.d, b);
+    let mut sources = Places::new();
+    note(&mut sources, word_at(&row.m, b));
+    note(&mut sources, word);
+    let shape = Shape {
+        reads_slice: false,
+        slice: false,
+        mask: false,
+        marks: saturates(row.name),
+    };
+    touch_row(sources, Some(word), None, shape, b, r)
+}
+
+/// Does beat `b` of `vmovn`, `vqmovn` or `vqmovun`: DDI0553, "VMOVN", "VQMOVN" and "VQMOVUN". `b` is below 4.
+pub fn beat_narrow(row: &V16, b: u8, r: &mut Regs)
+    requires { b < 4 }
+    ensures done { (m : Memory) (output : List ℕ) → run (row_tree (narrow_row row.now) b) r.old m output ≡ Ok (state_of r.new m output) }
+    ensures context { r.new.fpca ≡ r.old.fpca }
+{
+    let place = word_at(&row.d, b);
+    let old = read(r, place);
+    let x = read(r, word_at(&row.m, b));
+    let active = active(r, b);
+    let wide = row.z.get() == 1;
+    let top = row.t.get() == 1;
+    let new = narrow_word(wide, top, row.name, old, x);
+    let tests = narrow_tests(wide, top, row.name, x);
+    let marks = saturates(row.name) && any_both(active, tests);
+    let written = Written {
+        place,
+        value: merge(active, old, new),
+    };
+    finish_row(r, Some(written), None, None, None, marks, b);
+}

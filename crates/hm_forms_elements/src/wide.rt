@@ -1,0 +1,183 @@
+//! `vmull`.
+
+ghost use Rattle.std.specs.Prelude.{◌≡◌, ℕ, ◌*◌, ◌%◌, ◌^◌, ◌-◌, ◌<◌, List, [], Ok, cond, true, eqb, ◌/◌};
+ghost use Rattle.hm_base.specs.Place.{IsPlace};
+ghost use Rattle.hm_mem.specs.Memory.{Memory};
+ghost use Rattle.hm_state.specs.State.{state_of};
+ghost use Rattle.hm_beat.specs.Laws.{run};
+ghost use Rattle.hm_beat.specs.Touches.{reads_in, writes_in};
+ghost use Rattle.hm_beat.specs.Rows.{word_place};
+ghost use Rattle.hm_lane.specs.declared.lanes.Size.TheVariants as size;
+ghost use Rattle.hm_lane.specs.Lanes.{modulus};
+ghost use Rattle.hm_kinds.specs.Row.{is_body, row_tree};
+ghost use Rattle.hm_lane_fns.specs.Words.{size_of};
+ghost use Rattle.hm_forms_elements.specs.Forms.{extended_long, product, products, wide_at, wide_row, wide_word};
+ghost use Rattle.hm_lane_fns.specs.LaneFns.{half};
+
+use hm_base::{Place, Places, note};
+use hm_beat::Touch;
+use hm_isa::{QRegister, V6};
+use hm_kinds::{Shape, Written, active, finish_row, read, touch_row};
+use hm_lane::{Size, bytes};
+use hm_lane_fns::{merge, size, word_at};
+use hm_regs::Regs;
+
+/// Half as many numbers as a lane holds.
+pub fn half(z: Size) -> u32
+    ensures { result ≡ half z }
+{
+    match z {
+        Size::Byte => 1 << 7,
+        Size::Half => 1 << 15,
+        Size::Word => 1 << 31,
+    }
+}
+
+/// Ones above a lane.
+fn above(z: Size) -> u64
+    ensures { result ≡ 2 ^ 64 - modulus z }
+{
+    match z {
+        Size::Byte => 0xffff_ffff_ffff_ff00,
+        Size::Half => 0xffff_ffff_ffff_0000,
+        Size::Word => 0xffff_ffff_0000_0000,
+    }
+}
+
+/// A lane extended to 64 bits.
+pub fn extended_long(unsigned: bool, z: Size, x: u32) -> u64
+    requires { x < modulus z }
+    ensures { result ≡ extended_long unsigned z x }
+{
+    if unsigned || x < half(z) {
+        x as u64
+    } else {
+        x as u64 + above(z)
+    }
+}
+
+/// The product of two lanes.
+fn product(row: &V6, x: u32, y: u32) -> u64
+    requires first { x < modulus (size_of row.now.z.value) }
+    requires second { y < modulus (size_of row.now.z.value) }
+    ensures { result ≡ product row.now x y }
+{
+    let z = size(&row.z);
+    let unsigned = row.u.get() == 1;
+    extended_long(unsigned, z, x).wrapping_mul(extended_long(unsigned, z, y))
+}
+
+/// One of two.
+pub fn picked(odd: bool, x: u32, y: u32) -> u32
+    ensures { result ≡ cond odd y x }
+{
+    if odd { y } else { x }
+}
+
+/// Products of bytes.
+fn byte_products(row: &V6, x: u32, y: u32) -> u32
+    requires { size_of row.now.z.value ≡ size.Byte }
+    ensures { result ≡ products row.now size.Byte size.Half x y }
+{
+    let odd = row.t.get() == 1;
+    let [x0, x1, x2, x3] = bytes(x);
+    let [y0, y1, y2, y3] = bytes(y);
+    let low = product(
+        row,
+        picked(odd, x0 as u32, x1 as u32),
+        picked(odd, y0 as u32, y1 as u32),
+    ) % 65536;
+    let high = product(
+        row,
+        picked(odd, x2 as u32, x3 as u32),
+        picked(odd, y2 as u32, y3 as u32),
+    ) % 65536;
+    low as u32 + ((high as u32) << 16)
+}
+
+/// The product of halves.
+fn half_products(row: &V6, x: u32, y: u32) -> u32
+    requires { size_of row.now.z.value ≡ size.Half }
+    ensures { result ≡ products row.now size.Half size.Word x y }
+{
+    let odd = row.t.get() == 1;
+    let a = picked(odd, x % 65536, x >> 16);
+    let b = picked(odd, y % 65536, y >> 16);
+    (product(row, a, b) % 0x1_0000_0000) as u32
+}
+
+/// The low or the high word of a product.
+fn part(b: u8, p: u64) -> u32
+    ensures { result ≡ cond (eqb (b % 2) 0) (p % 2 ^ 32) (p / 2 ^ 32) }
+{
+    if b % 2 == 0 {
+        (p % 0x1_0000_0000) as u32
+    } else {
+        (p >> 32) as u32
+    }
+}
+
+/// The new word of beat `b`.
+fn wide_word(row: &V6, b: u8, x: u32, y: u32) -> u32
+    ensures { result ≡ wide_word row.now (size_of row.now.z.value) b x y }
+{
+    match size(&row.z) {
+        Size::Byte => byte_products(row, x, y),
+        Size::Half => half_products(row, x, y),
+        Size::Word => part(b, product(row, x, y)),
+    }
+}
+
+/// The word of a register that the elements of beat `b` stand in; `b` is below 4.
+fn source(row: &V6, q: &QRegister, b: u8) -> Place
+    requires { b < 4 }
+    ensures value { result ≡ word_place q.now.value (wide_at row.now b) }
+    ensures placed { IsPlace result }
+    ensures body { is_body result ≡ true }
+{
+    if row.z.get() == 2 {
+        word_at(q, 2 * (b / 2) + row.t.get() as u8)
+    } else {
+        word_at(q, b)
+    }
+}
+
+/// What beat `b` of `vmullb` or `vmullt` touches: DDI0553, "VMULL (integer)". `b` is below 4.
+pub fn touch_wide(row: &V6, b: u8, r: &Regs) -> Touch
+    requires { b < 4 }
+    ensures reads { (m : Memory) (output : List ℕ) → result.reads ≡ reads_in (row_tree (wide_row row.now) b) r.now m output }
+    ensures writes { (m : Memory) (output : List ℕ) → result.writes ≡ writes_in (row_tree (wide_row row.now) b) r.now m output }
+    ensures loads { result.loads.items ≡ [] }
+    ensures stores { result.stores.items ≡ [] }
+{
+    let word = word_at(&row.d, b);
+    let mut sources = Places::new();
+    note(&mut sources, source(row, &row.m, b));
+    note(&mut sources, source(row, &row.n, b));
+    note(&mut sources, word);
+    let shape = Shape {
+        reads_slice: false,
+        slice: false,
+        mask: false,
+        marks: false,
+    };
+    touch_row(sources, Some(word), None, shape, b, r)
+}
+
+/// Does beat `b` of `vmullb` or `vmullt`: DDI0553, "VMULL (integer)". `b` is below 4.
+pub fn beat_wide(row: &V6, b: u8, r: &mut Regs)
+    requires { b < 4 }
+    ensures done { (m : Memory) (output : List ℕ) → run (row_tree (wide_row row.now) b) r.old m output ≡ Ok (state_of r.new m output) }
+    ensures context { r.new.fpca ≡ r.old.fpca }
+{
+    let place = word_at(&row.d, b);
+    let old = read(r, place);
+    let x = read(r, source(row, &row.n, b));
+    let y = read(r, source(row, &row.m, b));
+    let new = wide_word(row, b, x, y);
+    let written = Written {
+        place,
+        value: merge(active(r, b), old, new),
+    };
+    finish_row(r, Some(written), None, None, None, false, b);
+}

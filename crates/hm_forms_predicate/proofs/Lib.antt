@@ -1,0 +1,2 @@
+pub mod Predicates
+pub mod Blocks
