@@ -67,8 +67,7 @@ pub fn beat_lanes(l: &Lanes, b: u8, r: &mut Regs)
     let y = operand_word(l.z, &l.by, b, r);
     let active = active(r, b);
     let new = lanes_word(l.f, l.unsigned, l.z, old, x, y);
-    let tests = lanes_saturate(l.f, l.unsigned, l.z, old, x, y);
-    let marks = saturates(l.f) && any_both(active, tests);
+    let marks = saturates(l.f) && any_both(active, lanes_saturate(l.f, l.unsigned, l.z, old, x, y));
     let written = Written {
         place: word,
         value: merge(active, old, new),
