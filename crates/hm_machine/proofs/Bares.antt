@@ -6,6 +6,8 @@ use Rattle.std.specs.Option.{is_some}
 use Rattle.hm_base.specs.Image.{Segment, flash_byte}
 use Rattle.hm_codes.proofs.Exists.{exists}
 use Rattle.hm_codes.specs.Listing.{Listing, IsListing}
+use Rattle.hm_cpu.specs.Cpus.{interrupted_of, nested_of, IsSoundUnder}
+use Rattle.hm_cpu.specs.declared.cpu.Cpu.{Cpu}
 use Rattle.hm_exc.specs.declared.types.Activation.{Activation}
 use Rattle.hm_handlers.proofs.Quiet.{run_quiet}
 use Rattle.hm_handlers.proofs.Soundness.{start_sound}
@@ -17,9 +19,7 @@ use Rattle.hm_machine.specs.Bares.{IsBare, ShowsGiven}
 use Rattle.hm_machine.proofs.Cursors.{none_left}
 use Rattle.hm_machine.specs.Machines.{GoesOn, StandsIn, left_at, left_in}
 use Rattle.hm_machine.specs.declared.cursor.Cursor.{Cursor}
-use Rattle.hm_machine.specs.Shown.{Shown, Shows, interrupted_of, run_of, run_with, timed_of}
-use Rattle.hm_machine.specs.Cpus.{IsSoundUnder, nested_of}
-use Rattle.hm_machine.specs.declared.cpu.Cpu.{Cpu}
+use Rattle.hm_machine.specs.Shown.{Shown, Shows, run_of, run_with, timed_of}
 use Rattle.hm_mem.specs.Memory.{flash_at, memory_of, thread_under}
 use Rattle.hm_state.specs.Start.{first_bounds}
 use Rattle.hm_state.specs.State.{state_of}

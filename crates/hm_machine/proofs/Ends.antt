@@ -2,6 +2,9 @@
 use Rattle.std.proofs.Common.{◌≡◌, ℕ, ◌<◌, arith, ap, refl, sym, ◌∙◌, subst, Bool, true, false, cond, List, [], ◌∷◌, length, map, Option, Some, None, Result}
 use Rattle.std.proofs.Common.{Ok, Err}
 use Rattle.std.specs.Prelude.{if◌then◌else◌}
+use Rattle.hm_cpu.proofs.Nestings.{same_acts}
+use Rattle.hm_cpu.specs.Cpus.{config_of, interrupted_of, nested_of, state_in, IsUnder}
+use Rattle.hm_cpu.specs.declared.cpu.Cpu.{Cpu}
 use Rattle.hm_exc.specs.Entry.{Passes, activation, entered_memory, entered_registers, main_after, newest_first, vector_of, window_in}
 use Rattle.hm_exc.specs.declared.types.Activation.{Activation}
 use Rattle.hm_exc.specs.declared.types.EnterErr.{EnterErr}
@@ -9,10 +12,8 @@ use Rattle.hm_handlers.specs.Entries.{entered, least_active, refused}
 use Rattle.hm_handlers.specs.Nested.{Ended, Interrupted, Nested}
 use Rattle.hm_handlers.specs.Runs.{Pointers, Run, after_count, enters, enters_unless, may_enter, picks, pointers_of, stopped_under, stops, tick_end, stacked_of}
 use Rattle.hm_handlers.specs.Sound.{AreUrgent}
-use Rattle.hm_machine.proofs.Nestings.{same_acts}
-use Rattle.hm_machine.specs.Cpus.{Came, IsUnder, config_of, nested_of, state_in}
-use Rattle.hm_machine.specs.Shown.{interrupted_of, run_with}
-use Rattle.hm_machine.specs.declared.cpu.Cpu.{Cpu}
+use Rattle.hm_machine.specs.Ticked.{Came}
+use Rattle.hm_machine.specs.Shown.{run_with}
 use Rattle.hm_mem.specs.Memory.{Around, Memory, memory_of, thread_under}
 use Rattle.hm_mem.specs.Seen.{seen, with_dev}
 use Rattle.hm_mem.specs.declared.Actor.TheVariants.{Handler}

@@ -1,54 +1,24 @@
--- Steps and letters, one after another.
-use Rattle.std.proofs.Common.{◌≡◌, ℕ, suc, ◌+◌, ◌-◌, ◌<◌, arith, ap, sym, ◌∙◌, ◌==◌, List, drop, length, slice_index, nat_eq, Bool, false, cond, Result, Ok}
-use Rattle.std.proofs.Common.{Err}
-use Rattle.std.proofs.lemmas.Bool.Decides.{nat_tests}
+-- The letters of a tick, one after another.
+use Rattle.std.proofs.Common.{◌≡◌, ℕ, ◌+◌, ◌<◌, ap, sym, ◌∙◌, List, drop, length, slice_index, nat_eq, Result, Ok, Err}
 use Rattle.std.proofs.lemmas.List.{drop_more}
 use Rattle.hm_codes.specs.Listing.{Listing}
-use Rattle.hm_handlers.specs.Nested.{Nested, NestedEnd, NestedStep, TickEnd, at_step, letter, letters, step, steps, to_end}
+use Rattle.hm_handlers.specs.Nested.{Nested, TickEnd, at_step, letter, letters}
 use Rattle.hm_order.specs.Beats.{then}
-use Rattle.hm_order.specs.Turns.{Older, Younger}
-use Rattle.hm_sched.specs.Schedule.{Sched, older_letter, younger_letter}
+use Rattle.hm_sched.specs.Schedule.{Sched, younger_letter}
 
-module _ (listing : Listing) (s : Sched) where
-  -- STEPS: one that does not go on, and one that does
-  module _ (k n : ℕ) (x : Nested) (few : k < n) where
-    step_first : then (step listing s Older x) (steps listing s (n - (k + 1))) ≡ steps listing s (n - k) x
-    step_first = let left : n - k ≡ suc (n - (k + 1)) = omega arith in sym (ap (λ (j : ℕ). steps listing s j x) left)
+module _ (listing : Listing) (s : Sched) (i n : ℕ) (ls : List ℕ) (x : Nested) (few : i < length ls) (number : n ≡ i) where
+  -- what letter i answers
+  abbrev answer : Result Nested TickEnd
+  answer = at_step (n + 1) (nat_eq (slice_index ls i) younger_letter) (letter listing s (slice_index ls i) x)
 
-    pub steps_stop : (e : NestedEnd) → Err e ≡ step listing s Older x → Err e ≡ steps listing s (n - k) x
-    steps_stop e stop = ap (λ (r : NestedStep). then r (steps listing s (n - (k + 1)))) stop ∙ step_first
+  letters_are : letters listing s i (drop i ls) x ≡ then answer (letters listing s (i + 1) (drop (i + 1) ls))
+  letters_are =
+      ap (λ (l : List ℕ). letters listing s i l x) (drop_more ls i 0 few)
+      ∙ (λ j. then (at_step (sym number j + 1) (nat_eq (slice_index ls i) younger_letter) (letter listing s (slice_index ls i) x))
+      (letters listing s (i + 1) (drop (i + 1) ls)))
 
-    pub steps_on : (y : Nested) → Ok y ≡ step listing s Older x → steps listing s (n - (k + 1)) y ≡ steps listing s (n - k) x
-    steps_on y on = ap (λ (r : NestedStep). then r (steps listing s (n - (k + 1)))) on ∙ step_first
+  pub letters_stop : (e : TickEnd) → Err e ≡ answer → Err e ≡ letters listing s i (drop i ls) x
+  letters_stop e stop = ap (λ (r : Result Nested TickEnd). then r (letters listing s (i + 1) (drop (i + 1) ls))) stop ∙ sym letters_are
 
-  -- WHAT A LETTER IS
-  pub letter_older : (l : ℕ) (x : Nested) → l ≡ older_letter → step listing s Older x ≡ letter listing s l x
-  letter_older l x is = sym (ap (λ (k : ℕ). letter listing s k x) is)
-
-  pub letter_younger : (l : ℕ) (x : Nested) → l ≡ younger_letter → step listing s Younger x ≡ letter listing s l x
-  letter_younger l x is = sym (ap (λ (k : ℕ). letter listing s k x) is)
-
-  pub letter_whole : (l : ℕ) (x : Nested) → (l ≡ older_letter → ⊥) → (l ≡ younger_letter → ⊥) → to_end listing s x ≡ letter listing s l x
-  letter_whole l x one other =
-      let first : (l == older_letter) ≡ false = grind (arith, nat_tests, one) in
-      let second : (l == younger_letter) ≡ false = grind (arith, nat_tests, other) in
-      sym (ap (λ (b : Bool). cond b (step listing s Older x) (cond (l == younger_letter) (step listing s Younger x) (to_end listing s x))) first
-      ∙ ap (λ (b : Bool). cond b (step listing s Younger x) (to_end listing s x)) second)
-
-  -- LETTERS
-  module _ (i n : ℕ) (ls : List ℕ) (x : Nested) (few : i < length ls) (number : n ≡ i) where
-    -- what letter i answers
-    abbrev answer : Result Nested TickEnd
-    answer = at_step (n + 1) (nat_eq (slice_index ls i) younger_letter) (letter listing s (slice_index ls i) x)
-
-    letters_are : letters listing s i (drop i ls) x ≡ then answer (letters listing s (i + 1) (drop (i + 1) ls))
-    letters_are =
-        ap (λ (l : List ℕ). letters listing s i l x) (drop_more ls i 0 few)
-        ∙ (λ j. then (at_step (sym number j + 1) (nat_eq (slice_index ls i) younger_letter) (letter listing s (slice_index ls i) x))
-        (letters listing s (i + 1) (drop (i + 1) ls)))
-
-    pub letters_stop : (e : TickEnd) → Err e ≡ answer → Err e ≡ letters listing s i (drop i ls) x
-    letters_stop e stop = ap (λ (r : Result Nested TickEnd). then r (letters listing s (i + 1) (drop (i + 1) ls))) stop ∙ sym letters_are
-
-    pub letters_on : (y : Nested) → Ok y ≡ answer → letters listing s (i + 1) (drop (i + 1) ls) y ≡ letters listing s i (drop i ls) x
-    letters_on y on = ap (λ (r : Result Nested TickEnd). then r (letters listing s (i + 1) (drop (i + 1) ls))) on ∙ sym letters_are
+  pub letters_on : (y : Nested) → Ok y ≡ answer → letters listing s (i + 1) (drop (i + 1) ls) y ≡ letters listing s i (drop i ls) x
+  letters_on y on = ap (λ (r : Result Nested TickEnd). then r (letters listing s (i + 1) (drop (i + 1) ls))) on ∙ sym letters_are

@@ -1,11 +1,12 @@
 -- A machine at the start.
+use Rattle.hm_cpu.specs.Cpus.{interrupted_of}
 use Rattle.hm_run.specs.Timed.{bounds_of}
 use Rattle.std.proofs.Common.{◌≡◌, ℕ, zero, suc, ◌+◌, ◌-◌, ◌%◌, ◌<◌, ◌≤◌, arith, ap, refl, sym, ◌∙◌, subst, List, [], ◌∷◌, drop, length, map, Option, Some}
 use Rattle.std.proofs.Common.{None, All, false}
 use Rattle.hm_base.specs.Image.{Segment, first_byte, flash_byte, word_at}
 use Rattle.hm_machine.proofs.Cursors.{begins, left_new}
 use Rattle.hm_machine.specs.Machines.{left_in, left_while, HasTick}
-use Rattle.hm_machine.specs.Shown.{Shows, interrupted_of, run_with}
+use Rattle.hm_machine.specs.Shown.{Shows, run_with}
 use Rattle.hm_mem.specs.Memory.{Memory, byte_at, flash_at, tainted_at, first_devices, thread_under}
 use Rattle.hm_order.specs.Machine.{at_start}
 use Rattle.hm_regs.specs.declared.Regs.{Regs}

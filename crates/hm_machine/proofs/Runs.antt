@@ -8,7 +8,7 @@ use Rattle.hm_handlers.specs.Nested.{Nested}
 use Rattle.hm_handlers.proofs.Soundness.{next_sound}
 use Rattle.hm_handlers.specs.Sound.{IsSound}
 use Rattle.hm_handlers.specs.Runs.{Pointers, Run, begin, closed, next, run, run_out, tick_of}
-use Rattle.hm_machine.specs.Cpus.{Came, entered_in}
+use Rattle.hm_machine.specs.Ticked.{entered_in, Came}
 use Rattle.hm_machine.specs.Shown.{run_with}
 use Rattle.hm_plain.specs.Ends.{HasEnded}
 use Rattle.hm_run.specs.declared.Outcome.{Outcome}

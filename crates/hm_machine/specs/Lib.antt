@@ -1,13 +1,10 @@
-pub mod Cpus
+pub mod Ticked
 pub mod Shown
 pub mod Machines
 pub mod Turns
-pub mod Services
 pub mod Checkpoints
 pub mod Taped
 pub mod Tapes
 pub mod TapeLending
 pub mod Bares
-pub mod Trials
 pub mod Starts
-pub mod Halves

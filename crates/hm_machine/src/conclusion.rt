@@ -1,28 +1,29 @@
 //! How a run ends by a tick whose letters do not all go on.
 
-ghost use Rattle.std.specs.Prelude.{◌≡◌, ℕ, ◌+◌, ◌%◌, ◌^◌, ◌<◌, ◌≤◌, nat_eq, true, if◌then◌else◌, List, length, map, None, Some, OnOk};
-ghost use Rattle.std.specs.Vec.{vec_capacity};
-ghost use Rattle.hm_codes.specs.Listing.{Listing, IsListing};
-ghost use Rattle.hm_handlers.specs.Entries.{refused, running_priority};
-ghost use Rattle.hm_handlers.specs.Nested.{Ended, at_step, letter, letters};
-ghost use Rattle.hm_handlers.specs.Runs.{Pointers, ended, enters, picks as picks_of, stopped_under, stops, tick_end, stacked_of};
-ghost use Rattle.hm_machine.specs.Cpus.{config_of, step_ended, nested_of, picks, ticked, early_ended, CountsNone, CountsOne, IsPosition, IsSoundUnderSome};
-ghost use Rattle.hm_machine.specs.Cpus.{IsSoundUnder, KeepsFlash, Stays};
+ghost use Rattle.std.specs.Prelude.{◌≡◌, ℕ, ◌+◌, ◌%◌, ◌^◌, ◌<◌, if◌then◌else◌, List, map, Some};
+ghost use Rattle.hm_cpu.specs.Cpus.{config_of, nested_of, step_ended, CountsOne};
+ghost use Rattle.hm_handlers.specs.Nested.{Ended};
+ghost use Rattle.hm_handlers.specs.Runs.{Pointers, stopped_under, stops, stacked_of};
+ghost use Rattle.hm_machine.specs.Ticked.{early_ended, Stays};
 ghost use Rattle.hm_machine.specs.Shown.{run_with};
-ghost use Rattle.hm_mem.specs.Memory.{memory_of, flash_at};
-ghost use Rattle.hm_mem.specs.Seen.{with_dev};
 ghost use Rattle.hm_order.specs.Machine.{Config, Stopped};
-ghost use Rattle.hm_run.specs.Program.{most_output};
 ghost use Rattle.hm_exc.specs.declared.types.Activation.{Activation};
-ghost use Rattle.hm_run.specs.Timed.{counted_with, outcome_of, outcome_of_stop, retired_by, who_runs};
-ghost use Rattle.hm_sched.specs.Schedule.{Sched, TickLine, younger_letter};
+ghost use Rattle.hm_run.specs.Timed.{outcome_of, outcome_of_stop, retired_by, who_runs};
 ghost use Rattle.hm_state.specs.State.{State};
-ghost use Rattle.hm_window.specs.Positions.{may_end};
 
-use crate::cpu::Cpu;
-use crate::step_ends::{EarlyEnd, LetterEnd, StepEnd};
 use hm_base::Stop;
+use hm_cpu::{Cpu, LetterEnd, StepEnd};
 use hm_run::{Cause, Offence, Outcome, Who};
+
+/// Why the letters of a tick do not all go on.
+#[derive(Clone, Copy)]
+pub struct EarlyEnd {
+    /// In which step of the tick.
+    pub step: u32,
+    /// Whether that was the younger's.
+    pub younger: bool,
+    pub end: LetterEnd,
+}
 
 /// The outcome of a stop that is no halt, of the instruction at `pc` of what runs.
 fn stop_outcome(tick: u32, stop: Stop, who: Who, pc: u32, n: u64) -> Outcome

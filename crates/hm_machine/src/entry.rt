@@ -1,25 +1,17 @@
 //! Exceptions that enter at the end of a tick.
 
-ghost use Rattle.std.specs.Prelude.{◌≡◌, ℕ, ◌+◌, ◌%◌, ◌^◌, ◌<◌, ◌≤◌, nat_eq, true, if◌then◌else◌, List, length, map, None, Some, OnOk};
-ghost use Rattle.std.specs.Vec.{vec_capacity};
-ghost use Rattle.hm_codes.specs.Listing.{Listing, IsListing};
+ghost use Rattle.std.specs.Prelude.{◌≡◌, ◌<◌, true, List, None, Some, OnOk};
+ghost use Rattle.hm_cpu.specs.Cpus.{config_of, nested_of, CountsNone, IsPosition, IsSoundUnder, IsSoundUnderSome, KeepsFlash};
 ghost use Rattle.hm_handlers.specs.Entries.{least_active, mask_of, refused, running_priority};
-ghost use Rattle.hm_handlers.specs.Nested.{Ended, at_step, letter, letters};
-ghost use Rattle.hm_handlers.specs.Runs.{Pointers, ended, enters, picks as picks_of, stopped_under, stops, tick_end, stacked_of};
-ghost use Rattle.hm_machine.specs.Cpus.{config_of, step_ended, nested_of, picks, ticked, early_ended, Came, CountsNone, CountsOne, IsPosition};
-ghost use Rattle.hm_machine.specs.Cpus.{IsSoundUnderSome, IsSoundUnder, KeepsFlash, Stays};
+ghost use Rattle.hm_handlers.specs.Runs.{Pointers, enters, picks as picks_of};
+ghost use Rattle.hm_machine.specs.Ticked.{picks, Came};
 ghost use Rattle.hm_machine.specs.Shown.{run_with};
-ghost use Rattle.hm_mem.specs.Memory.{memory_of, flash_at};
-ghost use Rattle.hm_mem.specs.Seen.{with_dev};
-ghost use Rattle.hm_order.specs.Machine.{Config, Stopped};
-ghost use Rattle.hm_run.specs.Program.{most_output};
-ghost use Rattle.hm_run.specs.Timed.{counted_with, outcome_of, outcome_of_stop, retired_by, who_runs};
-ghost use Rattle.hm_sched.specs.Schedule.{Sched, TickLine, younger_letter};
-ghost use Rattle.hm_state.specs.State.{State};
+ghost use Rattle.hm_mem.specs.Memory.{memory_of};
+ghost use Rattle.hm_sched.specs.Schedule.{Sched};
 ghost use Rattle.hm_window.specs.Positions.{may_end};
 
-use crate::cpu::Cpu;
 use hm_base::{Fault, FaultKind};
+use hm_cpu::Cpu;
 use hm_exc::{EnterErr, enter, newest};
 use hm_regs::Regs;
 use hm_run::{Outcome, Who};

@@ -3,22 +3,15 @@
 
 mod checkpoint;
 mod conclusion;
-mod cpu;
 mod cursor;
 mod entry;
 mod load;
 mod machine;
 mod memory_text;
-mod ready;
-mod recent;
 mod reel;
-mod running;
-mod service;
 mod start;
-mod step_ends;
 mod tape;
 mod tick;
-mod younger;
 
 pub use hm_exc::{Broken, Slot};
 pub use hm_run::{Offence, Outcome, Reason, Turn, Who};

@@ -1,28 +1,22 @@
 //! What a tick does: its letters, and what comes at its end.
 
-ghost use Rattle.std.specs.Prelude.{◌≡◌, ℕ, ◌+◌, ◌%◌, ◌^◌, ◌<◌, ◌≤◌, nat_eq, true, if◌then◌else◌, List, length, map, None, Some, OnOk};
+ghost use Rattle.std.specs.Prelude.{◌≡◌, ℕ, ◌+◌, ◌^◌, ◌<◌, ◌≤◌, nat_eq, List, length, None, OnOk};
 ghost use Rattle.std.specs.Vec.{vec_capacity};
 ghost use Rattle.hm_codes.specs.Listing.{Listing, IsListing};
-ghost use Rattle.hm_handlers.specs.Entries.{refused, running_priority};
-ghost use Rattle.hm_handlers.specs.Nested.{Ended, at_step, letter, letters};
-ghost use Rattle.hm_handlers.specs.Runs.{Pointers, ended, enters, picks as picks_of, stopped_under, stops, tick_end, stacked_of};
-ghost use Rattle.hm_machine.specs.Cpus.{config_of, step_ended, nested_of, picks, ticked, early_ended, Came, CountsNone, CountsOne, IsPosition};
-ghost use Rattle.hm_machine.specs.Cpus.{IsSoundUnderSome, IsSoundUnder, KeepsFlash, Stays};
+ghost use Rattle.hm_cpu.specs.Cpus.{nested_of, CountsNone, IsPosition, IsSoundUnder, IsSoundUnderSome, KeepsFlash};
+ghost use Rattle.hm_handlers.specs.Nested.{at_step, letter, letters};
+ghost use Rattle.hm_handlers.specs.Runs.{Pointers, ended, tick_end};
+ghost use Rattle.hm_machine.specs.Ticked.{ticked, Came};
 ghost use Rattle.hm_machine.specs.Shown.{run_with};
 ghost use Rattle.hm_mem.specs.Memory.{memory_of, flash_at};
 ghost use Rattle.hm_mem.specs.Seen.{with_dev};
-ghost use Rattle.hm_order.specs.Machine.{Config, Stopped};
 ghost use Rattle.hm_run.specs.Program.{most_output};
-ghost use Rattle.hm_run.specs.Timed.{counted_with, outcome_of, outcome_of_stop, retired_by, who_runs};
+ghost use Rattle.hm_run.specs.Timed.{counted_with};
 ghost use Rattle.hm_sched.specs.Schedule.{Sched, TickLine, younger_letter};
-ghost use Rattle.hm_state.specs.State.{State};
-ghost use Rattle.hm_window.specs.Positions.{may_end};
 
-use crate::conclusion::conclude;
-use crate::cpu::Cpu;
+use crate::conclusion::{EarlyEnd, conclude};
 use crate::entry::enter_picked;
-use crate::running::letter;
-use crate::step_ends::EarlyEnd;
+use hm_cpu::{Cpu, letter};
 use hm_mem::{Dev, Mem};
 use hm_run::Outcome;
 use hm_sys::{arrive_all, count};

@@ -1,7 +1,7 @@
 use Rattle.std.proofs.Common.{arith}
+use Rattle.hm_cpu.proofs.Nestings.{how_many, is_none, is_some, none_active}
+use Rattle.hm_cpu.specs.Cpus.{nested_of}
 use Rattle.hm_machine.proofs.Ends.{who_handler, who_thread}
-use Rattle.hm_machine.proofs.Nestings.{how_many, is_none, is_some, none_active}
-use Rattle.hm_machine.specs.Cpus.{nested_of}
 use Rattle.hm_machine.proofs.conclusion.who_runs.Goals as goal
 
 pub returns-then-is_empty : goal.returns-then-is_empty

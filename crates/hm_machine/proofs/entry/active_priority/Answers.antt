@@ -1,9 +1,8 @@
 use Rattle.std.proofs.Common.{map, ap, ◌∙◌}
+use Rattle.hm_cpu.proofs.Nestings.{is_some, newest_there}
+use Rattle.hm_cpu.specs.Cpus.{interrupted_of, nested_of}
 use Rattle.hm_exc.specs.declared.types.Activation.{Activation}
 use Rattle.hm_machine.proofs.Ends.{priority_newest}
-use Rattle.hm_machine.proofs.Nestings.{is_some, newest_there}
-use Rattle.hm_machine.specs.Cpus.{nested_of}
-use Rattle.hm_machine.specs.Shown.{interrupted_of}
 use Rattle.hm_mem.specs.Memory.{memory_of}
 use Rattle.hm_mem.specs.declared.Dev.{Dev}
 use Rattle.hm_state.specs.State.{state_of}

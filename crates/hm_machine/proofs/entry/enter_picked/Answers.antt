@@ -1,6 +1,7 @@
 use Rattle.std.proofs.Common.{◌≡◌, ap, sym, ◌∙◌, Some, None}
+use Rattle.hm_cpu.specs.Cpus.{nested_of}
 use Rattle.hm_machine.proofs.Ends.{picks_none, picks_one}
-use Rattle.hm_machine.specs.Cpus.{nested_of, picks}
+use Rattle.hm_machine.specs.Ticked.{picks}
 use Rattle.hm_mem.specs.Memory.{memory_of}
 use Rattle.hm_mem.specs.declared.Dev.{Dev}
 use Rattle.hm_state.specs.State.{state_of}

@@ -1,9 +1,10 @@
 use Rattle.std.proofs.Common.{◌≡◌, ℕ, ◌+◌, arith, ap, ◌∙◌, Result, Err}
 use Rattle.std.proofs.lemmas.Result.{err_from_is_err_and}
-use Rattle.hm_machine.proofs.Keeping.{listed_still, moves_then}
+use Rattle.hm_cpu.proofs.Keeping.{listed_still, moves_then}
+use Rattle.hm_cpu.specs.Cpus.{nested_of}
 use Rattle.hm_machine.proofs.Letters.{letters_on, letters_stop}
-use Rattle.hm_machine.specs.Cpus.{nested_of, ticked, early_ended}
-use Rattle.hm_machine.specs.declared.step_ends.EarlyEnd.{EarlyEnd}
+use Rattle.hm_machine.specs.Ticked.{early_ended, ticked}
+use Rattle.hm_machine.specs.declared.conclusion.EarlyEnd.{EarlyEnd}
 use Rattle.hm_machine.proofs.tick.letters.Goals as goal
 
 pub letter_at-requires-clause-sound : goal.letter_at-requires-clause-sound

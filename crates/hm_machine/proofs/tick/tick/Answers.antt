@@ -1,8 +1,9 @@
 use Rattle.std.proofs.Common.{◌≡◌, ℕ, List, length, ap, sym, ◌∙◌, subst, None, Result, Ok, Err}
+use Rattle.hm_cpu.specs.Cpus.{nested_of}
 use Rattle.hm_handlers.specs.Nested.{Nested, TickEnd, letters}
 use Rattle.hm_handlers.specs.Runs.{ended, stops, tick_end}
 use Rattle.hm_machine.proofs.Runs.{came_over}
-use Rattle.hm_machine.specs.Cpus.{Came, nested_of, early_ended}
+use Rattle.hm_machine.specs.Ticked.{early_ended, Came}
 use Rattle.hm_machine.specs.Shown.{run_with}
 use Rattle.hm_machine.proofs.tick.tick.Goals as goal
 

@@ -1,14 +1,15 @@
 use Rattle.std.proofs.Common.{◌≡◌, ◌<◌, ◌≤◌, ℕ, suc, arith, ap, refl, sym, ◌∙◌, subst, Bool, true, false, [], ◌∷◌, ◌+◌, None, Some, Result, Ok, Err, List, drop}
 use Rattle.std.proofs.Common.{length, inl}
 use Rattle.hm_codes.proofs.Exists.{exists}
+use Rattle.hm_cpu.proofs.Keeping.{moved_bounds}
+use Rattle.hm_cpu.specs.Cpus.{nested_of}
 use Rattle.hm_machine.proofs.Bares.{stands_there}
 use Rattle.hm_codes.specs.Listing.{Listing}
 use Rattle.hm_handlers.specs.Nested.{Nested}
 use Rattle.hm_handlers.specs.Runs.{Pointers, Run, next, tick_of}
-use Rattle.hm_machine.proofs.Keeping.{moved_bounds}
 use Rattle.hm_machine.proofs.Runs.{comes_counted, comes_ended, comes_on, comes_out, comes_sound}
 use Rattle.hm_machine.proofs.Ticks.{some_left}
-use Rattle.hm_machine.specs.Cpus.{Came, entered_in, nested_of}
+use Rattle.hm_machine.specs.Ticked.{entered_in, Came}
 use Rattle.hm_machine.specs.Machines.{left_at, left_while, machine_view}
 use Rattle.hm_machine.specs.Shown.{Shown, run_of, run_with}
 use Rattle.hm_machine.specs.declared.machine.Machine.TheInside.{Inside}

@@ -1,5 +1,5 @@
 use Rattle.std.proofs.Common.{sym, ◌∙◌}
-use Rattle.hm_machine.proofs.Nestings.{stacked_many}
+use Rattle.hm_cpu.proofs.Nestings.{stacked_many}
 use Rattle.hm_machine.proofs.machine.Machine.depth.Goals as goal
 
 pub returns : goal.returns

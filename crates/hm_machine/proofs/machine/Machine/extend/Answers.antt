@@ -1,17 +1,17 @@
 use Rattle.std.proofs.Common.{◌≡◌, ◌+◌, ◌<◌, arith, ap, inr, refl, sym, ◌∙◌, subst, List, [], ◌∷◌, ◌++◌, ℕ, length, map, Option, None, Some}
 use Rattle.hm_codes.proofs.Exists.{exists}
 use Rattle.hm_codes.specs.Listing.{Listing, IsListing}
+use Rattle.hm_cpu.proofs.Keeping.{moved_bounds, moved_flash}
+use Rattle.hm_cpu.specs.Cpus.{interrupted_of, nested_of, IsSoundUnder}
+use Rattle.hm_cpu.specs.declared.cpu.Cpu.{Cpu}
 use Rattle.hm_exc.specs.Entry.{newest_first}
 use Rattle.hm_handlers.specs.Runs.{Run, run, shown, tick_of}
 use Rattle.hm_handlers.specs.Sound.{IsSound}
 use Rattle.hm_machine.proofs.Bares.{ended_still, given_more, given_on, given_then, no_left, one_of, sound_given, still_none}
-use Rattle.hm_machine.proofs.Keeping.{moved_bounds, moved_flash}
 use Rattle.hm_machine.proofs.Runs.{comes_on, comes_sound}
 use Rattle.hm_machine.specs.Bares.{IsBare}
-use Rattle.hm_machine.specs.Cpus.{IsSoundUnder, nested_of}
 use Rattle.hm_machine.specs.Machines.{left_at, machine_view}
-use Rattle.hm_machine.specs.Shown.{Shown, interrupted_of, run_with, timed_of}
-use Rattle.hm_machine.specs.declared.cpu.Cpu.{Cpu}
+use Rattle.hm_machine.specs.Shown.{Shown, run_with, timed_of}
 use Rattle.hm_machine.specs.declared.machine.Machine.TheInside.{Inside}
 use Rattle.hm_mem.specs.Memory.{flash_at, memory_of}
 use Rattle.hm_plan_laws.specs.Planned.{bare, bare_program}

@@ -1,0 +1,9 @@
+pub mod Services
+pub mod Rows
+pub mod Steps
+pub mod Youngers
+pub mod Halves
+pub mod Keeping
+pub mod Letters
+pub mod Nestings
+pub mod Trials

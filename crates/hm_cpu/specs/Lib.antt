@@ -1,0 +1,4 @@
+pub mod Cpus
+pub mod Services
+pub mod Trials
+pub mod Halves

@@ -1,0 +1,264 @@
+//! Instructions and beats of the older instruction, of the thread and of handlers.
+
+ghost use Rattle.std.specs.Prelude.{◌≡◌, ℕ, ◌+◌, ◌^◌, ◌<◌, not, List, IsSome, IsTrue, OnErr, Ok};
+ghost use Rattle.std.specs.Vec.{vec_capacity};
+ghost use Rattle.hm_codes.specs.Listing.{Listing, IsListing};
+ghost use Rattle.hm_cpu.specs.Cpus.{config_of, state_in, executed, reached, IsPosition, Keeps, CountsOne};
+ghost use Rattle.hm_mem.specs.Memory.{Around, Memory, memory_of, flash_at};
+ghost use Rattle.hm_mem.specs.Seen.{IsSameElsewhere};
+ghost use Rattle.hm_order.specs.Machine.{begin, older, settle};
+ghost use Rattle.hm_regs.specs.Place.{Counted, InRange};
+ghost use Rattle.hm_rows.specs.Context.{with_context};
+ghost use Rattle.hm_run.specs.Program.{core, done_in_machine, most_output, rows, vector_in, vector_of};
+ghost use Rattle.hm_run.specs.Stops.{break_of, scalar_break};
+ghost use Rattle.hm_state.specs.State.{state_of};
+ghost use Rattle.hm_thumb.specs.Families.{is_vector_row};
+ghost use Rattle.hm_thumb.specs.Rows.{made};
+ghost use Rattle.hm_whole.specs.Whole.{executed as executed_by, scalar_in_machine};
+
+use crate::recent::Recent;
+use crate::service::breakpoint;
+use hm_base::Stop;
+use hm_beat::BeatWise;
+use hm_exc::Acts;
+use hm_exec::{any, refuse};
+use hm_isa::{Flow, Instr, Scalar, Vector};
+use hm_lane::context;
+use hm_mem::Mem;
+use hm_regs::Regs;
+use hm_run::Cause;
+use hm_window::Window;
+
+/// What instructions change, and how many were done.
+#[derive(Drop)]
+pub struct Cpu {
+    pub regs: Regs,
+    pub mem: Mem,
+    /// What the program wrote, at most `OUTPUT` bytes.
+    pub output: Vec<u8>,
+    /// The beats done of the older and of the younger instruction in flight (DDI0553, "Beat-wise execution").
+    pub window: Window,
+    /// What handlers interrupted, the newest last.
+    pub acts: Acts,
+    /// The instructions of the thread that were retired.
+    pub retired: u64,
+    /// The steps of an older instruction of the thread, those inside W too.
+    pub older_steps: u64,
+    /// What was decoded of late; no run depends on it.
+    pub recent: Recent,
+}
+
+/// What comes before the next beat of a vector instruction of which some are done: before the first the context is made
+/// where there is none, and then the instruction may be refused.
+fn begin(v: &Vector, done: u8, regs: &mut Regs) -> Result<(), Cause>
+    requires context { 0 < done → IsTrue regs.old.fpca }
+    ensures value { (listing : Listing) (m : Memory) (output : List ℕ)
+        → executed result (state_of regs.new m output) ≡ begin (core listing m.around) v.now done (state_of regs.old m output) }
+    ensures refused { OnErr result ((m : Memory) (output : List ℕ) → (done ≡ 0) × (state_of regs.new m output ≡ with_context (state_of regs.old m output))) }
+    ensures made { (m : Memory) (output : List ℕ) → done ≡ 0 → state_of regs.new m output ≡ with_context (state_of regs.old m output) }
+    ensures later { 0 < done → regs.new ≡ regs.old }
+    ensures context { IsTrue regs.new.fpca }
+    ensures pc { regs.new.pc ≡ regs.old.pc }
+{
+    if done > 0 {
+        return Ok(());
+    }
+    context(regs);
+    match refuse(v, regs) {
+        Some(fault) => Err(Cause::Stop(Stop::Fault(fault))),
+        None => Ok(()),
+    }
+}
+
+/// Beat `b` of a vector instruction, or its stop, which changes nothing. `b` is below 4, and there is a context.
+pub fn beat(v: &Vector, b: u8, regs: &mut Regs, mem: &mut Mem) -> Result<(), Cause>
+    requires beat { b < 4 }
+    requires context { IsTrue regs.old.fpca }
+    ensures value { (output : List ℕ) → executed result (state_of regs.new (memory_of mem.new) output)
+        ≡ ((rows (memory_of mem.old).around).act v.now b).run (state_of regs.old (memory_of mem.old) output) }
+    ensures stopped { OnErr result ((regs.new ≡ regs.old) × (memory_of mem.new ≡ memory_of mem.old)) }
+    ensures kept { IsSameElsewhere (memory_of mem.old) (memory_of mem.new) }
+    ensures context { regs.new.fpca ≡ regs.old.fpca }
+{
+    let row = any(v);
+    match row.beat(b, regs, mem) {
+        Ok(()) => Ok(()),
+        Err(stop) => Err(Cause::Stop(stop)),
+    }
+}
+
+/// After a beat of the older instruction: once it has four it is retired, and the next one stands behind it.
+fn settle(x: &mut Cpu)
+    requires count { (x.old.retired < 2 ^ 63) × (x.old.older_steps < 2 ^ 63) }
+    requires position { IsPosition x.old }
+    requires context { IsTrue x.old.regs.fpca }
+    requires pc { x.old.regs.pc + 4 < 2 ^ 32 }
+    ensures value { (listing : Listing) (around : Around)
+        → config_of x.new ≡ settle (core listing around) (x.old.window.a + 1) x.old.window.b x.old.retired (x.old.older_steps + 1) (state_in x.old) }
+    ensures kept { Keeps x.old x.new }
+    ensures count { CountsOne x.old x.new }
+{
+    x.older_steps += 1;
+    if x.window.a < 3 {
+        x.window.a += 1;
+    } else {
+        x.window = Window {
+            a: x.window.b,
+            b: 0,
+        };
+        x.retired += 1;
+        x.regs.pc += 4;
+    }
+}
+
+/// The next beat of the vector instruction at the program counter, after what comes before it.
+pub fn vector_step(v: &Vector, x: &mut Cpu) -> Result<(), Cause>
+    requires count { (x.old.retired < 2 ^ 63) × (x.old.older_steps < 2 ^ 63) }
+    requires position { IsPosition x.old }
+    requires pc { x.old.regs.pc + 4 < 2 ^ 32 }
+    ensures value { (listing : Listing) → vector_of (listing x.old.regs.pc) ≡ Some v.now
+        → reached result x.new ≡ older (core listing (memory_of x.old.mem).around) (config_of x.old) }
+    ensures kept { Keeps x.old x.new }
+    ensures count { CountsOne x.old x.new }
+{
+    begin(v, x.window.a, &mut x.regs)?;
+    beat(v, x.window.a, &mut x.regs, &mut x.mem)?;
+    settle(x);
+    Ok(())
+}
+
+/// The number of a breakpoint, among scalar instructions.
+fn scalar_break(i: &Scalar) -> Option<u8>
+    ensures value { result ≡ scalar_break i.now }
+{
+    match i {
+        Scalar::S18(i) => Some(i.i.get() as u8),
+        _ => None,
+    }
+}
+
+/// The number of a breakpoint.
+fn break_of(i: &Instr) -> Option<u8>
+    ensures value { result ≡ break_of i.now }
+{
+    match i {
+        Instr::Scalar(i) => scalar_break(i),
+        Instr::Branch(_) | Instr::Vector(_) => None,
+    }
+}
+
+/// An instruction that is no vector row, done; or a stop, which changes nothing but that a context may have been made.
+pub fn execute(i: &Instr, regs: &mut Regs, mem: &mut Mem) -> Result<Flow, Stop>
+    requires row { IsTrue (not (is_vector_row i.now)) }
+    ensures value { (output : List ℕ) → executed_by result (state_of regs.new (memory_of mem.new) output)
+        ≡ scalar_in_machine (memory_of mem.old).around i.now (state_of regs.old (memory_of mem.old) output) }
+    ensures stopped { OnErr result ((regs.new ≡ made i.now regs.old) × (memory_of mem.new ≡ memory_of mem.old)) }
+    ensures kept { IsSameElsewhere (memory_of mem.old) (memory_of mem.new) }
+    ensures range { InRange regs.old }
+    ensures counted { Counted regs.old }
+{
+    regs.in_range();
+    hm_exec::step(i, regs, mem)
+}
+
+/// The same of the thread, in which each that is done goes on to the next.
+fn execute_in_thread(i: &Instr, regs: &mut Regs, mem: &mut Mem) -> Result<(), Cause>
+    requires row { IsTrue (not (is_vector_row i.now)) }
+    ensures value { (output : List ℕ) → executed result (state_of regs.new (memory_of mem.new) output)
+        ≡ done_in_machine (scalar_in_machine (memory_of mem.old).around i.now (state_of regs.old (memory_of mem.old) output)) }
+    ensures stopped { OnErr result ((regs.new ≡ made i.now regs.old) × (memory_of mem.new ≡ memory_of mem.old)) }
+    ensures kept { IsSameElsewhere (memory_of mem.old) (memory_of mem.new) }
+    ensures range { InRange regs.old }
+    ensures counted { Counted regs.old }
+{
+    match execute(i, regs, mem) {
+        Ok(_flow) => Ok(()),
+        Err(stop) => Err(Cause::Stop(stop)),
+    }
+}
+
+/// After the whole of an instruction that is no vector row, which is retired.
+fn retire(x: &mut Cpu)
+    requires count { (x.old.retired < 2 ^ 63) × (x.old.older_steps < 2 ^ 63) }
+    ensures new { x.new ≡ record x.old { window = record { a = 0; b = 0 }; retired = x.old.retired + 1; older_steps = x.old.older_steps + 1 } }
+{
+    x.window = Window { a: 0, b: 0 };
+    x.retired += 1;
+    x.older_steps += 1;
+}
+
+/// The whole of an instruction that is no vector row, which stands at the program counter; or it halts, or stops.
+fn other_step(i: &Instr, x: &mut Cpu) -> Result<(), Cause>
+    requires row { IsTrue (not (is_vector_row i.now)) }
+    requires count { (x.old.retired < 2 ^ 63) × (x.old.older_steps < 2 ^ 63) }
+    requires position { IsPosition x.old }
+    requires room { vec_capacity x.old.output ≡ most_output }
+    ensures value { (listing : Listing) → listing x.old.regs.pc ≡ Ok i.now
+        → reached result x.new ≡ older (core listing (memory_of x.old.mem).around) (config_of x.old) }
+    ensures kept { Keeps x.old x.new }
+    ensures count { CountsOne x.old x.new }
+{
+    if let Some(k) = break_of(i) {
+        breakpoint(k, x)?;
+        retire(x);
+        return Ok(());
+    }
+    execute_in_thread(i, &mut x.regs, &mut x.mem)?;
+    retire(x);
+    Ok(())
+}
+
+/// A step of this instruction, which stands at the program counter: the next beat of a vector instruction, or the whole
+/// of any other.
+fn step(i: &Instr, x: &mut Cpu) -> Result<(), Cause>
+    requires count { (x.old.retired < 2 ^ 63) × (x.old.older_steps < 2 ^ 63) }
+    requires position { IsPosition x.old }
+    requires room { vec_capacity x.old.output ≡ most_output }
+    requires pc { x.old.regs.pc + 4 < 2 ^ 32 }
+    ensures value { (listing : Listing) → listing x.old.regs.pc ≡ Ok i.now
+        → reached result x.new ≡ older (core listing (memory_of x.old.mem).around) (config_of x.old) }
+    ensures kept { Keeps x.old x.new }
+    ensures count { CountsOne x.old x.new }
+{
+    match i {
+        Instr::Scalar(_) | Instr::Branch(_) => other_step(i, x),
+        Instr::Vector(v) => vector_step(v, x),
+    }
+}
+
+/// A step of the thread's older instruction, or the fault where none stands at the program counter.
+pub fn older(x: &mut Cpu) -> Result<(), Cause>
+    requires count { (x.old.retired < 2 ^ 63) × (x.old.older_steps < 2 ^ 63) }
+    requires position { IsPosition x.old }
+    requires room { vec_capacity x.old.output ≡ most_output }
+    ensures value { (listing : Listing) → IsListing (flash_at (memory_of x.old.mem)) listing
+        → reached result x.new ≡ older (core listing (memory_of x.old.mem).around) (config_of x.old) }
+    ensures kept { Keeps x.old x.new }
+    ensures count { CountsOne x.old x.new }
+{
+    match x.recent.fetch(&x.mem, x.regs.pc) {
+        Ok(i) => step(&i, x),
+        Err(fault) => Err(Cause::Stop(Stop::Fault(fault))),
+    }
+}
+
+/// The vector instruction that this is, where it is one.
+fn as_vector(i: &Instr) -> Option<Vector>
+    ensures value { result ≡ vector_in i.now }
+{
+    match i {
+        Instr::Scalar(_) | Instr::Branch(_) => None,
+        Instr::Vector(v) => Some(*v),
+    }
+}
+
+/// The vector instruction that stands at an address, where one does.
+pub fn vector_at(recent: &mut Recent, mem: &Mem, addr: u32) -> Option<Vector>
+    ensures row { (listing : Listing) → IsListing (flash_at (memory_of mem.now)) listing → result ≡ vector_of (listing addr) }
+    ensures room { IsSome result → addr + 4 < 2 ^ 32 }
+{
+    match recent.fetch(mem, addr) {
+        Ok(i) => as_vector(&i),
+        Err(_) => None,
+    }
+}

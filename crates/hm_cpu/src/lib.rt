@@ -1,0 +1,17 @@
+//! What a letter of a schedule does to the registers, the memory, the output and the position, of the thread and of handlers.
+#![tactic(auto)]
+
+mod cpu;
+mod recent;
+mod running;
+mod service;
+mod step_ends;
+mod trial;
+mod younger;
+
+pub use cpu::Cpu;
+pub use recent::Recent;
+pub use running::letter;
+pub use service::OUTPUT;
+pub use step_ends::{LetterEnd, StepEnd};
+pub use trial::ready;

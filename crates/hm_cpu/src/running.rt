@@ -1,0 +1,262 @@
+//! The steps of what runs: the thread, or the handler of the newest activation.
+
+ghost use Rattle.std.specs.Prelude.{◌≡◌, ◌+◌, ◌^◌, ◌<◌, ◌≤◌, not, List, ◌∷◌, map, IsTrue, OnOk, Ok};
+ghost use Rattle.std.specs.Vec.{vec_capacity};
+ghost use Rattle.hm_codes.specs.Listing.{Listing, IsListing};
+ghost use Rattle.hm_cpu.specs.Cpus.{config_of, nested_of, returns, state_in, stepped, AreEntered, CountsOne, IsHandler, IsPosition, IsSoundUnderSome};
+ghost use Rattle.hm_cpu.specs.Cpus.{interrupted_of, IsSoundUnder, IsUnder, KeepsFlash};
+ghost use Rattle.hm_exc.specs.Entry.{newest_first};
+ghost use Rattle.hm_exc.specs.declared.types.Activation.{Activation};
+ghost use Rattle.hm_handlers.specs.Nested.{flows, letter, step, to_end};
+ghost use Rattle.hm_mem.specs.Memory.{memory_of, flash_at};
+ghost use Rattle.hm_order.specs.Turns.{Older, Younger};
+ghost use Rattle.hm_run.specs.Program.{most_output, steps_left, vector_in, vector_of};
+ghost use Rattle.hm_sched.specs.Schedule.{Sched};
+ghost use Rattle.hm_state.specs.State.{State};
+ghost use Rattle.hm_thumb.specs.Families.{is_vector_row};
+
+use crate::cpu::{Cpu, execute, older, vector_step};
+use crate::recent::Recent;
+use crate::step_ends::{LetterEnd, StepEnd};
+use crate::younger::younger;
+use hm_base::Stop;
+use hm_exc::leave;
+use hm_isa::{Flow, Instr, Vector};
+use hm_mem::Mem;
+use hm_run::{Cause, Offence};
+use hm_window::Window;
+
+/// What an instruction that stops is to the machine.
+fn stop_of(cause: Cause) -> LetterEnd
+    ensures value { result ≡ LetterEnd.Step (StepEnd.Stopped cause) }
+{
+    LetterEnd::Step(StepEnd::Stopped(cause))
+}
+
+/// The handler returns to `value`: what it interrupted goes on, or the first difference is told.
+fn return_to(value: u32, x: &mut Cpu) -> Result<(), LetterEnd>
+    requires handler { IsHandler x.old }
+    requires entered { AreEntered x.old }
+    ensures value { (y : Activation) (rest : List Activation) → newest_first x.old.acts ≡ y ∷ rest → stepped result x.new ≡ returns value y rest x.old }
+    ensures moves { KeepsFlash x.old x.new }
+    ensures position { OnOk result (IsPosition x.new) }
+    ensures count { CountsOne x.old x.new }
+{
+    // the packed words are put together again, since each number fits its type
+    x.regs.in_range();
+    match leave(&mut x.regs, &mut x.mem, value, &mut x.acts) {
+        Ok(window) => {
+            x.window = window;
+            Ok(())
+        }
+        Err(broken) => Err(LetterEnd::Offends(Offence::Left(broken))),
+    }
+}
+
+/// What a handler's instruction that stood at `pc` and is done comes to.
+fn follow(flow: Flow, pc: u32, x: &mut Cpu) -> Result<(), LetterEnd>
+    requires handler { IsHandler x.old }
+    requires entered { AreEntered x.old }
+    ensures value { (before : State) (y : Activation) (rest : List Activation) → before.pc ≡ pc → newest_first x.old.acts ≡ y ∷ rest
+        → stepped result x.new ≡ flows flow (record (config_of x.old) { state = before }) (interrupted_of y) (map interrupted_of rest) (state_in x.old) }
+    ensures moves { KeepsFlash x.old x.new }
+    ensures position { OnOk result (IsPosition x.new) }
+    ensures count { CountsOne x.old x.new }
+{
+    match flow {
+        Flow::Next => {
+            x.window = Window { a: 0, b: 0 };
+            Ok(())
+        }
+        Flow::Break { k: _ } => Err(LetterEnd::Offends(Offence::Call { pc })),
+        Flow::Return { value } => return_to(value, x),
+    }
+}
+
+/// A handler's instruction that is no vector row, which stands at the program counter.
+fn handler_other(i: &Instr, x: &mut Cpu) -> Result<(), LetterEnd>
+    requires row { IsTrue (not (is_vector_row i.now)) }
+    requires position { IsPosition x.old }
+    requires handler { IsHandler x.old }
+    requires entered { AreEntered x.old }
+    ensures value { (listing : Listing) (s : Sched) → listing x.old.regs.pc ≡ Ok i.now → IsUnder s x.old
+        → stepped result x.new ≡ step listing s Older (nested_of x.old) }
+    ensures moves { KeepsFlash x.old x.new }
+    ensures position { OnOk result (IsPosition x.new) }
+    ensures count { CountsOne x.old x.new }
+{
+    let pc = x.regs.pc;
+    match execute(i, &mut x.regs, &mut x.mem) {
+        Ok(flow) => follow(flow, pc, x),
+        Err(stop) => Err(stop_of(Cause::Stop(stop))),
+    }
+}
+
+/// The next beat of a handler's vector instruction, which stands at the program counter. The thread's steps alone are counted.
+fn handler_beat(v: &Vector, x: &mut Cpu) -> Result<(), LetterEnd>
+    requires count { (x.old.retired < 2 ^ 63) × (x.old.older_steps < 2 ^ 63) }
+    requires position { IsPosition x.old }
+    requires handler { IsHandler x.old }
+    requires pc { x.old.regs.pc + 4 < 2 ^ 32 }
+    ensures value { (listing : Listing) (s : Sched) → listing x.old.regs.pc ≡ Ok (Instr.Vector v.now) → IsUnder s x.old
+        → stepped result x.new ≡ step listing s Older (nested_of x.old) }
+    ensures moves { KeepsFlash x.old x.new }
+    ensures position { OnOk result (IsPosition x.new) }
+    ensures count { CountsOne x.old x.new }
+{
+    let (retired, older_steps) = (x.retired, x.older_steps);
+    match vector_step(v, x) {
+        Ok(()) => {
+            x.retired = retired;
+            x.older_steps = older_steps;
+            Ok(())
+        }
+        Err(cause) => Err(stop_of(cause)),
+    }
+}
+
+/// A step of this instruction of a handler, which stands at the program counter.
+fn handler_step(i: &Instr, x: &mut Cpu) -> Result<(), LetterEnd>
+    requires count { (x.old.retired < 2 ^ 63) × (x.old.older_steps < 2 ^ 63) }
+    requires position { IsPosition x.old }
+    requires handler { IsHandler x.old }
+    requires entered { AreEntered x.old }
+    requires pc { x.old.regs.pc + 4 < 2 ^ 32 }
+    ensures value { (listing : Listing) (s : Sched) → listing x.old.regs.pc ≡ Ok i.now → IsUnder s x.old
+        → stepped result x.new ≡ step listing s Older (nested_of x.old) }
+    ensures moves { KeepsFlash x.old x.new }
+    ensures position { OnOk result (IsPosition x.new) }
+    ensures count { CountsOne x.old x.new }
+{
+    match i {
+        Instr::Scalar(_) | Instr::Branch(_) => handler_other(i, x),
+        Instr::Vector(v) => handler_beat(v, x),
+    }
+}
+
+/// A step of a handler's older instruction, or the fault where none stands at the program counter.
+fn handler_older(x: &mut Cpu) -> Result<(), LetterEnd>
+    requires count { (x.old.retired < 2 ^ 63) × (x.old.older_steps < 2 ^ 63) }
+    requires position { IsPosition x.old }
+    requires handler { IsHandler x.old }
+    requires entered { AreEntered x.old }
+    ensures value { (listing : Listing) (s : Sched) → IsListing (flash_at (memory_of x.old.mem)) listing → IsUnder s x.old
+        → stepped result x.new ≡ step listing s Older (nested_of x.old) }
+    ensures moves { KeepsFlash x.old x.new }
+    ensures position { OnOk result (IsPosition x.new) }
+    ensures count { CountsOne x.old x.new }
+{
+    match x.recent.fetch(&x.mem, x.regs.pc) {
+        Ok(i) => handler_step(&i, x),
+        Err(fault) => Err(stop_of(Cause::Stop(Stop::Fault(fault)))),
+    }
+}
+
+/// A step of the older instruction of what runs.
+fn older_step(x: &mut Cpu) -> Result<(), LetterEnd>
+    requires count { (x.old.retired < 2 ^ 63) × (x.old.older_steps < 2 ^ 63) }
+    requires position { IsPosition x.old }
+    requires room { vec_capacity x.old.output ≡ most_output }
+    requires sound { IsSoundUnderSome x.old }
+    ensures value { (listing : Listing) (s : Sched) → IsListing (flash_at (memory_of x.old.mem)) listing → IsSoundUnder s x.old
+        → stepped result x.new ≡ step listing s Older (nested_of x.old) }
+    ensures sound { (s : Sched) → IsSoundUnder s x.old → OnOk result (IsSoundUnder s x.new) }
+    ensures moves { KeepsFlash x.old x.new }
+    ensures position { OnOk result (IsPosition x.new) }
+    ensures count { CountsOne x.old x.new }
+{
+    if !x.acts.is_empty() {
+        return handler_older(x);
+    }
+    match older(x) {
+        Ok(()) => Ok(()),
+        Err(cause) => Err(stop_of(cause)),
+    }
+}
+
+/// A step of the younger instruction of what runs.
+fn younger_step(x: &mut Cpu) -> Result<(), LetterEnd>
+    requires position { IsPosition x.old }
+    ensures value { (listing : Listing) (s : Sched) → IsListing (flash_at (memory_of x.old.mem)) listing → IsSoundUnder s x.old
+        → stepped result x.new ≡ step listing s Younger (nested_of x.old) }
+    ensures sound { (s : Sched) → IsSoundUnder s x.old → OnOk result (IsSoundUnder s x.new) }
+    ensures moves { KeepsFlash x.old x.new }
+    ensures position { OnOk result (IsPosition x.new) }
+    ensures count { CountsOne x.old x.new }
+{
+    match younger(x) {
+        Ok(()) => Ok(()),
+        Err(end) => Err(LetterEnd::Step(end)),
+    }
+}
+
+/// How many steps this instruction has left as the older: its beats that are left, or one where it has no beats.
+fn steps_of(i: &Instr, at: Window) -> u8
+    requires position { at.a < 4 }
+    ensures value { result ≡ steps_left (vector_in i.now) at.a }
+    ensures few { result ≤ 4 }
+{
+    match i {
+        Instr::Scalar(_) | Instr::Branch(_) => 1,
+        Instr::Vector(_) => 4 - at.a,
+    }
+}
+
+/// How many steps the older instruction, which stands at an address, has left; one where none stands there.
+fn steps_left(recent: &mut Recent, mem: &Mem, addr: u32, at: Window) -> u8
+    requires position { at.a < 4 }
+    ensures value { (listing : Listing) → IsListing (flash_at (memory_of mem.now)) listing → result ≡ steps_left (vector_of (listing addr)) at.a }
+    ensures few { result ≤ 4 }
+{
+    match recent.fetch(mem, addr) {
+        Ok(i) => steps_of(&i, at),
+        Err(_fault) => 1,
+    }
+}
+
+/// The older instruction of what runs to its end, in at most four steps.
+fn whole(x: &mut Cpu) -> Result<(), LetterEnd>
+    requires count { (x.old.retired < 2 ^ 61) × (x.old.older_steps < 2 ^ 61) }
+    requires position { IsPosition x.old }
+    requires room { vec_capacity x.old.output ≡ most_output }
+    requires sound { IsSoundUnderSome x.old }
+    ensures value { (listing : Listing) (s : Sched) → IsListing (flash_at (memory_of x.old.mem)) listing → IsSoundUnder s x.old
+        → stepped result x.new ≡ to_end listing s (nested_of x.old) }
+    ensures sound { (s : Sched) → IsSoundUnder s x.old → OnOk result (IsSoundUnder s x.new) }
+    ensures moves { KeepsFlash x.old x.new }
+    ensures position { OnOk result (IsPosition x.new) }
+    ensures count { (x.new.retired ≤ x.old.retired + 4) × (x.new.older_steps ≤ x.old.older_steps + 4) }
+{
+    let left = steps_left(&mut x.recent, &x.mem, x.regs.pc, x.window);
+    for _k in 0..left {
+        older_step(x)?;
+    }
+    Ok(())
+}
+
+/// What a letter of a schedule does, of the thread or of the newest handler: `O` is a step of the older instruction, its next beat or the whole
+/// of one without beats, `Y` the next beat of the younger, and any other letter, as `W`, does the older to its end, in four steps at most
+/// (DDI0553, "Beat-wise execution" and "Exception return").
+///
+/// Err tells why it does not go on; the machine then stands as that step left it. Of the thread's instructions alone it is counted how many
+/// were retired and how many steps were done, in `x.retired` and `x.older_steps`.
+pub fn letter(l: u8, x: &mut Cpu) -> Result<(), LetterEnd>
+    requires count { (x.old.retired < 2 ^ 61) × (x.old.older_steps < 2 ^ 61) }
+    requires position { IsPosition x.old }
+    requires room { vec_capacity x.old.output ≡ most_output }
+    requires sound { IsSoundUnderSome x.old }
+    ensures value { (listing : Listing) (s : Sched) → IsListing (flash_at (memory_of x.old.mem)) listing → IsSoundUnder s x.old
+        → stepped result x.new ≡ letter listing s l (nested_of x.old) }
+    ensures sound { (s : Sched) → IsSoundUnder s x.old → OnOk result (IsSoundUnder s x.new) }
+    ensures moves { KeepsFlash x.old x.new }
+    ensures position { OnOk result (IsPosition x.new) }
+    ensures count { (x.new.retired ≤ x.old.retired + 4) × (x.new.older_steps ≤ x.old.older_steps + 4) }
+{
+    if l == b'O' {
+        return older_step(x);
+    }
+    if l == b'Y' {
+        return younger_step(x);
+    }
+    whole(x)
+}

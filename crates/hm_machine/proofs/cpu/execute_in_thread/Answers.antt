@@ -1,9 +1,0 @@
-use Rattle.std.proofs.Common.{ap}
-use Rattle.hm_run.specs.Program.{done_in_machine}
-use Rattle.hm_machine.proofs.cpu.execute_in_thread.Goals as goal
-
-pub returns-in-Ok-clause-value : goal.returns-in-Ok-clause-value
-returns-in-Ok-clause-value c output = ap done_in_machine (c.in-Ok.ensures.value output)
-
-pub returns-in-Err-clause-value : goal.returns-in-Err-clause-value
-returns-in-Err-clause-value c output = ap done_in_machine (c.in-Err.ensures.value output)
