@@ -2,13 +2,14 @@
 
 ghost use Rattle.std.specs.Prelude.{◌≡◌};
 ghost use Rattle.hm_exec.specs.Families.{row_of};
+ghost use Rattle.hm_rows.specs.Rows.{kind_of, kind_seen};
 
 use hm_base::Stop;
 use hm_beat::{BeatWise, Touch};
 use hm_isa::Vector;
 use hm_mem::Mem;
 use hm_regs::Regs;
-use hm_rows::kind;
+use hm_rows::Kind;
 use hm_varith::Arith;
 use hm_vcmp::Compare;
 use hm_vgather::Gather;
@@ -41,18 +42,34 @@ pub enum Any {
 
 impl Any {
     /// The vector row that it is.
-    fn row(&self) -> Vector
-        ensures value { result ≡ row_of self.now }
+    pub fn row(&self) -> &Vector
+        ensures value { result.now ≡ row_of self.now }
     {
         match self {
-            Any::Arith(x) => x.row,
-            Any::Wide(x) => x.row,
-            Any::Reduce(x) => x.row,
-            Any::Perm(x) => x.row,
-            Any::Compare(x) => x.row,
-            Any::Straight(x) => x.row,
-            Any::Gather(x) => x.row,
-            Any::Inter(x) => x.row,
+            Any::Arith(x) => &x.row,
+            Any::Wide(x) => &x.row,
+            Any::Reduce(x) => &x.row,
+            Any::Perm(x) => &x.row,
+            Any::Compare(x) => &x.row,
+            Any::Straight(x) => &x.row,
+            Any::Gather(x) => &x.row,
+            Any::Inter(x) => &x.row,
+        }
+    }
+
+    /// What kind of row it is.
+    fn kind(&self) -> &Kind
+        ensures value { kind_seen result.now ≡ kind_of (row_of self.now) }
+    {
+        match self {
+            Any::Arith(x) => &x.kind,
+            Any::Wide(x) => &x.kind,
+            Any::Reduce(x) => &x.kind,
+            Any::Perm(x) => &x.kind,
+            Any::Compare(x) => &x.kind,
+            Any::Straight(x) => &x.kind,
+            Any::Gather(x) => &x.kind,
+            Any::Inter(x) => &x.kind,
         }
     }
 }
@@ -68,17 +85,17 @@ impl BeatWise for Any {
     ghost laws = { λ x. row_laws (row_of x) };
 
     fn touch(&self, b: u8, r: &Regs) -> Touch {
-        let kind = kind(&self.row());
+        let kind = self.kind();
         kind.touch(b, r)
     }
 
     fn check(&self, b: u8, r: &Regs, m: &Mem) -> Result<(), Stop> {
-        let kind = kind(&self.row());
+        let kind = self.kind();
         kind.check(b, r, m)
     }
 
     fn beat(&self, b: u8, r: &mut Regs, m: &mut Mem) -> Result<(), Stop> {
-        let kind = kind(&self.row());
+        let kind = self.kind();
         kind.beat(b, r, m)
     }
 }

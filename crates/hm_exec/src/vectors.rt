@@ -67,7 +67,7 @@ fn is_refused(v: &Vector, r: &Regs) -> bool
     ensures value { result ≡ (not (nat_eq r.now.it 0) || (writes_lr v.now && nat_lt (value_at Ltp r.now) 4 && r.now.fpca)) }
 {
     let counts = r.get(Place::Ltp) < 4 && r.fpca;
-    r.it != 0 || (writes_lr(v) && counts)
+    r.it != 0 || (counts && writes_lr(v))
 }
 
 /// The fault of a vector instruction that may not run here: InvState at pc, inside an IT block, or where it writes lr and lr

@@ -3,13 +3,14 @@
 
 ghost use Rattle.std.specs.Prelude.{◌≡◌, ⊤, Bool, IfSome, IsTrue, is_some};
 ghost use Rattle.hm_isa.specs.declared.Vector.{Vector};
+ghost use Rattle.hm_rows.specs.Rows.{kind_of, kind_seen};
 
 use hm_base::Stop;
 use hm_beat::{BeatWise, Touch};
 use hm_isa::Vector;
 use hm_mem::Mem;
 use hm_regs::Regs;
-use hm_rows::kind;
+use hm_rows::{Kind, kind};
 use std::alloc::AllocError;
 use std::marker::PhantomData;
 
@@ -23,11 +24,13 @@ pub trait Family {
         ensures value { result ≡ rows v.now };
 }
 
-/// A vector instruction of a family.
+/// A vector instruction of a family, with its kind, which all its beats take.
 pub struct RowOf<F: Family> {
     pub row: Vector,
+    pub kind: Kind,
     family: PhantomData<F>,
     pub ghost is_of_it: { IsTrue (F.rows row) },
+    pub ghost of_kind: { kind_seen kind ≡ kind_of row },
 }
 
 impl<F: Family> Clone for RowOf<F> {
@@ -51,6 +54,7 @@ impl<F: Family> RowOf<F> {
         if F::has(v) {
             Some(RowOf {
                 row: *v,
+                kind: kind(v),
                 family: PhantomData,
             })
         } else {
@@ -70,17 +74,14 @@ impl<F: Family> BeatWise for RowOf<F> {
     ghost laws = { λ x. row_laws x.row };
 
     fn touch(&self, b: u8, r: &Regs) -> Touch {
-        let kind = kind(&self.row);
-        kind.touch(b, r)
+        self.kind.touch(b, r)
     }
 
     fn check(&self, b: u8, r: &Regs, m: &Mem) -> Result<(), Stop> {
-        let kind = kind(&self.row);
-        kind.check(b, r, m)
+        self.kind.check(b, r, m)
     }
 
     fn beat(&self, b: u8, r: &mut Regs, m: &mut Mem) -> Result<(), Stop> {
-        let kind = kind(&self.row);
-        kind.beat(b, r, m)
+        self.kind.beat(b, r, m)
     }
 }
