@@ -7,3 +7,4 @@ pub mod Keeping
 pub mod Letters
 pub mod Nestings
 pub mod Trials
+pub mod Going

@@ -7,6 +7,7 @@ use Rattle.std.specs.Prelude.{reverse, OnOk, IfOk}
 use Rattle.arrayvec.specs.ArrayVec.{ArrayVec, array_vec_len}
 use Rattle.hm_base.specs.declared.Fault.{Fault}
 use Rattle.hm_base.specs.declared.Stop.{Stop}
+use Rattle.hm_base.specs.declared.Stop.TheVariants as stop
 use Rattle.hm_codes.proofs.Exists.{exists}
 use Rattle.hm_codes.specs.Listing.{Listing, IsListing}
 use Rattle.hm_cpu.specs.Cpus.{CountsNone, IsSoundUnder, IsUnder, config_of, interrupted_of, nested_of, reached, reached_younger, returns, state_in, stepped}
@@ -249,6 +250,16 @@ module _ (listing : Listing) (s : Sched) (x : Cpu) (under : IsUnder s x) where
         (λ j. with_acts (acts_are j) (uncounted (config_of x) (e j)))
         ∙ ap (λ (r : Result Instr Fault). handles (core listing around) around r (config_of x) (interrupted_of z) below) (sym here)
         ∙ handler_is
+
+  -- NOTHING STANDS at the program counter of what runs
+  pub none_steps : (f : Fault) → listing x.regs.pc ≡ Err f
+      → Err (order.Stopped (config_of x) (cause.Stop (stop.Fault f))) ≡ older (core listing around) (config_of x)
+      → stepped (lifted (Err (cause.Stop (stop.Fault f)))) x ≡ step listing s Older (nested_of x)
+  none_steps f here e = by_newest (newest_first x.acts) refl
+    where
+      by_newest : (l : List Activation) → newest_first x.acts ≡ l → stepped (lifted (Err (cause.Stop (stop.Fault f)))) x ≡ step listing s Older (nested_of x)
+      by_newest [] newest = thread_steps x (Err (cause.Stop (stop.Fault f))) (ap (map interrupted_of) newest) refl e
+      by_newest (z ∷ rest) newest = fault_steps z rest newest f (Err (order.Stopped (config_of x) (cause.Stop (stop.Fault f)))) here e
 
 -- A RETURN, by the rule that it breaks
 module _ (x : Cpu) (z : Activation) (rest : List Activation) where

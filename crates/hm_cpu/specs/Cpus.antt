@@ -20,7 +20,8 @@ use Rattle.hm_order.specs.Machine as order
 use Rattle.hm_order.specs.Machine.{Config, End}
 use Rattle.hm_run.specs.declared.Cause.{Cause}
 use Rattle.hm_window.specs.declared.rule.Rule.{Rule}
-use Rattle.hm_run.specs.Program.{Stepped}
+use Rattle.hm_isa.specs.declared.Instr.{Instr}
+use Rattle.hm_run.specs.Program.{Stepped, steps_left, vector_in}
 use Rattle.hm_sched.specs.Schedule.{Sched}
 use Rattle.hm_state.specs.State.{State, regs_of, state_of}
 use Rattle.hm_whole.specs.Whole.{seen_in}
@@ -136,3 +137,8 @@ CountsOne old new = (new.retired ≤ old.retired + 1) × (new.older_steps ≤ ol
 -- what is counted stays
 abbrev pub CountsNone : Cpu → Cpu → Type 0
 CountsNone old new = (new.retired ≡ old.retired) × (new.older_steps ≡ old.older_steps)
+
+-- where steps of an instruction are left behind this one, which was done, the program counter stays and there is one less
+abbrev pub GoesOn : Instr → Cpu → Cpu → Type 0
+GoesOn i old new = let left = λ (x : Cpu). steps_left (vector_in i) x.window.a in
+    1 < left old → (new.regs.pc ≡ old.regs.pc) × (left new + 1 ≡ left old)

@@ -2,3 +2,5 @@ pub mod Cpus
 pub mod Services
 pub mod Trials
 pub mod Halves
+pub mod Decodings
+pub mod Kept

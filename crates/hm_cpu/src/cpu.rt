@@ -1,9 +1,11 @@
 //! Instructions and beats of the older instruction, of the thread and of handlers.
 
-ghost use Rattle.std.specs.Prelude.{◌≡◌, ℕ, ◌+◌, ◌^◌, ◌<◌, not, List, IsSome, IsTrue, OnErr, Ok};
+ghost use Rattle.std.specs.Prelude.{◌≡◌, ℕ, ◌+◌, ◌^◌, ◌<◌, not, List, IsSome, IsTrue, OnErr, OnOk, Ok, Some, option_map};
 ghost use Rattle.std.specs.Vec.{vec_capacity};
 ghost use Rattle.hm_codes.specs.Listing.{Listing, IsListing};
-ghost use Rattle.hm_cpu.specs.Cpus.{config_of, state_in, executed, reached, IsPosition, Keeps, CountsOne};
+ghost use Rattle.hm_exec.specs.Families.{row_of};
+ghost use Rattle.hm_cpu.specs.Cpus.{config_of, state_in, executed, reached, CountsOne, GoesOn, IsPosition, Keeps};
+ghost use Rattle.hm_cpu.specs.Decodings.{instr_of};
 ghost use Rattle.hm_mem.specs.Memory.{Around, Memory, memory_of, flash_at};
 ghost use Rattle.hm_mem.specs.Seen.{IsSameElsewhere};
 ghost use Rattle.hm_order.specs.Machine.{begin, older, settle};
@@ -16,13 +18,14 @@ ghost use Rattle.hm_thumb.specs.Families.{is_vector_row};
 ghost use Rattle.hm_thumb.specs.Rows.{made};
 ghost use Rattle.hm_whole.specs.Whole.{executed as executed_by, scalar_in_machine};
 
+use crate::decoded::Decoded;
 use crate::recent::Recent;
 use crate::service::breakpoint;
 use hm_base::Stop;
 use hm_beat::BeatWise;
 use hm_exc::Acts;
-use hm_exec::{any, refuse};
-use hm_isa::{Flow, Instr, Scalar, Vector};
+use hm_exec::{Any, refuse};
+use hm_isa::{Flow, Instr, Scalar};
 use hm_lane::context;
 use hm_mem::Mem;
 use hm_regs::Regs;
@@ -44,16 +47,14 @@ pub struct Cpu {
     pub retired: u64,
     /// The steps of an older instruction of the thread, those inside W too.
     pub older_steps: u64,
-    /// What was decoded of late; no run depends on it.
-    pub recent: Recent,
 }
 
 /// What comes before the next beat of a vector instruction of which some are done: before the first the context is made
 /// where there is none, and then the instruction may be refused.
-fn begin(v: &Vector, done: u8, regs: &mut Regs) -> Result<(), Cause>
+fn begin(v: &Any, done: u8, regs: &mut Regs) -> Result<(), Cause>
     requires context { 0 < done → IsTrue regs.old.fpca }
     ensures value { (listing : Listing) (m : Memory) (output : List ℕ)
-        → executed result (state_of regs.new m output) ≡ begin (core listing m.around) v.now done (state_of regs.old m output) }
+        → executed result (state_of regs.new m output) ≡ begin (core listing m.around) (row_of v.now) done (state_of regs.old m output) }
     ensures refused { OnErr result ((m : Memory) (output : List ℕ) → (done ≡ 0) × (state_of regs.new m output ≡ with_context (state_of regs.old m output))) }
     ensures made { (m : Memory) (output : List ℕ) → done ≡ 0 → state_of regs.new m output ≡ with_context (state_of regs.old m output) }
     ensures later { 0 < done → regs.new ≡ regs.old }
@@ -64,24 +65,23 @@ fn begin(v: &Vector, done: u8, regs: &mut Regs) -> Result<(), Cause>
         return Ok(());
     }
     context(regs);
-    match refuse(v, regs) {
+    match refuse(v.row(), regs) {
         Some(fault) => Err(Cause::Stop(Stop::Fault(fault))),
         None => Ok(()),
     }
 }
 
 /// Beat `b` of a vector instruction, or its stop, which changes nothing. `b` is below 4, and there is a context.
-pub fn beat(v: &Vector, b: u8, regs: &mut Regs, mem: &mut Mem) -> Result<(), Cause>
+pub fn beat(v: &Any, b: u8, regs: &mut Regs, mem: &mut Mem) -> Result<(), Cause>
     requires beat { b < 4 }
     requires context { IsTrue regs.old.fpca }
     ensures value { (output : List ℕ) → executed result (state_of regs.new (memory_of mem.new) output)
-        ≡ ((rows (memory_of mem.old).around).act v.now b).run (state_of regs.old (memory_of mem.old) output) }
+        ≡ ((rows (memory_of mem.old).around).act (row_of v.now) b).run (state_of regs.old (memory_of mem.old) output) }
     ensures stopped { OnErr result ((regs.new ≡ regs.old) × (memory_of mem.new ≡ memory_of mem.old)) }
     ensures kept { IsSameElsewhere (memory_of mem.old) (memory_of mem.new) }
     ensures context { regs.new.fpca ≡ regs.old.fpca }
 {
-    let row = any(v);
-    match row.beat(b, regs, mem) {
+    match v.beat(b, regs, mem) {
         Ok(()) => Ok(()),
         Err(stop) => Err(Cause::Stop(stop)),
     }
@@ -95,6 +95,7 @@ fn settle(x: &mut Cpu)
     requires pc { x.old.regs.pc + 4 < 2 ^ 32 }
     ensures value { (listing : Listing) (around : Around)
         → config_of x.new ≡ settle (core listing around) (x.old.window.a + 1) x.old.window.b x.old.retired (x.old.older_steps + 1) (state_in x.old) }
+    ensures stays { x.old.window.a < 3 → (x.new.regs.pc ≡ x.old.regs.pc) × (x.new.window.a ≡ x.old.window.a + 1) }
     ensures kept { Keeps x.old x.new }
     ensures count { CountsOne x.old x.new }
 {
@@ -112,12 +113,13 @@ fn settle(x: &mut Cpu)
 }
 
 /// The next beat of the vector instruction at the program counter, after what comes before it.
-pub fn vector_step(v: &Vector, x: &mut Cpu) -> Result<(), Cause>
+pub fn vector_step(v: &Any, x: &mut Cpu) -> Result<(), Cause>
     requires count { (x.old.retired < 2 ^ 63) × (x.old.older_steps < 2 ^ 63) }
     requires position { IsPosition x.old }
     requires pc { x.old.regs.pc + 4 < 2 ^ 32 }
-    ensures value { (listing : Listing) → vector_of (listing x.old.regs.pc) ≡ Some v.now
+    ensures value { (listing : Listing) → vector_of (listing x.old.regs.pc) ≡ Some (row_of v.now)
         → reached result x.new ≡ older (core listing (memory_of x.old.mem).around) (config_of x.old) }
+    ensures stays { OnOk result (x.old.window.a < 3 → (x.new.regs.pc ≡ x.old.regs.pc) × (x.new.window.a ≡ x.old.window.a + 1)) }
     ensures kept { Keeps x.old x.new }
     ensures count { CountsOne x.old x.new }
 {
@@ -208,57 +210,42 @@ fn other_step(i: &Instr, x: &mut Cpu) -> Result<(), Cause>
     Ok(())
 }
 
-/// A step of this instruction, which stands at the program counter: the next beat of a vector instruction, or the whole
+/// A step of this instruction of the thread, which stands at the program counter: the next beat of a vector instruction, or the whole
 /// of any other.
-fn step(i: &Instr, x: &mut Cpu) -> Result<(), Cause>
+pub fn thread_step(i: &Decoded, x: &mut Cpu) -> Result<(), Cause>
     requires count { (x.old.retired < 2 ^ 63) × (x.old.older_steps < 2 ^ 63) }
     requires position { IsPosition x.old }
     requires room { vec_capacity x.old.output ≡ most_output }
     requires pc { x.old.regs.pc + 4 < 2 ^ 32 }
-    ensures value { (listing : Listing) → listing x.old.regs.pc ≡ Ok i.now
+    ensures value { (listing : Listing) → listing x.old.regs.pc ≡ Ok (instr_of i.now)
         → reached result x.new ≡ older (core listing (memory_of x.old.mem).around) (config_of x.old) }
+    ensures stays { OnOk result (GoesOn (instr_of i.now) x.old x.new) }
     ensures kept { Keeps x.old x.new }
     ensures count { CountsOne x.old x.new }
 {
     match i {
-        Instr::Scalar(_) | Instr::Branch(_) => other_step(i, x),
-        Instr::Vector(v) => vector_step(v, x),
-    }
-}
-
-/// A step of the thread's older instruction, or the fault where none stands at the program counter.
-pub fn older(x: &mut Cpu) -> Result<(), Cause>
-    requires count { (x.old.retired < 2 ^ 63) × (x.old.older_steps < 2 ^ 63) }
-    requires position { IsPosition x.old }
-    requires room { vec_capacity x.old.output ≡ most_output }
-    ensures value { (listing : Listing) → IsListing (flash_at (memory_of x.old.mem)) listing
-        → reached result x.new ≡ older (core listing (memory_of x.old.mem).around) (config_of x.old) }
-    ensures kept { Keeps x.old x.new }
-    ensures count { CountsOne x.old x.new }
-{
-    match x.recent.fetch(&x.mem, x.regs.pc) {
-        Ok(i) => step(&i, x),
-        Err(fault) => Err(Cause::Stop(Stop::Fault(fault))),
+        Decoded::Whole(i) => other_step(&i.instr, x),
+        Decoded::Beats(v) => vector_step(v, x),
     }
 }
 
 /// The vector instruction that this is, where it is one.
-fn as_vector(i: &Instr) -> Option<Vector>
-    ensures value { result ≡ vector_in i.now }
+fn as_vector(i: &Decoded) -> Option<Any>
+    ensures value { option_map row_of result ≡ vector_in (instr_of i.now) }
 {
     match i {
-        Instr::Scalar(_) | Instr::Branch(_) => None,
-        Instr::Vector(v) => Some(*v),
+        Decoded::Whole(_) => None,
+        Decoded::Beats(v) => Some(*v),
     }
 }
 
 /// The vector instruction that stands at an address, where one does.
-pub fn vector_at(recent: &mut Recent, mem: &Mem, addr: u32) -> Option<Vector>
-    ensures row { (listing : Listing) → IsListing (flash_at (memory_of mem.now)) listing → result ≡ vector_of (listing addr) }
+pub fn vector_at(recent: &mut Recent, mem: &Mem, addr: u32) -> Option<Any>
+    ensures row { (listing : Listing) → IsListing (flash_at (memory_of mem.now)) listing → option_map row_of result ≡ vector_of (listing addr) }
     ensures room { IsSome result → addr + 4 < 2 ^ 32 }
 {
-    match recent.fetch(mem, addr) {
-        Ok(i) => as_vector(&i),
+    match recent.keep(mem, addr) {
+        Ok(()) => as_vector(recent.kept(addr)),
         Err(_) => None,
     }
 }

@@ -2,6 +2,7 @@
 #![tactic(auto)]
 
 mod cpu;
+mod decoded;
 mod recent;
 mod running;
 mod service;

@@ -1,39 +1,41 @@
 //! Instructions that were decoded of late, so that a loop decodes each of its own once.
 
-ghost use Rattle.std.specs.Prelude.{◌≡◌, ◌%◌, ◌<◌, [], ◌∷◌, length, IfSome};
+ghost use Rattle.std.specs.Prelude.{◌≡◌, ℕ, ◌%◌, ◌<◌, [], ◌∷◌, length, Err, IfErr, IfSome, IsSome, IsTrue, OnOk, Some};
 ghost use Rattle.hm_codes.specs.Listing.{HalvesStand, IsFetched};
+ghost use Rattle.hm_cpu.specs.Decodings.{instr_of, place_of, places};
 ghost use Rattle.hm_cpu.specs.Halves.{code_of};
 ghost use Rattle.hm_isa.specs.Code.{halfwords};
 ghost use Rattle.hm_mem.specs.Memory.{memory_of, flash_at};
 
+use crate::decoded::Decoded;
 use hm_base::{Fault, OutOfMemory};
 use hm_decode::fetch;
-use hm_isa::Instr;
 use hm_mem::Mem;
 use std::alloc::Global;
 
 /// So many are kept at most.
 const PLACES: usize = 4096;
 
-/// An instruction, by the halfword at its address and the next one: its code is both, or the first alone.
+/// An instruction, by the halfword at its address and the next one: its code is both, or the first alone. One in the last halfword of flash has
+/// no next one, and is not known again.
 #[derive(Clone, Copy)]
 struct Entry {
-    first: u16,
-    second: u16,
-    instr: Instr,
-    pub ghost code: { halfwords instr ≡ code_of first second },
+    halves: Option<(u16, u16)>,
+    instr: Decoded,
+    pub ghost code: { (first second : ℕ) → halves ≡ Some (first, second) → halfwords (instr_of instr) ≡ code_of first second },
 }
 
 /// The instructions that were decoded of late: each address has a place for one, which it shares with others.
 #[derive(Drop)]
 pub struct Recent {
     entries: Vec<Option<Entry>>,
-    pub ghost whole: { length entries.items ≡ 4096 },
+    pub ghost whole: { length entries.items ≡ places },
 }
 
 /// The place of an address.
 fn place_of(addr: u32) -> usize
-    ensures below { result < 4096 }
+    ensures value { result ≡ place_of addr }
+    ensures below { result < places }
 {
     (addr / 2) as usize % PLACES
 }
@@ -49,6 +51,8 @@ fn halves_at(m: &Mem, addr: u32) -> Option<(u16, u16)>
 }
 
 impl Recent {
+    ghost use Rattle.hm_cpu.specs.Kept.{entry_at, kept_of, HasKept};
+
     /// None yet. It takes all the memory that it needs; OutOfMemory where that was refused.
     pub fn new(alloc: Global) -> Result<Recent, OutOfMemory> {
         let mut entries = Vec::new(alloc);
@@ -56,41 +60,45 @@ impl Recent {
         Ok(Recent { entries })
     }
 
-    /// The instruction that is kept at a place, where it is that of these halfwords.
-    fn find(&self, place: usize, first: u16, second: u16) -> Option<Instr>
-        requires below { place < 4096 }
-        ensures code { IfSome result (λ i. halfwords i ≡ code_of first second) }
+    /// Whether the instruction that is kept at a place is that of these halfwords.
+    fn holds(&self, place: usize, first: u16, second: u16) -> bool
+        requires below { place < places }
+        ensures code { IsTrue result → (d : Decoded) × (entry_at self.now place ≡ Some d) × (halfwords (instr_of d) ≡ code_of first second) }
     {
-        match self.entries[place] {
-            Some(entry) => {
-                if entry.first == first && entry.second == second {
-                    Some(entry.instr)
-                } else {
-                    None
-                }
-            }
-            None => None,
+        let Some(entry) = &self.entries[place] else {
+            return false;
+        };
+        match entry.halves {
+            Some(halves) => halves.0 == first && halves.1 == second,
+            None => false,
         }
     }
 
-    /// What there is to execute at an address, as `fetch` tells it. What is decoded is kept, and what is kept is not decoded.
-    pub fn fetch(&mut self, m: &Mem, addr: u32) -> Result<Instr, Fault>
-        ensures { IsFetched (flash_at (memory_of m.now)) addr result }
+    /// Keeps the instruction that stands at an address, or tells the fault where none does. One that is kept is not decoded anew.
+    pub fn keep(&mut self, m: &Mem, addr: u32) -> Result<(), Fault>
+        ensures kept { OnOk result (HasKept self.new (flash_at (memory_of m.now)) addr) }
+        ensures fault { IfErr result (λ fault. IsFetched (flash_at (memory_of m.now)) addr (Err fault)) }
     {
-        let Some((first, second)) = halves_at(m, addr) else {
-            return fetch(m, addr);
-        };
         let place = place_of(addr);
-        if let Some(i) = self.find(place, first, second) {
-            return Ok(i);
+        let halves = halves_at(m, addr);
+        if let Some((first, second)) = halves {
+            if self.holds(place, first, second) {
+                return Ok(());
+            }
         }
-        let instr = fetch(m, addr)?;
-        let entry = Entry {
-            first,
-            second,
-            instr,
-        };
-        self.entries[place] = Some(entry);
-        Ok(instr)
+        let instr = Decoded::of(fetch(m, addr)?);
+        self.entries[place] = Some(Entry { halves, instr });
+        Ok(())
+    }
+
+    /// The instruction that is kept of an address.
+    pub fn kept(&self, addr: u32) -> &Decoded
+        requires there { IsSome (kept_of self.now addr) }
+        ensures value { kept_of self.now addr ≡ Some result.now }
+    {
+        match &self.entries[place_of(addr)] {
+            Some(entry) => &entry.instr,
+            None => unreachable!(),
+        }
     }
 }

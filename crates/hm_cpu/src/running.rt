@@ -1,28 +1,31 @@
 //! The steps of what runs: the thread, or the handler of the newest activation.
 
-ghost use Rattle.std.specs.Prelude.{◌≡◌, ◌+◌, ◌^◌, ◌<◌, ◌≤◌, not, List, ◌∷◌, map, IsTrue, OnOk, Ok};
+ghost use Rattle.std.specs.Prelude.{◌≡◌, ◌+◌, ◌^◌, ◌<◌, ◌≤◌, not, List, ◌∷◌, map, Err, IsTrue, OnOk, Ok};
 ghost use Rattle.std.specs.Vec.{vec_capacity};
-ghost use Rattle.hm_codes.specs.Listing.{Listing, IsListing};
+ghost use Rattle.hm_codes.specs.Listing.{IsFetched, IsListing, Listing, Stands};
 ghost use Rattle.hm_cpu.specs.Cpus.{config_of, nested_of, returns, state_in, stepped, AreEntered, CountsOne, IsHandler, IsPosition, IsSoundUnderSome};
-ghost use Rattle.hm_cpu.specs.Cpus.{interrupted_of, IsSoundUnder, IsUnder, KeepsFlash};
+ghost use Rattle.hm_cpu.specs.Cpus.{interrupted_of, GoesOn, IsSoundUnder, IsUnder, KeepsFlash};
+ghost use Rattle.hm_cpu.specs.Decodings.{instr_of};
 ghost use Rattle.hm_exc.specs.Entry.{newest_first};
 ghost use Rattle.hm_exc.specs.declared.types.Activation.{Activation};
+ghost use Rattle.hm_exec.specs.Families.{row_of};
 ghost use Rattle.hm_handlers.specs.Nested.{flows, letter, step, to_end};
 ghost use Rattle.hm_mem.specs.Memory.{memory_of, flash_at};
 ghost use Rattle.hm_order.specs.Turns.{Older, Younger};
-ghost use Rattle.hm_run.specs.Program.{most_output, steps_left, vector_in, vector_of};
+ghost use Rattle.hm_run.specs.Program.{most_output};
 ghost use Rattle.hm_sched.specs.Schedule.{Sched};
 ghost use Rattle.hm_state.specs.State.{State};
 ghost use Rattle.hm_thumb.specs.Families.{is_vector_row};
 
-use crate::cpu::{Cpu, execute, older, vector_step};
+use crate::cpu::{Cpu, execute, thread_step, vector_step};
+use crate::decoded::Decoded;
 use crate::recent::Recent;
 use crate::step_ends::{LetterEnd, StepEnd};
 use crate::younger::younger;
-use hm_base::Stop;
+use hm_base::{Fault, Stop};
 use hm_exc::leave;
-use hm_isa::{Flow, Instr, Vector};
-use hm_mem::Mem;
+use hm_exec::Any;
+use hm_isa::{Flow, Instr};
 use hm_run::{Cause, Offence};
 use hm_window::Window;
 
@@ -93,13 +96,14 @@ fn handler_other(i: &Instr, x: &mut Cpu) -> Result<(), LetterEnd>
 }
 
 /// The next beat of a handler's vector instruction, which stands at the program counter. The thread's steps alone are counted.
-fn handler_beat(v: &Vector, x: &mut Cpu) -> Result<(), LetterEnd>
+fn handler_beat(v: &Any, x: &mut Cpu) -> Result<(), LetterEnd>
     requires count { (x.old.retired < 2 ^ 63) × (x.old.older_steps < 2 ^ 63) }
     requires position { IsPosition x.old }
     requires handler { IsHandler x.old }
     requires pc { x.old.regs.pc + 4 < 2 ^ 32 }
-    ensures value { (listing : Listing) (s : Sched) → listing x.old.regs.pc ≡ Ok (Instr.Vector v.now) → IsUnder s x.old
+    ensures value { (listing : Listing) (s : Sched) → listing x.old.regs.pc ≡ Ok (Instr.Vector (row_of v.now)) → IsUnder s x.old
         → stepped result x.new ≡ step listing s Older (nested_of x.old) }
+    ensures stays { OnOk result (GoesOn (Instr.Vector (row_of v.now)) x.old x.new) }
     ensures moves { KeepsFlash x.old x.new }
     ensures position { OnOk result (IsPosition x.new) }
     ensures count { CountsOne x.old x.new }
@@ -116,44 +120,60 @@ fn handler_beat(v: &Vector, x: &mut Cpu) -> Result<(), LetterEnd>
 }
 
 /// A step of this instruction of a handler, which stands at the program counter.
-fn handler_step(i: &Instr, x: &mut Cpu) -> Result<(), LetterEnd>
+fn handler_step(i: &Decoded, x: &mut Cpu) -> Result<(), LetterEnd>
     requires count { (x.old.retired < 2 ^ 63) × (x.old.older_steps < 2 ^ 63) }
     requires position { IsPosition x.old }
     requires handler { IsHandler x.old }
     requires entered { AreEntered x.old }
     requires pc { x.old.regs.pc + 4 < 2 ^ 32 }
-    ensures value { (listing : Listing) (s : Sched) → listing x.old.regs.pc ≡ Ok i.now → IsUnder s x.old
+    ensures value { (listing : Listing) (s : Sched) → listing x.old.regs.pc ≡ Ok (instr_of i.now) → IsUnder s x.old
         → stepped result x.new ≡ step listing s Older (nested_of x.old) }
+    ensures stays { OnOk result (GoesOn (instr_of i.now) x.old x.new) }
     ensures moves { KeepsFlash x.old x.new }
     ensures position { OnOk result (IsPosition x.new) }
     ensures count { CountsOne x.old x.new }
 {
     match i {
-        Instr::Scalar(_) | Instr::Branch(_) => handler_other(i, x),
-        Instr::Vector(v) => handler_beat(v, x),
+        Decoded::Whole(i) => handler_other(&i.instr, x),
+        Decoded::Beats(v) => handler_beat(v, x),
     }
 }
 
-/// A step of a handler's older instruction, or the fault where none stands at the program counter.
-fn handler_older(x: &mut Cpu) -> Result<(), LetterEnd>
+/// A step of this instruction of what runs as the older, which stands at the program counter.
+fn step_of(i: &Decoded, x: &mut Cpu) -> Result<(), LetterEnd>
+    requires stands { Stands (flash_at (memory_of x.old.mem)) x.old.regs.pc (instr_of i.now) }
     requires count { (x.old.retired < 2 ^ 63) × (x.old.older_steps < 2 ^ 63) }
     requires position { IsPosition x.old }
-    requires handler { IsHandler x.old }
-    requires entered { AreEntered x.old }
-    ensures value { (listing : Listing) (s : Sched) → IsListing (flash_at (memory_of x.old.mem)) listing → IsUnder s x.old
+    requires room { vec_capacity x.old.output ≡ most_output }
+    requires sound { IsSoundUnderSome x.old }
+    ensures value { (listing : Listing) (s : Sched) → IsListing (flash_at (memory_of x.old.mem)) listing → IsSoundUnder s x.old
         → stepped result x.new ≡ step listing s Older (nested_of x.old) }
+    ensures stays { OnOk result (GoesOn (instr_of i.now) x.old x.new) }
+    ensures sound { (s : Sched) → IsSoundUnder s x.old → OnOk result (IsSoundUnder s x.new) }
     ensures moves { KeepsFlash x.old x.new }
     ensures position { OnOk result (IsPosition x.new) }
     ensures count { CountsOne x.old x.new }
 {
-    match x.recent.fetch(&x.mem, x.regs.pc) {
-        Ok(i) => handler_step(&i, x),
-        Err(fault) => Err(stop_of(Cause::Stop(Stop::Fault(fault)))),
+    if !x.acts.is_empty() {
+        return handler_step(i, x);
+    }
+    match thread_step(i, x) {
+        Ok(()) => Ok(()),
+        Err(cause) => Err(stop_of(cause)),
     }
 }
 
-/// A step of the older instruction of what runs.
-fn older_step(x: &mut Cpu) -> Result<(), LetterEnd>
+/// The fault where no instruction stands at the program counter of what runs.
+fn none_stands(fault: Fault, x: &Cpu) -> LetterEnd
+    requires none { IsFetched (flash_at (memory_of x.now.mem)) x.now.regs.pc (Err fault) }
+    ensures value { (listing : Listing) (s : Sched) → IsListing (flash_at (memory_of x.now.mem)) listing → IsSoundUnder s x.now
+        → stepped (Err result) x.now ≡ step listing s Older (nested_of x.now) }
+{
+    stop_of(Cause::Stop(Stop::Fault(fault)))
+}
+
+/// A step of the older instruction of what runs, or the fault where none stands at the program counter.
+fn older_step(recent: &mut Recent, x: &mut Cpu) -> Result<(), LetterEnd>
     requires count { (x.old.retired < 2 ^ 63) × (x.old.older_steps < 2 ^ 63) }
     requires position { IsPosition x.old }
     requires room { vec_capacity x.old.output ≡ most_output }
@@ -165,17 +185,14 @@ fn older_step(x: &mut Cpu) -> Result<(), LetterEnd>
     ensures position { OnOk result (IsPosition x.new) }
     ensures count { CountsOne x.old x.new }
 {
-    if !x.acts.is_empty() {
-        return handler_older(x);
-    }
-    match older(x) {
-        Ok(()) => Ok(()),
-        Err(cause) => Err(stop_of(cause)),
+    match recent.keep(&x.mem, x.regs.pc) {
+        Ok(()) => step_of(recent.kept(x.regs.pc), x),
+        Err(fault) => Err(none_stands(fault, x)),
     }
 }
 
 /// A step of the younger instruction of what runs.
-fn younger_step(x: &mut Cpu) -> Result<(), LetterEnd>
+fn younger_step(recent: &mut Recent, x: &mut Cpu) -> Result<(), LetterEnd>
     requires position { IsPosition x.old }
     ensures value { (listing : Listing) (s : Sched) → IsListing (flash_at (memory_of x.old.mem)) listing → IsSoundUnder s x.old
         → stepped result x.new ≡ step listing s Younger (nested_of x.old) }
@@ -184,38 +201,15 @@ fn younger_step(x: &mut Cpu) -> Result<(), LetterEnd>
     ensures position { OnOk result (IsPosition x.new) }
     ensures count { CountsOne x.old x.new }
 {
-    match younger(x) {
+    match younger(recent, x) {
         Ok(()) => Ok(()),
         Err(end) => Err(LetterEnd::Step(end)),
     }
 }
 
-/// How many steps this instruction has left as the older: its beats that are left, or one where it has no beats.
-fn steps_of(i: &Instr, at: Window) -> u8
-    requires position { at.a < 4 }
-    ensures value { result ≡ steps_left (vector_in i.now) at.a }
-    ensures few { result ≤ 4 }
-{
-    match i {
-        Instr::Scalar(_) | Instr::Branch(_) => 1,
-        Instr::Vector(_) => 4 - at.a,
-    }
-}
-
-/// How many steps the older instruction, which stands at an address, has left; one where none stands there.
-fn steps_left(recent: &mut Recent, mem: &Mem, addr: u32, at: Window) -> u8
-    requires position { at.a < 4 }
-    ensures value { (listing : Listing) → IsListing (flash_at (memory_of mem.now)) listing → result ≡ steps_left (vector_of (listing addr)) at.a }
-    ensures few { result ≤ 4 }
-{
-    match recent.fetch(mem, addr) {
-        Ok(i) => steps_of(&i, at),
-        Err(_fault) => 1,
-    }
-}
-
-/// The older instruction of what runs to its end, in at most four steps.
-fn whole(x: &mut Cpu) -> Result<(), LetterEnd>
+/// This instruction of what runs, which stands at the program counter, to its end, in at most four steps.
+fn rest_of(i: &Decoded, x: &mut Cpu) -> Result<(), LetterEnd>
+    requires stands { Stands (flash_at (memory_of x.old.mem)) x.old.regs.pc (instr_of i.now) }
     requires count { (x.old.retired < 2 ^ 61) × (x.old.older_steps < 2 ^ 61) }
     requires position { IsPosition x.old }
     requires room { vec_capacity x.old.output ≡ most_output }
@@ -227,11 +221,30 @@ fn whole(x: &mut Cpu) -> Result<(), LetterEnd>
     ensures position { OnOk result (IsPosition x.new) }
     ensures count { (x.new.retired ≤ x.old.retired + 4) × (x.new.older_steps ≤ x.old.older_steps + 4) }
 {
-    let left = steps_left(&mut x.recent, &x.mem, x.regs.pc, x.window);
+    let left = i.steps_left(x.window.a);
     for _k in 0..left {
-        older_step(x)?;
+        step_of(i, x)?;
     }
     Ok(())
+}
+
+/// The older instruction of what runs to its end, in at most four steps, or the fault where none stands at the program counter.
+fn whole(recent: &mut Recent, x: &mut Cpu) -> Result<(), LetterEnd>
+    requires count { (x.old.retired < 2 ^ 61) × (x.old.older_steps < 2 ^ 61) }
+    requires position { IsPosition x.old }
+    requires room { vec_capacity x.old.output ≡ most_output }
+    requires sound { IsSoundUnderSome x.old }
+    ensures value { (listing : Listing) (s : Sched) → IsListing (flash_at (memory_of x.old.mem)) listing → IsSoundUnder s x.old
+        → stepped result x.new ≡ to_end listing s (nested_of x.old) }
+    ensures sound { (s : Sched) → IsSoundUnder s x.old → OnOk result (IsSoundUnder s x.new) }
+    ensures moves { KeepsFlash x.old x.new }
+    ensures position { OnOk result (IsPosition x.new) }
+    ensures count { (x.new.retired ≤ x.old.retired + 4) × (x.new.older_steps ≤ x.old.older_steps + 4) }
+{
+    match recent.keep(&x.mem, x.regs.pc) {
+        Ok(()) => rest_of(recent.kept(x.regs.pc), x),
+        Err(fault) => Err(none_stands(fault, x)),
+    }
 }
 
 /// What a letter of a schedule does, of the thread or of the newest handler: `O` is a step of the older instruction, its next beat or the whole
@@ -240,7 +253,7 @@ fn whole(x: &mut Cpu) -> Result<(), LetterEnd>
 ///
 /// Err tells why it does not go on; the machine then stands as that step left it. Of the thread's instructions alone it is counted how many
 /// were retired and how many steps were done, in `x.retired` and `x.older_steps`.
-pub fn letter(l: u8, x: &mut Cpu) -> Result<(), LetterEnd>
+pub fn letter(l: u8, recent: &mut Recent, x: &mut Cpu) -> Result<(), LetterEnd>
     requires count { (x.old.retired < 2 ^ 61) × (x.old.older_steps < 2 ^ 61) }
     requires position { IsPosition x.old }
     requires room { vec_capacity x.old.output ≡ most_output }
@@ -253,10 +266,10 @@ pub fn letter(l: u8, x: &mut Cpu) -> Result<(), LetterEnd>
     ensures count { (x.new.retired ≤ x.old.retired + 4) × (x.new.older_steps ≤ x.old.older_steps + 4) }
 {
     if l == b'O' {
-        return older_step(x);
+        return older_step(recent, x);
     }
     if l == b'Y' {
-        return younger_step(x);
+        return younger_step(recent, x);
     }
-    whole(x)
+    whole(recent, x)
 }

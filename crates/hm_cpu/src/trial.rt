@@ -3,6 +3,7 @@
 ghost use Rattle.std.specs.Prelude.{◌≡◌, ℕ, ◌+◌, ◌^◌, ◌<◌, ◌++◌, List, [], IsTrue, Some};
 ghost use Rattle.hm_beat.specs.Touches.{span_bytes, spanned, stores_in};
 ghost use Rattle.hm_codes.specs.Listing.{Listing, IsListing};
+ghost use Rattle.hm_exec.specs.Families.{row_of};
 ghost use Rattle.hm_cpu.specs.Trials.{HoldsAll, standing};
 ghost use Rattle.hm_mem.specs.Memory.{flash_at, memory_of};
 ghost use Rattle.hm_order.specs.Machine.{younger};
@@ -17,19 +18,18 @@ use crate::recent::Recent;
 use crate::younger::step_rule;
 use hm_base::Span;
 use hm_beat::BeatWise;
-use hm_exec::any;
-use hm_isa::Vector;
+use hm_exec::Any;
 use hm_mem::Mem;
 use hm_regs::Regs;
 use hm_undo::{Held, undone_law};
 use hm_window::Window;
 
 /// Whether the first beat of the younger goes on where three of `v` are done: it breaks no rule and does not stop.
-fn follows(recent: &mut Recent, v: &Vector, regs: &Regs, mem: &Mem) -> bool
+fn follows(recent: &mut Recent, v: &Any, regs: &Regs, mem: &Mem) -> bool
     requires context { IsTrue regs.now.fpca }
     requires room { regs.now.pc + 4 < 2 ^ 32 }
     ensures value { (listing : Listing) (output : List ℕ) (n steps : ℕ) → let m = memory_of mem.now in
-        IsListing (flash_at m) listing → vector_of (listing regs.now.pc) ≡ Some v.now
+        IsListing (flash_at m) listing → vector_of (listing regs.now.pc) ≡ Some (row_of v.now)
         → result ≡ goes_on (younger (core listing m.around) (standing 3 0 n steps (state_of regs.now m output))) }
 {
     let Some(w) = vector_at(recent, mem, regs.pc + 4) else {
@@ -38,21 +38,18 @@ fn follows(recent: &mut Recent, v: &Vector, regs: &Regs, mem: &Mem) -> bool
     let at = Window { a: 3, b: 0 };
     match step_rule(v, &w, at, regs) {
         Some(_) => false,
-        None => {
-            let row = any(&w);
-            row.check(0, regs, mem).is_ok()
-        }
+        None => w.check(0, regs, mem).is_ok(),
     }
 }
 
 /// The same where two are done of `v`, whose third goes on too. Where it stores, that stays.
-fn goes(recent: &mut Recent, v: &Vector, regs: &Regs, mem: &mut Mem) -> bool
+fn goes(recent: &mut Recent, v: &Any, regs: &Regs, mem: &mut Mem) -> bool
     requires context { IsTrue regs.now.fpca }
     requires room { regs.now.pc + 4 < 2 ^ 32 }
     ensures value { (listing : Listing) (output : List ℕ) (n steps : ℕ) → let m = memory_of mem.old in
-        IsListing (flash_at m) listing → vector_of (listing regs.now.pc) ≡ Some v.now
+        IsListing (flash_at m) listing → vector_of (listing regs.now.pc) ≡ Some (row_of v.now)
         → result ≡ is_ready (core listing m.around) (standing 2 0 n steps (state_of regs.now m output)) }
-    ensures same { let m = memory_of mem.old in IsSameBut (stores_in (vector_tree v.now m.around 2) regs.now m []) m (memory_of mem.new) }
+    ensures same { let m = memory_of mem.old in IsSameBut (stores_in (vector_tree (row_of v.now) m.around 2) regs.now m []) m (memory_of mem.new) }
 {
     let mut after = *regs;
     match beat(v, 2, &mut after, mem) {
@@ -64,7 +61,7 @@ fn goes(recent: &mut Recent, v: &Vector, regs: &Regs, mem: &mut Mem) -> bool
 /// The same, where so many bytes from an address on, and those of the rest, are put back.
 fn tried(
     recent: &mut Recent,
-    v: &Vector,
+    v: &Any,
     regs: &Regs,
     mem: &mut Mem,
     addr: u32,
@@ -74,10 +71,10 @@ fn tried(
     requires context { IsTrue regs.now.fpca }
     requires room { regs.now.pc + 4 < 2 ^ 32 }
     ensures value { (listing : Listing) (output : List ℕ) (n steps : ℕ) → let m = memory_of mem.old in
-        IsListing (flash_at m) listing → vector_of (listing regs.now.pc) ≡ Some v.now
+        IsListing (flash_at m) listing → vector_of (listing regs.now.pc) ≡ Some (row_of v.now)
         → result ≡ is_ready (core listing m.around) (standing 2 0 n steps (state_of regs.now m output)) }
     ensures same { (others : List ℕ) → let m = memory_of mem.old in
-        HoldsAll (stores_in (vector_tree v.now m.around 2) regs.now m []) (others ++ (span_bytes addr len ++ spanned rest.now))
+        HoldsAll (stores_in (vector_tree (row_of v.now) m.around 2) regs.now m []) (others ++ (span_bytes addr len ++ spanned rest.now))
         → IsSameBut others m (memory_of mem.new) }
 {
     if len > 0 {
@@ -109,8 +106,7 @@ pub fn ready(recent: &mut Recent, regs: &Regs, at: Window, mem: &mut Mem) -> boo
     let Some(v) = vector_at(recent, mem, regs.pc) else {
         return false;
     };
-    let row = any(&v);
-    let touch = row.touch(2, regs);
+    let touch = v.touch(2, regs);
     mem.sized();
     let result = tried(recent, &v, regs, mem, 0, 0, touch.stores.as_slice());
     mem.sized();

@@ -46,6 +46,8 @@ use std::marker::Model;
 #[derive(Drop)]
 pub struct Machine {
     cpu: Cpu,
+    /// What was decoded of late; no run depends on it.
+    recent: Recent,
     schedule: Schedule,
     cursor: Cursor,
     ticks: u32,
@@ -123,8 +125,8 @@ impl Machine {
                 acts: Acts::new(),
                 retired: 0,
                 older_steps: 0,
-                recent: Recent::new(alloc)?,
             },
+            recent: Recent::new(alloc)?,
             schedule: s,
             cursor: Cursor { line: 0, used: 0 },
             ticks: 0,
@@ -256,6 +258,7 @@ impl Machine {
             line.letters.as_slice(),
             &line.irq,
             may_enter,
+            &mut self.recent,
             &mut self.cpu,
         ) {
             Err(outcome) => self.outcome = Some(outcome),
@@ -314,7 +317,7 @@ impl Machine {
             return false;
         }
         let at = self.cpu.window;
-        ready(&mut self.cpu.recent, &self.cpu.regs, at, &mut self.cpu.mem)
+        ready(&mut self.recent, &self.cpu.regs, at, &mut self.cpu.mem)
     }
 
     /// Does one tick of these letters, of a machine that `bare` made. An ended machine answers as by `tick`. It takes no memory.
@@ -336,7 +339,14 @@ impl Machine {
             return Turn::Ended(outcome);
         }
         self.ticks += 1;
-        match tick(self.ticks, letters, &[0; 8], false, &mut self.cpu) {
+        match tick(
+            self.ticks,
+            letters,
+            &[0; 8],
+            false,
+            &mut self.recent,
+            &mut self.cpu,
+        ) {
             Err(outcome) => {
                 self.outcome = Some(outcome);
                 Turn::Ended(outcome)

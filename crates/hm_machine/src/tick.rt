@@ -16,14 +16,14 @@ ghost use Rattle.hm_sched.specs.Schedule.{Sched, TickLine, younger_letter};
 
 use crate::conclusion::{EarlyEnd, conclude};
 use crate::entry::enter_picked;
-use hm_cpu::{Cpu, letter};
+use hm_cpu::{Cpu, Recent, letter};
 use hm_mem::{Dev, Mem};
 use hm_run::Outcome;
 use hm_sys::{arrive_all, count};
 use hm_window::ending;
 
 /// What a letter of a schedule does, the `step`-th of its tick.
-fn letter_at(step: u32, l: u8, x: &mut Cpu) -> Result<(), EarlyEnd>
+fn letter_at(step: u32, l: u8, recent: &mut Recent, x: &mut Cpu) -> Result<(), EarlyEnd>
     requires count { (x.old.retired < 2 ^ 61) × (x.old.older_steps < 2 ^ 61) }
     requires position { IsPosition x.old }
     requires room { vec_capacity x.old.output ≡ most_output }
@@ -35,7 +35,7 @@ fn letter_at(step: u32, l: u8, x: &mut Cpu) -> Result<(), EarlyEnd>
     ensures position { OnOk result (IsPosition x.new) }
     ensures count { (x.new.retired ≤ x.old.retired + 4) × (x.new.older_steps ≤ x.old.older_steps + 4) }
 {
-    match letter(l, x) {
+    match letter(l, recent, x) {
         Ok(()) => Ok(()),
         Err(end) => Err(EarlyEnd {
             step,
@@ -46,7 +46,7 @@ fn letter_at(step: u32, l: u8, x: &mut Cpu) -> Result<(), EarlyEnd>
 }
 
 /// The letters of a tick, one after another: as bytes, eight at most.
-fn letters(steps: &[u8], x: &mut Cpu) -> Result<(), EarlyEnd>
+fn letters(steps: &[u8], recent: &mut Recent, x: &mut Cpu) -> Result<(), EarlyEnd>
     requires few { length steps.now ≤ 8 }
     requires count { (x.old.retired < 2 ^ 60) × (x.old.older_steps < 2 ^ 60) }
     requires position { IsPosition x.old }
@@ -62,7 +62,7 @@ fn letters(steps: &[u8], x: &mut Cpu) -> Result<(), EarlyEnd>
     let mut step = 0;
     for l in steps {
         step += 1;
-        letter_at(step, *l, x)?;
+        letter_at(step, *l, recent, x)?;
     }
     Ok(())
 }
@@ -115,6 +115,7 @@ pub fn tick(
     steps: &[u8],
     irq: &[u32; 8],
     entries: bool,
+    recent: &mut Recent,
     x: &mut Cpu,
 ) -> Result<bool, Outcome>
     requires few { length steps.now ≤ 8 }
@@ -129,7 +130,7 @@ pub fn tick(
     ensures position { OnOk result (IsPosition x.new) }
     ensures count { (x.new.retired ≤ x.old.retired + 33) × (x.new.older_steps ≤ x.old.older_steps + 33) }
 {
-    match letters(steps, x) {
+    match letters(steps, recent, x) {
         Ok(()) => end_tick(tick, steps.len() as u32, irq, entries, x),
         Err(early) => Err(conclude(tick, early, x)),
     }

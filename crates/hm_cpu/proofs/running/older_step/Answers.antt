@@ -1,39 +1,10 @@
-use Rattle.std.proofs.Common.{ap, ◌∙◌, Ok, Err}
-use Rattle.hm_cpu.proofs.Keeping.{keeps_moves}
-use Rattle.hm_cpu.proofs.Nestings.{is_none, none_active, sound_under, step_stays, thread_steps}
-use Rattle.hm_cpu.specs.Cpus.{stepped}
-use Rattle.hm_cpu.specs.declared.step_ends.LetterEnd.{LetterEnd}
-use Rattle.hm_order.specs.Turns.{Older}
+use Rattle.hm_cpu.proofs.Going.{kept_stands, kept_there}
+use Rattle.hm_mem.specs.Memory.{memory_of, flash_at}
 use Rattle.hm_cpu.proofs.running.older_step.Goals as goal
 
-pub returns-in-Ok-clause-value : goal.returns-in-Ok-clause-value
-returns-in-Ok-clause-value c listing s is sound =
-    let x = c.args.x.now in
-    thread_steps listing s x (sound_under s x sound) c.older.new.x (Ok tt) (none_active x (is_none _ _ c.is_empty.ensures c.if-not-is_empty.false))
-    c.in-Ok.ensures.kept.acts (c.in-Ok.ensures.value listing is)
+pub kept-requires : goal.kept-requires
+kept-requires c = record { there = kept_there c.keep.new.self (flash_at (memory_of c.args.x.now.mem)) c.args.x.now.regs.pc c.in-Ok.ensures.kept }
 
-pub returns-in-Err-clause-value : goal.returns-in-Err-clause-value
-returns-in-Err-clause-value c listing s is sound =
-    let x = c.args.x.now in
-    let y = c.older.new.x in
-    ap (λ (o : LetterEnd). stepped (Err o) y) c.stop_of.ensures.value
-    ∙ thread_steps listing s x (sound_under s x sound) y (Err c.in-Err.cause) (none_active x (is_none _ _ c.is_empty.ensures c.if-not-is_empty.false))
-    c.in-Err.ensures.kept.acts (c.in-Err.ensures.value listing is)
-
-pub returns-in-Ok-clause-sound : goal.returns-in-Ok-clause-sound
-returns-in-Ok-clause-sound c s sound =
-    step_stays s Older c.args.x.now c.older.new.x (Ok tt) (λ listing s is h. returns-in-Ok-clause-value c listing s is h) sound
-
-pub returns-in-Ok-clause-moves : goal.returns-in-Ok-clause-moves
-returns-in-Ok-clause-moves c = keeps_moves c.in-Ok.ensures.kept
-
-pub returns-in-Err-clause-moves : goal.returns-in-Err-clause-moves
-returns-in-Err-clause-moves c = keeps_moves c.in-Err.ensures.kept
-
-pub returns-then-not-is_empty-clause-value : goal.returns-then-not-is_empty-clause-value
-returns-then-not-is_empty-clause-value c listing s is sound = c.handler_older.ensures.value listing s is (sound_under s c.args.x.now sound)
-
-pub returns-then-not-is_empty-clause-sound : goal.returns-then-not-is_empty-clause-sound
-returns-then-not-is_empty-clause-sound c s sound =
-    step_stays s Older c.args.x.now c.handler_older.new.x c.handler_older.result (λ listing s is h. returns-then-not-is_empty-clause-value c listing s is h)
-    sound
+pub step_of-requires-clause-stands : goal.step_of-requires-clause-stands
+step_of-requires-clause-stands c =
+    kept_stands c.keep.new.self (flash_at (memory_of c.args.x.now.mem)) c.args.x.now.regs.pc c.kept.result.now c.in-Ok.ensures.kept c.kept.ensures.value

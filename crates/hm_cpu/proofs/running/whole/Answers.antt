@@ -1,57 +1,27 @@
-use Rattle.std.proofs.Common.{◌≡◌, ℕ, ◌-◌, arith, ap, ◌∙◌, Result, Err}
-use Rattle.std.proofs.lemmas.Result.{err_from_is_err_and}
-use Rattle.hm_cpu.proofs.Keeping.{listed_still, moves_then}
-use Rattle.hm_cpu.proofs.Letters.{steps_on, steps_stop}
-use Rattle.hm_cpu.specs.Cpus.{nested_of, letter_ended, stepped}
-use Rattle.hm_cpu.specs.declared.step_ends.LetterEnd.{LetterEnd}
+use Rattle.std.proofs.Common.{Result, Err, arith, ap, sym, ◌∙◌}
+use Rattle.hm_base.specs.declared.Fault.{Fault}
 use Rattle.hm_handlers.specs.Nested.{steps}
+use Rattle.hm_isa.specs.declared.Instr.{Instr}
+use Rattle.hm_cpu.proofs.Letters.{steps_stop}
+use Rattle.hm_cpu.proofs.Rows.{listed_here}
+use Rattle.hm_cpu.specs.Cpus.{letter_ended, nested_of}
+use Rattle.hm_run.specs.Program.{steps_left, vector_of}
 use Rattle.hm_state.specs.State.{state_of}
+use Rattle.hm_cpu.proofs.Going.{kept_stands, kept_there}
+use Rattle.hm_mem.specs.Memory.{memory_of, flash_at}
 use Rattle.hm_cpu.proofs.running.whole.Goals as goal
 
-pub older_step-requires-clause-sound : goal.older_step-requires-clause-sound
-older_step-requires-clause-sound c = (c.requires.sound.0, c.loop-k.invariant.sound c.requires.sound.0 c.requires.sound.1)
-
-pub returns-in_err-older_step-clause-value : goal.returns-in_err-older_step-clause-value
+pub returns-in-Err-clause-value : goal.returns-in-Err-clause-value
 unfolding state_of
-returns-in_err-older_step-clause-value c listing s is sound =
-    let answered = err_from_is_err_and c.from_residual.result c.from_residual.ensures.1 in
-    let end = c.in_err-older_step.field-0.0 in
-    let same : c.from_residual.result ≡ Err end = answered.1 ∙ ap Err answered.2 in
-    let x = c.loop-k.x in
-    let y = c.older_step.new.x in
-    let step = c.in_err-older_step.ensures.value listing s (listed_still c.loop-k.invariant.moves listing is) (c.loop-k.invariant.sound s sound) in
-    ap (λ (q : Result Unit LetterEnd). stepped q y) same
-    ∙ steps_stop listing s c.loop-k._k c.steps_left-left.result (nested_of x) c.loop-k-test.true (letter_ended end (nested_of y)) step
-    ∙ c.loop-k.invariant.value listing s is sound
-    ∙ ap (λ (k : ℕ). steps listing s k (nested_of c.args.x.now)) (c.steps_left-left.ensures.value listing is)
+returns-in-Err-clause-value c listing s is sound =
+    let x = c.args.x.now in
+    let here = listed_here listing (flash_at (memory_of x.mem)) x.regs.pc (Err c.in-Err.fault) is c.in-Err.ensures.fault in
+    steps_stop listing s 0 1 (nested_of x) (omega arith) (letter_ended c.none_stands.result (nested_of x)) (c.none_stands.ensures.value listing s is sound)
+    ∙ sym (ap (λ (r : Result Instr Fault). steps listing s (steps_left (vector_of r) x.window.a) (nested_of x)) here)
 
-pub returns-in_err-older_step-clause-moves : goal.returns-in_err-older_step-clause-moves
-returns-in_err-older_step-clause-moves c =
-    let moves = moves_then c.loop-k.invariant.moves c.in_err-older_step.ensures.moves in
-    record { flash = moves.flash; places = moves.places; room = moves.room }
+pub kept-requires : goal.kept-requires
+kept-requires c = record { there = kept_there c.keep.new.self (flash_at (memory_of c.args.x.now.mem)) c.args.x.now.regs.pc c.in-Ok.ensures.kept }
 
-pub loop-k-preserved : goal.loop-k-preserved
-loop-k-preserved c = record {
-  value = λ listing s is sound.
-      steps_on listing s c.loop-k._k c.steps_left-left.result (nested_of c.loop-k.x) c.loop-k-test.true (nested_of c.older_step.new.x)
-      (c.in_ok-older_step.ensures.value listing s (listed_still c.loop-k.invariant.moves listing is) (c.loop-k.invariant.sound s sound))
-      ∙ c.loop-k.invariant.value listing s is sound;
-  sound = λ s sound. c.in_ok-older_step.ensures.sound s (c.loop-k.invariant.sound s sound);
-  moves = moves_then c.loop-k.invariant.moves c.in_ok-older_step.ensures.moves;
-  position = c.in_ok-older_step.ensures.position;
-  retired =
-      let before = c.loop-k.invariant.retired in
-      let count = c.in_ok-older_step.ensures.count.0 in
-      omega (arith, before, count);
-  steps =
-      let before = c.loop-k.invariant.steps in
-      let count = c.in_ok-older_step.ensures.count.1 in
-      omega (arith, before, count);
-}
-
-pub returns-clause-value : goal.returns-clause-value
-unfolding state_of
-returns-clause-value c listing s is sound =
-    let none : 0 ≡ c.steps_left-left.result - c.loop-k._k = omega (arith, c.loop-k-test.false) in
-    ap (λ (k : ℕ). steps listing s k (nested_of c.loop-k.x)) none ∙ c.loop-k.invariant.value listing s is sound
-    ∙ ap (λ (k : ℕ). steps listing s k (nested_of c.args.x.now)) (c.steps_left-left.ensures.value listing is)
+pub rest_of-requires-clause-stands : goal.rest_of-requires-clause-stands
+rest_of-requires-clause-stands c =
+    kept_stands c.keep.new.self (flash_at (memory_of c.args.x.now.mem)) c.args.x.now.regs.pc c.kept.result.now c.in-Ok.ensures.kept c.kept.ensures.value

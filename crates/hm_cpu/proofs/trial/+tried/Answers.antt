@@ -2,6 +2,7 @@ use Rattle.std.proofs.Common.{◌≡◌, ℕ, ◌<◌, ◌++◌, arith, subst, L
 use Rattle.std.proofs.lemmas.List.{nil_from_length}
 use Rattle.hm_base.specs.declared.Span.{Span}
 use Rattle.hm_beat.specs.Touches.{spanned, stores_in}
+use Rattle.hm_exec.specs.Families.{row_of}
 use Rattle.hm_cpu.proofs.Trials.{all_held, first_span, held_first, held_there, more_held, next_held, same_but}
 use Rattle.hm_cpu.specs.Trials.{HoldsAll}
 use Rattle.hm_mem.specs.Memory.{memory_of}
@@ -11,7 +12,7 @@ use Rattle.hm_cpu.proofs.trial.+tried.Goals as goal
 pub returns-then-len-gt0-clause-same : goal.returns-then-len-gt0-clause-same
 returns-then-len-gt0-clause-same t c others h =
     let m = memory_of c.args.mem.now in
-    let all = stores_in (vector_tree c.args.v.now m.around 2) c.args.regs.now m [] in
+    let all = stores_in (vector_tree (row_of c.args.v.now) m.around 2) c.args.regs.now m [] in
     let held = c.of-held.result in
     let some : 0 < c.args.len = omega (arith, c.if-len-gt0.true) in
     c.put_back.ensures.same m others (held_there held m c.args.addr c.of-held.ensures.value)
@@ -21,7 +22,7 @@ returns-then-len-gt0-clause-same t c others h =
 pub returns-in-len1-up-clause-same : goal.returns-in-len1-up-clause-same
 returns-in-len1-up-clause-same t c others h =
     let m = memory_of c.args.mem.now in
-    let all = stores_in (vector_tree c.args.v.now m.around 2) c.args.regs.now m [] in
+    let all = stores_in (vector_tree (row_of c.args.v.now) m.around 2) c.args.regs.now m [] in
     let none : c.args.len ≡ 0 = omega (arith, c.if-len-gt0.false) in
     c.tried.ensures.same others
     (subst (λ (l : List ℕ). HoldsAll all (others ++ l)) (first_span c.args.rest.now _ c.in-len1-up.len_at_least)
@@ -30,7 +31,7 @@ returns-in-len1-up-clause-same t c others h =
 pub returns-in-empty-clause-same : goal.returns-in-empty-clause-same
 returns-in-empty-clause-same t c others h =
     let m = memory_of c.args.mem.now in
-    let all = stores_in (vector_tree c.args.v.now m.around 2) c.args.regs.now m [] in
+    let all = stores_in (vector_tree (row_of c.args.v.now) m.around 2) c.args.regs.now m [] in
     let none : c.args.len ≡ 0 = omega (arith, c.if-len-gt0.false) in
     let short = c.in-empty.len_below in
     let size : length c.args.rest.now ≡ 0 = omega (arith, short) in

@@ -1,23 +1,22 @@
-use Rattle.std.proofs.Common.{sym, ◌∙◌, subst}
-use Rattle.hm_beat.specs.Laws.{Checks, run}
+use Rattle.std.proofs.Common.{ap, sym, ◌∙◌}
+use Rattle.std.specs.Prelude.{option_map}
+use Rattle.hm_exec.specs.Families.{row_of}
 use Rattle.hm_cpu.proofs.Trials.{follows_broken, follows_checked, follows_none}
-use Rattle.hm_isa.specs.declared.Vector.{Vector}
 use Rattle.hm_mem.specs.Memory.{memory_of}
-use Rattle.hm_rows.specs.Rows.{vector_tree}
 use Rattle.hm_cpu.proofs.trial.follows.Goals as goal
 
 pub returns-in_default : goal.returns-in_default
 returns-in_default c = record {
   value = λ listing output n steps is row.
-      follows_none listing c.args.v.now c.args.regs.now (memory_of c.args.mem.now) output n steps row
-      (sym c.in_default.is ∙ c.vector_at.ensures.row listing is);
+      follows_none listing (row_of c.args.v.now) c.args.regs.now (memory_of c.args.mem.now) output n steps row
+      (ap (option_map row_of) (sym c.in_default.is) ∙ c.vector_at.ensures.row listing is);
 }
 
 pub returns-in-Some-step_rule : goal.returns-in-Some-step_rule
 returns-in-Some-step_rule c = record {
   value = λ listing output n steps is row.
       let m = memory_of c.args.mem.now in
-      follows_broken listing c.args.v.now c.args.regs.now m output n steps c.in-Some.w _ row (sym c.in-Some.is ∙ c.vector_at.ensures.row listing is)
+      follows_broken listing (row_of c.args.v.now) c.args.regs.now m output n steps (row_of c.in-Some.w) _ row (ap (option_map row_of) (sym c.in-Some.is) ∙ c.vector_at.ensures.row listing is)
       (sym c.in-Some-step_rule.is ∙ c.step_rule.ensures.value m output n steps);
 }
 
@@ -26,8 +25,8 @@ returns-in-None c = record {
   value = λ listing output n steps is row.
       let m = memory_of c.args.mem.now in
       c.is_ok.ensures.value
-      ∙ follows_checked listing c.args.v.now c.args.regs.now m output n steps c.in-Some.w c.check.result row
-      (sym c.in-Some.is ∙ c.vector_at.ensures.row listing is)
+      ∙ follows_checked listing (row_of c.args.v.now) c.args.regs.now m output n steps (row_of c.in-Some.w) c.check.result row
+      (ap (option_map row_of) (sym c.in-Some.is) ∙ c.vector_at.ensures.row listing is)
       (sym c.in-None.is ∙ c.step_rule.ensures.value m output n steps)
-      (subst (λ (x : Vector). Checks (run (vector_tree x m.around 0) c.args.regs.now m output) c.check.result) c.any-row.ensures.row (c.check.ensures output));
+      (c.check.ensures output);
 }

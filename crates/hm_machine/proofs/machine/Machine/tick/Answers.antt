@@ -54,3 +54,6 @@ returns-then-lines-eq0-clause-taint c image s t listing is h = absurd (no_run c 
 
 pub returns-then-lines-eq0-clause-position : goal.returns-then-lines-eq0-clause-position
 returns-then-lines-eq0-clause-position c image s t listing is h = absurd (no_run c image s t h)
+
+pub returns-in-Some-clause-shows : goal.returns-in-Some-clause-shows
+returns-in-Some-clause-shows c = ended_shows c
