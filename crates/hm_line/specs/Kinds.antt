@@ -2,6 +2,7 @@
 use Rattle.std.specs.Prelude.{ℕ, ◌==◌, if◌then◌else◌}
 use Rattle.hm_tokens.specs.declared.marks.Mark.{Mark}
 use Rattle.hm_tokens.specs.declared.marks.Mark.TheVariants.{Colon, Comma, Hash, OpenBracket, CloseBracket, OpenBrace, CloseBrace, Bang, Minus, Plus}
+use Rattle.hm_tokens.specs.Marks.{mark_byte}
 use Rattle.hm_tokens.specs.Tokens.{Tok}
 use Rattle.hm_tokens.specs.Tokens as tokens
 
@@ -14,9 +15,10 @@ pub data Kind : Type 0 where
 -- the mark that a byte is, where it is one
 abbrev pub mark_of : ℕ → Mark
 mark_of c =
-    if c == 58 then Colon else if c == 44 then Comma else if c == 35 then Hash
-    else if c == 91 then OpenBracket else if c == 93 then CloseBracket else if c == 123 then OpenBrace
-    else if c == 125 then CloseBrace else if c == 33 then Bang else if c == 45 then Minus else Plus
+    if c == mark_byte Colon then Colon else if c == mark_byte Comma then Comma else if c == mark_byte Hash then Hash
+    else if c == mark_byte OpenBracket then OpenBracket else if c == mark_byte CloseBracket then CloseBracket
+    else if c == mark_byte OpenBrace then OpenBrace else if c == mark_byte CloseBrace then CloseBrace
+    else if c == mark_byte Bang then Bang else if c == mark_byte Minus then Minus else Plus
 
 -- the kind of a token
 abbrev pub kind : Tok → Kind

@@ -1,6 +1,8 @@
 -- A line of a source: what is its label, and what its instruction or directive.
 use Rattle.std.specs.Prelude.{◌≡◌, ℕ, Bool, true, false, List, Option, Some, None, option_map, option_and_then, not, ◌==◌, if◌then◌else◌}
 use Rattle.hm_text_base.specs.Spans.{span}
+use Rattle.hm_tokens.specs.declared.marks.Mark.TheVariants as marks
+use Rattle.hm_tokens.specs.Marks.{mark_byte}
 use Rattle.hm_tokens.specs.Tokens.{Tok, word, number, mark, skip, token_at}
 use Rattle.hm_line.specs.declared.form.Form.TheVariants as forms
 use Rattle.hm_tokens.specs.Names.{is_label_name}
@@ -24,7 +26,7 @@ word_at text = option_and_then (λ x. word_with x.0 x.1) (token_at (skip text))
 abbrev pub colon_with : Tok → List ℕ → Option (List ℕ)
 colon_with (word w) rest = None
 colon_with (number n) rest = None
-colon_with (mark c) rest = if c == 58 then Some rest else None
+colon_with (mark c) rest = if c == mark_byte marks.Colon then Some rest else None
 
 -- what stands behind the first token of a text, where that is `:`
 abbrev pub behind_colon : List ℕ → Option (List ℕ)

@@ -15,7 +15,7 @@ use Rattle.hm_isa.specs.declared.narrow.S25.TheVariants as s25
 use Rattle.hm_isa.specs.Code.{branch_halves, scalar_halves}
 use Rattle.hm_isa.specs.Rules.{keeps_list, listed_in}
 use Rattle.hm_isa.specs.Standing.{◌↑◌}
-use Rattle.hm_tokens.specs.Tokens.{word, number, close_brace, comma, bang}
+use Rattle.hm_tokens.specs.Tokens.{word, number, close_brace, comma, bang, open_brace}
 use Rattle.hm_line.specs.declared.form.Depth.TheVariants.{Outside}
 use Rattle.hm_line.specs.declared.form.Operands.TheVariants as ops
 use Rattle.hm_line.specs.Kinds.{Kind, kind}
@@ -28,12 +28,12 @@ use Rattle.hm_text16_rows.proofs.Registers.{Braces, low_braces, pop_braces, push
 use Rattle.hm_text.proofs.Formed.{Formed, are_operands}
 
 -- LISTS
-pub more_registers : (ks : List ℕ) → takes ops.ListWord (map kind (listed 44 ks ++ close_brace ∷ [])) ≡ true
+pub more_registers : (ks : List ℕ) → takes ops.ListWord (map kind (listed comma ks ++ close_brace ∷ [])) ≡ true
 more_registers [] = refl
 more_registers (k ∷ ks) = more_registers ks
 
-some_registers : (ks : List ℕ) (regs : ℕ) → bits_of (braced (listed 123 ks ++ close_brace ∷ [])) ≡ regs → 0 < regs
-    → takes (ops.Operand Outside) (map kind (listed 123 ks ++ close_brace ∷ [])) ≡ true
+some_registers : (ks : List ℕ) (regs : ℕ) → bits_of (braced (listed open_brace ks ++ close_brace ∷ [])) ≡ regs → 0 < regs
+    → takes (ops.Operand Outside) (map kind (listed open_brace ks ++ close_brace ∷ [])) ≡ true
 unfolding bits_of braced
 some_registers [] regs bits some = absurd (omega (arith, bits, some))
 some_registers (k ∷ ks) regs bits some = more_registers ks

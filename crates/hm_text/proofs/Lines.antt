@@ -3,9 +3,10 @@ use Rattle.std.proofs.Common.{◌≡◌, ℕ, zero, suc, ◌+◌, ◌-◌, Bool,
 use Rattle.std.specs.Prelude.{◌&&◌, ◌||◌}
 use Rattle.std.proofs.lemmas.Bool.{and_parts, false≢true}
 use Rattle.hm_text_base.proofs.Steps.{some_is}
+use Rattle.hm_tokens.specs.declared.marks.Mark.TheVariants as marks
 use Rattle.hm_tokens.specs.Lines.{AreTokensOf, IsLineOf}
-use Rattle.hm_tokens.specs.Ranges.{is_inside, is_rising, is_the_mark, last_register, normal, range_tokens, register_of, rising, singles}
-use Rattle.hm_tokens.specs.Tokens.{Tok, word, number, mark, run, skip, token_at}
+use Rattle.hm_tokens.specs.Ranges.{is_inside, is_rising, last_register, normal, range_tokens, register_of, rising, singles}
+use Rattle.hm_tokens.specs.Tokens.{Tok, word, number, mark, is_the_mark, run, skip, token_at}
 
 -- ONE LINE
 nothing_there : (t : Tok) (rest : List ℕ) → token_at [] ≡ Some (t, rest) → ⊥
@@ -46,7 +47,7 @@ is_number_first (mark c ∷ ts) = false
 
 abbrev pub has_lane : List Tok → Bool
 has_lane [] = false
-has_lane (t ∷ ts) = (is_the_mark 91 t && is_number_first ts) || has_lane ts
+has_lane (t ∷ ts) = (is_the_mark marks.OpenBracket t && is_number_first ts) || has_lane ts
 
 or_second : (a b : Bool) → b ≡ true → (a || b) ≡ true
 or_second true b e = refl
@@ -100,22 +101,23 @@ number_first (t ∷ ts) inside e =
 chosen_lane : (b : Bool) (range behind single ts : List Tok) (t : Tok) → has_lane (range ++ behind) ≡ has_lane behind
     → (has_lane behind ≡ true → has_lane ts ≡ true) → (is_number_first single ≡ true → is_number_first ts ≡ true)
     → (has_lane single ≡ true → has_lane ts ≡ true) → has_lane (cond b (range ++ behind) (t ∷ single)) ≡ true → has_lane (t ∷ ts) ≡ true
-chosen_lane true range behind single ts t same more number_ lane e = or_second (is_the_mark 91 t && is_number_first ts) (has_lane ts) (more (sym same ∙ e))
+chosen_lane true range behind single ts t same more number_ lane e =
+    or_second (is_the_mark marks.OpenBracket t && is_number_first ts) (has_lane ts) (more (sym same ∙ e))
 chosen_lane false range behind single ts t same more number_ lane e =
-    or_cases (is_the_mark 91 t && is_number_first single) (has_lane single) (has_lane (t ∷ ts)) e
-    (λ f. front (and_parts (is_the_mark 91 t) (is_number_first single) f))
-    (λ f. or_second (is_the_mark 91 t && is_number_first ts) (has_lane ts) (lane f))
+    or_cases (is_the_mark marks.OpenBracket t && is_number_first single) (has_lane single) (has_lane (t ∷ ts)) e
+    (λ f. front (and_parts (is_the_mark marks.OpenBracket t) (is_number_first single) f))
+    (λ f. or_second (is_the_mark marks.OpenBracket t && is_number_first ts) (has_lane ts) (lane f))
   where
     both : (a b c : Bool) → a ≡ true → b ≡ true → ((a && b) || c) ≡ true
     both a b c p q = rw (p, q) refl
 
-    front : (is_the_mark 91 t ≡ true) × (is_number_first single ≡ true) → has_lane (t ∷ ts) ≡ true
-    front p = both (is_the_mark 91 t) (is_number_first ts) (has_lane ts) p.0 (number_ p.1)
+    front : (is_the_mark marks.OpenBracket t ≡ true) × (is_number_first single ≡ true) → has_lane (t ∷ ts) ≡ true
+    front p = both (is_the_mark marks.OpenBracket t) (is_number_first ts) (has_lane ts) p.0 (number_ p.1)
 
 singles_lane : (ts : List Tok) (over : ℕ) (inside : Bool) → has_lane (singles over inside ts) ≡ true → has_lane ts ≡ true
 unfolding singles
 singles_lane [] over inside e = e
-singles_lane (t ∷ ts) (suc over) inside e = or_second (is_the_mark 91 t && is_number_first ts) (has_lane ts) (singles_lane ts over inside e)
+singles_lane (t ∷ ts) (suc over) inside e = or_second (is_the_mark marks.OpenBracket t && is_number_first ts) (has_lane ts) (singles_lane ts over inside e)
 singles_lane (t ∷ ts) zero inside e =
     chosen_lane (inside && is_rising (register_of t) (last_register ts)) (range_tokens (register_of t) (last_register ts)) (singles 2 inside ts)
     (singles 0 (is_inside inside t) ts) ts t

@@ -425,7 +425,7 @@ is_some_list name w n list e =
     let t = and_parts (nat_le 2 (count_ones list) && not (listed_in list 13)) (may_list name list) q.0 in
     (and_parts (nat_le 2 (count_ones list)) (not (listed_in list 13)) t.0).0
 
-some_taken : (ks : List ℕ) → (ks ≡ [] → ⊥) → takes (ops.Operand Outside) (map kind (listed 123 ks ++ close_brace ∷ [])) ≡ true
+some_taken : (ks : List ℕ) → (ks ≡ [] → ⊥) → takes (ops.Operand Outside) (map kind (listed open_brace ks ++ close_brace ∷ [])) ≡ true
 some_taken [] some = absurd (some refl)
 some_taken (k ∷ ks) some = more_registers ks
 

@@ -1,8 +1,8 @@
 -- What a text gives numbers for, read carelessly: nothing is refused, since the row that is found is asked for its text.
 use Rattle.std.specs.Prelude.{ℕ, min, List, [], ◌∷◌, length, codes, bytes_eq, Option, Some, None, ◌==◌, if◌then◌else◌}
+use Rattle.hm_tokens.specs.declared.marks.Mark.TheVariants as marks
 use Rattle.hm_tokens.specs.Names.{condition_in, register_in, vector_in}
-use Rattle.hm_tokens.specs.Ranges.{is_the_mark}
-use Rattle.hm_tokens.specs.Tokens.{Tok, word, number, mark}
+use Rattle.hm_tokens.specs.Tokens.{Tok, word, number, mark, is_the_mark}
 use Rattle.hm_text_rows.specs.Operands.{added, back_in, before, first_of, given_or, is_number, is_vector, operand, size_of}
 use Rattle.hm_text32_rows.specs.Mnemonics.{double_in}
 use Rattle.hm_text32_codes.specs.declared.operands.Operands.{Operands}
@@ -76,4 +76,4 @@ read_places ts = record {
 -- 1 where `!` stands behind the first token
 abbrev pub second_bang : List Tok → ℕ
 second_bang [] = 0
-second_bang (t ∷ ts) = if is_the_mark 33 (first_of ts) then 1 else 0
+second_bang (t ∷ ts) = if is_the_mark marks.Bang (first_of ts) then 1 else 0

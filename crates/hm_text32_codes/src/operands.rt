@@ -8,7 +8,7 @@ use hm_text_rows::{
     added, back_in, before, first_of, is, is_mark, is_number, is_vector, operand, size_of,
 };
 use hm_text32_rows::read_double;
-use hm_tokens::{Token, read_condition, read_register, read_vector};
+use hm_tokens::{Mark, Token, read_condition, read_register, read_vector};
 
 /// What stands behind a mnemonic, as numbers.
 #[derive(Clone, Copy)]
@@ -177,6 +177,12 @@ pub fn second_bang(tokens: &[Token<'_>]) -> u32
 {
     match tokens {
         [] => 0,
-        [_first, rest @ ..] => { if is_mark(first_of(rest), b'!') { 1 } else { 0 } }
+        [_first, rest @ ..] => {
+            if is_mark(first_of(rest), Mark::Bang) {
+                1
+            } else {
+                0
+            }
+        }
     }
 }

@@ -8,7 +8,7 @@ use Rattle.std.proofs.lemmas.List.{length-append}
 use Rattle.std.proofs.Math.Nat.{mul-add}
 use Rattle.hm_tokens.specs.Lines.{printed, spelled, spelled_behind}
 use Rattle.hm_tokens.specs.Names.{register_name}
-use Rattle.hm_tokens.specs.Tokens.{Tok, word, close_brace, comma}
+use Rattle.hm_tokens.specs.Tokens.{Tok, word, mark, close_brace, comma, open_brace}
 use Rattle.hm_tokens.proofs.Again.{apart, are_apart}
 use Rattle.hm_text_rows.specs.Operands.{bit_in, bits_of, braced}
 use Rattle.hm_text_rows.specs.Shapes.{back, braces, listed, r, registers_from}
@@ -100,14 +100,14 @@ one_bit k lt = below_is (λ j. bit_in (register_name j)) (λ j. 2 ^ j) 16 k refl
 min_low : (x : ℕ) → x ≤ 0xffff → min x 0xffff ≡ x
 min_low x le = omega arith
 
-listed_bits : (m : ℕ) (ks : List ℕ) → AllBelow16 ks → total ks ≤ 0xffff → bits_of (listed m ks ++ close_brace ∷ []) ≡ total ks
+listed_bits : (m : ℕ) (ks : List ℕ) → AllBelow16 ks → total ks ≤ 0xffff → bits_of (listed (mark m) ks ++ close_brace ∷ []) ≡ total ks
 unfolding bits_of
 listed_bits m [] all le = refl
 listed_bits m (k ∷ ks) all le =
     let rest = listed_bits 44 ks all.1 (omega arith) in
     rw (one_bit k all.0, rest, min_low (2 ^ k + total ks) le) (omega (arith, le))
 
-braced_bits : (ks : List ℕ) → AllBelow16 ks → total ks ≤ 0xffff → bits_of (braced (listed 123 ks ++ close_brace ∷ [])) ≡ total ks
+braced_bits : (ks : List ℕ) → AllBelow16 ks → total ks ≤ 0xffff → bits_of (braced (listed open_brace ks ++ close_brace ∷ [])) ≡ total ks
 unfolding bits_of braced
 braced_bits [] all le = refl
 braced_bits (k ∷ ks) all le =
@@ -191,9 +191,9 @@ printed_length name [] = omega arith
 printed_length name (t ∷ ts) = omega (arith, length-append name (32 ∷ spelled (t ∷ ts)))
 
 printed_alone : (s f : List ℕ) (ks : List ℕ) → is_mnemonic s ≡ true → is_suffix f ≡ true → AllBelow16 ks → length ks ≤ 14
-    → IsPrinted (word (s ++ f) ∷ (listed 123 ks ++ close_brace ∷ []))
+    → IsPrinted (word (s ++ f) ∷ (listed open_brace ks ++ close_brace ∷ []))
 printed_alone s f ks mnemonic suffix all few =
-    let ts = listed 123 ks ++ close_brace ∷ [] in
+    let ts = listed open_brace ks ++ close_brace ∷ [] in
     let name = first_word_short s f mnemonic suffix in
     let rest = listed_spelled false 123 ks refl all in
     let count = listed_length 123 ks in

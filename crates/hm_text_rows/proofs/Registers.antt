@@ -7,7 +7,7 @@ use Rattle.std.proofs.lemmas.List.{append-nil, length-append}
 use Rattle.hm_isa.specs.Rules.{listed_in}
 use Rattle.hm_tokens.specs.Lines.{spelled_behind}
 use Rattle.hm_tokens.specs.Names.{register_name}
-use Rattle.hm_tokens.specs.Tokens.{Tok, mark, close_brace}
+use Rattle.hm_tokens.specs.Tokens.{Tok, mark, close_brace, comma, open_brace}
 use Rattle.hm_tokens.proofs.Again.{AreTokens, apart, is_mark_token, or_true}
 use Rattle.hm_tokens.proofs.Ranges.{has_no_ranges}
 use Rattle.hm_text_rows.specs.Shapes.{listed, r, registers_from}
@@ -50,19 +50,19 @@ pub front_count : (m n k regs : ℕ) → length (registers_from (n + m) k regs) 
 front_count m n k regs = front_from m n k (n + m) (k + m) regs refl refl
 
 -- their text
-pub listed_tokens : (m : ℕ) (ks : List ℕ) → AreTokens (mark m ∷ []) → AllBelow16 ks → AreTokens (listed m ks ++ close_brace ∷ [])
+pub listed_tokens : (m : ℕ) (ks : List ℕ) → AreTokens (mark m ∷ []) → AllBelow16 ks → AreTokens (listed (mark m) ks ++ close_brace ∷ [])
 listed_tokens m [] is all = (short_close_brace.is, tt)
 listed_tokens m (k ∷ ks) is all = (is.0, (word_token (register_name k) (word_r k all.0), listed_tokens 44 ks (short_comma.is, tt) all.1))
 
-pub listed_apart : (t : Tok) (m : ℕ) (ks : List ℕ) → apart t (listed m ks ++ close_brace ∷ []) ≡ true
+pub listed_apart : (t : Tok) (m : ℕ) (ks : List ℕ) → apart t (listed (mark m) ks ++ close_brace ∷ []) ≡ true
 listed_apart t m [] = rw (or_true (is_mark_token t)) refl
 listed_apart t m (k ∷ ks) = rw (or_true (is_mark_token t), listed_apart (r k) 44 ks) refl
 
-pub listed_ranges : (m : ℕ) (ks : List ℕ) → eqb m 45 ≡ false → has_no_ranges (listed m ks ++ close_brace ∷ []) ≡ true
+pub listed_ranges : (m : ℕ) (ks : List ℕ) → eqb m 45 ≡ false → has_no_ranges (listed (mark m) ks ++ close_brace ∷ []) ≡ true
 listed_ranges m [] e = refl
 listed_ranges m (k ∷ ks) e = rw (e, listed_ranges 44 ks refl) refl
 
-pub listed_length : (m : ℕ) (ks : List ℕ) → length (listed m ks ++ close_brace ∷ []) ≡ 2 * length ks + 1
+pub listed_length : (m : ℕ) (ks : List ℕ) → length (listed (mark m) ks ++ close_brace ∷ []) ≡ 2 * length ks + 1
 listed_length m [] = refl
 listed_length m (k ∷ ks) = omega (arith, listed_length 44 ks)
 
@@ -76,20 +76,20 @@ name_length k lt =
     grind (arith, nat_tests, all)
 
 pub listed_spelled : (b : Bool) (m : ℕ) (ks : List ℕ) → eqb m 35 ≡ false → AllBelow16 ks
-    → length (spelled_behind b (listed m ks ++ close_brace ∷ [])) ≤ 4 * length ks + 1
+    → length (spelled_behind b (listed (mark m) ks ++ close_brace ∷ [])) ≤ 4 * length ks + 1
 listed_spelled b m [] e all = rw (and_false b) (omega arith)
 listed_spelled b m (k ∷ ks) e all =
     let rest = listed_spelled true 44 ks refl all.1 in
     let name = name_length k all.0 in
-    rw (e, and_false b) (omega (arith, rest, name, length-append (register_name k) (spelled_behind true (listed 44 ks ++ close_brace ∷ []))))
+    rw (e, and_false b) (omega (arith, rest, name, length-append (register_name k) (spelled_behind true (listed comma ks ++ close_brace ∷ []))))
 
 -- ---- room for them
 
-pub listed_count : (m : ℕ) (ks : List ℕ) → length (listed m ks) ≡ 2 * length ks
+pub listed_count : (m : ℕ) (ks : List ℕ) → length (listed (mark m) ks) ≡ 2 * length ks
 listed_count m [] = refl
 listed_count m (k ∷ ks) = omega (arith, listed_count 44 ks)
 
-pub room_left : (n regs : ℕ) → n ≤ 8 → length (registers_from 16 0 regs) ≤ 14 → n + length (listed 123 (registers_from 16 0 regs)) ≤ 38
+pub room_left : (n regs : ℕ) → n ≤ 8 → length (registers_from 16 0 regs) ≤ 14 → n + length (listed open_brace (registers_from 16 0 regs)) ≤ 38
 room_left n regs le few =
     let count = listed_count 123 (registers_from 16 0 regs) in
     omega (arith, le, count, few)
@@ -112,22 +112,23 @@ module _ (m k n regs : ℕ) (some : 0 < n) where
   pub taken : listed_in regs k ≡ true → registers_from n k regs ≡ k ∷ behind_it
   taken e = from_here ∙ ap (λ (b : Bool). cond b (k ∷ behind_it) behind_it) e
 
-  pub taken_count : listed_in regs k ≡ true → length (listed m (registers_from n k regs)) ≡ length (listed 44 behind_it) + 2
+  pub taken_count : listed_in regs k ≡ true → length (listed (mark m) (registers_from n k regs)) ≡ length (listed comma behind_it) + 2
   taken_count e =
-      let all : length (listed m (registers_from n k regs)) ≡ suc (suc (length (listed 44 behind_it))) = ap (λ (ks : List ℕ). length (listed m ks)) (taken e) in
+      let all : length (listed (mark m) (registers_from n k regs)) ≡ suc (suc (length (listed comma behind_it))) =
+      ap (λ (ks : List ℕ). length (listed (mark m) ks)) (taken e) in
       omega (arith, all)
 
 -- the text with them
-pub none_more : (front : List Tok) (m k n regs : ℕ) → n ≡ 0 → front ≡ front ++ listed m (registers_from n k regs)
-none_more front m k n regs e = sym (ap (λ (j : ℕ). front ++ listed m (registers_from j k regs)) e ∙ append-nil front)
+pub none_more : (front : List Tok) (m k n regs : ℕ) → n ≡ 0 → front ≡ front ++ listed (mark m) (registers_from n k regs)
+none_more front m k n regs e = sym (ap (λ (j : ℕ). front ++ listed (mark m) (registers_from j k regs)) e ∙ append-nil front)
 
-pub none_count : (m k n regs : ℕ) → n ≡ 0 → length (listed m (registers_from n k regs)) ≡ 0
-none_count m k n regs e = ap (λ (j : ℕ). length (listed m (registers_from j k regs))) e
+pub none_count : (m k n regs : ℕ) → n ≡ 0 → length (listed (mark m) (registers_from n k regs)) ≡ 0
+none_count m k n regs e = ap (λ (j : ℕ). length (listed (mark m) (registers_from j k regs))) e
 
 pub taken_more : (front one two all : List Tok) (m k n regs : ℕ) → 0 < n → listed_in regs k ≡ true → one ≡ front ++ mark m ∷ [] → two ≡ one ++ r k ∷ []
-    → all ≡ two ++ listed 44 (registers_from (n - 1) (k + 1) regs) → all ≡ front ++ listed m (registers_from n k regs)
+    → all ≡ two ++ listed comma (registers_from (n - 1) (k + 1) regs) → all ≡ front ++ listed (mark m) (registers_from n k regs)
 taken_more front one two all m k n regs some e eo et ea =
-    let rest = listed 44 (registers_from (n - 1) (k + 1) regs) in
+    let rest = listed comma (registers_from (n - 1) (k + 1) regs) in
     ea ∙ ap (λ (x : List Tok). x ++ rest) et ∙ append_assoc one (r k ∷ []) rest ∙ ap (λ (x : List Tok). x ++ r k ∷ rest) eo
     ∙ append_assoc front (mark m ∷ []) (r k ∷ rest)
-    ∙ ap (λ (ks : List ℕ). front ++ listed m ks) (sym (taken m k n regs some e))
+    ∙ ap (λ (ks : List ℕ). front ++ listed (mark m) ks) (sym (taken m k n regs some e))

@@ -2,9 +2,10 @@
 use Rattle.std.proofs.Common.{◌≡◌, ℕ, ◌^◌, ◌<◌, ◌≤◌, Bool, true, false, cond, List, [], ◌∷◌, ◌++◌, length, length-append, Option, Some, None, sym, refl, arith}
 use Rattle.std.specs.Prelude.{not}
 use Rattle.std.proofs.lemmas.Bool.{and_parts}
+use Rattle.hm_tokens.specs.declared.marks.Mark.TheVariants as marks
 use Rattle.hm_tokens.specs.Lines.{IsLineOf}
-use Rattle.hm_tokens.specs.Ranges.{is_the_mark, normal}
-use Rattle.hm_tokens.specs.Tokens.{Tok, number}
+use Rattle.hm_tokens.specs.Ranges.{normal}
+use Rattle.hm_tokens.specs.Tokens.{Tok, number, is_the_mark}
 use Rattle.hm_tokens.proofs.Ranges.{has_no_ranges, normal_same}
 use Rattle.hm_text_rows.specs.Labels.{IsLabel, NamesTarget, printed_with}
 use Rattle.hm_text_rows.proofs.Printed.{IsPrinted, IsPrintedAt}
@@ -33,7 +34,7 @@ pub record Again (b : Bool) (row : List Tok) (o : Option ℕ) (text : List ℕ) 
 more_ranges : (ts : List Tok) (a : ℕ) → has_no_ranges ts ≡ true → has_no_ranges (ts ++ number a ∷ []) ≡ true
 more_ranges [] a e = refl
 more_ranges (t ∷ ts) a e =
-    let p = and_parts (not (is_the_mark 45 t)) (has_no_ranges ts) e in
+    let p = and_parts (not (is_the_mark marks.Minus t)) (has_no_ranges ts) e in
     rw (p.0, more_ranges ts a p.1) refl
 
 pub again_of : (b : Bool) (row : List Tok) (o : Option ℕ) (labels : List ℕ → Option ℕ) → IsPrintedRow b row → IsGiven b o

@@ -1,8 +1,9 @@
 -- What a text gives numbers for, read carelessly: nothing is refused, since the row that is found is asked for its text.
 use Rattle.std.specs.Prelude.{ℕ, ◌+◌, ◌-◌, ◌^◌, min, Bool, true, false, List, [], ◌∷◌, length, get_or, Option, Some, None, ◌==◌, if◌then◌else◌}
+use Rattle.hm_tokens.specs.declared.marks.Mark.{Mark}
+use Rattle.hm_tokens.specs.declared.marks.Mark.TheVariants as marks
 use Rattle.hm_tokens.specs.Names.{condition_in, register_in, vector_in}
-use Rattle.hm_tokens.specs.Ranges.{is_the_mark}
-use Rattle.hm_tokens.specs.Tokens.{Tok, word, number, mark, comma}
+use Rattle.hm_tokens.specs.Tokens.{Tok, word, number, mark, comma, is_the_mark}
 
 -- the number, where there is one, else d
 abbrev pub given_or : Option ℕ → ℕ → ℕ
@@ -63,22 +64,25 @@ abbrev pub first_of : List Tok → Tok
 first_of [] = number 0
 first_of (t ∷ ts) = t
 
--- the token behind the first mark c; a number where there is none
-abbrev pub token_behind : ℕ → List Tok → Tok
-token_behind c [] = number 0
-token_behind c (t ∷ ts) = if is_the_mark c t then first_of ts else token_behind c ts
+-- the token behind the first mark m; a number where there is none
+abbrev pub token_behind : Mark → List Tok → Tok
+token_behind m [] = number 0
+token_behind m (t ∷ ts) = if is_the_mark m t then first_of ts else token_behind m ts
 
 -- 0 where a minus sign stands behind `#`
 abbrev pub added : List Tok → ℕ
-added ts = if is_the_mark 45 (token_behind 35 ts) then 0 else 1
+added ts = if is_the_mark marks.Minus (token_behind marks.Hash ts) then 0 else 1
 
 -- 0 where a comma stands behind `]`
 abbrev pub before : List Tok → ℕ
-before ts = if is_the_mark 44 (token_behind 93 ts) then 0 else 1
+before ts = if is_the_mark marks.Comma (token_behind marks.CloseBracket ts) then 0 else 1
 
 -- 1 where a comma or `!` stands there
 abbrev pub back_in : List Tok → ℕ
-back_in ts = if is_the_mark 44 (token_behind 93 ts) then 1 else if is_the_mark 33 (token_behind 93 ts) then 1 else 0
+back_in ts =
+    if is_the_mark marks.Comma (token_behind marks.CloseBracket ts) then 1
+    else if is_the_mark marks.Bang (token_behind marks.CloseBracket ts) then 1
+    else 0
 
 -- LISTS
 -- the bit of a register in a list
@@ -104,4 +108,4 @@ bits_of (t ∷ ts) = min (token_bit t + bits_of ts) 0xffff
 -- what stands behind the first `{`
 unfoldable pub braced : List Tok → List Tok
 braced [] = []
-braced (t ∷ ts) = if is_the_mark 123 t then ts else braced ts
+braced (t ∷ ts) = if is_the_mark marks.OpenBrace t then ts else braced ts

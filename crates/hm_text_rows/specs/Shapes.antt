@@ -2,7 +2,7 @@
 use Rattle.std.specs.Prelude.{ℕ, zero, suc, ◌+◌, cond, List, [], ◌∷◌, ◌++◌, codes, nat_eq, if◌then◌else◌}
 use Rattle.hm_isa.specs.Rules.{listed_in}
 use Rattle.hm_tokens.specs.Names.{register_name, vector_name}
-use Rattle.hm_tokens.specs.Tokens.{Tok, word, number, mark, close_brace, close_bracket, comma, bang, hash_mark, minus_mark, open_bracket}
+use Rattle.hm_tokens.specs.Tokens.{Tok, word, number, bang, close_brace, close_bracket, comma, hash_mark, minus_mark, open_brace, open_bracket}
 
 -- OPERANDS
 -- the name of vector register d
@@ -90,10 +90,10 @@ registers_from zero k list = []
 registers_from (suc n) k list = if listed_in list k then k ∷ registers_from n (k + 1) list else registers_from n (k + 1) list
 
 -- registers, each behind a mark: the first behind this one, and the others behind a comma
-abbrev pub listed : ℕ → List ℕ → List Tok
-listed m [] = []
-listed m (k ∷ ks) = mark m ∷ r k ∷ listed 44 ks
+abbrev pub listed : Tok → List ℕ → List Tok
+listed t [] = []
+listed t (k ∷ ks) = t ∷ r k ∷ listed comma ks
 
 -- `{..}`, the registers in rising order
 abbrev pub braces : ℕ → List Tok
-braces list = listed 123 (registers_from 16 0 list) ++ close_brace ∷ []
+braces list = listed open_brace (registers_from 16 0 list) ++ close_brace ∷ []

@@ -4,8 +4,7 @@ ghost use Rattle.std.specs.Prelude.{◌≡◌, ◌≤◌, bytes_eq, map};
 ghost use Rattle.hm_text_rows.specs.Operands.{added, back_in, before, bit_in, bits_of, braced, branch_condition_in, first_of, is_number, is_vector};
 ghost use Rattle.hm_text_rows.specs.Operands.{is_vector_name, operand, size_of, token_behind, token_bit};
 ghost use Rattle.hm_tokens.specs.Marks.{mark_byte};
-ghost use Rattle.hm_tokens.specs.Ranges.{is_the_mark};
-ghost use Rattle.hm_tokens.specs.Tokens.{tok};
+ghost use Rattle.hm_tokens.specs.Tokens.{is_the_mark, tok};
 
 use hm_tokens::{Mark, Token, read_condition, read_register, read_vector};
 
@@ -101,12 +100,12 @@ fn byte_of(which: Mark) -> u8
     which.text().as_bytes()[0]
 }
 
-/// Whether a token is the mark of a byte.
-pub fn is_mark(token: Token<'_>, c: u8) -> bool
-    ensures value { result ≡ is_the_mark c (tok token.entry) }
+/// Whether a token is this mark.
+pub fn is_mark(token: Token<'_>, mark: Mark) -> bool
+    ensures value { result ≡ is_the_mark mark (tok token.entry) }
 {
     match token {
-        Token::Mark(which) => byte_of(which) == c,
+        Token::Mark(which) => byte_of(which) == byte_of(mark),
         Token::Word(_) | Token::Number(_) => false,
     }
 }
@@ -121,17 +120,17 @@ pub fn first_of<'a>(tokens: &[Token<'a>]) -> Token<'a>
     }
 }
 
-/// The token behind the first mark of a byte; a number where there is none.
-pub fn token_behind<'a>(tokens: &[Token<'a>], c: u8) -> Token<'a>
-    ensures value { tok result ≡ token_behind c (map tok tokens.now) }
+/// The token behind the first of these marks; a number where there is none.
+pub fn token_behind<'a>(tokens: &[Token<'a>], mark: Mark) -> Token<'a>
+    ensures value { tok result ≡ token_behind mark (map tok tokens.now) }
 {
     match tokens {
         [] => Token::Number(0),
         [token, rest @ ..] => {
-            if is_mark(*token, c) {
+            if is_mark(*token, mark) {
                 first_of(rest)
             } else {
-                token_behind(rest, c)
+                token_behind(rest, mark)
             }
         }
     }
@@ -141,7 +140,7 @@ pub fn token_behind<'a>(tokens: &[Token<'a>], c: u8) -> Token<'a>
 pub fn added(tokens: &[Token<'_>]) -> u32
     ensures value { result ≡ added (map tok tokens.now) }
 {
-    if is_mark(token_behind(tokens, b'#'), b'-') {
+    if is_mark(token_behind(tokens, Mark::Hash), Mark::Minus) {
         0
     } else {
         1
@@ -152,7 +151,7 @@ pub fn added(tokens: &[Token<'_>]) -> u32
 pub fn before(tokens: &[Token<'_>]) -> u32
     ensures value { result ≡ before (map tok tokens.now) }
 {
-    if is_mark(token_behind(tokens, b']'), b',') {
+    if is_mark(token_behind(tokens, Mark::CloseBracket), Mark::Comma) {
         0
     } else {
         1
@@ -163,11 +162,11 @@ pub fn before(tokens: &[Token<'_>]) -> u32
 pub fn back_in(tokens: &[Token<'_>]) -> u32
     ensures value { result ≡ back_in (map tok tokens.now) }
 {
-    let next = token_behind(tokens, b']');
-    if is_mark(next, b',') {
+    let next = token_behind(tokens, Mark::CloseBracket);
+    if is_mark(next, Mark::Comma) {
         return 1;
     }
-    if is_mark(next, b'!') { 1 } else { 0 }
+    if is_mark(next, Mark::Bang) { 1 } else { 0 }
 }
 
 /// The bit of a register in a list.
@@ -213,7 +212,7 @@ pub fn braced_bits(tokens: &[Token<'_>]) -> u32
     match tokens {
         [] => 0,
         [token, rest @ ..] => {
-            if is_mark(*token, b'{') {
+            if is_mark(*token, Mark::OpenBrace) {
                 bits_of(rest)
             } else {
                 braced_bits(rest)

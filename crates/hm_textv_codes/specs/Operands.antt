@@ -1,5 +1,6 @@
 -- What a text gives numbers for, read carelessly: nothing is refused, since the row that is found is asked for its text.
 use Rattle.std.specs.Prelude.{ℕ, min, List, length, get_or, codes, bytes_eq, ◌==◌, if◌then◌else◌}
+use Rattle.hm_tokens.specs.declared.marks.Mark.TheVariants as marks
 use Rattle.hm_tokens.specs.Names.{register_in, vector_in}
 use Rattle.hm_tokens.specs.Tokens.{Tok, word, number, mark}
 use Rattle.hm_text_rows.specs.Operands.{added, back_in, before, given_or, is_vector, operand, size_of, token_behind}
@@ -49,5 +50,5 @@ read_operands suffix ts = record {
   added = added ts;
   before = before ts;
   back = back_in ts;
-  is_at_vector = is_vector (token_behind 91 ts);
+  is_at_vector = is_vector (token_behind marks.OpenBracket ts);
 }

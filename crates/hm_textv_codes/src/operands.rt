@@ -5,7 +5,7 @@ ghost use Rattle.hm_textv_codes.specs.Operands.{other_value, read_operands, sign
 ghost use Rattle.hm_tokens.specs.Tokens.{tok};
 
 use hm_text_rows::{added, back_in, before, is_vector, operand, size_of, token_behind};
-use hm_tokens::{Token, read_register, read_vector};
+use hm_tokens::{Mark, Token, read_register, read_vector};
 
 /// What stands behind a mnemonic, as numbers.
 #[derive(Clone, Copy)]
@@ -106,6 +106,6 @@ pub fn read_operands(suffix: &[u8], tokens: &[Token<'_>]) -> Operands
         added: added(tokens),
         before: before(tokens),
         back: back_in(tokens),
-        is_at_vector: is_vector(token_behind(tokens, b'[')),
+        is_at_vector: is_vector(token_behind(tokens, Mark::OpenBracket)),
     }
 }

@@ -6,12 +6,13 @@ use Rattle.std.specs.List.{list_all}
 use Rattle.std.proofs.lemmas.Bool.{and_parts, false≢true}
 use Rattle.std.proofs.lemmas.Bool.Decides.{nat_tests}
 use Rattle.std.proofs.lemmas.List.{length-append}
+use Rattle.hm_tokens.specs.declared.marks.Mark.TheVariants as marks
 use Rattle.hm_tokens.specs.Names.{register_name}
-use Rattle.hm_tokens.specs.Tokens.{Tok, word, comma}
-use Rattle.hm_tokens.specs.Ranges.{is_inside, is_rising, is_the_mark, last_register, normal, range_tokens, register_of, rising, singles}
+use Rattle.hm_tokens.specs.Tokens.{Tok, word, comma, is_the_mark}
+use Rattle.hm_tokens.specs.Ranges.{is_inside, is_rising, last_register, normal, range_tokens, register_of, rising, singles}
 
 abbrev pub has_no_ranges : List Tok → Bool
-has_no_ranges ts = list_all (λ t. not (is_the_mark 45 t)) ts
+has_no_ranges ts = list_all (λ t. not (is_the_mark marks.Minus t)) ts
 
 not_true : (b : Bool) → not b ≡ true → b ≡ false
 not_true true e = absurd cc
@@ -21,8 +22,8 @@ no_last : (ts : List Tok) → has_no_ranges ts ≡ true → last_register ts ≡
 no_last [] e = refl
 no_last (t ∷ []) e = refl
 no_last (t ∷ u ∷ ts) e =
-    let p = and_parts (not (is_the_mark 45 t)) (has_no_ranges (u ∷ ts)) e in
-    rw (not_true (is_the_mark 45 t) p.0) refl
+    let p = and_parts (not (is_the_mark marks.Minus t)) (has_no_ranges (u ∷ ts)) e in
+    rw (not_true (is_the_mark marks.Minus t) p.0) refl
 
 no_rising : (first : Option ℕ) → is_rising first None ≡ false
 no_rising (Some k) = refl
@@ -36,7 +37,7 @@ pub singles_same : (ts : List Tok) (inside : Bool) → has_no_ranges ts ≡ true
 unfolding singles
 singles_same [] inside e = refl
 singles_same (t ∷ ts) inside e =
-    let p = and_parts (not (is_the_mark 45 t)) (has_no_ranges ts) e in
+    let p = and_parts (not (is_the_mark marks.Minus t)) (has_no_ranges ts) e in
     rw (no_last ts p.1, no_rising (register_of t), and_false inside, singles_same ts (is_inside inside t) p.1) refl
 
 pub normal_same : (ts : List Tok) → has_no_ranges ts ≡ true → normal ts ≡ ts

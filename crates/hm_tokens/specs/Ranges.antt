@@ -1,13 +1,8 @@
 -- Registers in braces: a range, as `r0-r3`, stands for each of them.
-use Rattle.std.specs.Prelude.{ℕ, zero, suc, ◌+◌, ◌-◌, Bool, false, List, [], ◌∷◌, ◌++◌, Option, Some, None, ◌==◌, nat_lt, ◌&&◌, ◌||◌, not, if◌then◌else◌}
+use Rattle.std.specs.Prelude.{ℕ, zero, suc, ◌+◌, ◌-◌, Bool, false, List, [], ◌∷◌, ◌++◌, Option, Some, None, nat_lt, ◌&&◌, ◌||◌, not, if◌then◌else◌}
+use Rattle.hm_tokens.specs.declared.marks.Mark.TheVariants as marks
 use Rattle.hm_tokens.specs.Names.{register_in, register_name}
-use Rattle.hm_tokens.specs.Tokens.{Tok, word, number, mark, comma}
-
--- whether a token is this mark
-abbrev pub is_the_mark : ℕ → Tok → Bool
-is_the_mark m (word w) = false
-is_the_mark m (number n) = false
-is_the_mark m (mark c) = c == m
+use Rattle.hm_tokens.specs.Tokens.{Tok, word, number, mark, comma, is_the_mark}
 
 -- the number of the core register that a token names, if it names one
 abbrev pub register_of : Tok → Option ℕ
@@ -19,7 +14,7 @@ register_of (mark c) = None
 abbrev pub last_register : List Tok → Option ℕ
 last_register [] = None
 last_register (t ∷ []) = None
-last_register (t ∷ u ∷ ts) = if is_the_mark 45 t then register_of u else None
+last_register (t ∷ u ∷ ts) = if is_the_mark marks.Minus t then register_of u else None
 
 -- the first register of a range is below the last
 abbrev pub is_rising : Option ℕ → Option ℕ → Bool
@@ -40,7 +35,7 @@ range_tokens None last = []
 
 -- whether what stands behind a token stands in braces
 abbrev pub is_inside : Bool → Tok → Bool
-is_inside inside t = is_the_mark 123 t || (inside && not (is_the_mark 125 t))
+is_inside inside t = is_the_mark marks.OpenBrace t || (inside && not (is_the_mark marks.CloseBrace t))
 
 -- tokens with single registers; a range is told at its first token, and the two behind it are left out
 unfoldable pub singles : ℕ → Bool → List Tok → List Tok

@@ -1,6 +1,7 @@
 -- Tokens of assembly text, and the longest at the front of a text.
-use Rattle.std.specs.Prelude.{ℕ, Bool, ◌+◌, ◌-◌, ◌*◌, min, List, [], ◌∷◌, length, slice_index, drop, decimal, Option, Some, None, ◌==◌, nat_le, nat_lt, ◌&&◌}
-use Rattle.std.specs.Prelude.{◌||◌, if◌then◌else◌}
+use Rattle.std.specs.Prelude.{ℕ, Bool, false, ◌+◌, ◌-◌, ◌*◌, min, List, [], ◌∷◌, length, slice_index, drop, decimal, Option, Some, None, ◌==◌, nat_le, nat_lt}
+use Rattle.std.specs.Prelude.{◌&&◌, ◌||◌, if◌then◌else◌}
+use Rattle.hm_tokens.specs.declared.marks.Mark.{Mark}
 use Rattle.hm_tokens.specs.Marks.{is_mark, mark_byte}
 use Rattle.hm_tokens.specs.declared.token.Token.{Token}
 use Rattle.hm_tokens.specs.declared.token.Token.TheVariants as tokens
@@ -49,6 +50,12 @@ plus_mark = mark 43
 abbrev pub minus_mark : Tok
 minus_mark = mark 45
 
+-- whether a token is this mark
+abbrev pub is_the_mark : Mark → Tok → Bool
+is_the_mark m (word w) = false
+is_the_mark m (number n) = false
+is_the_mark m (mark c) = c == mark_byte m
+
 -- a token of the program, as a token of these definitions
 abbrev pub tok : Token → Tok
 tok (tokens.Word w) = word w.now
@@ -56,6 +63,10 @@ tok (tokens.Number n) = number n
 tok (tokens.Mark m) = mark (mark_byte m)
 
 -- BYTES
+-- the space
+abbrev pub space : ℕ
+space = 32
+
 -- whether a byte is one of 0 to 9
 abbrev pub is_digit : ℕ → Bool
 is_digit c = nat_le 48 c && nat_le c 57
@@ -65,7 +76,7 @@ abbrev pub is_in : Class → ℕ → Bool
 is_in classes.Word c = (nat_le 97 c && nat_le c 122) || (is_digit c || ((c == 95) || (c == 46)))
 is_in classes.Decimal c = is_digit c
 is_in classes.Hex c = is_digit c || (nat_le 97 c && nat_le c 102)
-is_in classes.Space c = c == 32
+is_in classes.Space c = c == space
 
 -- the longest front of bytes of a class, and the rest
 unfoldable pub run : Class → List ℕ → List ℕ × List ℕ

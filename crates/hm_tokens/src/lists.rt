@@ -1,8 +1,9 @@
 //! Registers in braces: a range, as `r0-r3`, stands for each of them.
 
 ghost use Rattle.std.specs.Prelude.{◌≡◌, ◌<◌, ◌≤◌, ◌+◌, ◌++◌, ◌∷◌, [], true, false, length, map, IfNone, IfSome};
-ghost use Rattle.hm_tokens.specs.Ranges.{is_inside, is_rising, is_the_mark, last_register, normal, range_tokens, register_of, rising, singles};
-ghost use Rattle.hm_tokens.specs.Tokens.{tok};
+ghost use Rattle.hm_tokens.specs.declared.marks.Mark.TheVariants as marks;
+ghost use Rattle.hm_tokens.specs.Ranges.{is_inside, is_rising, last_register, normal, range_tokens, register_of, rising, singles};
+ghost use Rattle.hm_tokens.specs.Tokens.{is_the_mark, tok};
 
 use crate::line::Tokens;
 use crate::marks::Mark;
@@ -23,7 +24,7 @@ fn register_of(token: Token<'_>) -> Option<u32>
 
 /// Whether a token is `-`.
 fn is_minus(token: Token<'_>) -> bool
-    ensures value { result ≡ is_the_mark 45 (tok token.entry) }
+    ensures value { result ≡ is_the_mark marks.Minus (tok token.entry) }
 {
     match token {
         Token::Mark(mark) => mark == Mark::Minus,

@@ -3,7 +3,7 @@ use Rattle.hm_text_rows.specs.Shapes.{listed, r}
 use Rattle.hm_text_rows.proofs.Registers.{left_out, taken_count, taken_more}
 use Rattle.hm_tokens.specs.Marks.{mark_byte}
 use Rattle.hm_tokens.specs.Texts.{text_tokens}
-use Rattle.hm_tokens.specs.Tokens.{Tok}
+use Rattle.hm_tokens.specs.Tokens.{Tok, mark}
 use Rattle.hm_text_rows.proofs.lists.+and_registers.Goals as goal
 
 pub and_registers-requires : goal.and_registers-requires
@@ -11,7 +11,7 @@ and_registers-requires t c =
     let some : 0 < c.args.n = omega (arith, c.if-n-eq0.false) in
     let below = c.requires.below in
     let out = left_out (mark_byte c.args.before) c.args.k c.args.n c.args.list some (sym c.is_listed.ensures ∙ c.if-not-is_listed.true) in
-    let same = ap (λ (ks : List ℕ). length (listed (mark_byte c.args.before) ks)) out in
+    let same = ap (λ (ks : List ℕ). length (listed (mark (mark_byte c.args.before)) ks)) out in
     let room = c.requires.room in
     (search rules, (omega (arith, some, below), omega (arith, same, room)))
 

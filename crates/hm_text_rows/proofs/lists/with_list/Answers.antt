@@ -2,7 +2,7 @@ use Rattle.std.proofs.Common.{◌≤◌, ◌++◌, ◌∷◌, [], ℕ, List, len
 use Rattle.hm_text_rows.specs.Shapes.{listed, registers_from}
 use Rattle.hm_text_rows.proofs.Registers.{room_left}
 use Rattle.hm_tokens.specs.Texts.{text_tokens}
-use Rattle.hm_tokens.specs.Tokens.{Tok, close_brace}
+use Rattle.hm_tokens.specs.Tokens.{Tok, close_brace, open_brace}
 use Rattle.hm_text_rows.proofs.lists.with_list.Goals as goal
 
 pub and_registers-requires : goal.and_registers-requires
@@ -15,4 +15,4 @@ marked-requires c = subst (λ (n : ℕ). n ≤ 38) (sym c.and_registers.ensures.
 pub returns : goal.returns
 returns c =
     c.marked.ensures.tokens ∙ ap (λ (ts : List Tok). ts ++ close_brace ∷ []) c.and_registers.ensures.tokens
-    ∙ append_assoc (text_tokens c.args.text) (listed 123 (registers_from 16 0 c.args.list)) (close_brace ∷ [])
+    ∙ append_assoc (text_tokens c.args.text) (listed open_brace (registers_from 16 0 c.args.list)) (close_brace ∷ [])
