@@ -84,8 +84,9 @@ use Rattle.hm_text32_rows.specs.Rows.{and_shifted, constant_tokens, data_tokens,
 use Rattle.hm_text32_rows.specs.Rows.{moved_tokens, other_barrier, other_scalar, other_tokens, row_tokens, shift_number, single_tokens, system_tokens}
 use Rattle.hm_text32_rows.specs.Rows.{table_tokens}
 use Rattle.hm_text32_rows.specs.Rows.{tokens_of}
-use Rattle.hm_text32_rows.specs.Mnemonics.{access_mnemonic, accumulate_mnemonic, barrier_mnemonic, bits_mnemonic, bits_suffix, carry_mnemonic, data_mnemonic}
-use Rattle.hm_text32_rows.specs.Mnemonics.{element_suffix, extend_mnemonic}
+use Rattle.hm_text_rows.specs.Mnemonics.{access_mnemonic, extend_mnemonic}
+use Rattle.hm_text32_rows.specs.Mnemonics.{accumulate_mnemonic, barrier_mnemonic, bits_mnemonic, bits_suffix, carry_mnemonic, data_mnemonic}
+use Rattle.hm_text32_rows.specs.Mnemonics.{element_suffix}
 use Rattle.hm_text32_rows.specs.Mnemonics.{extract_mnemonic, half_mnemonic, long_mnemonic, move_mnemonic, operation_mnemonic, pair_mnemonic, saturate_mnemonic}
 use Rattle.hm_text32_rows.specs.Mnemonics.{select_mnemonic, stack_mnemonic, test_mnemonic}
 use Rattle.hm_text32_rows.specs.Mnemonics.{turn_mnemonic, wide, wide_branch_mnemonic, wide_list_mnemonic, wide_list_suffix, wide_shift_mnemonic}

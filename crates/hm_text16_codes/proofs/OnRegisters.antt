@@ -50,7 +50,8 @@ use Rattle.hm_text16_codes.specs.declared.operands.Kind.TheVariants as kinds
 use Rattle.hm_text16_codes.specs.Codes.{code_of}
 use Rattle.hm_text16_codes.specs.Operands.{word_value}
 use Rattle.hm_text16_rows.specs.Rows.{base_register, shift_number}
-use Rattle.hm_text16_rows.specs.Mnemonics.{byte_mnemonic, extend_mnemonic, hint_mnemonic, jump_mnemonic, logic_mnemonic, masking_mnemonic, shift_mnemonic}
+use Rattle.hm_text_rows.specs.Mnemonics.{extend_mnemonic}
+use Rattle.hm_text16_rows.specs.Mnemonics.{byte_mnemonic, hint_mnemonic, jump_mnemonic, logic_mnemonic, masking_mnemonic, shift_mnemonic}
 use Rattle.hm_text16_rows.specs.Mnemonics.{stack_sum_mnemonic, sum_mnemonic, swap_mnemonic}
 use Rattle.hm_text16_codes.proofs.Words.{Operand, a_low, a_register}
 use Rattle.hm_text_rows.proofs.Words.{below_holds, below_is, is_mnemonic}

@@ -1,11 +1,7 @@
 -- The mnemonics of the rows of one halfword.
 use Rattle.std.specs.Prelude.{ℕ, ◌/◌, ◌%◌, List, [], ◌∷◌, ◌++◌, get_or, codes, nat_eq, if◌then◌else◌}
-use Rattle.hm_isa.specs.declared.narrow.AccessName.{AccessName}
-use Rattle.hm_isa.specs.declared.narrow.AccessName.TheVariants as access
 use Rattle.hm_isa.specs.declared.narrow.ByteName.{ByteName}
 use Rattle.hm_isa.specs.declared.narrow.ByteName.TheVariants as byte
-use Rattle.hm_isa.specs.declared.narrow.ExtendName.{ExtendName}
-use Rattle.hm_isa.specs.declared.narrow.ExtendName.TheVariants as extend
 use Rattle.hm_isa.specs.declared.narrow.HintName.{HintName}
 use Rattle.hm_isa.specs.declared.narrow.HintName.TheVariants as hint
 use Rattle.hm_isa.specs.declared.narrow.JumpName.{JumpName}
@@ -71,13 +67,6 @@ logic_mnemonic logic.Muls = codes "muls"
 logic_mnemonic logic.Bics = codes "bics"
 logic_mnemonic logic.Mvns = codes "mvns"
 
--- S11: the mnemonic of each name, SXTH, SXTB, UXTH and UXTB (DDI0553, "SXTH", "SXTB", "UXTH" and "UXTB")
-abbrev pub extend_mnemonic : ExtendName → List ℕ
-extend_mnemonic extend.Sxth = codes "sxth"
-extend_mnemonic extend.Sxtb = codes "sxtb"
-extend_mnemonic extend.Uxth = codes "uxth"
-extend_mnemonic extend.Uxtb = codes "uxtb"
-
 -- S12: the mnemonic of each name, REV, REV16 and REVSH (DDI0553, "REV", "REV16" and "REVSH")
 abbrev pub swap_mnemonic : SwapName → List ℕ
 swap_mnemonic swap_.Rev = codes "rev"
@@ -88,17 +77,6 @@ swap_mnemonic swap_.Revsh = codes "revsh"
 abbrev pub masking_mnemonic : MaskingName → List ℕ
 masking_mnemonic masking.Cpsie = codes "cpsie"
 masking_mnemonic masking.Cpsid = codes "cpsid"
-
--- S15: the mnemonic of each name, STR, STRH, STRB, LDRSB, LDR, LDRH, LDRB and LDRSH (DDI0553, the register form of each, as "STR (register)")
-abbrev pub access_mnemonic : AccessName → List ℕ
-access_mnemonic access.Str = codes "str"
-access_mnemonic access.Strh = codes "strh"
-access_mnemonic access.Strb = codes "strb"
-access_mnemonic access.Ldrsb = codes "ldrsb"
-access_mnemonic access.Ldr = codes "ldr"
-access_mnemonic access.Ldrh = codes "ldrh"
-access_mnemonic access.Ldrb = codes "ldrb"
-access_mnemonic access.Ldrsh = codes "ldrsh"
 
 -- S16: the mnemonic of each name, STR, LDR, STRB, LDRB, STRH and LDRH (DDI0553, the immediate form of each, as "STR (immediate)")
 abbrev pub plain_mnemonic : PlainName → List ℕ

@@ -20,7 +20,8 @@ use Rattle.hm_isa.specs.Rules.{listed_in}
 use Rattle.hm_isa.specs.Standing.{◌↑◌}
 use Rattle.hm_tokens.specs.Tokens.{Tok, word, close_bracket, comma, bang, open_bracket}
 use Rattle.hm_text_rows.specs.Shapes.{and_constant, braces, constant, inside, one, r, three, two}
-use Rattle.hm_text16_rows.specs.Mnemonics.{access_mnemonic, block_condition, block_mnemonic, branch_mnemonic, byte_mnemonic, extend_mnemonic, hint_mnemonic}
+use Rattle.hm_text_rows.specs.Mnemonics.{access_mnemonic, extend_mnemonic}
+use Rattle.hm_text16_rows.specs.Mnemonics.{block_condition, block_mnemonic, branch_mnemonic, byte_mnemonic, hint_mnemonic}
 use Rattle.hm_text16_rows.specs.Mnemonics.{jump_mnemonic, logic_mnemonic, masking_mnemonic}
 use Rattle.hm_text16_rows.specs.Mnemonics.{plain_mnemonic, shift_mnemonic, stack_sum_mnemonic, sum_mnemonic, swap_mnemonic, word_mnemonic, zero_mnemonic}
 

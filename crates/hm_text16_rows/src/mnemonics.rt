@@ -1,13 +1,13 @@
 //! The mnemonics of the rows of one halfword.
 
 ghost use Rattle.std.specs.Prelude.{◌≡◌, ◌<◌, ◌%◌};
-ghost use Rattle.hm_text16_rows.specs.Mnemonics.{access_mnemonic, block_condition, byte_mnemonic, extend_mnemonic, hint_mnemonic, jump_mnemonic, letters_above};
+ghost use Rattle.hm_text16_rows.specs.Mnemonics.{block_condition, byte_mnemonic, hint_mnemonic, jump_mnemonic, letters_above};
 ghost use Rattle.hm_text16_rows.specs.Mnemonics.{logic_mnemonic, masking_mnemonic};
 ghost use Rattle.hm_text16_rows.specs.Mnemonics.{plain_mnemonic, shift_mnemonic, stack_sum_mnemonic, sum_mnemonic, swap_mnemonic, word_mnemonic, zero_mnemonic};
 
 use hm_isa::{
-    AccessName, ByteName, ExtendName, HintName, JumpName, LogicName, MaskingName, PlainName,
-    ShiftName, SumName, SwapName, WordName, ZeroName,
+    ByteName, HintName, JumpName, LogicName, MaskingName, PlainName, ShiftName, SumName, SwapName,
+    WordName, ZeroName,
 };
 use hm_tokens::condition_name;
 
@@ -78,18 +78,6 @@ pub fn logic_mnemonic(name: LogicName) -> &'static str
     }
 }
 
-/// Of a row S11.
-pub fn extend_mnemonic(name: ExtendName) -> &'static str
-    ensures { result.now ≡ extend_mnemonic name }
-{
-    match name {
-        ExtendName::Sxth => "sxth",
-        ExtendName::Sxtb => "sxtb",
-        ExtendName::Uxth => "uxth",
-        ExtendName::Uxtb => "uxtb",
-    }
-}
-
 /// Of a row S12.
 pub fn swap_mnemonic(name: SwapName) -> &'static str
     ensures { result.now ≡ swap_mnemonic name }
@@ -108,22 +96,6 @@ pub fn masking_mnemonic(name: MaskingName) -> &'static str
     match name {
         MaskingName::Cpsie => "cpsie",
         MaskingName::Cpsid => "cpsid",
-    }
-}
-
-/// Of a row S15.
-pub fn access_mnemonic(name: AccessName) -> &'static str
-    ensures { result.now ≡ access_mnemonic name }
-{
-    match name {
-        AccessName::Str => "str",
-        AccessName::Strh => "strh",
-        AccessName::Strb => "strb",
-        AccessName::Ldrsb => "ldrsb",
-        AccessName::Ldr => "ldr",
-        AccessName::Ldrh => "ldrh",
-        AccessName::Ldrb => "ldrb",
-        AccessName::Ldrsh => "ldrsh",
     }
 }
 

@@ -10,16 +10,19 @@ ghost use Rattle.hm_tokens.specs.Texts.{text_tokens};
 ghost use Rattle.hm_tokens.specs.Tokens.{word, comma, bang};
 
 use crate::mnemonics::{
-    access_mnemonic, block_condition, block_letters, byte_mnemonic, extend_mnemonic, hint_mnemonic,
-    jump_mnemonic, logic_mnemonic, masking_mnemonic, plain_mnemonic, shift_mnemonic,
-    stack_sum_mnemonic, sum_mnemonic, swap_mnemonic, word_mnemonic, zero_mnemonic,
+    block_condition, block_letters, byte_mnemonic, hint_mnemonic, jump_mnemonic, logic_mnemonic,
+    masking_mnemonic, plain_mnemonic, shift_mnemonic, stack_sum_mnemonic, sum_mnemonic,
+    swap_mnemonic, word_mnemonic, zero_mnemonic,
 };
 use crate::shapes::{by_number, by_register};
 use hm_isa::{
     BaseName, Branch, Instr, ListName, PlainName, S1, S2, S3, S4, S5, S6, S7, S8, S9, S10, S11,
     S12, S13, S14, S15, S16, S17, S18, S19, S20, S21, S23, S24, S25, Scalar, ShiftName,
 };
-use hm_text_rows::{alone, and_constant, is_listed, marked, one, r, three, two, with, with_list};
+use hm_text_rows::{
+    access_mnemonic, alone, and_constant, extend_mnemonic, is_listed, marked, one, r, three, two,
+    with, with_list,
+};
 use hm_tokens::{InstrText, Mark, Part, condition_name};
 
 /// The number of a shift: 0 stands for 32 in shifts to the right.

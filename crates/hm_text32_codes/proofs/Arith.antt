@@ -32,7 +32,8 @@ use Rattle.hm_text32_codes.specs.Codes.{code_of}
 use Rattle.hm_text32_codes.specs.Operands.{word_value}
 use Rattle.hm_text_rows.specs.Operands.{is_vector_name}
 use Rattle.hm_text32_rows.specs.Rows.{product_tokens}
-use Rattle.hm_text32_rows.specs.Mnemonics.{accumulate_mnemonic, bits_mnemonic, bits_suffix, extend_mnemonic, long_mnemonic, operation_mnemonic, select_mnemonic}
+use Rattle.hm_text_rows.specs.Mnemonics.{extend_mnemonic}
+use Rattle.hm_text32_rows.specs.Mnemonics.{accumulate_mnemonic, bits_mnemonic, bits_suffix, long_mnemonic, operation_mnemonic, select_mnemonic}
 use Rattle.hm_text32_rows.specs.Mnemonics.{wide, wide_shift_mnemonic}
 use Rattle.hm_text_rows.specs.Shapes.{and_shift, four, or_zero, r, three, two}
 use Rattle.hm_text_rows.proofs.Words.{is_mnemonic}

@@ -26,7 +26,8 @@ use Rattle.hm_text32_codes.specs.declared.operands.Places.{Places}
 use Rattle.hm_text32_codes.specs.Codes.{access_code, code_of, code_of_memory, pair_code}
 use Rattle.hm_text32_codes.specs.Operands.{read_places, word_value}
 use Rattle.hm_text32_rows.specs.Rows.{access_tokens}
-use Rattle.hm_text32_rows.specs.Mnemonics.{access_mnemonic, pair_mnemonic, wide}
+use Rattle.hm_text_rows.specs.Mnemonics.{access_mnemonic}
+use Rattle.hm_text32_rows.specs.Mnemonics.{pair_mnemonic, wide}
 use Rattle.hm_text_rows.specs.Shapes.{indexed, r, scaled}
 use Rattle.hm_text_rows.proofs.Words.{is_mnemonic, is_suffix, word_r}
 use Rattle.hm_text_rows.proofs.Printed.{IsPrinted, IsShort, is_printed_as, short_bang, short_close, short_comma, short_hash, short_minus, short_number}

@@ -1,9 +1,5 @@
 -- The mnemonics of rows of two halfwords, and the names that stand for operands.
 use Rattle.std.specs.Prelude.{ℕ, List, [], ◌∷◌, get_or, codes, Option}
-use Rattle.hm_isa.specs.declared.narrow.AccessName.{AccessName}
-use Rattle.hm_isa.specs.declared.narrow.AccessName.TheVariants as access
-use Rattle.hm_isa.specs.declared.narrow.ExtendName.{ExtendName}
-use Rattle.hm_isa.specs.declared.narrow.ExtendName.TheVariants as extend
 use Rattle.hm_isa.specs.declared.narrow.SumName.{SumName}
 use Rattle.hm_isa.specs.declared.narrow.SumName.TheVariants as sum_
 use Rattle.hm_isa.specs.declared.arith.AccumulateName.{AccumulateName}
@@ -122,13 +118,6 @@ wide_shift_mnemonic wide_shift.Lsr s = either s (codes "lsr") (codes "lsrs")
 wide_shift_mnemonic wide_shift.Asr s = either s (codes "asr") (codes "asrs")
 wide_shift_mnemonic wide_shift.Ror s = either s (codes "ror") (codes "rors")
 
--- T9: the mnemonic of each name, SXTH, SXTB, UXTH and UXTB (DDI0553, "SXTH", "UXTH", "SXTB" and "UXTB")
-abbrev pub extend_mnemonic : ExtendName → List ℕ
-extend_mnemonic extend.Sxth = codes "sxth"
-extend_mnemonic extend.Sxtb = codes "sxtb"
-extend_mnemonic extend.Uxth = codes "uxth"
-extend_mnemonic extend.Uxtb = codes "uxtb"
-
 -- T10: the mnemonic of each name, REV, REV16, RBIT, REVSH and CLZ (DDI0553, "REV", "REV16", "RBIT", "REVSH" and "CLZ")
 abbrev pub bits_mnemonic : BitsName → List ℕ
 bits_mnemonic bits.Rev = codes "rev"
@@ -179,18 +168,6 @@ barrier_mnemonic barrier.Isb = codes "isb"
 abbrev pub stack_mnemonic : StackName → List ℕ
 stack_mnemonic stack.Vpush = codes "vpush"
 stack_mnemonic stack.Vpop = codes "vpop"
-
--- T12: the mnemonic of each name, STR, STRH, STRB, LDRSB, LDR, LDRH, LDRB and LDRSH
--- (DDI0553, "LDR (immediate)", "LDR (literal)", "LDR (register)" and the like of each)
-abbrev pub access_mnemonic : AccessName → List ℕ
-access_mnemonic access.Str = codes "str"
-access_mnemonic access.Strh = codes "strh"
-access_mnemonic access.Strb = codes "strb"
-access_mnemonic access.Ldrsb = codes "ldrsb"
-access_mnemonic access.Ldr = codes "ldr"
-access_mnemonic access.Ldrh = codes "ldrh"
-access_mnemonic access.Ldrb = codes "ldrb"
-access_mnemonic access.Ldrsh = codes "ldrsh"
 
 -- T13: the mnemonic of each name, STRD and LDRD (DDI0553, "STRD (immediate)", "LDRD (immediate)" and "LDRD (literal)")
 abbrev pub pair_mnemonic : PairName → List ℕ

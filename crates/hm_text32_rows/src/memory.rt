@@ -6,9 +6,9 @@ ghost use Rattle.hm_isa.specs.declared.wide.T12.TheVariants as t12;
 ghost use Rattle.hm_text32_rows.specs.Rows.{access_tokens, list_start, scalar_tokens};
 ghost use Rattle.hm_tokens.specs.Texts.{text_tokens};
 
-use crate::mnemonics::{access_mnemonic, pair_mnemonic, wide_list_mnemonic, wide_list_suffix};
+use crate::mnemonics::{pair_mnemonic, wide_list_mnemonic, wide_list_suffix};
 use hm_isa::{Below, Bit, Indexed, Literal, Offset, Shifted, T12, T13, T14};
-use hm_text_rows::{Index, and, indexed, marked, one, r, scaled, with_list};
+use hm_text_rows::{Index, access_mnemonic, and, indexed, marked, one, r, scaled, with_list};
 use hm_tokens::{InstrText, Mark};
 
 /// The text of a row T12 with an offset: `[rn,#i]`.

@@ -1,10 +1,10 @@
 //! The mnemonics of rows of two halfwords, and the names of special registers.
 
 ghost use Rattle.std.specs.Prelude.{◌≡◌, ◌<◌};
-ghost use Rattle.hm_text32_rows.specs.Mnemonics.{access_mnemonic, accumulate_mnemonic, barrier_mnemonic, bits_mnemonic, bits_suffix, carry_mnemonic};
+ghost use Rattle.hm_text32_rows.specs.Mnemonics.{accumulate_mnemonic, barrier_mnemonic, bits_mnemonic, bits_suffix, carry_mnemonic};
 ghost use Rattle.hm_text32_rows.specs.Mnemonics.{data_mnemonic};
 ghost use Rattle.hm_text32_rows.specs.Mnemonics.{double_in, double_name};
-ghost use Rattle.hm_text32_rows.specs.Mnemonics.{element_suffix, extend_mnemonic, extract_mnemonic, half_mnemonic, long_mnemonic, move_mnemonic};
+ghost use Rattle.hm_text32_rows.specs.Mnemonics.{element_suffix, extract_mnemonic, half_mnemonic, long_mnemonic, move_mnemonic};
 ghost use Rattle.hm_text32_rows.specs.Mnemonics.{operation_mnemonic};
 ghost use Rattle.hm_text32_rows.specs.Mnemonics.{pair_mnemonic, read_name};
 ghost use Rattle.hm_text32_rows.specs.Mnemonics.{saturate_shift, saturate_mnemonic, select_mnemonic, shift_mnemonic, stack_mnemonic, test_mnemonic};
@@ -13,9 +13,9 @@ ghost use Rattle.hm_text32_rows.specs.Mnemonics.{wide_branch_mnemonic};
 ghost use Rattle.hm_text32_rows.specs.Mnemonics.{wide_list_mnemonic, wide_list_suffix, wide_shift_mnemonic, wide_sum_mnemonic, written_name};
 
 use hm_isa::{
-    AccessName, AccumulateName, BarrierName, Below, Bit, BitsName, DataName, ExtendName,
-    ExtractName, HalfName, LongProductName, OperationName, PairName, ReadName, SaturateName,
-    SelectName, StackName, SumName, WideBranchName, WideListName, WideShiftName, WrittenName,
+    AccumulateName, BarrierName, Below, Bit, BitsName, DataName, ExtractName, HalfName,
+    LongProductName, OperationName, PairName, ReadName, SaturateName, SelectName, StackName,
+    SumName, WideBranchName, WideListName, WideShiftName, WrittenName,
 };
 
 /// The mnemonic of a row T3.
@@ -55,18 +55,6 @@ pub fn extract_mnemonic(name: ExtractName) -> &'static str
     match name {
         ExtractName::Sbfx => "sbfx",
         ExtractName::Ubfx => "ubfx",
-    }
-}
-
-/// The mnemonic of a row T9.
-pub fn extend_mnemonic(name: ExtendName) -> &'static str
-    ensures { result.now ≡ extend_mnemonic name }
-{
-    match name {
-        ExtendName::Sxth => "sxth",
-        ExtendName::Sxtb => "sxtb",
-        ExtendName::Uxth => "uxth",
-        ExtendName::Uxtb => "uxtb",
     }
 }
 
@@ -365,22 +353,6 @@ pub fn carry_mnemonic(s: Bit) -> &'static str
     ensures { result.now ≡ carry_mnemonic s.value }
 {
     if s.get() == 0 { "rrx" } else { "rrxs" }
-}
-
-/// The mnemonic of a row T12.
-pub fn access_mnemonic(name: AccessName) -> &'static str
-    ensures { result.now ≡ access_mnemonic name }
-{
-    match name {
-        AccessName::Str => "str",
-        AccessName::Strh => "strh",
-        AccessName::Strb => "strb",
-        AccessName::Ldrsb => "ldrsb",
-        AccessName::Ldr => "ldr",
-        AccessName::Ldrh => "ldrh",
-        AccessName::Ldrb => "ldrb",
-        AccessName::Ldrsh => "ldrsh",
-    }
 }
 
 /// The mnemonic of a row T13.

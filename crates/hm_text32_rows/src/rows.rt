@@ -15,8 +15,8 @@ ghost use Rattle.hm_tokens.specs.Tokens.{number, word, close_bracket, comma, ope
 use crate::memory::{text_t12, text_t13, text_t14};
 use crate::mnemonics::{
     accumulate_mnemonic, barrier_mnemonic, bits_mnemonic, bits_suffix, carry_mnemonic,
-    data_mnemonic, double_name, element_suffix, extend_mnemonic, extract_mnemonic, half_mnemonic,
-    long_mnemonic, move_mnemonic, operation_mnemonic, read_name, saturate_mnemonic, saturate_shift,
+    data_mnemonic, double_name, element_suffix, extract_mnemonic, half_mnemonic, long_mnemonic,
+    move_mnemonic, operation_mnemonic, read_name, saturate_mnemonic, saturate_shift,
     select_mnemonic, shift_mnemonic, stack_mnemonic, test_mnemonic, turn_mnemonic,
     wide_branch_mnemonic, wide_shift_mnemonic, wide_sum_mnemonic, written_name,
 };
@@ -27,7 +27,8 @@ use hm_isa::{
     T17, T18, T19, T20, T21, T22, T23, TableName,
 };
 use hm_text_rows::{
-    alone, and, and_constant, and_shift, first, four, marked, one, or_zero, q, r, three, two,
+    alone, and, and_constant, and_shift, extend_mnemonic, first, four, marked, one, or_zero, q, r,
+    three, two,
 };
 use hm_tokens::{InstrText, Mark, Part, condition_name};
 

@@ -1,3 +1,4 @@
 pub mod Shapes
 pub mod Labels
 pub mod Operands
+pub mod Mnemonics

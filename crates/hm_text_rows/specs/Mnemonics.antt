@@ -1,0 +1,25 @@
+-- The mnemonics that rows of one halfword and of two share.
+use Rattle.std.specs.Prelude.{ℕ, List, codes}
+use Rattle.hm_isa.specs.declared.narrow.AccessName.{AccessName}
+use Rattle.hm_isa.specs.declared.narrow.AccessName.TheVariants as access
+use Rattle.hm_isa.specs.declared.narrow.ExtendName.{ExtendName}
+use Rattle.hm_isa.specs.declared.narrow.ExtendName.TheVariants as extend
+
+-- S11 and T9: the mnemonic of each name, SXTH, SXTB, UXTH and UXTB (DDI0553, "SXTH", "SXTB", "UXTH" and "UXTB")
+abbrev pub extend_mnemonic : ExtendName → List ℕ
+extend_mnemonic extend.Sxth = codes "sxth"
+extend_mnemonic extend.Sxtb = codes "sxtb"
+extend_mnemonic extend.Uxth = codes "uxth"
+extend_mnemonic extend.Uxtb = codes "uxtb"
+
+-- S15 and T12: the mnemonic of each name, STR, STRH, STRB, LDRSB, LDR, LDRH, LDRB and LDRSH
+-- (DDI0553, "LDR (immediate)", "LDR (literal)", "LDR (register)" and the like of each)
+abbrev pub access_mnemonic : AccessName → List ℕ
+access_mnemonic access.Str = codes "str"
+access_mnemonic access.Strh = codes "strh"
+access_mnemonic access.Strb = codes "strb"
+access_mnemonic access.Ldrsb = codes "ldrsb"
+access_mnemonic access.Ldr = codes "ldr"
+access_mnemonic access.Ldrh = codes "ldrh"
+access_mnemonic access.Ldrb = codes "ldrb"
+access_mnemonic access.Ldrsh = codes "ldrsh"
