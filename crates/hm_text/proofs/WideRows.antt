@@ -90,7 +90,7 @@ use Rattle.hm_text32_rows.specs.Mnemonics.{element_suffix}
 use Rattle.hm_text32_rows.specs.Mnemonics.{extract_mnemonic, half_mnemonic, long_mnemonic, move_mnemonic, operation_mnemonic, pair_mnemonic, saturate_mnemonic}
 use Rattle.hm_text32_rows.specs.Mnemonics.{select_mnemonic, stack_mnemonic, test_mnemonic}
 use Rattle.hm_text32_rows.specs.Mnemonics.{turn_mnemonic, wide, wide_branch_mnemonic, wide_list_mnemonic, wide_list_suffix, wide_shift_mnemonic}
-use Rattle.hm_text32_rows.specs.Mnemonics.{wide_sum_mnemonic}
+use Rattle.hm_text32_rows.specs.Mnemonics.{wide_branch_suffix, wide_sum_mnemonic}
 use Rattle.hm_text32.specs.Texts.{AreTokens}
 use Rattle.hm_text.proofs.Formed.{Formed, is_formed}
 use Rattle.hm_text.proofs.FormedNarrow.{more_registers}
@@ -255,7 +255,7 @@ free_list wide_list.Ldmdb = ok refl
 free_condition : (c : ℕ) → c < 14 → IsFree (codes "b" ++ (condition_name c ++ wide))
 free_condition c lt = record { is = below_holds (λ k. is_free (codes "b" ++ (condition_name k ++ wide))) 14 c refl lt }
 
-free_branch : (name : WideBranchName) → IsFree (wide_branch_mnemonic name)
+free_branch : (name : WideBranchName) → IsFree (wide_branch_mnemonic name ++ wide_branch_suffix name)
 free_branch wide_branch.B = ok refl
 free_branch wide_branch.Bl = ok refl
 
@@ -519,7 +519,7 @@ scalar_row (scalar.T22 i) e = lane_row i.name i.q.value i.x.value i.t.value
 -- whatever its label is, a branch has a mnemonic of its own
 jump_named : (i : T16) (t : Tok) → is_wide_line (tokens_of (instr.Branch (branch.T16 i)) t) ≡ true
 jump_named (t16.Conditional i) t = free_line (codes "b" ++ (condition_name i.c.value ++ wide)) (t ∷ []) (free_condition i.c.value i.c.in_range)
-jump_named (t16.Always i) t = free_line (wide_branch_mnemonic i.name) (t ∷ []) (free_branch i.name)
+jump_named (t16.Always i) t = free_line (wide_branch_mnemonic i.name ++ wide_branch_suffix i.name) (t ∷ []) (free_branch i.name)
 
 jump_formed : (i : T16) (a : ℕ) → is_formed (tokens_of (instr.Branch (branch.T16 i)) (number a)) ≡ true
 jump_formed (t16.Conditional i) a = refl

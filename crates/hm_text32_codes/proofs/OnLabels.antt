@@ -1,5 +1,5 @@
 -- Rows with a label: their texts ask for their codes, where the label names their targets.
-use Rattle.std.proofs.Common.{◌≡◌, ℕ, zero, suc, ◌+◌, ◌-◌, ◌*◌, ◌/◌, ◌%◌, ◌^◌, ◌<◌, ◌≤◌, true, List, [], ◌∷◌, ◌++◌, Some, None, refl, sym, subst, ap, ◌∙◌, inl}
+use Rattle.std.proofs.Common.{◌≡◌, ℕ, zero, suc, ◌+◌, ◌-◌, ◌*◌, ◌/◌, ◌%◌, ◌^◌, ◌<◌, ◌≤◌, true, List, [], ◌∷◌, ◌++◌, Some, None, refl, ap, ◌∙◌, inl}
 use Rattle.std.proofs.Common.{inr, arith}
 use Rattle.std.specs.Prelude.{codes, nat_eq, nat_lt}
 use Rattle.std.proofs.lemmas.Bool.{cases_Bool}
@@ -23,7 +23,7 @@ use Rattle.hm_isa.specs.Standing.{◌↑◌}
 use Rattle.hm_isa.specs.Words.{sign_extended}
 use Rattle.hm_isa.specs.Distances.{alike, always_distance, conditional_distance}
 use Rattle.hm_tokens.specs.Names.{condition_name, register_name}
-use Rattle.hm_tokens.specs.Tokens.{Tok, word, comma}
+use Rattle.hm_tokens.specs.Tokens.{Tok, comma}
 use Rattle.hm_text_rows.specs.Labels.{behind, distance}
 use Rattle.hm_text_rows.specs.Shapes.{r}
 use Rattle.hm_text_rows.proofs.Printed.{IsPrintedAt, is_printed_at, short_comma, short_word}
@@ -31,7 +31,7 @@ use Rattle.hm_text_rows.proofs.Words.{at_below, below_holds, is_mnemonic, is_suf
 use Rattle.hm_text32_codes.specs.Codes.{ahead, always_code, behind_it, code_in, code_of, code_of_label, code_of_memory, conditional_code}
 use Rattle.hm_text_rows.specs.Operands.{size_of}
 use Rattle.hm_text32_rows.specs.Rows.{loop_end_tokens}
-use Rattle.hm_text32_rows.specs.Mnemonics.{element_suffix, wide, wide_branch_mnemonic}
+use Rattle.hm_text32_rows.specs.Mnemonics.{element_suffix, wide, wide_branch_mnemonic, wide_branch_suffix}
 use Rattle.hm_text32_codes.proofs.Asked.{IsNoPlain, Row, asks_label, label_row}
 use Rattle.hm_text32_codes.proofs.Forms.{a_register, suffix_element}
 
@@ -267,39 +267,29 @@ always_asks i pc a hp e =
     i.j2.in_range i.s.in_range k ↑ 11 + i.i11.value)
 
 -- their mnemonics, and what follows
-abbrev always_mnemonic : WideBranchName → List ℕ
-always_mnemonic wide_branch.B = codes "b"
-always_mnemonic wide_branch.Bl = codes "bl"
-
-abbrev always_suffix : WideBranchName → List ℕ
-always_suffix wide_branch.B = wide
-always_suffix wide_branch.Bl = []
-
 record Always (name : WideBranchName) : Type 0 where
-  mnemonic : is_mnemonic (always_mnemonic name) ≡ true
-  suffix : is_suffix (always_suffix name) ≡ true
-  none : IsNoPlain (always_mnemonic name)
-  access : IsNoAccess (always_mnemonic name)
+  mnemonic : is_mnemonic (wide_branch_mnemonic name) ≡ true
+  suffix : is_suffix (wide_branch_suffix name) ≡ true
+  none : IsNoPlain (wide_branch_mnemonic name)
+  access : IsNoAccess (wide_branch_mnemonic name)
   asks : (f : List ℕ) (us : List Tok) (pc a : ℕ)
-      → code_of_label (always_mnemonic name) f us pc a ≡ Some (always_code (wide_branch_base name) (distance (pc + 4) a / 2))
-  whole : wide_branch_mnemonic name ≡ always_mnemonic name ++ always_suffix name
+      → code_of_label (wide_branch_mnemonic name) f us pc a ≡ Some (always_code (wide_branch_base name) (distance (pc + 4) a / 2))
 
 always : (name : WideBranchName) → Always name
 unfolding code_of code_of_memory code_of_label
-always wide_branch.B = record { mnemonic = refl; suffix = refl; none = λ o. refl; access = λ us. refl; asks = λ f us pc a. refl; whole = refl }
-always wide_branch.Bl = record { mnemonic = refl; suffix = refl; none = λ o. refl; access = λ us. refl; asks = λ f us pc a. refl; whole = refl }
+always wide_branch.B = record { mnemonic = refl; suffix = refl; none = λ o. refl; access = λ us. refl; asks = λ f us pc a. refl }
+always wide_branch.Bl = record { mnemonic = refl; suffix = refl; none = λ o. refl; access = λ us. refl; asks = λ f us pc a. refl }
 
 row_always : (i : WideAlways) → Row (instr.Branch (branch.T16 (t16.Always i)))
 row_always i =
     let x = always i.name in
-    let s = always_mnemonic i.name in
-    let f = always_suffix i.name in
+    let s = wide_branch_mnemonic i.name in
+    let f = wide_branch_suffix i.name in
     label_row (instr.Branch (branch.T16 (t16.Always i))) (code_wide_always i) refl refl
-    (subst (λ (name : List ℕ). IsPrintedAt (word name ∷ [])) (sym x.whole) (is_printed_at s f [] x.mnemonic x.suffix tt refl refl (omega arith) refl))
+    (is_printed_at s f [] x.mnemonic x.suffix tt refl refl (omega arith) refl)
     (λ t pc a l hp re.
-    subst (λ (name : List ℕ). code_in (word name ∷ t ∷ []) pc a ≡ Some (code_wide_always i)) (sym x.whole)
-    (asks_label s f (t ∷ []) pc a (code_wide_always i) x.mnemonic x.suffix x.none (x.access (t ∷ []))
-    (x.asks f (t ∷ []) pc a ∙ ap (λ (w : ℕ). Some w) (always_asks i pc a hp re))))
+    asks_label s f (t ∷ []) pc a (code_wide_always i) x.mnemonic x.suffix x.none (x.access (t ∷ []))
+    (x.asks f (t ∷ []) pc a ∙ ap (λ (w : ℕ). Some w) (always_asks i pc a hp re)))
 
 pub row_t16 : (i : T16) → Row (instr.Branch (branch.T16 i))
 row_t16 (t16.Conditional i) = row_conditional i

@@ -189,10 +189,15 @@ wide_list_suffix wide_list.Ldmia = wide
 wide_list_suffix wide_list.Stmdb = []
 wide_list_suffix wide_list.Ldmdb = []
 
--- T16: the mnemonic of each name, B.W and BL (DDI0553, "B", encoding T4, and "BL", encoding T1)
+-- T16: the mnemonic of each name, B and BL (DDI0553, "B", encoding T4, and "BL", encoding T1)
 abbrev pub wide_branch_mnemonic : WideBranchName → List ℕ
-wide_branch_mnemonic wide_branch.B = codes "b.w"
+wide_branch_mnemonic wide_branch.B = codes "b"
 wide_branch_mnemonic wide_branch.Bl = codes "bl"
+
+-- T16: what stands behind the mnemonic: B, which a row of one halfword has too, is wide (DDI0553, "B", encoding T4, and "BL", encoding T1)
+abbrev pub wide_branch_suffix : WideBranchName → List ℕ
+wide_branch_suffix wide_branch.B = wide
+wide_branch_suffix wide_branch.Bl = []
 
 -- T5: how SSAT and USAT shift, LSL or ASR (DDI0553, "SSAT" and "USAT")
 abbrev pub saturate_shift : ℕ → List ℕ

@@ -43,7 +43,7 @@ use Rattle.hm_text32_rows.specs.Mnemonics.{double_name, element_suffix}
 use Rattle.hm_text32_rows.specs.Mnemonics.{extract_mnemonic, half_mnemonic, long_mnemonic, move_mnemonic, operation_mnemonic, pair_mnemonic}
 use Rattle.hm_text32_rows.specs.Mnemonics.{read_name, saturate_shift}
 use Rattle.hm_text32_rows.specs.Mnemonics.{saturate_mnemonic, select_mnemonic, shift_mnemonic, stack_mnemonic, test_mnemonic, turn_mnemonic, wide}
-use Rattle.hm_text32_rows.specs.Mnemonics.{wide_branch_mnemonic, wide_list_mnemonic}
+use Rattle.hm_text32_rows.specs.Mnemonics.{wide_branch_mnemonic, wide_branch_suffix, wide_list_mnemonic}
 use Rattle.hm_text32_rows.specs.Mnemonics.{wide_list_suffix, wide_shift_mnemonic, wide_sum_mnemonic, written_name}
 
 -- DATA
@@ -209,7 +209,7 @@ table_tokens table.Tbh n m = word (codes "tbh") ∷ open_bracket ∷ r n ∷ com
 -- T16: the tokens of B and BL before the label, `beq.w label` and so on, `b.w label`, `bl label` (DDI0553, "B", encodings T3 and T4, and "BL")
 abbrev pub wide_branch_tokens : WideBranchRow → List Tok
 wide_branch_tokens (t16.Conditional i) = word (codes "b" ++ (condition_name i.c.value ++ wide)) ∷ []
-wide_branch_tokens (t16.Always i) = word (wide_branch_mnemonic i.name) ∷ []
+wide_branch_tokens (t16.Always i) = word (wide_branch_mnemonic i.name ++ wide_branch_suffix i.name) ∷ []
 
 -- T23: the tokens of LE and LETP before the label, `le lr,label`, `letp lr,label`, `le label` (DDI0553, "LE, LETP")
 abbrev pub loop_end_tokens : LoopEndName → List Tok

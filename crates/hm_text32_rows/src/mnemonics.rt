@@ -9,7 +9,7 @@ ghost use Rattle.hm_text32_rows.specs.Mnemonics.{operation_mnemonic};
 ghost use Rattle.hm_text32_rows.specs.Mnemonics.{pair_mnemonic, read_name};
 ghost use Rattle.hm_text32_rows.specs.Mnemonics.{saturate_shift, saturate_mnemonic, select_mnemonic, shift_mnemonic, stack_mnemonic, test_mnemonic};
 ghost use Rattle.hm_text32_rows.specs.Mnemonics.{turn_mnemonic};
-ghost use Rattle.hm_text32_rows.specs.Mnemonics.{wide_branch_mnemonic};
+ghost use Rattle.hm_text32_rows.specs.Mnemonics.{wide_branch_mnemonic, wide_branch_suffix};
 ghost use Rattle.hm_text32_rows.specs.Mnemonics.{wide_list_mnemonic, wide_list_suffix, wide_shift_mnemonic, wide_sum_mnemonic, written_name};
 
 use hm_isa::{
@@ -394,7 +394,17 @@ pub fn wide_branch_mnemonic(name: WideBranchName) -> &'static str
     ensures { result.now ≡ wide_branch_mnemonic name }
 {
     match name {
-        WideBranchName::B => "b.w",
+        WideBranchName::B => "b",
         WideBranchName::Bl => "bl",
+    }
+}
+
+/// The suffix of a row T16 without a condition: the branch that a row of one halfword has too is wide.
+pub fn wide_branch_suffix(name: WideBranchName) -> &'static str
+    ensures { result.now ≡ wide_branch_suffix name }
+{
+    match name {
+        WideBranchName::B => ".w",
+        WideBranchName::Bl => "",
     }
 }

@@ -18,7 +18,7 @@ use crate::mnemonics::{
     data_mnemonic, double_name, element_suffix, extract_mnemonic, half_mnemonic, long_mnemonic,
     move_mnemonic, operation_mnemonic, read_name, saturate_mnemonic, saturate_shift,
     select_mnemonic, shift_mnemonic, stack_mnemonic, test_mnemonic, turn_mnemonic,
-    wide_branch_mnemonic, wide_shift_mnemonic, wide_sum_mnemonic, written_name,
+    wide_branch_mnemonic, wide_branch_suffix, wide_shift_mnemonic, wide_sum_mnemonic, written_name,
 };
 use hm_isa::words::{expand_imm_c, imm12};
 use hm_isa::{
@@ -429,7 +429,7 @@ fn text_t16(i: &T16) -> InstrText
 {
     match i {
         T16::Conditional(i) => alone("b", condition_name(i.c.get()), ".w"),
-        T16::Always(i) => alone(wide_branch_mnemonic(i.name), "", ""),
+        T16::Always(i) => alone(wide_branch_mnemonic(i.name), "", wide_branch_suffix(i.name)),
     }
 }
 
