@@ -44,23 +44,23 @@ begun form k ts = mapped form ts (first_operand Outside k) (λ n. operands_accep
 
 -- ---- what is accepted is of the form
 
-mnemonic_accepted : (form : Form) (ts : List Spaced) → accepts form states.Mnemonic ts ≡ true → AreOperands ts
-mnemonic_accepted form [] e = tt
-mnemonic_accepted form ((true, k) ∷ ts) e = let f = operands_taken (k ∷ kinds ts) (sym (begun form k ts) ∙ e) in (refl, f.0, f.1, f.2)
-mnemonic_accepted form ((false, k) ∷ ts) e = absurd (false≢true e)
+first_word_accepted : (form : Form) (ts : List Spaced) → accepts form states.FirstWord ts ≡ true → AreOperands ts
+first_word_accepted form [] e = tt
+first_word_accepted form ((true, k) ∷ ts) e = let f = operands_taken (k ∷ kinds ts) (sym (begun form k ts) ∙ e) in (refl, f.0, f.1, f.2)
+first_word_accepted form ((false, k) ∷ ts) e = absurd (false≢true e)
 
 label_accepted : (form : Form) (ts : List Spaced) → accepts form states.Label ts ≡ true → IsOptional ts
 label_accepted form [] e = tt
-label_accepted form ((a, word) ∷ ts) e = (refl, mnemonic_accepted form ts e)
+label_accepted form ((a, word) ∷ ts) e = (refl, first_word_accepted form ts e)
 label_accepted form ((a, number) ∷ ts) e = absurd (false≢true e)
 label_accepted form ((a, mark m) ∷ ts) e = absurd (false≢true e)
 
 first_accepted : (form : Form) (a : Bool) (ts : List Spaced) → accepts form states.First ts ≡ true → IsForm form ((a, word) ∷ ts)
 first_accepted forms.Instruction a [] e = (refl, tt)
-first_accepted forms.Instruction a (t ∷ ts) e = (refl, mnemonic_accepted forms.Instruction (t ∷ ts) e)
+first_accepted forms.Instruction a (t ∷ ts) e = (refl, first_word_accepted forms.Instruction (t ∷ ts) e)
 first_accepted forms.Line a [] e = inl (refl, tt)
 first_accepted forms.Line a ((b, mark Colon) ∷ ts) e = inr (refl, refl, label_accepted forms.Line ts e)
-first_accepted forms.Line a ((b, k) ∷ ts) e = inl (refl, mnemonic_accepted forms.Line ((b, k) ∷ ts) e)
+first_accepted forms.Line a ((b, k) ∷ ts) e = inl (refl, first_word_accepted forms.Line ((b, k) ∷ ts) e)
 
 start_accepted : (form : Form) (ts : List Spaced) → accepts form states.Start ts ≡ true → IsForm form ts
 start_accepted forms.Instruction [] e = absurd (false≢true e)
@@ -71,16 +71,16 @@ start_accepted form ((a, mark m) ∷ ts) e = absurd (false≢true e)
 
 -- ---- what is of the form is accepted
 
-mnemonic_of : (form : Form) (ts : List Spaced) → AreOperands ts → accepts form states.Mnemonic ts ≡ true
-mnemonic_of form [] x = refl
-mnemonic_of form ((true, k) ∷ ts) x = begun form k ts ∙ ap (takes (ops.Operand Outside)) x.3 ∙ operands_read x.1 x.2
-mnemonic_of form ((false, k) ∷ ts) x = absurd (false≢true x.0)
+first_word_of : (form : Form) (ts : List Spaced) → AreOperands ts → accepts form states.FirstWord ts ≡ true
+first_word_of form [] x = refl
+first_word_of form ((true, k) ∷ ts) x = begun form k ts ∙ ap (takes (ops.Operand Outside)) x.3 ∙ operands_read x.1 x.2
+first_word_of form ((false, k) ∷ ts) x = absurd (false≢true x.0)
 
 first_of_form : (form : Form) (ts : List Spaced) → AreOperands ts → accepts form states.First ts ≡ true
 first_of_form form [] x = refl
-first_of_form forms.Line ((true, mark Colon) ∷ ts) x = absurd (false≢true (mnemonic_of forms.Line ((true, mark Colon) ∷ ts) x))
+first_of_form forms.Line ((true, mark Colon) ∷ ts) x = absurd (false≢true (first_word_of forms.Line ((true, mark Colon) ∷ ts) x))
 first_of_form forms.Line ((false, mark Colon) ∷ ts) x = absurd (false≢true x.0)
-first_of_form form ((a, k) ∷ ts) x = mnemonic_of form ((a, k) ∷ ts) x
+first_of_form form ((a, k) ∷ ts) x = first_word_of form ((a, k) ∷ ts) x
 
 instruction_of : (form : Form) (ts : List Spaced) → IsInstruction ts → accepts form states.Start ts ≡ true
 instruction_of form [] x = absurd x
@@ -92,7 +92,7 @@ optional_of (t ∷ ts) x = instruction_of forms.Line (t ∷ ts) x
 
 label_of : (ts : List Spaced) → IsOptional ts → accepts forms.Line states.Label ts ≡ true
 label_of [] x = refl
-label_of ((a, k) ∷ ts) x = rw x.0 (mnemonic_of forms.Line ts x.1)
+label_of ((a, k) ∷ ts) x = rw x.0 (first_word_of forms.Line ts x.1)
 
 labelled_of : (ts : List Spaced) → IsLabelled ts → accepts forms.Line states.Start ts ≡ true
 labelled_of [] x = absurd x
@@ -155,14 +155,14 @@ abbrev state_completion : State → List Spaced
 state_completion states.Start = (true, word) ∷ []
 state_completion states.First = []
 state_completion states.Label = []
-state_completion states.Mnemonic = []
+state_completion states.FirstWord = []
 state_completion (states.Operands n) = spaced (completion n)
 
 state_completed : (form : Form) (s : State) → accepts form s (state_completion s) ≡ true
 state_completed form states.Start = refl
 state_completed form states.First = refl
 state_completed form states.Label = refl
-state_completed form states.Mnemonic = refl
+state_completed form states.FirstWord = refl
 state_completed form (states.Operands n) = operands_accepted form (spaced (completion n)) n ∙ ap (takes n) (kinds_spaced (completion n)) ∙ completed n
 
 -- ---- the laws

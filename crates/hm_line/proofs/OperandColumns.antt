@@ -63,7 +63,7 @@ before_passed (suc j) left inside rest here after there t lt e is f p = (
   subst (λ (m : ℕ). ArePassed m (is_inside inside (kind t)) (kinds p.0)) (sym (left_is (is_between inside (kind t)) j left e)) p.2,
 )
 
--- the mnemonic
+-- the first word
 pub operand_passes : (text here behind there : List ℕ) (n : ℕ) (t : Tok) → here ≡ skip text → token_at here ≡ Some (t, behind) → IsOperand text n there
     → Passes n false behind there
 operand_passes text here behind there n t is e o =

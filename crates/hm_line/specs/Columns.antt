@@ -24,6 +24,6 @@ ArePassed zero inside ks = ks ≡ []
 ArePassed (suc n) inside [] = ⊥
 ArePassed (suc n) inside (k ∷ ks) = ArePassed (if is_between inside k then n else suc n) (is_inside inside k) ks
 
--- operand n of a text, counted from 0, begins behind the spaces here: behind the mnemonic or directive, and n commas
+-- operand n of a text, counted from 0, begins behind the spaces here: behind the first word, and n commas
 abbrev pub IsOperand : List ℕ → ℕ → List ℕ → Type 0
 IsOperand text n here = (t : Spaced) × (ts : List Spaced) × AreTokens text (t ∷ ts) here × ArePassed n false (kinds ts)

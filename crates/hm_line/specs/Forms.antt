@@ -67,12 +67,12 @@ Spaced = Bool × Kind
 abbrev pub kinds : List Spaced → List Kind
 kinds ts = map (λ t. t.1) ts
 
--- what may stand behind a mnemonic or directive: nothing, or a space and operands with commas between them
+-- what may stand behind the first word of an instruction or directive: nothing, or a space and operands with commas between them
 abbrev pub AreOperands : List Spaced → Type 0
 AreOperands [] = Unit {0}
 AreOperands (t ∷ ts) = (t.0 ≡ true) × (o : Operand) × (os : List Operand) × (kinds (t ∷ ts) ≡ operand o ++ behind_commas operand os)
 
--- an instruction or directive: its name, and its operands
+-- an instruction or directive: its first word, and its operands
 abbrev pub IsInstruction : List Spaced → Type 0
 IsInstruction [] = ⊥
 IsInstruction (t ∷ ts) = (t.1 ≡ word) × AreOperands ts

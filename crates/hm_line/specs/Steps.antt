@@ -98,22 +98,22 @@ is_operand_end ops.Address = true
 is_operand_end s = false
 
 -- LINES, by tokens and whether a space stands before them
--- what a token behind a mnemonic or directive leads to, which a space is to stand before
-abbrev pub behind_mnemonic : Bool → Kind → Option State
-behind_mnemonic true k = option_map states.Operands (first_operand Outside k)
-behind_mnemonic false k = None
+-- what a token behind the first word of an instruction or directive leads to, which a space is to stand before
+abbrev pub behind_first_word : Bool → Kind → Option State
+behind_first_word true k = option_map states.Operands (first_operand Outside k)
+behind_first_word false k = None
 
--- what a token behind the first word leads to: in a line, a `:` makes that word a label
+-- what a token behind the first word of a line leads to: in a line of a source, a `:` makes that word a label
 abbrev pub behind_first : Form → Bool → Kind → Option State
 behind_first forms.Line apart (mark Colon) = Some states.Label
-behind_first form apart k = behind_mnemonic apart k
+behind_first form apart k = behind_first_word apart k
 
 -- what a token of a line leads to, by what was read last of it; None where it may not stand there
 abbrev pub line_step : Form → State → Bool → Kind → Option State
 line_step form states.Start apart k = if is_word k then Some states.First else None
 line_step form states.First apart k = behind_first form apart k
-line_step form states.Label apart k = if is_word k then Some states.Mnemonic else None
-line_step form states.Mnemonic apart k = behind_mnemonic apart k
+line_step form states.Label apart k = if is_word k then Some states.FirstWord else None
+line_step form states.FirstWord apart k = behind_first_word apart k
 line_step form (states.Operands last) apart k = option_map states.Operands (operand_step last k)
 
 -- a line without tokens is fine, and a text without is not
@@ -126,5 +126,5 @@ abbrev pub is_line_end : Form → State → Bool
 is_line_end form states.Start = may_be_empty form
 is_line_end form states.First = true
 is_line_end form states.Label = true
-is_line_end form states.Mnemonic = true
+is_line_end form states.FirstWord = true
 is_line_end form (states.Operands last) = is_operand_end last

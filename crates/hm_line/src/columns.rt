@@ -47,7 +47,7 @@ pub fn operand_column(text: &[u8], n: u32) -> Option<u32>
     ensures found { IfSome result (λ c. (here : List ℕ) × IsOperand text.now n here × (c ≡ column text.now (skip here))) }
     ensures only { (here : List ℕ) → IsOperand text.now n here → result ≡ Some (column text.now (skip here)) }
 {
-    let (_mnemonic, behind) = token_at(skip(text))?;
+    let (_first_word, behind) = token_at(skip(text))?;
     let mut left = n;
     let mut inside = false;
     let mut rest = behind;

@@ -2,7 +2,7 @@
 
 ghost use Rattle.std.specs.Prelude.{◌≡◌, if◌then◌else◌};
 ghost use Rattle.hm_line.specs.Kinds.{kind};
-ghost use Rattle.hm_line.specs.Steps.{behind_address, behind_first, behind_hash, behind_item, behind_item_word, behind_lane, behind_mnemonic, behind_operand};
+ghost use Rattle.hm_line.specs.Steps.{behind_address, behind_first, behind_first_word, behind_hash, behind_item, behind_item_word, behind_lane, behind_operand};
 ghost use Rattle.hm_line.specs.Steps.{behind_word, first_operand, is_line_end, is_number, is_word, line_step, operand_step};
 ghost use Rattle.hm_tokens.specs.Tokens.{tok};
 
@@ -58,12 +58,12 @@ pub enum Operands {
 pub enum State {
     /// Nothing.
     Start,
-    /// The first word: a mnemonic or directive, or a label where `:` follows.
+    /// The first word of a line: that of an instruction or directive, or a label where `:` follows.
     First,
     /// A label with its `:`.
     Label,
-    /// The mnemonic or directive behind a label.
-    Mnemonic,
+    /// The first word of an instruction or directive, behind a label.
+    FirstWord,
     /// Something of the operands.
     Operands(Operands),
 }
@@ -215,9 +215,9 @@ fn operand_step(last: Operands, token: Token<'_>) -> Option<Operands>
     }
 }
 
-/// What a token behind a mnemonic leads to.
-fn behind_mnemonic(apart: bool, token: Token<'_>) -> Option<State>
-    ensures { result ≡ behind_mnemonic apart (kind (tok token.entry)) }
+/// What a token behind the first word of an instruction or directive leads to.
+fn behind_first_word(apart: bool, token: Token<'_>) -> Option<State>
+    ensures { result ≡ behind_first_word apart (kind (tok token.entry)) }
 {
     if !apart {
         return None;
@@ -237,7 +237,7 @@ fn behind_first(form: Form, apart: bool, token: Token<'_>) -> Option<State>
             Form::Instruction => None,
             Form::Line => Some(State::Label),
         },
-        other => behind_mnemonic(apart, other),
+        other => behind_first_word(apart, other),
     }
 }
 
@@ -248,8 +248,8 @@ pub fn step(form: Form, state: State, apart: bool, token: Token<'_>) -> Option<S
     match state {
         State::Start => only_if(is_word(token), State::First),
         State::First => behind_first(form, apart, token),
-        State::Label => only_if(is_word(token), State::Mnemonic),
-        State::Mnemonic => behind_mnemonic(apart, token),
+        State::Label => only_if(is_word(token), State::FirstWord),
+        State::FirstWord => behind_first_word(apart, token),
         State::Operands(last) => match operand_step(last, token) {
             Some(next) => Some(State::Operands(next)),
             None => None,
@@ -263,7 +263,7 @@ pub fn is_end(form: Form, state: State) -> bool
 {
     match state {
         State::Start => matches!(form, Form::Line),
-        State::First | State::Label | State::Mnemonic => true,
+        State::First | State::Label | State::FirstWord => true,
         State::Operands(last) => matches!(
             last,
             Operands::Word(Depth::Outside) | Operands::Done(Depth::Outside) | Operands::Address

@@ -12,9 +12,9 @@ use Rattle.hm_text.specs.Tables.{label_of}
 use Rattle.hm_text.specs.Texts.{IsRowText, IsTextOf}
 
 -- COLUMNS
--- that of the mnemonic, which is the first token
-abbrev pub IsAtMnemonic : List ℕ → ℕ → Type 0
-IsAtMnemonic text c = c ≡ column text (skip text)
+-- that of the first word, which is the first token
+abbrev pub IsAtFirstWord : List ℕ → ℕ → Type 0
+IsAtFirstWord text c = c ≡ column text (skip text)
 
 -- that of the label, which is the last token
 abbrev pub IsAtLabel : List ℕ → ℕ → Type 0
@@ -25,7 +25,7 @@ IsAtLabel text c = (here : List ℕ) × IsLast text here × (c ≡ column text (
 pub record IsNoRow (text : List ℕ) (c : ℕ) : Type 0 where
   pub form : IsOfForm forms.Instruction text
   pub none : (i : Instr) (t : Tok) → IsRowText text i t → ⊥
-  pub column : IsAtMnemonic text c
+  pub column : IsAtFirstWord text c
 
 -- a row has the text, and its label is a name that is not defined
 pub record IsMissing (text : List ℕ) (labels : List ℕ → Option ℕ) (c : ℕ) : Type 0 where

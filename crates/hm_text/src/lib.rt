@@ -7,7 +7,7 @@ ghost use Rattle.hm_isa.specs.declared.Instr.{Instr};
 ghost use Rattle.hm_isa.specs.Code.{halfwords};
 ghost use Rattle.hm_line.specs.declared.errors.TextErr.{TextErr};
 ghost use Rattle.hm_line.specs.Texts.{IsOfForm};
-ghost use Rattle.hm_text.specs.Refusals.{IsAtMnemonic, IsShapeRefused, IsTextRefused};
+ghost use Rattle.hm_text.specs.Refusals.{IsAtFirstWord, IsShapeRefused, IsTextRefused};
 ghost use Rattle.hm_text.specs.Tables.{long_text, printed_text, width_of};
 ghost use Rattle.hm_text.specs.Texts.{HasWidth, IsOnlyShape, IsShape, IsTextOf};
 ghost use Rattle.hm_tokens.specs.Tokens.{tok};
@@ -41,7 +41,7 @@ fn print_long(i: &Instr, pc: u32) -> ArrayString<96>
     }
 }
 
-/// The text of an instruction that stands at `pc`: the mnemonic, a space, and the operands with commas between them, numbers in
+/// The text of an instruction that stands at `pc`: the first word, a space, and the operands with commas between them, numbers in
 /// decimal, and for a label the address that it names as `0x` and eight digits. `parse_instr` gives the instruction again, at the
 /// same `pc` and with any labels, and `shape` its width.
 pub fn print_instr(i: &Instr, pc: u32) -> ArrayString<96>
@@ -60,7 +60,7 @@ pub fn print_instr(i: &Instr, pc: u32) -> ArrayString<96>
 /// The refusal of a text that no row has.
 fn no_row(text: &[u8]) -> TextErr
     ensures kind { result.kind ≡ AsmKind.Row }
-    ensures column { IsAtMnemonic text.now result.column }
+    ensures column { IsAtFirstWord text.now result.column }
 {
     TextErr {
         column: column(text, skip(text)),
@@ -96,7 +96,7 @@ fn shape_of(text: &[u8]) -> Result<Shape<'_>, TextErr>
 
 /// How many bytes the code of the instruction has that a text names, wherever it stands and whatever its label names: 2 or 4. A text
 /// that is not of the form is refused as Syntax, at the first token or byte that leaves it; one that no row has is refused as Row,
-/// at its mnemonic.
+/// at its first word.
 pub fn shape(text: &[u8]) -> Result<u32, TextErr>
     ensures width { (n : ℕ) → (HasWidth text.now n ↔ (result ≡ Ok n)) }
     ensures refused { (e : TextErr) → (IsShapeRefused e.kind text.now e.column ↔ (result ≡ Err e)) }

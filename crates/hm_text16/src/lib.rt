@@ -22,7 +22,7 @@ use hm_text16_rows::{has_label, row_text};
 use hm_tokens::{Token, single_registers};
 use texts::is_row_at;
 
-/// The text of a row of one halfword that stands at `pc`: the mnemonic, a space, and the operands with commas between them,
+/// The text of a row of one halfword that stands at `pc`: the first word, a space, and the operands with commas between them,
 /// numbers in decimal, and for a label the address that it names as `0x` and eight digits. `read16` gives the row again.
 pub fn print16(i: &Instr, pc: u32) -> ArrayString<96>
     requires narrow { length (halfwords i.now) ≡ 1 }

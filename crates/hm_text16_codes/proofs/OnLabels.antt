@@ -20,7 +20,7 @@ use Rattle.hm_text16_codes.specs.declared.operands.Kind.TheVariants as kinds
 use Rattle.hm_text16_codes.specs.Codes.{code_of}
 use Rattle.hm_text_rows.specs.Labels.{behind, distance}
 use Rattle.hm_text_rows.proofs.Words.{at_below, below_holds, is_mnemonic}
-use Rattle.hm_text16_rows.specs.Mnemonics.{branch_mnemonic, zero_mnemonic}
+use Rattle.hm_text16_rows.specs.Mnemonics.{branch_first_word, zero_mnemonic}
 use Rattle.hm_text16_codes.proofs.Words.{a_low}
 use Rattle.hm_text16_codes.proofs.Forms.{given, reads_label, reads_register_label}
 use Rattle.hm_text16_codes.proofs.Asked.{Row, label_row}
@@ -71,7 +71,7 @@ row_s24 i =
 -- S25
 abbrev AsksConditional : ℕ → Type 0
 AsksConditional c = (v i pc a : ℕ) → distance (pc + 4) a / 2 % 256 ≡ i
-    → code_of (branch_mnemonic c) (given v 0 0 kinds.Missing kinds.Missing) pc a ≡ Some (0xd000 + c ↑ 8 + i)
+    → code_of (branch_first_word c) (given v 0 0 kinds.Missing kinds.Missing) pc a ≡ Some (0xd000 + c ↑ 8 + i)
 
 asks_conditional : (c : ℕ) → c < 14 → AsksConditional c
 unfolding code_of
@@ -109,8 +109,8 @@ asks_conditional c lt =
     )
     lt
 
-mnemonic_branch : (c : ℕ) → c < 14 → is_mnemonic (branch_mnemonic c) ≡ true
-mnemonic_branch c lt = below_holds (λ j. is_mnemonic (branch_mnemonic j)) 14 c refl lt
+mnemonic_branch : (c : ℕ) → c < 14 → is_mnemonic (branch_first_word c) ≡ true
+mnemonic_branch c lt = below_holds (λ j. is_mnemonic (branch_first_word j)) 14 c refl lt
 
 asks_always : (v i pc a : ℕ) → distance (pc + 4) a / 2 % 2048 ≡ i → code_of (codes "b") (given v 0 0 kinds.Missing kinds.Missing) pc a ≡ Some (0xe000 + i)
 unfolding code_of
@@ -146,8 +146,8 @@ branch_field half i d pc a hp f e =
 
 pub row_s25 : (i : S25) → Row (instr.Branch (branch.S25 i))
 row_s25 (s25.Conditional i) =
-    label_row (instr.Branch (branch.S25 (s25.Conditional i))) (branch_mnemonic i.c.value) _ _ refl refl
-    (reads_label (branch_mnemonic i.c.value) (mnemonic_branch i.c.value i.c.in_range))
+    label_row (instr.Branch (branch.S25 (s25.Conditional i))) (branch_first_word i.c.value) _ _ refl refl
+    (reads_label (branch_first_word i.c.value) (mnemonic_branch i.c.value i.c.in_range))
     (λ t pc a hp re. asks_conditional i.c.value i.c.in_range _ i.i.value pc a
     (branch_field 128 i.i.value (sign_extended 9 (2 * i.i.value)) pc a hp (near_field (2 * i.i.value) i.i.value refl i.i.in_range) re))
 row_s25 (s25.Always i) =

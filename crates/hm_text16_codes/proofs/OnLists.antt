@@ -24,7 +24,7 @@ use Rattle.hm_text_rows.specs.Operands.{bits_of, braced}
 use Rattle.hm_text_rows.specs.Shapes.{braces, r}
 use Rattle.hm_text_rows.proofs.Words.{at_below, below_holds, is_mnemonic}
 use Rattle.hm_text16_rows.specs.Rows.{list_tokens}
-use Rattle.hm_text16_rows.specs.Mnemonics.{block_mnemonic, letters_above}
+use Rattle.hm_text16_rows.specs.Mnemonics.{block_first_word, letters_above}
 use Rattle.hm_text16_codes.proofs.Words.{a_condition, a_low}
 use Rattle.hm_text16_rows.proofs.Registers.{Braces, low_braces, pop_braces, push_braces}
 use Rattle.hm_text16_codes.proofs.Forms.{given, reads_one}
@@ -231,7 +231,7 @@ parity c =
       | inr e ↦ inr (grind (arith, nat_tests))
     ]
 
-asks_block : (c m pc a : ℕ) → 0 < m → m < 16 → code_of (block_mnemonic c m) (given c 0 0 kinds.Missing kinds.Missing) pc a ≡ Some (0xbf00 + c ↑ 4 + m)
+asks_block : (c m pc a : ℕ) → 0 < m → m < 16 → code_of (block_first_word c m) (given c 0 0 kinds.Missing kinds.Missing) pc a ≡ Some (0xbf00 + c ↑ 4 + m)
 asks_block c zero pc a some lt = absurd (omega arith)
 asks_block c (suc j) pc a some lt =
     elim (parity c) [

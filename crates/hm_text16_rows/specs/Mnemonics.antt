@@ -110,9 +110,9 @@ abbrev pub zero_mnemonic : ZeroName → List ℕ
 zero_mnemonic zero_.Cbz = codes "cbz"
 zero_mnemonic zero_.Cbnz = codes "cbnz"
 
--- S25: the mnemonic of B under a condition, `beq` to `ble` (DDI0553, "B", encodings T1 and T2)
-abbrev pub branch_mnemonic : ℕ → List ℕ
-branch_mnemonic c = codes "b" ++ condition_name c
+-- S25: the first word of B under a condition, `beq` to `ble` (DDI0553, "B", encodings T1 and T2)
+abbrev pub branch_first_word : ℕ → List ℕ
+branch_first_word c = codes "b" ++ condition_name c
 
 -- S21: the condition of a block, `al` among them (DDI0553, "IT")
 abbrev pub block_condition : ℕ → List ℕ
@@ -130,6 +130,6 @@ letters_above low mask =
     else if nat_eq (mask % 2) 0 then letter low (mask / 8) ∷ letter low (mask / 4 % 2) ∷ []
     else letter low (mask / 8) ∷ letter low (mask / 4 % 2) ∷ letter low (mask / 2 % 2) ∷ []
 
--- S21: the mnemonic of a block, `it` and its letters (DDI0553, "IT")
-abbrev pub block_mnemonic : ℕ → ℕ → List ℕ
-block_mnemonic c mask = codes "it" ++ letters_above (c % 2) mask
+-- S21: the first word of a block, `it` and its letters (DDI0553, "IT")
+abbrev pub block_first_word : ℕ → ℕ → List ℕ
+block_first_word c mask = codes "it" ++ letters_above (c % 2) mask

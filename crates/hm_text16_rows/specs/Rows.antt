@@ -21,7 +21,7 @@ use Rattle.hm_isa.specs.Standing.{◌↑◌}
 use Rattle.hm_tokens.specs.Tokens.{Tok, word, close_bracket, comma, bang, open_bracket}
 use Rattle.hm_text_rows.specs.Shapes.{and_constant, braces, constant, inside, one, r, three, two}
 use Rattle.hm_text_rows.specs.Mnemonics.{access_mnemonic, extend_mnemonic}
-use Rattle.hm_text16_rows.specs.Mnemonics.{block_condition, block_mnemonic, branch_mnemonic, byte_mnemonic, hint_mnemonic}
+use Rattle.hm_text16_rows.specs.Mnemonics.{block_condition, block_first_word, branch_first_word, byte_mnemonic, hint_mnemonic}
 use Rattle.hm_text16_rows.specs.Mnemonics.{jump_mnemonic, logic_mnemonic, masking_mnemonic}
 use Rattle.hm_text16_rows.specs.Mnemonics.{plain_mnemonic, shift_mnemonic, stack_sum_mnemonic, sum_mnemonic, swap_mnemonic, word_mnemonic, zero_mnemonic}
 
@@ -69,7 +69,7 @@ plain_size plain.Ldrh = 2
 
 -- S25: the tokens of B with a condition or with none, before the label (DDI0553, "B", encodings T1 and T2)
 abbrev pub jump_tokens : JumpRow → List Tok
-jump_tokens (s25.Conditional i) = word (branch_mnemonic i.c.value) ∷ []
+jump_tokens (s25.Conditional i) = word (branch_first_word i.c.value) ∷ []
 jump_tokens (s25.Always i) = word (codes "b") ∷ []
 
 -- the tokens of rows S1 to S21, of S14 those before its label; none of other rows
@@ -94,7 +94,7 @@ scalar_tokens (S17 i) = by_number (word_mnemonic i.name) i.t.value 13 (4 * i.i.v
 scalar_tokens (S18 i) = word (codes "bkpt") ∷ constant i.i.value
 scalar_tokens (S19 i) = word (hint_mnemonic i.name) ∷ []
 scalar_tokens (S20 i) = list_tokens i.name i.x.value i.n.value i.list.value
-scalar_tokens (S21 i) = one (block_mnemonic i.c.value i.mask.value) (word (block_condition i.c.value))
+scalar_tokens (S21 i) = one (block_first_word i.c.value i.mask.value) (word (block_condition i.c.value))
 scalar_tokens i = []
 
 -- the tokens of rows S23 to S25, of S24 and S25 those before the label; none of other rows

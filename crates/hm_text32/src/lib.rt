@@ -22,7 +22,7 @@ use hm_text32_rows::{has_label, row_text};
 use hm_tokens::{Token, single_registers};
 use texts::is_row_at;
 
-/// The text of a row of two halfwords, no vector row, that stands at `pc`: the mnemonic, a space, and the operands with commas
+/// The text of a row of two halfwords, no vector row, that stands at `pc`: the first word, a space, and the operands with commas
 /// between them, numbers in decimal, and for a label the address that it names as `0x` and eight digits. `read32` gives the row again.
 pub fn print32(i: &Instr, pc: u32) -> ArrayString<96>
     requires wide { IsWide i.now }

@@ -18,7 +18,7 @@ most (word w) = 9
 most (number n) = 10
 most (mark c) = 1
 
--- what may stand behind a mnemonic
+-- what may stand behind a first word
 pub record IsShort (t : Tok) : Type 0 where
   pub is : IsToken t
   pub short : length (spell t) ≤ most t

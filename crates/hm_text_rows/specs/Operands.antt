@@ -21,7 +21,7 @@ is_given (Some n) = true
 is_given None = false
 
 -- WORDS
--- the condition of a branch: that behind the `b`
+-- the condition of a branch: what stands behind the `b` of its first word
 abbrev pub branch_condition_in : List ℕ → Option ℕ
 branch_condition_in [] = None
 branch_condition_in (c ∷ name) = if c == 98 then condition_in name else None

@@ -26,19 +26,19 @@ abbrev pub either : ℕ → List ℕ → List ℕ → List ℕ
 either bit zero_ one_ = cond (nat_eq bit 0) zero_ one_
 
 -- SHAPES
--- a mnemonic and one operand
+-- a first word and one operand
 abbrev pub one : List ℕ → Tok → List Tok
 one name a = word name ∷ a ∷ []
 
--- a mnemonic and two operands
+-- a first word and two operands
 abbrev pub two : List ℕ → Tok → Tok → List Tok
 two name a b = word name ∷ a ∷ comma ∷ b ∷ []
 
--- a mnemonic and three operands
+-- a first word and three operands
 abbrev pub three : List ℕ → Tok → Tok → Tok → List Tok
 three name a b c = word name ∷ a ∷ comma ∷ b ∷ comma ∷ c ∷ []
 
--- a mnemonic and four operands
+-- a first word and four operands
 abbrev pub four : List ℕ → Tok → Tok → Tok → Tok → List Tok
 four name a b c d = word name ∷ a ∷ comma ∷ b ∷ comma ∷ c ∷ comma ∷ d ∷ []
 

@@ -15,11 +15,11 @@ pub fn is(word: &[u8], name: &str) -> bool
     word == name.as_bytes()
 }
 
-/// The condition of a branch: that behind the `b` of `beq` to `ble`.
-pub fn branch_condition_in(mnemonic: &[u8]) -> Option<u32>
-    ensures value { result ≡ branch_condition_in mnemonic.now }
+/// The condition of a branch: what stands behind the `b` of its first word, `beq` to `ble`.
+pub fn branch_condition_in(word: &[u8]) -> Option<u32>
+    ensures value { result ≡ branch_condition_in word.now }
 {
-    match mnemonic {
+    match word {
         [] => None,
         [first, rest @ ..] => {
             if *first == b'b' {

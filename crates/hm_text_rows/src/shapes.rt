@@ -36,7 +36,7 @@ pub fn or_zero(n: Register) -> Part
     }
 }
 
-/// A mnemonic with no operands.
+/// A first word with no operands: a mnemonic, letters behind it, and a suffix.
 pub fn alone(mnemonic: &'static str, letters: &'static str, suffix: &'static str) -> InstrText
     ensures tokens { text_tokens result ≡ word (mnemonic.now ++ (letters.now ++ suffix.now)) ∷ [] }
     ensures room { length result.operands.items ≡ 0 }
@@ -79,7 +79,7 @@ pub fn first(mut text: InstrText, operand: Part) -> InstrText
     text
 }
 
-/// The mnemonic and one operand.
+/// A first word and one operand.
 pub fn one(mnemonic: &'static str, suffix: &'static str, a: Part) -> InstrText
     ensures tokens { text_tokens result ≡ one (mnemonic.now ++ suffix.now) (part_token a) }
     ensures room { length result.operands.items ≡ 1 }
@@ -110,7 +110,7 @@ pub fn and_constant(mut text: InstrText, n: u32) -> InstrText
     text
 }
 
-/// The mnemonic and two operands.
+/// A first word and two operands.
 pub fn two(mnemonic: &'static str, suffix: &'static str, a: Part, b: Part) -> InstrText
     ensures tokens { text_tokens result ≡ two (mnemonic.now ++ suffix.now) (part_token a) (part_token b) }
     ensures room { length result.operands.items ≡ 3 }
@@ -118,7 +118,7 @@ pub fn two(mnemonic: &'static str, suffix: &'static str, a: Part, b: Part) -> In
     and(one(mnemonic, suffix, a), b)
 }
 
-/// The mnemonic and three operands.
+/// A first word and three operands.
 pub fn three(mnemonic: &'static str, suffix: &'static str, a: Part, b: Part, c: Part) -> InstrText
     ensures tokens { text_tokens result ≡ three (mnemonic.now ++ suffix.now) (part_token a) (part_token b) (part_token c) }
     ensures room { length result.operands.items ≡ 5 }
@@ -126,7 +126,7 @@ pub fn three(mnemonic: &'static str, suffix: &'static str, a: Part, b: Part, c: 
     and(two(mnemonic, suffix, a, b), c)
 }
 
-/// The mnemonic and four operands.
+/// A first word and four operands.
 pub fn four(
     mnemonic: &'static str,
     suffix: &'static str,

@@ -230,7 +230,7 @@ unfolding run
 space_skipped ts [] are = are
 space_skipped ts (u ∷ us) are = are
 
--- no two neighbours behind the mnemonic are without a mark
+-- no two neighbours behind the first word are without a mark
 abbrev pub are_apart : List Tok → Bool
 are_apart [] = true
 are_apart (t ∷ ts) = apart t ts

@@ -14,7 +14,7 @@ AreTokensOf text (t ∷ ts) = (rest : List ℕ) × (token_at (skip text) ≡ Som
 abbrev pub is_gap : List ℕ → Bool
 is_gap rest = (length rest == 0) || (slice_index rest 0 == space)
 
--- the tokens of a line, of which the first stands apart, as a mnemonic does
+-- the tokens of a line, of which the first stands apart, as the first word of an instruction does
 abbrev pub IsLineOf : List ℕ → List Tok → Type 0
 IsLineOf text [] = ⊥
 IsLineOf text (t ∷ ts) = (rest : List ℕ) × (token_at (skip text) ≡ Some (t, rest)) × (is_gap rest ≡ true) × AreTokensOf rest ts
@@ -43,7 +43,7 @@ spelled_behind after_word (t ∷ ts) = gap after_word t ++ (spell t ++ spelled_b
 abbrev pub spelled : List Tok → List ℕ
 spelled ts = spelled_behind false ts
 
--- the mnemonic, and behind a space the operands
+-- the first word, and behind a space the operands
 abbrev pub printed : List Tok → List ℕ
 printed [] = []
 printed (t ∷ []) = spell t

@@ -7,12 +7,12 @@ use Rattle.hm_line.proofs.columns.operand_column.Goals as goal
 
 pub loop-left-init : goal.loop-left-init
 loop-left-init c =
-    let less = token_shorter c.skip.result.now (tok c.in_ok-_mnemonic._mnemonic, c.in_ok-_mnemonic.behind.now) c.in_ok-_mnemonic.ensures.read in
+    let less = token_shorter c.skip.result.now (tok c.in_ok-_first_word._first_word, c.in_ok-_first_word.behind.now) c.in_ok-_first_word.ensures.read in
     record {
-      behind = λ there o. operand_passes c.args.text.now c.skip.result.now c.in_ok-_mnemonic.behind.now there c.args.n (tok c.in_ok-_mnemonic._mnemonic)
-          c.skip.ensures.rest c.in_ok-_mnemonic.ensures.read o;
-      before = λ there p. passes_operand c.args.text.now c.skip.result.now c.in_ok-_mnemonic.behind.now there c.args.n (tok c.in_ok-_mnemonic._mnemonic)
-          c.skip.ensures.rest c.in_ok-_mnemonic.ensures.read p;
+      behind = λ there o. operand_passes c.args.text.now c.skip.result.now c.in_ok-_first_word.behind.now there c.args.n (tok c.in_ok-_first_word._first_word)
+          c.skip.ensures.rest c.in_ok-_first_word.ensures.read o;
+      before = λ there p. passes_operand c.args.text.now c.skip.result.now c.in_ok-_first_word.behind.now there c.args.n (tok c.in_ok-_first_word._first_word)
+          c.skip.ensures.rest c.in_ok-_first_word.ensures.read p;
       within = omega (arith, less, c.skip.ensures.shorter);
     }
 
