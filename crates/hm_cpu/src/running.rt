@@ -252,7 +252,7 @@ fn whole(recent: &mut Recent, x: &mut Cpu) -> Result<(), LetterEnd>
 /// (DDI0553, "Beat-wise execution" and "Exception return").
 ///
 /// Err tells why it does not go on; the machine then stands as that step left it. Of the thread's instructions alone it is counted how many
-/// were retired and how many steps were done, in `x.retired` and `x.older_steps`.
+/// were retired and how many steps were done, in `x.retired` and `x.older_steps`. What is decoded is kept in `recent`, on which nothing depends.
 pub fn letter(l: u8, recent: &mut Recent, x: &mut Cpu) -> Result<(), LetterEnd>
     requires count { (x.old.retired < 2 ^ 61) × (x.old.older_steps < 2 ^ 61) }
     requires position { IsPosition x.old }
