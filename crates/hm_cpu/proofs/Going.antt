@@ -1,5 +1,5 @@
--- Which steps leave steps of their instruction behind them, and what all steps that are left do.
-use Rattle.std.proofs.Common.{◌≡◌, ℕ, ◌+◌, ◌<◌, arith, refl, ap, sym, ◌∙◌, subst, not, IsTrue, Option, Some, Result, Ok}
+-- Which steps leave steps of their instruction behind them, what all steps that are left do, and what is kept.
+use Rattle.std.proofs.Common.{◌≡◌, ℕ, ◌+◌, ◌<◌, arith, refl, ap, sym, ◌∙◌, subst, not, IsTrue, Some, Result, Ok}
 use Rattle.std.specs.Prelude.{IsSome}
 use Rattle.hm_base.specs.declared.Fault.{Fault}
 use Rattle.hm_codes.specs.Listing.{IsListing, Listing, Stands}
@@ -13,7 +13,7 @@ use Rattle.hm_cpu.specs.Decodings.{instr_of}
 use Rattle.hm_cpu.specs.Kept.{HasKept, kept_of}
 use Rattle.hm_cpu.specs.declared.decoded.Decoded.{Decoded}
 use Rattle.hm_cpu.specs.declared.recent.Recent.{Recent}
-use Rattle.hm_cpu.specs.Cpus.{GoesOn, KeepsFlash, nested_of}
+use Rattle.hm_cpu.specs.Cpus.{LeavesTheRest, KeepsFlash, nested_of}
 use Rattle.hm_cpu.specs.declared.cpu.Cpu.{Cpu}
 use Rattle.hm_mem.specs.Memory.{flash_at, memory_of}
 use Rattle.hm_run.specs.Program.{steps_left, vector_in, vector_of}
@@ -22,14 +22,14 @@ use Rattle.hm_state.specs.State.{state_of}
 use Rattle.hm_thumb.specs.Families.{is_vector_row}
 
 -- an instruction that is no vector row has one alone
-pub other_goes_on : (i : Instr) (old new : Cpu) → IsTrue (not (is_vector_row i)) → GoesOn i old new
+pub other_goes_on : (i : Instr) (old new : Cpu) → IsTrue (not (is_vector_row i)) → LeavesTheRest i old new
 other_goes_on (instr.Scalar i) old new other = λ more. absurd (omega (arith, more))
 other_goes_on (instr.Branch i) old new other = λ more. absurd (omega (arith, more))
 other_goes_on (instr.Vector v) old new other = absurd cc
 
 -- a beat before the last
 pub beats_go_on : (v : Vector) (old new : Cpu) → (old.window.a < 3 → (new.regs.pc ≡ old.regs.pc) × (new.window.a ≡ old.window.a + 1))
-    → GoesOn (instr.Vector v) old new
+    → LeavesTheRest (instr.Vector v) old new
 beats_go_on v old new stays = λ more.
     let here = stays (omega (arith, more)) in
     (here.0, omega (arith, more, here.1))

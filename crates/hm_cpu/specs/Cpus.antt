@@ -90,7 +90,7 @@ AreEntered x = AreStacked (nested_of x).acts
 abbrev pub IsHandler : Cpu → Type 0
 IsHandler x = 0 < array_vec_len x.acts
 
--- what always holds of the machine with handlers, under a schedule, and under some
+-- what always holds of the machine with handlers, under a schedule
 abbrev pub IsSoundUnder : Sched → Cpu → Type 0
 IsSoundUnder s x = IsSound s (nested_of x)
 
@@ -138,7 +138,7 @@ CountsOne old new = (new.retired ≤ old.retired + 1) × (new.older_steps ≤ ol
 abbrev pub CountsNone : Cpu → Cpu → Type 0
 CountsNone old new = (new.retired ≡ old.retired) × (new.older_steps ≡ old.older_steps)
 
--- where steps of an instruction are left behind this one, which was done, the program counter stays and there is one less
-abbrev pub GoesOn : Instr → Cpu → Cpu → Type 0
-GoesOn i old new = let left = λ (x : Cpu). steps_left (vector_in i) x.window.a in
+-- where an instruction had more than one step left, it stands at the same address and has one less
+abbrev pub LeavesTheRest : Instr → Cpu → Cpu → Type 0
+LeavesTheRest i old new = let left = λ (x : Cpu). steps_left (vector_in i) x.window.a in
     1 < left old → (new.regs.pc ≡ old.regs.pc) × (left new + 1 ≡ left old)

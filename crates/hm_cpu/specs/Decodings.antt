@@ -12,9 +12,9 @@ instr_of (Whole x) = x.instr
 instr_of (Beats x) = instr.Vector (row_of x)
 
 -- so many instructions are kept at most
-abbrev pub places : ℕ
-places = 4096
+abbrev pub most_kept : ℕ
+most_kept = 4096
 
 -- the place of an address, which it shares with others
 abbrev pub place_of : ℕ → ℕ
-place_of addr = addr / 2 % places
+place_of addr = addr / 2 % most_kept

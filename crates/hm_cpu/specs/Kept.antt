@@ -7,13 +7,13 @@ use Rattle.hm_cpu.specs.declared.recent.Entry.{Entry}
 use Rattle.hm_cpu.specs.declared.recent.Recent.{Recent}
 
 -- the instruction of an entry, if there is one
-abbrev pub entered : Option Entry → Option Decoded
-entered (Some x) = Some x.instr
-entered None = None
+abbrev pub instr_in : Option Entry → Option Decoded
+instr_in (Some x) = Some x.instr
+instr_in None = None
 
 -- the instruction that is kept at a place
 abbrev pub entry_at : Recent → ℕ → Option Decoded
-entry_at r k = entered (slice_index_or r.entries.items k None)
+entry_at r k = instr_in (slice_index_or r.entries.items k None)
 
 -- the instruction that is kept of an address
 abbrev pub kept_of : Recent → ℕ → Option Decoded

@@ -2,7 +2,7 @@
 
 ghost use Rattle.std.specs.Prelude.{◌≡◌, ℕ, ◌%◌, ◌<◌, [], ◌∷◌, length, Err, IfErr, IfSome, IsSome, IsTrue, OnOk, Some};
 ghost use Rattle.hm_codes.specs.Listing.{HalvesStand, IsFetched};
-ghost use Rattle.hm_cpu.specs.Decodings.{instr_of, place_of, places};
+ghost use Rattle.hm_cpu.specs.Decodings.{instr_of, most_kept, place_of};
 ghost use Rattle.hm_cpu.specs.Halves.{code_of};
 ghost use Rattle.hm_isa.specs.Code.{halfwords};
 ghost use Rattle.hm_mem.specs.Memory.{memory_of, flash_at};
@@ -29,13 +29,13 @@ struct Entry {
 #[derive(Drop)]
 pub struct Recent {
     entries: Vec<Option<Entry>>,
-    pub ghost whole: { length entries.items ≡ places },
+    pub ghost whole: { length entries.items ≡ most_kept },
 }
 
 /// The place of an address.
 fn place_of(addr: u32) -> usize
     ensures value { result ≡ place_of addr }
-    ensures below { result < places }
+    ensures below { result < most_kept }
 {
     (addr / 2) as usize % PLACES
 }
@@ -62,7 +62,7 @@ impl Recent {
 
     /// Whether the instruction that is kept at a place is that of these halfwords.
     fn holds(&self, place: usize, first: u16, second: u16) -> bool
-        requires below { place < places }
+        requires below { place < most_kept }
         ensures code { IsTrue result → (d : Decoded) × (entry_at self.now place ≡ Some d) × (halfwords (instr_of d) ≡ code_of first second) }
     {
         let Some(entry) = &self.entries[place] else {

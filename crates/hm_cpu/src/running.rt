@@ -4,7 +4,7 @@ ghost use Rattle.std.specs.Prelude.{◌≡◌, ◌+◌, ◌^◌, ◌<◌, ◌≤
 ghost use Rattle.std.specs.Vec.{vec_capacity};
 ghost use Rattle.hm_codes.specs.Listing.{IsFetched, IsListing, Listing, Stands};
 ghost use Rattle.hm_cpu.specs.Cpus.{config_of, nested_of, returns, state_in, stepped, AreEntered, CountsOne, IsHandler, IsPosition, IsSoundUnderSome};
-ghost use Rattle.hm_cpu.specs.Cpus.{interrupted_of, GoesOn, IsSoundUnder, IsUnder, KeepsFlash};
+ghost use Rattle.hm_cpu.specs.Cpus.{interrupted_of, LeavesTheRest, IsSoundUnder, IsUnder, KeepsFlash};
 ghost use Rattle.hm_cpu.specs.Decodings.{instr_of};
 ghost use Rattle.hm_exc.specs.Entry.{newest_first};
 ghost use Rattle.hm_exc.specs.declared.types.Activation.{Activation};
@@ -103,7 +103,7 @@ fn handler_beat(v: &Any, x: &mut Cpu) -> Result<(), LetterEnd>
     requires pc { x.old.regs.pc + 4 < 2 ^ 32 }
     ensures value { (listing : Listing) (s : Sched) → listing x.old.regs.pc ≡ Ok (Instr.Vector (row_of v.now)) → IsUnder s x.old
         → stepped result x.new ≡ step listing s Older (nested_of x.old) }
-    ensures stays { OnOk result (GoesOn (Instr.Vector (row_of v.now)) x.old x.new) }
+    ensures stays { OnOk result (LeavesTheRest (Instr.Vector (row_of v.now)) x.old x.new) }
     ensures moves { KeepsFlash x.old x.new }
     ensures position { OnOk result (IsPosition x.new) }
     ensures count { CountsOne x.old x.new }
@@ -128,7 +128,7 @@ fn handler_step(i: &Decoded, x: &mut Cpu) -> Result<(), LetterEnd>
     requires pc { x.old.regs.pc + 4 < 2 ^ 32 }
     ensures value { (listing : Listing) (s : Sched) → listing x.old.regs.pc ≡ Ok (instr_of i.now) → IsUnder s x.old
         → stepped result x.new ≡ step listing s Older (nested_of x.old) }
-    ensures stays { OnOk result (GoesOn (instr_of i.now) x.old x.new) }
+    ensures stays { OnOk result (LeavesTheRest (instr_of i.now) x.old x.new) }
     ensures moves { KeepsFlash x.old x.new }
     ensures position { OnOk result (IsPosition x.new) }
     ensures count { CountsOne x.old x.new }
@@ -148,7 +148,7 @@ fn step_of(i: &Decoded, x: &mut Cpu) -> Result<(), LetterEnd>
     requires sound { IsSoundUnderSome x.old }
     ensures value { (listing : Listing) (s : Sched) → IsListing (flash_at (memory_of x.old.mem)) listing → IsSoundUnder s x.old
         → stepped result x.new ≡ step listing s Older (nested_of x.old) }
-    ensures stays { OnOk result (GoesOn (instr_of i.now) x.old x.new) }
+    ensures stays { OnOk result (LeavesTheRest (instr_of i.now) x.old x.new) }
     ensures sound { (s : Sched) → IsSoundUnder s x.old → OnOk result (IsSoundUnder s x.new) }
     ensures moves { KeepsFlash x.old x.new }
     ensures position { OnOk result (IsPosition x.new) }

@@ -90,7 +90,7 @@ fn tried(
 }
 
 /// Whether the older instruction has two beats done and the younger none, the third goes on, and then the first of the younger, so that an
-/// `O` and then a `Y` would (DDI0553, "Beat-wise execution"). Nothing is changed but what is kept of what was decoded.
+/// `O` and then a `Y` would go on (DDI0553, "Beat-wise execution"). Nothing is changed but what is kept of what was decoded.
 pub fn ready(recent: &mut Recent, regs: &Regs, at: Window, mem: &mut Mem) -> bool
     requires context { 0 < at.a → IsTrue regs.now.fpca }
     ensures value { (listing : Listing) (output : List ℕ) (n steps : ℕ) → let m = memory_of mem.old in

@@ -1,6 +1,6 @@
 //! The steps of the younger of two vector instructions.
 
-ghost use Rattle.std.specs.Prelude.{◌≡◌, ℕ, ◌+◌, ◌^◌, ◌<◌, ◌≤◌, List, IsTrue, Some, None};
+ghost use Rattle.std.specs.Prelude.{◌≡◌, ℕ, ◌+◌, ◌<◌, ◌≤◌, List, IsTrue, Some, None};
 ghost use Rattle.hm_codes.specs.Listing.{Listing, IsListing};
 ghost use Rattle.hm_exec.specs.Families.{row_of};
 ghost use Rattle.hm_cpu.specs.Cpus.{config_of, step_ended, reached_younger, state_in, CountsNone, IsPosition, Keeps};
@@ -36,7 +36,8 @@ pub fn step_rule(v: &Any, w: &Any, at: Window, regs: &Regs) -> Option<Rule>
     requires position { at.a < 4 }
     requires context { 0 < at.a → IsTrue regs.now.fpca }
     ensures value { (m : Memory) (output : List ℕ) (n steps : ℕ)
-        → result ≡ step_rule m.around (Some (row_of v.now)) (Some (row_of w.now)) (record { a = at.a; b = at.b; n = n; steps = steps; state = state_of regs.now m output }) }
+        → result ≡ step_rule m.around (Some (row_of v.now)) (Some (row_of w.now))
+        (record { a = at.a; b = at.b; n = n; steps = steps; state = state_of regs.now m output }) }
     ensures in_time { result ≡ None → (2 ≤ at.a) × (at.b < 2) }
 {
     if let Some(rule) = overlap_rule(v, w, at, regs) {

@@ -14,7 +14,8 @@ use Rattle.hm_forms_across.specs.declared.long_sums.LongSums.{LongSums}
 use Rattle.hm_forms_across.specs.declared.sums.Sums.{Sums}
 use Rattle.hm_forms_across.specs.Forms.{added, best, long_term, term_of}
 
--- the elements of a register, or the products of those of two, are added to a register one after another
+-- V22: VADDV, VADDVA, VMLADAV and VMLADAVA: the elements of a register, or the products of those of two, are added to a register one after another
+-- (DDI0553, "VADDV" and "VMLADAV")
 abbrev pub sum_writes : Sums → State → List (Cell × Value)
 sum_writes r s =
     let place = R (2 * r.l.value) in
@@ -22,7 +23,7 @@ sum_writes r s =
     let sum = added (2 ^ 32) (term_of r) (firsts r.z (predicate_at s)) (elements r.z r.n.value s) (elements r.z r.m.value s) start in
     into (write place sum) ∷ []
 
--- the same in two registers
+-- V22: VADDLV, VADDLVA, VMLALDAV and VMLALDAVA: the same in two registers (DDI0553, "VADDLV" and "VMLALDAV")
 abbrev pub long_writes : LongSums → State → List (Cell × Value)
 long_writes r s =
     let low = R (2 * r.l.value) in
@@ -31,7 +32,8 @@ long_writes r s =
     let sum = added (2 ^ 64) (long_term r) (firsts r.z (predicate_at s)) (elements r.z r.n.value s) (elements r.z r.m.value s) start in
     into (write low (sum % 2 ^ 32)) ∷ into (write high (sum / 2 ^ 32)) ∷ []
 
--- the best of a register's old value and of the elements of a vector register
+-- V23: VMAXV, VMINV, VMAXAV and VMINAV: the best of a register's old value and of the elements of a vector register
+-- (DDI0553, "VMAXV, VMAXAV" and "VMINV, VMINAV")
 abbrev pub extreme_writes : V23 → State → List (Cell × Value)
 extreme_writes r s =
     let z = size_of r.z.value in

@@ -1,4 +1,4 @@
--- The forms of vector rows that merge a word on each beat.
+-- The forms of vector rows that give elements of a vector register, and merge a word of it on each beat.
 use Rattle.std.specs.Prelude.{ℕ, zero, suc, ◌+◌, ◌-◌, ◌*◌, ◌/◌, ◌%◌, ◌^◌, Bool, true, false, not, ◌&&◌, ◌||◌, cond, eqb, ltb, nat_eq, List, [], ◌∷◌, map}
 use Rattle.std.specs.Prelude.{reverse, Option, Some, None, ℤ, ◌+ℤ◌, ◌-ℤ◌}
 use Rattle.hm_base.specs.declared.Place.{Place}

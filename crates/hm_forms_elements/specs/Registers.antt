@@ -1,4 +1,4 @@
--- What forms do to whole registers, as lists of elements in rising order.
+-- What forms that give elements of a vector register do to whole registers, as lists of elements in rising order.
 use Rattle.std.specs.Prelude.{ℕ, zero, suc, ◌+◌, ◌-◌, ◌*◌, ◌/◌, ◌%◌, ◌^◌, Bool, true, false, ◌&&◌, cond, List, [], ◌∷◌, ◌++◌, map, nat_eq, Option, Some, None}
 use Rattle.std.specs.List.{flat_map}
 use Rattle.hm_base.specs.declared.Place.TheVariants.{R, P0, Carry}

@@ -8,8 +8,7 @@ use Rattle.hm_state.specs.State.{State, cells, into}
 use Rattle.hm_beat.specs.Trees.{Do}
 use Rattle.hm_beat.specs.Rows.{Tree, always, retired}
 
--- A BLOCK BEGINS
--- it is not under the predicate, and writes its mask alone
+-- V21: VPST, beat by beat: it is not under the predicate, and the second beat of a half gives it the mask (DDI0553, "VPST")
 abbrev pub block_tree : ℕ → ℕ → Tree
 block_tree k b = Do (record { checks = []; reads = []; writes = cond (eqb (b % 2) 1) (always (write (mask_place b) k) ∷ []) []; mark = None })
 

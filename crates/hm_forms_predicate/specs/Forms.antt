@@ -13,7 +13,7 @@ use Rattle.hm_lane_fns.specs.Words.{both, filled, nibble, operand_of, operand_pl
 use Rattle.hm_forms_predicate.specs.declared.compare.Comparison.{Comparison}
 
 -- THE PREDICATE ITSELF
--- eq, ne; without a sign cs, hi; with a sign ge, lt, gt, le
+-- whether condition c holds of two lanes: eq, ne; without a sign cs, hi; with a sign ge, lt, gt, le
 abbrev pub compares : ℕ → Size → ℕ → ℕ → Bool
 compares c z x y =
     if nat_eq c 0 then eqb x y

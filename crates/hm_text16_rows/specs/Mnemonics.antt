@@ -1,4 +1,4 @@
--- The mnemonics of the rows of one halfword.
+-- The mnemonics of the rows of one halfword, but for those whose names rows of two share, and first words with a condition.
 use Rattle.std.specs.Prelude.{ℕ, ◌/◌, ◌%◌, List, [], ◌∷◌, ◌++◌, get_or, codes, nat_eq, if◌then◌else◌}
 use Rattle.hm_isa.specs.declared.narrow.ByteName.{ByteName}
 use Rattle.hm_isa.specs.declared.narrow.ByteName.TheVariants as byte

@@ -1,4 +1,4 @@
--- The mnemonics of rows of two halfwords, and the names that stand for operands.
+-- The mnemonics of rows of two halfwords, but for those whose names rows of one share, and the names that stand for operands.
 use Rattle.std.specs.Prelude.{ℕ, List, [], ◌∷◌, get_or, codes, Option}
 use Rattle.hm_isa.specs.declared.narrow.SumName.{SumName}
 use Rattle.hm_isa.specs.declared.narrow.SumName.TheVariants as sum_

@@ -1,4 +1,4 @@
--- The mnemonics that rows of one halfword and of two share.
+-- The mnemonics of names that rows of one halfword and of two share: of loads, stores and extensions.
 use Rattle.std.specs.Prelude.{ℕ, List, codes}
 use Rattle.hm_isa.specs.declared.narrow.AccessName.{AccessName}
 use Rattle.hm_isa.specs.declared.narrow.AccessName.TheVariants as access

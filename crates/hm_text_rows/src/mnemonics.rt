@@ -1,4 +1,4 @@
-//! The mnemonics that rows of one halfword and of two share.
+//! The mnemonics of names that rows of one halfword and of two share: of loads, stores and extensions.
 
 ghost use Rattle.std.specs.Prelude.{◌≡◌};
 ghost use Rattle.hm_text_rows.specs.Mnemonics.{access_mnemonic, extend_mnemonic};

@@ -16,7 +16,8 @@ pub returns-in-Some-step_rule : goal.returns-in-Some-step_rule
 returns-in-Some-step_rule c = record {
   value = λ listing output n steps is row.
       let m = memory_of c.args.mem.now in
-      follows_broken listing (row_of c.args.v.now) c.args.regs.now m output n steps (row_of c.in-Some.w) _ row (ap (option_map row_of) (sym c.in-Some.is) ∙ c.vector_at.ensures.row listing is)
+      follows_broken listing (row_of c.args.v.now) c.args.regs.now m output n steps (row_of c.in-Some.w) _ row
+      (ap (option_map row_of) (sym c.in-Some.is) ∙ c.vector_at.ensures.row listing is)
       (sym c.in-Some-step_rule.is ∙ c.step_rule.ensures.value m output n steps);
 }
 

@@ -10,7 +10,8 @@ use Rattle.hm_cpu.proofs.trial.goes.Goals as goal
 
 pub follows-requires-clause-room : goal.follows-requires-clause-room
 follows-requires-clause-room c =
-    let stays = beat_stays (row_of c.args.v.now) 2 c.args.regs.now c.beat.new.regs (memory_of c.args.mem.now) (memory_of c.beat.new.mem) [] (c.in-Ok.ensures.value []) in
+    let stays = beat_stays (row_of c.args.v.now) 2 c.args.regs.now c.beat.new.regs (memory_of c.args.mem.now) (memory_of c.beat.new.mem) []
+    (c.in-Ok.ensures.value []) in
     omega (arith, stays, c.requires.room)
 
 pub returns-in-Ok-clause-value : goal.returns-in-Ok-clause-value
@@ -27,7 +28,8 @@ returns-in-Ok-clause-value c listing output n steps is row =
 
 pub returns-in-Ok-clause-same : goal.returns-in-Ok-clause-same
 returns-in-Ok-clause-same c =
-    stored (row_of c.args.v.now) c.args.regs.now (memory_of c.args.mem.now) [] c.beat.new.regs (memory_of c.beat.new.mem) (c.in-Ok.ensures.value []) c.in-Ok.ensures.kept
+    stored (row_of c.args.v.now) c.args.regs.now (memory_of c.args.mem.now) [] c.beat.new.regs (memory_of c.beat.new.mem) (c.in-Ok.ensures.value [])
+    c.in-Ok.ensures.kept
 
 pub returns-in-Err-clause-value : goal.returns-in-Err-clause-value
 returns-in-Err-clause-value c listing output n steps is row =
