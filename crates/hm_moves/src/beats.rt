@@ -19,9 +19,9 @@ ghost use Rattle.hm_moves.specs.Moves.{elements_at, loaded_at, stored_at, byte_c
 ghost use Rattle.hm_moves.specs.Ways.{move_tree, moves_of};
 
 use crate::Move;
-use crate::elements::{Element, check_all, filled, store_all};
-use crate::found::{elements, first_source, is_predicated};
-use crate::words::{words, written_back};
+use crate::elements::{Element, Elements, check_all, filled, store_all};
+use crate::found::{find_elements, first_source, is_predicated};
+use crate::words::{Words, list_words, written_back};
 use arrayvec::ArrayVec;
 use hm_base::{Place, Stop};
 use hm_kinds::Written;
@@ -29,26 +29,29 @@ use hm_lane::mask_at;
 use hm_mem::Mem;
 use hm_regs::Regs;
 
+/// Words and what they are filled with, at most four.
+type Writes = ArrayVec<Written, 4>;
+
 /// The stop that beat `b` would have, and nothing else. `b` is below 4.
 pub fn check_move(row: &Move, b: u8, r: &Regs, m: &Mem) -> Result<(), Stop>
     requires { b < 4 }
     ensures { (output : List ℕ) → let x = memory_of m.now in Checks (run (move_tree row.now x.around b) r.now x output) result }
 {
-    let es = elements(row, b, r);
+    let mut es = Elements::new();
+    find_elements(&mut es, row, b, r);
     check_all(es.as_slice(), row.memory, row.store, m)
 }
 
-/// What stands in places, at most four.
-fn values(list: &[Place], r: &Regs) -> ArrayVec<u32, 4>
+/// Reads what stands in places, at most four. `xs` is empty before.
+fn read_values(xs: &mut ArrayVec<u32, 4>, list: &[Place], r: &Regs)
+    requires empty { xs.old.items ≡ [] }
     requires few { length list.now ≤ 4 }
     requires placed { All IsPlace list.now }
-    ensures { result.items ≡ map (λ p. value_at p r.now) list.now }
+    ensures value { xs.new.items ≡ map (λ p. value_at p r.now) list.now }
 {
-    let mut xs = ArrayVec::new();
     for p in list {
         xs.push(r.get(*p));
     }
-    xs
 }
 
 /// How a word begins to be filled: as zero, or as it stands.
@@ -59,45 +62,39 @@ fn old_word(row: &Move, p: Place, r: &Regs) -> u32
     if is_predicated(&row.way) { 0 } else { r.get(p) }
 }
 
-/// Words filled with the elements that are loaded, none of which stops.
-fn filled_words(
-    row: &Move,
-    list: &[Place],
-    es: &[Element],
-    r: &Regs,
-    m: &Mem,
-) -> ArrayVec<Written, 4>
+/// Fills words with the elements that are loaded, none of which stops. `ws` is empty before.
+fn fill_words(ws: &mut Writes, row: &Move, list: &[Place], es: &[Element], r: &Regs, m: &Mem)
+    requires empty { ws.old.items ≡ [] }
     requires few { length list.now ≤ 4 }
     requires placed { All IsPlace list.now }
     requires fit { Fit row.now.register es.now }
     requires free { let m = memory_of m.now in first_stop m.around false (byte_count row.now.memory) es.now (seen m) ≡ None }
-    ensures value { puts_of result.items ≡ word_puts (moves_of row.now) 0 es.now list.now (old_word (moves_of row.now) r.now) (seen (memory_of m.now)) }
-    ensures written { All (λ w. IsPlace w.place) result.items }
+    ensures value { puts_of ws.new.items ≡ word_puts (moves_of row.now) 0 es.now list.now (old_word (moves_of row.now) r.now) (seen (memory_of m.now)) }
+    ensures written { All (λ w. IsPlace w.place) ws.new.items }
 {
-    let mut ws = ArrayVec::new();
     for j in 0..list.len() {
         let place = list[j];
         let value = filled(row, j, es, old_word(row, place, r), m);
         ws.push(Written { place, value });
     }
-    ws
 }
 
-/// Words of beat `b` filled with the elements that it moves, none of which stops; none where the row stores. `b` is below 4.
-fn loaded(row: &Move, b: u8, es: &[Element], r: &Regs, m: &Mem) -> ArrayVec<Written, 4>
+/// Fills the words of beat `b` with the elements that it moves, none of which stops; none where the row stores. `b` is below 4, and
+/// `ws` is empty before.
+fn load(ws: &mut Writes, row: &Move, b: u8, es: &[Element], r: &Regs, m: &Mem)
     requires beat { b < 4 }
+    requires empty { ws.old.items ≡ [] }
     requires fit { Fit row.now.register es.now }
     requires free { let m = memory_of m.now in first_stop m.around row.now.store (byte_count row.now.memory) es.now (seen m) ≡ None }
     ensures value { (output : List ℕ) → let s = state_of r.now (memory_of m.now) output in
-        es.now ≡ elements_at (moves_of row.now) b s → map into (puts_of result.items) ≡ loaded_at (moves_of row.now) b s }
-    ensures written { All (λ w. IsPlace w.place) result.items }
-    ensures cells { AreCells (puts_of result.items) }
+        es.now ≡ elements_at (moves_of row.now) b s → map into (puts_of ws.new.items) ≡ loaded_at (moves_of row.now) b s }
+    ensures written { All (λ w. IsPlace w.place) ws.new.items }
+    ensures cells { AreCells (puts_of ws.new.items) }
 {
-    if row.store {
-        ArrayVec::new()
-    } else {
-        let list = words(&row.way, row.register, b);
-        filled_words(row, list.as_slice(), es, r, m)
+    if !row.store {
+        let mut list = Words::new();
+        list_words(&mut list, &row.way, row.register, b);
+        fill_words(ws, row, list.as_slice(), es, r, m)
     }
 }
 
@@ -112,8 +109,10 @@ fn store(row: &Move, b: u8, es: &[Element], r: &Regs, m: &mut Mem)
     ensures kept { IsSameElsewhere (memory_of m.old) (memory_of m.new) }
 {
     if row.store {
-        let list = words(&row.way, row.register, b);
-        let xs = values(list.as_slice(), r);
+        let mut list = Words::new();
+        list_words(&mut list, &row.way, row.register, b);
+        let mut xs = ArrayVec::new();
+        read_values(&mut xs, list.as_slice(), r);
         store_all(row, es, xs.as_slice(), m)
     }
 }
@@ -194,7 +193,8 @@ fn move_all(row: &Move, b: u8, es: &[Element], r: &mut Regs, m: &mut Mem)
     ensures context { r.new.fpca ≡ r.old.fpca }
 {
     r.in_range();
-    let filled = loaded(row, b, es, r, m);
+    let mut filled = Writes::new();
+    load(&mut filled, row, b, es, r, m);
     let back = written_back(&row.way, b, first_source(&row.way, b, r));
     store(row, b, es, r, m);
     finish(r, filled.as_slice(), back, b);
@@ -208,7 +208,8 @@ pub fn beat_move(row: &Move, b: u8, r: &mut Regs, m: &mut Mem) -> Result<(), Sto
     ensures kept { IsSameElsewhere (memory_of m.old) (memory_of m.new) }
     ensures context { r.new.fpca ≡ r.old.fpca }
 {
-    let es = elements(row, b, r);
+    let mut es = Elements::new();
+    find_elements(&mut es, row, b, r);
     check_all(es.as_slice(), row.memory, row.store, m)?;
     move_all(row, b, es.as_slice(), r, m);
     Ok(())

@@ -236,30 +236,30 @@ fn push_active(es: &mut Elements, e: Element, active: bool)
     }
 }
 
-/// The active ones of the elements of beat `b`, by the two numbers that stand in the sources. `b` is below 4.
-fn active_elements(row: &Move, b: u8, first: u32, second: u32, active: [bool; 4]) -> Elements
-    requires { b < 4 }
-    ensures value { result.items ≡ active_ones active
+/// Finds the active ones of the elements of beat `b`, by the two numbers that stand in the sources. `b` is below 4, and `es` is empty before.
+fn find_active(es: &mut Elements, row: &Move, b: u8, first: u32, second: u32, active: [bool; 4])
+    requires beat { b < 4 }
+    requires empty { es.old.items ≡ [] }
+    ensures value { es.new.items ≡ active_ones active
         (each_from (way_element row.now.memory row.now.register (way_of row.now.way) b (first ∷ second ∷ [])) 0 (per_word row.now.register)) }
-    ensures few { length result.items ≤ 4 }
-    ensures fit { Fit row.now.register result.items }
+    ensures few { length es.new.items ≤ 4 }
+    ensures fit { Fit row.now.register es.new.items }
 {
-    let mut es = Elements::new();
     for j in 0..per_word(row.register) {
         let e = element(row, b, first, second, j);
-        push_active(&mut es, e, active[e.lane as usize]);
+        push_active(es, e, active[e.lane as usize]);
     }
-    es
 }
 
-/// The elements that beat `b` moves. `b` is below 4.
-pub fn elements(row: &Move, b: u8, r: &Regs) -> Elements
-    requires { b < 4 }
-    ensures value { (m : Memory) (output : List ℕ) → result.items ≡ elements_at (moves_of row.now) b (state_of r.now m output) }
-    ensures few { length result.items ≤ 4 }
-    ensures fit { Fit row.now.register result.items }
+/// Finds the elements that beat `b` moves. `b` is below 4, and `es` is empty before.
+pub fn find_elements(es: &mut Elements, row: &Move, b: u8, r: &Regs)
+    requires beat { b < 4 }
+    requires empty { es.old.items ≡ [] }
+    ensures value { (m : Memory) (output : List ℕ) → es.new.items ≡ elements_at (moves_of row.now) b (state_of r.now m output) }
+    ensures few { length es.new.items ≤ 4 }
+    ensures fit { Fit row.now.register es.new.items }
 {
     let first = first_source(&row.way, b, r);
     let second = second_source(&row.way, b, r);
-    active_elements(row, b, first, second, active_bytes(row, b, r))
+    find_active(es, row, b, first, second, active_bytes(row, b, r))
 }

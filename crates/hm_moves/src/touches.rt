@@ -11,9 +11,9 @@ ghost use Rattle.hm_moves.specs.Coded.{begun_in};
 ghost use Rattle.hm_moves.specs.Moves.{bytes_of_elements, elements_at, sources_at};
 ghost use Rattle.hm_moves.specs.Ways.{move_tree, moves_of, way_back, way_of, way_predicated, way_sources, way_words};
 
-use crate::elements::spans;
-use crate::found::{elements, first_source, is_predicated};
-use crate::words::{words, written_back};
+use crate::elements::{Elements, spans};
+use crate::found::{find_elements, first_source, is_predicated};
+use crate::words::{Words, list_words, written_back};
 use crate::{Move, Way};
 use hm_base::{Place, Places, Spans, note};
 use hm_beat::{Touch, note_advance, note_predicate};
@@ -40,7 +40,8 @@ fn note_words(places: &mut Places, row: &Move, b: u8, touched: bool)
     ensures grown { length places.new ≤ length places.old + 4 }
 {
     if touched {
-        let list = words(&row.way, row.register, b);
+        let mut list = Words::new();
+        list_words(&mut list, &row.way, row.register, b);
         note_all(places, list.as_slice());
     }
 }
@@ -140,7 +141,8 @@ fn moved_spans(row: &Move, b: u8, r: &Regs, touched: bool) -> Spans
         → spanned result.items ≡ cond touched (bytes_of_elements row.now.memory (elements_at (moves_of row.now) b (state_of r.now m output))) [] }
 {
     if touched {
-        let es = elements(row, b, r);
+        let mut es = Elements::new();
+        find_elements(&mut es, row, b, r);
         spans(es.as_slice(), row.memory)
     } else {
         Spans::new()

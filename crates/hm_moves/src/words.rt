@@ -70,48 +70,47 @@ fn least(x: u32, y: u32) -> u32
     if x < y { x } else { y }
 }
 
-/// The words of interleaved elements. `b` is below 4.
-fn interleaved_words(w: &Interleaved, z: Size, b: u8) -> Words
-    requires { b < 4 }
-    ensures value { result.items ≡ each_from
+/// Lists the words of interleaved elements. `b` is below 4, and `list` is empty before.
+fn list_interleaved(list: &mut Words, w: &Interleaved, z: Size, b: u8)
+    requires beat { b < 4 }
+    requires empty { list.old.items ≡ [] }
+    ensures value { list.new.items ≡ each_from
         (λ i. let k = stream w.now.part z b + i in word_place (w.now.d + k % registers w.now.four) (byte_count z * (k / registers w.now.four) / 4)) 0
         (cond (ltb (per_word z) (registers w.now.four)) (per_word z) (registers w.now.four)) }
-    ensures placed { All IsPlace result.items }
-    ensures few { length result.items ≤ 4 }
+    ensures placed { All IsPlace list.new.items }
+    ensures few { length list.new.items ≤ 4 }
 {
-    let mut words = Words::new();
     let first = stream(w, z, b);
     for i in 0..least(per_word(z), registers(w)) {
-        words.push(interleaved_word(w, z, first + i));
+        list.push(interleaved_word(w, z, first + i));
     }
-    words
 }
 
-/// One word of a register.
-fn one_word(q: u8, b: u8) -> Words
+/// Lists one word of a register. `list` is empty before.
+fn list_word(list: &mut Words, q: u8, b: u8)
     requires register { q < 8 }
     requires beat { b < 4 }
-    ensures value { result.items ≡ word_place q b ∷ [] }
-    ensures placed { All IsPlace result.items }
-    ensures few { length result.items ≤ 4 }
+    requires empty { list.old.items ≡ [] }
+    ensures value { list.new.items ≡ word_place q b ∷ [] }
+    ensures placed { All IsPlace list.new.items }
+    ensures few { length list.new.items ≤ 4 }
 {
-    let mut words = Words::new();
-    words.push(Place::QWord(4 * q + b));
-    words
+    list.push(Place::QWord(4 * q + b));
 }
 
-/// The words that beat `b` fills or stores from. `b` is below 4.
-pub fn words(way: &Way, z: Size, b: u8) -> Words
-    requires { b < 4 }
-    ensures value { result.items ≡ way_words z (way_of way.now) b }
-    ensures placed { All IsPlace result.items }
-    ensures few { length result.items ≤ 4 }
+/// Lists the words that beat `b` fills or stores from. `b` is below 4, and `list` is empty before.
+pub fn list_words(list: &mut Words, way: &Way, z: Size, b: u8)
+    requires beat { b < 4 }
+    requires empty { list.old.items ≡ [] }
+    ensures value { list.new.items ≡ way_words z (way_of way.now) b }
+    ensures placed { All IsPlace list.new.items }
+    ensures few { length list.new.items ≤ 4 }
 {
     match way {
-        Way::Straight(w) => one_word(w.d, b),
-        Way::Offsets(w) => one_word(w.d, b),
-        Way::Addresses(w) => one_word(w.d, b),
-        Way::Interleaved(w) => interleaved_words(w, z, b),
+        Way::Straight(w) => list_word(list, w.d, b),
+        Way::Offsets(w) => list_word(list, w.d, b),
+        Way::Addresses(w) => list_word(list, w.d, b),
+        Way::Interleaved(w) => list_interleaved(list, w, z, b),
     }
 }
 

@@ -19,7 +19,7 @@ returns-in_err-check_all-clause-done c = λ output.
     let same : c.from_residual.result ≡ Err stop = answered.1 ∙ ap Err answered.2 in
     subst (λ (x : Result Unit Stop). AnswersBeat (run tree r m output) x r m r m output) (sym same)
     (beats_stopped Unit tree r m output stop
-    (run_stopped (moves_of c.args.row.now) c.args.b m r output c.as_slice.result.now stop (c.as_slice.ensures.value ∙ c.elements-es.ensures.value m output)
+    (run_stopped (moves_of c.args.row.now) c.args.b m r output c.as_slice.result.now stop (c.as_slice.ensures.value ∙ c.find_elements.ensures.value m output)
     c.in_err-check_all.ensures.value))
 
 pub returns-clause-done : goal.returns-clause-done
@@ -27,4 +27,4 @@ returns-clause-done c = λ output.
     let m = memory_of c.args.m.now in
     let r = c.args.r.now in
     subst (λ (x : Result State Stop). AnswersBeat x (Ok tt) r m c.move_all.new.r (memory_of c.move_all.new.m) output)
-    (sym (c.move_all.ensures.done output (c.as_slice-2.ensures.value ∙ c.elements-es.ensures.value m output))) (refl, refl)
+    (sym (c.move_all.ensures.done output (c.as_slice-2.ensures.value ∙ c.find_elements.ensures.value m output))) (refl, refl)

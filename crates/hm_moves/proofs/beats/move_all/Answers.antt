@@ -19,10 +19,10 @@ returns-clause-done c = λ output same.
     let m = memory_of c.args.m.now in
     let r = c.args.r.now in
     let back = c.written_back-back.result in
-    beat_done i b r c.finish.new.r m (memory_of c.store.new.m) output c.args.es.now (puts_of c.loaded-filled.result.items) (puts back)
-    c.requires.beat c.in_range.ensures.counted same c.requires.free c.loaded-filled.ensures.cells
+    beat_done i b r c.finish.new.r m (memory_of c.store.new.m) output c.args.es.now (puts_of c.load.new.ws.items) (puts back)
+    c.requires.beat c.in_range.ensures.counted same c.requires.free c.load.ensures.cells
     (put_cells back c.written_back-back.ensures.placed c.written_back-back.ensures.body)
-    (c.loaded-filled.ensures.value output same)
+    (c.load.ensures.value output same)
     (c.written_back-back.ensures.value ∙ back_by (way_of c.args.row.now.way) b _ (sources_at i b (state_of r m output)) (c.first_source.ensures m output))
     (c.store.ensures.state output same)
     (c.finish.ensures.value ∙ ap (λ ws. apply (puts_of ws ++ (puts back ++ advance_writes b r)) r) c.as_slice.ensures.value)

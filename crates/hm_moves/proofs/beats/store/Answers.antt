@@ -16,10 +16,10 @@ returns-then-row-clause-state c = λ output same.
     let b = c.args.b in
     let m = memory_of c.args.m.now in
     let r = c.args.r.now in
-    let words = c.as_slice.ensures.value ∙ c.words-list.ensures.value in
-    let placed = subst (All IsPlace) (sym c.as_slice.ensures.value) c.words-list.ensures.placed in
+    let words = c.as_slice.ensures.value ∙ c.list_words.ensures.value in
+    let placed = subst (All IsPlace) (sym c.as_slice.ensures.value) c.list_words.ensures.placed in
     c.store_all.ensures.state r output
     ∙ ap (λ ws. put_all cells ws (state_of r m output))
     (bytes_stored m r output i b (marks m.around.actor) c.args.es.now c.as_slice.result.now c.as_slice-then-row.result.now c.if-row.true same words placed
     (subst Words (sym words) ((move_is (transfer_of c.args.row.now)).words b))
-    (c.as_slice-then-row.ensures.value ∙ c.values-xs.ensures))
+    (c.as_slice-then-row.ensures.value ∙ c.read_values.ensures.value))

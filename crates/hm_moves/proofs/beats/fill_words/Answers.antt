@@ -8,7 +8,7 @@ use Rattle.hm_mem.specs.Seen.{seen}
 use Rattle.hm_moves.specs.Coded.{filled_in, old_word}
 use Rattle.hm_moves.specs.Ways.{moves_of}
 use Rattle.hm_moves.proofs.Done.{words_more}
-use Rattle.hm_moves.proofs.beats.filled_words.Goals as goal
+use Rattle.hm_moves.proofs.beats.fill_words.Goals as goal
 
 pub loop-j-preserved : goal.loop-j-preserved
 loop-j-preserved c =

@@ -6,7 +6,7 @@ use Rattle.hm_mem.specs.Memory.{memory_of}
 use Rattle.hm_mem.specs.Seen.{seen}
 use Rattle.hm_moves.specs.Coded.{old_word, puts_of, word_puts}
 use Rattle.hm_moves.specs.Ways.{moves_of}
-use Rattle.hm_moves.proofs.beats.filled_words.Given as goal
+use Rattle.hm_moves.proofs.beats.fill_words.Given as goal
 
 abbrev pub invariant-loop-j : goal.invariant-loop-j
 invariant-loop-j l =

@@ -1,6 +1,6 @@
 use Rattle.std.proofs.Common.{◌≡◌, length, map, take}
 use Rattle.hm_regs.specs.Place.{value_at}
-use Rattle.hm_moves.proofs.beats.values.Given as goal
+use Rattle.hm_moves.proofs.beats.read_values.Given as goal
 
 abbrev pub invariant-loop-p : goal.invariant-loop-p
 invariant-loop-p l = record {

@@ -3,7 +3,7 @@ use Rattle.hm_moves.specs.Moves.{byte_count}
 use Rattle.hm_lane.specs.Lanes.{per_word}
 use Rattle.hm_moves.specs.Ways.{way_element, way_of}
 use Rattle.hm_moves.proofs.Widths.{more_active}
-use Rattle.hm_moves.proofs.found.active_elements.Goals as goal
+use Rattle.hm_moves.proofs.found.find_active.Goals as goal
 
 pub loop-j-preserved : goal.loop-j-preserved
 loop-j-preserved c =

@@ -6,7 +6,7 @@ use Rattle.hm_beat.specs.Rows.{word_place}
 use Rattle.hm_moves.specs.Moves.{byte_count}
 use Rattle.hm_lane.specs.Lanes.{per_word}
 use Rattle.hm_moves.specs.Ways.{each_from, registers, stream}
-use Rattle.hm_moves.proofs.words.interleaved_words.Given as goal
+use Rattle.hm_moves.proofs.words.list_interleaved.Given as goal
 
 abbrev pub invariant-loop-i : goal.invariant-loop-i
 invariant-loop-i l =
@@ -14,7 +14,7 @@ invariant-loop-i l =
     word_place (l.w.d + k % registers l.w.four) (byte_count l.z * (k / registers l.w.four) / 4) in
     let n = cond (ltb (per_word l.z) (registers l.w.four)) (per_word l.z) (registers l.w.four) in
     record {
-      value : l.words.items ++ each_from f l.i (n - l.i) ≡ each_from f 0 n;
-      size : length l.words.items ≡ l.i;
-      placed : All IsPlace l.words.items;
+      value : l.list.items ++ each_from f l.i (n - l.i) ≡ each_from f 0 n;
+      size : length l.list.items ≡ l.i;
+      placed : All IsPlace l.list.items;
     }

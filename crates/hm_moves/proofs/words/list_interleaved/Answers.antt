@@ -8,7 +8,7 @@ use Rattle.hm_moves.specs.Moves.{byte_count}
 use Rattle.hm_lane.specs.Lanes.{per_word}
 use Rattle.hm_moves.specs.Ways.{registers, stream}
 use Rattle.hm_moves.proofs.Widths.{each_more}
-use Rattle.hm_moves.proofs.words.interleaved_words.Goals as goal
+use Rattle.hm_moves.proofs.words.list_interleaved.Goals as goal
 
 pub loop-i-preserved : goal.loop-i-preserved
 loop-i-preserved c =
@@ -22,10 +22,10 @@ loop-i-preserved c =
     ∙ (λ t. cond (ltb (c.per_word.ensures.value t) (c.registers.ensures.value t)) (c.per_word.ensures.value t) (c.registers.ensures.value t)) in
     let next : n - i ≡ suc (n - (i + 1)) = omega arith in
     record {
-      value = each_more f n i (n - (i + 1)) c.loop-i.words.items _ _ next
-          (c.push.ensures.items ∙ ap (λ p. c.loop-i.words.items ++ p ∷ [])
+      value = each_more f n i (n - (i + 1)) c.loop-i.list.items _ _ next
+          (c.push.ensures.items ∙ ap (λ p. c.loop-i.list.items ++ p ∷ [])
           (c.interleaved_word.ensures.value ∙ ap (λ k. g (k + i)) c.stream-first.ensures.value)) c.loop-i.invariant.value;
       size = rw c.push.ensures.items (simp length-append (omega arith));
       placed = subst (All IsPlace) (sym c.push.ensures.items)
-          (All-push IsPlace c.loop-i.words.items _ c.loop-i.invariant.placed c.interleaved_word.ensures.placed);
+          (All-push IsPlace c.loop-i.list.items _ c.loop-i.invariant.placed c.interleaved_word.ensures.placed);
     }
