@@ -1,7 +1,9 @@
 -- What the code of a row that loads or stores does is what its tree does.
 use Rattle.std.proofs.Common.{◌≡◌, ℕ, ◌+◌, ◌-◌, ◌*◌, ◌%◌, ◌<◌, Bool, true, false, not, cond, ◌&&◌, ltb, eqb, List, [], ◌∷◌, ◌++◌, map, Option, None, Ok, drop}
-use Rattle.std.proofs.Common.{length, get_or, refl, sym, ◌∙◌, ap, append_assoc}
+use Rattle.std.proofs.Common.{length, get_or, refl, sym, ◌∙◌, ap, subst, append_assoc}
+use Rattle.std.specs.Prelude.{All}
 use Rattle.std.proofs.lemmas.List.{map-append}
+use Rattle.hm_base.specs.Place.{IsPlace}
 use Rattle.hm_base.specs.declared.Place.TheVariants.{P0, R}
 use Rattle.hm_base.specs.declared.Place.{Place}
 use Rattle.hm_mem.specs.Memory.{Memory}
@@ -9,6 +11,7 @@ use Rattle.hm_mem.specs.Seen.{Seen, marks, seen}
 use Rattle.hm_regs.specs.declared.Regs.{Regs}
 use Rattle.hm_regs.specs.Place.{Counted, value_at}
 use Rattle.hm_regs.specs.Writes.{Write, apply, write}
+use Rattle.hm_lane.specs.declared.lanes.Size.{Size}
 use Rattle.hm_lane.specs.Predicate.{advance_of, advance_writes, mask_of, mask_place}
 use Rattle.hm_state.specs.Store.{put_all}
 use Rattle.hm_state.specs.State.{AreCells, Cell, State, Value, cells, into, state_of}
@@ -21,25 +24,32 @@ use Rattle.hm_kinds.specs.declared.rows.Written.{Written}
 use Rattle.hm_kinds.specs.Coded.{puts}
 use Rattle.hm_kinds.proofs.Coded.{apply-append, cells-append}
 use Rattle.hm_moves.specs.declared.elements.Element.{Element}
-use Rattle.hm_moves.specs.Moves.{Moves, back_at, elements_at, loaded_at, moves_tree, sources_at, stored_at, byte_count}
-use Rattle.hm_moves.specs.Coded.{filled_in, first_stop, puts_of, word_puts}
+use Rattle.hm_moves.specs.Moves.{Moves, all_bytes_from, back_at, elements_at, loaded_at, moves_tree, sources_at, stored_at, byte_count}
+use Rattle.hm_moves.specs.Coded.{filled_in, first_stop, old_word, puts_of, word_puts}
+use Rattle.hm_moves.specs.Ways.{way_of, way_words}
+use Rattle.hm_moves.specs.declared.ways.Way.{Way}
 use Rattle.hm_moves.proofs.Checked.{run_checked}
 use Rattle.hm_moves.proofs.Loops.{drop_at}
 use Rattle.hm_moves.proofs.Trees.{ends_at, leaf_at, others_of, written_leaf}
 
--- words, what is written back, and the advance, one after another
-pub finished : (b : ℕ) (r r1 r2 r3 r4 : Regs) (filled : List Written) (back : Option Written) (mask slice : ℕ) → mask ≡ mask_of b r → slice ≡ value_at (P0 b) r
-    → r1 ≡ apply (puts_of filled) r → r2 ≡ apply (puts back) r1 → r3 ≡ apply (cond (ltb 8 mask) (write (P0 b) (15 - slice) ∷ []) []) r2
-    → r4 ≡ apply (cond (eqb (b % 2) 1 && not (eqb mask 0)) (write (mask_place b) (2 * mask) ∷ []) []) r3
-    → r4 ≡ apply (puts_of filled ++ (puts back ++ advance_writes b r)) r
-finished b r r1 r2 r3 r4 filled back mask slice em es e1 e2 e3 e4 =
+-- what is written back and the advance, one after another
+pub advanced : (b : ℕ) (r r1 r2 r3 : Regs) (back : Option Written) (mask slice : ℕ)
+    → r1 ≡ apply (puts back) r → r2 ≡ apply (cond (ltb 8 mask) (write (P0 b) (15 - slice) ∷ []) []) r1
+    → r3 ≡ apply (cond (eqb (b % 2) 1 && not (eqb mask 0)) (write (mask_place b) (2 * mask) ∷ []) []) r2
+    → r3 ≡ apply (puts back ++ advance_of b mask slice) r
+advanced b r r1 r2 r3 back mask slice e1 e2 e3 =
     let inverted = cond (ltb 8 mask) (write (P0 b) (15 - slice) ∷ []) [] in
     let shifted = cond (eqb (b % 2) 1 && not (eqb mask 0)) (write (mask_place b) (2 * mask) ∷ []) [] in
-    e4 ∙ ap (apply shifted) e3 ∙ sym (apply-append inverted shifted r2)
-    ∙ (λ j. apply (advance_of b (em j) (es j)) (e2 j))
-    ∙ sym (apply-append (puts back) (advance_writes b r) r1)
-    ∙ ap (apply (puts back ++ advance_writes b r)) e1
-    ∙ sym (apply-append (puts_of filled) (puts back ++ advance_writes b r) r)
+    e3 ∙ ap (apply shifted) e2 ∙ sym (apply-append inverted shifted r1)
+    ∙ ap (apply (advance_of b mask slice)) e1
+    ∙ sym (apply-append (puts back) (advance_of b mask slice) r)
+
+-- words, and then what is written back and the advance from the masks as they stood before
+pub finished : (b : ℕ) (r r1 r2 : Regs) (ws back : List Write) (mask slice : ℕ) → mask ≡ mask_of b r → slice ≡ value_at (P0 b) r
+    → r1 ≡ apply ws r → r2 ≡ apply (back ++ advance_of b mask slice) r1 → r2 ≡ apply (ws ++ (back ++ advance_writes b r)) r
+finished b r r1 r2 ws back mask slice em es e1 e2 =
+    e2 ∙ (λ j. apply (back ++ advance_of b (em j) (es j)) (e1 j))
+    ∙ sym (apply-append ws (back ++ advance_writes b r) r)
 
 puts-more : (ws : List Written) (w : Written) → puts_of (ws ++ w ∷ []) ≡ puts_of ws ++ write w.place w.value ∷ []
 puts-more [] w = refl
@@ -56,6 +66,46 @@ words_more i es list j v old s ws vs t low e h k =
     ∙ append_assoc (puts_of ws) (write (get_or list j (R 0)) v ∷ []) rest
     ∙ ap (λ n. puts_of ws ++ write (get_or list j (R 0)) n ∷ rest) h
     ∙ sym (ap (λ ps. puts_of ws ++ word_puts i j es ps old s) (drop_at (R 0) list j low)) ∙ k
+
+-- what is said of the words of a way is said of those of the same way
+pub loads_by_way : (i : Moves) (z : Size) (b : ℕ) (es : List Element) {q : Regs} (r : Regs) (s : Seen) (w v : Way) → w ≡ v
+    → q ≡ apply (word_puts i 0 es (way_words z (way_of v) b) (old_word i r) s) r → q ≡ apply (word_puts i 0 es (way_words z (way_of w) b) (old_word i r) s) r
+loads_by_way i z b es r s w v same h = h ∙ ap (λ (x : Way). apply (word_puts i 0 es (way_words z (way_of x) b) (old_word i r) s) r) (sym same)
+
+pub stores_by_way : (z : Size) (b : ℕ) (es : List Element) (r : Regs) (t : Bool) (y : Size) {u : State} (s : State) (w v : Way) → w ≡ v
+    → u ≡ put_all cells (all_bytes_from t y es (map (λ p. value_at p r) (way_words z (way_of v) b))) s
+    → u ≡ put_all cells (all_bytes_from t y es (map (λ p. value_at p r) (way_words z (way_of w) b))) s
+stores_by_way z b es r t y s w v same h =
+    h ∙ ap (λ (x : Way). put_all cells (all_bytes_from t y es (map (λ p. value_at p r) (way_words z (way_of x) b))) s) (sym same)
+
+pub placed_by_way : (z : Size) (b : ℕ) (w v : Way) → w ≡ v → All IsPlace (way_words z (way_of v) b) → All IsPlace (way_words z (way_of w) b)
+placed_by_way z b w v same h = subst (λ (x : Way). All IsPlace (way_words z (way_of x) b)) (sym same) h
+
+-- a row that stores fills no word
+pub none_filled : (y : Bool) (ws : List Write) (r : Regs) → y ≡ true → r ≡ apply (cond y [] ws) r
+none_filled y ws r e = ap (λ x. apply (cond x [] ws) r) (sym e)
+
+pub none_cells : (y : Bool) (ws : List Write) → y ≡ true → AreCells (cond y [] ws)
+none_cells true ws e = tt
+none_cells false ws e = absurd (cc)
+
+pub none_loaded : (y : Bool) (ws : List Write) (us : List (Cell × Value)) → y ≡ true → map into (cond y [] ws) ≡ cond y [] us
+none_loaded true ws us e = refl
+none_loaded false ws us e = absurd (cc)
+
+-- a row that loads fills its words, and stores nothing
+pub all_filled : (y : Bool) (ws : List Write) (r q : Regs) → y ≡ false → q ≡ apply ws r → q ≡ apply (cond y [] ws) r
+all_filled y ws r q e h = h ∙ ap (λ x. apply (cond x [] ws) r) (sym e)
+
+pub all_cells : (y : Bool) (ws : List Write) → AreCells ws → AreCells (cond y [] ws)
+all_cells true ws h = tt
+all_cells false ws h = h
+
+pub all_loaded : (y : Bool) (ws : List Write) (us : List (Cell × Value)) → y ≡ false → map into ws ≡ us → map into (cond y [] ws) ≡ us
+all_loaded y ws us e h = ap (λ x. map into (cond x [] ws)) e ∙ h
+
+pub none_stored : (y : Bool) (us : List (Cell × Value)) (s : State) → y ≡ false → s ≡ put_all cells (cond y us []) s
+none_stored y us s e = ap (λ x. put_all cells (cond x us []) s) (sym e)
 
 -- a beat fills words or stores bytes, so it does not matter which are written first
 either_first : (y : Bool) (ws vs us : List (Cell × Value)) (s : State)

@@ -45,6 +45,10 @@ active_of i b s = cond i.predicated (active_at b s) every_byte
 abbrev pub old_word : Moves → Regs → Place → ℕ
 old_word i r p = cond i.predicated 0 (value_at p r % 2 ^ 32)
 
+-- the words of beat b as they are filled, where the row loads, as the registers stand before
+abbrev pub loads_of : Moves → ℕ → List Element → Regs → Seen → List Write
+loads_of i b es r s = cond i.store [] (word_puts i 0 es (i.words b) (old_word i r) s)
+
 -- the places that say which elements are active and how the masks advance, as the registers stand
 abbrev pub begun_in : Bool → ℕ → Regs → List Place
 begun_in true b r = looked_places false b r

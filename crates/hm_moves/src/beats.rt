@@ -4,7 +4,7 @@ ghost use Rattle.std.specs.Prelude.{◌≡◌, ℕ, ◌+◌, ◌-◌, ◌*◌, �
 ghost use Rattle.std.specs.Prelude.{All, IfSome, IsOk};
 ghost use Rattle.hm_base.specs.Place.{IsPlace};
 ghost use Rattle.hm_base.specs.declared.Place.TheVariants.{P0};
-ghost use Rattle.hm_lane.specs.Predicate.{advance_writes, mask_place};
+ghost use Rattle.hm_lane.specs.Predicate.{advance_of, mask_place};
 ghost use Rattle.hm_mem.specs.Memory.{memory_of};
 ghost use Rattle.hm_mem.specs.Seen.{IsSameElsewhere, marks, seen};
 ghost use Rattle.hm_regs.specs.Place.{value_at};
@@ -12,16 +12,18 @@ ghost use Rattle.hm_regs.specs.Writes.{apply, write};
 ghost use Rattle.hm_state.specs.State.{AreCells, cells, into, state_of};
 ghost use Rattle.hm_state.specs.Store.{put_all};
 ghost use Rattle.hm_beat.specs.Laws.{AnswersBeat, Checks, run};
+ghost use Rattle.hm_beat.specs.Rows.{word_place};
 ghost use Rattle.hm_kinds.specs.Coded.{puts};
 ghost use Rattle.hm_kinds.specs.Row.{is_body};
-ghost use Rattle.hm_moves.specs.Coded.{Fit, first_stop, old_word, puts_of, word_puts};
-ghost use Rattle.hm_moves.specs.Moves.{elements_at, loaded_at, stored_at, byte_count};
-ghost use Rattle.hm_moves.specs.Ways.{move_tree, moves_of};
+ghost use Rattle.hm_moves.specs.Coded.{Fit, first_stop, loads_of, old_word, puts_of, word_puts};
+ghost use Rattle.hm_moves.specs.Moves.{all_bytes_from, elements_at, loaded_at, stored_at, byte_count};
+ghost use Rattle.hm_moves.specs.Ways.{move_tree, moves_of, way_of, way_words};
+ghost use Rattle.hm_moves.specs.declared.ways.Way.TheVariants as way;
 
-use crate::Move;
 use crate::elements::{Element, Elements, check_all, filled, store_all};
 use crate::found::{find_elements, first_source, is_predicated};
-use crate::words::{Words, list_words, written_back};
+use crate::words::{Words, list_interleaved, written_back};
+use crate::{Interleaved, Move, Way};
 use arrayvec::ArrayVec;
 use hm_base::{Place, Stop};
 use hm_kinds::Written;
@@ -79,44 +81,6 @@ fn fill_words(ws: &mut Writes, row: &Move, list: &[Place], es: &[Element], r: &R
     }
 }
 
-/// Fills the words of beat `b` with the elements that it moves, none of which stops; none where the row stores. `b` is below 4, and
-/// `ws` is empty before.
-fn load(ws: &mut Writes, row: &Move, b: u8, es: &[Element], r: &Regs, m: &Mem)
-    requires beat { b < 4 }
-    requires empty { ws.old.items ≡ [] }
-    requires fit { Fit row.now.register es.now }
-    requires free { let m = memory_of m.now in first_stop m.around row.now.store (byte_count row.now.memory) es.now (seen m) ≡ None }
-    ensures value { (output : List ℕ) → let s = state_of r.now (memory_of m.now) output in
-        es.now ≡ elements_at (moves_of row.now) b s → map into (puts_of ws.new.items) ≡ loaded_at (moves_of row.now) b s }
-    ensures written { All (λ w. IsPlace w.place) ws.new.items }
-    ensures cells { AreCells (puts_of ws.new.items) }
-{
-    if !row.store {
-        let mut list = Words::new();
-        list_words(&mut list, &row.way, row.register, b);
-        fill_words(ws, row, list.as_slice(), es, r, m)
-    }
-}
-
-/// Stores the elements that beat `b` moves, none of which stops; nothing where the row loads. `b` is below 4.
-fn store(row: &Move, b: u8, es: &[Element], r: &Regs, m: &mut Mem)
-    requires beat { b < 4 }
-    requires fit { Fit row.now.register es.now }
-    requires free { let m = memory_of m.old in first_stop m.around row.now.store (byte_count row.now.memory) es.now (seen m) ≡ None }
-    ensures state { (output : List ℕ) → let x = memory_of m.old in let s = state_of r.now x output in
-        es.now ≡ elements_at (moves_of row.now) b s
-        → state_of r.now (memory_of m.new) output ≡ put_all cells (stored_at (moves_of row.now) (marks x.around.actor) b s) s }
-    ensures kept { IsSameElsewhere (memory_of m.old) (memory_of m.new) }
-{
-    if row.store {
-        let mut list = Words::new();
-        list_words(&mut list, &row.way, row.register, b);
-        let mut xs = ArrayVec::new();
-        read_values(&mut xs, list.as_slice(), r);
-        store_all(row, es, xs.as_slice(), m)
-    }
-}
-
 /// Writes places.
 fn put_each(r: &mut Regs, ws: &[Written])
     requires { All (λ w. IsPlace w.place) ws.now }
@@ -125,6 +89,135 @@ fn put_each(r: &mut Regs, ws: &[Written])
 {
     for w in ws {
         r.set(w.place, w.value);
+    }
+}
+
+/// Loads the elements of a word of register `q`, none of which stops. `b` is below 4.
+fn load_word(row: &Move, q: u8, b: u8, es: &[Element], r: &mut Regs, m: &Mem)
+    requires register { q < 8 }
+    requires beat { b < 4 }
+    requires fit { Fit row.now.register es.now }
+    requires free { let m = memory_of m.now in first_stop m.around false (byte_count row.now.memory) es.now (seen m) ≡ None }
+    ensures value { let s = seen (memory_of m.now) in
+        r.new ≡ apply (word_puts (moves_of row.now) 0 es.now (word_place q b ∷ []) (old_word (moves_of row.now) r.old) s) r.old }
+    ensures placed { All IsPlace (word_place q b ∷ []) }
+    ensures context { r.new.fpca ≡ r.old.fpca }
+{
+    let place = Place::QWord(4 * q + b);
+    let value = filled(row, 0, es, old_word(row, place, r), m);
+    r.set(place, value);
+}
+
+/// Loads the elements of the words of several registers, none of which stops. `b` is below 4.
+fn load_words(row: &Move, w: &Interleaved, b: u8, es: &[Element], r: &mut Regs, m: &Mem)
+    requires beat { b < 4 }
+    requires fit { Fit row.now.register es.now }
+    requires free { let m = memory_of m.now in first_stop m.around false (byte_count row.now.memory) es.now (seen m) ≡ None }
+    ensures value { let s = seen (memory_of m.now) in let ps = way_words row.now.register (way_of (way.Interleaved w.now)) b in
+        r.new ≡ apply (word_puts (moves_of row.now) 0 es.now ps (old_word (moves_of row.now) r.old) s) r.old }
+    ensures placed { All IsPlace (way_words row.now.register (way_of (way.Interleaved w.now)) b) }
+    ensures context { r.new.fpca ≡ r.old.fpca }
+{
+    let mut list = Words::new();
+    list_interleaved(&mut list, w, row.register, b);
+    let mut ws = Writes::new();
+    fill_words(&mut ws, row, list.as_slice(), es, r, m);
+    put_each(r, ws.as_slice());
+}
+
+/// Loads the elements that beat `b` moves, none of which stops. `b` is below 4.
+fn load(row: &Move, b: u8, es: &[Element], r: &mut Regs, m: &Mem)
+    requires beat { b < 4 }
+    requires fit { Fit row.now.register es.now }
+    requires free { let m = memory_of m.now in first_stop m.around false (byte_count row.now.memory) es.now (seen m) ≡ None }
+    ensures value { let s = seen (memory_of m.now) in let ps = way_words row.now.register (way_of row.now.way) b in
+        r.new ≡ apply (word_puts (moves_of row.now) 0 es.now ps (old_word (moves_of row.now) r.old) s) r.old }
+    ensures placed { All IsPlace (way_words row.now.register (way_of row.now.way) b) }
+    ensures context { r.new.fpca ≡ r.old.fpca }
+{
+    match &row.way {
+        Way::Straight(w) => load_word(row, w.d, b, es, r, m),
+        Way::Offsets(w) => load_word(row, w.d, b, es, r, m),
+        Way::Addresses(w) => load_word(row, w.d, b, es, r, m),
+        Way::Interleaved(w) => load_words(row, w, b, es, r, m),
+    }
+}
+
+/// Stores the elements of a word of register `q`, none of which stops. `b` is below 4.
+fn store_word(row: &Move, q: u8, b: u8, es: &[Element], r: &Regs, m: &mut Mem)
+    requires register { q < 8 }
+    requires beat { b < 4 }
+    requires fit { Fit row.now.register es.now }
+    requires free { let m = memory_of m.old in first_stop m.around true (byte_count row.now.memory) es.now (seen m) ≡ None }
+    ensures state { (output : List ℕ) → let x = memory_of m.old in let xs = map (λ p. value_at p r.now) (word_place q b ∷ []) in
+        state_of r.now (memory_of m.new) output
+        ≡ put_all cells (all_bytes_from (marks x.around.actor) row.now.memory es.now xs) (state_of r.now x output) }
+    ensures placed { All IsPlace (word_place q b ∷ []) }
+    ensures kept { IsSameElsewhere (memory_of m.old) (memory_of m.new) }
+{
+    let word = [r.get(Place::QWord(4 * q + b))];
+    store_all(row, es, &word, m)
+}
+
+/// Stores the elements of the words of several registers, none of which stops. `b` is below 4.
+fn store_words(row: &Move, w: &Interleaved, b: u8, es: &[Element], r: &Regs, m: &mut Mem)
+    requires beat { b < 4 }
+    requires fit { Fit row.now.register es.now }
+    requires free { let m = memory_of m.old in first_stop m.around true (byte_count row.now.memory) es.now (seen m) ≡ None }
+    ensures state { (output : List ℕ) → let x = memory_of m.old in
+        let xs = map (λ p. value_at p r.now) (way_words row.now.register (way_of (way.Interleaved w.now)) b) in
+        state_of r.now (memory_of m.new) output
+        ≡ put_all cells (all_bytes_from (marks x.around.actor) row.now.memory es.now xs) (state_of r.now x output) }
+    ensures placed { All IsPlace (way_words row.now.register (way_of (way.Interleaved w.now)) b) }
+    ensures kept { IsSameElsewhere (memory_of m.old) (memory_of m.new) }
+{
+    let mut list = Words::new();
+    list_interleaved(&mut list, w, row.register, b);
+    let mut xs = ArrayVec::new();
+    read_values(&mut xs, list.as_slice(), r);
+    store_all(row, es, xs.as_slice(), m)
+}
+
+/// Stores the elements that beat `b` moves, none of which stops. `b` is below 4.
+fn store(row: &Move, b: u8, es: &[Element], r: &Regs, m: &mut Mem)
+    requires beat { b < 4 }
+    requires fit { Fit row.now.register es.now }
+    requires free { let m = memory_of m.old in first_stop m.around true (byte_count row.now.memory) es.now (seen m) ≡ None }
+    ensures state { (output : List ℕ) → let x = memory_of m.old in
+        let xs = map (λ p. value_at p r.now) (way_words row.now.register (way_of row.now.way) b) in
+        state_of r.now (memory_of m.new) output
+        ≡ put_all cells (all_bytes_from (marks x.around.actor) row.now.memory es.now xs) (state_of r.now x output) }
+    ensures placed { All IsPlace (way_words row.now.register (way_of row.now.way) b) }
+    ensures kept { IsSameElsewhere (memory_of m.old) (memory_of m.new) }
+{
+    match &row.way {
+        Way::Straight(w) => store_word(row, w.d, b, es, r, m),
+        Way::Offsets(w) => store_word(row, w.d, b, es, r, m),
+        Way::Addresses(w) => store_word(row, w.d, b, es, r, m),
+        Way::Interleaved(w) => store_words(row, w, b, es, r, m),
+    }
+}
+
+/// Loads or stores the elements that beat `b` moves, none of which stops. `b` is below 4.
+fn transfer(row: &Move, b: u8, es: &[Element], r: &mut Regs, m: &mut Mem)
+    requires beat { b < 4 }
+    requires fit { Fit row.now.register es.now }
+    requires free { let m = memory_of m.old in first_stop m.around row.now.store (byte_count row.now.memory) es.now (seen m) ≡ None }
+    ensures loads { r.new ≡ apply (loads_of (moves_of row.now) b es.now r.old (seen (memory_of m.old))) r.old }
+    ensures cells { AreCells (loads_of (moves_of row.now) b es.now r.old (seen (memory_of m.old))) }
+    ensures loaded { (output : List ℕ) → let s = state_of r.old (memory_of m.old) output in
+        es.now ≡ elements_at (moves_of row.now) b s
+        → map into (loads_of (moves_of row.now) b es.now r.old (seen (memory_of m.old))) ≡ loaded_at (moves_of row.now) b s }
+    ensures stored { (output : List ℕ) → let x = memory_of m.old in let s = state_of r.old x output in
+        es.now ≡ elements_at (moves_of row.now) b s
+        → state_of r.old (memory_of m.new) output ≡ put_all cells (stored_at (moves_of row.now) (marks x.around.actor) b s) s }
+    ensures kept { IsSameElsewhere (memory_of m.old) (memory_of m.new) }
+    ensures context { r.new.fpca ≡ r.old.fpca }
+{
+    if row.store {
+        store(row, b, es, r, m)
+    } else {
+        load(row, b, es, r, m)
     }
 }
 
@@ -165,17 +258,15 @@ fn put_mask(r: &mut Regs, b: u8, mask: u32)
     }
 }
 
-/// Writes words and what is written back, and advances the masks as they stood before. `b` is below 4.
-fn finish(r: &mut Regs, filled: &[Written], back: Option<Written>, b: u8)
-    requires beat { b < 4 }
-    requires filled { All (λ w. IsPlace w.place) filled.now }
+/// Writes what is written back, and advances the masks from what stood in the mask and the slice of beat `b`, which is below 4.
+fn finish(r: &mut Regs, back: Option<Written>, b: u8, mask: u32, slice: u32)
     requires back { IfSome back (λ w. IsPlace w.place) }
-    ensures value { r.new ≡ apply (puts_of filled.now ++ (puts back ++ advance_writes b r.old)) r.old }
+    requires beat { b < 4 }
+    requires mask { mask < 16 }
+    requires slice { slice < 16 }
+    ensures value { r.new ≡ apply (puts back ++ advance_of b mask slice) r.old }
     ensures context { r.new.fpca ≡ r.old.fpca }
 {
-    let mask = r.get(mask_at(b));
-    let slice = r.get(Place::P0(b));
-    put_each(r, filled);
     put_some(r, back);
     put_slice(r, b, mask, slice);
     put_mask(r, b, mask);
@@ -193,11 +284,11 @@ fn move_all(row: &Move, b: u8, es: &[Element], r: &mut Regs, m: &mut Mem)
     ensures context { r.new.fpca ≡ r.old.fpca }
 {
     r.in_range();
-    let mut filled = Writes::new();
-    load(&mut filled, row, b, es, r, m);
     let back = written_back(&row.way, b, first_source(&row.way, b, r));
-    store(row, b, es, r, m);
-    finish(r, filled.as_slice(), back, b);
+    let mask = r.get(mask_at(b));
+    let slice = r.get(Place::P0(b));
+    transfer(row, b, es, r, m);
+    finish(r, back, b, mask, slice);
 }
 
 /// Does beat `b`, or stops and changes nothing. `b` is below 4.

@@ -71,7 +71,7 @@ fn least(x: u32, y: u32) -> u32
 }
 
 /// Lists the words of interleaved elements. `b` is below 4, and `list` is empty before.
-fn list_interleaved(list: &mut Words, w: &Interleaved, z: Size, b: u8)
+pub fn list_interleaved(list: &mut Words, w: &Interleaved, z: Size, b: u8)
     requires beat { b < 4 }
     requires empty { list.old.items ≡ [] }
     ensures value { list.new.items ≡ each_from

@@ -1,28 +1,33 @@
-use Rattle.std.proofs.Common.{◌≡◌, false, map, sym, ap, subst, rules, ◌∙◌}
-use Rattle.std.specs.Prelude.{All, None}
-use Rattle.hm_base.specs.Place.{IsPlace}
 use Rattle.hm_mem.specs.Memory.{memory_of}
 use Rattle.hm_mem.specs.Seen.{seen}
-use Rattle.hm_state.specs.State.{into}
-use Rattle.hm_moves.specs.Coded.{first_stop}
-use Rattle.hm_moves.specs.Moves.{byte_count}
-use Rattle.hm_moves.specs.Ways.{moves_of, transfer_of}
-use Rattle.hm_moves.proofs.Filled.{Words, loads_filled}
-use Rattle.hm_moves.proofs.Owed.{move_is}
+use Rattle.hm_moves.specs.Ways.{moves_of}
+use Rattle.hm_moves.proofs.Done.{loads_by_way, placed_by_way}
 use Rattle.hm_moves.proofs.beats.load.Goals as goal
 
-pub returns-then-not-row-clause-value : goal.returns-then-not-row-clause-value
-returns-then-not-row-clause-value c = λ output same.
-    let i = moves_of c.args.row.now in
-    let b = c.args.b in
-    let m = memory_of c.args.m.now in
-    let es = c.args.es.now in
-    let loads : c.args.row.now.store ≡ false = search rules in
-    let words = c.as_slice.ensures.value ∙ c.list_words.ensures.value in
-    let placed = subst (All IsPlace) (sym c.as_slice.ensures.value) c.list_words.ensures.placed in
-    let free : first_stop m.around false (byte_count i.memory) es (seen m) ≡ None =
-    ap (λ y. first_stop m.around y (byte_count i.memory) es (seen m)) (sym loads)
-    ∙ c.requires.free in
-    ap (map into) c.fill_words.ensures.value
-    ∙ loads_filled m c.args.r.now output i b es c.as_slice.result.now loads same words placed
-    (subst Words (sym words) ((move_is (transfer_of c.args.row.now)).words b)) free
+pub returns-in-Straight-clause-value : goal.returns-in-Straight-clause-value
+returns-in-Straight-clause-value c = loads_by_way (moves_of c.args.row.now) c.args.row.now.register c.args.b c.args.es.now c.args.r.now
+    (seen (memory_of c.args.m.now)) _ _ c.in-Straight.is c.load_word.ensures.value
+
+pub returns-in-Straight-clause-placed : goal.returns-in-Straight-clause-placed
+returns-in-Straight-clause-placed c = placed_by_way c.args.row.now.register c.args.b _ _ c.in-Straight.is c.load_word.ensures.placed
+
+pub returns-in-Offsets-clause-value : goal.returns-in-Offsets-clause-value
+returns-in-Offsets-clause-value c = loads_by_way (moves_of c.args.row.now) c.args.row.now.register c.args.b c.args.es.now c.args.r.now
+    (seen (memory_of c.args.m.now)) _ _ c.in-Offsets.is c.load_word-in-Offsets.ensures.value
+
+pub returns-in-Offsets-clause-placed : goal.returns-in-Offsets-clause-placed
+returns-in-Offsets-clause-placed c = placed_by_way c.args.row.now.register c.args.b _ _ c.in-Offsets.is c.load_word-in-Offsets.ensures.placed
+
+pub returns-in-Addresses-clause-value : goal.returns-in-Addresses-clause-value
+returns-in-Addresses-clause-value c = loads_by_way (moves_of c.args.row.now) c.args.row.now.register c.args.b c.args.es.now c.args.r.now
+    (seen (memory_of c.args.m.now)) _ _ c.in-Addresses.is c.load_word-in-Addresses.ensures.value
+
+pub returns-in-Addresses-clause-placed : goal.returns-in-Addresses-clause-placed
+returns-in-Addresses-clause-placed c = placed_by_way c.args.row.now.register c.args.b _ _ c.in-Addresses.is c.load_word-in-Addresses.ensures.placed
+
+pub returns-in-Interleaved-clause-value : goal.returns-in-Interleaved-clause-value
+returns-in-Interleaved-clause-value c = loads_by_way (moves_of c.args.row.now) c.args.row.now.register c.args.b c.args.es.now c.args.r.now
+    (seen (memory_of c.args.m.now)) _ _ c.in-Interleaved.is c.load_words.ensures.value
+
+pub returns-in-Interleaved-clause-placed : goal.returns-in-Interleaved-clause-placed
+returns-in-Interleaved-clause-placed c = placed_by_way c.args.row.now.register c.args.b _ _ c.in-Interleaved.is c.load_words.ensures.placed

@@ -1,25 +1,41 @@
-use Rattle.std.proofs.Common.{sym, ap, subst, ◌∙◌}
-use Rattle.std.specs.Prelude.{All}
-use Rattle.hm_base.specs.Place.{IsPlace}
 use Rattle.hm_mem.specs.Memory.{memory_of}
 use Rattle.hm_mem.specs.Seen.{marks}
-use Rattle.hm_state.specs.State.{cells, state_of}
-use Rattle.hm_state.specs.Store.{put_all}
-use Rattle.hm_moves.specs.Ways.{moves_of, transfer_of}
-use Rattle.hm_moves.proofs.Filled.{Words, bytes_stored}
-use Rattle.hm_moves.proofs.Owed.{move_is}
+use Rattle.hm_state.specs.State.{state_of}
+use Rattle.hm_moves.proofs.Done.{placed_by_way, stores_by_way}
 use Rattle.hm_moves.proofs.beats.store.Goals as goal
 
-pub returns-then-row-clause-state : goal.returns-then-row-clause-state
-returns-then-row-clause-state c = λ output same.
-    let i = moves_of c.args.row.now in
-    let b = c.args.b in
+pub returns-in-Straight-clause-state : goal.returns-in-Straight-clause-state
+returns-in-Straight-clause-state c = λ output.
     let m = memory_of c.args.m.now in
-    let r = c.args.r.now in
-    let words = c.as_slice.ensures.value ∙ c.list_words.ensures.value in
-    let placed = subst (All IsPlace) (sym c.as_slice.ensures.value) c.list_words.ensures.placed in
-    c.store_all.ensures.state r output
-    ∙ ap (λ ws. put_all cells ws (state_of r m output))
-    (bytes_stored m r output i b (marks m.around.actor) c.args.es.now c.as_slice.result.now c.as_slice-then-row.result.now c.if-row.true same words placed
-    (subst Words (sym words) ((move_is (transfer_of c.args.row.now)).words b))
-    (c.as_slice-then-row.ensures.value ∙ c.read_values.ensures.value))
+    stores_by_way c.args.row.now.register c.args.b c.args.es.now c.args.r.now (marks m.around.actor) c.args.row.now.memory
+    (state_of c.args.r.now m output) _ _ c.in-Straight.is (c.store_word.ensures.state output)
+
+pub returns-in-Straight-clause-placed : goal.returns-in-Straight-clause-placed
+returns-in-Straight-clause-placed c = placed_by_way c.args.row.now.register c.args.b _ _ c.in-Straight.is c.store_word.ensures.placed
+
+pub returns-in-Offsets-clause-state : goal.returns-in-Offsets-clause-state
+returns-in-Offsets-clause-state c = λ output.
+    let m = memory_of c.args.m.now in
+    stores_by_way c.args.row.now.register c.args.b c.args.es.now c.args.r.now (marks m.around.actor) c.args.row.now.memory
+    (state_of c.args.r.now m output) _ _ c.in-Offsets.is (c.store_word-in-Offsets.ensures.state output)
+
+pub returns-in-Offsets-clause-placed : goal.returns-in-Offsets-clause-placed
+returns-in-Offsets-clause-placed c = placed_by_way c.args.row.now.register c.args.b _ _ c.in-Offsets.is c.store_word-in-Offsets.ensures.placed
+
+pub returns-in-Addresses-clause-state : goal.returns-in-Addresses-clause-state
+returns-in-Addresses-clause-state c = λ output.
+    let m = memory_of c.args.m.now in
+    stores_by_way c.args.row.now.register c.args.b c.args.es.now c.args.r.now (marks m.around.actor) c.args.row.now.memory
+    (state_of c.args.r.now m output) _ _ c.in-Addresses.is (c.store_word-in-Addresses.ensures.state output)
+
+pub returns-in-Addresses-clause-placed : goal.returns-in-Addresses-clause-placed
+returns-in-Addresses-clause-placed c = placed_by_way c.args.row.now.register c.args.b _ _ c.in-Addresses.is c.store_word-in-Addresses.ensures.placed
+
+pub returns-in-Interleaved-clause-state : goal.returns-in-Interleaved-clause-state
+returns-in-Interleaved-clause-state c = λ output.
+    let m = memory_of c.args.m.now in
+    stores_by_way c.args.row.now.register c.args.b c.args.es.now c.args.r.now (marks m.around.actor) c.args.row.now.memory
+    (state_of c.args.r.now m output) _ _ c.in-Interleaved.is (c.store_words.ensures.state output)
+
+pub returns-in-Interleaved-clause-placed : goal.returns-in-Interleaved-clause-placed
+returns-in-Interleaved-clause-placed c = placed_by_way c.args.row.now.register c.args.b _ _ c.in-Interleaved.is c.store_words.ensures.placed
