@@ -1,10 +1,10 @@
 -- What may stand for a shift by more than a lane has bits.
 use Rattle.std.proofs.Common.{◌≡◌, ◌≤◌, ◌<◌, ◌-◌, ◌*◌, ◌%◌, ◌^◌, ℕ, zero, suc, ℤ, pos, negsuc, ◌≤ℤ◌, ◌<ℤ◌, ◌+ℤ◌, ◌-ℤ◌, ◌*ℤ◌, Bool, true, false, not, ◌&&◌, ◌||◌}
-use Rattle.std.proofs.Common.{cond, FitsSigned, w64, to_z, of_z, unsigned_abs, subst, arith, ap, refl, sym, ◌∙◌}
-use Rattle.std.specs.Prelude.{int_lt}
+use Rattle.std.proofs.Common.{◌⊎◌, inl, inr, cond, FitsSigned, w64, to_z, of_z, unsigned_abs, subst, arith, ap, refl, sym, ◌∙◌}
+use Rattle.std.specs.Prelude.{int_lt, min}
 use Rattle.std.specs.Int.{int_div_euclid}
 use Rattle.std.proofs.Math.IntN.{neg_ℤ}
-use Rattle.std.proofs.Math.Nat.{div-eq_of_lt, mul-mod_left}
+use Rattle.std.proofs.Math.Nat.{div-eq_of_lt, min-eq_left, min-eq_right, mul-mod_left}
 use Rattle.std.proofs.Math.Pow.{pow_mono}
 use Rattle.std.proofs.lemmas.Nat.{pow-add}
 use Rattle.std.proofs.lemmas.Int.{ints, to_z-of_z}
@@ -133,16 +133,38 @@ far_down (negsuc a) l u z k h =
     (minus_cut z ∙ sym (cut_neg z (suc a * 2 ^ k) (no_bits z (suc a) k h)))
 
 -- a number below a power of two over it
-pub small_quotient : (x : ℤ) (n : ℕ) → pos 0 ≤ℤ x → x <ℤ pos n → int_div_euclid x (pos n) ≡ pos 0
+small_quotient : (x : ℤ) (n : ℕ) → pos 0 ≤ℤ x → x <ℤ pos n → int_div_euclid x (pos n) ≡ pos 0
 small_quotient (pos a) n l h = ap pos (div-eq_of_lt (omega (arith, ints)))
 small_quotient (negsuc a) n l h = absurd (omega (arith, ints))
 
-pub minus_quotient : (x : ℤ) (n : ℕ) → x <ℤ pos 0 → (pos 0 -ℤ pos n) ≤ℤ x → int_div_euclid x (pos n) ≡ negsuc 0
+minus_quotient : (x : ℤ) (n : ℕ) → x <ℤ pos 0 → (pos 0 -ℤ pos n) ≤ℤ x → int_div_euclid x (pos n) ≡ negsuc 0
 minus_quotient (pos a) n l h = absurd (omega (arith, ints))
 minus_quotient (negsuc a) n l h = ap negsuc (div-eq_of_lt (omega (arith, ints)))
 
-pub long_power : (k : ℕ) → 40 ≤ k → 1099511627776 ≤ 2 ^ k
+long_power : (k : ℕ) → 40 ≤ k → 1099511627776 ≤ 2 ^ k
 long_power k h = pow_mono h
+
+-- over any two numbers of more than 33 bits a number has the same quotient, 0 or -1
+far_quotients : (v : ℤ) (m n : ℕ) → (pos 0 -ℤ pos 2147483648) ≤ℤ v → v <ℤ pos 4294967296 → 1099511627776 ≤ m → 1099511627776 ≤ n
+    → int_div_euclid v (pos m) ≡ int_div_euclid v (pos n)
+far_quotients (pos a) m n l h f g =
+    small_quotient (pos a) m (omega (arith, ints)) (omega (arith, ints)) ∙ sym (small_quotient (pos a) n (omega (arith, ints)) (omega (arith, ints)))
+far_quotients (negsuc a) m n l h f g =
+    minus_quotient (negsuc a) m (omega (arith, ints)) (omega (arith, ints)) ∙ sym (minus_quotient (negsuc a) n (omega (arith, ints)) (omega (arith, ints)))
+
+either_way : (a b : ℕ) → (a < b) ⊎ (b ≤ a)
+either_way a b = grind arith
+
+-- so 63 may stand for any greater count
+pub at_most_63 : (v : ℤ) (k : ℕ) → (pos 0 -ℤ pos 2147483648) ≤ℤ v → v <ℤ pos 4294967296
+    → int_div_euclid v (pos (2 ^ min k 63)) ≡ int_div_euclid v (pos (2 ^ k))
+at_most_63 v k l h = by_length (either_way k 63)
+  where
+    by_length : (k < 63) ⊎ (63 ≤ k) → int_div_euclid v (pos (2 ^ min k 63)) ≡ int_div_euclid v (pos (2 ^ k))
+    by_length (inl short) = ap (λ n. int_div_euclid v (pos (2 ^ n))) (min-eq_left (omega arith))
+    by_length (inr long) =
+        ap (λ n. int_div_euclid v (pos (2 ^ n))) (min-eq_right long)
+        ∙ far_quotients v (2 ^ 63) (2 ^ k) l h (omega arith) (long_power k (omega arith))
 
 pub doubled : (k : ℕ) → 0 < k → 2 ^ k ≡ 2 * 2 ^ (k - 1)
 doubled (suc k) h = grind arith

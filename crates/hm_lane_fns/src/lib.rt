@@ -5,7 +5,7 @@ mod functions;
 mod words;
 
 pub use functions::{
-    LaneFn, bit_count, clamped, cut, halved, is_outside, lane, lane_saturates, lane_value,
+    LaneFn, bit_count, clamped, cut, half, halved, is_outside, lane, lane_saturates, lane_value,
     saturates,
 };
 pub use words::{

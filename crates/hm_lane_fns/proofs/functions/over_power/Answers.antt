@@ -1,14 +1,8 @@
-use Rattle.std.proofs.Common.{◌≤◌, ◌^◌, arith, sym}
-use Rattle.std.proofs.lemmas.Int.{ints}
-use Rattle.hm_lane_fns.proofs.Shifts.{long_power, minus_quotient, small_quotient}
+use Rattle.std.proofs.Common.{rules, ◌^◌, pos, ap, ◌∙◌}
+use Rattle.std.specs.Int.{int_div_euclid}
+use Rattle.hm_lane_fns.proofs.Shifts.{at_most_63}
 use Rattle.hm_lane_fns.proofs.functions.over_power.Goals as goal
 
-pub returns-then-v-lt0 : goal.returns-then-v-lt0
-returns-then-v-lt0 c =
-    let long : 1099511627776 ≤ 2 ^ c.args.k = long_power c.args.k (omega arith) in
-    sym (minus_quotient c.args.v (2 ^ c.args.k) (omega (arith, ints)) (omega (arith, ints)))
-
-pub returns-else-v-lt0 : goal.returns-else-v-lt0
-returns-else-v-lt0 c =
-    let long : 1099511627776 ≤ 2 ^ c.args.k = long_power c.args.k (omega arith) in
-    sym (small_quotient c.args.v (2 ^ c.args.k) (omega (arith, ints)) (omega (arith, ints)))
+pub returns : goal.returns
+returns c =
+    search rules ∙ ap (λ k. int_div_euclid c.args.v (pos (2 ^ k))) c.min.ensures ∙ at_most_63 c.args.v c.args.k c.requires.low c.requires.high
