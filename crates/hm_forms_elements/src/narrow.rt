@@ -155,8 +155,7 @@ pub fn beat_narrow(row: &V16, b: u8, r: &mut Regs)
     let wide = row.z.get() == 1;
     let top = row.t.get() == 1;
     let new = narrow_word(wide, top, row.name, old, x);
-    let tests = narrow_tests(wide, top, row.name, x);
-    let marks = saturates(row.name) && any_both(active, tests);
+    let marks = saturates(row.name) && any_both(active, narrow_tests(wide, top, row.name, x));
     let written = Written {
         place,
         value: merge(active, old, new),
