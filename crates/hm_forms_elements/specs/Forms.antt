@@ -69,7 +69,7 @@ lanes_mark l active (old ∷ x ∷ ys) =
     any_both active (lane_tests3 l.z (lane_saturates l.f l.unsigned l.z) (bytes_of old) (bytes_of x) (bytes_of (operand_of l.z l.by ys)))
 lanes_mark l active _ = false
 
--- V1 to V5, V7, V10, V11, V13 and V18, as VADD, VAND, VSHL and VDUP: a function of lanes (DDI0553, "VADD (vector)" and so on)
+-- V1 to V5, V7, V10, V11, V13 and V18, as VADD, VAND, VSHL and VDUP: a function of lanes (DDI0553, the sections named at `Lanes`)
 abbrev pub lanes_row : Lanes → Row
 lanes_row l = words_row false l.d.value (λ b. word_place l.n.value b ∷ operand_places l.by b) (λ b slice. lanes_new l)
     (cond (saturates l.f) (Some (λ b. lanes_mark l)) None)
@@ -80,7 +80,7 @@ abbrev pub constant_new : V15 → ℕ → List ℕ → ℕ
 constant_new r b (old ∷ vs) = constant_op r old (imm_word r b)
 constant_new r b [] = 0
 
--- V15: VMOV, VMVN, VORR and VBIC with a constant, beat by beat (DDI0553, "VMOV (immediate)")
+-- V15: VMOV, VMVN, VORR and VBIC with a constant, beat by beat (DDI0553, "VMOV (immediate)", "VMVN (immediate)", "VORR (immediate)" and "VBIC (immediate)")
 abbrev pub constant_row : V15 → Row
 constant_row r = words_row false r.d.value (λ b. []) (λ b slice. constant_new r b) None
 

@@ -68,7 +68,7 @@ operand_register z (Vector q) s = register_at q.value s
 operand_register z (Scalar m) s = in_each_lane z (cond (nat_eq m.value 15) 0 (at (R m.value) s))
 operand_register z (Constant k) s = in_each_lane z k
 
--- V1 to V5, V7, V10, V11, V13 and V18, as VADD and VDUP: the 16 new bytes, lane by lane (DDI0553, "VADD (vector)" and so on)
+-- V1 to V5, V7, V10, V11, V13 and V18, as VADD and VDUP: the 16 new bytes, lane by lane (DDI0553, the sections named at `Lanes`)
 abbrev pub lanes_result : Lanes → State → List ℕ
 lanes_result l s = lanewise3 l.z (lane_of l.f l.unsigned l.z) (register_at l.d.value s) (register_at l.n.value s) (operand_register l.z l.by s)
 

@@ -109,7 +109,8 @@ fn constant_op(row: &V15, old: u32, constant: u32) -> u32
     }
 }
 
-/// What beat `b` of `vmov`, `vmvn`, `vorr` or `vbic` with a constant touches: DDI0553, "VMOV (immediate)". `b` is below 4.
+/// What beat `b` of `vmov`, `vmvn`, `vorr` or `vbic` with a constant touches: DDI0553, "VMOV (immediate)", "VMVN (immediate)",
+/// "VORR (immediate)" and "VBIC (immediate)". `b` is below 4.
 pub fn touch_constant(row: &V15, b: u8, r: &Regs) -> Touch
     requires { b < 4 }
     ensures reads { (m : Memory) (output : List ℕ) → result.reads ≡ reads_in (row_tree (constant_row row.now) b) r.now m output }
@@ -129,7 +130,8 @@ pub fn touch_constant(row: &V15, b: u8, r: &Regs) -> Touch
     touch_row(sources, Some(word), None, shape, b, r)
 }
 
-/// Does beat `b` of `vmov`, `vmvn`, `vorr` or `vbic` with a constant: DDI0553, "VMOV (immediate)". `b` is below 4.
+/// Does beat `b` of `vmov`, `vmvn`, `vorr` or `vbic` with a constant: DDI0553, "VMOV (immediate)", "VMVN (immediate)",
+/// "VORR (immediate)" and "VBIC (immediate)". `b` is below 4.
 pub fn beat_constant(row: &V15, b: u8, r: &mut Regs)
     requires { b < 4 }
     ensures done { (m : Memory) (output : List ℕ) → run (row_tree (constant_row row.now) b) r.old m output ≡ Ok (state_of r.new m output) }
