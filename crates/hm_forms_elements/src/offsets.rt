@@ -154,16 +154,16 @@ fn last_place(row: &Steps, b: u8) -> Option<Place>
     if b == 3 { Some(first_place(row)) } else { None }
 }
 
-/// What the last beat writes into it.
-fn last_written(row: &Steps, b: u8, value: u32) -> Option<Written>
-    ensures value { puts result ≡ cond (eqb b 3) (write (R (2 * row.now.n.value)) value ∷ []) [] }
+/// What the last beat writes into it: the offset after all elements of the register.
+fn last_written(row: &Steps, b: u8, m: Option<u32>, first: u32) -> Option<Written>
+    ensures value { puts result ≡ cond (eqb b 3) (write (R (2 * row.now.n.value)) (offset_after row.now m (4 * per_word row.now.z) first) ∷ []) [] }
     ensures placed { IfSome result (λ w. IsPlace w.place) }
     ensures body { IfSome result (λ w. is_body w.place ≡ true) }
 {
     if b == 3 {
         Some(Written {
             place: first_place(row),
-            value,
+            value: offset_after(row, m, 4 * per_word(row.z), first),
         })
     } else {
         None
@@ -202,9 +202,8 @@ pub fn beat_offsets(row: &Steps, b: u8, r: &mut Regs)
     let old = read(r, place);
     let first = read(r, first_place(row));
     let m = round(row, r);
-    let n = per_word(row.z);
-    let new = offsets_word(row, m, offset_after(row, m, n * b as u32, first));
-    let last = offset_after(row, m, 4 * n, first);
+    let before = per_word(row.z) * b as u32;
+    let new = offsets_word(row, m, offset_after(row, m, before, first));
     let written = Written {
         place,
         value: merge(active(r, b), old, new),
@@ -212,7 +211,7 @@ pub fn beat_offsets(row: &Steps, b: u8, r: &mut Regs)
     finish_row(
         r,
         Some(written),
-        last_written(row, b, last),
+        last_written(row, b, m, first),
         None,
         None,
         false,
