@@ -11,15 +11,13 @@ ghost use Rattle.hm_beat.specs.Rows.{word_place};
 ghost use Rattle.hm_lane.specs.declared.lanes.Size.TheVariants as size;
 ghost use Rattle.hm_lane.specs.Lanes.{bytes_of, firsts, lanes, modulus};
 ghost use Rattle.hm_forms_across.specs.Forms.{added, extended_word, sum_row, term_of};
-ghost use Rattle.hm_lane_fns.specs.LaneFns.{half};
 
 use hm_base::{Place, Places, note};
 use hm_beat::Touch;
-use hm_forms_elements::half;
 use hm_isa::{Below, QRegister};
 use hm_kinds::{Shape, Written, active, finish_row, read, touch_row};
 use hm_lane::{Size, bytes};
-use hm_lane_fns::word_at;
+use hm_lane_fns::{half, word_at};
 use hm_regs::Regs;
 
 /// A sum of elements, or of products of elements, into a register.

@@ -12,26 +12,14 @@ ghost use Rattle.hm_lane.specs.Lanes.{modulus};
 ghost use Rattle.hm_kinds.specs.Row.{is_body, row_tree};
 ghost use Rattle.hm_lane_fns.specs.Words.{size_of};
 ghost use Rattle.hm_forms_elements.specs.Forms.{extended_long, product, products, wide_at, wide_row, wide_word};
-ghost use Rattle.hm_lane_fns.specs.LaneFns.{half};
 
 use hm_base::{Place, Places, note};
 use hm_beat::Touch;
 use hm_isa::{QRegister, V6};
 use hm_kinds::{Shape, Written, active, finish_row, read, touch_row};
 use hm_lane::{Size, bytes};
-use hm_lane_fns::{merge, size, word_at};
+use hm_lane_fns::{half, merge, size, word_at};
 use hm_regs::Regs;
-
-/// Half as many numbers as a lane holds.
-pub fn half(z: Size) -> u32
-    ensures { result ≡ half z }
-{
-    match z {
-        Size::Byte => 1 << 7,
-        Size::Half => 1 << 15,
-        Size::Word => 1 << 31,
-    }
-}
 
 /// Ones above a lane.
 fn above(z: Size) -> u64
