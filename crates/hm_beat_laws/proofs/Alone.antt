@@ -23,7 +23,8 @@ use Rattle.hm_beat.proofs.Whole.{put_all-append}
 use Rattle.hm_forms.specs.declared.form.Form.{Form}
 use Rattle.hm_forms.specs.declared.form.Form.TheVariants as form
 use Rattle.hm_forms_elements.specs.Forms.{offset_after, offsets_from}
-use Rattle.hm_forms_elements.specs.Registers.{operand_register, round_at, saturating, wide_result}
+use Rattle.hm_lane_fns.specs.Registers.{operand_register, saturating}
+use Rattle.hm_forms_elements.specs.Registers.{round_at, wide_result}
 use Rattle.hm_forms_predicate.specs.Predicates.{half_writes, mask_after, predicate_whole}
 use Rattle.hm_forms_predicate.specs.Blocks.{block_whole}
 use Rattle.hm_forms.specs.Wholes.{form_whole}

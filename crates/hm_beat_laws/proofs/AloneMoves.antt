@@ -13,7 +13,7 @@ use Rattle.hm_order.specs.Beats.{then}
 use Rattle.hm_state.specs.State.{Cell, State, Value}
 use Rattle.hm_beat.specs.Rows.{predicate_at, register_at, write_register}
 use Rattle.hm_beat.specs.Touches.{span_bytes}
-use Rattle.hm_forms_elements.specs.Registers.{advancing, saturating}
+use Rattle.hm_lane_fns.specs.Registers.{advancing, saturating}
 use Rattle.hm_moves.specs.Moves.{as_loaded, byte_count}
 use Rattle.hm_moves.specs.Ways.{Found, Transfer, at_addresses, at_offsets, interleaved, moves_by, straight, way_predicated}
 use Rattle.hm_moves.specs.Wholes.{addresses, are_moved, element_bytes, filled_registers, loaded, loaded_elements, number_bytes, read_at, stored_elements}

@@ -18,8 +18,9 @@ use Rattle.hm_forms.specs.declared.form.Form.{Form}
 use Rattle.hm_forms.specs.declared.form.Form.TheVariants as form
 use Rattle.hm_forms_elements.specs.Forms.{begins, narrow_saturates, offset_after, offsets_from, shift_of, subtracts}
 use Rattle.hm_forms_across.specs.Forms.{added, best, long_term, term_of}
-use Rattle.hm_forms_elements.specs.Registers.{bits_from, constant_result, elements, flags_from, lanes_result, lanes_saturated, widening_result, narrow_result}
-use Rattle.hm_forms_elements.specs.Registers.{narrow_saturated, reversed_result, round_at, saturating, shifted_from, sums_from, complex_sum_result, wide_result}
+use Rattle.hm_lane_fns.specs.Registers.{elements, saturating}
+use Rattle.hm_forms_elements.specs.Registers.{bits_from, constant_result, flags_from, lanes_result, lanes_saturated, widening_result, narrow_result}
+use Rattle.hm_forms_elements.specs.Registers.{narrow_saturated, reversed_result, round_at, shifted_from, sums_from, complex_sum_result, wide_result}
 use Rattle.hm_forms_elements.specs.Registers.{words_at}
 use Rattle.hm_rows.specs.Rows.{Registers}
 use Rattle.hm_beat_laws.specs.Exceptions.{from_beat, gives_registers}

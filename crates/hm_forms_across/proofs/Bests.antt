@@ -18,10 +18,10 @@ use Rattle.hm_kinds.specs.Row.{Row, ends_at, linked, row_by_words}
 use Rattle.hm_lane_fns.specs.LaneFns.{cut, half, lane_value}
 use Rattle.hm_lane_fns.specs.Words.{size_of}
 use Rattle.hm_forms_across.specs.Forms.{best, better, extreme_row}
-use Rattle.hm_forms_elements.specs.Registers.{advancing}
+use Rattle.hm_lane_fns.specs.Registers.{advancing}
 use Rattle.hm_forms_across.specs.Registers.{extreme_writes}
-use Rattle.hm_forms_elements.proofs.Lanewise.{advances, four}
-use Rattle.hm_forms_elements.proofs.Handed.{active_any, put_twice}
+use Rattle.hm_lane_fns.proofs.Lanewise.{advances, four}
+use Rattle.hm_lane_fns.proofs.Handed.{active_any, put_twice}
 
 -- A NUMBER THAT A LANE HOLDS COMES BACK FROM A REGISTER
 negative : (M x : ℕ) → x < M → M ≤ 2 ^ 32 → int_rem_euclid (pos x -ℤ pos M) (pos (2 ^ 32)) ≡ pos ((x + (2 ^ 32 - M)) % 2 ^ 32)

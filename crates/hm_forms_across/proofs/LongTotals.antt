@@ -10,10 +10,10 @@ use Rattle.hm_beat.specs.Rows.{active_at, advance_half, retired, word_place}
 use Rattle.hm_kinds.specs.Row.{Row, ends_at, linked, row_by_words}
 use Rattle.hm_forms_across.specs.declared.long_sums.LongSums.{LongSums}
 use Rattle.hm_forms_across.specs.Forms.{added, long_row, long_term}
-use Rattle.hm_forms_elements.specs.Registers.{advancing}
+use Rattle.hm_lane_fns.specs.Registers.{advancing}
 use Rattle.hm_forms_across.specs.Registers.{long_writes}
-use Rattle.hm_forms_elements.proofs.Lanewise.{advances}
-use Rattle.hm_forms_elements.proofs.Handed.{active_any}
+use Rattle.hm_lane_fns.proofs.Lanewise.{advances}
+use Rattle.hm_lane_fns.proofs.Handed.{active_any}
 use Rattle.hm_forms_across.proofs.Totals.{first_start, later_start, whole_added, word_added}
 
 -- the two parts of a number make it

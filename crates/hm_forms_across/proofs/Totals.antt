@@ -12,10 +12,10 @@ use Rattle.hm_beat.specs.Rows.{active_at, advance_half, predicate_at, retired, w
 use Rattle.hm_kinds.specs.Row.{Row, ends_at, linked, row_by_words}
 use Rattle.hm_forms_across.specs.declared.sums.Sums.{Sums}
 use Rattle.hm_forms_across.specs.Forms.{added, sum_next, sum_row, term_of}
-use Rattle.hm_forms_elements.specs.Registers.{advancing}
+use Rattle.hm_lane_fns.specs.Registers.{advancing}
 use Rattle.hm_forms_across.specs.Registers.{sum_writes}
-use Rattle.hm_forms_elements.proofs.Handed.{active_any, put_twice}
-use Rattle.hm_forms_elements.proofs.Lanewise.{advances, four}
+use Rattle.hm_lane_fns.proofs.Handed.{active_any, put_twice}
+use Rattle.hm_lane_fns.proofs.Lanewise.{advances, four}
 
 -- THE TERMS OF FOUR WORDS
 module _ (m : ℕ) (f : ℕ → ℕ → ℕ) where

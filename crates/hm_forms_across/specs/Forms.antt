@@ -12,7 +12,7 @@ use Rattle.hm_beat.specs.Rows.{word_place}
 use Rattle.hm_kinds.specs.Row.{Row}
 use Rattle.hm_lane_fns.specs.LaneFns.{cut, half, lane_value}
 use Rattle.hm_lane_fns.specs.Words.{size_of}
-use Rattle.hm_forms_elements.specs.Forms.{extended_long}
+use Rattle.hm_lane_fns.specs.LaneFns.{extended_long}
 use Rattle.hm_forms_across.specs.declared.long_sums.LongSums.{LongSums}
 use Rattle.hm_forms_across.specs.declared.sums.Sums.{Sums}
 

@@ -9,7 +9,7 @@ use Rattle.hm_state.specs.State.{Cell, State, Value, at, into}
 use Rattle.hm_beat.specs.Rows.{predicate_at}
 use Rattle.hm_lane_fns.specs.LaneFns.{cut, lane_value}
 use Rattle.hm_lane_fns.specs.Words.{size_of}
-use Rattle.hm_forms_elements.specs.Registers.{elements}
+use Rattle.hm_lane_fns.specs.Registers.{elements}
 use Rattle.hm_forms_across.specs.declared.long_sums.LongSums.{LongSums}
 use Rattle.hm_forms_across.specs.declared.sums.Sums.{Sums}
 use Rattle.hm_forms_across.specs.Forms.{added, best, long_term, term_of}

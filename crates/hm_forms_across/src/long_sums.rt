@@ -14,11 +14,10 @@ ghost use Rattle.hm_forms_across.specs.Forms.{added, long_row, long_term};
 
 use hm_base::{Place, Places, note};
 use hm_beat::Touch;
-use hm_forms_elements::extended_long;
 use hm_isa::{Below, QRegister};
 use hm_kinds::{Shape, Written, active, finish_row, read, touch_row};
 use hm_lane::{Size, bytes};
-use hm_lane_fns::word_at;
+use hm_lane_fns::{extended_long, word_at};
 use hm_regs::Regs;
 
 /// A sum of elements, or of products of elements, into two registers.

@@ -13,9 +13,10 @@ use Rattle.hm_state.specs.State.{At, Cell, State, Value, at, cells, word}
 use Rattle.hm_beat.specs.Rows.{active_at, advance_half, retired, word_place}
 use Rattle.hm_kinds.specs.Row.{Row, ends_at, linked, numbers, outs_at, row_by_words}
 use Rattle.hm_forms_elements.specs.Forms.{begins, carry_places, carry_row, flags_before, shift_of, shift_row, subtracts}
-use Rattle.hm_forms_elements.specs.Registers.{advancing, bits_after, carry_writes, flags_after, shift_writes, sum_with}
-use Rattle.hm_forms_elements.proofs.Handed.{active_any, put_twice}
-use Rattle.hm_forms_elements.proofs.Lanewise.{advances}
+use Rattle.hm_lane_fns.specs.Registers.{advancing}
+use Rattle.hm_forms_elements.specs.Registers.{bits_after, carry_writes, flags_after, shift_writes, sum_with}
+use Rattle.hm_lane_fns.proofs.Handed.{active_any, put_twice}
+use Rattle.hm_lane_fns.proofs.Lanewise.{advances}
 
 -- A CARRY
 -- the flags that a word finds

@@ -1,6 +1,5 @@
-pub mod Lanewise
+pub mod LaneRows
 pub mod Registers
-pub mod Handed
 pub mod Narrows
 pub mod Chains
 pub mod Immediates

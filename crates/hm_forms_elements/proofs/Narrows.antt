@@ -18,7 +18,7 @@ use Rattle.hm_lane_fns.specs.LaneFns.{cut}
 use Rattle.hm_lane_fns.specs.Words.{any_both}
 use Rattle.hm_forms_elements.specs.Forms.{narrow_bytes, narrow_mark, narrow_outside, narrow_row, narrow_saturates, narrow_tests, narrowed}
 use Rattle.hm_forms_elements.specs.Registers.{narrow_result, narrow_saturated, narrow_whole, placed, placed_tests}
-use Rattle.hm_forms_elements.proofs.Lanewise.{active_byte, advances, and_four, any_words, four, marked_where}
+use Rattle.hm_lane_fns.proofs.Lanewise.{active_byte, advances, and_four, any_words, four, marked_where}
 
 -- A NUMBER CUT to its lane fits it
 rem_below : (v : ℤ) (m : ℕ) → 0 < m → unsigned_abs (int_rem_euclid v (pos m)) < m

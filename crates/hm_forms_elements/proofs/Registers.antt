@@ -28,9 +28,10 @@ use Rattle.hm_forms_elements.specs.Forms.{constant_new, constant_row, every_seco
 use Rattle.hm_forms_elements.specs.Forms.{offsets_from, offsets_row, other_word, reversed_at, reversed_new, reversed_row, reversed_word, select_new, select_row}
 use Rattle.hm_forms_elements.specs.Forms.{round_of, round_places, product, complex_sum_at, complex_sum_lane, complex_sum_new, complex_sum_row, wide_at}
 use Rattle.hm_forms_elements.specs.Forms.{wide_new, wide_row, wide_word, words_row}
-use Rattle.hm_forms_elements.specs.Registers.{advancing, constant_result, in_groups, long_bytes, widening_result, merges, offsets_writes, reversed_result}
+use Rattle.hm_lane_fns.specs.Registers.{advancing, merges}
+use Rattle.hm_forms_elements.specs.Registers.{constant_result, in_groups, long_bytes, widening_result, offsets_writes, reversed_result}
 use Rattle.hm_forms_elements.specs.Registers.{round_at, select_result, complex_sum_result, wide_result}
-use Rattle.hm_forms_elements.proofs.Lanewise.{advances, bytes_of-word, four}
+use Rattle.hm_lane_fns.proofs.Lanewise.{advances, bytes_of-word, four}
 
 -- the four words of a row that merges a word on each beat
 abbrev words_result : Bool → ℕ → (ℕ → List Place) → (ℕ → ℕ → List ℕ → ℕ) → State → List ℕ

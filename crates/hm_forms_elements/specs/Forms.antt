@@ -1,5 +1,5 @@
 -- The forms of vector rows that give elements of a vector register, and merge a word of it on each beat.
-use Rattle.std.specs.Prelude.{ℕ, zero, suc, ◌+◌, ◌-◌, ◌*◌, ◌/◌, ◌%◌, ◌^◌, Bool, true, false, not, ◌&&◌, ◌||◌, cond, eqb, ltb, nat_eq, List, [], ◌∷◌, map}
+use Rattle.std.specs.Prelude.{ℕ, zero, suc, ◌+◌, ◌-◌, ◌*◌, ◌/◌, ◌%◌, ◌^◌, Bool, true, false, not, ◌&&◌, ◌||◌, cond, eqb, nat_eq, List, [], ◌∷◌, map}
 use Rattle.std.specs.Prelude.{reverse, Option, Some, None, ℤ, ◌+ℤ◌, ◌-ℤ◌}
 use Rattle.hm_base.specs.declared.Place.{Place}
 use Rattle.hm_base.specs.declared.Place.TheVariants.{R, Carry}
@@ -24,11 +24,11 @@ use Rattle.hm_isa.specs.declared.vectors.Select.{Select}
 use Rattle.hm_isa.specs.declared.fields.Below.{Below}
 use Rattle.hm_lane.specs.declared.lanes.Size.{Size}
 use Rattle.hm_lane.specs.declared.lanes.Size.TheVariants.{Byte, Half, Word}
-use Rattle.hm_lane.specs.Lanes.{bytes_of, lanes, merged, modulus, paired, per_word, unlanes, word_of}
+use Rattle.hm_lane.specs.Lanes.{bytes_of, lanes, merged, paired, per_word, unlanes, word_of}
 use Rattle.hm_lane.specs.Predicate.{first}
 use Rattle.hm_beat.specs.Rows.{word_place}
 use Rattle.hm_kinds.specs.Row.{Out, Row}
-use Rattle.hm_lane_fns.specs.LaneFns.{clamped, cut, half, halved, is_outside, lane_of, lane_saturates, lane_value, saturates}
+use Rattle.hm_lane_fns.specs.LaneFns.{clamped, cut, extended_long, halved, is_outside, lane_of, lane_saturates, lane_value, saturates}
 use Rattle.hm_lane_fns.specs.Words.{any_both, lane_tests3, lanewise3, operand_of, operand_places, size_of, truths}
 use Rattle.hm_forms_elements.specs.declared.lanes.Lanes.{Lanes}
 use Rattle.hm_forms_elements.specs.declared.widening.Widening.{Widening}
@@ -287,10 +287,6 @@ abbrev pub select_row : Select → Row
 select_row r = words_row true r.d.value (λ b. word_place r.n.value b ∷ word_place r.m.value b ∷ []) (λ b. select_new) None
 
 -- WIDE PRODUCTS
--- a lane extended to 64 bits
-abbrev pub extended_long : Bool → Size → ℕ → ℕ
-extended_long unsigned z x = cond (unsigned || ltb x (half z)) x (x + (2 ^ 64 - modulus z))
-
 -- the word of a register that elements of beat b stand in; both words of a product of 64 bits come of one
 abbrev pub wide_at : V6 → ℕ → ℕ
 wide_at r b = cond (nat_eq r.z.value 2) (2 * (b / 2) + r.t.value) b

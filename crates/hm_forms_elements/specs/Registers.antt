@@ -1,5 +1,5 @@
 -- What forms that give elements of a vector register do to whole registers, as lists of elements in rising order.
-use Rattle.std.specs.Prelude.{ℕ, zero, suc, ◌+◌, ◌-◌, ◌*◌, ◌/◌, ◌%◌, ◌^◌, Bool, true, false, ◌&&◌, cond, List, [], ◌∷◌, ◌++◌, map, nat_eq, Option, Some, None}
+use Rattle.std.specs.Prelude.{ℕ, ◌+◌, ◌-◌, ◌*◌, ◌/◌, ◌%◌, ◌^◌, Bool, true, false, ◌&&◌, cond, List, [], ◌∷◌, ◌++◌, map, nat_eq, Option, Some, None}
 use Rattle.std.specs.List.{flat_map}
 use Rattle.hm_base.specs.declared.Place.TheVariants.{R, P0, Carry}
 use Rattle.hm_isa.specs.declared.vectors.V6.{V6}
@@ -15,14 +15,12 @@ use Rattle.hm_isa.specs.declared.vectors.ReverseName.{ReverseName}
 use Rattle.hm_isa.specs.declared.vectors.ReverseName.TheVariants as rev
 use Rattle.hm_lane.specs.declared.lanes.Size.{Size}
 use Rattle.hm_lane.specs.declared.lanes.Size.TheVariants.{Byte, Half, Word}
-use Rattle.hm_lane.specs.Lanes.{bytes_of, firsts, lanes, merged, paired, per_word, spread, unlanes}
+use Rattle.hm_lane.specs.Lanes.{bytes_of, firsts, merged, paired, per_word, spread, unlanes}
 use Rattle.hm_regs.specs.Writes.{write}
-use Rattle.hm_state.specs.Store.{flagged, put_all}
-use Rattle.hm_state.specs.State.{Cell, State, Value, at, cells, into}
-use Rattle.hm_beat.specs.Rows.{advance_half, predicate_at, register_at, retired, word_place, write_register}
-use Rattle.hm_lane_fns.specs.declared.words.Operand.{Operand}
-use Rattle.hm_lane_fns.specs.declared.words.Operand.TheVariants.{Vector, Scalar, Constant}
+use Rattle.hm_state.specs.State.{Cell, State, Value, at, into}
+use Rattle.hm_beat.specs.Rows.{predicate_at, register_at, word_place}
 use Rattle.hm_lane_fns.specs.LaneFns.{lane_of, lane_saturates, saturates}
+use Rattle.hm_lane_fns.specs.Registers.{elements, merges, operand_register, saturating}
 use Rattle.hm_lane_fns.specs.Words.{any_both, lane_tests3, lanewise3, size_of, truths}
 use Rattle.hm_forms_elements.specs.declared.lanes.Lanes.{Lanes}
 use Rattle.hm_forms_elements.specs.declared.widening.Widening.{Widening}
@@ -32,42 +30,11 @@ use Rattle.hm_forms_elements.specs.Constants.{constant_op, imm_word}
 use Rattle.hm_forms_elements.specs.Forms.{begins, every_second, exchanged, in_turn, widened, narrow_outside, narrow_saturates, narrowed, offset_after}
 use Rattle.hm_forms_elements.specs.Forms.{offsets_from, product, shift_of, subtracts, complex_sum_lane}
 
--- registers get these values, the masks advance, and the next instruction stands behind it
-abbrev pub advancing : List (Cell × Value) → State → State
-advancing ws s = retired (put_all cells (ws ++ advance_half 0 s ++ advance_half 2 s) s)
-
--- the same where QC may be set
-abbrev pub saturating : Bool → List (Cell × Value) → State → State
-saturating marked ws s = retired (flagged marked (put_all cells (ws ++ advance_half 0 s ++ advance_half 2 s) s))
-
--- a register merges 16 bytes under the predicate
-abbrev pub merges : ℕ → List ℕ → State → List (Cell × Value)
-merges d result s = write_register d (merged (predicate_at s) (register_at d s) result)
-
--- the elements of a register
-abbrev pub elements : Size → ℕ → State → List ℕ
-elements z q s = lanes z (register_at q s)
-
 -- the four words of a register, the lowest first
 abbrev pub words_at : ℕ → State → List ℕ
 words_at q s = at (word_place q 0) s ∷ at (word_place q 1) s ∷ at (word_place q 2) s ∷ at (word_place q 3) s ∷ []
 
 -- LANES
--- a number in each lane of a register
-abbrev pub repeated : ℕ → ℕ → List ℕ
-repeated zero x = []
-repeated (suc n) x = x ∷ repeated n x
-
--- the 16 bytes of a vector register with a number in each lane
-abbrev pub in_each_lane : Size → ℕ → List ℕ
-in_each_lane z x = unlanes z (repeated (4 * per_word z) x)
-
--- the second operand: a register, or a core register or a constant in each lane; number 15 stands for zero
-abbrev pub operand_register : Size → Operand → State → List ℕ
-operand_register z (Vector q) s = register_at q.value s
-operand_register z (Scalar m) s = in_each_lane z (cond (nat_eq m.value 15) 0 (at (R m.value) s))
-operand_register z (Constant k) s = in_each_lane z k
-
 -- V1 to V5, V7, V10, V11, V13 and V18, as VADD and VDUP: the 16 new bytes, lane by lane (DDI0553, the sections named at `Lanes`)
 abbrev pub lanes_result : Lanes → State → List ℕ
 lanes_result l s = lanewise3 l.z (lane_of l.f l.unsigned l.z) (register_at l.d.value s) (register_at l.n.value s) (operand_register l.z l.by s)

@@ -22,5 +22,5 @@ pub use offsets::{Steps, beat_offsets, touch_offsets};
 pub use reversed::{beat_reversed, touch_reversed};
 pub use select::{beat_select, touch_select};
 pub use shift::{beat_shift, touch_shift};
-pub use wide::{beat_wide, extended_long, touch_wide};
+pub use wide::{beat_wide, touch_wide};
 pub use widening::{Widening, beat_widening, touch_widening};

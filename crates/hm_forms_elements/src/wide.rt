@@ -11,38 +11,15 @@ ghost use Rattle.hm_lane.specs.declared.lanes.Size.TheVariants as size;
 ghost use Rattle.hm_lane.specs.Lanes.{modulus};
 ghost use Rattle.hm_kinds.specs.Row.{is_body, row_tree};
 ghost use Rattle.hm_lane_fns.specs.Words.{size_of};
-ghost use Rattle.hm_forms_elements.specs.Forms.{extended_long, product, products, wide_at, wide_row, wide_word};
+ghost use Rattle.hm_forms_elements.specs.Forms.{product, products, wide_at, wide_row, wide_word};
 
 use hm_base::{Place, Places, note};
 use hm_beat::Touch;
 use hm_isa::{QRegister, V6};
 use hm_kinds::{Shape, Written, active, finish_row, read, touch_row};
 use hm_lane::{Size, bytes};
-use hm_lane_fns::{half, merge, size, word_at};
+use hm_lane_fns::{extended_long, merge, size, word_at};
 use hm_regs::Regs;
-
-/// Ones above a lane.
-fn above(z: Size) -> u64
-    ensures { result ≡ 2 ^ 64 - modulus z }
-{
-    match z {
-        Size::Byte => 0xffff_ffff_ffff_ff00,
-        Size::Half => 0xffff_ffff_ffff_0000,
-        Size::Word => 0xffff_ffff_0000_0000,
-    }
-}
-
-/// A lane extended to 64 bits.
-pub fn extended_long(unsigned: bool, z: Size, x: u32) -> u64
-    requires { x < modulus z }
-    ensures { result ≡ extended_long unsigned z x }
-{
-    if unsigned || x < half(z) {
-        x as u64
-    } else {
-        x as u64 + above(z)
-    }
-}
 
 /// The product of two lanes.
 fn product(row: &V6, x: u32, y: u32) -> u64

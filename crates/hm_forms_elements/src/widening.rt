@@ -10,13 +10,13 @@ ghost use Rattle.hm_lane.specs.Lanes.{modulus};
 ghost use Rattle.hm_kinds.specs.Row.{row_tree};
 ghost use Rattle.hm_forms_elements.specs.Forms.{widened, long_lanes, widening_row, widening_word};
 
-use crate::wide::{extended_long, picked};
+use crate::wide::picked;
 use hm_base::{Places, note};
 use hm_beat::Touch;
 use hm_isa::QRegister;
 use hm_kinds::{Shape, Written, active, finish_row, read, touch_row};
 use hm_lane::{Size, bytes};
-use hm_lane_fns::{merge, word_at};
+use hm_lane_fns::{extended_long, merge, word_at};
 use hm_regs::Regs;
 
 /// Elements made longer and shifted.

@@ -17,7 +17,7 @@ use Rattle.hm_lane_fns.specs.Words.{bit_of, both, filled, nibble, operand_places
 use Rattle.hm_forms_predicate.specs.declared.compare.Comparison.{Comparison}
 use Rattle.hm_forms_predicate.specs.Forms.{block_mask, compare_row, compare_slice, compares, count_row, count_slice, counted, invert_row, negated, slice_row}
 use Rattle.hm_forms_predicate.specs.Predicates.{compare_result, count_result, invert_result, mask_after, predicate_whole, turned_half}
-use Rattle.hm_forms_elements.proofs.Lanewise.{four, operand_at, operand_four, operand_is, quad}
+use Rattle.hm_lane_fns.proofs.Lanewise.{four, operand_at, operand_four, operand_is, quad}
 
 -- FOUR SLICES
 -- word b gets a slice, which is inverted where the mask of its half is greater than 8; after each half its mask gets a new one, or shifts

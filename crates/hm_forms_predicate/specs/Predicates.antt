@@ -12,7 +12,7 @@ use Rattle.hm_beat.specs.Rows.{predicate_at, retired}
 use Rattle.hm_lane_fns.specs.Words.{both, filled, nibble, truths}
 use Rattle.hm_forms_predicate.specs.declared.compare.Comparison.{Comparison}
 use Rattle.hm_forms_predicate.specs.Forms.{compares, negated}
-use Rattle.hm_forms_elements.specs.Registers.{elements, operand_register}
+use Rattle.hm_lane_fns.specs.Registers.{elements, operand_register}
 
 -- the truth values of a half, inverted where its mask is greater than 8
 abbrev pub turned_half : ℕ → List Bool → List Bool

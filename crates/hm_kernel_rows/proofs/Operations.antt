@@ -8,7 +8,8 @@ use Rattle.hm_base.specs.declared.Place.TheVariants.{R}
 use Rattle.hm_beat.specs.Rows.{predicate_at, register_at}
 use Rattle.hm_codes.specs.Listing.{Listing}
 use Rattle.hm_forms_elements.specs.declared.lanes.Lanes.{Lanes}
-use Rattle.hm_forms_elements.specs.Registers.{in_each_lane, lanes_result, lanes_saturated, lanes_whole, operand_register, repeated}
+use Rattle.hm_lane_fns.specs.Registers.{in_each_lane, operand_register, repeated}
+use Rattle.hm_forms_elements.specs.Registers.{lanes_result, lanes_saturated, lanes_whole}
 use Rattle.hm_isa.specs.declared.Instr.{Instr}
 use Rattle.hm_isa.specs.declared.Instr.TheVariants as instr
 use Rattle.hm_isa.specs.declared.Vector.TheVariants as vector

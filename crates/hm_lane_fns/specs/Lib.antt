@@ -1,2 +1,3 @@
 pub mod LaneFns
 pub mod Words
+pub mod Registers

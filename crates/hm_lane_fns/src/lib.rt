@@ -1,12 +1,12 @@
-//! Functions of lanes, and words of vector registers as rows take and give them.
+//! Functions of lanes, and words and registers as rows take and give them.
 #![tactic(auto)]
 
 mod functions;
 mod words;
 
 pub use functions::{
-    LaneFn, bit_count, clamped, cut, half, halved, is_outside, lane, lane_saturates, lane_value,
-    saturates,
+    LaneFn, bit_count, clamped, cut, extended_long, half, halved, is_outside, lane, lane_saturates,
+    lane_value, saturates,
 };
 pub use words::{
     Operand, any_both, both, element_size, lanes_saturate, lanes_word, merge, nibble, note_operand,
