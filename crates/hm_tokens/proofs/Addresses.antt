@@ -1,7 +1,7 @@
 -- A text with an address for its last operand has the tokens that it was printed from, and the address for a number.
 use Rattle.std.proofs.Common.{◌≡◌, ℕ, ◌+◌, ◌-◌, ◌*◌, ◌/◌, ◌%◌, ◌^◌, ◌<◌, ◌≤◌, min, Bool, true, false, eqb, List, [], ◌∷◌, ◌++◌, length, drop, Some, refl, ap}
 use Rattle.std.proofs.Common.{subst, ◌∙◌, append_assoc, arith}
-use Rattle.std.specs.Prelude.{◌&&◌, ◌||◌}
+use Rattle.std.specs.Prelude.{◌||◌}
 use Rattle.std.specs.List.{list_all}
 use Rattle.std.proofs.lemmas.Bool.{and_parts}
 use Rattle.std.proofs.lemmas.Bool.Decides.{nat_tests}
@@ -12,7 +12,7 @@ use Rattle.hm_text_base.proofs.Steps.{and_then_some, some_is, test_some}
 use Rattle.hm_text_base.proofs.NumberLaws.{hex8_again}
 use Rattle.hm_tokens.specs.declared.token.Class.TheVariants as classes
 use Rattle.hm_tokens.specs.Tokens.{Tok, word, number, mark, is_in, run, digit, value, skip, spell, token_at, comma}
-use Rattle.hm_tokens.specs.Lines.{AreTokensOf, IsLineOf, address, gap, is_word, printed, printed_at, spelled, spelled_behind}
+use Rattle.hm_tokens.specs.Lines.{AreTokensOf, IsLineOf, address, gap, is_word, printed_at, spelled, spelled_behind}
 use Rattle.hm_tokens.proofs.Again.{AreTokens, IsToken, MayFollow, Parts, apart, are_apart, follows, from_mark, is_mark_token, no_space, or_true, run_front}
 use Rattle.hm_tokens.proofs.Again.{skip_gap, space_follows, token_front}
 

@@ -1,5 +1,5 @@
 -- Where a space stands before an address.
-use Rattle.std.proofs.Common.{◌≡◌, ℕ, ◌+◌, ◌<◌, ◌≤◌, List, [], ◌∷◌, ◌++◌, length, map, refl, sym, append_assoc, arith}
+use Rattle.std.proofs.Common.{◌≡◌, ℕ, ◌+◌, ◌<◌, List, [], ◌∷◌, ◌++◌, length, map, refl, sym, append_assoc, arith}
 use Rattle.std.proofs.lemmas.List.{length-append}
 use Rattle.hm_tokens.specs.declared.text.Part.{Part}
 use Rattle.hm_tokens.specs.Lines.{address, printed, printed_at}

@@ -1,4 +1,4 @@
--- The names of registers and conditions, in the order of their numbers.
+-- The names of registers, halves of vector registers and conditions, in the order of their numbers.
 use Rattle.std.specs.Prelude.{ℕ, ◌+◌, Bool, true, false, List, [], ◌∷◌, get_or, codes, Option, Some, None, bytes_eq, ◌==◌, nat_le, ◌&&◌, ◌||◌, not}
 use Rattle.std.specs.Prelude.{if◌then◌else◌}
 
@@ -11,6 +11,12 @@ register_names =
 -- the names of the vector registers, from 0 to 7
 abbrev pub vector_names : List (List ℕ)
 vector_names = codes "q0" ∷ codes "q1" ∷ codes "q2" ∷ codes "q3" ∷ codes "q4" ∷ codes "q5" ∷ codes "q6" ∷ codes "q7" ∷ []
+
+-- the names of the halves of vector registers, from 0 to 15, as lists of `vpush` and `vpop` have them
+abbrev pub double_names : List (List ℕ)
+double_names =
+    codes "d0" ∷ codes "d1" ∷ codes "d2" ∷ codes "d3" ∷ codes "d4" ∷ codes "d5" ∷ codes "d6" ∷ codes "d7"
+    ∷ codes "d8" ∷ codes "d9" ∷ codes "d10" ∷ codes "d11" ∷ codes "d12" ∷ codes "d13" ∷ codes "d14" ∷ codes "d15" ∷ []
 
 -- the names of the conditions, from 0 to 13, without `al`
 abbrev pub condition_names : List (List ℕ)
@@ -25,6 +31,10 @@ register_name n = get_or register_names n []
 -- the name of a vector register, by its number
 abbrev pub vector_name : ℕ → List ℕ
 vector_name n = get_or vector_names n []
+
+-- the name of a half of a vector register, by its number
+abbrev pub double_name : ℕ → List ℕ
+double_name n = get_or double_names n []
 
 -- the name of a condition, by its number
 abbrev pub condition_name : ℕ → List ℕ
@@ -42,6 +52,10 @@ register_in name = number_of 0 name register_names
 -- the number of the vector register that has this name, if there is one
 abbrev pub vector_in : List ℕ → Option ℕ
 vector_in name = number_of 0 name vector_names
+
+-- the number of the half of a vector register that has this name, if there is one
+abbrev pub double_in : List ℕ → Option ℕ
+double_in name = number_of 0 name double_names
 
 -- the number of the condition that has this name, if there is one
 abbrev pub condition_in : List ℕ → Option ℕ
@@ -67,18 +81,14 @@ abbrev pub is_number_given : Option ℕ → Bool
 is_number_given (Some n) = true
 is_number_given None = false
 
--- the halves of vector registers, as lists of `vpush` and `vpop` have them
-abbrev pub is_half : List ℕ → Bool
-is_half name =
-    bytes_eq name (codes "d0") || bytes_eq name (codes "d1") || bytes_eq name (codes "d2") || bytes_eq name (codes "d3")
-    || bytes_eq name (codes "d4") || bytes_eq name (codes "d5") || bytes_eq name (codes "d6") || bytes_eq name (codes "d7")
-    || bytes_eq name (codes "d8") || bytes_eq name (codes "d9") || bytes_eq name (codes "d10") || bytes_eq name (codes "d11")
-    || bytes_eq name (codes "d12") || bytes_eq name (codes "d13") || bytes_eq name (codes "d14") || bytes_eq name (codes "d15")
+-- whether a name is that of a half of a vector register
+abbrev pub is_double : List ℕ → Bool
+is_double name = is_number_given (double_in name)
 
 -- names of registers and conditions, which no label has
 abbrev pub is_reserved : List ℕ → Bool
 is_reserved name =
-    is_number_given (register_in name) || is_number_given (vector_in name) || is_number_given (condition_in name) || is_half name
+    is_number_given (register_in name) || is_number_given (vector_in name) || is_number_given (condition_in name) || is_double name
     || bytes_eq name (codes "al") || bytes_eq name (codes "zr") || bytes_eq name (codes "apsr")
 
 -- a name that a label may have

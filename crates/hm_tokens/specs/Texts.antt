@@ -4,14 +4,13 @@ use Rattle.std.specs.List.{starts_with}
 use Rattle.hm_tokens.specs.declared.text.Part.{Part}
 use Rattle.hm_tokens.specs.declared.text.Part.TheVariants as parts
 use Rattle.hm_tokens.specs.declared.text.InstrText.{InstrText}
-use Rattle.hm_tokens.specs.Marks.{mark_byte}
-use Rattle.hm_tokens.specs.Tokens.{Tok, word, number, mark}
+use Rattle.hm_tokens.specs.Tokens.{Tok, word, number, mark_token}
 
 -- the token that a part of an operand is printed as
 abbrev pub part_token : Part → Tok
 part_token (parts.Word w) = word w.now
 part_token (parts.Number n) = number n
-part_token (parts.Mark m) = mark (mark_byte m)
+part_token (parts.Mark m) = mark_token m
 
 -- the first word: a mnemonic, letters behind it, and a suffix
 abbrev pub first_word_of : InstrText → List ℕ

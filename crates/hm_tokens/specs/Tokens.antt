@@ -2,6 +2,7 @@
 use Rattle.std.specs.Prelude.{ℕ, Bool, false, ◌+◌, ◌-◌, ◌*◌, min, List, [], ◌∷◌, length, slice_index, drop, decimal, Option, Some, None, ◌==◌, nat_le, nat_lt}
 use Rattle.std.specs.Prelude.{◌&&◌, ◌||◌, if◌then◌else◌}
 use Rattle.hm_tokens.specs.declared.marks.Mark.{Mark}
+use Rattle.hm_tokens.specs.declared.marks.Mark.TheVariants as marks
 use Rattle.hm_tokens.specs.Marks.{is_mark, mark_byte}
 use Rattle.hm_tokens.specs.declared.token.Token.{Token}
 use Rattle.hm_tokens.specs.declared.token.Token.TheVariants as tokens
@@ -14,41 +15,45 @@ pub data Tok : Type 0 where
   number : ℕ → Tok
   mark : ℕ → Tok
 
+-- the token of a mark
+abbrev pub mark_token : Mark → Tok
+mark_token m = mark (mark_byte m)
+
 -- between two operands
 abbrev pub comma : Tok
-comma = mark 44
+comma = mark_token marks.Comma
 
 -- before the base of an address
 abbrev pub open_bracket : Tok
-open_bracket = mark 91
+open_bracket = mark_token marks.OpenBracket
 
 -- behind the offset of an address
 abbrev pub close_bracket : Tok
-close_bracket = mark 93
+close_bracket = mark_token marks.CloseBracket
 
 -- before a list of registers
 abbrev pub open_brace : Tok
-open_brace = mark 123
+open_brace = mark_token marks.OpenBrace
 
 -- behind a list of registers
 abbrev pub close_brace : Tok
-close_brace = mark 125
+close_brace = mark_token marks.CloseBrace
 
 -- behind a base that is written back
 abbrev pub bang : Tok
-bang = mark 33
+bang = mark_token marks.Bang
 
 -- before a constant
 abbrev pub hash_mark : Tok
-hash_mark = mark 35
+hash_mark = mark_token marks.Hash
 
 -- before what is added to a label
 abbrev pub plus_mark : Tok
-plus_mark = mark 43
+plus_mark = mark_token marks.Plus
 
 -- before a number that is taken away, and inside a range of registers
 abbrev pub minus_mark : Tok
-minus_mark = mark 45
+minus_mark = mark_token marks.Minus
 
 -- whether a token is this mark
 abbrev pub is_the_mark : Mark → Tok → Bool
@@ -60,12 +65,16 @@ is_the_mark m (mark c) = c == mark_byte m
 abbrev pub tok : Token → Tok
 tok (tokens.Word w) = word w.now
 tok (tokens.Number n) = number n
-tok (tokens.Mark m) = mark (mark_byte m)
+tok (tokens.Mark m) = mark_token m
 
 -- BYTES
 -- the space
 abbrev pub space : ℕ
 space = 32
+
+-- the point, with which the suffix of a first word begins
+abbrev pub point : ℕ
+point = 46
 
 -- whether a byte is one of 0 to 9
 abbrev pub is_digit : ℕ → Bool
@@ -73,7 +82,7 @@ is_digit c = nat_le 48 c && nat_le c 57
 
 -- whether a byte is of a class: those of words, of decimal or of hexadecimal numbers, or the space
 abbrev pub is_in : Class → ℕ → Bool
-is_in classes.Word c = (nat_le 97 c && nat_le c 122) || (is_digit c || ((c == 95) || (c == 46)))
+is_in classes.Word c = (nat_le 97 c && nat_le c 122) || (is_digit c || ((c == 95) || (c == point)))
 is_in classes.Decimal c = is_digit c
 is_in classes.Hex c = is_digit c || (nat_le 97 c && nat_le c 102)
 is_in classes.Space c = c == space

@@ -12,8 +12,8 @@ pub use line::{Tokens, read_tokens};
 pub use lists::single_registers;
 pub use marks::Mark;
 pub use names::{
-    condition_name, is_label_name, read_condition, read_register, read_vector, register_name,
-    vector_name,
+    condition_name, double_name, is_label_name, read_condition, read_double, read_register,
+    read_vector, register_name, vector_name,
 };
 pub use text::{InstrText, Part};
 pub use token::{Token, skip, token_at};

@@ -1,8 +1,8 @@
-//! The names of registers and conditions.
+//! The names of registers, halves of vector registers and conditions.
 
 ghost use Rattle.std.specs.Prelude.{◌≡◌, ◌<◌, ◌≤◌, length, IfSome};
-ghost use Rattle.hm_tokens.specs.Names.{are_name_bytes, condition_in, condition_name, is_half, is_label_name, is_letter, is_name, is_reserved, register_in};
-ghost use Rattle.hm_tokens.specs.Names.{register_name, vector_in, vector_name};
+ghost use Rattle.hm_tokens.specs.Names.{are_name_bytes, condition_in, condition_name, double_in, double_name, is_double, is_label_name, is_letter, is_name};
+ghost use Rattle.hm_tokens.specs.Names.{is_reserved, register_in, register_name, vector_in, vector_name};
 
 /// The name of a core register: `r0` to `r12`, `sp`, `lr`, `pc`.
 pub fn register_name(n: u32) -> &'static str
@@ -45,6 +45,31 @@ pub fn vector_name(n: u32) -> &'static str
         5 => "q5",
         6 => "q6",
         _ => "q7",
+    }
+}
+
+/// The name of a half of a vector register: `d0` to `d15`.
+pub fn double_name(n: u32) -> &'static str
+    requires { n < 16 }
+    ensures text { result.now ≡ double_name n }
+{
+    match n {
+        0 => "d0",
+        1 => "d1",
+        2 => "d2",
+        3 => "d3",
+        4 => "d4",
+        5 => "d5",
+        6 => "d6",
+        7 => "d7",
+        8 => "d8",
+        9 => "d9",
+        10 => "d10",
+        11 => "d11",
+        12 => "d12",
+        13 => "d13",
+        14 => "d14",
+        _ => "d15",
     }
 }
 
@@ -116,6 +141,31 @@ pub fn read_vector(name: &[u8]) -> Option<u32>
     }
 }
 
+/// The number of the half of a vector register that has this name.
+pub fn read_double(name: &[u8]) -> Option<u32>
+    ensures value { result ≡ double_in name.now }
+{
+    match name {
+        b"d0" => Some(0),
+        b"d1" => Some(1),
+        b"d2" => Some(2),
+        b"d3" => Some(3),
+        b"d4" => Some(4),
+        b"d5" => Some(5),
+        b"d6" => Some(6),
+        b"d7" => Some(7),
+        b"d8" => Some(8),
+        b"d9" => Some(9),
+        b"d10" => Some(10),
+        b"d11" => Some(11),
+        b"d12" => Some(12),
+        b"d13" => Some(13),
+        b"d14" => Some(14),
+        b"d15" => Some(15),
+        _ => None,
+    }
+}
+
 /// The number of the condition that has this name.
 pub fn read_condition(name: &[u8]) -> Option<u32>
     ensures value { result ≡ condition_in name.now }
@@ -171,29 +221,11 @@ fn is_name(word: &[u8]) -> bool
     }
 }
 
-/// Whether a name is that of a half of a vector register, as lists of `vpush` and `vpop` have them.
-fn is_half(name: &[u8]) -> bool
-    ensures value { result ≡ is_half name.now }
+/// Whether a name is that of a half of a vector register.
+fn is_double(name: &[u8]) -> bool
+    ensures value { result ≡ is_double name.now }
 {
-    matches!(
-        name,
-        b"d0"
-            | b"d1"
-            | b"d2"
-            | b"d3"
-            | b"d4"
-            | b"d5"
-            | b"d6"
-            | b"d7"
-            | b"d8"
-            | b"d9"
-            | b"d10"
-            | b"d11"
-            | b"d12"
-            | b"d13"
-            | b"d14"
-            | b"d15"
-    )
+    read_double(name).is_some()
 }
 
 /// Whether a name is that of a register or a condition.
@@ -209,7 +241,7 @@ fn is_reserved(name: &[u8]) -> bool
     if read_condition(name).is_some() {
         return true;
     }
-    if is_half(name) {
+    if is_double(name) {
         return true;
     }
     matches!(name, b"al" | b"zr" | b"apsr")
