@@ -55,17 +55,17 @@ label_accepted form ((a, word) ∷ ts) e = (refl, first_word_accepted form ts e)
 label_accepted form ((a, number) ∷ ts) e = absurd (false≢true e)
 label_accepted form ((a, mark m) ∷ ts) e = absurd (false≢true e)
 
-first_accepted : (form : Form) (a : Bool) (ts : List Spaced) → accepts form states.First ts ≡ true → IsForm form ((a, word) ∷ ts)
-first_accepted forms.Instruction a [] e = (refl, tt)
-first_accepted forms.Instruction a (t ∷ ts) e = (refl, first_word_accepted forms.Instruction (t ∷ ts) e)
-first_accepted forms.Line a [] e = inl (refl, tt)
-first_accepted forms.Line a ((b, mark Colon) ∷ ts) e = inr (refl, refl, label_accepted forms.Line ts e)
-first_accepted forms.Line a ((b, k) ∷ ts) e = inl (refl, first_word_accepted forms.Line ((b, k) ∷ ts) e)
+label_or_word_accepted : (form : Form) (a : Bool) (ts : List Spaced) → accepts form states.LabelOrWord ts ≡ true → IsForm form ((a, word) ∷ ts)
+label_or_word_accepted forms.Instruction a [] e = (refl, tt)
+label_or_word_accepted forms.Instruction a (t ∷ ts) e = (refl, first_word_accepted forms.Instruction (t ∷ ts) e)
+label_or_word_accepted forms.Line a [] e = inl (refl, tt)
+label_or_word_accepted forms.Line a ((b, mark Colon) ∷ ts) e = inr (refl, refl, label_accepted forms.Line ts e)
+label_or_word_accepted forms.Line a ((b, k) ∷ ts) e = inl (refl, first_word_accepted forms.Line ((b, k) ∷ ts) e)
 
 start_accepted : (form : Form) (ts : List Spaced) → accepts form states.Start ts ≡ true → IsForm form ts
 start_accepted forms.Instruction [] e = absurd (false≢true e)
 start_accepted forms.Line [] e = inl tt
-start_accepted form ((a, word) ∷ ts) e = first_accepted form a ts e
+start_accepted form ((a, word) ∷ ts) e = label_or_word_accepted form a ts e
 start_accepted form ((a, number) ∷ ts) e = absurd (false≢true e)
 start_accepted form ((a, mark m) ∷ ts) e = absurd (false≢true e)
 
@@ -76,15 +76,15 @@ first_word_of form [] x = refl
 first_word_of form ((true, k) ∷ ts) x = begun form k ts ∙ ap (takes (ops.Operand Outside)) x.3 ∙ operands_read x.1 x.2
 first_word_of form ((false, k) ∷ ts) x = absurd (false≢true x.0)
 
-first_of_form : (form : Form) (ts : List Spaced) → AreOperands ts → accepts form states.First ts ≡ true
-first_of_form form [] x = refl
-first_of_form forms.Line ((true, mark Colon) ∷ ts) x = absurd (false≢true (first_word_of forms.Line ((true, mark Colon) ∷ ts) x))
-first_of_form forms.Line ((false, mark Colon) ∷ ts) x = absurd (false≢true x.0)
-first_of_form form ((a, k) ∷ ts) x = first_word_of form ((a, k) ∷ ts) x
+label_or_word_of_form : (form : Form) (ts : List Spaced) → AreOperands ts → accepts form states.LabelOrWord ts ≡ true
+label_or_word_of_form form [] x = refl
+label_or_word_of_form forms.Line ((true, mark Colon) ∷ ts) x = absurd (false≢true (first_word_of forms.Line ((true, mark Colon) ∷ ts) x))
+label_or_word_of_form forms.Line ((false, mark Colon) ∷ ts) x = absurd (false≢true x.0)
+label_or_word_of_form form ((a, k) ∷ ts) x = first_word_of form ((a, k) ∷ ts) x
 
 instruction_of : (form : Form) (ts : List Spaced) → IsInstruction ts → accepts form states.Start ts ≡ true
 instruction_of form [] x = absurd x
-instruction_of form ((a, k) ∷ ts) x = rw x.0 (first_of_form form ts x.1)
+instruction_of form ((a, k) ∷ ts) x = rw x.0 (label_or_word_of_form form ts x.1)
 
 optional_of : (ts : List Spaced) → IsOptional ts → accepts forms.Line states.Start ts ≡ true
 optional_of [] x = refl
@@ -153,14 +153,14 @@ kinds_spaced (k ∷ ks) = ap (λ (x : List Kind). k ∷ x) (kinds_spaced ks)
 
 abbrev state_completion : State → List Spaced
 state_completion states.Start = (true, word) ∷ []
-state_completion states.First = []
+state_completion states.LabelOrWord = []
 state_completion states.Label = []
 state_completion states.FirstWord = []
 state_completion (states.Operands n) = spaced (completion n)
 
 state_completed : (form : Form) (s : State) → accepts form s (state_completion s) ≡ true
 state_completed form states.Start = refl
-state_completed form states.First = refl
+state_completed form states.LabelOrWord = refl
 state_completed form states.Label = refl
 state_completed form states.FirstWord = refl
 state_completed form (states.Operands n) = operands_accepted form (spaced (completion n)) n ∙ ap (takes n) (kinds_spaced (completion n)) ∙ completed n

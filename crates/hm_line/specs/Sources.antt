@@ -8,9 +8,13 @@ use Rattle.hm_line.specs.declared.form.Form.TheVariants as forms
 use Rattle.hm_tokens.specs.Names.{is_label_name}
 use Rattle.hm_line.specs.Texts.{IsOfForm, IsRefused, column}
 
+-- `@`, with which a comment begins
+abbrev pub comment_sign : ℕ
+comment_sign = 64
+
 -- a line up to its comment, which begins with the first `@`
 abbrev pub before_comment : List ℕ → List ℕ
-before_comment line = (span 64 line).0
+before_comment line = (span comment_sign line).0
 
 -- a word at the front, and what stands behind it
 abbrev pub word_with : Tok → List ℕ → Option (List ℕ × List ℕ)

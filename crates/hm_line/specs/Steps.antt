@@ -104,14 +104,14 @@ behind_first_word true k = option_map states.Operands (first_operand Outside k)
 behind_first_word false k = None
 
 -- what a token behind the first word of a line leads to: in a line of a source, a `:` makes that word a label
-abbrev pub behind_first : Form → Bool → Kind → Option State
-behind_first forms.Line apart (mark Colon) = Some states.Label
-behind_first form apart k = behind_first_word apart k
+abbrev pub behind_label_or_word : Form → Bool → Kind → Option State
+behind_label_or_word forms.Line apart (mark Colon) = Some states.Label
+behind_label_or_word form apart k = behind_first_word apart k
 
 -- what a token of a line leads to, by what was read last of it; None where it may not stand there
 abbrev pub line_step : Form → State → Bool → Kind → Option State
-line_step form states.Start apart k = if is_word k then Some states.First else None
-line_step form states.First apart k = behind_first form apart k
+line_step form states.Start apart k = if is_word k then Some states.LabelOrWord else None
+line_step form states.LabelOrWord apart k = behind_label_or_word form apart k
 line_step form states.Label apart k = if is_word k then Some states.FirstWord else None
 line_step form states.FirstWord apart k = behind_first_word apart k
 line_step form (states.Operands last) apart k = option_map states.Operands (operand_step last k)
@@ -124,7 +124,7 @@ may_be_empty forms.Line = true
 -- whether a text of the form may end behind what was read last of it
 abbrev pub is_line_end : Form → State → Bool
 is_line_end form states.Start = may_be_empty form
-is_line_end form states.First = true
+is_line_end form states.LabelOrWord = true
 is_line_end form states.Label = true
 is_line_end form states.FirstWord = true
 is_line_end form (states.Operands last) = is_operand_end last

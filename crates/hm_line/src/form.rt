@@ -2,8 +2,8 @@
 
 ghost use Rattle.std.specs.Prelude.{◌≡◌, if◌then◌else◌};
 ghost use Rattle.hm_line.specs.Kinds.{kind};
-ghost use Rattle.hm_line.specs.Steps.{behind_address, behind_first, behind_first_word, behind_hash, behind_item, behind_item_word, behind_lane, behind_operand};
-ghost use Rattle.hm_line.specs.Steps.{behind_word, first_operand, is_line_end, is_number, is_word, line_step, operand_step};
+ghost use Rattle.hm_line.specs.Steps.{behind_address, behind_first_word, behind_hash, behind_item, behind_item_word, behind_label_or_word, behind_lane};
+ghost use Rattle.hm_line.specs.Steps.{behind_operand, behind_word, first_operand, is_line_end, is_number, is_word, line_step, operand_step};
 ghost use Rattle.hm_tokens.specs.Tokens.{tok};
 
 use hm_tokens::{Mark, Token};
@@ -59,7 +59,7 @@ pub enum State {
     /// Nothing.
     Start,
     /// The first word of a line: that of an instruction or directive, or a label where `:` follows.
-    First,
+    LabelOrWord,
     /// A label with its `:`.
     Label,
     /// The first word of an instruction or directive, behind a label.
@@ -229,8 +229,8 @@ fn behind_first_word(apart: bool, token: Token<'_>) -> Option<State>
 }
 
 /// What a token behind the first word of a line leads to.
-fn behind_first(form: Form, apart: bool, token: Token<'_>) -> Option<State>
-    ensures { result ≡ behind_first form apart (kind (tok token.entry)) }
+fn behind_label_or_word(form: Form, apart: bool, token: Token<'_>) -> Option<State>
+    ensures { result ≡ behind_label_or_word form apart (kind (tok token.entry)) }
 {
     match token {
         Token::Mark(Mark::Colon) => match form {
@@ -246,8 +246,8 @@ pub fn step(form: Form, state: State, apart: bool, token: Token<'_>) -> Option<S
     ensures { result ≡ line_step form state apart (kind (tok token.entry)) }
 {
     match state {
-        State::Start => only_if(is_word(token), State::First),
-        State::First => behind_first(form, apart, token),
+        State::Start => only_if(is_word(token), State::LabelOrWord),
+        State::LabelOrWord => behind_label_or_word(form, apart, token),
         State::Label => only_if(is_word(token), State::FirstWord),
         State::FirstWord => behind_first_word(apart, token),
         State::Operands(last) => match operand_step(last, token) {
@@ -263,7 +263,7 @@ pub fn is_end(form: Form, state: State) -> bool
 {
     match state {
         State::Start => matches!(form, Form::Line),
-        State::First | State::Label | State::FirstWord => true,
+        State::LabelOrWord | State::Label | State::FirstWord => true,
         State::Operands(last) => matches!(
             last,
             Operands::Word(Depth::Outside) | Operands::Done(Depth::Outside) | Operands::Address
