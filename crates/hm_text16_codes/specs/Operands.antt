@@ -1,8 +1,8 @@
 -- What a text gives numbers for, read carelessly: nothing is refused, since the row that is found is asked for its text.
-use Rattle.std.specs.Prelude.{ℕ, min, List, codes, bytes_eq, if◌then◌else◌}
+use Rattle.std.specs.Prelude.{ℕ, List, codes, bytes_eq, if◌then◌else◌}
 use Rattle.hm_tokens.specs.Names.{condition_in, register_in}
 use Rattle.hm_tokens.specs.Tokens.{Tok, word, number, mark}
-use Rattle.hm_text_rows.specs.Operands.{bits_of, braced, given_or, operand}
+use Rattle.hm_text_rows.specs.Operands.{bits_of, braced, given_or, operand, value_by}
 use Rattle.hm_text16_codes.specs.declared.operands.Kind.{Kind}
 use Rattle.hm_text16_codes.specs.declared.operands.Kind.TheVariants as kinds
 use Rattle.hm_text16_codes.specs.declared.operands.Operands.{Operands}
@@ -11,11 +11,9 @@ use Rattle.hm_text16_codes.specs.declared.operands.Operands.{Operands}
 unfoldable pub word_value : List ℕ → ℕ
 word_value w = given_or (register_in w) (given_or (condition_in w) (if bytes_eq w (codes "al") then 14 else 0))
 
--- the number that a token stands for: a word's, or a number itself, at most 2^32 - 1; 0 of a mark
+-- the number that a token stands for
 abbrev pub value : Tok → ℕ
-value (word w) = word_value w
-value (number n) = min n 0xffff_ffff
-value (mark c) = 0
+value = value_by word_value
 
 -- what a token is as an operand: a word or a number, and a mark where the operand is missing
 abbrev pub kind_of : Tok → Kind

@@ -37,7 +37,7 @@ use Rattle.hm_isa.specs.JumpCodes.{code_dls, code_dlstp, code_t17, table_base}
 use Rattle.hm_isa.specs.SystemCodes.{barrier_base, code_barrier, code_mrs, code_msr, code_t21, code_t22, lane_move_base, read_base, system_move_base}
 use Rattle.hm_isa.specs.SystemCodes.{written_base}
 use Rattle.hm_isa.specs.Standing.{◌↑◌}
-use Rattle.hm_tokens.specs.Names.{register_in, register_name}
+use Rattle.hm_tokens.specs.Names.{double_name, register_in, register_name}
 use Rattle.hm_tokens.specs.Ranges.{singles}
 use Rattle.hm_tokens.specs.Tokens.{number, word, close_brace, close_bracket, comma, hash_mark, minus_mark, open_brace, open_bracket}
 use Rattle.hm_text32_codes.specs.declared.operands.Operands.{Operands}
@@ -45,7 +45,7 @@ use Rattle.hm_text32_codes.specs.Codes.{code_of}
 use Rattle.hm_text32_codes.specs.Operands.{word_value}
 use Rattle.hm_text_rows.specs.Operands.{is_vector_name}
 use Rattle.hm_text32_rows.specs.Rows.{barrier_tokens, doubles, lane_tokens, special_tokens, system_tokens, table_tokens}
-use Rattle.hm_text32_rows.specs.Mnemonics.{barrier_mnemonic, double_name, element_suffix, read_name, stack_mnemonic, wide, written_name}
+use Rattle.hm_text32_rows.specs.Mnemonics.{barrier_mnemonic, element_suffix, read_name, stack_mnemonic, wide, written_name}
 use Rattle.hm_text_rows.specs.Shapes.{constant, r, two}
 use Rattle.hm_text_rows.proofs.Words.{at_below, below_holds, below_is, cut, is_name, is_mnemonic}
 use Rattle.hm_text_rows.proofs.Printed.{is_printed, is_printed_as, short_close, short_close_brace, short_comma, short_hash, short_minus, short_number}

@@ -4,7 +4,7 @@ use Rattle.std.specs.Prelude.{nat_lt, ◌==◌, if◌then◌else◌}
 use Rattle.hm_isa.specs.Distances.{alike}
 use Rattle.hm_isa.specs.Standing.{◌↑◌}
 use Rattle.hm_text_base.specs.Spans.{span}
-use Rattle.hm_tokens.specs.Tokens.{Tok, word, number, mark}
+use Rattle.hm_tokens.specs.Tokens.{Tok, word, number, mark, point}
 use Rattle.hm_text_rows.specs.Labels.{distance}
 use Rattle.hm_text_rows.specs.Operands.{bits_of, braced, branch_condition_in, first, operand, size_of}
 use Rattle.hm_text32_codes.specs.declared.operands.Operands.{Operands}
@@ -216,10 +216,10 @@ code_of s o = first (code_shifted s o) (first (code_of_arith s o) (first (code_o
 abbrev pub code_cut : List ℕ × List ℕ → List Tok → Option ℕ
 code_cut parts ts = code_of parts.0 (read_operands parts.1 ts)
 
--- the mnemonic is cut at its point
+-- the code of a row that has no label and neither loads nor stores, by the first word, cut at its point, and what is behind it; None where no row fits
 abbrev pub plain_code_in : List Tok → Option ℕ
 plain_code_in [] = None
-plain_code_in (word name ∷ ts) = code_cut (span 46 name) ts
+plain_code_in (word name ∷ ts) = code_cut (span point name) ts
 plain_code_in (number n ∷ ts) = None
 plain_code_in (mark c ∷ ts) = None
 
@@ -266,7 +266,7 @@ code_of_memory s ts = first (code_access s (read_places ts)) (first (code_pair s
 -- the code of a row T12 to T14 that tokens ask for; None where no row fits
 abbrev pub memory_code_in : List Tok → Option ℕ
 memory_code_in [] = None
-memory_code_in (word name ∷ ts) = code_of_memory (span 46 name).0 ts
+memory_code_in (word name ∷ ts) = code_of_memory (span point name).0 ts
 memory_code_in (number n ∷ ts) = None
 memory_code_in (mark c ∷ ts) = None
 
@@ -317,7 +317,7 @@ code_of_label s suffix ts pc a = first (code_conditional s pc a) (first (code_al
 -- the code of a row with a label that tokens ask for at pc, where the label names the address a; None where no row fits
 abbrev pub label_code_in : List Tok → ℕ → ℕ → Option ℕ
 label_code_in [] pc a = None
-label_code_in (word name ∷ ts) pc a = code_of_label (span 46 name).0 (span 46 name).1 ts pc a
+label_code_in (word name ∷ ts) pc a = code_of_label (span point name).0 (span point name).1 ts pc a
 label_code_in (number n ∷ ts) pc a = None
 label_code_in (mark c ∷ ts) pc a = None
 

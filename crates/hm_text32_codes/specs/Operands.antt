@@ -1,10 +1,9 @@
 -- What a text gives numbers for, read carelessly: nothing is refused, since the row that is found is asked for its text.
-use Rattle.std.specs.Prelude.{ℕ, min, List, [], ◌∷◌, length, codes, bytes_eq, Option, Some, None, ◌==◌, if◌then◌else◌}
+use Rattle.std.specs.Prelude.{ℕ, List, [], ◌∷◌, length, codes, bytes_eq, Option, Some, None, ◌==◌, if◌then◌else◌}
 use Rattle.hm_tokens.specs.declared.marks.Mark.TheVariants as marks
-use Rattle.hm_tokens.specs.Names.{condition_in, register_in, vector_in}
-use Rattle.hm_tokens.specs.Tokens.{Tok, word, number, mark, is_the_mark}
-use Rattle.hm_text_rows.specs.Operands.{added, back_in, before, first_of, given_or, is_number, is_vector, operand, size_of}
-use Rattle.hm_text32_rows.specs.Mnemonics.{double_in}
+use Rattle.hm_tokens.specs.Names.{condition_in, double_in, register_in, vector_in}
+use Rattle.hm_tokens.specs.Tokens.{Tok, is_the_mark}
+use Rattle.hm_text_rows.specs.Operands.{added, back_in, before, first_of, given_or, is_number, is_vector, operand, size_of, value_by}
 use Rattle.hm_text32_codes.specs.declared.operands.Operands.{Operands}
 use Rattle.hm_text32_codes.specs.declared.operands.Places.{Places}
 
@@ -38,11 +37,9 @@ other_value w =
 unfoldable pub word_value : List ℕ → ℕ
 word_value w = given_or (register_in w) (given_or (vector_in w) (given_or (condition_in w) (given_or (double_in w) (given_or (shift_in w) (other_value w)))))
 
--- the number that a token stands for: a word's, or a number itself, at most 2^32 - 1; 0 of a mark
+-- the number that a token stands for
 abbrev pub value : Tok → ℕ
-value (word w) = word_value w
-value (number n) = min n 0xffff_ffff
-value (mark c) = 0
+value = value_by word_value
 
 -- what stands behind a mnemonic, as numbers: the element size, five operands, and which of them are numbers or vectors
 abbrev pub read_operands : List ℕ → List Tok → Operands

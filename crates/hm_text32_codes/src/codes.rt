@@ -10,7 +10,7 @@ ghost use Rattle.hm_text32_codes.specs.Codes.{lane_code, of_three, plain_code_in
 ghost use Rattle.hm_text_rows.specs.Operands.{first};
 ghost use Rattle.hm_text32_codes.specs.Bases.{data_base_in, flagged_base_in};
 ghost use Rattle.hm_text_base.specs.Spans.{span};
-ghost use Rattle.hm_tokens.specs.Tokens.{tok};
+ghost use Rattle.hm_tokens.specs.Tokens.{point, tok};
 
 use crate::bases::{
     accumulate_base_in, barrier_base_in, data_base_in, extend_base_in, extract_base_in,
@@ -481,11 +481,11 @@ fn code_of(mnemonic: &[u8], o: &Operands) -> Option<u64>
     code_of_other(mnemonic, o)
 }
 
-/// The code that a mnemonic and the tokens behind it ask for.
-fn code_named(name: &[u8], tokens: &[Token<'_>]) -> Option<u64>
-    ensures { result ≡ code_cut (span 46 name.now) (map tok tokens.now) }
+/// The code that a first word and the tokens behind it ask for.
+fn code_of_first_word(word: &[u8], tokens: &[Token<'_>]) -> Option<u64>
+    ensures { result ≡ code_cut (span point word.now) (map tok tokens.now) }
 {
-    let (mnemonic, suffix) = span(b'.', name);
+    let (mnemonic, suffix) = span(b'.', word);
     code_of(mnemonic, &read_operands(suffix, tokens))
 }
 
@@ -496,7 +496,7 @@ fn plain_code_in(tokens: &[Token<'_>]) -> Option<u64>
     match tokens {
         [] => None,
         [first, rest @ ..] => match *first {
-            Token::Word(name) => code_named(name, rest),
+            Token::Word(word) => code_of_first_word(word, rest),
             Token::Number(_) | Token::Mark(_) => None,
         },
     }

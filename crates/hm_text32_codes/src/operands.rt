@@ -5,10 +5,9 @@ ghost use Rattle.hm_text32_codes.specs.Operands.{other_value, read_operands, rea
 ghost use Rattle.hm_tokens.specs.Tokens.{tok};
 
 use hm_text_rows::{
-    added, back_in, before, first_of, is, is_mark, is_number, is_vector, operand, size_of,
+    added, back_in, before, first_of, is, is_number, is_the_mark, is_vector, operand, size_of,
 };
-use hm_text32_rows::read_double;
-use hm_tokens::{Mark, Token, read_condition, read_register, read_vector};
+use hm_tokens::{Mark, Token, read_condition, read_double, read_register, read_vector};
 
 /// What stands behind a mnemonic, as numbers.
 #[derive(Clone, Copy)]
@@ -178,7 +177,7 @@ pub fn second_bang(tokens: &[Token<'_>]) -> u32
     match tokens {
         [] => 0,
         [_first, rest @ ..] => {
-            if is_mark(first_of(rest), Mark::Bang) {
+            if is_the_mark(first_of(rest), Mark::Bang) {
                 1
             } else {
                 0

@@ -1,5 +1,5 @@
 -- The mnemonics of rows of two halfwords, but for those whose names rows of one share, and the names that stand for operands.
-use Rattle.std.specs.Prelude.{ℕ, List, [], ◌∷◌, get_or, codes, Option}
+use Rattle.std.specs.Prelude.{ℕ, List, [], ◌∷◌, get_or, codes}
 use Rattle.hm_isa.specs.declared.narrow.SumName.{SumName}
 use Rattle.hm_isa.specs.declared.narrow.SumName.TheVariants as sum_
 use Rattle.hm_isa.specs.declared.arith.AccumulateName.{AccumulateName}
@@ -36,7 +36,6 @@ use Rattle.hm_isa.specs.declared.system.ReadName.{ReadName}
 use Rattle.hm_isa.specs.declared.system.ReadName.TheVariants as read
 use Rattle.hm_isa.specs.declared.system.WrittenName.{WrittenName}
 use Rattle.hm_isa.specs.declared.system.WrittenName.TheVariants as written
-use Rattle.hm_tokens.specs.Names.{number_of}
 use Rattle.hm_text_rows.specs.Shapes.{either}
 
 -- with the point
@@ -202,21 +201,6 @@ wide_branch_suffix wide_branch.Bl = []
 -- T5: how SSAT and USAT shift, LSL or ASR (DDI0553, "SSAT" and "USAT")
 abbrev pub saturate_shift : ℕ → List ℕ
 saturate_shift sh = either sh (codes "lsl") (codes "asr")
-
--- HALVES OF VECTOR REGISTERS, in the order of their numbers
--- the names of the halves, d0 to d15
-abbrev pub double_names : List (List ℕ)
-double_names =
-    codes "d0" ∷ codes "d1" ∷ codes "d2" ∷ codes "d3" ∷ codes "d4" ∷ codes "d5" ∷ codes "d6" ∷ codes "d7"
-    ∷ codes "d8" ∷ codes "d9" ∷ codes "d10" ∷ codes "d11" ∷ codes "d12" ∷ codes "d13" ∷ codes "d14" ∷ codes "d15" ∷ []
-
--- the name of half n, counted from 0
-abbrev pub double_name : ℕ → List ℕ
-double_name n = get_or double_names n []
-
--- the number of the half that a name names; None of another name
-abbrev pub double_in : List ℕ → Option ℕ
-double_in name = number_of 0 name double_names
 
 -- SPECIAL REGISTERS
 -- T18: the name of each special register that MRS reads (DDI0553, "MRS")

@@ -32,14 +32,14 @@ use Rattle.hm_isa.specs.declared.system.SystemMoveName.{SystemMoveName}
 use Rattle.hm_isa.specs.declared.system.SystemMoveName.TheVariants as move
 use Rattle.hm_isa.specs.declared.system.LaneMoveName.{LaneMoveName}
 use Rattle.hm_isa.specs.declared.system.LaneMoveName.TheVariants as lane
-use Rattle.hm_tokens.specs.Names.{condition_name, register_name}
+use Rattle.hm_tokens.specs.Names.{condition_name, double_name, register_name}
 use Rattle.hm_tokens.specs.Tokens.{Tok, word, number, close_brace, close_bracket, comma, minus_mark, open_brace, open_bracket}
 use Rattle.hm_text_rows.specs.Shapes.{and_constant, and_operand, and_shift, back, braces, constant, four, indexed, inside, one, or_zero, q, r, scaled, three}
 use Rattle.hm_text_rows.specs.Shapes.{two}
 use Rattle.hm_isa.specs.Words.{expand_imm_c, imm12}
 use Rattle.hm_text_rows.specs.Mnemonics.{access_mnemonic, extend_mnemonic}
 use Rattle.hm_text32_rows.specs.Mnemonics.{accumulate_mnemonic, barrier_mnemonic, bits_mnemonic, bits_suffix, carry_mnemonic, data_mnemonic}
-use Rattle.hm_text32_rows.specs.Mnemonics.{double_name, element_suffix}
+use Rattle.hm_text32_rows.specs.Mnemonics.{element_suffix}
 use Rattle.hm_text32_rows.specs.Mnemonics.{extract_mnemonic, half_mnemonic, long_mnemonic, move_mnemonic, operation_mnemonic, pair_mnemonic}
 use Rattle.hm_text32_rows.specs.Mnemonics.{read_name, saturate_shift}
 use Rattle.hm_text32_rows.specs.Mnemonics.{saturate_mnemonic, select_mnemonic, shift_mnemonic, stack_mnemonic, test_mnemonic, turn_mnemonic, wide}

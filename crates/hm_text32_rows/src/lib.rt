@@ -7,7 +7,6 @@ mod others;
 mod rows;
 mod targets;
 
-pub use mnemonics::read_double;
 pub use others::other_text;
 pub use rows::row_text;
 pub use targets::{has_label, target};

@@ -1,9 +1,8 @@
 //! The mnemonics of rows of two halfwords, and the names of special registers.
 
-ghost use Rattle.std.specs.Prelude.{◌≡◌, ◌<◌};
+ghost use Rattle.std.specs.Prelude.{◌≡◌};
 ghost use Rattle.hm_text32_rows.specs.Mnemonics.{accumulate_mnemonic, barrier_mnemonic, bits_mnemonic, bits_suffix, carry_mnemonic};
 ghost use Rattle.hm_text32_rows.specs.Mnemonics.{data_mnemonic};
-ghost use Rattle.hm_text32_rows.specs.Mnemonics.{double_in, double_name};
 ghost use Rattle.hm_text32_rows.specs.Mnemonics.{element_suffix, extract_mnemonic, half_mnemonic, long_mnemonic, move_mnemonic};
 ghost use Rattle.hm_text32_rows.specs.Mnemonics.{operation_mnemonic};
 ghost use Rattle.hm_text32_rows.specs.Mnemonics.{pair_mnemonic, read_name};
@@ -208,56 +207,6 @@ pub fn stack_mnemonic(name: StackName) -> &'static str
     match name {
         StackName::Vpush => "vpush",
         StackName::Vpop => "vpop",
-    }
-}
-
-/// The name of a half of a vector register: `d0` to `d15`.
-pub fn double_name(n: u32) -> &'static str
-    requires { n < 16 }
-    ensures { result.now ≡ double_name n }
-{
-    match n {
-        0 => "d0",
-        1 => "d1",
-        2 => "d2",
-        3 => "d3",
-        4 => "d4",
-        5 => "d5",
-        6 => "d6",
-        7 => "d7",
-        8 => "d8",
-        9 => "d9",
-        10 => "d10",
-        11 => "d11",
-        12 => "d12",
-        13 => "d13",
-        14 => "d14",
-        _ => "d15",
-    }
-}
-
-/// The number of the half of a vector register that has this name.
-pub fn read_double(name: &[u8]) -> Option<u32>
-    ensures value { result ≡ double_in name.now }
-{
-    match name {
-        b"d0" => Some(0),
-        b"d1" => Some(1),
-        b"d2" => Some(2),
-        b"d3" => Some(3),
-        b"d4" => Some(4),
-        b"d5" => Some(5),
-        b"d6" => Some(6),
-        b"d7" => Some(7),
-        b"d8" => Some(8),
-        b"d9" => Some(9),
-        b"d10" => Some(10),
-        b"d11" => Some(11),
-        b"d12" => Some(12),
-        b"d13" => Some(13),
-        b"d14" => Some(14),
-        b"d15" => Some(15),
-        _ => None,
     }
 }
 

@@ -15,10 +15,10 @@ ghost use Rattle.hm_tokens.specs.Tokens.{number, word, close_bracket, comma, ope
 use crate::memory::{text_t12, text_t13, text_t14};
 use crate::mnemonics::{
     accumulate_mnemonic, barrier_mnemonic, bits_mnemonic, bits_suffix, carry_mnemonic,
-    data_mnemonic, double_name, element_suffix, extract_mnemonic, half_mnemonic, long_mnemonic,
-    move_mnemonic, operation_mnemonic, read_name, saturate_mnemonic, saturate_shift,
-    select_mnemonic, shift_mnemonic, stack_mnemonic, test_mnemonic, turn_mnemonic,
-    wide_branch_mnemonic, wide_branch_suffix, wide_shift_mnemonic, wide_sum_mnemonic, written_name,
+    data_mnemonic, element_suffix, extract_mnemonic, half_mnemonic, long_mnemonic, move_mnemonic,
+    operation_mnemonic, read_name, saturate_mnemonic, saturate_shift, select_mnemonic,
+    shift_mnemonic, stack_mnemonic, test_mnemonic, turn_mnemonic, wide_branch_mnemonic,
+    wide_branch_suffix, wide_shift_mnemonic, wide_sum_mnemonic, written_name,
 };
 use hm_isa::words::{expand_imm_c, imm12};
 use hm_isa::{
@@ -30,7 +30,7 @@ use hm_text_rows::{
     alone, and, and_constant, and_shift, extend_mnemonic, first, four, marked, one, or_zero, q, r,
     three, two,
 };
-use hm_tokens::{InstrText, Mark, Part, condition_name};
+use hm_tokens::{InstrText, Mark, Part, condition_name, double_name};
 
 /// The constant of a row T1.
 fn constant_in(i: Bit, i3: Below<8>, i8: Byte) -> u32

@@ -8,7 +8,7 @@ use Rattle.std.proofs.lemmas.List.{length-append}
 use Rattle.hm_text_base.specs.Spans.{span}
 use Rattle.hm_tokens.specs.declared.token.Class.TheVariants as classes
 use Rattle.hm_tokens.specs.Names.{register_name, vector_name}
-use Rattle.hm_tokens.specs.Tokens.{word, is_digit, is_in}
+use Rattle.hm_tokens.specs.Tokens.{word, is_digit, is_in, point}
 use Rattle.hm_tokens.proofs.Again.{IsToken}
 
 -- a fact of numbers, computed at each below n
@@ -34,7 +34,7 @@ at_below P (suc n) b all lt =
 
 -- WORDS
 abbrev pub is_part : ℕ → Bool
-is_part c = is_in classes.Word c && not (eqb c 46)
+is_part c = is_in classes.Word c && not (eqb c point)
 
 -- begins with no digit, has no point, and is short
 abbrev pub is_mnemonic : List ℕ → Bool
@@ -44,7 +44,7 @@ is_mnemonic (c ∷ cs) = not (is_digit c) && (list_all is_part (c ∷ cs) && ltb
 -- nothing, or begins with a point
 abbrev pub is_suffix : List ℕ → Bool
 is_suffix [] = true
-is_suffix (c ∷ cs) = eqb c 46 && (list_all (is_in classes.Word) (c ∷ cs) && ltb (length cs) 4)
+is_suffix (c ∷ cs) = eqb c point && (list_all (is_in classes.Word) (c ∷ cs) && ltb (length cs) 4)
 
 -- any word of up to 9 bytes
 abbrev pub is_name : List ℕ → Bool
@@ -55,21 +55,21 @@ not_true : (b : Bool) → not b ≡ true → b ≡ false
 not_true true e = absurd cc
 not_true false e = refl
 
-pub span_suffix : (suffix : List ℕ) → is_suffix suffix ≡ true → span 46 suffix ≡ ([], suffix)
+pub span_suffix : (suffix : List ℕ) → is_suffix suffix ≡ true → span point suffix ≡ ([], suffix)
 unfolding span
 span_suffix [] e = refl
-span_suffix (c ∷ cs) e = let p = and_parts (eqb c 46) (list_all (is_in classes.Word) (c ∷ cs) && ltb (length cs) 4) e in rw (p.0) refl
+span_suffix (c ∷ cs) e = let p = and_parts (eqb c point) (list_all (is_in classes.Word) (c ∷ cs) && ltb (length cs) 4) e in rw (p.0) refl
 
-span_parts_suffix : (s suffix : List ℕ) → list_all is_part s ≡ true → is_suffix suffix ≡ true → span 46 (s ++ suffix) ≡ (s, suffix)
+span_parts_suffix : (s suffix : List ℕ) → list_all is_part s ≡ true → is_suffix suffix ≡ true → span point (s ++ suffix) ≡ (s, suffix)
 unfolding span
 span_parts_suffix [] suffix all e = span_suffix suffix e
 span_parts_suffix (c ∷ s) suffix all e =
     let p = and_parts (is_part c) (list_all is_part s) all in
-    let n = and_parts (is_in classes.Word c) (not (eqb c 46)) p.0 in
-    rw (not_true (eqb c 46) n.1, span_parts_suffix s suffix p.1 e) refl
+    let n = and_parts (is_in classes.Word c) (not (eqb c point)) p.0 in
+    rw (not_true (eqb c point) n.1, span_parts_suffix s suffix p.1 e) refl
 
 -- the first word is cut behind its mnemonic
-pub cut : (s suffix : List ℕ) → is_mnemonic s ≡ true → is_suffix suffix ≡ true → span 46 (s ++ suffix) ≡ (s, suffix)
+pub cut : (s suffix : List ℕ) → is_mnemonic s ≡ true → is_suffix suffix ≡ true → span point (s ++ suffix) ≡ (s, suffix)
 cut [] suffix is e = absurd cc
 cut (c ∷ s) suffix is e =
     let p = and_parts (not (is_digit c)) (list_all is_part (c ∷ s) && ltb (length s) 9) is in
@@ -80,19 +80,19 @@ all_words : (s suffix : List ℕ) → list_all is_part s ≡ true → list_all (
 all_words [] suffix all e = e
 all_words (c ∷ s) suffix all e =
     let p = and_parts (is_part c) (list_all is_part s) all in
-    let n = and_parts (is_in classes.Word c) (not (eqb c 46)) p.0 in
+    let n = and_parts (is_in classes.Word c) (not (eqb c point)) p.0 in
     rw (n.0, all_words s suffix p.1 e) refl
 
 suffix_words : (suffix : List ℕ) → is_suffix suffix ≡ true → list_all (is_in classes.Word) suffix ≡ true
 suffix_words [] e = refl
 suffix_words (c ∷ cs) e =
-    let p = and_parts (eqb c 46) (list_all (is_in classes.Word) (c ∷ cs) && ltb (length cs) 4) e in
+    let p = and_parts (eqb c point) (list_all (is_in classes.Word) (c ∷ cs) && ltb (length cs) 4) e in
     (and_parts (list_all (is_in classes.Word) (c ∷ cs)) (ltb (length cs) 4) p.1).0
 
 suffix_short : (suffix : List ℕ) → is_suffix suffix ≡ true → length suffix ≤ 4
 suffix_short [] e = omega arith
 suffix_short (c ∷ cs) e =
-    let p = and_parts (eqb c 46) (list_all (is_in classes.Word) (c ∷ cs) && ltb (length cs) 4) e in
+    let p = and_parts (eqb c point) (list_all (is_in classes.Word) (c ∷ cs) && ltb (length cs) 4) e in
     let q = and_parts (list_all (is_in classes.Word) (c ∷ cs)) (ltb (length cs) 4) p.1 in
     let short : length cs < 4 = grind (arith, nat_tests, q.1) in
     omega (arith, short)

@@ -21,18 +21,26 @@ is_given (Some n) = true
 is_given None = false
 
 -- WORDS
+-- `b`, with which the first word of a branch begins
+abbrev pub branch_letter : ℕ
+branch_letter = 98
+
 -- the condition of a branch: what stands behind the `b` of its first word
 abbrev pub branch_condition_in : List ℕ → Option ℕ
 branch_condition_in [] = None
-branch_condition_in (c ∷ name) = if c == 98 then condition_in name else None
+branch_condition_in (c ∷ name) = if c == branch_letter then condition_in name else None
 
 -- whether a word is the name of a vector register
 unfoldable pub is_vector_name : List ℕ → Bool
 is_vector_name w = is_given (vector_in w)
 
--- the number of an element size, by its last digit
+-- the byte that a digit is written as
+abbrev pub digit_byte : ℕ → ℕ
+digit_byte d = 48 + d
+
+-- the number of an element size, by its last digit: of 16, 32 and 64, and of 8
 abbrev pub size_by : ℕ → ℕ
-size_by c = if c == 54 then 1 else if c == 50 then 2 else if c == 52 then 3 else 0
+size_by c = if c == digit_byte 6 then 1 else if c == digit_byte 2 then 2 else if c == digit_byte 4 then 3 else 0
 
 -- the number of the element size that a suffix names: 0 to 3 for 8, 16, 32 and 64 bits
 unfoldable pub size_of : List ℕ → ℕ
@@ -50,6 +58,12 @@ abbrev pub is_number : Tok → Bool
 is_number (word w) = false
 is_number (number n) = true
 is_number (mark c) = false
+
+-- the number that a token stands for, by that of a word: a number itself, at most 2^32 - 1, and 0 of a mark
+abbrev pub value_by : (List ℕ → ℕ) → Tok → ℕ
+value_by of_word (word w) = of_word w
+value_by of_word (number n) = min n 0xffff_ffff
+value_by of_word (mark c) = 0
 
 -- operand k, counted from 0 and without the marks; a comma where there is none
 abbrev pub operand : ℕ → List Tok → Tok

@@ -3,9 +3,8 @@
 ghost use Rattle.std.specs.Prelude.{◌≡◌, ◌≤◌, ◌<◌, ◌+◌, ◌++◌, length};
 ghost use Rattle.hm_isa.specs.Rules.{listed_in};
 ghost use Rattle.hm_text_rows.specs.Shapes.{braces, listed, registers_from};
-ghost use Rattle.hm_tokens.specs.Marks.{mark_byte};
 ghost use Rattle.hm_tokens.specs.Texts.{text_tokens};
-ghost use Rattle.hm_tokens.specs.Tokens.{mark};
+ghost use Rattle.hm_tokens.specs.Tokens.{mark_token};
 
 use crate::shapes::{marked, r, with};
 use hm_tokens::{InstrText, Mark};
@@ -21,9 +20,9 @@ pub fn is_listed(list: u32, k: u32) -> bool
 /// The text with those of n registers from register k on that stand in a list, the first behind a mark and the others behind commas.
 fn and_registers(text: InstrText, before: Mark, k: u32, n: u32, list: u32) -> InstrText
     requires below { k + n ≤ 16 }
-    requires room { length text.operands.items + length (listed (mark (mark_byte before)) (registers_from n k list)) ≤ 38 }
-    ensures tokens { text_tokens result ≡ text_tokens text ++ listed (mark (mark_byte before)) (registers_from n k list) }
-    ensures room { length result.operands.items ≡ length text.operands.items + length (listed (mark (mark_byte before)) (registers_from n k list)) }
+    requires room { length text.operands.items + length (listed (mark_token before) (registers_from n k list)) ≤ 38 }
+    ensures tokens { text_tokens result ≡ text_tokens text ++ listed (mark_token before) (registers_from n k list) }
+    ensures room { length result.operands.items ≡ length text.operands.items + length (listed (mark_token before) (registers_from n k list)) }
 {
     if n == 0 {
         return text;

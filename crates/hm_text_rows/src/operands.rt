@@ -3,7 +3,6 @@
 ghost use Rattle.std.specs.Prelude.{◌≡◌, ◌≤◌, bytes_eq, map};
 ghost use Rattle.hm_text_rows.specs.Operands.{added, back_in, before, bit_in, bits_of, braced, branch_condition_in, first_of, is_number, is_vector};
 ghost use Rattle.hm_text_rows.specs.Operands.{is_vector_name, operand, size_of, token_behind, token_bit};
-ghost use Rattle.hm_tokens.specs.Marks.{mark_byte};
 ghost use Rattle.hm_tokens.specs.Tokens.{is_the_mark, tok};
 
 use hm_tokens::{Mark, Token, read_condition, read_register, read_vector};
@@ -93,19 +92,12 @@ pub fn size_of(suffix: &[u8]) -> u32
     }
 }
 
-/// The byte of a mark.
-fn byte_of(which: Mark) -> u8
-    ensures value { result ≡ mark_byte which }
-{
-    which.text().as_bytes()[0]
-}
-
 /// Whether a token is this mark.
-pub fn is_mark(token: Token<'_>, mark: Mark) -> bool
+pub fn is_the_mark(token: Token<'_>, mark: Mark) -> bool
     ensures value { result ≡ is_the_mark mark (tok token.entry) }
 {
     match token {
-        Token::Mark(which) => byte_of(which) == byte_of(mark),
+        Token::Mark(which) => which == mark,
         Token::Word(_) | Token::Number(_) => false,
     }
 }
@@ -127,7 +119,7 @@ pub fn token_behind<'a>(tokens: &[Token<'a>], mark: Mark) -> Token<'a>
     match tokens {
         [] => Token::Number(0),
         [token, rest @ ..] => {
-            if is_mark(*token, mark) {
+            if is_the_mark(*token, mark) {
                 first_of(rest)
             } else {
                 token_behind(rest, mark)
@@ -140,7 +132,7 @@ pub fn token_behind<'a>(tokens: &[Token<'a>], mark: Mark) -> Token<'a>
 pub fn added(tokens: &[Token<'_>]) -> u32
     ensures value { result ≡ added (map tok tokens.now) }
 {
-    if is_mark(token_behind(tokens, Mark::Hash), Mark::Minus) {
+    if is_the_mark(token_behind(tokens, Mark::Hash), Mark::Minus) {
         0
     } else {
         1
@@ -151,7 +143,7 @@ pub fn added(tokens: &[Token<'_>]) -> u32
 pub fn before(tokens: &[Token<'_>]) -> u32
     ensures value { result ≡ before (map tok tokens.now) }
 {
-    if is_mark(token_behind(tokens, Mark::CloseBracket), Mark::Comma) {
+    if is_the_mark(token_behind(tokens, Mark::CloseBracket), Mark::Comma) {
         0
     } else {
         1
@@ -163,10 +155,10 @@ pub fn back_in(tokens: &[Token<'_>]) -> u32
     ensures value { result ≡ back_in (map tok tokens.now) }
 {
     let next = token_behind(tokens, Mark::CloseBracket);
-    if is_mark(next, Mark::Comma) {
+    if is_the_mark(next, Mark::Comma) {
         return 1;
     }
-    if is_mark(next, Mark::Bang) { 1 } else { 0 }
+    if is_the_mark(next, Mark::Bang) { 1 } else { 0 }
 }
 
 /// The bit of a register in a list.
@@ -212,7 +204,7 @@ pub fn braced_bits(tokens: &[Token<'_>]) -> u32
     match tokens {
         [] => 0,
         [token, rest @ ..] => {
-            if is_mark(*token, Mark::OpenBrace) {
+            if is_the_mark(*token, Mark::OpenBrace) {
                 bits_of(rest)
             } else {
                 braced_bits(rest)

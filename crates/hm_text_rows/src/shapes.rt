@@ -2,9 +2,8 @@
 
 ghost use Rattle.std.specs.Prelude.{◌≡◌, ◌≤◌, ◌<◌, ◌+◌, ◌++◌, ◌∷◌, [], length};
 ghost use Rattle.hm_text_rows.specs.Shapes.{and_constant, and_operand, and_shift, constant, four, one, or_zero, q, r, three, two};
-ghost use Rattle.hm_tokens.specs.Marks.{mark_byte};
 ghost use Rattle.hm_tokens.specs.Texts.{part_token, text_tokens};
-ghost use Rattle.hm_tokens.specs.Tokens.{mark, word, comma};
+ghost use Rattle.hm_tokens.specs.Tokens.{mark_token, word, comma};
 
 use arrayvec::ArrayVec;
 use hm_isa::{QRegister, Register};
@@ -63,7 +62,7 @@ pub fn with(mut text: InstrText, part: Part) -> InstrText
 /// The text with a mark more.
 pub fn marked(text: InstrText, which: Mark) -> InstrText
     requires { length text.operands.items ≤ 38 }
-    ensures tokens { text_tokens result ≡ text_tokens text ++ mark (mark_byte which) ∷ [] }
+    ensures tokens { text_tokens result ≡ text_tokens text ++ mark_token which ∷ [] }
     ensures room { length result.operands.items ≡ length text.operands.items + 1 }
 {
     with(text, Part::Mark(which))

@@ -5,7 +5,7 @@ use Rattle.hm_isa.specs.declared.vectors.Element.TheVariants as element
 use Rattle.hm_isa.specs.Code.{dot_base, dup_base, mask_code}
 use Rattle.hm_isa.specs.Standing.{◌↑◌}
 use Rattle.hm_text_base.specs.Spans.{span}
-use Rattle.hm_tokens.specs.Tokens.{Tok, word, number, mark}
+use Rattle.hm_tokens.specs.Tokens.{Tok, word, number, mark, point}
 use Rattle.hm_text_rows.specs.Operands.{first}
 use Rattle.hm_textv_codes.specs.declared.operands.Operands.{Operands}
 use Rattle.hm_textv_codes.specs.Bases.{block_in, carry_base_in, compare_in, constant_in, dot_in, extreme_base_in, left_base, long_dot_in, load_in, long_in}
@@ -251,9 +251,9 @@ code_of s o =
 abbrev pub code_cut : List ℕ × List ℕ → List Tok → Option ℕ
 code_cut parts ts = code_of parts.0 (read_operands parts.1 ts)
 
--- the mnemonic is cut at its point
+-- the code that tokens ask for, by the first word, cut at its point, and what is behind it; None where no row fits
 abbrev pub code_in : List Tok → Option ℕ
 code_in [] = None
-code_in (word name ∷ ts) = code_cut (span 46 name) ts
+code_in (word name ∷ ts) = code_cut (span point name) ts
 code_in (number n ∷ ts) = None
 code_in (mark c ∷ ts) = None

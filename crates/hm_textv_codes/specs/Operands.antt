@@ -1,9 +1,9 @@
 -- What a text gives numbers for, read carelessly: nothing is refused, since the row that is found is asked for its text.
-use Rattle.std.specs.Prelude.{ℕ, min, List, length, get_or, codes, bytes_eq, ◌==◌, if◌then◌else◌}
+use Rattle.std.specs.Prelude.{ℕ, List, length, get_or, codes, bytes_eq, ◌==◌, if◌then◌else◌}
 use Rattle.hm_tokens.specs.declared.marks.Mark.TheVariants as marks
 use Rattle.hm_tokens.specs.Names.{register_in, vector_in}
-use Rattle.hm_tokens.specs.Tokens.{Tok, word, number, mark}
-use Rattle.hm_text_rows.specs.Operands.{added, back_in, before, given_or, is_vector, operand, size_of, token_behind}
+use Rattle.hm_tokens.specs.Tokens.{Tok}
+use Rattle.hm_text_rows.specs.Operands.{added, back_in, before, given_or, is_vector, operand, size_of, token_behind, value_by}
 use Rattle.hm_textv_codes.specs.declared.operands.Operands.{Operands}
 
 -- a condition of a comparison, zero, a shift that brings in ones, and an offset that is scaled
@@ -25,15 +25,17 @@ other_value w =
 unfoldable pub word_value : List ℕ → ℕ
 word_value w = given_or (vector_in w) (given_or (register_in w) (other_value w))
 
--- the number that a token stands for: a word's, or a number itself, at most 2^32 - 1; 0 of a mark
+-- the number that a token stands for
 abbrev pub value : Tok → ℕ
-value (word w) = word_value w
-value (number n) = min n 0xffff_ffff
-value (mark c) = 0
+value = value_by word_value
+
+-- `u`, which stands behind the point where the elements are unsigned
+abbrev pub unsigned_letter : ℕ
+unsigned_letter = 117
 
 -- 1 where the letter behind the point is u
 unfoldable pub sign_of : List ℕ → ℕ
-sign_of suffix = if get_or suffix 1 0 == 117 then 1 else 0
+sign_of suffix = if get_or suffix 1 0 == unsigned_letter then 1 else 0
 
 -- what stands behind a mnemonic, as numbers: the sign and the size of the elements, the operands, and how the address is written
 abbrev pub read_operands : List ℕ → List Tok → Operands

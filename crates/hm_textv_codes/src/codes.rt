@@ -10,7 +10,7 @@ ghost use Rattle.hm_textv_codes.specs.Codes.{constant_operation, element_in, lon
 ghost use Rattle.hm_text_rows.specs.Operands.{first};
 ghost use Rattle.hm_textv_codes.specs.Bases.{product_base, three_base};
 ghost use Rattle.hm_text_base.specs.Spans.{span};
-ghost use Rattle.hm_tokens.specs.Tokens.{tok};
+ghost use Rattle.hm_tokens.specs.Tokens.{point, tok};
 
 use crate::access::code_of_memory;
 use crate::bases::{
@@ -540,11 +540,11 @@ fn code_of(mnemonic: &[u8], o: &Operands) -> Option<u64>
     code_of_memory(mnemonic, o)
 }
 
-/// The code that a mnemonic and the tokens behind it ask for.
-fn code_named(name: &[u8], tokens: &[Token<'_>]) -> Option<u64>
-    ensures { result ≡ code_cut (span 46 name.now) (map tok tokens.now) }
+/// The code that a first word and the tokens behind it ask for.
+fn code_of_first_word(word: &[u8], tokens: &[Token<'_>]) -> Option<u64>
+    ensures { result ≡ code_cut (span point word.now) (map tok tokens.now) }
 {
-    let (mnemonic, suffix) = span(b'.', name);
+    let (mnemonic, suffix) = span(b'.', word);
     code_of(mnemonic, &read_operands(suffix, tokens))
 }
 
@@ -555,7 +555,7 @@ pub fn code_in(tokens: &[Token<'_>]) -> Option<u64>
     match tokens {
         [] => None,
         [first, rest @ ..] => match *first {
-            Token::Word(name) => code_named(name, rest),
+            Token::Word(word) => code_of_first_word(word, rest),
             Token::Number(_) | Token::Mark(_) => None,
         },
     }

@@ -10,7 +10,7 @@ use hm_tokens::{Mark, Token, read_register, read_vector};
 /// What stands behind a mnemonic, as numbers.
 #[derive(Clone, Copy)]
 pub struct Operands {
-    /// Whether the mnemonic has no point.
+    /// Whether the first word has no point.
     pub is_bare: bool,
     /// 1 where the elements are unsigned.
     pub sign: u32,
