@@ -16,7 +16,7 @@ use Rattle.hm_line.specs.Texts.{AreTokens, IsLast, IsOfForm, is_spaced, next}
 use Rattle.hm_line.proofs.Fronts.{run_le}
 use Rattle.hm_line.proofs.Operands.{operands_taken, takes}
 
--- the tokens of an instruction, where a space stands behind the mnemonic
+-- the tokens of an instruction, where a space stands behind the first word
 abbrev pub are_operands : List Kind → Bool
 are_operands [] = true
 are_operands (k ∷ ks) = takes (ops.Operand Outside) (k ∷ ks)

@@ -79,7 +79,7 @@ vector_named (word name ∷ ts) x e =
 vector_named (number n ∷ ts) x e = absurd cc
 vector_named (mark c ∷ ts) x e = absurd cc
 
--- the mnemonics that begin with v and have no point, but are no vector row's
+-- the first words that begin with v and have no point, but are no vector row's
 abbrev pub is_other : List ℕ → Bool
 is_other w = bytes_eq w (codes "vpush") || (bytes_eq w (codes "vpop") || (bytes_eq w (codes "vmrs") || bytes_eq w (codes "vmsr")))
 

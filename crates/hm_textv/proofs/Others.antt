@@ -28,7 +28,7 @@ use Rattle.hm_textv_codes.specs.Operands.{word_value}
 use Rattle.hm_text_rows.specs.Operands.{is_vector_name}
 use Rattle.hm_text_rows.specs.Shapes.{three}
 use Rattle.hm_text_rows.proofs.Words.{at_below, below_holds, below_is, is_name, is_mnemonic}
-use Rattle.hm_textv_rows.specs.Rows.{compare_name}
+use Rattle.hm_textv_rows.specs.Rows.{compare_first_word}
 use Rattle.hm_textv_rows.specs.Mnemonics.{block_letters, compare_condition, compare_suffix, offsets_mnemonic, size_number, wrapped_mnemonic}
 use Rattle.hm_textv.proofs.Endings.{Suffix, no_suffix, suffix_integer, suffix_plain, suffix_signed, suffix_unsigned}
 use Rattle.hm_textv.proofs.Forms.{Operand, Reads, Row, a_register, a_vector, given, reads_none, reads_one, reads_three, reads_three_constant, reads_two}
@@ -261,7 +261,7 @@ asks_scalar k lt =
     lt
 
 named : (k c z : ℕ) (x y w : Tok) (s : List ℕ) (o : Operands) → Reads (three (compare_mnemonic k ++ compare_suffix c z) x y w) s o
-    → Reads (three (compare_name k c z) x y w) s o
+    → Reads (three (compare_first_word k c z) x y w) s o
 named k c z x y w s o reads =
     subst (λ (name : List ℕ). Reads (three name x y w) s o)
     (append_assoc (cond (nat_eq k 0) (codes "vcmp") (codes "vpt")) (block_letters k) (compare_suffix c z)) reads

@@ -17,7 +17,7 @@ use hm_textv_rows::row_text;
 use hm_tokens::{Token, read_tokens};
 use texts::is_text_of;
 
-/// The text of a vector row: the mnemonic, a space, and the operands with commas between them, numbers in decimal. `parse_v` gives
+/// The text of a vector row: the first word, a space, and the operands with commas between them, numbers in decimal. `parse_v` gives
 /// the row of this text again.
 pub fn print_v(v: &Vector) -> ArrayString<96>
     ensures text { result.bytes ≡ printed (tokens_of v.now) }

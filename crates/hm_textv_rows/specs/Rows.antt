@@ -118,14 +118,14 @@ offsets_tokens (v19.Free i) = and_constant (two (offsets_mnemonic i.name ++ unsi
 offsets_tokens (v19.Wrapped i) =
     and_constant (three (wrapped_mnemonic i.name ++ unsigned i.z.value) (q i.d.value) (r (2 * i.n.value)) (r (2 * i.r.value + 1))) (2 ^ i.k.value)
 
--- V20: the mnemonic: VCMP, or VPT and the letters of its block (DDI0553, "VCMP" and "VPT")
-abbrev pub compare_name : ℕ → ℕ → ℕ → List ℕ
-compare_name k c z = cond (nat_eq k 0) (codes "vcmp") (codes "vpt") ++ (block_letters k ++ compare_suffix c z)
+-- V20: the first word: VCMP, or VPT and the letters of its block, and the suffix (DDI0553, "VCMP" and "VPT")
+abbrev pub compare_first_word : ℕ → ℕ → ℕ → List ℕ
+compare_first_word k c z = cond (nat_eq k 0) (codes "vcmp") (codes "vpt") ++ (block_letters k ++ compare_suffix c z)
 
 -- V20: the tokens of VCMP and VPT, with a vector or a core register behind the first vector (DDI0553, "VCMP" and "VPT")
 abbrev pub compare_tokens : CompareRow → List Tok
-compare_tokens (v20.Vectors i) = three (compare_name i.k.value i.c.value i.z.value) (word (compare_condition i.c.value)) (q i.n.value) (q i.m.value)
-compare_tokens (v20.Scalar i) = three (compare_name i.k.value i.c.value i.z.value) (word (compare_condition i.c.value)) (q i.n.value) (or_zero i.m.value)
+compare_tokens (v20.Vectors i) = three (compare_first_word i.k.value i.c.value i.z.value) (word (compare_condition i.c.value)) (q i.n.value) (q i.m.value)
+compare_tokens (v20.Scalar i) = three (compare_first_word i.k.value i.c.value i.z.value) (word (compare_condition i.c.value)) (q i.n.value) (or_zero i.m.value)
 
 -- V21: the tokens of VPNOT, VPST with the letters of its block, VPSEL and VCTP (DDI0553, "VPST", "VPNOT", "VPSEL" and "VCTP")
 abbrev pub predicate_tokens : PredicateRow → List Tok

@@ -2,7 +2,7 @@
 
 ghost use Rattle.std.specs.Prelude.{◌≡◌, ◌≤◌, ◌<◌, ◌+◌, ◌*◌, ◌^◌, ◌++◌, codes};
 ghost use Rattle.hm_isa.specs.declared.Vector.TheVariants as vector;
-ghost use Rattle.hm_textv_rows.specs.Rows.{compare_name, long_part, shift_in, shifted, size_in, tokens_of};
+ghost use Rattle.hm_textv_rows.specs.Rows.{compare_first_word, long_part, shift_in, shifted, size_in, tokens_of};
 ghost use Rattle.hm_text_rows.specs.Shapes.{either, q, three};
 ghost use Rattle.hm_textv_rows.specs.Mnemonics.{compare_condition};
 ghost use Rattle.hm_tokens.specs.Texts.{part_token, text_tokens};
@@ -323,7 +323,7 @@ fn text_v19(i: &V19) -> InstrText
 
 /// The text of a comparison, given its second operand.
 fn comparison(k: Below<16>, c: Below<8>, z: ElementSize, n: QRegister, by: Part) -> InstrText
-    ensures { text_tokens result ≡ three (compare_name k.value c.value z.value) (word (compare_condition c.value)) (q n.value) (part_token by) }
+    ensures { text_tokens result ≡ three (compare_first_word k.value c.value z.value) (word (compare_condition c.value)) (q n.value) (part_token by) }
 {
     let mnemonic = if k.get() == 0 { "vcmp" } else { "vpt" };
     let text = alone(mnemonic, block_letters(k), compare_suffix(c, z));
