@@ -118,9 +118,17 @@ branch_first_word c = codes "b" ++ condition_name c
 abbrev pub block_condition : ℕ → List ℕ
 block_condition c = get_or (condition_names ++ codes "al" ∷ []) c []
 
+-- S21: `t`, for an instruction under the condition of its block (DDI0553, "IT")
+abbrev pub then_letter : ℕ
+then_letter = 116
+
+-- S21: `e`, for one under the other condition (DDI0553, "IT")
+abbrev pub else_letter : ℕ
+else_letter = 101
+
 -- S21: t where the bit of an instruction is the low bit of the condition, and e where it is the other (DDI0553, "IT")
 abbrev pub letter : ℕ → ℕ → ℕ
-letter low bit = if nat_eq bit low then 116 else 101
+letter low bit = if nat_eq bit low then then_letter else else_letter
 
 -- S21: a letter for each bit of a mask above its lowest 1, from bit 3 down (DDI0553, "IT")
 abbrev pub letters_above : ℕ → ℕ → List ℕ
