@@ -14,7 +14,6 @@ use Rattle.hm_ihex.proofs.HexFiles.{hex_only}
 use Rattle.hm_commands.specs.Images.{IsImageIn, IsImageOf, begins_as_hex, image_of}
 use Rattle.hm_elf.proofs.ReadLaws.{image_again}
 use Rattle.hm_handlers.proofs.Lying.{taint_lies}
-use Rattle.hm_handlers.proofs.Quiet.{run_quiet}
 use Rattle.hm_handlers.proofs.Whole.{headline_every, riders_every}
 use Rattle.hm_handlers.specs.Runs.{shown_out}
 use Rattle.hm_host.specs.Host.{FileMap, HostState, longest}
@@ -24,7 +23,7 @@ use Rattle.hm_run.specs.declared.Outcome.{Outcome}
 use Rattle.hm_run.specs.Headline.{PlainReport}
 use Rattle.hm_run.specs.InOrder.{InOrder, Running, Halted, Full, Faulted, in_order, in_order_report}
 use Rattle.hm_run.specs.Report.{outcome_line, report_text, memory_text}
-use Rattle.hm_run.specs.Timed.{Timed, timed_out}
+use Rattle.hm_run.specs.Timed.{Timed}
 use Rattle.hm_state.specs.Start.{reset_pc}
 use Rattle.hm_commands.specs.declared.status.Status.{Status}
 use Rattle.hm_commands.specs.declared.status.Status.TheVariants.{Done, Ended, Usage, Refused, HostFault, NoMemory}
@@ -160,10 +159,6 @@ headline_of_none words old new status none = λ F P name memory image s h ne.
 
 -- ---- instructions in order
 
--- a plain run has no entries
-plain_shown : (listing : Listing) (image : List Segment) (n : ℕ) → timed_out listing image (plain n) ≡ shown_out listing image (plain n)
-plain_shown listing image n = sym (run_quiet listing image (plain n) (length (ticks_of (plain n).lines)) refl)
-
 -- what a plain run shows, of a fault the first line, is what the instructions in order come to
 shown_in_order : (x : Timed) (y : InOrder) → PlainReport x y → x.outcome ≡ Some (plain_end y) → short_report x ≡ in_order_report y
 shown_in_order x (Running s) report ends = ap (λ (o : Option Outcome). if is_fault o then outcome_line o else report_text x) ends ∙ report
@@ -180,14 +175,12 @@ halted_in_order x (Faulted kind pc addr k) ends = ap is_halted ends
 plainly_shown : (listing : Listing) (image : List Segment) (n : ℕ)
     → short_report (shown_out listing image (plain n)) ≡ in_order_report (in_order listing image n)
 plainly_shown listing image n =
-    sym (ap short_report (plain_shown listing image n))
-    ∙ shown_in_order (timed_out listing image (plain n)) (in_order listing image n) (reports listing image n) (plain_ends listing image n)
+    shown_in_order (shown_out listing image (plain n)) (in_order listing image n) (reports listing image n) (plain_ends listing image n)
 
 plainly_halted : (listing : Listing) (image : List Segment) (n : ℕ)
     → is_halted (shown_out listing image (plain n)).outcome ≡ has_halted (in_order listing image n)
 plainly_halted listing image n =
-    sym (ap (λ (x : Timed). is_halted x.outcome) (plain_shown listing image n))
-    ∙ halted_in_order (timed_out listing image (plain n)) (in_order listing image n) (plain_ends listing image n)
+    halted_in_order (shown_out listing image (plain n)) (in_order listing image n) (plain_ends listing image n)
 
 effect-seq : (listings : List Segment → Listing) (words : List (List ℕ)) (F : FileMap) (name bytes : List ℕ) (image : List Segment) (n : ℕ) (e : Effect)
     → form_of words ≡ Some (seq name n) → get F name ≡ Some bytes → length bytes ≤ longest → IsImageOf bytes image → reset_pc image % 2 ≡ 1

@@ -19,7 +19,7 @@ use Rattle.hm_mem.specs.Memory.{Around, Memory, memory_of}
 use Rattle.hm_order.specs.Beats.{then}
 use Rattle.hm_order.specs.Machine as order
 use Rattle.hm_order.specs.Machine.{Config, begin, begun, done, older, settle}
-use Rattle.hm_plain.proofs.Vectors.{beat_pc}
+use Rattle.hm_in_order.proofs.Vectors.{beat_pc}
 use Rattle.hm_regs.specs.Place.{Counted, InRange}
 use Rattle.hm_regs.specs.declared.Regs.{Regs}
 use Rattle.hm_rows.proofs.Context.{context_is, context_there}

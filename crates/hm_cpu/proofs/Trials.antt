@@ -19,7 +19,7 @@ use Rattle.hm_mem.specs.Seen.{IsSameElsewhere}
 use Rattle.hm_order.specs.Beats.{then}
 use Rattle.hm_order.specs.Machine as order
 use Rattle.hm_order.specs.Machine.{Config, did, done, older_of, settle, younger, younger_of}
-use Rattle.hm_plain.proofs.Vectors.{beat_rest}
+use Rattle.hm_in_order.proofs.Vectors.{beat_rest}
 use Rattle.hm_plan_laws.specs.Greedy.{goes_on, is_ready}
 use Rattle.hm_regs.specs.declared.Regs.{Regs}
 use Rattle.hm_rows.specs.Rows.{vector_tree}

@@ -2,8 +2,8 @@
 use Rattle.std.proofs.Common.{◌≡◌, ℕ, ◌+◌, ◌≤◌, ap, refl, sym, ◌∙◌, subst, ◌⊎◌, ⊎_elim, inl, inr, zero, suc, arith, List, Some}
 use Rattle.hm_base.specs.Image.{Segment, sram_start}
 use Rattle.hm_codes.specs.Listing.{Listing}
-use Rattle.hm_plain.proofs.Orders.{stopped_later}
-use Rattle.hm_plain.specs.Orders.{HasStopped}
+use Rattle.hm_in_order.proofs.Orders.{stopped_later}
+use Rattle.hm_in_order.specs.Orders.{HasStopped}
 use Rattle.hm_run.specs.Headline.{HaltsInOrder}
 use Rattle.hm_run.specs.InOrder.{InOrder, Halted, in_order, in_order_report}
 use Rattle.hm_run.specs.Report.{memory_text, report_text}

@@ -19,8 +19,8 @@ use Rattle.hm_mem.specs.declared.Dev.{Dev}
 use Rattle.hm_order.specs.Beats.{Live}
 use Rattle.hm_order.specs.Machine.{begin}
 use Rattle.hm_order.proofs.Results.{decide, ok_err, ok_same, true_not_false}
-use Rattle.hm_plain.proofs.Ticks.{open_arrived, open_cond}
-use Rattle.hm_plain.proofs.Vectors.{beat_rest}
+use Rattle.hm_in_order.proofs.Ticks.{open_arrived, open_cond}
+use Rattle.hm_in_order.proofs.Vectors.{beat_rest}
 use Rattle.hm_rows.proofs.Context.{context_fresh, fresh}
 use Rattle.hm_rows.proofs.Rows.{row_laws}
 use Rattle.hm_rows.specs.Context.{with_context}

@@ -21,7 +21,7 @@ use Rattle.hm_mem.specs.Memory.{Around}
 use Rattle.hm_order.specs.Beats.{then}
 use Rattle.hm_order.specs.Machine.{Config, End, begin, did, done, older, older_of, settle, younger, younger_of}
 use Rattle.hm_order.proofs.Results.{ok_err, ok_same, then_ok}
-use Rattle.hm_plain.proofs.Vectors.{beat_rest}
+use Rattle.hm_in_order.proofs.Vectors.{beat_rest}
 use Rattle.hm_regs.specs.Stacks.{HandlerOnMain}
 use Rattle.hm_regs.specs.declared.Regs.{Regs}
 use Rattle.hm_rows.proofs.Context.{context_fresh, context_ready, fresh}

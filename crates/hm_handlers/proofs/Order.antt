@@ -35,9 +35,9 @@ use Rattle.hm_sched.specs.Schedule.{TickLine, Sched, older_letter, younger_lette
 use Rattle.hm_state.specs.Start.{start}
 use Rattle.hm_state.specs.State.{State, regs_of}
 use Rattle.hm_whole.specs.Whole.{Went, scalar_in_machine, seen_in}
-use Rattle.hm_plain.specs.Overlap.{AgreesAfter}
-use Rattle.hm_plain.proofs.Laws.{laws}
-use Rattle.hm_plain.proofs.Ticks.{OnlyTaint, begun, devices_restore, next_stops, stop_keeps, younger_only}
+use Rattle.hm_in_order.specs.Overlap.{AgreesAfter}
+use Rattle.hm_in_order.proofs.Laws.{laws}
+use Rattle.hm_in_order.proofs.Ticks.{OnlyTaint, begun, devices_restore, next_stops, stop_keeps, younger_only}
 use Rattle.hm_window.specs.Positions.{may_end}
 use Rattle.hm_handlers.specs.Entries.{entered, interrupted_by, refused}
 use Rattle.hm_handlers.specs.Nested.{Ended, Interrupted, Nested, NestedEnd, NestedStep, Offends, TickEnd, around_under, at_step, flows, handler_step, handles}
@@ -48,6 +48,18 @@ use Rattle.hm_handlers.specs.Runs.{Pointers, Run, begin, after_count, closed, en
 use Rattle.hm_handlers.specs.Runs.{stacked_of}
 use Rattle.hm_handlers.proofs.Hiding.{Hides, counted_hides, entry_hides, own_live, restored_live, scalar_hides}
 use Rattle.hm_handlers.proofs.Steps.{IsStop, StepHides, fault_hides, row_hides, younger_hides}
+
+-- where nothing is interrupted the machine is the thread
+pub still_thread : (o : Option Outcome) (c : Config State) → thread_at o c [] ≡ c
+still_thread None c = refl
+still_thread (Some (outcome.Halted reason n)) c = refl
+still_thread (Some (outcome.Fault who f pc n)) c = refl
+still_thread (Some (outcome.RuleBroken t k r)) c = refl
+still_thread (Some (outcome.HandlerBroken t what)) c = refl
+still_thread (Some (outcome.TaintedRead t pc addr)) c = refl
+still_thread (Some (outcome.StackSpent t sp)) c = refl
+still_thread (Some (outcome.OutputFull t)) c = refl
+still_thread (Some outcome.OutOfTicks) c = refl
 
 module _ (listing : Listing) (s : Sched) (first : State) where
   abbrev machine : Program
@@ -234,17 +246,6 @@ module _ (listing : Listing) (s : Sched) (first : State) where
       in_thread (outcome.StackSpent t sp) = tt
       in_thread (outcome.OutputFull t) = tt
       in_thread outcome.OutOfTicks = tt
-
-  still_thread : (o : Option Outcome) (c : Config State) → thread_at o c [] ≡ c
-  still_thread None c = refl
-  still_thread (Some (outcome.Halted reason n)) c = refl
-  still_thread (Some (outcome.Fault who f pc n)) c = refl
-  still_thread (Some (outcome.RuleBroken t k r)) c = refl
-  still_thread (Some (outcome.HandlerBroken t what)) c = refl
-  still_thread (Some (outcome.TaintedRead t pc addr)) c = refl
-  still_thread (Some (outcome.StackSpent t sp)) c = refl
-  still_thread (Some (outcome.OutputFull t)) c = refl
-  still_thread (Some outcome.OutOfTicks) c = refl
 
   -- a stop of a handler
   handler_stop : (t : ℕ) (x : Activation) (xs : List Activation) (c : Config State) (pc : ℕ) (e : Stop) (acts : List Interrupted)

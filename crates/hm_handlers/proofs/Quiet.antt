@@ -1,4 +1,4 @@
--- Under a schedule without entries a run is that of the machine without handlers.
+-- Under a schedule without entries nothing is interrupted.
 use Rattle.std.proofs.Common.{◌≡◌, ℕ, zero, suc, ◌==◌, ◌+◌, ap, refl, sym, ◌∙◌, subst, Bool, true, false, cond, List, [], ◌∷◌, drop, length, Option, Some, None}
 use Rattle.std.proofs.Common.{Result, Ok, Err}
 use Rattle.hm_base.specs.Image.{Segment}
@@ -12,21 +12,27 @@ use Rattle.hm_run.specs.Program.{Program, Stepped, Ticked, letter_step, letter_s
 use Rattle.hm_run.specs.Timed as timed
 use Rattle.hm_exc.specs.declared.types.Activation.{Activation}
 use Rattle.hm_run.specs.Timed.{Timed, at_stop, counted_with, outcome_of, thread_program, with_devices}
+use Rattle.hm_handlers.proofs.Order.{keeps_order, still_thread}
+use Rattle.hm_in_order.proofs.Halts.{StaysInOrder}
+use Rattle.hm_in_order.specs.Overlap.{AgreesAfter}
+use Rattle.hm_state.specs.Start.{start}
 use Rattle.hm_sched.specs.Schedule.{TickLine, Sched, older_letter, younger_letter, ticks_of}
 use Rattle.hm_state.specs.State.{State}
 use Rattle.hm_window.specs.Positions.{may_end}
 use Rattle.hm_window.specs.declared.rule.Rule.TheVariants as rule
 use Rattle.hm_handlers.specs.Nested.{Ended, Nested, NestedStep, TickEnd, at_step, letter, letters, steps, with_acts}
+use Rattle.hm_handlers.specs.Order.{thread_at}
 use Rattle.hm_handlers.specs.Runs.{Run, after_count, begin, closed, ended, enters, next, picks, run, shown, tick_end, tick_of}
 
 -- nothing is interrupted
-abbrev alone : Config State → Nested
+abbrev pub alone : Config State → Nested
 alone c = record { config = c; acts = [] }
 
-abbrev quiet : Option Outcome → Config State → ℕ → Run
+-- and nothing entered
+abbrev pub quiet : Option Outcome → Config State → ℕ → Run
 quiet o c t = record { outcome = o; machine = alone c; ticks = t; entries = [] }
 
--- a run in which nothing is interrupted, and the value of the machine without handlers
+-- a run in which nothing is interrupted, and the value of the fold that knows no handler
 record Same (x : Run) (y : Timed) : Type 0 where
   run : x ≡ quiet y.outcome y.config y.ticks
   acts : y.acts ≡ []
@@ -53,7 +59,7 @@ module _ (listing : Listing) (s : Sched) (none : s.entries ≡ false) where
   either_alone true x y p q h k = h
   either_alone false x y p q h k = k
 
-  letter_alone : (l : ℕ) (c : Config State) → letter listing s l (alone c) ≡ with_acts [] (letter_step machine l c)
+  pub letter_alone : (l : ℕ) (c : Config State) → letter listing s l (alone c) ≡ with_acts [] (letter_step machine l c)
   letter_alone l c =
       either_alone (l == older_letter) _ _ _ _ refl
       (either_alone (l == younger_letter) _ _ _ _ refl (steps_alone (steps_left (vector_of (listing c.state.pc)) c.a) c))
@@ -149,3 +155,18 @@ module _ (listing : Listing) (s : Sched) (none : s.entries ≡ false) where
 pub run_quiet : (listing : Listing) (image : List Segment) (s : Sched) (t : ℕ) → s.entries ≡ false
     → shown (run listing image s t) ≡ timed.timed listing image s t
 run_quiet listing image s t none = same_shown (run listing image s t) (timed.timed listing image s t) (run_alone listing s none image t)
+
+pub run_still : (listing : Listing) (image : List Segment) (s : Sched) (t : ℕ) → s.entries ≡ false
+    → let x = run listing image s t in (x.machine.acts ≡ []) × (x.entries ≡ [])
+run_still listing image s t none =
+    let h = run_alone listing s none image t in
+    (ap (λ (x : Run). x.machine.acts) h.run, ap (λ (x : Run). x.entries) h.run)
+
+-- so whole instructions in order agree with what is shown
+pub stays_in_order : (listing : Listing) (image : List Segment) (s : Sched) (t : ℕ) → s.entries ≡ false
+    → StaysInOrder listing image s (shown (run listing image s t))
+stays_in_order listing image s t none =
+    let x = run listing image s t in
+    subst (AgreesAfter (thread_program listing s) (start image) x.outcome)
+    (ap (thread_at x.outcome x.machine.config) (run_still listing image s t none).0 ∙ still_thread x.outcome x.machine.config)
+    (keeps_order listing image s t).thread

@@ -4,10 +4,10 @@ use Rattle.hm_base.specs.Image.{Segment}
 use Rattle.hm_codes.specs.Listing.{Listing}
 use Rattle.hm_order.specs.Machine.{Config}
 use Rattle.hm_order.specs.Position.{Holds}
-use Rattle.hm_plain.specs.Overlap.{AgreesAfter}
-use Rattle.hm_plain.specs.Ends.{GoesOn}
-use Rattle.hm_plain.specs.Readings.{ShownInOrder}
-use Rattle.hm_plain.proofs.Halts.{halts, riders_of, shown_between}
+use Rattle.hm_in_order.specs.Overlap.{AgreesAfter}
+use Rattle.hm_in_order.specs.Ends.{GoesOn}
+use Rattle.hm_in_order.specs.Readings.{ShownInOrder}
+use Rattle.hm_in_order.proofs.Halts.{halts, riders_of, shown_between}
 use Rattle.hm_run.specs.Headline.{HaltsInOrder, Headline, Riders}
 use Rattle.hm_run.specs.InOrder.{Full, in_order}
 use Rattle.hm_run.specs.Report.{memory_text, report_text}

@@ -11,7 +11,7 @@ use Rattle.hm_run.specs.Timed.{thread_program}
 use Rattle.hm_sched.specs.Schedule.{Sched}
 use Rattle.hm_state.specs.Start.{start}
 use Rattle.hm_state.specs.State.{State}
-use Rattle.hm_plain.specs.Overlap.{AgreesAfter}
+use Rattle.hm_in_order.specs.Overlap.{AgreesAfter}
 use Rattle.hm_handlers.specs.Nested.{Interrupted, Nested}
 use Rattle.hm_handlers.specs.Registers.{restored}
 use Rattle.hm_handlers.specs.Runs.{Run}

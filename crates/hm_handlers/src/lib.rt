@@ -1,19 +1,19 @@
-//! Runs with handlers: what the beat machine is under a schedule with entries, and what its runs owe to the instructions in order. There is no
+//! Runs: what the beat machine is under a schedule, with its entries and handlers, and what its runs owe to the instructions in order. There is no
 //! code here. Each function is a law, and its clauses are what is proved of the definitions.
 #![tactic(auto)]
 
-ghost use Rattle.std.specs.Prelude.{◌≡◌, ℕ, ◌<◌, ◌≤◌, true, false, List, length, None, Some, IfOk};
+ghost use Rattle.std.specs.Prelude.{◌≡◌, ℕ, ◌<◌, ◌≤◌, true, false, List, [], length, None, Some, IfOk};
 ghost use Rattle.hm_base.specs.Image.{Segment};
 ghost use Rattle.hm_codes.specs.Listing.{Listing};
 ghost use Rattle.hm_exc.specs.Entry.{CanEnter, entry_refusal};
 ghost use Rattle.hm_order.specs.Turns.{Turn};
-ghost use Rattle.hm_plain.specs.Ends.{GoesOn};
-ghost use Rattle.hm_plain.specs.Readings.{ShownInOrder};
+ghost use Rattle.hm_in_order.specs.Ends.{GoesOn};
+ghost use Rattle.hm_in_order.specs.Readings.{ShownInOrder};
 ghost use Rattle.hm_run.specs.Headline.{Headline, Riders};
 ghost use Rattle.hm_run.specs.declared.Outcome.TheVariants.{Halted};
 ghost use Rattle.hm_run.specs.declared.Reason.{Reason};
 ghost use Rattle.hm_run.specs.Report.{memory_text, report_text};
-ghost use Rattle.hm_run.specs.Timed.{timed, bounds_of};
+ghost use Rattle.hm_run.specs.Timed.{bounds_of};
 ghost use Rattle.hm_sched.specs.Schedule.{Sched, TickLine};
 ghost use Rattle.hm_state.specs.State.{regs_of};
 ghost use Rattle.hm_whole.specs.Whole.{seen_in};
@@ -22,7 +22,7 @@ ghost use Rattle.hm_handlers.specs.Alike.{HaltAlike};
 ghost use Rattle.hm_handlers.specs.Entries.{entered, position_of};
 ghost use Rattle.hm_handlers.specs.Nested.{Nested, letters, step};
 ghost use Rattle.hm_handlers.specs.Order.{KeepsOrder, thread_of};
-ghost use Rattle.hm_handlers.specs.Runs.{Run, after_count, begin, next, picks, run, run_out, shown, shown_out};
+ghost use Rattle.hm_handlers.specs.Runs.{Run, after_count, begin, next, picks, run, run_out, shown_out};
 ghost use Rattle.hm_handlers.specs.Sound.{IsSound};
 ghost use Rattle.hm_sys.specs.Exceptions.{IsException};
 ghost use Rattle.hm_handlers.specs.Taint.{TaintLies};
@@ -67,10 +67,10 @@ pub fn halts_alike()
         → HaltAlike (shown_out listing image s) (shown_out listing image u) r q n m }
 {}
 
-/// Under a schedule without entries a run is that of the machine without handlers.
+/// Under a schedule without entries nothing is interrupted: no handler is active, and no exception entered.
 pub fn without_entries()
-    ensures same { (listing : Listing) (image : List Segment) (s : Sched) (t : ℕ) → s.entries ≡ false
-        → shown (run listing image s t) ≡ timed listing image s t }
+    ensures none { (listing : Listing) (image : List Segment) (s : Sched) (t : ℕ) → s.entries ≡ false → let x = run listing image s t in
+        (x.machine.acts ≡ []) × (x.entries ≡ []) }
 {}
 
 /// What an entry and a return need to know holds always: who accesses the memory, priorities of three bits, the exception number, that a handler uses

@@ -14,7 +14,7 @@ use Rattle.hm_handlers.proofs.Soundness.{start_sound}
 use Rattle.hm_handlers.specs.Nested.{Interrupted, Nested, around_under}
 use Rattle.hm_handlers.specs.Runs.{Run, next as next_run, run, shown, stacked_of, tick_of as tick_of_run}
 use Rattle.hm_handlers.specs.Sound.{IsSound}
-use Rattle.hm_machine.proofs.Runs.{all_ended, run_past}
+use Rattle.hm_plain.proofs.Ends.{all_ended, run_past}
 use Rattle.hm_machine.specs.Bares.{IsBare, ShowsGiven}
 use Rattle.hm_machine.proofs.Cursors.{none_left}
 use Rattle.hm_machine.specs.Machines.{GoesOn, StandsIn, left_at, left_in}

@@ -11,7 +11,7 @@ use Rattle.hm_exc.specs.declared.types.EnterErr.{EnterErr}
 use Rattle.hm_handlers.specs.Nested.{Ended, Nested, NestedEnd, Offends, TickEnd, letters}
 use Rattle.hm_handlers.specs.Runs.{Pointers, Run, after_count, begin, closed, ended, enters, enters_unless, next, picks, run, stops, tick_of}
 use Rattle.hm_exc.specs.Entry.{entry_refusal}
-use Rattle.hm_machine.proofs.Runs.{all_ended, next_ended, run_past}
+use Rattle.hm_plain.proofs.Ends.{all_ended, next_ended, run_past}
 use Rattle.hm_machine.specs.Shown.{Shown, Shows}
 use Rattle.hm_order.specs.Machine.{Stopped, Broken}
 use Rattle.hm_run.specs.declared.Outcome.{Outcome}

@@ -3,7 +3,6 @@ use Rattle.std.proofs.Common.{◌≡◌, ℕ, List, length, refl, sym, ◌∙◌
 use Rattle.hm_base.specs.Image.{Segment, flash_byte}
 use Rattle.hm_codes.specs.Listing.{Listing, IsListing}
 use Rattle.hm_machine.specs.Shown.{Shown, Shows, run_of, timed_of}
-use Rattle.hm_handlers.proofs.Quiet.{run_quiet}
 use Rattle.hm_handlers.proofs.Whole.{headline_every, riders_every}
 use Rattle.hm_handlers.proofs.Lying.{taint_lies}
 use Rattle.hm_handlers.proofs.Order.{keeps_order}
@@ -51,4 +50,4 @@ module _ (image : List Segment) (n : ℕ) (m : Shown) (end : Shows image (plain 
   pub plain_report : PlainReport (timed_of m) (in_order listing image n)
   plain_report =
       subst (λ (x : Timed). PlainReport x (in_order listing image n))
-      (sym (shown_out image (plain n) m end listing is ∙ run_quiet listing image (plain n) (length (ticks_of (plain n).lines)) refl)) (reports listing image n)
+      (sym (shown_out image (plain n) m end listing is)) (reports listing image n)

@@ -1,11 +1,2 @@
-pub mod Breakpoints
-pub mod Vectors
-pub mod Wholes
-pub mod Orders
 pub mod Ends
-pub mod Laws
-pub mod Sequence
-pub mod Readings
-pub mod Ticks
-pub mod Halts
 pub mod Plain

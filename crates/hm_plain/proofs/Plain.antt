@@ -1,50 +1,65 @@
 -- A plain schedule: each tick does one whole instruction, or ends the run at it. All else is what holds for any schedule.
-use Rattle.std.proofs.Common.{◌≡◌, ℕ, zero, suc, ◌+◌, ◌-◌, ◌≤◌, arith, ap, refl, sym, ◌∙◌, subst, ◌⊎◌, ⊎_elim, inl, inr, false, List, [], ◌∷◌, drop, length}
-use Rattle.std.proofs.Common.{Option, Some, None, Result, Ok, Err}
+use Rattle.std.proofs.Common.{◌≡◌, ℕ, zero, suc, ◌+◌, ◌-◌, ◌<◌, ◌≤◌, arith, ap, refl, sym, ◌∙◌, subst, ◌⊎◌, ⊎_elim, inl, inr, Bool, false, cond, List, []}
+use Rattle.std.proofs.Common.{◌∷◌, drop, length, map, Option, Some, None, Result, Ok, Err}
 use Rattle.hm_base.specs.Image.{Segment}
+use Rattle.hm_beat.specs.Laws.{NoTaint}
 use Rattle.hm_codes.specs.Listing.{Listing}
-use Rattle.hm_mem.specs.Memory.{Around, thread_under, Bounds}
+use Rattle.hm_handlers.proofs.Quiet.{letter_alone, quiet, run_still, stays_in_order}
+use Rattle.hm_handlers.specs.Nested.{NestedStep, at_step, letters, with_acts}
+use Rattle.hm_handlers.specs.Runs.{Run, begin, closed, ended, enters, next, picks, run, run_out, shown, shown_out, stacked_of}
+use Rattle.hm_in_order.proofs.Breakpoints.{Leaves}
+use Rattle.hm_in_order.proofs.Halts.{StaysInOrder, fault_as, full_as, halted_as, kept, reports_going, reports_stop, shown_between}
+use Rattle.hm_in_order.proofs.Orders.{stopped_later}
+use Rattle.hm_in_order.proofs.Ticks.{clean_start}
+use Rattle.hm_in_order.proofs.Wholes.{Comes, between, leaves, whole_step}
+use Rattle.hm_in_order.specs.Ends.{GoesOn}
+use Rattle.hm_in_order.specs.Orders.{HasStopped}
+use Rattle.hm_in_order.specs.Overlap.{HaltsAfter, StopsBetween}
+use Rattle.hm_in_order.specs.Sequence.{FaultsAt}
+use Rattle.hm_mem.specs.Memory.{Around, thread_under}
 use Rattle.hm_order.specs.Beats.{then}
 use Rattle.hm_order.specs.Machine.{Config}
 use Rattle.hm_order.specs.Position.{Holds}
-use Rattle.hm_beat.specs.Laws.{NoTaint}
+use Rattle.hm_plain.proofs.Ends.{next_ended}
+use Rattle.hm_plain.specs.Orders.{plain_end, plain_ticks}
 use Rattle.hm_run.specs.declared.Outcome.{Outcome}
 use Rattle.hm_run.specs.declared.Outcome.TheVariants as outcome
 use Rattle.hm_run.specs.declared.Who.TheVariants.{Thread, Handler, Entry}
 use Rattle.hm_run.specs.Headline.{PlainReport}
 use Rattle.hm_run.specs.InOrder.{InOrder, Halted, Full, Faulted, in_order}
-use Rattle.hm_run.specs.Program.{Program, Stepped, alone, at_step, letter_step, letter_steps}
+use Rattle.hm_run.specs.Program.{Program, Stepped, alone as whole_alone, letter_step}
 use Rattle.hm_run.specs.Report.{outcome_line}
 use Rattle.hm_run.specs.Stops as why
 use Rattle.hm_run.specs.Stops.{WholeStop}
-use Rattle.hm_exc.specs.declared.types.Activation.{Activation}
-use Rattle.hm_run.specs.Timed.{Timed, begin, closed, ended, next as next_tick, or_out, thread_program, timed, timed_out, who_runs, bounds_of}
+use Rattle.hm_run.specs.Timed.{Timed, bounds_of, counted_with, or_out, thread_program, with_devices}
 use Rattle.hm_sched.specs.Schedule.{Sched, TickLine, whole_letter, plain_line, plain, plain_lines, repeat, ticks_of}
-use Rattle.hm_state.specs.Start.{start, start_under}
+use Rattle.hm_state.specs.Start.{start}
 use Rattle.hm_state.specs.State.{State}
-use Rattle.hm_plain.specs.Ends.{GoesOn, PlainlyEnds}
-use Rattle.hm_plain.specs.Orders.{HasStopped, plain_end, plain_ticks}
-use Rattle.hm_plain.specs.Overlap.{HaltsAfter, StaysInOrder, StopsBetween}
-use Rattle.hm_plain.specs.Sequence.{FaultsAt}
-use Rattle.hm_plain.proofs.Halts.{fault_as, full_as, halted_as, kept, no_acts, reports_going, reports_stop, shown_between}
-use Rattle.hm_plain.proofs.Orders.{stopped_later}
-use Rattle.hm_plain.proofs.Ticks.{keeps_order}
-use Rattle.hm_plain.proofs.Breakpoints.{Leaves}
-use Rattle.hm_plain.proofs.Wholes.{Comes, between, leaves, whole_step}
-use Rattle.hm_run.proofs.Steps.{ticked, next_ended}
+
+-- A run of plain ticks ends at one of its first t instructions: it halts there, has a fault, or has no room for its output.
+-- Nothing else ends it before it is out of ticks.
+abbrev PlainlyEnds : ℕ → Config State → Outcome → Type 0
+PlainlyEnds t c outcome.OutOfTicks = ⊥
+PlainlyEnds t c (outcome.Halted reason k) = k ≤ t
+PlainlyEnds t c (outcome.Fault Thread f pc k) = k < t
+PlainlyEnds t c (outcome.Fault Handler f pc k) = ⊥
+PlainlyEnds t c (outcome.Fault Entry f pc k) = ⊥
+PlainlyEnds t c (outcome.RuleBroken i j r) = ⊥
+PlainlyEnds t c (outcome.HandlerBroken i what) = ⊥
+PlainlyEnds t c (outcome.TaintedRead i pc addr) = ⊥
+PlainlyEnds t c (outcome.StackSpent i sp) = ⊥
+PlainlyEnds t c (outcome.OutputFull k) = (k ≤ t) × (k ≡ c.n + 1)
 
 -- the outcome of a run that goes on, where so many ticks are left
 abbrev left_out : ℕ → Option Outcome
 left_out zero = Some outcome.OutOfTicks
 left_out (suc k) = None
 
--- a run that goes on after t ticks: t instructions are done, and no byte is tainted
-record Goes (left t : ℕ) (x : Timed) : Type 0 where
+-- a run that goes on after t ticks: t instructions are done, no byte is tainted, and nothing was interrupted
+record Goes (left t : ℕ) (x : Run) : Type 0 where
   steps : ℕ
   state : State
-  outcome : x.outcome ≡ left_out left
-  config : x.config ≡ between t steps state
-  ticks : x.ticks ≡ t
+  run : x ≡ quiet (left_out left) (between t steps state) t
   clean : NoTaint state
 
 -- in which tick a plain run ends so
@@ -55,13 +70,13 @@ ended_in (outcome.OutputFull k) = k
 ended_in o = 0
 
 -- a run that one of the first t instructions ended
-record Ends (t : ℕ) (x : Timed) : Type 0 where
+record Ends (t : ℕ) (x : Run) : Type 0 where
   end : Outcome
   outcome : x.outcome ≡ Some end
-  plainly : PlainlyEnds t x.config end
+  plainly : PlainlyEnds t x.machine.config end
   ticks : x.ticks ≡ ended_in end
 
-abbrev Plainly : ℕ → ℕ → Timed → Type 0
+abbrev Plainly : ℕ → ℕ → Run → Type 0
 Plainly left t x = Goes left t x ⊎ Ends t x
 
 -- ONE TICK
@@ -77,71 +92,70 @@ later_ends t c (outcome.TaintedRead i pc addr) h = absurd h
 later_ends t c (outcome.StackSpent i sp) h = absurd h
 later_ends t c (outcome.OutputFull k) h = let few = h.0 in (omega arith, h.1)
 
-closed_ends : (rest : List TickLine) (t : ℕ) (y : Timed) → Ends t y → Ends t (closed rest y)
+closed_ends : (rest : List TickLine) (t : ℕ) (y : Run) → Ends t y → Ends t (closed rest y)
 closed_ends [] t y h = record { end = h.end; outcome = ap or_out h.outcome; plainly = h.plainly; ticks = h.ticks }
 closed_ends (l ∷ rest) t y h = h
 
-closed_goes : (line : TickLine) (left t : ℕ) (y : Timed) → y.outcome ≡ None → (k : ℕ) (u : State) → y.config ≡ between t k u → y.ticks ≡ t → NoTaint u
-    → Goes left t (closed (repeat left line []) y)
-closed_goes line zero t y none k u config ticks clean = record { steps = k; state = u; outcome = ap or_out none; config = config; ticks = ticks; clean = clean }
-closed_goes line (suc left) t y none k u config ticks clean = record { steps = k; state = u; outcome = none; config = config; ticks = ticks; clean = clean }
+closed_goes : (line : TickLine) (left t k : ℕ) (u : State) → NoTaint u → Goes left t (closed (repeat left line []) (quiet None (between t k u) t))
+closed_goes line zero t k u clean = record { steps = k; state = u; run = refl; clean = clean }
+closed_goes line (suc left) t k u clean = record { steps = k; state = u; run = refl; clean = clean }
 
-module _ (listing : Listing) (s : Sched) (n : ℕ) where
+module _ (listing : Listing) (s : Sched) (n : ℕ) (none : s.entries ≡ false) where
   abbrev machine : Program
   machine = thread_program listing s
 
   abbrev around : Around
   around = thread_under (bounds_of s)
 
-  -- the end of a plain tick, by what the letter comes to
-  abbrev after_tick : Timed → Stepped → Timed
-  after_tick x r = ended (plain_line n) x (then (at_step 1 false r) (letter_steps machine 1 []))
+  -- the end of a plain tick after t others, by what the letter comes to
+  abbrev after_tick : ℕ → Config State → NestedStep → Run
+  after_tick t c r = ended s (plain_line n) (quiet None c t) (then (at_step 1 false r) (letters listing s 1 []))
 
   abbrev rest : ℕ → List TickLine
   rest left = repeat left (plain_line n) []
 
-  tick_comes : (left t : ℕ) (x : Timed) → x.acts ≡ [] → x.ticks ≡ t → (q : Result State WholeStop) → Leaves q → (r : Stepped) → Comes t q r
-      → Plainly left (suc t) (closed (rest left) (after_tick x r))
-  tick_comes left t x none ticks (Ok u) leaves r h =
-      let one : x.ticks + 1 ≡ suc t = omega arith in
-      subst (λ (r : Stepped). Plainly left (suc t) (closed (rest left) (after_tick x r))) (sym h.1)
-      (inl (closed_goes (plain_line n) left (suc t) (after_tick x (Ok (between (suc t) h.0 u))) refl h.0 _ refl one leaves))
-  tick_comes left t x none ticks (Err (why.Halt reason)) leaves r h =
-      let same = h.1 in
-      subst (λ (r : Stepped). Plainly left (suc t) (closed (rest left) (after_tick x r))) (sym h.2)
-      (inr (closed_ends (rest left) (suc t) _ (record { end = outcome.Halted reason (h.0.n + 1); outcome = refl; plainly = omega arith; ticks = omega arith })))
-  tick_comes left t x none ticks (Err why.Full) leaves r h =
-      let same = h.1 in
-      subst (λ (r : Stepped). Plainly left (suc t) (closed (rest left) (after_tick x r))) (sym h.2)
-      (inr (closed_ends (rest left) (suc t) _
-      (record { end = outcome.OutputFull (x.ticks + 1); outcome = refl; plainly = (omega arith, omega arith); ticks = refl })))
-  tick_comes left t x none ticks (Err (why.Faults f)) leaves r h =
-      let same = h.1 in
-      subst (λ (r : Stepped). Plainly left (suc t) (closed (rest left) (after_tick x r))) (sym h.2)
-      (inr (closed_ends (rest left) (suc t) _
-      (record {
-        end = _;
-        outcome = ap (λ (acts : List Activation). Some (outcome.Fault (who_runs acts) f h.0.state.pc h.0.n)) none;
-        plainly = omega arith;
-        ticks = omega arith;
-      })))
+  -- where it goes on nothing enters
+  goes_on : (t j : ℕ) (c : Config State) (u : State) → after_tick t c (with_acts [] (Ok (between (suc t) j u)))
+      ≡ quiet None (between (suc t) j (with_devices (counted_with (plain_line n).irq) u)) (suc t)
+  goes_on t j c u =
+      let one : t + 1 ≡ suc t = omega arith in
+      let x = quiet None (between (suc t) j (with_devices (counted_with (plain_line n).irq) u)) in
+      ap (λ (b : Bool). cond b (enters s (picks (x (t + 1))) (x (t + 1))) (x (t + 1))) none ∙ ap x one
 
-  tick_goes : (left t : ℕ) (x : Timed) → x.acts ≡ [] → x.outcome ≡ None → Goes (suc left) t x
-      → Plainly left (suc t) (next_tick machine (plain_line n ∷ rest left) x)
-  tick_goes left t x none on h =
-      let letters : letter_steps machine 0 (plain_line n).letters x.config
-      ≡ then (at_step 1 false (letter_step machine whole_letter (between t h.steps h.state))) (letter_steps machine 1 [])
-      = ap (letter_steps machine 0 (plain_line n).letters) h.config in
-      subst (Plainly left (suc t)) (sym (ticked machine (plain_line n) (rest left) x _ on letters))
-      (tick_comes left t x none h.ticks (alone listing h.state) (leaves around refl (listing h.state.pc) h.state h.clean)
-      (letter_step machine whole_letter (between t h.steps h.state)) (whole_step listing around refl t h.steps h.state h.clean))
+  tick_comes : (left t : ℕ) (c : Config State) (q : Result State WholeStop) → Leaves q → (r : Stepped) → Comes t q r
+      → Plainly left (suc t) (closed (rest left) (after_tick t c (with_acts [] r)))
+  tick_comes left t c (Ok u) leaves r h =
+      subst (λ (r : Stepped). Plainly left (suc t) (closed (rest left) (after_tick t c (with_acts [] r)))) (sym h.1)
+      (subst (λ (y : Run). Plainly left (suc t) (closed (rest left) y)) (sym (goes_on t h.0 c u)) (inl (closed_goes (plain_line n) left (suc t) h.0 _ leaves)))
+  tick_comes left t c (Err (why.Halt reason)) leaves r h =
+      let same = h.1 in
+      subst (λ (r : Stepped). Plainly left (suc t) (closed (rest left) (after_tick t c (with_acts [] r)))) (sym h.2)
+      (inr (closed_ends (rest left) (suc t) _
+      (record { end = outcome.Halted reason (h.0.n + 1); outcome = refl; plainly = omega arith; ticks = omega arith })))
+  tick_comes left t c (Err why.Full) leaves r h =
+      let same = h.1 in
+      subst (λ (r : Stepped). Plainly left (suc t) (closed (rest left) (after_tick t c (with_acts [] r)))) (sym h.2)
+      (inr (closed_ends (rest left) (suc t) _
+      (record { end = outcome.OutputFull (t + 1); outcome = refl; plainly = (omega arith, omega arith); ticks = refl })))
+  tick_comes left t c (Err (why.Faults f)) leaves r h =
+      let same = h.1 in
+      subst (λ (r : Stepped). Plainly left (suc t) (closed (rest left) (after_tick t c (with_acts [] r)))) (sym h.2)
+      (inr (closed_ends (rest left) (suc t) _
+      (record { end = outcome.Fault Thread f h.0.state.pc h.0.n; outcome = refl; plainly = omega arith; ticks = omega arith })))
 
-  tick_plainly : (left t : ℕ) (x : Timed) → x.acts ≡ [] → Plainly (suc left) t x
-      → Plainly left (suc t) (next_tick machine (plain_line n ∷ repeat left (plain_line n) []) x)
-  tick_plainly left t x none (inl h) = tick_goes left t x none h.outcome h
-  tick_plainly left t x none (inr h) =
-      subst (Plainly left (suc t)) (sym (next_ended machine (plain_line n ∷ repeat left (plain_line n) []) x h.end h.outcome))
-      (inr (record { end = h.end; outcome = h.outcome; plainly = later_ends t x.config h.end h.plainly; ticks = h.ticks }))
+  tick_goes : (left t : ℕ) (x : Run) → Goes (suc left) t x → Plainly left (suc t) (next listing s (plain_line n ∷ rest left) x)
+  tick_goes left t x h =
+      let c = between t h.steps h.state in
+      subst (λ (y : Run). Plainly left (suc t) (next listing s (plain_line n ∷ rest left) y)) (sym h.run)
+      (subst (λ (r : NestedStep). Plainly left (suc t) (closed (rest left) (after_tick t c r))) (sym (letter_alone listing s none whole_letter c))
+      (tick_comes left t c (whole_alone listing h.state) (leaves around refl (listing h.state.pc) h.state h.clean) (letter_step machine whole_letter c)
+      (whole_step listing around refl t h.steps h.state h.clean)))
+
+  tick_plainly : (left t : ℕ) (x : Run) → Plainly (suc left) t x → Plainly left (suc t) (next listing s (plain_line n ∷ rest left) x)
+  tick_plainly left t x (inl h) = tick_goes left t x h
+  tick_plainly left t x (inr h) =
+      subst (Plainly left (suc t)) (sym (next_ended listing s (plain_line n ∷ rest left) x h.end h.outcome))
+      (inr (record { end = h.end; outcome = h.outcome; plainly = later_ends t x.machine.config h.end h.plainly; ticks = h.ticks }))
 
 -- THE TICKS OF A PLAIN SCHEDULE
 ticks_plain : (n : ℕ) → ticks_of (plain_lines n) ≡ repeat n (plain_line n) []
@@ -166,46 +180,42 @@ repeat_length (suc n) line = ap suc (repeat_length n line)
 pub plain_length : (n : ℕ) → length (ticks_of (plain n).lines) ≡ n
 plain_length n = ap length (ticks_plain n) ∙ repeat_length n (plain_line n)
 
-pub clean_start : (bounds : Bounds) (image : List Segment) → NoTaint (start_under bounds image)
-unfolding start_under
-clean_start bounds image = λ a. refl
-
--- A SCHEDULE OF n PLAIN TICKS, whatever its region and its floors
-module _ (listing : Listing) (image : List Segment) (s : Sched) (n : ℕ) (lines : s.lines ≡ plain_lines n) where
+-- A SCHEDULE OF n PLAIN TICKS without entries, whatever its region and its floors
+module _ (listing : Listing) (image : List Segment) (s : Sched) (n : ℕ) (none : s.entries ≡ false) (lines : s.lines ≡ plain_lines n) where
   goes_first : (left : ℕ) → n ≡ left → Goes left 0 (closed (ticks_of s.lines) (begin image s))
   goes_first left e =
       subst (λ (l : List TickLine). Goes left 0 (closed l (begin image s)))
       (sym (ap ticks_of lines ∙ ticks_plain n ∙ ap (λ (k : ℕ). repeat k (plain_line n) []) e))
-      (closed_goes (plain_line n) left 0 (begin image s) refl 0 _ refl refl (clean_start (bounds_of s) image))
+      (closed_goes (plain_line n) left 0 0 _ (clean_start (bounds_of s) image))
 
-  plainly : (t left : ℕ) → t + left ≡ n → Plainly left t (timed listing image s t)
+  plainly : (t left : ℕ) → t + left ≡ n → Plainly left t (run listing image s t)
   plainly zero left e = let same : n ≡ left = omega arith in inl (goes_first left same)
   plainly (suc t) left e =
       let more : t + suc left ≡ n = omega arith in
-      subst (λ (l : List TickLine). Plainly left (suc t) (next_tick (thread_program listing s) l (timed listing image s t)))
+      subst (λ (l : List TickLine). Plainly left (suc t) (next listing s l (run listing image s t)))
       (sym (ap (λ (l : List TickLine). drop t (ticks_of l)) lines ∙ left_at t left n more))
-      (tick_plainly listing s n left t (timed listing image s t) (no_acts listing image s t) (plainly t (suc left) more))
+      (tick_plainly listing s n none left t (run listing image s t) (plainly t (suc left) more))
 
-  plainly_out : Plainly 0 n (timed_out listing image s)
+  plainly_out : Plainly 0 n (run_out listing image s)
   plainly_out =
       let all : n + 0 ≡ n = omega arith in
-      subst (λ (t : ℕ). Plainly 0 n (timed listing image s t)) (sym (ap (λ (l : List TickLine). length (ticks_of l)) lines ∙ plain_length n)) (plainly n 0 all)
+      subst (λ (t : ℕ). Plainly 0 n (run listing image s t)) (sym (ap (λ (l : List TickLine). length (ticks_of l)) lines ∙ plain_length n)) (plainly n 0 all)
 
 -- while a plain run goes on, each tick retires one instruction
-on_retired : (left t : ℕ) (x : Timed) → Plainly left t x → GoesOn x.outcome → (x.config.n ≡ t) × (x.config.a ≡ 0)
-on_retired left t x (inl h) on = (ap (λ (c : Config State). c.n) h.config, ap (λ (c : Config State). c.a) h.config)
+on_retired : (left t : ℕ) (x : Run) → Plainly left t x → GoesOn x.outcome → (x.machine.config.n ≡ t) × (x.machine.config.a ≡ 0)
+on_retired left t x (inl h) on = (ap (λ (y : Run). y.machine.config.n) h.run, ap (λ (y : Run). y.machine.config.a) h.run)
 on_retired left t x (inr h) on =
     absurd (⊎_elim (λ e. let no : None ≡ Some h.end = sym e ∙ h.outcome in absurd cc)
     (λ e. over h.end (let same : Some outcome.OutOfTicks ≡ Some h.end = sym e ∙ h.outcome in cc) h.plainly) on)
   where
-    over : (o : Outcome) → outcome.OutOfTicks ≡ o → PlainlyEnds t x.config o → ⊥
-    over o e p = subst (PlainlyEnds t x.config) (sym e) p
+    over : (o : Outcome) → outcome.OutOfTicks ≡ o → PlainlyEnds t x.machine.config o → ⊥
+    over o e p = subst (PlainlyEnds t x.machine.config) (sym e) p
 
-pub retires : (listing : Listing) (image : List Segment) (n t : ℕ) → t ≤ n → GoesOn (timed listing image (plain n) t).outcome
-    → ((timed listing image (plain n) t).config.n ≡ t) × ((timed listing image (plain n) t).config.a ≡ 0)
+pub retires : (listing : Listing) (image : List Segment) (n t : ℕ) → t ≤ n → let x = run listing image (plain n) t in
+    GoesOn x.outcome → (x.machine.config.n ≡ t) × (x.machine.config.a ≡ 0)
 retires listing image n t few on =
     let all : t + (n - t) ≡ n = omega arith in
-    on_retired (n - t) t (timed listing image (plain n) t) (plainly listing image (plain n) n refl t (n - t) all) on
+    on_retired (n - t) t (run listing image (plain n) t) (plainly listing image (plain n) n refl refl t (n - t) all) on
 
 -- REPORTS
 -- a plain run comes to what the instructions in order come to
@@ -214,15 +224,17 @@ pub record Tells (n : ℕ) (x : Timed) (y : InOrder) : Type 0 where
   pub ends : x.outcome ≡ Some (plain_end y)
   pub ticks : x.ticks ≡ plain_ticks n y
 
-module _ (listing : Listing) (image : List Segment) (s : Sched) (n : ℕ) (lines : s.lines ≡ plain_lines n) where
-  goes_reports : (x : Timed) → StaysInOrder listing image s x → x.acts ≡ [] → Goes 0 n x → Tells n x (in_order listing image n)
-  goes_reports x keeps none h =
-      let holds : Holds (thread_program listing s) (start image) x.config = kept listing image s x (Some outcome.OutOfTicks) keeps h.outcome in
-      let between : x.config.a ≡ 0 = ap (λ (c : Config State). c.a) h.config in
-      let done : x.config.n ≡ n = ap (λ (c : Config State). c.n) h.config in
-      let shown = shown_between listing image s x.config holds between in
-      subst (Tells n x) (sym shown.runs ∙ ap (in_order listing image) done)
-      (record { report = reports_going listing image s x h.outcome none holds between; ends = h.outcome; ticks = h.ticks })
+module _ (listing : Listing) (image : List Segment) (s : Sched) (n : ℕ) (no_entries : s.entries ≡ false) (lines : s.lines ≡ plain_lines n) where
+  goes_reports : (x : Run) → StaysInOrder listing image s (shown x) → Goes 0 n x → Tells n (shown x) (in_order listing image n)
+  goes_reports x keeps h =
+      let out : x.outcome ≡ Some outcome.OutOfTicks = ap (λ (y : Run). y.outcome) h.run in
+      let holds : Holds (thread_program listing s) (start image) x.machine.config = kept listing image s (shown x) (Some outcome.OutOfTicks) keeps out in
+      let stands : x.machine.config.a ≡ 0 = ap (λ (y : Run). y.machine.config.a) h.run in
+      let done : x.machine.config.n ≡ n = ap (λ (y : Run). y.machine.config.n) h.run in
+      let alone : map stacked_of x.machine.acts ≡ [] = ap (λ (y : Run). map stacked_of y.machine.acts) h.run in
+      let there = shown_between listing image s x.machine.config holds stands in
+      subst (Tells n (shown x)) (sym there.runs ∙ ap (in_order listing image) done)
+      (record { report = reports_going listing image s (shown x) out alone holds stands; ends = out; ticks = ap (λ (y : Run). y.ticks) h.run })
 
   -- what stopped the instructions in order within n
   within : (x : Timed) (k : ℕ) (y : InOrder) → k ≤ n → in_order listing image k ≡ y → HasStopped y → Tells n x y → Tells n x (in_order listing image n)
@@ -257,19 +269,20 @@ module _ (listing : Listing) (image : List Segment) (s : Sched) (n : ℕ) (lines
         ticks = t ∙ same;
       })
 
-  plain_reports : (x : Timed) → StaysInOrder listing image s x → x.acts ≡ [] → Plainly 0 n x → Tells n x (in_order listing image n)
-  plain_reports x keeps none (inl h) = goes_reports x keeps none h
-  plain_reports x keeps none (inr h) = ends_reports x keeps none h.end h.outcome h.plainly h.ticks
+  plain_reports : (x : Run) → StaysInOrder listing image s (shown x) → x.machine.acts ≡ [] → Plainly 0 n x → Tells n (shown x) (in_order listing image n)
+  plain_reports x keeps alone (inl h) = goes_reports x keeps h
+  plain_reports x keeps alone (inr h) = ends_reports (shown x) keeps (ap (map stacked_of) alone) h.end h.outcome h.plainly h.ticks
 
-  pub tells : Tells n (timed_out listing image s) (in_order listing image n)
+  pub tells : Tells n (shown_out listing image s) (in_order listing image n)
   tells =
       let t = length (ticks_of s.lines) in
-      plain_reports (timed_out listing image s) (keeps_order listing image s t) (no_acts listing image s t) (plainly_out listing image s n lines)
+      plain_reports (run_out listing image s) (stays_in_order listing image s t no_entries) (run_still listing image s t no_entries).0
+      (plainly_out listing image s n no_entries lines)
 
 -- a plain run reports what the instructions in order come to
-pub reports : (listing : Listing) (image : List Segment) (n : ℕ) → PlainReport (timed_out listing image (plain n)) (in_order listing image n)
-reports listing image n = (tells listing image (plain n) n refl).report
+pub reports : (listing : Listing) (image : List Segment) (n : ℕ) → PlainReport (shown_out listing image (plain n)) (in_order listing image n)
+reports listing image n = (tells listing image (plain n) n refl refl).report
 
 -- and it ends as they do
-pub plain_ends : (listing : Listing) (image : List Segment) (n : ℕ) → (timed_out listing image (plain n)).outcome ≡ Some (plain_end (in_order listing image n))
-plain_ends listing image n = (tells listing image (plain n) n refl).ends
+pub plain_ends : (listing : Listing) (image : List Segment) (n : ℕ) → (shown_out listing image (plain n)).outcome ≡ Some (plain_end (in_order listing image n))
+plain_ends listing image n = (tells listing image (plain n) n refl refl).ends

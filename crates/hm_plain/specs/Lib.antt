@@ -1,5 +1,1 @@
-pub mod Sequence
-pub mod Readings
 pub mod Orders
-pub mod Ends
-pub mod Overlap

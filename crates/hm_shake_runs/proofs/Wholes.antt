@@ -1,27 +1,22 @@
 -- Runs of whole instructions end alike under every head.
-use Rattle.std.proofs.Common.{◌≡◌, ◌∙◌, ℕ, List, Some, ap, false, length, refl, sym}
+use Rattle.std.proofs.Common.{◌≡◌, ◌∙◌, ℕ, List, Some, false, refl, sym}
 use Rattle.hm_base.specs.Image.{Segment}
 use Rattle.hm_codes.specs.Listing.{Listing}
-use Rattle.hm_handlers.proofs.Quiet.{run_quiet}
-use Rattle.hm_handlers.specs.Runs.{run_out, shown_out}
+use Rattle.hm_handlers.specs.Runs.{run_out}
 use Rattle.hm_plain.proofs.Plain.{tells}
 use Rattle.hm_plain.specs.Orders.{plain_end, plain_ticks}
 use Rattle.hm_run.specs.InOrder.{in_order}
-use Rattle.hm_run.specs.Timed.{Timed, timed_out}
-use Rattle.hm_sched.specs.Schedule.{Sched, plain, plain_lines, ticks_of}
+use Rattle.hm_sched.specs.Schedule.{Sched, plain, plain_lines}
 use Rattle.hm_shake_runs.specs.Heads.{whole_ticks}
 use Rattle.hm_shake_runs.specs.declared.head.Head.{Head}
 
 -- n of them without entries: as the instructions in order
 module _ (image : List Segment) (listing : Listing) (s : Sched) (n : ℕ) (none : s.entries ≡ false) (lines : s.lines ≡ plain_lines n) where
-  quiet : shown_out listing image s ≡ timed_out listing image s
-  quiet = run_quiet listing image s (length (ticks_of s.lines)) none
-
   outcome_is : (run_out listing image s).outcome ≡ Some (plain_end (in_order listing image n))
-  outcome_is = ap (λ (x : Timed). x.outcome) quiet ∙ (tells listing image s n lines).ends
+  outcome_is = (tells listing image s n none lines).ends
 
   ticks_are : (run_out listing image s).ticks ≡ plain_ticks n (in_order listing image n)
-  ticks_are = ap (λ (x : Timed). x.ticks) quiet ∙ (tells listing image s n lines).ticks
+  ticks_are = (tells listing image s n none lines).ticks
 
 pub whole_outcome : (image : List Segment) (listing : Listing) (h : Head) (n : ℕ)
     → (run_out listing image (whole_ticks h n)).outcome ≡ (run_out listing image (plain n)).outcome

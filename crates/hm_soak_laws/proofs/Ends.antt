@@ -4,22 +4,21 @@ use Rattle.hm_base.specs.Image.{Segment}
 use Rattle.hm_codes.specs.Listing.{Listing}
 use Rattle.hm_handlers.proofs.Alike.{alike_every}
 use Rattle.hm_handlers.proofs.Order.{keeps_order}
-use Rattle.hm_handlers.proofs.Quiet.{run_quiet}
 use Rattle.hm_handlers.specs.Order.{HaltsInThread, thread_at}
 use Rattle.hm_handlers.specs.Nested.{Nested}
 use Rattle.hm_handlers.specs.Runs.{run_out}
-use Rattle.hm_plain.proofs.Halts.{halted_as}
+use Rattle.hm_in_order.proofs.Halts.{halted_as}
 use Rattle.hm_plain.proofs.Plain.{plain_ends}
-use Rattle.hm_plain.proofs.Readings.{shown_alike}
+use Rattle.hm_in_order.proofs.Readings.{shown_alike}
 use Rattle.hm_plain.specs.Orders.{plain_end}
-use Rattle.hm_plain.specs.Overlap.{AgreesAfter, HaltsAfter}
-use Rattle.hm_plain.specs.Readings.{ShownAlike}
+use Rattle.hm_in_order.specs.Overlap.{AgreesAfter, HaltsAfter}
+use Rattle.hm_in_order.specs.Readings.{ShownAlike}
 use Rattle.hm_run.specs.declared.Outcome.{Outcome}
 use Rattle.hm_run.specs.declared.Outcome.TheVariants as outcome
 use Rattle.hm_run.specs.declared.Reason.{Reason}
 use Rattle.hm_run.specs.declared.Reason.TheVariants.{Break}
 use Rattle.hm_run.specs.InOrder.{Halted, InOrder, in_order}
-use Rattle.hm_run.specs.Timed.{Timed, thread_program}
+use Rattle.hm_run.specs.Timed.{thread_program}
 use Rattle.hm_sched.specs.Schedule.{Sched, plain, ticks_of}
 use Rattle.hm_state.specs.Start.{start}
 use Rattle.hm_state.specs.State.{State, regs_of}
@@ -61,8 +60,7 @@ module _ (listing : Listing) (image : List Segment) where
 
   pub plain_halts : (n : ℕ) → HaltsInOrder listing image n → (run_out listing image (plain n)).outcome ≡ Some (outcome.Halted (Break 0) n)
   plain_halts n h =
-      ap (λ (x : Timed). x.outcome) (run_quiet listing image (plain n) (length (ticks_of (plain n).lines)) refl) ∙ plain_ends listing image n
-      ∙ ap (λ (y : InOrder). Some (plain_end y)) h.halts
+      plain_ends listing image n ∙ ap (λ (y : InOrder). Some (plain_end y)) h.halts
 
   pub ends_alike : (n : ℕ) (s : Sched) (r : Reason) (k : ℕ) → HaltsInOrder listing image n → (run_out listing image s).outcome ≡ Some (outcome.Halted r k)
       → EndsAlike listing image n s r k

@@ -1,5 +1,5 @@
-use Rattle.hm_handlers.proofs.Quiet.{run_quiet}
+use Rattle.hm_handlers.proofs.Quiet.{run_still}
 use Rattle.hm_handlers.proofs.without_entries.Goals as goal
 
 pub returns : goal.returns
-returns c = record { same = run_quiet }
+returns c = record { none = run_still }

@@ -6,5 +6,5 @@ returns c = record {
   report = reports;
   ends = plain_ends;
   retired = retires;
-  under = λ listing image s n is. let told = tells listing image s n is in record { outcome = told.ends; ticks = told.ticks };
+  under = λ listing image s n none is. let told = tells listing image s n none is in record { outcome = told.ends; ticks = told.ticks };
 }

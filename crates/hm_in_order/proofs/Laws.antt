@@ -48,9 +48,9 @@ use Rattle.hm_rows.proofs.Rows.{keeps_lr, row_laws}
 use Rattle.hm_rows.proofs.Context.{context_fresh, context_pc, context_ready, context_there, fresh}
 use Rattle.hm_whole.specs.Whole.{Went, scalar_alone, scalar_in_machine}
 use Rattle.hm_whole.proofs.Agreement.{whole-live}
-use Rattle.hm_plain.proofs.Breakpoints.{Leaves, TaintedOrAlike, asked_alike, break_alike}
-use Rattle.hm_plain.proofs.Vectors.{beat_rest, context_clean, four_are, not_refused, ready_counts, ready_same, refuse_same, retire, row_beats, row_pc}
-use Rattle.hm_plain.proofs.Wholes.{leaves, under_thread, watched_clean}
+use Rattle.hm_in_order.proofs.Breakpoints.{Leaves, TaintedOrAlike, asked_alike, break_alike}
+use Rattle.hm_in_order.proofs.Vectors.{beat_rest, context_clean, four_are, not_refused, ready_counts, ready_same, refuse_same, retire, row_beats, row_pc}
+use Rattle.hm_in_order.proofs.Wholes.{leaves, under_thread, watched_clean}
 
 -- VIEWS
 abbrev value_in : Value → Held → Value

@@ -7,7 +7,7 @@ use Rattle.hm_run.specs.Program.{alone}
 use Rattle.hm_run.specs.Stops as why
 use Rattle.hm_run.specs.Stops.{WholeStop}
 use Rattle.hm_state.specs.State.{State}
-use Rattle.hm_plain.specs.Orders.{HasStopped, StaysStopped}
+use Rattle.hm_in_order.specs.Orders.{HasStopped, StaysStopped}
 
 module _ (listing : Listing) (image : List Segment) where
   -- instruction n + 1 after n

@@ -29,8 +29,8 @@ use Rattle.hm_mem.specs.Seen.{as_stops}
 use Rattle.hm_whole.specs.Watched.{GoesClean, In, Beside}
 use Rattle.hm_whole.specs.Whole.{Went, scalar_alone}
 use Rattle.hm_whole.proofs.Agreement.{whole-clean, whole-same}
-use Rattle.hm_plain.proofs.Breakpoints.{Leaves, break_leaves, break_same, broken_leaves, broken_same}
-use Rattle.hm_plain.proofs.Vectors.{beat_pc, context_clean, four_are, not_refused, retire, row_beats, row_leaves}
+use Rattle.hm_in_order.proofs.Breakpoints.{Leaves, break_leaves, break_same, broken_leaves, broken_same}
+use Rattle.hm_in_order.proofs.Vectors.{beat_pc, context_clean, four_are, not_refused, retire, row_beats, row_leaves}
 
 -- between two instructions: n are done, in k steps
 abbrev pub between : ℕ → ℕ → State → Config State

@@ -14,8 +14,8 @@ use Rattle.hm_run.specs.Stops as why
 use Rattle.hm_run.specs.Stops.{WholeStop}
 use Rattle.hm_state.specs.Start.{start}
 use Rattle.hm_state.specs.State.{State}
-use Rattle.hm_plain.specs.Sequence.{StopsFrom, FaultsAt}
-use Rattle.hm_plain.proofs.Laws.{next_is}
+use Rattle.hm_in_order.specs.Sequence.{StopsFrom, FaultsAt}
+use Rattle.hm_in_order.proofs.Laws.{next_is}
 
 -- a number of instructions that an order tells is no more than were asked for
 abbrev Bounded : ℕ → InOrder → Type 0

@@ -4,8 +4,8 @@ use Rattle.hm_order.specs.Beats.{Live}
 use Rattle.hm_whole.specs.Watched.{view}
 use Rattle.hm_whole.proofs.Agreement.{same_regs}
 use Rattle.hm_state.specs.State.{State, Rest, Value}
-use Rattle.hm_plain.specs.Readings.{ShownAlike}
-use Rattle.hm_plain.proofs.Laws.{agree}
+use Rattle.hm_in_order.specs.Readings.{ShownAlike}
+use Rattle.hm_in_order.proofs.Laws.{agree}
 
 pub shown_alike : (s t : State) → Live view s t → s.pc ≡ t.pc → ShownAlike s t
 shown_alike s t live pc =

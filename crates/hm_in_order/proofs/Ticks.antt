@@ -44,9 +44,10 @@ use Rattle.hm_state.specs.Start.{start, start_under}
 use Rattle.hm_state.specs.State.{State, regs_of}
 use Rattle.hm_whole.specs.Whole.{Went, scalar_alone}
 use Rattle.hm_whole.proofs.Agreement.{same_regs}
-use Rattle.hm_plain.specs.Overlap.{AgreesAfter, StaysInOrder, StopsBetween}
-use Rattle.hm_plain.specs.Sequence.{FaultsAt}
-use Rattle.hm_plain.proofs.Laws.{laws, clean_of, next_is}
+use Rattle.hm_in_order.specs.Overlap.{AgreesAfter, StopsBetween}
+use Rattle.hm_in_order.specs.Sequence.{FaultsAt}
+use Rattle.hm_in_order.proofs.Halts.{StaysInOrder}
+use Rattle.hm_in_order.proofs.Laws.{laws, clean_of, next_is}
 use Rattle.hm_window.specs.Positions.{may_end}
 
 -- THE DEVICES
@@ -325,6 +326,10 @@ first_pc image bounds = refl
 clean_first : (image : List Segment) → NoTaint (start image)
 unfolding start_under
 clean_first image = λ a. refl
+
+pub clean_start : (bounds : Bounds) (image : List Segment) → NoTaint (start_under bounds image)
+unfolding start_under
+clean_start bounds image = λ a. refl
 
 pub begun : (listing : Listing) (image : List Segment) (s : Sched) → Holds (thread_program listing s) (start image) (begin image s).config
 begun listing image s = record {

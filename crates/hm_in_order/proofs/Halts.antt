@@ -1,35 +1,33 @@
--- The headline and its riders, for any schedule: from what holds after each tick.
+-- The headline and its riders, of what is shown of a run in which whole instructions in order agree with its position.
 use Rattle.std.proofs.Common.{◌≡◌, ℕ, zero, suc, ◌+◌, ◌-◌, ◌*◌, ◌/◌, ◌%◌, ◌^◌, ◌<◌, ◌≤◌, arith, ap, refl, sym, ◌∙◌, subst, ⊎_elim, Bool, true, false, cond}
-use Rattle.std.proofs.Common.{List, [], ◌∷◌, ◌++◌, drop, length, slice_index, Option, Some, None, Ok, Err}
+use Rattle.std.proofs.Common.{List, [], ◌++◌, length, slice_index, Option, Some}
 use Rattle.std.proofs.lemmas.List.{get_or_append_left, get_or-append_right}
 use Rattle.hm_base.specs.Image.{Segment, sram_size, sram_start}
 use Rattle.hm_base.specs.declared.Fault.{Fault}
 use Rattle.hm_codes.specs.Listing.{Listing}
 use Rattle.hm_mem.specs.Memory.{Around, thread_under}
-use Rattle.hm_order.specs.Machine.{Config, Stopped, Broken}
+use Rattle.hm_order.specs.Machine.{Config}
 use Rattle.hm_order.specs.Position.{Holds}
 use Rattle.hm_order.proofs.Headline.{few_steps, stops_at}
 use Rattle.hm_run.specs.declared.Outcome.{Outcome}
 use Rattle.hm_run.specs.declared.Outcome.TheVariants as outcome
 use Rattle.hm_run.specs.declared.Reason.{Reason}
 use Rattle.hm_run.specs.declared.Who.TheVariants.{Thread}
-use Rattle.hm_run.specs.Headline.{HasBytesOf, HaltsInOrder, Headline, Riders, taint_bit_in}
+use Rattle.hm_run.specs.Headline.{HasBytesOf, HaltsInOrder, Riders, taint_bit_in}
 use Rattle.hm_run.specs.InOrder.{Halted, Full, Faulted, in_order, report_between}
-use Rattle.hm_run.specs.Program.{Program, Ticked, letter_steps}
+use Rattle.hm_run.specs.Program.{Program}
 use Rattle.hm_run.specs.Report.{report_of, report_text, memory_text}
 use Rattle.hm_run.specs.Stops as why
-use Rattle.hm_run.specs.Timed.{Timed, begin, closed, ended, next, thread_program, tick_of, timed, timed_out, bounds_of}
-use Rattle.hm_sched.specs.Schedule.{TickLine, Sched, ticks_of}
+use Rattle.hm_run.specs.Timed.{Timed, thread_program, bounds_of}
+use Rattle.hm_sched.specs.Schedule.{Sched}
 use Rattle.hm_state.specs.Start.{start}
 use Rattle.hm_state.specs.State.{State, Byte, bit, byte_of_bits, listed, sram_bytes, taint_bytes}
 use Rattle.hm_state.proofs.Lists.{length-listed, get_or-listed}
-use Rattle.hm_plain.specs.Ends.{GoesOn}
-use Rattle.hm_plain.specs.Overlap.{HaltsAfter, AgreesAfter, StaysInOrder, StopsBetween}
-use Rattle.hm_plain.specs.Readings.{ShownAlike, ShownInOrder}
-use Rattle.hm_plain.specs.Sequence.{FaultsAt, StopsFrom}
-use Rattle.hm_plain.proofs.Readings.{shown_alike}
-use Rattle.hm_plain.proofs.Sequence as sequence
-use Rattle.hm_plain.proofs.Ticks.{keeps_order}
+use Rattle.hm_in_order.specs.Overlap.{HaltsAfter, AgreesAfter, StopsBetween}
+use Rattle.hm_in_order.specs.Readings.{ShownAlike, ShownInOrder}
+use Rattle.hm_in_order.specs.Sequence.{FaultsAt, StopsFrom}
+use Rattle.hm_in_order.proofs.Readings.{shown_alike}
+use Rattle.hm_in_order.proofs.Sequence as sequence
 
 -- THE MEMORY FILE
 -- two lists, one after the other
@@ -103,33 +101,6 @@ bytes_alike s t file h e = λ j lt clear.
     let clean = clean_bit (s.cell (Byte (sram_start + j))).taint (sym told ∙ here) in
     ap (λ (l : List ℕ). slice_index l j) e ∙ bytes_first sram_size 0x8000 _ _ j lt ∙ h.bytes (sram_start + j) clean
 
--- ACTIVATIONS. Nothing is entered here.
-module _ (M : Program) where
-  end_acts : (b : Bool) (x y : Timed) → x.acts ≡ [] → y.acts ≡ [] → (cond b x y).acts ≡ []
-  end_acts true x y h k = h
-  end_acts false x y h k = k
-
-  ended_acts : (line : TickLine) (x : Timed) (r : Ticked) → x.acts ≡ [] → (ended line x r).acts ≡ []
-  ended_acts line x (Ok c) h = end_acts _ _ _ h h
-  ended_acts line x (Err (Stopped c e)) h = h
-  ended_acts line x (Err (Broken c r)) h = h
-
-  tick_acts : (line : TickLine) (x : Timed) (o : Option Outcome) → x.acts ≡ [] → (tick_of M line x o).acts ≡ []
-  tick_acts line x (Some o) h = h
-  tick_acts line x None h = ended_acts line x (letter_steps M 0 line.letters x.config) h
-
-  closed_acts : (left : List TickLine) (x : Timed) → x.acts ≡ [] → (closed left x).acts ≡ []
-  closed_acts [] x h = h
-  closed_acts (line ∷ left) x h = h
-
-  next_acts : (left : List TickLine) (x : Timed) → x.acts ≡ [] → (next M left x).acts ≡ []
-  next_acts [] x h = h
-  next_acts (line ∷ left) x h = closed_acts left (tick_of M line x x.outcome) (tick_acts line x x.outcome h)
-
-pub no_acts : (listing : Listing) (image : List Segment) (s : Sched) (t : ℕ) → (timed listing image s t).acts ≡ []
-no_acts listing image s zero = closed_acts (thread_program listing s) (ticks_of s.lines) (begin image s) refl
-no_acts listing image s (suc t) = next_acts (thread_program listing s) (drop t (ticks_of s.lines)) (timed listing image s t) (no_acts listing image s t)
-
 module _ (listing : Listing) (image : List Segment) (s : Sched) where
   abbrev around : Around
   around = thread_under (bounds_of s)
@@ -137,8 +108,12 @@ module _ (listing : Listing) (image : List Segment) (s : Sched) where
   abbrev machine : Program
   machine = thread_program listing s
 
+  -- what is shown agrees with whole instructions in order, from a reset to the image
+  abbrev pub StaysInOrder : Timed → Type 0
+  StaysInOrder x = AgreesAfter machine (start image) x.outcome x.config
+
   -- what is kept, by the outcome
-  pub kept : (x : Timed) (o : Option Outcome) → StaysInOrder listing image s x → x.outcome ≡ o → AgreesAfter machine (start image) o x.config
+  pub kept : (x : Timed) (o : Option Outcome) → StaysInOrder x → x.outcome ≡ o → AgreesAfter machine (start image) o x.config
   kept x o h e = subst (λ (q : Option Outcome). AgreesAfter machine (start image) q x.config) e h
 
   -- between two instructions what is shown is in order
@@ -153,14 +128,6 @@ module _ (listing : Listing) (image : List Segment) (s : Sched) where
 
   b_between : (c : Config State) → Holds machine (start image) c → c.a ≡ 0 → c.b ≡ 0
   b_between c h none = ⊎_elim (λ p. p.b) (λ p. let more = p.begun in absurd (omega arith)) h.place
-
-  -- a run that goes on, or is out of ticks
-  going : (x : Timed) → StaysInOrder listing image s x → GoesOn x.outcome → Holds machine (start image) x.config
-  going x keeps on = ⊎_elim (λ e. kept x None keeps e) (λ e. kept x (Some outcome.OutOfTicks) keeps e) on
-
-  pub between_all : (t : ℕ) → GoesOn (timed listing image s t).outcome → (timed listing image s t).config.a ≡ 0
-      → ShownInOrder listing image (timed listing image s t).config.n (timed listing image s t).config.state
-  between_all t on none = shown_between (timed listing image s t).config (going (timed listing image s t) (keeps_order listing image s t) on) none
 
   -- THE REPORT
   -- a run that ends between two instructions reports what a state that is shown alike does
@@ -190,7 +157,7 @@ module _ (listing : Listing) (image : List Segment) (s : Sched) where
   fault_as f pc n h = (sequence.faulted listing image around n f pc).0 h
 
   -- THE HEADLINE
-  pub halts : (x : Timed) (report file : List ℕ) → StaysInOrder listing image s x → x.acts ≡ [] → report ≡ report_text x → file ≡ memory_text x
+  pub halts : (x : Timed) (report file : List ℕ) → StaysInOrder x → x.acts ≡ [] → report ≡ report_text x → file ≡ memory_text x
       → (reason : Reason) (n : ℕ) → x.outcome ≡ Some (outcome.Halted reason n) → HaltsInOrder listing image report file reason n
   halts x report file keeps none r f reason n e =
       let h : HaltsAfter machine (start image) reason n x.config = kept x (Some (outcome.Halted reason n)) keeps e in
@@ -201,18 +168,8 @@ module _ (listing : Listing) (image : List Segment) (s : Sched) where
         bytes = bytes_alike x.config.state h.between.order file (shown_alike x.config.state h.between.order h.between.live h.between.pc) f;
       }
 
-  pub headline_all : (report file : List ℕ) → report ≡ report_text (timed_out listing image s) → file ≡ memory_text (timed_out listing image s)
-      → Headline listing image (timed_out listing image s) report file
-  headline_all report file r f =
-      let t = length (ticks_of s.lines) in
-      record {
-        report_is = r;
-        file_is = f;
-        in_order = halts (timed_out listing image s) report file (keeps_order listing image s t) (no_acts listing image s t) r f;
-      }
-
   -- THE RIDERS
-  few : (x : Timed) → StaysInOrder listing image s x → (reason : Reason) (n : ℕ) (u : State) → in_order listing image n ≡ Halted reason n u
+  few : (x : Timed) → StaysInOrder x → (reason : Reason) (n : ℕ) (u : State) → in_order listing image n ≡ Halted reason n u
       → x.outcome ≡ Some outcome.OutOfTicks → x.config.steps < 4 * n
   few x keeps reason zero u h e = absurd cc
   few x keeps reason (suc n) u h e =
@@ -222,13 +179,10 @@ module _ (listing : Listing) (image : List Segment) (s : Sched) where
       few_steps machine (start image) x.config n (why.Halt reason) (kept x (Some outcome.OutOfTicks) keeps e)
       (record { state = u; runs = stops.runs; stop = stops.stop })
 
-  pub riders_of : (x : Timed) → StaysInOrder listing image s x → Riders listing image x
+  pub riders_of : (x : Timed) → StaysInOrder x → Riders listing image x
   riders_of x keeps = record {
     fault = λ f pc n e. fault_as f pc n (kept x (Some (outcome.Fault Thread f pc n)) keeps e);
     full = λ t e. let h : StopsBetween machine (start image) x.config.n why.Full x.config = kept x (Some (outcome.OutputFull t)) keeps e in
         (h.order, full_as x.config h);
     few = few x keeps;
   }
-
-  pub riders_all : (t : ℕ) → Riders listing image (timed listing image s t)
-  riders_all t = riders_of (timed listing image s t) (keeps_order listing image s t)

@@ -1,0 +1,5 @@
+pub mod Sequence
+pub mod Readings
+pub mod Orders
+pub mod Ends
+pub mod Overlap
