@@ -39,7 +39,7 @@ use Rattle.hm_handlers.specs.Nested.{Ended, Interrupted, Nested, NestedEnd, Nest
 use Rattle.hm_handlers.specs.Nested.{letter, letters, program_under, returned, step, step_under, steps, uncounted, went, with_acts}
 use Rattle.hm_handlers.specs.Runs.{Pointers, Run, after_count, begin, closed, ended, enters, enters_unless, may_enter, next, picks, pointers_of, run}
 use Rattle.hm_handlers.specs.Runs.{stopped_under, stops, tick_of}
-use Rattle.hm_handlers.specs.Taint.{BelowMain, BelowProcess, MayBeTainted, TaintLies}
+use Rattle.hm_handlers.specs.Taint.{BelowMain, MayBeTainted, TaintLies}
 use Rattle.hm_handlers.proofs.Growing.{Allowed, Grows, Nothing, handler_scalar}
 use Rattle.hm_handlers.proofs.Growth.{StepGrows, begun_grows, fault_grows, thread_older, thread_younger, vector_grows, younger_grows}
 use Rattle.hm_handlers.proofs.Written.{handler_beat}

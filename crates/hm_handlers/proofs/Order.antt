@@ -30,7 +30,7 @@ use Rattle.hm_run.specs.declared.Outcome.TheVariants as outcome
 use Rattle.hm_run.specs.Program.{Program, Stopping, is_tainted_cause, steps_left, vector_of}
 use Rattle.hm_run.specs.Timed as timed
 use Rattle.hm_exc.specs.declared.types.Activation.{Activation}
-use Rattle.hm_run.specs.Timed.{Timed, at_stop, counted_with, outcome_of, thread_program, with_devices, bounds_of}
+use Rattle.hm_run.specs.Timed.{at_stop, counted_with, outcome_of, thread_program, with_devices, bounds_of}
 use Rattle.hm_sched.specs.Schedule.{TickLine, Sched, older_letter, younger_letter, ticks_of}
 use Rattle.hm_state.specs.Start.{start}
 use Rattle.hm_state.specs.State.{State, regs_of}
@@ -229,9 +229,6 @@ module _ (listing : Listing) (s : Sched) (first : State) where
   abbrev KeepsRun : Run → Type 0
   KeepsRun x = AgreesInThread machine first x.outcome x.machine
 
-  abbrev no_timed : Timed
-  no_timed = record { outcome = None; config = record { a = 0; b = 0; n = 0; steps = 0; state = first }; acts = []; ticks = 0 }
-
   -- a stop of the thread
   thread_outcome : (o : Outcome) (c : Config State) → AgreesAfter machine first (Some o) c → thread_at (Some o) c [] ≡ c
       → AgreesInThread machine first (Some o) (record { config = c; acts = [] })
@@ -266,7 +263,7 @@ module _ (listing : Listing) (s : Sched) (first : State) where
       let stopping : Stopping = record { cause = e; younger = younger } in
       let around = thread_under (bounds_of s) in
       thread_outcome (outcome_of t [] c stopping) (at_stop c stopping)
-      (stop_keeps listing around refl first t no_timed c e younger h only (next_stops listing around refl first c.n e (explained machine first c e h)))
+      (stop_keeps listing around refl first t [] c e younger h only (next_stops listing around refl first c.n e (explained machine first c e h)))
       (still_thread (Some (outcome_of t [] c stopping)) (at_stop c stopping))
   stops_keep t k younger (Ended (Stopped c e) (x ∷ acts)) es h only = handler_cause t (stacked_of x) (map stacked_of acts) c _ e (x ∷ acts) h
   stops_keep t k younger (Ended (Breaks c r) acts) es h only = record { thread = tt; halts = tt }

@@ -1,28 +1,29 @@
--- Under a schedule without entries nothing is interrupted.
-use Rattle.std.proofs.Common.{◌≡◌, ℕ, zero, suc, ◌==◌, ◌+◌, ap, refl, sym, ◌∙◌, subst, Bool, true, false, cond, List, [], ◌∷◌, drop, length, Option, Some, None}
+-- Where nothing is interrupted, a step is the thread's; and under a schedule without entries nothing ever is.
+use Rattle.std.proofs.Common.{◌≡◌, ℕ, zero, suc, ◌==◌, ◌+◌, ap, refl, sym, ◌∙◌, subst, Bool, false, cond, List, [], ◌∷◌, drop, length, Option, Some, None}
 use Rattle.std.proofs.Common.{Result, Ok, Err}
 use Rattle.hm_base.specs.Image.{Segment}
 use Rattle.hm_codes.specs.Listing.{Listing}
+use Rattle.hm_handlers.proofs.Choices.{either}
+use Rattle.hm_handlers.proofs.Order.{keeps_order, still_thread}
+use Rattle.hm_handlers.specs.Nested.{Ended, Interrupted, Nested, NestedEnd, NestedStep, Offends, TickEnd, at_step, letter, letters, step, steps, to_end}
+use Rattle.hm_handlers.specs.Nested.{with_acts}
+use Rattle.hm_handlers.specs.Order.{thread_at}
+use Rattle.hm_handlers.specs.Runs.{Pointers, Run, after_count, begin, closed, ended, enters, may_enter, next, picks, run, shown, stops, tick, tick_of}
+use Rattle.hm_in_order.proofs.Halts.{StaysInOrder}
+use Rattle.hm_in_order.proofs.Wholes.{older_steps, to_end as thread_to_end}
+use Rattle.hm_in_order.specs.Overlap.{AgreesAfter}
 use Rattle.hm_order.specs.Beats.{then}
 use Rattle.hm_order.specs.Machine.{Config, Stopped, Broken, older, younger}
+use Rattle.hm_order.specs.Turns.{Older, Younger}
 use Rattle.hm_run.specs.declared.Outcome.{Outcome}
 use Rattle.hm_run.specs.declared.Outcome.TheVariants as outcome
-use Rattle.hm_run.specs.Program as program
-use Rattle.hm_run.specs.Program.{Program, Stepped, Ticked, letter_step, letter_steps, older_steps, steps_left, vector_of}
-use Rattle.hm_run.specs.Timed as timed
-use Rattle.hm_exc.specs.declared.types.Activation.{Activation}
-use Rattle.hm_run.specs.Timed.{Timed, at_stop, counted_with, outcome_of, thread_program, with_devices}
-use Rattle.hm_handlers.proofs.Order.{keeps_order, still_thread}
-use Rattle.hm_in_order.proofs.Halts.{StaysInOrder}
-use Rattle.hm_in_order.specs.Overlap.{AgreesAfter}
-use Rattle.hm_state.specs.Start.{start}
+use Rattle.hm_run.specs.Program.{Program, Stepped, steps_left, vector_of}
+use Rattle.hm_run.specs.Timed.{thread_program}
 use Rattle.hm_sched.specs.Schedule.{TickLine, Sched, older_letter, younger_letter, ticks_of}
+use Rattle.hm_state.specs.Start.{start}
 use Rattle.hm_state.specs.State.{State}
 use Rattle.hm_window.specs.Positions.{may_end}
 use Rattle.hm_window.specs.declared.rule.Rule.TheVariants as rule
-use Rattle.hm_handlers.specs.Nested.{Ended, Nested, NestedStep, TickEnd, at_step, letter, letters, steps, with_acts}
-use Rattle.hm_handlers.specs.Order.{thread_at}
-use Rattle.hm_handlers.specs.Runs.{Run, after_count, begin, closed, ended, enters, next, picks, run, shown, tick_end, tick_of}
 
 -- nothing is interrupted
 abbrev pub alone : Config State → Nested
@@ -32,16 +33,15 @@ alone c = record { config = c; acts = [] }
 abbrev pub quiet : Option Outcome → Config State → ℕ → Run
 quiet o c t = record { outcome = o; machine = alone c; ticks = t; entries = [] }
 
--- a run in which nothing is interrupted, and the value of the fold that knows no handler
-record Same (x : Run) (y : Timed) : Type 0 where
-  run : x ≡ quiet y.outcome y.config y.ticks
-  acts : y.acts ≡ []
+pub alone_is : (x : Nested) → x.acts ≡ [] → x ≡ alone x.config
+alone_is x h = λ j. record { config = x.config; acts = h j }
 
-same_shown : (x : Run) (y : Timed) → Same x y → shown x ≡ y
-same_shown x y h =
-    ap shown h.run ∙ (λ j. record { outcome = y.outcome; config = y.config; acts = sym h.acts j; ticks = y.ticks })
+-- nothing is interrupted, and these are the stack pointers at its entries
+pub record Still (es : List Pointers) (x : Run) : Type 0 where
+  pub acts : x.machine.acts ≡ []
+  pub entries : x.entries ≡ es
 
-module _ (listing : Listing) (s : Sched) (none : s.entries ≡ false) where
+module _ (listing : Listing) (s : Sched) where
   abbrev machine : Program
   machine = thread_program listing s
 
@@ -55,112 +55,93 @@ module _ (listing : Listing) (s : Sched) (none : s.entries ≡ false) where
   steps_alone zero c = refl
   steps_alone (suc k) c = then_alone (older machine c) (older_steps machine k) (steps listing s k) (steps_alone k)
 
-  either_alone : (b : Bool) (x y : NestedStep) (p q : Stepped) → x ≡ with_acts [] p → y ≡ with_acts [] q → cond b x y ≡ with_acts [] (cond b p q)
-  either_alone true x y p q h k = h
-  either_alone false x y p q h k = k
+  -- the older instruction to its end
+  pub ends_alone : (c : Config State) → to_end listing s (alone c) ≡ with_acts [] (thread_to_end machine c)
+  ends_alone c = steps_alone (steps_left (vector_of (listing c.state.pc)) c.a) c
 
-  pub letter_alone : (l : ℕ) (c : Config State) → letter listing s l (alone c) ≡ with_acts [] (letter_step machine l c)
-  letter_alone l c =
-      either_alone (l == older_letter) _ _ _ _ refl
-      (either_alone (l == younger_letter) _ _ _ _ refl (steps_alone (steps_left (vector_of (listing c.state.pc)) c.a) c))
+  -- LETTERS leave nothing interrupted
+  abbrev acts_in : NestedEnd → List Interrupted
+  acts_in (Ended e acts) = acts
+  acts_in (Offends what c acts) = acts
 
-  -- LETTERS
-  abbrev Like : Result Nested TickEnd → Ticked → Type 0
-  Like (Ok m) (Ok c) = m ≡ alone c
-  Like (Err e) (Err (Stopped c w)) = e ≡ record { step = e.step; younger = w.younger; end = Ended (Stopped c w.cause) [] }
-  Like (Err e) (Err (Broken c b)) = e ≡ record { step = b.step; younger = e.younger; end = Ended (Broken c b.rule) [] }
-  Like (Ok m) (Err e) = ⊥
-  Like (Err e) (Ok c) = ⊥
+  abbrev Alone : NestedStep → Type 0
+  Alone (Ok x) = x.acts ≡ []
+  Alone (Err e) = acts_in e ≡ []
 
-  at_step_like : (k : ℕ) (younger : Bool) (r : Stepped) → Like (at_step k younger (with_acts [] r)) (program.at_step k younger r)
-  at_step_like k younger (Ok c) = refl
-  at_step_like k younger (Err (Stopped c e)) = refl
-  at_step_like k younger (Err (Broken c r)) = refl
+  abbrev AloneTick : Result Nested TickEnd → Type 0
+  AloneTick (Ok x) = x.acts ≡ []
+  AloneTick (Err e) = acts_in e.end ≡ []
 
-  then_like : (a : Result Nested TickEnd) (b : Ticked) (f : Nested → Result Nested TickEnd) (g : Config State → Ticked) → Like a b
-      → ((c : Config State) → Like (f (alone c)) (g c))
-      → Like (then a f) (then b g)
-  then_like (Ok m) (Ok c) f g h k = subst (λ (x : Nested). Like (f x) (g c)) (sym h) (k c)
-  then_like (Ok m) (Err (Stopped c w)) f g h k = absurd h
-  then_like (Ok m) (Err (Broken c b)) f g h k = absurd h
-  then_like (Err e) (Ok c) f g h k = absurd h
-  then_like (Err e) (Err (Stopped c w)) f g h k = h
-  then_like (Err e) (Err (Broken c b)) f g h k = h
+  with_none : (r : Stepped) → Alone (with_acts [] r)
+  with_none (Ok c) = refl
+  with_none (Err e) = refl
 
-  letters_like : (ls : List ℕ) (k : ℕ) (c : Config State) → Like (letters listing s k ls (alone c)) (letter_steps machine k ls c)
-  letters_like [] k c = refl
-  letters_like (l ∷ ls) k c =
-      then_like (at_step (k + 1) (l == younger_letter) (letter listing s l (alone c))) (program.at_step (k + 1) (l == younger_letter) (letter_step machine l c))
-      (letters listing s (k + 1) ls) (letter_steps machine (k + 1) ls)
-      (subst (λ (r : NestedStep). Like (at_step (k + 1) (l == younger_letter) r) (program.at_step (k + 1) (l == younger_letter) (letter_step machine l c)))
-      (sym (letter_alone l c))
-      (at_step_like (k + 1) (l == younger_letter) (letter_step machine l c)))
-      (letters_like ls (k + 1))
+  letter_none : (l : ℕ) (c : Config State) → Alone (letter listing s l (alone c))
+  letter_none l c =
+      let older_one = step listing s Older (alone c) in
+      let younger_one = step listing s Younger (alone c) in
+      let all = to_end listing s (alone c) in
+      either Alone (l == older_letter) older_one (cond (l == younger_letter) younger_one all) (with_none (older machine c))
+      (either Alone (l == younger_letter) younger_one all (with_none (younger machine c)) (subst Alone (sym (ends_alone c)) (with_none (thread_to_end machine c))))
 
-  -- TICKS
-  counts_alone : (b : Bool) → b ≡ false → (line : TickLine) (c : Config State) (t : ℕ) (acts : List Activation) → acts ≡ []
-      → let x = after_count line (quiet None c t) in
-      Same (cond b (enters s (picks x) x) x)
-      (record { outcome = None; config = record c { state = with_devices (counted_with line.irq) c.state }; acts = acts; ticks = t })
-  counts_alone true e line c t acts h = let no : true ≡ false = e in absurd cc
-  counts_alone false e line c t acts h = record { run = refl; acts = h }
+  at_step_none : (k : ℕ) (younger : Bool) (r : NestedStep) → Alone r → AloneTick (at_step k younger r)
+  at_step_none k younger (Ok x) h = h
+  at_step_none k younger (Err e) h = h
 
-  judged_alone : (b : Bool) (line : TickLine) (c : Config State) (t : ℕ) (acts : List Activation) → acts ≡ []
-      → let x = quiet None c t in
-      let y : Timed = record { outcome = None; config = c; acts = acts; ticks = t } in
-      let broken : Outcome = outcome.RuleBroken t (length line.letters) (rule.Ending c.a c.b) in
-      Same (cond b (let z = after_count line x in cond s.entries (enters s (picks z) z) z) (record x { outcome = Some broken }))
-      (cond b (record y { config = record c { state = with_devices (counted_with line.irq) c.state } }) (record y { outcome = Some broken }))
-  judged_alone true line c t acts h = counts_alone s.entries none line c t acts h
-  judged_alone false line c t acts h = record { run = refl; acts = h }
+  then_none : (r : Result Nested TickEnd) (f : Nested → Result Nested TickEnd) → AloneTick r → ((c : Config State) → AloneTick (f (alone c))) → AloneTick (then r f)
+  then_none (Ok x) f h k = subst (λ (y : Nested). AloneTick (f y)) (sym (alone_is x h)) (k x.config)
+  then_none (Err e) f h k = h
 
-  ended_alone : (line : TickLine) (o : Option Outcome) (y : Timed) (r : Result Nested TickEnd) (q : Ticked) → y.acts ≡ [] → Like r q
-      → Same (ended s line (quiet o y.config y.ticks) r) (timed.ended line y q)
-  ended_alone line o y (Ok m) (Ok c) h e =
-      subst (λ (x : Nested). Same (tick_end s line (record { outcome = None; machine = x; ticks = y.ticks + 1; entries = [] })) (timed.ended line y (Ok c)))
-      (sym e)
-      (judged_alone (may_end c.a c.b) line c (y.ticks + 1) y.acts h)
-  ended_alone line o y (Ok m) (Err (Stopped c w)) h e = absurd e
-  ended_alone line o y (Ok m) (Err (Broken c b)) h e = absurd e
-  ended_alone line o y (Err k) (Ok c) h e = absurd e
-  ended_alone line o y (Err k) (Err (Stopped c w)) h e =
-      subst (λ (x : TickEnd). Same (ended s line (quiet o y.config y.ticks) (Err x)) (timed.ended line y (Err (Stopped c w)))) (sym e)
-      (record { run = λ j. quiet (Some (outcome_of (y.ticks + 1) (sym h j) c w)) (at_stop c w) (y.ticks + 1); acts = h })
-  ended_alone line o y (Err k) (Err (Broken c b)) h e =
-      subst (λ (x : TickEnd). Same (ended s line (quiet o y.config y.ticks) (Err x)) (timed.ended line y (Err (Broken c b)))) (sym e)
-      (record { run = refl; acts = h })
+  letters_none : (ls : List ℕ) (k : ℕ) (c : Config State) → AloneTick (letters listing s k ls (alone c))
+  letters_none [] k c = refl
+  letters_none (l ∷ ls) k c =
+      then_none (at_step (k + 1) (l == younger_letter) (letter listing s l (alone c))) (letters listing s (k + 1) ls)
+      (at_step_none (k + 1) (l == younger_letter) (letter listing s l (alone c)) (letter_none l c)) (letters_none ls (k + 1))
 
-  tick_alone : (line : TickLine) (o : Option Outcome) (y : Timed) → y.outcome ≡ o → y.acts ≡ []
-      → Same (tick_of listing s line (quiet y.outcome y.config y.ticks) o) (timed.tick_of machine line y o)
-  tick_alone line (Some o) y e h = record { run = refl; acts = h }
-  tick_alone line None y e h =
-      ended_alone line y.outcome y (letters listing s 0 line.letters (alone y.config)) (letter_steps machine 0 line.letters y.config) h
-      (letters_like line.letters 0 y.config)
+  -- TICKS without entries
+  stops_still : (es : List Pointers) (t k : ℕ) (younger : Bool) (e : NestedEnd) → acts_in e ≡ [] → Still es (stops t k younger e es)
+  stops_still es t k younger (Ended (Stopped c e) acts) h = record { acts = h; entries = refl }
+  stops_still es t k younger (Ended (Broken c r) acts) h = record { acts = h; entries = refl }
+  stops_still es t k younger (Offends what c acts) h = record { acts = h; entries = refl }
 
-  closed_alone : (left : List TickLine) (x : Run) (y : Timed) → Same x y → Same (closed left x) (timed.closed left y)
-  closed_alone [] x y h = record { run = ap (λ (z : Run). record z { outcome = timed.or_out z.outcome }) h.run; acts = h.acts }
-  closed_alone (line ∷ left) x y h = h
+  module _ (none : s.entries ≡ false) where
+    may_enter_still : (es : List Pointers) (x : Run) → Still es x → Still es (may_enter s x)
+    may_enter_still es x h = subst (λ (b : Bool). Still es (cond b (enters s (picks x) x) x)) (sym none) h
 
-  next_alone : (left : List TickLine) (x : Run) (y : Timed) → Same x y → Same (next listing s left x) (timed.next machine left y)
-  next_alone [] x y h = h
-  next_alone (line ∷ left) x y h =
-      closed_alone left (tick_of listing s line x x.outcome) (timed.tick_of machine line y y.outcome)
-      (subst (λ (z : Run). Same (tick_of listing s line z z.outcome) (timed.tick_of machine line y y.outcome)) (sym h.run)
-      (tick_alone line y.outcome y refl h.acts))
+    ended_still : (line : TickLine) (x : Run) (r : Result Nested TickEnd) → AloneTick r → Still x.entries (ended s line x r)
+    ended_still line x (Ok m) h =
+        let y : Run = record { outcome = None; machine = m; ticks = x.ticks + 1; entries = x.entries } in
+        let broken : Outcome = outcome.RuleBroken y.ticks (length line.letters) (rule.Ending m.config.a m.config.b) in
+        either (Still x.entries) (may_end m.config.a m.config.b) (may_enter s (after_count line y)) (record y { outcome = Some broken })
+        (may_enter_still x.entries (after_count line y) (record { acts = h; entries = refl })) (record { acts = h; entries = refl })
+    ended_still line x (Err e) h = stops_still x.entries (x.ticks + 1) e.step e.younger e.end h
 
-  run_alone : (image : List Segment) (t : ℕ) → Same (run listing image s t) (timed.timed listing image s t)
-  run_alone image zero = closed_alone (ticks_of s.lines) (begin image s) (timed.begin image s) (record { run = refl; acts = refl })
-  run_alone image (suc t) = next_alone (drop t (ticks_of s.lines)) (run listing image s t) (timed.timed listing image s t) (run_alone image t)
+    tick_by : (line : TickLine) (x : Run) (o : Option Outcome) → x.machine.acts ≡ [] → Still x.entries (tick_of listing s line x o)
+    tick_by line x (Some o) h = record { acts = h; entries = refl }
+    tick_by line x None h =
+        ended_still line x (letters listing s 0 line.letters x.machine)
+        (subst (λ (m : Nested). AloneTick (letters listing s 0 line.letters m)) (sym (alone_is x.machine h)) (letters_none line.letters 0 x.machine.config))
 
-pub run_quiet : (listing : Listing) (image : List Segment) (s : Sched) (t : ℕ) → s.entries ≡ false
-    → shown (run listing image s t) ≡ timed.timed listing image s t
-run_quiet listing image s t none = same_shown (run listing image s t) (timed.timed listing image s t) (run_alone listing s none image t)
+    pub tick_still : (line : TickLine) (x : Run) → x.machine.acts ≡ [] → Still x.entries (tick listing s line x)
+    tick_still line x h = tick_by line x x.outcome h
+
+    closed_still : (es : List Pointers) (left : List TickLine) (x : Run) → Still es x → Still es (closed left x)
+    closed_still es [] x h = record { acts = h.acts; entries = h.entries }
+    closed_still es (line ∷ left) x h = h
+
+    next_still : (es : List Pointers) (left : List TickLine) (x : Run) → Still es x → Still es (next listing s left x)
+    next_still es [] x h = h
+    next_still es (line ∷ left) x h =
+        let y = tick_still line x h.acts in
+        closed_still es left (tick listing s line x) (record { acts = y.acts; entries = y.entries ∙ h.entries })
+
+    still_from : (image : List Segment) (t : ℕ) → Still [] (run listing image s t)
+    still_from image zero = closed_still [] (ticks_of s.lines) (begin image s) (record { acts = refl; entries = refl })
+    still_from image (suc t) = next_still [] (drop t (ticks_of s.lines)) (run listing image s t) (still_from image t)
 
 pub run_still : (listing : Listing) (image : List Segment) (s : Sched) (t : ℕ) → s.entries ≡ false
     → let x = run listing image s t in (x.machine.acts ≡ []) × (x.entries ≡ [])
-run_still listing image s t none =
-    let h = run_alone listing s none image t in
-    (ap (λ (x : Run). x.machine.acts) h.run, ap (λ (x : Run). x.entries) h.run)
+run_still listing image s t none = let h = still_from listing s none image t in (h.acts, h.entries)
 
 -- so whole instructions in order agree with what is shown
 pub stays_in_order : (listing : Listing) (image : List Segment) (s : Sched) (t : ℕ) → s.entries ≡ false

@@ -1,4 +1,4 @@
--- The beat machine with handlers: the fold of steps, ends of ticks and entries over a schedule.
+-- The beat machine: the fold of steps, ends of ticks and entries over a schedule. Without entries nothing is interrupted.
 use Rattle.std.specs.Prelude.{ℕ, zero, suc, ◌+◌, Bool, if◌then◌else◌, cond, List, [], ◌∷◌, length, drop, map, Option, Some, None, Result, Ok, Err}
 use Rattle.hm_base.specs.Image.{Segment}
 use Rattle.hm_codes.specs.Listing.{Listing}
@@ -111,6 +111,10 @@ abbrev pub tick_of : Listing → Sched → TickLine → Run → Option Outcome �
 tick_of listing s line x (Some o) = x
 tick_of listing s line x None = ended s line x (letters listing s 0 line.letters x.machine)
 
+-- one tick of a run, by its line
+abbrev pub tick : Listing → Sched → TickLine → Run → Run
+tick listing s line x = tick_of listing s line x x.outcome
+
 -- a run that has no other outcome is out of ticks where no tick is left
 abbrev pub closed : List TickLine → Run → Run
 closed [] x = record x { outcome = or_out x.outcome }
@@ -119,7 +123,7 @@ closed (line ∷ left) x = x
 -- the first of the ticks that are left
 abbrev pub next : Listing → Sched → List TickLine → Run → Run
 next listing s [] x = x
-next listing s (line ∷ left) x = closed left (tick_of listing s line x x.outcome)
+next listing s (line ∷ left) x = closed left (tick listing s line x)
 
 -- THE MACHINE after t ticks of a schedule, and after all
 abbrev pub run : Listing → List Segment → Sched → ℕ → Run

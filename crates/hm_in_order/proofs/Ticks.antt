@@ -1,10 +1,11 @@
--- After each tick the machine agrees with the instructions in order.
-use Rattle.std.proofs.Common.{◌≡◌, ℕ, zero, suc, ◌==◌, ◌+◌, ◌-◌, ◌%◌, arith, ap, refl, sym, ◌∙◌, subst, inl, ⊎_elim, eqb-true, Bool, true, false, cond, List}
-use Rattle.std.proofs.Common.{[], ◌∷◌, drop, length, Option, Some, None, Result, Ok, Err}
+-- What the end of a tick leaves, what stops an instruction, and the start: whole instructions in order agree with each.
+use Rattle.std.proofs.Common.{◌≡◌, ℕ, ◌==◌, ◌-◌, ◌%◌, arith, ap, refl, sym, ◌∙◌, subst, inl, ⊎_elim, Bool, true, false, cond, List}
+use Rattle.std.proofs.Common.{Option, Some, None, Result, Ok, Err}
 use Rattle.hm_base.specs.Image.{Segment}
 use Rattle.hm_base.specs.declared.Stop.TheVariants as stop
 use Rattle.hm_base.specs.declared.Fault.{Fault}
 use Rattle.hm_codes.specs.Listing.{Listing}
+use Rattle.hm_exc.specs.declared.types.Activation.{Activation}
 use Rattle.hm_isa.specs.declared.Instr.{Instr}
 use Rattle.hm_isa.specs.declared.Instr.TheVariants as instr
 use Rattle.hm_isa.specs.declared.Vector.{Vector}
@@ -12,43 +13,39 @@ use Rattle.hm_mem.specs.Memory.{Around, thread_under, Bounds}
 use Rattle.hm_mem.specs.declared.Actor.TheVariants as actor
 use Rattle.hm_mem.specs.declared.Dev.{Dev}
 use Rattle.hm_order.specs.Beats.{Live, then}
-use Rattle.hm_order.specs.Machine.{Config, Stopped, Broken, Restores, StopsInOrder, did, fault_end, next as next_in_order, next_of, older, seq, younger}
+use Rattle.hm_order.specs.Machine.{Config, at_start, Stopped, Broken, Restores, StopsInOrder, did, fault_end, next as next_in_order, next_of, seq, younger}
 use Rattle.hm_order.specs.Machine.{younger_of}
-use Rattle.hm_order.specs.Position.{Holds, Agrees, Explains, StopsAt}
-use Rattle.hm_order.proofs.Headline.{explained, stop_n, stop_position, unmade}
+use Rattle.hm_order.specs.Position.{Holds, Explains, StopsAt}
+use Rattle.hm_order.proofs.Headline.{stop_n, stop_position, unmade}
 use Rattle.hm_order.proofs.Results.{err_same, ok_err, ok_same, true_not_false}
-use Rattle.hm_order.proofs.Steps.{cond_agrees, interrupt_holds, older_agrees, then_agrees, younger_agrees}
 use Rattle.hm_beat.specs.Laws.{NoTaint}
 use Rattle.hm_rows.specs.Context.{with_context}
 use Rattle.hm_rows.specs.Rows.{refuse, vector_whole}
 use Rattle.hm_run.specs.declared.Cause.{Cause}
 use Rattle.hm_run.specs.declared.Cause.TheVariants as cause
-use Rattle.hm_run.specs.declared.Outcome.{Outcome}
 use Rattle.hm_run.specs.declared.Outcome.TheVariants as outcome
 use Rattle.hm_window.specs.declared.rule.Rule.{Rule}
 use Rattle.hm_window.specs.declared.rule.Rule.TheVariants as rule
 use Rattle.hm_run.specs.declared.Who.{Who}
 use Rattle.hm_run.specs.declared.Who.TheVariants.{Thread, Handler, Entry}
-use Rattle.hm_run.specs.Program.{Program, Stepped, Stopping, Ticked, alone, broken, core, cause_of, done_alone, is_tainted_cause, letter_step, makes_here}
-use Rattle.hm_run.specs.Program.{at_step, letter_steps, or_fault, older_steps, steps_left, unless_refused, vector_of, whole_here}
+use Rattle.hm_run.specs.Program.{Program, Stepped, Stopping, alone, broken, core, cause_of, done_alone, is_tainted_cause, makes_here}
+use Rattle.hm_run.specs.Program.{or_fault, unless_refused, vector_of, whole_here}
 use Rattle.hm_whole.specs.Watched.{Watched, In, Beside, view, held, dead}
 use Rattle.hm_mem.specs.Devices.{open_devices}
 use Rattle.hm_run.specs.Stops as why
 use Rattle.hm_run.specs.Stops.{WholeStop, at_break, scalar_break}
 use Rattle.hm_run.proofs.Steps.{break_makes}
-use Rattle.hm_run.specs.Timed.{Timed, begin, who_runs, outcome_of, at_stop, counted_with, with_devices, ended, tick_of, closed, or_out, next, thread_program}
-use Rattle.hm_run.specs.Timed.{timed, bounds_of}
+use Rattle.hm_run.specs.Timed.{who_runs, outcome_of, at_stop, counted_with, with_devices, thread_program}
+use Rattle.hm_run.specs.Timed.{bounds_of}
 use Rattle.hm_sys.specs.Ticks.{arrived, counted, expired}
-use Rattle.hm_sched.specs.Schedule.{TickLine, Sched, older_letter, younger_letter, ticks_of}
+use Rattle.hm_sched.specs.Schedule.{Sched}
 use Rattle.hm_state.specs.Start.{start, start_under}
 use Rattle.hm_state.specs.State.{State, regs_of}
 use Rattle.hm_whole.specs.Whole.{Went, scalar_alone}
 use Rattle.hm_whole.proofs.Agreement.{same_regs}
 use Rattle.hm_in_order.specs.Overlap.{AgreesAfter, StopsBetween}
 use Rattle.hm_in_order.specs.Sequence.{FaultsAt}
-use Rattle.hm_in_order.proofs.Halts.{StaysInOrder}
 use Rattle.hm_in_order.proofs.Laws.{laws, clean_of, next_is}
-use Rattle.hm_window.specs.Positions.{may_end}
 
 -- THE DEVICES
 -- what ticks and interrupts change of the devices is nothing that the thread reads
@@ -76,19 +73,6 @@ module _ (listing : Listing) (around : Around) (thread : around.actor ≡ actor.
       cells (In c) d = refl
       cells Beside d = ap (λ (v : Dev). held (record s { rest = record s.rest { devices = v } }) Beside) (open_arrived irq s.rest.devices)
 
-  -- LETTERS
-  steps_agree : (k : ℕ) (c : Config State) → Holds machine first c → Agrees machine first (older_steps machine k c)
-  steps_agree zero c h = h
-  steps_agree (suc k) c h = then_agrees machine first (older machine c) (older_steps machine k) (older_agrees machine (laws listing around thread) first c h)
-      (steps_agree k)
-
-  letter_agrees : (l : ℕ) (c : Config State) → Holds machine first c → Agrees machine first (letter_step machine l c)
-  letter_agrees l c h =
-      let older_one = older_agrees machine (laws listing around thread) first c h in
-      cond_agrees machine first (l == older_letter) _ _ older_one
-      (cond_agrees machine first (l == younger_letter) _ _ (younger_agrees machine (laws listing around thread) first c h)
-      (steps_agree (steps_left (vector_of (listing c.state.pc)) c.a) c h))
-
   -- a younger beat that stops and breaks no rule is tainted
   abbrev pub OnlyTaint : Stepped → Type 0
   OnlyTaint (Ok c) = Unit {0}
@@ -108,31 +92,6 @@ module _ (listing : Listing) (around : Around) (thread : around.actor ≡ actor.
   younger_only c (Some b) o = tt
   younger_only c None (Some j) = did_only c ((machine.rows.act j c.b).run c.state)
   younger_only c None None = tt
-
-  letter_only : (l : ℕ) (c : Config State) → (l == younger_letter) ≡ true → OnlyTaint (letter_step machine l c)
-  letter_only l c is = subst (λ (k : ℕ). OnlyTaint (letter_step machine k c)) (sym (eqb-true l younger_letter is)) (younger_only c _ _)
-
-  -- what the letters of a tick may come to
-  abbrev AgreesTick : Ticked → Type 0
-  AgreesTick (Ok c) = Holds machine first c
-  AgreesTick (Err (Stopped c e)) = StopsAt machine first c e.cause × (e.younger ≡ true → is_tainted_cause e.cause ≡ true)
-  AgreesTick (Err (Broken c r)) = Unit {0}
-
-  at_step_agrees : (k : ℕ) (younger : Bool) (r : Stepped) → Agrees machine first r → (younger ≡ true → OnlyTaint r) → AgreesTick (at_step k younger r)
-  at_step_agrees k younger (Ok c) h only = h
-  at_step_agrees k younger (Err (Stopped c e)) h only = (h, only)
-  at_step_agrees k younger (Err (Broken c r)) h only = tt
-
-  then_tick : (r : Ticked) (f : Config State → Ticked) → AgreesTick r → ((c : Config State) → Holds machine first c → AgreesTick (f c)) → AgreesTick (then r f)
-  then_tick (Ok c) f h k = k c h
-  then_tick (Err (Stopped c e)) f h k = h
-  then_tick (Err (Broken c r)) f h k = h
-
-  letters_agree : (ls : List ℕ) (k : ℕ) (c : Config State) → Holds machine first c → AgreesTick (letter_steps machine k ls c)
-  letters_agree [] k c h = h
-  letters_agree (l ∷ ls) k c h =
-      then_tick (at_step (k + 1) (l == younger_letter) (letter_step machine l c)) (letter_steps machine (k + 1) ls)
-      (at_step_agrees (k + 1) (l == younger_letter) (letter_step machine l c) (letter_agrees l c h) (letter_only l c)) (letters_agree ls (k + 1))
 
   -- STOPS
   -- a vector row stops for a fault alone
@@ -248,66 +207,26 @@ module _ (listing : Listing) (around : Around) (thread : around.actor ≡ actor.
   fault_keeps Handler f pc n d h = tt
   fault_keeps Entry f pc n d h = tt
 
-  pub stop_keeps : (t : ℕ) (x : Timed) (c : Config State) (e : Cause) (younger : Bool) → StopsAt machine first c e
+  pub stop_keeps : (t : ℕ) (acts : List Activation) (c : Config State) (e : Cause) (younger : Bool) → StopsAt machine first c e
       → (younger ≡ true → is_tainted_cause e ≡ true) → NextStops c.n e
       → let stopping : Stopping = record { cause = e; younger = younger } in
-      AgreesAfter machine first (Some (outcome_of t x.acts c stopping)) (at_stop c stopping)
-  stop_keeps t x c (cause.Halt reason) younger h only k =
+      AgreesAfter machine first (Some (outcome_of t acts c stopping)) (at_stop c stopping)
+  stop_keeps t acts c (cause.Halt reason) younger h only k =
       let between = stops_between c (why.Halt reason) h refl k in
       record {
         before = c.n;
         number = refl;
         between = record { order = between.order; stops = between.stops; a = between.a; b = between.b; live = between.live; pc = between.pc };
       }
-  stop_keeps t x c cause.Full younger h only k =
+  stop_keeps t acts c cause.Full younger h only k =
       let between = stops_between c why.Full h refl k in
       record { order = between.order; stops = between.stops; a = between.a; b = between.b; live = between.live; pc = between.pc }
-  stop_keeps t x c (cause.Stop (stop.Fault f)) true h only k = let no : false ≡ true = only refl in absurd cc
-  stop_keeps t x c (cause.Stop (stop.Fault f)) false h only k =
+  stop_keeps t acts c (cause.Stop (stop.Fault f)) true h only k = let no : false ≡ true = only refl in absurd cc
+  stop_keeps t acts c (cause.Stop (stop.Fault f)) false h only k =
       let e : Stopping = record { cause = cause.Stop (stop.Fault f); younger = false } in
-      fault_keeps (who_runs x.acts) f c.state.pc c.n (at_stop c e) (faults_at c f h k)
-  stop_keeps t x c (cause.Stop (stop.Tainted addr)) younger h only k = tt
-  stop_keeps t x c (cause.Stop (stop.Denied addr)) younger h only k = tt
-
-  -- TICKS
-  judged : (b : Bool) (line : TickLine) (x : Timed) → Holds machine first x.config → x.outcome ≡ None
-      → let y : Timed = cond b
-      (record x { config = record x.config { state = with_devices (counted_with line.irq) x.config.state } })
-      (record x { outcome = Some (outcome.RuleBroken x.ticks (length line.letters) (rule.Ending x.config.a x.config.b)) }) in
-      AgreesAfter machine first y.outcome y.config
-  judged true line x h none =
-      subst (λ (o : Option Outcome). AgreesAfter machine first o (record x.config { state = with_devices (counted_with line.irq) x.config.state })) (sym none)
-      (interrupt_holds machine (laws listing around thread) first x.config _ (devices_restore line.irq x.config.state) h)
-  judged false line x h none = tt
-
-  ended_keeps : (line : TickLine) (x : Timed) (r : Ticked) → AgreesTick r → AgreesAfter machine first (ended line x r).outcome (ended line x r).config
-  ended_keeps line x (Ok c) h =
-      let y : Timed = record { outcome = None; config = c; acts = x.acts; ticks = x.ticks + 1 } in
-      judged (may_end c.a c.b) line y h refl
-  ended_keeps line x (Err (Stopped c e)) h =
-      stop_keeps (x.ticks + 1) x c e.cause e.younger h.0 h.1 (next_stops c.n e.cause (explained machine first c e.cause h.0))
-  ended_keeps line x (Err (Broken c r)) h = tt
-
-  tick_keeps : (line : TickLine) (x : Timed) (o : Option Outcome) → x.outcome ≡ o → AgreesAfter machine first x.outcome x.config
-      → AgreesAfter machine first (tick_of machine line x o).outcome (tick_of machine line x o).config
-  tick_keeps line x (Some o) e h = h
-  tick_keeps line x None e h =
-      ended_keeps line x (letter_steps machine 0 line.letters x.config)
-      (letters_agree line.letters 0 x.config (subst (λ (o : Option Outcome). AgreesAfter machine first o x.config) e h))
-
-  out_keeps : (o : Option Outcome) (c : Config State) → AgreesAfter machine first o c → AgreesAfter machine first (or_out o) c
-  out_keeps (Some o) c h = h
-  out_keeps None c h = h
-
-  closed_keeps : (left : List TickLine) (x : Timed) → AgreesAfter machine first x.outcome x.config
-      → AgreesAfter machine first (closed left x).outcome (closed left x).config
-  closed_keeps [] x h = out_keeps x.outcome x.config h
-  closed_keeps (line ∷ left) x h = h
-
-  next_keeps : (left : List TickLine) (x : Timed) → AgreesAfter machine first x.outcome x.config
-      → AgreesAfter machine first (next machine left x).outcome (next machine left x).config
-  next_keeps [] x h = h
-  next_keeps (line ∷ left) x h = closed_keeps left (tick_of machine line x x.outcome) (tick_keeps line x x.outcome refl h)
+      fault_keeps (who_runs acts) f c.state.pc c.n (at_stop c e) (faults_at c f h k)
+  stop_keeps t acts c (cause.Stop (stop.Tainted addr)) younger h only k = tt
+  stop_keeps t acts c (cause.Stop (stop.Denied addr)) younger h only k = tt
 
 -- THE START
 -- under whatever region and floor the machine starts, the instructions in order start alike
@@ -331,7 +250,7 @@ pub clean_start : (bounds : Bounds) (image : List Segment) → NoTaint (start_un
 unfolding start_under
 clean_start bounds image = λ a. refl
 
-pub begun : (listing : Listing) (image : List Segment) (s : Sched) → Holds (thread_program listing s) (start image) (begin image s).config
+pub begun : (listing : Listing) (image : List Segment) (s : Sched) → Holds (thread_program listing s) (start image) (at_start (start_under (bounds_of s) image))
 begun listing image s = record {
   order = start image;
   runs = refl;
@@ -340,9 +259,3 @@ begun listing image s = record {
   count = omega arith;
   place = inl (record { a = refl; b = refl; live = first_alike image (bounds_of s) });
 }
-
-pub keeps_order : (listing : Listing) (image : List Segment) (s : Sched) (t : ℕ) → StaysInOrder listing image s (timed listing image s t)
-keeps_order listing image s zero =
-    closed_keeps listing (thread_under (bounds_of s)) refl (start image) (ticks_of s.lines) (begin image s) (begun listing image s)
-keeps_order listing image s (suc t) =
-    next_keeps listing (thread_under (bounds_of s)) refl (start image) (drop t (ticks_of s.lines)) (timed listing image s t) (keeps_order listing image s t)

@@ -1,5 +1,5 @@
--- The letter W, between two instructions, does what the whole of the next one does alone.
-use Rattle.std.proofs.Common.{◌≡◌, ℕ, suc, ap, refl, sym, ◌∙◌, subst, true, Option, None, Some, Result, Ok, Err}
+-- The steps of the older instruction to its end, between two instructions, do what the whole of the next one does alone.
+use Rattle.std.proofs.Common.{◌≡◌, ℕ, zero, suc, ap, refl, sym, ◌∙◌, subst, true, Option, None, Some, Result, Ok, Err}
 use Rattle.hm_base.specs.declared.Fault.{Fault}
 use Rattle.hm_base.specs.declared.Stop.{Stop}
 use Rattle.hm_codes.specs.Listing.{Listing}
@@ -9,7 +9,7 @@ use Rattle.hm_isa.specs.declared.Vector.{Vector}
 use Rattle.hm_mem.specs.Memory.{Around, thread_under}
 use Rattle.hm_mem.specs.declared.Actor.TheVariants.{Thread}
 use Rattle.hm_order.specs.Beats.{then}
-use Rattle.hm_order.specs.Machine.{Config, Stopped, begun, done, settle}
+use Rattle.hm_order.specs.Machine.{Config, Stopped, begun, done, older, settle}
 use Rattle.hm_state.specs.State.{State, At, Byte, cells}
 use Rattle.hm_beat.specs.Trees.{action}
 use Rattle.hm_beat.specs.Laws.{NoTaint}
@@ -19,11 +19,10 @@ use Rattle.hm_rows.specs.Rows.{refuse, vector_tree, vector_whole}
 use Rattle.hm_rows.proofs.Context.{context_pc, context_ready}
 use Rattle.hm_run.specs.declared.Cause.{Cause}
 use Rattle.hm_run.specs.declared.Cause.TheVariants as cause
-use Rattle.hm_run.specs.Program.{Program, Stepped, core, rows, alone, caused, cause_of, done_alone, done_in_machine, in_machine, letter_step, older_steps}
+use Rattle.hm_run.specs.Program.{Program, Stepped, core, rows, alone, caused, cause_of, done_alone, done_in_machine, in_machine}
 use Rattle.hm_run.specs.Program.{or_fault, other_by, other_here, other_row, ready_state, steps_left, vector_of, vector_row, whole_here}
 use Rattle.hm_run.specs.Stops.{WholeStop, break_of}
 use Rattle.hm_run.proofs.Steps.{older_other, older_vector, past}
-use Rattle.hm_sched.specs.Schedule.{whole_letter}
 use Rattle.hm_whole.specs.Watched as watched
 use Rattle.hm_mem.specs.Seen.{as_stops}
 use Rattle.hm_whole.specs.Watched.{GoesClean, In, Beside}
@@ -35,6 +34,15 @@ use Rattle.hm_in_order.proofs.Vectors.{beat_pc, context_clean, four_are, not_ref
 -- between two instructions: n are done, in k steps
 abbrev pub between : ℕ → ℕ → State → Config State
 between n k s = record { a = 0; b = 0; n = n; steps = k; state = s }
+
+-- so many steps of the older instruction
+abbrev pub older_steps : Program → ℕ → Config State → Stepped
+older_steps M zero c = Ok c
+older_steps M (suc k) c = then (older M c) (older_steps M k)
+
+-- the older instruction to its end
+abbrev pub to_end : Program → Config State → Stepped
+to_end M c = older_steps M (steps_left (M.code c.state.pc) c.a) c
 
 -- WHAT AN INSTRUCTION LEAVES: no taint
 pub watched_clean : (s : State) → NoTaint s → watched.Clean s
@@ -82,7 +90,7 @@ module _ (x : Around) (thread : x.actor ≡ Thread) where
   other_is (Ok (instr.Vector v)) s none clean = absurd cc
   other_is (Err f) s none clean = refl
 
--- STEPS. W comes to what the instruction comes to alone: it is done, in some number of steps, or it stops so and is not retired.
+-- STEPS to its end come to what the instruction comes to alone: it is done, in some number of steps, or it stops so and is not retired.
 abbrev pub Comes : ℕ → Result State WholeStop → Stepped → Type 0
 Comes n (Ok t) r = (j : ℕ) × (r ≡ Ok (between (suc n) j t))
 Comes n (Err w) r = (d : Config State) × (d.n ≡ n) × (r ≡ Err (Stopped d (cause_of w)))
@@ -157,10 +165,10 @@ module _ (listing : Listing) (around : Around) (thread : around.actor ≡ Thread
       (beat_comes v 0 3 n k (between n k s) ((action cells b).run t) refl (λ u e. from_first v n (suc k) u (here_still v t u here_too (beat_pc b t u e)))))
 
   row_step : (v : Vector) (n k : ℕ) (s : State) → NoTaint s → listing s.pc ≡ Ok (instr.Vector v)
-      → Comes n (alone listing s) (letter_step machine whole_letter (between n k s))
+      → Comes n (alone listing s) (to_end machine (between n k s))
   row_step v n k s clean e =
       let here : Here v s = ap vector_of e in
-      subst (λ (r : Result Instr Fault). Comes n (whole_here r s) (letter_step machine whole_letter (between n k s))) (sym e)
+      subst (λ (r : Result Instr Fault). Comes n (whole_here r s) (to_end machine (between n k s))) (sym e)
       (subst (λ (o : Option Vector). Comes n (vector_row v s) (older_steps machine (steps_left o 0) (between n k s))) (sym here)
       (subst (λ (r : Stepped). Comes n (vector_row v s) (then r (older_steps machine 3))) (sym (older_vector listing around (between n k s) v here))
       (row_comes v n k s clean here (ready_state v s) refl)))
@@ -172,7 +180,7 @@ module _ (listing : Listing) (around : Around) (thread : around.actor ≡ Thread
   other_comes n k s (Err w) = (begun machine (between n k s), refl, refl)
 
   other_step : (n k : ℕ) (s : State) → NoTaint s → vector_of (listing s.pc) ≡ None
-      → Comes n (alone listing s) (letter_step machine whole_letter (between n k s))
+      → Comes n (alone listing s) (to_end machine (between n k s))
   other_step n k s clean none =
       subst (λ (o : Option Vector). Comes n (alone listing s) (older_steps machine (steps_left o 0) (between n k s))) (sym none)
       (subst (λ (r : Stepped). Comes n (alone listing s) (then r (older_steps machine 0)))
@@ -181,12 +189,12 @@ module _ (listing : Listing) (around : Around) (thread : around.actor ≡ Thread
       (other_comes n k s (alone listing s)))
 
   step_of : (n k : ℕ) (s : State) → NoTaint s → (r : Result Instr Fault) → listing s.pc ≡ r
-      → Comes n (alone listing s) (letter_step machine whole_letter (between n k s))
+      → Comes n (alone listing s) (to_end machine (between n k s))
   step_of n k s clean (Ok (instr.Scalar i)) e = other_step n k s clean (ap vector_of e)
   step_of n k s clean (Ok (instr.Branch i)) e = other_step n k s clean (ap vector_of e)
   step_of n k s clean (Ok (instr.Vector v)) e = row_step v n k s clean e
   step_of n k s clean (Err f) e = other_step n k s clean (ap vector_of e)
 
   -- the whole of the next instruction, in one step or in four
-  pub whole_step : (n k : ℕ) (s : State) → NoTaint s → Comes n (alone listing s) (letter_step machine whole_letter (between n k s))
+  pub whole_step : (n k : ℕ) (s : State) → NoTaint s → Comes n (alone listing s) (to_end machine (between n k s))
   whole_step n k s clean = step_of n k s clean (listing s.pc) refl

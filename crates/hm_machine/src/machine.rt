@@ -14,11 +14,10 @@ ghost use Rattle.hm_run.specs.Headline.{Headline, PlainReport, Riders};
 ghost use Rattle.hm_run.specs.InOrder.{in_order};
 ghost use Rattle.hm_run.specs.Report.{report_text, memory_text};
 ghost use Rattle.hm_handlers.specs.Order.{KeepsOrder};
-ghost use Rattle.hm_handlers.specs.Runs.{Pointers, next, run, run_out};
+ghost use Rattle.hm_handlers.specs.Runs.{Pointers, next, run, run_out, tick};
 ghost use Rattle.hm_handlers.specs.Taint.{TaintLies};
 ghost use Rattle.hm_plan_laws.specs.Planned.{bare, bare_program};
 ghost use Rattle.hm_position.specs.Position.{StandsInOrder};
-ghost use Rattle.hm_run.specs.Timed.{tick};
 ghost use Rattle.hm_sched.specs.Schedule.{Sched, TickLine, line_of, plain, ticks_of, most_ticks, no_irq, IsSched};
 ghost use Rattle.hm_state.specs.Start.{reset_pc};
 ghost use Rattle.hm_state.specs.State.{Byte, regs_of};
@@ -310,7 +309,7 @@ impl Machine {
     /// the younger, the third goes on, and behind it the first of the younger breaks no rule and does not stop. The machine stays as it is.
     pub fn ready(&mut self) -> bool
         requires bare { IsBare self.old }
-        ensures value { (listing : Listing) → IsListing (flash_at self.old.memory) listing → result ≡ may_pair (bare_program listing) (timed_of self.old) }
+        ensures value { (listing : Listing) → IsListing (flash_at self.old.memory) listing → result ≡ may_pair (bare_program listing) (run_of self.old []) }
         ensures same { self.new ≡ self.old }
     {
         if self.outcome.is_some() {
@@ -325,9 +324,9 @@ impl Machine {
         requires bare { IsBare self.old }
         requires few { length letters.now ≤ 8 }
         requires ticks { self.old.ticks < most_ticks - 1 }
-        // One tick more of the machine without handlers.
+        // One tick more of a run in which nothing enters.
         ensures next { (listing : Listing) (line : TickLine) → IsListing (flash_at self.old.memory) listing → line.letters ≡ letters.now → line.irq ≡ no_irq
-            → timed_of self.new ≡ tick (bare_program listing) line (timed_of self.old) }
+            → run_of self.new [] ≡ tick listing (bare []) line (run_of self.old []) }
         ensures shows { (image : List Segment) (given : List TickLine) (line : TickLine) → line.letters ≡ letters.now → line.irq ≡ no_irq
             → ShowsGiven image given self.old → ShowsGiven image (given ++ line ∷ []) self.new }
         ensures bare { IsBare self.new }

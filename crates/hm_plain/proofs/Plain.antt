@@ -4,14 +4,14 @@ use Rattle.std.proofs.Common.{◌∷◌, drop, length, map, Option, Some, None, 
 use Rattle.hm_base.specs.Image.{Segment}
 use Rattle.hm_beat.specs.Laws.{NoTaint}
 use Rattle.hm_codes.specs.Listing.{Listing}
-use Rattle.hm_handlers.proofs.Quiet.{letter_alone, quiet, run_still, stays_in_order}
+use Rattle.hm_handlers.proofs.Quiet.{ends_alone, quiet, run_still, stays_in_order}
 use Rattle.hm_handlers.specs.Nested.{NestedStep, at_step, letters, with_acts}
 use Rattle.hm_handlers.specs.Runs.{Run, begin, closed, ended, enters, next, picks, run, run_out, shown, shown_out, stacked_of}
 use Rattle.hm_in_order.proofs.Breakpoints.{Leaves}
 use Rattle.hm_in_order.proofs.Halts.{StaysInOrder, fault_as, full_as, halted_as, kept, reports_going, reports_stop, shown_between}
 use Rattle.hm_in_order.proofs.Orders.{stopped_later}
 use Rattle.hm_in_order.proofs.Ticks.{clean_start}
-use Rattle.hm_in_order.proofs.Wholes.{Comes, between, leaves, whole_step}
+use Rattle.hm_in_order.proofs.Wholes.{Comes, between, leaves, to_end, whole_step}
 use Rattle.hm_in_order.specs.Ends.{GoesOn}
 use Rattle.hm_in_order.specs.Orders.{HasStopped}
 use Rattle.hm_in_order.specs.Overlap.{HaltsAfter, StopsBetween}
@@ -27,12 +27,12 @@ use Rattle.hm_run.specs.declared.Outcome.TheVariants as outcome
 use Rattle.hm_run.specs.declared.Who.TheVariants.{Thread, Handler, Entry}
 use Rattle.hm_run.specs.Headline.{PlainReport}
 use Rattle.hm_run.specs.InOrder.{InOrder, Halted, Full, Faulted, in_order}
-use Rattle.hm_run.specs.Program.{Program, Stepped, alone as whole_alone, letter_step}
+use Rattle.hm_run.specs.Program.{Program, Stepped, alone as whole_alone}
 use Rattle.hm_run.specs.Report.{outcome_line}
 use Rattle.hm_run.specs.Stops as why
 use Rattle.hm_run.specs.Stops.{WholeStop}
 use Rattle.hm_run.specs.Timed.{Timed, bounds_of, counted_with, or_out, thread_program, with_devices}
-use Rattle.hm_sched.specs.Schedule.{Sched, TickLine, whole_letter, plain_line, plain, plain_lines, repeat, ticks_of}
+use Rattle.hm_sched.specs.Schedule.{Sched, TickLine, plain_line, plain, plain_lines, repeat, ticks_of}
 use Rattle.hm_state.specs.Start.{start}
 use Rattle.hm_state.specs.State.{State}
 
@@ -147,8 +147,8 @@ module _ (listing : Listing) (s : Sched) (n : ℕ) (none : s.entries ≡ false) 
   tick_goes left t x h =
       let c = between t h.steps h.state in
       subst (λ (y : Run). Plainly left (suc t) (next listing s (plain_line n ∷ rest left) y)) (sym h.run)
-      (subst (λ (r : NestedStep). Plainly left (suc t) (closed (rest left) (after_tick t c r))) (sym (letter_alone listing s none whole_letter c))
-      (tick_comes left t c (whole_alone listing h.state) (leaves around refl (listing h.state.pc) h.state h.clean) (letter_step machine whole_letter c)
+      (subst (λ (r : NestedStep). Plainly left (suc t) (closed (rest left) (after_tick t c r))) (sym (ends_alone listing s c))
+      (tick_comes left t c (whole_alone listing h.state) (leaves around refl (listing h.state.pc) h.state h.clean) (to_end machine c)
       (whole_step listing around refl t h.steps h.state h.clean)))
 
   tick_plainly : (left t : ℕ) (x : Run) → Plainly (suc left) t x → Plainly left (suc t) (next listing s (plain_line n ∷ rest left) x)

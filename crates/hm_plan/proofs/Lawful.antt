@@ -1,5 +1,5 @@
 -- A tick of a beat of the older and one of the younger goes on only where two may overlap.
-use Rattle.std.proofs.Common.{◌≡◌, ◌⊎◌, ℕ, zero, suc, ◌+◌, ◌==◌, ◌||◌, ◌<◌, arith, Bool, true, false, cond, not, nat_lt, List, [], ◌∷◌, drop, length, is_some}
+use Rattle.std.proofs.Common.{◌≡◌, ◌⊎◌, ℕ, zero, suc, ◌+◌, ◌==◌, ◌||◌, ◌<◌, arith, Bool, true, false, cond, not, nat_lt, List, [], ◌∷◌, drop, is_some}
 use Rattle.std.proofs.Common.{Option, Some, None, Result, Ok, Err, inl, inr, refl, sym, ◌∙◌, ap, subst}
 use Rattle.std.proofs.lemmas.Bool.Decides.{nat_tests}
 use Rattle.hm_base.specs.Image.{Segment}
@@ -8,16 +8,19 @@ use Rattle.hm_isa.specs.declared.Vector.{Vector}
 use Rattle.hm_order.specs.Beats.{then}
 use Rattle.hm_order.specs.Machine.{Config, begin, Stopped, Broken, did, done, older, older_of, settle, younger, younger_of}
 use Rattle.hm_order.proofs.Results.{ok_err, ok_same}
+use Rattle.hm_handlers.proofs.Quiet.{alone_is, run_still}
+use Rattle.hm_handlers.specs.Nested.{Ended, Nested, NestedEnd, Offends, TickEnd, at_step, letters, with_acts}
+use Rattle.hm_handlers.specs.Runs.{Pointers, Run, after_count, begin as begin_run, closed, ended, enters, may_enter, next, picks, run, stops, tick, tick_of}
 use Rattle.hm_plan_laws.specs.Ends.{IsGreedyAt}
 use Rattle.hm_plan_laws.specs.Greedy.{IsReady}
-use Rattle.hm_plan_laws.specs.Planned.{bare_program, plan_line}
+use Rattle.hm_plan_laws.specs.Planned.{bare, bare_program, plan_line}
 use Rattle.hm_plan_laws.specs.declared.Greedy.TheVariants as greedy
-use Rattle.hm_run.specs.Program.{Program, Stepped, Ticked, at_step, letter_steps}
-use Rattle.hm_run.specs.Timed.{Timed, begin as begin_run, closed, counted_with, ended, next, or_out, thread_program, tick, tick_of, timed, with_devices}
+use Rattle.hm_run.specs.Program.{Program, Stepped}
+use Rattle.hm_run.specs.Timed.{or_out}
 use Rattle.hm_run.specs.declared.Cause.{Cause}
 use Rattle.hm_run.specs.declared.Outcome.{Outcome}
 use Rattle.hm_run.specs.declared.Outcome.TheVariants as outcome
-use Rattle.hm_sched.specs.Schedule.{Sched, TickLine, no_irq, ticks_of, younger_letter}
+use Rattle.hm_sched.specs.Schedule.{Sched, TickLine, ticks_of, younger_letter}
 use Rattle.hm_state.specs.State.{State}
 use Rattle.hm_window.specs.Positions.{may_end}
 use Rattle.hm_window.specs.declared.rule.Rule.{Rule}
@@ -30,6 +33,12 @@ ends_at a b e = grind (arith, nat_tests)
 -- the tick of both
 abbrev pub both : TickLine
 both = plan_line 1 greedy.Two
+
+-- where letters do not all go on the run has ended
+stops_ended : (t k : ℕ) (younger : Bool) (e : NestedEnd) (es : List Pointers) → (stops t k younger e es).outcome ≡ None → ⊥
+stops_ended t k younger (Ended (Stopped c w) acts) es out = cc
+stops_ended t k younger (Ended (Broken c r) acts) es out = cc
+stops_ended t k younger (Offends what c acts) es out = cc
 
 module _ (listing : Listing) where
   abbrev M : Program
@@ -86,38 +95,26 @@ module _ (listing : Listing) where
   first c d e = first_at (M.code c.state.pc) c d e
 
   -- what the two letters come to
-  abbrev letters : (c : Config State) → Ticked
-  letters c = letter_steps M 0 both.letters c
+  second_goes : (m : Nested) (q : Stepped) → then (at_step 2 true (with_acts [] q)) (letters listing (bare []) 2 []) ≡ Ok m → q ≡ Ok m.config
+  second_goes m (Ok g) e = ap (λ (x : Nested). Ok x.config) (ok_same e)
+  second_goes m (Err w) e = absurd (ok_err (sym e))
 
-  second_goes : (d f : Config State) (q : Stepped) → then (at_step 2 true q) (letter_steps M 2 []) ≡ Ok f → q ≡ Ok f
-  second_goes d f (Ok g) e = ap (λ (x : Config State). Ok x) (ok_same e)
-  second_goes d f (Err (Stopped g w)) e = absurd (ok_err (sym e))
-  second_goes d f (Err (Broken g r)) e = absurd (ok_err (sym e))
-
-  both_go : (f : Config State) (q : Stepped) → then (at_step 1 false q) (letter_steps M 1 (younger_letter ∷ [])) ≡ Ok f
-      → (d : Config State) × (q ≡ Ok d) × (younger M d ≡ Ok f)
-  both_go f (Ok d) e = (d, refl, second_goes d f (younger M d) e)
-  both_go f (Err (Stopped d w)) e = absurd (ok_err (sym e))
-  both_go f (Err (Broken d r)) e = absurd (ok_err (sym e))
+  both_go : (m : Nested) (q : Stepped) → then (at_step 1 false (with_acts [] q)) (letters listing (bare []) 1 (younger_letter ∷ [])) ≡ Ok m
+      → (d : Config State) × (q ≡ Ok d) × (younger M d ≡ Ok m.config)
+  both_go m (Ok d) e = (d, refl, second_goes m (younger M d) e)
+  both_go m (Err w) e = absurd (ok_err (sym e))
 
   -- behind both, judged by where they leave the position
-  abbrev after : Timed → Config State → Timed
-  after x f = record { outcome = None; config = f; acts = x.acts; ticks = x.ticks + 1 }
+  judged_end : (b : Bool) (x y : Run) (o : Outcome) → (cond b x (record y { outcome = Some o })).outcome ≡ None → b ≡ true
+  judged_end true x y o e = refl
+  judged_end false x y o e = absurd cc
 
-  abbrev there : Timed → Config State → Timed
-  there x f = record (after x f) { config = record f { state = with_devices (counted_with no_irq) f.state } }
-
-  abbrev broken : Timed → Config State → Timed
-  broken x f = record (after x f) { outcome = Some (outcome.RuleBroken (x.ticks + 1) 2 (rule.Ending f.a f.b)) }
-
-  judged : (x : Timed) (f : Config State) (b : Bool) → (cond b (there x f) (broken x f)).outcome ≡ None → b ≡ true
-  judged x f true e = refl
-  judged x f false e = absurd cc
-
-  ended_ok : (x : Timed) (r : Ticked) → (ended both x r).outcome ≡ None → (f : Config State) × (r ≡ Ok f) × (may_end f.a f.b ≡ true)
-  ended_ok x (Ok f) out = (f, refl, judged x f (may_end f.a f.b) out)
-  ended_ok x (Err (Stopped f e)) out = absurd cc
-  ended_ok x (Err (Broken f r)) out = absurd cc
+  ended_ok : (x : Run) (r : Result Nested TickEnd) → (ended (bare []) both x r).outcome ≡ None
+      → (m : Nested) × (r ≡ Ok m) × (may_end m.config.a m.config.b ≡ true)
+  ended_ok x (Ok m) out =
+      let y : Run = record { outcome = None; machine = m; ticks = x.ticks + 1; entries = x.entries } in
+      (m, refl, judged_end (may_end m.config.a m.config.b) (after_count both y) y _ out)
+  ended_ok x (Err e) out = absurd (stops_ended (x.ticks + 1) e.step e.younger e.end x.entries out)
 
   -- where both steps leave a position at which a tick may end, two beats of the older were done before, and none of the younger
   stood : (c d f : Config State) → First c d → Second d f → may_end c.a c.b ≡ true → may_end f.a f.b ≡ true → (c.a ≡ 2) × (c.b ≡ 0)
@@ -130,69 +127,73 @@ module _ (listing : Listing) where
     at p (inr q) (inr (inr o)) =
         let three = q.0 in let one_more = q.1 in let same = two.a in let next = two.b in let a = o.0 in let b = o.1 in (omega arith, omega arith)
 
-  goes_ready : (x : Timed) → x.outcome ≡ None → may_end x.config.a x.config.b ≡ true → (tick M both x).outcome ≡ None → IsReady M x.config
-  goes_ready x none from out =
-      let c = x.config in
-      let t : (ended both x (letters x.config)).outcome ≡ None = ap (λ (o : Option Outcome). (tick_of M both x o).outcome) (sym none) ∙ out in
-      let e = ended_ok x (letters c) t in
-      let g = both_go e.0 (older M c) e.1 in
-      let at = stood c g.0 e.0 (first c g.0 g.1) (second g.0 e.0 g.2) from e.2 in
+  goes_ready : (x : Run) → x.outcome ≡ None → x.machine.acts ≡ [] → may_end x.machine.config.a x.machine.config.b ≡ true
+      → (tick listing (bare []) both x).outcome ≡ None → IsReady M x.machine.config
+  goes_ready x none quiet from out =
+      let c = x.machine.config in
+      let t : (ended (bare []) both x (letters listing (bare []) 0 both.letters x.machine)).outcome ≡ None
+      = ap (λ (o : Option Outcome). (tick_of listing (bare []) both x o).outcome) (sym none) ∙ out in
+      let e = ended_ok x (letters listing (bare []) 0 both.letters x.machine) t in
+      let f = e.0.config in
+      let g = both_go e.0 (older M c) (ap (letters listing (bare []) 0 both.letters) (sym (alone_is x.machine quiet)) ∙ e.1) in
+      let at = stood c g.0 f (first c g.0 g.1) (second g.0 f g.2) from e.2 in
       record {
         a = at.0;
         b = at.1;
         third = g.0;
         goes = g.1;
         no_rule = rule_none (M.rule (M.code (M.rows.view.pc g.0.state)) (M.code (M.rows.view.pc g.0.state + 4)) g.0) (M.code (M.rows.view.pc g.0.state + 4)) g.0
-            e.0 g.2;
-        first = e.0;
+            f g.2;
+        first = f;
         follows = g.2;
       }
 
--- ---- a run that is not over stands where a tick may end
+-- ---- a run without entries that is not over stands where a tick may end
 
-abbrev Stands : Timed → Type 0
-Stands x = x.outcome ≡ None → may_end x.config.a x.config.b ≡ true
-
-end_stands : (line : TickLine) (x : Timed) (b : Bool) → may_end x.config.a x.config.b ≡ b
-    → Stands (cond b (record x { config = record x.config { state = with_devices (counted_with line.irq) x.config.state } })
-    (record x { outcome = Some (outcome.RuleBroken x.ticks (length line.letters) (rule.Ending x.config.a x.config.b)) }))
-end_stands line x true e = λ out. e
-end_stands line x false e = λ out. absurd cc
-
-ended_stands : (line : TickLine) (x : Timed) (r : Ticked) → Stands (ended line x r)
-ended_stands line x (Ok c) = end_stands line (record { outcome = None; config = c; acts = x.acts; ticks = x.ticks + 1 }) (may_end c.a c.b) refl
-ended_stands line x (Err (Stopped c e)) = λ out. absurd cc
-ended_stands line x (Err (Broken c r)) = λ out. absurd cc
-
-tick_stands : (M : Program) (line : TickLine) (x : Timed) (o : Option Outcome) → x.outcome ≡ o → Stands (tick_of M line x o)
-tick_stands M line x (Some o) e = λ out. absurd cc
-tick_stands M line x None e = ended_stands line x (letter_steps M 0 line.letters x.config)
+abbrev Stands : Run → Type 0
+Stands x = x.outcome ≡ None → may_end x.machine.config.a x.machine.config.b ≡ true
 
 or_none : (o : Option Outcome) → or_out o ≡ None → ⊥
 or_none None e = cc
 or_none (Some o) e = cc
 
-closed_stands : (left : List TickLine) (x : Timed) → Stands x → Stands (closed left x)
-closed_stands [] x h = λ out. absurd (or_none x.outcome out)
-closed_stands (line ∷ left) x h = h
+module _ (listing : Listing) (s : Sched) (none : s.entries ≡ false) where
+  end_stands : (line : TickLine) (y : Run) (o : Outcome) (b : Bool) → may_end y.machine.config.a y.machine.config.b ≡ b
+      → Stands (cond b (may_enter s (after_count line y)) (record y { outcome = Some o }))
+  end_stands line y o true e =
+      let x = after_count line y in
+      subst (λ (b : Bool). Stands (cond b (enters s (picks x) x) x)) (sym none) (λ out. e)
+  end_stands line y o false e = λ out. absurd cc
 
-next_stands : (M : Program) (left : List TickLine) (x : Timed) → Stands x → Stands (next M left x)
-next_stands M [] x h = h
-next_stands M (line ∷ left) x h = closed_stands left (tick M line x) (tick_stands M line x x.outcome refl)
+  ended_stands : (line : TickLine) (x : Run) (r : Result Nested TickEnd) → Stands (ended s line x r)
+  ended_stands line x (Ok m) =
+      end_stands line (record { outcome = None; machine = m; ticks = x.ticks + 1; entries = x.entries }) _ (may_end m.config.a m.config.b) refl
+  ended_stands line x (Err e) = λ out. absurd (stops_ended (x.ticks + 1) e.step e.younger e.end x.entries out)
 
-timed_stands : (listing : Listing) (image : List Segment) (s : Sched) (t : ℕ) → Stands (timed listing image s t)
-timed_stands listing image s zero = closed_stands (ticks_of s.lines) (begin_run image s) (λ out. refl)
-timed_stands listing image s (suc t) =
-    next_stands (thread_program listing s) (drop t (ticks_of s.lines)) (timed listing image s t) (timed_stands listing image s t)
+  tick_stands : (line : TickLine) (x : Run) (o : Option Outcome) → x.outcome ≡ o → Stands (tick_of listing s line x o)
+  tick_stands line x (Some o) e = λ out. absurd cc
+  tick_stands line x None e = ended_stands line x (letters listing s 0 line.letters x.machine)
+
+  closed_stands : (left : List TickLine) (x : Run) → Stands x → Stands (closed left x)
+  closed_stands [] x h = λ out. absurd (or_none x.outcome out)
+  closed_stands (line ∷ left) x h = h
+
+  next_stands : (left : List TickLine) (x : Run) → Stands x → Stands (next listing s left x)
+  next_stands [] x h = h
+  next_stands (line ∷ left) x h = closed_stands left (tick listing s line x) (tick_stands line x x.outcome refl)
+
+  run_stands : (image : List Segment) (t : ℕ) → Stands (run listing image s t)
+  run_stands image zero = closed_stands (ticks_of s.lines) (begin_run image s) (λ out. refl)
+  run_stands image (suc t) = next_stands (drop t (ticks_of s.lines)) (run listing image s t) (run_stands image t)
 
 not_over : (o : Option Outcome) (b : Bool) → (is_some o || b) ≡ false → o ≡ None
 not_over None b e = refl
 not_over (Some o) b e = absurd cc
 
 -- before a tick of a plan, where the tick of both would go on, two may overlap
-pub overlaps : (listing : Listing) (image : List Segment) (n t : ℕ) (s : Sched) (line : TickLine) → IsGreedyAt listing image n s t line
-    → (tick (bare_program listing) both (timed listing image s t)).outcome ≡ None → IsReady (bare_program listing) (timed listing image s t).config
-overlaps listing image n t s line greedy out =
-    let x = timed listing image s t in
-    let none = not_over x.outcome (not (nat_lt x.config.n n)) greedy.goes in
-    goes_ready listing x none (timed_stands listing image s t none) out
+pub overlaps : (listing : Listing) (image : List Segment) (n t : ℕ) (s : Sched) (line : TickLine) → s.entries ≡ false → IsGreedyAt listing image n s t line
+    → (tick listing (bare []) both (run listing image s t)).outcome ≡ None → IsReady (bare_program listing) (run listing image s t).machine.config
+overlaps listing image n t s line none greedy out =
+    let x = run listing image s t in
+    let on = not_over x.outcome (not (nat_lt x.machine.config.n n)) greedy.goes in
+    goes_ready listing x on (run_still listing image s t none).0 (run_stands listing s none image t on) out

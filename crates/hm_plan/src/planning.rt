@@ -2,18 +2,18 @@
 
 ghost use Rattle.std.specs.Prelude.{◌≡◌, ℕ, ◌+◌, ◌*◌, ◌%◌, ◌≤◌, false, None, [], ◌∷◌, List, drop, length, IfOk, IfErr};
 ghost use Rattle.std.specs.Option.{is_some};
-ghost use Rattle.hm_base.specs.Image.{Segment, flash_byte};
+ghost use Rattle.hm_base.specs.Image.{flash_byte};
 ghost use Rattle.hm_codes.specs.Listing.{Listing, IsListing};
 ghost use Rattle.hm_machine.specs.Bares.{IsBare};
-ghost use Rattle.hm_machine.specs.Shown.{timed_of};
+ghost use Rattle.hm_machine.specs.Shown.{run_of};
 ghost use Rattle.hm_machine.specs.Turns.{LoadRefuses};
 ghost use Rattle.hm_mem.specs.Memory.{flash_at};
 ghost use Rattle.hm_plan_laws.specs.Ends.{DecidedBy, EndsAs, IsGreedyAt, IsPlanEnd};
 ghost use Rattle.hm_plan_laws.specs.Greedy.{greedy_at};
-ghost use Rattle.hm_plan_laws.specs.Planned.{bare_program, is_over, plan_line, planned};
+ghost use Rattle.hm_plan_laws.specs.Planned.{bare, bare_program, is_over, plan_line, planned};
 ghost use Rattle.hm_run.specs.InOrder.{in_order};
 ghost use Rattle.hm_run.specs.Program.{vector_in, vector_of};
-ghost use Rattle.hm_run.specs.Timed.{tick, timed, timed_out};
+ghost use Rattle.hm_handlers.specs.Runs.{run, shown_out, tick};
 ghost use Rattle.hm_sched.specs.Schedule.{TickLine, older_letter, ticks_of};
 ghost use Rattle.hm_state.specs.Start.{reset_pc};
 
@@ -35,7 +35,7 @@ fn is_vector(i: &Instr) -> bool
 /// Whether a vector instruction stands at the program counter.
 fn has_row(machine: &Machine) -> bool
     ensures value { (listing : Listing) → IsListing (flash_at machine.now.memory) listing
-        → result ≡ is_some (vector_of (listing (timed_of machine.now).config.state.pc)) }
+        → result ≡ is_some (vector_of (listing (run_of machine.now []).machine.config.state.pc)) }
 {
     match machine.instr(machine.regs().pc) {
         Some(i) => is_vector(&i),
@@ -46,9 +46,9 @@ fn has_row(machine: &Machine) -> bool
 /// What the next tick of a plan of n instructions does.
 fn greedy(machine: &mut Machine, n: u32) -> Greedy
     requires bare { IsBare machine.old }
-    requires goes { is_over n (timed_of machine.old) ≡ false }
+    requires goes { is_over n (run_of machine.old []) ≡ false }
     ensures value { (listing : Listing) → IsListing (flash_at machine.old.memory) listing
-        → result ≡ greedy_at (bare_program listing) n (timed_of machine.old).config }
+        → result ≡ greedy_at (bare_program listing) n (run_of machine.old []).machine.config }
     ensures same { machine.new ≡ machine.old }
 {
     if !has_row(machine) {
@@ -66,7 +66,7 @@ fn greedy(machine: &mut Machine, n: u32) -> Greedy
 
 /// Whether a plan of n instructions is at its end.
 fn is_over(machine: &Machine, n: u32) -> bool
-    ensures value { result ≡ is_over n (timed_of machine.now) }
+    ensures value { result ≡ is_over n (run_of machine.now []) }
 {
     machine.outcome().is_some() || machine.retired() >= n as u64
 }
@@ -78,18 +78,18 @@ pub fn plan(alloc: Global, image: &Image, n: u32) -> Result<Schedule, LoadErr>
     ensures planned { IfOk result (λ s. (listing : Listing) → IsListing (flash_byte image.now) listing → s ≡ planned listing image.now n) }
     // Its run ends as the n instructions in order do, exactly, within 4n ticks, and no rule is broken.
     ensures ends { IfOk result (λ s. (listing : Listing) → IsListing (flash_byte image.now) listing
-        → EndsAs n (timed_out listing image.now s) (in_order listing image.now n)) }
+        → EndsAs n (shown_out listing image.now s) (in_order listing image.now n)) }
     ensures exactly { IfOk result (λ s. (listing : Listing) → IsListing (flash_byte image.now) listing
-        → DecidedBy n (timed_out listing image.now s) (in_order listing image.now n)) }
-    ensures only { IfOk result (λ s. (listing : Listing) → IsListing (flash_byte image.now) listing → IsPlanEnd (timed_out listing image.now s).outcome) }
+        → DecidedBy n (shown_out listing image.now s) (in_order listing image.now n)) }
+    ensures only { IfOk result (λ s. (listing : Listing) → IsListing (flash_byte image.now) listing → IsPlanEnd (shown_out listing image.now s).outcome) }
     ensures few { IfOk result (λ s. length (ticks_of s.lines) ≤ 4 * n) }
     // Each tick does what is greedy in the state before it.
     ensures greedy { IfOk result (λ s. (listing : Listing) → IsListing (flash_byte image.now) listing → (t : ℕ) (line : TickLine) (left : List TickLine)
         → drop t (ticks_of s.lines) ≡ line ∷ left → IsGreedyAt listing image.now n s t line) }
     // Where a tick does a beat of the older alone though a tick of that and of the younger's would go on, the older is the last that is asked for.
     ensures dense { IfOk result (λ s. (listing : Listing) → IsListing (flash_byte image.now) listing → (t : ℕ) (line : TickLine) (left : List TickLine)
-        → drop t (ticks_of s.lines) ≡ line ∷ left → line.letters ≡ older_letter ∷ [] → let x = timed listing image.now s t in
-        (tick (bare_program listing) (plan_line 1 Greedy.Two) x).outcome ≡ None → n ≤ x.config.n + 1) }
+        → drop t (ticks_of s.lines) ≡ line ∷ left → line.letters ≡ older_letter ∷ [] → let x = run listing image.now s t in
+        (tick listing (bare []) (plan_line 1 Greedy.Two) x).outcome ≡ None → n ≤ x.machine.config.n + 1) }
     ensures odd { IfOk result (λ _. reset_pc image.now % 2 ≡ 1) }
     ensures refused { IfErr result (λ e. LoadRefuses image.now e) }
 {

@@ -1,6 +1,7 @@
 -- Readiness in so many words, and runs to which more ticks may be added.
-use Rattle.std.proofs.Common.{◌≡◌, ◌↔◌, ℕ, suc, ◌+◌, ◌==◌, ◌&&◌, ◌<◌, arith, Bool, true, false, List, [], ◌∷◌, ◌++◌, drop, length, Option, Some, None, Ok, Err}
-use Rattle.std.proofs.Common.{refl, sym, ◌∙◌, ap, add-zero}
+use Rattle.std.proofs.Common.{◌≡◌, ◌↔◌, ℕ, ◌+◌, ◌==◌, ◌&&◌, arith, Bool, true, false, List, ◌∷◌, ◌++◌, drop, take, length, Option, Some, None, Ok, Err}
+use Rattle.std.proofs.Common.{refl, sym, ◌∙◌, ap}
+use Rattle.std.proofs.Math.Seq.{drop-append_seam, take-append_seam}
 use Rattle.std.proofs.lemmas.Bool.Decides.{nat_tests}
 use Rattle.hm_base.specs.Image.{Segment}
 use Rattle.hm_codes.specs.Listing.{Listing}
@@ -9,11 +10,10 @@ use Rattle.hm_order.specs.Beats.{then}
 use Rattle.hm_order.specs.Machine.{Config, older, younger, younger_of}
 use Rattle.hm_order.proofs.Results.{ok_err, then_ok_at}
 use Rattle.hm_plan_laws.specs.Greedy.{IsReady, goes_on, is_ready}
-use Rattle.hm_plan_laws.specs.Planned.{after_ticks}
-use Rattle.hm_plan_laws.proofs.Folds.{next_left}
-use Rattle.hm_run.proofs.Steps.{closed_on}
+use Rattle.hm_position.proofs.Prefixes.{run_taken}
+use Rattle.hm_position.specs.Next.{after_ticks}
 use Rattle.hm_run.specs.Program.{Program, Stepped}
-use Rattle.hm_run.specs.Timed.{Timed, begin, closed, next, thread_program, tick, timed}
+use Rattle.hm_handlers.specs.Runs.{Run, begin, closed, run}
 use Rattle.hm_sched.specs.Schedule.{TickLine, Sched, ticks_of}
 use Rattle.hm_state.specs.State.{State}
 use Rattle.hm_window.specs.declared.rule.Rule.{Rule}
@@ -61,26 +61,9 @@ module _ (M : Program) where
   ready c = (told c, tells c)
 
 -- RUNS
-module _ (listing : Listing) (image : List Segment) (s : Sched) (line : TickLine) (left : List TickLine) where
-  abbrev M : Program
-  M = thread_program listing s
-
-  some : (gs : List TickLine) → 0 < length (gs ++ (line ∷ left))
-  some [] = omega arith
-  some (g ∷ gs) = omega arith
-
-  open_from : (gs : List TickLine) (t : ℕ) (x : Timed) → drop t (ticks_of s.lines) ≡ gs ++ (line ∷ left) → timed listing image s t ≡ x
-      → timed listing image s (t + length gs) ≡ after_ticks M gs x
-  open_from [] t x e h = ap (timed listing image s) (add-zero t) ∙ h
-  open_from (g ∷ gs) t x e h =
-      let sum : t + suc (length gs) ≡ suc t + length gs = omega arith in
-      let one : timed listing image s (suc t) ≡ tick M g x = (λ j. next M (e j) (h j)) ∙ closed_on (gs ++ (line ∷ left)) (tick M g x) (some gs) in
-      ap (timed listing image s) sum ∙ open_from gs (suc t) (tick M g x) (next_left listing image s t g (gs ++ (line ∷ left)) e) one
-
-  pub open_run : (given : List TickLine) → ticks_of s.lines ≡ given ++ (line ∷ left)
-      → timed listing image s (length given) ≡ after_ticks M given (begin image s)
-  open_run given e =
-      let all : 0 + length given ≡ length given = omega arith in
-      let begun : timed listing image s 0 ≡ begin image s = ap (λ (l : List TickLine). closed l (begin image s)) e
-      ∙ closed_on (given ++ (line ∷ left)) (begin image s) (some given) in
-      ap (timed listing image s) (sym all) ∙ open_from given 0 (begin image s) e begun
+pub open_run : (listing : Listing) (image : List Segment) (s : Sched) (given : List TickLine) (line : TickLine) (left : List TickLine)
+    → ticks_of s.lines ≡ given ++ (line ∷ left) → run listing image s (length given) ≡ after_ticks listing s given (begin image s)
+open_run listing image s given line left e =
+    let by : List TickLine → Run = λ ticks. closed (drop (length given) ticks) (after_ticks listing s (take (length given) ticks) (begin image s)) in
+    run_taken listing s image (length given) ∙ ap by e
+    ∙ (λ j. closed (drop-append_seam given (line ∷ left) j) (after_ticks listing s (take-append_seam given (line ∷ left) j) (begin image s)))

@@ -2,14 +2,15 @@
 //! Each function is a law, and its clauses are what is proved of the definitions.
 #![tactic(auto)]
 
-ghost use Rattle.std.specs.Prelude.{◌≡◌, ◌↔◌, ℕ, ◌*◌, ◌≤◌, true, List, [], ◌∷◌, ◌++◌, drop, length};
+ghost use Rattle.std.specs.Prelude.{◌≡◌, ◌↔◌, ℕ, ◌*◌, ◌≤◌, true, List, ◌∷◌, ◌++◌, drop, length};
 ghost use Rattle.hm_base.specs.Image.{Segment};
 ghost use Rattle.hm_codes.specs.Listing.{Listing};
 ghost use Rattle.hm_plan_laws.specs.Ends.{DecidedBy, EndsAs, IsGreedyAt, IsPlanEnd};
 ghost use Rattle.hm_plan_laws.specs.Greedy.{IsReady, is_ready};
-ghost use Rattle.hm_plan_laws.specs.Planned.{after_ticks, planned};
+ghost use Rattle.hm_plan_laws.specs.Planned.{planned};
+ghost use Rattle.hm_position.specs.Next.{after_ticks};
 ghost use Rattle.hm_run.specs.InOrder.{in_order};
-ghost use Rattle.hm_run.specs.Timed.{begin, thread_program, timed, timed_out};
+ghost use Rattle.hm_handlers.specs.Runs.{begin, run, shown_out};
 ghost use Rattle.hm_order.specs.Machine.{Config};
 ghost use Rattle.hm_run.specs.Program.{Program};
 ghost use Rattle.hm_sched.specs.Schedule.{Sched, TickLine, ticks_of};
@@ -29,10 +30,10 @@ pub enum Greedy {
 /// Under the plan of n instructions a run ends as the n instructions in order do, within 4n ticks. So no rule is broken.
 pub fn plan_in_order()
     ensures ends { (listing : Listing) (image : List Segment) (n : ℕ)
-        → EndsAs n (timed_out listing image (planned listing image n)) (in_order listing image n) }
-    ensures only { (listing : Listing) (image : List Segment) (n : ℕ) → IsPlanEnd (timed_out listing image (planned listing image n)).outcome }
+        → EndsAs n (shown_out listing image (planned listing image n)) (in_order listing image n) }
+    ensures only { (listing : Listing) (image : List Segment) (n : ℕ) → IsPlanEnd (shown_out listing image (planned listing image n)).outcome }
     ensures exactly { (listing : Listing) (image : List Segment) (n : ℕ)
-        → DecidedBy n (timed_out listing image (planned listing image n)) (in_order listing image n) }
+        → DecidedBy n (shown_out listing image (planned listing image n)) (in_order listing image n) }
     // Its ticks are greedy, each in the state before it.
     ensures greedy { (listing : Listing) (image : List Segment) (n t : ℕ) (line : TickLine) (left : List TickLine) → let s = planned listing image n in
         drop t (ticks_of s.lines) ≡ line ∷ left → IsGreedyAt listing image n s t line }
@@ -45,5 +46,5 @@ pub fn open_runs()
     ensures ready { (M : Program) (c : Config State) → (is_ready M c ≡ true) ↔ IsReady M c }
     ensures given { (listing : Listing) (image : List Segment) (s : Sched) (given : List TickLine) (line : TickLine) (left : List TickLine)
         → ticks_of s.lines ≡ given ++ (line ∷ left)
-        → timed listing image s (length given) ≡ after_ticks (thread_program listing s) given (begin image s) }
+        → run listing image s (length given) ≡ after_ticks listing s given (begin image s) }
 {}

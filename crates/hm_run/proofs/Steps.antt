@@ -1,5 +1,5 @@
--- One step, and one tick, of a run.
-use Rattle.std.proofs.Common.{◌≡◌, suc, ◌+◌, ◌<◌, arith, ap, refl, sym, ◌∙◌, Bool, true, false, not, IsTrue, cond, List, [], ◌∷◌, length, Option, Some, None}
+-- One step of a run.
+use Rattle.std.proofs.Common.{◌≡◌, suc, ap, refl, true, false, not, IsTrue, Option, Some, None}
 use Rattle.std.proofs.Common.{Result, Ok, Err}
 use Rattle.hm_codes.specs.Listing.{Listing}
 use Rattle.hm_base.specs.declared.Fault.{Fault}
@@ -10,19 +10,13 @@ use Rattle.hm_isa.specs.declared.Scalar.TheVariants as scalar
 use Rattle.hm_isa.specs.declared.Vector.{Vector}
 use Rattle.hm_mem.specs.Memory.{Around}
 use Rattle.hm_order.specs.Beats.{then}
-use Rattle.hm_order.specs.Machine.{Config, Stopped, Broken, begin, done, older, older_of, settle}
-use Rattle.hm_run.specs.declared.Outcome.{Outcome}
-use Rattle.hm_run.specs.declared.Outcome.TheVariants as outcome
-use Rattle.hm_window.specs.declared.rule.Rule.TheVariants as rule
-use Rattle.hm_run.specs.Program.{Program, Stopping, Breach, Ticked, core, makes_here, other_by, other_here, rows, vector_of, letter_steps}
+use Rattle.hm_order.specs.Machine.{Config, begin, done, older, older_of, settle}
+use Rattle.hm_run.specs.Program.{core, makes_here, other_by, other_here, rows, vector_of}
 use Rattle.hm_run.specs.Stops.{break_of, scalar_break}
-use Rattle.hm_run.specs.Timed.{Timed, outcome_of, at_stop, counted_with, with_devices, ended, tick_of, closed, or_out, next}
-use Rattle.hm_sched.specs.Schedule.{TickLine}
 use Rattle.hm_regs.specs.declared.Regs.{Regs}
 use Rattle.hm_state.specs.State.{State}
 use Rattle.hm_thumb.specs.Families.{is_vector_row}
 use Rattle.hm_thumb.specs.Rows.{makes_context}
-use Rattle.hm_window.specs.Positions.{may_end}
 
 -- STEPS
 -- the position after the whole of an instruction that leaves this state
@@ -72,62 +66,3 @@ pub break_makes : (i : Instr) (r : Regs) → (break_of i ≡ None → ⊥) → m
 break_makes (instr.Scalar i) r h = scalar_makes i r h
 break_makes (instr.Branch i) r h = absurd (h refl)
 break_makes (instr.Vector v) r h = absurd (h refl)
-
--- TICKS
--- a tick of a run that goes on, up to what is left
-pub ticked : (M : Program) (line : TickLine) (left : List TickLine) (x : Timed) (r : Ticked)
-    → x.outcome ≡ None → letter_steps M 0 line.letters x.config ≡ r → next M (line ∷ left) x ≡ closed left (ended line x r)
-ticked M line left x r none e =
-    ap (λ (o : Option Outcome). closed left (tick_of M line x o)) none ∙ ap (λ (q : Ticked). closed left (ended line x q)) e
-
-pub closed_on : (left : List TickLine) (x : Timed) → 0 < length left → closed left x ≡ x
-closed_on [] x h = absurd (omega arith)
-closed_on (line ∷ left) x h = refl
-
-pub closed_ended : (left : List TickLine) (x : Timed) (o : Outcome) → x.outcome ≡ Some o → closed left x ≡ x
-closed_ended [] x o e = ap (λ (q : Option Outcome). record x { outcome = or_out q }) e ∙ ap (λ (q : Option Outcome). record x { outcome = q }) (sym e)
-closed_ended (line ∷ left) x o e = refl
-
--- an ended run stays as it is
-pub next_ended : (M : Program) (left : List TickLine) (x : Timed) (o : Outcome) → x.outcome ≡ Some o → next M left x ≡ x
-next_ended M [] x o e = refl
-next_ended M (line ∷ left) x o e = ap (λ (q : Option Outcome). closed left (tick_of M line x q)) e ∙ closed_ended left x o e
-
--- a tick whose letters are done, at a position where it may end
-pub ends_well : (M : Program) (line : TickLine) (left : List TickLine) (x : Timed) (c : Config State)
-    → x.outcome ≡ None → letter_steps M 0 line.letters x.config ≡ Ok c → may_end c.a c.b ≡ true
-    → next M (line ∷ left) x ≡ closed left
-    (record { outcome = None; config = record c { state = with_devices (counted_with line.irq) c.state }; acts = x.acts; ticks = x.ticks + 1 })
-ends_well M line left x c none e judged =
-    let y : Timed = record { outcome = None; config = c; acts = x.acts; ticks = x.ticks + 1 } in
-    let there : Timed = record y { config = record c { state = with_devices (counted_with line.irq) c.state } } in
-    let broken : Timed = record y { outcome = Some (outcome.RuleBroken y.ticks (length line.letters) (rule.Ending c.a c.b)) } in
-    ticked M line left x (Ok c) none e ∙ ap (λ (q : Bool). closed left (cond q there broken)) judged
-
--- and at one where it may not
-pub ends_badly : (M : Program) (line : TickLine) (left : List TickLine) (x : Timed) (c : Config State)
-    → x.outcome ≡ None → letter_steps M 0 line.letters x.config ≡ Ok c → may_end c.a c.b ≡ false
-    → record { outcome = Some (outcome.RuleBroken (x.ticks + 1) (length line.letters) (rule.Ending c.a c.b)); config = c; acts = x.acts; ticks = x.ticks + 1 }
-    ≡ next M (line ∷ left) x
-ends_badly M line left x c none e judged =
-    let y : Timed = record { outcome = None; config = c; acts = x.acts; ticks = x.ticks + 1 } in
-    let there : Timed = record y { config = record c { state = with_devices (counted_with line.irq) c.state } } in
-    let broken : Timed = record y { outcome = Some (outcome.RuleBroken y.ticks (length line.letters) (rule.Ending c.a c.b)) } in
-    sym (closed_ended left broken (outcome.RuleBroken y.ticks (length line.letters) (rule.Ending c.a c.b)) refl)
-    ∙ sym (ticked M line left x (Ok c) none e ∙ ap (λ (q : Bool). closed left (cond q there broken)) judged)
-
--- a tick in which an instruction stops
-pub stops : (M : Program) (line : TickLine) (left : List TickLine) (x : Timed) (c : Config State) (e : Stopping)
-    → x.outcome ≡ None → letter_steps M 0 line.letters x.config ≡ Err (Stopped c e)
-    → record { outcome = Some (outcome_of (x.ticks + 1) x.acts c e); config = at_stop c e; acts = x.acts; ticks = x.ticks + 1 } ≡ next M (line ∷ left) x
-stops M line left x c e none h =
-    let y : Timed = record { outcome = Some (outcome_of (x.ticks + 1) x.acts c e); config = at_stop c e; acts = x.acts; ticks = x.ticks + 1 } in
-    sym (closed_ended left y (outcome_of (x.ticks + 1) x.acts c e) refl) ∙ sym (ticked M line left x (Err (Stopped c e)) none h)
-
--- a tick in which a step breaks a rule
-pub breaks : (M : Program) (line : TickLine) (left : List TickLine) (x : Timed) (c : Config State) (r : Breach)
-    → x.outcome ≡ None → letter_steps M 0 line.letters x.config ≡ Err (Broken c r)
-    → record { outcome = Some (outcome.RuleBroken (x.ticks + 1) r.step r.rule); config = c; acts = x.acts; ticks = x.ticks + 1 } ≡ next M (line ∷ left) x
-breaks M line left x c r none h =
-    let y : Timed = record { outcome = Some (outcome.RuleBroken (x.ticks + 1) r.step r.rule); config = c; acts = x.acts; ticks = x.ticks + 1 } in
-    sym (closed_ended left y (outcome.RuleBroken (x.ticks + 1) r.step r.rule) refl) ∙ sym (ticked M line left x (Err (Broken c r)) none h)

@@ -1,6 +1,6 @@
 -- The machine of a program: what a step of the older instruction and one of the younger do. The listing says what
 -- stands at each address.
-use Rattle.std.specs.Prelude.{ℕ, zero, suc, ◌+◌, ◌-◌, ◌==◌, ◌&&◌, nat_lt, is_none, Bool, true, false, cond, List, [], ◌∷◌, ◌++◌, length, nat_eq, Option, Some}
+use Rattle.std.specs.Prelude.{ℕ, ◌+◌, ◌-◌, ◌&&◌, nat_lt, is_none, Bool, true, false, cond, List, ◌++◌, length, nat_eq, Option, Some}
 use Rattle.std.specs.Prelude.{None, option_map, Result, Ok, Err}
 use Rattle.hm_base.specs.declared.Fault.{Fault}
 use Rattle.hm_base.specs.declared.Stop.{Stop}
@@ -13,7 +13,7 @@ use Rattle.hm_mem.specs.Memory.{Around}
 use Rattle.hm_beat.specs.Ordered.{of_four}
 use Rattle.hm_beat.specs.Trees.{action}
 use Rattle.hm_order.specs.Beats.{Action, Beats, then}
-use Rattle.hm_order.specs.Machine.{Core, Config, End, Stopped, Broken, older, younger}
+use Rattle.hm_order.specs.Machine.{Core, Config, End, younger}
 use Rattle.hm_run.specs.declared.Cause.{Cause}
 use Rattle.hm_run.specs.declared.Cause.TheVariants as cause
 use Rattle.hm_run.specs.declared.Reason.TheVariants.{Break, Exit}
@@ -22,7 +22,6 @@ use Rattle.hm_window.specs.declared.rule.Rule.TheVariants as rule
 use Rattle.hm_run.specs.Stops.{WholeStop, Halt, Full, Faults, at_break, break_of}
 use Rattle.hm_rows.specs.Context.{with_context}
 use Rattle.hm_rows.specs.Rows.{vector_tree, vector_whole, refuse}
-use Rattle.hm_sched.specs.Schedule.{older_letter, younger_letter}
 use Rattle.hm_regs.specs.declared.Regs.{Regs}
 use Rattle.hm_state.specs.State.{State, Cell, cells, regs_of}
 use Rattle.hm_base.specs.Stops.{is_tainted}
@@ -229,8 +228,8 @@ core listing around = record {
   marked = dead;
 }
 
--- WHAT A LETTER DOES. O is a step of the older instruction, Y one of the younger, and W does the older to its end.
--- what a step or a letter comes to: where the machine stands, or why it does not go on
+-- STEPS
+-- what a step comes to: where the machine stands, or why it does not go on
 abbrev pub Stepped : Type 0
 Stepped = Result (Config State) (End State Cause Rule)
 
@@ -239,40 +238,7 @@ abbrev pub steps_left : Option Vector → ℕ → ℕ
 steps_left (Some v) a = 4 - a
 steps_left None a = 1
 
--- so many steps of the older
-abbrev pub older_steps : Program → ℕ → Config State → Stepped
-older_steps M zero c = Ok c
-older_steps M (suc k) c = then (older M c) (older_steps M k)
-
--- the older instruction to its end
-abbrev pub to_end : Program → Config State → Stepped
-to_end M c = older_steps M (steps_left (M.code c.state.pc) c.a) c
-
--- what one letter does: O, Y or W
-abbrev pub letter_step : Program → ℕ → Config State → Stepped
-letter_step M l c = cond (l == older_letter) (older M c) (cond (l == younger_letter) (younger M c) (to_end M c))
-
 -- an instruction that stops, and whether it is the younger of two
 pub record Stopping : Type 0 where
   pub cause : Cause
   pub younger : Bool
-
--- a rule that is broken, and the step of the tick that breaks it
-pub record Breach : Type 0 where
-  pub step : ℕ
-  pub rule : Rule
-
--- what the letters of a tick come to: where the machine stands, or the instruction that stops, or the rule that is broken
-abbrev pub Ticked : Type 0
-Ticked = Result (Config State) (End State Stopping Breach)
-
--- step k of a tick, and whether it is the younger's, named where it does not go on
-abbrev pub at_step : ℕ → Bool → Stepped → Ticked
-at_step k younger (Ok c) = Ok c
-at_step k younger (Err (Stopped c e)) = Err (Stopped c (record { cause = e; younger = younger }))
-at_step k younger (Err (Broken c r)) = Err (Broken c (record { step = k; rule = r }))
-
--- the letters of a tick, of which k were done
-abbrev pub letter_steps : Program → ℕ → List ℕ → Config State → Ticked
-letter_steps M k [] c = Ok c
-letter_steps M k (l ∷ ls) c = then (at_step (k + 1) (l == younger_letter) (letter_step M l c)) (letter_steps M (k + 1) ls)

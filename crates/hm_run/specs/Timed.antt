@@ -1,27 +1,23 @@
--- The beat machine: the fold of steps and ends of ticks over a schedule.
-use Rattle.std.specs.Prelude.{ℕ, zero, suc, ◌+◌, ◌%◌, ◌^◌, if◌then◌else◌, List, [], ◌∷◌, length, drop, Option, Some, None, Ok, Err}
-use Rattle.hm_base.specs.Image.{Segment}
+-- What is shown of a run, the outcomes of what stops, and what the end of a tick leaves.
+use Rattle.std.specs.Prelude.{ℕ, ◌+◌, ◌%◌, ◌^◌, if◌then◌else◌, List, [], ◌∷◌, Option, Some, None}
 use Rattle.hm_base.specs.declared.Stop.{Stop}
 use Rattle.hm_base.specs.declared.Stop.TheVariants as stop
 use Rattle.hm_codes.specs.Listing.{Listing}
 use Rattle.hm_exc.specs.declared.types.Activation.{Activation}
 use Rattle.hm_mem.specs.Memory.{Bounds, thread_under}
 use Rattle.hm_mem.specs.declared.Dev.{Dev}
-use Rattle.hm_order.specs.Machine.{Config, Stopped, Broken, at_start}
+use Rattle.hm_order.specs.Machine.{Config}
 use Rattle.hm_run.specs.declared.Cause.{Cause}
 use Rattle.hm_run.specs.declared.Cause.TheVariants as cause
 use Rattle.hm_run.specs.declared.Outcome.{Outcome}
 use Rattle.hm_run.specs.declared.Outcome.TheVariants as outcome
 use Rattle.hm_run.specs.declared.Offence.TheVariants as offence
-use Rattle.hm_window.specs.declared.rule.Rule.TheVariants as rule
 use Rattle.hm_run.specs.declared.Who.{Who}
 use Rattle.hm_run.specs.declared.Who.TheVariants.{Thread, Handler}
-use Rattle.hm_run.specs.Program.{Program, Stopping, Ticked, core, letter_steps}
-use Rattle.hm_sched.specs.Schedule.{TickLine, Sched, ticks_of}
-use Rattle.hm_state.specs.Start.{start_under}
+use Rattle.hm_run.specs.Program.{Program, Stopping, core}
+use Rattle.hm_sched.specs.Schedule.{Sched}
 use Rattle.hm_sys.specs.Ticks.{arrived, counted}
 use Rattle.hm_state.specs.State.{State}
-use Rattle.hm_window.specs.Positions.{may_end}
 
 -- the bounds of handlers and of stacks that a schedule gives
 abbrev pub bounds_of : Sched → Bounds
@@ -34,10 +30,6 @@ pub record Timed : Type 0 where
   pub config : Config State
   pub acts : List Activation
   pub ticks : ℕ
-
--- a run before its first tick: a reset to an image, under the region and the floors of a schedule
-abbrev pub begin : List Segment → Sched → Timed
-begin image s = record { outcome = None; config = at_start (start_under (bounds_of s) image); acts = []; ticks = 0 }
 
 -- who runs: the thread, where there is no activation
 abbrev pub who_runs : List Activation → Who
@@ -82,53 +74,11 @@ with_devices f s = record s { rest = record s.rest { devices = f s.rest.devices 
 abbrev pub counted_with : List ℕ → Dev → Dev
 counted_with irq d = arrived irq (counted d)
 
--- At the end of a tick that did not end the run the position is judged, SysTick counts, and the tick's interrupts
--- become pending. (Nothing enters here; runs with entries are those of hm_handlers.)
-abbrev pub tick_end : TickLine → Timed → Timed
-tick_end line x =
-    if may_end x.config.a x.config.b
-    then record x { config = record x.config { state = with_devices (counted_with line.irq) x.config.state } }
-    else record x { outcome = Some (outcome.RuleBroken x.ticks (length line.letters) (rule.Ending x.config.a x.config.b)) }
-
--- a tick, by what its letters came to
-abbrev pub ended : TickLine → Timed → Ticked → Timed
-ended line x (Ok c) = tick_end line (record { outcome = None; config = c; acts = x.acts; ticks = x.ticks + 1 })
-ended line x (Err (Stopped c e)) = record { outcome = Some (outcome_of (x.ticks + 1) x.acts c e); config = at_stop c e; acts = x.acts; ticks = x.ticks + 1 }
-ended line x (Err (Broken c r)) = record { outcome = Some (outcome.RuleBroken (x.ticks + 1) r.step r.rule); config = c; acts = x.acts; ticks = x.ticks + 1 }
-
--- one tick; an ended run stays as it is
-abbrev pub tick_of : Program → TickLine → Timed → Option Outcome → Timed
-tick_of M line x (Some o) = x
-tick_of M line x None = ended line x (letter_steps M 0 line.letters x.config)
-
--- one tick of a run, by its line
-abbrev pub tick : Program → TickLine → Timed → Timed
-tick M line x = tick_of M line x x.outcome
-
 -- where no tick is left, a run that has no other outcome ends
 abbrev pub or_out : Option Outcome → Option Outcome
 or_out None = Some outcome.OutOfTicks
 or_out (Some o) = Some o
 
--- a run that has no other outcome is out of ticks where no tick is left
-abbrev pub closed : List TickLine → Timed → Timed
-closed [] x = record x { outcome = or_out x.outcome }
-closed (line ∷ left) x = x
-
--- the first of the ticks that are left
-abbrev pub next : Program → List TickLine → Timed → Timed
-next M [] x = x
-next M (line ∷ left) x = closed left (tick M line x)
-
 -- the thread of a program under a schedule
 abbrev pub thread_program : Listing → Sched → Program
 thread_program listing s = core listing (thread_under (bounds_of s))
-
--- the machine after t ticks of a schedule
-abbrev pub timed : Listing → List Segment → Sched → ℕ → Timed
-timed listing image s zero = closed (ticks_of s.lines) (begin image s)
-timed listing image s (suc t) = next (thread_program listing s) (drop t (ticks_of s.lines)) (timed listing image s t)
-
--- after all its ticks
-abbrev pub timed_out : Listing → List Segment → Sched → Timed
-timed_out listing image s = timed listing image s (length (ticks_of s.lines))

@@ -5,14 +5,10 @@ use Rattle.std.proofs.lemmas.Bool.{leb-false, leb-true}
 use Rattle.std.proofs.Math.Seq.{drop-length, take-length}
 use Rattle.hm_base.specs.Image.{Segment}
 use Rattle.hm_codes.specs.Listing.{Listing}
-use Rattle.hm_exc.specs.Entry.{entry_refusal}
-use Rattle.hm_exc.specs.declared.types.EnterErr.{EnterErr}
-use Rattle.hm_handlers.specs.Nested.{Ended, Nested, NestedEnd, Offends, TickEnd, letters}
-use Rattle.hm_order.specs.Machine.{Broken, Stopped}
-use Rattle.hm_handlers.specs.Runs.{Run, after_count, begin, closed, ended, enters, enters_unless, may_enter, picks, run_out, stops, tick_of}
-use Rattle.hm_position.proofs.Prefixes.{run_taken, ticks_bare}
+use Rattle.hm_handlers.specs.Nested.{Nested, TickEnd, letters}
+use Rattle.hm_handlers.specs.Runs.{Run, begin, closed, ended, run_out, tick_of}
+use Rattle.hm_position.proofs.Prefixes.{one_tick, run_taken, ticks_bare}
 use Rattle.hm_position.specs.Next.{after_ticks}
-use Rattle.hm_run.specs.Timed.{bounds_of}
 use Rattle.hm_run.specs.declared.Outcome.{Outcome}
 use Rattle.hm_sched.proofs.Ticks.{length-ticks_of}
 use Rattle.hm_sched.specs.Schedule.{Sched, TickLine, repeat, ticks_of, total}
@@ -20,9 +16,6 @@ use Rattle.hm_shake_runs.specs.Heads.{bare}
 use Rattle.hm_shake_runs.specs.Stretches.{cut, first_of, stretch_line, with_stretches}
 use Rattle.hm_shake_runs.specs.declared.head.Head.{Head}
 use Rattle.hm_shake_runs.specs.declared.stretches.Stretch.{Stretch}
-use Rattle.hm_state.specs.State.{regs_of}
-use Rattle.hm_whole.specs.Whole.{seen_in}
-use Rattle.hm_window.specs.Positions.{may_end}
 
 -- a tick without the count of its line, of which it takes nothing
 abbrev one : TickLine → TickLine
@@ -88,33 +81,6 @@ module _ (listing : Listing) (s : Sched) where
   after_one [] x = refl
   after_one (line ∷ lines) x = ap (after_ticks listing s lines) (tick_one line x x.outcome) ∙ after_one lines (tick_of listing s (one line) x x.outcome)
 
-  -- each tick of a run that goes on is one more
-  unless_ticks : (e : ℕ) (o : Option EnterErr) (x : Run) → (enters_unless s e o x).ticks ≡ x.ticks
-  unless_ticks e None x = refl
-  unless_ticks e (Some why) x = refl
-
-  enters_ticks : (o : Option ℕ) (x : Run) → (enters s o x).ticks ≡ x.ticks
-  enters_ticks None x = refl
-  enters_ticks (Some e) x = let t = x.machine.config.state in unless_ticks e (entry_refusal (bounds_of s) (regs_of t) (seen_in t) e) x
-
-  either_ticks : (b : Bool) (x y : Run) (n : ℕ) → x.ticks ≡ n → y.ticks ≡ n → (cond b x y).ticks ≡ n
-  either_ticks true x y n e f = e
-  either_ticks false x y n e f = f
-
-  may_enter_ticks : (x : Run) → (may_enter s x).ticks ≡ x.ticks
-  may_enter_ticks x = either_ticks s.entries (enters s (picks x) x) x x.ticks (enters_ticks (picks x) x) refl
-
-  stops_ticks : (t k : ℕ) (younger : Bool) (e : NestedEnd) (x : Run) → (stops t k younger e x.entries).ticks ≡ t
-  stops_ticks t k younger (Ended (Stopped c w) acts) x = refl
-  stops_ticks t k younger (Ended (Broken c r) acts) x = refl
-  stops_ticks t k younger (Offends what c acts) x = refl
-
-  ended_ticks : (line : TickLine) (x : Run) (r : Result Nested TickEnd) → (ended s line x r).ticks ≡ x.ticks + 1
-  ended_ticks line x (Ok m) =
-      let y : Run = record { outcome = None; machine = m; ticks = x.ticks + 1; entries = x.entries } in
-      either_ticks (may_end m.config.a m.config.b) (may_enter s (after_count line y)) _ (x.ticks + 1) (may_enter_ticks (after_count line y)) refl
-  ended_ticks line x (Err e) = stops_ticks (x.ticks + 1) e.step e.younger e.end x
-
   -- a run that has ended stays
   stays : (lines : List TickLine) (x : Run) (o : Outcome) → x.outcome ≡ Some o → after_ticks listing s lines x ≡ x
   stays [] x o e = refl
@@ -136,8 +102,7 @@ module _ (listing : Listing) (s : Sched) where
       record { more = 0; few = omega arith; ticks = ap (λ (y : Run). y.ticks) is ∙ omega arith; same = sym is }
   begun_by (line ∷ lines) x None e =
       let y = tick_of listing s line x x.outcome in
-      let one_more : y.ticks ≡ x.ticks + 1 = ap (λ (o : Option Outcome). (tick_of listing s line x o).ticks) e
-      ∙ ended_ticks line x (letters listing s 0 line.letters x.machine) in
+      let one_more : y.ticks ≡ x.ticks + 1 = one_tick listing s line x e in
       let rest = begun_by lines y y.outcome refl in
       record { more = suc rest.more; few = omega (arith, rest.few); ticks = rest.ticks ∙ omega arith; same = rest.same }
 

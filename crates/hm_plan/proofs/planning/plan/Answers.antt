@@ -6,9 +6,9 @@ use Rattle.hm_plan.proofs.Dense.{last_alone}
 use Rattle.hm_plan.proofs.Growing.{if_ok, of_planned}
 use Rattle.hm_plan.proofs.Lawful.{both, overlaps}
 use Rattle.hm_plan_laws.specs.Ends.{DecidedBy, EndsAs, IsGreedyAt, IsPlanEnd}
-use Rattle.hm_plan_laws.specs.Planned.{bare_program, planned}
+use Rattle.hm_plan_laws.specs.Planned.{bare, bare_program, planned}
 use Rattle.hm_run.specs.InOrder.{in_order}
-use Rattle.hm_run.specs.Timed.{tick, timed, timed_out}
+use Rattle.hm_handlers.specs.Runs.{run, shown_out, tick}
 use Rattle.hm_sched.specs.Schedule.{Sched, TickLine, older_letter, ticks_of}
 use Rattle.hm_plan.proofs.planning.plan.Goals as goal
 
@@ -16,7 +16,7 @@ pub returns-clause-ends : goal.returns-clause-ends
 returns-clause-ends c =
     let image = c.args.image.now in
     let n = c.args.n in
-    of_planned image n (λ (listing : Listing) (s : Sched). EndsAs n (timed_out listing image s) (in_order listing image n))
+    of_planned image n (λ (listing : Listing) (s : Sched). EndsAs n (shown_out listing image s) (in_order listing image n))
     (λ listing. c.plan_in_order.ensures.ends listing image n)
     c.grown.result c.grown.ensures.planned
 
@@ -24,7 +24,7 @@ pub returns-clause-exactly : goal.returns-clause-exactly
 returns-clause-exactly c =
     let image = c.args.image.now in
     let n = c.args.n in
-    of_planned image n (λ (listing : Listing) (s : Sched). DecidedBy n (timed_out listing image s) (in_order listing image n))
+    of_planned image n (λ (listing : Listing) (s : Sched). DecidedBy n (shown_out listing image s) (in_order listing image n))
     (λ listing. c.plan_in_order.ensures.exactly listing image n)
     c.grown.result c.grown.ensures.planned
 
@@ -32,7 +32,7 @@ pub returns-clause-only : goal.returns-clause-only
 returns-clause-only c =
     let image = c.args.image.now in
     let n = c.args.n in
-    of_planned image n (λ (listing : Listing) (s : Sched). IsPlanEnd (timed_out listing image s).outcome)
+    of_planned image n (λ (listing : Listing) (s : Sched). IsPlanEnd (shown_out listing image s).outcome)
     (λ listing. c.plan_in_order.ensures.only listing image n)
     c.grown.result c.grown.ensures.planned
 
@@ -61,11 +61,11 @@ returns-clause-dense c =
     of_planned image n
     (λ (listing : Listing) (s : Sched). (t : ℕ) (line : TickLine) (left : List TickLine) → drop t (ticks_of s.lines) ≡ line ∷ left
     → line.letters ≡ older_letter ∷ []
-    → let x = timed listing image s t in (tick (bare_program listing) both x).outcome ≡ None → n ≤ x.config.n + 1)
+    → let x = run listing image s t in (tick listing (bare []) both x).outcome ≡ None → n ≤ x.machine.config.n + 1)
     (λ listing t line left there one goes.
     let s = planned listing image n in
-    let x = (timed listing image s t).config in
+    let x = (run listing image s t).machine.config in
     let greedy = c.plan_in_order.ensures.greedy listing image n t line left there in
-    let ready = (c.open_runs.ensures.ready (bare_program listing) x).1 (overlaps listing image n t s line greedy goes) in
+    let ready = (c.open_runs.ensures.ready (bare_program listing) x).1 (overlaps listing image n t s line refl greedy goes) in
     last_alone (bare_program listing) n x ready (sym greedy.letters ∙ one))
     c.grown.result c.grown.ensures.planned
