@@ -1,6 +1,5 @@
--- Which steps leave steps of their instruction behind them, what all steps that are left do, and what is kept.
-use Rattle.std.proofs.Common.{◌≡◌, ℕ, ◌+◌, ◌<◌, arith, refl, ap, sym, ◌∙◌, subst, not, IsTrue, Some, Result, Ok}
-use Rattle.std.specs.Prelude.{IsSome}
+-- Which steps leave steps of their instruction behind them, and what all steps that are left do.
+use Rattle.std.proofs.Common.{◌≡◌, ℕ, ◌+◌, ◌<◌, arith, ap, sym, ◌∙◌, subst, not, IsTrue, Result, Ok}
 use Rattle.hm_base.specs.declared.Fault.{Fault}
 use Rattle.hm_codes.specs.Listing.{IsListing, Listing, Stands}
 use Rattle.hm_handlers.specs.Nested.{steps, to_end}
@@ -9,10 +8,6 @@ use Rattle.hm_isa.specs.declared.Instr.TheVariants as instr
 use Rattle.hm_isa.specs.declared.Vector.{Vector}
 use Rattle.hm_cpu.proofs.Keeping.{moved_flash}
 use Rattle.hm_cpu.proofs.Rows.{listed_here}
-use Rattle.hm_cpu.specs.Decodings.{instr_of}
-use Rattle.hm_cpu.specs.Kept.{HasKept, kept_of}
-use Rattle.hm_cpu.specs.declared.decoded.Decoded.{Decoded}
-use Rattle.hm_cpu.specs.declared.recent.Recent.{Recent}
 use Rattle.hm_cpu.specs.Cpus.{LeavesTheRest, KeepsFlash, nested_of}
 use Rattle.hm_cpu.specs.declared.cpu.Cpu.{Cpu}
 use Rattle.hm_mem.specs.Memory.{flash_at, memory_of}
@@ -50,13 +45,3 @@ whole_left i x stands listing s is left e =
     ap (λ (k : ℕ). steps listing s k (nested_of x)) e
     ∙ sym (ap (λ (r : Result Instr Fault). steps listing s (steps_left (vector_of r) x.window.a) (nested_of x))
     (listed_here listing (flash_at (memory_of x.mem)) x.regs.pc (Ok i) is stands))
-
--- what is kept of an address, where what stands there is kept
-pub kept_there : (r : Recent) (flash : ℕ → ℕ) (addr : ℕ) → HasKept r flash addr → IsSome (kept_of r addr)
-kept_there r flash addr h = subst IsSome (sym h.1) refl
-
-pub kept_stands : (r : Recent) (flash : ℕ → ℕ) (addr : ℕ) (d : Decoded) → HasKept r flash addr → kept_of r addr ≡ Some d → Stands flash addr (instr_of d)
-kept_stands r flash addr d h e =
-    let there : Some h.0 ≡ Some d = sym h.1 ∙ e in
-    let same : h.0 ≡ d = cc in
-    subst (λ (x : Decoded). Stands flash addr (instr_of x)) same h.2

@@ -8,3 +8,4 @@ pub mod Letters
 pub mod Nestings
 pub mod Trials
 pub mod Going
+pub mod Known

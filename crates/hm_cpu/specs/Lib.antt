@@ -3,4 +3,5 @@ pub mod Services
 pub mod Trials
 pub mod Halves
 pub mod Decodings
+pub mod Places
 pub mod Kept

@@ -11,7 +11,7 @@ ghost use Rattle.hm_mem.specs.Seen.{IsSameElsewhere};
 ghost use Rattle.hm_order.specs.Machine.{begin, older, settle};
 ghost use Rattle.hm_regs.specs.Place.{Counted, InRange};
 ghost use Rattle.hm_rows.specs.Context.{with_context};
-ghost use Rattle.hm_run.specs.Program.{core, done_in_machine, most_output, rows, vector_in, vector_of};
+ghost use Rattle.hm_run.specs.Program.{core, done_in_machine, most_output, rows, vector_of};
 ghost use Rattle.hm_run.specs.Stops.{break_of, scalar_break};
 ghost use Rattle.hm_state.specs.State.{state_of};
 ghost use Rattle.hm_thumb.specs.Families.{is_vector_row};
@@ -51,6 +51,7 @@ pub struct Cpu {
 
 /// What comes before the next beat of a vector instruction of which some are done: before the first the context is made
 /// where there is none, and then the instruction may be refused.
+#[inline(always)]
 fn begin(v: &Any, done: u8, regs: &mut Regs) -> Result<(), Cause>
     requires context { 0 < done → IsTrue regs.old.fpca }
     ensures value { (listing : Listing) (m : Memory) (output : List ℕ)
@@ -65,13 +66,14 @@ fn begin(v: &Any, done: u8, regs: &mut Regs) -> Result<(), Cause>
         return Ok(());
     }
     context(regs);
-    match refuse(v.row(), regs) {
-        Some(fault) => Err(Cause::Stop(Stop::Fault(fault))),
-        None => Ok(()),
+    if let Some(fault) = refuse(v.row(), regs) {
+        return Err(Cause::Stop(Stop::Fault(fault)));
     }
+    Ok(())
 }
 
 /// Beat `b` of a vector instruction, or its stop, which changes nothing. `b` is below 4, and there is a context.
+#[inline(always)]
 pub fn beat(v: &Any, b: u8, regs: &mut Regs, mem: &mut Mem) -> Result<(), Cause>
     requires beat { b < 4 }
     requires context { IsTrue regs.old.fpca }
@@ -81,10 +83,10 @@ pub fn beat(v: &Any, b: u8, regs: &mut Regs, mem: &mut Mem) -> Result<(), Cause>
     ensures kept { IsSameElsewhere (memory_of mem.old) (memory_of mem.new) }
     ensures context { regs.new.fpca ≡ regs.old.fpca }
 {
-    match v.beat(b, regs, mem) {
-        Ok(()) => Ok(()),
-        Err(stop) => Err(Cause::Stop(stop)),
+    if let Err(stop) = v.beat(b, regs, mem) {
+        return Err(Cause::Stop(stop));
     }
+    Ok(())
 }
 
 /// After a beat of the older instruction: once it has four it is retired, and the next one stands behind it.
@@ -113,6 +115,7 @@ fn settle(x: &mut Cpu)
 }
 
 /// The next beat of the vector instruction at the program counter, after what comes before it.
+#[inline(always)]
 pub fn vector_step(v: &Any, x: &mut Cpu) -> Result<(), Cause>
     requires count { (x.old.retired < 2 ^ 63) × (x.old.older_steps < 2 ^ 63) }
     requires position { IsPosition x.old }
@@ -123,8 +126,12 @@ pub fn vector_step(v: &Any, x: &mut Cpu) -> Result<(), Cause>
     ensures kept { Keeps x.old x.new }
     ensures count { CountsOne x.old x.new }
 {
-    begin(v, x.window.a, &mut x.regs)?;
-    beat(v, x.window.a, &mut x.regs, &mut x.mem)?;
+    if let Err(cause) = begin(v, x.window.a, &mut x.regs) {
+        return Err(cause);
+    }
+    if let Err(cause) = beat(v, x.window.a, &mut x.regs, &mut x.mem) {
+        return Err(cause);
+    }
     settle(x);
     Ok(())
 }
@@ -150,6 +157,7 @@ fn break_of(i: &Instr) -> Option<u8>
 }
 
 /// An instruction that is no vector row, done; or a stop, which changes nothing but that a context may have been made.
+#[inline(always)]
 pub fn execute(i: &Instr, regs: &mut Regs, mem: &mut Mem) -> Result<Flow, Stop>
     requires row { IsTrue (not (is_vector_row i.now)) }
     ensures value { (output : List ℕ) → executed_by result (state_of regs.new (memory_of mem.new) output)
@@ -164,6 +172,7 @@ pub fn execute(i: &Instr, regs: &mut Regs, mem: &mut Mem) -> Result<Flow, Stop>
 }
 
 /// The same of the thread, in which each that is done goes on to the next.
+#[inline(always)]
 fn execute_in_thread(i: &Instr, regs: &mut Regs, mem: &mut Mem) -> Result<(), Cause>
     requires row { IsTrue (not (is_vector_row i.now)) }
     ensures value { (output : List ℕ) → executed result (state_of regs.new (memory_of mem.new) output)
@@ -173,10 +182,10 @@ fn execute_in_thread(i: &Instr, regs: &mut Regs, mem: &mut Mem) -> Result<(), Ca
     ensures range { InRange regs.old }
     ensures counted { Counted regs.old }
 {
-    match execute(i, regs, mem) {
-        Ok(_flow) => Ok(()),
-        Err(stop) => Err(Cause::Stop(stop)),
+    if let Err(stop) = execute(i, regs, mem) {
+        return Err(Cause::Stop(stop));
     }
+    Ok(())
 }
 
 /// After the whole of an instruction that is no vector row, which is retired.
@@ -190,6 +199,7 @@ fn retire(x: &mut Cpu)
 }
 
 /// The whole of an instruction that is no vector row, which stands at the program counter; or it halts, or stops.
+#[inline(always)]
 fn other_step(i: &Instr, x: &mut Cpu) -> Result<(), Cause>
     requires row { IsTrue (not (is_vector_row i.now)) }
     requires count { (x.old.retired < 2 ^ 63) × (x.old.older_steps < 2 ^ 63) }
@@ -205,13 +215,16 @@ fn other_step(i: &Instr, x: &mut Cpu) -> Result<(), Cause>
         retire(x);
         return Ok(());
     }
-    execute_in_thread(i, &mut x.regs, &mut x.mem)?;
+    if let Err(cause) = execute_in_thread(i, &mut x.regs, &mut x.mem) {
+        return Err(cause);
+    }
     retire(x);
     Ok(())
 }
 
 /// A step of this instruction of the thread, which stands at the program counter: the next beat of a vector instruction, or the whole
 /// of any other.
+#[inline(always)]
 pub fn thread_step(i: &Decoded, x: &mut Cpu) -> Result<(), Cause>
     requires count { (x.old.retired < 2 ^ 63) × (x.old.older_steps < 2 ^ 63) }
     requires position { IsPosition x.old }
@@ -229,23 +242,13 @@ pub fn thread_step(i: &Decoded, x: &mut Cpu) -> Result<(), Cause>
     }
 }
 
-/// The vector instruction that this is, where it is one.
-fn as_vector(i: &Decoded) -> Option<Any>
-    ensures value { option_map row_of result ≡ vector_in (instr_of i.now) }
-{
-    match i {
-        Decoded::Whole(_) => None,
-        Decoded::Beats(v) => Some(*v),
-    }
-}
-
 /// The vector instruction that stands at an address, where one does.
 pub fn vector_at(recent: &mut Recent, mem: &Mem, addr: u32) -> Option<Any>
     ensures row { (listing : Listing) → IsListing (flash_at (memory_of mem.now)) listing → option_map row_of result ≡ vector_of (listing addr) }
     ensures room { IsSome result → addr + 4 < 2 ^ 32 }
 {
     match recent.keep(mem, addr) {
-        Ok(()) => as_vector(recent.kept(addr)),
+        Ok(()) => recent.kept(addr).as_vector(),
         Err(_) => None,
     }
 }

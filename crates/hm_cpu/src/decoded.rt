@@ -1,6 +1,7 @@
 //! Instructions as they are executed: done whole, or by beats.
 
-ghost use Rattle.std.specs.Prelude.{◌≡◌, ◌<◌, ◌≤◌, not, IsTrue};
+ghost use Rattle.std.specs.Prelude.{◌≡◌, ◌<◌, ◌≤◌, not, option_map, IsTrue};
+ghost use Rattle.hm_exec.specs.Families.{row_of};
 ghost use Rattle.hm_thumb.specs.Families.{is_vector_row};
 
 use hm_exec::{Any, any};
@@ -45,6 +46,16 @@ impl Decoded {
         match self {
             Decoded::Whole(_) => 1,
             Decoded::Beats(_) => 4 - done,
+        }
+    }
+
+    /// The vector instruction that it is, where it is one.
+    pub fn as_vector(&self) -> Option<Any>
+        ensures value { option_map row_of result ≡ vector_in (instr_of self.now) }
+    {
+        match self {
+            Decoded::Whole(_) => None,
+            Decoded::Beats(v) => Some(*v),
         }
     }
 }

@@ -2,8 +2,9 @@
 
 ghost use Rattle.std.specs.Prelude.{◌≡◌, ℕ, ◌%◌, ◌<◌, [], ◌∷◌, length, Err, IfErr, IfSome, IsSome, IsTrue, OnOk, Some};
 ghost use Rattle.hm_codes.specs.Listing.{HalvesStand, IsFetched};
-ghost use Rattle.hm_cpu.specs.Decodings.{instr_of, most_kept, place_of};
+ghost use Rattle.hm_cpu.specs.Decodings.{instr_of};
 ghost use Rattle.hm_cpu.specs.Halves.{code_of};
+ghost use Rattle.hm_cpu.specs.Places.{most_kept, place_of};
 ghost use Rattle.hm_isa.specs.Code.{halfwords};
 ghost use Rattle.hm_mem.specs.Memory.{memory_of, flash_at};
 
@@ -60,39 +61,49 @@ impl Recent {
         Ok(Recent { entries })
     }
 
-    /// Whether the instruction that is kept at a place is that of these halfwords.
-    fn holds(&self, place: usize, first: u16, second: u16) -> bool
+    /// Whether the instruction that is kept at a place is that of these halfwords, where there are two.
+    #[inline(always)]
+    fn holds(&self, place: usize, halves: Option<(u16, u16)>) -> bool
         requires below { place < most_kept }
-        ensures code { IsTrue result → (d : Decoded) × (entry_at self.now place ≡ Some d) × (halfwords (instr_of d) ≡ code_of first second) }
+        ensures code { IsTrue result → (d : Decoded) × (h : ℕ × ℕ) × (entry_at self.now place ≡ Some d) × (halves ≡ Some h)
+            × (halfwords (instr_of d) ≡ code_of h.0 h.1) }
     {
         let Some(entry) = &self.entries[place] else {
             return false;
         };
-        match entry.halves {
-            Some(halves) => halves.0 == first && halves.1 == second,
-            None => false,
+        match (entry.halves, halves) {
+            (Some(kept), Some(here)) => kept.0 == here.0 && kept.1 == here.1,
+            _ => false,
         }
     }
 
     /// Keeps the instruction that stands at an address, or tells the fault where none does. One that is kept is not decoded anew.
-    pub fn keep(&mut self, m: &Mem, addr: u32) -> Result<(), Fault>
+    #[inline(always)]
+    pub(crate) fn keep(&mut self, m: &Mem, addr: u32) -> Result<(), Fault>
         ensures kept { OnOk result (HasKept self.new (flash_at (memory_of m.now)) addr) }
         ensures fault { IfErr result (λ fault. IsFetched (flash_at (memory_of m.now)) addr (Err fault)) }
     {
-        let place = place_of(addr);
-        let halves = halves_at(m, addr);
-        if let Some((first, second)) = halves {
-            if self.holds(place, first, second) {
-                return Ok(());
-            }
+        if self.holds(place_of(addr), halves_at(m, addr)) {
+            return Ok(());
         }
+        self.renew(m, addr)
+    }
+
+    /// Decodes the instruction that stands at an address and keeps it, or tells the fault where none does.
+    #[cold]
+    #[inline(never)]
+    fn renew(&mut self, m: &Mem, addr: u32) -> Result<(), Fault>
+        ensures kept { OnOk result (HasKept self.new (flash_at (memory_of m.now)) addr) }
+        ensures fault { IfErr result (λ fault. IsFetched (flash_at (memory_of m.now)) addr (Err fault)) }
+    {
+        let halves = halves_at(m, addr);
         let instr = Decoded::of(fetch(m, addr)?);
-        self.entries[place] = Some(Entry { halves, instr });
+        self.entries[place_of(addr)] = Some(Entry { halves, instr });
         Ok(())
     }
 
     /// The instruction that is kept of an address.
-    pub fn kept(&self, addr: u32) -> &Decoded
+    pub(crate) fn kept(&self, addr: u32) -> &Decoded
         requires there { IsSome (kept_of self.now addr) }
         ensures value { kept_of self.now addr ≡ Some result.now }
     {

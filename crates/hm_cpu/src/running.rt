@@ -120,6 +120,7 @@ fn handler_beat(v: &Any, x: &mut Cpu) -> Result<(), LetterEnd>
 }
 
 /// A step of this instruction of a handler, which stands at the program counter.
+#[inline(never)]
 fn handler_step(i: &Decoded, x: &mut Cpu) -> Result<(), LetterEnd>
     requires count { (x.old.retired < 2 ^ 63) × (x.old.older_steps < 2 ^ 63) }
     requires position { IsPosition x.old }
@@ -140,6 +141,7 @@ fn handler_step(i: &Decoded, x: &mut Cpu) -> Result<(), LetterEnd>
 }
 
 /// A step of this instruction of what runs as the older, which stands at the program counter.
+#[inline(always)]
 fn step_of(i: &Decoded, x: &mut Cpu) -> Result<(), LetterEnd>
     requires stands { Stands (flash_at (memory_of x.old.mem)) x.old.regs.pc (instr_of i.now) }
     requires count { (x.old.retired < 2 ^ 63) × (x.old.older_steps < 2 ^ 63) }
@@ -157,13 +159,14 @@ fn step_of(i: &Decoded, x: &mut Cpu) -> Result<(), LetterEnd>
     if !x.acts.is_empty() {
         return handler_step(i, x);
     }
-    match thread_step(i, x) {
-        Ok(()) => Ok(()),
-        Err(cause) => Err(stop_of(cause)),
+    if let Err(cause) = thread_step(i, x) {
+        return Err(stop_of(cause));
     }
+    Ok(())
 }
 
 /// The fault where no instruction stands at the program counter of what runs.
+#[cold]
 fn none_stands(fault: Fault, x: &Cpu) -> LetterEnd
     requires none { IsFetched (flash_at (memory_of x.now.mem)) x.now.regs.pc (Err fault) }
     ensures value { (listing : Listing) (s : Sched) → IsListing (flash_at (memory_of x.now.mem)) listing → IsSoundUnder s x.now
@@ -173,6 +176,7 @@ fn none_stands(fault: Fault, x: &Cpu) -> LetterEnd
 }
 
 /// A step of the older instruction of what runs, or the fault where none stands at the program counter.
+#[inline(always)]
 fn older_step(recent: &mut Recent, x: &mut Cpu) -> Result<(), LetterEnd>
     requires count { (x.old.retired < 2 ^ 63) × (x.old.older_steps < 2 ^ 63) }
     requires position { IsPosition x.old }
@@ -185,13 +189,14 @@ fn older_step(recent: &mut Recent, x: &mut Cpu) -> Result<(), LetterEnd>
     ensures position { OnOk result (IsPosition x.new) }
     ensures count { CountsOne x.old x.new }
 {
-    match recent.keep(&x.mem, x.regs.pc) {
-        Ok(()) => step_of(recent.kept(x.regs.pc), x),
-        Err(fault) => Err(none_stands(fault, x)),
+    if let Err(fault) = recent.keep(&x.mem, x.regs.pc) {
+        return Err(none_stands(fault, x));
     }
+    step_of(recent.kept(x.regs.pc), x)
 }
 
 /// A step of the younger instruction of what runs.
+#[inline(never)]
 fn younger_step(recent: &mut Recent, x: &mut Cpu) -> Result<(), LetterEnd>
     requires position { IsPosition x.old }
     ensures value { (listing : Listing) (s : Sched) → IsListing (flash_at (memory_of x.old.mem)) listing → IsSoundUnder s x.old
@@ -201,13 +206,14 @@ fn younger_step(recent: &mut Recent, x: &mut Cpu) -> Result<(), LetterEnd>
     ensures position { OnOk result (IsPosition x.new) }
     ensures count { CountsOne x.old x.new }
 {
-    match younger(recent, x) {
-        Ok(()) => Ok(()),
-        Err(end) => Err(LetterEnd::Step(end)),
+    if let Err(end) = younger(recent, x) {
+        return Err(LetterEnd::Step(end));
     }
+    Ok(())
 }
 
 /// This instruction of what runs, which stands at the program counter, to its end, in at most four steps.
+#[inline(always)]
 fn rest_of(i: &Decoded, x: &mut Cpu) -> Result<(), LetterEnd>
     requires stands { Stands (flash_at (memory_of x.old.mem)) x.old.regs.pc (instr_of i.now) }
     requires count { (x.old.retired < 2 ^ 61) × (x.old.older_steps < 2 ^ 61) }
@@ -223,12 +229,15 @@ fn rest_of(i: &Decoded, x: &mut Cpu) -> Result<(), LetterEnd>
 {
     let left = i.steps_left(x.window.a);
     for _k in 0..left {
-        step_of(i, x)?;
+        if let Err(end) = step_of(i, x) {
+            return Err(end);
+        }
     }
     Ok(())
 }
 
 /// The older instruction of what runs to its end, in at most four steps, or the fault where none stands at the program counter.
+#[inline(always)]
 fn whole(recent: &mut Recent, x: &mut Cpu) -> Result<(), LetterEnd>
     requires count { (x.old.retired < 2 ^ 61) × (x.old.older_steps < 2 ^ 61) }
     requires position { IsPosition x.old }
@@ -241,10 +250,10 @@ fn whole(recent: &mut Recent, x: &mut Cpu) -> Result<(), LetterEnd>
     ensures position { OnOk result (IsPosition x.new) }
     ensures count { (x.new.retired ≤ x.old.retired + 4) × (x.new.older_steps ≤ x.old.older_steps + 4) }
 {
-    match recent.keep(&x.mem, x.regs.pc) {
-        Ok(()) => rest_of(recent.kept(x.regs.pc), x),
-        Err(fault) => Err(none_stands(fault, x)),
+    if let Err(fault) = recent.keep(&x.mem, x.regs.pc) {
+        return Err(none_stands(fault, x));
     }
+    rest_of(recent.kept(x.regs.pc), x)
 }
 
 /// What a letter of a schedule does, of the thread or of the newest handler: `O` is a step of the older instruction, its next beat or the whole
@@ -253,6 +262,7 @@ fn whole(recent: &mut Recent, x: &mut Cpu) -> Result<(), LetterEnd>
 ///
 /// Err tells why it does not go on; the machine then stands as that step left it. Of the thread's instructions alone it is counted how many
 /// were retired and how many steps were done, in `x.retired` and `x.older_steps`. What is decoded is kept in `recent`, on which nothing depends.
+#[inline(always)]
 pub fn letter(l: u8, recent: &mut Recent, x: &mut Cpu) -> Result<(), LetterEnd>
     requires count { (x.old.retired < 2 ^ 61) × (x.old.older_steps < 2 ^ 61) }
     requires position { IsPosition x.old }

@@ -161,6 +161,8 @@ fn answer(q: Request, x: &mut Cpu) -> Result<(), Cause>
 }
 
 /// A breakpoint: it halts the program with its number, but that one number asks something of the host.
+#[cold]
+#[inline(never)]
 pub fn breakpoint(k: u8, x: &mut Cpu) -> Result<(), Cause>
     requires room { vec_capacity x.old.output ≡ most_output }
     ensures value { executed result (state_in x.new) ≡ broken_by (memory_of x.old.mem).around k (state_in x.old) }

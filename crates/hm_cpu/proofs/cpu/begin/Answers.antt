@@ -17,14 +17,14 @@ returns-in-Some-clause-refused c m output =
     let first : c.args.done ≡ 0 = omega (arith, c.if-done-gt0.false) in
     (first, context_made c.args.regs.now _ m output c.context.ensures)
 
-pub returns-in-None-clause-value : goal.returns-in-None-clause-value
-returns-in-None-clause-value c listing m output =
+pub returns-clause-value : goal.returns-clause-value
+returns-clause-value c listing m output =
     let first : c.args.done ≡ 0 = omega (arith, c.if-done-gt0.false) in
     begins_first listing m.around (row_of c.args.v.now) c.args.done _ _ _ first (context_made c.args.regs.now _ m output c.context.ensures)
-    (ap (λ (v : Vector). refuse v (state_of c.context.new.r m output)) (sym c.row.ensures.value) ∙ sym (c.refuse.ensures.value m output) ∙ c.in-None.is)
+    (ap (λ (v : Vector). refuse v (state_of c.context.new.r m output)) (sym c.row.ensures.value) ∙ sym (c.refuse.ensures.value m output) ∙ c.in_default.is)
 
 pub returns-in-Some-clause-made : goal.returns-in-Some-clause-made
 returns-in-Some-clause-made c m output first = context_made c.args.regs.now _ m output c.context.ensures
 
-pub returns-in-None-clause-made : goal.returns-in-None-clause-made
-returns-in-None-clause-made c m output first = context_made c.args.regs.now _ m output c.context.ensures
+pub returns-clause-made : goal.returns-clause-made
+returns-clause-made c m output first = context_made c.args.regs.now _ m output c.context.ensures

@@ -2,8 +2,8 @@ use Rattle.std.proofs.Common.{ap}
 use Rattle.hm_run.specs.Program.{done_in_machine}
 use Rattle.hm_cpu.proofs.cpu.execute_in_thread.Goals as goal
 
-pub returns-in-Ok-clause-value : goal.returns-in-Ok-clause-value
-returns-in-Ok-clause-value c output = ap done_in_machine (c.in-Ok.ensures.value output)
+pub returns-clause-value : goal.returns-clause-value
+returns-clause-value c output = ap done_in_machine (c.in_default.ensures.value output)
 
 pub returns-in-Err-clause-value : goal.returns-in-Err-clause-value
 returns-in-Err-clause-value c output = ap done_in_machine (c.in-Err.ensures.value output)

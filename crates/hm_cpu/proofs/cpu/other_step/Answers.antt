@@ -30,17 +30,12 @@ returns-in-Some-clause-value c listing here =
     ∙ other_done listing x c.args.i.now here c.requires.row (state_in y)
     (by_break listing x c.args.i.now here c.requires.row c.in-Some.k (sym c.in-Some.is ∙ c.break_of.ensures.value) ∙ sym did.value)
 
-pub returns-in_err-execute_in_thread-clause-value : goal.returns-in_err-execute_in_thread-clause-value
-returns-in_err-execute_in_thread-clause-value c listing here =
+pub returns-in-Err-clause-value : goal.returns-in-Err-clause-value
+returns-in-Err-clause-value c listing here =
     let x = c.args.x.now in
-    let answered = err_from_is_err_and c.from_residual-in_err-execute_in_thread.result c.from_residual-in_err-execute_in_thread.ensures.1 in
-    let cause = c.in_err-execute_in_thread.field-0.0 in
-    let same : c.from_residual-in_err-execute_in_thread.result ≡ Err cause = answered.1 ∙ ap Err answered.2 in
-    let did = c.in_err-execute_in_thread.ensures in
-    ap (λ (q : Result Unit Cause). reached q (record x { regs = c.execute_in_thread.new.regs; mem = c.execute_in_thread.new.mem })) same
-    ∙ other_stops listing x c.args.i.now here c.requires.row cause c.execute_in_thread.new.regs (memory_of c.execute_in_thread.new.mem) did.range did.counted
-    c.requires.position.2
-    (sym c.in_default.is ∙ c.break_of.ensures.value) (did.value x.output.items) did.stopped.0 did.stopped.1
+    let did = c.in-Err.ensures in
+    other_stops listing x c.args.i.now here c.requires.row c.in-Err.cause c.execute_in_thread.new.regs (memory_of c.execute_in_thread.new.mem) did.range
+    did.counted c.requires.position.2 (sym c.in_default.is ∙ c.break_of.ensures.value) (did.value x.output.items) did.stopped.0 did.stopped.1
 
 pub returns-clause-value : goal.returns-clause-value
 returns-clause-value c listing here =
@@ -48,4 +43,4 @@ returns-clause-value c listing here =
     ap (λ (z : Cpu). Ok (config_of z)) c.retire-2.ensures.new
     ∙ other_done listing x c.args.i.now here c.requires.row _
     (by_none listing x c.args.i.now here c.requires.row (sym c.in_default.is ∙ c.break_of.ensures.value)
-    ∙ sym (c.in_ok-execute_in_thread.ensures.value x.output.items))
+    ∙ sym (c.in_default-execute_in_thread.ensures.value x.output.items))

@@ -1,7 +1,7 @@
 use Rattle.std.proofs.Common.{ap, sym, ◌∙◌, Ok, Err}
 use Rattle.hm_mem.specs.Memory.{memory_of, flash_at}
 use Rattle.hm_run.specs.Program.{vector_of}
-use Rattle.hm_cpu.proofs.Going.{kept_stands, kept_there}
+use Rattle.hm_cpu.proofs.Known.{kept_stands, kept_there}
 use Rattle.hm_cpu.proofs.Rows.{listed_here}
 use Rattle.hm_cpu.specs.Decodings.{instr_of}
 use Rattle.hm_cpu.proofs.cpu.vector_at.Goals as goal

@@ -1,12 +1,10 @@
-use Rattle.std.proofs.Common.{◌≡◌, ℕ, ◌-◌, arith, ap, ◌∙◌, Result, Err}
-use Rattle.std.proofs.lemmas.Result.{err_from_is_err_and}
+use Rattle.std.proofs.Common.{◌≡◌, ℕ, ◌-◌, arith, ap, ◌∙◌}
 use Rattle.hm_handlers.specs.Nested.{steps}
 use Rattle.hm_cpu.proofs.Keeping.{listed_still, moves_then}
 use Rattle.hm_cpu.proofs.Going.{stands_still, whole_left}
 use Rattle.hm_cpu.proofs.Letters.{steps_on, steps_stop}
-use Rattle.hm_cpu.specs.Cpus.{nested_of, letter_ended, stepped}
+use Rattle.hm_cpu.specs.Cpus.{nested_of, letter_ended}
 use Rattle.hm_cpu.specs.Decodings.{instr_of}
-use Rattle.hm_cpu.specs.declared.step_ends.LetterEnd.{LetterEnd}
 use Rattle.hm_state.specs.State.{state_of}
 use Rattle.hm_cpu.proofs.running.rest_of.Goals as goal
 
@@ -16,49 +14,44 @@ step_of-requires-clause-sound c = (c.requires.sound.0, c.loop-k.invariant.sound 
 pub step_of-requires-clause-stands : goal.step_of-requires-clause-stands
 step_of-requires-clause-stands c = c.loop-k.invariant.stands c.loop-k-test.true
 
-pub returns-in_err-step_of-clause-value : goal.returns-in_err-step_of-clause-value
+pub returns-in-Err-clause-value : goal.returns-in-Err-clause-value
 unfolding state_of
-returns-in_err-step_of-clause-value c listing s is sound =
-    let answered = err_from_is_err_and c.from_residual.result c.from_residual.ensures.1 in
-    let end = c.in_err-step_of.field-0.0 in
-    let same : c.from_residual.result ≡ Err end = answered.1 ∙ ap Err answered.2 in
-    let x = c.loop-k.x in
-    let y = c.step_of.new.x in
-    let step = c.in_err-step_of.ensures.value listing s (listed_still c.loop-k.invariant.moves listing is) (c.loop-k.invariant.sound s sound) in
-    ap (λ (q : Result Unit LetterEnd). stepped q y) same
-    ∙ steps_stop listing s c.loop-k._k c.steps_left-left.result (nested_of x) c.loop-k-test.true (letter_ended end (nested_of y)) step
+returns-in-Err-clause-value c listing s is sound =
+    let step = c.in-Err.ensures.value listing s (listed_still c.loop-k.invariant.moves listing is) (c.loop-k.invariant.sound s sound) in
+    steps_stop listing s c.loop-k._k c.steps_left-left.result (nested_of c.loop-k.x) c.loop-k-test.true
+    (letter_ended c.in-Err.end (nested_of c.step_of.new.x)) step
     ∙ c.loop-k.invariant.value listing s is sound
     ∙ whole_left (instr_of c.args.i.now) c.args.x.now c.requires.stands listing s is _ c.steps_left-left.ensures.value
 
-pub returns-in_err-step_of-clause-moves : goal.returns-in_err-step_of-clause-moves
-returns-in_err-step_of-clause-moves c =
-    let moves = moves_then c.loop-k.invariant.moves c.in_err-step_of.ensures.moves in
+pub returns-in-Err-clause-moves : goal.returns-in-Err-clause-moves
+returns-in-Err-clause-moves c =
+    let moves = moves_then c.loop-k.invariant.moves c.in-Err.ensures.moves in
     record { flash = moves.flash; places = moves.places; room = moves.room }
 
 pub loop-k-preserved : goal.loop-k-preserved
 loop-k-preserved c = record {
   value = λ listing s is sound.
       steps_on listing s c.loop-k._k c.steps_left-left.result (nested_of c.loop-k.x) c.loop-k-test.true (nested_of c.step_of.new.x)
-      (c.in_ok-step_of.ensures.value listing s (listed_still c.loop-k.invariant.moves listing is) (c.loop-k.invariant.sound s sound))
+      (c.in_default.ensures.value listing s (listed_still c.loop-k.invariant.moves listing is) (c.loop-k.invariant.sound s sound))
       ∙ c.loop-k.invariant.value listing s is sound;
-  sound = λ s sound. c.in_ok-step_of.ensures.sound s (c.loop-k.invariant.sound s sound);
-  moves = moves_then c.loop-k.invariant.moves c.in_ok-step_of.ensures.moves;
-  position = c.in_ok-step_of.ensures.position;
+  sound = λ s sound. c.in_default.ensures.sound s (c.loop-k.invariant.sound s sound);
+  moves = moves_then c.loop-k.invariant.moves c.in_default.ensures.moves;
+  position = c.in_default.ensures.position;
   retired =
       let before = c.loop-k.invariant.retired in
-      let count = c.in_ok-step_of.ensures.count.0 in
+      let count = c.in_default.ensures.count.0 in
       omega (arith, before, count);
   steps =
       let before = c.loop-k.invariant.steps in
-      let count = c.in_ok-step_of.ensures.count.1 in
+      let count = c.in_default.ensures.count.1 in
       omega (arith, before, count);
   stands = λ more.
       let left = c.loop-k.invariant.left c.loop-k-test.true in
-      stands_still c.in_ok-step_of.ensures.moves (c.in_ok-step_of.ensures.stays (omega (arith, left, more))).0 (instr_of c.args.i.now)
+      stands_still c.in_default.ensures.moves (c.in_default.ensures.stays (omega (arith, left, more))).0 (instr_of c.args.i.now)
       (c.loop-k.invariant.stands c.loop-k-test.true);
   left = λ more.
       let left = c.loop-k.invariant.left c.loop-k-test.true in
-      let next = (c.in_ok-step_of.ensures.stays (omega (arith, left, more))).1 in
+      let next = (c.in_default.ensures.stays (omega (arith, left, more))).1 in
       omega (arith, left, next);
 }
 

@@ -9,12 +9,12 @@ use Rattle.hm_mem.specs.Memory.{memory_of, flash_at}
 use Rattle.hm_order.specs.Turns.{Older}
 use Rattle.hm_cpu.proofs.running.step_of.Goals as goal
 
-pub returns-in-Ok-clause-value : goal.returns-in-Ok-clause-value
-returns-in-Ok-clause-value c listing s is sound =
+pub returns-clause-value : goal.returns-clause-value
+returns-clause-value c listing s is sound =
     let x = c.args.x.now in
     let here = listed_here listing (flash_at (memory_of x.mem)) x.regs.pc (Ok (instr_of c.args.i.now)) is c.requires.stands in
     thread_steps listing s x (sound_under s x sound) c.thread_step.new.x (Ok tt) (none_active x (is_none _ _ c.is_empty.ensures c.if-not-is_empty.false))
-    c.in-Ok.ensures.kept.acts (c.in-Ok.ensures.value listing here)
+    c.in_default.ensures.kept.acts (c.in_default.ensures.value listing here)
 
 pub returns-in-Err-clause-value : goal.returns-in-Err-clause-value
 returns-in-Err-clause-value c listing s is sound =
@@ -25,12 +25,12 @@ returns-in-Err-clause-value c listing s is sound =
     ∙ thread_steps listing s x (sound_under s x sound) y (Err c.in-Err.cause) (none_active x (is_none _ _ c.is_empty.ensures c.if-not-is_empty.false))
     c.in-Err.ensures.kept.acts (c.in-Err.ensures.value listing here)
 
-pub returns-in-Ok-clause-sound : goal.returns-in-Ok-clause-sound
-returns-in-Ok-clause-sound c s sound =
-    step_stays s Older c.args.x.now c.thread_step.new.x (Ok tt) (λ listing s is h. returns-in-Ok-clause-value c listing s is h) sound
+pub returns-clause-sound : goal.returns-clause-sound
+returns-clause-sound c s sound =
+    step_stays s Older c.args.x.now c.thread_step.new.x (Ok tt) (λ listing s is h. returns-clause-value c listing s is h) sound
 
-pub returns-in-Ok-clause-moves : goal.returns-in-Ok-clause-moves
-returns-in-Ok-clause-moves c = keeps_moves c.in-Ok.ensures.kept
+pub returns-clause-moves : goal.returns-clause-moves
+returns-clause-moves c = keeps_moves c.in_default.ensures.kept
 
 pub returns-in-Err-clause-moves : goal.returns-in-Err-clause-moves
 returns-in-Err-clause-moves c = keeps_moves c.in-Err.ensures.kept

@@ -7,7 +7,7 @@ use Rattle.hm_cpu.proofs.Rows.{listed_here}
 use Rattle.hm_cpu.specs.Cpus.{letter_ended, nested_of}
 use Rattle.hm_run.specs.Program.{steps_left, vector_of}
 use Rattle.hm_state.specs.State.{state_of}
-use Rattle.hm_cpu.proofs.Going.{kept_stands, kept_there}
+use Rattle.hm_cpu.proofs.Known.{kept_stands, kept_there}
 use Rattle.hm_mem.specs.Memory.{memory_of, flash_at}
 use Rattle.hm_cpu.proofs.running.whole.Goals as goal
 
@@ -20,8 +20,8 @@ returns-in-Err-clause-value c listing s is sound =
     ∙ sym (ap (λ (r : Result Instr Fault). steps listing s (steps_left (vector_of r) x.window.a) (nested_of x)) here)
 
 pub kept-requires : goal.kept-requires
-kept-requires c = record { there = kept_there c.keep.new.self (flash_at (memory_of c.args.x.now.mem)) c.args.x.now.regs.pc c.in-Ok.ensures.kept }
+kept-requires c = record { there = kept_there c.keep.new.self (flash_at (memory_of c.args.x.now.mem)) c.args.x.now.regs.pc c.in_default.ensures.kept }
 
 pub rest_of-requires-clause-stands : goal.rest_of-requires-clause-stands
 rest_of-requires-clause-stands c =
-    kept_stands c.keep.new.self (flash_at (memory_of c.args.x.now.mem)) c.args.x.now.regs.pc c.kept.result.now c.in-Ok.ensures.kept c.kept.ensures.value
+    kept_stands c.keep.new.self (flash_at (memory_of c.args.x.now.mem)) c.args.x.now.regs.pc c.kept.result.now c.in_default.ensures.kept c.kept.ensures.value

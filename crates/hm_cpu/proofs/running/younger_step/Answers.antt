@@ -4,10 +4,10 @@ use Rattle.hm_cpu.proofs.Nestings.{sound_under, step_stays, younger_steps}
 use Rattle.hm_order.specs.Turns.{Younger}
 use Rattle.hm_cpu.proofs.running.younger_step.Goals as goal
 
-pub returns-in-Ok-clause-value : goal.returns-in-Ok-clause-value
-returns-in-Ok-clause-value c listing s is sound =
+pub returns-clause-value : goal.returns-clause-value
+returns-clause-value c listing s is sound =
     let x = c.args.x.now in
-    let did = c.in-Ok.ensures in
+    let did = c.in_default.ensures in
     younger_steps listing s x (sound_under s x sound) c.younger.new.x (Ok tt) did.kept.acts did.count (did.value listing is)
 
 pub returns-in-Err-clause-value : goal.returns-in-Err-clause-value
@@ -16,12 +16,12 @@ returns-in-Err-clause-value c listing s is sound =
     let did = c.in-Err.ensures in
     younger_steps listing s x (sound_under s x sound) c.younger.new.x (Err c.in-Err.end) did.kept.acts did.count (did.value listing is)
 
-pub returns-in-Ok-clause-sound : goal.returns-in-Ok-clause-sound
-returns-in-Ok-clause-sound c s sound =
-    step_stays s Younger c.args.x.now c.younger.new.x (Ok tt) (λ listing s is h. returns-in-Ok-clause-value c listing s is h) sound
+pub returns-clause-sound : goal.returns-clause-sound
+returns-clause-sound c s sound =
+    step_stays s Younger c.args.x.now c.younger.new.x (Ok tt) (λ listing s is h. returns-clause-value c listing s is h) sound
 
-pub returns-in-Ok-clause-moves : goal.returns-in-Ok-clause-moves
-returns-in-Ok-clause-moves c = keeps_moves c.in-Ok.ensures.kept
+pub returns-clause-moves : goal.returns-clause-moves
+returns-clause-moves c = keeps_moves c.in_default.ensures.kept
 
 pub returns-in-Err-clause-moves : goal.returns-in-Err-clause-moves
 returns-in-Err-clause-moves c = keeps_moves c.in-Err.ensures.kept

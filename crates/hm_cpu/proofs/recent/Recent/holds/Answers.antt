@@ -4,15 +4,18 @@ use Rattle.std.proofs.lemmas.List.{get_or_default}
 use Rattle.hm_cpu.specs.Kept.{instr_in}
 use Rattle.hm_cpu.proofs.recent.Recent.holds.Goals as goal
 
-pub returns-then-halves-first : goal.returns-then-halves-first
-returns-then-halves-first c = record {
+pub returns-then-kept-here : goal.returns-then-kept-here
+returns-then-kept-here c = record {
   code = λ is.
-      let halves = c.in-Some-halves.halves in
-      let first : halves.0 ≡ c.args.first = omega (arith, c.if-halves-first.true) in
-      let second : halves.1 ≡ c.args.second = grind (arith, nat_tests, is) in (
+      let kept = c.in-Some-Some.kept in
+      let here = c.in-Some-Some.here in
+      let first : kept.0 ≡ here.0 = c.if-kept-here.true in
+      let second : kept.1 ≡ here.1 = grind (arith, nat_tests, is) in (
         c.in-Some.entry.instr,
+        here,
         ap instr_in (get_or_default c.args.self.now.entries.items c.args.place None _ (omega (arith, c.requires.below, c.args.self.now.whole))
             ∙ sym c.index.ensures ∙ c.in-Some.is),
-        c.in-Some.entry.code c.args.first c.args.second (c.in-Some-halves.is ∙ (λ j. Some (first j, second j))),
+        c.in-Some-Some.is-1,
+        c.in-Some.entry.code here.0 here.1 (c.in-Some-Some.is-0 ∙ (λ j. Some (first j, second j))),
       );
 }
