@@ -1,5 +1,5 @@
 -- The ticks that are left after a cursor.
-use Rattle.std.proofs.Common.{◌≡◌, ℕ, zero, suc, ◌+◌, ◌-◌, ◌<◌, ◌≤◌, arith, ap, refl, ◌∙◌, subst, List, [], ◌∷◌, drop, length, slice_get, Some, All}
+use Rattle.std.proofs.Common.{◌≡◌, ℕ, zero, suc, ◌+◌, ◌-◌, ◌<◌, ◌≤◌, arith, ap, refl, sym, ◌∙◌, subst, List, [], ◌∷◌, drop, length, slice_get, Some, All}
 use Rattle.std.proofs.lemmas.List.Elements.{All-head, All-tail}
 use Rattle.hm_machine.specs.Machines.{left_in, HasTick}
 use Rattle.hm_sched.specs.Schedule.{TickLine, IsLine, repeat, ticks_of}
@@ -68,3 +68,9 @@ still_here [] zero used l e h = absurd cc
 still_here [] (suc k) used l e h = absurd cc
 still_here (x ∷ xs) zero used l e h = ap (λ (y : TickLine). repeat (y.count - (used + 1)) y (ticks_of xs)) (some_one x l e)
 still_here (x ∷ xs) (suc k) used l e h = still_here xs k used l e h
+
+pub has_next : (lines : List TickLine) (k used : ℕ) (l : TickLine) → slice_get lines k ≡ Some l → used + 1 < l.count → HasTick (drop k lines) (used + 1)
+has_next [] zero used l e h = absurd cc
+has_next [] (suc k) used l e h = absurd cc
+has_next (x ∷ xs) zero used l e h = subst (λ (y : TickLine). used + 1 < y.count) (sym (some_one x l e)) h
+has_next (x ∷ xs) (suc k) used l e h = has_next xs k used l e h

@@ -141,6 +141,8 @@ fn conclude_step(tick: u32, step: u32, younger: bool, end: StepEnd, x: &mut Cpu)
 }
 
 /// How a run ends by a tick whose letters do not all go on.
+#[cold]
+#[inline(never)]
 pub fn conclude(tick: u32, early: EarlyEnd, x: &mut Cpu) -> Outcome
     requires count { (x.old.retired < 2 ^ 63) × (x.old.older_steps < 2 ^ 63) }
     ensures ended { (es : List Pointers) → let e = early_ended early (nested_of x.old) in

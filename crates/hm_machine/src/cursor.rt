@@ -27,15 +27,17 @@ pub fn line_at<'a>(schedule: &'a Schedule, cursor: Cursor) -> &'a Line
     schedule.line(cursor.line)
 }
 
-/// The cursor after one more tick; None where that was the last.
-pub fn after_tick(schedule: &Schedule, cursor: Cursor) -> Option<Cursor>
-    requires { StandsIn schedule.now.lines cursor }
+/// The cursor after one more tick of the line in which it stands; None where that was the last.
+pub fn after_tick(schedule: &Schedule, line: &Line, cursor: Cursor) -> Option<Cursor>
+    requires stands { StandsIn schedule.now.lines cursor }
+    requires here { slice_get schedule.now.lines cursor.line ≡ Some (line_of line.now) }
+    requires some { cursor.used < line.now.count }
     ensures none { IfNone result (drop 1 (left_at schedule.now.lines cursor) ≡ []) }
     ensures left { IfSome result (λ next. left_at schedule.now.lines next ≡ drop 1 (left_at schedule.now.lines cursor)) }
     ensures stands { IfSome result (λ next. StandsIn schedule.now.lines next) }
 {
     let lines = schedule.lines();
-    let count = line_at(schedule, cursor).count;
+    let count = line.count;
     if cursor.used + 1 < count {
         return Some(Cursor {
             line: cursor.line,

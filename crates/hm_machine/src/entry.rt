@@ -96,6 +96,7 @@ fn enter_exception(tick: u32, e: u16, x: &mut Cpu) -> Result<bool, Outcome>
 }
 
 /// The exception that is picked enters, where there is one. The answer is whether one did, or how the run ends.
+#[inline(never)]
 pub fn enter_picked(tick: u32, x: &mut Cpu) -> Result<bool, Outcome>
     requires sound { IsSoundUnderSome x.old }
     requires position { may_end x.old.window.a x.old.window.b ≡ true }

@@ -235,6 +235,7 @@ impl Machine {
     }
 
     // Does one tick of a run that goes on.
+    #[inline(always)]
     fn advance(&mut self)
         requires running { self.old.outcome ≡ None }
         requires lines { 0 < length self.old.schedule.lines }
@@ -250,7 +251,8 @@ impl Machine {
         ensures fixed { fixed_of self.new ≡ fixed_of self.old }
     {
         self.ticks += 1;
-        let line = line_at(&self.schedule, self.cursor);
+        let cursor = self.cursor;
+        let line = line_at(&self.schedule, cursor);
         let may_enter = self.schedule.entries();
         match tick(
             self.ticks,
@@ -263,7 +265,7 @@ impl Machine {
             Err(outcome) => self.outcome = Some(outcome),
             Ok(entered) => {
                 self.entries += entered_once(entered);
-                match after_tick(&self.schedule, self.cursor) {
+                match after_tick(&self.schedule, line, cursor) {
                     Some(cursor) => self.cursor = cursor,
                     None => self.outcome = Some(Outcome::OutOfTicks),
                 }
@@ -272,6 +274,7 @@ impl Machine {
     }
 
     /// Does one tick. An ended machine answers the same again and changes nothing. It takes no memory.
+    #[inline(always)]
     pub fn tick(&mut self) -> Turn
         ensures shows { (image : List Segment) (s : Sched) (t : ℕ) → Shows image s t self.old → Shows image s (suc t) self.new }
         ensures ended { IsSome self.old.outcome → self.new ≡ self.old }
@@ -362,6 +365,7 @@ impl Machine {
     }
 
     /// Does ticks until the run ends, one for each tick of the schedule at most. It takes no memory.
+    #[inline(never)]
     pub fn run(&mut self) -> Outcome
         ensures shows { (image : List Segment) (s : Sched) (t : ℕ) → Shows image s t self.old → Shows image s (length (ticks_of s.lines)) self.new }
         ensures outcome { self.new.outcome ≡ Some result }

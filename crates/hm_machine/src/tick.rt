@@ -23,6 +23,7 @@ use hm_sys::{arrive_all, count};
 use hm_window::ending;
 
 /// What a letter of a schedule does, the `step`-th of its tick.
+#[inline(always)]
 fn letter_at(step: u32, l: u8, recent: &mut Recent, x: &mut Cpu) -> Result<(), EarlyEnd>
     requires count { (x.old.retired < 2 ^ 61) × (x.old.older_steps < 2 ^ 61) }
     requires position { IsPosition x.old }
@@ -35,17 +36,18 @@ fn letter_at(step: u32, l: u8, recent: &mut Recent, x: &mut Cpu) -> Result<(), E
     ensures position { OnOk result (IsPosition x.new) }
     ensures count { (x.new.retired ≤ x.old.retired + 4) × (x.new.older_steps ≤ x.old.older_steps + 4) }
 {
-    match letter(l, recent, x) {
-        Ok(()) => Ok(()),
-        Err(end) => Err(EarlyEnd {
+    if let Err(end) = letter(l, recent, x) {
+        return Err(EarlyEnd {
             step,
             younger: l == b'Y',
             end,
-        }),
+        });
     }
+    Ok(())
 }
 
 /// The letters of a tick, one after another: as bytes, eight at most.
+#[inline(always)]
 fn letters(steps: &[u8], recent: &mut Recent, x: &mut Cpu) -> Result<(), EarlyEnd>
     requires few { length steps.now ≤ 8 }
     requires count { (x.old.retired < 2 ^ 60) × (x.old.older_steps < 2 ^ 60) }
@@ -62,7 +64,9 @@ fn letters(steps: &[u8], recent: &mut Recent, x: &mut Cpu) -> Result<(), EarlyEn
     let mut step = 0;
     for l in steps {
         step += 1;
-        letter_at(step, *l, recent, x)?;
+        if let Err(early) = letter_at(step, *l, recent, x) {
+            return Err(early);
+        }
     }
     Ok(())
 }
@@ -78,6 +82,7 @@ fn count_and_arrive(irq: &[u32; 8], mem: &mut Mem)
 
 /// The end of a tick, by its number, how many letters it has, its interrupts, and whether exceptions may enter: the position is judged, and what was
 /// counted and became pending may let an exception enter. The answer is whether one did, or how the run ends here.
+#[inline(always)]
 fn end_tick(
     tick: u32,
     steps: u32,
@@ -110,6 +115,7 @@ fn end_tick(
 
 /// A tick, by its number, its letters, its interrupts, and whether exceptions may enter at its end. The answer is whether one did, or how the run ends
 /// in the tick.
+#[inline(always)]
 pub fn tick(
     tick: u32,
     steps: &[u8],
@@ -130,8 +136,8 @@ pub fn tick(
     ensures position { OnOk result (IsPosition x.new) }
     ensures count { (x.new.retired ≤ x.old.retired + 33) × (x.new.older_steps ≤ x.old.older_steps + 33) }
 {
-    match letters(steps, recent, x) {
-        Ok(()) => end_tick(tick, steps.len() as u32, irq, entries, x),
-        Err(early) => Err(conclude(tick, early, x)),
+    if let Err(early) = letters(steps, recent, x) {
+        return Err(conclude(tick, early, x));
     }
+    end_tick(tick, steps.len() as u32, irq, entries, x)
 }

@@ -1,47 +1,40 @@
-use Rattle.std.proofs.Common.{◌≡◌, ℕ, ◌+◌, arith, ap, ◌∙◌, Result, Err}
-use Rattle.std.proofs.lemmas.Result.{err_from_is_err_and}
+use Rattle.std.proofs.Common.{ℕ, ◌+◌, arith, ap, ◌∙◌}
 use Rattle.hm_cpu.proofs.Keeping.{listed_still, moves_then}
 use Rattle.hm_cpu.specs.Cpus.{nested_of}
 use Rattle.hm_machine.proofs.Letters.{letters_on, letters_stop}
-use Rattle.hm_machine.specs.Ticked.{early_ended, ticked}
-use Rattle.hm_machine.specs.declared.conclusion.EarlyEnd.{EarlyEnd}
+use Rattle.hm_machine.specs.Ticked.{early_ended}
 use Rattle.hm_machine.proofs.tick.letters.Goals as goal
 
 pub letter_at-requires-clause-sound : goal.letter_at-requires-clause-sound
 letter_at-requires-clause-sound c = (c.requires.sound.0, c.loop-l.invariant.sound c.requires.sound.0 c.requires.sound.1)
 
-pub returns-in_err-letter_at-clause-value : goal.returns-in_err-letter_at-clause-value
-returns-in_err-letter_at-clause-value c listing s is sound =
-    let answered = err_from_is_err_and c.from_residual.result c.from_residual.ensures.1 in
-    let early = c.in_err-letter_at.field-0.0 in
-    let same : c.from_residual.result ≡ Err early = answered.1 ∙ ap Err answered.2 in
-    let y = c.letter_at.new.x in
-    let step = c.in_err-letter_at.ensures.value listing s (listed_still c.loop-l.invariant.moves listing is) (c.loop-l.invariant.sound s sound) in
-    ap (λ (q : Result Unit EarlyEnd). ticked q y) same
-    ∙ letters_stop listing s c.loop-l.l-index c.loop-l.step c.args.steps.now (nested_of c.loop-l.x) c.loop-l-test.true c.loop-l.invariant.counted
-    (early_ended early (nested_of y)) step
+pub returns-in-Err-clause-value : goal.returns-in-Err-clause-value
+returns-in-Err-clause-value c listing s is sound =
+    let step = c.in-Err.ensures.value listing s (listed_still c.loop-l.invariant.moves listing is) (c.loop-l.invariant.sound s sound) in
+    letters_stop listing s c.loop-l.l-index c.loop-l.step c.args.steps.now (nested_of c.loop-l.x) c.loop-l-test.true c.loop-l.invariant.counted
+    (early_ended c.in-Err.early (nested_of c.letter_at.new.x)) step
     ∙ c.loop-l.invariant.value listing s is sound
 
-pub returns-in_err-letter_at-clause-moves : goal.returns-in_err-letter_at-clause-moves
-returns-in_err-letter_at-clause-moves c = moves_then c.loop-l.invariant.moves c.in_err-letter_at.ensures.moves
+pub returns-in-Err-clause-moves : goal.returns-in-Err-clause-moves
+returns-in-Err-clause-moves c = moves_then c.loop-l.invariant.moves c.in-Err.ensures.moves
 
 pub loop-l-preserved : goal.loop-l-preserved
 loop-l-preserved c = record {
   value = λ listing s is sound.
       letters_on listing s c.loop-l.l-index c.loop-l.step c.args.steps.now (nested_of c.loop-l.x) c.loop-l-test.true c.loop-l.invariant.counted
       (nested_of c.letter_at.new.x)
-      (c.in_ok-letter_at.ensures.value listing s (listed_still c.loop-l.invariant.moves listing is) (c.loop-l.invariant.sound s sound))
+      (c.in_default.ensures.value listing s (listed_still c.loop-l.invariant.moves listing is) (c.loop-l.invariant.sound s sound))
       ∙ c.loop-l.invariant.value listing s is sound;
-  sound = λ s sound. c.in_ok-letter_at.ensures.sound s (c.loop-l.invariant.sound s sound);
-  moves = moves_then c.loop-l.invariant.moves c.in_ok-letter_at.ensures.moves;
-  position = c.in_ok-letter_at.ensures.position;
+  sound = λ s sound. c.in_default.ensures.sound s (c.loop-l.invariant.sound s sound);
+  moves = moves_then c.loop-l.invariant.moves c.in_default.ensures.moves;
+  position = c.in_default.ensures.position;
   counted = ap (λ (n : ℕ). n + 1) c.loop-l.invariant.counted;
   retired =
       let before = c.loop-l.invariant.retired in
-      let count = c.in_ok-letter_at.ensures.count.0 in
+      let count = c.in_default.ensures.count.0 in
       omega (arith, before, count);
   steps =
       let before = c.loop-l.invariant.steps in
-      let count = c.in_ok-letter_at.ensures.count.1 in
+      let count = c.in_default.ensures.count.1 in
       omega (arith, before, count);
 }

@@ -8,16 +8,16 @@ use Rattle.hm_machine.specs.Shown.{run_with}
 use Rattle.hm_machine.proofs.tick.tick.Goals as goal
 
 pub end_tick-requires-clause-sound : goal.end_tick-requires-clause-sound
-end_tick-requires-clause-sound c = (c.requires.sound.0, c.in-Ok.ensures.sound c.requires.sound.0 c.requires.sound.1)
+end_tick-requires-clause-sound c = (c.requires.sound.0, c.in_default.ensures.sound c.requires.sound.0 c.requires.sound.1)
 
-pub returns-in-Ok-clause-value : goal.returns-in-Ok-clause-value
-returns-in-Ok-clause-value c listing s line t es is entries steps irq number sound =
+pub returns-clause-value : goal.returns-clause-value
+returns-clause-value c listing s line t es is entries steps irq number sound =
     let x = c.args.x.now in
     let m = nested_of c.letters.new.x in
     let new = nested_of c.end_tick.new.x in
-    let went : Ok m ≡ letters listing s 0 line.letters (nested_of x) = c.in-Ok.ensures.value listing s is sound
+    let went : Ok m ≡ letters listing s 0 line.letters (nested_of x) = c.in_default.ensures.value listing s is sound
     ∙ ap (λ (ls : List ℕ). letters listing s 0 ls (nested_of x)) (sym steps) in
-    let end = c.end_tick.ensures.value s line es entries irq (ap length steps) (c.in-Ok.ensures.sound s sound) in
+    let end = c.end_tick.ensures.value s line es entries irq (ap length steps) (c.in_default.ensures.sound s sound) in
     subst (λ (r : Result Nested TickEnd). Came c.end_tick.result new c.args.tick es (ended s line (run_with None (nested_of x) t es) r)) went
     (subst (λ (k : ℕ). Came c.end_tick.result new c.args.tick es (tick_end s line (run_with None m k es))) (sym number) end)
 

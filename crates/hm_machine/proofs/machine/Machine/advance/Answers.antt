@@ -24,8 +24,8 @@ line_at-line-requires c = stands_there c.self.inside.schedule.lines c.self.insid
     (c.self.invariant.running (ap (λ (v : Shown). v.outcome) c.self.view_is ∙ c.requires.running))
     (subst (λ (v : Shown). 0 < length v.schedule.lines) (sym c.self.view_is) c.requires.lines)
 
-pub after_tick-requires : goal.after_tick-requires
-after_tick-requires c = stands_there c.self.inside.schedule.lines c.self.inside.cursor
+pub after_tick-requires-clause-stands : goal.after_tick-requires-clause-stands
+after_tick-requires-clause-stands c = stands_there c.self.inside.schedule.lines c.self.inside.cursor
     (c.self.invariant.running (ap (λ (v : Shown). v.outcome) c.self.view_is ∙ c.requires.running))
     (subst (λ (v : Shown). 0 < length v.schedule.lines) (sym c.self.view_is) c.requires.lines)
 
