@@ -1,4 +1,6 @@
 //! Instructions and beats of the older instruction, of the thread and of handlers.
+//!
+//! Results are tested for Err first, where a step is done for each letter: `?` copies them once more.
 
 ghost use Rattle.std.specs.Prelude.{◌≡◌, ℕ, ◌+◌, ◌^◌, ◌<◌, not, List, IsSome, IsTrue, OnErr, OnOk, Ok, Some, option_map};
 ghost use Rattle.std.specs.Vec.{vec_capacity};

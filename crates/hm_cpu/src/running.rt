@@ -1,4 +1,6 @@
 //! The steps of what runs: the thread, or the handler of the newest activation.
+//!
+//! Results are tested for Err first, where a step is done for each letter: `?` copies them once more.
 
 ghost use Rattle.std.specs.Prelude.{◌≡◌, ◌+◌, ◌^◌, ◌<◌, ◌≤◌, not, List, ◌∷◌, map, Err, IsTrue, OnOk, Ok};
 ghost use Rattle.std.specs.Vec.{vec_capacity};
