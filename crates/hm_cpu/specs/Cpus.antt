@@ -90,11 +90,11 @@ AreEntered x = AreStacked (nested_of x).acts
 abbrev pub IsHandler : Cpu → Type 0
 IsHandler x = 0 < array_vec_len x.acts
 
--- what always holds of the machine with handlers, under a schedule
+-- what always holds of the machine, under a schedule
 abbrev pub IsSoundUnder : Sched → Cpu → Type 0
 IsSoundUnder s x = IsSound s (nested_of x)
 
--- what always holds of the machine with handlers, under some schedule
+-- what always holds of the machine, under some schedule
 abbrev pub IsSoundUnderSome : Cpu → Type 0
 IsSoundUnderSome x = (s : Sched) × IsSoundUnder s x
 

@@ -2,7 +2,7 @@
 use Rattle.std.specs.Prelude.{◌≡◌, ℕ, Option, Some, None, slice_index_or}
 use Rattle.hm_codes.specs.Listing.{Stands}
 use Rattle.hm_cpu.specs.Decodings.{instr_of}
-use Rattle.hm_cpu.specs.Places.{place_of}
+use Rattle.hm_cpu.specs.Slots.{place_of}
 use Rattle.hm_cpu.specs.declared.decoded.Decoded.{Decoded}
 use Rattle.hm_cpu.specs.declared.recent.Entry.{Entry}
 use Rattle.hm_cpu.specs.declared.recent.Recent.{Recent}

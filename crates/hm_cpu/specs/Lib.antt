@@ -3,5 +3,5 @@ pub mod Services
 pub mod Trials
 pub mod Halves
 pub mod Decodings
-pub mod Places
+pub mod Slots
 pub mod Kept

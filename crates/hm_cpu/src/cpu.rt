@@ -1,6 +1,7 @@
 //! Instructions and beats of the older instruction, of the thread and of handlers.
 //!
-//! Results are tested for Err first, where a step is done for each letter: `?` copies them once more.
+//! Results are tested for Err first, and `?` is not used: so a letter's way is one run of code without copies of results. What is rare stands
+//! in functions of its own, which are not inlined.
 
 ghost use Rattle.std.specs.Prelude.{◌≡◌, ℕ, ◌+◌, ◌^◌, ◌<◌, not, List, IsSome, IsTrue, OnErr, OnOk, Ok, Some, option_map};
 ghost use Rattle.std.specs.Vec.{vec_capacity};

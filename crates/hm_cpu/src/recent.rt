@@ -4,7 +4,7 @@ ghost use Rattle.std.specs.Prelude.{◌≡◌, ℕ, ◌%◌, ◌<◌, [], ◌∷
 ghost use Rattle.hm_codes.specs.Listing.{HalvesStand, IsFetched};
 ghost use Rattle.hm_cpu.specs.Decodings.{instr_of};
 ghost use Rattle.hm_cpu.specs.Halves.{code_of};
-ghost use Rattle.hm_cpu.specs.Places.{most_kept, place_of};
+ghost use Rattle.hm_cpu.specs.Slots.{most_kept, place_of};
 ghost use Rattle.hm_isa.specs.Code.{halfwords};
 ghost use Rattle.hm_mem.specs.Memory.{memory_of, flash_at};
 
@@ -89,7 +89,8 @@ impl Recent {
         self.renew(m, addr)
     }
 
-    /// Decodes the instruction that stands at an address and keeps it, or tells the fault where none does.
+    /// Decodes the instruction that stands at an address and keeps it, or tells the fault where none does: apart from `keep`, so that a look-up
+    /// that finds is small.
     #[cold]
     #[inline(never)]
     fn renew(&mut self, m: &Mem, addr: u32) -> Result<(), Fault>

@@ -1,6 +1,7 @@
 //! The steps of what runs: the thread, or the handler of the newest activation.
 //!
-//! Results are tested for Err first, where a step is done for each letter: `?` copies them once more.
+//! Results are tested for Err first, and `?` is not used: so a letter's way is one run of code without copies of results. What is rare (handlers,
+//! the younger, a fault) stands in functions of its own, which are not inlined.
 
 ghost use Rattle.std.specs.Prelude.{◌≡◌, ◌+◌, ◌^◌, ◌<◌, ◌≤◌, not, List, ◌∷◌, map, Err, IsTrue, OnOk, Ok};
 ghost use Rattle.std.specs.Vec.{vec_capacity};

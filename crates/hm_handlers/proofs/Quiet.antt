@@ -9,9 +9,8 @@ use Rattle.hm_handlers.specs.Nested.{Ended, Interrupted, Nested, NestedEnd, Nest
 use Rattle.hm_handlers.specs.Nested.{with_acts}
 use Rattle.hm_handlers.specs.Order.{thread_at}
 use Rattle.hm_handlers.specs.Runs.{Pointers, Run, after_count, begin, closed, ended, enters, may_enter, next, picks, run, shown, stops, tick, tick_of}
-use Rattle.hm_in_order.proofs.Halts.{StaysInOrder}
 use Rattle.hm_in_order.proofs.Wholes.{older_steps, to_end as thread_to_end}
-use Rattle.hm_in_order.specs.Overlap.{AgreesAfter}
+use Rattle.hm_in_order.specs.Overlap.{AgreesAfter, StaysInOrder}
 use Rattle.hm_order.specs.Beats.{then}
 use Rattle.hm_order.specs.Machine.{Config, Stopped, Broken, older, younger}
 use Rattle.hm_order.specs.Turns.{Older, Younger}
@@ -26,14 +25,14 @@ use Rattle.hm_window.specs.Positions.{may_end}
 use Rattle.hm_window.specs.declared.rule.Rule.TheVariants as rule
 
 -- nothing is interrupted
-abbrev pub alone : Config State → Nested
-alone c = record { config = c; acts = [] }
+abbrev pub uninterrupted : Config State → Nested
+uninterrupted c = record { config = c; acts = [] }
 
 -- and nothing entered
 abbrev pub quiet : Option Outcome → Config State → ℕ → Run
-quiet o c t = record { outcome = o; machine = alone c; ticks = t; entries = [] }
+quiet o c t = record { outcome = o; machine = uninterrupted c; ticks = t; entries = [] }
 
-pub alone_is : (x : Nested) → x.acts ≡ [] → x ≡ alone x.config
+pub alone_is : (x : Nested) → x.acts ≡ [] → x ≡ uninterrupted x.config
 alone_is x h = λ j. record { config = x.config; acts = h j }
 
 -- nothing is interrupted, and these are the stack pointers at its entries
@@ -46,17 +45,17 @@ module _ (listing : Listing) (s : Sched) where
   machine = thread_program listing s
 
   -- STEPS
-  then_alone : (r : Stepped) (f : Config State → Stepped) (g : Nested → NestedStep) → ((c : Config State) → g (alone c) ≡ with_acts [] (f c))
+  then_alone : (r : Stepped) (f : Config State → Stepped) (g : Nested → NestedStep) → ((c : Config State) → g (uninterrupted c) ≡ with_acts [] (f c))
       → then (with_acts [] r) g ≡ with_acts [] (then r f)
   then_alone (Ok c) f g h = h c
   then_alone (Err e) f g h = refl
 
-  steps_alone : (k : ℕ) (c : Config State) → steps listing s k (alone c) ≡ with_acts [] (older_steps machine k c)
+  steps_alone : (k : ℕ) (c : Config State) → steps listing s k (uninterrupted c) ≡ with_acts [] (older_steps machine k c)
   steps_alone zero c = refl
   steps_alone (suc k) c = then_alone (older machine c) (older_steps machine k) (steps listing s k) (steps_alone k)
 
   -- the older instruction to its end
-  pub ends_alone : (c : Config State) → to_end listing s (alone c) ≡ with_acts [] (thread_to_end machine c)
+  pub ends_alone : (c : Config State) → to_end listing s (uninterrupted c) ≡ with_acts [] (thread_to_end machine c)
   ends_alone c = steps_alone (steps_left (vector_of (listing c.state.pc)) c.a) c
 
   -- LETTERS leave nothing interrupted
@@ -76,27 +75,29 @@ module _ (listing : Listing) (s : Sched) where
   with_none (Ok c) = refl
   with_none (Err e) = refl
 
-  letter_none : (l : ℕ) (c : Config State) → Alone (letter listing s l (alone c))
+  letter_none : (l : ℕ) (c : Config State) → Alone (letter listing s l (uninterrupted c))
   letter_none l c =
-      let older_one = step listing s Older (alone c) in
-      let younger_one = step listing s Younger (alone c) in
-      let all = to_end listing s (alone c) in
+      let older_one = step listing s Older (uninterrupted c) in
+      let younger_one = step listing s Younger (uninterrupted c) in
+      let all = to_end listing s (uninterrupted c) in
       either Alone (l == older_letter) older_one (cond (l == younger_letter) younger_one all) (with_none (older machine c))
-      (either Alone (l == younger_letter) younger_one all (with_none (younger machine c)) (subst Alone (sym (ends_alone c)) (with_none (thread_to_end machine c))))
+      (either Alone (l == younger_letter) younger_one all (with_none (younger machine c))
+      (subst Alone (sym (ends_alone c)) (with_none (thread_to_end machine c))))
 
   at_step_none : (k : ℕ) (younger : Bool) (r : NestedStep) → Alone r → AloneTick (at_step k younger r)
   at_step_none k younger (Ok x) h = h
   at_step_none k younger (Err e) h = h
 
-  then_none : (r : Result Nested TickEnd) (f : Nested → Result Nested TickEnd) → AloneTick r → ((c : Config State) → AloneTick (f (alone c))) → AloneTick (then r f)
+  then_none : (r : Result Nested TickEnd) (f : Nested → Result Nested TickEnd) → AloneTick r → ((c : Config State) → AloneTick (f (uninterrupted c)))
+      → AloneTick (then r f)
   then_none (Ok x) f h k = subst (λ (y : Nested). AloneTick (f y)) (sym (alone_is x h)) (k x.config)
   then_none (Err e) f h k = h
 
-  letters_none : (ls : List ℕ) (k : ℕ) (c : Config State) → AloneTick (letters listing s k ls (alone c))
+  letters_none : (ls : List ℕ) (k : ℕ) (c : Config State) → AloneTick (letters listing s k ls (uninterrupted c))
   letters_none [] k c = refl
   letters_none (l ∷ ls) k c =
-      then_none (at_step (k + 1) (l == younger_letter) (letter listing s l (alone c))) (letters listing s (k + 1) ls)
-      (at_step_none (k + 1) (l == younger_letter) (letter listing s l (alone c)) (letter_none l c)) (letters_none ls (k + 1))
+      then_none (at_step (k + 1) (l == younger_letter) (letter listing s l (uninterrupted c))) (letters listing s (k + 1) ls)
+      (at_step_none (k + 1) (l == younger_letter) (letter listing s l (uninterrupted c)) (letter_none l c)) (letters_none ls (k + 1))
 
   -- TICKS without entries
   stops_still : (es : List Pointers) (t k : ℕ) (younger : Bool) (e : NestedEnd) → acts_in e ≡ [] → Still es (stops t k younger e es)

@@ -5,7 +5,7 @@ use Rattle.hm_codes.specs.Listing.{Listing}
 use Rattle.hm_order.specs.Machine.{Config}
 use Rattle.hm_order.specs.Position.{Holds}
 use Rattle.hm_in_order.specs.Overlap.{AgreesAfter}
-use Rattle.hm_in_order.specs.Ends.{GoesOn}
+use Rattle.hm_handlers.specs.Ends.{GoesOn}
 use Rattle.hm_in_order.specs.Readings.{ShownInOrder}
 use Rattle.hm_in_order.proofs.Halts.{halts, riders_of, shown_between}
 use Rattle.hm_run.specs.Headline.{HaltsInOrder, Headline, Riders}

@@ -8,3 +8,4 @@ pub mod Order
 pub mod Alike
 pub mod Taint
 pub mod Sound
+pub mod Ends

@@ -1,4 +1,4 @@
--- The machine with handlers: who runs, and what a step of it does. A handler runs by the same steps as the thread, with a handler's
+-- The machine: who runs, and what a step of it does. A handler runs by the same steps as the thread, with a handler's
 -- accesses; its steps are not counted, it may execute no breakpoint, and it returns.
 use Rattle.hm_run.specs.Timed.{bounds_of}
 use Rattle.std.specs.Prelude.{ℕ, zero, suc, ◌+◌, ◌==◌, Bool, cond, List, [], ◌∷◌, map, Option, Some, None, Result, Ok, Err}

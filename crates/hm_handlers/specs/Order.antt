@@ -1,4 +1,4 @@
--- What holds after each tick of any schedule, with handlers: of the thread, with its position and registers and the memory as it is now.
+-- What holds after each tick of any schedule: of the thread, with its position and registers and the memory as it is now.
 use Rattle.std.specs.Prelude.{◌≡◌, List, [], ◌∷◌, Option, Some, None}
 use Rattle.hm_base.specs.Image.{Segment}
 use Rattle.hm_codes.specs.Listing.{Listing}

@@ -1,4 +1,4 @@
--- What always holds of the machine with handlers, so that an exception may enter and a handler return.
+-- What always holds of the machine, so that an exception may enter and a handler return.
 use Rattle.std.specs.Prelude.{ℕ, ◌≡◌, ◌≢◌, ◌<◌, false, true, List, [], ◌∷◌}
 use Rattle.hm_exc.specs.Entry.{FitsEntry, window_in}
 use Rattle.hm_exc.specs.Frame.{is_between}

@@ -7,7 +7,7 @@ ghost use Rattle.hm_base.specs.Image.{Segment};
 ghost use Rattle.hm_codes.specs.Listing.{Listing};
 ghost use Rattle.hm_exc.specs.Entry.{CanEnter, entry_refusal};
 ghost use Rattle.hm_order.specs.Turns.{Turn};
-ghost use Rattle.hm_in_order.specs.Ends.{GoesOn};
+ghost use Rattle.hm_handlers.specs.Ends.{GoesOn};
 ghost use Rattle.hm_in_order.specs.Readings.{ShownInOrder};
 ghost use Rattle.hm_run.specs.Headline.{Headline, Riders};
 ghost use Rattle.hm_run.specs.declared.Outcome.TheVariants.{Halted};

@@ -23,7 +23,7 @@ use Rattle.hm_sched.specs.Schedule.{Sched}
 use Rattle.hm_state.specs.Start.{start}
 use Rattle.hm_state.specs.State.{State, Byte, bit, byte_of_bits, listed, sram_bytes, taint_bytes}
 use Rattle.hm_state.proofs.Lists.{length-listed, get_or-listed}
-use Rattle.hm_in_order.specs.Overlap.{HaltsAfter, AgreesAfter, StopsBetween}
+use Rattle.hm_in_order.specs.Overlap.{HaltsAfter, AgreesAfter, StaysInOrder, StopsBetween}
 use Rattle.hm_in_order.specs.Readings.{ShownAlike, ShownInOrder}
 use Rattle.hm_in_order.specs.Sequence.{FaultsAt, StopsFrom}
 use Rattle.hm_in_order.proofs.Readings.{shown_alike}
@@ -108,12 +108,8 @@ module _ (listing : Listing) (image : List Segment) (s : Sched) where
   abbrev machine : Program
   machine = thread_program listing s
 
-  -- what is shown agrees with whole instructions in order, from a reset to the image
-  abbrev pub StaysInOrder : Timed → Type 0
-  StaysInOrder x = AgreesAfter machine (start image) x.outcome x.config
-
   -- what is kept, by the outcome
-  pub kept : (x : Timed) (o : Option Outcome) → StaysInOrder x → x.outcome ≡ o → AgreesAfter machine (start image) o x.config
+  pub kept : (x : Timed) (o : Option Outcome) → StaysInOrder listing image s x → x.outcome ≡ o → AgreesAfter machine (start image) o x.config
   kept x o h e = subst (λ (q : Option Outcome). AgreesAfter machine (start image) q x.config) e h
 
   -- between two instructions what is shown is in order
@@ -157,7 +153,7 @@ module _ (listing : Listing) (image : List Segment) (s : Sched) where
   fault_as f pc n h = (sequence.faulted listing image around n f pc).0 h
 
   -- THE HEADLINE
-  pub halts : (x : Timed) (report file : List ℕ) → StaysInOrder x → x.acts ≡ [] → report ≡ report_text x → file ≡ memory_text x
+  pub halts : (x : Timed) (report file : List ℕ) → StaysInOrder listing image s x → x.acts ≡ [] → report ≡ report_text x → file ≡ memory_text x
       → (reason : Reason) (n : ℕ) → x.outcome ≡ Some (outcome.Halted reason n) → HaltsInOrder listing image report file reason n
   halts x report file keeps none r f reason n e =
       let h : HaltsAfter machine (start image) reason n x.config = kept x (Some (outcome.Halted reason n)) keeps e in
@@ -169,7 +165,7 @@ module _ (listing : Listing) (image : List Segment) (s : Sched) where
       }
 
   -- THE RIDERS
-  few : (x : Timed) → StaysInOrder x → (reason : Reason) (n : ℕ) (u : State) → in_order listing image n ≡ Halted reason n u
+  few : (x : Timed) → StaysInOrder listing image s x → (reason : Reason) (n : ℕ) (u : State) → in_order listing image n ≡ Halted reason n u
       → x.outcome ≡ Some outcome.OutOfTicks → x.config.steps < 4 * n
   few x keeps reason zero u h e = absurd cc
   few x keeps reason (suc n) u h e =
@@ -179,7 +175,7 @@ module _ (listing : Listing) (image : List Segment) (s : Sched) where
       few_steps machine (start image) x.config n (why.Halt reason) (kept x (Some outcome.OutOfTicks) keeps e)
       (record { state = u; runs = stops.runs; stop = stops.stop })
 
-  pub riders_of : (x : Timed) → StaysInOrder x → Riders listing image x
+  pub riders_of : (x : Timed) → StaysInOrder listing image s x → Riders listing image x
   riders_of x keeps = record {
     fault = λ f pc n e. fault_as f pc n (kept x (Some (outcome.Fault Thread f pc n)) keeps e);
     full = λ t e. let h : StopsBetween machine (start image) x.config.n why.Full x.config = kept x (Some (outcome.OutputFull t)) keeps e in

@@ -1,5 +1,4 @@
 pub mod Sequence
 pub mod Readings
 pub mod Orders
-pub mod Ends
 pub mod Overlap

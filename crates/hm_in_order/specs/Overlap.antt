@@ -1,5 +1,7 @@
 -- What holds of a position after each tick of any schedule, by the outcome.
-use Rattle.std.specs.Prelude.{◌≡◌, ◌+◌, ℕ, Option, Some, None}
+use Rattle.std.specs.Prelude.{◌≡◌, ◌+◌, ℕ, List, Option, Some, None}
+use Rattle.hm_base.specs.Image.{Segment}
+use Rattle.hm_codes.specs.Listing.{Listing}
 use Rattle.hm_order.specs.Beats.{Live}
 use Rattle.hm_order.specs.Machine.{Config}
 use Rattle.hm_order.specs.Position.{Holds}
@@ -11,6 +13,9 @@ use Rattle.hm_run.specs.Program.{Program}
 use Rattle.hm_whole.specs.Watched.{view}
 use Rattle.hm_run.specs.Stops as why
 use Rattle.hm_run.specs.Stops.{WholeStop}
+use Rattle.hm_run.specs.Timed.{Timed, thread_program}
+use Rattle.hm_sched.specs.Schedule.{Sched}
+use Rattle.hm_state.specs.Start.{start}
 use Rattle.hm_state.specs.State.{State}
 use Rattle.hm_in_order.specs.Sequence.{StopsFrom, FaultsAt}
 
@@ -45,3 +50,7 @@ AgreesAfter M first (Some (outcome.HandlerBroken t what)) c = Unit {0}
 AgreesAfter M first (Some (outcome.TaintedRead t pc addr)) c = Unit {0}
 AgreesAfter M first (Some (outcome.StackSpent t sp)) c = Unit {0}
 AgreesAfter M first (Some (outcome.OutputFull t)) c = StopsBetween M first c.n why.Full c
+
+-- what is shown of a run of an image under a schedule agrees with whole instructions in order, from a reset to the image
+abbrev pub StaysInOrder : Listing → List Segment → Sched → Timed → Type 0
+StaysInOrder listing image s x = AgreesAfter (thread_program listing s) (start image) x.outcome x.config

@@ -1,6 +1,6 @@
 //! What a tick does: its letters, and what comes at its end.
 //!
-//! Results are tested for Err first, as in the steps of hm_cpu: `?` copies them once more.
+//! Results are tested for Err first, and `?` is not used: so a tick's way is one run of code without copies of results.
 
 ghost use Rattle.std.specs.Prelude.{◌≡◌, ℕ, ◌+◌, ◌^◌, ◌<◌, ◌≤◌, nat_eq, List, length, None, OnOk};
 ghost use Rattle.std.specs.Vec.{vec_capacity};

@@ -8,13 +8,13 @@ use Rattle.hm_handlers.proofs.Quiet.{ends_alone, quiet, run_still, stays_in_orde
 use Rattle.hm_handlers.specs.Nested.{NestedStep, at_step, letters, with_acts}
 use Rattle.hm_handlers.specs.Runs.{Run, begin, closed, ended, enters, next, picks, run, run_out, shown, shown_out, stacked_of}
 use Rattle.hm_in_order.proofs.Breakpoints.{Leaves}
-use Rattle.hm_in_order.proofs.Halts.{StaysInOrder, fault_as, full_as, halted_as, kept, reports_going, reports_stop, shown_between}
+use Rattle.hm_in_order.proofs.Halts.{fault_as, full_as, halted_as, kept, reports_going, reports_stop, shown_between}
 use Rattle.hm_in_order.proofs.Orders.{stopped_later}
 use Rattle.hm_in_order.proofs.Ticks.{clean_start}
 use Rattle.hm_in_order.proofs.Wholes.{Comes, between, leaves, to_end, whole_step}
-use Rattle.hm_in_order.specs.Ends.{GoesOn}
+use Rattle.hm_handlers.specs.Ends.{GoesOn}
 use Rattle.hm_in_order.specs.Orders.{HasStopped}
-use Rattle.hm_in_order.specs.Overlap.{HaltsAfter, StopsBetween}
+use Rattle.hm_in_order.specs.Overlap.{HaltsAfter, StaysInOrder, StopsBetween}
 use Rattle.hm_in_order.specs.Sequence.{FaultsAt}
 use Rattle.hm_mem.specs.Memory.{Around, thread_under}
 use Rattle.hm_order.specs.Beats.{then}

@@ -6,7 +6,8 @@ ghost use Rattle.std.specs.Prelude.{◌≡◌, ℕ, ◌≤◌, false, List, Some
 ghost use Rattle.hm_base.specs.Image.{Segment};
 ghost use Rattle.hm_codes.specs.Listing.{Listing};
 ghost use Rattle.hm_handlers.specs.Runs.{run, run_out, shown_out};
-ghost use Rattle.hm_in_order.specs.Ends.{GoesOn, HasEnded};
+ghost use Rattle.hm_handlers.specs.Ends.{GoesOn};
+ghost use Rattle.hm_plain.specs.Ends.{HasEnded};
 ghost use Rattle.hm_run.specs.declared.Outcome.{Outcome};
 ghost use Rattle.hm_run.specs.Headline.{PlainReport};
 ghost use Rattle.hm_run.specs.InOrder.{in_order};

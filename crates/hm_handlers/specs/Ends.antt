@@ -1,12 +1,8 @@
--- Runs that have ended.
+-- Whether a run goes on, by its outcome.
 use Rattle.std.specs.Prelude.{◌≡◌, ◌⊎◌, Option, Some, None}
 use Rattle.hm_run.specs.declared.Outcome.{Outcome}
 use Rattle.hm_run.specs.declared.Outcome.TheVariants as outcome
 
--- there is an outcome
-abbrev pub HasEnded : Option Outcome → Type 0
-HasEnded x = (o : Outcome) × (x ≡ Some o)
-
--- there is none, but that the ticks may be out
+-- there is no outcome, but that the ticks may be out
 abbrev pub GoesOn : Option Outcome → Type 0
 GoesOn x = (x ≡ None) ⊎ (x ≡ Some outcome.OutOfTicks)
