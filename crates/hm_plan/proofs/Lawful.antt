@@ -19,12 +19,10 @@ use Rattle.hm_run.specs.Program.{Program, Stepped}
 use Rattle.hm_run.specs.Timed.{or_out}
 use Rattle.hm_run.specs.declared.Cause.{Cause}
 use Rattle.hm_run.specs.declared.Outcome.{Outcome}
-use Rattle.hm_run.specs.declared.Outcome.TheVariants as outcome
 use Rattle.hm_sched.specs.Schedule.{Sched, TickLine, ticks_of, younger_letter}
 use Rattle.hm_state.specs.State.{State}
 use Rattle.hm_window.specs.Positions.{may_end}
 use Rattle.hm_window.specs.declared.rule.Rule.{Rule}
-use Rattle.hm_window.specs.declared.rule.Rule.TheVariants as rule
 
 -- where a tick may end
 ends_at : (a b : ℕ) → may_end a b ≡ true → ((b ≡ 0) × (a < 4)) ⊎ ((a ≡ 3) × (b ≡ 1))

@@ -1,5 +1,5 @@
 -- Where instructions in order halt at the n-th, every run that halts shows what the plain run of n ticks does.
-use Rattle.std.proofs.Common.{◌≡◌, ℕ, refl, sym, ap, ◌∙◌, subst, length, List, [], Some, Option}
+use Rattle.std.proofs.Common.{◌≡◌, ℕ, sym, ap, ◌∙◌, subst, length, List, [], Some, Option}
 use Rattle.hm_base.specs.Image.{Segment}
 use Rattle.hm_codes.specs.Listing.{Listing}
 use Rattle.hm_handlers.proofs.Alike.{alike_every}

@@ -1,4 +1,4 @@
-use Rattle.std.proofs.Common.{◌≡◌, ◌+◌, ◌-◌, ◌*◌, ◌≤◌}
+use Rattle.std.proofs.Common.{◌≡◌, [], ◌+◌, ◌-◌, ◌*◌, ◌≤◌}
 use Rattle.hm_base.specs.Image.{flash_byte}
 use Rattle.hm_codes.specs.Listing.{Listing, IsListing}
 use Rattle.hm_machine.specs.Bares.{IsBare}

@@ -1,4 +1,4 @@
-use Rattle.std.proofs.Common.{◌≡◌, ℕ, ap, sym, ◌∙◌, subst, Ok, Result}
+use Rattle.std.proofs.Common.{◌≡◌, ℕ, ap, sym, ◌∙◌, subst, [], Ok, Result}
 use Rattle.std.specs.Option.{is_some}
 use Rattle.hm_base.specs.declared.Fault.{Fault}
 use Rattle.hm_codes.proofs.Unique.{fetched_one}

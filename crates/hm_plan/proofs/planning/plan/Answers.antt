@@ -1,4 +1,4 @@
-use Rattle.std.proofs.Common.{◌≡◌, [], None, ◌+◌, ◌∙◌, ◌*◌, ◌≤◌, ◌∷◌, ℕ, List, drop, length, sym, subst}
+use Rattle.std.proofs.Common.{◌≡◌, [], None, ◌+◌, ◌∙◌, ◌*◌, ◌≤◌, ◌∷◌, ℕ, List, drop, length, refl, sym, subst}
 use Rattle.hm_base.specs.Image.{flash_byte}
 use Rattle.hm_codes.proofs.Exists.{exists}
 use Rattle.hm_codes.specs.Listing.{Listing}
