@@ -6,7 +6,7 @@ use Rattle.hm_base.specs.Image.{Segment, flash_byte}
 use Rattle.hm_codes.proofs.Exists.{exists}
 use Rattle.hm_codes.specs.Listing.{IsListing, Listing}
 use Rattle.hm_handlers.specs.Runs.{Run, begin, closed, run}
-use Rattle.hm_machine.proofs.Runs.{closed_on}
+use Rattle.hm_plain.proofs.Ends.{closed_on}
 use Rattle.hm_machine.proofs.Ticks.{shows_end, shows_past}
 use Rattle.hm_machine.specs.Shown.{Shown, Shows, fixed_of, timed_of}
 use Rattle.hm_order.proofs.Results.{decide}
