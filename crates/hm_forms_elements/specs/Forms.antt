@@ -69,7 +69,7 @@ lanes_mark l active (old ∷ x ∷ ys) =
     any_both active (lane_tests3 l.z (lane_saturates l.f l.unsigned l.z) (bytes_of old) (bytes_of x) (bytes_of (operand_of l.z l.by ys)))
 lanes_mark l active _ = false
 
--- V1 to V5, V7, V10, V11, V13 and V18, as VADD, VAND, VSHL and VDUP: a function of lanes (DDI0553, the sections named at `Lanes`)
+-- V1 to V5, V7, V10, V11, V13 and V18, as VADD, VAND, VSHL and VDUP: a function of lanes (DDI0553, the sections named at these rows' types)
 abbrev pub lanes_row : Lanes → Row
 lanes_row l = words_row false l.d.value (λ b. word_place l.n.value b ∷ operand_places l.by b) (λ b slice. lanes_new l)
     (cond (saturates l.f) (Some (λ b. lanes_mark l)) None)

@@ -35,7 +35,7 @@ abbrev pub words_at : ℕ → State → List ℕ
 words_at q s = at (word_place q 0) s ∷ at (word_place q 1) s ∷ at (word_place q 2) s ∷ at (word_place q 3) s ∷ []
 
 -- LANES
--- V1 to V5, V7, V10, V11, V13 and V18, as VADD and VDUP: the 16 new bytes, lane by lane (DDI0553, the sections named at `Lanes`)
+-- V1 to V5, V7, V10, V11, V13 and V18, as VADD and VDUP: the 16 new bytes, lane by lane (DDI0553, the sections named at these rows' types)
 abbrev pub lanes_result : Lanes → State → List ℕ
 lanes_result l s = lanewise3 l.z (lane_of l.f l.unsigned l.z) (register_at l.d.value s) (register_at l.n.value s) (operand_register l.z l.by s)
 

@@ -21,17 +21,7 @@ use hm_regs::Regs;
 
 /// A row on the lanes of two operands and of the old word.
 ///
-/// The sections of DDI0553, by rows:
-/// - V1: "VADD (vector)", "VSUB (vector)" and "VMUL (vector)"
-/// - V2: "VAND", "VBIC (register)", "VORR", "VORN" and "VEOR"
-/// - V3: "VMAX, VMAXA", "VMIN, VMINA", "VABD", "VHADD", "VRHADD", "VHSUB", "VQADD" and "VQSUB"
-/// - V4: "VSHL", "VQSHL, VQSHLU", "VRSHL" and "VQRSHL"
-/// - V5: "VQDMULH, VQRDMULH (vector)"
-/// - V7: "VMULH, VRMULH"
-/// - V10: those of V1, V3 and V5 with a scalar, "VMLA (vector by scalar plus vector)" and "VMLAS (vector by vector plus scalar)"
-/// - V11: "VSHR", "VRSHR", "VQSHL, VQSHLU", "VSHL", "VSRI" and "VSLI"
-/// - V13: "VCLS", "VCLZ", "VABS", "VNEG", "VQABS", "VQNEG" and "VMVN (register)"
-/// - V18: "VDUP"
+/// V1 to V5, V7, V10, V11, V13 and V18 are such rows; their types in hm_isa name the sections of DDI0553.
 #[derive(Clone, Copy)]
 pub struct Lanes {
     pub f: LaneFn,
@@ -45,7 +35,7 @@ pub struct Lanes {
     pub by: Operand,
 }
 
-/// What beat `b` of a row of lanes touches: DDI0553, the sections named at `Lanes`. `b` is below 4.
+/// What beat `b` of a row of lanes touches: DDI0553, the sections named at the types of `Lanes`' rows. `b` is below 4.
 pub fn touch_lanes(l: &Lanes, b: u8, r: &Regs) -> Touch
     requires { b < 4 }
     ensures reads { (m : Memory) (output : List ℕ) → result.reads ≡ reads_in (row_tree (lanes_row l.now) b) r.now m output }
@@ -67,7 +57,7 @@ pub fn touch_lanes(l: &Lanes, b: u8, r: &Regs) -> Touch
     touch_row(sources, Some(word), None, shape, b, r)
 }
 
-/// Does beat `b` of a row of lanes: DDI0553, the sections named at `Lanes`. `b` is below 4.
+/// Does beat `b` of a row of lanes: DDI0553, the sections named at the types of `Lanes`' rows. `b` is below 4.
 pub fn beat_lanes(l: &Lanes, b: u8, r: &mut Regs)
     requires { b < 4 }
     ensures done { (m : Memory) (output : List ℕ) → run (row_tree (lanes_row l.now) b) r.old m output ≡ Ok (state_of r.new m output) }

@@ -479,7 +479,7 @@ bitwise_base bitwise.Eor = 0xff000150
 abbrev pub code_v2 : V2 → ℕ
 code_v2 r = bitwise_base r.name + r.n.value ↑ 17 + r.d.value ↑ 13 + r.m.value ↑ 1
 
--- V3: the code of VMAX, VMIN, VABD, VHADD, VRHADD, VHSUB, VQADD, VQSUB of signed elements, all else 0 (DDI0553, the vector form of each)
+-- V3: the code of VMAX, VMIN, VABD, VHADD, VRHADD, VHSUB, VQADD, VQSUB of signed elements, all else 0 (DDI0553, the sections named at the type V3)
 abbrev pub signed_base : SignedName → ℕ
 signed_base signed.Max = 0xef000640
 signed_base signed.Min = 0xef000650
@@ -490,18 +490,18 @@ signed_base signed.Hsub = 0xef000240
 signed_base signed.Qadd = 0xef000050
 signed_base signed.Qsub = 0xef000250
 
--- V3: VMAX, VMIN, VABD, VHADD, VRHADD, VHSUB, VQADD and VQSUB of vectors (DDI0553, the vector form of each)
+-- V3: VMAX, VMIN, VABD, VHADD, VRHADD, VHSUB, VQADD and VQSUB of vectors (DDI0553, the sections named at the type V3)
 abbrev pub code_v3 : V3 → ℕ
 code_v3 r = signed_base r.name + r.u.value ↑ 28 + r.z.value ↑ 20 + r.n.value ↑ 17 + r.d.value ↑ 13 + r.m.value ↑ 1
 
--- V4: the code of VSHL, VQSHL, VRSHL and VQRSHL of signed elements, all else 0 (DDI0553, "VSHL", "VQSHL", "VRSHL" and "VQRSHL")
+-- V4: the code of VSHL, VQSHL, VRSHL and VQRSHL of signed elements, all else 0 (DDI0553, "VSHL", "VQSHL, VQSHLU", "VRSHL" and "VQRSHL")
 abbrev pub vector_shift_base : VectorShiftName → ℕ
 vector_shift_base by_vector.Shl = 0xef000440
 vector_shift_base by_vector.Qshl = 0xef000450
 vector_shift_base by_vector.Rshl = 0xef000540
 vector_shift_base by_vector.Qrshl = 0xef000550
 
--- V4: VSHL, VQSHL, VRSHL and VQRSHL by a vector (DDI0553, "VSHL", "VQSHL", "VRSHL" and "VQRSHL")
+-- V4: VSHL, VQSHL, VRSHL and VQRSHL by a vector (DDI0553, "VSHL", "VQSHL, VQSHLU", "VRSHL" and "VQRSHL")
 abbrev pub code_v4 : V4 → ℕ
 code_v4 r = vector_shift_base r.name + r.u.value ↑ 28 + r.z.value ↑ 20 + r.n.value ↑ 17 + r.d.value ↑ 13 + r.m.value ↑ 1
 
@@ -548,7 +548,7 @@ abbrev pub code_v9 : V9 → ℕ
 code_v9 r = complex_sum_base r.name + r.z.value ↑ 20 + r.t.value ↑ 12 + r.n.value ↑ 17 + r.d.value ↑ 13 + r.m.value ↑ 1
 
 -- V10: the code of VADD, VSUB, VMUL, VHADD, VHSUB, VQADD, VQSUB, VQDMULH, VQRDMULH, VMLA and VMLAS with a sign bit of 0, size and registers 0
--- (DDI0553, the form of each with a vector and a scalar)
+-- (DDI0553, the sections named at the type V10)
 abbrev pub scalar_base : ScalarName → ℕ
 scalar_base by_scalar.Add = 0xee010f40
 scalar_base by_scalar.Sub = 0xee011f40
@@ -563,7 +563,7 @@ scalar_base by_scalar.Mla = 0xee010e40
 scalar_base by_scalar.Mlas = 0xee011e40
 
 -- V10: VADD, VSUB, VMUL, VHADD, VHSUB, VQADD, VQSUB, VQDMULH, VQRDMULH, VMLA and VMLAS of a vector and a core register
--- (DDI0553, the form of each with a vector and a scalar)
+-- (DDI0553, the sections named at the type V10)
 abbrev pub code_v10 : V10 → ℕ
 code_v10 r = scalar_base r.name + r.u.value ↑ 28 + r.z.value ↑ 20 + r.n.value ↑ 17 + r.d.value ↑ 13 + r.m.value
 

@@ -143,7 +143,7 @@ is_reversed reverse_.Rev32 z d m = nat_lt z 2
 is_reversed reverse_.Rev16 z d m = nat_eq z 0
 
 -- V10: whether the name of an operation says whether elements are signed: VHADD, VHSUB, VQADD, VQSUB, VMLA and VMLAS
--- (DDI0553, the form of each with a vector and a scalar)
+-- (DDI0553, the sections named at the type V10)
 abbrev pub has_sign : ScalarName → Bool
 has_sign by_scalar.Add = false
 has_sign by_scalar.Sub = false
@@ -157,7 +157,7 @@ has_sign by_scalar.Qrdmulh = false
 has_sign by_scalar.Mla = true
 has_sign by_scalar.Mlas = true
 
--- V10: u is 0 where the name says nothing of signs (DDI0553, these instructions' forms with a vector and a scalar)
+-- V10: u is 0 where the name says nothing of signs (DDI0553, the sections named at the type V10)
 abbrev pub is_signed_by : ScalarName → ℕ → Bool
 is_signed_by name u = has_sign name || nat_eq u 0
 

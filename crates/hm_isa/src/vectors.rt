@@ -89,8 +89,8 @@ pub enum SignedName {
     Qsub,
 }
 
-/// `vmax`, `vmin`, `vabd`, `vhadd`, `vrhadd`, `vhsub`, `vqadd`, `vqsub` of elements, as `vmax.s8 qd,qn,qm`: DDI0553, these
-/// instructions' vector forms.
+/// `vmax`, `vmin`, `vabd`, `vhadd`, `vrhadd`, `vhsub`, `vqadd`, `vqsub` of elements, as `vmax.s8 qd,qn,qm`: DDI0553, "VMAX,
+/// VMAXA", "VMIN, VMINA", "VABD", "VHADD", "VRHADD", "VHSUB", "VQADD" and "VQSUB".
 #[derive(Clone, Copy)]
 pub struct V3 {
     pub name: SignedName,
@@ -119,7 +119,7 @@ pub enum VectorShiftName {
     Qrshl,
 }
 
-/// Shifts of elements by elements, as `vshl.s8 qd,qm,qn`: DDI0553, "VSHL", "VQSHL", "VRSHL" and "VQRSHL" (vector). A count is
+/// Shifts of elements by elements, as `vshl.s8 qd,qm,qn`: DDI0553, "VSHL", "VQSHL, VQSHLU", "VRSHL" and "VQRSHL". A count is
 /// the signed low byte of an element, and shifts to the right where it is negative.
 #[derive(Clone, Copy)]
 pub struct V4 {
@@ -280,8 +280,10 @@ pub enum ScalarName {
     Mlas,
 }
 
-/// Operations of elements and a core register, as `vadd.i8 qd,qn,rm`: DDI0553, these instructions' forms with a vector and a
-/// scalar. `u` is 0 where the name says nothing of signs.
+/// `vadd`, `vsub`, `vmul`, `vhadd`, `vhsub`, `vqadd`, `vqsub`, `vqdmulh`, `vqrdmulh`, `vmla`, `vmlas` of elements and a core
+/// register, as `vadd.i8 qd,qn,rm`: DDI0553, the forms with a scalar of "VADD (vector)", "VSUB (vector)", "VMUL (vector)", "VHADD",
+/// "VHSUB", "VQADD", "VQSUB" and "VQDMULH, VQRDMULH (vector)", and "VMLA (vector by scalar plus vector)" and "VMLAS (vector by vector
+/// plus scalar)". `u` is 0 where the name says nothing of signs.
 #[derive(Clone, Copy)]
 pub struct V10 {
     pub name: ScalarName,
@@ -319,7 +321,7 @@ pub enum ConstantShiftName {
     Sli,
 }
 
-/// Shifts of elements by a constant, as `vshr.s8 qd,qm,#k`: DDI0553, "VSHR", "VRSHR", "VQSHL, VQSHLU", "VSHL" (immediate), "VSRI"
+/// Shifts of elements by a constant, as `vshr.s8 qd,qm,#k`: DDI0553, "VSHR", "VRSHR", "VQSHL, VQSHLU", "VSHL", "VSRI"
 /// and "VSLI". `u` is 0 where the name says nothing of signs.
 #[derive(Clone, Copy)]
 pub struct V11 {
@@ -448,7 +450,7 @@ pub enum ReverseName {
     Rev16,
 }
 
-/// `vrev64`, `vrev32`, `vrev16`, as `vrev64.8 qd,qm`: DDI0553, these instructions.
+/// `vrev64`, `vrev32`, `vrev16`, as `vrev64.8 qd,qm`: DDI0553, "VREV64", "VREV32" and "VREV16".
 #[derive(Clone, Copy)]
 pub struct V14 {
     pub name: ReverseName,
@@ -496,7 +498,8 @@ pub enum NarrowName {
     Unsigned,
 }
 
-/// `vmovnb`, `vmovnt`, `vqmovunb`, `vqmovnb` and so on, as `vmovnb.i16 qd,qm`: DDI0553, "VMOVN", "VQMOVN" and "VQMOVUN".
+/// `vmovnb`, `vmovnt`, `vqmovunb`, `vqmovunt`, `vqmovnb`, `vqmovnt`, as `vmovnb.i16 qd,qm`: DDI0553, "VMOVN", "VQMOVN" and
+/// "VQMOVUN".
 #[derive(Clone, Copy)]
 pub struct V16 {
     pub name: NarrowName,

@@ -33,7 +33,7 @@ plain_base s =
     else if bytes_eq s (codes "veor") then Some (bitwise_base bitwise.Eor)
     else None
 
--- V3: the base code of VMAX, VMIN, VABD, VHADD, VRHADD, VHSUB, VQADD and VQSUB, by the mnemonic (DDI0553, the vector form of each)
+-- V3: the base code of VMAX, VMIN, VABD, VHADD, VRHADD, VHSUB, VQADD and VQSUB, by the mnemonic (DDI0553, the sections named at the type V3)
 abbrev pub signed_base_in : List ℕ → Option ℕ
 signed_base_in s =
     if bytes_eq s (codes "vmax") then Some (signed_base signed.Max)
@@ -46,7 +46,7 @@ signed_base_in s =
     else if bytes_eq s (codes "vqsub") then Some (signed_base signed.Qsub)
     else None
 
--- V1 to V3: the base code of what has `qd,qn,qm`, VADD to VEOR and VMAX to VQSUB, by the mnemonic (DDI0553, the section of each, as "VADD (vector)")
+-- V1 to V3: the base code of what has `qd,qn,qm`, VADD to VEOR and VMAX to VQSUB, by the mnemonic (DDI0553, the sections named at the types V1 to V3)
 abbrev pub three_base : List ℕ → Option ℕ
 three_base s = first (plain_base s) (signed_base_in s)
 
@@ -79,7 +79,7 @@ complex_sum_base_in s =
     else if bytes_eq s (codes "vhcadd") then Some (complex_sum_base turn.Hcadd)
     else None
 
--- V4: the base code of VSHL, VQSHL, VRSHL and VQRSHL by a vector, by the mnemonic (DDI0553, "VSHL", "VQSHL", "VRSHL" and "VQRSHL")
+-- V4: the base code of VSHL, VQSHL, VRSHL and VQRSHL by a vector, by the mnemonic (DDI0553, "VSHL", "VQSHL, VQSHLU", "VRSHL" and "VQRSHL")
 abbrev pub vector_shift_base_in : List ℕ → Option ℕ
 vector_shift_base_in s =
     if bytes_eq s (codes "vshl") then Some (vector_shift_base by_vector.Shl)
@@ -89,7 +89,7 @@ vector_shift_base_in s =
     else None
 
 -- V10: the base code of VADD, VSUB, VMUL, VHADD, VHSUB, VQADD, VQSUB, VQDMULH, VQRDMULH, VMLA and VMLAS, by the mnemonic
--- (DDI0553, the form of each with a vector and a scalar)
+-- (DDI0553, the sections named at the type V10)
 abbrev pub scalar_base_in : List ℕ → Option ℕ
 scalar_base_in s =
     if bytes_eq s (codes "vadd") then Some (scalar_base by_scalar.Add)

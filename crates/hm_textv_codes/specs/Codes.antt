@@ -39,7 +39,7 @@ abbrev pub element_in : ℕ → Element
 element_in z = if z == 0 then element.Bytes else if z == 1 then element.Halves else element.Words
 
 -- ROWS, by their mnemonics
--- V1 to V3, V5 to V7 and VPSEL of V21: the code of what has three vectors, by the mnemonic (DDI0553, the section of each, as "VADD (vector)")
+-- V1 to V3, V5 to V7 and VPSEL of V21: the code of what has three vectors, by the mnemonic (DDI0553, the sections named at the types of these rows)
 abbrev pub code_three : List ℕ → Operands → Option ℕ
 code_three s o =
     if o.is_vector then option_map (λ b. of_vectors b o.sign o.size o.second o.first o.third) (first (three_base s) (product_base s)) else None
@@ -58,7 +58,7 @@ abbrev pub code_turn : List ℕ → Operands → Option ℕ
 code_turn s o =
     option_map (λ b. of_vectors (b + (if o.fourth == 270 then 1 else 0) ↑ 12) 0 o.size o.second o.first o.third) (complex_sum_base_in s)
 
--- V10: the code of VADD to VMLAS of a vector and a core register (DDI0553, their forms with a vector and a scalar)
+-- V10: the code of VADD to VMLAS of a vector and a core register (DDI0553, the sections named at the type V10)
 abbrev pub code_scalar : List ℕ → Operands → Option ℕ
 code_scalar s o =
     if o.is_vector then None else option_map (λ b. of_core b o.sign o.size o.second o.first o.third) (scalar_base_in s)
@@ -81,7 +81,8 @@ long_code t o =
 abbrev pub code_long : List ℕ → Operands → Option ℕ
 code_long s o = option_map (λ t. long_code t o) (long_in s)
 
--- V13 and V14: the code of VCLS, VCLZ, VABS, VNEG, VQABS and VQNEG, and of VREV64, VREV32 and VREV16 (DDI0553, these instructions)
+-- V13 and V14: the code of VCLS, VCLZ, VABS, VNEG, VQABS and VQNEG, and of VREV64, VREV32 and VREV16
+-- (DDI0553, "VCLS", "VCLZ", "VABS", "VNEG", "VQABS", "VQNEG", "VREV64", "VREV32" and "VREV16")
 abbrev pub code_single : List ℕ → Operands → Option ℕ
 code_single s o = option_map (λ b. of_one b 0 o.size o.first o.second) (single_base s)
 

@@ -80,7 +80,7 @@ bitwise_mnemonic bitwise.Orr = codes "vorr"
 bitwise_mnemonic bitwise.Orn = codes "vorn"
 bitwise_mnemonic bitwise.Eor = codes "veor"
 
--- V3: the mnemonic of each name, VMAX, VMIN, VABD, VHADD, VRHADD, VHSUB, VQADD and VQSUB (DDI0553, the vector form of each)
+-- V3: the mnemonic of each name, VMAX, VMIN, VABD, VHADD, VRHADD, VHSUB, VQADD and VQSUB (DDI0553, the sections named at the type V3)
 abbrev pub signed_mnemonic : SignedName → List ℕ
 signed_mnemonic signed_.Max = codes "vmax"
 signed_mnemonic signed_.Min = codes "vmin"
@@ -91,7 +91,7 @@ signed_mnemonic signed_.Hsub = codes "vhsub"
 signed_mnemonic signed_.Qadd = codes "vqadd"
 signed_mnemonic signed_.Qsub = codes "vqsub"
 
--- V4: the mnemonic of each name, VSHL, VQSHL, VRSHL and VQRSHL (DDI0553, "VSHL", "VQSHL", "VRSHL" and "VQRSHL")
+-- V4: the mnemonic of each name, VSHL, VQSHL, VRSHL and VQRSHL (DDI0553, "VSHL", "VQSHL, VQSHLU", "VRSHL" and "VQRSHL")
 abbrev pub vector_shift_mnemonic : VectorShiftName → List ℕ
 vector_shift_mnemonic by_vector.Shl = codes "vshl"
 vector_shift_mnemonic by_vector.Qshl = codes "vqshl"
@@ -121,7 +121,7 @@ complex_sum_mnemonic turn.Cadd = codes "vcadd"
 complex_sum_mnemonic turn.Hcadd = codes "vhcadd"
 
 -- V10: the mnemonic of each name, VADD, VSUB, VMUL, VHADD, VHSUB, VQADD, VQSUB, VQDMULH, VQRDMULH, VMLA and VMLAS
--- (DDI0553, the form of each with a vector and a scalar)
+-- (DDI0553, the sections named at the type V10)
 abbrev pub scalar_mnemonic : ScalarName → List ℕ
 scalar_mnemonic by_scalar.Add = codes "vadd"
 scalar_mnemonic by_scalar.Sub = codes "vsub"
@@ -212,7 +212,7 @@ complex_sum_suffix turn.Cadd z = integer z
 complex_sum_suffix turn.Hcadd z = signed z
 
 -- V10: VADD, VSUB and VMUL are of integers, VQDMULH and VQRDMULH of signed ones, and the others of either sign
--- (DDI0553, the form of each with a vector and a scalar)
+-- (DDI0553, the sections named at the type V10)
 abbrev pub scalar_suffix : ScalarName → ℕ → ℕ → List ℕ
 scalar_suffix by_scalar.Add u z = integer z
 scalar_suffix by_scalar.Sub u z = integer z
