@@ -4,7 +4,7 @@ use Rattle.std.specs.Prelude.{bytes_eq, codes, ◌||◌}
 use Rattle.std.proofs.lemmas.Bool.{cases_Bool}
 use Rattle.std.proofs.lemmas.Slice.Eq.{bytes_eq-Decides}
 use Rattle.hm_text_base.specs.Spans.{span}
-use Rattle.hm_tokens.specs.Tokens.{Tok, word, number, mark}
+use Rattle.hm_tokens.specs.Tokens.{Tok, word, number, mark, point}
 use Rattle.hm_textv_codes.specs.declared.operands.Operands.{Operands}
 use Rattle.hm_textv_codes.specs.Codes.{code_in, code_of, code_of_memory, code_of_one, code_of_other, code_of_pair, code_of_sum}
 use Rattle.hm_text_rows.specs.Operands.{first}
@@ -51,11 +51,11 @@ code_none s o e =
     all_none (code_of_pair s o) (code_of_one s o) (code_of_sum s o) (code_of_other s o) (code_of_memory s o) (pair_none s o e) (one_none s o e) (sum_none s o e)
     (other_none s o e) (memory_none s o e)
 
-mnemonic_begins : (name : List ℕ) → begins_with_v name ≡ false → begins_with_v (span 46 name).0 ≡ false
+mnemonic_begins : (name : List ℕ) → begins_with_v name ≡ false → begins_with_v (span point name).0 ≡ false
 unfolding span
 mnemonic_begins [] e = refl
 mnemonic_begins (c ∷ w) e =
-    elim (cases_Bool (eqb c 46)) [
+    elim (cases_Bool (eqb c point)) [
       | inl h ↦ rw h refl
       | inr h ↦ rw h e
     ]
@@ -74,7 +74,7 @@ vector_named [] x e = absurd cc
 vector_named (word name ∷ ts) x e =
     elim (cases_Bool (begins_with_v name)) [
       | inl t ↦ t
-      | inr f ↦ absurd (some_code (code_in (word name ∷ ts)) x (code_none (span 46 name).0 (read_operands (span 46 name).1 ts) (mnemonic_begins name f)) e)
+      | inr f ↦ absurd (some_code (code_in (word name ∷ ts)) x (code_none (span point name).0 (read_operands (span point name).1 ts) (mnemonic_begins name f)) e)
     ]
 vector_named (number n ∷ ts) x e = absurd cc
 vector_named (mark c ∷ ts) x e = absurd cc
@@ -118,7 +118,7 @@ vmsr_none o =
       | inr v ↦ rw v refl
     ]
 
-whole : (w s : List ℕ) (ts : List Tok) → w ≡ s → span 46 s ≡ (s, []) → HasNone s → code_in (word w ∷ ts) ≡ None
+whole : (w s : List ℕ) (ts : List Tok) → w ≡ s → span point s ≡ (s, []) → HasNone s → code_in (word w ∷ ts) ≡ None
 whole w s ts is uncut none = rw (is, uncut) (none (read_operands [] ts))
 
 spelled_so : (w s : List ℕ) → bytes_eq w s ≡ true → w ≡ s

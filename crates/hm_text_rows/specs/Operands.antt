@@ -2,8 +2,8 @@
 use Rattle.std.specs.Prelude.{ℕ, ◌+◌, ◌-◌, ◌^◌, min, Bool, true, false, List, [], ◌∷◌, length, get_or, Option, Some, None, ◌==◌, if◌then◌else◌}
 use Rattle.hm_tokens.specs.declared.marks.Mark.{Mark}
 use Rattle.hm_tokens.specs.declared.marks.Mark.TheVariants as marks
-use Rattle.hm_tokens.specs.Names.{condition_in, register_in, vector_in}
-use Rattle.hm_tokens.specs.Tokens.{Tok, word, number, mark, comma, is_the_mark}
+use Rattle.hm_tokens.specs.Names.{condition_in, is_number_given, register_in, vector_in}
+use Rattle.hm_tokens.specs.Tokens.{Tok, word, number, mark, comma, digit_byte, is_the_mark}
 
 -- the number, where there is one, else d
 abbrev pub given_or : Option ℕ → ℕ → ℕ
@@ -14,11 +14,6 @@ given_or None d = d
 abbrev pub first : Option ℕ → Option ℕ → Option ℕ
 first (Some w) o = Some w
 first None o = o
-
--- whether there is a number
-abbrev pub is_given : Option ℕ → Bool
-is_given (Some n) = true
-is_given None = false
 
 -- WORDS
 -- `b`, with which the first word of a branch begins
@@ -32,11 +27,7 @@ branch_condition_in (c ∷ name) = if c == branch_letter then condition_in name 
 
 -- whether a word is the name of a vector register
 unfoldable pub is_vector_name : List ℕ → Bool
-is_vector_name w = is_given (vector_in w)
-
--- the byte that a digit is written as
-abbrev pub digit_byte : ℕ → ℕ
-digit_byte d = 48 + d
+is_vector_name w = is_number_given (vector_in w)
 
 -- the number of an element size, by its last digit: of 16, 32 and 64, and of 8
 abbrev pub size_by : ℕ → ℕ

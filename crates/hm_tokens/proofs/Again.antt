@@ -12,7 +12,7 @@ use Rattle.std.proofs.lemmas.Fmt.{digits_decimal, digits_value-decimal, decimal_
 use Rattle.std.specs.Char.{is_ascii_digit}
 use Rattle.hm_tokens.specs.declared.token.Class.{Class}
 use Rattle.hm_tokens.specs.declared.token.Class.TheVariants as classes
-use Rattle.hm_tokens.specs.Tokens.{Tok, word, number, mark, is_in, is_digit, run, digit, value, skip, is_hex, spell, token_at, comma}
+use Rattle.hm_tokens.specs.Tokens.{Tok, word, number, mark, digit_byte, hex_letter, is_in, is_digit, run, digit, value, skip, is_hex, spell, token_at, comma}
 use Rattle.hm_tokens.specs.Marks.{is_mark}
 use Rattle.hm_tokens.specs.Lines.{AreTokensOf, IsLineOf, gap, is_hash, is_word, printed, spelled, spelled_behind}
 
@@ -33,7 +33,7 @@ run_front class (c ∷ w) rest all stops =
     let p = and_parts (is_in class c) (list_all (is_in class) w) all in
     rw (p.0, run_front class w rest p.1 stops) refl
 
-hex_not : (c : ℕ) (rest : List ℕ) → eqb c 48 ≡ false → is_hex (c ∷ rest) ≡ false
+hex_not : (c : ℕ) (rest : List ℕ) → eqb c (digit_byte 0) ≡ false → is_hex (c ∷ rest) ≡ false
 hex_not c rest e = rw e (and_right (ltb 2 (length (c ∷ rest))) false refl)
 
 -- ---- what can be printed
@@ -42,7 +42,7 @@ abbrev pub IsToken : Tok → Type 0
 IsToken (word []) = ⊥
 IsToken (word (c ∷ w)) = (is_digit c ≡ false) × (list_all (is_in classes.Word) (c ∷ w) ≡ true)
 IsToken (number n) = n < 2 ^ 32
-IsToken (mark c) = (eqb c 48 ≡ false) × (is_digit c ≡ false) × (is_in classes.Word c ≡ false) × (is_mark c ≡ true)
+IsToken (mark c) = (eqb c (digit_byte 0) ≡ false) × (is_digit c ≡ false) × (is_in classes.Word c ≡ false) × (is_mark c ≡ true)
 
 -- what may stand behind a token
 abbrev pub MayFollow : Tok → List ℕ → Type 0
@@ -50,7 +50,7 @@ MayFollow (word w) rest = Parts rest
 MayFollow (number n) rest = Parts rest
 MayFollow (mark c) rest = Unit {0}
 
-not_zero : (c : ℕ) → is_digit c ≡ false → eqb c 48 ≡ false
+not_zero : (c : ℕ) → is_digit c ≡ false → eqb c (digit_byte 0) ≡ false
 not_zero c e = grind (arith, nat_tests)
 
 stops : (rest : List ℕ) → Parts rest → Stops classes.Word rest
@@ -107,8 +107,8 @@ stops_digits : (rest : List ℕ) → Parts rest → Stops classes.Decimal rest
 stops_digits [] p = tt
 stops_digits (b ∷ rest) p = grind (arith, nat_tests, p)
 
-hex_not_x : (c b : ℕ) (rest : List ℕ) → eqb b 120 ≡ false → is_hex (c ∷ b ∷ rest) ≡ false
-hex_not_x c b rest e = rw e (and_right (ltb 2 (length (c ∷ b ∷ rest))) (eqb c 48 && false) (and_right (eqb c 48) false refl))
+hex_not_x : (c b : ℕ) (rest : List ℕ) → eqb b hex_letter ≡ false → is_hex (c ∷ b ∷ rest) ≡ false
+hex_not_x c b rest e = rw e (and_right (ltb 2 (length (c ∷ b ∷ rest))) (eqb c (digit_byte 0) && false) (and_right (eqb c (digit_byte 0)) false refl))
 
 no_x : (ds rest : List ℕ) → all_ascii_digits ds ≡ true → Parts rest → 0 < length ds → is_hex (ds ++ rest) ≡ false
 no_x [] rest all p some = absurd (omega arith)

@@ -17,7 +17,7 @@ mark_byte marks.Bang = 33
 mark_byte marks.Minus = 45
 mark_byte marks.Plus = 43
 
--- the mark that a byte is, where it is one
+-- the mark that a byte is; of any other byte `+`, which nobody asks for
 abbrev pub mark_of : ℕ → Mark
 mark_of c =
     if c == mark_byte marks.Colon then marks.Colon

@@ -1,6 +1,7 @@
 -- The names of registers, halves of vector registers and conditions, in the order of their numbers.
-use Rattle.std.specs.Prelude.{ℕ, ◌+◌, Bool, true, false, List, [], ◌∷◌, get_or, codes, Option, Some, None, bytes_eq, ◌==◌, nat_le, ◌&&◌, ◌||◌, not}
+use Rattle.std.specs.Prelude.{ℕ, ◌+◌, Bool, true, false, List, [], ◌∷◌, get_or, codes, Option, Some, None, bytes_eq, ◌==◌, ◌&&◌, ◌||◌, not}
 use Rattle.std.specs.Prelude.{if◌then◌else◌}
+use Rattle.hm_tokens.specs.Tokens.{is_digit, is_lower, underscore}
 
 -- the names of the core registers, from 0 to 15
 abbrev pub register_names : List (List ℕ)
@@ -64,12 +65,12 @@ condition_in name = number_of 0 name condition_names
 -- LABELS
 -- whether a byte is a letter in lower case or `_`
 abbrev pub is_letter : ℕ → Bool
-is_letter c = (nat_le 97 c && nat_le c 122) || (c == 95)
+is_letter c = is_lower c || (c == underscore)
 
 -- letters, digits and `_`
 abbrev pub are_name_bytes : List ℕ → Bool
 are_name_bytes [] = true
-are_name_bytes (c ∷ cs) = (is_letter c || (nat_le 48 c && nat_le c 57)) && are_name_bytes cs
+are_name_bytes (c ∷ cs) = (is_letter c || is_digit c) && are_name_bytes cs
 
 -- begins with a letter or `_`
 abbrev pub is_name : List ℕ → Bool

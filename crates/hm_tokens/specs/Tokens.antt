@@ -76,15 +76,43 @@ space = 32
 abbrev pub point : ℕ
 point = 46
 
+-- the line below, which may stand where a letter may
+abbrev pub underscore : ℕ
+underscore = 95
+
+-- `a`, the first letter in lower case
+abbrev pub first_letter : ℕ
+first_letter = 97
+
+-- `z`, the last letter in lower case
+abbrev pub last_letter : ℕ
+last_letter = 122
+
+-- `f`, the last letter that is a hexadecimal digit
+abbrev pub last_hex_letter : ℕ
+last_hex_letter = 102
+
+-- `x`, which stands behind the 0 of a hexadecimal number
+abbrev pub hex_letter : ℕ
+hex_letter = 120
+
+-- the byte that a digit of 0 to 9 is written as
+abbrev pub digit_byte : ℕ → ℕ
+digit_byte d = 48 + d
+
 -- whether a byte is one of 0 to 9
 abbrev pub is_digit : ℕ → Bool
-is_digit c = nat_le 48 c && nat_le c 57
+is_digit c = nat_le (digit_byte 0) c && nat_le c (digit_byte 9)
+
+-- whether a byte is a letter in lower case
+abbrev pub is_lower : ℕ → Bool
+is_lower c = nat_le first_letter c && nat_le c last_letter
 
 -- whether a byte is of a class: those of words, of decimal or of hexadecimal numbers, or the space
 abbrev pub is_in : Class → ℕ → Bool
-is_in classes.Word c = (nat_le 97 c && nat_le c 122) || (is_digit c || ((c == 95) || (c == point)))
+is_in classes.Word c = is_lower c || (is_digit c || ((c == underscore) || (c == point)))
 is_in classes.Decimal c = is_digit c
-is_in classes.Hex c = is_digit c || (nat_le 97 c && nat_le c 102)
+is_in classes.Hex c = is_digit c || (nat_le first_letter c && nat_le c last_hex_letter)
 is_in classes.Space c = c == space
 
 -- the longest front of bytes of a class, and the rest
@@ -99,7 +127,7 @@ skip text = (run classes.Space text).1
 -- NUMBERS
 -- the number that a digit stands for, up to 15
 abbrev pub digit : ℕ → ℕ
-digit c = if nat_le 97 c then c - 97 + 10 else c - 48
+digit c = if nat_le first_letter c then c - first_letter + 10 else c - digit_byte 0
 
 -- the number that digits write after n; all from 2 ^ 32 on are one, since they fit nowhere
 unfoldable pub value : ℕ → ℕ → List ℕ → ℕ
@@ -108,7 +136,9 @@ value base n (c ∷ cs) = value base (min (n * base + digit c) 0x1_0000_0000) cs
 
 -- a hexadecimal number begins here
 abbrev pub is_hex : List ℕ → Bool
-is_hex text = nat_lt 2 (length text) && ((slice_index text 0 == 48) && ((slice_index text 1 == 120) && is_in classes.Hex (slice_index text 2)))
+is_hex text =
+    nat_lt 2 (length text)
+    && ((slice_index text 0 == digit_byte 0) && ((slice_index text 1 == hex_letter) && is_in classes.Hex (slice_index text 2)))
 
 -- TOKENS
 -- the number that digits of this base write, and what stands behind them
