@@ -3,7 +3,7 @@ use Rattle.std.proofs.Common.{◌≡◌, ◌/◌, ◌%◌, ℕ, arith}
 use Rattle.hm_isa.specs.declared.Instr.{Instr}
 use Rattle.hm_isa.specs.declared.Instr.TheVariants as instr
 use Rattle.hm_isa.specs.Code.{halfwords, one_half, two_halves}
-use Rattle.hm_enc32.specs.Table.{HasWord}
+use Rattle.hm_layout.specs.Wide.{HasWord}
 
 pub word_halves : (i : Instr) (w : ℕ) → HasWord i w → halfwords i ≡ two_halves w
 word_halves (instr.Scalar s) w h = h

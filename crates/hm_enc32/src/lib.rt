@@ -5,7 +5,7 @@ ghost use Rattle.std.specs.Prelude.{◌≡◌, ◌↔◌, IfSome, IfNone, length
 ghost use Rattle.hm_isa.specs.declared.Instr.{Instr};
 ghost use Rattle.hm_isa.specs.declared.Scalar.{Scalar};
 ghost use Rattle.hm_isa.specs.Code.{scalar_halves, two_halves};
-ghost use Rattle.hm_enc32.specs.Table.{IsWide, HasWord};
+ghost use Rattle.hm_layout.specs.Wide.{IsWide, HasWord};
 
 use hm_enc32_control::{
     branch_code, encode_t18, encode_t19, encode_t21, encode_t22, find_branch, find_system,

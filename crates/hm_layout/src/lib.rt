@@ -1,3 +1,3 @@
 //! Codes that are made of fields at their places: lemmas by which a computed test shows that a code tells its instruction,
-//! and how long a code is. There is no code here.
+//! how long a code is, and which instructions of two halfwords are no vector instructions. There is no code here.
 #![tactic(auto)]

@@ -20,7 +20,7 @@ use Rattle.hm_text16.proofs.Laws.{given_target}
 use Rattle.hm_text16_codes.proofs.Rows.{row_law}
 use Rattle.hm_textv_rows.specs.Rows as vectors
 use Rattle.hm_textv.proofs.Laws as vector_laws
-use Rattle.hm_enc32.specs.Table.{IsWide}
+use Rattle.hm_layout.specs.Wide.{IsWide}
 use Rattle.hm_text_rows.specs.Labels.{NamesTarget, printed_with}
 use Rattle.hm_text32_rows.specs.Rows as wide_rows
 use Rattle.hm_text32_rows.specs.Targets as wide_targets

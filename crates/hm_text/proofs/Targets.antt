@@ -8,7 +8,7 @@ use Rattle.hm_isa.specs.declared.Instr.TheVariants as instr
 use Rattle.hm_isa.specs.declared.Scalar.{Scalar}
 use Rattle.hm_isa.specs.declared.Scalar.TheVariants as scalar
 use Rattle.hm_isa.specs.Code.{branch_halves, halfwords, scalar_halves}
-use Rattle.hm_enc32.specs.Table.{IsWide}
+use Rattle.hm_layout.specs.Wide.{IsWide}
 use Rattle.hm_tokens.specs.Tokens.{Tok}
 use Rattle.hm_text16_rows.specs.Rows as narrow_rows
 use Rattle.hm_text16_rows.specs.Targets as narrow_targets

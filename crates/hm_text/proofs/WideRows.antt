@@ -70,7 +70,7 @@ use Rattle.hm_isa.specs.declared.wide.WideListName.{WideListName}
 use Rattle.hm_isa.specs.declared.wide.WideListName.TheVariants as wide_list
 use Rattle.hm_isa.specs.Code.{branch_halves, scalar_halves}
 use Rattle.hm_isa.specs.Rules.{is_wide_list, listed_in, may_list}
-use Rattle.hm_enc32.specs.Table.{IsWide}
+use Rattle.hm_layout.specs.Wide.{IsWide}
 use Rattle.hm_tokens.specs.Names.{condition_name}
 use Rattle.hm_tokens.specs.Tokens.{Tok, word, number, close_brace, comma, bang, minus_mark, open_brace}
 use Rattle.hm_line.specs.declared.form.Depth.TheVariants.{Outside}

@@ -6,7 +6,7 @@ use Rattle.hm_isa.specs.declared.Scalar.{Scalar}
 use Rattle.hm_isa.specs.declared.Branch.{Branch}
 use Rattle.hm_isa.specs.Code.{branch_halves, scalar_halves}
 use Rattle.hm_codes.proofs.Tables.{coded_branch, coded_scalar, joined}
-use Rattle.hm_enc32.specs.Table.{HasWord}
+use Rattle.hm_layout.specs.Wide.{HasWord}
 use Rattle.hm_text_rows.proofs.Fits.{below_32, has_32, kind_in}
 
 scalar_below : (s : Scalar) → joined (scalar_halves s) < 2 ^ 32

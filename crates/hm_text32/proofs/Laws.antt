@@ -8,7 +8,7 @@ use Rattle.hm_isa.specs.declared.jumps.T16.TheVariants as t16
 use Rattle.hm_isa.specs.declared.jumps.T23.{T23}
 use Rattle.hm_isa.specs.declared.jumps.T23.TheVariants as t23
 use Rattle.hm_isa.specs.Code.{branch_halves}
-use Rattle.hm_enc32.specs.Table.{IsWide}
+use Rattle.hm_layout.specs.Wide.{IsWide}
 use Rattle.hm_tokens.specs.Lines.{IsLineOf}
 use Rattle.hm_tokens.specs.Tokens.{Tok}
 use Rattle.hm_text_rows.specs.Labels.{Reaches}

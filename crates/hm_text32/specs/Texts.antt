@@ -1,7 +1,7 @@
 -- Which texts a row has.
 use Rattle.std.specs.Prelude.{◌≡◌, ◌⊎◌, ℕ, List, Option, Some}
 use Rattle.hm_isa.specs.declared.Instr.{Instr}
-use Rattle.hm_enc32.specs.Table.{IsWide}
+use Rattle.hm_layout.specs.Wide.{IsWide}
 use Rattle.hm_text_rows.specs.Labels.{IsLabel, printed_with}
 use Rattle.hm_text_labels.specs.Texts as labels
 use Rattle.hm_text_labels.specs.Texts.{label_where}

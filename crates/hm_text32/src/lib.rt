@@ -2,7 +2,7 @@
 #![tactic(auto)]
 
 ghost use Rattle.std.specs.Prelude.{◌≡◌, ℕ, IfSome, List, Option, Some, length, map, option_map};
-ghost use Rattle.hm_enc32.specs.Table.{IsWide};
+ghost use Rattle.hm_layout.specs.Wide.{IsWide};
 ghost use Rattle.hm_isa.specs.declared.Instr.{Instr};
 ghost use Rattle.hm_text32_rows.specs.Targets.{target};
 ghost use Rattle.hm_text32.specs.Texts.{HasTokens, IsRowAt, IsTextOf, label_of, text_of};

@@ -1,7 +1,7 @@
 //! Whether tokens are a row's.
 
 ghost use Rattle.std.specs.Prelude.{◌≡◌, ◌↔◌, IsTrue, Some, map};
-ghost use Rattle.hm_enc32.specs.Table.{IsWide};
+ghost use Rattle.hm_layout.specs.Wide.{IsWide};
 ghost use Rattle.hm_text32_rows.specs.Rows.{other_tokens};
 ghost use Rattle.hm_text32.specs.Texts.{HasTokens, IsRowAt};
 ghost use Rattle.hm_tokens.specs.Tokens.{Tok, tok};

@@ -1,7 +1,7 @@
 -- What is proved of each row: its text asks for its code, and is printed and read back.
 use Rattle.std.proofs.Common.{◌≡◌, ℕ, ◌^◌, ◌<◌, Bool, true, false, cond, List, [], ◌∷◌, ◌++◌, Option, Some, None, refl, sym, subst}
 use Rattle.hm_isa.specs.declared.Instr.{Instr}
-use Rattle.hm_enc32.specs.Table.{HasWord}
+use Rattle.hm_layout.specs.Wide.{HasWord}
 use Rattle.hm_tokens.specs.Tokens.{Tok, word}
 use Rattle.hm_text_rows.specs.Labels.{IsLabel, Reaches}
 use Rattle.hm_text_rows.proofs.Printed.{IsPrinted, IsPrintedAt}

@@ -22,7 +22,7 @@ use Rattle.hm_isa.specs.declared.data.T7.{T7}
 use Rattle.hm_isa.specs.DataCodes.{code_t3, code_t4, code_t5, code_t6, extract_base, half_base, saturate_base, wide_sum_base}
 use Rattle.hm_isa.specs.Rules.{is_general}
 use Rattle.hm_isa.specs.Standing.{◌↑◌}
-use Rattle.hm_enc32.specs.Table.{HasWord}
+use Rattle.hm_layout.specs.Wide.{HasWord}
 use Rattle.hm_tokens.specs.Tokens.{Tok}
 use Rattle.hm_text32_codes.specs.Codes.{code_of}
 use Rattle.hm_text32_codes.specs.Operands.{word_value}

@@ -4,7 +4,7 @@ use Rattle.std.proofs.lemmas.List.{append-nil}
 use Rattle.std.proofs.lemmas.Bool.{agree_below_at, cases_Bool, eqb-true}
 use Rattle.std.specs.Prelude.{cond, codes, min, nat_eq}
 use Rattle.hm_isa.specs.declared.Instr.{Instr}
-use Rattle.hm_enc32.specs.Table.{HasWord}
+use Rattle.hm_layout.specs.Wide.{HasWord}
 use Rattle.hm_tokens.specs.Names.{condition_name, register_name, vector_name}
 use Rattle.hm_tokens.specs.Tokens.{Tok, word, comma}
 use Rattle.hm_text32_codes.specs.declared.operands.Operands.{Operands}

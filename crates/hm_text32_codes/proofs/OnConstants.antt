@@ -13,7 +13,7 @@ use Rattle.hm_isa.specs.declared.data.T1.{T1}
 use Rattle.hm_isa.specs.DataCodes.{operation}
 use Rattle.hm_isa.specs.DataRules.{is_constant, is_first, is_result, may_test}
 use Rattle.hm_isa.specs.Standing.{◌↑◌}
-use Rattle.hm_enc32.specs.Table.{HasWord}
+use Rattle.hm_layout.specs.Wide.{HasWord}
 use Rattle.hm_tokens.proofs.Again.{or_true}
 use Rattle.hm_isa.specs.Words.{expand_imm_c, imm12, repeats}
 use Rattle.hm_text32_codes.specs.Codes.{code_of, constant_code, constant_field, shift_of}

@@ -18,7 +18,7 @@ use Rattle.hm_isa.specs.Code.{code_t13, pair_base, wide_access_base}
 use Rattle.hm_isa.specs.Rules.{is_data, is_indexed, is_offset, is_pair}
 use Rattle.hm_isa.specs.Standing.{◌↑◌}
 use Rattle.std.proofs.lemmas.List.{append-nil}
-use Rattle.hm_enc32.specs.Table.{HasWord}
+use Rattle.hm_layout.specs.Wide.{HasWord}
 use Rattle.hm_tokens.specs.Names.{register_name}
 use Rattle.hm_tokens.specs.Ranges.{singles}
 use Rattle.hm_tokens.specs.Tokens.{Tok, word, comma}

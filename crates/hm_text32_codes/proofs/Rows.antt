@@ -13,7 +13,7 @@ use Rattle.hm_isa.specs.declared.jumps.T23.TheVariants as t23
 use Rattle.hm_isa.specs.declared.system.T19.{T19}
 use Rattle.hm_isa.specs.declared.system.T19.TheVariants as t19
 use Rattle.hm_isa.specs.Code.{branch_halves, scalar_halves}
-use Rattle.hm_enc32.specs.Table.{IsWide}
+use Rattle.hm_layout.specs.Wide.{IsWide}
 use Rattle.hm_text_base.proofs.Steps.{some_is, test_some}
 use Rattle.hm_tokens.specs.Tokens.{Tok, word}
 use Rattle.hm_text32_rows.specs.Rows.{has_label, other_barrier, other_scalar, other_tokens, row_tokens}

@@ -13,7 +13,7 @@ use Rattle.hm_isa.specs.DataCodes.{operation}
 use Rattle.hm_isa.specs.DataRules.{is_first, is_result, is_shifted_row, is_stack_move, may_test}
 use Rattle.hm_isa.specs.Rules.{is_general}
 use Rattle.hm_isa.specs.Standing.{◌↑◌}
-use Rattle.hm_enc32.specs.Table.{HasWord}
+use Rattle.hm_layout.specs.Wide.{HasWord}
 use Rattle.hm_tokens.specs.Tokens.{word}
 use Rattle.hm_text32_codes.specs.Codes.{code_of, shifted_code}
 use Rattle.hm_text32_codes.specs.Operands.{word_value}

@@ -1,7 +1,7 @@
 //! The text of each row.
 
 ghost use Rattle.std.specs.Prelude.{◌≡◌, ◌≤◌, ◌+◌, ◌∷◌, ◌++◌, [], length};
-ghost use Rattle.hm_enc32.specs.Table.{IsWide};
+ghost use Rattle.hm_layout.specs.Wide.{IsWide};
 ghost use Rattle.hm_isa.specs.Code.{branch_halves, scalar_halves};
 ghost use Rattle.hm_isa.specs.declared.Scalar.TheVariants as scalar;
 ghost use Rattle.hm_isa.specs.declared.Branch.TheVariants as branch;

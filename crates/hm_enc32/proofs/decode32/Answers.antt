@@ -2,7 +2,7 @@ use Rattle.std.proofs.Common.{◌≡◌, ℕ, sym, ◌∙◌}
 use Rattle.hm_isa.specs.declared.Instr.{Instr}
 use Rattle.hm_layout.proofs.Exact.{exact}
 use Rattle.hm_codes.proofs.Unique.{unique_code}
-use Rattle.hm_enc32.specs.Table.{HasWord}
+use Rattle.hm_layout.specs.Wide.{HasWord}
 use Rattle.hm_enc32.proofs.Halves.{word_halves}
 use Rattle.hm_enc32.proofs.decode32.Goals as goal
 
