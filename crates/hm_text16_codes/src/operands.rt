@@ -4,7 +4,7 @@ ghost use Rattle.std.specs.Prelude.{◌≡◌, map};
 ghost use Rattle.hm_text16_codes.specs.Operands.{kind_of, read_operands, value, word_value};
 ghost use Rattle.hm_tokens.specs.Tokens.{tok};
 
-use hm_text_rows::{braced_bits, operand};
+use hm_text_rows::{braced_bits, operand, value_by};
 use hm_tokens::{Token, read_condition, read_register};
 
 /// What an operand is.
@@ -49,11 +49,7 @@ fn word_value(name: &[u8]) -> u32
 fn value(token: Token<'_>) -> u32
     ensures { result ≡ value (tok token.entry) }
 {
-    match token {
-        Token::Word(name) => word_value(name),
-        Token::Number(n) => n.min(0xffff_ffff) as u32,
-        Token::Mark(_) => 0,
-    }
+    value_by(word_value, token)
 }
 
 /// What a token is as an operand.

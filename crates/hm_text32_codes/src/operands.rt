@@ -6,6 +6,7 @@ ghost use Rattle.hm_tokens.specs.Tokens.{tok};
 
 use hm_text_rows::{
     added, back_in, before, first_of, is, is_number, is_the_mark, is_vector, operand, size_of,
+    value_by,
 };
 use hm_tokens::{Mark, Token, read_condition, read_double, read_register, read_vector};
 
@@ -109,11 +110,7 @@ fn word_value(name: &[u8]) -> u32
 pub fn value(token: Token<'_>) -> u32
     ensures { result ≡ value (tok token.entry) }
 {
-    match token {
-        Token::Word(name) => word_value(name),
-        Token::Number(n) => n.min(0xffff_ffff) as u32,
-        Token::Mark(_) => 0,
-    }
+    value_by(word_value, token)
 }
 
 /// What stands behind a mnemonic: its suffix, with the point, and the other tokens.

@@ -14,7 +14,7 @@ pub use lists::{is_listed, with_list};
 pub use mnemonics::{access_mnemonic, extend_mnemonic};
 pub use operands::{
     added, back_in, before, braced_bits, branch_condition_in, first_of, is, is_number, is_the_mark,
-    is_vector, operand, size_of, token_behind,
+    is_vector, operand, size_of, token_behind, value_by,
 };
 pub use shapes::{
     alone, and, and_constant, and_shift, first, four, marked, one, or_zero, q, r, three, two, with,

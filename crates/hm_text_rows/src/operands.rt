@@ -1,8 +1,8 @@
 //! What a text gives numbers for, read carelessly: nothing is refused, since the row that is found is asked for its text.
 
-ghost use Rattle.std.specs.Prelude.{◌≡◌, ◌≤◌, bytes_eq, map};
+ghost use Rattle.std.specs.Prelude.{◌≡◌, ◌≤◌, ℕ, List, bytes_eq, map};
 ghost use Rattle.hm_text_rows.specs.Operands.{added, back_in, before, bit_in, bits_of, braced, branch_condition_in, first_of, is_number, is_vector};
-ghost use Rattle.hm_text_rows.specs.Operands.{is_vector_name, operand, size_of, token_behind, token_bit};
+ghost use Rattle.hm_text_rows.specs.Operands.{is_vector_name, operand, size_of, token_behind, token_bit, value_by};
 ghost use Rattle.hm_tokens.specs.Tokens.{is_the_mark, tok};
 
 use hm_tokens::{Mark, Token, read_condition, read_register, read_vector};
@@ -58,6 +58,18 @@ pub fn is_number(token: Token<'_>) -> bool
     match token {
         Token::Number(_) => true,
         Token::Word(_) | Token::Mark(_) => false,
+    }
+}
+
+/// The number that a token stands for, by that of a word: a number itself, at most 2^32 - 1, and 0 of a mark.
+pub fn value_by<F: Fn(&[u8]) -> u32>(of_word: F, token: Token<'_>) -> u32
+    requires { F.IsAlwaysCallable of_word }
+    ensures value { (value : List ℕ → ℕ) → ((w : _) (n : ℕ) → F.post of_word w n → n ≡ value w.now) → result ≡ value_by value (tok token.entry) }
+{
+    match token {
+        Token::Word(name) => of_word(name),
+        Token::Number(n) => n.min(0xffff_ffff) as u32,
+        Token::Mark(_) => 0,
     }
 }
 

@@ -4,7 +4,7 @@ ghost use Rattle.std.specs.Prelude.{◌≡◌, map};
 ghost use Rattle.hm_textv_codes.specs.Operands.{other_value, read_operands, sign_of, value, word_value};
 ghost use Rattle.hm_tokens.specs.Tokens.{tok};
 
-use hm_text_rows::{added, back_in, before, is_vector, operand, size_of, token_behind};
+use hm_text_rows::{added, back_in, before, is_vector, operand, size_of, token_behind, value_by};
 use hm_tokens::{Mark, Token, read_register, read_vector};
 
 /// What stands behind a mnemonic, as numbers.
@@ -70,11 +70,7 @@ fn word_value(name: &[u8]) -> u32
 fn value(token: Token<'_>) -> u32
     ensures { result ≡ value (tok token.entry) }
 {
-    match token {
-        Token::Word(name) => word_value(name),
-        Token::Number(n) => n.min(0xffff_ffff) as u32,
-        Token::Mark(_) => 0,
-    }
+    value_by(word_value, token)
 }
 
 /// 1 where the letter behind the point is u.
