@@ -1,8 +1,9 @@
 //! Assembles the shipped examples, runs each under its schedule, and prints what they come to, the plan of the instructions that were run, and the
-//! rows of a page of two ticks; or shakes them.
+//! rows of a page of two ticks; or shakes them; or runs the code of a soak, so that it can be timed.
 #![tactic(auto)]
 
 mod shakes;
+mod soaks;
 
 use anyhow::{Context, Result, bail, ensure};
 use hm_asm::assemble;
@@ -12,6 +13,7 @@ use hm_plan::plan;
 use hm_sched::{parse, print};
 use hm_trace::{Form, Ticks, trace};
 use shakes::write_shake;
+use soaks::write_soak;
 use std::alloc::Global;
 use std::io::{BufWriter, Write};
 use std::ops::Range;
@@ -128,21 +130,25 @@ fn asked(word: &str) -> Result<(&str, Option<u32>)> {
     }
 }
 
-/// Takes the examples that are named: one is run, and one behind a number and a colon is shaken in so many runs.
+/// Takes the examples that are named: one is run, and one behind a number and a colon is shaken in so many runs. Behind `soak:` stands which soak is run.
 fn main(rt: HostRuntime) -> Result<()> {
     let alloc = rt.alloc();
     let mut out = BufWriter::new(alloc, io::writer(&rt))?;
     for word in env::args(&rt)?.skip(1) {
-        let (name, runs) = asked(&word)?;
-        let source = fs::read(&rt, &format!(in alloc; "{name}.s")?)?;
-        let schedule = fs::read(&rt, &format!(in alloc; "{name}.sched")?)?;
-        let image = image_of(alloc, &source).context(format_args!("{name}"))?;
-        match runs {
-            Some(runs) => {
-                let schedule = parse(alloc, &schedule)?;
-                write_shake(&mut out, alloc, name, &image, &schedule, runs)?;
+        if let Some(soak) = word.strip_prefix("soak:") {
+            write_soak(&mut out, alloc, soak)?;
+        } else {
+            let (name, runs) = asked(&word)?;
+            let source = fs::read(&rt, &format!(in alloc; "{name}.s")?)?;
+            let schedule = fs::read(&rt, &format!(in alloc; "{name}.sched")?)?;
+            let image = image_of(alloc, &source).context(format_args!("{name}"))?;
+            match runs {
+                Some(runs) => {
+                    let schedule = parse(alloc, &schedule)?;
+                    write_shake(&mut out, alloc, name, &image, &schedule, runs)?;
+                }
+                None => write_run(&mut out, alloc, name, &image, &schedule)?,
             }
-            None => write_run(&mut out, alloc, name, &image, &schedule)?,
         }
     }
     out.flush()?;

@@ -1,6 +1,5 @@
-//! Runs the soak's code as often as is asked, so that it can be timed: under its schedule, one whole instruction a tick, or under its plan, of which
-//! it tells how dense it is.
-#![tactic(auto)]
+//! The soak's code, run as often as is asked, so that it can be timed: under its schedule, one whole instruction a tick, or under its plan, of which it
+//! is told how dense it is.
 
 use anyhow::{Context, Result, bail, ensure};
 use hm_base::Image;
@@ -9,14 +8,10 @@ use hm_plan::plan;
 use hm_sched::{Schedule, plain};
 use hm_soak::make;
 use std::alloc::Global;
-use std::io::{BufWriter, Write};
-use std::{env, io};
+use std::io::Write;
 
 /// How many instructions a soak has.
 const INSTRUCTIONS: u32 = 4113;
-
-/// What the first word may be.
-const WANTED: &str = "overlapped, plain or planned is wanted";
 
 /// How the ticks of a run are given.
 #[derive(Clone, Copy)]
@@ -80,44 +75,42 @@ fn density_text(alloc: Global, number: u32) -> Result<String> {
     )?)
 }
 
-/// The number that a word gives.
-fn number(word: Option<String>) -> Result<u32> {
-    let word = word.context("a number is wanted")?;
-    word.parse::<u32>().context("no number")
+/// How the ticks of a run are given, by a word.
+fn ticks_of(word: &str) -> Result<Ticks> {
+    match word {
+        "overlapped" => Ok(Ticks::Overlapped),
+        "plain" => Ok(Ticks::Plain),
+        "planned" => Ok(Ticks::Planned),
+        _ => bail!("overlapped, plain or planned is wanted"),
+    }
 }
 
-/// Does as many runs as are asked for, and prints what the last one did: overlapped, plain or planned, the number, how many. Of a plan it prints first
-/// how dense it is.
-fn main(rt: HostRuntime) -> Result<()> {
-    let alloc = rt.alloc();
-    let mut words = env::args(&rt)?.skip(1);
-    let word = words.next().context(WANTED)?;
-    let ticks = match word.as_str() {
-        "overlapped" => Ticks::Overlapped,
-        "plain" => Ticks::Plain,
-        "planned" => Ticks::Planned,
-        _ => bail!("{WANTED}"),
-    };
-    let chosen = number(words.next())?;
-    let times = number(words.next())?;
-    let mut out = BufWriter::new(alloc, io::writer(&rt))?;
+/// Writes what a run did.
+fn write_done<W: Write>(out: &mut W, machine: &Machine) -> Result<()> {
+    let (instructions, steps, done) = (machine.retired(), machine.older_steps(), machine.ticks());
+    writeln!(
+        out,
+        "instructions {instructions} steps {steps} ticks {done}"
+    )?;
+    Ok(())
+}
+
+/// Does as many runs as are asked for, and writes what the last one did: overlapped, plain or planned, the number, how many, with colons between. Of a
+/// plan it writes first how dense it is.
+pub fn write_soak<W: Write>(out: &mut W, alloc: Global, asked: &str) -> Result<()> {
+    let (ticks, numbers) = asked.split_once(':').context("a number is wanted")?;
+    let (chosen, times) = numbers.split_once(':').context("how often is wanted")?;
+    let ticks = ticks_of(ticks)?;
+    let chosen = chosen.parse::<u32>().context("no number")?;
+    let times = times.parse::<u32>().context("no number")?;
     if let Ticks::Planned = ticks {
         writeln!(out, "{}", density_text(alloc, chosen)?)?;
     }
     for time in 1..=times {
         let machine = run(alloc, chosen, ticks)?;
         if time == times {
-            let (instructions, steps, done) = (
-                machine.retired(),
-                machine.older_steps(),
-                machine.ticks(),
-            );
-            writeln!(
-                out,
-                "instructions {instructions} steps {steps} ticks {done}"
-            )?;
+            write_done(out, &machine)?;
         }
     }
-    out.flush()?;
     Ok(())
 }
