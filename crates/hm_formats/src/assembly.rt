@@ -1,7 +1,7 @@
 //! Sources of assembly and listings of images.
 
 use crate::images::segments;
-use crate::input::{address, image_of};
+use crate::input::{hexadecimal, image_of};
 use anyhow::{Result, bail, ensure};
 use hm_asm::{AsmErr, AsmKind, assemble};
 use hm_base::{FLASH_SIZE, OutOfMemory};
@@ -27,8 +27,8 @@ pub fn assembled(alloc: Global, input: &[u8]) -> Result<String> {
 
 /// The listing of an image between two addresses.
 pub fn listed(alloc: Global, words: &mut SplitWhitespace<'_>, input: &[u8]) -> Result<String> {
-    let lo = address(words)?;
-    let hi = address(words)?;
+    let lo = hexadecimal(words)?;
+    let hi = hexadecimal(words)?;
     ensure!(lo % 2 == 0 && hi % 2 == 0, "an address is odd");
     ensure!(lo <= hi && hi <= FLASH_SIZE, "no such range");
     let image = image_of(alloc, input)?;

@@ -12,9 +12,9 @@ fn count(words: &mut SplitWhitespace<'_>) -> Result<usize> {
 }
 
 /// The next word, a hexadecimal number.
-pub fn address(words: &mut SplitWhitespace<'_>) -> Result<u32> {
-    let word = words.next().context("an address is wanted")?;
-    u32::from_str_radix(word, 16).context("no address")
+pub fn hexadecimal(words: &mut SplitWhitespace<'_>) -> Result<u32> {
+    let word = words.next().context("a number is wanted")?;
+    u32::from_str_radix(word, 16).context("no number")
 }
 
 /// Bytes with others laid over them from a place on, or put behind what stands before it.

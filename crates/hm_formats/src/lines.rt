@@ -1,6 +1,6 @@
 //! Lines of assembly: their parts, what they say, and where that has its place.
 
-use crate::input::{address, text};
+use crate::input::{hexadecimal, text};
 use anyhow::{Context, Result, bail, ensure};
 use hm_line::{AsmKind, Labels, TextErr, operand_column};
 use hm_source::{
@@ -51,7 +51,7 @@ fn parts(alloc: Global, line: &Line<'_>) -> Result<String> {
 
 /// The column of an operand of a text, counted from 0.
 pub fn operand(alloc: Global, words: &mut SplitWhitespace<'_>, input: &[u8]) -> Result<String> {
-    let n = address(words)?;
+    let n = hexadecimal(words)?;
     Ok(format!(in alloc; "{:?}", operand_column(input, n))?)
 }
 
@@ -67,7 +67,7 @@ pub fn line(alloc: Global, input: &[u8]) -> Result<String> {
 /// Where the next line stands behind one at an address.
 pub fn place(alloc: Global, words: &mut SplitWhitespace<'_>, input: &[u8]) -> Result<String> {
     ensure!(input.len() <= LONGEST, "the line is too long");
-    let at = address(words)?;
+    let at = hexadecimal(words)?;
     let Ok(line) = read_source_line(input) else {
         bail!("the line is refused");
     };
@@ -80,7 +80,7 @@ pub fn place(alloc: Global, words: &mut SplitWhitespace<'_>, input: &[u8]) -> Re
 /// A refusal at a column of a line's text, as one of the line.
 pub fn shift(alloc: Global, words: &mut SplitWhitespace<'_>, input: &[u8]) -> Result<String> {
     ensure!(input.len() <= LONGEST, "the line is too long");
-    let column = address(words)?;
+    let column = hexadecimal(words)?;
     let Ok(line) = read_source_line(input) else {
         bail!("the line is refused");
     };

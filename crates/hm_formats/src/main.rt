@@ -1,4 +1,5 @@
-//! Files and lines as their formats say: what is read and written of them, compared with tables.
+//! Files and lines as their formats say, what is read and written of them, and instructions as codes and as texts, and what there is to execute at an
+//! address, compared with tables.
 #![tactic(auto)]
 
 mod answer;
@@ -6,14 +7,18 @@ mod assembly;
 mod case;
 mod images;
 mod input;
+mod instructions;
 mod lines;
 mod numbers;
 mod schedules;
+mod setting;
 mod tokens;
+mod words;
 
 use answer::answer;
 use anyhow::{Context, Result, ensure};
 use case::Case;
+use setting::write_instructions;
 use std::alloc::Global;
 use std::io::{BufWriter, Write};
 use std::{env, fs, io};
@@ -84,13 +89,17 @@ fn try_file<W: Write>(out: &mut W, alloc: Global, name: &str, text: &str) -> Res
     Ok(())
 }
 
-/// Tries the cases of the files that are named.
+/// Tries the cases of the files that are named, which are of instructions where they stand in that folder.
 fn main(rt: HostRuntime) -> Result<()> {
     let alloc = rt.alloc();
     let mut out = BufWriter::new(alloc, io::writer(&rt))?;
     for name in env::args(&rt)?.skip(1) {
         let text = fs::read_to_string(&rt, &name)?;
-        try_file(&mut out, alloc, &name, &text)?;
+        if name.starts_with("instructions/") {
+            write_instructions(&mut out, alloc, &name, &text)?;
+        } else {
+            try_file(&mut out, alloc, &name, &text)?;
+        }
     }
     out.flush()?;
     Ok(())

@@ -1,6 +1,6 @@
 //! Numbers as they are read and written, and texts cut at a mark.
 
-use crate::input::{address, text};
+use crate::input::{hexadecimal, text};
 use anyhow::{Context, Result, bail};
 use hm_text_base::{binary_digit, decimal, hex_bytes, hex2, hex8, read_hex8, span};
 use std::alloc::Global;
@@ -40,7 +40,7 @@ pub fn written(alloc: Global, words: &mut SplitWhitespace<'_>, input: &[u8]) -> 
 
 /// What stands before a mark, and the rest.
 pub fn cut(alloc: Global, words: &mut SplitWhitespace<'_>, input: &[u8]) -> Result<String> {
-    let mark = u8::try_from(address(words)?).context("no mark")?;
+    let mark = u8::try_from(hexadecimal(words)?).context("no mark")?;
     let (front, rest) = span(mark, input);
     let front = front.escape_ascii();
     let rest = rest.escape_ascii();

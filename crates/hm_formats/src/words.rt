@@ -1,4 +1,4 @@
-//! The words of a line.
+//! The words of a line of instructions.
 
 use anyhow::{Context, Result};
 use hm_base::FaultKind;
@@ -8,11 +8,6 @@ use std::str::SplitWhitespace;
 /// The next word of a line.
 pub fn word<'a>(words: &mut SplitWhitespace<'a>) -> Result<&'a str> {
     words.next().context("another word is wanted")
-}
-
-/// The next word of a line, a hexadecimal number.
-pub fn number(words: &mut SplitWhitespace<'_>) -> Result<u32> {
-    u32::from_str_radix(word(words)?, 16).context("no number")
 }
 
 /// The next word of a line, a column.

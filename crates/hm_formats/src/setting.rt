@@ -1,4 +1,4 @@
-//! The cases of a file, and what they stand on.
+//! The cases of a file of instructions, and what they stand on.
 //!
 //! A line is one of these, where numbers but columns are hexadecimal, and `#` begins a comment behind the last word or alone:
 //!
@@ -12,16 +12,18 @@
 //! - `fetch ADDRESS CODE`: this code's instruction stands at the address
 //! - `fault ADDRESS KIND`: none does, for this reason
 
+use crate::input::hexadecimal;
 use crate::instructions::{
     check_code, check_none, check_printed, check_read, check_refused, check_table, code_of,
 };
-use crate::lines::{column, fault_kind, number, parts, refusal_kind, word};
+use crate::words::{column, fault_kind, parts, refusal_kind, word};
 use anyhow::{Context, Result, bail, ensure};
 use hm_base::{Fault, Image, SRAM_START};
 use hm_decode::fetch;
 use hm_mem::Mem;
 use hm_text::{Labels, TextErr};
 use std::alloc::Global;
+use std::io::Write;
 use std::str::SplitWhitespace;
 
 /// What the cases stand on.
@@ -55,7 +57,7 @@ impl Setting {
 
     /// Takes bytes that stand in flash.
     fn add_bytes(&mut self, words: &mut SplitWhitespace<'_>) -> Result<()> {
-        let address = number(words)?;
+        let address = hexadecimal(words)?;
         let bytes = hex::decode(self.alloc, word(words)?).context("no bytes")?;
         self.image.add(address, bytes)?;
         Ok(())
@@ -99,7 +101,7 @@ impl Setting {
     fn check_refusal(&self, words: &mut SplitWhitespace<'_>, text: &str) -> Result<()> {
         let kind = refusal_kind(word(words)?).context("no kind")?;
         let column = column(words)?;
-        let address = number(words)?;
+        let address = hexadecimal(words)?;
         check_refused(&self.labels, address, text, TextErr { column, kind })
     }
 
@@ -110,8 +112,8 @@ impl Setting {
         text: &str,
         is_printed: bool,
     ) -> Result<()> {
-        let address = number(words)?;
-        let code = number(words)?;
+        let address = hexadecimal(words)?;
+        let code = hexadecimal(words)?;
         if is_printed {
             check_printed(address, code, text)?;
         }
@@ -131,10 +133,10 @@ impl Setting {
 
     /// Checks a case without a text.
     fn check_plain(&self, name: &str, words: &mut SplitWhitespace<'_>) -> Result<()> {
-        let first = number(words)?;
+        let first = hexadecimal(words)?;
         match name {
             "none" => check_none(first),
-            "fetch" => self.check_fetch(first, number(words)?),
+            "fetch" => self.check_fetch(first, hexadecimal(words)?),
             "fault" => self.check_fault(first, words),
             _ => bail!("no such case"),
         }
@@ -174,4 +176,28 @@ impl Setting {
         }
         Ok(is_case)
     }
+}
+
+/// Writes a line for each case of a file that is otherwise than told, and how many cases there are and are so.
+pub fn write_instructions<W: Write>(
+    out: &mut W,
+    alloc: Global,
+    name: &str,
+    text: &str,
+) -> Result<()> {
+    let mut setting = Setting::new(alloc);
+    let mut cases = 0_u32;
+    let mut differ = 0_u32;
+    for (line, text) in (1_u32..).zip(text.lines()) {
+        match setting.take(text) {
+            Ok(is_case) => cases = cases.saturating_add(is_case as u32),
+            Err(e) => {
+                cases = cases.saturating_add(1);
+                differ = differ.saturating_add(1);
+                writeln!(out, "{name}:{line}: {text}: {e}")?;
+            }
+        }
+    }
+    writeln!(out, "{name}: {cases} cases, {differ} differ")?;
+    Ok(())
 }
