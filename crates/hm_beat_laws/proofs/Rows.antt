@@ -9,7 +9,7 @@ use Rattle.hm_moves.specs.Moves.{byte_count}
 use Rattle.hm_moves.specs.Ways.{Found, Transfer, at_addresses, at_offsets, interleaved, straight}
 use Rattle.hm_moves.specs.Wholes.{IsNarrow}
 use Rattle.hm_rows.specs.Rows.{Kind, Moves, Registers, kind_of, tree_of, vector_tree}
-use Rattle.hm_rows.proofs.Sizes.{IsSized, are_sized}
+use Rattle.hm_rows.proofs.Rows.{IsSized, are_sized}
 use Rattle.hm_beat_laws.specs.Rows.{kind_part, row_part}
 use Rattle.hm_beat_laws.proofs.AllParts.{form_beat}
 use Rattle.hm_beat_laws.proofs.Interleaved.{interleaved_part}
