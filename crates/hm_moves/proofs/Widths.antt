@@ -1,11 +1,19 @@
 -- Elements by their numbers, for the code that finds them.
-use Rattle.std.proofs.Common.{◌≡◌, ℕ, zero, suc, ◌+◌, ◌-◌, ◌*◌, ◌<◌, Bool, false, cond, List, [], ◌∷◌, ◌++◌, get_or, refl, sym, ◌∙◌, ap, arith, append_assoc}
+use Rattle.std.proofs.Common.{◌≡◌, ℕ, zero, suc, ◌+◌, ◌-◌, ◌*◌, ◌<◌, Bool, true, false, cond, map, List, [], ◌∷◌, ◌++◌, get_or, refl, sym, ◌∙◌, ap, arith, append_assoc}
+use Rattle.std.proofs.Math.Nat.{mul-zero}
 use Rattle.hm_base.specs.Bits.{field}
+use Rattle.hm_base.specs.declared.Place.TheVariants.{R}
 use Rattle.hm_lane.specs.declared.lanes.Size.{Size}
 use Rattle.hm_lane.specs.declared.lanes.Size.TheVariants as size
+use Rattle.hm_lane.specs.Lanes.{per_word}
+use Rattle.hm_state.specs.State.{State, at}
+use Rattle.hm_beat.specs.Rows.{active_at}
 use Rattle.hm_moves.specs.declared.elements.Element.{Element}
-use Rattle.hm_moves.specs.Moves.{active_ones, byte_count}
-use Rattle.hm_moves.specs.Ways.{Found, at_addresses, at_offsets, each_from, interleaved, straight, way_back, way_element}
+use Rattle.hm_moves.specs.declared.ways.Straight.{Straight}
+use Rattle.hm_moves.specs.declared.ways.Way.{Way}
+use Rattle.hm_moves.specs.declared.ways.Way.TheVariants as way
+use Rattle.hm_moves.specs.Moves.{active_ones, byte_count, every_byte}
+use Rattle.hm_moves.specs.Ways.{Found, at_addresses, at_offsets, each_from, interleaved, straight, way_back, way_element, way_of, way_predicated, way_sources}
 
 pub width_some : (z : Size) → 0 < byte_count z
 width_some size.Byte = omega arith
@@ -43,6 +51,18 @@ module _ (active : List Bool) (f : ℕ → Element) (j n m : ℕ) (more : n - j 
       let rest = active_ones active (each_from f (j + 1) m) in
       ap (λ xs. xs ++ rest) (h ∙ (λ t. es ++ cond (get_or active (g t).lane false) (g t ∷ []) []))
       ∙ append_assoc es (cond (get_or active (f j).lane false) (f j ∷ []) []) rest ∙ sym step
+
+-- a word of those one behind another is the one element of its beat, where its first byte is active
+pub only_word : (x : Way) (y z : Size) (w : Straight) (b base : ℕ) (active : List Bool) (s : State) (e : Element) → x ≡ way.Straight w → per_word z ≡ 1
+    → active ≡ active_at b s → base ≡ at (R w.n) s → e ≡ way_element y z (way_of (way.Straight w)) b (base ∷ 0 ∷ []) 0 → get_or active 0 false ≡ true
+    → active_ones (cond (way_predicated (way_of x)) (active_at b s) every_byte)
+    (each_from (way_element y z (way_of x) b (map (λ p. at p s) (way_sources (way_of x) b))) 0 (per_word z)) ≡ e ∷ []
+only_word x y z w b base active s e same one act source found on =
+    ap (λ v. active_ones (cond (way_predicated (way_of v)) (active_at b s) every_byte)
+    (each_from (way_element y z (way_of v) b (map (λ p. at p s) (way_sources (way_of v) b))) 0 (per_word z))) same
+    ∙ ap (λ n. active_ones (active_at b s) (each_from (way_element y z (way_of (way.Straight w)) b (at (R w.n) s ∷ [])) 0 n)) one
+    ∙ (λ t. cond (get_or (sym act t) (mul-zero (byte_count z) t) false) (way_element y z (way_of (way.Straight w)) b (sym source t ∷ 0 ∷ []) 0 ∷ []) [] ++ [])
+    ∙ (λ t. cond (on t) (sym found t ∷ []) [] ++ [])
 
 -- one of n more
 pub each_more : {A : Type 0} (f : ℕ → A) (n i m : ℕ) (xs ys zs : List A) → n - i ≡ suc m → ys ≡ xs ++ f i ∷ [] → xs ++ each_from f i (n - i) ≡ zs

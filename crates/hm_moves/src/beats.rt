@@ -5,7 +5,7 @@ ghost use Rattle.std.specs.Prelude.{All, IfSome, IsOk};
 ghost use Rattle.hm_base.specs.Place.{IsPlace};
 ghost use Rattle.hm_base.specs.declared.Place.TheVariants.{P0};
 ghost use Rattle.hm_lane.specs.Predicate.{advance_of, mask_place};
-ghost use Rattle.hm_mem.specs.Memory.{memory_of};
+ghost use Rattle.hm_mem.specs.Memory.{Memory, memory_of};
 ghost use Rattle.hm_mem.specs.Seen.{IsSameElsewhere, marks, seen};
 ghost use Rattle.hm_regs.specs.Place.{value_at};
 ghost use Rattle.hm_regs.specs.Writes.{apply, write};
@@ -21,7 +21,7 @@ ghost use Rattle.hm_moves.specs.Ways.{move_tree, moves_of, way_of, way_words};
 ghost use Rattle.hm_moves.specs.declared.ways.Way.TheVariants as way;
 
 use crate::elements::{Element, Elements, check_all, filled, store_all};
-use crate::found::{find_elements, first_source, is_predicated};
+use crate::found::{find_elements, first_source, is_predicated, only_element};
 use crate::words::{Words, list_interleaved, written_back};
 use crate::{Interleaved, Move, Way};
 use arrayvec::ArrayVec;
@@ -291,8 +291,27 @@ fn move_all(row: &Move, b: u8, es: &[Element], r: &mut Regs, m: &mut Mem)
     finish(r, back, b, mask, slice);
 }
 
-/// Does beat `b`, or stops and changes nothing. `b` is below 4.
-pub fn beat_move(row: &Move, b: u8, r: &mut Regs, m: &mut Mem) -> Result<(), Stop>
+/// Does beat `b`, by the elements that it moves, or stops and changes nothing. `b` is below 4.
+#[inline(always)]
+fn beat_all(row: &Move, b: u8, es: &[Element], r: &mut Regs, m: &mut Mem) -> Result<(), Stop>
+    requires beat { b < 4 }
+    requires fit { Fit row.now.register es.now }
+    requires moved { (x : Memory) (output : List ℕ) → es.now ≡ elements_at (moves_of row.now) b (state_of r.old x output) }
+    ensures done { (output : List ℕ) → let x = memory_of m.old in
+        AnswersBeat (run (move_tree row.now x.around b) r.old x output) result r.old x r.new (memory_of m.new) output }
+    ensures kept { IsSameElsewhere (memory_of m.old) (memory_of m.new) }
+    ensures context { r.new.fpca ≡ r.old.fpca }
+{
+    if let Err(stop) = check_all(es, row.memory, row.store, m) {
+        return Err(stop);
+    }
+    move_all(row, b, es, r, m);
+    Ok(())
+}
+
+/// Does beat `b` of any row, or stops and changes nothing. `b` is below 4.
+#[inline(never)]
+fn beat_listed(row: &Move, b: u8, r: &mut Regs, m: &mut Mem) -> Result<(), Stop>
     requires { b < 4 }
     ensures done { (output : List ℕ) → let x = memory_of m.old in
         AnswersBeat (run (move_tree row.now x.around b) r.old x output) result r.old x r.new (memory_of m.new) output }
@@ -301,7 +320,19 @@ pub fn beat_move(row: &Move, b: u8, r: &mut Regs, m: &mut Mem) -> Result<(), Sto
 {
     let mut es = Elements::new();
     find_elements(&mut es, row, b, r);
-    check_all(es.as_slice(), row.memory, row.store, m)?;
-    move_all(row, b, es.as_slice(), r, m);
-    Ok(())
+    beat_all(row, b, es.as_slice(), r, m)
+}
+
+/// Does beat `b`, or stops and changes nothing. `b` is below 4.
+pub fn beat_move(row: &Move, b: u8, r: &mut Regs, m: &mut Mem) -> Result<(), Stop>
+    requires { b < 4 }
+    ensures done { (output : List ℕ) → let x = memory_of m.old in
+        AnswersBeat (run (move_tree row.now x.around b) r.old x output) result r.old x r.new (memory_of m.new) output }
+    ensures kept { IsSameElsewhere (memory_of m.old) (memory_of m.new) }
+    ensures context { r.new.fpca ≡ r.old.fpca }
+{
+    match only_element(row, b, r) {
+        Some(e) => beat_all(row, b, &[e], r, m),
+        None => beat_listed(row, b, r, m),
+    }
 }

@@ -224,6 +224,33 @@ fn active_bytes(row: &Move, b: u8, r: &Regs) -> [bool; 4]
     }
 }
 
+/// The one element of a word that is an element, where it is active.
+fn word_element(row: &Move, w: &Straight, b: u8, r: &Regs) -> Option<Element>
+    requires beat { b < 4 }
+    requires way { row.now.way ≡ way.Straight w.now }
+    requires word { per_word row.now.register ≡ 1 }
+    ensures value { (m : Memory) (output : List ℕ) → IfSome result (λ e. elements_at (moves_of row.now) b (state_of r.now m output) ≡ e ∷ []) }
+    ensures fit { IfSome result (λ e. e.lane + byte_count row.now.register ≤ 4) }
+{
+    if active(r, b)[0] {
+        Some(straight_element(w, row.memory, row.register, b, read(r, Place::R(w.n)), 0))
+    } else {
+        None
+    }
+}
+
+/// The element of beat `b`, where it is known to move one alone: a word of those that stand one behind another. `b` is below 4.
+pub fn only_element(row: &Move, b: u8, r: &Regs) -> Option<Element>
+    requires beat { b < 4 }
+    ensures value { (m : Memory) (output : List ℕ) → IfSome result (λ e. elements_at (moves_of row.now) b (state_of r.now m output) ≡ e ∷ []) }
+    ensures fit { IfSome result (λ e. e.lane + byte_count row.now.register ≤ 4) }
+{
+    match (&row.way, row.register) {
+        (Way::Straight(w), Size::Word) => word_element(row, w, b, r),
+        _ => None,
+    }
+}
+
 /// Puts an element behind others, where it is active.
 fn push_active(es: &mut Elements, e: Element, active: bool)
     requires room { length es.old.items < 4 }
