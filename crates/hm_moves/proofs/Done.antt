@@ -1,9 +1,7 @@
 -- What the code of a row that loads or stores does is what its tree does.
 use Rattle.std.proofs.Common.{◌≡◌, ℕ, ◌+◌, ◌-◌, ◌*◌, ◌%◌, ◌<◌, Bool, true, false, not, cond, ◌&&◌, ltb, eqb, List, [], ◌∷◌, ◌++◌, map, Option, None, Ok, drop}
-use Rattle.std.proofs.Common.{length, get_or, refl, sym, ◌∙◌, ap, subst, append_assoc}
-use Rattle.std.specs.Prelude.{All}
+use Rattle.std.proofs.Common.{length, get_or, refl, sym, ◌∙◌, ap, append_assoc}
 use Rattle.std.proofs.lemmas.List.{map-append}
-use Rattle.hm_base.specs.Place.{IsPlace}
 use Rattle.hm_base.specs.declared.Place.TheVariants.{P0, R}
 use Rattle.hm_base.specs.declared.Place.{Place}
 use Rattle.hm_mem.specs.Memory.{Memory}
@@ -11,7 +9,6 @@ use Rattle.hm_mem.specs.Seen.{Seen, marks, seen}
 use Rattle.hm_regs.specs.declared.Regs.{Regs}
 use Rattle.hm_regs.specs.Place.{Counted, value_at}
 use Rattle.hm_regs.specs.Writes.{Write, apply, write}
-use Rattle.hm_lane.specs.declared.lanes.Size.{Size}
 use Rattle.hm_lane.specs.Predicate.{advance_of, advance_writes, mask_of, mask_place}
 use Rattle.hm_state.specs.Store.{put_all}
 use Rattle.hm_state.specs.State.{AreCells, Cell, State, Value, cells, into, state_of}
@@ -24,10 +21,8 @@ use Rattle.hm_kinds.specs.declared.rows.Written.{Written}
 use Rattle.hm_kinds.specs.Coded.{puts}
 use Rattle.hm_kinds.proofs.Coded.{apply-append, cells-append}
 use Rattle.hm_moves.specs.declared.elements.Element.{Element}
-use Rattle.hm_moves.specs.Moves.{Moves, all_bytes_from, back_at, elements_at, loaded_at, moves_tree, sources_at, stored_at, byte_count}
-use Rattle.hm_moves.specs.Coded.{filled_in, first_stop, old_word, puts_of, word_puts}
-use Rattle.hm_moves.specs.Ways.{way_of, way_words}
-use Rattle.hm_moves.specs.declared.ways.Way.{Way}
+use Rattle.hm_moves.specs.Moves.{Moves, back_at, elements_at, loaded_at, moves_tree, sources_at, stored_at, byte_count}
+use Rattle.hm_moves.specs.Coded.{filled_in, first_stop, puts_of, word_puts}
 use Rattle.hm_moves.proofs.Checked.{run_checked}
 use Rattle.hm_moves.proofs.Loops.{drop_at}
 use Rattle.hm_moves.proofs.Trees.{ends_at, leaf_at, others_of, written_leaf}
@@ -66,20 +61,6 @@ words_more i es list j v old s ws vs t low e h k =
     ∙ append_assoc (puts_of ws) (write (get_or list j (R 0)) v ∷ []) rest
     ∙ ap (λ n. puts_of ws ++ write (get_or list j (R 0)) n ∷ rest) h
     ∙ sym (ap (λ ps. puts_of ws ++ word_puts i j es ps old s) (drop_at (R 0) list j low)) ∙ k
-
--- what is said of the words of a way is said of those of the same way
-pub loads_by_way : (i : Moves) (z : Size) (b : ℕ) (es : List Element) {q : Regs} (r : Regs) (s : Seen) (w v : Way) → w ≡ v
-    → q ≡ apply (word_puts i 0 es (way_words z (way_of v) b) (old_word i r) s) r → q ≡ apply (word_puts i 0 es (way_words z (way_of w) b) (old_word i r) s) r
-loads_by_way i z b es r s w v same h = h ∙ ap (λ (x : Way). apply (word_puts i 0 es (way_words z (way_of x) b) (old_word i r) s) r) (sym same)
-
-pub stores_by_way : (z : Size) (b : ℕ) (es : List Element) (r : Regs) (t : Bool) (y : Size) {u : State} (s : State) (w v : Way) → w ≡ v
-    → u ≡ put_all cells (all_bytes_from t y es (map (λ p. value_at p r) (way_words z (way_of v) b))) s
-    → u ≡ put_all cells (all_bytes_from t y es (map (λ p. value_at p r) (way_words z (way_of w) b))) s
-stores_by_way z b es r t y s w v same h =
-    h ∙ ap (λ (x : Way). put_all cells (all_bytes_from t y es (map (λ p. value_at p r) (way_words z (way_of x) b))) s) (sym same)
-
-pub placed_by_way : (z : Size) (b : ℕ) (w v : Way) → w ≡ v → All IsPlace (way_words z (way_of v) b) → All IsPlace (way_words z (way_of w) b)
-placed_by_way z b w v same h = subst (λ (x : Way). All IsPlace (way_words z (way_of x) b)) (sym same) h
 
 -- a row that stores fills no word
 pub none_filled : (y : Bool) (ws : List Write) (r : Regs) → y ≡ true → r ≡ apply (cond y [] ws) r

@@ -1,5 +1,5 @@
 -- What the code of a row that loads or stores says of itself.
-use Rattle.std.specs.Prelude.{ℕ, ◌+◌, ◌%◌, ◌^◌, ◌≤◌, Bool, true, false, cond, ltb, List, [], ◌∷◌, Option, None, All}
+use Rattle.std.specs.Prelude.{ℕ, ◌≡◌, ◌+◌, ◌%◌, ◌^◌, ◌≤◌, ◌<◌, Bool, true, false, cond, ltb, List, [], ◌∷◌, Option, None, All, IfSome}
 use Rattle.hm_base.specs.declared.Place.{Place}
 use Rattle.hm_base.specs.declared.Stop.{Stop}
 use Rattle.hm_base.specs.declared.Place.TheVariants.{P0}
@@ -13,10 +13,11 @@ use Rattle.hm_mem.specs.Seen.{Seen, or_else, read, stop_of}
 use Rattle.hm_state.specs.State.{State}
 use Rattle.hm_lane.specs.Predicate.{mask_of, mask_place}
 use Rattle.hm_beat.specs.Touches.{looked_places}
-use Rattle.hm_beat.specs.Rows.{active_at}
+use Rattle.hm_beat.specs.Rows.{active_at, word_place}
 use Rattle.hm_kinds.specs.declared.rows.Written.{Written}
 use Rattle.hm_moves.specs.declared.elements.Element.{Element}
 use Rattle.hm_moves.specs.Moves.{Moves, every_byte, laid, byte_count}
+use Rattle.hm_moves.specs.Ways.{Found, way_predicated, way_words}
 
 -- the stop of the first element that has one
 abbrev pub first_stop : Around → Bool → ℕ → List Element → Seen → Option Stop
@@ -53,6 +54,10 @@ loads_of i b es r s = cond i.store [] (word_puts i 0 es (i.words b) (old_word i 
 abbrev pub begun_in : Bool → ℕ → Regs → List Place
 begun_in true b r = looked_places false b r
 begun_in false b r = mask_place b ∷ cond (ltb 8 (mask_of b r)) (P0 b ∷ []) []
+
+-- where a register is named, each beat of a way fills or stores a word of it and no other, under the predicate
+abbrev pub IsSingle : Found → Option ℕ → Type 0
+IsSingle w o = IfSome o λ q. (q < 8) × (way_predicated w ≡ true) × ((z : Size) (b : ℕ) → way_words z w b ≡ word_place q b ∷ [])
 
 -- what the code says is written, as writes in the same order
 abbrev pub puts_of : List Written → List Write

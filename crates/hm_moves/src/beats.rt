@@ -15,15 +15,14 @@ ghost use Rattle.hm_beat.specs.Laws.{AnswersBeat, Checks, run};
 ghost use Rattle.hm_beat.specs.Rows.{word_place};
 ghost use Rattle.hm_kinds.specs.Coded.{puts};
 ghost use Rattle.hm_kinds.specs.Row.{is_body};
-ghost use Rattle.hm_moves.specs.Coded.{Fit, first_stop, loads_of, old_word, puts_of, word_puts};
+ghost use Rattle.hm_moves.specs.Coded.{Fit, IsSingle, first_stop, loads_of, old_word, puts_of, word_puts};
 ghost use Rattle.hm_moves.specs.Moves.{all_bytes_from, elements_at, loaded_at, stored_at, byte_count};
-ghost use Rattle.hm_moves.specs.Ways.{move_tree, moves_of, way_of, way_words};
-ghost use Rattle.hm_moves.specs.declared.ways.Way.TheVariants as way;
+ghost use Rattle.hm_moves.specs.Ways.{move_tree, moves_of, way_of, way_predicated, way_words};
 
+use crate::Move;
 use crate::elements::{Element, Elements, check_all, filled, store_all};
 use crate::found::{find_elements, first_source, is_predicated, only_element};
-use crate::words::{Words, list_interleaved, written_back};
-use crate::{Interleaved, Move, Way};
+use crate::words::{Words, list_words, single, written_back};
 use arrayvec::ArrayVec;
 use hm_base::{Place, Stop};
 use hm_kinds::Written;
@@ -92,9 +91,11 @@ fn put_each(r: &mut Regs, ws: &[Written])
     }
 }
 
-/// Loads the elements of a word of register `q`, none of which stops. `b` is below 4.
+/// Fills word `b` of register `q` with the elements that are loaded, none of which stops, and its other bytes with zeros. `b` is below 4.
+#[inline(always)]
 fn load_word(row: &Move, q: u8, b: u8, es: &[Element], r: &mut Regs, m: &Mem)
     requires register { q < 8 }
+    requires predicated { way_predicated (way_of row.now.way) ≡ true }
     requires beat { b < 4 }
     requires fit { Fit row.now.register es.now }
     requires free { let m = memory_of m.now in first_stop m.around false (byte_count row.now.memory) es.now (seen m) ≡ None }
@@ -104,29 +105,13 @@ fn load_word(row: &Move, q: u8, b: u8, es: &[Element], r: &mut Regs, m: &Mem)
     ensures context { r.new.fpca ≡ r.old.fpca }
 {
     let place = Place::QWord(4 * q + b);
-    let value = filled(row, 0, es, old_word(row, place, r), m);
+    let value = filled(row, 0, es, 0, m);
     r.set(place, value);
 }
 
-/// Loads the elements of the words of several registers, none of which stops. `b` is below 4.
-fn load_words(row: &Move, w: &Interleaved, b: u8, es: &[Element], r: &mut Regs, m: &Mem)
-    requires beat { b < 4 }
-    requires fit { Fit row.now.register es.now }
-    requires free { let m = memory_of m.now in first_stop m.around false (byte_count row.now.memory) es.now (seen m) ≡ None }
-    ensures value { let s = seen (memory_of m.now) in let ps = way_words row.now.register (way_of (way.Interleaved w.now)) b in
-        r.new ≡ apply (word_puts (moves_of row.now) 0 es.now ps (old_word (moves_of row.now) r.old) s) r.old }
-    ensures placed { All IsPlace (way_words row.now.register (way_of (way.Interleaved w.now)) b) }
-    ensures context { r.new.fpca ≡ r.old.fpca }
-{
-    let mut list = Words::new();
-    list_interleaved(&mut list, w, row.register, b);
-    let mut ws = Writes::new();
-    fill_words(&mut ws, row, list.as_slice(), es, r, m);
-    put_each(r, ws.as_slice());
-}
-
-/// Loads the elements that beat `b` moves, none of which stops. `b` is below 4.
-fn load(row: &Move, b: u8, es: &[Element], r: &mut Regs, m: &Mem)
+/// Fills the words of beat `b` with the elements that are loaded, none of which stops. `b` is below 4.
+#[inline(never)]
+fn load_words(row: &Move, b: u8, es: &[Element], r: &mut Regs, m: &Mem)
     requires beat { b < 4 }
     requires fit { Fit row.now.register es.now }
     requires free { let m = memory_of m.now in first_stop m.around false (byte_count row.now.memory) es.now (seen m) ≡ None }
@@ -135,15 +120,33 @@ fn load(row: &Move, b: u8, es: &[Element], r: &mut Regs, m: &Mem)
     ensures placed { All IsPlace (way_words row.now.register (way_of row.now.way) b) }
     ensures context { r.new.fpca ≡ r.old.fpca }
 {
-    match &row.way {
-        Way::Straight(w) => load_word(row, w.d, b, es, r, m),
-        Way::Offsets(w) => load_word(row, w.d, b, es, r, m),
-        Way::Addresses(w) => load_word(row, w.d, b, es, r, m),
-        Way::Interleaved(w) => load_words(row, w, b, es, r, m),
+    let mut list = Words::new();
+    list_words(&mut list, &row.way, row.register, b);
+    let mut ws = Writes::new();
+    fill_words(&mut ws, row, list.as_slice(), es, r, m);
+    put_each(r, ws.as_slice());
+}
+
+/// Loads the elements that beat `b` moves, none of which stops. `one` is what `single` says of the way, and `b` below 4.
+#[inline(always)]
+fn load(row: &Move, one: Option<u8>, b: u8, es: &[Element], r: &mut Regs, m: &Mem)
+    requires register { IsSingle (way_of row.now.way) one }
+    requires beat { b < 4 }
+    requires fit { Fit row.now.register es.now }
+    requires free { let m = memory_of m.now in first_stop m.around false (byte_count row.now.memory) es.now (seen m) ≡ None }
+    ensures value { let s = seen (memory_of m.now) in let ps = way_words row.now.register (way_of row.now.way) b in
+        r.new ≡ apply (word_puts (moves_of row.now) 0 es.now ps (old_word (moves_of row.now) r.old) s) r.old }
+    ensures placed { All IsPlace (way_words row.now.register (way_of row.now.way) b) }
+    ensures context { r.new.fpca ≡ r.old.fpca }
+{
+    match one {
+        Some(q) => load_word(row, q, b, es, r, m),
+        None => load_words(row, b, es, r, m),
     }
 }
 
-/// Stores the elements of a word of register `q`, none of which stops. `b` is below 4.
+/// Stores the elements from word `b` of register `q`, none of which stops. `b` is below 4.
+#[inline(always)]
 fn store_word(row: &Move, q: u8, b: u8, es: &[Element], r: &Regs, m: &mut Mem)
     requires register { q < 8 }
     requires beat { b < 4 }
@@ -159,27 +162,9 @@ fn store_word(row: &Move, q: u8, b: u8, es: &[Element], r: &Regs, m: &mut Mem)
     store_all(row, es, &word, m)
 }
 
-/// Stores the elements of the words of several registers, none of which stops. `b` is below 4.
-fn store_words(row: &Move, w: &Interleaved, b: u8, es: &[Element], r: &Regs, m: &mut Mem)
-    requires beat { b < 4 }
-    requires fit { Fit row.now.register es.now }
-    requires free { let m = memory_of m.old in first_stop m.around true (byte_count row.now.memory) es.now (seen m) ≡ None }
-    ensures state { (output : List ℕ) → let x = memory_of m.old in
-        let xs = map (λ p. value_at p r.now) (way_words row.now.register (way_of (way.Interleaved w.now)) b) in
-        state_of r.now (memory_of m.new) output
-        ≡ put_all cells (all_bytes_from (marks x.around.actor) row.now.memory es.now xs) (state_of r.now x output) }
-    ensures placed { All IsPlace (way_words row.now.register (way_of (way.Interleaved w.now)) b) }
-    ensures kept { IsSameElsewhere (memory_of m.old) (memory_of m.new) }
-{
-    let mut list = Words::new();
-    list_interleaved(&mut list, w, row.register, b);
-    let mut xs = ArrayVec::new();
-    read_values(&mut xs, list.as_slice(), r);
-    store_all(row, es, xs.as_slice(), m)
-}
-
-/// Stores the elements that beat `b` moves, none of which stops. `b` is below 4.
-fn store(row: &Move, b: u8, es: &[Element], r: &Regs, m: &mut Mem)
+/// Stores the elements from the words of beat `b`, none of which stops. `b` is below 4.
+#[inline(never)]
+fn store_words(row: &Move, b: u8, es: &[Element], r: &Regs, m: &mut Mem)
     requires beat { b < 4 }
     requires fit { Fit row.now.register es.now }
     requires free { let m = memory_of m.old in first_stop m.around true (byte_count row.now.memory) es.now (seen m) ≡ None }
@@ -190,16 +175,37 @@ fn store(row: &Move, b: u8, es: &[Element], r: &Regs, m: &mut Mem)
     ensures placed { All IsPlace (way_words row.now.register (way_of row.now.way) b) }
     ensures kept { IsSameElsewhere (memory_of m.old) (memory_of m.new) }
 {
-    match &row.way {
-        Way::Straight(w) => store_word(row, w.d, b, es, r, m),
-        Way::Offsets(w) => store_word(row, w.d, b, es, r, m),
-        Way::Addresses(w) => store_word(row, w.d, b, es, r, m),
-        Way::Interleaved(w) => store_words(row, w, b, es, r, m),
+    let mut list = Words::new();
+    list_words(&mut list, &row.way, row.register, b);
+    let mut xs = ArrayVec::new();
+    read_values(&mut xs, list.as_slice(), r);
+    store_all(row, es, xs.as_slice(), m)
+}
+
+/// Stores the elements that beat `b` moves, none of which stops. `one` is what `single` says of the way, and `b` below 4.
+#[inline(always)]
+fn store(row: &Move, one: Option<u8>, b: u8, es: &[Element], r: &Regs, m: &mut Mem)
+    requires register { IsSingle (way_of row.now.way) one }
+    requires beat { b < 4 }
+    requires fit { Fit row.now.register es.now }
+    requires free { let m = memory_of m.old in first_stop m.around true (byte_count row.now.memory) es.now (seen m) ≡ None }
+    ensures state { (output : List ℕ) → let x = memory_of m.old in
+        let xs = map (λ p. value_at p r.now) (way_words row.now.register (way_of row.now.way) b) in
+        state_of r.now (memory_of m.new) output
+        ≡ put_all cells (all_bytes_from (marks x.around.actor) row.now.memory es.now xs) (state_of r.now x output) }
+    ensures placed { All IsPlace (way_words row.now.register (way_of row.now.way) b) }
+    ensures kept { IsSameElsewhere (memory_of m.old) (memory_of m.new) }
+{
+    match one {
+        Some(q) => store_word(row, q, b, es, r, m),
+        None => store_words(row, b, es, r, m),
     }
 }
 
-/// Loads or stores the elements that beat `b` moves, none of which stops. `b` is below 4.
-fn transfer(row: &Move, b: u8, es: &[Element], r: &mut Regs, m: &mut Mem)
+/// Loads or stores the elements that beat `b` moves, none of which stops. `one` is what `single` says of the way, and `b` below 4.
+#[inline(always)]
+fn transfer(row: &Move, one: Option<u8>, b: u8, es: &[Element], r: &mut Regs, m: &mut Mem)
+    requires register { IsSingle (way_of row.now.way) one }
     requires beat { b < 4 }
     requires fit { Fit row.now.register es.now }
     requires free { let m = memory_of m.old in first_stop m.around row.now.store (byte_count row.now.memory) es.now (seen m) ≡ None }
@@ -215,9 +221,9 @@ fn transfer(row: &Move, b: u8, es: &[Element], r: &mut Regs, m: &mut Mem)
     ensures context { r.new.fpca ≡ r.old.fpca }
 {
     if row.store {
-        store(row, b, es, r, m)
+        store(row, one, b, es, r, m)
     } else {
-        load(row, b, es, r, m)
+        load(row, one, b, es, r, m)
     }
 }
 
@@ -259,6 +265,7 @@ fn put_mask(r: &mut Regs, b: u8, mask: u32)
 }
 
 /// Writes what is written back, and advances the masks from what stood in the mask and the slice of beat `b`, which is below 4.
+#[inline(always)]
 fn finish(r: &mut Regs, back: Option<Written>, b: u8, mask: u32, slice: u32)
     requires back { IfSome back (λ w. IsPlace w.place) }
     requires beat { b < 4 }
@@ -272,25 +279,6 @@ fn finish(r: &mut Regs, back: Option<Written>, b: u8, mask: u32, slice: u32)
     put_mask(r, b, mask);
 }
 
-/// Does beat `b`, by the elements that it moves, none of which stops. `b` is below 4.
-fn move_all(row: &Move, b: u8, es: &[Element], r: &mut Regs, m: &mut Mem)
-    requires beat { b < 4 }
-    requires fit { Fit row.now.register es.now }
-    requires free { let m = memory_of m.old in first_stop m.around row.now.store (byte_count row.now.memory) es.now (seen m) ≡ None }
-    ensures done { (output : List ℕ) → let x = memory_of m.old in
-        es.now ≡ elements_at (moves_of row.now) b (state_of r.old x output)
-        → run (move_tree row.now x.around b) r.old x output ≡ Ok (state_of r.new (memory_of m.new) output) }
-    ensures kept { IsSameElsewhere (memory_of m.old) (memory_of m.new) }
-    ensures context { r.new.fpca ≡ r.old.fpca }
-{
-    r.in_range();
-    let back = written_back(&row.way, b, first_source(&row.way, b, r));
-    let mask = r.get(mask_at(b));
-    let slice = r.get(Place::P0(b));
-    transfer(row, b, es, r, m);
-    finish(r, back, b, mask, slice);
-}
-
 /// Does beat `b`, by the elements that it moves, or stops and changes nothing. `b` is below 4.
 #[inline(always)]
 fn beat_all(row: &Move, b: u8, es: &[Element], r: &mut Regs, m: &mut Mem) -> Result<(), Stop>
@@ -302,10 +290,17 @@ fn beat_all(row: &Move, b: u8, es: &[Element], r: &mut Regs, m: &mut Mem) -> Res
     ensures kept { IsSameElsewhere (memory_of m.old) (memory_of m.new) }
     ensures context { r.new.fpca ≡ r.old.fpca }
 {
+    r.in_range();
+    // What the row says is read before memory is looked at: a compiler takes it for changed then.
+    let one = single(&row.way);
+    let back = written_back(&row.way, b, first_source(&row.way, b, r));
+    let mask = r.get(mask_at(b));
+    let slice = r.get(Place::P0(b));
     if let Err(stop) = check_all(es, row.memory, row.store, m) {
         return Err(stop);
     }
-    move_all(row, b, es, r, m);
+    transfer(row, one, b, es, r, m);
+    finish(r, back, b, mask, slice);
     Ok(())
 }
 

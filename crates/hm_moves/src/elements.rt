@@ -30,7 +30,7 @@ pub struct Element {
     pub lane: u8,
 }
 
-/// The elements of a beat, at most four.
+/// The elements of a beat, at most four. A list is filled in place: one that is handed on by value is copied each time.
 pub type Elements = ArrayVec<Element, 4>;
 
 /// How many bytes an element has.
@@ -61,6 +61,7 @@ pub fn spans(es: &[Element], z: Size) -> Spans
 }
 
 /// The stop of the first element that has one.
+#[inline(always)]
 pub fn check_all(es: &[Element], z: Size, store: bool, m: &Mem) -> Result<(), Stop>
     ensures value { let m = memory_of m.now in stop_in result ≡ first_stop m.around store (byte_count z) es.now (seen m) }
 {
@@ -136,6 +137,7 @@ fn laid(row: &Move, j: usize, e: &Element, x: u32, w: u32) -> u32
 }
 
 /// Word `j` with the elements that are loaded, none of which stops.
+#[inline(always)]
 pub fn filled(row: &Move, j: usize, es: &[Element], old: u32, m: &Mem) -> u32
     requires fit { Fit row.now.register es.now }
     requires free { let m = memory_of m.now in first_stop m.around false (byte_count row.now.memory) es.now (seen m) ≡ None }
@@ -161,6 +163,7 @@ fn number_at(xs: &[u32], k: u8) -> u32
 }
 
 /// Stores elements of words, none of which stops.
+#[inline(always)]
 pub fn store_all(row: &Move, es: &[Element], words: &[u32], m: &mut Mem)
     requires fit { Fit row.now.register es.now }
     requires free { let m = memory_of m.old in first_stop m.around true (byte_count row.now.memory) es.now (seen m) ≡ None }

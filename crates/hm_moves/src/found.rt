@@ -225,6 +225,7 @@ fn active_bytes(row: &Move, b: u8, r: &Regs) -> [bool; 4]
 }
 
 /// The one element of a word that is an element, where it is active.
+#[inline(always)]
 fn word_element(row: &Move, w: &Straight, b: u8, r: &Regs) -> Option<Element>
     requires beat { b < 4 }
     requires way { row.now.way ≡ way.Straight w.now }
@@ -240,6 +241,7 @@ fn word_element(row: &Move, w: &Straight, b: u8, r: &Regs) -> Option<Element>
 }
 
 /// The element of beat `b`, where it is known to move one alone: a word of those that stand one behind another. `b` is below 4.
+#[inline(always)]
 pub fn only_element(row: &Move, b: u8, r: &Regs) -> Option<Element>
     requires beat { b < 4 }
     ensures value { (m : Memory) (output : List ℕ) → IfSome result (λ e. elements_at (moves_of row.now) b (state_of r.now m output) ≡ e ∷ []) }

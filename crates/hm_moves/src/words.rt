@@ -7,6 +7,7 @@ ghost use Rattle.hm_regs.specs.Writes.{write};
 ghost use Rattle.hm_beat.specs.Rows.{word_place};
 ghost use Rattle.hm_kinds.specs.Coded.{puts};
 ghost use Rattle.hm_kinds.specs.Row.{is_body};
+ghost use Rattle.hm_moves.specs.Coded.{IsSingle};
 ghost use Rattle.hm_moves.specs.Moves.{byte_count};
 ghost use Rattle.hm_lane.specs.Lanes.{per_word};
 ghost use Rattle.hm_moves.specs.Ways.{each_from, registers, stream, way_back, way_of, way_words};
@@ -18,7 +19,7 @@ use hm_base::Place;
 use hm_kinds::Written;
 use hm_lane::{Size, per_word};
 
-/// At most four words.
+/// At most four words. A list is filled in place: one that is handed on by value is copied each time.
 pub type Words = ArrayVec<Place, 4>;
 
 /// Which element of its register element `k` of the stream is.
@@ -71,7 +72,7 @@ fn least(x: u32, y: u32) -> u32
 }
 
 /// Lists the words of interleaved elements. `b` is below 4, and `list` is empty before.
-pub fn list_interleaved(list: &mut Words, w: &Interleaved, z: Size, b: u8)
+fn list_interleaved(list: &mut Words, w: &Interleaved, z: Size, b: u8)
     requires beat { b < 4 }
     requires empty { list.old.items ≡ [] }
     ensures value { list.new.items ≡ each_from
@@ -96,6 +97,19 @@ fn list_word(list: &mut Words, q: u8, b: u8)
     ensures few { length list.new.items ≤ 4 }
 {
     list.push(Place::QWord(4 * q + b));
+}
+
+/// The register of which a beat fills or stores a word, where it is of one alone.
+#[inline(always)]
+pub fn single(way: &Way) -> Option<u8>
+    ensures { IsSingle (way_of way.now) result }
+{
+    match way {
+        Way::Straight(w) => Some(w.d),
+        Way::Offsets(w) => Some(w.d),
+        Way::Addresses(w) => Some(w.d),
+        Way::Interleaved(_) => None,
+    }
 }
 
 /// Lists the words that beat `b` fills or stores from. `b` is below 4, and `list` is empty before.

@@ -1,11 +1,19 @@
-use Rattle.std.proofs.Common.{Result, Ok, refl, sym, subst}
+use Rattle.std.proofs.Common.{◌≡◌, Result, Ok, refl, sym, ap, subst, ◌∙◌}
 use Rattle.hm_base.specs.declared.Stop.{Stop}
 use Rattle.hm_mem.specs.Memory.{memory_of}
-use Rattle.hm_state.specs.State.{State}
-use Rattle.hm_beat.specs.Laws.{AnswersBeat}
+use Rattle.hm_mem.specs.Seen.{seen}
+use Rattle.hm_regs.specs.Place.{value_at}
+use Rattle.hm_state.specs.State.{State, state_of}
+use Rattle.hm_beat.specs.Laws.{AnswersBeat, run}
 use Rattle.hm_beat.proofs.Footprint.{beats_stopped}
-use Rattle.hm_moves.specs.Ways.{move_tree, moves_of}
+use Rattle.hm_kinds.proofs.Coded.{put_cells}
+use Rattle.hm_kinds.specs.Coded.{puts}
+use Rattle.hm_moves.specs.Coded.{loads_of}
+use Rattle.hm_moves.specs.Moves.{sources_at}
+use Rattle.hm_moves.specs.Ways.{move_tree, moves_of, way_of}
 use Rattle.hm_moves.proofs.Checked.{run_stopped}
+use Rattle.hm_moves.proofs.Done.{beat_done, finished}
+use Rattle.hm_moves.proofs.Widths.{back_by}
 use Rattle.hm_moves.proofs.beats.beat_all.Goals as goal
 
 pub returns-in-Err-clause-done : goal.returns-in-Err-clause-done
@@ -17,7 +25,22 @@ returns-in-Err-clause-done c = λ output.
 
 pub returns-clause-done : goal.returns-clause-done
 returns-clause-done c = λ output.
+    let i = moves_of c.args.row.now in
+    let b = c.args.b in
     let m = memory_of c.args.m.now in
     let r = c.args.r.now in
-    subst (λ (x : Result State Stop). AnswersBeat x (Ok tt) r m c.move_all.new.r (memory_of c.move_all.new.m) output)
-    (sym (c.move_all.ensures.done output (c.requires.moved m output))) (refl, refl)
+    let es = c.args.es.now in
+    let same = c.requires.moved m output in
+    let back = c.written_back-back.result in
+    let ws = loads_of i b es r (seen m) in
+    let done : run (move_tree c.args.row.now m.around b) r m output ≡ Ok (state_of c.finish.new.r (memory_of c.transfer.new.m) output) =
+    beat_done i b r c.finish.new.r m (memory_of c.transfer.new.m) output es ws (puts back)
+    c.requires.beat c.in_range.ensures.counted same (sym c.in_default.ensures.value) c.transfer.ensures.cells
+    (put_cells back c.written_back-back.ensures.placed c.written_back-back.ensures.body)
+    (c.transfer.ensures.loaded output same)
+    (c.written_back-back.ensures.value ∙ back_by (way_of c.args.row.now.way) b _ (sources_at i b (state_of r m output)) (c.first_source.ensures m output))
+    (c.transfer.ensures.stored output same)
+    (finished b r _ _ ws (puts back) c.get-mask.result c.get-slice.result
+    (c.get-mask.ensures.value ∙ ap (λ p. value_at p r) c.mask_at.ensures.place) c.get-slice.ensures.value
+    c.transfer.ensures.loads c.finish.ensures.value) in
+    subst (λ (x : Result State Stop). AnswersBeat x (Ok tt) r m c.finish.new.r (memory_of c.transfer.new.m) output) (sym done) (refl, refl)

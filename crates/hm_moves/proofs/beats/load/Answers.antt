@@ -1,33 +1,20 @@
+use Rattle.std.proofs.Common.{ap, subst, sym, ◌∙◌}
+use Rattle.std.specs.Prelude.{All}
+use Rattle.hm_base.specs.Place.{IsPlace}
 use Rattle.hm_mem.specs.Memory.{memory_of}
 use Rattle.hm_mem.specs.Seen.{seen}
-use Rattle.hm_moves.specs.Ways.{moves_of}
-use Rattle.hm_moves.proofs.Done.{loads_by_way, placed_by_way}
+use Rattle.hm_regs.specs.Writes.{apply}
+use Rattle.hm_moves.specs.Coded.{IsSingle, old_word, word_puts}
+use Rattle.hm_moves.specs.Ways.{moves_of, way_of}
 use Rattle.hm_moves.proofs.beats.load.Goals as goal
 
-pub returns-in-Straight-clause-value : goal.returns-in-Straight-clause-value
-returns-in-Straight-clause-value c = loads_by_way (moves_of c.args.row.now) c.args.row.now.register c.args.b c.args.es.now c.args.r.now
-    (seen (memory_of c.args.m.now)) _ _ c.in-Straight.is c.load_word.ensures.value
+pub returns-in-Some-clause-value : goal.returns-in-Some-clause-value
+returns-in-Some-clause-value c =
+    let i = moves_of c.args.row.now in
+    let r = c.args.r.now in
+    c.load_word.ensures.value
+    ∙ ap (λ ps. apply (word_puts i 0 c.args.es.now ps (old_word i r) (seen (memory_of c.args.m.now))) r)
+    (sym ((subst (IsSingle (way_of c.args.row.now.way)) c.in-Some.is c.requires.register).2 c.args.row.now.register c.args.b))
 
-pub returns-in-Straight-clause-placed : goal.returns-in-Straight-clause-placed
-returns-in-Straight-clause-placed c = placed_by_way c.args.row.now.register c.args.b _ _ c.in-Straight.is c.load_word.ensures.placed
-
-pub returns-in-Offsets-clause-value : goal.returns-in-Offsets-clause-value
-returns-in-Offsets-clause-value c = loads_by_way (moves_of c.args.row.now) c.args.row.now.register c.args.b c.args.es.now c.args.r.now
-    (seen (memory_of c.args.m.now)) _ _ c.in-Offsets.is c.load_word-in-Offsets.ensures.value
-
-pub returns-in-Offsets-clause-placed : goal.returns-in-Offsets-clause-placed
-returns-in-Offsets-clause-placed c = placed_by_way c.args.row.now.register c.args.b _ _ c.in-Offsets.is c.load_word-in-Offsets.ensures.placed
-
-pub returns-in-Addresses-clause-value : goal.returns-in-Addresses-clause-value
-returns-in-Addresses-clause-value c = loads_by_way (moves_of c.args.row.now) c.args.row.now.register c.args.b c.args.es.now c.args.r.now
-    (seen (memory_of c.args.m.now)) _ _ c.in-Addresses.is c.load_word-in-Addresses.ensures.value
-
-pub returns-in-Addresses-clause-placed : goal.returns-in-Addresses-clause-placed
-returns-in-Addresses-clause-placed c = placed_by_way c.args.row.now.register c.args.b _ _ c.in-Addresses.is c.load_word-in-Addresses.ensures.placed
-
-pub returns-in-Interleaved-clause-value : goal.returns-in-Interleaved-clause-value
-returns-in-Interleaved-clause-value c = loads_by_way (moves_of c.args.row.now) c.args.row.now.register c.args.b c.args.es.now c.args.r.now
-    (seen (memory_of c.args.m.now)) _ _ c.in-Interleaved.is c.load_words.ensures.value
-
-pub returns-in-Interleaved-clause-placed : goal.returns-in-Interleaved-clause-placed
-returns-in-Interleaved-clause-placed c = placed_by_way c.args.row.now.register c.args.b _ _ c.in-Interleaved.is c.load_words.ensures.placed
+pub returns-in-Some-clause-placed : goal.returns-in-Some-clause-placed
+returns-in-Some-clause-placed c = subst (All IsPlace) (sym ((subst (IsSingle (way_of c.args.row.now.way)) c.in-Some.is c.requires.register).2 c.args.row.now.register c.args.b)) c.load_word.ensures.placed

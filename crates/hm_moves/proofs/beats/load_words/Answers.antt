@@ -15,7 +15,7 @@ returns-clause-value c =
     let s = seen (memory_of c.args.m.now) in
     c.put_each.ensures.value ∙ ap (λ ws. apply (puts_of ws) r) c.as_slice-2.ensures.value
     ∙ ap (λ ws. apply ws r) c.fill_words.ensures.value
-    ∙ ap (λ ps. apply (word_puts i 0 c.args.es.now ps (old_word i r) s) r) (c.as_slice.ensures.value ∙ c.list_interleaved.ensures.value)
+    ∙ ap (λ ps. apply (word_puts i 0 c.args.es.now ps (old_word i r) s) r) (c.as_slice.ensures.value ∙ c.list_words.ensures.value)
 
 pub returns-clause-placed : goal.returns-clause-placed
-returns-clause-placed c = subst (All IsPlace) c.list_interleaved.ensures.value c.list_interleaved.ensures.placed
+returns-clause-placed c = subst (All IsPlace) c.list_words.ensures.value c.list_words.ensures.placed

@@ -1,41 +1,23 @@
+use Rattle.std.proofs.Common.{ap, map, subst, sym, ◌∙◌}
+use Rattle.std.specs.Prelude.{All}
+use Rattle.hm_base.specs.Place.{IsPlace}
 use Rattle.hm_mem.specs.Memory.{memory_of}
 use Rattle.hm_mem.specs.Seen.{marks}
-use Rattle.hm_state.specs.State.{state_of}
-use Rattle.hm_moves.proofs.Done.{placed_by_way, stores_by_way}
+use Rattle.hm_regs.specs.Place.{value_at}
+use Rattle.hm_state.specs.State.{cells, state_of}
+use Rattle.hm_state.specs.Store.{put_all}
+use Rattle.hm_moves.specs.Coded.{IsSingle}
+use Rattle.hm_moves.specs.Moves.{all_bytes_from}
+use Rattle.hm_moves.specs.Ways.{way_of}
 use Rattle.hm_moves.proofs.beats.store.Goals as goal
 
-pub returns-in-Straight-clause-state : goal.returns-in-Straight-clause-state
-returns-in-Straight-clause-state c = λ output.
+pub returns-in-Some-clause-state : goal.returns-in-Some-clause-state
+returns-in-Some-clause-state c = λ output.
     let m = memory_of c.args.m.now in
-    stores_by_way c.args.row.now.register c.args.b c.args.es.now c.args.r.now (marks m.around.actor) c.args.row.now.memory
-    (state_of c.args.r.now m output) _ _ c.in-Straight.is (c.store_word.ensures.state output)
+    let r = c.args.r.now in
+    c.store_word.ensures.state output
+    ∙ ap (λ ps. put_all cells (all_bytes_from (marks m.around.actor) c.args.row.now.memory c.args.es.now (map (λ p. value_at p r) ps)) (state_of r m output))
+    (sym ((subst (IsSingle (way_of c.args.row.now.way)) c.in-Some.is c.requires.register).2 c.args.row.now.register c.args.b))
 
-pub returns-in-Straight-clause-placed : goal.returns-in-Straight-clause-placed
-returns-in-Straight-clause-placed c = placed_by_way c.args.row.now.register c.args.b _ _ c.in-Straight.is c.store_word.ensures.placed
-
-pub returns-in-Offsets-clause-state : goal.returns-in-Offsets-clause-state
-returns-in-Offsets-clause-state c = λ output.
-    let m = memory_of c.args.m.now in
-    stores_by_way c.args.row.now.register c.args.b c.args.es.now c.args.r.now (marks m.around.actor) c.args.row.now.memory
-    (state_of c.args.r.now m output) _ _ c.in-Offsets.is (c.store_word-in-Offsets.ensures.state output)
-
-pub returns-in-Offsets-clause-placed : goal.returns-in-Offsets-clause-placed
-returns-in-Offsets-clause-placed c = placed_by_way c.args.row.now.register c.args.b _ _ c.in-Offsets.is c.store_word-in-Offsets.ensures.placed
-
-pub returns-in-Addresses-clause-state : goal.returns-in-Addresses-clause-state
-returns-in-Addresses-clause-state c = λ output.
-    let m = memory_of c.args.m.now in
-    stores_by_way c.args.row.now.register c.args.b c.args.es.now c.args.r.now (marks m.around.actor) c.args.row.now.memory
-    (state_of c.args.r.now m output) _ _ c.in-Addresses.is (c.store_word-in-Addresses.ensures.state output)
-
-pub returns-in-Addresses-clause-placed : goal.returns-in-Addresses-clause-placed
-returns-in-Addresses-clause-placed c = placed_by_way c.args.row.now.register c.args.b _ _ c.in-Addresses.is c.store_word-in-Addresses.ensures.placed
-
-pub returns-in-Interleaved-clause-state : goal.returns-in-Interleaved-clause-state
-returns-in-Interleaved-clause-state c = λ output.
-    let m = memory_of c.args.m.now in
-    stores_by_way c.args.row.now.register c.args.b c.args.es.now c.args.r.now (marks m.around.actor) c.args.row.now.memory
-    (state_of c.args.r.now m output) _ _ c.in-Interleaved.is (c.store_words.ensures.state output)
-
-pub returns-in-Interleaved-clause-placed : goal.returns-in-Interleaved-clause-placed
-returns-in-Interleaved-clause-placed c = placed_by_way c.args.row.now.register c.args.b _ _ c.in-Interleaved.is c.store_words.ensures.placed
+pub returns-in-Some-clause-placed : goal.returns-in-Some-clause-placed
+returns-in-Some-clause-placed c = subst (All IsPlace) (sym ((subst (IsSingle (way_of c.args.row.now.way)) c.in-Some.is c.requires.register).2 c.args.row.now.register c.args.b)) c.store_word.ensures.placed

@@ -16,7 +16,7 @@ returns-clause-state c = λ output.
     c.store_all.ensures.state r output
     ∙ ap (λ xs. put_all cells (all_bytes_from (marks m.around.actor) c.args.row.now.memory c.args.es.now xs) (state_of r m output))
     (c.as_slice-2.ensures.value ∙ c.read_values.ensures.value
-    ∙ ap (map (λ p. value_at p r)) (c.as_slice.ensures.value ∙ c.list_interleaved.ensures.value))
+    ∙ ap (map (λ p. value_at p r)) (c.as_slice.ensures.value ∙ c.list_words.ensures.value))
 
 pub returns-clause-placed : goal.returns-clause-placed
-returns-clause-placed c = subst (All IsPlace) c.list_interleaved.ensures.value c.list_interleaved.ensures.placed
+returns-clause-placed c = subst (All IsPlace) c.list_words.ensures.value c.list_words.ensures.placed
