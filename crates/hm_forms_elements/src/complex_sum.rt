@@ -17,9 +17,9 @@ ghost use Rattle.hm_forms_elements.specs.Forms.{complex_sum_word};
 use hm_base::{Place, Places, note};
 use hm_beat::Touch;
 use hm_isa::{ComplexSumName, V9};
-use hm_kinds::{Shape, Written, active, finish_row, read, touch_row};
+use hm_kinds::{Shape, Written, finish_row, read, touch_row};
 use hm_lane::{Size, bytes};
-use hm_lane_fns::{cut, halved, lane_value, merge, size, word_at};
+use hm_lane_fns::{cut, halved, lane_value, merge_active, size, word_at};
 use hm_regs::Regs;
 
 /// The other word of a pair; `b` is below 4.
@@ -162,7 +162,7 @@ pub fn beat_complex_sum(row: &V9, b: u8, r: &mut Regs)
     let new = complex_sum_word(row, size(&row.z), begins_even(row, b), x, y);
     let written = Written {
         place,
-        value: merge(active(r, b), old, new),
+        value: merge_active(r, b, old, new),
     };
     finish_row(r, Some(written), None, None, None, false, b);
 }

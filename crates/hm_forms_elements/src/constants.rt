@@ -12,8 +12,8 @@ ghost use Rattle.hm_forms_elements.specs.Forms.{constant_row};
 use hm_base::{Places, note};
 use hm_beat::Touch;
 use hm_isa::V15;
-use hm_kinds::{Shape, Written, active, finish_row, read, touch_row};
-use hm_lane_fns::{merge, word_at};
+use hm_kinds::{Shape, Written, finish_row, read, touch_row};
+use hm_lane_fns::{merge_active, word_at};
 use hm_regs::Regs;
 
 /// The eight bits of the immediate.
@@ -142,7 +142,7 @@ pub fn beat_constant(row: &V15, b: u8, r: &mut Regs)
     let new = constant_op(row, old, constant(row, b));
     let written = Written {
         place: word,
-        value: merge(active(r, b), old, new),
+        value: merge_active(r, b, old, new),
     };
     finish_row(r, Some(written), None, None, None, false, b);
 }

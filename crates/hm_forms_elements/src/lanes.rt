@@ -14,8 +14,8 @@ use hm_isa::QRegister;
 use hm_kinds::{Shape, Written, active, finish_row, read, touch_row};
 use hm_lane::Size;
 use hm_lane_fns::{
-    LaneFn, Operand, any_both, lanes_saturate, lanes_word, merge, note_operand, operand_word,
-    saturates, word_at,
+    LaneFn, Operand, any_both, lanes_saturate, lanes_word, merge_active, note_operand,
+    operand_word, saturates, word_at,
 };
 use hm_regs::Regs;
 
@@ -67,12 +67,15 @@ pub fn beat_lanes(l: &Lanes, b: u8, r: &mut Regs)
     let old = read(r, word);
     let x = read(r, word_at(&l.n, b));
     let y = operand_word(l.z, &l.by, b, r);
-    let active = active(r, b);
     let new = lanes_word(l.f, l.unsigned, l.z, old, x, y);
-    let marks = saturates(l.f) && any_both(active, lanes_saturate(l.f, l.unsigned, l.z, old, x, y));
+    let marks = saturates(l.f)
+        && any_both(
+            active(r, b),
+            lanes_saturate(l.f, l.unsigned, l.z, old, x, y),
+        );
     let written = Written {
         place: word,
-        value: merge(active, old, new),
+        value: merge_active(r, b, old, new),
     };
     finish_row(r, Some(written), None, None, None, marks, b);
 }

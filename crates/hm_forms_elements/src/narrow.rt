@@ -15,7 +15,7 @@ use hm_beat::Touch;
 use hm_isa::{NarrowName, V16};
 use hm_kinds::{Shape, Written, active, finish_row, read, touch_row};
 use hm_lane::{Size, bytes, word};
-use hm_lane_fns::{any_both, clamped, cut, is_outside, lane_value, merge, word_at};
+use hm_lane_fns::{any_both, clamped, cut, is_outside, lane_value, merge_active, word_at};
 use hm_regs::Regs;
 
 /// Whether the operation saturates.
@@ -151,14 +151,13 @@ pub fn beat_narrow(row: &V16, b: u8, r: &mut Regs)
     let place = word_at(&row.d, b);
     let old = read(r, place);
     let x = read(r, word_at(&row.m, b));
-    let active = active(r, b);
     let wide = row.z.get() == 1;
     let top = row.t.get() == 1;
     let new = narrow_word(wide, top, row.name, old, x);
-    let marks = saturates(row.name) && any_both(active, narrow_tests(wide, top, row.name, x));
+    let marks = saturates(row.name) && any_both(active(r, b), narrow_tests(wide, top, row.name, x));
     let written = Written {
         place,
-        value: merge(active, old, new),
+        value: merge_active(r, b, old, new),
     };
     finish_row(r, Some(written), None, None, None, marks, b);
 }

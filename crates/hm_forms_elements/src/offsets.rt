@@ -18,9 +18,9 @@ ghost use Rattle.hm_isa.specs.declared.vectors.OffsetsName.TheVariants as way;
 use hm_base::{Place, Places, note};
 use hm_beat::Touch;
 use hm_isa::{Below, OffsetsName, QRegister};
-use hm_kinds::{Shape, Written, active, finish_row, read, touch_row};
+use hm_kinds::{Shape, Written, finish_row, read, touch_row};
 use hm_lane::{Size, per_word};
-use hm_lane_fns::{merge, word_at};
+use hm_lane_fns::{merge_active, word_at};
 use hm_regs::Regs;
 
 /// Offsets from a register.
@@ -206,7 +206,7 @@ pub fn beat_offsets(row: &Steps, b: u8, r: &mut Regs)
     let new = offsets_word(row, m, offset_after(row, m, before, first));
     let written = Written {
         place,
-        value: merge(active(r, b), old, new),
+        value: merge_active(r, b, old, new),
     };
     finish_row(
         r,

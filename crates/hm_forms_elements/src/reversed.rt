@@ -15,9 +15,9 @@ use crate::complex_sum::other_word;
 use hm_base::{Place, Places, note};
 use hm_beat::Touch;
 use hm_isa::{ReverseName, V14};
-use hm_kinds::{Shape, Written, active, finish_row, read, touch_row};
+use hm_kinds::{Shape, Written, finish_row, read, touch_row};
 use hm_lane::{Size, bytes, word};
-use hm_lane_fns::{merge, size, word_at};
+use hm_lane_fns::{merge_active, size, word_at};
 use hm_regs::Regs;
 
 /// A word with its elements in reverse.
@@ -91,7 +91,7 @@ pub fn beat_reversed(row: &V14, b: u8, r: &mut Regs)
     let new = reversed_word(row.name, size(&row.z), x);
     let written = Written {
         place,
-        value: merge(active(r, b), old, new),
+        value: merge_active(r, b, old, new),
     };
     finish_row(r, Some(written), None, None, None, false, b);
 }

@@ -11,8 +11,8 @@ ghost use Rattle.hm_forms_elements.specs.Forms.{select_row};
 use hm_base::{Places, note};
 use hm_beat::Touch;
 use hm_isa::Select;
-use hm_kinds::{Shape, Written, active, finish_row, read, touch_row};
-use hm_lane_fns::{merge, slice, truths, word_at};
+use hm_kinds::{Shape, Written, finish_row, read, touch_row};
+use hm_lane_fns::{merge, merge_active, slice, truths, word_at};
 use hm_regs::Regs;
 
 /// What beat `b` of `vpsel` touches: DDI0553, "VPSEL". `b` is below 4.
@@ -50,7 +50,7 @@ pub fn beat_select(row: &Select, b: u8, r: &mut Regs)
     let new = merge(truths(slice(r, b)), y, x);
     let written = Written {
         place,
-        value: merge(active(r, b), old, new),
+        value: merge_active(r, b, old, new),
     };
     finish_row(r, Some(written), None, None, None, false, b);
 }

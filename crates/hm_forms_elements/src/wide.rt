@@ -16,9 +16,9 @@ ghost use Rattle.hm_forms_elements.specs.Forms.{product, products, wide_at, wide
 use hm_base::{Place, Places, note};
 use hm_beat::Touch;
 use hm_isa::{QRegister, V6};
-use hm_kinds::{Shape, Written, active, finish_row, read, touch_row};
+use hm_kinds::{Shape, Written, finish_row, read, touch_row};
 use hm_lane::{Size, bytes};
-use hm_lane_fns::{extended_long, merge, size, word_at};
+use hm_lane_fns::{extended_long, merge_active, size, word_at};
 use hm_regs::Regs;
 
 /// The product of two lanes.
@@ -142,7 +142,7 @@ pub fn beat_wide(row: &V6, b: u8, r: &mut Regs)
     let new = wide_word(row, b, x, y);
     let written = Written {
         place,
-        value: merge(active(r, b), old, new),
+        value: merge_active(r, b, old, new),
     };
     finish_row(r, Some(written), None, None, None, false, b);
 }

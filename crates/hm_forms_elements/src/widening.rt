@@ -14,9 +14,9 @@ use crate::wide::picked;
 use hm_base::{Places, note};
 use hm_beat::Touch;
 use hm_isa::QRegister;
-use hm_kinds::{Shape, Written, active, finish_row, read, touch_row};
+use hm_kinds::{Shape, Written, finish_row, read, touch_row};
 use hm_lane::{Size, bytes};
-use hm_lane_fns::{extended_long, merge, word_at};
+use hm_lane_fns::{extended_long, merge_active, word_at};
 use hm_regs::Regs;
 
 /// Elements made longer and shifted.
@@ -104,7 +104,7 @@ pub fn beat_widening(row: &Widening, b: u8, r: &mut Regs)
     let new = widening_word(row, x);
     let written = Written {
         place,
-        value: merge(active(r, b), old, new),
+        value: merge_active(r, b, old, new),
     };
     finish_row(r, Some(written), None, None, None, false, b);
 }

@@ -7,4 +7,4 @@ mod masks;
 
 pub use lanes::{Size, bytes, per_word, word};
 pub use laws::{finish_law, lanes_law, predicate_law};
-pub use masks::{advance, context, finish, mask_at, merge, predicate};
+pub use masks::{advance, context, finish, is_unpredicated, mask_at, merge, predicate};

@@ -1,6 +1,6 @@
 //! The predicate of the registers, and what each beat does to the masks.
 
-ghost use Rattle.std.specs.Prelude.{ℕ, ◌≡◌, ◌≤◌, ◌<◌, ◌+◌, ◌*◌, ◌==◌, if◌then◌else◌, eqb, ltb};
+ghost use Rattle.std.specs.Prelude.{ℕ, ◌≡◌, ◌≤◌, ◌<◌, ◌+◌, ◌*◌, ◌==◌, if◌then◌else◌, eqb, ltb, true, IsTrue, [], ◌∷◌};
 ghost use Rattle.std.specs.Int.{bit_at};
 ghost use Rattle.hm_base.specs.Place.{IsPlace, range_of};
 ghost use Rattle.hm_regs.specs.Writes.{apply};
@@ -66,6 +66,14 @@ pub fn predicate(r: &Regs) -> u16
     ensures words { (b : ℕ) → b < 4 → bits_of_word result b ≡ active_word r.now b }
 {
     (mask_bits(r) % (1 << tail(r))) as u16
+}
+
+/// Whether nothing is predicated: no half has a mask, and no elements are counted (DDI0553, "MVE predication").
+#[inline(always)]
+pub fn is_unpredicated(r: &Regs) -> bool
+    ensures { IsTrue result → (b : ℕ) → active_word r.now b ≡ true ∷ true ∷ true ∷ true ∷ [] }
+{
+    r.get(Place::Mask01) == 0 && r.get(Place::Mask23) == 0 && r.get(Place::Ltp) >= 4
 }
 
 /// The place of the mask for word `b`.

@@ -9,6 +9,6 @@ pub use functions::{
     lane_value, saturates,
 };
 pub use words::{
-    Operand, any_both, both, element_size, lanes_saturate, lanes_word, merge, nibble, note_operand,
-    operand_word, size, slice, splat, truths, word_at,
+    Operand, any_both, both, element_size, lanes_saturate, lanes_word, merge, merge_active, nibble,
+    note_operand, operand_word, size, slice, splat, truths, word_at,
 };
