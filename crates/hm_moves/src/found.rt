@@ -265,8 +265,34 @@ fn push_active(es: &mut Elements, e: Element, active: bool)
     }
 }
 
-/// Finds the active ones of the elements of beat `b`, by the two numbers that stand in the sources. `b` is below 4, and `es` is empty before.
-fn find_active(es: &mut Elements, row: &Move, b: u8, first: u32, second: u32, active: [bool; 4])
+/// Finds the active ones of the elements of beat `b` that stand one behind another, by the number in the base register.
+/// `b` is below 4, and `es` is empty before.
+#[inline(always)]
+fn find_straight(
+    es: &mut Elements,
+    w: &Straight,
+    y: Size,
+    z: Size,
+    b: u8,
+    base: u32,
+    active: [bool; 4],
+)
+    requires beat { b < 4 }
+    requires empty { es.old.items ≡ [] }
+    ensures value { (n : ℕ) → es.new.items ≡ active_ones active
+        (each_from (way_element y z (way_of (way.Straight w.now)) b (base ∷ n ∷ [])) 0 (per_word z)) }
+    ensures few { length es.new.items ≤ 4 }
+    ensures fit { Fit z es.new.items }
+{
+    for j in 0..per_word(z) {
+        let found = straight_element(w, y, z, b, base, j);
+        push_active(es, found, active[found.lane as usize]);
+    }
+}
+
+/// Finds the active ones of the elements of beat `b` of any row, by the two numbers that stand in the sources. `b` is below 4, and `es` is empty before.
+#[inline(never)]
+fn find_each(es: &mut Elements, row: &Move, b: u8, first: u32, second: u32, active: [bool; 4])
     requires beat { b < 4 }
     requires empty { es.old.items ≡ [] }
     ensures value { es.new.items ≡ active_ones active
@@ -280,7 +306,24 @@ fn find_active(es: &mut Elements, row: &Move, b: u8, first: u32, second: u32, ac
     }
 }
 
+/// Finds the active ones of the elements of beat `b`, by the two numbers that stand in the sources. `b` is below 4, and `es` is empty before.
+#[inline(always)]
+fn find_active(es: &mut Elements, row: &Move, b: u8, first: u32, second: u32, active: [bool; 4])
+    requires beat { b < 4 }
+    requires empty { es.old.items ≡ [] }
+    ensures value { es.new.items ≡ active_ones active
+        (each_from (way_element row.now.memory row.now.register (way_of row.now.way) b (first ∷ second ∷ [])) 0 (per_word row.now.register)) }
+    ensures few { length es.new.items ≤ 4 }
+    ensures fit { Fit row.now.register es.new.items }
+{
+    match &row.way {
+        Way::Straight(w) => find_straight(es, w, row.memory, row.register, b, first, active),
+        _ => find_each(es, row, b, first, second, active),
+    }
+}
+
 /// Finds the elements that beat `b` moves. `b` is below 4, and `es` is empty before.
+#[inline(always)]
 pub fn find_elements(es: &mut Elements, row: &Move, b: u8, r: &Regs)
     requires beat { b < 4 }
     requires empty { es.old.items ≡ [] }

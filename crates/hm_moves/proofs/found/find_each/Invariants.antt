@@ -3,7 +3,7 @@ use Rattle.hm_moves.specs.Coded.{Fit}
 use Rattle.hm_moves.specs.Moves.{active_ones}
 use Rattle.hm_lane.specs.Lanes.{per_word}
 use Rattle.hm_moves.specs.Ways.{each_from, way_element, way_of}
-use Rattle.hm_moves.proofs.found.find_active.Given as goal
+use Rattle.hm_moves.proofs.found.find_each.Given as goal
 
 abbrev pub invariant-loop-j : goal.invariant-loop-j
 invariant-loop-j l =
