@@ -43,34 +43,13 @@ row_scalar (scalar.S18 i) e = row_s18 i
 row_scalar (scalar.S19 i) e = row_s19 i
 row_scalar (scalar.S20 i) e = row_s20 i
 row_scalar (scalar.S21 i) e = row_s21 i
-row_scalar (scalar.T1 i) e = absurd (two_halves_not e)
-row_scalar (scalar.T2 i) e = absurd (two_halves_not e)
-row_scalar (scalar.T3 i) e = absurd (two_halves_not e)
-row_scalar (scalar.T4 i) e = absurd (two_halves_not e)
-row_scalar (scalar.T5 i) e = absurd (two_halves_not e)
-row_scalar (scalar.T6 i) e = absurd (two_halves_not e)
-row_scalar (scalar.T7 i) e = absurd (two_halves_not e)
-row_scalar (scalar.T8 i) e = absurd (two_halves_not e)
-row_scalar (scalar.T9 i) e = absurd (two_halves_not e)
-row_scalar (scalar.T10 i) e = absurd (two_halves_not e)
-row_scalar (scalar.T11 i) e = absurd (two_halves_not e)
-row_scalar (scalar.T12 i) e = absurd (two_halves_not e)
-row_scalar (scalar.T13 i) e = absurd (two_halves_not e)
-row_scalar (scalar.T14 i) e = absurd (two_halves_not e)
-row_scalar (scalar.T15 i) e = absurd (two_halves_not e)
-row_scalar (scalar.T18 i) e = absurd (two_halves_not e)
-row_scalar (scalar.T19 i) e = absurd (two_halves_not e)
-row_scalar (scalar.T20 i) e = absurd (two_halves_not e)
-row_scalar (scalar.T21 i) e = absurd (two_halves_not e)
-row_scalar (scalar.T22 i) e = absurd (two_halves_not e)
+row_scalar i e = absurd (two_halves_not e)
 
 row_branch : (i : Branch) → length (branch_halves i) ≡ 1 → Row (instr.Branch i)
 row_branch (branch.S23 i) e = row_s23 i
 row_branch (branch.S24 i) e = row_s24 i
 row_branch (branch.S25 i) e = row_s25 i
-row_branch (branch.T16 i) e = absurd (two_halves_not e)
-row_branch (branch.T17 i) e = absurd (two_halves_not e)
-row_branch (branch.T23 i) e = absurd (two_halves_not e)
+row_branch i e = absurd (two_halves_not e)
 
 pub row_law : (i : Instr) → length (halfwords i) ≡ 1 → Row i
 row_law (instr.Scalar i) e = row_scalar i e
