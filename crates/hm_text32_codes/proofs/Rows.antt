@@ -32,7 +32,7 @@ use Rattle.hm_text32_codes.proofs.OnLabels.{row_end, row_t16, row_wls, row_wlstp
 abbrev alone : List ℕ
 alone = 0 ∷ []
 
-pub one_half_not : length alone ≡ 2 → ⊥
+one_half_not : length alone ≡ 2 → ⊥
 one_half_not e = omega (arith, e)
 
 -- a row with no label
@@ -40,27 +40,6 @@ plain : (i : Instr) (ts : List Tok) → has_label i ≡ false → row_tokens i �
 plain i ts e is answers = plain_row i ts e is (of_plain i ts answers)
 
 row_scalar : (i : Scalar) → length (scalar_halves i) ≡ 2 → Row (instr.Scalar i)
-row_scalar (scalar.S1 i) e = absurd (one_half_not e)
-row_scalar (scalar.S2 i) e = absurd (one_half_not e)
-row_scalar (scalar.S3 i) e = absurd (one_half_not e)
-row_scalar (scalar.S4 i) e = absurd (one_half_not e)
-row_scalar (scalar.S5 i) e = absurd (one_half_not e)
-row_scalar (scalar.S6 i) e = absurd (one_half_not e)
-row_scalar (scalar.S7 i) e = absurd (one_half_not e)
-row_scalar (scalar.S8 i) e = absurd (one_half_not e)
-row_scalar (scalar.S9 i) e = absurd (one_half_not e)
-row_scalar (scalar.S10 i) e = absurd (one_half_not e)
-row_scalar (scalar.S11 i) e = absurd (one_half_not e)
-row_scalar (scalar.S12 i) e = absurd (one_half_not e)
-row_scalar (scalar.S13 i) e = absurd (one_half_not e)
-row_scalar (scalar.S14 i) e = absurd (one_half_not e)
-row_scalar (scalar.S15 i) e = absurd (one_half_not e)
-row_scalar (scalar.S16 i) e = absurd (one_half_not e)
-row_scalar (scalar.S17 i) e = absurd (one_half_not e)
-row_scalar (scalar.S18 i) e = absurd (one_half_not e)
-row_scalar (scalar.S19 i) e = absurd (one_half_not e)
-row_scalar (scalar.S20 i) e = absurd (one_half_not e)
-row_scalar (scalar.S21 i) e = absurd (one_half_not e)
 row_scalar (scalar.T1 i) e = plain (instr.Scalar (scalar.T1 i)) _ refl refl (row_t1 i)
 row_scalar (scalar.T2 i) e = plain (instr.Scalar (scalar.T2 i)) _ refl refl (row_t2 i)
 row_scalar (scalar.T3 i) e = plain (instr.Scalar (scalar.T3 i)) _ refl refl (row_t3 i)
@@ -81,6 +60,7 @@ row_scalar (scalar.T19 i) e = plain (instr.Scalar (scalar.T19 i)) _ refl refl (r
 row_scalar (scalar.T20 i) e = plain (instr.Scalar (scalar.T20 i)) _ refl refl (row_t20 i)
 row_scalar (scalar.T21 i) e = plain (instr.Scalar (scalar.T21 i)) _ refl refl (row_t21 i)
 row_scalar (scalar.T22 i) e = plain (instr.Scalar (scalar.T22 i)) _ refl refl (row_t22 i)
+row_scalar i e = absurd (one_half_not e)
 
 row_loop : (i : T23) → Row (instr.Branch (branch.T23 i))
 row_loop (t23.Dls i) = plain (instr.Branch (branch.T23 (t23.Dls i))) _ refl refl (row_dls i)
@@ -91,12 +71,10 @@ row_loop (t23.End i) = row_end i
 row_loop t23.Lctp = plain (instr.Branch (branch.T23 t23.Lctp)) _ refl refl row_lctp
 
 row_branch : (i : Branch) → length (branch_halves i) ≡ 2 → Row (instr.Branch i)
-row_branch (branch.S23 i) e = absurd (one_half_not e)
-row_branch (branch.S24 i) e = absurd (one_half_not e)
-row_branch (branch.S25 i) e = absurd (one_half_not e)
 row_branch (branch.T16 i) e = row_t16 i
 row_branch (branch.T17 i) e = plain (instr.Branch (branch.T17 i)) _ refl refl (row_t17 i)
 row_branch (branch.T23 i) e = row_loop i
+row_branch i e = absurd (one_half_not e)
 
 pub row_law : (i : Instr) → IsWide i → Row i
 row_law (instr.Scalar i) e = row_scalar i e
