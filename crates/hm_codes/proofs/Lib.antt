@@ -7,6 +7,7 @@ pub mod ArithRows
 pub mod SystemRows
 pub mod MemoryRows
 pub mod Vectors
+pub mod Widths
 pub mod Tables
 pub mod Unique
 pub mod Exists

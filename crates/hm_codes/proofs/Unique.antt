@@ -1,32 +1,23 @@
 -- No two instructions have one code, and so at most one stands at an address.
-use Rattle.std.proofs.Common.{◌≡◌, ◌≤◌, ◌<◌, ◌+◌, ℕ, true, false, arith, ap, refl, sym, ◌∙◌, List, [], ◌∷◌, length, Result, Ok, Err}
+use Rattle.std.proofs.Common.{◌≡◌, ◌≤◌, ◌+◌, ℕ, true, false, arith, ap, refl, sym, subst, ◌∙◌, List, [], ◌∷◌, length, Result, Ok, Err}
 use Rattle.std.specs.Prelude.{if◌then◌else◌}
-use Rattle.std.proofs.lemmas.Bool.Decides.{nat_tests}
 use Rattle.hm_base.specs.declared.Fault.{Fault}
 use Rattle.hm_base.specs.Image.{flash_size}
 use Rattle.hm_isa.specs.declared.Scalar.{Scalar}
-use Rattle.hm_isa.specs.declared.Scalar.TheVariants as scalar
+use Rattle.hm_isa.specs.contracts.Scalar as scalar_
 use Rattle.hm_isa.specs.declared.Branch.{Branch}
-use Rattle.hm_isa.specs.declared.Branch.TheVariants as branch
+use Rattle.hm_isa.specs.contracts.Branch as branch_
 use Rattle.hm_isa.specs.declared.Instr.{Instr}
 use Rattle.hm_isa.specs.declared.Instr.TheVariants as instr
 use Rattle.hm_isa.specs.contracts.Instr as instr_
 use Rattle.hm_isa.specs.Code.{halfwords, scalar_halves, branch_halves}
 use Rattle.hm_layout.proofs.Coded.{Coded}
-use Rattle.hm_layout.proofs.Rows.{plain, named, split, varied, coded}
 use Rattle.hm_layout.proofs.Tables.{of_table, ◌▹◌}
-use Rattle.hm_layout.proofs.Lengths.{short_code, long_code}
+use Rattle.hm_layout.proofs.Lengths.{long_code}
 use Rattle.hm_codes.specs.Listing.{half_at, HalvesStand, Stands, is_long, IsFetched}
-use Rattle.hm_codes.proofs.Scalars.{row_s1, row_s2, row_s3, row_s4, row_s5, row_s6, row_s7, row_s8, row_s9, row_s10, row_s11, row_s12, row_s13, row_s14}
-use Rattle.hm_codes.proofs.Scalars.{row_s15, row_s16, row_s17, row_s18, row_s19, row_s20, spared_s21}
-use Rattle.hm_codes.proofs.Wides.{coded_t12, spared_t13, row_t14, row_t15}
-use Rattle.hm_codes.proofs.ArithRows.{row_t8, row_t9, row_t10, coded_t11, row_t20}
-use Rattle.hm_codes.proofs.SystemRows.{coded_t18, coded_t19, row_t21, row_t22}
-use Rattle.hm_codes.proofs.DataRows.{row_t1, row_t2, row_t3, row_t4, row_t5, row_t6, row_t7}
-use Rattle.hm_codes.proofs.Branches.{row_s23, row_s24, coded_s25}
-use Rattle.hm_codes.proofs.JumpRows.{coded_t16, row_t17, coded_t23}
 use Rattle.hm_codes.proofs.Vectors.{coded_vector}
-use Rattle.hm_codes.proofs.Tables.{joined, rejoined, coded_scalar, coded_branch}
+use Rattle.hm_codes.proofs.Widths.{code_length, first_of, joined, lengths_of, long_length, rejoined}
+use Rattle.hm_codes.proofs.Tables.{branch_halves_are, branch_table, coded_branch, coded_scalar, scalar_halves_are, scalar_table}
 
 abbrev pub coded_instr : Coded Instr
 coded_instr =
@@ -40,73 +31,19 @@ unique_instr = coded_instr.one refl
 pub unique_code : (i j : Instr) → halfwords i ≡ halfwords j → i ≡ j
 unique_code i j e = unique_instr i j (ap joined e)
 
--- how many halfwords a code has that begins so
-abbrev code_length : ℕ → ℕ
-code_length h = if is_long h then 2 else 1
-
-short_length : (h : ℕ) → h < 0xe800 → 1 ≡ code_length h
-short_length h l = grind (arith, nat_tests)
-
-long_length : (h : ℕ) → 0xe800 ≤ h → 2 ≡ code_length h
-long_length h l = grind (arith, nat_tests)
-
-abbrev first_of : List ℕ → ℕ
-first_of [] = 0
-first_of (h ∷ hs) = h
-
 -- the first halfword tells how many there are
-length_scalar : (s : Scalar) → length (scalar_halves s) ≡ code_length (first_of (scalar_halves s))
-length_scalar (scalar.S1 r) = short_length _ (short_code (coded (named row_s1)) refl refl r)
-length_scalar (scalar.S2 r) = short_length _ (short_code (coded (named row_s2)) refl refl r)
-length_scalar (scalar.S3 r) = short_length _ (short_code (coded (named row_s3)) refl refl r)
-length_scalar (scalar.S4 r) = short_length _ (short_code (coded (named row_s4)) refl refl r)
-length_scalar (scalar.S5 r) = short_length _ (short_code (coded (named row_s5)) refl refl r)
-length_scalar (scalar.S6 r) = short_length _ (short_code (coded (plain row_s6)) refl refl r)
-length_scalar (scalar.S7 r) = short_length _ (short_code (coded (plain row_s7)) refl refl r)
-length_scalar (scalar.S8 r) = short_length _ (short_code (coded (plain row_s8)) refl refl r)
-length_scalar (scalar.S9 r) = short_length _ (short_code (coded (named row_s9)) refl refl r)
-length_scalar (scalar.S10 r) = short_length _ (short_code (coded (named row_s10)) refl refl r)
-length_scalar (scalar.S11 r) = short_length _ (short_code (coded (named row_s11)) refl refl r)
-length_scalar (scalar.S12 r) = short_length _ (short_code (coded (named row_s12)) refl refl r)
-length_scalar (scalar.S13 r) = short_length _ (short_code (coded (named row_s13)) refl refl r)
-length_scalar (scalar.S14 r) = short_length _ (short_code (coded (plain row_s14)) refl refl r)
-length_scalar (scalar.S15 r) = short_length _ (short_code (coded (named row_s15)) refl refl r)
-length_scalar (scalar.S16 r) = short_length _ (short_code (coded (named row_s16)) refl refl r)
-length_scalar (scalar.S17 r) = short_length _ (short_code (coded (named row_s17)) refl refl r)
-length_scalar (scalar.S18 r) = short_length _ (short_code (coded (plain row_s18)) refl refl r)
-length_scalar (scalar.S19 r) = short_length _ (short_code (coded (named row_s19)) refl refl r)
-length_scalar (scalar.S20 r) = short_length _ (short_code (coded (varied row_s20)) refl refl r)
-length_scalar (scalar.S21 r) = short_length _ (short_code (coded spared_s21) refl refl r)
-length_scalar (scalar.T1 r) = long_length _ (long_code (coded (named row_t1)) refl refl r)
-length_scalar (scalar.T2 r) = long_length _ (long_code (coded (named row_t2)) refl refl r)
-length_scalar (scalar.T3 r) = long_length _ (long_code (coded (named row_t3)) refl refl r)
-length_scalar (scalar.T4 r) = long_length _ (long_code (coded (named row_t4)) refl refl r)
-length_scalar (scalar.T5 r) = long_length _ (long_code (coded (named row_t5)) refl refl r)
-length_scalar (scalar.T6 r) = long_length _ (long_code (coded (named row_t6)) refl refl r)
-length_scalar (scalar.T7 r) = long_length _ (long_code (coded (plain row_t7)) refl refl r)
-length_scalar (scalar.T8 r) = long_length _ (long_code (coded (named row_t8)) refl refl r)
-length_scalar (scalar.T9 r) = long_length _ (long_code (coded (named row_t9)) refl refl r)
-length_scalar (scalar.T10 r) = long_length _ (long_code (coded (split row_t10)) refl refl r)
-length_scalar (scalar.T11 r) = long_length _ (long_code coded_t11 refl refl r)
-length_scalar (scalar.T12 r) = long_length _ (long_code coded_t12 refl refl r)
-length_scalar (scalar.T13 r) = long_length _ (long_code (coded spared_t13) refl refl r)
-length_scalar (scalar.T14 r) = long_length _ (long_code (coded (named row_t14)) refl refl r)
-length_scalar (scalar.T15 r) = long_length _ (long_code (coded (named row_t15)) refl refl r)
-length_scalar (scalar.T18 r) = long_length _ (long_code coded_t18 refl refl r)
-length_scalar (scalar.T19 r) = long_length _ (long_code coded_t19 refl refl r)
-length_scalar (scalar.T20 r) = long_length _ (long_code (coded (named row_t20)) refl refl r)
-length_scalar (scalar.T21 r) = long_length _ (long_code (coded (named row_t21)) refl refl r)
-length_scalar (scalar.T22 r) = long_length _ (long_code (coded (named row_t22)) refl refl r)
+abbrev HasLength : List ℕ → Type 0
+HasLength hs = length hs ≡ code_length (first_of hs)
 
-length_branch : (b : Branch) → length (branch_halves b) ≡ code_length (first_of (branch_halves b))
-length_branch (branch.S23 r) = short_length _ (short_code (coded (named row_s23)) refl refl r)
-length_branch (branch.S24 r) = short_length _ (short_code (coded (named row_s24)) refl refl r)
-length_branch (branch.S25 r) = short_length _ (short_code coded_s25 refl refl r)
-length_branch (branch.T16 r) = long_length _ (long_code coded_t16 refl refl r)
-length_branch (branch.T17 r) = long_length _ (long_code (coded (named row_t17)) refl refl r)
-length_branch (branch.T23 r) = long_length _ (long_code coded_t23 refl refl r)
+length_scalar : (s : Scalar) → HasLength (scalar_halves s)
+length_scalar s =
+    subst (λ hs. HasLength hs) (sym (scalar_halves_are s)) (lengths_of 21 scalar_.enum.parts scalar_table refl (scalar_.enum.as_values s))
 
-length_instr : (i : Instr) → length (halfwords i) ≡ code_length (first_of (halfwords i))
+length_branch : (b : Branch) → HasLength (branch_halves b)
+length_branch b =
+    subst (λ hs. HasLength hs) (sym (branch_halves_are b)) (lengths_of 3 branch_.enum.parts branch_table refl (branch_.enum.as_values b))
+
+pub length_instr : (i : Instr) → length (halfwords i) ≡ code_length (first_of (halfwords i))
 length_instr (instr.Scalar s) = length_scalar s
 length_instr (instr.Branch b) = length_branch b
 length_instr (instr.Vector v) = long_length _ (long_code coded_vector refl refl v)

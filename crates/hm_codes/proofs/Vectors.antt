@@ -442,36 +442,7 @@ coded_vector =
     coded (plain row_v27) ▹
     coded (plain row_v28) ▹
     tt)
-    (elim [
-      | vector.V1 r ↦ refl
-      | vector.V2 r ↦ refl
-      | vector.V3 r ↦ refl
-      | vector.V4 r ↦ refl
-      | vector.V5 r ↦ refl
-      | vector.V6 r ↦ refl
-      | vector.V7 r ↦ refl
-      | vector.V8 r ↦ refl
-      | vector.V9 r ↦ refl
-      | vector.V10 r ↦ refl
-      | vector.V11 r ↦ refl
-      | vector.V12 r ↦ refl
-      | vector.V13 r ↦ refl
-      | vector.V14 r ↦ refl
-      | vector.V15 r ↦ refl
-      | vector.V16 r ↦ refl
-      | vector.V17 r ↦ refl
-      | vector.V18 r ↦ refl
-      | vector.V19 r ↦ refl
-      | vector.V20 r ↦ refl
-      | vector.V21 r ↦ refl
-      | vector.V22 r ↦ refl
-      | vector.V23 r ↦ refl
-      | vector.V24 r ↦ refl
-      | vector.V25 r ↦ refl
-      | vector.V26 r ↦ refl
-      | vector.V27 r ↦ refl
-      | vector.V28 r ↦ refl
-    ])
+    (elim [ vector.V1 r ↦ refl | v ↦ refl ])
 
 pub unique_vector : (u v : Vector) → vector_code u ≡ vector_code v → u ≡ v
 unique_vector = coded_vector.one refl

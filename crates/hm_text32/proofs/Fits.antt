@@ -5,7 +5,8 @@ use Rattle.hm_isa.specs.declared.Instr.TheVariants as instr
 use Rattle.hm_isa.specs.declared.Scalar.{Scalar}
 use Rattle.hm_isa.specs.declared.Branch.{Branch}
 use Rattle.hm_isa.specs.Code.{branch_halves, scalar_halves}
-use Rattle.hm_codes.proofs.Tables.{coded_branch, coded_scalar, joined}
+use Rattle.hm_codes.proofs.Widths.{joined}
+use Rattle.hm_codes.proofs.Tables.{coded_branch, coded_scalar}
 use Rattle.hm_layout.specs.Wide.{HasWord}
 use Rattle.hm_text_rows.proofs.Fits.{below_32, has_32, kind_in}
 

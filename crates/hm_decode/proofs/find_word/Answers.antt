@@ -4,7 +4,7 @@ use Rattle.hm_isa.specs.declared.Instr.{Instr}
 use Rattle.hm_isa.specs.declared.Instr.TheVariants as instr
 use Rattle.hm_isa.specs.declared.Vector.{Vector}
 use Rattle.hm_isa.specs.Code.{halfwords, two_halves, vector_code}
-use Rattle.hm_codes.proofs.Tables.{joined, rejoined}
+use Rattle.hm_codes.proofs.Widths.{joined, rejoined}
 use Rattle.hm_enc32.proofs.Halves.{word_halves}
 use Rattle.hm_layout.specs.Wide.{HasWord}
 use Rattle.hm_decode.proofs.find_word.Goals as goal
