@@ -10,7 +10,5 @@ returns-clause-none c b =
       | branch.S23 r ↦ no_half code_s23 _ c.in_default.ensures.none r
       | branch.S24 r ↦ no_half code_s24 _ c.in_default-decode_s24.ensures.none r
       | branch.S25 r ↦ no_half code_s25 _ c.in_default-decode_s25.ensures.none r
-      | branch.T16 r ↦ not_one _ _ _
-      | branch.T17 r ↦ not_one _ _ _
-      | branch.T23 r ↦ not_one _ _ _
+      | b ↦ not_one _ _ _
     ]

@@ -29,24 +29,5 @@ returns-clause-none c s =
       | scalar.S19 r ↦ no_half code_s19 _ c.in_default-decode_s19.ensures.none r
       | scalar.S20 r ↦ no_half code_s20 _ c.in_default-decode_s20.ensures.none r
       | scalar.S21 r ↦ no_half code_s21 _ c.in_default-decode_s21.ensures.none r
-      | scalar.T1 r ↦ not_one _ _ _
-      | scalar.T2 r ↦ not_one _ _ _
-      | scalar.T3 r ↦ not_one _ _ _
-      | scalar.T4 r ↦ not_one _ _ _
-      | scalar.T5 r ↦ not_one _ _ _
-      | scalar.T6 r ↦ not_one _ _ _
-      | scalar.T7 r ↦ not_one _ _ _
-      | scalar.T8 r ↦ not_one _ _ _
-      | scalar.T9 r ↦ not_one _ _ _
-      | scalar.T10 r ↦ not_one _ _ _
-      | scalar.T11 r ↦ not_one _ _ _
-      | scalar.T12 r ↦ not_one _ _ _
-      | scalar.T13 r ↦ not_one _ _ _
-      | scalar.T14 r ↦ not_one _ _ _
-      | scalar.T15 r ↦ not_one _ _ _
-      | scalar.T18 r ↦ not_one _ _ _
-      | scalar.T19 r ↦ not_one _ _ _
-      | scalar.T20 r ↦ not_one _ _ _
-      | scalar.T21 r ↦ not_one _ _ _
-      | scalar.T22 r ↦ not_one _ _ _
+      | s ↦ not_one _ _ _
     ]
