@@ -20,56 +20,14 @@ use Rattle.hm_text16.specs.Texts.{HasTokens, IsNarrow, IsTextOf, text_of}
 -- ---- printed
 
 given_scalar : (i : Scalar) (pc : ℕ) → IsGiven (has_label (instr.Scalar i)) (target (instr.Scalar i) pc)
-given_scalar (scalar.S1 i) pc = tt
-given_scalar (scalar.S2 i) pc = tt
-given_scalar (scalar.S3 i) pc = tt
-given_scalar (scalar.S4 i) pc = tt
-given_scalar (scalar.S5 i) pc = tt
-given_scalar (scalar.S6 i) pc = tt
-given_scalar (scalar.S7 i) pc = tt
-given_scalar (scalar.S8 i) pc = tt
-given_scalar (scalar.S9 i) pc = tt
-given_scalar (scalar.S10 i) pc = tt
-given_scalar (scalar.S11 i) pc = tt
-given_scalar (scalar.S12 i) pc = tt
-given_scalar (scalar.S13 i) pc = tt
 given_scalar (scalar.S14 i) pc = omega arith
-given_scalar (scalar.S15 i) pc = tt
-given_scalar (scalar.S16 i) pc = tt
-given_scalar (scalar.S17 i) pc = tt
-given_scalar (scalar.S18 i) pc = tt
-given_scalar (scalar.S19 i) pc = tt
-given_scalar (scalar.S20 i) pc = tt
-given_scalar (scalar.S21 i) pc = tt
-given_scalar (scalar.T1 i) pc = tt
-given_scalar (scalar.T2 i) pc = tt
-given_scalar (scalar.T3 i) pc = tt
-given_scalar (scalar.T4 i) pc = tt
-given_scalar (scalar.T5 i) pc = tt
-given_scalar (scalar.T6 i) pc = tt
-given_scalar (scalar.T7 i) pc = tt
-given_scalar (scalar.T8 i) pc = tt
-given_scalar (scalar.T9 i) pc = tt
-given_scalar (scalar.T10 i) pc = tt
-given_scalar (scalar.T11 i) pc = tt
-given_scalar (scalar.T12 i) pc = tt
-given_scalar (scalar.T13 i) pc = tt
-given_scalar (scalar.T14 i) pc = tt
-given_scalar (scalar.T15 i) pc = tt
-given_scalar (scalar.T18 i) pc = tt
-given_scalar (scalar.T19 i) pc = tt
-given_scalar (scalar.T20 i) pc = tt
-given_scalar (scalar.T21 i) pc = tt
-given_scalar (scalar.T22 i) pc = tt
+given_scalar i pc = tt
 
 given_branch : (i : Branch) (pc : ℕ) → IsGiven (has_label (instr.Branch i)) (target (instr.Branch i) pc)
-given_branch (branch.S23 i) pc = tt
 given_branch (branch.S24 i) pc = omega arith
 given_branch (branch.S25 (s25.Conditional i)) pc = omega arith
 given_branch (branch.S25 (s25.Always i)) pc = omega arith
-given_branch (branch.T16 i) pc = tt
-given_branch (branch.T17 i) pc = tt
-given_branch (branch.T23 i) pc = tt
+given_branch i pc = tt
 
 pub given_target : (i : Instr) (pc : ℕ) → IsGiven (has_label i) (target i pc)
 given_target (instr.Scalar i) pc = given_scalar i pc
@@ -106,19 +64,6 @@ itself : (i : Instr) → IsNarrow i → Reaches (target i 0) 4 → Nearest i
 itself i narrow reaches = record { near = i; narrow = narrow; tokens = refl; label = refl; reaches = reaches }
 
 nearest_scalar : (i : Scalar) → length (scalar_halves i) ≡ 1 → Nearest (instr.Scalar i)
-nearest_scalar (scalar.S1 i) e = itself (instr.Scalar (scalar.S1 i)) e tt
-nearest_scalar (scalar.S2 i) e = itself (instr.Scalar (scalar.S2 i)) e tt
-nearest_scalar (scalar.S3 i) e = itself (instr.Scalar (scalar.S3 i)) e tt
-nearest_scalar (scalar.S4 i) e = itself (instr.Scalar (scalar.S4 i)) e tt
-nearest_scalar (scalar.S5 i) e = itself (instr.Scalar (scalar.S5 i)) e tt
-nearest_scalar (scalar.S6 i) e = itself (instr.Scalar (scalar.S6 i)) e tt
-nearest_scalar (scalar.S7 i) e = itself (instr.Scalar (scalar.S7 i)) e tt
-nearest_scalar (scalar.S8 i) e = itself (instr.Scalar (scalar.S8 i)) e tt
-nearest_scalar (scalar.S9 i) e = itself (instr.Scalar (scalar.S9 i)) e tt
-nearest_scalar (scalar.S10 i) e = itself (instr.Scalar (scalar.S10 i)) e tt
-nearest_scalar (scalar.S11 i) e = itself (instr.Scalar (scalar.S11 i)) e tt
-nearest_scalar (scalar.S12 i) e = itself (instr.Scalar (scalar.S12 i)) e tt
-nearest_scalar (scalar.S13 i) e = itself (instr.Scalar (scalar.S13 i)) e tt
 nearest_scalar (scalar.S14 i) e = record {
   near = instr.Scalar (scalar.S14 (record { t = i.t; i = record { value = 0; in_range = omega arith } }));
   narrow = refl;
@@ -126,36 +71,9 @@ nearest_scalar (scalar.S14 i) e = record {
   label = refl;
   reaches = refl;
 }
-nearest_scalar (scalar.S15 i) e = itself (instr.Scalar (scalar.S15 i)) e tt
-nearest_scalar (scalar.S16 i) e = itself (instr.Scalar (scalar.S16 i)) e tt
-nearest_scalar (scalar.S17 i) e = itself (instr.Scalar (scalar.S17 i)) e tt
-nearest_scalar (scalar.S18 i) e = itself (instr.Scalar (scalar.S18 i)) e tt
-nearest_scalar (scalar.S19 i) e = itself (instr.Scalar (scalar.S19 i)) e tt
-nearest_scalar (scalar.S20 i) e = itself (instr.Scalar (scalar.S20 i)) e tt
-nearest_scalar (scalar.S21 i) e = itself (instr.Scalar (scalar.S21 i)) e tt
-nearest_scalar (scalar.T1 i) e = absurd (two_halves_not e)
-nearest_scalar (scalar.T2 i) e = absurd (two_halves_not e)
-nearest_scalar (scalar.T3 i) e = absurd (two_halves_not e)
-nearest_scalar (scalar.T4 i) e = absurd (two_halves_not e)
-nearest_scalar (scalar.T5 i) e = absurd (two_halves_not e)
-nearest_scalar (scalar.T6 i) e = absurd (two_halves_not e)
-nearest_scalar (scalar.T7 i) e = absurd (two_halves_not e)
-nearest_scalar (scalar.T8 i) e = absurd (two_halves_not e)
-nearest_scalar (scalar.T9 i) e = absurd (two_halves_not e)
-nearest_scalar (scalar.T10 i) e = absurd (two_halves_not e)
-nearest_scalar (scalar.T11 i) e = absurd (two_halves_not e)
-nearest_scalar (scalar.T12 i) e = absurd (two_halves_not e)
-nearest_scalar (scalar.T13 i) e = absurd (two_halves_not e)
-nearest_scalar (scalar.T14 i) e = absurd (two_halves_not e)
-nearest_scalar (scalar.T15 i) e = absurd (two_halves_not e)
-nearest_scalar (scalar.T18 i) e = absurd (two_halves_not e)
-nearest_scalar (scalar.T19 i) e = absurd (two_halves_not e)
-nearest_scalar (scalar.T20 i) e = absurd (two_halves_not e)
-nearest_scalar (scalar.T21 i) e = absurd (two_halves_not e)
-nearest_scalar (scalar.T22 i) e = absurd (two_halves_not e)
+nearest_scalar i e = itself (instr.Scalar i) e tt
 
 nearest_branch : (i : Branch) → length (branch_halves i) ≡ 1 → Nearest (instr.Branch i)
-nearest_branch (branch.S23 i) e = itself (instr.Branch (branch.S23 i)) e tt
 nearest_branch (branch.S24 i) e = record {
   near = instr.Branch (branch.S24 (record { name = i.name; i = record { value = 0; in_range = omega arith }; n = i.n }));
   narrow = refl;
@@ -177,9 +95,7 @@ nearest_branch (branch.S25 (s25.Always i)) e = record {
   label = refl;
   reaches = refl;
 }
-nearest_branch (branch.T16 i) e = absurd (two_halves_not e)
-nearest_branch (branch.T17 i) e = absurd (two_halves_not e)
-nearest_branch (branch.T23 i) e = absurd (two_halves_not e)
+nearest_branch i e = itself (instr.Branch i) e tt
 
 pub nearest : (i : Instr) → IsNarrow i → Nearest i
 nearest (instr.Scalar i) e = nearest_scalar i e
