@@ -10,27 +10,6 @@ use Rattle.hm_enc32.proofs.find_scalar.Goals as goal
 pub returns-clause-none : goal.returns-clause-none
 returns-clause-none c s =
     elim s as (λ s. scalar_halves s ≡ two_halves c.args.w → ⊥) [
-      | scalar.S1 r ↦ not_two _ _
-      | scalar.S2 r ↦ not_two _ _
-      | scalar.S3 r ↦ not_two _ _
-      | scalar.S4 r ↦ not_two _ _
-      | scalar.S5 r ↦ not_two _ _
-      | scalar.S6 r ↦ not_two _ _
-      | scalar.S7 r ↦ not_two _ _
-      | scalar.S8 r ↦ not_two _ _
-      | scalar.S9 r ↦ not_two _ _
-      | scalar.S10 r ↦ not_two _ _
-      | scalar.S11 r ↦ not_two _ _
-      | scalar.S12 r ↦ not_two _ _
-      | scalar.S13 r ↦ not_two _ _
-      | scalar.S14 r ↦ not_two _ _
-      | scalar.S15 r ↦ not_two _ _
-      | scalar.S16 r ↦ not_two _ _
-      | scalar.S17 r ↦ not_two _ _
-      | scalar.S18 r ↦ not_two _ _
-      | scalar.S19 r ↦ not_two _ _
-      | scalar.S20 r ↦ not_two _ _
-      | scalar.S21 r ↦ not_two _ _
       | scalar.T1 r ↦ no_word code_t1 _ c.in_default.ensures.none.t1 r
       | scalar.T2 r ↦ no_word code_t2 _ c.in_default.ensures.none.t2 r
       | scalar.T3 r ↦ no_word code_t3 _ c.in_default.ensures.none.t3 r
@@ -51,4 +30,5 @@ returns-clause-none c s =
       | scalar.T20 r ↦ no_word code_t20 _ c.in_default-find_arith.ensures.no_t20 r
       | scalar.T21 r ↦ no_word code_t21 _ c.in_default-find_system.ensures.no_t21 r
       | scalar.T22 r ↦ no_word code_t22 _ c.in_default-find_system.ensures.no_t22 r
+      | s ↦ not_two _ _
     ]
