@@ -15,7 +15,7 @@ use Rattle.hm_text_rows.specs.Labels.{Reaches}
 use Rattle.hm_text_rows.proofs.Shown.{IsGiven, again_of, few_of, room_of}
 use Rattle.hm_text32_rows.specs.Rows.{has_label, has_label_loop, other_tokens, row_tokens}
 use Rattle.hm_text32_rows.specs.Targets.{target}
-use Rattle.hm_text32_codes.proofs.Rows.{one_half_not, other_law, row_law}
+use Rattle.hm_text32_codes.proofs.Rows.{other_law, row_law}
 use Rattle.hm_text32.specs.Texts.{AreTokens, HasTokens, IsTextOf, text_of}
 
 -- ---- printed
@@ -24,21 +24,16 @@ word_below : (n : ℕ) → n % 2 ^ 32 < 2 ^ 32
 word_below n = omega arith
 
 given_loop : (i : T23) (pc : ℕ) → IsGiven (has_label_loop i) (target (instr.Branch (branch.T23 i)) pc)
-given_loop (t23.Dls i) pc = tt
 given_loop (t23.Wls i) pc = word_below _
-given_loop (t23.Dlstp i) pc = tt
 given_loop (t23.Wlstp i) pc = word_below _
 given_loop (t23.End i) pc = word_below _
-given_loop t23.Lctp pc = tt
+given_loop i pc = tt
 
 given_branch : (i : Branch) (pc : ℕ) → IsGiven (has_label (instr.Branch i)) (target (instr.Branch i) pc)
-given_branch (branch.S23 i) pc = tt
-given_branch (branch.S24 i) pc = tt
-given_branch (branch.S25 i) pc = tt
 given_branch (branch.T16 (t16.Conditional i)) pc = word_below _
 given_branch (branch.T16 (t16.Always i)) pc = word_below _
-given_branch (branch.T17 i) pc = tt
 given_branch (branch.T23 i) pc = given_loop i pc
+given_branch i pc = tt
 
 pub given_target : (i : Instr) (pc : ℕ) → IsGiven (has_label i) (target i pc)
 given_target (instr.Scalar i) pc = tt
@@ -80,7 +75,6 @@ itself : (i : Instr) → IsWide i → Reaches (target i 0) 4 → Nearest i
 itself i wide reaches = record { near = i; wide = wide; tokens = refl; other = refl; label = refl; reaches = reaches }
 
 nearest_loop : (i : T23) → Nearest (instr.Branch (branch.T23 i))
-nearest_loop (t23.Dls i) = itself (instr.Branch (branch.T23 (t23.Dls i))) refl tt
 nearest_loop (t23.Wls i) = record {
   near = instr.Branch (branch.T23 (t23.Wls (record { n = i.n; v = record { value = 0; in_range = omega arith }; not_sp = i.not_sp; not_pc = i.not_pc })));
   wide = refl;
@@ -89,7 +83,6 @@ nearest_loop (t23.Wls i) = record {
   label = refl;
   reaches = refl;
 }
-nearest_loop (t23.Dlstp i) = itself (instr.Branch (branch.T23 (t23.Dlstp i))) refl tt
 nearest_loop (t23.Wlstp i) = record {
   near = instr.Branch (branch.T23
       (t23.Wlstp (record { z = i.z; n = i.n; v = record { value = 0; in_range = omega arith }; not_sp = i.not_sp; not_pc = i.not_pc })));
@@ -107,12 +100,9 @@ nearest_loop (t23.End i) = record {
   label = refl;
   reaches = refl;
 }
-nearest_loop t23.Lctp = itself (instr.Branch (branch.T23 t23.Lctp)) refl tt
+nearest_loop i = itself (instr.Branch (branch.T23 i)) refl tt
 
 nearest_branch : (i : Branch) → length (branch_halves i) ≡ 2 → Nearest (instr.Branch i)
-nearest_branch (branch.S23 i) e = absurd (one_half_not e)
-nearest_branch (branch.S24 i) e = absurd (one_half_not e)
-nearest_branch (branch.S25 i) e = absurd (one_half_not e)
 nearest_branch (branch.T16 (t16.Conditional i)) e = record {
   near =
       instr.Branch (branch.T16 (t16.Conditional (record {
@@ -145,8 +135,8 @@ nearest_branch (branch.T16 (t16.Always i)) e = record {
   label = refl;
   reaches = refl;
 }
-nearest_branch (branch.T17 i) e = itself (instr.Branch (branch.T17 i)) e tt
 nearest_branch (branch.T23 i) e = nearest_loop i
+nearest_branch i e = itself (instr.Branch i) e tt
 
 pub nearest : (i : Instr) → IsWide i → Nearest i
 nearest (instr.Scalar i) e = itself (instr.Scalar i) e tt
