@@ -1,6 +1,6 @@
 -- Each row has its label and its target by its own table alone.
 use Rattle.std.proofs.Common.{◌≡◌, ◌⊎◌, ℕ, Bool, true, false, cond, List, [], ◌∷◌, length, Option, Some, None, refl, sym, ap, subst, inl, inr, arith}
-use Rattle.std.specs.Prelude.{◌||◌}
+use Rattle.std.specs.Prelude.{if◌then◌else◌, ◌||◌}
 use Rattle.hm_isa.specs.declared.Branch.{Branch}
 use Rattle.hm_isa.specs.declared.Branch.TheVariants as branch
 use Rattle.hm_isa.specs.declared.Instr.{Instr}
@@ -8,6 +8,9 @@ use Rattle.hm_isa.specs.declared.Instr.TheVariants as instr
 use Rattle.hm_isa.specs.declared.Scalar.{Scalar}
 use Rattle.hm_isa.specs.declared.Scalar.TheVariants as scalar
 use Rattle.hm_isa.specs.Code.{branch_halves, halfwords, scalar_halves}
+use Rattle.hm_codes.specs.Listing.{is_long}
+use Rattle.hm_codes.proofs.Widths.{first_of}
+use Rattle.hm_codes.proofs.Unique.{length_instr}
 use Rattle.hm_layout.specs.Wide.{IsWide}
 use Rattle.hm_tokens.specs.Tokens.{Tok}
 use Rattle.hm_text16_rows.specs.Rows as narrow_rows
@@ -27,40 +30,12 @@ use Rattle.hm_text.specs.Tables.{has_label, label_of, target}
 pub not_two : (hs : List ℕ) → length hs ≡ 1 → length hs ≡ 2 → ⊥
 not_two hs e f = omega (arith, e, f)
 
-pub scalar_lengths : (i : Scalar) → (length (scalar_halves i) ≡ 1) ⊎ (length (scalar_halves i) ≡ 2)
-scalar_lengths (scalar.S1 i) = inl refl
-scalar_lengths (scalar.S2 i) = inl refl
-scalar_lengths (scalar.S3 i) = inl refl
-scalar_lengths (scalar.S4 i) = inl refl
-scalar_lengths (scalar.S5 i) = inl refl
-scalar_lengths (scalar.S6 i) = inl refl
-scalar_lengths (scalar.S7 i) = inl refl
-scalar_lengths (scalar.S8 i) = inl refl
-scalar_lengths (scalar.S9 i) = inl refl
-scalar_lengths (scalar.S10 i) = inl refl
-scalar_lengths (scalar.S11 i) = inl refl
-scalar_lengths (scalar.S12 i) = inl refl
-scalar_lengths (scalar.S13 i) = inl refl
-scalar_lengths (scalar.S14 i) = inl refl
-scalar_lengths (scalar.S15 i) = inl refl
-scalar_lengths (scalar.S16 i) = inl refl
-scalar_lengths (scalar.S17 i) = inl refl
-scalar_lengths (scalar.S18 i) = inl refl
-scalar_lengths (scalar.S19 i) = inl refl
-scalar_lengths (scalar.S20 i) = inl refl
-scalar_lengths (scalar.S21 i) = inl refl
-scalar_lengths i = inr refl
-
-pub branch_lengths : (i : Branch) → (length (branch_halves i) ≡ 1) ⊎ (length (branch_halves i) ≡ 2)
-branch_lengths (branch.S23 i) = inl refl
-branch_lengths (branch.S24 i) = inl refl
-branch_lengths (branch.S25 i) = inl refl
-branch_lengths i = inr refl
+counted : (n : ℕ) (long : Bool) → n ≡ (if long then 2 else 1) → (n ≡ 1) ⊎ (n ≡ 2)
+counted n true e = inr e
+counted n false e = inl e
 
 pub lengths : (i : Instr) → (length (halfwords i) ≡ 1) ⊎ (length (halfwords i) ≡ 2)
-lengths (instr.Scalar i) = scalar_lengths i
-lengths (instr.Branch i) = branch_lengths i
-lengths (instr.Vector i) = inr refl
+lengths i = counted (length (halfwords i)) (is_long (first_of (halfwords i))) (length_instr i)
 
 -- A ROW OF ONE HALFWORD
 abbrev two_halves : List ℕ
@@ -178,12 +153,12 @@ given_two i pc e = given_as (wide_rows.has_label i) (has_label i) (wide_targets.
 
 pub given_target : (i : Instr) (pc : ℕ) → IsGiven (has_label i) (target i pc)
 given_target (instr.Scalar i) pc =
-    elim (scalar_lengths i) [
+    elim (lengths (instr.Scalar i)) [
       | inl e ↦ given_narrow (instr.Scalar i) pc e
       | inr e ↦ given_two (instr.Scalar i) pc e
     ]
 given_target (instr.Branch i) pc =
-    elim (branch_lengths i) [
+    elim (lengths (instr.Branch i)) [
       | inl e ↦ given_narrow (instr.Branch i) pc e
       | inr e ↦ given_two (instr.Branch i) pc e
     ]
