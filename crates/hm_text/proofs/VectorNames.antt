@@ -1,55 +1,21 @@
 -- The mnemonic of a vector row begins with v.
-use Rattle.std.proofs.Common.{◌≡◌, ℕ, Bool, true, false, eqb, List, [], ◌∷◌, Option, Some, None, refl, inl, inr}
+use Rattle.std.proofs.Common.{◌≡◌, ℕ, Bool, true, false, eqb, List, [], ◌∷◌, Option, Some, None, refl, inl, inr, arith}
 use Rattle.std.specs.Prelude.{bytes_eq, codes, ◌||◌}
 use Rattle.std.proofs.lemmas.Bool.{cases_Bool}
 use Rattle.std.proofs.lemmas.Slice.Eq.{bytes_eq-Decides}
 use Rattle.hm_text_base.specs.Spans.{span}
 use Rattle.hm_tokens.specs.Tokens.{Tok, word, number, mark, point}
 use Rattle.hm_textv_codes.specs.declared.operands.Operands.{Operands}
-use Rattle.hm_textv_codes.specs.Codes.{code_in, code_of, code_of_memory, code_of_one, code_of_other, code_of_pair, code_of_sum}
-use Rattle.hm_text_rows.specs.Operands.{first}
+use Rattle.hm_textv_codes.specs.Codes.{code_in, code_of}
 use Rattle.hm_textv_codes.specs.Operands.{read_operands}
 
 abbrev pub begins_with_v : List ℕ → Bool
 begins_with_v [] = false
 begins_with_v (c ∷ w) = eqb c 118
 
-pair_none : (s : List ℕ) (o : Operands) → begins_with_v s ≡ false → code_of_pair s o ≡ None
-pair_none [] o e =
-    elim (cases_Bool o.is_vector) [
-      | inl v ↦ rw v refl
-      | inr v ↦ rw v refl
-    ]
-pair_none (c ∷ w) o e =
-    elim (cases_Bool o.is_vector) [
-      | inl v ↦ rw (e, v) refl
-      | inr v ↦ rw (e, v) refl
-    ]
-
-one_none : (s : List ℕ) (o : Operands) → begins_with_v s ≡ false → code_of_one s o ≡ None
-one_none [] o e = refl
-one_none (c ∷ w) o e = rw e refl
-
-sum_none : (s : List ℕ) (o : Operands) → begins_with_v s ≡ false → code_of_sum s o ≡ None
-sum_none [] o e = refl
-sum_none (c ∷ w) o e = rw e refl
-
-other_none : (s : List ℕ) (o : Operands) → begins_with_v s ≡ false → code_of_other s o ≡ None
-other_none [] o e = refl
-other_none (c ∷ w) o e = rw e refl
-
-memory_none : (s : List ℕ) (o : Operands) → begins_with_v s ≡ false → code_of_memory s o ≡ None
-memory_none [] o e = refl
-memory_none (c ∷ w) o e = rw e refl
-
-all_none : (a b c d f : Option ℕ) → a ≡ None → b ≡ None → c ≡ None → d ≡ None → f ≡ None → first a (first b (first c (first d f))) ≡ None
-all_none a b c d f ea eb ec ed ef = rw (ea, eb, ec, ed, ef) refl
-
 code_none : (s : List ℕ) (o : Operands) → begins_with_v s ≡ false → code_of s o ≡ None
 unfolding code_of
-code_none s o e =
-    all_none (code_of_pair s o) (code_of_one s o) (code_of_sum s o) (code_of_other s o) (code_of_memory s o) (pair_none s o e) (one_none s o e) (sum_none s o e)
-    (other_none s o e) (memory_none s o e)
+code_none s o e = grind arith
 
 mnemonic_begins : (name : List ℕ) → begins_with_v name ≡ false → begins_with_v (span point name).0 ≡ false
 unfolding span
@@ -74,7 +40,7 @@ vector_named [] x e = absurd cc
 vector_named (word name ∷ ts) x e =
     elim (cases_Bool (begins_with_v name)) [
       | inl t ↦ t
-      | inr f ↦ absurd (some_code (code_in (word name ∷ ts)) x (code_none (span point name).0 (read_operands (span point name).1 ts) (mnemonic_begins name f)) e)
+      | inr f ↦ absurd (some_code (code_in (word name ∷ ts)) x (code_none (span point name).0 _ (mnemonic_begins name f)) e)
     ]
 vector_named (number n ∷ ts) x e = absurd cc
 vector_named (mark c ∷ ts) x e = absurd cc
@@ -88,35 +54,19 @@ HasNone s = (o : Operands) → code_of s o ≡ None
 
 vpush_none : HasNone (codes "vpush")
 unfolding code_of
-vpush_none o =
-    elim (cases_Bool o.is_vector) [
-      | inl v ↦ rw v refl
-      | inr v ↦ rw v refl
-    ]
+vpush_none o = grind arith
 
 vpop_none : HasNone (codes "vpop")
 unfolding code_of
-vpop_none o =
-    elim (cases_Bool o.is_vector) [
-      | inl v ↦ rw v refl
-      | inr v ↦ rw v refl
-    ]
+vpop_none o = grind arith
 
 vmrs_none : HasNone (codes "vmrs")
 unfolding code_of
-vmrs_none o =
-    elim (cases_Bool o.is_vector) [
-      | inl v ↦ rw v refl
-      | inr v ↦ rw v refl
-    ]
+vmrs_none o = grind arith
 
 vmsr_none : HasNone (codes "vmsr")
 unfolding code_of
-vmsr_none o =
-    elim (cases_Bool o.is_vector) [
-      | inl v ↦ rw v refl
-      | inr v ↦ rw v refl
-    ]
+vmsr_none o = grind arith
 
 whole : (w s : List ℕ) (ts : List Tok) → w ≡ s → span point s ≡ (s, []) → HasNone s → code_in (word w ∷ ts) ≡ None
 whole w s ts is uncut none = rw (is, uncut) (none (read_operands [] ts))
