@@ -52,21 +52,9 @@ is_other w = bytes_eq w (codes "vpush") || (bytes_eq w (codes "vpop") || (bytes_
 abbrev HasNone : List ℕ → Type 0
 HasNone s = (o : Operands) → code_of s o ≡ None
 
-vpush_none : HasNone (codes "vpush")
+names_none : HasNone (codes "vpush") × HasNone (codes "vpop") × HasNone (codes "vmrs") × HasNone (codes "vmsr")
 unfolding code_of
-vpush_none o = grind arith
-
-vpop_none : HasNone (codes "vpop")
-unfolding code_of
-vpop_none o = grind arith
-
-vmrs_none : HasNone (codes "vmrs")
-unfolding code_of
-vmrs_none o = grind arith
-
-vmsr_none : HasNone (codes "vmsr")
-unfolding code_of
-vmsr_none o = grind arith
+names_none = ((λ o. grind arith), (λ o. grind arith), (λ o. grind arith), (λ o. grind arith))
 
 whole : (w s : List ℕ) (ts : List Tok) → w ≡ s → span point s ≡ (s, []) → HasNone s → code_in (word w ∷ ts) ≡ None
 whole w s ts is uncut none = rw (is, uncut) (none (read_operands [] ts))
@@ -84,8 +72,8 @@ other_name_none w ts e =
     let P : Type 0 = code_in (word w ∷ ts) ≡ None in
     let name : List ℕ → Bool = λ s. bytes_eq w s in
     one_of (name (codes "vpush")) (name (codes "vpop") || (name (codes "vmrs") || name (codes "vmsr"))) P e
-    (λ f. whole w (codes "vpush") ts (spelled_so w (codes "vpush") f) refl vpush_none)
+    (λ f. whole w (codes "vpush") ts (spelled_so w (codes "vpush") f) refl names_none.0)
     (λ e1. one_of (name (codes "vpop")) (name (codes "vmrs") || name (codes "vmsr")) P e1
-    (λ f. whole w (codes "vpop") ts (spelled_so w (codes "vpop") f) refl vpop_none)
-    (λ e2. one_of (name (codes "vmrs")) (name (codes "vmsr")) P e2 (λ f. whole w (codes "vmrs") ts (spelled_so w (codes "vmrs") f) refl vmrs_none)
-    (λ f. whole w (codes "vmsr") ts (spelled_so w (codes "vmsr") f) refl vmsr_none)))
+    (λ f. whole w (codes "vpop") ts (spelled_so w (codes "vpop") f) refl names_none.1)
+    (λ e2. one_of (name (codes "vmrs")) (name (codes "vmsr")) P e2 (λ f. whole w (codes "vmrs") ts (spelled_so w (codes "vmrs") f) refl names_none.2)
+    (λ f. whole w (codes "vmsr") ts (spelled_so w (codes "vmsr") f) refl names_none.3)))
