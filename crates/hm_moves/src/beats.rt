@@ -291,7 +291,7 @@ fn beat_all(row: &Move, b: u8, es: &[Element], r: &mut Regs, m: &mut Mem) -> Res
     ensures context { r.new.fpca ≡ r.old.fpca }
 {
     r.in_range();
-    // What the row says is read before memory is looked at: a compiler takes it for changed then.
+    // Which register, and what is written back, is read before memory is looked at: a compiler takes the row for changed then.
     let one = single(&row.way);
     let back = written_back(&row.way, b, first_source(&row.way, b, r));
     let mask = r.get(mask_at(b));

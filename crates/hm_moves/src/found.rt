@@ -224,7 +224,7 @@ fn active_bytes(row: &Move, b: u8, r: &Regs) -> [bool; 4]
     }
 }
 
-/// The one element of a word that is an element, where it is active.
+/// The element of beat `b` of contiguous words, where it is active. `b` is below 4.
 #[inline(always)]
 fn word_element(row: &Move, w: &Straight, b: u8, r: &Regs) -> Option<Element>
     requires beat { b < 4 }

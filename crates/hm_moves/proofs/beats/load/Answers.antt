@@ -17,4 +17,7 @@ returns-in-Some-clause-value c =
     (sym ((subst (IsSingle (way_of c.args.row.now.way)) c.in-Some.is c.requires.register).2 c.args.row.now.register c.args.b))
 
 pub returns-in-Some-clause-placed : goal.returns-in-Some-clause-placed
-returns-in-Some-clause-placed c = subst (All IsPlace) (sym ((subst (IsSingle (way_of c.args.row.now.way)) c.in-Some.is c.requires.register).2 c.args.row.now.register c.args.b)) c.load_word.ensures.placed
+returns-in-Some-clause-placed c =
+    subst (All IsPlace)
+    (sym ((subst (IsSingle (way_of c.args.row.now.way)) c.in-Some.is c.requires.register).2 c.args.row.now.register c.args.b))
+    c.load_word.ensures.placed

@@ -20,4 +20,7 @@ returns-in-Some-clause-state c = λ output.
     (sym ((subst (IsSingle (way_of c.args.row.now.way)) c.in-Some.is c.requires.register).2 c.args.row.now.register c.args.b))
 
 pub returns-in-Some-clause-placed : goal.returns-in-Some-clause-placed
-returns-in-Some-clause-placed c = subst (All IsPlace) (sym ((subst (IsSingle (way_of c.args.row.now.way)) c.in-Some.is c.requires.register).2 c.args.row.now.register c.args.b)) c.store_word.ensures.placed
+returns-in-Some-clause-placed c =
+    subst (All IsPlace)
+    (sym ((subst (IsSingle (way_of c.args.row.now.way)) c.in-Some.is c.requires.register).2 c.args.row.now.register c.args.b))
+    c.store_word.ensures.placed
