@@ -54,6 +54,7 @@ fn is_vector_loop(i: &Branch) -> bool
 }
 
 /// Whether an instruction runs: `bkpt` does whatever the condition is.
+#[inline(always)]
 fn runs(i: &Instr, regs: &Regs) -> bool
     ensures value { result ≡ runs i.now regs.now }
 {
@@ -75,6 +76,7 @@ fn needs_context(i: &Instr) -> bool
 }
 
 /// Begins an instruction: whether it runs, and the context is made that it needs before anything of it may stop.
+#[inline(always)]
 pub fn begin(i: &Instr, regs: &mut Regs) -> bool
     ensures runs { result ≡ runs i.now regs.old }
     ensures made { regs.new ≡ made i.now regs.old }
