@@ -1,5 +1,5 @@
 -- Steps one after another, and what a letter is.
-use Rattle.std.proofs.Common.{◌≡◌, ℕ, suc, ◌+◌, ◌-◌, ◌<◌, arith, ap, sym, ◌∙◌, ◌==◌, Bool, false, cond, Ok, Err}
+use Rattle.std.proofs.Common.{◌≡◌, ℕ, suc, ◌+◌, ◌-◌, ◌<◌, arith, ap, refl, sym, ◌∙◌, ◌==◌, Bool, false, cond, Ok, Err}
 use Rattle.std.proofs.lemmas.Bool.Decides.{nat_tests}
 use Rattle.hm_codes.specs.Listing.{Listing}
 use Rattle.hm_handlers.specs.Nested.{Nested, NestedEnd, NestedStep, letter, step, steps, to_end}
@@ -18,6 +18,14 @@ module _ (listing : Listing) (s : Sched) where
 
     pub steps_on : (y : Nested) → Ok y ≡ step listing s Older x → steps listing s (n - (k + 1)) y ≡ steps listing s (n - k) x
     steps_on y on = ap (λ (r : NestedStep). then r (steps listing s (n - (k + 1)))) on ∙ step_first
+
+  only_step : (r : NestedStep) → r ≡ then r (steps listing s 0)
+  only_step (Ok y) = refl
+  only_step (Err e) = refl
+
+  -- the one that is left
+  pub one_left : (n : ℕ) (x : Nested) → n ≡ 1 → step listing s Older x ≡ steps listing s n x
+  one_left n x e = only_step (step listing s Older x) ∙ sym (ap (λ (j : ℕ). steps listing s j x) e)
 
   -- WHAT A LETTER IS
   pub letter_older : (l : ℕ) (x : Nested) → l ≡ older_letter → step listing s Older x ≡ letter listing s l x

@@ -231,6 +231,10 @@ fn rest_of(i: &Decoded, x: &mut Cpu) -> Result<(), LetterEnd>
     ensures count { (x.new.retired ≤ x.old.retired + 4) × (x.new.older_steps ≤ x.old.older_steps + 4) }
 {
     let left = i.steps_left(x.window.a);
+    // Most instructions have one, and need no loop.
+    if left == 1 {
+        return step_of(i, x);
+    }
     for _k in 0..left {
         if let Err(end) = step_of(i, x) {
             return Err(end);
