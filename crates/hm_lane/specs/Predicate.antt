@@ -63,6 +63,10 @@ active_word s b = active_bytes b (mask_of b s) (value_at Ltp s) (value_at (R 14)
 abbrev pub advance_writes : ℕ → Regs → List Write
 advance_writes b s = advance_of b (mask_of b s) (value_at (P0 b) s)
 
+-- whether nothing is predicated: neither half has a mask, and no elements are counted
+abbrev pub is_unpredicated : Regs → Bool
+is_unpredicated s = eqb (mask_of 0 s) 0 && eqb (mask_of 2 s) 0 && leb 4 (value_at Ltp s)
+
 -- the four truth values that a number of 16 bits has for word b
 abbrev pub bits_of_word : ℕ → ℕ → List Bool
 bits_of_word p b = eqb (bit_at p (4 * b)) 1 ∷ eqb (bit_at p (4 * b + 1)) 1 ∷ eqb (bit_at p (4 * b + 2)) 1 ∷ eqb (bit_at p (4 * b + 3)) 1 ∷ []

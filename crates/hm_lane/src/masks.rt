@@ -5,8 +5,8 @@ ghost use Rattle.std.specs.Int.{bit_at};
 ghost use Rattle.hm_base.specs.Place.{IsPlace, range_of};
 ghost use Rattle.hm_regs.specs.Writes.{apply};
 ghost use Rattle.hm_lane.specs.Lanes.{bytes_of, word_of, merged};
-ghost use Rattle.hm_lane.specs.Predicate.{active_word, advance_writes, bits_of_word, finish_writes, in_tail, mask_bit, mask_place, predicate_of, truths_of};
-ghost use Rattle.hm_lane.specs.Predicate.{with_context};
+ghost use Rattle.hm_lane.specs.Predicate.{active_word, advance_writes, bits_of_word, finish_writes, in_tail, is_unpredicated, mask_bit};
+ghost use Rattle.hm_lane.specs.Predicate.{mask_of, mask_place, predicate_of, truths_of, with_context};
 
 use crate::lanes::{bytes, word};
 use hm_base::{Place, bits};
@@ -68,10 +68,13 @@ pub fn predicate(r: &Regs) -> u16
     (mask_bits(r) % (1 << tail(r))) as u16
 }
 
-/// Whether nothing is predicated: no half has a mask, and no elements are counted (DDI0553, "MVE predication").
+/// Whether nothing is predicated: no half has a mask, and no elements are counted (DDI0553, "MVE predication"). Then all bytes are active,
+/// and no mask advances; where something is predicated, all may be active all the same.
 #[inline(always)]
 pub fn is_unpredicated(r: &Regs) -> bool
-    ensures { IsTrue result → (b : ℕ) → active_word r.now b ≡ true ∷ true ∷ true ∷ true ∷ [] }
+    ensures value { result ≡ is_unpredicated r.now }
+    ensures active { IsTrue result → (b : ℕ) → active_word r.now b ≡ true ∷ true ∷ true ∷ true ∷ [] }
+    ensures masks { IsTrue result → (b : ℕ) → mask_of b r.now ≡ 0 }
 {
     r.get(Place::Mask01) == 0 && r.get(Place::Mask23) == 0 && r.get(Place::Ltp) >= 4
 }

@@ -2,8 +2,5 @@ use Rattle.std.proofs.Common.{sym, ◌∙◌}
 use Rattle.hm_beat.proofs.Footprint.{active_is}
 use Rattle.hm_kinds.proofs.rows.active.Goals as goal
 
-pub returns : goal.returns
-returns c = λ m output. c.predicate-p.ensures.words c.args.b c.requires ∙ sym (active_is c.args.b c.args.r.now m output c.requires)
-
 pub returns-then-is_unpredicated : goal.returns-then-is_unpredicated
-returns-then-is_unpredicated c = λ m output. sym (active_is c.args.b c.args.r.now m output c.requires ∙ c.is_unpredicated.ensures (cc) c.args.b)
+returns-then-is_unpredicated c = λ m output. sym (active_is c.args.b c.args.r.now m output c.requires ∙ c.is_unpredicated.ensures.active (cc) c.args.b)

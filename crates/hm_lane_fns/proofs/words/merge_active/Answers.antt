@@ -10,4 +10,4 @@ pub returns-then-is_unpredicated : goal.returns-then-is_unpredicated
 returns-then-is_unpredicated c = λ m output. let r = c.args.r.now in
     whole c.args.new (omega arith)
     ∙ sym (ap (λ (ps : List Bool). word_of (merged ps (bytes_of c.args.old) (bytes_of c.args.new)))
-    (active_is c.args.b r m output c.requires ∙ c.is_unpredicated.ensures (cc) c.args.b))
+    (active_is c.args.b r m output c.requires ∙ c.is_unpredicated.ensures.active (cc) c.args.b))
