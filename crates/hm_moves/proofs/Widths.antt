@@ -14,7 +14,7 @@ use Rattle.hm_moves.specs.declared.ways.Straight.{Straight}
 use Rattle.hm_moves.specs.declared.ways.Way.{Way}
 use Rattle.hm_moves.specs.declared.ways.Way.TheVariants as way
 use Rattle.hm_moves.specs.Moves.{active_ones, byte_count, every_byte}
-use Rattle.hm_moves.specs.Ways.{Found, at_addresses, at_offsets, each_from, interleaved, straight, way_back, way_element, way_of, way_predicated, way_sources}
+use Rattle.hm_moves.specs.Ways.{Found, at_addresses, at_offsets, each_from, interleaved, straight, way_element, way_of, way_predicated, way_sources}
 
 pub width_some : (z : Size) → 0 < byte_count z
 width_some size.Byte = omega arith
@@ -70,10 +70,3 @@ pub each_more : {A : Type 0} (f : ℕ → A) (n i m : ℕ) (xs ys zs : List A) �
     → ys ++ each_from f (i + 1) m ≡ zs
 each_more f n i m xs ys zs more e h =
     ap (λ us. us ++ each_from f (i + 1) m) e ∙ append_assoc xs (f i ∷ []) (each_from f (i + 1) m) ∙ sym (ap (λ k. xs ++ each_from f i k) more) ∙ h
-
--- what is written back, by the first of what stands in the sources
-pub back_by : (w : Found) (b first : ℕ) (ns : List ℕ) → first ≡ get_or ns 0 0 → way_back w b (first ∷ []) ≡ way_back w b ns
-back_by (straight d n offset before back) b first ns e = ap (λ x. way_back (straight d n offset before back) b (x ∷ [])) e
-back_by (at_offsets d n m scale) b first ns e = refl
-back_by (at_addresses d m offset back) b first ns e = ap (λ x. way_back (at_addresses d m offset back) b (x ∷ [])) e
-back_by (interleaved d n four part back) b first ns e = ap (λ x. way_back (interleaved d n four part back) b (x ∷ [])) e

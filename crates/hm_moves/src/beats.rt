@@ -4,7 +4,7 @@ ghost use Rattle.std.specs.Prelude.{◌≡◌, ℕ, ◌+◌, ◌-◌, ◌*◌, �
 ghost use Rattle.std.specs.Prelude.{All, IfSome, IsOk};
 ghost use Rattle.hm_base.specs.Place.{IsPlace};
 ghost use Rattle.hm_base.specs.declared.Place.TheVariants.{P0};
-ghost use Rattle.hm_lane.specs.Predicate.{advance_of, mask_place};
+ghost use Rattle.hm_lane.specs.Predicate.{advance_of, mask_of, mask_place};
 ghost use Rattle.hm_mem.specs.Memory.{Memory, memory_of};
 ghost use Rattle.hm_mem.specs.Seen.{IsSameElsewhere, marks, seen};
 ghost use Rattle.hm_regs.specs.Place.{value_at};
@@ -21,12 +21,12 @@ ghost use Rattle.hm_moves.specs.Ways.{move_tree, moves_of, way_of, way_predicate
 
 use crate::Move;
 use crate::elements::{Element, Elements, check_all, filled, store_all};
-use crate::found::{find_elements, first_source, is_predicated, only_element};
+use crate::found::{find_elements, is_predicated, only_element};
 use crate::words::{Words, list_words, single, written_back};
 use arrayvec::ArrayVec;
 use hm_base::{Place, Stop};
 use hm_kinds::Written;
-use hm_lane::mask_at;
+use hm_lane::{is_unpredicated, mask_at};
 use hm_mem::Mem;
 use hm_regs::Regs;
 
@@ -279,10 +279,19 @@ fn finish(r: &mut Regs, back: Option<Written>, b: u8, mask: u32, slice: u32)
     put_mask(r, b, mask);
 }
 
-/// Does beat `b`, by the elements that it moves, or stops and changes nothing. `b` is below 4.
+/// Does beat `b`, by the elements that it moves and the mask of its half, or stops and changes nothing. `b` is below 4.
 #[inline(always)]
-fn beat_all(row: &Move, b: u8, es: &[Element], r: &mut Regs, m: &mut Mem) -> Result<(), Stop>
+fn beat_elements(
+    row: &Move,
+    b: u8,
+    mask: u32,
+    es: &[Element],
+    r: &mut Regs,
+    m: &mut Mem,
+) -> Result<(), Stop>
     requires beat { b < 4 }
+    requires mask { mask ≡ mask_of b r.old }
+    requires small { mask < 16 }
     requires fit { Fit row.now.register es.now }
     requires moved { (x : Memory) (output : List ℕ) → es.now ≡ elements_at (moves_of row.now) b (state_of r.old x output) }
     ensures done { (output : List ℕ) → let x = memory_of m.old in
@@ -293,8 +302,7 @@ fn beat_all(row: &Move, b: u8, es: &[Element], r: &mut Regs, m: &mut Mem) -> Res
     r.in_range();
     // Which register, and what is written back, is read before memory is looked at: a compiler takes the row for changed then.
     let one = single(&row.way);
-    let back = written_back(&row.way, b, first_source(&row.way, b, r));
-    let mask = r.get(mask_at(b));
+    let back = written_back(&row.way, b, r);
     let slice = r.get(Place::P0(b));
     if let Err(stop) = check_all(es, row.memory, row.store, m) {
         return Err(stop);
@@ -304,7 +312,7 @@ fn beat_all(row: &Move, b: u8, es: &[Element], r: &mut Regs, m: &mut Mem) -> Res
     Ok(())
 }
 
-/// Does beat `b` of any row, or stops and changes nothing. `b` is below 4.
+/// Does beat `b`, by a list of its elements, or stops and changes nothing. `b` is below 4.
 #[inline(never)]
 fn beat_listed(row: &Move, b: u8, r: &mut Regs, m: &mut Mem) -> Result<(), Stop>
     requires { b < 4 }
@@ -315,11 +323,12 @@ fn beat_listed(row: &Move, b: u8, r: &mut Regs, m: &mut Mem) -> Result<(), Stop>
 {
     let mut es = Elements::new();
     find_elements(&mut es, row, b, r);
-    beat_all(row, b, es.as_slice(), r, m)
+    beat_elements(row, b, r.get(mask_at(b)), es.as_slice(), r, m)
 }
 
-/// Does beat `b`, or stops and changes nothing. `b` is below 4.
-pub fn beat_move(row: &Move, b: u8, r: &mut Regs, m: &mut Mem) -> Result<(), Stop>
+/// Does beat `b`, whatever masks there are, or stops and changes nothing. `b` is below 4.
+#[inline(never)]
+fn beat_under_masks(row: &Move, b: u8, r: &mut Regs, m: &mut Mem) -> Result<(), Stop>
     requires { b < 4 }
     ensures done { (output : List ℕ) → let x = memory_of m.old in
         AnswersBeat (run (move_tree row.now x.around b) r.old x output) result r.old x r.new (memory_of m.new) output }
@@ -327,7 +336,37 @@ pub fn beat_move(row: &Move, b: u8, r: &mut Regs, m: &mut Mem) -> Result<(), Sto
     ensures context { r.new.fpca ≡ r.old.fpca }
 {
     match only_element(row, b, r) {
-        Some(e) => beat_all(row, b, &[e], r, m),
+        Some(e) => beat_elements(row, b, r.get(mask_at(b)), &[e], r, m),
         None => beat_listed(row, b, r, m),
+    }
+}
+
+/// The one element that beat `b` moves where nothing is predicated and it has one. `b` is below 4.
+#[inline(always)]
+fn unpredicated_element(row: &Move, b: u8, r: &Regs) -> Option<Element>
+    requires beat { b < 4 }
+    ensures value { (m : Memory) (output : List ℕ) → IfSome result (λ e. elements_at (moves_of row.now) b (state_of r.now m output) ≡ e ∷ []) }
+    ensures fit { IfSome result (λ e. e.lane + byte_count row.now.register ≤ 4) }
+    ensures mask { IfSome result (λ e. mask_of b r.now ≡ 0) }
+{
+    if is_unpredicated(r) {
+        only_element(row, b, r)
+    } else {
+        None
+    }
+}
+
+/// Does beat `b`, or stops and changes nothing. `b` is below 4. A beat of one element where nothing is predicated has a way of its own, in which
+/// the mask is the constant 0, so that a compiler leaves out what tests it.
+pub fn beat_move(row: &Move, b: u8, r: &mut Regs, m: &mut Mem) -> Result<(), Stop>
+    requires { b < 4 }
+    ensures done { (output : List ℕ) → let x = memory_of m.old in
+        AnswersBeat (run (move_tree row.now x.around b) r.old x output) result r.old x r.new (memory_of m.new) output }
+    ensures kept { IsSameElsewhere (memory_of m.old) (memory_of m.new) }
+    ensures context { r.new.fpca ≡ r.old.fpca }
+{
+    match unpredicated_element(row, b, r) {
+        Some(e) => beat_elements(row, b, 0, &[e], r, m),
+        None => beat_under_masks(row, b, r, m),
     }
 }

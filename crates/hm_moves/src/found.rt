@@ -179,7 +179,7 @@ fn element(row: &Move, b: u8, first: u32, second: u32, j: u32) -> Element
 }
 
 /// What the first source of beat `b` holds. `b` is below 4.
-pub fn first_source(way: &Way, b: u8, r: &Regs) -> u32
+fn first_source(way: &Way, b: u8, r: &Regs) -> u32
     requires { b < 4 }
     ensures { (m : Memory) (output : List ℕ) → result ≡ get_or (map (λ p. at p (state_of r.now m output)) (way_sources (way_of way.now) b)) 0 0 }
 {

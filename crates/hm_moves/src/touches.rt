@@ -5,14 +5,14 @@ ghost use Rattle.hm_base.specs.Place.{IsPlace, noted_all};
 ghost use Rattle.hm_lane.specs.Predicate.{advance_places};
 ghost use Rattle.hm_mem.specs.Memory.{Memory};
 ghost use Rattle.hm_regs.specs.Writes.{places_of};
-ghost use Rattle.hm_state.specs.State.{state_of};
+ghost use Rattle.hm_state.specs.State.{at, state_of};
 ghost use Rattle.hm_beat.specs.Touches.{loads_in, reads_in, spanned, stores_in, writes_in};
 ghost use Rattle.hm_moves.specs.Coded.{begun_in};
 ghost use Rattle.hm_moves.specs.Moves.{bytes_of_elements, elements_at, sources_at};
 ghost use Rattle.hm_moves.specs.Ways.{move_tree, moves_of, way_back, way_of, way_predicated, way_sources, way_words};
 
 use crate::elements::{Elements, spans};
-use crate::found::{find_elements, first_source, is_predicated};
+use crate::found::{find_elements, is_predicated};
 use crate::words::{Words, list_words, written_back};
 use crate::{Move, Way};
 use hm_base::{Place, Places, Spans, note};
@@ -91,14 +91,15 @@ fn note_begun(places: &mut Places, predicated: bool, b: u8, r: &Regs)
     }
 }
 
-/// Notes what beat `b` writes back, by the number in its first source. `b` is below 4.
-fn note_back(places: &mut Places, way: &Way, b: u8, first: u32)
+/// Notes what beat `b` writes back. `b` is below 4.
+fn note_back(places: &mut Places, way: &Way, b: u8, r: &Regs)
     requires beat { b < 4 }
     requires room { length places.old ≤ 16 }
-    ensures value { places.new ≡ noted_all (places_of (way_back (way_of way.now) b (first ∷ []))) places.old }
+    ensures value { (m : Memory) (output : List ℕ)
+        → places.new ≡ noted_all (places_of (way_back (way_of way.now) b (map (λ p. at p (state_of r.now m output)) (way_sources (way_of way.now) b)))) places.old }
     ensures grown { length places.new ≤ length places.old + 1 }
 {
-    if let Some(w) = written_back(way, b, first) {
+    if let Some(w) = written_back(way, b, r) {
         note(places, w.place);
     }
 }
@@ -129,7 +130,7 @@ fn writes(row: &Move, b: u8, r: &Regs) -> Places
 {
     let mut places = Places::new();
     note_advance(&mut places, b, r);
-    note_back(&mut places, &row.way, b, first_source(&row.way, b, r));
+    note_back(&mut places, &row.way, b, r);
     note_words(&mut places, row, b, !row.store);
     places
 }

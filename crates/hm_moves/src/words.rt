@@ -1,23 +1,27 @@
 //! The words that a beat fills or stores from, and what it writes back.
 
-ghost use Rattle.std.specs.Prelude.{◌≡◌, ℕ, ◌+◌, ◌-◌, ◌*◌, ◌/◌, ◌%◌, ◌^◌, ◌<◌, ◌≤◌, ◌&&◌, eqb, cond, List, [], ◌∷◌, ltb, length, true, All, IfSome};
+ghost use Rattle.std.specs.Prelude.{◌≡◌, ℕ, ◌+◌, ◌-◌, ◌*◌, ◌/◌, ◌%◌, ◌^◌, ◌<◌, ◌≤◌, ◌&&◌, eqb, cond, List, [], ◌∷◌, ltb, length, map, true, All, IfSome};
 ghost use Rattle.hm_base.specs.Place.{IsPlace};
 ghost use Rattle.hm_base.specs.declared.Place.TheVariants.{R};
+ghost use Rattle.hm_mem.specs.Memory.{Memory};
 ghost use Rattle.hm_regs.specs.Writes.{write};
+ghost use Rattle.hm_state.specs.State.{at, state_of};
 ghost use Rattle.hm_beat.specs.Rows.{word_place};
 ghost use Rattle.hm_kinds.specs.Coded.{puts};
 ghost use Rattle.hm_kinds.specs.Row.{is_body};
 ghost use Rattle.hm_moves.specs.Coded.{IsSingle};
 ghost use Rattle.hm_moves.specs.Moves.{byte_count};
 ghost use Rattle.hm_lane.specs.Lanes.{per_word};
-ghost use Rattle.hm_moves.specs.Ways.{each_from, registers, stream, way_back, way_of, way_words};
+ghost use Rattle.hm_moves.specs.Ways.{each_from, registers, stream, way_back, way_of, way_sources, way_words};
 
 use crate::found::{registers, stream};
 use crate::{Interleaved, Way};
 use arrayvec::ArrayVec;
 use hm_base::Place;
-use hm_kinds::Written;
+use hm_beat::read_word;
+use hm_kinds::{Written, read};
 use hm_lane::{Size, per_word};
+use hm_regs::Regs;
 
 /// At most four words. A list is filled in place: one that is handed on by value is copied each time.
 pub type Words = ArrayVec<Place, 4>;
@@ -128,52 +132,56 @@ pub fn list_words(list: &mut Words, way: &Way, z: Size, b: u8)
     }
 }
 
-/// The base register and its new value on the last beat, where it is written.
-fn base_back(back: bool, n: u8, b: u8, value: u32) -> Option<Written>
+/// The base register and its new value on the last beat, where it is written: what it holds and so much more.
+fn base_back(back: bool, n: u8, b: u8, more: u32, r: &Regs) -> Option<Written>
     requires { n ≤ 14 }
-    ensures value { puts result ≡ cond (back && eqb b 3) (write (R n) value ∷ []) [] }
+    ensures value { (m : Memory) (output : List ℕ)
+        → puts result ≡ cond (back && eqb b 3) (write (R n) ((at (R n) (state_of r.now m output) + more) % 2 ^ 32) ∷ []) [] }
     ensures placed { IfSome result (λ w. IsPlace w.place) }
     ensures body { IfSome result (λ w. is_body w.place ≡ true) }
 {
     if back && b == 3 {
+        let place = Place::R(n);
         Some(Written {
-            place: Place::R(n),
-            value,
+            place,
+            value: read(r, place).wrapping_add(more),
         })
     } else {
         None
     }
 }
 
-/// A word with addresses and its new value, where it is written.
-fn word_back(back: bool, q: u8, b: u8, value: u32) -> Option<Written>
+/// A word with addresses and its new value, where it is written: what it holds and so much more.
+fn word_back(back: bool, q: u8, b: u8, more: u32, r: &Regs) -> Option<Written>
     requires register { q < 8 }
     requires beat { b < 4 }
-    ensures value { puts result ≡ cond back (write (word_place q b) value ∷ []) [] }
+    ensures value { (m : Memory) (output : List ℕ)
+        → puts result ≡ cond back (write (word_place q b) ((at (word_place q b) (state_of r.now m output) + more) % 2 ^ 32) ∷ []) [] }
     ensures placed { IfSome result (λ w. IsPlace w.place) }
     ensures body { IfSome result (λ w. is_body w.place ≡ true) }
 {
     if back {
         Some(Written {
             place: Place::QWord(4 * q + b),
-            value,
+            value: read_word(r, q, b).wrapping_add(more),
         })
     } else {
         None
     }
 }
 
-/// What beat `b` writes back, by the number in its first source. `b` is below 4.
-pub fn written_back(way: &Way, b: u8, first: u32) -> Option<Written>
+/// What beat `b` writes back, by what stands in its first source, which is read where something is written back alone. `b` is below 4.
+pub fn written_back(way: &Way, b: u8, r: &Regs) -> Option<Written>
     requires { b < 4 }
-    ensures value { puts result ≡ way_back (way_of way.now) b (first ∷ []) }
+    ensures value { (m : Memory) (output : List ℕ)
+        → puts result ≡ way_back (way_of way.now) b (map (λ p. at p (state_of r.now m output)) (way_sources (way_of way.now) b)) }
     ensures placed { IfSome result (λ w. IsPlace w.place) }
     ensures body { IfSome result (λ w. is_body w.place ≡ true) }
 {
     match way {
-        Way::Straight(w) => base_back(w.back, w.n, b, first.wrapping_add(w.offset)),
+        Way::Straight(w) => base_back(w.back, w.n, b, w.offset, r),
         Way::Offsets(_) => None,
-        Way::Addresses(w) => word_back(w.back, w.m, b, first.wrapping_add(w.offset)),
-        Way::Interleaved(w) => base_back(w.back, w.n, b, first.wrapping_add(16 * registers(w))),
+        Way::Addresses(w) => word_back(w.back, w.m, b, w.offset, r),
+        Way::Interleaved(w) => base_back(w.back, w.n, b, 16 * registers(w), r),
     }
 }

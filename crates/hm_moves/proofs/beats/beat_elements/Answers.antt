@@ -1,20 +1,17 @@
-use Rattle.std.proofs.Common.{◌≡◌, Result, Ok, refl, sym, ap, subst, ◌∙◌}
+use Rattle.std.proofs.Common.{◌≡◌, Result, Ok, refl, sym, subst}
 use Rattle.hm_base.specs.declared.Stop.{Stop}
 use Rattle.hm_mem.specs.Memory.{memory_of}
 use Rattle.hm_mem.specs.Seen.{seen}
-use Rattle.hm_regs.specs.Place.{value_at}
 use Rattle.hm_state.specs.State.{State, state_of}
 use Rattle.hm_beat.specs.Laws.{AnswersBeat, run}
 use Rattle.hm_beat.proofs.Footprint.{beats_stopped}
 use Rattle.hm_kinds.proofs.Coded.{put_cells}
 use Rattle.hm_kinds.specs.Coded.{puts}
 use Rattle.hm_moves.specs.Coded.{loads_of}
-use Rattle.hm_moves.specs.Moves.{sources_at}
-use Rattle.hm_moves.specs.Ways.{move_tree, moves_of, way_of}
+use Rattle.hm_moves.specs.Ways.{move_tree, moves_of}
 use Rattle.hm_moves.proofs.Checked.{run_stopped}
 use Rattle.hm_moves.proofs.Done.{beat_done, finished}
-use Rattle.hm_moves.proofs.Widths.{back_by}
-use Rattle.hm_moves.proofs.beats.beat_all.Goals as goal
+use Rattle.hm_moves.proofs.beats.beat_elements.Goals as goal
 
 pub returns-in-Err-clause-done : goal.returns-in-Err-clause-done
 returns-in-Err-clause-done c = λ output.
@@ -38,9 +35,9 @@ returns-clause-done c = λ output.
     c.requires.beat c.in_range.ensures.counted same (sym c.in_default.ensures.value) c.transfer.ensures.cells
     (put_cells back c.written_back-back.ensures.placed c.written_back-back.ensures.body)
     (c.transfer.ensures.loaded output same)
-    (c.written_back-back.ensures.value ∙ back_by (way_of c.args.row.now.way) b _ (sources_at i b (state_of r m output)) (c.first_source.ensures m output))
+    (c.written_back-back.ensures.value m output)
     (c.transfer.ensures.stored output same)
-    (finished b r _ _ ws (puts back) c.get-mask.result c.get-slice.result
-    (c.get-mask.ensures.value ∙ ap (λ p. value_at p r) c.mask_at.ensures.place) c.get-slice.ensures.value
+    (finished b r _ _ ws (puts back) c.args.mask c.get-slice.result
+    c.requires.mask c.get-slice.ensures.value
     c.transfer.ensures.loads c.finish.ensures.value) in
     subst (λ (x : Result State Stop). AnswersBeat x (Ok tt) r m c.finish.new.r (memory_of c.transfer.new.m) output) (sym done) (refl, refl)
