@@ -42,41 +42,25 @@ module _ (r : Regs) where
   scalar-keep (scalar.S4 i) q h = byte-same r i.name _ _ _ q h
   scalar-keep (scalar.S5 i) q h = logic-same r i.name _ _ _ q h
   scalar-keep (scalar.S6 i) q h = any-keep i.d.value _ q h
-  scalar-keep (scalar.S7 i) q h = h
   scalar-keep (scalar.S8 i) q h = any-keep i.d.value _ q h
-  scalar-keep (scalar.S9 i) q h = h
-  scalar-keep (scalar.S10 i) q h = h
-  scalar-keep (scalar.S11 i) q h = h
-  scalar-keep (scalar.S12 i) q h = h
-  scalar-keep (scalar.S13 i) q h = h
   scalar-keep (scalar.S14 i) q h = λ xs. loaded-keep r i.t.value (slice_index xs 0) q h
   scalar-keep (scalar.S15 i) q h = access-keep r i.name _ _ (λ p. p) q h
   scalar-keep (scalar.S16 i) q h = access-keep r (plain_name i.name) _ _ (λ p. p) q h
   scalar-keep (scalar.S17 i) q h = access-keep r (word_name i.name) _ _ (λ p. p) q h
-  scalar-keep (scalar.S18 i) q h = h
-  scalar-keep (scalar.S19 i) q h = h
   scalar-keep (scalar.S20 i) q h = list-keep r i.name _ _ _ q h
   scalar-keep (scalar.S21 i) q h = let opened = opens i.c.value i.mask.value i.c.in_range i.mask.in_range i.row in (h.0, opened.0, opened.1, h.2)
   scalar-keep (scalar.T1 i) q h = data-same r i.name _ _ _ _ q h
   scalar-keep (scalar.T2 i) q h = data-same r i.name _ _ _ _ q h
-  scalar-keep (scalar.T3 i) q h = h
-  scalar-keep (scalar.T4 i) q h = h
-  scalar-keep (scalar.T5 i) q h = h
-  scalar-keep (scalar.T6 i) q h = h
-  scalar-keep (scalar.T7 i) q h = h
   scalar-keep (scalar.T8 i) q h = either (Same r) _ _ _ h h
-  scalar-keep (scalar.T9 i) q h = h
-  scalar-keep (scalar.T10 i) q h = h
   scalar-keep (scalar.T11 i) q h = product-same r i q h
   scalar-keep (scalar.T12 i) q h = t12-keep r i q h
   scalar-keep (scalar.T13 i) q h = pair-keep r i.name _ _ _ _ _ _ q h
   scalar-keep (scalar.T14 i) q h = wide_list-keep r i.name _ _ _ q h
   scalar-keep (scalar.T15 i) q h = stack-keep r i.name _ _ q h
   scalar-keep (scalar.T18 i) q h = t18-same r i q h
-  scalar-keep (scalar.T19 i) q h = h
-  scalar-keep (scalar.T20 i) q h = h
   scalar-keep (scalar.T21 i) q h = system-same r i.name _ q h
   scalar-keep (scalar.T22 i) q h = lane-same r i.name _ _ q h
+  scalar-keep i q h = h
 
   branches-keep : (i : Branch) (q : Regs) → Same r q → EndsKeep r (branch_does i q)
   branches-keep (branch.S23 i) q h = jump-keep r i.name _ q h
