@@ -1,12 +1,10 @@
 -- Each row has its label and its target by its own table alone.
-use Rattle.std.proofs.Common.{◌≡◌, ◌⊎◌, ℕ, Bool, true, false, cond, List, [], ◌∷◌, length, Option, Some, None, refl, sym, ap, subst, inl, inr, arith}
+use Rattle.std.proofs.Common.{◌≡◌, ◌⊎◌, ℕ, Bool, true, false, cond, length, Option, Some, None, refl, sym, ap, subst, inl, inr, arith}
 use Rattle.std.specs.Prelude.{if◌then◌else◌, ◌||◌}
 use Rattle.hm_isa.specs.declared.Branch.{Branch}
-use Rattle.hm_isa.specs.declared.Branch.TheVariants as branch
 use Rattle.hm_isa.specs.declared.Instr.{Instr}
 use Rattle.hm_isa.specs.declared.Instr.TheVariants as instr
 use Rattle.hm_isa.specs.declared.Scalar.{Scalar}
-use Rattle.hm_isa.specs.declared.Scalar.TheVariants as scalar
 use Rattle.hm_isa.specs.Code.{branch_halves, halfwords, scalar_halves}
 use Rattle.hm_codes.specs.Listing.{is_long}
 use Rattle.hm_codes.proofs.Widths.{first_of}
@@ -27,9 +25,6 @@ use Rattle.hm_text.specs.Tables.{has_label, label_of, target}
 
 -- HALFWORDS
 
-pub not_two : (hs : List ℕ) → length hs ≡ 1 → length hs ≡ 2 → ⊥
-not_two hs e f = omega (arith, e, f)
-
 counted : (n : ℕ) (long : Bool) → n ≡ (if long then 2 else 1) → (n ≡ 1) ⊎ (n ≡ 2)
 counted n true e = inr e
 counted n false e = inl e
@@ -38,23 +33,11 @@ pub lengths : (i : Instr) → (length (halfwords i) ≡ 1) ⊎ (length (halfword
 lengths i = counted (length (halfwords i)) (is_long (first_of (halfwords i))) (length_instr i)
 
 -- A ROW OF ONE HALFWORD
-abbrev two_halves : List ℕ
-two_halves = 0 ∷ 0 ∷ []
-
-no_narrow : length two_halves ≡ 1 → ⊥
-no_narrow e = omega (arith, e)
-
 no_wide_label : (i : Branch) → length (branch_halves i) ≡ 1 → wide_rows.has_label (instr.Branch i) ≡ false
-no_wide_label (branch.T16 i) e = absurd (no_narrow e)
-no_wide_label (branch.T17 i) e = absurd (no_narrow e)
-no_wide_label (branch.T23 i) e = absurd (no_narrow e)
-no_wide_label i e = refl
+no_wide_label i e = grind arith
 
 no_wide_target : (i : Branch) (pc : ℕ) → length (branch_halves i) ≡ 1 → wide_targets.target (instr.Branch i) pc ≡ None
-no_wide_target (branch.T16 i) pc e = absurd (no_narrow e)
-no_wide_target (branch.T17 i) pc e = absurd (no_narrow e)
-no_wide_target (branch.T23 i) pc e = absurd (no_narrow e)
-no_wide_target i pc e = refl
+no_wide_target i pc e = grind arith
 
 wide_label_none : (i : Instr) → narrow.IsNarrow i → wide_rows.has_label i ≡ false
 wide_label_none (instr.Scalar i) e = refl
@@ -84,29 +67,17 @@ pub narrow_label : (i : Instr) (t : Tok) → narrow.IsNarrow i → narrow.label_
 narrow_label i t e = ap (λ (b : Bool). cond b (Some t) None) (narrow_has_label i e)
 
 -- A ROW OF TWO, NO VECTOR ROW
-abbrev alone : List ℕ
-alone = 0 ∷ []
-
-no_two : length alone ≡ 2 → ⊥
-no_two e = omega (arith, e)
-
 no_narrow_scalar : (i : Scalar) → length (scalar_halves i) ≡ 2 → narrow_rows.has_label (instr.Scalar i) ≡ false
-no_narrow_scalar (scalar.S14 i) e = absurd (no_two e)
-no_narrow_scalar i e = refl
+no_narrow_scalar i e = grind arith
 
 no_narrow_branch : (i : Branch) → length (branch_halves i) ≡ 2 → narrow_rows.has_label (instr.Branch i) ≡ false
-no_narrow_branch (branch.S24 i) e = absurd (no_two e)
-no_narrow_branch (branch.S25 i) e = absurd (no_two e)
-no_narrow_branch i e = refl
+no_narrow_branch i e = grind arith
 
 no_scalar_target : (i : Scalar) (pc : ℕ) → length (scalar_halves i) ≡ 2 → narrow_targets.target (instr.Scalar i) pc ≡ None
-no_scalar_target (scalar.S14 i) pc e = absurd (no_two e)
-no_scalar_target i pc e = refl
+no_scalar_target i pc e = grind arith
 
 no_branch_target : (i : Branch) (pc : ℕ) → length (branch_halves i) ≡ 2 → narrow_targets.target (instr.Branch i) pc ≡ None
-no_branch_target (branch.S24 i) pc e = absurd (no_two e)
-no_branch_target (branch.S25 i) pc e = absurd (no_two e)
-no_branch_target i pc e = refl
+no_branch_target i pc e = grind arith
 
 narrow_label_none : (i : Instr) → IsWide i → narrow_rows.has_label i ≡ false
 narrow_label_none (instr.Scalar i) e = no_narrow_scalar i e

@@ -117,24 +117,16 @@ one_at_label text c is d at = is at.0 at.1 ∙ sym at.2
 row_not_refused : (text : List ℕ) (i : Instr) (t : Tok) (k : AsmKind) (c : ℕ) → IsRowText text i t → IsShapeRefused k text c → ⊥
 row_not_refused text i t kinds.Syntax c row r = not_both forms.Instruction text c row.form r
 row_not_refused text i t kinds.Row c row r = r.none i t row
-row_not_refused text i t kinds.Missing c row r = r
-row_not_refused text i t kinds.Double c row r = r
-row_not_refused text i t kinds.Offset c row r = r
-row_not_refused text i t kinds.Place c row r = r
+row_not_refused text i t k c row r = r
 
 one_shape_refusal : (text : List ℕ) (k j : AsmKind) (c d : ℕ) → IsShapeRefused k text c → IsShapeRefused j text d → (k ≡ j) × (c ≡ d)
 one_shape_refusal text kinds.Syntax kinds.Syntax c d r s = (refl, one_column forms.Instruction text c d r s)
 one_shape_refusal text kinds.Syntax kinds.Row c d r s = absurd (not_both forms.Instruction text c s.form r)
 one_shape_refusal text kinds.Row kinds.Syntax c d r s = absurd (not_both forms.Instruction text d r.form s)
 one_shape_refusal text kinds.Row kinds.Row c d r s = (refl, r.column ∙ sym s.column)
-one_shape_refusal text kinds.Missing j c d r s = absurd r
-one_shape_refusal text kinds.Double j c d r s = absurd r
-one_shape_refusal text kinds.Offset j c d r s = absurd r
-one_shape_refusal text kinds.Place j c d r s = absurd r
-one_shape_refusal text k kinds.Missing c d r s = absurd s
-one_shape_refusal text k kinds.Double c d r s = absurd s
-one_shape_refusal text k kinds.Offset c d r s = absurd s
-one_shape_refusal text k kinds.Place c d r s = absurd s
+one_shape_refusal text kinds.Syntax j c d r s = absurd s
+one_shape_refusal text kinds.Row j c d r s = absurd s
+one_shape_refusal text k j c d r s = absurd r
 
 ok_value : (w n : ℕ) → ok w ≡ ok n → w ≡ n
 ok_value w n e = cc
@@ -168,10 +160,7 @@ shape_refusals text d r e = (
 shape_refusal_told : (text : List ℕ) (pc : ℕ) (labels : Labels) (k : AsmKind) (c : ℕ) → IsShapeRefused k text c → IsTextRefused k text pc labels c
 shape_refusal_told text pc labels kinds.Syntax c r = r
 shape_refusal_told text pc labels kinds.Row c r = r
-shape_refusal_told text pc labels kinds.Missing c r = absurd r
-shape_refusal_told text pc labels kinds.Double c r = absurd r
-shape_refusal_told text pc labels kinds.Offset c r = absurd r
-shape_refusal_told text pc labels kinds.Place c r = absurd r
+shape_refusal_told text pc labels k c r = absurd r
 
 -- a refusal of the shape is the only one
 pub shape_first : (text : List ℕ) (pc : ℕ) (labels : Labels) (k j : AsmKind) (c d : ℕ) → IsShapeRefused k text c → IsTextRefused j text pc labels d
@@ -179,9 +168,8 @@ pub shape_first : (text : List ℕ) (pc : ℕ) (labels : Labels) (k j : AsmKind)
 shape_first text pc labels k kinds.Syntax c d r s = one_shape_refusal text k kinds.Syntax c d r s
 shape_first text pc labels k kinds.Row c d r s = one_shape_refusal text k kinds.Row c d r s
 shape_first text pc labels k kinds.Missing c d r s = absurd (row_not_refused text s.instr (word s.name) k c s.row r)
-shape_first text pc labels k kinds.Double c d r s = absurd s
 shape_first text pc labels k kinds.Offset c d r s = absurd (row_not_refused text s.instr s.label k c s.row r)
-shape_first text pc labels k kinds.Place c d r s = absurd s
+shape_first text pc labels k j c d r s = absurd s
 
 pub shape_reads : (text : List ℕ) (pc : ℕ) (labels : Labels) (d : TextErr) → IsShapeRefused d.kind text d.column → (i : Instr)
     → IsTextOf text pc labels i ↔ (refused d ≡ ok i)
@@ -233,12 +221,11 @@ pub missing_only : (text : List ℕ) (pc : ℕ) (labels : Labels) (t : Tok) (c d
 missing_only text pc labels t c d kinds.Syntax label m none one s = absurd (not_both forms.Instruction text d m.row.form s)
 missing_only text pc labels t c d kinds.Row label m none one s = absurd (s.none m.instr (word m.name) m.row)
 missing_only text pc labels t c d kinds.Missing label m none one s = (refl, one d s.column)
-missing_only text pc labels t c d kinds.Double label m none one s = absurd s
 missing_only text pc labels t c d kinds.Offset label m none one s =
     let same : t ≡ s.label = some_is t s.label (label s.instr s.label s.row ∙ s.labelled) in
     let g = given_label (has_label s.instr) s.label s.label s.labelled in
     absurd (unknown_named labels s.label s.address (is_label text s.instr s.label s.row.has g.0) (subst (λ (u : Tok). IsUnknown labels u) same none) s.names)
-missing_only text pc labels t c d kinds.Place label m none one s = absurd s
+missing_only text pc labels t c d j label m none one s = absurd s
 
 -- AN ADDRESS
 -- a row at the address is what the text names
@@ -271,9 +258,8 @@ named_not_refused text pc a labels l i kinds.Missing c label names is r =
     let known : Names labels (word r.name) a = subst (λ (m : Option Tok). NamesGiven labels m a) e names in
     let f = sym r.unknown ∙ known in
     absurd cc
-named_not_refused text pc a labels l i kinds.Double c label names is r = r
 named_not_refused text pc a labels l i kinds.Offset c label names is r = r.none i is
-named_not_refused text pc a labels l i kinds.Place c label names is r = r
+named_not_refused text pc a labels l i k c label names is r = r
 
 instr_is : (i j : Instr) → ok i ≡ ok j → i ≡ j
 instr_is i j e = cc
@@ -323,9 +309,8 @@ out_only text pc a labels l c d kinds.Missing label names o one s =
     let known : Names labels (word s.name) a = subst (λ (m : Option Tok). NamesGiven labels m a) e names in
     let f = sym s.unknown ∙ known in
     absurd cc
-out_only text pc a labels l c d kinds.Double label names o one s = absurd s
 out_only text pc a labels l c d kinds.Offset label names o one s = (refl, one d s.column)
-out_only text pc a labels l c d kinds.Place label names o one s = absurd s
+out_only text pc a labels l c d j label names o one s = absurd s
 
 pub out_reads : (text : List ℕ) (pc : ℕ) (labels : Labels) (d : TextErr) (c : ℕ) → IsOutOfReach text pc labels c → (i : Instr)
     → IsTextOf text pc labels i ↔ (refused d ≡ ok i)

@@ -9,12 +9,10 @@ use Rattle.hm_isa.specs.declared.Instr.{Instr}
 use Rattle.hm_isa.specs.declared.Instr.TheVariants as instr
 use Rattle.hm_isa.specs.declared.Scalar.{Scalar}
 use Rattle.hm_isa.specs.declared.Scalar.TheVariants as scalar
-use Rattle.hm_isa.specs.declared.arith.T11.TheVariants as t11
 use Rattle.hm_isa.specs.declared.data.DataName.{DataName}
 use Rattle.hm_isa.specs.declared.data.DataName.TheVariants as data_
 use Rattle.hm_isa.specs.declared.system.BarrierName.{BarrierName}
 use Rattle.hm_isa.specs.declared.system.T19.TheVariants as t19
-use Rattle.hm_isa.specs.declared.wide.T12.TheVariants as t12
 use Rattle.hm_isa.specs.declared.wide.WideListName.{WideListName}
 use Rattle.hm_isa.specs.Code.{branch_halves, scalar_halves}
 use Rattle.hm_isa.specs.Rules.{is_wide_list}
@@ -78,34 +76,12 @@ data_named name s n d m ty k lt bit =
     (chosen (nat_eq n 15) (single_named name s d m ty k lt bit)
     (shifted_named (data_mnemonic name s ++ wide) (r d ∷ comma ∷ r n ∷ comma ∷ r m ∷ []) ty k (free_data name s)))
 
--- one halfword is not two
-no_two : (h : ℕ) → length (h ∷ []) ≡ 2 → ⊥
-no_two h e = omega (arith, e)
-
+-- all rows at once, but for T1 and T2, and for T9, which is quicker by itself
 scalar_named : (i : Scalar) → length (scalar_halves i) ≡ 2 → IsNamed (row_tokens (instr.Scalar i))
 scalar_named (scalar.T1 i) _ = constant_named i.name i.s.value i.n.value i.d.value _
 scalar_named (scalar.T2 i) _ = data_named i.name i.s.value i.n.value i.d.value i.m.value i.ty.value (4 * i.i3.value + i.i2.value) i.ty.in_range i.s.in_range
-scalar_named (scalar.T3 i) _ = line (grind arith)
-scalar_named (scalar.T4 i) _ = line (grind arith)
-scalar_named (scalar.T5 i) _ = line (grind arith)
-scalar_named (scalar.T6 i) _ = line (grind arith)
-scalar_named (scalar.T7 i) _ = grind arith
-scalar_named (scalar.T8 i) _ = line (grind arith)
 scalar_named (scalar.T9 i) _ = chosen (nat_eq (8 * i.r.value) 0) (line (grind arith)) (line (grind arith))
-scalar_named (scalar.T10 i) _ = line (grind arith)
-scalar_named (scalar.T11 (t11.Operation i)) _ = line (grind arith)
-scalar_named (scalar.T11 i) _ = line (grind arith)
-scalar_named (scalar.T12 (t12.Offset i)) _ = line (grind arith)
-scalar_named (scalar.T12 i) _ = line (grind arith)
-scalar_named (scalar.T13 i) _ = line (grind arith)
-scalar_named (scalar.T14 i) _ = line (grind arith)
-scalar_named (scalar.T15 i) _ = grind arith
-scalar_named (scalar.T18 i) _ = grind arith
-scalar_named (scalar.T19 i) _ = grind arith
-scalar_named (scalar.T20 i) _ = line (grind arith)
-scalar_named (scalar.T21 i) _ = grind arith
-scalar_named (scalar.T22 i) _ = grind arith
-scalar_named i e = absurd (no_two 0 e)
+scalar_named i e = grind arith
 
 -- whatever its label is, a branch has a mnemonic of its own
 branch_named : (i : Branch) (t : Tok) → length (branch_halves i) ≡ 2 → IsNamed (tokens_of (instr.Branch i) t)
