@@ -1,31 +1,20 @@
--- Steps one after another, and what a letter is.
-use Rattle.std.proofs.Common.{◌≡◌, ℕ, suc, ◌+◌, ◌-◌, ◌<◌, arith, ap, refl, sym, ◌∙◌, ◌==◌, Bool, false, cond, Ok, Err}
+-- What a letter is.
+use Rattle.std.proofs.Common.{◌≡◌, ℕ, arith, ap, refl, sym, ◌∙◌, ◌==◌, Bool, false, cond, Ok, Err}
 use Rattle.std.proofs.lemmas.Bool.Decides.{nat_tests}
 use Rattle.hm_codes.specs.Listing.{Listing}
-use Rattle.hm_handlers.specs.Nested.{Nested, NestedEnd, NestedStep, letter, step, steps, to_end}
+use Rattle.hm_handlers.specs.Nested.{Nested, NestedStep, letter, step, steps, to_end}
 use Rattle.hm_order.specs.Beats.{then}
 use Rattle.hm_order.specs.Turns.{Older, Younger}
 use Rattle.hm_sched.specs.Schedule.{Sched, older_letter, younger_letter}
 
 module _ (listing : Listing) (s : Sched) where
-  -- STEPS: one that does not go on, and one that does
-  module _ (k n : ℕ) (x : Nested) (few : k < n) where
-    step_first : then (step listing s Older x) (steps listing s (n - (k + 1))) ≡ steps listing s (n - k) x
-    step_first = let left : n - k ≡ suc (n - (k + 1)) = omega arith in sym (ap (λ (j : ℕ). steps listing s j x) left)
-
-    pub steps_stop : (e : NestedEnd) → Err e ≡ step listing s Older x → Err e ≡ steps listing s (n - k) x
-    steps_stop e stop = ap (λ (r : NestedStep). then r (steps listing s (n - (k + 1)))) stop ∙ step_first
-
-    pub steps_on : (y : Nested) → Ok y ≡ step listing s Older x → steps listing s (n - (k + 1)) y ≡ steps listing s (n - k) x
-    steps_on y on = ap (λ (r : NestedStep). then r (steps listing s (n - (k + 1)))) on ∙ step_first
-
+  -- ONE STEP
   only_step : (r : NestedStep) → r ≡ then r (steps listing s 0)
   only_step (Ok y) = refl
   only_step (Err e) = refl
 
-  -- the one that is left
-  pub one_left : (n : ℕ) (x : Nested) → n ≡ 1 → step listing s Older x ≡ steps listing s n x
-  one_left n x e = only_step (step listing s Older x) ∙ sym (ap (λ (j : ℕ). steps listing s j x) e)
+  pub one_step : (x : Nested) → step listing s Older x ≡ steps listing s 1 x
+  one_step x = only_step (step listing s Older x)
 
   -- WHAT A LETTER IS
   pub letter_older : (l : ℕ) (x : Nested) → l ≡ older_letter → step listing s Older x ≡ letter listing s l x

@@ -86,6 +86,10 @@ IsUnder s x = (memory_of x.mem).around ≡ around_under s (nested_of x).acts
 abbrev pub AreEntered : Cpu → Type 0
 AreEntered x = AreStacked (nested_of x).acts
 
+-- the thread runs
+abbrev pub IsThread : Cpu → Type 0
+IsThread x = array_vec_len x.acts ≡ 0
+
 -- a handler runs
 abbrev pub IsHandler : Cpu → Type 0
 IsHandler x = 0 < array_vec_len x.acts
@@ -138,7 +142,7 @@ CountsOne old new = (new.retired ≤ old.retired + 1) × (new.older_steps ≤ ol
 abbrev pub CountsNone : Cpu → Cpu → Type 0
 CountsNone old new = (new.retired ≡ old.retired) × (new.older_steps ≡ old.older_steps)
 
--- where an instruction had more than one step left, it stands at the same address and has one less
+-- where an instruction had more than one step left, it stands at the same address, has one less, and what is put away stays
 abbrev pub LeavesTheRest : Instr → Cpu → Cpu → Type 0
 LeavesTheRest i old new = let left = λ (x : Cpu). steps_left (vector_in i) x.window.a in
-    1 < left old → (new.regs.pc ≡ old.regs.pc) × (left new + 1 ≡ left old)
+    1 < left old → (new.regs.pc ≡ old.regs.pc) × (left new + 1 ≡ left old) × (new.acts ≡ old.acts)

@@ -7,7 +7,7 @@ ghost use Rattle.std.specs.Prelude.{◌≡◌, ℕ, ◌+◌, ◌^◌, ◌<◌, n
 ghost use Rattle.std.specs.Vec.{vec_capacity};
 ghost use Rattle.hm_codes.specs.Listing.{Listing, IsListing};
 ghost use Rattle.hm_exec.specs.Families.{row_of};
-ghost use Rattle.hm_cpu.specs.Cpus.{config_of, state_in, executed, reached, CountsOne, LeavesTheRest, IsPosition, Keeps};
+ghost use Rattle.hm_cpu.specs.Cpus.{config_of, state_in, executed, reached, CountsOne, IsPosition, Keeps};
 ghost use Rattle.hm_cpu.specs.Decodings.{instr_of};
 ghost use Rattle.hm_mem.specs.Memory.{Around, Memory, memory_of, flash_at};
 ghost use Rattle.hm_mem.specs.Seen.{IsSameElsewhere};
@@ -203,7 +203,7 @@ fn retire(x: &mut Cpu)
 
 /// The whole of an instruction that is no vector row, which stands at the program counter; or it halts, or stops.
 #[inline(always)]
-fn other_step(i: &Instr, x: &mut Cpu) -> Result<(), Cause>
+pub fn other_step(i: &Instr, x: &mut Cpu) -> Result<(), Cause>
     requires row { IsTrue (not (is_vector_row i.now)) }
     requires count { (x.old.retired < 2 ^ 63) × (x.old.older_steps < 2 ^ 63) }
     requires position { IsPosition x.old }
@@ -235,7 +235,6 @@ pub fn thread_step(i: &Decoded, x: &mut Cpu) -> Result<(), Cause>
     requires pc { x.old.regs.pc + 4 < 2 ^ 32 }
     ensures value { (listing : Listing) → listing x.old.regs.pc ≡ Ok (instr_of i.now)
         → reached result x.new ≡ older (core listing (memory_of x.old.mem).around) (config_of x.old) }
-    ensures stays { OnOk result (LeavesTheRest (instr_of i.now) x.old x.new) }
     ensures kept { Keeps x.old x.new }
     ensures count { CountsOne x.old x.new }
 {

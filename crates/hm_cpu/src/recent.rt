@@ -41,14 +41,12 @@ fn place_of(addr: u32) -> usize
     (addr / 2) as usize % PLACES
 }
 
-/// The halfword at an address and the next one, where both are in flash.
+/// The halfword at an address and the next one, where the address is even and both are in flash.
 fn halves_at(m: &Mem, addr: u32) -> Option<(u16, u16)>
     ensures even { IfSome result (λ h. addr % 2 ≡ 0) }
     ensures stand { IfSome result (λ h. HalvesStand (flash_at (memory_of m.now)) (h.0 ∷ h.1 ∷ []) addr) }
 {
-    let first = m.half(addr)?;
-    let second = m.half(addr + 2)?;
-    Some((first, second))
+    m.halves(addr)
 }
 
 impl Recent {

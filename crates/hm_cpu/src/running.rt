@@ -7,7 +7,7 @@ ghost use Rattle.std.specs.Prelude.{◌≡◌, ◌+◌, ◌^◌, ◌<◌, ◌≤
 ghost use Rattle.std.specs.Vec.{vec_capacity};
 ghost use Rattle.hm_codes.specs.Listing.{IsFetched, IsListing, Listing, Stands};
 ghost use Rattle.hm_cpu.specs.Cpus.{config_of, nested_of, returns, state_in, stepped, AreEntered, CountsOne, IsHandler, IsPosition, IsSoundUnderSome};
-ghost use Rattle.hm_cpu.specs.Cpus.{interrupted_of, LeavesTheRest, IsSoundUnder, IsUnder, KeepsFlash};
+ghost use Rattle.hm_cpu.specs.Cpus.{interrupted_of, LeavesTheRest, IsSoundUnder, IsThread, IsUnder, KeepsFlash};
 ghost use Rattle.hm_cpu.specs.Decodings.{instr_of};
 ghost use Rattle.hm_exc.specs.Entry.{newest_first};
 ghost use Rattle.hm_exc.specs.declared.types.Activation.{Activation};
@@ -20,8 +20,8 @@ ghost use Rattle.hm_sched.specs.Schedule.{Sched};
 ghost use Rattle.hm_state.specs.State.{State};
 ghost use Rattle.hm_thumb.specs.Families.{is_vector_row};
 
-use crate::cpu::{Cpu, execute, thread_step, vector_step};
-use crate::decoded::Decoded;
+use crate::cpu::{Cpu, execute, other_step, thread_step, vector_step};
+use crate::decoded::{Decoded, Whole};
 use crate::recent::Recent;
 use crate::step_ends::{LetterEnd, StepEnd};
 use crate::younger::younger;
@@ -153,7 +153,6 @@ fn step_of(i: &Decoded, x: &mut Cpu) -> Result<(), LetterEnd>
     requires sound { IsSoundUnderSome x.old }
     ensures value { (listing : Listing) (s : Sched) → IsListing (flash_at (memory_of x.old.mem)) listing → IsSoundUnder s x.old
         → stepped result x.new ≡ step listing s Older (nested_of x.old) }
-    ensures stays { OnOk result (LeavesTheRest (instr_of i.now) x.old x.new) }
     ensures sound { (s : Sched) → IsSoundUnder s x.old → OnOk result (IsSoundUnder s x.new) }
     ensures moves { KeepsFlash x.old x.new }
     ensures position { OnOk result (IsPosition x.new) }
@@ -215,6 +214,73 @@ fn younger_step(recent: &mut Recent, x: &mut Cpu) -> Result<(), LetterEnd>
     Ok(())
 }
 
+/// The whole of this instruction of the thread that is no vector row, which stands at the program counter.
+#[inline(always)]
+fn thread_other(i: &Whole, x: &mut Cpu) -> Result<(), LetterEnd>
+    requires stands { Stands (flash_at (memory_of x.old.mem)) x.old.regs.pc i.now.instr }
+    requires count { (x.old.retired < 2 ^ 61) × (x.old.older_steps < 2 ^ 61) }
+    requires position { IsPosition x.old }
+    requires room { vec_capacity x.old.output ≡ most_output }
+    requires thread { IsThread x.old }
+    ensures value { (listing : Listing) (s : Sched) → IsListing (flash_at (memory_of x.old.mem)) listing → IsSoundUnder s x.old
+        → stepped result x.new ≡ to_end listing s (nested_of x.old) }
+    ensures sound { (s : Sched) → IsSoundUnder s x.old → OnOk result (IsSoundUnder s x.new) }
+    ensures moves { KeepsFlash x.old x.new }
+    ensures position { OnOk result (IsPosition x.new) }
+    ensures count { CountsOne x.old x.new }
+{
+    if let Err(cause) = other_step(&i.instr, x) {
+        return Err(stop_of(cause));
+    }
+    Ok(())
+}
+
+/// The beats that are left of this vector instruction of the thread, which stands at the program counter.
+#[inline(always)]
+fn thread_beats(v: &Any, x: &mut Cpu) -> Result<(), LetterEnd>
+    requires stands { Stands (flash_at (memory_of x.old.mem)) x.old.regs.pc (Instr.Vector (row_of v.now)) }
+    requires count { (x.old.retired < 2 ^ 61) × (x.old.older_steps < 2 ^ 61) }
+    requires position { IsPosition x.old }
+    requires thread { IsThread x.old }
+    ensures value { (listing : Listing) (s : Sched) → IsListing (flash_at (memory_of x.old.mem)) listing → IsSoundUnder s x.old
+        → stepped result x.new ≡ to_end listing s (nested_of x.old) }
+    ensures sound { (s : Sched) → IsSoundUnder s x.old → OnOk result (IsSoundUnder s x.new) }
+    ensures moves { KeepsFlash x.old x.new }
+    ensures position { OnOk result (IsPosition x.new) }
+    ensures count { (x.new.retired ≤ x.old.retired + 4) × (x.new.older_steps ≤ x.old.older_steps + 4) }
+{
+    for _k in x.window.a..4 {
+        if let Err(cause) = vector_step(v, x) {
+            return Err(stop_of(cause));
+        }
+    }
+    Ok(())
+}
+
+/// The steps that are left of this instruction of a handler, which stands at the program counter.
+#[inline(never)]
+fn handler_rest(i: &Decoded, x: &mut Cpu) -> Result<(), LetterEnd>
+    requires stands { Stands (flash_at (memory_of x.old.mem)) x.old.regs.pc (instr_of i.now) }
+    requires count { (x.old.retired < 2 ^ 61) × (x.old.older_steps < 2 ^ 61) }
+    requires position { IsPosition x.old }
+    requires sound { IsSoundUnderSome x.old }
+    requires handler { IsHandler x.old }
+    ensures value { (listing : Listing) (s : Sched) → IsListing (flash_at (memory_of x.old.mem)) listing → IsSoundUnder s x.old
+        → stepped result x.new ≡ to_end listing s (nested_of x.old) }
+    ensures sound { (s : Sched) → IsSoundUnder s x.old → OnOk result (IsSoundUnder s x.new) }
+    ensures moves { KeepsFlash x.old x.new }
+    ensures position { OnOk result (IsPosition x.new) }
+    ensures count { (x.new.retired ≤ x.old.retired + 4) × (x.new.older_steps ≤ x.old.older_steps + 4) }
+{
+    let left = i.steps_left(x.window.a);
+    for _k in 0..left {
+        if let Err(end) = handler_step(i, x) {
+            return Err(end);
+        }
+    }
+    Ok(())
+}
+
 /// This instruction of what runs, which stands at the program counter, to its end, in at most four steps.
 #[inline(always)]
 fn rest_of(i: &Decoded, x: &mut Cpu) -> Result<(), LetterEnd>
@@ -230,17 +296,14 @@ fn rest_of(i: &Decoded, x: &mut Cpu) -> Result<(), LetterEnd>
     ensures position { OnOk result (IsPosition x.new) }
     ensures count { (x.new.retired ≤ x.old.retired + 4) × (x.new.older_steps ≤ x.old.older_steps + 4) }
 {
-    let left = i.steps_left(x.window.a);
-    // Most instructions have one, and need no loop.
-    if left == 1 {
-        return step_of(i, x);
+    // Who runs is asked once, and of the thread's instruction its kind too, not for each beat.
+    if !x.acts.is_empty() {
+        return handler_rest(i, x);
     }
-    for _k in 0..left {
-        if let Err(end) = step_of(i, x) {
-            return Err(end);
-        }
+    match i {
+        Decoded::Whole(i) => thread_other(i, x),
+        Decoded::Beats(v) => thread_beats(v, x),
     }
-    Ok(())
 }
 
 /// The older instruction of what runs to its end, in at most four steps, or the fault where none stands at the program counter.

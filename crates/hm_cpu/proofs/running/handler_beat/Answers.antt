@@ -28,4 +28,4 @@ returns-in-Err-clause-value c listing s here under =
     (c.in-Err.ensures.value listing (ap vector_of here))
 
 pub returns-in-Ok-clause-stays : goal.returns-in-Ok-clause-stays
-returns-in-Ok-clause-stays c = beats_go_on (row_of c.args.v.now) c.args.x.now c.vector_step.new.x c.in-Ok.ensures.stays
+returns-in-Ok-clause-stays c = beats_go_on (row_of c.args.v.now) c.args.x.now c.vector_step.new.x c.in-Ok.ensures.stays c.in-Ok.ensures.kept.acts

@@ -1,10 +1,10 @@
-use Rattle.std.proofs.Common.{Result, Err, arith, ap, sym, ◌∙◌}
+use Rattle.std.proofs.Common.{Result, Err, ap, sym, ◌∙◌}
 use Rattle.hm_base.specs.declared.Fault.{Fault}
 use Rattle.hm_handlers.specs.Nested.{steps}
 use Rattle.hm_isa.specs.declared.Instr.{Instr}
-use Rattle.hm_cpu.proofs.Letters.{steps_stop}
+use Rattle.hm_cpu.proofs.Letters.{one_step}
 use Rattle.hm_cpu.proofs.Rows.{listed_here}
-use Rattle.hm_cpu.specs.Cpus.{letter_ended, nested_of}
+use Rattle.hm_cpu.specs.Cpus.{nested_of}
 use Rattle.hm_run.specs.Program.{steps_left, vector_of}
 use Rattle.hm_state.specs.State.{state_of}
 use Rattle.hm_cpu.proofs.Known.{kept_stands, kept_there}
@@ -16,7 +16,7 @@ unfolding state_of
 returns-in-Err-clause-value c listing s is sound =
     let x = c.args.x.now in
     let here = listed_here listing (flash_at (memory_of x.mem)) x.regs.pc (Err c.in-Err.fault) is c.in-Err.ensures.fault in
-    steps_stop listing s 0 1 (nested_of x) (omega arith) (letter_ended c.none_stands.result (nested_of x)) (c.none_stands.ensures.value listing s is sound)
+    c.none_stands.ensures.value listing s is sound ∙ one_step listing s (nested_of x)
     ∙ sym (ap (λ (r : Result Instr Fault). steps listing s (steps_left (vector_of r) x.window.a) (nested_of x)) here)
 
 pub kept-requires : goal.kept-requires
