@@ -2,7 +2,7 @@
 
 ghost use Rattle.std.specs.Prelude.{◌≡◌, length, [], ◌∷◌};
 ghost use Rattle.hm_isa.specs.Code.{shift_base, sum_base, byte_base, logic_base, base_base, stack_sum_base, extend_base, swap_base, access_base, plain_base};
-ghost use Rattle.hm_isa.specs.Code.{word_base, list_base, jump_base, zero_base, code_s1, code_s2, code_s3, code_s4, code_s5, code_s6, code_s7, code_s8};
+ghost use Rattle.hm_isa.specs.Code.{word_base, list_base, masking_base, hint_base, jump_base, zero_base, code_s1, code_s2, code_s3, code_s4, code_s5, code_s6, code_s7, code_s8};
 ghost use Rattle.hm_isa.specs.Code.{code_s9, code_s10, code_s11, code_s12, code_s13, code_s14, code_s15, code_s16, code_s17, code_s18, code_s19, code_s20};
 ghost use Rattle.hm_isa.specs.Code.{code_s21, code_s23, code_s24, code_s25, scalar_halves, branch_halves};
 
@@ -14,7 +14,7 @@ use hm_isa::{
 };
 
 /// The code of a name of the row S1 without its fields.
-fn of_shift(x: ShiftName) -> u32
+pub fn base_of_shift(x: ShiftName) -> u32
     ensures { result ≡ shift_base x }
 {
     match x {
@@ -27,11 +27,11 @@ fn of_shift(x: ShiftName) -> u32
 fn encode_s1(r: &S1) -> u16
     ensures { result ≡ code_s1 r.now }
 {
-    (of_shift(r.name) + (r.i.get() << 6) + (r.m.get() << 3) + r.d.get()) as u16
+    (base_of_shift(r.name) + (r.i.get() << 6) + (r.m.get() << 3) + r.d.get()) as u16
 }
 
 /// The code of a name of the row S2 without its fields.
-fn of_sum(x: SumName) -> u32
+pub fn base_of_sum(x: SumName) -> u32
     ensures { result ≡ sum_base x }
 {
     match x {
@@ -43,17 +43,17 @@ fn of_sum(x: SumName) -> u32
 fn encode_s2(r: &S2) -> u16
     ensures { result ≡ code_s2 r.now }
 {
-    (of_sum(r.name) + (r.m.get() << 6) + (r.n.get() << 3) + r.d.get()) as u16
+    (base_of_sum(r.name) + (r.m.get() << 6) + (r.n.get() << 3) + r.d.get()) as u16
 }
 
 fn encode_s3(r: &S3) -> u16
     ensures { result ≡ code_s3 r.now }
 {
-    (of_sum(r.name) + 0x0400 + (r.i.get() << 6) + (r.n.get() << 3) + r.d.get()) as u16
+    (base_of_sum(r.name) + 0x0400 + (r.i.get() << 6) + (r.n.get() << 3) + r.d.get()) as u16
 }
 
 /// The code of a name of the row S4 without its fields.
-fn of_byte(x: ByteName) -> u32
+pub fn base_of_byte(x: ByteName) -> u32
     ensures { result ≡ byte_base x }
 {
     match x {
@@ -67,11 +67,11 @@ fn of_byte(x: ByteName) -> u32
 fn encode_s4(r: &S4) -> u16
     ensures { result ≡ code_s4 r.now }
 {
-    (of_byte(r.name) + (r.d.get() << 8) + r.i.get()) as u16
+    (base_of_byte(r.name) + (r.d.get() << 8) + r.i.get()) as u16
 }
 
 /// The code of a name of the row S5 without its fields.
-fn of_logic(x: LogicName) -> u32
+pub fn base_of_logic(x: LogicName) -> u32
     ensures { result ≡ logic_base x }
 {
     0x4000 + ((x as u32) << 6)
@@ -80,7 +80,7 @@ fn of_logic(x: LogicName) -> u32
 fn encode_s5(r: &S5) -> u16
     ensures { result ≡ code_s5 r.now }
 {
-    (of_logic(r.name) + (r.m.get() << 3) + r.d.get()) as u16
+    (base_of_logic(r.name) + (r.m.get() << 3) + r.d.get()) as u16
 }
 
 fn encode_s6(r: &S6) -> u16
@@ -105,7 +105,7 @@ fn encode_s8(r: &S8) -> u16
 }
 
 /// The code of a name of the row S9 without its fields.
-fn of_base(x: BaseName) -> u32
+pub fn base_of_base(x: BaseName) -> u32
     ensures { result ≡ base_base x }
 {
     match x {
@@ -117,11 +117,11 @@ fn of_base(x: BaseName) -> u32
 fn encode_s9(r: &S9) -> u16
     ensures { result ≡ code_s9 r.now }
 {
-    (of_base(r.name) + (r.d.get() << 8) + r.i.get()) as u16
+    (base_of_base(r.name) + (r.d.get() << 8) + r.i.get()) as u16
 }
 
 /// The code of a name of the row S10 without its fields.
-fn of_stack_sum(x: SumName) -> u32
+pub fn base_of_stack_sum(x: SumName) -> u32
     ensures { result ≡ stack_sum_base x }
 {
     match x {
@@ -133,11 +133,11 @@ fn of_stack_sum(x: SumName) -> u32
 fn encode_s10(r: &S10) -> u16
     ensures { result ≡ code_s10 r.now }
 {
-    (of_stack_sum(r.name) + r.i.get()) as u16
+    (base_of_stack_sum(r.name) + r.i.get()) as u16
 }
 
 /// The code of a name of the row S11 without its fields.
-fn of_extend(x: ExtendName) -> u32
+pub fn base_of_extend(x: ExtendName) -> u32
     ensures { result ≡ extend_base x }
 {
     0xb200 + ((x as u32) << 6)
@@ -146,11 +146,11 @@ fn of_extend(x: ExtendName) -> u32
 fn encode_s11(r: &S11) -> u16
     ensures { result ≡ code_s11 r.now }
 {
-    (of_extend(r.name) + (r.m.get() << 3) + r.d.get()) as u16
+    (base_of_extend(r.name) + (r.m.get() << 3) + r.d.get()) as u16
 }
 
 /// The code of a name of the row S12 without its fields.
-fn of_swap(x: SwapName) -> u32
+pub fn base_of_swap(x: SwapName) -> u32
     ensures { result ≡ swap_base x }
 {
     match x {
@@ -163,16 +163,23 @@ fn of_swap(x: SwapName) -> u32
 fn encode_s12(r: &S12) -> u16
     ensures { result ≡ code_s12 r.now }
 {
-    (of_swap(r.name) + (r.m.get() << 3) + r.d.get()) as u16
+    (base_of_swap(r.name) + (r.m.get() << 3) + r.d.get()) as u16
+}
+
+/// The code of a name of the row S13, which has no fields.
+pub fn base_of_masking(x: MaskingName) -> u32
+    ensures { result ≡ masking_base x }
+{
+    match x {
+        MaskingName::Cpsie => 0xb662,
+        MaskingName::Cpsid => 0xb672,
+    }
 }
 
 fn encode_s13(r: &S13) -> u16
     ensures { result ≡ code_s13 r.now }
 {
-    match r.name {
-        MaskingName::Cpsie => 0xb662,
-        MaskingName::Cpsid => 0xb672,
-    }
+    base_of_masking(r.name) as u16
 }
 
 fn encode_s14(r: &S14) -> u16
@@ -182,7 +189,7 @@ fn encode_s14(r: &S14) -> u16
 }
 
 /// The code of a name of the row S15 without its fields.
-fn of_access(x: AccessName) -> u32
+pub fn base_of_access(x: AccessName) -> u32
     ensures { result ≡ access_base x }
 {
     0x5000 + ((x as u32) << 9)
@@ -191,11 +198,11 @@ fn of_access(x: AccessName) -> u32
 fn encode_s15(r: &S15) -> u16
     ensures { result ≡ code_s15 r.now }
 {
-    (of_access(r.name) + (r.m.get() << 6) + (r.n.get() << 3) + r.t.get()) as u16
+    (base_of_access(r.name) + (r.m.get() << 6) + (r.n.get() << 3) + r.t.get()) as u16
 }
 
 /// The code of a name of the row S16 without its fields.
-fn of_plain(x: PlainName) -> u32
+pub fn base_of_plain(x: PlainName) -> u32
     ensures { result ≡ plain_base x }
 {
     0x6000 + ((x as u32) << 11)
@@ -204,11 +211,11 @@ fn of_plain(x: PlainName) -> u32
 fn encode_s16(r: &S16) -> u16
     ensures { result ≡ code_s16 r.now }
 {
-    (of_plain(r.name) + (r.i.get() << 6) + (r.n.get() << 3) + r.t.get()) as u16
+    (base_of_plain(r.name) + (r.i.get() << 6) + (r.n.get() << 3) + r.t.get()) as u16
 }
 
 /// The code of a name of the row S17 without its fields.
-fn of_word(x: WordName) -> u32
+pub fn base_of_word(x: WordName) -> u32
     ensures { result ≡ word_base x }
 {
     match x {
@@ -220,7 +227,7 @@ fn of_word(x: WordName) -> u32
 fn encode_s17(r: &S17) -> u16
     ensures { result ≡ code_s17 r.now }
 {
-    (of_word(r.name) + (r.t.get() << 8) + r.i.get()) as u16
+    (base_of_word(r.name) + (r.t.get() << 8) + r.i.get()) as u16
 }
 
 fn encode_s18(r: &S18) -> u16
@@ -229,14 +236,21 @@ fn encode_s18(r: &S18) -> u16
     0xbe00 + r.i.get() as u16
 }
 
+/// The code of a name of the row S19, which has no fields.
+pub fn base_of_hint(x: HintName) -> u32
+    ensures { result ≡ hint_base x }
+{
+    0xbf00 + ((x as u32) << 4)
+}
+
 fn encode_s19(r: &S19) -> u16
     ensures { result ≡ code_s19 r.now }
 {
-    0xbf00 + ((r.name as u16) << 4)
+    base_of_hint(r.name) as u16
 }
 
 /// The code of a name of the row S20 without its fields.
-fn of_list(x: ListName) -> u32
+pub fn base_of_list(x: ListName) -> u32
     ensures { result ≡ list_base x }
 {
     match x {
@@ -250,7 +264,7 @@ fn of_list(x: ListName) -> u32
 fn encode_s20(r: &S20) -> u16
     ensures { result ≡ code_s20 r.now }
 {
-    (of_list(r.name) + (r.x.get() << 8) + (r.n.get() << 8) + r.list.get()) as u16
+    (base_of_list(r.name) + (r.x.get() << 8) + (r.n.get() << 8) + r.list.get()) as u16
 }
 
 fn encode_s21(r: &S21) -> u16
@@ -260,7 +274,7 @@ fn encode_s21(r: &S21) -> u16
 }
 
 /// The code of a name of the row S23 without its fields.
-fn of_jump(x: JumpName) -> u32
+pub fn base_of_jump(x: JumpName) -> u32
     ensures { result ≡ jump_base x }
 {
     match x {
@@ -272,11 +286,11 @@ fn of_jump(x: JumpName) -> u32
 fn encode_s23(r: &S23) -> u16
     ensures { result ≡ code_s23 r.now }
 {
-    (of_jump(r.name) + (r.m.get() << 3)) as u16
+    (base_of_jump(r.name) + (r.m.get() << 3)) as u16
 }
 
 /// The code of a name of the row S24 without its fields.
-fn of_zero(x: ZeroName) -> u32
+pub fn base_of_zero(x: ZeroName) -> u32
     ensures { result ≡ zero_base x }
 {
     match x {
@@ -289,7 +303,7 @@ fn encode_s24(r: &S24) -> u16
     ensures { result ≡ code_s24 r.now }
 {
     let i = r.i.get();
-    (of_zero(r.name) + ((i / 32) << 9) + ((i % 32) << 3) + r.n.get()) as u16
+    (base_of_zero(r.name) + ((i / 32) << 9) + ((i % 32) << 3) + r.n.get()) as u16
 }
 
 fn encode_s25(r: &S25) -> u16

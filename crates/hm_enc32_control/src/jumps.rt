@@ -268,7 +268,7 @@ fn encode_wide_conditional(r: &WideConditional) -> u32
 }
 
 /// The code of a name of a branch with no condition without its fields.
-fn of_wide_branch(x: WideBranchName) -> u32
+pub fn base_of_wide_branch(x: WideBranchName) -> u32
     ensures { result ≡ wide_branch_base x }
 {
     match x {
@@ -281,7 +281,7 @@ fn of_wide_branch(x: WideBranchName) -> u32
 fn encode_wide_always(r: &WideAlways) -> u32
     ensures { result ≡ code_wide_always r.now }
 {
-    of_wide_branch(r.name)
+    base_of_wide_branch(r.name)
         + (r.s.get() << 26)
         + (r.i10.get() << 16)
         + (r.j1.get() << 13)
@@ -300,7 +300,7 @@ fn encode_t16(r: &T16) -> u32
 }
 
 /// The code of a name of the row T17 without its fields.
-fn of_table(x: TableName) -> u32
+pub fn base_of_table(x: TableName) -> u32
     ensures { result ≡ table_base x }
 {
     match x {
@@ -313,11 +313,11 @@ fn of_table(x: TableName) -> u32
 fn encode_t17(r: &T17) -> u32
     ensures { result ≡ code_t17 r.now }
 {
-    of_table(r.name) + (r.n.get() << 16) + r.m.get()
+    base_of_table(r.name) + (r.n.get() << 16) + r.m.get()
 }
 
 /// The code of a name of the end of a loop without its fields.
-fn of_loop_end(x: LoopEndName) -> u32
+fn base_of_loop_end(x: LoopEndName) -> u32
     ensures { result ≡ loop_end_base x }
 {
     match x {
@@ -338,7 +338,7 @@ fn encode_t23(r: &T23) -> u32
         T23::Wlstp(r) => {
             0xf000_c001 + (r.z.get() << 20) + (r.n.get() << 16) + label_field(r.v.get())
         }
-        T23::End(r) => of_loop_end(r.name) + label_field(r.v.get()),
+        T23::End(r) => base_of_loop_end(r.name) + label_field(r.v.get()),
         T23::Lctp => 0xf00f_e001,
     }
 }

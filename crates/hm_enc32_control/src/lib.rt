@@ -5,5 +5,7 @@
 mod jumps;
 mod system;
 
-pub use jumps::{branch_code, find_branch};
-pub use system::{encode_t18, encode_t19, encode_t21, encode_t22, find_system};
+pub use jumps::{base_of_table, base_of_wide_branch, branch_code, find_branch};
+pub use system::{
+    base_of_barrier, base_of_lane_move, encode_t18, encode_t19, encode_t21, encode_t22, find_system,
+};

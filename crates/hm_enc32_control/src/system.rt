@@ -247,7 +247,7 @@ pub fn find_system(w: u32) -> Option<Scalar>
 }
 
 /// The code of a register of `mrs` without the other field.
-fn of_read(x: ReadName) -> u32
+fn base_of_read(x: ReadName) -> u32
     ensures { result ≡ read_base x }
 {
     match x {
@@ -265,11 +265,11 @@ fn of_read(x: ReadName) -> u32
 fn encode_mrs(r: &Mrs) -> u32
     ensures { result ≡ code_mrs r.now }
 {
-    of_read(r.name) + (r.d.get() << 8)
+    base_of_read(r.name) + (r.d.get() << 8)
 }
 
 /// The code of a register of `msr` without the other field.
-fn of_written(x: WrittenName) -> u32
+fn base_of_written(x: WrittenName) -> u32
     ensures { result ≡ written_base x }
 {
     match x {
@@ -286,7 +286,7 @@ fn of_written(x: WrittenName) -> u32
 fn encode_msr(r: &Msr) -> u32
     ensures { result ≡ code_msr r.now }
 {
-    of_written(r.name) + (r.n.get() << 16)
+    base_of_written(r.name) + (r.n.get() << 16)
 }
 
 /// The code of `mrs`, `msr`, with the first halfword in bits 31 to 16.
@@ -300,7 +300,7 @@ pub fn encode_t18(r: &T18) -> u32
 }
 
 /// The code of an operation of the row T19 without its fields.
-fn of_barrier(x: BarrierName) -> u32
+pub fn base_of_barrier(x: BarrierName) -> u32
     ensures { result ≡ barrier_base x }
 {
     match x {
@@ -314,7 +314,7 @@ fn of_barrier(x: BarrierName) -> u32
 fn encode_barrier(r: &Barrier) -> u32
     ensures { result ≡ code_barrier r.now }
 {
-    of_barrier(r.name) + r.o.get()
+    base_of_barrier(r.name) + r.o.get()
 }
 
 /// The code of `nop.w`, `dsb`, `dmb`, `isb`, with the first halfword in bits 31 to 16.
@@ -328,7 +328,7 @@ pub fn encode_t19(r: &T19) -> u32
 }
 
 /// The code of an operation of the row T21 without its fields.
-fn of_system_move(x: SystemMoveName) -> u32
+fn base_of_system_move(x: SystemMoveName) -> u32
     ensures { result ≡ system_move_base x }
 {
     match x {
@@ -345,11 +345,11 @@ fn of_system_move(x: SystemMoveName) -> u32
 pub fn encode_t21(r: &T21) -> u32
     ensures value { result ≡ code_t21 r.now }
 {
-    of_system_move(r.name) + (r.t.get() << 12)
+    base_of_system_move(r.name) + (r.t.get() << 12)
 }
 
 /// The code of an operation of the row T22 without its fields.
-fn of_lane_move(x: LaneMoveName) -> u32
+pub fn base_of_lane_move(x: LaneMoveName) -> u32
     ensures { result ≡ lane_move_base x }
 {
     match x {
@@ -363,5 +363,9 @@ pub fn encode_t22(r: &T22) -> u32
     ensures value { result ≡ code_t22 r.now }
 {
     let x = r.x.get();
-    of_lane_move(r.name) + ((x % 2) << 21) + (r.q.get() << 17) + ((x / 2) << 16) + (r.t.get() << 12)
+    base_of_lane_move(r.name)
+        + ((x % 2) << 21)
+        + (r.q.get() << 17)
+        + ((x / 2) << 16)
+        + (r.t.get() << 12)
 }

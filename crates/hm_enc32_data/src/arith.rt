@@ -329,7 +329,7 @@ pub fn find_arith(w: u32) -> Option<Scalar>
 }
 
 /// The code of an operation of the row T8 without its fields.
-fn of_wide_shift(x: WideShiftName) -> u32
+pub fn base_of_wide_shift(x: WideShiftName) -> u32
     ensures { result ≡ wide_shift_base x }
 {
     match x {
@@ -344,11 +344,15 @@ fn of_wide_shift(x: WideShiftName) -> u32
 pub fn encode_t8(r: &T8) -> u32
     ensures value { result ≡ code_t8 r.now }
 {
-    of_wide_shift(r.name) + (r.s.get() << 20) + (r.n.get() << 16) + (r.d.get() << 8) + r.m.get()
+    base_of_wide_shift(r.name)
+        + (r.s.get() << 20)
+        + (r.n.get() << 16)
+        + (r.d.get() << 8)
+        + r.m.get()
 }
 
 /// The code of an operation of the row T9 without its fields.
-fn of_wide_extend(x: ExtendName) -> u32
+pub fn base_of_wide_extend(x: ExtendName) -> u32
     ensures { result ≡ wide_extend_base x }
 {
     match x {
@@ -363,11 +367,11 @@ fn of_wide_extend(x: ExtendName) -> u32
 pub fn encode_t9(r: &T9) -> u32
     ensures value { result ≡ code_t9 r.now }
 {
-    of_wide_extend(r.name) + (r.d.get() << 8) + (r.r.get() << 4) + r.m.get()
+    base_of_wide_extend(r.name) + (r.d.get() << 8) + (r.r.get() << 4) + r.m.get()
 }
 
 /// The code of an operation of the row T10 without its fields.
-fn of_bits(x: BitsName) -> u32
+pub fn base_of_bits(x: BitsName) -> u32
     ensures { result ≡ bits_base x }
 {
     match x {
@@ -383,11 +387,11 @@ fn of_bits(x: BitsName) -> u32
 pub fn encode_t10(r: &T10) -> u32
     ensures value { result ≡ code_t10 r.now }
 {
-    of_bits(r.name) + (r.m.get() << 16) + (r.d.get() << 8) + r.m.get()
+    base_of_bits(r.name) + (r.m.get() << 16) + (r.d.get() << 8) + r.m.get()
 }
 
 /// The code of an operation of the row T11 without its fields.
-fn of_operation(x: OperationName) -> u32
+pub fn base_of_operation(x: OperationName) -> u32
     ensures { result ≡ operation_base x }
 {
     match x {
@@ -401,11 +405,11 @@ fn of_operation(x: OperationName) -> u32
 fn encode_operation(r: &Operation) -> u32
     ensures { result ≡ code_operation r.now }
 {
-    of_operation(r.name) + (r.n.get() << 16) + (r.d.get() << 8) + r.m.get()
+    base_of_operation(r.name) + (r.n.get() << 16) + (r.d.get() << 8) + r.m.get()
 }
 
 /// The code of an operation of the row T11 without its fields.
-fn of_accumulate(x: AccumulateName) -> u32
+pub fn base_of_accumulate(x: AccumulateName) -> u32
     ensures { result ≡ accumulate_base x }
 {
     match x {
@@ -418,11 +422,15 @@ fn of_accumulate(x: AccumulateName) -> u32
 fn encode_accumulate(r: &Accumulate) -> u32
     ensures { result ≡ code_accumulate r.now }
 {
-    of_accumulate(r.name) + (r.n.get() << 16) + (r.a.get() << 12) + (r.d.get() << 8) + r.m.get()
+    base_of_accumulate(r.name)
+        + (r.n.get() << 16)
+        + (r.a.get() << 12)
+        + (r.d.get() << 8)
+        + r.m.get()
 }
 
 /// The code of an operation of the row T11 without its fields.
-fn of_long_product(x: LongProductName) -> u32
+pub fn base_of_long_product(x: LongProductName) -> u32
     ensures { result ≡ long_product_base x }
 {
     match x {
@@ -437,7 +445,11 @@ fn of_long_product(x: LongProductName) -> u32
 fn encode_long_product(r: &LongProduct) -> u32
     ensures { result ≡ code_long_product r.now }
 {
-    of_long_product(r.name) + (r.n.get() << 16) + (r.l.get() << 12) + (r.h.get() << 8) + r.m.get()
+    base_of_long_product(r.name)
+        + (r.n.get() << 16)
+        + (r.l.get() << 12)
+        + (r.h.get() << 8)
+        + r.m.get()
 }
 
 /// The code of `mul` to `udiv`, with the first halfword in bits 31 to 16.
@@ -452,7 +464,7 @@ pub fn encode_t11(r: &T11) -> u32
 }
 
 /// The code of an operation of the row T20 without its fields.
-fn of_select(x: SelectName) -> u32
+pub fn base_of_select(x: SelectName) -> u32
     ensures { result ≡ select_base x }
 {
     match x {
@@ -467,5 +479,5 @@ fn of_select(x: SelectName) -> u32
 pub fn encode_t20(r: &T20) -> u32
     ensures value { result ≡ code_t20 r.now }
 {
-    of_select(r.name) + (r.n.get() << 16) + (r.d.get() << 8) + (r.c.get() << 4) + r.m.get()
+    base_of_select(r.name) + (r.n.get() << 16) + (r.d.get() << 8) + (r.c.get() << 4) + r.m.get()
 }

@@ -7,7 +7,7 @@ ghost use Rattle.hm_isa.specs.DataCodes.{code_t6, code_t7};
 use hm_isa::{DataName, ExtractName, HalfName, SaturateName, SumName, T1, T2, T3, T4, T5, T6, T7};
 
 /// The number of an operation of the rows T1 and T2.
-fn of_data(x: DataName) -> u32
+pub fn operation(x: DataName) -> u32
     ensures value { result ≡ operation x }
     ensures below { result < 16 }
 {
@@ -31,7 +31,7 @@ pub fn encode_t1(r: &T1) -> u32
 {
     0xf000_0000
         + (r.i.get() << 26)
-        + (of_data(r.name) << 21)
+        + (operation(r.name) << 21)
         + (r.s.get() << 20)
         + (r.n.get() << 16)
         + (r.i3.get() << 12)
@@ -44,7 +44,7 @@ pub fn encode_t2(r: &T2) -> u32
     ensures value { result ≡ code_t2 r.now }
 {
     0xea00_0000
-        + (of_data(r.name) << 21)
+        + (operation(r.name) << 21)
         + (r.s.get() << 20)
         + (r.n.get() << 16)
         + (r.i3.get() << 12)
@@ -55,7 +55,7 @@ pub fn encode_t2(r: &T2) -> u32
 }
 
 /// The code of a name of the row T3 without its fields.
-fn of_wide_sum(x: SumName) -> u32
+pub fn base_of_wide_sum(x: SumName) -> u32
     ensures { result ≡ wide_sum_base x }
 {
     match x {
@@ -68,7 +68,7 @@ fn of_wide_sum(x: SumName) -> u32
 pub fn encode_t3(r: &T3) -> u32
     ensures value { result ≡ code_t3 r.now }
 {
-    of_wide_sum(r.name)
+    base_of_wide_sum(r.name)
         + (r.i.get() << 26)
         + (r.n.get() << 16)
         + (r.i3.get() << 12)
@@ -77,7 +77,7 @@ pub fn encode_t3(r: &T3) -> u32
 }
 
 /// The code of a name of the row T4 without its fields.
-fn of_half(x: HalfName) -> u32
+pub fn base_of_half(x: HalfName) -> u32
     ensures { result ≡ half_base x }
 {
     match x {
@@ -90,7 +90,7 @@ fn of_half(x: HalfName) -> u32
 pub fn encode_t4(r: &T4) -> u32
     ensures value { result ≡ code_t4 r.now }
 {
-    of_half(r.name)
+    base_of_half(r.name)
         + (r.i4.get() << 16)
         + (r.i.get() << 26)
         + (r.i3.get() << 12)
@@ -99,7 +99,7 @@ pub fn encode_t4(r: &T4) -> u32
 }
 
 /// The code of a name of the row T5 without its fields.
-fn of_saturate(x: SaturateName) -> u32
+pub fn base_of_saturate(x: SaturateName) -> u32
     ensures { result ≡ saturate_base x }
 {
     match x {
@@ -112,7 +112,7 @@ fn of_saturate(x: SaturateName) -> u32
 pub fn encode_t5(r: &T5) -> u32
     ensures value { result ≡ code_t5 r.now }
 {
-    of_saturate(r.name)
+    base_of_saturate(r.name)
         + (r.sh.get() << 21)
         + (r.n.get() << 16)
         + (r.i3.get() << 12)
@@ -122,7 +122,7 @@ pub fn encode_t5(r: &T5) -> u32
 }
 
 /// The code of a name of the row T6 without its fields.
-fn of_bits(x: ExtractName) -> u32
+pub fn base_of_extract(x: ExtractName) -> u32
     ensures { result ≡ extract_base x }
 {
     match x {
@@ -135,7 +135,7 @@ fn of_bits(x: ExtractName) -> u32
 pub fn encode_t6(r: &T6) -> u32
     ensures value { result ≡ code_t6 r.now }
 {
-    of_bits(r.name)
+    base_of_extract(r.name)
         + (r.n.get() << 16)
         + (r.i3.get() << 12)
         + (r.d.get() << 8)

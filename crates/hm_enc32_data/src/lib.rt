@@ -7,8 +7,13 @@ mod decode_data;
 mod decode_fields;
 mod encode_data;
 
-pub use arith::{encode_t8, encode_t9, encode_t10, encode_t11, encode_t20, find_arith};
+pub use arith::{
+    base_of_accumulate, base_of_bits, base_of_long_product, base_of_operation, base_of_select,
+    base_of_wide_extend, base_of_wide_shift, encode_t8, encode_t9, encode_t10, encode_t11,
+    encode_t20, find_arith,
+};
 pub use decode_data::find_data;
 pub use encode_data::{
-    encode_t1, encode_t2, encode_t3, encode_t4, encode_t5, encode_t6, encode_t7,
+    base_of_extract, base_of_half, base_of_saturate, base_of_wide_sum, encode_t1, encode_t2,
+    encode_t3, encode_t4, encode_t5, encode_t6, encode_t7, operation,
 };

@@ -7,7 +7,7 @@ ghost use Rattle.hm_isa.specs.Code.{code_t15};
 use hm_isa::{AccessName, Indexed, Literal, Offset, PairName, Shifted, StackName, T12, T13, T15};
 
 /// The code of a name of the row T12 without its fields.
-fn of_access(x: AccessName) -> u32
+pub fn base_of_access(x: AccessName) -> u32
     ensures { result ≡ wide_access_base x }
 {
     match x {
@@ -26,14 +26,14 @@ fn of_access(x: AccessName) -> u32
 fn encode_offset(r: &Offset) -> u32
     ensures { result ≡ code_offset r.now }
 {
-    of_access(r.name) + 0x80_0000 + (r.n.get() << 16) + (r.t.get() << 12) + r.i.get()
+    base_of_access(r.name) + 0x80_0000 + (r.n.get() << 16) + (r.t.get() << 12) + r.i.get()
 }
 
 /// The code of `[rn,#-i]`, `[rn,#i]!`, `[rn],#i`.
 fn encode_indexed(r: &Indexed) -> u32
     ensures { result ≡ code_indexed r.now }
 {
-    of_access(r.name)
+    base_of_access(r.name)
         + 0x800
         + (r.n.get() << 16)
         + (r.t.get() << 12)
@@ -47,14 +47,14 @@ fn encode_indexed(r: &Indexed) -> u32
 fn encode_shifted(r: &Shifted) -> u32
     ensures { result ≡ code_shifted r.now }
 {
-    of_access(r.name) + (r.n.get() << 16) + (r.t.get() << 12) + (r.i.get() << 4) + r.m.get()
+    base_of_access(r.name) + (r.n.get() << 16) + (r.t.get() << 12) + (r.i.get() << 4) + r.m.get()
 }
 
 /// The code of `[pc,#i]`.
 fn encode_literal(r: &Literal) -> u32
     ensures { result ≡ code_literal r.now }
 {
-    of_access(r.name) + 0xf_0000 + (r.u.get() << 23) + (r.t.get() << 12) + r.i.get()
+    base_of_access(r.name) + 0xf_0000 + (r.u.get() << 23) + (r.t.get() << 12) + r.i.get()
 }
 
 /// The code of `str.w` to `ldrsh.w`, with the first halfword in bits 31 to 16.
@@ -70,7 +70,7 @@ pub fn encode_t12(r: &T12) -> u32
 }
 
 /// The code of a name of the row T13 without its fields.
-fn of_pair(x: PairName) -> u32
+pub fn base_of_pair(x: PairName) -> u32
     ensures { result ≡ pair_base x }
 {
     match x {
@@ -83,7 +83,7 @@ fn of_pair(x: PairName) -> u32
 pub fn encode_t13(r: &T13) -> u32
     ensures value { result ≡ code_t13 r.now }
 {
-    of_pair(r.name)
+    base_of_pair(r.name)
         + (r.p.get() << 24)
         + (r.add.get() << 23)
         + (r.w.get() << 21)
@@ -94,7 +94,7 @@ pub fn encode_t13(r: &T13) -> u32
 }
 
 /// The code of a name of the row T15 without its fields.
-fn of_stack(x: StackName) -> u32
+pub fn base_of_stack(x: StackName) -> u32
     ensures { result ≡ stack_base x }
 {
     match x {
@@ -107,5 +107,5 @@ fn of_stack(x: StackName) -> u32
 pub fn encode_t15(r: &T15) -> u32
     ensures value { result ≡ code_t15 r.now }
 {
-    of_stack(r.name) + (r.v.get() << 12) + (r.k.get() << 1)
+    base_of_stack(r.name) + (r.v.get() << 12) + (r.k.get() << 1)
 }

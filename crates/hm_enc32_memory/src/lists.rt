@@ -76,7 +76,7 @@ pub fn decode_t14(w: u32) -> Option<T14>
 }
 
 /// The code of a name of the row T14 without its fields.
-fn of_list(x: WideListName) -> u32
+pub fn base_of_list(x: WideListName) -> u32
     ensures { result ≡ wide_list_base x }
 {
     match x {
@@ -91,5 +91,5 @@ fn of_list(x: WideListName) -> u32
 pub fn encode_t14(r: &T14) -> u32
     ensures value { result ≡ code_t14 r.now }
 {
-    of_list(r.name) + (r.w.get() << 21) + (r.n.get() << 16) + r.list.get()
+    base_of_list(r.name) + (r.w.get() << 21) + (r.n.get() << 16) + r.list.get()
 }
