@@ -2,3 +2,4 @@ pub mod Shapes
 pub mod Labels
 pub mod Operands
 pub mod Mnemonics
+pub mod Names
