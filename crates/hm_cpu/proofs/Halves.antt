@@ -2,8 +2,6 @@
 use Rattle.std.proofs.Common.{◌≡◌, ℕ, ◌+◌, ◌*◌, ◌%◌, ◌≤◌, arith, Bool, cond, true, false, ap, subst, sym, ◌∙◌, List, [], ◌∷◌, length}
 use Rattle.std.proofs.Common.{Option, Some, None, IfSome}
 use Rattle.std.proofs.lemmas.Bool.Decides.{nat_tests}
-use Rattle.std.proofs.lemmas.List.{get_or_default}
-use Rattle.std.specs.Prelude.{slice_index}
 use Rattle.hm_base.specs.Image.{flash_size}
 use Rattle.hm_codes.proofs.Unique.{one_half, two_halves}
 use Rattle.hm_codes.specs.Listing.{HalvesStand, Stands, half_at, is_long}
@@ -30,26 +28,18 @@ module _ (flash : ℕ → ℕ) (a first second : ℕ) (i : Instr) (here : Halves
   coded_stands even code = record { even = even; code = subst (λ (hs : List ℕ). HalvesStand flash hs a) (sym code) (standing (is_long first)) }
 
 -- WHAT FLASH TELLS of a halfword
-told_here : (m : Memory) (a h : ℕ) → length m.flash ≡ flash_size → half_told m a ≡ Some h → (a % 2 ≡ 0) × (a + 2 ≤ flash_size) × (half_at (flash_at m) a ≡ h)
-told_here m a h size told =
-    let even : a % 2 ≡ 0 = grind (arith, nat_tests, told) in
-    let inside : a + 2 ≤ flash_size = grind (arith, nat_tests, told) in
-    let value : slice_index m.flash a + 256 * slice_index m.flash (a + 1) ≡ h = grind (arith, nat_tests, told, even, inside) in
-    let low : flash_at m a ≡ slice_index m.flash a = get_or_default m.flash a 255 0 (omega (arith, inside, size)) in
-    let high : flash_at m (a + 1) ≡ slice_index m.flash (a + 1) = get_or_default m.flash (a + 1) 255 0 (omega (arith, inside, size)) in
-    (even, inside, (λ j. low j + 256 * high j) ∙ value)
+told_here : (m : Memory) (a h : ℕ) → half_told m a ≡ Some h → (a % 2 ≡ 0) × (a + 2 ≤ flash_size)
+told_here m a h told = (grind (arith, nat_tests, told), grind (arith, nat_tests, told))
 
-module _ (m : Memory) (a : ℕ) (size : length m.flash ≡ flash_size) where
+module _ (m : Memory) (a : ℕ) where
   -- where it tells of one the address is even
   pub told_even : (r : Option (ℕ × ℕ)) → IfSome r (λ h. half_told m a ≡ Some h.0) → IfSome r (λ h. a % 2 ≡ 0)
-  told_even (Some h) first = (told_here m a h.0 size first).0
+  told_even (Some h) first = (told_here m a h.0 first).0
   told_even None first = tt
 
   -- it and the next one stand there
   pub told_stand : (r : Option (ℕ × ℕ)) → IfSome r (λ h. half_told m a ≡ Some h.0) → IfSome r (λ h. half_told m (a + 2) ≡ Some h.1)
-      → IfSome r (λ h. HalvesStand (flash_at m) (h.0 ∷ h.1 ∷ []) a)
-  told_stand (Some h) first second =
-      let one = told_here m a h.0 size first in
-      let two = told_here m (a + 2) h.1 size second in
-      (one.1, one.2, (two.1, two.2, tt))
-  told_stand None first second = tt
+      → IfSome r (λ h. (h.0 ≡ half_at (flash_at m) a) × (h.1 ≡ half_at (flash_at m) (a + 2))) → IfSome r (λ h. HalvesStand (flash_at m) (h.0 ∷ h.1 ∷ []) a)
+  told_stand (Some h) first second flash =
+      ((told_here m a h.0 first).1, sym flash.0, ((told_here m (a + 2) h.1 second).1, sym flash.1, tt))
+  told_stand None first second flash = tt

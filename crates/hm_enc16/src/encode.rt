@@ -2,8 +2,8 @@
 
 ghost use Rattle.std.specs.Prelude.{◌≡◌, length, [], ◌∷◌};
 ghost use Rattle.hm_isa.specs.Code.{shift_base, sum_base, byte_base, logic_base, base_base, stack_sum_base, extend_base, swap_base, access_base, plain_base};
-ghost use Rattle.hm_isa.specs.Code.{word_base, list_base, masking_base, hint_base, jump_base, zero_base, code_s1, code_s2, code_s3, code_s4, code_s5, code_s6, code_s7, code_s8};
-ghost use Rattle.hm_isa.specs.Code.{code_s9, code_s10, code_s11, code_s12, code_s13, code_s14, code_s15, code_s16, code_s17, code_s18, code_s19, code_s20};
+ghost use Rattle.hm_isa.specs.Code.{word_base, list_base, masking_base, hint_base, jump_base, zero_base, code_s1, code_s2, code_s3, code_s4, code_s5};
+ghost use Rattle.hm_isa.specs.Code.{code_s6, code_s7, code_s8, code_s9, code_s10, code_s11, code_s12, code_s13, code_s14, code_s15, code_s16, code_s17, code_s18, code_s19, code_s20};
 ghost use Rattle.hm_isa.specs.Code.{code_s21, code_s23, code_s24, code_s25, scalar_halves, branch_halves};
 
 use hm_isa::{

@@ -1,6 +1,6 @@
 //! What a beat of a row that loads or stores touches.
 
-ghost use Rattle.std.specs.Prelude.{◌≡◌, ℕ, ◌+◌, ◌<◌, ◌≤◌, ◌||◌, not, cond, false, List, [], ◌∷◌, length, map, All};
+ghost use Rattle.std.specs.Prelude.{◌≡◌, ℕ, ◌+◌, ◌<◌, ◌≤◌, ◌||◌, not, cond, false, List, [], length, map, All};
 ghost use Rattle.hm_base.specs.Place.{IsPlace, noted_all};
 ghost use Rattle.hm_lane.specs.Predicate.{advance_places};
 ghost use Rattle.hm_mem.specs.Memory.{Memory};
@@ -96,7 +96,8 @@ fn note_back(places: &mut Places, way: &Way, b: u8, r: &Regs)
     requires beat { b < 4 }
     requires room { length places.old ≤ 16 }
     ensures value { (m : Memory) (output : List ℕ)
-        → places.new ≡ noted_all (places_of (way_back (way_of way.now) b (map (λ p. at p (state_of r.now m output)) (way_sources (way_of way.now) b)))) places.old }
+        → places.new
+        ≡ noted_all (places_of (way_back (way_of way.now) b (map (λ p. at p (state_of r.now m output)) (way_sources (way_of way.now) b)))) places.old }
     ensures grown { length places.new ≤ length places.old + 1 }
 {
     if let Some(w) = written_back(way, b, r) {

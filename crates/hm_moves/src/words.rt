@@ -170,7 +170,7 @@ fn word_back(back: bool, q: u8, b: u8, more: u32, r: &Regs) -> Option<Written>
     }
 }
 
-/// What beat `b` writes back, by what stands in its first source, which is read where something is written back alone. `b` is below 4.
+/// What beat `b` writes back, by what stands in its first source, which is read only where something is written back. `b` is below 4.
 pub fn written_back(way: &Way, b: u8, r: &Regs) -> Option<Written>
     requires { b < 4 }
     ensures value { (m : Memory) (output : List ℕ)

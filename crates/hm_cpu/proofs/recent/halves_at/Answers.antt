@@ -3,7 +3,8 @@ use Rattle.hm_mem.specs.Memory.{memory_of}
 use Rattle.hm_cpu.proofs.recent.halves_at.Goals as goal
 
 pub returns-clause-even : goal.returns-clause-even
-returns-clause-even c = told_even (memory_of c.args.m.now) c.args.addr c.args.m.now.flash_whole c.halves.result c.halves.ensures.first
+returns-clause-even c = told_even (memory_of c.args.m.now) c.args.addr c.halves.result c.halves.ensures.first
 
 pub returns-clause-stand : goal.returns-clause-stand
-returns-clause-stand c = told_stand (memory_of c.args.m.now) c.args.addr c.args.m.now.flash_whole c.halves.result c.halves.ensures.first c.halves.ensures.second
+returns-clause-stand c =
+    told_stand (memory_of c.args.m.now) c.args.addr c.halves.result c.halves.ensures.first c.halves.ensures.second c.halves.ensures.flash

@@ -90,4 +90,5 @@ pub returns-clause-other : goal.returns-clause-other
 returns-clause-other c = λ image listing is repeats none.
     let fewer = without c.args.kept c.args.size c.args.stretches.now in
     other_so listing image c.args.head fewer c.deref.result.now c.in_ok-ended.ended c.args.kind
-    (c.in_ok-ended.ensures.ended image listing is repeats) (c.deref.ensures.value ∙ c.in_ok-fewer.ensures.value) (c.same_kind.ensures.other c.if-same_kind.false)
+    (c.in_ok-ended.ensures.ended image listing is repeats) (c.deref.ensures.value ∙ c.in_ok-fewer.ensures.value)
+    (c.same_kind.ensures.other c.if-same_kind.false)

@@ -7,7 +7,8 @@ use Rattle.hm_soak.proofs.rows.operation.Goals as goal
 pub returns-in-0 : goal.returns-in-0
 returns-in-0 c = record {
   row =
-      operation_made c.args.k c.args.v soak.Add _ _ _ c.sum.result (ap operation_of c.in-0.is) c.new-d.ensures c.new-n.ensures c.new-m.ensures c.sum.ensures.row;
+      operation_made c.args.k c.args.v soak.Add _ _ _ c.sum.result (ap operation_of c.in-0.is) c.new-d.ensures c.new-n.ensures c.new-m.ensures
+      c.sum.ensures.row;
 }
 
 pub returns-in-1 : goal.returns-in-1
@@ -34,6 +35,6 @@ returns-in-3 c = record {
 pub returns-in_default : goal.returns-in_default
 returns-in_default c = record {
   row =
-      operation_made c.args.k c.args.v soak.Max _ _ _ c.maximum.result (the_last (c.args.v / 256 % 5) (search rules) (search rules) (search rules) (search rules))
-      c.new-d.ensures c.new-n.ensures c.new-m.ensures c.maximum.ensures.row;
+      operation_made c.args.k c.args.v soak.Max _ _ _ c.maximum.result
+      (the_last (c.args.v / 256 % 5) (search rules) (search rules) (search rules) (search rules)) c.new-d.ensures c.new-n.ensures c.new-m.ensures c.maximum.ensures.row;
 }
