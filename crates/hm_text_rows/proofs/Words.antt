@@ -19,6 +19,11 @@ below_is f g n b e lt = eqb-true (f b) (g b) (agree_below_at (λ k. eqb (f k) (g
 pub below_holds : (f : ℕ → Bool) (n b : ℕ) → agree_below f (λ k. true) n ≡ true → b < n → f b ≡ true
 below_holds f n b e lt = agree_below_at f (λ k. true) n b e lt
 
+-- a proof, and those after it
+infixr 20 ◌▹◌
+abbrev pub ◌▹◌ : {P Q : Type 0} → P → Q → P × Q
+proof ▹ others = (proof, others)
+
 -- and any other fact, given at each
 abbrev pub AllBelow : (ℕ → Type 0) → ℕ → Type 0
 AllBelow P zero = Unit {0}
