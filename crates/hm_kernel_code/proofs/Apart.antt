@@ -8,7 +8,6 @@ use Rattle.hm_base.specs.Image.{Before, InFlash, IsApart, IsImage, Segment, flas
 use Rattle.hm_base.proofs.Images.{IsImage-with_segment}
 use Rattle.hm_kernel_lang.specs.declared.text.Array.{Array}
 use Rattle.hm_kernel_lang.specs.declared.text.ElementType.{ElementType}
-use Rattle.hm_kernel_lang.specs.declared.text.ElementType.TheVariants.{U8, S8, U16, S16, U32, S32}
 use Rattle.hm_kernel_lang.specs.Language.{bytes}
 use Rattle.hm_kernel_lang.specs.Texts.{IsArray, ShareNone}
 use Rattle.hm_kernel_lang.specs.Values.{element_bytes}
@@ -17,12 +16,7 @@ use Rattle.hm_kernel_lang.proofs.Values.{length_elements}
 use Rattle.hm_kernel_code.specs.Segments.{AllApart, AllPlaced, array_segment, with_array, with_arrays}
 
 some_bytes : (t : ElementType) (n : ℕ) → 0 < n → 0 < bytes t * n
-some_bytes U8 n h = omega arith
-some_bytes S8 n h = omega arith
-some_bytes U16 n h = omega arith
-some_bytes S16 n h = omega arith
-some_bytes U32 n h = omega arith
-some_bytes S32 n h = omega arith
+some_bytes t n h = grind arith
 
 -- the bytes of an array's values are no more than those of its elements
 long : (t : ElementType) (x : Array) → length (element_bytes t (length x.values.items) (λ j. slice_index x.values.items j)) ≡ bytes t * length x.values.items

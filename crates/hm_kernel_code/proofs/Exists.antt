@@ -33,7 +33,7 @@ use Rattle.hm_isa.specs.declared.vectors.V3.{V3}
 use Rattle.hm_isa.specs.declared.vectors.V18.{V18}
 use Rattle.hm_isa.specs.Rules.{is_general}
 use Rattle.hm_kernel_lang.specs.declared.text.ElementType.{ElementType}
-use Rattle.hm_kernel_lang.specs.declared.text.ElementType.TheVariants.{U8, S8, U16, S16, U32, S32}
+use Rattle.hm_kernel_lang.specs.declared.text.ElementType.TheVariants.{U8}
 use Rattle.hm_kernel_lang.specs.declared.text.Expr.{Expr}
 use Rattle.hm_kernel_lang.specs.declared.text.Expr.TheVariants.{Name, Number, Apply'}
 use Rattle.hm_kernel_lang.specs.declared.text.Op.{Op}
@@ -93,20 +93,10 @@ abbrev field : {limit : ℕ} (n : ℕ) → n < limit → Below limit
 field n h = record { value = n; in_range = h }
 
 size_fits : (t : ElementType) → size_code t < 3
-size_fits U8 = omega arith
-size_fits S8 = omega arith
-size_fits U16 = omega arith
-size_fits S16 = omega arith
-size_fits U32 = omega arith
-size_fits S32 = omega arith
+size_fits t = grind arith
 
 sign_fits : (t : ElementType) → cond (is_signed t) 0 1 < 2
-sign_fits U8 = omega arith
-sign_fits S8 = omega arith
-sign_fits U16 = omega arith
-sign_fits S16 = omega arith
-sign_fits U32 = omega arith
-sign_fits S32 = omega arith
+sign_fits t = grind arith
 
 some_byte : (name : ByteName) (d x : ℕ) → d < 8 → x < 256 → (i : Instr) × IsByteRow name d x i
 some_byte name d x l m =
@@ -251,12 +241,7 @@ constant_fits : (n : ℕ) (ks : List Kind) → n < 2 ^ 32 → KindsFit ks → Ki
 constant_fits n ks l h = (omega arith, (omega arith, h))
 
 modulus_fits : (t : ElementType) → modulus t ≤ 2 ^ 32
-modulus_fits U8 = omega arith
-modulus_fits S8 = omega arith
-modulus_fits U16 = omega arith
-modulus_fits S16 = omega arith
-modulus_fits U32 = omega arith
-modulus_fits S32 = omega arith
+modulus_fits t = grind arith
 
 some_need : (e : Expr) → 1 ≤ need e
 some_need (Name i) = omega arith

@@ -8,8 +8,8 @@ use Rattle.hm_kernel_lang.specs.declared.text.ElementType.{ElementType}
 use Rattle.hm_kernel_lang.specs.declared.text.Op.{Op}
 use Rattle.hm_kernel_lang.specs.declared.text.Op.TheVariants as op
 use Rattle.hm_kernel_lang.specs.declared.text.Line.{Line}
-use Rattle.hm_kernel_lang.specs.Machine.{Again, Begin, Clear, Do, Further, High, HighLength, Item, Kind, Load, Low, LowLength, Offset, Plain, Splat, Stop}
-use Rattle.hm_kernel_lang.specs.Machine.{Store, halves, item_halves}
+use Rattle.hm_kernel_lang.specs.Machine.{Again, Begin, Do, Item, Kind, Plain}
+use Rattle.hm_kernel_lang.specs.Machine.{halves, item_halves}
 use Rattle.hm_kernel_lang.specs.Code.{body_code, halves_of, head_code, line_code, lines_code}
 use Rattle.hm_kernel_lang.specs.Correct.{CodeStands}
 use Rattle.hm_kernel_lang.proofs.Lines.{items_append}
@@ -37,51 +37,22 @@ room flash (x ∷ y ∷ hs) a h s = let l = room flash (y ∷ hs) (a + 2) h.2 (o
 -- HOW LONG EACH KIND IS
 operation_width : (t : ElementType) (o : Op) (q : ℕ) (i : Instr) → IsOperation t o q i → length (halfwords i) ≡ 2
 operation_width t op.Add q i k = ap (λ (x : Instr). length (halfwords x)) k.is
-operation_width t op.Sub q i k = ap (λ (x : Instr). length (halfwords x)) k.is
-operation_width t op.Mul q i k = ap (λ (x : Instr). length (halfwords x)) k.is
-operation_width t op.Min q i k = ap (λ (x : Instr). length (halfwords x)) k.is
-operation_width t op.Max q i k = ap (λ (x : Instr). length (halfwords x)) k.is
-operation_width t op.And q i k = ap (λ (x : Instr). length (halfwords x)) k.is
-operation_width t op.Or q i k = ap (λ (x : Instr). length (halfwords x)) k.is
-operation_width t op.Xor q i k = ap (λ (x : Instr). length (halfwords x)) k.is
+operation_width t o q i k = ap (λ (x : Instr). length (halfwords x)) k.is
 
 kind_width : (t : ElementType) (k : Kind) (i : Instr) → IsKind t k i → length (halfwords i) ≡ halves k
-kind_width t Clear i k = ap (λ (x : Instr). length (halfwords x)) k.is
-kind_width t (Low n) i k = ap (λ (x : Instr). length (halfwords x)) k.is
-kind_width t (High n) i k = ap (λ (x : Instr). length (halfwords x)) k.is
-kind_width t (LowLength n) i k = ap (λ (x : Instr). length (halfwords x)) k.is
-kind_width t (HighLength n) i k = ap (λ (x : Instr). length (halfwords x)) k.is
-kind_width t Offset i k = ap (λ (x : Instr). length (halfwords x)) k.is
-kind_width t (Splat q) i k = ap (λ (x : Instr). length (halfwords x)) k.is
-kind_width t (Load q) i k = ap (λ (x : Instr). length (halfwords x)) k.is
-kind_width t (Store q) i k = ap (λ (x : Instr). length (halfwords x)) k.is
 kind_width t (Do o q) i k = operation_width t o q i k
-kind_width t Further i k = ap (λ (x : Instr). length (halfwords x)) k.is
+kind_width t kind i k = ap (λ (x : Instr). length (halfwords x)) k.is
 
 item_width : (t : ElementType) (x : Item) (i : Instr) → IsItem t x i → length (halfwords i) ≡ item_halves x
 item_width t (Plain k) i h = kind_width t k i h
-item_width t (Begin n) i h = ap (λ (x : Instr). length (halfwords x)) h.is
-item_width t (Again n) i h = ap (λ (x : Instr). length (halfwords x)) h.is
-item_width t Stop i h = ap (λ (x : Instr). length (halfwords x)) h.is
+item_width t item i h = ap (λ (x : Instr). length (halfwords x)) h.is
 
 some_kind : (k : Kind) → 0 < halves k
-some_kind Clear = omega arith
-some_kind (Low n) = omega arith
-some_kind (High n) = omega arith
-some_kind (LowLength n) = omega arith
-some_kind (HighLength n) = omega arith
-some_kind Offset = omega arith
-some_kind (Splat q) = omega arith
-some_kind (Load q) = omega arith
-some_kind (Store q) = omega arith
-some_kind (Do o q) = omega arith
-some_kind Further = omega arith
+some_kind k = grind arith
 
 some_item : (x : Item) → 0 < item_halves x
 some_item (Plain k) = some_kind k
-some_item (Begin h) = omega arith
-some_item (Again h) = omega arith
-some_item Stop = omega arith
+some_item x = omega arith
 
 -- BRANCHES STAY
 abbrev pub AllStay : ℕ → List Item → Type 0

@@ -81,8 +81,7 @@ one_longer s [] = omega arith
 one_longer s (t ∷ ts) = go (nat_lt s.addr t.addr) (one_longer s ts)
   where
     go : (b : Bool) → length (with_segment s ts) ≤ length ts + 1 → length (if b then s ∷ t ∷ ts else t ∷ with_segment s ts) ≤ length (t ∷ ts) + 1
-    go true i = omega arith
-    go false i = omega arith
+    go b i = grind arith
 
 array_longer : (t : ElementType) (x : Array) (ss : List Segment) → length (with_array t x ss) ≤ length ss + 1
 array_longer t x ss = go (nat_eq (length x.values.items) 0)

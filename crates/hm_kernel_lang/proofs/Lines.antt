@@ -5,33 +5,19 @@ use Rattle.std.proofs.lemmas.Bool.{cases_lt}
 use Rattle.std.proofs.lemmas.Bool.Decides.{nat_tests}
 use Rattle.std.proofs.Math.Nat.{suc-mul}
 use Rattle.hm_kernel_lang.specs.declared.text.ElementType.{ElementType}
-use Rattle.hm_kernel_lang.specs.declared.text.ElementType.TheVariants.{U8, S8, U16, S16, U32, S32}
 use Rattle.hm_kernel_lang.specs.declared.text.Line.{Line}
 use Rattle.hm_kernel_lang.specs.Language.{Bytes, after_line, after_lines, bytes, lanes, line_steps, lines_steps, names, need, numbers, operations, replaced}
 use Rattle.hm_kernel_lang.specs.Language.{turns, value}
 use Rattle.hm_kernel_lang.specs.Machine.{View, Item, Plain, Begin, Again, Low, High, Offset, again, begun, exec, size_code}
 use Rattle.hm_kernel_lang.specs.Code.{body_code, end_code, expr_code, halves_of, head_code, line_code, lines_code}
 use Rattle.hm_kernel_lang.specs.Correct.{AreLines, CodeStands, Ends, IsLine, Reaches, Rows}
-use Rattle.hm_kernel_lang.proofs.Numbers.{high_half, inside, last_turn, low_half, next_vector, one_turn, two_halves}
+use Rattle.hm_kernel_lang.proofs.Numbers.{high_half, inside, last_turn, low_half, next_vector, no_turn, one_turn, two_halves}
 use Rattle.hm_kernel_lang.proofs.Expressions.{Cans, IsReady, addressed, cans_append, evaluated, execs, execs_append, is_within, placed_high, ready_still}
 use Rattle.hm_kernel_lang.proofs.Replacing.{replaced_on, replaced_same, value_outside}
 use Rattle.hm_kernel_lang.proofs.Straight.{expr_length, items_halves, joined, pc_execs, plain_halves, so_many, stands_back, stands_front, straight}
 
-none_turn : (t : ElementType) → turns t 0 ≡ 0
-none_turn U8 = refl
-none_turn S8 = refl
-none_turn U16 = refl
-none_turn S16 = refl
-none_turn U32 = refl
-none_turn S32 = refl
-
 no_bytes : (t : ElementType) → 0 ≡ bytes t * 0
-no_bytes U8 = refl
-no_bytes S8 = refl
-no_bytes U16 = refl
-no_bytes S16 = refl
-no_bytes U32 = refl
-no_bytes S32 = refl
+no_bytes t = grind arith
 
 le_true : (a b : ℕ) → a ≤ b → nat_le a b ≡ true
 le_true a b h = grind (arith, nat_tests)
@@ -255,9 +241,9 @@ module _ {S E : Type 0} (t : ElementType) (next : S → Result S E) (Shows : Vie
         let w = record hv { pc = hv.pc + 4 + 2 * h } in
         let leaves : begun t h hv ≡ w =
         ap (λ (u : Bool). cond u w (record hv { pc = hv.pc + 4; left = hv.length; size = size_code t })) (eq_true hv.length (two_halves n ∙ none)) in
-        let no_turn : turns t n ≡ 0 = ap (turns t) none ∙ none_turn t in
+        let no_turns : turns t n ≡ 0 = ap (turns t) none ∙ no_turn t in
         let many : 4 ≡ line_steps t n l.expr =
-        sym (ap (λ (x : ℕ). 4 + x * (4 * names l.expr + 3 * numbers l.expr + operations l.expr + 6)) no_turn
+        sym (ap (λ (x : ℕ). 4 + x * (4 * names l.expr + 3 * numbers l.expr + operations l.expr + 6)) no_turns
         ∙ (let z : 4 + 0 * (4 * names l.expr + 3 * numbers l.expr + operations l.expr + 6) ≡ 4 = omega arith in z)) in
         record {
           view = w;

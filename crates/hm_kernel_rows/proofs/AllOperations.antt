@@ -23,7 +23,6 @@ use Rattle.hm_rows.specs.Rows.{bitwise_fn, signed_fn}
 use Rattle.hm_run.specs.Program as program
 use Rattle.hm_state.specs.State.{State}
 use Rattle.hm_kernel_lang.specs.declared.text.ElementType.{ElementType}
-use Rattle.hm_kernel_lang.specs.declared.text.ElementType.TheVariants.{U8, S8, U16, S16, U32, S32}
 use Rattle.hm_kernel_lang.specs.declared.text.Op.{Op}
 use Rattle.hm_kernel_lang.specs.declared.text.Op.TheVariants as op
 use Rattle.hm_kernel_lang.specs.Language.{is_signed, lanes, op_value}
@@ -40,12 +39,7 @@ use Rattle.hm_kernel_rows.proofs.Steps.{reached}
 use Rattle.hm_kernel_rows.proofs.Vectors.{after_merge, comes_to, in_loop, size_is}
 
 sign_bit : (t : ElementType) → nat_eq (cond (is_signed t) 0 1) 1 ≡ unsigned_of t
-sign_bit U8 = refl
-sign_bit S8 = refl
-sign_bit U16 = refl
-sign_bit S16 = refl
-sign_bit U32 = refl
-sign_bit S32 = refl
+sign_bit t = grind arith
 
 module _ (t : ElementType) (listing : Listing) where
   -- the lesser or the greater

@@ -26,7 +26,6 @@ use Rattle.hm_thumb.specs.RegisterRows.{put, reg}
 use Rattle.hm_thumb.specs.declared.Way.TheVariants as way
 use Rattle.hm_whole.specs.Whole.{seen_in}
 use Rattle.hm_kernel_lang.specs.declared.text.ElementType.{ElementType}
-use Rattle.hm_kernel_lang.specs.declared.text.ElementType.TheVariants.{U8, S8, U16, S16, U32, S32}
 use Rattle.hm_kernel_lang.specs.Language.{lanes}
 use Rattle.hm_kernel_lang.specs.Machine.{View, Begin, Again, Stop, again, begun, size_code}
 use Rattle.hm_kernel_lang.specs.Correct.{Reaches}
@@ -87,20 +86,10 @@ has_context r = go r.fpca refl
     go false e = refl
 
 code_fits : (t : ElementType) → size_code t < 8
-code_fits U8 = omega arith
-code_fits S8 = omega arith
-code_fits U16 = omega arith
-code_fits S16 = omega arith
-code_fits U32 = omega arith
-code_fits S32 = omega arith
+code_fits t = grind arith
 
 elements_are : (t : ElementType) → cond (nat_lt (size_code t) 4) (2 ^ (4 - size_code t)) 1 ≡ lanes t
-elements_are U8 = refl
-elements_are S8 = refl
-elements_are U16 = refl
-elements_are S16 = refl
-elements_are U32 = refl
-elements_are S32 = refl
+elements_are t = grind arith
 
 choose : (P : Bool → Type 0) (b : Bool) → (b ≡ true → P true) → (b ≡ false → P false) → P b
 choose P true f g = f refl

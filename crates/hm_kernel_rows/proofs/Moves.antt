@@ -1,5 +1,5 @@
 -- Loads and stores of elements one behind another.
-use Rattle.std.proofs.Common.{◌≡◌, ◌≢◌, ℕ, zero, suc, ◌+◌, ◌-◌, ◌*◌, ◌%◌, ◌^◌, ◌<◌, ◌≤◌, Bool, true, false, cond, not, ◌&&◌, ◌||◌, eqb, ltb, nat_eq, nat_le}
+use Rattle.std.proofs.Common.{◌≡◌, ◌≢◌, ℕ, zero, suc, ◌+◌, ◌*◌, ◌%◌, ◌^◌, ◌<◌, ◌≤◌, Bool, true, false, cond, not, ◌&&◌, ◌||◌, eqb, ltb, nat_eq, nat_le}
 use Rattle.std.proofs.Common.{min, get_or, length, List, [], ◌++◌, refl, sym, ap, ◌∙◌, subst, arith, ltb-true, eq-eqb, append-nil, All, Option, Some, None}
 use Rattle.std.specs.Prelude.{Result, Ok, if◌then◌else◌}
 use Rattle.std.proofs.lemmas.Bool.Decides.{nat_tests}
@@ -72,17 +72,14 @@ no_fault store len a aligned low some high =
     ∙ last store
   where
     last : (store : Bool) → (if store && false then Some kind.FlashWrite else (if not store && false then Some kind.TimedRead else None)) ≡ None
-    last true = refl
-    last false = refl
+    last store = grind arith
 
 -- THE TRANSFER of a load or a store of our code
 abbrev pub our_transfer : ElementType → Bool → ℕ → Transfer
 our_transfer t store d = record { store = store; memory = size_of_type t; register = size_of_type t; signed = false; found = straight d 5 0 true false }
 
 no_offset : (z : Size) → 0 * byte_count z ≡ 0
-no_offset OneByte = refl
-no_offset Half = refl
-no_offset Word = refl
+no_offset z = grind arith
 
 transfer_is : (t : ElementType) (l q : ℕ) (i : Instr) (k : IsMoveRow t l q 5 i)
     → (let r = k.row in let x : Transfer =
@@ -115,28 +112,13 @@ abbrev pub stands_at : ElementType → ℕ → ℕ → ℕ
 stands_at t base j = ((base + 0) % 2 ^ 32 + byte_count (size_of_type t) * j) % 2 ^ 32
 
 pub width_is : (t : ElementType) → byte_count (size_of_type t) ≡ bytes t
-width_is U8 = refl
-width_is S8 = refl
-width_is U16 = refl
-width_is S16 = refl
-width_is U32 = refl
-width_is S32 = refl
+width_is t = grind arith
 
 count_is : (t : ElementType) → count (size_of_type t) ≡ lanes t
-count_is U8 = refl
-count_is S8 = refl
-count_is U16 = refl
-count_is S16 = refl
-count_is U32 = refl
-count_is S32 = refl
+count_is t = grind arith
 
 firsts_are : (t : ElementType) (left : ℕ) → firsts (size_of_type t) (spread_tests (size_of_type t) (tails left 0 (lanes t))) ≡ tails left 0 (lanes t)
-firsts_are U8 left = refl
-firsts_are S8 left = refl
-firsts_are U16 left = refl
-firsts_are S16 left = refl
-firsts_are U32 left = refl
-firsts_are S32 left = refl
+firsts_are t left = grind arith
 
 -- an element that is left: where it stands
 pub record IsInside (t : ElementType) (base j : ℕ) : Type 0 where
@@ -146,21 +128,12 @@ pub record IsInside (t : ElementType) (base j : ℕ) : Type 0 where
   pub high : base + bytes t * j + bytes t ≤ 0x20040000
 
 pub some_bytes : (t : ElementType) → 0 < bytes t
-some_bytes U8 = omega arith
-some_bytes S8 = omega arith
-some_bytes U16 = omega arith
-some_bytes S16 = omega arith
-some_bytes U32 = omega arith
-some_bytes S32 = omega arith
+some_bytes t = grind arith
 
 pub inside_of : (t : ElementType) (base left j : ℕ) → base % bytes t ≡ 0 → 0x20000000 ≤ base → base + bytes t * min left (lanes t) ≤ 0x20040000 → j < left
     → j < lanes t → IsInside t base j
 inside_of U8 base left j a l h i k = record { is = omega arith; aligned = omega arith; low = omega arith; high = omega arith }
-inside_of S8 base left j a l h i k = record { is = omega arith; aligned = omega arith; low = omega arith; high = omega arith }
-inside_of U16 base left j a l h i k = record { is = omega arith; aligned = omega arith; low = omega arith; high = omega arith }
-inside_of S16 base left j a l h i k = record { is = omega arith; aligned = omega arith; low = omega arith; high = omega arith }
-inside_of U32 base left j a l h i k = record { is = omega arith; aligned = omega arith; low = omega arith; high = omega arith }
-inside_of S32 base left j a l h i k = record { is = omega arith; aligned = omega arith; low = omega arith; high = omega arith }
+inside_of t base left j a l h i k = record { is = omega arith; aligned = omega arith; low = omega arith; high = omega arith }
 
 no_fault_at : (t : ElementType) (store : Bool) (base j : ℕ) → IsInside t base j
     → fault_after (fault_kind true Vector store (byte_count (size_of_type t)) (stands_at t base j)) (stands_at t base j) ≡ None
@@ -305,12 +278,7 @@ module _ (t : ElementType) (listing : Listing) (store : Bool) (l q : ℕ) (l_is 
 
 module _ (t : ElementType) (listing : Listing) where
   modulus_some : (t : ElementType) → 0 < list.modulus (size_of_type t)
-  modulus_some U8 = omega arith
-  modulus_some S8 = omega arith
-  modulus_some U16 = omega arith
-  modulus_some S16 = omega arith
-  modulus_some U32 = omega arith
-  modulus_some S32 = omega arith
+  modulus_some t = grind arith
 
   -- what is read of an element that is left
   read_here : (v : View) (s : State) → Shows t v s → IsWithin t v → (j : ℕ) → j < v.left → j < lanes t

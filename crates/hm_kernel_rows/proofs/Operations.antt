@@ -46,11 +46,8 @@ AllBelow n (x ∷ xs) = (x < n) × AllBelow n xs
 
 length_tripled : (g : ℕ → ℕ → ℕ → ℕ) (n : ℕ) (cs xs ys : List ℕ) → length cs ≡ n → length xs ≡ n → length ys ≡ n → length (tripled g cs xs ys) ≡ n
 length_tripled g zero [] xs ys h i k = refl
-length_tripled g zero (c ∷ cs) xs ys h i k = absurd (omega arith)
-length_tripled g (suc n) [] xs ys h i k = absurd (omega arith)
-length_tripled g (suc n) (c ∷ cs) [] ys h i k = absurd (omega arith)
-length_tripled g (suc n) (c ∷ cs) (x ∷ xs) [] h i k = absurd (omega arith)
 length_tripled g (suc n) (c ∷ cs) (x ∷ xs) (y ∷ ys) h i k = ap suc (length_tripled g n cs xs ys (omega arith) (omega arith) (omega arith))
+length_tripled g n cs xs ys h i k = absurd (omega arith)
 
 length_ones : (l : List ℕ) → length (unlanes OneByte l) ≡ length l
 length_ones [] = refl
@@ -157,9 +154,7 @@ sum_numbers : (x y : ℤ) (m k l a b : ℕ) → x +ℤ pos (k * m) ≡ pos a →
 sum_numbers x y m k l a b h i = let e : (k + l) * m ≡ k * m + l * m = grind arith in omega (arith, ints)
 
 pub some_modulus : (z : Size) → 0 < list.modulus z
-some_modulus OneByte = omega arith
-some_modulus Half = omega arith
-some_modulus Word = omega arith
+some_modulus z = grind arith
 
 pub add_is : (z : Size) (c a b : ℕ) → lane_of fn.Add false z c a b ≡ (a + b) % list.modulus z
 add_is z c a b =
@@ -169,12 +164,7 @@ add_is z c a b =
     (some_modulus z) refl (sum_numbers (lane_value false z a) (lane_value false z b) (list.modulus z) x.times y.times a b x.is y.is))
 
 pub modulus_is : (t : ElementType) → list.modulus (size_of_type t) ≡ modulus t
-modulus_is U8 = refl
-modulus_is S8 = refl
-modulus_is U16 = refl
-modulus_is S16 = refl
-modulus_is U32 = refl
-modulus_is S32 = refl
+modulus_is t = grind arith
 
 -- DIFFERENCES
 diff_numbers : (x y : ℤ) (m k l a b : ℕ) → l ≤ 1 → b < m → x +ℤ pos (k * m) ≡ pos a → y +ℤ pos (l * m) ≡ pos b
@@ -203,37 +193,13 @@ all_get n (x ∷ xs) zero h a = a.0
 all_get n (x ∷ xs) (suc e) h a = all_get n xs e h a.1
 
 one_fits : (s : State) (q : ℕ) → AllBelow (2 ^ 8) (list.lanes OneByte (register_at q s))
-one_fits s q = (
-  omega arith,
-  (
-    omega arith,
-    (
-      omega arith,
-      (
-        omega arith,
-        (
-          omega arith,
-          (
-            omega arith,
-            (
-              omega arith,
-              (
-                omega arith,
-                (omega arith, (omega arith, (omega arith, (omega arith, (omega arith, (omega arith, (omega arith, (omega arith, tt)))))))),
-              ),
-            ),
-          ),
-        ),
-      ),
-    ),
-  ),
-)
+one_fits s q = grind arith
 
 half_fits : (s : State) (q : ℕ) → AllBelow (2 ^ 16) (list.lanes Half (register_at q s))
-half_fits s q = (omega arith, (omega arith, (omega arith, (omega arith, (omega arith, (omega arith, (omega arith, (omega arith, tt))))))))
+half_fits s q = grind arith
 
 word_fits : (s : State) (q : ℕ) → AllBelow (2 ^ 32) (list.lanes Word (register_at q s))
-word_fits s q = (omega arith, (omega arith, (omega arith, (omega arith, tt))))
+word_fits s q = grind arith
 
 pub element_fits : (t : ElementType) (q e : ℕ) (s : State) → element_at t q e s < modulus t
 element_fits U8 q e s = all_get (2 ^ 8) (list.lanes OneByte (register_at q s)) e (omega arith) (one_fits s q)
@@ -281,20 +247,10 @@ splat_lanes U32 x = fours_repeated 4 x
 splat_lanes S32 x = fours_repeated 4 x
 
 dup_is : (t : ElementType) (c a x : ℕ) → lane_of fn.Dup true (size_of_type t) c a (x % modulus t) ≡ x % modulus t
-dup_is U8 c a x = omega arith
-dup_is S8 c a x = omega arith
-dup_is U16 c a x = omega arith
-dup_is S16 c a x = omega arith
-dup_is U32 c a x = omega arith
-dup_is S32 c a x = omega arith
+dup_is t c a x = grind arith
 
 name_size : (t : ElementType) → element_size (element_name t) ≡ size_of_type t
-name_size U8 = refl
-name_size S8 = refl
-name_size U16 = refl
-name_size S16 = refl
-name_size U32 = refl
-name_size S32 = refl
+name_size t = grind arith
 
 module _ (t : ElementType) (listing : Listing) where
   -- an addition, a subtraction or a product

@@ -219,8 +219,7 @@ pub scalar_runs : (x : Scalar) (r : Regs) → r.it ≡ 0 → runs (instr.Scalar 
 scalar_runs x r e = ap (λ (b : Bool). is_breakpoint x || b) (passed r e) ∙ or_true (is_breakpoint x)
   where
     or_true : (b : Bool) → (b || true) ≡ true
-    or_true true = refl
-    or_true false = refl
+    or_true b = grind arith
 
 pub branch_runs : (x : Branch) (r : Regs) → r.it ≡ 0 → runs (instr.Branch x) r ≡ true
 branch_runs x r e = passed r e

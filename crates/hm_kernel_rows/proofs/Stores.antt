@@ -153,12 +153,10 @@ chosen_off p true ws h = h
 chosen_off p false ws h = tt
 
 elements_off : (p : Place) (z : Size) (ps : List Bool) (addrs xs : List ℕ) → Off (At p) (element_bytes z ps addrs xs)
-elements_off p z [] addrs xs = tt
-elements_off p z (u ∷ ps) [] xs = tt
-elements_off p z (u ∷ ps) (a ∷ addrs) [] = tt
 elements_off p z (u ∷ ps) (a ∷ addrs) (x ∷ xs) =
     off-append (At p) (cond u (number_bytes x 0 (span_bytes a (byte_count z))) []) (element_bytes z ps addrs xs)
     (chosen_off p u (number_bytes x 0 (span_bytes a (byte_count z))) (numbers_off p x 0 (span_bytes a (byte_count z)))) (elements_off p z ps addrs xs)
+elements_off p z ps addrs xs = tt
 
 with_fits : (n a x : ℕ) (m : Bytes) (b : ℕ) → m b < 256 → with_number n a x m b < 256
 with_fits n a x m b h = go (nat_le a b && nat_lt b (a + n))

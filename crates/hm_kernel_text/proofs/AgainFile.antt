@@ -17,11 +17,10 @@ use Rattle.hm_text_base.proofs.LineLaws.{lines_again}
 use Rattle.hm_text_base.proofs.NumberLaws.{hex8_again, hex8_lacks, word_again}
 use Rattle.hm_text_base.proofs.SpanLaws.{Lacks_append, Lacks_from_test, split_join}
 use Rattle.hm_kernel_lang.specs.declared.text.ElementType.{ElementType}
-use Rattle.hm_kernel_lang.specs.declared.text.ElementType.TheVariants.{U8, S8, U16, S16, U32, S32}
 use Rattle.hm_kernel_lang.specs.declared.text.Op.{Op}
-use Rattle.hm_kernel_lang.specs.declared.text.Op.TheVariants as op
 use Rattle.hm_kernel_lang.specs.Language.{bytes, modulus}
 use Rattle.hm_kernel_lang.specs.Correct.{IsPlaced}
+use Rattle.hm_kernel_lang.proofs.Numbers.{number_fits}
 use Rattle.hm_kernel_text.specs.declared.errors.KernelKind.{KernelKind}
 use Rattle.hm_kernel_text.specs.declared.errors.KernelErr.{KernelErr}
 use Rattle.hm_kernel_text.specs.Trees.{Tree, word, apply, leaves, op_text, tree_need, tree_text}
@@ -36,14 +35,6 @@ use Rattle.hm_kernel_text.proofs.FoundLaws.{IsLeafy, joined}
 use Rattle.hm_kernel_text.proofs.AgainWords.{IsWord, leaf_word, lacks_all, numeral_again, words_front, goes, tree_again}
 
 -- ---- numbers
-
-below_modulus : (t : ElementType) (n : ℕ) → n < modulus t → n < 2 ^ 32
-below_modulus U8 n lt = omega arith
-below_modulus S8 n lt = omega arith
-below_modulus U16 n lt = omega arith
-below_modulus S16 n lt = omega arith
-below_modulus U32 n lt = lt
-below_modulus S32 n lt = lt
 
 pub number_again : (limit n : ℕ) → n < limit → n < 2 ^ 32 → number_below limit (decimal n) ≡ Some n
 number_again limit n lt small = rw (word_again n small, lt-ltb n limit lt) refl
@@ -104,7 +95,7 @@ numeral_not_name (b ∷ w) d l =
 
 number_passes : (t : ElementType) (arrays : List WrittenArray) (n : ℕ) → n < modulus t → Passes t arrays (word (decimal n))
 number_passes t arrays n lt =
-    let small = below_modulus t n lt in
+    let small = number_fits t n lt in
     let numeral = numeral_again n small in
     number_go (is_name (decimal n)) t arrays (decimal n) n refl numeral (number_again (modulus t) n lt small) (numeral_not_name (decimal n) numeral)
 
@@ -125,8 +116,7 @@ name_leaf : (w : List ℕ) → is_name w ≡ true → IsWord w
 name_leaf w named = leaf_word w (rw named refl)
 
 numeral_leaf : (named : Bool) → (named || true) ≡ true
-numeral_leaf true = refl
-numeral_leaf false = refl
+numeral_leaf named = grind arith
 
 decimal_word : (n : ℕ) → n < 2 ^ 32 → IsWord (decimal n)
 decimal_word n lt = leaf_word (decimal n) (rw (numeral_again n lt) (numeral_leaf (is_name (decimal n))))
@@ -135,7 +125,7 @@ decimals_lack : (mark : ℕ) (t : ElementType) (values : List ℕ) → is_ascii_
     → AllByRecursion (Lacks mark) (map decimal values)
 decimals_lack mark t [] fails small = tt
 decimals_lack mark t (v ∷ values) fails small =
-    (word_lacks mark (decimal v) fails (decimal_word v (below_modulus t v small.0)), decimals_lack mark t values fails small.1)
+    (word_lacks mark (decimal v) fails (decimal_word v (number_fits t v small.0)), decimals_lack mark t values fails small.1)
 
 join_lacks : (ws : List (List ℕ)) → AllByRecursion (Lacks 10) ws → Lacks 10 (joined ws)
 join_lacks [] all = tt
@@ -143,14 +133,7 @@ join_lacks (w ∷ []) all = all.0
 join_lacks (w ∷ v ∷ ws) all = Lacks_append 10 w (32 ∷ joined (v ∷ ws)) all.0 (λ is. absurd (omega (arith, is)), join_lacks (v ∷ ws) all.1)
 
 op_lacks : (o : Op) → Lacks 10 (op_text o)
-op_lacks op.Add = Lacks_from_test 10 (codes "add") refl
-op_lacks op.Sub = Lacks_from_test 10 (codes "sub") refl
-op_lacks op.Mul = Lacks_from_test 10 (codes "mul") refl
-op_lacks op.Min = Lacks_from_test 10 (codes "min") refl
-op_lacks op.Max = Lacks_from_test 10 (codes "max") refl
-op_lacks op.And = Lacks_from_test 10 (codes "and") refl
-op_lacks op.Or = Lacks_from_test 10 (codes "or") refl
-op_lacks op.Xor = Lacks_from_test 10 (codes "xor") refl
+op_lacks o = Lacks_from_test 10 (op_text o) (grind arith)
 
 other_mark : (b : ℕ) → 32 ≤ b → b ≢ 10
 other_mark b le is = absurd (omega (arith, is, le))
@@ -179,13 +162,13 @@ array_words_lack mark t n front a fails lt word_lack is =
 
 numerals_again : (t : ElementType) (values : List ℕ) → AllByRecursion (λ v. v < modulus t) values → list_all is_numeral (map decimal values) ≡ true
 numerals_again t [] small = refl
-numerals_again t (v ∷ values) small = rw (numeral_again v (below_modulus t v small.0), numerals_again t values small.1) refl
+numerals_again t (v ∷ values) small = rw (numeral_again v (number_fits t v small.0), numerals_again t values small.1) refl
 
 values_again : (t : ElementType) (values : List ℕ) → AllByRecursion (λ v. v < modulus t) values
     → values_in (modulus t) (map decimal values) ≡ Some values
 unfolding values_in
 values_again t [] small = refl
-values_again t (v ∷ values) small = rw (number_again (modulus t) v small.0 (below_modulus t v small.0), values_again t values small.1) refl
+values_again t (v ∷ values) small = rw (number_again (modulus t) v small.0 (number_fits t v small.0), values_again t values small.1) refl
 
 array_form_again : (t : ElementType) (n : ℕ) (front : List WrittenArray) (a : WrittenArray) → IsNewArray t n front a
     → form_in (array_text a) ≡ Some (an_array a.name a.addr (map decimal a.values))
@@ -327,24 +310,14 @@ arrays_again (a ∷ xs) ss n k none room new named some few any good =
 
 type_again : (t : ElementType) → type_in (type_text t) ≡ Some t
 unfolding type_in
-type_again U8 = refl
-type_again S8 = refl
-type_again U16 = refl
-type_again S16 = refl
-type_again U32 = refl
-type_again S32 = refl
+type_again t = grind arith
 
 length_again : (n : ℕ) → n ≤ 65536 → length_in (length_text n) ≡ Ok n
 unfolding length_in
 length_again n le = rw (numeral_again n (omega (arith, le)), number_again 65537 n (omega (arith, le)) (omega (arith, le))) refl
 
 type_lacks : (t : ElementType) → Lacks 10 (type_text t)
-type_lacks U8 = Lacks_from_test 10 (codes "type u8") refl
-type_lacks S8 = Lacks_from_test 10 (codes "type s8") refl
-type_lacks U16 = Lacks_from_test 10 (codes "type u16") refl
-type_lacks S16 = Lacks_from_test 10 (codes "type s16") refl
-type_lacks U32 = Lacks_from_test 10 (codes "type u32") refl
-type_lacks S32 = Lacks_from_test 10 (codes "type s32") refl
+type_lacks t = Lacks_from_test 10 (type_text t) (grind arith)
 
 length_lacks : (n : ℕ) → n ≤ 65536 → Lacks 10 (length_text n)
 length_lacks n le = Lacks_append 10 (codes "length ") (decimal n) (Lacks_from_test 10 (codes "length ") refl)

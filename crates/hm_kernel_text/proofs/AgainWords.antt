@@ -13,7 +13,6 @@ use Rattle.hm_text_base.proofs.NumberLaws.{word_again}
 use Rattle.hm_text_base.proofs.SpanLaws.{span_all, span_at, Lacks_append}
 use Rattle.hm_text_base.proofs.Steps.{and_then_some, guard_some, test_some}
 use Rattle.hm_kernel_lang.specs.declared.text.Op.{Op}
-use Rattle.hm_kernel_lang.specs.declared.text.Op.TheVariants as op
 use Rattle.hm_kernel_text.specs.Trees.{Tree, word, apply, op_text, tree_text}
 use Rattle.hm_kernel_text.specs.Words.{op_in, is_name, is_numeral, words_of}
 use Rattle.hm_kernel_text.specs.ReadTree.{Frame, first, second, Step, part, closed, stands, is_leaf, step_in}
@@ -139,26 +138,10 @@ first_other (b ∷ w) cs is = letter_first b (and_parts (is_ascii_alphanumeric b
 
 op_again : (o : Op) → op_in (op_text o) ≡ Some o
 unfolding op_in
-op_again op.Add = refl
-op_again op.Sub = refl
-op_again op.Mul = refl
-op_again op.Min = refl
-op_again op.Max = refl
-op_again op.And = refl
-op_again op.Or = refl
-op_again op.Xor = refl
+op_again o = grind arith
 
 op_lacks : (o : Op) → Lacks 32 (40 ∷ op_text o)
-op_lacks o = lacks_all 32 (λ b. not (eqb b 32)) (40 ∷ op_text o) refl (all o) where
-  all : (o : Op) → list_all (λ b. not (eqb b 32)) (40 ∷ op_text o) ≡ true
-  all op.Add = refl
-  all op.Sub = refl
-  all op.Mul = refl
-  all op.Min = refl
-  all op.Max = refl
-  all op.And = refl
-  all op.Or = refl
-  all op.Xor = refl
+op_lacks o = lacks_all 32 (λ b. not (eqb b 32)) (40 ∷ op_text o) refl (grind arith)
 
 -- behind a subexpression and the brackets that stand there
 abbrev resumed : List Frame → Tree → List ℕ → List (List ℕ) → Option Tree

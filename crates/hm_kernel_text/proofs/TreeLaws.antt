@@ -39,8 +39,7 @@ test_map false f x y e = refl
 
 map_then : {A B C : Type 0} (f : B → C) (g : A → Option B) (x : Option A)
     → option_map f (option_and_then g x) ≡ option_and_then (λ a. option_map f (g a)) x
-map_then f g None = refl
-map_then f g (Some a) = refl
+map_then f g x = grind arith
 
 closed_shape : (cs : List ℕ) (fs : List Frame) (t : Tree) → option_map (λ s. sides s.0) (closed fs t cs) ≡ closed_sides (sides fs) cs
 unfolding closed closed_sides
@@ -51,9 +50,7 @@ closed_shape (c ∷ cs) (second o l ∷ fs) t =
     test_map (eqb c 41) (λ (s : List Frame × Tree). sides s.0) (closed fs (apply o l t) cs) (closed_sides (sides fs) cs) (closed_shape cs fs (apply o l t))
 
 stands_shape : (s : List Frame × Tree) → option_map shape (stands s) ≡ stands_side (sides s.0)
-stands_shape ([], t) = refl
-stands_shape (first o ∷ fs, t) = refl
-stands_shape (second o l ∷ fs, t) = refl
+stands_shape s = grind arith
 
 both_shape : (x : Option (List Frame × Tree)) (y : Option (List Side)) → option_map (λ s. sides s.0) x ≡ y
     → option_map shape (option_and_then stands x) ≡ option_and_then stands_side y
@@ -62,8 +59,7 @@ both_shape (Some s) y e = stands_shape s ∙ ap (option_and_then stands_side) e
 
 opened_shape : (fs : List Frame) (o : Option Op)
     → option_map shape (option_and_then (λ o. Some (part (first o ∷ fs))) o) ≡ option_and_then (λ o. Some (Some (First ∷ sides fs))) o
-opened_shape fs None = refl
-opened_shape fs (Some o) = refl
+opened_shape fs o = grind arith
 
 cond_shape : (b : Bool) (x y : Option Step) (p q : Option (Option (List Side))) → option_map shape x ≡ p → option_map shape y ≡ q
     → option_map shape (cond b x y) ≡ cond b p q
@@ -154,14 +150,12 @@ resumed fs t cs ws = tree_after (option_and_then stands (closed fs t cs)) ws (λ
 pub operations_most : (n : ℕ) (w : List ℕ) → operations_behind n w ≤ n + 1
 operations_most n w = by_opening (opens w) where
   by_opening : (b : Bool) → cond b (n + 1) n ≤ n + 1
-  by_opening true = omega arith
-  by_opening false = omega arith
+  by_opening b = grind arith
 
 operations_more : (n : ℕ) (w : List ℕ) → n ≤ operations_behind n w
 operations_more n w = by_opening (opens w) where
   by_opening : (b : Bool) → n ≤ cond b (n + 1) n
-  by_opening true = omega arith
-  by_opening false = omega arith
+  by_opening b = grind arith
 
 after_room : (s : Option Step) (n : ℕ) (ws : List (List ℕ)) (u : Tree) → ((gs : List Frame) → tree_from gs ws ≡ Some u → room gs + 1 ≤ leaves u)
     → CountsSome n s → tree_after s ws (λ gs. tree_from gs ws) ≡ Some u → n + 1 ≤ leaves u

@@ -31,9 +31,7 @@ at_zero n ws is = rw is refl
 
 pub at_end : (n : ℕ) (text : List ℕ) → length text ≡ 0 → read None ≡ tree_at n (words_behind text)
 unfolding tree_at
-at_end zero text none = refl
-at_end (suc n) [] none = refl
-at_end (suc n) (b ∷ text) none = absurd (omega arith)
+at_end n text none = grind arith
 
 -- one word
 at_word : (n : ℕ) (ws : Words) (w : List ℕ) (more : Words) → 0 < n → ws ≡ w ∷ more
