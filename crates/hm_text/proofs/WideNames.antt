@@ -1,67 +1,60 @@
 -- The mnemonic of a row of two halfwords that is no vector row: no row of one halfword has it, and no vector row has it but `vmov.32`,
 -- which there has a lane.
-use Rattle.std.proofs.Common.{◌≡◌, ◌⊎◌, ℕ, zero, suc, Bool, true, false, List, [], ◌∷◌, get_or, Option, Some, None, refl, inl, inr, arith}
-use Rattle.std.specs.Prelude.{bytes_eq, codes, not, ◌&&◌, ◌||◌}
+use Rattle.std.proofs.Common.{◌≡◌, ◌⊎◌, ℕ, zero, suc, Bool, true, false, cond, List, [], ◌∷◌, get_or, Option, Some, None, refl, inl, inr}
+use Rattle.std.specs.Prelude.{bytes_eq, codes, is_none, not, ◌&&◌, ◌||◌, ◌==◌}
 use Rattle.std.proofs.lemmas.Bool.{and_parts, false≢true}
 use Rattle.hm_tokens.specs.Tokens.{Tok, word, number, mark}
 use Rattle.hm_text16_codes.specs.declared.operands.Kind.{Kind}
 use Rattle.hm_text16_codes.specs.declared.operands.Kind.TheVariants as kinds
 use Rattle.hm_text16_codes.specs.declared.operands.Operands.{Operands}
-use Rattle.hm_text16_codes.specs.Codes.{access_base_in, block_in, byte_access_base_in, byte_base_in, code_byte, code_compare, code_high, code_in}
-use Rattle.hm_text16_codes.specs.Codes.{code_label, code_list, code_low, code_of, code_of_three, code_of_two, code_single, code_stack_sum}
-use Rattle.hm_text16_codes.specs.Codes.{code_with_number, code_with_register, fixed_code_in, half_base_in, high_base_in, jump_base_in, low_base_in}
-use Rattle.hm_text16_codes.specs.Codes.{move_base_in, shift_base_in, stack_base_in, stack_sum_base_in, sum_base_in, word_base_in, zero_base_in}
+use Rattle.hm_text16_codes.specs.Codes.{code_in, code_label, code_list, code_of, code_of_three, code_of_two, code_with_number, code_with_register}
+use Rattle.hm_text16_codes.specs.Names.{byte_names, hint_names, jump_names, logic_names, masking_names, masks, plain_names, shift_names, swap_names}
+use Rattle.hm_text16_codes.specs.Names.{word_names, zero_names}
+use Rattle.hm_text16_rows.specs.Mnemonics.{block_first_word, byte_mnemonic, hint_mnemonic, jump_mnemonic, logic_mnemonic, masking_mnemonic, plain_mnemonic}
+use Rattle.hm_text16_rows.specs.Mnemonics.{shift_mnemonic, stack_sum_mnemonic, sum_mnemonic, swap_mnemonic, word_mnemonic, zero_mnemonic}
+use Rattle.hm_text_rows.specs.Mnemonics.{access_mnemonic, extend_mnemonic}
+use Rattle.hm_text_rows.specs.Names.{access_names, extend_names, named, sum_names}
 use Rattle.hm_text_rows.specs.Operands.{branch_condition_in, first}
 use Rattle.hm_text16_codes.specs.Operands.{read_operands}
 use Rattle.hm_textv_codes.specs.Codes as vectors
 use Rattle.hm_text.proofs.Lines.{has_lane}
 use Rattle.hm_text.proofs.VectorNames.{begins_with_v, is_other, other_name_none, some_code, vector_named}
 
-abbrev pub is_none : Option ℕ → Bool
-is_none (Some x) = false
-is_none None = true
-
--- NO ROW OF ONE HALFWORD, by the operands: with a number behind two registers
-abbrev is_no_sum : List ℕ → Bool
-is_no_sum s = is_none (shift_base_in s) && is_none (sum_base_in s) && not (bytes_eq s (codes "add"))
-
-abbrev is_no_offset : List ℕ → Bool
-is_no_offset s = is_none (stack_base_in s) && is_none (word_base_in s) && is_none (byte_access_base_in s) && is_none (half_base_in s)
-
--- with registers
-abbrev is_no_access : List ℕ → Bool
-is_no_access s = is_none (access_base_in s)
-
-abbrev is_no_low : List ℕ → Bool
-is_no_low s = is_none (low_base_in s) && is_none (move_base_in s)
-
-abbrev is_no_high : List ℕ → Bool
-is_no_high s = not (bytes_eq s (codes "cmp")) && is_none (high_base_in s)
-
--- with a number behind one, or fewer operands
-abbrev is_no_constant : List ℕ → Bool
-is_no_constant s = is_none (byte_base_in s) && is_none (stack_sum_base_in s)
-
-abbrev is_no_single : List ℕ → Bool
-is_no_single s = is_none (fixed_code_in s) && is_none (jump_base_in s) && not (bytes_eq s (codes "bkpt")) && is_none (block_in s)
-
--- with a label
-abbrev is_no_label : List ℕ → Bool
-is_no_label s = not (bytes_eq s (codes "ldr")) && is_none (zero_base_in s) && is_none (branch_condition_in s) && not (bytes_eq s (codes "b"))
-
--- with a list
-abbrev is_no_list : List ℕ → Bool
-is_no_list s = not (bytes_eq s (codes "push")) && not (bytes_eq s (codes "pop")) && not (bytes_eq s (codes "stm")) && not (bytes_eq s (codes "ldm"))
-
+-- whether all tests of a list hold
 abbrev are_all : List Bool → Bool
 are_all [] = true
 are_all (b ∷ bs) = b && are_all bs
 
-abbrev absent : List ℕ → List Bool
-absent s = is_no_sum s ∷ is_no_offset s ∷ is_no_access s ∷ is_no_low s ∷ is_no_high s ∷ is_no_constant s ∷ is_no_single s ∷ is_no_label s ∷ is_no_list s ∷ []
+-- NO ROW OF ONE HALFWORD: no name of one has the mnemonic, the names by their numbers 0 to 15,
+abbrev no_names : List ℕ → List Bool
+no_names s =
+    is_none (named shift_mnemonic shift_names s)
+    ∷ is_none (named sum_mnemonic sum_names s)
+    ∷ is_none (named word_mnemonic word_names s)
+    ∷ is_none (named plain_mnemonic plain_names s)
+    ∷ is_none (named access_mnemonic access_names s)
+    ∷ is_none (named logic_mnemonic logic_names s)
+    ∷ is_none (named extend_mnemonic extend_names s)
+    ∷ is_none (named swap_mnemonic swap_names s)
+    ∷ is_none (named byte_mnemonic byte_names s)
+    ∷ is_none (named stack_sum_mnemonic sum_names s)
+    ∷ is_none (named masking_mnemonic masking_names s)
+    ∷ is_none (named hint_mnemonic hint_names s)
+    ∷ is_none (named jump_mnemonic jump_names s)
+    ∷ is_none (named (block_first_word 0) masks s)
+    ∷ is_none (named zero_mnemonic zero_names s)
+    ∷ is_none (branch_condition_in s)
+    ∷ []
+
+-- and it is none of the words beside them, by their numbers 0 to 9
+abbrev no_words : List ℕ → List Bool
+no_words s =
+    not (bytes_eq s (codes "add")) ∷ not (bytes_eq s (codes "cmp")) ∷ not (bytes_eq s (codes "mov")) ∷ not (bytes_eq s (codes "bkpt"))
+    ∷ not (bytes_eq s (codes "push")) ∷ not (bytes_eq s (codes "pop")) ∷ not (bytes_eq s (codes "stm")) ∷ not (bytes_eq s (codes "ldm"))
+    ∷ not (bytes_eq s (codes "ldr")) ∷ not (bytes_eq s (codes "b")) ∷ []
 
 abbrev pub is_not_narrow : List ℕ → Bool
-is_not_narrow s = are_all (absent s)
+is_not_narrow s = are_all (no_names s) && are_all (no_words s)
 
 -- so no code of theirs
 holds : (k : ℕ) (bs : List Bool) → are_all bs ≡ true → get_or bs k true ≡ true
@@ -69,50 +62,70 @@ holds k [] e = refl
 holds zero (b ∷ bs) e = (and_parts b (are_all bs) e).0
 holds (suc k) (b ∷ bs) e = holds k bs (and_parts b (are_all bs) e).1
 
-number_none : (s : List ℕ) (o : Operands) → is_no_sum s ≡ true → is_no_offset s ≡ true → code_with_number s o ≡ None
-number_none s o sums offsets = grind arith
+none : {A : Type 0} {o : Option A} → is_none o ≡ true → o ≡ None
+none {o = Some x} e = absurd (false≢true e)
+none {o = None} e = refl
 
-register_none : (s : List ℕ) (o : Operands) → is_no_sum s ≡ true → is_no_access s ≡ true → code_with_register s o ≡ None
-register_none s o sums accesses = grind arith
+-- no code, whatever a test tells
+abbrev no_number : Option ℕ
+no_number = None
 
-low_none : (s : List ℕ) (o : Operands) → is_no_low s ≡ true → code_low s o ≡ None
-low_none s o lows = grind arith
+is_not : {b : Bool} → not b ≡ true → b ≡ false
+is_not {b = true} e = absurd (false≢true e)
+is_not {b = false} e = refl
 
-compare_none : (s : List ℕ) (o : Operands) → is_no_high s ≡ true → code_compare s o ≡ None
-compare_none s o highs = grind arith
-
-high_none : (s : List ℕ) (o : Operands) → is_no_high s ≡ true → code_high s o ≡ None
-high_none s o highs = grind arith
-
-constant_none : (s : List ℕ) (o : Operands) → is_no_constant s ≡ true → first (code_byte s o) (code_stack_sum s o) ≡ None
-constant_none s o constants = grind arith
-
-single_none : (s : List ℕ) (o : Operands) → is_no_single s ≡ true → code_single s o ≡ None
-single_none s o singles = grind arith
-
-label_none : (s : List ℕ) (o : Operands) (pc a : ℕ) → is_no_label s ≡ true → code_label s o pc a ≡ None
-label_none s o pc a labels = grind arith
-
-list_none : (s : List ℕ) (o : Operands) → is_no_list s ≡ true → code_list s o ≡ None
-list_none s o lists = grind arith
+no_either : (b : Bool) → first (cond b no_number no_number) no_number ≡ no_number
+no_either true = refl
+no_either false = refl
 
 module _ (s : List ℕ) (o : Operands) (pc a : ℕ) (e : is_not_narrow s ≡ true) where
-  has : (k : ℕ) → get_or (absent s) k true ≡ true
-  has k = holds k (absent s) e
+  parts : (are_all (no_names s) ≡ true) × (are_all (no_words s) ≡ true)
+  parts = and_parts (are_all (no_names s)) (are_all (no_words s)) e
+
+  name : (k : ℕ) → get_or (no_names s) k true ≡ true
+  name k = holds k (no_names s) parts.0
+
+  word_ : (k : ℕ) → get_or (no_words s) k true ≡ true
+  word_ k = holds k (no_words s) parts.1
+
+  no_add : bytes_eq s (codes "add") ≡ false
+  no_add = is_not (word_ 0)
+
+  with_number : code_with_number s o ≡ None
+  with_number =
+      rw (none (name 0), none (name 1), no_add, none (name 2), none (name 3))
+      (no_either (o.second == 13))
+
+  with_register : code_with_register s o ≡ None
+  with_register = rw (none (name 1), none (name 4)) refl
 
   two_none : (k : Kind) → code_of_two k s o ≡ None
-  two_none kinds.Number = constant_none s o (has 5)
-  two_none kinds.Word = rw (compare_none s o (has 4), low_none s o (has 3), high_none s o (has 4)) refl
-  two_none kinds.Missing = single_none s o (has 6)
+  two_none kinds.Number = rw (none (name 8), none (name 9)) refl
+  two_none kinds.Word =
+      rw (none (name 5), none (name 6), none (name 7))
+      (rw (is_not (word_ 1), no_add, is_not (word_ 2)) refl)
+  two_none kinds.Missing =
+      rw (none (name 10), none (name 11), none (name 12))
+      (rw (is_not (word_ 3), none (name 13)) refl)
+
+  label_none : code_label s o pc a ≡ None
+  label_none =
+      rw (is_not (word_ 8), none (name 14), none (name 15))
+      (rw (is_not (word_ 9)) refl)
 
   three_none : (k : Kind) → code_of_three k s o pc a ≡ None
-  three_none kinds.Number = number_none s o (has 0) (has 1)
-  three_none kinds.Word = register_none s o (has 0) (has 2)
-  three_none kinds.Missing = rw (label_none s o pc a (has 7)) (two_none o.second_kind)
+  three_none kinds.Number = with_number
+  three_none kinds.Word = with_register
+  three_none kinds.Missing = rw label_none (two_none o.second_kind)
+
+  list_none : code_list s o ≡ None
+  list_none =
+      rw (is_not (word_ 4), is_not (word_ 5))
+      (rw (is_not (word_ 6), is_not (word_ 7)) refl)
 
   narrow_code_none : code_of s o pc a ≡ None
   unfolding code_of
-  narrow_code_none = rw (list_none s o (has 8)) (three_none o.third_kind)
+  narrow_code_none = rw list_none (three_none o.third_kind)
 
 -- ALL
 abbrev pub is_wide_name : List ℕ → List Tok → Bool

@@ -7,7 +7,7 @@ use Rattle.hm_text_rows.specs.Operands.{bits_of, braced}
 use Rattle.hm_text_rows.specs.Shapes.{and_constant, constant, one, three, two}
 use Rattle.hm_text_rows.proofs.Printed.{IsPrinted, IsPrintedAt, IsShort, is_printed_bare, is_printed_bare_at, short_close, short_comma, short_hash}
 use Rattle.hm_text_rows.proofs.Printed.{short_number, short_open, short_word}
-use Rattle.hm_text_rows.proofs.Words.{is_mnemonic}
+use Rattle.hm_text_rows.proofs.Words.{◌▹◌, is_mnemonic}
 use Rattle.hm_text16_codes.specs.declared.operands.Kind.{Kind}
 use Rattle.hm_text16_codes.specs.declared.operands.Kind.TheVariants as kinds
 use Rattle.hm_text16_codes.specs.declared.operands.Operands.{Operands}
@@ -55,7 +55,7 @@ pub reads_constant : (s : List ℕ) (k : ℕ) → is_mnemonic s ≡ true → k <
 unfolding bits_of braced
 reads_constant s k mnemonic lt = record {
   asks = λ pc a. rw (min_small k lt) refl;
-  prints = is_printed_bare s _ mnemonic (short_hash, (short_small k lt, tt)) refl (omega arith) refl;
+  prints = is_printed_bare s _ mnemonic (short_hash ▹ short_small k lt ▹ tt) refl (omega arith) refl;
 }
 
 pub reads_one_constant : (s w : List ℕ) (m k : ℕ) → is_mnemonic s ≡ true → Operand w m → k < 10000
@@ -63,7 +63,7 @@ pub reads_one_constant : (s w : List ℕ) (m k : ℕ) → is_mnemonic s ≡ true
 unfolding bits_of braced
 reads_one_constant s w m k mnemonic p lt = record {
   asks = λ pc a. rw (p.value, min_small k lt) refl;
-  prints = is_printed_bare s _ mnemonic (short_word w p.is, (short_comma, (short_hash, (short_small k lt, tt)))) refl (omega arith) refl;
+  prints = is_printed_bare s _ mnemonic (short_word w p.is ▹ short_comma ▹ short_hash ▹ short_small k lt ▹ tt) refl (omega arith) refl;
 }
 
 pub reads_two : (s w x : List ℕ) (m n : ℕ) → is_mnemonic s ≡ true → Operand w m → Operand x n
@@ -71,7 +71,7 @@ pub reads_two : (s w x : List ℕ) (m n : ℕ) → is_mnemonic s ≡ true → Op
 unfolding bits_of braced
 reads_two s w x m n mnemonic p o = record {
   asks = λ pc a. rw (p.value, o.value) refl;
-  prints = is_printed_bare s _ mnemonic (short_word w p.is, (short_comma, (short_word x o.is, tt))) refl (omega arith) refl;
+  prints = is_printed_bare s _ mnemonic (short_word w p.is ▹ short_comma ▹ short_word x o.is ▹ tt) refl (omega arith) refl;
 }
 
 pub reads_two_constant : (s w x : List ℕ) (m n k : ℕ) → is_mnemonic s ≡ true → Operand w m → Operand x n → k < 10000
@@ -80,7 +80,7 @@ unfolding bits_of braced
 reads_two_constant s w x m n k mnemonic p o lt = record {
   asks = λ pc a. rw (p.value, o.value, min_small k lt) refl;
   prints =
-      is_printed_bare s _ mnemonic (short_word w p.is, (short_comma, (short_word x o.is, (short_comma, (short_hash, (short_small k lt, tt))))))
+      is_printed_bare s _ mnemonic (short_word w p.is ▹ short_comma ▹ short_word x o.is ▹ short_comma ▹ short_hash ▹ short_small k lt ▹ tt)
       refl (omega arith) refl;
 }
 
@@ -89,7 +89,7 @@ pub reads_three : (s w x y : List ℕ) (m n l : ℕ) → is_mnemonic s ≡ true 
 unfolding bits_of braced
 reads_three s w x y m n l mnemonic p o q = record {
   asks = λ pc a. rw (p.value, o.value, q.value) refl;
-  prints = is_printed_bare s _ mnemonic (short_word w p.is, (short_comma, (short_word x o.is, (short_comma, (short_word y q.is, tt))))) refl (omega arith) refl;
+  prints = is_printed_bare s _ mnemonic (short_word w p.is ▹ short_comma ▹ short_word x o.is ▹ short_comma ▹ short_word y q.is ▹ tt) refl (omega arith) refl;
 }
 
 pub reads_by_register : (s : List ℕ) (t n m : ℕ) → is_mnemonic s ≡ true → t < 16 → n < 16 → m < 16
@@ -103,7 +103,7 @@ reads_by_register s t n m mnemonic ht hn hm =
       asks = λ pc a. rw (p.value, o.value, q.value) refl;
       prints =
           is_printed_bare s _ mnemonic
-          (short_word _ p.is, (short_comma, (short_open, (short_word _ o.is, (short_comma, (short_word _ q.is, (short_close, tt)))))))
+          (short_word _ p.is ▹ short_comma ▹ short_open ▹ short_word _ o.is ▹ short_comma ▹ short_word _ q.is ▹ short_close ▹ tt)
           refl (omega arith) refl;
     }
 
@@ -117,7 +117,7 @@ reads_by_number s t n k mnemonic ht hn lt =
       asks = λ pc a. rw (p.value, o.value, min_small k lt) refl;
       prints =
           is_printed_bare s _ mnemonic
-          (short_word _ p.is, (short_comma, (short_open, (short_word _ o.is, (short_comma, (short_hash, (short_small k lt, (short_close, tt))))))))
+          (short_word _ p.is ▹ short_comma ▹ short_open ▹ short_word _ o.is ▹ short_comma ▹ short_hash ▹ short_small k lt ▹ short_close ▹ tt)
           refl (omega arith) refl;
     }
 
@@ -150,5 +150,5 @@ pub reads_register_label : (s w : List ℕ) (m : ℕ) → is_mnemonic s ≡ true
     → ReadsAt (word s ∷ word w ∷ comma ∷ []) s (λ t. given m (value t) 0 (kind_of t) kinds.Missing)
 reads_register_label s w m mnemonic p = record {
   asks = register_label_asks s w m p;
-  prints = is_printed_bare_at s _ mnemonic (short_word w p.is, (short_comma, tt)) refl refl (omega arith) refl;
+  prints = is_printed_bare_at s _ mnemonic (short_word w p.is ▹ short_comma ▹ tt) refl refl (omega arith) refl;
 }

@@ -1,5 +1,5 @@
 -- Rows with a label: their texts ask for their codes, where the label names their targets.
-use Rattle.std.proofs.Common.{◌≡◌, ℕ, ◌+◌, ◌*◌, ◌/◌, ◌%◌, ◌^◌, ◌<◌, ◌≤◌, true, Some, refl, inl, inr, arith}
+use Rattle.std.proofs.Common.{◌≡◌, ℕ, zero, suc, ◌+◌, ◌*◌, ◌/◌, ◌%◌, ◌^◌, ◌<◌, ◌≤◌, true, Some, refl, inl, inr, arith}
 use Rattle.std.specs.Prelude.{codes, nat_lt}
 use Rattle.std.proofs.lemmas.Bool.{cases_Bool}
 use Rattle.std.proofs.lemmas.Bool.Decides.{nat_tests}
@@ -11,7 +11,6 @@ use Rattle.hm_isa.specs.declared.narrow.S24.{S24}
 use Rattle.hm_isa.specs.declared.narrow.S25.{S25}
 use Rattle.hm_isa.specs.declared.narrow.S25.TheVariants as s25
 use Rattle.hm_isa.specs.declared.narrow.ZeroName.{ZeroName}
-use Rattle.hm_isa.specs.declared.narrow.ZeroName.TheVariants as zero_
 use Rattle.hm_isa.specs.Code.{zero_base}
 use Rattle.hm_isa.specs.Standing.{◌↑◌}
 use Rattle.hm_isa.specs.Words.{sign_extended}
@@ -19,16 +18,13 @@ use Rattle.hm_text16_codes.specs.declared.operands.Kind.{Kind}
 use Rattle.hm_text16_codes.specs.declared.operands.Kind.TheVariants as kinds
 use Rattle.hm_text16_codes.specs.Codes.{code_of}
 use Rattle.hm_text_rows.specs.Labels.{behind, distance}
-use Rattle.hm_text_rows.proofs.Words.{at_below, below_holds, is_mnemonic}
+use Rattle.hm_text_rows.proofs.Words.{below_holds, below_is, is_mnemonic}
+use Rattle.hm_text_rows.specs.Operands.{branch_condition_in, given_or}
 use Rattle.hm_text16_rows.specs.Mnemonics.{branch_first_word, zero_mnemonic}
 use Rattle.hm_text16_codes.proofs.Words.{a_low}
+use Rattle.hm_text_rows.proofs.Branches.{condition_back, distance_back, mnemonic_branch}
 use Rattle.hm_text16_codes.proofs.Forms.{given, reads_label, reads_register_label}
 use Rattle.hm_text16_codes.proofs.Asked.{Row, label_row}
-
--- how far the target is, again
-distance_back : (from d a : ℕ) → from < 2 ^ 32 + 8 → d < 2 ^ 32 → (from + d) % 2 ^ 32 ≡ a → distance from a ≡ d
-unfolding distance
-distance_back from d a hf hd e = omega (arith, e)
 
 -- S14
 asks_literal : (d v i : ℕ) (k : Kind) (pc a : ℕ) → distance ((pc + 4) / 4 * 4) a / 4 % 256 ≡ i
@@ -48,14 +44,12 @@ row_s14 i =
 
 -- S24
 mnemonic_zero : (name : ZeroName) → is_mnemonic (zero_mnemonic name) ≡ true
-mnemonic_zero zero_.Cbz = refl
-mnemonic_zero zero_.Cbnz = refl
+mnemonic_zero name = grind arith
 
 asks_zero : (name : ZeroName) (n v i : ℕ) (k : Kind) (pc a : ℕ) → distance (pc + 4) a / 2 % 64 ≡ i
     → code_of (zero_mnemonic name) (given n v 0 k kinds.Missing) pc a ≡ Some (zero_base name + (i / 32) ↑ 9 + (i % 32) ↑ 3 + n)
 unfolding code_of
-asks_zero zero_.Cbz n v i k pc a e = rw e refl
-asks_zero zero_.Cbnz n v i k pc a e = rw e refl
+asks_zero name n v i k pc a e = grind arith
 
 zero_field : (pc i a : ℕ) → pc < 2 ^ 32 → i < 64 → behind pc (2 * i) ≡ a → distance (pc + 4) a / 2 % 64 ≡ i
 zero_field pc i a hp hi e =
@@ -69,48 +63,10 @@ row_s24 i =
     (λ t pc a hp re. asks_zero i.name i.n.value _ i.i.value _ pc a (zero_field pc i.i.value a hp i.i.in_range re))
 
 -- S25
-abbrev AsksConditional : ℕ → Type 0
-AsksConditional c = (v i pc a : ℕ) → distance (pc + 4) a / 2 % 256 ≡ i
+asks_conditional : (c v i pc a : ℕ) → c < 14 → distance (pc + 4) a / 2 % 256 ≡ i
     → code_of (branch_first_word c) (given v 0 0 kinds.Missing kinds.Missing) pc a ≡ Some (0xd000 + c ↑ 8 + i)
-
-asks_conditional : (c : ℕ) → c < 14 → AsksConditional c
 unfolding code_of
-asks_conditional c lt =
-    at_below AsksConditional 14 c (
-      (λ v i pc a e. rw e refl),
-      (
-        (λ v i pc a e. rw e refl),
-        (
-          (λ v i pc a e. rw e refl),
-          (
-            (λ v i pc a e. rw e refl),
-            (
-              (λ v i pc a e. rw e refl),
-              (
-                (λ v i pc a e. rw e refl),
-                (
-                  (λ v i pc a e. rw e refl),
-                  (
-                    (λ v i pc a e. rw e refl),
-                    (
-                      (λ v i pc a e. rw e refl),
-                      (
-                        (λ v i pc a e. rw e refl),
-                        ((λ v i pc a e. rw e refl), ((λ v i pc a e. rw e refl), ((λ v i pc a e. rw e refl), ((λ v i pc a e. rw e refl), tt)))),
-                      ),
-                    ),
-                  ),
-                ),
-              ),
-            ),
-          ),
-        ),
-      ),
-    )
-    lt
-
-mnemonic_branch : (c : ℕ) → c < 14 → is_mnemonic (branch_first_word c) ≡ true
-mnemonic_branch c lt = below_holds (λ j. is_mnemonic (branch_first_word j)) 14 c refl lt
+asks_conditional c v i pc a lt e = rw (condition_back c lt, e) refl
 
 asks_always : (v i pc a : ℕ) → distance (pc + 4) a / 2 % 2048 ≡ i → code_of (codes "b") (given v 0 0 kinds.Missing kinds.Missing) pc a ≡ Some (0xe000 + i)
 unfolding code_of
@@ -148,7 +104,7 @@ pub row_s25 : (i : S25) → Row (instr.Branch (branch.S25 i))
 row_s25 (s25.Conditional i) =
     label_row (instr.Branch (branch.S25 (s25.Conditional i))) (branch_first_word i.c.value) _ _ refl refl
     (reads_label (branch_first_word i.c.value) (mnemonic_branch i.c.value i.c.in_range))
-    (λ t pc a hp re. asks_conditional i.c.value i.c.in_range _ i.i.value pc a
+    (λ t pc a hp re. asks_conditional i.c.value _ i.i.value pc a i.c.in_range
     (branch_field 128 i.i.value (sign_extended 9 (2 * i.i.value)) pc a hp (near_field (2 * i.i.value) i.i.value refl i.i.in_range) re))
 row_s25 (s25.Always i) =
     label_row (instr.Branch (branch.S25 (s25.Always i))) (codes "b") _ _ refl refl (reads_label (codes "b") refl)

@@ -1,6 +1,6 @@
 -- Rows of lists of registers, and blocks: their texts ask for their codes.
-use Rattle.std.proofs.Common.{◌≡◌, ℕ, zero, suc, ◌+◌, ◌/◌, ◌%◌, ◌^◌, ◌<◌, Bool, true, false, cond, eqb, List, [], ◌∷◌, ◌++◌, Some, refl, ap, inl, inr, ◌⊎◌, ◌∙◌}
-use Rattle.std.proofs.Common.{arith}
+use Rattle.std.proofs.Common.{◌≡◌, ℕ, zero, suc, ◌+◌, ◌-◌, ◌/◌, ◌%◌, ◌^◌, ◌<◌, Bool, true, false, cond, eqb, List, [], ◌∷◌, ◌++◌, Option, Some, refl}
+use Rattle.std.proofs.Common.{ap, arith, inl, inr, ◌⊎◌, ◌∙◌}
 use Rattle.std.specs.Prelude.{codes, nat_eq, nat_lt, ◌&&◌}
 use Rattle.std.proofs.lemmas.Bool.{and_parts, cases_Bool, eqb-true, ltb-true}
 use Rattle.std.proofs.lemmas.Bool.Decides.{nat_tests}
@@ -18,14 +18,17 @@ use Rattle.hm_text_rows.proofs.Braces.{printed_braces, printed_list}
 use Rattle.hm_text_rows.proofs.Printed.{IsPrinted, without_suffix}
 use Rattle.hm_text16_codes.specs.declared.operands.Kind.TheVariants as kinds
 use Rattle.hm_text16_codes.specs.declared.operands.Operands.{Operands}
-use Rattle.hm_text16_codes.specs.Codes.{code_in, code_of}
+use Rattle.hm_text16_codes.specs.Codes.{block_mask, code_in, code_of}
+use Rattle.hm_text16_codes.specs.Names.{masks}
+use Rattle.hm_text_rows.specs.Names.{named}
 use Rattle.hm_text16_codes.specs.Operands.{read_operands}
-use Rattle.hm_text_rows.specs.Operands.{bits_of, braced}
+use Rattle.hm_text_rows.specs.Operands.{bits_of, braced, given_or}
 use Rattle.hm_text_rows.specs.Shapes.{braces, r}
-use Rattle.hm_text_rows.proofs.Words.{at_below, below_holds, is_mnemonic}
+use Rattle.hm_text_rows.proofs.Words.{below_holds, below_is, is_mnemonic}
 use Rattle.hm_text16_rows.specs.Rows.{list_tokens}
 use Rattle.hm_text16_rows.specs.Mnemonics.{block_first_word, letters_above}
 use Rattle.hm_text16_codes.proofs.Words.{a_condition, a_low}
+use Rattle.hm_text_rows.proofs.Branches.{there}
 use Rattle.hm_text16_rows.proofs.Registers.{Braces, low_braces, pop_braces, push_braces}
 use Rattle.hm_text16_codes.proofs.Forms.{given, reads_one}
 use Rattle.hm_text16_codes.proofs.Asked.{Row, halves, plain_row}
@@ -36,19 +39,19 @@ record ListRow (ts : List Tok) (c : ℕ) : Type 0 where
   asks : (pc a : ℕ) → code_in ts pc a ≡ Some c
   prints : IsPrinted ts
 
-asks_push : (o : Operands) (pc a : ℕ) → code_of (codes "push") o pc a ≡ Some (0xb400 + (o.registers / 2 ^ 14 % 2) ↑ 8 + o.registers % 256)
+asks_push : (o : Operands) (pc a : ℕ) → code_of (codes "push") o pc a ≡ Some (list_base list.Push + (o.registers / 2 ^ 14 % 2) ↑ 8 + o.registers % 256)
 unfolding code_of
 asks_push o pc a = refl
 
-asks_pop : (o : Operands) (pc a : ℕ) → code_of (codes "pop") o pc a ≡ Some (0xbc00 + (o.registers / 2 ^ 15 % 2) ↑ 8 + o.registers % 256)
+asks_pop : (o : Operands) (pc a : ℕ) → code_of (codes "pop") o pc a ≡ Some (list_base list.Pop + (o.registers / 2 ^ 15 % 2) ↑ 8 + o.registers % 256)
 unfolding code_of
 asks_pop o pc a = refl
 
-asks_stm : (o : Operands) (pc a : ℕ) → code_of (codes "stm") o pc a ≡ Some (0xc000 + o.first ↑ 8 + o.registers)
+asks_stm : (o : Operands) (pc a : ℕ) → code_of (codes "stm") o pc a ≡ Some (list_base list.Stm + o.first ↑ 8 + o.registers)
 unfolding code_of
 asks_stm o pc a = refl
 
-asks_ldm : (o : Operands) (pc a : ℕ) → code_of (codes "ldm") o pc a ≡ Some (0xc800 + o.first ↑ 8 + o.registers)
+asks_ldm : (o : Operands) (pc a : ℕ) → code_of (codes "ldm") o pc a ≡ Some (list_base list.Ldm + o.first ↑ 8 + o.registers)
 unfolding code_of
 asks_ldm o pc a = refl
 
@@ -68,25 +71,27 @@ printed_written s n regs mnemonic hn b = without_suffix s _ (printed_list s [] 1
 printed_read : (s : List ℕ) (n regs : ℕ) → is_mnemonic s ≡ true → n < 8 → Braces regs → IsPrinted (word s ∷ r n ∷ comma ∷ braces regs)
 printed_read s n regs mnemonic hn b = without_suffix s _ (printed_list s [] 0 n regs mnemonic refl (omega arith) (omega (arith, hn)) b.few)
 
-push_row : (x n m : ℕ) → x < 2 → m < 256 → n ≡ 0 → ListRow (word (codes "push") ∷ braces (m + x ↑ 14)) (0xb400 + x ↑ 8 + n ↑ 8 + m)
+push_row : (x n m : ℕ) → x < 2 → m < 256 → n ≡ 0 → ListRow (word (codes "push") ∷ braces (m + x ↑ 14)) (list_base list.Push + x ↑ 8 + n ↑ 8 + m)
 push_row x n m hx hm hn =
     let b = push_braces x m hx hm in
     let f = push_field x m hx hm in
     record {
       asks =
           λ pc a. asks_push (read_operands (braces (m + x ↑ 14))) pc a
-          ∙ ap (λ (regs : ℕ). Some (0xb400 + (regs / 2 ^ 14 % 2) ↑ 8 + regs % 256)) b.bits ∙ ap (λ (w : ℕ). Some w) (rw (f.0, f.1, hn) (omega arith));
+          ∙ ap (λ (regs : ℕ). Some (list_base list.Push + (regs / 2 ^ 14 % 2) ↑ 8 + regs % 256)) b.bits
+          ∙ ap (λ (w : ℕ). Some w) (rw (f.0, f.1, hn) (omega arith));
       prints = without_suffix (codes "push") _ (printed_braces (codes "push") [] (m + x ↑ 14) refl refl b.few);
     }
 
-pop_row : (x n m : ℕ) → x < 2 → m < 256 → n ≡ 0 → ListRow (word (codes "pop") ∷ braces (m + x ↑ 15)) (0xbc00 + x ↑ 8 + n ↑ 8 + m)
+pop_row : (x n m : ℕ) → x < 2 → m < 256 → n ≡ 0 → ListRow (word (codes "pop") ∷ braces (m + x ↑ 15)) (list_base list.Pop + x ↑ 8 + n ↑ 8 + m)
 pop_row x n m hx hm hn =
     let b = pop_braces x m hx hm in
     let f = pop_field x m hx hm in
     record {
       asks =
           λ pc a. asks_pop (read_operands (braces (m + x ↑ 15))) pc a
-          ∙ ap (λ (regs : ℕ). Some (0xbc00 + (regs / 2 ^ 15 % 2) ↑ 8 + regs % 256)) b.bits ∙ ap (λ (w : ℕ). Some w) (rw (f.0, f.1, hn) (omega arith));
+          ∙ ap (λ (regs : ℕ). Some (list_base list.Pop + (regs / 2 ^ 15 % 2) ↑ 8 + regs % 256)) b.bits
+          ∙ ap (λ (w : ℕ). Some w) (rw (f.0, f.1, hn) (omega arith));
       prints = without_suffix (codes "pop") _ (printed_braces (codes "pop") [] (m + x ↑ 15) refl refl b.few);
     }
 
@@ -98,7 +103,7 @@ read_bits : (n m : ℕ) → Braces m → bits_of (braced (r n ∷ comma ∷ brac
 unfolding braced
 read_bits n m b = b.bits
 
-stm_row : (x n m : ℕ) → n < 8 → m < 256 → x ≡ 0 → ListRow (word (codes "stm") ∷ r n ∷ bang ∷ comma ∷ braces m) (0xc000 + x ↑ 8 + n ↑ 8 + m)
+stm_row : (x n m : ℕ) → n < 8 → m < 256 → x ≡ 0 → ListRow (word (codes "stm") ∷ r n ∷ bang ∷ comma ∷ braces m) (list_base list.Stm + x ↑ 8 + n ↑ 8 + m)
 stm_row x n m hn hm hx =
     let b = low_braces m hm in
     record {
@@ -109,7 +114,8 @@ stm_row x n m hn hm hx =
     }
 
 ldm_row : (x n m : ℕ) → n < 8 → m < 256 → x ≡ 0 → (b : Bool)
-    → ListRow (cond b (word (codes "ldm") ∷ r n ∷ comma ∷ []) (word (codes "ldm") ∷ r n ∷ bang ∷ comma ∷ []) ++ braces m) (0xc800 + x ↑ 8 + n ↑ 8 + m)
+    → ListRow (cond b (word (codes "ldm") ∷ r n ∷ comma ∷ []) (word (codes "ldm") ∷ r n ∷ bang ∷ comma ∷ []) ++ braces m)
+    (list_base list.Ldm + x ↑ 8 + n ↑ 8 + m)
 ldm_row x n m hn hm hx true =
     let b = low_braces m hm in
     record {
@@ -144,85 +150,20 @@ row_s20 i =
 
 -- ---- blocks
 
-abbrev AsksEven : ℕ → Type 0
-AsksEven j = (c pc a : ℕ) → c % 2 ≡ 0
-    → code_of (codes "it" ++ letters_above 0 (suc j)) (given c 0 0 kinds.Missing kinds.Missing) pc a ≡ Some (0xbf00 + c ↑ 4 + suc j)
+abbrev mask_of : List ℕ → Option ℕ
+mask_of s = named (block_first_word 0) masks s
 
-abbrev AsksOdd : ℕ → Type 0
-AsksOdd j = (c pc a : ℕ) → c % 2 ≡ 1
-    → code_of (codes "it" ++ letters_above 1 (suc j)) (given c 0 0 kinds.Missing kinds.Missing) pc a ≡ Some (0xbf00 + c ↑ 4 + suc j)
+-- the mask that the letters tell, by the low bit of the condition
+even_mask : (j : ℕ) → j < 15 → given_or (mask_of (codes "it" ++ letters_above 0 (suc j))) 0 ≡ suc j
+even_mask j lt = below_is (λ k. given_or (mask_of (codes "it" ++ letters_above 0 (suc k))) 0) (λ k. suc k) 15 j refl lt
 
-asks_even : (j : ℕ) → j < 15 → AsksEven j
+odd_mask : (j : ℕ) → j < 15 → given_or (mask_of (codes "it" ++ letters_above 1 (suc j))) 0 ≡ 15 - j
+odd_mask j lt = below_is (λ k. given_or (mask_of (codes "it" ++ letters_above 1 (suc k))) 0) (λ k. 15 - k) 15 j refl lt
+
+asks_it : (letters : List ℕ) (c pc a mask : ℕ) → given_or (mask_of (codes "it" ++ letters)) 0 ≡ mask → 0 < mask
+    → code_of (codes "it" ++ letters) (given c 0 0 kinds.Missing kinds.Missing) pc a ≡ Some (0xbf00 + c ↑ 4 + block_mask c mask)
 unfolding code_of
-asks_even j lt =
-    at_below AsksEven 15 j (
-      (λ c pc a e. rw e refl),
-      (
-        (λ c pc a e. rw e refl),
-        (
-          (λ c pc a e. rw e refl),
-          (
-            (λ c pc a e. rw e refl),
-            (
-              (λ c pc a e. rw e refl),
-              (
-                (λ c pc a e. rw e refl),
-                (
-                  (λ c pc a e. rw e refl),
-                  (
-                    (λ c pc a e. rw e refl),
-                    (
-                      (λ c pc a e. rw e refl),
-                      (
-                        (λ c pc a e. rw e refl),
-                        ((λ c pc a e. rw e refl), ((λ c pc a e. rw e refl), ((λ c pc a e. rw e refl), ((λ c pc a e. rw e refl), ((λ c pc a e. rw e refl), tt))))),
-                      ),
-                    ),
-                  ),
-                ),
-              ),
-            ),
-          ),
-        ),
-      ),
-    )
-    lt
-
-asks_odd : (j : ℕ) → j < 15 → AsksOdd j
-unfolding code_of
-asks_odd j lt =
-    at_below AsksOdd 15 j (
-      (λ c pc a e. rw e refl),
-      (
-        (λ c pc a e. rw e refl),
-        (
-          (λ c pc a e. rw e refl),
-          (
-            (λ c pc a e. rw e refl),
-            (
-              (λ c pc a e. rw e refl),
-              (
-                (λ c pc a e. rw e refl),
-                (
-                  (λ c pc a e. rw e refl),
-                  (
-                    (λ c pc a e. rw e refl),
-                    (
-                      (λ c pc a e. rw e refl),
-                      (
-                        (λ c pc a e. rw e refl),
-                        ((λ c pc a e. rw e refl), ((λ c pc a e. rw e refl), ((λ c pc a e. rw e refl), ((λ c pc a e. rw e refl), ((λ c pc a e. rw e refl), tt))))),
-                      ),
-                    ),
-                  ),
-                ),
-              ),
-            ),
-          ),
-        ),
-      ),
-    )
-    lt
+asks_it letters c pc a mask e some = rw (there (mask_of (codes "it" ++ letters)) mask e some) refl
 
 parity : (c : ℕ) → (c % 2 ≡ 0) ⊎ (c % 2 ≡ 1)
 parity c =
@@ -235,8 +176,11 @@ asks_block : (c m pc a : ℕ) → 0 < m → m < 16 → code_of (block_first_word
 asks_block c zero pc a some lt = absurd (omega arith)
 asks_block c (suc j) pc a some lt =
     elim (parity c) [
-      | inl e ↦ rw e (asks_even j (omega arith) c pc a e)
-      | inr e ↦ rw e (asks_odd j (omega arith) c pc a e)
+      | inl e ↦ rw e (asks_it (letters_above 0 (suc j)) c pc a (suc j) (even_mask j (omega arith)) some ∙ rw e refl)
+      | inr e ↦
+          rw e
+          (asks_it (letters_above 1 (suc j)) c pc a (15 - j) (odd_mask j (omega arith)) (omega arith)
+          ∙ rw e (ap (λ (mask : ℕ). Some (0xbf00 + c ↑ 4 + mask)) (omega arith)))
     ]
 
 mnemonic_low : (low : ℕ) (m : ℕ) → low < 2 → m < 16 → is_mnemonic (codes "it" ++ letters_above low m) ≡ true

@@ -1,11 +1,8 @@
 -- Rows that load and store one register: their texts ask for their codes.
 use Rattle.std.proofs.Common.{◌≡◌, ℕ, ◌+◌, ◌*◌, ◌/◌, ◌<◌, true, false, eqb, Some, refl, arith}
 use Rattle.hm_isa.specs.declared.narrow.AccessName.{AccessName}
-use Rattle.hm_isa.specs.declared.narrow.AccessName.TheVariants as access
 use Rattle.hm_isa.specs.declared.narrow.PlainName.{PlainName}
-use Rattle.hm_isa.specs.declared.narrow.PlainName.TheVariants as plain
 use Rattle.hm_isa.specs.declared.narrow.WordName.{WordName}
-use Rattle.hm_isa.specs.declared.narrow.WordName.TheVariants as word_
 use Rattle.hm_isa.specs.declared.narrow.S15.{S15}
 use Rattle.hm_isa.specs.declared.narrow.S16.{S16}
 use Rattle.hm_isa.specs.declared.narrow.S17.{S17}
@@ -28,26 +25,12 @@ low_below n lt = omega arith
 
 -- S15
 mnemonic_access : (name : AccessName) → is_mnemonic (access_mnemonic name) ≡ true
-mnemonic_access access.Str = refl
-mnemonic_access access.Strh = refl
-mnemonic_access access.Strb = refl
-mnemonic_access access.Ldrsb = refl
-mnemonic_access access.Ldr = refl
-mnemonic_access access.Ldrh = refl
-mnemonic_access access.Ldrb = refl
-mnemonic_access access.Ldrsh = refl
+mnemonic_access name = grind arith
 
 asks_access : (name : AccessName) (m n t pc a : ℕ)
     → code_of (access_mnemonic name) (given t n m kinds.Word kinds.Word) pc a ≡ Some (access_base name + m ↑ 6 + n ↑ 3 + t)
 unfolding code_of
-asks_access access.Str m n t pc a = refl
-asks_access access.Strh m n t pc a = refl
-asks_access access.Strb m n t pc a = refl
-asks_access access.Ldrsb m n t pc a = refl
-asks_access access.Ldr m n t pc a = refl
-asks_access access.Ldrh m n t pc a = refl
-asks_access access.Ldrb m n t pc a = refl
-asks_access access.Ldrsh m n t pc a = refl
+asks_access name m n t pc a = grind arith
 
 pub row_s15 : (i : S15) → Row (instr.Scalar (scalar.S15 i))
 row_s15 i = plain_row (instr.Scalar (scalar.S15 i)) _ _ _ refl refl
@@ -57,41 +40,18 @@ row_s15 i = plain_row (instr.Scalar (scalar.S15 i)) _ _ _ refl refl
 
 -- S16
 mnemonic_plain : (name : PlainName) → is_mnemonic (plain_mnemonic name) ≡ true
-mnemonic_plain plain.Str = refl
-mnemonic_plain plain.Ldr = refl
-mnemonic_plain plain.Strb = refl
-mnemonic_plain plain.Ldrb = refl
-mnemonic_plain plain.Strh = refl
-mnemonic_plain plain.Ldrh = refl
-
-byte_is : (k i : ℕ) → k / 1 ≡ i → k ≡ i
-byte_is k i e = omega (arith, e)
+mnemonic_plain name = grind arith
 
 asks_plain : (name : PlainName) (i n t k pc a : ℕ) → eqb n 13 ≡ false → k / plain_size name ≡ i
     → code_of (plain_mnemonic name) (given t n k kinds.Word kinds.Number) pc a ≡ Some (plain_base name + i ↑ 6 + n ↑ 3 + t)
 unfolding code_of
-asks_plain plain.Str i n t k pc a h0 h1 = rw (h0, h1) refl
-asks_plain plain.Ldr i n t k pc a h0 h1 = rw (h0, h1) refl
-asks_plain plain.Strb i n t k pc a h0 h1 = rw (h0, byte_is k i h1) refl
-asks_plain plain.Ldrb i n t k pc a h0 h1 = rw (h0, byte_is k i h1) refl
-asks_plain plain.Strh i n t k pc a h0 h1 = rw (h0, h1) refl
-asks_plain plain.Ldrh i n t k pc a h0 h1 = rw (h0, h1) refl
+asks_plain name i n t k pc a h0 h1 = grind arith
 
 size_back : (name : PlainName) (i : ℕ) → plain_size name * i / plain_size name ≡ i
-size_back plain.Str i = omega arith
-size_back plain.Ldr i = omega arith
-size_back plain.Strb i = omega arith
-size_back plain.Ldrb i = omega arith
-size_back plain.Strh i = omega arith
-size_back plain.Ldrh i = omega arith
+size_back name i = grind arith
 
 offset_fits : (name : PlainName) (i : ℕ) → i < 32 → plain_size name * i < 10000
-offset_fits plain.Str i lt = omega arith
-offset_fits plain.Ldr i lt = omega arith
-offset_fits plain.Strb i lt = omega arith
-offset_fits plain.Ldrb i lt = omega arith
-offset_fits plain.Strh i lt = omega arith
-offset_fits plain.Ldrh i lt = omega arith
+offset_fits name i lt = grind arith
 
 no_sp : (n : ℕ) → n < 8 → eqb n 13 ≡ false
 no_sp n lt = ne_eqb n 13 (λ is. omega arith)
@@ -103,14 +63,12 @@ row_s16 i = plain_row (instr.Scalar (scalar.S16 i)) _ _ _ refl refl
 
 -- S17
 mnemonic_word : (name : WordName) → is_mnemonic (word_mnemonic name) ≡ true
-mnemonic_word word_.Str = refl
-mnemonic_word word_.Ldr = refl
+mnemonic_word name = grind arith
 
 asks_word : (name : WordName) (i t k pc a : ℕ) → k / 4 ≡ i
     → code_of (word_mnemonic name) (given t 13 k kinds.Word kinds.Number) pc a ≡ Some (word_base name + t ↑ 8 + i)
 unfolding code_of
-asks_word word_.Str i t k pc a h0 = rw h0 refl
-asks_word word_.Ldr i t k pc a h0 = rw h0 refl
+asks_word name i t k pc a h0 = grind arith
 
 quarter : (i : ℕ) → 4 * i / 4 ≡ i
 quarter i = omega arith

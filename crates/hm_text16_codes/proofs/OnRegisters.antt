@@ -4,23 +4,14 @@ use Rattle.std.specs.Prelude.{codes, nat_le, ◌||◌}
 use Rattle.hm_isa.specs.declared.narrow.ShiftName.{ShiftName}
 use Rattle.hm_isa.specs.declared.narrow.ShiftName.TheVariants as shift
 use Rattle.hm_isa.specs.declared.narrow.SumName.{SumName}
-use Rattle.hm_isa.specs.declared.narrow.SumName.TheVariants as sum_
 use Rattle.hm_isa.specs.declared.narrow.ByteName.{ByteName}
-use Rattle.hm_isa.specs.declared.narrow.ByteName.TheVariants as byte
 use Rattle.hm_isa.specs.declared.narrow.LogicName.{LogicName}
-use Rattle.hm_isa.specs.declared.narrow.LogicName.TheVariants as logic
 use Rattle.hm_isa.specs.declared.narrow.BaseName.{BaseName}
-use Rattle.hm_isa.specs.declared.narrow.BaseName.TheVariants as base
 use Rattle.hm_isa.specs.declared.narrow.ExtendName.{ExtendName}
-use Rattle.hm_isa.specs.declared.narrow.ExtendName.TheVariants as extend
 use Rattle.hm_isa.specs.declared.narrow.SwapName.{SwapName}
-use Rattle.hm_isa.specs.declared.narrow.SwapName.TheVariants as swap_
 use Rattle.hm_isa.specs.declared.narrow.MaskingName.{MaskingName}
-use Rattle.hm_isa.specs.declared.narrow.MaskingName.TheVariants as masking
 use Rattle.hm_isa.specs.declared.narrow.HintName.{HintName}
-use Rattle.hm_isa.specs.declared.narrow.HintName.TheVariants as hint
 use Rattle.hm_isa.specs.declared.narrow.JumpName.{JumpName}
-use Rattle.hm_isa.specs.declared.narrow.JumpName.TheVariants as jump
 use Rattle.hm_isa.specs.declared.narrow.S1.{S1}
 use Rattle.hm_isa.specs.declared.narrow.S2.{S2}
 use Rattle.hm_isa.specs.declared.narrow.S3.{S3}
@@ -60,16 +51,12 @@ use Rattle.hm_text16_codes.proofs.Asked.{Row, plain_row}
 
 -- S1
 mnemonic_shift : (name : ShiftName) → is_mnemonic (shift_mnemonic name) ≡ true
-mnemonic_shift shift.Lsl = refl
-mnemonic_shift shift.Lsr = refl
-mnemonic_shift shift.Asr = refl
+mnemonic_shift name = grind arith
 
 asks_shift : (name : ShiftName) (i m d k pc a : ℕ) → k % 32 ≡ i
     → code_of (shift_mnemonic name) (given d m k kinds.Word kinds.Number) pc a ≡ Some (shift_base name + i ↑ 6 + m ↑ 3 + d)
 unfolding code_of
-asks_shift shift.Lsl i m d k pc a h0 = rw h0 refl
-asks_shift shift.Lsr i m d k pc a h0 = rw h0 refl
-asks_shift shift.Asr i m d k pc a h0 = rw h0 refl
+asks_shift name i m d k pc a h0 = grind arith
 
 shift_back : (name : ShiftName) (i : ℕ) → i < 32 → shift_number name i % 32 ≡ i
 shift_back shift.Lsl i lt = omega arith
@@ -88,13 +75,11 @@ row_s1 i = plain_row (instr.Scalar (scalar.S1 i)) _ _ _ refl refl
 
 -- S2, S3
 mnemonic_sum : (name : SumName) → is_mnemonic (sum_mnemonic name) ≡ true
-mnemonic_sum sum_.Add = refl
-mnemonic_sum sum_.Sub = refl
+mnemonic_sum name = grind arith
 
 asks_sum : (name : SumName) (m n d pc a : ℕ) → code_of (sum_mnemonic name) (given d n m kinds.Word kinds.Word) pc a ≡ Some (sum_base name + m ↑ 6 + n ↑ 3 + d)
 unfolding code_of
-asks_sum sum_.Add m n d pc a = refl
-asks_sum sum_.Sub m n d pc a = refl
+asks_sum name m n d pc a = grind arith
 
 pub row_s2 : (i : S2) → Row (instr.Scalar (scalar.S2 i))
 row_s2 i = plain_row (instr.Scalar (scalar.S2 i)) _ _ _ refl refl
@@ -104,8 +89,7 @@ row_s2 i = plain_row (instr.Scalar (scalar.S2 i)) _ _ _ refl refl
 asks_small_sum : (name : SumName) (i n d pc a : ℕ)
     → code_of (sum_mnemonic name) (given d n i kinds.Word kinds.Number) pc a ≡ Some (sum_base name + 0x0400 + i ↑ 6 + n ↑ 3 + d)
 unfolding code_of
-asks_small_sum sum_.Add i n d pc a = refl
-asks_small_sum sum_.Sub i n d pc a = refl
+asks_small_sum name i n d pc a = grind arith
 
 byte_fits : (i : ℕ) → i < 256 → i < 10000
 byte_fits i lt = omega arith
@@ -120,17 +104,11 @@ row_s3 i = plain_row (instr.Scalar (scalar.S3 i)) _ _ _ refl refl
 
 -- S4
 mnemonic_byte : (name : ByteName) → is_mnemonic (byte_mnemonic name) ≡ true
-mnemonic_byte byte.Mov = refl
-mnemonic_byte byte.Cmp = refl
-mnemonic_byte byte.Add = refl
-mnemonic_byte byte.Sub = refl
+mnemonic_byte name = grind arith
 
 asks_byte : (name : ByteName) (d i pc a : ℕ) → code_of (byte_mnemonic name) (given d i 0 kinds.Number kinds.Missing) pc a ≡ Some (byte_base name + d ↑ 8 + i)
 unfolding code_of
-asks_byte byte.Mov d i pc a = refl
-asks_byte byte.Cmp d i pc a = refl
-asks_byte byte.Add d i pc a = refl
-asks_byte byte.Sub d i pc a = refl
+asks_byte name d i pc a = grind arith
 
 pub row_s4 : (i : S4) → Row (instr.Scalar (scalar.S4 i))
 row_s4 i = plain_row (instr.Scalar (scalar.S4 i)) _ _ _ refl refl
@@ -138,22 +116,7 @@ row_s4 i = plain_row (instr.Scalar (scalar.S4 i)) _ _ _ refl refl
 
 -- S5
 mnemonic_logic : (name : LogicName) → is_mnemonic (logic_mnemonic name) ≡ true
-mnemonic_logic logic.Ands = refl
-mnemonic_logic logic.Eors = refl
-mnemonic_logic logic.Lsls = refl
-mnemonic_logic logic.Lsrs = refl
-mnemonic_logic logic.Asrs = refl
-mnemonic_logic logic.Adcs = refl
-mnemonic_logic logic.Sbcs = refl
-mnemonic_logic logic.Rors = refl
-mnemonic_logic logic.Tst = refl
-mnemonic_logic logic.Rsbs = refl
-mnemonic_logic logic.Cmp = refl
-mnemonic_logic logic.Cmn = refl
-mnemonic_logic logic.Orrs = refl
-mnemonic_logic logic.Muls = refl
-mnemonic_logic logic.Bics = refl
-mnemonic_logic logic.Mvns = refl
+mnemonic_logic name = grind arith
 
 low_test : (d m : ℕ) → d < 8 → m < 8 → (nat_le 8 d || nat_le 8 m) ≡ false
 low_test d m hd hm = grind (arith, nat_tests)
@@ -161,22 +124,7 @@ low_test d m hd hm = grind (arith, nat_tests)
 asks_logic : (name : LogicName) (m d pc a : ℕ) → (nat_le 8 d || nat_le 8 m) ≡ false
     → code_of (logic_mnemonic name) (given d m 0 kinds.Word kinds.Missing) pc a ≡ Some (logic_base name + m ↑ 3 + d)
 unfolding code_of
-asks_logic logic.Ands m d pc a h0 = refl
-asks_logic logic.Eors m d pc a h0 = refl
-asks_logic logic.Lsls m d pc a h0 = refl
-asks_logic logic.Lsrs m d pc a h0 = refl
-asks_logic logic.Asrs m d pc a h0 = refl
-asks_logic logic.Adcs m d pc a h0 = refl
-asks_logic logic.Sbcs m d pc a h0 = refl
-asks_logic logic.Rors m d pc a h0 = refl
-asks_logic logic.Tst m d pc a h0 = refl
-asks_logic logic.Rsbs m d pc a h0 = refl
-asks_logic logic.Cmp m d pc a h0 = rw h0 refl
-asks_logic logic.Cmn m d pc a h0 = refl
-asks_logic logic.Orrs m d pc a h0 = refl
-asks_logic logic.Muls m d pc a h0 = refl
-asks_logic logic.Bics m d pc a h0 = refl
-asks_logic logic.Mvns m d pc a h0 = refl
+asks_logic name m d pc a h0 = grind arith
 
 pub row_s5 : (i : S5) → Row (instr.Scalar (scalar.S5 i))
 row_s5 i = plain_row (instr.Scalar (scalar.S5 i)) _ _ _ refl refl
@@ -217,12 +165,10 @@ row_s8 i = plain_row (instr.Scalar (scalar.S8 i)) _ _ _ refl refl
 asks_address : (name : BaseName) (d i k pc a : ℕ) → k / 4 ≡ i
     → code_of (codes "add") (given d (base_register name) k kinds.Word kinds.Number) pc a ≡ Some (base_base name + d ↑ 8 + i)
 unfolding code_of
-asks_address base.Pc d i k pc a e = rw e refl
-asks_address base.Sp d i k pc a e = rw e refl
+asks_address name d i k pc a e = grind arith
 
 base_below : (name : BaseName) → base_register name < 16
-base_below base.Pc = omega arith
-base_below base.Sp = omega arith
+base_below name = grind arith
 
 quarter : (i : ℕ) → 4 * i / 4 ≡ i
 quarter i = omega arith
@@ -236,14 +182,12 @@ row_s9 i = plain_row (instr.Scalar (scalar.S9 i)) _ _ _ refl refl
     (words_fit i.i.value i.i.in_range)) (λ p b. asks_address i.name _ i.i.value _ p b (quarter i.i.value))
 
 mnemonic_stack_sum : (name : SumName) → is_mnemonic (stack_sum_mnemonic name) ≡ true
-mnemonic_stack_sum sum_.Add = refl
-mnemonic_stack_sum sum_.Sub = refl
+mnemonic_stack_sum name = grind arith
 
 asks_stack_sum : (name : SumName) (i k d pc a : ℕ) → k / 4 ≡ i
     → code_of (stack_sum_mnemonic name) (given d k 0 kinds.Number kinds.Missing) pc a ≡ Some (stack_sum_base name + i)
 unfolding code_of
-asks_stack_sum sum_.Add i k d pc a h0 = rw h0 refl
-asks_stack_sum sum_.Sub i k d pc a h0 = rw h0 refl
+asks_stack_sum name i k d pc a h0 = grind arith
 
 stack_words_fit : (i : ℕ) → i < 128 → 4 * i < 10000
 stack_words_fit i lt = omega arith
@@ -255,33 +199,23 @@ row_s10 i = plain_row (instr.Scalar (scalar.S10 i)) _ _ _ refl refl
 
 -- S11, S12
 mnemonic_extend : (name : ExtendName) → is_mnemonic (extend_mnemonic name) ≡ true
-mnemonic_extend extend.Sxth = refl
-mnemonic_extend extend.Sxtb = refl
-mnemonic_extend extend.Uxth = refl
-mnemonic_extend extend.Uxtb = refl
+mnemonic_extend name = grind arith
 
 asks_extend : (name : ExtendName) (m d pc a : ℕ)
     → code_of (extend_mnemonic name) (given d m 0 kinds.Word kinds.Missing) pc a ≡ Some (extend_base name + m ↑ 3 + d)
 unfolding code_of
-asks_extend extend.Sxth m d pc a = refl
-asks_extend extend.Sxtb m d pc a = refl
-asks_extend extend.Uxth m d pc a = refl
-asks_extend extend.Uxtb m d pc a = refl
+asks_extend name m d pc a = grind arith
 
 pub row_s11 : (i : S11) → Row (instr.Scalar (scalar.S11 i))
 row_s11 i = plain_row (instr.Scalar (scalar.S11 i)) _ _ _ refl refl
     (reads_two _ _ _ _ _ (mnemonic_extend i.name) (a_low i.d.value i.d.in_range) (a_low i.m.value i.m.in_range)) (λ p b. asks_extend i.name _ _ p b)
 
 mnemonic_swap : (name : SwapName) → is_mnemonic (swap_mnemonic name) ≡ true
-mnemonic_swap swap_.Rev = refl
-mnemonic_swap swap_.Rev16 = refl
-mnemonic_swap swap_.Revsh = refl
+mnemonic_swap name = grind arith
 
 asks_swap : (name : SwapName) (m d pc a : ℕ) → code_of (swap_mnemonic name) (given d m 0 kinds.Word kinds.Missing) pc a ≡ Some (swap_base name + m ↑ 3 + d)
 unfolding code_of
-asks_swap swap_.Rev m d pc a = refl
-asks_swap swap_.Rev16 m d pc a = refl
-asks_swap swap_.Revsh m d pc a = refl
+asks_swap name m d pc a = grind arith
 
 pub row_s12 : (i : S12) → Row (instr.Scalar (scalar.S12 i))
 row_s12 i = plain_row (instr.Scalar (scalar.S12 i)) _ _ _ refl refl
@@ -289,13 +223,11 @@ row_s12 i = plain_row (instr.Scalar (scalar.S12 i)) _ _ _ refl refl
 
 -- S13, S18, S19, S23
 mnemonic_masking : (name : MaskingName) → is_mnemonic (masking_mnemonic name) ≡ true
-mnemonic_masking masking.Cpsie = refl
-mnemonic_masking masking.Cpsid = refl
+mnemonic_masking name = grind arith
 
 asks_masking : (name : MaskingName) (x pc a : ℕ) → code_of (masking_mnemonic name) (given x 0 0 kinds.Missing kinds.Missing) pc a ≡ Some (masking_base name)
 unfolding code_of
-asks_masking masking.Cpsie x pc a = refl
-asks_masking masking.Cpsid x pc a = refl
+asks_masking name x pc a = grind arith
 
 the_i : Operand (codes "i") 0
 unfolding word_value
@@ -313,31 +245,21 @@ row_s18 i = plain_row (instr.Scalar (scalar.S18 i)) _ _ _ refl refl (reads_const
     (λ p b. asks_break _ p b)
 
 mnemonic_hint : (name : HintName) → is_mnemonic (hint_mnemonic name) ≡ true
-mnemonic_hint hint.Nop = refl
-mnemonic_hint hint.Yield = refl
-mnemonic_hint hint.Wfe = refl
-mnemonic_hint hint.Wfi = refl
-mnemonic_hint hint.Sev = refl
+mnemonic_hint name = grind arith
 
 asks_hint : (name : HintName) (pc a : ℕ) → code_of (hint_mnemonic name) (given 0 0 0 kinds.Missing kinds.Missing) pc a ≡ Some (hint_base name)
 unfolding code_of
-asks_hint hint.Nop pc a = refl
-asks_hint hint.Yield pc a = refl
-asks_hint hint.Wfe pc a = refl
-asks_hint hint.Wfi pc a = refl
-asks_hint hint.Sev pc a = refl
+asks_hint name pc a = grind arith
 
 pub row_s19 : (i : S19) → Row (instr.Scalar (scalar.S19 i))
 row_s19 i = plain_row (instr.Scalar (scalar.S19 i)) _ _ _ refl refl (reads_none _ (mnemonic_hint i.name)) (λ p b. asks_hint i.name p b)
 
 mnemonic_jump : (name : JumpName) → is_mnemonic (jump_mnemonic name) ≡ true
-mnemonic_jump jump.Bx = refl
-mnemonic_jump jump.Blx = refl
+mnemonic_jump name = grind arith
 
 asks_jump : (name : JumpName) (m pc a : ℕ) → code_of (jump_mnemonic name) (given m 0 0 kinds.Missing kinds.Missing) pc a ≡ Some (jump_base name + m ↑ 3)
 unfolding code_of
-asks_jump jump.Bx m pc a = refl
-asks_jump jump.Blx m pc a = refl
+asks_jump name m pc a = grind arith
 
 pub row_s23 : (i : S23) → Row (instr.Branch (branch.S23 i))
 row_s23 i = plain_row (instr.Branch (branch.S23 i)) _ _ _ refl refl (reads_one _ _ _ (mnemonic_jump i.name) (a_register i.m.value i.m.in_range))

@@ -1,24 +1,28 @@
 //! The code that a text carelessly asks for: what decides is whether the row that has this code has the text.
 
 ghost use Rattle.std.specs.Prelude.{◌≡◌, ◌<◌, ◌+◌, ◌^◌, map};
-ghost use Rattle.hm_text16_codes.specs.Codes.{block_mask, code_address, code_always, code_block, code_break, code_byte, code_byte_access, code_compare};
-ghost use Rattle.hm_text16_codes.specs.Codes.{code_conditional, code_half, code_high, code_in, code_jump, code_label, code_list, code_literal, code_low};
-ghost use Rattle.hm_text16_codes.specs.Codes.{code_number};
-ghost use Rattle.hm_text16_codes.specs.Codes.{code_of, code_of_three, code_of_two, code_registers, code_shift, code_single, code_small_sum, code_stack_access};
-ghost use Rattle.hm_text16_codes.specs.Codes.{code_stack_sum, code_with_number, code_with_register, code_word, code_zero, fixed_code_in, low_base_in};
-ghost use Rattle.hm_text16_codes.specs.Codes.{move_base_in};
-ghost use Rattle.hm_text16_codes.specs.Codes.{of_byte, of_high, of_three, sum_base_in, access_base_in, zero_code};
+ghost use Rattle.hm_text16_codes.specs.Codes.{block_mask, code_access, code_address, code_always, code_block, code_break, code_byte, code_compare};
+ghost use Rattle.hm_text16_codes.specs.Codes.{code_conditional, code_extend, code_fixed, code_high, code_in, code_jump, code_label, code_list, code_literal};
+ghost use Rattle.hm_text16_codes.specs.Codes.{code_logic, code_number, code_of, code_of_three, code_of_two, code_offset, code_registers, code_shift};
+ghost use Rattle.hm_text16_codes.specs.Codes.{code_single, code_small_sum, code_stack_access, code_stack_sum, code_sum, code_swap, code_with_number};
+ghost use Rattle.hm_text16_codes.specs.Codes.{code_with_register, code_zero, of_byte, of_high, of_three, zero_code};
 ghost use Rattle.hm_text_rows.specs.Labels.{distance};
 ghost use Rattle.hm_text_rows.specs.Operands.{first};
 ghost use Rattle.hm_tokens.specs.Tokens.{tok};
 
-use crate::bases::{
-    access_base_in, block_in, byte_access_base_in, byte_base_in, fixed_code_in, half_base_in,
-    high_base_in, jump_base_in, low_base_in, move_base_in, shift_base_in, stack_base_in,
-    stack_sum_base_in, sum_base_in, word_base_in, zero_base_in,
+use crate::names::{
+    byte_name, even_mask, hint_name, jump_name, logic_name, masking_name, plain_name, shift_name,
+    stack_sum_name, sum_name, swap_name, word_name, zero_name,
 };
 use crate::operands::{Kind, Operands, read_operands};
-use hm_text_rows::{branch_condition_in, distance, is};
+use hm_enc16::{
+    base_of_access, base_of_base, base_of_byte, base_of_extend, base_of_hint, base_of_jump,
+    base_of_list, base_of_logic, base_of_masking, base_of_plain, base_of_shift, base_of_stack_sum,
+    base_of_sum, base_of_swap, base_of_word, base_of_zero,
+};
+use hm_isa::{BaseName, ListName, LogicName};
+use hm_text_rows::{access_name, branch_condition_in, distance, extend_name, is};
+use hm_text16_rows::plain_size;
 use hm_tokens::Token;
 
 /// Fields of three and five bits at their places.
@@ -49,7 +53,7 @@ fn of_high(base: u64, d: u32, m: u32) -> u64
 fn code_shift(mnemonic: &[u8], o: &Operands) -> Option<u64>
     ensures { result ≡ code_shift mnemonic.now o.now }
 {
-    let base = shift_base_in(mnemonic)?;
+    let base = base_of_shift(shift_name(mnemonic)?);
     Some(of_three(u64::from(base), o.third % 32, o.second, o.first))
 }
 
@@ -57,7 +61,7 @@ fn code_shift(mnemonic: &[u8], o: &Operands) -> Option<u64>
 fn code_small_sum(mnemonic: &[u8], o: &Operands) -> Option<u64>
     ensures { result ≡ code_small_sum mnemonic.now o.now }
 {
-    let base = sum_base_in(mnemonic)?;
+    let base = base_of_sum(sum_name(mnemonic)?);
     Some(of_three(u64::from(base) + 0x0400, o.third, o.second, o.first))
 }
 
@@ -68,12 +72,16 @@ fn code_address(mnemonic: &[u8], o: &Operands) -> Option<u64>
     if !is(mnemonic, "add") {
         return None;
     }
-    let i = u64::from(o.third / 4);
-    if o.second == 15 {
-        Some(of_byte(0xa000, o.first, i))
+    let name = if o.second == 15 {
+        BaseName::Pc
     } else {
-        Some(of_byte(0xa800, o.first, i))
-    }
+        BaseName::Sp
+    };
+    Some(of_byte(
+        u64::from(base_of_base(name)),
+        o.first,
+        u64::from(o.third / 4),
+    ))
 }
 
 /// Rows S17.
@@ -83,32 +91,17 @@ fn code_stack_access(mnemonic: &[u8], o: &Operands) -> Option<u64>
     if o.second != 13 {
         return None;
     }
-    let base = stack_base_in(mnemonic)?;
+    let base = base_of_word(word_name(mnemonic)?);
     Some(of_byte(u64::from(base), o.first, u64::from(o.third / 4)))
 }
 
-/// Rows S16 of words.
-fn code_word(mnemonic: &[u8], o: &Operands) -> Option<u64>
-    ensures { result ≡ code_word mnemonic.now o.now }
+/// Rows S16.
+fn code_offset(mnemonic: &[u8], o: &Operands) -> Option<u64>
+    ensures { result ≡ code_offset mnemonic.now o.now }
 {
-    let base = word_base_in(mnemonic)?;
-    Some(of_three(u64::from(base), o.third / 4, o.second, o.first))
-}
-
-/// Rows S16 of bytes.
-fn code_byte_access(mnemonic: &[u8], o: &Operands) -> Option<u64>
-    ensures { result ≡ code_byte_access mnemonic.now o.now }
-{
-    let base = byte_access_base_in(mnemonic)?;
-    Some(of_three(u64::from(base), o.third, o.second, o.first))
-}
-
-/// Rows S16 of halfwords.
-fn code_half(mnemonic: &[u8], o: &Operands) -> Option<u64>
-    ensures { result ≡ code_half mnemonic.now o.now }
-{
-    let base = half_base_in(mnemonic)?;
-    Some(of_three(u64::from(base), o.third / 2, o.second, o.first))
+    let name = plain_name(mnemonic)?;
+    let base = u64::from(base_of_plain(name));
+    Some(of_three(base, o.third / plain_size(name), o.second, o.first))
 }
 
 /// Rows with a number behind two registers.
@@ -127,38 +120,40 @@ fn code_with_number(mnemonic: &[u8], o: &Operands) -> Option<u64>
     if let Some(code) = code_stack_access(mnemonic, o) {
         return Some(code);
     }
-    if let Some(code) = code_word(mnemonic, o) {
-        return Some(code);
-    }
-    if let Some(code) = code_byte_access(mnemonic, o) {
-        return Some(code);
-    }
-    code_half(mnemonic, o)
+    code_offset(mnemonic, o)
 }
 
-/// The base of a row of three registers.
-fn base_of_registers(mnemonic: &[u8]) -> Option<u32>
-    ensures { result ≡ first (sum_base_in mnemonic.now) (access_base_in mnemonic.now) }
+/// Rows S2.
+fn code_sum(mnemonic: &[u8], o: &Operands) -> Option<u64>
+    ensures { result ≡ code_sum mnemonic.now o.now }
 {
-    if let Some(base) = sum_base_in(mnemonic) {
-        return Some(base);
-    }
-    access_base_in(mnemonic)
+    let base = base_of_sum(sum_name(mnemonic)?);
+    Some(of_three(u64::from(base), o.third, o.second, o.first))
+}
+
+/// Rows S15.
+fn code_access(mnemonic: &[u8], o: &Operands) -> Option<u64>
+    ensures { result ≡ code_access mnemonic.now o.now }
+{
+    let base = base_of_access(access_name(mnemonic)?);
+    Some(of_three(u64::from(base), o.third, o.second, o.first))
 }
 
 /// Rows of three registers.
 fn code_with_register(mnemonic: &[u8], o: &Operands) -> Option<u64>
     ensures { result ≡ code_with_register mnemonic.now o.now }
 {
-    let base = base_of_registers(mnemonic)?;
-    Some(of_three(u64::from(base), o.third, o.second, o.first))
+    if let Some(code) = code_sum(mnemonic, o) {
+        return Some(code);
+    }
+    code_access(mnemonic, o)
 }
 
 /// Rows S4.
 fn code_byte(mnemonic: &[u8], o: &Operands) -> Option<u64>
     ensures { result ≡ code_byte mnemonic.now o.now }
 {
-    let base = byte_base_in(mnemonic)?;
+    let base = base_of_byte(byte_name(mnemonic)?);
     Some(of_byte(u64::from(base), o.first, u64::from(o.second)))
 }
 
@@ -166,7 +161,7 @@ fn code_byte(mnemonic: &[u8], o: &Operands) -> Option<u64>
 fn code_stack_sum(mnemonic: &[u8], o: &Operands) -> Option<u64>
     ensures { result ≡ code_stack_sum mnemonic.now o.now }
 {
-    let base = stack_sum_base_in(mnemonic)?;
+    let base = base_of_stack_sum(stack_sum_name(mnemonic)?);
     Some(u64::from(base) + u64::from(o.second / 4))
 }
 
@@ -190,34 +185,46 @@ fn code_compare(mnemonic: &[u8], o: &Operands) -> Option<u64>
     if 8 <= o.first || 8 <= o.second {
         Some(of_high(0x4500, o.first, o.second))
     } else {
-        Some(of_three(0x4280, 0, o.second, o.first))
+        let base = base_of_logic(LogicName::Cmp);
+        Some(of_three(u64::from(base), 0, o.second, o.first))
     }
 }
 
-/// The base of a row of two lower registers.
-fn base_of_low(mnemonic: &[u8]) -> Option<u32>
-    ensures { result ≡ first (low_base_in mnemonic.now) (move_base_in mnemonic.now) }
+/// Rows S5.
+fn code_logic(mnemonic: &[u8], o: &Operands) -> Option<u64>
+    ensures { result ≡ code_logic mnemonic.now o.now }
 {
-    if let Some(base) = low_base_in(mnemonic) {
-        return Some(base);
-    }
-    move_base_in(mnemonic)
-}
-
-/// Rows of two lower registers.
-fn code_low(mnemonic: &[u8], o: &Operands) -> Option<u64>
-    ensures { result ≡ code_low mnemonic.now o.now }
-{
-    let base = base_of_low(mnemonic)?;
+    let base = base_of_logic(logic_name(mnemonic)?);
     Some(of_three(u64::from(base), 0, o.second, o.first))
 }
 
-/// Rows of two registers of any number.
+/// Rows S11.
+fn code_extend(mnemonic: &[u8], o: &Operands) -> Option<u64>
+    ensures { result ≡ code_extend mnemonic.now o.now }
+{
+    let base = base_of_extend(extend_name(mnemonic)?);
+    Some(of_three(u64::from(base), 0, o.second, o.first))
+}
+
+/// Rows S12.
+fn code_swap(mnemonic: &[u8], o: &Operands) -> Option<u64>
+    ensures { result ≡ code_swap mnemonic.now o.now }
+{
+    let base = base_of_swap(swap_name(mnemonic)?);
+    Some(of_three(u64::from(base), 0, o.second, o.first))
+}
+
+/// Rows S6 and S8.
 fn code_high(mnemonic: &[u8], o: &Operands) -> Option<u64>
     ensures { result ≡ code_high mnemonic.now o.now }
 {
-    let base = high_base_in(mnemonic)?;
-    Some(of_high(u64::from(base), o.first, o.second))
+    if is(mnemonic, "add") {
+        return Some(of_high(0x4400, o.first, o.second));
+    }
+    if is(mnemonic, "mov") {
+        return Some(of_high(0x4600, o.first, o.second));
+    }
+    None
 }
 
 /// Rows of two registers.
@@ -227,7 +234,13 @@ fn code_registers(mnemonic: &[u8], o: &Operands) -> Option<u64>
     if let Some(code) = code_compare(mnemonic, o) {
         return Some(code);
     }
-    if let Some(code) = code_low(mnemonic, o) {
+    if let Some(code) = code_logic(mnemonic, o) {
+        return Some(code);
+    }
+    if let Some(code) = code_extend(mnemonic, o) {
+        return Some(code);
+    }
+    if let Some(code) = code_swap(mnemonic, o) {
         return Some(code);
     }
     code_high(mnemonic, o)
@@ -237,7 +250,7 @@ fn code_registers(mnemonic: &[u8], o: &Operands) -> Option<u64>
 fn code_jump(mnemonic: &[u8], o: &Operands) -> Option<u64>
     ensures { result ≡ code_jump mnemonic.now o.now }
 {
-    let base = jump_base_in(mnemonic)?;
+    let base = base_of_jump(jump_name(mnemonic)?);
     Some(u64::from(base) + (u64::from(o.first) << 3))
 }
 
@@ -264,16 +277,19 @@ fn block_mask(c: u32, even: u32) -> u32
 fn code_block(mnemonic: &[u8], o: &Operands) -> Option<u64>
     ensures { result ≡ code_block mnemonic.now o.now }
 {
-    let even = block_in(mnemonic)?;
+    let even = even_mask(mnemonic)?;
     Some(0xbf00 + (u64::from(o.first) << 4) + u64::from(block_mask(o.first, even)))
 }
 
-/// A code that its mnemonic tells.
+/// Rows S13 and S19.
 fn code_fixed(mnemonic: &[u8]) -> Option<u64>
-    ensures { result ≡ fixed_code_in mnemonic.now }
+    ensures { result ≡ code_fixed mnemonic.now }
 {
-    let code = fixed_code_in(mnemonic)?;
-    Some(u64::from(code))
+    if let Some(name) = masking_name(mnemonic) {
+        return Some(u64::from(base_of_masking(name)));
+    }
+    let name = hint_name(mnemonic)?;
+    Some(u64::from(base_of_hint(name)))
 }
 
 /// Rows of at most one operand.
@@ -298,16 +314,20 @@ fn code_list(mnemonic: &[u8], o: &Operands) -> Option<u64>
 {
     let registers = u64::from(o.registers);
     if is(mnemonic, "push") {
-        return Some(0xb400 + (registers / 0x4000 % 2 << 8) + registers % 256);
+        let base = u64::from(base_of_list(ListName::Push));
+        return Some(base + (registers / 0x4000 % 2 << 8) + registers % 256);
     }
     if is(mnemonic, "pop") {
-        return Some(0xbc00 + (registers / 0x8000 % 2 << 8) + registers % 256);
+        let base = u64::from(base_of_list(ListName::Pop));
+        return Some(base + (registers / 0x8000 % 2 << 8) + registers % 256);
     }
     if is(mnemonic, "stm") {
-        return Some(of_byte(0xc000, o.first, registers));
+        let base = u64::from(base_of_list(ListName::Stm));
+        return Some(of_byte(base, o.first, registers));
     }
     if is(mnemonic, "ldm") {
-        return Some(of_byte(0xc800, o.first, registers));
+        let base = u64::from(base_of_list(ListName::Ldm));
+        return Some(of_byte(base, o.first, registers));
     }
     None
 }
@@ -335,7 +355,7 @@ fn zero_code(base: u32, n: u32, i: u64) -> u64
 fn code_zero(mnemonic: &[u8], o: &Operands, pc: u32, a: u32) -> Option<u64>
     ensures { result ≡ code_zero mnemonic.now o.now pc a }
 {
-    let base = zero_base_in(mnemonic)?;
+    let base = base_of_zero(zero_name(mnemonic)?);
     let i = distance(u64::from(pc) + 4, a) / 2 % 64;
     Some(zero_code(base, o.first, i))
 }

@@ -164,15 +164,24 @@ fn text_s15(i: &S15) -> InstrText
     by_register(access_mnemonic(i.name), i.t.get(), i.n.get(), i.m.get())
 }
 
+/// How many bytes a row S16 loads or stores: 1, 2 or 4.
+pub fn plain_size(name: PlainName) -> u32
+    ensures value { result ≡ plain_size name }
+    ensures some { 0 < result }
+    ensures most { result ≤ 4 }
+{
+    match name {
+        PlainName::Str | PlainName::Ldr => 4,
+        PlainName::Strb | PlainName::Ldrb => 1,
+        PlainName::Strh | PlainName::Ldrh => 2,
+    }
+}
+
 /// The offset of a row S16 in bytes.
 fn plain_offset(i: &S16) -> u32
     ensures { result ≡ plain_size i.now.name * i.now.i.value }
 {
-    match i.name {
-        PlainName::Str | PlainName::Ldr => 4 * i.i.get(),
-        PlainName::Strb | PlainName::Ldrb => i.i.get(),
-        PlainName::Strh | PlainName::Ldrh => 2 * i.i.get(),
-    }
+    plain_size(i.name) * i.i.get()
 }
 
 /// The text of a row S16: `str` to `ldrh rt,[rn,#i]`.

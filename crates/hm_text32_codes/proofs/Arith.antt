@@ -1,22 +1,15 @@
 -- Shifts, products, quotients and choices: their texts ask for their codes.
-use Rattle.std.proofs.Common.{◌≡◌, ℕ, zero, suc, ◌+◌, ◌*◌, ◌<◌, true, false, ◌++◌, Some, refl, ap, arith}
+use Rattle.std.proofs.Common.{◌≡◌, ℕ, ◌+◌, ◌*◌, ◌<◌, false, ◌++◌, Some, refl, arith}
 use Rattle.std.specs.Prelude.{codes}
 use Rattle.hm_isa.specs.declared.Instr.TheVariants as instr
 use Rattle.hm_isa.specs.declared.Scalar.TheVariants as scalar
 use Rattle.hm_isa.specs.declared.narrow.ExtendName.{ExtendName}
-use Rattle.hm_isa.specs.declared.narrow.ExtendName.TheVariants as extend
 use Rattle.hm_isa.specs.declared.arith.AccumulateName.{AccumulateName}
-use Rattle.hm_isa.specs.declared.arith.AccumulateName.TheVariants as accumulate
 use Rattle.hm_isa.specs.declared.arith.BitsName.{BitsName}
-use Rattle.hm_isa.specs.declared.arith.BitsName.TheVariants as bits
 use Rattle.hm_isa.specs.declared.arith.LongProductName.{LongProductName}
-use Rattle.hm_isa.specs.declared.arith.LongProductName.TheVariants as long
 use Rattle.hm_isa.specs.declared.arith.OperationName.{OperationName}
-use Rattle.hm_isa.specs.declared.arith.OperationName.TheVariants as operation
 use Rattle.hm_isa.specs.declared.arith.SelectName.{SelectName}
-use Rattle.hm_isa.specs.declared.arith.SelectName.TheVariants as select
 use Rattle.hm_isa.specs.declared.arith.WideShiftName.{WideShiftName}
-use Rattle.hm_isa.specs.declared.arith.WideShiftName.TheVariants as wide_shift
 use Rattle.hm_isa.specs.declared.arith.T8.{T8}
 use Rattle.hm_isa.specs.declared.arith.T9.{T9}
 use Rattle.hm_isa.specs.declared.arith.T10.{T10}
@@ -30,62 +23,33 @@ use Rattle.hm_tokens.specs.Tokens.{word}
 use Rattle.hm_tokens.specs.Names.{condition_name}
 use Rattle.hm_text32_codes.specs.Codes.{code_of}
 use Rattle.hm_text32_codes.specs.Operands.{word_value}
-use Rattle.hm_text_rows.specs.Operands.{is_vector_name}
+use Rattle.hm_text_rows.specs.Operands.{is_vector_name, size_of}
 use Rattle.hm_text32_rows.specs.Rows.{product_tokens}
 use Rattle.hm_text_rows.specs.Mnemonics.{extend_mnemonic}
 use Rattle.hm_text32_rows.specs.Mnemonics.{accumulate_mnemonic, bits_mnemonic, bits_suffix, long_mnemonic, operation_mnemonic, select_mnemonic}
 use Rattle.hm_text32_rows.specs.Mnemonics.{wide, wide_shift_mnemonic}
 use Rattle.hm_text_rows.specs.Shapes.{and_shift, four, or_zero, r, three, two}
-use Rattle.hm_text_rows.proofs.Words.{is_mnemonic}
 use Rattle.hm_text32_codes.proofs.Forms.{Answers, Operand, Suffix, a_condition, a_register, a_register_or_zero, answers_of, bare, given, no_suffix, reads_four}
 use Rattle.hm_text32_codes.proofs.Forms.{reads_three, reads_two, reads_two_shift, suffix_wide}
 
 -- T8
-mnemonic_wide_shift : (name : WideShiftName) (s : ℕ) → s < 2 → is_mnemonic (wide_shift_mnemonic name s) ≡ true
-mnemonic_wide_shift wide_shift.Lsl zero lt = refl
-mnemonic_wide_shift wide_shift.Lsl (suc zero) lt = refl
-mnemonic_wide_shift wide_shift.Lsr zero lt = refl
-mnemonic_wide_shift wide_shift.Lsr (suc zero) lt = refl
-mnemonic_wide_shift wide_shift.Asr zero lt = refl
-mnemonic_wide_shift wide_shift.Asr (suc zero) lt = refl
-mnemonic_wide_shift wide_shift.Ror zero lt = refl
-mnemonic_wide_shift wide_shift.Ror (suc zero) lt = refl
-mnemonic_wide_shift name (suc (suc s)) lt = absurd (omega arith)
-
 asks_wide_shift : (name : WideShiftName) (s n d m : ℕ) → s < 2
     → code_of (wide_shift_mnemonic name s) (given false 0 false d n m 0 0) ≡ Some (wide_shift_base name + s ↑ 20 + n ↑ 16 + d ↑ 8 + m)
 unfolding code_of
-asks_wide_shift wide_shift.Lsl zero n d m lt = ap (λ (w : ℕ). Some w) (omega arith)
-asks_wide_shift wide_shift.Lsl (suc zero) n d m lt = ap (λ (w : ℕ). Some w) (omega arith)
-asks_wide_shift wide_shift.Lsr zero n d m lt = ap (λ (w : ℕ). Some w) (omega arith)
-asks_wide_shift wide_shift.Lsr (suc zero) n d m lt = ap (λ (w : ℕ). Some w) (omega arith)
-asks_wide_shift wide_shift.Asr zero n d m lt = ap (λ (w : ℕ). Some w) (omega arith)
-asks_wide_shift wide_shift.Asr (suc zero) n d m lt = ap (λ (w : ℕ). Some w) (omega arith)
-asks_wide_shift wide_shift.Ror zero n d m lt = ap (λ (w : ℕ). Some w) (omega arith)
-asks_wide_shift wide_shift.Ror (suc zero) n d m lt = ap (λ (w : ℕ). Some w) (omega arith)
-asks_wide_shift name (suc (suc s)) n d m lt = absurd (omega arith)
+asks_wide_shift name s n d m lt = grind arith
 
 pub row_t8 : (i : T8) → Answers (instr.Scalar (scalar.T8 i)) (three (wide_shift_mnemonic i.name i.s.value ++ wide) (r i.d.value) (r i.n.value) (r i.m.value))
 row_t8 i =
     answers_of _ _ (code_t8 i) _ _
-    (reads_three _ _ _ _ _ _ _ _ _ _ _ _ (mnemonic_wide_shift i.name i.s.value i.s.in_range) suffix_wide (a_register i.d.value i.d.in_range)
+    (reads_three _ _ _ _ _ _ _ _ _ _ _ _ (let lt = i.s.in_range in grind arith) suffix_wide (a_register i.d.value i.d.in_range)
     (a_register i.n.value i.n.in_range) (a_register i.m.value i.m.in_range))
     (asks_wide_shift i.name i.s.value _ _ _ i.s.in_range) refl
 
 -- T9
-mnemonic_extend : (name : ExtendName) → is_mnemonic (extend_mnemonic name) ≡ true
-mnemonic_extend extend.Sxth = refl
-mnemonic_extend extend.Sxtb = refl
-mnemonic_extend extend.Uxth = refl
-mnemonic_extend extend.Uxtb = refl
-
 asks_extend : (name : ExtendName) (k d m v : ℕ)
     → code_of (extend_mnemonic name) (given false 0 false d m v (8 * k) 0) ≡ Some (wide_extend_base name + d ↑ 8 + k ↑ 4 + m)
 unfolding code_of
-asks_extend extend.Sxth k d m v = ap (λ (w : ℕ). Some w) (omega arith)
-asks_extend extend.Sxtb k d m v = ap (λ (w : ℕ). Some w) (omega arith)
-asks_extend extend.Uxth k d m v = ap (λ (w : ℕ). Some w) (omega arith)
-asks_extend extend.Uxtb k d m v = ap (λ (w : ℕ). Some w) (omega arith)
+asks_extend name k d m v = grind arith
 
 ror : Operand (codes "ror") 3 false
 unfolding word_value is_vector_name
@@ -95,116 +59,72 @@ pub row_t9 : (i : T9) → Answers (instr.Scalar (scalar.T9 i))
     (and_shift (two (extend_mnemonic i.name ++ wide) (r i.d.value) (r i.m.value)) (codes "ror") (8 * i.r.value))
 row_t9 i =
     answers_of _ _ (code_t9 i) _ _
-    (reads_two_shift _ _ _ _ _ _ _ _ _ _ _ _ _ (mnemonic_extend i.name) suffix_wide (a_register i.d.value i.d.in_range) (a_register i.m.value i.m.in_range) ror
+    (reads_two_shift _ _ _ _ _ _ _ _ _ _ _ _ _ (grind arith) suffix_wide (a_register i.d.value i.d.in_range) (a_register i.m.value i.m.in_range) ror
     (let lt = i.r.in_range in omega arith))
     (asks_extend i.name i.r.value _ _ _) refl
 
 -- T10
-mnemonic_bits : (name : BitsName) → is_mnemonic (bits_mnemonic name) ≡ true
-mnemonic_bits bits.Rev = refl
-mnemonic_bits bits.Rev16 = refl
-mnemonic_bits bits.Rbit = refl
-mnemonic_bits bits.Revsh = refl
-mnemonic_bits bits.Clz = refl
-
 suffix_bits : (name : BitsName) → Suffix (bits_suffix name) 0
-suffix_bits bits.Rev = suffix_wide
-suffix_bits bits.Rev16 = suffix_wide
-suffix_bits bits.Rbit = no_suffix
-suffix_bits bits.Revsh = suffix_wide
-suffix_bits bits.Clz = no_suffix
+unfolding size_of
+suffix_bits name = grind arith
 
 asks_bits : (name : BitsName) (d m : ℕ) → code_of (bits_mnemonic name) (given false 0 false d m 0 0 0) ≡ Some (bits_base name + m ↑ 16 + d ↑ 8 + m)
 unfolding code_of
-asks_bits bits.Rev d m = ap (λ (w : ℕ). Some w) (omega arith)
-asks_bits bits.Rev16 d m = ap (λ (w : ℕ). Some w) (omega arith)
-asks_bits bits.Rbit d m = ap (λ (w : ℕ). Some w) (omega arith)
-asks_bits bits.Revsh d m = ap (λ (w : ℕ). Some w) (omega arith)
-asks_bits bits.Clz d m = ap (λ (w : ℕ). Some w) (omega arith)
+asks_bits name d m = grind arith
 
 pub row_t10 : (i : T10) → Answers (instr.Scalar (scalar.T10 i)) (two (bits_mnemonic i.name ++ bits_suffix i.name) (r i.d.value) (r i.m.value))
 row_t10 i =
     answers_of _ _ (code_t10 i) _ _
-    (reads_two _ _ _ _ _ _ _ _ _ (mnemonic_bits i.name) (suffix_bits i.name) (a_register i.d.value i.d.in_range) (a_register i.m.value i.m.in_range))
+    (reads_two _ _ _ _ _ _ _ _ _ (grind arith) (suffix_bits i.name) (a_register i.d.value i.d.in_range) (a_register i.m.value i.m.in_range))
     (asks_bits i.name _ _) refl
 
 -- T11
-mnemonic_operation : (name : OperationName) → is_mnemonic (operation_mnemonic name) ≡ true
-mnemonic_operation operation.Mul = refl
-mnemonic_operation operation.Sdiv = refl
-mnemonic_operation operation.Udiv = refl
-
 asks_operation : (name : OperationName) (n d m : ℕ)
     → code_of (operation_mnemonic name) (given false 0 false d n m 0 0) ≡ Some (operation_base name + n ↑ 16 + d ↑ 8 + m)
 unfolding code_of
-asks_operation operation.Mul n d m = ap (λ (w : ℕ). Some w) (omega arith)
-asks_operation operation.Sdiv n d m = ap (λ (w : ℕ). Some w) (omega arith)
-asks_operation operation.Udiv n d m = ap (λ (w : ℕ). Some w) (omega arith)
-
-mnemonic_accumulate : (name : AccumulateName) → is_mnemonic (accumulate_mnemonic name) ≡ true
-mnemonic_accumulate accumulate.Mla = refl
-mnemonic_accumulate accumulate.Mls = refl
+asks_operation name n d m = grind arith
 
 asks_accumulate : (name : AccumulateName) (n a d m : ℕ)
     → code_of (accumulate_mnemonic name) (given false 0 false d n m a 0) ≡ Some (accumulate_base name + n ↑ 16 + a ↑ 12 + d ↑ 8 + m)
 unfolding code_of
-asks_accumulate accumulate.Mla n a d m = refl
-asks_accumulate accumulate.Mls n a d m = refl
-
-mnemonic_long : (name : LongProductName) → is_mnemonic (long_mnemonic name) ≡ true
-mnemonic_long long.Smull = refl
-mnemonic_long long.Umull = refl
-mnemonic_long long.Smlal = refl
-mnemonic_long long.Umlal = refl
+asks_accumulate name n a d m = grind arith
 
 asks_long : (name : LongProductName) (n l h m : ℕ)
     → code_of (long_mnemonic name) (given false 0 false l h n m 0) ≡ Some (long_product_base name + n ↑ 16 + l ↑ 12 + h ↑ 8 + m)
 unfolding code_of
-asks_long long.Smull n l h m = refl
-asks_long long.Umull n l h m = refl
-asks_long long.Smlal n l h m = refl
-asks_long long.Umlal n l h m = refl
+asks_long name n l h m = grind arith
 
 pub row_t11 : (i : T11) → Answers (instr.Scalar (scalar.T11 i)) (product_tokens i)
 row_t11 (t11.Operation i) =
     answers_of _ _ (code_t11 (t11.Operation i)) _ _
     (bare (λ name. three name (r i.d.value) (r i.n.value) (r i.m.value)) (operation_mnemonic i.name) _
-    (reads_three _ _ _ _ _ _ _ _ _ _ _ _ (mnemonic_operation i.name) no_suffix (a_register i.d.value i.d.in_range) (a_register i.n.value i.n.in_range)
+    (reads_three _ _ _ _ _ _ _ _ _ _ _ _ (grind arith) no_suffix (a_register i.d.value i.d.in_range) (a_register i.n.value i.n.in_range)
     (a_register i.m.value i.m.in_range)))
     (asks_operation i.name _ _ _) refl
 row_t11 (t11.Accumulate i) =
     answers_of _ _ (code_t11 (t11.Accumulate i)) _ _
     (bare (λ name. four name (r i.d.value) (r i.n.value) (r i.m.value) (r i.a.value)) (accumulate_mnemonic i.name) _
-    (reads_four _ _ _ _ _ _ _ _ _ _ _ _ _ _ _ (mnemonic_accumulate i.name) no_suffix (a_register i.d.value i.d.in_range) (a_register i.n.value i.n.in_range)
+    (reads_four _ _ _ _ _ _ _ _ _ _ _ _ _ _ _ (grind arith) no_suffix (a_register i.d.value i.d.in_range) (a_register i.n.value i.n.in_range)
     (a_register i.m.value i.m.in_range) (a_register i.a.value i.a.in_range)))
     (asks_accumulate i.name _ _ _ _) refl
 row_t11 (t11.Long i) =
     answers_of _ _ (code_t11 (t11.Long i)) _ _
     (bare (λ name. four name (r i.l.value) (r i.h.value) (r i.n.value) (r i.m.value)) (long_mnemonic i.name) _
-    (reads_four _ _ _ _ _ _ _ _ _ _ _ _ _ _ _ (mnemonic_long i.name) no_suffix (a_register i.l.value i.l.in_range) (a_register i.h.value i.h.in_range)
+    (reads_four _ _ _ _ _ _ _ _ _ _ _ _ _ _ _ (grind arith) no_suffix (a_register i.l.value i.l.in_range) (a_register i.h.value i.h.in_range)
     (a_register i.n.value i.n.in_range) (a_register i.m.value i.m.in_range)))
     (asks_long i.name _ _ _ _) refl
 
 -- T20
-mnemonic_select : (name : SelectName) → is_mnemonic (select_mnemonic name) ≡ true
-mnemonic_select select.Csel = refl
-mnemonic_select select.Csinc = refl
-mnemonic_select select.Csinv = refl
-mnemonic_select select.Csneg = refl
-
 asks_select : (name : SelectName) (n d c m : ℕ)
     → code_of (select_mnemonic name) (given false 0 false d n m c 0) ≡ Some (select_base name + n ↑ 16 + d ↑ 8 + c ↑ 4 + m)
 unfolding code_of
-asks_select select.Csel n d c m = ap (λ (w : ℕ). Some w) (omega arith)
-asks_select select.Csinc n d c m = ap (λ (w : ℕ). Some w) (omega arith)
-asks_select select.Csinv n d c m = ap (λ (w : ℕ). Some w) (omega arith)
-asks_select select.Csneg n d c m = ap (λ (w : ℕ). Some w) (omega arith)
+asks_select name n d c m = grind arith
 
 pub row_t20 : (i : T20) → Answers (instr.Scalar (scalar.T20 i))
     (four (select_mnemonic i.name) (r i.d.value) (or_zero i.n.value) (or_zero i.m.value) (word (condition_name i.c.value)))
 row_t20 i =
     answers_of _ _ (code_t20 i) _ _
     (bare (λ name. four name (r i.d.value) (or_zero i.n.value) (or_zero i.m.value) (word (condition_name i.c.value))) (select_mnemonic i.name) _
-    (reads_four _ _ _ _ _ _ _ _ _ _ _ _ _ _ _ (mnemonic_select i.name) no_suffix (a_register i.d.value i.d.in_range) (a_register_or_zero i.n.value i.n.in_range)
+    (reads_four _ _ _ _ _ _ _ _ _ _ _ _ _ _ _ (grind arith) no_suffix (a_register i.d.value i.d.in_range) (a_register_or_zero i.n.value i.n.in_range)
     (a_register_or_zero i.m.value i.m.in_range) (a_condition i.c.value i.c.in_range)))
     (asks_select i.name _ _ _ _) refl

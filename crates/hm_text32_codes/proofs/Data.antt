@@ -1,5 +1,5 @@
 -- Rows of a register and numbers: their texts ask for their codes.
-use Rattle.std.proofs.Common.{◌≡◌, ℕ, zero, suc, ◌+◌, ◌-◌, ◌*◌, ◌/◌, ◌%◌, ◌<◌, ◌≤◌, ◌^◌, true, false, cond, eqb, List, Some, refl, ap, inl, inr, arith}
+use Rattle.std.proofs.Common.{◌≡◌, ℕ, ◌+◌, ◌-◌, ◌*◌, ◌/◌, ◌%◌, ◌<◌, ◌≤◌, ◌^◌, true, false, cond, eqb, List, Some, refl, ap, inl, inr, arith}
 use Rattle.std.specs.Prelude.{codes, nat_eq, nat_le, not, ◌&&◌}
 use Rattle.std.proofs.lemmas.Bool.{and_parts, cases_Bool, eqb-true}
 use Rattle.std.proofs.lemmas.Bool.Decides.{nat_tests}
@@ -7,13 +7,9 @@ use Rattle.hm_isa.specs.declared.Instr.{Instr}
 use Rattle.hm_isa.specs.declared.Instr.TheVariants as instr
 use Rattle.hm_isa.specs.declared.Scalar.TheVariants as scalar
 use Rattle.hm_isa.specs.declared.narrow.SumName.{SumName}
-use Rattle.hm_isa.specs.declared.narrow.SumName.TheVariants as sum_
 use Rattle.hm_isa.specs.declared.data.ExtractName.{ExtractName}
-use Rattle.hm_isa.specs.declared.data.ExtractName.TheVariants as extract
 use Rattle.hm_isa.specs.declared.data.HalfName.{HalfName}
-use Rattle.hm_isa.specs.declared.data.HalfName.TheVariants as half
 use Rattle.hm_isa.specs.declared.data.SaturateName.{SaturateName}
-use Rattle.hm_isa.specs.declared.data.SaturateName.TheVariants as saturate
 use Rattle.hm_isa.specs.declared.data.T3.{T3}
 use Rattle.hm_isa.specs.declared.data.T4.{T4}
 use Rattle.hm_isa.specs.declared.data.T5.{T5}
@@ -30,21 +26,15 @@ use Rattle.hm_text_rows.specs.Operands.{is_vector_name}
 use Rattle.hm_text32_rows.specs.Rows.{and_turn, insert_tokens, saturate_tokens, saturated_bits}
 use Rattle.hm_text32_rows.specs.Mnemonics.{extract_mnemonic, half_mnemonic, saturate_mnemonic, wide_sum_mnemonic}
 use Rattle.hm_text_rows.specs.Shapes.{and_constant, and_operand, one, r, two}
-use Rattle.hm_text_rows.proofs.Words.{is_mnemonic}
 use Rattle.hm_text32_codes.proofs.Forms.{Answers, Operand, a_register, answers_of, bare, no_suffix, numbered, reads_one_constant, reads_one_constants}
 use Rattle.hm_text32_codes.proofs.Forms.{reads_saturate}
 use Rattle.hm_text32_codes.proofs.Forms.{reads_two_constant, reads_two_constants, both_numbered, second_numbered}
 
 -- T3
-mnemonic_wide_sum : (name : SumName) → is_mnemonic (wide_sum_mnemonic name) ≡ true
-mnemonic_wide_sum sum_.Add = refl
-mnemonic_wide_sum sum_.Sub = refl
-
 asks_wide_sum : (name : SumName) (i j l n d x : ℕ) → x / 2048 ≡ i → x / 256 % 8 ≡ j → x % 256 ≡ l
     → code_of (wide_sum_mnemonic name) (numbered false 0 false d n x 0 0) ≡ Some (wide_sum_base name + i ↑ 26 + n ↑ 16 + j ↑ 12 + d ↑ 8 + l)
 unfolding code_of
-asks_wide_sum sum_.Add i j l n d x e f g = rw (e, f, g) (ap (λ (w : ℕ). Some w) (omega arith))
-asks_wide_sum sum_.Sub i j l n d x e f g = rw (e, f, g) (ap (λ (w : ℕ). Some w) (omega arith))
+asks_wide_sum name i j l n d x e f g = grind arith
 
 abbrev twelve : ℕ → ℕ → ℕ → ℕ
 twelve i j l = 2048 * i + 256 * j + l
@@ -67,7 +57,7 @@ row_t3 i =
     let x = twelve i.i.value i.i3.value i.i8.value in
     answers_of _ _ (code_t3 i) _ _
     (bare (λ name. and_constant (two name (r i.d.value) (r i.n.value)) x) (wide_sum_mnemonic i.name) _
-    (reads_two_constant _ _ _ _ _ _ _ _ _ _ (mnemonic_wide_sum i.name) no_suffix (a_register i.d.value i.d.in_range) (a_register i.n.value i.n.in_range)
+    (reads_two_constant _ _ _ _ _ _ _ _ _ _ (grind arith) no_suffix (a_register i.d.value i.d.in_range) (a_register i.n.value i.n.in_range)
     (twelve_small i.i.value i.i3.value i.i8.value i.i.in_range i.i3.in_range i.i8.in_range)))
     (asks_wide_sum i.name i.i.value i.i3.value i.i8.value i.n.value i.d.value x
     (twelve_high i.i.value i.i3.value i.i8.value i.i.in_range i.i3.in_range i.i8.in_range)
@@ -76,15 +66,10 @@ row_t3 i =
     refl
 
 -- T4
-mnemonic_half : (name : HalfName) → is_mnemonic (half_mnemonic name) ≡ true
-mnemonic_half half.Movw = refl
-mnemonic_half half.Movt = refl
-
 asks_half : (name : HalfName) (h i j l d x : ℕ) → x / 4096 ≡ h → x / 2048 % 2 ≡ i → x / 256 % 8 ≡ j → x % 256 ≡ l
     → code_of (half_mnemonic name) (second_numbered false 0 false d x 0 0 0) ≡ Some (half_base name + h ↑ 16 + i ↑ 26 + j ↑ 12 + d ↑ 8 + l)
 unfolding code_of
-asks_half half.Movw h i j l d x e f g k = rw (e, f, g, k) (ap (λ (w : ℕ). Some w) (omega arith))
-asks_half half.Movt h i j l d x e f g k = rw (e, f, g, k) (ap (λ (w : ℕ). Some w) (omega arith))
+asks_half name h i j l d x e f g k = grind arith
 
 abbrev sixteen : ℕ → ℕ → ℕ → ℕ → ℕ
 sixteen h i j l = 4096 * h + 2048 * i + 256 * j + l
@@ -110,7 +95,7 @@ row_t4 i =
     let x = sixteen i.i4.value i.i.value i.i3.value i.i8.value in
     answers_of _ _ (code_t4 i) _ _
     (bare (λ name. and_constant (one name (r i.d.value)) x) (half_mnemonic i.name) _
-    (reads_one_constant _ _ _ _ _ _ _ (mnemonic_half i.name) no_suffix (a_register i.d.value i.d.in_range)
+    (reads_one_constant _ _ _ _ _ _ _ (grind arith) no_suffix (a_register i.d.value i.d.in_range)
     (sixteen_small i.i4.value i.i.value i.i3.value i.i8.value i.i4.in_range i.i.in_range i.i3.in_range i.i8.in_range)))
     (asks_half i.name i.i4.value i.i.value i.i3.value i.i8.value i.d.value x
     (sixteen_top i.i4.value i.i.value i.i3.value i.i8.value i.i4.in_range i.i.in_range i.i3.in_range i.i8.in_range)
@@ -133,19 +118,12 @@ five_small : (j l : ℕ) → j < 8 → l < 4 → five j l < 2 ^ 32
 five_small j l hj hl = omega arith
 
 -- T5
-mnemonic_saturate : (name : SaturateName) → is_mnemonic (saturate_mnemonic name) ≡ true
-mnemonic_saturate saturate.Ssat = refl
-mnemonic_saturate saturate.Usat = refl
-
 bits_small : (name : SaturateName) (s : ℕ) → s < 32 → saturated_bits name s < 2 ^ 32
-bits_small saturate.Ssat s lt = omega arith
-bits_small saturate.Usat s lt = omega arith
+bits_small name s lt = grind arith
 
 a_shift : (h : ℕ) → h < 2 → Operand (cond (nat_eq h 0) (codes "lsl") (codes "asr")) (2 * h) false
 unfolding word_value is_vector_name
-a_shift zero lt = record { value = refl; vector = refl; is = refl }
-a_shift (suc zero) lt = record { value = refl; vector = refl; is = refl }
-a_shift (suc (suc h)) lt = absurd (omega arith)
+a_shift h lt = grind arith
 
 -- the kind of the shift tells its letter
 kind_told : (h : ℕ) → 2 * h / 2 ≡ h
@@ -155,8 +133,7 @@ asks_saturate : (name : SaturateName) (h j l s n d v x : ℕ) → v / 2 ≡ h �
     → code_of (saturate_mnemonic name) (second_numbered false 0 false d (saturated_bits name s) n v x)
     ≡ Some (saturate_base name + h ↑ 21 + n ↑ 16 + j ↑ 12 + d ↑ 8 + l ↑ 6 + s)
 unfolding code_of
-asks_saturate saturate.Ssat h j l s n d v x e f g = rw (e, f, g) (ap (λ (w : ℕ). Some w) (omega arith))
-asks_saturate saturate.Usat h j l s n d v x e f g = rw (e, f, g) (ap (λ (w : ℕ). Some w) (omega arith))
+asks_saturate name h j l s n d v x e f g = grind arith
 
 pub row_t5 : (i : T5) → Answers (instr.Scalar (scalar.T5 i)) (saturate_tokens i)
 row_t5 i =
@@ -166,22 +143,17 @@ row_t5 i =
     answers_of _ _ (code_t5 i) _ _
     (bare (λ name. and_turn (and_operand (and_constant (one name (r i.d.value)) (saturated_bits i.name i.s.value)) (r i.n.value))
     (cond (nat_eq h 0) (codes "lsl") (codes "asr")) (five j l)) (saturate_mnemonic i.name) _
-    (reads_saturate _ _ _ _ _ _ _ _ _ _ _ _ _ _ (mnemonic_saturate i.name) no_suffix (a_register i.d.value i.d.in_range)
+    (reads_saturate _ _ _ _ _ _ _ _ _ _ _ _ _ _ (grind arith) no_suffix (a_register i.d.value i.d.in_range)
     (bits_small i.name i.s.value i.s.in_range)
     (a_register i.n.value i.n.in_range) (a_shift h i.sh.in_range) (five_small j l i.i3.in_range i.i2.in_range)))
     (asks_saturate i.name h j l i.s.value _ _ _ (five j l) (kind_told h) (five_high j l i.i2.in_range) (five_low j l i.i2.in_range))
     refl
 
 -- T6
-mnemonic_extract : (name : ExtractName) → is_mnemonic (extract_mnemonic name) ≡ true
-mnemonic_extract extract.Sbfx = refl
-mnemonic_extract extract.Ubfx = refl
-
 asks_extract : (name : ExtractName) (j l w n d x : ℕ) → x / 4 ≡ j → x % 4 ≡ l
     → code_of (extract_mnemonic name) (numbered false 0 false d n x (w + 1) 0) ≡ Some (extract_base name + n ↑ 16 + j ↑ 12 + d ↑ 8 + l ↑ 6 + w)
 unfolding code_of
-asks_extract extract.Sbfx j l w n d x e f = rw (e, f) (ap (λ (c : ℕ). Some c) (omega arith))
-asks_extract extract.Ubfx j l w n d x e f = rw (e, f) (ap (λ (c : ℕ). Some c) (omega arith))
+asks_extract name j l w n d x e f = grind arith
 
 pub row_t6 : (i : T6) → Answers (instr.Scalar (scalar.T6 i))
     (and_constant (and_constant (two (extract_mnemonic i.name) (r i.d.value) (r i.n.value)) (4 * i.i3.value + i.i2.value)) (i.w.value + 1))
@@ -190,7 +162,7 @@ row_t6 i =
     let l = i.i2.value in
     answers_of _ _ (code_t6 i) _ _
     (bare (λ name. and_constant (and_constant (two name (r i.d.value) (r i.n.value)) (five j l)) (i.w.value + 1)) (extract_mnemonic i.name) _
-    (reads_two_constants _ _ _ _ _ _ _ _ _ _ _ (mnemonic_extract i.name) no_suffix (a_register i.d.value i.d.in_range) (a_register i.n.value i.n.in_range)
+    (reads_two_constants _ _ _ _ _ _ _ _ _ _ _ (grind arith) no_suffix (a_register i.d.value i.d.in_range) (a_register i.n.value i.n.in_range)
     (five_small j l i.i3.in_range i.i2.in_range) (let lt = i.w.in_range in omega arith)))
     (asks_extract i.name j l i.w.value _ _ (five j l) (five_high j l i.i2.in_range) (five_low j l i.i2.in_range))
     refl

@@ -13,7 +13,7 @@ use Rattle.hm_text_rows.specs.Operands.{is_vector_name, size_of}
 use Rattle.hm_text32_codes.specs.Codes.{code_of, plain_code_in}
 use Rattle.hm_text32_rows.specs.Mnemonics.{element_suffix, wide}
 use Rattle.hm_text_rows.specs.Shapes.{and_constant, and_operand, and_shift, constant, four, one, three, two}
-use Rattle.hm_text_rows.proofs.Words.{below_holds, below_is, cut, is_name, is_mnemonic, is_suffix, word_q, word_r}
+use Rattle.hm_text_rows.proofs.Words.{◌▹◌, below_holds, below_is, cut, is_name, is_mnemonic, is_suffix, word_q, word_r}
 use Rattle.hm_text_rows.proofs.Printed.{IsPrinted, is_printed, short_comma, short_hash, short_number, short_word}
 
 -- tokens with this mnemonic and these operands
@@ -139,21 +139,21 @@ pub reads_constant : (s f : List ℕ) (z x : ℕ) → is_mnemonic s ≡ true →
     → Reads (word (s ++ f) ∷ constant x) s (given false z false x 0 0 0 0)
 reads_constant s f z x mnemonic g hx = record {
   asks = rw (cut s f mnemonic g.is, g.size, min_small x hx) refl;
-  prints = is_printed s f _ mnemonic g.is (short_hash, (short_number x hx, tt)) refl (omega arith) refl;
+  prints = is_printed s f _ mnemonic g.is (short_hash ▹ short_number x hx ▹ tt) refl (omega arith) refl;
 }
 
 pub reads_two : (s f w x : List ℕ) (b c : Bool) (z m n : ℕ) → is_mnemonic s ≡ true → Suffix f z → Operand w m b → Operand x n c
     → Reads (two (s ++ f) (word w) (word x)) s (given false z b m n 0 0 0)
 reads_two s f w x b c z m n mnemonic g p o = record {
   asks = rw (cut s f mnemonic g.is, g.size, p.vector, p.value, o.value) refl;
-  prints = is_printed s f _ mnemonic g.is (short_word w p.is, (short_comma, (short_word x o.is, tt))) refl (omega arith) refl;
+  prints = is_printed s f _ mnemonic g.is (short_word w p.is ▹ short_comma ▹ short_word x o.is ▹ tt) refl (omega arith) refl;
 }
 
 pub reads_three : (s f w x y : List ℕ) (b c e : Bool) (z m n l : ℕ) → is_mnemonic s ≡ true → Suffix f z → Operand w m b → Operand x n c → Operand y l e
     → Reads (three (s ++ f) (word w) (word x) (word y)) s (given false z b m n l 0 0)
 reads_three s f w x y b c e z m n l mnemonic g p o t = record {
   asks = rw (cut s f mnemonic g.is, g.size, p.vector, p.value, o.value, t.value) refl;
-  prints = is_printed s f _ mnemonic g.is (short_word w p.is, (short_comma, (short_word x o.is, (short_comma, (short_word y t.is, tt))))) refl (omega arith)
+  prints = is_printed s f _ mnemonic g.is (short_word w p.is ▹ short_comma ▹ short_word x o.is ▹ short_comma ▹ short_word y t.is ▹ tt) refl (omega arith)
       refl;
 }
 
@@ -164,7 +164,7 @@ reads_four s f w x y v b c e h z m n l k mnemonic g p o t i = record {
   asks = rw (cut s f mnemonic g.is, g.size, p.vector, p.value, o.value, t.value, i.value) refl;
   prints =
       is_printed s f _ mnemonic g.is
-      (short_word w p.is, (short_comma, (short_word x o.is, (short_comma, (short_word y t.is, (short_comma, (short_word v i.is, tt))))))) refl (omega arith)
+      (short_word w p.is ▹ short_comma ▹ short_word x o.is ▹ short_comma ▹ short_word y t.is ▹ short_comma ▹ short_word v i.is ▹ tt) refl (omega arith)
       refl;
 }
 
@@ -172,7 +172,7 @@ pub reads_one_constant : (s f w : List ℕ) (b : Bool) (z m x : ℕ) → is_mnem
     → Reads (and_constant (one (s ++ f) (word w)) x) s (second_numbered false z b m x 0 0 0)
 reads_one_constant s f w b z m x mnemonic g p hx = record {
   asks = rw (cut s f mnemonic g.is, g.size, p.vector, p.value, min_small x hx) refl;
-  prints = is_printed s f _ mnemonic g.is (short_word w p.is, (short_comma, (short_hash, (short_number x hx, tt)))) refl (omega arith) refl;
+  prints = is_printed s f _ mnemonic g.is (short_word w p.is ▹ short_comma ▹ short_hash ▹ short_number x hx ▹ tt) refl (omega arith) refl;
 }
 
 pub reads_two_constant : (s f w x : List ℕ) (b c : Bool) (z m n k : ℕ) → is_mnemonic s ≡ true → Suffix f z → Operand w m b → Operand x n c → k < 2 ^ 32
@@ -180,7 +180,7 @@ pub reads_two_constant : (s f w x : List ℕ) (b c : Bool) (z m n k : ℕ) → i
 reads_two_constant s f w x b c z m n k mnemonic g p o hk = record {
   asks = rw (cut s f mnemonic g.is, g.size, p.vector, p.value, o.value, min_small k hk) refl;
   prints =
-      is_printed s f _ mnemonic g.is (short_word w p.is, (short_comma, (short_word x o.is, (short_comma, (short_hash, (short_number k hk, tt)))))) refl
+      is_printed s f _ mnemonic g.is (short_word w p.is ▹ short_comma ▹ short_word x o.is ▹ short_comma ▹ short_hash ▹ short_number k hk ▹ tt) refl
       (omega arith) refl;
 }
 
@@ -190,7 +190,7 @@ reads_one_constants s f w b z m x y mnemonic g p hx hy = record {
   asks = rw (cut s f mnemonic g.is, g.size, p.vector, p.value, min_small x hx, min_small y hy) refl;
   prints =
       is_printed s f _ mnemonic g.is
-      (short_word w p.is, (short_comma, (short_hash, (short_number x hx, (short_comma, (short_hash, (short_number y hy, tt))))))) refl (omega arith) refl;
+      (short_word w p.is ▹ short_comma ▹ short_hash ▹ short_number x hx ▹ short_comma ▹ short_hash ▹ short_number y hy ▹ tt) refl (omega arith) refl;
 }
 
 pub reads_two_constants : (s f w x : List ℕ) (b c : Bool) (z m n k l : ℕ) → is_mnemonic s ≡ true → Suffix f z → Operand w m b → Operand x n c → k < 2 ^ 32
@@ -199,13 +199,9 @@ pub reads_two_constants : (s f w x : List ℕ) (b c : Bool) (z m n k l : ℕ) �
 reads_two_constants s f w x b c z m n k l mnemonic g p o hk hl = record {
   asks = rw (cut s f mnemonic g.is, g.size, p.vector, p.value, o.value, min_small k hk, min_small l hl) refl;
   prints =
-      is_printed s f _ mnemonic g.is (
-        short_word w p.is,
-        (
-          short_comma,
-          (short_word x o.is, (short_comma, (short_hash, (short_number k hk, (short_comma, (short_hash, (short_number l hl, tt))))))),
-        ),
-      ) refl (omega arith) refl;
+      is_printed s f _ mnemonic g.is
+      (short_word w p.is ▹ short_comma ▹ short_word x o.is ▹ short_comma ▹ short_hash ▹ short_number k hk ▹ short_comma ▹ short_hash
+      ▹ short_number l hl ▹ tt) refl (omega arith) refl;
 }
 
 -- a shift by 0 is not written
@@ -220,7 +216,7 @@ reads_two_shifted s f w x kind b c h z m n v k mnemonic g p o t hk = record {
   asks = rw (cut s f mnemonic g.is, g.size, p.vector, p.value, o.value, t.value, min_small k hk) refl;
   prints =
       is_printed s f _ mnemonic g.is
-      (short_word w p.is, (short_comma, (short_word x o.is, (short_comma, (short_word kind t.is, (short_hash, (short_number k hk, tt))))))) refl (omega arith)
+      (short_word w p.is ▹ short_comma ▹ short_word x o.is ▹ short_comma ▹ short_word kind t.is ▹ short_hash ▹ short_number k hk ▹ tt) refl (omega arith)
       refl;
 }
 
@@ -243,13 +239,9 @@ pub reads_saturate : (s f w x kind : List ℕ) (b c h : Bool) (z m n l v k : ℕ
 reads_saturate s f w x kind b c h z m n l v k mnemonic g p hl o t hk = record {
   asks = rw (cut s f mnemonic g.is, g.size, p.vector, p.value, o.value, t.value, min_small l hl, min_small k hk) refl;
   prints =
-      is_printed s f _ mnemonic g.is (
-        short_word w p.is,
-        (
-          short_comma,
-          (short_hash, (short_number l hl, (short_comma, (short_word x o.is, (short_comma, (short_word kind t.is, (short_hash, (short_number k hk, tt)))))))),
-        ),
-      )
+      is_printed s f _ mnemonic g.is
+      (short_word w p.is ▹ short_comma ▹ short_hash ▹ short_number l hl ▹ short_comma ▹ short_word x o.is ▹ short_comma ▹ short_word kind t.is
+      ▹ short_hash ▹ short_number k hk ▹ tt)
       refl (omega arith) refl;
 }
 
@@ -264,13 +256,9 @@ reads_three_shifted : (s f w x y kind : List ℕ) (b c e h : Bool) (z m n l v k 
 reads_three_shifted s f w x y kind b c e h z m n l v k mnemonic g p o i t hk = record {
   asks = rw (cut s f mnemonic g.is, g.size, p.vector, p.value, o.value, i.value, t.value, min_small k hk) refl;
   prints =
-      is_printed s f _ mnemonic g.is (
-        short_word w p.is,
-        (
-          short_comma,
-          (short_word x o.is, (short_comma, (short_word y i.is, (short_comma, (short_word kind t.is, (short_hash, (short_number k hk, tt))))))),
-        ),
-      )
+      is_printed s f _ mnemonic g.is
+      (short_word w p.is ▹ short_comma ▹ short_word x o.is ▹ short_comma ▹ short_word y i.is ▹ short_comma ▹ short_word kind t.is ▹ short_hash
+      ▹ short_number k hk ▹ tt)
       refl (omega arith) refl;
 }
 

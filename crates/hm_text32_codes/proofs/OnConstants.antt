@@ -2,7 +2,7 @@
 use Rattle.std.proofs.Common.{◌≡◌, ℕ, zero, suc, ◌+◌, ◌-◌, ◌*◌, ◌/◌, ◌%◌, ◌<◌, ◌≤◌, ◌^◌, Bool, true, false, eqb, ◌++◌, Some, refl, subst, ap, inl, inr, ◌∙◌}
 use Rattle.std.proofs.Common.{arith}
 use Rattle.std.specs.Prelude.{nat_eq, nat_le, nat_lt, ◌&&◌, ◌||◌}
-use Rattle.std.proofs.lemmas.Bool.{and_parts, cases_Bool, eqb-true, ne_eqb}
+use Rattle.std.proofs.lemmas.Bool.{agree_below, and_parts, cases_Bool, eqb-true, ne_eqb}
 use Rattle.std.proofs.lemmas.Bool.Decides.{nat_tests}
 use Rattle.hm_isa.specs.declared.Instr.{Instr}
 use Rattle.hm_isa.specs.declared.Instr.TheVariants as instr
@@ -16,13 +16,13 @@ use Rattle.hm_isa.specs.Standing.{◌↑◌}
 use Rattle.hm_layout.specs.Wide.{HasWord}
 use Rattle.hm_tokens.proofs.Again.{or_true}
 use Rattle.hm_isa.specs.Words.{expand_imm_c, imm12, repeats}
-use Rattle.hm_text32_codes.specs.Codes.{code_of, constant_code, constant_field, shift_of}
+use Rattle.hm_text32_codes.specs.Codes.{code_of, constant_code, constant_field, data_base, shift_of}
 use Rattle.hm_text32_rows.specs.Rows.{constant_in, constant_tokens}
 use Rattle.hm_text32_rows.specs.Mnemonics.{data_mnemonic, move_mnemonic, test_mnemonic, wide}
 use Rattle.hm_text_rows.specs.Shapes.{and_constant, one, r, two}
-use Rattle.hm_text_rows.proofs.Words.{at_below, below_is}
+use Rattle.hm_text_rows.proofs.Words.{below_holds, below_is}
 use Rattle.hm_text32_codes.proofs.Forms.{Answers, a_register, answers_of, numbered, reads_one_constant, reads_two_constant, second_numbered, suffix_wide}
-use Rattle.hm_text32_codes.proofs.Shifted.{data_base, mnemonic_data, mnemonic_move, mnemonic_not, mnemonic_test}
+use Rattle.hm_text32_codes.proofs.Shifted.{mnemonic_data}
 
 -- CONSTANTS
 abbrev expanded : ℕ → ℕ
@@ -54,106 +54,23 @@ back_byte : (x : ℕ) → x < 256 → constant_field (expanded x) ≡ x
 unfolding constant_field
 back_byte x lt = below_is (λ j. constant_field (expanded j)) (λ j. j) 256 x refl lt
 
--- at several places, where it is not 0
-abbrev BackRepeated : ℕ → Type 0
-BackRepeated k = (j : ℕ) → j < 255 → constant_field (expanded (256 * k + 257 + j)) ≡ 256 * k + 257 + j
+-- a fact of numbers, computed at j places behind each of n bases
+in_blocks : (base : ℕ → ℕ) (n m k j : ℕ)
+    → agree_below (λ q. agree_below (λ i. eqb (constant_field (expanded (base q + i))) (base q + i)) (λ i. true) m) (λ q. true) n ≡ true
+    → k < n → j < m → constant_field (expanded (base k + j)) ≡ base k + j
+in_blocks base n m k j e lk lj =
+    below_is (λ i. constant_field (expanded (base k + i))) (λ i. base k + i) m j
+    (below_holds (λ q. agree_below (λ i. eqb (constant_field (expanded (base q + i))) (base q + i)) (λ i. true) m) n k e lk) lj
 
-back_repeated : (k : ℕ) → k < 3 → BackRepeated k
+-- at several places, where it is not 0
+back_repeated : (k j : ℕ) → k < 3 → j < 255 → constant_field (expanded (256 * k + 257 + j)) ≡ 256 * k + 257 + j
 unfolding constant_field
-back_repeated k lt =
-    at_below BackRepeated 3 k (
-      (λ j lj. below_is (λ i. constant_field (expanded (256 * 2 + 257 + i))) (λ i. 256 * 2 + 257 + i) 255 j refl lj),
-      (
-        (λ j lj. below_is (λ i. constant_field (expanded (256 * 1 + 257 + i))) (λ i. 256 * 1 + 257 + i) 255 j refl lj),
-        ((λ j lj. below_is (λ i. constant_field (expanded (256 * 0 + 257 + i))) (λ i. 256 * 0 + 257 + i) 255 j refl lj), tt),
-      ),
-    )
-    lt
+back_repeated k j lk lj = in_blocks (λ q. 256 * q + 257) 3 255 k j refl lk lj
 
 -- rotated
-abbrev BackRotated : ℕ → Type 0
-BackRotated q = (j : ℕ) → j < 128 → constant_field (expanded (1024 + 128 * q + j)) ≡ 1024 + 128 * q + j
-
-back_rotated : (q : ℕ) → q < 24 → BackRotated q
+back_rotated : (q j : ℕ) → q < 24 → j < 128 → constant_field (expanded (1024 + 128 * q + j)) ≡ 1024 + 128 * q + j
 unfolding constant_field shift_of
-back_rotated q lt =
-    at_below BackRotated 24 q (
-      (λ j lj. below_is (λ i. constant_field (expanded (1024 + 128 * 23 + i))) (λ i. 1024 + 128 * 23 + i) 128 j refl lj),
-      (
-        (λ j lj. below_is (λ i. constant_field (expanded (1024 + 128 * 22 + i))) (λ i. 1024 + 128 * 22 + i) 128 j refl lj),
-        (
-          (λ j lj. below_is (λ i. constant_field (expanded (1024 + 128 * 21 + i))) (λ i. 1024 + 128 * 21 + i) 128 j refl lj),
-          (
-            (λ j lj. below_is (λ i. constant_field (expanded (1024 + 128 * 20 + i))) (λ i. 1024 + 128 * 20 + i) 128 j refl lj),
-            (
-              (λ j lj. below_is (λ i. constant_field (expanded (1024 + 128 * 19 + i))) (λ i. 1024 + 128 * 19 + i) 128 j refl lj),
-              (
-                (λ j lj. below_is (λ i. constant_field (expanded (1024 + 128 * 18 + i))) (λ i. 1024 + 128 * 18 + i) 128 j refl lj),
-                (
-                  (λ j lj. below_is (λ i. constant_field (expanded (1024 + 128 * 17 + i))) (λ i. 1024 + 128 * 17 + i) 128 j refl lj),
-                  (
-                    (λ j lj. below_is (λ i. constant_field (expanded (1024 + 128 * 16 + i))) (λ i. 1024 + 128 * 16 + i) 128 j refl lj),
-                    (
-                      (λ j lj. below_is (λ i. constant_field (expanded (1024 + 128 * 15 + i))) (λ i. 1024 + 128 * 15 + i) 128 j refl lj),
-                      (
-                        (λ j lj. below_is (λ i. constant_field (expanded (1024 + 128 * 14 + i))) (λ i. 1024 + 128 * 14 + i) 128 j refl lj),
-                        (
-                          (λ j lj. below_is (λ i. constant_field (expanded (1024 + 128 * 13 + i))) (λ i. 1024 + 128 * 13 + i) 128 j refl lj),
-                          (
-                            (λ j lj. below_is (λ i. constant_field (expanded (1024 + 128 * 12 + i))) (λ i. 1024 + 128 * 12 + i) 128 j refl lj),
-                            (
-                              (λ j lj. below_is (λ i. constant_field (expanded (1024 + 128 * 11 + i))) (λ i. 1024 + 128 * 11 + i) 128 j refl lj),
-                              (
-                                (λ j lj. below_is (λ i. constant_field (expanded (1024 + 128 * 10 + i))) (λ i. 1024 + 128 * 10 + i) 128 j refl lj),
-                                (
-                                  (λ j lj. below_is (λ i. constant_field (expanded (1024 + 128 * 9 + i))) (λ i. 1024 + 128 * 9 + i) 128 j refl lj),
-                                  (
-                                    (λ j lj. below_is (λ i. constant_field (expanded (1024 + 128 * 8 + i))) (λ i. 1024 + 128 * 8 + i) 128 j refl lj),
-                                    (
-                                      (λ j lj. below_is (λ i. constant_field (expanded (1024 + 128 * 7 + i))) (λ i. 1024 + 128 * 7 + i) 128 j refl lj),
-                                      (
-                                        (λ j lj. below_is (λ i. constant_field (expanded (1024 + 128 * 6 + i))) (λ i. 1024 + 128 * 6 + i) 128 j refl lj),
-                                        (
-                                          (λ j lj. below_is (λ i. constant_field (expanded (1024 + 128 * 5 + i))) (λ i. 1024 + 128 * 5 + i) 128 j refl lj),
-                                          (
-                                            (λ j lj. below_is (λ i. constant_field (expanded (1024 + 128 * 4 + i))) (λ i. 1024 + 128 * 4 + i) 128 j refl lj),
-                                            (
-                                              (λ j lj. below_is (λ i. constant_field (expanded (1024 + 128 * 3 + i))) (λ i. 1024 + 128 * 3 + i) 128 j refl lj),
-                                              (
-                                                (λ j lj. below_is (λ i. constant_field (expanded (1024 + 128 * 2 + i))) (λ i. 1024 + 128 * 2 + i) 128 j refl
-                                                    lj),
-                                                (
-                                                  (λ j lj. below_is (λ i. constant_field (expanded (1024 + 128 * 1 + i))) (λ i. 1024 + 128 * 1 + i) 128 j refl
-                                                      lj),
-                                                  (
-                                                    (λ j lj. below_is (λ i. constant_field (expanded (1024 + 128 * 0 + i))) (λ i. 1024 + 128 * 0 + i) 128 j refl
-                                                        lj),
-                                                    tt,
-                                                  ),
-                                                ),
-                                              ),
-                                            ),
-                                          ),
-                                        ),
-                                      ),
-                                    ),
-                                  ),
-                                ),
-                              ),
-                            ),
-                          ),
-                        ),
-                      ),
-                    ),
-                  ),
-                ),
-              ),
-            ),
-          ),
-        ),
-      ),
-    )
-    lt
+back_rotated q j lq lj = in_blocks (λ p. 1024 + 128 * p) 24 128 q j refl lq lj
 
 -- every one that a row has
 abbrev is_told : ℕ → Bool
@@ -169,12 +86,12 @@ back_expanded x lt told =
             | inl f ↦
                 let g : 1024 ≤ x = grind (arith, nat_tests, f) in
                 let is : 1024 + 128 * (x / 128 - 8) + x % 128 ≡ x = omega arith in
-                subst (λ (y : ℕ). constant_field (expanded y) ≡ y) is (back_rotated (x / 128 - 8) (omega arith) (x % 128) (omega arith))
+                subst (λ (y : ℕ). constant_field (expanded y) ≡ y) is (back_rotated (x / 128 - 8) (x % 128) (omega arith) (omega arith))
             | inr f ↦
                 let g : x < 1024 = grind (arith, nat_tests, f) in
                 let some : 0 < x % 256 = some_byte x (rw (e, f) at told) in
                 let is : 256 * (x / 256 - 1) + 257 + (x % 256 - 1) ≡ x = omega (arith, some) in
-                subst (λ (y : ℕ). constant_field (expanded y) ≡ y) is (back_repeated (x / 256 - 1) (omega arith) (x % 256 - 1) (omega (arith, some)))
+                subst (λ (y : ℕ). constant_field (expanded y) ≡ y) is (back_repeated (x / 256 - 1) (x % 256 - 1) (omega arith) (omega (arith, some)))
           ]
     ]
   where
@@ -231,50 +148,22 @@ AsksData name s = (n d c : ℕ) → code_of (data_mnemonic name s) (numbered fal
 
 asks_data : (name : DataName) (s : ℕ) → s < 2 → AsksData name s
 unfolding code_of
-asks_data data_.And zero lt n d c = refl
-asks_data data_.And (suc zero) lt n d c = refl
-asks_data data_.Bic zero lt n d c = refl
-asks_data data_.Bic (suc zero) lt n d c = refl
-asks_data data_.Orr zero lt n d c = refl
-asks_data data_.Orr (suc zero) lt n d c = refl
-asks_data data_.Orn zero lt n d c = refl
-asks_data data_.Orn (suc zero) lt n d c = refl
-asks_data data_.Eor zero lt n d c = refl
-asks_data data_.Eor (suc zero) lt n d c = refl
-asks_data data_.Add zero lt n d c = refl
-asks_data data_.Add (suc zero) lt n d c = refl
-asks_data data_.Adc zero lt n d c = refl
-asks_data data_.Adc (suc zero) lt n d c = refl
-asks_data data_.Sbc zero lt n d c = refl
-asks_data data_.Sbc (suc zero) lt n d c = refl
-asks_data data_.Sub zero lt n d c = refl
-asks_data data_.Sub (suc zero) lt n d c = refl
-asks_data data_.Rsb zero lt n d c = refl
-asks_data data_.Rsb (suc zero) lt n d c = refl
-asks_data name (suc (suc s)) lt n d c = absurd (omega arith)
+asks_data name s lt n d c = grind arith
 
 asks_test : (name : DataName) (n c : ℕ) → may_test name ≡ true
     → code_of (test_mnemonic name) (second_numbered false 0 false n c 0 0 0) ≡ Some (constant_code (data_base name 1) n 15 (constant_field c))
 unfolding code_of
-asks_test data_.And n c e = refl
-asks_test data_.Eor n c e = refl
-asks_test data_.Add n c e = refl
-asks_test data_.Sub n c e = refl
-asks_test name n c e = absurd cc
+asks_test name n c e = grind arith
 
 asks_move : (s d c : ℕ) → s < 2
     → code_of (move_mnemonic data_.Orr s) (second_numbered false 0 false d c 0 0 0) ≡ Some (constant_code (data_base data_.Orr s) 15 d (constant_field c))
 unfolding code_of
-asks_move zero d c lt = refl
-asks_move (suc zero) d c lt = refl
-asks_move (suc (suc s)) d c lt = absurd (omega arith)
+asks_move s d c lt = grind arith
 
 asks_not : (s d c : ℕ) → s < 2
     → code_of (move_mnemonic data_.Orn s) (second_numbered false 0 false d c 0 0 0) ≡ Some (constant_code (data_base data_.Orn s) 15 d (constant_field c))
 unfolding code_of
-asks_not zero d c lt = refl
-asks_not (suc zero) d c lt = refl
-asks_not (suc (suc s)) d c lt = absurd (omega arith)
+asks_not s d c lt = grind arith
 
 -- the letters of a row, each in its range
 record Fields (s n d i i3 i8 : ℕ) : Type 0 where
@@ -313,7 +202,7 @@ test_answers : (k : Instr) (name : DataName) (n i i3 i8 : ℕ) → Fields 1 n 15
     → Answers k (and_constant (one (test_mnemonic name ++ wide) (r n)) (constant_in i i3 i8))
 test_answers k name n i i3 i8 is may has =
     answers_of k _ (constant_sum (operation name) 1 n 15 i i3 i8) (test_mnemonic name) _
-    (reads_one_constant (test_mnemonic name) wide _ _ _ _ _ (mnemonic_test name may) suffix_wide (a_register n is.first) (expanded_small (imm12 i i3 i8)))
+    (reads_one_constant (test_mnemonic name) wide _ _ _ _ _ (grind arith) suffix_wide (a_register n is.first) (expanded_small (imm12 i i3 i8)))
     (asks_test name n _ may ∙ some_sum (operation name) 1 n 15 i i3 i8 is)
     has
 
@@ -321,7 +210,7 @@ move_answers : (k : Instr) (s d i i3 i8 : ℕ) → Fields s 15 d i i3 i8 → Has
     → Answers k (and_constant (one (move_mnemonic data_.Orr s ++ wide) (r d)) (constant_in i i3 i8))
 move_answers k s d i i3 i8 is has =
     answers_of k _ (constant_sum 2 s 15 d i i3 i8) (move_mnemonic data_.Orr s) _
-    (reads_one_constant (move_mnemonic data_.Orr s) wide _ _ _ _ _ (mnemonic_move s is.flag) suffix_wide (a_register d is.result)
+    (reads_one_constant (move_mnemonic data_.Orr s) wide _ _ _ _ _ (let lt = is.flag in grind arith) suffix_wide (a_register d is.result)
     (expanded_small (imm12 i i3 i8)))
     (asks_move s d _ is.flag ∙ some_sum 2 s 15 d i i3 i8 is)
     has
@@ -330,7 +219,7 @@ not_answers : (k : Instr) (s d i i3 i8 : ℕ) → Fields s 15 d i i3 i8 → HasW
     → Answers k (and_constant (one (move_mnemonic data_.Orn s ++ wide) (r d)) (constant_in i i3 i8))
 not_answers k s d i i3 i8 is has =
     answers_of k _ (constant_sum 3 s 15 d i i3 i8) (move_mnemonic data_.Orn s) _
-    (reads_one_constant (move_mnemonic data_.Orn s) wide _ _ _ _ _ (mnemonic_not s is.flag) suffix_wide (a_register d is.result)
+    (reads_one_constant (move_mnemonic data_.Orn s) wide _ _ _ _ _ (let lt = is.flag in grind arith) suffix_wide (a_register d is.result)
     (expanded_small (imm12 i i3 i8)))
     (asks_not s d _ is.flag ∙ some_sum 3 s 15 d i i3 i8 is)
     has

@@ -1,7 +1,7 @@
 -- Rows with a label: their texts ask for their codes, where the label names their targets.
-use Rattle.std.proofs.Common.{◌≡◌, ℕ, zero, suc, ◌+◌, ◌-◌, ◌*◌, ◌/◌, ◌%◌, ◌^◌, ◌<◌, ◌≤◌, true, List, [], ◌∷◌, ◌++◌, Some, None, refl, ap, ◌∙◌, inl}
-use Rattle.std.proofs.Common.{inr, arith}
-use Rattle.std.specs.Prelude.{codes, nat_eq, nat_lt}
+use Rattle.std.proofs.Common.{◌≡◌, ℕ, zero, suc, ◌+◌, ◌-◌, ◌*◌, ◌/◌, ◌%◌, ◌^◌, ◌<◌, ◌≤◌, true, List, [], ◌∷◌, ◌++◌, Option, Some, None, refl, ap, ◌∙◌}
+use Rattle.std.proofs.Common.{inl, inr, arith}
+use Rattle.std.specs.Prelude.{codes, is_none, nat_eq, nat_lt}
 use Rattle.std.proofs.lemmas.Bool.{cases_Bool}
 use Rattle.std.proofs.lemmas.Bool.Decides.{nat_tests}
 use Rattle.hm_isa.specs.declared.Instr.TheVariants as instr
@@ -27,109 +27,37 @@ use Rattle.hm_tokens.specs.Tokens.{Tok, comma}
 use Rattle.hm_text_rows.specs.Labels.{behind, distance}
 use Rattle.hm_text_rows.specs.Shapes.{r}
 use Rattle.hm_text_rows.proofs.Printed.{IsPrintedAt, is_printed_at, short_comma, short_word}
-use Rattle.hm_text_rows.proofs.Words.{at_below, below_holds, is_mnemonic, is_suffix, word_r}
+use Rattle.hm_text_rows.proofs.Branches.{condition_back, distance_back, mnemonic_branch}
+use Rattle.hm_text_rows.proofs.Words.{◌▹◌, below_holds, is_mnemonic, is_suffix, word_r}
 use Rattle.hm_text32_codes.specs.Codes.{ahead, always_code, behind_it, code_in, code_of, code_of_label, code_of_memory, conditional_code}
-use Rattle.hm_text_rows.specs.Operands.{size_of}
+use Rattle.hm_text_rows.specs.Operands.{branch_condition_in, size_of}
 use Rattle.hm_text32_rows.specs.Rows.{loop_end_tokens}
 use Rattle.hm_text32_rows.specs.Mnemonics.{element_suffix, wide, wide_branch_mnemonic, wide_branch_suffix}
 use Rattle.hm_text32_codes.proofs.Asked.{IsNoPlain, Row, asks_label, label_row}
 use Rattle.hm_text32_codes.proofs.Forms.{a_register, suffix_element}
 
--- how far the target is, again
-distance_back : (from d a : ℕ) → from < 2 ^ 32 + 8 → d < 2 ^ 32 → (from + d) % 2 ^ 32 ≡ a → distance from a ≡ d
-unfolding distance
-distance_back from d a hf hd e = omega (arith, e)
-
 -- T16 WITH A CONDITION
 abbrev mnemonic_of : ℕ → List ℕ
 mnemonic_of c = codes "b" ++ condition_name c
 
-conditional_mnemonic : (c : ℕ) → c < 14 → is_mnemonic (mnemonic_of c) ≡ true
-conditional_mnemonic c lt = below_holds (λ j. is_mnemonic (mnemonic_of j)) 14 c refl lt
+none_is : (o : Option ℕ) → is_none o ≡ true → o ≡ None
+none_is o e = grind arith
 
 no_conditional : (c : ℕ) → c < 14 → IsNoPlain (mnemonic_of c)
 unfolding code_of
-no_conditional c lt =
-    at_below (λ j. IsNoPlain (mnemonic_of j)) 14 c (
-      (λ o. refl),
-      (
-        (λ o. refl),
-        (
-          (λ o. refl),
-          (
-            (λ o. refl),
-            (
-              (λ o. refl),
-              (
-                (λ o. refl),
-                ((λ o. refl), ((λ o. refl), ((λ o. refl), ((λ o. refl), ((λ o. refl), ((λ o. refl), ((λ o. refl), ((λ o. refl), tt)))))))),
-              ),
-            ),
-          ),
-        ),
-      ),
-    )
-    lt
+no_conditional c lt o = none_is (code_of (mnemonic_of c) o) (below_holds (λ j. is_none (code_of (mnemonic_of j) o)) 14 c refl lt)
 
 abbrev IsNoAccess : List ℕ → Type 0
 IsNoAccess s = (us : List Tok) → code_of_memory s us ≡ None
 
 no_conditional_access : (c : ℕ) → c < 14 → IsNoAccess (mnemonic_of c)
 unfolding code_of_memory
-no_conditional_access c lt =
-    at_below (λ j. IsNoAccess (mnemonic_of j)) 14 c (
-      (λ us. refl),
-      (
-        (λ us. refl),
-        (
-          (λ us. refl),
-          (
-            (λ us. refl),
-            (
-              (λ us. refl),
-              (
-                (λ us. refl),
-                ((λ us. refl), ((λ us. refl), ((λ us. refl), ((λ us. refl), ((λ us. refl), ((λ us. refl), ((λ us. refl), ((λ us. refl), tt)))))))),
-              ),
-            ),
-          ),
-        ),
-      ),
-    )
-    lt
+no_conditional_access c lt us = none_is (code_of_memory (mnemonic_of c) us) (below_holds (λ j. is_none (code_of_memory (mnemonic_of j) us)) 14 c refl lt)
 
-abbrev AsksConditional : ℕ → Type 0
-AsksConditional c = (f : List ℕ) (us : List Tok) (pc a : ℕ) → code_of_label (mnemonic_of c) f us pc a ≡ Some (conditional_code c (distance (pc + 4) a / 2))
-
-asks_conditional : (c : ℕ) → c < 14 → AsksConditional c
+asks_conditional : (c : ℕ) (f : List ℕ) (us : List Tok) (pc a : ℕ) → c < 14
+    → code_of_label (mnemonic_of c) f us pc a ≡ Some (conditional_code c (distance (pc + 4) a / 2))
 unfolding code_of_label
-asks_conditional c lt =
-    at_below AsksConditional 14 c (
-      (λ f us pc a. refl),
-      (
-        (λ f us pc a. refl),
-        (
-          (λ f us pc a. refl),
-          (
-            (λ f us pc a. refl),
-            (
-              (λ f us pc a. refl),
-              (
-                (λ f us pc a. refl),
-                (
-                  (λ f us pc a. refl),
-                  (
-                    (λ f us pc a. refl),
-                    ((λ f us pc a. refl), ((λ f us pc a. refl), ((λ f us pc a. refl), ((λ f us pc a. refl), ((λ f us pc a. refl), ((λ f us pc a. refl), tt)))))),
-                  ),
-                ),
-              ),
-            ),
-          ),
-        ),
-      ),
-    )
-    lt
+asks_conditional c f us pc a lt = rw (condition_back c lt) refl
 
 -- a distance as a number of 32 bits, and half of it: so much and a multiple
 record Signed (whole d h : ℕ) : Type 0 where
@@ -200,24 +128,19 @@ conditional_asks i pc a hp e =
 row_conditional : (i : WideConditional) → Row (instr.Branch (branch.T16 (t16.Conditional i)))
 row_conditional i =
     label_row (instr.Branch (branch.T16 (t16.Conditional i))) (code_wide_conditional i) refl refl
-    (is_printed_at (mnemonic_of i.c.value) wide [] (conditional_mnemonic i.c.value i.c.in_range) refl tt refl refl (omega arith) refl)
+    (is_printed_at (mnemonic_of i.c.value) wide [] (mnemonic_branch i.c.value i.c.in_range) refl tt refl refl (omega arith) refl)
     (λ t pc a l hp re.
-    asks_label (mnemonic_of i.c.value) wide (t ∷ []) pc a (code_wide_conditional i) (conditional_mnemonic i.c.value i.c.in_range) refl
+    asks_label (mnemonic_of i.c.value) wide (t ∷ []) pc a (code_wide_conditional i) (mnemonic_branch i.c.value i.c.in_range) refl
     (no_conditional i.c.value i.c.in_range)
     (no_conditional_access i.c.value i.c.in_range (t ∷ []))
-    (asks_conditional i.c.value i.c.in_range wide (t ∷ []) pc a ∙ ap (λ (w : ℕ). Some w) (conditional_asks i pc a hp re)))
+    (asks_conditional i.c.value wide (t ∷ []) pc a i.c.in_range ∙ ap (λ (w : ℕ). Some w) (conditional_asks i pc a hp re)))
 
 -- T16 WITHOUT A CONDITION
 abbrev far_half : ℕ → ℕ → ℕ → ℕ → ℕ → ℕ
 far_half s x1 x2 i10 i11 = s * 2 ^ 23 + x1 * 2 ^ 22 + x2 * 2 ^ 21 + i10 * 2 ^ 11 + i11
 
 alike_back : (j s : ℕ) → j < 2 → s < 2 → alike (alike j s) s ≡ j
-alike_back zero zero hj hs = refl
-alike_back zero (suc zero) hj hs = refl
-alike_back (suc zero) zero hj hs = refl
-alike_back (suc zero) (suc zero) hj hs = refl
-alike_back (suc (suc j)) s hj hs = absurd (omega arith)
-alike_back j (suc (suc s)) hj hs = absurd (omega arith)
+alike_back j s hj hs = grind arith
 
 alike_bit : (j s : ℕ) → alike j s < 2
 alike_bit j s = elim (cases_Bool (nat_eq j s)) [ inl e ↦ rw e (omega arith) | inr e ↦ rw e (omega arith) ]
@@ -313,14 +236,6 @@ behind_back pc (suc v) a hp hv e =
 lr_small : 14 < 16
 lr_small = omega arith
 
-no_wls : IsNoPlain (codes "wls")
-unfolding code_of
-no_wls o = refl
-
-no_wls_access : IsNoAccess (codes "wls")
-unfolding code_of_memory
-no_wls_access us = refl
-
 abbrev after : ℕ → Tok → List Tok
 after n t = r 14 ∷ comma ∷ r n ∷ comma ∷ t ∷ []
 
@@ -330,23 +245,15 @@ unfolding code_of_label
 asks_wls f n v t pc a hn e = rw ((a_register n hn).value, e) (ap (λ (w : ℕ). Some w) (omega arith))
 
 pub row_wls : (i : Wls) → Row (instr.Branch (branch.T23 (t23.Wls i)))
+unfolding code_of code_of_memory
 row_wls i =
     label_row (instr.Branch (branch.T23 (t23.Wls i))) (code_wls i) refl refl
-    (is_printed_at (codes "wls") [] _ refl refl (
-      short_word (register_name 14) (word_r 14 lr_small),
-      (short_comma, (short_word (register_name i.n.value) (word_r i.n.value i.n.in_range), (short_comma, tt))),
-    ) refl refl (omega arith) refl)
+    (is_printed_at (codes "wls") [] _ refl refl
+    (short_word (register_name 14) (word_r 14 lr_small) ▹ short_comma ▹ short_word (register_name i.n.value) (word_r i.n.value i.n.in_range)
+    ▹ short_comma ▹ tt) refl refl (omega arith) refl)
     (λ t pc a l hp re.
-    asks_label (codes "wls") [] (after i.n.value t) pc a (code_wls i) refl refl no_wls (no_wls_access (after i.n.value t))
+    asks_label (codes "wls") [] (after i.n.value t) pc a (code_wls i) refl refl (λ o. refl) refl
     (asks_wls [] i.n.value i.v.value t pc a i.n.in_range (ahead_back pc i.v.value a hp i.v.in_range re)))
-
-no_wlstp : IsNoPlain (codes "wlstp")
-unfolding code_of
-no_wlstp o = refl
-
-no_wlstp_access : IsNoAccess (codes "wlstp")
-unfolding code_of_memory
-no_wlstp_access us = refl
 
 asks_wlstp : (f : List ℕ) (z n v : ℕ) (t : Tok) (pc a : ℕ) → n < 16 → size_of f ≡ z → ahead pc a ≡ v
     → code_of_label (codes "wlstp") f (after n t) pc a ≡ Some (0xf000c001 + z ↑ 20 + n ↑ 16 + ((v / 2) ↑ 1 + (v % 2) ↑ 11))
@@ -354,38 +261,22 @@ unfolding code_of_label
 asks_wlstp f z n v t pc a hn s e = rw ((a_register n hn).value, s, e) (ap (λ (w : ℕ). Some w) (omega arith))
 
 pub row_wlstp : (i : Wlstp) → Row (instr.Branch (branch.T23 (t23.Wlstp i)))
+unfolding code_of code_of_memory
 row_wlstp i =
     let f = element_suffix i.z.value in
     let g = suffix_element i.z.value i.z.in_range in
     label_row (instr.Branch (branch.T23 (t23.Wlstp i))) (code_wlstp i) refl refl
-    (is_printed_at (codes "wlstp") f _ refl g.is (
-      short_word (register_name 14) (word_r 14 lr_small),
-      (short_comma, (short_word (register_name i.n.value) (word_r i.n.value i.n.in_range), (short_comma, tt))),
-    ) refl refl (omega arith) refl)
+    (is_printed_at (codes "wlstp") f _ refl g.is
+    (short_word (register_name 14) (word_r 14 lr_small) ▹ short_comma ▹ short_word (register_name i.n.value) (word_r i.n.value i.n.in_range)
+    ▹ short_comma ▹ tt) refl refl (omega arith) refl)
     (λ t pc a l hp re.
-    asks_label (codes "wlstp") f (after i.n.value t) pc a (code_wlstp i) refl g.is no_wlstp (no_wlstp_access (after i.n.value t))
+    asks_label (codes "wlstp") f (after i.n.value t) pc a (code_wlstp i) refl g.is (λ o. refl) refl
     (asks_wlstp f i.z.value i.n.value i.v.value t pc a i.n.in_range g.size (ahead_back pc i.v.value a hp i.v.in_range re)))
 
 record End (name : LoopEndName) : Type 0 where
   prints : IsPrintedAt (loop_end_tokens name)
   asks : (v : ℕ) (t : Tok) (pc a : ℕ) → behind_it pc a ≡ v
       → code_in (loop_end_tokens name ++ t ∷ []) pc a ≡ Some (loop_end_base name + ((v / 2) ↑ 1 + (v % 2) ↑ 11))
-
-no_le : IsNoPlain (codes "le")
-unfolding code_of
-no_le o = refl
-
-no_le_access : IsNoAccess (codes "le")
-unfolding code_of_memory
-no_le_access us = refl
-
-no_letp : IsNoPlain (codes "letp")
-unfolding code_of
-no_letp o = refl
-
-no_letp_access : IsNoAccess (codes "letp")
-unfolding code_of_memory
-no_letp_access us = refl
 
 asks_le : (t : Tok) (pc a v : ℕ) → behind_it pc a ≡ v → code_of_label (codes "le") [] (t ∷ []) pc a ≡ Some (0xf02fc001 + ((v / 2) ↑ 1 + (v % 2) ↑ 11))
 unfolding code_of_label
@@ -402,17 +293,18 @@ unfolding code_of_label
 asks_letp t pc a v e = rw e (ap (λ (w : ℕ). Some w) (omega arith))
 
 end_of : (name : LoopEndName) → End name
+unfolding code_of code_of_memory
 end_of loop_end.LeLr = record {
-  prints = is_printed_at (codes "le") [] _ refl refl (short_word (register_name 14) (word_r 14 lr_small), (short_comma, tt)) refl refl (omega arith) refl;
-  asks = λ v t pc a e. asks_label (codes "le") [] (r 14 ∷ comma ∷ t ∷ []) pc a _ refl refl no_le (no_le_access _) (asks_le_lr t pc a v e);
+  prints = is_printed_at (codes "le") [] _ refl refl (short_word (register_name 14) (word_r 14 lr_small) ▹ short_comma ▹ tt) refl refl (omega arith) refl;
+  asks = λ v t pc a e. asks_label (codes "le") [] (r 14 ∷ comma ∷ t ∷ []) pc a _ refl refl (λ o. refl) refl (asks_le_lr t pc a v e);
 }
 end_of loop_end.Letp = record {
-  prints = is_printed_at (codes "letp") [] _ refl refl (short_word (register_name 14) (word_r 14 lr_small), (short_comma, tt)) refl refl (omega arith) refl;
-  asks = λ v t pc a e. asks_label (codes "letp") [] (r 14 ∷ comma ∷ t ∷ []) pc a _ refl refl no_letp (no_letp_access _) (asks_letp t pc a v e);
+  prints = is_printed_at (codes "letp") [] _ refl refl (short_word (register_name 14) (word_r 14 lr_small) ▹ short_comma ▹ tt) refl refl (omega arith) refl;
+  asks = λ v t pc a e. asks_label (codes "letp") [] (r 14 ∷ comma ∷ t ∷ []) pc a _ refl refl (λ o. refl) refl (asks_letp t pc a v e);
 }
 end_of loop_end.Le = record {
   prints = is_printed_at (codes "le") [] [] refl refl tt refl refl (omega arith) refl;
-  asks = λ v t pc a e. asks_label (codes "le") [] (t ∷ []) pc a _ refl refl no_le (no_le_access _) (asks_le t pc a v e);
+  asks = λ v t pc a e. asks_label (codes "le") [] (t ∷ []) pc a _ refl refl (λ o. refl) refl (asks_le t pc a v e);
 }
 
 pub row_end : (i : LoopEnd) → Row (instr.Branch (branch.T23 (t23.End i)))

@@ -4,12 +4,11 @@ use Rattle.hm_isa.specs.declared.Instr.TheVariants as instr
 use Rattle.hm_isa.specs.declared.Scalar.TheVariants as scalar
 use Rattle.hm_isa.specs.declared.wide.T14.{T14}
 use Rattle.hm_isa.specs.declared.wide.WideListName.{WideListName}
-use Rattle.hm_isa.specs.declared.wide.WideListName.TheVariants as wide_list
 use Rattle.hm_isa.specs.Code.{code_t14, wide_list_base}
 use Rattle.hm_isa.specs.Standing.{◌↑◌}
 use Rattle.hm_tokens.specs.Tokens.{Tok}
 use Rattle.hm_text_rows.specs.Shapes.{braces}
-use Rattle.hm_text_rows.proofs.Words.{is_mnemonic, is_suffix}
+use Rattle.hm_text_rows.proofs.Words.{is_suffix}
 use Rattle.hm_text_rows.proofs.Braces.{base_and_list, behind_base, braced_of, braces_bits, printed_list}
 use Rattle.hm_text32_codes.specs.Codes.{code_of, code_of_memory}
 use Rattle.hm_text32_codes.specs.Operands.{second_bang, value}
@@ -20,34 +19,19 @@ use Rattle.hm_text32_rows.proofs.Lists.{few_listed}
 use Rattle.hm_text32_codes.proofs.Asked.{Asks, IsNoPlain, asks_memory}
 use Rattle.hm_text32_codes.proofs.Forms.{a_register}
 
-mnemonic_list : (name : WideListName) → is_mnemonic (wide_list_mnemonic name) ≡ true
-mnemonic_list wide_list.Stmia = refl
-mnemonic_list wide_list.Ldmia = refl
-mnemonic_list wide_list.Stmdb = refl
-mnemonic_list wide_list.Ldmdb = refl
-
 suffix_list : (name : WideListName) → is_suffix (wide_list_suffix name) ≡ true
-suffix_list wide_list.Stmia = refl
-suffix_list wide_list.Ldmia = refl
-suffix_list wide_list.Stmdb = refl
-suffix_list wide_list.Ldmdb = refl
+suffix_list name = grind arith
 
 no_list : (name : WideListName) → IsNoPlain (wide_list_mnemonic name)
 unfolding code_of
-no_list wide_list.Stmia o = refl
-no_list wide_list.Ldmia o = refl
-no_list wide_list.Stmdb o = refl
-no_list wide_list.Ldmdb o = refl
+no_list name o = grind arith
 
 abbrev list_code : WideListName → List Tok → ℕ
 list_code name us = wide_list_base name + second_bang us ↑ 21 + value (operand 0 us) ↑ 16 + bits_of (braced us)
 
 asks_list : (name : WideListName) (us : List Tok) → code_of_memory (wide_list_mnemonic name) us ≡ Some (list_code name us)
 unfolding code_of_memory
-asks_list wide_list.Stmia us = refl
-asks_list wide_list.Ldmia us = refl
-asks_list wide_list.Stmdb us = refl
-asks_list wide_list.Ldmdb us = refl
+asks_list name us = grind arith
 
 bang_of : (w n : ℕ) (us : List Tok) → w < 2 → second_bang (behind_base w n us) ≡ w
 bang_of zero n us lt = refl
@@ -74,9 +58,9 @@ row_t14 i =
       code = code_t14 i;
       has = refl;
       asks =
-          λ pc a. asks_memory (wide_list_mnemonic i.name) (wide_list_suffix i.name) us pc a (code_t14 i) (mnemonic_list i.name) (suffix_list i.name)
+          λ pc a. asks_memory (wide_list_mnemonic i.name) (wide_list_suffix i.name) us pc a (code_t14 i) (grind arith) (suffix_list i.name)
           (no_list i.name)
           (asks_list i.name us ∙ ap (λ (w : ℕ). Some w) (list_sum i.name i.w.value i.n.value i.list.value i.w.in_range i.n.in_range i.list.in_range));
-      prints = printed_list (wide_list_mnemonic i.name) (wide_list_suffix i.name) i.w.value i.n.value i.list.value (mnemonic_list i.name) (suffix_list i.name)
+      prints = printed_list (wide_list_mnemonic i.name) (wide_list_suffix i.name) i.w.value i.n.value i.list.value (grind arith) (suffix_list i.name)
           i.w.in_range i.n.in_range (few_listed i);
     }

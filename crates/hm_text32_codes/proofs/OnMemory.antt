@@ -8,7 +8,6 @@ use Rattle.hm_isa.specs.declared.Instr.{Instr}
 use Rattle.hm_isa.specs.declared.Instr.TheVariants as instr
 use Rattle.hm_isa.specs.declared.Scalar.TheVariants as scalar
 use Rattle.hm_isa.specs.declared.narrow.AccessName.{AccessName}
-use Rattle.hm_isa.specs.declared.narrow.AccessName.TheVariants as access
 use Rattle.hm_isa.specs.declared.wide.PairName.{PairName}
 use Rattle.hm_isa.specs.declared.wide.PairName.TheVariants as pair
 use Rattle.hm_isa.specs.declared.wide.T12.{T12}
@@ -29,7 +28,7 @@ use Rattle.hm_text32_rows.specs.Rows.{access_tokens}
 use Rattle.hm_text_rows.specs.Mnemonics.{access_mnemonic}
 use Rattle.hm_text32_rows.specs.Mnemonics.{pair_mnemonic, wide}
 use Rattle.hm_text_rows.specs.Shapes.{indexed, r, scaled}
-use Rattle.hm_text_rows.proofs.Words.{is_mnemonic, is_suffix, word_r}
+use Rattle.hm_text_rows.proofs.Words.{◌▹◌, is_mnemonic, is_suffix, word_r}
 use Rattle.hm_text_rows.proofs.Printed.{IsPrinted, IsShort, is_printed_as, short_bang, short_close, short_comma, short_hash, short_minus, short_number}
 use Rattle.hm_text_rows.proofs.Printed.{short_open, short_word}
 use Rattle.hm_text32_codes.proofs.Asked.{Asks, IsNoPlain, asks_memory}
@@ -44,36 +43,15 @@ not_true false e = refl
 
 -- T12
 mnemonic_access : (name : AccessName) → is_mnemonic (access_mnemonic name) ≡ true
-mnemonic_access access.Str = refl
-mnemonic_access access.Strh = refl
-mnemonic_access access.Strb = refl
-mnemonic_access access.Ldrsb = refl
-mnemonic_access access.Ldr = refl
-mnemonic_access access.Ldrh = refl
-mnemonic_access access.Ldrb = refl
-mnemonic_access access.Ldrsh = refl
+mnemonic_access name = grind arith
 
 no_access : (name : AccessName) → IsNoPlain (access_mnemonic name)
 unfolding code_of
-no_access access.Str o = refl
-no_access access.Strh o = refl
-no_access access.Strb o = refl
-no_access access.Ldrsb o = refl
-no_access access.Ldr o = refl
-no_access access.Ldrh o = refl
-no_access access.Ldrb o = refl
-no_access access.Ldrsh o = refl
+no_access name o = grind arith
 
 asks_access : (name : AccessName) (us : List Tok) → code_of_memory (access_mnemonic name) us ≡ Some (access_code (wide_access_base name) (read_places us))
 unfolding code_of_memory
-asks_access access.Str us = refl
-asks_access access.Strh us = refl
-asks_access access.Strb us = refl
-asks_access access.Ldrsb us = refl
-asks_access access.Ldr us = refl
-asks_access access.Ldrh us = refl
-asks_access access.Ldrb us = refl
-asks_access access.Ldrsh us = refl
+asks_access name us = grind arith
 
 -- whether the third is a number, how an offset is used, and the operands
 abbrev given : Bool → ℕ → ℕ → ℕ → ℕ → ℕ → ℕ → ℕ → ℕ → Places
@@ -105,42 +83,35 @@ reads_indexed s f t n zero u zero k mnemonic g ht hn hp hu hw some hk = absurd (
 reads_indexed s f t n zero zero (suc zero) k mnemonic g ht hn hp hu hw some hk = record {
   places = rw ((a_register t ht).value, (a_register n hn).value, min_small k hk) refl;
   prints = is_printed_as s f _ mnemonic g
-      (short_r t ht, (short_comma, (short_open, (short_r n hn, (short_close, (short_comma, (short_hash, (short_minus, (short_number k hk, tt))))))))) refl
+      (short_r t ht ▹ short_comma ▹ short_open ▹ short_r n hn ▹ short_close ▹ short_comma ▹ short_hash ▹ short_minus ▹ short_number k hk ▹ tt) refl
       (omega arith) refl;
 }
 reads_indexed s f t n zero (suc zero) (suc zero) k mnemonic g ht hn hp hu hw some hk = record {
   places = rw ((a_register t ht).value, (a_register n hn).value, min_small k hk) refl;
   prints = is_printed_as s f _ mnemonic g
-      (short_r t ht, (short_comma, (short_open, (short_r n hn, (short_close, (short_comma, (short_hash, (short_number k hk, tt)))))))) refl (omega arith) refl;
+      (short_r t ht ▹ short_comma ▹ short_open ▹ short_r n hn ▹ short_close ▹ short_comma ▹ short_hash ▹ short_number k hk ▹ tt) refl (omega arith) refl;
 }
 reads_indexed s f t n (suc zero) zero zero k mnemonic g ht hn hp hu hw some hk = record {
   places = rw ((a_register t ht).value, (a_register n hn).value, min_small k hk) refl;
   prints = is_printed_as s f _ mnemonic g
-      (short_r t ht, (short_comma, (short_open, (short_r n hn, (short_comma, (short_hash, (short_minus, (short_number k hk, (short_close, tt))))))))) refl
+      (short_r t ht ▹ short_comma ▹ short_open ▹ short_r n hn ▹ short_comma ▹ short_hash ▹ short_minus ▹ short_number k hk ▹ short_close ▹ tt) refl
       (omega arith) refl;
 }
 reads_indexed s f t n (suc zero) (suc zero) zero k mnemonic g ht hn hp hu hw some hk = record {
   places = rw ((a_register t ht).value, (a_register n hn).value, min_small k hk) refl;
   prints = is_printed_as s f _ mnemonic g
-      (short_r t ht, (short_comma, (short_open, (short_r n hn, (short_comma, (short_hash, (short_number k hk, (short_close, tt)))))))) refl (omega arith) refl;
+      (short_r t ht ▹ short_comma ▹ short_open ▹ short_r n hn ▹ short_comma ▹ short_hash ▹ short_number k hk ▹ short_close ▹ tt) refl (omega arith) refl;
 }
 reads_indexed s f t n (suc zero) zero (suc zero) k mnemonic g ht hn hp hu hw some hk = record {
   places = rw ((a_register t ht).value, (a_register n hn).value, min_small k hk) refl;
-  prints = is_printed_as s f _ mnemonic g (
-    short_r t ht,
-    (
-      short_comma,
-      (
-        short_open,
-        (short_r n hn, (short_comma, (short_hash, (short_minus, (short_number k hk, (short_close, (short_bang, tt))))))),
-      ),
-    ),
-  ) refl (omega arith) refl;
+  prints = is_printed_as s f _ mnemonic g
+      (short_r t ht ▹ short_comma ▹ short_open ▹ short_r n hn ▹ short_comma ▹ short_hash ▹ short_minus ▹ short_number k hk ▹ short_close ▹ short_bang
+      ▹ tt) refl (omega arith) refl;
 }
 reads_indexed s f t n (suc zero) (suc zero) (suc zero) k mnemonic g ht hn hp hu hw some hk = record {
   places = rw ((a_register t ht).value, (a_register n hn).value, min_small k hk) refl;
   prints = is_printed_as s f _ mnemonic g
-      (short_r t ht, (short_comma, (short_open, (short_r n hn, (short_comma, (short_hash, (short_number k hk, (short_close, (short_bang, tt))))))))) refl
+      (short_r t ht ▹ short_comma ▹ short_open ▹ short_r n hn ▹ short_comma ▹ short_hash ▹ short_number k hk ▹ short_close ▹ short_bang ▹ tt) refl
       (omega arith) refl;
 }
 reads_indexed s f t n (suc (suc p)) u w k mnemonic g ht hn hp hu hw some hk = absurd (omega arith)
@@ -153,16 +124,9 @@ unfolding singles word_value
 reads_scaled s f t n m k mnemonic g ht hn hm hk = record {
   places = rw ((a_register t ht).value, (a_register n hn).value, (a_register m hm).value, min_small k hk) refl;
   prints =
-      is_printed_as s f _ mnemonic g (
-        short_r t ht,
-        (
-          short_comma,
-          (
-            short_open,
-            (short_r n hn, (short_comma, (short_r m hm, (short_comma, (short_word (codes "lsl") refl, (short_hash, (short_number k hk, (short_close, tt)))))))),
-          ),
-        ),
-      )
+      is_printed_as s f _ mnemonic g
+      (short_r t ht ▹ short_comma ▹ short_open ▹ short_r n hn ▹ short_comma ▹ short_r m hm ▹ short_comma ▹ short_word (codes "lsl") refl ▹ short_hash
+      ▹ short_number k hk ▹ short_close ▹ tt)
       refl (omega arith) refl;
 }
 
@@ -242,19 +206,13 @@ row_t12 (t12.Literal i) =
     (literal_sum (wide_access_base i.name) i.u.value i.t.value i.i.value) refl
 
 -- T13
-mnemonic_pair : (name : PairName) → is_mnemonic (pair_mnemonic name) ≡ true
-mnemonic_pair pair.Strd = refl
-mnemonic_pair pair.Ldrd = refl
-
 no_pair : (name : PairName) → IsNoPlain (pair_mnemonic name)
 unfolding code_of
-no_pair pair.Strd o = refl
-no_pair pair.Ldrd o = refl
+no_pair name o = grind arith
 
 asks_pair : (name : PairName) (us : List Tok) → code_of_memory (pair_mnemonic name) us ≡ Some (pair_code (pair_base name) (read_places us))
 unfolding code_of_memory
-asks_pair pair.Strd us = refl
-asks_pair pair.Ldrd us = refl
+asks_pair name us = grind arith
 
 reads_pair : (s f : List ℕ) (t v n p u w k : ℕ) → is_mnemonic s ≡ true → is_suffix f ≡ true → t < 16 → v < 16 → n < 16 → p < 2 → u < 2 → w < 2 → 0 < p + w
     → k < 2 ^ 32
@@ -263,84 +221,42 @@ unfolding singles
 reads_pair s f t v n zero u zero k mnemonic g ht hv hn hp hu hw some hk = absurd (omega arith)
 reads_pair s f t v n zero zero (suc zero) k mnemonic g ht hv hn hp hu hw some hk = record {
   places = rw ((a_register t ht).value, (a_register v hv).value, (a_register n hn).value, min_small k hk) refl;
-  prints = is_printed_as s f _ mnemonic g (
-    short_r t ht,
-    (
-      short_comma,
-      (
-        short_r v hv,
-        (short_comma, (short_open, (short_r n hn, (short_close, (short_comma, (short_hash, (short_minus, (short_number k hk, tt)))))))),
-      ),
-    ),
-  ) refl (omega arith)
+  prints = is_printed_as s f _ mnemonic g
+      (short_r t ht ▹ short_comma ▹ short_r v hv ▹ short_comma ▹ short_open ▹ short_r n hn ▹ short_close ▹ short_comma ▹ short_hash ▹ short_minus
+      ▹ short_number k hk ▹ tt) refl (omega arith)
       refl;
 }
 reads_pair s f t v n zero (suc zero) (suc zero) k mnemonic g ht hv hn hp hu hw some hk = record {
   places = rw ((a_register t ht).value, (a_register v hv).value, (a_register n hn).value, min_small k hk) refl;
-  prints = is_printed_as s f _ mnemonic g (
-    short_r t ht,
-    (
-      short_comma,
-      (
-        short_r v hv,
-        (short_comma, (short_open, (short_r n hn, (short_close, (short_comma, (short_hash, (short_number k hk, tt))))))),
-      ),
-    ),
-  ) refl (omega arith) refl;
+  prints = is_printed_as s f _ mnemonic g
+      (short_r t ht ▹ short_comma ▹ short_r v hv ▹ short_comma ▹ short_open ▹ short_r n hn ▹ short_close ▹ short_comma ▹ short_hash ▹ short_number k hk
+      ▹ tt) refl (omega arith) refl;
 }
 reads_pair s f t v n (suc zero) zero zero k mnemonic g ht hv hn hp hu hw some hk = record {
   places = rw ((a_register t ht).value, (a_register v hv).value, (a_register n hn).value, min_small k hk) refl;
-  prints = is_printed_as s f _ mnemonic g (
-    short_r t ht,
-    (
-      short_comma,
-      (
-        short_r v hv,
-        (short_comma, (short_open, (short_r n hn, (short_comma, (short_hash, (short_minus, (short_number k hk, (short_close, tt)))))))),
-      ),
-    ),
-  ) refl (omega arith)
+  prints = is_printed_as s f _ mnemonic g
+      (short_r t ht ▹ short_comma ▹ short_r v hv ▹ short_comma ▹ short_open ▹ short_r n hn ▹ short_comma ▹ short_hash ▹ short_minus ▹ short_number k hk
+      ▹ short_close ▹ tt) refl (omega arith)
       refl;
 }
 reads_pair s f t v n (suc zero) (suc zero) zero k mnemonic g ht hv hn hp hu hw some hk = record {
   places = rw ((a_register t ht).value, (a_register v hv).value, (a_register n hn).value, min_small k hk) refl;
-  prints = is_printed_as s f _ mnemonic g (
-    short_r t ht,
-    (
-      short_comma,
-      (
-        short_r v hv,
-        (short_comma, (short_open, (short_r n hn, (short_comma, (short_hash, (short_number k hk, (short_close, tt))))))),
-      ),
-    ),
-  ) refl (omega arith) refl;
+  prints = is_printed_as s f _ mnemonic g
+      (short_r t ht ▹ short_comma ▹ short_r v hv ▹ short_comma ▹ short_open ▹ short_r n hn ▹ short_comma ▹ short_hash ▹ short_number k hk ▹ short_close
+      ▹ tt) refl (omega arith) refl;
 }
 reads_pair s f t v n (suc zero) zero (suc zero) k mnemonic g ht hv hn hp hu hw some hk = record {
   places = rw ((a_register t ht).value, (a_register v hv).value, (a_register n hn).value, min_small k hk) refl;
-  prints = is_printed_as s f _ mnemonic g (
-    short_r t ht,
-    (
-      short_comma,
-      (
-        short_r v hv,
-        (short_comma, (short_open, (short_r n hn, (short_comma, (short_hash, (short_minus, (short_number k hk, (short_close, (short_bang, tt))))))))),
-      ),
-    ),
-  ) refl
+  prints = is_printed_as s f _ mnemonic g
+      (short_r t ht ▹ short_comma ▹ short_r v hv ▹ short_comma ▹ short_open ▹ short_r n hn ▹ short_comma ▹ short_hash ▹ short_minus ▹ short_number k hk
+      ▹ short_close ▹ short_bang ▹ tt) refl
       (omega arith) refl;
 }
 reads_pair s f t v n (suc zero) (suc zero) (suc zero) k mnemonic g ht hv hn hp hu hw some hk = record {
   places = rw ((a_register t ht).value, (a_register v hv).value, (a_register n hn).value, min_small k hk) refl;
-  prints = is_printed_as s f _ mnemonic g (
-    short_r t ht,
-    (
-      short_comma,
-      (
-        short_r v hv,
-        (short_comma, (short_open, (short_r n hn, (short_comma, (short_hash, (short_number k hk, (short_close, (short_bang, tt)))))))),
-      ),
-    ),
-  ) refl (omega arith) refl;
+  prints = is_printed_as s f _ mnemonic g
+      (short_r t ht ▹ short_comma ▹ short_r v hv ▹ short_comma ▹ short_open ▹ short_r n hn ▹ short_comma ▹ short_hash ▹ short_number k hk ▹ short_close
+      ▹ short_bang ▹ tt) refl (omega arith) refl;
 }
 reads_pair s f t v n (suc (suc p)) u w k mnemonic g ht hv hn hp hu hw some hk = absurd (omega arith)
 reads_pair s f t v n p (suc (suc u)) w k mnemonic g ht hv hn hp hu hw some hk = absurd (omega arith)
@@ -366,7 +282,7 @@ pub row_t13 : (i : T13) → Asks (instr.Scalar (scalar.T13 i))
 row_t13 i =
     let us = r i.t.value ∷ comma ∷ r i.u.value ∷ comma ∷ indexed i.p.value i.add.value i.w.value (r i.n.value) (4 * i.i.value) in
     let small : 4 * i.i.value < 2 ^ 32 = let lt = i.i.in_range in omega (arith, lt) in
-    let is = reads_pair (pair_mnemonic i.name) [] i.t.value i.u.value i.n.value i.p.value i.add.value i.w.value (4 * i.i.value) (mnemonic_pair i.name) refl
+    let is = reads_pair (pair_mnemonic i.name) [] i.t.value i.u.value i.n.value i.p.value i.add.value i.w.value (4 * i.i.value) (grind arith) refl
     i.t.in_range
     i.u.in_range i.n.in_range i.p.in_range i.add.in_range i.w.in_range (first_rule i.name _ _ _ _ _ i.rules) small in
     subst (λ (name : List ℕ). Asks (instr.Scalar (scalar.T13 i)) (word name ∷ us)) (append-nil (pair_mnemonic i.name))
@@ -374,7 +290,7 @@ row_t13 i =
       code = code_t13 i;
       has = refl;
       asks =
-          λ pc a. asks_memory (pair_mnemonic i.name) [] us pc a (code_t13 i) (mnemonic_pair i.name) refl (no_pair i.name)
+          λ pc a. asks_memory (pair_mnemonic i.name) [] us pc a (code_t13 i) (grind arith) refl (no_pair i.name)
           (asks_pair i.name us ∙ ap (λ (x : Places). Some (pair_code (pair_base i.name) x)) is.places
           ∙ ap (λ (x : ℕ). Some x) (pair_sum (pair_base i.name) i.t.value i.u.value i.n.value i.p.value i.add.value i.w.value i.i.value));
       prints = is.prints;

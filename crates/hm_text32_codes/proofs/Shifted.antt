@@ -15,7 +15,7 @@ use Rattle.hm_isa.specs.Rules.{is_general}
 use Rattle.hm_isa.specs.Standing.{◌↑◌}
 use Rattle.hm_layout.specs.Wide.{HasWord}
 use Rattle.hm_tokens.specs.Tokens.{word}
-use Rattle.hm_text32_codes.specs.Codes.{code_of, shifted_code}
+use Rattle.hm_text32_codes.specs.Codes.{code_of, data_base, shifted_code}
 use Rattle.hm_text32_codes.specs.Operands.{word_value}
 use Rattle.hm_text_rows.specs.Operands.{is_vector_name}
 use Rattle.hm_text32_rows.specs.Rows.{and_shifted, data_tokens, moved_tokens, shift_number, single_tokens}
@@ -122,55 +122,12 @@ read_sum op s n d m ty j l ht hj hl =
 
 -- THREE REGISTERS
 pub mnemonic_data : (name : DataName) (s : ℕ) → s < 2 → is_mnemonic (data_mnemonic name s) ≡ true
-mnemonic_data data_.And zero lt = refl
-mnemonic_data data_.And (suc zero) lt = refl
-mnemonic_data data_.Bic zero lt = refl
-mnemonic_data data_.Bic (suc zero) lt = refl
-mnemonic_data data_.Orr zero lt = refl
-mnemonic_data data_.Orr (suc zero) lt = refl
-mnemonic_data data_.Orn zero lt = refl
-mnemonic_data data_.Orn (suc zero) lt = refl
-mnemonic_data data_.Eor zero lt = refl
-mnemonic_data data_.Eor (suc zero) lt = refl
-mnemonic_data data_.Add zero lt = refl
-mnemonic_data data_.Add (suc zero) lt = refl
-mnemonic_data data_.Adc zero lt = refl
-mnemonic_data data_.Adc (suc zero) lt = refl
-mnemonic_data data_.Sbc zero lt = refl
-mnemonic_data data_.Sbc (suc zero) lt = refl
-mnemonic_data data_.Sub zero lt = refl
-mnemonic_data data_.Sub (suc zero) lt = refl
-mnemonic_data data_.Rsb zero lt = refl
-mnemonic_data data_.Rsb (suc zero) lt = refl
-mnemonic_data name (suc (suc s)) lt = absurd (omega arith)
-
-abbrev pub data_base : DataName → ℕ → ℕ
-data_base name s = 0xea000000 + operation name ↑ 21 + s ↑ 20
+mnemonic_data name s lt = grind arith
 
 asks_data : (name : DataName) (s n d m v x : ℕ) → s < 2
     → code_of (data_mnemonic name s) (given false 0 false d n m v x) ≡ Some (shifted_code (data_base name s) n d m v x)
 unfolding code_of
-asks_data data_.And zero n d m v x lt = refl
-asks_data data_.And (suc zero) n d m v x lt = refl
-asks_data data_.Bic zero n d m v x lt = refl
-asks_data data_.Bic (suc zero) n d m v x lt = refl
-asks_data data_.Orr zero n d m v x lt = refl
-asks_data data_.Orr (suc zero) n d m v x lt = refl
-asks_data data_.Orn zero n d m v x lt = refl
-asks_data data_.Orn (suc zero) n d m v x lt = refl
-asks_data data_.Eor zero n d m v x lt = refl
-asks_data data_.Eor (suc zero) n d m v x lt = refl
-asks_data data_.Add zero n d m v x lt = refl
-asks_data data_.Add (suc zero) n d m v x lt = refl
-asks_data data_.Adc zero n d m v x lt = refl
-asks_data data_.Adc (suc zero) n d m v x lt = refl
-asks_data data_.Sbc zero n d m v x lt = refl
-asks_data data_.Sbc (suc zero) n d m v x lt = refl
-asks_data data_.Sub zero n d m v x lt = refl
-asks_data data_.Sub (suc zero) n d m v x lt = refl
-asks_data data_.Rsb zero n d m v x lt = refl
-asks_data data_.Rsb (suc zero) n d m v x lt = refl
-asks_data name (suc (suc s)) n d m v x lt = absurd (omega arith)
+asks_data name s n d m v x lt = grind arith
 
 -- the letters of a row, each in its range
 record Fields (s n d m ty j l : ℕ) : Type 0 where
@@ -195,21 +152,10 @@ data_answers k name s n d m ty j l is has =
     has
 
 -- TESTS
-pub mnemonic_test : (name : DataName) → may_test name ≡ true → is_mnemonic (test_mnemonic name) ≡ true
-mnemonic_test data_.And e = refl
-mnemonic_test data_.Eor e = refl
-mnemonic_test data_.Add e = refl
-mnemonic_test data_.Sub e = refl
-mnemonic_test name e = absurd cc
-
 asks_test : (name : DataName) (n m v x : ℕ) → may_test name ≡ true
     → code_of (test_mnemonic name) (given false 0 false n m v x 0) ≡ Some (shifted_code (data_base name 1) n 15 m v x)
 unfolding code_of
-asks_test data_.And n m v x e = refl
-asks_test data_.Eor n m v x e = refl
-asks_test data_.Add n m v x e = refl
-asks_test data_.Sub n m v x e = refl
-asks_test name n m v x e = absurd cc
+asks_test name n m v x e = grind arith
 
 and_no : (b : Bool) → (b && false) ≡ false
 and_no true = refl
@@ -233,70 +179,35 @@ test_answers : (k : Instr) (name : DataName) (n m ty j l : ℕ) → n < 16 → m
     → Answers k (and_shifted (two (test_mnemonic name ++ wide) (r n) (r m)) ty (number_of j l))
 test_answers k name n m ty j l hn hm ht hj hl may has =
     answers_of k _ (data_sum (operation name) 1 n j 15 l ty m) (test_mnemonic name) _
-    (two_shifted (test_mnemonic name) wide _ _ _ _ _ _ _ ty (number_of j l) (mnemonic_test name may) suffix_wide (a_register n hn) (a_register m hm) ht
+    (two_shifted (test_mnemonic name) wide _ _ _ _ _ _ _ ty (number_of j l) (grind arith) suffix_wide (a_register n hn) (a_register m hm) ht
     (five_below j l hj hl))
     (asks_test name n m _ _ may ∙ ap (λ (w : ℕ). Some w) (read_sum (operation name) 1 n 15 m ty j l ht hj hl))
     has
 
 -- MOVES
-pub mnemonic_move : (s : ℕ) → s < 2 → is_mnemonic (move_mnemonic data_.Orr s) ≡ true
-mnemonic_move zero lt = refl
-mnemonic_move (suc zero) lt = refl
-mnemonic_move (suc (suc s)) lt = absurd (omega arith)
-
-pub mnemonic_not : (s : ℕ) → s < 2 → is_mnemonic (move_mnemonic data_.Orn s) ≡ true
-mnemonic_not zero lt = refl
-mnemonic_not (suc zero) lt = refl
-mnemonic_not (suc (suc s)) lt = absurd (omega arith)
-
-mnemonic_carry : (s : ℕ) → s < 2 → is_mnemonic (carry_mnemonic s) ≡ true
-mnemonic_carry zero lt = refl
-mnemonic_carry (suc zero) lt = refl
-mnemonic_carry (suc (suc s)) lt = absurd (omega arith)
-
-mnemonic_turn : (ty s : ℕ) → ty < 4 → s < 2 → is_mnemonic (turn_mnemonic ty s) ≡ true
-mnemonic_turn ty zero ht lt = below_holds (λ j. is_mnemonic (turn_mnemonic j 0)) 4 ty refl ht
-mnemonic_turn ty (suc zero) ht lt = below_holds (λ j. is_mnemonic (turn_mnemonic j 1)) 4 ty refl ht
-mnemonic_turn ty (suc (suc s)) ht lt = absurd (omega arith)
-
 asks_not : (s d m v x : ℕ) → s < 2
     → code_of (move_mnemonic data_.Orn s) (given false 0 false d m v x 0) ≡ Some (shifted_code (data_base data_.Orn s) 15 d m v x)
 unfolding code_of
-asks_not zero d m v x lt = refl
-asks_not (suc zero) d m v x lt = refl
-asks_not (suc (suc s)) d m v x lt = absurd (omega arith)
+asks_not s d m v x lt = grind arith
 
 asks_move : (s d m : ℕ) → s < 2 → code_of (move_mnemonic data_.Orr s) (given false 0 false d m 0 0 0) ≡ Some (shifted_code (data_base data_.Orr s) 15 d m 0 0)
 unfolding code_of
-asks_move zero d m lt = refl
-asks_move (suc zero) d m lt = refl
-asks_move (suc (suc s)) d m lt = absurd (omega arith)
+asks_move s d m lt = grind arith
 
 asks_carry : (s d m : ℕ) → s < 2 → code_of (carry_mnemonic s) (given false 0 false d m 0 0 0) ≡ Some (data_sum 2 s 15 0 d 0 3 m)
 unfolding code_of
-asks_carry zero d m lt = ap (λ (w : ℕ). Some w) (omega arith)
-asks_carry (suc zero) d m lt = ap (λ (w : ℕ). Some w) (omega arith)
-asks_carry (suc (suc s)) d m lt = absurd (omega arith)
+asks_carry s d m lt = grind arith
 
 asks_turn : (ty s d m x : ℕ) → ty < 4 → s < 2
     → code_of (turn_mnemonic ty s) (numbered false 0 false d m x 0 0) ≡ Some (shifted_code (data_base data_.Orr s) 15 d m ty x)
 unfolding code_of
-asks_turn zero zero d m x ht lt = ap (λ (w : ℕ). Some w) (omega arith)
-asks_turn zero (suc zero) d m x ht lt = ap (λ (w : ℕ). Some w) (omega arith)
-asks_turn (suc zero) zero d m x ht lt = ap (λ (w : ℕ). Some w) (omega arith)
-asks_turn (suc zero) (suc zero) d m x ht lt = ap (λ (w : ℕ). Some w) (omega arith)
-asks_turn (suc (suc zero)) zero d m x ht lt = ap (λ (w : ℕ). Some w) (omega arith)
-asks_turn (suc (suc zero)) (suc zero) d m x ht lt = ap (λ (w : ℕ). Some w) (omega arith)
-asks_turn (suc (suc (suc zero))) zero d m x ht lt = ap (λ (w : ℕ). Some w) (omega arith)
-asks_turn (suc (suc (suc zero))) (suc zero) d m x ht lt = ap (λ (w : ℕ). Some w) (omega arith)
-asks_turn (suc (suc (suc (suc ty)))) s d m x ht lt = absurd (omega arith)
-asks_turn ty (suc (suc s)) d m x ht lt = absurd (omega arith)
+asks_turn ty s d m x ht lt = grind arith
 
 not_answers : (k : Instr) (s d m ty j l : ℕ) → Fields s 15 d m ty j l → HasWord k (data_sum 3 s 15 j d l ty m)
     → Answers k (and_shifted (two (move_mnemonic data_.Orn s ++ wide) (r d) (r m)) ty (number_of j l))
 not_answers k s d m ty j l is has =
     answers_of k _ (data_sum 3 s 15 j d l ty m) (move_mnemonic data_.Orn s) _
-    (two_shifted (move_mnemonic data_.Orn s) wide _ _ _ _ _ _ _ ty (number_of j l) (mnemonic_not s is.flag) suffix_wide (a_register d is.result)
+    (two_shifted (move_mnemonic data_.Orn s) wide _ _ _ _ _ _ _ ty (number_of j l) (let lt = is.flag in grind arith) suffix_wide (a_register d is.result)
     (a_register m is.last)
     is.kind (five_below j l is.high is.low))
     (asks_not s d m _ _ is.flag ∙ ap (λ (w : ℕ). Some w) (read_sum 3 s 15 d m ty j l is.kind is.high is.low))
@@ -311,14 +222,14 @@ carry_answers : (k : Instr) (s d m ty j l : ℕ) → Fields s 15 d m ty j l → 
 carry_answers k s d m ty j l is ht hj hl has =
     answers_of k _ (data_sum 2 s 15 j d l ty m) (carry_mnemonic s) _
     (bare (λ name. two name (r d) (r m)) (carry_mnemonic s) _
-    (reads_two (carry_mnemonic s) [] _ _ _ _ _ _ _ (mnemonic_carry s is.flag) no_suffix (a_register d is.result) (a_register m is.last)))
+    (reads_two (carry_mnemonic s) [] _ _ _ _ _ _ _ (let lt = is.flag in grind arith) no_suffix (a_register d is.result) (a_register m is.last)))
     (rw (ht, hj, hl) (asks_carry s d m is.flag)) has
 
 plain_answers : (k : Instr) (s d m ty j l : ℕ) → Fields s 15 d m ty j l → ty ≡ 0 → j ≡ 0 → l ≡ 0 → HasWord k (data_sum 2 s 15 j d l ty m)
     → Answers k (two (move_mnemonic data_.Orr s ++ wide) (r d) (r m))
 plain_answers k s d m ty j l is ht hj hl has =
     answers_of k _ (data_sum 2 s 15 j d l ty m) (move_mnemonic data_.Orr s) _
-    (reads_two (move_mnemonic data_.Orr s) wide _ _ _ _ _ _ _ (mnemonic_move s is.flag) suffix_wide (a_register d is.result) (a_register m is.last))
+    (reads_two (move_mnemonic data_.Orr s) wide _ _ _ _ _ _ _ (let lt = is.flag in grind arith) suffix_wide (a_register d is.result) (a_register m is.last))
     (rw (ht, hj, hl) (asks_move s d m is.flag ∙ ap (λ (w : ℕ). Some w) (shifted_sum 2 s 15 d m 0 0 0 0 0 refl refl refl))) has
 
 -- a number that is written is read as it is
@@ -332,7 +243,7 @@ turn_answers k s d m ty j l is none has =
     let kept = ap (λ (x : ℕ). x % 32 / 4) (number_kept ty (number_of j l) none) in
     let low_kept = ap (λ (x : ℕ). x % 4) (number_kept ty (number_of j l) none) in
     answers_of k _ (data_sum 2 s 15 j d l ty m) (turn_mnemonic ty s) _
-    (reads_two_constant (turn_mnemonic ty s) wide _ _ _ _ _ _ _ _ (mnemonic_turn ty s is.kind is.flag) suffix_wide (a_register d is.result)
+    (reads_two_constant (turn_mnemonic ty s) wide _ _ _ _ _ _ _ _ (let lt = is.kind in let flag = is.flag in grind arith) suffix_wide (a_register d is.result)
     (a_register m is.last)
     (number_small ty (number_of j l) below))
     (asks_turn ty s d m _ is.kind is.flag

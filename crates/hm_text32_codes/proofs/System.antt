@@ -7,7 +7,6 @@ use Rattle.hm_isa.specs.declared.Instr.TheVariants as instr
 use Rattle.hm_isa.specs.declared.Scalar.TheVariants as scalar
 use Rattle.hm_isa.specs.declared.Branch.TheVariants as branch
 use Rattle.hm_isa.specs.declared.wide.StackName.{StackName}
-use Rattle.hm_isa.specs.declared.wide.StackName.TheVariants as stack
 use Rattle.hm_isa.specs.declared.wide.T15.{T15}
 use Rattle.hm_isa.specs.declared.jumps.T17.{T17}
 use Rattle.hm_isa.specs.declared.jumps.TableName.{TableName}
@@ -16,12 +15,9 @@ use Rattle.hm_isa.specs.declared.jumps.Dls.{Dls}
 use Rattle.hm_isa.specs.declared.jumps.Dlstp.{Dlstp}
 use Rattle.hm_isa.specs.declared.jumps.T23.TheVariants as t23
 use Rattle.hm_isa.specs.declared.system.BarrierName.{BarrierName}
-use Rattle.hm_isa.specs.declared.system.BarrierName.TheVariants as barrier
 use Rattle.hm_isa.specs.declared.system.Barrier.{Barrier}
 use Rattle.hm_isa.specs.declared.system.ReadName.{ReadName}
-use Rattle.hm_isa.specs.declared.system.ReadName.TheVariants as read
 use Rattle.hm_isa.specs.declared.system.WrittenName.{WrittenName}
-use Rattle.hm_isa.specs.declared.system.WrittenName.TheVariants as written
 use Rattle.hm_isa.specs.declared.system.SystemMoveName.{SystemMoveName}
 use Rattle.hm_isa.specs.declared.system.SystemMoveName.TheVariants as move
 use Rattle.hm_isa.specs.declared.system.LaneMoveName.{LaneMoveName}
@@ -42,22 +38,18 @@ use Rattle.hm_tokens.specs.Ranges.{singles}
 use Rattle.hm_tokens.specs.Tokens.{number, word, close_brace, close_bracket, comma, hash_mark, minus_mark, open_brace, open_bracket}
 use Rattle.hm_text32_codes.specs.declared.operands.Operands.{Operands}
 use Rattle.hm_text32_codes.specs.Codes.{code_of}
-use Rattle.hm_text32_codes.specs.Operands.{word_value}
+use Rattle.hm_text32_codes.specs.Operands.{special_number, word_value}
 use Rattle.hm_text_rows.specs.Operands.{is_vector_name}
 use Rattle.hm_text32_rows.specs.Rows.{barrier_tokens, doubles, lane_tokens, special_tokens, system_tokens, table_tokens}
 use Rattle.hm_text32_rows.specs.Mnemonics.{barrier_mnemonic, element_suffix, read_name, stack_mnemonic, wide, written_name}
 use Rattle.hm_text_rows.specs.Shapes.{constant, r, two}
-use Rattle.hm_text_rows.proofs.Words.{at_below, below_holds, below_is, cut, is_name, is_mnemonic}
+use Rattle.hm_text_rows.proofs.Words.{◌▹◌, at_below, below_holds, below_is, cut, is_name, is_mnemonic}
 use Rattle.hm_text_rows.proofs.Printed.{is_printed, is_printed_as, short_close, short_close_brace, short_comma, short_hash, short_minus, short_number}
 use Rattle.hm_text_rows.proofs.Printed.{short_open, short_open_brace, short_word}
 use Rattle.hm_text32_codes.proofs.Forms.{Answers, Operand, Reads, Suffix, a_register, a_vector, answers_of, bare, given, min_small, no_suffix, numbered}
 use Rattle.hm_text32_codes.proofs.Forms.{reads_constant, reads_none, reads_two, suffix_element, suffix_wide, suffix_words, second_numbered}
 
 -- T15
-mnemonic_stack : (name : StackName) → is_mnemonic (stack_mnemonic name) ≡ true
-mnemonic_stack stack.Vpush = refl
-mnemonic_stack stack.Vpop = refl
-
 a_double : (n : ℕ) → n < 16 → Operand (double_name n) n false
 unfolding word_value is_vector_name
 a_double n lt = record {
@@ -71,14 +63,14 @@ reads_doubles : (s w x : List ℕ) (b c : Bool) (m n : ℕ) → is_mnemonic s �
 unfolding singles
 reads_doubles s w x b c m n mnemonic p o hw hx = record {
   asks = rw (cut s [] mnemonic no_suffix.is, no_suffix.size, p.vector, p.value, o.value) refl;
-  prints = is_printed_as s [] _ mnemonic refl (short_open_brace, (short_word w p.is, (short_minus, (short_word x o.is, (short_close_brace, tt))))) refl
+  prints = is_printed_as s [] _ mnemonic refl (short_open_brace ▹ short_word w p.is ▹ short_minus ▹ short_word x o.is ▹ short_close_brace ▹ tt) refl
       (omega arith) (rw (hw, hx) refl);
 }
 
 no_register : (n : ℕ) → n < 16 → register_in (double_name n) ≡ None
 no_register n lt =
     at_below (λ k. register_in (double_name k) ≡ None) 16 n
-    (refl, (refl, (refl, (refl, (refl, (refl, (refl, (refl, (refl, (refl, (refl, (refl, (refl, (refl, (refl, (refl, tt))))))))))))))))
+    (refl ▹ refl ▹ refl ▹ refl ▹ refl ▹ refl ▹ refl ▹ refl ▹ refl ▹ refl ▹ refl ▹ refl ▹ refl ▹ refl ▹ refl ▹ refl ▹ tt)
     lt
 
 last_and_one : (v k : ℕ) → 0 < k → v + k - 1 + 1 - v ≡ k
@@ -87,8 +79,7 @@ last_and_one v k lt = omega arith
 asks_stack : (name : StackName) (v w k : ℕ) → w + 1 - v ≡ k
     → code_of (stack_mnemonic name) (given false 0 false v w 0 0 0) ≡ Some (stack_base name + v ↑ 12 + k ↑ 1)
 unfolding code_of
-asks_stack stack.Vpush v w k e = rw e refl
-asks_stack stack.Vpop v w k e = rw e refl
+asks_stack name v w k e = grind arith
 
 some_doubles : (v k : ℕ) → (nat_lt 0 k && nat_lt (v + k) 17) ≡ true → (0 < k) × (v + k < 17)
 some_doubles v k e =
@@ -102,7 +93,7 @@ row_t15 i =
     let p = some_doubles v k i.rules in
     answers_of _ _ (code_t15 i) _ _
     (bare (λ name. word name ∷ doubles v k) (stack_mnemonic i.name) _
-    (reads_doubles _ _ _ _ _ _ _ (mnemonic_stack i.name) (a_double v i.v.in_range) (a_double (v + k - 1) (omega (arith, p.0, p.1))) (no_register v i.v.in_range)
+    (reads_doubles _ _ _ _ _ _ _ (grind arith) (a_double v i.v.in_range) (a_double (v + k - 1) (omega (arith, p.0, p.1))) (no_register v i.v.in_range)
     (no_register (v + k - 1) (omega (arith, p.0, p.1)))))
     (asks_stack i.name v (v + k - 1) k (last_and_one v k p.0)) refl
 
@@ -111,7 +102,7 @@ reads_table : (s w x : List ℕ) (b c : Bool) (m n : ℕ) → is_mnemonic s ≡ 
     → Reads (word (s ++ []) ∷ open_bracket ∷ word w ∷ comma ∷ word x ∷ close_bracket ∷ []) s (given false 0 b m n 0 0 0)
 reads_table s w x b c m n mnemonic p o = record {
   asks = rw (cut s [] mnemonic no_suffix.is, no_suffix.size, p.vector, p.value, o.value) refl;
-  prints = is_printed s [] _ mnemonic refl (short_open, (short_word w p.is, (short_comma, (short_word x o.is, (short_close, tt))))) refl (omega arith) refl;
+  prints = is_printed s [] _ mnemonic refl (short_open ▹ short_word w p.is ▹ short_comma ▹ short_word x o.is ▹ short_close ▹ tt) refl (omega arith) refl;
 }
 
 reads_scaled_table : (s w x k : List ℕ) (b c e : Bool) (m n v : ℕ) → is_mnemonic s ≡ true → Operand w m b → Operand x n c → Operand k v e
@@ -119,13 +110,9 @@ reads_scaled_table : (s w x k : List ℕ) (b c e : Bool) (m n v : ℕ) → is_mn
 reads_scaled_table s w x k b c e m n v mnemonic p o t = record {
   asks = rw (cut s [] mnemonic no_suffix.is, no_suffix.size, p.vector, p.value, o.value, t.value) refl;
   prints =
-      is_printed s [] _ mnemonic refl (
-        short_open,
-        (
-          short_word w p.is,
-          (short_comma, (short_word x o.is, (short_comma, (short_word k t.is, (short_hash, (short_number 1 (omega arith), (short_close, tt))))))),
-        ),
-      )
+      is_printed s [] _ mnemonic refl
+      (short_open ▹ short_word w p.is ▹ short_comma ▹ short_word x o.is ▹ short_comma ▹ short_word k t.is ▹ short_hash ▹ short_number 1 (omega arith)
+      ▹ short_close ▹ tt)
       refl (omega arith) refl;
 }
 
@@ -157,60 +144,24 @@ row_t17 i =
     answers_of _ _ (code_t17 i) t.0 t.1 t.2 t.3 refl
 
 -- T18
-abbrev read_number : ReadName → ℕ
-read_number read.Apsr = 0
-read_number read.Ipsr = 5
-read_number read.Msp = 8
-read_number read.Psp = 9
-read_number read.Primask = 16
-read_number read.Basepri = 17
-read_number read.Control = 20
-
-a_read : (name : ReadName) → Operand (read_name name) (read_number name) false
+a_read : (name : ReadName) → Operand (read_name name) (special_number name) false
 unfolding word_value is_vector_name
-a_read read.Apsr = record { value = refl; vector = refl; is = refl }
-a_read read.Ipsr = record { value = refl; vector = refl; is = refl }
-a_read read.Msp = record { value = refl; vector = refl; is = refl }
-a_read read.Psp = record { value = refl; vector = refl; is = refl }
-a_read read.Primask = record { value = refl; vector = refl; is = refl }
-a_read read.Basepri = record { value = refl; vector = refl; is = refl }
-a_read read.Control = record { value = refl; vector = refl; is = refl }
+a_read name = grind arith
 
-asks_mrs : (name : ReadName) (d : ℕ) → code_of (codes "mrs") (given false 0 false d (read_number name) 0 0 0) ≡ Some (read_base name + d ↑ 8)
+asks_mrs : (name : ReadName) (d : ℕ) → code_of (codes "mrs") (given false 0 false d (special_number name) 0 0 0) ≡ Some (read_base name + d ↑ 8)
 unfolding code_of
-asks_mrs read.Apsr d = ap (λ (w : ℕ). Some w) (omega arith)
-asks_mrs read.Ipsr d = ap (λ (w : ℕ). Some w) (omega arith)
-asks_mrs read.Msp d = ap (λ (w : ℕ). Some w) (omega arith)
-asks_mrs read.Psp d = ap (λ (w : ℕ). Some w) (omega arith)
-asks_mrs read.Primask d = ap (λ (w : ℕ). Some w) (omega arith)
-asks_mrs read.Basepri d = ap (λ (w : ℕ). Some w) (omega arith)
-asks_mrs read.Control d = ap (λ (w : ℕ). Some w) (omega arith)
+asks_mrs name d = grind arith
 
 abbrev written_number : WrittenName → ℕ
-written_number written.Apsr = 0
-written_number written.Msp = 8
-written_number written.Psp = 9
-written_number written.Primask = 16
-written_number written.Basepri = 17
-written_number written.Control = 20
+written_number name = written_base name % 2 ^ 8
 
 a_written : (name : WrittenName) → Operand (written_name name) (written_number name) false
 unfolding word_value is_vector_name
-a_written written.Apsr = record { value = refl; vector = refl; is = refl }
-a_written written.Msp = record { value = refl; vector = refl; is = refl }
-a_written written.Psp = record { value = refl; vector = refl; is = refl }
-a_written written.Primask = record { value = refl; vector = refl; is = refl }
-a_written written.Basepri = record { value = refl; vector = refl; is = refl }
-a_written written.Control = record { value = refl; vector = refl; is = refl }
+a_written name = grind arith
 
 asks_msr : (name : WrittenName) (n : ℕ) → code_of (codes "msr") (given false 0 false (written_number name) n 0 0 0) ≡ Some (written_base name + n ↑ 16)
 unfolding code_of
-asks_msr written.Apsr n = ap (λ (w : ℕ). Some w) (omega arith)
-asks_msr written.Msp n = ap (λ (w : ℕ). Some w) (omega arith)
-asks_msr written.Psp n = ap (λ (w : ℕ). Some w) (omega arith)
-asks_msr written.Primask n = ap (λ (w : ℕ). Some w) (omega arith)
-asks_msr written.Basepri n = ap (λ (w : ℕ). Some w) (omega arith)
-asks_msr written.Control n = ap (λ (w : ℕ). Some w) (omega arith)
+asks_msr name n = grind arith
 
 pub row_t18 : (i : T18) → Answers (instr.Scalar (scalar.T18 i)) (special_tokens i)
 row_t18 (t18.Read i) =
@@ -221,22 +172,13 @@ row_t18 (t18.Write i) =
     (reads_two (codes "msr") _ _ _ _ _ _ _ _ refl no_suffix (a_written i.name) (a_register i.n.value i.n.in_range)) (asks_msr i.name _) refl
 
 -- T19
-mnemonic_barrier : (name : BarrierName) → is_mnemonic (barrier_mnemonic name) ≡ true
-mnemonic_barrier barrier.Dsb = refl
-mnemonic_barrier barrier.Dmb = refl
-mnemonic_barrier barrier.Isb = refl
-
 asks_barrier : (name : BarrierName) (o : ℕ) → code_of (barrier_mnemonic name) (given false 0 false o 0 0 0 0) ≡ Some (barrier_base name + o)
 unfolding code_of
-asks_barrier barrier.Dsb o = refl
-asks_barrier barrier.Dmb o = refl
-asks_barrier barrier.Isb o = refl
+asks_barrier name o = grind arith
 
 asks_bare_barrier : (name : BarrierName) → code_of (barrier_mnemonic name) (given true 0 false 0 0 0 0 0) ≡ Some (barrier_base name + 15)
 unfolding code_of
-asks_bare_barrier barrier.Dsb = refl
-asks_bare_barrier barrier.Dmb = refl
-asks_bare_barrier barrier.Isb = refl
+asks_bare_barrier name = grind arith
 
 asks_nop : code_of (codes "nop") (given true 0 false 0 0 0 0 0) ≡ Some 0xf3af8000
 unfolding code_of
@@ -247,14 +189,14 @@ row_t19 t19.Nop = answers_of _ _ 0xf3af8000 (codes "nop") _ (reads_none (codes "
 row_t19 (t19.Barrier i) =
     answers_of _ _ (code_barrier i) _ _
     (bare (λ name. word name ∷ constant i.o.value) (barrier_mnemonic i.name) _
-    (reads_constant (barrier_mnemonic i.name) [] 0 i.o.value (mnemonic_barrier i.name) no_suffix (let lt = i.o.in_range in omega arith)))
+    (reads_constant (barrier_mnemonic i.name) [] 0 i.o.value (grind arith) no_suffix (let lt = i.o.in_range in omega arith)))
     (asks_barrier i.name _) refl
 
 -- the other spelling, where the number is 15
 pub other_barrier_answers : (i : Barrier) → i.o.value ≡ 15 → Answers (instr.Scalar (scalar.T19 (t19.Barrier i))) (word (barrier_mnemonic i.name) ∷ [])
 other_barrier_answers i e =
     answers_of _ _ (code_barrier i) _ _
-    (bare (λ name. word name ∷ []) (barrier_mnemonic i.name) _ (reads_none (barrier_mnemonic i.name) [] 0 (mnemonic_barrier i.name) no_suffix))
+    (bare (λ name. word name ∷ []) (barrier_mnemonic i.name) _ (reads_none (barrier_mnemonic i.name) [] 0 (grind arith) no_suffix))
     (rw e (asks_bare_barrier i.name)) refl
 
 -- T21
@@ -312,7 +254,7 @@ reads_to_lane s f w y b c z d x t mnemonic g p hx o = record {
   asks = rw (cut s f mnemonic g.is, g.size, p.vector, p.value, o.value, min_small x hx) refl;
   prints =
       is_printed s f _ mnemonic g.is
-      (short_word w p.is, (short_open, (short_number x hx, (short_close, (short_comma, (short_word y o.is, tt)))))) refl (omega arith) refl;
+      (short_word w p.is ▹ short_open ▹ short_number x hx ▹ short_close ▹ short_comma ▹ short_word y o.is ▹ tt) refl (omega arith) refl;
 }
 
 reads_from_lane : (s f w y : List ℕ) (b c : Bool) (z d x t : ℕ) → is_mnemonic s ≡ true → Suffix f z → Operand w d b → x < 2 ^ 32 → Operand y t c
@@ -321,7 +263,7 @@ reads_from_lane s f w y b c z d x t mnemonic g p hx o = record {
   asks = rw (cut s f mnemonic g.is, g.size, o.vector, p.value, o.value, min_small x hx) refl;
   prints =
       is_printed s f _ mnemonic g.is
-      (short_word y o.is, (short_comma, (short_word w p.is, (short_open, (short_number x hx, (short_close, tt)))))) refl (omega arith) refl;
+      (short_word y o.is ▹ short_comma ▹ short_word w p.is ▹ short_open ▹ short_number x hx ▹ short_close ▹ tt) refl (omega arith) refl;
 }
 
 asks_lane : (d x t : ℕ) → code_of (codes "vmov") (second_numbered false 2 true d x t 0 0) ≡ Some (0xee000b10 + (x % 2) ↑ 21 + d ↑ 17 + (x / 2) ↑ 16 + t ↑ 12)

@@ -1,17 +1,39 @@
 -- The code that a text carelessly asks for: what decides is whether the row that has this code has the text.
 use Rattle.std.specs.Prelude.{ℕ, zero, suc, Bool, ◌+◌, ◌-◌, ◌*◌, ◌/◌, ◌%◌, ◌^◌, ◌&&◌, List, [], ◌∷◌, length, Option, Some, None, option_map, codes, bytes_eq}
 use Rattle.std.specs.Prelude.{nat_lt, ◌==◌, if◌then◌else◌}
+use Rattle.hm_isa.specs.declared.data.DataName.{DataName}
+use Rattle.hm_isa.specs.declared.data.DataName.TheVariants as data_
+use Rattle.hm_isa.specs.declared.data.SaturateName.{SaturateName}
+use Rattle.hm_isa.specs.declared.data.SaturateName.TheVariants as saturate
+use Rattle.hm_isa.specs.declared.jumps.LoopEndName.TheVariants as loop_end
+use Rattle.hm_isa.specs.declared.jumps.T23.TheVariants as t23
+use Rattle.hm_isa.specs.declared.system.LaneMoveName.{LaneMoveName}
+use Rattle.hm_isa.specs.declared.system.LaneMoveName.TheVariants as lane
+use Rattle.hm_isa.specs.declared.system.ReadName.TheVariants as read
+use Rattle.hm_isa.specs.declared.system.T19.TheVariants as t19
+use Rattle.hm_isa.specs.declared.system.WrittenName.TheVariants as written
+use Rattle.hm_isa.specs.ArithCodes.{accumulate_base, bits_base, long_product_base, operation_base, select_base, wide_extend_base, wide_shift_base}
+use Rattle.hm_isa.specs.Code.{pair_base, stack_base, wide_access_base, wide_list_base}
+use Rattle.hm_isa.specs.DataCodes.{extract_base, half_base, operation, saturate_base, wide_sum_base}
 use Rattle.hm_isa.specs.Distances.{alike}
+use Rattle.hm_isa.specs.JumpCodes.{code_t23, loop_end_base, table_base, wide_branch_base}
 use Rattle.hm_isa.specs.Standing.{◌↑◌}
+use Rattle.hm_isa.specs.SystemCodes.{barrier_base, code_t19, lane_move_base, read_base, written_base}
 use Rattle.hm_text_base.specs.Spans.{span}
 use Rattle.hm_tokens.specs.Tokens.{Tok, word, number, mark, point}
 use Rattle.hm_text_rows.specs.Labels.{distance}
+use Rattle.hm_text_rows.specs.Mnemonics.{access_mnemonic, extend_mnemonic}
+use Rattle.hm_text_rows.specs.Names.{access_names, bit_values, extend_names, named, named_with_bit, sum_names}
 use Rattle.hm_text_rows.specs.Operands.{bits_of, braced, branch_condition_in, first, operand, size_of}
+use Rattle.hm_text32_rows.specs.Mnemonics.{accumulate_mnemonic, barrier_mnemonic, bits_mnemonic, carry_mnemonic, data_mnemonic, extract_mnemonic}
+use Rattle.hm_text32_rows.specs.Mnemonics.{half_mnemonic, long_mnemonic, move_mnemonic, operation_mnemonic, pair_mnemonic, saturate_mnemonic}
+use Rattle.hm_text32_rows.specs.Mnemonics.{select_mnemonic, stack_mnemonic, table_mnemonic, test_mnemonic, turn_mnemonic, wide_branch_mnemonic}
+use Rattle.hm_text32_rows.specs.Mnemonics.{wide_list_mnemonic, wide_shift_mnemonic, wide_sum_mnemonic}
 use Rattle.hm_text32_codes.specs.declared.operands.Operands.{Operands}
 use Rattle.hm_text32_codes.specs.declared.operands.Places.{Places}
-use Rattle.hm_text32_codes.specs.Bases.{access_base_in, accumulate_base_in, barrier_base_in, branch_base_in, data_base_in, extend_base_in, extract_base_in}
-use Rattle.hm_text32_codes.specs.Bases.{flagged_base_in, half_base_in, list_base_in, long_base_in, move_base_in, pair_base_in, select_base_in, stack_base_in}
-use Rattle.hm_text32_codes.specs.Bases.{table_base_in, test_base_in, three_base, turn_base_in, two_base, wide_sum_base_in}
+use Rattle.hm_text32_codes.specs.Names.{accumulate_names, barrier_names, bits_names, data_names, extract_names, half_names, long_names, move_names}
+use Rattle.hm_text32_codes.specs.Names.{operation_names, pair_names, saturate_names, select_names, shift_numbers, stack_names, table_names, test_names}
+use Rattle.hm_text32_codes.specs.Names.{wide_branch_names, wide_list_names, wide_shift_names}
 use Rattle.hm_text32_codes.specs.Operands.{read_operands, read_places, second_bang, value}
 
 -- FIELDS AT THEIR PLACES
@@ -20,10 +42,28 @@ abbrev pub of_three : ℕ → ℕ → ℕ → ℕ → ℕ → ℕ
 of_three base n a d m = base + n ↑ 16 + a ↑ 12 + d ↑ 8 + m
 
 -- ROWS, by their mnemonics
--- a code with a base, where a test holds
-abbrev pub where_ : Bool → (ℕ → ℕ) → Option ℕ → Option ℕ
-where_ b code (Some base) = if b then Some (code base) else None
+-- the code of a name or base, where a test holds
+abbrev pub where_ : {A : Type 0} → Bool → (A → ℕ) → Option A → Option ℕ
+where_ b code (Some x) = if b then Some (code x) else None
 where_ b code None = None
+
+-- T2: the code of AND to RSB, their registers and shift 0, with s where the flags tell the result (DDI0553, "Data-processing (shifted register)")
+abbrev pub data_base : DataName → ℕ → ℕ
+data_base name s = 0xea000000 + operation name ↑ 21 + s ↑ 20
+
+-- T2: the base code of AND to RSB, by the mnemonic (DDI0553, "Data-processing (shifted register)")
+abbrev pub data_base_in : List ℕ → Option ℕ
+data_base_in s = option_map (λ p. data_base p.0 p.1) (named_with_bit data_mnemonic data_names s)
+
+-- T2: the base code of TST, TEQ, CMN and CMP, which tell the flags alone, by the mnemonic (DDI0553, "Data-processing (shifted register)")
+abbrev pub test_base_in : List ℕ → Option ℕ
+test_base_in s = option_map (λ name. data_base name 1) (named test_mnemonic test_names s)
+
+-- T2: the base code of MOV and MVN, and of RRX, which is a rotation by 0, by the mnemonic (DDI0553, "Data-processing (shifted register)")
+abbrev pub move_base_in : List ℕ → Option ℕ
+move_base_in s =
+    first (option_map (λ p. data_base p.0 p.1) (named_with_bit move_mnemonic move_names s))
+    (option_map (λ f. data_base data_.Orr f + 3 ↑ 4) (named carry_mnemonic bit_values s))
 
 -- CONSTANTS of T1
 -- T1: how far a byte of a constant is shifted left that has its highest bit, by at most n (DDI0553, "Data-processing (modified immediate)")
@@ -50,7 +90,7 @@ constant_code base n d x = of_three (base + 0x06000000 + (x / 2048) ↑ 26) n (x
 
 -- T1: the code of AND to RSB with a constant (DDI0553, "Data-processing (modified immediate)")
 abbrev pub code_constant_data : List ℕ → Operands → Option ℕ
-code_constant_data s o = where_ o.third_is_number (λ b. constant_code b o.second o.first (constant_field o.third)) (first (data_base_in s) (flagged_base_in s))
+code_constant_data s o = where_ o.third_is_number (λ b. constant_code b o.second o.first (constant_field o.third)) (data_base_in s)
 
 -- T1: the code of TST, TEQ, CMN and CMP with a constant (DDI0553, "Data-processing (modified immediate)")
 abbrev pub code_constant_test : List ℕ → Operands → Option ℕ
@@ -70,7 +110,7 @@ shifted_code base n d m ty k = of_three (base + (k % 4) ↑ 6 + ty ↑ 4) n (k %
 
 -- T2: the code of AND to RSB with a shifted register (DDI0553, "Data-processing (shifted register)")
 abbrev pub code_data : List ℕ → Operands → Option ℕ
-code_data s o = option_map (λ b. shifted_code b o.second o.first o.third o.fourth o.fifth) (first (data_base_in s) (flagged_base_in s))
+code_data s o = option_map (λ b. shifted_code b o.second o.first o.third o.fourth o.fifth) (data_base_in s)
 
 -- T2: the code of TST, TEQ, CMN and CMP with a shifted register (DDI0553, "Data-processing (shifted register)")
 abbrev pub code_test : List ℕ → Operands → Option ℕ
@@ -82,62 +122,76 @@ code_move s o = option_map (λ b. shifted_code b 15 o.first o.second o.third o.f
 
 -- T2: the code of LSL, LSR, ASR and ROR by a constant (DDI0553, "Data-processing (shifted register)")
 abbrev pub code_turn : List ℕ → Operands → Option ℕ
-code_turn s o = where_ o.third_is_number (λ b. shifted_code b 15 o.first o.second 0 o.third) (turn_base_in s)
+code_turn s o =
+    where_ o.third_is_number (λ p. shifted_code (data_base data_.Orr p.1) 15 o.first o.second p.0 o.third) (named_with_bit turn_mnemonic shift_numbers s)
 
 -- T1 and T2: the code of an operation with a constant or a shifted register, by the mnemonic
 -- (DDI0553, "Data-processing (modified immediate)" and "Data-processing (shifted register)")
 abbrev pub code_shifted : List ℕ → Operands → Option ℕ
 code_shifted s o = first (code_constant s o) (first (code_turn s o) (first (code_data s o) (first (code_test s o) (code_move s o))))
 
--- T8 and T11: the code of LSL to ROR by a register, and of MUL, SDIV and UDIV (DDI0553, "LSL (register)", "MUL" and their kin)
-abbrev pub code_three : List ℕ → Operands → Option ℕ
-code_three s o = option_map (λ b. of_three b o.second 0 o.first o.third) (three_base s)
+-- T8: the code of LSL to ROR by a register (DDI0553, "LSL (register)", "LSR (register)", "ASR (register)" and "ROR (register)")
+abbrev pub code_wide_shift : List ℕ → Operands → Option ℕ
+code_wide_shift s o =
+    option_map (λ p. of_three (wide_shift_base p.0 + p.1 ↑ 20) o.second 0 o.first o.third) (named_with_bit wide_shift_mnemonic wide_shift_names s)
+
+-- T11: the code of MUL, SDIV and UDIV (DDI0553, "MUL", "SDIV" and "UDIV")
+abbrev pub code_operation : List ℕ → Operands → Option ℕ
+code_operation s o = option_map (λ name. of_three (operation_base name) o.second 0 o.first o.third) (named operation_mnemonic operation_names s)
 
 -- T10: the code of REV, REV16, RBIT, REVSH and CLZ (DDI0553, "REV", "REV16", "RBIT", "REVSH" and "CLZ")
-abbrev pub code_two : List ℕ → Operands → Option ℕ
-code_two s o = option_map (λ b. of_three b o.second 0 o.first o.second) (two_base s)
+abbrev pub code_bits : List ℕ → Operands → Option ℕ
+code_bits s o = option_map (λ name. of_three (bits_base name) o.second 0 o.first o.second) (named bits_mnemonic bits_names s)
 
 -- T9: the code of SXTH, UXTH, SXTB and UXTB (DDI0553, "SXTH", "UXTH", "SXTB" and "UXTB")
 abbrev pub code_extend : List ℕ → Operands → Option ℕ
-code_extend s o = option_map (λ b. of_three (b + (o.fourth / 8) ↑ 4) 0 0 o.first o.second) (extend_base_in s)
+code_extend s o =
+    option_map (λ name. of_three (wide_extend_base name + (o.fourth / 8) ↑ 4) 0 0 o.first o.second) (named extend_mnemonic extend_names s)
 
 -- T11: the code of MLA and MLS (DDI0553, "MLA" and "MLS")
 abbrev pub code_accumulate : List ℕ → Operands → Option ℕ
-code_accumulate s o = option_map (λ b. of_three b o.second o.fourth o.first o.third) (accumulate_base_in s)
+code_accumulate s o =
+    option_map (λ name. of_three (accumulate_base name) o.second o.fourth o.first o.third) (named accumulate_mnemonic accumulate_names s)
 
 -- T11: the code of SMULL, UMULL, SMLAL and UMLAL (DDI0553, "SMULL", "UMULL", "SMLAL" and "UMLAL")
 abbrev pub code_long : List ℕ → Operands → Option ℕ
-code_long s o = option_map (λ b. of_three b o.third o.first o.second o.fourth) (long_base_in s)
+code_long s o = option_map (λ name. of_three (long_product_base name) o.third o.first o.second o.fourth) (named long_mnemonic long_names s)
 
 -- T20: the code of CSEL, CSINC, CSINV and CSNEG (DDI0553, "CSEL", "CSINC", "CSINV" and "CSNEG")
 abbrev pub code_select : List ℕ → Operands → Option ℕ
-code_select s o = option_map (λ b. of_three (b + o.fourth ↑ 4) o.second 0 o.first o.third) (select_base_in s)
+code_select s o = option_map (λ name. of_three (select_base name + o.fourth ↑ 4) o.second 0 o.first o.third) (named select_mnemonic select_names s)
 
 -- T3: the code of ADDW and SUBW (DDI0553, "ADD (immediate)", "SUB (immediate)" and "ADR")
 abbrev pub code_wide_sum : List ℕ → Operands → Option ℕ
 code_wide_sum s o =
-    option_map (λ b. of_three (b + (o.third / 2048) ↑ 26) o.second (o.third / 256 % 8) o.first (o.third % 256)) (wide_sum_base_in s)
+    option_map (λ name. of_three (wide_sum_base name + (o.third / 2048) ↑ 26) o.second (o.third / 256 % 8) o.first (o.third % 256))
+    (named wide_sum_mnemonic sum_names s)
 
 -- T4: the code of MOVW and MOVT (DDI0553, "MOV (immediate)" and "MOVT")
 abbrev pub code_half : List ℕ → Operands → Option ℕ
 code_half s o =
-    option_map (λ b. of_three (b + (o.second / 2048 % 2) ↑ 26) (o.second / 4096) (o.second / 256 % 8) o.first (o.second % 256)) (half_base_in s)
+    option_map (λ name. of_three (half_base name + (o.second / 2048 % 2) ↑ 26) (o.second / 4096) (o.second / 256 % 8) o.first (o.second % 256))
+    (named half_mnemonic half_names s)
 
--- T5: the code of SSAT and USAT to so many bits, made of the base code (DDI0553, "SSAT" and "USAT")
-abbrev pub saturate_code : ℕ → ℕ → Operands → ℕ
-saturate_code base s o = of_three (base + (o.fourth / 2) ↑ 21 + (o.fifth % 4) ↑ 6 + s) o.third (o.fifth / 4) o.first 0
+-- T5: what a number of bits is coded as: less 1 for SSAT (DDI0553, "SSAT" and "USAT")
+abbrev pub coded_bits : SaturateName → ℕ → ℕ
+coded_bits saturate.Ssat n = n - 1
+coded_bits saturate.Usat n = n
 
--- T5: the code of SSAT, whose bits are coded less 1, and of USAT (DDI0553, "SSAT" and "USAT")
+-- T5: the code of SSAT and USAT (DDI0553, "SSAT" and "USAT")
+abbrev pub saturate_code : SaturateName → Operands → ℕ
+saturate_code name o =
+    of_three (saturate_base name + (o.fourth / 2) ↑ 21 + (o.fifth % 4) ↑ 6 + coded_bits name o.second) o.third (o.fifth / 4) o.first 0
+
+-- T5: the code of SSAT and USAT, by the mnemonic (DDI0553, "SSAT" and "USAT")
 abbrev pub code_saturate : List ℕ → Operands → Option ℕ
-code_saturate s o =
-    if bytes_eq s (codes "ssat") then Some (saturate_code 0xf3000000 (o.second - 1) o)
-    else if bytes_eq s (codes "usat") then Some (saturate_code 0xf3800000 o.second o)
-    else None
+code_saturate s o = option_map (λ name. saturate_code name o) (named saturate_mnemonic saturate_names s)
 
 -- T6: the code of SBFX and UBFX (DDI0553, "SBFX" and "UBFX")
 abbrev pub code_extract : List ℕ → Operands → Option ℕ
 code_extract s o =
-    option_map (λ b. of_three (b + (o.third % 4) ↑ 6 + (o.fourth - 1)) o.second (o.third / 4) o.first 0) (extract_base_in s)
+    option_map (λ name. of_three (extract_base name + (o.third % 4) ↑ 6 + (o.fourth - 1)) o.second (o.third / 4) o.first 0)
+    (named extract_mnemonic extract_names s)
 
 -- T7: the code of BFI of a register and of BFC, whose n is 15, at this bit and of this width (DDI0553, "BFI" and "BFC")
 abbrev pub insert_code : ℕ → ℕ → ℕ → Operands → ℕ
@@ -152,51 +206,52 @@ code_insert s o =
 
 -- T15: the code of VPUSH and VPOP of the first register and the last (DDI0553, "VPUSH" and "VPOP")
 abbrev pub code_stack : List ℕ → Operands → Option ℕ
-code_stack s o = option_map (λ b. b + o.first ↑ 12 + (o.second + 1 - o.first) ↑ 1) (stack_base_in s)
+code_stack s o = option_map (λ name. stack_base name + o.first ↑ 12 + (o.second + 1 - o.first) ↑ 1) (named stack_mnemonic stack_names s)
 
 -- T17: the code of TBB and TBH (DDI0553, "TBB, TBH")
 abbrev pub code_table : List ℕ → Operands → Option ℕ
-code_table s o = option_map (λ b. of_three b o.first 0 0 o.second) (table_base_in s)
+code_table s o = option_map (λ name. of_three (table_base name) o.first 0 0 o.second) (named table_mnemonic table_names s)
 
 -- T19: the code of DSB, DMB and ISB, whose option is 15 where none is written (DDI0553, "DSB", "DMB" and "ISB")
 abbrev pub code_barrier : List ℕ → Operands → Option ℕ
-code_barrier s o = option_map (λ b. if o.is_bare then b + 15 else b + o.first) (barrier_base_in s)
+code_barrier s o = option_map (λ name. barrier_base name + (if o.is_bare then 15 else o.first)) (named barrier_mnemonic barrier_names s)
 
--- T18 and T21: the code of MRS, MSR, VMRS and VMSR (DDI0553, "MRS", "MSR (register)", "VMRS" and "VMSR")
+-- T18 and T21: the code of MRS and MSR, made of that of APSR, whose number is 0, and of VMRS and VMSR (DDI0553, "MRS", "MSR (register)", "VMRS" and "VMSR")
 abbrev pub code_special : List ℕ → Operands → Option ℕ
 code_special s o =
-    if bytes_eq s (codes "mrs") then Some (of_three 0xf3ef8000 0 0 o.first o.second)
-    else if bytes_eq s (codes "msr") then Some (of_three 0xf3808800 o.second 0 0 o.first)
+    if bytes_eq s (codes "mrs") then Some (of_three (read_base read.Apsr) 0 0 o.first o.second)
+    else if bytes_eq s (codes "msr") then Some (of_three (written_base written.Apsr) o.second 0 0 o.first)
     else if bytes_eq s (codes "vmrs") then Some (of_three 0xeef00a10 o.second o.first 0 0)
     else if bytes_eq s (codes "vmsr") then Some (of_three 0xeee00a10 o.first o.second 0 0)
     else None
 
 -- T22: register q, lane x, register t (DDI0553, "VMOV (general-purpose register to vector lane)" and "VMOV (vector lane to general-purpose register)")
-abbrev pub lane_code : ℕ → ℕ → ℕ → ℕ → ℕ
-lane_code base d x t = base + (x % 2) ↑ 21 + d ↑ 17 + (x / 2) ↑ 16 + t ↑ 12
+abbrev pub lane_code : LaneMoveName → ℕ → ℕ → ℕ → ℕ
+lane_code name d x t = lane_move_base name + (x % 2) ↑ 21 + d ↑ 17 + (x / 2) ↑ 16 + t ↑ 12
 
 -- T22: the code of VMOV between a core register and a word of a vector
 -- (DDI0553, "VMOV (general-purpose register to vector lane)" and "VMOV (vector lane to general-purpose register)")
 abbrev pub code_lane : List ℕ → Operands → Option ℕ
 code_lane s o =
     if bytes_eq s (codes "vmov") then Some
-    (if o.is_vector then lane_code 0xee000b10 o.first o.second o.third else lane_code 0xee100b10 o.second o.third o.first)
+    (if o.is_vector then lane_code lane.ToLane o.first o.second o.third else lane_code lane.FromLane o.second o.third o.first)
     else None
 
 -- T19 and T23: the code of NOP, which is wide, and of DLS, DLSTP and LCTP (DDI0553, "NOP", "WLS, DLS, WLSTP, DLSTP" and "LCTP")
 abbrev pub code_alone : List ℕ → Operands → Option ℕ
 code_alone s o =
-    if bytes_eq s (codes "nop") then Some 0xf3af8000
+    if bytes_eq s (codes "nop") then Some (code_t19 t19.Nop)
     else if bytes_eq s (codes "dls") then Some (of_three 0xf040e001 o.second 0 0 0)
     else if bytes_eq s (codes "dlstp") then Some (of_three (0xf000e001 + o.size ↑ 20) o.second 0 0 0)
-    else if bytes_eq s (codes "lctp") then Some 0xf00fe001
+    else if bytes_eq s (codes "lctp") then Some (code_t23 t23.Lctp)
     else None
 
 -- ALL ROWS
 -- the code of rows T8 to T11 and T20, by the mnemonic
 abbrev pub code_of_arith : List ℕ → Operands → Option ℕ
 code_of_arith s o =
-    first (code_three s o) (first (code_two s o) (first (code_extend s o) (first (code_accumulate s o) (first (code_long s o) (code_select s o)))))
+    first (code_wide_shift s o)
+    (first (code_operation s o) (first (code_bits s o) (first (code_extend s o) (first (code_accumulate s o) (first (code_long s o) (code_select s o))))))
 
 -- the code of rows T3 to T7, by the mnemonic
 abbrev pub code_of_data : List ℕ → Operands → Option ℕ
@@ -244,7 +299,7 @@ access_code base o = if o.third_is_number then offset_code base o else base + o.
 
 -- T12: the code of STR, STRH, STRB, LDR, LDRH, LDRB, LDRSH and LDRSB (DDI0553, "LDR (immediate)", "LDR (literal)", "LDR (register)" and the like of each)
 abbrev pub code_access : List ℕ → Places → Option ℕ
-code_access s o = option_map (λ b. access_code b o) (access_base_in s)
+code_access s o = option_map (λ name. access_code (wide_access_base name) o) (named access_mnemonic access_names s)
 
 -- T13: a base code with P, U and W at bits 24, 23 and 21, the three registers, and the offset in words
 -- (DDI0553, "STRD (immediate)", "LDRD (immediate)" and "LDRD (literal)")
@@ -253,11 +308,13 @@ pair_code base o = base + o.before ↑ 24 + o.added ↑ 23 + o.back ↑ 21 + o.t
 
 -- T13: the code of STRD and LDRD (DDI0553, "STRD (immediate)", "LDRD (immediate)" and "LDRD (literal)")
 abbrev pub code_pair : List ℕ → Places → Option ℕ
-code_pair s o = option_map (λ b. pair_code b o) (pair_base_in s)
+code_pair s o = option_map (λ name. pair_code (pair_base name) o) (named pair_mnemonic pair_names s)
 
 -- T14: the code of STMIA, LDMIA, STMDB and LDMDB (DDI0553, "STM, STMIA, STMEA", "LDM, LDMIA, LDMFD", "STMDB, STMFD" and "LDMDB, LDMEA")
 abbrev pub code_list : List ℕ → List Tok → Option ℕ
-code_list s ts = option_map (λ b. b + second_bang ts ↑ 21 + value (operand 0 ts) ↑ 16 + bits_of (braced ts)) (list_base_in s)
+code_list s ts =
+    option_map (λ name. wide_list_base name + second_bang ts ↑ 21 + value (operand 0 ts) ↑ 16 + bits_of (braced ts))
+    (named wide_list_mnemonic wide_list_names s)
 
 -- the code of rows T12 to T14, by the mnemonic
 unfoldable pub code_of_memory : List ℕ → List Tok → Option ℕ
@@ -287,7 +344,8 @@ code_conditional s pc a = option_map (λ c. conditional_code c (distance (pc + 4
 
 -- T16: the code of B without a condition or BL that stands at pc and goes to the address a (DDI0553, "B", encoding T4, and "BL", encoding T1)
 abbrev pub code_always : List ℕ → ℕ → ℕ → Option ℕ
-code_always s pc a = option_map (λ b. always_code b (distance (pc + 4) a / 2)) (branch_base_in s)
+code_always s pc a =
+    option_map (λ name. always_code (wide_branch_base name) (distance (pc + 4) a / 2)) (named wide_branch_mnemonic wide_branch_names s)
 
 -- T23: a base code with half the distance, whose lowest bit stands highest (DDI0553, "WLS, DLS, WLSTP, DLSTP" and "LE, LETP")
 abbrev pub with_field : ℕ → ℕ → ℕ
@@ -306,8 +364,8 @@ abbrev pub code_loop : List ℕ → List ℕ → List Tok → ℕ → ℕ → Op
 code_loop s suffix ts pc a =
     if bytes_eq s (codes "wls") then Some (with_field (0xf040c001 + value (operand 1 ts) ↑ 16) (ahead pc a))
     else if bytes_eq s (codes "wlstp") then Some (with_field (0xf000c001 + size_of suffix ↑ 20 + value (operand 1 ts) ↑ 16) (ahead pc a))
-    else if bytes_eq s (codes "letp") then Some (with_field 0xf01fc001 (behind_it pc a))
-    else if bytes_eq s (codes "le") then Some (with_field (if length ts == 1 then 0xf02fc001 else 0xf00fc001) (behind_it pc a))
+    else if bytes_eq s (codes "letp") then Some (with_field (loop_end_base loop_end.Letp) (behind_it pc a))
+    else if bytes_eq s (codes "le") then Some (with_field (loop_end_base (if length ts == 1 then loop_end.Le else loop_end.LeLr)) (behind_it pc a))
     else None
 
 -- the code of T16, and of T23 with a label, by the mnemonic, at pc and with a label that names the address a

@@ -1,41 +1,44 @@
 -- What a text gives numbers for, read carelessly: nothing is refused, since the row that is found is asked for its text.
-use Rattle.std.specs.Prelude.{ℕ, List, [], ◌∷◌, length, codes, bytes_eq, Option, Some, None, ◌==◌, if◌then◌else◌}
+use Rattle.std.specs.Prelude.{ℕ, ◌%◌, ◌^◌, List, [], ◌∷◌, length, codes, bytes_eq, Option, Some, None, option_map, ◌==◌, if◌then◌else◌}
+use Rattle.hm_isa.specs.declared.system.ReadName.{ReadName}
+use Rattle.hm_isa.specs.SystemCodes.{read_base}
 use Rattle.hm_tokens.specs.declared.marks.Mark.TheVariants as marks
 use Rattle.hm_tokens.specs.Names.{condition_in, double_in, register_in, vector_in}
 use Rattle.hm_tokens.specs.Tokens.{Tok, is_the_mark}
-use Rattle.hm_text_rows.specs.Operands.{added, back_in, before, first_of, given_or, is_number, is_vector, operand, size_of, value_by}
+use Rattle.hm_text_rows.specs.Names.{named}
+use Rattle.hm_text_rows.specs.Operands.{added, back_in, before, first, first_of, given_or, is_number, is_vector, operand, size_of, value_by}
+use Rattle.hm_text32_rows.specs.Mnemonics.{carry_mnemonic, read_name, shift_mnemonic}
 use Rattle.hm_text32_codes.specs.declared.operands.Operands.{Operands}
 use Rattle.hm_text32_codes.specs.declared.operands.Places.{Places}
+use Rattle.hm_text32_codes.specs.Names.{shift_numbers, special_names}
 
--- shifts by their numbers; that through the carry is a rotation by 0
+-- the number of the shift that a word names; RRX is a rotation by 0
 abbrev pub shift_in : List ℕ → Option ℕ
-shift_in w =
-    if bytes_eq w (codes "lsl") then Some 0
-    else if bytes_eq w (codes "lsr") then Some 1
-    else if bytes_eq w (codes "asr") then Some 2
-    else if bytes_eq w (codes "ror") then Some 3
-    else if bytes_eq w (codes "rrx") then Some 3
-    else None
+shift_in w = first (named shift_mnemonic shift_numbers w) (if bytes_eq w (carry_mnemonic 0) then Some 3 else None)
 
--- zero and special registers
+-- T18: SYSm, the number of a special register, the lowest byte of a code that reads it (DDI0553, "MRS")
+abbrev pub special_number : ReadName → ℕ
+special_number name = read_base name % 2 ^ 8
+
+-- the number of the special register that a word names
+abbrev pub special_in : List ℕ → Option ℕ
+special_in w = option_map special_number (named read_name special_names w)
+
+-- zero, and what VMRS and VMSR name
 abbrev pub other_value : List ℕ → ℕ
 other_value w =
     if bytes_eq w (codes "zr") then 15
-    else if bytes_eq w (codes "ipsr") then 5
-    else if bytes_eq w (codes "msp") then 8
-    else if bytes_eq w (codes "psp") then 9
-    else if bytes_eq w (codes "primask") then 16
-    else if bytes_eq w (codes "basepri") then 17
-    else if bytes_eq w (codes "control") then 20
     else if bytes_eq w (codes "fpscr") then 1
     else if bytes_eq w (codes "vpr") then 12
     else if bytes_eq w (codes "p0") then 13
     else if bytes_eq w (codes "apsr_nzcv") then 15
     else 0
 
--- the number that a word stands for: a register's, a vector's, a condition's, a half of a vector's, a shift's or another's
+-- the number that a word stands for: a register's, a vector's, a condition's, a half of a vector's, a shift's, a special register's or another's
 unfoldable pub word_value : List ℕ → ℕ
-word_value w = given_or (register_in w) (given_or (vector_in w) (given_or (condition_in w) (given_or (double_in w) (given_or (shift_in w) (other_value w)))))
+word_value w =
+    given_or (register_in w)
+    (given_or (vector_in w) (given_or (condition_in w) (given_or (double_in w) (given_or (shift_in w) (given_or (special_in w) (other_value w))))))
 
 -- the number that a token stands for
 abbrev pub value : Tok → ℕ

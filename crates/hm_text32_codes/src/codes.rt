@@ -1,28 +1,34 @@
 //! The code that a text carelessly asks for: what decides is whether the row that has this code has the text.
 
 ghost use Rattle.std.specs.Prelude.{◌≡◌, ◌<◌, ◌^◌, map};
-ghost use Rattle.hm_text32_codes.specs.Codes.{code_accumulate, code_alone, code_barrier, code_constant, code_constant_data, code_constant_move};
-ghost use Rattle.hm_text32_codes.specs.Codes.{code_constant_test};
-ghost use Rattle.hm_text32_codes.specs.Codes.{code_cut, code_data, code_extend, code_extract, code_half, code_in, code_insert, code_lane, code_long, code_move};
-ghost use Rattle.hm_text32_codes.specs.Codes.{code_of, code_of_arith, code_of_data, code_of_other, code_saturate, code_select, code_shifted, code_special};
-ghost use Rattle.hm_text32_codes.specs.Codes.{code_stack, code_table, code_test, code_three, code_turn, code_two, code_wide_sum, constant_code, insert_code};
-ghost use Rattle.hm_text32_codes.specs.Codes.{lane_code, of_three, plain_code_in, saturate_code, shifted_code};
-ghost use Rattle.hm_text_rows.specs.Operands.{first};
-ghost use Rattle.hm_text32_codes.specs.Bases.{data_base_in, flagged_base_in};
+ghost use Rattle.hm_text32_codes.specs.Codes.{code_accumulate, code_alone, code_barrier, code_bits, code_constant, code_constant_data, code_constant_move};
+ghost use Rattle.hm_text32_codes.specs.Codes.{code_constant_test, code_cut, code_data, code_extend, code_extract, code_half, code_in, code_insert, code_lane};
+ghost use Rattle.hm_text32_codes.specs.Codes.{code_long, code_move, code_of, code_of_arith, code_of_data, code_of_other, code_operation, code_saturate};
+ghost use Rattle.hm_text32_codes.specs.Codes.{code_select, code_shifted, code_special, code_stack, code_table, code_test, code_turn, code_wide_shift};
+ghost use Rattle.hm_text32_codes.specs.Codes.{code_wide_sum, coded_bits, constant_code, data_base, data_base_in, insert_code, lane_code, move_base_in};
+ghost use Rattle.hm_text32_codes.specs.Codes.{of_three, plain_code_in, saturate_code, shifted_code, test_base_in};
 ghost use Rattle.hm_text_base.specs.Spans.{span};
 ghost use Rattle.hm_tokens.specs.Tokens.{point, tok};
 
-use crate::bases::{
-    accumulate_base_in, barrier_base_in, data_base_in, extend_base_in, extract_base_in,
-    flagged_base_in, half_base_in, long_base_in, move_base_in, select_base_in, stack_base_in,
-    table_base_in, test_base_in, three_base, turn_base_in, two_base, wide_sum_base_in,
-};
 use crate::constants::constant_field;
 use crate::jumps::label_code_in;
 use crate::memory_codes::memory_code_in;
+use crate::names::{
+    accumulate_name, barrier_name, bits_name, carry_flag, data_name, extract_name, half_name,
+    long_name, move_name, operation_name, saturate_name, select_name, stack_name, table_name,
+    test_name, turn_number, wide_shift_name, wide_sum_name,
+};
 use crate::operands::{Operands, read_operands};
+use hm_enc32_control::{base_of_barrier, base_of_lane_move, base_of_table, encode_t19};
+use hm_enc32_data::{
+    base_of_accumulate, base_of_bits, base_of_extract, base_of_half, base_of_long_product,
+    base_of_operation, base_of_saturate, base_of_select, base_of_wide_extend, base_of_wide_shift,
+    base_of_wide_sum, operation,
+};
+use hm_enc32_memory::base_of_stack;
+use hm_isa::{DataName, LaneMoveName, SaturateName, T19};
 use hm_text_base::span;
-use hm_text_rows::is;
+use hm_text_rows::{extend_name, is};
 use hm_tokens::Token;
 
 /// Fields of a row of up to four registers.
@@ -31,6 +37,38 @@ fn of_three(base: u64, n: u32, a: u32, d: u32, m: u32) -> u64
     ensures { result ≡ of_three base n a d m }
 {
     base + (u64::from(n) << 16) + (u64::from(a) << 12) + (u64::from(d) << 8) + u64::from(m)
+}
+
+/// A row T2 with no registers and no shift, with s where the flags tell the result.
+fn data_base(name: DataName, s: u8) -> u32
+    ensures { result ≡ data_base name s }
+{
+    0xea00_0000 + (operation(name) << 21) + (u32::from(s) << 20)
+}
+
+/// The base of a row T1 or T2 that has a register for the result and a first one.
+fn data_base_in(mnemonic: &[u8]) -> Option<u32>
+    ensures { result ≡ data_base_in mnemonic.now }
+{
+    let (name, s) = data_name(mnemonic)?;
+    Some(data_base(name, s))
+}
+
+/// The base of a row T1 or T2 that is a test.
+fn test_base_in(mnemonic: &[u8]) -> Option<u32>
+    ensures { result ≡ test_base_in mnemonic.now }
+{
+    Some(data_base(test_name(mnemonic)?, 1))
+}
+
+/// The base of a row T1 or T2 with no first register.
+fn move_base_in(mnemonic: &[u8]) -> Option<u32>
+    ensures { result ≡ move_base_in mnemonic.now }
+{
+    if let Some((name, s)) = move_name(mnemonic) {
+        return Some(data_base(name, s));
+    }
+    Some(data_base(DataName::Orr, carry_flag(mnemonic)?) + (3 << 4))
 }
 
 /// A row T1 with a constant that is coded as x.
@@ -46,7 +84,7 @@ fn constant_code(base: u64, n: u32, d: u32, x: u32) -> u64
 fn code_constant_data(mnemonic: &[u8], o: &Operands) -> Option<u64>
     ensures { result ≡ code_constant_data mnemonic.now o.now }
 {
-    let base = u64::from(any_data_base(mnemonic)?);
+    let base = u64::from(data_base_in(mnemonic)?);
     if !o.third_is_number {
         return None;
     }
@@ -97,21 +135,11 @@ fn shifted_code(base: u64, n: u32, d: u32, m: u32, ty: u32, k: u32) -> u64
     of_three(base, n, k % 32 / 4, d, m)
 }
 
-/// The base of a row T2 of three registers.
-fn any_data_base(mnemonic: &[u8]) -> Option<u32>
-    ensures { result ≡ first (data_base_in mnemonic.now) (flagged_base_in mnemonic.now) }
-{
-    if let Some(base) = data_base_in(mnemonic) {
-        return Some(base);
-    }
-    flagged_base_in(mnemonic)
-}
-
 /// Rows T2 of three registers.
 fn code_data(mnemonic: &[u8], o: &Operands) -> Option<u64>
     ensures { result ≡ code_data mnemonic.now o.now }
 {
-    let base = u64::from(any_data_base(mnemonic)?);
+    let base = u64::from(data_base_in(mnemonic)?);
     Some(shifted_code(base, o.second, o.first, o.third, o.fourth, o.fifth))
 }
 
@@ -135,11 +163,12 @@ fn code_move(mnemonic: &[u8], o: &Operands) -> Option<u64>
 fn code_turn(mnemonic: &[u8], o: &Operands) -> Option<u64>
     ensures { result ≡ code_turn mnemonic.now o.now }
 {
-    let base = u64::from(turn_base_in(mnemonic)?);
+    let (ty, s) = turn_number(mnemonic)?;
     if !o.third_is_number {
         return None;
     }
-    Some(shifted_code(base, 15, o.first, o.second, 0, o.third))
+    let base = u64::from(data_base(DataName::Orr, s));
+    Some(shifted_code(base, 15, o.first, o.second, ty, o.third))
 }
 
 /// Rows T1 and T2.
@@ -161,19 +190,28 @@ fn code_shifted(mnemonic: &[u8], o: &Operands) -> Option<u64>
     code_move(mnemonic, o)
 }
 
-/// Rows T8, and T11 of three registers.
-fn code_three(mnemonic: &[u8], o: &Operands) -> Option<u64>
-    ensures { result ≡ code_three mnemonic.now o.now }
+/// Rows T8.
+fn code_wide_shift(mnemonic: &[u8], o: &Operands) -> Option<u64>
+    ensures { result ≡ code_wide_shift mnemonic.now o.now }
 {
-    let base = three_base(mnemonic)?;
+    let (name, s) = wide_shift_name(mnemonic)?;
+    let base = u64::from(base_of_wide_shift(name)) + (u64::from(s) << 20);
+    Some(of_three(base, o.second, 0, o.first, o.third))
+}
+
+/// Rows T11 of three registers.
+fn code_operation(mnemonic: &[u8], o: &Operands) -> Option<u64>
+    ensures { result ≡ code_operation mnemonic.now o.now }
+{
+    let base = base_of_operation(operation_name(mnemonic)?);
     Some(of_three(u64::from(base), o.second, 0, o.first, o.third))
 }
 
 /// Rows T10.
-fn code_two(mnemonic: &[u8], o: &Operands) -> Option<u64>
-    ensures { result ≡ code_two mnemonic.now o.now }
+fn code_bits(mnemonic: &[u8], o: &Operands) -> Option<u64>
+    ensures { result ≡ code_bits mnemonic.now o.now }
 {
-    let base = two_base(mnemonic)?;
+    let base = base_of_bits(bits_name(mnemonic)?);
     Some(of_three(u64::from(base), o.second, 0, o.first, o.second))
 }
 
@@ -181,7 +219,7 @@ fn code_two(mnemonic: &[u8], o: &Operands) -> Option<u64>
 fn code_extend(mnemonic: &[u8], o: &Operands) -> Option<u64>
     ensures { result ≡ code_extend mnemonic.now o.now }
 {
-    let base = u64::from(extend_base_in(mnemonic)?);
+    let base = u64::from(base_of_wide_extend(extend_name(mnemonic)?));
     Some(of_three(
         base + (u64::from(o.fourth / 8) << 4),
         0,
@@ -195,7 +233,7 @@ fn code_extend(mnemonic: &[u8], o: &Operands) -> Option<u64>
 fn code_accumulate(mnemonic: &[u8], o: &Operands) -> Option<u64>
     ensures { result ≡ code_accumulate mnemonic.now o.now }
 {
-    let base = accumulate_base_in(mnemonic)?;
+    let base = base_of_accumulate(accumulate_name(mnemonic)?);
     Some(of_three(u64::from(base), o.second, o.fourth, o.first, o.third))
 }
 
@@ -203,7 +241,7 @@ fn code_accumulate(mnemonic: &[u8], o: &Operands) -> Option<u64>
 fn code_long(mnemonic: &[u8], o: &Operands) -> Option<u64>
     ensures { result ≡ code_long mnemonic.now o.now }
 {
-    let base = long_base_in(mnemonic)?;
+    let base = base_of_long_product(long_name(mnemonic)?);
     Some(of_three(u64::from(base), o.third, o.first, o.second, o.fourth))
 }
 
@@ -211,7 +249,7 @@ fn code_long(mnemonic: &[u8], o: &Operands) -> Option<u64>
 fn code_select(mnemonic: &[u8], o: &Operands) -> Option<u64>
     ensures { result ≡ code_select mnemonic.now o.now }
 {
-    let base = u64::from(select_base_in(mnemonic)?);
+    let base = u64::from(base_of_select(select_name(mnemonic)?));
     Some(of_three(
         base + (u64::from(o.fourth) << 4),
         o.second,
@@ -225,7 +263,7 @@ fn code_select(mnemonic: &[u8], o: &Operands) -> Option<u64>
 fn code_wide_sum(mnemonic: &[u8], o: &Operands) -> Option<u64>
     ensures { result ≡ code_wide_sum mnemonic.now o.now }
 {
-    let base = u64::from(wide_sum_base_in(mnemonic)?);
+    let base = u64::from(base_of_wide_sum(wide_sum_name(mnemonic)?));
     let x = o.third;
     Some(of_three(
         base + (u64::from(x / 2048) << 26),
@@ -240,7 +278,7 @@ fn code_wide_sum(mnemonic: &[u8], o: &Operands) -> Option<u64>
 fn code_half(mnemonic: &[u8], o: &Operands) -> Option<u64>
     ensures { result ≡ code_half mnemonic.now o.now }
 {
-    let base = u64::from(half_base_in(mnemonic)?);
+    let base = u64::from(base_of_half(half_name(mnemonic)?));
     let x = o.second;
     Some(of_three(
         base + (u64::from(x / 2048 % 2) << 26),
@@ -251,15 +289,24 @@ fn code_half(mnemonic: &[u8], o: &Operands) -> Option<u64>
     ))
 }
 
-/// A row T5, with the number of bits as it is coded.
-fn saturate_code(base: u64, s: u32, o: &Operands) -> u64
-    requires { base < 2 ^ 40 }
-    ensures { result ≡ saturate_code base s o.now }
+/// What a row T5 codes its number of bits as.
+fn coded_bits(name: SaturateName, n: u32) -> u32
+    ensures { result ≡ coded_bits name n }
 {
-    let base = base
+    match name {
+        SaturateName::Ssat => n.saturating_sub(1),
+        SaturateName::Usat => n,
+    }
+}
+
+/// A row T5.
+fn saturate_code(name: SaturateName, o: &Operands) -> u64
+    ensures { result ≡ saturate_code name o.now }
+{
+    let base = u64::from(base_of_saturate(name))
         + (u64::from(o.fourth / 2) << 21)
         + (u64::from(o.fifth % 4) << 6)
-        + u64::from(s);
+        + u64::from(coded_bits(name, o.second));
     of_three(base, o.third, o.fifth / 4, o.first, 0)
 }
 
@@ -267,20 +314,14 @@ fn saturate_code(base: u64, s: u32, o: &Operands) -> u64
 fn code_saturate(mnemonic: &[u8], o: &Operands) -> Option<u64>
     ensures { result ≡ code_saturate mnemonic.now o.now }
 {
-    if is(mnemonic, "ssat") {
-        return Some(saturate_code(0xf300_0000, o.second.saturating_sub(1), o));
-    }
-    if is(mnemonic, "usat") {
-        return Some(saturate_code(0xf380_0000, o.second, o));
-    }
-    None
+    Some(saturate_code(saturate_name(mnemonic)?, o))
 }
 
 /// Rows T6.
 fn code_extract(mnemonic: &[u8], o: &Operands) -> Option<u64>
     ensures { result ≡ code_extract mnemonic.now o.now }
 {
-    let base = u64::from(extract_base_in(mnemonic)?)
+    let base = u64::from(base_of_extract(extract_name(mnemonic)?))
         + (u64::from(o.third % 4) << 6)
         + u64::from(o.fourth.saturating_sub(1));
     Some(of_three(base, o.second, o.third / 4, o.first, 0))
@@ -312,7 +353,7 @@ fn code_insert(mnemonic: &[u8], o: &Operands) -> Option<u64>
 fn code_stack(mnemonic: &[u8], o: &Operands) -> Option<u64>
     ensures { result ≡ code_stack mnemonic.now o.now }
 {
-    let base = u64::from(stack_base_in(mnemonic)?);
+    let base = u64::from(base_of_stack(stack_name(mnemonic)?));
     let count = (u64::from(o.second) + 1).saturating_sub(u64::from(o.first));
     Some(base + (u64::from(o.first) << 12) + (count << 1))
 }
@@ -321,7 +362,7 @@ fn code_stack(mnemonic: &[u8], o: &Operands) -> Option<u64>
 fn code_table(mnemonic: &[u8], o: &Operands) -> Option<u64>
     ensures { result ≡ code_table mnemonic.now o.now }
 {
-    let base = table_base_in(mnemonic)?;
+    let base = base_of_table(table_name(mnemonic)?);
     Some(of_three(u64::from(base), o.first, 0, 0, o.second))
 }
 
@@ -329,7 +370,7 @@ fn code_table(mnemonic: &[u8], o: &Operands) -> Option<u64>
 fn code_barrier(mnemonic: &[u8], o: &Operands) -> Option<u64>
     ensures { result ≡ code_barrier mnemonic.now o.now }
 {
-    let base = u64::from(barrier_base_in(mnemonic)?);
+    let base = u64::from(base_of_barrier(barrier_name(mnemonic)?));
     if o.is_bare {
         Some(base + 15)
     } else {
@@ -357,11 +398,11 @@ fn code_special(mnemonic: &[u8], o: &Operands) -> Option<u64>
 }
 
 /// A row T22 of a vector register, a lane and a core register.
-fn lane_code(base: u64, d: u32, x: u32, t: u32) -> u64
-    requires { base < 2 ^ 40 }
-    ensures { result ≡ lane_code base d x t }
+fn lane_code(name: LaneMoveName, d: u32, x: u32, t: u32) -> u64
+    ensures { result ≡ lane_code name d x t }
 {
-    base + (u64::from(x % 2) << 21)
+    u64::from(base_of_lane_move(name))
+        + (u64::from(x % 2) << 21)
         + (u64::from(d) << 17)
         + (u64::from(x / 2) << 16)
         + (u64::from(t) << 12)
@@ -375,9 +416,9 @@ fn code_lane(mnemonic: &[u8], o: &Operands) -> Option<u64>
         return None;
     }
     if o.is_vector {
-        Some(lane_code(0xee00_0b10, o.first, o.second, o.third))
+        Some(lane_code(LaneMoveName::ToLane, o.first, o.second, o.third))
     } else {
-        Some(lane_code(0xee10_0b10, o.second, o.third, o.first))
+        Some(lane_code(LaneMoveName::FromLane, o.second, o.third, o.first))
     }
 }
 
@@ -386,7 +427,7 @@ fn code_alone(mnemonic: &[u8], o: &Operands) -> Option<u64>
     ensures { result ≡ code_alone mnemonic.now o.now }
 {
     if is(mnemonic, "nop") {
-        return Some(0xf3af_8000);
+        return Some(u64::from(encode_t19(&T19::Nop)));
     }
     if is(mnemonic, "dls") {
         return Some(of_three(0xf040_e001, o.second, 0, 0, 0));
@@ -405,10 +446,13 @@ fn code_alone(mnemonic: &[u8], o: &Operands) -> Option<u64>
 fn code_of_arith(mnemonic: &[u8], o: &Operands) -> Option<u64>
     ensures { result ≡ code_of_arith mnemonic.now o.now }
 {
-    if let Some(w) = code_three(mnemonic, o) {
+    if let Some(w) = code_wide_shift(mnemonic, o) {
         return Some(w);
     }
-    if let Some(w) = code_two(mnemonic, o) {
+    if let Some(w) = code_operation(mnemonic, o) {
+        return Some(w);
+    }
+    if let Some(w) = code_bits(mnemonic, o) {
         return Some(w);
     }
     if let Some(w) = code_extend(mnemonic, o) {

@@ -7,8 +7,9 @@ ghost use Rattle.hm_isa.specs.Distances.{alike};
 ghost use Rattle.hm_text_base.specs.Spans.{span};
 ghost use Rattle.hm_tokens.specs.Tokens.{tok};
 
-use crate::bases::branch_base_in;
+use crate::names::wide_branch_name;
 use crate::operands::value;
+use hm_enc32_control::base_of_wide_branch;
 use hm_text_base::span;
 use hm_text_rows::{branch_condition_in, distance, is, operand, size_of};
 use hm_tokens::Token;
@@ -59,7 +60,7 @@ fn code_conditional(mnemonic: &[u8], pc: u32, a: u32) -> Option<u64>
 fn code_always(mnemonic: &[u8], pc: u32, a: u32) -> Option<u64>
     ensures { result ≡ code_always mnemonic.now pc a }
 {
-    let base = branch_base_in(mnemonic)?;
+    let base = base_of_wide_branch(wide_branch_name(mnemonic)?);
     Some(always_code(u64::from(base), distance(u64::from(pc) + 4, a) / 2))
 }
 

@@ -6,10 +6,11 @@ ghost use Rattle.hm_text32_codes.specs.Codes.{pair_code};
 ghost use Rattle.hm_text_base.specs.Spans.{span};
 ghost use Rattle.hm_tokens.specs.Tokens.{tok};
 
-use crate::bases::{access_base_in, list_base_in, pair_base_in};
+use crate::names::{pair_name, wide_list_name};
 use crate::operands::{Places, read_places, second_bang, value};
+use hm_enc32_memory::{base_of_access, base_of_list, base_of_pair};
 use hm_text_base::span;
-use hm_text_rows::{braced_bits, operand};
+use hm_text_rows::{access_name, braced_bits, operand};
 use hm_tokens::Token;
 
 /// A row T12 with an index.
@@ -60,7 +61,7 @@ fn access_code(base: u64, o: &Places) -> u64
 fn code_access(mnemonic: &[u8], o: &Places) -> Option<u64>
     ensures { result ≡ code_access mnemonic.now o.now }
 {
-    let base = u64::from(access_base_in(mnemonic)?);
+    let base = u64::from(base_of_access(access_name(mnemonic)?));
     Some(access_code(base, o))
 }
 
@@ -82,7 +83,7 @@ fn pair_code(base: u64, o: &Places) -> u64
 fn code_pair(mnemonic: &[u8], o: &Places) -> Option<u64>
     ensures { result ≡ code_pair mnemonic.now o.now }
 {
-    let base = u64::from(pair_base_in(mnemonic)?);
+    let base = u64::from(base_of_pair(pair_name(mnemonic)?));
     Some(pair_code(base, o))
 }
 
@@ -90,7 +91,7 @@ fn code_pair(mnemonic: &[u8], o: &Places) -> Option<u64>
 fn code_list(mnemonic: &[u8], tokens: &[Token<'_>]) -> Option<u64>
     ensures { result ≡ code_list mnemonic.now (map tok tokens.now) }
 {
-    let base = u64::from(list_base_in(mnemonic)?);
+    let base = u64::from(base_of_list(wide_list_name(mnemonic)?));
     let back = u64::from(second_bang(tokens));
     let n = u64::from(value(operand(tokens, 0)));
     Some(base + (back << 21) + (n << 16) + u64::from(braced_bits(tokens)))

@@ -1,11 +1,11 @@
 //! What a text gives numbers for, read carelessly: nothing is refused, since the row that is found is asked for its text.
 
 ghost use Rattle.std.specs.Prelude.{◌≡◌, ◌<◌, map};
-ghost use Rattle.hm_text32_codes.specs.Operands.{other_value, read_operands, read_places, second_bang, shift_in, value, word_value};
+ghost use Rattle.hm_text32_codes.specs.Operands.{other_value, read_operands, read_places, second_bang, shift_in, special_in, value, word_value};
 ghost use Rattle.hm_tokens.specs.Tokens.{tok};
 
 use hm_text_rows::{
-    added, back_in, before, first_of, is, is_number, is_the_mark, is_vector, operand, size_of,
+    added, back_in, before, first_of, is_number, is_the_mark, is_vector, named, operand, size_of,
     value_by,
 };
 use hm_tokens::{Mark, Token, read_condition, read_double, read_register, read_vector};
@@ -34,53 +34,38 @@ pub struct Operands {
 fn read_shift(name: &[u8]) -> Option<u32>
     ensures { result ≡ shift_in name.now }
 {
-    match name {
-        b"lsl" => Some(0),
-        b"lsr" => Some(1),
-        b"asr" => Some(2),
-        b"ror" | b"rrx" => Some(3),
-        _ => None,
-    }
+    let shifts = &[(0, "lsl"), (1, "lsr"), (2, "asr"), (3, "ror"), (3, "rrx")];
+    named(shifts, name)
 }
 
-/// The number of zero and of a special register.
+/// The number of a special register.
+fn read_special(name: &[u8]) -> Option<u32>
+    ensures { result ≡ special_in name.now }
+{
+    let registers = &[
+        (0, "apsr"),
+        (5, "ipsr"),
+        (8, "msp"),
+        (9, "psp"),
+        (16, "primask"),
+        (17, "basepri"),
+        (20, "control"),
+    ];
+    named(registers, name)
+}
+
+/// The number of zero, and of what is named beside a core register in rows T21.
 fn other_value(name: &[u8]) -> u32
     ensures { result ≡ other_value name.now }
 {
-    if is(name, "zr") {
-        return 15;
-    }
-    if is(name, "ipsr") {
-        return 5;
-    }
-    if is(name, "msp") {
-        return 8;
-    }
-    if is(name, "psp") {
-        return 9;
-    }
-    if is(name, "primask") {
-        return 16;
-    }
-    if is(name, "basepri") {
-        return 17;
-    }
-    if is(name, "control") {
-        return 20;
-    }
-    if is(name, "fpscr") {
-        return 1;
-    }
-    if is(name, "vpr") {
-        return 12;
-    }
-    if is(name, "p0") {
-        return 13;
-    }
-    if is(name, "apsr_nzcv") {
-        return 15;
-    }
-    0
+    let others = &[
+        (15, "zr"),
+        (1, "fpscr"),
+        (12, "vpr"),
+        (13, "p0"),
+        (15, "apsr_nzcv"),
+    ];
+    named(others, name).unwrap_or(0)
 }
 
 /// The number that a word stands for.
@@ -101,6 +86,9 @@ fn word_value(name: &[u8]) -> u32
         return n;
     }
     if let Some(n) = read_shift(name) {
+        return n;
+    }
+    if let Some(n) = read_special(name) {
         return n;
     }
     other_value(name)

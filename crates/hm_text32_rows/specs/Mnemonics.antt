@@ -22,6 +22,8 @@ use Rattle.hm_isa.specs.declared.data.HalfName.{HalfName}
 use Rattle.hm_isa.specs.declared.data.HalfName.TheVariants as half
 use Rattle.hm_isa.specs.declared.data.SaturateName.{SaturateName}
 use Rattle.hm_isa.specs.declared.data.SaturateName.TheVariants as saturate
+use Rattle.hm_isa.specs.declared.jumps.TableName.{TableName}
+use Rattle.hm_isa.specs.declared.jumps.TableName.TheVariants as table
 use Rattle.hm_isa.specs.declared.jumps.WideBranchName.{WideBranchName}
 use Rattle.hm_isa.specs.declared.jumps.WideBranchName.TheVariants as wide_branch
 use Rattle.hm_isa.specs.declared.wide.PairName.{PairName}
@@ -156,6 +158,11 @@ select_mnemonic select.Csel = codes "csel"
 select_mnemonic select.Csinc = codes "csinc"
 select_mnemonic select.Csinv = codes "csinv"
 select_mnemonic select.Csneg = codes "csneg"
+
+-- T17: the mnemonic of each name, TBB and TBH (DDI0553, "TBB, TBH")
+abbrev pub table_mnemonic : TableName → List ℕ
+table_mnemonic table.Tbb = codes "tbb"
+table_mnemonic table.Tbh = codes "tbh"
 
 -- T19: the mnemonic of each name, DSB, DMB and ISB (DDI0553, "DSB", "DMB" and "ISB")
 abbrev pub barrier_mnemonic : BarrierName → List ℕ

@@ -39,7 +39,7 @@ use Rattle.hm_text_rows.specs.Shapes.{two}
 use Rattle.hm_isa.specs.Words.{expand_imm_c, imm12}
 use Rattle.hm_text_rows.specs.Mnemonics.{access_mnemonic, extend_mnemonic}
 use Rattle.hm_text32_rows.specs.Mnemonics.{accumulate_mnemonic, barrier_mnemonic, bits_mnemonic, bits_suffix, carry_mnemonic, data_mnemonic}
-use Rattle.hm_text32_rows.specs.Mnemonics.{element_suffix}
+use Rattle.hm_text32_rows.specs.Mnemonics.{element_suffix, table_mnemonic}
 use Rattle.hm_text32_rows.specs.Mnemonics.{extract_mnemonic, half_mnemonic, long_mnemonic, move_mnemonic, operation_mnemonic, pair_mnemonic}
 use Rattle.hm_text32_rows.specs.Mnemonics.{read_name, saturate_shift}
 use Rattle.hm_text32_rows.specs.Mnemonics.{saturate_mnemonic, select_mnemonic, shift_mnemonic, stack_mnemonic, test_mnemonic, turn_mnemonic, wide}
@@ -202,8 +202,9 @@ scalar_tokens i = []
 
 -- T17: the tokens of TBB and TBH, `tbb [rn,rm]`, `tbh [rn,rm,lsl #1]` (DDI0553, "TBB, TBH")
 abbrev pub table_tokens : TableName → ℕ → ℕ → List Tok
-table_tokens table.Tbb n m = word (codes "tbb") ∷ open_bracket ∷ r n ∷ comma ∷ r m ∷ close_bracket ∷ []
-table_tokens table.Tbh n m = word (codes "tbh") ∷ open_bracket ∷ r n ∷ comma ∷ r m ∷ comma ∷ word (codes "lsl") ∷ (constant 1 ++ close_bracket ∷ [])
+table_tokens table.Tbb n m = word (table_mnemonic table.Tbb) ∷ open_bracket ∷ r n ∷ comma ∷ r m ∷ close_bracket ∷ []
+table_tokens table.Tbh n m =
+    word (table_mnemonic table.Tbh) ∷ open_bracket ∷ r n ∷ comma ∷ r m ∷ comma ∷ word (codes "lsl") ∷ (constant 1 ++ close_bracket ∷ [])
 
 -- LABELS: what stands before them
 -- T16: the tokens of B and BL before the label, `beq.w label` and so on, `b.w label`, `bl label` (DDI0553, "B", encodings T3 and T4, and "BL")

@@ -5,3 +5,4 @@ pub mod Registers
 pub mod Fits
 pub mod Braces
 pub mod Shown
+pub mod Branches

@@ -19,11 +19,6 @@ below_is f g n b e lt = eqb-true (f b) (g b) (agree_below_at (λ k. eqb (f k) (g
 pub below_holds : (f : ℕ → Bool) (n b : ℕ) → agree_below f (λ k. true) n ≡ true → b < n → f b ≡ true
 below_holds f n b e lt = agree_below_at f (λ k. true) n b e lt
 
--- a proof, and those after it
-infixr 20 ◌▹◌
-abbrev pub ◌▹◌ : {P Q : Type 0} → P → Q → P × Q
-proof ▹ others = (proof, others)
-
 -- and any other fact, given at each
 abbrev pub AllBelow : (ℕ → Type 0) → ℕ → Type 0
 AllBelow P zero = Unit {0}
@@ -36,6 +31,11 @@ at_below P (suc n) b all lt =
       | inl e ↦ subst P (sym (eqb-true b n e)) all.0
       | inr e ↦ let ne = eqb-false b n e in at_below P n b all.1 (omega arith)
     ]
+
+-- such a proof, and those after it
+infixr 20 ◌▹◌
+abbrev pub ◌▹◌ : {P Q : Type 0} → P → Q → P × Q
+proof ▹ others = (proof, others)
 
 -- WORDS
 abbrev pub is_part : ℕ → Bool

@@ -7,7 +7,7 @@ use Rattle.hm_textv_codes.specs.declared.operands.Operands.{Operands}
 use Rattle.hm_textv_codes.specs.Operands.{word_value}
 use Rattle.hm_text_rows.specs.Operands.{is_vector_name}
 use Rattle.hm_text_rows.specs.Shapes.{back, indexed, inside, offset, q, r}
-use Rattle.hm_text_rows.proofs.Words.{cut, is_name, is_mnemonic, word_q, word_r}
+use Rattle.hm_text_rows.proofs.Words.{◌▹◌, cut, is_name, is_mnemonic, word_q, word_r}
 use Rattle.hm_text_rows.proofs.Printed.{AreShort, is_read_back, short_bang, short_close, short_close_brace, short_comma, short_hash, short_minus}
 use Rattle.hm_text_rows.proofs.Printed.{short_open, short_open_brace, short_word}
 use Rattle.hm_textv_rows.specs.Rows.{access, at_offsets, registers, scale, turns}
@@ -97,7 +97,7 @@ uxtw = record { value = refl; vector = refl; is = refl }
 -- the scale of offsets, and the bracket behind it
 short_scale : (o y : ℕ) → o < 2 → y < 1000 → AreShort (scale o y ++ close_bracket ∷ [])
 short_scale zero y ho hy = (short_close, tt)
-short_scale (suc zero) y ho hy = (short_comma, (short_word (codes "uxtw") uxtw.is, (short_hash, (short_small y hy, (short_close, tt)))))
+short_scale (suc zero) y ho hy = (short_comma ▹ short_word (codes "uxtw") uxtw.is ▹ short_hash ▹ short_small y hy ▹ short_close ▹ tt)
 short_scale (suc (suc o)) y ho hy = absurd (omega arith)
 
 short_offsets : (d n m o y : ℕ) → d < 8 → n < 16 → m < 8 → o < 2 → y < 1000 → AreShort (q d ∷ comma ∷ at_offsets (r n) m o y)

@@ -9,8 +9,9 @@ use Rattle.hm_textv_codes.specs.Codes.{code_of, constant_code, constant_mode, co
 use Rattle.hm_textv_codes.specs.Operands.{sign_of, word_value}
 use Rattle.hm_text_rows.specs.Operands.{is_vector_name, size_of}
 use Rattle.hm_text_rows.specs.Shapes.{either}
-use Rattle.hm_text_rows.proofs.Words.{at_below, is_mnemonic}
-use Rattle.hm_textv_rows.specs.Rows.{constant_forms, merged, moved, shifted, unshifted}
+use Rattle.hm_text_rows.proofs.Words.{◌▹◌, at_below, is_mnemonic}
+use Rattle.hm_textv_rows.specs.Mnemonics.{constant_merge_mnemonic, constant_move_mnemonic}
+use Rattle.hm_textv_rows.specs.Rows.{constant_forms, shifted, unshifted}
 use Rattle.hm_textv.proofs.Endings.{Suffix, suffix_integer}
 use Rattle.hm_textv.proofs.Forms.{Answers, Operand, Row, a_vector, answers_of, given, reads_constant, reads_shifted}
 
@@ -80,7 +81,7 @@ suffix_i64 = record { is = refl; bare = refl; sign = refl; size = refl }
 moved_answers : (op d i j l z v n cm : ℕ) (f kind : List ℕ) → op < 2 → d < 8 → i < 2 → j < 8 → l < 16 → Suffix f false 0 z → Operand kind v false → n < 1000
     → constant_mode 0 (given false 0 z false d (byte i j l) v n) ≡ cm → constant_mode 1 (given false 0 z false d (byte i j l) v n) ≡ cm
     → constant_operation 0 (given false 0 z false d (byte i j l) v n) ≡ 0 → constant_operation 1 (given false 0 z false d (byte i j l) v n) ≡ 1
-    → Answers (shifted (moved op ++ f) kind n d (byte i j l)) (sum i j d cm op l)
+    → Answers (shifted (constant_move_mnemonic op ++ f) kind n d (byte i j l)) (sum i j d cm op l)
 moved_answers zero d i j l z v n cm f kind ho hd hi hj hl g o hn m m' p p' =
     one_shifted (codes "vmov") f kind 0 z v n d i j l cm 0 refl asks_vmov g o hn hd hi hj hl m p
 moved_answers (suc zero) d i j l z v n cm f kind ho hd hi hj hl g o hn m m' p p' =
@@ -90,7 +91,7 @@ moved_answers (suc (suc op)) d i j l z v n cm f kind ho hd hi hj hl g o hn m m' 
 merged_answers : (op d i j l z v n cm : ℕ) (f kind : List ℕ) → op < 2 → d < 8 → i < 2 → j < 8 → l < 16 → Suffix f false 0 z → Operand kind v false → n < 1000
     → constant_mode 2 (given false 0 z false d (byte i j l) v n) ≡ cm → constant_mode 3 (given false 0 z false d (byte i j l) v n) ≡ cm
     → constant_operation 2 (given false 0 z false d (byte i j l) v n) ≡ 0 → constant_operation 3 (given false 0 z false d (byte i j l) v n) ≡ 1
-    → Answers (shifted (merged op ++ f) kind n d (byte i j l)) (sum i j d cm op l)
+    → Answers (shifted (constant_merge_mnemonic op ++ f) kind n d (byte i j l)) (sum i j d cm op l)
 merged_answers zero d i j l z v n cm f kind ho hd hi hj hl g o hn m m' p p' =
     one_shifted (codes "vorr") f kind 2 z v n d i j l cm 0 refl asks_vorr g o hn hd hi hj hl m p
 merged_answers (suc zero) d i j l z v n cm f kind ho hd hi hj hl g o hn m m' p p' =
@@ -116,49 +117,23 @@ constant_answers : (cm op d i j l : ℕ) → cm < 15 → op < 2 → d < 8 → i 
 constant_answers cm op d i j l hc ho hd hi hj hl =
     let words = suffix_integer 2 (omega arith) in
     let halves = suffix_integer 1 (omega arith) in
-    at_below (λ c. Answers (get_or (constant_forms op d (byte i j l)) c []) (sum i j d c op l)) 15 cm (
-      unshifted_answers op d i j l ho hd hi hj hl,
-      (
-        moved_answers op d i j l 2 1 16 13 _ _ ho hd hi hj hl words msl (omega arith) refl refl refl refl,
-        (
-          moved_answers op d i j l 2 1 8 12 _ _ ho hd hi hj hl words msl (omega arith) refl refl refl refl,
-          (
-            merged_answers op d i j l 1 0 8 11 _ _ ho hd hi hj hl halves lsl (omega arith) refl refl refl refl,
-            (
-              moved_answers op d i j l 1 0 8 10 _ _ ho hd hi hj hl halves lsl (omega arith) refl refl refl refl,
-              (
-                merged_answers op d i j l 1 0 0 9 _ _ ho hd hi hj hl halves lsl (omega arith) refl refl refl refl,
-                (
-                  moved_answers op d i j l 1 0 0 8 _ _ ho hd hi hj hl halves lsl (omega arith) refl refl refl refl,
-                  (
-                    merged_answers op d i j l 2 0 24 7 _ _ ho hd hi hj hl words lsl (omega arith) refl refl refl refl,
-                    (
-                      moved_answers op d i j l 2 0 24 6 _ _ ho hd hi hj hl words lsl (omega arith) refl refl refl refl,
-                      (
-                        merged_answers op d i j l 2 0 16 5 _ _ ho hd hi hj hl words lsl (omega arith) refl refl refl refl,
-                        (
-                          moved_answers op d i j l 2 0 16 4 _ _ ho hd hi hj hl words lsl (omega arith) refl refl refl refl,
-                          (
-                            merged_answers op d i j l 2 0 8 3 _ _ ho hd hi hj hl words lsl (omega arith) refl refl refl refl,
-                            (
-                              moved_answers op d i j l 2 0 8 2 _ _ ho hd hi hj hl words lsl (omega arith) refl refl refl refl,
-                              (
-                                merged_answers op d i j l 2 0 0 1 _ _ ho hd hi hj hl words lsl (omega arith) refl refl refl refl,
-                                (moved_answers op d i j l 2 0 0 0 _ _ ho hd hi hj hl words lsl (omega arith) refl refl refl refl, tt),
-                              ),
-                            ),
-                          ),
-                        ),
-                      ),
-                    ),
-                  ),
-                ),
-              ),
-            ),
-          ),
-        ),
-      ),
-    )
+    at_below (λ c. Answers (get_or (constant_forms op d (byte i j l)) c []) (sum i j d c op l)) 15 cm
+    (unshifted_answers op d i j l ho hd hi hj hl
+    ▹ moved_answers op d i j l 2 1 16 13 _ _ ho hd hi hj hl words msl (omega arith) refl refl refl refl
+    ▹ moved_answers op d i j l 2 1 8 12 _ _ ho hd hi hj hl words msl (omega arith) refl refl refl refl
+    ▹ merged_answers op d i j l 1 0 8 11 _ _ ho hd hi hj hl halves lsl (omega arith) refl refl refl refl
+    ▹ moved_answers op d i j l 1 0 8 10 _ _ ho hd hi hj hl halves lsl (omega arith) refl refl refl refl
+    ▹ merged_answers op d i j l 1 0 0 9 _ _ ho hd hi hj hl halves lsl (omega arith) refl refl refl refl
+    ▹ moved_answers op d i j l 1 0 0 8 _ _ ho hd hi hj hl halves lsl (omega arith) refl refl refl refl
+    ▹ merged_answers op d i j l 2 0 24 7 _ _ ho hd hi hj hl words lsl (omega arith) refl refl refl refl
+    ▹ moved_answers op d i j l 2 0 24 6 _ _ ho hd hi hj hl words lsl (omega arith) refl refl refl refl
+    ▹ merged_answers op d i j l 2 0 16 5 _ _ ho hd hi hj hl words lsl (omega arith) refl refl refl refl
+    ▹ moved_answers op d i j l 2 0 16 4 _ _ ho hd hi hj hl words lsl (omega arith) refl refl refl refl
+    ▹ merged_answers op d i j l 2 0 8 3 _ _ ho hd hi hj hl words lsl (omega arith) refl refl refl refl
+    ▹ moved_answers op d i j l 2 0 8 2 _ _ ho hd hi hj hl words lsl (omega arith) refl refl refl refl
+    ▹ merged_answers op d i j l 2 0 0 1 _ _ ho hd hi hj hl words lsl (omega arith) refl refl refl refl
+    ▹ moved_answers op d i j l 2 0 0 0 _ _ ho hd hi hj hl words lsl (omega arith) refl refl refl refl
+    ▹ tt)
     hc
 
 pub row_v15 : (i : V15) → Row (vector.V15 i)

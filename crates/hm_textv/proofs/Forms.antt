@@ -10,7 +10,7 @@ use Rattle.hm_textv_codes.specs.declared.operands.Operands.{Operands}
 use Rattle.hm_textv_codes.specs.Operands.{word_value}
 use Rattle.hm_text_rows.specs.Operands.{is_vector_name}
 use Rattle.hm_text_rows.specs.Shapes.{and_constant, constant, four, three, two}
-use Rattle.hm_text_rows.proofs.Words.{cut, is_name, is_mnemonic, word_q, word_r}
+use Rattle.hm_text_rows.proofs.Words.{◌▹◌, cut, is_name, is_mnemonic, word_q, word_r}
 use Rattle.hm_text_rows.proofs.Printed.{IsReadBack, IsShort, is_read_back, short_comma, short_hash, short_number, short_word}
 use Rattle.hm_textv_codes.specs.Codes.{code_in, code_of}
 use Rattle.hm_textv_rows.specs.Rows.{shifted, tokens_of}
@@ -89,7 +89,7 @@ pub reads_two : (s f w x : List ℕ) (bare b c : Bool) (u z m n : ℕ) → is_mn
     → Reads (two (s ++ f) (word w) (word x)) s (given bare u z false m n 0 0)
 reads_two s f w x bare b c u z m n mnemonic g p o = record {
   asks = rw (cut s f mnemonic g.is, g.bare, g.sign, g.size, p.value, o.value) refl;
-  prints = is_read_back s f _ mnemonic g.is (short_word w p.is, (short_comma, (short_word x o.is, tt))) refl (omega arith);
+  prints = is_read_back s f _ mnemonic g.is (short_word w p.is ▹ short_comma ▹ short_word x o.is ▹ tt) refl (omega arith);
 }
 
 pub reads_two_constant : (s f w x : List ℕ) (bare b c : Bool) (u z m n k : ℕ) → is_mnemonic s ≡ true → Suffix f bare u z → Operand w m b → Operand x n c
@@ -98,7 +98,7 @@ pub reads_two_constant : (s f w x : List ℕ) (bare b c : Bool) (u z m n k : ℕ
 reads_two_constant s f w x bare b c u z m n k mnemonic g p o lt = record {
   asks = rw (cut s f mnemonic g.is, g.bare, g.sign, g.size, p.value, o.value, min_small k lt) refl;
   prints =
-      is_read_back s f _ mnemonic g.is (short_word w p.is, (short_comma, (short_word x o.is, (short_comma, (short_hash, (short_small k lt, tt)))))) refl
+      is_read_back s f _ mnemonic g.is (short_word w p.is ▹ short_comma ▹ short_word x o.is ▹ short_comma ▹ short_hash ▹ short_small k lt ▹ tt) refl
       (omega arith);
 }
 
@@ -108,7 +108,7 @@ pub reads_three : (s f w x y : List ℕ) (bare b c e : Bool) (u z m n l : ℕ) �
 reads_three s f w x y bare b c e u z m n l mnemonic g p o t = record {
   asks = rw (cut s f mnemonic g.is, g.bare, g.sign, g.size, t.vector, p.value, o.value, t.value) refl;
   prints =
-      is_read_back s f _ mnemonic g.is (short_word w p.is, (short_comma, (short_word x o.is, (short_comma, (short_word y t.is, tt))))) refl (omega arith);
+      is_read_back s f _ mnemonic g.is (short_word w p.is ▹ short_comma ▹ short_word x o.is ▹ short_comma ▹ short_word y t.is ▹ tt) refl (omega arith);
 }
 
 pub reads_three_constant : (s f w x y : List ℕ) (bare b c e : Bool) (u z m n l k : ℕ) → is_mnemonic s ≡ true → Suffix f bare u z → Operand w m b → Operand x n c
@@ -118,7 +118,7 @@ reads_three_constant s f w x y bare b c e u z m n l k mnemonic g p o t lt = reco
   asks = rw (cut s f mnemonic g.is, g.bare, g.sign, g.size, t.vector, p.value, o.value, t.value, min_small k lt) refl;
   prints =
       is_read_back s f _ mnemonic g.is
-      (short_word w p.is, (short_comma, (short_word x o.is, (short_comma, (short_word y t.is, (short_comma, (short_hash, (short_small k lt, tt)))))))) refl
+      (short_word w p.is ▹ short_comma ▹ short_word x o.is ▹ short_comma ▹ short_word y t.is ▹ short_comma ▹ short_hash ▹ short_small k lt ▹ tt) refl
       (omega arith);
 }
 
@@ -129,14 +129,14 @@ reads_four s f w x y v bare b c e h u z m n l k mnemonic g p o t i = record {
   asks = rw (cut s f mnemonic g.is, g.bare, g.sign, g.size, t.vector, p.value, o.value, t.value, i.value) refl;
   prints =
       is_read_back s f _ mnemonic g.is
-      (short_word w p.is, (short_comma, (short_word x o.is, (short_comma, (short_word y t.is, (short_comma, (short_word v i.is, tt))))))) refl (omega arith);
+      (short_word w p.is ▹ short_comma ▹ short_word x o.is ▹ short_comma ▹ short_word y t.is ▹ short_comma ▹ short_word v i.is ▹ tt) refl (omega arith);
 }
 
 pub reads_constant : (s f w : List ℕ) (bare b : Bool) (u z m x : ℕ) → is_mnemonic s ≡ true → Suffix f bare u z → Operand w m b → x < 1000
     → Reads (word (s ++ f) ∷ word w ∷ comma ∷ constant x) s (given bare u z false m x 0 0)
 reads_constant s f w bare b u z m x mnemonic g p lt = record {
   asks = rw (cut s f mnemonic g.is, g.bare, g.sign, g.size, p.value, min_small x lt) refl;
-  prints = is_read_back s f _ mnemonic g.is (short_word w p.is, (short_comma, (short_hash, (short_small x lt, tt)))) refl (omega arith);
+  prints = is_read_back s f _ mnemonic g.is (short_word w p.is ▹ short_comma ▹ short_hash ▹ short_small x lt ▹ tt) refl (omega arith);
 }
 
 pub reads_shifted : (s f kind : List ℕ) (bare b : Bool) (u z d x v n : ℕ) → is_mnemonic s ≡ true → Suffix f bare u z → d < 8 → Operand kind v b → x < 1000
@@ -145,10 +145,9 @@ pub reads_shifted : (s f kind : List ℕ) (bare b : Bool) (u z d x v n : ℕ) �
 reads_shifted s f kind bare b u z d x v n mnemonic g hd o hx hn = record {
   asks = rw (cut s f mnemonic g.is, g.bare, g.sign, g.size, o.vector, value_q d hd, min_small x hx, o.value, min_small n hn) refl;
   prints =
-      is_read_back s f _ mnemonic g.is (
-        short_word (vector_name d) (word_q d hd),
-        (short_comma, (short_hash, (short_small x hx, (short_comma, (short_word kind o.is, (short_hash, (short_small n hn, tt))))))),
-      )
+      is_read_back s f _ mnemonic g.is
+      (short_word (vector_name d) (word_q d hd) ▹ short_comma ▹ short_hash ▹ short_small x hx ▹ short_comma ▹ short_word kind o.is ▹ short_hash
+      ▹ short_small n hn ▹ tt)
       refl (omega arith);
 }
 

@@ -1,5 +1,5 @@
 -- Rows of one operand and shifts: their texts ask for their codes.
-use Rattle.std.proofs.Common.{◌≡◌, ℕ, zero, suc, ◌+◌, ◌-◌, ◌*◌, ◌^◌, ◌<◌, true, false, cond, eqb, ltb, List, Some, refl, ap, sym, subst, inl, inr, arith}
+use Rattle.std.proofs.Common.{◌≡◌, ℕ, zero, suc, ◌+◌, ◌*◌, ◌^◌, ◌<◌, true, false, cond, eqb, ltb, List, Some, refl, ap, sym, subst, inl, inr, arith}
 use Rattle.std.specs.Prelude.{codes, nat_le}
 use Rattle.std.proofs.lemmas.Bool.{cases_Bool, eqb-true, ne_eqb}
 use Rattle.std.proofs.lemmas.Bool.Decides.{nat_tests}
@@ -11,7 +11,6 @@ use Rattle.hm_isa.specs.declared.vectors.ConstantShiftName.TheVariants as by_con
 use Rattle.hm_isa.specs.declared.vectors.OneName.{OneName}
 use Rattle.hm_isa.specs.declared.vectors.OneName.TheVariants as one
 use Rattle.hm_isa.specs.declared.vectors.ReverseName.{ReverseName}
-use Rattle.hm_isa.specs.declared.vectors.ReverseName.TheVariants as reverse_
 use Rattle.hm_isa.specs.declared.vectors.NarrowName.{NarrowName}
 use Rattle.hm_isa.specs.declared.vectors.NarrowName.TheVariants as narrow_
 use Rattle.hm_isa.specs.declared.vectors.V11.{V11}
@@ -23,33 +22,24 @@ use Rattle.hm_isa.specs.Code.{constant_shift_base, narrow_base, one_base, revers
 use Rattle.hm_isa.specs.Rules.{has_size, is_shifted_by}
 use Rattle.hm_isa.specs.Standing.{◌↑◌}
 use Rattle.hm_tokens.specs.Tokens.{Tok}
-use Rattle.hm_textv_codes.specs.Codes.{bits_in, code_of}
+use Rattle.hm_textv_codes.specs.Codes.{bits_in, code_of, shift_field}
 use Rattle.hm_textv_rows.specs.Rows.{long_part, shift_in, size_in}
-use Rattle.hm_textv_rows.specs.Mnemonics.{constant_shift_mnemonic, constant_shift_suffix, integer, narrow_mnemonic, narrow_suffix, one_mnemonic, one_suffix}
-use Rattle.hm_textv_rows.specs.Mnemonics.{plain, reverse_mnemonic, signed}
-use Rattle.hm_text_rows.specs.Shapes.{either}
+use Rattle.hm_textv_rows.specs.Mnemonics.{constant_shift_mnemonic, constant_shift_suffix, integer, long_move_mnemonic, long_shift_mnemonic, narrow_mnemonic}
+use Rattle.hm_textv_rows.specs.Mnemonics.{narrow_suffix, one_mnemonic, one_suffix, plain, reverse_mnemonic, signed}
 use Rattle.hm_text_rows.proofs.Words.{below_holds, below_is, is_mnemonic}
 use Rattle.hm_textv.proofs.Endings.{Suffix, no_suffix, suffix_by_sign, suffix_integer, suffix_plain, suffix_signed, suffix_unsigned}
 use Rattle.hm_textv.proofs.Forms.{Answers, Row, a_vector, answers_of, given, reads_two, reads_two_constant, row_of}
 
 -- V11
 mnemonic_constant_shift : (name : ConstantShiftName) → is_mnemonic (constant_shift_mnemonic name) ≡ true
-mnemonic_constant_shift by_constant.Shr = refl
-mnemonic_constant_shift by_constant.Rshr = refl
-mnemonic_constant_shift by_constant.Qshl = refl
-mnemonic_constant_shift by_constant.Qshlu = refl
-mnemonic_constant_shift by_constant.Shl = refl
-mnemonic_constant_shift by_constant.Sri = refl
-mnemonic_constant_shift by_constant.Sli = refl
+mnemonic_constant_shift name = grind arith
 
 suffix_shift : (name : ConstantShiftName) (u z : ℕ) → u < 2 → z < 3 → is_shifted_by name u ≡ true → Suffix (constant_shift_suffix name u z) false u z
-suffix_shift by_constant.Shr u z hu hz e = suffix_by_sign u z hu hz
-suffix_shift by_constant.Rshr u z hu hz e = suffix_by_sign u z hu hz
-suffix_shift by_constant.Qshl u z hu hz e = suffix_by_sign u z hu hz
 suffix_shift by_constant.Qshlu u z hu hz e = subst (λ (x : ℕ). Suffix (signed z) false x z) (sym (eqb-true u 0 e)) (suffix_signed z hz)
 suffix_shift by_constant.Shl u z hu hz e = subst (λ (x : ℕ). Suffix (integer z) false x z) (sym (eqb-true u 0 e)) (suffix_integer z hz)
 suffix_shift by_constant.Sri u z hu hz e = subst (λ (x : ℕ). Suffix (plain z) false x z) (sym (eqb-true u 0 e)) (suffix_plain z (omega arith))
 suffix_shift by_constant.Sli u z hu hz e = subst (λ (x : ℕ). Suffix (plain z) false x z) (sym (eqb-true u 0 e)) (suffix_plain z (omega arith))
+suffix_shift name u z hu hz e = suffix_by_sign u z hu hz
 
 less : (m n : ℕ) → ltb m n ≡ true → m < n
 less m n e = grind (arith, nat_tests)
@@ -59,46 +49,23 @@ size_small x lt = less _ _ (below_holds (λ k. ltb (size_in k) 3) 64 x refl lt)
 
 shift_small : (name : ConstantShiftName) (x : ℕ) → x < 64 → shift_in name x < 1000
 shift_small by_constant.Shr x lt = less _ _ (below_holds (λ k. ltb (shift_in by_constant.Shr k) 1000) 64 x refl lt)
-shift_small by_constant.Rshr x lt = less _ _ (below_holds (λ k. ltb (shift_in by_constant.Rshr k) 1000) 64 x refl lt)
-shift_small by_constant.Qshl x lt = less _ _ (below_holds (λ k. ltb (shift_in by_constant.Qshl k) 1000) 64 x refl lt)
-shift_small by_constant.Qshlu x lt = less _ _ (below_holds (λ k. ltb (shift_in by_constant.Qshlu k) 1000) 64 x refl lt)
-shift_small by_constant.Shl x lt = less _ _ (below_holds (λ k. ltb (shift_in by_constant.Shl k) 1000) 64 x refl lt)
-shift_small by_constant.Sri x lt = less _ _ (below_holds (λ k. ltb (shift_in by_constant.Sri k) 1000) 64 x refl lt)
-shift_small by_constant.Sli x lt = less _ _ (below_holds (λ k. ltb (shift_in by_constant.Sli k) 1000) 64 x refl lt)
-
--- the size and the shift tell the field
-abbrev IsField : ConstantShiftName → ℕ → ℕ → ℕ → Type 0
-IsField by_constant.Shr z k x = 2 * bits_in z - k ≡ x
-IsField by_constant.Rshr z k x = 2 * bits_in z - k ≡ x
-IsField by_constant.Sri z k x = 2 * bits_in z - k ≡ x
-IsField name z k x = bits_in z + k ≡ x
+shift_small name x lt = less _ _ (below_holds (λ k. ltb (shift_in name k) 1000) 64 x refl lt)
 
 not_less : (x : ℕ) → nat_le 8 x ≡ true → ltb x 8 ≡ false
 not_less x e = grind (arith, nat_tests)
 
-is_field : (name : ConstantShiftName) (x : ℕ) → x < 64 → has_size x ≡ true → IsField name (size_in x) (shift_in name x) x
-is_field by_constant.Shr x lt e = below_is (λ k. 2 * bits_in (size_in k) - shift_in by_constant.Shr k) (λ k. k) 64 x refl lt
-is_field by_constant.Rshr x lt e = below_is (λ k. 2 * bits_in (size_in k) - shift_in by_constant.Rshr k) (λ k. k) 64 x refl lt
-is_field by_constant.Qshl x lt e =
-    rw (not_less x e) at (below_is (λ k. cond (ltb k 8) k (bits_in (size_in k) + shift_in by_constant.Qshl k)) (λ k. k) 64 x refl lt)
-is_field by_constant.Qshlu x lt e =
-    rw (not_less x e) at (below_is (λ k. cond (ltb k 8) k (bits_in (size_in k) + shift_in by_constant.Qshlu k)) (λ k. k) 64 x refl lt)
-is_field by_constant.Shl x lt e =
-    rw (not_less x e) at (below_is (λ k. cond (ltb k 8) k (bits_in (size_in k) + shift_in by_constant.Shl k)) (λ k. k) 64 x refl lt)
-is_field by_constant.Sri x lt e = below_is (λ k. 2 * bits_in (size_in k) - shift_in by_constant.Sri k) (λ k. k) 64 x refl lt
-is_field by_constant.Sli x lt e =
-    rw (not_less x e) at (below_is (λ k. cond (ltb k 8) k (bits_in (size_in k) + shift_in by_constant.Sli k)) (λ k. k) 64 x refl lt)
+-- the size and the shift tell the field
+is_field : (name : ConstantShiftName) (x : ℕ) → x < 64 → has_size x ≡ true → shift_field name (size_in x) (shift_in name x) ≡ x
+is_field by_constant.Shr x lt e =
+    rw (not_less x e) at (below_is (λ k. cond (ltb k 8) k (shift_field by_constant.Shr (size_in k) (shift_in by_constant.Shr k))) (λ k. k) 64 x refl lt)
+is_field name x lt e = rw (not_less x e) at (below_is (λ k. cond (ltb k 8) k (shift_field name (size_in k) (shift_in name k))) (λ k. k) 64 x refl lt)
 
-asks_shift : (name : ConstantShiftName) (u z d m k x : ℕ) → IsField name z k x
+asks_shift : (name : ConstantShiftName) (u z d m k x : ℕ) → shift_field name z k ≡ x
     → code_of (constant_shift_mnemonic name) (given false u z false d m k 0) ≡ Some (constant_shift_base name + u ↑ 28 + x ↑ 16 + d ↑ 13 + m ↑ 1)
 unfolding code_of
 asks_shift by_constant.Shr u z d m k x e = rw e (ap (λ (w : ℕ). Some w) (omega arith))
-asks_shift by_constant.Rshr u z d m k x e = rw e (ap (λ (w : ℕ). Some w) (omega arith))
-asks_shift by_constant.Qshl u z d m k x e = rw e (ap (λ (w : ℕ). Some w) (omega arith))
-asks_shift by_constant.Qshlu u z d m k x e = rw e (ap (λ (w : ℕ). Some w) (omega arith))
-asks_shift by_constant.Shl u z d m k x e = rw e (ap (λ (w : ℕ). Some w) (omega arith))
-asks_shift by_constant.Sri u z d m k x e = rw e (ap (λ (w : ℕ). Some w) (omega arith))
-asks_shift by_constant.Sli u z d m k x e = rw e (ap (λ (w : ℕ). Some w) (omega arith))
+-- each name that is left
+asks_shift name u z d m k x e = rw e (ap (λ (w : ℕ). Some w) (omega arith))
 
 pub row_v11 : (i : V11) → Row (vector.V11 i)
 row_v11 i =
@@ -111,40 +78,30 @@ row_v11 i =
     (asks_shift i.name i.u.value (size_in x) _ _ _ x (is_field i.name x lt i.size))
 
 -- V12
-mnemonic_long : (t : ℕ) → t < 2 → is_mnemonic (either t (codes "vshllb") (codes "vshllt")) ≡ true
-mnemonic_long zero lt = refl
-mnemonic_long (suc zero) lt = refl
-mnemonic_long (suc (suc t)) lt = absurd (omega arith)
+mnemonic_long : (t : ℕ) → t < 2 → is_mnemonic (long_shift_mnemonic t) ≡ true
+mnemonic_long t lt = below_holds (λ k. is_mnemonic (long_shift_mnemonic k)) 2 t refl lt
 
-mnemonic_moved : (t : ℕ) → t < 2 → is_mnemonic (either t (codes "vmovlb") (codes "vmovlt")) ≡ true
-mnemonic_moved zero lt = refl
-mnemonic_moved (suc zero) lt = refl
-mnemonic_moved (suc (suc t)) lt = absurd (omega arith)
+mnemonic_moved : (t : ℕ) → t < 2 → is_mnemonic (long_move_mnemonic t) ≡ true
+mnemonic_moved t lt = below_holds (λ k. is_mnemonic (long_move_mnemonic k)) 2 t refl lt
 
 -- the code of a shift by less than the size of the elements
 abbrev part_code : ℕ → ℕ → ℕ → ℕ → ℕ → ℕ → ℕ
 part_code t u z d m k = 0xeea80f40 + t ↑ 12 + z ↑ 19 + k ↑ 16 + u ↑ 28 + 0 + d ↑ 13 + m ↑ 1
 
 asks_long : (t u z d m k : ℕ) → t < 2 → eqb k (bits_in z) ≡ false
-    → code_of (either t (codes "vshllb") (codes "vshllt")) (given false u z false d m k 0) ≡ Some (part_code t u z d m k)
+    → code_of (long_shift_mnemonic t) (given false u z false d m k 0) ≡ Some (part_code t u z d m k)
 unfolding code_of
-asks_long zero u z d m k lt e = rw e (ap (λ (w : ℕ). Some w) (omega arith))
-asks_long (suc zero) u z d m k lt e = rw e (ap (λ (w : ℕ). Some w) (omega arith))
-asks_long (suc (suc t)) u z d m k lt e = absurd (omega arith)
+asks_long t u z d m k lt e = grind arith
 
 asks_moved : (t u z d m : ℕ) → t < 2 → eqb 0 (bits_in z) ≡ false
-    → code_of (either t (codes "vmovlb") (codes "vmovlt")) (given false u z false d m 0 0) ≡ Some (part_code t u z d m 0)
+    → code_of (long_move_mnemonic t) (given false u z false d m 0 0) ≡ Some (part_code t u z d m 0)
 unfolding code_of
-asks_moved zero u z d m lt e = rw e (ap (λ (w : ℕ). Some w) (omega arith))
-asks_moved (suc zero) u z d m lt e = rw e (ap (λ (w : ℕ). Some w) (omega arith))
-asks_moved (suc (suc t)) u z d m lt e = absurd (omega arith)
+asks_moved t u z d m lt e = grind arith
 
 asks_full : (t u z d m k : ℕ) → t < 2 → eqb k (bits_in z) ≡ true
-    → code_of (either t (codes "vshllb") (codes "vshllt")) (given false u z false d m k 0) ≡ Some (0xee310e01 + u ↑ 28 + z ↑ 18 + t ↑ 12 + d ↑ 13 + m ↑ 1)
+    → code_of (long_shift_mnemonic t) (given false u z false d m k 0) ≡ Some (0xee310e01 + u ↑ 28 + z ↑ 18 + t ↑ 12 + d ↑ 13 + m ↑ 1)
 unfolding code_of
-asks_full zero u z d m k lt e = rw e (ap (λ (w : ℕ). Some w) (omega arith))
-asks_full (suc zero) u z d m k lt e = rw e (ap (λ (w : ℕ). Some w) (omega arith))
-asks_full (suc (suc t)) u z d m k lt e = absurd (omega arith)
+asks_full t u z d m k lt e = grind arith
 
 long_zero : (t : ℕ) (f : List ℕ) (u z d m k : ℕ) → t < 2 → Suffix f false u z → d < 8 → m < 8 → eqb 0 (bits_in z) ≡ false → eqb k 0 ≡ true
     → Answers (long_part t f d m k) (part_code t u z d m k)
@@ -176,9 +133,7 @@ full_small (suc zero) lt = omega arith
 full_small (suc (suc z)) lt = absurd (omega arith)
 
 full_bits : (z : ℕ) → z < 2 → eqb (8 * 2 ^ z) (bits_in z) ≡ true
-full_bits zero lt = refl
-full_bits (suc zero) lt = refl
-full_bits (suc (suc z)) lt = absurd (omega arith)
+full_bits z lt = grind arith
 
 pub row_v12 : (i : V12) → Row (vector.V12 i)
 row_v12 (v12.Bytes i) =
@@ -200,29 +155,15 @@ row_v12 (v12.Full i) =
 
 -- V13
 mnemonic_one : (name : OneName) → is_mnemonic (one_mnemonic name) ≡ true
-mnemonic_one one.Cls = refl
-mnemonic_one one.Clz = refl
-mnemonic_one one.Abs = refl
-mnemonic_one one.Neg = refl
-mnemonic_one one.Qabs = refl
-mnemonic_one one.Qneg = refl
+mnemonic_one name = grind arith
 
 suffix_one : (name : OneName) (z : ℕ) → z < 3 → Suffix (one_suffix name z) false 0 z
-suffix_one one.Cls z lt = suffix_signed z lt
 suffix_one one.Clz z lt = suffix_integer z lt
-suffix_one one.Abs z lt = suffix_signed z lt
-suffix_one one.Neg z lt = suffix_signed z lt
-suffix_one one.Qabs z lt = suffix_signed z lt
-suffix_one one.Qneg z lt = suffix_signed z lt
+suffix_one name z lt = suffix_signed z lt
 
 asks_one : (name : OneName) (z d m : ℕ) → code_of (one_mnemonic name) (given false 0 z false d m 0 0) ≡ Some (one_base name + z ↑ 18 + d ↑ 13 + m ↑ 1)
 unfolding code_of
-asks_one one.Cls z d m = refl
-asks_one one.Clz z d m = refl
-asks_one one.Abs z d m = refl
-asks_one one.Neg z d m = refl
-asks_one one.Qabs z d m = refl
-asks_one one.Qneg z d m = refl
+asks_one name z d m = grind arith
 
 asks_not : (d m : ℕ) → code_of (codes "vmvn") (given true 0 0 false d m 0 0) ≡ Some (0xffb005c0 + d ↑ 13 + m ↑ 1)
 unfolding code_of
@@ -238,16 +179,12 @@ row_v13 (v13.Not i) = row_of (vector.V13 (v13.Not i)) _ _
 
 -- V14
 mnemonic_reverse : (name : ReverseName) → is_mnemonic (reverse_mnemonic name) ≡ true
-mnemonic_reverse reverse_.Rev64 = refl
-mnemonic_reverse reverse_.Rev32 = refl
-mnemonic_reverse reverse_.Rev16 = refl
+mnemonic_reverse name = grind arith
 
 asks_reverse : (name : ReverseName) (z d m : ℕ)
     → code_of (reverse_mnemonic name) (given false 0 z false d m 0 0) ≡ Some (reverse_base name + z ↑ 18 + d ↑ 13 + m ↑ 1)
 unfolding code_of
-asks_reverse reverse_.Rev64 z d m = refl
-asks_reverse reverse_.Rev32 z d m = refl
-asks_reverse reverse_.Rev16 z d m = refl
+asks_reverse name z d m = grind arith
 
 pub row_v14 : (i : V14) → Row (vector.V14 i)
 row_v14 i =
@@ -257,15 +194,8 @@ row_v14 i =
 
 -- V16
 mnemonic_narrow : (name : NarrowName) (t : ℕ) → t < 2 → is_mnemonic (narrow_mnemonic name t) ≡ true
-mnemonic_narrow narrow_.Plain zero lt = refl
-mnemonic_narrow narrow_.Plain (suc zero) lt = refl
-mnemonic_narrow narrow_.ToUnsigned zero lt = refl
-mnemonic_narrow narrow_.ToUnsigned (suc zero) lt = refl
-mnemonic_narrow narrow_.Signed zero lt = refl
-mnemonic_narrow narrow_.Signed (suc zero) lt = refl
-mnemonic_narrow narrow_.Unsigned zero lt = refl
-mnemonic_narrow narrow_.Unsigned (suc zero) lt = refl
-mnemonic_narrow name (suc (suc t)) lt = absurd (omega arith)
+mnemonic_narrow narrow_.Plain t lt = below_holds (λ k. is_mnemonic (narrow_mnemonic narrow_.Plain k)) 2 t refl lt
+mnemonic_narrow name t lt = below_holds (λ k. is_mnemonic (narrow_mnemonic name k)) 2 t refl lt
 
 abbrev narrow_sign : NarrowName → ℕ
 narrow_sign narrow_.Unsigned = 1
@@ -273,22 +203,13 @@ narrow_sign name = 0
 
 suffix_narrow : (name : NarrowName) (z : ℕ) → z < 2 → Suffix (narrow_suffix name z) false (narrow_sign name) (z + 1)
 suffix_narrow narrow_.Plain z lt = suffix_integer (z + 1) (omega arith)
-suffix_narrow narrow_.ToUnsigned z lt = suffix_signed (z + 1) (omega arith)
-suffix_narrow narrow_.Signed z lt = suffix_signed (z + 1) (omega arith)
 suffix_narrow narrow_.Unsigned z lt = suffix_unsigned (z + 1) (omega arith)
+suffix_narrow name z lt = suffix_signed (z + 1) (omega arith)
 
 asks_narrow : (name : NarrowName) (t z d m : ℕ) → t < 2
     → code_of (narrow_mnemonic name t) (given false (narrow_sign name) (z + 1) false d m 0 0) ≡ Some (narrow_base name + z ↑ 18 + t ↑ 12 + d ↑ 13 + m ↑ 1)
 unfolding code_of
-asks_narrow narrow_.Plain zero z d m lt = ap (λ (w : ℕ). Some w) (omega arith)
-asks_narrow narrow_.Plain (suc zero) z d m lt = ap (λ (w : ℕ). Some w) (omega arith)
-asks_narrow narrow_.ToUnsigned zero z d m lt = ap (λ (w : ℕ). Some w) (omega arith)
-asks_narrow narrow_.ToUnsigned (suc zero) z d m lt = ap (λ (w : ℕ). Some w) (omega arith)
-asks_narrow narrow_.Signed zero z d m lt = ap (λ (w : ℕ). Some w) (omega arith)
-asks_narrow narrow_.Signed (suc zero) z d m lt = ap (λ (w : ℕ). Some w) (omega arith)
-asks_narrow narrow_.Unsigned zero z d m lt = ap (λ (w : ℕ). Some w) (omega arith)
-asks_narrow narrow_.Unsigned (suc zero) z d m lt = ap (λ (w : ℕ). Some w) (omega arith)
-asks_narrow name (suc (suc t)) z d m lt = absurd (omega arith)
+asks_narrow name t z d m lt = grind arith
 
 pub row_v16 : (i : V16) → Row (vector.V16 i)
 row_v16 i =

@@ -1,6 +1,6 @@
 -- Comparisons, blocks, and rows of core registers: their texts ask for their codes.
-use Rattle.std.proofs.Common.{◌≡◌, ℕ, ◌+◌, ◌*◌, ◌/◌, ◌%◌, ◌^◌, ◌<◌, true, false, cond, ltb, List, [], ◌∷◌, ◌++◌, get_or, Some, refl, ap, subst, append_assoc}
-use Rattle.std.proofs.Common.{arith}
+use Rattle.std.proofs.Common.{◌≡◌, ℕ, ◌+◌, ◌*◌, ◌/◌, ◌%◌, ◌^◌, ◌<◌, Bool, true, false, cond, ltb, List, [], ◌∷◌, ◌++◌, get_or, Some, refl, ap}
+use Rattle.std.proofs.Common.{◌∙◌, append_assoc, arith, subst}
 use Rattle.std.specs.Prelude.{codes, nat_eq}
 use Rattle.std.proofs.lemmas.Bool.{agree_below_at}
 use Rattle.std.proofs.lemmas.Bool.Decides.{nat_tests}
@@ -23,13 +23,14 @@ use Rattle.hm_isa.specs.Standing.{◌↑◌}
 use Rattle.hm_tokens.specs.Names.{register_name}
 use Rattle.hm_tokens.specs.Tokens.{Tok, word}
 use Rattle.hm_textv_codes.specs.declared.operands.Operands.{Operands}
-use Rattle.hm_textv_codes.specs.Codes.{code_of, step_in}
+use Rattle.hm_textv_codes.specs.Codes.{code_of, compare_code, step_in}
 use Rattle.hm_textv_codes.specs.Operands.{word_value}
 use Rattle.hm_text_rows.specs.Operands.{is_vector_name}
 use Rattle.hm_text_rows.specs.Shapes.{three}
-use Rattle.hm_text_rows.proofs.Words.{at_below, below_holds, below_is, is_name, is_mnemonic}
+use Rattle.hm_text_rows.proofs.Words.{◌▹◌, at_below, below_holds, below_is, is_name, is_mnemonic}
 use Rattle.hm_textv_rows.specs.Rows.{compare_first_word}
-use Rattle.hm_textv_rows.specs.Mnemonics.{block_letters, compare_condition, compare_suffix, offsets_mnemonic, size_number, wrapped_mnemonic}
+use Rattle.hm_textv_rows.specs.Mnemonics.{block_letters, block_mnemonic, block_word, compare_condition, compare_suffix, compare_word, offsets_mnemonic}
+use Rattle.hm_textv_rows.specs.Mnemonics.{size_number, wrapped_mnemonic}
 use Rattle.hm_textv.proofs.Endings.{Suffix, no_suffix, suffix_integer, suffix_plain, suffix_signed, suffix_unsigned}
 use Rattle.hm_textv.proofs.Forms.{Operand, Reads, Row, a_register, a_vector, given, reads_none, reads_one, reads_three, reads_three_constant, reads_two}
 use Rattle.hm_textv.proofs.Forms.{reads_two_constant, row_of}
@@ -55,14 +56,11 @@ row_v17 i =
 -- V18
 size_below : (size : Element) → size_number size < 4
 size_below element.Bytes = omega arith
-size_below element.Halves = omega arith
-size_below element.Words = omega arith
+size_below size = omega arith
 
 asks_dup : (size : Element) (d t : ℕ) → code_of (codes "vdup") (given false 0 (size_number size) false d t 0 0) ≡ Some (dup_base size + d ↑ 17 + t ↑ 12)
 unfolding code_of
-asks_dup element.Bytes d t = ap (λ (w : ℕ). Some w) (omega arith)
-asks_dup element.Halves d t = ap (λ (w : ℕ). Some w) (omega arith)
-asks_dup element.Words d t = ap (λ (w : ℕ). Some w) (omega arith)
+asks_dup size d t = grind arith
 
 pub row_v18 : (i : V18) → Row (vector.V18 i)
 row_v18 i =
@@ -72,12 +70,10 @@ row_v18 i =
 
 -- V19
 mnemonic_offsets : (name : OffsetsName) → is_mnemonic (offsets_mnemonic name) ≡ true
-mnemonic_offsets offsets.Up = refl
-mnemonic_offsets offsets.Down = refl
+mnemonic_offsets name = grind arith
 
 mnemonic_wrapped : (name : OffsetsName) → is_mnemonic (wrapped_mnemonic name) ≡ true
-mnemonic_wrapped offsets.Up = refl
-mnemonic_wrapped offsets.Down = refl
+mnemonic_wrapped name = grind arith
 
 asks_offsets : (name : OffsetsName) (z n d k s : ℕ) → step_in s ≡ step_code k
     → code_of (offsets_mnemonic name) (given false 1 z false d (2 * n) s 0) ≡ Some (offsets_base name + 0xe + z ↑ 20 + n ↑ 17 + d ↑ 13 + step_code k)
@@ -118,7 +114,7 @@ row_v19 (v19.Wrapped i) =
 
 -- V20
 abbrev compare_mnemonic : ℕ → List ℕ
-compare_mnemonic k = cond (nat_eq k 0) (codes "vcmp") (codes "vpt") ++ block_letters k
+compare_mnemonic = block_mnemonic compare_word
 
 mnemonic_compare : (k : ℕ) → k < 16 → is_mnemonic (compare_mnemonic k) ≡ true
 mnemonic_compare k lt = below_holds (λ j. is_mnemonic (compare_mnemonic j)) 16 k refl lt
@@ -131,7 +127,7 @@ suffix_compare c z hc hz =
     let s = suffix_signed z hz in
     let u = suffix_unsigned z hz in
     let i = suffix_integer z hz in
-    at_below (λ j. Suffix (compare_suffix j z) false (compare_sign j) z) 8 c (s, (s, (s, (s, (u, (u, (i, (i, tt)))))))) hc
+    at_below (λ j. Suffix (compare_suffix j z) false (compare_sign j) z) 8 c (s ▹ s ▹ s ▹ s ▹ u ▹ u ▹ i ▹ i ▹ tt) hc
 
 a_condition : (c : ℕ) → c < 8 → Operand (compare_condition c) c false
 unfolding word_value is_vector_name
@@ -152,146 +148,57 @@ a_register_or_zero n lt = record {
   is = below_holds (λ j. is_name (zero_name j)) 16 n refl lt;
 }
 
-abbrev AsksVectors : ℕ → Type 0
-AsksVectors k =
-    (u z c n m : ℕ)
+asks_compare : (k u z c n m : ℕ) (by_vector : Bool) → k < 16
+    → code_of (compare_mnemonic k) (given false u z by_vector c n m 0) ≡ Some (compare_code k (given false u z by_vector c n m 0))
+unfolding code_of
+asks_compare k u z c n m true lt =
+    at_below (λ j. code_of (compare_mnemonic j) (given false u z true c n m 0) ≡ Some (compare_code j (given false u z true c n m 0))) 16 k
+    (refl ▹ refl ▹ refl ▹ refl ▹ refl ▹ refl ▹ refl ▹ refl ▹ refl ▹ refl ▹ refl ▹ refl ▹ refl ▹ refl ▹ refl ▹ refl ▹ tt)
+    lt
+asks_compare k u z c n m false lt =
+    at_below (λ j. code_of (compare_mnemonic j) (given false u z false c n m 0) ≡ Some (compare_code j (given false u z false c n m 0))) 16 k
+    (refl ▹ refl ▹ refl ▹ refl ▹ refl ▹ refl ▹ refl ▹ refl ▹ refl ▹ refl ▹ refl ▹ refl ▹ refl ▹ refl ▹ refl ▹ refl ▹ tt)
+    lt
+
+asks_vectors : (k u z c n m : ℕ) → k < 16
     → code_of (compare_mnemonic k) (given false u z true c n m 0)
     ≡ Some (0xfe010f00 + mask_code k + z ↑ 20 + n ↑ 17 + (c / 4) ↑ 12 + (c % 2) ↑ 7 + m ↑ 1 + c / 2 % 2)
+asks_vectors k u z c n m lt = asks_compare k u z c n m true lt ∙ ap (λ (w : ℕ). Some w) (omega arith)
 
-abbrev AsksScalar : ℕ → Type 0
-AsksScalar k =
-    (u z c n m : ℕ)
+asks_scalar : (k u z c n m : ℕ) → k < 16
     → code_of (compare_mnemonic k) (given false u z false c n m 0)
     ≡ Some (0xfe010f40 + mask_code k + z ↑ 20 + n ↑ 17 + (c / 4) ↑ 12 + (c % 2) ↑ 7 + (c / 2 % 2) ↑ 5 + m)
+asks_scalar k u z c n m lt = asks_compare k u z c n m false lt ∙ ap (λ (w : ℕ). Some w) (omega arith)
 
-asks_vectors : (k : ℕ) → k < 16 → AsksVectors k
-unfolding code_of
-asks_vectors k lt =
-    at_below AsksVectors 16 k (
-      (λ u z c n m. ap (λ (w : ℕ). Some w) (omega arith)),
-      (
-        (λ u z c n m. ap (λ (w : ℕ). Some w) (omega arith)),
-        (
-          (λ u z c n m. ap (λ (w : ℕ). Some w) (omega arith)),
-          (
-            (λ u z c n m. ap (λ (w : ℕ). Some w) (omega arith)),
-            (
-              (λ u z c n m. ap (λ (w : ℕ). Some w) (omega arith)),
-              (
-                (λ u z c n m. ap (λ (w : ℕ). Some w) (omega arith)),
-                (
-                  (λ u z c n m. ap (λ (w : ℕ). Some w) (omega arith)),
-                  (
-                    (λ u z c n m. ap (λ (w : ℕ). Some w) (omega arith)),
-                    (
-                      (λ u z c n m. ap (λ (w : ℕ). Some w) (omega arith)),
-                      (
-                        (λ u z c n m. ap (λ (w : ℕ). Some w) (omega arith)),
-                        (
-                          (λ u z c n m. ap (λ (w : ℕ). Some w) (omega arith)),
-                          (
-                            (λ u z c n m. ap (λ (w : ℕ). Some w) (omega arith)),
-                            (
-                              (λ u z c n m. ap (λ (w : ℕ). Some w) (omega arith)),
-                              (
-                                (λ u z c n m. ap (λ (w : ℕ). Some w) (omega arith)),
-                                ((λ u z c n m. ap (λ (w : ℕ). Some w) (omega arith)), ((λ u z c n m. ap (λ (w : ℕ). Some w) (omega arith)), tt)),
-                              ),
-                            ),
-                          ),
-                        ),
-                      ),
-                    ),
-                  ),
-                ),
-              ),
-            ),
-          ),
-        ),
-      ),
-    )
-    lt
-
-asks_scalar : (k : ℕ) → k < 16 → AsksScalar k
-unfolding code_of
-asks_scalar k lt =
-    at_below AsksScalar 16 k (
-      (λ u z c n m. ap (λ (w : ℕ). Some w) (omega arith)),
-      (
-        (λ u z c n m. ap (λ (w : ℕ). Some w) (omega arith)),
-        (
-          (λ u z c n m. ap (λ (w : ℕ). Some w) (omega arith)),
-          (
-            (λ u z c n m. ap (λ (w : ℕ). Some w) (omega arith)),
-            (
-              (λ u z c n m. ap (λ (w : ℕ). Some w) (omega arith)),
-              (
-                (λ u z c n m. ap (λ (w : ℕ). Some w) (omega arith)),
-                (
-                  (λ u z c n m. ap (λ (w : ℕ). Some w) (omega arith)),
-                  (
-                    (λ u z c n m. ap (λ (w : ℕ). Some w) (omega arith)),
-                    (
-                      (λ u z c n m. ap (λ (w : ℕ). Some w) (omega arith)),
-                      (
-                        (λ u z c n m. ap (λ (w : ℕ). Some w) (omega arith)),
-                        (
-                          (λ u z c n m. ap (λ (w : ℕ). Some w) (omega arith)),
-                          (
-                            (λ u z c n m. ap (λ (w : ℕ). Some w) (omega arith)),
-                            (
-                              (λ u z c n m. ap (λ (w : ℕ). Some w) (omega arith)),
-                              (
-                                (λ u z c n m. ap (λ (w : ℕ). Some w) (omega arith)),
-                                ((λ u z c n m. ap (λ (w : ℕ). Some w) (omega arith)), ((λ u z c n m. ap (λ (w : ℕ). Some w) (omega arith)), tt)),
-                              ),
-                            ),
-                          ),
-                        ),
-                      ),
-                    ),
-                  ),
-                ),
-              ),
-            ),
-          ),
-        ),
-      ),
-    )
-    lt
-
-named : (k c z : ℕ) (x y w : Tok) (s : List ℕ) (o : Operands) → Reads (three (compare_mnemonic k ++ compare_suffix c z) x y w) s o
+first_word_reads : (k c z : ℕ) (x y w : Tok) (s : List ℕ) (o : Operands) → Reads (three (compare_mnemonic k ++ compare_suffix c z) x y w) s o
     → Reads (three (compare_first_word k c z) x y w) s o
-named k c z x y w s o reads =
+first_word_reads k c z x y w s o reads =
     subst (λ (name : List ℕ). Reads (three name x y w) s o)
-    (append_assoc (cond (nat_eq k 0) (codes "vcmp") (codes "vpt")) (block_letters k) (compare_suffix c z)) reads
+    (append_assoc (compare_word k) (block_letters k) (compare_suffix c z)) reads
 
 pub row_v20 : (i : V20) → Row (vector.V20 i)
 row_v20 (v20.Vectors i) =
     row_of (vector.V20 (v20.Vectors i)) _ _
-    (named i.k.value i.c.value i.z.value _ _ _ _ _
+    (first_word_reads i.k.value i.c.value i.z.value _ _ _ _ _
     (reads_three _ _ _ _ _ _ _ _ _ _ _ _ _ _ (mnemonic_compare i.k.value i.k.in_range) (suffix_compare i.c.value i.z.value i.c.in_range i.z.in_range)
     (a_condition i.c.value i.c.in_range) (a_vector i.n.value i.n.in_range) (a_vector i.m.value i.m.in_range)))
-    (asks_vectors i.k.value i.k.in_range _ _ _ _ _)
+    (asks_vectors i.k.value _ _ _ _ _ i.k.in_range)
 row_v20 (v20.Scalar i) =
     row_of (vector.V20 (v20.Scalar i)) _ _
-    (named i.k.value i.c.value i.z.value _ _ _ _ _
+    (first_word_reads i.k.value i.c.value i.z.value _ _ _ _ _
     (reads_three _ _ _ _ _ _ _ _ _ _ _ _ _ _ (mnemonic_compare i.k.value i.k.in_range) (suffix_compare i.c.value i.z.value i.c.in_range i.z.in_range)
     (a_condition i.c.value i.c.in_range) (a_vector i.n.value i.n.in_range) (a_register_or_zero i.m.value i.m.in_range)))
-    (asks_scalar i.k.value i.k.in_range _ _ _ _ _)
+    (asks_scalar i.k.value _ _ _ _ _ i.k.in_range)
 
 -- V21
-abbrev block_mnemonic : ℕ → List ℕ
-block_mnemonic k = cond (nat_eq k 0) (codes "vpnot") (codes "vpst") ++ block_letters k
+mnemonic_block : (k : ℕ) → k < 16 → is_mnemonic (block_mnemonic block_word k) ≡ true
+mnemonic_block k lt = below_holds (λ j. is_mnemonic (block_mnemonic block_word j)) 16 k refl lt
 
-mnemonic_block : (k : ℕ) → k < 16 → is_mnemonic (block_mnemonic k) ≡ true
-mnemonic_block k lt = below_holds (λ j. is_mnemonic (block_mnemonic j)) 16 k refl lt
-
-asks_block : (k : ℕ) → k < 16 → code_of (block_mnemonic k) (given true 0 0 false 0 0 0 0) ≡ Some (0xfe310f4d + mask_code k)
+asks_block : (k : ℕ) → k < 16 → code_of (block_mnemonic block_word k) (given true 0 0 false 0 0 0 0) ≡ Some (0xfe310f4d + mask_code k)
 unfolding code_of
 asks_block k lt =
-    at_below (λ j. code_of (block_mnemonic j) (given true 0 0 false 0 0 0 0) ≡ Some (0xfe310f4d + mask_code j)) 16 k
-    (refl, (refl, (refl, (refl, (refl, (refl, (refl, (refl, (refl, (refl, (refl, (refl, (refl, (refl, (refl, (refl, tt))))))))))))))))
+    at_below (λ j. code_of (block_mnemonic block_word j) (given true 0 0 false 0 0 0 0) ≡ Some (0xfe310f4d + mask_code j)) 16 k
+    (refl ▹ refl ▹ refl ▹ refl ▹ refl ▹ refl ▹ refl ▹ refl ▹ refl ▹ refl ▹ refl ▹ refl ▹ refl ▹ refl ▹ refl ▹ refl ▹ tt)
     lt
 
 asks_select : (d n m : ℕ) → code_of (codes "vpsel") (given true 0 0 true d n m 0) ≡ Some (0xfe310f01 + n ↑ 17 + d ↑ 13 + m ↑ 1)
@@ -305,8 +212,9 @@ asks_tail z n = ap (λ (w : ℕ). Some w) (omega arith)
 pub row_v21 : (i : V21) → Row (vector.V21 i)
 row_v21 (v21.Block i) =
     row_of (vector.V21 (v21.Block i)) _ _
-    (subst (λ (name : List ℕ). Reads (word name ∷ []) (block_mnemonic i.k.value) (given true 0 0 false 0 0 0 0)) (append-nil (block_mnemonic i.k.value))
-    (reads_none (block_mnemonic i.k.value) (mnemonic_block i.k.value i.k.in_range) no_suffix))
+    (subst (λ (name : List ℕ). Reads (word name ∷ []) (block_mnemonic block_word i.k.value) (given true 0 0 false 0 0 0 0))
+    (append-nil (block_mnemonic block_word i.k.value))
+    (reads_none (block_mnemonic block_word i.k.value) (mnemonic_block i.k.value i.k.in_range) no_suffix))
     (asks_block i.k.value i.k.in_range)
 row_v21 (v21.Select i) = row_of (vector.V21 (v21.Select i)) (codes "vpsel") _
     (reads_three (codes "vpsel") _ _ _ _ _ _ _ _ _ _ _ _ _ refl no_suffix (a_vector i.d.value i.d.in_range) (a_vector i.n.value i.n.in_range)

@@ -1,22 +1,15 @@
 -- Rows of two operands: their texts ask for their codes.
-use Rattle.std.proofs.Common.{◌≡◌, ℕ, zero, suc, ◌+◌, ◌<◌, true, false, cond, Some, refl, ap, sym, subst, arith}
-use Rattle.std.specs.Prelude.{codes, nat_eq}
+use Rattle.std.proofs.Common.{◌≡◌, ℕ, ◌+◌, ◌<◌, true, false, cond, Some, refl, sym, subst, arith}
+use Rattle.std.specs.Prelude.{nat_eq}
 use Rattle.std.proofs.lemmas.Bool.{eqb-true}
 use Rattle.hm_isa.specs.declared.Vector.TheVariants as vector
 use Rattle.hm_isa.specs.declared.vectors.AddName.{AddName}
-use Rattle.hm_isa.specs.declared.vectors.AddName.TheVariants as add
 use Rattle.hm_isa.specs.declared.vectors.BitwiseName.{BitwiseName}
-use Rattle.hm_isa.specs.declared.vectors.BitwiseName.TheVariants as bitwise
 use Rattle.hm_isa.specs.declared.vectors.SignedName.{SignedName}
-use Rattle.hm_isa.specs.declared.vectors.SignedName.TheVariants as signed
 use Rattle.hm_isa.specs.declared.vectors.VectorShiftName.{VectorShiftName}
-use Rattle.hm_isa.specs.declared.vectors.VectorShiftName.TheVariants as by_vector
 use Rattle.hm_isa.specs.declared.vectors.DoublingName.{DoublingName}
-use Rattle.hm_isa.specs.declared.vectors.DoublingName.TheVariants as doubling
 use Rattle.hm_isa.specs.declared.vectors.HighName.{HighName}
-use Rattle.hm_isa.specs.declared.vectors.HighName.TheVariants as high
 use Rattle.hm_isa.specs.declared.vectors.CarryName.{CarryName}
-use Rattle.hm_isa.specs.declared.vectors.CarryName.TheVariants as carry
 use Rattle.hm_isa.specs.declared.vectors.ComplexSumName.{ComplexSumName}
 use Rattle.hm_isa.specs.declared.vectors.ComplexSumName.TheVariants as turn
 use Rattle.hm_isa.specs.declared.vectors.ScalarName.{ScalarName}
@@ -35,24 +28,20 @@ use Rattle.hm_isa.specs.Code.{add_base, bitwise_base, carry_base, doubling_base,
 use Rattle.hm_isa.specs.Rules.{is_signed_by}
 use Rattle.hm_isa.specs.Standing.{◌↑◌}
 use Rattle.hm_textv_codes.specs.Codes.{code_of}
-use Rattle.hm_textv_rows.specs.Mnemonics.{add_mnemonic, bitwise_mnemonic, carry_mnemonic, doubling_mnemonic, high_mnemonic, integer, scalar_mnemonic}
-use Rattle.hm_textv_rows.specs.Mnemonics.{scalar_suffix, signed, signed_mnemonic, complex_sum_mnemonic, complex_sum_suffix, vector_shift_mnemonic}
-use Rattle.hm_text_rows.specs.Shapes.{either}
-use Rattle.hm_text_rows.proofs.Words.{is_mnemonic}
+use Rattle.hm_textv_rows.specs.Mnemonics.{add_mnemonic, bitwise_mnemonic, carry_mnemonic, doubling_mnemonic, high_mnemonic, integer, long_product_mnemonic}
+use Rattle.hm_textv_rows.specs.Mnemonics.{complex_sum_mnemonic, complex_sum_suffix, scalar_mnemonic, scalar_suffix, signed, signed_mnemonic}
+use Rattle.hm_textv_rows.specs.Mnemonics.{vector_shift_mnemonic}
+use Rattle.hm_text_rows.proofs.Words.{below_holds, is_mnemonic}
 use Rattle.hm_textv.proofs.Endings.{Suffix, no_suffix, suffix_by_sign, suffix_integer, suffix_signed}
 use Rattle.hm_textv.proofs.Forms.{Row, a_register, a_vector, bare_three, given, reads_three, reads_three_constant, row_of}
 
 -- V1
 mnemonic_add : (name : AddName) → is_mnemonic (add_mnemonic name) ≡ true
-mnemonic_add add.Add = refl
-mnemonic_add add.Sub = refl
-mnemonic_add add.Mul = refl
+mnemonic_add name = grind arith
 
 asks_add : (name : AddName) (z n d m : ℕ) → code_of (add_mnemonic name) (given false 0 z true d n m 0) ≡ Some (add_base name + z ↑ 20 + n ↑ 17 + d ↑ 13 + m ↑ 1)
 unfolding code_of
-asks_add add.Add z n d m = refl
-asks_add add.Sub z n d m = refl
-asks_add add.Mul z n d m = refl
+asks_add name z n d m = grind arith
 
 pub row_v1 : (i : V1) → Row (vector.V1 i)
 row_v1 i = row_of (vector.V1 i) _ _
@@ -61,20 +50,12 @@ row_v1 i = row_of (vector.V1 i) _ _
 
 -- V2
 mnemonic_bitwise : (name : BitwiseName) → is_mnemonic (bitwise_mnemonic name) ≡ true
-mnemonic_bitwise bitwise.And = refl
-mnemonic_bitwise bitwise.Bic = refl
-mnemonic_bitwise bitwise.Orr = refl
-mnemonic_bitwise bitwise.Orn = refl
-mnemonic_bitwise bitwise.Eor = refl
+mnemonic_bitwise name = grind arith
 
 asks_bitwise : (name : BitwiseName) (n d m : ℕ)
     → code_of (bitwise_mnemonic name) (given true 0 0 true d n m 0) ≡ Some (bitwise_base name + n ↑ 17 + d ↑ 13 + m ↑ 1)
 unfolding code_of
-asks_bitwise bitwise.And n d m = refl
-asks_bitwise bitwise.Bic n d m = refl
-asks_bitwise bitwise.Orr n d m = refl
-asks_bitwise bitwise.Orn n d m = refl
-asks_bitwise bitwise.Eor n d m = refl
+asks_bitwise name n d m = grind arith
 
 pub row_v2 : (i : V2) → Row (vector.V2 i)
 row_v2 i = row_of (vector.V2 i) _ _
@@ -83,26 +64,12 @@ row_v2 i = row_of (vector.V2 i) _ _
 
 -- V3
 mnemonic_signed : (name : SignedName) → is_mnemonic (signed_mnemonic name) ≡ true
-mnemonic_signed signed.Max = refl
-mnemonic_signed signed.Min = refl
-mnemonic_signed signed.Abd = refl
-mnemonic_signed signed.Hadd = refl
-mnemonic_signed signed.Rhadd = refl
-mnemonic_signed signed.Hsub = refl
-mnemonic_signed signed.Qadd = refl
-mnemonic_signed signed.Qsub = refl
+mnemonic_signed name = grind arith
 
 asks_signed : (name : SignedName) (u z n d m : ℕ)
     → code_of (signed_mnemonic name) (given false u z true d n m 0) ≡ Some (signed_base name + u ↑ 28 + z ↑ 20 + n ↑ 17 + d ↑ 13 + m ↑ 1)
 unfolding code_of
-asks_signed signed.Max u z n d m = refl
-asks_signed signed.Min u z n d m = refl
-asks_signed signed.Abd u z n d m = refl
-asks_signed signed.Hadd u z n d m = refl
-asks_signed signed.Rhadd u z n d m = refl
-asks_signed signed.Hsub u z n d m = refl
-asks_signed signed.Qadd u z n d m = refl
-asks_signed signed.Qsub u z n d m = refl
+asks_signed name u z n d m = grind arith
 
 pub row_v3 : (i : V3) → Row (vector.V3 i)
 row_v3 i = row_of (vector.V3 i) _ _
@@ -111,18 +78,12 @@ row_v3 i = row_of (vector.V3 i) _ _
 
 -- V4
 mnemonic_vector_shift : (name : VectorShiftName) → is_mnemonic (vector_shift_mnemonic name) ≡ true
-mnemonic_vector_shift by_vector.Shl = refl
-mnemonic_vector_shift by_vector.Qshl = refl
-mnemonic_vector_shift by_vector.Rshl = refl
-mnemonic_vector_shift by_vector.Qrshl = refl
+mnemonic_vector_shift name = grind arith
 
 asks_vector_shift : (name : VectorShiftName) (u z n d m : ℕ)
     → code_of (vector_shift_mnemonic name) (given false u z true d m n 0) ≡ Some (vector_shift_base name + u ↑ 28 + z ↑ 20 + n ↑ 17 + d ↑ 13 + m ↑ 1)
 unfolding code_of
-asks_vector_shift by_vector.Shl u z n d m = refl
-asks_vector_shift by_vector.Qshl u z n d m = refl
-asks_vector_shift by_vector.Rshl u z n d m = refl
-asks_vector_shift by_vector.Qrshl u z n d m = refl
+asks_vector_shift name u z n d m = grind arith
 
 pub row_v4 : (i : V4) → Row (vector.V4 i)
 row_v4 i = row_of (vector.V4 i) _ _
@@ -131,14 +92,12 @@ row_v4 i = row_of (vector.V4 i) _ _
 
 -- V5
 mnemonic_doubling : (name : DoublingName) → is_mnemonic (doubling_mnemonic name) ≡ true
-mnemonic_doubling doubling.Qdmulh = refl
-mnemonic_doubling doubling.Qrdmulh = refl
+mnemonic_doubling name = grind arith
 
 asks_doubling : (name : DoublingName) (z n d m : ℕ)
     → code_of (doubling_mnemonic name) (given false 0 z true d n m 0) ≡ Some (doubling_base name + z ↑ 20 + n ↑ 17 + d ↑ 13 + m ↑ 1)
 unfolding code_of
-asks_doubling doubling.Qdmulh z n d m = refl
-asks_doubling doubling.Qrdmulh z n d m = refl
+asks_doubling name z n d m = grind arith
 
 pub row_v5 : (i : V5) → Row (vector.V5 i)
 row_v5 i = row_of (vector.V5 i) _ _
@@ -146,18 +105,14 @@ row_v5 i = row_of (vector.V5 i) _ _
     (a_vector i.n.value i.n.in_range) (a_vector i.m.value i.m.in_range)) (asks_doubling i.name _ _ _ _)
 
 -- V6
-mnemonic_long : (t : ℕ) → t < 2 → is_mnemonic (either t (codes "vmullb") (codes "vmullt")) ≡ true
-mnemonic_long zero lt = refl
-mnemonic_long (suc zero) lt = refl
-mnemonic_long (suc (suc t)) lt = absurd (omega arith)
+mnemonic_long : (t : ℕ) → t < 2 → is_mnemonic (long_product_mnemonic t) ≡ true
+mnemonic_long t lt = below_holds (λ k. is_mnemonic (long_product_mnemonic k)) 2 t refl lt
 
 asks_long : (t u z n d m : ℕ) → t < 2
-    → code_of (either t (codes "vmullb") (codes "vmullt")) (given false u z true d n m 0)
+    → code_of (long_product_mnemonic t) (given false u z true d n m 0)
     ≡ Some (0xee010e00 + u ↑ 28 + z ↑ 20 + t ↑ 12 + n ↑ 17 + d ↑ 13 + m ↑ 1)
 unfolding code_of
-asks_long zero u z n d m lt = ap (λ (w : ℕ). Some w) (omega arith)
-asks_long (suc zero) u z n d m lt = ap (λ (w : ℕ). Some w) (omega arith)
-asks_long (suc (suc t)) u z n d m lt = absurd (omega arith)
+asks_long t u z n d m lt = grind arith
 
 pub row_v6 : (i : V6) → Row (vector.V6 i)
 row_v6 i = row_of (vector.V6 i) _ _
@@ -166,14 +121,12 @@ row_v6 i = row_of (vector.V6 i) _ _
 
 -- V7
 mnemonic_high : (name : HighName) → is_mnemonic (high_mnemonic name) ≡ true
-mnemonic_high high.Mulh = refl
-mnemonic_high high.Rmulh = refl
+mnemonic_high name = grind arith
 
 asks_high : (name : HighName) (u z n d m : ℕ)
     → code_of (high_mnemonic name) (given false u z true d n m 0) ≡ Some (high_base name + u ↑ 28 + z ↑ 20 + n ↑ 17 + d ↑ 13 + m ↑ 1)
 unfolding code_of
-asks_high high.Mulh u z n d m = refl
-asks_high high.Rmulh u z n d m = refl
+asks_high name u z n d m = grind arith
 
 pub row_v7 : (i : V7) → Row (vector.V7 i)
 row_v7 i = row_of (vector.V7 i) _ _
@@ -183,17 +136,11 @@ row_v7 i = row_of (vector.V7 i) _ _
 
 -- V8
 mnemonic_carry : (name : CarryName) → is_mnemonic (carry_mnemonic name) ≡ true
-mnemonic_carry carry.Adc = refl
-mnemonic_carry carry.Adci = refl
-mnemonic_carry carry.Sbc = refl
-mnemonic_carry carry.Sbci = refl
+mnemonic_carry name = grind arith
 
 asks_carry : (name : CarryName) (n d m : ℕ) → code_of (carry_mnemonic name) (given false 0 2 true d n m 0) ≡ Some (carry_base name + n ↑ 17 + d ↑ 13 + m ↑ 1)
 unfolding code_of
-asks_carry carry.Adc n d m = refl
-asks_carry carry.Adci n d m = refl
-asks_carry carry.Sbc n d m = refl
-asks_carry carry.Sbci n d m = refl
+asks_carry name n d m = grind arith
 
 pub row_v8 : (i : V8) → Row (vector.V8 i)
 row_v8 i = row_of (vector.V8 i) _ _
@@ -202,27 +149,20 @@ row_v8 i = row_of (vector.V8 i) _ _
 
 -- V9
 mnemonic_turn : (name : ComplexSumName) → is_mnemonic (complex_sum_mnemonic name) ≡ true
-mnemonic_turn turn.Cadd = refl
-mnemonic_turn turn.Hcadd = refl
+mnemonic_turn name = grind arith
 
 suffix_turn : (name : ComplexSumName) (z : ℕ) → z < 3 → Suffix (complex_sum_suffix name z) false 0 z
 suffix_turn turn.Cadd z lt = suffix_integer z lt
 suffix_turn turn.Hcadd z lt = suffix_signed z lt
 
 angle_small : (t : ℕ) → t < 2 → cond (nat_eq t 0) 90 270 < 1000
-angle_small zero lt = omega arith
-angle_small (suc zero) lt = omega arith
-angle_small (suc (suc t)) lt = absurd (omega arith)
+angle_small t lt = grind arith
 
 asks_turn : (name : ComplexSumName) (t z n d m : ℕ) → t < 2
     → code_of (complex_sum_mnemonic name) (given false 0 z true d n m (cond (nat_eq t 0) 90 270))
     ≡ Some (complex_sum_base name + z ↑ 20 + t ↑ 12 + n ↑ 17 + d ↑ 13 + m ↑ 1)
 unfolding code_of
-asks_turn turn.Cadd zero z n d m lt = ap (λ (w : ℕ). Some w) (omega arith)
-asks_turn turn.Cadd (suc zero) z n d m lt = ap (λ (w : ℕ). Some w) (omega arith)
-asks_turn turn.Hcadd zero z n d m lt = ap (λ (w : ℕ). Some w) (omega arith)
-asks_turn turn.Hcadd (suc zero) z n d m lt = ap (λ (w : ℕ). Some w) (omega arith)
-asks_turn name (suc (suc t)) z n d m lt = absurd (omega arith)
+asks_turn name t z n d m lt = grind arith
 
 pub row_v9 : (i : V9) → Row (vector.V9 i)
 row_v9 i = row_of (vector.V9 i) _ _
@@ -231,46 +171,21 @@ row_v9 i = row_of (vector.V9 i) _ _
 
 -- V10
 mnemonic_scalar : (name : ScalarName) → is_mnemonic (scalar_mnemonic name) ≡ true
-mnemonic_scalar by_scalar.Add = refl
-mnemonic_scalar by_scalar.Sub = refl
-mnemonic_scalar by_scalar.Mul = refl
-mnemonic_scalar by_scalar.Hadd = refl
-mnemonic_scalar by_scalar.Hsub = refl
-mnemonic_scalar by_scalar.Qadd = refl
-mnemonic_scalar by_scalar.Qsub = refl
-mnemonic_scalar by_scalar.Qdmulh = refl
-mnemonic_scalar by_scalar.Qrdmulh = refl
-mnemonic_scalar by_scalar.Mla = refl
-mnemonic_scalar by_scalar.Mlas = refl
+mnemonic_scalar name = grind arith
 
 -- the sign is 0 where the name says nothing of it
 suffix_scalar : (name : ScalarName) (u z : ℕ) → u < 2 → z < 3 → is_signed_by name u ≡ true → Suffix (scalar_suffix name u z) false u z
 suffix_scalar by_scalar.Add u z hu hz e = subst (λ (x : ℕ). Suffix (integer z) false x z) (sym (eqb-true u 0 e)) (suffix_integer z hz)
 suffix_scalar by_scalar.Sub u z hu hz e = subst (λ (x : ℕ). Suffix (integer z) false x z) (sym (eqb-true u 0 e)) (suffix_integer z hz)
 suffix_scalar by_scalar.Mul u z hu hz e = subst (λ (x : ℕ). Suffix (integer z) false x z) (sym (eqb-true u 0 e)) (suffix_integer z hz)
-suffix_scalar by_scalar.Hadd u z hu hz e = suffix_by_sign u z hu hz
-suffix_scalar by_scalar.Hsub u z hu hz e = suffix_by_sign u z hu hz
-suffix_scalar by_scalar.Qadd u z hu hz e = suffix_by_sign u z hu hz
-suffix_scalar by_scalar.Qsub u z hu hz e = suffix_by_sign u z hu hz
 suffix_scalar by_scalar.Qdmulh u z hu hz e = subst (λ (x : ℕ). Suffix (signed z) false x z) (sym (eqb-true u 0 e)) (suffix_signed z hz)
 suffix_scalar by_scalar.Qrdmulh u z hu hz e = subst (λ (x : ℕ). Suffix (signed z) false x z) (sym (eqb-true u 0 e)) (suffix_signed z hz)
-suffix_scalar by_scalar.Mla u z hu hz e = suffix_by_sign u z hu hz
-suffix_scalar by_scalar.Mlas u z hu hz e = suffix_by_sign u z hu hz
+suffix_scalar name u z hu hz e = suffix_by_sign u z hu hz
 
 asks_scalar : (name : ScalarName) (u z n d m : ℕ)
     → code_of (scalar_mnemonic name) (given false u z false d n m 0) ≡ Some (scalar_base name + u ↑ 28 + z ↑ 20 + n ↑ 17 + d ↑ 13 + m)
 unfolding code_of
-asks_scalar by_scalar.Add u z n d m = refl
-asks_scalar by_scalar.Sub u z n d m = refl
-asks_scalar by_scalar.Mul u z n d m = refl
-asks_scalar by_scalar.Hadd u z n d m = refl
-asks_scalar by_scalar.Hsub u z n d m = refl
-asks_scalar by_scalar.Qadd u z n d m = refl
-asks_scalar by_scalar.Qsub u z n d m = refl
-asks_scalar by_scalar.Qdmulh u z n d m = refl
-asks_scalar by_scalar.Qrdmulh u z n d m = refl
-asks_scalar by_scalar.Mla u z n d m = refl
-asks_scalar by_scalar.Mlas u z n d m = refl
+asks_scalar name u z n d m = grind arith
 
 pub row_v10 : (i : V10) → Row (vector.V10 i)
 row_v10 i = row_of (vector.V10 i) _ _

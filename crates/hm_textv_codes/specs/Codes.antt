@@ -1,16 +1,26 @@
 -- The code that a text carelessly asks for: what decides is whether the row that has this code has the text.
 use Rattle.std.specs.Prelude.{ℕ, ◌+◌, ◌-◌, ◌*◌, ◌/◌, ◌%◌, ◌^◌, List, [], ◌∷◌, Option, Some, None, option_map, codes, bytes_eq, ◌==◌, if◌then◌else◌}
+use Rattle.hm_isa.specs.declared.vectors.BitwiseName.TheVariants as bitwise
+use Rattle.hm_isa.specs.declared.vectors.ConstantShiftName.{ConstantShiftName}
+use Rattle.hm_isa.specs.declared.vectors.ConstantShiftName.TheVariants as by_constant
 use Rattle.hm_isa.specs.declared.vectors.Element.{Element}
 use Rattle.hm_isa.specs.declared.vectors.Element.TheVariants as element
-use Rattle.hm_isa.specs.Code.{dot_base, dup_base, mask_code}
+use Rattle.hm_isa.specs.Code.{add_base, bitwise_base, carry_base, complex_sum_base, constant_shift_base, dot_base, doubling_base, dup_base, extreme_base}
+use Rattle.hm_isa.specs.Code.{high_base, mask_code, narrow_base, offsets_base, one_base, reverse_base, scalar_base, signed_base, vector_shift_base}
 use Rattle.hm_isa.specs.Standing.{◌↑◌}
 use Rattle.hm_text_base.specs.Spans.{span}
 use Rattle.hm_tokens.specs.Tokens.{Tok, word, number, mark, point}
+use Rattle.hm_text_rows.specs.Names.{bit_values, named}
 use Rattle.hm_text_rows.specs.Operands.{first}
+use Rattle.hm_textv_rows.specs.Mnemonics.{add_mnemonic, bitwise_mnemonic, block_mnemonic, block_word, carry_mnemonic, compare_word, complex_sum_mnemonic}
+use Rattle.hm_textv_rows.specs.Mnemonics.{constant_shift_mnemonic, dot_mnemonic, doubling_mnemonic, extreme_mnemonic, high_mnemonic, long_dot_mnemonic}
+use Rattle.hm_textv_rows.specs.Mnemonics.{long_move_mnemonic, long_product_mnemonic, long_shift_mnemonic, long_sum_mnemonic, offsets_mnemonic}
+use Rattle.hm_textv_rows.specs.Mnemonics.{one_mnemonic, other_dot_mnemonic, reverse_mnemonic, scalar_mnemonic, signed_mnemonic, sum_mnemonic}
+use Rattle.hm_textv_rows.specs.Mnemonics.{vector_shift_mnemonic, wrapped_mnemonic}
 use Rattle.hm_textv_codes.specs.declared.operands.Operands.{Operands}
-use Rattle.hm_textv_codes.specs.Bases.{block_in, carry_base_in, compare_in, constant_in, dot_in, extreme_base_in, left_base, long_dot_in, load_in, long_in}
-use Rattle.hm_textv_codes.specs.Bases.{long_sum_in, narrow_base_in, offsets_base_in, pair_base, product_base, quad_base, right_base, scalar_base_in}
-use Rattle.hm_textv_codes.specs.Bases.{single_base, store_in, sum_in, three_base, complex_sum_base_in, vector_shift_base_in, wrapped_base_in}
+use Rattle.hm_textv_codes.specs.Names.{access_in, add_names, bitwise_names, carry_names, complex_sum_names, constant_in, constant_shift_names}
+use Rattle.hm_textv_codes.specs.Names.{doubling_names, extreme_names, high_names, masks, narrow_in, offsets_names, one_names, pair_in, quad_in}
+use Rattle.hm_textv_codes.specs.Names.{reverse_names, scalar_names, signed_names, vector_shift_names}
 use Rattle.hm_textv_codes.specs.Operands.{read_operands}
 
 -- FIELDS AT THEIR PLACES
@@ -39,37 +49,55 @@ abbrev pub element_in : ℕ → Element
 element_in z = if z == 0 then element.Bytes else if z == 1 then element.Halves else element.Words
 
 -- ROWS, by their mnemonics
+-- V1 to V3, V5 to V7 and VPSEL of V21: the base code of what has three vectors, by the mnemonic (DDI0553, the sections named at the types of these rows)
+abbrev pub three_base : List ℕ → Option ℕ
+three_base s =
+    first (option_map add_base (named add_mnemonic add_names s))
+    (first (option_map bitwise_base (named bitwise_mnemonic bitwise_names s))
+    (first (option_map signed_base (named signed_mnemonic signed_names s))
+    (first (option_map doubling_base (named doubling_mnemonic doubling_names s))
+    (first (option_map high_base (named high_mnemonic high_names s))
+    (first (option_map (λ t. 0xee010e00 + t ↑ 12) (named long_product_mnemonic bit_values s))
+    (if bytes_eq s (codes "vpsel") then Some 0xfe310f01 else None))))))
+
 -- V1 to V3, V5 to V7 and VPSEL of V21: the code of what has three vectors, by the mnemonic (DDI0553, the sections named at the types of these rows)
 abbrev pub code_three : List ℕ → Operands → Option ℕ
-code_three s o =
-    if o.is_vector then option_map (λ b. of_vectors b o.sign o.size o.second o.first o.third) (first (three_base s) (product_base s)) else None
+code_three s o = if o.is_vector then option_map (λ b. of_vectors b o.sign o.size o.second o.first o.third) (three_base s) else None
 
 -- V4: the code of VSHL, VQSHL, VRSHL and VQRSHL by a vector (DDI0553, "VSHL" (vector) and its kin)
 abbrev pub code_vector_shift : List ℕ → Operands → Option ℕ
 code_vector_shift s o =
-    if o.is_vector then option_map (λ b. of_vectors b o.sign o.size o.third o.first o.second) (vector_shift_base_in s) else None
+    if o.is_vector
+    then option_map (λ name. of_vectors (vector_shift_base name) o.sign o.size o.third o.first o.second) (named vector_shift_mnemonic vector_shift_names s)
+    else None
 
 -- V8: the code of VADC, VADCI, VSBC and VSBCI (DDI0553, "VADC" and "VSBC")
 abbrev pub code_carry : List ℕ → Operands → Option ℕ
-code_carry s o = option_map (λ b. of_vectors b 0 0 o.second o.first o.third) (carry_base_in s)
+code_carry s o = option_map (λ name. of_vectors (carry_base name) 0 0 o.second o.first o.third) (named carry_mnemonic carry_names s)
 
 -- V9: the code of VCADD and VHCADD, whose angle is 90 or 270 (DDI0553, "VCADD" and "VHCADD")
-abbrev pub code_turn : List ℕ → Operands → Option ℕ
-code_turn s o =
-    option_map (λ b. of_vectors (b + (if o.fourth == 270 then 1 else 0) ↑ 12) 0 o.size o.second o.first o.third) (complex_sum_base_in s)
+abbrev pub code_complex_sum : List ℕ → Operands → Option ℕ
+code_complex_sum s o =
+    option_map (λ name. of_vectors (complex_sum_base name + (if o.fourth == 270 then 1 else 0) ↑ 12) 0 o.size o.second o.first o.third)
+    (named complex_sum_mnemonic complex_sum_names s)
 
 -- V10: the code of VADD to VMLAS of a vector and a core register (DDI0553, the sections named at the type V10)
 abbrev pub code_scalar : List ℕ → Operands → Option ℕ
 code_scalar s o =
-    if o.is_vector then None else option_map (λ b. of_core b o.sign o.size o.second o.first o.third) (scalar_base_in s)
+    if o.is_vector then None else option_map (λ name. of_core (scalar_base name) o.sign o.size o.second o.first o.third) (named scalar_mnemonic scalar_names s)
 
--- V11: the code of VSHR, VRSHR and VSRI by a constant (DDI0553, "VSHR", "VRSHR" and "VSRI")
-abbrev pub code_right : List ℕ → Operands → Option ℕ
-code_right s o = option_map (λ b. of_one (b + (2 * bits_in o.size - o.third) ↑ 16) o.sign 0 o.first o.second) (right_base s)
+-- V11: the field of a shift by n of elements of the size z, one way for each direction (DDI0553, "VSHR", "VRSHR", "VQSHL, VQSHLU", "VSHL", "VSRI" and "VSLI")
+abbrev pub shift_field : ConstantShiftName → ℕ → ℕ → ℕ
+shift_field by_constant.Shr z n = 2 * bits_in z - n
+shift_field by_constant.Rshr z n = 2 * bits_in z - n
+shift_field by_constant.Sri z n = 2 * bits_in z - n
+shift_field name z n = bits_in z + n
 
--- V11: the code of VQSHL, VQSHLU, VSHL and VSLI by a constant (DDI0553, "VQSHL, VQSHLU", "VSHL" (immediate) and "VSLI")
-abbrev pub code_left : List ℕ → Operands → Option ℕ
-code_left s o = option_map (λ b. of_one (b + (bits_in o.size + o.third) ↑ 16) o.sign 0 o.first o.second) (left_base s)
+-- V11: the code of VSHR, VRSHR, VQSHL, VQSHLU, VSHL, VSRI and VSLI by a constant (DDI0553, the sections named at the field of a shift)
+abbrev pub code_shift : List ℕ → Operands → Option ℕ
+code_shift s o =
+    option_map (λ name. of_one (constant_shift_base name + (shift_field name o.size o.third) ↑ 16) o.sign 0 o.first o.second)
+    (named constant_shift_mnemonic constant_shift_names s)
 
 -- V12: the code of VSHLL and VMOVL of part t; a shift by all bits of an element has an encoding of its own (DDI0553, "VSHLL")
 abbrev pub long_code : ℕ → Operands → ℕ
@@ -79,7 +107,12 @@ long_code t o =
 
 -- V12: the code of VSHLLB, VSHLLT, VMOVLB and VMOVLT (DDI0553, "VSHLL" and "VMOVL")
 abbrev pub code_long : List ℕ → Operands → Option ℕ
-code_long s o = option_map (λ t. long_code t o) (long_in s)
+code_long s o = option_map (λ t. long_code t o) (first (named long_shift_mnemonic bit_values s) (named long_move_mnemonic bit_values s))
+
+-- V13 and V14: the base code of VCLS, VCLZ, VABS, VNEG, VQABS, VQNEG, VREV64, VREV32 and VREV16, by the mnemonic
+-- (DDI0553, "VCLS", "VCLZ", "VABS", "VNEG", "VQABS", "VQNEG", "VREV64", "VREV32" and "VREV16")
+abbrev pub single_base : List ℕ → Option ℕ
+single_base s = first (option_map one_base (named one_mnemonic one_names s)) (option_map reverse_base (named reverse_mnemonic reverse_names s))
 
 -- V13 and V14: the code of VCLS, VCLZ, VABS, VNEG, VQABS and VQNEG, and of VREV64, VREV32 and VREV16
 -- (DDI0553, "VCLS", "VCLZ", "VABS", "VNEG", "VQABS", "VQNEG", "VREV64", "VREV32" and "VREV16")
@@ -109,7 +142,7 @@ constant_code k o =
 
 -- V2 and V13: the code of VMOV of a vector, which is VORR with itself, and of VMVN (DDI0553, "VORR" and "VMVN (register)")
 abbrev pub bare_code : ℕ → Operands → ℕ
-bare_code k o = if k == 0 then of_vectors 0xef200150 0 0 o.second o.first o.second else of_one 0xffb005c0 0 0 o.first o.second
+bare_code k o = if k == 0 then of_vectors (bitwise_base bitwise.Orr) 0 0 o.second o.first o.second else of_one 0xffb005c0 0 0 o.first o.second
 
 -- V15: the code of VMOV, VMVN, VORR and VBIC with an immediate, and of VMOV and VMVN of a vector (DDI0553, "VMOV (immediate)")
 abbrev pub code_constant : List ℕ → Operands → Option ℕ
@@ -117,7 +150,7 @@ code_constant s o = option_map (λ k. if o.is_bare then bare_code k o else const
 
 -- V16: the code of VMOVN, VQMOVN and VQMOVUN of either part (DDI0553, "VMOVN", "VQMOVN" and "VQMOVUN")
 abbrev pub code_narrow : List ℕ → Operands → Option ℕ
-code_narrow s o = option_map (λ b. of_one b o.sign (o.size - 1) o.first o.second) (narrow_base_in s)
+code_narrow s o = option_map (λ p. of_one (narrow_base p.0 + p.1 ↑ 12) o.sign (o.size - 1) o.first o.second) (narrow_in s)
 
 -- V19: the power of the step of VIDUP, VDDUP, VIWDUP and VDWDUP, where it stands (DDI0553, "VIDUP, VIWDUP" and "VDDUP, VDWDUP")
 abbrev pub step_in : ℕ → ℕ
@@ -125,11 +158,14 @@ step_in n = if n == 2 then 1 else if n == 4 then 0x80 else if n == 8 then 0x81 e
 
 -- V19: the code of VIDUP and VDDUP (DDI0553, "VIDUP, VIWDUP" and "VDDUP, VDWDUP")
 abbrev pub code_offsets : List ℕ → Operands → Option ℕ
-code_offsets s o = option_map (λ b. of_core (b + 0xe + step_in o.third) 0 o.size (o.second / 2) o.first 0) (offsets_base_in s)
+code_offsets s o =
+    option_map (λ name. of_core (offsets_base name + 0xe + step_in o.third) 0 o.size (o.second / 2) o.first 0) (named offsets_mnemonic offsets_names s)
 
 -- V19: the code of VIWDUP and VDWDUP (DDI0553, "VIDUP, VIWDUP" and "VDDUP, VDWDUP")
 abbrev pub code_wrapped : List ℕ → Operands → Option ℕ
-code_wrapped s o = option_map (λ b. of_vectors (b + step_in o.fourth) 0 o.size (o.second / 2) o.first (o.third / 2)) (wrapped_base_in s)
+code_wrapped s o =
+    option_map (λ name. of_vectors (offsets_base name + step_in o.fourth) 0 o.size (o.second / 2) o.first (o.third / 2))
+    (named wrapped_mnemonic offsets_names s)
 
 -- V20: the code of VCMP and VPT with mask k, of two vectors or of a vector and a core register (DDI0553, "VCMP" and "VPT")
 abbrev pub compare_code : ℕ → Operands → ℕ
@@ -139,32 +175,36 @@ compare_code k o =
 
 -- V20: the code of VCMP, and of VPT with the letters of its block (DDI0553, "VCMP" and "VPT")
 abbrev pub code_compare : List ℕ → Operands → Option ℕ
-code_compare s o = option_map (λ k. compare_code k o) (compare_in s)
+code_compare s o = option_map (λ k. compare_code k o) (named (block_mnemonic compare_word) masks s)
 
 -- V21: the code of VPNOT, and of VPST with the letters of its block (DDI0553, "VPST" and "VPNOT")
 abbrev pub code_block : List ℕ → Option ℕ
-code_block s = option_map (λ k. 0xfe310f4d + mask_code k) (block_in s)
+code_block s = option_map (λ k. 0xfe310f4d + mask_code k) (named (block_mnemonic block_word) masks s)
 
 -- V22: the code of VADDV and VADDVA (DDI0553, "VADDV")
 abbrev pub code_sum : List ℕ → Operands → Option ℕ
-code_sum s o = option_map (λ a. of_one (0xeef10f00 + a ↑ 5) o.sign o.size (o.first / 2) o.second) (sum_in s)
+code_sum s o = option_map (λ a. of_one (0xeef10f00 + a ↑ 5) o.sign o.size (o.first / 2) o.second) (named sum_mnemonic bit_values s)
 
 -- V22: the code of VMLADAV and VMLADAVA, also named VMLAV and VMLAVA (DDI0553, "VMLADAV")
 abbrev pub code_dot : List ℕ → Operands → Option ℕ
-code_dot s o = option_map (λ a. of_vectors (dot_base (element_in o.size) + a ↑ 5) o.sign 0 o.second (o.first / 2) o.third) (dot_in s)
+code_dot s o =
+    option_map (λ a. of_vectors (dot_base (element_in o.size) + a ↑ 5) o.sign 0 o.second (o.first / 2) o.third)
+    (first (named dot_mnemonic bit_values s) (named other_dot_mnemonic bit_values s))
 
 -- V22: the code of VADDLV and VADDLVA (DDI0553, "VADDLV")
 abbrev pub code_long_sum : List ℕ → Operands → Option ℕ
-code_long_sum s o = option_map (λ a. of_vectors (0xee890f00 + a ↑ 5) o.sign (o.second / 2) 0 (o.first / 2) o.third) (long_sum_in s)
+code_long_sum s o =
+    option_map (λ a. of_vectors (0xee890f00 + a ↑ 5) o.sign (o.second / 2) 0 (o.first / 2) o.third) (named long_sum_mnemonic bit_values s)
 
 -- V22: the code of VMLALDAV and VMLALDAVA (DDI0553, "VMLALDAV")
 abbrev pub code_long_dot : List ℕ → Operands → Option ℕ
 code_long_dot s o =
-    option_map (λ a. of_vectors (0xee800e00 + a ↑ 5 + (o.size - 1) ↑ 16) o.sign (o.second / 2) o.third (o.first / 2) o.fourth) (long_dot_in s)
+    option_map (λ a. of_vectors (0xee800e00 + a ↑ 5 + (o.size - 1) ↑ 16) o.sign (o.second / 2) o.third (o.first / 2) o.fourth)
+    (named long_dot_mnemonic bit_values s)
 
 -- V23: the code of VMAXV and VMINV (DDI0553, "VMAXV, VMAXAV" and "VMINV, VMINAV")
 abbrev pub code_extreme : List ℕ → Operands → Option ℕ
-code_extreme s o = option_map (λ b. of_one (b + o.first ↑ 12) o.sign o.size 0 o.second) (extreme_base_in s)
+code_extreme s o = option_map (λ name. of_one (extreme_base name + o.first ↑ 12) o.sign o.size 0 o.second) (named extreme_mnemonic extreme_names s)
 
 -- V17, V18 and V21: the code of VSHLC, VDUP and VCTP, by the mnemonic (DDI0553, "VSHLC", "VDUP" and "VCTP")
 abbrev pub code_alone : List ℕ → Operands → Option ℕ
@@ -202,32 +242,34 @@ access_code l y o =
     else if o.is_vector then offsets_code l y o
     else offset_code l y o
 
--- V24 to V27: the code of VSTRB, VSTRH and VSTRW (DDI0553, "VSTRB, VSTRH, VSTRW" and "VSTRB, VSTRH, VSTRW, VSTRD (vector)")
-abbrev pub code_store : List ℕ → Operands → Option ℕ
-code_store s o = option_map (λ y. access_code 0 y o) (store_in s)
+-- V24 to V27: the code of VSTRB, VSTRH, VSTRW, VLDRB, VLDRH and VLDRW
+-- (DDI0553, "VLDRB, VLDRH, VLDRW", "VSTRB, VSTRH, VSTRW", "VLDRB, VLDRH, VLDRW, VLDRD (vector)" and "VSTRB, VSTRH, VSTRW, VSTRD (vector)")
+abbrev pub code_access : List ℕ → Operands → Option ℕ
+code_access s o = option_map (λ p. access_code p.0 p.1 o) (access_in s)
 
--- V24 to V27: the code of VLDRB, VLDRH and VLDRW (DDI0553, "VLDRB, VLDRH, VLDRW" and "VLDRB, VLDRH, VLDRW, VLDRD (vector)")
-abbrev pub code_load : List ℕ → Operands → Option ℕ
-code_load s o = option_map (λ y. access_code 1 y o) (load_in s)
+-- V28: the code of part p of a load where l is 1, else of a store, of four registers where f is 1, else of two; n is the register of the base
+-- (DDI0553, "VLD2", "VLD4", "VST2" and "VST4")
+abbrev pub interleaved_code : ℕ → ℕ → ℕ → ℕ → Operands → ℕ
+interleaved_code f l p n o = of_access (0xfc801e00 + p ↑ 5 + o.back ↑ 21) l n o.first o.size f
 
 -- V28: the code of VLD20, VLD21, VST20 and VST21 (DDI0553, "VLD2" and "VST2")
 abbrev pub code_pair : List ℕ → Operands → Option ℕ
-code_pair s o = option_map (λ b. of_access (b + o.back ↑ 21) 0 o.third o.first o.size 0) (pair_base s)
+code_pair s o = option_map (λ p. interleaved_code 0 p.0 p.1 o.third o) (pair_in s)
 
 -- V28: the code of VLD40 to VLD43 and VST40 to VST43 (DDI0553, "VLD4" and "VST4")
 abbrev pub code_quad : List ℕ → Operands → Option ℕ
-code_quad s o = option_map (λ b. of_access (b + o.back ↑ 21) 0 o.fifth o.first o.size 0) (quad_base s)
+code_quad s o = option_map (λ p. interleaved_code 1 p.0 p.1 o.fifth o) (quad_in s)
 
 -- ALL ROWS
 -- the code of rows V1 to V10 and of VPSEL, by the mnemonic
 abbrev pub code_of_pair : List ℕ → Operands → Option ℕ
 code_of_pair s o =
-    first (code_three s o) (first (code_vector_shift s o) (first (code_carry s o) (first (code_turn s o) (code_scalar s o))))
+    first (code_three s o) (first (code_vector_shift s o) (first (code_carry s o) (first (code_complex_sum s o) (code_scalar s o))))
 
 -- the code of rows V11 to V16, and of VMOV of a vector, by the mnemonic
 abbrev pub code_of_one : List ℕ → Operands → Option ℕ
 code_of_one s o =
-    first (code_right s o) (first (code_left s o) (first (code_long s o) (first (code_single s o) (first (code_constant s o) (code_narrow s o)))))
+    first (code_shift s o) (first (code_long s o) (first (code_single s o) (first (code_constant s o) (code_narrow s o))))
 
 -- the code of rows V22 and V23, by the mnemonic
 abbrev pub code_of_sum : List ℕ → Operands → Option ℕ
@@ -241,7 +283,7 @@ code_of_other s o =
 
 -- the code of rows V24 to V28, by the mnemonic
 abbrev pub code_of_memory : List ℕ → Operands → Option ℕ
-code_of_memory s o = first (code_store s o) (first (code_load s o) (first (code_pair s o) (code_quad s o)))
+code_of_memory s o = first (code_access s o) (first (code_pair s o) (code_quad s o))
 
 -- the code of a mnemonic and its operands; None where no row fits
 unfoldable pub code_of : List ℕ → Operands → Option ℕ

@@ -1,10 +1,10 @@
 //! The codes that texts of loads and stores carelessly ask for.
 
 ghost use Rattle.std.specs.Prelude.{◌≡◌, ◌<◌, ◌^◌};
-ghost use Rattle.hm_textv_codes.specs.Codes.{access_code, addresses_code, code_load, code_of_memory, code_pair, code_quad, code_store, index_code, of_access};
-ghost use Rattle.hm_textv_codes.specs.Codes.{offset_code, offsets_code};
+ghost use Rattle.hm_textv_codes.specs.Codes.{access_code, addresses_code, code_access, code_of_memory, code_pair, code_quad, index_code, of_access};
+ghost use Rattle.hm_textv_codes.specs.Codes.{offset_code, offsets_code, interleaved_code};
 
-use crate::bases::{load_in, pair_base, quad_base, store_in};
+use crate::names::{access_in, pair_in, quad_in};
 use crate::operands::Operands;
 
 /// Fields of a row that loads or stores.
@@ -76,46 +76,43 @@ fn access_code(l: u32, y: u32, o: &Operands) -> u64
     offset_code(l, y, o)
 }
 
-/// Stores of rows V24 to V27.
-fn code_store(mnemonic: &[u8], o: &Operands) -> Option<u64>
-    ensures { result ≡ code_store mnemonic.now o.now }
+/// Rows V24 to V27.
+fn code_access(mnemonic: &[u8], o: &Operands) -> Option<u64>
+    ensures { result ≡ code_access mnemonic.now o.now }
 {
-    let y = store_in(mnemonic)?;
-    Some(access_code(0, y, o))
+    let (l, y) = access_in(mnemonic)?;
+    Some(access_code(l, y, o))
 }
 
-/// Loads of rows V24 to V27.
-fn code_load(mnemonic: &[u8], o: &Operands) -> Option<u64>
-    ensures { result ≡ code_load mnemonic.now o.now }
+/// A row V28 of part p, of four registers where f is 1: a store where l is 0, and else a load.
+fn interleaved_code(f: u32, l: u32, p: u32, n: u32, o: &Operands) -> u64
+    ensures { result ≡ interleaved_code f l p n o.now }
 {
-    let y = load_in(mnemonic)?;
-    Some(access_code(1, y, o))
+    let base = 0xfc80_1e00 + (u64::from(p) << 5) + (u64::from(o.back) << 21);
+    of_access(base, l, u64::from(n), o.first, o.size, f)
 }
 
 /// Rows V28 of two registers.
 fn code_pair(mnemonic: &[u8], o: &Operands) -> Option<u64>
     ensures { result ≡ code_pair mnemonic.now o.now }
 {
-    let base = u64::from(pair_base(mnemonic)?) + (u64::from(o.back) << 21);
-    Some(of_access(base, 0, u64::from(o.third), o.first, o.size, 0))
+    let (l, p) = pair_in(mnemonic)?;
+    Some(interleaved_code(0, l, p, o.third, o))
 }
 
 /// Rows V28 of four registers.
 fn code_quad(mnemonic: &[u8], o: &Operands) -> Option<u64>
     ensures { result ≡ code_quad mnemonic.now o.now }
 {
-    let base = u64::from(quad_base(mnemonic)?) + (u64::from(o.back) << 21);
-    Some(of_access(base, 0, u64::from(o.fifth), o.first, o.size, 0))
+    let (l, p) = quad_in(mnemonic)?;
+    Some(interleaved_code(1, l, p, o.fifth, o))
 }
 
 /// Loads and stores.
 pub fn code_of_memory(mnemonic: &[u8], o: &Operands) -> Option<u64>
     ensures { result ≡ code_of_memory mnemonic.now o.now }
 {
-    if let Some(w) = code_store(mnemonic, o) {
-        return Some(w);
-    }
-    if let Some(w) = code_load(mnemonic, o) {
+    if let Some(w) = code_access(mnemonic, o) {
         return Some(w);
     }
     if let Some(w) = code_pair(mnemonic, o) {

@@ -3,26 +3,33 @@
 ghost use Rattle.std.specs.Prelude.{◌≡◌, ◌<◌, ◌^◌, map};
 ghost use Rattle.hm_isa.specs.Code.{mask_code};
 ghost use Rattle.hm_textv_codes.specs.Codes.{bare_code, bits_in, code_alone, code_cut, code_block, code_carry, code_compare, code_constant, code_dot};
-ghost use Rattle.hm_textv_codes.specs.Codes.{code_extreme, code_in, code_left, code_long, code_long_dot, code_long_sum, code_narrow, code_of, code_of_one};
-ghost use Rattle.hm_textv_codes.specs.Codes.{code_of_other, code_of_pair, code_of_sum, code_offsets, code_right, code_scalar, code_single, code_sum};
-ghost use Rattle.hm_textv_codes.specs.Codes.{code_three, code_turn, code_vector_shift, code_wrapped, compare_code, constant_code, constant_mode};
-ghost use Rattle.hm_textv_codes.specs.Codes.{constant_operation, element_in, long_code, of_core, of_one, of_vectors, step_in};
-ghost use Rattle.hm_text_rows.specs.Operands.{first};
-ghost use Rattle.hm_textv_codes.specs.Bases.{product_base, three_base};
+ghost use Rattle.hm_textv_codes.specs.Codes.{code_extreme, code_in, code_long, code_long_dot, code_long_sum, code_narrow, code_of, code_of_one};
+ghost use Rattle.hm_textv_codes.specs.Codes.{code_of_other, code_of_pair, code_of_sum, code_offsets, code_scalar, code_shift, code_single, code_sum};
+ghost use Rattle.hm_textv_codes.specs.Codes.{code_three, code_complex_sum, code_vector_shift, code_wrapped, compare_code, constant_code, constant_mode};
+ghost use Rattle.hm_textv_codes.specs.Codes.{constant_operation, element_in, long_code, of_core, of_one, of_vectors, shift_field, single_base, step_in};
+ghost use Rattle.hm_textv_codes.specs.Codes.{three_base};
 ghost use Rattle.hm_text_base.specs.Spans.{span};
 ghost use Rattle.hm_tokens.specs.Tokens.{point, tok};
 
 use crate::access::code_of_memory;
-use crate::bases::{
-    block_in, carry_base_in, compare_in, complex_sum_base_in, constant_in, dot_in, extreme_base_in,
-    left_base, long_dot_in, long_in, long_sum_in, narrow_base_in, offsets_base_in, product_base,
-    right_base, scalar_base_in, single_base, sum_in, three_base, vector_shift_base_in,
-    wrapped_base_in,
+use crate::names::{
+    add_name, bitwise_name, block_mask, carry_name, compare_mask, complex_sum_name, constant_in,
+    constant_shift_name, dot_bit, doubling_name, extreme_name, high_name, long_dot_bit,
+    long_product_part, long_shift_part, long_sum_bit, narrow_in, offsets_name, one_name,
+    reverse_name, scalar_name, signed_name, sum_bit, vector_shift_name, wrapped_name,
 };
 use crate::operands::{Operands, read_operands};
-use hm_encv_registers::{base_of_dot, base_of_dup};
-use hm_isa::Element;
+use hm_encv_registers::{
+    base_of_dot, base_of_dup, base_of_extreme, base_of_offsets, base_of_scalar,
+};
+use hm_encv_vectors::{
+    base_of_add, base_of_bitwise, base_of_carry, base_of_doubling, base_of_high, base_of_narrow,
+    base_of_one, base_of_reverse, base_of_shift, base_of_signed, base_of_turn,
+    base_of_vector_shift,
+};
+use hm_isa::{BitwiseName, ConstantShiftName, Element};
 use hm_text_base::span;
+use hm_text_rows::is;
 use hm_tokens::Token;
 
 /// Fields of a row of three vectors.
@@ -88,14 +95,32 @@ fn place_mask(k: u32) -> u64
     (u64::from(k / 8) << 22) + (u64::from(k % 8) << 13)
 }
 
-/// The first base of two.
-fn first_base(mnemonic: &[u8]) -> Option<u32>
-    ensures { result ≡ first (three_base mnemonic.now) (product_base mnemonic.now) }
+/// Of three vectors: rows V1 to V3 and V5 to V7, and `vpsel`.
+fn three_base(mnemonic: &[u8]) -> Option<u32>
+    ensures { result ≡ three_base mnemonic.now }
 {
-    if let Some(base) = three_base(mnemonic) {
-        return Some(base);
+    if let Some(name) = add_name(mnemonic) {
+        return Some(base_of_add(name));
     }
-    product_base(mnemonic)
+    if let Some(name) = bitwise_name(mnemonic) {
+        return Some(base_of_bitwise(name));
+    }
+    if let Some(name) = signed_name(mnemonic) {
+        return Some(base_of_signed(name));
+    }
+    if let Some(name) = doubling_name(mnemonic) {
+        return Some(base_of_doubling(name));
+    }
+    if let Some(name) = high_name(mnemonic) {
+        return Some(base_of_high(name));
+    }
+    if let Some(t) = long_product_part(mnemonic) {
+        return Some(0xee01_0e00 + (t << 12));
+    }
+    if is(mnemonic, "vpsel") {
+        return Some(0xfe31_0f01);
+    }
+    None
 }
 
 /// Rows V1 to V3 and V5 to V7, and `vpsel`.
@@ -105,7 +130,7 @@ fn code_three(mnemonic: &[u8], o: &Operands) -> Option<u64>
     if !o.is_vector {
         return None;
     }
-    let base = first_base(mnemonic)?;
+    let base = three_base(mnemonic)?;
     Some(of_vectors(u64::from(base), o.sign, o.size, o.second, o.first, o.third))
 }
 
@@ -116,7 +141,7 @@ fn code_vector_shift(mnemonic: &[u8], o: &Operands) -> Option<u64>
     if !o.is_vector {
         return None;
     }
-    let base = vector_shift_base_in(mnemonic)?;
+    let base = base_of_vector_shift(vector_shift_name(mnemonic)?);
     Some(of_vectors(u64::from(base), o.sign, o.size, o.third, o.first, o.second))
 }
 
@@ -124,15 +149,15 @@ fn code_vector_shift(mnemonic: &[u8], o: &Operands) -> Option<u64>
 fn code_carry(mnemonic: &[u8], o: &Operands) -> Option<u64>
     ensures { result ≡ code_carry mnemonic.now o.now }
 {
-    let base = carry_base_in(mnemonic)?;
+    let base = base_of_carry(carry_name(mnemonic)?);
     Some(of_vectors(u64::from(base), 0, 0, o.second, o.first, o.third))
 }
 
 /// Rows V9.
-fn code_turn(mnemonic: &[u8], o: &Operands) -> Option<u64>
-    ensures { result ≡ code_turn mnemonic.now o.now }
+fn code_complex_sum(mnemonic: &[u8], o: &Operands) -> Option<u64>
+    ensures { result ≡ code_complex_sum mnemonic.now o.now }
 {
-    let base = u64::from(complex_sum_base_in(mnemonic)?);
+    let base = u64::from(base_of_turn(complex_sum_name(mnemonic)?));
     if o.fourth == 270 {
         Some(of_vectors(base + 0x1000, 0, o.size, o.second, o.first, o.third))
     } else {
@@ -147,26 +172,34 @@ fn code_scalar(mnemonic: &[u8], o: &Operands) -> Option<u64>
     if o.is_vector {
         return None;
     }
-    let base = scalar_base_in(mnemonic)?;
+    let base = base_of_scalar(scalar_name(mnemonic)?);
     Some(of_core(u64::from(base), o.sign, o.size, o.second, o.first, o.third))
 }
 
-/// Rows V11 to the right.
-fn code_right(mnemonic: &[u8], o: &Operands) -> Option<u64>
-    ensures { result ≡ code_right mnemonic.now o.now }
+/// The field of a row V11 that shifts elements of the size z by n.
+fn shift_field(name: ConstantShiftName, z: u32, n: u32) -> u64
+    ensures value { result ≡ shift_field name z n }
+    ensures small { result < 2 ^ 40 }
 {
-    let base = u64::from(right_base(mnemonic)?);
-    let x = (2 * bits_in(o.size)).saturating_sub(o.third);
-    Some(of_one(base + (u64::from(x) << 16), o.sign, 0, o.first, o.second))
+    let bits = u64::from(bits_in(z));
+    match name {
+        ConstantShiftName::Shr | ConstantShiftName::Rshr | ConstantShiftName::Sri => {
+            (2 * bits).saturating_sub(u64::from(n))
+        }
+        ConstantShiftName::Qshl
+        | ConstantShiftName::Qshlu
+        | ConstantShiftName::Shl
+        | ConstantShiftName::Sli => bits + u64::from(n),
+    }
 }
 
-/// Rows V11 to the left.
-fn code_left(mnemonic: &[u8], o: &Operands) -> Option<u64>
-    ensures { result ≡ code_left mnemonic.now o.now }
+/// Rows V11.
+fn code_shift(mnemonic: &[u8], o: &Operands) -> Option<u64>
+    ensures { result ≡ code_shift mnemonic.now o.now }
 {
-    let base = u64::from(left_base(mnemonic)?);
-    let x = u64::from(bits_in(o.size)) + u64::from(o.third);
-    Some(of_one(base + (x << 16), o.sign, 0, o.first, o.second))
+    let name = constant_shift_name(mnemonic)?;
+    let base = u64::from(base_of_shift(name)) + (shift_field(name, o.size, o.third) << 16);
+    Some(of_one(base, o.sign, 0, o.first, o.second))
 }
 
 /// A row V12 of a part.
@@ -186,8 +219,19 @@ fn long_code(t: u32, o: &Operands) -> u64
 fn code_long(mnemonic: &[u8], o: &Operands) -> Option<u64>
     ensures { result ≡ code_long mnemonic.now o.now }
 {
-    let t = long_in(mnemonic)?;
+    let t = long_shift_part(mnemonic)?;
     Some(long_code(t, o))
+}
+
+/// Rows V13 and V14: the base of the name.
+fn single_base(mnemonic: &[u8]) -> Option<u32>
+    ensures { result ≡ single_base mnemonic.now }
+{
+    if let Some(name) = one_name(mnemonic) {
+        return Some(base_of_one(name));
+    }
+    let name = reverse_name(mnemonic)?;
+    Some(base_of_reverse(name))
 }
 
 /// Rows V13 and V14.
@@ -245,7 +289,14 @@ fn bare_code(k: u32, o: &Operands) -> u64
     ensures { result ≡ bare_code k o.now }
 {
     if k == 0 {
-        of_vectors(0xef20_0150, 0, 0, o.second, o.first, o.second)
+        of_vectors(
+            u64::from(base_of_bitwise(BitwiseName::Orr)),
+            0,
+            0,
+            o.second,
+            o.first,
+            o.second,
+        )
     } else {
         of_one(0xffb0_05c0, 0, 0, o.first, o.second)
     }
@@ -267,9 +318,9 @@ fn code_constant(mnemonic: &[u8], o: &Operands) -> Option<u64>
 fn code_narrow(mnemonic: &[u8], o: &Operands) -> Option<u64>
     ensures { result ≡ code_narrow mnemonic.now o.now }
 {
-    let base = narrow_base_in(mnemonic)?;
+    let (name, t) = narrow_in(mnemonic)?;
     Some(of_one(
-        u64::from(base),
+        u64::from(base_of_narrow(name)) + (u64::from(t) << 12),
         o.sign,
         o.size.saturating_sub(1),
         o.first,
@@ -294,7 +345,7 @@ fn step_in(n: u32) -> u64
 fn code_offsets(mnemonic: &[u8], o: &Operands) -> Option<u64>
     ensures { result ≡ code_offsets mnemonic.now o.now }
 {
-    let base = u64::from(offsets_base_in(mnemonic)?);
+    let base = u64::from(base_of_offsets(offsets_name(mnemonic)?));
     Some(of_core(
         base + 0xe + step_in(o.third),
         0,
@@ -309,7 +360,7 @@ fn code_offsets(mnemonic: &[u8], o: &Operands) -> Option<u64>
 fn code_wrapped(mnemonic: &[u8], o: &Operands) -> Option<u64>
     ensures { result ≡ code_wrapped mnemonic.now o.now }
 {
-    let base = u64::from(wrapped_base_in(mnemonic)?);
+    let base = u64::from(base_of_offsets(wrapped_name(mnemonic)?));
     Some(of_vectors(
         base + step_in(o.fourth),
         0,
@@ -339,7 +390,7 @@ fn compare_code(k: u32, o: &Operands) -> u64
 fn code_compare(mnemonic: &[u8], o: &Operands) -> Option<u64>
     ensures { result ≡ code_compare mnemonic.now o.now }
 {
-    let k = compare_in(mnemonic)?;
+    let k = compare_mask(mnemonic)?;
     Some(compare_code(k, o))
 }
 
@@ -347,7 +398,7 @@ fn code_compare(mnemonic: &[u8], o: &Operands) -> Option<u64>
 fn code_block(mnemonic: &[u8]) -> Option<u64>
     ensures { result ≡ code_block mnemonic.now }
 {
-    let k = block_in(mnemonic)?;
+    let k = block_mask(mnemonic)?;
     Some(0xfe31_0f4d + place_mask(k))
 }
 
@@ -355,7 +406,7 @@ fn code_block(mnemonic: &[u8]) -> Option<u64>
 fn code_sum(mnemonic: &[u8], o: &Operands) -> Option<u64>
     ensures { result ≡ code_sum mnemonic.now o.now }
 {
-    let a = u64::from(sum_in(mnemonic)?);
+    let a = u64::from(sum_bit(mnemonic)?);
     Some(of_one(
         0xeef1_0f00 + (a << 5),
         o.sign,
@@ -369,7 +420,7 @@ fn code_sum(mnemonic: &[u8], o: &Operands) -> Option<u64>
 fn code_dot(mnemonic: &[u8], o: &Operands) -> Option<u64>
     ensures { result ≡ code_dot mnemonic.now o.now }
 {
-    let a = u64::from(dot_in(mnemonic)?);
+    let a = u64::from(dot_bit(mnemonic)?);
     let base = u64::from(base_of_dot(element_in(o.size)));
     Some(of_vectors(base + (a << 5), o.sign, 0, o.second, o.first / 2, o.third))
 }
@@ -378,7 +429,7 @@ fn code_dot(mnemonic: &[u8], o: &Operands) -> Option<u64>
 fn code_long_sum(mnemonic: &[u8], o: &Operands) -> Option<u64>
     ensures { result ≡ code_long_sum mnemonic.now o.now }
 {
-    let a = u64::from(long_sum_in(mnemonic)?);
+    let a = u64::from(long_sum_bit(mnemonic)?);
     Some(of_vectors(
         0xee89_0f00 + (a << 5),
         o.sign,
@@ -393,7 +444,7 @@ fn code_long_sum(mnemonic: &[u8], o: &Operands) -> Option<u64>
 fn code_long_dot(mnemonic: &[u8], o: &Operands) -> Option<u64>
     ensures { result ≡ code_long_dot mnemonic.now o.now }
 {
-    let a = u64::from(long_dot_in(mnemonic)?);
+    let a = u64::from(long_dot_bit(mnemonic)?);
     let size = u64::from(o.size.saturating_sub(1));
     Some(of_vectors(
         0xee80_0e00 + (a << 5) + (size << 16),
@@ -409,7 +460,7 @@ fn code_long_dot(mnemonic: &[u8], o: &Operands) -> Option<u64>
 fn code_extreme(mnemonic: &[u8], o: &Operands) -> Option<u64>
     ensures { result ≡ code_extreme mnemonic.now o.now }
 {
-    let base = u64::from(extreme_base_in(mnemonic)?);
+    let base = u64::from(base_of_extreme(extreme_name(mnemonic)?));
     Some(of_one(
         base + (u64::from(o.first) << 12),
         o.sign,
@@ -454,7 +505,7 @@ fn code_of_pair(mnemonic: &[u8], o: &Operands) -> Option<u64>
     if let Some(w) = code_carry(mnemonic, o) {
         return Some(w);
     }
-    if let Some(w) = code_turn(mnemonic, o) {
+    if let Some(w) = code_complex_sum(mnemonic, o) {
         return Some(w);
     }
     code_scalar(mnemonic, o)
@@ -464,10 +515,7 @@ fn code_of_pair(mnemonic: &[u8], o: &Operands) -> Option<u64>
 fn code_of_one(mnemonic: &[u8], o: &Operands) -> Option<u64>
     ensures { result ≡ code_of_one mnemonic.now o.now }
 {
-    if let Some(w) = code_right(mnemonic, o) {
-        return Some(w);
-    }
-    if let Some(w) = code_left(mnemonic, o) {
+    if let Some(w) = code_shift(mnemonic, o) {
         return Some(w);
     }
     if let Some(w) = code_long(mnemonic, o) {

@@ -2,8 +2,8 @@
 #![tactic(auto)]
 
 mod access;
-mod bases;
 mod codes;
+mod names;
 mod operands;
 
 pub use codes::code_in;

@@ -103,6 +103,10 @@ abbrev pub doubling_mnemonic : DoublingName → List ℕ
 doubling_mnemonic doubling.Qdmulh = codes "vqdmulh"
 doubling_mnemonic doubling.Qrdmulh = codes "vqrdmulh"
 
+-- V6: VMULLB, or VMULLT where t is 1 (DDI0553, "VMULL (integer)")
+abbrev pub long_product_mnemonic : ℕ → List ℕ
+long_product_mnemonic t = either t (codes "vmullb") (codes "vmullt")
+
 -- V7: the mnemonic of each name, VMULH and VRMULH (DDI0553, "VMULH, VRMULH")
 abbrev pub high_mnemonic : HighName → List ℕ
 high_mnemonic high.Mulh = codes "vmulh"
@@ -145,6 +149,14 @@ constant_shift_mnemonic by_constant.Shl = codes "vshl"
 constant_shift_mnemonic by_constant.Sri = codes "vsri"
 constant_shift_mnemonic by_constant.Sli = codes "vsli"
 
+-- V12: VSHLLB, or VSHLLT where t is 1 (DDI0553, "VSHLL")
+abbrev pub long_shift_mnemonic : ℕ → List ℕ
+long_shift_mnemonic t = either t (codes "vshllb") (codes "vshllt")
+
+-- V12: VMOVLB, or VMOVLT where t is 1, which shift by 0 (DDI0553, "VMOVL")
+abbrev pub long_move_mnemonic : ℕ → List ℕ
+long_move_mnemonic t = either t (codes "vmovlb") (codes "vmovlt")
+
 -- V13: the mnemonic of each name, VCLS, VCLZ, VABS, VNEG, VQABS and VQNEG (DDI0553, "VCLS", "VCLZ", "VABS", "VNEG", "VQABS" and "VQNEG")
 abbrev pub one_mnemonic : OneName → List ℕ
 one_mnemonic one.Cls = codes "vcls"
@@ -160,6 +172,14 @@ reverse_mnemonic reverse_.Rev64 = codes "vrev64"
 reverse_mnemonic reverse_.Rev32 = codes "vrev32"
 reverse_mnemonic reverse_.Rev16 = codes "vrev16"
 
+-- V15: VMOV, or VMVN where op is 1 (DDI0553, "VMOV (immediate)" and "VMVN (immediate)")
+abbrev pub constant_move_mnemonic : ℕ → List ℕ
+constant_move_mnemonic op = either op (codes "vmov") (codes "vmvn")
+
+-- V15: VORR, or VBIC where op is 1 (DDI0553, "VORR (immediate)" and "VBIC (immediate)")
+abbrev pub constant_merge_mnemonic : ℕ → List ℕ
+constant_merge_mnemonic op = either op (codes "vorr") (codes "vbic")
+
 -- V16: the mnemonic of each name, VMOVN, VQMOVUN and VQMOVN, with b for the lower part of each wide element, or t for the upper
 -- (DDI0553, "VMOVN", "VQMOVN" and "VQMOVUN")
 abbrev pub narrow_mnemonic : NarrowName → ℕ → List ℕ
@@ -167,6 +187,26 @@ narrow_mnemonic narrow_.Plain t = cond (nat_eq t 0) (codes "vmovnb") (codes "vmo
 narrow_mnemonic narrow_.ToUnsigned t = cond (nat_eq t 0) (codes "vqmovunb") (codes "vqmovunt")
 narrow_mnemonic narrow_.Signed t = cond (nat_eq t 0) (codes "vqmovnb") (codes "vqmovnt")
 narrow_mnemonic narrow_.Unsigned t = cond (nat_eq t 0) (codes "vqmovnb") (codes "vqmovnt")
+
+-- V22: VADDV, or VADDVA where a is 1, with which the sum goes on from the old value (DDI0553, "VADDV")
+abbrev pub sum_mnemonic : ℕ → List ℕ
+sum_mnemonic a = either a (codes "vaddv") (codes "vaddva")
+
+-- V22: VMLADAV, or VMLADAVA where a is 1 (DDI0553, "VMLADAV")
+abbrev pub dot_mnemonic : ℕ → List ℕ
+dot_mnemonic a = either a (codes "vmladav") (codes "vmladava")
+
+-- V22: the other spelling of VMLADAV and VMLADAVA, VMLAV and VMLAVA (DDI0553, "VMLADAV")
+abbrev pub other_dot_mnemonic : ℕ → List ℕ
+other_dot_mnemonic a = either a (codes "vmlav") (codes "vmlava")
+
+-- V22: VADDLV, or VADDLVA where a is 1 (DDI0553, "VADDLV")
+abbrev pub long_sum_mnemonic : ℕ → List ℕ
+long_sum_mnemonic a = either a (codes "vaddlv") (codes "vaddlva")
+
+-- V22: VMLALDAV, or VMLALDAVA where a is 1 (DDI0553, "VMLALDAV")
+abbrev pub long_dot_mnemonic : ℕ → List ℕ
+long_dot_mnemonic a = either a (codes "vmlaldav") (codes "vmlaldava")
 
 -- V23: the mnemonic of each name, VMAXV and VMINV (DDI0553, "VMAXV, VMAXAV" and "VMINV, VMINAV")
 abbrev pub extreme_mnemonic : ExtremeName → List ℕ
@@ -262,3 +302,15 @@ block_letters mask = get_or
     (codes "" ∷ codes "ttt" ∷ codes "tt" ∷ codes "tte" ∷ codes "t" ∷ codes "tee" ∷ codes "te" ∷ codes "tet"
     ∷ codes "" ∷ codes "eee" ∷ codes "ee" ∷ codes "eet" ∷ codes "e" ∷ codes "ett" ∷ codes "et" ∷ codes "ete" ∷ [])
     mask []
+
+-- V20: VCMP where the mask is 0, else VPT (DDI0553, "VCMP" and "VPT")
+abbrev pub compare_word : ℕ → List ℕ
+compare_word mask = cond (nat_eq mask 0) (codes "vcmp") (codes "vpt")
+
+-- V21: VPNOT where the mask is 0, else VPST (DDI0553, "VPST" and "VPNOT")
+abbrev pub block_word : ℕ → List ℕ
+block_word mask = cond (nat_eq mask 0) (codes "vpnot") (codes "vpst")
+
+-- V20 and V21: the mnemonic by its mask: one of these words and the letters of the block (DDI0553, "VPT" and "VPST")
+abbrev pub block_mnemonic : (ℕ → List ℕ) → ℕ → List ℕ
+block_mnemonic name mask = name mask ++ block_letters mask

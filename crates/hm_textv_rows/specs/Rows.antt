@@ -25,11 +25,14 @@ use Rattle.hm_isa.specs.declared.vectors.ConstantShiftName.TheVariants as by_con
 use Rattle.hm_tokens.specs.Lines.{IsLineOf}
 use Rattle.hm_tokens.specs.Tokens.{Tok, word, close_brace, close_bracket, comma, open_brace, open_bracket}
 use Rattle.hm_text_rows.specs.Shapes.{and_constant, back, constant, either, four, indexed, inside, or_zero, q, r, three, two}
-use Rattle.hm_textv_rows.specs.Mnemonics.{access_mnemonic, access_suffix, add_mnemonic, bitwise_mnemonic, block_letters, by_sign, carry_mnemonic}
-use Rattle.hm_textv_rows.specs.Mnemonics.{compare_condition, compare_suffix, constant_shift_mnemonic, constant_shift_suffix, doubling_mnemonic}
-use Rattle.hm_textv_rows.specs.Mnemonics.{extreme_mnemonic, high_mnemonic, integer, narrow_mnemonic, narrow_suffix, offsets_mnemonic, one_mnemonic, one_suffix}
-use Rattle.hm_textv_rows.specs.Mnemonics.{pair_mnemonic, plain, quad_mnemonic, reverse_mnemonic, scalar_mnemonic, scalar_suffix, signed, signed_mnemonic}
-use Rattle.hm_textv_rows.specs.Mnemonics.{size_number, complex_sum_mnemonic, complex_sum_suffix, unsigned, vector_shift_mnemonic, wrapped_mnemonic}
+use Rattle.hm_textv_rows.specs.Mnemonics.{access_mnemonic, access_suffix, add_mnemonic, bitwise_mnemonic, block_letters, block_mnemonic, block_word}
+use Rattle.hm_textv_rows.specs.Mnemonics.{by_sign, carry_mnemonic, compare_condition, compare_suffix, compare_word, complex_sum_mnemonic}
+use Rattle.hm_textv_rows.specs.Mnemonics.{complex_sum_suffix, constant_shift_mnemonic, constant_shift_suffix, dot_mnemonic, doubling_mnemonic}
+use Rattle.hm_textv_rows.specs.Mnemonics.{extreme_mnemonic, high_mnemonic, integer, long_dot_mnemonic, long_move_mnemonic, long_product_mnemonic}
+use Rattle.hm_textv_rows.specs.Mnemonics.{long_shift_mnemonic, long_sum_mnemonic, narrow_mnemonic, narrow_suffix, offsets_mnemonic, one_mnemonic, one_suffix}
+use Rattle.hm_textv_rows.specs.Mnemonics.{other_dot_mnemonic, pair_mnemonic, plain, quad_mnemonic, reverse_mnemonic, scalar_mnemonic, scalar_suffix}
+use Rattle.hm_textv_rows.specs.Mnemonics.{signed, signed_mnemonic, size_number, sum_mnemonic, unsigned, vector_shift_mnemonic, wrapped_mnemonic}
+use Rattle.hm_textv_rows.specs.Mnemonics.{constant_merge_mnemonic, constant_move_mnemonic}
 
 -- ROWS
 -- V11: the size of elements that the highest bit of the field x tells (DDI0553, "VSHR", "VRSHR", "VQSHL, VQSHLU", "VSHL", "VSRI" and "VSLI")
@@ -54,14 +57,14 @@ shift_tokens i = and_constant (two (constant_shift_mnemonic i.name ++ constant_s
 abbrev pub long_part : ℕ → List ℕ → ℕ → ℕ → ℕ → List Tok
 long_part t suffix d m k =
     cond (nat_eq k 0)
-    (two (either t (codes "vmovlb") (codes "vmovlt") ++ suffix) (q d) (q m))
-    (and_constant (two (either t (codes "vshllb") (codes "vshllt") ++ suffix) (q d) (q m)) k)
+    (two (long_move_mnemonic t ++ suffix) (q d) (q m))
+    (and_constant (two (long_shift_mnemonic t ++ suffix) (q d) (q m)) k)
 
 -- V12: the tokens of VSHLLB, VSHLLT, VMOVLB and VMOVLT (DDI0553, "VSHLL" and "VMOVL")
 abbrev pub long_tokens : LongRow → List Tok
 long_tokens (v12.Bytes i) = long_part i.t.value (by_sign i.u.value 0) i.d.value i.m.value i.k.value
 long_tokens (v12.Halves i) = long_part i.t.value (by_sign i.u.value 1) i.d.value i.m.value i.k.value
-long_tokens (v12.Full i) = and_constant (two (either i.t.value (codes "vshllb") (codes "vshllt") ++ by_sign i.u.value i.z.value) (q i.d.value) (q i.m.value))
+long_tokens (v12.Full i) = and_constant (two (long_shift_mnemonic i.t.value ++ by_sign i.u.value i.z.value) (q i.d.value) (q i.m.value))
     (8 * 2 ^ i.z.value)
 
 -- V13: the tokens of VCLS, VCLZ, VABS, VNEG, VQABS and VQNEG, and of VMVN of a vector
@@ -69,14 +72,6 @@ long_tokens (v12.Full i) = and_constant (two (either i.t.value (codes "vshllb") 
 abbrev pub one_tokens : OneRow → List Tok
 one_tokens (v13.Elements i) = two (one_mnemonic i.name ++ one_suffix i.name i.z.value) (q i.d.value) (q i.m.value)
 one_tokens (v13.Not i) = two (codes "vmvn") (q i.d.value) (q i.m.value)
-
--- V15: VMOV, or VMVN where op is 1 (DDI0553, "VMOV (immediate)" and "VMVN (immediate)")
-abbrev pub moved : ℕ → List ℕ
-moved op = either op (codes "vmov") (codes "vmvn")
-
--- V15: VORR, or VBIC where op is 1 (DDI0553, "VORR (immediate)" and "VBIC (immediate)")
-abbrev pub merged : ℕ → List ℕ
-merged op = either op (codes "vorr") (codes "vbic")
 
 -- V15: the tokens of an immediate and how far it is shifted, `#x,lsl #n`
 -- (DDI0553, "VMOV (immediate)", "VMVN (immediate)", "VORR (immediate)" and "VBIC (immediate)")
@@ -91,20 +86,20 @@ unshifted name d x = word name ∷ q d ∷ comma ∷ constant x
 -- (DDI0553, "VMOV (immediate)", "VMVN (immediate)", "VORR (immediate)" and "VBIC (immediate)")
 abbrev pub constant_forms : ℕ → ℕ → ℕ → List (List Tok)
 constant_forms op d x =
-    shifted (moved op ++ codes ".i32") (codes "lsl") 0 d x
-    ∷ shifted (merged op ++ codes ".i32") (codes "lsl") 0 d x
-    ∷ shifted (moved op ++ codes ".i32") (codes "lsl") 8 d x
-    ∷ shifted (merged op ++ codes ".i32") (codes "lsl") 8 d x
-    ∷ shifted (moved op ++ codes ".i32") (codes "lsl") 16 d x
-    ∷ shifted (merged op ++ codes ".i32") (codes "lsl") 16 d x
-    ∷ shifted (moved op ++ codes ".i32") (codes "lsl") 24 d x
-    ∷ shifted (merged op ++ codes ".i32") (codes "lsl") 24 d x
-    ∷ shifted (moved op ++ codes ".i16") (codes "lsl") 0 d x
-    ∷ shifted (merged op ++ codes ".i16") (codes "lsl") 0 d x
-    ∷ shifted (moved op ++ codes ".i16") (codes "lsl") 8 d x
-    ∷ shifted (merged op ++ codes ".i16") (codes "lsl") 8 d x
-    ∷ shifted (moved op ++ codes ".i32") (codes "msl") 8 d x
-    ∷ shifted (moved op ++ codes ".i32") (codes "msl") 16 d x
+    shifted (constant_move_mnemonic op ++ codes ".i32") (codes "lsl") 0 d x
+    ∷ shifted (constant_merge_mnemonic op ++ codes ".i32") (codes "lsl") 0 d x
+    ∷ shifted (constant_move_mnemonic op ++ codes ".i32") (codes "lsl") 8 d x
+    ∷ shifted (constant_merge_mnemonic op ++ codes ".i32") (codes "lsl") 8 d x
+    ∷ shifted (constant_move_mnemonic op ++ codes ".i32") (codes "lsl") 16 d x
+    ∷ shifted (constant_merge_mnemonic op ++ codes ".i32") (codes "lsl") 16 d x
+    ∷ shifted (constant_move_mnemonic op ++ codes ".i32") (codes "lsl") 24 d x
+    ∷ shifted (constant_merge_mnemonic op ++ codes ".i32") (codes "lsl") 24 d x
+    ∷ shifted (constant_move_mnemonic op ++ codes ".i16") (codes "lsl") 0 d x
+    ∷ shifted (constant_merge_mnemonic op ++ codes ".i16") (codes "lsl") 0 d x
+    ∷ shifted (constant_move_mnemonic op ++ codes ".i16") (codes "lsl") 8 d x
+    ∷ shifted (constant_merge_mnemonic op ++ codes ".i16") (codes "lsl") 8 d x
+    ∷ shifted (constant_move_mnemonic op ++ codes ".i32") (codes "msl") 8 d x
+    ∷ shifted (constant_move_mnemonic op ++ codes ".i32") (codes "msl") 16 d x
     ∷ unshifted (codes "vmov" ++ either op (codes ".i8") (codes ".i64")) d x
     ∷ []
 
@@ -120,7 +115,7 @@ offsets_tokens (v19.Wrapped i) =
 
 -- V20: the first word: VCMP, or VPT and the letters of its block, and the suffix (DDI0553, "VCMP" and "VPT")
 abbrev pub compare_first_word : ℕ → ℕ → ℕ → List ℕ
-compare_first_word k c z = cond (nat_eq k 0) (codes "vcmp") (codes "vpt") ++ (block_letters k ++ compare_suffix c z)
+compare_first_word k c z = compare_word k ++ (block_letters k ++ compare_suffix c z)
 
 -- V20: the tokens of VCMP and VPT, with a vector or a core register behind the first vector (DDI0553, "VCMP" and "VPT")
 abbrev pub compare_tokens : CompareRow → List Tok
@@ -129,20 +124,20 @@ compare_tokens (v20.Scalar i) = three (compare_first_word i.k.value i.c.value i.
 
 -- V21: the tokens of VPNOT, VPST with the letters of its block, VPSEL and VCTP (DDI0553, "VPST", "VPNOT", "VPSEL" and "VCTP")
 abbrev pub predicate_tokens : PredicateRow → List Tok
-predicate_tokens (v21.Block i) = word (cond (nat_eq i.k.value 0) (codes "vpnot") (codes "vpst") ++ block_letters i.k.value) ∷ []
+predicate_tokens (v21.Block i) = word (block_mnemonic block_word i.k.value) ∷ []
 predicate_tokens (v21.Select i) = three (codes "vpsel") (q i.d.value) (q i.n.value) (q i.m.value)
 predicate_tokens (v21.Tail i) = word (codes "vctp" ++ plain i.z.value) ∷ r i.n.value ∷ []
 
 -- V22: the tokens of VADDV, VMLADAV, VADDLV and VMLALDAV, with a where the sum goes on from the old value
 -- (DDI0553, "VADDV", "VMLADAV", "VADDLV" and "VMLALDAV")
 abbrev pub sum_tokens : SumRow → List Tok
-sum_tokens (v22.Sum i) = two (either i.a.value (codes "vaddv") (codes "vaddva") ++ by_sign i.u.value i.z.value) (r (2 * i.l.value)) (q i.m.value)
+sum_tokens (v22.Sum i) = two (sum_mnemonic i.a.value ++ by_sign i.u.value i.z.value) (r (2 * i.l.value)) (q i.m.value)
 sum_tokens (v22.Dot i) =
-    three (either i.a.value (codes "vmladav") (codes "vmladava") ++ by_sign i.u.value (size_number i.size)) (r (2 * i.l.value)) (q i.n.value) (q i.m.value)
+    three (dot_mnemonic i.a.value ++ by_sign i.u.value (size_number i.size)) (r (2 * i.l.value)) (q i.n.value) (q i.m.value)
 sum_tokens (v22.LongSum i) =
-    three (either i.a.value (codes "vaddlv") (codes "vaddlva") ++ by_sign i.u.value 2) (r (2 * i.l.value)) (r (2 * i.h.value + 1)) (q i.m.value)
+    three (long_sum_mnemonic i.a.value ++ by_sign i.u.value 2) (r (2 * i.l.value)) (r (2 * i.h.value + 1)) (q i.m.value)
 sum_tokens (v22.LongDot i) =
-    four (either i.a.value (codes "vmlaldav") (codes "vmlaldava") ++ by_sign i.u.value (i.s.value + 1)) (r (2 * i.l.value)) (r (2 * i.h.value + 1))
+    four (long_dot_mnemonic i.a.value ++ by_sign i.u.value (i.s.value + 1)) (r (2 * i.l.value)) (r (2 * i.h.value + 1))
     (q i.n.value) (q i.m.value)
 
 -- LOADS AND STORES
@@ -178,7 +173,7 @@ tokens_of (V2 i) = three (bitwise_mnemonic i.name) (q i.d.value) (q i.n.value) (
 tokens_of (V3 i) = three (signed_mnemonic i.name ++ by_sign i.u.value i.z.value) (q i.d.value) (q i.n.value) (q i.m.value)
 tokens_of (V4 i) = three (vector_shift_mnemonic i.name ++ by_sign i.u.value i.z.value) (q i.d.value) (q i.m.value) (q i.n.value)
 tokens_of (V5 i) = three (doubling_mnemonic i.name ++ signed i.z.value) (q i.d.value) (q i.n.value) (q i.m.value)
-tokens_of (V6 i) = three (either i.t.value (codes "vmullb") (codes "vmullt") ++ by_sign i.u.value i.z.value) (q i.d.value) (q i.n.value) (q i.m.value)
+tokens_of (V6 i) = three (long_product_mnemonic i.t.value ++ by_sign i.u.value i.z.value) (q i.d.value) (q i.n.value) (q i.m.value)
 tokens_of (V7 i) = three (high_mnemonic i.name ++ by_sign i.u.value i.z.value) (q i.d.value) (q i.n.value) (q i.m.value)
 tokens_of (V8 i) = three (carry_mnemonic i.name ++ codes ".i32") (q i.d.value) (q i.n.value) (q i.m.value)
 tokens_of (V9 i) = and_constant (three (complex_sum_mnemonic i.name ++ complex_sum_suffix i.name i.z.value) (q i.d.value) (q i.n.value) (q i.m.value))
@@ -221,7 +216,7 @@ other_bitwise name same d m = None
 abbrev pub other_tokens : Vector → Option (List Tok)
 other_tokens (V2 i) = other_bitwise i.name (nat_eq i.n.value i.m.value) i.d.value i.m.value
 other_tokens (V22 (v22.Dot i)) =
-    Some (three (either i.a.value (codes "vmlav") (codes "vmlava") ++ by_sign i.u.value (size_number i.size)) (r (2 * i.l.value)) (q i.n.value) (q i.m.value))
+    Some (three (other_dot_mnemonic i.a.value ++ by_sign i.u.value (size_number i.size)) (r (2 * i.l.value)) (q i.n.value) (q i.m.value))
 other_tokens v = None
 
 -- the tokens are one of the row's texts

@@ -1,10 +1,10 @@
 //! The text of each vector row.
 
-ghost use Rattle.std.specs.Prelude.{◌≡◌, ◌≤◌, ◌<◌, ◌+◌, ◌*◌, ◌^◌, ◌++◌, codes};
+ghost use Rattle.std.specs.Prelude.{◌≡◌, ◌≤◌, ◌<◌, ◌+◌, ◌*◌, ◌^◌, ◌++◌};
 ghost use Rattle.hm_isa.specs.declared.Vector.TheVariants as vector;
 ghost use Rattle.hm_textv_rows.specs.Rows.{compare_first_word, long_part, shift_in, shifted, size_in, tokens_of};
 ghost use Rattle.hm_text_rows.specs.Shapes.{either, q, three};
-ghost use Rattle.hm_textv_rows.specs.Mnemonics.{compare_condition};
+ghost use Rattle.hm_textv_rows.specs.Mnemonics.{compare_condition, constant_merge_mnemonic, constant_move_mnemonic, long_move_mnemonic, long_shift_mnemonic};
 ghost use Rattle.hm_tokens.specs.Texts.{part_token, text_tokens};
 ghost use Rattle.hm_tokens.specs.Tokens.{word};
 
@@ -242,14 +242,14 @@ fn text_v11(i: &V11) -> InstrText
 
 /// `vshllb` or `vshllt`.
 fn long_mnemonic(t: Bit) -> &'static str
-    ensures { result.now ≡ either t.value (codes "vshllb") (codes "vshllt") }
+    ensures { result.now ≡ long_shift_mnemonic t.value }
 {
     if t.get() == 0 { "vshllb" } else { "vshllt" }
 }
 
 /// `vmovlb` or `vmovlt`.
 fn moved_mnemonic(t: Bit) -> &'static str
-    ensures { result.now ≡ either t.value (codes "vmovlb") (codes "vmovlt") }
+    ensures { result.now ≡ long_move_mnemonic t.value }
 {
     if t.get() == 0 { "vmovlb" } else { "vmovlt" }
 }
@@ -401,14 +401,14 @@ fn text_v22(i: &V22) -> InstrText
 
 /// `vmov` or `vmvn`.
 fn moved_constant(op: Bit) -> &'static str
-    ensures { result.now ≡ either op.value (codes "vmov") (codes "vmvn") }
+    ensures { result.now ≡ constant_move_mnemonic op.value }
 {
     if op.get() == 0 { "vmov" } else { "vmvn" }
 }
 
 /// `vorr` or `vbic`.
 fn merged_constant(op: Bit) -> &'static str
-    ensures { result.now ≡ either op.value (codes "vorr") (codes "vbic") }
+    ensures { result.now ≡ constant_merge_mnemonic op.value }
 {
     if op.get() == 0 { "vorr" } else { "vbic" }
 }
