@@ -3,8 +3,8 @@
 ghost use Rattle.std.specs.Prelude.{◌≡◌, length, [], ◌∷◌};
 ghost use Rattle.hm_isa.specs.Code.{shift_base, sum_base, byte_base, logic_base, base_base, stack_sum_base, extend_base, swap_base, access_base, plain_base};
 ghost use Rattle.hm_isa.specs.Code.{word_base, list_base, masking_base, hint_base, jump_base, zero_base, code_s1, code_s2, code_s3, code_s4, code_s5};
-ghost use Rattle.hm_isa.specs.Code.{code_s6, code_s7, code_s8, code_s9, code_s10, code_s11, code_s12, code_s13, code_s14, code_s15, code_s16, code_s17, code_s18, code_s19, code_s20};
-ghost use Rattle.hm_isa.specs.Code.{code_s21, code_s23, code_s24, code_s25, scalar_halves, branch_halves};
+ghost use Rattle.hm_isa.specs.Code.{code_s6, code_s7, code_s8, code_s9, code_s10, code_s11, code_s12, code_s13, code_s14, code_s15, code_s16};
+ghost use Rattle.hm_isa.specs.Code.{code_s17, code_s18, code_s19, code_s20, code_s21, code_s23, code_s24, code_s25, scalar_halves, branch_halves};
 
 use hm_isa::{
     AccessName, BaseName, Branch, ByteName, ExtendName, HintName, JumpName, ListName, LogicName,
@@ -14,10 +14,10 @@ use hm_isa::{
 };
 
 /// The code of a name of the row S1 without its fields.
-pub fn base_of_shift(x: ShiftName) -> u32
-    ensures { result ≡ shift_base x }
+pub fn base_of_shift(name: ShiftName) -> u32
+    ensures value { result ≡ shift_base name }
 {
-    match x {
+    match name {
         ShiftName::Lsl => 0x0000,
         ShiftName::Lsr => 0x0800,
         ShiftName::Asr => 0x1000,
@@ -31,10 +31,10 @@ fn encode_s1(r: &S1) -> u16
 }
 
 /// The code of a name of the row S2 without its fields.
-pub fn base_of_sum(x: SumName) -> u32
-    ensures { result ≡ sum_base x }
+pub fn base_of_sum(name: SumName) -> u32
+    ensures value { result ≡ sum_base name }
 {
-    match x {
+    match name {
         SumName::Add => 0x1800,
         SumName::Sub => 0x1a00,
     }
@@ -53,10 +53,10 @@ fn encode_s3(r: &S3) -> u16
 }
 
 /// The code of a name of the row S4 without its fields.
-pub fn base_of_byte(x: ByteName) -> u32
-    ensures { result ≡ byte_base x }
+pub fn base_of_byte(name: ByteName) -> u32
+    ensures value { result ≡ byte_base name }
 {
-    match x {
+    match name {
         ByteName::Mov => 0x2000,
         ByteName::Cmp => 0x2800,
         ByteName::Add => 0x3000,
@@ -71,10 +71,10 @@ fn encode_s4(r: &S4) -> u16
 }
 
 /// The code of a name of the row S5 without its fields.
-pub fn base_of_logic(x: LogicName) -> u32
-    ensures { result ≡ logic_base x }
+pub fn base_of_logic(name: LogicName) -> u32
+    ensures value { result ≡ logic_base name }
 {
-    0x4000 + ((x as u32) << 6)
+    0x4000 + ((name as u32) << 6)
 }
 
 fn encode_s5(r: &S5) -> u16
@@ -105,10 +105,10 @@ fn encode_s8(r: &S8) -> u16
 }
 
 /// The code of a name of the row S9 without its fields.
-pub fn base_of_base(x: BaseName) -> u32
-    ensures { result ≡ base_base x }
+pub fn base_of_address(name: BaseName) -> u32
+    ensures value { result ≡ base_base name }
 {
-    match x {
+    match name {
         BaseName::Pc => 0xa000,
         BaseName::Sp => 0xa800,
     }
@@ -117,14 +117,14 @@ pub fn base_of_base(x: BaseName) -> u32
 fn encode_s9(r: &S9) -> u16
     ensures { result ≡ code_s9 r.now }
 {
-    (base_of_base(r.name) + (r.d.get() << 8) + r.i.get()) as u16
+    (base_of_address(r.name) + (r.d.get() << 8) + r.i.get()) as u16
 }
 
 /// The code of a name of the row S10 without its fields.
-pub fn base_of_stack_sum(x: SumName) -> u32
-    ensures { result ≡ stack_sum_base x }
+pub fn base_of_stack_sum(name: SumName) -> u32
+    ensures value { result ≡ stack_sum_base name }
 {
-    match x {
+    match name {
         SumName::Add => 0xb000,
         SumName::Sub => 0xb080,
     }
@@ -137,10 +137,10 @@ fn encode_s10(r: &S10) -> u16
 }
 
 /// The code of a name of the row S11 without its fields.
-pub fn base_of_extend(x: ExtendName) -> u32
-    ensures { result ≡ extend_base x }
+pub fn base_of_extend(name: ExtendName) -> u32
+    ensures value { result ≡ extend_base name }
 {
-    0xb200 + ((x as u32) << 6)
+    0xb200 + ((name as u32) << 6)
 }
 
 fn encode_s11(r: &S11) -> u16
@@ -150,10 +150,10 @@ fn encode_s11(r: &S11) -> u16
 }
 
 /// The code of a name of the row S12 without its fields.
-pub fn base_of_swap(x: SwapName) -> u32
-    ensures { result ≡ swap_base x }
+pub fn base_of_swap(name: SwapName) -> u32
+    ensures value { result ≡ swap_base name }
 {
-    match x {
+    match name {
         SwapName::Rev => 0xba00,
         SwapName::Rev16 => 0xba40,
         SwapName::Revsh => 0xbac0,
@@ -167,10 +167,10 @@ fn encode_s12(r: &S12) -> u16
 }
 
 /// The code of a name of the row S13, which has no fields.
-pub fn base_of_masking(x: MaskingName) -> u32
-    ensures { result ≡ masking_base x }
+pub fn base_of_masking(name: MaskingName) -> u32
+    ensures value { result ≡ masking_base name }
 {
-    match x {
+    match name {
         MaskingName::Cpsie => 0xb662,
         MaskingName::Cpsid => 0xb672,
     }
@@ -189,10 +189,10 @@ fn encode_s14(r: &S14) -> u16
 }
 
 /// The code of a name of the row S15 without its fields.
-pub fn base_of_access(x: AccessName) -> u32
-    ensures { result ≡ access_base x }
+pub fn base_of_access(name: AccessName) -> u32
+    ensures value { result ≡ access_base name }
 {
-    0x5000 + ((x as u32) << 9)
+    0x5000 + ((name as u32) << 9)
 }
 
 fn encode_s15(r: &S15) -> u16
@@ -202,10 +202,10 @@ fn encode_s15(r: &S15) -> u16
 }
 
 /// The code of a name of the row S16 without its fields.
-pub fn base_of_plain(x: PlainName) -> u32
-    ensures { result ≡ plain_base x }
+pub fn base_of_plain(name: PlainName) -> u32
+    ensures value { result ≡ plain_base name }
 {
-    0x6000 + ((x as u32) << 11)
+    0x6000 + ((name as u32) << 11)
 }
 
 fn encode_s16(r: &S16) -> u16
@@ -215,10 +215,10 @@ fn encode_s16(r: &S16) -> u16
 }
 
 /// The code of a name of the row S17 without its fields.
-pub fn base_of_word(x: WordName) -> u32
-    ensures { result ≡ word_base x }
+pub fn base_of_word(name: WordName) -> u32
+    ensures value { result ≡ word_base name }
 {
-    match x {
+    match name {
         WordName::Str => 0x9000,
         WordName::Ldr => 0x9800,
     }
@@ -237,10 +237,10 @@ fn encode_s18(r: &S18) -> u16
 }
 
 /// The code of a name of the row S19, which has no fields.
-pub fn base_of_hint(x: HintName) -> u32
-    ensures { result ≡ hint_base x }
+pub fn base_of_hint(name: HintName) -> u32
+    ensures value { result ≡ hint_base name }
 {
-    0xbf00 + ((x as u32) << 4)
+    0xbf00 + ((name as u32) << 4)
 }
 
 fn encode_s19(r: &S19) -> u16
@@ -250,10 +250,10 @@ fn encode_s19(r: &S19) -> u16
 }
 
 /// The code of a name of the row S20 without its fields.
-pub fn base_of_list(x: ListName) -> u32
-    ensures { result ≡ list_base x }
+pub fn base_of_list(name: ListName) -> u32
+    ensures value { result ≡ list_base name }
 {
-    match x {
+    match name {
         ListName::Push => 0xb400,
         ListName::Pop => 0xbc00,
         ListName::Stm => 0xc000,
@@ -274,10 +274,10 @@ fn encode_s21(r: &S21) -> u16
 }
 
 /// The code of a name of the row S23 without its fields.
-pub fn base_of_jump(x: JumpName) -> u32
-    ensures { result ≡ jump_base x }
+pub fn base_of_jump(name: JumpName) -> u32
+    ensures value { result ≡ jump_base name }
 {
-    match x {
+    match name {
         JumpName::Bx => 0x4700,
         JumpName::Blx => 0x4780,
     }
@@ -290,10 +290,10 @@ fn encode_s23(r: &S23) -> u16
 }
 
 /// The code of a name of the row S24 without its fields.
-pub fn base_of_zero(x: ZeroName) -> u32
-    ensures { result ≡ zero_base x }
+pub fn base_of_zero(name: ZeroName) -> u32
+    ensures value { result ≡ zero_base name }
 {
-    match x {
+    match name {
         ZeroName::Cbz => 0xb100,
         ZeroName::Cbnz => 0xb900,
     }
@@ -342,11 +342,7 @@ pub fn scalar_code(s: &Scalar) -> u16
         Scalar::S19(r) => encode_s19(r),
         Scalar::S20(r) => encode_s20(r),
         Scalar::S21(r) => encode_s21(r),
-        Scalar::T1(_) | Scalar::T2(_) | Scalar::T3(_) | Scalar::T4(_) => unreachable!(),
-        Scalar::T5(_) | Scalar::T6(_) | Scalar::T7(_) | Scalar::T8(_) => unreachable!(),
-        Scalar::T9(_) | Scalar::T10(_) | Scalar::T11(_) | Scalar::T12(_) => unreachable!(),
-        Scalar::T13(_) | Scalar::T14(_) | Scalar::T15(_) | Scalar::T18(_) => unreachable!(),
-        Scalar::T19(_) | Scalar::T20(_) | Scalar::T21(_) | Scalar::T22(_) => unreachable!(),
+        _ => unreachable!(),
     }
 }
 

@@ -10,7 +10,7 @@ mod encode;
 
 use decode::{find_branch, find_scalar};
 pub use encode::{
-    base_of_access, base_of_base, base_of_byte, base_of_extend, base_of_hint, base_of_jump,
+    base_of_access, base_of_address, base_of_byte, base_of_extend, base_of_hint, base_of_jump,
     base_of_list, base_of_logic, base_of_masking, base_of_plain, base_of_shift, base_of_stack_sum,
     base_of_sum, base_of_swap, base_of_word, base_of_zero,
 };

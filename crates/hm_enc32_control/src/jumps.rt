@@ -268,10 +268,10 @@ fn encode_wide_conditional(r: &WideConditional) -> u32
 }
 
 /// The code of a name of a branch with no condition without its fields.
-pub fn base_of_wide_branch(x: WideBranchName) -> u32
-    ensures { result ≡ wide_branch_base x }
+pub fn base_of_wide_branch(name: WideBranchName) -> u32
+    ensures value { result ≡ wide_branch_base name }
 {
-    match x {
+    match name {
         WideBranchName::B => 0xf000_9000,
         WideBranchName::Bl => 0xf000_d000,
     }
@@ -300,10 +300,10 @@ fn encode_t16(r: &T16) -> u32
 }
 
 /// The code of a name of the row T17 without its fields.
-pub fn base_of_table(x: TableName) -> u32
-    ensures { result ≡ table_base x }
+pub fn base_of_table(name: TableName) -> u32
+    ensures value { result ≡ table_base name }
 {
-    match x {
+    match name {
         TableName::Tbb => 0xe8d0_f000,
         TableName::Tbh => 0xe8d0_f010,
     }
@@ -317,19 +317,19 @@ fn encode_t17(r: &T17) -> u32
 }
 
 /// The code of a name of the end of a loop without its fields.
-fn base_of_loop_end(x: LoopEndName) -> u32
-    ensures { result ≡ loop_end_base x }
+pub fn base_of_loop_end(name: LoopEndName) -> u32
+    ensures value { result ≡ loop_end_base name }
 {
-    match x {
+    match name {
         LoopEndName::LeLr => 0xf00f_c001,
         LoopEndName::Letp => 0xf01f_c001,
         LoopEndName::Le => 0xf02f_c001,
     }
 }
 
-/// The code of an instruction of a low-overhead loop.
-fn encode_t23(r: &T23) -> u32
-    ensures { result ≡ code_t23 r.now }
+/// The code of an instruction of a low-overhead loop, with the first halfword in bits 31 to 16.
+pub fn encode_t23(r: &T23) -> u32
+    ensures value { result ≡ code_t23 r.now }
 {
     match r {
         T23::Dls(r) => 0xf040_e001 + (r.n.get() << 16),

@@ -247,10 +247,10 @@ pub fn find_system(w: u32) -> Option<Scalar>
 }
 
 /// The code of a register of `mrs` without the other field.
-fn base_of_read(x: ReadName) -> u32
-    ensures { result ≡ read_base x }
+pub fn base_of_read(name: ReadName) -> u32
+    ensures value { result ≡ read_base name }
 {
-    match x {
+    match name {
         ReadName::Apsr => 0xf3ef_8000,
         ReadName::Ipsr => 0xf3ef_8005,
         ReadName::Msp => 0xf3ef_8008,
@@ -269,10 +269,10 @@ fn encode_mrs(r: &Mrs) -> u32
 }
 
 /// The code of a register of `msr` without the other field.
-fn base_of_written(x: WrittenName) -> u32
-    ensures { result ≡ written_base x }
+pub fn base_of_written(name: WrittenName) -> u32
+    ensures value { result ≡ written_base name }
 {
-    match x {
+    match name {
         WrittenName::Apsr => 0xf380_8800,
         WrittenName::Msp => 0xf380_8808,
         WrittenName::Psp => 0xf380_8809,
@@ -299,11 +299,11 @@ pub fn encode_t18(r: &T18) -> u32
     }
 }
 
-/// The code of an operation of the row T19 without its fields.
-pub fn base_of_barrier(x: BarrierName) -> u32
-    ensures { result ≡ barrier_base x }
+/// The code of a name of the row T19 without its fields.
+pub fn base_of_barrier(name: BarrierName) -> u32
+    ensures value { result ≡ barrier_base name }
 {
-    match x {
+    match name {
         BarrierName::Dsb => 0xf3bf_8f40,
         BarrierName::Dmb => 0xf3bf_8f50,
         BarrierName::Isb => 0xf3bf_8f60,
@@ -327,11 +327,11 @@ pub fn encode_t19(r: &T19) -> u32
     }
 }
 
-/// The code of an operation of the row T21 without its fields.
-fn base_of_system_move(x: SystemMoveName) -> u32
-    ensures { result ≡ system_move_base x }
+/// The code of a name of the row T21 without its fields.
+fn base_of_system_move(name: SystemMoveName) -> u32
+    ensures value { result ≡ system_move_base name }
 {
-    match x {
+    match name {
         SystemMoveName::ReadFpscr => 0xeef1_0a10,
         SystemMoveName::ReadVpr => 0xeefc_0a10,
         SystemMoveName::ReadP0 => 0xeefd_0a10,
@@ -348,11 +348,11 @@ pub fn encode_t21(r: &T21) -> u32
     base_of_system_move(r.name) + (r.t.get() << 12)
 }
 
-/// The code of an operation of the row T22 without its fields.
-pub fn base_of_lane_move(x: LaneMoveName) -> u32
-    ensures { result ≡ lane_move_base x }
+/// The code of a name of the row T22 without its fields.
+pub fn base_of_lane_move(name: LaneMoveName) -> u32
+    ensures value { result ≡ lane_move_base name }
 {
-    match x {
+    match name {
         LaneMoveName::ToLane => 0xee00_0b10,
         LaneMoveName::FromLane => 0xee10_0b10,
     }

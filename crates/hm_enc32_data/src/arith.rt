@@ -328,11 +328,11 @@ pub fn find_arith(w: u32) -> Option<Scalar>
     None
 }
 
-/// The code of an operation of the row T8 without its fields.
-pub fn base_of_wide_shift(x: WideShiftName) -> u32
-    ensures { result ≡ wide_shift_base x }
+/// The code of a name of the row T8 without its fields.
+pub fn base_of_wide_shift(name: WideShiftName) -> u32
+    ensures value { result ≡ wide_shift_base name }
 {
-    match x {
+    match name {
         WideShiftName::Lsl => 0xfa00_f000,
         WideShiftName::Lsr => 0xfa20_f000,
         WideShiftName::Asr => 0xfa40_f000,
@@ -351,11 +351,11 @@ pub fn encode_t8(r: &T8) -> u32
         + r.m.get()
 }
 
-/// The code of an operation of the row T9 without its fields.
-pub fn base_of_wide_extend(x: ExtendName) -> u32
-    ensures { result ≡ wide_extend_base x }
+/// The code of a name of the row T9 without its fields.
+pub fn base_of_wide_extend(name: ExtendName) -> u32
+    ensures value { result ≡ wide_extend_base name }
 {
-    match x {
+    match name {
         ExtendName::Sxth => 0xfa0f_f080,
         ExtendName::Uxth => 0xfa1f_f080,
         ExtendName::Sxtb => 0xfa4f_f080,
@@ -370,11 +370,11 @@ pub fn encode_t9(r: &T9) -> u32
     base_of_wide_extend(r.name) + (r.d.get() << 8) + (r.r.get() << 4) + r.m.get()
 }
 
-/// The code of an operation of the row T10 without its fields.
-pub fn base_of_bits(x: BitsName) -> u32
-    ensures { result ≡ bits_base x }
+/// The code of a name of the row T10 without its fields.
+pub fn base_of_bits(name: BitsName) -> u32
+    ensures value { result ≡ bits_base name }
 {
-    match x {
+    match name {
         BitsName::Rev => 0xfa90_f080,
         BitsName::Rev16 => 0xfa90_f090,
         BitsName::Rbit => 0xfa90_f0a0,
@@ -390,11 +390,11 @@ pub fn encode_t10(r: &T10) -> u32
     base_of_bits(r.name) + (r.m.get() << 16) + (r.d.get() << 8) + r.m.get()
 }
 
-/// The code of an operation of the row T11 without its fields.
-pub fn base_of_operation(x: OperationName) -> u32
-    ensures { result ≡ operation_base x }
+/// The code of a name of the row T11 without its fields.
+pub fn base_of_operation(name: OperationName) -> u32
+    ensures value { result ≡ operation_base name }
 {
-    match x {
+    match name {
         OperationName::Mul => 0xfb00_f000,
         OperationName::Sdiv => 0xfb90_f0f0,
         OperationName::Udiv => 0xfbb0_f0f0,
@@ -408,11 +408,11 @@ fn encode_operation(r: &Operation) -> u32
     base_of_operation(r.name) + (r.n.get() << 16) + (r.d.get() << 8) + r.m.get()
 }
 
-/// The code of an operation of the row T11 without its fields.
-pub fn base_of_accumulate(x: AccumulateName) -> u32
-    ensures { result ≡ accumulate_base x }
+/// The code of a name of the row T11 without its fields.
+pub fn base_of_accumulate(name: AccumulateName) -> u32
+    ensures value { result ≡ accumulate_base name }
 {
-    match x {
+    match name {
         AccumulateName::Mla => 0xfb00_0000,
         AccumulateName::Mls => 0xfb00_0010,
     }
@@ -429,11 +429,11 @@ fn encode_accumulate(r: &Accumulate) -> u32
         + r.m.get()
 }
 
-/// The code of an operation of the row T11 without its fields.
-pub fn base_of_long_product(x: LongProductName) -> u32
-    ensures { result ≡ long_product_base x }
+/// The code of a name of the row T11 without its fields.
+pub fn base_of_long_product(name: LongProductName) -> u32
+    ensures value { result ≡ long_product_base name }
 {
-    match x {
+    match name {
         LongProductName::Smull => 0xfb80_0000,
         LongProductName::Umull => 0xfba0_0000,
         LongProductName::Smlal => 0xfbc0_0000,
@@ -463,11 +463,11 @@ pub fn encode_t11(r: &T11) -> u32
     }
 }
 
-/// The code of an operation of the row T20 without its fields.
-pub fn base_of_select(x: SelectName) -> u32
-    ensures { result ≡ select_base x }
+/// The code of a name of the row T20 without its fields.
+pub fn base_of_select(name: SelectName) -> u32
+    ensures value { result ≡ select_base name }
 {
-    match x {
+    match name {
         SelectName::Csel => 0xea50_8000,
         SelectName::Csinc => 0xea50_9000,
         SelectName::Csinv => 0xea50_a000,

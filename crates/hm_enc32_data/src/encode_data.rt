@@ -7,11 +7,11 @@ ghost use Rattle.hm_isa.specs.DataCodes.{code_t6, code_t7};
 use hm_isa::{DataName, ExtractName, HalfName, SaturateName, SumName, T1, T2, T3, T4, T5, T6, T7};
 
 /// The number of an operation of the rows T1 and T2.
-pub fn operation(x: DataName) -> u32
-    ensures value { result ≡ operation x }
+pub fn data_operation(name: DataName) -> u32
+    ensures value { result ≡ operation name }
     ensures below { result < 16 }
 {
-    match x {
+    match name {
         DataName::And => 0,
         DataName::Bic => 1,
         DataName::Orr => 2,
@@ -31,7 +31,7 @@ pub fn encode_t1(r: &T1) -> u32
 {
     0xf000_0000
         + (r.i.get() << 26)
-        + (operation(r.name) << 21)
+        + (data_operation(r.name) << 21)
         + (r.s.get() << 20)
         + (r.n.get() << 16)
         + (r.i3.get() << 12)
@@ -44,7 +44,7 @@ pub fn encode_t2(r: &T2) -> u32
     ensures value { result ≡ code_t2 r.now }
 {
     0xea00_0000
-        + (operation(r.name) << 21)
+        + (data_operation(r.name) << 21)
         + (r.s.get() << 20)
         + (r.n.get() << 16)
         + (r.i3.get() << 12)
@@ -55,10 +55,10 @@ pub fn encode_t2(r: &T2) -> u32
 }
 
 /// The code of a name of the row T3 without its fields.
-pub fn base_of_wide_sum(x: SumName) -> u32
-    ensures { result ≡ wide_sum_base x }
+pub fn base_of_wide_sum(name: SumName) -> u32
+    ensures value { result ≡ wide_sum_base name }
 {
-    match x {
+    match name {
         SumName::Add => 0xf200_0000,
         SumName::Sub => 0xf2a0_0000,
     }
@@ -77,10 +77,10 @@ pub fn encode_t3(r: &T3) -> u32
 }
 
 /// The code of a name of the row T4 without its fields.
-pub fn base_of_half(x: HalfName) -> u32
-    ensures { result ≡ half_base x }
+pub fn base_of_half(name: HalfName) -> u32
+    ensures value { result ≡ half_base name }
 {
-    match x {
+    match name {
         HalfName::Movw => 0xf240_0000,
         HalfName::Movt => 0xf2c0_0000,
     }
@@ -99,10 +99,10 @@ pub fn encode_t4(r: &T4) -> u32
 }
 
 /// The code of a name of the row T5 without its fields.
-pub fn base_of_saturate(x: SaturateName) -> u32
-    ensures { result ≡ saturate_base x }
+pub fn base_of_saturate(name: SaturateName) -> u32
+    ensures value { result ≡ saturate_base name }
 {
-    match x {
+    match name {
         SaturateName::Ssat => 0xf300_0000,
         SaturateName::Usat => 0xf380_0000,
     }
@@ -122,10 +122,10 @@ pub fn encode_t5(r: &T5) -> u32
 }
 
 /// The code of a name of the row T6 without its fields.
-pub fn base_of_extract(x: ExtractName) -> u32
-    ensures { result ≡ extract_base x }
+pub fn base_of_extract(name: ExtractName) -> u32
+    ensures value { result ≡ extract_base name }
 {
-    match x {
+    match name {
         ExtractName::Sbfx => 0xf340_0000,
         ExtractName::Ubfx => 0xf3c0_0000,
     }

@@ -14,6 +14,6 @@ pub use arith::{
 };
 pub use decode_data::find_data;
 pub use encode_data::{
-    base_of_extract, base_of_half, base_of_saturate, base_of_wide_sum, encode_t1, encode_t2,
-    encode_t3, encode_t4, encode_t5, encode_t6, encode_t7, operation,
+    base_of_extract, base_of_half, base_of_saturate, base_of_wide_sum, data_operation, encode_t1,
+    encode_t2, encode_t3, encode_t4, encode_t5, encode_t6, encode_t7,
 };

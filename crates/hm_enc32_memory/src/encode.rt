@@ -7,10 +7,10 @@ ghost use Rattle.hm_isa.specs.Code.{code_t15};
 use hm_isa::{AccessName, Indexed, Literal, Offset, PairName, Shifted, StackName, T12, T13, T15};
 
 /// The code of a name of the row T12 without its fields.
-pub fn base_of_access(x: AccessName) -> u32
-    ensures { result ≡ wide_access_base x }
+pub fn base_of_wide_access(name: AccessName) -> u32
+    ensures value { result ≡ wide_access_base name }
 {
-    match x {
+    match name {
         AccessName::Strb => 0xf800_0000,
         AccessName::Strh => 0xf820_0000,
         AccessName::Str => 0xf840_0000,
@@ -26,14 +26,14 @@ pub fn base_of_access(x: AccessName) -> u32
 fn encode_offset(r: &Offset) -> u32
     ensures { result ≡ code_offset r.now }
 {
-    base_of_access(r.name) + 0x80_0000 + (r.n.get() << 16) + (r.t.get() << 12) + r.i.get()
+    base_of_wide_access(r.name) + 0x80_0000 + (r.n.get() << 16) + (r.t.get() << 12) + r.i.get()
 }
 
 /// The code of `[rn,#-i]`, `[rn,#i]!`, `[rn],#i`.
 fn encode_indexed(r: &Indexed) -> u32
     ensures { result ≡ code_indexed r.now }
 {
-    base_of_access(r.name)
+    base_of_wide_access(r.name)
         + 0x800
         + (r.n.get() << 16)
         + (r.t.get() << 12)
@@ -47,14 +47,18 @@ fn encode_indexed(r: &Indexed) -> u32
 fn encode_shifted(r: &Shifted) -> u32
     ensures { result ≡ code_shifted r.now }
 {
-    base_of_access(r.name) + (r.n.get() << 16) + (r.t.get() << 12) + (r.i.get() << 4) + r.m.get()
+    base_of_wide_access(r.name)
+        + (r.n.get() << 16)
+        + (r.t.get() << 12)
+        + (r.i.get() << 4)
+        + r.m.get()
 }
 
 /// The code of `[pc,#i]`.
 fn encode_literal(r: &Literal) -> u32
     ensures { result ≡ code_literal r.now }
 {
-    base_of_access(r.name) + 0xf_0000 + (r.u.get() << 23) + (r.t.get() << 12) + r.i.get()
+    base_of_wide_access(r.name) + 0xf_0000 + (r.u.get() << 23) + (r.t.get() << 12) + r.i.get()
 }
 
 /// The code of `str.w` to `ldrsh.w`, with the first halfword in bits 31 to 16.
@@ -70,10 +74,10 @@ pub fn encode_t12(r: &T12) -> u32
 }
 
 /// The code of a name of the row T13 without its fields.
-pub fn base_of_pair(x: PairName) -> u32
-    ensures { result ≡ pair_base x }
+pub fn base_of_pair(name: PairName) -> u32
+    ensures value { result ≡ pair_base name }
 {
-    match x {
+    match name {
         PairName::Strd => 0xe840_0000,
         PairName::Ldrd => 0xe850_0000,
     }
@@ -94,10 +98,10 @@ pub fn encode_t13(r: &T13) -> u32
 }
 
 /// The code of a name of the row T15 without its fields.
-pub fn base_of_stack(x: StackName) -> u32
-    ensures { result ≡ stack_base x }
+pub fn base_of_stack(name: StackName) -> u32
+    ensures value { result ≡ stack_base name }
 {
-    match x {
+    match name {
         StackName::Vpush => 0xed2d_0b00,
         StackName::Vpop => 0xecbd_0b00,
     }

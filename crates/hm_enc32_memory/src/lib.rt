@@ -7,5 +7,7 @@ mod encode;
 mod lists;
 
 pub use decode::find_memory;
-pub use encode::{base_of_access, base_of_pair, base_of_stack, encode_t12, encode_t13, encode_t15};
-pub use lists::{base_of_list, encode_t14};
+pub use encode::{
+    base_of_pair, base_of_stack, base_of_wide_access, encode_t12, encode_t13, encode_t15,
+};
+pub use lists::{base_of_wide_list, encode_t14};

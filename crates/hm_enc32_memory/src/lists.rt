@@ -76,10 +76,10 @@ pub fn decode_t14(w: u32) -> Option<T14>
 }
 
 /// The code of a name of the row T14 without its fields.
-pub fn base_of_list(x: WideListName) -> u32
-    ensures { result ≡ wide_list_base x }
+pub fn base_of_wide_list(name: WideListName) -> u32
+    ensures value { result ≡ wide_list_base name }
 {
-    match x {
+    match name {
         WideListName::Stmia => 0xe880_0000,
         WideListName::Ldmia => 0xe890_0000,
         WideListName::Stmdb => 0xe900_0000,
@@ -91,5 +91,5 @@ pub fn base_of_list(x: WideListName) -> u32
 pub fn encode_t14(r: &T14) -> u32
     ensures value { result ≡ code_t14 r.now }
 {
-    base_of_list(r.name) + (r.w.get() << 21) + (r.n.get() << 16) + r.list.get()
+    base_of_wide_list(r.name) + (r.w.get() << 21) + (r.n.get() << 16) + r.list.get()
 }

@@ -10,8 +10,8 @@ pub use ones::{
     encode_v15, encode_v16,
 };
 pub use pairs::{
-    base_of_add, base_of_bitwise, base_of_carry, base_of_doubling, base_of_high, base_of_signed,
-    base_of_turn, base_of_vector_shift, decode_pair, encode_v1, encode_v2, encode_v3, encode_v4,
-    encode_v5, encode_v6, encode_v7, encode_v8, encode_v9,
+    base_of_add, base_of_bitwise, base_of_carry, base_of_complex_sum, base_of_doubling,
+    base_of_high, base_of_signed, base_of_vector_shift, decode_pair, encode_v1, encode_v2,
+    encode_v3, encode_v4, encode_v5, encode_v6, encode_v7, encode_v8, encode_v9,
 };
-pub use shifts::{base_of_shift, decode_v11, encode_v11};
+pub use shifts::{base_of_constant_shift, decode_v11, encode_v11};

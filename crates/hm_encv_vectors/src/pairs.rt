@@ -424,7 +424,7 @@ fn complex_sum_name(base: u32) -> Option<ComplexSumName>
 }
 
 /// The code of the operation of the row V9 without its fields.
-pub fn base_of_turn(x: ComplexSumName) -> u32
+pub fn base_of_complex_sum(x: ComplexSumName) -> u32
     ensures value { result ≡ complex_sum_base x }
 {
     match x {
@@ -468,7 +468,10 @@ fn decode_v9(w: u32) -> Option<V9>
 pub fn encode_v9(r: &V9) -> u32
     ensures value { result ≡ code_v9 r.now }
 {
-    base_of_turn(r.name) + (r.z.get() << 20) + (r.t.get() << 12) + place_registers(r.n, r.d, r.m)
+    base_of_complex_sum(r.name)
+        + (r.z.get() << 20)
+        + (r.t.get() << 12)
+        + place_registers(r.n, r.d, r.m)
 }
 
 /// The instruction of the rows V1 to V9 whose code is w, with the first halfword in bits 31 to 16, or None exactly where none of them

@@ -27,7 +27,7 @@ fn shift_name(base: u32) -> Option<ConstantShiftName>
 }
 
 /// The code of the operation of the row V11 without its fields.
-pub fn base_of_shift(x: ConstantShiftName) -> u32
+pub fn base_of_constant_shift(x: ConstantShiftName) -> u32
     ensures value { result ≡ constant_shift_base x }
 {
     match x {
@@ -105,7 +105,7 @@ pub fn decode_v11(w: u32) -> Option<V11>
 pub fn encode_v11(r: &V11) -> u32
     ensures value { result ≡ code_v11 r.now }
 {
-    base_of_shift(r.name)
+    base_of_constant_shift(r.name)
         + (r.u.get() << 28)
         + (r.x.get() << 16)
         + (r.d.get() << 13)

@@ -2,11 +2,11 @@
 
 ghost use Rattle.std.specs.Prelude.{◌≡◌, ℕ, ◌<◌};
 ghost use Rattle.hm_thumb.specs.Does.{Ends};
-ghost use Rattle.hm_thumb.specs.RegisterRows.{number_of, put_any, s6, s7, s8, s9, s10};
+ghost use Rattle.hm_thumb.specs.RegisterRows.{put_any, s6, s7, s8, s9, s10};
 
 use crate::sums::sum_of;
 use hm_base::Place;
-use hm_isa::{BaseName, S6, S7, S8, S9, S10, SumName};
+use hm_isa::{S6, S7, S8, S9, S10, SumName};
 use hm_regs::Regs;
 use hm_thumb::{Way, base_of, operand, set_nzcv};
 
@@ -49,22 +49,11 @@ pub fn copy(i: &S8, regs: &mut Regs) -> Way
     put_any(i.d.get(), x, regs)
 }
 
-/// The number of a base.
-fn number_of(name: BaseName) -> u32
-    ensures value { result ≡ number_of name }
-    ensures below { result < 16 }
-{
-    match name {
-        BaseName::Pc => 15,
-        BaseName::Sp => 13,
-    }
-}
-
 /// `add rd,pc,#4i`, `add rd,sp,#4i`
 pub fn add_base(i: &S9, regs: &mut Regs)
     ensures regs { regs.new ≡ s9 i.now regs.old }
 {
-    let x = base_of(number_of(i.name), regs).wrapping_add(4 * i.i.get());
+    let x = base_of(i.name.register(), regs).wrapping_add(4 * i.i.get());
     regs.set(Place::R(i.d.get() as u8), x);
 }
 

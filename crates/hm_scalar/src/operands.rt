@@ -4,7 +4,6 @@ ghost use Rattle.std.specs.Prelude.{◌≡◌, ◌<◌};
 ghost use Rattle.hm_thumb.specs.DataRows.{imm5, imm_shift_c, rrx_c};
 ghost use Rattle.hm_thumb.specs.RegisterRows.{reg_or_zero};
 
-use crate::moves::amount;
 use hm_base::Place;
 use hm_isa::ShiftName;
 use hm_isa::words::{SIGN, ShiftType, Shifted, shift_c};
@@ -48,9 +47,9 @@ pub fn imm_shift_c(ty: u32, k: u32, x: u32, carry: bool) -> Shifted
     ensures value { result ≡ imm_shift_c ty k x carry }
 {
     match ty {
-        0 => shift_c(ShiftType::Lsl, x, amount(ShiftName::Lsl, k), carry),
-        1 => shift_c(ShiftType::Lsr, x, amount(ShiftName::Lsr, k), carry),
-        2 => shift_c(ShiftType::Asr, x, amount(ShiftName::Asr, k), carry),
+        0 => shift_c(ShiftType::Lsl, x, ShiftName::Lsl.amount(k), carry),
+        1 => shift_c(ShiftType::Lsr, x, ShiftName::Lsr.amount(k), carry),
+        2 => shift_c(ShiftType::Asr, x, ShiftName::Asr.amount(k), carry),
         _ => {
             if k == 0 {
                 rrx_c(x, carry)

@@ -2,7 +2,7 @@
 
 ghost use Rattle.std.specs.Prelude.{◌≡◌, ℕ, ◌≤◌, ◌<◌, ◌*◌, ◌%◌, ◌^◌, cond, OnErr};
 ghost use Rattle.hm_mem.specs.Memory.{memory_of};
-ghost use Rattle.hm_thumb.specs.MemoryRows.{indexed, literal, moved, offset, plain_name, s14, s15, s16, s17, scale, shifted, t12, word_name};
+ghost use Rattle.hm_thumb.specs.MemoryRows.{indexed, literal, moved, offset, plain_name, s14, s15, s16, s17, shifted, t12, word_name};
 ghost use Rattle.hm_thumb.specs.Steps.{IsDone};
 
 use crate::single::{Back, access_at, access_row};
@@ -45,24 +45,12 @@ fn plain_name(name: PlainName) -> AccessName
     }
 }
 
-/// How many bytes the row accesses.
-fn scale(name: PlainName) -> u32
-    ensures value { result ≡ scale name }
-    ensures small { result ≤ 4 }
-{
-    match name {
-        PlainName::Str | PlainName::Ldr => 4,
-        PlainName::Strb | PlainName::Ldrb => 1,
-        PlainName::Strh | PlainName::Ldrh => 2,
-    }
-}
-
 /// `str`, `ldr rt,[rn,#4i]` and their kin
 pub fn s16(i: &S16, regs: &mut Regs, mem: &mut Mem) -> Result<Way, Stop>
     ensures done { IsDone (s16 i.now regs.old) regs.old regs.new (memory_of mem.old) (memory_of mem.new) result }
 {
     let base = regs.get(Place::R(i.n.get() as u8));
-    let addr = base.wrapping_add(scale(i.name) * i.i.get());
+    let addr = base.wrapping_add(i.name.size() * i.i.get());
     access_at(plain_name(i.name), i.t.get(), addr, regs, mem)
 }
 

@@ -13,7 +13,7 @@ use Rattle.hm_isa.specs.Standing.{◌↑◌}
 use Rattle.std.proofs.lemmas.Bool.{ne_eqb}
 use Rattle.hm_text16_codes.specs.declared.operands.Kind.TheVariants as kinds
 use Rattle.hm_text16_codes.specs.Codes.{code_of}
-use Rattle.hm_text16_rows.specs.Rows.{plain_size}
+use Rattle.hm_isa.specs.Letters.{plain_size}
 use Rattle.hm_text_rows.specs.Mnemonics.{access_mnemonic}
 use Rattle.hm_text16_rows.specs.Mnemonics.{plain_mnemonic, word_mnemonic}
 use Rattle.hm_text_rows.proofs.Words.{is_mnemonic}

@@ -33,6 +33,7 @@ use Rattle.hm_isa.specs.declared.Scalar.TheVariants as scalar
 use Rattle.hm_isa.specs.declared.Branch.TheVariants as branch
 use Rattle.hm_isa.specs.Code.{base_base, byte_base, extend_base, hint_base, jump_base, logic_base, masking_base, shift_base, stack_sum_base, sum_base}
 use Rattle.hm_isa.specs.Code.{swap_base}
+use Rattle.hm_isa.specs.Letters.{base_register, shift_amount}
 use Rattle.hm_isa.specs.Rules.{keeps_compare}
 use Rattle.hm_isa.specs.Standing.{◌↑◌}
 use Rattle.std.proofs.lemmas.Bool.{and_parts, ltb-true}
@@ -40,7 +41,6 @@ use Rattle.std.proofs.lemmas.Bool.Decides.{nat_tests}
 use Rattle.hm_text16_codes.specs.declared.operands.Kind.TheVariants as kinds
 use Rattle.hm_text16_codes.specs.Codes.{code_of}
 use Rattle.hm_text16_codes.specs.Operands.{word_value}
-use Rattle.hm_text16_rows.specs.Rows.{base_register, shift_number}
 use Rattle.hm_text_rows.specs.Mnemonics.{extend_mnemonic}
 use Rattle.hm_text16_rows.specs.Mnemonics.{byte_mnemonic, hint_mnemonic, jump_mnemonic, logic_mnemonic, masking_mnemonic, shift_mnemonic}
 use Rattle.hm_text16_rows.specs.Mnemonics.{stack_sum_mnemonic, sum_mnemonic, swap_mnemonic}
@@ -58,15 +58,15 @@ asks_shift : (name : ShiftName) (i m d k pc a : ℕ) → k % 32 ≡ i
 unfolding code_of
 asks_shift name i m d k pc a h0 = grind arith
 
-shift_back : (name : ShiftName) (i : ℕ) → i < 32 → shift_number name i % 32 ≡ i
+shift_back : (name : ShiftName) (i : ℕ) → i < 32 → shift_amount name i % 32 ≡ i
 shift_back shift.Lsl i lt = omega arith
-shift_back shift.Lsr i lt = below_is (λ j. shift_number shift.Lsr j % 32) (λ j. j) 32 i refl lt
-shift_back shift.Asr i lt = below_is (λ j. shift_number shift.Asr j % 32) (λ j. j) 32 i refl lt
+shift_back shift.Lsr i lt = below_is (λ j. shift_amount shift.Lsr j % 32) (λ j. j) 32 i refl lt
+shift_back shift.Asr i lt = below_is (λ j. shift_amount shift.Asr j % 32) (λ j. j) 32 i refl lt
 
-shift_small : (name : ShiftName) (i : ℕ) → i < 32 → shift_number name i < 10000
+shift_small : (name : ShiftName) (i : ℕ) → i < 32 → shift_amount name i < 10000
 shift_small shift.Lsl i lt = omega arith
-shift_small shift.Lsr i lt = ltb-true _ _ (below_holds (λ j. ltb (shift_number shift.Lsr j) 10000) 32 i refl lt)
-shift_small shift.Asr i lt = ltb-true _ _ (below_holds (λ j. ltb (shift_number shift.Asr j) 10000) 32 i refl lt)
+shift_small shift.Lsr i lt = ltb-true _ _ (below_holds (λ j. ltb (shift_amount shift.Lsr j) 10000) 32 i refl lt)
+shift_small shift.Asr i lt = ltb-true _ _ (below_holds (λ j. ltb (shift_amount shift.Asr j) 10000) 32 i refl lt)
 
 pub row_s1 : (i : S1) → Row (instr.Scalar (scalar.S1 i))
 row_s1 i = plain_row (instr.Scalar (scalar.S1 i)) _ _ _ refl refl

@@ -6,6 +6,7 @@ use Rattle.hm_isa.specs.declared.narrow.ListName.TheVariants as list
 use Rattle.hm_isa.specs.declared.narrow.LogicName.TheVariants as logic
 use Rattle.hm_isa.specs.Code.{access_base, base_base, byte_base, extend_base, hint_base, jump_base, list_base, logic_base, masking_base, plain_base}
 use Rattle.hm_isa.specs.Code.{shift_base, stack_sum_base, sum_base, swap_base, word_base, zero_base}
+use Rattle.hm_isa.specs.Letters.{plain_size}
 use Rattle.hm_isa.specs.Standing.{◌↑◌}
 use Rattle.hm_tokens.specs.Tokens.{Tok, word, number, mark}
 use Rattle.hm_text_rows.specs.Labels.{distance}
@@ -14,7 +15,6 @@ use Rattle.hm_text_rows.specs.Names.{access_names, extend_names, named, sum_name
 use Rattle.hm_text_rows.specs.Operands.{branch_condition_in, first}
 use Rattle.hm_text16_rows.specs.Mnemonics.{block_first_word, byte_mnemonic, hint_mnemonic, jump_mnemonic, logic_mnemonic, masking_mnemonic, plain_mnemonic}
 use Rattle.hm_text16_rows.specs.Mnemonics.{shift_mnemonic, stack_sum_mnemonic, sum_mnemonic, swap_mnemonic, word_mnemonic, zero_mnemonic}
-use Rattle.hm_text16_rows.specs.Rows.{plain_size}
 use Rattle.hm_text16_codes.specs.declared.operands.Kind.{Kind}
 use Rattle.hm_text16_codes.specs.declared.operands.Kind.TheVariants as kinds
 use Rattle.hm_text16_codes.specs.declared.operands.Operands.{Operands}

@@ -16,13 +16,12 @@ use crate::names::{
 };
 use crate::operands::{Kind, Operands, read_operands};
 use hm_enc16::{
-    base_of_access, base_of_base, base_of_byte, base_of_extend, base_of_hint, base_of_jump,
+    base_of_access, base_of_address, base_of_byte, base_of_extend, base_of_hint, base_of_jump,
     base_of_list, base_of_logic, base_of_masking, base_of_plain, base_of_shift, base_of_stack_sum,
     base_of_sum, base_of_swap, base_of_word, base_of_zero,
 };
 use hm_isa::{BaseName, ListName, LogicName};
 use hm_text_rows::{access_name, branch_condition_in, distance, extend_name, is};
-use hm_text16_rows::plain_size;
 use hm_tokens::Token;
 
 /// Fields of three and five bits at their places.
@@ -78,7 +77,7 @@ fn code_address(mnemonic: &[u8], o: &Operands) -> Option<u64>
         BaseName::Sp
     };
     Some(of_byte(
-        u64::from(base_of_base(name)),
+        u64::from(base_of_address(name)),
         o.first,
         u64::from(o.third / 4),
     ))
@@ -101,7 +100,7 @@ fn code_offset(mnemonic: &[u8], o: &Operands) -> Option<u64>
 {
     let name = plain_name(mnemonic)?;
     let base = u64::from(base_of_plain(name));
-    Some(of_three(base, o.third / plain_size(name), o.second, o.first))
+    Some(of_three(base, o.third / name.size(), o.second, o.first))
 }
 
 /// Rows with a number behind two registers.

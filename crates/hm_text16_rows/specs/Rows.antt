@@ -1,21 +1,16 @@
 -- The text of each row of one halfword, as tokens.
-use Rattle.std.specs.Prelude.{ℕ, ◌+◌, ◌*◌, Bool, true, false, List, [], ◌∷◌, ◌++◌, codes, nat_eq, if◌then◌else◌}
+use Rattle.std.specs.Prelude.{ℕ, ◌+◌, ◌*◌, Bool, true, false, List, [], ◌∷◌, ◌++◌, codes, if◌then◌else◌}
 use Rattle.hm_isa.specs.declared.Instr.{Instr}
 use Rattle.hm_isa.specs.declared.Instr.TheVariants.{Scalar, Branch, Vector}
 use Rattle.hm_isa.specs.declared.Scalar.{Scalar as ScalarRow}
 use Rattle.hm_isa.specs.declared.Scalar.TheVariants.{S1, S2, S3, S4, S5, S6, S7, S8, S9, S10, S11, S12, S13, S14, S15, S16, S17, S18, S19, S20, S21}
 use Rattle.hm_isa.specs.declared.Branch.{Branch as BranchRow}
 use Rattle.hm_isa.specs.declared.Branch.TheVariants.{S23, S24, S25}
-use Rattle.hm_isa.specs.declared.narrow.BaseName.{BaseName}
-use Rattle.hm_isa.specs.declared.narrow.BaseName.TheVariants as base
 use Rattle.hm_isa.specs.declared.narrow.ListName.{ListName}
 use Rattle.hm_isa.specs.declared.narrow.ListName.TheVariants as list
-use Rattle.hm_isa.specs.declared.narrow.PlainName.{PlainName}
-use Rattle.hm_isa.specs.declared.narrow.PlainName.TheVariants as plain
 use Rattle.hm_isa.specs.declared.narrow.S25.{S25 as JumpRow}
 use Rattle.hm_isa.specs.declared.narrow.S25.TheVariants as s25
-use Rattle.hm_isa.specs.declared.narrow.ShiftName.{ShiftName}
-use Rattle.hm_isa.specs.declared.narrow.ShiftName.TheVariants as shift
+use Rattle.hm_isa.specs.Letters.{base_register, plain_size, shift_amount}
 use Rattle.hm_isa.specs.Rules.{listed_in}
 use Rattle.hm_isa.specs.Standing.{◌↑◌}
 use Rattle.hm_tokens.specs.Tokens.{Tok, word, close_bracket, comma, bang, open_bracket}
@@ -47,26 +42,6 @@ list_tokens list.Stm x n regs = word (codes "stm") ∷ r n ∷ bang ∷ comma �
 list_tokens list.Ldm x n regs = load_start n regs ++ braces regs
 
 -- ROWS
--- S1: the number of a shift as it is written: 0 stands for 32 in shifts to the right (DDI0553, "LSL (immediate)", "LSR (immediate)" and "ASR (immediate)")
-abbrev pub shift_number : ShiftName → ℕ → ℕ
-shift_number shift.Lsl i = i
-shift_number shift.Lsr i = if nat_eq i 0 then 32 else i
-shift_number shift.Asr i = if nat_eq i 0 then 32 else i
-
--- S9: the number of the register that is added to, 15 for pc and 13 for sp (DDI0553, "ADR" and "ADD (SP plus immediate)")
-abbrev pub base_register : BaseName → ℕ
-base_register base.Pc = 15
-base_register base.Sp = 13
-
--- S16: how many bytes an access has (DDI0553, the immediate form of each, as "STR (immediate)")
-abbrev pub plain_size : PlainName → ℕ
-plain_size plain.Str = 4
-plain_size plain.Ldr = 4
-plain_size plain.Strb = 1
-plain_size plain.Ldrb = 1
-plain_size plain.Strh = 2
-plain_size plain.Ldrh = 2
-
 -- S25: the tokens of B with a condition or with none, before the label (DDI0553, "B", encodings T1 and T2)
 abbrev pub jump_tokens : JumpRow → List Tok
 jump_tokens (s25.Conditional i) = word (branch_first_word i.c.value) ∷ []
@@ -74,7 +49,7 @@ jump_tokens (s25.Always i) = word (codes "b") ∷ []
 
 -- the tokens of rows S1 to S21, of S14 those before its label; none of other rows
 abbrev pub scalar_tokens : ScalarRow → List Tok
-scalar_tokens (S1 i) = and_constant (two (shift_mnemonic i.name) (r i.d.value) (r i.m.value)) (shift_number i.name i.i.value)
+scalar_tokens (S1 i) = and_constant (two (shift_mnemonic i.name) (r i.d.value) (r i.m.value)) (shift_amount i.name i.i.value)
 scalar_tokens (S2 i) = three (sum_mnemonic i.name) (r i.d.value) (r i.n.value) (r i.m.value)
 scalar_tokens (S3 i) = and_constant (two (sum_mnemonic i.name) (r i.d.value) (r i.n.value)) i.i.value
 scalar_tokens (S4 i) = and_constant (one (byte_mnemonic i.name) (r i.d.value)) i.i.value

@@ -6,5 +6,5 @@ mod rows;
 mod shapes;
 mod targets;
 
-pub use rows::{plain_size, row_text};
+pub use rows::row_text;
 pub use targets::{has_label, target};

@@ -2,9 +2,10 @@
 
 ghost use Rattle.std.specs.Prelude.{◌≡◌, ℕ, ◌≤◌, ◌<◌, ◌+◌, ◌*◌, ◌∷◌, [], codes, length};
 ghost use Rattle.hm_isa.specs.Code.{branch_halves, halfwords, scalar_halves};
+ghost use Rattle.hm_isa.specs.Letters.{plain_size};
 ghost use Rattle.hm_isa.specs.declared.Branch.TheVariants as branch;
 ghost use Rattle.hm_isa.specs.declared.Scalar.TheVariants as scalar;
-ghost use Rattle.hm_text16_rows.specs.Rows.{base_register, branch_tokens, list_tokens, load_start, plain_size, row_tokens, scalar_tokens, shift_number};
+ghost use Rattle.hm_text16_rows.specs.Rows.{branch_tokens, list_tokens, load_start, row_tokens, scalar_tokens};
 ghost use Rattle.hm_text_rows.specs.Shapes.{r};
 ghost use Rattle.hm_tokens.specs.Texts.{text_tokens};
 ghost use Rattle.hm_tokens.specs.Tokens.{word, comma, bang};
@@ -16,8 +17,8 @@ use crate::mnemonics::{
 };
 use crate::shapes::{by_number, by_register};
 use hm_isa::{
-    BaseName, Branch, Instr, ListName, PlainName, S1, S2, S3, S4, S5, S6, S7, S8, S9, S10, S11,
-    S12, S13, S14, S15, S16, S17, S18, S19, S20, S21, S23, S24, S25, Scalar, ShiftName,
+    Branch, Instr, ListName, S1, S2, S3, S4, S5, S6, S7, S8, S9, S10, S11, S12, S13, S14, S15, S16,
+    S17, S18, S19, S20, S21, S23, S24, S25, Scalar,
 };
 use hm_text_rows::{
     access_mnemonic, alone, and_constant, extend_mnemonic, is_listed, marked, one, r, three, two,
@@ -25,22 +26,12 @@ use hm_text_rows::{
 };
 use hm_tokens::{InstrText, Mark, Part, condition_name};
 
-/// The number of a shift: 0 stands for 32 in shifts to the right.
-fn shift_number(name: ShiftName, i: u32) -> u32
-    ensures { result ≡ shift_number name i }
-{
-    match name {
-        ShiftName::Lsl => i,
-        ShiftName::Lsr | ShiftName::Asr => { if i == 0 { 32 } else { i } }
-    }
-}
-
 /// The text of a row S1: `lsls`, `lsrs`, `asrs rd,rm,#i`.
 fn text_s1(i: &S1) -> InstrText
     ensures { text_tokens result ≡ scalar_tokens (scalar.S1 i.now) }
 {
     let text = two(shift_mnemonic(i.name), "", r(i.d.get()), r(i.m.get()));
-    and_constant(text, shift_number(i.name, i.i.get()))
+    and_constant(text, i.name.amount(i.i.get()))
 }
 
 /// The text of a row S2: `adds`, `subs rd,rn,rm`.
@@ -101,23 +92,12 @@ fn text_s8(i: &S8) -> InstrText
     two("mov", "", r(i.d.get()), r(i.m.get()))
 }
 
-/// The register of a row S9.
-fn base_register(name: BaseName) -> u32
-    ensures value { result ≡ base_register name }
-    ensures below { result < 16 }
-{
-    match name {
-        BaseName::Pc => 15,
-        BaseName::Sp => 13,
-    }
-}
-
 /// The text of a row S9: `add rd,pc,#4i`, `add rd,sp,#4i`.
 fn text_s9(i: &S9) -> InstrText
     ensures { text_tokens result ≡ scalar_tokens (scalar.S9 i.now) }
 {
     and_constant(
-        two("add", "", r(i.d.get()), r(base_register(i.name))),
+        two("add", "", r(i.d.get()), r(i.name.register())),
         4 * i.i.get(),
     )
 }
@@ -164,24 +144,11 @@ fn text_s15(i: &S15) -> InstrText
     by_register(access_mnemonic(i.name), i.t.get(), i.n.get(), i.m.get())
 }
 
-/// How many bytes a row S16 loads or stores: 1, 2 or 4.
-pub fn plain_size(name: PlainName) -> u32
-    ensures value { result ≡ plain_size name }
-    ensures some { 0 < result }
-    ensures most { result ≤ 4 }
-{
-    match name {
-        PlainName::Str | PlainName::Ldr => 4,
-        PlainName::Strb | PlainName::Ldrb => 1,
-        PlainName::Strh | PlainName::Ldrh => 2,
-    }
-}
-
 /// The offset of a row S16 in bytes.
 fn plain_offset(i: &S16) -> u32
     ensures { result ≡ plain_size i.now.name * i.now.i.value }
 {
-    plain_size(i.name) * i.i.get()
+    i.name.size() * i.i.get()
 }
 
 /// The text of a row S16: `str` to `ldrh rt,[rn,#i]`.

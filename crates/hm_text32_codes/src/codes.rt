@@ -19,14 +19,17 @@ use crate::names::{
     test_name, turn_number, wide_shift_name, wide_sum_name,
 };
 use crate::operands::{Operands, read_operands};
-use hm_enc32_control::{base_of_barrier, base_of_lane_move, base_of_table, encode_t19};
+use hm_enc32_control::{
+    base_of_barrier, base_of_lane_move, base_of_read, base_of_table, base_of_written, encode_t19,
+    encode_t23,
+};
 use hm_enc32_data::{
     base_of_accumulate, base_of_bits, base_of_extract, base_of_half, base_of_long_product,
     base_of_operation, base_of_saturate, base_of_select, base_of_wide_extend, base_of_wide_shift,
-    base_of_wide_sum, operation,
+    base_of_wide_sum, data_operation,
 };
 use hm_enc32_memory::base_of_stack;
-use hm_isa::{DataName, LaneMoveName, SaturateName, T19};
+use hm_isa::{DataName, LaneMoveName, ReadName, SaturateName, T19, T23, WrittenName};
 use hm_text_base::span;
 use hm_text_rows::{extend_name, is};
 use hm_tokens::Token;
@@ -43,7 +46,7 @@ fn of_three(base: u64, n: u32, a: u32, d: u32, m: u32) -> u64
 fn data_base(name: DataName, s: u8) -> u32
     ensures { result ≡ data_base name s }
 {
-    0xea00_0000 + (operation(name) << 21) + (u32::from(s) << 20)
+    0xea00_0000 + (data_operation(name) << 21) + (u32::from(s) << 20)
 }
 
 /// The base of a row T1 or T2 that has a register for the result and a first one.
@@ -383,10 +386,12 @@ fn code_special(mnemonic: &[u8], o: &Operands) -> Option<u64>
     ensures { result ≡ code_special mnemonic.now o.now }
 {
     if is(mnemonic, "mrs") {
-        return Some(of_three(0xf3ef_8000, 0, 0, o.first, o.second));
+        let base = u64::from(base_of_read(ReadName::Apsr));
+        return Some(of_three(base, 0, 0, o.first, o.second));
     }
     if is(mnemonic, "msr") {
-        return Some(of_three(0xf380_8800, o.second, 0, 0, o.first));
+        let base = u64::from(base_of_written(WrittenName::Apsr));
+        return Some(of_three(base, o.second, 0, 0, o.first));
     }
     if is(mnemonic, "vmrs") {
         return Some(of_three(0xeef0_0a10, o.second, o.first, 0, 0));
@@ -437,7 +442,7 @@ fn code_alone(mnemonic: &[u8], o: &Operands) -> Option<u64>
         return Some(of_three(base, o.second, 0, 0, 0));
     }
     if is(mnemonic, "lctp") {
-        return Some(0xf00f_e001);
+        return Some(u64::from(encode_t23(&T23::Lctp)));
     }
     None
 }

@@ -9,7 +9,8 @@ ghost use Rattle.hm_tokens.specs.Tokens.{tok};
 
 use crate::names::wide_branch_name;
 use crate::operands::value;
-use hm_enc32_control::base_of_wide_branch;
+use hm_enc32_control::{base_of_loop_end, base_of_wide_branch};
+use hm_isa::LoopEndName;
 use hm_text_base::span;
 use hm_text_rows::{branch_condition_in, distance, is, operand, size_of};
 use hm_tokens::Token;
@@ -102,13 +103,17 @@ fn code_loop(mnemonic: &[u8], suffix: &[u8], tokens: &[Token<'_>], pc: u32, a: u
         return Some(with_field(base, ahead(pc, a)));
     }
     if is(mnemonic, "letp") {
-        return Some(with_field(0xf01f_c001, behind_it(pc, a)));
+        let base = u64::from(base_of_loop_end(LoopEndName::Letp));
+        return Some(with_field(base, behind_it(pc, a)));
     }
     if is(mnemonic, "le") {
-        if tokens.len() == 1 {
-            return Some(with_field(0xf02f_c001, behind_it(pc, a)));
-        }
-        return Some(with_field(0xf00f_c001, behind_it(pc, a)));
+        let name = if tokens.len() == 1 {
+            LoopEndName::Le
+        } else {
+            LoopEndName::LeLr
+        };
+        let base = u64::from(base_of_loop_end(name));
+        return Some(with_field(base, behind_it(pc, a)));
     }
     None
 }

@@ -8,7 +8,7 @@ ghost use Rattle.hm_tokens.specs.Tokens.{tok};
 
 use crate::names::{pair_name, wide_list_name};
 use crate::operands::{Places, read_places, second_bang, value};
-use hm_enc32_memory::{base_of_access, base_of_list, base_of_pair};
+use hm_enc32_memory::{base_of_pair, base_of_wide_access, base_of_wide_list};
 use hm_text_base::span;
 use hm_text_rows::{access_name, braced_bits, operand};
 use hm_tokens::Token;
@@ -61,7 +61,7 @@ fn access_code(base: u64, o: &Places) -> u64
 fn code_access(mnemonic: &[u8], o: &Places) -> Option<u64>
     ensures { result ≡ code_access mnemonic.now o.now }
 {
-    let base = u64::from(base_of_access(access_name(mnemonic)?));
+    let base = u64::from(base_of_wide_access(access_name(mnemonic)?));
     Some(access_code(base, o))
 }
 
@@ -91,7 +91,7 @@ fn code_pair(mnemonic: &[u8], o: &Places) -> Option<u64>
 fn code_list(mnemonic: &[u8], tokens: &[Token<'_>]) -> Option<u64>
     ensures { result ≡ code_list mnemonic.now (map tok tokens.now) }
 {
-    let base = u64::from(base_of_list(wide_list_name(mnemonic)?));
+    let base = u64::from(base_of_wide_list(wide_list_name(mnemonic)?));
     let back = u64::from(second_bang(tokens));
     let n = u64::from(value(operand(tokens, 0)));
     Some(base + (back << 21) + (n << 16) + u64::from(braced_bits(tokens)))

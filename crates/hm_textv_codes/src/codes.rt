@@ -23,8 +23,8 @@ use hm_encv_registers::{
     base_of_dot, base_of_dup, base_of_extreme, base_of_offsets, base_of_scalar,
 };
 use hm_encv_vectors::{
-    base_of_add, base_of_bitwise, base_of_carry, base_of_doubling, base_of_high, base_of_narrow,
-    base_of_one, base_of_reverse, base_of_shift, base_of_signed, base_of_turn,
+    base_of_add, base_of_bitwise, base_of_carry, base_of_complex_sum, base_of_constant_shift,
+    base_of_doubling, base_of_high, base_of_narrow, base_of_one, base_of_reverse, base_of_signed,
     base_of_vector_shift,
 };
 use hm_isa::{BitwiseName, ConstantShiftName, Element};
@@ -157,7 +157,7 @@ fn code_carry(mnemonic: &[u8], o: &Operands) -> Option<u64>
 fn code_complex_sum(mnemonic: &[u8], o: &Operands) -> Option<u64>
     ensures { result ≡ code_complex_sum mnemonic.now o.now }
 {
-    let base = u64::from(base_of_turn(complex_sum_name(mnemonic)?));
+    let base = u64::from(base_of_complex_sum(complex_sum_name(mnemonic)?));
     if o.fourth == 270 {
         Some(of_vectors(base + 0x1000, 0, o.size, o.second, o.first, o.third))
     } else {
@@ -198,7 +198,7 @@ fn code_shift(mnemonic: &[u8], o: &Operands) -> Option<u64>
     ensures { result ≡ code_shift mnemonic.now o.now }
 {
     let name = constant_shift_name(mnemonic)?;
-    let base = u64::from(base_of_shift(name)) + (shift_field(name, o.size, o.third) << 16);
+    let base = u64::from(base_of_constant_shift(name)) + (shift_field(name, o.size, o.third) << 16);
     Some(of_one(base, o.sign, 0, o.first, o.second))
 }
 

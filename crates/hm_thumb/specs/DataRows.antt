@@ -18,9 +18,10 @@ use Rattle.hm_isa.specs.declared.data.T5.{T5}
 use Rattle.hm_isa.specs.declared.data.T6.{T6}
 use Rattle.hm_isa.specs.declared.data.T7.{T7}
 use Rattle.hm_regs.specs.declared.Regs.{Regs}
+use Rattle.hm_isa.specs.Letters.{shift_amount}
 use Rattle.hm_isa.specs.Words.{bit_is_set, expand_imm_c, imm12, negative, shift_c, sign_extended}
 use Rattle.hm_thumb.specs.Arithmetic.{inverted, add_with_carry}
-use Rattle.hm_thumb.specs.RegisterRows.{reg, reg_or_zero, base_of, put, with_nzc, with_nzcv, amount, sum_of}
+use Rattle.hm_thumb.specs.RegisterRows.{reg, reg_or_zero, base_of, put, with_nzc, with_nzcv, sum_of}
 use Rattle.hm_thumb.specs.declared.arithmetic.Sum.{Sum}
 use Rattle.hm_isa.specs.declared.words.Shifted.{Shifted}
 use Rattle.hm_isa.specs.declared.words.ShiftType.TheVariants as type
@@ -33,9 +34,9 @@ rrx_c x carry = record { result = x / 2 + cond carry (2 ^ 31) 0; carry = bit_is_
 -- T2 and T5: Shift_C(x, type, n, carry) with the type and the number of DecodeImmShift(ty, k) (DDI0553, "Shift_C" and "DecodeImmShift")
 abbrev pub imm_shift_c : ℕ → ℕ → ℕ → Bool → Shifted
 imm_shift_c ty k x carry =
-    if nat_eq ty 0 then shift_c type.Lsl x (amount shift.Lsl k) carry
-    else (if nat_eq ty 1 then shift_c type.Lsr x (amount shift.Lsr k) carry
-    else (if nat_eq ty 2 then shift_c type.Asr x (amount shift.Asr k) carry
+    if nat_eq ty 0 then shift_c type.Lsl x (shift_amount shift.Lsl k) carry
+    else (if nat_eq ty 1 then shift_c type.Lsr x (shift_amount shift.Lsr k) carry
+    else (if nat_eq ty 2 then shift_c type.Asr x (shift_amount shift.Asr k) carry
     else (if nat_eq k 0 then rrx_c x carry
     else shift_c type.Ror x k carry)))
 
