@@ -24,7 +24,7 @@ fn has_label_branch(i: &Branch) -> bool
 {
     match i {
         Branch::S24(_) | Branch::S25(_) => true,
-        Branch::S23(_) | Branch::T16(_) | Branch::T17(_) | Branch::T23(_) => false,
+        _ => false,
     }
 }
 
@@ -74,7 +74,7 @@ fn branch_target(i: &Branch, pc: u32) -> Option<u32>
     match i {
         Branch::S24(i) => Some(behind(pc, 2 * u64::from(i.i.get()))),
         Branch::S25(i) => Some(jump_target(i, pc)),
-        Branch::S23(_) | Branch::T16(_) | Branch::T17(_) | Branch::T23(_) => None,
+        _ => None,
     }
 }
 

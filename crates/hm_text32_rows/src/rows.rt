@@ -467,12 +467,7 @@ fn scalar_text(i: &Scalar) -> InstrText
     ensures { text_tokens result ≡ scalar_tokens i.now }
 {
     match i {
-        Scalar::S1(_) | Scalar::S2(_) | Scalar::S3(_) | Scalar::S4(_) => unreachable!(),
-        Scalar::S5(_) | Scalar::S6(_) | Scalar::S7(_) | Scalar::S8(_) => unreachable!(),
-        Scalar::S9(_) | Scalar::S10(_) | Scalar::S11(_) | Scalar::S12(_) => unreachable!(),
-        Scalar::S13(_) | Scalar::S14(_) | Scalar::S15(_) | Scalar::S16(_) => unreachable!(),
-        Scalar::S17(_) | Scalar::S18(_) | Scalar::S19(_) | Scalar::S20(_) => unreachable!(),
-        Scalar::S21(_) => unreachable!(),
+        _ => unreachable!(),
         Scalar::T1(i) => text_t1(i),
         Scalar::T2(i) => text_t2(i),
         Scalar::T3(i) => text_t3(i),
@@ -505,7 +500,7 @@ fn branch_text(i: &Branch) -> InstrText
         Branch::T16(i) => text_t16(i),
         Branch::T17(i) => text_t17(i),
         Branch::T23(i) => text_t23(i),
-        Branch::S23(_) | Branch::S24(_) | Branch::S25(_) => unreachable!(),
+        _ => unreachable!(),
     }
 }
 

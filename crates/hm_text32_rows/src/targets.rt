@@ -25,7 +25,7 @@ fn has_label_branch(i: &Branch) -> bool
     match i {
         Branch::T16(_) => true,
         Branch::T23(i) => has_label_loop(i),
-        Branch::S23(_) | Branch::S24(_) | Branch::S25(_) | Branch::T17(_) => false,
+        _ => false,
     }
 }
 
@@ -68,7 +68,7 @@ fn branch_target(i: &Branch, pc: u32) -> Option<u32>
     match i {
         Branch::T16(i) => Some(wide_target(i, pc)),
         Branch::T23(i) => loop_target(i, pc),
-        Branch::S23(_) | Branch::S24(_) | Branch::S25(_) | Branch::T17(_) => None,
+        _ => None,
     }
 }
 
