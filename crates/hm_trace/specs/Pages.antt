@@ -1,7 +1,7 @@
 -- A TICK AS ROWS OF A PAGE, in HTML.
-use Rattle.std.specs.Prelude.{ℕ, ◌*◌, ◌/◌, ◌%◌, nat_lt, if◌then◌else◌, List, [], ◌++◌, codes, length, Option, Some, None}
+use Rattle.std.specs.Prelude.{ℕ, ◌*◌, ◌/◌, ◌%◌, nat_lt, if◌then◌else◌, List, [], ◌∷◌, ◌++◌, codes, length, Option, Some, None}
 use Rattle.std.specs.Fmt.{decimal}
-use Rattle.std.specs.List.{flat_map}
+use Rattle.std.specs.List.{concat, flat_map}
 use Rattle.hm_codes.specs.Listing.{Listing}
 use Rattle.hm_run.specs.Report.{outcome_line}
 use Rattle.hm_run.specs.Timed.{Timed}
@@ -117,22 +117,53 @@ tick_row listing p mark y = row_start p y ++ (flat_map (progress_group listing) 
 abbrev pub tick_rows : Listing → Past → Mark → Timed → List ℕ
 tick_rows listing p mark y = tick_row listing p mark y ++ (mark_rows mark (regs_of y.config.state).ipsr ++ ended_row y.outcome)
 
--- how the page looks: a box of 12 pixels a beat, filled in the instruction's colour where the tick did it, and pale where it was done before; two columns of
--- instructions in each row
+-- the rules of how the page looks: a box of 12 pixels a beat, filled in the instruction's colour where the tick did it, and pale where it was done before;
+-- two columns of instructions in each row
+abbrev pub style_rules : List (List ℕ)
+style_rules =
+    codes "body{font:13px/1.4 monospace;margin:1em;color:#222}"
+    ∷ codes "table{border-collapse:collapse}"
+    ∷ codes "td,th{padding:1px 9px;text-align:left;white-space:nowrap;vertical-align:top;border-bottom:1px solid #e8e8e8}"
+    ∷ codes "th{position:sticky;top:0;background:#fff;border-bottom:2px solid #888}"
+    ∷ codes "i{display:inline-block;width:12px;height:12px;margin:0 1px 0 0;vertical-align:-2px;box-sizing:border-box;border:1px solid hsl(var(--h) 45% 60%)}"
+    ∷ codes "i.n{background:hsl(var(--h) 65% 45%)}"
+    ∷ codes "i.d{background:hsl(var(--h) 60% 86%)}"
+    ∷ codes "div{display:grid;grid-template-columns:repeat(2,minmax(25em,max-content));grid-auto-flow:dense}"
+    ∷ codes ".c0{grid-column:1}"
+    ∷ codes ".c1{grid-column:2}"
+    ∷ codes "span:nth-child(2):nth-last-child(2),span:nth-child(3){grid-row:2}"
+    ∷ codes "span{color:hsl(var(--h) 70% 27%)}"
+    ∷ codes ".d1 td{background:#fff5dc}"
+    ∷ codes ".d2 td{background:#ffe9b8}"
+    ∷ codes ".d3 td,.d4 td,.d5 td,.d6 td,.d7 td,.d8 td{background:#ffdc94}"
+    ∷ codes ".e td{background:#b3261e;color:#fff}"
+    ∷ codes ".r td{background:#1e6b45;color:#fff}"
+    ∷ codes ".o td{background:#333;color:#fff}"
+    ∷ []
+
+-- how the page looks
 unfoldable pub style : List ℕ
-style =
-    codes
-    "<style>body{font:13px/1.4 monospace;margin:1em;color:#222}table{border-collapse:collapse}td,th{padding:1px 9px;text-align:left;white-space:nowrap;vertical-align:top;border-bottom:1px solid #e8e8e8}th{position:sticky;top:0;background:#fff;border-bottom:2px solid #888}i{display:inline-block;width:12px;height:12px;margin:0 1px 0 0;vertical-align:-2px;box-sizing:border-box;border:1px solid hsl(var(--h) 45% 60%)}i.n{background:hsl(var(--h) 65% 45%)}i.d{background:hsl(var(--h) 60% 86%)}div{display:grid;grid-template-columns:repeat(2,minmax(25em,max-content));grid-auto-flow:dense}.c0{grid-column:1}.c1{grid-column:2}span:nth-child(2):nth-last-child(2),span:nth-child(3){grid-row:2}span{color:hsl(var(--h) 70% 27%)}.d1 td{background:#fff5dc}.d2 td{background:#ffe9b8}.d3 td,.d4 td,.d5 td,.d6 td,.d7 td,.d8 td{background:#ffdc94}.e td{background:#b3261e;color:#fff}.r td{background:#1e6b45;color:#fff}.o td{background:#333;color:#fff}</style>\n"
+style = codes "<style>" ++ (concat style_rules ++ codes "</style>\n")
 
 -- the first lines of the page
 unfoldable pub page_start : List ℕ
 page_start = codes "<!doctype html>\n<html lang=en><meta charset=utf-8><title>helium-trace</title>\n"
 
 -- the heads of the columns
+abbrev pub column_heads : List (List ℕ)
+column_heads =
+    codes "<th>tick"
+    ∷ codes "<th>letters"
+    ∷ codes "<th>beats, in a column by the address: done before the tick are pale, done in it are full"
+    ∷ codes "<th>then runs"
+    ∷ codes "<th>pc"
+    ∷ codes "<th>retired"
+    ∷ codes "<th>changed"
+    ∷ []
+
+-- the first row of the table
 unfoldable pub columns : List ℕ
-columns =
-    codes
-    "<table><thead><tr><th>tick<th>letters<th>beats, in a column by the address: done before the tick are pale, done in it are full<th>then runs<th>pc<th>retired<th>changed<tbody>\n"
+columns = codes "<table><thead><tr>" ++ (concat column_heads ++ codes "<tbody>\n")
 
 -- what stands before the rows
 abbrev pub page_head : List ℕ

@@ -25,8 +25,26 @@ use std::alloc::Global;
 
 /// How the page looks: a box of 12 pixels a beat, filled in the instruction's colour where the tick did it, and pale where it was done before; two columns of
 /// instructions in each row.
-const STYLE: &[u8] =
-    b"<style>body{font:13px/1.4 monospace;margin:1em;color:#222}table{border-collapse:collapse}td,th{padding:1px 9px;text-align:left;white-space:nowrap;vertical-align:top;border-bottom:1px solid #e8e8e8}th{position:sticky;top:0;background:#fff;border-bottom:2px solid #888}i{display:inline-block;width:12px;height:12px;margin:0 1px 0 0;vertical-align:-2px;box-sizing:border-box;border:1px solid hsl(var(--h) 45% 60%)}i.n{background:hsl(var(--h) 65% 45%)}i.d{background:hsl(var(--h) 60% 86%)}div{display:grid;grid-template-columns:repeat(2,minmax(25em,max-content));grid-auto-flow:dense}.c0{grid-column:1}.c1{grid-column:2}span:nth-child(2):nth-last-child(2),span:nth-child(3){grid-row:2}span{color:hsl(var(--h) 70% 27%)}.d1 td{background:#fff5dc}.d2 td{background:#ffe9b8}.d3 td,.d4 td,.d5 td,.d6 td,.d7 td,.d8 td{background:#ffdc94}.e td{background:#b3261e;color:#fff}.r td{background:#1e6b45;color:#fff}.o td{background:#333;color:#fff}</style>\n";
+const STYLE: &[u8] = b"<style>\
+    body{font:13px/1.4 monospace;margin:1em;color:#222}\
+    table{border-collapse:collapse}\
+    td,th{padding:1px 9px;text-align:left;white-space:nowrap;vertical-align:top;border-bottom:1px solid #e8e8e8}\
+    th{position:sticky;top:0;background:#fff;border-bottom:2px solid #888}\
+    i{display:inline-block;width:12px;height:12px;margin:0 1px 0 0;vertical-align:-2px;box-sizing:border-box;border:1px solid hsl(var(--h) 45% 60%)}\
+    i.n{background:hsl(var(--h) 65% 45%)}\
+    i.d{background:hsl(var(--h) 60% 86%)}\
+    div{display:grid;grid-template-columns:repeat(2,minmax(25em,max-content));grid-auto-flow:dense}\
+    .c0{grid-column:1}\
+    .c1{grid-column:2}\
+    span:nth-child(2):nth-last-child(2),span:nth-child(3){grid-row:2}\
+    span{color:hsl(var(--h) 70% 27%)}\
+    .d1 td{background:#fff5dc}\
+    .d2 td{background:#ffe9b8}\
+    .d3 td,.d4 td,.d5 td,.d6 td,.d7 td,.d8 td{background:#ffdc94}\
+    .e td{background:#b3261e;color:#fff}\
+    .r td{background:#1e6b45;color:#fff}\
+    .o td{background:#333;color:#fff}\
+    </style>\n";
 
 /// Adds the box of beat k of an instruction.
 fn add_box(out: &mut Vec<u8>, before: u8, after: u8, k: u8) -> Result<(), OutOfMemory>
@@ -365,7 +383,15 @@ fn add_columns(out: &mut Vec<u8>) -> Result<(), OutOfMemory>
 {
     text(
         out,
-        b"<table><thead><tr><th>tick<th>letters<th>beats, in a column by the address: done before the tick are pale, done in it are full<th>then runs<th>pc<th>retired<th>changed<tbody>\n",
+        b"<table><thead><tr>\
+        <th>tick\
+        <th>letters\
+        <th>beats, in a column by the address: done before the tick are pale, done in it are full\
+        <th>then runs\
+        <th>pc\
+        <th>retired\
+        <th>changed\
+        <tbody>\n",
     )
 }
 

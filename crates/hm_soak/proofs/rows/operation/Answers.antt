@@ -36,5 +36,6 @@ pub returns-in_default : goal.returns-in_default
 returns-in_default c = record {
   row =
       operation_made c.args.k c.args.v soak.Max _ _ _ c.maximum.result
-      (the_last (c.args.v / 256 % 5) (search rules) (search rules) (search rules) (search rules)) c.new-d.ensures c.new-n.ensures c.new-m.ensures c.maximum.ensures.row;
+      (the_last (c.args.v / 256 % 5) (search rules) (search rules) (search rules) (search rules)) c.new-d.ensures c.new-n.ensures c.new-m.ensures
+      c.maximum.ensures.row;
 }
