@@ -7,8 +7,9 @@ ghost use Rattle.hm_thumb.specs.RegisterRows.{put};
 ghost use Rattle.hm_thumb.specs.Steps.{ended};
 
 use hm_base::{Fault, Place};
-use hm_isa::distances::{always_distance, conditional_distance};
-use hm_isa::words::sign_extended;
+use hm_isa::distances::{
+    always_distance, conditional_distance, wide_always_distance, wide_conditional_distance,
+};
 use hm_isa::{JumpName, S23, S24, S25, T16, WideAlways, WideBranchName, ZeroName};
 use hm_regs::Regs;
 use hm_thumb::{Way, blx_write, bx_write, condition_holds};
@@ -69,10 +70,10 @@ pub fn branch(i: &S25, regs: &Regs) -> Way
     match i {
         S25::Conditional(i) => branch_if(
             condition_holds(i.c.get(), regs),
-            sign_extended(9, 2 * i.i.get()),
+            conditional_distance(i),
             regs,
         ),
-        S25::Always(i) => branch_if(true, sign_extended(12, 2 * i.i.get()), regs),
+        S25::Always(i) => branch_if(true, always_distance(i), regs),
     }
 }
 
@@ -84,7 +85,7 @@ fn wide_always(i: &WideAlways, regs: &mut Regs) -> Way
         WideBranchName::B => {}
         WideBranchName::Bl => set_link(4, regs),
     }
-    branch_if(true, always_distance(i), regs)
+    branch_if(true, wide_always_distance(i), regs)
 }
 
 /// `beq.w label` and so on, `b.w` and `bl label`
@@ -94,7 +95,7 @@ pub fn wide_branch(i: &T16, regs: &mut Regs) -> Way
     match i {
         T16::Conditional(i) => branch_if(
             condition_holds(i.c.get(), regs),
-            conditional_distance(i),
+            wide_conditional_distance(i),
             regs,
         ),
         T16::Always(i) => wide_always(i, regs),

@@ -8,13 +8,13 @@ use Rattle.hm_isa.specs.declared.Branch.{Branch as BranchRow}
 use Rattle.hm_isa.specs.declared.Branch.TheVariants.{S24, S25}
 use Rattle.hm_isa.specs.declared.narrow.S25.{S25 as JumpRow}
 use Rattle.hm_isa.specs.declared.narrow.S25.TheVariants as s25
-use Rattle.hm_isa.specs.Words.{sign_extended}
+use Rattle.hm_isa.specs.Distances.{always_distance, conditional_distance}
 use Rattle.hm_text_rows.specs.Labels.{behind}
 
 -- S25: the address that the label of a branch at pc names, its offset signed and twice the number in the code (DDI0553, "B", encodings T1 and T2)
 abbrev pub jump_target : JumpRow → ℕ → ℕ
-jump_target (s25.Conditional i) pc = behind pc (sign_extended 9 (2 * i.i.value))
-jump_target (s25.Always i) pc = behind pc (sign_extended 12 (2 * i.i.value))
+jump_target (s25.Conditional i) pc = behind pc (conditional_distance i)
+jump_target (s25.Always i) pc = behind pc (always_distance i)
 
 -- S14: the address that the label of LDR at pc names: from pc plus 4, rounded down to a word (DDI0553, "LDR (literal)")
 abbrev pub scalar_target : ScalarRow → ℕ → Option ℕ

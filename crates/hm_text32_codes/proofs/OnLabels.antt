@@ -21,7 +21,7 @@ use Rattle.hm_isa.specs.declared.jumps.Wlstp.{Wlstp}
 use Rattle.hm_isa.specs.JumpCodes.{code_loop_end, code_wide_always, code_wide_conditional, code_wls, code_wlstp, loop_end_base, wide_branch_base}
 use Rattle.hm_isa.specs.Standing.{◌↑◌}
 use Rattle.hm_isa.specs.Words.{sign_extended}
-use Rattle.hm_isa.specs.Distances.{alike, always_distance, conditional_distance}
+use Rattle.hm_isa.specs.Distances.{alike, wide_always_distance, wide_conditional_distance}
 use Rattle.hm_tokens.specs.Names.{condition_name, register_name}
 use Rattle.hm_tokens.specs.Tokens.{Tok, comma}
 use Rattle.hm_text_rows.specs.Labels.{behind, distance}
@@ -112,14 +112,14 @@ module _ (s j2 j1 i6 i11 m : ℕ) (hs : s < 2) (h2 : j2 < 2) (h1 : j1 < 2) (h6 :
 near_small : (s j2 j1 i6 i11 : ℕ) → s < 2 → j2 < 2 → j1 < 2 → i6 < 64 → i11 < 2048 → near_half s j2 j1 i6 i11 < 2 ^ 20
 near_small s j2 j1 i6 i11 hs h2 h1 h6 hi = omega arith
 
-conditional_asks : (i : WideConditional) (pc a : ℕ) → pc < 2 ^ 32 → behind pc (conditional_distance i) ≡ a
+conditional_asks : (i : WideConditional) (pc a : ℕ) → pc < 2 ^ 32 → behind pc (wide_conditional_distance i) ≡ a
     → conditional_code i.c.value (distance (pc + 4) a / 2) ≡ code_wide_conditional i
 conditional_asks i pc a hp e =
     let h = near_half i.s.value i.j2.value i.j1.value i.i6.value i.i11.value in
-    let signed : Signed (2 ^ 20) (conditional_distance i) h =
+    let signed : Signed (2 ^ 20) (wide_conditional_distance i) h =
     near_signed (i.s.value * 2 ^ 20 + i.j2.value * 2 ^ 19 + i.j1.value * 2 ^ 18 + i.i6.value * 2 ^ 12 + i.i11.value * 2) h (omega arith)
     (near_small i.s.value i.j2.value i.j1.value i.i6.value i.i11.value i.s.in_range i.j2.in_range i.j1.in_range i.i6.in_range i.i11.in_range) in
-    let back = distance_back (pc + 4) (conditional_distance i) a (omega arith) signed.small e in
+    let back = distance_back (pc + 4) (wide_conditional_distance i) a (omega arith) signed.small e in
     let half : distance (pc + 4) a / 2 ≡ h + signed.more * 2 ^ 20 = ap (λ (d : ℕ). d / 2) back ∙ signed.half in
     ap (λ (f : ℕ). conditional_code i.c.value f) half
     ∙ near_sum i.s.value i.j2.value i.j1.value i.i6.value i.i11.value signed.more i.s.in_range i.j2.in_range i.j1.in_range i.i6.in_range i.i11.in_range
@@ -170,7 +170,7 @@ module _ (s x1 x2 i10 i11 m : ℕ) (hs : s < 2) (h1 : x1 < 2) (h2 : x2 < 2) (h10
 far_small : (s x1 x2 i10 i11 : ℕ) → s < 2 → x1 < 2 → x2 < 2 → i10 < 1024 → i11 < 2048 → far_half s x1 x2 i10 i11 < 2 ^ 24
 far_small s x1 x2 i10 i11 hs h1 h2 h10 hi = omega arith
 
-always_asks : (i : WideAlways) (pc a : ℕ) → pc < 2 ^ 32 → behind pc (always_distance i) ≡ a
+always_asks : (i : WideAlways) (pc a : ℕ) → pc < 2 ^ 32 → behind pc (wide_always_distance i) ≡ a
     → always_code (wide_branch_base i.name) (distance (pc + 4) a / 2) ≡ code_wide_always i
 always_asks i pc a hp e =
     let s = i.s.value in
@@ -179,10 +179,10 @@ always_asks i pc a hp e =
     let b1 = alike_bit i.j1.value s in
     let b2 = alike_bit i.j2.value s in
     let h = far_half s x1 x2 i.i10.value i.i11.value in
-    let signed : Signed (2 ^ 24) (always_distance i) h =
+    let signed : Signed (2 ^ 24) (wide_always_distance i) h =
     far_signed (s * 2 ^ 24 + x1 * 2 ^ 23 + x2 * 2 ^ 22 + i.i10.value * 2 ^ 12 + i.i11.value * 2) h (omega arith)
     (far_small s x1 x2 i.i10.value i.i11.value i.s.in_range b1 b2 i.i10.in_range i.i11.in_range) in
-    let back = distance_back (pc + 4) (always_distance i) a (omega arith) signed.small e in
+    let back = distance_back (pc + 4) (wide_always_distance i) a (omega arith) signed.small e in
     let half : distance (pc + 4) a / 2 ≡ h + signed.more * 2 ^ 24 = ap (λ (d : ℕ). d / 2) back ∙ signed.half in
     ap (λ (f : ℕ). always_code (wide_branch_base i.name) f) half
     ∙ far_sum s x1 x2 i.i10.value i.i11.value signed.more i.s.in_range b1 b2 i.i10.in_range i.i11.in_range (wide_branch_base i.name)

@@ -9,12 +9,12 @@ use Rattle.hm_isa.specs.declared.jumps.T16.TheVariants as t16
 use Rattle.hm_isa.specs.declared.jumps.T23.{T23 as LoopRow}
 use Rattle.hm_isa.specs.declared.jumps.T23.TheVariants as t23
 use Rattle.hm_text_rows.specs.Labels.{behind}
-use Rattle.hm_isa.specs.Distances.{always_distance, conditional_distance}
+use Rattle.hm_isa.specs.Distances.{wide_always_distance, wide_conditional_distance}
 
 -- T16: the address that the label of a wide branch at pc names (DDI0553, "B", encodings T3 and T4, and "BL")
 abbrev pub wide_target : WideBranchRow → ℕ → ℕ
-wide_target (t16.Conditional i) pc = behind pc (conditional_distance i)
-wide_target (t16.Always i) pc = behind pc (always_distance i)
+wide_target (t16.Conditional i) pc = behind pc (wide_conditional_distance i)
+wide_target (t16.Always i) pc = behind pc (wide_always_distance i)
 
 -- T23: the address that the label of WLS and WLSTP, forward, and of LE and LETP, backward, at pc names (DDI0553, "WLS, DLS, WLSTP, DLSTP" and "LE, LETP")
 abbrev pub loop_target : LoopRow → ℕ → Option ℕ

@@ -21,8 +21,7 @@ use Rattle.hm_isa.specs.declared.jumps.TableName.TheVariants as table
 use Rattle.hm_isa.specs.declared.jumps.T17.{T17}
 use Rattle.hm_mem.specs.declared.Access.TheVariants.{Scalar}
 use Rattle.hm_regs.specs.declared.Regs.{Regs}
-use Rattle.hm_isa.specs.Distances.{always_distance, conditional_distance}
-use Rattle.hm_isa.specs.Words.{sign_extended}
+use Rattle.hm_isa.specs.Distances.{always_distance, conditional_distance, wide_always_distance, wide_conditional_distance}
 use Rattle.hm_thumb.specs.Blocks.{condition_holds}
 use Rattle.hm_thumb.specs.Does.{Does, Ends, goes, loads}
 use Rattle.hm_thumb.specs.RegisterRows.{reg, operand, put, bx_write, blx_write}
@@ -57,11 +56,11 @@ s24 i r = branch_if (is_taken i.name (reg i.n.value r)) (2 * i.i.value) r
 
 -- S25: B under a condition (DDI0553, "B", encoding T1)
 abbrev pub conditional : Conditional → Regs → Does
-conditional i r = branch_if (condition_holds i.c.value r) (sign_extended 9 (2 * i.i.value)) r
+conditional i r = branch_if (condition_holds i.c.value r) (conditional_distance i) r
 
 -- S25: B with no condition of its own (DDI0553, "B", encoding T2)
 abbrev pub always : Always → Regs → Does
-always i r = branch_if true (sign_extended 12 (2 * i.i.value)) r
+always i r = branch_if true (always_distance i) r
 
 -- S25: B with a condition or with none (DDI0553, "B", encodings T1 and T2)
 abbrev pub s25 : S25 → Regs → Does
@@ -71,7 +70,7 @@ s25 (s25_.Always i) r = always i r
 -- WIDE BRANCHES
 -- T16: B.W under a condition (DDI0553, "B", encoding T3)
 abbrev pub wide_conditional : WideConditional → Regs → Does
-wide_conditional i r = branch_if (condition_holds i.c.value r) (conditional_distance i) r
+wide_conditional i r = branch_if (condition_holds i.c.value r) (wide_conditional_distance i) r
 
 -- T16: BL, a call, leaves the address of the next instruction in lr (DDI0553, "BL")
 abbrev pub linked : WideBranchName → Regs → Regs
@@ -80,7 +79,7 @@ linked wide_branch.Bl r = put 14 (link ((r.pc + 4) % 2 ^ 32)) r
 
 -- T16: B.W with no condition of its own, and BL (DDI0553, "B", encoding T4, and "BL")
 abbrev pub wide_always : WideAlways → Regs → Does
-wide_always i r = branch_if true (always_distance i) (linked i.name r)
+wide_always i r = branch_if true (wide_always_distance i) (linked i.name r)
 
 -- T16: B.W with a condition or with none, and BL (DDI0553, "B", encodings T3 and T4, and "BL")
 abbrev pub t16 : T16 → Regs → Does
