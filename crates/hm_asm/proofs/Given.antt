@@ -34,9 +34,7 @@ code_length [] = refl
 code_length (h ∷ hs) = let more = code_length hs in omega (arith, more, length-append (to_le_bytes w16 h) (flat_map (to_le_bytes w16) hs))
 
 pub low_length : (s : DatumSize) (n : ℕ) → length (low_bytes (bytes_each s) n) ≡ bytes_each s
-low_length Byte n = refl
-low_length Half n = refl
-low_length Word n = refl
+low_length s n = grind arith
 
 values_length : (labels : Naming) (s : DatumSize) (ds : List Datum) (bs : List ℕ) → AreValues labels s ds bs → length bs ≡ bytes_each s * length ds
 values_length labels s [] bs e = ap length e ∙ (let f : 0 ≡ bytes_each s * 0 = omega arith in f)
@@ -67,9 +65,7 @@ record Roomed (a n b : ℕ) : Type 0 where
 
 roomed_asked : (asked : Directed) (a : ℕ) → HasPlace (directive asked) a → Roomed a (size_asked asked a) (next_place (directive asked) a)
 roomed_asked (org b) a place = record { room = inl refl; behind = omega (arith, place) }
-roomed_asked (align n) a place = record { room = place; behind = omega arith }
-roomed_asked (space n) a place = record { room = place; behind = omega arith }
-roomed_asked (values s d ds) a place = record { room = place; behind = omega arith }
+roomed_asked asked a place = record { room = place; behind = omega arith }
 
 roomed : (said : Said) (a : ℕ) → HasPlace said a → Roomed a (size_of said a) (next_place said a)
 roomed nothing a place = record { room = place; behind = omega arith }
@@ -106,10 +102,8 @@ same_values labels s (d ∷ ds) bs cs (n, rest, is, more, e) (m, left, also, oth
     e ∙ ap (λ (x : ℕ). low_bytes (bytes_each s) x ++ rest) number ∙ ap (λ (x : List ℕ). low_bytes (bytes_each s) m ++ x) tail ∙ sym f
 
 same_asked : (labels : Naming) (a : ℕ) (asked : Directed) (bs cs : List ℕ) → AreAsked labels a asked bs → AreAsked labels a asked cs → bs ≡ cs
-same_asked labels a (org b) bs cs e f = e ∙ sym f
-same_asked labels a (align n) bs cs e f = e ∙ sym f
-same_asked labels a (space n) bs cs e f = e ∙ sym f
 same_asked labels a (values s d ds) bs cs e f = same_values labels s (d ∷ ds) bs cs e f
+same_asked labels a asked bs cs e f = e ∙ sym f
 
 -- an instruction stands below 2^32
 low_place : (a n : ℕ) → 0 < n → HasRoom a n → a < 2 ^ 32

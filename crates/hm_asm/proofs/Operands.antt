@@ -76,10 +76,7 @@ front_more text mid there (t ∷ ts) us (after, is, front) more = (after, is, fr
 
 -- a value has no comma
 one_comma : (d : Datum) → ArePassed 1 false (map kind (datum_tokens d ++ comma ∷ []))
-one_comma (literal true n) = refl
-one_comma (literal false n) = refl
-one_comma (named w) = refl
-one_comma (beyond w n) = refl
+one_comma d = grind arith
 
 operand_more : (text here there : List ℕ) (n : ℕ) (js : List Spaced) → IsOperand text n here → AreTokens here js there → ArePassed 1 false (kinds js)
     → IsOperand text (n + 1) there

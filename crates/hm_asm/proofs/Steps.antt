@@ -124,10 +124,7 @@ room_here text a w n told tells shows place width =
 pub read_fine : (m : LabelMap) (a : ℕ) (l : List ℕ) (said : Said) (kind : AsmKind) (c : ℕ) → IsFine m a l said → IsUnread kind l c → ⊥
 read_fine m a l said kinds.Syntax c is r = line_not_both l c is.form r
 read_fine m a l said kinds.Row c is r = r.none said is.says
-read_fine m a l said kinds.Missing c is r = r
-read_fine m a l said kinds.Double c is r = r
-read_fine m a l said kinds.Offset c is r = r
-read_fine m a l said kinds.Place c is r = r
+read_fine m a l said kind c is r = r
 
 -- lines that are fine, the first of them and the others
 pub record First (m : LabelMap) (a : ℕ) (l : List ℕ) (ls : List (List ℕ)) (all : LabelMap) : Type 0 where
@@ -145,12 +142,8 @@ moved_place : (m : Made) (b : ℕ) → place_of (moved m b) ≡ b
 moved_place m b = elim (cases_Bool (eqb (place_of m) b)) [ inl e ↦ rw e (eqb-true _ _ e) | inr e ↦ rw e (let f : b + 0 ≡ b = omega arith in f) ]
 
 after_place : (m : Made) (said : Said) (bs : List ℕ) → length bs ≡ size_of said (place_of m) → place_of (after_line m said bs) ≡ next_place said (place_of m)
-after_place m nothing bs e = let sum = length-append m.bytes bs in omega (arith, sum, e)
-after_place m (instruction n) bs e = let sum = length-append m.bytes bs in omega (arith, sum, e)
 after_place m (directive (org b)) bs e = moved_place m b
-after_place m (directive (align n)) bs e = let sum = length-append m.bytes bs in omega (arith, sum, e)
-after_place m (directive (space n)) bs e = let sum = length-append m.bytes bs in omega (arith, sum, e)
-after_place m (directive (values s d ds)) bs e = let sum = length-append m.bytes bs in omega (arith, sum, e)
+after_place m said bs e = let sum = length-append m.bytes bs in omega (arith, sum, e)
 
 -- all segments that are made, with pieces behind them
 abbrev pub whole_with : Made → List Segment → List Segment
@@ -183,8 +176,7 @@ after_joined labels m text (instruction n) bs ps are place rising = bytes_joined
 after_joined labels m text (directive (org b)) bs ps are place rising =
     moved_joined m b ps place rising ∙ ap (λ (x : List ℕ). whole_with m (segment (place_of m) x ∷ ps)) (sym are)
 after_joined labels m text (directive (align n)) bs ps are place rising = bytes_joined m bs ps
-after_joined labels m text (directive (space n)) bs ps are place rising = bytes_joined m bs ps
-after_joined labels m text (directive (values s d ds)) bs ps are place rising = bytes_joined m bs ps
+after_joined labels m text said bs ps are place rising = bytes_joined m bs ps
 
 -- A LINE of the second pass, in front of others
 module _ (labels : LabelMap) (m : LabelMap) (old new : Made) (l : List ℕ) (ls lines : List (List ℕ)) (said : Said) (bs : List ℕ) (at : lines ≡ l ∷ ls)

@@ -194,9 +194,6 @@ cut_print OutOfMemory first text old mid new before h calls = made_after first (
 
 pub all_made : (status : Status) (first rest : List Call) (old mid new : Option (List Made)) → IsComplete status → Becomes (with_calls first) old mid
     → Becomes (with_calls rest) mid new → MakesCalls (first ++ rest) old new (way_of status)
-all_made Done first rest old mid new complete before after = made_after first rest old mid new to_end before after
-all_made Ended first rest old mid new complete before after = made_after first rest old mid new to_end before after
-all_made Usage first rest old mid new complete before after = made_after first rest old mid new to_end before after
-all_made Refused first rest old mid new complete before after = made_after first rest old mid new to_end before after
 all_made HostFault first rest old mid new complete before after = absurd complete
 all_made NoMemory first rest old mid new complete before after = absurd complete
+all_made status first rest old mid new complete before after = made_after first rest old mid new to_end before after

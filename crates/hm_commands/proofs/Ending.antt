@@ -13,8 +13,7 @@ use Rattle.hm_commands.specs.Effect.{calls_for, BeginsOne, IsDone, IsUntouched, 
 
 not_usage : (o : Outcome) → (effect_for o).status ≡ Usage → ⊥
 not_usage (finishes true file text) h = cc
-not_usage (finishes false file text) h = cc
-not_usage (refuses why) h = cc
+not_usage o h = cc
 
 status_not_usage : (listings : List Segment → Listing) (form : Form) (r : Reading) (e : Effect) → IsEffectAfter listings (Some form) r e → e.status ≡ Usage → ⊥
 status_not_usage listings form (whole contents) e of h = not_usage of.0 (sym (ap (λ (x : Effect). x.status) of.2) ∙ h)
@@ -35,20 +34,13 @@ Does-host_fault listings form old new s h is = elim h.begins [
 ]
 
 risen : (e : Effect) (old new : HostState) (s : Status) → Carries e old new s → old.faults < new.faults → s ≡ HostFault
-risen e old new Done h rose = absurd (let same : new.faults ≡ old.faults = h.faults in omega arith)
-risen e old new Ended h rose = absurd (let same : new.faults ≡ old.faults = h.faults in omega arith)
-risen e old new Usage h rose = absurd (let same : new.faults ≡ old.faults = h.faults in omega arith)
-risen e old new Refused h rose = absurd (let same : new.faults ≡ old.faults = h.faults in omega arith)
 risen e old new HostFault h rose = refl
-risen e old new NoMemory h rose = absurd (let same : new.faults ≡ old.faults = h.faults in omega arith)
+risen e old new s h rose = absurd (let same : new.faults ≡ old.faults = h.faults in omega arith)
 
 untouched_risen : (old new : HostState) (s : Status) → IsUntouched old new s → old.faults < new.faults → s ≡ HostFault
-untouched_risen old new Done h rose = absurd h
-untouched_risen old new Ended h rose = absurd h
-untouched_risen old new Usage h rose = absurd h
-untouched_risen old new Refused h rose = absurd h
 untouched_risen old new HostFault h rose = refl
 untouched_risen old new NoMemory h rose = absurd (let same : new.faults ≡ old.faults = h.0 in omega arith)
+untouched_risen old new s h rose = absurd h
 
 pub Does-risen : (listings : List Segment → Listing) (form : Option Form) (old new : HostState) (s : Status) → Does listings form old new s
     → old.faults < new.faults → s ≡ HostFault
@@ -98,17 +90,11 @@ usage_begins listings words old new s F none carries calls stays = inl (
 -- ---- what is complete
 
 pub carried_done : (e : Effect) (old new : HostState) (s : Status) → Carries e old new s → s ≢ HostFault → (s ≡ NoMemory) ⊎ IsDone e old new s
-carried_done e old new Done h ne = inr h
-carried_done e old new Ended h ne = inr h
-carried_done e old new Usage h ne = inr h
-carried_done e old new Refused h ne = inr h
 carried_done e old new HostFault h ne = absurd (ne refl)
 carried_done e old new NoMemory h ne = inl refl
+carried_done e old new s h ne = inr h
 
 pub untouched_wanted : (old new : HostState) (s : Status) → IsUntouched old new s → s ≢ HostFault → s ≡ NoMemory
-untouched_wanted old new Done h ne = absurd h
-untouched_wanted old new Ended h ne = absurd h
-untouched_wanted old new Usage h ne = absurd h
-untouched_wanted old new Refused h ne = absurd h
 untouched_wanted old new HostFault h ne = absurd (ne refl)
 untouched_wanted old new NoMemory h ne = refl
+untouched_wanted old new s h ne = absurd h

@@ -161,16 +161,12 @@ headline_of_none words old new status none = λ F P name memory image s h ne.
 
 -- what a plain run shows, of a fault the first line, is what the instructions in order come to
 shown_in_order : (x : Timed) (y : InOrder) → PlainReport x y → x.outcome ≡ Some (plain_end y) → short_report x ≡ in_order_report y
-shown_in_order x (Running s) report ends = ap (λ (o : Option Outcome). if is_fault o then outcome_line o else report_text x) ends ∙ report
-shown_in_order x (Halted reason k s) report ends = ap (λ (o : Option Outcome). if is_fault o then outcome_line o else report_text x) ends ∙ report
-shown_in_order x (Full k s) report ends = ap (λ (o : Option Outcome). if is_fault o then outcome_line o else report_text x) ends ∙ report
 shown_in_order x (Faulted kind pc addr k) report ends = ap (λ (o : Option Outcome). if is_fault o then outcome_line o else report_text x) ends
+shown_in_order x y report ends = ap (λ (o : Option Outcome). if is_fault o then outcome_line o else report_text x) ends ∙ report
 
 halted_in_order : (x : Timed) (y : InOrder) → x.outcome ≡ Some (plain_end y) → is_halted x.outcome ≡ has_halted y
 halted_in_order x (Running s) ends = ap is_halted ends
-halted_in_order x (Halted reason k s) ends = ap is_halted ends
-halted_in_order x (Full k s) ends = ap is_halted ends
-halted_in_order x (Faulted kind pc addr k) ends = ap is_halted ends
+halted_in_order x y ends = ap is_halted ends
 
 plainly_shown : (listing : Listing) (image : List Segment) (n : ℕ)
     → short_report (shown_out listing image (plain n)) ≡ in_order_report (in_order listing image n)

@@ -13,9 +13,7 @@ use Rattle.hm_commands.proofs.Calling.{one_made, made_after, fault_before, memor
 use Rattle.hm_commands.specs.Effect.{Reading, whole, too_large, missing, after_contents, then_read, reading_of, ReadsAll}
 
 pub after_contents-nil : (r : Reading) → r ≡ after_contents [] r
-after_contents-nil (whole contents) = refl
-after_contents-nil too_large = refl
-after_contents-nil missing = refl
+after_contents-nil r = grind arith
 
 pub after_contents-push : (before : List (List ℕ)) (bytes : List ℕ) (r : Reading)
     → after_contents before (after_contents (bytes ∷ []) r) ≡ after_contents (before ++ bytes ∷ []) r

@@ -42,12 +42,9 @@ same_files None F = refl
 same_files (Some file) F = λ other ne. refl
 
 untouched_carries : (e : Effect) (old new : HostState) (s : Status) → IsUntouched old new s → Carries e old new s
-untouched_carries e old new Done h = absurd h
-untouched_carries e old new Ended h = absurd h
-untouched_carries e old new Usage h = absurd h
-untouched_carries e old new Refused h = absurd h
 untouched_carries e old new HostFault h = (h.0, inl (record { files = λ F is. (F, h.1 F is, same_files e.file F); printed = h.2 }))
 untouched_carries e old new NoMemory h = record { faults = h.0; files = inl h.1; printed = h.2 }
+untouched_carries e old new s h = absurd h
 
 untouched_files : (old new : HostState) (s : Status) → IsUntouched old new s → s ≡ NoMemory → Stays old.files new.files
 untouched_files old new s h is = (subst (IsUntouched old new) is h).1

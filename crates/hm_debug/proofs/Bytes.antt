@@ -11,9 +11,7 @@ use Rattle.hm_text_base.specs.Texts.{hex2}
 
 -- WHAT IS TOLD
 mapped_some : (b c : Bool) (x y : ℕ) → is_some (cond b (Some x) (cond c (Some y) None)) ≡ cond b true c
-mapped_some true c x y = refl
-mapped_some false true x y = refl
-mapped_some false false x y = refl
+mapped_some b c x y = grind arith
 
 pub told_mapped : (m : Memory) (a : ℕ) → is_some (told_at m a) ≡ is_mapped a
 told_mapped m a = mapped_some (nat_lt a flash_size) (in_sram a) (slice_index m.flash a) (slice_index m.sram (a - sram_start))

@@ -37,12 +37,10 @@ four (inr a) b c d = inr (λ h. a h.0)
 
 fits_decided : (c : Command) → Decided (Fits c)
 fits_decided (Goto n) = up_to n most_ticks
-fits_decided Step = inl tt
-fits_decided Back = inl tt
 fits_decided (Until a) = below a (2 ^ 32)
-fits_decided Show = inl tt
 fits_decided (Memory a n) = three (up_to (a + n) (2 ^ 32)) (below 0 n) (up_to n most_bytes)
 fits_decided (Listing a n) = four (cases_eq (a % 2) 0) (below a flash_size) (below 0 n) (up_to n most_listed)
+fits_decided c = inl tt
 
 -- LINES
 decided_by : (line : List ℕ) (read : Option Command) → IsRead line read → Decided (Said line)

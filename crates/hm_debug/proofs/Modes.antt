@@ -65,8 +65,7 @@ context_number : (t : State) → (with_context t).rest.ipsr ≡ t.rest.ipsr
 context_number t = ap (λ (u : State). u.rest.ipsr) (context_fresh t) ∙ one_of t.rest.fpca
   where
     one_of : (b : Bool) → (cond b t (fresh t)).rest.ipsr ≡ t.rest.ipsr
-    one_of true = refl
-    one_of false = refl
+    one_of b = grind arith
 
 chosen_number : (b : Bool) (t u : State) → u.rest.ipsr ≡ t.rest.ipsr → (cond b u t).rest.ipsr ≡ t.rest.ipsr
 chosen_number true t u e = e

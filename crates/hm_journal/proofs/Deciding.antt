@@ -23,39 +23,21 @@ same_or (x ∷ xs) (y ∷ ys) =
 
 number_or : (d : Data) → OrNone ℕ (λ n. d ≡ number (unsigned n))
 number_or (number (unsigned n)) = inl (n, refl)
-number_or (number (negative z)) = inr (λ n e. cc)
-number_or (number (float x)) = inr (λ n e. cc)
-number_or null = inr (λ n e. cc)
-number_or (boolean b) = inr (λ n e. cc)
-number_or (string s) = inr (λ n e. cc)
-number_or (array ds) = inr (λ n e. cc)
-number_or (object ms) = inr (λ n e. cc)
+number_or d = inr (λ n e. cc)
 
 string_or : (d : Data) → OrNone (List ℕ) (λ s. d ≡ string s)
 string_or (string s) = inl (s, refl)
-string_or (number n) = inr (λ s e. cc)
-string_or null = inr (λ s e. cc)
-string_or (boolean b) = inr (λ s e. cc)
-string_or (array ds) = inr (λ s e. cc)
-string_or (object ms) = inr (λ s e. cc)
+string_or d = inr (λ s e. cc)
 
 module _ {A : Type 0} (Q : A → Items) (each : (ds : Items) → OrNone A (λ a. ds ≡ Q a)) where
   array_or : (d : Data) → OrNone A (λ a. d ≡ array (Q a))
   array_or (array ds) = elim (each ds) [ inr never ↦ inr (λ a e. never a (cc)) | inl a ↦ inl (a.0, ap array a.1) ]
-  array_or null = inr (λ a e. cc)
-  array_or (boolean b) = inr (λ a e. cc)
-  array_or (number n) = inr (λ a e. cc)
-  array_or (string s) = inr (λ a e. cc)
-  array_or (object ms) = inr (λ a e. cc)
+  array_or d = inr (λ a e. cc)
 
 module _ {A : Type 0} (Q : A → Members) (each : (ms : Members) → OrNone A (λ a. ms ≡ Q a)) where
   object_or : (d : Data) → OrNone A (λ a. d ≡ object (Q a))
   object_or (object ms) = elim (each ms) [ inr never ↦ inr (λ a e. never a (cc)) | inl a ↦ inl (a.0, ap object a.1) ]
-  object_or null = inr (λ a e. cc)
-  object_or (boolean b) = inr (λ a e. cc)
-  object_or (number n) = inr (λ a e. cc)
-  object_or (string s) = inr (λ a e. cc)
-  object_or (array ds) = inr (λ a e. cc)
+  object_or d = inr (λ a e. cc)
 
 module _ {A : Type 0} (Q : A → Data) (each : (d : Data) → OrNone A (λ a. d ≡ Q a)) where
   items_or : (ds : Items) → OrNone (List A) (λ xs. ds ≡ items_of (map Q xs))

@@ -16,14 +16,11 @@ closed_ticks [] x = refl
 closed_ticks (line ∷ left) x = refl
 
 stops_ticks : (t k : ℕ) (younger : Bool) (e : NestedEnd) (entries : List Pointers) → (stops t k younger e entries).ticks ≡ t
-stops_ticks t k younger (Ended (Stopped c e) acts) entries = refl
-stops_ticks t k younger (Ended (Broken c r) acts) entries = refl
-stops_ticks t k younger (Offends what c acts) entries = refl
+stops_ticks t k younger e entries = grind arith
 
 module _ (s : Sched) where
   unless_ticks : (e : ℕ) (o : Option EnterErr) (x : Run) → (enters_unless s e o x).ticks ≡ x.ticks
-  unless_ticks e None x = refl
-  unless_ticks e (Some why) x = refl
+  unless_ticks e o x = grind arith
 
   enters_ticks : (o : Option ℕ) (x : Run) → (enters s o x).ticks ≡ x.ticks
   enters_ticks None x = refl

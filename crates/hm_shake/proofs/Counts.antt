@@ -107,8 +107,7 @@ module _ (ends : ℕ → Ended) where
   counted_kind x e n = go (nat_lt e.ticks x.ticks)
     where
       go : (b : Bool) → (cond b (record x { count = x.count + 1; run = n; ticks = e.ticks }) (record x { count = x.count + 1 })).kind ≡ x.kind
-      go true = refl
-      go false = refl
+      go b = grind arith
 
   -- KINDS stay among them
   noted_has : (n : ℕ) (e : Ended) (k : Kind) (xs ys : List Found) → IsNoted e n xs ys → HasKind k xs → HasKind k ys

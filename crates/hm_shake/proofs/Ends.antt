@@ -92,34 +92,13 @@ record HaltedSo (o : Option Outcome) : Type 0 where
   is : o ≡ Some (outcome.Halted reason n)
 
 halted_so : (o : Option Outcome) → is_halt (kind_or o) ≡ true → HaltedSo o
-halted_so None h = absurd cc
 halted_so (Some (outcome.Halted reason n)) h = record { reason = reason; n = n; is = refl }
-halted_so (Some (outcome.Fault who f pc n)) h = absurd cc
-halted_so (Some (outcome.RuleBroken t step r)) h = absurd cc
-halted_so (Some (outcome.HandlerBroken t (offence.Left (broken.ExcReturn value)))) h = absurd cc
-halted_so (Some (outcome.HandlerBroken t (offence.Left (broken.Register name entry now)))) h = absurd cc
-halted_so (Some (outcome.HandlerBroken t (offence.Left (broken.Frame addr)))) h = absurd cc
-halted_so (Some (outcome.HandlerBroken t (offence.Store addr))) h = absurd cc
-halted_so (Some (outcome.HandlerBroken t (offence.Call pc))) h = absurd cc
-halted_so (Some (outcome.TaintedRead t pc addr)) h = absurd cc
-halted_so (Some (outcome.StackSpent t sp)) h = absurd cc
-halted_so (Some (outcome.OutputFull t)) h = absurd cc
-halted_so (Some outcome.OutOfTicks) h = absurd cc
+halted_so o h = absurd cc
 
 -- the kind of an outcome that is no broken rule is another
 no_rule : (o : Outcome) → ((t step : ℕ) (r : Rule) → o ≢ outcome.RuleBroken t step r) → kind_of o ≢ kind.Rule
-no_rule (outcome.Halted reason n) none e = absurd cc
-no_rule (outcome.Fault who f pc n) none e = absurd cc
 no_rule (outcome.RuleBroken t step r) none e = none t step r refl
-no_rule (outcome.HandlerBroken t (offence.Left (broken.ExcReturn value))) none e = absurd cc
-no_rule (outcome.HandlerBroken t (offence.Left (broken.Register name entry now))) none e = absurd cc
-no_rule (outcome.HandlerBroken t (offence.Left (broken.Frame addr))) none e = absurd cc
-no_rule (outcome.HandlerBroken t (offence.Store addr)) none e = absurd cc
-no_rule (outcome.HandlerBroken t (offence.Call pc)) none e = absurd cc
-no_rule (outcome.TaintedRead t pc addr) none e = absurd cc
-no_rule (outcome.StackSpent t sp) none e = absurd cc
-no_rule (outcome.OutputFull t) none e = absurd cc
-no_rule outcome.OutOfTicks none e = absurd cc
+no_rule o none e = absurd cc
 
 -- so is that of each run of a shake
 pub never_rule : (listing : Listing) (image : List Segment) (p : Plan) (h : Head) (irqs : List ℕ) (run : ℕ)

@@ -86,21 +86,10 @@ reason_is (reason.Break k) out h = with_parts out (codes "break " ∷ decimal k 
 reason_is (reason.Exit r) out h = with_parts out (codes "exit " ∷ hex8 r ∷ []) h (refl, (hex8_words r, tt))
 
 fault_is : (k : FaultKind) → are_words (fault_text k) ≡ true
-fault_is fault.Undefined = refl
-fault_is fault.InvState = refl
-fault_is fault.Fetch = refl
-fault_is fault.Bus = refl
-fault_is fault.FlashWrite = refl
-fault_is fault.Unaligned = refl
-fault_is fault.DeviceVector = refl
-fault_is fault.TimedRead = refl
-fault_is fault.Semihost = refl
-fault_is fault.Vector = refl
+fault_is k = grind arith
 
 who_is : (w : Who) → are_words (who_text w) ≡ true
-who_is who.Thread = refl
-who_is who.Handler = refl
-who_is who.Entry = refl
+who_is w = grind arith
 
 register_is : (n : ℕ) (out : List ℕ) → are_words out ≡ true → are_words (register_text n out) ≡ true
 register_is n out h =
@@ -130,16 +119,8 @@ kind_words (kind.Halted reason n) =
     with_parts (reason_text reason (codes "halted ")) (codes " after " ∷ decimal n ∷ []) (reason_is reason (codes "halted ") refl)
     (refl, (decimal_words n, tt))
 kind_words (kind.Fault w k) = with_parts [] (codes "fault " ∷ who_text w ∷ codes " " ∷ fault_text k ∷ []) refl (refl, (who_is w, (refl, (fault_is k, tt))))
-kind_words kind.Rule = refl
 kind_words (kind.Register name) = slot_is name (codes "handler register ") refl
-kind_words kind.Frame = refl
-kind_words kind.Return = refl
-kind_words kind.Store = refl
-kind_words kind.Call = refl
-kind_words kind.Tainted = refl
-kind_words kind.Stack = refl
-kind_words kind.Output = refl
-kind_words kind.Ticks = refl
+kind_words k = refl
 
 joined_below : (c : ℕ) → c < 128 → joined c < 128
 joined_below c h = grind (arith, nat_tests)

@@ -73,16 +73,7 @@ cause_in text =
     (cond (has text 2 100) fault.Undefined fault.Unaligned)))))))
 
 cause_again : (k : FaultKind) → cause_in (fault_text k) ≡ k
-cause_again fault.Undefined = refl
-cause_again fault.InvState = refl
-cause_again fault.Fetch = refl
-cause_again fault.Bus = refl
-cause_again fault.FlashWrite = refl
-cause_again fault.Unaligned = refl
-cause_again fault.DeviceVector = refl
-cause_again fault.TimedRead = refl
-cause_again fault.Semihost = refl
-cause_again fault.Vector = refl
+cause_again k = grind arith
 
 abbrev fault_in : List ℕ → Kind
 fault_in text =
@@ -131,14 +122,7 @@ unfolding span
 slot_again (slot.Reg (place.R n)) small = register_again n (nat_eq n 13) (nat_eq n 14) refl refl small
 slot_again (slot.Reg (place.QWord k)) small = word_again k small
 slot_again (slot.Reg (place.P0 b)) small = ap (λ (n : ℕ). slot.Reg (place.P0 n)) (value_again b (omega arith))
-slot_again (slot.Reg place.Mask01) small = refl
-slot_again (slot.Reg place.Mask23) small = refl
-slot_again (slot.Reg place.Carry) small = refl
-slot_again (slot.Reg place.Ltp) small = refl
-slot_again (slot.Reg place.Sticky) small = refl
-slot_again slot.Primask small = refl
-slot_again slot.Psp small = refl
-slot_again slot.Basepri small = refl
+slot_again s small = refl
 
 -- its text stands behind what stands before it
 either_behind : (b : Bool) (out x y xs ys : List ℕ) → x ≡ out ++ xs → y ≡ out ++ ys → cond b x y ≡ out ++ cond b xs ys
@@ -151,14 +135,7 @@ slot_behind (slot.Reg (place.R n)) out =
     (either_behind (nat_eq n 14) out _ _ _ _ refl (append_assoc out (codes "r") (decimal n)))
 slot_behind (slot.Reg (place.QWord k)) out = simp append_assoc
 slot_behind (slot.Reg (place.P0 b)) out = append_assoc out (codes "p0.") (decimal b)
-slot_behind (slot.Reg place.Mask01) out = refl
-slot_behind (slot.Reg place.Mask23) out = refl
-slot_behind (slot.Reg place.Carry) out = refl
-slot_behind (slot.Reg place.Ltp) out = refl
-slot_behind (slot.Reg place.Sticky) out = refl
-slot_behind slot.Primask out = refl
-slot_behind slot.Psp out = refl
-slot_behind slot.Basepri out = refl
+slot_behind s out = refl
 
 -- ---- kinds
 
@@ -182,16 +159,8 @@ kind_again : (k : Kind) → HasNumbers k → kind_in (kind_text k []) ≡ k
 kind_again (kind.Halted (reason.Break k) n) small = halt_again (reason.Break k) n small.0 small.1
 kind_again (kind.Halted (reason.Exit r) n) small = halt_again (reason.Exit r) n small.0 small.1
 kind_again (kind.Fault w k) small = fault_again w k
-kind_again kind.Rule small = refl
 kind_again (kind.Register name) small = ap kind_in (slot_behind name (codes "handler register ")) ∙ ap kind.Register (slot_again name small)
-kind_again kind.Frame small = refl
-kind_again kind.Return small = refl
-kind_again kind.Store small = refl
-kind_again kind.Call small = refl
-kind_again kind.Tainted small = refl
-kind_again kind.Stack small = refl
-kind_again kind.Output small = refl
-kind_again kind.Ticks small = refl
+kind_again k small = refl
 
 -- ---- names
 

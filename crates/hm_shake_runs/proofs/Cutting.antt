@@ -70,8 +70,7 @@ cut_ticks n (x ∷ xs) =
 
 module _ (listing : Listing) (s : Sched) where
   ended_one : (line : TickLine) (x : Run) (r : Result Nested TickEnd) → ended s line x r ≡ ended s (one line) x r
-  ended_one line x (Ok m) = refl
-  ended_one line x (Err e) = refl
+  ended_one line x r = grind arith
 
   tick_one : (line : TickLine) (x : Run) (o : Option Outcome) → tick_of listing s line x o ≡ tick_of listing s (one line) x o
   tick_one line x (Some o) = refl

@@ -89,11 +89,7 @@ record IsAlone (x : Nested) : Type 0 where
   acts : AllAlone x.acts
 
 may_end_zero : (a : ℕ) → a < 4 → may_end a 0 ≡ true
-may_end_zero zero h = refl
-may_end_zero (suc zero) h = refl
-may_end_zero (suc (suc zero)) h = refl
-may_end_zero (suc (suc (suc zero))) h = refl
-may_end_zero (suc (suc (suc (suc a)))) h = absurd (omega arith)
+may_end_zero a h = grind arith
 
 may_end_alone : (a b : ℕ) → Alone a b → may_end a b ≡ true
 may_end_alone a b h = subst (λ (x : ℕ). may_end a x ≡ true) (sym h.none) (may_end_zero a h.few)
@@ -227,9 +223,7 @@ abbrev RunAlone : Run → Type 0
 RunAlone x = GoesOrEnds x.outcome x.machine
 
 stop_alone : (t : ℕ) (acts : List Activation) (c : Config State) (pc : ℕ) (e : Stop) → NoRule (outcome_of_stop t acts c pc e)
-stop_alone t acts c pc (stop.Fault f) = tt
-stop_alone t acts c pc (stop.Tainted addr) = tt
-stop_alone t acts c pc (stop.Denied addr) = tt
+stop_alone t acts c pc e = grind arith
 
 cause_alone : (t : ℕ) (acts : List Activation) (c : Config State) (pc : ℕ) (e : Cause) → NoRule (outcome_of_cause t acts c pc e)
 cause_alone t acts c pc (cause.Halt reason) = tt
@@ -242,8 +236,7 @@ stops_alone t k younger (Ended (Broken c r) acts) entries h = absurd h
 stops_alone t k younger (Offends what c acts) entries h = tt
 
 refused_alone : (t : ℕ) (c : Config State) (why : EnterErr) → NoRule (refused t c why)
-refused_alone t c (err.StackSpent sp) = tt
-refused_alone t c (err.Vector addr) = tt
+refused_alone t c why = grind arith
 
 -- a run that goes on, and where it stands
 abbrev going : Nested → ℕ → List Pointers → Run

@@ -88,9 +88,7 @@ takes_one zero (suc n) x xs e z h = rw (counts_one x.irq e) refl
 takes_one (suc k) n x xs e z h = absurd (omega arith)
 
 pub takes_none : (k n : ℕ) (x : Stretch) (xs : List Stretch) → k ≡ 0 → n ≡ 0 → without k n (x ∷ xs) ≡ x ∷ without k n xs
-takes_none zero zero x xs e f = refl
-takes_none zero (suc n) x xs e f = absurd (omega arith)
-takes_none (suc k) n x xs e f = absurd (omega arith)
+takes_none k n x xs e f = grind arith
 
 less_none : (n m : ℕ) → m ≡ 0 → n - m ≡ n
 less_none n m e = omega arith
@@ -137,8 +135,7 @@ length-numbers_from zero k = refl
 length-numbers_from (suc n) k = ap suc (length-numbers_from n (k + 1))
 
 maybe_longer : (b : Bool) (k n : ℕ) (xs : List ℕ) → length xs ≤ n → length (cond b (k ∷ xs) xs) ≤ suc n
-maybe_longer true k n xs h = omega arith
-maybe_longer false k n xs h = omega arith
+maybe_longer b k n xs h = grind arith
 
 pub few_named : (lines : List TickLine) (n k : ℕ) → length (named_from lines n k) ≤ n
 few_named lines zero k = omega arith

@@ -33,22 +33,17 @@ by_row : (i j : Instr) → i ≡ j → AlwaysGoesOn j → AlwaysGoesOn i
 by_row i j e h = subst AlwaysGoesOn (sym e) h
 
 operation_goes : (o : Operation) (d n m : ℕ) (i : Instr) → IsOperation o d n m i → AlwaysGoesOn i
-operation_goes soak.Add d n m i h = by_row i (instr.Vector (vector.V1 h.row)) h.is (vector_goes (vector.V1 h.row) _ refl refl)
-operation_goes soak.Sub d n m i h = by_row i (instr.Vector (vector.V1 h.row)) h.is (vector_goes (vector.V1 h.row) _ refl refl)
-operation_goes soak.Mul d n m i h = by_row i (instr.Vector (vector.V1 h.row)) h.is (vector_goes (vector.V1 h.row) _ refl refl)
 operation_goes soak.Eor d n m i h = by_row i (instr.Vector (vector.V2 h.row)) h.is (vector_goes (vector.V2 h.row) _ refl refl)
 operation_goes soak.Max d n m i h = by_row i (instr.Vector (vector.V3 h.row)) h.is (vector_goes (vector.V3 h.row) _ refl refl)
+operation_goes o d n m i h = by_row i (instr.Vector (vector.V1 h.row)) h.is (vector_goes (vector.V1 h.row) _ refl refl)
 
 pub item_goes : (x : Item) (i : Instr) → IsFree x → IsItem x i → AlwaysGoesOn i
 item_goes (Movw d x) i free h = by_row i (instr.Scalar (scalar.T4 h.row)) h.is (half_goes h.row)
 item_goes (Movt d x) i free h = by_row i (instr.Scalar (scalar.T4 h.row)) h.is (half_goes h.row)
 item_goes (Movs d x) i free h = by_row i (instr.Scalar (scalar.S4 h.row)) h.is (byte_goes h.row)
-item_goes (Str t n) i free h = absurd free
 item_goes (Vdup d t) i free h = by_row i (instr.Vector (vector.V18 h.row)) h.is (vector_goes (vector.V18 h.row) _ refl refl)
 item_goes (Lanes o d n m) i free h = operation_goes o d n m i h
-item_goes (Bkpt x) i free h = absurd free
-item_goes Nop i free h = absurd free
-item_goes (Bx m) i free h = absurd free
+item_goes x i free h = absurd free
 
 pub items_go : (xs : List Item) (is : List Instr) → AreFree xs → AreItems xs is → AllGoOn is
 items_go [] [] free h = tt
@@ -96,21 +91,14 @@ middle_length n x y = let a = length-append (fill 4 0 x) (operations n 0 y) in l
 -- each code has one halfword or two
 operation_width : (o : Operation) (d n m : ℕ) (i : Instr) → IsOperation o d n m i → length (halfwords i) ≡ 2
 operation_width soak.Add d n m i h = ap (λ (x : Instr). length (halfwords x)) h.is
-operation_width soak.Sub d n m i h = ap (λ (x : Instr). length (halfwords x)) h.is
-operation_width soak.Mul d n m i h = ap (λ (x : Instr). length (halfwords x)) h.is
-operation_width soak.Eor d n m i h = ap (λ (x : Instr). length (halfwords x)) h.is
-operation_width soak.Max d n m i h = ap (λ (x : Instr). length (halfwords x)) h.is
+operation_width o d n m i h = ap (λ (x : Instr). length (halfwords x)) h.is
 
 abbrev pub item_halves : Item → ℕ
 item_halves (Movw d x) = 2
 item_halves (Movt d x) = 2
-item_halves (Movs d x) = 1
-item_halves (Str t n) = 1
 item_halves (Vdup d t) = 2
 item_halves (Lanes o d n m) = 2
-item_halves (Bkpt x) = 1
-item_halves Nop = 1
-item_halves (Bx m) = 1
+item_halves x = 1
 
 pub item_width : (x : Item) (i : Instr) → IsItem x i → length (halfwords i) ≡ item_halves x
 item_width (Movw d x) i h = ap (λ (x : Instr). length (halfwords x)) h.is
@@ -124,15 +112,7 @@ item_width Nop i h = ap (λ (x : Instr). length (halfwords x)) h.is
 item_width (Bx m) i h = ap (λ (x : Instr). length (halfwords x)) h.is
 
 at_most_two : (x : Item) → item_halves x ≤ 2
-at_most_two (Movw d x) = omega arith
-at_most_two (Movt d x) = omega arith
-at_most_two (Movs d x) = omega arith
-at_most_two (Str t n) = omega arith
-at_most_two (Vdup d t) = omega arith
-at_most_two (Lanes o d n m) = omega arith
-at_most_two (Bkpt x) = omega arith
-at_most_two Nop = omega arith
-at_most_two (Bx m) = omega arith
+at_most_two x = grind arith
 
 -- so all codes have at most twice as many halfwords as there are instructions
 pub few_halves : (xs : List Item) (is : List Instr) → AreItems xs is → length (all_halves is) ≤ 2 * length xs

@@ -54,8 +54,7 @@ pairs_lines (suc n) p = All-append (IsLine 32) (pair_lines p) (pairs n (p + 1)) 
 
 -- TICKS
 either_total : (b : Bool) → total (cond b (twice 1 ∷ both 1 ∷ wholes 3 ∷ []) (twice 1 ∷ both 0 ∷ [])) ≡ 2 + 3 * cond b 1 0
-either_total true = refl
-either_total false = refl
+either_total b = grind arith
 
 next_64 : (q : ℕ) → (q + 1) / 64 ≡ q / 64 + cond (nat_eq ((q + 1) % 64) 0) 1 0
 next_64 q = grind (arith, nat_tests)

@@ -27,10 +27,7 @@ tokens_behind (space n) = number n ∷ []
 tokens_behind (values s d ds) = list_tokens d ds
 
 pub in_parts : (asked : Directed) → asked_tokens asked ≡ word (name_asked asked) ∷ tokens_behind asked
-in_parts (org a) = refl
-in_parts (align n) = refl
-in_parts (space n) = refl
-in_parts (values s d ds) = refl
+in_parts asked = grind arith
 
 -- a text of this name, with what stands behind it
 pub record Behind (name behind : List ℕ) (asked : Directed) : Type 0 where
