@@ -6,7 +6,7 @@ ghost use Rattle.hm_state.specs.State.{state_of};
 ghost use Rattle.hm_beat.specs.Laws.{run};
 ghost use Rattle.hm_beat.specs.Touches.{reads_in, writes_in};
 ghost use Rattle.hm_kinds.specs.Row.{row_tree};
-ghost use Rattle.hm_forms_elements.specs.Forms.{shift_of, shift_row};
+ghost use Rattle.hm_forms_elements.specs.Forms.{shift_row};
 
 use crate::carry::first_of;
 use hm_base::{Place, Places, note};
@@ -15,15 +15,6 @@ use hm_isa::V17;
 use hm_kinds::{Shape, Written, active, finish_row, read, touch_row};
 use hm_lane_fns::{merge, word_at};
 use hm_regs::Regs;
-
-/// How far the register is shifted.
-fn shift(row: &V17) -> u32
-    ensures value { result ≡ shift_of row.now }
-    ensures some { 1 ≤ result }
-    ensures at_most { result ≤ 32 }
-{
-    if row.k.get() == 0 { 32 } else { row.k.get() }
-}
 
 /// The shifted word, with bits of the register in its lower part.
 fn shifted(c: u32, m: u32, k: u32) -> u32
@@ -77,7 +68,7 @@ pub fn beat_shift(row: &V17, b: u8, r: &mut Regs)
     let c = read(r, place);
     let m = read(r, register);
     let active = active(r, b);
-    let k = shift(row);
+    let k = row.amount();
     let next = Written {
         place: register,
         value: carried(first_of(active), c, m, k),

@@ -13,7 +13,7 @@ use Rattle.hm_lane.specs.Predicate.{with_context}
 use Rattle.hm_regs.specs.declared.Regs.{Regs}
 use Rattle.hm_thumb.specs.BranchRows.{is_taken}
 use Rattle.hm_thumb.specs.Does.{Ends, goes}
-use Rattle.hm_thumb.specs.MemoryRows.{plain_name, word_name}
+use Rattle.hm_isa.specs.Letters.{plain_access, word_access}
 use Rattle.hm_thumb.specs.RegisterRows.{put, put_any, reg}
 use Rattle.hm_thumb.specs.Rows.{branch_does, in_block, instr_does, made, makes_context, runs, scalar_does}
 use Rattle.hm_thumb.specs.declared.Way.TheVariants as way
@@ -45,8 +45,8 @@ module _ (r : Regs) where
   scalar-keep (scalar.S8 i) q h = any-keep i.d.value _ q h
   scalar-keep (scalar.S14 i) q h = λ xs. loaded-keep r i.t.value (slice_index xs 0) q h
   scalar-keep (scalar.S15 i) q h = access-keep r i.name _ _ (λ p. p) q h
-  scalar-keep (scalar.S16 i) q h = access-keep r (plain_name i.name) _ _ (λ p. p) q h
-  scalar-keep (scalar.S17 i) q h = access-keep r (word_name i.name) _ _ (λ p. p) q h
+  scalar-keep (scalar.S16 i) q h = access-keep r (plain_access i.name) _ _ (λ p. p) q h
+  scalar-keep (scalar.S17 i) q h = access-keep r (word_access i.name) _ _ (λ p. p) q h
   scalar-keep (scalar.S20 i) q h = list-keep r i.name _ _ _ q h
   scalar-keep (scalar.S21 i) q h = let opened = opens i.c.value i.mask.value i.c.in_range i.mask.in_range i.row in (h.0, opened.0, opened.1, h.2)
   scalar-keep (scalar.T1 i) q h = data-same r i.name _ _ _ _ q h

@@ -1,28 +1,67 @@
--- What names and letters of rows stand for: how far a shift goes, which register a base is, how many bytes an access has.
-use Rattle.std.specs.Prelude.{ℕ, nat_eq, if◌then◌else◌}
+-- What names and letters of rows stand for: by how many places a shift goes, which register a base is, what an access is and how many bytes it has.
+use Rattle.std.specs.Prelude.{ℕ, ◌+◌, ◌-◌, ◌*◌, ◌^◌, nat_eq, nat_lt, if◌then◌else◌}
+use Rattle.hm_isa.specs.declared.narrow.AccessName.{AccessName}
+use Rattle.hm_isa.specs.declared.narrow.AccessName.TheVariants as access
 use Rattle.hm_isa.specs.declared.narrow.BaseName.{BaseName}
 use Rattle.hm_isa.specs.declared.narrow.BaseName.TheVariants as base
 use Rattle.hm_isa.specs.declared.narrow.PlainName.{PlainName}
 use Rattle.hm_isa.specs.declared.narrow.PlainName.TheVariants as plain
 use Rattle.hm_isa.specs.declared.narrow.ShiftName.{ShiftName}
 use Rattle.hm_isa.specs.declared.narrow.ShiftName.TheVariants as shift
+use Rattle.hm_isa.specs.declared.narrow.WordName.{WordName}
+use Rattle.hm_isa.specs.declared.narrow.WordName.TheVariants as word
+use Rattle.hm_isa.specs.declared.vectors.ConstantShiftName.{ConstantShiftName}
+use Rattle.hm_isa.specs.declared.vectors.ConstantShiftName.TheVariants as by_constant
 
--- S1, T2 and T5: how many places a shift by a constant is by; in shifts to the right 0 stands for 32 (DDI0553, "DecodeImmShift")
+-- the number of places from 1 to 32 that five bits stand for: 0 stands for 32
+abbrev pub at_least_1 : ℕ → ℕ
+at_least_1 i = if nat_eq i 0 then 32 else i
+
+-- S1, T2 and T5: how many places a shift by a constant is by (DDI0553, "DecodeImmShift")
 abbrev pub shift_amount : ShiftName → ℕ → ℕ
 shift_amount shift.Lsl i = i
-shift_amount shift.Lsr i = if nat_eq i 0 then 32 else i
-shift_amount shift.Asr i = if nat_eq i 0 then 32 else i
+shift_amount shift.Lsr i = at_least_1 i
+shift_amount shift.Asr i = at_least_1 i
 
 -- S9: the number of the base register: 15 for pc, 13 for sp (DDI0553, "ADR" and "ADD (SP plus immediate)")
 abbrev pub base_register : BaseName → ℕ
 base_register base.Pc = 15
 base_register base.Sp = 13
 
--- S16: how many bytes STR, LDR, STRB, LDRB, STRH and LDRH access (DDI0553, the immediate form of each, as "STR (immediate)")
-abbrev pub plain_size : PlainName → ℕ
-plain_size plain.Str = 4
-plain_size plain.Ldr = 4
-plain_size plain.Strb = 1
-plain_size plain.Ldrb = 1
-plain_size plain.Strh = 2
-plain_size plain.Ldrh = 2
+-- S15 to S17 and T12: how many bytes STR, STRH, STRB, LDRSB, LDR, LDRH, LDRB and LDRSH access (DDI0553, "LDR (immediate)" and the like of each)
+abbrev pub access_size : AccessName → ℕ
+access_size access.Str = 4
+access_size access.Strh = 2
+access_size access.Strb = 1
+access_size access.Ldrsb = 1
+access_size access.Ldr = 4
+access_size access.Ldrh = 2
+access_size access.Ldrb = 1
+access_size access.Ldrsh = 2
+
+-- S16: the access of each name, STR, LDR, STRB, LDRB, STRH and LDRH (DDI0553, the immediate form of each, as "STR (immediate)")
+abbrev pub plain_access : PlainName → AccessName
+plain_access plain.Str = access.Str
+plain_access plain.Ldr = access.Ldr
+plain_access plain.Strb = access.Strb
+plain_access plain.Ldrb = access.Ldrb
+plain_access plain.Strh = access.Strh
+plain_access plain.Ldrh = access.Ldrh
+
+-- S17: the access of each name, STR and LDR (DDI0553, "STR (immediate)" and "LDR (immediate)")
+abbrev pub word_access : WordName → AccessName
+word_access word.Str = access.Str
+word_access word.Ldr = access.Ldr
+
+-- V11: the size of elements that the highest bit of the field x tells, 0 to 2 for bytes, halfwords and words
+-- (DDI0553, "VSHR", "VRSHR", "VQSHL, VQSHLU", "VSHL", "VSRI" and "VSLI")
+abbrev pub constant_shift_size : ℕ → ℕ
+constant_shift_size x = if nat_lt x 16 then 0 else (if nat_lt x 32 then 1 else 2)
+
+-- V11: how far elements are shifted, which the field x holds together with their size, one way for each direction
+-- (DDI0553, "VSHR", "VRSHR", "VQSHL, VQSHLU", "VSHL", "VSRI" and "VSLI")
+abbrev pub constant_shift_amount : ConstantShiftName → ℕ → ℕ
+constant_shift_amount by_constant.Shr x = 2 * 2 ^ (3 + constant_shift_size x) - x
+constant_shift_amount by_constant.Rshr x = 2 * 2 ^ (3 + constant_shift_size x) - x
+constant_shift_amount by_constant.Sri x = 2 * 2 ^ (3 + constant_shift_size x) - x
+constant_shift_amount name x = x - 2 ^ (3 + constant_shift_size x)

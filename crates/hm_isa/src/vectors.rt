@@ -1,9 +1,11 @@
 //! The rows of the vector codes: DDI0553, "M-profile Vector Extension".
 
-ghost use Rattle.std.specs.Prelude.{◌≡◌, ◌≢◌, IsTrue};
+ghost use Rattle.std.specs.Prelude.{◌≡◌, ◌≢◌, ◌<◌, ◌≤◌, ◌+◌, ◌*◌, ◌^◌, IsTrue};
+ghost use Rattle.hm_isa.specs.Letters.{at_least_1, constant_shift_amount, constant_shift_size};
 ghost use Rattle.hm_isa.specs.Rules.{has_size, is_reversed, is_shifted_by, is_signed_by, is_complex_sum, is_widened};
 
 use crate::fields::{Below, Bit, ElementSize, QRegister, Register};
+use crate::narrow::at_least_1;
 
 /// The size of elements, where it tells codes apart as a name does.
 #[derive(Clone, Copy)]
@@ -341,6 +343,52 @@ pub struct V11 {
     pub ghost size: { IsTrue (has_size x.value) },
 }
 
+impl V11 {
+    /// The size of the elements, which the highest bit of `x` tells: 0, 1 and 2 are 8, 16 and 32 bits.
+    pub fn size(&self) -> u32
+        ensures value { result ≡ constant_shift_size self.now.x.value }
+        ensures below { result < 3 }
+    {
+        match self.x.get() {
+            0..=15 => 0,
+            16..=31 => 1,
+            _ => 2,
+        }
+    }
+
+    /// How many bits the elements have.
+    fn bits(&self) -> u32
+        ensures value { result ≡ 2 ^ (3 + constant_shift_size self.now.x.value) }
+        ensures least { result ≤ self.now.x.value }
+        ensures most { self.now.x.value < 2 * result }
+        ensures word { result ≤ 32 }
+    {
+        match self.x.get() {
+            0..=15 => 8,
+            16..=31 => 16,
+            _ => 32,
+        }
+    }
+
+    /// By how many places it shifts, at most 32.
+    pub fn amount(&self) -> u32
+        ensures value { result ≡ constant_shift_amount self.now.name self.now.x.value }
+        ensures most { result ≤ 32 }
+    {
+        let x = self.x.get();
+        let bits = self.bits();
+        match self.name {
+            ConstantShiftName::Shr | ConstantShiftName::Rshr | ConstantShiftName::Sri => {
+                2 * bits - x
+            }
+            ConstantShiftName::Qshl
+            | ConstantShiftName::Qshlu
+            | ConstantShiftName::Shl
+            | ConstantShiftName::Sli => x - bits,
+        }
+    }
+}
+
 /// `vshllb`, `vshllt` of 8 bits by less than 8, as `vshllb.s8 qd,qm,#k`; by 0 they are `vmovlb`, `vmovlt`.
 #[derive(Clone, Copy)]
 pub struct LongBytes {
@@ -524,6 +572,17 @@ pub struct V17 {
     pub m: Register,
     pub ghost not_sp: { m.value ≢ 13 },
     pub ghost not_pc: { m.value ≢ 15 },
+}
+
+impl V17 {
+    /// By how many places it shifts, from 1 to 32.
+    pub fn amount(&self) -> u32
+        ensures value { result ≡ at_least_1 self.now.k.value }
+        ensures some { 1 ≤ result }
+        ensures most { result ≤ 32 }
+    {
+        at_least_1(self.k.get())
+    }
 }
 
 /// `vdup.32 qd,rt`: DDI0553, "VDUP".

@@ -5,7 +5,7 @@ ghost use Rattle.hm_forms.specs.declared.form.Form.TheVariants as form;
 ghost use Rattle.hm_isa.specs.declared.Vector.TheVariants as vector;
 ghost use Rattle.hm_isa.specs.declared.vectors.V22.TheVariants as v22;
 ghost use Rattle.hm_rows.specs.Rows.{Registers, add_fn, bitwise_fn, compare_form, constant_shift_fn, doubling_fn, high_fn, kind_of, long_form, offsets_form};
-ghost use Rattle.hm_rows.specs.Rows.{one_fn, one_form, predicate_form, scalar_fn, shift_operand, shift_size, shift_unsigned, signed_fn, sum_form};
+ghost use Rattle.hm_rows.specs.Rows.{one_fn, one_form, predicate_form, scalar_fn, shift_operand, shift_unsigned, signed_fn, sum_form};
 ghost use Rattle.hm_rows.specs.Rows.{vector_shift_fn};
 
 use hm_forms::{Comparison, Form, Lanes, LongSums, Steps, Sums, Widening};
@@ -15,7 +15,7 @@ use hm_isa::{
     V21, V22, VectorShiftName,
 };
 use hm_lane::Size;
-use hm_lane_fns::{LaneFn, Operand, bit_count, element_size, size};
+use hm_lane_fns::{LaneFn, Operand, element_size, size};
 
 /// A row on lanes.
 fn lanes(f: LaneFn, unsigned: bool, z: Size, d: QRegister, n: QRegister, by: Operand) -> Form
@@ -97,29 +97,13 @@ fn constant_shift_fn(name: ConstantShiftName) -> LaneFn
     }
 }
 
-/// The size that a constant shift says: the highest bit that is 1.
-fn shift_size(x: u32) -> Size
-    ensures { result ≡ shift_size x }
-{
-    if x < 16 {
-        Size::Byte
-    } else if x < 32 {
-        Size::Half
-    } else {
-        Size::Word
-    }
-}
-
 /// What each lane is shifted by: a shift to the right by k is one by -k as a byte, but that of `vsri`.
-fn shift_operand(name: ConstantShiftName, x: u32) -> u32
-    requires { x < 64 }
-    ensures { result ≡ shift_operand name x }
+fn shift_operand(row: &V11) -> u32
+    ensures { result ≡ shift_operand row.now.name row.now.x.value }
 {
-    let size = bit_count(shift_size(x));
-    match name {
-        ConstantShiftName::Shr | ConstantShiftName::Rshr => { 256 - (2 * size).saturating_sub(x) }
-        ConstantShiftName::Sri => (2 * size).saturating_sub(x),
-        _ => x.saturating_sub(size),
+    match row.name {
+        ConstantShiftName::Shr | ConstantShiftName::Rshr => 256 - row.amount(),
+        _ => row.amount(),
     }
 }
 
@@ -435,10 +419,10 @@ pub fn constant_shift_form(row: &V11) -> Form
     lanes(
         constant_shift_fn(row.name),
         shift_unsigned(row.name, row.u.get()),
-        shift_size(row.x.get()),
+        size(row.size()),
         row.d,
         row.m,
-        Operand::Constant(shift_operand(row.name, row.x.get())),
+        Operand::Constant(shift_operand(row)),
     )
 }
 

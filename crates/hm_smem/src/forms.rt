@@ -2,14 +2,12 @@
 
 ghost use Rattle.std.specs.Prelude.{◌≡◌, ℕ, ◌≤◌, ◌<◌, ◌*◌, ◌%◌, ◌^◌, cond, OnErr};
 ghost use Rattle.hm_mem.specs.Memory.{memory_of};
-ghost use Rattle.hm_thumb.specs.MemoryRows.{indexed, literal, moved, offset, plain_name, s14, s15, s16, s17, shifted, t12, word_name};
+ghost use Rattle.hm_thumb.specs.MemoryRows.{indexed, literal, moved, offset, s14, s15, s16, s17, shifted, t12};
 ghost use Rattle.hm_thumb.specs.Steps.{IsDone};
 
 use crate::single::{Back, access_at, access_row};
 use hm_base::{Place, Stop};
-use hm_isa::{
-    AccessName, Indexed, Literal, Offset, PlainName, S14, S15, S16, S17, Shifted, T12, WordName,
-};
+use hm_isa::{AccessName, Indexed, Literal, Offset, S14, S15, S16, S17, Shifted, T12};
 use hm_mem::Mem;
 use hm_regs::Regs;
 use hm_thumb::{Way, base_of};
@@ -31,37 +29,14 @@ pub fn s15(i: &S15, regs: &mut Regs, mem: &mut Mem) -> Result<Way, Stop>
     access_at(i.name, i.t.get(), base.wrapping_add(index), regs, mem)
 }
 
-/// The operation of the register form.
-fn plain_name(name: PlainName) -> AccessName
-    ensures value { result ≡ plain_name name }
-{
-    match name {
-        PlainName::Str => AccessName::Str,
-        PlainName::Ldr => AccessName::Ldr,
-        PlainName::Strb => AccessName::Strb,
-        PlainName::Ldrb => AccessName::Ldrb,
-        PlainName::Strh => AccessName::Strh,
-        PlainName::Ldrh => AccessName::Ldrh,
-    }
-}
-
 /// `str`, `ldr rt,[rn,#4i]` and their kin
 pub fn s16(i: &S16, regs: &mut Regs, mem: &mut Mem) -> Result<Way, Stop>
     ensures done { IsDone (s16 i.now regs.old) regs.old regs.new (memory_of mem.old) (memory_of mem.new) result }
 {
     let base = regs.get(Place::R(i.n.get() as u8));
-    let addr = base.wrapping_add(i.name.size() * i.i.get());
-    access_at(plain_name(i.name), i.t.get(), addr, regs, mem)
-}
-
-/// The operation of the register form.
-fn word_name(name: WordName) -> AccessName
-    ensures value { result ≡ word_name name }
-{
-    match name {
-        WordName::Str => AccessName::Str,
-        WordName::Ldr => AccessName::Ldr,
-    }
+    let name = i.name.access();
+    let addr = base.wrapping_add(name.size() * i.i.get());
+    access_at(name, i.t.get(), addr, regs, mem)
 }
 
 /// `str`, `ldr rt,[sp,#4i]`
@@ -69,7 +44,7 @@ pub fn s17(i: &S17, regs: &mut Regs, mem: &mut Mem) -> Result<Way, Stop>
     ensures done { IsDone (s17 i.now regs.old) regs.old regs.new (memory_of mem.old) (memory_of mem.new) result }
 {
     let addr = regs.get(Place::R(13)).wrapping_add(4 * i.i.get());
-    access_at(word_name(i.name), i.t.get(), addr, regs, mem)
+    access_at(i.name.access(), i.t.get(), addr, regs, mem)
 }
 
 /// An address up or down by so many bytes.

@@ -13,7 +13,7 @@ use Rattle.hm_isa.specs.Standing.{◌↑◌}
 use Rattle.std.proofs.lemmas.Bool.{ne_eqb}
 use Rattle.hm_text16_codes.specs.declared.operands.Kind.TheVariants as kinds
 use Rattle.hm_text16_codes.specs.Codes.{code_of}
-use Rattle.hm_isa.specs.Letters.{plain_size}
+use Rattle.hm_isa.specs.Letters.{access_size, plain_access}
 use Rattle.hm_text_rows.specs.Mnemonics.{access_mnemonic}
 use Rattle.hm_text16_rows.specs.Mnemonics.{plain_mnemonic, word_mnemonic}
 use Rattle.hm_text_rows.proofs.Words.{is_mnemonic}
@@ -42,15 +42,15 @@ row_s15 i = plain_row (instr.Scalar (scalar.S15 i)) _ _ _ refl refl
 mnemonic_plain : (name : PlainName) → is_mnemonic (plain_mnemonic name) ≡ true
 mnemonic_plain name = grind arith
 
-asks_plain : (name : PlainName) (i n t k pc a : ℕ) → eqb n 13 ≡ false → k / plain_size name ≡ i
+asks_plain : (name : PlainName) (i n t k pc a : ℕ) → eqb n 13 ≡ false → k / access_size (plain_access name) ≡ i
     → code_of (plain_mnemonic name) (given t n k kinds.Word kinds.Number) pc a ≡ Some (plain_base name + i ↑ 6 + n ↑ 3 + t)
 unfolding code_of
 asks_plain name i n t k pc a h0 h1 = grind arith
 
-size_back : (name : PlainName) (i : ℕ) → plain_size name * i / plain_size name ≡ i
+size_back : (name : PlainName) (i : ℕ) → access_size (plain_access name) * i / access_size (plain_access name) ≡ i
 size_back name i = grind arith
 
-offset_fits : (name : PlainName) (i : ℕ) → i < 32 → plain_size name * i < 10000
+offset_fits : (name : PlainName) (i : ℕ) → i < 32 → access_size (plain_access name) * i < 10000
 offset_fits name i lt = grind arith
 
 no_sp : (n : ℕ) → n < 8 → eqb n 13 ≡ false

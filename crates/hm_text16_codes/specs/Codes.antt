@@ -6,7 +6,7 @@ use Rattle.hm_isa.specs.declared.narrow.ListName.TheVariants as list
 use Rattle.hm_isa.specs.declared.narrow.LogicName.TheVariants as logic
 use Rattle.hm_isa.specs.Code.{access_base, base_base, byte_base, extend_base, hint_base, jump_base, list_base, logic_base, masking_base, plain_base}
 use Rattle.hm_isa.specs.Code.{shift_base, stack_sum_base, sum_base, swap_base, word_base, zero_base}
-use Rattle.hm_isa.specs.Letters.{plain_size}
+use Rattle.hm_isa.specs.Letters.{access_size, plain_access}
 use Rattle.hm_isa.specs.Standing.{◌↑◌}
 use Rattle.hm_tokens.specs.Tokens.{Tok, word, number, mark}
 use Rattle.hm_text_rows.specs.Labels.{distance}
@@ -56,7 +56,7 @@ code_stack_access s o = if o.second == 13 then option_map (λ name. of_byte (wor
 
 -- S16: the code of STR, LDR, STRB, LDRB, STRH and LDRH by an offset in words, bytes or halfwords (DDI0553, the immediate form of each)
 abbrev pub code_offset : List ℕ → Operands → Option ℕ
-code_offset s o = option_map (λ name. of_three (plain_base name) (o.third / plain_size name) o.second o.first) (named plain_mnemonic plain_names s)
+code_offset s o = option_map (λ name. of_three (plain_base name) (o.third / access_size (plain_access name)) o.second o.first) (named plain_mnemonic plain_names s)
 
 -- the code of a number behind two registers, by the mnemonic: S1, S3, S9, S16 or S17
 abbrev pub code_with_number : List ℕ → Operands → Option ℕ

@@ -100,7 +100,7 @@ fn code_offset(mnemonic: &[u8], o: &Operands) -> Option<u64>
 {
     let name = plain_name(mnemonic)?;
     let base = u64::from(base_of_plain(name));
-    Some(of_three(base, o.third / name.size(), o.second, o.first))
+    Some(of_three(base, o.third / name.access().size(), o.second, o.first))
 }
 
 /// Rows with a number behind two registers.

@@ -11,7 +11,6 @@ use Rattle.hm_isa.specs.declared.narrow.LogicName.TheVariants as logic
 use Rattle.hm_isa.specs.declared.narrow.MaskingName.{MaskingName}
 use Rattle.hm_isa.specs.declared.narrow.MaskingName.TheVariants as masking
 use Rattle.hm_isa.specs.declared.narrow.PlainName.{PlainName}
-use Rattle.hm_isa.specs.declared.narrow.PlainName.TheVariants as plain
 use Rattle.hm_isa.specs.declared.narrow.ShiftName.{ShiftName}
 use Rattle.hm_isa.specs.declared.narrow.ShiftName.TheVariants as shift
 use Rattle.hm_isa.specs.declared.narrow.SumName.{SumName}
@@ -19,9 +18,10 @@ use Rattle.hm_isa.specs.declared.narrow.SumName.TheVariants as sum_
 use Rattle.hm_isa.specs.declared.narrow.SwapName.{SwapName}
 use Rattle.hm_isa.specs.declared.narrow.SwapName.TheVariants as swap_
 use Rattle.hm_isa.specs.declared.narrow.WordName.{WordName}
-use Rattle.hm_isa.specs.declared.narrow.WordName.TheVariants as word_
 use Rattle.hm_isa.specs.declared.narrow.ZeroName.{ZeroName}
 use Rattle.hm_isa.specs.declared.narrow.ZeroName.TheVariants as zero_
+use Rattle.hm_isa.specs.Letters.{plain_access, word_access}
+use Rattle.hm_text_rows.specs.Mnemonics.{access_mnemonic}
 use Rattle.hm_tokens.specs.Names.{condition_name, condition_names}
 
 -- S1: the mnemonic of each name, LSLS, LSRS and ASRS (DDI0553, "LSL (immediate)", "LSR (immediate)" and "ASR (immediate)")
@@ -80,17 +80,11 @@ masking_mnemonic masking.Cpsid = codes "cpsid"
 
 -- S16: the mnemonic of each name, STR, LDR, STRB, LDRB, STRH and LDRH (DDI0553, the immediate form of each, as "STR (immediate)")
 abbrev pub plain_mnemonic : PlainName → List ℕ
-plain_mnemonic plain.Str = codes "str"
-plain_mnemonic plain.Ldr = codes "ldr"
-plain_mnemonic plain.Strb = codes "strb"
-plain_mnemonic plain.Ldrb = codes "ldrb"
-plain_mnemonic plain.Strh = codes "strh"
-plain_mnemonic plain.Ldrh = codes "ldrh"
+plain_mnemonic name = access_mnemonic (plain_access name)
 
 -- S17: the mnemonic of each name, STR and LDR (DDI0553, "STR (immediate)" and "LDR (immediate)")
 abbrev pub word_mnemonic : WordName → List ℕ
-word_mnemonic word_.Str = codes "str"
-word_mnemonic word_.Ldr = codes "ldr"
+word_mnemonic name = access_mnemonic (word_access name)
 
 -- S19: the mnemonic of each name, NOP, YIELD, WFE, WFI and SEV (DDI0553, "NOP", "YIELD", "WFE", "WFI" and "SEV")
 abbrev pub hint_mnemonic : HintName → List ℕ

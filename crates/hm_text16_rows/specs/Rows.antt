@@ -10,7 +10,7 @@ use Rattle.hm_isa.specs.declared.narrow.ListName.{ListName}
 use Rattle.hm_isa.specs.declared.narrow.ListName.TheVariants as list
 use Rattle.hm_isa.specs.declared.narrow.S25.{S25 as JumpRow}
 use Rattle.hm_isa.specs.declared.narrow.S25.TheVariants as s25
-use Rattle.hm_isa.specs.Letters.{base_register, plain_size, shift_amount}
+use Rattle.hm_isa.specs.Letters.{access_size, base_register, plain_access, shift_amount}
 use Rattle.hm_isa.specs.Rules.{listed_in}
 use Rattle.hm_isa.specs.Standing.{◌↑◌}
 use Rattle.hm_tokens.specs.Tokens.{Tok, word, close_bracket, comma, bang, open_bracket}
@@ -64,7 +64,7 @@ scalar_tokens (S12 i) = two (swap_mnemonic i.name) (r i.d.value) (r i.m.value)
 scalar_tokens (S13 i) = one (masking_mnemonic i.name) (word (codes "i"))
 scalar_tokens (S14 i) = word (codes "ldr") ∷ r i.t.value ∷ comma ∷ []
 scalar_tokens (S15 i) = by_register (access_mnemonic i.name) i.t.value i.n.value i.m.value
-scalar_tokens (S16 i) = by_number (plain_mnemonic i.name) i.t.value i.n.value (plain_size i.name * i.i.value)
+scalar_tokens (S16 i) = by_number (plain_mnemonic i.name) i.t.value i.n.value (access_size (plain_access i.name) * i.i.value)
 scalar_tokens (S17 i) = by_number (word_mnemonic i.name) i.t.value 13 (4 * i.i.value)
 scalar_tokens (S18 i) = word (codes "bkpt") ∷ constant i.i.value
 scalar_tokens (S19 i) = word (hint_mnemonic i.name) ∷ []

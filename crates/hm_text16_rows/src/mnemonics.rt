@@ -9,6 +9,7 @@ use hm_isa::{
     ByteName, HintName, JumpName, LogicName, MaskingName, PlainName, ShiftName, SumName, SwapName,
     WordName, ZeroName,
 };
+use hm_text_rows::access_mnemonic;
 use hm_tokens::condition_name;
 
 /// Of a row S1.
@@ -103,24 +104,14 @@ pub fn masking_mnemonic(name: MaskingName) -> &'static str
 pub fn plain_mnemonic(name: PlainName) -> &'static str
     ensures { result.now ≡ plain_mnemonic name }
 {
-    match name {
-        PlainName::Str => "str",
-        PlainName::Ldr => "ldr",
-        PlainName::Strb => "strb",
-        PlainName::Ldrb => "ldrb",
-        PlainName::Strh => "strh",
-        PlainName::Ldrh => "ldrh",
-    }
+    access_mnemonic(name.access())
 }
 
 /// Of a row S17.
 pub fn word_mnemonic(name: WordName) -> &'static str
     ensures { result.now ≡ word_mnemonic name }
 {
-    match name {
-        WordName::Str => "str",
-        WordName::Ldr => "ldr",
-    }
+    access_mnemonic(name.access())
 }
 
 /// Of a row S19.

@@ -2,7 +2,7 @@
 
 ghost use Rattle.std.specs.Prelude.{◌≡◌, ℕ, ◌≤◌, ◌<◌, ◌+◌, ◌*◌, ◌∷◌, [], codes, length};
 ghost use Rattle.hm_isa.specs.Code.{branch_halves, halfwords, scalar_halves};
-ghost use Rattle.hm_isa.specs.Letters.{plain_size};
+ghost use Rattle.hm_isa.specs.Letters.{access_size, plain_access};
 ghost use Rattle.hm_isa.specs.declared.Branch.TheVariants as branch;
 ghost use Rattle.hm_isa.specs.declared.Scalar.TheVariants as scalar;
 ghost use Rattle.hm_text16_rows.specs.Rows.{branch_tokens, list_tokens, load_start, row_tokens, scalar_tokens};
@@ -146,9 +146,9 @@ fn text_s15(i: &S15) -> InstrText
 
 /// The offset of a row S16 in bytes.
 fn plain_offset(i: &S16) -> u32
-    ensures { result ≡ plain_size i.now.name * i.now.i.value }
+    ensures { result ≡ access_size (plain_access i.now.name) * i.now.i.value }
 {
-    i.name.size() * i.i.get()
+    i.name.access().size() * i.i.get()
 }
 
 /// The text of a row S16: `str` to `ldrh rt,[rn,#i]`.

@@ -19,11 +19,12 @@ use Rattle.hm_isa.specs.declared.vectors.V13.{V13}
 use Rattle.hm_isa.specs.declared.vectors.V14.{V14}
 use Rattle.hm_isa.specs.declared.vectors.V16.{V16}
 use Rattle.hm_isa.specs.Code.{constant_shift_base, narrow_base, one_base, reverse_base}
+use Rattle.hm_isa.specs.Letters.{constant_shift_amount, constant_shift_size}
 use Rattle.hm_isa.specs.Rules.{has_size, is_shifted_by}
 use Rattle.hm_isa.specs.Standing.{◌↑◌}
 use Rattle.hm_tokens.specs.Tokens.{Tok}
 use Rattle.hm_textv_codes.specs.Codes.{bits_in, code_of, shift_field}
-use Rattle.hm_textv_rows.specs.Rows.{long_part, shift_in, size_in}
+use Rattle.hm_textv_rows.specs.Rows.{long_part}
 use Rattle.hm_textv_rows.specs.Mnemonics.{constant_shift_mnemonic, constant_shift_suffix, integer, long_move_mnemonic, long_shift_mnemonic, narrow_mnemonic}
 use Rattle.hm_textv_rows.specs.Mnemonics.{narrow_suffix, one_mnemonic, one_suffix, plain, reverse_mnemonic, signed}
 use Rattle.hm_text_rows.proofs.Words.{below_holds, below_is, is_mnemonic}
@@ -44,21 +45,21 @@ suffix_shift name u z hu hz e = suffix_by_sign u z hu hz
 less : (m n : ℕ) → ltb m n ≡ true → m < n
 less m n e = grind (arith, nat_tests)
 
-size_small : (x : ℕ) → x < 64 → size_in x < 3
-size_small x lt = less _ _ (below_holds (λ k. ltb (size_in k) 3) 64 x refl lt)
+size_small : (x : ℕ) → x < 64 → constant_shift_size x < 3
+size_small x lt = less _ _ (below_holds (λ k. ltb (constant_shift_size k) 3) 64 x refl lt)
 
-shift_small : (name : ConstantShiftName) (x : ℕ) → x < 64 → shift_in name x < 1000
-shift_small by_constant.Shr x lt = less _ _ (below_holds (λ k. ltb (shift_in by_constant.Shr k) 1000) 64 x refl lt)
-shift_small name x lt = less _ _ (below_holds (λ k. ltb (shift_in name k) 1000) 64 x refl lt)
+shift_small : (name : ConstantShiftName) (x : ℕ) → x < 64 → constant_shift_amount name x < 1000
+shift_small by_constant.Shr x lt = less _ _ (below_holds (λ k. ltb (constant_shift_amount by_constant.Shr k) 1000) 64 x refl lt)
+shift_small name x lt = less _ _ (below_holds (λ k. ltb (constant_shift_amount name k) 1000) 64 x refl lt)
 
 not_less : (x : ℕ) → nat_le 8 x ≡ true → ltb x 8 ≡ false
 not_less x e = grind (arith, nat_tests)
 
 -- the size and the shift tell the field
-is_field : (name : ConstantShiftName) (x : ℕ) → x < 64 → has_size x ≡ true → shift_field name (size_in x) (shift_in name x) ≡ x
+is_field : (name : ConstantShiftName) (x : ℕ) → x < 64 → has_size x ≡ true → shift_field name (constant_shift_size x) (constant_shift_amount name x) ≡ x
 is_field by_constant.Shr x lt e =
-    rw (not_less x e) at (below_is (λ k. cond (ltb k 8) k (shift_field by_constant.Shr (size_in k) (shift_in by_constant.Shr k))) (λ k. k) 64 x refl lt)
-is_field name x lt e = rw (not_less x e) at (below_is (λ k. cond (ltb k 8) k (shift_field name (size_in k) (shift_in name k))) (λ k. k) 64 x refl lt)
+    rw (not_less x e) at (below_is (λ k. cond (ltb k 8) k (shift_field by_constant.Shr (constant_shift_size k) (constant_shift_amount by_constant.Shr k))) (λ k. k) 64 x refl lt)
+is_field name x lt e = rw (not_less x e) at (below_is (λ k. cond (ltb k 8) k (shift_field name (constant_shift_size k) (constant_shift_amount name k))) (λ k. k) 64 x refl lt)
 
 asks_shift : (name : ConstantShiftName) (u z d m k x : ℕ) → shift_field name z k ≡ x
     → code_of (constant_shift_mnemonic name) (given false u z false d m k 0) ≡ Some (constant_shift_base name + u ↑ 28 + x ↑ 16 + d ↑ 13 + m ↑ 1)
@@ -73,9 +74,9 @@ row_v11 i =
     let lt = i.x.in_range in
     row_of (vector.V11 i) _ _
     (reads_two_constant _ _ _ _ _ _ _ _ _ _ _ _ (mnemonic_constant_shift i.name)
-    (suffix_shift i.name i.u.value (size_in x) i.u.in_range (size_small x lt) i.signs)
+    (suffix_shift i.name i.u.value (constant_shift_size x) i.u.in_range (size_small x lt) i.signs)
     (a_vector i.d.value i.d.in_range) (a_vector i.m.value i.m.in_range) (shift_small i.name x lt))
-    (asks_shift i.name i.u.value (size_in x) _ _ _ x (is_field i.name x lt i.size))
+    (asks_shift i.name i.u.value (constant_shift_size x) _ _ _ x (is_field i.name x lt i.size))
 
 -- V12
 mnemonic_long : (t : ℕ) → t < 2 → is_mnemonic (long_shift_mnemonic t) ≡ true

@@ -20,8 +20,7 @@ use Rattle.hm_isa.specs.declared.vectors.V22.{V22 as SumRow}
 use Rattle.hm_isa.specs.declared.vectors.V22.TheVariants as v22
 use Rattle.hm_isa.specs.declared.vectors.BitwiseName.{BitwiseName}
 use Rattle.hm_isa.specs.declared.vectors.BitwiseName.TheVariants as bitwise
-use Rattle.hm_isa.specs.declared.vectors.ConstantShiftName.{ConstantShiftName}
-use Rattle.hm_isa.specs.declared.vectors.ConstantShiftName.TheVariants as by_constant
+use Rattle.hm_isa.specs.Letters.{at_least_1, constant_shift_amount, constant_shift_size}
 use Rattle.hm_tokens.specs.Lines.{IsLineOf}
 use Rattle.hm_tokens.specs.Tokens.{Tok, word, close_brace, close_bracket, comma, open_brace, open_bracket}
 use Rattle.hm_text_rows.specs.Shapes.{and_constant, back, constant, either, four, indexed, inside, or_zero, q, r, three, two}
@@ -35,23 +34,12 @@ use Rattle.hm_textv_rows.specs.Mnemonics.{signed, signed_mnemonic, size_number, 
 use Rattle.hm_textv_rows.specs.Mnemonics.{constant_merge_mnemonic, constant_move_mnemonic}
 
 -- ROWS
--- V11: the size of elements that the highest bit of the field x tells (DDI0553, "VSHR", "VRSHR", "VQSHL, VQSHLU", "VSHL", "VSRI" and "VSLI")
-abbrev pub size_in : ℕ → ℕ
-size_in x = cond (nat_lt x 16) 0 (cond (nat_lt x 32) 1 2)
-
--- V11: how far elements are shifted, which the field x holds together with their size, one way for each direction
--- (DDI0553, "VSHR", "VRSHR", "VQSHL, VQSHLU", "VSHL", "VSRI" and "VSLI")
-abbrev pub shift_in : ConstantShiftName → ℕ → ℕ
-shift_in by_constant.Shr x = 2 * 2 ^ (3 + size_in x) - x
-shift_in by_constant.Rshr x = 2 * 2 ^ (3 + size_in x) - x
-shift_in by_constant.Sri x = 2 * 2 ^ (3 + size_in x) - x
-shift_in name x = x - 2 ^ (3 + size_in x)
-
 -- V11: the tokens of a shift by a constant, VSHR, VRSHR, VQSHL, VQSHLU, VSHL, VSRI and VSLI
 -- (DDI0553, "VSHR", "VRSHR", "VQSHL, VQSHLU", "VSHL", "VSRI" and "VSLI")
 abbrev pub shift_tokens : ShiftRow → List Tok
-shift_tokens i = and_constant (two (constant_shift_mnemonic i.name ++ constant_shift_suffix i.name i.u.value (size_in i.x.value)) (q i.d.value) (q i.m.value))
-    (shift_in i.name i.x.value)
+shift_tokens i =
+    let name = constant_shift_mnemonic i.name ++ constant_shift_suffix i.name i.u.value (constant_shift_size i.x.value) in
+    and_constant (two name (q i.d.value) (q i.m.value)) (constant_shift_amount i.name i.x.value)
 
 -- V12: the tokens of VSHLLB or VSHLLT by k; a shift by 0 is written as a move, VMOVLB or VMOVLT (DDI0553, "VSHLL" and "VMOVL")
 abbrev pub long_part : ℕ → List ℕ → ℕ → ℕ → ℕ → List Tok
@@ -185,7 +173,7 @@ tokens_of (V13 i) = one_tokens i
 tokens_of (V14 i) = two (reverse_mnemonic i.name ++ plain i.z.value) (q i.d.value) (q i.m.value)
 tokens_of (V15 i) = constant_tokens i
 tokens_of (V16 i) = two (narrow_mnemonic i.name i.t.value ++ narrow_suffix i.name i.z.value) (q i.d.value) (q i.m.value)
-tokens_of (V17 i) = and_constant (two (codes "vshlc") (q i.d.value) (r i.m.value)) (cond (nat_eq i.k.value 0) 32 i.k.value)
+tokens_of (V17 i) = and_constant (two (codes "vshlc") (q i.d.value) (r i.m.value)) (at_least_1 i.k.value)
 tokens_of (V18 i) = two (codes "vdup" ++ plain (size_number i.size)) (q i.d.value) (r i.t.value)
 tokens_of (V19 i) = offsets_tokens i
 tokens_of (V20 i) = compare_tokens i

@@ -2,7 +2,7 @@
 
 ghost use Rattle.std.specs.Prelude.{◌≡◌, ◌≤◌, ◌<◌, ◌+◌, ◌*◌, ◌^◌, ◌++◌};
 ghost use Rattle.hm_isa.specs.declared.Vector.TheVariants as vector;
-ghost use Rattle.hm_textv_rows.specs.Rows.{compare_first_word, long_part, shift_in, shifted, size_in, tokens_of};
+ghost use Rattle.hm_textv_rows.specs.Rows.{compare_first_word, long_part, shifted, tokens_of};
 ghost use Rattle.hm_text_rows.specs.Shapes.{either, q, three};
 ghost use Rattle.hm_textv_rows.specs.Mnemonics.{compare_condition, constant_merge_mnemonic, constant_move_mnemonic, long_move_mnemonic, long_shift_mnemonic};
 ghost use Rattle.hm_tokens.specs.Texts.{part_token, text_tokens};
@@ -20,8 +20,8 @@ use crate::suffixes::{
     one_suffix, plain, scalar_suffix, signed, size_number, unsigned,
 };
 use hm_isa::{
-    Below, Bit, ConstantShiftName, ElementSize, QRegister, V1, V2, V3, V4, V5, V6, V7, V8, V9, V10,
-    V11, V12, V13, V14, V15, V16, V17, V18, V19, V20, V21, V22, V23, Vector,
+    Below, Bit, ElementSize, QRegister, V1, V2, V3, V4, V5, V6, V7, V8, V9, V10, V11, V12, V13,
+    V14, V15, V16, V17, V18, V19, V20, V21, V22, V23, Vector,
 };
 use hm_text_rows::{alone, and, and_constant, first, one, or_zero, q, r, three, two};
 use hm_tokens::{InstrText, Mark, Part};
@@ -166,8 +166,7 @@ fn text_v16(i: &V16) -> InstrText
 fn text_v17(i: &V17) -> InstrText
     ensures { text_tokens result ≡ tokens_of (vector.V17 i.now) }
 {
-    let shift = if i.k.get() == 0 { 32 } else { i.k.get() };
-    and_constant(two("vshlc", "", q(i.d), r(i.m.get())), shift)
+    and_constant(two("vshlc", "", q(i.d), r(i.m.get())), i.amount())
 }
 
 /// The text of a row V18.
@@ -189,54 +188,14 @@ fn text_v23(i: &V23) -> InstrText
     )
 }
 
-/// The size of the elements of a row V11, which the highest bit of its field tells.
-fn shift_size(i: &V11) -> u32
-    ensures value { result ≡ size_in i.now.x.value }
-    ensures below { result < 3 }
-{
-    match i.x.get() {
-        0..=15 => 0,
-        16..=31 => 1,
-        _ => 2,
-    }
-}
-
-/// How many bits the elements of a row V11 have.
-fn shift_bits(i: &V11) -> u32
-    ensures value { result ≡ 2 ^ (3 + size_in i.now.x.value) }
-    ensures least { result ≤ i.now.x.value }
-    ensures most { i.now.x.value < 2 * result }
-{
-    match i.x.get() {
-        0..=15 => 8,
-        16..=31 => 16,
-        _ => 32,
-    }
-}
-
-/// The shift of a row V11.
-fn shift_count(i: &V11) -> u32
-    ensures { result ≡ shift_in i.now.name i.now.x.value }
-{
-    let x = i.x.get();
-    let bits = shift_bits(i);
-    match i.name {
-        ConstantShiftName::Shr | ConstantShiftName::Rshr | ConstantShiftName::Sri => 2 * bits - x,
-        ConstantShiftName::Qshl
-        | ConstantShiftName::Qshlu
-        | ConstantShiftName::Shl
-        | ConstantShiftName::Sli => x - bits,
-    }
-}
-
 /// The text of a row V11.
 fn text_v11(i: &V11) -> InstrText
     ensures { text_tokens result ≡ tokens_of (vector.V11 i.now) }
 {
-    let suffix = constant_shift_suffix(i.name, i.u, shift_size(i));
+    let suffix = constant_shift_suffix(i.name, i.u, i.size());
     and_constant(
         two(constant_shift_mnemonic(i.name), suffix, q(i.d), q(i.m)),
-        shift_count(i),
+        i.amount(),
     )
 }
 
