@@ -98,6 +98,7 @@ fn obey<H: Host>(alloc: Global, command: &Command<'_>, host: &mut H) -> Status
     }
 }
 
+/// The line that the program prints where its words are others.
 fn make_usage_line(alloc: Global) -> Result<Vec<u8>, OutOfMemory>
     ensures line { IfOk result (λ line. line.items ≡ usage_line) }
 {

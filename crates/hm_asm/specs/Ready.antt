@@ -10,7 +10,7 @@ use Rattle.hm_source.specs.Places.{HasPlace}
 use Rattle.hm_source.specs.Shown.{ShowsSaid, ShowsDirected, ShowsValues}
 use Rattle.hm_source.specs.Statements.{Said, directive, Says}
 
--- it has its place at a
+-- the program's list stands for what is asked in a text, and that has its place at a
 abbrev pub IsReadyList : List ℕ → Values → ℕ → Type 0
 IsReadyList text v a = (asked : Directed) × ShowsValues text v asked × HasPlace (directive asked) a
 

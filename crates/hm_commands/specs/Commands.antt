@@ -58,7 +58,7 @@ run_outcome listings (Err e) schedule memory = refuses (Image e)
 run_outcome listings (Ok image) (Err e) memory = refuses (Schedule e)
 run_outcome listings (Ok image) (Ok s) memory = unless_refused (reset_refusal image) (reported (shown_out (listings image) image s) memory)
 
--- a plain run of n ticks, whose report is printed, of a fault the first line alone
+-- what is left to do where a run came to the value x: to print its report, of a fault the first line alone
 abbrev pub told : Timed → Outcome
 told x = finishes (is_halted x.outcome) None (Some (short_report x))
 

@@ -21,7 +21,7 @@ command_text Show = codes "show"
 command_text (Memory addr len) = codes "mem " ++ range_text addr len
 command_text (Listing addr count) = codes "dis " ++ range_text addr count
 
--- the most bytes of memory, and the most lines of the listing, that one command shows
+-- the most bytes of memory that one command shows
 abbrev pub most_bytes : ℕ
 most_bytes = 4096
 

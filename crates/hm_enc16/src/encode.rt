@@ -24,6 +24,7 @@ pub fn base_of_shift(name: ShiftName) -> u32
     }
 }
 
+/// The code of `lsls`, `lsrs`, `asrs rd,rm,#i`.
 fn encode_s1(r: &S1) -> u16
     ensures { result ≡ code_s1 r.now }
 {
@@ -40,12 +41,14 @@ pub fn base_of_sum(name: SumName) -> u32
     }
 }
 
+/// The code of `adds`, `subs rd,rn,rm`.
 fn encode_s2(r: &S2) -> u16
     ensures { result ≡ code_s2 r.now }
 {
     (base_of_sum(r.name) + (r.m.get() << 6) + (r.n.get() << 3) + r.d.get()) as u16
 }
 
+/// The code of `adds`, `subs rd,rn,#i`.
 fn encode_s3(r: &S3) -> u16
     ensures { result ≡ code_s3 r.now }
 {
@@ -64,6 +67,7 @@ pub fn base_of_byte(name: ByteName) -> u32
     }
 }
 
+/// The code of `movs`, `cmp`, `adds`, `subs rd,#i`.
 fn encode_s4(r: &S4) -> u16
     ensures { result ≡ code_s4 r.now }
 {
@@ -77,12 +81,14 @@ pub fn base_of_logic(name: LogicName) -> u32
     0x4000 + ((name as u32) << 6)
 }
 
+/// The code of `ands` to `mvns rd,rm`.
 fn encode_s5(r: &S5) -> u16
     ensures { result ≡ code_s5 r.now }
 {
     (base_of_logic(r.name) + (r.m.get() << 3) + r.d.get()) as u16
 }
 
+/// The code of `add rd,rm` of any registers.
 fn encode_s6(r: &S6) -> u16
     ensures { result ≡ code_s6 r.now }
 {
@@ -90,6 +96,7 @@ fn encode_s6(r: &S6) -> u16
     (0x4400 + ((d / 8) << 7) + (r.m.get() << 3) + d % 8) as u16
 }
 
+/// The code of `cmp rd,rm` of higher registers.
 fn encode_s7(r: &S7) -> u16
     ensures { result ≡ code_s7 r.now }
 {
@@ -97,6 +104,7 @@ fn encode_s7(r: &S7) -> u16
     (0x4500 + ((d / 8) << 7) + (r.m.get() << 3) + d % 8) as u16
 }
 
+/// The code of `mov rd,rm` of any registers.
 fn encode_s8(r: &S8) -> u16
     ensures { result ≡ code_s8 r.now }
 {
@@ -114,6 +122,7 @@ pub fn base_of_address(name: BaseName) -> u32
     }
 }
 
+/// The code of `add rd,pc,#4i`, `add rd,sp,#4i`.
 fn encode_s9(r: &S9) -> u16
     ensures { result ≡ code_s9 r.now }
 {
@@ -130,6 +139,7 @@ pub fn base_of_stack_sum(name: SumName) -> u32
     }
 }
 
+/// The code of `add sp,#4i`, `sub sp,#4i`.
 fn encode_s10(r: &S10) -> u16
     ensures { result ≡ code_s10 r.now }
 {
@@ -143,6 +153,7 @@ pub fn base_of_extend(name: ExtendName) -> u32
     0xb200 + ((name as u32) << 6)
 }
 
+/// The code of `sxth`, `sxtb`, `uxth`, `uxtb`.
 fn encode_s11(r: &S11) -> u16
     ensures { result ≡ code_s11 r.now }
 {
@@ -160,6 +171,7 @@ pub fn base_of_swap(name: SwapName) -> u32
     }
 }
 
+/// The code of `rev`, `rev16`, `revsh`.
 fn encode_s12(r: &S12) -> u16
     ensures { result ≡ code_s12 r.now }
 {
@@ -176,12 +188,14 @@ pub fn base_of_masking(name: MaskingName) -> u32
     }
 }
 
+/// The code of `cpsie i`, `cpsid i`.
 fn encode_s13(r: &S13) -> u16
     ensures { result ≡ code_s13 r.now }
 {
     base_of_masking(r.name) as u16
 }
 
+/// The code of `ldr rt,label`.
 fn encode_s14(r: &S14) -> u16
     ensures { result ≡ code_s14 r.now }
 {
@@ -195,6 +209,7 @@ pub fn base_of_access(name: AccessName) -> u32
     0x5000 + ((name as u32) << 9)
 }
 
+/// The code of `str` to `ldrsh rt,[rn,rm]`.
 fn encode_s15(r: &S15) -> u16
     ensures { result ≡ code_s15 r.now }
 {
@@ -208,6 +223,7 @@ pub fn base_of_plain(name: PlainName) -> u32
     0x6000 + ((name as u32) << 11)
 }
 
+/// The code of `str` to `ldrh rt,[rn,#i]`.
 fn encode_s16(r: &S16) -> u16
     ensures { result ≡ code_s16 r.now }
 {
@@ -224,12 +240,14 @@ pub fn base_of_word(name: WordName) -> u32
     }
 }
 
+/// The code of `str`, `ldr rt,[sp,#4i]`.
 fn encode_s17(r: &S17) -> u16
     ensures { result ≡ code_s17 r.now }
 {
     (base_of_word(r.name) + (r.t.get() << 8) + r.i.get()) as u16
 }
 
+/// The code of `bkpt #i`.
 fn encode_s18(r: &S18) -> u16
     ensures { result ≡ code_s18 r.now }
 {
@@ -243,6 +261,7 @@ pub fn base_of_hint(name: HintName) -> u32
     0xbf00 + ((name as u32) << 4)
 }
 
+/// The code of `nop`, `yield`, `wfe`, `wfi`, `sev`.
 fn encode_s19(r: &S19) -> u16
     ensures { result ≡ code_s19 r.now }
 {
@@ -261,12 +280,14 @@ pub fn base_of_list(name: ListName) -> u32
     }
 }
 
+/// The code of `push`, `pop`, `stm`, `ldm`.
 fn encode_s20(r: &S20) -> u16
     ensures { result ≡ code_s20 r.now }
 {
     (base_of_list(r.name) + (r.x.get() << 8) + (r.n.get() << 8) + r.list.get()) as u16
 }
 
+/// The code of `it`.
 fn encode_s21(r: &S21) -> u16
     ensures { result ≡ code_s21 r.now }
 {
@@ -283,6 +304,7 @@ pub fn base_of_jump(name: JumpName) -> u32
     }
 }
 
+/// The code of `bx`, `blx rm`.
 fn encode_s23(r: &S23) -> u16
     ensures { result ≡ code_s23 r.now }
 {
@@ -299,6 +321,7 @@ pub fn base_of_zero(name: ZeroName) -> u32
     }
 }
 
+/// The code of `cbz`, `cbnz rn,label`.
 fn encode_s24(r: &S24) -> u16
     ensures { result ≡ code_s24 r.now }
 {
@@ -306,6 +329,7 @@ fn encode_s24(r: &S24) -> u16
     (base_of_zero(r.name) + ((i / 32) << 9) + ((i % 32) << 3) + r.n.get()) as u16
 }
 
+/// The code of `beq label` and so on, `b label`.
 fn encode_s25(r: &S25) -> u16
     ensures { result ≡ code_s25 r.now }
 {

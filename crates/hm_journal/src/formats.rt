@@ -8,7 +8,7 @@ use hm_base::OutOfMemory;
 use hm_text_base::span;
 use std::alloc::Global;
 
-// Where the first line begins that is the system's.
+/// Where the first line begins that is the system's.
 fn system_at(report: &[u8]) -> Option<usize>
     ensures none { IfNone result (without_system report.now ≡ report.now) }
     ensures within { IfSome result (λ at. at ≤ length report.now) }
@@ -24,7 +24,7 @@ fn system_at(report: &[u8]) -> Option<usize>
     None
 }
 
-// What stands behind the first end of a line.
+/// What stands behind the first end of a line.
 fn behind_line(text: &[u8]) -> &[u8]
     ensures value { result.now ≡ behind_line text.now }
 {
@@ -35,7 +35,7 @@ fn behind_line(text: &[u8]) -> &[u8]
     &rest[1..]
 }
 
-// A report without the system's line.
+/// A report without the system's line.
 fn without_system(alloc: Global, report: Vec<u8>) -> Result<Vec<u8>, OutOfMemory>
     ensures text { IfOk result (λ text. text.items ≡ without_system report.items) }
 {

@@ -23,7 +23,7 @@ pub struct Draft {
     pub checkpoints: Vec<Checkpoint>,
 }
 
-// The number under a key, where it fits.
+/// The number under a key, where it fits.
 fn number_at(value: &Value, key: &str) -> Option<u32>
     ensures { (n : ℕ) → n < 2 ^ 32 → number_at key.now (view value.now) ≡ Some n → result ≡ Some n }
 {
@@ -31,7 +31,7 @@ fn number_at(value: &Value, key: &str) -> Option<u32>
     u32::try_from(n).ok()
 }
 
-// A tick and its report, where the value is theirs.
+/// A tick and its report, where the value is theirs.
 fn checkpoint_in(alloc: Global, value: &Value) -> Result<Option<Checkpoint>, AllocError>
     ensures { IfOk result (λ o. (x : ReportAt) → x.tick < 2 ^ 32 → view value.now ≡ checkpoint_data x → option_map checkpoint_of o ≡ Some x) }
 {
@@ -45,7 +45,7 @@ fn checkpoint_in(alloc: Global, value: &Value) -> Result<Option<Checkpoint>, All
     Ok(Some(Checkpoint { tick, report }))
 }
 
-// Ticks and their reports, where the values are theirs.
+/// Ticks and their reports, where the values are theirs.
 fn checkpoints_in(alloc: Global, values: &[Value]) -> Result<Option<Vec<Checkpoint>>, AllocError>
     ensures { IfOk result (λ o. (xs : List ReportAt) → AreSmall xs → map view values.now ≡ map checkpoint_data xs
         → option_map (λ v. map checkpoint_of v.items) o ≡ Some xs) }
@@ -60,14 +60,14 @@ fn checkpoints_in(alloc: Global, values: &[Value]) -> Result<Option<Vec<Checkpoi
     Ok(Some(checkpoints))
 }
 
-// The values of the array under a key.
+/// The values of the array under a key.
 fn values_at<'v>(value: &'v Value, key: &str) -> Option<&'v Vec<Value>>
     ensures { option_map (λ v. items_view v.now.items) result ≡ option_and_then as_array (get key.now (view value.now)) }
 {
     value.get(key).and_then(Value::as_array)
 }
 
-// A journal of a format, where the value is its.
+/// A journal of a format, where the value is its.
 fn draft_in(alloc: Global, value: &Value, format: u32) -> Result<Option<Draft>, AllocError>
     ensures draft { IfOk result (λ o. (j : Journaled) → IsJournal j → j.format ≡ format → view value.now ≡ journal_data j → option_map drafted o ≡ Some j) }
     ensures format { IfOk result (λ o. IfSome o (λ d. d.format ≡ format)) }
@@ -88,7 +88,7 @@ fn draft_in(alloc: Global, value: &Value, format: u32) -> Result<Option<Draft>, 
     }
 }
 
-// Whether the checkpoints lie at the ticks 0, `every`, twice that and so on.
+/// Whether the checkpoints lie at the ticks 0, `every`, twice that and so on.
 fn has_ticks(d: &Draft) -> bool
     requires { length d.now.checkpoints.items ≤ 64 }
     ensures { IsTrue result ↔ AreTicks (drafted d.now) }
@@ -103,7 +103,7 @@ fn has_ticks(d: &Draft) -> bool
     true
 }
 
-// Whether there is such a journal, of a format that there is.
+/// Whether there is such a journal, of a format that there is.
 fn is_journal(d: &Draft) -> bool
     requires { IsFormat d.now.format }
     ensures { IsTrue result ↔ IsJournal (drafted d.now) }
@@ -115,7 +115,7 @@ fn is_journal(d: &Draft) -> bool
         && has_ticks(d)
 }
 
-// The format that the value says it has, where there is such a format.
+/// The format that the value says it has, where there is such a format.
 fn format_in(value: &Value) -> Option<u32>
     ensures some { IfSome result (λ n. HasFormat (view value.now) n) }
     ensures none { IfNone result ((n : ℕ) → ¬ (HasFormat (view value.now) n)) }
@@ -159,7 +159,7 @@ pub fn read_journal(alloc: Global, bytes: &[u8]) -> Result<Journal, JournalErr>
     })
 }
 
-// What an error of the reader is here.
+/// What an error of the reader is here.
 fn refusal(e: &Error) -> JournalErr
     ensures memory { IsMemory e.now → result ≡ JournalErr.OutOfMemory }
     ensures json { ¬ (IsMemory e.now) → result ≡ JournalErr.Json }

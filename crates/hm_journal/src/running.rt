@@ -15,7 +15,7 @@ use crate::writing::journal_text;
 use hm_machine::Tape;
 use std::alloc::Global;
 
-// The report at a tick that the run begins.
+/// The report at a tick that the run begins.
 fn report_at(alloc: Global, tape: &mut Tape, tick: u32) -> Result<String, JournalErr>
     requires { tick ≤ tape.old.last }
     ensures stays { tape.new ≡ tape.old }
@@ -33,7 +33,7 @@ fn report_at(alloc: Global, tape: &mut Tape, tick: u32) -> Result<String, Journa
     }
 }
 
-// The checkpoints of the run.
+/// The checkpoints of the run.
 fn checkpoints(alloc: Global, tape: &mut Tape, every: u32) -> Result<Vec<Checkpoint>, JournalErr>
     requires { 1 ≤ every }
     ensures stays { tape.new ≡ tape.old }
@@ -75,7 +75,7 @@ pub fn write_journal(alloc: Global, tape: &mut Tape, every: u32) -> Result<Vec<u
     Ok(text.into_bytes())
 }
 
-// Whether a checkpoint of a journal of a format is the run's.
+/// Whether a checkpoint of a journal of a format is the run's.
 fn is_of_run(
     alloc: Global,
     format: u32,
@@ -95,7 +95,7 @@ fn is_of_run(
     Ok(text.as_slice() == x.report.as_bytes())
 }
 
-// Whether checkpoints of a journal of a format are the run's.
+/// Whether checkpoints of a journal of a format are the run's.
 fn compare_all(
     alloc: Global,
     format: u32,

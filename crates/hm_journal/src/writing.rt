@@ -11,14 +11,14 @@ use crate::journal::Checkpoint;
 use serde_json::{Value, json};
 use std::alloc::{AllocError, Global};
 
-// A tick and its report as JSON.
+/// A tick and its report as JSON.
 fn checkpoint_value(alloc: Global, x: &Checkpoint) -> Result<Value, AllocError>
     ensures { IfOk result (λ v. view v ≡ checkpoint_data (checkpoint_of x.now)) }
 {
     json!(in alloc; {"report": x.report.as_str(), "tick": x.tick})
 }
 
-// Ticks and their reports as JSON.
+/// Ticks and their reports as JSON.
 fn checkpoint_values(alloc: Global, checkpoints: &[Checkpoint]) -> Result<Vec<Value>, AllocError>
     ensures { IfOk result (λ vs. map view vs.items ≡ map checkpoint_data (map checkpoint_of checkpoints.now)) }
 {
@@ -29,7 +29,7 @@ fn checkpoint_values(alloc: Global, checkpoints: &[Checkpoint]) -> Result<Vec<Va
     Ok(values)
 }
 
-// A journal of such values as JSON.
+/// A journal of such values as JSON.
 fn whole_value(
     alloc: Global,
     format: u32,
@@ -42,7 +42,7 @@ fn whole_value(
     json!(in alloc; {"checkpoints": Value::Array(list), "every": every, "format": format})
 }
 
-// A journal as JSON.
+/// A journal as JSON.
 fn journal_value(
     alloc: Global,
     format: u32,

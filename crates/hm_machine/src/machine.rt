@@ -66,7 +66,7 @@ impl Model for Machine {
     ghost invariant = { IsMachine };
 }
 
-// A run of no ticks is over at once.
+/// A run of no ticks is over at once.
 fn first_outcome(schedule: &Schedule) -> Option<Outcome>
     ensures none { 0 < length (ticks_of schedule.now.lines) → result ≡ None }
     ensures out { length (ticks_of schedule.now.lines) ≡ 0 → result ≡ Some Outcome.OutOfTicks }
@@ -149,7 +149,7 @@ impl Machine {
         Ok(machine)
     }
 
-    // A machine under a schedule without ticks, which is over at once, goes on: its ticks are given one by one.
+    /// A machine under a schedule without ticks, which is over at once, goes on: its ticks are given one by one.
     fn reopen(&mut self)
         requires { (image : List Segment) × Shows image (bare []) 0 self.old }
         ensures value { self.new ≡ record self.old { outcome = None; left = [] } }
@@ -234,7 +234,7 @@ impl Machine {
         self.cpu.mem.tainted(addr)
     }
 
-    // Does one tick of a run that goes on.
+    /// Does one tick of a run that goes on.
     #[inline(always)]
     fn advance(&mut self)
         requires running { self.old.outcome ≡ None }
@@ -358,6 +358,7 @@ impl Machine {
         }
     }
 
+    /// Whether the run goes on.
     fn is_running(&self) -> bool
         ensures { IsTrue result ↔ (self.now.outcome ≡ None) }
     {
@@ -516,7 +517,7 @@ impl Machine {
         self.cpu.acts.as_slice()
     }
 
-    // How many exceptions are active.
+    /// How many exceptions are active.
     fn depth(&self) -> usize
         ensures value { result ≡ length (timed_of self.now).acts }
     {

@@ -9,7 +9,7 @@ use hm_base::{OutOfMemory, SRAM_SIZE, SRAM_START};
 use hm_mem::Mem;
 use std::alloc::Global;
 
-// A byte of SRAM.
+/// A byte of SRAM.
 fn sram_byte(mem: &Mem, k: u32) -> u8
     requires { k < sram_size }
     ensures { result ≡ byte_at (memory_of mem.now) (sram_start + k) }
@@ -17,7 +17,7 @@ fn sram_byte(mem: &Mem, k: u32) -> u8
     mem.byte(SRAM_START + k).unwrap_or(0)
 }
 
-// The first bytes of SRAM, added to a text.
+/// The first bytes of SRAM, added to a text.
 fn bytes_onto(out: &mut Vec<u8>, mem: &Mem, count: u32) -> Result<(), OutOfMemory>
     requires { count ≤ sram_size }
     ensures { IfOk result (λ _. out.new.items ≡ out.old.items ++ listed count (λ k. byte_at (memory_of mem.now) (sram_start + k))) }
@@ -28,7 +28,7 @@ fn bytes_onto(out: &mut Vec<u8>, mem: &Mem, count: u32) -> Result<(), OutOfMemor
     Ok(())
 }
 
-// The taint of SRAM, added to a text.
+/// The taint of SRAM, added to a text.
 fn taint_onto(out: &mut Vec<u8>, mem: &Mem) -> Result<(), OutOfMemory>
     ensures { IfOk result (λ _. out.new.items ≡ out.old.items ++ listed 0x8000 (byte_of_bits (λ j. tainted_at (memory_of mem.now) (sram_start + j)))) }
 {

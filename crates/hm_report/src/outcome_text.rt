@@ -57,6 +57,7 @@ pub fn reason_text(alloc: Global, out: &mut Vec<u8>, reason: Reason) -> Result<(
     }
 }
 
+/// Adds the program counter and the address of a fault.
 fn address_text(out: &mut Vec<u8>, pc: u32, addr: u32) -> Result<(), OutOfMemory>
     ensures { IfOk result (λ _. out.new.items ≡ address_text pc addr out.old.items) }
 {
@@ -66,6 +67,7 @@ fn address_text(out: &mut Vec<u8>, pc: u32, addr: u32) -> Result<(), OutOfMemory
     hex8(out, addr)
 }
 
+/// Adds the name of core register n: 13 is sp, 14 is lr.
 fn register_text(alloc: Global, out: &mut Vec<u8>, n: u8) -> Result<(), OutOfMemory>
     ensures { IfOk result (λ _. out.new.items ≡ register_text n out.old.items) }
 {
@@ -79,7 +81,7 @@ fn register_text(alloc: Global, out: &mut Vec<u8>, n: u8) -> Result<(), OutOfMem
     decimal(alloc, out, n as u64)
 }
 
-// Word k of all vector registers, as a word of one of them.
+/// Word k of all vector registers, as a word of one of them.
 fn word_text(alloc: Global, out: &mut Vec<u8>, k: u8) -> Result<(), OutOfMemory>
     ensures { IfOk result (λ _. out.new.items ≡ word_text k out.old.items) }
 {
@@ -89,6 +91,7 @@ fn word_text(alloc: Global, out: &mut Vec<u8>, k: u8) -> Result<(), OutOfMemory>
     decimal(alloc, out, (k % 4) as u64)
 }
 
+/// Adds the name of the part of P0 that beat b reads.
 fn slice_text(alloc: Global, out: &mut Vec<u8>, b: u8) -> Result<(), OutOfMemory>
     ensures { IfOk result (λ _. out.new.items ≡ place_text (Place.P0 b) out.old.items) }
 {
@@ -96,6 +99,7 @@ fn slice_text(alloc: Global, out: &mut Vec<u8>, b: u8) -> Result<(), OutOfMemory
     decimal(alloc, out, b as u64)
 }
 
+/// Adds the name of a place: a core register, a word of a vector register, or a part of VPR or FPSCR.
 fn place_text(alloc: Global, out: &mut Vec<u8>, place: Place) -> Result<(), OutOfMemory>
     ensures { IfOk result (λ _. out.new.items ≡ place_text place out.old.items) }
 {
@@ -123,6 +127,7 @@ pub fn slot_text(alloc: Global, out: &mut Vec<u8>, slot: Slot) -> Result<(), Out
     }
 }
 
+/// Adds that a tick ended with so many beats done of the older instruction, and of the younger.
 fn ending_text(alloc: Global, out: &mut Vec<u8>, a: u8, b: u8) -> Result<(), OutOfMemory>
     ensures { IfOk result (λ _. out.new.items ≡ rule_text (Rule.Ending a b) out.old.items) }
 {
@@ -132,7 +137,7 @@ fn ending_text(alloc: Global, out: &mut Vec<u8>, a: u8, b: u8) -> Result<(), Out
     decimal(alloc, out, b as u64)
 }
 
-// A word and an address.
+/// A word and an address.
 fn at_text(out: &mut Vec<u8>, name: &[u8], addr: u32) -> Result<(), OutOfMemory>
     ensures { IfOk result (λ _. out.new.items ≡ out.old.items ++ name.now ++ hex8 addr) }
 {
@@ -140,6 +145,7 @@ fn at_text(out: &mut Vec<u8>, name: &[u8], addr: u32) -> Result<(), OutOfMemory>
     hex8(out, addr)
 }
 
+/// Adds the register at which two steps meet.
 fn meeting_text(alloc: Global, out: &mut Vec<u8>, place: Place) -> Result<(), OutOfMemory>
     ensures { IfOk result (λ _. out.new.items ≡ rule_text (Rule.Register place) out.old.items) }
 {
@@ -147,6 +153,7 @@ fn meeting_text(alloc: Global, out: &mut Vec<u8>, place: Place) -> Result<(), Ou
     place_text(alloc, out, place)
 }
 
+/// Adds which rule of an overlap was broken.
 fn rule_text(alloc: Global, out: &mut Vec<u8>, rule: Rule) -> Result<(), OutOfMemory>
     ensures { IfOk result (λ _. out.new.items ≡ rule_text rule out.old.items) }
 {
@@ -160,6 +167,7 @@ fn rule_text(alloc: Global, out: &mut Vec<u8>, rule: Rule) -> Result<(), OutOfMe
     }
 }
 
+/// Adds what a handler changed, with its value at the entry and now.
 fn differing_text(
     alloc: Global,
     out: &mut Vec<u8>,
@@ -177,6 +185,7 @@ fn differing_text(
     hex8(out, now)
 }
 
+/// Adds how a return was broken.
 fn broken_text(alloc: Global, out: &mut Vec<u8>, broken: Broken) -> Result<(), OutOfMemory>
     ensures { IfOk result (λ _. out.new.items ≡ broken_text broken out.old.items) }
 {
@@ -187,6 +196,7 @@ fn broken_text(alloc: Global, out: &mut Vec<u8>, broken: Broken) -> Result<(), O
     }
 }
 
+/// Adds what a handler did that it may not do.
 fn offence_text(alloc: Global, out: &mut Vec<u8>, what: Offence) -> Result<(), OutOfMemory>
     ensures { IfOk result (λ _. out.new.items ≡ offence_text what out.old.items) }
 {
@@ -197,6 +207,7 @@ fn offence_text(alloc: Global, out: &mut Vec<u8>, what: Offence) -> Result<(), O
     }
 }
 
+/// Adds why the program halted, and after how many instructions.
 fn halted_text(alloc: Global, out: &mut Vec<u8>, reason: Reason, n: u64) -> Result<(), OutOfMemory>
     ensures { IfOk result (λ _. out.new.items ≡ ended_text (Outcome.Halted reason n) out.old.items) }
 {
@@ -206,6 +217,7 @@ fn halted_text(alloc: Global, out: &mut Vec<u8>, reason: Reason, n: u64) -> Resu
     decimal(alloc, out, n)
 }
 
+/// Adds whose fault it was, its kind, where, and after how many instructions.
 fn fault_text(
     alloc: Global,
     out: &mut Vec<u8>,
@@ -225,6 +237,7 @@ fn fault_text(
     decimal(alloc, out, n)
 }
 
+/// Adds the tick and the step at which a rule was broken, and the rule.
 fn broken_rule_text(
     alloc: Global,
     out: &mut Vec<u8>,
@@ -242,6 +255,7 @@ fn broken_rule_text(
     rule_text(alloc, out, rule)
 }
 
+/// Adds the tick at which a handler did what it may not do, and what.
 fn handler_text(
     alloc: Global,
     out: &mut Vec<u8>,
@@ -256,6 +270,7 @@ fn handler_text(
     offence_text(alloc, out, what)
 }
 
+/// Adds the tick of a read of a tainted byte, and where.
 fn tainted_text(
     alloc: Global,
     out: &mut Vec<u8>,
@@ -271,6 +286,7 @@ fn tainted_text(
     Ok(())
 }
 
+/// Adds the tick of an entry whose frame had no room, and the stack pointer before it.
 fn stack_text(alloc: Global, out: &mut Vec<u8>, tick: u32, sp: u32) -> Result<(), OutOfMemory>
     ensures { IfOk result (λ _. out.new.items ≡ ended_text (Outcome.StackSpent tick sp) out.old.items) }
 {
@@ -280,6 +296,7 @@ fn stack_text(alloc: Global, out: &mut Vec<u8>, tick: u32, sp: u32) -> Result<()
     hex8(out, sp)
 }
 
+/// Adds the tick at which the output was full.
 fn full_text(alloc: Global, out: &mut Vec<u8>, tick: u32) -> Result<(), OutOfMemory>
     ensures { IfOk result (λ _. out.new.items ≡ ended_text (Outcome.OutputFull tick) out.old.items) }
 {
@@ -287,6 +304,7 @@ fn full_text(alloc: Global, out: &mut Vec<u8>, tick: u32) -> Result<(), OutOfMem
     decimal(alloc, out, tick as u64)
 }
 
+/// Adds how a run ended.
 fn ended_text(alloc: Global, out: &mut Vec<u8>, outcome: Outcome) -> Result<(), OutOfMemory>
     ensures { IfOk result (λ _. out.new.items ≡ ended_text outcome out.old.items) }
 {
@@ -302,6 +320,7 @@ fn ended_text(alloc: Global, out: &mut Vec<u8>, outcome: Outcome) -> Result<(), 
     }
 }
 
+/// Adds how a run ended, or that it runs.
 fn outcome_text(
     alloc: Global,
     out: &mut Vec<u8>,

@@ -10,6 +10,7 @@ use hm_text_base::{binary_digit, decimal, hex2, hex8, text};
 use hm_window::Window;
 use std::alloc::Global;
 
+/// Adds the lines of the first `count` of r0 to r12.
 fn low_lines(alloc: Global, out: &mut Vec<u8>, r: &[u32], count: usize) -> Result<(), OutOfMemory>
     requires { count ≤ length r.now }
     ensures { IfOk result (λ _. out.new.items ≡ low_lines count r.now out.old.items) }
@@ -24,6 +25,7 @@ fn low_lines(alloc: Global, out: &mut Vec<u8>, r: &[u32], count: usize) -> Resul
     Ok(())
 }
 
+/// Adds a line of a name and a word.
 fn word_line(out: &mut Vec<u8>, name: &[u8], x: u32) -> Result<(), OutOfMemory>
     ensures { IfOk result (λ _. out.new.items ≡ word_line name.now x out.old.items) }
 {
@@ -33,6 +35,7 @@ fn word_line(out: &mut Vec<u8>, name: &[u8], x: u32) -> Result<(), OutOfMemory>
     text(out, b"\n")
 }
 
+/// Adds a line of a name and a bit.
 fn bit_line(out: &mut Vec<u8>, name: &[u8], b: bool) -> Result<(), OutOfMemory>
     ensures { IfOk result (λ _. out.new.items ≡ bit_line name.now b out.old.items) }
 {
@@ -42,6 +45,7 @@ fn bit_line(out: &mut Vec<u8>, name: &[u8], b: bool) -> Result<(), OutOfMemory>
     text(out, b"\n")
 }
 
+/// Adds the lines of sp, lr and pc.
 fn pointer_lines(out: &mut Vec<u8>, regs: &Regs) -> Result<(), OutOfMemory>
     ensures { IfOk result (λ _. out.new.items ≡ pointer_lines regs.now out.old.items) }
 {
@@ -50,6 +54,7 @@ fn pointer_lines(out: &mut Vec<u8>, regs: &Regs) -> Result<(), OutOfMemory>
     word_line(out, b"pc", regs.pc)
 }
 
+/// Adds the line of the position: how many beats are done of the older instruction, and of the younger.
 fn position_line(alloc: Global, out: &mut Vec<u8>, position: Window) -> Result<(), OutOfMemory>
     ensures { IfOk result (λ _. out.new.items ≡ position_line position.a position.b out.old.items) }
 {
@@ -60,6 +65,7 @@ fn position_line(alloc: Global, out: &mut Vec<u8>, position: Window) -> Result<(
     text(out, b"\n")
 }
 
+/// Adds the line of N, Z, C, V and Q.
 fn flags_line(out: &mut Vec<u8>, regs: &Regs) -> Result<(), OutOfMemory>
     ensures { IfOk result (λ _. out.new.items ≡ flags_line regs.now out.old.items) }
 {
@@ -72,7 +78,7 @@ fn flags_line(out: &mut Vec<u8>, regs: &Regs) -> Result<(), OutOfMemory>
     text(out, b"\n")
 }
 
-// The line of both stack pointers, SPSEL and BASEPRI.
+/// The line of both stack pointers, SPSEL and BASEPRI.
 fn system_line(out: &mut Vec<u8>, regs: &Regs) -> Result<(), OutOfMemory>
     ensures { IfOk result (λ _. out.new.items ≡ system_line regs.now out.old.items) }
 {
@@ -87,6 +93,7 @@ fn system_line(out: &mut Vec<u8>, regs: &Regs) -> Result<(), OutOfMemory>
     text(out, b"\n")
 }
 
+/// Adds the lines of the IT byte, FPSCR, VPR, whether there is a context, and PRIMASK.
 fn state_lines(out: &mut Vec<u8>, regs: &Regs) -> Result<(), OutOfMemory>
     ensures { IfOk result (λ _. out.new.items ≡ state_lines regs.now out.old.items) }
 {
@@ -99,6 +106,7 @@ fn state_lines(out: &mut Vec<u8>, regs: &Regs) -> Result<(), OutOfMemory>
     bit_line(out, b"primask", regs.primask)
 }
 
+/// Adds the lines of the state, and that of the system.
 fn special_lines(out: &mut Vec<u8>, regs: &Regs) -> Result<(), OutOfMemory>
     ensures { IfOk result (λ _. out.new.items ≡ special_lines regs.now out.old.items) }
 {
@@ -106,7 +114,7 @@ fn special_lines(out: &mut Vec<u8>, regs: &Regs) -> Result<(), OutOfMemory>
     system_line(out, regs)
 }
 
-// The words of vector register k.
+/// The words of vector register k.
 fn vector_words(out: &mut Vec<u8>, k: usize, words: &[u32]) -> Result<(), OutOfMemory>
     requires { 4 * k + 3 < length words.now }
     ensures { IfOk result (λ _. out.new.items ≡ vector_words k words.now out.old.items) }
@@ -120,6 +128,7 @@ fn vector_words(out: &mut Vec<u8>, k: usize, words: &[u32]) -> Result<(), OutOfM
     hex8(out, words[4 * k + 3])
 }
 
+/// Adds the line of vector register k.
 fn vector_line(alloc: Global, out: &mut Vec<u8>, k: usize, words: &[u32]) -> Result<(), OutOfMemory>
     requires { 4 * k + 3 < length words.now }
     ensures { IfOk result (λ _. out.new.items ≡ vector_line k words.now out.old.items) }
@@ -131,6 +140,7 @@ fn vector_line(alloc: Global, out: &mut Vec<u8>, k: usize, words: &[u32]) -> Res
     text(out, b"\n")
 }
 
+/// Adds the lines of the first `count` vector registers.
 fn vector_lines(
     alloc: Global,
     out: &mut Vec<u8>,

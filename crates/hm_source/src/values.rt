@@ -30,7 +30,7 @@ impl DatumSize {
         }
     }
 
-    /// The number behind the largest of its bits.
+    /// 2 to the number of its bits.
     pub fn limit(self) -> u64
         ensures value { result ≡ 2 ^ (8 * bytes_each self) }
     {
