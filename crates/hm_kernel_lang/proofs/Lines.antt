@@ -14,10 +14,8 @@ use Rattle.hm_kernel_lang.specs.Correct.{AreLines, CodeStands, Ends, IsLine, Rea
 use Rattle.hm_kernel_lang.proofs.Numbers.{high_half, inside, last_turn, low_half, next_vector, no_turn, one_turn, two_halves}
 use Rattle.hm_kernel_lang.proofs.Expressions.{Cans, IsReady, addressed, cans_append, evaluated, execs, execs_append, is_within, placed_high, ready_still}
 use Rattle.hm_kernel_lang.proofs.Replacing.{replaced_on, replaced_same, value_outside}
+use Rattle.hm_kernel_lang.proofs.Values.{no_bytes}
 use Rattle.hm_kernel_lang.proofs.Straight.{expr_length, items_halves, joined, pc_execs, plain_halves, so_many, stands_back, stands_front, straight}
-
-no_bytes : (t : ElementType) → 0 ≡ bytes t * 0
-no_bytes t = grind arith
 
 le_true : (a b : ℕ) → a ≤ b → nat_le a b ≡ true
 le_true a b h = grind (arith, nat_tests)
@@ -263,7 +261,7 @@ module _ {S E : Type 0} (t : ElementType) (next : S → Result S E) (Shows : Vie
         let p = v.pc + 2 * 5 + 2 * 2 in
         let inner = (stands_back Stands v.pc (map Plain (head_code n)) behind_head stands).1 in
         let q = looped t at n l fine v.byte next Shows Stands rows p inner (turns t n) 0 w r.to (omega arith)
-        (record { size = refl; offset = no_bytes t; left = omega arith; some = omega arith; byte = refl }) (ap (turns t) (sym is)) r.shows in
+        (record { size = refl; offset = sym (no_bytes t); left = omega arith; some = omega arith; byte = refl }) (ap (turns t) (sym is)) r.shows in
         let step = turn_length at l in
         let many : 4 + turns t n * (length (body_code at l) + 1) ≡ line_steps t n l.expr = ap (λ (x : ℕ). 4 + turns t n * x) step in
         record {

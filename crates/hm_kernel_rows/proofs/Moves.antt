@@ -16,7 +16,7 @@ use Rattle.hm_isa.specs.declared.Vector.TheVariants as vector
 use Rattle.hm_lane.specs.declared.lanes.Size.{Size}
 use Rattle.hm_lane.specs.declared.lanes.Size.TheVariants.{Byte as OneByte, Half, Word}
 use Rattle.hm_lane.specs.Lanes as list
-use Rattle.hm_lane.specs.Lanes.{bytes_of, firsts, unlanes}
+use Rattle.hm_lane.specs.Lanes.{firsts, unlanes}
 use Rattle.hm_lane.proofs.LaneLists.{lanes-unlanes}
 use Rattle.hm_lane_fns.specs.Words.{filled as spread_tests, size_of}
 use Rattle.hm_mem.specs.declared.Access.TheVariants.{Vector}
@@ -38,7 +38,7 @@ use Rattle.hm_kernel_rows.specs.Shows.{Shows, size_of_type}
 use Rattle.hm_kernel_code.specs.Instructions.{IsMoveRow}
 use Rattle.hm_kernel_rows.specs.Standing.{Stands}
 use Rattle.hm_kernel_rows.proofs.Merging.{predicate_is, tails}
-use Rattle.hm_kernel_rows.proofs.Operations.{length_unlanes}
+use Rattle.hm_kernel_rows.proofs.Operations.{length_unlanes, some_modulus}
 use Rattle.hm_kernel_rows.proofs.Steps.{reached}
 use Rattle.hm_kernel_rows.proofs.Vectors.{after_write, bytes_unlanes, comes_to, decide, in_loop, no_first, no_second, over_too, size_is}
 
@@ -277,9 +277,6 @@ module _ (t : ElementType) (listing : Listing) (store : Bool) (l q : ℕ) (l_is 
       (over_too t w (put_all cells given s) after)
 
 module _ (t : ElementType) (listing : Listing) where
-  modulus_some : (t : ElementType) → 0 < list.modulus (size_of_type t)
-  modulus_some t = grind arith
-
   -- what is read of an element that is left
   read_here : (v : View) (s : State) → Shows t v s → IsWithin t v → (j : ℕ) → j < v.left → j < lanes t
       → read_at (size_of_type t) s (stands_at t v.scratch j) ≡ little (bytes t) v.byte (v.scratch + bytes t * j)
@@ -313,7 +310,7 @@ module _ (t : ElementType) (listing : Listing) where
       let within = can.2 in
       moved_row t listing false 1 q refl v w s h stands.instr stands.here stands.is can.1 within
       (loaded_shows q v s h can.0 within xs (length_loaded F v.left A 0 (lanes t))
-      (loaded_below F (list.modulus (size_of_type t)) v.left A 0 (lanes t) (modulus_some t) (λ j a b c.
+      (loaded_below F (list.modulus (size_of_type t)) v.left A 0 (lanes t) (some_modulus (size_of_type t)) (λ j a b c.
       let inside : j < lanes t = omega arith in
       let p = inside_of t v.scratch v.left j within.aligned within.low within.high c inside in
       subst (λ (x : ℕ). x < list.modulus (size_of_type t)) (sym (read_here v s h within j c inside))

@@ -18,7 +18,7 @@ use Rattle.hm_isa.specs.declared.vectors.AddName.TheVariants as add
 use Rattle.hm_lane.specs.declared.lanes.Size.{Size}
 use Rattle.hm_lane.specs.declared.lanes.Size.TheVariants.{Byte as OneByte, Half, Word}
 use Rattle.hm_lane.specs.Lanes as list
-use Rattle.hm_lane.specs.Lanes.{bytes_of, unlanes}
+use Rattle.hm_lane.specs.Lanes.{unlanes}
 use Rattle.hm_lane.proofs.LaneLists.{lanes-unlanes}
 use Rattle.hm_lane_fns.specs.LaneFns.{lane_of, lane_value, saturates}
 use Rattle.hm_lane_fns.specs.declared.functions.LaneFn.TheVariants as fn

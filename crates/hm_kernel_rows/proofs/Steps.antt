@@ -3,6 +3,7 @@ use Rattle.std.proofs.Common.{◌≡◌, ◌≢◌, ℕ, ◌+◌, ◌-◌, ◌*�
 use Rattle.std.proofs.Common.{nat_eq}
 use Rattle.std.specs.Prelude.{Result, Ok}
 use Rattle.std.proofs.lemmas.Bool.Decides.{nat_tests}
+use Rattle.std.proofs.Math.Bool.{or-true}
 use Rattle.hm_base.specs.declared.Fault.{Fault}
 use Rattle.hm_base.specs.declared.Place.TheVariants.{R, Ltp}
 use Rattle.hm_codes.specs.Listing.{Listing}
@@ -216,10 +217,7 @@ step_is i r m e = ap (λ (b : Bool). finish (width i) (run alone (cond b (instr_
 
 -- an instruction runs where no block holds
 pub scalar_runs : (x : Scalar) (r : Regs) → r.it ≡ 0 → runs (instr.Scalar x) r ≡ true
-scalar_runs x r e = ap (λ (b : Bool). is_breakpoint x || b) (passed r e) ∙ or_true (is_breakpoint x)
-  where
-    or_true : (b : Bool) → (b || true) ≡ true
-    or_true b = grind arith
+scalar_runs x r e = ap (λ (b : Bool). is_breakpoint x || b) (passed r e) ∙ or-true (is_breakpoint x)
 
 pub branch_runs : (x : Branch) (r : Regs) → r.it ≡ 0 → runs (instr.Branch x) r ≡ true
 branch_runs x r e = passed r e

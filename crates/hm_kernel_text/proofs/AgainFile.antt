@@ -7,6 +7,7 @@ use Rattle.std.specs.Char.{is_ascii_alphanumeric, is_ascii_digit, is_ascii_lower
 use Rattle.std.specs.List.{AllByRecursion, list_all, list_any}
 use Rattle.std.proofs.lemmas.Bool.{eq-eqb, ne_eqb, le-leb, le-ltb, lt-ltb, and_parts}
 use Rattle.std.proofs.lemmas.Bool.Decides.{nat_tests}
+use Rattle.std.proofs.Math.Bool.{or-true}
 use Rattle.std.proofs.lemmas.List.{append-nil, length_push}
 use Rattle.std.proofs.lemmas.Slice.Eq.{bytes_eq-Decides}
 use Rattle.hm_base.specs.Image.{sram_start, sram_size}
@@ -115,11 +116,8 @@ word_lacks mark w fails is = lacks_all mark is_ascii_alphanumeric w fails is.let
 name_leaf : (w : List ℕ) → is_name w ≡ true → IsWord w
 name_leaf w named = leaf_word w (rw named refl)
 
-numeral_leaf : (named : Bool) → (named || true) ≡ true
-numeral_leaf named = grind arith
-
 decimal_word : (n : ℕ) → n < 2 ^ 32 → IsWord (decimal n)
-decimal_word n lt = leaf_word (decimal n) (rw (numeral_again n lt) (numeral_leaf (is_name (decimal n))))
+decimal_word n lt = leaf_word (decimal n) (rw (numeral_again n lt) (or-true (is_name (decimal n))))
 
 decimals_lack : (mark : ℕ) (t : ElementType) (values : List ℕ) → is_ascii_alphanumeric mark ≡ false → AllByRecursion (λ v. v < modulus t) values
     → AllByRecursion (Lacks mark) (map decimal values)
