@@ -15,6 +15,7 @@ use Rattle.hm_text16_rows.specs.Mnemonics.{shift_mnemonic, stack_sum_mnemonic, s
 use Rattle.hm_text_rows.specs.Mnemonics.{access_mnemonic, extend_mnemonic}
 use Rattle.hm_text_rows.specs.Names.{access_names, extend_names, named, sum_names}
 use Rattle.hm_text_rows.specs.Operands.{branch_condition_in, first}
+use Rattle.hm_text_rows.proofs.Words.{none_is}
 use Rattle.hm_text16_codes.specs.Operands.{read_operands}
 use Rattle.hm_textv_codes.specs.Codes as vectors
 use Rattle.hm_text.proofs.Lines.{has_lane}
@@ -25,7 +26,7 @@ abbrev are_all : List Bool → Bool
 are_all [] = true
 are_all (b ∷ bs) = b && are_all bs
 
--- NO ROW OF ONE HALFWORD: no name of one has the mnemonic, the names by their numbers 0 to 15,
+-- NO ROW OF ONE HALFWORD: a test for each look-up, 0 to 15 by place, that no name has the mnemonic,
 abbrev no_names : List ℕ → List Bool
 no_names s =
     is_none (named shift_mnemonic shift_names s)
@@ -46,7 +47,7 @@ no_names s =
     ∷ is_none (branch_condition_in s)
     ∷ []
 
--- and it is none of the words beside them, by their numbers 0 to 9
+-- and a test for each word beside them, 0 to 9
 abbrev no_words : List ℕ → List Bool
 no_words s =
     not (bytes_eq s (codes "add")) ∷ not (bytes_eq s (codes "cmp")) ∷ not (bytes_eq s (codes "mov")) ∷ not (bytes_eq s (codes "bkpt"))
@@ -61,10 +62,6 @@ holds : (k : ℕ) (bs : List Bool) → are_all bs ≡ true → get_or bs k true 
 holds k [] e = refl
 holds zero (b ∷ bs) e = (and_parts b (are_all bs) e).0
 holds (suc k) (b ∷ bs) e = holds k bs (and_parts b (are_all bs) e).1
-
-none : {A : Type 0} {o : Option A} → is_none o ≡ true → o ≡ None
-none {o = Some x} e = absurd (false≢true e)
-none {o = None} e = refl
 
 -- no code, whatever a test tells
 abbrev no_number : Option ℕ
@@ -93,24 +90,24 @@ module _ (s : List ℕ) (o : Operands) (pc a : ℕ) (e : is_not_narrow s ≡ tru
 
   with_number : code_with_number s o ≡ None
   with_number =
-      rw (none (name 0), none (name 1), no_add, none (name 2), none (name 3))
+      rw (none_is (name 0), none_is (name 1), no_add, none_is (name 2), none_is (name 3))
       (no_either (o.second == 13))
 
   with_register : code_with_register s o ≡ None
-  with_register = rw (none (name 1), none (name 4)) refl
+  with_register = rw (none_is (name 1), none_is (name 4)) refl
 
   two_none : (k : Kind) → code_of_two k s o ≡ None
-  two_none kinds.Number = rw (none (name 8), none (name 9)) refl
+  two_none kinds.Number = rw (none_is (name 8), none_is (name 9)) refl
   two_none kinds.Word =
-      rw (none (name 5), none (name 6), none (name 7))
+      rw (none_is (name 5), none_is (name 6), none_is (name 7))
       (rw (is_not (word_ 1), no_add, is_not (word_ 2)) refl)
   two_none kinds.Missing =
-      rw (none (name 10), none (name 11), none (name 12))
-      (rw (is_not (word_ 3), none (name 13)) refl)
+      rw (none_is (name 10), none_is (name 11), none_is (name 12))
+      (rw (is_not (word_ 3), none_is (name 13)) refl)
 
   label_none : code_label s o pc a ≡ None
   label_none =
-      rw (is_not (word_ 8), none (name 14), none (name 15))
+      rw (is_not (word_ 8), none_is (name 14), none_is (name 15))
       (rw (is_not (word_ 9)) refl)
 
   three_none : (k : Kind) → code_of_three k s o pc a ≡ None

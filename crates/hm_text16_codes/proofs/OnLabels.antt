@@ -1,5 +1,5 @@
 -- Rows with a label: their texts ask for their codes, where the label names their targets.
-use Rattle.std.proofs.Common.{◌≡◌, ℕ, zero, suc, ◌+◌, ◌*◌, ◌/◌, ◌%◌, ◌^◌, ◌<◌, ◌≤◌, true, Some, refl, inl, inr, arith}
+use Rattle.std.proofs.Common.{◌≡◌, ℕ, ◌+◌, ◌*◌, ◌/◌, ◌%◌, ◌^◌, ◌<◌, ◌≤◌, true, Some, refl, inl, inr, arith}
 use Rattle.std.specs.Prelude.{codes, nat_lt}
 use Rattle.std.proofs.lemmas.Bool.{cases_Bool}
 use Rattle.std.proofs.lemmas.Bool.Decides.{nat_tests}
@@ -18,9 +18,9 @@ use Rattle.hm_text16_codes.specs.declared.operands.Kind.{Kind}
 use Rattle.hm_text16_codes.specs.declared.operands.Kind.TheVariants as kinds
 use Rattle.hm_text16_codes.specs.Codes.{code_of}
 use Rattle.hm_text_rows.specs.Labels.{behind, distance}
-use Rattle.hm_text_rows.proofs.Words.{below_holds, below_is, is_mnemonic}
-use Rattle.hm_text_rows.specs.Operands.{branch_condition_in, given_or}
-use Rattle.hm_text16_rows.specs.Mnemonics.{branch_first_word, zero_mnemonic}
+use Rattle.hm_text_rows.specs.Mnemonics.{branch_mnemonic}
+use Rattle.hm_text_rows.proofs.Words.{is_mnemonic}
+use Rattle.hm_text16_rows.specs.Mnemonics.{zero_mnemonic}
 use Rattle.hm_text16_codes.proofs.Words.{a_low}
 use Rattle.hm_text_rows.proofs.Branches.{condition_back, distance_back, mnemonic_branch}
 use Rattle.hm_text16_codes.proofs.Forms.{given, reads_label, reads_register_label}
@@ -64,7 +64,7 @@ row_s24 i =
 
 -- S25
 asks_conditional : (c v i pc a : ℕ) → c < 14 → distance (pc + 4) a / 2 % 256 ≡ i
-    → code_of (branch_first_word c) (given v 0 0 kinds.Missing kinds.Missing) pc a ≡ Some (0xd000 + c ↑ 8 + i)
+    → code_of (branch_mnemonic c) (given v 0 0 kinds.Missing kinds.Missing) pc a ≡ Some (0xd000 + c ↑ 8 + i)
 unfolding code_of
 asks_conditional c v i pc a lt e = rw (condition_back c lt, e) refl
 
@@ -102,8 +102,8 @@ branch_field half i d pc a hp f e =
 
 pub row_s25 : (i : S25) → Row (instr.Branch (branch.S25 i))
 row_s25 (s25.Conditional i) =
-    label_row (instr.Branch (branch.S25 (s25.Conditional i))) (branch_first_word i.c.value) _ _ refl refl
-    (reads_label (branch_first_word i.c.value) (mnemonic_branch i.c.value i.c.in_range))
+    label_row (instr.Branch (branch.S25 (s25.Conditional i))) (branch_mnemonic i.c.value) _ _ refl refl
+    (reads_label (branch_mnemonic i.c.value) (mnemonic_branch i.c.value i.c.in_range))
     (λ t pc a hp re. asks_conditional i.c.value _ i.i.value pc a i.c.in_range
     (branch_field 128 i.i.value (sign_extended 9 (2 * i.i.value)) pc a hp (near_field (2 * i.i.value) i.i.value refl i.i.in_range) re))
 row_s25 (s25.Always i) =

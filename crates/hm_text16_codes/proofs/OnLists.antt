@@ -24,11 +24,10 @@ use Rattle.hm_text_rows.specs.Names.{named}
 use Rattle.hm_text16_codes.specs.Operands.{read_operands}
 use Rattle.hm_text_rows.specs.Operands.{bits_of, braced, given_or}
 use Rattle.hm_text_rows.specs.Shapes.{braces, r}
-use Rattle.hm_text_rows.proofs.Words.{below_holds, below_is, is_mnemonic}
+use Rattle.hm_text_rows.proofs.Words.{below_holds, below_is, is_mnemonic, there}
 use Rattle.hm_text16_rows.specs.Rows.{list_tokens}
 use Rattle.hm_text16_rows.specs.Mnemonics.{block_first_word, letters_above}
 use Rattle.hm_text16_codes.proofs.Words.{a_condition, a_low}
-use Rattle.hm_text_rows.proofs.Branches.{there}
 use Rattle.hm_text16_rows.proofs.Registers.{Braces, low_braces, pop_braces, push_braces}
 use Rattle.hm_text16_codes.proofs.Forms.{given, reads_one}
 use Rattle.hm_text16_codes.proofs.Asked.{Row, halves, plain_row}

@@ -1,8 +1,7 @@
 -- The names of registers and conditions, as operands.
-use Rattle.std.proofs.Common.{◌≡◌, ℕ, ◌<◌, true, List, Option, Some, None, refl, ap, arith}
+use Rattle.std.proofs.Common.{◌≡◌, ℕ, ◌<◌, true, List, refl, arith}
 use Rattle.hm_tokens.specs.Names.{register_name}
 use Rattle.hm_text_rows.proofs.Words.{below_holds, below_is, is_name}
-use Rattle.hm_text_rows.specs.Operands.{given_or}
 use Rattle.hm_text16_codes.specs.Operands.{word_value}
 use Rattle.hm_text16_rows.specs.Mnemonics.{block_condition}
 

@@ -1,4 +1,5 @@
--- The code that a text carelessly asks for: what decides is whether the row that has this code has the text.
+-- The candidate code of a text: that of the row with this text, where there is one; else any number, or None.
+-- Whether the row of this code has the text is asked later.
 use Rattle.std.specs.Prelude.{ℕ, ◌+◌, ◌-◌, ◌*◌, ◌/◌, ◌%◌, ◌^◌, List, [], ◌∷◌, Option, Some, None, option_map, codes, bytes_eq, ◌==◌, nat_le, ◌||◌}
 use Rattle.std.specs.Prelude.{if◌then◌else◌}
 use Rattle.hm_isa.specs.declared.narrow.BaseName.TheVariants as base
@@ -56,7 +57,8 @@ code_stack_access s o = if o.second == 13 then option_map (λ name. of_byte (wor
 
 -- S16: the code of STR, LDR, STRB, LDRB, STRH and LDRH by an offset in words, bytes or halfwords (DDI0553, the immediate form of each)
 abbrev pub code_offset : List ℕ → Operands → Option ℕ
-code_offset s o = option_map (λ name. of_three (plain_base name) (o.third / access_size (plain_access name)) o.second o.first) (named plain_mnemonic plain_names s)
+code_offset s o =
+    option_map (λ name. of_three (plain_base name) (o.third / access_size (plain_access name)) o.second o.first) (named plain_mnemonic plain_names s)
 
 -- the code of a number behind two registers, by the mnemonic: S1, S3, S9, S16 or S17
 abbrev pub code_with_number : List ℕ → Operands → Option ℕ

@@ -1,4 +1,4 @@
--- What a text gives numbers for, read carelessly: nothing is refused, since the row that is found is asked for its text.
+-- What a text gives numbers for, read without a refusal, since the row that is found is asked for its text.
 use Rattle.std.specs.Prelude.{ℕ, List, codes, bytes_eq, if◌then◌else◌}
 use Rattle.hm_tokens.specs.Names.{condition_in, register_in}
 use Rattle.hm_tokens.specs.Tokens.{Tok, word, number, mark}

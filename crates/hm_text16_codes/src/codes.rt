@@ -1,4 +1,4 @@
-//! The code that a text carelessly asks for: what decides is whether the row that has this code has the text.
+//! The candidate code of a text: whether the row of this code has the text is asked later.
 
 ghost use Rattle.std.specs.Prelude.{◌≡◌, ◌<◌, ◌+◌, ◌^◌, map};
 ghost use Rattle.hm_text16_codes.specs.Codes.{block_mask, code_access, code_address, code_always, code_block, code_break, code_byte, code_compare};
@@ -438,8 +438,7 @@ fn code_of(mnemonic: &[u8], o: &Operands, pc: u32, a: u32) -> Option<u64>
     code_of_three(mnemonic, o, pc, a)
 }
 
-/// The code that tokens ask for at `pc`, where a label names `a`, read carelessly: that of the row with these tokens, where there is one;
-/// else any number, or None.
+/// The candidate code of tokens at `pc`, where a label names `a`: that of the row with these tokens, where there is one; else any number, or None.
 pub fn code_in(tokens: &[Token<'_>], pc: u32, a: u32) -> Option<u64>
     ensures value { result ≡ code_in (map tok tokens.now) pc a }
 {

@@ -1,4 +1,4 @@
-//! The code that the text of a row of one halfword asks for, read carelessly; each row's own text asks for its code.
+//! The candidate code of a text of a row of one halfword; that of each row's own text is its code.
 #![tactic(auto)]
 
 mod codes;

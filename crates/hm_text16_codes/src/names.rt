@@ -26,7 +26,7 @@ pub fn shift_name(mnemonic: &[u8]) -> Option<ShiftName>
     named(names, mnemonic)
 }
 
-/// The name of rows S2 and S3.
+/// The name of a row S2 or S3.
 pub fn sum_name(mnemonic: &[u8]) -> Option<SumName>
     ensures { result ≡ named sum_mnemonic sum_names mnemonic.now }
 {

@@ -1,4 +1,4 @@
-//! What a text gives numbers for, read carelessly: nothing is refused, since the row that is found is asked for its text.
+//! What a text gives numbers for, read without a refusal, since the row that is found is asked for its text.
 
 ghost use Rattle.std.specs.Prelude.{◌≡◌, map};
 ghost use Rattle.hm_text16_codes.specs.Operands.{kind_of, read_operands, value, word_value};

@@ -1,4 +1,4 @@
--- The mnemonics of the rows of one halfword, but for those whose names rows of two share, and first words with a condition.
+-- The mnemonics of the rows of one halfword, but for those that rows of two share, and conditions and first words of blocks.
 use Rattle.std.specs.Prelude.{ℕ, ◌/◌, ◌%◌, List, [], ◌∷◌, ◌++◌, get_or, codes, nat_eq, if◌then◌else◌}
 use Rattle.hm_isa.specs.declared.narrow.ByteName.{ByteName}
 use Rattle.hm_isa.specs.declared.narrow.ByteName.TheVariants as byte
@@ -22,7 +22,7 @@ use Rattle.hm_isa.specs.declared.narrow.ZeroName.{ZeroName}
 use Rattle.hm_isa.specs.declared.narrow.ZeroName.TheVariants as zero_
 use Rattle.hm_isa.specs.Letters.{plain_access, word_access}
 use Rattle.hm_text_rows.specs.Mnemonics.{access_mnemonic}
-use Rattle.hm_tokens.specs.Names.{condition_name, condition_names}
+use Rattle.hm_tokens.specs.Names.{condition_names}
 
 -- S1: the mnemonic of each name, LSLS, LSRS and ASRS (DDI0553, "LSL (immediate)", "LSR (immediate)" and "ASR (immediate)")
 abbrev pub shift_mnemonic : ShiftName → List ℕ
@@ -103,10 +103,6 @@ jump_mnemonic jump.Blx = codes "blx"
 abbrev pub zero_mnemonic : ZeroName → List ℕ
 zero_mnemonic zero_.Cbz = codes "cbz"
 zero_mnemonic zero_.Cbnz = codes "cbnz"
-
--- S25: the first word of B under a condition, `beq` to `ble` (DDI0553, "B", encodings T1 and T2)
-abbrev pub branch_first_word : ℕ → List ℕ
-branch_first_word c = codes "b" ++ condition_name c
 
 -- S21: the condition of a block, `al` among them (DDI0553, "IT")
 abbrev pub block_condition : ℕ → List ℕ

@@ -15,8 +15,8 @@ use Rattle.hm_isa.specs.Rules.{listed_in}
 use Rattle.hm_isa.specs.Standing.{◌↑◌}
 use Rattle.hm_tokens.specs.Tokens.{Tok, word, close_bracket, comma, bang, open_bracket}
 use Rattle.hm_text_rows.specs.Shapes.{and_constant, braces, constant, inside, one, r, three, two}
-use Rattle.hm_text_rows.specs.Mnemonics.{access_mnemonic, extend_mnemonic}
-use Rattle.hm_text16_rows.specs.Mnemonics.{block_condition, block_first_word, branch_first_word, byte_mnemonic, hint_mnemonic}
+use Rattle.hm_text_rows.specs.Mnemonics.{access_mnemonic, branch_mnemonic, extend_mnemonic}
+use Rattle.hm_text16_rows.specs.Mnemonics.{block_condition, block_first_word, byte_mnemonic, hint_mnemonic}
 use Rattle.hm_text16_rows.specs.Mnemonics.{jump_mnemonic, logic_mnemonic, masking_mnemonic}
 use Rattle.hm_text16_rows.specs.Mnemonics.{plain_mnemonic, shift_mnemonic, stack_sum_mnemonic, sum_mnemonic, swap_mnemonic, word_mnemonic, zero_mnemonic}
 
@@ -44,7 +44,7 @@ list_tokens list.Ldm x n regs = load_start n regs ++ braces regs
 -- ROWS
 -- S25: the tokens of B with a condition or with none, before the label (DDI0553, "B", encodings T1 and T2)
 abbrev pub jump_tokens : JumpRow → List Tok
-jump_tokens (s25.Conditional i) = word (branch_first_word i.c.value) ∷ []
+jump_tokens (s25.Conditional i) = word (branch_mnemonic i.c.value) ∷ []
 jump_tokens (s25.Always i) = word (codes "b") ∷ []
 
 -- the tokens of rows S1 to S21, of S14 those before its label; none of other rows

@@ -1,5 +1,5 @@
 -- Rows with a label: their texts ask for their codes, where the label names their targets.
-use Rattle.std.proofs.Common.{◌≡◌, ℕ, zero, suc, ◌+◌, ◌-◌, ◌*◌, ◌/◌, ◌%◌, ◌^◌, ◌<◌, ◌≤◌, true, List, [], ◌∷◌, ◌++◌, Option, Some, None, refl, ap, ◌∙◌}
+use Rattle.std.proofs.Common.{◌≡◌, ℕ, zero, suc, ◌+◌, ◌-◌, ◌*◌, ◌/◌, ◌%◌, ◌^◌, ◌<◌, ◌≤◌, true, List, [], ◌∷◌, ◌++◌, Some, None, refl, ap, ◌∙◌}
 use Rattle.std.proofs.Common.{inl, inr, arith}
 use Rattle.std.specs.Prelude.{codes, is_none, nat_eq, nat_lt}
 use Rattle.std.proofs.lemmas.Bool.{cases_Bool}
@@ -22,40 +22,35 @@ use Rattle.hm_isa.specs.JumpCodes.{code_loop_end, code_wide_always, code_wide_co
 use Rattle.hm_isa.specs.Standing.{◌↑◌}
 use Rattle.hm_isa.specs.Words.{sign_extended}
 use Rattle.hm_isa.specs.Distances.{alike, wide_always_distance, wide_conditional_distance}
-use Rattle.hm_tokens.specs.Names.{condition_name, register_name}
+use Rattle.hm_tokens.specs.Names.{register_name}
 use Rattle.hm_tokens.specs.Tokens.{Tok, comma}
 use Rattle.hm_text_rows.specs.Labels.{behind, distance}
+use Rattle.hm_text_rows.specs.Mnemonics.{branch_mnemonic}
+use Rattle.hm_text_rows.specs.Operands.{size_of}
 use Rattle.hm_text_rows.specs.Shapes.{r}
 use Rattle.hm_text_rows.proofs.Printed.{IsPrintedAt, is_printed_at, short_comma, short_word}
 use Rattle.hm_text_rows.proofs.Branches.{condition_back, distance_back, mnemonic_branch}
-use Rattle.hm_text_rows.proofs.Words.{◌▹◌, below_holds, is_mnemonic, is_suffix, word_r}
+use Rattle.hm_text_rows.proofs.Words.{◌▹◌, below_holds, is_mnemonic, is_suffix, none_is, word_r}
 use Rattle.hm_text32_codes.specs.Codes.{ahead, always_code, behind_it, code_in, code_of, code_of_label, code_of_memory, conditional_code}
-use Rattle.hm_text_rows.specs.Operands.{branch_condition_in, size_of}
 use Rattle.hm_text32_rows.specs.Rows.{loop_end_tokens}
 use Rattle.hm_text32_rows.specs.Mnemonics.{element_suffix, wide, wide_branch_mnemonic, wide_branch_suffix}
 use Rattle.hm_text32_codes.proofs.Asked.{IsNoPlain, Row, asks_label, label_row}
 use Rattle.hm_text32_codes.proofs.Forms.{a_register, suffix_element}
 
 -- T16 WITH A CONDITION
-abbrev mnemonic_of : ℕ → List ℕ
-mnemonic_of c = codes "b" ++ condition_name c
-
-none_is : (o : Option ℕ) → is_none o ≡ true → o ≡ None
-none_is o e = grind arith
-
-no_conditional : (c : ℕ) → c < 14 → IsNoPlain (mnemonic_of c)
+no_conditional : (c : ℕ) → c < 14 → IsNoPlain (branch_mnemonic c)
 unfolding code_of
-no_conditional c lt o = none_is (code_of (mnemonic_of c) o) (below_holds (λ j. is_none (code_of (mnemonic_of j) o)) 14 c refl lt)
+no_conditional c lt o = none_is (below_holds (λ j. is_none (code_of (branch_mnemonic j) o)) 14 c refl lt)
 
 abbrev IsNoAccess : List ℕ → Type 0
 IsNoAccess s = (us : List Tok) → code_of_memory s us ≡ None
 
-no_conditional_access : (c : ℕ) → c < 14 → IsNoAccess (mnemonic_of c)
+no_conditional_access : (c : ℕ) → c < 14 → IsNoAccess (branch_mnemonic c)
 unfolding code_of_memory
-no_conditional_access c lt us = none_is (code_of_memory (mnemonic_of c) us) (below_holds (λ j. is_none (code_of_memory (mnemonic_of j) us)) 14 c refl lt)
+no_conditional_access c lt us = none_is (below_holds (λ j. is_none (code_of_memory (branch_mnemonic j) us)) 14 c refl lt)
 
 asks_conditional : (c : ℕ) (f : List ℕ) (us : List Tok) (pc a : ℕ) → c < 14
-    → code_of_label (mnemonic_of c) f us pc a ≡ Some (conditional_code c (distance (pc + 4) a / 2))
+    → code_of_label (branch_mnemonic c) f us pc a ≡ Some (conditional_code c (distance (pc + 4) a / 2))
 unfolding code_of_label
 asks_conditional c f us pc a lt = rw (condition_back c lt) refl
 
@@ -128,9 +123,9 @@ conditional_asks i pc a hp e =
 row_conditional : (i : WideConditional) → Row (instr.Branch (branch.T16 (t16.Conditional i)))
 row_conditional i =
     label_row (instr.Branch (branch.T16 (t16.Conditional i))) (code_wide_conditional i) refl refl
-    (is_printed_at (mnemonic_of i.c.value) wide [] (mnemonic_branch i.c.value i.c.in_range) refl tt refl refl (omega arith) refl)
+    (is_printed_at (branch_mnemonic i.c.value) wide [] (mnemonic_branch i.c.value i.c.in_range) refl tt refl refl (omega arith) refl)
     (λ t pc a l hp re.
-    asks_label (mnemonic_of i.c.value) wide (t ∷ []) pc a (code_wide_conditional i) (mnemonic_branch i.c.value i.c.in_range) refl
+    asks_label (branch_mnemonic i.c.value) wide (t ∷ []) pc a (code_wide_conditional i) (mnemonic_branch i.c.value i.c.in_range) refl
     (no_conditional i.c.value i.c.in_range)
     (no_conditional_access i.c.value i.c.in_range (t ∷ []))
     (asks_conditional i.c.value wide (t ∷ []) pc a i.c.in_range ∙ ap (λ (w : ℕ). Some w) (conditional_asks i pc a hp re)))

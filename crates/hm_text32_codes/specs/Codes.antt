@@ -1,4 +1,5 @@
--- The code that a text carelessly asks for: what decides is whether the row that has this code has the text.
+-- The candidate code of a text: that of the row with this text, where there is one; else any number, or None.
+-- Whether the row of this code has the text is asked later.
 use Rattle.std.specs.Prelude.{ℕ, zero, suc, Bool, ◌+◌, ◌-◌, ◌*◌, ◌/◌, ◌%◌, ◌^◌, ◌&&◌, List, [], ◌∷◌, length, Option, Some, None, option_map, codes, bytes_eq}
 use Rattle.std.specs.Prelude.{nat_lt, ◌==◌, if◌then◌else◌}
 use Rattle.hm_isa.specs.declared.data.DataName.{DataName}

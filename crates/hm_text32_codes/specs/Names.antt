@@ -1,4 +1,4 @@
--- The names of rows of two halfwords, no vector rows, that a mnemonic may be of.
+-- The names of rows of two halfwords, no vector rows, that a mnemonic may be of; numbers of shifts, and special registers.
 use Rattle.std.specs.Prelude.{ℕ, List, [], ◌∷◌}
 use Rattle.hm_isa.specs.declared.arith.AccumulateName.{AccumulateName}
 use Rattle.hm_isa.specs.declared.arith.AccumulateName.TheVariants as accumulate

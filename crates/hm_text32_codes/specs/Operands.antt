@@ -1,4 +1,4 @@
--- What a text gives numbers for, read carelessly: nothing is refused, since the row that is found is asked for its text.
+-- What a text gives numbers for, read without a refusal, since the row that is found is asked for its text.
 use Rattle.std.specs.Prelude.{ℕ, ◌%◌, ◌^◌, List, [], ◌∷◌, length, codes, bytes_eq, Option, Some, None, option_map, ◌==◌, if◌then◌else◌}
 use Rattle.hm_isa.specs.declared.system.ReadName.{ReadName}
 use Rattle.hm_isa.specs.SystemCodes.{read_base}

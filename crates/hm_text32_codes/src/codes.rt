@@ -1,4 +1,4 @@
-//! The code that a text carelessly asks for: what decides is whether the row that has this code has the text.
+//! The candidate code of a text: whether the row of this code has the text is asked later.
 
 ghost use Rattle.std.specs.Prelude.{◌≡◌, ◌<◌, ◌^◌, map};
 ghost use Rattle.hm_text32_codes.specs.Codes.{code_accumulate, code_alone, code_barrier, code_bits, code_constant, code_constant_data, code_constant_move};
@@ -551,8 +551,7 @@ fn plain_code_in(tokens: &[Token<'_>]) -> Option<u64>
     }
 }
 
-/// The code that tokens ask for at `pc`, where a label names `a`, read carelessly: that of the row with these tokens, where there is one;
-/// else any number, or None.
+/// The candidate code of tokens at `pc`, where a label names `a`: that of the row with these tokens, where there is one; else any number, or None.
 pub fn code_in(tokens: &[Token<'_>], pc: u32, a: u32) -> Option<u64>
     ensures value { result ≡ code_in (map tok tokens.now) pc a }
 {

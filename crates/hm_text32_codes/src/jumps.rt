@@ -1,4 +1,4 @@
-//! The codes that texts of rows with a label carelessly ask for.
+//! The candidate codes of texts of rows with a label.
 
 ghost use Rattle.std.specs.Prelude.{◌≡◌, ◌<◌, ◌^◌, map};
 ghost use Rattle.hm_text32_codes.specs.Codes.{ahead, always_code, behind_it, code_always, code_conditional, code_loop, code_of_label, conditional_code};

@@ -1,4 +1,4 @@
-//! The code that the text of a row of two halfwords that is no vector row asks for, read carelessly; each row's own texts ask for its code.
+//! The candidate code of a text of a row of two halfwords that is no vector row; that of each row's own texts is its code.
 #![tactic(auto)]
 
 mod codes;

@@ -1,4 +1,4 @@
-//! The codes that texts of loads and stores carelessly ask for.
+//! The candidate codes of texts of loads and stores.
 
 ghost use Rattle.std.specs.Prelude.{◌≡◌, ◌<◌, ◌^◌, map};
 ghost use Rattle.hm_text32_codes.specs.Codes.{access_code, code_access, code_list, code_of_memory, code_pair, indexed_code, memory_code_in, offset_code};

@@ -76,7 +76,7 @@ pub fn move_name(mnemonic: &[u8]) -> Option<(DataName, u8)>
 pub fn turn_number(mnemonic: &[u8]) -> Option<(u32, u8)>
     ensures { result ≡ named_with_bit turn_mnemonic shift_numbers mnemonic.now }
 {
-    let names = &[
+    let numbers = &[
         ((0, 0), "lsl"),
         ((0, 1), "lsls"),
         ((1, 0), "lsr"),
@@ -86,15 +86,15 @@ pub fn turn_number(mnemonic: &[u8]) -> Option<(u32, u8)>
         ((3, 0), "ror"),
         ((3, 1), "rors"),
     ];
-    named(names, mnemonic)
+    named(numbers, mnemonic)
 }
 
 /// Of a shift through the carry, a row T2: 1 where the mnemonic ends in `s`.
 pub fn carry_flag(mnemonic: &[u8]) -> Option<u8>
     ensures { result ≡ named carry_mnemonic bit_values mnemonic.now }
 {
-    let names = &[(0, "rrx"), (1, "rrxs")];
-    named(names, mnemonic)
+    let flags = &[(0, "rrx"), (1, "rrxs")];
+    named(flags, mnemonic)
 }
 
 /// The name of a row T3.

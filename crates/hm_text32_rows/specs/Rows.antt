@@ -37,7 +37,7 @@ use Rattle.hm_tokens.specs.Tokens.{Tok, word, number, close_brace, close_bracket
 use Rattle.hm_text_rows.specs.Shapes.{and_constant, and_operand, and_shift, back, braces, constant, four, indexed, inside, one, or_zero, q, r, scaled, three}
 use Rattle.hm_text_rows.specs.Shapes.{two}
 use Rattle.hm_isa.specs.Words.{expand_imm_c, imm12}
-use Rattle.hm_text_rows.specs.Mnemonics.{access_mnemonic, extend_mnemonic}
+use Rattle.hm_text_rows.specs.Mnemonics.{access_mnemonic, branch_mnemonic, extend_mnemonic}
 use Rattle.hm_text32_rows.specs.Mnemonics.{accumulate_mnemonic, barrier_mnemonic, bits_mnemonic, bits_suffix, carry_mnemonic, data_mnemonic}
 use Rattle.hm_text32_rows.specs.Mnemonics.{element_suffix, table_mnemonic}
 use Rattle.hm_text32_rows.specs.Mnemonics.{extract_mnemonic, half_mnemonic, long_mnemonic, move_mnemonic, operation_mnemonic, pair_mnemonic}
@@ -209,7 +209,7 @@ table_tokens table.Tbh n m =
 -- LABELS: what stands before them
 -- T16: the tokens of B and BL before the label, `beq.w label` and so on, `b.w label`, `bl label` (DDI0553, "B", encodings T3 and T4, and "BL")
 abbrev pub wide_branch_tokens : WideBranchRow → List Tok
-wide_branch_tokens (t16.Conditional i) = word (codes "b" ++ (condition_name i.c.value ++ wide)) ∷ []
+wide_branch_tokens (t16.Conditional i) = word (branch_mnemonic i.c.value ++ wide) ∷ []
 wide_branch_tokens (t16.Always i) = word (wide_branch_mnemonic i.name ++ wide_branch_suffix i.name) ∷ []
 
 -- T23: the tokens of LE and LETP before the label, `le lr,label`, `letp lr,label`, `le label` (DDI0553, "LE, LETP")

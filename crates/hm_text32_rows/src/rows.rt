@@ -467,7 +467,6 @@ fn scalar_text(i: &Scalar) -> InstrText
     ensures { text_tokens result ≡ scalar_tokens i.now }
 {
     match i {
-        _ => unreachable!(),
         Scalar::T1(i) => text_t1(i),
         Scalar::T2(i) => text_t2(i),
         Scalar::T3(i) => text_t3(i),
@@ -488,6 +487,7 @@ fn scalar_text(i: &Scalar) -> InstrText
         Scalar::T20(i) => text_t20(i),
         Scalar::T21(i) => text_t21(i),
         Scalar::T22(i) => text_t22(i),
+        _ => unreachable!(),
     }
 }
 

@@ -1,8 +1,9 @@
 -- Mnemonics: a mnemonic, and what stands behind the point; names.
-use Rattle.std.proofs.Common.{◌≡◌, ℕ, zero, suc, ◌<◌, ◌≤◌, Bool, true, false, eqb, ltb, List, [], ◌∷◌, ◌++◌, length, refl, sym, subst, inl, inr, arith}
-use Rattle.std.specs.Prelude.{◌&&◌, not}
+use Rattle.std.proofs.Common.{◌≡◌, ℕ, zero, suc, ◌<◌, ◌≤◌, Bool, true, false, eqb, ltb, List, [], ◌∷◌, ◌++◌, length, Option, Some, None}
+use Rattle.std.proofs.Common.{refl, sym, subst, ap, inl, inr, arith}
+use Rattle.std.specs.Prelude.{◌&&◌, is_none, not}
 use Rattle.std.specs.List.{list_all}
-use Rattle.std.proofs.lemmas.Bool.{agree_below, agree_below_at, cases_Bool, eqb-true, eqb-false, and_parts}
+use Rattle.std.proofs.lemmas.Bool.{agree_below, agree_below_at, cases_Bool, eqb-true, eqb-false, and_parts, false≢true}
 use Rattle.std.proofs.lemmas.Bool.Decides.{nat_tests}
 use Rattle.std.proofs.lemmas.List.{length-append}
 use Rattle.hm_text_base.specs.Spans.{span}
@@ -10,6 +11,7 @@ use Rattle.hm_tokens.specs.declared.token.Class.TheVariants as classes
 use Rattle.hm_tokens.specs.Names.{register_name, vector_name}
 use Rattle.hm_tokens.specs.Tokens.{word, is_digit, is_in, point}
 use Rattle.hm_tokens.proofs.Again.{IsToken}
+use Rattle.hm_text_rows.specs.Operands.{given_or}
 
 -- a fact of numbers, computed at each below n
 pub below_is : (f g : ℕ → ℕ) (n b : ℕ) → agree_below (λ k. eqb (f k) (g k)) (λ k. true) n ≡ true → b < n → f b ≡ g b
@@ -32,10 +34,21 @@ at_below P (suc n) b all lt =
       | inr e ↦ let ne = eqb-false b n e in at_below P n b all.1 (omega arith)
     ]
 
--- such a proof, and those after it
+-- a proof, and those after it
 infixr 20 ◌▹◌
 abbrev pub ◌▹◌ : {P Q : Type 0} → P → Q → P × Q
 proof ▹ others = (proof, others)
+
+-- WHAT MAY BE MISSING
+-- a number that is told as more than 0 is there
+pub there : (o : Option ℕ) (n : ℕ) → given_or o 0 ≡ n → 0 < n → o ≡ Some n
+there (Some m) n e some = ap (λ (k : ℕ). Some k) e
+there None n e some = absurd (omega (arith, e, some))
+
+-- and what a test tells to be missing is
+pub none_is : {A : Type 0} {o : Option A} → is_none o ≡ true → o ≡ None
+none_is {o = Some x} e = absurd (false≢true e)
+none_is {o = None} e = refl
 
 -- WORDS
 abbrev pub is_part : ℕ → Bool

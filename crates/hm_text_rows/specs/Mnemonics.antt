@@ -1,9 +1,10 @@
--- The mnemonics of names that rows of one halfword and of two share: of loads, stores and extensions.
-use Rattle.std.specs.Prelude.{ℕ, List, codes}
+-- The mnemonics that rows of one halfword and of two share: of loads, stores and extensions, and of B under a condition.
+use Rattle.std.specs.Prelude.{ℕ, List, ◌++◌, codes}
 use Rattle.hm_isa.specs.declared.narrow.AccessName.{AccessName}
 use Rattle.hm_isa.specs.declared.narrow.AccessName.TheVariants as access
 use Rattle.hm_isa.specs.declared.narrow.ExtendName.{ExtendName}
 use Rattle.hm_isa.specs.declared.narrow.ExtendName.TheVariants as extend
+use Rattle.hm_tokens.specs.Names.{condition_name}
 
 -- S11 and T9: the mnemonic of each name, SXTH, SXTB, UXTH and UXTB (DDI0553, "SXTH", "SXTB", "UXTH" and "UXTB")
 abbrev pub extend_mnemonic : ExtendName → List ℕ
@@ -23,3 +24,7 @@ access_mnemonic access.Ldr = codes "ldr"
 access_mnemonic access.Ldrh = codes "ldrh"
 access_mnemonic access.Ldrb = codes "ldrb"
 access_mnemonic access.Ldrsh = codes "ldrsh"
+
+-- S25 and T16: B under a condition, `beq` to `ble` (DDI0553, "B")
+abbrev pub branch_mnemonic : ℕ → List ℕ
+branch_mnemonic c = codes "b" ++ condition_name c

@@ -12,7 +12,7 @@ abbrev pub named : {A : Type 0} → (A → List ℕ) → List A → List ℕ →
 named mnemonic [] s = None
 named mnemonic (name ∷ names) s = if bytes_eq s (mnemonic name) then Some name else named mnemonic names s
 
--- the values of a bit that a letter of a mnemonic tells
+-- the values of a bit that a mnemonic tells
 abbrev pub bit_values : List ℕ
 bit_values = 0 ∷ 1 ∷ []
 

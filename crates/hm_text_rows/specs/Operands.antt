@@ -1,4 +1,4 @@
--- What a text gives numbers for, read carelessly: nothing is refused, since the row that is found is asked for its text.
+-- What a text gives numbers for, read without a refusal, since the row that is found is asked for its text.
 use Rattle.std.specs.Prelude.{ℕ, ◌+◌, ◌-◌, ◌^◌, min, Bool, true, false, List, [], ◌∷◌, length, get_or, Option, Some, None, ◌==◌, if◌then◌else◌}
 use Rattle.hm_tokens.specs.declared.marks.Mark.{Mark}
 use Rattle.hm_tokens.specs.declared.marks.Mark.TheVariants as marks

@@ -1,4 +1,4 @@
-//! What a text gives numbers for, read carelessly: nothing is refused, since the row that is found is asked for its text.
+//! What a text gives numbers for, read without a refusal, since the row that is found is asked for its text.
 
 ghost use Rattle.std.specs.Prelude.{◌≡◌, ◌≤◌, ℕ, List, bytes_eq, map};
 ghost use Rattle.hm_text_rows.specs.Operands.{added, back_in, before, bit_in, bits_of, braced, branch_condition_in, first_of, is_number, is_vector};

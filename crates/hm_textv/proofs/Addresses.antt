@@ -10,7 +10,7 @@ use Rattle.hm_text_rows.specs.Shapes.{back, indexed, inside, offset, q, r}
 use Rattle.hm_text_rows.proofs.Words.{◌▹◌, cut, is_name, is_mnemonic, word_q, word_r}
 use Rattle.hm_text_rows.proofs.Printed.{AreShort, is_read_back, short_bang, short_close, short_close_brace, short_comma, short_hash, short_minus}
 use Rattle.hm_text_rows.proofs.Printed.{short_open, short_open_brace, short_word}
-use Rattle.hm_textv_rows.specs.Rows.{access, at_offsets, registers, scale, turns}
+use Rattle.hm_textv_rows.specs.Rows.{access, at_offsets, interleaved_tokens, registers, scale}
 use Rattle.hm_textv_codes.proofs.Words.{value_q, value_r, vector_q, vector_r}
 use Rattle.hm_textv.proofs.Endings.{Suffix}
 use Rattle.hm_textv.proofs.Forms.{Operand, Reads, min_small, short_small}
@@ -137,7 +137,7 @@ short_pair d n w hd hn hw = (
 )
 
 pub reads_pair : (s f : List ℕ) (z d n w : ℕ) → is_mnemonic s ≡ true → Suffix f false 0 z → d < 7 → n < 16 → w < 2
-    → Reads (turns (s ++ f) 0 d (r n) w) s (given_access 0 z false false 1 1 w d (d + 1) n 0 0)
+    → Reads (interleaved_tokens (s ++ f) 0 d (r n) w) s (given_access 0 z false false 1 1 w d (d + 1) n 0 0)
 reads_pair s f z d n zero mnemonic g hd hn hw = record {
   asks = rw (cut s f mnemonic g.is, g.bare, g.sign, g.size, vector_r n hn, value_q d (omega arith), value_q (d + 1) (omega arith), value_r n hn) refl;
   prints = is_read_back s f _ mnemonic g.is (short_pair d n 0 hd hn hw) refl (omega arith);
@@ -171,7 +171,7 @@ short_quad d n w hd hn hw = (
 )
 
 pub reads_quad : (s f : List ℕ) (z d n w : ℕ) → is_mnemonic s ≡ true → Suffix f false 0 z → d < 5 → n < 16 → w < 2
-    → Reads (turns (s ++ f) 1 d (r n) w) s (given_access 0 z true false 1 1 w d (d + 1) (d + 2) (d + 3) n)
+    → Reads (interleaved_tokens (s ++ f) 1 d (r n) w) s (given_access 0 z true false 1 1 w d (d + 1) (d + 2) (d + 3) n)
 reads_quad s f z d n zero mnemonic g hd hn hw = record {
   asks = rw (
     cut s f mnemonic g.is,

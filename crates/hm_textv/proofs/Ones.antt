@@ -58,14 +58,15 @@ not_less x e = grind (arith, nat_tests)
 -- the size and the shift tell the field
 is_field : (name : ConstantShiftName) (x : ℕ) → x < 64 → has_size x ≡ true → shift_field name (constant_shift_size x) (constant_shift_amount name x) ≡ x
 is_field by_constant.Shr x lt e =
-    rw (not_less x e) at (below_is (λ k. cond (ltb k 8) k (shift_field by_constant.Shr (constant_shift_size k) (constant_shift_amount by_constant.Shr k))) (λ k. k) 64 x refl lt)
-is_field name x lt e = rw (not_less x e) at (below_is (λ k. cond (ltb k 8) k (shift_field name (constant_shift_size k) (constant_shift_amount name k))) (λ k. k) 64 x refl lt)
+    rw (not_less x e) at
+    (below_is (λ k. cond (ltb k 8) k (shift_field by_constant.Shr (constant_shift_size k) (constant_shift_amount by_constant.Shr k))) (λ k. k) 64 x refl lt)
+is_field name x lt e =
+    rw (not_less x e) at (below_is (λ k. cond (ltb k 8) k (shift_field name (constant_shift_size k) (constant_shift_amount name k))) (λ k. k) 64 x refl lt)
 
 asks_shift : (name : ConstantShiftName) (u z d m k x : ℕ) → shift_field name z k ≡ x
     → code_of (constant_shift_mnemonic name) (given false u z false d m k 0) ≡ Some (constant_shift_base name + u ↑ 28 + x ↑ 16 + d ↑ 13 + m ↑ 1)
 unfolding code_of
 asks_shift by_constant.Shr u z d m k x e = rw e (ap (λ (w : ℕ). Some w) (omega arith))
--- each name that is left
 asks_shift name u z d m k x e = rw e (ap (λ (w : ℕ). Some w) (omega arith))
 
 pub row_v11 : (i : V11) → Row (vector.V11 i)

@@ -11,7 +11,7 @@ use Rattle.hm_isa.specs.declared.vectors.DoublingName.{DoublingName}
 use Rattle.hm_isa.specs.declared.vectors.HighName.{HighName}
 use Rattle.hm_isa.specs.declared.vectors.CarryName.{CarryName}
 use Rattle.hm_isa.specs.declared.vectors.ComplexSumName.{ComplexSumName}
-use Rattle.hm_isa.specs.declared.vectors.ComplexSumName.TheVariants as turn
+use Rattle.hm_isa.specs.declared.vectors.ComplexSumName.TheVariants as complex_sum
 use Rattle.hm_isa.specs.declared.vectors.ScalarName.{ScalarName}
 use Rattle.hm_isa.specs.declared.vectors.ScalarName.TheVariants as by_scalar
 use Rattle.hm_isa.specs.declared.vectors.V1.{V1}
@@ -148,26 +148,27 @@ row_v8 i = row_of (vector.V8 i) _ _
     (a_vector i.n.value i.n.in_range) (a_vector i.m.value i.m.in_range)) (asks_carry i.name _ _ _)
 
 -- V9
-mnemonic_turn : (name : ComplexSumName) → is_mnemonic (complex_sum_mnemonic name) ≡ true
-mnemonic_turn name = grind arith
+mnemonic_complex_sum : (name : ComplexSumName) → is_mnemonic (complex_sum_mnemonic name) ≡ true
+mnemonic_complex_sum name = grind arith
 
-suffix_turn : (name : ComplexSumName) (z : ℕ) → z < 3 → Suffix (complex_sum_suffix name z) false 0 z
-suffix_turn turn.Cadd z lt = suffix_integer z lt
-suffix_turn turn.Hcadd z lt = suffix_signed z lt
+suffix_complex_sum : (name : ComplexSumName) (z : ℕ) → z < 3 → Suffix (complex_sum_suffix name z) false 0 z
+suffix_complex_sum complex_sum.Cadd z lt = suffix_integer z lt
+suffix_complex_sum complex_sum.Hcadd z lt = suffix_signed z lt
 
 angle_small : (t : ℕ) → t < 2 → cond (nat_eq t 0) 90 270 < 1000
 angle_small t lt = grind arith
 
-asks_turn : (name : ComplexSumName) (t z n d m : ℕ) → t < 2
+asks_complex_sum : (name : ComplexSumName) (t z n d m : ℕ) → t < 2
     → code_of (complex_sum_mnemonic name) (given false 0 z true d n m (cond (nat_eq t 0) 90 270))
     ≡ Some (complex_sum_base name + z ↑ 20 + t ↑ 12 + n ↑ 17 + d ↑ 13 + m ↑ 1)
 unfolding code_of
-asks_turn name t z n d m lt = grind arith
+asks_complex_sum name t z n d m lt = grind arith
 
 pub row_v9 : (i : V9) → Row (vector.V9 i)
 row_v9 i = row_of (vector.V9 i) _ _
-    (reads_three_constant _ _ _ _ _ _ _ _ _ _ _ _ _ _ _ (mnemonic_turn i.name) (suffix_turn i.name i.z.value i.z.in_range) (a_vector i.d.value i.d.in_range)
-    (a_vector i.n.value i.n.in_range) (a_vector i.m.value i.m.in_range) (angle_small i.t.value i.t.in_range)) (asks_turn i.name i.t.value _ _ _ _ i.t.in_range)
+    (reads_three_constant _ _ _ _ _ _ _ _ _ _ _ _ _ _ _ (mnemonic_complex_sum i.name) (suffix_complex_sum i.name i.z.value i.z.in_range)
+    (a_vector i.d.value i.d.in_range) (a_vector i.n.value i.n.in_range) (a_vector i.m.value i.m.in_range) (angle_small i.t.value i.t.in_range))
+    (asks_complex_sum i.name i.t.value _ _ _ _ i.t.in_range)
 
 -- V10
 mnemonic_scalar : (name : ScalarName) → is_mnemonic (scalar_mnemonic name) ≡ true

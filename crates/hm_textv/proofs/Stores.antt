@@ -13,7 +13,7 @@ use Rattle.hm_isa.specs.MemoryRules.{is_access, is_interleaved}
 use Rattle.hm_isa.specs.Standing.{◌↑◌}
 use Rattle.hm_textv_codes.specs.declared.operands.Operands.{Operands}
 use Rattle.hm_textv_codes.specs.Codes.{access_code, code_of, interleaved_code}
-use Rattle.hm_textv_rows.specs.Rows.{turns}
+use Rattle.hm_textv_rows.specs.Rows.{interleaved_tokens}
 use Rattle.hm_text_rows.specs.Shapes.{either, r}
 use Rattle.hm_text_rows.proofs.Words.{◌▹◌, at_below, below_holds, is_mnemonic}
 use Rattle.hm_textv_rows.specs.Mnemonics.{access_mnemonic, access_suffix, pair_mnemonic, plain, quad_mnemonic}
@@ -161,8 +161,8 @@ mnemonic_quad zero p hl hp = below_holds (λ k. is_mnemonic (quad_mnemonic 0 k))
 mnemonic_quad (suc zero) p hl hp = below_holds (λ k. is_mnemonic (quad_mnemonic 1 k)) 4 p refl hp
 mnemonic_quad (suc (suc l)) p hl hp = absurd (omega arith)
 
-abbrev turned : ℕ → ℕ → ℕ → ℕ → ℕ → ℕ → ℕ → ℕ
-turned f w l n d z p = 0xfc801e00 + w ↑ 21 + l ↑ 20 + n ↑ 16 + d ↑ 13 + z ↑ 7 + p ↑ 5 + f
+abbrev interleaved : ℕ → ℕ → ℕ → ℕ → ℕ → ℕ → ℕ → ℕ
+interleaved f w l n d z p = 0xfc801e00 + w ↑ 21 + l ↑ 20 + n ↑ 16 + d ↑ 13 + z ↑ 7 + p ↑ 5 + f
 
 abbrev AsksPair : Operands → ℕ → ℕ → Type 0
 AsksPair o l p = code_of (pair_mnemonic l p) o ≡ Some (interleaved_code 0 l p o.third o)
@@ -173,7 +173,7 @@ pair_code zero p z w a b n hl hp = at_below (AsksPair (given_access 0 z false fa
 pair_code (suc zero) p z w a b n hl hp = at_below (AsksPair (given_access 0 z false false 1 1 w a b n 0 0) 1) 2 p (refl ▹ refl ▹ tt) hp
 pair_code (suc (suc l)) p z w a b n hl hp = absurd (omega arith)
 
-asks_pair : (l p z w a b n : ℕ) → l < 2 → p < 2 → code_of (pair_mnemonic l p) (given_access 0 z false false 1 1 w a b n 0 0) ≡ Some (turned 0 w l n a z p)
+asks_pair : (l p z w a b n : ℕ) → l < 2 → p < 2 → code_of (pair_mnemonic l p) (given_access 0 z false false 1 1 w a b n 0 0) ≡ Some (interleaved 0 w l n a z p)
 asks_pair l p z w a b n hl hp = pair_code l p z w a b n hl hp ∙ ap (λ (c : ℕ). Some c) (omega arith)
 
 abbrev AsksQuad : Operands → ℕ → ℕ → Type 0
@@ -186,26 +186,26 @@ quad_code (suc zero) p z w a b c e n hl hp = at_below (AsksQuad (given_access 0 
 quad_code (suc (suc l)) p z w a b c e n hl hp = absurd (omega arith)
 
 asks_quad : (l p z w a b c e n : ℕ) → l < 2 → p < 4
-    → code_of (quad_mnemonic l p) (given_access 0 z true false 1 1 w a b c e n) ≡ Some (turned 1 w l n a z p)
+    → code_of (quad_mnemonic l p) (given_access 0 z true false 1 1 w a b c e n) ≡ Some (interleaved 1 w l n a z p)
 asks_quad l p z w a b c e n hl hp = quad_code l p z w a b c e n hl hp ∙ ap (λ (k : ℕ). Some k) (omega arith)
 
-turn_answers : (f l p z d n w : ℕ) → f < 2 → l < 2 → p < 4 → z < 3 → n < 16 → w < 2 → is_interleaved n d p f ≡ true
-    → Answers (turns (either f (pair_mnemonic l p) (quad_mnemonic l p) ++ plain z) f d (r n) w) (turned f w l n d z p)
-turn_answers zero l p z d n w hf hl hp hz hn hw e =
+interleaved_answers : (f l p z d n w : ℕ) → f < 2 → l < 2 → p < 4 → z < 3 → n < 16 → w < 2 → is_interleaved n d p f ≡ true
+    → Answers (interleaved_tokens (either f (pair_mnemonic l p) (quad_mnemonic l p) ++ plain z) f d (r n) w) (interleaved f w l n d z p)
+interleaved_answers zero l p z d n w hf hl hp hz hn hw e =
     let parts = and_parts (not (nat_eq n 15)) (nat_lt p 2 && nat_le d 6) e in
     let limits = and_parts (nat_lt p 2) (nat_le d 6) parts.1 in
     let few = less _ _ limits.0 in
     let two_fit : d < 7 = let h = no_more _ _ limits.1 in omega (arith, h) in
     answers_of _ _ (pair_mnemonic l p) _
     (reads_pair _ _ _ _ _ _ (mnemonic_pair l p hl few) (suffix_plain z (omega arith)) two_fit hn hw) (asks_pair l p z w d (d + 1) n hl few)
-turn_answers (suc zero) l p z d n w hf hl hp hz hn hw e =
+interleaved_answers (suc zero) l p z d n w hf hl hp hz hn hw e =
     let parts = and_parts (not (nat_eq n 15)) (nat_le d 4) e in
     let four_fit : d < 5 = let h = no_more _ _ parts.1 in omega (arith, h) in
     answers_of _ _ (quad_mnemonic l p) _
     (reads_quad _ _ _ _ _ _ (mnemonic_quad l p hl hp) (suffix_plain z (omega arith)) four_fit hn hw) (asks_quad l p z w d (d + 1) (d + 2) (d + 3) n hl hp)
-turn_answers (suc (suc f)) l p z d n w hf hl hp hz hn hw e = absurd (omega arith)
+interleaved_answers (suc (suc f)) l p z d n w hf hl hp hz hn hw e = absurd (omega arith)
 
 pub row_v28 : (i : V28) → Row (vector.V28 i)
 row_v28 i =
-    turn_answers i.f.value i.l.value i.p.value i.z.value i.d.value i.n.value i.w.value i.f.in_range i.l.in_range i.p.in_range i.z.in_range i.n.in_range
+    interleaved_answers i.f.value i.l.value i.p.value i.z.value i.d.value i.n.value i.w.value i.f.in_range i.l.in_range i.p.in_range i.z.in_range i.n.in_range
     i.w.in_range i.rule

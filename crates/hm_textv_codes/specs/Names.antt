@@ -15,7 +15,7 @@ use Rattle.hm_isa.specs.declared.vectors.HighName.TheVariants as high
 use Rattle.hm_isa.specs.declared.vectors.CarryName.{CarryName}
 use Rattle.hm_isa.specs.declared.vectors.CarryName.TheVariants as carry
 use Rattle.hm_isa.specs.declared.vectors.ComplexSumName.{ComplexSumName}
-use Rattle.hm_isa.specs.declared.vectors.ComplexSumName.TheVariants as turn
+use Rattle.hm_isa.specs.declared.vectors.ComplexSumName.TheVariants as complex_sum
 use Rattle.hm_isa.specs.declared.vectors.ScalarName.{ScalarName}
 use Rattle.hm_isa.specs.declared.vectors.ScalarName.TheVariants as by_scalar
 use Rattle.hm_isa.specs.declared.vectors.ConstantShiftName.{ConstantShiftName}
@@ -64,7 +64,7 @@ carry_names = carry.Adc ∷ carry.Adci ∷ carry.Sbc ∷ carry.Sbci ∷ []
 
 -- V9: VCADD and VHCADD
 abbrev pub complex_sum_names : List ComplexSumName
-complex_sum_names = turn.Cadd ∷ turn.Hcadd ∷ []
+complex_sum_names = complex_sum.Cadd ∷ complex_sum.Hcadd ∷ []
 
 -- V10: VADD, VSUB, VMUL, VHADD, VHSUB, VQADD, VQSUB, VQDMULH, VQRDMULH, VMLA and VMLAS
 abbrev pub scalar_names : List ScalarName
@@ -97,7 +97,7 @@ extreme_names = extreme.Max ∷ extreme.Min ∷ []
 abbrev pub masks : List ℕ
 masks = 0 ∷ 1 ∷ 2 ∷ 3 ∷ 4 ∷ 5 ∷ 6 ∷ 7 ∷ 8 ∷ 9 ∷ 10 ∷ 11 ∷ 12 ∷ 13 ∷ 14 ∷ 15 ∷ []
 
--- V15: VMOV, VMVN, VORR and VBIC as 0 to 3: bit 0 is op, and bit 1 is 1 where the immediate is merged
+-- V15: VMOV, VMVN, VORR and VBIC as 0 to 3: bit 0 is 1 for VMVN and VBIC, and bit 1 is 1 where the immediate is merged
 abbrev pub constant_in : List ℕ → Option ℕ
 constant_in s = named (λ (k : ℕ). either (k / 2) (constant_move_mnemonic (k % 2)) (constant_merge_mnemonic (k % 2))) (0 ∷ 1 ∷ 2 ∷ 3 ∷ []) s
 

@@ -1,29 +1,28 @@
--- What a text gives numbers for, read carelessly: nothing is refused, since the row that is found is asked for its text.
-use Rattle.std.specs.Prelude.{ℕ, List, length, get_or, codes, bytes_eq, ◌==◌, if◌then◌else◌}
+-- What a text gives numbers for, read without a refusal, since the row that is found is asked for its text.
+use Rattle.std.specs.Prelude.{ℕ, List, [], ◌∷◌, Option, length, get_or, codes, bytes_eq, ◌==◌, if◌then◌else◌}
 use Rattle.hm_tokens.specs.declared.marks.Mark.TheVariants as marks
 use Rattle.hm_tokens.specs.Names.{register_in, vector_in}
 use Rattle.hm_tokens.specs.Tokens.{Tok}
+use Rattle.hm_text_rows.specs.Names.{named}
 use Rattle.hm_text_rows.specs.Operands.{added, back_in, before, given_or, is_vector, operand, size_of, token_behind, value_by}
+use Rattle.hm_textv_rows.specs.Mnemonics.{compare_condition}
 use Rattle.hm_textv_codes.specs.declared.operands.Operands.{Operands}
 
--- a condition of a comparison, zero, a shift that brings in ones, and an offset that is scaled
+-- the number of the condition of a comparison that a word names
+abbrev pub compare_condition_in : List ℕ → Option ℕ
+compare_condition_in w = named compare_condition (0 ∷ 1 ∷ 2 ∷ 3 ∷ 4 ∷ 5 ∷ 6 ∷ 7 ∷ []) w
+
+-- zero, a shift that brings in ones, and an offset that is scaled
 abbrev pub other_value : List ℕ → ℕ
 other_value w =
-    if bytes_eq w (codes "ne") then 1
-    else if bytes_eq w (codes "cs") then 2
-    else if bytes_eq w (codes "hi") then 3
-    else if bytes_eq w (codes "ge") then 4
-    else if bytes_eq w (codes "lt") then 5
-    else if bytes_eq w (codes "gt") then 6
-    else if bytes_eq w (codes "le") then 7
-    else if bytes_eq w (codes "zr") then 15
+    if bytes_eq w (codes "zr") then 15
     else if bytes_eq w (codes "msl") then 1
     else if bytes_eq w (codes "uxtw") then 1
     else 0
 
--- the number that a word stands for: of a vector, else of a core register, else of another word
+-- the number that a word stands for: of a vector, else of a core register, else of a condition, else of another word
 unfoldable pub word_value : List ℕ → ℕ
-word_value w = given_or (vector_in w) (given_or (register_in w) (other_value w))
+word_value w = given_or (vector_in w) (given_or (register_in w) (given_or (compare_condition_in w) (other_value w)))
 
 -- the number that a token stands for
 abbrev pub value : Tok → ℕ

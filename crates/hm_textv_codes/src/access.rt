@@ -1,8 +1,8 @@
-//! The codes that texts of loads and stores carelessly ask for.
+//! The candidate codes of texts of loads and stores.
 
 ghost use Rattle.std.specs.Prelude.{◌≡◌, ◌<◌, ◌^◌};
-ghost use Rattle.hm_textv_codes.specs.Codes.{access_code, addresses_code, code_access, code_of_memory, code_pair, code_quad, index_code, of_access};
-ghost use Rattle.hm_textv_codes.specs.Codes.{offset_code, offsets_code, interleaved_code};
+ghost use Rattle.hm_textv_codes.specs.Codes.{access_code, addresses_code, code_access, code_of_memory, code_pair, code_quad, index_code, interleaved_code};
+ghost use Rattle.hm_textv_codes.specs.Codes.{of_access, offset_code, offsets_code};
 
 use crate::names::{access_in, pair_in, quad_in};
 use crate::operands::Operands;

@@ -1,13 +1,12 @@
-//! The code that a text carelessly asks for: what decides is whether the row that has this code has the text.
+//! The candidate code of a text: whether the row of this code has the text is asked later.
 
 ghost use Rattle.std.specs.Prelude.{◌≡◌, ◌<◌, ◌^◌, map};
 ghost use Rattle.hm_isa.specs.Code.{mask_code};
-ghost use Rattle.hm_textv_codes.specs.Codes.{bare_code, bits_in, code_alone, code_cut, code_block, code_carry, code_compare, code_constant, code_dot};
-ghost use Rattle.hm_textv_codes.specs.Codes.{code_extreme, code_in, code_long, code_long_dot, code_long_sum, code_narrow, code_of, code_of_one};
+ghost use Rattle.hm_textv_codes.specs.Codes.{bare_code, bits_in, code_alone, code_block, code_carry, code_compare, code_complex_sum, code_constant, code_cut};
+ghost use Rattle.hm_textv_codes.specs.Codes.{code_dot, code_extreme, code_in, code_long, code_long_dot, code_long_sum, code_narrow, code_of, code_of_one};
 ghost use Rattle.hm_textv_codes.specs.Codes.{code_of_other, code_of_pair, code_of_sum, code_offsets, code_scalar, code_shift, code_single, code_sum};
-ghost use Rattle.hm_textv_codes.specs.Codes.{code_three, code_complex_sum, code_vector_shift, code_wrapped, compare_code, constant_code, constant_mode};
-ghost use Rattle.hm_textv_codes.specs.Codes.{constant_operation, element_in, long_code, of_core, of_one, of_vectors, shift_field, single_base, step_in};
-ghost use Rattle.hm_textv_codes.specs.Codes.{three_base};
+ghost use Rattle.hm_textv_codes.specs.Codes.{code_three, code_vector_shift, code_wrapped, compare_code, constant_code, constant_mode, constant_operation};
+ghost use Rattle.hm_textv_codes.specs.Codes.{element_in, long_code, of_core, of_one, of_vectors, shift_field, single_base, step_in, three_base};
 ghost use Rattle.hm_text_base.specs.Spans.{span};
 ghost use Rattle.hm_tokens.specs.Tokens.{point, tok};
 
@@ -596,7 +595,7 @@ fn code_of_first_word(word: &[u8], tokens: &[Token<'_>]) -> Option<u64>
     code_of(mnemonic, &read_operands(suffix, tokens))
 }
 
-/// The code that tokens ask for, read carelessly: that of the row with these tokens, where there is one; else any number, or None.
+/// The candidate code of tokens: that of the row with these tokens, where there is one; else any number, or None.
 pub fn code_in(tokens: &[Token<'_>]) -> Option<u64>
     ensures value { result ≡ code_in (map tok tokens.now) }
 {

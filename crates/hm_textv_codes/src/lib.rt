@@ -1,4 +1,4 @@
-//! The code that a text of a vector row carelessly asks for: what decides is whether the row that has this code has the text.
+//! The candidate code of a text of a vector row: whether the row of this code has the text is asked later.
 #![tactic(auto)]
 
 mod access;

@@ -198,12 +198,12 @@ pub fn reverse_name(mnemonic: &[u8]) -> Option<ReverseName>
     named(names, mnemonic)
 }
 
-/// VMOV, VMVN, VORR and VBIC of a row V15 as 0 to 3: bit 0 is op, and bit 1 is 1 where the immediate is merged.
+/// VMOV, VMVN, VORR and VBIC of a row V15 as 0 to 3: bit 0 is 1 for VMVN and VBIC, and bit 1 is 1 where the immediate is merged.
 pub fn constant_in(mnemonic: &[u8]) -> Option<u32>
     ensures { result ≡ constant_in mnemonic.now }
 {
-    let names = &[(0, "vmov"), (1, "vmvn"), (2, "vorr"), (3, "vbic")];
-    named(names, mnemonic)
+    let numbers = &[(0, "vmov"), (1, "vmvn"), (2, "vorr"), (3, "vbic")];
+    named(numbers, mnemonic)
 }
 
 /// The name and the part of a row V16.
@@ -332,7 +332,7 @@ pub fn access_in(mnemonic: &[u8]) -> Option<(u32, u32)>
     ensures value { result ≡ access_in mnemonic.now }
     ensures small { IfSome result (λ p. p.1 < 3) }
 {
-    let names = &[
+    let accesses = &[
         ((0, 0), "vstrb"),
         ((0, 1), "vstrh"),
         ((0, 2), "vstrw"),
@@ -340,27 +340,27 @@ pub fn access_in(mnemonic: &[u8]) -> Option<(u32, u32)>
         ((1, 1), "vldrh"),
         ((1, 2), "vldrw"),
     ];
-    named(names, mnemonic)
+    named(accesses, mnemonic)
 }
 
 /// Of a row V28 of two registers, 1 for a load and 0 for a store, and its part.
 pub fn pair_in(mnemonic: &[u8]) -> Option<(u32, u32)>
     ensures { result ≡ pair_in mnemonic.now }
 {
-    let names = &[
+    let parts = &[
         ((0, 0), "vst20"),
         ((0, 1), "vst21"),
         ((1, 0), "vld20"),
         ((1, 1), "vld21"),
     ];
-    named(names, mnemonic)
+    named(parts, mnemonic)
 }
 
 /// Of a row V28 of four registers, 1 for a load and 0 for a store, and its part.
 pub fn quad_in(mnemonic: &[u8]) -> Option<(u32, u32)>
     ensures { result ≡ quad_in mnemonic.now }
 {
-    let names = &[
+    let parts = &[
         ((0, 0), "vst40"),
         ((0, 1), "vst41"),
         ((0, 2), "vst42"),
@@ -370,5 +370,5 @@ pub fn quad_in(mnemonic: &[u8]) -> Option<(u32, u32)>
         ((1, 2), "vld42"),
         ((1, 3), "vld43"),
     ];
-    named(names, mnemonic)
+    named(parts, mnemonic)
 }

@@ -1,10 +1,12 @@
-//! What a text gives numbers for, read carelessly: nothing is refused, since the row that is found is asked for its text.
+//! What a text gives numbers for, read without a refusal, since the row that is found is asked for its text.
 
 ghost use Rattle.std.specs.Prelude.{◌≡◌, map};
-ghost use Rattle.hm_textv_codes.specs.Operands.{other_value, read_operands, sign_of, value, word_value};
+ghost use Rattle.hm_textv_codes.specs.Operands.{compare_condition_in, other_value, read_operands, sign_of, value, word_value};
 ghost use Rattle.hm_tokens.specs.Tokens.{tok};
 
-use hm_text_rows::{added, back_in, before, is_vector, operand, size_of, token_behind, value_by};
+use hm_text_rows::{
+    added, back_in, before, is_vector, named, operand, size_of, token_behind, value_by,
+};
 use hm_tokens::{Mark, Token, read_register, read_vector};
 
 /// What stands behind a mnemonic, as numbers.
@@ -33,18 +35,28 @@ pub struct Operands {
     pub is_at_vector: bool,
 }
 
-/// The number of a condition of a comparison, of zero, of a shift that brings in ones, and of an offset that is scaled.
+/// The number of the condition of a comparison that a word names.
+fn read_compare_condition(name: &[u8]) -> Option<u32>
+    ensures { result ≡ compare_condition_in name.now }
+{
+    let conditions = &[
+        (0, "eq"),
+        (1, "ne"),
+        (2, "cs"),
+        (3, "hi"),
+        (4, "ge"),
+        (5, "lt"),
+        (6, "gt"),
+        (7, "le"),
+    ];
+    named(conditions, name)
+}
+
+/// The number of zero, of a shift that brings in ones, and of an offset that is scaled.
 fn other_value(name: &[u8]) -> u32
     ensures { result ≡ other_value name.now }
 {
     match name {
-        b"ne" => 1,
-        b"cs" => 2,
-        b"hi" => 3,
-        b"ge" => 4,
-        b"lt" => 5,
-        b"gt" => 6,
-        b"le" => 7,
         b"zr" => 15,
         b"msl" => 1,
         b"uxtw" => 1,
@@ -61,6 +73,9 @@ fn word_value(name: &[u8]) -> u32
         return n;
     }
     if let Some(n) = read_register(name) {
+        return n;
+    }
+    if let Some(n) = read_compare_condition(name) {
         return n;
     }
     other_value(name)

@@ -15,7 +15,7 @@ use Rattle.hm_isa.specs.declared.vectors.HighName.TheVariants as high
 use Rattle.hm_isa.specs.declared.vectors.CarryName.{CarryName}
 use Rattle.hm_isa.specs.declared.vectors.CarryName.TheVariants as carry
 use Rattle.hm_isa.specs.declared.vectors.ComplexSumName.{ComplexSumName}
-use Rattle.hm_isa.specs.declared.vectors.ComplexSumName.TheVariants as turn
+use Rattle.hm_isa.specs.declared.vectors.ComplexSumName.TheVariants as complex_sum
 use Rattle.hm_isa.specs.declared.vectors.ScalarName.{ScalarName}
 use Rattle.hm_isa.specs.declared.vectors.ScalarName.TheVariants as by_scalar
 use Rattle.hm_isa.specs.declared.vectors.ConstantShiftName.{ConstantShiftName}
@@ -121,8 +121,8 @@ carry_mnemonic carry.Sbci = codes "vsbci"
 
 -- V9: the mnemonic of each name, VCADD and VHCADD (DDI0553, "VCADD" and "VHCADD")
 abbrev pub complex_sum_mnemonic : ComplexSumName → List ℕ
-complex_sum_mnemonic turn.Cadd = codes "vcadd"
-complex_sum_mnemonic turn.Hcadd = codes "vhcadd"
+complex_sum_mnemonic complex_sum.Cadd = codes "vcadd"
+complex_sum_mnemonic complex_sum.Hcadd = codes "vhcadd"
 
 -- V10: the mnemonic of each name, VADD, VSUB, VMUL, VHADD, VHSUB, VQADD, VQSUB, VQDMULH, VQRDMULH, VMLA and VMLAS
 -- (DDI0553, the sections named at the type V10)
@@ -172,7 +172,7 @@ reverse_mnemonic reverse_.Rev64 = codes "vrev64"
 reverse_mnemonic reverse_.Rev32 = codes "vrev32"
 reverse_mnemonic reverse_.Rev16 = codes "vrev16"
 
--- V15: VMOV, or VMVN where op is 1 (DDI0553, "VMOV (immediate)" and "VMVN (immediate)")
+-- V15: VMOV, or VMVN where op is 1, but for elements of 64 bits (DDI0553, "VMOV (immediate)" and "VMVN (immediate)")
 abbrev pub constant_move_mnemonic : ℕ → List ℕ
 constant_move_mnemonic op = either op (codes "vmov") (codes "vmvn")
 
@@ -248,8 +248,8 @@ quad_mnemonic l p =
 -- WHAT STANDS BEHIND THE POINT, BY NAME
 -- V9: VCADD is of integers, and VHCADD of signed ones (DDI0553, "VCADD" and "VHCADD")
 abbrev pub complex_sum_suffix : ComplexSumName → ℕ → List ℕ
-complex_sum_suffix turn.Cadd z = integer z
-complex_sum_suffix turn.Hcadd z = signed z
+complex_sum_suffix complex_sum.Cadd z = integer z
+complex_sum_suffix complex_sum.Hcadd z = signed z
 
 -- V10: VADD, VSUB and VMUL are of integers, VQDMULH and VQRDMULH of signed ones, and the others of either sign
 -- (DDI0553, the sections named at the type V10)

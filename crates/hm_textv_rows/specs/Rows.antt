@@ -1,6 +1,5 @@
 -- The text of each vector row, as tokens.
-use Rattle.std.specs.Prelude.{◌≡◌, ◌⊎◌, ℕ, ◌+◌, ◌-◌, ◌*◌, ◌^◌, Bool, cond, List, [], ◌∷◌, ◌++◌, get_or, codes, nat_eq, nat_lt, Option, Some, None}
-use Rattle.std.specs.Prelude.{if◌then◌else◌}
+use Rattle.std.specs.Prelude.{◌≡◌, ◌⊎◌, ℕ, ◌+◌, ◌*◌, ◌^◌, Bool, cond, List, [], ◌∷◌, ◌++◌, get_or, codes, nat_eq, Option, Some, None, if◌then◌else◌}
 use Rattle.hm_isa.specs.declared.Vector.{Vector}
 use Rattle.hm_isa.specs.declared.Vector.TheVariants.{V1, V2, V3, V4, V5, V6, V7, V8, V9, V10, V11, V12, V13, V14, V15, V16, V17, V18, V19, V20, V21, V22, V23}
 use Rattle.hm_isa.specs.declared.Vector.TheVariants.{V24, V25, V26, V27, V28}
@@ -26,12 +25,12 @@ use Rattle.hm_tokens.specs.Tokens.{Tok, word, close_brace, close_bracket, comma,
 use Rattle.hm_text_rows.specs.Shapes.{and_constant, back, constant, either, four, indexed, inside, or_zero, q, r, three, two}
 use Rattle.hm_textv_rows.specs.Mnemonics.{access_mnemonic, access_suffix, add_mnemonic, bitwise_mnemonic, block_letters, block_mnemonic, block_word}
 use Rattle.hm_textv_rows.specs.Mnemonics.{by_sign, carry_mnemonic, compare_condition, compare_suffix, compare_word, complex_sum_mnemonic}
-use Rattle.hm_textv_rows.specs.Mnemonics.{complex_sum_suffix, constant_shift_mnemonic, constant_shift_suffix, dot_mnemonic, doubling_mnemonic}
+use Rattle.hm_textv_rows.specs.Mnemonics.{complex_sum_suffix, constant_merge_mnemonic, constant_move_mnemonic, constant_shift_mnemonic}
+use Rattle.hm_textv_rows.specs.Mnemonics.{constant_shift_suffix, dot_mnemonic, doubling_mnemonic}
 use Rattle.hm_textv_rows.specs.Mnemonics.{extreme_mnemonic, high_mnemonic, integer, long_dot_mnemonic, long_move_mnemonic, long_product_mnemonic}
 use Rattle.hm_textv_rows.specs.Mnemonics.{long_shift_mnemonic, long_sum_mnemonic, narrow_mnemonic, narrow_suffix, offsets_mnemonic, one_mnemonic, one_suffix}
 use Rattle.hm_textv_rows.specs.Mnemonics.{other_dot_mnemonic, pair_mnemonic, plain, quad_mnemonic, reverse_mnemonic, scalar_mnemonic, scalar_suffix}
 use Rattle.hm_textv_rows.specs.Mnemonics.{signed, signed_mnemonic, size_number, sum_mnemonic, unsigned, vector_shift_mnemonic, wrapped_mnemonic}
-use Rattle.hm_textv_rows.specs.Mnemonics.{constant_merge_mnemonic, constant_move_mnemonic}
 
 -- ROWS
 -- V11: the tokens of a shift by a constant, VSHR, VRSHR, VQSHL, VQSHLU, VSHL, VSRI and VSLI
@@ -151,8 +150,8 @@ registers f d =
     (open_brace ∷ q d ∷ comma ∷ q (d + 1) ∷ comma ∷ q (d + 2) ∷ comma ∷ q (d + 3) ∷ close_brace ∷ [])
 
 -- V28: the tokens of a part of VLD2, VLD4, VST2 and VST4, with `!` where the base is written back (DDI0553, "VLD2", "VLD4", "VST2" and "VST4")
-abbrev pub turns : List ℕ → ℕ → ℕ → Tok → ℕ → List Tok
-turns name f d base w = word name ∷ (registers f d ++ comma ∷ open_bracket ∷ base ∷ close_bracket ∷ back w)
+abbrev pub interleaved_tokens : List ℕ → ℕ → ℕ → Tok → ℕ → List Tok
+interleaved_tokens name f d base w = word name ∷ (registers f d ++ comma ∷ open_bracket ∷ base ∷ close_bracket ∷ back w)
 
 -- the tokens of each row as it is printed
 abbrev pub tokens_of : Vector → List Tok
@@ -192,8 +191,8 @@ tokens_of (V26 i) =
 tokens_of (V27 i) =
     access (access_mnemonic i.l.value 2 ++ access_suffix i.l.value 1 2) i.d.value (inside i.a.value i.w.value (q i.m.value) (4 * i.i.value))
 tokens_of (V28 i) =
-    turns (either i.f.value (pair_mnemonic i.l.value i.p.value) (quad_mnemonic i.l.value i.p.value) ++ plain i.z.value) i.f.value i.d.value (r i.n.value)
-    i.w.value
+    interleaved_tokens (either i.f.value (pair_mnemonic i.l.value i.p.value) (quad_mnemonic i.l.value i.p.value) ++ plain i.z.value) i.f.value i.d.value
+    (r i.n.value) i.w.value
 
 -- V2: the other text of VORR of a register with itself, VMOV (DDI0553, "VORR")
 abbrev pub other_bitwise : BitwiseName → Bool → ℕ → ℕ → Option (List Tok)

@@ -1,10 +1,11 @@
 //! The mnemonics of vector rows.
 
 ghost use Rattle.std.specs.Prelude.{◌≡◌, ◌<◌};
-ghost use Rattle.hm_textv_rows.specs.Mnemonics.{add_mnemonic, bitwise_mnemonic, carry_mnemonic, constant_shift_mnemonic, doubling_mnemonic, extreme_mnemonic};
-ghost use Rattle.hm_textv_rows.specs.Mnemonics.{high_mnemonic, offsets_mnemonic, one_mnemonic, reverse_mnemonic, scalar_mnemonic, signed_mnemonic};
-ghost use Rattle.hm_textv_rows.specs.Mnemonics.{complex_sum_mnemonic, vector_shift_mnemonic, wrapped_mnemonic, narrow_mnemonic, block_letters};
-ghost use Rattle.hm_textv_rows.specs.Mnemonics.{compare_condition, access_mnemonic, pair_mnemonic, quad_mnemonic};
+ghost use Rattle.hm_textv_rows.specs.Mnemonics.{access_mnemonic, add_mnemonic, bitwise_mnemonic, block_letters, carry_mnemonic, compare_condition};
+ghost use Rattle.hm_textv_rows.specs.Mnemonics.{complex_sum_mnemonic, constant_merge_mnemonic, constant_move_mnemonic, constant_shift_mnemonic};
+ghost use Rattle.hm_textv_rows.specs.Mnemonics.{doubling_mnemonic, extreme_mnemonic, high_mnemonic, narrow_mnemonic, offsets_mnemonic, one_mnemonic};
+ghost use Rattle.hm_textv_rows.specs.Mnemonics.{pair_mnemonic, quad_mnemonic, reverse_mnemonic, scalar_mnemonic, signed_mnemonic, vector_shift_mnemonic};
+ghost use Rattle.hm_textv_rows.specs.Mnemonics.{wrapped_mnemonic};
 
 use hm_isa::{
     AddName, Below, Bit, BitwiseName, CarryName, ComplexSumName, ConstantShiftName, DoublingName,
@@ -193,6 +194,20 @@ pub fn extreme_mnemonic(name: ExtremeName) -> &'static str
         ExtremeName::Max => "vmaxv",
         ExtremeName::Min => "vminv",
     }
+}
+
+/// The mnemonic of a row V15 that moves its constant, but for elements of 64 bits.
+pub fn constant_move_mnemonic(op: Bit) -> &'static str
+    ensures { result.now ≡ constant_move_mnemonic op.value }
+{
+    if op.get() == 0 { "vmov" } else { "vmvn" }
+}
+
+/// The mnemonic of a row V15 that merges its constant.
+pub fn constant_merge_mnemonic(op: Bit) -> &'static str
+    ensures { result.now ≡ constant_merge_mnemonic op.value }
+{
+    if op.get() == 0 { "vorr" } else { "vbic" }
 }
 
 /// The mnemonic of a row V16: with b for the lower part of each wide element, or t for the upper.

@@ -1,19 +1,20 @@
 //! The text of each vector row.
 
-ghost use Rattle.std.specs.Prelude.{◌≡◌, ◌≤◌, ◌<◌, ◌+◌, ◌*◌, ◌^◌, ◌++◌};
+ghost use Rattle.std.specs.Prelude.{◌≡◌, ◌++◌};
 ghost use Rattle.hm_isa.specs.declared.Vector.TheVariants as vector;
 ghost use Rattle.hm_textv_rows.specs.Rows.{compare_first_word, long_part, shifted, tokens_of};
 ghost use Rattle.hm_text_rows.specs.Shapes.{either, q, three};
-ghost use Rattle.hm_textv_rows.specs.Mnemonics.{compare_condition, constant_merge_mnemonic, constant_move_mnemonic, long_move_mnemonic, long_shift_mnemonic};
+ghost use Rattle.hm_textv_rows.specs.Mnemonics.{compare_condition, long_move_mnemonic, long_shift_mnemonic};
 ghost use Rattle.hm_tokens.specs.Texts.{part_token, text_tokens};
 ghost use Rattle.hm_tokens.specs.Tokens.{word};
 
 use crate::memory::{text_v24, text_v25, text_v26, text_v27, text_v28};
 use crate::mnemonics::{
     add_mnemonic, bitwise_mnemonic, block_letters, carry_mnemonic, compare_condition,
-    complex_sum_mnemonic, constant_shift_mnemonic, doubling_mnemonic, extreme_mnemonic,
-    high_mnemonic, narrow_mnemonic, offsets_mnemonic, one_mnemonic, reverse_mnemonic,
-    scalar_mnemonic, signed_mnemonic, vector_shift_mnemonic, wrapped_mnemonic,
+    complex_sum_mnemonic, constant_merge_mnemonic, constant_move_mnemonic, constant_shift_mnemonic,
+    doubling_mnemonic, extreme_mnemonic, high_mnemonic, narrow_mnemonic, offsets_mnemonic,
+    one_mnemonic, reverse_mnemonic, scalar_mnemonic, signed_mnemonic, vector_shift_mnemonic,
+    wrapped_mnemonic,
 };
 use crate::suffixes::{
     by_sign, compare_suffix, complex_sum_suffix, constant_shift_suffix, integer, narrow_suffix,
@@ -358,20 +359,6 @@ fn text_v22(i: &V22) -> InstrText
     }
 }
 
-/// `vmov` or `vmvn`.
-fn moved_constant(op: Bit) -> &'static str
-    ensures { result.now ≡ constant_move_mnemonic op.value }
-{
-    if op.get() == 0 { "vmov" } else { "vmvn" }
-}
-
-/// `vorr` or `vbic`.
-fn merged_constant(op: Bit) -> &'static str
-    ensures { result.now ≡ constant_merge_mnemonic op.value }
-{
-    if op.get() == 0 { "vorr" } else { "vbic" }
-}
-
 /// A mnemonic, a vector register, and a constant that is shifted.
 fn shifted(
     mnemonic: &'static str,
@@ -398,20 +385,20 @@ fn text_v15(i: &V15) -> InstrText
 {
     let x = 128 * i.i.get() + 16 * i.i3.get() + i.i4.get();
     match i.cm.get() {
-        0 => shifted(moved_constant(i.op), ".i32", "lsl", 0, i.d, x),
-        1 => shifted(merged_constant(i.op), ".i32", "lsl", 0, i.d, x),
-        2 => shifted(moved_constant(i.op), ".i32", "lsl", 8, i.d, x),
-        3 => shifted(merged_constant(i.op), ".i32", "lsl", 8, i.d, x),
-        4 => shifted(moved_constant(i.op), ".i32", "lsl", 16, i.d, x),
-        5 => shifted(merged_constant(i.op), ".i32", "lsl", 16, i.d, x),
-        6 => shifted(moved_constant(i.op), ".i32", "lsl", 24, i.d, x),
-        7 => shifted(merged_constant(i.op), ".i32", "lsl", 24, i.d, x),
-        8 => shifted(moved_constant(i.op), ".i16", "lsl", 0, i.d, x),
-        9 => shifted(merged_constant(i.op), ".i16", "lsl", 0, i.d, x),
-        10 => shifted(moved_constant(i.op), ".i16", "lsl", 8, i.d, x),
-        11 => shifted(merged_constant(i.op), ".i16", "lsl", 8, i.d, x),
-        12 => shifted(moved_constant(i.op), ".i32", "msl", 8, i.d, x),
-        13 => shifted(moved_constant(i.op), ".i32", "msl", 16, i.d, x),
+        0 => shifted(constant_move_mnemonic(i.op), ".i32", "lsl", 0, i.d, x),
+        1 => shifted(constant_merge_mnemonic(i.op), ".i32", "lsl", 0, i.d, x),
+        2 => shifted(constant_move_mnemonic(i.op), ".i32", "lsl", 8, i.d, x),
+        3 => shifted(constant_merge_mnemonic(i.op), ".i32", "lsl", 8, i.d, x),
+        4 => shifted(constant_move_mnemonic(i.op), ".i32", "lsl", 16, i.d, x),
+        5 => shifted(constant_merge_mnemonic(i.op), ".i32", "lsl", 16, i.d, x),
+        6 => shifted(constant_move_mnemonic(i.op), ".i32", "lsl", 24, i.d, x),
+        7 => shifted(constant_merge_mnemonic(i.op), ".i32", "lsl", 24, i.d, x),
+        8 => shifted(constant_move_mnemonic(i.op), ".i16", "lsl", 0, i.d, x),
+        9 => shifted(constant_merge_mnemonic(i.op), ".i16", "lsl", 0, i.d, x),
+        10 => shifted(constant_move_mnemonic(i.op), ".i16", "lsl", 8, i.d, x),
+        11 => shifted(constant_merge_mnemonic(i.op), ".i16", "lsl", 8, i.d, x),
+        12 => shifted(constant_move_mnemonic(i.op), ".i32", "msl", 8, i.d, x),
+        13 => shifted(constant_move_mnemonic(i.op), ".i32", "msl", 16, i.d, x),
         _ => and_constant(
             one("vmov", if i.op.get() == 0 { ".i8" } else { ".i64" }, q(i.d)),
             x,
