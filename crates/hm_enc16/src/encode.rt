@@ -366,7 +366,11 @@ pub fn scalar_code(s: &Scalar) -> u16
         Scalar::S19(r) => encode_s19(r),
         Scalar::S20(r) => encode_s20(r),
         Scalar::S21(r) => encode_s21(r),
-        _ => unreachable!(),
+        Scalar::T1(_) | Scalar::T2(_) | Scalar::T3(_) | Scalar::T4(_) => unreachable!(),
+        Scalar::T5(_) | Scalar::T6(_) | Scalar::T7(_) | Scalar::T8(_) => unreachable!(),
+        Scalar::T9(_) | Scalar::T10(_) | Scalar::T11(_) | Scalar::T12(_) => unreachable!(),
+        Scalar::T13(_) | Scalar::T14(_) | Scalar::T15(_) | Scalar::T18(_) => unreachable!(),
+        Scalar::T19(_) | Scalar::T20(_) | Scalar::T21(_) | Scalar::T22(_) => unreachable!(),
     }
 }
 
