@@ -3,6 +3,7 @@
 use Rattle.std.proofs.Common.{◌≡◌, ◌⊎◌, ℕ, zero, suc, Bool, true, false, cond, List, [], ◌∷◌, get_or, Option, Some, None, refl, inl, inr}
 use Rattle.std.specs.Prelude.{bytes_eq, codes, is_none, not, ◌&&◌, ◌||◌, ◌==◌}
 use Rattle.std.proofs.lemmas.Bool.{and_parts, false≢true}
+use Rattle.std.specs.Option.{option_or}
 use Rattle.hm_tokens.specs.Tokens.{Tok, word, number, mark}
 use Rattle.hm_text16_codes.specs.declared.operands.Kind.{Kind}
 use Rattle.hm_text16_codes.specs.declared.operands.Kind.TheVariants as kinds
@@ -14,7 +15,7 @@ use Rattle.hm_text16_rows.specs.Mnemonics.{block_first_word, byte_mnemonic, hint
 use Rattle.hm_text16_rows.specs.Mnemonics.{shift_mnemonic, stack_sum_mnemonic, sum_mnemonic, swap_mnemonic, word_mnemonic, zero_mnemonic}
 use Rattle.hm_text_rows.specs.Mnemonics.{access_mnemonic, extend_mnemonic}
 use Rattle.hm_text_rows.specs.Names.{access_names, extend_names, named, sum_names}
-use Rattle.hm_text_rows.specs.Operands.{branch_condition_in, first}
+use Rattle.hm_text_rows.specs.Operands.{branch_condition_in}
 use Rattle.hm_text_rows.proofs.Words.{none_is}
 use Rattle.hm_text16_codes.specs.Operands.{read_operands}
 use Rattle.hm_textv_codes.specs.Codes as vectors
@@ -71,7 +72,7 @@ is_not : {b : Bool} → not b ≡ true → b ≡ false
 is_not {b = true} e = absurd (false≢true e)
 is_not {b = false} e = refl
 
-no_either : (b : Bool) → first (cond b no_number no_number) no_number ≡ no_number
+no_either : (b : Bool) → option_or (cond b no_number no_number) no_number ≡ no_number
 no_either true = refl
 no_either false = refl
 

@@ -1,5 +1,6 @@
 -- The texts of all tables together: which row has a text, and what its label names.
 use Rattle.std.specs.Prelude.{◌⊎◌, ℕ, ◌*◌, ◌||◌, Bool, List, Option, Some, None, length, nat_eq, if◌then◌else◌}
+use Rattle.std.specs.Option.{option_or}
 use Rattle.hm_isa.specs.declared.Instr.{Instr}
 use Rattle.hm_isa.specs.declared.Instr.TheVariants.{Scalar, Branch, Vector}
 use Rattle.hm_isa.specs.Code.{halfwords}
@@ -14,7 +15,6 @@ use Rattle.hm_text32_rows.specs.Rows as wide_rows
 use Rattle.hm_text32_rows.specs.Targets as wide_targets
 use Rattle.hm_text32.specs.Texts as wide
 use Rattle.hm_textv_rows.specs.Rows as vectors
-use Rattle.hm_text_rows.specs.Operands.{first}
 
 -- TABLES, of which each has its own rows
 -- a text has tokens that are a row's, where t stands for its label; its lists may have ranges
@@ -56,7 +56,7 @@ label_of i t = if has_label i then Some t else None
 
 -- the address that the label of a row names, where the instruction stands at pc; None where it has none
 abbrev pub target : Instr → ℕ → Option ℕ
-target i pc = first (narrow_targets.target i pc) (wide_targets.target i pc)
+target i pc = option_or (narrow_targets.target i pc) (wide_targets.target i pc)
 
 -- a row has the text and stands at pc, with a label that names the address a
 pub record IsRowAt (text : List ℕ) (pc : ℕ) (a : ℕ) (i : Instr) : Type 0 where

@@ -1,7 +1,7 @@
 -- Rows of lists of registers, and blocks: their texts ask for their codes.
 use Rattle.std.proofs.Common.{◌≡◌, ℕ, zero, suc, ◌+◌, ◌-◌, ◌/◌, ◌%◌, ◌^◌, ◌<◌, Bool, true, false, cond, eqb, List, [], ◌∷◌, ◌++◌, Option, Some, refl}
 use Rattle.std.proofs.Common.{ap, arith, inl, inr, ◌⊎◌, ◌∙◌}
-use Rattle.std.specs.Prelude.{codes, nat_eq, nat_lt, ◌&&◌}
+use Rattle.std.specs.Prelude.{codes, nat_eq, nat_lt, ◌&&◌, unwrap_or}
 use Rattle.std.proofs.lemmas.Bool.{and_parts, cases_Bool, eqb-true, ltb-true}
 use Rattle.std.proofs.lemmas.Bool.Decides.{nat_tests}
 use Rattle.hm_isa.specs.declared.Instr.TheVariants as instr
@@ -22,7 +22,7 @@ use Rattle.hm_text16_codes.specs.Codes.{block_mask, code_in, code_of}
 use Rattle.hm_text16_codes.specs.Names.{masks}
 use Rattle.hm_text_rows.specs.Names.{named}
 use Rattle.hm_text16_codes.specs.Operands.{read_operands}
-use Rattle.hm_text_rows.specs.Operands.{bits_of, braced, given_or}
+use Rattle.hm_text_rows.specs.Operands.{bits_of, braced}
 use Rattle.hm_text_rows.specs.Shapes.{braces, r}
 use Rattle.hm_text_rows.proofs.Words.{below_holds, below_is, is_mnemonic, there}
 use Rattle.hm_text16_rows.specs.Rows.{list_tokens}
@@ -153,13 +153,13 @@ abbrev mask_of : List ℕ → Option ℕ
 mask_of s = named (block_first_word 0) masks s
 
 -- the mask that the letters tell, by the low bit of the condition
-even_mask : (j : ℕ) → j < 15 → given_or (mask_of (codes "it" ++ letters_above 0 (suc j))) 0 ≡ suc j
-even_mask j lt = below_is (λ k. given_or (mask_of (codes "it" ++ letters_above 0 (suc k))) 0) (λ k. suc k) 15 j refl lt
+even_mask : (j : ℕ) → j < 15 → unwrap_or (mask_of (codes "it" ++ letters_above 0 (suc j))) 0 ≡ suc j
+even_mask j lt = below_is (λ k. unwrap_or (mask_of (codes "it" ++ letters_above 0 (suc k))) 0) (λ k. suc k) 15 j refl lt
 
-odd_mask : (j : ℕ) → j < 15 → given_or (mask_of (codes "it" ++ letters_above 1 (suc j))) 0 ≡ 15 - j
-odd_mask j lt = below_is (λ k. given_or (mask_of (codes "it" ++ letters_above 1 (suc k))) 0) (λ k. 15 - k) 15 j refl lt
+odd_mask : (j : ℕ) → j < 15 → unwrap_or (mask_of (codes "it" ++ letters_above 1 (suc j))) 0 ≡ 15 - j
+odd_mask j lt = below_is (λ k. unwrap_or (mask_of (codes "it" ++ letters_above 1 (suc k))) 0) (λ k. 15 - k) 15 j refl lt
 
-asks_it : (letters : List ℕ) (c pc a mask : ℕ) → given_or (mask_of (codes "it" ++ letters)) 0 ≡ mask → 0 < mask
+asks_it : (letters : List ℕ) (c pc a mask : ℕ) → unwrap_or (mask_of (codes "it" ++ letters)) 0 ≡ mask → 0 < mask
     → code_of (codes "it" ++ letters) (given c 0 0 kinds.Missing kinds.Missing) pc a ≡ Some (0xbf00 + c ↑ 4 + block_mask c mask)
 unfolding code_of
 asks_it letters c pc a mask e some = rw (there (mask_of (codes "it" ++ letters)) mask e some) refl

@@ -2,6 +2,7 @@
 -- Whether the row of this code has the text is asked later.
 use Rattle.std.specs.Prelude.{ℕ, ◌+◌, ◌-◌, ◌*◌, ◌/◌, ◌%◌, ◌^◌, List, [], ◌∷◌, Option, Some, None, option_map, codes, bytes_eq, ◌==◌, nat_le, ◌||◌}
 use Rattle.std.specs.Prelude.{if◌then◌else◌}
+use Rattle.std.specs.Option.{option_or}
 use Rattle.hm_isa.specs.declared.narrow.BaseName.TheVariants as base
 use Rattle.hm_isa.specs.declared.narrow.ListName.TheVariants as list
 use Rattle.hm_isa.specs.declared.narrow.LogicName.TheVariants as logic
@@ -13,7 +14,7 @@ use Rattle.hm_tokens.specs.Tokens.{Tok, word, number, mark}
 use Rattle.hm_text_rows.specs.Labels.{distance}
 use Rattle.hm_text_rows.specs.Mnemonics.{access_mnemonic, extend_mnemonic}
 use Rattle.hm_text_rows.specs.Names.{access_names, extend_names, named, sum_names}
-use Rattle.hm_text_rows.specs.Operands.{branch_condition_in, first}
+use Rattle.hm_text_rows.specs.Operands.{branch_condition_in}
 use Rattle.hm_text16_rows.specs.Mnemonics.{block_first_word, byte_mnemonic, hint_mnemonic, jump_mnemonic, logic_mnemonic, masking_mnemonic, plain_mnemonic}
 use Rattle.hm_text16_rows.specs.Mnemonics.{shift_mnemonic, stack_sum_mnemonic, sum_mnemonic, swap_mnemonic, word_mnemonic, zero_mnemonic}
 use Rattle.hm_text16_codes.specs.declared.operands.Kind.{Kind}
@@ -63,7 +64,7 @@ code_offset s o =
 -- the code of a number behind two registers, by the mnemonic: S1, S3, S9, S16 or S17
 abbrev pub code_with_number : List ℕ → Operands → Option ℕ
 code_with_number s o =
-    first (code_shift s o) (first (code_small_sum s o) (first (code_address s o) (first (code_stack_access s o) (code_offset s o))))
+    option_or (code_shift s o) (option_or (code_small_sum s o) (option_or (code_address s o) (option_or (code_stack_access s o) (code_offset s o))))
 
 -- three registers: S2, S15
 -- S2: the code of ADDS and SUBS of registers (DDI0553, "ADD (register)" and "SUB (register)")
@@ -76,7 +77,7 @@ code_access s o = option_map (λ name. of_three (access_base name) o.third o.sec
 
 -- the code of three registers, by the mnemonic: S2 or S15
 abbrev pub code_with_register : List ℕ → Operands → Option ℕ
-code_with_register s o = first (code_sum s o) (code_access s o)
+code_with_register s o = option_or (code_sum s o) (code_access s o)
 
 -- a number behind a register: S4, S10
 -- S4: the code of MOVS, CMP, ADDS and SUBS with a constant (DDI0553, "MOV (immediate)", "CMP (immediate)" and their kin)
@@ -89,7 +90,7 @@ code_stack_sum s o = option_map (λ name. stack_sum_base name + o.second / 4) (n
 
 -- the code of a number behind a register, by the mnemonic: S4 or S10
 abbrev pub code_number : List ℕ → Operands → Option ℕ
-code_number s o = first (code_byte s o) (code_stack_sum s o)
+code_number s o = option_or (code_byte s o) (code_stack_sum s o)
 
 -- two registers: S5 to S8, S11, S12
 -- S5 and S7: the code of CMP, that of S7 where a register is r8 or higher (DDI0553, "CMP (register)")
@@ -120,7 +121,7 @@ code_high s o =
 
 -- the code of two registers, by the mnemonic: S5 to S8, S11 or S12
 abbrev pub code_registers : List ℕ → Operands → Option ℕ
-code_registers s o = first (code_compare s o) (first (code_logic s o) (first (code_extend s o) (first (code_swap s o) (code_high s o))))
+code_registers s o = option_or (code_compare s o) (option_or (code_logic s o) (option_or (code_extend s o) (option_or (code_swap s o) (code_high s o))))
 
 -- at most one operand: S13, S18, S19, S21, S23
 -- S23: the code of BX and BLX (DDI0553, "BX, BXNS" and "BLX, BLXNS")
@@ -142,11 +143,11 @@ code_block s o = option_map (λ even. 0xbf00 + o.first ↑ 4 + block_mask o.firs
 -- S13 and S19: the code of CPSIE, CPSID, NOP, YIELD, WFE, WFI and SEV, which have no fields
 -- (DDI0553, "CPS", "NOP", "YIELD", "WFE", "WFI" and "SEV")
 abbrev pub code_fixed : List ℕ → Option ℕ
-code_fixed s = first (option_map masking_base (named masking_mnemonic masking_names s)) (option_map hint_base (named hint_mnemonic hint_names s))
+code_fixed s = option_or (option_map masking_base (named masking_mnemonic masking_names s)) (option_map hint_base (named hint_mnemonic hint_names s))
 
 -- the code of at most one operand, by the mnemonic: S13, S18, S19, S21 or S23
 abbrev pub code_single : List ℕ → Operands → Option ℕ
-code_single s o = first (code_fixed s) (first (code_jump s o) (first (code_break s o) (code_block s o)))
+code_single s o = option_or (code_fixed s) (option_or (code_jump s o) (option_or (code_break s o) (code_block s o)))
 
 -- S20: the code of PUSH, POP, STM and LDM with a list (DDI0553, "STMDB, STMFD", "LDM, LDMIA, LDMFD" and "STM, STMIA, STMEA")
 abbrev pub code_list : List ℕ → Operands → Option ℕ
@@ -180,7 +181,7 @@ code_always s pc a = if bytes_eq s (codes "b") then Some (0xe000 + distance (pc 
 
 -- the code of a row with a label, by the mnemonic: S14, S24 or S25, at pc and with a label that names the address a
 abbrev pub code_label : List ℕ → Operands → ℕ → ℕ → Option ℕ
-code_label s o pc a = first (code_literal s o pc a) (first (code_zero s o pc a) (first (code_conditional s pc a) (code_always s pc a)))
+code_label s o pc a = option_or (code_literal s o pc a) (option_or (code_zero s o pc a) (option_or (code_conditional s pc a) (code_always s pc a)))
 
 -- ALL ROWS
 -- the code of at most two operands, by what the second is
@@ -193,11 +194,11 @@ code_of_two kinds.Missing s o = code_single s o
 abbrev pub code_of_three : Kind → List ℕ → Operands → ℕ → ℕ → Option ℕ
 code_of_three kinds.Number s o pc a = code_with_number s o
 code_of_three kinds.Word s o pc a = code_with_register s o
-code_of_three kinds.Missing s o pc a = first (code_label s o pc a) (code_of_two o.second_kind s o)
+code_of_three kinds.Missing s o pc a = option_or (code_label s o pc a) (code_of_two o.second_kind s o)
 
 -- the code of a mnemonic and its operands at pc, where a label names the address a; None where no row fits
 unfoldable pub code_of : List ℕ → Operands → ℕ → ℕ → Option ℕ
-code_of s o pc a = first (code_list s o) (code_of_three o.third_kind s o pc a)
+code_of s o pc a = option_or (code_list s o) (code_of_three o.third_kind s o pc a)
 
 -- the code that the tokens of a line ask for at pc, where a label names the address a; None where no row fits
 abbrev pub code_in : List Tok → ℕ → ℕ → Option ℕ

@@ -1,15 +1,15 @@
 -- What a text gives numbers for, read without a refusal, since the row that is found is asked for its text.
-use Rattle.std.specs.Prelude.{ℕ, List, codes, bytes_eq, if◌then◌else◌}
+use Rattle.std.specs.Prelude.{ℕ, List, codes, bytes_eq, if◌then◌else◌, unwrap_or}
 use Rattle.hm_tokens.specs.Names.{condition_in, register_in}
 use Rattle.hm_tokens.specs.Tokens.{Tok, word, number, mark}
-use Rattle.hm_text_rows.specs.Operands.{bits_of, braced, given_or, operand, value_by}
+use Rattle.hm_text_rows.specs.Operands.{bits_of, braced, operand, value_by}
 use Rattle.hm_text16_codes.specs.declared.operands.Kind.{Kind}
 use Rattle.hm_text16_codes.specs.declared.operands.Kind.TheVariants as kinds
 use Rattle.hm_text16_codes.specs.declared.operands.Operands.{Operands}
 
 -- the number of a register or a condition
 unfoldable pub word_value : List ℕ → ℕ
-word_value w = given_or (register_in w) (given_or (condition_in w) (if bytes_eq w (codes "al") then 14 else 0))
+word_value w = unwrap_or (register_in w) (unwrap_or (condition_in w) (if bytes_eq w (codes "al") then 14 else 0))
 
 -- the number that a token stands for
 abbrev pub value : Tok → ℕ

@@ -1,13 +1,13 @@
 //! The candidate code of a text: whether the row of this code has the text is asked later.
 
 ghost use Rattle.std.specs.Prelude.{◌≡◌, ◌<◌, ◌+◌, ◌^◌, map};
+ghost use Rattle.std.specs.Option.{option_or};
 ghost use Rattle.hm_text16_codes.specs.Codes.{block_mask, code_access, code_address, code_always, code_block, code_break, code_byte, code_compare};
 ghost use Rattle.hm_text16_codes.specs.Codes.{code_conditional, code_extend, code_fixed, code_high, code_in, code_jump, code_label, code_list, code_literal};
 ghost use Rattle.hm_text16_codes.specs.Codes.{code_logic, code_number, code_of, code_of_three, code_of_two, code_offset, code_registers, code_shift};
 ghost use Rattle.hm_text16_codes.specs.Codes.{code_single, code_small_sum, code_stack_access, code_stack_sum, code_sum, code_swap, code_with_number};
 ghost use Rattle.hm_text16_codes.specs.Codes.{code_with_register, code_zero, of_byte, of_high, of_three, zero_code};
 ghost use Rattle.hm_text_rows.specs.Labels.{distance};
-ghost use Rattle.hm_text_rows.specs.Operands.{first};
 ghost use Rattle.hm_tokens.specs.Tokens.{tok};
 
 use crate::names::{
@@ -408,7 +408,7 @@ fn code_of_two(mnemonic: &[u8], o: &Operands) -> Option<u64>
 
 /// Rows with a label, and of at most two operands.
 fn code_without_third(mnemonic: &[u8], o: &Operands, pc: u32, a: u32) -> Option<u64>
-    ensures { result ≡ first (code_label mnemonic.now o.now pc a) (code_of_two o.now.second_kind mnemonic.now o.now) }
+    ensures { result ≡ option_or (code_label mnemonic.now o.now pc a) (code_of_two o.now.second_kind mnemonic.now o.now) }
 {
     if let Some(code) = code_label(mnemonic, o, pc, a) {
         return Some(code);

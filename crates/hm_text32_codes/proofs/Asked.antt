@@ -1,5 +1,6 @@
 -- What is proved of each row: its text asks for its code, and is printed and read back.
 use Rattle.std.proofs.Common.{◌≡◌, ℕ, ◌^◌, ◌<◌, Bool, true, false, cond, List, [], ◌∷◌, ◌++◌, Option, Some, None, refl, sym, subst}
+use Rattle.std.specs.Option.{option_or}
 use Rattle.hm_isa.specs.declared.Instr.{Instr}
 use Rattle.hm_layout.specs.Wide.{HasWord}
 use Rattle.hm_tokens.specs.Tokens.{Tok, word}
@@ -9,7 +10,6 @@ use Rattle.hm_text_rows.proofs.Words.{cut, is_mnemonic, is_suffix}
 use Rattle.hm_text_rows.proofs.Shown.{IsPrintedRow}
 use Rattle.hm_text32_codes.specs.declared.operands.Operands.{Operands}
 use Rattle.hm_text32_codes.specs.Codes.{code_in, code_of, code_of_label, code_of_memory, label_code_in, memory_code_in, plain_code_in}
-use Rattle.hm_text_rows.specs.Operands.{first}
 use Rattle.hm_text32_codes.specs.Operands.{read_operands}
 use Rattle.hm_text32_rows.specs.Rows.{has_label, row_tokens, tokens_of}
 use Rattle.hm_text32_rows.specs.Targets.{target}
@@ -22,14 +22,14 @@ pub record Asks (i : Instr) (ts : List Tok) : Type 0 where
   pub asks : (pc a : ℕ) → code_in ts pc a ≡ Some code
   pub prints : IsPrinted ts
 
-first_some : (o p : Option ℕ) (w : ℕ) → o ≡ Some w → first o p ≡ Some w
-first_some o p w e = rw e refl
+or_some : (o p : Option ℕ) (w : ℕ) → o ≡ Some w → option_or o p ≡ Some w
+or_some o p w e = rw e refl
 
 pub of_plain : (i : Instr) (ts : List Tok) → Answers i ts → Asks i ts
 of_plain i ts answers = record {
   code = answers.code;
   has = answers.has;
-  asks = λ pc a. first_some (plain_code_in ts) (first (memory_code_in ts) (label_code_in ts pc a)) answers.code answers.asks;
+  asks = λ pc a. or_some (plain_code_in ts) (option_or (memory_code_in ts) (label_code_in ts pc a)) answers.code answers.asks;
   prints = answers.prints;
 }
 

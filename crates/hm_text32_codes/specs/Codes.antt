@@ -2,6 +2,7 @@
 -- Whether the row of this code has the text is asked later.
 use Rattle.std.specs.Prelude.{ℕ, zero, suc, Bool, ◌+◌, ◌-◌, ◌*◌, ◌/◌, ◌%◌, ◌^◌, ◌&&◌, List, [], ◌∷◌, length, Option, Some, None, option_map, codes, bytes_eq}
 use Rattle.std.specs.Prelude.{nat_lt, ◌==◌, if◌then◌else◌}
+use Rattle.std.specs.Option.{option_or}
 use Rattle.hm_isa.specs.declared.data.DataName.{DataName}
 use Rattle.hm_isa.specs.declared.data.DataName.TheVariants as data_
 use Rattle.hm_isa.specs.declared.data.SaturateName.{SaturateName}
@@ -25,7 +26,7 @@ use Rattle.hm_tokens.specs.Tokens.{Tok, word, number, mark, point}
 use Rattle.hm_text_rows.specs.Labels.{distance}
 use Rattle.hm_text_rows.specs.Mnemonics.{access_mnemonic, extend_mnemonic}
 use Rattle.hm_text_rows.specs.Names.{access_names, bit_values, extend_names, named, named_with_bit, sum_names}
-use Rattle.hm_text_rows.specs.Operands.{bits_of, braced, branch_condition_in, first, operand, size_of}
+use Rattle.hm_text_rows.specs.Operands.{bits_of, braced, branch_condition_in, operand, size_of}
 use Rattle.hm_text32_rows.specs.Mnemonics.{accumulate_mnemonic, barrier_mnemonic, bits_mnemonic, carry_mnemonic, data_mnemonic, extract_mnemonic}
 use Rattle.hm_text32_rows.specs.Mnemonics.{half_mnemonic, long_mnemonic, move_mnemonic, operation_mnemonic, pair_mnemonic, saturate_mnemonic}
 use Rattle.hm_text32_rows.specs.Mnemonics.{select_mnemonic, stack_mnemonic, table_mnemonic, test_mnemonic, turn_mnemonic, wide_branch_mnemonic}
@@ -63,7 +64,7 @@ test_base_in s = option_map (λ name. data_base name 1) (named test_mnemonic tes
 -- T2: the base code of MOV and MVN, and of RRX, which is a rotation by 0, by the mnemonic (DDI0553, "Data-processing (shifted register)")
 abbrev pub move_base_in : List ℕ → Option ℕ
 move_base_in s =
-    first (option_map (λ p. data_base p.0 p.1) (named_with_bit move_mnemonic move_names s))
+    option_or (option_map (λ p. data_base p.0 p.1) (named_with_bit move_mnemonic move_names s))
     (option_map (λ f. data_base data_.Orr f + 3 ↑ 4) (named carry_mnemonic bit_values s))
 
 -- CONSTANTS of T1
@@ -103,7 +104,7 @@ code_constant_move s o = where_ o.second_is_number (λ b. constant_code b 15 o.f
 
 -- T1: the code of an operation with a constant, by the mnemonic; None where a register stands in its place (DDI0553, "Data-processing (modified immediate)")
 abbrev pub code_constant : List ℕ → Operands → Option ℕ
-code_constant s o = first (code_constant_data s o) (first (code_constant_test s o) (code_constant_move s o))
+code_constant s o = option_or (code_constant_data s o) (option_or (code_constant_test s o) (code_constant_move s o))
 
 -- T2: the code of an operation with a register shifted by k, where 32 is 0, made of its base code (DDI0553, "Data-processing (shifted register)")
 abbrev pub shifted_code : ℕ → ℕ → ℕ → ℕ → ℕ → ℕ → ℕ
@@ -129,7 +130,7 @@ code_turn s o =
 -- T1 and T2: the code of an operation with a constant or a shifted register, by the mnemonic
 -- (DDI0553, "Data-processing (modified immediate)" and "Data-processing (shifted register)")
 abbrev pub code_shifted : List ℕ → Operands → Option ℕ
-code_shifted s o = first (code_constant s o) (first (code_turn s o) (first (code_data s o) (first (code_test s o) (code_move s o))))
+code_shifted s o = option_or (code_constant s o) (option_or (code_turn s o) (option_or (code_data s o) (option_or (code_test s o) (code_move s o))))
 
 -- T8: the code of LSL to ROR by a register (DDI0553, "LSL (register)", "LSR (register)", "ASR (register)" and "ROR (register)")
 abbrev pub code_wide_shift : List ℕ → Operands → Option ℕ
@@ -251,22 +252,24 @@ code_alone s o =
 -- the code of rows T8 to T11 and T20, by the mnemonic
 abbrev pub code_of_arith : List ℕ → Operands → Option ℕ
 code_of_arith s o =
-    first (code_wide_shift s o)
-    (first (code_operation s o) (first (code_bits s o) (first (code_extend s o) (first (code_accumulate s o) (first (code_long s o) (code_select s o))))))
+    option_or (code_wide_shift s o)
+    (option_or (code_operation s o)
+    (option_or (code_bits s o) (option_or (code_extend s o) (option_or (code_accumulate s o) (option_or (code_long s o) (code_select s o))))))
 
 -- the code of rows T3 to T7, by the mnemonic
 abbrev pub code_of_data : List ℕ → Operands → Option ℕ
 code_of_data s o =
-    first (code_wide_sum s o) (first (code_half s o) (first (code_saturate s o) (first (code_extract s o) (code_insert s o))))
+    option_or (code_wide_sum s o) (option_or (code_half s o) (option_or (code_saturate s o) (option_or (code_extract s o) (code_insert s o))))
 
 -- the code of rows T15, T17 to T19, T21 and T22, and of T23 without a label, by the mnemonic
 abbrev pub code_of_other : List ℕ → Operands → Option ℕ
 code_of_other s o =
-    first (code_stack s o) (first (code_table s o) (first (code_barrier s o) (first (code_special s o) (first (code_lane s o) (code_alone s o)))))
+    option_or (code_stack s o)
+    (option_or (code_table s o) (option_or (code_barrier s o) (option_or (code_special s o) (option_or (code_lane s o) (code_alone s o)))))
 
 -- the code of a mnemonic and its operands but for rows T12 to T14 and those with a label; None where no row fits
 unfoldable pub code_of : List ℕ → Operands → Option ℕ
-code_of s o = first (code_shifted s o) (first (code_of_arith s o) (first (code_of_data s o) (code_of_other s o)))
+code_of s o = option_or (code_shifted s o) (option_or (code_of_arith s o) (option_or (code_of_data s o) (code_of_other s o)))
 
 -- the code of a first word, cut into its mnemonic and what begins at the point, and of the tokens behind it
 abbrev pub code_cut : List ℕ × List ℕ → List Tok → Option ℕ
@@ -319,7 +322,7 @@ code_list s ts =
 
 -- the code of rows T12 to T14, by the mnemonic
 unfoldable pub code_of_memory : List ℕ → List Tok → Option ℕ
-code_of_memory s ts = first (code_access s (read_places ts)) (first (code_pair s (read_places ts)) (code_list s ts))
+code_of_memory s ts = option_or (code_access s (read_places ts)) (option_or (code_pair s (read_places ts)) (code_list s ts))
 
 -- the code of a row T12 to T14 that tokens ask for; None where no row fits
 abbrev pub memory_code_in : List Tok → Option ℕ
@@ -371,7 +374,7 @@ code_loop s suffix ts pc a =
 
 -- the code of T16, and of T23 with a label, by the mnemonic, at pc and with a label that names the address a
 unfoldable pub code_of_label : List ℕ → List ℕ → List Tok → ℕ → ℕ → Option ℕ
-code_of_label s suffix ts pc a = first (code_conditional s pc a) (first (code_always s pc a) (code_loop s suffix ts pc a))
+code_of_label s suffix ts pc a = option_or (code_conditional s pc a) (option_or (code_always s pc a) (code_loop s suffix ts pc a))
 
 -- the code of a row with a label that tokens ask for at pc, where the label names the address a; None where no row fits
 abbrev pub label_code_in : List Tok → ℕ → ℕ → Option ℕ
@@ -382,4 +385,4 @@ label_code_in (mark c ∷ ts) pc a = None
 
 -- of a row that stands at pc, whose label, if it has one, names the address a
 abbrev pub code_in : List Tok → ℕ → ℕ → Option ℕ
-code_in ts pc a = first (plain_code_in ts) (first (memory_code_in ts) (label_code_in ts pc a))
+code_in ts pc a = option_or (plain_code_in ts) (option_or (memory_code_in ts) (label_code_in ts pc a))

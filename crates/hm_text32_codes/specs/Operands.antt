@@ -1,12 +1,13 @@
 -- What a text gives numbers for, read without a refusal, since the row that is found is asked for its text.
-use Rattle.std.specs.Prelude.{ℕ, ◌%◌, ◌^◌, List, [], ◌∷◌, length, codes, bytes_eq, Option, Some, None, option_map, ◌==◌, if◌then◌else◌}
+use Rattle.std.specs.Prelude.{ℕ, ◌%◌, ◌^◌, List, [], ◌∷◌, length, codes, bytes_eq, Option, Some, None, option_map, ◌==◌, if◌then◌else◌, unwrap_or}
+use Rattle.std.specs.Option.{option_or}
 use Rattle.hm_isa.specs.declared.system.ReadName.{ReadName}
 use Rattle.hm_isa.specs.SystemCodes.{read_base}
 use Rattle.hm_tokens.specs.declared.marks.Mark.TheVariants as marks
 use Rattle.hm_tokens.specs.Names.{condition_in, double_in, register_in, vector_in}
 use Rattle.hm_tokens.specs.Tokens.{Tok, is_the_mark}
 use Rattle.hm_text_rows.specs.Names.{named}
-use Rattle.hm_text_rows.specs.Operands.{added, back_in, before, first, first_of, given_or, is_number, is_vector, operand, size_of, value_by}
+use Rattle.hm_text_rows.specs.Operands.{added, back_in, before, first_of, is_number, is_vector, operand, size_of, value_by}
 use Rattle.hm_text32_rows.specs.Mnemonics.{carry_mnemonic, read_name, shift_mnemonic}
 use Rattle.hm_text32_codes.specs.declared.operands.Operands.{Operands}
 use Rattle.hm_text32_codes.specs.declared.operands.Places.{Places}
@@ -14,7 +15,7 @@ use Rattle.hm_text32_codes.specs.Names.{shift_numbers, special_names}
 
 -- the number of the shift that a word names; RRX is a rotation by 0
 abbrev pub shift_in : List ℕ → Option ℕ
-shift_in w = first (named shift_mnemonic shift_numbers w) (if bytes_eq w (carry_mnemonic 0) then Some 3 else None)
+shift_in w = option_or (named shift_mnemonic shift_numbers w) (if bytes_eq w (carry_mnemonic 0) then Some 3 else None)
 
 -- T18: SYSm, the number of a special register, the lowest byte of a code that reads it (DDI0553, "MRS")
 abbrev pub special_number : ReadName → ℕ
@@ -37,8 +38,8 @@ other_value w =
 -- the number that a word stands for: a register's, a vector's, a condition's, a half of a vector's, a shift's, a special register's or another's
 unfoldable pub word_value : List ℕ → ℕ
 word_value w =
-    given_or (register_in w)
-    (given_or (vector_in w) (given_or (condition_in w) (given_or (double_in w) (given_or (shift_in w) (given_or (special_in w) (other_value w))))))
+    unwrap_or (register_in w)
+    (unwrap_or (vector_in w) (unwrap_or (condition_in w) (unwrap_or (double_in w) (unwrap_or (shift_in w) (unwrap_or (special_in w) (other_value w))))))
 
 -- the number that a token stands for
 abbrev pub value : Tok → ℕ

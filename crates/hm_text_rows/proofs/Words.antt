@@ -1,7 +1,7 @@
 -- Mnemonics: a mnemonic, and what stands behind the point; names.
 use Rattle.std.proofs.Common.{◌≡◌, ℕ, zero, suc, ◌<◌, ◌≤◌, Bool, true, false, eqb, ltb, List, [], ◌∷◌, ◌++◌, length, Option, Some, None}
 use Rattle.std.proofs.Common.{refl, sym, subst, ap, inl, inr, arith}
-use Rattle.std.specs.Prelude.{◌&&◌, is_none, not}
+use Rattle.std.specs.Prelude.{◌&&◌, is_none, not, unwrap_or}
 use Rattle.std.specs.List.{list_all}
 use Rattle.std.proofs.lemmas.Bool.{agree_below, agree_below_at, cases_Bool, eqb-true, eqb-false, and_parts, false≢true}
 use Rattle.std.proofs.lemmas.Bool.Decides.{nat_tests}
@@ -11,7 +11,6 @@ use Rattle.hm_tokens.specs.declared.token.Class.TheVariants as classes
 use Rattle.hm_tokens.specs.Names.{register_name, vector_name}
 use Rattle.hm_tokens.specs.Tokens.{word, is_digit, is_in, point}
 use Rattle.hm_tokens.proofs.Again.{IsToken}
-use Rattle.hm_text_rows.specs.Operands.{given_or}
 
 -- a fact of numbers, computed at each below n
 pub below_is : (f g : ℕ → ℕ) (n b : ℕ) → agree_below (λ k. eqb (f k) (g k)) (λ k. true) n ≡ true → b < n → f b ≡ g b
@@ -41,7 +40,7 @@ proof ▹ others = (proof, others)
 
 -- WHAT MAY BE MISSING
 -- a number that is told as more than 0 is there
-pub there : (o : Option ℕ) (n : ℕ) → given_or o 0 ≡ n → 0 < n → o ≡ Some n
+pub there : (o : Option ℕ) (n : ℕ) → unwrap_or o 0 ≡ n → 0 < n → o ≡ Some n
 there (Some m) n e some = ap (λ (k : ℕ). Some k) e
 there None n e some = absurd (omega (arith, e, some))
 

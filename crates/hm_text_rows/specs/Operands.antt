@@ -5,16 +5,6 @@ use Rattle.hm_tokens.specs.declared.marks.Mark.TheVariants as marks
 use Rattle.hm_tokens.specs.Names.{condition_in, is_number_given, register_in, vector_in}
 use Rattle.hm_tokens.specs.Tokens.{Tok, word, number, mark, comma, digit_byte, is_the_mark}
 
--- the number, where there is one, else d
-abbrev pub given_or : Option ℕ → ℕ → ℕ
-given_or (Some n) d = n
-given_or None d = d
-
--- the first of two that is there
-abbrev pub first : Option ℕ → Option ℕ → Option ℕ
-first (Some w) o = Some w
-first None o = o
-
 -- WORDS
 -- `b`, with which the first word of a branch begins
 abbrev pub branch_letter : ℕ

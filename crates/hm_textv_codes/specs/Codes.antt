@@ -1,6 +1,7 @@
 -- The candidate code of a text: that of the row with this text, where there is one; else any number, or None.
 -- Whether the row of this code has the text is asked later.
 use Rattle.std.specs.Prelude.{ℕ, ◌+◌, ◌-◌, ◌*◌, ◌/◌, ◌%◌, ◌^◌, List, [], ◌∷◌, Option, Some, None, option_map, codes, bytes_eq, ◌==◌, if◌then◌else◌}
+use Rattle.std.specs.Option.{option_or}
 use Rattle.hm_isa.specs.declared.vectors.BitwiseName.TheVariants as bitwise
 use Rattle.hm_isa.specs.declared.vectors.ConstantShiftName.{ConstantShiftName}
 use Rattle.hm_isa.specs.declared.vectors.ConstantShiftName.TheVariants as by_constant
@@ -12,7 +13,6 @@ use Rattle.hm_isa.specs.Standing.{◌↑◌}
 use Rattle.hm_text_base.specs.Spans.{span}
 use Rattle.hm_tokens.specs.Tokens.{Tok, word, number, mark, point}
 use Rattle.hm_text_rows.specs.Names.{bit_values, named}
-use Rattle.hm_text_rows.specs.Operands.{first}
 use Rattle.hm_textv_rows.specs.Mnemonics.{add_mnemonic, bitwise_mnemonic, block_mnemonic, block_word, carry_mnemonic, compare_word, complex_sum_mnemonic}
 use Rattle.hm_textv_rows.specs.Mnemonics.{constant_shift_mnemonic, dot_mnemonic, doubling_mnemonic, extreme_mnemonic, high_mnemonic, long_dot_mnemonic}
 use Rattle.hm_textv_rows.specs.Mnemonics.{long_move_mnemonic, long_product_mnemonic, long_shift_mnemonic, long_sum_mnemonic, offsets_mnemonic}
@@ -53,12 +53,12 @@ element_in z = if z == 0 then element.Bytes else if z == 1 then element.Halves e
 -- V1 to V3, V5 to V7 and VPSEL of V21: the base code of what has three vectors, by the mnemonic (DDI0553, the sections named at the types of these rows)
 abbrev pub three_base : List ℕ → Option ℕ
 three_base s =
-    first (option_map add_base (named add_mnemonic add_names s))
-    (first (option_map bitwise_base (named bitwise_mnemonic bitwise_names s))
-    (first (option_map signed_base (named signed_mnemonic signed_names s))
-    (first (option_map doubling_base (named doubling_mnemonic doubling_names s))
-    (first (option_map high_base (named high_mnemonic high_names s))
-    (first (option_map (λ t. 0xee010e00 + t ↑ 12) (named long_product_mnemonic bit_values s))
+    option_or (option_map add_base (named add_mnemonic add_names s))
+    (option_or (option_map bitwise_base (named bitwise_mnemonic bitwise_names s))
+    (option_or (option_map signed_base (named signed_mnemonic signed_names s))
+    (option_or (option_map doubling_base (named doubling_mnemonic doubling_names s))
+    (option_or (option_map high_base (named high_mnemonic high_names s))
+    (option_or (option_map (λ t. 0xee010e00 + t ↑ 12) (named long_product_mnemonic bit_values s))
     (if bytes_eq s (codes "vpsel") then Some 0xfe310f01 else None))))))
 
 -- V1 to V3, V5 to V7 and VPSEL of V21: the code of what has three vectors, by the mnemonic (DDI0553, the sections named at the types of these rows)
@@ -108,12 +108,12 @@ long_code t o =
 
 -- V12: the code of VSHLLB, VSHLLT, VMOVLB and VMOVLT (DDI0553, "VSHLL" and "VMOVL")
 abbrev pub code_long : List ℕ → Operands → Option ℕ
-code_long s o = option_map (λ t. long_code t o) (first (named long_shift_mnemonic bit_values s) (named long_move_mnemonic bit_values s))
+code_long s o = option_map (λ t. long_code t o) (option_or (named long_shift_mnemonic bit_values s) (named long_move_mnemonic bit_values s))
 
 -- V13 and V14: the base code of VCLS, VCLZ, VABS, VNEG, VQABS, VQNEG, VREV64, VREV32 and VREV16, by the mnemonic
 -- (DDI0553, "VCLS", "VCLZ", "VABS", "VNEG", "VQABS", "VQNEG", "VREV64", "VREV32" and "VREV16")
 abbrev pub single_base : List ℕ → Option ℕ
-single_base s = first (option_map one_base (named one_mnemonic one_names s)) (option_map reverse_base (named reverse_mnemonic reverse_names s))
+single_base s = option_or (option_map one_base (named one_mnemonic one_names s)) (option_map reverse_base (named reverse_mnemonic reverse_names s))
 
 -- V13 and V14: the code of VCLS, VCLZ, VABS, VNEG, VQABS and VQNEG, and of VREV64, VREV32 and VREV16
 -- (DDI0553, "VCLS", "VCLZ", "VABS", "VNEG", "VQABS", "VQNEG", "VREV64", "VREV32" and "VREV16")
@@ -190,7 +190,7 @@ code_sum s o = option_map (λ a. of_one (0xeef10f00 + a ↑ 5) o.sign o.size (o.
 abbrev pub code_dot : List ℕ → Operands → Option ℕ
 code_dot s o =
     option_map (λ a. of_vectors (dot_base (element_in o.size) + a ↑ 5) o.sign 0 o.second (o.first / 2) o.third)
-    (first (named dot_mnemonic bit_values s) (named other_dot_mnemonic bit_values s))
+    (option_or (named dot_mnemonic bit_values s) (named other_dot_mnemonic bit_values s))
 
 -- V22: the code of VADDLV and VADDLVA (DDI0553, "VADDLV")
 abbrev pub code_long_sum : List ℕ → Operands → Option ℕ
@@ -265,31 +265,31 @@ code_quad s o = option_map (λ p. interleaved_code 1 p.0 p.1 o.fifth o) (quad_in
 -- the code of rows V1 to V10 and of VPSEL, by the mnemonic
 abbrev pub code_of_pair : List ℕ → Operands → Option ℕ
 code_of_pair s o =
-    first (code_three s o) (first (code_vector_shift s o) (first (code_carry s o) (first (code_complex_sum s o) (code_scalar s o))))
+    option_or (code_three s o) (option_or (code_vector_shift s o) (option_or (code_carry s o) (option_or (code_complex_sum s o) (code_scalar s o))))
 
 -- the code of rows V11 to V16, and of VMOV of a vector, by the mnemonic
 abbrev pub code_of_one : List ℕ → Operands → Option ℕ
 code_of_one s o =
-    first (code_shift s o) (first (code_long s o) (first (code_single s o) (first (code_constant s o) (code_narrow s o))))
+    option_or (code_shift s o) (option_or (code_long s o) (option_or (code_single s o) (option_or (code_constant s o) (code_narrow s o))))
 
 -- the code of rows V22 and V23, by the mnemonic
 abbrev pub code_of_sum : List ℕ → Operands → Option ℕ
 code_of_sum s o =
-    first (code_sum s o) (first (code_dot s o) (first (code_long_sum s o) (first (code_long_dot s o) (code_extreme s o))))
+    option_or (code_sum s o) (option_or (code_dot s o) (option_or (code_long_sum s o) (option_or (code_long_dot s o) (code_extreme s o))))
 
 -- the code of rows V17 to V21 but for VPSEL, by the mnemonic
 abbrev pub code_of_other : List ℕ → Operands → Option ℕ
 code_of_other s o =
-    first (code_offsets s o) (first (code_wrapped s o) (first (code_compare s o) (first (code_block s) (code_alone s o))))
+    option_or (code_offsets s o) (option_or (code_wrapped s o) (option_or (code_compare s o) (option_or (code_block s) (code_alone s o))))
 
 -- the code of rows V24 to V28, by the mnemonic
 abbrev pub code_of_memory : List ℕ → Operands → Option ℕ
-code_of_memory s o = first (code_access s o) (first (code_pair s o) (code_quad s o))
+code_of_memory s o = option_or (code_access s o) (option_or (code_pair s o) (code_quad s o))
 
 -- the code of a mnemonic and its operands; None where no row fits
 unfoldable pub code_of : List ℕ → Operands → Option ℕ
 code_of s o =
-    first (code_of_pair s o) (first (code_of_one s o) (first (code_of_sum s o) (first (code_of_other s o) (code_of_memory s o))))
+    option_or (code_of_pair s o) (option_or (code_of_one s o) (option_or (code_of_sum s o) (option_or (code_of_other s o) (code_of_memory s o))))
 
 -- the code of a first word, cut into its mnemonic and what begins at the point, and of the tokens behind it
 abbrev pub code_cut : List ℕ × List ℕ → List Tok → Option ℕ

@@ -1,10 +1,10 @@
 -- What a text gives numbers for, read without a refusal, since the row that is found is asked for its text.
-use Rattle.std.specs.Prelude.{ℕ, List, [], ◌∷◌, Option, length, get_or, codes, bytes_eq, ◌==◌, if◌then◌else◌}
+use Rattle.std.specs.Prelude.{ℕ, List, [], ◌∷◌, Option, length, get_or, codes, bytes_eq, ◌==◌, if◌then◌else◌, unwrap_or}
 use Rattle.hm_tokens.specs.declared.marks.Mark.TheVariants as marks
 use Rattle.hm_tokens.specs.Names.{register_in, vector_in}
 use Rattle.hm_tokens.specs.Tokens.{Tok}
 use Rattle.hm_text_rows.specs.Names.{named}
-use Rattle.hm_text_rows.specs.Operands.{added, back_in, before, given_or, is_vector, operand, size_of, token_behind, value_by}
+use Rattle.hm_text_rows.specs.Operands.{added, back_in, before, is_vector, operand, size_of, token_behind, value_by}
 use Rattle.hm_textv_rows.specs.Mnemonics.{compare_condition}
 use Rattle.hm_textv_codes.specs.declared.operands.Operands.{Operands}
 
@@ -22,7 +22,7 @@ other_value w =
 
 -- the number that a word stands for: of a vector, else of a core register, else of a condition, else of another word
 unfoldable pub word_value : List ℕ → ℕ
-word_value w = given_or (vector_in w) (given_or (register_in w) (given_or (compare_condition_in w) (other_value w)))
+word_value w = unwrap_or (vector_in w) (unwrap_or (register_in w) (unwrap_or (compare_condition_in w) (other_value w)))
 
 -- the number that a token stands for
 abbrev pub value : Tok → ℕ

@@ -1,8 +1,8 @@
 //! Names of rows, by their mnemonics, alone and with a part, a size or a mask.
 
 ghost use Rattle.std.specs.Prelude.{◌≡◌, ◌<◌, IfSome};
+ghost use Rattle.std.specs.Option.{option_or};
 ghost use Rattle.hm_text_rows.specs.Names.{bit_values, named};
-ghost use Rattle.hm_text_rows.specs.Operands.{first};
 ghost use Rattle.hm_textv_rows.specs.Mnemonics.{add_mnemonic, bitwise_mnemonic, block_mnemonic, block_word, carry_mnemonic, compare_word};
 ghost use Rattle.hm_textv_rows.specs.Mnemonics.{complex_sum_mnemonic, constant_shift_mnemonic, dot_mnemonic, doubling_mnemonic, extreme_mnemonic};
 ghost use Rattle.hm_textv_rows.specs.Mnemonics.{high_mnemonic, long_dot_mnemonic, long_move_mnemonic, long_product_mnemonic, long_shift_mnemonic};
@@ -165,7 +165,7 @@ pub fn constant_shift_name(mnemonic: &[u8]) -> Option<ConstantShiftName>
 
 /// The part of a row V12: 0 for the lower halves of wide elements, 1 for the upper.
 pub fn long_shift_part(mnemonic: &[u8]) -> Option<u32>
-    ensures { result ≡ first (named long_shift_mnemonic bit_values mnemonic.now) (named long_move_mnemonic bit_values mnemonic.now) }
+    ensures { result ≡ option_or (named long_shift_mnemonic bit_values mnemonic.now) (named long_move_mnemonic bit_values mnemonic.now) }
 {
     let parts = &[(0, "vshllb"), (1, "vshllt"), (0, "vmovlb"), (1, "vmovlt")];
     named(parts, mnemonic)
@@ -297,7 +297,7 @@ pub fn sum_bit(mnemonic: &[u8]) -> Option<u32>
 
 /// The bit A of a row V22 of products: 1 where it goes on from the old value.
 pub fn dot_bit(mnemonic: &[u8]) -> Option<u32>
-    ensures { result ≡ first (named dot_mnemonic bit_values mnemonic.now) (named other_dot_mnemonic bit_values mnemonic.now) }
+    ensures { result ≡ option_or (named dot_mnemonic bit_values mnemonic.now) (named other_dot_mnemonic bit_values mnemonic.now) }
 {
     let bits = &[(0, "vmladav"), (1, "vmladava"), (0, "vmlav"), (1, "vmlava")];
     named(bits, mnemonic)
