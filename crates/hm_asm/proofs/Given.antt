@@ -15,7 +15,6 @@ use Rattle.hm_line.specs.declared.errors.AsmKind.TheVariants as asm_kinds
 use Rattle.hm_text_base.proofs.Steps.{some_is}
 use Rattle.hm_tokens.specs.Tokens.{skip}
 use Rattle.hm_source.specs.declared.values.DatumSize.{DatumSize}
-use Rattle.hm_source.specs.declared.values.DatumSize.TheVariants.{Byte, Half, Word}
 use Rattle.hm_source.specs.Directives.{Datum, Directed, org, align, space, values, bytes_each}
 use Rattle.hm_source.specs.Lines.{name_of, text_of, text_column, shifted}
 use Rattle.hm_source.specs.Places.{HasPlace, HasRoom, next_place, padding, size_asked, size_of}

@@ -12,7 +12,7 @@ use Rattle.hm_line.specs.Kinds.{Kind, kind}
 use Rattle.hm_line.specs.Kinds as kinds_of
 use Rattle.hm_line.specs.Texts.{AreTokens, is_spaced, next}
 use Rattle.hm_line.proofs.Fronts.{run_le, token_shorter}
-use Rattle.hm_source.specs.Directives.{Datum, literal, named, beyond, datum_tokens}
+use Rattle.hm_source.specs.Directives.{Datum, datum_tokens}
 use Rattle.hm_source.specs.Shown.{AreFront}
 
 -- COMMAS

@@ -14,7 +14,7 @@ use Rattle.hm_line.specs.declared.errors.TextErr.{TextErr}
 use Rattle.hm_text_base.specs.Spans.{lines_of}
 use Rattle.hm_source.specs.declared.directives.Directive.{Directive}
 use Rattle.hm_source.specs.declared.statements.Statement.TheVariants as statements
-use Rattle.hm_source.specs.Directives.{Directed, org, align, space, values}
+use Rattle.hm_source.specs.Directives.{Directed, org, align, space}
 use Rattle.hm_source.specs.Lines.{name_of, shifted, source_lines, text_column, text_of}
 use Rattle.hm_source.specs.Places.{HasPlace, HasRoom, next_place, padding, size_of}
 use Rattle.hm_source.specs.Shown.{ShowsSaid, ShowsDirected}

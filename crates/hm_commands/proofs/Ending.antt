@@ -1,13 +1,13 @@
 -- What a status tells, whatever the host tells.
-use Rattle.std.proofs.Common.{◌≡◌, ◌≢◌, ◌⊎◌, ◌<◌, ℕ, ◌++◌, ◌∙◌, ap, refl, sym, inl, inr, Option, Some, None, true, false, subst, arith, List}
+use Rattle.std.proofs.Common.{◌≡◌, ◌≢◌, ◌⊎◌, ◌<◌, ℕ, ◌++◌, ◌∙◌, ap, refl, sym, inl, inr, Option, Some, None, true, subst, arith, List}
 use Rattle.hm_base.specs.Image.{Segment}
 use Rattle.hm_codes.specs.Listing.{Listing}
 use Rattle.hm_host.specs.Host.{FileMap, HostState, Stays, Rose}
 use Rattle.hm_commands.specs.declared.status.Status.{Status}
-use Rattle.hm_commands.specs.declared.status.Status.TheVariants.{Done, Ended, Usage, Refused, HostFault, NoMemory}
+use Rattle.hm_commands.specs.declared.status.Status.TheVariants.{Usage, Refused, HostFault, NoMemory}
 use Rattle.hm_words.specs.Words.{Form, form_of}
 use Rattle.hm_commands.specs.Calls.{MakesCalls, read_calls, way_of}
-use Rattle.hm_commands.specs.Work.{Outcome, finishes, refuses}
+use Rattle.hm_commands.specs.Work.{Outcome, finishes}
 use Rattle.hm_commands.specs.Effect.{Effect, Reading, whole, too_large, missing, reading_of, reads_for, usage_effect, IsEffectAfter, IsEffect, effect_for}
 use Rattle.hm_commands.specs.Effect.{calls_for, BeginsOne, IsDone, IsUntouched, Carries, Does}
 

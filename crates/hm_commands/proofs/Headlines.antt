@@ -21,7 +21,7 @@ use Rattle.hm_plain.specs.Orders.{plain_end}
 use Rattle.hm_plain.proofs.Plain.{reports, plain_ends}
 use Rattle.hm_run.specs.declared.Outcome.{Outcome}
 use Rattle.hm_run.specs.Headline.{PlainReport}
-use Rattle.hm_run.specs.InOrder.{InOrder, Running, Halted, Full, Faulted, in_order, in_order_report}
+use Rattle.hm_run.specs.InOrder.{InOrder, Running, Faulted, in_order, in_order_report}
 use Rattle.hm_run.specs.Report.{outcome_line, report_text, memory_text}
 use Rattle.hm_run.specs.Timed.{Timed}
 use Rattle.hm_state.specs.Start.{reset_pc}

@@ -2,7 +2,7 @@
 use Rattle.std.proofs.Common.{◌≡◌, List, ◌∷◌, ◌++◌, Option, Some, None, refl, ap, subst, ◌∙◌, inl, inr, append_assoc, ℕ}
 use Rattle.hm_host.specs.Host.{Call, FileMap, HostState, Made, Stays, Turns}
 use Rattle.hm_commands.specs.declared.status.Status.{Status}
-use Rattle.hm_commands.specs.declared.status.Status.TheVariants.{Done, Ended, Usage, Refused, HostFault, NoMemory}
+use Rattle.hm_commands.specs.declared.status.Status.TheVariants.{HostFault, NoMemory}
 use Rattle.hm_commands.specs.Calls.{MadeSome, MadeToFault, MakesCalls, Way, to_end, to_fault, to_memory, read_calls, way_of}
 use Rattle.hm_commands.specs.Effect.{BeginsOne, IsBegun, ButForFile, Carries, CutsReads, DoesEffect, Effect, IsUntouched, IsNotReached, calls_for}
 use Rattle.hm_commands.proofs.Ending.{carried_done}

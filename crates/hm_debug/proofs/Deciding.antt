@@ -7,7 +7,7 @@ use Rattle.hm_text_base.proofs.Steps.{some_is}
 use Rattle.hm_debug.proofs.Reading.{is_read, read_in}
 use Rattle.hm_debug.specs.Commands.{Fits, IsRead, Says, most_bytes, most_listed}
 use Rattle.hm_debug.specs.declared.command.Command.{Command}
-use Rattle.hm_debug.specs.declared.command.Command.TheVariants.{Goto, Step, Back, Until, Show, Memory, Listing}
+use Rattle.hm_debug.specs.declared.command.Command.TheVariants.{Goto, Until, Memory, Listing}
 
 abbrev pub Decided : Type 0 → Type 0
 Decided P = P ⊎ (P → ⊥)

@@ -4,10 +4,9 @@ use Rattle.std.proofs.Common.{cond}
 use Rattle.hm_base.specs.Image.{Segment}
 use Rattle.hm_codes.specs.Listing.{Listing}
 use Rattle.hm_exc.specs.declared.types.EnterErr.{EnterErr}
-use Rattle.hm_handlers.specs.Nested.{Ended, Nested, NestedEnd, Offends, TickEnd, letters}
+use Rattle.hm_handlers.specs.Nested.{Nested, NestedEnd, TickEnd, letters}
 use Rattle.hm_handlers.specs.Runs.{Pointers, Run, after_count, begin, closed, ended, enters, enters_unless, may_enter, next, picks, run, run_out, stops}
 use Rattle.hm_handlers.specs.Runs.{tick_of}
-use Rattle.hm_order.specs.Machine.{Broken, Stopped}
 use Rattle.hm_run.specs.declared.Outcome.{Outcome}
 use Rattle.hm_sched.specs.Schedule.{Sched, TickLine, ticks_of}
 

@@ -17,7 +17,6 @@ use Rattle.hm_run.specs.Report.{kind_text as fault_text, place_text, reason_text
 use Rattle.hm_run.specs.declared.Reason.{Reason}
 use Rattle.hm_run.specs.declared.Reason.TheVariants as reason
 use Rattle.hm_run.specs.declared.Who.{Who}
-use Rattle.hm_run.specs.declared.Who.TheVariants as who
 use Rattle.hm_shake.specs.Kinds.{joined, kind_name, kind_text}
 use Rattle.hm_shake_runs.specs.declared.kinds.Kind.{Kind}
 use Rattle.hm_shake_runs.specs.declared.kinds.Kind.TheVariants as kind

@@ -1,6 +1,6 @@
 -- A run under the ticks that it began, and no more, ends as it did; and it begins no more than there are.
 use Rattle.std.proofs.Common.{◌≡◌, ℕ, zero, suc, ◌+◌, ◌-◌, ◌≤◌, Bool, true, false, cond, List, [], ◌∷◌, ◌++◌, length, take, map, arith, refl, sym, ap, ◌∙◌}
-use Rattle.std.proofs.Common.{Option, Some, None, Result, Ok, Err, nat_le}
+use Rattle.std.proofs.Common.{Option, Some, None, Result, nat_le}
 use Rattle.std.proofs.lemmas.Bool.{leb-false, leb-true}
 use Rattle.std.proofs.Math.Seq.{drop-length, take-length}
 use Rattle.hm_base.specs.Image.{Segment}

@@ -53,15 +53,15 @@ or_left : (a b : Bool) → b ≡ false → a ≡ (a || b)
 or_left true b e = refl
 or_left false b e = sym e
 
-or_left : (o p : Option ℕ) → p ≡ None → o ≡ option_or o p
-or_left (Some a) p e = refl
-or_left None p e = sym e
+option_or_left : (o p : Option ℕ) → p ≡ None → o ≡ option_or o p
+option_or_left (Some a) p e = refl
+option_or_left None p e = sym e
 
 pub narrow_has_label : (i : Instr) → narrow.IsNarrow i → narrow_rows.has_label i ≡ has_label i
 narrow_has_label i e = or_left (narrow_rows.has_label i) (wide_rows.has_label i) (wide_label_none i e)
 
 pub narrow_target : (i : Instr) (pc : ℕ) → narrow.IsNarrow i → narrow_targets.target i pc ≡ target i pc
-narrow_target i pc e = or_left (narrow_targets.target i pc) (wide_targets.target i pc) (wide_target_none i pc e)
+narrow_target i pc e = option_or_left (narrow_targets.target i pc) (wide_targets.target i pc) (wide_target_none i pc e)
 
 pub narrow_label : (i : Instr) (t : Tok) → narrow.IsNarrow i → narrow.label_of i t ≡ label_of i t
 narrow_label i t e = ap (λ (b : Bool). cond b (Some t) None) (narrow_has_label i e)
@@ -92,14 +92,14 @@ narrow_target_none (instr.Vector i) pc e = absurd e
 or_right : (a b : Bool) → a ≡ false → b ≡ (a || b)
 or_right a b e = rw e refl
 
-or_right : (o p : Option ℕ) → o ≡ None → p ≡ option_or o p
-or_right o p e = rw e refl
+option_or_right : (o p : Option ℕ) → o ≡ None → p ≡ option_or o p
+option_or_right o p e = rw e refl
 
 pub wide_has_label : (i : Instr) → IsWide i → wide_rows.has_label i ≡ has_label i
 wide_has_label i e = or_right (narrow_rows.has_label i) (wide_rows.has_label i) (narrow_label_none i e)
 
 pub wide_target : (i : Instr) (pc : ℕ) → IsWide i → wide_targets.target i pc ≡ target i pc
-wide_target i pc e = or_right (narrow_targets.target i pc) (wide_targets.target i pc) (narrow_target_none i pc e)
+wide_target i pc e = option_or_right (narrow_targets.target i pc) (wide_targets.target i pc) (narrow_target_none i pc e)
 
 pub wide_label : (i : Instr) (t : Tok) → IsWide i → wide.label_of i t ≡ label_of i t
 wide_label i t e = ap (λ (b : Bool). cond b (Some t) None) (wide_has_label i e)

@@ -1,6 +1,6 @@
 use Rattle.std.proofs.Common.{◌<◌, ◌^◌, lit<}
 use Rattle.hm_source.specs.declared.directives.Multiple.{Multiple}
-use Rattle.hm_source.specs.declared.directives.Multiple.TheVariants.{Two, Four, Eight}
+use Rattle.hm_source.specs.declared.directives.Multiple.TheVariants.{Two}
 use Rattle.hm_source.specs.Directives.{multiple_of}
 use Rattle.hm_source.proofs.directives.multiple_alone.Goals as goal
 
