@@ -1,10 +1,13 @@
-//! Codes of instructions as bytes: halfwords one behind another, each with its low byte first.
+//! Codes of instructions as bytes: halfwords one behind another, each with its low byte first; and instructions of programs that are
+//! generated.
 #![tactic(auto)]
 
 ghost use Rattle.std.specs.Prelude.{◌≡◌, ◌++◌, [], ◌∷◌, IfOk};
 ghost use Rattle.hm_code_bytes.specs.Bytes.{all_halves, half_bytes, word_bytes};
 ghost use Rattle.hm_code_bytes.specs.Codes.{IsPlain};
 ghost use Rattle.hm_isa.specs.Code.{halfwords, two_halves};
+
+pub mod rows;
 
 use hm_base::OutOfMemory;
 use hm_enc16::encode16;

@@ -17,19 +17,15 @@ use Rattle.hm_kernel_lang.specs.Language.{address, names, need, numbers, operati
 use Rattle.hm_kernel_lang.specs.Machine.{Again, Begin, Do, Item, Load, Offset, Plain, Stop}
 use Rattle.hm_kernel_lang.proofs.Expressions.{needs_one}
 use Rattle.hm_kernel_lang.proofs.Straight.{halves_append}
+use Rattle.hm_code_bytes.specs.Instructions.{IsBkpt}
+use Rattle.hm_code_bytes.proofs.Made.{items_append}
 use Rattle.hm_kernel_code.specs.Appending.{Appends}
-use Rattle.hm_kernel_code.specs.Instructions.{AreItems, IsItem, IsOperation, IsStopRow}
-
-items_both : (t : ElementType) (xs ys : List Item) (is js : List Instr) → AreItems t xs is → AreItems t ys js → AreItems t (xs ++ ys) (is ++ js)
-items_both t [] ys [] js h k = k
-items_both t [] ys (i ∷ is) js h k = absurd h
-items_both t (x ∷ xs) ys [] js h k = absurd h
-items_both t (x ∷ xs) ys (i ∷ is) js h k = (h.0, items_both t xs ys is js h.1 k)
+use Rattle.hm_kernel_code.specs.Instructions.{AreItems, IsItem, IsOperation}
 
 pub appends_both : (t : ElementType) (xs ys : List Item) (a b c : List Instr) → Appends t xs a b → Appends t ys b c → Appends t (xs ++ ys) a c
 appends_both t xs ys a b c h k = record {
   added = h.added ++ k.added;
-  kinds = items_both t xs ys h.added k.added h.kinds k.kinds;
+  kinds = items_append (IsItem t) xs ys h.added k.added h.kinds k.kinds;
   is = k.is ∙ ap (λ (is : List Instr). is ++ k.added) h.is ∙ append_assoc a h.added k.added;
 }
 
@@ -126,7 +122,7 @@ all_lines at n (l ∷ ls) = ap (λ (xs : List Item). line_code at n l ++ xs) (al
     ∙ sym (append_assoc (line_code at n l) (flat_map (line_code at n) ls) (Stop ∷ []))
 
 pub text_appended : (t : ElementType) (at : ℕ → ℕ) (n : ℕ) (ls : List Line) (k : ℕ) (i : Instr) (b c : List Instr) → length ls ≤ k
-    → Appends t (first_lines at n ls k) [] b → IsStopRow i → c ≡ b ++ (i ∷ [])
+    → Appends t (first_lines at n ls k) [] b → IsBkpt 0 i → c ≡ b ++ (i ∷ [])
     → AreItems t (lines_code at n ls) c
 text_appended t at n ls k i b c h front is e =
     let whole : take k ls ≡ ls = take_all k ls h in

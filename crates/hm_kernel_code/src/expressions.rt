@@ -7,8 +7,9 @@ ghost use Rattle.hm_kernel_lang.specs.Language.{address, need};
 ghost use Rattle.hm_kernel_lang.specs.Machine.{Load, Offset, Plain, Splat};
 ghost use Rattle.hm_kernel_lang.specs.Texts.{IsOver};
 
-use crate::rows::{SCRATCH, add_offset, half_row, operation, splat, transfer};
+use crate::rows::{SCRATCH, add_offset, operation, splat, transfer};
 use hm_base::OutOfMemory;
+use hm_code_bytes::rows::half_row;
 use hm_isa::{HalfName, Instr};
 use hm_kernel_lang::text::{Array, ElementType, Expr};
 

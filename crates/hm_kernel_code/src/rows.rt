@@ -1,19 +1,18 @@
 //! The instructions of a text's code, as values.
 
 ghost use Rattle.std.specs.Prelude.{◌≡◌, ◌+◌, ◌<◌, cond};
-ghost use Rattle.hm_isa.specs.declared.data.HalfName.{HalfName};
-ghost use Rattle.hm_isa.specs.declared.narrow.ByteName.{ByteName};
+ghost use Rattle.hm_code_bytes.specs.Instructions.{IsSplatRow};
 ghost use Rattle.hm_isa.specs.declared.vectors.AddName.{AddName};
-ghost use Rattle.hm_isa.specs.declared.vectors.BitwiseName.{BitwiseName};
 ghost use Rattle.hm_isa.specs.declared.vectors.SignedName.{SignedName};
-ghost use Rattle.hm_kernel_code.specs.Instructions.{IsAddRow, IsBestRow, IsBitwiseRow, IsMoveRow, IsOperation, IsSplatRow, element_name};
-ghost use Rattle.hm_kernel_code.specs.Instructions.{IsAgainRow, IsBeginRow, IsByteRow, IsHalfRow, IsStopRow, IsSumRow};
+ghost use Rattle.hm_kernel_code.specs.Instructions.{IsAddRow, IsAgainRow, IsBeginRow, IsBestRow, IsMoveRow, IsOperation, IsSumRow, element_name};
 ghost use Rattle.hm_kernel_lang.specs.Language.{is_signed};
 ghost use Rattle.hm_kernel_lang.specs.Machine.{size_code};
 
+use hm_code_bytes::rows;
+use hm_code_bytes::rows::bitwise_row;
 use hm_isa::{
-    AddName, Below, BitwiseName, Branch, ByteName, Element, ElementSize, HalfName, Instr, LoopEnd,
-    LoopEndName, S4, S6, S18, Scalar, SignedName, T4, T23, V1, V2, V3, V18, V24, Vector, Wlstp,
+    AddName, Below, BitwiseName, Branch, Element, ElementSize, Instr, LoopEnd, LoopEndName, S6,
+    Scalar, SignedName, T23, V24, Vector, Wlstp,
 };
 use hm_kernel_lang::text::{ElementType, Op};
 
@@ -58,37 +57,6 @@ fn unsigned_of(t: ElementType) -> Below<2>
     }
 }
 
-/// `movs rd,#x` or `adds rd,#x`.
-pub fn byte_row(name: ByteName, d: u32, x: u32) -> Instr
-    requires register { d < 8 }
-    requires byte { x < 256 }
-    ensures row { IsByteRow name d x result }
-{
-    let row = S4 {
-        name,
-        d: Below::new(d),
-        i: Below::new(x),
-    };
-    Instr::Scalar(Scalar::S4(row))
-}
-
-/// `movw rd,#x` or `movt rd,#x`.
-pub fn half_row(name: HalfName, d: u32, x: u32) -> Instr
-    requires register { d < 13 }
-    requires half { x < 65536 }
-    ensures row { IsHalfRow name d x result }
-{
-    let row = T4 {
-        name,
-        d: Below::new(d),
-        i4: Below::new(x / 4096),
-        i: Below::new(x / 2048 % 2),
-        i3: Below::new(x / 256 % 8),
-        i8: Below::new(x % 256),
-    };
-    Instr::Scalar(Scalar::T4(row))
-}
-
 /// `add r5,r4`: the address of the elements that are next, from that of the array.
 pub fn add_offset() -> Instr
     ensures row { IsSumRow 5 4 result }
@@ -103,14 +71,9 @@ pub fn add_offset() -> Instr
 /// `vdup qd,r5`.
 pub fn splat(t: ElementType, d: u32) -> Instr
     requires register { d < 8 }
-    ensures row { IsSplatRow t d 5 result }
+    ensures row { IsSplatRow (element_name t) d 5 result }
 {
-    let row = V18 {
-        size: element_of(t),
-        d: Below::new(d),
-        t: Below::new(SCRATCH),
-    };
-    Instr::Vector(Vector::V18(row))
+    rows::splat(element_of(t), d, SCRATCH)
 }
 
 /// A load of qd from the address in r5 where l is 1, and a store of it there where l is 0.
@@ -137,28 +100,7 @@ fn add_row(t: ElementType, name: AddName, d: u32) -> Instr
     requires register { d + 1 < 8 }
     ensures row { IsAddRow t name d d (d + 1) result }
 {
-    let row = V1 {
-        name,
-        z: size_of(t),
-        n: Below::new(d),
-        d: Below::new(d),
-        m: Below::new(d + 1),
-    };
-    Instr::Vector(Vector::V1(row))
-}
-
-/// An operation on the bits of qd and the register behind it, in qd.
-fn bitwise_row(name: BitwiseName, d: u32) -> Instr
-    requires register { d + 1 < 8 }
-    ensures row { IsBitwiseRow name d d (d + 1) result }
-{
-    let row = V2 {
-        name,
-        n: Below::new(d),
-        d: Below::new(d),
-        m: Below::new(d + 1),
-    };
-    Instr::Vector(Vector::V2(row))
+    rows::add_row(size_of(t).get(), name, d, d, d + 1)
 }
 
 /// The greater or the lesser of qd and the register behind it, in qd.
@@ -166,15 +108,7 @@ fn best_row(t: ElementType, name: SignedName, d: u32) -> Instr
     requires register { d + 1 < 8 }
     ensures row { IsBestRow t name d d (d + 1) result }
 {
-    let row = V3 {
-        name,
-        u: unsigned_of(t),
-        z: size_of(t),
-        n: Below::new(d),
-        d: Below::new(d),
-        m: Below::new(d + 1),
-    };
-    Instr::Vector(Vector::V3(row))
+    rows::best_row(unsigned_of(t).get(), size_of(t).get(), name, d, d, d + 1)
 }
 
 /// An operation on qd and the register behind it, in qd.
@@ -188,9 +122,9 @@ pub fn operation(t: ElementType, op: Op, d: u32) -> Instr
         Op::Mul => add_row(t, AddName::Mul, d),
         Op::Min => best_row(t, SignedName::Min, d),
         Op::Max => best_row(t, SignedName::Max, d),
-        Op::And => bitwise_row(BitwiseName::And, d),
-        Op::Or => bitwise_row(BitwiseName::Orr, d),
-        Op::Xor => bitwise_row(BitwiseName::Eor, d),
+        Op::And => bitwise_row(BitwiseName::And, d, d, d + 1),
+        Op::Or => bitwise_row(BitwiseName::Orr, d, d, d + 1),
+        Op::Xor => bitwise_row(BitwiseName::Eor, d, d, d + 1),
     }
 }
 
@@ -217,12 +151,4 @@ pub fn end_loop(halves: u32) -> Instr
         v: Below::new(halves),
     };
     Instr::Branch(Branch::T23(T23::End(row)))
-}
-
-/// `bkpt #0`.
-pub fn stop() -> Instr
-    ensures row { IsStopRow result }
-{
-    let row = S18 { i: Below::new(0) };
-    Instr::Scalar(Scalar::S18(row))
 }

@@ -1,5 +1,5 @@
 -- Codes that are added behind bytes, item by item and draw by draw.
-use Rattle.std.proofs.Common.{◌≡◌, ℕ, zero, suc, ◌+◌, ◌/◌, ◌%◌, ◌<◌, ◌≤◌, length, List, [], ◌∷◌, ◌++◌, refl, sym, ap, ◌∙◌, subst, arith, take, get_or}
+use Rattle.std.proofs.Common.{◌≡◌, ℕ, zero, suc, ◌+◌, ◌<◌, ◌≤◌, length, List, [], ◌∷◌, ◌++◌, refl, sym, ap, ◌∙◌, subst, arith, take, get_or}
 use Rattle.std.proofs.Common.{append-nil}
 use Rattle.std.proofs.lemmas.Grind.{flat_map-append}
 use Rattle.std.proofs.lemmas.List.{append_assoc, length-append, take_more}
@@ -11,16 +11,11 @@ use Rattle.hm_isa.specs.declared.Instr.{Instr}
 use Rattle.hm_isa.specs.Code.{halfwords}
 use Rattle.hm_soak.specs.Adding.{AddsCodes}
 use Rattle.hm_code_bytes.specs.Bytes.{all_halves, half_bytes, word_bytes}
-use Rattle.hm_soak_laws.specs.Image.{AreItems, IsItem, IsSoak, vectors}
+use Rattle.hm_soak_laws.specs.Image.{IsItem, IsSoak, vectors}
 use Rattle.hm_soak_laws.specs.Soak.{Bkpt, Item, code, draw, drawn, fill, filled, handler, head, many, operation, operations}
 use Rattle.hm_code_bytes.proofs.Bytes.{all_append, halves_append, length_halves}
+use Rattle.hm_code_bytes.proofs.Made.{items_append}
 use Rattle.hm_soak_laws.proofs.Whole.{size_is}
-
-items_append : (xs ys : List Item) (is js : List Instr) → AreItems xs is → AreItems ys js → AreItems (xs ++ ys) (is ++ js)
-items_append [] ys [] js h k = k
-items_append [] ys (i ∷ is) js h k = absurd h
-items_append (x ∷ xs) ys [] js h k = absurd h
-items_append (x ∷ xs) ys (i ∷ is) js h k = (h.0, items_append xs ys is js h.1 k)
 
 -- the vectors as words
 abbrev pub vector_words : List ℕ
@@ -47,7 +42,7 @@ adds_one x i old new h e = record { instrs = i ∷ []; items = (h, tt); is = e �
 pub adds_more : (xs ys : List Item) (a b c : List ℕ) → AddsCodes xs a b → AddsCodes ys b c → AddsCodes (xs ++ ys) a c
 adds_more xs ys a b c h k = record {
   instrs = h.instrs ++ k.instrs;
-  items = items_append xs ys h.instrs k.instrs h.items k.items;
+  items = items_append IsItem xs ys h.instrs k.instrs h.items k.items;
   is =
       let hs = all_halves h.instrs in
       let ks = all_halves k.instrs in

@@ -4,12 +4,11 @@ ghost use Rattle.std.specs.Prelude.{◌≡◌, ◌++◌, ◌/◌, ◌%◌, ◌<�
 ghost use Rattle.hm_soak.specs.Adding.{AddsCodes};
 ghost use Rattle.hm_soak_laws.specs.Soak.{Bkpt, Movt, Movw, code, draw, drawn, fill, filled, handler, head, many, operations};
 
-use crate::rows::{
-    branch_to_link, breakpoint, duplicate, half_row, move_byte, no_operation, operation, store,
-};
+use crate::rows::{branch_to_link, no_operation, operation, store};
 use hm_base::OutOfMemory;
 use hm_code_bytes::add_code;
-use hm_isa::HalfName;
+use hm_code_bytes::rows::{breakpoint, byte_row, half_row, splat};
+use hm_isa::{ByteName, Element, HalfName};
 
 /// How many operations on lanes a soak has.
 pub const OPERATIONS: u32 = 4096;
@@ -38,7 +37,7 @@ fn add_head(out: &mut Vec<u8>) -> Result<(), OutOfMemory>
     ensures codes { IfOk result (λ _. AddsCodes head out.old.items out.new.items) }
 {
     add_constant(out, 2, INTERRUPT_ENABLES)?;
-    add_code(out, &move_byte(3, 1))?;
+    add_code(out, &byte_row(ByteName::Mov, 3, 1))?;
     add_code(out, &store(3, 2))
 }
 
@@ -48,7 +47,7 @@ fn add_filled(out: &mut Vec<u8>, j: u32, v: u32) -> Result<(), OutOfMemory>
     ensures codes { IfOk result (λ _. AddsCodes (filled j v) out.old.items out.new.items) }
 {
     add_constant(out, 1, v)?;
-    add_code(out, &duplicate(4 + j, 1))
+    add_code(out, &splat(Element::Words, 4 + j, 1))
 }
 
 /// Adds the instructions that fill q4 to q7 with the first four draws, and gives the fourth.
@@ -81,7 +80,7 @@ fn add_end(out: &mut Vec<u8>) -> Result<(), OutOfMemory>
     ensures codes { IfOk result (λ _. AddsCodes (Bkpt 0 ∷ handler) out.old.items out.new.items) }
 {
     add_code(out, &breakpoint(0))?;
-    add_code(out, &move_byte(0, 7))?;
+    add_code(out, &byte_row(ByteName::Mov, 0, 7))?;
     add_code(out, &no_operation())?;
     add_code(out, &branch_to_link())
 }

@@ -17,7 +17,8 @@ use Rattle.hm_isa.specs.Code.{add_base, bitwise_base, byte_base, dup_base, halfw
 use Rattle.hm_isa.specs.DataCodes.{half_base}
 use Rattle.hm_isa.specs.Standing.{◌↑◌}
 use Rattle.hm_code_bytes.specs.Bytes.{all_halves, half_bytes}
-use Rattle.hm_soak_laws.specs.Image.{AreItems, IsHalfRow, IsItem, IsOperation, IsSoak, IsSum, vectors}
+use Rattle.hm_code_bytes.specs.Instructions.{IsAddRow, IsHalfRow}
+use Rattle.hm_soak_laws.specs.Image.{AreItems, IsItem, IsOperation, IsSoak, vectors}
 use Rattle.hm_soak_laws.specs.Soak as soak
 use Rattle.hm_soak_laws.specs.Soak.{Item, Operation, Movw, Movt, Movs, Str, Vdup, Lanes, Bkpt, Nop, Bx, code}
 
@@ -56,7 +57,7 @@ half_has name d x i h =
     let f = has_fields r.i4.value r.i.value r.i3.value r.i8.value x r.i.in_range r.i3.in_range r.i8.in_range h.x_is in
     ap halfwords h.is ∙ (λ j. two_halves (half_base (h.name_is j) + (f.0 j) ↑ 16 + (f.1 j) ↑ 26 + (f.2 j) ↑ 12 + (h.d_is j) ↑ 8 + f.3 j))
 
-sum_has : (name : AddName) (d n m : ℕ) (i : Instr) → IsSum name d n m i → halfwords i ≡ sum_code name d n m
+sum_has : (name : AddName) (d n m : ℕ) (i : Instr) → IsAddRow 2 name d n m i → halfwords i ≡ sum_code name d n m
 sum_has name d n m i h = ap halfwords h.is ∙ (λ j. two_halves (add_base (h.name_is j) + (h.z_is j) ↑ 20 + (h.n_is j) ↑ 17 + (h.d_is j) ↑ 13 + (h.m_is j) ↑ 1))
 
 operation_has : (o : Operation) (d n m : ℕ) (i : Instr) → IsOperation o d n m i → halfwords i ≡ operation_code o d n m

@@ -1,5 +1,6 @@
 -- The instructions of a soak between its head and its breakpoint always go on; and how many there are.
 use Rattle.std.proofs.Common.{◌≡◌, ℕ, zero, suc, ◌+◌, ◌*◌, ◌≤◌, length, List, [], ◌∷◌, ◌++◌, refl, sym, ap, subst, arith}
+use Rattle.std.specs.List.{AllByRecursion}
 use Rattle.std.proofs.lemmas.List.{length-append}
 use Rattle.hm_isa.specs.declared.Instr.{Instr}
 use Rattle.hm_isa.specs.declared.Instr.TheVariants as instr
@@ -7,9 +8,10 @@ use Rattle.hm_isa.specs.declared.Scalar.TheVariants as scalar
 use Rattle.hm_isa.specs.declared.Vector.TheVariants as vector
 use Rattle.hm_isa.specs.Code.{halfwords}
 use Rattle.hm_code_bytes.specs.Bytes.{all_halves}
+use Rattle.hm_code_bytes.proofs.Made.{fit_append}
 use Rattle.hm_soak_laws.specs.Image.{AreItems, IsItem, IsOperation}
 use Rattle.hm_soak_laws.specs.Soak as soak
-use Rattle.hm_soak_laws.specs.Soak.{Item, Operation, Movw, Movt, Movs, Str, Vdup, Lanes, Bkpt, Nop, Bx, draw, fill, operation, operations}
+use Rattle.hm_soak_laws.specs.Soak.{Item, Operation, Movw, Movt, Movs, Str, Vdup, Lanes, Bkpt, Nop, Bx, draw, fill, operations}
 use Rattle.hm_soak_laws.specs.Straight.{AllGoOn, AlwaysGoesOn}
 use Rattle.hm_soak_laws.proofs.Rows.{byte_goes, half_goes, vector_goes}
 
@@ -26,8 +28,7 @@ IsFree Nop = ⊥
 IsFree (Bx m) = ⊥
 
 abbrev pub AreFree : List Item → Type 0
-AreFree [] = Unit {0}
-AreFree (x ∷ xs) = IsFree x × AreFree xs
+AreFree = AllByRecursion IsFree
 
 by_row : (i j : Instr) → i ≡ j → AlwaysGoesOn j → AlwaysGoesOn i
 by_row i j e h = subst AlwaysGoesOn (sym e) h
@@ -52,16 +53,6 @@ items_go (x ∷ xs) [] free h = absurd h
 items_go (x ∷ xs) (i ∷ is) free h = (item_goes x i free.0 h.0, items_go xs is free.1 h.1)
 
 -- NUMBERS
-pub items_length : (xs : List Item) (is : List Instr) → AreItems xs is → length is ≡ length xs
-items_length [] [] h = refl
-items_length [] (i ∷ is) h = absurd h
-items_length (x ∷ xs) [] h = absurd h
-items_length (x ∷ xs) (i ∷ is) h = ap suc (items_length xs is h.1)
-
-free_append : (xs ys : List Item) → AreFree xs → AreFree ys → AreFree (xs ++ ys)
-free_append [] ys h k = k
-free_append (x ∷ xs) ys h k = (h.0, free_append xs ys h.1 k)
-
 fill_free : (n j x : ℕ) → AreFree (fill n j x)
 unfolding fill
 fill_free zero j x = tt
@@ -83,7 +74,7 @@ operations_length zero k x = refl
 operations_length (suc n) k x = ap suc (operations_length n (k + 1) (draw x))
 
 pub middle_free : (n x y : ℕ) → AreFree (fill 4 0 x ++ operations n 0 y)
-middle_free n x y = free_append (fill 4 0 x) (operations n 0 y) (fill_free 4 0 x) (operations_free n 0 y)
+middle_free n x y = fit_append IsFree (fill 4 0 x) (operations n 0 y) (fill_free 4 0 x) (operations_free n 0 y)
 
 pub middle_length : (n x y : ℕ) → length (fill 4 0 x ++ operations n 0 y) ≡ 12 + n
 middle_length n x y = let a = length-append (fill 4 0 x) (operations n 0 y) in let b = fill_length 4 0 x in let c = operations_length n 0 y in omega arith

@@ -2,6 +2,7 @@
 use Rattle.std.proofs.Common.{◌≡◌, ℕ, ◌+◌, ◌-◌, ◌*◌, ◌%◌, ◌^◌, ◌<◌, ◌≤◌, true, length, List, [], ◌∷◌, ◌++◌, refl, sym, ap, ◌∙◌, subst, arith, Some}
 use Rattle.std.specs.Prelude.{Ok, slice_index}
 use Rattle.std.proofs.lemmas.List.{length-append}
+use Rattle.std.proofs.lemmas.Slice.Zip.{AllZip-long}
 use Rattle.hm_base.specs.Image.{Segment, flash_byte, flash_size, flat}
 use Rattle.hm_codes.specs.Listing.{HalvesStand, IsListing, Listing}
 use Rattle.hm_handlers.specs.Runs.{run_out}
@@ -10,7 +11,7 @@ use Rattle.hm_run.specs.declared.Outcome.TheVariants as outcome
 use Rattle.hm_run.specs.declared.Reason.{Reason}
 use Rattle.hm_state.specs.Start.{reset_pc, start, start_under}
 use Rattle.hm_code_bytes.specs.Bytes.{all_halves, half_bytes}
-use Rattle.hm_soak_laws.specs.Image.{AreItems, IsSoak, vectors}
+use Rattle.hm_soak_laws.specs.Image.{AreItems, IsItem, IsSoak, vectors}
 use Rattle.hm_soak_laws.specs.Soak.{Bkpt, Item, code, drawn, fill, handler, head, many, operations}
 use Rattle.hm_sched.specs.Schedule.{Sched, plain}
 use Rattle.hm_soak_laws.specs.Schedule.{in_order_schedule, schedule}
@@ -18,7 +19,7 @@ use Rattle.hm_soak_laws.specs.Straight.{ComesTo, StandFrom, widths}
 use Rattle.hm_soak_laws.specs.Summary.{EndsAlike, HaltsInOrder, IsSummary, SameShown, entered, scheduled, summary_text}
 use Rattle.hm_soak_laws.proofs.Ends.{ends_alike}
 use Rattle.hm_soak_laws.proofs.Head.{head_passes}
-use Rattle.hm_soak_laws.proofs.Items.{AreFree, few_halves, items_go, items_length, middle_free, middle_length}
+use Rattle.hm_soak_laws.proofs.Items.{AreFree, few_halves, items_go, middle_free, middle_length}
 use Rattle.hm_code_bytes.proofs.Bytes.{length_halves}
 use Rattle.hm_code_bytes.proofs.Standing.{flat_byte, held}
 use Rattle.hm_soak_laws.proofs.Standing.{stand_back, stand_from, stand_front}
@@ -60,7 +61,7 @@ module _ (listing : Listing) (image : List Segment) where
       let headed = head_passes listing image a p.front fits h p.first (stand_front listing p.front p.back a all) in
       let passed = passes listing image q.front 4 b headed (stand_front listing q.front q.back b after) (items_go xs q.front free q.first) in
       let ends = at_breakpoint (4 + length q.front) (b + widths q.front) rest q.back passed q.second (stand_back listing q.front q.back b after) in
-      let e : 4 + length q.front + 1 ≡ 4 + length xs + 1 = let l = items_length xs q.front q.first in omega arith in
+      let e : 4 + length q.front + 1 ≡ 4 + length xs + 1 = let l = AllZip-long IsItem xs q.front q.first in omega arith in
       subst (HaltsInOrder listing image) e ends
 
 -- THE IMAGE

@@ -1,5 +1,7 @@
-use Rattle.hm_kernel_code.proofs.Made.{splat_made}
+use Rattle.std.proofs.Common.{subst}
+use Rattle.hm_code_bytes.specs.Instructions.{IsSplatRow}
+use Rattle.hm_isa.specs.declared.vectors.Element.{Element}
 use Rattle.hm_kernel_code.proofs.rows.splat.Goals as goal
 
 pub returns : goal.returns
-returns c = record { row = splat_made _ c.args.t c.args.d 5 c.element_of.ensures.value c.new.ensures c.new-2.ensures }
+returns c = record { row = subst (λ (size : Element). IsSplatRow size c.args.d 5 c.splat.result) c.element_of.ensures.value c.splat.ensures.row }

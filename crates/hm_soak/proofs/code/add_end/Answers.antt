@@ -7,7 +7,7 @@ pub returns : goal.returns
 returns c =
     let a = c.args.out.now.items in
     let one = adds_next [] (Bkpt 0) c.breakpoint.result a a c.add_code.new.out.items (adds_none a) c.breakpoint.ensures.row c.in_ok-add_code.ensures.added in
-    let two = adds_next (Bkpt 0 ∷ []) (Movs 0 7) c.move_byte.result a c.add_code.new.out.items c.add_code-2.new.out.items one c.move_byte.ensures.row
+    let two = adds_next (Bkpt 0 ∷ []) (Movs 0 7) c.byte_row.result a c.add_code.new.out.items c.add_code-2.new.out.items one c.byte_row.ensures.row
     c.in_ok-add_code-2.ensures.added in
     let three = adds_next (Bkpt 0 ∷ Movs 0 7 ∷ []) Nop c.no_operation.result a c.add_code-2.new.out.items c.add_code-3.new.out.items two
     c.no_operation.ensures.row c.in_ok-add_code-3.ensures.added in

@@ -1,5 +1,0 @@
-use Rattle.hm_soak.proofs.Made.{breakpoint_made}
-use Rattle.hm_soak.proofs.rows.breakpoint.Goals as goal
-
-pub returns : goal.returns
-returns c = record { row = breakpoint_made _ c.args.x c.new.ensures }
