@@ -9,6 +9,7 @@ use Rattle.hm_machine.specs.Shown.{Shown, Shows, timed_of}
 use Rattle.hm_run.specs.Report.{report_text}
 use Rattle.hm_run.specs.declared.Outcome.{Outcome}
 use Rattle.hm_run.specs.declared.Outcome.TheVariants as outcome
+use Rattle.hm_run.specs.declared.Offence.TheVariants as offence
 use Rattle.hm_exc.specs.declared.types.Broken.TheVariants as broken
 use Rattle.hm_run.specs.declared.Reason.{Reason}
 use Rattle.hm_sched.specs.Schedule.{Sched, ticks_of}
@@ -92,11 +93,21 @@ record HaltedSo (o : Option Outcome) : Type 0 where
 
 halted_so : (o : Option Outcome) → is_halt (kind_or o) ≡ true → HaltedSo o
 halted_so (Some (outcome.Halted reason n)) h = record { reason = reason; n = n; is = refl }
+halted_so (Some (outcome.HandlerBroken t (offence.Left (broken.ExcReturn value)))) h = absurd cc
+halted_so (Some (outcome.HandlerBroken t (offence.Left (broken.Register name entry now)))) h = absurd cc
+halted_so (Some (outcome.HandlerBroken t (offence.Left (broken.Frame addr)))) h = absurd cc
+halted_so (Some (outcome.HandlerBroken t (offence.Store addr))) h = absurd cc
+halted_so (Some (outcome.HandlerBroken t (offence.Call pc))) h = absurd cc
 halted_so o h = absurd cc
 
 -- the kind of an outcome that is no broken rule is another
 no_rule : (o : Outcome) → ((t step : ℕ) (r : Rule) → o ≢ outcome.RuleBroken t step r) → kind_of o ≢ kind.Rule
 no_rule (outcome.RuleBroken t step r) none e = none t step r refl
+no_rule (outcome.HandlerBroken t (offence.Left (broken.ExcReturn value))) none e = absurd cc
+no_rule (outcome.HandlerBroken t (offence.Left (broken.Register name entry now))) none e = absurd cc
+no_rule (outcome.HandlerBroken t (offence.Left (broken.Frame addr))) none e = absurd cc
+no_rule (outcome.HandlerBroken t (offence.Store addr)) none e = absurd cc
+no_rule (outcome.HandlerBroken t (offence.Call pc)) none e = absurd cc
 no_rule o none e = absurd cc
 
 -- so is that of each run of a shake
