@@ -12,19 +12,19 @@ use Rattle.hm_isa.specs.contracts.data.T4 as t4_
 use Rattle.hm_isa.specs.contracts.data.T5 as t5_
 use Rattle.hm_isa.specs.contracts.data.T6 as t6_
 use Rattle.hm_isa.specs.contracts.data.T7 as t7_
-use Rattle.hm_isa.specs.DataCodes.{operation, code_t1, code_t2, wide_sum_base, code_t3, half_base, code_t4, saturate_base, code_t5, extract_base, code_t6}
+use Rattle.hm_isa.specs.DataCodes.{data_operation, code_t1, code_t2, wide_sum_base, code_t3, half_base, code_t4, saturate_base, code_t5, extract_base, code_t6}
 use Rattle.hm_isa.specs.DataCodes.{code_t7}
 use Rattle.hm_layout.proofs.Search.{one_rule}
 use Rattle.hm_layout.proofs.Rows.{at, the_name, Named, Plain}
 
-abbrev pub row_t1 : Named t1_.the_type data_.enum code_t1 (λ x. 0xf0000000 + operation x * 2 ^ 21)
+abbrev pub row_t1 : Named t1_.the_type data_.enum code_t1 (λ x. 0xf0000000 + data_operation x * 2 ^ 21)
 row_t1 = record {
   layout = (the_name tt, (at 20 1 2, (at 16 4 16, (at 8 4 16, (at 26 1 2, (at 12 3 8, (at 0 8 256, tt)))))));
   is_code = λ r. omega arith;
   rules = λ v. one_rule;
 }
 
-abbrev pub row_t2 : Named t2_.the_type data_.enum code_t2 (λ x. 0xea000000 + operation x * 2 ^ 21)
+abbrev pub row_t2 : Named t2_.the_type data_.enum code_t2 (λ x. 0xea000000 + data_operation x * 2 ^ 21)
 row_t2 = record {
   layout = (the_name tt, (at 20 1 2, (at 16 4 16, (at 8 4 16, (at 12 3 8, (at 6 2 4, (at 4 2 4, (at 0 4 16, tt))))))));
   is_code = λ r. omega arith;

@@ -40,7 +40,7 @@ use Rattle.hm_isa.specs.contracts.narrow.S20 as s20_
 use Rattle.hm_isa.specs.contracts.narrow.S21 as s21_
 use Rattle.hm_isa.specs.Rules.{keeps_it, keeps_list}
 use Rattle.hm_isa.specs.Standing.{◌↑◌}
-use Rattle.hm_isa.specs.Code.{shift_base, code_s1, sum_base, code_s2, code_s3, byte_base, code_s4, logic_base, code_s5, code_s6, code_s7, code_s8, base_base}
+use Rattle.hm_isa.specs.Code.{shift_base, code_s1, sum_base, code_s2, code_s3, byte_base, code_s4, logic_base, code_s5, code_s6, code_s7, code_s8, address_base}
 use Rattle.hm_isa.specs.Code.{code_s9, stack_sum_base, code_s10, extend_base, code_s11, swap_base, code_s12, masking_base, code_s13, code_s14, access_base}
 use Rattle.hm_isa.specs.Code.{code_s15, plain_base, code_s16, word_base, code_s17, code_s18, hint_base, code_s19, list_base, code_s20, code_s21}
 use Rattle.hm_layout.proofs.Coded.{digit}
@@ -107,7 +107,7 @@ row_s8 = record {
   rules = λ v. no_rule;
 }
 
-abbrev pub row_s9 : Named s9_.the_type base_.enum code_s9 base_base
+abbrev pub row_s9 : Named s9_.the_type base_.enum code_s9 address_base
 row_s9 = record {
   layout = (the_name tt, (at 8 3 8, (at 0 8 256, tt)));
   is_code = λ r. omega arith;

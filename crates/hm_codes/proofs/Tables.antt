@@ -1,10 +1,8 @@
 -- The tables of rows, those of one halfword first.
-use Rattle.std.proofs.Common.{◌≡◌, ap, refl, ◌∙◌}
+use Rattle.std.proofs.Common.{◌≡◌, ap, ◌∙◌, arith}
 use Rattle.hm_isa.specs.declared.Scalar.{Scalar}
-use Rattle.hm_isa.specs.declared.Scalar.TheVariants as scalar
 use Rattle.hm_isa.specs.contracts.Scalar as scalar_
 use Rattle.hm_isa.specs.declared.Branch.{Branch}
-use Rattle.hm_isa.specs.declared.Branch.TheVariants as branch
 use Rattle.hm_isa.specs.contracts.Branch as branch_
 use Rattle.hm_isa.specs.Code.{scalar_halves, branch_halves}
 use Rattle.hm_layout.proofs.Coded.{Coded}
@@ -67,8 +65,7 @@ scalar_table =
     tt
 
 pub scalar_halves_are : (s : Scalar) → scalar_halves s ≡ halves_of 21 scalar_.enum.parts scalar_table (scalar_.enum.as_values s)
-scalar_halves_are (scalar.S1 r) = refl
-scalar_halves_are s = refl
+scalar_halves_are s = grind arith
 
 -- each code as one number
 abbrev pub coded_scalar : Coded Scalar
@@ -88,8 +85,7 @@ branch_table =
     tt
 
 pub branch_halves_are : (b : Branch) → branch_halves b ≡ halves_of 3 branch_.enum.parts branch_table (branch_.enum.as_values b)
-branch_halves_are (branch.S23 r) = refl
-branch_halves_are b = refl
+branch_halves_are b = grind arith
 
 abbrev pub coded_branch : Coded Branch
 coded_branch =

@@ -1,7 +1,7 @@
 //! The rows of 16-bit codes, written.
 
 ghost use Rattle.std.specs.Prelude.{◌≡◌, length, [], ◌∷◌};
-ghost use Rattle.hm_isa.specs.Code.{shift_base, sum_base, byte_base, logic_base, base_base, stack_sum_base, extend_base, swap_base, access_base, plain_base};
+ghost use Rattle.hm_isa.specs.Code.{shift_base, sum_base, byte_base, logic_base, address_base, stack_sum_base, extend_base, swap_base, access_base, plain_base};
 ghost use Rattle.hm_isa.specs.Code.{word_base, list_base, masking_base, hint_base, jump_base, zero_base, code_s1, code_s2, code_s3, code_s4, code_s5};
 ghost use Rattle.hm_isa.specs.Code.{code_s6, code_s7, code_s8, code_s9, code_s10, code_s11, code_s12, code_s13, code_s14, code_s15, code_s16};
 ghost use Rattle.hm_isa.specs.Code.{code_s17, code_s18, code_s19, code_s20, code_s21, code_s23, code_s24, code_s25, scalar_halves, branch_halves};
@@ -96,7 +96,7 @@ fn encode_s6(r: &S6) -> u16
     (0x4400 + ((d / 8) << 7) + (r.m.get() << 3) + d % 8) as u16
 }
 
-/// The code of `cmp rd,rm` of higher registers.
+/// The code of `cmp rd,rm`, one of them r8 or higher.
 fn encode_s7(r: &S7) -> u16
     ensures { result ≡ code_s7 r.now }
 {
@@ -114,7 +114,7 @@ fn encode_s8(r: &S8) -> u16
 
 /// The code of a name of the row S9 without its fields.
 pub fn base_of_address(name: BaseName) -> u32
-    ensures value { result ≡ base_base name }
+    ensures value { result ≡ address_base name }
 {
     match name {
         BaseName::Pc => 0xa000,

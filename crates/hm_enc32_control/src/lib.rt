@@ -9,6 +9,6 @@ pub use jumps::{
     base_of_loop_end, base_of_table, base_of_wide_branch, branch_code, encode_t23, find_branch,
 };
 pub use system::{
-    base_of_barrier, base_of_lane_move, base_of_read, base_of_written, encode_t18, encode_t19,
-    encode_t21, encode_t22, find_system,
+    base_of_barrier, base_of_lane_move, base_of_read, base_of_system_move, base_of_written,
+    encode_t18, encode_t19, encode_t21, encode_t22, find_system,
 };

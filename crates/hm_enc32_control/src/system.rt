@@ -328,7 +328,7 @@ pub fn encode_t19(r: &T19) -> u32
 }
 
 /// The code of a name of the row T21 without its fields.
-fn base_of_system_move(name: SystemMoveName) -> u32
+pub fn base_of_system_move(name: SystemMoveName) -> u32
     ensures value { result ≡ system_move_base name }
 {
     match name {

@@ -2,7 +2,7 @@
 use Rattle.std.proofs.Common.{◌≡◌, ◌+◌, ◌-◌, ◌*◌, ◌^◌, ℕ, true, false, [], ◌∷◌, refl, arith}
 use Rattle.hm_isa.specs.Rules.{is_general, is_accumulated}
 use Rattle.hm_isa.specs.DataRules.{is_constant_row, is_shifted_row, is_wide_sum, is_saturated, is_bit_field, is_inserted}
-use Rattle.hm_isa.specs.DataCodes.{operation, code_t1, code_t2, code_t3, code_t4, code_t5, code_t6, code_t7}
+use Rattle.hm_isa.specs.DataCodes.{data_operation, code_t1, code_t2, code_t3, code_t4, code_t5, code_t6, code_t7}
 use Rattle.hm_isa.specs.ArithCodes.{code_accumulate}
 use Rattle.hm_isa.specs.declared.arith.Accumulate.{Accumulate}
 use Rattle.hm_isa.specs.declared.data.DataName.{DataName}
@@ -19,11 +19,11 @@ use Rattle.hm_code_fields.proofs.AtPlaces.{places_named, places_plain, read}
 use Rattle.hm_codes.proofs.ArithRows.{row_accumulate}
 use Rattle.hm_codes.proofs.DataRows.{row_t1, row_t2, row_t3, row_t4, row_t5, row_t6, row_t7}
 
-same_operation : (x y : DataName) → operation x ≡ operation y → x ≡ y
+same_operation : (x y : DataName) → data_operation x ≡ data_operation y → x ≡ y
 same_operation x y e = grind arith
 
 pub refused_t1 : (w s n d i i3 b : ℕ) (x : DataName) → digits (places_named row_t1) w ≡ s ∷ n ∷ d ∷ i ∷ i3 ∷ b ∷ []
-    → (rest : ℕ) → 0xf0000000 + operation x * 2 ^ 21 ≡ rest → rest ≡ w - s * 2 ^ 20 - n * 2 ^ 16 - d * 2 ^ 8 - i * 2 ^ 26 - i3 * 2 ^ 12 - b
+    → (rest : ℕ) → 0xf0000000 + data_operation x * 2 ^ 21 ≡ rest → rest ≡ w - s * 2 ^ 20 - n * 2 ^ 16 - d * 2 ^ 8 - i * 2 ^ 26 - i3 * 2 ^ 12 - b
     → is_constant_row x s n d i i3 b ≡ false → (r : T1) → code_t1 r ≡ w → ⊥
 refused_t1 w s n d i i3 b x split rest base without refused r e =
     let stands : digits (places_named row_t1) w ≡ r.s.value ∷ r.n.value ∷ r.d.value ∷ r.i.value ∷ r.i3.value ∷ r.i8.value ∷ [] =
@@ -34,13 +34,13 @@ refused_t1 w s n d i i3 b x split rest base without refused r e =
     let fi : i ≡ r.i.value = cc in
     let f3 : i3 ≡ r.i3.value = cc in
     let fb : b ≡ r.i8.value = cc in
-    let same : operation r.name ≡ operation x = omega arith in
+    let same : data_operation r.name ≡ data_operation x = omega arith in
     let name : r.name ≡ x = same_operation _ _ same in
     let rules : is_constant_row r.name r.s.value r.n.value r.d.value r.i.value r.i3.value r.i8.value ≡ true = r.rules in
     cc
 
 pub refused_t2 : (w s n d i3 i2 ty m : ℕ) (x : DataName) → digits (places_named row_t2) w ≡ s ∷ n ∷ d ∷ i3 ∷ i2 ∷ ty ∷ m ∷ []
-    → (rest : ℕ) → 0xea000000 + operation x * 2 ^ 21 ≡ rest
+    → (rest : ℕ) → 0xea000000 + data_operation x * 2 ^ 21 ≡ rest
     → rest ≡ w - s * 2 ^ 20 - n * 2 ^ 16 - d * 2 ^ 8 - i3 * 2 ^ 12 - i2 * 2 ^ 6 - ty * 2 ^ 4 - m
     → is_shifted_row x s n d i3 i2 ty m ≡ false → (r : T2) → code_t2 r ≡ w → ⊥
 refused_t2 w s n d i3 i2 ty m x split rest base without refused r e =
@@ -54,7 +54,7 @@ refused_t2 w s n d i3 i2 ty m x split rest base without refused r e =
     let f2 : i2 ≡ r.i2.value = cc in
     let ft : ty ≡ r.ty.value = cc in
     let fm : m ≡ r.m.value = cc in
-    let same : operation r.name ≡ operation x = omega arith in
+    let same : data_operation r.name ≡ data_operation x = omega arith in
     let name : r.name ≡ x = same_operation _ _ same in
     let rules : is_shifted_row r.name r.s.value r.n.value r.d.value r.i3.value r.i2.value r.ty.value r.m.value ≡ true = r.rules in
     cc

@@ -7,7 +7,7 @@ ghost use Rattle.hm_isa.specs.declared.data.T2.{T2};
 ghost use Rattle.hm_isa.specs.declared.data.T3.{T3};
 ghost use Rattle.hm_isa.specs.declared.data.T4.{T4};
 ghost use Rattle.hm_isa.specs.DataRules.{is_constant, is_constant_row, is_first, is_result, is_shifted_row, is_stack_move, is_wide_sum};
-ghost use Rattle.hm_isa.specs.DataCodes.{operation, code_t1, code_t2, code_t3, code_t4, code_t5, code_t6, code_t7};
+ghost use Rattle.hm_isa.specs.DataCodes.{data_operation, code_t1, code_t2, code_t3, code_t4, code_t5, code_t6, code_t7};
 ghost use Rattle.hm_isa.specs.Code.{scalar_halves, two_halves};
 ghost use Rattle.hm_enc32_data.specs.DataRows.{IsNoData};
 
@@ -17,8 +17,8 @@ use hm_isa::{Below, DataName, HalfName, Scalar, SumName, T1, T2, T3, T4};
 
 /// The operation of the row T1 or T2 with this base whose code without its other fields is `rest`.
 fn data_name(base: u32, rest: u32) -> Option<DataName>
-    ensures found { IfSome result (λ x. base + operation x * 2 ^ 21 ≡ rest) }
-    ensures none { IfNone result ((x : DataName) → base + operation x * 2 ^ 21 ≡ rest → ⊥) }
+    ensures found { IfSome result (λ x. base + data_operation x * 2 ^ 21 ≡ rest) }
+    ensures none { IfNone result ((x : DataName) → base + data_operation x * 2 ^ 21 ≡ rest → ⊥) }
 {
     if rest < base {
         return None;

@@ -62,7 +62,7 @@ fn may_be_t6(n: u32, d: u32, i3: u32, i2: u32, width: u32) -> bool
     if !is_general(n) || !is_general(d) {
         return false;
     }
-    i3 * 4 + i2 + width <= 31
+    4 * i3 + i2 + width <= 31
 }
 
 /// `sbfx`, `ubfx rd,rn,#lsb,#w+1`
@@ -102,7 +102,7 @@ fn may_be_t7(n: u32, d: u32, i3: u32, i2: u32, end: u32) -> bool
     if n == 13 || !is_general(d) {
         return false;
     }
-    i3 * 4 + i2 <= end
+    4 * i3 + i2 <= end
 }
 
 /// `bfi rd,rn,#lsb,#width`, `bfc rd,#lsb,#width`

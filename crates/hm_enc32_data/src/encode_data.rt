@@ -1,14 +1,14 @@
 //! The rows T1 to T7, written.
 
 ghost use Rattle.std.specs.Prelude.{◌≡◌, ◌<◌};
-ghost use Rattle.hm_isa.specs.DataCodes.{operation, wide_sum_base, half_base, saturate_base, extract_base, code_t1, code_t2, code_t3, code_t4, code_t5};
+ghost use Rattle.hm_isa.specs.DataCodes.{data_operation, wide_sum_base, half_base, saturate_base, extract_base, code_t1, code_t2, code_t3, code_t4, code_t5};
 ghost use Rattle.hm_isa.specs.DataCodes.{code_t6, code_t7};
 
 use hm_isa::{DataName, ExtractName, HalfName, SaturateName, SumName, T1, T2, T3, T4, T5, T6, T7};
 
 /// The number of an operation of the rows T1 and T2.
 pub fn data_operation(name: DataName) -> u32
-    ensures value { result ≡ operation name }
+    ensures value { result ≡ data_operation name }
     ensures below { result < 16 }
 {
     match name {

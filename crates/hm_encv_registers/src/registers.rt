@@ -39,11 +39,11 @@ fn scalar_name(base: u32) -> Option<ScalarName>
     }
 }
 
-/// The code of the operation of the row V10 without its fields.
-pub fn base_of_scalar(x: ScalarName) -> u32
-    ensures value { result ≡ scalar_base x }
+/// The code of a name of the row V10 without its fields.
+pub fn base_of_scalar(name: ScalarName) -> u32
+    ensures value { result ≡ scalar_base name }
 {
-    match x {
+    match name {
         ScalarName::Add => 0xee01_0f40,
         ScalarName::Sub => 0xee01_1f40,
         ScalarName::Mul => 0xee01_1e60,
@@ -165,11 +165,11 @@ fn dup_size(base: u32) -> Option<Element>
     }
 }
 
-/// The code of the elements of the row V18 without its fields.
-pub fn base_of_dup(x: Element) -> u32
-    ensures value { result ≡ dup_base x }
+/// The code of a size of the row V18 without its fields.
+pub fn base_of_dup(size: Element) -> u32
+    ensures value { result ≡ dup_base size }
 {
-    match x {
+    match size {
         Element::Bytes => 0xeee0_0b10,
         Element::Halves => 0xeea0_0b30,
         Element::Words => 0xeea0_0b10,
@@ -206,11 +206,11 @@ fn offsets_name(base: u32) -> Option<OffsetsName>
     }
 }
 
-/// The code of the direction of the row V19 without its fields.
-pub fn base_of_offsets(x: OffsetsName) -> u32
-    ensures value { result ≡ offsets_base x }
+/// The code of a name of the row V19 without its fields.
+pub fn base_of_offsets(name: OffsetsName) -> u32
+    ensures value { result ≡ offsets_base name }
 {
-    match x {
+    match name {
         OffsetsName::Up => 0xee01_0f60,
         OffsetsName::Down => 0xee01_1f60,
     }

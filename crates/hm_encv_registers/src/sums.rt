@@ -61,11 +61,11 @@ fn dot_size(base: u32) -> Option<Element>
     }
 }
 
-/// The code of the elements of `vmladav` without its fields.
-pub fn base_of_dot(x: Element) -> u32
-    ensures value { result ≡ dot_base x }
+/// The code of a size of `vmladav`, of the row V22, without its fields.
+pub fn base_of_dot(size: Element) -> u32
+    ensures value { result ≡ dot_base size }
 {
-    match x {
+    match size {
         Element::Bytes => 0xeef0_0f00,
         Element::Halves => 0xeef0_0e00,
         Element::Words => 0xeef1_0e00,
@@ -233,11 +233,11 @@ fn extreme_name(base: u32) -> Option<ExtremeName>
     }
 }
 
-/// The code of the operation of the row V23 without its fields.
-pub fn base_of_extreme(x: ExtremeName) -> u32
-    ensures value { result ≡ extreme_base x }
+/// The code of a name of the row V23 without its fields.
+pub fn base_of_extreme(name: ExtremeName) -> u32
+    ensures value { result ≡ extreme_base name }
 {
-    match x {
+    match name {
         ExtremeName::Max => 0xeee2_0f00,
         ExtremeName::Min => 0xeee2_0f80,
     }

@@ -170,11 +170,11 @@ fn one_name(base: u32) -> Option<OneName>
     }
 }
 
-/// The code of the operation of the row V13 on elements without its fields.
-pub fn base_of_one(x: OneName) -> u32
-    ensures value { result ≡ one_base x }
+/// The code of a name of the row V13 on elements without its fields.
+pub fn base_of_one(name: OneName) -> u32
+    ensures value { result ≡ one_base name }
 {
-    match x {
+    match name {
         OneName::Cls => 0xffb0_0440,
         OneName::Clz => 0xffb0_04c0,
         OneName::Abs => 0xffb1_0340,
@@ -253,11 +253,11 @@ fn reverse_name(base: u32) -> Option<ReverseName>
     }
 }
 
-/// The code of the operation of the row V14 without its fields.
-pub fn base_of_reverse(x: ReverseName) -> u32
-    ensures value { result ≡ reverse_base x }
+/// The code of a name of the row V14 without its fields.
+pub fn base_of_reverse(name: ReverseName) -> u32
+    ensures value { result ≡ reverse_base name }
 {
-    match x {
+    match name {
         ReverseName::Rev64 => 0xffb0_0040,
         ReverseName::Rev32 => 0xffb0_00c0,
         ReverseName::Rev16 => 0xffb0_0140,
@@ -355,11 +355,11 @@ fn narrow_name(base: u32) -> Option<NarrowName>
     }
 }
 
-/// The code of the operation of the row V16 without its fields.
-pub fn base_of_narrow(x: NarrowName) -> u32
-    ensures value { result ≡ narrow_base x }
+/// The code of a name of the row V16 without its fields.
+pub fn base_of_narrow(name: NarrowName) -> u32
+    ensures value { result ≡ narrow_base name }
 {
-    match x {
+    match name {
         NarrowName::Plain => 0xfe31_0e81,
         NarrowName::ToUnsigned => 0xee31_0e81,
         NarrowName::Signed => 0xee33_0e01,

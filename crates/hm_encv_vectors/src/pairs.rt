@@ -41,11 +41,11 @@ fn add_name(base: u32) -> Option<AddName>
     }
 }
 
-/// The code of the operation of the row V1 without its fields.
-pub fn base_of_add(x: AddName) -> u32
-    ensures value { result ≡ add_base x }
+/// The code of a name of the row V1 without its fields.
+pub fn base_of_add(name: AddName) -> u32
+    ensures value { result ≡ add_base name }
 {
-    match x {
+    match name {
         AddName::Add => 0xef00_0840,
         AddName::Sub => 0xff00_0840,
         AddName::Mul => 0xef00_0950,
@@ -87,11 +87,11 @@ fn bitwise_name(base: u32) -> Option<BitwiseName>
     }
 }
 
-/// The code of the operation of the row V2 without its fields.
-pub fn base_of_bitwise(x: BitwiseName) -> u32
-    ensures value { result ≡ bitwise_base x }
+/// The code of a name of the row V2 without its fields.
+pub fn base_of_bitwise(name: BitwiseName) -> u32
+    ensures value { result ≡ bitwise_base name }
 {
-    match x {
+    match name {
         BitwiseName::And => 0xef00_0150,
         BitwiseName::Bic => 0xef10_0150,
         BitwiseName::Orr => 0xef20_0150,
@@ -137,11 +137,11 @@ fn signed_name(base: u32) -> Option<SignedName>
     }
 }
 
-/// The code of the operation of the row V3 without its fields.
-pub fn base_of_signed(x: SignedName) -> u32
-    ensures value { result ≡ signed_base x }
+/// The code of a name of the row V3 without its fields.
+pub fn base_of_signed(name: SignedName) -> u32
+    ensures value { result ≡ signed_base name }
 {
-    match x {
+    match name {
         SignedName::Max => 0xef00_0640,
         SignedName::Min => 0xef00_0650,
         SignedName::Abd => 0xef00_0740,
@@ -195,11 +195,11 @@ fn vector_shift_name(base: u32) -> Option<VectorShiftName>
     }
 }
 
-/// The code of the operation of the row V4 without its fields.
-pub fn base_of_vector_shift(x: VectorShiftName) -> u32
-    ensures value { result ≡ vector_shift_base x }
+/// The code of a name of the row V4 without its fields.
+pub fn base_of_vector_shift(name: VectorShiftName) -> u32
+    ensures value { result ≡ vector_shift_base name }
 {
-    match x {
+    match name {
         VectorShiftName::Shl => 0xef00_0440,
         VectorShiftName::Qshl => 0xef00_0450,
         VectorShiftName::Rshl => 0xef00_0540,
@@ -250,11 +250,11 @@ fn doubling_name(base: u32) -> Option<DoublingName>
     }
 }
 
-/// The code of the operation of the row V5 without its fields.
-pub fn base_of_doubling(x: DoublingName) -> u32
-    ensures value { result ≡ doubling_base x }
+/// The code of a name of the row V5 without its fields.
+pub fn base_of_doubling(name: DoublingName) -> u32
+    ensures value { result ≡ doubling_base name }
 {
-    match x {
+    match name {
         DoublingName::Qdmulh => 0xef00_0b40,
         DoublingName::Qrdmulh => 0xff00_0b40,
     }
@@ -328,11 +328,11 @@ fn high_name(base: u32) -> Option<HighName>
     }
 }
 
-/// The code of the operation of the row V7 without its fields.
-pub fn base_of_high(x: HighName) -> u32
-    ensures value { result ≡ high_base x }
+/// The code of a name of the row V7 without its fields.
+pub fn base_of_high(name: HighName) -> u32
+    ensures value { result ≡ high_base name }
 {
-    match x {
+    match name {
         HighName::Mulh => 0xee01_0e01,
         HighName::Rmulh => 0xee01_1e01,
     }
@@ -380,11 +380,11 @@ fn carry_name(base: u32) -> Option<CarryName>
     }
 }
 
-/// The code of the operation of the row V8 without its fields.
-pub fn base_of_carry(x: CarryName) -> u32
-    ensures value { result ≡ carry_base x }
+/// The code of a name of the row V8 without its fields.
+pub fn base_of_carry(name: CarryName) -> u32
+    ensures value { result ≡ carry_base name }
 {
-    match x {
+    match name {
         CarryName::Adc => 0xee30_0f00,
         CarryName::Adci => 0xee30_1f00,
         CarryName::Sbc => 0xfe30_0f00,
@@ -423,18 +423,18 @@ fn complex_sum_name(base: u32) -> Option<ComplexSumName>
     }
 }
 
-/// The code of the operation of the row V9 without its fields.
-pub fn base_of_complex_sum(x: ComplexSumName) -> u32
-    ensures value { result ≡ complex_sum_base x }
+/// The code of a name of the row V9 without its fields.
+pub fn base_of_complex_sum(name: ComplexSumName) -> u32
+    ensures value { result ≡ complex_sum_base name }
 {
-    match x {
+    match name {
         ComplexSumName::Cadd => 0xfe00_0f00,
         ComplexSumName::Hcadd => 0xee00_0f00,
     }
 }
 
 /// Whether results overwrite no neighbour that is still to be read.
-fn may_turn(z: ElementSize, d: QRegister, m: QRegister) -> bool
+fn may_be_complex_sum(z: ElementSize, d: QRegister, m: QRegister) -> bool
     ensures value { result ≡ is_complex_sum z.value d.value m.value }
 {
     z.get() != 2 || d.get() != m.get()
@@ -451,7 +451,7 @@ fn decode_v9(w: u32) -> Option<V9>
     let d = q_register(w, 13);
     let m = q_register(w, 1);
     let name = complex_sum_name(w - (z.get() << 20) - (t.get() << 12) - place_registers(n, d, m))?;
-    if !may_turn(z, d, m) {
+    if !may_be_complex_sum(z, d, m) {
         return None;
     }
     Some(V9 {

@@ -26,11 +26,11 @@ fn shift_name(base: u32) -> Option<ConstantShiftName>
     }
 }
 
-/// The code of the operation of the row V11 without its fields.
-pub fn base_of_constant_shift(x: ConstantShiftName) -> u32
-    ensures value { result ≡ constant_shift_base x }
+/// The code of a name of the row V11 without its fields.
+pub fn base_of_constant_shift(name: ConstantShiftName) -> u32
+    ensures value { result ≡ constant_shift_base name }
 {
-    match x {
+    match name {
         ConstantShiftName::Shr => 0xef80_0050,
         ConstantShiftName::Rshr => 0xef80_0250,
         ConstantShiftName::Qshl => 0xef80_0750,

@@ -21,7 +21,7 @@ use Rattle.hm_isa.specs.declared.vectors.V17.{V17}
 use Rattle.hm_isa.specs.declared.vectors.OffsetsName.{OffsetsName}
 use Rattle.hm_isa.specs.declared.vectors.OffsetsName.TheVariants as offsets
 use Rattle.hm_isa.specs.declared.vectors.Select.{Select}
-use Rattle.hm_isa.specs.Letters.{at_least_1}
+use Rattle.hm_isa.specs.Words.{zero_as_32}
 use Rattle.hm_isa.specs.declared.fields.Below.{Below}
 use Rattle.hm_lane.specs.declared.lanes.Size.{Size}
 use Rattle.hm_lane.specs.declared.lanes.Size.TheVariants.{Byte, Half, Word}
@@ -196,7 +196,7 @@ carry_row r = record {
 -- A REGISTER SHIFTED THROUGH THE WORDS
 -- V17: by how many bits VSHLC shifts, 32 coded 0
 abbrev pub shift_of : V17 → ℕ
-shift_of r = at_least_1 r.k.value
+shift_of r = zero_as_32 r.k.value
 
 -- V17: the new word of VSHLC: the old one shifted to the left, with bits of the core register let in below
 abbrev pub shift_new : V17 → List ℕ → ℕ

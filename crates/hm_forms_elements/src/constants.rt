@@ -12,6 +12,7 @@ ghost use Rattle.hm_forms_elements.specs.Forms.{constant_row};
 use hm_base::{Places, note};
 use hm_beat::Touch;
 use hm_isa::V15;
+use hm_isa::words::imm8;
 use hm_kinds::{Shape, Written, finish_row, read, touch_row};
 use hm_lane_fns::{merge_active, word_at};
 use hm_regs::Regs;
@@ -21,7 +22,7 @@ fn immediate(row: &V15) -> u32
     ensures value { result ≡ immediate row.now }
     ensures below { result < 256 }
 {
-    (row.i.get() << 7) + (row.i3.get() << 4) + row.i4.get()
+    imm8(row.i, row.i3, row.i4)
 }
 
 /// A word with `x` as its byte `k`.

@@ -95,7 +95,7 @@ use Rattle.hm_isa.specs.declared.vectors.CarryName.{CarryName}
 use Rattle.hm_isa.specs.declared.vectors.CarryName.TheVariants as carry
 use Rattle.hm_isa.specs.declared.vectors.V8.{V8}
 use Rattle.hm_isa.specs.declared.vectors.ComplexSumName.{ComplexSumName}
-use Rattle.hm_isa.specs.declared.vectors.ComplexSumName.TheVariants as turn
+use Rattle.hm_isa.specs.declared.vectors.ComplexSumName.TheVariants as complex_sum
 use Rattle.hm_isa.specs.declared.vectors.V9.{V9}
 use Rattle.hm_isa.specs.declared.vectors.ScalarName.{ScalarName}
 use Rattle.hm_isa.specs.declared.vectors.ScalarName.TheVariants as by_scalar
@@ -238,13 +238,13 @@ abbrev pub code_s8 : S8 → ℕ
 code_s8 r = 0x4600 + (r.d.value / 8) ↑ 7 + r.m.value ↑ 3 + r.d.value % 8
 
 -- S9: the code of ADR, and of ADD of sp and a constant, their register and constant 0 (DDI0553, "ADR" and "ADD (SP plus immediate)")
-abbrev pub base_base : BaseName → ℕ
-base_base base.Pc = 0xa000
-base_base base.Sp = 0xa800
+abbrev pub address_base : BaseName → ℕ
+address_base base.Pc = 0xa000
+address_base base.Sp = 0xa800
 
 -- S9: ADR, and ADD of sp and a constant (DDI0553, "ADR" and "ADD (SP plus immediate)")
 abbrev pub code_s9 : S9 → ℕ
-code_s9 r = base_base r.name + r.d.value ↑ 8 + r.i.value
+code_s9 r = address_base r.name + r.d.value ↑ 8 + r.i.value
 
 -- S10: the code of ADD and SUB into sp, their constant 0 (DDI0553, "ADD (SP plus immediate)" and "SUB (SP minus immediate)")
 abbrev pub stack_sum_base : SumName → ℕ
@@ -540,8 +540,8 @@ code_v8 r = carry_base r.name + r.n.value ↑ 17 + r.d.value ↑ 13 + r.m.value 
 
 -- V9: the code of VCADD and VHCADD with a rotation by 90 degrees, their size and registers 0 (DDI0553, "VCADD" and "VHCADD")
 abbrev pub complex_sum_base : ComplexSumName → ℕ
-complex_sum_base turn.Cadd = 0xfe000f00
-complex_sum_base turn.Hcadd = 0xee000f00
+complex_sum_base complex_sum.Cadd = 0xfe000f00
+complex_sum_base complex_sum.Hcadd = 0xee000f00
 
 -- V9: VCADD and VHCADD (DDI0553, "VCADD" and "VHCADD")
 abbrev pub code_v9 : V9 → ℕ

@@ -21,27 +21,27 @@ use Rattle.hm_isa.specs.declared.data.T7.{T7}
 
 -- T1 and T2: the number of AND, BIC, ORR, ORN, EOR, ADD, ADC, SBC, SUB and RSB
 -- (DDI0553, "Data-processing (modified immediate)" and "Data-processing (shifted register)")
-abbrev pub operation : DataName → ℕ
-operation data_.And = 0
-operation data_.Bic = 1
-operation data_.Orr = 2
-operation data_.Orn = 3
-operation data_.Eor = 4
-operation data_.Add = 8
-operation data_.Adc = 10
-operation data_.Sbc = 11
-operation data_.Sub = 13
-operation data_.Rsb = 14
+abbrev pub data_operation : DataName → ℕ
+data_operation data_.And = 0
+data_operation data_.Bic = 1
+data_operation data_.Orr = 2
+data_operation data_.Orn = 3
+data_operation data_.Eor = 4
+data_operation data_.Add = 8
+data_operation data_.Adc = 10
+data_operation data_.Sbc = 11
+data_operation data_.Sub = 13
+data_operation data_.Rsb = 14
 
 -- T1: AND, TST, BIC, ORR, MOV, ORN, MVN, EOR, TEQ, ADD, CMN, ADC, SBC, SUB, CMP, RSB of a constant (DDI0553, "Data-processing (modified immediate)")
 abbrev pub code_t1 : T1 → ℕ
-code_t1 r = 0xf0000000 + r.i.value ↑ 26 + operation r.name ↑ 21 + r.s.value ↑ 20 + r.n.value ↑ 16 + r.i3.value ↑ 12 + r.d.value ↑ 8 + r.i8.value
+code_t1 r = 0xf0000000 + r.i.value ↑ 26 + data_operation r.name ↑ 21 + r.s.value ↑ 20 + r.n.value ↑ 16 + r.i3.value ↑ 12 + r.d.value ↑ 8 + r.i8.value
 
 -- T2: AND, TST, BIC, ORR, MOV, LSL, LSR, ASR, ROR, RRX, ORN, MVN, EOR, TEQ, ADD, CMN, ADC, SBC, SUB, CMP and RSB of a shifted register
 -- (DDI0553, "Data-processing (shifted register)")
 abbrev pub code_t2 : T2 → ℕ
 code_t2 r =
-    0xea000000 + operation r.name ↑ 21 + r.s.value ↑ 20 + r.n.value ↑ 16 + r.i3.value ↑ 12 + r.d.value ↑ 8 + r.i2.value ↑ 6 + r.ty.value ↑ 4 + r.m.value
+    0xea000000 + data_operation r.name ↑ 21 + r.s.value ↑ 20 + r.n.value ↑ 16 + r.i3.value ↑ 12 + r.d.value ↑ 8 + r.i2.value ↑ 6 + r.ty.value ↑ 4 + r.m.value
 
 -- T3: the code of ADDW and SUBW, their registers and constant 0 (DDI0553, "ADD (immediate)" and "SUB (immediate)", encodings T4)
 abbrev pub wide_sum_base : SumName → ℕ

@@ -1,8 +1,9 @@
 -- The rules that tie the letters of the rows T1 to T7 together.
-use Rattle.std.specs.Prelude.{ℕ, ◌+◌, ◌*◌, Bool, ◌&&◌, ◌||◌, not, nat_eq, nat_le, nat_lt, true, false}
+use Rattle.std.specs.Prelude.{ℕ, ◌+◌, Bool, ◌&&◌, ◌||◌, not, nat_eq, nat_le, nat_lt, true, false}
 use Rattle.hm_isa.specs.declared.data.DataName.{DataName}
 use Rattle.hm_isa.specs.declared.data.DataName.TheVariants as data_
 use Rattle.hm_isa.specs.Rules.{is_general}
+use Rattle.hm_isa.specs.Words.{imm5}
 
 -- T1 and T2: ADD and SUB, and so CMN and CMP, alone take sp as their first register (DDI0553, "ADD (SP plus immediate)" and its kin)
 abbrev pub may_take_sp : DataName → Bool
@@ -69,8 +70,8 @@ is_saturated sh n d i3 i2 = is_general n && is_general d && (nat_eq sh 0 || nat_
 
 -- T6: the field of SBFX and UBFX ends at bit 31 or lower (DDI0553, "SBFX" and "UBFX")
 abbrev pub is_bit_field : ℕ → ℕ → ℕ → ℕ → ℕ → Bool
-is_bit_field n d i3 i2 w = is_general n && is_general d && nat_le (i3 * 4 + i2 + w) 31
+is_bit_field n d i3 i2 w = is_general n && is_general d && nat_le (imm5 i3 i2 + w) 31
 
 -- T7: the field of BFI and BFC has its lowest bit no higher than its highest (DDI0553, "BFI" and "BFC")
 abbrev pub is_inserted : ℕ → ℕ → ℕ → ℕ → ℕ → Bool
-is_inserted n d i3 i2 e = not (nat_eq n 13) && is_general d && nat_le (i3 * 4 + i2) e
+is_inserted n d i3 i2 e = not (nat_eq n 13) && is_general d && nat_le (imm5 i3 i2) e

@@ -1,5 +1,5 @@
 -- What names and letters of rows stand for: by how many places a shift goes, which register a base is, what an access is and how many bytes it has.
-use Rattle.std.specs.Prelude.{ℕ, ◌+◌, ◌-◌, ◌*◌, ◌^◌, nat_eq, nat_lt, if◌then◌else◌}
+use Rattle.std.specs.Prelude.{ℕ, ◌+◌, ◌-◌, ◌*◌, ◌^◌, nat_lt, if◌then◌else◌}
 use Rattle.hm_isa.specs.declared.narrow.AccessName.{AccessName}
 use Rattle.hm_isa.specs.declared.narrow.AccessName.TheVariants as access
 use Rattle.hm_isa.specs.declared.narrow.BaseName.{BaseName}
@@ -12,16 +12,13 @@ use Rattle.hm_isa.specs.declared.narrow.WordName.{WordName}
 use Rattle.hm_isa.specs.declared.narrow.WordName.TheVariants as word
 use Rattle.hm_isa.specs.declared.vectors.ConstantShiftName.{ConstantShiftName}
 use Rattle.hm_isa.specs.declared.vectors.ConstantShiftName.TheVariants as by_constant
+use Rattle.hm_isa.specs.Words.{zero_as_32}
 
--- the number of places from 1 to 32 that five bits stand for: 0 stands for 32
-abbrev pub at_least_1 : ℕ → ℕ
-at_least_1 i = if nat_eq i 0 then 32 else i
-
--- S1, T2 and T5: how many places a shift by a constant is by (DDI0553, "DecodeImmShift")
+-- S1: by how many places a shift by a constant goes, where i, below 32, is its code (DDI0553, "DecodeImmShift")
 abbrev pub shift_amount : ShiftName → ℕ → ℕ
 shift_amount shift.Lsl i = i
-shift_amount shift.Lsr i = at_least_1 i
-shift_amount shift.Asr i = at_least_1 i
+shift_amount shift.Lsr i = zero_as_32 i
+shift_amount shift.Asr i = zero_as_32 i
 
 -- S9: the number of the base register: 15 for pc, 13 for sp (DDI0553, "ADR" and "ADD (SP plus immediate)")
 abbrev pub base_register : BaseName → ℕ
@@ -58,10 +55,14 @@ word_access word.Ldr = access.Ldr
 abbrev pub constant_shift_size : ℕ → ℕ
 constant_shift_size x = if nat_lt x 16 then 0 else (if nat_lt x 32 then 1 else 2)
 
+-- V11: how many bits the elements have (DDI0553, "VSHR", "VRSHR", "VQSHL, VQSHLU", "VSHL", "VSRI" and "VSLI")
+abbrev pub constant_shift_bits : ℕ → ℕ
+constant_shift_bits x = 2 ^ (3 + constant_shift_size x)
+
 -- V11: how far elements are shifted, which the field x holds together with their size, one way for each direction
 -- (DDI0553, "VSHR", "VRSHR", "VQSHL, VQSHLU", "VSHL", "VSRI" and "VSLI")
 abbrev pub constant_shift_amount : ConstantShiftName → ℕ → ℕ
-constant_shift_amount by_constant.Shr x = 2 * 2 ^ (3 + constant_shift_size x) - x
-constant_shift_amount by_constant.Rshr x = 2 * 2 ^ (3 + constant_shift_size x) - x
-constant_shift_amount by_constant.Sri x = 2 * 2 ^ (3 + constant_shift_size x) - x
-constant_shift_amount name x = x - 2 ^ (3 + constant_shift_size x)
+constant_shift_amount by_constant.Shr x = 2 * constant_shift_bits x - x
+constant_shift_amount by_constant.Rshr x = 2 * constant_shift_bits x - x
+constant_shift_amount by_constant.Sri x = 2 * constant_shift_bits x - x
+constant_shift_amount name x = x - constant_shift_bits x

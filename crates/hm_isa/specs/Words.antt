@@ -1,5 +1,5 @@
 -- Words as instructions make them: shifts, signs, and the constants of T1, T3 and T4.
-use Rattle.std.specs.Prelude.{ℕ, ◌+◌, ◌-◌, ◌*◌, ◌/◌, ◌%◌, ◌^◌, Bool, nat_le, nat_lt, nat_eq, if◌then◌else◌}
+use Rattle.std.specs.Prelude.{ℕ, ◌+◌, ◌-◌, ◌*◌, ◌/◌, ◌%◌, ◌^◌, Bool, ◌&&◌, nat_le, nat_lt, nat_eq, if◌then◌else◌}
 use Rattle.hm_isa.specs.declared.words.Shifted.{Shifted}
 use Rattle.hm_isa.specs.declared.words.ShiftType.{ShiftType}
 use Rattle.hm_isa.specs.declared.words.ShiftType.TheVariants.{Lsl, Lsr, Asr, Ror}
@@ -28,6 +28,10 @@ extended x = if negative x then x + 0xffffffff00000000 else x
 abbrev pub at_most_32 : ℕ → ℕ
 at_most_32 n = if nat_lt n 32 then n else 32
 
+-- S1, T2, T5 and V17: 32 where five bits are 0, else their number (DDI0553, "DecodeImmShift" and "VSHLC")
+abbrev pub zero_as_32 : ℕ → ℕ
+zero_as_32 n = if nat_eq n 0 then 32 else n
+
 -- ASR_C(x, n): a shift to the right that keeps the sign, and the last bit that is shifted out (DDI0553, "ASR_C")
 abbrev pub asr_c : ℕ → ℕ → Shifted
 asr_c x n = let m = at_most_32 n in record { result = extended x / 2 ^ m % 2 ^ 32; carry = bit_is_set (extended x) (m - 1) }
@@ -51,14 +55,38 @@ shift_by Ror = ror_c
 abbrev pub shift_c : ShiftType → ℕ → ℕ → Bool → Shifted
 shift_c type x n carry = if nat_eq n 0 then record { result = x; carry = carry } else shift_by type x n
 
+-- T2 and T5: how a register is shifted by a constant, RRX aside: the types 0 to 3 are LSL, LSR, ASR and ROR (DDI0553, "DecodeImmShift")
+abbrev pub shift_type : ℕ → ShiftType
+shift_type ty = if nat_eq ty 0 then Lsl else (if nat_eq ty 1 then Lsr else (if nat_eq ty 2 then Asr else Ror))
+
+-- T2 and T5: by how many places, where k is the number in the code: 0 stands for 32, but for LSL (DDI0553, "DecodeImmShift")
+abbrev pub shift_number : ℕ → ℕ → ℕ
+shift_number ty k = if nat_eq ty 0 then k else zero_as_32 k
+
+-- T2 and T5: whether a register is shifted through the carry: ROR by 0 is RRX (DDI0553, "DecodeImmShift")
+abbrev pub is_by_carry : ℕ → ℕ → Bool
+is_by_carry ty k = nat_eq ty 3 && nat_eq k 0
+
 -- SignExtend(x, 32) of the low bits of x (DDI0553, "SignExtend")
 abbrev pub sign_extended : ℕ → ℕ → ℕ
 sign_extended bits x = let y = x % 2 ^ bits in if nat_lt y (2 ^ (bits - 1)) then y else y + (2 ^ 32 - 2 ^ bits)
 
 -- CONSTANTS
--- T1, T3 and T4: the bits i, i3 and i8 one behind another (DDI0553, "Data-processing (modified immediate)", "ADD (immediate)" and "MOV (immediate)")
+-- T2, T5, T6 and T7: the bits i3 and i2 one behind another (DDI0553, "Data-processing (shifted register)", "SSAT", "SBFX" and "BFI")
+abbrev pub imm5 : ℕ → ℕ → ℕ
+imm5 i3 i2 = 4 * i3 + i2
+
+-- T1 and T3: the bits i, i3 and i8 one behind another (DDI0553, "Data-processing (modified immediate)" and "ADD (immediate)")
 abbrev pub imm12 : ℕ → ℕ → ℕ → ℕ
-imm12 i i3 i8 = i * 2 ^ 11 + i3 * 2 ^ 8 + i8
+imm12 i i3 i8 = 2048 * i + 256 * i3 + i8
+
+-- T4: the bits i4, i, i3 and i8 one behind another (DDI0553, "MOV (immediate)" and "MOVT")
+abbrev pub imm16 : ℕ → ℕ → ℕ → ℕ → ℕ
+imm16 i4 i i3 i8 = 4096 * i4 + imm12 i i3 i8
+
+-- V15: the bits i, i3 and i4 one behind another (DDI0553, "VMOV (immediate)")
+abbrev pub imm8 : ℕ → ℕ → ℕ → ℕ
+imm8 i i3 i4 = 128 * i + 16 * i3 + i4
 
 -- the places of a word where a byte stands that is not rotated: the lowest, the first and third, the second and fourth, all four
 abbrev pub repeats : ℕ → ℕ

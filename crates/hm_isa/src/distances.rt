@@ -8,18 +8,22 @@ use crate::jumps::{WideAlways, WideConditional};
 use crate::narrow::{Always, Conditional};
 use crate::words::sign_extended;
 
-/// How far a branch of one halfword under a condition goes, which is `i:0` with its sign: DDI0553, "B", encoding T1.
-pub fn conditional_distance(i: &Conditional) -> u32
-    ensures value { result ≡ conditional_distance i.now }
-{
-    sign_extended(9, 2 * i.i.get())
+impl Conditional {
+    /// How far a branch of one halfword under a condition goes, which is `i:0` with its sign: DDI0553, "B", encoding T1.
+    pub fn distance(&self) -> u32
+        ensures value { result ≡ conditional_distance self.now }
+    {
+        sign_extended(9, 2 * self.i.get())
+    }
 }
 
-/// How far a branch of one halfword under no condition goes, which is `i:0` with its sign: DDI0553, "B", encoding T2.
-pub fn always_distance(i: &Always) -> u32
-    ensures value { result ≡ always_distance i.now }
-{
-    sign_extended(12, 2 * i.i.get())
+impl Always {
+    /// How far a branch of one halfword under no condition goes, which is `i:0` with its sign: DDI0553, "B", encoding T2.
+    pub fn distance(&self) -> u32
+        ensures value { result ≡ always_distance self.now }
+    {
+        sign_extended(12, 2 * self.i.get())
+    }
 }
 
 /// 1 where two bits are the same, and else 0.
@@ -30,19 +34,25 @@ fn alike(j: Bit, s: Bit) -> u32
     if j.get() == s.get() { 1 } else { 0 }
 }
 
-/// How far a branch of two halfwords under a condition goes, which is `s:j2:j1:i6:i11:0` with its sign: DDI0553, "B", encoding T3.
-pub fn wide_conditional_distance(i: &WideConditional) -> u32
-    ensures value { result ≡ wide_conditional_distance i.now }
-{
-    let high = i.s.get() * 0x10_0000 + i.j2.get() * 0x8_0000 + i.j1.get() * 0x4_0000;
-    sign_extended(21, high + i.i6.get() * 0x1000 + i.i11.get() * 2)
+impl WideConditional {
+    /// How far a branch of two halfwords under a condition goes, which is `s:j2:j1:i6:i11:0` with its sign: DDI0553, "B", encoding T3.
+    pub fn distance(&self) -> u32
+        ensures value { result ≡ wide_conditional_distance self.now }
+    {
+        let high = self.s.get() * 0x10_0000 + self.j2.get() * 0x8_0000 + self.j1.get() * 0x4_0000;
+        sign_extended(21, high + self.i6.get() * 0x1000 + self.i11.get() * 2)
+    }
 }
 
-/// How far a branch of two halfwords under no condition goes, which is `s:I1:I2:i10:i11:0` with its sign: DDI0553, "B", encoding T4,
-/// and "BL", encoding T1.
-pub fn wide_always_distance(i: &WideAlways) -> u32
-    ensures value { result ≡ wide_always_distance i.now }
-{
-    let high = i.s.get() * 0x100_0000 + alike(i.j1, i.s) * 0x80_0000 + alike(i.j2, i.s) * 0x40_0000;
-    sign_extended(25, high + i.i10.get() * 0x1000 + i.i11.get() * 2)
+impl WideAlways {
+    /// How far a branch of two halfwords under no condition goes, which is `s:I1:I2:i10:i11:0` with its sign: DDI0553, "B", encoding T4,
+    /// and "BL", encoding T1.
+    pub fn distance(&self) -> u32
+        ensures value { result ≡ wide_always_distance self.now }
+    {
+        let high = self.s.get() * 0x100_0000
+            + alike(self.j1, self.s) * 0x80_0000
+            + alike(self.j2, self.s) * 0x40_0000;
+        sign_extended(25, high + self.i10.get() * 0x1000 + self.i11.get() * 2)
+    }
 }

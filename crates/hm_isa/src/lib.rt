@@ -6,7 +6,7 @@ ghost use Rattle.hm_isa.specs.Code.{branch_halves, halfwords, scalar_halves};
 
 mod arith;
 mod data;
-pub mod distances;
+mod distances;
 mod fields;
 mod jumps;
 mod memory;
@@ -201,7 +201,7 @@ pub enum Scalar {
     S5(S5),
     /// `add rd,rm` of any registers
     S6(S6),
-    /// `cmp rd,rm` of higher registers
+    /// `cmp rd,rm`, one of them r8 or higher
     S7(S7),
     /// `mov rd,rm` of any registers
     S8(S8),

@@ -1,11 +1,12 @@
 //! The rows of the vector codes: DDI0553, "M-profile Vector Extension".
 
 ghost use Rattle.std.specs.Prelude.{◌≡◌, ◌≢◌, ◌<◌, ◌≤◌, ◌+◌, ◌*◌, ◌^◌, IsTrue};
-ghost use Rattle.hm_isa.specs.Letters.{at_least_1, constant_shift_amount, constant_shift_size};
+ghost use Rattle.hm_isa.specs.Letters.{constant_shift_amount, constant_shift_bits, constant_shift_size};
+ghost use Rattle.hm_isa.specs.Words.{zero_as_32};
 ghost use Rattle.hm_isa.specs.Rules.{has_size, is_reversed, is_shifted_by, is_signed_by, is_complex_sum, is_widened};
 
 use crate::fields::{Below, Bit, ElementSize, QRegister, Register};
-use crate::narrow::at_least_1;
+use crate::words::zero_as_32;
 
 /// The size of elements, where it tells codes apart as a name does.
 #[derive(Clone, Copy)]
@@ -344,21 +345,20 @@ pub struct V11 {
 }
 
 impl V11 {
-    /// The size of the elements, which the highest bit of `x` tells: 0, 1 and 2 are 8, 16 and 32 bits.
-    pub fn size(&self) -> u32
-        ensures value { result ≡ constant_shift_size self.now.x.value }
-        ensures below { result < 3 }
+    /// The size of the elements, which the highest bit of `x` tells: DDI0553, "VSHR" and its kin.
+    pub fn element_size(&self) -> ElementSize
+        ensures value { result.value ≡ constant_shift_size self.now.x.value }
     {
         match self.x.get() {
-            0..=15 => 0,
-            16..=31 => 1,
-            _ => 2,
+            0..=15 => Below::new(0),
+            16..=31 => Below::new(1),
+            _ => Below::new(2),
         }
     }
 
     /// How many bits the elements have.
     fn bits(&self) -> u32
-        ensures value { result ≡ 2 ^ (3 + constant_shift_size self.now.x.value) }
+        ensures value { result ≡ constant_shift_bits self.now.x.value }
         ensures least { result ≤ self.now.x.value }
         ensures most { self.now.x.value < 2 * result }
         ensures word { result ≤ 32 }
@@ -370,7 +370,7 @@ impl V11 {
         }
     }
 
-    /// By how many places it shifts, at most 32.
+    /// By how many places it shifts, from 1 to 32 to the right and from 0 to 31 to the left: DDI0553, "VSHR" and its kin.
     pub fn amount(&self) -> u32
         ensures value { result ≡ constant_shift_amount self.now.name self.now.x.value }
         ensures most { result ≤ 32 }
@@ -575,13 +575,13 @@ pub struct V17 {
 }
 
 impl V17 {
-    /// By how many places it shifts, from 1 to 32.
+    /// By how many places it shifts, from 1 to 32: DDI0553, "VSHLC".
     pub fn amount(&self) -> u32
-        ensures value { result ≡ at_least_1 self.now.k.value }
+        ensures value { result ≡ zero_as_32 self.now.k.value }
         ensures some { 1 ≤ result }
         ensures most { result ≤ 32 }
     {
-        at_least_1(self.k.get())
+        zero_as_32(self.k.get())
     }
 }
 

@@ -1,7 +1,8 @@
 //! Words as instructions make them: shifts, signs, and constants of twelve bits.
 
 ghost use Rattle.std.specs.Prelude.{◌≡◌, ℕ, ◌+◌, ◌-◌, ◌*◌, ◌/◌, ◌%◌, ◌^◌, ◌<◌, ◌≤◌, Bool};
-ghost use Rattle.hm_isa.specs.Words.{asr_c, expand_imm_c, extended, imm12, lsl_c, lsr_c, repeats, ror_c, rotated, shift_c, sign_extended};
+ghost use Rattle.hm_isa.specs.Words.{asr_c, expand_imm_c, extended, imm12, imm16, imm5, imm8, is_by_carry, lsl_c, lsr_c, repeats, ror_c, rotated};
+ghost use Rattle.hm_isa.specs.Words.{shift_c, shift_number, shift_type, sign_extended, zero_as_32};
 
 use crate::fields::{Below, Bit, Byte};
 
@@ -22,6 +23,39 @@ pub enum ShiftType {
     Lsr,
     Asr,
     Ror,
+}
+
+/// 32 where five bits are 0, else their number.
+pub(crate) fn zero_as_32(bits: u32) -> u32
+    ensures value { result ≡ zero_as_32 bits }
+{
+    if bits == 0 { 32 } else { bits }
+}
+
+/// How a register is shifted by a constant, but for RRX, by the number of the type: DDI0553, "DecodeImmShift".
+pub fn shift_type(ty: Below<4>) -> ShiftType
+    ensures value { result ≡ shift_type ty.value }
+{
+    match ty.get() {
+        0 => ShiftType::Lsl,
+        1 => ShiftType::Lsr,
+        2 => ShiftType::Asr,
+        _ => ShiftType::Ror,
+    }
+}
+
+/// By how many places a register is shifted by a constant, whose code is `k`, below 32: DDI0553, "DecodeImmShift".
+pub fn shift_number(ty: Below<4>, k: u32) -> u32
+    ensures value { result ≡ shift_number ty.value k }
+{
+    if ty.get() == 0 { k } else { zero_as_32(k) }
+}
+
+/// Whether a register is shifted through the carry: ROR by 0 is RRX (DDI0553, "DecodeImmShift").
+pub fn is_by_carry(ty: Below<4>, k: u32) -> bool
+    ensures value { result ≡ is_by_carry ty.value k }
+{
+    ty.get() == 3 && k == 0
 }
 
 /// A word shifted left by `n`, which is not 0.
@@ -137,12 +171,36 @@ pub fn sign_extended(bits: u32, x: u32) -> u32
     }
 }
 
+/// The bits `i3` and `i2` of a code, one behind another: a number of five bits.
+pub fn imm5(i3: Below<8>, i2: Below<4>) -> u32
+    ensures value { result ≡ imm5 i3.value i2.value }
+    ensures below { result < 32 }
+{
+    4 * i3.get() + i2.get()
+}
+
 /// The bits `i`, `i3` and `i8` of a code, one behind another: a number of twelve bits.
 pub fn imm12(i: Bit, i3: Below<8>, i8: Byte) -> u32
     ensures value { result ≡ imm12 i.value i3.value i8.value }
     ensures below { result < 4096 }
 {
-    (i.get() << 11) + (i3.get() << 8) + i8.get()
+    2048 * i.get() + 256 * i3.get() + i8.get()
+}
+
+/// The bits `i4`, `i`, `i3` and `i8` of a code, one behind another: a halfword.
+pub fn imm16(i4: Below<16>, i: Bit, i3: Below<8>, i8: Byte) -> u32
+    ensures value { result ≡ imm16 i4.value i.value i3.value i8.value }
+    ensures below { result < 2 ^ 16 }
+{
+    4096 * i4.get() + imm12(i, i3, i8)
+}
+
+/// The bits `i`, `i3` and `i4` of a code, one behind another: a byte.
+pub fn imm8(i: Bit, i3: Below<8>, i4: Below<16>) -> u32
+    ensures value { result ≡ imm8 i.value i3.value i4.value }
+    ensures below { result < 256 }
+{
+    128 * i.get() + 16 * i3.get() + i4.get()
 }
 
 /// A byte at one, two or all places of a word.

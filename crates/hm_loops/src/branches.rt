@@ -7,9 +7,6 @@ ghost use Rattle.hm_thumb.specs.RegisterRows.{put};
 ghost use Rattle.hm_thumb.specs.Steps.{ended};
 
 use hm_base::{Fault, Place};
-use hm_isa::distances::{
-    always_distance, conditional_distance, wide_always_distance, wide_conditional_distance,
-};
 use hm_isa::{JumpName, S23, S24, S25, T16, WideAlways, WideBranchName, ZeroName};
 use hm_regs::Regs;
 use hm_thumb::{Way, blx_write, bx_write, condition_holds};
@@ -68,12 +65,8 @@ pub fn branch(i: &S25, regs: &Regs) -> Way
     ensures way { Ends result regs.now ≡ s25 i.now regs.now }
 {
     match i {
-        S25::Conditional(i) => branch_if(
-            condition_holds(i.c.get(), regs),
-            conditional_distance(i),
-            regs,
-        ),
-        S25::Always(i) => branch_if(true, always_distance(i), regs),
+        S25::Conditional(i) => branch_if(condition_holds(i.c.get(), regs), i.distance(), regs),
+        S25::Always(i) => branch_if(true, i.distance(), regs),
     }
 }
 
@@ -85,7 +78,7 @@ fn wide_always(i: &WideAlways, regs: &mut Regs) -> Way
         WideBranchName::B => {}
         WideBranchName::Bl => set_link(4, regs),
     }
-    branch_if(true, wide_always_distance(i), regs)
+    branch_if(true, i.distance(), regs)
 }
 
 /// `beq.w label` and so on, `b.w` and `bl label`
@@ -93,11 +86,7 @@ pub fn wide_branch(i: &T16, regs: &mut Regs) -> Way
     ensures way { Ends result regs.new ≡ t16 i.now regs.old }
 {
     match i {
-        T16::Conditional(i) => branch_if(
-            condition_holds(i.c.get(), regs),
-            wide_conditional_distance(i),
-            regs,
-        ),
+        T16::Conditional(i) => branch_if(condition_holds(i.c.get(), regs), i.distance(), regs),
         T16::Always(i) => wide_always(i, regs),
     }
 }

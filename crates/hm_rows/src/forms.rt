@@ -10,9 +10,9 @@ ghost use Rattle.hm_rows.specs.Rows.{vector_shift_fn};
 
 use hm_forms::{Comparison, Form, Lanes, LongSums, Steps, Sums, Widening};
 use hm_isa::{
-    AddName, Below, BitwiseName, ConstantShiftName, DoublingName, HighName, LongDot, LongSum,
-    OneName, QRegister, ScalarName, SignedName, V1, V2, V3, V4, V5, V7, V10, V11, V12, V13, V18,
-    V19, V20, V21, V22, VectorShiftName,
+    AddName, BitwiseName, ConstantShiftName, DoublingName, HighName, LongDot, LongSum, OneName,
+    QRegister, ScalarName, SignedName, V1, V2, V3, V4, V5, V7, V10, V11, V12, V13, V18, V19, V20,
+    V21, V22, VectorShiftName,
 };
 use hm_lane::Size;
 use hm_lane_fns::{LaneFn, Operand, element_size, size};
@@ -419,7 +419,7 @@ pub fn constant_shift_form(row: &V11) -> Form
     lanes(
         constant_shift_fn(row.name),
         shift_unsigned(row.name, row.u.get()),
-        size(&Below::new(row.size())),
+        size(&row.element_size()),
         row.d,
         row.m,
         Operand::Constant(shift_operand(row)),

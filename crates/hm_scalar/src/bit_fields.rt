@@ -4,11 +4,11 @@ ghost use Rattle.std.specs.Prelude.{◌≡◌, ◌≤◌, ◌<◌, ◌+◌, ◌-
 ghost use Rattle.hm_base.specs.Bits.{put_field};
 ghost use Rattle.hm_thumb.specs.DataRows.{bits_with, half_put, put_saturated, saturated, t3, t4, t5, t6, t7};
 
-use crate::operands::{imm_shift_c, imm5, reg_or_zero};
+use crate::operands::{imm_shift_c, reg_or_zero};
 use crate::sums::sum_of;
 use hm_base::{Place, bits};
-use hm_isa::words::{SIGN, imm12, sign_extended};
-use hm_isa::{ExtractName, HalfName, SaturateName, T3, T4, T5, T6, T7};
+use hm_isa::words::{SIGN, imm5, imm12, imm16, sign_extended};
+use hm_isa::{Below, ExtractName, HalfName, SaturateName, T3, T4, T5, T6, T7};
 use hm_regs::Regs;
 use hm_thumb::base_of;
 
@@ -37,7 +37,7 @@ pub fn move_half(i: &T4, regs: &mut Regs)
     ensures regs { regs.new ≡ t4 i.now regs.old }
 {
     let d = Place::R(i.d.get() as u8);
-    let x = (i.i4.get() << 12) + imm12(i.i, i.i3, i.i8);
+    let x = imm16(i.i4, i.i, i.i3, i.i8);
     regs.set(d, half_put(i.name, x, regs.get(d)));
 }
 
@@ -70,7 +70,7 @@ pub fn saturate(i: &T5, regs: &mut Regs)
     ensures regs { regs.new ≡ t5 i.now regs.old }
 {
     let n = regs.get(Place::R(i.n.get() as u8));
-    let x = imm_shift_c(2 * i.sh.get(), imm5(i.i3.get(), i.i2.get()), n, regs.c).result;
+    let x = imm_shift_c(Below::new(2 * i.sh.get()), imm5(i.i3, i.i2), n, regs.c).result;
     let y = saturated(i.name, i.s.get(), x);
     put_saturated(i.d.get(), y, x, regs);
 }
@@ -92,7 +92,7 @@ fn bits_with(name: ExtractName, width: u32, x: u32) -> u32
 pub fn extract(i: &T6, regs: &mut Regs)
     ensures regs { regs.new ≡ t6 i.now regs.old }
 {
-    let lsb = imm5(i.i3.get(), i.i2.get());
+    let lsb = imm5(i.i3, i.i2);
     let w = i.w.get();
     let x = bits(regs.get(Place::R(i.n.get() as u8)), lsb + w, lsb);
     regs.set(Place::R(i.d.get() as u8), bits_with(i.name, w + 1, x));
@@ -115,7 +115,7 @@ fn inserted(lsb: u32, width: u32, x: u32, word: u32) -> u32
 pub fn insert(i: &T7, regs: &mut Regs)
     ensures regs { regs.new ≡ t7 i.now regs.old }
 {
-    let lsb = imm5(i.i3.get(), i.i2.get());
+    let lsb = imm5(i.i3, i.i2);
     let d = Place::R(i.d.get() as u8);
     let x = reg_or_zero(i.n.get(), regs);
     let word = regs.get(d);

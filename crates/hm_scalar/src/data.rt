@@ -3,9 +3,9 @@
 ghost use Rattle.std.specs.Prelude.{◌≡◌, ◌<◌};
 ghost use Rattle.hm_thumb.specs.DataRows.{data_row, put_bits, put_data_sum, put_if, t1, t2};
 
-use crate::operands::{imm_shift_c, imm5, reg_or_zero};
+use crate::operands::{imm_shift_c, reg_or_zero};
 use hm_base::Place;
-use hm_isa::words::{Shifted, expand_imm_c, imm12};
+use hm_isa::words::{Shifted, expand_imm_c, imm5, imm12};
 use hm_isa::{DataName, T1, T2};
 use hm_regs::Regs;
 use hm_thumb::{Sum, add_with_carry, set_nzc, set_nzcv};
@@ -79,6 +79,6 @@ pub fn with_register(i: &T2, regs: &mut Regs)
 {
     let x = reg_or_zero(i.n.get(), regs);
     let m = regs.get(Place::R(i.m.get() as u8));
-    let y = imm_shift_c(i.ty.get(), imm5(i.i3.get(), i.i2.get()), m, regs.c);
+    let y = imm_shift_c(i.ty, imm5(i.i3, i.i2), m, regs.c);
     operate(i.name, i.s.get(), i.d.get(), x, y, regs);
 }

@@ -1,7 +1,6 @@
 -- What the rows T1 to T7 do.
 use Rattle.std.specs.Prelude.{ℕ, ◌+◌, ◌-◌, ◌*◌, ◌/◌, ◌%◌, ◌^◌, Bool, true, false, cond, not, ◌||◌, nat_eq, min, max, bit_and, bit_or, bit_xor, if◌then◌else◌}
 use Rattle.hm_base.specs.Bits.{field, put_field}
-use Rattle.hm_isa.specs.declared.narrow.ShiftName.TheVariants as shift
 use Rattle.hm_isa.specs.declared.data.DataName.{DataName}
 use Rattle.hm_isa.specs.declared.data.DataName.TheVariants as data_
 use Rattle.hm_isa.specs.declared.data.HalfName.{HalfName}
@@ -18,13 +17,11 @@ use Rattle.hm_isa.specs.declared.data.T5.{T5}
 use Rattle.hm_isa.specs.declared.data.T6.{T6}
 use Rattle.hm_isa.specs.declared.data.T7.{T7}
 use Rattle.hm_regs.specs.declared.Regs.{Regs}
-use Rattle.hm_isa.specs.Letters.{shift_amount}
-use Rattle.hm_isa.specs.Words.{bit_is_set, expand_imm_c, imm12, negative, shift_c, sign_extended}
+use Rattle.hm_isa.specs.Words.{bit_is_set, expand_imm_c, imm12, imm16, imm5, is_by_carry, negative, shift_c, shift_number, shift_type, sign_extended}
 use Rattle.hm_thumb.specs.Arithmetic.{inverted, add_with_carry}
 use Rattle.hm_thumb.specs.RegisterRows.{reg, reg_or_zero, base_of, put, with_nzc, with_nzcv, sum_of}
 use Rattle.hm_thumb.specs.declared.arithmetic.Sum.{Sum}
 use Rattle.hm_isa.specs.declared.words.Shifted.{Shifted}
-use Rattle.hm_isa.specs.declared.words.ShiftType.TheVariants as type
 
 -- THE SECOND OPERAND
 -- RRX_C(x, carry) (DDI0553, "RRX_C")
@@ -33,12 +30,7 @@ rrx_c x carry = record { result = x / 2 + cond carry (2 ^ 31) 0; carry = bit_is_
 
 -- T2 and T5: Shift_C(x, type, n, carry) with the type and the number of DecodeImmShift(ty, k) (DDI0553, "Shift_C" and "DecodeImmShift")
 abbrev pub imm_shift_c : ℕ → ℕ → ℕ → Bool → Shifted
-imm_shift_c ty k x carry =
-    if nat_eq ty 0 then shift_c type.Lsl x (shift_amount shift.Lsl k) carry
-    else (if nat_eq ty 1 then shift_c type.Lsr x (shift_amount shift.Lsr k) carry
-    else (if nat_eq ty 2 then shift_c type.Asr x (shift_amount shift.Asr k) carry
-    else (if nat_eq k 0 then rrx_c x carry
-    else shift_c type.Ror x k carry)))
+imm_shift_c ty k x carry = if is_by_carry ty k then rrx_c x carry else shift_c (shift_type ty) x (shift_number ty k) carry
 
 -- THE ROWS
 -- register d gets a result, if there is one
@@ -71,10 +63,6 @@ data_row data_.Rsb s d x y r = put_data_sum s d (add_with_carry (inverted x) y.r
 abbrev pub t1 : T1 → Regs → Regs
 t1 i r = data_row i.name i.s.value i.d.value (reg_or_zero i.n.value r) (expand_imm_c (imm12 i.i.value i.i3.value i.i8.value) r.c) r
 
--- T2, T5, T6 and T7: the bits i3 and i2 one behind another (DDI0553, "Data-processing (shifted register)", "SSAT", "SBFX" and "BFI")
-abbrev pub imm5 : ℕ → ℕ → ℕ
-imm5 i3 i2 = i3 * 2 ^ 2 + i2
-
 -- T2: AND, BIC, ORR, ORN, EOR, ADD, ADC, SBC, SUB, RSB, MOV, MVN, TST, TEQ, CMN, CMP and the shifts with a shifted register
 -- (DDI0553, "Data-processing (shifted register)")
 abbrev pub t2 : T2 → Regs → Regs
@@ -92,7 +80,7 @@ half_put half.Movt x old = x * 2 ^ 16 + old % 2 ^ 16
 
 -- T4: MOVW and MOVT (DDI0553, "MOV (immediate)", encoding T3, and "MOVT")
 abbrev pub t4 : T4 → Regs → Regs
-t4 i r = put i.d.value (half_put i.name (i.i4.value * 2 ^ 12 + imm12 i.i.value i.i3.value i.i8.value) (reg i.d.value r)) r
+t4 i r = put i.d.value (half_put i.name (imm16 i.i4.value i.i.value i.i3.value i.i8.value) (reg i.d.value r)) r
 
 -- T5: SignedSatQ(SInt(x), s + 1) of SSAT and UnsignedSatQ(SInt(x), s) of USAT, as words: the nearest number from -2 ^ s, or from 0,
 -- to 2 ^ s - 1 (DDI0553, "SSAT" and "USAT")
