@@ -7,11 +7,11 @@ use Rattle.hm_base.specs.declared.Place.TheVariants.{P0, Mask01, Mask23, Ltp, R}
 use Rattle.hm_isa.specs.declared.fields.Below.{Below}
 use Rattle.hm_isa.specs.declared.vectors.V6.{V6}
 use Rattle.hm_lane.specs.declared.lanes.Size.{Size}
-use Rattle.hm_lane.specs.declared.lanes.Size.TheVariants.{Byte, Half, Word}
 use Rattle.hm_lane.specs.Lanes.{per_word, unlanes}
 use Rattle.hm_lane.specs.Predicate.{allowed, mask_place, remains}
 use Rattle.hm_lane_fns.specs.declared.words.Operand.{Operand}
-use Rattle.hm_lane_fns.specs.declared.words.Operand.TheVariants.{Vector, Scalar, Constant}
+use Rattle.hm_lane.specs.declared.lanes.Size.TheVariants.{Byte}
+use Rattle.hm_lane_fns.specs.declared.words.Operand.TheVariants.{Constant, Vector}
 use Rattle.hm_lane_fns.specs.LaneFns.{lane_of, lane_saturates, saturates}
 use Rattle.hm_lane_fns.specs.Words.{any_both, lane_tests3, lanewise3, nibble, size_of}
 use Rattle.hm_regs.specs.Writes.{write}
@@ -37,27 +37,10 @@ use Rattle.hm_beat_laws.proofs.Under.{alone, marks_under, merges_under, part_und
 -- WORD b ALONE IS ACTIVE
 bits_back : (p q r t : Bool) → (let n = nibble (p ∷ q ∷ r ∷ t ∷ []) % 2 ^ 4 in
     (eqb (bit_at n 0) 1 ≡ p) × (eqb (bit_at n 1) 1 ≡ q) × (eqb (bit_at n 2) 1 ≡ r) × (eqb (bit_at n 3) 1 ≡ t))
-bits_back true true true true = (refl, refl, refl, refl)
-bits_back true true true false = (refl, refl, refl, refl)
-bits_back true true false true = (refl, refl, refl, refl)
-bits_back true true false false = (refl, refl, refl, refl)
-bits_back true false true true = (refl, refl, refl, refl)
-bits_back true false true false = (refl, refl, refl, refl)
-bits_back true false false true = (refl, refl, refl, refl)
-bits_back true false false false = (refl, refl, refl, refl)
-bits_back false true true true = (refl, refl, refl, refl)
-bits_back false true true false = (refl, refl, refl, refl)
-bits_back false true false true = (refl, refl, refl, refl)
-bits_back false true false false = (refl, refl, refl, refl)
-bits_back false false true true = (refl, refl, refl, refl)
-bits_back false false true false = (refl, refl, refl, refl)
-bits_back false false false true = (refl, refl, refl, refl)
-bits_back false false false false = (refl, refl, refl, refl)
+bits_back p q r t = grind arith
 
 and_again : (p q : Bool) → (p && q && q) ≡ (p && q)
-and_again true true = refl
-and_again true false = refl
-and_again false q = refl
+and_again p q = grind arith
 
 -- four truth values that were put into a slice, and are asked for again
 slice_back : (a b c d e f g h : Bool) → (let n = nibble ((a && e) ∷ (b && f) ∷ (c && g) ∷ (d && h) ∷ []) % 2 ^ 4 in
@@ -201,17 +184,14 @@ module _ (b : ℕ) (s : State) (f : Cell → Bool) (m n : Bool) (ws us : List (C
 -- WHAT IS READ OF IT
 same_operand : (z : Size) (by : Operand) (b : ℕ) (s : State) → operand_register z by (only b s) ≡ operand_register z by s
 same_operand z (Vector q) b s = refl
-same_operand z (Scalar m) b s = refl
-same_operand z (Constant k) b s = refl
+same_operand z by b s = refl
 
 same_wide : (r : V6) (z : Size) (b : ℕ) (s : State) → wide_result r z (only b s) ≡ wide_result r z s
 same_wide r Byte b s = refl
-same_wide r Half b s = refl
-same_wide r Word b s = refl
+same_wide r z b s = refl
 
 same_round : (q : Option (Below 6)) (b : ℕ) (s : State) → round_at q (only b s) ≡ round_at q s
-same_round None b s = refl
-same_round (Some q) b s = refl
+same_round q b s = grind arith
 
 same_writes : (ps : List Bool) (f : Form) (b : ℕ) (s : State) → writes_under ps f (only b s) ≡ writes_under ps f s
 same_writes ps (form.Lanes l) b s =
@@ -226,39 +206,13 @@ same_writes ps (form.Offsets r) b s = λ j.
     let count = 4 * per_word r.z in
     merges_under ps r.d.value (unlanes r.z (offsets_from r (same_round r.round b s j) count (at place s))) s
     ++ (into (write place (offset_after r (same_round r.round b s j) count (at place s))) ∷ [])
-same_writes ps (form.Sum r) b s = refl
-same_writes ps (form.Long r) b s = refl
-same_writes ps (form.Extreme r) b s = refl
-same_writes ps (form.Compare r) b s = refl
-same_writes ps (form.Count r) b s = refl
-same_writes ps form.Invert b s = refl
-same_writes ps (form.Select r) b s = refl
 same_writes ps (form.Wide r) b s = λ j. merges_under ps r.d.value (same_wide r (size_of r.z.value) b s j) s
-same_writes ps (form.Widening r) b s = refl
-same_writes ps (form.ComplexSum r) b s = refl
-same_writes ps (form.Reversed r) b s = refl
-same_writes ps (form.Block r) b s = refl
+same_writes ps f b s = refl
 
 same_marks : (ps : List Bool) (f : Form) (b : ℕ) (s : State) → marks_under ps f (only b s) ≡ marks_under ps f s
 same_marks ps (form.Lanes l) b s = λ j. saturates l.f
     && any_both ps (lane_tests3 l.z (lane_saturates l.f l.unsigned l.z) (register_at l.d.value s) (register_at l.n.value s) (same_operand l.z l.by b s j))
-same_marks ps (form.Constant r) b s = refl
-same_marks ps (form.Narrow r) b s = refl
-same_marks ps (form.Carry r) b s = refl
-same_marks ps (form.Shift r) b s = refl
-same_marks ps (form.Offsets r) b s = refl
-same_marks ps (form.Sum r) b s = refl
-same_marks ps (form.Long r) b s = refl
-same_marks ps (form.Extreme r) b s = refl
-same_marks ps (form.Compare r) b s = refl
-same_marks ps (form.Count r) b s = refl
-same_marks ps form.Invert b s = refl
-same_marks ps (form.Select r) b s = refl
-same_marks ps (form.Wide r) b s = refl
-same_marks ps (form.Widening r) b s = refl
-same_marks ps (form.ComplexSum r) b s = refl
-same_marks ps (form.Reversed r) b s = refl
-same_marks ps (form.Block r) b s = refl
+same_marks ps f b s = refl
 
 -- A FORM OF WHICH WORD b ALONE IS ACTIVE
 pub alone_part : (f : Form) (b : ℕ) (s : State) → b < 4 → chooses_by_predicate f ≡ false → whole_under (predicate_at s) f s ≡ form_whole f s
@@ -279,8 +233,7 @@ one_state : (v : State) → v ≡ with_predicate v v
 one_state v = λ j. record { cell = λ c. either (is_predicate c) (v.cell c) j; sticky = v.sticky; pc = v.pc; rest = v.rest }
   where
     either : (y : Bool) (x : Value) → x ≡ cond y x x
-    either true x = refl
-    either false x = refl
+    either y x = grind arith
 
 pub whole_part : (f : Form) (b : ℕ) (s : State) → gives_registers (Registers f) b ≡ true → from_beat b f ≡ f → chooses_by_predicate f ≡ true
     → part_of (belongs true b) (form_whole f s) s ≡ form_part f b s

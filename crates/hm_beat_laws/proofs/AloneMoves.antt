@@ -1,5 +1,6 @@
 -- A beat that loads or stores under the predicate is the part of the whole of the state in which its word alone is active.
 use Rattle.std.proofs.Common.{◌≡◌, ℕ, ◌+◌, ◌%◌, ◌^◌, ◌<◌, Bool, true, false, cond, eqb, List, [], ◌∷◌, ◌++◌, map, Option, Some, None, Result, Ok, Err, refl}
+use Rattle.std.proofs.Common.{arith}
 use Rattle.std.proofs.Common.{sym, ◌∙◌, ap}
 use Rattle.hm_base.specs.declared.Fault.{Fault}
 use Rattle.hm_base.specs.declared.Stop.{Stop}
@@ -54,8 +55,7 @@ plain_either false ws us h k = k
 -- THE SAME IS READ where other words are not active
 same_read : (y : Size) (b : ℕ) (s : State) (a : ℕ) → read_at y s a ≡ read_at y (only b s) a
 same_read size.Byte b s a = refl
-same_read size.Half b s a = refl
-same_read size.Word b s a = refl
+same_read y b s a = refl
 
 agrees : (b : ℕ) (s : State) (f : Cell → Bool) (o p : Option Stop) (ws us : List (Cell × Value)) → o ≡ p → ws ≡ us → Plain ws
     → ◌≡◌ {A = Result State Stop} (then (unless o (Ok (saturating false ws s))) (λ v. Ok (part_of f v s)))

@@ -1,7 +1,8 @@
 -- Where the elements that are active in the state are moved by the thread, and nothing is tainted, it is the whole instruction.
 use Rattle.std.specs.List.{flat_map}
-use Rattle.std.proofs.Common.{◌≡◌, ℕ, zero, suc, ◌+◌, ◌++◌, Bool, true, false, cond, List, [], ◌∷◌, Option, Some, None, Result, Ok, refl, sym, ◌∙◌, ap}
+use Rattle.std.proofs.Common.{◌≡◌, ℕ, zero, suc, ◌+◌, ◌++◌, Bool, true, false, cond, List, [], ◌∷◌, Option, Some, None, Result, Ok, refl, sym, ◌∙◌, ap, arith}
 use Rattle.std.proofs.Common.{append_assoc}
+use Rattle.std.specs.Option.{option_or}
 use Rattle.hm_base.specs.declared.Fault.{Fault}
 use Rattle.hm_base.specs.declared.Stop.{Stop}
 use Rattle.hm_lane.specs.Lanes.{unlanes, words}
@@ -11,7 +12,7 @@ use Rattle.hm_mem.specs.declared.Access.TheVariants.{Vector}
 use Rattle.hm_mem.specs.declared.Actor.TheVariants.{Thread}
 use Rattle.hm_mem.specs.Devices.{byte_of}
 use Rattle.hm_mem.specs.Memory.{Around}
-use Rattle.hm_mem.specs.Seen.{as_stops, fault_kind, marks, or_else, unless}
+use Rattle.hm_mem.specs.Seen.{as_stops, fault_kind, marks, unless}
 use Rattle.hm_order.specs.Beats.{then}
 use Rattle.hm_state.specs.Store.{put, put_all}
 use Rattle.hm_state.specs.State.{At, Byte, Cell, State, Value, cells, same_cell}
@@ -32,13 +33,11 @@ use Rattle.hm_beat_laws.proofs.Kept.{rest_put, sticky_put}
 use Rattle.hm_beat_laws.proofs.Stops.{all_checked, no_fault, or_none}
 
 -- STOPS ARE FAULTS
-or_faults : (f g : Option Fault) → or_else (fault_stop f) (fault_stop g) ≡ fault_stop (or_else f g)
-or_faults None g = refl
-or_faults (Some f) g = refl
+or_faults : (f g : Option Fault) → option_or (fault_stop f) (fault_stop g) ≡ fault_stop (option_or f g)
+or_faults f g = grind arith
 
 where_fault : (p : Bool) (o : Option Fault) → cond p (fault_stop o) None ≡ fault_stop (cond p o None)
-where_fault true o = refl
-where_fault false o = refl
+where_fault p o = grind arith
 
 module _ (x : Around) (store : Bool) (y : Size) (s : State) (thread : x.actor ≡ Thread) (clean : NoTaint s) where
   stop_is : (a : ℕ) → element_stop x store y s a ≡ fault_stop (fault_after (fault_kind true Vector store (byte_count y) a) a)
@@ -52,8 +51,8 @@ module _ (x : Around) (store : Bool) (y : Size) (s : State) (thread : x.actor �
   first_is (p ∷ ps) [] = refl
   first_is (p ∷ ps) (a ∷ addrs) =
       let o = fault_after (fault_kind true Vector store (byte_count y) a) a in
-      (λ j. or_else (cond p (stop_is a j) None) (first_is ps addrs j))
-      ∙ ap (λ q. or_else q (fault_stop (fault_of store (byte_count y) ps addrs))) (where_fault p o)
+      (λ j. option_or (cond p (stop_is a j) None) (first_is ps addrs j))
+      ∙ ap (λ q. option_or q (fault_stop (fault_of store (byte_count y) ps addrs))) (where_fault p o)
       ∙ or_faults (cond p o None) (fault_of store (byte_count y) ps addrs)
 
 -- WHAT IS MOVED
@@ -102,8 +101,7 @@ all_loaded : (y z : Size) (d n : ℕ) (four : Bool) (part : ℕ) (back : Bool) (
     → (let w = interleaved d n four part back in
     loaded_among v (are_moved z w s) (addresses y z w s) (stored_elements z w s) ≡ loaded_elements v (are_moved z w s) (addresses y z w s))
 all_loaded y size.Byte d n four part back v s = refl
-all_loaded y size.Half d n four part back v s = refl
-all_loaded y size.Word d n four part back v s = refl
+all_loaded y z d n four part back v s = refl
 
 all_moved : (store : Bool) (y z : Size) (sign : Bool) (w : Found) (s : State)
     → (let t : Transfer = record { store = store; memory = y; register = z; signed = sign; found = w } in
@@ -131,8 +129,7 @@ moved_is x t s thread =
     (λ j. marked (marks (thread j)) (moved_all t s j)) ∙ clean_transferred t ps addrs s
 
 as_stop : (o : Option Fault) (u : State) → ◌≡◌ {A = Result State Stop} (unless (fault_stop o) (Ok u)) (as_stops (unless o (Ok u)))
-as_stop None u = refl
-as_stop (Some f) u = refl
+as_stop o u = grind arith
 
 -- what is done where these are the writes of registers and bytes
 abbrev after : Transfer → State → List (Cell × Value) → State

@@ -2,6 +2,7 @@
 use Rattle.std.proofs.Common.{◌≡◌, ℕ, zero, suc, ◌+◌, Bool, true, false, not, cond, ◌||◌, ◌&&◌, List, [], ◌∷◌, ◌++◌, get_or, if◌then◌else◌, Option, Some, None}
 use Rattle.std.proofs.Common.{refl, ◌∙◌, ap, arith, append_assoc}
 use Rattle.std.proofs.lemmas.Bool.Decides.{nat_tests}
+use Rattle.std.specs.Option.{option_or}
 use Rattle.hm_base.specs.declared.Fault.{Fault}
 use Rattle.hm_base.specs.declared.Stop.{Stop}
 use Rattle.hm_base.specs.declared.Stop.TheVariants as stop
@@ -15,7 +16,7 @@ use Rattle.hm_mem.specs.Devices.{has_width, in_devices, tells_time, word_at}
 use Rattle.hm_moves.proofs.Accesses.{fault_free, in_memory, within}
 use Rattle.hm_whole.specs.Whole.{seen_in}
 use Rattle.hm_mem.specs.Memory.{Around}
-use Rattle.hm_mem.specs.Seen.{fault_kind, is_denied, is_kept, is_thread, is_unaligned, lies_in_flash, lies_in_memory, or_else, some_byte, stop_after}
+use Rattle.hm_mem.specs.Seen.{fault_kind, is_denied, is_kept, is_thread, is_unaligned, lies_in_flash, lies_in_memory, some_byte, stop_after}
 use Rattle.hm_state.specs.State.{Byte, Cell, State, cells}
 use Rattle.hm_beat.specs.Trees.{Check, checked}
 use Rattle.hm_beat.specs.Touches.{span_bytes}
@@ -35,23 +36,19 @@ any_tainted (a ∷ addrs) s = (s.cell (Byte a)).taint || any_tainted addrs s
 -- the first stop of a list of elements
 abbrev pub first_of : (ℕ → Option Stop) → List Element → Option Stop
 first_of f [] = None
-first_of f (e ∷ es) = or_else (f e.addr) (first_of f es)
+first_of f (e ∷ es) = option_or (f e.addr) (first_of f es)
 
-pub or_none : {A : Type 0} (o : Option A) → or_else o None ≡ o
-or_none None = refl
-or_none (Some e) = refl
+pub or_none : {A : Type 0} (o : Option A) → option_or o None ≡ o
+or_none o = grind arith
 
-or_twice : (o p q : Option Stop) → or_else o (or_else p q) ≡ or_else (or_else o p) q
-or_twice None p q = refl
-or_twice (Some e) p q = refl
+or_twice : (o p q : Option Stop) → option_or o (option_or p q) ≡ option_or (option_or o p) q
+or_twice o p q = grind arith
 
-where_true : (y : Bool) (e : Stop) (o : Option Stop) → cond y (Some e) o ≡ or_else (cond y (Some e) None) o
-where_true true e o = refl
-where_true false e o = refl
+where_true : (y : Bool) (e : Stop) (o : Option Stop) → cond y (Some e) o ≡ option_or (cond y (Some e) None) o
+where_true y e o = grind arith
 
 one_tainted : (p q : Bool) (e : Stop) (o : Option Stop) → cond p (Some e) (cond q (Some e) o) ≡ cond (p || q) (Some e) o
-one_tainted true q e o = refl
-one_tainted false q e o = refl
+one_tainted p q e o = grind arith
 
 -- bytes that are asked for, one after another
 checked_asks : (a : ℕ) (bs : List ℕ) (cs : List (Check Cell Stop)) (s : State)
@@ -61,26 +58,19 @@ checked_asks a (b ∷ bs) cs s = ap (λ o. cond (s.cell (Byte b)).taint (Some (s
     ∙ one_tainted (s.cell (Byte b)).taint (any_tainted bs s) (stop.Tainted a) (checked cells cs s)
 
 checked_where : (y : Bool) (a : ℕ) (bs : List ℕ) (cs : List (Check Cell Stop)) (s : State)
-    → checked cells (cond y (asks a bs) [] ++ cs) s ≡ or_else (cond (y && any_tainted bs s) (Some (stop.Tainted a)) None) (checked cells cs s)
+    → checked cells (cond y (asks a bs) [] ++ cs) s ≡ option_or (cond (y && any_tainted bs s) (Some (stop.Tainted a)) None) (checked cells cs s)
 checked_where true a bs cs s = checked_asks a bs cs s ∙ where_true (any_tainted bs s) (stop.Tainted a) (checked cells cs s)
 checked_where false a bs cs s = refl
 
 -- an element has the stop of its access
 one_byte : (p : Bool) → (p || false) ≡ ((p || false) || false)
-one_byte true = refl
-one_byte false = refl
+one_byte p = grind arith
 
 two_bytes : (p q : Bool) → (p || (q || false)) ≡ ((p || q) || false)
-two_bytes true q = refl
-two_bytes false true = refl
-two_bytes false false = refl
+two_bytes p q = grind arith
 
 four_bytes : (p q r s : Bool) → (p || (q || (r || (s || false)))) ≡ ((p || q) || (r || s))
-four_bytes true q r s = refl
-four_bytes false true r s = refl
-four_bytes false false true s = refl
-four_bytes false false false true = refl
-four_bytes false false false false = refl
+four_bytes p q r s = grind arith
 
 module _ (x : Around) (store : Bool) (y : Size) (s : State) (a : ℕ) where
   abbrev taint : ℕ → Bool
@@ -95,7 +85,7 @@ module _ (x : Around) (store : Bool) (y : Size) (s : State) (a : ℕ) where
       ∙ four_bytes (taint a) (taint (a + 1)) (taint (a + 2)) (taint (a + 3))
 
   by_actor : (o : Option FaultKind) (who : Actor) → (o ≡ None → lies_in_memory (byte_count y) a ≡ true)
-      → or_else (stop_after o (is_closed who x.bounds store (byte_count y) a) store a)
+      → option_or (stop_after o (is_closed who x.bounds store (byte_count y) a) store a)
       (cond (is_thread who && not store && any_tainted (span_bytes a (byte_count y)) s) (Some (stop.Tainted a)) None)
       ≡ stop_after o (is_kept who x.bounds store (byte_count y) a (seen_in s)) store a
   by_actor (Some k) who h = refl
@@ -108,14 +98,14 @@ module _ (x : Around) (store : Bool) (y : Size) (s : State) (a : ℕ) where
       tainted true false e = refl
       tainted false q e = cc
 
-      by_store : (w : Bool) → or_else (stop_after None false w a)
+      by_store : (w : Bool) → option_or (stop_after None false w a)
           (cond (true && not w && any_tainted (span_bytes a (byte_count y)) s) (Some (stop.Tainted a)) None)
           ≡ stop_after None (not w && lies_in_memory (byte_count y) a && some_byte (byte_count y) taint a) w a
       by_store true = refl
       by_store false = (λ j. cond (any_byte y (h refl) j) (Some (stop.Tainted a)) None)
           ∙ tainted (lies_in_memory (byte_count y) a) (some_byte (byte_count y) taint a) (h refl)
 
-  stop_is : or_else (sure_stop x store (byte_count y) a)
+  stop_is : option_or (sure_stop x store (byte_count y) a)
       (cond (is_thread x.actor && not store && any_tainted (span_bytes a (byte_count y)) s) (Some (stop.Tainted a)) None) ≡ element_stop x store y s a
   stop_is = by_actor (fault_kind (is_thread x.actor) Vector store (byte_count y) a) x.actor (λ e. (in_memory (is_thread x.actor) store (byte_count y) a e).0)
 
@@ -129,22 +119,21 @@ all_checked x store y (e ∷ es) s =
     let cs = checks_of x store (byte_count y) es in
     ap (λ ks. checked cells ks s) (append_assoc (fails o) (cond w (asks e.addr bs) []) cs)
     ∙ checked_fails o (cond w (asks e.addr bs) [] ++ cs) s
-    ∙ ap (or_else o) (checked_where w e.addr bs cs s)
+    ∙ ap (option_or o) (checked_where w e.addr bs cs s)
     ∙ or_twice o (cond (w && any_tainted bs s) (Some (stop.Tainted e.addr)) None) (checked cells cs s)
-    ∙ (λ j. or_else (stop_is x store y s e.addr j) (all_checked x store y es s j))
+    ∙ (λ j. option_or (stop_is x store y s e.addr j) (all_checked x store y es s j))
 
 -- of the elements of a word the active ones
 one_stop : (f : ℕ → Option Stop) (p : Bool) (e : Element) (es : List Element)
-    → first_of f (cond p (e ∷ []) [] ++ es) ≡ or_else (cond p (f e.addr) None) (first_of f es)
-one_stop f true e es = refl
-one_stop f false e es = refl
+    → first_of f (cond p (e ∷ []) [] ++ es) ≡ option_or (cond p (f e.addr) None) (first_of f es)
+one_stop f p e es = grind arith
 
 pub active_stops : (f : ℕ → Option Stop) (q : List Bool) (g : ℕ → Element) (j n : ℕ)
     → first_of f (active_ones q (each_from g j n)) ≡ first_among f (each_from (λ k. get_or q (g k).lane false) j n) (each_from (λ k. (g k).addr) j n)
 active_stops f q g j zero = refl
 active_stops f q g j (suc n) =
     let p = get_or q (g j).lane false in
-    one_stop f p (g j) (active_ones q (each_from g (j + 1) n)) ∙ ap (or_else (cond p (f (g j).addr) None)) (active_stops f q g (j + 1) n)
+    one_stop f p (g j) (active_ones q (each_from g (j + 1) n)) ∙ ap (option_or (cond p (f (g j).addr) None)) (active_stops f q g (j + 1) n)
 
 -- WHERE NO ELEMENT STOPS there is no fault, also for the thread: a vector access reaches no device, so none that tells the time
 no_word : (a : ℕ) → in_devices a ≡ false → word_at a ≡ None
@@ -166,7 +155,7 @@ thread_free thread store len a h =
     (tells_time (word_at a)) thread _ _ _ _ _
     (λ out. ap tells_time (no_word a out)) h
 
-both_none : (o q : Option Stop) → or_else o q ≡ None → (o ≡ None) × (q ≡ None)
+both_none : (o q : Option Stop) → option_or o q ≡ None → (o ≡ None) × (q ≡ None)
 both_none None q h = (refl, h)
 both_none (Some e) q h = (cc, cc)
 
@@ -182,5 +171,5 @@ no_fault x store y s (p ∷ ps) (a ∷ addrs) h =
     let none = both_none (cond p (element_stop x store y s a) None) (first_among (element_stop x store y s) ps addrs) h in
     let free : element_stop x store y s a ≡ None → fault_after (fault_kind true Vector store (byte_count y) a) a ≡ None
     = λ e. ap (λ k. fault_after k a) (thread_free (is_thread x.actor) store (byte_count y) a (fault_free x store (byte_count y) a (seen_in s) e)) in
-    λ j. or_else (where_none p (element_stop x store y s a) (fault_after (fault_kind true Vector store (byte_count y) a) a) free none.0 j)
+    λ j. option_or (where_none p (element_stop x store y s a) (fault_after (fault_kind true Vector store (byte_count y) a) a) free none.0 j)
     (no_fault x store y s ps addrs none.1 j)

@@ -1,5 +1,5 @@
 -- Which steps leave steps of their instruction behind them, and what all steps that are left do.
-use Rattle.std.proofs.Common.{◌≡◌, ℕ, suc, ◌+◌, ◌<◌, ◌≤◌, arith, ap, refl, sym, ◌∙◌, subst, not, IsTrue, Option, Some, None, Result, Ok, Err}
+use Rattle.std.proofs.Common.{◌≡◌, ℕ, suc, ◌+◌, ◌<◌, ◌≤◌, arith, ap, refl, sym, ◌∙◌, subst, not, IsTrue, Option, Result, Ok, Err}
 use Rattle.hm_base.specs.declared.Fault.{Fault}
 use Rattle.hm_codes.specs.Listing.{IsListing, Listing, Stands}
 use Rattle.hm_handlers.specs.Nested.{NestedStep, step, steps, to_end}
@@ -94,8 +94,7 @@ pub record HasLeft (i : Instr) (n : ℕ) (x y : Cpu) : Type 0 where
   pub left : 0 < n → steps_left (vector_in i) y.window.a ≡ n
 
 few_left : (o : Option Vector) (a : ℕ) → steps_left o a ≤ 4
-few_left (Some v) a = omega arith
-few_left None a = omega arith
+few_left o a = grind arith
 
 -- all that it has left
 pub all_left : (i : Instr) (x : Cpu) (n : ℕ) → n ≡ steps_left (vector_in i) x.window.a → Stands (flash_at (memory_of x.mem)) x.regs.pc i → IsPosition x

@@ -1,5 +1,5 @@
 -- What a letter is.
-use Rattle.std.proofs.Common.{◌≡◌, ℕ, arith, ap, refl, sym, ◌∙◌, ◌==◌, Bool, false, cond, Ok, Err}
+use Rattle.std.proofs.Common.{◌≡◌, ℕ, arith, ap, sym, ◌∙◌, ◌==◌, Bool, false, cond}
 use Rattle.std.proofs.lemmas.Bool.Decides.{nat_tests}
 use Rattle.hm_codes.specs.Listing.{Listing}
 use Rattle.hm_handlers.specs.Nested.{Nested, NestedStep, letter, step, steps, to_end}
@@ -10,8 +10,7 @@ use Rattle.hm_sched.specs.Schedule.{Sched, older_letter, younger_letter}
 module _ (listing : Listing) (s : Sched) where
   -- ONE STEP
   only_step : (r : NestedStep) → r ≡ then r (steps listing s 0)
-  only_step (Ok y) = refl
-  only_step (Err e) = refl
+  only_step r = grind arith
 
   pub one_step : (x : Nested) → step listing s Older x ≡ steps listing s 1 x
   one_step x = only_step (step listing s Older x)

@@ -40,7 +40,7 @@ use Rattle.hm_run.specs.declared.Cause.{Cause}
 use Rattle.hm_run.specs.declared.Cause.TheVariants as cause
 use Rattle.hm_run.specs.declared.Offence.TheVariants as offence
 use Rattle.hm_sched.specs.Schedule.{Sched}
-use Rattle.hm_state.specs.State.{At, Byte, Cell, State, cell_of, regs_of, state_of}
+use Rattle.hm_state.specs.State.{Cell, State, cell_of, regs_of, state_of}
 use Rattle.hm_thumb.specs.Families.{is_vector_row}
 use Rattle.hm_whole.specs.Whole.{scalar_in_machine}
 use Rattle.hm_window.specs.declared.rule.Window.{Window}
@@ -54,8 +54,7 @@ registers_are r m output = refl
 cell_is : (r q : Regs) (actor : Actor) (m : Memory) (output : List ℕ) (c : Cell)
     → cell_back (registers_of r) (state_of q m output) c ≡ cell_of r (with_actor actor m) c
 unfolding state_of
-cell_is r q actor m output (At p) = refl
-cell_is r q actor m output (Byte a) = refl
+cell_is r q actor m output c = grind arith
 
 restored_is : (r q : Regs) (actor : Actor) (m : Memory) (output : List ℕ)
     → restored (registers_of r) actor (state_of q m output) ≡ state_of r (with_actor actor m) output
@@ -155,12 +154,10 @@ raised (Ok u) = Ok u
 raised (Err h) = Err (letter_end.Step h)
 
 lifted_is : (r : Result Unit Cause) (y : Cpu) → stepped (lifted r) y ≡ with_acts (nested_of y).acts (reached r y)
-lifted_is (Ok u) y = refl
-lifted_is (Err e) y = refl
+lifted_is r y = grind arith
 
 raised_is : (r : Result Unit StepEnd) (y : Cpu) → stepped (raised r) y ≡ with_acts (nested_of y).acts (reached_younger r y)
-raised_is (Ok u) y = refl
-raised_is (Err h) y = refl
+raised_is r y = grind arith
 
 module _ (listing : Listing) (s : Sched) (x : Cpu) (under : IsUnder s x) where
   abbrev around : Around
@@ -274,8 +271,7 @@ module _ (x : Cpu) (z : Activation) (rest : List Activation) where
   -- the position and the state before an instruction that returns are forgotten
   pub returned_from : (o : Option Broken) (before : State)
       → as_ruled o ≡ returned o (record (config_of x) { state = before }) (interrupted_of z) (map interrupted_of rest) (state_in x)
-  returned_from None before = refl
-  returned_from (Some b) before = refl
+  returned_from o before = grind arith
 
   pub returned_ok : (y : Cpu) → y.regs ≡ z.regs → memory_of y.mem ≡ with_actor (actor_under rest) (memory_of x.mem) → newest_first y.acts ≡ rest
       → y.window ≡ window_in z

@@ -29,8 +29,7 @@ behind_these xs (Ok ys) = Ok (xs ++ ys)
 behind_these xs (Err e) = Err e
 
 pub behind_nothing : (r : Result (List ℕ) Stop) → behind_these [] r ≡ r
-behind_nothing (Ok ys) = refl
-behind_nothing (Err e) = refl
+behind_nothing r = grind arith
 
 onto : (xs : List ℕ) (x : ℕ) (r : Result (List ℕ) Stop) → behind_these xs (more x r) ≡ behind_these (xs ++ x ∷ []) r
 onto xs x (Ok ys) = ap Ok (sym (append_assoc xs (x ∷ []) ys))

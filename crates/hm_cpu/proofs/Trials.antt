@@ -205,8 +205,7 @@ pub not_at : (M : Program) (c : Config State) → (c.a == 2) ≡ false → false
 not_at M c e = sym (ap (λ (b : Bool). b && ((c.b == 0) && goes_on (then (order.older M c) (younger M)))) e)
 
 and_false : (b : Bool) → false ≡ (b && false)
-and_false true = refl
-and_false false = refl
+and_false b = grind arith
 
 pub not_first : (M : Program) (c : Config State) → (c.b == 0) ≡ false → false ≡ is_ready M c
 not_first M c e = and_false (c.a == 2) ∙ ap (λ (b : Bool). (c.a == 2) && (b && goes_on (then (order.older M c) (younger M)))) (sym e)

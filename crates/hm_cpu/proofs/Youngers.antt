@@ -1,6 +1,6 @@
 -- The steps of the younger of two rows.
 use Rattle.std.proofs.Common.{◌≡◌, ℕ, ◌+◌, ap, sym, ◌∙◌, Bool, true, ◌&&◌, cond, IsTrue, List, Option, Some, None, Err}
-use Rattle.std.specs.Option.{is_none}
+use Rattle.std.specs.Option.{is_none, option_or}
 use Rattle.hm_base.specs.declared.Fault.{Fault}
 use Rattle.hm_codes.specs.Listing.{Listing}
 use Rattle.hm_cpu.specs.Cpus.{config_of, step_ended, state_in}
@@ -17,7 +17,7 @@ use Rattle.hm_window.specs.declared.rule.Rule.{Rule}
 use Rattle.hm_window.specs.declared.rule.Rule.TheVariants as rule
 use Rattle.hm_run.specs.Program.{Program, Stepped, core, fault_rule, is_tainted_cause, refusal_rule, rows, step_rule, vector_of}
 use Rattle.hm_state.specs.State.{State, state_of}
-use Rattle.hm_window.specs.Overlap.{first_rule, rule_or}
+use Rattle.hm_window.specs.Overlap.{first_rule}
 
 -- the rules of a beat, and then that the younger is not refused
 module _ (v w : Vector) (a b n steps : ℕ) (r : Regs) (m : Memory) (output : List ℕ) (o : Option Rule)
@@ -29,10 +29,10 @@ module _ (v w : Vector) (a b n steps : ℕ) (r : Regs) (m : Memory) (output : Li
   at_step = record { a = a; b = b; n = n; steps = steps; state = s }
 
   pub rule_first : (q : Rule) → o ≡ Some q → Some q ≡ step_rule m.around (Some v) (Some w) at_step
-  rule_first q e = λ j. rule_or ((sym e ∙ there) j) (refusal_rule (Some w) s)
+  rule_first q e = λ j. option_or ((sym e ∙ there) j) (refusal_rule (Some w) s)
 
   pub rule_then : o ≡ None → refusal_rule (Some w) s ≡ step_rule m.around (Some v) (Some w) at_step
-  rule_then e = λ j. rule_or ((sym e ∙ there) j) (refusal_rule (Some w) s)
+  rule_then e = λ j. option_or ((sym e ∙ there) j) (refusal_rule (Some w) s)
 
   pub rule_none : (f : Option Fault) → IsTrue r.fpca → o ≡ None → f ≡ refuse w s → f ≡ None → None ≡ step_rule m.around (Some v) (Some w) at_step
   unfolding state_of

@@ -1,10 +1,11 @@
 -- xPSR: its fields, and the position and the IT byte in it.
 use Rattle.std.proofs.Common.{◌≡◌, ℕ, ◌+◌, ◌*◌, ◌/◌, ◌%◌, ◌^◌, ◌<◌, ◌⊎◌, Bool, true, false, arith, refl, sym, ◌∙◌, ap, subst, inl, inr, cond, eqb-true}
-use Rattle.std.specs.Prelude.{◌&&◌, ◌==◌, if◌then◌else◌, Some, None}
+use Rattle.std.specs.Prelude.{◌&&◌, ◌==◌, if◌then◌else◌, Option, Some, None}
 use Rattle.std.proofs.lemmas.Bool.Decides.{nat_tests}
+use Rattle.std.specs.Option.{unwrap_or}
 use Rattle.hm_base.specs.Bits.{field}
 use Rattle.hm_exc.specs.Entry.{CanEnter}
-use Rattle.hm_exc.specs.Frame.{between, eci_of, flags, is_between, or_between, progress, psr_window, xpsr}
+use Rattle.hm_exc.specs.Frame.{between, eci_of, flags, is_between, progress, psr_window, xpsr}
 use Rattle.hm_state.specs.State.{bit}
 use Rattle.hm_regs.specs.declared.Regs.{Regs}
 use Rattle.hm_window.specs.Positions.{may_end, window_of}
@@ -220,20 +221,20 @@ module _ (r : Regs) (w : Window) (k : CanEnter r w) (bit8 : r.it < 256) where
   starts h = let a : w.a ≡ 0 = grind (arith, nat_tests) in let b : w.b ≡ 0 = grind (arith, nat_tests) in λ j. record { a = a j; b = b j }
 
   seen_as : (p q e : ℕ) → field 25 2 (xpsr r w) ≡ p → field 10 2 (xpsr r w) ≡ q → field 12 4 (xpsr r w) ≡ e
-      → psr_window (xpsr r w) ≡ (if p == 0 && q == 0 then or_between (window_of e) else between)
-  seen_as p q e f g h = λ j. if f j == 0 && g j == 0 then or_between (window_of (h j)) else between
+      → psr_window (xpsr r w) ≡ (if p == 0 && q == 0 then unwrap_or (window_of e) between else between)
+  seen_as p q e f g h = λ j. if f j == 0 && g j == 0 then unwrap_or (window_of (h j)) between else between
 
   -- between two instructions an IT byte of 0 has the ECI of that position, and any other shows itself
-  no_block : (it : ℕ) → (it % 16 ≡ 0 → it ≡ 0) → (if it % 4 == 0 && it / 4 % 4 == 0 then or_between (window_of (it / 4 / 4)) else between) ≡ between
+  no_block : (it : ℕ) → (it % 16 ≡ 0 → it ≡ 0) → (if it % 4 == 0 && it / 4 % 4 == 0 then unwrap_or (window_of (it / 4 / 4)) between else between) ≡ between
   no_block it h = go (it % 4 == 0) (it / 4 % 4 == 0) refl refl
     where
-      go : (p q : Bool) → (it % 4 == 0) ≡ p → (it / 4 % 4 == 0) ≡ q → (if p && q then or_between (window_of (it / 4 / 4)) else between) ≡ between
+      go : (p q : Bool) → (it % 4 == 0) ≡ p → (it / 4 % 4 == 0) ≡ q → (if p && q then unwrap_or (window_of (it / 4 / 4)) between else between) ≡ between
       go true true a b =
           let e : it % 4 ≡ 0 = eqb-true _ _ a in
           let f : it / 4 % 4 ≡ 0 = eqb-true _ _ b in
           let z : it ≡ 0 = h (omega arith) in
           let y : it / 4 / 4 ≡ 0 = omega arith in
-          ap (λ (x : ℕ). or_between (window_of x)) y
+          ap (λ (x : ℕ). unwrap_or (window_of x) between) y
       go true false a b = refl
       go false q a b = refl
 
@@ -251,7 +252,7 @@ module _ (r : Regs) (w : Window) (k : CanEnter r w) (bit8 : r.it < 256) where
           let l : lower r.it w ≡ eci_of w * 4 = ap (λ (b : Bool). if b then r.it / 4 else eci_of w * 4) t in
           let q : lower r.it w % 4 ≡ 0 = omega arith in
           let e : lower r.it w / 4 ≡ eci_of w = omega arith in
-          seen_as 0 0 (eci_of w) (two ∙ u) (low_two ∙ q) (high_four ∙ e) ∙ ap or_between (eci-back w k.position)
+          seen_as 0 0 (eci_of w) (two ∙ u) (low_two ∙ q) (high_four ∙ e) ∙ ap (λ (o : Option Window). unwrap_or o between) (eci-back w k.position)
 
   pub psr-block : (if is_between w then xpsr r w / 2 ^ 25 % 4 + 4 * (xpsr r w / 2 ^ 10 % 64) else 0) ≡ r.it
   psr-block = go (is_between w) refl

@@ -2,7 +2,7 @@
 -- seen in one, `window_in`; `entered_memory`. When it may be done, `CanEnter`, and what an activation is that an entry made, `FitsEntry`. The list of
 -- activations, `newest_first`, and who accesses the memory under it, `actor_under`.
 use Rattle.std.specs.Prelude.{ℕ, ◌≡◌, ◌-◌, ◌%◌, ◌<◌, Bool, true, false, not, ◌==◌, if◌then◌else◌, List, [], ◌∷◌, ◌++◌, reverse, take, slice_index, Option, Some}
-use Rattle.std.specs.Prelude.{None, Result, Ok, Err}
+use Rattle.std.specs.Prelude.{None}
 use Rattle.std.proofs.Math.ListN.{replicate}
 use Rattle.arrayvec.specs.ArrayVec.{ArrayVec}
 use Rattle.hm_base.specs.Image.{word_at}
@@ -115,11 +115,6 @@ pub record FitsEntry (x : Activation) : Type 0 where
   pub frame : x.frame ≡ frame_base x.regs
   pub value : x.value ≡ return_value x.regs
   pub bytes : take (frame_size x.long) x.bytes ≡ frame_bytes x.regs (window_in x)
-
--- why an entry is refused
-abbrev pub refused_by : {A : Type 0} → Result A EnterErr → Option EnterErr
-refused_by (Ok x) = None
-refused_by (Err e) = Some e
 
 -- the activations, the newest first
 abbrev pub newest_first : ArrayVec Activation → List Activation

@@ -1,8 +1,8 @@
 -- The frame of an entry: `xpsr`; `frame_words` and `frame_bytes`; `frame_size`, `frame_base` and `has_room`; the position in xPSR, `psr_window`; and the
 -- vector, `vector_address` and `is_vector`.
 use Rattle.hm_mem.specs.Memory.{Bounds}
-use Rattle.std.specs.Prelude.{ℕ, ◌+◌, ◌-◌, ◌*◌, ◌/◌, ◌%◌, ◌^◌, Bool, ◌&&◌, ◌==◌, nat_le, if◌then◌else◌, List, [], ◌∷◌, ◌++◌, take, slice_index, Option, Some}
-use Rattle.std.specs.Prelude.{None}
+use Rattle.std.specs.Prelude.{ℕ, ◌+◌, ◌-◌, ◌*◌, ◌/◌, ◌%◌, ◌^◌, Bool, ◌&&◌, ◌==◌, nat_le, if◌then◌else◌, List, [], ◌∷◌, ◌++◌, take, slice_index}
+use Rattle.std.specs.Option.{unwrap_or}
 use Rattle.hm_base.specs.Bits.{field}
 use Rattle.hm_base.specs.Image.{word_at}
 use Rattle.hm_mem.specs.Devices.{byte_of}
@@ -80,14 +80,10 @@ floor_for bounds r = if uses_process r then bounds.process else bounds.floor
 abbrev pub has_room : Bounds → Regs → Bool
 has_room bounds r = nat_le (floor_for bounds r) (frame_base r) && lies_in_sram (frame_size r.fpca) (frame_base r)
 
--- THE POSITION IN A STACKED xPSR: the one of its ECI, where bits 26:25 and 11:10 are 0; between two instructions where these are not, and where ECI names none
-abbrev pub or_between : Option Window → Window
-or_between None = between
-or_between (Some w) = w
-
--- the position that a stacked xPSR tells
+-- THE POSITION IN A STACKED xPSR
+-- that of its ECI, where bits 26:25 and 11:10 are 0; between two instructions where these are not, and where ECI names none
 abbrev pub psr_window : ℕ → Window
-psr_window x = if field 25 2 x == 0 && field 10 2 x == 0 then or_between (window_of (field 12 4 x)) else between
+psr_window x = if field 25 2 x == 0 && field 10 2 x == 0 then unwrap_or (window_of (field 12 4 x)) between else between
 
 -- where the vector of an exception stands
 abbrev pub vector_address : Dev → ℕ → ℕ

@@ -1,5 +1,5 @@
 -- What a return compares with its entry, in this order, and the first difference: `return_rule`.
-use Rattle.std.specs.Prelude.{ℕ, zero, suc, ◌≡◌, ◌+◌, ◌<◌, ◌≤◌, ◌==◌, if◌then◌else◌, slice_index, Option, Some, None, Result, Ok, Err}
+use Rattle.std.specs.Prelude.{ℕ, zero, suc, ◌≡◌, ◌+◌, ◌<◌, ◌≤◌, ◌==◌, if◌then◌else◌, slice_index, Option, Some, None}
 use Rattle.std.specs.Option.{option_or}
 use Rattle.hm_base.specs.declared.Place.TheVariants.{R, QWord}
 use Rattle.hm_exc.specs.Entry.{main_after, process_after}
@@ -66,8 +66,3 @@ pub record Unbroken (r : Regs) (byte : ℕ → ℕ) (value : ℕ) (x : Activatio
   pub vectors : (k : ℕ) → 16 ≤ k → k < 32 → slice_index r.qw k ≡ slice_index x.regs.qw k
   pub primask : r.primask ≡ x.regs.primask
   pub basepri : r.basepri ≡ x.regs.basepri
-
--- why a return is broken
-abbrev pub broken_in : {A : Type 0} → Result A Broken → Option Broken
-broken_in (Ok x) = None
-broken_in (Err b) = Some b

@@ -1,9 +1,10 @@
 //! The entry of an exception.
 
 ghost use Rattle.std.specs.Prelude.{ℕ, ◌≡◌, ◌+◌, ◌-◌, ◌*◌, ◌%◌, ◌^◌, ◌<◌, ◌≤◌, ◌&&◌, nat_le, IsTrue, OnOk, OnErr, ◌∷◌, slice_index, if◌then◌else◌};
+ghost use Rattle.std.specs.Result.{result_err};
 ghost use Rattle.arrayvec.specs.ArrayVec.{array_vec_len};
 ghost use Rattle.hm_exc.specs.Entry.{CanEnter, FitsEntry, Passes, activation, entered_memory, entered_registers, entry_refusal, main_after, newest_first};
-ghost use Rattle.hm_exc.specs.Entry.{refused_by, vector_of, window_in};
+ghost use Rattle.hm_exc.specs.Entry.{vector_of, window_in};
 ghost use Rattle.hm_exc.specs.Frame.{floor_for, frame_size, vector_address};
 ghost use Rattle.hm_exc.specs.Written.{written};
 ghost use Rattle.hm_mem.specs.Memory.{memory_of};
@@ -111,7 +112,7 @@ pub fn enter(r: &mut Regs, m: &mut Mem, w: Window, e: u16, acts: &mut Acts) -> R
     requires state { CanEnter r.old w }
     requires exception { IsException e }
     requires depth { array_vec_len acts.old < 8 }
-    ensures refused { refused_by result ≡ entry_refusal (memory_of m.old).around.bounds r.old (seen (memory_of m.old)) e }
+    ensures refused { result_err result ≡ entry_refusal (memory_of m.old).around.bounds r.old (seen (memory_of m.old)) e }
     ensures registers { OnOk result (r.new ≡ entered_registers r.old e (vector_of (seen (memory_of m.old)) e)) }
     ensures memory { OnOk result (seen (memory_of m.new) ≡ entered_memory (activation r.old w e) (seen (memory_of m.old))) }
     ensures passes { OnOk result (Passes (Actor.Handler (main_after (activation r.old w e))) (memory_of m.old) (memory_of m.new)) }

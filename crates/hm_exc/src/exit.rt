@@ -1,10 +1,11 @@
 //! The return from an exception.
 
 ghost use Rattle.std.specs.Prelude.{ℕ, ◌≡◌, ◌+◌, ◌-◌, ◌*◌, ◌/◌, ◌%◌, ◌^◌, ◌<◌, ◌≤◌, List, ◌∷◌, IsTrue, IfOk, OnOk, OnErr, slice_index, reverse, take};
+ghost use Rattle.std.specs.Result.{result_err};
 ghost use Rattle.arrayvec.specs.ArrayVec.{array_vec_len};
 ghost use Rattle.hm_exc.specs.Entry.{FitsEntry, actor_under, main_after, newest_first, process_after, window_in};
 ghost use Rattle.hm_exc.specs.Frame.{frame_size, frame_words};
-ghost use Rattle.hm_exc.specs.Return.{Unbroken, broken_in, return_rule};
+ghost use Rattle.hm_exc.specs.Return.{Unbroken, return_rule};
 ghost use Rattle.hm_exc.specs.declared.types.Activation.{Activation};
 ghost use Rattle.hm_mem.specs.Memory.{byte_at, memory_of};
 ghost use Rattle.hm_mem.specs.Seen.{with_actor};
@@ -229,7 +230,7 @@ pub fn leave(r: &mut Regs, m: &mut Mem, value: u32, acts: &mut Acts) -> Result<W
     requires some { 0 < array_vec_len acts.old }
     requires fits { (x : Activation) (rest : List Activation) → newest_first acts.old ≡ x ∷ rest → FitsEntry x }
     ensures broken { (x : Activation) (rest : List Activation) → newest_first acts.old ≡ x ∷ rest
-        → broken_in result ≡ return_rule r.old (byte_at (memory_of m.old)) value x }
+        → result_err result ≡ return_rule r.old (byte_at (memory_of m.old)) value x }
     ensures registers { (x : Activation) (rest : List Activation) → newest_first acts.old ≡ x ∷ rest → OnOk result (r.new ≡ x.regs) }
     ensures position { (x : Activation) (rest : List Activation) → newest_first acts.old ≡ x ∷ rest → IfOk result (λ w. w ≡ window_in x) }
     ensures memory { (x : Activation) (rest : List Activation) → newest_first acts.old ≡ x ∷ rest

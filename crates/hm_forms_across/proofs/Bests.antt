@@ -113,9 +113,7 @@ module _ (name : ExtremeName) (u : Bool) (s : State) (x : ℕ → ℕ) where
   word_held z b v h = best_held name u z (firsts z (active_at b s)) (lanes z (bytes_of (x b))) v (lanes_below z (x b)) h
 
 cut_below : (z : Size) (t : ℕ) → t % modulus z < modulus z
-cut_below Byte t = omega arith
-cut_below Half t = omega arith
-cut_below Word t = omega arith
+cut_below z t = grind arith
 
 module _ (r : V23) (s : State) (runs : (ltb (at Ltp s) 4 ≡ false) ⊎ (eqb r.t.value 14 ≡ false)) where
   abbrev form_row : Row

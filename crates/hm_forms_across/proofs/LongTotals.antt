@@ -1,5 +1,5 @@
 -- Sums of whole registers in two registers are those of their words, one after another.
-use Rattle.std.proofs.Common.{◌≡◌, ℕ, ◌+◌, ◌-◌, ◌*◌, ◌/◌, ◌%◌, ◌^◌, Bool, true, false, not, ◌&&◌, ◌⊎◌, inl, inr, cond, eqb, ltb, List, ◌++◌, refl, sym, ◌∙◌, ap}
+use Rattle.std.proofs.Common.{◌≡◌, ℕ, ◌+◌, ◌-◌, ◌*◌, ◌/◌, ◌%◌, ◌^◌, Bool, false, not, ◌&&◌, ◌⊎◌, inl, inr, cond, eqb, ltb, List, ◌++◌, refl, sym, ◌∙◌, ap}
 use Rattle.std.proofs.Common.{arith, ne_eqb, eq-eqb}
 use Rattle.hm_base.specs.Place.{fit}
 use Rattle.hm_base.specs.declared.Place.TheVariants.{R, Mask01, Mask23, P0, Ltp}
@@ -64,9 +64,7 @@ module _ (r : LongSums) (s : State) (runs : (ltb (at Ltp s) 4 ≡ false) ⊎ (eq
     where
       go : (q p : Bool) (u : Value) → cond q (word (w / 2 ^ 32)) (cond p (word (w % 2 ^ 32)) (cond q (word (v / 2 ^ 32)) (cond p (word (v % 2 ^ 32)) u)))
           ≡ cond q (word (w / 2 ^ 32)) (cond p (word (w % 2 ^ 32)) u)
-      go true p u = refl
-      go false true u = refl
-      go false false u = refl
+      go q p u = grind arith
 
   left : (v : ℕ) → (ltb (at Ltp s) 4 ≡ false) ⊎ (at (R 14) (with_sum v) ≡ at (R 14) s)
   left v = go runs

@@ -58,12 +58,10 @@ module _ (m : ℕ) (f : ℕ → ℕ → ℕ) where
 
 -- WHERE A SUM STARTS
 pub later_start : (g : Bool) (v : ℕ) → cond (not g && false) 0 v ≡ v
-later_start true v = refl
-later_start false v = refl
+later_start g v = grind arith
 
 pub first_start : (g : Bool) (v : ℕ) → cond (not g && true) 0 v ≡ cond g v 0
-first_start true v = refl
-first_start false v = refl
+first_start g v = grind arith
 
 module _ (r : Sums) (s : State) (runs : (ltb (at Ltp s) 4 ≡ false) ⊎ (eqb (2 * r.l.value) 14 ≡ false)) where
   abbrev form_row : Row

@@ -25,16 +25,13 @@ pub flags_found : (name : CarryName) (b : ℕ) (u : State)
 flags_found name b u = go (begins name && eqb b 0)
   where
     go : (q : Bool) → flags_before name (numbers (map u.cell (map At (cond q [] (Carry ∷ []))))) ≡ cond q (cond (subtracts name) 2 0) (at Carry u)
-    go true = refl
-    go false = refl
+    go q = grind arith
 
 pub at_first : (q : Bool) (a c : ℕ) → cond (q && true) a c ≡ cond q a c
-at_first true a c = refl
-at_first false a c = refl
+at_first q a c = grind arith
 
 pub later : (q : Bool) (a c : ℕ) → cond (q && false) a c ≡ c
-later true a c = refl
-later false a c = refl
+later q a c = grind arith
 
 -- four bits of the flags stand in their place, of which the next word takes one
 pub bit_kept : (f : ℕ) → f % 2 ^ 4 / 2 % 2 ≡ f / 2 % 2

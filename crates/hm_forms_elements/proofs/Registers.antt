@@ -1,6 +1,6 @@
 -- What forms do to whole registers is what they do word by word.
 use Rattle.std.proofs.Common.{◌≡◌, ℕ, zero, suc, ◌+◌, ◌*◌, ◌/◌, ◌%◌, ◌^◌, ◌<◌, Bool, true, false, not, ◌||◌, cond, eqb, nat_eq, List, [], ◌∷◌, ◌++◌, map}
-use Rattle.std.proofs.Common.{reverse, Option, Some, None, refl, sym, ◌∙◌, ap, arith, ltb-true, eqb-true}
+use Rattle.std.proofs.Common.{reverse, Option, None, refl, sym, ◌∙◌, ap, arith, ltb-true, eqb-true}
 use Rattle.hm_base.specs.declared.Place.{Place}
 use Rattle.hm_base.specs.declared.Place.TheVariants.{R, P0}
 use Rattle.hm_isa.specs.declared.fields.Below.{Below}
@@ -59,8 +59,7 @@ turn f z even v w = unlanes z (in_turn f even (lanes z v) (exchanged (lanes z w)
 turn_back : (f : Bool → ℕ → ℕ → ℕ) (z : Size) (even : Bool) (x y : ℕ)
     → turn f z even (bytes_of x) (bytes_of y) ≡ bytes_of (word_of (turn f z even (bytes_of x) (bytes_of y)))
 turn_back f Byte even x y = bytes_of-word _ _ _ _ (omega arith) (omega arith) (omega arith) (omega arith)
-turn_back f Half even x y = bytes_of-word _ _ _ _ (omega arith) (omega arith) (omega arith) (omega arith)
-turn_back f Word even x y = bytes_of-word _ _ _ _ (omega arith) (omega arith) (omega arith) (omega arith)
+turn_back f z even x y = bytes_of-word _ _ _ _ (omega arith) (omega arith) (omega arith) (omega arith)
 
 pub complex_sum_words : (z : ℕ) → z < 3 → (f : Bool → ℕ → ℕ → ℕ) (x y : ℕ → ℕ) → turn f (size_of z) true (four x) (four y)
     ≡ four (λ b. word_of (turn f (size_of z) (not (nat_eq z 2) || eqb (b % 2) 0) (bytes_of (x b)) (bytes_of (y (cond (nat_eq z 2) (other_word b) b)))))
@@ -88,8 +87,7 @@ reverse_word name z x = unlanes z (reverse (lanes z (bytes_of x)))
 
 reverse_back : (name : ReverseName) (z : Size) (x : ℕ) → reverse_word name z x ≡ bytes_of (word_of (reverse_word name z x))
 reverse_back name Byte x = bytes_of-word _ _ _ _ (omega arith) (omega arith) (omega arith) (omega arith)
-reverse_back name Half x = bytes_of-word _ _ _ _ (omega arith) (omega arith) (omega arith) (omega arith)
-reverse_back name Word x = bytes_of-word _ _ _ _ (omega arith) (omega arith) (omega arith) (omega arith)
+reverse_back name z x = bytes_of-word _ _ _ _ (omega arith) (omega arith) (omega arith) (omega arith)
 
 mod_mod : (a : ℕ) → a % 256 % 256 ≡ a % 256
 mod_mod a = omega arith
@@ -247,8 +245,7 @@ run_from r z m o = unlanes z (offsets_from r m (per_word z) o)
 
 run_back : (r : Steps) (z : Size) (m : Option ℕ) (o : ℕ) → run_from r z m o ≡ bytes_of (word_of (run_from r z m o))
 run_back r Byte m o = bytes_of-word _ _ _ _ (omega arith) (omega arith) (omega arith) (omega arith)
-run_back r Half m o = bytes_of-word _ _ _ _ (omega arith) (omega arith) (omega arith) (omega arith)
-run_back r Word m o = bytes_of-word _ _ _ _ (omega arith) (omega arith) (omega arith) (omega arith)
+run_back r z m o = bytes_of-word _ _ _ _ (omega arith) (omega arith) (omega arith) (omega arith)
 
 pub offsets_words : (r : Steps) (z : Size) (m : Option ℕ) (o : ℕ)
     → unlanes z (offsets_from r m (4 * per_word z) o) ≡ four (λ b. word_of (run_from r z m (offset_after r m (per_word z * b) o)))
@@ -260,8 +257,7 @@ offsets_words r Word m o = λ j. run_back r Word m o j ++ run_back r Word m (off
     ++ run_back r Word m (offset_after r m 3 o) j
 
 pub round_is : (o : Option (Below 6)) (s : State) → round_of (numbers (map s.cell (map At (round_places o)))) ≡ round_at o s
-round_is None s = refl
-round_is (Some q) s = refl
+round_is o s = grind arith
 
 module _ (r : Steps) (s : State) where
   abbrev steps : Row

@@ -34,8 +34,7 @@ slices w reads f new s = refl
 
 -- four truth values inverted are their bits inverted
 one_bit : (p : Bool) → bit_of (not p) + bit_of p ≡ 1
-one_bit true = refl
-one_bit false = refl
+one_bit p = grind arith
 
 pub turned_low : (mask : ℕ) (p q r t : Bool) (l : List Bool) → turned mask (nibble (p ∷ q ∷ r ∷ t ∷ [])) ≡ nibble (turned_half mask (p ∷ q ∷ r ∷ t ∷ l))
 turned_low mask p q r t l = go (ltb 8 mask)
@@ -55,12 +54,10 @@ turned_high mask a b c d p q r t = go (ltb 8 mask)
 
 -- a mask moves behind the second word of its half
 pub early : (new : Option ℕ) (s : State) → (map into (mask_writes 0 (at Mask01 s) new) ≡ []) × (map into (mask_writes 2 (at Mask23 s) new) ≡ [])
-early None s = (refl, refl)
-early (Some k) s = (refl, refl)
+early new s = grind arith
 
 pub shifts : (p : Place) (x : Bool) (n : ℕ) → map into (cond x (write p n ∷ []) []) ≡ cond x (into (write p n) ∷ []) []
-shifts p true n = refl
-shifts p false n = refl
+shifts p x n = grind arith
 
 pub late : (new : Option ℕ) (s : State)
     → (map into (mask_writes 1 (at Mask01 s) new) ≡ mask_after Mask01 (at Mask01 s) new)

@@ -17,7 +17,7 @@ use Rattle.hm_isa.specs.declared.wide.T12.{T12}
 use Rattle.hm_isa.specs.declared.wide.T12.TheVariants as t12_
 use Rattle.hm_mem.specs.Devices.{IsLen}
 use Rattle.hm_regs.specs.declared.Regs.{Regs}
-use Rattle.hm_thumb.specs.MemoryRows.{access_row, list_row, load_list, loaded, other_end, pair_row, put_all, registers, stack_row, store_list, t12}
+use Rattle.hm_thumb.specs.MemoryRows.{access_row, list_row, load_list, loaded, moved, other_end, pair_row, put_all, registers, stack_row, store_list, t12}
 use Rattle.hm_thumb.specs.MemoryRows.{wide_list_row}
 use Rattle.hm_isa.specs.Words.{sign_extended}
 use Rattle.hm_thumb.specs.Does.{Ends, Faults, goes}
@@ -45,14 +45,16 @@ module _ (r : Regs) where
   access-keep access.Strh t a back q h = (inr (inl refl), h)
   access-keep access.Strb t a back q h = (inl refl, h)
   access-keep access.Ldrsb t a back q h = λ xs. loaded-keep t (sign_extended 8 (slice_index xs 0)) (back q) h
-  access-keep access.Ldr t a back q h = λ xs. loaded-keep t (slice_index xs 0) (back q) h
-  access-keep access.Ldrh t a back q h = λ xs. loaded-keep t (slice_index xs 0) (back q) h
-  access-keep access.Ldrb t a back q h = λ xs. loaded-keep t (slice_index xs 0) (back q) h
   access-keep access.Ldrsh t a back q h = λ xs. loaded-keep t (sign_extended 16 (slice_index xs 0)) (back q) h
+  access-keep name t a back q h = λ xs. loaded-keep t (slice_index xs 0) (back q) h
 
   pub t12-keep : (i : T12) (q : Regs) → Same r q → EndsKeep r (t12 i q)
   t12-keep (t12_.Offset i) q h = access-keep i.name i.t.value _ (λ p. p) q h
-  t12-keep (t12_.Indexed i) q h = access-keep i.name i.t.value _ _ q (either (Same r) (nat_eq i.w.value 1) _ _ h h)
+  t12-keep (t12_.Indexed i) q h =
+      let base = reg i.n.value q in
+      let to = moved (nat_eq i.u.value 1) i.i.value base in
+      access-keep i.name i.t.value (cond (nat_eq i.p.value 1) to base) (λ p. cond (nat_eq i.w.value 1) (put i.n.value to p) p) q
+      (either (Same r) (nat_eq i.w.value 1) (put i.n.value to q) q h h)
   t12-keep (t12_.Shifted i) q h = access-keep i.name i.t.value _ (λ p. p) q h
   t12-keep (t12_.Literal i) q h = access-keep i.name i.t.value _ (λ p. p) q h
 

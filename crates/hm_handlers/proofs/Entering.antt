@@ -33,8 +33,7 @@ word_back : (f : ℕ → ℕ) (x : ℕ) → x < 2 ^ 32 → f 28 ≡ byte_of x 0 
 word_back f x fits a b c d = (λ j. a j + 0x100 * b j + 0x10000 * c j + 0x1000000 * d j) ∙ four_bytes x fits
 
 long_enough : (t : Bool) → 31 < frame_size t
-long_enough true = omega arith
-long_enough false = omega arith
+long_enough t = grind arith
 
 module _ (r : Regs) (w : Window) (e : ℕ) (count : length r.qw ≡ 32) (can : CanEnter r w) (fits : r.it < 256) where
   size : length (frame_bytes r w) ≡ frame_size r.fpca

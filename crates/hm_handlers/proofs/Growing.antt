@@ -2,12 +2,13 @@
 use Rattle.std.proofs.Common.{◌≡◌, ◌⊎◌, ℕ, zero, suc, ◌+◌, ◌-◌, ◌<◌, ◌≤◌, Bool, true, false, cond, not, ◌&&◌, ◌||◌, List, [], ◌∷◌, length, Option, Some, None}
 use Rattle.std.proofs.Common.{Result, Ok, Err, inl, inr, ⊎_elim, refl, sym, ◌∙◌, ap, subst, arith, add-zero}
 use Rattle.std.proofs.lemmas.Bool.Decides.{nat_tests}
+use Rattle.std.specs.Option.{option_or}
 use Rattle.hm_base.specs.declared.FaultKind.{FaultKind}
 use Rattle.hm_base.specs.declared.Stop.{Stop}
 use Rattle.hm_isa.specs.declared.Instr.{Instr}
 use Rattle.hm_mem.specs.Devices.{IsLen, sets_pending, word_at}
 use Rattle.hm_mem.specs.Memory.{Around, thread_under, Bounds}
-use Rattle.hm_mem.specs.Seen.{Seen, after_load, after_store, covers, fault_kind, is_allowed, is_denied, lies_in_sram, marks, or_else, some_byte, stop_after}
+use Rattle.hm_mem.specs.Seen.{Seen, after_load, after_store, covers, fault_kind, is_allowed, is_denied, lies_in_sram, marks, some_byte, stop_after}
 use Rattle.hm_mem.specs.Seen.{stop_of, unless}
 use Rattle.hm_mem.specs.declared.Access.{Access}
 use Rattle.hm_order.proofs.Results.{decide, ok_err, ok_same, true_not_false}
@@ -141,7 +142,7 @@ loads_taint : (len n a : ℕ) (s : Seen) (b : ℕ) → (after_loads len n a s).t
 loads_taint len zero a s b = refl
 loads_taint len (suc n) a s b = loads_taint len n (behind len a) (after_load a s) b
 
-none_left : (o p : Option Stop) → or_else o p ≡ None → (o ≡ None) × (p ≡ None)
+none_left : (o p : Option Stop) → option_or o p ≡ None → (o ≡ None) × (p ≡ None)
 none_left (Some e) p h = absurd cc
 none_left None p h = (refl, h)
 

@@ -61,9 +61,7 @@ module _ (r : Regs) where
   end-keep loop_end.Le v q h = h
 
   pub t23-keep : (i : T23) (q : Regs) → Same r q → EndsKeep r (t23 i q)
-  t23-keep (t23_.Dls i) q h = h
   t23-keep (t23_.Wls i) q h = enter-keep (reg i.n.value q) i.v.value (λ p. p) q h h
-  t23-keep (t23_.Dlstp i) q h = h
   t23-keep (t23_.Wlstp i) q h = enter-keep (reg i.n.value q) i.v.value (put_size i.z.value) q h h
   t23-keep (t23_.End i) q h = end-keep i.name i.v.value q h
-  t23-keep t23_.Lctp q h = h
+  t23-keep i q h = h

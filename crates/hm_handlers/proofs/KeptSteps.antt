@@ -26,28 +26,20 @@ advanced-sound it h = by_rest (nat_eq (it % 8) 0) it h.0 refl
 
 settled-number : (bytes : ℕ) (w : Way) (r q : Regs) → KeepsBlock w r q → (settled bytes w q).ipsr ≡ r.ipsr
 settled-number bytes way.On r q h = h.0
-settled-number bytes way.Opens r q h = h.0
-settled-number bytes (way.To a) r q h = h.0
-settled-number bytes (way.Break k) r q h = h.0
-settled-number bytes (way.Return x) r q h = h.0
+settled-number bytes w r q h = h.0
 
 -- where a handler was on the main stack, it is so still
 kept-main : (r q : Regs) → HandlerOnMain r → q.ipsr ≡ r.ipsr → (r.ipsr ≢ 0 → q.spsel ≡ r.spsel) → HandlerOnMain q
 kept-main r q m e h n = let some : r.ipsr ≢ 0 = (λ z. n (e ∙ z)) in h some ∙ m some
 
 pub settled-main : (bytes : ℕ) (w : Way) (r q : Regs) → HandlerOnMain r → KeepsBlock w r q → HandlerOnMain (settled bytes w q)
-settled-main bytes way.On r q m h = kept-main r q m h.0 h.2
 settled-main bytes way.Opens r q m h = kept-main r q m h.0 h.3
-settled-main bytes (way.To a) r q m h = kept-main r q m h.0 h.2
-settled-main bytes (way.Break k) r q m h = kept-main r q m h.0 h.2
-settled-main bytes (way.Return x) r q m h = kept-main r q m h.0 h.2
+settled-main bytes w r q m h = kept-main r q m h.0 h.2
 
 pub settled-sound : (bytes : ℕ) (w : Way) (r q : Regs) → IsBlockByte r.it → KeepsBlock w r q → IsBlockByte (settled bytes w q).it
-settled-sound bytes way.On r q s h = advanced-sound q.it (rw h.1 s)
 settled-sound bytes way.Opens r q s h = (h.1, λ z. absurd (h.2 z))
-settled-sound bytes (way.To a) r q s h = advanced-sound q.it (rw h.1 s)
 settled-sound bytes (way.Break k) r q s h = rw h.1 s
-settled-sound bytes (way.Return x) r q s h = advanced-sound q.it (rw h.1 s)
+settled-sound bytes w r q s h = advanced-sound q.it (rw h.1 s)
 
 module _ {E : Type 0} (R : Runner E) where
   -- what an instruction has come to

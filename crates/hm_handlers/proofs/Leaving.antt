@@ -2,6 +2,7 @@
 use Rattle.std.proofs.Common.{◌≡◌, ◌≢◌, ℕ, zero, suc, ◌==◌, ◌+◌, ap, refl, sym, ◌∙◌, subst, Bool, true, false, cond, not, ◌&&◌, ◌||◌, nat_eq, nat_lt, eqb-true}
 use Rattle.std.proofs.Common.{List, length, Option, Some, None, Result, Ok, Err, arith}
 use Rattle.std.specs.Prelude.{IfOk, is_none}
+use Rattle.std.specs.Option.{option_or}
 use Rattle.hm_base.specs.declared.Fault.{Fault}
 use Rattle.hm_base.specs.declared.FaultKind.TheVariants.{InvState}
 use Rattle.hm_base.specs.declared.Place.TheVariants.{Ltp}
@@ -41,7 +42,6 @@ use Rattle.hm_thumb.specs.Does as runner
 use Rattle.hm_thumb.specs.Steps.{Stepped, step}
 use Rattle.hm_thumb.specs.declared.Way.TheVariants as way
 use Rattle.hm_whole.specs.Whole.{Went, goes_from, scalar_in_machine, seen_in, state_with}
-use Rattle.hm_window.specs.Overlap.{rule_or}
 use Rattle.hm_window.specs.declared.rule.Rule.{Rule}
 use Rattle.hm_window.specs.declared.rule.Rule.TheVariants as rule
 use Rattle.hm_handlers.proofs.Entering.{byte_in, number_in, spsel_in}
@@ -125,7 +125,7 @@ both true b e = (refl, e)
 both false b e = absurd cc
 
 -- the last of the rules that a younger step breaks
-last_rule : (r q : Option Rule) → rule_or r q ≡ None → q ≡ None
+last_rule : (r q : Option Rule) → option_or r q ≡ None → q ≡ None
 last_rule (Some b) q h = absurd cc
 last_rule None q h = h
 

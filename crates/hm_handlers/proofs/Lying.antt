@@ -65,8 +65,7 @@ framed true other base size sp floor process_floor a P Q fits low start end = in
 framed false other base size sp floor process_floor a P Q fits low start end = inl (omega arith, inl (omega arith))
 
 small_frame : (long : Bool) → frame_size long ≤ 104
-small_frame true = omega arith
-small_frame false = omega arith
+small_frame long = grind arith
 
 module _ (listing : Listing) (s : Sched) where
   -- what may be tainted stays so with more entries

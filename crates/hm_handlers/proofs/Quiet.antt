@@ -1,5 +1,6 @@
 -- Where nothing is interrupted, a step is the thread's; and under a schedule without entries nothing ever is.
 use Rattle.std.proofs.Common.{◌≡◌, ℕ, zero, suc, ◌==◌, ◌+◌, ap, refl, sym, ◌∙◌, subst, Bool, false, cond, List, [], ◌∷◌, drop, length, Option, Some, None}
+use Rattle.std.proofs.Common.{arith}
 use Rattle.std.proofs.Common.{Result, Ok, Err}
 use Rattle.hm_base.specs.Image.{Segment}
 use Rattle.hm_codes.specs.Listing.{Listing}
@@ -72,8 +73,7 @@ module _ (listing : Listing) (s : Sched) where
   AloneTick (Err e) = acts_in e.end ≡ []
 
   with_none : (r : Stepped) → Alone (with_acts [] r)
-  with_none (Ok c) = refl
-  with_none (Err e) = refl
+  with_none r = grind arith
 
   letter_none : (l : ℕ) (c : Config State) → Alone (letter listing s l (uninterrupted c))
   letter_none l c =

@@ -60,22 +60,17 @@ module _ (r : Regs) where
   data_sum-same s d x q h = let k = put_if-same d x.result q h in either (Same r) _ _ _ k k
 
   pub data-same : (name : DataName) (s d x : ℕ) (y : Shifted) (q : Regs) → Same r q → Same r (data_row name s d x y q)
-  data-same data_.And s d x y q h = bits-same s d _ _ q h
-  data-same data_.Bic s d x y q h = bits-same s d _ _ q h
-  data-same data_.Orr s d x y q h = bits-same s d _ _ q h
-  data-same data_.Orn s d x y q h = bits-same s d _ _ q h
-  data-same data_.Eor s d x y q h = bits-same s d _ _ q h
   data-same data_.Add s d x y q h = data_sum-same s d _ q h
   data-same data_.Adc s d x y q h = data_sum-same s d _ q h
   data-same data_.Sbc s d x y q h = data_sum-same s d _ q h
   data-same data_.Sub s d x y q h = data_sum-same s d _ q h
   data-same data_.Rsb s d x y q h = data_sum-same s d _ q h
+  data-same name s d x y q h = bits-same s d _ _ q h
 
   -- products
   pub product-same : (i : T11) (q : Regs) → Same r q → Same r (t11 i q)
   product-same (t11_.Operation i) q h = h
-  product-same (t11_.Accumulate i) q h = h
-  product-same (t11_.Long i) q h = h
+  product-same i q h = h
 
   -- a thread alone chooses its stack
   control-same : (t b : Bool) (q : Regs) → nat_eq q.ipsr 0 ≡ t → Same r q → Same r (cond t (selected b q) q)
@@ -86,12 +81,10 @@ module _ (r : Regs) where
 
   -- special registers
   special-same : (name : WrittenName) (x : ℕ) (q : Regs) → Same r q → Same r (with_special name x q)
-  special-same written.Apsr x q h = h
   special-same written.Msp x q h = either (Same r) (uses_process q) _ _ h h
   special-same written.Psp x q h = either (Same r) (uses_process q) _ _ h h
-  special-same written.Primask x q h = h
-  special-same written.Basepri x q h = h
   special-same written.Control x q h = control-same (nat_eq q.ipsr 0) (bit_is_set x 1) q refl h
+  special-same name x q h = h
 
   pub t18-same : (i : T18) (q : Regs) → Same r q → Same r (t18 i q)
   t18-same (t18_.Read i) q h = h
@@ -99,11 +92,7 @@ module _ (r : Regs) where
 
   pub system-same : (name : SystemMoveName) (t : ℕ) (q : Regs) → Same r q → Same r (system_move name t q)
   system-same move.ReadFpscr t q h = either (Same r) _ _ _ h h
-  system-same move.ReadVpr t q h = h
-  system-same move.ReadP0 t q h = h
-  system-same move.WriteFpscr t q h = h
-  system-same move.WriteVpr t q h = h
-  system-same move.WriteP0 t q h = h
+  system-same name t q h = h
 
   pub lane-same : (name : LaneMoveName) (k t : ℕ) (q : Regs) → Same r q → Same r (lane_move name k t q)
   lane-same lane.ToLane k t q h = h

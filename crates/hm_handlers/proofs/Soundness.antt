@@ -23,7 +23,7 @@ use Rattle.hm_mem.specs.declared.Actor.TheVariants.{Thread}
 use Rattle.hm_mem.specs.declared.Dev.{Dev}
 use Rattle.hm_order.specs.Beats.{then}
 use Rattle.hm_order.specs.Turns.{Turn, Older, Younger, turn}
-use Rattle.hm_order.specs.Machine.{Config, End, Stopped, Broken, older, younger}
+use Rattle.hm_order.specs.Machine.{Config, End, Stopped, older, younger}
 use Rattle.hm_regs.specs.declared.Regs.{Regs}
 use Rattle.hm_run.specs.declared.Cause.{Cause}
 use Rattle.hm_run.specs.declared.Outcome.{Outcome}
@@ -38,7 +38,7 @@ use Rattle.hm_window.specs.Positions.{may_end}
 use Rattle.hm_window.specs.declared.rule.Rule.{Rule}
 use Rattle.hm_sys.specs.Exceptions.{IsException, end_number, priority_of}
 use Rattle.hm_handlers.specs.Entries.{entered, entered_state, interrupted_by, least_active, mask_of, position_of}
-use Rattle.hm_handlers.specs.Nested.{Ended, Interrupted, Nested, NestedEnd, NestedStep, Offends, TickEnd, around_under, at_step, flows, handler_step, handles}
+use Rattle.hm_handlers.specs.Nested.{Ended, Interrupted, Nested, NestedEnd, NestedStep, TickEnd, around_under, at_step, flows, handler_step, handles}
 use Rattle.hm_handlers.specs.Nested.{letter, letters, program_under, returned, step, step_under, steps, uncounted, went, with_acts}
 use Rattle.hm_handlers.specs.Registers.{restored}
 use Rattle.hm_handlers.specs.Runs.{Pointers, Run, after_count, begin, closed, ended, enters, enters_unless, may_enter, next, picks, run, stops, tick_of}
@@ -300,8 +300,7 @@ module _ (s : Sched) where
 
   stops_sound : (t k : ℕ) (younger : Bool) (e : NestedEnd) (sps : List Pointers) → RunSound (stops t k younger e sps)
   stops_sound t k younger (Ended (Stopped c e) acts) sps none = has_ended _ none
-  stops_sound t k younger (Ended (Broken c r) acts) sps none = has_ended _ none
-  stops_sound t k younger (Offends what c acts) sps none = has_ended _ none
+  stops_sound t k younger e sps none = has_ended _ none
 
   module _ (listing : Listing) where
     tick_ends : (line : TickLine) (x : Run) (r : Result Nested TickEnd) → IfOk r (IsSound s) → RunSound (ended s line x r)

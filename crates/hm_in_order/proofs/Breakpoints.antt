@@ -1,5 +1,6 @@
 -- Breakpoints: in the machine and alone.
 use Rattle.std.proofs.Common.{◌≡◌, ℕ, ◌+◌, ◌++◌, ap, refl, subst, Bool, true, false, cond, length, nat_lt, List, Option, Some, None, Result, Ok, Err, inl, inr}
+use Rattle.std.proofs.Common.{arith}
 use Rattle.std.proofs.Common.{◌⊎◌, ◌∙◌}
 use Rattle.hm_base.specs.declared.Fault.{Fault}
 use Rattle.hm_base.specs.declared.Stop.{Stop}
@@ -121,8 +122,7 @@ break_same f g (Some k) r q h l = h k
 break_same f g None r q h l = l
 
 served_same : (s : State) (q : Result Asked Fault) → then (caused (as_stops q)) (λ x. in_machine (answered s x)) ≡ in_machine (then (or_fault q) (answered s))
-served_same s (Ok x) = refl
-served_same s (Err f) = refl
+served_same s q = grind arith
 
 either_same : (b : Bool) (reason : Reason) (r : Result State Cause) (q : Result State WholeStop) → r ≡ in_machine q
     → cond b r (Err (cause.Halt reason)) ≡ in_machine (cond b q (Err (why.Halt reason)))

@@ -1,5 +1,5 @@
 -- The headline and its riders, of what is shown of a run in which whole instructions in order agree with its position.
-use Rattle.std.proofs.Common.{◌≡◌, ℕ, zero, suc, ◌+◌, ◌-◌, ◌*◌, ◌/◌, ◌%◌, ◌^◌, ◌<◌, ◌≤◌, arith, ap, refl, sym, ◌∙◌, subst, ⊎_elim, Bool, true, false}
+use Rattle.std.proofs.Common.{◌≡◌, ℕ, zero, suc, ◌+◌, ◌-◌, ◌*◌, ◌/◌, ◌%◌, ◌^◌, ◌<◌, ◌≤◌, arith, ap, sym, ◌∙◌, subst, ⊎_elim, Bool, false}
 use Rattle.std.proofs.Common.{List, [], ◌++◌, length, slice_index, Option, Some}
 use Rattle.std.proofs.lemmas.List.{get_or_append_left, get_or-append_right}
 use Rattle.hm_base.specs.Image.{Segment, sram_size, sram_start}
@@ -45,8 +45,7 @@ bytes_then n m f g k lt =
 
 -- bit r of the byte of eight bits
 bit_below : (b : Bool) → bit b < 2
-bit_below true = omega arith
-bit_below false = omega arith
+bit_below b = grind arith
 
 bit_in : (f : ℕ → Bool) (k r : ℕ) → r < 8 → byte_of_bits f k / 2 ^ r % 2 ≡ bit (f (8 * k + r))
 bit_in f k r lt = at r lt
@@ -90,8 +89,7 @@ taint_told n m f t j lt =
     ap (λ (x : ℕ). x / 2 ^ (j % 8) % 2) (bytes_then n m f (byte_of_bits t) (j / 8) row) ∙ bit_in t (j / 8) (j % 8) eighth ∙ ap (λ (i : ℕ). bit (t i)) whole
 
 clean_bit : (b : Bool) → bit b ≡ 0 → b ≡ false
-clean_bit true e = absurd (omega arith)
-clean_bit false e = refl
+clean_bit b e = grind arith
 
 bytes_alike : (s t : State) (file : List ℕ) → ShownAlike s t → file ≡ sram_bytes s ++ taint_bytes s → HasBytesOf t file
 bytes_alike s t file h e = λ j lt clear.

@@ -2,13 +2,13 @@
 use Rattle.std.proofs.Common.{◌≡◌, ℕ, zero, suc, ◌<◌, ◌≤◌, arith, ◌&&◌, ◌||◌, ap, refl, sym, ◌∙◌, subst, Bool, true, false, not, ltb, nat_lt, cond, Option}
 use Rattle.std.proofs.Common.{Some, None, Result, Ok, Err, inl, inr, ⊎_elim}
 use Rattle.std.proofs.lemmas.Bool.Decides.{nat_tests}
-use Rattle.std.specs.Option.{is_none}
+use Rattle.std.specs.Option.{is_none, option_or}
 use Rattle.std.specs.Prelude.{option_map}
 use Rattle.hm_base.specs.declared.Fault.{Fault}
 use Rattle.hm_base.specs.declared.Place.{Place}
-use Rattle.hm_base.specs.declared.Place.TheVariants.{R, QWord, P0, Mask01, Mask23, Carry, Ltp, Sticky}
-use Rattle.hm_base.specs.declared.Stop.{Stop}
+use Rattle.hm_base.specs.declared.Place.TheVariants.{R, QWord, Ltp, Sticky}
 use Rattle.hm_base.specs.declared.Stop.TheVariants as stop
+use Rattle.hm_base.specs.declared.Stop.{Stop}
 use Rattle.hm_codes.specs.Listing.{Listing}
 use Rattle.hm_isa.specs.declared.Instr.{Instr}
 use Rattle.hm_isa.specs.declared.Instr.TheVariants as instr
@@ -37,12 +37,11 @@ use Rattle.hm_window.specs.declared.rule.Rule.TheVariants as rule
 use Rattle.hm_beat.specs.declared.clash.Clash.{Clash}
 use Rattle.hm_beat.specs.Meeting.{clash_with}
 use Rattle.hm_beat.proofs.Remaining.{left_apart}
-use Rattle.hm_window.specs.Overlap.{first_rule, is_too_early, rule_of_clash, rule_or}
+use Rattle.hm_window.specs.Overlap.{first_rule, is_too_early, rule_of_clash}
 use Rattle.hm_run.specs.Program.{rows, core, alone, begins, caused, cause_of, done_alone, done_in_machine, in_machine, is_ready, is_tainted_cause, lifted}
 use Rattle.hm_run.specs.Program.{makes_here, on_cell, or_fault, other_by, other_here, other_row, ready_state, refusal_rule, step_rule, unless_refused}
 use Rattle.hm_run.specs.Program.{vector_of, whole_here}
 use Rattle.hm_whole.specs.Watched.{GoesAlike, Watched, In, Beside, Held, InCell, Besides, open_rest, held, dead, view}
-use Rattle.hm_run.specs.Stops as why
 use Rattle.hm_run.specs.Stops.{WholeStop, break_of}
 use Rattle.hm_rows.proofs.Rows.{keeps_lr, row_laws}
 use Rattle.hm_rows.proofs.Context.{context_fresh, context_pc, context_ready, context_there, fresh}
@@ -96,12 +95,8 @@ fresh_agree s t h = record {
     places : (p : Place) → context_cell s (At p) ≡ context_cell t (At p)
     places (R n) = h.places (R n)
     places (QWord k) = h.places (QWord k)
-    places (P0 b) = refl
-    places Mask01 = refl
-    places Mask23 = refl
-    places Carry = refl
-    places Ltp = refl
     places Sticky = h.places Sticky
+    places p = refl
 
 context_agree : (s t : State) → Agree s t → Agree (with_context s) (with_context t)
 context_agree s t h = by_context s.rest.fpca refl (sym (ap (λ (r : Rest). r.fpca) h.rest))
@@ -147,10 +142,8 @@ module _ (x : Around) (thread : x.actor ≡ Thread) where
 -- THE NEXT INSTRUCTION
 module _ (listing : Listing) (around : Around) where
   next_at : (s : State) (r : Result Instr Fault) → listing s.pc ≡ r → next_of (core listing around) (vector_of r) s ≡ alone listing s
-  next_at s (Ok (instr.Scalar i)) e = refl
-  next_at s (Ok (instr.Branch i)) e = refl
   next_at s (Ok (instr.Vector v)) e = sym (ap (λ (r : Result Instr Fault). whole_here r s) e)
-  next_at s (Err f) e = refl
+  next_at s r e = refl
 
   -- it is the one at the program counter
   pub next_is : (s : State) → next (core listing around) s ≡ alone listing s
@@ -168,9 +161,7 @@ module _ (listing : Listing) (around : Around) where
 
 -- STOPS AND RULES
 untainted : (w : WholeStop) → is_tainted_cause (cause_of w) ≡ false
-untainted (why.Halt reason) = refl
-untainted why.Full = refl
-untainted (why.Faults f) = refl
+untainted w = grind arith
 
 broken : (b : Bool) → cond b None (Some rule.YoungerFault) ≡ None → b ≡ true
 broken true e = refl
@@ -184,8 +175,7 @@ caused_ok (Err f) t e = absurd (ok_err (sym e))
 stops_caused : (r : Result State Stop) → StopsBy is_tainted r → StopsBy is_tainted_cause (caused r)
 stops_caused (Ok s) h = h
 stops_caused (Err (stop.Fault f)) h = h
-stops_caused (Err (stop.Tainted a)) h = h
-stops_caused (Err (stop.Denied a)) h = h
+stops_caused r h = h
 
 alike_caused : (p : Cell → Bool) (r q : Result State Stop) → Alike (AgreeOn (cell_view Rest cells) p) r q
     → Alike (AgreeOn view (on_cell p)) (caused r) (caused q)
@@ -302,7 +292,7 @@ module _ (x : Around) (thread : x.actor ≡ Thread) where
       (apart_lifted (vector_tree v x k) (vector_tree w x c.b) c.state
       (left_apart (vector_tree v) (vector_tree w) _ _ (row_laws v) (row_laws w) x c.a c.b c.state none k low high)))
 
-  no_rule : (o r : Option Rule) → rule_or o r ≡ None → (o ≡ None) × (r ≡ None)
+  no_rule : (o r : Option Rule) → option_or o r ≡ None → (o ≡ None) × (r ≡ None)
   no_rule (Some y) r e = let no : Some y ≡ None = e in absurd cc
   no_rule None r e = (refl, e)
 

@@ -23,9 +23,7 @@ module _ (listing : Listing) (image : List Segment) where
 
   stopped_more : (n : ℕ) (y : InOrder) → in_order listing image n ≡ y → StaysStopped listing image y → StaysStopped listing image (one_more listing n y)
   stopped_more n (Running s) e h = stopped_after n s (alone listing s) e refl
-  stopped_more n (Halted reason k s) e h = h
-  stopped_more n (Full k s) e h = h
-  stopped_more n (Faulted kind pc addr k) e h = h
+  stopped_more n y e h = h
 
   -- what stops the instructions in order stops them at its own number
   pub stays_stopped : (n : ℕ) → StaysStopped listing image (in_order listing image n)
@@ -34,9 +32,7 @@ module _ (listing : Listing) (image : List Segment) where
 
   stopped_still : (n : ℕ) (y : InOrder) → HasStopped y → one_more listing n y ≡ y
   stopped_still n (Running s) h = absurd h
-  stopped_still n (Halted reason k s) h = refl
-  stopped_still n (Full k s) h = refl
-  stopped_still n (Faulted kind pc addr k) h = refl
+  stopped_still n y h = refl
 
   later_by : (n k : ℕ) → HasStopped (in_order listing image n) → in_order listing image (n + k) ≡ in_order listing image n
   later_by n zero h = ap (in_order listing image) (add-zero n)

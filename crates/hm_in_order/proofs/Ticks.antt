@@ -175,15 +175,12 @@ module _ (listing : Listing) (around : Around) (thread : around.actor ≡ actor.
 
   next_stops_of : (n : ℕ) (w : WholeStop) → StopsInOrder machine first n w → NextStops n (cause_of w)
   next_stops_of n (why.Halt reason) h = h
-  next_stops_of n why.Full h = h
-  next_stops_of n (why.Faults f) h = h
+  next_stops_of n w h = h
 
   tainted_stops : (n : ℕ) (e : Cause) → is_tainted_cause e ≡ true → NextStops n e
-  tainted_stops n (cause.Halt reason) t = absurd cc
-  tainted_stops n cause.Full t = absurd cc
-  tainted_stops n (cause.Stop (stop.Fault f)) t = absurd cc
   tainted_stops n (cause.Stop (stop.Tainted addr)) t = tt
   tainted_stops n (cause.Stop (stop.Denied addr)) t = tt
+  tainted_stops n e t = absurd cc
 
   pub next_stops : (n : ℕ) (e : Cause) → Explains machine first n e → NextStops n e
   next_stops n e h = ⊎_elim (tainted_stops n e) (λ q. subst (NextStops n) q.1 (next_stops_of n q.0 q.2)) h
@@ -225,8 +222,7 @@ module _ (listing : Listing) (around : Around) (thread : around.actor ≡ actor.
   stop_keeps t acts c (cause.Stop (stop.Fault f)) false h only k =
       let e : Stopping = record { cause = cause.Stop (stop.Fault f); younger = false } in
       fault_keeps (who_runs acts) f c.state.pc c.n (at_stop c e) (faults_at c f h k)
-  stop_keeps t acts c (cause.Stop (stop.Tainted addr)) younger h only k = tt
-  stop_keeps t acts c (cause.Stop (stop.Denied addr)) younger h only k = tt
+  stop_keeps t acts c e younger h only k = tt
 
 -- THE START
 -- under whatever region and floor the machine starts, the instructions in order start alike
@@ -235,8 +231,7 @@ unfolding start_under
 first_alike image bounds = record { cells = cells; sticky = refl }
   where
     cells : (c : Watched) → dead c (held (start_under bounds image) c) ≡ false → held (start_under bounds image) c ≡ held (start image) c
-    cells (In c) d = refl
-    cells Beside d = refl
+    cells c d = grind arith
 
 first_pc : (image : List Segment) (bounds : Bounds) → (start_under bounds image).pc ≡ (start image).pc
 unfolding start_under

@@ -1,5 +1,6 @@
 -- A vector row, alone: the context that it makes, its refusal, and its four beats.
 use Rattle.std.proofs.Common.{◌≡◌, ℕ, ◌+◌, Bool, true, false, not, ◌&&◌, ◌||◌, cond, ltb, nat_eq, nat_lt, map, Option, Some, None, Result, Ok, Err, refl, sym}
+use Rattle.std.proofs.Common.{arith}
 use Rattle.std.proofs.Common.{◌∙◌, ap, subst}
 use Rattle.std.specs.Option.{is_none}
 use Rattle.hm_base.specs.declared.Fault.{Fault}
@@ -37,8 +38,7 @@ abbrev is_refused : Vector → ℕ → ℕ → Bool → Bool
 is_refused v it size fpca = not (nat_eq it 0) || (writes_lr v && nat_lt size 4 && fpca)
 
 refuse_none : (b : Bool) (f : Fault) → is_none (cond b (Some f) None) ≡ not b
-refuse_none true f = refl
-refuse_none false f = refl
+refuse_none b f = grind arith
 
 -- the same refusal
 pub refuse_same : (v : Vector) (s t : State) → s.rest.it ≡ t.rest.it → at Ltp s ≡ at Ltp t → s.rest.fpca ≡ t.rest.fpca → s.pc ≡ t.pc → refuse v s ≡ refuse v t

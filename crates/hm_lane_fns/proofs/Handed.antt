@@ -1,5 +1,5 @@
 -- What stays where a register is handed on from word to word.
-use Rattle.std.proofs.Common.{◌≡◌, ℕ, ◌+◌, ◌-◌, ◌*◌, ◌^◌, Bool, true, false, ◌&&◌, ◌⊎◌, inl, inr, cond, ltb, leb, [], ◌∷◌, refl, sym, ◌∙◌, ap}
+use Rattle.std.proofs.Common.{◌≡◌, ℕ, ◌+◌, ◌-◌, ◌*◌, ◌^◌, Bool, true, false, ◌&&◌, ◌⊎◌, inl, inr, cond, ltb, leb, [], ◌∷◌, sym, ◌∙◌, ap, arith}
 use Rattle.hm_lane.specs.Predicate.{active_bytes, allowed, remains}
 use Rattle.hm_state.specs.Store.{put}
 use Rattle.hm_state.specs.State.{Cell, State, Value, cells, same_cell}
@@ -20,5 +20,4 @@ pub put_twice : (c : Cell) (v w : Value) (s : State) → put cells c w (put cell
 put_twice c v w s = λ j. record { cell = λ d. go (same_cell c d) (s.cell d) j; sticky = s.sticky; pc = s.pc; rest = s.rest }
   where
     go : (x : Bool) (u : Value) → cond x w (cond x v u) ≡ cond x w u
-    go true u = refl
-    go false u = refl
+    go x u = grind arith

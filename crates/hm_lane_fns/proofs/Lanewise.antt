@@ -35,8 +35,7 @@ bytes_of-word a b c d h i j k =
 pub one_word : (z : Size) (f : ℕ → ℕ → ℕ → ℕ) (u x y : ℕ)
     → lanewise3 z f (bytes_of u) (bytes_of x) (bytes_of y) ≡ bytes_of (word_of (lanewise3 z f (bytes_of u) (bytes_of x) (bytes_of y)))
 one_word Byte f u x y = bytes_of-word _ _ _ _ (omega arith) (omega arith) (omega arith) (omega arith)
-one_word Half f u x y = bytes_of-word _ _ _ _ (omega arith) (omega arith) (omega arith) (omega arith)
-one_word Word f u x y = bytes_of-word _ _ _ _ (omega arith) (omega arith) (omega arith) (omega arith)
+one_word z f u x y = bytes_of-word _ _ _ _ (omega arith) (omega arith) (omega arith) (omega arith)
 
 pub four_words : (z : Size) (f : ℕ → ℕ → ℕ → ℕ) (u v w : ℕ → ℕ) →
     lanewise3 z f (bytes_of (u 0) ++ bytes_of (u 1) ++ bytes_of (u 2) ++ bytes_of (u 3)) (bytes_of (v 0) ++ bytes_of (v 1) ++ bytes_of (v 2) ++ bytes_of (v 3))
@@ -49,19 +48,14 @@ four_words Word f u v w = refl
 
 -- so are the tests of them
 or_more : (x y z : Bool) → (x || (y || z)) ≡ (x || y || z)
-or_more true y z = refl
-or_more false y z = refl
+or_more x y z = grind arith
 
 any_four : (p q r s a b c d : Bool) (ps ts : List Bool)
     → any_both (p ∷ q ∷ r ∷ s ∷ ps) (a ∷ b ∷ c ∷ d ∷ ts) ≡ (any_both (p ∷ q ∷ r ∷ s ∷ []) (a ∷ b ∷ c ∷ d ∷ []) || any_both ps ts)
 any_four p q r s a b c d ps ts = go (p && a) (q && b) (r && c) (s && d) (any_both ps ts)
   where
     go : (w x y z v : Bool) → (w || (x || (y || (z || v)))) ≡ ((w || (x || (y || (z || false)))) || v)
-    go true x y z v = refl
-    go false true y z v = refl
-    go false false true z v = refl
-    go false false false true v = refl
-    go false false false false v = refl
+    go w x y z v = grind arith
 
 abbrev pub quad : (ℕ → ℕ → Bool) → ℕ → List Bool
 quad p b = p b 0 ∷ p b 1 ∷ p b 2 ∷ p b 3 ∷ []
@@ -93,12 +87,10 @@ tests_words Word g u v w s = any_words (active_byte s) (λ b j. get_or (lane_tes
 
 pub marked_where : (x : Bool) (b : ℕ) (active : List Bool) (vs : List ℕ) (g : ℕ → List Bool → List ℕ → Bool)
     → marked b active vs (cond x (Some g) None) ≡ (x && g b active vs)
-marked_where true b active vs g = refl
-marked_where false b active vs g = refl
+marked_where x b active vs g = grind arith
 
 pub and_four : (x a b c d : Bool) → ((x && a) || (x && b) || (x && c) || (x && d)) ≡ (x && (a || b || c || d))
-and_four true a b c d = refl
-and_four false a b c d = refl
+and_four x a b c d = grind arith
 
 -- word b of the second operand
 abbrev pub operand_at : Size → Operand → ℕ → State → ℕ
@@ -111,8 +103,7 @@ operand_is z (Vector q) b s = refl
 operand_is z (Scalar m) b s = go (eqb m.value 15)
   where
     go : (x : Bool) → operand_of z (Scalar m) (numbers (map s.cell (map At (cond x [] (R m.value ∷ []))))) ≡ cond x 0 (splat z (at (R m.value) s))
-    go true = refl
-    go false = refl
+    go x = grind arith
 operand_is z (Constant k) b s = refl
 
 -- a number in each lane is a word of it four times
@@ -132,9 +123,7 @@ operand_four z (Vector q) s = refl
 operand_four z (Scalar m) s = splat_bytes z _ ∙ go (eqb m.value 15)
   where
     none : (y : Size) → splat y 0 ≡ 0
-    none Byte = refl
-    none Half = refl
-    none Word = refl
+    none y = grind arith
 
     go : (x : Bool) → four (λ b. splat z (cond x 0 (at (R m.value) s))) ≡ four (λ b. cond x 0 (splat z (at (R m.value) s)))
     go true = ap (λ n. four (λ b. n)) (none z)

@@ -1,6 +1,6 @@
 -- What may stand for a shift by more than a lane has bits.
 use Rattle.std.proofs.Common.{◌≡◌, ◌≤◌, ◌<◌, ◌-◌, ◌*◌, ◌%◌, ◌^◌, ℕ, zero, suc, ℤ, pos, negsuc, ◌≤ℤ◌, ◌<ℤ◌, ◌+ℤ◌, ◌-ℤ◌, ◌*ℤ◌, Bool, true, false, not, ◌&&◌, ◌||◌}
-use Rattle.std.proofs.Common.{◌⊎◌, inl, inr, cond, FitsSigned, w64, to_z, of_z, unsigned_abs, subst, arith, ap, refl, sym, ◌∙◌}
+use Rattle.std.proofs.Common.{◌⊎◌, inl, inr, cond, FitsSigned, w64, to_z, of_z, unsigned_abs, subst, arith, ap, sym, ◌∙◌}
 use Rattle.std.specs.Prelude.{int_lt, min}
 use Rattle.std.specs.Int.{int_div_euclid}
 use Rattle.std.proofs.Math.IntN.{neg_ℤ}
@@ -88,26 +88,16 @@ no_bits Word a k h = multiple a 32 k h
 
 cut_pos : (z : Size) (m : ℕ) → m % modulus z ≡ 0 → cut z (pos m) ≡ 0
 cut_pos Byte m e = e
-cut_pos Half m e = e
-cut_pos Word m e = e
+cut_pos z m e = e
 
 cut_neg : (z : Size) (m : ℕ) → m % modulus z ≡ 0 → cut z (neg_ℤ (pos m)) ≡ 0
-cut_neg Byte zero e = refl
-cut_neg Byte (suc n) e = omega arith
-cut_neg Half zero e = refl
-cut_neg Half (suc n) e = omega arith
-cut_neg Word zero e = refl
-cut_neg Word (suc n) e = omega arith
+cut_neg z m e = grind arith
 
 whole_cut : (z : Size) → cut z (pos 4294967296) ≡ 0
-whole_cut Byte = refl
-whole_cut Half = refl
-whole_cut Word = refl
+whole_cut z = grind arith
 
 minus_cut : (z : Size) → cut z (pos 0 -ℤ pos 4294967296) ≡ 0
-minus_cut Byte = refl
-minus_cut Half = refl
-minus_cut Word = refl
+minus_cut z = grind arith
 
 far : (a k : ℕ) → 32 ≤ k → 0 < a → 4294967296 ≤ a * 2 ^ k
 far a k h l =

@@ -24,8 +24,7 @@ kind_in test k (l ∷ ks) e (inl f) = ap test f ∙ both_left _ _ e
 kind_in test k (l ∷ ks) e (inr m) = kind_in test k ks (both_right _ _ e) m
 
 long_bits : (n : ℕ) → n / 2 ^ 29 % 2 ^ 3 ≡ 7 → (n / 2 ^ 28 % 2 ^ 1 ≡ 1) ⊎ (n / 2 ^ 27 % 2 ^ 1 ≡ 1) → 0xe800 ≤ n / 65536
-long_bits n e (inl f) = omega arith
-long_bits n e (inr f) = omega arith
+long_bits n e name = grind arith
 
 pub long_code : {R : Type 0} (C : Coded R) → C.is_told ≡ true → all_kinds is_long_kind C.kinds ≡ true → (r : R) → 0xe800 ≤ C.code r / 65536
 long_code C told long r =
@@ -39,10 +38,7 @@ abbrev ShortBits : ℕ → Type 0
 ShortBits n = ((n / 2 ^ 15 % 2 ^ 1 ≡ 0) ⊎ (n / 2 ^ 14 % 2 ^ 1 ≡ 0)) ⊎ ((n / 2 ^ 13 % 2 ^ 1 ≡ 0) ⊎ (n / 2 ^ 11 % 2 ^ 2 ≡ 0))
 
 short_bits : (n : ℕ) → n / 2 ^ 16 % 2 ^ 16 ≡ 0 → n < 2 ^ 32 → ShortBits n → n < 0xe800
-short_bits n e h (inl (inl f)) = omega arith
-short_bits n e h (inl (inr f)) = omega arith
-short_bits n e h (inr (inl f)) = omega arith
-short_bits n e h (inr (inr f)) = omega arith
+short_bits n e h name = grind arith
 
 either_bits : {P Q R S : Type 0} {a b c d : Bool} → (a ≡ true → P) → (b ≡ true → Q) → (c ≡ true → R) → (d ≡ true → S)
     → ((a || b) || (c || d)) ≡ true → (P ⊎ Q) ⊎ (R ⊎ S)

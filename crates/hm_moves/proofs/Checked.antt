@@ -1,6 +1,8 @@
 -- The checks of the code are those of the tree.
 use Rattle.std.proofs.Common.{◌≡◌, ℕ, ◌+◌, Bool, true, false, not, cond, ◌||◌, ◌&&◌, List, [], ◌∷◌, ◌++◌, Option, Some, None, Result, Ok, Err, refl, sym, ◌∙◌}
 use Rattle.std.proofs.Common.{ap, subst, arith}
+use Rattle.std.specs.Result.{result_err}
+use Rattle.std.specs.Option.{option_or}
 use Rattle.hm_base.specs.declared.FaultKind.{FaultKind}
 use Rattle.hm_base.specs.declared.Stop.{Stop}
 use Rattle.hm_base.specs.declared.Stop.TheVariants as stop
@@ -11,7 +13,7 @@ use Rattle.hm_mem.specs.declared.Access.TheVariants.{Vector}
 use Rattle.hm_mem.specs.declared.Actor.{Actor}
 use Rattle.hm_mem.specs.declared.Actor.TheVariants.{Thread, Handler, Entry}
 use Rattle.hm_mem.specs.Memory.{Memory, tainted_at}
-use Rattle.hm_mem.specs.Seen.{fault_kind, is_denied, is_kept, is_thread, lies_in_memory, or_else, seen, some_byte, stop_after, stop_in, stop_of}
+use Rattle.hm_mem.specs.Seen.{fault_kind, is_denied, is_kept, is_thread, lies_in_memory, seen, some_byte, stop_after, stop_of}
 use Rattle.hm_state.specs.State.{Cell, State, Value, cells, state_of}
 use Rattle.hm_beat.specs.Trees.{Check, Leaf, checked, finish}
 use Rattle.hm_beat.specs.Touches.{span_bytes}
@@ -72,34 +74,34 @@ module _ (m : Memory) (r : Regs) (output : List ℕ) (store : Bool) (z : Size) (
   abbrev rest : Option Stop
   rest = checked cells cs s
 
-  closed : (q : Option Stop) → checked cells ((fails q ++ []) ++ cs) s ≡ or_else q rest
+  closed : (q : Option Stop) → checked cells ((fails q ++ []) ++ cs) s ≡ option_or q rest
   closed None = refl
   closed (Some e) = refl
 
-  tainted : (y : Bool) → cond y (Some (stop.Tainted a)) rest ≡ or_else (stop_after None y false a) rest
+  tainted : (y : Bool) → cond y (Some (stop.Tainted a)) rest ≡ option_or (stop_after None y false a) rest
   tainted true = refl
   tainted false = refl
 
   by_actor : (o : Option FaultKind) (who : Actor) → (o ≡ None → lies_in_memory (byte_count z) a ≡ true)
       → checked cells ((fails (stop_after o (is_closed who m.around.bounds store (byte_count z) a) store a)
       ++ cond (is_thread who && not store) (asks a (span_bytes a (byte_count z))) []) ++ cs) s
-      ≡ or_else (stop_after o (is_kept who m.around.bounds store (byte_count z) a (seen m)) store a) rest
+      ≡ option_or (stop_after o (is_kept who m.around.bounds store (byte_count z) a (seen m)) store a) rest
   by_actor (Some k) who h = refl
   by_actor None Entry h = refl
   by_actor None (Handler f) h = closed (stop_after None (store && is_denied m.around.bounds f (byte_count z) a) store a)
   by_actor None Thread h = by_store store
     where
       by_store : (y : Bool) → checked cells ((fails (stop_after None false y a) ++ cond (true && not y) (asks a (span_bytes a (byte_count z))) []) ++ cs) s
-          ≡ or_else (stop_after None (not y && lies_in_memory (byte_count z) a && some_byte (byte_count z) (tainted_at m) a) y a) rest
+          ≡ option_or (stop_after None (not y && lies_in_memory (byte_count z) a && some_byte (byte_count z) (tainted_at m) a) y a) rest
       by_store true = refl
       by_store false =
           checked_asks m r output a (span_bytes a (byte_count z)) cs
           ∙ (λ j. cond (any_byte m z a (h refl) j) (Some (stop.Tainted a)) rest)
           ∙ tainted (some_byte (byte_count z) (tainted_at m) a)
-          ∙ ap (λ y. or_else (stop_after None (y && some_byte (byte_count z) (tainted_at m) a) false a) rest) (sym (h refl))
+          ∙ ap (λ y. option_or (stop_after None (y && some_byte (byte_count z) (tainted_at m) a) false a) rest) (sym (h refl))
 
   pub element_checked : checked cells (element_checks m.around store (byte_count z) a ++ cs) s
-      ≡ or_else (stop_of m.around Vector store (byte_count z) a (seen m)) rest
+      ≡ option_or (stop_of m.around Vector store (byte_count z) a (seen m)) rest
   element_checked = by_actor (fault_kind (is_thread m.around.actor) Vector store (byte_count z) a) m.around.actor
       (λ e. (in_memory (is_thread m.around.actor) store (byte_count z) a e).0)
 
@@ -108,7 +110,7 @@ pub all_checked : (m : Memory) (r : Regs) (output : List ℕ) (store : Bool) (z 
 all_checked m r output store z [] = refl
 all_checked m r output store z (e ∷ es) =
     element_checked m r output store z e.addr (checks_of m.around store (byte_count z) es)
-    ∙ ap (or_else (stop_of m.around Vector store (byte_count z) e.addr (seen m))) (all_checked m r output store z es)
+    ∙ ap (option_or (stop_of m.around Vector store (byte_count z) e.addr (seen m))) (all_checked m r output store z es)
 
 -- the run of a beat, by the stop of the code
 pub run_checked : (i : Moves) (b : ℕ) (m : Memory) (r : Regs) (output : List ℕ) (es : List Element) → es ≡ elements_at i b (state_of r m output)
@@ -127,7 +129,7 @@ run_stopped i b m r output es e same h =
     let s = state_of r m output in
     run_checked i b m r output es same ∙ ap (λ o. finish cells o (leaf_at i m.around b s) s) (sym h)
 
-checks_as : {A : Type 0} (o : Option Stop) (l : Leaf Cell Value Stop) (s : State) (x : Result A Stop) → stop_in x ≡ o → Checks (finish cells o l s) x
+checks_as : {A : Type 0} (o : Option Stop) (l : Leaf Cell Value Stop) (s : State) (x : Result A Stop) → result_err x ≡ o → Checks (finish cells o l s) x
 checks_as None l s (Ok v) h = refl
 checks_as None l s (Err e) h = cc
 checks_as (Some f) l s (Ok v) h = cc
@@ -138,7 +140,7 @@ checks_as (Some f) l s (Err e) h = ap Err (some_same h)
 
 pub check_exact : {A : Type 0} (i : Moves) (b : ℕ) (m : Memory) (r : Regs) (output : List ℕ) (es : List Element) (x : Result A Stop)
     → es ≡ elements_at i b (state_of r m output)
-    → stop_in x ≡ first_stop m.around i.store (byte_count i.memory) es (seen m) → Checks (run (moves_tree i m.around b) r m output) x
+    → result_err x ≡ first_stop m.around i.store (byte_count i.memory) es (seen m) → Checks (run (moves_tree i m.around b) r m output) x
 check_exact i b m r output es x h e =
     let s = state_of r m output in
     subst (λ y. Checks y x) (sym (run_checked i b m r output es h))

@@ -1,6 +1,7 @@
 -- The elements of four words of a register: their faults, and that moving them word by word moves those of the register.
 use Rattle.std.proofs.Common.{◌≡◌, Ok, ℕ, zero, suc, ◌+◌, ◌*◌, ◌≤◌, Bool, true, false, cond, ◌&&◌, List, [], ◌∷◌, ◌++◌, get_or, map, Option, Some, None, refl}
 use Rattle.std.proofs.Common.{sym, ◌∙◌, ap, append_assoc}
+use Rattle.std.specs.Option.{option_or}
 use Rattle.hm_base.specs.declared.Fault.{Fault}
 use Rattle.hm_base.specs.declared.Place.TheVariants.{R, P0, Ltp}
 use Rattle.hm_lane.specs.declared.lanes.Size.{Size}
@@ -8,7 +9,7 @@ use Rattle.hm_lane.specs.declared.lanes.Size.TheVariants as size
 use Rattle.hm_lane.specs.Lanes.{bytes_of, firsts, lanes, per_word, unlanes, word_of}
 use Rattle.hm_lane.specs.Predicate.{allowed, mask_place, remains}
 use Rattle.hm_mem.specs.declared.Access.TheVariants.{Vector}
-use Rattle.hm_mem.specs.Seen.{fault_kind, or_else, unless}
+use Rattle.hm_mem.specs.Seen.{fault_kind, unless}
 use Rattle.hm_state.specs.Store.{put_all}
 use Rattle.hm_state.specs.State.{At, Byte, Cell, State, Value, at, cells, word}
 use Rattle.hm_beat.specs.Touches.{span_bytes}
@@ -39,26 +40,26 @@ alike-append [] us (y ∷ ys) vs h k = absurd h
 alike-append (x ∷ xs) us [] vs h k = absurd h
 alike-append (x ∷ xs) us (y ∷ ys) vs h k = alike-append xs us ys vs h k
 
-or_else_assoc : (f g h : Option Fault) → or_else (or_else f g) h ≡ or_else f (or_else g h)
+or_else_assoc : (f g h : Option Fault) → option_or (option_or f g) h ≡ option_or f (option_or g h)
 or_else_assoc None g h = refl
 or_else_assoc (Some f) g h = refl
 
 -- the first fault of two lists
 faults-append : (store : Bool) (len : ℕ) (es fs : List Element)
-    → first_fault store len (es ++ fs) ≡ or_else (first_fault store len es) (first_fault store len fs)
+    → first_fault store len (es ++ fs) ≡ option_or (first_fault store len es) (first_fault store len fs)
 faults-append store len [] fs = refl
 faults-append store len (e ∷ es) fs =
     let f = fault_after (fault_kind true Vector store len e.addr) e.addr in
-    ap (or_else f) (faults-append store len es fs) ∙ sym (or_else_assoc f (first_fault store len es) (first_fault store len fs))
+    ap (option_or f) (faults-append store len es fs) ∙ sym (or_else_assoc f (first_fault store len es) (first_fault store len fs))
 
 fault_of-append : (store : Bool) (len : ℕ) (ps qs : List Bool) (xs ys : List ℕ) → Alike ps xs
-    → fault_of store len (ps ++ qs) (xs ++ ys) ≡ or_else (fault_of store len ps xs) (fault_of store len qs ys)
+    → fault_of store len (ps ++ qs) (xs ++ ys) ≡ option_or (fault_of store len ps xs) (fault_of store len qs ys)
 fault_of-append store len [] qs [] ys h = refl
 fault_of-append store len [] qs (x ∷ xs) ys h = absurd h
 fault_of-append store len (p ∷ ps) qs [] ys h = absurd h
 fault_of-append store len (p ∷ ps) qs (x ∷ xs) ys h =
     let f = cond p (fault_after (fault_kind true Vector store len x) x) None in
-    ap (or_else f) (fault_of-append store len ps qs xs ys h) ∙ sym (or_else_assoc f (fault_of store len ps xs) (fault_of store len qs ys))
+    ap (option_or f) (fault_of-append store len ps qs xs ys h) ∙ sym (or_else_assoc f (fault_of store len ps xs) (fault_of store len qs ys))
 
 -- the addresses of the elements of four words, and which are active
 abbrev pub four_addresses : Size → (ℕ → ℕ → ℕ) → List ℕ
@@ -90,12 +91,12 @@ module _ (store : Bool) (len : ℕ) (z : Size) (f : ℕ → ℕ → ℕ) (q : �
   four_faults : first_fault store len (es 0 ++ es 1 ++ es 2 ++ es 3) ≡ fault_of store len (four_active z q) (four_addresses z f)
   four_faults =
       let e : (b : ℕ) → first_fault store len (es b) ≡ fault_of store len (ps b) (xs b) = λ b. active_faults store len (q b) (placed z (f b)) 0 (per_word z) in
-      faults-append store len (es 0 ++ es 1 ++ es 2) (es 3) ∙ (λ j. or_else (faults-append store len (es 0 ++ es 1) (es 2) j) (e 3 j))
-      ∙ (λ j. or_else (or_else (faults-append store len (es 0) (es 1) j) (e 2 j)) (fault_of store len (ps 3) (xs 3)))
-      ∙ (λ j. or_else (or_else (or_else (e 0 j) (e 1 j)) (fault_of store len (ps 2) (xs 2))) (fault_of store len (ps 3) (xs 3)))
+      faults-append store len (es 0 ++ es 1 ++ es 2) (es 3) ∙ (λ j. option_or (faults-append store len (es 0 ++ es 1) (es 2) j) (e 3 j))
+      ∙ (λ j. option_or (option_or (faults-append store len (es 0) (es 1) j) (e 2 j)) (fault_of store len (ps 3) (xs 3)))
+      ∙ (λ j. option_or (option_or (option_or (e 0 j) (e 1 j)) (fault_of store len (ps 2) (xs 2))) (fault_of store len (ps 3) (xs 3)))
       ∙ sym (fault_of-append store len (ps 0 ++ ps 1 ++ ps 2) (ps 3) (xs 0 ++ xs 1 ++ xs 2) (xs 3) alike3
-      ∙ ap (λ o. or_else o (fault_of store len (ps 3) (xs 3))) (fault_of-append store len (ps 0 ++ ps 1) (ps 2) (xs 0 ++ xs 1) (xs 2) alike2
-      ∙ ap (λ o. or_else o (fault_of store len (ps 2) (xs 2))) (fault_of-append store len (ps 0) (ps 1) (xs 0) (xs 1) (alike 0))))
+      ∙ ap (λ o. option_or o (fault_of store len (ps 3) (xs 3))) (fault_of-append store len (ps 0 ++ ps 1) (ps 2) (xs 0 ++ xs 1) (xs 2) alike2
+      ∙ ap (λ o. option_or o (fault_of store len (ps 2) (xs 2))) (fault_of-append store len (ps 0) (ps 1) (xs 0) (xs 1) (alike 0))))
 
 -- STORES OF FOUR WORDS
 -- what two lists of elements are stored to

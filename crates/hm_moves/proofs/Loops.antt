@@ -3,12 +3,13 @@ use Rattle.std.proofs.Common.{◌≡◌, ℕ, zero, suc, ◌+◌, ◌<◌, Bool,
 use Rattle.std.proofs.Common.{append_assoc}
 use Rattle.std.proofs.Math.Seq.{drop-cons}
 use Rattle.std.proofs.lemmas.List.{append-nil}
+use Rattle.std.specs.Option.{option_or}
 use Rattle.hm_base.specs.declared.Span.{Span}
 use Rattle.hm_base.specs.declared.Stop.{Stop}
 use Rattle.hm_lane.specs.declared.lanes.Size.{Size}
 use Rattle.hm_mem.specs.declared.Access.TheVariants.{Vector}
 use Rattle.hm_mem.specs.Memory.{Around}
-use Rattle.hm_mem.specs.Seen.{Seen, or_else, read, stop_of}
+use Rattle.hm_mem.specs.Seen.{Seen, read, stop_of}
 use Rattle.hm_beat.specs.Touches.{span_bytes, spanned}
 use Rattle.hm_moves.specs.declared.elements.Element.{Element}
 use Rattle.hm_moves.specs.Coded.{filled_in, first_stop}
@@ -23,21 +24,22 @@ drop_at d xs k h =
     drop-cons xs k d h ∙ ap (λ (j : ℕ). get_or xs k d ∷ drop j xs) one
 
 -- neither stops
-pub both_none : (o p : Option Stop) → or_else o p ≡ None → (o ≡ None) × (p ≡ None)
+pub both_none : (o p : Option Stop) → option_or o p ≡ None → (o ≡ None) × (p ≡ None)
 both_none (Some e) p h = absurd (cc)
 both_none None p h = (refl, h)
 
 module _ (x : Around) (store : Bool) (len : ℕ) (es : List Element) (k : ℕ) (s : Seen) (low : k < length es) where
-  stop_step : first_stop x store len (drop k es) s ≡ or_else (stop_of x Vector store len (get_or es k none).addr s) (first_stop x store len (drop (k + 1) es) s)
+  stop_step : first_stop x store len (drop k es) s
+      ≡ option_or (stop_of x Vector store len (get_or es k none).addr s) (first_stop x store len (drop (k + 1) es) s)
   stop_step = ap (λ xs. first_stop x store len xs s) (drop_at none es k low)
 
   -- an element that does not stop, and one that does
   pub stop_next : stop_of x Vector store len (get_or es k none).addr s ≡ None
       → first_stop x store len (drop k es) s ≡ first_stop x store len (drop (k + 1) es) s
-  stop_next e = stop_step ∙ ap (λ o. or_else o (first_stop x store len (drop (k + 1) es) s)) e
+  stop_next e = stop_step ∙ ap (λ o. option_or o (first_stop x store len (drop (k + 1) es) s)) e
 
   pub stop_here : (e : Stop) → stop_of x Vector store len (get_or es k none).addr s ≡ Some e → first_stop x store len (drop k es) s ≡ Some e
-  stop_here e h = stop_step ∙ ap (λ o. or_else o (first_stop x store len (drop (k + 1) es) s)) h
+  stop_here e h = stop_step ∙ ap (λ o. option_or o (first_stop x store len (drop (k + 1) es) s)) h
 
   -- where none stops, this one does not, nor any behind it
   pub stop_none : first_stop x store len (drop k es) s ≡ None

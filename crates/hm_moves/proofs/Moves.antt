@@ -1,6 +1,7 @@
 -- Rows that load or store: what a beat uses and sets, and four beats are the whole.
 use Rattle.std.proofs.Common.{◌≡◌, ℕ, ◌+◌, ◌*◌, ◌-◌, ◌%◌, ◌<◌, Bool, true, false, not, cond, ◌||◌, ◌&&◌, ltb, eqb, List, [], ◌∷◌, ◌++◌, map, Option, Some, None}
 use Rattle.std.proofs.Common.{Result, Ok, refl, sym, ◌∙◌, ap, subst, arith, ◌⊎◌, inl, inr}
+use Rattle.std.specs.Option.{option_or}
 use Rattle.hm_base.specs.Place.{same_place}
 use Rattle.hm_base.specs.declared.Fault.{Fault}
 use Rattle.hm_base.specs.declared.Stop.{Stop}
@@ -13,7 +14,7 @@ use Rattle.hm_lane.specs.Predicate.{active_bytes, advance_of, mask_place}
 use Rattle.hm_mem.specs.declared.Actor.TheVariants.{Thread}
 use Rattle.hm_mem.specs.Memory.{Around}
 use Rattle.hm_mem.specs.declared.Access.TheVariants.{Vector}
-use Rattle.hm_mem.specs.Seen.{as_stops, fault_kind, marks, or_else, unless}
+use Rattle.hm_mem.specs.Seen.{as_stops, fault_kind, marks, unless}
 use Rattle.hm_order.proofs.Results.{decide, ok_same, ok_err, true_not_false}
 use Rattle.hm_state.specs.Store.{put_all}
 use Rattle.hm_state.specs.State.{At, Byte, Cell, State, Value, at, cells, into, is_dead, same_cell}
@@ -374,7 +375,7 @@ first_fault-append store len (e ∷ es) fs r =
     ∙ ap (stop_first (fault_after (fault_kind true Vector store len e.addr) e.addr)) (first_fault-append store len es fs r)
     ∙ sym (or_first (fault_after (fault_kind true Vector store len e.addr) e.addr) (first_fault store len es) (stop_first (first_fault store len fs) r))
   where
-    or_first : {A : Type 0} (f g : Option Fault) (r : Result A Stop) → stop_first (or_else f g) r ≡ stop_first f (stop_first g r)
+    or_first : {A : Type 0} (f g : Option Fault) (r : Result A Stop) → stop_first (option_or f g) r ≡ stop_first f (stop_first g r)
     or_first None g r = refl
     or_first (Some f) g r = refl
 

@@ -3,6 +3,7 @@ use Rattle.std.proofs.Common.{◌≡◌, ℕ, zero, suc, ◌+◌, ◌*◌, ◌/�
 use Rattle.std.proofs.Common.{refl, sym, ◌∙◌, ap, arith}
 use Rattle.std.proofs.Math.Nat.{mod-eq_of_lt}
 use Rattle.std.proofs.lemmas.Nat.{mod_low, pow-add, pow_pos, shl-shr, shr-shr}
+use Rattle.std.specs.Option.{option_or}
 use Rattle.hm_base.specs.Bits.{field, put_field}
 use Rattle.hm_base.proofs.Fields.{field_of_low}
 use Rattle.hm_lane.specs.declared.lanes.Size.{Size}
@@ -10,7 +11,7 @@ use Rattle.hm_lane.specs.declared.lanes.Size.TheVariants as size
 use Rattle.hm_lane.specs.Lanes.{bytes_of, lanes, per_word, unlanes, word_of}
 use Rattle.hm_mem.specs.declared.Access.TheVariants.{Vector}
 use Rattle.hm_mem.specs.Devices.{byte_of}
-use Rattle.hm_mem.specs.Seen.{fault_kind, or_else}
+use Rattle.hm_mem.specs.Seen.{fault_kind}
 use Rattle.hm_state.specs.State.{Byte, State}
 use Rattle.hm_beat.specs.Touches.{span_bytes}
 use Rattle.hm_kinds.specs.Row.{numbers}
@@ -37,7 +38,7 @@ word_active z q = each_from (λ j. get_or q (byte_count z * j) false) 0 (per_wor
 -- an element has its fault where it is active
 one_fault : (store : Bool) (len : ℕ) (p : Bool) (e : Element) (es : List Element)
     → first_fault store len (cond p (e ∷ []) [] ++ es)
-    ≡ or_else (cond p (fault_after (fault_kind true Vector store len e.addr) e.addr) None) (first_fault store len es)
+    ≡ option_or (cond p (fault_after (fault_kind true Vector store len e.addr) e.addr) None) (first_fault store len es)
 one_fault store len true e es = refl
 one_fault store len false e es = refl
 
@@ -49,7 +50,7 @@ active_faults store len q f j zero = refl
 active_faults store len q f j (suc n) =
     let p = get_or q (f j).lane false in
     one_fault store len p (f j) (active_ones q (each_from f (j + 1) n))
-    ∙ ap (or_else (cond p (fault_after (fault_kind true Vector store len (f j).addr) (f j).addr) None)) (active_faults store len q f (j + 1) n)
+    ∙ ap (option_or (cond p (fault_after (fault_kind true Vector store len (f j).addr) (f j).addr) None)) (active_faults store len q f (j + 1) n)
 
 -- LANES AS FIELDS
 lane_bytes : (x : ℕ) → (x / 2 ^ 0 % 2 ^ 8 ≡ x % 256) × (x / 2 ^ 0 % 2 ^ 16 ≡ x % 256 + 256 * (x / 256 % 256))

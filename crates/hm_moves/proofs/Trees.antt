@@ -2,6 +2,7 @@
 use Rattle.std.proofs.Common.{◌≡◌, ℕ, ◌+◌, ◌-◌, ◌*◌, ◌%◌, Bool, true, false, not, cond, ◌||◌, ◌&&◌, ltb, eqb, List, [], ◌∷◌, ◌++◌, map, get_or, Option, Some}
 use Rattle.std.proofs.Common.{None, refl, sym, ◌∙◌, ap}
 use Rattle.std.proofs.lemmas.List.{append-nil, append_assoc, map-append}
+use Rattle.std.specs.Option.{option_or}
 use Rattle.hm_base.specs.declared.Fault.{Fault}
 use Rattle.hm_base.specs.declared.FaultKind.{FaultKind}
 use Rattle.hm_base.specs.declared.Place.{Place}
@@ -16,7 +17,7 @@ use Rattle.hm_mem.specs.declared.Access.TheVariants.{Vector}
 use Rattle.hm_mem.specs.declared.Actor.TheVariants.{Thread}
 use Rattle.hm_mem.specs.Devices.{byte_of}
 use Rattle.hm_mem.specs.Memory.{Around}
-use Rattle.hm_mem.specs.Seen.{fault_kind, is_thread, marks, or_else, stop_after}
+use Rattle.hm_mem.specs.Seen.{fault_kind, is_thread, marks, stop_after}
 use Rattle.hm_order.proofs.Results.{true_not_false}
 use Rattle.hm_state.specs.State.{At, Byte, Cell, State, Value, at, cells, into}
 use Rattle.hm_beat.specs.Trees.{Asks, Check, Do, Fails, Leaf, FailsElse, StopsAs, WritesLive, asked, checked, holds, reach, tests, written}
@@ -216,7 +217,7 @@ sure_thread x store len a thread = (λ j. stop_after (fault_kind (is_thread (thr
     go None = refl
     go (Some k) = refl
 
-pub checked_fails : (o : Option Stop) (cs : List (Check Cell Stop)) (s : State) → checked cells (fails o ++ cs) s ≡ or_else o (checked cells cs s)
+pub checked_fails : (o : Option Stop) (cs : List (Check Cell Stop)) (s : State) → checked cells (fails o ++ cs) s ≡ option_or o (checked cells cs s)
 checked_fails None cs s = refl
 checked_fails (Some e) cs s = refl
 
@@ -229,7 +230,7 @@ checked_where : (y : Bool) (a : ℕ) (bs : List ℕ) (cs : List (Check Cell Stop
 checked_where true a bs cs s clean = checked_asks a bs cs s clean
 checked_where false a bs cs s clean = refl
 
-or_faults : (f g : Option Fault) → or_else (fault_stop f) (fault_stop g) ≡ fault_stop (or_else f g)
+or_faults : (f g : Option Fault) → option_or (fault_stop f) (fault_stop g) ≡ fault_stop (option_or f g)
 or_faults None g = refl
 or_faults (Some f) g = refl
 
@@ -243,7 +244,7 @@ checked_clean x store len (e ∷ es) s thread clean =
     let cs = checks_of x store len es in
     ap (λ ks. checked cells ks s) (append_assoc (fails o) (cond y (asks e.addr bs) []) cs)
     ∙ checked_fails o (cond y (asks e.addr bs) [] ++ cs) s
-    ∙ (λ j. or_else (sure_thread x store len e.addr thread j) ((checked_where y e.addr bs cs s clean ∙ checked_clean x store len es s thread clean) j))
+    ∙ (λ j. option_or (sure_thread x store len e.addr thread j) ((checked_where y e.addr bs cs s clean ∙ checked_clean x store len es s thread clean) j))
     ∙ or_faults (fault_after (fault_kind true Vector store len e.addr) e.addr) (first_fault store len es)
 
 stops-append : (cs ds : List (Check Cell Stop)) → StopsAs is_tainted cs → StopsAs is_tainted ds → StopsAs is_tainted (cs ++ ds)

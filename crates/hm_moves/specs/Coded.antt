@@ -1,5 +1,6 @@
 -- What the code of a row that loads or stores says of itself.
 use Rattle.std.specs.Prelude.{ℕ, ◌≡◌, ◌+◌, ◌%◌, ◌^◌, ◌≤◌, ◌<◌, Bool, true, false, cond, ltb, List, [], ◌∷◌, Option, None, All, IfSome}
+use Rattle.std.specs.Option.{option_or}
 use Rattle.hm_base.specs.declared.Place.{Place}
 use Rattle.hm_base.specs.declared.Stop.{Stop}
 use Rattle.hm_base.specs.declared.Place.TheVariants.{P0}
@@ -9,7 +10,7 @@ use Rattle.hm_regs.specs.Writes.{Write, write}
 use Rattle.hm_lane.specs.declared.lanes.Size.{Size}
 use Rattle.hm_mem.specs.declared.Access.TheVariants.{Vector}
 use Rattle.hm_mem.specs.Memory.{Around}
-use Rattle.hm_mem.specs.Seen.{Seen, or_else, read, stop_of}
+use Rattle.hm_mem.specs.Seen.{Seen, read, stop_of}
 use Rattle.hm_state.specs.State.{State}
 use Rattle.hm_lane.specs.Predicate.{mask_of, mask_place}
 use Rattle.hm_beat.specs.Touches.{looked_places}
@@ -22,7 +23,7 @@ use Rattle.hm_moves.specs.Ways.{Found, way_predicated, way_words}
 -- the stop of the first element that has one
 abbrev pub first_stop : Around → Bool → ℕ → List Element → Seen → Option Stop
 first_stop x store len [] s = None
-first_stop x store len (e ∷ es) s = or_else (stop_of x Vector store len e.addr s) (first_stop x store len es s)
+first_stop x store len (e ∷ es) s = option_or (stop_of x Vector store len e.addr s) (first_stop x store len es s)
 
 -- each element lies in its word
 abbrev pub Fit : Size → List Element → Type 0

@@ -1,6 +1,7 @@
 -- Rows that load or store elements of vector registers: one form for all of them.
 use Rattle.std.specs.Prelude.{ℕ, zero, suc, ◌≡◌, ◌+◌, ◌-◌, ◌*◌, ◌%◌, ◌^◌, ◌<◌, Bool, true, false, not, ◌&&◌, ◌||◌, cond, eqb, leb, ltb, List, [], ◌∷◌, ◌++◌}
 use Rattle.std.specs.Prelude.{map, drop, get_or, Option, Some, None, Result, Ok}
+use Rattle.std.specs.Option.{option_or}
 use Rattle.hm_base.specs.Bits.{put_field}
 use Rattle.hm_base.specs.Place.{fit, same_place}
 use Rattle.hm_base.specs.declared.Fault.{Fault}
@@ -18,7 +19,7 @@ use Rattle.hm_mem.specs.declared.Actor.{Actor}
 use Rattle.hm_mem.specs.declared.Actor.TheVariants.{Handler}
 use Rattle.hm_mem.specs.Devices.{byte_of}
 use Rattle.hm_mem.specs.Memory.{Around, Bounds}
-use Rattle.hm_mem.specs.Seen.{fault_kind, is_denied, is_thread, marks, or_else, stop_after, unless}
+use Rattle.hm_mem.specs.Seen.{fault_kind, is_denied, is_thread, marks, stop_after, unless}
 use Rattle.hm_state.specs.Store.{put_all}
 use Rattle.hm_state.specs.State.{At, Byte, Cell, State, Value, at, cells, into, word}
 use Rattle.hm_beat.specs.Trees.{Asks, Check, Do, Fails, Leaf}
@@ -220,7 +221,7 @@ fault_after (Some k) a = Some (record { kind = k; addr = a })
 -- the fault of the first element that has one
 abbrev pub first_fault : Bool → ℕ → List Element → Option Fault
 first_fault store len [] = None
-first_fault store len (e ∷ es) = or_else (fault_after (fault_kind true Vector store len e.addr) e.addr) (first_fault store len es)
+first_fault store len (e ∷ es) = option_or (fault_after (fault_kind true Vector store len e.addr) e.addr) (first_fault store len es)
 
 -- a state with the words of beat b filled
 abbrev pub handed : Moves → ℕ → State → State

@@ -1,6 +1,7 @@
 -- The whole of a row that loads or stores: its elements as lists, in rising order, and whole registers.
 use Rattle.std.specs.Prelude.{ℕ, ◌≡◌, ◌≤◌, ◌+◌, ◌*◌, ◌/◌, ◌%◌, ◌^◌, Bool, true, false, cond, List, [], ◌∷◌, ◌++◌, map, get_or, Option, None, Result, Ok}
 use Rattle.std.specs.List.{flat_map}
+use Rattle.std.specs.Option.{option_or}
 use Rattle.hm_base.specs.declared.Fault.{Fault}
 use Rattle.hm_base.specs.declared.Place.TheVariants.{R}
 use Rattle.hm_regs.specs.Writes.{write}
@@ -9,7 +10,7 @@ use Rattle.hm_lane.specs.declared.lanes.Size.TheVariants.{Word}
 use Rattle.hm_lane.specs.Lanes.{bytes_of, firsts, lanes, per_word, unlanes, words}
 use Rattle.hm_mem.specs.declared.Access.TheVariants.{Vector}
 use Rattle.hm_mem.specs.Devices.{byte_of}
-use Rattle.hm_mem.specs.Seen.{fault_kind, or_else, unless}
+use Rattle.hm_mem.specs.Seen.{fault_kind, unless}
 use Rattle.hm_state.specs.Store.{put_all}
 use Rattle.hm_state.specs.State.{Byte, Cell, State, Value, at, cells, into}
 use Rattle.hm_beat.specs.Rows.{advance_half, predicate_at, register_at, retired, word_place, write_register, write_words}
@@ -36,7 +37,7 @@ are_moved z w s = cond (way_predicated w) (firsts z (predicate_at s)) (each_from
 
 -- the fault of the first of those that has one
 abbrev pub fault_of : Bool → ℕ → List Bool → List ℕ → Option Fault
-fault_of store len (p ∷ ps) (a ∷ addrs) = or_else (cond p (fault_after (fault_kind true Vector store len a) a) None) (fault_of store len ps addrs)
+fault_of store len (p ∷ ps) (a ∷ addrs) = option_or (cond p (fault_after (fault_kind true Vector store len a) a) None) (fault_of store len ps addrs)
 fault_of store len _ _ = None
 
 -- A PART OF A REGISTER

@@ -1,11 +1,12 @@
 //! Elements that a beat moves between memory and words of vector registers.
 
 ghost use Rattle.std.specs.Prelude.{◌≡◌, ℕ, ◌+◌, ◌-◌, ◌*◌, ◌^◌, ◌<◌, ◌≤◌, true, false, get_or, length, None, List};
+ghost use Rattle.std.specs.Result.{result_err};
 ghost use Rattle.hm_base.specs.Bits.{put_field};
 ghost use Rattle.hm_beat.specs.Touches.{spanned};
 ghost use Rattle.hm_mem.specs.Devices.{IsLen};
 ghost use Rattle.hm_mem.specs.Memory.{memory_of};
-ghost use Rattle.hm_mem.specs.Seen.{IsSameElsewhere, marks, seen, stop_in};
+ghost use Rattle.hm_mem.specs.Seen.{IsSameElsewhere, marks, seen};
 ghost use Rattle.hm_regs.specs.declared.Regs.{Regs};
 ghost use Rattle.hm_state.specs.State.{cells, state_of};
 ghost use Rattle.hm_state.specs.Store.{put_all};
@@ -63,7 +64,7 @@ pub fn spans(es: &[Element], z: Size) -> Spans
 /// The stop of the first element that has one.
 #[inline(always)]
 pub fn check_all(es: &[Element], z: Size, store: bool, m: &Mem) -> Result<(), Stop>
-    ensures value { let m = memory_of m.now in stop_in result ≡ first_stop m.around store (byte_count z) es.now (seen m) }
+    ensures value { let m = memory_of m.now in result_err result ≡ first_stop m.around store (byte_count z) es.now (seen m) }
 {
     for e in es {
         if let Err(stop) = m.check(e.addr, byte_count(z), Access::Vector, store) {

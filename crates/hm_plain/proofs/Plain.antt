@@ -81,16 +81,10 @@ Plainly left t x = Goes left t x ⊎ Ends t x
 
 -- ONE TICK
 later_ends : (t : ℕ) (c : Config State) (o : Outcome) → PlainlyEnds t c o → PlainlyEnds (suc t) c o
-later_ends t c outcome.OutOfTicks h = absurd h
 later_ends t c (outcome.Halted reason k) h = omega arith
 later_ends t c (outcome.Fault Thread f pc k) h = omega arith
-later_ends t c (outcome.Fault Handler f pc k) h = absurd h
-later_ends t c (outcome.Fault Entry f pc k) h = absurd h
-later_ends t c (outcome.RuleBroken i j r) h = absurd h
-later_ends t c (outcome.HandlerBroken i what) h = absurd h
-later_ends t c (outcome.TaintedRead i pc addr) h = absurd h
-later_ends t c (outcome.StackSpent i sp) h = absurd h
 later_ends t c (outcome.OutputFull k) h = let few = h.0 in (omega arith, h.1)
+later_ends t c o h = absurd h
 
 closed_ends : (rest : List TickLine) (t : ℕ) (y : Run) → Ends t y → Ends t (closed rest y)
 closed_ends [] t y h = record { end = h.end; outcome = ap or_out h.outcome; plainly = h.plainly; ticks = h.ticks }

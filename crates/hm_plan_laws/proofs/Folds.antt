@@ -1,5 +1,5 @@
 -- The run of a plan to the end of its ticks is a fold over them.
-use Rattle.std.proofs.Common.{◌≡◌, ℕ, List, [], ◌∷◌, length, Option, Some, None, Result, Ok, Err, refl, ◌∙◌, ap}
+use Rattle.std.proofs.Common.{◌≡◌, ℕ, List, [], ◌∷◌, length, Option, Some, None, Result, refl, ◌∙◌, ap, arith}
 use Rattle.std.proofs.Math.Seq.{drop-length, take-length}
 use Rattle.hm_base.specs.Image.{Segment}
 use Rattle.hm_codes.specs.Listing.{Listing}
@@ -27,8 +27,7 @@ module _ (listing : Listing) where
   one_line letters irq = record { count = 1; letters = letters; irq = irq }
 
   same_ended : (s : Sched) (line : TickLine) (x : Run) (r : Result Nested TickEnd) → ended s line x r ≡ ended s (one_line line.letters line.irq) x r
-  same_ended s line x (Ok m) = refl
-  same_ended s line x (Err e) = refl
+  same_ended s line x r = grind arith
 
   same_tick : (s : Sched) (line : TickLine) (x : Run) (o : Option Outcome)
       → tick_of listing s line x o ≡ tick_of listing s (one_line line.letters line.irq) x o

@@ -1,5 +1,6 @@
 -- A REPORT IS ASCII, line by line, whatever it tells.
 use Rattle.std.proofs.Common.{◌≡◌, ℕ, zero, suc, ◌+◌, ◌*◌, ◌/◌, ◌%◌, Bool, true, false, cond, nat_eq, List, [], ◌∷◌, ◌++◌, codes, decimal, length, Option, Some}
+use Rattle.std.proofs.Common.{arith}
 use Rattle.std.proofs.Common.{None, refl, slice_index}
 use Rattle.std.specs.Str.{IsAscii}
 use Rattle.hex.specs.Hex.{encode_lower}
@@ -20,7 +21,6 @@ use Rattle.hm_run.specs.declared.Outcome.TheVariants as outcome
 use Rattle.hm_run.specs.declared.Reason.{Reason}
 use Rattle.hm_run.specs.declared.Reason.TheVariants as reason
 use Rattle.hm_run.specs.declared.Who.{Who}
-use Rattle.hm_run.specs.declared.Who.TheVariants as who
 use Rattle.hm_window.specs.declared.rule.Rule.{Rule}
 use Rattle.hm_window.specs.declared.rule.Rule.TheVariants as rule
 use Rattle.hm_run.specs.Report.{kind_text, who_text, reason_text, address_text, register_text, place_text, slot_text, rule_text, broken_text, offence_text}
@@ -35,21 +35,10 @@ use Rattle.hm_report.proofs.Bytes.{is_plain, is_shown, joined, plain_is, told}
 
 -- THE FIRST LINE
 kind_is : (k : FaultKind) → is_plain (kind_text k) ≡ true
-kind_is kind.Undefined = refl
-kind_is kind.InvState = refl
-kind_is kind.Fetch = refl
-kind_is kind.Bus = refl
-kind_is kind.FlashWrite = refl
-kind_is kind.Unaligned = refl
-kind_is kind.DeviceVector = refl
-kind_is kind.TimedRead = refl
-kind_is kind.Semihost = refl
-kind_is kind.Vector = refl
+kind_is k = grind arith
 
 who_is : (w : Who) → is_plain (who_text w) ≡ true
-who_is who.Thread = refl
-who_is who.Handler = refl
-who_is who.Entry = refl
+who_is w = grind arith
 
 -- what holds of a text and stays so with each more part of the line holds of the first line, if it holds where that begins
 module _ (P : List ℕ → Type 0) (more : (out part : List ℕ) → P out → is_plain part ≡ true → P (out ++ part)) where

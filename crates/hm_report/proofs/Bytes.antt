@@ -79,8 +79,7 @@ hex8_plain x = rw (
 ) refl
 
 pub bit_plain : (b : Bool) → is_plain (binary_digit b) ≡ true
-bit_plain true = refl
-bit_plain false = refl
+bit_plain b = grind arith
 
 pub hex2_is : (x : ℕ) → is_ascii (hex2 x) ≡ true
 hex2_is x = plain_is (hex2 x) (hex2_plain x)

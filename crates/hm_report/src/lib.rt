@@ -18,7 +18,7 @@ pub use outcome_text::{kind_text, outcome_line, reason_text, slot_text, who_text
 use registers_text::register_lines;
 use std::alloc::Global;
 
-/// The line of the mode: the thread, or a handler and how many exceptions are active.
+/// Adds the line of the mode: the thread, or a handler and how many exceptions are active.
 fn mode_line(alloc: Global, out: &mut Vec<u8>, depth: usize, ipsr: u16) -> Result<(), OutOfMemory>
     ensures { IfOk result (λ _. out.new.items ≡ mode_line depth ipsr out.old.items) }
 {
@@ -32,7 +32,7 @@ fn mode_line(alloc: Global, out: &mut Vec<u8>, depth: usize, ipsr: u16) -> Resul
     text(out, b"\n")
 }
 
-/// The lines of the output: how many bytes, and the bytes.
+/// Adds the lines of the output: how many bytes, and the bytes.
 fn output_lines(alloc: Global, out: &mut Vec<u8>, bytes: &[u8]) -> Result<(), OutOfMemory>
     ensures { IfOk result (λ _. out.new.items ≡ output_lines bytes.now out.old.items) }
 {

@@ -81,7 +81,7 @@ fn register_text(alloc: Global, out: &mut Vec<u8>, n: u8) -> Result<(), OutOfMem
     decimal(alloc, out, n as u64)
 }
 
-/// Word k of all vector registers, as a word of one of them.
+/// Adds the name of word k of all vector registers, as a word of one of them.
 fn word_text(alloc: Global, out: &mut Vec<u8>, k: u8) -> Result<(), OutOfMemory>
     ensures { IfOk result (λ _. out.new.items ≡ word_text k out.old.items) }
 {
@@ -137,7 +137,7 @@ fn ending_text(alloc: Global, out: &mut Vec<u8>, a: u8, b: u8) -> Result<(), Out
     decimal(alloc, out, b as u64)
 }
 
-/// A word and an address.
+/// Adds a word and an address.
 fn at_text(out: &mut Vec<u8>, name: &[u8], addr: u32) -> Result<(), OutOfMemory>
     ensures { IfOk result (λ _. out.new.items ≡ out.old.items ++ name.now ++ hex8 addr) }
 {

@@ -78,7 +78,7 @@ fn flags_line(out: &mut Vec<u8>, regs: &Regs) -> Result<(), OutOfMemory>
     text(out, b"\n")
 }
 
-/// The line of both stack pointers, SPSEL and BASEPRI.
+/// Adds the line of both stack pointers, SPSEL and BASEPRI.
 fn system_line(out: &mut Vec<u8>, regs: &Regs) -> Result<(), OutOfMemory>
     ensures { IfOk result (λ _. out.new.items ≡ system_line regs.now out.old.items) }
 {
@@ -114,7 +114,7 @@ fn special_lines(out: &mut Vec<u8>, regs: &Regs) -> Result<(), OutOfMemory>
     system_line(out, regs)
 }
 
-/// The words of vector register k.
+/// Adds the words of vector register k.
 fn vector_words(out: &mut Vec<u8>, k: usize, words: &[u32]) -> Result<(), OutOfMemory>
     requires { 4 * k + 3 < length words.now }
     ensures { IfOk result (λ _. out.new.items ≡ vector_words k words.now out.old.items) }
@@ -156,7 +156,7 @@ fn vector_lines(
     Ok(())
 }
 
-/// The lines of the registers, at a position.
+/// Adds the lines of the registers, at a position.
 #[tactic(auto, unfolding(hm_run::specs::Report::register_lines))]
 pub fn register_lines(
     alloc: Global,

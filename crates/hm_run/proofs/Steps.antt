@@ -1,6 +1,6 @@
 -- One step of a run.
 use Rattle.std.proofs.Common.{◌≡◌, suc, ap, refl, true, false, not, IsTrue, Option, Some, None}
-use Rattle.std.proofs.Common.{Result, Ok, Err}
+use Rattle.std.proofs.Common.{Result, Ok}
 use Rattle.hm_codes.specs.Listing.{Listing}
 use Rattle.hm_base.specs.declared.Fault.{Fault}
 use Rattle.hm_isa.specs.declared.Instr.{Instr}
@@ -52,10 +52,8 @@ makes_other (instr.Branch i) r other = refl
 makes_other (instr.Vector v) r other = absurd cc
 
 pub makes_row : (x : Result Instr Fault) (v : Vector) (r : Regs) → vector_of x ≡ Some v → makes_here x r ≡ true
-makes_row (Ok (instr.Scalar i)) v r e = absurd cc
-makes_row (Ok (instr.Branch i)) v r e = absurd cc
 makes_row (Ok (instr.Vector w)) v r e = refl
-makes_row (Err f) v r e = absurd cc
+makes_row x v r e = absurd cc
 
 -- a breakpoint makes no context
 scalar_makes : (i : Scalar) (r : Regs) → (scalar_break i ≡ None → ⊥) → makes_context (instr.Scalar i) r ≡ false

@@ -2,6 +2,7 @@
 -- stands at each address.
 use Rattle.std.specs.Prelude.{ℕ, ◌+◌, ◌-◌, ◌&&◌, nat_lt, is_none, Bool, true, false, cond, List, ◌++◌, length, nat_eq, Option, Some}
 use Rattle.std.specs.Prelude.{None, option_map, Result, Ok, Err}
+use Rattle.std.specs.Option.{option_or}
 use Rattle.hm_base.specs.declared.Fault.{Fault}
 use Rattle.hm_base.specs.declared.Stop.{Stop}
 use Rattle.hm_base.specs.declared.Stop.TheVariants as stop
@@ -25,7 +26,7 @@ use Rattle.hm_rows.specs.Rows.{vector_tree, vector_whole, refuse}
 use Rattle.hm_regs.specs.declared.Regs.{Regs}
 use Rattle.hm_state.specs.State.{State, Cell, cells, regs_of}
 use Rattle.hm_base.specs.Stops.{is_tainted}
-use Rattle.hm_window.specs.Overlap.{first_rule, rule_or}
+use Rattle.hm_window.specs.Overlap.{first_rule}
 use Rattle.hm_thumb.specs.Calls.{Asked, Writes, Exits, asked}
 use Rattle.hm_thumb.specs.Does as runner
 use Rattle.hm_thumb.specs.Rows.{makes_context}
@@ -186,7 +187,7 @@ refusal_rule None s = None
 -- The first rule that a younger step breaks: those of its next beat, and then that the younger is not refused. That its beat has
 -- no fault is the last rule, and `fault_rule` has it.
 abbrev pub step_rule : Around → Option Vector → Option Vector → Config State → Option Rule
-step_rule x v w c = rule_or (first_rule (option_map (λ i. vector_tree i x) v) (option_map (λ i. vector_tree i x) w) c.a c.b c.state) (refusal_rule w c.state)
+step_rule x v w c = option_or (first_rule (option_map (λ i. vector_tree i x) v) (option_map (λ i. vector_tree i x) w) c.a c.b c.state) (refusal_rule w c.state)
 
 -- a younger beat does not fault
 abbrev pub fault_rule : Cause → Option Rule

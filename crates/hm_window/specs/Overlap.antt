@@ -1,5 +1,6 @@
 -- The rules of overlap: when the younger of two vector rows may do its next beat.
 use Rattle.std.specs.Prelude.{ℕ, Bool, ◌||◌, not, nat_lt, cond, Option, Some, None, option_map, Result, Ok, Err}
+use Rattle.std.specs.Option.{option_or}
 use Rattle.hm_base.specs.Stops.{is_tainted}
 use Rattle.hm_base.specs.declared.Stop.{Stop}
 use Rattle.hm_beat.specs.Meeting.{clash_with}
@@ -20,11 +21,6 @@ is_too_early a b = nat_lt a 2 || not (nat_lt b 2)
 abbrev pub rule_of_clash : Clash → Rule
 rule_of_clash (clash.Register p) = Register p
 rule_of_clash (clash.Memory addr) = Memory addr
-
--- a rule, or else another
-abbrev pub rule_or : Option Rule → Option Rule → Option Rule
-rule_or (Some rule) last = Some rule
-rule_or None last = last
 
 -- The first rule that the next beat of a younger row breaks where a beats of the older are done and b of its own: both are vector
 -- rows; the beats are in order; and the beat meets none that the older has left, on no place and on no byte.
@@ -49,7 +45,7 @@ beat_rule None b s = None
 
 -- the first of all rules that it breaks
 abbrev pub lawful_rule : Option (ℕ → Tree) → Option (ℕ → Tree) → ℕ → ℕ → State → Option Rule
-lawful_rule older younger a b s = rule_or (first_rule older younger a b s) (beat_rule younger b s)
+lawful_rule older younger a b s = option_or (first_rule older younger a b s) (beat_rule younger b s)
 
 -- what a call answers that judges by a rule
 abbrev pub judged : Option Rule → Result Unit Rule
