@@ -1,9 +1,10 @@
 -- Each vector row has a text of the form, with no lane.
-use Rattle.std.proofs.Common.{◌≡◌, ℕ, ◌+◌, ◌*◌, ◌<◌, Bool, true, false, List, [], get_or, Option, Some, None, refl, subst, inl, inr, arith}
+use Rattle.std.proofs.Common.{◌≡◌, ℕ, ◌<◌, Bool, true, false, List, [], get_or, Option, Some, None, refl, subst, inl, inr, arith}
 use Rattle.std.specs.Prelude.{not, ◌&&◌}
 use Rattle.std.proofs.lemmas.Bool.{and_parts, false≢true}
 use Rattle.hm_isa.specs.declared.Vector.{Vector}
 use Rattle.hm_isa.specs.declared.Vector.TheVariants as vector
+use Rattle.hm_isa.specs.Words.{imm8}
 use Rattle.hm_isa.specs.declared.vectors.V12.TheVariants as v12
 use Rattle.hm_tokens.specs.Tokens.{Tok}
 use Rattle.hm_textv_rows.specs.Rows.{HasTokens, constant_forms, other_tokens, tokens_of}
@@ -20,7 +21,7 @@ constant_fine : (cm op d x : ℕ) → cm < 15 → Fine (get_or (constant_forms o
 constant_fine cm op d x lt = grind arith
 
 fine_vector : (v : Vector) → Fine (tokens_of v)
-fine_vector (vector.V15 i) = constant_fine i.cm.value i.op.value i.d.value (128 * i.i.value + 16 * i.i3.value + i.i4.value) i.cm.in_range
+fine_vector (vector.V15 i) = constant_fine i.cm.value i.op.value i.d.value (imm8 i.i.value i.i3.value i.i4.value) i.cm.in_range
 fine_vector (vector.V12 (v12.Full i)) = record { is = refl }
 fine_vector v = grind arith
 

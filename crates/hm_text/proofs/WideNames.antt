@@ -2,19 +2,19 @@
 -- which there has a lane.
 use Rattle.std.proofs.Common.{◌≡◌, ◌⊎◌, ℕ, zero, suc, Bool, true, false, cond, List, [], ◌∷◌, get_or, Option, Some, None, refl, inl, inr}
 use Rattle.std.specs.Prelude.{bytes_eq, codes, is_none, not, ◌&&◌, ◌||◌, ◌==◌}
-use Rattle.std.proofs.lemmas.Bool.{and_parts, false≢true}
 use Rattle.std.specs.Option.{option_or}
+use Rattle.std.proofs.lemmas.Bool.{and_parts, false≢true}
 use Rattle.hm_tokens.specs.Tokens.{Tok, word, number, mark}
 use Rattle.hm_text16_codes.specs.declared.operands.Kind.{Kind}
 use Rattle.hm_text16_codes.specs.declared.operands.Kind.TheVariants as kinds
 use Rattle.hm_text16_codes.specs.declared.operands.Operands.{Operands}
 use Rattle.hm_text16_codes.specs.Codes.{code_in, code_label, code_list, code_of, code_of_three, code_of_two, code_with_number, code_with_register}
-use Rattle.hm_text16_codes.specs.Names.{byte_names, hint_names, jump_names, logic_names, masking_names, masks, plain_names, shift_names, swap_names}
+use Rattle.hm_text16_codes.specs.Names.{byte_names, hint_names, jump_names, logic_names, masking_names, plain_names, shift_names, swap_names}
 use Rattle.hm_text16_codes.specs.Names.{word_names, zero_names}
 use Rattle.hm_text16_rows.specs.Mnemonics.{block_first_word, byte_mnemonic, hint_mnemonic, jump_mnemonic, logic_mnemonic, masking_mnemonic, plain_mnemonic}
 use Rattle.hm_text16_rows.specs.Mnemonics.{shift_mnemonic, stack_sum_mnemonic, sum_mnemonic, swap_mnemonic, word_mnemonic, zero_mnemonic}
 use Rattle.hm_text_rows.specs.Mnemonics.{access_mnemonic, extend_mnemonic}
-use Rattle.hm_text_rows.specs.Names.{access_names, extend_names, named, sum_names}
+use Rattle.hm_text_rows.specs.Names.{access_names, block_masks, extend_names, named, sum_names}
 use Rattle.hm_text_rows.specs.Operands.{branch_condition_in}
 use Rattle.hm_text_rows.proofs.Words.{none_is}
 use Rattle.hm_text16_codes.specs.Operands.{read_operands}
@@ -43,7 +43,7 @@ no_names s =
     ∷ is_none (named masking_mnemonic masking_names s)
     ∷ is_none (named hint_mnemonic hint_names s)
     ∷ is_none (named jump_mnemonic jump_names s)
-    ∷ is_none (named (block_first_word 0) masks s)
+    ∷ is_none (named (block_first_word 0) block_masks s)
     ∷ is_none (named zero_mnemonic zero_names s)
     ∷ is_none (branch_condition_in s)
     ∷ []

@@ -1,5 +1,5 @@
 -- Each row of two halfwords that is no vector row: its mnemonic is its own, and its text is of the form.
-use Rattle.std.proofs.Common.{◌≡◌, ℕ, ◌*◌, ◌+◌, ◌<◌, Bool, true, false, cond, List, [], ◌∷◌, ◌++◌, length, map, Some, refl, subst, inl, inr, arith}
+use Rattle.std.proofs.Common.{◌≡◌, ℕ, zero, suc, ◌*◌, ◌<◌, Bool, true, false, cond, List, [], ◌∷◌, ◌++◌, length, map, Some, refl, subst, inl, inr, arith}
 use Rattle.std.specs.Prelude.{nat_eq, not, ◌&&◌}
 use Rattle.std.proofs.lemmas.Bool.{and_parts}
 use Rattle.std.proofs.lemmas.Bool.Decides.{nat_tests}
@@ -16,6 +16,7 @@ use Rattle.hm_isa.specs.declared.system.T19.TheVariants as t19
 use Rattle.hm_isa.specs.declared.wide.WideListName.{WideListName}
 use Rattle.hm_isa.specs.Code.{branch_halves, scalar_halves}
 use Rattle.hm_isa.specs.Rules.{is_wide_list}
+use Rattle.hm_isa.specs.Words.{imm5, is_by_carry, shift_number}
 use Rattle.hm_layout.specs.Wide.{IsWide}
 use Rattle.hm_tokens.specs.Tokens.{Tok, word, number, comma}
 use Rattle.hm_line.specs.declared.form.Depth.TheVariants.{Outside}
@@ -24,9 +25,11 @@ use Rattle.hm_line.specs.Kinds.{kind}
 use Rattle.hm_line.proofs.Operands.{takes}
 use Rattle.hm_text_base.proofs.Steps.{some_is, test_some}
 use Rattle.hm_text_rows.specs.Shapes.{braces, r, three, two}
-use Rattle.hm_text32_rows.specs.Rows.{and_shifted, constant_tokens, data_tokens, is_by_carry, list_start, other_tokens, row_tokens}
-use Rattle.hm_text32_rows.specs.Rows.{shift_number, single_tokens, tokens_of}
-use Rattle.hm_text32_rows.specs.Mnemonics.{barrier_mnemonic, data_mnemonic, move_mnemonic, test_mnemonic, wide, wide_list_mnemonic, wide_list_suffix}
+use Rattle.hm_text_rows.proofs.Words.{below_holds}
+use Rattle.hm_text32_rows.specs.Rows.{and_shifted, constant_tokens, data_tokens, is_unshifted, list_start, moved_tokens, other_tokens, row_tokens}
+use Rattle.hm_text32_rows.specs.Rows.{single_tokens, tokens_of}
+use Rattle.hm_text32_rows.specs.Mnemonics.{barrier_mnemonic, carry_mnemonic, data_mnemonic, move_mnemonic, test_mnemonic, turn_mnemonic, wide}
+use Rattle.hm_text32_rows.specs.Mnemonics.{wide_list_mnemonic, wide_list_suffix}
 use Rattle.hm_text32.specs.Texts.{AreTokens}
 use Rattle.hm_text.proofs.Formed.{Formed}
 use Rattle.hm_text.proofs.FormedNarrow.{taken_braces}
@@ -57,6 +60,14 @@ free_test name = record { is = refl }
 free_move : (name : DataName) (s : ℕ) → IsFree (move_mnemonic name s ++ wide)
 free_move name s = grind arith
 
+free_carry : (s : ℕ) → IsFree (carry_mnemonic s)
+free_carry s = grind arith
+
+free_turn : (ty s : ℕ) → ty < 4 → s < 2 → IsFree (turn_mnemonic ty s ++ wide)
+free_turn ty zero lt bit = record { is = below_holds (λ j. let w = turn_mnemonic j 0 ++ wide in is_not_narrow w && not (begins_with_v w)) 4 ty refl lt }
+free_turn ty (suc zero) lt bit = record { is = below_holds (λ j. let w = turn_mnemonic j 1 ++ wide in is_not_narrow w && not (begins_with_v w)) 4 ty refl lt }
+free_turn ty (suc (suc s)) lt bit = absurd (omega arith)
+
 free_barrier : (name : BarrierName) → IsFree (barrier_mnemonic name)
 free_barrier name = grind arith
 
@@ -67,8 +78,13 @@ constant_named name s n d c = chosen (nat_eq d 15) (line (free_test name)) (chos
 shifted_named : (w : List ℕ) (ts : List Tok) (ty k : ℕ) → IsFree w → IsNamed (and_shifted (word w ∷ ts) ty k)
 shifted_named w ts ty k free = chosen (is_by_carry ty k) (line free) (chosen (nat_eq (shift_number ty k) 0) (line free) (line free))
 
+moved_named : (s d m ty k : ℕ) → ty < 4 → s < 2 → IsNamed (moved_tokens s d m ty k)
+moved_named s d m ty k lt bit =
+    chosen (is_by_carry ty k) (line (free_carry s)) (chosen (is_unshifted ty k) (line (free_move data_.Orr s)) (line (free_turn ty s lt bit)))
+
 single_named : (name : DataName) (s d m ty k : ℕ) → ty < 4 → s < 2 → IsNamed (single_tokens name s d m ty k)
-single_named name s d m ty k lt bit = grind arith
+single_named data_.Orr s d m ty k lt bit = moved_named s d m ty k lt bit
+single_named name s d m ty k lt bit = shifted_named (move_mnemonic name s ++ wide) (r d ∷ comma ∷ r m ∷ []) ty k (free_move name s)
 
 data_named : (name : DataName) (s n d m ty k : ℕ) → ty < 4 → s < 2 → IsNamed (data_tokens name s n d m ty k)
 data_named name s n d m ty k lt bit =
@@ -79,7 +95,7 @@ data_named name s n d m ty k lt bit =
 -- all rows at once, but for T1 and T2, and for T9, which is quicker by itself
 scalar_named : (i : Scalar) → length (scalar_halves i) ≡ 2 → IsNamed (row_tokens (instr.Scalar i))
 scalar_named (scalar.T1 i) _ = constant_named i.name i.s.value i.n.value i.d.value _
-scalar_named (scalar.T2 i) _ = data_named i.name i.s.value i.n.value i.d.value i.m.value i.ty.value (4 * i.i3.value + i.i2.value) i.ty.in_range i.s.in_range
+scalar_named (scalar.T2 i) _ = data_named i.name i.s.value i.n.value i.d.value i.m.value i.ty.value (imm5 i.i3.value i.i2.value) i.ty.in_range i.s.in_range
 scalar_named (scalar.T9 i) _ = chosen (nat_eq (8 * i.r.value) 0) (line (grind arith)) (line (grind arith))
 scalar_named i e = grind arith
 
@@ -130,7 +146,7 @@ data_formed name s n d m ty k =
     (either_formed (nat_eq n 15) (single_formed name s d m ty k) (three_formed (data_mnemonic name s ++ wide) d n m ty k))
 
 scalar_formed : (i : Scalar) → length (scalar_halves i) ≡ 2 → Formed (row_tokens (instr.Scalar i))
-scalar_formed (scalar.T2 i) e = data_formed i.name i.s.value i.n.value i.d.value i.m.value i.ty.value (4 * i.i3.value + i.i2.value)
+scalar_formed (scalar.T2 i) e = data_formed i.name i.s.value i.n.value i.d.value i.m.value i.ty.value (imm5 i.i3.value i.i2.value)
 scalar_formed (scalar.T14 i) e =
     list_formed i.w.value i.n.value (wide_list_mnemonic i.name ++ wide_list_suffix i.name) (braces i.list.value)
     (taken_braces i.list.value i.list.in_range (some_listed i.name i.w.value i.n.value i.list.value i.rules))

@@ -1,5 +1,5 @@
 -- Rows with a label: their texts ask for their codes, where the label names their targets.
-use Rattle.std.proofs.Common.{◌≡◌, ℕ, ◌+◌, ◌*◌, ◌/◌, ◌%◌, ◌^◌, ◌<◌, ◌≤◌, true, Some, refl, inl, inr, arith}
+use Rattle.std.proofs.Common.{◌≡◌, ℕ, ◌+◌, ◌*◌, ◌/◌, ◌%◌, ◌^◌, ◌<◌, ◌≤◌, Some, refl, inl, inr, arith}
 use Rattle.std.specs.Prelude.{codes, nat_lt}
 use Rattle.std.proofs.lemmas.Bool.{cases_Bool}
 use Rattle.std.proofs.lemmas.Bool.Decides.{nat_tests}
@@ -19,7 +19,6 @@ use Rattle.hm_text16_codes.specs.declared.operands.Kind.TheVariants as kinds
 use Rattle.hm_text16_codes.specs.Codes.{code_of}
 use Rattle.hm_text_rows.specs.Labels.{behind, distance}
 use Rattle.hm_text_rows.specs.Mnemonics.{branch_mnemonic}
-use Rattle.hm_text_rows.proofs.Words.{is_mnemonic}
 use Rattle.hm_text16_rows.specs.Mnemonics.{zero_mnemonic}
 use Rattle.hm_text16_codes.proofs.Words.{a_low}
 use Rattle.hm_text_rows.proofs.Branches.{condition_back, distance_back, mnemonic_branch}
@@ -43,9 +42,6 @@ row_s14 i =
     (λ t pc a hp re. asks_literal i.t.value _ i.i.value _ pc a (literal_field pc i.i.value a hp i.i.in_range re))
 
 -- S24
-mnemonic_zero : (name : ZeroName) → is_mnemonic (zero_mnemonic name) ≡ true
-mnemonic_zero name = grind arith
-
 asks_zero : (name : ZeroName) (n v i : ℕ) (k : Kind) (pc a : ℕ) → distance (pc + 4) a / 2 % 64 ≡ i
     → code_of (zero_mnemonic name) (given n v 0 k kinds.Missing) pc a ≡ Some (zero_base name + (i / 32) ↑ 9 + (i % 32) ↑ 3 + n)
 unfolding code_of
@@ -59,7 +55,7 @@ zero_field pc i a hp hi e =
 pub row_s24 : (i : S24) → Row (instr.Branch (branch.S24 i))
 row_s24 i =
     label_row (instr.Branch (branch.S24 i)) (zero_mnemonic i.name) _ _ refl refl
-    (reads_register_label (zero_mnemonic i.name) _ _ (mnemonic_zero i.name) (a_low i.n.value i.n.in_range))
+    (reads_register_label (zero_mnemonic i.name) _ _ (grind arith) (a_low i.n.value i.n.in_range))
     (λ t pc a hp re. asks_zero i.name i.n.value _ i.i.value _ pc a (zero_field pc i.i.value a hp i.i.in_range re))
 
 -- S25

@@ -19,8 +19,7 @@ use Rattle.hm_text_rows.proofs.Printed.{IsPrinted, without_suffix}
 use Rattle.hm_text16_codes.specs.declared.operands.Kind.TheVariants as kinds
 use Rattle.hm_text16_codes.specs.declared.operands.Operands.{Operands}
 use Rattle.hm_text16_codes.specs.Codes.{block_mask, code_in, code_of}
-use Rattle.hm_text16_codes.specs.Names.{masks}
-use Rattle.hm_text_rows.specs.Names.{named}
+use Rattle.hm_text_rows.specs.Names.{block_masks, named}
 use Rattle.hm_text16_codes.specs.Operands.{read_operands}
 use Rattle.hm_text_rows.specs.Operands.{bits_of, braced}
 use Rattle.hm_text_rows.specs.Shapes.{braces, r}
@@ -150,7 +149,7 @@ row_s20 i =
 -- ---- blocks
 
 abbrev mask_of : List ℕ → Option ℕ
-mask_of s = named (block_first_word 0) masks s
+mask_of s = named (block_first_word 0) block_masks s
 
 -- the mask that the letters tell, by the low bit of the condition
 even_mask : (j : ℕ) → j < 15 → unwrap_or (mask_of (codes "it" ++ letters_above 0 (suc j))) 0 ≡ suc j

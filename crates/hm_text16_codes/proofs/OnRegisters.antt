@@ -31,7 +31,7 @@ use Rattle.hm_isa.specs.declared.narrow.S23.{S23}
 use Rattle.hm_isa.specs.declared.Instr.TheVariants as instr
 use Rattle.hm_isa.specs.declared.Scalar.TheVariants as scalar
 use Rattle.hm_isa.specs.declared.Branch.TheVariants as branch
-use Rattle.hm_isa.specs.Code.{base_base, byte_base, extend_base, hint_base, jump_base, logic_base, masking_base, shift_base, stack_sum_base, sum_base}
+use Rattle.hm_isa.specs.Code.{address_base, byte_base, extend_base, hint_base, jump_base, logic_base, masking_base, shift_base, stack_sum_base, sum_base}
 use Rattle.hm_isa.specs.Code.{swap_base}
 use Rattle.hm_isa.specs.Letters.{base_register, shift_amount}
 use Rattle.hm_isa.specs.Rules.{keeps_compare}
@@ -45,14 +45,11 @@ use Rattle.hm_text_rows.specs.Mnemonics.{extend_mnemonic}
 use Rattle.hm_text16_rows.specs.Mnemonics.{byte_mnemonic, hint_mnemonic, jump_mnemonic, logic_mnemonic, masking_mnemonic, shift_mnemonic}
 use Rattle.hm_text16_rows.specs.Mnemonics.{stack_sum_mnemonic, sum_mnemonic, swap_mnemonic}
 use Rattle.hm_text16_codes.proofs.Words.{Operand, a_low, a_register}
-use Rattle.hm_text_rows.proofs.Words.{below_holds, below_is, is_mnemonic}
+use Rattle.hm_text_rows.proofs.Words.{below_holds, below_is}
 use Rattle.hm_text16_codes.proofs.Forms.{given, reads_constant, reads_none, reads_one, reads_one_constant, reads_three, reads_two, reads_two_constant}
 use Rattle.hm_text16_codes.proofs.Asked.{Row, plain_row}
 
 -- S1
-mnemonic_shift : (name : ShiftName) → is_mnemonic (shift_mnemonic name) ≡ true
-mnemonic_shift name = grind arith
-
 asks_shift : (name : ShiftName) (i m d k pc a : ℕ) → k % 32 ≡ i
     → code_of (shift_mnemonic name) (given d m k kinds.Word kinds.Number) pc a ≡ Some (shift_base name + i ↑ 6 + m ↑ 3 + d)
 unfolding code_of
@@ -70,20 +67,17 @@ shift_small shift.Asr i lt = ltb-true _ _ (below_holds (λ j. ltb (shift_amount 
 
 pub row_s1 : (i : S1) → Row (instr.Scalar (scalar.S1 i))
 row_s1 i = plain_row (instr.Scalar (scalar.S1 i)) _ _ _ refl refl
-    (reads_two_constant _ _ _ _ _ _ (mnemonic_shift i.name) (a_low i.d.value i.d.in_range) (a_low i.m.value i.m.in_range)
+    (reads_two_constant _ _ _ _ _ _ (grind arith) (a_low i.d.value i.d.in_range) (a_low i.m.value i.m.in_range)
     (shift_small i.name i.i.value i.i.in_range)) (λ p b. asks_shift i.name i.i.value _ _ _ p b (shift_back i.name i.i.value i.i.in_range))
 
 -- S2, S3
-mnemonic_sum : (name : SumName) → is_mnemonic (sum_mnemonic name) ≡ true
-mnemonic_sum name = grind arith
-
 asks_sum : (name : SumName) (m n d pc a : ℕ) → code_of (sum_mnemonic name) (given d n m kinds.Word kinds.Word) pc a ≡ Some (sum_base name + m ↑ 6 + n ↑ 3 + d)
 unfolding code_of
 asks_sum name m n d pc a = grind arith
 
 pub row_s2 : (i : S2) → Row (instr.Scalar (scalar.S2 i))
 row_s2 i = plain_row (instr.Scalar (scalar.S2 i)) _ _ _ refl refl
-    (reads_three _ _ _ _ _ _ _ (mnemonic_sum i.name) (a_low i.d.value i.d.in_range) (a_low i.n.value i.n.in_range) (a_low i.m.value i.m.in_range))
+    (reads_three _ _ _ _ _ _ _ (grind arith) (a_low i.d.value i.d.in_range) (a_low i.n.value i.n.in_range) (a_low i.m.value i.m.in_range))
     (λ p b. asks_sum i.name _ _ _ p b)
 
 asks_small_sum : (name : SumName) (i n d pc a : ℕ)
@@ -99,25 +93,19 @@ eight_fits i lt = omega arith
 
 pub row_s3 : (i : S3) → Row (instr.Scalar (scalar.S3 i))
 row_s3 i = plain_row (instr.Scalar (scalar.S3 i)) _ _ _ refl refl
-    (reads_two_constant _ _ _ _ _ _ (mnemonic_sum i.name) (a_low i.d.value i.d.in_range) (a_low i.n.value i.n.in_range) (eight_fits i.i.value i.i.in_range))
+    (reads_two_constant _ _ _ _ _ _ (grind arith) (a_low i.d.value i.d.in_range) (a_low i.n.value i.n.in_range) (eight_fits i.i.value i.i.in_range))
     (λ p b. asks_small_sum i.name _ _ _ p b)
 
 -- S4
-mnemonic_byte : (name : ByteName) → is_mnemonic (byte_mnemonic name) ≡ true
-mnemonic_byte name = grind arith
-
 asks_byte : (name : ByteName) (d i pc a : ℕ) → code_of (byte_mnemonic name) (given d i 0 kinds.Number kinds.Missing) pc a ≡ Some (byte_base name + d ↑ 8 + i)
 unfolding code_of
 asks_byte name d i pc a = grind arith
 
 pub row_s4 : (i : S4) → Row (instr.Scalar (scalar.S4 i))
 row_s4 i = plain_row (instr.Scalar (scalar.S4 i)) _ _ _ refl refl
-    (reads_one_constant _ _ _ _ (mnemonic_byte i.name) (a_low i.d.value i.d.in_range) (byte_fits i.i.value i.i.in_range)) (λ p b. asks_byte i.name _ _ p b)
+    (reads_one_constant _ _ _ _ (grind arith) (a_low i.d.value i.d.in_range) (byte_fits i.i.value i.i.in_range)) (λ p b. asks_byte i.name _ _ p b)
 
 -- S5
-mnemonic_logic : (name : LogicName) → is_mnemonic (logic_mnemonic name) ≡ true
-mnemonic_logic name = grind arith
-
 low_test : (d m : ℕ) → d < 8 → m < 8 → (nat_le 8 d || nat_le 8 m) ≡ false
 low_test d m hd hm = grind (arith, nat_tests)
 
@@ -128,7 +116,7 @@ asks_logic name m d pc a h0 = grind arith
 
 pub row_s5 : (i : S5) → Row (instr.Scalar (scalar.S5 i))
 row_s5 i = plain_row (instr.Scalar (scalar.S5 i)) _ _ _ refl refl
-    (reads_two _ _ _ _ _ (mnemonic_logic i.name) (a_low i.d.value i.d.in_range) (a_low i.m.value i.m.in_range))
+    (reads_two _ _ _ _ _ (grind arith) (a_low i.d.value i.d.in_range) (a_low i.m.value i.m.in_range))
     (λ p b. asks_logic i.name _ _ p b (low_test i.d.value i.m.value i.d.in_range i.m.in_range))
 
 -- S6 to S8
@@ -163,7 +151,7 @@ row_s8 i = plain_row (instr.Scalar (scalar.S8 i)) _ _ _ refl refl
 
 -- S9, S10
 asks_address : (name : BaseName) (d i k pc a : ℕ) → k / 4 ≡ i
-    → code_of (codes "add") (given d (base_register name) k kinds.Word kinds.Number) pc a ≡ Some (base_base name + d ↑ 8 + i)
+    → code_of (codes "add") (given d (base_register name) k kinds.Word kinds.Number) pc a ≡ Some (address_base name + d ↑ 8 + i)
 unfolding code_of
 asks_address name d i k pc a e = grind arith
 
@@ -181,9 +169,6 @@ row_s9 i = plain_row (instr.Scalar (scalar.S9 i)) _ _ _ refl refl
     (reads_two_constant (codes "add") _ _ _ _ _ refl (a_low i.d.value i.d.in_range) (a_register (base_register i.name) (base_below i.name))
     (words_fit i.i.value i.i.in_range)) (λ p b. asks_address i.name _ i.i.value _ p b (quarter i.i.value))
 
-mnemonic_stack_sum : (name : SumName) → is_mnemonic (stack_sum_mnemonic name) ≡ true
-mnemonic_stack_sum name = grind arith
-
 asks_stack_sum : (name : SumName) (i k d pc a : ℕ) → k / 4 ≡ i
     → code_of (stack_sum_mnemonic name) (given d k 0 kinds.Number kinds.Missing) pc a ≡ Some (stack_sum_base name + i)
 unfolding code_of
@@ -194,13 +179,10 @@ stack_words_fit i lt = omega arith
 
 pub row_s10 : (i : S10) → Row (instr.Scalar (scalar.S10 i))
 row_s10 i = plain_row (instr.Scalar (scalar.S10 i)) _ _ _ refl refl
-    (reads_one_constant _ _ _ _ (mnemonic_stack_sum i.name) (a_register 13 (omega arith)) (stack_words_fit i.i.value i.i.in_range))
+    (reads_one_constant _ _ _ _ (grind arith) (a_register 13 (omega arith)) (stack_words_fit i.i.value i.i.in_range))
     (λ p b. asks_stack_sum i.name i.i.value _ _ p b (quarter i.i.value))
 
 -- S11, S12
-mnemonic_extend : (name : ExtendName) → is_mnemonic (extend_mnemonic name) ≡ true
-mnemonic_extend name = grind arith
-
 asks_extend : (name : ExtendName) (m d pc a : ℕ)
     → code_of (extend_mnemonic name) (given d m 0 kinds.Word kinds.Missing) pc a ≡ Some (extend_base name + m ↑ 3 + d)
 unfolding code_of
@@ -208,10 +190,7 @@ asks_extend name m d pc a = grind arith
 
 pub row_s11 : (i : S11) → Row (instr.Scalar (scalar.S11 i))
 row_s11 i = plain_row (instr.Scalar (scalar.S11 i)) _ _ _ refl refl
-    (reads_two _ _ _ _ _ (mnemonic_extend i.name) (a_low i.d.value i.d.in_range) (a_low i.m.value i.m.in_range)) (λ p b. asks_extend i.name _ _ p b)
-
-mnemonic_swap : (name : SwapName) → is_mnemonic (swap_mnemonic name) ≡ true
-mnemonic_swap name = grind arith
+    (reads_two _ _ _ _ _ (grind arith) (a_low i.d.value i.d.in_range) (a_low i.m.value i.m.in_range)) (λ p b. asks_extend i.name _ _ p b)
 
 asks_swap : (name : SwapName) (m d pc a : ℕ) → code_of (swap_mnemonic name) (given d m 0 kinds.Word kinds.Missing) pc a ≡ Some (swap_base name + m ↑ 3 + d)
 unfolding code_of
@@ -219,12 +198,9 @@ asks_swap name m d pc a = grind arith
 
 pub row_s12 : (i : S12) → Row (instr.Scalar (scalar.S12 i))
 row_s12 i = plain_row (instr.Scalar (scalar.S12 i)) _ _ _ refl refl
-    (reads_two _ _ _ _ _ (mnemonic_swap i.name) (a_low i.d.value i.d.in_range) (a_low i.m.value i.m.in_range)) (λ p b. asks_swap i.name _ _ p b)
+    (reads_two _ _ _ _ _ (grind arith) (a_low i.d.value i.d.in_range) (a_low i.m.value i.m.in_range)) (λ p b. asks_swap i.name _ _ p b)
 
 -- S13, S18, S19, S23
-mnemonic_masking : (name : MaskingName) → is_mnemonic (masking_mnemonic name) ≡ true
-mnemonic_masking name = grind arith
-
 asks_masking : (name : MaskingName) (x pc a : ℕ) → code_of (masking_mnemonic name) (given x 0 0 kinds.Missing kinds.Missing) pc a ≡ Some (masking_base name)
 unfolding code_of
 asks_masking name x pc a = grind arith
@@ -234,7 +210,7 @@ unfolding word_value
 the_i = record { value = refl; is = refl }
 
 pub row_s13 : (i : S13) → Row (instr.Scalar (scalar.S13 i))
-row_s13 i = plain_row (instr.Scalar (scalar.S13 i)) _ _ _ refl refl (reads_one _ _ _ (mnemonic_masking i.name) the_i) (λ p b. asks_masking i.name _ p b)
+row_s13 i = plain_row (instr.Scalar (scalar.S13 i)) _ _ _ refl refl (reads_one _ _ _ (grind arith) the_i) (λ p b. asks_masking i.name _ p b)
 
 asks_break : (i pc a : ℕ) → code_of (codes "bkpt") (given i 0 0 kinds.Missing kinds.Missing) pc a ≡ Some (0xbe00 + i)
 unfolding code_of
@@ -244,23 +220,17 @@ pub row_s18 : (i : S18) → Row (instr.Scalar (scalar.S18 i))
 row_s18 i = plain_row (instr.Scalar (scalar.S18 i)) _ _ _ refl refl (reads_constant (codes "bkpt") _ refl (byte_fits i.i.value i.i.in_range))
     (λ p b. asks_break _ p b)
 
-mnemonic_hint : (name : HintName) → is_mnemonic (hint_mnemonic name) ≡ true
-mnemonic_hint name = grind arith
-
 asks_hint : (name : HintName) (pc a : ℕ) → code_of (hint_mnemonic name) (given 0 0 0 kinds.Missing kinds.Missing) pc a ≡ Some (hint_base name)
 unfolding code_of
 asks_hint name pc a = grind arith
 
 pub row_s19 : (i : S19) → Row (instr.Scalar (scalar.S19 i))
-row_s19 i = plain_row (instr.Scalar (scalar.S19 i)) _ _ _ refl refl (reads_none _ (mnemonic_hint i.name)) (λ p b. asks_hint i.name p b)
-
-mnemonic_jump : (name : JumpName) → is_mnemonic (jump_mnemonic name) ≡ true
-mnemonic_jump name = grind arith
+row_s19 i = plain_row (instr.Scalar (scalar.S19 i)) _ _ _ refl refl (reads_none _ (grind arith)) (λ p b. asks_hint i.name p b)
 
 asks_jump : (name : JumpName) (m pc a : ℕ) → code_of (jump_mnemonic name) (given m 0 0 kinds.Missing kinds.Missing) pc a ≡ Some (jump_base name + m ↑ 3)
 unfolding code_of
 asks_jump name m pc a = grind arith
 
 pub row_s23 : (i : S23) → Row (instr.Branch (branch.S23 i))
-row_s23 i = plain_row (instr.Branch (branch.S23 i)) _ _ _ refl refl (reads_one _ _ _ (mnemonic_jump i.name) (a_register i.m.value i.m.in_range))
+row_s23 i = plain_row (instr.Branch (branch.S23 i)) _ _ _ refl refl (reads_one _ _ _ (grind arith) (a_register i.m.value i.m.in_range))
     (λ p b. asks_jump i.name _ p b)

@@ -6,21 +6,21 @@ use Rattle.std.specs.Option.{option_or}
 use Rattle.hm_isa.specs.declared.narrow.BaseName.TheVariants as base
 use Rattle.hm_isa.specs.declared.narrow.ListName.TheVariants as list
 use Rattle.hm_isa.specs.declared.narrow.LogicName.TheVariants as logic
-use Rattle.hm_isa.specs.Code.{access_base, base_base, byte_base, extend_base, hint_base, jump_base, list_base, logic_base, masking_base, plain_base}
+use Rattle.hm_isa.specs.Code.{access_base, address_base, byte_base, extend_base, hint_base, jump_base, list_base, logic_base, masking_base, plain_base}
 use Rattle.hm_isa.specs.Code.{shift_base, stack_sum_base, sum_base, swap_base, word_base, zero_base}
 use Rattle.hm_isa.specs.Letters.{access_size, plain_access}
 use Rattle.hm_isa.specs.Standing.{◌↑◌}
 use Rattle.hm_tokens.specs.Tokens.{Tok, word, number, mark}
 use Rattle.hm_text_rows.specs.Labels.{distance}
 use Rattle.hm_text_rows.specs.Mnemonics.{access_mnemonic, extend_mnemonic}
-use Rattle.hm_text_rows.specs.Names.{access_names, extend_names, named, sum_names}
+use Rattle.hm_text_rows.specs.Names.{access_names, block_masks, extend_names, named, sum_names}
 use Rattle.hm_text_rows.specs.Operands.{branch_condition_in}
 use Rattle.hm_text16_rows.specs.Mnemonics.{block_first_word, byte_mnemonic, hint_mnemonic, jump_mnemonic, logic_mnemonic, masking_mnemonic, plain_mnemonic}
 use Rattle.hm_text16_rows.specs.Mnemonics.{shift_mnemonic, stack_sum_mnemonic, sum_mnemonic, swap_mnemonic, word_mnemonic, zero_mnemonic}
 use Rattle.hm_text16_codes.specs.declared.operands.Kind.{Kind}
 use Rattle.hm_text16_codes.specs.declared.operands.Kind.TheVariants as kinds
 use Rattle.hm_text16_codes.specs.declared.operands.Operands.{Operands}
-use Rattle.hm_text16_codes.specs.Names.{byte_names, hint_names, jump_names, logic_names, masking_names, masks, plain_names, shift_names, swap_names}
+use Rattle.hm_text16_codes.specs.Names.{byte_names, hint_names, jump_names, logic_names, masking_names, plain_names, shift_names, swap_names}
 use Rattle.hm_text16_codes.specs.Names.{word_names, zero_names}
 use Rattle.hm_text16_codes.specs.Operands.{read_operands}
 
@@ -50,7 +50,7 @@ code_small_sum s o = option_map (λ name. of_three (sum_base name + 0x0400) o.th
 -- S9: the code of ADD with pc or sp and a constant in words (DDI0553, "ADR" and "ADD (SP plus immediate)")
 abbrev pub code_address : List ℕ → Operands → Option ℕ
 code_address s o =
-    if bytes_eq s (codes "add") then Some (of_byte (base_base (if o.second == 15 then base.Pc else base.Sp)) o.first (o.third / 4)) else None
+    if bytes_eq s (codes "add") then Some (of_byte (address_base (if o.second == 15 then base.Pc else base.Sp)) o.first (o.third / 4)) else None
 
 -- S17: the code of STR and LDR from sp (DDI0553, "STR (immediate)" and "LDR (immediate)")
 abbrev pub code_stack_access : List ℕ → Operands → Option ℕ
@@ -138,7 +138,7 @@ block_mask c even = if c % 2 == 0 then even else 16 - even
 
 -- S21: the code of IT and the letters of its block (DDI0553, "IT")
 abbrev pub code_block : List ℕ → Operands → Option ℕ
-code_block s o = option_map (λ even. 0xbf00 + o.first ↑ 4 + block_mask o.first even) (named (block_first_word 0) masks s)
+code_block s o = option_map (λ even. 0xbf00 + o.first ↑ 4 + block_mask o.first even) (named (block_first_word 0) block_masks s)
 
 -- S13 and S19: the code of CPSIE, CPSID, NOP, YIELD, WFE, WFI and SEV, which have no fields
 -- (DDI0553, "CPS", "NOP", "YIELD", "WFE", "WFI" and "SEV")

@@ -1,5 +1,5 @@
--- The names of rows of one halfword that a mnemonic may be of, and masks.
-use Rattle.std.specs.Prelude.{ℕ, List, [], ◌∷◌}
+-- The names of rows of one halfword that a mnemonic may be of.
+use Rattle.std.specs.Prelude.{List, [], ◌∷◌}
 use Rattle.hm_isa.specs.declared.narrow.ByteName.{ByteName}
 use Rattle.hm_isa.specs.declared.narrow.ByteName.TheVariants as byte
 use Rattle.hm_isa.specs.declared.narrow.HintName.{HintName}
@@ -54,10 +54,6 @@ word_names = word_.Str ∷ word_.Ldr ∷ []
 -- S19: NOP, YIELD, WFE, WFI and SEV
 abbrev pub hint_names : List HintName
 hint_names = hint.Nop ∷ hint.Yield ∷ hint.Wfe ∷ hint.Wfi ∷ hint.Sev ∷ []
-
--- S21: the masks of a block
-abbrev pub masks : List ℕ
-masks = 1 ∷ 2 ∷ 3 ∷ 4 ∷ 5 ∷ 6 ∷ 7 ∷ 8 ∷ 9 ∷ 10 ∷ 11 ∷ 12 ∷ 13 ∷ 14 ∷ 15 ∷ []
 
 -- S23: BX and BLX
 abbrev pub jump_names : List JumpName

@@ -1,11 +1,11 @@
 //! Names of rows, by their mnemonics.
 
 ghost use Rattle.std.specs.Prelude.{◌≡◌, ◌<◌, IfSome};
-ghost use Rattle.hm_text_rows.specs.Names.{named, sum_names};
+ghost use Rattle.hm_text_rows.specs.Names.{block_masks, named, sum_names};
 ghost use Rattle.hm_text16_rows.specs.Mnemonics.{block_first_word, byte_mnemonic, hint_mnemonic, jump_mnemonic, logic_mnemonic, masking_mnemonic};
 ghost use Rattle.hm_text16_rows.specs.Mnemonics.{plain_mnemonic, shift_mnemonic, stack_sum_mnemonic, sum_mnemonic, swap_mnemonic, word_mnemonic};
 ghost use Rattle.hm_text16_rows.specs.Mnemonics.{zero_mnemonic};
-ghost use Rattle.hm_text16_codes.specs.Names.{byte_names, hint_names, jump_names, logic_names, masking_names, masks, plain_names, shift_names, swap_names};
+ghost use Rattle.hm_text16_codes.specs.Names.{byte_names, hint_names, jump_names, logic_names, masking_names, plain_names, shift_names, swap_names};
 ghost use Rattle.hm_text16_codes.specs.Names.{word_names, zero_names};
 
 use hm_isa::{
@@ -155,7 +155,7 @@ pub fn zero_name(mnemonic: &[u8]) -> Option<ZeroName>
 
 /// The mask of a row S21 under a condition with the low bit 0; under another it is 16 less this.
 pub fn even_mask(mnemonic: &[u8]) -> Option<u32>
-    ensures value { result ≡ named (block_first_word 0) masks mnemonic.now }
+    ensures value { result ≡ named (block_first_word 0) block_masks mnemonic.now }
     ensures below { IfSome result (λ mask. mask < 16) }
 {
     let masks = &[

@@ -1,6 +1,6 @@
 //! The mnemonics of the rows of one halfword.
 
-ghost use Rattle.std.specs.Prelude.{◌≡◌, ◌<◌, ◌%◌};
+ghost use Rattle.std.specs.Prelude.{◌≡◌, ◌≤◌, ◌<◌, ◌%◌};
 ghost use Rattle.hm_text16_rows.specs.Mnemonics.{block_condition, byte_mnemonic, hint_mnemonic, jump_mnemonic, letters_above};
 ghost use Rattle.hm_text16_rows.specs.Mnemonics.{logic_mnemonic, masking_mnemonic};
 ghost use Rattle.hm_text16_rows.specs.Mnemonics.{plain_mnemonic, shift_mnemonic, stack_sum_mnemonic, sum_mnemonic, swap_mnemonic, word_mnemonic, zero_mnemonic};
@@ -157,7 +157,7 @@ pub fn block_condition(c: u32) -> &'static str
 
 /// The letters of a block under a condition with an even number: t where the bit of the mask is 0, for each bit above its lowest 1.
 fn even_letters(mask: u32) -> &'static str
-    requires { mask < 16 }
+    requires { mask ≤ 16 }
     ensures { result.now ≡ letters_above 0 mask }
 {
     match mask {
@@ -179,31 +179,8 @@ fn even_letters(mask: u32) -> &'static str
     }
 }
 
-/// The letters of a block under a condition with an odd number: t where the bit of the mask is 1, for each bit above its lowest 1.
-fn odd_letters(mask: u32) -> &'static str
-    requires { mask < 16 }
-    ensures { result.now ≡ letters_above 1 mask }
-{
-    match mask {
-        1 => "eee",
-        2 => "ee",
-        3 => "eet",
-        4 => "e",
-        5 => "ete",
-        6 => "et",
-        7 => "ett",
-        9 => "tee",
-        10 => "te",
-        11 => "tet",
-        12 => "t",
-        13 => "tte",
-        14 => "tt",
-        15 => "ttt",
-        _ => "",
-    }
-}
-
-/// The letters of a block, behind `it`.
+/// The letters of a block, behind `it`: under a condition with an odd number a mask is 16 less the one under an even number.
+#[tactic(auto, using(crate::proofs::Letters::odd_letters))]
 pub fn block_letters(c: u32, mask: u32) -> &'static str
     requires { mask < 16 }
     ensures { result.now ≡ letters_above (c % 2) mask }
@@ -211,6 +188,6 @@ pub fn block_letters(c: u32, mask: u32) -> &'static str
     if c % 2 == 0 {
         even_letters(mask)
     } else {
-        odd_letters(mask)
+        even_letters(16 - mask)
     }
 }

@@ -4,7 +4,6 @@ ghost use Rattle.std.specs.Prelude.{◌≡◌, ◌<◌, ◌+◌, ◌*◌, ◌/�
 ghost use Rattle.hm_text16_rows.specs.Rows.{has_label, has_label_branch, has_label_scalar};
 ghost use Rattle.hm_text16_rows.specs.Targets.{branch_target, jump_target, scalar_target, target};
 
-use hm_isa::distances::{always_distance, conditional_distance};
 use hm_isa::{Branch, Instr, S25, Scalar};
 use hm_text_rows::behind;
 
@@ -44,8 +43,8 @@ fn jump_target(i: &S25, pc: u32) -> u32
     ensures { result ≡ jump_target i.now pc }
 {
     match i {
-        S25::Conditional(i) => behind(pc, u64::from(conditional_distance(i))),
-        S25::Always(i) => behind(pc, u64::from(always_distance(i))),
+        S25::Conditional(i) => behind(pc, u64::from(i.distance())),
+        S25::Always(i) => behind(pc, u64::from(i.distance())),
     }
 }
 

@@ -22,14 +22,13 @@ use Rattle.hm_isa.specs.Standing.{◌↑◌}
 use Rattle.hm_tokens.specs.Tokens.{word}
 use Rattle.hm_tokens.specs.Names.{condition_name}
 use Rattle.hm_text32_codes.specs.Codes.{code_of}
-use Rattle.hm_text32_codes.specs.Operands.{word_value}
-use Rattle.hm_text_rows.specs.Operands.{is_vector_name, size_of}
+use Rattle.hm_text_rows.specs.Operands.{size_of}
 use Rattle.hm_text32_rows.specs.Rows.{product_tokens}
 use Rattle.hm_text_rows.specs.Mnemonics.{extend_mnemonic}
 use Rattle.hm_text32_rows.specs.Mnemonics.{accumulate_mnemonic, bits_mnemonic, bits_suffix, long_mnemonic, operation_mnemonic, select_mnemonic}
 use Rattle.hm_text32_rows.specs.Mnemonics.{wide, wide_shift_mnemonic}
 use Rattle.hm_text_rows.specs.Shapes.{and_shift, four, or_zero, r, three, two}
-use Rattle.hm_text32_codes.proofs.Forms.{Answers, Operand, Suffix, a_condition, a_register, a_register_or_zero, answers_of, bare, given, no_suffix, reads_four}
+use Rattle.hm_text32_codes.proofs.Forms.{Answers, Suffix, a_condition, a_kind, a_register, a_register_or_zero, answers_of, bare, given, no_suffix, reads_four}
 use Rattle.hm_text32_codes.proofs.Forms.{reads_three, reads_two, reads_two_shift, suffix_wide}
 
 -- T8
@@ -51,15 +50,12 @@ asks_extend : (name : ExtendName) (k d m v : ℕ)
 unfolding code_of
 asks_extend name k d m v = grind arith
 
-ror : Operand (codes "ror") 3 false
-unfolding word_value is_vector_name
-ror = record { value = refl; vector = refl; is = refl }
-
 pub row_t9 : (i : T9) → Answers (instr.Scalar (scalar.T9 i))
     (and_shift (two (extend_mnemonic i.name ++ wide) (r i.d.value) (r i.m.value)) (codes "ror") (8 * i.r.value))
 row_t9 i =
     answers_of _ _ (code_t9 i) _ _
-    (reads_two_shift _ _ _ _ _ _ _ _ _ _ _ _ _ (grind arith) suffix_wide (a_register i.d.value i.d.in_range) (a_register i.m.value i.m.in_range) ror
+    (reads_two_shift _ _ _ _ _ _ _ _ _ _ _ _ _ (grind arith) suffix_wide (a_register i.d.value i.d.in_range) (a_register i.m.value i.m.in_range)
+    (a_kind 3 (omega arith))
     (let lt = i.r.in_range in omega arith))
     (asks_extend i.name i.r.value _ _ _) refl
 

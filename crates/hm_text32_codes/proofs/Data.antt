@@ -18,15 +18,14 @@ use Rattle.hm_isa.specs.declared.data.T7.{T7}
 use Rattle.hm_isa.specs.DataCodes.{code_t3, code_t4, code_t5, code_t6, extract_base, half_base, saturate_base, wide_sum_base}
 use Rattle.hm_isa.specs.Rules.{is_general}
 use Rattle.hm_isa.specs.Standing.{◌↑◌}
+use Rattle.hm_isa.specs.Words.{imm12, imm16, imm5}
 use Rattle.hm_layout.specs.Wide.{HasWord}
 use Rattle.hm_tokens.specs.Tokens.{Tok}
 use Rattle.hm_text32_codes.specs.Codes.{code_of}
-use Rattle.hm_text32_codes.specs.Operands.{word_value}
-use Rattle.hm_text_rows.specs.Operands.{is_vector_name}
-use Rattle.hm_text32_rows.specs.Rows.{and_turn, insert_tokens, saturate_tokens, saturated_bits}
-use Rattle.hm_text32_rows.specs.Mnemonics.{extract_mnemonic, half_mnemonic, saturate_mnemonic, wide_sum_mnemonic}
-use Rattle.hm_text_rows.specs.Shapes.{and_constant, and_operand, one, r, two}
-use Rattle.hm_text32_codes.proofs.Forms.{Answers, Operand, a_register, answers_of, bare, no_suffix, numbered, reads_one_constant, reads_one_constants}
+use Rattle.hm_text32_rows.specs.Rows.{insert_tokens, saturate_tokens, saturated_bits}
+use Rattle.hm_text32_rows.specs.Mnemonics.{extract_mnemonic, half_mnemonic, saturate_mnemonic, saturate_shift, wide_sum_mnemonic}
+use Rattle.hm_text_rows.specs.Shapes.{and_constant, and_operand, and_turn, one, r, two}
+use Rattle.hm_text32_codes.proofs.Forms.{Answers, a_kind, a_register, answers_of, bare, no_suffix, numbered, reads_one_constant, reads_one_constants}
 use Rattle.hm_text32_codes.proofs.Forms.{reads_saturate}
 use Rattle.hm_text32_codes.proofs.Forms.{reads_two_constant, reads_two_constants, both_numbered, second_numbered}
 
@@ -36,25 +35,22 @@ asks_wide_sum : (name : SumName) (i j l n d x : ℕ) → x / 2048 ≡ i → x / 
 unfolding code_of
 asks_wide_sum name i j l n d x e f g = grind arith
 
-abbrev twelve : ℕ → ℕ → ℕ → ℕ
-twelve i j l = 2048 * i + 256 * j + l
-
-twelve_small : (i j l : ℕ) → i < 2 → j < 8 → l < 256 → twelve i j l < 2 ^ 32
+twelve_small : (i j l : ℕ) → i < 2 → j < 8 → l < 256 → imm12 i j l < 2 ^ 32
 twelve_small i j l hi hj hl = omega arith
 
-twelve_high : (i j l : ℕ) → i < 2 → j < 8 → l < 256 → twelve i j l / 2048 ≡ i
+twelve_high : (i j l : ℕ) → i < 2 → j < 8 → l < 256 → imm12 i j l / 2048 ≡ i
 twelve_high i j l hi hj hl = omega arith
 
-twelve_middle : (i j l : ℕ) → i < 2 → j < 8 → l < 256 → twelve i j l / 256 % 8 ≡ j
+twelve_middle : (i j l : ℕ) → i < 2 → j < 8 → l < 256 → imm12 i j l / 256 % 8 ≡ j
 twelve_middle i j l hi hj hl = omega arith
 
-twelve_low : (i j l : ℕ) → i < 2 → j < 8 → l < 256 → twelve i j l % 256 ≡ l
+twelve_low : (i j l : ℕ) → i < 2 → j < 8 → l < 256 → imm12 i j l % 256 ≡ l
 twelve_low i j l hi hj hl = omega arith
 
 pub row_t3 : (i : T3) → Answers (instr.Scalar (scalar.T3 i))
-    (and_constant (two (wide_sum_mnemonic i.name) (r i.d.value) (r i.n.value)) (2048 * i.i.value + 256 * i.i3.value + i.i8.value))
+    (and_constant (two (wide_sum_mnemonic i.name) (r i.d.value) (r i.n.value)) (imm12 i.i.value i.i3.value i.i8.value))
 row_t3 i =
-    let x = twelve i.i.value i.i3.value i.i8.value in
+    let x = imm12 i.i.value i.i3.value i.i8.value in
     answers_of _ _ (code_t3 i) _ _
     (bare (λ name. and_constant (two name (r i.d.value) (r i.n.value)) x) (wide_sum_mnemonic i.name) _
     (reads_two_constant _ _ _ _ _ _ _ _ _ _ (grind arith) no_suffix (a_register i.d.value i.d.in_range) (a_register i.n.value i.n.in_range)
@@ -71,28 +67,25 @@ asks_half : (name : HalfName) (h i j l d x : ℕ) → x / 4096 ≡ h → x / 204
 unfolding code_of
 asks_half name h i j l d x e f g k = grind arith
 
-abbrev sixteen : ℕ → ℕ → ℕ → ℕ → ℕ
-sixteen h i j l = 4096 * h + 2048 * i + 256 * j + l
-
-sixteen_small : (h i j l : ℕ) → h < 16 → i < 2 → j < 8 → l < 256 → sixteen h i j l < 2 ^ 32
+sixteen_small : (h i j l : ℕ) → h < 16 → i < 2 → j < 8 → l < 256 → imm16 h i j l < 2 ^ 32
 sixteen_small h i j l hh hi hj hl = omega arith
 
-sixteen_top : (h i j l : ℕ) → h < 16 → i < 2 → j < 8 → l < 256 → sixteen h i j l / 4096 ≡ h
+sixteen_top : (h i j l : ℕ) → h < 16 → i < 2 → j < 8 → l < 256 → imm16 h i j l / 4096 ≡ h
 sixteen_top h i j l hh hi hj hl = omega arith
 
-sixteen_high : (h i j l : ℕ) → h < 16 → i < 2 → j < 8 → l < 256 → sixteen h i j l / 2048 % 2 ≡ i
+sixteen_high : (h i j l : ℕ) → h < 16 → i < 2 → j < 8 → l < 256 → imm16 h i j l / 2048 % 2 ≡ i
 sixteen_high h i j l hh hi hj hl = omega arith
 
-sixteen_middle : (h i j l : ℕ) → h < 16 → i < 2 → j < 8 → l < 256 → sixteen h i j l / 256 % 8 ≡ j
+sixteen_middle : (h i j l : ℕ) → h < 16 → i < 2 → j < 8 → l < 256 → imm16 h i j l / 256 % 8 ≡ j
 sixteen_middle h i j l hh hi hj hl = omega arith
 
-sixteen_low : (h i j l : ℕ) → h < 16 → i < 2 → j < 8 → l < 256 → sixteen h i j l % 256 ≡ l
+sixteen_low : (h i j l : ℕ) → h < 16 → i < 2 → j < 8 → l < 256 → imm16 h i j l % 256 ≡ l
 sixteen_low h i j l hh hi hj hl = omega arith
 
 pub row_t4 : (i : T4) → Answers (instr.Scalar (scalar.T4 i))
-    (and_constant (one (half_mnemonic i.name) (r i.d.value)) (4096 * i.i4.value + 2048 * i.i.value + 256 * i.i3.value + i.i8.value))
+    (and_constant (one (half_mnemonic i.name) (r i.d.value)) (imm16 i.i4.value i.i.value i.i3.value i.i8.value))
 row_t4 i =
-    let x = sixteen i.i4.value i.i.value i.i3.value i.i8.value in
+    let x = imm16 i.i4.value i.i.value i.i3.value i.i8.value in
     answers_of _ _ (code_t4 i) _ _
     (bare (λ name. and_constant (one name (r i.d.value)) x) (half_mnemonic i.name) _
     (reads_one_constant _ _ _ _ _ _ _ (grind arith) no_suffix (a_register i.d.value i.d.in_range)
@@ -105,25 +98,18 @@ row_t4 i =
     refl
 
 -- NUMBERS OF FIVE BITS
-abbrev five : ℕ → ℕ → ℕ
-five j l = 4 * j + l
-
-five_high : (j l : ℕ) → l < 4 → five j l / 4 ≡ j
+five_high : (j l : ℕ) → l < 4 → imm5 j l / 4 ≡ j
 five_high j l hl = omega arith
 
-five_low : (j l : ℕ) → l < 4 → five j l % 4 ≡ l
+five_low : (j l : ℕ) → l < 4 → imm5 j l % 4 ≡ l
 five_low j l hl = omega arith
 
-five_small : (j l : ℕ) → j < 8 → l < 4 → five j l < 2 ^ 32
+five_small : (j l : ℕ) → j < 8 → l < 4 → imm5 j l < 2 ^ 32
 five_small j l hj hl = omega arith
 
 -- T5
 bits_small : (name : SaturateName) (s : ℕ) → s < 32 → saturated_bits name s < 2 ^ 32
 bits_small name s lt = grind arith
-
-a_shift : (h : ℕ) → h < 2 → Operand (cond (nat_eq h 0) (codes "lsl") (codes "asr")) (2 * h) false
-unfolding word_value is_vector_name
-a_shift h lt = grind arith
 
 -- the kind of the shift tells its letter
 kind_told : (h : ℕ) → 2 * h / 2 ≡ h
@@ -142,11 +128,11 @@ row_t5 i =
     let l = i.i2.value in
     answers_of _ _ (code_t5 i) _ _
     (bare (λ name. and_turn (and_operand (and_constant (one name (r i.d.value)) (saturated_bits i.name i.s.value)) (r i.n.value))
-    (cond (nat_eq h 0) (codes "lsl") (codes "asr")) (five j l)) (saturate_mnemonic i.name) _
+    (saturate_shift h) (imm5 j l)) (saturate_mnemonic i.name) _
     (reads_saturate _ _ _ _ _ _ _ _ _ _ _ _ _ _ (grind arith) no_suffix (a_register i.d.value i.d.in_range)
     (bits_small i.name i.s.value i.s.in_range)
-    (a_register i.n.value i.n.in_range) (a_shift h i.sh.in_range) (five_small j l i.i3.in_range i.i2.in_range)))
-    (asks_saturate i.name h j l i.s.value _ _ _ (five j l) (kind_told h) (five_high j l i.i2.in_range) (five_low j l i.i2.in_range))
+    (a_register i.n.value i.n.in_range) (let lt = i.sh.in_range in a_kind (2 * h) (omega arith)) (five_small j l i.i3.in_range i.i2.in_range)))
+    (asks_saturate i.name h j l i.s.value _ _ _ (imm5 j l) (kind_told h) (five_high j l i.i2.in_range) (five_low j l i.i2.in_range))
     refl
 
 -- T6
@@ -156,15 +142,15 @@ unfolding code_of
 asks_extract name j l w n d x e f = grind arith
 
 pub row_t6 : (i : T6) → Answers (instr.Scalar (scalar.T6 i))
-    (and_constant (and_constant (two (extract_mnemonic i.name) (r i.d.value) (r i.n.value)) (4 * i.i3.value + i.i2.value)) (i.w.value + 1))
+    (and_constant (and_constant (two (extract_mnemonic i.name) (r i.d.value) (r i.n.value)) (imm5 i.i3.value i.i2.value)) (i.w.value + 1))
 row_t6 i =
     let j = i.i3.value in
     let l = i.i2.value in
     answers_of _ _ (code_t6 i) _ _
-    (bare (λ name. and_constant (and_constant (two name (r i.d.value) (r i.n.value)) (five j l)) (i.w.value + 1)) (extract_mnemonic i.name) _
+    (bare (λ name. and_constant (and_constant (two name (r i.d.value) (r i.n.value)) (imm5 j l)) (i.w.value + 1)) (extract_mnemonic i.name) _
     (reads_two_constants _ _ _ _ _ _ _ _ _ _ _ (grind arith) no_suffix (a_register i.d.value i.d.in_range) (a_register i.n.value i.n.in_range)
     (five_small j l i.i3.in_range i.i2.in_range) (let lt = i.w.in_range in omega arith)))
-    (asks_extract i.name j l i.w.value _ _ (five j l) (five_high j l i.i2.in_range) (five_low j l i.i2.in_range))
+    (asks_extract i.name j l i.w.value _ _ (imm5 j l) (five_high j l i.i2.in_range) (five_low j l i.i2.in_range))
     refl
 
 -- T7
@@ -186,25 +172,25 @@ no_more_than m n e = grind (arith, nat_tests)
 abbrev inserted : ℕ → ℕ → ℕ → ℕ → List Tok
 inserted n d x y = and_constant (and_constant (cond (nat_eq n 15) (one (codes "bfc") (r d)) (two (codes "bfi") (r d) (r n))) x) y
 
-insert_answers : (k : Instr) (n d j l e : ℕ) → n < 16 → d < 16 → j < 8 → l < 4 → e < 32 → five j l ≤ e → HasWord k (insert_sum n d j l e)
-    → Answers k (inserted n d (five j l) (e + 1 - five j l))
+insert_answers : (k : Instr) (n d j l e : ℕ) → n < 16 → d < 16 → j < 8 → l < 4 → e < 32 → imm5 j l ≤ e → HasWord k (insert_sum n d j l e)
+    → Answers k (inserted n d (imm5 j l) (e + 1 - imm5 j l))
 insert_answers k n d j l e hn hd hj hl he le has =
     elim (cases_Bool (eqb n 15)) [
       | inl none ↦
           rw none
           (answers_of k _ (insert_sum n d j l e) (codes "bfc") _
           (reads_one_constants (codes "bfc") _ _ _ _ _ _ _ refl no_suffix (a_register d hd) (five_small j l hj hl) (omega arith))
-          (asks_bfc n d j l e (five j l) (eqb-true n 15 none) (five_high j l hl) (five_low j l hl) le) has)
+          (asks_bfc n d j l e (imm5 j l) (eqb-true n 15 none) (five_high j l hl) (five_low j l hl) le) has)
       | inr some ↦
           rw some
           (answers_of k _ (insert_sum n d j l e) (codes "bfi") _
           (reads_two_constants (codes "bfi") _ _ _ _ _ _ _ _ _ _ refl no_suffix (a_register d hd) (a_register n hn) (five_small j l hj hl) (omega arith))
-          (asks_bfi n d j l e (five j l) (five_high j l hl) (five_low j l hl) le) has)
+          (asks_bfi n d j l e (imm5 j l) (five_high j l hl) (five_low j l hl) le) has)
     ]
 
 pub row_t7 : (i : T7) → Answers (instr.Scalar (scalar.T7 i)) (insert_tokens i)
 row_t7 i =
-    let parts = and_parts (not (nat_eq i.n.value 13) && is_general i.d.value) (nat_le (i.i3.value * 4 + i.i2.value) i.e.value) i.rules in
+    let parts = and_parts (not (nat_eq i.n.value 13) && is_general i.d.value) (nat_le (imm5 i.i3.value i.i2.value) i.e.value) i.rules in
     let within = no_more_than _ _ parts.1 in
     insert_answers _ i.n.value i.d.value i.i3.value i.i2.value i.e.value i.n.in_range i.d.in_range i.i3.in_range i.i2.in_range i.e.in_range
     (omega (arith, within)) refl

@@ -11,7 +11,8 @@ use Rattle.hm_text32_codes.specs.declared.operands.Operands.{Operands}
 use Rattle.hm_text32_codes.specs.Operands.{word_value}
 use Rattle.hm_text_rows.specs.Operands.{is_vector_name, size_of}
 use Rattle.hm_text32_codes.specs.Codes.{code_of, plain_code_in}
-use Rattle.hm_text32_rows.specs.Mnemonics.{element_suffix, wide}
+use Rattle.hm_text32_rows.specs.Mnemonics.{shift_mnemonic, wide}
+use Rattle.hm_text_rows.specs.Mnemonics.{element_suffix}
 use Rattle.hm_text_rows.specs.Shapes.{and_constant, and_operand, and_shift, constant, four, one, three, two}
 use Rattle.hm_text_rows.proofs.Words.{◌▹◌, below_holds, below_is, cut, is_name, is_mnemonic, is_suffix, word_q, word_r}
 use Rattle.hm_text_rows.proofs.Printed.{IsPrinted, is_printed, short_comma, short_hash, short_number, short_word}
@@ -123,6 +124,14 @@ a_condition c lt = record {
   value = below_is (λ j. word_value (condition_name j)) (λ j. j) 14 c refl lt;
   vector = agree_below_at (λ j. is_vector_name (condition_name j)) (λ j. false) 14 c refl lt;
   is = below_holds (λ j. is_name (condition_name j)) 14 c refl lt;
+}
+
+pub a_kind : (ty : ℕ) → ty < 4 → Operand (shift_mnemonic ty) ty false
+unfolding word_value is_vector_name
+a_kind ty lt = record {
+  value = below_is (λ j. word_value (shift_mnemonic j)) (λ j. j) 4 ty refl lt;
+  vector = agree_below_at (λ j. is_vector_name (shift_mnemonic j)) (λ j. false) 4 ty refl lt;
+  is = below_holds (λ j. is_name (shift_mnemonic j)) 4 ty refl lt;
 }
 
 -- SHAPES

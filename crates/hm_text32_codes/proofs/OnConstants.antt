@@ -2,6 +2,7 @@
 use Rattle.std.proofs.Common.{◌≡◌, ℕ, zero, suc, ◌+◌, ◌-◌, ◌*◌, ◌/◌, ◌%◌, ◌<◌, ◌≤◌, ◌^◌, Bool, true, false, eqb, ◌++◌, Some, refl, subst, ap, inl, inr, ◌∙◌}
 use Rattle.std.proofs.Common.{arith}
 use Rattle.std.specs.Prelude.{nat_eq, nat_le, nat_lt, ◌&&◌, ◌||◌}
+use Rattle.std.proofs.Math.Bool.{or-true}
 use Rattle.std.proofs.lemmas.Bool.{agree_below, and_parts, cases_Bool, eqb-true, ne_eqb}
 use Rattle.std.proofs.lemmas.Bool.Decides.{nat_tests}
 use Rattle.hm_isa.specs.declared.Instr.{Instr}
@@ -10,11 +11,10 @@ use Rattle.hm_isa.specs.declared.Scalar.TheVariants as scalar
 use Rattle.hm_isa.specs.declared.data.DataName.{DataName}
 use Rattle.hm_isa.specs.declared.data.DataName.TheVariants as data_
 use Rattle.hm_isa.specs.declared.data.T1.{T1}
-use Rattle.hm_isa.specs.DataCodes.{operation}
+use Rattle.hm_isa.specs.DataCodes.{data_operation}
 use Rattle.hm_isa.specs.DataRules.{is_constant, is_first, is_result, may_test}
 use Rattle.hm_isa.specs.Standing.{◌↑◌}
 use Rattle.hm_layout.specs.Wide.{HasWord}
-use Rattle.hm_tokens.proofs.Again.{or_true}
 use Rattle.hm_isa.specs.Words.{expand_imm_c, imm12, repeats}
 use Rattle.hm_text32_codes.specs.Codes.{code_of, constant_code, constant_field, data_base, shift_of}
 use Rattle.hm_text32_rows.specs.Rows.{constant_in, constant_tokens}
@@ -111,10 +111,10 @@ told_low : (x : ℕ) → x < 256 → is_told x ≡ true
 told_low x lt = let e : nat_lt x 256 ≡ true = grind (arith, nat_tests) in rw e refl
 
 told_high : (x : ℕ) → 1024 ≤ x → is_told x ≡ true
-told_high x le = let e : nat_le 1024 x ≡ true = grind (arith, nat_tests) in rw (e, or_true (nat_lt x 256)) refl
+told_high x le = let e : nat_le 1024 x ≡ true = grind (arith, nat_tests) in rw (e, or-true (nat_lt x 256)) refl
 
 told_some : (x : ℕ) → nat_lt 0 (x % 256) ≡ true → is_told x ≡ true
-told_some x e = rw (e, or_true (nat_le 1024 x), or_true (nat_lt x 256)) refl
+told_some x e = rw (e, or-true (nat_le 1024 x), or-true (nat_lt x 256)) refl
 
 last_of : (b c d : Bool) → b ≡ false → c ≡ false → (false || b || c || d) ≡ true → d ≡ true
 last_of b c d e f g = rw (e, f) at g
@@ -188,22 +188,22 @@ some_sum : (op s n d i i3 i8 : ℕ) → Fields s n d i i3 i8
     → Some (constant_code (0xea000000 + op ↑ 21 + s ↑ 20) n d (constant_field (constant_in i i3 i8))) ≡ Some (constant_sum op s n d i i3 i8)
 some_sum op s n d i i3 i8 is = ap (λ (w : ℕ). Some w) (read_sum op s n d i i3 i8 is)
 
-data_answers : (k : Instr) (name : DataName) (s n d i i3 i8 : ℕ) → Fields s n d i i3 i8 → HasWord k (constant_sum (operation name) s n d i i3 i8)
+data_answers : (k : Instr) (name : DataName) (s n d i i3 i8 : ℕ) → Fields s n d i i3 i8 → HasWord k (constant_sum (data_operation name) s n d i i3 i8)
     → Answers k (and_constant (two (data_mnemonic name s ++ wide) (r d) (r n)) (constant_in i i3 i8))
 data_answers k name s n d i i3 i8 is has =
-    answers_of k _ (constant_sum (operation name) s n d i i3 i8) (data_mnemonic name s) _
+    answers_of k _ (constant_sum (data_operation name) s n d i i3 i8) (data_mnemonic name s) _
     (reads_two_constant (data_mnemonic name s) wide _ _ _ _ _ _ _ _ (mnemonic_data name s is.flag) suffix_wide (a_register d is.result) (a_register n is.first)
     (expanded_small (imm12 i i3 i8)))
-    (asks_data name s is.flag n d _ ∙ some_sum (operation name) s n d i i3 i8 is)
+    (asks_data name s is.flag n d _ ∙ some_sum (data_operation name) s n d i i3 i8 is)
     has
 
 test_answers : (k : Instr) (name : DataName) (n i i3 i8 : ℕ) → Fields 1 n 15 i i3 i8 → may_test name ≡ true
-    → HasWord k (constant_sum (operation name) 1 n 15 i i3 i8)
+    → HasWord k (constant_sum (data_operation name) 1 n 15 i i3 i8)
     → Answers k (and_constant (one (test_mnemonic name ++ wide) (r n)) (constant_in i i3 i8))
 test_answers k name n i i3 i8 is may has =
-    answers_of k _ (constant_sum (operation name) 1 n 15 i i3 i8) (test_mnemonic name) _
+    answers_of k _ (constant_sum (data_operation name) 1 n 15 i i3 i8) (test_mnemonic name) _
     (reads_one_constant (test_mnemonic name) wide _ _ _ _ _ (grind arith) suffix_wide (a_register n is.first) (expanded_small (imm12 i i3 i8)))
-    (asks_test name n _ may ∙ some_sum (operation name) 1 n 15 i i3 i8 is)
+    (asks_test name n _ may ∙ some_sum (data_operation name) 1 n 15 i i3 i8 is)
     has
 
 move_answers : (k : Instr) (s d i i3 i8 : ℕ) → Fields s 15 d i i3 i8 → HasWord k (constant_sum 2 s 15 d i i3 i8)
@@ -225,14 +225,14 @@ not_answers k s d i i3 i8 is has =
     has
 
 single_answers : (k : Instr) (name : DataName) (s d i i3 i8 : ℕ) → Fields s 15 d i i3 i8 → is_first name 15 ≡ true
-    → HasWord k (constant_sum (operation name) s 15 d i i3 i8)
+    → HasWord k (constant_sum (data_operation name) s 15 d i i3 i8)
     → Answers k (and_constant (one (move_mnemonic name s ++ wide) (r d)) (constant_in i i3 i8))
 single_answers k data_.Orr s d i i3 i8 is e has = move_answers k s d i i3 i8 is has
 single_answers k data_.Orn s d i i3 i8 is e has = not_answers k s d i i3 i8 is has
 single_answers k name s d i i3 i8 is e has = absurd cc
 
 row_answers : (k : Instr) (name : DataName) (s n d i i3 i8 : ℕ) → Fields s n d i i3 i8 → is_first name n ≡ true → is_result name s n d ≡ true
-    → HasWord k (constant_sum (operation name) s n d i i3 i8) → Answers k (constant_tokens name s n d (constant_in i i3 i8))
+    → HasWord k (constant_sum (data_operation name) s n d i i3 i8) → Answers k (constant_tokens name s n d (constant_in i i3 i8))
 row_answers k name s n d i i3 i8 is first result has =
     elim (cases_Bool (eqb d 15)) [
       | inl f ↦

@@ -25,7 +25,7 @@ use Rattle.hm_isa.specs.Distances.{alike, wide_always_distance, wide_conditional
 use Rattle.hm_tokens.specs.Names.{register_name}
 use Rattle.hm_tokens.specs.Tokens.{Tok, comma}
 use Rattle.hm_text_rows.specs.Labels.{behind, distance}
-use Rattle.hm_text_rows.specs.Mnemonics.{branch_mnemonic}
+use Rattle.hm_text_rows.specs.Mnemonics.{branch_mnemonic, element_suffix}
 use Rattle.hm_text_rows.specs.Operands.{size_of}
 use Rattle.hm_text_rows.specs.Shapes.{r}
 use Rattle.hm_text_rows.proofs.Printed.{IsPrintedAt, is_printed_at, short_comma, short_word}
@@ -33,7 +33,7 @@ use Rattle.hm_text_rows.proofs.Branches.{condition_back, distance_back, mnemonic
 use Rattle.hm_text_rows.proofs.Words.{◌▹◌, below_holds, is_mnemonic, is_suffix, none_is, word_r}
 use Rattle.hm_text32_codes.specs.Codes.{ahead, always_code, behind_it, code_in, code_of, code_of_label, code_of_memory, conditional_code}
 use Rattle.hm_text32_rows.specs.Rows.{loop_end_tokens}
-use Rattle.hm_text32_rows.specs.Mnemonics.{element_suffix, wide, wide_branch_mnemonic, wide_branch_suffix}
+use Rattle.hm_text32_rows.specs.Mnemonics.{wide, wide_branch_mnemonic, wide_branch_suffix}
 use Rattle.hm_text32_codes.proofs.Asked.{IsNoPlain, Row, asks_label, label_row}
 use Rattle.hm_text32_codes.proofs.Forms.{a_register, suffix_element}
 

@@ -1,40 +1,38 @@
 -- Rows of a register that is shifted: their texts ask for their codes.
-use Rattle.std.proofs.Common.{◌≡◌, ℕ, zero, suc, ◌+◌, ◌*◌, ◌/◌, ◌%◌, ◌<◌, ◌^◌, Bool, true, false, cond, eqb, List, [], ◌++◌, Some, refl, sym, ap, inl, inr, ◌∙◌}
+use Rattle.std.proofs.Common.{◌≡◌, ℕ, zero, suc, ◌+◌, ◌/◌, ◌%◌, ◌<◌, ◌^◌, Bool, true, false, cond, eqb, List, [], ◌++◌, Some, refl, sym, ap, inl, inr, ◌∙◌}
 use Rattle.std.proofs.Common.{arith}
 use Rattle.std.specs.Prelude.{codes, nat_eq, ◌&&◌, ◌||◌}
-use Rattle.std.proofs.lemmas.Bool.{agree_below_at, and_parts, cases_Bool, eqb-true, false≢true, or_cases}
+use Rattle.std.proofs.lemmas.Bool.{and_parts, cases_Bool, eqb-true, false≢true, or_cases}
 use Rattle.hm_isa.specs.declared.Instr.{Instr}
 use Rattle.hm_isa.specs.declared.Instr.TheVariants as instr
 use Rattle.hm_isa.specs.declared.Scalar.TheVariants as scalar
 use Rattle.hm_isa.specs.declared.data.DataName.{DataName}
 use Rattle.hm_isa.specs.declared.data.DataName.TheVariants as data_
 use Rattle.hm_isa.specs.declared.data.T2.{T2}
-use Rattle.hm_isa.specs.DataCodes.{operation}
+use Rattle.hm_isa.specs.DataCodes.{data_operation}
 use Rattle.hm_isa.specs.DataRules.{is_first, is_result, is_shifted_row, is_stack_move, may_test}
 use Rattle.hm_isa.specs.Rules.{is_general}
 use Rattle.hm_isa.specs.Standing.{◌↑◌}
+use Rattle.hm_isa.specs.Words.{imm5, is_by_carry, shift_number}
 use Rattle.hm_layout.specs.Wide.{HasWord}
 use Rattle.hm_tokens.specs.Tokens.{word}
 use Rattle.hm_text32_codes.specs.Codes.{code_of, data_base, shifted_code}
 use Rattle.hm_text32_codes.specs.Operands.{word_value}
 use Rattle.hm_text_rows.specs.Operands.{is_vector_name}
-use Rattle.hm_text32_rows.specs.Rows.{and_shifted, data_tokens, moved_tokens, shift_number, single_tokens}
+use Rattle.hm_text32_rows.specs.Rows.{and_shifted, data_tokens, moved_tokens, single_tokens}
 use Rattle.hm_text32_rows.specs.Mnemonics.{carry_mnemonic, data_mnemonic, move_mnemonic, shift_mnemonic, test_mnemonic, turn_mnemonic, wide}
 use Rattle.hm_text_rows.specs.Shapes.{and_constant, r, three, two}
-use Rattle.hm_text_rows.proofs.Words.{below_holds, below_is, is_name, is_mnemonic}
-use Rattle.hm_text32_codes.proofs.Forms.{Answers, Operand, Reads, Suffix, a_register, answers_of, bare, given, kind_given, no_suffix, numbered, reads_four}
-use Rattle.hm_text32_codes.proofs.Forms.{reads_three, reads_three_shift, reads_two, reads_two_constant, reads_two_shift, suffix_wide}
+use Rattle.hm_text_rows.proofs.Words.{below_holds, below_is, is_mnemonic}
+use Rattle.hm_text32_codes.proofs.Forms.{Answers, Operand, Reads, Suffix, a_kind, a_register, answers_of, bare, given, kind_given, no_suffix, numbered}
+use Rattle.hm_text32_codes.proofs.Forms.{reads_four, reads_three, reads_three_shift, reads_two, reads_two_constant, reads_two_shift, suffix_wide}
 
 -- SHIFTS
-abbrev turns : ℕ → ℕ → Bool
-turns ty k = nat_eq ty 3 && nat_eq k 0
-
 -- what is read of a shift
 abbrev kind_read : ℕ → ℕ → ℕ
-kind_read ty k = cond (turns ty k) 3 (kind_given ty (shift_number ty k))
+kind_read ty k = cond (is_by_carry ty k) 3 (kind_given ty (shift_number ty k))
 
 abbrev number_read : ℕ → ℕ → ℕ
-number_read ty k = cond (turns ty k) 0 (shift_number ty k)
+number_read ty k = cond (is_by_carry ty k) 0 (shift_number ty k)
 
 kind_same : (ty k : ℕ) → ty < 4 → k < 32 → kind_read ty k ≡ ty
 kind_same zero k ht hk = below_is (λ j. kind_read 0 j) (λ j. 0) 32 k refl hk
@@ -59,18 +57,10 @@ low_same (suc (suc (suc (suc ty)))) k ht hk = absurd (omega arith)
 
 number_small : (ty k : ℕ) → k < 32 → shift_number ty k < 2 ^ 32
 number_small ty k lt =
-    elim (cases_Bool (eqb k 0)) [
-      | inl e ↦ elim (cases_Bool (eqb ty 0)) [ inl f ↦ rw (e, f) (omega arith) | inr f ↦ rw (e, f) (omega arith) ]
-      | inr e ↦ rw e (omega (arith, lt))
+    elim (cases_Bool (eqb ty 0)) [
+      | inl e ↦ rw e (omega (arith, lt))
+      | inr e ↦ elim (cases_Bool (eqb k 0)) [ inl f ↦ rw (e, f) (omega arith) | inr f ↦ rw (e, f) (omega (arith, lt)) ]
     ]
-
-a_kind : (ty : ℕ) → ty < 4 → Operand (shift_mnemonic ty) ty false
-unfolding word_value is_vector_name
-a_kind ty lt = record {
-  value = below_is (λ j. word_value (shift_mnemonic j)) (λ j. j) 4 ty refl lt;
-  vector = agree_below_at (λ j. is_vector_name (shift_mnemonic j)) (λ j. false) 4 ty refl lt;
-  is = below_holds (λ j. is_name (shift_mnemonic j)) 4 ty refl lt;
-}
 
 rrx : Operand (codes "rrx") 3 false
 unfolding word_value is_vector_name
@@ -79,7 +69,7 @@ rrx = record { value = refl; vector = refl; is = refl }
 two_shifted : (s f w x : List ℕ) (b c : Bool) (z m n ty k : ℕ) → is_mnemonic s ≡ true → Suffix f z → Operand w m b → Operand x n c → ty < 4 → k < 32
     → Reads (and_shifted (two (s ++ f) (word w) (word x)) ty k) s (given false z b m n (kind_read ty k) (number_read ty k) 0)
 two_shifted s f w x b c z m n ty k mnemonic g p o ht hk =
-    elim (cases_Bool (turns ty k)) [
+    elim (cases_Bool (is_by_carry ty k)) [
       | inl e ↦ rw e (reads_three s f w x (codes "rrx") b c false z m n 3 mnemonic g p o rrx)
       | inr e ↦ rw e (reads_two_shift s f w x (shift_mnemonic ty) b c false z m n ty (shift_number ty k) mnemonic g p o (a_kind ty ht) (number_small ty k hk))
     ]
@@ -89,7 +79,7 @@ three_shifted : (s f w x y : List ℕ) (b c e : Bool) (z m n l ty k : ℕ) → i
     → k < 32
     → Reads (and_shifted (three (s ++ f) (word w) (word x) (word y)) ty k) s (given false z b m n l (kind_read ty k) (number_read ty k))
 three_shifted s f w x y b c e z m n l ty k mnemonic g p o i ht hk =
-    elim (cases_Bool (turns ty k)) [
+    elim (cases_Bool (is_by_carry ty k)) [
       | inl is ↦ rw is (reads_four s f w x y (codes "rrx") b c e false z m n l 3 mnemonic g p o i rrx)
       | inr is ↦ rw is (reads_three_shift s f w x y (shift_mnemonic ty) b c e false z m n l ty (shift_number ty k) mnemonic g p o i (a_kind ty ht)
           (number_small ty k hk))
@@ -103,22 +93,22 @@ shifted_sum : (op s n d m v x ty j l : ℕ) → v ≡ ty → x % 32 / 4 ≡ j �
     → shifted_code (0xea000000 + op ↑ 21 + s ↑ 20) n d m v x ≡ data_sum op s n j d l ty m
 shifted_sum op s n d m v x ty j l e f g = rw (e, f, g) (omega arith)
 
-five_high : (j l : ℕ) → l < 4 → (4 * j + l) / 4 ≡ j
+five_high : (j l : ℕ) → l < 4 → (imm5 j l) / 4 ≡ j
 five_high j l hl = omega arith
 
-five_low : (j l : ℕ) → l < 4 → (4 * j + l) % 4 ≡ l
+five_low : (j l : ℕ) → l < 4 → (imm5 j l) % 4 ≡ l
 five_low j l hl = omega arith
 
-five_below : (j l : ℕ) → j < 8 → l < 4 → 4 * j + l < 32
+five_below : (j l : ℕ) → j < 8 → l < 4 → imm5 j l < 32
 five_below j l hj hl = omega arith
 
 -- the code of a shift that is read
 read_sum : (op s n d m ty j l : ℕ) → ty < 4 → j < 8 → l < 4
-    → shifted_code (0xea000000 + op ↑ 21 + s ↑ 20) n d m (kind_read ty (4 * j + l)) (number_read ty (4 * j + l)) ≡ data_sum op s n j d l ty m
+    → shifted_code (0xea000000 + op ↑ 21 + s ↑ 20) n d m (kind_read ty (imm5 j l)) (number_read ty (imm5 j l)) ≡ data_sum op s n j d l ty m
 read_sum op s n d m ty j l ht hj hl =
-    shifted_sum op s n d m _ _ ty j l (kind_same ty (4 * j + l) ht (five_below j l hj hl))
-    (high_same ty (4 * j + l) ht (five_below j l hj hl) ∙ five_high j l hl)
-    (low_same ty (4 * j + l) ht (five_below j l hj hl) ∙ five_low j l hl)
+    shifted_sum op s n d m _ _ ty j l (kind_same ty (imm5 j l) ht (five_below j l hj hl))
+    (high_same ty (imm5 j l) ht (five_below j l hj hl) ∙ five_high j l hl)
+    (low_same ty (imm5 j l) ht (five_below j l hj hl) ∙ five_low j l hl)
 
 -- THREE REGISTERS
 pub mnemonic_data : (name : DataName) (s : ℕ) → s < 2 → is_mnemonic (data_mnemonic name s) ≡ true
@@ -139,16 +129,13 @@ record Fields (s n d m ty j l : ℕ) : Type 0 where
   high : j < 8
   low : l < 4
 
-abbrev number_of : ℕ → ℕ → ℕ
-number_of j l = 4 * j + l
-
-data_answers : (k : Instr) (name : DataName) (s n d m ty j l : ℕ) → Fields s n d m ty j l → HasWord k (data_sum (operation name) s n j d l ty m)
-    → Answers k (and_shifted (three (data_mnemonic name s ++ wide) (r d) (r n) (r m)) ty (number_of j l))
+data_answers : (k : Instr) (name : DataName) (s n d m ty j l : ℕ) → Fields s n d m ty j l → HasWord k (data_sum (data_operation name) s n j d l ty m)
+    → Answers k (and_shifted (three (data_mnemonic name s ++ wide) (r d) (r n) (r m)) ty (imm5 j l))
 data_answers k name s n d m ty j l is has =
-    answers_of k _ (data_sum (operation name) s n j d l ty m) (data_mnemonic name s) _
-    (three_shifted (data_mnemonic name s) wide _ _ _ _ _ _ _ _ _ _ ty (number_of j l) (mnemonic_data name s is.flag) suffix_wide (a_register d is.result)
+    answers_of k _ (data_sum (data_operation name) s n j d l ty m) (data_mnemonic name s) _
+    (three_shifted (data_mnemonic name s) wide _ _ _ _ _ _ _ _ _ _ ty (imm5 j l) (mnemonic_data name s is.flag) suffix_wide (a_register d is.result)
     (a_register n is.first) (a_register m is.last) is.kind (five_below j l is.high is.low))
-    (asks_data name s n d m _ _ is.flag ∙ ap (λ (w : ℕ). Some w) (read_sum (operation name) s n d m ty j l is.kind is.high is.low))
+    (asks_data name s n d m _ _ is.flag ∙ ap (λ (w : ℕ). Some w) (read_sum (data_operation name) s n d m ty j l is.kind is.high is.low))
     has
 
 -- TESTS
@@ -175,13 +162,13 @@ test_rule name s n j l ty m e =
     (second_of_four (is_first name n) (is_result name s n 15) (is_general m) true (is_stack_move name s n 15 j l ty m) e (and_no _))
 
 test_answers : (k : Instr) (name : DataName) (n m ty j l : ℕ) → n < 16 → m < 16 → ty < 4 → j < 8 → l < 4 → may_test name ≡ true
-    → HasWord k (data_sum (operation name) 1 n j 15 l ty m)
-    → Answers k (and_shifted (two (test_mnemonic name ++ wide) (r n) (r m)) ty (number_of j l))
+    → HasWord k (data_sum (data_operation name) 1 n j 15 l ty m)
+    → Answers k (and_shifted (two (test_mnemonic name ++ wide) (r n) (r m)) ty (imm5 j l))
 test_answers k name n m ty j l hn hm ht hj hl may has =
-    answers_of k _ (data_sum (operation name) 1 n j 15 l ty m) (test_mnemonic name) _
-    (two_shifted (test_mnemonic name) wide _ _ _ _ _ _ _ ty (number_of j l) (grind arith) suffix_wide (a_register n hn) (a_register m hm) ht
+    answers_of k _ (data_sum (data_operation name) 1 n j 15 l ty m) (test_mnemonic name) _
+    (two_shifted (test_mnemonic name) wide _ _ _ _ _ _ _ ty (imm5 j l) (grind arith) suffix_wide (a_register n hn) (a_register m hm) ht
     (five_below j l hj hl))
-    (asks_test name n m _ _ may ∙ ap (λ (w : ℕ). Some w) (read_sum (operation name) 1 n 15 m ty j l ht hj hl))
+    (asks_test name n m _ _ may ∙ ap (λ (w : ℕ). Some w) (read_sum (data_operation name) 1 n 15 m ty j l ht hj hl))
     has
 
 -- MOVES
@@ -204,18 +191,18 @@ unfolding code_of
 asks_turn ty s d m x ht lt = grind arith
 
 not_answers : (k : Instr) (s d m ty j l : ℕ) → Fields s 15 d m ty j l → HasWord k (data_sum 3 s 15 j d l ty m)
-    → Answers k (and_shifted (two (move_mnemonic data_.Orn s ++ wide) (r d) (r m)) ty (number_of j l))
+    → Answers k (and_shifted (two (move_mnemonic data_.Orn s ++ wide) (r d) (r m)) ty (imm5 j l))
 not_answers k s d m ty j l is has =
     answers_of k _ (data_sum 3 s 15 j d l ty m) (move_mnemonic data_.Orn s) _
-    (two_shifted (move_mnemonic data_.Orn s) wide _ _ _ _ _ _ _ ty (number_of j l) (let lt = is.flag in grind arith) suffix_wide (a_register d is.result)
+    (two_shifted (move_mnemonic data_.Orn s) wide _ _ _ _ _ _ _ ty (imm5 j l) (let lt = is.flag in grind arith) suffix_wide (a_register d is.result)
     (a_register m is.last)
     is.kind (five_below j l is.high is.low))
     (asks_not s d m _ _ is.flag ∙ ap (λ (w : ℕ). Some w) (read_sum 3 s 15 d m ty j l is.kind is.high is.low))
     has
 
 -- a number that is 0 has no digits
-no_digits : (j l : ℕ) → nat_eq (number_of j l) 0 ≡ true → (j ≡ 0) × (l ≡ 0)
-no_digits j l e = let is = eqb-true (number_of j l) 0 e in (omega (arith, is), omega (arith, is))
+no_digits : (j l : ℕ) → nat_eq (imm5 j l) 0 ≡ true → (j ≡ 0) × (l ≡ 0)
+no_digits j l e = let is = eqb-true (imm5 j l) 0 e in (omega (arith, is), omega (arith, is))
 
 carry_answers : (k : Instr) (s d m ty j l : ℕ) → Fields s 15 d m ty j l → ty ≡ 3 → j ≡ 0 → l ≡ 0 → HasWord k (data_sum 2 s 15 j d l ty m)
     → Answers k (two (carry_mnemonic s) (r d) (r m))
@@ -233,41 +220,46 @@ plain_answers k s d m ty j l is ht hj hl has =
     (rw (ht, hj, hl) (asks_move s d m is.flag ∙ ap (λ (w : ℕ). Some w) (shifted_sum 2 s 15 d m 0 0 0 0 0 refl refl refl))) has
 
 -- a number that is written is read as it is
-number_kept : (ty k : ℕ) → turns ty k ≡ false → number_read ty k ≡ shift_number ty k
+number_kept : (ty k : ℕ) → is_by_carry ty k ≡ false → number_read ty k ≡ shift_number ty k
 number_kept ty k e = rw e refl
 
-turn_answers : (k : Instr) (s d m ty j l : ℕ) → Fields s 15 d m ty j l → turns ty (number_of j l) ≡ false → HasWord k (data_sum 2 s 15 j d l ty m)
-    → Answers k (and_constant (two (turn_mnemonic ty s ++ wide) (r d) (r m)) (shift_number ty (number_of j l)))
+turn_is : (ty s : ℕ) → ty < 4 → s < 2 → is_mnemonic (turn_mnemonic ty s) ≡ true
+turn_is ty zero lt flag = below_holds (λ j. is_mnemonic (turn_mnemonic j 0)) 4 ty refl lt
+turn_is ty (suc zero) lt flag = below_holds (λ j. is_mnemonic (turn_mnemonic j 1)) 4 ty refl lt
+turn_is ty (suc (suc s)) lt flag = absurd (omega arith)
+
+turn_answers : (k : Instr) (s d m ty j l : ℕ) → Fields s 15 d m ty j l → is_by_carry ty (imm5 j l) ≡ false → HasWord k (data_sum 2 s 15 j d l ty m)
+    → Answers k (and_constant (two (turn_mnemonic ty s ++ wide) (r d) (r m)) (shift_number ty (imm5 j l)))
 turn_answers k s d m ty j l is none has =
     let below = five_below j l is.high is.low in
-    let kept = ap (λ (x : ℕ). x % 32 / 4) (number_kept ty (number_of j l) none) in
-    let low_kept = ap (λ (x : ℕ). x % 4) (number_kept ty (number_of j l) none) in
+    let kept = ap (λ (x : ℕ). x % 32 / 4) (number_kept ty (imm5 j l) none) in
+    let low_kept = ap (λ (x : ℕ). x % 4) (number_kept ty (imm5 j l) none) in
     answers_of k _ (data_sum 2 s 15 j d l ty m) (turn_mnemonic ty s) _
-    (reads_two_constant (turn_mnemonic ty s) wide _ _ _ _ _ _ _ _ (let lt = is.kind in let flag = is.flag in grind arith) suffix_wide (a_register d is.result)
+    (reads_two_constant (turn_mnemonic ty s) wide _ _ _ _ _ _ _ _ (turn_is ty s is.kind is.flag) suffix_wide (a_register d is.result)
     (a_register m is.last)
-    (number_small ty (number_of j l) below))
+    (number_small ty (imm5 j l) below))
     (asks_turn ty s d m _ is.kind is.flag
     ∙ ap (λ (w : ℕ). Some w)
-    (shifted_sum 2 s 15 d m ty (shift_number ty (number_of j l)) ty j l refl
-    (sym kept ∙ high_same ty (number_of j l) is.kind below ∙ five_high j l is.low)
-    (sym low_kept ∙ low_same ty (number_of j l) is.kind below ∙ five_low j l is.low)))
+    (shifted_sum 2 s 15 d m ty (shift_number ty (imm5 j l)) ty j l refl
+    (sym kept ∙ high_same ty (imm5 j l) is.kind below ∙ five_high j l is.low)
+    (sym low_kept ∙ low_same ty (imm5 j l) is.kind below ∙ five_low j l is.low)))
     has
 
 both : (a b : Bool) → (a && b) ≡ true → (a ≡ true) × (b ≡ true)
 both a b e = and_parts a b e
 
 moved_answers : (k : Instr) (s d m ty j l : ℕ) → Fields s 15 d m ty j l → HasWord k (data_sum 2 s 15 j d l ty m)
-    → Answers k (moved_tokens s d m ty (number_of j l))
+    → Answers k (moved_tokens s d m ty (imm5 j l))
 moved_answers k s d m ty j l is has =
-    elim (cases_Bool (turns ty (number_of j l))) [
+    elim (cases_Bool (is_by_carry ty (imm5 j l))) [
       | inl e ↦
-          let p = both (nat_eq ty 3) (nat_eq (number_of j l) 0) e in
+          let p = both (nat_eq ty 3) (nat_eq (imm5 j l) 0) e in
           let zeros = no_digits j l p.1 in
           rw e (carry_answers k s d m ty j l is (eqb-true ty 3 p.0) zeros.0 zeros.1 has)
       | inr e ↦
-          elim (cases_Bool (nat_eq ty 0 && nat_eq (number_of j l) 0)) [
+          elim (cases_Bool (nat_eq ty 0 && nat_eq (imm5 j l) 0)) [
             | inl f ↦
-                let p = both (nat_eq ty 0) (nat_eq (number_of j l) 0) f in
+                let p = both (nat_eq ty 0) (nat_eq (imm5 j l) 0) f in
                 let zeros = no_digits j l p.1 in
                 rw (e, f) (plain_answers k s d m ty j l is (eqb-true ty 0 p.0) zeros.0 zeros.1 has)
             | inr f ↦ rw (e, f) (turn_answers k s d m ty j l is e has)
@@ -275,14 +267,14 @@ moved_answers k s d m ty j l is has =
     ]
 
 single_answers : (k : Instr) (name : DataName) (s d m ty j l : ℕ) → Fields s 15 d m ty j l → is_shifted_row name s 15 d j l ty m ≡ true
-    → HasWord k (data_sum (operation name) s 15 j d l ty m) → Answers k (single_tokens name s d m ty (number_of j l))
+    → HasWord k (data_sum (data_operation name) s 15 j d l ty m) → Answers k (single_tokens name s d m ty (imm5 j l))
 single_answers k data_.Orr s d m ty j l is e has = moved_answers k s d m ty j l is has
 single_answers k data_.Orn s d m ty j l is e has = not_answers k s d m ty j l is has
 single_answers k name s d m ty j l is e has = absurd cc
 
 -- ALL
 row_answers : (k : Instr) (name : DataName) (s n d m ty j l : ℕ) → Fields s n d m ty j l → is_shifted_row name s n d j l ty m ≡ true
-    → HasWord k (data_sum (operation name) s n j d l ty m) → Answers k (data_tokens name s n d m ty (number_of j l))
+    → HasWord k (data_sum (data_operation name) s n j d l ty m) → Answers k (data_tokens name s n d m ty (imm5 j l))
 row_answers k name s n d m ty j l is e has =
     elim (cases_Bool (eqb d 15)) [
       | inl f ↦
@@ -300,7 +292,7 @@ row_answers k name s n d m ty j l is e has =
     ]
 
 pub row_t2 : (i : T2) → Answers (instr.Scalar (scalar.T2 i))
-    (data_tokens i.name i.s.value i.n.value i.d.value i.m.value i.ty.value (4 * i.i3.value + i.i2.value))
+    (data_tokens i.name i.s.value i.n.value i.d.value i.m.value i.ty.value (imm5 i.i3.value i.i2.value))
 row_t2 i =
     row_answers _ i.name i.s.value i.n.value i.d.value i.m.value i.ty.value i.i3.value i.i2.value
     (record {

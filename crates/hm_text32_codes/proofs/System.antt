@@ -39,9 +39,10 @@ use Rattle.hm_tokens.specs.Tokens.{number, word, close_brace, close_bracket, com
 use Rattle.hm_text32_codes.specs.declared.operands.Operands.{Operands}
 use Rattle.hm_text32_codes.specs.Codes.{code_of}
 use Rattle.hm_text32_codes.specs.Operands.{special_number, word_value}
+use Rattle.hm_text_rows.specs.Mnemonics.{element_suffix}
 use Rattle.hm_text_rows.specs.Operands.{is_vector_name}
 use Rattle.hm_text32_rows.specs.Rows.{barrier_tokens, doubles, lane_tokens, special_tokens, system_tokens, table_tokens}
-use Rattle.hm_text32_rows.specs.Mnemonics.{barrier_mnemonic, element_suffix, read_name, stack_mnemonic, wide, written_name}
+use Rattle.hm_text32_rows.specs.Mnemonics.{barrier_mnemonic, read_name, stack_mnemonic, wide, written_name}
 use Rattle.hm_text_rows.specs.Shapes.{constant, r, two}
 use Rattle.hm_text_rows.proofs.Words.{◌▹◌, at_below, below_holds, below_is, cut, is_name, is_mnemonic}
 use Rattle.hm_text_rows.proofs.Printed.{is_printed, is_printed_as, short_close, short_close_brace, short_comma, short_hash, short_minus, short_number}

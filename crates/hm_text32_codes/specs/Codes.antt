@@ -12,15 +12,17 @@ use Rattle.hm_isa.specs.declared.jumps.T23.TheVariants as t23
 use Rattle.hm_isa.specs.declared.system.LaneMoveName.{LaneMoveName}
 use Rattle.hm_isa.specs.declared.system.LaneMoveName.TheVariants as lane
 use Rattle.hm_isa.specs.declared.system.ReadName.TheVariants as read
+use Rattle.hm_isa.specs.declared.system.SystemMoveName.{SystemMoveName}
+use Rattle.hm_isa.specs.declared.system.SystemMoveName.TheVariants as move
 use Rattle.hm_isa.specs.declared.system.T19.TheVariants as t19
 use Rattle.hm_isa.specs.declared.system.WrittenName.TheVariants as written
 use Rattle.hm_isa.specs.ArithCodes.{accumulate_base, bits_base, long_product_base, operation_base, select_base, wide_extend_base, wide_shift_base}
 use Rattle.hm_isa.specs.Code.{pair_base, stack_base, wide_access_base, wide_list_base}
-use Rattle.hm_isa.specs.DataCodes.{extract_base, half_base, operation, saturate_base, wide_sum_base}
+use Rattle.hm_isa.specs.DataCodes.{extract_base, half_base, data_operation, saturate_base, wide_sum_base}
 use Rattle.hm_isa.specs.Distances.{alike}
 use Rattle.hm_isa.specs.JumpCodes.{code_t23, loop_end_base, table_base, wide_branch_base}
 use Rattle.hm_isa.specs.Standing.{◌↑◌}
-use Rattle.hm_isa.specs.SystemCodes.{barrier_base, code_t19, lane_move_base, read_base, written_base}
+use Rattle.hm_isa.specs.SystemCodes.{barrier_base, code_t19, lane_move_base, read_base, system_move_base, written_base}
 use Rattle.hm_text_base.specs.Spans.{span}
 use Rattle.hm_tokens.specs.Tokens.{Tok, word, number, mark, point}
 use Rattle.hm_text_rows.specs.Labels.{distance}
@@ -51,7 +53,7 @@ where_ b code None = None
 
 -- T2: the code of AND to RSB, their registers and shift 0, with s where the flags tell the result (DDI0553, "Data-processing (shifted register)")
 abbrev pub data_base : DataName → ℕ → ℕ
-data_base name s = 0xea000000 + operation name ↑ 21 + s ↑ 20
+data_base name s = 0xea000000 + data_operation name ↑ 21 + s ↑ 20
 
 -- T2: the base code of AND to RSB, by the mnemonic (DDI0553, "Data-processing (shifted register)")
 abbrev pub data_base_in : List ℕ → Option ℕ
@@ -218,13 +220,18 @@ code_table s o = option_map (λ name. of_three (table_base name) o.first 0 0 o.s
 abbrev pub code_barrier : List ℕ → Operands → Option ℕ
 code_barrier s o = option_map (λ name. barrier_base name + (if o.is_bare then 15 else o.first)) (named barrier_mnemonic barrier_names s)
 
--- T18 and T21: the code of MRS and MSR, made of that of APSR, whose number is 0, and of VMRS and VMSR (DDI0553, "MRS", "MSR (register)", "VMRS" and "VMSR")
+-- T21: the code of a name of FPSCR without the register's number, which is 1 (DDI0553, "VMRS" and "VMSR")
+abbrev pub without_number : SystemMoveName → ℕ
+without_number name = system_move_base name - 1 ↑ 16
+
+-- T18 and T21: the code of MRS and MSR, made of that of APSR, whose number is 0, and of VMRS and VMSR, made of that of FPSCR
+-- (DDI0553, "MRS", "MSR (register)", "VMRS" and "VMSR")
 abbrev pub code_special : List ℕ → Operands → Option ℕ
 code_special s o =
     if bytes_eq s (codes "mrs") then Some (of_three (read_base read.Apsr) 0 0 o.first o.second)
     else if bytes_eq s (codes "msr") then Some (of_three (written_base written.Apsr) o.second 0 0 o.first)
-    else if bytes_eq s (codes "vmrs") then Some (of_three 0xeef00a10 o.second o.first 0 0)
-    else if bytes_eq s (codes "vmsr") then Some (of_three 0xeee00a10 o.first o.second 0 0)
+    else if bytes_eq s (codes "vmrs") then Some (of_three (without_number move.ReadFpscr) o.second o.first 0 0)
+    else if bytes_eq s (codes "vmsr") then Some (of_three (without_number move.WriteFpscr) o.first o.second 0 0)
     else None
 
 -- T22: register q, lane x, register t (DDI0553, "VMOV (general-purpose register to vector lane)" and "VMOV (vector lane to general-purpose register)")

@@ -20,8 +20,8 @@ use crate::names::{
 };
 use crate::operands::{Operands, read_operands};
 use hm_enc32_control::{
-    base_of_barrier, base_of_lane_move, base_of_read, base_of_table, base_of_written, encode_t19,
-    encode_t23,
+    base_of_barrier, base_of_lane_move, base_of_read, base_of_system_move, base_of_table,
+    base_of_written, encode_t19, encode_t23,
 };
 use hm_enc32_data::{
     base_of_accumulate, base_of_bits, base_of_extract, base_of_half, base_of_long_product,
@@ -29,7 +29,9 @@ use hm_enc32_data::{
     base_of_wide_sum, data_operation,
 };
 use hm_enc32_memory::base_of_stack;
-use hm_isa::{DataName, LaneMoveName, ReadName, SaturateName, T19, T23, WrittenName};
+use hm_isa::{
+    DataName, LaneMoveName, ReadName, SaturateName, SystemMoveName, T19, T23, WrittenName,
+};
 use hm_text_base::span;
 use hm_text_rows::{extend_name, is};
 use hm_tokens::Token;
@@ -381,7 +383,7 @@ fn code_barrier(mnemonic: &[u8], o: &Operands) -> Option<u64>
     }
 }
 
-/// Rows T18 and T21.
+/// Rows T18 and T21: MRS and MSR by the code of APSR, whose number is 0, VMRS and VMSR by that of FPSCR, whose number is 1.
 fn code_special(mnemonic: &[u8], o: &Operands) -> Option<u64>
     ensures { result ≡ code_special mnemonic.now o.now }
 {
@@ -394,10 +396,12 @@ fn code_special(mnemonic: &[u8], o: &Operands) -> Option<u64>
         return Some(of_three(base, o.second, 0, 0, o.first));
     }
     if is(mnemonic, "vmrs") {
-        return Some(of_three(0xeef0_0a10, o.second, o.first, 0, 0));
+        let base = u64::from(base_of_system_move(SystemMoveName::ReadFpscr)) - (1 << 16);
+        return Some(of_three(base, o.second, o.first, 0, 0));
     }
     if is(mnemonic, "vmsr") {
-        return Some(of_three(0xeee0_0a10, o.first, o.second, 0, 0));
+        let base = u64::from(base_of_system_move(SystemMoveName::WriteFpscr)) - (1 << 16);
+        return Some(of_three(base, o.first, o.second, 0, 0));
     }
     None
 }

@@ -1,5 +1,5 @@
 -- The mnemonics of rows of two halfwords, but for those whose names rows of one share, and the names that stand for operands.
-use Rattle.std.specs.Prelude.{ℕ, List, [], ◌∷◌, get_or, codes}
+use Rattle.std.specs.Prelude.{ℕ, ◌*◌, List, [], ◌∷◌, ◌++◌, get_or, codes}
 use Rattle.hm_isa.specs.declared.narrow.SumName.{SumName}
 use Rattle.hm_isa.specs.declared.narrow.SumName.TheVariants as sum_
 use Rattle.hm_isa.specs.declared.arith.AccumulateName.{AccumulateName}
@@ -44,10 +44,6 @@ use Rattle.hm_text_rows.specs.Shapes.{either}
 abbrev pub wide : List ℕ
 wide = codes ".w"
 
--- 8, 16, 32 or 64 bits
-abbrev pub element_suffix : ℕ → List ℕ
-element_suffix z = get_or (codes ".8" ∷ codes ".16" ∷ codes ".32" ∷ codes ".64" ∷ []) z []
-
 -- MNEMONICS
 -- T1 and T2: the mnemonic of AND, BIC, ORR, ORN, EOR, ADD, ADC, SBC, SUB and RSB, with s where the flags tell the result
 -- (DDI0553, "Data-processing (modified immediate)" and "Data-processing (shifted register)")
@@ -85,7 +81,7 @@ shift_mnemonic ty = get_or (codes "lsl" ∷ codes "lsr" ∷ codes "asr" ∷ code
 
 -- T2: the mnemonic of LSL, LSR, ASR and ROR with a constant, with s where the flags tell the result (DDI0553, "Data-processing (shifted register)")
 abbrev pub turn_mnemonic : ℕ → ℕ → List ℕ
-turn_mnemonic ty s = either s (shift_mnemonic ty) (get_or (codes "lsls" ∷ codes "lsrs" ∷ codes "asrs" ∷ codes "rors" ∷ []) ty [])
+turn_mnemonic ty s = shift_mnemonic ty ++ either s [] (codes "s")
 
 -- T2: RRX, or RRXS where the flags tell the result (DDI0553, "Data-processing (shifted register)")
 abbrev pub carry_mnemonic : ℕ → List ℕ
@@ -114,10 +110,10 @@ extract_mnemonic extract.Ubfx = codes "ubfx"
 -- T8: the mnemonic of each name, LSL, LSR, ASR and ROR, with s where the flags tell the result
 -- (DDI0553, "LSL (register)", "LSR (register)", "ASR (register)" and "ROR (register)")
 abbrev pub wide_shift_mnemonic : WideShiftName → ℕ → List ℕ
-wide_shift_mnemonic wide_shift.Lsl s = either s (codes "lsl") (codes "lsls")
-wide_shift_mnemonic wide_shift.Lsr s = either s (codes "lsr") (codes "lsrs")
-wide_shift_mnemonic wide_shift.Asr s = either s (codes "asr") (codes "asrs")
-wide_shift_mnemonic wide_shift.Ror s = either s (codes "ror") (codes "rors")
+wide_shift_mnemonic wide_shift.Lsl s = turn_mnemonic 0 s
+wide_shift_mnemonic wide_shift.Lsr s = turn_mnemonic 1 s
+wide_shift_mnemonic wide_shift.Asr s = turn_mnemonic 2 s
+wide_shift_mnemonic wide_shift.Ror s = turn_mnemonic 3 s
 
 -- T10: the mnemonic of each name, REV, REV16, RBIT, REVSH and CLZ (DDI0553, "REV", "REV16", "RBIT", "REVSH" and "CLZ")
 abbrev pub bits_mnemonic : BitsName → List ℕ
@@ -205,9 +201,9 @@ abbrev pub wide_branch_suffix : WideBranchName → List ℕ
 wide_branch_suffix wide_branch.B = wide
 wide_branch_suffix wide_branch.Bl = []
 
--- T5: how SSAT and USAT shift, LSL or ASR (DDI0553, "SSAT" and "USAT")
+-- T5: how SSAT and USAT shift, LSL or ASR, whose numbers are 0 and 2 (DDI0553, "SSAT" and "USAT")
 abbrev pub saturate_shift : ℕ → List ℕ
-saturate_shift sh = either sh (codes "lsl") (codes "asr")
+saturate_shift sh = shift_mnemonic (2 * sh)
 
 -- SPECIAL REGISTERS
 -- T18: the name of each special register that MRS reads (DDI0553, "MRS")

@@ -34,15 +34,15 @@ use Rattle.hm_isa.specs.declared.system.LaneMoveName.{LaneMoveName}
 use Rattle.hm_isa.specs.declared.system.LaneMoveName.TheVariants as lane
 use Rattle.hm_tokens.specs.Names.{condition_name, double_name, register_name}
 use Rattle.hm_tokens.specs.Tokens.{Tok, word, number, close_brace, close_bracket, comma, minus_mark, open_brace, open_bracket}
-use Rattle.hm_text_rows.specs.Shapes.{and_constant, and_operand, and_shift, back, braces, constant, four, indexed, inside, one, or_zero, q, r, scaled, three}
-use Rattle.hm_text_rows.specs.Shapes.{two}
-use Rattle.hm_isa.specs.Words.{expand_imm_c, imm12}
-use Rattle.hm_text_rows.specs.Mnemonics.{access_mnemonic, branch_mnemonic, extend_mnemonic}
+use Rattle.hm_text_rows.specs.Shapes.{and_constant, and_operand, and_shift, and_turn, back, braces, constant, four, indexed, inside, one, or_zero, q, r}
+use Rattle.hm_text_rows.specs.Shapes.{scaled, three, two}
+use Rattle.hm_isa.specs.Words.{expand_imm_c, imm12, imm16, imm5, is_by_carry, shift_number}
+use Rattle.hm_text_rows.specs.Mnemonics.{access_mnemonic, branch_mnemonic, element_suffix, extend_mnemonic}
 use Rattle.hm_text32_rows.specs.Mnemonics.{accumulate_mnemonic, barrier_mnemonic, bits_mnemonic, bits_suffix, carry_mnemonic, data_mnemonic}
-use Rattle.hm_text32_rows.specs.Mnemonics.{element_suffix, table_mnemonic}
 use Rattle.hm_text32_rows.specs.Mnemonics.{extract_mnemonic, half_mnemonic, long_mnemonic, move_mnemonic, operation_mnemonic, pair_mnemonic}
 use Rattle.hm_text32_rows.specs.Mnemonics.{read_name, saturate_shift}
-use Rattle.hm_text32_rows.specs.Mnemonics.{saturate_mnemonic, select_mnemonic, shift_mnemonic, stack_mnemonic, test_mnemonic, turn_mnemonic, wide}
+use Rattle.hm_text32_rows.specs.Mnemonics.{saturate_mnemonic, select_mnemonic, shift_mnemonic, stack_mnemonic, table_mnemonic, test_mnemonic}
+use Rattle.hm_text32_rows.specs.Mnemonics.{turn_mnemonic, wide}
 use Rattle.hm_text32_rows.specs.Mnemonics.{wide_branch_mnemonic, wide_branch_suffix, wide_list_mnemonic}
 use Rattle.hm_text32_rows.specs.Mnemonics.{wide_list_suffix, wide_shift_mnemonic, wide_sum_mnemonic, written_name}
 
@@ -58,14 +58,6 @@ constant_tokens name s n d c =
     if nat_eq d 15 then and_constant (one (test_mnemonic name ++ wide) (r n)) c
     else if nat_eq n 15 then and_constant (one (move_mnemonic name s ++ wide) (r d)) c
     else and_constant (two (data_mnemonic name s ++ wide) (r d) (r n)) c
-
--- T2: the number of a shift as it is written: 0 stands for 32 in shifts to the right (DDI0553, "Data-processing (shifted register)")
-abbrev pub shift_number : ℕ → ℕ → ℕ
-shift_number ty k = if nat_eq k 0 then (if nat_eq ty 0 then 0 else 32) else k
-
--- T2: whether a register is shifted through the carry: ROR by 0 is RRX (DDI0553, "Data-processing (shifted register)")
-abbrev pub is_by_carry : ℕ → ℕ → Bool
-is_by_carry ty k = nat_eq ty 3 && nat_eq k 0
 
 -- T2: whether a register is not shifted: LSL by 0 (DDI0553, "Data-processing (shifted register)")
 abbrev pub is_unshifted : ℕ → ℕ → Bool
@@ -101,22 +93,18 @@ abbrev pub saturated_bits : SaturateName → ℕ → ℕ
 saturated_bits saturate.Ssat s = s + 1
 saturated_bits saturate.Usat s = s
 
--- T5: and a shift, which is written by 0 too (DDI0553, "SSAT" and "USAT")
-abbrev pub and_turn : List Tok → List ℕ → ℕ → List Tok
-and_turn front kind n = front ++ comma ∷ word kind ∷ constant n
-
--- T5: the tokens of SSAT and USAT (DDI0553, "SSAT" and "USAT")
+-- T5: the tokens of SSAT and USAT, whose shift is written by 0 too (DDI0553, "SSAT" and "USAT")
 abbrev pub saturate_tokens : SaturateRow → List Tok
 saturate_tokens i =
     and_turn (and_operand (and_constant (one (saturate_mnemonic i.name) (r i.d.value)) (saturated_bits i.name i.s.value)) (r i.n.value))
-    (saturate_shift i.sh.value) (4 * i.i3.value + i.i2.value)
+    (saturate_shift i.sh.value) (imm5 i.i3.value i.i2.value)
 
 -- T7: the tokens of BFI, `rd,rn,#lsb,#width`, and of BFC, `rd,#lsb,#width`, which puts zeros in (DDI0553, "BFI" and "BFC")
 abbrev pub insert_tokens : InsertRow → List Tok
 insert_tokens i =
     and_constant
-    (and_constant (cond (nat_eq i.n.value 15) (one (codes "bfc") (r i.d.value)) (two (codes "bfi") (r i.d.value) (r i.n.value))) (4 * i.i3.value + i.i2.value))
-    (i.e.value + 1 - (4 * i.i3.value + i.i2.value))
+    (and_constant (cond (nat_eq i.n.value 15) (one (codes "bfc") (r i.d.value)) (two (codes "bfi") (r i.d.value) (r i.n.value))) (imm5 i.i3.value i.i2.value))
+    (i.e.value + 1 - (imm5 i.i3.value i.i2.value))
 
 -- T11: the tokens of MUL, SDIV and UDIV, of MLA and MLS, and of SMULL, UMULL, SMLAL and UMLAL (DDI0553, the section of each, as "MUL")
 abbrev pub product_tokens : ProductRow → List Tok
@@ -178,11 +166,11 @@ lane_tokens lane.FromLane d x t = word (codes "vmov" ++ codes ".32") ∷ r t ∷
 -- those of rows of two halfwords
 abbrev pub scalar_tokens : Scalar → List Tok
 scalar_tokens (T1 i) = constant_tokens i.name i.s.value i.n.value i.d.value (constant_in i.i.value i.i3.value i.i8.value)
-scalar_tokens (T2 i) = data_tokens i.name i.s.value i.n.value i.d.value i.m.value i.ty.value (4 * i.i3.value + i.i2.value)
-scalar_tokens (T3 i) = and_constant (two (wide_sum_mnemonic i.name) (r i.d.value) (r i.n.value)) (2048 * i.i.value + 256 * i.i3.value + i.i8.value)
-scalar_tokens (T4 i) = and_constant (one (half_mnemonic i.name) (r i.d.value)) (4096 * i.i4.value + 2048 * i.i.value + 256 * i.i3.value + i.i8.value)
+scalar_tokens (T2 i) = data_tokens i.name i.s.value i.n.value i.d.value i.m.value i.ty.value (imm5 i.i3.value i.i2.value)
+scalar_tokens (T3 i) = and_constant (two (wide_sum_mnemonic i.name) (r i.d.value) (r i.n.value)) (imm12 i.i.value i.i3.value i.i8.value)
+scalar_tokens (T4 i) = and_constant (one (half_mnemonic i.name) (r i.d.value)) (imm16 i.i4.value i.i.value i.i3.value i.i8.value)
 scalar_tokens (T5 i) = saturate_tokens i
-scalar_tokens (T6 i) = and_constant (and_constant (two (extract_mnemonic i.name) (r i.d.value) (r i.n.value)) (4 * i.i3.value + i.i2.value)) (i.w.value + 1)
+scalar_tokens (T6 i) = and_constant (and_constant (two (extract_mnemonic i.name) (r i.d.value) (r i.n.value)) (imm5 i.i3.value i.i2.value)) (i.w.value + 1)
 scalar_tokens (T7 i) = insert_tokens i
 scalar_tokens (T8 i) = three (wide_shift_mnemonic i.name i.s.value ++ wide) (r i.d.value) (r i.n.value) (r i.m.value)
 scalar_tokens (T9 i) = and_shift (two (extend_mnemonic i.name ++ wide) (r i.d.value) (r i.m.value)) (codes "ror") (8 * i.r.value)
@@ -203,8 +191,7 @@ scalar_tokens i = []
 -- T17: the tokens of TBB and TBH, `tbb [rn,rm]`, `tbh [rn,rm,lsl #1]` (DDI0553, "TBB, TBH")
 abbrev pub table_tokens : TableName → ℕ → ℕ → List Tok
 table_tokens table.Tbb n m = word (table_mnemonic table.Tbb) ∷ open_bracket ∷ r n ∷ comma ∷ r m ∷ close_bracket ∷ []
-table_tokens table.Tbh n m =
-    word (table_mnemonic table.Tbh) ∷ open_bracket ∷ r n ∷ comma ∷ r m ∷ comma ∷ word (codes "lsl") ∷ (constant 1 ++ close_bracket ∷ [])
+table_tokens table.Tbh n m = word (table_mnemonic table.Tbh) ∷ scaled n m 1
 
 -- LABELS: what stands before them
 -- T16: the tokens of B and BL before the label, `beq.w label` and so on, `b.w label`, `bl label` (DDI0553, "B", encodings T3 and T4, and "BL")

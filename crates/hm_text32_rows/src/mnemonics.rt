@@ -3,7 +3,7 @@
 ghost use Rattle.std.specs.Prelude.{◌≡◌};
 ghost use Rattle.hm_text32_rows.specs.Mnemonics.{accumulate_mnemonic, barrier_mnemonic, bits_mnemonic, bits_suffix, carry_mnemonic};
 ghost use Rattle.hm_text32_rows.specs.Mnemonics.{data_mnemonic};
-ghost use Rattle.hm_text32_rows.specs.Mnemonics.{element_suffix, extract_mnemonic, half_mnemonic, long_mnemonic, move_mnemonic};
+ghost use Rattle.hm_text32_rows.specs.Mnemonics.{extract_mnemonic, half_mnemonic, long_mnemonic, move_mnemonic};
 ghost use Rattle.hm_text32_rows.specs.Mnemonics.{operation_mnemonic};
 ghost use Rattle.hm_text32_rows.specs.Mnemonics.{pair_mnemonic, read_name};
 ghost use Rattle.hm_text32_rows.specs.Mnemonics.{saturate_shift, saturate_mnemonic, select_mnemonic, shift_mnemonic, stack_mnemonic, test_mnemonic};
@@ -159,15 +159,11 @@ pub fn written_name(name: WrittenName) -> &'static str
 pub fn wide_shift_mnemonic(name: WideShiftName, s: Bit) -> &'static str
     ensures { result.now ≡ wide_shift_mnemonic name s.value }
 {
-    match (name, s.get() == 0) {
-        (WideShiftName::Lsl, true) => "lsl",
-        (WideShiftName::Lsl, false) => "lsls",
-        (WideShiftName::Lsr, true) => "lsr",
-        (WideShiftName::Lsr, false) => "lsrs",
-        (WideShiftName::Asr, true) => "asr",
-        (WideShiftName::Asr, false) => "asrs",
-        (WideShiftName::Ror, true) => "ror",
-        (WideShiftName::Ror, false) => "rors",
+    match name {
+        WideShiftName::Lsl => turn_mnemonic(Below::new(0), s),
+        WideShiftName::Lsr => turn_mnemonic(Below::new(1), s),
+        WideShiftName::Asr => turn_mnemonic(Below::new(2), s),
+        WideShiftName::Ror => turn_mnemonic(Below::new(3), s),
     }
 }
 
@@ -181,23 +177,11 @@ pub fn bits_suffix(name: BitsName) -> &'static str
     }
 }
 
-/// The suffix of an element size.
-pub fn element_suffix(z: Below<4>) -> &'static str
-    ensures { result.now ≡ element_suffix z.value }
-{
-    match z.get() {
-        0 => ".8",
-        1 => ".16",
-        2 => ".32",
-        _ => ".64",
-    }
-}
-
-/// How a row T5 shifts.
+/// How a row T5 shifts: by `lsl`, or by `asr` where sh is 1.
 pub fn saturate_shift(sh: Bit) -> &'static str
     ensures { result.now ≡ saturate_shift sh.value }
 {
-    if sh.get() == 0 { "lsl" } else { "asr" }
+    shift_mnemonic(Below::new(2 * sh.get()))
 }
 
 /// The mnemonic of a row T15.

@@ -5,9 +5,9 @@ ghost use Rattle.hm_layout.specs.Wide.{IsWide};
 ghost use Rattle.hm_isa.specs.Code.{branch_halves, scalar_halves};
 ghost use Rattle.hm_isa.specs.declared.Scalar.TheVariants as scalar;
 ghost use Rattle.hm_isa.specs.declared.Branch.TheVariants as branch;
-ghost use Rattle.hm_text32_rows.specs.Rows.{and_shifted, and_turn, branch_tokens, flags_or, is_by_carry, is_unshifted, lane_tokens, loop_end_tokens};
+ghost use Rattle.hm_text32_rows.specs.Rows.{and_shifted, branch_tokens, flags_or, is_unshifted, lane_tokens, loop_end_tokens};
 ghost use Rattle.hm_text32_rows.specs.Rows.{moved_tokens};
-ghost use Rattle.hm_text32_rows.specs.Rows.{constant_in, row_tokens, saturated_bits, scalar_tokens, shift_number, single_tokens, system_tokens};
+ghost use Rattle.hm_text32_rows.specs.Rows.{constant_in, row_tokens, saturated_bits, scalar_tokens, single_tokens, system_tokens};
 ghost use Rattle.hm_text_rows.specs.Shapes.{r};
 ghost use Rattle.hm_tokens.specs.Texts.{part_token, text_tokens};
 ghost use Rattle.hm_tokens.specs.Tokens.{number, word, close_bracket, comma, open_bracket};
@@ -15,20 +15,20 @@ ghost use Rattle.hm_tokens.specs.Tokens.{number, word, close_bracket, comma, ope
 use crate::memory::{text_t12, text_t13, text_t14};
 use crate::mnemonics::{
     accumulate_mnemonic, barrier_mnemonic, bits_mnemonic, bits_suffix, carry_mnemonic,
-    data_mnemonic, element_suffix, extract_mnemonic, half_mnemonic, long_mnemonic, move_mnemonic,
+    data_mnemonic, extract_mnemonic, half_mnemonic, long_mnemonic, move_mnemonic,
     operation_mnemonic, read_name, saturate_mnemonic, saturate_shift, select_mnemonic,
     shift_mnemonic, stack_mnemonic, test_mnemonic, turn_mnemonic, wide_branch_mnemonic,
     wide_branch_suffix, wide_shift_mnemonic, wide_sum_mnemonic, written_name,
 };
-use hm_isa::words::{expand_imm_c, imm12};
+use hm_isa::words::{expand_imm_c, imm5, imm12, imm16, is_by_carry, shift_number};
 use hm_isa::{
     Below, Bit, Branch, Byte, DataName, Instr, LaneMoveName, LoopEndName, QRegister, Register,
     SaturateName, Scalar, SystemMoveName, T1, T2, T3, T4, T5, T6, T7, T8, T9, T10, T11, T15, T16,
     T17, T18, T19, T20, T21, T22, T23, TableName,
 };
 use hm_text_rows::{
-    alone, and, and_constant, and_shift, extend_mnemonic, first, four, marked, one, or_zero, q, r,
-    three, two,
+    alone, and, and_constant, and_shift, and_turn, element_suffix, extend_mnemonic, first, four,
+    marked, one, or_zero, q, r, three, two,
 };
 use hm_tokens::{InstrText, Mark, Part, condition_name, double_name};
 
@@ -37,23 +37,6 @@ fn constant_in(i: Bit, i3: Below<8>, i8: Byte) -> u32
     ensures { result ≡ constant_in i.value i3.value i8.value }
 {
     expand_imm_c(imm12(i, i3, i8), false).result
-}
-
-/// The number that a shift is written with: 0 stands for 32 in shifts to the right.
-fn shift_number(ty: Below<4>, k: u32) -> u32
-    ensures { result ≡ shift_number ty.value k }
-{
-    if k != 0 {
-        return k;
-    }
-    if ty.get() == 0 { 0 } else { 32 }
-}
-
-/// Whether a shift goes through the carry: ror by 0.
-fn is_by_carry(ty: Below<4>, k: u32) -> bool
-    ensures { result ≡ is_by_carry ty.value k }
-{
-    ty.get() == 3 && k == 0
 }
 
 /// Whether there is no shift: lsl by 0.
@@ -130,7 +113,7 @@ fn text_t1(i: &T1) -> InstrText
 fn text_t2(i: &T2) -> InstrText
     ensures { text_tokens result ≡ scalar_tokens (scalar.T2 i.now) }
 {
-    let k = 4 * i.i3.get() + i.i2.get();
+    let k = imm5(i.i3, i.i2);
     if i.d.get() == 15 {
         let text = two(test_mnemonic(i.name), ".w", r(i.n.get()), r(i.m.get()));
         return and_shifted(text, i.ty, k);
@@ -148,14 +131,14 @@ fn text_t3(i: &T3) -> InstrText
     ensures { text_tokens result ≡ scalar_tokens (scalar.T3 i.now) }
 {
     let text = two(wide_sum_mnemonic(i.name), "", r(i.d.get()), r(i.n.get()));
-    and_constant(text, 2048 * i.i.get() + 256 * i.i3.get() + i.i8.get())
+    and_constant(text, imm12(i.i, i.i3, i.i8))
 }
 
 /// The text of a row T4.
 fn text_t4(i: &T4) -> InstrText
     ensures { text_tokens result ≡ scalar_tokens (scalar.T4 i.now) }
 {
-    let x = 4096 * i.i4.get() + 2048 * i.i.get() + 256 * i.i3.get() + i.i8.get();
+    let x = imm16(i.i4, i.i, i.i3, i.i8);
     and_constant(one(half_mnemonic(i.name), "", r(i.d.get())), x)
 }
 
@@ -169,18 +152,6 @@ fn saturated_bits(name: SaturateName, s: Below<32>) -> u32
     }
 }
 
-/// The text with a shift more, behind a comma, by 0 too.
-fn and_turn(mut text: InstrText, kind: &'static str, n: u32) -> InstrText
-    requires { length text.operands.items ≤ 30 }
-    ensures { text_tokens result ≡ and_turn (text_tokens text) kind.now n }
-{
-    text.operands.push(Part::Mark(Mark::Comma));
-    text.operands.push(Part::Word(kind));
-    text.operands.push(Part::Mark(Mark::Hash));
-    text.operands.push(Part::Number(n));
-    text
-}
-
 /// The text of a row T5.
 fn text_t5(i: &T5) -> InstrText
     ensures { text_tokens result ≡ scalar_tokens (scalar.T5 i.now) }
@@ -190,7 +161,7 @@ fn text_t5(i: &T5) -> InstrText
         saturated_bits(i.name, i.s),
     );
     let kind = saturate_shift(i.sh);
-    and_turn(and(text, r(i.n.get())), kind, 4 * i.i3.get() + i.i2.get())
+    and_turn(and(text, r(i.n.get())), kind, imm5(i.i3, i.i2))
 }
 
 /// The text of a row T6.
@@ -198,7 +169,7 @@ fn text_t6(i: &T6) -> InstrText
     ensures { text_tokens result ≡ scalar_tokens (scalar.T6 i.now) }
 {
     let text = two(extract_mnemonic(i.name), "", r(i.d.get()), r(i.n.get()));
-    let text = and_constant(text, 4 * i.i3.get() + i.i2.get());
+    let text = and_constant(text, imm5(i.i3, i.i2));
     and_constant(text, i.w.get() + 1)
 }
 
@@ -206,7 +177,7 @@ fn text_t6(i: &T6) -> InstrText
 fn text_t7(i: &T7) -> InstrText
     ensures { text_tokens result ≡ scalar_tokens (scalar.T7 i.now) }
 {
-    let low = 4 * i.i3.get() + i.i2.get();
+    let low = imm5(i.i3, i.i2);
     let width = i.e.get() + 1 - low;
     if i.n.get() == 15 {
         let text = one("bfc", "", r(i.d.get()));
@@ -409,16 +380,12 @@ fn text_t17(i: &T17) -> InstrText
 {
     match i.name {
         TableName::Tbb => {
-            let mut text = base_and_index("tbb", i.n, i.m);
-            text.operands.push(Part::Mark(Mark::CloseBracket));
-            text
+            let text = base_and_index("tbb", i.n, i.m);
+            marked(text, Mark::CloseBracket)
         }
         TableName::Tbh => {
-            let mut text = and(base_and_index("tbh", i.n, i.m), Part::Word("lsl"));
-            text.operands.push(Part::Mark(Mark::Hash));
-            text.operands.push(Part::Number(1));
-            text.operands.push(Part::Mark(Mark::CloseBracket));
-            text
+            let text = and_turn(base_and_index("tbh", i.n, i.m), "lsl", 1);
+            marked(text, Mark::CloseBracket)
         }
     }
 }
@@ -451,9 +418,9 @@ fn text_t23(i: &T23) -> InstrText
     match i {
         T23::Dls(i) => two("dls", "", r(14), r(i.n.get())),
         T23::Wls(i) => marked(two("wls", "", r(14), r(i.n.get())), Mark::Comma),
-        T23::Dlstp(i) => two("dlstp", element_suffix(i.z), r(14), r(i.n.get())),
+        T23::Dlstp(i) => two("dlstp", element_suffix(i.z.get()), r(14), r(i.n.get())),
         T23::Wlstp(i) => marked(
-            two("wlstp", element_suffix(i.z), r(14), r(i.n.get())),
+            two("wlstp", element_suffix(i.z.get()), r(14), r(i.n.get())),
             Mark::Comma,
         ),
         T23::End(i) => loop_end_text(i.name),

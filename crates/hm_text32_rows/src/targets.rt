@@ -4,7 +4,6 @@ ghost use Rattle.std.specs.Prelude.{◌≡◌, ◌<◌, ◌^◌};
 ghost use Rattle.hm_text32_rows.specs.Rows.{has_label, has_label_branch, has_label_loop};
 ghost use Rattle.hm_text32_rows.specs.Targets.{branch_target, loop_target, target, wide_target};
 
-use hm_isa::distances::{wide_always_distance, wide_conditional_distance};
 use hm_isa::{Branch, Instr, T16, T23};
 use hm_text_rows::behind;
 
@@ -44,8 +43,8 @@ fn wide_target(i: &T16, pc: u32) -> u32
     ensures { result ≡ wide_target i.now pc }
 {
     match i {
-        T16::Conditional(i) => behind(pc, u64::from(wide_conditional_distance(i))),
-        T16::Always(i) => behind(pc, u64::from(wide_always_distance(i))),
+        T16::Conditional(i) => behind(pc, u64::from(i.distance())),
+        T16::Always(i) => behind(pc, u64::from(i.distance())),
     }
 }
 

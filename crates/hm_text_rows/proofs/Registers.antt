@@ -2,13 +2,14 @@
 use Rattle.std.proofs.Common.{◌≡◌, ℕ, zero, suc, ◌+◌, ◌-◌, ◌*◌, ◌<◌, ◌≤◌, Bool, true, false, cond, eqb, List, [], ◌∷◌, ◌++◌, length, refl, sym, ap, ◌∙◌}
 use Rattle.std.proofs.Common.{append_assoc, arith}
 use Rattle.std.specs.Prelude.{nat_le, ◌&&◌}
+use Rattle.std.proofs.Math.Bool.{or-true}
 use Rattle.std.proofs.lemmas.Bool.Decides.{nat_tests}
 use Rattle.std.proofs.lemmas.List.{append-nil, length-append}
 use Rattle.hm_isa.specs.Rules.{listed_in}
 use Rattle.hm_tokens.specs.Lines.{spelled_behind}
 use Rattle.hm_tokens.specs.Names.{register_name}
 use Rattle.hm_tokens.specs.Tokens.{Tok, mark, close_brace, comma, open_brace}
-use Rattle.hm_tokens.proofs.Again.{AreTokens, apart, is_mark_token, or_true}
+use Rattle.hm_tokens.proofs.Again.{AreTokens, apart, is_mark_token}
 use Rattle.hm_tokens.proofs.Ranges.{has_no_ranges}
 use Rattle.hm_text_rows.specs.Shapes.{listed, r, registers_from}
 use Rattle.hm_text_rows.proofs.Words.{below_holds, word_r, word_token}
@@ -55,8 +56,8 @@ listed_tokens m [] is all = (short_close_brace.is, tt)
 listed_tokens m (k ∷ ks) is all = (is.0, (word_token (register_name k) (word_r k all.0), listed_tokens 44 ks (short_comma.is, tt) all.1))
 
 pub listed_apart : (t : Tok) (m : ℕ) (ks : List ℕ) → apart t (listed (mark m) ks ++ close_brace ∷ []) ≡ true
-listed_apart t m [] = rw (or_true (is_mark_token t)) refl
-listed_apart t m (k ∷ ks) = rw (or_true (is_mark_token t), listed_apart (r k) 44 ks) refl
+listed_apart t m [] = rw (or-true (is_mark_token t)) refl
+listed_apart t m (k ∷ ks) = rw (or-true (is_mark_token t), listed_apart (r k) 44 ks) refl
 
 pub listed_ranges : (m : ℕ) (ks : List ℕ) → eqb m 45 ≡ false → has_no_ranges (listed (mark m) ks ++ close_brace ∷ []) ≡ true
 listed_ranges m [] e = refl

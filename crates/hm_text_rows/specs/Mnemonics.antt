@@ -1,5 +1,5 @@
--- The mnemonics that rows of one halfword and of two share: of loads, stores and extensions, and of B under a condition.
-use Rattle.std.specs.Prelude.{ℕ, List, ◌++◌, codes}
+-- The mnemonics that rows of one halfword and of two share: of loads, stores and extensions, and of B under a condition; the sizes of elements.
+use Rattle.std.specs.Prelude.{ℕ, List, [], ◌∷◌, ◌++◌, get_or, codes}
 use Rattle.hm_isa.specs.declared.narrow.AccessName.{AccessName}
 use Rattle.hm_isa.specs.declared.narrow.AccessName.TheVariants as access
 use Rattle.hm_isa.specs.declared.narrow.ExtendName.{ExtendName}
@@ -28,3 +28,11 @@ access_mnemonic access.Ldrsh = codes "ldrsh"
 -- S25 and T16: B under a condition, `beq` to `ble` (DDI0553, "B")
 abbrev pub branch_mnemonic : ℕ → List ℕ
 branch_mnemonic c = codes "b" ++ condition_name c
+
+-- how many bits an element has, by the number of its size: 8, 16, 32 or 64
+abbrev pub element_bits : ℕ → List ℕ
+element_bits z = get_or (codes "8" ∷ codes "16" ∷ codes "32" ∷ codes "64" ∷ []) z []
+
+-- these behind the point, with no type
+abbrev pub element_suffix : ℕ → List ℕ
+element_suffix z = codes "." ++ element_bits z

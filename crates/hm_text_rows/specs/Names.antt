@@ -25,6 +25,10 @@ with_bits (name ∷ names) = (name, 0) ∷ (name, 1) ∷ with_bits names
 abbrev pub named_with_bit : {A : Type 0} → (A → ℕ → List ℕ) → List A → List ℕ → Option (A × ℕ)
 named_with_bit {A} mnemonic names s = named (λ (p : A × ℕ). mnemonic p.0 p.1) (with_bits names) s
 
+-- S21, V20 and V21: the masks of a block
+abbrev pub block_masks : List ℕ
+block_masks = 1 ∷ 2 ∷ 3 ∷ 4 ∷ 5 ∷ 6 ∷ 7 ∷ 8 ∷ 9 ∷ 10 ∷ 11 ∷ 12 ∷ 13 ∷ 14 ∷ 15 ∷ []
+
 -- NAMES THAT ROWS OF ONE HALFWORD AND OF TWO SHARE
 -- S2, S3, S10 and T3: the sum and the difference
 abbrev pub sum_names : List SumName

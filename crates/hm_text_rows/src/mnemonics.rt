@@ -1,7 +1,7 @@
-//! The mnemonics of names that rows of one halfword and of two share: of loads, stores and extensions.
+//! The mnemonics of names that rows of one halfword and of two share: of loads, stores and extensions; the sizes of elements.
 
-ghost use Rattle.std.specs.Prelude.{◌≡◌};
-ghost use Rattle.hm_text_rows.specs.Mnemonics.{access_mnemonic, extend_mnemonic};
+ghost use Rattle.std.specs.Prelude.{◌≡◌, ◌<◌};
+ghost use Rattle.hm_text_rows.specs.Mnemonics.{access_mnemonic, element_suffix, extend_mnemonic};
 
 use hm_isa::{AccessName, ExtendName};
 
@@ -30,5 +30,18 @@ pub fn access_mnemonic(name: AccessName) -> &'static str
         AccessName::Ldrh => "ldrh",
         AccessName::Ldrb => "ldrb",
         AccessName::Ldrsh => "ldrsh",
+    }
+}
+
+/// The suffix of elements of any kind, by the number of their size: 0, 1, 2 and 3 are 8, 16, 32 and 64 bits.
+pub fn element_suffix(z: u32) -> &'static str
+    requires { z < 4 }
+    ensures { result.now ≡ element_suffix z }
+{
+    match z {
+        0 => ".8",
+        1 => ".16",
+        2 => ".32",
+        _ => ".64",
     }
 }

@@ -1,7 +1,7 @@
 //! The shapes that texts of rows have.
 
 ghost use Rattle.std.specs.Prelude.{◌≡◌, ◌≤◌, ◌<◌, ◌+◌, ◌++◌, ◌∷◌, [], length};
-ghost use Rattle.hm_text_rows.specs.Shapes.{and_constant, and_operand, and_shift, constant, four, one, or_zero, q, r, three, two};
+ghost use Rattle.hm_text_rows.specs.Shapes.{and_constant, and_operand, and_shift, and_turn, four, one, or_zero, q, r, three, two};
 ghost use Rattle.hm_tokens.specs.Texts.{part_token, text_tokens};
 ghost use Rattle.hm_tokens.specs.Tokens.{mark_token, word, comma};
 
@@ -140,17 +140,26 @@ pub fn four(
     and(three(mnemonic, suffix, a, b, c), d)
 }
 
+/// The text with a shift more, behind a comma, by 0 too: a word, as `lsl`, and a constant.
+pub fn and_turn(mut text: InstrText, kind: &'static str, n: u32) -> InstrText
+    requires { length text.operands.items ≤ 30 }
+    ensures tokens { text_tokens result ≡ and_turn (text_tokens text) kind.now n }
+    ensures room { length result.operands.items ≡ length text.operands.items + 4 }
+{
+    text.operands.push(Part::Mark(Mark::Comma));
+    text.operands.push(Part::Word(kind));
+    text.operands.push(Part::Mark(Mark::Hash));
+    text.operands.push(Part::Number(n));
+    text
+}
+
 /// The text with a shift more, behind a comma, where it is not by 0.
-pub fn and_shift(mut text: InstrText, kind: &'static str, n: u32) -> InstrText
+pub fn and_shift(text: InstrText, kind: &'static str, n: u32) -> InstrText
     requires { length text.operands.items ≤ 30 }
     ensures tokens { text_tokens result ≡ and_shift (text_tokens text) kind.now n }
 {
     if n == 0 {
         return text;
     }
-    text.operands.push(Part::Mark(Mark::Comma));
-    text.operands.push(Part::Word(kind));
-    text.operands.push(Part::Mark(Mark::Hash));
-    text.operands.push(Part::Number(n));
-    text
+    and_turn(text, kind, n)
 }

@@ -3,9 +3,10 @@ use Rattle.std.proofs.Common.{◌≡◌, ℕ, zero, suc, ◌<◌, Bool, true, fa
 use Rattle.std.specs.Prelude.{◌==◌}
 use Rattle.std.proofs.lemmas.Bool.{agree_below, agree_below_at}
 use Rattle.hm_textv_codes.specs.Operands.{sign_of}
+use Rattle.hm_text_rows.specs.Mnemonics.{element_suffix}
 use Rattle.hm_text_rows.specs.Operands.{size_of}
 use Rattle.hm_text_rows.proofs.Words.{below_holds, below_is, is_suffix}
-use Rattle.hm_textv_rows.specs.Mnemonics.{by_sign, integer, plain, signed, unsigned}
+use Rattle.hm_textv_rows.specs.Mnemonics.{by_sign, integer, signed, unsigned}
 
 pub record Suffix (suffix : List ℕ) (is_bare : Bool) (u z : ℕ) : Type 0 where
   pub is : is_suffix suffix ≡ true
@@ -40,9 +41,9 @@ pub suffix_unsigned : (z : ℕ) → z < 3 → Suffix (unsigned z) false 1 z
 unfolding sign_of size_of
 suffix_unsigned z lt = of_sizes unsigned 3 1 z lt refl refl refl refl
 
-pub suffix_plain : (z : ℕ) → z < 4 → Suffix (plain z) false 0 z
+pub suffix_element : (z : ℕ) → z < 4 → Suffix (element_suffix z) false 0 z
 unfolding sign_of size_of
-suffix_plain z lt = of_sizes plain 4 0 z lt refl refl refl refl
+suffix_element z lt = of_sizes element_suffix 4 0 z lt refl refl refl refl
 
 pub suffix_by_sign : (u z : ℕ) → u < 2 → z < 3 → Suffix (by_sign u z) false u z
 suffix_by_sign zero z hu hz = suffix_signed z hz

@@ -23,23 +23,21 @@ use Rattle.hm_isa.specs.Letters.{constant_shift_amount, constant_shift_size}
 use Rattle.hm_isa.specs.Rules.{has_size, is_shifted_by}
 use Rattle.hm_isa.specs.Standing.{◌↑◌}
 use Rattle.hm_tokens.specs.Tokens.{Tok}
+use Rattle.hm_text_rows.specs.Mnemonics.{element_suffix}
 use Rattle.hm_textv_codes.specs.Codes.{bits_in, code_of, shift_field}
 use Rattle.hm_textv_rows.specs.Rows.{long_part}
 use Rattle.hm_textv_rows.specs.Mnemonics.{constant_shift_mnemonic, constant_shift_suffix, integer, long_move_mnemonic, long_shift_mnemonic, narrow_mnemonic}
-use Rattle.hm_textv_rows.specs.Mnemonics.{narrow_suffix, one_mnemonic, one_suffix, plain, reverse_mnemonic, signed}
+use Rattle.hm_textv_rows.specs.Mnemonics.{narrow_suffix, one_mnemonic, one_suffix, reverse_mnemonic, signed}
 use Rattle.hm_text_rows.proofs.Words.{below_holds, below_is, is_mnemonic}
-use Rattle.hm_textv.proofs.Endings.{Suffix, no_suffix, suffix_by_sign, suffix_integer, suffix_plain, suffix_signed, suffix_unsigned}
+use Rattle.hm_textv.proofs.Endings.{Suffix, no_suffix, suffix_by_sign, suffix_integer, suffix_element, suffix_signed, suffix_unsigned}
 use Rattle.hm_textv.proofs.Forms.{Answers, Row, a_vector, answers_of, given, reads_two, reads_two_constant, row_of}
 
 -- V11
-mnemonic_constant_shift : (name : ConstantShiftName) → is_mnemonic (constant_shift_mnemonic name) ≡ true
-mnemonic_constant_shift name = grind arith
-
 suffix_shift : (name : ConstantShiftName) (u z : ℕ) → u < 2 → z < 3 → is_shifted_by name u ≡ true → Suffix (constant_shift_suffix name u z) false u z
 suffix_shift by_constant.Qshlu u z hu hz e = subst (λ (x : ℕ). Suffix (signed z) false x z) (sym (eqb-true u 0 e)) (suffix_signed z hz)
 suffix_shift by_constant.Shl u z hu hz e = subst (λ (x : ℕ). Suffix (integer z) false x z) (sym (eqb-true u 0 e)) (suffix_integer z hz)
-suffix_shift by_constant.Sri u z hu hz e = subst (λ (x : ℕ). Suffix (plain z) false x z) (sym (eqb-true u 0 e)) (suffix_plain z (omega arith))
-suffix_shift by_constant.Sli u z hu hz e = subst (λ (x : ℕ). Suffix (plain z) false x z) (sym (eqb-true u 0 e)) (suffix_plain z (omega arith))
+suffix_shift by_constant.Sri u z hu hz e = subst (λ (x : ℕ). Suffix (element_suffix z) false x z) (sym (eqb-true u 0 e)) (suffix_element z (omega arith))
+suffix_shift by_constant.Sli u z hu hz e = subst (λ (x : ℕ). Suffix (element_suffix z) false x z) (sym (eqb-true u 0 e)) (suffix_element z (omega arith))
 suffix_shift name u z hu hz e = suffix_by_sign u z hu hz
 
 less : (m n : ℕ) → ltb m n ≡ true → m < n
@@ -74,7 +72,7 @@ row_v11 i =
     let x = i.x.value in
     let lt = i.x.in_range in
     row_of (vector.V11 i) _ _
-    (reads_two_constant _ _ _ _ _ _ _ _ _ _ _ _ (mnemonic_constant_shift i.name)
+    (reads_two_constant _ _ _ _ _ _ _ _ _ _ _ _ (grind arith)
     (suffix_shift i.name i.u.value (constant_shift_size x) i.u.in_range (size_small x lt) i.signs)
     (a_vector i.d.value i.d.in_range) (a_vector i.m.value i.m.in_range) (shift_small i.name x lt))
     (asks_shift i.name i.u.value (constant_shift_size x) _ _ _ x (is_field i.name x lt i.size))
@@ -156,9 +154,6 @@ row_v12 (v12.Full i) =
     (asks_full i.t.value _ _ _ _ _ i.t.in_range (full_bits i.z.value i.z.in_range))
 
 -- V13
-mnemonic_one : (name : OneName) → is_mnemonic (one_mnemonic name) ≡ true
-mnemonic_one name = grind arith
-
 suffix_one : (name : OneName) (z : ℕ) → z < 3 → Suffix (one_suffix name z) false 0 z
 suffix_one one.Clz z lt = suffix_integer z lt
 suffix_one name z lt = suffix_signed z lt
@@ -174,15 +169,12 @@ asks_not d m = refl
 pub row_v13 : (i : V13) → Row (vector.V13 i)
 row_v13 (v13.Elements i) =
     row_of (vector.V13 (v13.Elements i)) _ _
-    (reads_two _ _ _ _ _ _ _ _ _ _ _ (mnemonic_one i.name) (suffix_one i.name i.z.value i.z.in_range) (a_vector i.d.value i.d.in_range)
+    (reads_two _ _ _ _ _ _ _ _ _ _ _ (grind arith) (suffix_one i.name i.z.value i.z.in_range) (a_vector i.d.value i.d.in_range)
     (a_vector i.m.value i.m.in_range)) (asks_one i.name _ _ _)
 row_v13 (v13.Not i) = row_of (vector.V13 (v13.Not i)) _ _
     (reads_two (codes "vmvn") _ _ _ _ _ _ _ _ _ _ refl no_suffix (a_vector i.d.value i.d.in_range) (a_vector i.m.value i.m.in_range)) (asks_not _ _)
 
 -- V14
-mnemonic_reverse : (name : ReverseName) → is_mnemonic (reverse_mnemonic name) ≡ true
-mnemonic_reverse name = grind arith
-
 asks_reverse : (name : ReverseName) (z d m : ℕ)
     → code_of (reverse_mnemonic name) (given false 0 z false d m 0 0) ≡ Some (reverse_base name + z ↑ 18 + d ↑ 13 + m ↑ 1)
 unfolding code_of
@@ -191,7 +183,7 @@ asks_reverse name z d m = grind arith
 pub row_v14 : (i : V14) → Row (vector.V14 i)
 row_v14 i =
     row_of (vector.V14 i) _ _
-    (reads_two _ _ _ _ _ _ _ _ _ _ _ (mnemonic_reverse i.name) (suffix_plain i.z.value (let lt = i.z.in_range in omega arith)) (a_vector i.d.value i.d.in_range)
+    (reads_two _ _ _ _ _ _ _ _ _ _ _ (grind arith) (suffix_element i.z.value (let lt = i.z.in_range in omega arith)) (a_vector i.d.value i.d.in_range)
     (a_vector i.m.value i.m.in_range)) (asks_reverse i.name _ _ _)
 
 -- V16

@@ -31,7 +31,7 @@ use Rattle.hm_text_rows.proofs.Words.{◌▹◌, at_below, below_holds, below_is
 use Rattle.hm_textv_rows.specs.Rows.{compare_first_word}
 use Rattle.hm_textv_rows.specs.Mnemonics.{block_letters, block_mnemonic, block_word, compare_condition, compare_suffix, compare_word, offsets_mnemonic}
 use Rattle.hm_textv_rows.specs.Mnemonics.{size_number, wrapped_mnemonic}
-use Rattle.hm_textv.proofs.Endings.{Suffix, no_suffix, suffix_integer, suffix_plain, suffix_signed, suffix_unsigned}
+use Rattle.hm_textv.proofs.Endings.{Suffix, no_suffix, suffix_integer, suffix_element, suffix_signed, suffix_unsigned}
 use Rattle.hm_textv.proofs.Forms.{Operand, Reads, Row, a_register, a_vector, given, reads_none, reads_one, reads_three, reads_three_constant, reads_two}
 use Rattle.hm_textv.proofs.Forms.{reads_two_constant, row_of}
 
@@ -65,16 +65,10 @@ asks_dup size d t = grind arith
 pub row_v18 : (i : V18) → Row (vector.V18 i)
 row_v18 i =
     row_of (vector.V18 i) (codes "vdup") _
-    (reads_two (codes "vdup") _ _ _ _ _ _ _ _ _ _ refl (suffix_plain (size_number i.size) (size_below i.size)) (a_vector i.d.value i.d.in_range)
+    (reads_two (codes "vdup") _ _ _ _ _ _ _ _ _ _ refl (suffix_element (size_number i.size) (size_below i.size)) (a_vector i.d.value i.d.in_range)
     (a_register i.t.value i.t.in_range)) (asks_dup i.size _ _)
 
 -- V19
-mnemonic_offsets : (name : OffsetsName) → is_mnemonic (offsets_mnemonic name) ≡ true
-mnemonic_offsets name = grind arith
-
-mnemonic_wrapped : (name : OffsetsName) → is_mnemonic (wrapped_mnemonic name) ≡ true
-mnemonic_wrapped name = grind arith
-
 asks_offsets : (name : OffsetsName) (z n d k s : ℕ) → step_in s ≡ step_code k
     → code_of (offsets_mnemonic name) (given false 1 z false d (2 * n) s 0) ≡ Some (offsets_base name + 0xe + z ↑ 20 + n ↑ 17 + d ↑ 13 + step_code k)
 unfolding code_of
@@ -103,12 +97,12 @@ odd h lt = a_register (2 * h + 1) (omega arith)
 pub row_v19 : (i : V19) → Row (vector.V19 i)
 row_v19 (v19.Free i) =
     row_of (vector.V19 (v19.Free i)) _ _
-    (reads_two_constant _ _ _ _ _ _ _ _ _ _ _ _ (mnemonic_offsets i.name) (suffix_unsigned i.z.value i.z.in_range) (a_vector i.d.value i.d.in_range)
+    (reads_two_constant _ _ _ _ _ _ _ _ _ _ _ _ (grind arith) (suffix_unsigned i.z.value i.z.in_range) (a_vector i.d.value i.d.in_range)
     (even i.n.value i.n.in_range) (step_small i.k.value i.k.in_range))
     (asks_offsets i.name _ _ _ i.k.value _ (step_is i.k.value i.k.in_range))
 row_v19 (v19.Wrapped i) =
     row_of (vector.V19 (v19.Wrapped i)) _ _
-    (reads_three_constant _ _ _ _ _ _ _ _ _ _ _ _ _ _ _ (mnemonic_wrapped i.name) (suffix_unsigned i.z.value i.z.in_range) (a_vector i.d.value i.d.in_range)
+    (reads_three_constant _ _ _ _ _ _ _ _ _ _ _ _ _ _ _ (grind arith) (suffix_unsigned i.z.value i.z.in_range) (a_vector i.d.value i.d.in_range)
     (even i.n.value i.n.in_range) (odd i.r.value i.r.in_range) (step_small i.k.value i.k.in_range))
     (asks_wrapped i.name _ _ _ i.k.value _ _ (step_is i.k.value i.k.in_range))
 
@@ -221,4 +215,4 @@ row_v21 (v21.Select i) = row_of (vector.V21 (v21.Select i)) (codes "vpsel") _
     (a_vector i.m.value i.m.in_range)) (asks_select _ _ _)
 row_v21 (v21.Tail i) =
     row_of (vector.V21 (v21.Tail i)) (codes "vctp") _
-    (reads_one (codes "vctp") _ _ _ _ _ _ _ refl (suffix_plain i.z.value i.z.in_range) (a_register i.n.value i.n.in_range)) (asks_tail _ _)
+    (reads_one (codes "vctp") _ _ _ _ _ _ _ refl (suffix_element i.z.value i.z.in_range) (a_register i.n.value i.n.in_range)) (asks_tail _ _)

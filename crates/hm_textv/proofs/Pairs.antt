@@ -36,22 +36,16 @@ use Rattle.hm_textv.proofs.Endings.{Suffix, no_suffix, suffix_by_sign, suffix_in
 use Rattle.hm_textv.proofs.Forms.{Row, a_register, a_vector, bare_three, given, reads_three, reads_three_constant, row_of}
 
 -- V1
-mnemonic_add : (name : AddName) → is_mnemonic (add_mnemonic name) ≡ true
-mnemonic_add name = grind arith
-
 asks_add : (name : AddName) (z n d m : ℕ) → code_of (add_mnemonic name) (given false 0 z true d n m 0) ≡ Some (add_base name + z ↑ 20 + n ↑ 17 + d ↑ 13 + m ↑ 1)
 unfolding code_of
 asks_add name z n d m = grind arith
 
 pub row_v1 : (i : V1) → Row (vector.V1 i)
 row_v1 i = row_of (vector.V1 i) _ _
-    (reads_three _ _ _ _ _ _ _ _ _ _ _ _ _ _ (mnemonic_add i.name) (suffix_integer i.z.value i.z.in_range) (a_vector i.d.value i.d.in_range)
+    (reads_three _ _ _ _ _ _ _ _ _ _ _ _ _ _ (grind arith) (suffix_integer i.z.value i.z.in_range) (a_vector i.d.value i.d.in_range)
     (a_vector i.n.value i.n.in_range) (a_vector i.m.value i.m.in_range)) (asks_add i.name _ _ _ _)
 
 -- V2
-mnemonic_bitwise : (name : BitwiseName) → is_mnemonic (bitwise_mnemonic name) ≡ true
-mnemonic_bitwise name = grind arith
-
 asks_bitwise : (name : BitwiseName) (n d m : ℕ)
     → code_of (bitwise_mnemonic name) (given true 0 0 true d n m 0) ≡ Some (bitwise_base name + n ↑ 17 + d ↑ 13 + m ↑ 1)
 unfolding code_of
@@ -59,13 +53,10 @@ asks_bitwise name n d m = grind arith
 
 pub row_v2 : (i : V2) → Row (vector.V2 i)
 row_v2 i = row_of (vector.V2 i) _ _
-    (bare_three _ _ _ _ _ (reads_three _ _ _ _ _ _ _ _ _ _ _ _ _ _ (mnemonic_bitwise i.name) no_suffix (a_vector i.d.value i.d.in_range)
+    (bare_three _ _ _ _ _ (reads_three _ _ _ _ _ _ _ _ _ _ _ _ _ _ (grind arith) no_suffix (a_vector i.d.value i.d.in_range)
     (a_vector i.n.value i.n.in_range) (a_vector i.m.value i.m.in_range))) (asks_bitwise i.name _ _ _)
 
 -- V3
-mnemonic_signed : (name : SignedName) → is_mnemonic (signed_mnemonic name) ≡ true
-mnemonic_signed name = grind arith
-
 asks_signed : (name : SignedName) (u z n d m : ℕ)
     → code_of (signed_mnemonic name) (given false u z true d n m 0) ≡ Some (signed_base name + u ↑ 28 + z ↑ 20 + n ↑ 17 + d ↑ 13 + m ↑ 1)
 unfolding code_of
@@ -73,13 +64,10 @@ asks_signed name u z n d m = grind arith
 
 pub row_v3 : (i : V3) → Row (vector.V3 i)
 row_v3 i = row_of (vector.V3 i) _ _
-    (reads_three _ _ _ _ _ _ _ _ _ _ _ _ _ _ (mnemonic_signed i.name) (suffix_by_sign i.u.value i.z.value i.u.in_range i.z.in_range)
+    (reads_three _ _ _ _ _ _ _ _ _ _ _ _ _ _ (grind arith) (suffix_by_sign i.u.value i.z.value i.u.in_range i.z.in_range)
     (a_vector i.d.value i.d.in_range) (a_vector i.n.value i.n.in_range) (a_vector i.m.value i.m.in_range)) (asks_signed i.name _ _ _ _ _)
 
 -- V4
-mnemonic_vector_shift : (name : VectorShiftName) → is_mnemonic (vector_shift_mnemonic name) ≡ true
-mnemonic_vector_shift name = grind arith
-
 asks_vector_shift : (name : VectorShiftName) (u z n d m : ℕ)
     → code_of (vector_shift_mnemonic name) (given false u z true d m n 0) ≡ Some (vector_shift_base name + u ↑ 28 + z ↑ 20 + n ↑ 17 + d ↑ 13 + m ↑ 1)
 unfolding code_of
@@ -87,13 +75,10 @@ asks_vector_shift name u z n d m = grind arith
 
 pub row_v4 : (i : V4) → Row (vector.V4 i)
 row_v4 i = row_of (vector.V4 i) _ _
-    (reads_three _ _ _ _ _ _ _ _ _ _ _ _ _ _ (mnemonic_vector_shift i.name) (suffix_by_sign i.u.value i.z.value i.u.in_range i.z.in_range)
+    (reads_three _ _ _ _ _ _ _ _ _ _ _ _ _ _ (grind arith) (suffix_by_sign i.u.value i.z.value i.u.in_range i.z.in_range)
     (a_vector i.d.value i.d.in_range) (a_vector i.m.value i.m.in_range) (a_vector i.n.value i.n.in_range)) (asks_vector_shift i.name _ _ _ _ _)
 
 -- V5
-mnemonic_doubling : (name : DoublingName) → is_mnemonic (doubling_mnemonic name) ≡ true
-mnemonic_doubling name = grind arith
-
 asks_doubling : (name : DoublingName) (z n d m : ℕ)
     → code_of (doubling_mnemonic name) (given false 0 z true d n m 0) ≡ Some (doubling_base name + z ↑ 20 + n ↑ 17 + d ↑ 13 + m ↑ 1)
 unfolding code_of
@@ -101,7 +86,7 @@ asks_doubling name z n d m = grind arith
 
 pub row_v5 : (i : V5) → Row (vector.V5 i)
 row_v5 i = row_of (vector.V5 i) _ _
-    (reads_three _ _ _ _ _ _ _ _ _ _ _ _ _ _ (mnemonic_doubling i.name) (suffix_signed i.z.value i.z.in_range) (a_vector i.d.value i.d.in_range)
+    (reads_three _ _ _ _ _ _ _ _ _ _ _ _ _ _ (grind arith) (suffix_signed i.z.value i.z.in_range) (a_vector i.d.value i.d.in_range)
     (a_vector i.n.value i.n.in_range) (a_vector i.m.value i.m.in_range)) (asks_doubling i.name _ _ _ _)
 
 -- V6
@@ -120,9 +105,6 @@ row_v6 i = row_of (vector.V6 i) _ _
     (a_vector i.d.value i.d.in_range) (a_vector i.n.value i.n.in_range) (a_vector i.m.value i.m.in_range)) (asks_long i.t.value _ _ _ _ _ i.t.in_range)
 
 -- V7
-mnemonic_high : (name : HighName) → is_mnemonic (high_mnemonic name) ≡ true
-mnemonic_high name = grind arith
-
 asks_high : (name : HighName) (u z n d m : ℕ)
     → code_of (high_mnemonic name) (given false u z true d n m 0) ≡ Some (high_base name + u ↑ 28 + z ↑ 20 + n ↑ 17 + d ↑ 13 + m ↑ 1)
 unfolding code_of
@@ -130,27 +112,21 @@ asks_high name u z n d m = grind arith
 
 pub row_v7 : (i : V7) → Row (vector.V7 i)
 row_v7 i = row_of (vector.V7 i) _ _
-    (reads_three _ _ _ _ _ _ _ _ _ _ _ _ _ _ (mnemonic_high i.name) (suffix_by_sign i.u.value i.z.value i.u.in_range i.z.in_range)
+    (reads_three _ _ _ _ _ _ _ _ _ _ _ _ _ _ (grind arith) (suffix_by_sign i.u.value i.z.value i.u.in_range i.z.in_range)
     (a_vector i.d.value i.d.in_range)
     (a_vector i.n.value i.n.in_range) (a_vector i.m.value i.m.in_range)) (asks_high i.name _ _ _ _ _)
 
 -- V8
-mnemonic_carry : (name : CarryName) → is_mnemonic (carry_mnemonic name) ≡ true
-mnemonic_carry name = grind arith
-
 asks_carry : (name : CarryName) (n d m : ℕ) → code_of (carry_mnemonic name) (given false 0 2 true d n m 0) ≡ Some (carry_base name + n ↑ 17 + d ↑ 13 + m ↑ 1)
 unfolding code_of
 asks_carry name n d m = grind arith
 
 pub row_v8 : (i : V8) → Row (vector.V8 i)
 row_v8 i = row_of (vector.V8 i) _ _
-    (reads_three _ _ _ _ _ _ _ _ _ _ _ _ _ _ (mnemonic_carry i.name) (suffix_integer 2 (omega arith)) (a_vector i.d.value i.d.in_range)
+    (reads_three _ _ _ _ _ _ _ _ _ _ _ _ _ _ (grind arith) (suffix_integer 2 (omega arith)) (a_vector i.d.value i.d.in_range)
     (a_vector i.n.value i.n.in_range) (a_vector i.m.value i.m.in_range)) (asks_carry i.name _ _ _)
 
 -- V9
-mnemonic_complex_sum : (name : ComplexSumName) → is_mnemonic (complex_sum_mnemonic name) ≡ true
-mnemonic_complex_sum name = grind arith
-
 suffix_complex_sum : (name : ComplexSumName) (z : ℕ) → z < 3 → Suffix (complex_sum_suffix name z) false 0 z
 suffix_complex_sum complex_sum.Cadd z lt = suffix_integer z lt
 suffix_complex_sum complex_sum.Hcadd z lt = suffix_signed z lt
@@ -166,14 +142,11 @@ asks_complex_sum name t z n d m lt = grind arith
 
 pub row_v9 : (i : V9) → Row (vector.V9 i)
 row_v9 i = row_of (vector.V9 i) _ _
-    (reads_three_constant _ _ _ _ _ _ _ _ _ _ _ _ _ _ _ (mnemonic_complex_sum i.name) (suffix_complex_sum i.name i.z.value i.z.in_range)
+    (reads_three_constant _ _ _ _ _ _ _ _ _ _ _ _ _ _ _ (grind arith) (suffix_complex_sum i.name i.z.value i.z.in_range)
     (a_vector i.d.value i.d.in_range) (a_vector i.n.value i.n.in_range) (a_vector i.m.value i.m.in_range) (angle_small i.t.value i.t.in_range))
     (asks_complex_sum i.name i.t.value _ _ _ _ i.t.in_range)
 
 -- V10
-mnemonic_scalar : (name : ScalarName) → is_mnemonic (scalar_mnemonic name) ≡ true
-mnemonic_scalar name = grind arith
-
 -- the sign is 0 where the name says nothing of it
 suffix_scalar : (name : ScalarName) (u z : ℕ) → u < 2 → z < 3 → is_signed_by name u ≡ true → Suffix (scalar_suffix name u z) false u z
 suffix_scalar by_scalar.Add u z hu hz e = subst (λ (x : ℕ). Suffix (integer z) false x z) (sym (eqb-true u 0 e)) (suffix_integer z hz)
@@ -190,5 +163,5 @@ asks_scalar name u z n d m = grind arith
 
 pub row_v10 : (i : V10) → Row (vector.V10 i)
 row_v10 i = row_of (vector.V10 i) _ _
-    (reads_three _ _ _ _ _ _ _ _ _ _ _ _ _ _ (mnemonic_scalar i.name) (suffix_scalar i.name i.u.value i.z.value i.u.in_range i.z.in_range i.signs)
+    (reads_three _ _ _ _ _ _ _ _ _ _ _ _ _ _ (grind arith) (suffix_scalar i.name i.u.value i.z.value i.u.in_range i.z.in_range i.signs)
     (a_vector i.d.value i.d.in_range) (a_vector i.n.value i.n.in_range) (a_register i.m.value i.m.in_range)) (asks_scalar i.name _ _ _ _ _)

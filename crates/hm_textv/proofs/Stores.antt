@@ -14,10 +14,11 @@ use Rattle.hm_isa.specs.Standing.{◌↑◌}
 use Rattle.hm_textv_codes.specs.declared.operands.Operands.{Operands}
 use Rattle.hm_textv_codes.specs.Codes.{access_code, code_of, interleaved_code}
 use Rattle.hm_textv_rows.specs.Rows.{interleaved_tokens}
+use Rattle.hm_text_rows.specs.Mnemonics.{element_suffix}
 use Rattle.hm_text_rows.specs.Shapes.{either, r}
 use Rattle.hm_text_rows.proofs.Words.{◌▹◌, at_below, below_holds, is_mnemonic}
-use Rattle.hm_textv_rows.specs.Mnemonics.{access_mnemonic, access_suffix, pair_mnemonic, plain, quad_mnemonic}
-use Rattle.hm_textv.proofs.Endings.{Suffix, suffix_by_sign, suffix_plain}
+use Rattle.hm_textv_rows.specs.Mnemonics.{access_mnemonic, access_suffix, pair_mnemonic, quad_mnemonic}
+use Rattle.hm_textv.proofs.Endings.{Suffix, suffix_by_sign, suffix_element}
 use Rattle.hm_textv.proofs.Forms.{Answers, Row, a_register, a_vector, answers_of, row_of}
 use Rattle.hm_textv.proofs.Addresses.{given_access, reads_at_offsets, reads_indexed, reads_pair, reads_quad}
 
@@ -37,7 +38,7 @@ abbrev sign_in : ℕ → ℕ → ℕ
 sign_in l u = cond (nat_eq l 0) 0 u
 
 suffix_access : (l u z : ℕ) → l < 2 → u < 2 → z < 3 → Suffix (access_suffix l u z) false (sign_in l u) z
-suffix_access zero u z hl hu hz = suffix_plain z (omega arith)
+suffix_access zero u z hl hu hz = suffix_element z (omega arith)
 suffix_access (suc zero) u z hl hu hz = suffix_by_sign u z hu hz
 suffix_access (suc (suc l)) u z hl hu hz = absurd (omega arith)
 
@@ -190,19 +191,19 @@ asks_quad : (l p z w a b c e n : ℕ) → l < 2 → p < 4
 asks_quad l p z w a b c e n hl hp = quad_code l p z w a b c e n hl hp ∙ ap (λ (k : ℕ). Some k) (omega arith)
 
 interleaved_answers : (f l p z d n w : ℕ) → f < 2 → l < 2 → p < 4 → z < 3 → n < 16 → w < 2 → is_interleaved n d p f ≡ true
-    → Answers (interleaved_tokens (either f (pair_mnemonic l p) (quad_mnemonic l p) ++ plain z) f d (r n) w) (interleaved f w l n d z p)
+    → Answers (interleaved_tokens (either f (pair_mnemonic l p) (quad_mnemonic l p) ++ element_suffix z) f d (r n) w) (interleaved f w l n d z p)
 interleaved_answers zero l p z d n w hf hl hp hz hn hw e =
     let parts = and_parts (not (nat_eq n 15)) (nat_lt p 2 && nat_le d 6) e in
     let limits = and_parts (nat_lt p 2) (nat_le d 6) parts.1 in
     let few = less _ _ limits.0 in
     let two_fit : d < 7 = let h = no_more _ _ limits.1 in omega (arith, h) in
     answers_of _ _ (pair_mnemonic l p) _
-    (reads_pair _ _ _ _ _ _ (mnemonic_pair l p hl few) (suffix_plain z (omega arith)) two_fit hn hw) (asks_pair l p z w d (d + 1) n hl few)
+    (reads_pair _ _ _ _ _ _ (mnemonic_pair l p hl few) (suffix_element z (omega arith)) two_fit hn hw) (asks_pair l p z w d (d + 1) n hl few)
 interleaved_answers (suc zero) l p z d n w hf hl hp hz hn hw e =
     let parts = and_parts (not (nat_eq n 15)) (nat_le d 4) e in
     let four_fit : d < 5 = let h = no_more _ _ parts.1 in omega (arith, h) in
     answers_of _ _ (quad_mnemonic l p) _
-    (reads_quad _ _ _ _ _ _ (mnemonic_quad l p hl hp) (suffix_plain z (omega arith)) four_fit hn hw) (asks_quad l p z w d (d + 1) (d + 2) (d + 3) n hl hp)
+    (reads_quad _ _ _ _ _ _ (mnemonic_quad l p hl hp) (suffix_element z (omega arith)) four_fit hn hw) (asks_quad l p z w d (d + 1) (d + 2) (d + 3) n hl hp)
 interleaved_answers (suc (suc f)) l p z d n w hf hl hp hz hn hw e = absurd (omega arith)
 
 pub row_v28 : (i : V28) → Row (vector.V28 i)

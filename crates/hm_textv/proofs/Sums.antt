@@ -108,9 +108,6 @@ other_dot i =
     (asks_other_dot i.size i.a.value _ _ _ _ i.a.in_range)
 
 -- V23
-mnemonic_extreme : (name : ExtremeName) → is_mnemonic (extreme_mnemonic name) ≡ true
-mnemonic_extreme name = grind arith
-
 asks_extreme : (name : ExtremeName) (u z t m : ℕ)
     → code_of (extreme_mnemonic name) (given false u z false t m 0 0) ≡ Some (extreme_base name + u ↑ 28 + z ↑ 18 + t ↑ 12 + m ↑ 1)
 unfolding code_of
@@ -118,6 +115,6 @@ asks_extreme name u z t m = grind arith
 
 pub row_v23 : (i : V23) → Row (vector.V23 i)
 row_v23 i = row_of (vector.V23 i) _ _
-    (reads_two _ _ _ _ _ _ _ _ _ _ _ (mnemonic_extreme i.name) (suffix_by_sign i.u.value i.z.value i.u.in_range i.z.in_range)
+    (reads_two _ _ _ _ _ _ _ _ _ _ _ (grind arith) (suffix_by_sign i.u.value i.z.value i.u.in_range i.z.in_range)
     (a_register i.t.value i.t.in_range)
     (a_vector i.m.value i.m.in_range)) (asks_extreme i.name _ _ _ _)

@@ -30,7 +30,7 @@ use Rattle.hm_isa.specs.declared.vectors.OffsetsName.{OffsetsName}
 use Rattle.hm_isa.specs.declared.vectors.OffsetsName.TheVariants as offsets
 use Rattle.hm_isa.specs.declared.vectors.ExtremeName.{ExtremeName}
 use Rattle.hm_isa.specs.declared.vectors.ExtremeName.TheVariants as extreme
-use Rattle.hm_text_rows.specs.Names.{bit_values, named, named_with_bit}
+use Rattle.hm_text_rows.specs.Names.{bit_values, block_masks, named, named_with_bit}
 use Rattle.hm_text_rows.specs.Shapes.{either}
 use Rattle.hm_textv_rows.specs.Mnemonics.{access_mnemonic, constant_merge_mnemonic, constant_move_mnemonic, narrow_mnemonic, pair_mnemonic, quad_mnemonic}
 
@@ -95,7 +95,7 @@ extreme_names = extreme.Max ∷ extreme.Min ∷ []
 
 -- V20 and V21: the masks of a block, and 0, which VCMP and VPNOT have
 abbrev pub masks : List ℕ
-masks = 0 ∷ 1 ∷ 2 ∷ 3 ∷ 4 ∷ 5 ∷ 6 ∷ 7 ∷ 8 ∷ 9 ∷ 10 ∷ 11 ∷ 12 ∷ 13 ∷ 14 ∷ 15 ∷ []
+masks = 0 ∷ block_masks
 
 -- V15: VMOV, VMVN, VORR and VBIC as 0 to 3: bit 0 is 1 for VMVN and VBIC, and bit 1 is 1 where the immediate is merged
 abbrev pub constant_in : List ℕ → Option ℕ

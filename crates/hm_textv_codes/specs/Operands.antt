@@ -8,7 +8,7 @@ use Rattle.hm_text_rows.specs.Operands.{added, back_in, before, is_vector, opera
 use Rattle.hm_textv_rows.specs.Mnemonics.{compare_condition}
 use Rattle.hm_textv_codes.specs.declared.operands.Operands.{Operands}
 
--- the number of the condition of a comparison that a word names
+-- V20: the number of the condition that a word names, 0 to 7 for eq, ne, cs, hi, ge, lt, gt and le; None where it names none (DDI0553, "VCMP")
 abbrev pub compare_condition_in : List ℕ → Option ℕ
 compare_condition_in w = named compare_condition (0 ∷ 1 ∷ 2 ∷ 3 ∷ 4 ∷ 5 ∷ 6 ∷ 7 ∷ []) w
 

@@ -8,7 +8,7 @@ use crate::names::{access_in, pair_in, quad_in};
 use crate::operands::Operands;
 
 /// Fields of a row that loads or stores.
-fn of_access(base: u64, l: u32, n: u64, d: u32, z: u32, i: u32) -> u64
+fn of_access(base: u64, l: u8, n: u64, d: u32, z: u32, i: u32) -> u64
     requires { (base < 2 ^ 62) × (n < 2 ^ 34) }
     ensures { result ≡ of_access base l n d z i }
 {
@@ -28,7 +28,7 @@ fn index_code(o: &Operands) -> u64
 }
 
 /// Rows V27.
-fn addresses_code(l: u32, o: &Operands) -> u64
+fn addresses_code(l: u8, o: &Operands) -> u64
     ensures { result ≡ addresses_code l o.now }
 {
     let base = 0xfd00_1e00 + (u64::from(o.added) << 23) + (u64::from(o.back) << 21);
@@ -36,7 +36,7 @@ fn addresses_code(l: u32, o: &Operands) -> u64
 }
 
 /// Rows V26, of elements that have the size y in memory.
-fn offsets_code(l: u32, y: u32, o: &Operands) -> u64
+fn offsets_code(l: u8, y: u32, o: &Operands) -> u64
     requires { y < 3 }
     ensures { result ≡ offsets_code l y o.now }
 {
@@ -49,7 +49,7 @@ fn offsets_code(l: u32, y: u32, o: &Operands) -> u64
 }
 
 /// Rows V24 and V25, of elements that have the size y in memory.
-fn offset_code(l: u32, y: u32, o: &Operands) -> u64
+fn offset_code(l: u8, y: u32, o: &Operands) -> u64
     requires { y < 3 }
     ensures { result ≡ offset_code l y o.now }
 {
@@ -63,7 +63,7 @@ fn offset_code(l: u32, y: u32, o: &Operands) -> u64
 }
 
 /// Rows V24 to V27, of elements that have the size y in memory: a store where l is 0, and else a load.
-fn access_code(l: u32, y: u32, o: &Operands) -> u64
+fn access_code(l: u8, y: u32, o: &Operands) -> u64
     requires { y < 3 }
     ensures { result ≡ access_code l y o.now }
 {
@@ -85,7 +85,7 @@ fn code_access(mnemonic: &[u8], o: &Operands) -> Option<u64>
 }
 
 /// A row V28 of part p, of four registers where f is 1: a store where l is 0, and else a load.
-fn interleaved_code(f: u32, l: u32, p: u32, n: u32, o: &Operands) -> u64
+fn interleaved_code(f: u32, l: u8, p: u8, n: u32, o: &Operands) -> u64
     ensures { result ≡ interleaved_code f l p n o.now }
 {
     let base = 0xfc80_1e00 + (u64::from(p) << 5) + (u64::from(o.back) << 21);

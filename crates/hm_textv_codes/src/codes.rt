@@ -114,7 +114,7 @@ fn three_base(mnemonic: &[u8]) -> Option<u32>
         return Some(base_of_high(name));
     }
     if let Some(t) = long_product_part(mnemonic) {
-        return Some(0xee01_0e00 + (t << 12));
+        return Some(0xee01_0e00 + (u32::from(t) << 12));
     }
     if is(mnemonic, "vpsel") {
         return Some(0xfe31_0f01);
@@ -202,7 +202,7 @@ fn code_shift(mnemonic: &[u8], o: &Operands) -> Option<u64>
 }
 
 /// A row V12 of a part.
-fn long_code(t: u32, o: &Operands) -> u64
+fn long_code(t: u8, o: &Operands) -> u64
     ensures { result ≡ long_code t o.now }
 {
     let part = u64::from(t) << 12;

@@ -87,7 +87,7 @@ pub fn doubling_name(mnemonic: &[u8]) -> Option<DoublingName>
 }
 
 /// The part of a row V6: 0 for the lower halves of wide elements, 1 for the upper.
-pub fn long_product_part(mnemonic: &[u8]) -> Option<u32>
+pub fn long_product_part(mnemonic: &[u8]) -> Option<u8>
     ensures value { result ≡ named long_product_mnemonic bit_values mnemonic.now }
     ensures small { IfSome result (λ t. t < 2) }
 {
@@ -164,7 +164,7 @@ pub fn constant_shift_name(mnemonic: &[u8]) -> Option<ConstantShiftName>
 }
 
 /// The part of a row V12: 0 for the lower halves of wide elements, 1 for the upper.
-pub fn long_shift_part(mnemonic: &[u8]) -> Option<u32>
+pub fn long_shift_part(mnemonic: &[u8]) -> Option<u8>
     ensures { result ≡ option_or (named long_shift_mnemonic bit_values mnemonic.now) (named long_move_mnemonic bit_values mnemonic.now) }
 {
     let parts = &[(0, "vshllb"), (1, "vshllt"), (0, "vmovlb"), (1, "vmovlt")];
@@ -207,7 +207,7 @@ pub fn constant_in(mnemonic: &[u8]) -> Option<u32>
 }
 
 /// The name and the part of a row V16.
-pub fn narrow_in(mnemonic: &[u8]) -> Option<(NarrowName, u32)>
+pub fn narrow_in(mnemonic: &[u8]) -> Option<(NarrowName, u8)>
     ensures { result ≡ narrow_in mnemonic.now }
 {
     let names = &[
@@ -288,7 +288,7 @@ pub fn block_mask(mnemonic: &[u8]) -> Option<u32>
 }
 
 /// The bit A of a row V22 of a sum: 1 where it goes on from the old value.
-pub fn sum_bit(mnemonic: &[u8]) -> Option<u32>
+pub fn sum_bit(mnemonic: &[u8]) -> Option<u8>
     ensures { result ≡ named sum_mnemonic bit_values mnemonic.now }
 {
     let bits = &[(0, "vaddv"), (1, "vaddva")];
@@ -296,7 +296,7 @@ pub fn sum_bit(mnemonic: &[u8]) -> Option<u32>
 }
 
 /// The bit A of a row V22 of products: 1 where it goes on from the old value.
-pub fn dot_bit(mnemonic: &[u8]) -> Option<u32>
+pub fn dot_bit(mnemonic: &[u8]) -> Option<u8>
     ensures { result ≡ option_or (named dot_mnemonic bit_values mnemonic.now) (named other_dot_mnemonic bit_values mnemonic.now) }
 {
     let bits = &[(0, "vmladav"), (1, "vmladava"), (0, "vmlav"), (1, "vmlava")];
@@ -304,7 +304,7 @@ pub fn dot_bit(mnemonic: &[u8]) -> Option<u32>
 }
 
 /// The bit A of a row V22 of a long sum: 1 where it goes on from the old value.
-pub fn long_sum_bit(mnemonic: &[u8]) -> Option<u32>
+pub fn long_sum_bit(mnemonic: &[u8]) -> Option<u8>
     ensures { result ≡ named long_sum_mnemonic bit_values mnemonic.now }
 {
     let bits = &[(0, "vaddlv"), (1, "vaddlva")];
@@ -312,7 +312,7 @@ pub fn long_sum_bit(mnemonic: &[u8]) -> Option<u32>
 }
 
 /// The bit A of a row V22 of a long sum of products: 1 where it goes on from the old value.
-pub fn long_dot_bit(mnemonic: &[u8]) -> Option<u32>
+pub fn long_dot_bit(mnemonic: &[u8]) -> Option<u8>
     ensures { result ≡ named long_dot_mnemonic bit_values mnemonic.now }
 {
     let bits = &[(0, "vmlaldav"), (1, "vmlaldava")];
@@ -328,7 +328,7 @@ pub fn extreme_name(mnemonic: &[u8]) -> Option<ExtremeName>
 }
 
 /// Of a row V24 to V27, 1 for a load and 0 for a store, and the size of its elements in memory.
-pub fn access_in(mnemonic: &[u8]) -> Option<(u32, u32)>
+pub fn access_in(mnemonic: &[u8]) -> Option<(u8, u32)>
     ensures value { result ≡ access_in mnemonic.now }
     ensures small { IfSome result (λ p. p.1 < 3) }
 {
@@ -344,7 +344,7 @@ pub fn access_in(mnemonic: &[u8]) -> Option<(u32, u32)>
 }
 
 /// Of a row V28 of two registers, 1 for a load and 0 for a store, and its part.
-pub fn pair_in(mnemonic: &[u8]) -> Option<(u32, u32)>
+pub fn pair_in(mnemonic: &[u8]) -> Option<(u8, u8)>
     ensures { result ≡ pair_in mnemonic.now }
 {
     let parts = &[
@@ -357,7 +357,7 @@ pub fn pair_in(mnemonic: &[u8]) -> Option<(u32, u32)>
 }
 
 /// Of a row V28 of four registers, 1 for a load and 0 for a store, and its part.
-pub fn quad_in(mnemonic: &[u8]) -> Option<(u32, u32)>
+pub fn quad_in(mnemonic: &[u8]) -> Option<(u8, u8)>
     ensures { result ≡ quad_in mnemonic.now }
 {
     let parts = &[

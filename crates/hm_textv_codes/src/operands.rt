@@ -35,7 +35,7 @@ pub struct Operands {
     pub is_at_vector: bool,
 }
 
-/// The number of the condition of a comparison that a word names.
+/// The number of the condition of a row V20 that a word names, 0 to 7 for eq, ne, cs, hi, ge, lt, gt and le; None where it names none.
 fn read_compare_condition(name: &[u8]) -> Option<u32>
     ensures { result ≡ compare_condition_in name.now }
 {
@@ -64,7 +64,7 @@ fn other_value(name: &[u8]) -> u32
     }
 }
 
-/// The number that a word stands for.
+/// The number that a word stands for: of a vector, else of a core register, else of a condition, else of another word.
 #[tactic(auto, unfolding(crate::specs::Operands::word_value))]
 fn word_value(name: &[u8]) -> u32
     ensures { result ≡ word_value name.now }

@@ -32,28 +32,21 @@ use Rattle.hm_isa.specs.declared.vectors.ExtremeName.{ExtremeName}
 use Rattle.hm_isa.specs.declared.vectors.ExtremeName.TheVariants as extreme
 use Rattle.hm_isa.specs.declared.vectors.Element.{Element}
 use Rattle.hm_isa.specs.declared.vectors.Element.TheVariants as element
+use Rattle.hm_text_rows.specs.Mnemonics.{element_bits, element_suffix}
 use Rattle.hm_text_rows.specs.Shapes.{either}
 
 -- BEHIND THE POINT
--- 8, 16, 32 or 64 bits
-abbrev pub bits : ℕ → List ℕ
-bits z = get_or (codes "8" ∷ codes "16" ∷ codes "32" ∷ codes "64" ∷ []) z []
-
--- the bits of an element behind the point, with no type
-abbrev pub plain : ℕ → List ℕ
-plain z = codes "." ++ bits z
-
 -- the bits of an element behind the point, of an integer whose sign does not count
 abbrev pub integer : ℕ → List ℕ
-integer z = codes ".i" ++ bits z
+integer z = codes ".i" ++ element_bits z
 
 -- the bits of an element behind the point, of a signed integer
 abbrev pub signed : ℕ → List ℕ
-signed z = codes ".s" ++ bits z
+signed z = codes ".s" ++ element_bits z
 
 -- the bits of an element behind the point, of an unsigned integer
 abbrev pub unsigned : ℕ → List ℕ
-unsigned z = codes ".u" ++ bits z
+unsigned z = codes ".u" ++ element_bits z
 
 -- signed where u is 0
 abbrev pub by_sign : ℕ → ℕ → List ℕ
@@ -266,8 +259,8 @@ scalar_suffix name u z = by_sign u z
 abbrev pub constant_shift_suffix : ConstantShiftName → ℕ → ℕ → List ℕ
 constant_shift_suffix by_constant.Qshlu u z = signed z
 constant_shift_suffix by_constant.Shl u z = integer z
-constant_shift_suffix by_constant.Sri u z = plain z
-constant_shift_suffix by_constant.Sli u z = plain z
+constant_shift_suffix by_constant.Sri u z = element_suffix z
+constant_shift_suffix by_constant.Sli u z = element_suffix z
 constant_shift_suffix name u z = by_sign u z
 
 -- V13: VCLZ is of integers, and the others of signed ones (DDI0553, "VCLS", "VCLZ", "VABS", "VNEG", "VQABS" and "VQNEG")
@@ -285,7 +278,7 @@ narrow_suffix narrow_.Unsigned z = unsigned (z + 1)
 -- V24 to V27: the size and the sign of elements; a store has no sign
 -- (DDI0553, "VLDRB, VLDRH, VLDRW", "VSTRB, VSTRH, VSTRW", "VLDRB, VLDRH, VLDRW, VLDRD (vector)" and "VSTRB, VSTRH, VSTRW, VSTRD (vector)")
 abbrev pub access_suffix : ℕ → ℕ → ℕ → List ℕ
-access_suffix l u z = either l (plain z) (by_sign u z)
+access_suffix l u z = either l (element_suffix z) (by_sign u z)
 
 -- V20: by the condition, eq and ne are of integers, cs and hi of unsigned numbers, and ge, lt, gt and le of signed ones (DDI0553, "VCMP" and "VPT")
 abbrev pub compare_suffix : ℕ → ℕ → List ℕ

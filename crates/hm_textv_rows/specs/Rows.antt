@@ -19,17 +19,19 @@ use Rattle.hm_isa.specs.declared.vectors.V22.{V22 as SumRow}
 use Rattle.hm_isa.specs.declared.vectors.V22.TheVariants as v22
 use Rattle.hm_isa.specs.declared.vectors.BitwiseName.{BitwiseName}
 use Rattle.hm_isa.specs.declared.vectors.BitwiseName.TheVariants as bitwise
-use Rattle.hm_isa.specs.Letters.{at_least_1, constant_shift_amount, constant_shift_size}
+use Rattle.hm_isa.specs.Letters.{constant_shift_amount, constant_shift_size}
+use Rattle.hm_isa.specs.Words.{imm8, zero_as_32}
 use Rattle.hm_tokens.specs.Lines.{IsLineOf}
 use Rattle.hm_tokens.specs.Tokens.{Tok, word, close_brace, close_bracket, comma, open_brace, open_bracket}
-use Rattle.hm_text_rows.specs.Shapes.{and_constant, back, constant, either, four, indexed, inside, or_zero, q, r, three, two}
+use Rattle.hm_text_rows.specs.Mnemonics.{element_suffix}
+use Rattle.hm_text_rows.specs.Shapes.{and_constant, and_turn, back, constant, either, four, indexed, inside, one, or_zero, q, r, three, two}
 use Rattle.hm_textv_rows.specs.Mnemonics.{access_mnemonic, access_suffix, add_mnemonic, bitwise_mnemonic, block_letters, block_mnemonic, block_word}
 use Rattle.hm_textv_rows.specs.Mnemonics.{by_sign, carry_mnemonic, compare_condition, compare_suffix, compare_word, complex_sum_mnemonic}
 use Rattle.hm_textv_rows.specs.Mnemonics.{complex_sum_suffix, constant_merge_mnemonic, constant_move_mnemonic, constant_shift_mnemonic}
 use Rattle.hm_textv_rows.specs.Mnemonics.{constant_shift_suffix, dot_mnemonic, doubling_mnemonic}
 use Rattle.hm_textv_rows.specs.Mnemonics.{extreme_mnemonic, high_mnemonic, integer, long_dot_mnemonic, long_move_mnemonic, long_product_mnemonic}
 use Rattle.hm_textv_rows.specs.Mnemonics.{long_shift_mnemonic, long_sum_mnemonic, narrow_mnemonic, narrow_suffix, offsets_mnemonic, one_mnemonic, one_suffix}
-use Rattle.hm_textv_rows.specs.Mnemonics.{other_dot_mnemonic, pair_mnemonic, plain, quad_mnemonic, reverse_mnemonic, scalar_mnemonic, scalar_suffix}
+use Rattle.hm_textv_rows.specs.Mnemonics.{other_dot_mnemonic, pair_mnemonic, quad_mnemonic, reverse_mnemonic, scalar_mnemonic, scalar_suffix}
 use Rattle.hm_textv_rows.specs.Mnemonics.{signed, signed_mnemonic, size_number, sum_mnemonic, unsigned, vector_shift_mnemonic, wrapped_mnemonic}
 
 -- ROWS
@@ -60,14 +62,14 @@ abbrev pub one_tokens : OneRow → List Tok
 one_tokens (v13.Elements i) = two (one_mnemonic i.name ++ one_suffix i.name i.z.value) (q i.d.value) (q i.m.value)
 one_tokens (v13.Not i) = two (codes "vmvn") (q i.d.value) (q i.m.value)
 
+-- V15: the tokens of an immediate, `#x` (DDI0553, "VMOV (immediate)", "VMVN (immediate)", "VORR (immediate)" and "VBIC (immediate)")
+abbrev pub unshifted : List ℕ → ℕ → ℕ → List Tok
+unshifted name d x = and_constant (one name (q d)) x
+
 -- V15: the tokens of an immediate and how far it is shifted, `#x,lsl #n`
 -- (DDI0553, "VMOV (immediate)", "VMVN (immediate)", "VORR (immediate)" and "VBIC (immediate)")
 abbrev pub shifted : List ℕ → List ℕ → ℕ → ℕ → ℕ → List Tok
-shifted name kind n d x = word name ∷ q d ∷ comma ∷ (constant x ++ comma ∷ word kind ∷ constant n)
-
--- V15: the tokens of an immediate with no shift, `#x` (DDI0553, "VMOV (immediate)", "VMVN (immediate)", "VORR (immediate)" and "VBIC (immediate)")
-abbrev pub unshifted : List ℕ → ℕ → ℕ → List Tok
-unshifted name d x = word name ∷ q d ∷ comma ∷ constant x
+shifted name kind n d x = and_turn (unshifted name d x) kind n
 
 -- V15: the tokens by cm: the element, where the immediate stands in it, and by op one of two operations
 -- (DDI0553, "VMOV (immediate)", "VMVN (immediate)", "VORR (immediate)" and "VBIC (immediate)")
@@ -92,7 +94,7 @@ constant_forms op d x =
 
 -- V15: the tokens of VMOV, VMVN, VORR and VBIC with an immediate (DDI0553, "VMOV (immediate)", "VMVN (immediate)", "VORR (immediate)" and "VBIC (immediate)")
 abbrev pub constant_tokens : ConstantRow → List Tok
-constant_tokens i = get_or (constant_forms i.op.value i.d.value (128 * i.i.value + 16 * i.i3.value + i.i4.value)) i.cm.value []
+constant_tokens i = get_or (constant_forms i.op.value i.d.value (imm8 i.i.value i.i3.value i.i4.value)) i.cm.value []
 
 -- V19: the tokens of VIDUP, VDDUP, VIWDUP and VDWDUP (DDI0553, "VIDUP, VIWDUP" and "VDDUP, VDWDUP")
 abbrev pub offsets_tokens : OffsetsRow → List Tok
@@ -113,7 +115,7 @@ compare_tokens (v20.Scalar i) = three (compare_first_word i.k.value i.c.value i.
 abbrev pub predicate_tokens : PredicateRow → List Tok
 predicate_tokens (v21.Block i) = word (block_mnemonic block_word i.k.value) ∷ []
 predicate_tokens (v21.Select i) = three (codes "vpsel") (q i.d.value) (q i.n.value) (q i.m.value)
-predicate_tokens (v21.Tail i) = word (codes "vctp" ++ plain i.z.value) ∷ r i.n.value ∷ []
+predicate_tokens (v21.Tail i) = word (codes "vctp" ++ element_suffix i.z.value) ∷ r i.n.value ∷ []
 
 -- V22: the tokens of VADDV, VMLADAV, VADDLV and VMLALDAV, with a where the sum goes on from the old value
 -- (DDI0553, "VADDV", "VMLADAV", "VADDLV" and "VMLALDAV")
@@ -169,11 +171,11 @@ tokens_of (V10 i) = three (scalar_mnemonic i.name ++ scalar_suffix i.name i.u.va
 tokens_of (V11 i) = shift_tokens i
 tokens_of (V12 i) = long_tokens i
 tokens_of (V13 i) = one_tokens i
-tokens_of (V14 i) = two (reverse_mnemonic i.name ++ plain i.z.value) (q i.d.value) (q i.m.value)
+tokens_of (V14 i) = two (reverse_mnemonic i.name ++ element_suffix i.z.value) (q i.d.value) (q i.m.value)
 tokens_of (V15 i) = constant_tokens i
 tokens_of (V16 i) = two (narrow_mnemonic i.name i.t.value ++ narrow_suffix i.name i.z.value) (q i.d.value) (q i.m.value)
-tokens_of (V17 i) = and_constant (two (codes "vshlc") (q i.d.value) (r i.m.value)) (at_least_1 i.k.value)
-tokens_of (V18 i) = two (codes "vdup" ++ plain (size_number i.size)) (q i.d.value) (r i.t.value)
+tokens_of (V17 i) = and_constant (two (codes "vshlc") (q i.d.value) (r i.m.value)) (zero_as_32 i.k.value)
+tokens_of (V18 i) = two (codes "vdup" ++ element_suffix (size_number i.size)) (q i.d.value) (r i.t.value)
 tokens_of (V19 i) = offsets_tokens i
 tokens_of (V20 i) = compare_tokens i
 tokens_of (V21 i) = predicate_tokens i
@@ -191,8 +193,8 @@ tokens_of (V26 i) =
 tokens_of (V27 i) =
     access (access_mnemonic i.l.value 2 ++ access_suffix i.l.value 1 2) i.d.value (inside i.a.value i.w.value (q i.m.value) (4 * i.i.value))
 tokens_of (V28 i) =
-    interleaved_tokens (either i.f.value (pair_mnemonic i.l.value i.p.value) (quad_mnemonic i.l.value i.p.value) ++ plain i.z.value) i.f.value i.d.value
-    (r i.n.value) i.w.value
+    interleaved_tokens (either i.f.value (pair_mnemonic i.l.value i.p.value) (quad_mnemonic i.l.value i.p.value) ++ element_suffix i.z.value) i.f.value
+    i.d.value (r i.n.value) i.w.value
 
 -- V2: the other text of VORR of a register with itself, VMOV (DDI0553, "VORR")
 abbrev pub other_bitwise : BitwiseName → Bool → ℕ → ℕ → Option (List Tok)

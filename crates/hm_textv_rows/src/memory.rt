@@ -8,9 +8,12 @@ ghost use Rattle.hm_tokens.specs.Texts.{part_token, text_tokens};
 ghost use Rattle.hm_tokens.specs.Tokens.{word, close_bracket, comma, open_bracket};
 
 use crate::mnemonics::{access_mnemonic, pair_mnemonic, quad_mnemonic};
-use crate::suffixes::{access_suffix, plain};
+use crate::suffixes::access_suffix;
 use hm_isa::{Below, Bit, QRegister, V24, V25, V26, V27, V28};
-use hm_text_rows::{Index, alone, and, back, indexed, inside, marked, one, open, q, r, with};
+use hm_text_rows::{
+    Index, alone, and, and_turn, back, element_suffix, indexed, inside, marked, one, open, q, r,
+    with,
+};
 use hm_tokens::{InstrText, Mark, Part, vector_name};
 
 /// A vector register by its number.
@@ -62,7 +65,7 @@ pub fn text_v25(i: &V25) -> InstrText
 }
 
 /// The text with the scale of offsets more, where they are in elements of the size y.
-fn scale(mut text: InstrText, o: Bit, y: u32) -> InstrText
+fn scale(text: InstrText, o: Bit, y: u32) -> InstrText
     requires { length text.operands.items ≤ 20 }
     ensures tokens { text_tokens result ≡ text_tokens text ++ scale o.value y }
     ensures room { length result.operands.items ≤ length text.operands.items + 4 }
@@ -70,11 +73,7 @@ fn scale(mut text: InstrText, o: Bit, y: u32) -> InstrText
     if o.get() == 0 {
         return text;
     }
-    text.operands.push(Part::Mark(Mark::Comma));
-    text.operands.push(Part::Word("uxtw"));
-    text.operands.push(Part::Mark(Mark::Hash));
-    text.operands.push(Part::Number(y));
-    text
+    and_turn(text, "uxtw", y)
 }
 
 /// The text with an address more that is a base and a vector of offsets.
@@ -137,7 +136,7 @@ fn quad(mnemonic: &'static str, suffix: &'static str, d: u32) -> InstrText
 pub fn text_v28(i: &V28) -> InstrText
     ensures { text_tokens result ≡ tokens_of (vector.V28 i.now) }
 {
-    let suffix = plain(i.z.get());
+    let suffix = element_suffix(i.z.get());
     let base = r(i.n.get());
     if i.f.get() == 0 {
         let listed = pair(pair_mnemonic(i.l, i.p), suffix, i.d.get());

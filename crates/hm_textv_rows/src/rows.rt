@@ -18,14 +18,17 @@ use crate::mnemonics::{
 };
 use crate::suffixes::{
     by_sign, compare_suffix, complex_sum_suffix, constant_shift_suffix, integer, narrow_suffix,
-    one_suffix, plain, scalar_suffix, signed, size_number, unsigned,
+    one_suffix, scalar_suffix, signed, size_number, unsigned,
 };
+use hm_isa::words::imm8;
 use hm_isa::{
     Below, Bit, ElementSize, QRegister, V1, V2, V3, V4, V5, V6, V7, V8, V9, V10, V11, V12, V13,
     V14, V15, V16, V17, V18, V19, V20, V21, V22, V23, Vector,
 };
-use hm_text_rows::{alone, and, and_constant, first, one, or_zero, q, r, three, two};
-use hm_tokens::{InstrText, Mark, Part};
+use hm_text_rows::{
+    alone, and, and_constant, and_turn, element_suffix, first, one, or_zero, q, r, three, two,
+};
+use hm_tokens::{InstrText, Part};
 
 /// The text of a row V1.
 fn text_v1(i: &V1) -> InstrText
@@ -148,7 +151,12 @@ fn text_v10(i: &V10) -> InstrText
 fn text_v14(i: &V14) -> InstrText
     ensures { text_tokens result ≡ tokens_of (vector.V14 i.now) }
 {
-    two(reverse_mnemonic(i.name), plain(i.z.get()), q(i.d), q(i.m))
+    two(
+        reverse_mnemonic(i.name),
+        element_suffix(i.z.get()),
+        q(i.d),
+        q(i.m),
+    )
 }
 
 /// The text of a row V16.
@@ -174,7 +182,12 @@ fn text_v17(i: &V17) -> InstrText
 fn text_v18(i: &V18) -> InstrText
     ensures { text_tokens result ≡ tokens_of (vector.V18 i.now) }
 {
-    two("vdup", plain(size_number(i.size)), q(i.d), r(i.t.get()))
+    two(
+        "vdup",
+        element_suffix(size_number(i.size)),
+        q(i.d),
+        r(i.t.get()),
+    )
 }
 
 /// The text of a row V23.
@@ -193,7 +206,7 @@ fn text_v23(i: &V23) -> InstrText
 fn text_v11(i: &V11) -> InstrText
     ensures { text_tokens result ≡ tokens_of (vector.V11 i.now) }
 {
-    let suffix = constant_shift_suffix(i.name, i.u, i.size());
+    let suffix = constant_shift_suffix(i.name, i.u, i.element_size().get());
     and_constant(
         two(constant_shift_mnemonic(i.name), suffix, q(i.d), q(i.m)),
         i.amount(),
@@ -310,7 +323,7 @@ fn text_v21(i: &V21) -> InstrText
             alone(mnemonic, block_letters(i.k), "")
         }
         V21::Select(i) => three("vpsel", "", q(i.d), q(i.n), q(i.m)),
-        V21::Tail(i) => one("vctp", plain(i.z.get()), r(i.n.get())),
+        V21::Tail(i) => one("vctp", element_suffix(i.z.get()), r(i.n.get())),
     }
 }
 
@@ -370,20 +383,14 @@ fn shifted(
 ) -> InstrText
     ensures { text_tokens result ≡ shifted (mnemonic.now ++ suffix.now) kind.now n d.value x }
 {
-    let mut text = and(
-        and_constant(one(mnemonic, suffix, q(d)), x),
-        Part::Word(kind),
-    );
-    text.operands.push(Part::Mark(Mark::Hash));
-    text.operands.push(Part::Number(n));
-    text
+    and_turn(and_constant(one(mnemonic, suffix, q(d)), x), kind, n)
 }
 
 /// The text of a row V15.
 fn text_v15(i: &V15) -> InstrText
     ensures { text_tokens result ≡ tokens_of (vector.V15 i.now) }
 {
-    let x = 128 * i.i.get() + 16 * i.i3.get() + i.i4.get();
+    let x = imm8(i.i, i.i3, i.i4);
     match i.cm.get() {
         0 => shifted(constant_move_mnemonic(i.op), ".i32", "lsl", 0, i.d, x),
         1 => shifted(constant_merge_mnemonic(i.op), ".i32", "lsl", 0, i.d, x),

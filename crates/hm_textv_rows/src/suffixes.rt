@@ -1,7 +1,7 @@
 //! What stands behind the point of a mnemonic: the kind of the elements and their size, where 0, 1, 2 and 3 are 8, 16, 32 and 64 bits.
 
 ghost use Rattle.std.specs.Prelude.{◌≡◌, ◌<◌};
-ghost use Rattle.hm_textv_rows.specs.Mnemonics.{access_suffix, by_sign, compare_suffix, constant_shift_suffix, integer, narrow_suffix, one_suffix, plain};
+ghost use Rattle.hm_textv_rows.specs.Mnemonics.{access_suffix, by_sign, compare_suffix, constant_shift_suffix, integer, narrow_suffix, one_suffix};
 ghost use Rattle.hm_textv_rows.specs.Mnemonics.{scalar_suffix};
 ghost use Rattle.hm_textv_rows.specs.Mnemonics.{signed, size_number, complex_sum_suffix, unsigned};
 
@@ -9,19 +9,7 @@ use hm_isa::{
     Below, Bit, ComplexSumName, ConstantShiftName, Element, ElementSize, NarrowName, OneName,
     ScalarName,
 };
-
-/// Elements of any kind.
-pub fn plain(z: u32) -> &'static str
-    requires { z < 4 }
-    ensures { result.now ≡ plain z }
-{
-    match z {
-        0 => ".8",
-        1 => ".16",
-        2 => ".32",
-        _ => ".64",
-    }
-}
+use hm_text_rows::element_suffix;
 
 /// Integers.
 pub fn integer(z: u32) -> &'static str
@@ -114,7 +102,7 @@ pub fn constant_shift_suffix(name: ConstantShiftName, u: Bit, z: u32) -> &'stati
         ConstantShiftName::Shr | ConstantShiftName::Rshr | ConstantShiftName::Qshl => by_sign(u, z),
         ConstantShiftName::Qshlu => signed(z),
         ConstantShiftName::Shl => integer(z),
-        ConstantShiftName::Sri | ConstantShiftName::Sli => plain(z),
+        ConstantShiftName::Sri | ConstantShiftName::Sli => element_suffix(z),
     }
 }
 
@@ -159,7 +147,7 @@ pub fn access_suffix(l: Bit, u: Bit, z: u32) -> &'static str
     ensures { result.now ≡ access_suffix l.value u.value z }
 {
     if l.get() == 0 {
-        plain(z)
+        element_suffix(z)
     } else {
         by_sign(u, z)
     }

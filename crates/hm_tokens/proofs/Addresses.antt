@@ -1,8 +1,9 @@
 -- A text with an address for its last operand has the tokens that it was printed from, and the address for a number.
-use Rattle.std.proofs.Common.{◌≡◌, ℕ, ◌+◌, ◌-◌, ◌*◌, ◌/◌, ◌%◌, ◌^◌, ◌<◌, ◌≤◌, min, Bool, true, false, eqb, List, [], ◌∷◌, ◌++◌, length, drop, Some, refl, ap}
+use Rattle.std.proofs.Common.{◌≡◌, ℕ, ◌+◌, ◌*◌, ◌/◌, ◌%◌, ◌^◌, ◌<◌, ◌≤◌, min, Bool, true, false, eqb, List, [], ◌∷◌, ◌++◌, length, drop, Some, refl, ap}
 use Rattle.std.proofs.Common.{subst, ◌∙◌, append_assoc, arith}
 use Rattle.std.specs.Prelude.{◌||◌}
 use Rattle.std.specs.List.{list_all}
+use Rattle.std.proofs.Math.Bool.{or-true}
 use Rattle.std.proofs.lemmas.Bool.{and_parts}
 use Rattle.std.proofs.lemmas.Bool.Decides.{nat_tests}
 use Rattle.std.proofs.lemmas.List.{append-nil, length-append}
@@ -13,7 +14,7 @@ use Rattle.hm_text_base.proofs.NumberLaws.{hex8_again}
 use Rattle.hm_tokens.specs.declared.token.Class.TheVariants as classes
 use Rattle.hm_tokens.specs.Tokens.{Tok, word, number, mark, is_in, run, digit, value, skip, spell, token_at, comma}
 use Rattle.hm_tokens.specs.Lines.{AreTokensOf, IsLineOf, address, gap, is_word, printed_at, spelled, spelled_behind}
-use Rattle.hm_tokens.proofs.Again.{AreTokens, IsToken, MayFollow, Parts, apart, are_apart, follows, from_mark, is_mark_token, no_space, or_true, run_front}
+use Rattle.hm_tokens.proofs.Again.{AreTokens, IsToken, MayFollow, Parts, apart, are_apart, follows, from_mark, is_mark_token, no_space, run_front}
 use Rattle.hm_tokens.proofs.Again.{skip_gap, space_follows, token_front}
 
 -- ---- the number
@@ -127,7 +128,7 @@ apart_line : (text : List ℕ) (t : Tok) (rest : List ℕ) (ts : List Tok) → t
 apart_line text t rest ts e is are =
     let front : token_at (skip text) ≡ Some (t, 32 ∷ rest) =
     ap (λ (x : List ℕ). token_at (skip x)) e ∙ ap token_at (no_space t (32 ∷ rest) is) ∙ token_front t (32 ∷ rest) is (space_follows t rest) in
-    (32 ∷ rest, front, or_true (eqb (length (32 ∷ rest)) 0), skip_one rest ts are)
+    (32 ∷ rest, front, or-true (eqb (length (32 ∷ rest)) 0), skip_one rest ts are)
 
 pub printed_at_again : (ts : List Tok) (t : Tok) (a : ℕ) → AreTokens ts → IsToken t → are_apart ts ≡ true → ends_in_mark ts ≡ true → a < 2 ^ 32
     → IsLineOf (printed_at (t ∷ ts) a) (t ∷ (ts ++ number a ∷ []))

@@ -4,6 +4,7 @@ use Rattle.std.proofs.Common.{inr, ◌∙◌, arith, rules}
 use Rattle.std.specs.Prelude.{decimal, ◌&&◌, ◌||◌}
 use Rattle.std.specs.List.{list_all}
 use Rattle.std.specs.Str.{all_ascii_digits}
+use Rattle.std.proofs.Math.Bool.{or-true}
 use Rattle.std.proofs.lemmas.Bool.{cases_Bool, ne_eqb, and_parts, and_right}
 use Rattle.std.proofs.lemmas.Bool.Decides.{nat_tests}
 use Rattle.std.proofs.lemmas.List.{append-nil}
@@ -12,7 +13,7 @@ use Rattle.std.proofs.lemmas.Fmt.{digits_decimal, digits_value-decimal, decimal_
 use Rattle.std.specs.Char.{is_ascii_digit}
 use Rattle.hm_tokens.specs.declared.token.Class.{Class}
 use Rattle.hm_tokens.specs.declared.token.Class.TheVariants as classes
-use Rattle.hm_tokens.specs.Tokens.{Tok, word, number, mark, digit_byte, hex_letter, is_in, is_digit, run, digit, value, skip, is_hex, spell, token_at, comma}
+use Rattle.hm_tokens.specs.Tokens.{Tok, word, number, mark, digit_byte, hex_sign, is_in, is_digit, run, digit, value, skip, is_hex, spell, token_at, comma}
 use Rattle.hm_tokens.specs.Marks.{is_mark}
 use Rattle.hm_tokens.specs.Lines.{AreTokensOf, IsLineOf, gap, is_hash, is_word, printed, spelled, spelled_behind}
 
@@ -107,7 +108,7 @@ stops_digits : (rest : List ℕ) → Parts rest → Stops classes.Decimal rest
 stops_digits [] p = tt
 stops_digits (b ∷ rest) p = grind (arith, nat_tests, p)
 
-hex_not_x : (c b : ℕ) (rest : List ℕ) → eqb b hex_letter ≡ false → is_hex (c ∷ b ∷ rest) ≡ false
+hex_not_x : (c b : ℕ) (rest : List ℕ) → eqb b hex_sign ≡ false → is_hex (c ∷ b ∷ rest) ≡ false
 hex_not_x c b rest e = rw e (and_right (ltb 2 (length (c ∷ b ∷ rest))) (eqb c (digit_byte 0) && false) (and_right (eqb c (digit_byte 0)) false refl))
 
 no_x : (ds rest : List ℕ) → all_ascii_digits ds ≡ true → Parts rest → 0 < length ds → is_hex (ds ++ rest) ≡ false
@@ -250,10 +251,6 @@ bare t is =
     let s : skip (spell t) ≡ spell t = ap skip (sym n) ∙ no_space t [] is ∙ n in
     rw s (ap token_at (sym n) ∙ token_front t [] is (ends_after t))
 
-pub or_true : (x : Bool) → (x || true) ≡ true
-or_true true = refl
-or_true false = refl
-
 pub printed_again : (ts : List Tok) → AreTokens ts → (t : Tok) → IsToken t → are_apart ts ≡ true → IsLineOf (printed (t ∷ ts)) (t ∷ ts)
 unfolding run
 printed_again [] are t is e = ([], bare t is, refl, refl)
@@ -262,6 +259,6 @@ printed_again (u ∷ ts) are t is e =
     rw (no_space t (32 ∷ spelled (u ∷ ts)) is) (token_front t (32 ∷ spelled (u ∷ ts)) is (space_follows t (spelled (u ∷ ts)))) in (
       32 ∷ spelled (u ∷ ts),
       gap,
-      or_true (eqb (length (32 ∷ spelled (u ∷ ts))) 0),
+      or-true (eqb (length (32 ∷ spelled (u ∷ ts))) 0),
       space_skipped (u ∷ ts) (u ∷ ts) (tokens_again (u ∷ ts) are comma (from_mark (u ∷ ts) e) false),
     )

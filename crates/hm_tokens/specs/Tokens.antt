@@ -93,8 +93,8 @@ abbrev pub last_hex_letter : ℕ
 last_hex_letter = 102
 
 -- `x`, which stands behind the 0 of a hexadecimal number
-abbrev pub hex_letter : ℕ
-hex_letter = 120
+abbrev pub hex_sign : ℕ
+hex_sign = 120
 
 -- the byte that a digit of 0 to 9 is written as
 abbrev pub digit_byte : ℕ → ℕ
@@ -138,7 +138,7 @@ value base n (c ∷ cs) = value base (min (n * base + digit c) 0x1_0000_0000) cs
 abbrev pub is_hex : List ℕ → Bool
 is_hex text =
     nat_lt 2 (length text)
-    && ((slice_index text 0 == digit_byte 0) && ((slice_index text 1 == hex_letter) && is_in classes.Hex (slice_index text 2)))
+    && ((slice_index text 0 == digit_byte 0) && ((slice_index text 1 == hex_sign) && is_in classes.Hex (slice_index text 2)))
 
 -- TOKENS
 -- the number that digits of this base write, and what stands behind them
