@@ -1,10 +1,10 @@
 -- What lines give is one thing, each piece has its size and its room.
 use Rattle.std.proofs.Common.{◌≡◌, ◌⊎◌, ℕ, zero, suc, ◌+◌, ◌*◌, ◌^◌, ◌<◌, ◌≤◌, Bool, false, cond, List, [], ◌∷◌, ◌++◌, length, refl, sym, ap, subst, ◌∙◌, inl}
 use Rattle.std.proofs.Common.{inr, arith}
-use Rattle.std.specs.Int.{w16, to_le_bytes}
-use Rattle.std.specs.List.{flat_map}
 use Rattle.std.proofs.lemmas.List.{length-append, length-replicate}
 use Rattle.hm_base.specs.Image.{Segment}
+use Rattle.hm_code_bytes.specs.Bytes.{code_bytes}
+use Rattle.hm_code_bytes.proofs.Bytes.{length_halves}
 use Rattle.hm_isa.specs.Code.{halfwords}
 use Rattle.hm_line.specs.Columns.{ArePassed, IsOperand, is_between, is_inside}
 use Rattle.hm_line.specs.Forms.{Spaced, kinds}
@@ -23,14 +23,11 @@ use Rattle.hm_text.proofs.Once.{late_refusal, not_refused, one_instruction, one_
 use Rattle.hm_text.proofs.Printing.{width_is}
 use Rattle.hm_asm.specs.FirstPass.{AreFine, with_name}
 use Rattle.hm_asm.specs.SecondPass.{AreAsked, AreBytes, AreGiven, AreValues, IsFirstMissing, IsListRefused, IsNextRefused, IsOperandColumn, IsSaidRefused}
-use Rattle.hm_asm.specs.SecondPass.{Naming, code_bytes, low_bytes}
+use Rattle.hm_asm.specs.SecondPass.{Naming, low_bytes}
 use Rattle.hm_asm.proofs.Joined.{AreRising}
 use Rattle.hm_asm.proofs.Said.{one_said, says_width}
 
 -- SIZES
-pub code_length : (hs : List ℕ) → length (flat_map (to_le_bytes w16) hs) ≡ 2 * length hs
-code_length [] = refl
-code_length (h ∷ hs) = let more = code_length hs in omega (arith, more, length-append (to_le_bytes w16 h) (flat_map (to_le_bytes w16) hs))
 
 pub low_length : (s : DatumSize) (n : ℕ) → length (low_bytes (bytes_each s) n) ≡ bytes_each s
 low_length s n = grind arith
@@ -53,7 +50,7 @@ pub bytes_length : (labels : Naming) (a : ℕ) (text : List ℕ) (said : Said) (
     → length bs ≡ size_of said a
 bytes_length labels a text nothing bs says e = ap length e
 bytes_length labels a text (instruction n) bs says (i, is, e) =
-    ap length e ∙ code_length (halfwords i) ∙ one_width text (2 * length (halfwords i)) n (width_is text a labels i is) (says_width text n says)
+    ap length e ∙ length_halves (halfwords i) ∙ one_width text (2 * length (halfwords i)) n (width_is text a labels i is) (says_width text n says)
 bytes_length labels a text (directive asked) bs says are = asked_length labels a asked bs are
 
 -- ROOM

@@ -1,7 +1,5 @@
--- What a line has to be for the second pass, and which instructions have their code by which table.
+-- What a line has to be for the second pass.
 use Rattle.std.specs.Prelude.{◌<◌, ℕ, List}
-use Rattle.hm_isa.specs.declared.Instr.{Instr}
-use Rattle.hm_isa.specs.declared.Instr.TheVariants as instr
 use Rattle.hm_source.specs.declared.values.Values.{Values}
 use Rattle.hm_source.specs.declared.directives.Directive.{Directive}
 use Rattle.hm_source.specs.declared.lines.Line.{Line}
@@ -21,9 +19,3 @@ IsReadyAsked text d a = (asked : Directed) × ShowsDirected text d asked × HasP
 -- the program's line has a column, stands for what its text says, and that has its place at a
 abbrev pub IsReady : Line → ℕ → Type 0
 IsReady l a = (0 < l.parts.column) × (said : Said) × Says l.parts.instruction.now said × ShowsSaid l.parts.instruction.now l.statement said × HasPlace said a
-
--- an instruction is no vector row
-abbrev pub IsPlain : Instr → Type 0
-IsPlain (instr.Scalar i) = Unit {0}
-IsPlain (instr.Branch i) = Unit {0}
-IsPlain (instr.Vector v) = ⊥

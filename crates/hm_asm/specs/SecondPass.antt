@@ -1,9 +1,8 @@
 -- The second pass: the bytes of each line, where the labels are known, and the first line that has none.
 use Rattle.std.specs.Prelude.{◌≡◌, ℕ, zero, suc, ◌+◌, ◌-◌, ◌*◌, ◌^◌, true, false, List, [], ◌∷◌, ◌++◌, Option, Some, None, option_map, take, replicate}
-use Rattle.std.specs.Int.{w16, w64, to_le_bytes}
-use Rattle.std.specs.List.{flat_map}
+use Rattle.std.specs.Int.{w64, to_le_bytes}
 use Rattle.hm_base.specs.Image.{Segment}
-use Rattle.hm_isa.specs.Code.{halfwords}
+use Rattle.hm_code_bytes.specs.Bytes.{code_bytes}
 use Rattle.hm_isa.specs.declared.Instr.{Instr}
 use Rattle.hm_line.specs.Columns.{IsOperand}
 use Rattle.hm_line.specs.Texts.{column}
@@ -26,10 +25,6 @@ Naming = List ℕ → Option ℕ
 -- so many low bytes of a number, the lowest first
 abbrev pub low_bytes : ℕ → ℕ → List ℕ
 low_bytes k n = take k (to_le_bytes w64 n)
-
--- the code of an instruction, each halfword with its low byte first
-abbrev pub code_bytes : Instr → List ℕ
-code_bytes i = flat_map (to_le_bytes w16) (halfwords i)
 
 -- the number that a value stands for, of which a list keeps the low bytes; none where its name is not defined
 abbrev pub number_of : Naming → DatumSize → Datum → Option ℕ

@@ -84,10 +84,7 @@ pub fn first_pass(alloc: Global, source: &[u8]) -> Result<Labels, AsmErr>
     let mut rest = source;
     while !rest.is_empty() {
         let (line, behind) = first_line(rest);
-        match take_line(line, number, at, &mut labels) {
-            Ok(next) => at = next,
-            Err(e) => return Err(e),
-        }
+        at = take_line(line, number, at, &mut labels)?;
         number += 1;
         rest = behind;
     }

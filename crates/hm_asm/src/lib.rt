@@ -6,7 +6,6 @@ ghost use Rattle.hm_asm.specs.Sources.{IsAssembled, IsRefusal, IsUnlessMemory, G
 ghost use Rattle.hm_asm.specs.declared.errors.AsmErr.{AsmErr};
 ghost use Rattle.hm_base.specs.Image.{Segment};
 
-mod codes;
 mod errors;
 mod first;
 mod laws;

@@ -3,7 +3,6 @@
 ghost use Rattle.std.specs.Prelude.{◌≡◌, ◌<◌, ◌≤◌, ◌++◌, [], length, replicate, All, IfOk, OnErr, OnOk};
 ghost use Rattle.hm_asm.specs.Segments.{with_piece};
 ghost use Rattle.hm_base.specs.Image.{Before, IsPlaced, segment};
-ghost use Rattle.hm_base.specs.declared.errors.ImageErr.TheVariants as image_refusals;
 
 use hm_base::{Image, ImageErr, OutOfMemory};
 use std::alloc::Global;
@@ -31,14 +30,6 @@ impl Model for Making {
     ghost invariant = { λ a. IsMade (record { whole = a.image; start = a.start; bytes = a.bytes.items }) };
 }
 
-/// Want of memory, which is what a segment is refused for that has its place.
-fn memory_of(e: ImageErr) -> OutOfMemory
-    requires only { e ≡ image_refusals.OutOfMemory }
-{
-    let _ = e;
-    OutOfMemory
-}
-
 /// Adds a segment behind those of an image, where it has a byte.
 fn add_segment(image: &mut Image, start: u32, bytes: Vec<u8>) -> Result<(), OutOfMemory>
     requires placed { 0 < length bytes.items → IsPlaced (segment start bytes.items) }
@@ -51,7 +42,9 @@ fn add_segment(image: &mut Image, start: u32, bytes: Vec<u8>) -> Result<(), OutO
     }
     match image.add(start, bytes) {
         Ok(()) => Ok(()),
-        Err(e) => Err(memory_of(e)),
+        Err(ImageErr::OutOfMemory) => Err(OutOfMemory),
+        // it has its place
+        Err(_) => unreachable!(),
     }
 }
 

@@ -19,10 +19,10 @@ ghost use Rattle.hm_line.specs.Texts.{column};
 ghost use Rattle.hm_text.specs.Texts.{HasWidth};
 ghost use Rattle.hm_tokens.specs.Tokens.{skip};
 
-use crate::codes::code_bytes;
 use crate::errors::{AsmErr, refused};
 use crate::making::Making;
 use hm_base::{Image, OutOfMemory};
+use hm_code_bytes::code_bytes;
 use hm_line::{AsmKind, Labels, TextErr, column};
 use hm_source::{
     DatumSize, Directive, Item, Line, Statement, Values, behind_mark, first_line, item_at, padding,
@@ -210,10 +210,7 @@ pub fn second_pass(alloc: Global, source: &[u8], labels: &Labels) -> Result<Imag
     let mut rest = source;
     while !rest.is_empty() {
         let (line, behind) = first_line(rest);
-        match add_line(line, number, labels, &mut out) {
-            Ok(()) => {}
-            Err(e) => return Err(e),
-        }
+        add_line(line, number, labels, &mut out)?;
         number += 1;
         rest = behind;
     }

@@ -12,6 +12,10 @@ abbrev pub half_bytes : List ℕ → List ℕ
 half_bytes [] = []
 half_bytes (h ∷ hs) = h % 256 ∷ h / 256 ∷ half_bytes hs
 
+-- the code of an instruction, each halfword with its low byte first
+abbrev pub code_bytes : Instr → List ℕ
+code_bytes i = half_bytes (halfwords i)
+
 -- the halfwords of instructions one behind another
 abbrev pub all_halves : List Instr → List ℕ
 all_halves [] = []

@@ -1,5 +1,5 @@
 -- Instructions of programs that are generated: the rows that they are, with their names, registers and numbers.
-use Rattle.std.specs.Prelude.{◌≡◌, ℕ, ◌+◌, ◌*◌, ◌^◌}
+use Rattle.std.specs.Prelude.{◌≡◌, ℕ}
 use Rattle.hm_isa.specs.declared.Instr.{Instr}
 use Rattle.hm_isa.specs.declared.Instr.TheVariants as instr
 use Rattle.hm_isa.specs.declared.Scalar.TheVariants as scalar
@@ -17,7 +17,7 @@ use Rattle.hm_isa.specs.declared.vectors.V1.{V1}
 use Rattle.hm_isa.specs.declared.vectors.V2.{V2}
 use Rattle.hm_isa.specs.declared.vectors.V3.{V3}
 use Rattle.hm_isa.specs.declared.vectors.V18.{V18}
-use Rattle.hm_isa.specs.Words.{imm12}
+use Rattle.hm_isa.specs.Words.{imm16}
 
 -- S4: MOVS, CMP, ADDS or SUBS rd,#x, as the name says
 pub record IsByteRow (name : ByteName) (d x : ℕ) (i : Instr) : Type 0 where
@@ -33,16 +33,16 @@ pub record IsHalfRow (name : HalfName) (d x : ℕ) (i : Instr) : Type 0 where
   pub is : i ≡ instr.Scalar (scalar.T4 row)
   pub name_is : row.name ≡ name
   pub d_is : row.d.value ≡ d
-  pub x_is : row.i4.value * 2 ^ 12 + imm12 row.i.value row.i3.value row.i8.value ≡ x
+  pub x_is : imm16 row.i4.value row.i.value row.i3.value row.i8.value ≡ x
 
 -- S18: BKPT #x
-pub record IsBkpt (x : ℕ) (i : Instr) : Type 0 where
+pub record IsBreakpointRow (x : ℕ) (i : Instr) : Type 0 where
   pub row : S18
   pub is : i ≡ instr.Scalar (scalar.S18 row)
   pub x_is : row.i.value ≡ x
 
 -- V18: VDUP qd,rt, of elements of a size
-pub record IsSplatRow (size : Element) (d t : ℕ) (i : Instr) : Type 0 where
+pub record IsDuplicateRow (size : Element) (d t : ℕ) (i : Instr) : Type 0 where
   pub row : V18
   pub is : i ≡ instr.Vector (vector.V18 row)
   pub size_is : row.size ≡ size
@@ -69,7 +69,7 @@ pub record IsBitwiseRow (name : BitwiseName) (d n m : ℕ) (i : Instr) : Type 0 
   pub m_is : row.m.value ≡ m
 
 -- V3: VMAX, VMIN or one of their kin, qd,qn,qm, of elements of 8 * 2^z bits, which have a sign where u is 0
-pub record IsBestRow (u z : ℕ) (name : SignedName) (d n m : ℕ) (i : Instr) : Type 0 where
+pub record IsSignedRow (u z : ℕ) (name : SignedName) (d n m : ℕ) (i : Instr) : Type 0 where
   pub row : V3
   pub is : i ≡ instr.Vector (vector.V3 row)
   pub name_is : row.name ≡ name

@@ -3,17 +3,21 @@
 #![tactic(auto)]
 
 ghost use Rattle.std.specs.Prelude.{◌≡◌, ◌++◌, [], ◌∷◌, IfOk};
-ghost use Rattle.hm_code_bytes.specs.Bytes.{all_halves, half_bytes, word_bytes};
+ghost use Rattle.hm_code_bytes.specs.Bytes.{all_halves, code_bytes, half_bytes, word_bytes};
 ghost use Rattle.hm_code_bytes.specs.Codes.{IsPlain};
 ghost use Rattle.hm_isa.specs.Code.{halfwords, two_halves};
 
 pub mod rows;
 
+use arrayvec::ArrayVec;
 use hm_base::OutOfMemory;
 use hm_enc16::encode16;
 use hm_enc32::encode32;
 use hm_encv::encodev;
 use hm_isa::{Instr, width};
+
+/// The bytes of a code: two or four.
+pub type Code = ArrayVec<u8, 4>;
 
 /// Adds a little-endian word.
 pub fn add_word(out: &mut Vec<u8>, word: u32) -> Result<(), OutOfMemory>
@@ -23,31 +27,51 @@ pub fn add_word(out: &mut Vec<u8>, word: u32) -> Result<(), OutOfMemory>
     Ok(())
 }
 
-/// Adds a halfword of a code.
-fn add_half(out: &mut Vec<u8>, half: u16) -> Result<(), OutOfMemory>
-    ensures added { IfOk result (λ _. out.new.items ≡ out.old.items ++ half_bytes (half ∷ [])) }
+/// The bytes of a code of one halfword.
+fn narrow(half: u16) -> Code
+    ensures bytes { result.items ≡ half_bytes (half ∷ []) }
 {
-    out.extend_from_slice(&half.to_le_bytes())?;
-    Ok(())
+    let [low, high] = half.to_le_bytes();
+    let mut out = ArrayVec::new();
+    out.push(low);
+    out.push(high);
+    out
 }
 
-/// Adds a code of two halfwords, the first in bits 31 to 16.
-fn add_halves(out: &mut Vec<u8>, code: u32) -> Result<(), OutOfMemory>
-    ensures added { IfOk result (λ _. out.new.items ≡ out.old.items ++ half_bytes (two_halves code)) }
+/// The bytes of a code of two halfwords, the first in bits 31 to 16.
+fn wide(word: u32) -> Code
+    ensures bytes { result.items ≡ half_bytes (two_halves word) }
 {
-    add_half(out, (code / 65536) as u16)?;
-    add_half(out, (code % 65536) as u16)
+    let [first, second] = ((word / 65536) as u16).to_le_bytes();
+    let [third, fourth] = ((word % 65536) as u16).to_le_bytes();
+    let mut out = ArrayVec::new();
+    out.push(first);
+    out.push(second);
+    out.push(third);
+    out.push(fourth);
+    out
 }
 
-/// Adds the code of an instruction that is no vector row.
-fn add_plain(out: &mut Vec<u8>, i: &Instr) -> Result<(), OutOfMemory>
+/// The bytes of the code of an instruction that is no vector row.
+fn plain_code(i: &Instr) -> Code
     requires plain { IsPlain i.now }
-    ensures added { IfOk result (λ _. out.new.items ≡ out.old.items ++ half_bytes (halfwords i.now)) }
+    ensures bytes { result.items ≡ code_bytes i.now }
 {
     if width(i) == 2 {
-        add_half(out, encode16(i))
+        narrow(encode16(i))
     } else {
-        add_halves(out, encode32(i))
+        wide(encode32(i))
+    }
+}
+
+/// The bytes of the code of an instruction: each halfword with its low byte first.
+pub fn code_bytes(i: &Instr) -> Code
+    ensures bytes { result.items ≡ code_bytes i.now }
+{
+    match i {
+        Instr::Scalar(_row) => plain_code(i),
+        Instr::Branch(_row) => plain_code(i),
+        Instr::Vector(v) => wide(encodev(v)),
     }
 }
 
@@ -55,11 +79,9 @@ fn add_plain(out: &mut Vec<u8>, i: &Instr) -> Result<(), OutOfMemory>
 pub fn add_code(out: &mut Vec<u8>, i: &Instr) -> Result<(), OutOfMemory>
     ensures added { IfOk result (λ _. out.new.items ≡ out.old.items ++ half_bytes (halfwords i.now)) }
 {
-    match i {
-        Instr::Scalar(_row) => add_plain(out, i),
-        Instr::Branch(_row) => add_plain(out, i),
-        Instr::Vector(v) => add_halves(out, encodev(v)),
-    }
+    let code = code_bytes(i);
+    out.extend_from_slice(code.as_slice())?;
+    Ok(())
 }
 
 /// Adds the codes of instructions one behind another.

@@ -1,7 +1,7 @@
 //! Instructions of programs that are generated, as values.
 
 ghost use Rattle.std.specs.Prelude.{◌<◌};
-ghost use Rattle.hm_code_bytes.specs.Instructions.{IsAddRow, IsBestRow, IsBitwiseRow, IsBkpt, IsByteRow, IsHalfRow, IsSplatRow};
+ghost use Rattle.hm_code_bytes.specs.Instructions.{IsAddRow, IsBitwiseRow, IsBreakpointRow, IsByteRow, IsDuplicateRow, IsHalfRow, IsSignedRow};
 ghost use Rattle.hm_isa.specs.declared.data.HalfName.{HalfName};
 ghost use Rattle.hm_isa.specs.declared.narrow.ByteName.{ByteName};
 ghost use Rattle.hm_isa.specs.declared.vectors.AddName.{AddName};
@@ -14,9 +14,9 @@ use hm_isa::{
     T4, V1, V2, V3, V18, Vector,
 };
 
-/// `movs`, `cmp`, `adds` or `subs rd,#x`: DDI0553, the sections named at the type S4.
+/// `movs`, `cmp`, `adds` or `subs rd,#x`, where d is below 8 and x below 256: DDI0553, the sections named at the type S4.
 pub fn byte_row(name: ByteName, d: u32, x: u32) -> Instr
-    requires register { d < 8 }
+    requires target { d < 8 }
     requires byte { x < 256 }
     ensures row { IsByteRow name d x result }
 {
@@ -31,7 +31,7 @@ pub fn byte_row(name: ByteName, d: u32, x: u32) -> Instr
 /// `movw` or `movt rd,#x`, where d is below 13 and x has 16 bits: DDI0553, "MOV (immediate)", encoding T3, and "MOVT".
 #[tactic(auto, using(crate::proofs::Made::half_made))]
 pub fn half_row(name: HalfName, d: u32, x: u32) -> Instr
-    requires register { d < 13 }
+    requires target { d < 13 }
     requires half { x < 65536 }
     ensures row { IsHalfRow name d x result }
 {
@@ -46,21 +46,21 @@ pub fn half_row(name: HalfName, d: u32, x: u32) -> Instr
     Instr::Scalar(Scalar::T4(row))
 }
 
-/// `bkpt #x`: DDI0553, "BKPT".
-pub fn breakpoint(x: u32) -> Instr
+/// `bkpt #x`, where x is below 256: it halts a program, but with 171 it asks something of the host (Arm's semihosting). DDI0553, "BKPT".
+pub fn breakpoint_row(x: u32) -> Instr
     requires byte { x < 256 }
-    ensures row { IsBkpt x result }
+    ensures row { IsBreakpointRow x result }
 {
     let row = S18 { i: Below::new(x) };
     Instr::Scalar(Scalar::S18(row))
 }
 
-/// `vdup qd,rt` of elements of a size, where t is below 13: DDI0553, "VDUP".
-#[tactic(auto, using(crate::proofs::Made::splat_made))]
-pub fn splat(size: Element, d: u32, t: u32) -> Instr
-    requires vector { d < 8 }
-    requires core { t < 13 }
-    ensures row { IsSplatRow size d t result }
+/// `vdup qd,rt` of elements of a size, where d is below 8 and t below 13: DDI0553, "VDUP".
+#[tactic(auto, using(crate::proofs::Made::duplicate_made))]
+pub fn duplicate_row(size: Element, d: u32, t: u32) -> Instr
+    requires target { d < 8 }
+    requires source { t < 13 }
+    ensures row { IsDuplicateRow size d t result }
 {
     let row = V18 {
         size,
@@ -70,7 +70,8 @@ pub fn splat(size: Element, d: u32, t: u32) -> Instr
     Instr::Vector(Vector::V18(row))
 }
 
-/// `vadd`, `vsub` or `vmul qd,qn,qm` of elements of 8 * 2^z bits: DDI0553, "VADD (vector)", "VSUB (vector)" and "VMUL (vector)".
+/// `vadd`, `vsub` or `vmul qd,qn,qm` of elements of 8 * 2^z bits, where z is below 3, and d, n and m below 8: DDI0553, "VADD (vector)",
+/// "VSUB (vector)" and "VMUL (vector)".
 pub fn add_row(z: u32, name: AddName, d: u32, n: u32, m: u32) -> Instr
     requires size { z < 3 }
     requires target { d < 8 }
@@ -88,7 +89,8 @@ pub fn add_row(z: u32, name: AddName, d: u32, n: u32, m: u32) -> Instr
     Instr::Vector(Vector::V1(row))
 }
 
-/// `vand`, `vbic`, `vorr`, `vorn` or `veor qd,qn,qm`: DDI0553, "VAND", "VBIC (register)", "VORR", "VORN" and "VEOR".
+/// `vand`, `vbic`, `vorr`, `vorn` or `veor qd,qn,qm`, where d, n and m are below 8: DDI0553, "VAND", "VBIC (register)", "VORR", "VORN"
+/// and "VEOR".
 pub fn bitwise_row(name: BitwiseName, d: u32, n: u32, m: u32) -> Instr
     requires target { d < 8 }
     requires first { n < 8 }
@@ -104,15 +106,15 @@ pub fn bitwise_row(name: BitwiseName, d: u32, n: u32, m: u32) -> Instr
     Instr::Vector(Vector::V2(row))
 }
 
-/// `vmax`, `vmin` or one of their kin, `qd,qn,qm` of elements of 8 * 2^z bits, without a sign where u is 1: DDI0553, the sections named
-/// at the type V3.
-pub fn best_row(u: u32, z: u32, name: SignedName, d: u32, n: u32, m: u32) -> Instr
+/// `vmax`, `vmin` or one of their kin, `qd,qn,qm` of elements of 8 * 2^z bits, without a sign where u is 1, else 0; z is below 3, and d, n
+/// and m below 8: DDI0553, the sections named at the type V3.
+pub fn signed_row(u: u32, z: u32, name: SignedName, d: u32, n: u32, m: u32) -> Instr
     requires sign { u < 2 }
     requires size { z < 3 }
     requires target { d < 8 }
     requires first { n < 8 }
     requires second { m < 8 }
-    ensures row { IsBestRow u z name d n m result }
+    ensures row { IsSignedRow u z name d n m result }
 {
     let row = V3 {
         name,

@@ -17,7 +17,7 @@ use Rattle.hm_kernel_lang.specs.Language.{address, names, need, numbers, operati
 use Rattle.hm_kernel_lang.specs.Machine.{Again, Begin, Do, Item, Load, Offset, Plain, Stop}
 use Rattle.hm_kernel_lang.proofs.Expressions.{needs_one}
 use Rattle.hm_kernel_lang.proofs.Straight.{halves_append}
-use Rattle.hm_code_bytes.specs.Instructions.{IsBkpt}
+use Rattle.hm_code_bytes.specs.Instructions.{IsBreakpointRow}
 use Rattle.hm_code_bytes.proofs.Made.{items_append}
 use Rattle.hm_kernel_code.specs.Appending.{Appends}
 use Rattle.hm_kernel_code.specs.Instructions.{AreItems, IsItem, IsOperation}
@@ -122,7 +122,7 @@ all_lines at n (l ∷ ls) = ap (λ (xs : List Item). line_code at n l ++ xs) (al
     ∙ sym (append_assoc (line_code at n l) (flat_map (line_code at n) ls) (Stop ∷ []))
 
 pub text_appended : (t : ElementType) (at : ℕ → ℕ) (n : ℕ) (ls : List Line) (k : ℕ) (i : Instr) (b c : List Instr) → length ls ≤ k
-    → Appends t (first_lines at n ls k) [] b → IsBkpt 0 i → c ≡ b ++ (i ∷ [])
+    → Appends t (first_lines at n ls k) [] b → IsBreakpointRow 0 i → c ≡ b ++ (i ∷ [])
     → AreItems t (lines_code at n ls) c
 text_appended t at n ls k i b c h front is e =
     let whole : take k ls ≡ ls = take_all k ls h in

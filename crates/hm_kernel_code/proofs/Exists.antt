@@ -19,7 +19,7 @@ use Rattle.hm_isa.specs.declared.narrow.S6.{S6}
 use Rattle.hm_isa.specs.declared.vectors.AddName.TheVariants as add
 use Rattle.hm_isa.specs.declared.vectors.BitwiseName.TheVariants as bitwise
 use Rattle.hm_isa.specs.declared.vectors.SignedName.TheVariants as signed
-use Rattle.hm_code_bytes.proofs.Made.{field, fit_append, some_add, some_best, some_bitwise, some_breakpoint, some_byte, some_half, some_items, some_splat}
+use Rattle.hm_code_bytes.proofs.Made.{field, fit_append, some_add, some_bitwise, some_breakpoint, some_byte, some_duplicate, some_half, some_items, some_signed}
 use Rattle.hm_kernel_lang.specs.declared.text.ElementType.{ElementType}
 use Rattle.hm_kernel_lang.specs.declared.text.ElementType.TheVariants.{U8}
 use Rattle.hm_kernel_lang.specs.declared.text.Expr.{Expr}
@@ -105,9 +105,9 @@ some_operation t op.Add q l = some_add (size_code t) add.Add q q (q + 1) (size_f
 some_operation t op.Sub q l = some_add (size_code t) add.Sub q q (q + 1) (size_fits t) (omega arith) (omega arith) l
 some_operation t op.Mul q l = some_add (size_code t) add.Mul q q (q + 1) (size_fits t) (omega arith) (omega arith) l
 some_operation t op.Min q l =
-    some_best (cond (is_signed t) 0 1) (size_code t) signed.Min q q (q + 1) (sign_fits t) (size_fits t) (omega arith) (omega arith) l
+    some_signed (cond (is_signed t) 0 1) (size_code t) signed.Min q q (q + 1) (sign_fits t) (size_fits t) (omega arith) (omega arith) l
 some_operation t op.Max q l =
-    some_best (cond (is_signed t) 0 1) (size_code t) signed.Max q q (q + 1) (sign_fits t) (size_fits t) (omega arith) (omega arith) l
+    some_signed (cond (is_signed t) 0 1) (size_code t) signed.Max q q (q + 1) (sign_fits t) (size_fits t) (omega arith) (omega arith) l
 some_operation t op.And q l = some_bitwise bitwise.And q q (q + 1) (omega arith) (omega arith) l
 some_operation t op.Or q l = some_bitwise bitwise.Orr q q (q + 1) (omega arith) (omega arith) l
 some_operation t op.Xor q l = some_bitwise bitwise.Eor q q (q + 1) (omega arith) (omega arith) l
@@ -119,7 +119,7 @@ some_kind t (High n) h = some_half half.Movt 5 n (omega arith) h
 some_kind t (LowLength n) h = some_half half.Movw 6 n (omega arith) h
 some_kind t (HighLength n) h = some_half half.Movt 6 n (omega arith) h
 some_kind t Offset h = some_sum
-some_kind t (Splat q) h = some_splat (element_name t) q 5 h (omega arith)
+some_kind t (Splat q) h = some_duplicate (element_name t) q 5 h (omega arith)
 some_kind t (Load q) h = some_move t 1 q (omega arith) h
 some_kind t (Store q) h = some_move t 0 q (omega arith) h
 some_kind t (Do o q) h = some_operation t o q h

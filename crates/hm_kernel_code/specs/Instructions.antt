@@ -1,9 +1,7 @@
 -- The instructions that the code of an array text is made of.
 use Rattle.std.specs.Prelude.{◌≡◌, ℕ, ◌+◌, ◌*◌, ◌≤◌, cond, List}
 use Rattle.std.specs.List.{AllZip}
-use Rattle.hm_code_bytes.specs.Instructions as rows
-use Rattle.hm_code_bytes.specs.Instructions.{IsBkpt, IsByteRow, IsHalfRow, IsSplatRow}
-pub use Rattle.hm_code_bytes.specs.Instructions.{IsBitwiseRow}
+use Rattle.hm_code_bytes.specs.Instructions.{IsAddRow, IsBitwiseRow, IsBreakpointRow, IsByteRow, IsDuplicateRow, IsHalfRow, IsSignedRow}
 use Rattle.hm_isa.specs.declared.Instr.{Instr}
 use Rattle.hm_isa.specs.declared.Instr.TheVariants as instr
 use Rattle.hm_isa.specs.declared.Scalar.TheVariants as scalar
@@ -19,10 +17,8 @@ use Rattle.hm_isa.specs.declared.jumps.T23.TheVariants as t23
 use Rattle.hm_isa.specs.declared.memory.V24.{V24}
 use Rattle.hm_isa.specs.declared.vectors.Element.{Element}
 use Rattle.hm_isa.specs.declared.vectors.Element.TheVariants as element
-use Rattle.hm_isa.specs.declared.vectors.AddName.{AddName}
 use Rattle.hm_isa.specs.declared.vectors.AddName.TheVariants as add
 use Rattle.hm_isa.specs.declared.vectors.BitwiseName.TheVariants as bitwise
-use Rattle.hm_isa.specs.declared.vectors.SignedName.{SignedName}
 use Rattle.hm_isa.specs.declared.vectors.SignedName.TheVariants as signed
 use Rattle.hm_kernel_lang.specs.declared.text.ElementType.{ElementType}
 use Rattle.hm_kernel_lang.specs.declared.text.ElementType.TheVariants.{U8, S8, U16, S16, U32, S32}
@@ -61,21 +57,13 @@ pub record IsMoveRow (t : ElementType) (l d n : ℕ) (i : Instr) : Type 0 where
   pub d_is : row.d.value ≡ d
   pub n_is : row.n.value ≡ n
 
--- VADD, VSUB or VMUL of elements of a type
-abbrev pub IsAddRow : ElementType → AddName → ℕ → ℕ → ℕ → Instr → Type 0
-IsAddRow t = rows.IsAddRow (size_code t)
-
--- VMAX, VMIN or one of their kin, of elements of a type, with its sign
-abbrev pub IsBestRow : ElementType → SignedName → ℕ → ℕ → ℕ → Instr → Type 0
-IsBestRow t = rows.IsBestRow (cond (is_signed t) 0 1) (size_code t)
-
 -- the instruction of an operation on registers q and q + 1 that leaves its result in q, of V1, V2 or V3
 abbrev pub IsOperation : ElementType → Op → ℕ → Instr → Type 0
-IsOperation t op.Add q i = IsAddRow t add.Add q q (q + 1) i
-IsOperation t op.Sub q i = IsAddRow t add.Sub q q (q + 1) i
-IsOperation t op.Mul q i = IsAddRow t add.Mul q q (q + 1) i
-IsOperation t op.Min q i = IsBestRow t signed.Min q q (q + 1) i
-IsOperation t op.Max q i = IsBestRow t signed.Max q q (q + 1) i
+IsOperation t op.Add q i = IsAddRow (size_code t) add.Add q q (q + 1) i
+IsOperation t op.Sub q i = IsAddRow (size_code t) add.Sub q q (q + 1) i
+IsOperation t op.Mul q i = IsAddRow (size_code t) add.Mul q q (q + 1) i
+IsOperation t op.Min q i = IsSignedRow (cond (is_signed t) 0 1) (size_code t) signed.Min q q (q + 1) i
+IsOperation t op.Max q i = IsSignedRow (cond (is_signed t) 0 1) (size_code t) signed.Max q q (q + 1) i
 IsOperation t op.And q i = IsBitwiseRow bitwise.And q q (q + 1) i
 IsOperation t op.Or q i = IsBitwiseRow bitwise.Orr q q (q + 1) i
 IsOperation t op.Xor q i = IsBitwiseRow bitwise.Eor q q (q + 1) i
@@ -103,7 +91,7 @@ IsKind t (High n) i = IsHalfRow half.Movt 5 n i
 IsKind t (LowLength n) i = IsHalfRow half.Movw 6 n i
 IsKind t (HighLength n) i = IsHalfRow half.Movt 6 n i
 IsKind t Offset i = IsSumRow 5 4 i
-IsKind t (Splat q) i = IsSplatRow (element_name t) q 5 i
+IsKind t (Splat q) i = IsDuplicateRow (element_name t) q 5 i
 IsKind t (Load q) i = IsMoveRow t 1 q 5 i
 IsKind t (Store q) i = IsMoveRow t 0 q 5 i
 IsKind t (Do o q) i = IsOperation t o q i
@@ -114,7 +102,7 @@ abbrev pub IsItem : ElementType → Item → Instr → Type 0
 IsItem t (Plain k) i = IsKind t k i
 IsItem t (Begin h) i = IsBeginRow t h i
 IsItem t (Again h) i = IsAgainRow h i
-IsItem t Stop i = IsBkpt 0 i
+IsItem t Stop i = IsBreakpointRow 0 i
 
 -- instructions are those of items, one of each
 abbrev pub AreItems : ElementType → List Item → List Instr → Type 0

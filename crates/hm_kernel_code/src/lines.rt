@@ -12,7 +12,7 @@ use crate::expressions::add_expression;
 use crate::parts::loop_halves;
 use crate::rows::{LENGTH, OFFSET, SCRATCH, add_offset, begin_loop, end_loop, transfer};
 use hm_base::OutOfMemory;
-use hm_code_bytes::rows::{breakpoint, byte_row, half_row};
+use hm_code_bytes::rows::{breakpoint_row, byte_row, half_row};
 use hm_isa::{ByteName, HalfName, Instr};
 use hm_kernel_lang::text::{Array, ElementType, Line, Text};
 use std::alloc::Global;
@@ -80,6 +80,6 @@ pub fn code_of(alloc: Global, text: &Text) -> Result<Vec<Instr>, OutOfMemory>
     for line in text.lines.iter() {
         add_line(&mut out, text.element, text.count, &text.arrays, line)?;
     }
-    out.push(breakpoint(0))?;
+    out.push(breakpoint_row(0))?;
     Ok(out)
 }

@@ -1,18 +1,18 @@
 //! The instructions of a text's code, as values.
 
 ghost use Rattle.std.specs.Prelude.{◌≡◌, ◌+◌, ◌<◌, cond};
-ghost use Rattle.hm_code_bytes.specs.Instructions.{IsSplatRow};
+ghost use Rattle.hm_code_bytes.specs.Instructions.{IsAddRow, IsDuplicateRow, IsSignedRow};
 ghost use Rattle.hm_isa.specs.declared.vectors.AddName.{AddName};
 ghost use Rattle.hm_isa.specs.declared.vectors.SignedName.{SignedName};
-ghost use Rattle.hm_kernel_code.specs.Instructions.{IsAddRow, IsAgainRow, IsBeginRow, IsBestRow, IsMoveRow, IsOperation, IsSumRow, element_name};
+ghost use Rattle.hm_kernel_code.specs.Instructions.{IsAgainRow, IsBeginRow, IsMoveRow, IsOperation, IsSumRow, element_name};
 ghost use Rattle.hm_kernel_lang.specs.Language.{is_signed};
 ghost use Rattle.hm_kernel_lang.specs.Machine.{size_code};
 
 use hm_code_bytes::rows;
 use hm_code_bytes::rows::bitwise_row;
 use hm_isa::{
-    AddName, Below, BitwiseName, Branch, Element, ElementSize, Instr, LoopEnd, LoopEndName, S6,
-    Scalar, SignedName, T23, V24, Vector, Wlstp,
+    AddName, Below, BitwiseName, Branch, Element, Instr, LoopEnd, LoopEndName, S6, Scalar,
+    SignedName, T23, V24, Vector, Wlstp,
 };
 use hm_kernel_lang::text::{ElementType, Op};
 
@@ -26,13 +26,14 @@ pub const SCRATCH: u32 = 5;
 pub const LENGTH: u32 = 6;
 
 /// The size of a type's elements, as rows have it that name it by a number.
-fn size_of(t: ElementType) -> ElementSize
-    ensures value { result.value ≡ size_code t }
+fn size_of(t: ElementType) -> u32
+    ensures value { result ≡ size_code t }
+    ensures in_range { result < 3 }
 {
     match t {
-        ElementType::U8 | ElementType::S8 => Below::new(0),
-        ElementType::U16 | ElementType::S16 => Below::new(1),
-        ElementType::U32 | ElementType::S32 => Below::new(2),
+        ElementType::U8 | ElementType::S8 => 0,
+        ElementType::U16 | ElementType::S16 => 1,
+        ElementType::U32 | ElementType::S32 => 2,
     }
 }
 
@@ -47,13 +48,14 @@ fn element_of(t: ElementType) -> Element
     }
 }
 
-/// 1 for a type whose numbers have no sign.
-fn unsigned_of(t: ElementType) -> Below<2>
-    ensures value { result.value ≡ cond (is_signed t) 0 1 }
+/// 1 for a type whose numbers have no sign, else 0.
+fn unsigned_of(t: ElementType) -> u32
+    ensures value { result ≡ cond (is_signed t) 0 1 }
+    ensures in_range { result < 2 }
 {
     match t {
-        ElementType::U8 | ElementType::U16 | ElementType::U32 => Below::new(1),
-        ElementType::S8 | ElementType::S16 | ElementType::S32 => Below::new(0),
+        ElementType::U8 | ElementType::U16 | ElementType::U32 => 1,
+        ElementType::S8 | ElementType::S16 | ElementType::S32 => 0,
     }
 }
 
@@ -71,9 +73,9 @@ pub fn add_offset() -> Instr
 /// `vdup qd,r5`.
 pub fn splat(t: ElementType, d: u32) -> Instr
     requires register { d < 8 }
-    ensures row { IsSplatRow (element_name t) d 5 result }
+    ensures row { IsDuplicateRow (element_name t) d 5 result }
 {
-    rows::splat(element_of(t), d, SCRATCH)
+    rows::duplicate_row(element_of(t), d, SCRATCH)
 }
 
 /// A load of qd from the address in r5 where l is 1, and a store of it there where l is 0.
@@ -89,7 +91,7 @@ pub fn transfer(t: ElementType, l: u32, d: u32) -> Instr
         l: Below::new(l),
         n: Below::new(SCRATCH),
         d: Below::new(d),
-        z: size_of(t),
+        z: Below::new(size_of(t)),
         i: Below::new(0),
     };
     Instr::Vector(Vector::V24(row))
@@ -98,17 +100,17 @@ pub fn transfer(t: ElementType, l: u32, d: u32) -> Instr
 /// The sum, the difference or the product of qd and the register behind it, in qd.
 fn add_row(t: ElementType, name: AddName, d: u32) -> Instr
     requires register { d + 1 < 8 }
-    ensures row { IsAddRow t name d d (d + 1) result }
+    ensures row { IsAddRow (size_code t) name d d (d + 1) result }
 {
-    rows::add_row(size_of(t).get(), name, d, d, d + 1)
+    rows::add_row(size_of(t), name, d, d, d + 1)
 }
 
 /// The greater or the lesser of qd and the register behind it, in qd.
-fn best_row(t: ElementType, name: SignedName, d: u32) -> Instr
+fn signed_row(t: ElementType, name: SignedName, d: u32) -> Instr
     requires register { d + 1 < 8 }
-    ensures row { IsBestRow t name d d (d + 1) result }
+    ensures row { IsSignedRow (cond (is_signed t) 0 1) (size_code t) name d d (d + 1) result }
 {
-    rows::best_row(unsigned_of(t).get(), size_of(t).get(), name, d, d, d + 1)
+    rows::signed_row(unsigned_of(t), size_of(t), name, d, d, d + 1)
 }
 
 /// An operation on qd and the register behind it, in qd.
@@ -120,8 +122,8 @@ pub fn operation(t: ElementType, op: Op, d: u32) -> Instr
         Op::Add => add_row(t, AddName::Add, d),
         Op::Sub => add_row(t, AddName::Sub, d),
         Op::Mul => add_row(t, AddName::Mul, d),
-        Op::Min => best_row(t, SignedName::Min, d),
-        Op::Max => best_row(t, SignedName::Max, d),
+        Op::Min => signed_row(t, SignedName::Min, d),
+        Op::Max => signed_row(t, SignedName::Max, d),
         Op::And => bitwise_row(BitwiseName::And, d, d, d + 1),
         Op::Or => bitwise_row(BitwiseName::Orr, d, d, d + 1),
         Op::Xor => bitwise_row(BitwiseName::Eor, d, d, d + 1),
@@ -134,7 +136,7 @@ pub fn begin_loop(t: ElementType, halves: u32) -> Instr
     ensures row { IsBeginRow t halves result }
 {
     let row = Wlstp {
-        z: Below::new(size_of(t).get()),
+        z: Below::new(size_of(t)),
         n: Below::new(LENGTH),
         v: Below::new(halves),
     };

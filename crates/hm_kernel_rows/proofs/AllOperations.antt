@@ -29,7 +29,7 @@ use Rattle.hm_kernel_lang.specs.Language.{is_signed, lanes, op_value}
 use Rattle.hm_kernel_lang.specs.Machine.{View, Do, Plain, exec, merged, size_code}
 use Rattle.hm_kernel_lang.specs.Correct.{Reaches}
 use Rattle.hm_kernel_rows.specs.Shows.{Shows, size_of_type}
-use Rattle.hm_kernel_code.specs.Instructions.{IsBestRow, IsBitwiseRow}
+use Rattle.hm_code_bytes.specs.Instructions.{IsBitwiseRow, IsSignedRow}
 use Rattle.hm_kernel_rows.specs.Standing.{Stands}
 use Rattle.hm_kernel_rows.proofs.Bests.{max_is, min_is, mul_is, unsigned_of}
 use Rattle.hm_kernel_rows.proofs.Bitwise.{IsBitwise, and_is, both, both_lanes, bytes_both, or_is, result_both, xor_is}
@@ -43,11 +43,11 @@ sign_bit t = grind arith
 
 module _ (t : ElementType) (listing : Listing) where
   -- the lesser or the greater
-  best_row : (name : SignedName) (q : ℕ) (v : View) (s : State) → Shows t v s → (i : Instr) → listing v.pc ≡ Ok i → IsBestRow t name q q (q + 1) i → q + 1 < 8
-      → v.size ≡ size_code t → (f : ℕ → ℕ)
+  signed_row : (name : SignedName) (q : ℕ) (v : View) (s : State) → Shows t v s → (i : Instr) → listing v.pc ≡ Ok i
+      → IsSignedRow (cond (is_signed t) 0 1) (size_code t) name q q (q + 1) i → q + 1 < 8 → v.size ≡ size_code t → (f : ℕ → ℕ)
       → ((e : ℕ) → e < lanes t → lane_of (signed_fn name) (unsigned_of t) (size_of_type t) (v.lane q e) (v.lane q e) (v.lane (q + 1) e) ≡ f e)
       → Reaches (program.alone listing) (Shows t) 1 s (record v { pc = v.pc + 4; lane = merged q f v })
-  best_row name q v s shows i here k room size f is =
+  signed_row name q v s shows i here k room size f is =
       let r = k.row in
       let l : Lanes = record { f = signed_fn r.name; unsigned = nat_eq r.u.value 1; z = size_of r.z.value; d = r.d; n = r.n; by = by.Vector r.m } in
       let w = record v { pc = v.pc + 4; lane = merged q f v } in
@@ -93,11 +93,11 @@ module _ (t : ElementType) (listing : Listing) where
       ∙ ap (λ (x : ℕ). v.lane q e * v.lane (q + 1) e % x) (modulus_is t))
   operation op.Min q v s h st can =
       let room_q : q < 8 = let k = can.0 in omega arith in
-      best_row signed.Min q v s h st.instr st.here st.is can.0 can.1 (λ e. op_value t op.Min (v.lane q e) (v.lane (q + 1) e))
+      signed_row signed.Min q v s h st.instr st.here st.is can.0 can.1 (λ e. op_value t op.Min (v.lane q e) (v.lane (q + 1) e))
       (λ e m. min_is t (v.lane q e) (v.lane q e) (v.lane (q + 1) e) (lane_fits t v s h q e room_q m) (lane_fits t v s h (q + 1) e can.0 m))
   operation op.Max q v s h st can =
       let room_q : q < 8 = let k = can.0 in omega arith in
-      best_row signed.Max q v s h st.instr st.here st.is can.0 can.1 (λ e. op_value t op.Max (v.lane q e) (v.lane (q + 1) e))
+      signed_row signed.Max q v s h st.instr st.here st.is can.0 can.1 (λ e. op_value t op.Max (v.lane q e) (v.lane (q + 1) e))
       (λ e m. max_is t (v.lane q e) (v.lane q e) (v.lane (q + 1) e) (lane_fits t v s h q e room_q m) (lane_fits t v s h (q + 1) e can.0 m))
   operation op.And q v s h st can = bit_row bitwise.And bit_and and_is (λ c a b. refl) q v s h st.instr st.here st.is can.0 can.1
   operation op.Or q v s h st can = bit_row bitwise.Orr bit_or or_is (λ c a b. refl) q v s h st.instr st.here st.is can.0 can.1

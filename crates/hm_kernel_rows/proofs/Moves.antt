@@ -4,6 +4,7 @@ use Rattle.std.proofs.Common.{min, get_or, length, List, [], ◌++◌, refl, sym
 use Rattle.std.specs.Prelude.{Result, Ok, if◌then◌else◌}
 use Rattle.std.proofs.lemmas.Bool.Decides.{nat_tests}
 use Rattle.std.proofs.lemmas.List.Elements.{All-cons, All-nil}
+use Rattle.std.specs.Option.{option_or}
 use Rattle.hm_base.specs.declared.Fault.{Fault}
 use Rattle.hm_base.specs.declared.FaultKind.{FaultKind}
 use Rattle.hm_base.specs.declared.FaultKind.TheVariants as kind
@@ -21,7 +22,7 @@ use Rattle.hm_lane.proofs.LaneLists.{lanes-unlanes}
 use Rattle.hm_lane_fns.specs.Words.{filled as spread_tests, size_of}
 use Rattle.hm_mem.specs.declared.Access.TheVariants.{Vector}
 use Rattle.hm_mem.specs.Devices.{has_width, tells_time, word_at}
-use Rattle.hm_mem.specs.Seen.{fault_kind, or_else, unless}
+use Rattle.hm_mem.specs.Seen.{fault_kind, unless}
 use Rattle.hm_moves.specs.Moves.{fault_after, byte_count}
 use Rattle.hm_moves.specs.Ways.{Transfer, each_from, straight, way_writes_lr}
 use Rattle.hm_moves.specs.Wholes.{count, fault_of, loaded_elements, read_at, transfer_whole, transferred, written_back}
@@ -149,11 +150,11 @@ no_faults store len left f j zero h = refl
 no_faults store len left f j (suc n) h =
     let rest = no_faults store len left f (j + 1) n (λ i a b c. h i (omega arith) (omega arith) c) in
     decide (ltb j left)
-    (λ e. ap (λ (b : Bool). or_else (cond b (fault_after (fault_kind true Vector store len (f j)) (f j)) None)
+    (λ e. ap (λ (b : Bool). option_or (cond b (fault_after (fault_kind true Vector store len (f j)) (f j)) None)
     (fault_of store len (tails left (j + 1) n) (each_from f (j + 1) n))) e
-    ∙ ap (λ (o : Option Fault). or_else o (fault_of store len (tails left (j + 1) n) (each_from f (j + 1) n)))
+    ∙ ap (λ (o : Option Fault). option_or o (fault_of store len (tails left (j + 1) n) (each_from f (j + 1) n)))
     (h j (omega arith) (omega arith) (ltb-true j left e)) ∙ rest)
-    (λ e. ap (λ (b : Bool). or_else (cond b (fault_after (fault_kind true Vector store len (f j)) (f j)) None)
+    (λ e. ap (λ (b : Bool). option_or (cond b (fault_after (fault_kind true Vector store len (f j)) (f j)) None)
     (fault_of store len (tails left (j + 1) n) (each_from f (j + 1) n))) e ∙ rest)
 
 -- LOADS

@@ -34,7 +34,8 @@ use Rattle.hm_kernel_lang.specs.Language.{lanes, modulus, op_value}
 use Rattle.hm_kernel_lang.specs.Machine.{View, Do, Plain, Splat, exec, merged, size_code}
 use Rattle.hm_kernel_lang.specs.Correct.{Reaches}
 use Rattle.hm_kernel_rows.specs.Shows.{Shows, element_at, size_of_type}
-use Rattle.hm_kernel_code.specs.Instructions.{IsAddRow, element_name}
+use Rattle.hm_code_bytes.specs.Instructions.{IsAddRow}
+use Rattle.hm_kernel_code.specs.Instructions.{element_name}
 use Rattle.hm_kernel_rows.specs.Standing.{Stands}
 use Rattle.hm_kernel_rows.proofs.Merging.{AllBytes, length_lanes}
 use Rattle.hm_kernel_rows.proofs.Steps.{reached}
@@ -254,8 +255,8 @@ name_size t = grind arith
 
 module _ (t : ElementType) (listing : Listing) where
   -- an addition, a subtraction or a product
-  pub add_row : (name : AddName) (q : ℕ) (v : View) (s : State) → Shows t v s → (i : Instr) → listing v.pc ≡ Ok i → IsAddRow t name q q (q + 1) i → q + 1 < 8
-      → v.size ≡ size_code t → (f : ℕ → ℕ)
+  pub add_row : (name : AddName) (q : ℕ) (v : View) (s : State) → Shows t v s → (i : Instr) → listing v.pc ≡ Ok i
+      → IsAddRow (size_code t) name q q (q + 1) i → q + 1 < 8 → v.size ≡ size_code t → (f : ℕ → ℕ)
       → ((e : ℕ) → e < lanes t → lane_of (add_fn name) false (size_of_type t) (v.lane q e) (v.lane q e) (v.lane (q + 1) e) ≡ f e)
       → Reaches (program.alone listing) (Shows t) 1 s (record v { pc = v.pc + 4; lane = merged q f v })
   add_row name q v s shows i here k room size f is =

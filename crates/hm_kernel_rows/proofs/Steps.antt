@@ -21,7 +21,7 @@ use Rattle.hm_regs.proofs.Places.{value_at-other, value_at-same}
 use Rattle.hm_regs.proofs.Writes.{counted}
 use Rattle.hm_regs.specs.declared.Regs.{Regs}
 use Rattle.hm_state.specs.State.{State, regs_of}
-use Rattle.hm_isa.specs.Words.{imm12, negative}
+use Rattle.hm_isa.specs.Words.{imm16, negative}
 use Rattle.hm_thumb.specs.Arithmetic.{add_with_carry}
 use Rattle.hm_thumb.specs.Blocks.{advanced, advanced_byte, condition_holds, condition_passed, in_it_block}
 use Rattle.hm_thumb.specs.Does.{Does, Ends, alone, goes, run}
@@ -272,11 +272,11 @@ module _ (t : ElementType) (listing : Listing) where
       (with_any_flags t (record v { offset = 0 }) q (seen_in s) (put_offset t v r (seen_in s) h 0) (negative 0) (nat_eq 0 0) q.c q.v)
       (let f = stands.fits in omega arith)
 
-  low_put : (d n : ℕ) (r : Regs) (row : T4) → row.name ≡ half.Movw → row.d.value ≡ d → row.i4.value * 2 ^ 12 + imm12 row.i.value row.i3.value row.i8.value ≡ n
+  low_put : (d n : ℕ) (r : Regs) (row : T4) → row.name ≡ half.Movw → row.d.value ≡ d → imm16 row.i4.value row.i.value row.i3.value row.i8.value ≡ n
       → t4 row r ≡ with_value (R d) n r
   low_put d n r row a b c = λ j. put (b j) (half_put (a j) (c j) (reg (b j) r)) r
 
-  high_put : (d n : ℕ) (r : Regs) (row : T4) → row.name ≡ half.Movt → row.d.value ≡ d → row.i4.value * 2 ^ 12 + imm12 row.i.value row.i3.value row.i8.value ≡ n
+  high_put : (d n : ℕ) (r : Regs) (row : T4) → row.name ≡ half.Movt → row.d.value ≡ d → imm16 row.i4.value row.i.value row.i3.value row.i8.value ≡ n
       → t4 row r ≡ with_value (R d) (n * 2 ^ 16 + value_at (R d) r % 2 ^ 16) r
   high_put d n r row a b c = λ j. put (b j) (half_put (a j) (c j) (reg (b j) r)) r
 

@@ -1,5 +1,5 @@
 -- What an item is coded as: its instructions have one code, so a soak has one image.
-use Rattle.std.proofs.Common.{◌≡◌, ℕ, ◌+◌, ◌*◌, ◌/◌, ◌%◌, ◌^◌, ◌<◌, List, [], ◌∷◌, ◌++◌, refl, sym, ap, ◌∙◌, arith}
+use Rattle.std.proofs.Common.{◌≡◌, ℕ, ◌+◌, ◌/◌, ◌%◌, ◌<◌, List, [], ◌∷◌, ◌++◌, refl, sym, ap, ◌∙◌, arith}
 use Rattle.hm_base.specs.Image.{Segment, flat}
 use Rattle.hm_isa.specs.declared.Instr.{Instr}
 use Rattle.hm_isa.specs.declared.data.HalfName.{HalfName}
@@ -16,6 +16,7 @@ use Rattle.hm_isa.specs.declared.vectors.SignedName.TheVariants as signed
 use Rattle.hm_isa.specs.Code.{add_base, bitwise_base, byte_base, dup_base, halfwords, hint_base, jump_base, plain_base, signed_base, two_halves}
 use Rattle.hm_isa.specs.DataCodes.{half_base}
 use Rattle.hm_isa.specs.Standing.{◌↑◌}
+use Rattle.hm_isa.specs.Words.{imm16}
 use Rattle.hm_code_bytes.specs.Bytes.{all_halves, half_bytes}
 use Rattle.hm_code_bytes.specs.Instructions.{IsAddRow, IsHalfRow}
 use Rattle.hm_soak_laws.specs.Image.{AreItems, IsItem, IsOperation, IsSoak, vectors}
@@ -25,13 +26,13 @@ use Rattle.hm_soak_laws.specs.Soak.{Item, Operation, Movw, Movt, Movs, Str, Vdup
 abbrev half_code : HalfName → ℕ → ℕ → List ℕ
 half_code name d x = two_halves (half_base name + (x / 4096) ↑ 16 + (x / 2048 % 2) ↑ 26 + (x / 256 % 8) ↑ 12 + d ↑ 8 + x % 256)
 
-abbrev sum_code : AddName → ℕ → ℕ → ℕ → List ℕ
-sum_code name d n m = two_halves (add_base name + 2 ↑ 20 + n ↑ 17 + d ↑ 13 + m ↑ 1)
+abbrev add_row_code : AddName → ℕ → ℕ → ℕ → List ℕ
+add_row_code name d n m = two_halves (add_base name + 2 ↑ 20 + n ↑ 17 + d ↑ 13 + m ↑ 1)
 
 abbrev operation_code : Operation → ℕ → ℕ → ℕ → List ℕ
-operation_code soak.Add d n m = sum_code add.Add d n m
-operation_code soak.Sub d n m = sum_code add.Sub d n m
-operation_code soak.Mul d n m = sum_code add.Mul d n m
+operation_code soak.Add d n m = add_row_code add.Add d n m
+operation_code soak.Sub d n m = add_row_code add.Sub d n m
+operation_code soak.Mul d n m = add_row_code add.Mul d n m
 operation_code soak.Eor d n m = two_halves (bitwise_base bitwise.Eor + n ↑ 17 + d ↑ 13 + m ↑ 1)
 operation_code soak.Max d n m = two_halves (signed_base signed.Max + 0 ↑ 28 + 2 ↑ 20 + n ↑ 17 + d ↑ 13 + m ↑ 1)
 
@@ -47,7 +48,7 @@ item_code Nop = (hint_base hint.Nop) ∷ []
 item_code (Bx m) = (jump_base jump.Bx + m ↑ 3) ∷ []
 
 -- a number of sixteen bits in its four fields
-has_fields : (a b c d x : ℕ) → b < 2 → c < 8 → d < 256 → a * 2 ^ 12 + (b * 2 ^ 11 + c * 2 ^ 8 + d) ≡ x
+has_fields : (a b c d x : ℕ) → b < 2 → c < 8 → d < 256 → imm16 a b c d ≡ x
     → (a ≡ x / 4096) × (b ≡ x / 2048 % 2) × (c ≡ x / 256 % 8) × (d ≡ x % 256)
 has_fields a b c d x p q r e = (omega arith, omega arith, omega arith, omega arith)
 
@@ -57,13 +58,15 @@ half_has name d x i h =
     let f = has_fields r.i4.value r.i.value r.i3.value r.i8.value x r.i.in_range r.i3.in_range r.i8.in_range h.x_is in
     ap halfwords h.is ∙ (λ j. two_halves (half_base (h.name_is j) + (f.0 j) ↑ 16 + (f.1 j) ↑ 26 + (f.2 j) ↑ 12 + (h.d_is j) ↑ 8 + f.3 j))
 
-sum_has : (name : AddName) (d n m : ℕ) (i : Instr) → IsAddRow 2 name d n m i → halfwords i ≡ sum_code name d n m
-sum_has name d n m i h = ap halfwords h.is ∙ (λ j. two_halves (add_base (h.name_is j) + (h.z_is j) ↑ 20 + (h.n_is j) ↑ 17 + (h.d_is j) ↑ 13 + (h.m_is j) ↑ 1))
+add_row_has : (name : AddName) (d n m : ℕ) (i : Instr) → IsAddRow 2 name d n m i → halfwords i ≡ add_row_code name d n m
+add_row_has name d n m i h =
+    ap halfwords h.is
+    ∙ (λ j. two_halves (add_base (h.name_is j) + (h.z_is j) ↑ 20 + (h.n_is j) ↑ 17 + (h.d_is j) ↑ 13 + (h.m_is j) ↑ 1))
 
 operation_has : (o : Operation) (d n m : ℕ) (i : Instr) → IsOperation o d n m i → halfwords i ≡ operation_code o d n m
-operation_has soak.Add d n m i h = sum_has add.Add d n m i h
-operation_has soak.Sub d n m i h = sum_has add.Sub d n m i h
-operation_has soak.Mul d n m i h = sum_has add.Mul d n m i h
+operation_has soak.Add d n m i h = add_row_has add.Add d n m i h
+operation_has soak.Sub d n m i h = add_row_has add.Sub d n m i h
+operation_has soak.Mul d n m i h = add_row_has add.Mul d n m i h
 operation_has soak.Eor d n m i h = ap halfwords h.is ∙ (λ j. two_halves (bitwise_base (h.name_is j) + (h.n_is j) ↑ 17 + (h.d_is j) ↑ 13 + (h.m_is j) ↑ 1))
 operation_has soak.Max d n m i h = ap halfwords h.is
     ∙ (λ j. two_halves (signed_base (h.name_is j) + (h.u_is j) ↑ 28 + (h.z_is j) ↑ 20 + (h.n_is j) ↑ 17 + (h.d_is j) ↑ 13 + (h.m_is j) ↑ 1))

@@ -19,7 +19,7 @@ use Rattle.hm_isa.specs.declared.vectors.BitwiseName.TheVariants as bitwise
 use Rattle.hm_isa.specs.declared.vectors.Element.TheVariants as element
 use Rattle.hm_isa.specs.declared.vectors.SignedName.TheVariants as signed
 use Rattle.hm_code_bytes.specs.Bytes.{all_halves, half_bytes}
-use Rattle.hm_code_bytes.proofs.Made.{field, fit_append, some_add, some_best, some_bitwise, some_breakpoint, some_byte, some_half, some_items, some_splat}
+use Rattle.hm_code_bytes.proofs.Made.{field, fit_append, some_add, some_bitwise, some_breakpoint, some_byte, some_duplicate, some_half, some_items, some_signed}
 use Rattle.hm_soak_laws.specs.Image.{IsItem, IsOperation, IsSoak, vectors}
 use Rattle.hm_soak_laws.specs.Soak as soak
 use Rattle.hm_soak_laws.specs.Soak.{Item, Operation, Movw, Movt, Movs, Str, Vdup, Lanes, Bkpt, Nop, Bx, code, draw, drawn, fill, filled, handler, head, many}
@@ -45,7 +45,7 @@ some_operation soak.Add d n m a b c = some_add 2 add.Add d n m (omega arith) a b
 some_operation soak.Sub d n m a b c = some_add 2 add.Sub d n m (omega arith) a b c
 some_operation soak.Mul d n m a b c = some_add 2 add.Mul d n m (omega arith) a b c
 some_operation soak.Eor d n m a b c = some_bitwise bitwise.Eor d n m a b c
-some_operation soak.Max d n m a b c = some_best 0 2 signed.Max d n m (omega arith) (omega arith) a b c
+some_operation soak.Max d n m a b c = some_signed 0 2 signed.Max d n m (omega arith) (omega arith) a b c
 
 some_store : (t n : ℕ) → t < 8 → n < 8 → (i : Instr) × IsItem (Str t n) i
 some_store t n h k =
@@ -72,7 +72,7 @@ some_item (Movw d x) h = some_half half.Movw d x h.0 h.1
 some_item (Movt d x) h = some_half half.Movt d x h.0 h.1
 some_item (Movs d x) h = some_byte byte.Mov d x h.0 h.1
 some_item (Str t n) h = some_store t n h.0 h.1
-some_item (Vdup d t) h = some_splat element.Words d t h.0 h.1
+some_item (Vdup d t) h = some_duplicate element.Words d t h.0 h.1
 some_item (Lanes o d n m) h = some_operation o d n m h.0 h.1 h.2
 some_item (Bkpt x) h = some_breakpoint x h
 some_item Nop h = some_nop

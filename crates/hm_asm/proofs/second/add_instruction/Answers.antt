@@ -1,5 +1,6 @@
 use Rattle.std.proofs.Common.{◌≡◌, ◌*◌, ℕ, List, length, refl, sym, ap, subst, ◌∙◌}
 use Rattle.std.specs.FinMap.{get}
+use Rattle.hm_code_bytes.proofs.Bytes.{length_halves}
 use Rattle.hm_isa.specs.Code.{halfwords}
 use Rattle.hm_source.specs.Places.{HasRoom}
 use Rattle.hm_source.specs.Statements.{instruction}
@@ -7,8 +8,7 @@ use Rattle.hm_text.specs.Refusals.{IsTextRefused}
 use Rattle.hm_text.specs.Texts.{IsTextOf}
 use Rattle.hm_text.proofs.Printing.{width_is}
 use Rattle.hm_asm.specs.Making.{place_of, with_bytes}
-use Rattle.hm_asm.specs.SecondPass.{code_bytes}
-use Rattle.hm_asm.proofs.Given.{code_length}
+use Rattle.hm_code_bytes.specs.Bytes.{code_bytes}
 use Rattle.hm_asm.proofs.Steps.{said_err}
 use Rattle.hm_asm.proofs.second.add_instruction.Goals as goal
 
@@ -17,7 +17,7 @@ add-requires c =
     let named = (c.in-Ok.ensures.read c.in-Ok.i).1 refl in
     let width = width_is c.args.line.now.parts.instruction.now c.place.result (get c.args.labels.now) c.in-Ok.i named in
     let size : length c.as_slice.result.now ≡ 2 * length (halfwords c.in-Ok.i) = ap length (c.as_slice.ensures.value ∙ c.code_bytes-code.ensures.bytes)
-    ∙ code_length (halfwords c.in-Ok.i) in
+    ∙ length_halves (halfwords c.in-Ok.i) in
     record { room = subst (λ (n : ℕ). HasRoom (place_of c.args.out.now) n) (sym size) (c.requires.room (2 * length (halfwords c.in-Ok.i)) width) }
 
 pub returns-in_ok-add-in-Ok-clause-given : goal.returns-in_ok-add-in-Ok-clause-given

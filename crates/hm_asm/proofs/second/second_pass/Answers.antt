@@ -1,6 +1,7 @@
 use Rattle.std.proofs.Common.{◌≡◌, ℕ, suc, ◌+◌, ◌-◌, List, [], ◌∷◌, length, refl, sym, subst, ◌∙◌, arith}
 use Rattle.std.specs.FinMap.{empty, get}
 use Rattle.std.proofs.lemmas.Bool.{eqb-true}
+use Rattle.std.proofs.lemmas.Result.{err_from_is_err_and}
 use Rattle.hm_base.specs.Image.{segment}
 use Rattle.hm_source.specs.Lines.{source_lines}
 use Rattle.hm_asm.specs.FirstPass.{AreFine}
@@ -39,18 +40,20 @@ line_of c =
 pub add_line-requires-clause-fine : goal.add_line-requires-clause-fine
 add_line-requires-clause-fine c = let f = line_of (goal.at.add_line-requires-clause-fine c).After-first_line in (c.loop-rest.invariant.fine.0, f.said, f.fine)
 
-pub returns-in-Err-clause-refused : goal.returns-in-Err-clause-refused
-returns-in-Err-clause-refused c =
-    let f = line_of (goal.at.returns-in-Err-clause-refused c).After-first_line in
-    second_err (get c.args.labels.now) (source_lines c.args.source.now) (place_of c.loop-rest.out) c.loop-rest.number c.first_line.result.0.now
-    (source_lines c.first_line.result.1.now) (source_lines c.loop-rest.rest.now) f.said c.in-Err.e
-    c.loop-rest.invariant.counted c.first_line.ensures.first f.fine.says c.loop-rest.invariant.refused (c.in-Err.ensures.refused f.said f.fine.says)
+pub returns-in_err-add_line-clause-refused : goal.returns-in_err-add_line-clause-refused
+returns-in_err-add_line-clause-refused c =
+    let f = line_of (goal.at.returns-in_err-add_line-clause-refused c).After-first_line in
+    let p = err_from_is_err_and c.from_residual.result c.from_residual.ensures.1 in
+    rw (p.1, p.2) (second_err (get c.args.labels.now) (source_lines c.args.source.now) (place_of c.loop-rest.out) c.loop-rest.number
+    c.first_line.result.0.now (source_lines c.first_line.result.1.now) (source_lines c.loop-rest.rest.now) f.said c.in_err-add_line.field-0.0
+    c.loop-rest.invariant.counted c.first_line.ensures.first f.fine.says c.loop-rest.invariant.refused
+    (c.in_err-add_line.ensures.refused f.said f.fine.says))
 
 pub loop-rest-preserved : goal.loop-rest-preserved
 loop-rest-preserved c =
     let f = line_of (goal.at.loop-rest-preserved c).After-first_line in
     let m = c.loop-rest.invariant.fine.0 in
-    let g = c.in-Ok.ensures.given f.said f.fine.says in
+    let g = c.in_ok-add_line.ensures.given f.said f.fine.says in
     let line = c.first_line.result.0.now in
     let behind = source_lines c.first_line.result.1.now in
     let lines = source_lines c.loop-rest.rest.now in

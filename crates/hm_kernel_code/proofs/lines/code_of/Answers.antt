@@ -14,7 +14,7 @@ pub returns : goal.returns
 returns c =
     let x = c.args.text.now in
     record {
-      items = text_appended x.element (address x.arrays.items) x.count x.lines.items c.loop-line.line-index c.breakpoint.result c.loop-line.out.items
-          c.push.new.self.items (search rules) c.loop-line.invariant c.breakpoint.ensures.row
+      items = text_appended x.element (address x.arrays.items) x.count x.lines.items c.loop-line.line-index c.breakpoint_row.result c.loop-line.out.items
+          c.push.new.self.items (search rules) c.loop-line.invariant c.breakpoint_row.ensures.row
           c.in_ok-push.ensures.items;
     }
