@@ -2,17 +2,15 @@
 use Rattle.std.proofs.Common.{◌≡◌, ℕ, zero, suc, ap, arith, refl, sym, ◌∙◌, List, [], ◌∷◌, ◌++◌, append_assoc, take}
 use Rattle.hm_base.specs.Image.{flash_size}
 use Rattle.hm_codes.specs.Listing.{IsListing, Listing}
-use Rattle.hm_debug.proofs.Flashes.{entry_half, entry_shown, halves_within, lines_end, lines_more}
+use Rattle.hm_debug.proofs.Flashes.{entry_is, lines_end, lines_more}
 use Rattle.hm_debug.proofs.Longer.{goes_on}
 use Rattle.hm_debug.proofs.ScriptLaws.{one_script}
 use Rattle.hm_debug.specs.Answers.{IsAnswered, answer, answers}
 use Rattle.hm_debug.specs.Films.{Film}
-use Rattle.hm_debug.specs.Lines.{after_entry, entry_at, listing_lines}
+use Rattle.hm_debug.specs.Lines.{after_entry, listing_lines}
 use Rattle.hm_debug.specs.Scripts.{IsScript}
 use Rattle.hm_debug.specs.declared.command.Command.{Command}
-use Rattle.hm_isa.specs.Code.{halfwords}
-use Rattle.hm_listing.proofs.Halves.{some_half}
-use Rattle.hm_listing.specs.Listings.{AreEntries, Entry, IsEntry, entry_line, half, lines_from, shown}
+use Rattle.hm_listing.specs.Listings.{AreEntries, Entry, entry_line, lines_from}
 
 pub some_answer : (f : Film) (text : List ℕ) (cs : List Command) → IsScript text cs → (x : List ℕ) × IsAnswered f text x
 some_answer f text cs script = (answers f cs 0, record { commands = cs; script = script; is = refl })
@@ -33,14 +31,6 @@ answers_begin f text more x y p q =
     (rest.0, q.is ∙ ap (λ (cs : List Command). answers f cs 0) ds.1 ∙ rest.1 ∙ ap (λ (t : List ℕ). t ++ rest.0) (sym p.is))
 
 -- LINES
--- what the listing shows at an address is what stands there: a code lies in flash
-entry_is : (flash : ℕ → ℕ) (listing : Listing) (a : ℕ) (e : Entry) → IsListing flash listing → IsEntry flash a flash_size e → entry_at flash listing a ≡ e
-entry_is flash listing a (shown i) listed is = entry_shown flash listing a i listed is.0
-entry_is flash listing a (half h) listed is =
-    entry_half flash listing a listed
-    (λ i stands. let past = is.0 i stands in let within = halves_within flash (halfwords i) a stands.code (some_half i) in omega (arith, past, within))
-    ∙ ap (λ (x : ℕ). half x) (sym is.1)
-
 pub lines_listed : (flash : ℕ → ℕ) (listing : Listing) (n a : ℕ) (es : List Entry) → IsListing flash listing → AreEntries flash a flash_size es
     → listing_lines flash listing a n ≡ lines_from a (take n es)
 lines_listed flash listing zero a es listed are = refl

@@ -1,5 +1,5 @@
 -- Whether a line says a command is decided, and it says one alone.
-use Rattle.std.proofs.Common.{◌≡◌, ◌⊎◌, inl, inr, ℕ, ◌+◌, ◌^◌, ◌<◌, ◌≤◌, ◌%◌, arith, refl, sym, ◌∙◌, subst, List, Option, Some, None}
+use Rattle.std.proofs.Common.{◌≡◌, ◌⊎◌, inl, inr, ℕ, ◌+◌, ◌^◌, ◌<◌, ◌≤◌, ◌%◌, arith, sym, ◌∙◌, subst, List, Option, Some, None}
 use Rattle.std.proofs.lemmas.Bool.{cases_eq, cases_lt}
 use Rattle.hm_base.specs.Image.{flash_size}
 use Rattle.hm_sched.specs.Schedule.{most_ticks}

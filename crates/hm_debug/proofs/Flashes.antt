@@ -1,30 +1,20 @@
--- What stands in flash, as a machine tells it, and lines of the listing.
+-- What stands in flash, and lines of the listing.
 use Rattle.std.proofs.Common.{◌≡◌, ℕ, zero, suc, ◌+◌, ◌-◌, ◌*◌, ◌<◌, ◌≤◌, ap, arith, refl, sym, ◌∙◌, Bool, true, false, cond, List, [], ◌∷◌, ◌++◌, append-nil}
-use Rattle.std.proofs.Common.{append_assoc, length, nat_lt, Some, Result, Ok, Err}
+use Rattle.std.proofs.Common.{append_assoc, length, nat_lt, Result, Ok, Err}
 use Rattle.std.proofs.lemmas.Bool.Decides.{nat_tests}
 use Rattle.hm_base.specs.Image.{flash_size}
 use Rattle.hm_base.specs.declared.Fault.{Fault}
 use Rattle.hm_codes.proofs.Unique.{unique}
 use Rattle.hm_codes.specs.Listing.{HalvesStand, IsFetched, IsListing, Listing, Stands, half_at}
-use Rattle.hm_debug.specs.Films.{TellsFlash}
-use Rattle.hm_debug.specs.Lines.{IsLineAt, after_entry, entry_at, entry_of, listing_lines}
+use Rattle.hm_debug.specs.Lines.{after_entry, entry_at, entry_of, listing_lines}
+use Rattle.hm_isa.specs.Code.{halfwords}
 use Rattle.hm_isa.specs.declared.Instr.{Instr}
-use Rattle.hm_listing.specs.Listings.{entry_line, half, shown}
-use Rattle.hm_machine.specs.Shown.{Shown}
-use Rattle.hm_mem.specs.Memory.{told_at}
-use Rattle.hm_text_base.proofs.Steps.{some_is}
-
--- HALFWORDS
-pub half_told : (m : Shown) (flash : ℕ → ℕ) (a low high : ℕ) → TellsFlash flash m → a + 2 ≤ flash_size → told_at m.memory a ≡ Some low
-    → told_at m.memory (a + 1) ≡ Some high
-    → low + 256 * high ≡ half_at flash a
-half_told m flash a low high tells within first second =
-    let one = some_is low (flash a) (sym first ∙ tells.bytes a (omega arith)) in
-    let two = some_is high (flash (a + 1)) (sym second ∙ tells.bytes (a + 1) (omega arith)) in
-    λ i. one i + 256 * two i
+use Rattle.hm_listing.proofs.Halves.{some_half}
+use Rattle.hm_listing.proofs.LinesLeft.{IsAdded}
+use Rattle.hm_listing.specs.Listings.{Entry, IsEntry, entry_line, half, shown}
 
 -- a code lies in flash
-pub halves_within : (flash : ℕ → ℕ) (hs : List ℕ) (a : ℕ) → HalvesStand flash hs a → 1 ≤ length hs → a + 2 * length hs ≤ flash_size
+halves_within : (flash : ℕ → ℕ) (hs : List ℕ) (a : ℕ) → HalvesStand flash hs a → 1 ≤ length hs → a + 2 * length hs ≤ flash_size
 halves_within flash [] a h some = absurd (omega (arith, some))
 halves_within flash (k ∷ []) a h some = let first = h.0 in omega (arith, first)
 halves_within flash (k ∷ l ∷ hs) a h some = let rest = halves_within flash (l ∷ hs) (a + 2) h.2 (omega arith) in omega (arith, rest)
@@ -34,7 +24,7 @@ entry_fetched : (flash : ℕ → ℕ) (a : ℕ) (x : Result Instr Fault) (i : In
 entry_fetched flash a (Ok j) i fetched stands = ap (λ (k : Instr). shown k) (unique flash a j i fetched stands)
 entry_fetched flash a (Err e) i fetched stands = absurd (fetched.0 i stands)
 
-pub entry_shown : (flash : ℕ → ℕ) (listing : Listing) (a : ℕ) (i : Instr) → IsListing flash listing → Stands flash a i → entry_at flash listing a ≡ shown i
+entry_shown : (flash : ℕ → ℕ) (listing : Listing) (a : ℕ) (i : Instr) → IsListing flash listing → Stands flash a i → entry_at flash listing a ≡ shown i
 entry_shown flash listing a i listed stands = entry_fetched flash a (listing a) i (listed.at a) stands
 
 entry_missing : (flash : ℕ → ℕ) (a : ℕ) (x : Result Instr Fault) → IsFetched flash a x → ((i : Instr) → Stands flash a i → ⊥)
@@ -42,9 +32,17 @@ entry_missing : (flash : ℕ → ℕ) (a : ℕ) (x : Result Instr Fault) → IsF
 entry_missing flash a (Ok j) fetched none = absurd (none j fetched)
 entry_missing flash a (Err e) fetched none = refl
 
-pub entry_half : (flash : ℕ → ℕ) (listing : Listing) (a : ℕ) → IsListing flash listing → ((i : Instr) → Stands flash a i → ⊥)
+entry_half : (flash : ℕ → ℕ) (listing : Listing) (a : ℕ) → IsListing flash listing → ((i : Instr) → Stands flash a i → ⊥)
     → entry_at flash listing a ≡ half (half_at flash a)
 entry_half flash listing a listed none = entry_missing flash a (listing a) (listed.at a) none
+
+-- at each address what stands there: a code lies in flash
+pub entry_is : (flash : ℕ → ℕ) (listing : Listing) (a : ℕ) (e : Entry) → IsListing flash listing → IsEntry flash a flash_size e → entry_at flash listing a ≡ e
+entry_is flash listing a (shown i) listed is = entry_shown flash listing a i listed is.0
+entry_is flash listing a (half h) listed is =
+    entry_half flash listing a listed
+    (λ i stands. let past = is.0 i stands in let within = halves_within flash (halfwords i) a stands.code (some_half i) in omega (arith, past, within))
+    ∙ ap (λ (x : ℕ). half x) (sym is.1)
 
 -- LINES
 in_flash : (a : ℕ) → a < flash_size → nat_lt a flash_size ≡ true
@@ -68,16 +66,18 @@ lines_more flash listing a n below =
     ap (λ (b : Bool). cond b (entry_line a (entry_at flash listing a) ++ listing_lines flash listing (after_entry a (entry_at flash listing a)) n) [])
     (in_flash a below)
 
-pub lines_on : (flash : ℕ → ℕ) (listing : Listing) (a count k next : ℕ) (out new all : List ℕ) → a < flash_size → k < count
-    → IsLineAt a (entry_at flash listing a) out new next
-    → out ++ listing_lines flash listing a (count - k) ≡ all → new ++ listing_lines flash listing next (count - (k + 1)) ≡ all
-lines_on flash listing a count k next out new all below few line left =
-    let e = entry_at flash listing a in
+-- a line was added, and the others are left
+pub lines_on : (flash : ℕ → ℕ) (listing : Listing) (a count k next : ℕ) (out new all : List ℕ) → a < flash_size → k < count → IsListing flash listing
+    → IsAdded flash a next flash_size out new → out ++ listing_lines flash listing a (count - k) ≡ all
+    → new ++ listing_lines flash listing next (count - (k + 1)) ≡ all
+lines_on flash listing a count k next out new all below few listed (e, is, text, goes) left =
     let n = count - (k + 1) in
     let one : count - k ≡ suc n = omega arith in
-    (λ i. line.text i ++ listing_lines flash listing (line.next_is i) n)
+    let same = entry_is flash listing a e listed is in
+    (λ i. text i ++ listing_lines flash listing (goes i) n)
     ∙ append_assoc out (entry_line a e) (listing_lines flash listing (after_entry a e) n)
-    ∙ ap (λ (t : List ℕ). out ++ t) (sym (ap (listing_lines flash listing a) one ∙ lines_more flash listing a n below))
+    ∙ ap (λ (t : List ℕ). out ++ t) (sym (ap (listing_lines flash listing a) one ∙ lines_more flash listing a n below
+    ∙ (λ i. entry_line a (same i) ++ listing_lines flash listing (after_entry a (same i)) n)))
     ∙ left
 
 pub lines_done : (flash : ℕ → ℕ) (listing : Listing) (a n : ℕ) (out all : List ℕ) → flash_size ≤ a → out ++ listing_lines flash listing a n ≡ all → out ≡ all

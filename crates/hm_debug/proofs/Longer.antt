@@ -1,5 +1,5 @@
 -- A script that goes on behind another one.
-use Rattle.std.proofs.Common.{◌≡◌, ℕ, ap, refl, ◌∙◌, subst, sym, Bool, true, false, cond, eqb, List, [], ◌∷◌, ◌++◌}
+use Rattle.std.proofs.Common.{◌≡◌, ℕ, ap, refl, subst, Bool, true, false, cond, eqb, List, [], ◌∷◌, ◌++◌}
 use Rattle.hm_text_base.specs.Spans.{Lines, lines_of, onto_line}
 use Rattle.hm_debug.proofs.Deciding.{one_command}
 use Rattle.hm_debug.specs.Scripts.{IsScript, SayAll}

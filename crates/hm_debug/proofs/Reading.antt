@@ -14,7 +14,7 @@ use Rattle.hm_text_base.proofs.Steps.{some_is}
 use Rattle.hm_text_base.specs.Numbers.{hex8_in, number_in}
 use Rattle.hm_text_base.specs.Spans.{span}
 use Rattle.hm_text_base.specs.Texts.{hex8}
-use Rattle.hm_debug.specs.Commands.{Fits, IsRead, Says, command_text, range_text}
+use Rattle.hm_debug.specs.Commands.{Fits, IsRead, command_text, range_text}
 use Rattle.hm_debug.specs.declared.command.Command.{Command}
 use Rattle.hm_debug.specs.declared.command.Command.TheVariants.{Goto, Step, Back, Until, Show, Memory, Listing}
 

@@ -1,11 +1,10 @@
 -- A RUN AS IT IS SHOWN, and the tape that holds it.
-use Rattle.std.specs.Prelude.{◌≡◌, ◌<◌, ℕ, List, Some}
-use Rattle.hm_base.specs.Image.{Segment, flash_byte, flash_size}
+use Rattle.std.specs.Prelude.{◌≡◌, ℕ, List}
+use Rattle.hm_base.specs.Image.{Segment, flash_byte}
 use Rattle.hm_codes.specs.Listing.{Listing, IsListing}
 use Rattle.hm_handlers.specs.Runs.{run, run_out, shown}
 use Rattle.hm_machine.specs.Shown.{Shown, Shows}
 use Rattle.hm_machine.specs.Taped.{Taped, Tapes}
-use Rattle.hm_mem.specs.Memory.{flash_at, told_at}
 use Rattle.hm_run.specs.Timed.{Timed}
 use Rattle.hm_sched.specs.Schedule.{Sched}
 
@@ -37,8 +36,3 @@ pub record IsFilm (f : Film) (w : Taped) : Type 0 where
 -- a machine shows a tick of the run that a tape holds
 abbrev pub ShowsTick : Taped → ℕ → Shown → Type 0
 ShowsTick w t m = (image : List Segment) (s : Sched) → Tapes image s w → Shows image s t m
-
--- a machine tells of this flash, and of each of its bytes
-pub record TellsFlash (flash : ℕ → ℕ) (m : Shown) : Type 0 where
-  pub bytes : (a : ℕ) → a < flash_size → told_at m.memory a ≡ Some (flash a)
-  pub flash_is : flash_at m.memory ≡ flash

@@ -1,5 +1,5 @@
 -- THE LINES that commands print: ticks, bytes of memory, and lines of the listing.
-use Rattle.std.specs.Prelude.{◌≡◌, ℕ, zero, suc, ◌+◌, ◌-◌, ◌*◌, Bool, true, ◌&&◌, nat_lt, if◌then◌else◌, List, [], ◌++◌, codes, length, min, Result, Ok, Err}
+use Rattle.std.specs.Prelude.{ℕ, zero, suc, ◌+◌, ◌-◌, ◌*◌, Bool, true, ◌&&◌, nat_lt, if◌then◌else◌, List, [], ◌++◌, codes, length, min, Result, Ok, Err}
 use Rattle.std.specs.Fmt.{decimal}
 use Rattle.hm_base.specs.Image.{flash_size, in_sram}
 use Rattle.hm_base.specs.declared.Fault.{Fault}
@@ -58,11 +58,6 @@ entry_at flash listing a = entry_of flash a (listing a)
 -- the address behind a line
 abbrev pub after_entry : ℕ → Entry → ℕ
 after_entry a e = a + 2 * length (halves_of e)
-
--- the line of an entry was added behind a text, and the next one stands there
-pub record IsLineAt (a : ℕ) (e : Entry) (old new : List ℕ) (next : ℕ) : Type 0 where
-  pub text : new ≡ old ++ entry_line a e
-  pub next_is : next ≡ after_entry a e
 
 -- so many from an address on, up to the end of flash
 abbrev pub listing_lines : (ℕ → ℕ) → Listing → ℕ → ℕ → List ℕ

@@ -11,7 +11,6 @@ mod places;
 mod running;
 
 pub use checking::check_script;
-pub use command::{Command, read_command};
 pub use errors::ScriptErr;
 pub use laws::{answer_law, script_law, thread_law};
 pub use running::script;

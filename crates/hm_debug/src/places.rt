@@ -57,18 +57,6 @@ pub fn go_to(alloc: Global, out: &mut Vec<u8>, last: u32, tick: u32) -> Result<u
     }
 }
 
-/// Goes to the next tick, where the run has one.
-pub fn go_on(alloc: Global, out: &mut Vec<u8>, last: u32, place: u32) -> Result<u32, OutOfMemory>
-    requires within { place ≤ last }
-    ensures gives { IfOk result (λ next. Gives (to_tick last (place + 1)) out.old.items out.new.items next) }
-{
-    if place < last {
-        tell_tick(alloc, out, place + 1)
-    } else {
-        tell_end(alloc, out, last)
-    }
-}
-
 /// Whether with these registers and at this position the thread is between two instructions, of which the next is at an address.
 fn is_at(regs: &Regs, window: Window, addr: u32) -> bool
     ensures value { result ≡ (nat_eq regs.now.ipsr 0 && nat_eq window.a 0 && nat_eq window.b 0 && nat_eq regs.now.pc addr) }

@@ -19,7 +19,7 @@ use crate::command::{Command, read_command};
 use crate::errors::ScriptErr;
 use crate::flash::add_listing;
 use crate::memory::add_memory;
-use crate::places::{go_on, go_to, go_until, machine_at, tell_tick};
+use crate::places::{go_to, go_until, machine_at, tell_tick};
 use hm_base::OutOfMemory;
 use hm_machine::Tape;
 use hm_text_base::text;
@@ -82,7 +82,7 @@ fn answer(
 {
     match command {
         Command::Goto { tick } => go_to(alloc, out, tape.last(), tick),
-        Command::Step => go_on(alloc, out, tape.last(), place),
+        Command::Step => go_to(alloc, out, tape.last(), place + 1),
         Command::Back => tell_tick(alloc, out, place.saturating_sub(1)),
         Command::Until { addr } => go_until(alloc, out, tape, addr, place),
         Command::Show => {
@@ -131,10 +131,7 @@ fn do_lines(alloc: Global, tape: &mut Tape, text: &[u8]) -> Result<Vec<u8>, OutO
     let mut place = 0;
     let mut rest = text;
     while let Some((line, after)) = next_line(rest) {
-        match do_line(alloc, &mut out, tape, line, place) {
-            Ok(next) => place = next,
-            Err(e) => return Err(e),
-        }
+        place = do_line(alloc, &mut out, tape, line, place)?;
         rest = after;
     }
     Ok(out)

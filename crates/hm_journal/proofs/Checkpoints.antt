@@ -4,7 +4,7 @@ use Rattle.std.proofs.Math.Nat.{div-lt_iff_lt-mul, div-mul-le_self, lt-div-mul-a
 use Rattle.hm_base.specs.Image.{Segment}
 use Rattle.hm_codes.specs.Listing.{Listing}
 use Rattle.hm_handlers.specs.Runs.{run_out}
-use Rattle.hm_sched.specs.Schedule.{Sched, ticks_of}
+use Rattle.hm_sched.specs.Schedule.{Sched, most_ticks, ticks_of}
 use Rattle.hm_journal.proofs.Pairs.{one_more_tick}
 use Rattle.hm_journal.proofs.RunTicks.{few_ticks}
 use Rattle.hm_journal.specs.Journals.{IsJournal, ReportAt}
@@ -73,7 +73,7 @@ module _ (listing : Listing) (image : List Segment) (s : Sched) (every : ℕ) wh
       record { begun = omega (arith, fits, tick); report = at.report_is ∙ ap (report_at listing image s) (sym tick) }
 
   -- and one that there is, where it is not too long
-  pub sound : 1 ≤ every → every ≤ 16777216 → length (ticks_of s.lines) / every + 1 ≤ 64 → IsJournal (journal_of listing image s every)
+  pub sound : 1 ≤ every → every ≤ most_ticks → length (ticks_of s.lines) / every + 1 ≤ 64 → IsJournal (journal_of listing image s every)
   sound some most few =
       let last = (run_out listing image s).ticks in
       let n = last / every + 1 in

@@ -4,6 +4,7 @@ use Rattle.std.proofs.lemmas.Bool.{cases_eq, cases_lt}
 use Rattle.serde_json.specs.Data.{Data, Items, Members, array, item, member, no_items, no_members, number, object, string}
 use Rattle.serde_json.specs.Data.{unsigned}
 use Rattle.serde_json.specs.View.{items_of}
+use Rattle.hm_sched.specs.Schedule.{most_ticks}
 use Rattle.hm_journal.proofs.Pairs.{items_same}
 use Rattle.hm_journal.specs.Journals.{IsFormat, IsJournal, Journaled, ReportAt, checkpoint_data, journal_data}
 
@@ -147,7 +148,7 @@ sound_or j =
                       elim (cases_lt 0 j.every) [
                         | inr none ↦ inr (λ is. let every = is.every in omega (arith, none, every))
                         | inl every ↦
-                            elim (cases_lt 16777216 j.every) [
+                            elim (cases_lt most_ticks j.every) [
                               | inl much ↦ inr (λ is. let most = is.most in omega (arith, much, most))
                               | inr most ↦
                                   elim (ticks_or (λ k. k * j.every) j.checkpoints) [

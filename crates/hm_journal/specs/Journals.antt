@@ -8,6 +8,7 @@ use Rattle.serde_json.specs.Find.{as_number, as_u64, get}
 use Rattle.serde_json.specs.Read.{read}
 use Rattle.serde_json.specs.View.{items_of}
 use Rattle.serde_json.specs.Written.{comma_if}
+use Rattle.hm_sched.specs.Schedule.{most_ticks}
 
 -- a tick, and the report there
 pub record ReportAt : Type 0 where
@@ -55,13 +56,13 @@ IsFormat n = (n ≡ 1) ⊎ (n ≡ 2)
 abbrev pub AreTicks : Journaled → Type 0
 AreTicks j = (k : ℕ) (x : ReportAt) → slice_get j.checkpoints k ≡ Some x → x.tick ≡ k * j.every
 
--- which there are: of a known format, with 1 to 64 checkpoints, and 1 to 16777216 ticks from one to the next
+-- which there are: of a known format, with 1 to 64 checkpoints, and from one to the next 1 tick to as many as a schedule may have
 pub record IsJournal (j : Journaled) : Type 0 where
   pub format : IsFormat j.format
   pub some : 0 < length j.checkpoints
   pub few : length j.checkpoints ≤ 64
   pub every : 0 < j.every
-  pub most : j.every ≤ 16777216
+  pub most : j.every ≤ most_ticks
   pub ticks : AreTicks j
 
 -- the ticks fit in 32 bits

@@ -13,6 +13,9 @@ pub const FORMAT: u32 = 2;
 /// The format whose reports have no line of the system.
 pub const FIRST_FORMAT: u32 = 1;
 
+/// A journal has no more checkpoints.
+pub const MOST_CHECKPOINTS: u32 = 64;
+
 /// A tick, and the report there.
 #[derive(Drop)]
 pub struct Checkpoint {

@@ -4,7 +4,7 @@ ghost use Rattle.std.specs.Prelude.{◌≡◌, ◌≤◌, ◌+◌, ◌/◌, ℕ,
 ghost use Rattle.hm_base.specs.Image.{Segment};
 ghost use Rattle.hm_codes.specs.Listing.{Listing};
 ghost use Rattle.hm_run.specs.Timed.{Timed};
-ghost use Rattle.hm_sched.specs.Schedule.{Sched, ticks_of};
+ghost use Rattle.hm_sched.specs.Schedule.{Sched, most_ticks, ticks_of};
 ghost use Rattle.hm_journal.specs.Journals.{IsJournal, Journaled, ReportAt};
 ghost use Rattle.hm_journal.specs.Outcomes.{IsReading};
 ghost use Rattle.hm_journal.specs.Runs.{AreOfRun, IsComparison, IsWithoutLine, journal_of};
@@ -28,7 +28,7 @@ pub fn comparison_law()
 pub fn own_journal_law()
     ensures own { (listing : Listing) (image : List Segment) (s : Sched) (every : ℕ)
         → AreOfRun listing image s (journal_of listing image s every).format (journal_of listing image s every).checkpoints }
-    ensures sound { (listing : Listing) (image : List Segment) (s : Sched) (every : ℕ) → 1 ≤ every → every ≤ 16777216
+    ensures sound { (listing : Listing) (image : List Segment) (s : Sched) (every : ℕ) → 1 ≤ every → every ≤ most_ticks
         → length (ticks_of s.lines) / every + 1 ≤ 64 → IsJournal (journal_of listing image s every) }
 {}
 

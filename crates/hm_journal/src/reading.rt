@@ -10,8 +10,9 @@ ghost use Rattle.hm_journal.specs.Journals.{checkpoint_data};
 ghost use Rattle.hm_journal.specs.Outcomes.{IsReadErr};
 ghost use Rattle.hm_journal.specs.Views.{checkpoint_of, journal_with, drafted};
 
-use crate::journal::{Checkpoint, Journal, JournalErr};
+use crate::journal::{Checkpoint, Journal, JournalErr, MOST_CHECKPOINTS};
 use crate::writing::journal_text;
+use hm_sched::MOST_TICKS;
 use serde_json::{Error, Value};
 use std::alloc::{AllocError, Global};
 
@@ -109,9 +110,9 @@ fn is_journal(d: &Draft) -> bool
     ensures { IsTrue result ↔ IsJournal (drafted d.now) }
 {
     !d.checkpoints.is_empty()
-        && d.checkpoints.len() <= 64
+        && d.checkpoints.len() <= MOST_CHECKPOINTS as usize
         && 0 < d.every
-        && d.every <= 16_777_216
+        && d.every <= MOST_TICKS
         && has_ticks(d)
 }
 

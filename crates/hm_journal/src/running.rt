@@ -7,10 +7,10 @@ ghost use Rattle.hm_journal.specs.Journals.{IsJournalFile, journal_text};
 ghost use Rattle.hm_journal.specs.Runs.{AreOfRun, IsCompareErr, IsOfRun, IsWriteErr, journal_of, report_at};
 ghost use Rattle.hm_journal.specs.Views.{checkpoint_of};
 ghost use Rattle.hm_machine.specs.Taped.{Tapes};
-ghost use Rattle.hm_sched.specs.Schedule.{Sched, ticks_of};
+ghost use Rattle.hm_sched.specs.Schedule.{Sched, most_ticks, ticks_of};
 
 use crate::formats::report_in;
-use crate::journal::{Checkpoint, FORMAT, Journal, JournalErr};
+use crate::journal::{Checkpoint, FORMAT, Journal, JournalErr, MOST_CHECKPOINTS};
 use crate::writing::journal_text;
 use hm_machine::Tape;
 use std::alloc::Global;
@@ -65,9 +65,9 @@ pub fn write_journal(alloc: Global, tape: &mut Tape, every: u32) -> Result<Vec<u
     // It is read back, where it is read at all.
     ensures reads_back { IfOk result
         (λ out. (image : List Segment) (s : Sched) (listing : Listing) → IsListing (flash_byte image) listing → Tapes image s tape.old
-        → every ≤ 16777216 → IsJournalFile out.items (journal_of listing image s every)) }
+        → every ≤ most_ticks → IsJournalFile out.items (journal_of listing image s every)) }
 {
-    if tape.scheduled() / every + 1 > 64 {
+    if tape.scheduled() / every + 1 > MOST_CHECKPOINTS {
         return Err(JournalErr::TooMany);
     }
     let checkpoints = checkpoints(alloc, tape, every)?;

@@ -12,10 +12,10 @@ mod entry;
 mod laws;
 mod lines;
 
-pub use entry::{half_line, instr_line};
 use hm_base::{Image, OutOfMemory, SRAM_START};
 use hm_mem::Mem;
 pub use laws::listing_law;
+pub use lines::add_line;
 use lines::add_lines;
 use std::alloc::Global;
 

@@ -55,8 +55,9 @@ fn whole_at(m: &Mem, at: u32, hi: u32) -> Option<Instr>
     }
 }
 
-/// Adds the line at an address, and answers where the next one stands.
-fn add_line(out: &mut Vec<u8>, m: &Mem, at: u32, hi: u32) -> Result<u32, OutOfMemory>
+/// Adds the line at an even address below `hi`, which is even and at most 00100000: it shows the instruction that stands there and ends at
+/// `hi` or before, else the halfword. The answer is where the next line stands. It is refused only where memory was wanted.
+pub fn add_line(out: &mut Vec<u8>, m: &Mem, at: u32, hi: u32) -> Result<u32, OutOfMemory>
     requires even { (at % 2 ≡ 0) × (hi % 2 ≡ 0) }
     requires before { at < hi }
     requires within { hi ≤ flash_size }
@@ -85,10 +86,7 @@ pub fn add_lines(out: &mut Vec<u8>, m: &Mem, lo: u32, hi: u32) -> Result<(), Out
 {
     let mut at = lo;
     while at < hi {
-        match add_line(out, m, at, hi) {
-            Ok(next) => at = next,
-            Err(e) => return Err(e),
-        }
+        at = add_line(out, m, at, hi)?;
     }
     Ok(())
 }

@@ -6,7 +6,7 @@ use Rattle.hm_machine.specs.Shown.{Fixed, Shown, Shows, fixed_of}
 use Rattle.hm_machine.specs.Taped.{Taped}
 use Rattle.hm_machine.specs.declared.checkpoint.Checkpoint.{Checkpoint}
 use Rattle.hm_machine.specs.declared.tape.Tape.TheInside.{Inside}
-use Rattle.hm_sched.specs.Schedule.{Sched}
+use Rattle.hm_sched.specs.Schedule.{Sched, most_ticks}
 
 -- a machine at a checkpoint of a run, by what the run leaves and its output
 abbrev pub machine_at : Fixed → List ℕ → Checkpoint → Shown
@@ -41,6 +41,7 @@ AreApart start f output apart cs = (k : ℕ) (c : Checkpoint) → slice_get cs k
 -- what always holds of a tape's fields
 pub record IsTape (w : Inside) : Type 0 where
   pub apart : 0 < w.apart
+  pub most : w.last ≤ most_ticks
   pub some : 0 < length w.kept.items
   pub kept : AreKept (fixed_of w.machine) w.output.items w.kept.items
   pub lie : AreApart (first_of w.kept.items w.output.items w.machine) (fixed_of w.machine) w.output.items w.apart w.kept.items

@@ -1,17 +1,15 @@
 //! What of a machine changes in a run, kept beside it.
 
-ghost use Rattle.std.specs.Prelude.{◌≡◌, ◌+◌, ◌≤◌, length, IfOk};
+ghost use Rattle.std.specs.Prelude.{◌≡◌, ◌+◌, ◌≤◌, length};
 ghost use Rattle.std.specs.Vec.{vec_capacity};
 ghost use Rattle.hm_exc.specs.Entry.{newest_first};
 
 use crate::cursor::Cursor;
-use hm_base::OutOfMemory;
 use hm_exc::Acts;
 use hm_mem::Still;
 use hm_regs::Regs;
 use hm_run::Outcome;
 use hm_window::Window;
-use std::alloc::Global;
 
 /// What changes of a machine: all but flash, where a handler may store, and the schedule. Of the output, which only grows, how long it is.
 #[derive(Drop)]
@@ -27,15 +25,6 @@ pub struct Checkpoint {
     pub ticks: u32,
     pub entries: u32,
     pub outcome: Option<Outcome>,
-}
-
-/// A copy of bytes.
-pub fn copied(alloc: Global, bytes: &[u8]) -> Result<Vec<u8>, OutOfMemory>
-    ensures { IfOk result (λ v. v.items ≡ bytes.now) }
-{
-    let mut copy = Vec::new(alloc);
-    copy.extend_from_slice(bytes)?;
-    Ok(copy)
 }
 
 /// Lays bytes down in place of others, for which there is room.

@@ -1,15 +1,14 @@
 //! The machine.
 
-ghost use Rattle.std.specs.Prelude.{◌≡◌, ℕ, suc, ◌+◌, ◌-◌, ◌<◌, ◌≤◌, ◌↔◌, ◌%◌, List, [], ◌∷◌, ◌++◌, length, drop, reverse, None, Some, Ok, IsSome, IfOk, IfErr};
+ghost use Rattle.std.specs.Prelude.{◌≡◌, ℕ, suc, ◌+◌, ◌-◌, ◌<◌, ◌≤◌, ◌↔◌, ◌%◌, List, [], ◌∷◌, ◌++◌, length, drop, reverse, None, Some, IsSome, IfOk, IfErr};
 ghost use Rattle.std.specs.Prelude.{IfNone, IfSome, OnSome, IsTrue};
 ghost use Rattle.hm_base.specs.Image.{Segment, flash_byte};
 ghost use Rattle.hm_codes.specs.Listing.{Listing, IsListing, Stands};
 ghost use Rattle.hm_isa.specs.declared.Instr.{Instr};
 ghost use Rattle.hm_machine.specs.Bares.{IsBare, ShowsGiven, may_pair};
-ghost use Rattle.hm_machine.specs.Ticked.{entered_in};
 ghost use Rattle.hm_machine.specs.Shown.{Shows, fixed_of, run_of, timed_of};
 ghost use Rattle.hm_machine.specs.Turns.{turned, LoadRefuses};
-ghost use Rattle.hm_mem.specs.Memory.{flash_at, told_at, tainted_at};
+ghost use Rattle.hm_mem.specs.Memory.{flash_at, memory_of, told_at, tainted_at};
 ghost use Rattle.hm_run.specs.Headline.{Headline, PlainReport, Riders};
 ghost use Rattle.hm_run.specs.InOrder.{in_order};
 ghost use Rattle.hm_run.specs.Report.{report_text, memory_text};
@@ -22,7 +21,7 @@ ghost use Rattle.hm_sched.specs.Schedule.{Sched, TickLine, line_of, plain, ticks
 ghost use Rattle.hm_state.specs.Start.{reset_pc};
 ghost use Rattle.hm_state.specs.State.{Byte, regs_of};
 
-use crate::checkpoint::{Checkpoint, copied, put_acts, put_over};
+use crate::checkpoint::{Checkpoint, put_acts, put_over};
 use crate::cursor::{Cursor, after_tick, line_at};
 use crate::load::{LoadErr, flash_word};
 use crate::memory_text::memory_text;
@@ -79,13 +78,6 @@ fn first_outcome(schedule: &Schedule) -> Option<Outcome>
     } else {
         None
     }
-}
-
-/// How many exceptions entered at the end of a tick, of which one may.
-fn entered_once(entered: bool) -> u32
-    ensures { result ≡ entered_in (Ok entered) }
-{
-    if entered { 1 } else { 0 }
 }
 
 impl Machine {
@@ -218,6 +210,13 @@ impl Machine {
         &self.cpu.output
     }
 
+    /// Its memory, to be read alone.
+    pub fn mem(&self) -> &Mem
+        ensures value { memory_of result.now ≡ self.now.memory }
+    {
+        &self.cpu.mem
+    }
+
     /// The byte at an address, whatever its taint; None exactly outside flash and SRAM.
     pub fn byte(&self, addr: u32) -> Option<u8>
         ensures value { result ≡ told_at self.now.memory addr }
@@ -264,7 +263,7 @@ impl Machine {
         ) {
             Err(outcome) => self.outcome = Some(outcome),
             Ok(entered) => {
-                self.entries += entered_once(entered);
+                self.entries += u32::from(entered);
                 match after_tick(&self.schedule, line, cursor) {
                     Some(cursor) => self.cursor = cursor,
                     None => self.outcome = Some(Outcome::OutOfTicks),
@@ -305,6 +304,18 @@ impl Machine {
         match self.outcome {
             Some(outcome) => Turn::Ended(outcome),
             None => Turn::Running,
+        }
+    }
+
+    /// Does so many ticks; of a run that has ended, none. It takes no memory.
+    pub fn pass(&mut self, count: u32)
+        // Each is a tick more of the run.
+        ensures shows { (image : List Segment) (s : Sched) (t : ℕ) → Shows image s t self.old → Shows image s (t + count) self.new }
+        // Flash, where a handler may store, and the schedule stay.
+        ensures fixed { fixed_of self.new ≡ fixed_of self.old }
+    {
+        for _k in 0..count {
+            let _turn = self.tick();
         }
     }
 
@@ -491,7 +502,7 @@ impl Machine {
     pub(crate) fn copied_output(&self, alloc: Global) -> Result<Vec<u8>, OutOfMemory>
         ensures value { IfOk result (λ v. v.items ≡ self.now.output) }
     {
-        copied(alloc, &self.cpu.output)
+        Ok(self.cpu.output.to_vec(alloc)?)
     }
 
     /// What the next tick does; None where this one is the last, or no ticks are given.

@@ -17,7 +17,7 @@ fn sram_byte(mem: &Mem, k: u32) -> u8
     mem.byte(SRAM_START + k).unwrap_or(0)
 }
 
-/// The first bytes of SRAM, added to a text.
+/// Adds the first `count` bytes of SRAM.
 fn bytes_onto(out: &mut Vec<u8>, mem: &Mem, count: u32) -> Result<(), OutOfMemory>
     requires { count ≤ sram_size }
     ensures { IfOk result (λ _. out.new.items ≡ out.old.items ++ listed count (λ k. byte_at (memory_of mem.now) (sram_start + k))) }
@@ -28,7 +28,7 @@ fn bytes_onto(out: &mut Vec<u8>, mem: &Mem, count: u32) -> Result<(), OutOfMemor
     Ok(())
 }
 
-/// The taint of SRAM, added to a text.
+/// Adds the taint of SRAM.
 fn taint_onto(out: &mut Vec<u8>, mem: &Mem) -> Result<(), OutOfMemory>
     ensures { IfOk result (λ _. out.new.items ≡ out.old.items ++ listed 0x8000 (byte_of_bits (λ j. tainted_at (memory_of mem.now) (sram_start + j)))) }
 {

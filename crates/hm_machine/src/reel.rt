@@ -14,16 +14,6 @@ use std::alloc::Global;
 /// So many checkpoints are kept at most.
 const CHECKPOINTS: u8 = 64;
 
-/// Does so many ticks; of a run that has ended, none.
-pub fn pass(count: u32, machine: &mut Machine)
-    ensures shows { (image : List Segment) (s : Sched) (t : ℕ) → Shows image s t machine.old → Shows image s (t + count) machine.new }
-    ensures fixed { fixed_of machine.new ≡ fixed_of machine.old }
-{
-    for _k in 0..count {
-        let _turn = machine.tick();
-    }
-}
-
 /// The checkpoints of a run, `apart` ticks from one another, from its start, where the machine is, as far as the run goes. The machine goes on so far.
 pub fn filled(
     alloc: Global,
@@ -47,7 +37,7 @@ pub fn filled(
     kept.push(machine.checkpoint(alloc)?)?;
     let mut reached = 0;
     for _k in 1..CHECKPOINTS {
-        pass(apart, machine);
+        machine.pass(apart);
         reached += apart;
         if machine.ticks() < reached {
             return Ok(kept);
@@ -64,11 +54,7 @@ fn nearest(count: usize, apart: u32, tick: u32) -> usize
     ensures below { result < count }
     ensures before { result * apart ≤ tick }
 {
-    let k = (tick / apart) as usize;
-    if k < count {
-        return k;
-    }
-    count - 1
+    ((tick / apart) as usize).min(count - 1)
 }
 
 /// Brings a machine to a tick of its run, from the tick at which it is or from a checkpoint. `output` is that of the whole run.
@@ -90,10 +76,10 @@ pub fn bring(
     let near = nearest(kept.len(), apart, tick);
     let from = near as u32 * apart;
     if from <= place && place <= tick {
-        pass(tick - place, machine);
+        machine.pass(tick - place);
         return;
     }
     let checkpoint = &kept[near];
     machine.back(checkpoint, &output[..checkpoint.written]);
-    pass(tick - from, machine);
+    machine.pass(tick - from);
 }

@@ -104,9 +104,10 @@ impl Tape {
         Ok(&self.machine)
     }
 
-    /// The number of ticks that the run begins.
+    /// The number of ticks that the run begins, at most 16,777,216.
     pub fn last(&self) -> u32
         ensures value { result ≡ self.now.last }
+        ensures most { result ≤ most_ticks }
     {
         self.last
     }

@@ -6,10 +6,10 @@ use Rattle.hm_base.specs.Image.{Segment}
 use Rattle.hm_codes.specs.Listing.{Listing}
 use Rattle.hm_isa.specs.declared.Vector.{Vector}
 use Rattle.hm_order.specs.Beats.{then}
-use Rattle.hm_order.specs.Machine.{Config, begin, Stopped, Broken, did, done, older, older_of, settle, younger, younger_of}
+use Rattle.hm_order.specs.Machine.{Config, begin, Stopped, did, done, older, older_of, settle, younger, younger_of}
 use Rattle.hm_order.proofs.Results.{ok_err, ok_same}
 use Rattle.hm_handlers.proofs.Quiet.{alone_is, run_still}
-use Rattle.hm_handlers.specs.Nested.{Ended, Nested, NestedEnd, Offends, TickEnd, at_step, letters, with_acts}
+use Rattle.hm_handlers.specs.Nested.{Ended, Nested, NestedEnd, TickEnd, at_step, letters, with_acts}
 use Rattle.hm_handlers.specs.Runs.{Pointers, Run, after_count, begin as begin_run, closed, ended, enters, may_enter, next, picks, run, stops, tick, tick_of}
 use Rattle.hm_plan_laws.specs.Ends.{IsGreedyAt}
 use Rattle.hm_plan_laws.specs.Greedy.{IsReady}
@@ -35,8 +35,7 @@ both = plan_line 1 greedy.Two
 -- where letters do not all go on the run has ended
 stops_ended : (t k : ℕ) (younger : Bool) (e : NestedEnd) (es : List Pointers) → (stops t k younger e es).outcome ≡ None → ⊥
 stops_ended t k younger (Ended (Stopped c w) acts) es out = cc
-stops_ended t k younger (Ended (Broken c r) acts) es out = cc
-stops_ended t k younger (Offends what c acts) es out = cc
+stops_ended t k younger e es out = cc
 
 module _ (listing : Listing) where
   abbrev M : Program

@@ -17,7 +17,7 @@ ghost use Rattle.hm_handlers.specs.Runs.{run, shown_out, tick};
 ghost use Rattle.hm_sched.specs.Schedule.{TickLine, older_letter, ticks_of};
 ghost use Rattle.hm_state.specs.Start.{reset_pc};
 
-use crate::lines::{Lines, finish, letters, push};
+use crate::lines::{Lines, letters};
 use hm_base::{Image, SRAM_START};
 use hm_isa::Instr;
 use hm_machine::{LoadErr, Machine};
@@ -95,11 +95,11 @@ pub fn plan(alloc: Global, image: &Image, n: u32) -> Result<Schedule, LoadErr>
 {
     plan_in_order();
     open_runs();
-    grown(alloc, image, n)
+    build(alloc, image, n)
 }
 
-/// The same, whose run is not looked at.
-fn grown(alloc: Global, image: &Image, n: u32) -> Result<Schedule, LoadErr>
+/// Makes the plan, tick by tick; `plan` says besides how its run ends.
+fn build(alloc: Global, image: &Image, n: u32) -> Result<Schedule, LoadErr>
     requires few { n ≤ 262144 }
     ensures planned { IfOk result (λ s. (listing : Listing) → IsListing (flash_byte image.now) listing → s ≡ planned listing image.now n) }
     ensures odd { IfOk result (λ _. reset_pc image.now % 2 ≡ 1) }
@@ -119,8 +119,8 @@ fn grown(alloc: Global, image: &Image, n: u32) -> Result<Schedule, LoadErr>
     machine.extend(letters(first));
     while !is_over(&machine, n) {
         let kind = greedy(&mut machine, n);
-        push(&mut lines, kind)?;
+        lines.push(kind)?;
         machine.extend(letters(kind));
     }
-    Ok(finish(lines)?)
+    Ok(lines.finish()?)
 }

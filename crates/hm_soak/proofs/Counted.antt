@@ -1,5 +1,5 @@
 -- Entries that are counted along a run.
-use Rattle.std.proofs.Common.{◌≡◌, ℕ, suc, ◌+◌, ◌^◌, ◌<◌, ◌≤◌, Bool, true, false, cond, not, ◌&&◌, List, [], ◌∷◌, length, nat_eq, nat_le, refl, sym, ap, ◌∙◌}
+use Rattle.std.proofs.Common.{◌≡◌, ℕ, suc, ◌+◌, ◌^◌, ◌<◌, ◌≤◌, Bool, cond, not, ◌&&◌, List, [], ◌∷◌, length, nat_eq, nat_le, refl, sym, ap, ◌∙◌}
 use Rattle.std.proofs.Common.{subst, arith, Option, Some, None}
 use Rattle.std.proofs.lemmas.Bool.Decides.{nat_tests}
 use Rattle.hm_base.specs.Image.{Segment, flash_byte}
@@ -69,8 +69,7 @@ module _ (image : List Segment) (s : Sched) where
       (record { shows = end }, record { counts = λ listing is. c.counts listing is ∙ ap (λ (r : Run). entered listing image s r.ticks) (end.now listing is) })
 
 pub one_at_most : (b : Bool) → cond b 1 0 ≤ 1
-one_at_most true = omega arith
-one_at_most false = omega arith
+one_at_most b = grind arith
 
 -- a run that does not go on has ended
 pub ended : (o : Option Outcome) → (o ≡ None → ⊥) → (x : Outcome) × (o ≡ Some x)

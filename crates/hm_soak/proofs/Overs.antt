@@ -1,5 +1,5 @@
 -- Runs that are over, and the line that they make.
-use Rattle.std.proofs.Common.{◌≡◌, ℕ, ◌%◌, Bool, true, Global, List, Some, Vec, sym, ap, ◌∙◌, subst}
+use Rattle.std.proofs.Common.{◌≡◌, ℕ, ◌%◌, Bool, true, Global, List, Some, Vec, ap, ◌∙◌, subst}
 use Rattle.std.specs.Prelude.{◌↔◌, IfOk, Result, Ok, Err}
 use Rattle.hm_base.specs.Image.{Segment, flash_byte}
 use Rattle.hm_base.specs.declared.errors.OutOfMemory.{OutOfMemory}
@@ -15,19 +15,7 @@ use Rattle.hm_soak_laws.proofs.Whole.{soak_reset}
 use Rattle.hm_soak_laws.specs.Image.{IsSoak}
 use Rattle.hm_soak_laws.specs.Schedule.{in_order_schedule, schedule}
 use Rattle.hm_soak_laws.specs.Summary.{IsSoakLine, SameShown, entered, scheduled, summary_text}
-use Rattle.hm_regs.specs.declared.Regs.{Regs}
 use Rattle.hm_state.specs.Start.{reset_pc}
-use Rattle.hm_state.specs.State.{regs_of}
-
--- what two machines tell is what is shown of their states
-pub means_same : (x y : Regs) (a b : Shown) (out other : List ℕ) (same : Bool) → x ≡ regs_of (timed_of a).config.state → y ≡ regs_of (timed_of b).config.state
-    → out ≡ (timed_of a).config.state.rest.output
-    → other ≡ (timed_of b).config.state.rest.output → (same ≡ true) ↔ ((x ≡ y) × (out ≡ other))
-    → (same ≡ true) ↔ SameShown (timed_of a).config.state (timed_of b).config.state
-means_same x y a b out other same e f g h means = (
-  λ t. let m = means.0 t in record { registers = sym e ∙ m.0 ∙ f; output = sym g ∙ m.1 ∙ h },
-  λ shown. means.1 (e ∙ shown.registers ∙ sym f, g ∙ shown.output ∙ sym h),
-)
 
 -- what the machines of the two runs show makes the line
 pub line_from : (number : ℕ) (image : List Segment) (a b : Shown) (e : ℕ) (same : Bool) (text : List ℕ) → IsSoak number image → IsOver image schedule a

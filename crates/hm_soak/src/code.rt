@@ -7,7 +7,7 @@ ghost use Rattle.hm_soak_laws.specs.Soak.{Bkpt, Movt, Movw, code, draw, drawn, f
 use crate::rows::{branch_to_link, no_operation, operation, store};
 use hm_base::OutOfMemory;
 use hm_code_bytes::add_code;
-use hm_code_bytes::rows::{breakpoint, byte_row, half_row, splat};
+use hm_code_bytes::rows::{breakpoint_row, byte_row, duplicate_row, half_row};
 use hm_isa::{ByteName, Element, HalfName};
 
 /// How many operations on lanes a soak has.
@@ -20,7 +20,7 @@ const INTERRUPT_ENABLES: u32 = 0xe000_e100;
 fn draw(x: u32) -> u32
     ensures next { result ≡ draw x }
 {
-    ((1_664_525 * x as u64 + 1_013_904_223) % 0x1_0000_0000) as u32
+    x.wrapping_mul(1_664_525).wrapping_add(1_013_904_223)
 }
 
 /// Adds the instructions that put a word into a register below 13.
@@ -47,7 +47,7 @@ fn add_filled(out: &mut Vec<u8>, j: u32, v: u32) -> Result<(), OutOfMemory>
     ensures codes { IfOk result (λ _. AddsCodes (filled j v) out.old.items out.new.items) }
 {
     add_constant(out, 1, v)?;
-    add_code(out, &splat(Element::Words, 4 + j, 1))
+    add_code(out, &duplicate_row(Element::Words, 4 + j, 1))
 }
 
 /// Adds the instructions that fill q4 to q7 with the first four draws, and gives the fourth.
@@ -79,7 +79,7 @@ fn add_operations(out: &mut Vec<u8>, last: u32) -> Result<(), OutOfMemory>
 fn add_end(out: &mut Vec<u8>) -> Result<(), OutOfMemory>
     ensures codes { IfOk result (λ _. AddsCodes (Bkpt 0 ∷ handler) out.old.items out.new.items) }
 {
-    add_code(out, &breakpoint(0))?;
+    add_code(out, &breakpoint_row(0))?;
     add_code(out, &byte_row(ByteName::Mov, 0, 7))?;
     add_code(out, &no_operation())?;
     add_code(out, &branch_to_link())

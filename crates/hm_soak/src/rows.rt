@@ -4,16 +4,16 @@ ghost use Rattle.std.specs.Prelude.{◌<◌};
 ghost use Rattle.hm_soak_laws.specs.Image.{IsBx, IsItem, IsNop, IsStr};
 ghost use Rattle.hm_soak_laws.specs.Soak.{operation};
 
-use hm_code_bytes::rows::{add_row, best_row, bitwise_row};
+use hm_code_bytes::rows::{add_row, bitwise_row, signed_row};
 use hm_isa::{
     AddName, Below, BitwiseName, Branch, HintName, Instr, JumpName, PlainName, S16, S19, S23,
     Scalar, SignedName,
 };
 
-/// The size of elements of 32 bits, as rows have it that name it by a number.
+/// Elements of 32 bits, as the field z of V1 and V3 has them.
 const WORDS: u32 = 2;
 
-/// What rows of elements with a sign have.
+/// Elements with a sign, as the field u of V3 has them.
 const SIGNED: u32 = 0;
 
 /// `str rt,[rn,#0]`.
@@ -43,7 +43,7 @@ pub fn operation(k: u32, v: u32) -> Instr
         1 => add_row(WORDS, AddName::Sub, d, n, m),
         2 => add_row(WORDS, AddName::Mul, d, n, m),
         3 => bitwise_row(BitwiseName::Eor, d, n, m),
-        _ => best_row(SIGNED, WORDS, SignedName::Max, d, n, m),
+        _ => signed_row(SIGNED, WORDS, SignedName::Max, d, n, m),
     }
 }
 

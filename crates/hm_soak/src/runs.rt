@@ -45,11 +45,7 @@ fn is_in_thread(machine: &Machine) -> bool
 fn entry(begins_in_thread: bool, ends_in_thread: bool) -> u32
     ensures { result ≡ cond (begins_in_thread && not ends_in_thread) 1 0 }
 {
-    if begins_in_thread && !ends_in_thread {
-        1
-    } else {
-        0
-    }
+    u32::from(begins_in_thread && !ends_in_thread)
 }
 
 /// Runs a machine to its end. It gives how many ticks began in the thread and ended in a handler.

@@ -4,24 +4,25 @@ ghost use Rattle.std.specs.Prelude.{◌≡◌, ◌↔◌, ◌++◌, ℕ, true, L
 ghost use Rattle.std.specs.Fmt.{decimal};
 ghost use Rattle.hm_base.specs.Image.{Segment, flash_byte};
 ghost use Rattle.hm_codes.specs.Listing.{IsListing, Listing};
+ghost use Rattle.hm_machine.specs.Shown.{timed_of};
 ghost use Rattle.hm_run.specs.declared.Outcome.TheVariants.{Halted};
 ghost use Rattle.hm_run.specs.declared.Reason.{Reason};
 ghost use Rattle.hm_soak_laws.specs.Image.{IsSoak};
 ghost use Rattle.hm_soak_laws.specs.Schedule.{schedule};
-ghost use Rattle.hm_soak_laws.specs.Summary.{IsSoakLine, entered, scheduled, summary_text};
+ghost use Rattle.hm_soak_laws.specs.Summary.{IsSoakLine, SameShown, entered, scheduled, summary_text};
 
 use crate::making::make;
 use crate::runs::{load, run_counting, run_plainly};
 use hm_base::OutOfMemory;
-use hm_regs::Regs;
+use hm_machine::Machine;
 use hm_text_base::{decimal, text};
 use std::alloc::Global;
 
-/// Whether these are the same registers, and the same output.
-fn same_shown(a: &Regs, b: &Regs, output: &[u8], other: &[u8]) -> bool
-    ensures same { IsTrue result ↔ ((a.now ≡ b.now) × (output.now ≡ other.now)) }
+/// Whether two machines show the same registers, and the same output.
+fn same_shown(x: &Machine, y: &Machine) -> bool
+    ensures same { IsTrue result ↔ SameShown (timed_of x.now).config.state (timed_of y.now).config.state }
 {
-    a == b && output == other
+    x.regs() == y.regs() && x.output() == y.output()
 }
 
 /// Adds a word and a number.
@@ -69,12 +70,7 @@ pub fn summary(alloc: Global, number: u32) -> Result<Vec<u8>, OutOfMemory>
     let mut scheduled = load(alloc, &image, schedule)?;
     let entries = run_counting(&mut scheduled);
     let plainly = run_plainly(alloc, &image)?;
-    let same = same_shown(
-        scheduled.regs(),
-        plainly.regs(),
-        scheduled.output(),
-        plainly.output(),
-    );
+    let same = same_shown(&scheduled, &plainly);
     line(
         alloc,
         number,

@@ -1,5 +1,5 @@
 -- WHERE A PROGRAM STANDS, and what is known of a run before a tick.
-use Rattle.std.specs.Prelude.{ℕ, List, [], ◌∷◌, Option, Some, None, reverse}
+use Rattle.std.specs.Prelude.{List, [], ◌∷◌, Option, Some, None, reverse}
 use Rattle.hm_exc.specs.Entry.{window_in}
 use Rattle.hm_exc.specs.declared.types.Activation.{Activation}
 use Rattle.hm_regs.specs.declared.Regs.{Regs}

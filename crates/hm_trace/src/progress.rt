@@ -1,6 +1,6 @@
 //! The instructions that are shown of a tick, and the beats of each.
 
-ghost use Rattle.std.specs.Prelude.{◌≡◌, ◌+◌, ◌≤◌, ◌<◌, ◌++◌, cond, length, nat_eq};
+ghost use Rattle.std.specs.Prelude.{◌≡◌, ◌+◌, ◌≤◌, ◌<◌, ◌++◌, length};
 ghost use Rattle.arrayvec.specs.ArrayVec.{array_vec_len};
 ghost use Rattle.hm_machine.specs.Shown.{timed_of};
 ghost use Rattle.hm_trace.specs.Progresses.{base_of, count_of, done_progress, end_of, goes_on, is_cut, is_left, is_refused_entry, left_of, older_before};
@@ -60,13 +60,6 @@ fn is_refused_entry(outcome: Option<Outcome>) -> bool
     )
 }
 
-/// 1 for a letter, 0 for another.
-fn one_if(c: u8, letter: u8) -> usize
-    ensures value { result ≡ cond (nat_eq letter c) 1 0 }
-{
-    if letter == c { 1 } else { 0 }
-}
-
 /// How often a letter stands among those of a tick.
 fn count_of(letter: u8, letters: &[u8]) -> usize
     requires few { length letters.now ≤ 8 }
@@ -74,7 +67,7 @@ fn count_of(letter: u8, letters: &[u8]) -> usize
 {
     let mut count = 0;
     for c in letters {
-        count += one_if(*c, letter);
+        count += usize::from(letter == *c);
     }
     count
 }

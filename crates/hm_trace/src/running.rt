@@ -6,7 +6,7 @@ ghost use Rattle.hm_codes.specs.Listing.{IsListing, Listing};
 ghost use Rattle.hm_machine.specs.Shown.{Shows, timed_of};
 ghost use Rattle.hm_machine.specs.Turns.{LoadRefuses};
 ghost use Rattle.hm_mem.specs.Memory.{flash_at};
-ghost use Rattle.hm_sched.specs.Schedule.{Sched};
+ghost use Rattle.hm_sched.specs.Schedule.{Sched, most_ticks};
 ghost use Rattle.hm_state.specs.Start.{reset_pc};
 ghost use Rattle.hm_trace.specs.Marks.{mark_seen};
 ghost use Rattle.hm_trace.specs.Stands.{past_of};
@@ -39,16 +39,7 @@ pub struct Ticks {
     pub ghost some: { 1 ≤ first },
     pub ghost order: { first ≤ last },
     pub ghost few: { last < first + 10000 },
-    pub ghost most: { last ≤ 16777216 },
-}
-
-/// Does so many ticks; of a run that has ended, none.
-fn skip(machine: &mut Machine, count: u32)
-    ensures shows { (image : List Segment) (s : Sched) (t : ℕ) → Shows image s t machine.old → Shows image s (t + count) machine.new }
-{
-    for _k in 0..count {
-        let _turn = machine.tick();
-    }
+    pub ghost most: { last ≤ most_ticks },
 }
 
 /// Adds a tick in a form.
@@ -156,7 +147,7 @@ pub fn trace(
     ensures refused { IfErr result (λ e. LoadRefuses image.now e) }
 {
     let mut machine = Machine::load(alloc, image, schedule)?;
-    skip(&mut machine, ticks.first - 1);
+    machine.pass(ticks.first - 1);
     let mut out = Vec::new(alloc);
     add_head(&mut out, form)?;
     add_ticks(

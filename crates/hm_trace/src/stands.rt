@@ -1,6 +1,6 @@
 //! Where a program stands, and what is kept of a run before a tick.
 
-ghost use Rattle.std.specs.Prelude.{◌≡◌, ◌≤◌, ◌<◌, [], None, length, reverse, IfOk, IfSome, IfNone, slice_get, slice_index};
+ghost use Rattle.std.specs.Prelude.{◌≡◌, ◌<◌, [], None, reverse, IfOk, IfSome, IfNone, slice_get, slice_index};
 ghost use Rattle.hm_base.specs.Image.{word_at};
 ghost use Rattle.hm_machine.specs.Shown.{timed_of};
 ghost use Rattle.hm_sched.specs.Schedule.{line_of};
@@ -32,21 +32,13 @@ pub struct Before {
     pub regs: Regs,
 }
 
-/// The letters of a line, as a line holds them.
-fn held(letters: &[u8]) -> ArrayVec<u8, 8>
-    requires few { length letters.now ≤ 8 }
-    ensures same { result.items ≡ letters.now }
-{
-    ArrayVec::try_from(letters).unwrap()
-}
-
 /// A copy of a line of a schedule.
 fn copied(line: &Line) -> Line
     ensures same { line_of result ≡ line_of line.now }
 {
     Line {
         count: line.count,
-        letters: held(line.letters.as_slice()),
+        letters: ArrayVec::try_from(line.letters.as_slice()).unwrap(),
         irq: line.irq,
     }
 }

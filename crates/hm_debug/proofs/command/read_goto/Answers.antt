@@ -1,7 +1,6 @@
 use Rattle.std.proofs.Common.{ap, ◌∙◌, ℕ}
 use Rattle.std.specs.Option.{option_map}
 use Rattle.hm_debug.proofs.Reading.{as_read, goto_read}
-use Rattle.hm_debug.specs.declared.command.Command.{Command}
 use Rattle.hm_debug.specs.declared.command.Command.TheVariants.{Goto}
 use Rattle.hm_debug.proofs.command.read_goto.Goals as goal
 

@@ -1,7 +1,6 @@
 use Rattle.std.proofs.Common.{ap, ◌∙◌, ℕ}
 use Rattle.std.specs.Option.{option_map}
 use Rattle.hm_debug.proofs.Reading.{as_read, until_read}
-use Rattle.hm_debug.specs.declared.command.Command.{Command}
 use Rattle.hm_debug.specs.declared.command.Command.TheVariants.{Until}
 use Rattle.hm_debug.proofs.command.read_until.Goals as goal
 

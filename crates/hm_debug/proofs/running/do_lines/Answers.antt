@@ -21,13 +21,13 @@ loop-line-preserved c =
     let one = first_says c.in-Some.line.now behind.0 behind.1 i.said.0 (subst (λ (ls : Lines). SayAll ls i.said.0) ended i.said.1) in
     record {
       stays = c.do_line.ensures.stays ∙ i.stays;
-      within = subst (λ (w : Taped). c.in-Ok.next ≤ w.last) (sym c.do_line.ensures.stays) c.in-Ok.ensures.within;
+      within = subst (λ (w : Taped). c.in_ok-place.place ≤ w.last) (sym c.do_line.ensures.stays) c.in_ok-place.ensures.within;
       said = (one.1, one.4);
       left = λ f cs film say.
           let here = subst (λ (w : Taped). IsFilm f w) (sym i.stays) film in
-          left_after f c.in-Some.line.now behind.0 behind.1 c.loop-line.out.items c.do_line.new.out.items c.loop-line.place c.in-Ok.next (answers f cs 0)
+          left_after f c.in-Some.line.now behind.0 behind.1 c.loop-line.out.items c.do_line.new.out.items c.loop-line.place c.in_ok-place.place (answers f cs 0)
           (subst (λ (ls : Lines). IsLeft f ls c.loop-line.out.items c.loop-line.place (answers f cs 0)) ended (i.left f cs film say))
-          (λ d says. c.in-Ok.ensures.gives f d here says);
+          (λ d says. c.in_ok-place.ensures.gives f d here says);
     }
 
 pub returns-clause-answers : goal.returns-clause-answers

@@ -6,9 +6,9 @@ use Rattle.hm_listing.proofs.lines.add_lines.Goals as goal
 
 pub loop-at-preserved : goal.loop-at-preserved
 loop-at-preserved c = record {
-  even = c.in-Ok.ensures.goes_on.2;
-  within = c.in-Ok.ensures.goes_on.1;
-  lines = left_after _ _ _ _ _ _ _ _ c.loop-at.invariant.lines c.loop-at-test.true c.in-Ok.ensures.added;
+  even = c.in_ok-at.ensures.goes_on.2;
+  within = c.in_ok-at.ensures.goes_on.1;
+  lines = left_after _ _ _ _ _ _ _ _ c.loop-at.invariant.lines c.loop-at-test.true c.in_ok-at.ensures.added;
 }
 
 pub returns : goal.returns

@@ -6,7 +6,7 @@ use Rattle.hm_machine.proofs.reel.bring.Goals as goal
 pub returns-then-place-tick-clause-shows : goal.returns-then-place-tick-clause-shows
 returns-then-place-tick-clause-shows c start lie at image s h =
     let sum : c.args.place + (c.args.tick - c.args.place) ≡ c.args.tick = omega arith in
-    subst (λ (u : ℕ). Shows image s u c.pass.new.machine) sum (c.pass.ensures.shows image s c.args.place (at image s h))
+    subst (λ (u : ℕ). Shows image s u c.pass.new.self) sum (c.pass.ensures.shows image s c.args.place (at image s h))
 
 pub back-requires : goal.back-requires
 back-requires c =
@@ -28,4 +28,4 @@ returns-clause-shows c start lie at image s h =
     let back : Shows image s (c.nearest-near.result * c.args.apart) c.back.new.self =
     subst (λ (m : Shown). Shows image s (c.nearest-near.result * c.args.apart) m) (sym c.back.ensures.shows) there in
     let sum : c.nearest-near.result * c.args.apart + (c.args.tick - c.nearest-near.result * c.args.apart) ≡ c.args.tick = omega (arith, before) in
-    subst (λ (u : ℕ). Shows image s u c.pass-2.new.machine) sum (c.pass-2.ensures.shows image s (c.nearest-near.result * c.args.apart) back)
+    subst (λ (u : ℕ). Shows image s u c.pass-2.new.self) sum (c.pass-2.ensures.shows image s (c.nearest-near.result * c.args.apart) back)

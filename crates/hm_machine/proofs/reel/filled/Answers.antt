@@ -38,7 +38,7 @@ loop-k-preserved c =
     let cs = c.loop-k.kept.items in
     let x = c.in_ok-checkpoint-2.field-0 in
     let m = c.loop-k.machine in
-    let n = c.pass.new.machine in
+    let n = c.pass.new.self in
     let start = c.args.machine.now in
     let same = c.pass.ensures.fixed in
     let before = c.loop-k.invariant in
@@ -82,7 +82,7 @@ pub returns-then-ticks-reached-clause-first : goal.returns-then-ticks-reached-cl
 returns-then-ticks-reached-clause-first c =
     let cs = c.loop-k.kept.items in
     let m = c.loop-k.machine in
-    let n = c.pass.new.machine in
+    let n = c.pass.new.self in
     let before = c.loop-k.invariant in
     let many = before.many in
     let one = c.loop-k.auto._k in
@@ -95,7 +95,7 @@ returns-then-ticks-reached-clause-first c =
 pub returns-then-ticks-reached-clause-kept : goal.returns-then-ticks-reached-clause-kept
 returns-then-ticks-reached-clause-kept c =
     let m = c.loop-k.machine in
-    let n = c.pass.new.machine in
+    let n = c.pass.new.self in
     let before = c.loop-k.invariant in
     let image = c.requires.start.0 in
     let s = c.requires.start.1 in
@@ -106,7 +106,7 @@ returns-then-ticks-reached-clause-kept c =
 pub returns-then-ticks-reached-clause-lie : goal.returns-then-ticks-reached-clause-lie
 returns-then-ticks-reached-clause-lie c =
     let m = c.loop-k.machine in
-    let n = c.pass.new.machine in
+    let n = c.pass.new.self in
     let before = c.loop-k.invariant in
     let image = c.requires.start.0 in
     let s = c.requires.start.1 in
@@ -125,11 +125,11 @@ returns-then-ticks-reached-clause-reached c =
     let image = c.requires.start.0 in
     let s = c.requires.start.1 in
     let old = before.shows image s c.requires.start.2 in
-    let grown = shows_more image s c.loop-k.reached c.args.apart c.loop-k.machine c.pass.new.machine old (c.pass.ensures.shows image s c.loop-k.reached old) in
+    let grown = shows_more image s c.loop-k.reached c.args.apart c.loop-k.machine c.pass.new.self old (c.pass.ensures.shows image s c.loop-k.reached old) in
     let begun = before.begun in
-    let least : c.loop-k.reached ≤ c.pass.new.machine.ticks = omega (arith, begun, grown) in
+    let least : c.loop-k.reached ≤ c.pass.new.self.ticks = omega (arith, begun, grown) in
     let is = ap (λ (k : ℕ). (k - 1) * c.args.apart) before.many ∙ one_less c.loop-k.reached c.args.apart c.loop-k._k (omega (arith, one)) before.reached in
-    subst (λ (r : ℕ). r ≤ c.pass.new.machine.ticks) (sym is) least
+    subst (λ (r : ℕ). r ≤ c.pass.new.self.ticks) (sym is) least
 
 pub returns-then-ticks-reached-clause-all : goal.returns-then-ticks-reached-clause-all
 returns-then-ticks-reached-clause-all c =
@@ -140,13 +140,13 @@ returns-then-ticks-reached-clause-all c =
     let s = c.requires.start.1 in
     let ticks = c.if-ticks-reached.true in
     let are = c.ticks.ensures.value in
-    let less : c.pass.new.machine.ticks < c.loop-k.reached + c.args.apart = omega (arith, ticks, are) in
+    let less : c.pass.new.self.ticks < c.loop-k.reached + c.args.apart = omega (arith, ticks, are) in
     let is : c.loop-k.reached + c.args.apart ≡ length c.loop-k.kept.items * c.args.apart = before.reached ∙ ap (λ (k : ℕ). k * c.args.apart) (sym many) in
     let on = c.pass.ensures.shows image s c.loop-k.reached (before.shows image s c.requires.start.2) in
     inr (
       omega (arith, many, most),
-      subst (λ (r : ℕ). c.pass.new.machine.ticks < r) is less,
-      ended_before image s (c.loop-k.reached + c.args.apart) c.pass.new.machine on less,
+      subst (λ (r : ℕ). c.pass.new.self.ticks < r) is less,
+      ended_before image s (c.loop-k.reached + c.args.apart) c.pass.new.self on less,
     )
 
 pub returns-clause-reached : goal.returns-clause-reached

@@ -18,7 +18,7 @@ returns-clause-ends c =
     let n = c.args.n in
     of_planned image n (λ (listing : Listing) (s : Sched). EndsAs n (shown_out listing image s) (in_order listing image n))
     (λ listing. c.plan_in_order.ensures.ends listing image n)
-    c.grown.result c.grown.ensures.planned
+    c.build.result c.build.ensures.planned
 
 pub returns-clause-exactly : goal.returns-clause-exactly
 returns-clause-exactly c =
@@ -26,7 +26,7 @@ returns-clause-exactly c =
     let n = c.args.n in
     of_planned image n (λ (listing : Listing) (s : Sched). DecidedBy n (shown_out listing image s) (in_order listing image n))
     (λ listing. c.plan_in_order.ensures.exactly listing image n)
-    c.grown.result c.grown.ensures.planned
+    c.build.result c.build.ensures.planned
 
 pub returns-clause-only : goal.returns-clause-only
 returns-clause-only c =
@@ -34,16 +34,16 @@ returns-clause-only c =
     let n = c.args.n in
     of_planned image n (λ (listing : Listing) (s : Sched). IsPlanEnd (shown_out listing image s).outcome)
     (λ listing. c.plan_in_order.ensures.only listing image n)
-    c.grown.result c.grown.ensures.planned
+    c.build.result c.build.ensures.planned
 
 pub returns-clause-few : goal.returns-clause-few
 returns-clause-few c =
     let image = c.args.image.now in
     let n = c.args.n in
     let there = exists (flash_byte image) in
-    if_ok _ (λ (s : Sched). length (ticks_of s.lines) ≤ 4 * n) c.grown.result
+    if_ok _ (λ (s : Sched). length (ticks_of s.lines) ≤ 4 * n) c.build.result
     (λ s is. subst (λ (u : Sched). length (ticks_of u.lines) ≤ 4 * n) (sym (is there.0 there.1)) (c.plan_in_order.ensures.few there.0 image n))
-    c.grown.ensures.planned
+    c.build.ensures.planned
 
 pub returns-clause-greedy : goal.returns-clause-greedy
 returns-clause-greedy c =
@@ -52,7 +52,7 @@ returns-clause-greedy c =
     of_planned image n
     (λ (listing : Listing) (s : Sched). (t : ℕ) (line : TickLine) (left : List TickLine) → drop t (ticks_of s.lines) ≡ line ∷ left
     → IsGreedyAt listing image n s t line)
-    (λ listing t line left. c.plan_in_order.ensures.greedy listing image n t line left) c.grown.result c.grown.ensures.planned
+    (λ listing t line left. c.plan_in_order.ensures.greedy listing image n t line left) c.build.result c.build.ensures.planned
 
 pub returns-clause-dense : goal.returns-clause-dense
 returns-clause-dense c =
@@ -68,4 +68,4 @@ returns-clause-dense c =
     let greedy = c.plan_in_order.ensures.greedy listing image n t line left there in
     let ready = (c.open_runs.ensures.ready (bare_program listing) x).1 (overlaps listing image n t s line refl greedy goes) in
     last_alone (bare_program listing) n x ready (sym greedy.letters ∙ one))
-    c.grown.result c.grown.ensures.planned
+    c.build.result c.build.ensures.planned

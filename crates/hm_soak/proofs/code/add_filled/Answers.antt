@@ -7,7 +7,7 @@ pub returns : goal.returns
 returns c =
     let v = c.args.v in
     record {
-      codes = adds_last (Movw 1 (v % 65536) ∷ Movt 1 (v / 65536) ∷ []) (Vdup (4 + c.args.j) 1) c.splat.result c.args.out.now.items
+      codes = adds_last (Movw 1 (v % 65536) ∷ Movt 1 (v / 65536) ∷ []) (Vdup (4 + c.args.j) 1) c.duplicate_row.result c.args.out.now.items
           c.add_constant.new.out.items c.add_code.new.out.items c.add_code.result
-          c.in_ok-add_constant.ensures.codes c.splat.ensures.row c.add_code.ensures.added;
+          c.in_ok-add_constant.ensures.codes c.duplicate_row.ensures.row c.add_code.ensures.added;
     }

@@ -19,4 +19,4 @@ returns-in-3 c = record { row = operation_made c.args.k c.args.v soak.Eor c.bitw
 pub returns-in_default : goal.returns-in_default
 returns-in_default c =
     let last = the_last (c.args.v / 256 % 5) (search rules) (search rules) (search rules) (search rules) in
-    record { row = operation_made c.args.k c.args.v soak.Max c.best_row.result last c.best_row.ensures.row }
+    record { row = operation_made c.args.k c.args.v soak.Max c.signed_row.result last c.signed_row.ensures.row }

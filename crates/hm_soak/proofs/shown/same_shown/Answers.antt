@@ -5,12 +5,14 @@ use Rattle.hm_soak.proofs.shown.same_shown.Goals as goal
 
 pub returns-then-eq : goal.returns-then-eq
 returns-then-eq c =
-    let registers : same_regs c.args.a.now c.args.b.now ≡ true = sym c.eq.ensures ∙ c.if-eq.true in
-    let output = bytes_eq-Decides c.args.output.now c.args.other.now in
+    let registers : same_regs c.regs.result.now c.regs-2.result.now ≡ true = sym c.eq.ensures ∙ c.if-eq.true in
+    let output = bytes_eq-Decides c.output.result.now c.output-then-eq.result.now in
     record {
       same = (
-        λ t. ((same_regs_decides c.args.a.now c.args.b.now).0 registers, output.0 (sym c.eq-then-eq.ensures ∙ t)),
-        λ h. c.eq-then-eq.ensures
-            ∙ output.1 h.1,
+        λ t. record {
+          registers = sym c.regs.ensures ∙ (same_regs_decides c.regs.result.now c.regs-2.result.now).0 registers ∙ c.regs-2.ensures;
+          output = sym c.output.ensures ∙ output.0 (sym c.eq-then-eq.ensures ∙ t) ∙ c.output-then-eq.ensures;
+        },
+        λ shown. c.eq-then-eq.ensures ∙ output.1 (c.output.ensures ∙ shown.output ∙ sym c.output-then-eq.ensures),
       );
     }

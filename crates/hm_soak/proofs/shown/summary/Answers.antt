@@ -3,7 +3,7 @@ use Rattle.hm_machine.specs.Shown.{Shows}
 use Rattle.hm_sched.specs.Schedule.{Sched}
 use Rattle.hm_soak_laws.specs.Schedule.{schedule}
 use Rattle.hm_soak.proofs.Counted.{few_left, lines_there}
-use Rattle.hm_soak.proofs.Overs.{equal_ok, line_ok, means_same, odd_reset}
+use Rattle.hm_soak.proofs.Overs.{equal_ok, line_ok, odd_reset}
 use Rattle.hm_soak.proofs.shown.summary.Goals as goal
 
 pub load-requires : goal.load-requires
@@ -32,9 +32,7 @@ returns-clause-line c =
     c.run_counting-entries.result c.same_shown-same.result c.line.result
     c.in_ok-image.ensures.image (c.run_counting-entries.ensures.over c.in_ok-image.image schedule begins)
     (c.run_counting-entries.ensures.entered c.in_ok-image.image schedule begins) c.in_ok-plainly.ensures.over
-    (means_same _ _ c.run_counting-entries.new.machine c.in_ok-plainly.plainly _ _ c.same_shown-same.result c.regs.ensures c.regs-2.ensures c.output.ensures
-    c.output-2.ensures c.same_shown-same.ensures.same)
-    c.retired.ensures c.ticks.ensures.value c.line.ensures.value
+    c.same_shown-same.ensures.same c.retired.ensures c.ticks.ensures.value c.line.ensures.value
 
 pub returns-clause-equal : goal.returns-clause-equal
 returns-clause-equal c = equal_ok c.args.number c.line.result (returns-clause-line c)

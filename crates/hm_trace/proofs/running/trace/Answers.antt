@@ -10,7 +10,7 @@ returns-clause-text c = λ listing listed.
     let s = c.args.schedule in
     let first = c.args.ticks.first in
     let none : 0 + (first - 1) ≡ first - 1 = omega arith in
-    let begins = subst (λ (t : ℕ). Shows image s t c.skip.new.machine) none (c.skip.ensures.shows image s 0 c.in_ok-machine.ensures.shows) in
+    let begins = subst (λ (t : ℕ). Shows image s t c.pass.new.self) none (c.pass.ensures.shows image s 0 c.in_ok-machine.ensures.shows) in
     let empty : c.new-out.result.items ≡ [] = search rules in
     let head = c.in_ok-add_head.ensures.added ∙ ap (λ (out : List ℕ). out ++ head_in c.args.form) empty in
     traced c.args.form listing image s first c.args.ticks.last c.add_ticks.new.machine _ _ _ c.args.ticks.some c.args.ticks.order listed

@@ -1,5 +1,6 @@
-use Rattle.std.proofs.Common.{◌≡◌, ◌<◌, ◌≤◌, ℕ, suc, arith, ap, refl, sym, ◌∙◌, subst, Bool, true, false, [], ◌∷◌, ◌+◌, None, Some, Result, Ok, Err, List, drop}
+use Rattle.std.proofs.Common.{◌≡◌, ◌<◌, ◌≤◌, ℕ, suc, arith, ap, refl, sym, ◌∙◌, subst, Bool, [], ◌∷◌, ◌+◌, None, Some, Result, Ok, Err, List, drop, true, false}
 use Rattle.std.proofs.Common.{length, inl}
+use Rattle.std.specs.Int.{from_bool}
 use Rattle.hm_codes.proofs.Exists.{exists}
 use Rattle.hm_cpu.proofs.Keeping.{moved_bounds}
 use Rattle.hm_cpu.specs.Cpus.{nested_of}
@@ -55,6 +56,11 @@ module _ (listing : Listing) (inside : Inside) (running : inside.outcome ≡ Non
       subst (λ (r : Run). n + length es ≡ inside.entries + length r.entries) next_is
       (comes_counted listing inside.schedule line rest before refl a m t es inside.entries n h e)
 
+-- 1 where one entered, else 0
+as_entered : (b : Bool) → from_bool b ≡ entered_in (Ok b)
+as_entered true = refl
+as_entered false = refl
+
 pub returns-in-Err-clause-next : goal.returns-in-Err-clause-next
 returns-in-Err-clause-next c =
     rw (← c.self.view_is) (λ listing es is.
@@ -108,7 +114,7 @@ returns-in-Some-clause-entries c =
     let did = c.in-Ok.ensures.value listing inside.schedule line inside.ticks es is (sym c.entries-may_enter.ensures.value) (sym c.as_slice.ensures.value) refl
     refl (c.self.invariant.sound running) in
     counted listing inside running line es c.line_at-line.ensures.first (Ok c.in-Ok.entered) (nested_of c.tick.new.x) (inside.ticks + 1) _ did
-    (ap (λ (n : ℕ). inside.entries + n) c.entered_once.ensures))
+    (ap (λ (n : ℕ). inside.entries + n) (c.from.ensures ∙ as_entered c.in-Ok.entered)))
 
 pub returns-in-None-clause-next : goal.returns-in-None-clause-next
 returns-in-None-clause-next c =
@@ -133,12 +139,11 @@ returns-in-None-clause-entries c =
     let did = c.in-Ok.ensures.value listing inside.schedule line inside.ticks es is (sym c.entries-may_enter.ensures.value) (sym c.as_slice.ensures.value) refl
     refl (c.self.invariant.sound running) in
     counted listing inside running line es c.line_at-line.ensures.first (Ok c.in-Ok.entered) (nested_of c.tick.new.x) (inside.ticks + 1) _ did
-    (ap (λ (n : ℕ). inside.entries + n) c.entered_once.ensures))
+    (ap (λ (n : ℕ). inside.entries + n) (c.from.ensures ∙ as_entered c.in-Ok.entered)))
 
 -- at most one enters
 one_most : (b : Bool) → entered_in (Ok b) ≤ 1
-one_most true = omega arith
-one_most false = omega arith
+one_most b = grind arith
 
 pub invariant_of-self-in-Some : goal.invariant_of-self-in-Some
 invariant_of-self-in-Some c =
@@ -161,7 +166,7 @@ invariant_of-self-in-Some c =
     let steps = c.self.invariant.steps in
     let entries = c.self.invariant.entries in
     let once = one_most c.in-Ok.entered in
-    let entered = c.entered_once.ensures in
+    let entered = c.from.ensures ∙ as_entered c.in-Ok.entered in
     record {
       capacity = c.in-Ok.ensures.moves.room ∙ c.self.invariant.capacity;
       bounds = moved_bounds c.in-Ok.ensures.moves ∙ c.self.invariant.bounds;

@@ -33,8 +33,7 @@ module _ (old new : Shown) (none : old.outcome ≡ None)
   over first empty (inr ended) = absurd (let o = ap (λ (m : Shown). m.outcome) ended in cc)
 
   turns_most : (o : Option Outcome) (left : List TickLine) → turns_left o left ≤ suc (length left)
-  turns_most None left = omega arith
-  turns_most (Some o) left = omega arith
+  turns_most o left = grind arith
 
   smaller : turns_left new.outcome new.left < suc (length old.left)
   smaller = ⊎_elim

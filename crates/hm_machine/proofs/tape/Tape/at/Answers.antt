@@ -23,6 +23,7 @@ invariant_of-self-2 c =
     let first = first_still f (fixed_of m) o o same (begins_same o) w.kept.items w.machine m refl refl held.some held.kept in
     record {
       apart = held.apart;
+      most = held.most;
       some = held.some;
       kept = kept_still f (fixed_of m) o o same (begins_same o) w.kept.items held.kept;
       lie = lie_first _ _ (fixed_of m) o w.apart w.kept.items first

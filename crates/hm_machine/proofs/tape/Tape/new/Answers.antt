@@ -50,6 +50,7 @@ module _ (c : goal.After-scheduled-place) where
 pub invariant_of-result : goal.invariant_of-result
 invariant_of-result c = record {
   apart = omega arith;
+  most = c.ticks-last.ensures.most;
   some = c.in_ok-kept.ensures.some;
   kept = kept c;
   lie = lie_first _ _ (fixed_of (end c)) _ _ (checkpoints c) (first c) (lie c);

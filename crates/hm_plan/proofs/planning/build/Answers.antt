@@ -11,7 +11,7 @@ use Rattle.hm_plan_laws.proofs.Plans.{is_below}
 use Rattle.hm_plan_laws.specs.Planned.{bare, is_over, plan_line}
 use Rattle.hm_handlers.specs.Runs.{Run, begin, tick}
 use Rattle.hm_sched.specs.Schedule.{Sched, total}
-use Rattle.hm_plan.proofs.planning.grown.Goals as goal
+use Rattle.hm_plan.proofs.planning.build.Goals as goal
 
 pub loop-machine-init : goal.loop-machine-init
 loop-machine-init c =
@@ -90,12 +90,13 @@ loop-machine-preserved c =
     let less : old.ticks < 4 * n = few there.0 image n lines.schedule.lines lines.count lines.kind old (held.stands there.0 there.1) on in
     record {
       stands = λ listing is.
-          next_stands listing image n lines.schedule.lines lines.count lines.kind old new c.push.new.x.schedule.lines c.push.new.x.count c.push.new.x.kind kind
-          (held.stands listing is) on (c.greedy-kind.ensures.value listing (subst (λ (f : ℕ → ℕ). IsListing f listing) (sym held.flash) is))
+          next_stands listing image n lines.schedule.lines lines.count lines.kind old new c.push.new.self.schedule.lines c.push.new.self.count
+          c.push.new.self.kind kind (held.stands listing is) on
+          (c.greedy-kind.ensures.value listing (subst (λ (f : ℕ → ℕ). IsListing f listing) (sym held.flash) is))
           c.in_ok-push.ensures.lines (next listing is);
       flash = c.extend-in-loop-machine.ensures.flash ∙ flash;
       made = c.extend-in-loop-machine.ensures.bare;
-      head = c.in_ok-push.ensures.kept ∙ ap (λ (s : Sched). record s { lines = c.push.new.x.schedule.lines }) held.head;
+      head = c.in_ok-push.ensures.kept ∙ ap (λ (s : Sched). record s { lines = c.push.new.self.schedule.lines }) held.head;
       count = c.in_ok-push.ensures.total ∙ ap (λ (k : ℕ). k + 1) held.count ∙ sym ticks;
       most = omega (arith, ticks, less);
       some = c.in_ok-push.ensures.some;

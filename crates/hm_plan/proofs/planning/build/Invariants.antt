@@ -7,7 +7,7 @@ use Rattle.hm_mem.specs.Memory.{flash_at}
 use Rattle.hm_plan_laws.proofs.Loops.{Stands}
 use Rattle.hm_plan_laws.specs.Planned.{bare}
 use Rattle.hm_sched.specs.Schedule.{total}
-use Rattle.hm_plan.proofs.planning.grown.Given as goal
+use Rattle.hm_plan.proofs.planning.build.Given as goal
 
 abbrev pub invariant-loop-machine : goal.invariant-loop-machine
 invariant-loop-machine l = record {
