@@ -2,4 +2,3 @@ pub mod Names
 pub mod Asking
 pub mod Writing
 pub mod Shaking
-pub mod Performing

@@ -1,17 +1,17 @@
 -- What a call does of the effect of its words.
-use Rattle.std.proofs.Common.{◌≡◌, List, [], ℕ, Option, Some, None, Result, Ok, Err, refl, sym, ap, subst, ◌∙◌, inl, inr}
-use Rattle.std.proofs.lemmas.List.{append-nil}
+use Rattle.std.proofs.Common.{◌≡◌, List, [], ℕ, Some, None, Result, Ok, Err, refl, sym, subst, ◌∙◌, inl, inr}
 use Rattle.hm_base.specs.Image.{Segment}
 use Rattle.hm_codes.specs.Listing.{Listing}
 use Rattle.hm_commands.proofs.Calling.{made_after}
-use Rattle.hm_commands.specs.Calls.{MakesCalls, read_calls, to_fault, to_memory, way_of, with_calls}
-use Rattle.hm_commands.specs.Effect.{Reading, missing, reading_of, too_large, whole}
+use Rattle.hm_commands.proofs.Carrying.{AreRead, spent_reads, told_reading, told_reading-told}
+use Rattle.hm_commands.specs.Calls.{MakesCalls, read_calls, to_fault, to_memory, way_of}
+use Rattle.hm_commands.specs.Effect.{Reading, too_large, whole}
 use Rattle.hm_commands.specs.declared.status.Status.{Status}
 use Rattle.hm_commands.specs.declared.status.Status.TheVariants.{Done, Ended, HostFault, NoMemory, Refused, Usage}
 use Rattle.hm_commands.specs.declared.work.Refusal.TheVariants.{FileTooLarge}
 use Rattle.hm_commands.specs.declared.work.Stop.{Stop}
 use Rattle.hm_commands.specs.declared.work.Stop.TheVariants as stop
-use Rattle.hm_host.specs.Host.{Becomes, Call, FileMap, HostState, Made, Rose, Stays}
+use Rattle.hm_host.specs.Host.{FileMap, HostState, Rose, Stays}
 use Rattle.hm_shake.specs.declared.shaking.Findings.{Findings}
 use Rattle.helium_shake.specs.Effects.{Carries, Effect, GivesEffect, IsDone, IsEffect, IsEffectFor, Shakes, calls_for, found_effect, refused_effect}
 use Rattle.helium_shake.specs.Effects.{usage_effect}
@@ -51,15 +51,6 @@ carries_after x old mid new NoMemory files printed same h = record {
   printed = λ P is. h.printed P (printed P is);
 }
 
--- where the files are not told, nothing binds what the reads gave
-told_reading : Option FileMap → List (List ℕ) → Reading
-told_reading None names = missing
-told_reading (Some F) names = reading_of F names
-
-told_reading-told : (files : Option FileMap) (names : List (List ℕ)) (F : FileMap) → files ≡ Some F → told_reading files names ≡ reading_of F names
-unfolding told_reading
-told_reading-told files names F is = ap (λ o. told_reading o names) is
-
 -- words that ask for nothing: the line of usage was printed
 pub usage_said : (listings : List Segment → Listing) (old new : HostState) (s : Status) → Carries usage_effect old new s
     → MakesCalls (calls_for usage_effect) old.calls new.calls (way_of s)
@@ -90,17 +81,9 @@ failed listings a old new files printed rose calls = record {
   begins = inr (record { untouched = (rose, files, printed); calls = calls });
 }
 
--- WHAT THE READS LEFT of a host, and what they gave
-record AreRead (a : Asked) (reading : Reading) (old mid : HostState) : Type 0 where
-  told : (F : FileMap) → old.files ≡ Some F → reading_of F (reads_of a) ≡ reading
-  files : Stays old.files mid.files
-  printed : Stays old.printed mid.printed
-  faults : mid.faults ≡ old.faults
-  calls : (F : FileMap) → old.files ≡ Some F → Becomes (with_calls (read_calls F (reads_of a))) old.calls mid.calls
-
 -- the reads gave this, and then an effect of it was carried out
 reached : (listings : List Segment → Listing) (a : Asked) (old mid new : HostState) (s : Status) (reading : Reading) (x : Effect)
-    → IsEffect listings (Some a) reading x → AreRead a reading old mid
+    → IsEffect listings (Some a) reading x → AreRead (reads_of a) reading old mid
     → Carries x mid new s → MakesCalls (calls_for x) mid.calls new.calls (way_of s) → Shakes listings (Some a) old new s
 reached listings a old mid new s reading x of are h rest = record {
   reading = reading;
@@ -116,39 +99,25 @@ reached listings a old mid new s reading x of are h rest = record {
 }
 
 -- a file was too large
-pub reached_large : (listings : List Segment → Listing) (a : Asked) (old mid new : HostState) (s : Status)
-    → ((F : FileMap) → old.files ≡ Some F → reading_of F (reads_of a) ≡ too_large)
-    → Stays old.files mid.files → Stays old.printed mid.printed → mid.faults ≡ old.faults
-    → ((F : FileMap) → old.files ≡ Some F → Becomes (with_calls (read_calls F (reads_of a))) old.calls mid.calls)
+pub reached_large : (listings : List Segment → Listing) (a : Asked) (old mid new : HostState) (s : Status) → AreRead (reads_of a) too_large old mid
     → Carries (refused_effect FileTooLarge) mid new s → MakesCalls (calls_for (refused_effect FileTooLarge)) mid.calls new.calls (way_of s)
     → Shakes listings (Some a) old new s
-reached_large listings a old mid new s told files printed same calls h rest =
-    let are : AreRead a too_large old mid = record { told = told; files = files; printed = printed; faults = same; calls = calls } in
-    reached listings a old mid new s too_large (refused_effect FileTooLarge) refl are h rest
-
--- all calls were made, and memory ran out behind them
-spent_reads : (calls : List Call) (old mid : Option (List Made)) → Becomes (with_calls calls) old mid → MakesCalls calls old mid to_memory
-spent_reads calls old mid all =
-    inr (λ made is. (with_calls calls made, all made is, record { done = calls; left = []; parts_are = sym (append-nil calls); made_are = refl }))
+reached_large listings a old mid new s are h rest = reached listings a old mid new s too_large (refused_effect FileTooLarge) refl are h rest
 
 -- the reads gave these contents, and then what was made of them was carried out
 pub reached_whole : (listings : List Segment → Listing) (a : Asked) (old mid new : HostState) (s : Status) (contents : List (List ℕ))
     (answer : Result Findings Stop)
-    → GivesEffect (IsEffectFor listings a contents) a.schedule answer → ((F : FileMap) → old.files ≡ Some F → reading_of F (reads_of a) ≡ whole contents)
-    → Stays old.files mid.files → Stays old.printed mid.printed → mid.faults ≡ old.faults
-    → ((F : FileMap) → old.files ≡ Some F → Becomes (with_calls (read_calls F (reads_of a))) old.calls mid.calls)
+    → GivesEffect (IsEffectFor listings a contents) a.schedule answer → AreRead (reads_of a) (whole contents) old mid
     → ((x : Effect) → GivesEffect (λ y. y ≡ x) a.schedule answer → Carries x mid new s)
     → ((x : Effect) → GivesEffect (λ y. y ≡ x) a.schedule answer → MakesCalls (calls_for x) mid.calls new.calls (way_of s))
     → (answer ≡ Err stop.NoMemory → (s ≡ NoMemory) × (new ≡ mid)) → Shakes listings (Some a) old new s
-reached_whole listings a old mid new s contents (Ok f) gives told files printed same calls h rest wanted =
+reached_whole listings a old mid new s contents (Ok f) gives are h rest wanted =
     let x = found_effect a.schedule f in
-    let are : AreRead a (whole contents) old mid = record { told = told; files = files; printed = printed; faults = same; calls = calls } in
     reached listings a old mid new s (whole contents) x gives are (h x refl) (rest x refl)
-reached_whole listings a old mid new s contents (Err (stop.Refused why)) gives told files printed same calls h rest wanted =
+reached_whole listings a old mid new s contents (Err (stop.Refused why)) gives are h rest wanted =
     let x = refused_effect why in
-    let are : AreRead a (whole contents) old mid = record { told = told; files = files; printed = printed; faults = same; calls = calls } in
     reached listings a old mid new s (whole contents) x gives are (h x refl) (rest x refl)
-reached_whole listings a old mid new s contents (Err stop.NoMemory) gives told files printed same calls h rest wanted =
+reached_whole listings a old mid new s contents (Err stop.NoMemory) gives are h rest wanted =
     subst (λ (x : HostState). Shakes listings (Some a) old x s) (sym (wanted refl).1)
     (subst (λ (x : Status). Shakes listings (Some a) old mid x) (sym (wanted refl).0)
-    (lost listings a old mid files printed same (λ F is. spent_reads (read_calls F (reads_of a)) old.calls mid.calls (calls F is))))
+    (lost listings a old mid are.files are.printed are.faults (λ F is. spent_reads (read_calls F (reads_of a)) old.calls mid.calls (are.calls F is))))

@@ -120,21 +120,15 @@ cut_print_calls OutOfMemory x old mid new P Q before prints h = made_after (map 
 
 -- all is done
 pub all_done : (x : Effect) (old new : HostState) (s : Status) → IsComplete s → IsDone x old new s → Carries x old new s
-all_done x old new Done complete h = h
-all_done x old new Ended complete h = h
-all_done x old new Usage complete h = h
-all_done x old new Refused complete h = h
 all_done x old new HostFault complete h = absurd complete
 all_done x old new NoMemory complete h = absurd complete
+all_done x old new s complete h = h
 
 pub all_calls : (x : Effect) (old mid new : Option (List Made)) (s : Status) → IsComplete s → Becomes (with_calls (map write_call x.files)) old mid
     → Becomes (with_calls (print x.text ∷ [])) mid new → MakesCalls (calls_for x) old new (way_of s)
-all_calls x old mid new Done complete before h = made_after (map write_call x.files) (print x.text ∷ []) old mid new to_end before h
-all_calls x old mid new Ended complete before h = made_after (map write_call x.files) (print x.text ∷ []) old mid new to_end before h
-all_calls x old mid new Usage complete before h = made_after (map write_call x.files) (print x.text ∷ []) old mid new to_end before h
-all_calls x old mid new Refused complete before h = made_after (map write_call x.files) (print x.text ∷ []) old mid new to_end before h
 all_calls x old mid new HostFault complete before h = absurd complete
 all_calls x old mid new NoMemory complete before h = absurd complete
+all_calls x old mid new s complete before h = made_after (map write_call x.files) (print x.text ∷ []) old mid new to_end before h
 
 -- memory was wanted before anything was done
 pub nothing_done : (x : Effect) (state : HostState) → Carries x state state NoMemory

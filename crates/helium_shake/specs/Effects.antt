@@ -2,24 +2,23 @@
 use Rattle.std.specs.FinMap.{insert}
 use Rattle.std.specs.Prelude.{◌≡◌, ◌⊎◌, ◌++◌, ℕ, List, [], ◌∷◌, map, Option, Some, None, Result, Ok, Err, codes, get_or, option_map}
 use Rattle.hm_base.specs.Image.{Segment}
-use Rattle.hm_base.specs.declared.errors.ImageErr.{ImageErr}
 use Rattle.hm_codes.specs.Listing.{Listing}
 use Rattle.hm_commands.specs.Calls.{MakesCalls, read_calls, way_of}
+use Rattle.hm_commands.specs.Commands.{OfRunBy, UnlessRefusedBy}
 use Rattle.hm_commands.specs.Effect.{IsNotReached, Reading, missing, reading_of, refused_line, too_large, whole}
 use Rattle.hm_commands.specs.Images.{image_of}
 use Rattle.hm_commands.specs.Run.{reset_refusal}
+use Rattle.hm_commands.specs.Work.{GivesBy}
 use Rattle.hm_commands.specs.declared.status.Status.{Status}
 use Rattle.hm_commands.specs.declared.status.Status.TheVariants.{Done, Ended, HostFault, NoMemory, Refused, Usage}
 use Rattle.hm_commands.specs.declared.work.Refusal.{Refusal}
-use Rattle.hm_commands.specs.declared.work.Refusal.TheVariants.{FileTooLarge, Image, Schedule}
+use Rattle.hm_commands.specs.declared.work.Refusal.TheVariants.{FileTooLarge}
 use Rattle.hm_commands.specs.declared.work.Stop.{Stop}
-use Rattle.hm_commands.specs.declared.work.Stop.TheVariants as stop
 use Rattle.hm_host.specs.Host.{AddsPrefix, Becomes, Call, FileMap, HostState, KeepsOthers, Rose, Stays, Turns, print, write}
 use Rattle.hm_host.specs.declared.host.HostErr.{HostErr}
 use Rattle.hm_host.specs.declared.host.HostErr.TheVariants.{Failed, OutOfMemory, TooLarge}
 use Rattle.hm_sched.specs.ReadFile.{file_in}
 use Rattle.hm_sched.specs.Schedule.{Sched}
-use Rattle.hm_sched.specs.declared.errors.SchedErr.{SchedErr}
 use Rattle.hm_shake.specs.Findings.{FindsFor}
 use Rattle.hm_shake.specs.declared.filing.Written.{Written}
 use Rattle.hm_shake.specs.declared.shaking.Findings.{Findings}
@@ -71,20 +70,15 @@ found_effect schedule f = record { status = status_for f.files.items; files = ma
 abbrev pub IsFoundEffect : (List Segment → Listing) → Asked → List Segment → Sched → Effect → Type 0
 IsFoundEffect listings a image s e = (f : Findings) × FindsFor (listings image) image a.seed a.runs s f × (e ≡ found_effect a.schedule f)
 
--- the effect of a refusal where there is one, or another
-abbrev pub UnlessRefused : Option Refusal → (Effect → Type 0) → Effect → Type 0
-UnlessRefused None Is = Is
-UnlessRefused (Some why) Is = λ e. e ≡ refused_effect why
+-- the same of an image and a schedule that were read, or the effect of the refusal of the reset address
+abbrev pub IsRunEffect : (List Segment → Listing) → Asked → List Segment → Sched → Effect → Type 0
+IsRunEffect listings a image s = UnlessRefusedBy refused_effect (reset_refusal image) (IsFoundEffect listings a image s)
 
--- the same of an image and a schedule as they were read: the first refusal is that of the image, then that of the schedule, then that of the reset address
-abbrev pub IsEffectOf : (List Segment → Listing) → Asked → Result (List Segment) ImageErr → Result Sched SchedErr → Effect → Type 0
-IsEffectOf listings a (Err why) schedule = λ e. e ≡ refused_effect (Image why)
-IsEffectOf listings a (Ok image) (Err why) = λ e. e ≡ refused_effect (Schedule why)
-IsEffectOf listings a (Ok image) (Ok s) = UnlessRefused (reset_refusal image) (IsFoundEffect listings a image s)
-
--- the same of the contents of the files that are read, in order
+-- the same of the contents of the files that are read, in order: the first refusal is that of the image, then that of the schedule, then that of the reset
+-- address
 abbrev pub IsEffectFor : (List Segment → Listing) → Asked → List (List ℕ) → Effect → Type 0
-IsEffectFor listings a contents = IsEffectOf listings a (image_of (get_or contents 0 [])) (file_in (get_or contents 1 []))
+IsEffectFor listings a contents =
+    OfRunBy refused_effect (image_of (get_or contents 0 [])) (file_in (get_or contents 1 [])) (IsRunEffect listings a)
 
 -- the effect of what is asked for, by what comes of its reads: there is none where a file is missing
 abbrev pub IsEffectAfter : (List Segment → Listing) → Asked → Reading → Effect → Type 0
@@ -104,9 +98,7 @@ IsEffect listings (Some a) reading = IsEffectAfter listings a reading
 
 -- an answer has one of these effects: that of what was found, or of a refusal; want of memory has none
 abbrev pub GivesEffect : (Effect → Type 0) → List ℕ → Result Findings Stop → Type 0
-GivesEffect Is schedule (Ok f) = Is (found_effect schedule f)
-GivesEffect Is schedule (Err (stop.Refused why)) = Is (refused_effect why)
-GivesEffect Is schedule (Err stop.NoMemory) = Unit {0}
+GivesEffect Is schedule answer = GivesBy (found_effect schedule) refused_effect Is answer
 
 -- ---- how it is done
 

@@ -13,20 +13,23 @@ use hm_shake_runs::Kind;
 use std::process::ExitCode;
 use top::helium_shake;
 
-/// How many parts of the runs are told of, where there are so many; and of so many tries to make a schedule shorter the first is told.
-const HUNDRED: u32 = 100;
+/// How many parts of the runs are told of, where there are so many.
+const PARTS: u32 = 100;
+
+/// Of so many tries to make a schedule shorter the first is told of.
+const TRIES_APART: u32 = 100;
 
 /// Tells on standard error how far a shake is.
 #[derive(Drop)]
-struct Told {
+struct Reporter {
     rt: HostRuntime,
     /// The tries so far to make a schedule shorter.
     tries: u32,
 }
 
-impl Progress for Told {
+impl Progress for Reporter {
     fn done(&mut self, runs: u32, all: u32) {
-        let apart = (all / HUNDRED).max(1);
+        let apart = (all / PARTS).max(1);
         if runs % apart == 0 {
             // where it can't be told, the shake goes on
             let _told = eprintln!(self.rt; "helium-shake: {runs} runs of {all}");
@@ -34,7 +37,7 @@ impl Progress for Told {
     }
 
     fn shortening(&mut self, _kind: Kind, interrupts: usize) {
-        if self.tries % HUNDRED == 0 {
+        if self.tries % TRIES_APART == 0 {
             let _told = eprintln!(self.rt;
                 "helium-shake: a schedule of {interrupts} interrupts is made shorter"
             );
@@ -50,14 +53,14 @@ fn status_of(rt: HostRuntime) -> Status {
         Ok(words) => words,
         Err(status) => return status,
     };
-    let Ok(told) = rt.clone() else {
+    let Ok(log) = rt.clone() else {
         return Status::NoMemory;
     };
     helium_shake(
         alloc,
         &words,
         &mut OsHost::new(rt),
-        &mut Told { rt: told, tries: 0 },
+        &mut Reporter { rt: log, tries: 0 },
     )
 }
 

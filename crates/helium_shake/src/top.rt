@@ -1,27 +1,24 @@
 //! The top call: words, reads, the shake, the files that are written, and the print.
 
-ghost use Rattle.std.specs.Prelude.{◌≡◌, ◌≤◌, ◌∷◌, [], List, Some, Err, All, IfOk, length, map, string_bytes};
+ghost use Rattle.std.specs.Prelude.{◌≡◌, ◌≤◌, ◌∷◌, [], List, Some, Err, All, length, map, string_bytes};
 ghost use Rattle.hm_base.specs.Image.{Segment};
 ghost use Rattle.hm_codes.specs.Listing.{Listing};
 ghost use Rattle.hm_commands.specs.Calls.{MakesCalls, answer_way, way_of};
 ghost use Rattle.hm_commands.specs.Commands.{AreListings};
-ghost use Rattle.hm_commands.specs.Run.{reset_refusal};
 ghost use Rattle.hm_host.specs.Host.{Counts, Stays, Writes, longest};
-ghost use Rattle.helium_shake.specs.Effects.{Carries, Effect, GivesEffect, IsEffectFor, IsFoundEffect, Shakes, UnlessRefused, WritesFiles, calls_for, file_of};
-ghost use Rattle.helium_shake.specs.Effects.{found_effect, refused_effect, status_for, usage_effect, usage_line, write_call};
+ghost use Rattle.helium_shake.specs.Effects.{Carries, Effect, GivesEffect, IsEffectFor, IsRunEffect, Shakes, WritesFiles, calls_for, file_of};
+ghost use Rattle.helium_shake.specs.Effects.{found_effect, refused_effect, status_for, write_call};
 ghost use Rattle.helium_shake.specs.Texts.{file_name};
 ghost use Rattle.helium_shake.specs.Words.{asked_of, meant};
 
 use crate::command::Command;
 use crate::texts::{file_name, findings_text};
 use crate::words::parse;
-use hm_base::OutOfMemory;
 use hm_commands::{
-    Refusal, RunInput, Status, Stop, carry_out, failure, read_all, read_run, refuse,
+    Refusal, RunInput, Status, Stop, failure, read_all, read_run, refuse, say_usage,
 };
 use hm_host::{Host, HostErr};
 use hm_shake::{Findings, Progress, Written, shake};
-use hm_text_base::text;
 use hm_words::Source;
 use std::alloc::Global;
 
@@ -33,8 +30,7 @@ fn found<P: Progress>(
     progress: &mut P,
 ) -> Result<Findings, Stop>
     ensures effect { (listings : List Segment → Listing) → AreListings listings
-        → GivesEffect (UnlessRefused (reset_refusal input.now.image) (IsFoundEffect listings (meant command.now) input.now.image input.now.schedule))
-        (meant command.now).schedule result }
+        → GivesEffect (IsRunEffect listings (meant command.now) input.now.image input.now.schedule) (meant command.now).schedule result }
 {
     let findings = shake(
         alloc,
@@ -177,26 +173,6 @@ fn obey<H: Host, P: Progress>(
     }
 }
 
-/// The line of words that say nothing.
-fn make_usage_line(alloc: Global) -> Result<Vec<u8>, OutOfMemory>
-    ensures line { IfOk result (λ line. line.items ≡ usage_line) }
-{
-    let mut line = Vec::new(alloc);
-    text(&mut line, b"helium-shake: usage\n")?;
-    Ok(line)
-}
-
-/// Says how the program is used.
-fn say_usage<H: Host>(alloc: Global, host: &mut H) -> Status
-    ensures effect { Carries usage_effect (H.state host.old) (H.state host.new) result }
-    ensures calls { MakesCalls (calls_for usage_effect) (H.state host.old).calls (H.state host.new).calls (way_of result) }
-{
-    match make_usage_line(alloc) {
-        Ok(line) => carry_out(alloc, Status::Usage, &None, &Some(line), host),
-        Err(_) => Status::NoMemory,
-    }
-}
-
 /// Does what the words ask for: it reads the image and the schedule, runs, writes a schedule for each kind of outcome that is not the plain run's, and prints
 /// what was found.
 ///
@@ -212,6 +188,6 @@ pub fn helium_shake<H: Host, P: Progress>(
 {
     match parse(words) {
         Some(command) => obey(alloc, &command, host, progress),
-        None => say_usage(alloc, host),
+        None => say_usage(alloc, b"helium-shake: usage\n", host),
     }
 }

@@ -3,14 +3,12 @@ use Rattle.std.specs.Prelude.{◌≡◌, ℕ, true, List, [], Option, Some, None
 use Rattle.hm_base.specs.Image.{Segment}
 use Rattle.hm_codes.specs.Listing.{Listing}
 use Rattle.hm_commands.specs.Commands.{OfRun, UnlessRefused}
-use Rattle.hm_commands.specs.Effect.{BeginsOne, Effect, Reading, whole, too_large, missing, effect_for, reading_of}
+use Rattle.hm_commands.specs.Effect.{DoesOne, Effect, IsEffectBy, Reading, usage_by}
 use Rattle.hm_commands.specs.Images.{image_of}
 use Rattle.hm_commands.specs.Run.{reset_refusal, schedule_in}
-use Rattle.hm_commands.specs.Work.{Outcome, finishes, refuses}
+use Rattle.hm_commands.specs.Work.{Outcome, finishes}
 use Rattle.hm_commands.specs.declared.status.Status.{Status}
-use Rattle.hm_commands.specs.declared.status.Status.TheVariants.{HostFault, Usage}
-use Rattle.hm_commands.specs.declared.work.Refusal.TheVariants.{FileTooLarge}
-use Rattle.hm_host.specs.Host.{FileMap, HostState}
+use Rattle.hm_host.specs.Host.{HostState}
 use Rattle.hm_sched.specs.Schedule.{Sched}
 use Rattle.hm_trace.specs.Traces.{trace_text}
 use Rattle.hm_trace.specs.declared.running.Form.{Form}
@@ -40,35 +38,19 @@ ComesTo listings a contents = OfRun (image_of (get_or contents 0 [])) (schedule_
 abbrev pub usage_line : List ℕ
 usage_line = codes "helium-trace: usage\n"
 
--- words that ask for nothing print it
-abbrev pub usage_effect : Effect
-usage_effect = record { status = Usage; file = None; text = Some usage_line }
-
--- nothing but the host's fault can come of a file that is missing
-abbrev pub no_effect : Effect
-no_effect = record { status = HostFault; file = None; text = None }
-
--- the effect of what is asked for, by what comes of its reads
-abbrev pub IsEffectAfter : (List Segment → Listing) → Asked → Reading → Effect → Type 0
-IsEffectAfter listings a (whole contents) = λ e. (o : Outcome) × ComesTo listings a contents o × (e ≡ effect_for o)
-IsEffectAfter listings a too_large = λ e. e ≡ effect_for (refuses FileTooLarge)
-IsEffectAfter listings a missing = λ e. e ≡ no_effect
-
 -- the files that are read: none for words that ask for nothing
 abbrev pub reads_for : Option Asked → List (List ℕ)
 reads_for None = []
 reads_for (Some a) = reads_of a
 
--- THE EFFECT OF THE PROGRAM: its status, the file that it writes and the text that it prints
+-- THE EFFECT OF THE PROGRAM, by what comes of the reads: its status, the file that it writes and the text that it prints
 abbrev pub IsEffect : (List Segment → Listing) → Option Asked → Reading → Effect → Type 0
-IsEffect listings None reading = λ e. e ≡ usage_effect
-IsEffect listings (Some a) reading = IsEffectAfter listings a reading
+IsEffect listings None = λ reading e. e ≡ usage_by usage_line
+IsEffect listings (Some a) = IsEffectBy (ComesTo listings a)
 
 -- WHAT A CALL DOES, by what comes of the reads, which is what the files hold where the host tells them: an effect of the words is begun behind the
 -- reads, and done whole or cut by a fault of the host or for want of memory; or a read failed or memory was wanted before the effect, and no file was
 -- touched and nothing was printed. Where the host tells its files, the calls are those reads, a write of the file and a print of the text, all of
 -- them or up to the first that failed.
-pub record Traces (listings : List Segment → Listing) (asked : Option Asked) (old new : HostState) (status : Status) : Type 0 where
-  pub reading : Reading
-  pub told : (F : FileMap) → old.files ≡ Some F → reading ≡ reading_of F (reads_for asked)
-  pub begins : BeginsOne (reads_for asked) (IsEffect listings asked reading) old new status
+abbrev pub Traces : (List Segment → Listing) → Option Asked → HostState → HostState → Status → Type 0
+Traces listings asked old new status = DoesOne (reads_for asked) (IsEffect listings asked) old new status

@@ -1,6 +1,7 @@
 -- THE WORDS OF THE PROGRAM: an image, a schedule, two ticks, and where a page is wanted `--html` and a file.
 use Rattle.std.specs.Prelude.{ℕ, ◌-◌, ◌||◌, List, [], ◌∷◌, Option, Some, None, nat_eq, nat_le, nat_lt, if◌then◌else◌, option_map, option_and_then, codes}
 use Rattle.std.specs.Prelude.{bytes_eq}
+use Rattle.hm_sched.specs.Schedule.{most_ticks}
 use Rattle.hm_text_base.specs.Numbers.{number_in}
 use Rattle.hm_trace.specs.declared.running.Ticks.{Ticks}
 use Rattle.hm_words.specs.Words.{Source, source_meant, source_of, source_reads}
@@ -17,7 +18,7 @@ pub record Asked : Type 0 where
 -- the ticks from one to another are some: the first is not 0 and not past the last, which no run is past, and they are 10,000 at most
 abbrev pub range_of : ℕ → ℕ → Option (ℕ × ℕ)
 range_of first last =
-    if nat_eq first 0 || nat_lt last first || nat_lt 16777216 last || nat_le 10000 (last - first) then None else Some (first, last)
+    if nat_eq first 0 || nat_lt last first || nat_lt most_ticks last || nat_le 10000 (last - first) then None else Some (first, last)
 
 -- the ticks that two words give, each a number of one to eight decimal digits without a leading zero
 abbrev pub range_in : List ℕ → List ℕ → Option (ℕ × ℕ)

@@ -1,24 +1,19 @@
 //! The top call: words, reads, the trace, and the written file or the print.
 
-ghost use Rattle.std.specs.Prelude.{◌≡◌, ◌≤◌, List, Some, map, option_map, string_bytes, IfOk, All, length};
+ghost use Rattle.std.specs.Prelude.{◌≡◌, ◌≤◌, List, Some, map, option_map, string_bytes, All, length};
 ghost use Rattle.hm_base.specs.Image.{Segment};
 ghost use Rattle.hm_codes.specs.Listing.{Listing};
 ghost use Rattle.hm_commands.specs.Commands.{AreListings};
-ghost use Rattle.hm_commands.specs.Calls.{MakesCalls, way_of};
-ghost use Rattle.hm_commands.specs.Effect.{Carries, calls_for};
 ghost use Rattle.hm_commands.specs.Work.{GivesOne, finish_of};
 ghost use Rattle.hm_host.specs.Host.{longest};
-ghost use Rattle.helium_trace.specs.Effects.{ComesTo, IsTraceOutcome, Traces, form_for, traced, usage_effect, usage_line};
+ghost use Rattle.helium_trace.specs.Effects.{ComesTo, IsTraceOutcome, Traces, form_for, traced};
 ghost use Rattle.helium_trace.specs.Words.{asked_of, meant, reads_of};
 
 use crate::words::{Command, parse};
-use hm_base::OutOfMemory;
 use hm_commands::{
-    Finish, Output, Refusal, RunInput, Status, Stop, carry_out, conclude, read_all, read_run,
-    refuse,
+    Finish, Refusal, RunInput, Status, Stop, conclude, read_all, read_run, refuse, say_usage,
 };
 use hm_host::{Host, HostErr};
-use hm_text_base::text;
 use hm_trace::{Form, trace};
 use std::alloc::Global;
 
@@ -27,16 +22,8 @@ fn finish<'a>(page: Option<&'a str>, bytes: Vec<u8>) -> Finish<'a>
     ensures value { finish_of result ≡ traced (option_map (λ out. out.now) page.entry) bytes.items }
 {
     match page {
-        Some(name) => Finish {
-            done: true,
-            file: Some(Output { name, bytes }),
-            text: None,
-        },
-        None => Finish {
-            done: true,
-            file: None,
-            text: Some(bytes),
-        },
+        Some(name) => Finish::written(name, bytes),
+        None => Finish::printed(bytes),
     }
 }
 
@@ -98,26 +85,6 @@ fn obey<H: Host>(alloc: Global, command: &Command<'_>, host: &mut H) -> Status
     }
 }
 
-/// The line that the program prints where its words are others.
-fn make_usage_line(alloc: Global) -> Result<Vec<u8>, OutOfMemory>
-    ensures line { IfOk result (λ line. line.items ≡ usage_line) }
-{
-    let mut line = Vec::new(alloc);
-    text(&mut line, b"helium-trace: usage\n")?;
-    Ok(line)
-}
-
-/// Says how the program is used.
-fn say_usage<H: Host>(alloc: Global, host: &mut H) -> Status
-    ensures effect { Carries usage_effect (H.state host.old) (H.state host.new) result }
-    ensures calls { MakesCalls (calls_for usage_effect) (H.state host.old).calls (H.state host.new).calls (way_of result) }
-{
-    match make_usage_line(alloc) {
-        Ok(line) => carry_out(alloc, Status::Usage, &None, &Some(line), host),
-        Err(_) => Status::NoMemory,
-    }
-}
-
 /// Does what the words ask for: it reads the image and the schedule, runs, and prints the trace or writes its page.
 ///
 /// The text is made before the first byte of it is written or printed, by one call of the host. Want of memory prints nothing.
@@ -127,6 +94,6 @@ pub fn helium_trace<H: Host>(alloc: Global, words: &[String], host: &mut H) -> S
 {
     match parse(words) {
         Some(command) => obey(alloc, &command, host),
-        None => say_usage(alloc, host),
+        None => say_usage(alloc, b"helium-trace: usage\n", host),
     }
 }

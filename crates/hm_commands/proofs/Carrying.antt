@@ -6,19 +6,15 @@ use Rattle.hm_host.specs.declared.host.HostErr.{HostErr}
 use Rattle.hm_host.specs.declared.host.HostErr.TheVariants.{Failed, TooLarge, OutOfMemory}
 use Rattle.hm_commands.specs.declared.status.Status.{Status}
 use Rattle.hm_commands.specs.declared.status.Status.TheVariants.{Done, Ended, Usage, Refused, HostFault, NoMemory}
-use Rattle.hm_base.specs.Image.{Segment}
-use Rattle.hm_codes.specs.Listing.{Listing}
-use Rattle.hm_words.specs.Words.{Form, reads_of}
-use Rattle.hm_commands.specs.Commands.{ComesTo}
 use Rattle.hm_commands.specs.declared.work.Finish.{Finish}
 use Rattle.hm_commands.specs.declared.work.Refusal.TheVariants.{FileTooLarge}
 use Rattle.hm_commands.specs.declared.work.Stop.{Stop}
 use Rattle.hm_commands.specs.declared.work.Stop.TheVariants as stop
 use Rattle.hm_commands.specs.Work.{Outcome, refuses, finish_of, Gives, GivesOne}
-use Rattle.hm_commands.specs.Calls.{MadeSome, read_calls, write_calls, print_calls, with_calls, to_end, to_fault, to_memory, way_of, answer_way, MakesCalls}
+use Rattle.hm_commands.specs.Calls.{read_calls, write_calls, print_calls, with_calls, to_end, to_fault, to_memory, way_of, answer_way, MakesCalls}
 use Rattle.hm_commands.specs.Calls.{MakesAll}
-use Rattle.hm_commands.specs.Effect.{Effect, Reading, whole, too_large, missing, reading_of, reads_for, IsEffectAfter, effect_for, calls_for, IsDone, Carries}
-use Rattle.hm_commands.specs.Effect.{Does, StaysOrMakesAll, failure_of, refused_line, IsComplete, WritesFile, PrintsText}
+use Rattle.hm_commands.specs.Effect.{Effect, Reading, whole, too_large, missing, reading_of, IsEffectBy, effect_for, calls_for, IsDone, Carries, DoesOne}
+use Rattle.hm_commands.specs.Effect.{StaysOrMakesAll, failure_of, refused_line, usage_by, IsComplete, WritesFile, PrintsText}
 use Rattle.hm_commands.proofs.Calling.{made_after, fault_before, memory_before, all_after}
 
 -- the effect is carried out after calls that left the files and the printed bytes
@@ -47,11 +43,11 @@ Carries-after e old mid new NoMemory files printed same h = record {
 }
 
 -- Where the files are not told, nothing binds what the reads gave.
-told_reading : Option FileMap → List (List ℕ) → Reading
+pub told_reading : Option FileMap → List (List ℕ) → Reading
 told_reading None names = missing
 told_reading (Some F) names = reading_of F names
 
-told_reading-told : (files : Option FileMap) (names : List (List ℕ)) (F : FileMap) → files ≡ Some F → told_reading files names ≡ reading_of F names
+pub told_reading-told : (files : Option FileMap) (names : List (List ℕ)) (F : FileMap) → files ≡ Some F → told_reading files names ≡ reading_of F names
 unfolding told_reading
 told_reading-told files names F is = ap (λ o. told_reading o names) is
 
@@ -83,95 +79,118 @@ spent_print Failed first text old mid new before h all is = (let no : HostFault 
 spent_print TooLarge first text old mid new before h all is = absurd h
 spent_print OutOfMemory first text old mid new before h all is = inr (all_after first (print_calls text) old.calls mid.calls new.calls before (all refl))
 
--- ---- forms
+-- ---- effects behind reads
 
+-- words that ask for nothing: the line of usage was printed
+pub usage_said : (line : List ℕ) (old new : HostState) (s : Status) → Carries (usage_by line) old new s
+    → MakesCalls (calls_for (usage_by line)) old.calls new.calls (way_of s)
+    → DoesOne [] (λ reading e. e ≡ usage_by line) old new s
+usage_said line old new s h calls = record {
+  reading = told_reading old.files [];
+  told = told_reading-told old.files [];
+  begins = inl (
+    usage_by line,
+    refl,
+    record { carries = h; calls = λ F is. calls; spent = λ F is wanted. inl (stays_spent Usage (Some line) old new s h wanted) },
+  );
+}
+
+-- In what follows, Is gives the effects by what comes of the reads of the files with these names.
 -- memory ran out before the effect
-pub Does-no_memory : (listings : List Segment → Listing) (form : Form) (old new : HostState) → Stays old.files new.files → Stays old.printed new.printed
+pub lost : (names : List (List ℕ)) (Is : Reading → Effect → Type 0) (old new : HostState) → Stays old.files new.files → Stays old.printed new.printed
     → new.faults ≡ old.faults
-    → ((F : FileMap) → old.files ≡ Some F → MakesCalls (read_calls F (reads_of form)) old.calls new.calls to_memory)
-    → Does listings (Some form) old new NoMemory
-Does-no_memory listings form old new files printed same calls = record {
-  reading = told_reading old.files (reads_for (Some form));
-  told = told_reading-told old.files (reads_for (Some form));
+    → ((F : FileMap) → old.files ≡ Some F → MakesCalls (read_calls F names) old.calls new.calls to_memory) → DoesOne names Is old new NoMemory
+lost names Is old new files printed same calls = record {
+  reading = told_reading old.files names;
+  told = told_reading-told old.files names;
   begins = inr (record { untouched = (same, files, printed); calls = calls });
 }
 
 -- a read failed
-pub Does-fault : (listings : List Segment → Listing) (form : Form) (old new : HostState) → Stays old.files new.files → Stays old.printed new.printed
+pub failed : (names : List (List ℕ)) (Is : Reading → Effect → Type 0) (old new : HostState) → Stays old.files new.files → Stays old.printed new.printed
     → Rose old.faults new.faults
-    → ((F : FileMap) → old.files ≡ Some F → MakesCalls (read_calls F (reads_of form)) old.calls new.calls to_fault)
-    → Does listings (Some form) old new HostFault
-Does-fault listings form old new files printed rose calls = record {
-  reading = told_reading old.files (reads_for (Some form));
-  told = told_reading-told old.files (reads_for (Some form));
+    → ((F : FileMap) → old.files ≡ Some F → MakesCalls (read_calls F names) old.calls new.calls to_fault) → DoesOne names Is old new HostFault
+failed names Is old new files printed rose calls = record {
+  reading = told_reading old.files names;
+  told = told_reading-told old.files names;
   begins = inr (record { untouched = (rose, files, printed); calls = calls });
 }
 
--- the reads gave this, and then an effect of it was carried out
-Does-after : (listings : List Segment → Listing) (form : Form) (old mid new : HostState) (s : Status) (reading : Reading) (e : Effect)
-    → IsEffectAfter listings (Some form) reading e
-    → ((F : FileMap) → old.files ≡ Some F → reading_of F (reads_of form) ≡ reading)
+-- WHAT THE READS LEFT of a host, and what they gave
+pub record AreRead (names : List (List ℕ)) (reading : Reading) (old mid : HostState) : Type 0 where
+  pub told : (F : FileMap) → old.files ≡ Some F → reading_of F names ≡ reading
+  pub files : Stays old.files mid.files
+  pub printed : Stays old.printed mid.printed
+  pub faults : mid.faults ≡ old.faults
+  pub calls : (F : FileMap) → old.files ≡ Some F → Becomes (with_calls (read_calls F names)) old.calls mid.calls
+
+-- so of the files with other names that are these
+pub are_read : (others names : List (List ℕ)) (reading : Reading) (old mid : HostState) → others ≡ names
+    → ((F : FileMap) → old.files ≡ Some F → reading_of F others ≡ reading)
     → Stays old.files mid.files → Stays old.printed mid.printed → mid.faults ≡ old.faults
-    → ((F : FileMap) → old.files ≡ Some F → Becomes (with_calls (read_calls F (reads_of form))) old.calls mid.calls)
+    → ((F : FileMap) → old.files ≡ Some F → Becomes (with_calls (read_calls F others)) old.calls mid.calls) → AreRead names reading old mid
+are_read others names reading old mid is told files printed same calls =
+    subst (λ (n : List (List ℕ)). AreRead n reading old mid) is
+    (record { told = told; files = files; printed = printed; faults = same; calls = calls })
+
+-- the reads gave this, and then an effect of it was carried out
+reached : (names : List (List ℕ)) (Is : Reading → Effect → Type 0) (old mid new : HostState) (s : Status) (reading : Reading) (e : Effect) → Is reading e
+    → AreRead names reading old mid
     → Carries e mid new s → MakesCalls (calls_for e) mid.calls new.calls (way_of s) → (s ≡ NoMemory → StaysOrMakesAll (calls_for e) mid new)
-    → Does listings (Some form) old new s
-Does-after listings form old mid new s reading e of told files printed same calls h rest all = record {
+    → DoesOne names Is old new s
+reached names Is old mid new s reading e of are h rest all = record {
   reading = reading;
-  told = λ F is. sym (told F is);
+  told = λ F is. sym (are.told F is);
   begins = inl (
     e,
     of,
     record {
-      carries = Carries-after e old mid new s files printed same h;
-      calls = λ F is. made_after (read_calls F (reads_of form)) (calls_for e) old.calls mid.calls new.calls (way_of s) (calls F is) rest;
-      spent = λ F is wanted. spent_after (read_calls F (reads_of form)) (calls_for e) old mid new files (calls F is) (all wanted);
+      carries = Carries-after e old mid new s are.files are.printed are.faults h;
+      calls = λ F is. made_after (read_calls F names) (calls_for e) old.calls mid.calls new.calls (way_of s) (are.calls F is) rest;
+      spent = λ F is wanted. spent_after (read_calls F names) (calls_for e) old mid new are.files (are.calls F is) (all wanted);
     },
   );
 }
 
--- the reads gave these contents, memory was wanted, and no more was done
-Does-lost : (listings : List Segment → Listing) (form : Form) (old mid new : HostState) (s : Status) (contents : List (List ℕ))
-    → ((F : FileMap) → old.files ≡ Some F → reading_of F (reads_of form) ≡ whole contents)
-    → Stays old.files mid.files → Stays old.printed mid.printed → mid.faults ≡ old.faults
-    → ((F : FileMap) → old.files ≡ Some F → Becomes (with_calls (read_calls F (reads_of form))) old.calls mid.calls)
-    → s ≡ NoMemory → new ≡ mid → Does listings (Some form) old new s
-Does-lost listings form old mid new s contents told files printed same calls wanted is =
-    subst (λ (x : HostState). Does listings (Some form) old x s) (sym is)
-    (subst (λ (x : Status). Does listings (Some form) old mid x) (sym wanted)
-    (Does-no_memory listings form old mid files printed same
-    (λ F told. inr (λ made is. (with_calls (read_calls F (reads_of form)) made, calls F told made is, all_some (read_calls F (reads_of form)) made)))))
-  where
-    all_some : (calls : List Call) (made : List Made) → MadeSome calls made (with_calls calls made)
-    all_some calls made = record { done = calls; left = []; parts_are = sym (append-nil calls); made_are = refl }
+-- all calls were made, and memory ran out behind them
+pub spent_reads : (calls : List Call) (old mid : Option (List Made)) → Becomes (with_calls calls) old mid → MakesCalls calls old mid to_memory
+spent_reads calls old mid all =
+    inr (λ made is. (with_calls calls made, all made is, record { done = calls; left = []; parts_are = sym (append-nil calls); made_are = refl }))
 
--- the reads gave these contents, and then what the command gave was carried out
-pub Does-ok : (listings : List Segment → Listing) (form : Form) (old mid new : HostState) (s : Status) (contents : List (List ℕ)) (answer : Result Finish Stop)
-    → GivesOne (ComesTo listings form contents) answer
-    → ((F : FileMap) → old.files ≡ Some F → reading_of F (reads_of form) ≡ whole contents)
-    → Stays old.files mid.files → Stays old.printed mid.printed → mid.faults ≡ old.faults
-    → ((F : FileMap) → old.files ≡ Some F → Becomes (with_calls (read_calls F (reads_of form))) old.calls mid.calls)
+-- the reads were made, memory was wanted, and no more was done
+reads_lost : (names : List (List ℕ)) (Is : Reading → Effect → Type 0) (old mid new : HostState) (s : Status) (reading : Reading)
+    → AreRead names reading old mid → s ≡ NoMemory → new ≡ mid → DoesOne names Is old new s
+reads_lost names Is old mid new s reading are wanted is =
+    subst (λ (x : HostState). DoesOne names Is old x s) (sym is)
+    (subst (λ (x : Status). DoesOne names Is old mid x) (sym wanted)
+    (lost names Is old mid are.files are.printed are.faults (λ F told. spent_reads (read_calls F names) old.calls mid.calls (are.calls F told))))
+
+-- In what follows, Comes says to which outcomes the contents that were read come.
+-- the reads gave these contents, and then the outcome of them was carried out
+pub reached_whole : (names : List (List ℕ)) (Comes : List (List ℕ) → Outcome → Type 0) (old mid new : HostState) (s : Status) (contents : List (List ℕ))
+    (answer : Result Finish Stop)
+    → GivesOne (Comes contents) answer → AreRead names (whole contents) old mid
     → ((o : Outcome) → Gives o answer → Carries (effect_for o) mid new s)
     → ((o : Outcome) → Gives o answer → MakesCalls (calls_for (effect_for o)) mid.calls new.calls (way_of s))
     → ((o : Outcome) → Gives o answer → s ≡ NoMemory → StaysOrMakesAll (calls_for (effect_for o)) mid new)
     → (answer ≡ Err stop.NoMemory → (s ≡ NoMemory) × (new ≡ mid))
-    → Does listings (Some form) old new s
-Does-ok listings form old mid new s contents (Ok finish) comes told files printed same calls h rest all wanted =
+    → DoesOne names (IsEffectBy Comes) old new s
+reached_whole names Comes old mid new s contents (Ok finish) comes are h rest all wanted =
     let o = finish_of finish in
-    Does-after listings form old mid new s (whole contents) (effect_for o) (o, comes, refl) told files printed same calls (h o refl) (rest o refl) (all o refl)
-Does-ok listings form old mid new s contents (Err (stop.Refused why)) comes told files printed same calls h rest all wanted =
+    reached names (IsEffectBy Comes) old mid new s (whole contents) (effect_for o) (o, comes, refl) are (h o refl) (rest o refl) (all o refl)
+reached_whole names Comes old mid new s contents (Err (stop.Refused why)) comes are h rest all wanted =
     let o = refuses why in
-    Does-after listings form old mid new s (whole contents) (effect_for o) (o, comes, refl) told files printed same calls (h o refl) (rest o refl) (all o refl)
-Does-ok listings form old mid new s contents (Err stop.NoMemory) comes told files printed same calls h rest all wanted =
-    Does-lost listings form old mid new s contents told files printed same calls (wanted refl).0 (wanted refl).1
+    reached names (IsEffectBy Comes) old mid new s (whole contents) (effect_for o) (o, comes, refl) are (h o refl) (rest o refl) (all o refl)
+reached_whole names Comes old mid new s contents (Err stop.NoMemory) comes are h rest all wanted =
+    reads_lost names (IsEffectBy Comes) old mid new s (whole contents) are (wanted refl).0 (wanted refl).1
 
-pub Does-too_large : (listings : List Segment → Listing) (form : Form) (old mid new : HostState) (s : Status)
-    → ((F : FileMap) → old.files ≡ Some F → reading_of F (reads_of form) ≡ too_large)
-    → Stays old.files mid.files → Stays old.printed mid.printed → mid.faults ≡ old.faults
-    → ((F : FileMap) → old.files ≡ Some F → Becomes (with_calls (read_calls F (reads_of form))) old.calls mid.calls)
+-- a file was too large
+pub reached_large : (names : List (List ℕ)) (Comes : List (List ℕ) → Outcome → Type 0) (old mid new : HostState) (s : Status)
+    → AreRead names too_large old mid
     → Carries (effect_for (refuses FileTooLarge)) mid new s → MakesCalls (calls_for (effect_for (refuses FileTooLarge))) mid.calls new.calls (way_of s)
-    → Does listings (Some form) old new s
-Does-too_large listings form old mid new s told files printed same calls h rest =
-    Does-after listings form old mid new s too_large (effect_for (refuses FileTooLarge)) refl told files printed same calls h rest
+    → DoesOne names (IsEffectBy Comes) old new s
+reached_large names Comes old mid new s are h rest =
+    reached names (IsEffectBy Comes) old mid new s too_large (effect_for (refuses FileTooLarge)) refl are h rest
     (λ wanted. inl (stays_spent Refused (Some (refused_line FileTooLarge)) mid new s h wanted))
 
 -- ---- the calls of an effect

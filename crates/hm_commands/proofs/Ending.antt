@@ -1,34 +1,34 @@
 -- What a status tells, whatever the host tells.
-use Rattle.std.proofs.Common.{◌≡◌, ◌≢◌, ◌⊎◌, ◌<◌, ℕ, ◌++◌, ◌∙◌, ap, refl, sym, inl, inr, Option, Some, None, true, subst, arith, List}
+use Rattle.std.proofs.Common.{◌≡◌, ◌≢◌, ◌⊎◌, ◌<◌, ℕ, ◌∙◌, ap, refl, sym, inl, inr, Option, Some, true, subst, arith, List}
 use Rattle.hm_base.specs.Image.{Segment}
 use Rattle.hm_codes.specs.Listing.{Listing}
 use Rattle.hm_host.specs.Host.{FileMap, HostState, Stays, Rose}
 use Rattle.hm_commands.specs.declared.status.Status.{Status}
 use Rattle.hm_commands.specs.declared.status.Status.TheVariants.{Usage, Refused, HostFault, NoMemory}
 use Rattle.hm_words.specs.Words.{Form, form_of}
-use Rattle.hm_commands.specs.Calls.{MakesCalls, read_calls, way_of}
 use Rattle.hm_commands.specs.Work.{Outcome, finishes}
-use Rattle.hm_commands.specs.Effect.{Effect, Reading, whole, too_large, missing, reading_of, reads_for, usage_effect, IsEffectAfter, IsEffect, effect_for}
-use Rattle.hm_commands.specs.Effect.{calls_for, BeginsOne, IsDone, IsUntouched, Carries, Does}
+use Rattle.hm_commands.specs.Effect.{Effect, Reading, whole, too_large, missing, reading_of, reads_for, IsEffectAfter, IsEffectBy, IsEffect, effect_for}
+use Rattle.hm_commands.specs.Effect.{BeginsOne, IsDone, IsUntouched, Carries, Does, DoesOne}
 
 not_usage : (o : Outcome) → (effect_for o).status ≡ Usage → ⊥
 not_usage (finishes true file text) h = cc
 not_usage o h = cc
 
-status_not_usage : (listings : List Segment → Listing) (form : Form) (r : Reading) (e : Effect) → IsEffectAfter listings (Some form) r e → e.status ≡ Usage → ⊥
-status_not_usage listings form (whole contents) e of h = not_usage of.0 (sym (ap (λ (x : Effect). x.status) of.2) ∙ h)
-status_not_usage listings form too_large e of h = let no : Refused ≡ Usage = sym (ap (λ (x : Effect). x.status) of) ∙ h in cc
-status_not_usage listings form missing e of h = let no : HostFault ≡ Usage = sym (ap (λ (x : Effect). x.status) of) ∙ h in cc
+status_not_usage : (Comes : List (List ℕ) → Outcome → Type 0) (r : Reading) (e : Effect) → IsEffectBy Comes r e → e.status ≡ Usage → ⊥
+status_not_usage Comes (whole contents) e of h = not_usage of.0 (sym (ap (λ (x : Effect). x.status) of.2) ∙ h)
+status_not_usage Comes too_large e of h = let no : Refused ≡ Usage = sym (ap (λ (x : Effect). x.status) of) ∙ h in cc
+status_not_usage Comes missing e of h = let no : HostFault ≡ Usage = sym (ap (λ (x : Effect). x.status) of) ∙ h in cc
 
-pub Does-usage : (listings : List Segment → Listing) (form : Form) (old new : HostState) (s : Status) → Does listings (Some form) old new s → s ≡ Usage → ⊥
-Does-usage listings form old new s h is = elim h.begins [
-  | inl one ↦ status_not_usage listings form h.reading one.0 one.1 (subst (Carries one.0 old new) is one.2.carries).status_is
+pub DoesOne-usage : (names : List (List ℕ)) (Comes : List (List ℕ) → Outcome → Type 0) (old new : HostState) (s : Status)
+    → DoesOne names (IsEffectBy Comes) old new s → s ≡ Usage → ⊥
+DoesOne-usage names Comes old new s h is = elim h.begins [
+  | inl one ↦ status_not_usage Comes h.reading one.0 one.1 (subst (Carries one.0 old new) is one.2.carries).status_is
   | inr none ↦ subst (IsUntouched old new) is none.untouched
 ]
 
-pub Does-host_fault : (listings : List Segment → Listing) (form : Option Form) (old new : HostState) (s : Status) → Does listings form old new s → s ≡ HostFault
-    → Rose old.faults new.faults
-Does-host_fault listings form old new s h is = elim h.begins [
+pub DoesOne-host_fault : (names : List (List ℕ)) (Is : Reading → Effect → Type 0) (old new : HostState) (s : Status) → DoesOne names Is old new s
+    → s ≡ HostFault → Rose old.faults new.faults
+DoesOne-host_fault names Is old new s h is = elim h.begins [
   | inl one ↦ (subst (Carries one.0 old new) is one.2.carries).0
   | inr none ↦ (subst (IsUntouched old new) is none.untouched).0
 ]
@@ -42,16 +42,16 @@ untouched_risen old new HostFault h rose = refl
 untouched_risen old new NoMemory h rose = absurd (let same : new.faults ≡ old.faults = h.0 in omega arith)
 untouched_risen old new s h rose = absurd h
 
-pub Does-risen : (listings : List Segment → Listing) (form : Option Form) (old new : HostState) (s : Status) → Does listings form old new s
+pub DoesOne-risen : (names : List (List ℕ)) (Is : Reading → Effect → Type 0) (old new : HostState) (s : Status) → DoesOne names Is old new s
     → old.faults < new.faults → s ≡ HostFault
-Does-risen listings form old new s h rose = elim h.begins [
+DoesOne-risen names Is old new s h rose = elim h.begins [
   | inl one ↦ risen one.0 old new s one.2.carries rose
   | inr none ↦ untouched_risen old new s none.untouched rose
 ]
 
-pub Does-quiet : (listings : List Segment → Listing) (form : Option Form) (old new : HostState) (s : Status) → Does listings form old new s → s ≡ NoMemory
+pub DoesOne-quiet : (names : List (List ℕ)) (Is : Reading → Effect → Type 0) (old new : HostState) (s : Status) → DoesOne names Is old new s → s ≡ NoMemory
     → Stays old.printed new.printed
-Does-quiet listings form old new s h is = elim h.begins [
+DoesOne-quiet names Is old new s h is = elim h.begins [
   | inl one ↦ (subst (Carries one.0 old new) is one.2.carries).printed
   | inr none ↦ (subst (IsUntouched old new) is none.untouched).2
 ]
@@ -64,28 +64,11 @@ read_for_words : (form : Option Form) (words : List (List ℕ)) (F : FileMap) (r
 read_for_words form words F reading read is = read ∙ ap (λ (o : Option Form). reading_of F (reads_for o)) is
 
 pub Does-begins : (listings : List Segment → Listing) (form : Option Form) (words : List (List ℕ)) (old new : HostState) (s : Status) (F : FileMap)
-    → Does listings form old new s → form ≡ form_of words → old.files ≡ Some F → BeginsOne (reads_for (form_of words)) (IsEffect listings words F) old new s
-Does-begins listings form words old new s F h is told =
+    → form ≡ form_of words → Does listings form old new s → old.files ≡ Some F → BeginsOne (reads_for (form_of words)) (IsEffect listings words F) old new s
+Does-begins listings form words old new s F is h told =
     subst (λ (r : Reading). BeginsOne (reads_for (form_of words)) (IsEffectAfter listings (form_of words) r) old new s)
     (read_for_words form words F h.reading (h.told F told) is)
     (subst (λ (o : Option Form). BeginsOne (reads_for o) (IsEffectAfter listings o h.reading) old new s) is h.begins)
-
--- words that are no form have the effect of the usage line
-usage_is : (listings : List Segment → Listing) (words : List (List ℕ)) (F : FileMap) → None ≡ form_of words → IsEffect listings words F usage_effect
-usage_is listings words F none = subst (λ (o : Option Form). IsEffectAfter listings o (reading_of F (reads_for o)) usage_effect) none refl
-
-pub usage_begins : (listings : List Segment → Listing) (words : List (List ℕ)) (old new : HostState) (s : Status) (F : FileMap) → None ≡ form_of words
-    → Carries usage_effect old new s → MakesCalls (calls_for usage_effect) old.calls new.calls (way_of s) → (s ≡ NoMemory → Stays old.files new.files)
-    → BeginsOne (reads_for (form_of words)) (IsEffect listings words F) old new s
-usage_begins listings words old new s F none carries calls stays = inl (
-  usage_effect,
-  usage_is listings words F none,
-  record {
-    carries = carries;
-    calls = λ G told. subst (λ (o : Option Form). MakesCalls (read_calls G (reads_for o) ++ calls_for usage_effect) old.calls new.calls (way_of s)) none calls;
-    spent = λ G told wanted. inl (stays wanted);
-  },
-)
 
 -- ---- what is complete
 

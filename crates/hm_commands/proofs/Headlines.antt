@@ -144,7 +144,7 @@ headline_of words form old new status same does = λ F P name memory image s h n
     let read = read_for F name sound.bytes memory h.source s sound.there sound.short h.given in
     let only = λ (e : Effect). effect-run listings words F name sound.bytes memory h.source image s e (form_of-run words name h.source memory h.asked) read
     sound.holds sound.odd in
-    let done = Does-begins listings form words old new status F (does listings some_listings.1) same sound.files in
+    let done = Does-begins listings form words old new status F same (does listings some_listings.1) sound.files in
     elim (left_one (reads_for (form_of words)) (IsEffect listings words F) (effect_for (reported x memory)) F P old new status only done sound.files
     sound.printed ne) [
       | inl wanted ↦ inl wanted
@@ -211,7 +211,7 @@ order_of words form old new status same does = λ F P name image n h ne.
     let sound = h.sound in
     let only = λ (e : Effect). effect-seq listings words F name sound.bytes image n e (form_of-seq words name n h.asked) sound.there sound.short sound.holds
     sound.odd in
-    let done = Does-begins listings form words old new status F (does listings some_listings.1) same sound.files in
+    let done = Does-begins listings form words old new status F same (does listings some_listings.1) sound.files in
     elim (left_one (reads_for (form_of words)) (IsEffect listings words F) (effect_for (told x)) F P old new status only done sound.files sound.printed ne) [
       | inl wanted ↦ inl wanted
       | inr left ↦ inr (shown_by (listings image) F P image n new status (some_listings.1.at image) left)

@@ -108,8 +108,8 @@ one_outcome listings (debug image schedule script) contents o p apart x y =
     one_of_run (image_of (get_or contents 0 [])) (schedule_in schedule (get_or contents 1 [])) (IsDebugOutcome listings (last_read schedule contents)) o p
     (λ i s u v. one_debug listings (last_read schedule contents) i s o p u v) x y
 one_outcome listings (journal image schedule every out) contents o p apart x y =
-    one_of_run (image_of (get_or contents 0 [])) (schedule_in schedule (get_or contents 1 [])) (IsJournalOutcome listings every out) o p (λ i s u v. u ∙ sym v)
-    x y
+    one_of_run (image_of (get_or contents 0 [])) (schedule_in schedule (get_or contents 1 [])) (IsJournalOutcome listings every out) o p
+    (λ i s u v. one_unless (reset_refusal i) (λ q. q ≡ journal_written listings every out i s) o p (λ a b. a ∙ sym b) u v) x y
 one_outcome listings (replay image schedule text tick) contents o p apart x y =
     one_of_run (image_of (get_or contents 0 [])) (schedule_in schedule (get_or contents 1 [])) (IsReplayOutcome listings (last_read schedule contents) tick) o p
     (λ i s u v. one_text listings (last_read schedule contents) i s (λ j. tick_outcome listings i s tick) o p u v) x y

@@ -12,11 +12,10 @@ use Rattle.hm_sched.specs.Schedule.{Sched}
 use Rattle.hm_sched.specs.declared.errors.SchedErr.{SchedErr}
 use Rattle.hm_sched.specs.declared.errors.SchedErr.TheVariants as sched
 use Rattle.hm_state.specs.Start.{reset_pc}
-use Rattle.hm_commands.specs.Commands.{OfRun, UnlessRefused, run_refusal}
+use Rattle.hm_commands.specs.Commands.{OfRunBy, UnlessRefusedBy, run_refusal}
 use Rattle.hm_commands.specs.RunInputs.{GivesRun}
 use Rattle.hm_commands.specs.Run.{load_stop, reset_refusal, schedule_stop}
-use Rattle.hm_commands.specs.Work.{Outcome, GivesOne, image_stop, refuses}
-use Rattle.hm_commands.specs.declared.work.Finish.{Finish}
+use Rattle.hm_commands.specs.Work.{GivesBy, image_stop}
 use Rattle.hm_commands.specs.declared.work.Refusal.{Refusal}
 use Rattle.hm_commands.specs.declared.work.Refusal.TheVariants.{Image, Schedule, Reset}
 use Rattle.hm_commands.specs.declared.work.Stop.{Stop}
@@ -44,38 +43,43 @@ pub schedule_refused : (e : SchedErr) (i : List Segment) (image : Result (List S
 schedule_refused e i image schedule stop at fails is =
     subst (λ (s : Stop). GivesRun image schedule (Err s)) (sym is) (schedule_by_error e i image schedule at fails)
 
+-- In what follows, given and refused say what an answer and a refusal stand for.
 -- ---- what comes of both
 
-refused_of : (image : Result (List Segment) ImageErr) (schedule : Result Sched SchedErr) (Is : List Segment → Sched → Outcome → Type 0) (why : Refusal)
-    → run_refusal image schedule ≡ Some why → OfRun image schedule Is (refuses why)
-refused_of (Err e) schedule Is why is = (let same : Image e ≡ why = cc in ap refuses (sym same))
-refused_of (Ok image) (Err e) Is why is = (let same : Schedule e ≡ why = cc in ap refuses (sym same))
-refused_of (Ok image) (Ok s) Is why is = absurd cc
+refused_of : {T : Type 0} (refused : Refusal → T) (image : Result (List Segment) ImageErr) (schedule : Result Sched SchedErr)
+    (Is : List Segment → Sched → T → Type 0) (why : Refusal)
+    → run_refusal image schedule ≡ Some why → OfRunBy refused image schedule Is (refused why)
+refused_of refused (Err e) schedule Is why is = (let same : Image e ≡ why = cc in ap refused (sym same))
+refused_of refused (Ok image) (Err e) Is why is = (let same : Schedule e ≡ why = cc in ap refused (sym same))
+refused_of refused (Ok image) (Ok s) Is why is = absurd cc
 
-pub run_stops : (image : Result (List Segment) ImageErr) (schedule : Result Sched SchedErr) (Is : List Segment → Sched → Outcome → Type 0) (stop : Stop)
-    → GivesRun image schedule (Err stop) → GivesOne (OfRun image schedule Is) (Err stop)
-run_stops image schedule Is (Refused why) given = refused_of image schedule Is why given
-run_stops image schedule Is NoMemory given = tt
+pub run_stops : {A T : Type 0} (given : A → T) (refused : Refusal → T) (image : Result (List Segment) ImageErr) (schedule : Result Sched SchedErr)
+    (Is : List Segment → Sched → T → Type 0) (stop : Stop) → GivesRun image schedule (Err stop)
+    → GivesBy given refused (OfRunBy refused image schedule Is) (Err stop)
+run_stops given refused image schedule Is (Refused why) stops = refused_of refused image schedule Is why stops
+run_stops given refused image schedule Is NoMemory stops = tt
 
-pub run_goes_on : (image : Result (List Segment) ImageErr) (schedule : Result Sched SchedErr) (i : List Segment) (s : Sched)
-    (Is : List Segment → Sched → Outcome → Type 0) (answer : Result Finish Stop) → image ≡ Ok i → schedule ≡ Ok s
-    → GivesOne (Is i s) answer → GivesOne (OfRun image schedule Is) answer
-run_goes_on image schedule i s Is answer at is h =
-    subst (λ (x : Result (List Segment) ImageErr). GivesOne (OfRun x schedule Is) answer) (sym at)
-    (subst (λ (x : Result Sched SchedErr). GivesOne (OfRun (Ok i) x Is) answer) (sym is) h)
+pub run_goes_on : {A T : Type 0} (given : A → T) (refused : Refusal → T) (image : Result (List Segment) ImageErr) (schedule : Result Sched SchedErr)
+    (i : List Segment) (s : Sched) (Is : List Segment → Sched → T → Type 0) (answer : Result A Stop) → image ≡ Ok i → schedule ≡ Ok s
+    → GivesBy given refused (Is i s) answer → GivesBy given refused (OfRunBy refused image schedule Is) answer
+run_goes_on given refused image schedule i s Is answer at is h =
+    subst (λ (x : Result (List Segment) ImageErr). GivesBy given refused (OfRunBy refused x schedule Is) answer) (sym at)
+    (subst (λ (x : Result Sched SchedErr). GivesBy given refused (OfRunBy refused (Ok i) x Is) answer) (sym is) h)
 
 -- ---- loading
 
-load_by_error : (image : List Segment) (Is : Outcome → Type 0) (e : LoadErr) → LoadRefuses image e
-    → GivesOne (UnlessRefused (reset_refusal image) Is) (Err (load_stop e))
-load_by_error image Is (load.Reset value) h =
-    subst (λ (why : Option Refusal). UnlessRefused why Is (refuses (Reset value))) (sym (reset_refusal-even image value h.0 h.1)) refl
-load_by_error image Is load.OutOfMemory h = tt
+load_by_error : {A T : Type 0} (given : A → T) (refused : Refusal → T) (image : List Segment) (Is : T → Type 0) (e : LoadErr) → LoadRefuses image e
+    → GivesBy given refused (UnlessRefusedBy refused (reset_refusal image) Is) (Err (load_stop e))
+load_by_error given refused image Is (load.Reset value) h =
+    subst (λ (why : Option Refusal). UnlessRefusedBy refused why Is (refused (Reset value))) (sym (reset_refusal-even image value h.0 h.1)) refl
+load_by_error given refused image Is load.OutOfMemory h = tt
 
-pub load_stops : (image : List Segment) (Is : Outcome → Type 0) (e : LoadErr) (stop : Stop) → LoadRefuses image e → stop ≡ load_stop e
-    → GivesOne (UnlessRefused (reset_refusal image) Is) (Err stop)
-load_stops image Is e stop h is = subst (λ (s : Stop). GivesOne (UnlessRefused (reset_refusal image) Is) (Err s)) (sym is) (load_by_error image Is e h)
+pub load_stops : {A T : Type 0} (given : A → T) (refused : Refusal → T) (image : List Segment) (Is : T → Type 0) (e : LoadErr) (stop : Stop)
+    → LoadRefuses image e → stop ≡ load_stop e → GivesBy given refused (UnlessRefusedBy refused (reset_refusal image) Is) (Err stop)
+load_stops given refused image Is e stop h is =
+    subst (λ (s : Stop). GivesBy given refused (UnlessRefusedBy refused (reset_refusal image) Is) (Err s)) (sym is) (load_by_error given refused image Is e h)
 
-pub load_goes_on : (image : List Segment) (Is : Outcome → Type 0) (answer : Result Finish Stop) → reset_pc image % 2 ≡ 1 → GivesOne Is answer
-    → GivesOne (UnlessRefused (reset_refusal image) Is) answer
-load_goes_on image Is answer odd h = subst (λ (why : Option Refusal). GivesOne (UnlessRefused why Is) answer) (sym (reset_refusal-odd image odd)) h
+pub load_goes_on : {A T : Type 0} (given : A → T) (refused : Refusal → T) (image : List Segment) (Is : T → Type 0) (answer : Result A Stop)
+    → reset_pc image % 2 ≡ 1 → GivesBy given refused Is answer → GivesBy given refused (UnlessRefusedBy refused (reset_refusal image) Is) answer
+load_goes_on given refused image Is answer odd h =
+    subst (λ (why : Option Refusal). GivesBy given refused (UnlessRefusedBy refused why Is) answer) (sym (reset_refusal-odd image odd)) h

@@ -32,7 +32,7 @@ use Rattle.hm_commands.specs.declared.work.Refusal.TheVariants.{FileTooLarge, Im
 use Rattle.hm_commands.specs.declared.work.Refusal.{Refusal}
 use Rattle.hm_commands.specs.Commands.{ComesTo, IsAnswers, IsAsmOutcome, IsChecked, IsCheckedText, IsCompared, IsCompiledFile, IsDebugOutcome, IsDisOutcome}
 use Rattle.hm_commands.specs.Commands.{IsJournalOutcome, IsKernelOutcome, IsMigrateOutcome, IsReplayOutcome, IsScriptRead, IsSoakOutcome, OfRun, UnlessRefused}
-use Rattle.hm_commands.specs.Commands.{asm_outcome, compared, hex_outcome, journal_outcome, journal_written, last_read, plan_outcome, run_outcome, seq_outcome}
+use Rattle.hm_commands.specs.Commands.{asm_outcome, compared, hex_outcome, journal_written, last_read, plan_outcome, run_outcome, seq_outcome}
 use Rattle.hm_commands.specs.Commands.{tick_outcome}
 use Rattle.hm_commands.specs.Effect.{Effect, Reading, whole, too_large, missing, after_contents, then_read, reading_of, reads_for, effect_for, no_effect}
 use Rattle.hm_commands.specs.Effect.{usage_effect, IsEffect, IsEffectAfter}
@@ -131,7 +131,7 @@ some_comes listings (debug image schedule script) contents r fits =
     (some_debug listings (last_read schedule contents))
 some_comes listings (journal image schedule every out) contents r fits =
     some_of_run (image_of (get_or contents 0 [])) (schedule_in schedule (get_or contents 1 [])) (IsJournalOutcome listings every out)
-    (λ i s. (journal_outcome listings every out i s, refl))
+    (λ i s. some_unless (reset_refusal i) (λ o. o ≡ journal_written listings every out i s) (journal_written listings every out i s, refl))
 some_comes listings (replay image schedule text tick) contents r fits =
     some_of_run (image_of (get_or contents 0 [])) (schedule_in schedule (get_or contents 1 [])) (IsReplayOutcome listings (last_read schedule contents) tick)
     (λ i s. some_text listings (last_read schedule contents) i s (λ j. tick_outcome listings i s tick))

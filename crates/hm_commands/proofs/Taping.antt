@@ -23,10 +23,10 @@ use Rattle.hm_machine.specs.declared.load.LoadErr.{LoadErr}
 use Rattle.hm_machine.specs.declared.load.LoadErr.TheVariants as load
 use Rattle.hm_sched.specs.Schedule.{Sched, ticks_of}
 use Rattle.hm_state.specs.Start.{reset_pc}
-use Rattle.hm_commands.specs.Commands.{IsCheckedText, IsCompared, IsDebugOutcome, IsJournalOutcome, UnlessRefused, journal_outcome, journal_written}
+use Rattle.hm_commands.specs.Commands.{IsCheckedText, IsCompared, IsDebugOutcome, IsJournalOutcome, UnlessRefused, journal_written}
 use Rattle.hm_commands.specs.Commands.{tick_outcome, unless_refused}
 use Rattle.hm_commands.specs.Run.{load_stop, reset_refusal}
-use Rattle.hm_commands.specs.Work.{Outcome, GivesOne, finishes, journal_stop, refuses, script_stop}
+use Rattle.hm_commands.specs.Work.{Outcome, GivesOne, finish_of, finishes, journal_stop, refuses, script_stop}
 use Rattle.hm_commands.specs.declared.work.Finish.{Finish}
 use Rattle.hm_commands.specs.declared.work.Refusal.{Refusal}
 use Rattle.hm_commands.specs.declared.work.Refusal.TheVariants.{Journal, Past, Reset}
@@ -62,7 +62,7 @@ pub script_not_loaded : (listings : List Segment → Listing) (text : List ℕ) 
     → GivesOne (IsDebugOutcome listings text image s) (Err stop)
 script_not_loaded listings text image s cs e stop is h at =
     read_stops listings text image s cs stop is
-    (load_stops image (λ o. o ≡ finishes true None (Some (answers (film_of (listings image) image s) cs 0))) e stop h at)
+    (load_stops finish_of refuses image (λ o. o ≡ finishes true None (Some (answers (film_of (listings image) image s) cs 0))) e stop h at)
 
 -- of a text that is a script memory alone may be wanted
 lost_by_error : (listings : List Segment → Listing) (text : List ℕ) (image : List Segment) (s : Sched) (cs : List Command) (e : ScriptErr) → IsScript text cs
@@ -93,23 +93,29 @@ abbrev journal_at : (List Segment → Listing) → ℕ → List ℕ → List Seg
 journal_at listings every out image s many = if many then refuses (Journal journal.TooMany)
     else finishes true (Some (out, journal_text (journal_of (listings image) image s every))) None
 
-journal_odd : (listings : List Segment → Listing) (every : ℕ) (out : List ℕ) (image : List Segment) (s : Sched) (many : Bool) → reset_pc image % 2 ≡ 1
-    → nat_lt 64 (length (ticks_of s.lines) / every + 1) ≡ many
-    → journal_outcome listings every out image s ≡ journal_at listings every out image s many
-journal_odd listings every out image s many odd is =
-    ap (λ (why : Option Refusal). unless_refused why (journal_at listings every out image s (nat_lt 64 (length (ticks_of s.lines) / every + 1))))
-    (reset_refusal-odd image odd) ∙ ap (journal_at listings every out image s) is
-
 too_many_test : (n : ℕ) → 64 < n → nat_lt 64 n ≡ true
 too_many_test n h = grind (arith, nat_tests)
 
 few_test : (n : ℕ) → n ≤ 64 → nat_lt 64 n ≡ false
 few_test n h = grind (arith, nat_tests)
 
+many_refused : (listings : List Segment → Listing) (every : ℕ) (out : List ℕ) (image : List Segment) (s : Sched) → 64 < length (ticks_of s.lines) / every + 1
+    → refuses (Journal journal.TooMany) ≡ journal_written listings every out image s
+many_refused listings every out image s many =
+    sym (ap (journal_at listings every out image s) (too_many_test (length (ticks_of s.lines) / every + 1) many))
+
+few_written : (listings : List Segment → Listing) (every : ℕ) (out : List ℕ) (image : List Segment) (s : Sched) (bytes : List ℕ)
+    → length (ticks_of s.lines) / every + 1 ≤ 64 → bytes ≡ journal_text (journal_of (listings image) image s every)
+    → finishes true (Some (out, bytes)) None ≡ journal_written listings every out image s
+few_written listings every out image s bytes few is =
+    ap (λ (b : List ℕ). finishes true (Some (out, b)) None) is
+    ∙ sym (ap (journal_at listings every out image s) (few_test (length (ticks_of s.lines) / every + 1) few))
+
 journal_by_error : (listings : List Segment → Listing) (every : ℕ) (out : List ℕ) (image : List Segment) (s : Sched) (e : JournalErr) → reset_pc image % 2 ≡ 1
     → IsWriteErr s every e → GivesOne (IsJournalOutcome listings every out image s) (Err (journal_stop e))
 journal_by_error listings every out image s journal.TooMany odd h =
-    sym (journal_odd listings every out image s true odd (too_many_test (length (ticks_of s.lines) / every + 1) h))
+    unless_odd image (λ o. o ≡ journal_written listings every out image s) (refuses (Journal journal.TooMany)) odd
+    (many_refused listings every out image s h)
 journal_by_error listings every out image s journal.OutOfMemory odd h = tt
 journal_by_error listings every out image s e odd h = absurd h
 
@@ -135,11 +141,11 @@ not_loaded image o e stop h is =
     subst (λ (x : Stop). GivesOne (λ y. y ≡ unless_refused (reset_refusal image) o) (Err x)) (sym is) (written_by_error image o e h)
 
 pub journal_comes : (listings : List Segment → Listing) (every : ℕ) (out : List ℕ) (image : List Segment) (s : Sched) (bytes : List ℕ) → reset_pc image % 2 ≡ 1
-    → length (ticks_of s.lines) / every + 1 ≤ 64
-    → bytes ≡ journal_text (journal_of (listings image) image s every) → finishes true (Some (out, bytes)) None ≡ journal_outcome listings every out image s
+    → length (ticks_of s.lines) / every + 1 ≤ 64 → bytes ≡ journal_text (journal_of (listings image) image s every)
+    → IsJournalOutcome listings every out image s (finishes true (Some (out, bytes)) None)
 journal_comes listings every out image s bytes odd few is =
-    ap (λ (b : List ℕ). finishes true (Some (out, b)) None) is
-    ∙ sym (journal_odd listings every out image s false odd (few_test (length (ticks_of s.lines) / every + 1) few))
+    unless_odd image (λ o. o ≡ journal_written listings every out image s) (finishes true (Some (out, bytes)) None) odd
+    (few_written listings every out image s bytes few is)
 
 -- ---- journals that are checked
 
@@ -174,7 +180,7 @@ pub journal_differs : (listings : List Segment → Listing) (image : List Segmen
     → IsCompareErr (listings image) image s j.format j.checkpoints e → stop ≡ journal_stop e
     → GivesOne (UnlessRefused (reset_refusal image) (IsCompared listings image s next j)) (Err stop)
 journal_differs listings image s next j e stop odd h is =
-    load_goes_on image (IsCompared listings image s next j) (Err stop) odd
+    load_goes_on finish_of refuses image (IsCompared listings image s next j) (Err stop) odd
     (subst (λ (x : Stop). GivesOne (IsCompared listings image s next j) (Err x)) (sym is) (compared_by_error listings image s next j e h))
 
 -- what comes next of a journal that is the run's
@@ -218,7 +224,7 @@ again_by_error : (listings : List Segment → Listing) (image : List Segment) (s
     → AreOfRun (listings image) image s j.format j.checkpoints → IsWriteErr s every e
     → GivesOne (IsCompared listings image s (journal_written listings every out image s) j) (Err (journal_stop e))
 again_by_error listings image s every out j journal.TooMany same h =
-    (Ok tt, same, sym (ap (journal_at listings every out image s) (too_many_test (length (ticks_of s.lines) / every + 1) h)))
+    (Ok tt, same, many_refused listings every out image s h)
 again_by_error listings image s every out j journal.OutOfMemory same h = tt
 again_by_error listings image s every out j e same h = absurd h
 
@@ -228,7 +234,8 @@ pub again_refused : (listings : List Segment → Listing) (image : List Segment)
     → GivesOne (UnlessRefused (reset_refusal image) (IsCompared listings image s (journal_written listings every out image s) j)) (Err stop)
 again_refused listings image s every out j e stop odd same h is =
     let Is = IsCompared listings image s (journal_written listings every out image s) j in
-    load_goes_on image Is (Err stop) odd (subst (λ (x : Stop). GivesOne Is (Err x)) (sym is) (again_by_error listings image s every out j e same h))
+    load_goes_on finish_of refuses image Is (Err stop) odd
+    (subst (λ (x : Stop). GivesOne Is (Err x)) (sym is) (again_by_error listings image s every out j e same h))
 
 pub again_written : (listings : List Segment → Listing) (image : List Segment) (s : Sched) (every : ℕ) (out : List ℕ) (j : Journaled) (bytes : List ℕ)
     → reset_pc image % 2 ≡ 1 → AreOfRun (listings image) image s j.format j.checkpoints
@@ -236,5 +243,4 @@ pub again_written : (listings : List Segment → Listing) (image : List Segment)
     → UnlessRefused (reset_refusal image) (IsCompared listings image s (journal_written listings every out image s) j) (finishes true (Some (out, bytes)) None)
 again_written listings image s every out j bytes odd same few is =
     next_comes listings image s (journal_written listings every out image s) j (finishes true (Some (out, bytes)) None) odd same
-    (ap (λ (b : List ℕ). finishes true (Some (out, b)) None) is
-    ∙ sym (ap (journal_at listings every out image s) (few_test (length (ticks_of s.lines) / every + 1) few)))
+    (few_written listings every out image s bytes few is)

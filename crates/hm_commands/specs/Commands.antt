@@ -81,10 +81,14 @@ asm_outcome (Ok image) out = if nat_lt most_headers (length image) then refuses 
 abbrev pub IsAsmOutcome : List ℕ → List ℕ → Outcome → Type 0
 IsAsmOutcome source out = λ o. (assembled : Result (List Segment) AsmErr) × IsOutcome source assembled × (o ≡ asm_outcome assembled out)
 
+-- one of these, where nothing is refused, else what the refusal stands for
+abbrev pub UnlessRefusedBy : {T : Type 0} → (Refusal → T) → Option Refusal → (T → Type 0) → T → Type 0
+UnlessRefusedBy refused (Some why) Is = λ x. x ≡ refused why
+UnlessRefusedBy refused None Is = Is
+
 -- one of these outcomes, where nothing is refused
 abbrev pub UnlessRefused : Option Refusal → (Outcome → Type 0) → Outcome → Type 0
-UnlessRefused (Some why) Is = λ o. o ≡ refuses why
-UnlessRefused None Is = Is
+UnlessRefused why Is = UnlessRefusedBy refuses why Is
 
 -- why a run is refused, of an image and a schedule as they were read
 abbrev pub run_refusal : Result (List Segment) ImageErr → Result Sched SchedErr → Option Refusal
@@ -92,11 +96,15 @@ run_refusal (Err e) schedule = Some (Image e)
 run_refusal (Ok image) (Err e) = Some (Schedule e)
 run_refusal (Ok image) (Ok s) = None
 
+-- one of these of an image and a schedule, where both were read, else what the refusal stands for: that of the image, then that of the schedule
+abbrev pub OfRunBy : {T : Type 0} → (Refusal → T) → Result (List Segment) ImageErr → Result Sched SchedErr → (List Segment → Sched → T → Type 0) → T → Type 0
+OfRunBy refused (Err e) schedule Is = λ x. x ≡ refused (Image e)
+OfRunBy refused (Ok image) (Err e) Is = λ x. x ≡ refused (Schedule e)
+OfRunBy refused (Ok image) (Ok s) Is = Is image s
+
 -- what comes of an image and a schedule, where both were read
 abbrev pub OfRun : Result (List Segment) ImageErr → Result Sched SchedErr → (List Segment → Sched → Outcome → Type 0) → Outcome → Type 0
-OfRun (Err e) schedule Is = λ o. o ≡ refuses (Image e)
-OfRun (Ok image) (Err e) Is = λ o. o ≡ refuses (Schedule e)
-OfRun (Ok image) (Ok s) Is = Is image s
+OfRun image schedule Is = OfRunBy refuses image schedule Is
 
 -- what a text is read as: the commands of a script, or its refusal
 abbrev pub IsScriptRead : List ℕ → Result (List Command) ScriptErr → Type 0
@@ -119,13 +127,9 @@ journal_written listings every out image s =
     if nat_lt 64 (length (ticks_of s.lines) / every + 1) then refuses (Journal journal_err.TooMany)
     else finishes true (Some (out, journal_text (journal_of (listings image) image s every))) None
 
--- the same of an image, unless it is refused by its reset address
-abbrev pub journal_outcome : (List Segment → Listing) → ℕ → List ℕ → List Segment → Sched → Outcome
-journal_outcome listings every out image s = unless_refused (reset_refusal image) (journal_written listings every out image s)
-
--- the journal of a run, and nothing else
+-- the journal of a run of an image, unless it is refused by its reset address, and nothing else
 abbrev pub IsJournalOutcome : (List Segment → Listing) → ℕ → List ℕ → List Segment → Sched → Outcome → Type 0
-IsJournalOutcome listings every out image s = λ o. o ≡ journal_outcome listings every out image s
+IsJournalOutcome listings every out image s = UnlessRefused (reset_refusal image) (λ o. o ≡ journal_written listings every out image s)
 
 -- the report at a tick, which is printed, where the run begins that tick
 abbrev pub tick_outcome : (List Segment → Listing) → List Segment → Sched → ℕ → Outcome

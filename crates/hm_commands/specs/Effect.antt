@@ -38,9 +38,13 @@ usage_line = codes "helium: usage\n"
 abbrev pub refused_line : Refusal → List ℕ
 refused_line why = refusal_text why (codes "helium: refused ") ++ codes "\n"
 
--- words that ask for nothing print how the program is used
+-- words that ask for nothing print a line that says how the program is used
+abbrev pub usage_by : List ℕ → Effect
+usage_by line = record { status = Usage; file = None; text = Some line }
+
+-- those of helium print its line
 abbrev pub usage_effect : Effect
-usage_effect = record { status = Usage; file = None; text = Some usage_line }
+usage_effect = usage_by usage_line
 
 -- nothing but the host's fault can come of it
 abbrev pub no_effect : Effect
@@ -78,13 +82,18 @@ abbrev pub reads_for : Option Form → List (List ℕ)
 reads_for None = []
 reads_for (Some form) = reads_of form
 
+-- In what follows, Comes says to which outcomes the contents of the files come that were read.
+-- the effects by what comes of the reads: those of the outcomes of all contents, that of the refusal of a file that is too large, or that of a missing file
+abbrev pub IsEffectBy : (List (List ℕ) → Outcome → Type 0) → Reading → Effect → Type 0
+IsEffectBy Comes (whole contents) = λ e. (o : Outcome) × Comes contents o × (e ≡ effect_for o)
+IsEffectBy Comes too_large = λ e. e ≡ effect_for (refuses FileTooLarge)
+IsEffectBy Comes missing = λ e. e ≡ no_effect
+
 -- In what follows, listings gives a listing of the flash of each image.
 -- the effect of a form, by what comes of its reads
 abbrev pub IsEffectAfter : (List Segment → Listing) → Option Form → Reading → Effect → Type 0
-IsEffectAfter listings None reading = λ e. e ≡ usage_effect
-IsEffectAfter listings (Some form) (whole contents) = λ e. (o : Outcome) × ComesTo listings form contents o × (e ≡ effect_for o)
-IsEffectAfter listings (Some form) too_large = λ e. e ≡ effect_for (refuses FileTooLarge)
-IsEffectAfter listings (Some form) missing = λ e. e ≡ no_effect
+IsEffectAfter listings None = λ reading e. e ≡ usage_effect
+IsEffectAfter listings (Some form) = IsEffectBy (ComesTo listings form)
 
 -- what the program does
 abbrev pub IsEffect : (List Segment → Listing) → List (List ℕ) → FileMap → Effect → Type 0
@@ -186,11 +195,16 @@ pub record IsNotReached (names : List (List ℕ)) (old new : HostState) (status 
 abbrev pub BeginsOne : List (List ℕ) → (Effect → Type 0) → HostState → HostState → Status → Type 0
 BeginsOne names Is old new status = ((e : Effect) × Is e × IsBegun names e old new status) ⊎ IsNotReached names old new status
 
--- a form's effect is begun, by what the reads gave: where the files are told, what they hold
-pub record Does (listings : List Segment → Listing) (form : Option Form) (old new : HostState) (status : Status) : Type 0 where
+-- one of the effects that there are by what comes of the reads of these files is begun, or none was reached; where the files are told, what comes of the
+-- reads is what they hold
+pub record DoesOne (names : List (List ℕ)) (Is : Reading → Effect → Type 0) (old new : HostState) (status : Status) : Type 0 where
   pub reading : Reading
-  pub told : (F : FileMap) → old.files ≡ Some F → reading ≡ reading_of F (reads_for form)
-  pub begins : BeginsOne (reads_for form) (IsEffectAfter listings form reading) old new status
+  pub told : (F : FileMap) → old.files ≡ Some F → reading ≡ reading_of F names
+  pub begins : BeginsOne names (Is reading) old new status
+
+-- so of the effects of a form
+abbrev pub Does : (List Segment → Listing) → Option Form → HostState → HostState → Status → Type 0
+Does listings form old new status = DoesOne (reads_for form) (IsEffectAfter listings form) old new status
 
 -- the status of a host's error
 abbrev pub failure_of : HostErr → Status

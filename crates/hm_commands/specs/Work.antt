@@ -128,11 +128,15 @@ output_pair o = (o.name.now, o.bytes.items)
 abbrev pub finish_of : Finish → Outcome
 finish_of f = finishes f.done (option_map output_pair f.file) (option_map (λ text. text.items) f.text)
 
+-- the answer, or the refusal, is one of these by what it stands for, or memory was wanted
+abbrev pub GivesBy : {A T : Type 0} → (A → T) → (Refusal → T) → (T → Type 0) → Result A Stop → Type 0
+GivesBy given refused Is (Ok x) = Is (given x)
+GivesBy given refused Is (Err (Refused why)) = Is (refused why)
+GivesBy given refused Is (Err NoMemory) = Unit {0}
+
 -- the answer is one of these outcomes, or want of memory
 abbrev pub GivesOne : (Outcome → Type 0) → Result Finish Stop → Type 0
-GivesOne Is (Ok finish) = Is (finish_of finish)
-GivesOne Is (Err (Refused why)) = Is (refuses why)
-GivesOne Is (Err NoMemory) = Unit {0}
+GivesOne Is answer = GivesBy finish_of refuses Is answer
 
 -- the answer is this outcome, or want of memory
 abbrev pub Gives : Outcome → Result Finish Stop → Type 0

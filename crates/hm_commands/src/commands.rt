@@ -96,11 +96,7 @@ fn dis<'a>(alloc: Global, image: &[u8], range: Range) -> Result<Finish<'a>, Stop
 {
     let image = read_any(alloc, image)?;
     let lines = listing(alloc, &image, range.lo, range.hi)?;
-    Ok(Finish {
-        done: true,
-        file: None,
-        text: Some(lines),
-    })
+    Ok(Finish::printed(lines))
 }
 
 /// Assembles a source. Its image is to be written, as an ELF file.
@@ -110,11 +106,7 @@ fn asm<'a>(alloc: Global, source: &[u8], out: &'a str) -> Result<Finish<'a>, Sto
 {
     let image = assemble(alloc, source)?;
     let bytes = write_image(alloc, &image)?;
-    Ok(Finish {
-        done: true,
-        file: Some(Output { name: out, bytes }),
-        text: None,
-    })
+    Ok(Finish::written(out, bytes))
 }
 
 /// Runs the generated work of a number. The summary is to be printed.
@@ -122,11 +114,7 @@ fn soak<'a>(alloc: Global, number: u32) -> Result<Finish<'a>, Stop>
     ensures { GivesOne (IsSoakOutcome number) result }
 {
     let summary = summary(alloc, number)?;
-    Ok(Finish {
-        done: true,
-        file: None,
-        text: Some(summary),
-    })
+    Ok(Finish::printed(summary))
 }
 
 /// Plans so many instructions of an image. The schedule is to be written.
@@ -141,14 +129,7 @@ fn plan_to<'a>(
 {
     let image = read_any(alloc, image)?;
     let schedule = plan(alloc, &image, count.count)?;
-    Ok(Finish {
-        done: true,
-        file: Some(Output {
-            name: out,
-            bytes: print(alloc, &schedule)?,
-        }),
-        text: None,
-    })
+    Ok(Finish::written(out, print(alloc, &schedule)?))
 }
 
 /// Writes an image of any form as Intel HEX.
@@ -157,14 +138,7 @@ fn hex_to<'a>(alloc: Global, image: &[u8], out: &'a str) -> Result<Finish<'a>, S
     ensures { Gives (hex_outcome (image_of image.now) out.now) result }
 {
     let image = read_any(alloc, image)?;
-    Ok(Finish {
-        done: true,
-        file: Some(Output {
-            name: out,
-            bytes: write_hex(alloc, &image)?,
-        }),
-        text: None,
-    })
+    Ok(Finish::written(out, write_hex(alloc, &image)?))
 }
 
 /// Compiles a text of the array language. Its image is to be written, as an ELF file.
@@ -174,11 +148,7 @@ fn kernel<'a>(alloc: Global, source: &[u8], out: &'a str) -> Result<Finish<'a>, 
 {
     let image = compile(alloc, source)?;
     let bytes = write_image(alloc, &image)?;
-    Ok(Finish {
-        done: true,
-        file: Some(Output { name: out, bytes }),
-        text: None,
-    })
+    Ok(Finish::written(out, bytes))
 }
 
 /// What a command comes to, from the contents of its files in order.

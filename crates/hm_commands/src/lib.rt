@@ -13,10 +13,9 @@ mod top;
 mod work;
 
 pub use arguments::words_of;
-pub use hm_words::words_of_commands;
 pub use laws::{effect_law, hex_run_law, kernel_file_law, listings_exist};
 pub use outside::read_all;
 pub use status::Status;
 pub use tapes::{RunInput, read_run};
-pub use top::{carry_out, conclude, failure, helium, refuse};
+pub use top::{conclude, failure, helium, refuse, say_usage};
 pub use work::{Finish, Output, Refusal, Stop};

@@ -15,7 +15,7 @@ ghost use Rattle.hm_commands.specs.Run.{reset_refusal, schedule_in};
 ghost use Rattle.hm_commands.specs.Work.{GivesOne};
 
 use crate::images::read_any;
-use crate::work::{Finish, Output, Stop};
+use crate::work::{Finish, Stop};
 use hm_base::Image;
 use hm_debug::{check_script, script};
 use hm_journal::{Journal, JournalErr, compare, read_journal, write_journal};
@@ -83,11 +83,7 @@ fn answers<'a>(alloc: Global, input: RunInput, text: &[u8]) -> Result<Finish<'a>
     let RunInput { image, schedule } = input;
     let mut tape = Tape::new(alloc, &image, schedule)?;
     let answers = script(alloc, &mut tape, text)?;
-    Ok(Finish {
-        done: true,
-        file: None,
-        text: Some(answers),
-    })
+    Ok(Finish::printed(answers))
 }
 
 /// Does a script over a run, from the contents of the files.
@@ -119,11 +115,7 @@ fn write<'a>(alloc: Global, input: RunInput, every: Every, out: &'a str) -> Resu
     }
     let mut tape = Tape::new(alloc, &image, schedule)?;
     let bytes = write_journal(alloc, &mut tape, every.ticks)?;
-    Ok(Finish {
-        done: true,
-        file: Some(Output { name: out, bytes }),
-        text: None,
-    })
+    Ok(Finish::written(out, bytes))
 }
 
 /// Writes the journal of a run, from the contents of the files.
@@ -160,11 +152,7 @@ fn check<'a>(
     compare(alloc, journal, &mut tape)?;
     let machine = tape.at(tick.count)?;
     let report = machine.report(alloc)?;
-    Ok(Finish {
-        done: true,
-        file: None,
-        text: Some(report),
-    })
+    Ok(Finish::printed(report))
 }
 
 /// Checks a journal against a run, from the contents of the files. The report at a tick is to be printed.
@@ -200,11 +188,7 @@ fn rewrite<'a>(
     let mut tape = Tape::new(alloc, &image, schedule)?;
     compare(alloc, given, &mut tape)?;
     let bytes = write_journal(alloc, &mut tape, given.every())?;
-    Ok(Finish {
-        done: true,
-        file: Some(Output { name: out, bytes }),
-        text: None,
-    })
+    Ok(Finish::written(out, bytes))
 }
 
 /// Checks a journal of format 1 or 2 against a run, from the contents of the files, and writes the run's journal in format 2.

@@ -9,7 +9,7 @@ ghost use Rattle.hm_host.specs.Host.{FileMap, Rose, Stays};
 ghost use Rattle.hm_words.specs.Words.{form_of, meant};
 ghost use Rattle.hm_commands.specs.Work.{Outcome, Gives, output_pair, refuses};
 ghost use Rattle.hm_commands.specs.Effect.{Carries, Does, DoesEffect, Effect, IsComplete, IsEffect, StaysOrMakesAll, calls_for, effect_for, reads_for};
-ghost use Rattle.hm_commands.specs.Effect.{usage_effect, usage_line, refused_line, failure_of};
+ghost use Rattle.hm_commands.specs.Effect.{usage_by, usage_effect, refused_line, failure_of};
 ghost use Rattle.hm_commands.specs.Calls.{MakesCalls, print_calls, read_calls, way_of, write_calls};
 
 use crate::commands::perform;
@@ -58,13 +58,6 @@ pub fn carry_out<H: Host>(
     }
 }
 
-/// The line of words that say nothing.
-fn make_usage_line(alloc: Global) -> Result<Vec<u8>, OutOfMemory>
-    ensures { IfOk result (λ line. line.items ≡ usage_line) }
-{
-    Ok(b"helium: usage\n".to_vec(alloc)?)
-}
-
 /// The line of a refusal.
 fn make_refused_line(alloc: Global, why: Refusal) -> Result<Vec<u8>, OutOfMemory>
     ensures { IfOk result (λ line. line.items ≡ refused_line why) }
@@ -76,12 +69,12 @@ fn make_refused_line(alloc: Global, why: Refusal) -> Result<Vec<u8>, OutOfMemory
     Ok(line)
 }
 
-/// Says how the program is used.
-fn say_usage<H: Host>(alloc: Global, host: &mut H) -> Status
-    ensures effect { Carries usage_effect (H.state host.old) (H.state host.new) result }
-    ensures calls { MakesCalls (calls_for usage_effect) (H.state host.old).calls (H.state host.new).calls (way_of result) }
+/// Prints the line that says how a program is used.
+pub fn say_usage<H: Host>(alloc: Global, line: &[u8], host: &mut H) -> Status
+    ensures effect { Carries (usage_by line.now) (H.state host.old) (H.state host.new) result }
+    ensures calls { MakesCalls (calls_for (usage_by line.now)) (H.state host.old).calls (H.state host.new).calls (way_of result) }
 {
-    match make_usage_line(alloc) {
+    match line.to_vec(alloc) {
         Ok(line) => carry_out(alloc, Status::Usage, &None, &Some(line), host),
         Err(_) => Status::NoMemory,
     }
@@ -163,6 +156,6 @@ pub fn helium<H: Host>(alloc: Global, words: &[String], host: &mut H) -> Status
 {
     match parse(words) {
         Some(command) => obey(alloc, &command, host),
-        None => say_usage(alloc, host),
+        None => say_usage(alloc, b"helium: usage\n", host),
     }
 }

@@ -1,8 +1,8 @@
 //! What a command comes to, once its files are read: what is to be written and printed, or a refusal.
 
-ghost use Rattle.std.specs.Prelude.{◌≡◌, IfOk};
+ghost use Rattle.std.specs.Prelude.{◌≡◌, IfOk, None, Some, true};
 ghost use Rattle.hm_commands.specs.Work.{asm_kind_text, image_text, kind_text, schedule_text, journal_refusal_text, kernel_kind_text, kernel_text, script_text};
-ghost use Rattle.hm_commands.specs.Work.{source_text, refusal_text};
+ghost use Rattle.hm_commands.specs.Work.{finish_of, finishes, source_text, refusal_text};
 
 use hm_asm::{AsmErr, AsmKind};
 use hm_base::{ImageErr, OutOfMemory};
@@ -27,6 +27,30 @@ pub struct Finish<'a> {
     pub done: bool,
     pub file: Option<Output<'a>>,
     pub text: Option<Vec<u8>>,
+}
+
+impl<'a> Finish<'a> {
+    /// What was asked came about, and this text is to be printed.
+    pub fn printed(text: Vec<u8>) -> Self
+        ensures value { finish_of result ≡ finishes true None (Some text.items) }
+    {
+        Finish {
+            done: true,
+            file: None,
+            text: Some(text),
+        }
+    }
+
+    /// What was asked came about, and these bytes are to be written to the file with a name.
+    pub fn written(name: &'a str, bytes: Vec<u8>) -> Self
+        ensures value { finish_of result ≡ finishes true (Some (name.now, bytes.items)) None }
+    {
+        Finish {
+            done: true,
+            file: Some(Output { name, bytes }),
+            text: None,
+        }
+    }
 }
 
 /// Why a command is refused.

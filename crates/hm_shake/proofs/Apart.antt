@@ -5,7 +5,6 @@ use Rattle.std.proofs.lemmas.List.Elements.{All-cons, All-head, All-nil, All-tai
 use Rattle.hm_shake.proofs.Telling.{names_apart}
 use Rattle.hm_shake.specs.Counts.{AreInOrder, IsLater}
 use Rattle.hm_shake.specs.Findings.{AreFiled, AreNamedApart}
-use Rattle.hm_shake.specs.Kinds.{kind_name}
 use Rattle.hm_shake.specs.Numbers.{HasNumbers}
 use Rattle.hm_shake.specs.declared.filing.Written.{Written}
 use Rattle.hm_shake_runs.specs.declared.found.Found.{Found}

@@ -1,5 +1,5 @@
 -- How a run ended, by the machine that shows it.
-use Rattle.std.proofs.Common.{◌≡◌, ◌≢◌, ℕ, List, length, ap, refl, sym, subst, ◌∙◌, true, Option, Some, None}
+use Rattle.std.proofs.Common.{◌≡◌, ◌≢◌, ℕ, List, length, ap, refl, sym, subst, ◌∙◌, false, true, Option, Some, None}
 use Rattle.std.specs.Prelude.{IfSome}
 use Rattle.hm_base.specs.Image.{Segment, flash_byte}
 use Rattle.hm_codes.specs.Listing.{IsListing, Listing}
@@ -9,6 +9,7 @@ use Rattle.hm_machine.specs.Shown.{Shown, Shows, timed_of}
 use Rattle.hm_run.specs.Report.{report_text}
 use Rattle.hm_run.specs.declared.Outcome.{Outcome}
 use Rattle.hm_run.specs.declared.Outcome.TheVariants as outcome
+use Rattle.hm_run.specs.declared.Offence.{Offence}
 use Rattle.hm_run.specs.declared.Offence.TheVariants as offence
 use Rattle.hm_exc.specs.declared.types.Broken.TheVariants as broken
 use Rattle.hm_run.specs.declared.Reason.{Reason}
@@ -85,6 +86,14 @@ pub other_so : (listing : Listing) (image : List Segment) (h : Head) (xs ys : Li
 other_so listing image h xs ys e k ends is other same =
     other (ap (λ (x : Ended). x.kind) ends ∙ ap (λ (zs : List Stretch). (ended_under listing image (with_stretches zs (bare h))).kind) is ∙ same)
 
+-- the kind of a handler that was broken is no halt and no broken rule
+broken_kind : (t : ℕ) (x : Offence) → (is_halt (kind_of (outcome.HandlerBroken t x)) ≡ false) × (kind_of (outcome.HandlerBroken t x) ≢ kind.Rule)
+broken_kind t (offence.Left (broken.ExcReturn value)) = (refl, λ e. absurd cc)
+broken_kind t (offence.Left (broken.Register name entry now)) = (refl, λ e. absurd cc)
+broken_kind t (offence.Left (broken.Frame addr)) = (refl, λ e. absurd cc)
+broken_kind t (offence.Store addr) = (refl, λ e. absurd cc)
+broken_kind t (offence.Call pc) = (refl, λ e. absurd cc)
+
 -- a run whose kind is a halt halted
 record HaltedSo (o : Option Outcome) : Type 0 where
   reason : Reason
@@ -93,21 +102,13 @@ record HaltedSo (o : Option Outcome) : Type 0 where
 
 halted_so : (o : Option Outcome) → is_halt (kind_or o) ≡ true → HaltedSo o
 halted_so (Some (outcome.Halted reason n)) h = record { reason = reason; n = n; is = refl }
-halted_so (Some (outcome.HandlerBroken t (offence.Left (broken.ExcReturn value)))) h = absurd cc
-halted_so (Some (outcome.HandlerBroken t (offence.Left (broken.Register name entry now)))) h = absurd cc
-halted_so (Some (outcome.HandlerBroken t (offence.Left (broken.Frame addr)))) h = absurd cc
-halted_so (Some (outcome.HandlerBroken t (offence.Store addr))) h = absurd cc
-halted_so (Some (outcome.HandlerBroken t (offence.Call pc))) h = absurd cc
+halted_so (Some (outcome.HandlerBroken t x)) h = (let no : true ≡ false = sym h ∙ (broken_kind t x).0 in absurd cc)
 halted_so o h = absurd cc
 
 -- the kind of an outcome that is no broken rule is another
 no_rule : (o : Outcome) → ((t step : ℕ) (r : Rule) → o ≢ outcome.RuleBroken t step r) → kind_of o ≢ kind.Rule
 no_rule (outcome.RuleBroken t step r) none e = none t step r refl
-no_rule (outcome.HandlerBroken t (offence.Left (broken.ExcReturn value))) none e = absurd cc
-no_rule (outcome.HandlerBroken t (offence.Left (broken.Register name entry now))) none e = absurd cc
-no_rule (outcome.HandlerBroken t (offence.Left (broken.Frame addr))) none e = absurd cc
-no_rule (outcome.HandlerBroken t (offence.Store addr)) none e = absurd cc
-no_rule (outcome.HandlerBroken t (offence.Call pc)) none e = absurd cc
+no_rule (outcome.HandlerBroken t x) none e = (broken_kind t x).1 e
 no_rule o none e = absurd cc
 
 -- so is that of each run of a shake

@@ -9,7 +9,7 @@ use Rattle.hm_shake_runs.proofs.Room.{ticks, ticks-append}
 use Rattle.hm_shake_runs.specs.Stretches.{IsStretch, cut, first_of, interrupts_in, one_if, quiet, quieted, stretch_line, without}
 use Rattle.hm_shake_runs.specs.declared.stretches.Stretch.{Stretch}
 
-ticks-cons : (x : Stretch) (xs : List Stretch) → ticks (x ∷ xs) ≡ x.count + ticks xs
+pub ticks-cons : (x : Stretch) (xs : List Stretch) → ticks (x ∷ xs) ≡ x.count + ticks xs
 ticks-cons x xs = total-cons (stretch_line x) (map stretch_line xs)
 
 -- ---- interrupts taken out
@@ -70,34 +70,6 @@ cut_sound most n (x ∷ xs) all =
     All-append (IsStretch most) (first_of n x) (cut (n - x.count) xs) (first_sound most n x (All-head (IsStretch most) x xs all))
     (cut_sound most (n - x.count) xs (All-tail (IsStretch most) x xs all))
 
-first_ticks : (n : ℕ) (x : Stretch) → 1 ≤ x.count → (ticks (first_of n x) ≤ n) × (ticks (first_of n x) ≤ x.count) × (ticks (first_of n x) + (n - x.count) ≤ n)
-first_ticks zero x h = (omega arith, omega arith, omega arith)
-first_ticks (suc n) x h =
-    let k = cond (nat_le x.count (suc n)) x.count (suc n) in
-    let some = least (nat_le x.count (suc n)) x.count (suc n) (λ e. leb-true x.count (suc n) e) h (omega arith) in
-    let few : k ≤ x.count = least_few (nat_le x.count (suc n)) x.count (suc n) (λ e. omega (arith, leb-false x.count (suc n) e)) in
-    let below : k ≤ suc n = some.0 in
-    (omega arith, omega arith, omega arith)
-
-pub cut_ticks_few : (most n : ℕ) (xs : List Stretch) → All (IsStretch most) xs → ticks (cut n xs) ≤ n
-cut_ticks_few most n [] all = omega arith
-cut_ticks_few most n (x ∷ xs) all =
-    let first = first_ticks n x (All-head (IsStretch most) x xs all).some in
-    let both = ticks-append (first_of n x) (cut (n - x.count) xs) in
-    let rest = cut_ticks_few most (n - x.count) xs (All-tail (IsStretch most) x xs all) in
-    let third = first.2 in
-    omega arith
-
-pub cut_ticks_fewer : (most n : ℕ) (xs : List Stretch) → All (IsStretch most) xs → ticks (cut n xs) ≤ ticks xs
-cut_ticks_fewer most n [] all = omega arith
-cut_ticks_fewer most n (x ∷ xs) all =
-    let first = first_ticks n x (All-head (IsStretch most) x xs all).some in
-    let both = ticks-append (first_of n x) (cut (n - x.count) xs) in
-    let rest = cut_ticks_fewer most (n - x.count) xs (All-tail (IsStretch most) x xs all) in
-    let whole = ticks-cons x xs in
-    let second = first.1 in
-    omega arith
-
 whole_or : (b : Bool) (c n : ℕ) → (b ≡ true → c ≤ n) → (b ≡ false → n ≤ c) → cond b c n + (n - c) ≡ n
 whole_or true c n f g = let few : c ≤ n = f refl in omega arith
 whole_or false c n f g = let many : n ≤ c = g refl in omega arith
@@ -106,6 +78,14 @@ first_all : (n : ℕ) (x : Stretch) → ticks (first_of n x) + (n - x.count) ≡
 first_all zero x = omega arith
 first_all (suc n) x =
     let all = whole_or (nat_le x.count (suc n)) x.count (suc n) (λ e. leb-true x.count (suc n) e) (λ e. omega (arith, leb-false x.count (suc n) e)) in
+    omega arith
+
+pub cut_ticks_few : (n : ℕ) (xs : List Stretch) → ticks (cut n xs) ≤ n
+cut_ticks_few n [] = omega arith
+cut_ticks_few n (x ∷ xs) =
+    let both = ticks-append (first_of n x) (cut (n - x.count) xs) in
+    let rest = cut_ticks_few (n - x.count) xs in
+    let first = first_all n x in
     omega arith
 
 -- the first n ticks are n

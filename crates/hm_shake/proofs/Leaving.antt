@@ -1,7 +1,9 @@
 -- Stretches that are cut off, and of which interrupts are left out, come of those that were there.
-use Rattle.std.proofs.Common.{◌≡◌, ◌≤◌, ℕ, zero, suc, ◌-◌, ◌∙◌, Bool, true, false, cond, List, [], ◌∷◌, Option, arith, inl, inr, nat_le, refl, subst, sym}
+use Rattle.std.proofs.Common.{◌≡◌, ◌≤◌, ℕ, zero, suc, ◌-◌, ◌∙◌, Bool, true, false, cond, List, [], ◌∷◌, Option, ap, arith, inl, inr, nat_le, refl, subst, sym}
 use Rattle.std.proofs.lemmas.Bool.{leb-false}
+use Rattle.hm_shake.proofs.Fewer.{ticks-cons}
 use Rattle.hm_shake.specs.Shorter.{LeavesOut, StaysOrNone}
+use Rattle.hm_shake_runs.proofs.Room.{ticks}
 use Rattle.hm_shake_runs.specs.Stretches.{cut, one_if, quieted, without}
 use Rattle.hm_shake_runs.specs.declared.stretches.Stretch.{Stretch}
 
@@ -64,6 +66,21 @@ left_twice (x ∷ xs) (y ∷ ys) (z ∷ zs) (a, i, inl (c, p)) (b, j, inr (d, e)
     (a ∙ b, stays_twice x.irq y.irq z.irq i j, inr (omega arith, none_left xs ys e p))
 left_twice (x ∷ xs) (y ∷ ys) (z ∷ zs) (a, i, inr (c, e)) (b, j, inl (d, q)) = (a ∙ b, stays_twice x.irq y.irq z.irq i j, inr (omega arith, e))
 left_twice (x ∷ xs) (y ∷ ys) (z ∷ zs) (a, i, inr (c, e)) (b, j, inr (d, f)) = (a ∙ b, stays_twice x.irq y.irq z.irq i j, inr (omega arith, e))
+
+-- what comes of stretches has no more ticks
+pub left_ticks : (xs ys : List Stretch) → LeavesOut xs ys → ticks xs ≤ ticks ys
+left_ticks [] ys left = omega arith
+left_ticks (x ∷ xs) [] left = absurd left
+left_ticks (x ∷ xs) (y ∷ ys) (letters, irq, inl (same, left)) =
+    let whole = ticks-cons x xs in
+    let all = ticks-cons y ys in
+    let rest = left_ticks xs ys left in
+    omega arith
+left_ticks (x ∷ xs) (y ∷ ys) (letters, irq, inr (few, none)) =
+    let whole = ticks-cons x xs in
+    let all = ticks-cons y ys in
+    let last : ticks xs ≡ 0 = ap ticks none in
+    omega arith
 
 -- first interrupts are left out, and then it is cut off
 pub shorter_left : (n k m : ℕ) (xs ys zs : List Stretch) → ys ≡ without k m xs → zs ≡ cut n ys → LeavesOut zs xs

@@ -7,7 +7,6 @@ use Rattle.std.proofs.lemmas.Str.Ascii.{IsAscii-map}
 use Rattle.std.specs.Fmt.{digit_glyph, digits, digits_onto}
 use Rattle.std.specs.Str.{IsAscii}
 use Rattle.hm_base.specs.declared.FaultKind.{FaultKind}
-use Rattle.hm_base.specs.declared.FaultKind.TheVariants as fault
 use Rattle.hm_base.specs.declared.Place.{Place}
 use Rattle.hm_base.specs.declared.Place.TheVariants as place
 use Rattle.hm_exc.specs.declared.types.Slot.{Slot}

@@ -1,6 +1,6 @@
 //! The files of a shake: a short schedule for each kind of outcome that is not the plain run's.
 
-ghost use Rattle.std.specs.Prelude.{◌≡◌, ◌<◌, [], ◌∷◌, ◌++◌, List, IfOk};
+ghost use Rattle.std.specs.Prelude.{◌<◌, List, IfOk};
 ghost use Rattle.std.specs.List.{All};
 ghost use Rattle.hm_base.specs.Image.{Segment, flash_byte};
 ghost use Rattle.hm_codes.specs.Listing.{IsListing, Listing};
@@ -56,14 +56,6 @@ fn shortest<P: Progress>(
     })
 }
 
-/// Adds a file.
-fn add_file(files: &mut Vec<Written>, file: Written) -> Result<(), OutOfMemory>
-    ensures added { IfOk result (λ _. files.new.items ≡ files.old.items ++ file ∷ []) }
-{
-    files.push(file)?;
-    Ok(())
-}
-
 /// The files of the kinds that are not the plain run's.
 pub fn files_of<P: Progress>(
     alloc: Global,
@@ -84,7 +76,7 @@ pub fn files_of<P: Progress>(
     for found in kinds {
         if !same_kind(found.kind, plain) {
             let file = shortest(alloc, given, repeater, *found, progress)?;
-            add_file(&mut files, file)?;
+            files.push(file)?;
         }
     }
     Ok(files)

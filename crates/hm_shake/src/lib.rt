@@ -11,7 +11,6 @@ mod shrinking;
 mod texts;
 
 pub use counting::Progress;
-pub use ended::end_of;
 pub use filing::Written;
 pub use naming::{add_name, names_law};
 pub use repeats::Repeater;

@@ -40,7 +40,6 @@ fn shorter(
         → IfOk result (λ o. o ≡ None → EndsOtherwise listing image kind (with_stretches (without kept size stretches.now) (bare head))) }
     ensures less { kept < interrupts_in stretches.now → 0 < size
         → IfOk result (λ o. IfSome o (λ xs. interrupts_in xs.items < interrupts_in stretches.now)) }
-    ensures fewer { IfOk result (λ o. IfSome o (λ xs. total (map stretch_line xs.items) ≤ total (map stretch_line stretches.now))) }
     ensures leaves { IfOk result (λ o. IfSome o (λ xs. LeavesOut xs.items stretches.now)) }
     ensures sound { IfOk result (λ o. IfSome o (λ xs. All (IsStretch (most_irq head.format)) xs.items)) }
     ensures again { (image : List Segment) → Repeats image head repeater.old → Repeats image head repeater.new }
@@ -72,7 +71,6 @@ fn thinned<P: Progress>(
         → IfOk result (λ xs. EndsAs listing image kind (with_stretches xs.items (bare head))) }
     ensures last { (image : List Segment) (listing : Listing) → IsListing (flash_byte image) listing → Repeats image head repeater.old
         → EndsInLast listing image head stretches.items → IfOk result (λ xs. EndsInLast listing image head xs.items) }
-    ensures fewer { IfOk result (λ xs. total (map stretch_line xs.items) ≤ total (map stretch_line stretches.items)) }
     ensures leaves { IfOk result (λ xs. LeavesOut xs.items stretches.items) }
     ensures sound { IfOk result (λ xs. All (IsStretch (most_irq head.format)) xs.items) }
     ensures again { (image : List Segment) → Repeats image head repeater.old → Repeats image head repeater.new }
@@ -113,7 +111,6 @@ fn without_one<P: Progress>(
     ensures needed { (image : List Segment) (listing : Listing) → IsListing (flash_byte image) listing → Repeats image head repeater.old
         → IfOk result (λ o. o ≡ None → AllNeeded listing image head kind stretches.now) }
     ensures less { IfOk result (λ o. IfSome o (λ xs. interrupts_in xs.items < interrupts_in stretches.now)) }
-    ensures fewer { IfOk result (λ o. IfSome o (λ xs. total (map stretch_line xs.items) ≤ total (map stretch_line stretches.now))) }
     ensures leaves { IfOk result (λ o. IfSome o (λ xs. LeavesOut xs.items stretches.now)) }
     ensures sound { IfOk result (λ o. IfSome o (λ xs. All (IsStretch (most_irq head.format)) xs.items)) }
     ensures again { (image : List Segment) → Repeats image head repeater.old → Repeats image head repeater.new }

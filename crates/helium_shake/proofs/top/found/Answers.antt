@@ -1,8 +1,7 @@
 use Rattle.std.proofs.Common.{Ok, refl}
 use Rattle.std.proofs.lemmas.Result.{err_from_is_err_and}
-use Rattle.hm_commands.proofs.Runs.{reset_refusal-odd}
-use Rattle.helium_shake.proofs.Performing.{load_goes_on, load_stops}
-use Rattle.helium_shake.specs.Effects.{IsFoundEffect}
+use Rattle.hm_commands.proofs.RunInputs.{load_goes_on, load_stops}
+use Rattle.helium_shake.specs.Effects.{IsFoundEffect, found_effect, refused_effect}
 use Rattle.helium_shake.specs.Words.{meant}
 use Rattle.helium_shake.proofs.top.found.Goals as goal
 
@@ -14,7 +13,8 @@ returns-in_err-findings g c =
     let a = meant c.args.command.now in
     record {
       effect = λ listings are.
-          rw p.1 (load_stops image (IsFoundEffect listings a image c.args.input.now.schedule) a.schedule e p.0 c.in_err-findings.ensures.refused p.2);
+          rw p.1 (load_stops (found_effect a.schedule) refused_effect image (IsFoundEffect listings a image c.args.input.now.schedule) e p.0
+          c.in_err-findings.ensures.refused p.2);
     }
 
 pub returns : goal.returns
@@ -24,7 +24,7 @@ returns g c =
     let h = c.in_ok-findings.ensures in
     record {
       effect = λ listings are.
-          load_goes_on image (IsFoundEffect listings a image c.args.input.now.schedule) a.schedule (Ok c.in_ok-findings.findings)
-          (reset_refusal-odd image h.odd)
+          load_goes_on (found_effect a.schedule) refused_effect image (IsFoundEffect listings a image c.args.input.now.schedule) (Ok c.in_ok-findings.findings)
+          h.odd
           (c.in_ok-findings.findings, h.finds (listings image) (are.at image), refl);
     }

@@ -1,5 +1,7 @@
+use Rattle.std.proofs.Common.{refl}
+use Rattle.hm_commands.proofs.Carrying.{are_read}
 use Rattle.helium_shake.proofs.Shaking.{failed, lost, reached_large, reached_whole}
-use Rattle.helium_shake.specs.Words.{meant}
+use Rattle.helium_shake.specs.Words.{meant, reads_of}
 use Rattle.helium_shake.proofs.top.obey.Goals as goal
 
 pub returns-in-Err-OutOfMemory : goal.returns-in-Err-OutOfMemory
@@ -22,16 +24,24 @@ pub returns-in-Err-TooLarge : goal.returns-in-Err-TooLarge
 returns-in-Err-TooLarge g c = record {
   effect = λ listings are.
       let h = c.in-Err-TooLarge.ensures in
-      reached_large listings (meant c.args.command.now) _ _ _ _ (λ F is. (rw c.in-Err-TooLarge.field-0-is at h.answer) F is) h.files h.printed
+      let asked = meant c.args.command.now in
+      let old = g.H.Host.state c.args.host.now in
+      let mid = g.H.Host.state c.read_all.new.host in
+      reached_large listings asked old mid _ _
+      (are_read _ (reads_of asked) _ old mid refl (λ F is. (rw c.in-Err-TooLarge.field-0-is at h.answer) F is) h.files h.printed
       (rw c.in-Err-TooLarge.field-0-is at h.count)
-      (λ F is. rw c.in-Err-TooLarge.field-0-is at h.calls F is) c.say_refused.ensures.effect c.say_refused.ensures.calls;
+      (λ F is. rw c.in-Err-TooLarge.field-0-is at h.calls F is)) c.say_refused.ensures.effect c.say_refused.ensures.calls;
 }
 
 pub returns-in-Ok : goal.returns-in-Ok
 returns-in-Ok g c = record {
   effect = λ listings are.
       let h = c.in-Ok.ensures in
+      let asked = meant c.args.command.now in
+      let old = g.H.Host.state c.args.host.now in
+      let mid = g.H.Host.state c.read_all.new.host in
       let given = rw c.deref.ensures.value at c.perform-found.ensures.effect listings are in
-      reached_whole listings (meant c.args.command.now) _ _ _ _ _ _ given (λ F is. h.answer F is) h.files h.printed h.count (λ F is. h.calls F is)
+      reached_whole listings asked old mid _ _ _ _ given
+      (are_read _ (reads_of asked) _ old mid refl (λ F is. h.answer F is) h.files h.printed h.count (λ F is. h.calls F is))
       c.conclude.ensures.effect c.conclude.ensures.calls c.conclude.ensures.wanted;
 }

@@ -1,6 +1,6 @@
 use Rattle.std.proofs.Common.{Option, ap, sym, subst, option_map, ◌∙◌}
-use Rattle.helium_trace.proofs.Tracing.{usage_said}
-use Rattle.helium_trace.specs.Effects.{Traces}
+use Rattle.hm_commands.proofs.Carrying.{usage_said}
+use Rattle.helium_trace.specs.Effects.{Traces, usage_line}
 use Rattle.helium_trace.specs.Words.{Asked, meant}
 use Rattle.helium_trace.proofs.top.helium_trace.Goals as goal
 
@@ -11,5 +11,5 @@ returns-in-None g c = record {
       let old = g.H.Host.state c.args.host.now in
       let new = g.H.Host.state c.say_usage.new.host in
       subst (λ (a : Option Asked). Traces listings a old new c.say_usage.result) nothing
-      (usage_said listings old new c.say_usage.result c.say_usage.ensures.effect c.say_usage.ensures.calls);
+      (usage_said usage_line old new c.say_usage.result c.say_usage.ensures.effect c.say_usage.ensures.calls);
 }

@@ -13,6 +13,6 @@ returns-in_err-image c =
 
 pub returns : goal.returns
 returns c =
-    subst (λ (bytes : List ℕ). IsKernelOutcome c.args.source.now c.args.out.now (finishes true (Some (c.args.out.now, bytes)) None))
+    rw c.written.ensures.value (subst (λ (bytes : List ℕ). IsKernelOutcome c.args.source.now c.args.out.now (finishes true (Some (c.args.out.now, bytes)) None))
     (sym c.in_ok-bytes.ensures.file)
-    (compiled_file c.args.source.now c.args.out.now c.in_ok-image.image c.in_ok-image.ensures.found)
+    (compiled_file c.args.source.now c.args.out.now c.in_ok-image.image c.in_ok-image.ensures.found))

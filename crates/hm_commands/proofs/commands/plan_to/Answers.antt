@@ -9,5 +9,6 @@ pub returns : goal.returns
 returns c = λ listings are.
     let image = c.in_ok-image.image in
     let odd : reset_pc image % 2 ≡ 1 = c.in_ok-schedule.ensures.odd in
-    plan_written listings (image_of c.args.image.now) image c.args.count.count c.args.out.now c.in_ok-print.field-0.items c.in_ok-image.ensures.exact odd
+    c.written.ensures.value
+    ∙ plan_written listings (image_of c.args.image.now) image c.args.count.count c.args.out.now c.in_ok-print.field-0.items c.in_ok-image.ensures.exact odd
     (c.in_ok-print.ensures.text ∙ ap file_text (c.in_ok-schedule.ensures.planned (listings image) (are.at image)))

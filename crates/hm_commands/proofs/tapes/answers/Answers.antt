@@ -38,6 +38,6 @@ returns c =
     let tape = c.in_ok-tape.ensures in
     record {
       outcome = λ listings are.
-          script_answered listings c.args.text.now image s c.in_ok-answers.answers.items tape.odd
-          (c.in_ok-answers.ensures.answers image s (listings image) (are.at image) tape.tapes);
+          rw c.printed.ensures.value (script_answered listings c.args.text.now image s c.in_ok-answers.answers.items tape.odd
+          (c.in_ok-answers.ensures.answers image s (listings image) (are.at image) tape.tapes));
     }

@@ -54,7 +54,8 @@ returns c =
       outcome = λ listings are.
           let last = tape.tapes.last (listings image) (are.at image) ∙ sym same in
           let shows = c.in_ok-machine.ensures.shows image s tapes in
-          tick_shown listings image s c.args.tick.count c.compare.new.tape.last c.args.journal.now c.in_ok-report.report.items tape.odd
+          rw c.printed.ensures.value (tick_shown listings image s c.args.tick.count c.compare.new.tape.last c.args.journal.now c.in_ok-report.report.items
+          tape.odd
           (c.in_ok-compare.ensures.same image s (listings image) (are.at image) tape.tapes) last c.in_ok-machine.ensures.begun
-          (c.in_ok-report.ensures ∙ ap report_text (ap shown (shows.now (listings image) (are.at image))));
+          (c.in_ok-report.ensures ∙ ap report_text (ap shown (shows.now (listings image) (are.at image)))));
     }

@@ -5,6 +5,7 @@ use Rattle.hm_words.specs.Words.{source_meant}
 use Rattle.hm_commands.specs.Commands.{IsMigrateOutcome, journal_written, last_read}
 use Rattle.hm_commands.specs.Images.{image_of}
 use Rattle.hm_commands.specs.Run.{schedule_in}
+use Rattle.hm_commands.specs.Work.{finish_of, refuses}
 use Rattle.hm_commands.proofs.RunInputs.{run_goes_on}
 use Rattle.hm_commands.proofs.Taping.{journal_not_read}
 use Rattle.hm_commands.proofs.tapes.migrate.Goals as goal
@@ -21,7 +22,7 @@ returns-in_err-journal c =
     let fails = subst (λ (bytes : List ℕ). IsReadErr bytes e) c.last_of.ensures.value c.in_err-journal.ensures.refused in
     record {
       outcome = λ listings are.
-          rw p.1 (run_goes_on (image_of (get_or all 0 [])) (schedule_in source (get_or all 1 [])) input.image input.schedule
+          rw p.1 (run_goes_on finish_of refuses (image_of (get_or all 0 [])) (schedule_in source (get_or all 1 [])) input.image input.schedule
           (IsMigrateOutcome listings text c.args.out.now) (Err p.0) read.0 read.1
           (journal_not_read listings text input.image input.schedule (λ j. journal_written listings j.every c.args.out.now input.image input.schedule) e p.0
           fails p.2));

@@ -1,4 +1,4 @@
-use Rattle.std.proofs.Common.{◌≡◌, ◌≤◌, ◌/◌, ◌+◌, ℕ, List, length, ap, sym, subst, ◌∙◌}
+use Rattle.std.proofs.Common.{◌≤◌, ◌/◌, ◌+◌, ℕ, length, ap, sym, subst, ◌∙◌}
 use Rattle.std.proofs.lemmas.Result.{err_from_is_err_and}
 use Rattle.hm_journal.specs.Runs.{IsWriteErr, journal_of}
 use Rattle.hm_journal.specs.Journals.{journal_text}
@@ -49,8 +49,8 @@ returns c =
     let few = subst (λ (n : ℕ). length (ticks_of s.lines) / n + 1 ≤ 64) every (c.in_ok-bytes.ensures.few image s tapes) in
     record {
       outcome = λ listings are.
-          again_written listings image s j.every c.args.out.now j c.in_ok-bytes.bytes.items tape.odd
+          rw c.written.ensures.value (again_written listings image s j.every c.args.out.now j c.in_ok-bytes.bytes.items tape.odd
           (c.in_ok-compare.ensures.same image s (listings image) (are.at image) tape.tapes) few
           (c.in_ok-bytes.ensures.text image s (listings image) (are.at image) tapes
-          ∙ ap (λ (n : ℕ). journal_text (journal_of (listings image) image s n)) every);
+          ∙ ap (λ (n : ℕ). journal_text (journal_of (listings image) image s n)) every));
     }

@@ -22,6 +22,6 @@ returns c =
     let journal = c.in_ok-bytes.ensures in
     record {
       outcome = λ listings are.
-          journal_comes listings c.args.every.ticks c.args.out.now image s c.in_ok-bytes.bytes.items tape.odd (journal.few image s tape.tapes)
-          (journal.text image s (listings image) (are.at image) tape.tapes);
+          rw c.written.ensures.value (journal_comes listings c.args.every.ticks c.args.out.now image s c.in_ok-bytes.bytes.items tape.odd
+          (journal.few image s tape.tapes) (journal.text image s (listings image) (are.at image) tape.tapes));
     }

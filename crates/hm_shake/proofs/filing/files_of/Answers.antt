@@ -3,7 +3,7 @@ use Rattle.hm_shake.proofs.Files.{all_filed, file_added, no_file}
 use Rattle.hm_shake.specs.Findings.{IsFiled}
 use Rattle.hm_shake.specs.Repeats.{Repeats}
 use Rattle.hm_shake.specs.declared.repeats.Repeater.{Repeater}
-use Rattle.hm_shake.proofs.filing.files_of.Goals.{then-not-same_kind+in_ok-file+in_ok-add_file, else-not-same_kind}
+use Rattle.hm_shake.proofs.filing.files_of.Goals.{then-not-same_kind+in_ok-file+in_ok-push, else-not-same_kind}
 use Rattle.hm_shake.proofs.filing.files_of.Goals as goal
 
 pub shortest-requires-clause-repeats : goal.shortest-requires-clause-repeats
@@ -21,8 +21,8 @@ loop-found-preserved g c =
     let old = c.loop-found.files.items in
     let lt = c.loop-found-test.true in
     elim c.if-not-same_kind.branch [
-      | then-not-same_kind+in_ok-file+in_ok-add_file w ↦
-          let added : c.if-not-same_kind.files.items ≡ old ++ w.in_ok-file.file ∷ [] = ap (λ v. v.items) w.files-is ∙ w.in_ok-add_file.ensures.added in
+      | then-not-same_kind+in_ok-file+in_ok-push w ↦
+          let added : c.if-not-same_kind.files.items ≡ old ++ w.in_ok-file.file ∷ [] = ap (λ v. v.items) w.files-is ∙ w.in_ok-push.ensures.items in
           record {
             again = λ image repeats.
                 subst (λ (x : Repeater). Repeats image head x) (sym w.repeater-is) (w.shortest.ensures.again image (before.again image repeats));

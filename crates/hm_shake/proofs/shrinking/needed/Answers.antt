@@ -2,7 +2,7 @@ use Rattle.std.proofs.Common.{◌≤◌, ap, arith, refl, subst}
 use Rattle.std.specs.List.{All}
 use Rattle.hm_sched.specs.Schedule.{most_irq}
 use Rattle.hm_shake.proofs.Ends.{some_at}
-use Rattle.hm_shake.proofs.Leaving.{all_left, left_twice}
+use Rattle.hm_shake.proofs.Leaving.{all_left, left_ticks, left_twice}
 use Rattle.hm_shake.specs.Ends.{EndsAs, EndsInLast}
 use Rattle.hm_shake.specs.Shorter.{LeavesOut}
 use Rattle.hm_shake_runs.proofs.Room.{ticks}
@@ -28,8 +28,8 @@ loop-best-preserved g c =
     let best = c.in-Some.fewer in
     let xs = c.deref.result.now in
     let is = ap ticks c.deref.ensures.value in
-    let few : ticks best.items ≤ ticks xs = some_at o best best (λ v. ticks v.items ≤ ticks xs) c.in-Some.is refl c.in_ok-fewer.ensures.fewer in
     let left : LeavesOut best.items xs = some_at o best best (λ v. LeavesOut v.items xs) c.in-Some.is refl c.in_ok-fewer.ensures.leaves in
+    let few = left_ticks best.items xs left in
     record {
       again = λ image repeats. c.without_one.ensures.again image (before.again image repeats);
       sound = some_at o best best (λ v. All (IsStretch (most_irq head.format)) v.items) c.in-Some.is refl c.in_ok-fewer.ensures.sound;

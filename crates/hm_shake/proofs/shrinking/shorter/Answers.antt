@@ -3,7 +3,7 @@ use Rattle.std.specs.List.{All}
 use Rattle.std.proofs.lemmas.List.Elements.{All-same}
 use Rattle.hm_sched.specs.Schedule.{most_irq}
 use Rattle.hm_shake.proofs.Ends.{cut_last, cut_so, other_so}
-use Rattle.hm_shake.proofs.Fewer.{cut_count, cut_sound, cut_ticks_fewer, without_less, without_sound, without_ticks}
+use Rattle.hm_shake.proofs.Fewer.{cut_count, cut_sound, without_less, without_sound, without_ticks}
 use Rattle.hm_shake.proofs.Leaving.{shorter_left}
 use Rattle.hm_shake_runs.proofs.Room.{ticks}
 use Rattle.hm_shake_runs.specs.Stretches.{IsStretch, cut, interrupts_in, without}
@@ -51,15 +51,6 @@ returns-then-same_kind-clause-kind c = λ image listing is repeats.
     let kind : c.in_ok-ended.ended.kind ≡ c.args.kind = c.same_kind.ensures.same c.if-same_kind.true in
     cut_so listing image c.args.head c.deref.result.now c.in_ok-cut.field-0.items c.in_ok-ended.ended c.args.kind ends kind
     (c.in_ok-cut.ensures.value ∙ ap (cut c.in_ok-ended.ended.ticks) (same c))
-
-pub returns-then-same_kind-clause-fewer : goal.returns-then-same_kind-clause-fewer
-returns-then-same_kind-clause-fewer c =
-    let most = most_irq c.args.head.format in
-    let is = ap ticks c.in_ok-cut.ensures.value in
-    let few = cut_ticks_fewer most c.in_ok-ended.ended.ticks c.deref-then-same_kind.result.now (sound c) in
-    let whole = ap ticks (c.deref-then-same_kind.ensures.value ∙ c.in_ok-fewer.ensures.value) in
-    let all = without_ticks c.args.kept c.args.size c.args.stretches.now in
-    omega arith
 
 pub returns-then-same_kind-clause-leaves : goal.returns-then-same_kind-clause-leaves
 returns-then-same_kind-clause-leaves c =

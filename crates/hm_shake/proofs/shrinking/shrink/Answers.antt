@@ -3,8 +3,8 @@ use Rattle.std.proofs.lemmas.List.Elements.{All-same}
 use Rattle.std.proofs.lemmas.Result.{IfOk-weaker}
 use Rattle.hm_sched.specs.Schedule.{most_irq}
 use Rattle.hm_shake.proofs.Ends.{cut_last, cut_so}
-use Rattle.hm_shake.proofs.Fewer.{cut_sound, cut_ticks_few, cut_ticks_fewer}
-use Rattle.hm_shake.proofs.Leaving.{cut_left, left_twice}
+use Rattle.hm_shake.proofs.Fewer.{cut_sound, cut_ticks_few}
+use Rattle.hm_shake.proofs.Leaving.{cut_left, left_ticks, left_twice}
 use Rattle.hm_shake.specs.Shorter.{LeavesOut}
 use Rattle.hm_shake_runs.proofs.Room.{ticks}
 use Rattle.hm_shake_runs.specs.Stretches.{IsStretch, cut}
@@ -17,14 +17,14 @@ loop-size-init g c =
     let xs = c.args.stretches.now in
     let n = c.args.ended.ticks in
     let is = ap ticks c.in_ok-best.ensures.value in
-    let few = cut_ticks_few most n xs c.requires.sound in
-    let fewer = cut_ticks_fewer most n xs c.requires.sound in
+    let few = cut_ticks_few n xs in
+    let leaves = subst (λ (ys : List Stretch). LeavesOut ys xs) (sym c.in_ok-best.ensures.value) (cut_left n xs) in
     record {
       again = λ image repeats. repeats;
       sound = All-same (IsStretch most) c.in_ok-best.best.items (cut n xs) c.in_ok-best.ensures.value (cut_sound most n xs c.requires.sound);
       few = omega arith;
-      fewer = omega arith;
-      leaves = subst (λ (ys : List Stretch). LeavesOut ys xs) (sym c.in_ok-best.ensures.value) (cut_left n xs);
+      fewer = left_ticks c.in_ok-best.best.items xs leaves;
+      leaves = leaves;
       kind = λ image listing is repeats ends.
           cut_so listing image c.args.head xs c.in_ok-best.best.items c.args.ended c.args.ended.kind ends refl c.in_ok-best.ensures.value;
       last = λ image listing is repeats ends.
@@ -34,7 +34,7 @@ loop-size-init g c =
 pub loop-size-preserved : goal.loop-size-preserved
 loop-size-preserved g c =
     let before = c.loop-size.invariant in
-    let few = c.in_ok-best-2.ensures.fewer in
+    let few = left_ticks c.in_ok-best-2.best.items c.loop-size.best.items c.in_ok-best-2.ensures.leaves in
     record {
       again = λ image repeats. c.thinned.ensures.again image (before.again image repeats);
       sound = c.in_ok-best-2.ensures.sound;
