@@ -70,7 +70,7 @@ abbrev pub is_system_move : SystemMoveName → ℕ → Bool
 is_system_move move.ReadFpscr t = not (nat_eq t 13)
 is_system_move name t = is_general t
 
--- T12: whether an access is LDR, LDRH, LDRB, LDRSH or LDRSB (DDI0553, "LDR (immediate)" and the like of each)
+-- S14 to S17 and T12: whether an access is LDR, LDRH, LDRB, LDRSH or LDRSB (DDI0553, "LDR (immediate)" and the like of each)
 abbrev pub is_load : AccessName → Bool
 is_load access.Str = false
 is_load access.Strh = false

@@ -1,4 +1,4 @@
--- Words as instructions make them: shifts, signs, and the constants of T1, T3 and T4.
+-- Words as instructions make them: shifts, signs, and the constants of T1 to T7 and V15.
 use Rattle.std.specs.Prelude.{ℕ, ◌+◌, ◌-◌, ◌*◌, ◌/◌, ◌%◌, ◌^◌, Bool, ◌&&◌, nat_le, nat_lt, nat_eq, if◌then◌else◌}
 use Rattle.hm_isa.specs.declared.words.Shifted.{Shifted}
 use Rattle.hm_isa.specs.declared.words.ShiftType.{ShiftType}
@@ -59,7 +59,7 @@ shift_c type x n carry = if nat_eq n 0 then record { result = x; carry = carry }
 abbrev pub shift_type : ℕ → ShiftType
 shift_type ty = if nat_eq ty 0 then Lsl else (if nat_eq ty 1 then Lsr else (if nat_eq ty 2 then Asr else Ror))
 
--- T2 and T5: by how many places, where k is the number in the code: 0 stands for 32, but for LSL (DDI0553, "DecodeImmShift")
+-- T2 and T5: by how many places, RRX aside, where k is the number in the code: 0 stands for 32, but for LSL (DDI0553, "DecodeImmShift")
 abbrev pub shift_number : ℕ → ℕ → ℕ
 shift_number ty k = if nat_eq ty 0 then k else zero_as_32 k
 

@@ -1,4 +1,4 @@
-//! Words as instructions make them: shifts, signs, and constants of twelve bits.
+//! Words as instructions make them: shifts, signs, and constants of several fields.
 
 ghost use Rattle.std.specs.Prelude.{◌≡◌, ℕ, ◌+◌, ◌-◌, ◌*◌, ◌/◌, ◌%◌, ◌^◌, ◌<◌, ◌≤◌, Bool};
 ghost use Rattle.hm_isa.specs.Words.{asr_c, expand_imm_c, extended, imm12, imm16, imm5, imm8, is_by_carry, lsl_c, lsr_c, repeats, ror_c, rotated};
@@ -44,7 +44,7 @@ pub fn shift_type(ty: Below<4>) -> ShiftType
     }
 }
 
-/// By how many places a register is shifted by a constant, whose code is `k`, below 32: DDI0553, "DecodeImmShift".
+/// By how many places a register is shifted by a constant, RRX aside, whose code is `k`, below 32: DDI0553, "DecodeImmShift".
 pub fn shift_number(ty: Below<4>, k: u32) -> u32
     ensures value { result ≡ shift_number ty.value k }
 {
@@ -171,7 +171,8 @@ pub fn sign_extended(bits: u32, x: u32) -> u32
     }
 }
 
-/// The bits `i3` and `i2` of a code, one behind another: a number of five bits.
+/// The bits `i3` and `i2` of a code, one behind another, a number from 0 to 31: DDI0553, "Data-processing (shifted register)",
+/// "SSAT", "SBFX" and "BFI".
 pub fn imm5(i3: Below<8>, i2: Below<4>) -> u32
     ensures value { result ≡ imm5 i3.value i2.value }
     ensures below { result < 32 }
@@ -179,7 +180,8 @@ pub fn imm5(i3: Below<8>, i2: Below<4>) -> u32
     4 * i3.get() + i2.get()
 }
 
-/// The bits `i`, `i3` and `i8` of a code, one behind another: a number of twelve bits.
+/// The bits `i`, `i3` and `i8` of a code, one behind another, a number from 0 to 4095: DDI0553, "Data-processing (modified
+/// immediate)" and "ADD (immediate)".
 pub fn imm12(i: Bit, i3: Below<8>, i8: Byte) -> u32
     ensures value { result ≡ imm12 i.value i3.value i8.value }
     ensures below { result < 4096 }
@@ -187,7 +189,7 @@ pub fn imm12(i: Bit, i3: Below<8>, i8: Byte) -> u32
     2048 * i.get() + 256 * i3.get() + i8.get()
 }
 
-/// The bits `i4`, `i`, `i3` and `i8` of a code, one behind another: a halfword.
+/// The bits `i4`, `i`, `i3` and `i8` of a code, one behind another, a halfword: DDI0553, "MOV (immediate)" and "MOVT".
 pub fn imm16(i4: Below<16>, i: Bit, i3: Below<8>, i8: Byte) -> u32
     ensures value { result ≡ imm16 i4.value i.value i3.value i8.value }
     ensures below { result < 2 ^ 16 }
@@ -195,7 +197,7 @@ pub fn imm16(i4: Below<16>, i: Bit, i3: Below<8>, i8: Byte) -> u32
     4096 * i4.get() + imm12(i, i3, i8)
 }
 
-/// The bits `i`, `i3` and `i4` of a code, one behind another: a byte.
+/// The bits `i`, `i3` and `i4` of a code, one behind another, a byte: DDI0553, "VMOV (immediate)".
 pub fn imm8(i: Bit, i3: Below<8>, i4: Below<16>) -> u32
     ensures value { result ≡ imm8 i.value i3.value i4.value }
     ensures below { result < 256 }
